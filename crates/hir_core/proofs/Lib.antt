@@ -1,0 +1,7 @@
+pub mod InOrderLemmas
+pub mod HasLemmas
+pub mod SpanLemmas
+pub mod MinimumLenLemmas
+pub mod PreferredEndsLemmas
+pub mod RepetitionLemmas
+mod Rows

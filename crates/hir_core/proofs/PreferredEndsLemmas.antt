@@ -1,0 +1,123 @@
+-- The preferred ends are the ends of the spans that the tree means: no others, and where loops read all of them.
+use Rattle.std.proofs.Common.{◌≡◌, ℕ, zero, suc, ◌+◌, ◌-◌, ◌<◌, ◌≤◌, max, Bool, true, false, List, [], ◌∷◌, length, Option, Some, None, slice_get, refl, sym, ap, ◌∙◌, inl, inr, arith}
+use Rattle.std.specs.List.{flat_map}
+use Rattle.hir_core.specs.Tree.{Tree, empty, literal, byte_class, repetition, nothing, cat, never, alt}
+use Rattle.hir_core.specs.Means.{Means, Rounds, AtMost, stands, is_member}
+use Rattle.hir_core.specs.PreferredEnds.{Ends, in_order, up_to, unbounded, at_least, between, repeated, class_end, preferred_ends, Has}
+use Rattle.hir_core.specs.Facts.{LoopsRead}
+use Rattle.hir_core.proofs.MinimumLenLemmas.{reads_a_byte}
+use Rattle.hir_core.proofs.HasLemmas.{Has-left, Has-right, Has-append, Has-flat_map, Has-into-flat_map, Has-in_order, Has-more, Has-stop, Has-if, Has-then}
+use Rattle.hir_core.proofs.SpanLemmas.{IsSpan, IsSpan-Rounds, IsSpan-Means}
+
+-- Each end of the body is a span of R, so each end of a repetition is of rounds of R.
+module _ (R : ℕ → ℕ → Type 0) (body : Ends) (sound : (i j : ℕ) → Has (body i) j → R i j) (greedy : Bool) where
+  up_to_sound : (n i j : ℕ) → Has (up_to greedy body n i) j → (m : ℕ) × (m ≤ n) × Rounds R m i j
+  up_to_sound zero i j (inl e) = (0, omega arith, e)
+  up_to_sound zero i j (inr h) = elim h [ ]
+  up_to_sound (suc n) i j h = elim (Has-in_order greedy _ i j h) [
+    | inl more ↦
+        let step = Has-flat_map (up_to greedy body n) (body i) j more in
+        let others = up_to_sound n step.0 j step.2 in
+        (suc others.0, omega arith, (step.0, sound i step.0 step.1, others.2))
+    | inr e ↦ (0, omega arith, e)
+  ]
+
+  at_least_sound : (h : List ℕ) (min i j : ℕ) → Has (at_least h greedy body min i) j → (n : ℕ) × (min ≤ n) × Rounds R n i j
+  at_least_sound h zero i j g = let rounds = up_to_sound (length h - i) i j g in (rounds.0, omega arith, rounds.2)
+  at_least_sound h (suc min) i j g =
+      let step = Has-flat_map (at_least h greedy body min) (body i) j g in
+      let others = at_least_sound h min step.0 j step.2 in
+      (suc others.0, omega arith, (step.0, sound i step.0 step.1, others.2))
+
+  between_sound : (min most i j : ℕ) → Has (between greedy body min most i) j → (n : ℕ) × (min ≤ n) × (n ≤ most) × Rounds R n i j
+  between_sound zero most i j g = let rounds = up_to_sound most i j g in (rounds.0, omega arith, rounds.1, rounds.2)
+  between_sound (suc min) zero i j g = elim g [ ]
+  between_sound (suc min) (suc most) i j g =
+      let step = Has-flat_map (between greedy body min most) (body i) j g in
+      let others = between_sound min most step.0 j step.2 in
+      (suc others.0, omega arith, omega arith, (step.0, sound i step.0 step.1, others.3))
+
+  repeated_sound : (h : List ℕ) (min : ℕ) (most : Option ℕ) (i j : ℕ) → Has (repeated h min most greedy body i) j →
+      (n : ℕ) × (min ≤ n) × AtMost n most × Rounds R n i j
+  repeated_sound h min None i j g = let rounds = at_least_sound h min i j g in (rounds.0, rounds.1, tt, rounds.2)
+  repeated_sound h min (Some most) i j g = between_sound min most i j g
+
+class_end_sound : (ranges : List (ℕ × ℕ)) (o : Option ℕ) (i j : ℕ) → Has (class_end ranges o i) j →
+    (j ≡ i + 1) × (b : ℕ) × (o ≡ Some b) × (is_member ranges b ≡ true)
+class_end_sound ranges None i j g = elim g [ ]
+class_end_sound ranges (Some b) i j g = let one = Has-if _ (i + 1) j g in (sym one.1, b, refl, one.0)
+
+pub preferred_ends_sound : (h : List ℕ) (x : Tree) (i j : ℕ) → Has (preferred_ends h x i) j → Means h x i j
+preferred_ends_sound h empty i j (inl e) = e
+preferred_ends_sound h empty i j (inr g) = elim g [ ]
+preferred_ends_sound h (literal bytes) i j g = let one = Has-if _ (i + length bytes) j g in (sym one.1, one.0)
+preferred_ends_sound h (byte_class ranges) i j g = class_end_sound ranges (slice_get h i) i j g
+preferred_ends_sound h (repetition min most greedy x) i j g =
+    repeated_sound (Means h x) (preferred_ends h x) (preferred_ends_sound h x) greedy h min most i j g
+preferred_ends_sound h nothing i j (inl e) = e
+preferred_ends_sound h nothing i j (inr g) = elim g [ ]
+preferred_ends_sound h (cat x y) i j g =
+    let step = Has-flat_map (preferred_ends h y) (preferred_ends h x i) j g in
+    (step.0, preferred_ends_sound h x i step.0 step.1, preferred_ends_sound h y step.0 j step.2)
+preferred_ends_sound h never i j g = elim g [ ]
+preferred_ends_sound h (alt x y) i j g = elim (Has-append (preferred_ends h x i) (preferred_ends h y i) j g) [
+  | inl a ↦ inl (preferred_ends_sound h x i j a)
+  | inr b ↦ inr (preferred_ends_sound h y i j b)
+]
+
+-- rounds that read have room
+rounds_read : (R : ℕ → ℕ → Type 0) → ((i j : ℕ) → R i j → i < j) → (n i j : ℕ) → Rounds R n i j → i + n ≤ j
+rounds_read R longer zero i j r = omega arith
+rounds_read R longer (suc n) i j r = omega (arith, longer i r.0 r.1, rounds_read R longer n r.0 j r.2)
+
+-- Each span of R is an end of the body, so each number of rounds of R is an end of a repetition.
+module _ (R : ℕ → ℕ → Type 0) (body : Ends) (complete : (i j : ℕ) → R i j → Has (body i) j) (greedy : Bool) where
+  up_to_complete : (n m i j : ℕ) → m ≤ n → Rounds R m i j → Has (up_to greedy body n i) j
+  up_to_complete zero zero i j le r = inl r
+  up_to_complete zero (suc m) i j le r = absurd (omega arith)
+  up_to_complete (suc n) zero i j le r = Has-stop greedy _ i j r
+  up_to_complete (suc n) (suc m) i j le r =
+      Has-more greedy _ i j
+      (Has-into-flat_map (up_to greedy body n) (body i) r.0 j (complete i r.0 r.1) (up_to_complete n m r.0 j (omega arith) r.2))
+
+  between_complete : (min most n i j : ℕ) → min ≤ n → n ≤ most → Rounds R n i j → Has (between greedy body min most i) j
+  between_complete zero most n i j low high r = up_to_complete most n i j high r
+  between_complete (suc min) zero n i j low high r = absurd (omega arith)
+  between_complete (suc min) (suc most) zero i j low high r = absurd (omega arith)
+  between_complete (suc min) (suc most) (suc n) i j low high r =
+      Has-into-flat_map (between greedy body min most) (body i) r.0 j (complete i r.0 r.1)
+      (between_complete min most n r.0 j (omega arith) (omega arith) r.2)
+
+  at_least_complete : (h : List ℕ) → ((i j : ℕ) → R i j → i < j) → ((n i j : ℕ) → Rounds R n i j → IsSpan h i j) →
+      (min n i j : ℕ) → min ≤ n → Rounds R n i j → Has (at_least h greedy body min i) j
+  at_least_complete h longer span zero n i j low r =
+      let room = rounds_read R longer n i j r in
+      let fits = span n i j r in
+      up_to_complete (length h - i) n i j (omega arith) r
+  at_least_complete h longer span (suc min) zero i j low r = absurd (omega arith)
+  at_least_complete h longer span (suc min) (suc n) i j low r =
+      Has-into-flat_map (at_least h greedy body min) (body i) r.0 j (complete i r.0 r.1)
+      (at_least_complete h longer span min n r.0 j (omega arith) r.2)
+
+class_end_complete : (ranges : List (ℕ × ℕ)) (o : Option ℕ) (i j b : ℕ) → j ≡ i + 1 → o ≡ Some b → is_member ranges b ≡ true →
+    Has (class_end ranges o i) j
+class_end_complete ranges None i j b e s t = cc
+class_end_complete ranges (Some c) i j b e s t =
+    Has-then _ (i + 1) j (let same : c ≡ b = cc in ap (is_member ranges) same ∙ t) (sym e)
+
+pub preferred_ends_complete : (h : List ℕ) (x : Tree) (i j : ℕ) → LoopsRead x → Means h x i j → Has (preferred_ends h x i) j
+preferred_ends_complete h empty i j f m = inl m
+preferred_ends_complete h (literal bytes) i j f m = Has-then _ (i + length bytes) j m.1 (sym m.0)
+preferred_ends_complete h (byte_class ranges) i j f m = class_end_complete ranges (slice_get h i) i j m.1 m.0 m.2 m.3
+preferred_ends_complete h (repetition min None greedy x) i j f m =
+    at_least_complete (Means h x) (preferred_ends h x) (λ a b. preferred_ends_complete h x a b f.1) greedy h
+    (reads_a_byte h x f.0) (IsSpan-Rounds h (Means h x) (IsSpan-Means h x)) min m.0 i j m.1 m.3
+preferred_ends_complete h (repetition min (Some most) greedy x) i j f m =
+    between_complete (Means h x) (preferred_ends h x) (λ a b. preferred_ends_complete h x a b f) greedy min most m.0 i j m.1 m.2 m.3
+preferred_ends_complete h nothing i j f m = inl m
+preferred_ends_complete h (cat x y) i j f m =
+    Has-into-flat_map (preferred_ends h y) (preferred_ends h x i) m.0 j
+    (preferred_ends_complete h x i m.0 f.0 m.1) (preferred_ends_complete h y m.0 j f.1 m.2)
+preferred_ends_complete h never i j f m = elim m [ ]
+preferred_ends_complete h (alt x y) i j f (inl m) = Has-left (preferred_ends h x i) (preferred_ends h y i) j (preferred_ends_complete h x i j f.0 m)
+preferred_ends_complete h (alt x y) i j f (inr m) = Has-right (preferred_ends h x i) (preferred_ends h y i) j (preferred_ends_complete h y i j f.1 m)

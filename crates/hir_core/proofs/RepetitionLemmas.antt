@@ -1,0 +1,73 @@
+-- The equations of a repetition. That the count of rounds of an unbounded one cuts nothing short is the third.
+use Rattle.std.proofs.Common.{◌≡◌, ℕ, zero, suc, ◌+◌, ◌-◌, ◌<◌, ◌≤◌, max, Bool, true, false, List, [], ◌∷◌, ◌++◌, length, Option, Some, None, refl, sym, ap, ◌∙◌, arith}
+use Rattle.std.specs.List.{flat_map}
+use Rattle.hir_core.specs.Tree.{Tree, repetition}
+use Rattle.hir_core.specs.Means.{Means}
+use Rattle.hir_core.specs.PreferredEnds.{Ends, in_order, up_to, unbounded, preferred_ends, Has}
+use Rattle.hir_core.specs.Facts.{minimum_len, IsAboveZero}
+use Rattle.hir_core.proofs.HasLemmas.{flat_map_same, nil_from_none}
+use Rattle.hir_core.proofs.SpanLemmas.{IsSpan, IsSpan-Means}
+use Rattle.hir_core.proofs.MinimumLenLemmas.{reads_a_byte}
+use Rattle.hir_core.proofs.PreferredEndsLemmas.{preferred_ends_sound}
+
+in_order-nil : (greedy : Bool) (i : ℕ) → in_order greedy [] i ≡ i ∷ []
+in_order-nil true i = refl
+in_order-nil false i = refl
+
+module _ (h : List ℕ) (greedy : Bool) (body : Ends) (reading : (i k : ℕ) → Has (body i) k → (i < k) × (k ≤ length h)) where
+  body_at_end : (i : ℕ) → length h ≤ i → body i ≡ []
+  body_at_end i l = nil_from_none (body i) (λ k m. let step = reading i k m in omega arith)
+
+  -- more rounds than the bytes that are left change nothing
+  up_to_enough : (n m i : ℕ) → length h ≤ i + n → length h ≤ i + m → up_to greedy body n i ≡ up_to greedy body m i
+  up_to_enough zero zero i p q = refl
+  up_to_enough zero (suc m) i p q =
+      sym (ap (λ xs. in_order greedy (flat_map (up_to greedy body m) xs) i) (body_at_end i (omega arith)) ∙ in_order-nil greedy i)
+  up_to_enough (suc n) zero i p q =
+      ap (λ xs. in_order greedy (flat_map (up_to greedy body n) xs) i) (body_at_end i (omega arith)) ∙ in_order-nil greedy i
+  up_to_enough (suc n) (suc m) i p q =
+      ap (λ xs. in_order greedy xs i)
+      (flat_map_same (up_to greedy body n) (up_to greedy body m) (body i)
+      (λ k r. let step = reading i k r in up_to_enough n m k (omega arith) (omega arith)))
+
+  unbounded-more : (i : ℕ) → unbounded h greedy body i ≡ in_order greedy (flat_map (unbounded h greedy body) (body i)) i
+  unbounded-more i =
+      let n = length h - i in
+      up_to_enough n (suc n) i (omega arith) (omega arith)
+      ∙ ap (λ xs. in_order greedy xs i)
+      (flat_map_same (up_to greedy body n) (unbounded h greedy body) (body i)
+      (λ k r. let step = reading i k r in up_to_enough n (length h - k) k (omega arith) (omega arith)))
+
+-- while a round is owed, both bounds fall by one
+pub repetition_owed : (h : List ℕ) (greedy : Bool) (x : Tree) (min : ℕ) (i : ℕ) →
+    preferred_ends h (repetition (suc min) None greedy x) i
+    ≡ flat_map (preferred_ends h (repetition min None greedy x)) (preferred_ends h x i)
+repetition_owed h greedy x min i = refl
+
+pub repetition_owed_bounded : (h : List ℕ) (greedy : Bool) (x : Tree) (min most : ℕ) (i : ℕ) →
+    preferred_ends h (repetition (suc min) (Some (suc most)) greedy x) i
+    ≡ flat_map (preferred_ends h (repetition min (Some most) greedy x)) (preferred_ends h x i)
+repetition_owed_bounded h greedy x min most i = refl
+
+-- no round is owed and none is left
+pub repetition_stopped : (h : List ℕ) (greedy : Bool) (x : Tree) (i : ℕ) →
+    preferred_ends h (repetition 0 (Some 0) greedy x) i ≡ i ∷ []
+repetition_stopped h greedy x i = refl
+
+-- no round is owed: more rounds, or stop
+pub repetition_more_bounded : (h : List ℕ) (greedy : Bool) (x : Tree) (most : ℕ) (i : ℕ) →
+    preferred_ends h (repetition 0 (Some (suc most)) greedy x) i
+    ≡ in_order greedy (flat_map (preferred_ends h (repetition 0 (Some most) greedy x)) (preferred_ends h x i)) i
+repetition_more_bounded h greedy x most i = refl
+
+pub repetition_more : (h : List ℕ) (greedy : Bool) (x : Tree) → IsAboveZero (minimum_len x) → (i : ℕ) →
+    preferred_ends h (repetition 0 None greedy x) i
+    ≡ in_order greedy (flat_map (preferred_ends h (repetition 0 None greedy x)) (preferred_ends h x i)) i
+repetition_more h greedy x a i =
+    unbounded-more h greedy (preferred_ends h x)
+    (λ i k r.
+    let m = preferred_ends_sound h x i k r in
+    let longer = reads_a_byte h x a i k m in
+    let span = IsSpan-Means h x i k m in
+    (longer, omega arith))
+    i

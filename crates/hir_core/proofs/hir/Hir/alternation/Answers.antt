@@ -1,0 +1,11 @@
+use Rattle.std.proofs.Common.{rules}
+use Rattle.hir_core.proofs.InOrderLemmas.{IsInOrder-alternation}
+use Rattle.hir_core.proofs.hir.Hir.alternation.Goals as goal
+
+pub invariant_of-result : goal.invariant_of-result
+invariant_of-result c = record {
+  known_facts = search rules;
+  height_is = search rules;
+  count_is = search rules;
+  in_order = IsInOrder-alternation c.args.subs.items;
+}

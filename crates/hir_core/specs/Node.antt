@@ -1,0 +1,12 @@
+-- The tree of one node, whose children stand there as trees: how a caller reads what `kind` answers.
+use Rattle.hir_core.specs.Tree.{Tree, empty, literal, byte_class, repetition, concat, alternation}
+use Rattle.hir_core.specs.declared.hir.HirKind.{HirKind}
+use Rattle.hir_core.specs.declared.hir.HirKind.TheVariants.{Empty, Literal, Bytes, Repetition, Concat, Alternation}
+
+abbrev pub node : HirKind → Tree
+node Empty = empty
+node (Literal bytes) = literal bytes.items
+node (Bytes ranges) = byte_class ranges.items
+node (Repetition min max greedy sub) = repetition min max greedy sub.value
+node (Concat subs) = concat subs.items
+node (Alternation subs) = alternation subs.items

@@ -1,0 +1,65 @@
+-- The ends of a tree's spans from a place in order of preference: leftmost-first, as the crate `regex` documents it.
+-- An earlier part of an alternation is preferred, a greedy repetition prefers more rounds, a lazy one fewer.
+use Rattle.std.specs.Prelude.{◌≡◌, ℕ, zero, suc, ◌+◌, ◌-◌, Bool, true, false, List, [], ◌∷◌, ◌++◌, length, Option, Some, None, if◌then◌else◌, ◌⊎◌, slice_get}
+use Rattle.std.specs.List.{flat_map}
+use Rattle.hir_core.specs.Tree.{Tree, empty, literal, byte_class, repetition, nothing, cat, never, alt}
+use Rattle.hir_core.specs.Means.{stands, is_member}
+
+-- for each place the ends of the spans from there
+abbrev pub Ends : Type 0
+Ends = ℕ → List ℕ
+
+-- greedy: more rounds, then stop; lazy: stop, then more rounds
+abbrev pub in_order : Bool → List ℕ → ℕ → List ℕ
+in_order true more stop = more ++ stop ∷ []
+in_order false more stop = stop ∷ more
+
+-- exactly n rounds of the body
+abbrev pub exactly : Ends → ℕ → Ends
+exactly body zero i = i ∷ []
+exactly body (suc n) i = flat_map (exactly body n) (body i)
+
+-- at most n rounds of the body
+abbrev pub up_to : Bool → Ends → ℕ → Ends
+up_to greedy body zero i = i ∷ []
+up_to greedy body (suc n) i = in_order greedy (flat_map (up_to greedy body n) (body i)) i
+
+-- Any number of rounds. Where each round reads a byte, the bytes from i on leave no room for more rounds than these.
+abbrev pub unbounded : List ℕ → Bool → Ends → Ends
+unbounded h greedy body i = up_to greedy body (length h - i) i
+
+-- at least min rounds, and no bound
+abbrev pub at_least : List ℕ → Bool → Ends → ℕ → Ends
+at_least h greedy body zero i = unbounded h greedy body i
+at_least h greedy body (suc min) i = flat_map (at_least h greedy body min) (body i)
+
+-- from min to most rounds: while a round is owed both bounds fall by one, then more or stop
+abbrev pub between : Bool → Ends → ℕ → ℕ → Ends
+between greedy body zero most i = up_to greedy body most i
+between greedy body (suc min) zero i = []
+between greedy body (suc min) (suc most) i = flat_map (between greedy body min most) (body i)
+
+abbrev pub repeated : List ℕ → ℕ → Option ℕ → Bool → Ends → Ends
+repeated h min None greedy body i = at_least h greedy body min i
+repeated h min (Some most) greedy body i = between greedy body min most i
+
+-- the end of one byte of a class, where the haystack has this byte or none at i
+abbrev pub class_end : List (ℕ × ℕ) → Option ℕ → Ends
+class_end ranges None i = []
+class_end ranges (Some b) i = if is_member ranges b then (i + 1) ∷ [] else []
+
+-- the ends of the tree's spans of the haystack h from i, the preferred ones first
+abbrev pub preferred_ends : List ℕ → Tree → Ends
+preferred_ends h empty i = i ∷ []
+preferred_ends h (literal bytes) i = if stands h i bytes then (i + length bytes) ∷ [] else []
+preferred_ends h (byte_class ranges) i = class_end ranges (slice_get h i) i
+preferred_ends h (repetition min max greedy x) i = repeated h min max greedy (preferred_ends h x) i
+preferred_ends h nothing i = i ∷ []
+preferred_ends h (cat x y) i = flat_map (preferred_ends h y) (preferred_ends h x i)
+preferred_ends h never i = []
+preferred_ends h (alt x y) i = preferred_ends h x i ++ preferred_ends h y i
+
+-- j is in the list
+abbrev pub Has : List ℕ → ℕ → Type 0
+Has [] j = ⊥
+Has (x ∷ xs) j = (x ≡ j) ⊎ Has xs j

@@ -1,0 +1,56 @@
+//! Laws of the definitions. Each function has no code: its contract is the law.
+ghost use Rattle.std.specs.Prelude.{◌≡◌, ℕ, suc, Bool, List, [], ◌∷◌, Some, None};
+ghost use Rattle.std.specs.List.{flat_map};
+ghost use Rattle.hir_core.specs.Tree.{Tree, repetition};
+ghost use Rattle.hir_core.specs.Means.{Means};
+ghost use Rattle.hir_core.specs.PreferredEnds.{preferred_ends, in_order, Has};
+ghost use Rattle.hir_core.specs.Facts.{minimum_len, IsAboveZero, IsAtLeast, LoopsRead};
+
+/// Each end that a tree prefers is the end of a span that it means.
+#[tactic(auto, using(crate::proofs::PreferredEndsLemmas::preferred_ends_sound))]
+pub fn preferred_ends_are_meant()
+    ensures { (h : List ℕ) (x : Tree) (i j : ℕ) → Has (preferred_ends h x i) j → Means h x i j }
+{}
+
+/// Where each round of a repetition without a bound reads, each span that the tree means is among its
+/// preferred ends.
+#[tactic(auto, using(crate::proofs::PreferredEndsLemmas::preferred_ends_complete))]
+pub fn meant_ends_are_preferred()
+    ensures { (h : List ℕ) (x : Tree) (i j : ℕ) → LoopsRead x → Means h x i j → Has (preferred_ends h x i) j }
+{}
+
+/// No span is shorter than the minimum length, and there is none where it is `None`.
+#[tactic(auto, using(crate::proofs::MinimumLenLemmas::minimum_len_sound))]
+pub fn spans_have_the_minimum_len()
+    ensures { (h : List ℕ) (x : Tree) (i j : ℕ) → Means h x i j → IsAtLeast (minimum_len x) i j }
+{}
+
+/// While a round is owed, a repetition is a round and then the repetition with its bounds one less.
+#[tactic(auto, using(crate::proofs::RepetitionLemmas::repetition_owed, crate::proofs::RepetitionLemmas::repetition_owed_bounded))]
+pub fn owed_rounds_come_first()
+    ensures unbounded { (h : List ℕ) (greedy : Bool) (x : Tree) (min i : ℕ) →
+        preferred_ends h (repetition (suc min) None greedy x) i
+        ≡ flat_map (preferred_ends h (repetition min None greedy x)) (preferred_ends h x i) }
+    ensures bounded { (h : List ℕ) (greedy : Bool) (x : Tree) (min most i : ℕ) →
+        preferred_ends h (repetition (suc min) (Some (suc most)) greedy x) i
+        ≡ flat_map (preferred_ends h (repetition min (Some most) greedy x)) (preferred_ends h x i) }
+{}
+
+/// Where no round is owed and none may follow, a repetition stops.
+#[tactic(auto, using(crate::proofs::RepetitionLemmas::repetition_stopped))]
+pub fn no_rounds_stop()
+    ensures { (h : List ℕ) (greedy : Bool) (x : Tree) (i : ℕ) →
+        preferred_ends h (repetition 0 (Some 0) greedy x) i ≡ i ∷ [] }
+{}
+
+/// Where no round is owed, a repetition is one more round and then itself, and to stop: in this order
+/// where it is greedy, in the other where it is lazy. Without a bound each round has to read.
+#[tactic(auto, using(crate::proofs::RepetitionLemmas::repetition_more, crate::proofs::RepetitionLemmas::repetition_more_bounded))]
+pub fn more_rounds_or_stop()
+    ensures unbounded { (h : List ℕ) (greedy : Bool) (x : Tree) (i : ℕ) → IsAboveZero (minimum_len x) →
+        preferred_ends h (repetition 0 None greedy x) i
+        ≡ in_order greedy (flat_map (preferred_ends h (repetition 0 None greedy x)) (preferred_ends h x i)) i }
+    ensures bounded { (h : List ℕ) (greedy : Bool) (x : Tree) (most i : ℕ) →
+        preferred_ends h (repetition 0 (Some (suc most)) greedy x) i
+        ≡ in_order greedy (flat_map (preferred_ends h (repetition 0 (Some most) greedy x)) (preferred_ends h x i)) i }
+{}
