@@ -1,0 +1,196 @@
+-- A line without a fault is taken or ends the head, and a line that is taken has no fault and one effect.
+use Rattle.std.proofs.Common.{◌≡◌, ◌≢◌, ◌⊎◌, ℕ, suc, ◌+◌, ◌-◌, ◌<◌, ◌≤◌, Bool, true, false, not, List, [], ◌∷◌, ◌++◌, length, get_or, take, drop, map, Option, Some, None, Result, Ok, Err, IfOk, nat_lt, nat_le, eqb, refl, sym, ◌∙◌, ap, inl, inr, arith, codes, length-append, length-drop}
+use Rattle.std.proofs.lemmas.Bool.{eqb-true, ltb-true, ltb-false, le-ltb, leb-true, le-leb, not-true, not-false, cases_eq}
+use Rattle.std.proofs.lemmas.List.{take_at, drop_at, take-append-drop}
+use Rattle.hir_core.specs.Tree.{Tree, empty, literal, byte_class, repetition, concat, alternation}
+use Rattle.hir_core.specs.Means.{AtMost}
+use Rattle.hir_core.specs.Facts.{height}
+use Rattle.hirscan.specs.declared.fault.FaultKind.{FaultKind}
+use Rattle.hirscan.specs.declared.fault.FaultKind.TheVariants.{UnknownWord, WrongWordCount, BadNumber, BadHex, BadChoice, MinAboveMax, TooFewTrees, TooDeep, NotOneTree, TreeLeftOver}
+use Rattle.hirscan.specs.declared.words.LineWord.{LineWord}
+use Rattle.hirscan.specs.declared.words.LineWord.TheVariants.{Empty, Lit, Bytes, Rep, Cat, Alt, Pattern, Find}
+use Rattle.hirscan.specs.declared.line.Step.TheVariants.{Next, End}
+use Rattle.hirscan.specs.Words.{IsNumber, IsBound, IsGreedy, IsHex, IsItem, AreItems, class_ranges}
+use Rattle.hirscan.specs.Readers.{spelling, line_word, number, the_number, bound, the_bound, order, the_order, hex_bytes, the_bytes, item_ends, the_ends, word_at}
+use Rattle.hirscan.specs.Takes.{Standing, Replaces, TakesPattern, Takes, empty_line, lit_line, bytes_line, rep_line, cat_line, alt_line, pattern_line, EndsHead}
+use Rattle.hirscan.specs.LineFault.{first_of, when, unless_read, ends_fault, item_fault, word_fault, is_second_pattern, is_word_count, is_at_most, is_min_above_max, needed, top, below, new_tree, has_too_few_trees, is_too_deep, has_not_one_tree, has_tree_left_over, known_fault, fault_after, fault, after}
+use Rattle.hirscan.specs.declared.line.Step.{Step}
+use Rattle.hirscan.specs.Tells.{step_after, TellsStep}
+use Rattle.hirscan.proofs.SaysLemmas.{line_word_spelled, line_word-spelling, number_says, number_said, bound_says, bound_said, order_says, order_said, hex_bytes_says, hex_bytes_said, items_say, items_said}
+
+-- what each kind of fault says where there is none
+pub record NoFault (k : LineWord) (args : List (List ℕ)) (at : Standing) : Type 0 where
+  pub first_pattern : is_second_pattern k at ≡ false
+  pub counted : is_word_count k (length args) ≡ true
+  pub words_fit : word_fault k args ≡ None
+  pub in_order : is_min_above_max k args ≡ false
+  pub enough : has_too_few_trees k args at ≡ false
+  pub flat : is_too_deep k args at ≡ false
+  pub one_tree : has_not_one_tree k at ≡ false
+  pub none_left : has_tree_left_over k at ≡ false
+
+first_none : (a : Option FaultKind) (rest : List (Option FaultKind)) → first_of (a ∷ rest) ≡ None → (a ≡ None) × (first_of rest ≡ None)
+first_none None rest h = (refl, h)
+first_none (Some k) rest h = absurd cc
+
+when_none : (b : Bool) (k : FaultKind) → when b k ≡ None → b ≡ false
+when_none true k h = absurd cc
+when_none false k h = refl
+
+pub no_fault_parts : (k : LineWord) (args : List (List ℕ)) (at : Standing) → known_fault k args at ≡ None → NoFault k args at
+no_fault_parts k args at h =
+    let a = first_none (when (is_second_pattern k at) UnknownWord) _ h in
+    let b = first_none (when (not (is_word_count k (length args))) WrongWordCount) _ a.1 in
+    let c = first_none (word_fault k args) _ b.1 in
+    let d = first_none (when (is_min_above_max k args) MinAboveMax) _ c.1 in
+    let e = first_none (when (has_too_few_trees k args at) TooFewTrees) _ d.1 in
+    let f = first_none (when (is_too_deep k args at) TooDeep) _ e.1 in
+    let g = first_none (when (has_not_one_tree k at) NotOneTree) _ f.1 in
+    let i = first_none (when (has_tree_left_over k at) TreeLeftOver) _ g.1 in
+    record {
+      first_pattern = when_none _ UnknownWord a.0;
+      counted = not-false _ (when_none _ WrongWordCount b.0);
+      words_fit = c.0;
+      in_order = when_none _ MinAboveMax d.0;
+      enough = when_none _ TooFewTrees e.0;
+      flat = when_none _ TooDeep f.0;
+      one_tree = when_none _ NotOneTree g.0;
+      none_left = when_none _ TreeLeftOver i.0;
+    }
+
+first_skips : (a : Option FaultKind) (rest : List (Option FaultKind)) → a ≡ None → first_of rest ≡ None → first_of (a ∷ rest) ≡ None
+first_skips a rest e f = rw e f
+
+when_false : (b : Bool) (k : FaultKind) → b ≡ false → when b k ≡ None
+when_false b k e = rw e refl
+
+pub no_fault_from_parts : (k : LineWord) (args : List (List ℕ)) (at : Standing) → NoFault k args at → known_fault k args at ≡ None
+no_fault_from_parts k args at p =
+    first_skips _ _ (when_false _ UnknownWord p.first_pattern)
+    (first_skips _ _ (when_false _ WrongWordCount (ap not p.counted))
+    (first_skips _ _ p.words_fit
+    (first_skips _ _ (when_false _ MinAboveMax p.in_order)
+    (first_skips _ _ (when_false _ TooFewTrees p.enough)
+    (first_skips _ _ (when_false _ TooDeep p.flat)
+    (first_skips _ _ (when_false _ NotOneTree p.one_tree)
+    (first_skips _ _ (when_false _ TreeLeftOver p.none_left) refl)))))))
+
+-- so many words are those at their places
+no_words : {X : Type 0} (xs : List X) → length xs ≡ 0 → xs ≡ []
+no_words [] h = refl
+no_words (x ∷ xs) h = absurd (omega arith)
+
+one_alone : {X : Type 0} (xs : List X) (d : X) → length xs ≡ 1 → xs ≡ get_or xs 0 d ∷ []
+one_alone [] d h = absurd (omega arith)
+one_alone (x ∷ []) d h = refl
+one_alone (x ∷ y ∷ xs) d h = absurd (omega arith)
+
+three_alone : (xs : List (List ℕ)) → length xs ≡ 3 → xs ≡ word_at xs 0 ∷ word_at xs 1 ∷ word_at xs 2 ∷ []
+three_alone [] h = absurd (omega arith)
+three_alone (x ∷ []) h = absurd (omega arith)
+three_alone (x ∷ y ∷ []) h = absurd (omega arith)
+three_alone (x ∷ y ∷ z ∷ []) h = refl
+three_alone (x ∷ y ∷ z ∷ w ∷ xs) h = absurd (omega arith)
+
+some_words : (xs : List (List ℕ)) → nat_le 1 (length xs) ≡ true → xs ≢ []
+some_words xs h e = let l = leb-true 1 (length xs) h in let k = ap length e in omega arith
+
+-- the top trees of the stack become one
+replaced_top : (at : Standing) (n : ℕ) (parts : List Tree) (new : Tree) → top n at.stack ≡ parts → height new ≤ 250
+    → Replaces at (record { stack = below n at.stack ++ new ∷ []; patterns = at.patterns }) parts new
+replaced_top at n parts new e h = record {
+  below = below n at.stack;
+  stack_was = sym (take-append-drop (length at.stack - n) at.stack) ∙ ap (λ t. below n at.stack ++ t) e;
+  stack_is = refl;
+  patterns_stay = refl;
+  not_too_deep = h;
+}
+
+top_none : (s : List Tree) → top 0 s ≡ []
+top_none s = no_words _ (omega (arith, length-drop (length s - 0) s))
+
+length-top : (n : ℕ) (s : List Tree) → n ≤ length s → length (top n s) ≡ n
+length-top n s h = omega (arith, length-drop (length s - n) s)
+
+at_most : (n : ℕ) (most : Option ℕ) → not (is_at_most n most) ≡ false → AtMost n most
+at_most n None h = tt
+at_most n (Some m) h = leb-true n m (not-false _ h)
+
+height_in : (x : Tree) → nat_lt 250 (height x) ≡ false → height x ≤ 250
+height_in x h = ltb-false 250 (height x) h
+
+-- a line that isn't `find` and has no fault is taken, and does what its words say
+pub takes_after : (k : LineWord) (args : List (List ℕ)) (at : Standing) → step_after k ≡ Next → NoFault k args at
+    → Takes (spelling k ∷ args) at (after k args at)
+takes_after Empty args at n p =
+    let e = no_words args (eqb-true _ _ p.counted) in
+    empty_line (ap (λ a. codes "empty" ∷ a) e) (replaced_top at 0 [] empty (top_none at.stack) (height_in empty p.flat))
+takes_after Lit args at n p =
+    let e = one_alone args [] (eqb-true _ _ p.counted) in
+    lit_line (word_at args 0) (the_bytes (word_at args 0)) (ap (λ a. codes "lit" ∷ a) e) (hex_bytes_says (word_at args 0) p.words_fit)
+    (replaced_top at 0 [] _ (top_none at.stack) (height_in (literal (the_bytes (word_at args 0))) p.flat))
+takes_after Bytes args at n p =
+    bytes_line args (map the_ends args) refl (some_words args p.counted) (items_say args p.words_fit)
+    (replaced_top at 0 [] _ (top_none at.stack) (height_in (byte_class (class_ranges (map the_ends args))) p.flat))
+takes_after Rep args at n p =
+    let e = three_alone args (eqb-true _ _ p.counted) in
+    let a = first_none (unless_read (number (word_at args 0)) BadNumber) _ p.words_fit in
+    let b = first_none (unless_read (bound (word_at args 1)) BadNumber) _ a.1 in
+    let c = first_none (unless_read (order (word_at args 2)) BadChoice) _ b.1 in
+    let enough = ltb-false (length at.stack) 1 p.enough in
+    rep_line (word_at args 0) (word_at args 1) (word_at args 2) (the_number (word_at args 0)) (the_bound (word_at args 1)) (the_order (word_at args 2))
+    (get_or (top 1 at.stack) 0 empty) (ap (λ a. codes "rep" ∷ a) e) (number_says (word_at args 0) a.0) (bound_says (word_at args 1) b.0) (order_says (word_at args 2) c.0)
+    (at_most _ _ p.in_order)
+    (replaced_top at 1 _ _ (one_alone (top 1 at.stack) empty (length-top 1 at.stack enough)) (height_in (repetition (the_number (word_at args 0)) (the_bound (word_at args 1)) (the_order (word_at args 2)) (get_or (top 1 at.stack) 0 empty)) p.flat))
+takes_after Cat args at n p =
+    let e = one_alone args [] (eqb-true _ _ p.counted) in
+    let enough = ltb-false (length at.stack) (the_number (word_at args 0)) p.enough in
+    cat_line (word_at args 0) (the_number (word_at args 0)) (top (the_number (word_at args 0)) at.stack)
+    (ap (λ a. codes "cat" ∷ a) e) (number_says (word_at args 0) p.words_fit) (length-top _ at.stack enough)
+    (replaced_top at (the_number (word_at args 0)) _ _ refl (height_in (concat (top (the_number (word_at args 0)) at.stack)) p.flat))
+takes_after Alt args at n p =
+    let e = one_alone args [] (eqb-true _ _ p.counted) in
+    let enough = ltb-false (length at.stack) (the_number (word_at args 0)) p.enough in
+    alt_line (word_at args 0) (the_number (word_at args 0)) (top (the_number (word_at args 0)) at.stack)
+    (ap (λ a. codes "alt" ∷ a) e) (number_says (word_at args 0) p.words_fit) (length-top _ at.stack enough)
+    (replaced_top at (the_number (word_at args 0)) _ _ refl (height_in (alternation (top (the_number (word_at args 0)) at.stack)) p.flat))
+takes_after Pattern args at n p =
+    let e = no_words args (eqb-true _ _ p.counted) in
+    let one = one_alone at.stack empty (eqb-true _ _ (not-false _ p.one_tree)) in
+    let none : at.patterns ≡ [] = no_words at.patterns (let l = ltb-false 0 (length at.patterns) p.first_pattern in omega arith) in
+    pattern_line (ap (λ a. codes "pattern" ∷ a) e) (record {
+      tree = get_or at.stack 0 empty;
+      stack_was = one;
+      none_before = none;
+      stack_is = refl;
+      patterns_are = ap (λ s. at.patterns ++ s) one;
+    })
+takes_after Find args at n p = absurd cc
+
+-- a line `find` that has no fault ends the head
+pub ends_head : (args : List (List ℕ)) (at : Standing) → NoFault Find args at → EndsHead (spelling Find ∷ args) at
+ends_head args at p = record {
+  says_find = ap (λ a. codes "find" ∷ a) (no_words args (eqb-true _ _ p.counted));
+  nothing_left = no_words at.stack (let l = ltb-false 0 (length at.stack) p.none_left in omega arith);
+}
+
+step_told : (k : LineWord) (args : List (List ℕ)) (at : Standing) → NoFault k args at
+    → TellsStep (spelling k ∷ args) at (after k args at) (step_after k)
+step_told Empty args at p = takes_after Empty args at refl p
+step_told Lit args at p = takes_after Lit args at refl p
+step_told Bytes args at p = takes_after Bytes args at refl p
+step_told Rep args at p = takes_after Rep args at refl p
+step_told Cat args at p = takes_after Cat args at refl p
+step_told Alt args at p = takes_after Alt args at refl p
+step_told Pattern args at p = takes_after Pattern args at refl p
+step_told Find args at p = (ends_head args at p, refl)
+
+-- what a line that was followed tells
+pub line_done : {E : Type 0} (r : Result Step E) (ws args : List (List ℕ)) (w : List ℕ) (k : LineWord) (at now : Standing)
+    → ws ≡ w ∷ args → line_word w ≡ Some k
+    → IfOk r (λ step. (known_fault k args at ≡ None) × (now ≡ after k args at) × (step ≡ step_after k))
+    → IfOk r (λ step. TellsStep ws at now step)
+line_done (Ok step) ws args w k at now e f h =
+    let spelled : ws ≡ spelling k ∷ args = e ∙ ap (λ v. v ∷ args) (line_word_spelled w k f) in
+    rw (spelled, h.1, h.2) (step_told k args at (no_fault_parts k args at h.0))
+line_done (Err x) ws args w k at now e f h = tt

@@ -1,0 +1,31 @@
+use Rattle.std.proofs.Common.{arith}
+use Rattle.hirscan.proofs.HeadLemmas.{length-cut, behind_more, reads_at_find, fault_in_line, fault_at_end}
+use Rattle.hirscan.proofs.head.read_head.Goals as goal
+
+pub lines-preserved : goal.lines-preserved
+lines-preserved c =
+    let cut = c.in-Some.ensures in
+    let lengths = length-cut c.lines.rest.now c.in-Some.line.now c.in-Some.behind.now cut in
+    record {
+      all_read = omega (arith, lengths);
+      lines_read = omega arith;
+      behind =
+          behind_more c.args.text.now c.lines.rest.now c.in-Some.line.now c.in-Some.behind.now _ _ c.lines.at c.lines.lines
+          c.lines.invariant.behind cut (rw c.in-Next.is at c.in-Ok.ensures.ok);
+    }
+
+pub returns-in_default-clause-notation : goal.returns-in_default-clause-notation
+returns-in_default-clause-notation c =
+    fault_at_end c.args.text.now c.lines.rest.now _ c.lines.at c.lines.lines c.lines.invariant.behind c.in_default.ensures
+
+pub returns-in-Err-clause-notation : goal.returns-in-Err-clause-notation
+returns-in-Err-clause-notation c =
+    rw c.on_line.ensures
+    (fault_in_line c.args.text.now c.lines.rest.now c.in-Some.line.now c.in-Some.behind.now _ c.lines.at c.lines.lines c.in-Err.fault
+    c.lines.invariant.behind c.in-Some.ensures c.in-Err.ensures.err)
+
+pub returns-in-End-clause-ok : goal.returns-in-End-clause-ok
+returns-in-End-clause-ok c =
+    let ends = rw c.in-End.is at c.in-Ok.ensures.ok in
+    reads_at_find c.args.text.now c.lines.rest.now c.in-Some.line.now c.in-Some.behind.now _ _ c.lines.at c.lines.lines
+    c.lines.invariant.behind c.in-Some.ensures ends.0 ends.1

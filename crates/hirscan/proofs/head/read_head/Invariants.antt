@@ -1,0 +1,14 @@
+use Rattle.std.proofs.Common.{◌≡◌, ◌+◌, ◌≤◌, length}
+use Rattle.hirscan.specs.Tells.{standing}
+use Rattle.hirscan.proofs.HeadLemmas.{Behind}
+use Rattle.hirscan.proofs.head.read_head.Given as goal
+
+abbrev pub decreases-lines : goal.decreases-lines
+decreases-lines l = length l.rest
+
+abbrev pub invariant-lines : goal.invariant-lines
+invariant-lines l = record {
+  all_read : l.at + length l.rest ≡ length l.text;
+  lines_read : l.lines ≤ l.at;
+  behind : Behind l.text l.rest (standing l.stands) l.at l.lines;
+}

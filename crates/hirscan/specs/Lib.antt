@@ -1,0 +1,12 @@
+pub mod Choices
+pub mod LeftmostAnswer
+pub mod AllAnswers
+pub mod Loops
+pub mod Words
+pub mod Takes
+pub mod Readers
+pub mod LineFault
+pub mod Reads
+pub mod Tells
+pub mod Reply
+pub mod Runs

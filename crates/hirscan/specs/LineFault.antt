@@ -1,0 +1,139 @@
+-- What is wrong with a line: the kinds of faults in their order, each with its test.
+use Rattle.std.specs.Prelude.{ℕ, ◌-◌, ◌==◌, not, Bool, true, false, List, [], ◌∷◌, ◌++◌, length, map, take, drop, slice_index_or, Option, Some, None, nat_lt, nat_le, if◌then◌else◌}
+use Rattle.hir_core.specs.Tree.{Tree, empty, literal, byte_class, repetition, concat, alternation}
+use Rattle.hir_core.specs.Facts.{height}
+use Rattle.hirscan.specs.declared.fault.FaultKind.{FaultKind}
+use Rattle.hirscan.specs.declared.fault.FaultKind.TheVariants.{UnknownWord, WrongWordCount, BadNumber, BadHex, BadRange, BadChoice, MinAboveMax, TooFewTrees, TooDeep, NotOneTree, TreeLeftOver}
+use Rattle.hirscan.specs.declared.words.LineWord.{LineWord}
+use Rattle.hirscan.specs.declared.words.LineWord.TheVariants.{Empty, Lit, Bytes, Rep, Cat, Alt, Pattern, Find}
+use Rattle.hirscan.specs.Words.{class_ranges}
+use Rattle.hirscan.specs.Takes.{Standing}
+use Rattle.hirscan.specs.Readers.{line_word, number, the_number, bound, the_bound, order, the_order, hex_bytes, the_bytes, item_ends, the_ends, word_at}
+
+-- the first fault of the list
+abbrev pub first_of : List (Option FaultKind) → Option FaultKind
+first_of [] = None
+first_of (None ∷ faults) = first_of faults
+first_of (Some kind ∷ faults) = Some kind
+
+-- this kind where the test says so
+abbrev pub when : Bool → FaultKind → Option FaultKind
+when true kind = Some kind
+when false kind = None
+
+-- this kind where nothing was read
+abbrev pub unless_read : {A : Type 0} → Option A → FaultKind → Option FaultKind
+unless_read None kind = Some kind
+unless_read (Some x) kind = None
+
+-- whether the line would take a second pattern, which no line does for now
+abbrev pub is_second_pattern : LineWord → Standing → Bool
+is_second_pattern Pattern at = nat_lt 0 (length at.patterns)
+is_second_pattern _ at = false
+
+-- whether so many words may follow the first
+abbrev pub is_word_count : LineWord → ℕ → Bool
+is_word_count Empty n = n == 0
+is_word_count Lit n = n == 1
+is_word_count Bytes n = nat_le 1 n
+is_word_count Rep n = n == 3
+is_word_count Cat n = n == 1
+is_word_count Alt n = n == 1
+is_word_count Pattern n = n == 0
+is_word_count Find n = n == 0
+
+-- what is wrong with an item of these ends
+abbrev pub ends_fault : Option (ℕ × ℕ) → Option FaultKind
+ends_fault None = Some BadHex
+ends_fault (Some ends) = when (nat_lt ends.1 ends.0) BadRange
+
+abbrev pub item_fault : List ℕ → Option FaultKind
+item_fault w = ends_fault (item_ends w)
+
+-- what is wrong with the first faulty word after the line's first
+abbrev pub word_fault : LineWord → List (List ℕ) → Option FaultKind
+word_fault Lit args = unless_read (hex_bytes (word_at args 0)) BadHex
+word_fault Bytes args = first_of (map item_fault args)
+word_fault Rep args = first_of (unless_read (number (word_at args 0)) BadNumber
+    ∷ unless_read (bound (word_at args 1)) BadNumber
+    ∷ unless_read (order (word_at args 2)) BadChoice
+    ∷ [])
+word_fault Cat args = unless_read (number (word_at args 0)) BadNumber
+word_fault Alt args = unless_read (number (word_at args 0)) BadNumber
+word_fault _ args = None
+
+abbrev pub is_at_most : ℕ → Option ℕ → Bool
+is_at_most n None = true
+is_at_most n (Some most) = nat_le n most
+
+-- whether a repetition's least number of rounds is above its greatest
+abbrev pub is_min_above_max : LineWord → List (List ℕ) → Bool
+is_min_above_max Rep args = not (is_at_most (the_number (word_at args 0)) (the_bound (word_at args 1)))
+is_min_above_max _ args = false
+
+-- how many trees the line makes one
+abbrev pub needed : LineWord → List (List ℕ) → ℕ
+needed Rep args = 1
+needed Cat args = the_number (word_at args 0)
+needed Alt args = the_number (word_at args 0)
+needed _ args = 0
+
+-- the top n trees of a stack, and those below them
+abbrev pub top : ℕ → List Tree → List Tree
+top n stack = drop (length stack - n) stack
+
+abbrev pub below : ℕ → List Tree → List Tree
+below n stack = take (length stack - n) stack
+
+-- the tree that the line makes of these trees, for a line that makes one
+abbrev pub new_tree : LineWord → List (List ℕ) → List Tree → Tree
+new_tree Lit args parts = literal (the_bytes (word_at args 0))
+new_tree Bytes args parts = byte_class (class_ranges (map the_ends args))
+new_tree Rep args parts =
+    repetition (the_number (word_at args 0)) (the_bound (word_at args 1)) (the_order (word_at args 2)) (slice_index_or parts 0 empty)
+new_tree Cat args parts = concat parts
+new_tree Alt args parts = alternation parts
+new_tree _ args parts = empty
+
+abbrev pub has_too_few_trees : LineWord → List (List ℕ) → Standing → Bool
+has_too_few_trees k args at = nat_lt (length at.stack) (needed k args)
+
+-- whether the line's new tree would be higher than 250
+abbrev pub is_too_deep : LineWord → List (List ℕ) → Standing → Bool
+is_too_deep k args at = nat_lt 250 (height (new_tree k args (top (needed k args) at.stack)))
+
+abbrev pub has_not_one_tree : LineWord → Standing → Bool
+has_not_one_tree Pattern at = not (length at.stack == 1)
+has_not_one_tree _ at = false
+
+abbrev pub has_tree_left_over : LineWord → Standing → Bool
+has_tree_left_over Find at = nat_lt 0 (length at.stack)
+has_tree_left_over _ at = false
+
+-- what is wrong with a line of this first word and these words after it: the first kind that applies
+abbrev pub known_fault : LineWord → List (List ℕ) → Standing → Option FaultKind
+known_fault k args at = first_of (when (is_second_pattern k at) UnknownWord
+    ∷ when (not (is_word_count k (length args))) WrongWordCount
+    ∷ word_fault k args
+    ∷ when (is_min_above_max k args) MinAboveMax
+    ∷ when (has_too_few_trees k args at) TooFewTrees
+    ∷ when (is_too_deep k args at) TooDeep
+    ∷ when (has_not_one_tree k at) NotOneTree
+    ∷ when (has_tree_left_over k at) TreeLeftOver
+    ∷ [])
+
+-- the same, where the first word may begin no line
+abbrev pub fault_after : Option LineWord → List (List ℕ) → Standing → Option FaultKind
+fault_after None args at = Some UnknownWord
+fault_after (Some k) args at = known_fault k args at
+
+-- what is wrong with the line of these words: None where it is taken, or ends the head
+abbrev pub fault : List (List ℕ) → Standing → Option FaultKind
+fault [] at = Some UnknownWord
+fault (w ∷ args) at = fault_after (line_word w) args at
+
+-- what stands after a line of this first word that has no fault
+abbrev pub after : LineWord → List (List ℕ) → Standing → Standing
+after Pattern args at = record { stack = []; patterns = at.patterns ++ at.stack }
+after Find args at = at
+after k args at = record { stack = below (needed k args) at.stack ++ new_tree k args (top (needed k args) at.stack) ∷ []; patterns = at.patterns }

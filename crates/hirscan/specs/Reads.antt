@@ -1,0 +1,31 @@
+-- What a head reads as, and where the first fault of a text stands.
+use Rattle.std.specs.Prelude.{◌≡◌, ◌≢◌, ℕ, suc, ◌+◌, List, [], ◌∷◌, ◌++◌, length, Some, All}
+use Rattle.hir_core.specs.Tree.{Tree}
+use Rattle.hirscan.specs.declared.fault.FaultKind.{FaultKind}
+use Rattle.hirscan.specs.declared.fault.FaultKind.TheVariants.{NoFindLine}
+use Rattle.hirscan.specs.Words.{words}
+use Rattle.hirscan.specs.Takes.{Standing, Takes, EndsHead}
+use Rattle.hirscan.specs.LineFault.{fault}
+
+-- no byte is a line feed
+abbrev pub IsOneLine : List ℕ → Type 0
+IsOneLine bytes = All (λ b. b ≢ 10) bytes
+
+-- From this standing on, the first n bytes of the text are lines, each ended by a line feed, up to a `find` line, and give these patterns.
+pub data Reads : List ℕ → Standing → List Tree → ℕ → Type 0 where
+  reads_find : (text line rest : List ℕ) (at : Standing) (patterns : List Tree) (n : ℕ) →
+      text ≡ line ++ 10 ∷ rest → IsOneLine line → EndsHead (words line) at → patterns ≡ at.patterns → n ≡ length line + 1 →
+      Reads text at patterns n
+  reads_line : (text line rest : List ℕ) (at after : Standing) (patterns : List Tree) (n m : ℕ) →
+      text ≡ line ++ 10 ∷ rest → IsOneLine line → Takes (words line) at after → Reads rest after patterns m → n ≡ length line + 1 + m →
+      Reads text at patterns n
+
+-- From this standing on, line k of the text, counted from 1, is the first faulty one, and has this kind.
+pub data IsFaultAt : List ℕ → Standing → ℕ → FaultKind → Type 0 where
+  no_line_feed : (text : List ℕ) (at : Standing) (k : ℕ) (kind : FaultKind) →
+      IsOneLine text → k ≡ 1 → kind ≡ NoFindLine → IsFaultAt text at k kind
+  faulty_line : (text line rest : List ℕ) (at : Standing) (k : ℕ) (kind : FaultKind) →
+      text ≡ line ++ 10 ∷ rest → IsOneLine line → fault (words line) at ≡ Some kind → k ≡ 1 → IsFaultAt text at k kind
+  faulty_later : (text line rest : List ℕ) (at after : Standing) (k m : ℕ) (kind : FaultKind) →
+      text ≡ line ++ 10 ∷ rest → IsOneLine line → Takes (words line) at after → IsFaultAt rest after m kind → k ≡ m + 1 →
+      IsFaultAt text at k kind

@@ -1,0 +1,27 @@
+-- What a run leaves of what its reader and its writer tell of their bytes.
+use Rattle.std.specs.Prelude.{◌≡◌, ℕ, List, ◌++◌, length, take, Option, IfSome}
+use Rattle.std.specs.Io.KnownBytes.{Appends, Consumes, IsAtEnd, Keeps}
+use Rattle.hirscan.specs.declared.program.Ending.{Ending}
+use Rattle.hirscan.specs.declared.program.RunError.{RunError}
+use Rattle.hirscan.specs.declared.program.RunError.TheVariants.{Read, Write, NoMemory}
+use Rattle.hirscan.specs.Reply.{IsReply}
+
+-- a read appended the n bytes that it took, none only at the end
+pub record ReadsSome (before after : Option (List ℕ)) (old new : List ℕ) (n : ℕ) : Type 0 where
+  pub bytes : List ℕ
+  pub taken : Consumes before after bytes
+  pub appended : new ≡ old ++ bytes
+  pub counted : length bytes ≡ n
+  pub end : n ≡ 0 → IsAtEnd after
+
+-- where the reader had this input, the writer got its whole reply
+abbrev pub WritesReply : Option (List ℕ) → Option (List ℕ) → Option (List ℕ) → Ending → Type 0
+WritesReply input before after ending =
+    IfSome input (λ bytes. (text : List ℕ) × IsReply bytes ending text × Appends before after text)
+
+-- after a failed read or want of memory nothing was written, after a failed write the first n bytes of the reply
+abbrev pub WritesAtFault : Option (List ℕ) → Option (List ℕ) → Option (List ℕ) → RunError → Type 0
+WritesAtFault input before after Read = Keeps before after
+WritesAtFault input before after Write =
+    IfSome input (λ bytes. (ending : Ending) × (text : List ℕ) × (n : ℕ) × IsReply bytes ending text × Appends before after (take n text))
+WritesAtFault input before after NoMemory = Keeps before after

@@ -1,0 +1,84 @@
+-- What the crate's answers say of a text and of a line.
+use Rattle.std.specs.Prelude.{◌≡◌, ℕ, List, [], ◌∷◌, ◌++◌, map, Option, Some, None, codes}
+use denote.Ref.{Bor}
+use Rattle.hirscan.specs.declared.fault.FaultKind.{FaultKind}
+use Rattle.hirscan.specs.declared.fault.FaultKind.TheVariants.{NoFindLine, UnknownWord, WrongWordCount, BadNumber, BadHex, BadRange, BadChoice, MinAboveMax, TooFewTrees, TooDeep, NotOneTree, TreeLeftOver}
+use Rattle.hirscan.specs.declared.fault.Fault.{Fault}
+use Rattle.hirscan.specs.declared.fault.Fault.TheVariants as of_text
+use Rattle.hirscan.specs.declared.fault.LineFault.{LineFault}
+use Rattle.hirscan.specs.declared.fault.LineFault.TheVariants as of_line
+use Rattle.hirscan.specs.declared.line.Step.{Step}
+use Rattle.hirscan.specs.declared.line.Step.TheVariants.{Next, End}
+use Rattle.hirscan.specs.declared.line.Stands.{Stands}
+use Rattle.hirscan.specs.Takes.{Standing, at_first, Takes, EndsHead}
+use Rattle.hirscan.specs.Reads.{IsOneLine, IsFaultAt}
+use Rattle.hirscan.specs.declared.words.LineWord.{LineWord}
+use Rattle.hirscan.specs.declared.words.LineWord.TheVariants.{Empty, Lit, Bytes, Rep, Cat, Alt, Pattern, Find}
+use Rattle.hirscan.specs.LineFault.{first_of, when, word_fault, is_min_above_max, has_too_few_trees, is_too_deep, has_not_one_tree, has_tree_left_over, after}
+
+-- how a kind is told
+abbrev pub kind_text : FaultKind → List ℕ
+kind_text NoFindLine = codes "no find line"
+kind_text UnknownWord = codes "unknown word"
+kind_text WrongWordCount = codes "wrong word count"
+kind_text BadNumber = codes "bad number"
+kind_text BadHex = codes "bad hex"
+kind_text BadRange = codes "bad range"
+kind_text BadChoice = codes "bad choice"
+kind_text MinAboveMax = codes "min above max"
+kind_text TooFewTrees = codes "too few trees"
+kind_text TooDeep = codes "too deep"
+kind_text NotOneTree = codes "not one tree"
+kind_text TreeLeftOver = codes "tree left over"
+
+-- the words behind references to them
+abbrev pub texts : List (Bor (List ℕ)) → List (List ℕ)
+texts words = map (λ w. w.now) words
+
+-- what stands, as the rules see it
+abbrev pub standing : Stands → Standing
+standing stands = record { stack = stands.stack.items; patterns = stands.patterns.items }
+
+-- a fault of a text is the first one; want of memory says nothing of the text
+abbrev pub TellsFault : List ℕ → Fault → Type 0
+TellsFault text (of_text.Notation line kind) = IsFaultAt text at_first line kind
+TellsFault text of_text.NoMemory = Unit {0}
+
+-- the same of a line, or of a part of it, whose fault is given
+abbrev pub TellsLineFault : Option FaultKind → LineFault → Type 0
+TellsLineFault found (of_line.Is kind) = found ≡ Some kind
+TellsLineFault found of_line.NoMemory = Unit {0}
+
+-- the line was taken, or it ended the head and its patterns stay
+abbrev pub TellsStep : List (List ℕ) → Standing → Standing → Step → Type 0
+TellsStep ws before after Next = Takes ws before after
+TellsStep ws before after End = EndsHead ws before × (after.patterns ≡ before.patterns)
+
+-- what is wrong with a line of this first word, of which there may be so many words and which may stand there
+abbrev pub left_fault : LineWord → List (List ℕ) → Standing → Option FaultKind
+left_fault k args at = first_of (word_fault k args
+    ∷ when (is_min_above_max k args) MinAboveMax
+    ∷ when (has_too_few_trees k args at) TooFewTrees
+    ∷ when (is_too_deep k args at) TooDeep
+    ∷ when (has_not_one_tree k at) NotOneTree
+    ∷ when (has_tree_left_over k at) TreeLeftOver
+    ∷ [])
+
+-- the line has none of these faults, and does what it says
+abbrev pub IsDone : LineWord → List (List ℕ) → Standing → Standing → Type 0
+IsDone k args before now = (left_fault k args before ≡ None) × (now ≡ after k args before)
+
+-- what comes after a line
+abbrev pub step_after : LineWord → Step
+step_after Find = End
+step_after _ = Next
+
+-- the text's first line, without its line feed, and what follows that
+pub record CutsLine (text line rest : List ℕ) : Type 0 where
+  pub parts : text ≡ line ++ 10 ∷ rest
+  pub one_line : IsOneLine line
+
+-- the same fault, told of this line of the text
+abbrev pub on_line : LineFault → ℕ → Fault
+on_line (of_line.Is kind) line = of_text.Notation line kind
+on_line of_line.NoMemory line = of_text.NoMemory

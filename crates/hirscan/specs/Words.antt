@@ -1,0 +1,62 @@
+-- The words of a line, and what a word says by itself.
+use Rattle.std.specs.Prelude.{◌≡◌, ◌≢◌, ℕ, zero, suc, ◌+◌, ◌^◌, ◌<◌, ◌≤◌, ◌==◌, Bool, true, false, List, [], ◌∷◌, ◌++◌, Option, Some, None, Ok, decimal, codes, if◌then◌else◌}
+use Rattle.std.specs.List.{slice_split}
+use Rattle.hex.specs.Hex.{decode_of}
+use Rattle.hir_core.specs.Means.{is_member}
+
+-- what stands between the spaces of the line: n spaces part n + 1 words, some of which may be empty
+abbrev pub words : List ℕ → List (List ℕ)
+words line = slice_split (λ b. b == 32) line
+
+-- the word is the number n: decimal, without a leading zero, at most 4294967295
+abbrev pub IsNumber : List ℕ → ℕ → Type 0
+IsNumber w n = (n < 2 ^ 32) × (w ≡ decimal n)
+
+-- the word is a bound on rounds: a number, or `inf` for none
+abbrev pub IsBound : List ℕ → Option ℕ → Type 0
+IsBound w None = w ≡ codes "inf"
+IsBound w (Some n) = IsNumber w n
+
+-- whether the word says that more rounds are preferred
+abbrev pub IsGreedy : List ℕ → Bool → Type 0
+IsGreedy w true = w ≡ codes "greedy"
+IsGreedy w false = w ≡ codes "lazy"
+
+-- the word spells these bytes, one or more, as two hexadecimal digits each, of either case
+abbrev pub IsHex : List ℕ → List ℕ → Type 0
+IsHex w bytes = (bytes ≢ []) × (decode_of w ≡ Ok bytes)
+
+-- the word is an item of a class, as in `30-39`: a low end and a high end that isn't below it, 45 being the sign between them
+pub record IsItem (w : List ℕ) (range : ℕ × ℕ) : Type 0 where
+  pub low : List ℕ
+  pub high : List ℕ
+  pub parts : w ≡ low ++ 45 ∷ high
+  pub low_is : IsHex low (range.0 ∷ [])
+  pub high_is : IsHex high (range.1 ∷ [])
+  pub in_order : range.0 ≤ range.1
+
+-- each word is the item at its place in the list
+abbrev pub AreItems : List (List ℕ) → List (ℕ × ℕ) → Type 0
+AreItems [] [] = Unit {0}
+AreItems [] (r ∷ rs) = ⊥
+AreItems (w ∷ ws) [] = ⊥
+AreItems (w ∷ ws) (r ∷ rs) = IsItem w r × AreItems ws rs
+
+-- the ranges with the byte b before them, which is below each: the first one grows where it begins just above b
+abbrev pub with_byte : ℕ → List (ℕ × ℕ) → List (ℕ × ℕ)
+with_byte b [] = (b, b) ∷ []
+with_byte b (r ∷ rs) = if r.0 == b + 1 then (b, r.1) ∷ rs else (b, b) ∷ r ∷ rs
+
+-- the ranges with the byte b before them, if it is a member
+abbrev pub with_member : Bool → ℕ → List (ℕ × ℕ) → List (ℕ × ℕ)
+with_member true b ranges = with_byte b ranges
+with_member false b ranges = ranges
+
+-- the ranges of the members among the n bytes from b on, each as long as it can be, ascending
+abbrev pub ranges_from : (ℕ → Bool) → ℕ → ℕ → List (ℕ × ℕ)
+ranges_from member zero b = []
+ranges_from member (suc n) b = with_member (member b) b (ranges_from member n (b + 1))
+
+-- the ranges of a class of these items, which may overlap and come in any order
+unfoldable pub class_ranges : List (ℕ × ℕ) → List (ℕ × ℕ)
+class_ranges items = ranges_from (is_member items) 256 0

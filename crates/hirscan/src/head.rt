@@ -1,0 +1,65 @@
+// A head: its lines, one after the other.
+ghost use Rattle.std.specs.Prelude.{IfOk, IfErr, MatchOption};
+ghost use Rattle.hirscan.specs.Takes.{at_first};
+ghost use Rattle.hirscan.specs.Reads.{IsOneLine, Reads};
+ghost use Rattle.hirscan.specs.Tells.{TellsFault, CutsLine};
+
+use crate::fault::{Fault, FaultKind};
+use crate::line::{Stands, Step, read_line};
+use hir_core::Hir;
+use std::alloc::Global;
+
+/// What a text has before its haystack.
+#[derive(Debug, Drop)]
+pub struct Head {
+    /// The patterns, in the order in which they were taken.
+    pub patterns: Vec<Hir>,
+    /// How many bytes the head has, with the line feed of its line `find`.
+    pub len: usize,
+}
+
+/// The first line, without its line feed, and what follows that; `None` where there is no line feed.
+fn split_line(text: &[u8]) -> Option<(&[u8], &[u8])>
+    ensures { MatchOption result (IsOneLine text.now) (λ p. CutsLine text.now p.0.now p.1.now) }
+{
+    let len = text.iter().position(|b| *b == b'\n')?;
+    Some((&text[..len], &text[len + 1..]))
+}
+
+/// Reads the head of a text. Nothing behind its line `find` is looked at.
+///
+/// The first line that can't be taken is refused; so is a text that ends before there is a line
+/// `find`, as of its last line, which has no line feed and may be empty.
+pub fn read_head(alloc: Global, text: &[u8]) -> Result<Head, Fault>
+    ensures ok { IfOk result (λ head. Reads text.now at_first head.patterns.items head.len) }
+    ensures notation { IfErr result (λ e. TellsFault text.now e) }
+{
+    let mut stands = Stands {
+        stack: Vec::new(alloc),
+        patterns: Vec::new(alloc),
+    };
+    let mut rest = text;
+    let mut at = 0usize;
+    let mut lines = 0usize;
+    'lines: loop {
+        let Some((line, behind)) = split_line(rest) else {
+            return Err(Fault::Notation {
+                line: lines + 1,
+                kind: FaultKind::NoFindLine,
+            });
+        };
+        let step = match read_line(alloc, line, &mut stands) {
+            Ok(step) => step,
+            Err(fault) => return Err(fault.on_line(lines + 1)),
+        };
+        rest = behind;
+        at += line.len() + 1;
+        match step {
+            Step::Next => lines += 1,
+            Step::End => {
+                let Stands { patterns, .. } = stands;
+                return Ok(Head { patterns, len: at });
+            }
+        }
+    }
+}

@@ -1,0 +1,280 @@
+// One line: its words, the stack and the patterns before and after it.
+ghost use Rattle.std.specs.Prelude.{◌≡◌, ◌<◌, ◌≤◌, IfOk, IfErr, OnOk, MatchOption, IsTrue, ℕ, length, Some, None, [], ◌∷◌, ◌++◌, nat_lt, slice_index_or};
+ghost use Rattle.hir_core.specs.Tree.{empty};
+ghost use Rattle.hir_core.specs.Facts.{height};
+ghost use Rattle.hirscan.specs.Words.{words};
+ghost use Rattle.hirscan.specs.LineFault.{fault, known_fault, after, top, below, when, is_at_most, is_word_count, is_second_pattern};
+ghost use Rattle.hirscan.specs.Tells.{texts, standing, TellsLineFault, TellsStep, left_fault, IsDone, step_after};
+ghost use Rattle.hirscan.specs.declared.fault.FaultKind.TheVariants.{TooFewTrees, TooDeep};
+ghost use Rattle.hirscan.specs.declared.words.LineWord.TheVariants.{Empty, Lit, Bytes, Rep, Cat, Alt, Pattern, Find};
+
+use crate::fault::{FaultKind, LineFault};
+use crate::words::{
+    LineWord, bound, class_ranges, hex_bytes, items, line_word, number, order, word_at,
+};
+use hir_core::Hir;
+use std::alloc::{AllocError, Global};
+
+/// A tree may not be higher.
+const MAX_HEIGHT: usize = 250;
+
+/// The trees on the stack, the last pushed last, and the patterns that were taken.
+#[derive(Debug, Drop)]
+pub(crate) struct Stands {
+    pub stack: Vec<Hir>,
+    pub patterns: Vec<Hir>,
+}
+
+/// What comes after a line that has no fault.
+#[derive(Clone, Copy, Debug)]
+pub(crate) enum Step {
+    Next,
+    End,
+}
+
+/// What stands between the spaces of a line.
+fn split_words(alloc: Global, line: &[u8]) -> Result<Vec<&[u8]>, AllocError>
+    ensures { IfOk result (λ found. texts found.items ≡ words line.now) }
+{
+    line.split(|b| *b == b' ').collect(alloc)
+}
+
+/// Pushes a tree, unless it is too high.
+fn push(stands: &mut Stands, tree: Hir) -> Result<(), LineFault>
+    ensures ok { OnOk result ((height tree ≤ 250) × (stands.new.stack.items ≡ stands.old.stack.items ++ tree ∷ [])
+        × (stands.new.patterns.items ≡ stands.old.patterns.items)) }
+    ensures err { IfErr result (λ e. TellsLineFault (when (nat_lt 250 (height tree)) TooDeep) e) }
+{
+    if tree.height() > MAX_HEIGHT {
+        return Err(LineFault::Is(FaultKind::TooDeep));
+    }
+    stands.stack.push(tree).map_err(|_| LineFault::NoMemory)
+}
+
+/// Takes the top tree off the stack.
+#[tactic(auto, using(crate::proofs::StackLemmas::top_one, crate::proofs::StackLemmas::below_one))]
+fn pop(stands: &mut Stands) -> Option<Hir>
+    ensures found { MatchOption result (length stands.old.stack.items ≡ 0) (λ x. (0 < length stands.old.stack.items)
+        × (slice_index_or (top 1 stands.old.stack.items) 0 empty ≡ x)
+        × (stands.new.stack.items ≡ below 1 stands.old.stack.items)) }
+    ensures patterns { stands.new.patterns.items ≡ stands.old.patterns.items }
+{
+    stands.stack.pop()
+}
+
+/// Takes so many trees off the stack, the lowest first.
+fn pop_many(stands: &mut Stands, count: u32) -> Result<Vec<Hir>, LineFault>
+    ensures ok { IfOk result (λ parts. (count ≤ length stands.old.stack.items)
+        × (parts.items ≡ top count stands.old.stack.items)
+        × (stands.new.stack.items ≡ below count stands.old.stack.items)) }
+    ensures err { IfErr result (λ e. TellsLineFault (when (nat_lt (length stands.old.stack.items) count) TooFewTrees) e) }
+    ensures patterns { stands.new.patterns.items ≡ stands.old.patterns.items }
+{
+    let len = stands.stack.len();
+    if len < count as usize {
+        return Err(LineFault::Is(FaultKind::TooFewTrees));
+    }
+    stands
+        .stack
+        .split_off(len - count as usize)
+        .map_err(|_| LineFault::NoMemory)
+}
+
+#[tactic(auto, using(crate::proofs::StackLemmas::below_none))]
+fn empty_line(args: &[&[u8]], stands: &mut Stands) -> Result<(), LineFault>
+    ensures ok { OnOk result (IsDone Empty (texts args.now) (standing stands.old) (standing stands.new)) }
+    ensures err { IfErr result (λ e. TellsLineFault (left_fault Empty (texts args.now) (standing stands.old)) e) }
+{
+    push(stands, Hir::empty())
+}
+
+#[tactic(auto, using(crate::proofs::StackLemmas::below_none))]
+fn lit_line(alloc: Global, args: &[&[u8]], stands: &mut Stands) -> Result<(), LineFault>
+    requires { length args.now ≡ 1 }
+    ensures ok { OnOk result (IsDone Lit (texts args.now) (standing stands.old) (standing stands.new)) }
+    ensures err { IfErr result (λ e. TellsLineFault (left_fault Lit (texts args.now) (standing stands.old)) e) }
+{
+    let bytes = hex_bytes(alloc, word_at(args, 0))?;
+    push(stands, Hir::literal(bytes))
+}
+
+#[tactic(auto, using(crate::proofs::StackLemmas::below_none, crate::proofs::RangeLemmas::class_ranges_ascend))]
+fn bytes_line(alloc: Global, args: &[&[u8]], stands: &mut Stands) -> Result<(), LineFault>
+    ensures ok { OnOk result (IsDone Bytes (texts args.now) (standing stands.old) (standing stands.new)) }
+    ensures err { IfErr result (λ e. TellsLineFault (left_fault Bytes (texts args.now) (standing stands.old)) e) }
+{
+    let items = items(alloc, args)?;
+    let Ok(ranges) = class_ranges(alloc, &items) else {
+        return Err(LineFault::NoMemory);
+    };
+    push(stands, Hir::bytes(ranges))
+}
+
+fn is_at_most(n: u32, most: Option<u32>) -> bool
+    ensures { result ≡ is_at_most n most }
+{
+    match most {
+        None => true,
+        Some(most) => n <= most,
+    }
+}
+
+fn rep_line(alloc: Global, args: &[&[u8]], stands: &mut Stands) -> Result<(), LineFault>
+    requires { length args.now ≡ 3 }
+    ensures ok { OnOk result (IsDone Rep (texts args.now) (standing stands.old) (standing stands.new)) }
+    ensures err { IfErr result (λ e. TellsLineFault (left_fault Rep (texts args.now) (standing stands.old)) e) }
+{
+    let Some(min) = number(word_at(args, 0)) else {
+        return Err(LineFault::Is(FaultKind::BadNumber));
+    };
+    let Some(max) = bound(word_at(args, 1)) else {
+        return Err(LineFault::Is(FaultKind::BadNumber));
+    };
+    let Some(greedy) = order(word_at(args, 2)) else {
+        return Err(LineFault::Is(FaultKind::BadChoice));
+    };
+    if !is_at_most(min, max) {
+        return Err(LineFault::Is(FaultKind::MinAboveMax));
+    }
+    let Some(sub) = pop(stands) else {
+        return Err(LineFault::Is(FaultKind::TooFewTrees));
+    };
+    let Ok(tree) = Hir::repetition(alloc, min, max, greedy, sub) else {
+        return Err(LineFault::NoMemory);
+    };
+    push(stands, tree)
+}
+
+fn cat_line(args: &[&[u8]], stands: &mut Stands) -> Result<(), LineFault>
+    requires { length args.now ≡ 1 }
+    ensures ok { OnOk result (IsDone Cat (texts args.now) (standing stands.old) (standing stands.new)) }
+    ensures err { IfErr result (λ e. TellsLineFault (left_fault Cat (texts args.now) (standing stands.old)) e) }
+{
+    let Some(count) = number(word_at(args, 0)) else {
+        return Err(LineFault::Is(FaultKind::BadNumber));
+    };
+    let parts = pop_many(stands, count)?;
+    push(stands, Hir::concat(parts))
+}
+
+fn alt_line(args: &[&[u8]], stands: &mut Stands) -> Result<(), LineFault>
+    requires { length args.now ≡ 1 }
+    ensures ok { OnOk result (IsDone Alt (texts args.now) (standing stands.old) (standing stands.new)) }
+    ensures err { IfErr result (λ e. TellsLineFault (left_fault Alt (texts args.now) (standing stands.old)) e) }
+{
+    let Some(count) = number(word_at(args, 0)) else {
+        return Err(LineFault::Is(FaultKind::BadNumber));
+    };
+    let parts = pop_many(stands, count)?;
+    push(stands, Hir::alternation(parts))
+}
+
+fn pattern_line(args: &[&[u8]], stands: &mut Stands) -> Result<(), LineFault>
+    ensures ok { OnOk result (IsDone Pattern (texts args.now) (standing stands.old) (standing stands.new)) }
+    ensures err { IfErr result (λ e. TellsLineFault (left_fault Pattern (texts args.now) (standing stands.old)) e) }
+{
+    let Some(tree) = stands.stack.pop() else {
+        return Err(LineFault::Is(FaultKind::NotOneTree));
+    };
+    if stands.stack.len() != 0 {
+        return Err(LineFault::Is(FaultKind::NotOneTree));
+    }
+    stands.patterns.push(tree).map_err(|_| LineFault::NoMemory)
+}
+
+fn find_line(args: &[&[u8]], stands: &mut Stands) -> Result<(), LineFault>
+    ensures ok { OnOk result (IsDone Find (texts args.now) (standing stands.old) (standing stands.new)) }
+    ensures err { IfErr result (λ e. TellsLineFault (left_fault Find (texts args.now) (standing stands.old)) e) }
+{
+    if stands.stack.len() != 0 {
+        return Err(LineFault::Is(FaultKind::TreeLeftOver));
+    }
+    Ok(())
+}
+
+/// Whether so many words may follow the line's first.
+fn is_word_count(word: LineWord, count: usize) -> bool
+    ensures { result ≡ is_word_count word count }
+{
+    match word {
+        LineWord::Empty | LineWord::Pattern | LineWord::Find => count == 0,
+        LineWord::Lit | LineWord::Cat | LineWord::Alt => count == 1,
+        LineWord::Bytes => count >= 1,
+        LineWord::Rep => count == 3,
+    }
+}
+
+fn is_second_pattern(word: LineWord, stands: &Stands) -> bool
+    ensures { result ≡ is_second_pattern word (standing stands.now) }
+{
+    match word {
+        LineWord::Pattern => stands.patterns.len() > 0,
+        _ => false,
+    }
+}
+
+/// Follows a line that has as many words as it has to.
+fn follow_counted(
+    alloc: Global,
+    word: LineWord,
+    args: &[&[u8]],
+    stands: &mut Stands,
+) -> Result<Step, LineFault>
+    requires { IsTrue (is_word_count word (length args.now)) }
+    ensures ok { IfOk result (λ step. IsDone word (texts args.now) (standing stands.old) (standing stands.new)
+        × (step ≡ step_after word)) }
+    ensures err { IfErr result (λ e. TellsLineFault (left_fault word (texts args.now) (standing stands.old)) e) }
+{
+    match word {
+        LineWord::Empty => empty_line(args, stands)?,
+        LineWord::Lit => lit_line(alloc, args, stands)?,
+        LineWord::Bytes => bytes_line(alloc, args, stands)?,
+        LineWord::Rep => rep_line(alloc, args, stands)?,
+        LineWord::Cat => cat_line(args, stands)?,
+        LineWord::Alt => alt_line(args, stands)?,
+        LineWord::Pattern => pattern_line(args, stands)?,
+        LineWord::Find => {
+            find_line(args, stands)?;
+            return Ok(Step::End);
+        }
+    }
+    Ok(Step::Next)
+}
+
+/// Follows a line of this first word and these words after it.
+#[tactic(auto, using(crate::proofs::StageLemmas::known_fault_left, crate::proofs::StageLemmas::known_fault_unknown, crate::proofs::StageLemmas::known_fault_count))]
+fn follow(
+    alloc: Global,
+    word: LineWord,
+    args: &[&[u8]],
+    stands: &mut Stands,
+) -> Result<Step, LineFault>
+    ensures ok { IfOk result (λ step. (known_fault word (texts args.now) (standing stands.old) ≡ None)
+        × (standing stands.new ≡ after word (texts args.now) (standing stands.old)) × (step ≡ step_after word)) }
+    ensures err { IfErr result (λ e. TellsLineFault (known_fault word (texts args.now) (standing stands.old)) e) }
+{
+    if is_second_pattern(word, stands) {
+        return Err(LineFault::Is(FaultKind::UnknownWord));
+    }
+    if !is_word_count(word, args.len()) {
+        return Err(LineFault::Is(FaultKind::WrongWordCount));
+    }
+    follow_counted(alloc, word, args, stands)
+}
+
+/// Follows a line, given without its line feed.
+pub(crate) fn read_line(alloc: Global, line: &[u8], stands: &mut Stands) -> Result<Step, LineFault>
+    ensures ok { IfOk result (λ step. TellsStep (words line.now) (standing stands.old) (standing stands.new) step) }
+    ensures err { IfErr result (λ e. TellsLineFault (fault (words line.now) (standing stands.old)) e) }
+{
+    let Ok(found) = split_words(alloc, line) else {
+        return Err(LineFault::NoMemory);
+    };
+    let Some((first, args)) = found.split_first() else {
+        return Err(LineFault::Is(FaultKind::UnknownWord));
+    };
+    let Some(word) = line_word(first) else {
+        return Err(LineFault::Is(FaultKind::UnknownWord));
+    };
+    follow(alloc, word, args, stands)
+}

@@ -1,0 +1,51 @@
+//! The test for repetitions without a bound whose body may be empty.
+ghost use Rattle.std.specs.Prelude.{◌≡◌};
+ghost use Rattle.hir_core.specs.Tree.{concat, alternation};
+ghost use Rattle.hirscan.specs.Loops.{is_above_zero, loops_read, first_empty_loop};
+
+use hir_core::{Hir, HirKind};
+
+/// The number of the first pattern with a repetition without a bound whose body may be empty.
+pub(crate) fn first_empty_loop(patterns: &[Hir]) -> Option<usize>
+    ensures { result ≡ first_empty_loop patterns.now }
+{
+    patterns.iter().position(|x| !loops_read(x))
+}
+
+fn is_above_zero(len: Option<usize>) -> bool
+    ensures { result ≡ is_above_zero len }
+{
+    match len {
+        None => false,
+        Some(n) => n > 0,
+    }
+}
+
+/// Whether each repetition without a bound in the tree has a body that reads.
+#[cycle(loops_read)]
+fn loops_read(x: &Hir) -> bool
+    ensures { result ≡ loops_read x.now }
+{
+    match x.kind() {
+        HirKind::Empty | HirKind::Literal(_) | HirKind::Bytes(_) => true,
+        HirKind::Repetition { max, sub, .. } => match max {
+            None => is_above_zero(sub.properties().minimum_len()) && loops_read(sub),
+            Some(_) => loops_read(sub),
+        },
+        HirKind::Concat(subs) => all_read(subs),
+        HirKind::Alternation(subs) => all_read(subs),
+    }
+}
+
+#[cycle(loops_read)]
+fn all_read(subs: &[Hir]) -> bool
+    ensures concat { result ≡ loops_read (concat subs.now) }
+    ensures alternation { result ≡ loops_read (alternation subs.now) }
+{
+    for sub in subs {
+        if !loops_read(sub) {
+            return false;
+        }
+    }
+    true
+}

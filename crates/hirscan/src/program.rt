@@ -1,0 +1,133 @@
+ghost use Rattle.std.specs.Prelude.{◌≡◌, ℕ, ◌^◌, ◌<◌, ◌≤◌, length, take, IfOk, IfErr, OnOk, ◌≢◌};
+ghost use Rattle.std.specs.Io.KnownBytes.{Appends, Consumes, IsAtEnd, Keeps};
+ghost use Rattle.hirscan.specs.Runs.{ReadsSome, WritesReply, WritesAtFault};
+
+use crate::reply::{INPUT_LIMIT, Reply, reply_to};
+use std::alloc::{AllocError, AllocFailed, Global};
+use std::io::{Read, Write};
+use thiserror::Error;
+
+/// How a run ended that wrote its whole reply.
+#[derive(Clone, Copy, Debug, PartialEq, Eq)]
+pub enum Ending {
+    /// The spans are listed.
+    Listed,
+    /// The input is refused, by one line that says why.
+    Refused,
+}
+
+/// Why a run didn't write its whole reply.
+#[derive(Clone, Copy, Debug, PartialEq, Eq, Error)]
+pub enum RunError {
+    /// A read failed, for whatever cause. Nothing was written.
+    #[error("read fault")]
+    Read,
+    /// A write failed or took no byte, or the flush failed. What was written begins the reply.
+    #[error("write fault")]
+    Write,
+    /// A growth was refused. Nothing was written.
+    #[error("out of memory")]
+    NoMemory,
+}
+
+/// How many bytes are asked of the reader at once.
+const CHUNK: usize = 65536;
+
+impl From<AllocError> for RunError {
+    ghost use Rattle.std.specs.Prelude.{◌≡◌};
+    ghost use Rattle.hirscan.specs.declared.program.RunError.TheVariants.{NoMemory};
+
+    ghost from_gives = { λ _ e. e ≡ NoMemory };
+
+    fn from(_e: AllocError) -> RunError {
+        RunError::NoMemory
+    }
+}
+
+/// A buffer of zero bytes.
+fn make_buffer(alloc: Global, len: usize) -> Result<Vec<u8>, AllocError>
+    ensures { IfOk result (λ buffer. length buffer.items ≡ len) }
+{
+    vec![in alloc; 0u8; len]
+}
+
+/// Appends the bytes of one read to the input. The answer counts them; 0 is the reader's end.
+fn read_some<R: Read>(
+    reader: &mut R,
+    buffer: &mut [u8],
+    input: &mut Vec<u8>,
+) -> Result<usize, RunError>
+    requires { 0 < length buffer.old }
+    ensures ok { IfOk result (λ n. ReadsSome (R.remaining reader.old) (R.remaining reader.new) input.old.items input.new.items n) }
+    ensures room { IfOk result (λ n. n ≤ length buffer.old) }
+    ensures fault { IfErr result (λ e. e ≢ RunError.Write) }
+{
+    match reader.read(buffer) {
+        Ok(n) => {
+            input.extend_from_slice(&buffer[..n])?;
+            Ok(n)
+        }
+        Err(_) => Err(RunError::Read),
+    }
+}
+
+/// What the reader gives up to its end, or one byte more than the limit of an input.
+fn read_input<R: Read>(
+    alloc: Global,
+    reader: &mut R,
+    buffer: &mut [u8],
+) -> Result<Vec<u8>, RunError>
+    requires { 0 < length buffer.old }
+    ensures read { IfOk result (λ input. Consumes (R.remaining reader.old) (R.remaining reader.new) input.items) }
+    ensures whole { IfOk result (λ input. length input.items ≤ 2 ^ 30 → IsAtEnd (R.remaining reader.new)) }
+    ensures fault { IfErr result (λ e. e ≢ RunError.Write) }
+{
+    let mut input = Vec::new(alloc);
+    while input.len() <= INPUT_LIMIT {
+        let room = buffer.len().min(INPUT_LIMIT + 1 - input.len());
+        let taken = read_some(reader, &mut buffer[..room], &mut input)?;
+        if taken == 0 {
+            return Ok(input);
+        }
+    }
+    Ok(input)
+}
+
+/// Writes the whole text and flushes.
+fn write_reply<W: Write>(writer: &mut W, text: &[u8]) -> Result<(), RunError>
+    ensures ok { OnOk result (Appends (W.contents writer.old) (W.contents writer.new) text.now) }
+    ensures prefix { IfErr result (λ e. (e ≡ RunError.Write) × (n : ℕ) × Appends (W.contents writer.old) (W.contents writer.new) (take n text.now)) }
+{
+    let mut done = 0usize;
+    while done < text.len() {
+        match writer.write(&text[done..]) {
+            Ok(0) => return Err(RunError::Write),
+            Ok(n) => done += n,
+            Err(_) => return Err(RunError::Write),
+        }
+    }
+    match writer.flush() {
+        Ok(()) => Ok(()),
+        Err(_) => Err(RunError::Write),
+    }
+}
+
+/// Reads a head and a haystack to the end, and writes the reply: a line `pattern start end` for each
+/// span of the list of all answers, or one line that begins `refused: `. The whole reply is made
+/// before the first write.
+pub fn run<R: Read, W: Write>(
+    alloc: Global,
+    reader: &mut R,
+    writer: &mut W,
+) -> Result<Ending, RunError>
+    ensures ok { IfOk result (λ ending. WritesReply (R.remaining reader.old) (W.contents writer.old) (W.contents writer.new) ending) }
+    ensures fault { IfErr result (λ e. WritesAtFault (R.remaining reader.old) (W.contents writer.old) (W.contents writer.new) e) }
+{
+    let mut buffer = make_buffer(alloc, CHUNK)?;
+    let input = read_input(alloc, reader, &mut buffer)?;
+    let Reply { ending, text } = reply_to(alloc, &input)?;
+    match write_reply(writer, text.as_str().as_bytes()) {
+        Ok(()) => Ok(ending),
+        Err(e) => Err(e),
+    }
+}

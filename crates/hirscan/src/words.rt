@@ -1,0 +1,204 @@
+// What a word of a line says by itself.
+ghost use Rattle.std.specs.Prelude.{◌≡◌, ◌<◌, ◌≤◌, length, map, reverse, Some, None, IfOk, IfErr, OnOk};
+ghost use Rattle.hir_core.specs.Means.{is_member};
+ghost use Rattle.hirscan.specs.Words.{with_byte, class_ranges};
+ghost use Rattle.hirscan.specs.Readers.{line_word, number, bound, order, hex_bytes, hex_byte, item_ends, the_ends, word_at};
+ghost use Rattle.hirscan.specs.LineFault.{unless_read, item_fault, first_of};
+ghost use Rattle.hirscan.specs.Tells.{texts, TellsLineFault};
+ghost use Rattle.hirscan.specs.declared.fault.FaultKind.TheVariants.{BadHex};
+
+use crate::fault::{FaultKind, LineFault};
+use hex::{FromHex, FromHexError};
+use std::alloc::{AllocError, Global};
+
+/// The lines of the notation, by their first word.
+#[derive(Clone, Copy, Debug)]
+pub(crate) enum LineWord {
+    Empty,
+    Lit,
+    Bytes,
+    Rep,
+    Cat,
+    Alt,
+    Pattern,
+    Find,
+}
+
+pub(crate) fn line_word(word: &[u8]) -> Option<LineWord>
+    ensures { result ≡ line_word word.now }
+{
+    if word == b"empty".as_slice() {
+        Some(LineWord::Empty)
+    } else if word == b"lit".as_slice() {
+        Some(LineWord::Lit)
+    } else if word == b"bytes".as_slice() {
+        Some(LineWord::Bytes)
+    } else if word == b"rep".as_slice() {
+        Some(LineWord::Rep)
+    } else if word == b"cat".as_slice() {
+        Some(LineWord::Cat)
+    } else if word == b"alt".as_slice() {
+        Some(LineWord::Alt)
+    } else if word == b"pattern".as_slice() {
+        Some(LineWord::Pattern)
+    } else if word == b"find".as_slice() {
+        Some(LineWord::Find)
+    } else {
+        None
+    }
+}
+
+/// The word at an index.
+pub(crate) fn word_at<'a>(words: &[&'a [u8]], i: usize) -> &'a [u8]
+    requires { i < length words.now }
+    ensures { result.now ≡ word_at (texts words.now) i }
+{
+    words[i]
+}
+
+#[tactic(auto, using(crate::proofs::WordLemmas::number_empty, crate::proofs::WordLemmas::number_plus, crate::proofs::WordLemmas::number_zero_first, crate::proofs::WordLemmas::number_not_utf8))]
+pub(crate) fn number(word: &[u8]) -> Option<u32>
+    ensures { result ≡ number word.now }
+{
+    // `parse` takes a plus and leading zeros.
+    if word.len() == 0 || word[0] == b'+' {
+        return None;
+    }
+    if word[0] == b'0' && word.len() != 1 {
+        return None;
+    }
+    let Ok(text) = str::from_utf8(word) else {
+        return None;
+    };
+    text.parse().ok()
+}
+
+/// A bound on rounds: a number, or `None` for the word `inf`.
+pub(crate) fn bound(word: &[u8]) -> Option<Option<u32>>
+    ensures { result ≡ bound word.now }
+{
+    if word == b"inf".as_slice() {
+        Some(None)
+    } else {
+        number(word).map(Some)
+    }
+}
+
+/// Whether more rounds are preferred.
+pub(crate) fn order(word: &[u8]) -> Option<bool>
+    ensures { result ≡ order word.now }
+{
+    if word == b"greedy".as_slice() {
+        Some(true)
+    } else if word == b"lazy".as_slice() {
+        Some(false)
+    } else {
+        None
+    }
+}
+
+pub(crate) fn hex_bytes(alloc: Global, word: &[u8]) -> Result<Vec<u8>, LineFault>
+    ensures ok { IfOk result (λ bytes. hex_bytes word.now ≡ Some bytes.items) }
+    ensures err { IfErr result (λ e. TellsLineFault (unless_read (hex_bytes word.now) BadHex) e) }
+{
+    match hex::decode(alloc, word) {
+        Ok(bytes) => {
+            if bytes.is_empty() {
+                Err(LineFault::Is(FaultKind::BadHex))
+            } else {
+                Ok(bytes)
+            }
+        }
+        Err(FromHexError::OutOfMemory) => Err(LineFault::NoMemory),
+        Err(_) => Err(LineFault::Is(FaultKind::BadHex)),
+    }
+}
+
+#[tactic(auto, using(crate::proofs::WordLemmas::hex_byte_sized))]
+fn hex_byte(digits: &[u8]) -> Option<u8>
+    ensures { result ≡ hex_byte digits.now }
+{
+    let bytes = <[u8; 1] as FromHex>::from_hex(digits).ok()?;
+    Some(bytes[0])
+}
+
+fn item_ends(word: &[u8]) -> Option<(u8, u8)>
+    ensures { result ≡ item_ends word.now }
+{
+    if word.len() != 5 || word[2] != b'-' {
+        return None;
+    }
+    let low = hex_byte(&word[..2])?;
+    let high = hex_byte(&word[3..])?;
+    Some((low, high))
+}
+
+/// An item of a class, as its ends in order.
+fn item(word: &[u8]) -> Result<(u8, u8), FaultKind>
+    ensures ok { IfOk result (λ ends. (item_fault word.now ≡ None) × (ends ≡ the_ends word.now)) }
+    ensures err { IfErr result (λ kind. item_fault word.now ≡ Some kind) }
+{
+    match item_ends(word) {
+        None => Err(FaultKind::BadHex),
+        Some((low, high)) => {
+            if high < low {
+                Err(FaultKind::BadRange)
+            } else {
+                Ok((low, high))
+            }
+        }
+    }
+}
+
+/// The items of a class in the order of the words.
+pub(crate) fn items(alloc: Global, words: &[&[u8]]) -> Result<Vec<(u8, u8)>, LineFault>
+    ensures ok { IfOk result (λ items. (first_of (map item_fault (texts words.now)) ≡ None)
+        × (items.items ≡ map the_ends (texts words.now))) }
+    ensures err { IfErr result (λ e. TellsLineFault (first_of (map item_fault (texts words.now))) e) }
+{
+    let mut items = Vec::new(alloc);
+    for word in words {
+        match item(word) {
+            Ok(ends) => items.push(ends).map_err(|_| LineFault::NoMemory)?,
+            Err(kind) => return Err(LineFault::Is(kind)),
+        }
+    }
+    Ok(items)
+}
+
+/// Puts a byte before the ranges, which are there from the last to the first.
+fn put_byte(ranges: &mut Vec<(u8, u8)>, b: u8) -> Result<(), AllocError>
+    ensures { OnOk result (reverse ranges.new.items ≡ with_byte b (reverse ranges.old.items)) }
+{
+    let mut high = b;
+    if let Some(lowest) = ranges.pop() {
+        if u16::from(lowest.0) == u16::from(b) + 1 {
+            high = lowest.1;
+        } else {
+            ranges.push(lowest)?;
+        }
+    }
+    ranges.push((b, high))?;
+    Ok(())
+}
+
+fn is_member(items: &[(u8, u8)], b: u8) -> bool
+    ensures { result ≡ is_member items.now b }
+{
+    items.iter().any(|item| item.0 <= b && b <= item.1)
+}
+
+/// The ranges of the bytes that are in an item, ascending and each as long as it can be.
+pub(crate) fn class_ranges(alloc: Global, items: &[(u8, u8)]) -> Result<Vec<(u8, u8)>, AllocError>
+    ensures { IfOk result (λ ranges. ranges.items ≡ class_ranges items.now) }
+{
+    let mut ranges = Vec::new(alloc);
+    for code in (0..256usize).rev() {
+        let b = code as u8;
+        if is_member(items, b) {
+            put_byte(&mut ranges, b)?;
+        }
+    }
+    ranges.reverse();
+    Ok(ranges)
+}

@@ -1,0 +1,95 @@
+// Readers and writers over memory.
+use std::alloc::Global;
+use std::io;
+use std::io::{Error, ErrorKind, Read, Write};
+
+/// Gives its bytes, so many a call at most, and fails where so many of them were given.
+#[derive(Drop)]
+pub struct Source<'a> {
+    pub bytes: &'a [u8],
+    pub step: usize,
+    pub given: usize,
+    pub fails_at: Option<usize>,
+}
+
+impl<'a> Source<'a> {
+    pub fn whole(bytes: &'a [u8]) -> Source<'a> {
+        Source {
+            bytes,
+            step: usize::MAX,
+            given: 0,
+            fails_at: None,
+        }
+    }
+}
+
+impl Read for Source<'_> {
+    fn read(&mut self, buf: &mut [u8]) -> io::Result<usize> {
+        if self.fails_at == Some(self.given) {
+            return Err(Error::from(ErrorKind::Other));
+        }
+        let n = self.step.min(buf.len()).min(self.bytes.len());
+        buf[..n].copy_from_slice(&self.bytes[..n]);
+        self.bytes = &self.bytes[n..];
+        self.given = self.given.saturating_add(n);
+        Ok(n)
+    }
+}
+
+/// Gives zeros without an end.
+#[derive(Drop)]
+pub struct Endless;
+
+impl Read for Endless {
+    fn read(&mut self, buf: &mut [u8]) -> io::Result<usize> {
+        Ok(buf.len())
+    }
+}
+
+/// What a writer does where it has no room left.
+#[derive(Clone, Copy, PartialEq, Eq)]
+pub enum AtLimit {
+    Fails,
+    TakesNothing,
+}
+
+/// Keeps what it takes: so many bytes a call and so many in all.
+#[derive(Drop)]
+pub struct Sink {
+    pub taken: Vec<u8>,
+    pub step: usize,
+    pub limit: usize,
+    pub at_limit: AtLimit,
+    pub flush_fails: bool,
+}
+
+impl Sink {
+    pub fn open(alloc: Global) -> Sink {
+        Sink {
+            taken: Vec::new(alloc),
+            step: usize::MAX,
+            limit: usize::MAX,
+            at_limit: AtLimit::Fails,
+            flush_fails: false,
+        }
+    }
+}
+
+impl Write for Sink {
+    fn write(&mut self, buf: &[u8]) -> io::Result<usize> {
+        let room = self.limit.saturating_sub(self.taken.len());
+        if room == 0 && self.at_limit == AtLimit::Fails {
+            return Err(Error::from(ErrorKind::Other));
+        }
+        let n = self.step.min(room).min(buf.len());
+        self.taken.extend_from_slice(&buf[..n])?;
+        Ok(n)
+    }
+
+    fn flush(&mut self) -> io::Result<()> {
+        if self.flush_fails {
+            return Err(Error::from(ErrorKind::Other));
+        }
+        Ok(())
+    }
+}
