@@ -1,0 +1,144 @@
+use crate::small::Small::{
+    self, Dash, Date, Digit, Empty, Fail as Failing, Huge, NoBytes, NoChoice, NoParts, Sam,
+    Samwise, Vowel,
+};
+use crate::small::{nested, trees};
+use hir_core::Hir;
+use std::test::Fail;
+
+/// The minimum length, the height and the count of a tree.
+type Facts = (Option<usize>, usize, usize);
+
+const MOST: usize = usize::MAX;
+
+fn facts(tree: &Hir) -> Facts {
+    (tree.properties().minimum_len(), tree.height(), tree.count())
+}
+
+#[test]
+fn facts_of_small_trees(rt: HostRuntime) -> Result<(), Fail> {
+    let rows = [
+        (Empty, (Some(0), 1, 1)),
+        (NoBytes, (Some(0), 1, 1)),
+        (Dash, (Some(1), 1, 3)),
+        (Sam, (Some(3), 1, 7)),
+        (Samwise, (Some(7), 1, 15)),
+        (Digit, (Some(1), 1, 2)),
+        (Vowel, (Some(1), 1, 2)),
+        (Failing, (None, 1, 2)),
+        (NoParts, (Some(0), 1, 1)),
+        (NoChoice, (None, 1, 4)),
+        (Date, (Some(10), 3, 26)),
+        (Huge, (Some(MOST), 4, MOST)),
+    ];
+    for (small, want) in rows {
+        let tree = small.tree(rt.alloc())?;
+        assert_eq!(rt; facts(&tree), want, "{small:?}");
+    }
+    Ok(())
+}
+
+#[test]
+fn facts_of_repetitions(rt: HostRuntime) -> Result<(), Fail> {
+    let rows: [(Small, u32, Option<u32>, bool, Facts); 24] = [
+        (Digit, 4, Some(4), true, (Some(4), 2, 9)),
+        (Digit, 2, Some(2), false, (Some(2), 2, 5)),
+        (Digit, 1, Some(1), true, (Some(1), 2, 3)),
+        (Digit, 0, Some(0), false, (Some(0), 2, 1)),
+        (Digit, 2, Some(5), true, (Some(2), 2, 14)),
+        (Digit, 2, Some(5), false, (Some(2), 2, 14)),
+        (Digit, 0, Some(1), true, (Some(0), 2, 4)),
+        (Digit, 0, None, false, (Some(0), 2, 5)),
+        (Digit, 1, None, true, (Some(1), 2, 5)),
+        (Digit, 3, None, false, (Some(3), 2, 9)),
+        (Digit, 0, Some(u32::MAX), true, (Some(0), 2, 12884901886)),
+        (
+            Digit,
+            u32::MAX,
+            None,
+            false,
+            (Some(4294967295), 2, 8589934593),
+        ),
+        (Date, 0, Some(0), true, (Some(0), 4, 1)),
+        (Date, 2, Some(2), false, (Some(20), 4, 53)),
+        (Date, 0, None, true, (Some(0), 4, 29)),
+        (Date, 3, None, false, (Some(30), 4, 81)),
+        (Failing, 0, Some(0), true, (Some(0), 2, 1)),
+        (Failing, 2, Some(2), false, (None, 2, 5)),
+        (Failing, 0, None, true, (Some(0), 2, 5)),
+        (Failing, 1, None, false, (None, 2, 5)),
+        (Huge, 0, Some(0), true, (Some(0), 5, 1)),
+        (Huge, 0, Some(1), false, (Some(0), 5, MOST)),
+        (Huge, 0, None, true, (Some(0), 5, MOST)),
+        (Huge, 2, None, false, (Some(MOST), 5, MOST)),
+    ];
+    for (small, min, max, greedy, want) in rows {
+        assert!(rt; max.is_none_or(|most| min <= most));
+        let sub = small.tree(rt.alloc())?;
+        let tree = Hir::repetition(rt.alloc(), min, max, greedy, sub)?;
+        assert_eq!(rt; facts(&tree), want, "{small:?} from {min} to {max:?}");
+    }
+    Ok(())
+}
+
+#[test]
+fn facts_of_concatenations(rt: HostRuntime) -> Result<(), Fail> {
+    let rows: [(&[Small], Facts); 11] = [
+        (&[], (Some(0), 1, 1)),
+        (&[Digit], (Some(1), 2, 3)),
+        (&[Sam, Digit], (Some(4), 2, 10)),
+        (&[Empty, NoParts], (Some(0), 2, 3)),
+        (&[Digit, Date, Digit], (Some(12), 4, 31)),
+        (&[Date, Date], (Some(20), 4, 53)),
+        (&[Failing, Digit], (None, 2, 5)),
+        (&[Digit, Failing], (None, 2, 5)),
+        (&[NoChoice], (None, 2, 5)),
+        (&[Huge, Digit], (Some(MOST), 5, MOST)),
+        (&[Digit, Huge, Huge], (Some(MOST), 5, MOST)),
+    ];
+    for (parts, want) in rows {
+        let tree = Hir::concat(trees(rt.alloc(), parts)?);
+        assert_eq!(rt; facts(&tree), want, "{parts:?}");
+    }
+    Ok(())
+}
+
+#[test]
+fn facts_of_alternations(rt: HostRuntime) -> Result<(), Fail> {
+    let rows: [(&[Small], Facts); 11] = [
+        (&[], (None, 1, 4)),
+        (&[Digit], (Some(1), 2, 6)),
+        (&[Sam, Samwise], (Some(3), 2, 26)),
+        (&[Samwise, Sam], (Some(3), 2, 26)),
+        (&[Digit, Date, Digit], (Some(1), 4, 34)),
+        (&[Empty, Date], (Some(0), 4, 31)),
+        (&[NoParts], (Some(0), 2, 5)),
+        (&[Failing], (None, 2, 6)),
+        (&[Failing, Digit], (Some(1), 2, 8)),
+        (&[Digit, NoChoice], (Some(1), 2, 10)),
+        (&[Huge, Digit], (Some(1), 5, MOST)),
+    ];
+    for (parts, want) in rows {
+        let tree = Hir::alternation(trees(rt.alloc(), parts)?);
+        assert_eq!(rt; facts(&tree), want, "{parts:?}");
+    }
+    Ok(())
+}
+
+#[test]
+fn sums_and_products_stop_at_the_largest_usize(rt: HostRuntime) -> Result<(), Fail> {
+    // 4294967295 times itself is still below 2^64, and twice that is not
+    let rows = [
+        (0, (Some(1), 1, 2)),
+        (1, (Some(4294967295), 2, 8589934591)),
+        (2, (Some(18446744065119617025), 3, MOST)),
+        (3, (Some(MOST), 4, MOST)),
+    ];
+    for (levels, want) in rows {
+        let tree = nested(rt.alloc(), levels)?;
+        assert_eq!(rt; facts(&tree), want, "at {levels} levels");
+    }
+    let halves = vec![in rt.alloc(); nested(rt.alloc(), 2)?, nested(rt.alloc(), 2)?]?;
+    assert_eq!(rt; facts(&Hir::concat(halves)), (Some(MOST), 4, MOST));
+    Ok(())
+}

@@ -1,0 +1,12 @@
+//! Tests of trees: each constructor once with ample memory, and the facts of small trees with values
+//! that were worked out by hand.
+#![tactic(auto)]
+
+#[cfg(test)]
+mod constructors;
+#[cfg(test)]
+mod facts;
+#[cfg(test)]
+mod ranges;
+#[cfg(test)]
+mod small;
