@@ -1,10 +1,10 @@
 -- No span is shorter than `minimum_len`.
-use Rattle.std.proofs.Common.{◌≡◌, ℕ, zero, suc, ◌+◌, ◌*◌, ◌≤◌, ◌<◌, Bool, true, false, List, [], ◌∷◌, length, Option, Some, None, refl, sym, inl, inr, arith, true≢false}
+use Rattle.std.proofs.Common.{ℕ, zero, suc, ◌+◌, ◌*◌, ◌≤◌, ◌<◌, List, [], ◌∷◌, Option, Some, None, sym, inl, inr, arith, true≢false}
 use Rattle.std.proofs.Math.Nat.{mul-le-mul_left}
 use Rattle.hir_core.specs.Tree.{Tree, empty, literal, byte_class, repetition, nothing, cat, never, alt}
 use Rattle.hir_core.specs.Means.{Means, Rounds}
 use Rattle.hir_core.specs.Facts.{sum_of_both, least_of_either, times, minimum_len, IsAtLeast, IsAboveZero}
-use Rattle.hir_core.proofs.SpanLemmas.{IsSpan, IsSpan-Means}
+use Rattle.hir_core.proofs.SpanLemmas.{IsSpan-Means}
 
 IsAtLeast-sum_of_both : (a b : Option ℕ) (i k j : ℕ) → IsAtLeast a i k → IsAtLeast b k j → IsAtLeast (sum_of_both a b) i j
 IsAtLeast-sum_of_both None b i k j p q = elim p [ ]

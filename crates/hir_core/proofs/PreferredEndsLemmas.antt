@@ -1,13 +1,11 @@
--- The preferred ends are the ends of the spans that the tree means: no others, and where loops read all of them.
-use Rattle.std.proofs.Common.{◌≡◌, ℕ, zero, suc, ◌+◌, ◌-◌, ◌<◌, ◌≤◌, max, Bool, true, false, List, [], ◌∷◌, length, Option, Some, None, slice_get, refl, sym, ap, ◌∙◌, inl, inr, arith}
-use Rattle.std.specs.List.{flat_map}
+-- The preferred ends are the ends of the spans that the tree means: no others, and all of them.
+use Rattle.std.proofs.Common.{◌≡◌, ℕ, zero, suc, ◌+◌, ◌-◌, ◌≤◌, Bool, true, List, length, Option, Some, None, slice_get, refl, sym, ap, ◌∙◌, subst, inl, inr, arith}
 use Rattle.hir_core.specs.Tree.{Tree, empty, literal, byte_class, repetition, nothing, cat, never, alt}
-use Rattle.hir_core.specs.Means.{Means, Rounds, AtMost, stands, is_member}
-use Rattle.hir_core.specs.PreferredEnds.{Ends, in_order, up_to, unbounded, at_least, between, repeated, class_end, preferred_ends, Has}
-use Rattle.hir_core.specs.Facts.{LoopsRead}
-use Rattle.hir_core.proofs.MinimumLenLemmas.{reads_a_byte}
+use Rattle.hir_core.specs.Means.{Means, Rounds, AtMost, is_member}
+use Rattle.hir_core.specs.PreferredEnds.{Ends, up_to, at_least, between, repeated, class_end, preferred_ends, Has}
+use Rattle.std.proofs.Math.Nat.{eq-or-lt_of_le}
 use Rattle.hir_core.proofs.HasLemmas.{Has-left, Has-right, Has-append, Has-flat_map, Has-into-flat_map, Has-in_order, Has-more, Has-stop, Has-if, Has-then}
-use Rattle.hir_core.proofs.SpanLemmas.{IsSpan, IsSpan-Rounds, IsSpan-Means}
+use Rattle.hir_core.proofs.SpanLemmas.{IsSpan, IsSpan-Means}
 
 -- Each end of the body is a span of R, so each end of a repetition is of rounds of R.
 module _ (R : ℕ → ℕ → Type 0) (body : Ends) (sound : (i j : ℕ) → Has (body i) j → R i j) (greedy : Bool) where
@@ -65,10 +63,19 @@ preferred_ends_sound h (alt x y) i j g = elim (Has-append (preferred_ends h x i)
   | inr b ↦ inr (preferred_ends_sound h y i j b)
 ]
 
--- rounds that read have room
-rounds_read : (R : ℕ → ℕ → Type 0) → ((i j : ℕ) → R i j → i < j) → (n i j : ℕ) → Rounds R n i j → i + n ≤ j
-rounds_read R longer zero i j r = omega arith
-rounds_read R longer (suc n) i j r = omega (arith, longer i r.0 r.1, rounds_read R longer n r.0 j r.2)
+-- A round that reads nothing may be left out, so no more rounds are needed than bytes are left.
+rounds_within : (h : List ℕ) (R : ℕ → ℕ → Type 0) → ((i j : ℕ) → R i j → IsSpan h i j) →
+    (n i j : ℕ) → Rounds R n i j → (m : ℕ) × (m ≤ length h - i) × Rounds R m i j
+rounds_within h R span zero i j r = (0, omega arith, r)
+rounds_within h R span (suc n) i j r =
+    let others = rounds_within h R span n r.0 j r.2 in
+    let step = span i r.0 r.1 in
+    elim (eq-or-lt_of_le step.forward) [
+      | inl same ↦
+          let P : ℕ → Type 0 = λ k. (m : ℕ) × (m ≤ length h - k) × Rounds R m k j in
+          subst P (sym same) others
+      | inr reads ↦ (suc others.0, omega arith, (r.0, r.1, others.2))
+    ]
 
 -- Each span of R is an end of the body, so each number of rounds of R is an end of a repetition.
 module _ (R : ℕ → ℕ → Type 0) (body : Ends) (complete : (i j : ℕ) → R i j → Has (body i) j) (greedy : Bool) where
@@ -88,16 +95,15 @@ module _ (R : ℕ → ℕ → Type 0) (body : Ends) (complete : (i j : ℕ) → 
       Has-into-flat_map (between greedy body min most) (body i) r.0 j (complete i r.0 r.1)
       (between_complete min most n r.0 j (omega arith) (omega arith) r.2)
 
-  at_least_complete : (h : List ℕ) → ((i j : ℕ) → R i j → i < j) → ((n i j : ℕ) → Rounds R n i j → IsSpan h i j) →
+  at_least_complete : (h : List ℕ) → ((i j : ℕ) → R i j → IsSpan h i j) →
       (min n i j : ℕ) → min ≤ n → Rounds R n i j → Has (at_least h greedy body min i) j
-  at_least_complete h longer span zero n i j low r =
-      let room = rounds_read R longer n i j r in
-      let fits = span n i j r in
-      up_to_complete (length h - i) n i j (omega arith) r
-  at_least_complete h longer span (suc min) zero i j low r = absurd (omega arith)
-  at_least_complete h longer span (suc min) (suc n) i j low r =
+  at_least_complete h span zero n i j low r =
+      let few = rounds_within h R span n i j r in
+      up_to_complete (length h - i) few.0 i j few.1 few.2
+  at_least_complete h span (suc min) zero i j low r = absurd (omega arith)
+  at_least_complete h span (suc min) (suc n) i j low r =
       Has-into-flat_map (at_least h greedy body min) (body i) r.0 j (complete i r.0 r.1)
-      (at_least_complete h longer span min n r.0 j (omega arith) r.2)
+      (at_least_complete h span min n r.0 j (omega arith) r.2)
 
 class_end_complete : (ranges : List (ℕ × ℕ)) (o : Option ℕ) (i j b : ℕ) → j ≡ i + 1 → o ≡ Some b → is_member ranges b ≡ true →
     Has (class_end ranges o i) j
@@ -105,19 +111,19 @@ class_end_complete ranges None i j b e s t = cc
 class_end_complete ranges (Some c) i j b e s t =
     Has-then _ (i + 1) j (let same : c ≡ b = cc in ap (is_member ranges) same ∙ t) (sym e)
 
-pub preferred_ends_complete : (h : List ℕ) (x : Tree) (i j : ℕ) → LoopsRead x → Means h x i j → Has (preferred_ends h x i) j
-preferred_ends_complete h empty i j f m = inl m
-preferred_ends_complete h (literal bytes) i j f m = Has-then _ (i + length bytes) j m.1 (sym m.0)
-preferred_ends_complete h (byte_class ranges) i j f m = class_end_complete ranges (slice_get h i) i j m.1 m.0 m.2 m.3
-preferred_ends_complete h (repetition min None greedy x) i j f m =
-    at_least_complete (Means h x) (preferred_ends h x) (λ a b. preferred_ends_complete h x a b f.1) greedy h
-    (reads_a_byte h x f.0) (IsSpan-Rounds h (Means h x) (IsSpan-Means h x)) min m.0 i j m.1 m.3
-preferred_ends_complete h (repetition min (Some most) greedy x) i j f m =
-    between_complete (Means h x) (preferred_ends h x) (λ a b. preferred_ends_complete h x a b f) greedy min most m.0 i j m.1 m.2 m.3
-preferred_ends_complete h nothing i j f m = inl m
-preferred_ends_complete h (cat x y) i j f m =
+pub preferred_ends_complete : (h : List ℕ) (x : Tree) (i j : ℕ) → Means h x i j → Has (preferred_ends h x i) j
+preferred_ends_complete h empty i j m = inl m
+preferred_ends_complete h (literal bytes) i j m = Has-then _ (i + length bytes) j m.1 (sym m.0)
+preferred_ends_complete h (byte_class ranges) i j m = class_end_complete ranges (slice_get h i) i j m.1 m.0 m.2 m.3
+preferred_ends_complete h (repetition min None greedy x) i j m =
+    at_least_complete (Means h x) (preferred_ends h x) (preferred_ends_complete h x) greedy h
+    (IsSpan-Means h x) min m.0 i j m.1 m.3
+preferred_ends_complete h (repetition min (Some most) greedy x) i j m =
+    between_complete (Means h x) (preferred_ends h x) (preferred_ends_complete h x) greedy min most m.0 i j m.1 m.2 m.3
+preferred_ends_complete h nothing i j m = inl m
+preferred_ends_complete h (cat x y) i j m =
     Has-into-flat_map (preferred_ends h y) (preferred_ends h x i) m.0 j
-    (preferred_ends_complete h x i m.0 f.0 m.1) (preferred_ends_complete h y m.0 j f.1 m.2)
-preferred_ends_complete h never i j f m = elim m [ ]
-preferred_ends_complete h (alt x y) i j f (inl m) = Has-left (preferred_ends h x i) (preferred_ends h y i) j (preferred_ends_complete h x i j f.0 m)
-preferred_ends_complete h (alt x y) i j f (inr m) = Has-right (preferred_ends h x i) (preferred_ends h y i) j (preferred_ends_complete h y i j f.1 m)
+    (preferred_ends_complete h x i m.0 m.1) (preferred_ends_complete h y m.0 j m.2)
+preferred_ends_complete h never i j m = elim m [ ]
+preferred_ends_complete h (alt x y) i j (inl m) = Has-left (preferred_ends h x i) (preferred_ends h y i) j (preferred_ends_complete h x i j m)
+preferred_ends_complete h (alt x y) i j (inr m) = Has-right (preferred_ends h x i) (preferred_ends h y i) j (preferred_ends_complete h y i j m)

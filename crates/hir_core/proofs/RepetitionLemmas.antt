@@ -1,12 +1,11 @@
 -- The equations of a repetition. That the count of rounds of an unbounded one cuts nothing short is the third.
-use Rattle.std.proofs.Common.{◌≡◌, ℕ, zero, suc, ◌+◌, ◌-◌, ◌<◌, ◌≤◌, max, Bool, true, false, List, [], ◌∷◌, ◌++◌, length, Option, Some, None, refl, sym, ap, ◌∙◌, arith}
+use Rattle.std.proofs.Common.{◌≡◌, ℕ, zero, suc, ◌+◌, ◌-◌, ◌<◌, ◌≤◌, Bool, true, false, List, [], ◌∷◌, length, Some, None, refl, sym, ap, ◌∙◌, arith}
 use Rattle.std.specs.List.{flat_map}
 use Rattle.hir_core.specs.Tree.{Tree, repetition}
-use Rattle.hir_core.specs.Means.{Means}
-use Rattle.hir_core.specs.PreferredEnds.{Ends, in_order, up_to, unbounded, preferred_ends, Has}
+use Rattle.hir_core.specs.PreferredEnds.{Ends, in_order, exactly, up_to, between, unbounded, preferred_ends, Has}
 use Rattle.hir_core.specs.Facts.{minimum_len, IsAboveZero}
 use Rattle.hir_core.proofs.HasLemmas.{flat_map_same, nil_from_none}
-use Rattle.hir_core.proofs.SpanLemmas.{IsSpan, IsSpan-Means}
+use Rattle.hir_core.proofs.SpanLemmas.{IsSpan-Means}
 use Rattle.hir_core.proofs.MinimumLenLemmas.{reads_a_byte}
 use Rattle.hir_core.proofs.PreferredEndsLemmas.{preferred_ends_sound}
 
@@ -48,6 +47,15 @@ pub repetition_owed_bounded : (h : List ℕ) (greedy : Bool) (x : Tree) (min mos
     preferred_ends h (repetition (suc min) (Some (suc most)) greedy x) i
     ≡ flat_map (preferred_ends h (repetition min (Some most) greedy x)) (preferred_ends h x i)
 repetition_owed_bounded h greedy x min most i = refl
+
+-- equal bounds: so many rounds
+between_exactly : (greedy : Bool) (body : Ends) (n i : ℕ) → between greedy body n n i ≡ exactly body n i
+between_exactly greedy body zero i = refl
+between_exactly greedy body (suc n) i = flat_map_same _ _ (body i) (λ k r. between_exactly greedy body n k)
+
+pub repetition_exact : (h : List ℕ) (greedy : Bool) (x : Tree) (n i : ℕ) →
+    preferred_ends h (repetition n (Some n) greedy x) i ≡ exactly (preferred_ends h x) n i
+repetition_exact h greedy x n i = between_exactly greedy (preferred_ends h x) n i
 
 -- no round is owed and none is left
 pub repetition_stopped : (h : List ℕ) (greedy : Bool) (x : Tree) (i : ℕ) →

@@ -1,5 +1,5 @@
 -- The definitions, run on small trees: values by hand from the leftmost-first rules.
-use Rattle.std.proofs.Common.{◌≡◌, ℕ, true, false, List, [], ◌∷◌, codes, Some, None, refl}
+use Rattle.std.proofs.Common.{◌≡◌, ℕ, true, false, [], ◌∷◌, codes, Some, None, refl}
 use Rattle.hir_core.specs.Tree.{Tree, empty, literal, byte_class, repetition, concat, alternation}
 use Rattle.hir_core.specs.PreferredEnds.{preferred_ends}
 use Rattle.hir_core.specs.Facts.{minimum_len, height, count, list_count, is_ascending}
@@ -28,12 +28,17 @@ earlier_part_first = refl
 later_part_second : preferred_ends (codes "samwise") (alternation (literal (codes "samwise") ∷ literal (codes "sam") ∷ [])) 0 ≡ 7 ∷ 3 ∷ []
 later_part_second = refl
 
--- an empty part before and after: `(|a)b?` on "ab"
+-- `|a`: the empty part comes first
 empty_part_first : preferred_ends (codes "ab") (alternation (empty ∷ a ∷ [])) 0 ≡ 0 ∷ 1 ∷ []
 empty_part_first = refl
 
-nothing_and_never : preferred_ends (codes "a") (concat []) 1 ≡ 1 ∷ []
-nothing_and_never = refl
+-- `(|a)*` on "a": a round that reads nothing finds an end again, and hides none
+empty_rounds : preferred_ends (codes "a") (repetition 0 None true (alternation (empty ∷ a ∷ []))) 0 ≡ 0 ∷ 1 ∷ 0 ∷ []
+empty_rounds = refl
+
+-- a concatenation of no parts reads nothing, and an alternation of no parts has no end
+no_part_no_byte : preferred_ends (codes "a") (concat []) 1 ≡ 1 ∷ []
+no_part_no_byte = refl
 
 no_part_no_end : preferred_ends (codes "a") (alternation []) 0 ≡ []
 no_part_no_end = refl

@@ -1,5 +1,5 @@
 -- The spans that a tree means go forward, and stay within the haystack if they move.
-use Rattle.std.proofs.Common.{◌≡◌, ℕ, zero, suc, ◌+◌, ◌-◌, ◌<◌, ◌≤◌, max, Bool, true, false, List, [], ◌∷◌, ◌++◌, length, drop, Option, Some, None, refl, sym, ap, ◌∙◌, inl, inr, ⊎_elim, arith, nat_eq, length-append, length-drop, drop-drop}
+use Rattle.std.proofs.Common.{◌≡◌, ℕ, zero, suc, ◌+◌, ◌≤◌, max, true, List, ◌++◌, length, drop, refl, sym, ap, ◌∙◌, ⊎_elim, arith, length-append, length-drop, drop-drop}
 use Rattle.std.proofs.lemmas.Option.{slice_get_within}
 use Rattle.std.proofs.lemmas.Slice.Eq.{starts_is}
 use Rattle.std.proofs.lemmas.Bool.Decides.{Decides-eqb}
@@ -42,3 +42,9 @@ module _ (h : List ℕ) where
       record { forward = omega arith; within = omega arith }
   IsSpan-Means never i j m = elim m [ ]
   IsSpan-Means (alt x y) i j m = ⊎_elim (IsSpan-Means x i j) (IsSpan-Means y i j) m
+
+  pub span_forward : (x : Tree) (i j : ℕ) → Means h x i j → i ≤ j
+  span_forward x i j m = (IsSpan-Means x i j m).forward
+
+  pub span_within : (x : Tree) (i j : ℕ) → i ≤ length h → Means h x i j → j ≤ length h
+  span_within x i j place m = let span = IsSpan-Means x i j m in omega arith

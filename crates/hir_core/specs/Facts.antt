@@ -18,13 +18,13 @@ least_of_either None b = b
 least_of_either (Some a) None = Some a
 least_of_either (Some a) (Some b) = Some (min a b)
 
--- the length of so many rounds
+-- the length of so many rounds of a body; zero rounds read nothing, whatever the body is
 abbrev pub times : ℕ → Option ℕ → Option ℕ
 times zero b = Some 0
 times (suc n) None = None
 times (suc n) (Some b) = Some (capped (b * suc n))
 
--- a length that no span is below; None states no span
+-- a length that no span of the tree is below; None: the tree means no span
 abbrev pub minimum_len : Tree → Option ℕ
 minimum_len empty = Some 0
 minimum_len (literal bytes) = Some (length bytes)
@@ -40,15 +40,17 @@ minimum_len (alt x y) = least_of_either (minimum_len x) (minimum_len y)
 pub record Facts : Type 0 where
   pub minimum_len : Option ℕ
 
+-- what is known of the tree
 abbrev pub facts : Tree → Facts
 facts x = record { minimum_len = minimum_len x }
 
--- a span from i to j is at least so long
+-- the span i..j is at least so long; None: there is no such span
 abbrev pub IsAtLeast : Option ℕ → ℕ → ℕ → Type 0
 IsAtLeast None i j = ⊥
 IsAtLeast (Some n) i j = i + n ≤ j
 
--- 1 for a leaf, and one more than the highest part else
+-- 1 for a leaf and where there are no parts, and else one more than the highest part: the concatenation or the
+-- alternation of the other parts stands beside the first part, not above it
 abbrev pub height : Tree → ℕ
 height empty = 1
 height (literal bytes) = 1
@@ -96,6 +98,7 @@ IsInOrder (byte_class ranges) = IsTrue (is_ascending ranges)
 IsInOrder (repetition min (Some most) greedy x) = min ≤ most
 IsInOrder _ = Unit {0}
 
+-- the length is stated, and not 0
 abbrev pub IsAboveZero : Option ℕ → Type 0
 IsAboveZero None = ⊥
 IsAboveZero (Some n) = 0 < n

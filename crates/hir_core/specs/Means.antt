@@ -1,5 +1,6 @@
--- Which spans of a haystack a tree means. A place is a number from 0 to the haystack's length.
-use Rattle.std.specs.Prelude.{◌≡◌, ℕ, zero, suc, ◌+◌, ◌≤◌, Bool, List, [], ◌∷◌, length, Option, Some, None, ◌⊎◌, IsTrue, ◌&&◌, nat_le, nat_eq, slice_get, drop}
+-- Which spans of a haystack a tree means. A place is a number from 0 to the haystack's length: the definitions do not
+-- ask it of a start, and a span from a place leads to a place.
+use Rattle.std.specs.Prelude.{◌≡◌, ℕ, zero, suc, ◌+◌, ◌≤◌, Bool, List, length, Option, Some, None, ◌⊎◌, IsTrue, ◌&&◌, nat_le, nat_eq, slice_get, drop}
 use Rattle.std.specs.List.{starts_with, list_any}
 use Rattle.hir_core.specs.Tree.{Tree, empty, literal, byte_class, repetition, nothing, cat, never, alt}
 

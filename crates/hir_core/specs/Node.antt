@@ -3,6 +3,7 @@ use Rattle.hir_core.specs.Tree.{Tree, empty, literal, byte_class, repetition, co
 use Rattle.hir_core.specs.declared.hir.HirKind.{HirKind}
 use Rattle.hir_core.specs.declared.hir.HirKind.TheVariants.{Empty, Literal, Bytes, Repetition, Concat, Alternation}
 
+-- one kind of tree for each variant
 abbrev pub node : HirKind → Tree
 node Empty = empty
 node (Literal bytes) = literal bytes.items

@@ -24,7 +24,8 @@ abbrev pub up_to : Bool → Ends → ℕ → Ends
 up_to greedy body zero i = i ∷ []
 up_to greedy body (suc n) i = in_order greedy (flat_map (up_to greedy body n) (body i)) i
 
--- Any number of rounds. Where each round reads a byte, the bytes from i on leave no room for more rounds than these.
+-- Any number of rounds. Where each round reads a byte, the bytes from i on leave no room for more rounds than these;
+-- where a round may read nothing, further rounds lead to no further ends.
 abbrev pub unbounded : List ℕ → Bool → Ends → Ends
 unbounded h greedy body i = up_to greedy body (length h - i) i
 
@@ -39,6 +40,7 @@ between greedy body zero most i = up_to greedy body most i
 between greedy body (suc min) zero i = []
 between greedy body (suc min) (suc most) i = flat_map (between greedy body min most) (body i)
 
+-- from min rounds to the bound, if there is one
 abbrev pub repeated : List ℕ → ℕ → Option ℕ → Bool → Ends → Ends
 repeated h min None greedy body i = at_least h greedy body min i
 repeated h min (Some most) greedy body i = between greedy body min most i

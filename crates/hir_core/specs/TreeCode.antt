@@ -1,10 +1,11 @@
 -- Trees as ghost values, one to one: what a type that is seen as a tree needs.
-use Rattle.std.specs.Prelude.{◌≡◌, ℕ, Bool, List, Option, refl}
+use Rattle.std.specs.Prelude.{◌≡◌, ℕ, List, Option, refl}
 use Rattle.std.proofs.Common.{ap, arith}
 use base.Stored.{Gv, gnil, gnum, gcons, num}
 use Rattle.std.specs.Coded.{Coded, coded_ℕ, coded_bool, coded_list, coded_option, coded×}
 use Rattle.hir_core.specs.Tree.{Tree, empty, literal, byte_class, repetition, nothing, cat, never, alt}
 
+-- the codes of a literal's bytes, of a class's ranges and of a repetition's upper bound
 abbrev pub bytes_code : Coded (List ℕ)
 bytes_code = coded_list coded_ℕ
 
@@ -14,6 +15,7 @@ ranges_code = coded_list (coded× coded_ℕ coded_ℕ)
 abbrev pub bound_code : Coded (Option ℕ)
 bound_code = coded_option coded_ℕ
 
+-- a tree as a ghost value: a number for its kind, and its parts
 abbrev pub tree_gv : Tree → Gv
 tree_gv empty = gcons (gnum 0) gnil
 tree_gv (literal bytes) = gcons (gnum 1) (bytes_code.code bytes)
@@ -25,11 +27,13 @@ tree_gv (cat x y) = gcons (gnum 5) (gcons (tree_gv x) (tree_gv y))
 tree_gv never = gcons (gnum 6) gnil
 tree_gv (alt x y) = gcons (gnum 7) (gcons (tree_gv x) (tree_gv y))
 
+-- the number in front, 0 where there is none
 abbrev pub tag : Gv → ℕ
 tag gnil = 0
 tag (gnum n) = 0
 tag (gcons a b) = num a
 
+-- two trees with one ghost value are one tree
 pub tree_one : (x y : Tree) → tree_gv x ≡ tree_gv y → x ≡ y
 tree_one empty empty e = refl
 tree_one (literal a) (literal b) e = ap literal (bytes_code.inj a b cc)
@@ -52,5 +56,6 @@ tree_one (alt a x) (alt b y) e =
     cc
 tree_one _ _ e = absurd (omega (arith, ap tag e))
 
+-- the code of trees, from both
 abbrev pub tree_code : Coded Tree
 tree_code = record { code = tree_gv; inj = tree_one }

@@ -4,6 +4,7 @@ use Rattle.std.proofs.Common.{arith}
 use denote.Param.Weighed.{most}
 use Rattle.hir_core.specs.Tree.{Tree, empty, literal, byte_class, repetition, nothing, cat, never, alt, concat, alternation}
 
+-- one for the node, and the weights of its parts
 abbrev pub weight : Tree → ℕ
 weight empty = 1
 weight (literal bytes) = 1
@@ -14,6 +15,7 @@ weight (cat x y) = weight x + weight y + 1
 weight never = 1
 weight (alt x y) = weight x + weight y + 1
 
+-- the parts of a concatenation weigh less than it, and those of an alternation
 pub most_le-weight-concat : (xs : List Tree) → most (λ x. weight x + 1) xs ≤ weight (concat xs)
 most_le-weight-concat [] = omega arith
 most_le-weight-concat (x ∷ xs) = omega (arith, most_le-weight-concat xs)

@@ -1,10 +1,10 @@
 //! Laws of the definitions. Each function has no code: its contract is the law.
-ghost use Rattle.std.specs.Prelude.{◌≡◌, ℕ, suc, Bool, List, [], ◌∷◌, Some, None};
+ghost use Rattle.std.specs.Prelude.{◌≡◌, ◌≤◌, ℕ, suc, length, Bool, List, [], ◌∷◌, Some, None};
 ghost use Rattle.std.specs.List.{flat_map};
 ghost use Rattle.hir_core.specs.Tree.{Tree, repetition};
 ghost use Rattle.hir_core.specs.Means.{Means};
-ghost use Rattle.hir_core.specs.PreferredEnds.{preferred_ends, in_order, Has};
-ghost use Rattle.hir_core.specs.Facts.{minimum_len, IsAboveZero, IsAtLeast, LoopsRead};
+ghost use Rattle.hir_core.specs.PreferredEnds.{preferred_ends, in_order, exactly, Has};
+ghost use Rattle.hir_core.specs.Facts.{minimum_len, IsAboveZero, IsAtLeast};
 
 /// Each end that a tree prefers is the end of a span that it means.
 #[tactic(auto, using(crate::proofs::PreferredEndsLemmas::preferred_ends_sound))]
@@ -12,11 +12,18 @@ pub fn preferred_ends_are_meant()
     ensures { (h : List ℕ) (x : Tree) (i j : ℕ) → Has (preferred_ends h x i) j → Means h x i j }
 {}
 
-/// Where each round of a repetition without a bound reads, each span that the tree means is among its
-/// preferred ends.
+/// Each span that a tree means is among its preferred ends, also where a round of a repetition without
+/// a bound may read nothing.
 #[tactic(auto, using(crate::proofs::PreferredEndsLemmas::preferred_ends_complete))]
 pub fn meant_ends_are_preferred()
-    ensures { (h : List ℕ) (x : Tree) (i j : ℕ) → LoopsRead x → Means h x i j → Has (preferred_ends h x i) j }
+    ensures { (h : List ℕ) (x : Tree) (i j : ℕ) → Means h x i j → Has (preferred_ends h x i) j }
+{}
+
+/// A span goes forward, and from a place of the haystack it stays within the haystack.
+#[tactic(auto, using(crate::proofs::SpanLemmas::span_forward, crate::proofs::SpanLemmas::span_within))]
+pub fn spans_stay_in_the_haystack()
+    ensures forward { (h : List ℕ) (x : Tree) (i j : ℕ) → Means h x i j → i ≤ j }
+    ensures within { (h : List ℕ) (x : Tree) (i j : ℕ) → i ≤ length h → Means h x i j → j ≤ length h }
 {}
 
 /// No span is shorter than the minimum length, and there is none where it is `None`.
@@ -34,6 +41,13 @@ pub fn owed_rounds_come_first()
     ensures bounded { (h : List ℕ) (greedy : Bool) (x : Tree) (min most i : ℕ) →
         preferred_ends h (repetition (suc min) (Some (suc most)) greedy x) i
         ≡ flat_map (preferred_ends h (repetition min (Some most) greedy x)) (preferred_ends h x i) }
+{}
+
+/// Where both bounds are equal, a repetition is exactly so many rounds, greedy or lazy alike.
+#[tactic(auto, using(crate::proofs::RepetitionLemmas::repetition_exact))]
+pub fn equal_bounds_are_exact()
+    ensures { (h : List ℕ) (greedy : Bool) (x : Tree) (n i : ℕ) →
+        preferred_ends h (repetition n (Some n) greedy x) i ≡ exactly (preferred_ends h x) n i }
 {}
 
 /// Where no round is owed and none may follow, a repetition stops.

@@ -4,7 +4,7 @@ use std::marker::Model;
 
 /// What is known of a tree without a haystack, after `regex_syntax::hir::Properties`. Each fact is
 /// sound, and none is complete.
-#[derive(Clone, Copy, Debug)]
+#[derive(Clone, Copy, Debug, PartialEq, Eq)]
 pub struct Properties {
     minimum_len: Option<usize>,
 }
