@@ -39,6 +39,16 @@ fn facts_of_small_trees(rt: HostRuntime) -> Result<(), Fail> {
 }
 
 #[test]
+fn properties_are_compared(rt: HostRuntime) -> Result<(), Fail> {
+    let digit = Digit.tree(rt.alloc())?.properties();
+    let vowel = Vowel.tree(rt.alloc())?.properties();
+    let date = Date.tree(rt.alloc())?.properties();
+    assert_eq!(rt; digit, vowel);
+    assert_ne!(rt; digit, date);
+    Ok(())
+}
+
+#[test]
 fn facts_of_repetitions(rt: HostRuntime) -> Result<(), Fail> {
     let rows: [(Small, u32, Option<u32>, bool, Facts); 24] = [
         (Digit, 4, Some(4), true, (Some(4), 2, 9)),
