@@ -1,4 +1,4 @@
-pub mod InOrderLemmas
+pub mod WellFormedLemmas
 pub mod HasLemmas
 pub mod SpanLemmas
 pub mod MinimumLenLemmas

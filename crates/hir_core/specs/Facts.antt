@@ -93,10 +93,10 @@ abbrev pub is_ascending : List (ℕ × ℕ) → Bool
 is_ascending ranges = rises_from 0 ranges
 
 -- what the constructors ask of the node at the top of the tree
-abbrev pub IsInOrder : Tree → Type 0
-IsInOrder (byte_class ranges) = IsTrue (is_ascending ranges)
-IsInOrder (repetition min (Some most) greedy x) = min ≤ most
-IsInOrder _ = Unit {0}
+abbrev pub IsWellFormed : Tree → Type 0
+IsWellFormed (byte_class ranges) = IsTrue (is_ascending ranges)
+IsWellFormed (repetition min (Some most) greedy x) = min ≤ most
+IsWellFormed _ = Unit {0}
 
 -- the length is stated, and not 0
 abbrev pub IsAboveZero : Option ℕ → Type 0
@@ -120,4 +120,4 @@ pub record Keeps (x : Tree) (known : Facts) (levels states : ℕ) : Type 0 where
   pub known_facts : known ≡ facts x
   pub height_is : levels ≡ height x
   pub count_is : states ≡ count x
-  pub in_order : IsInOrder x
+  pub well_formed : IsWellFormed x

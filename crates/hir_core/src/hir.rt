@@ -1,6 +1,6 @@
 ghost use Rattle.std.specs.Prelude.{◌≡◌, [], ◌≤◌, IfOk, IfSome, IsTrue};
 ghost use Rattle.hir_core.specs.Tree.{empty, literal, byte_class, repetition, concat, alternation};
-ghost use Rattle.hir_core.specs.Facts.{facts, height, count, is_ascending, IsInOrder};
+ghost use Rattle.hir_core.specs.Facts.{facts, height, count, is_ascending, IsWellFormed};
 ghost use Rattle.hir_core.specs.Node.{node};
 
 use crate::facts::{
@@ -185,7 +185,7 @@ impl Hir {
     /// The node at the top, as it was given.
     pub fn kind(&self) -> &HirKind
         ensures is { node result.now ≡ self.now }
-        ensures in_order { IsInOrder self.now }
+        ensures well_formed { IsWellFormed self.now }
     {
         &self.kind
     }

@@ -1,5 +1,5 @@
 use Rattle.std.proofs.Common.{rules}
-use Rattle.hir_core.proofs.InOrderLemmas.{IsInOrder-concat}
+use Rattle.hir_core.proofs.WellFormedLemmas.{IsWellFormed-concat}
 use Rattle.hir_core.proofs.hir.Hir.concat.Goals as goal
 
 pub invariant_of-result : goal.invariant_of-result
@@ -7,5 +7,5 @@ invariant_of-result c = record {
   known_facts = search rules;
   height_is = search rules;
   count_is = search rules;
-  in_order = IsInOrder-concat c.args.subs.items;
+  well_formed = IsWellFormed-concat c.args.subs.items;
 }
