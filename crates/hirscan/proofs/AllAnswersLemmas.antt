@@ -1,5 +1,5 @@
 -- The list of all answers: each step of a loop that writes it, that the ends rise, and that no answer is cut off.
-use Rattle.std.proofs.Common.{◌≡◌, ℕ, zero, suc, ◌+◌, ◌-◌, ◌<◌, ◌≤◌, ◌&&◌, Bool, true, false, cond, if◌then◌else◌, List, [], ◌∷◌, ◌++◌, Option, Some, None, nat_eq, refl, sym, ap, ◌∙◌, inl, inr, arith, append_assoc, eq-eqb}
+use Rattle.std.proofs.Common.{◌≡◌, ℕ, zero, suc, ◌+◌, ◌-◌, ◌<◌, ◌≤◌, ◌&&◌, Bool, true, false, cond, if◌then◌else◌, List, [], ◌∷◌, ◌++◌, Option, Some, None, nat_eq, refl, sym, ap, ◌∙◌, inl, inr, arith, append-nil, append_assoc, eq-eqb}
 use Rattle.std.specs.List.{All}
 use Rattle.std.proofs.lemmas.Bool.{cases_lt}
 use Rattle.hirscan.specs.declared.found.Found.{Found}
@@ -14,13 +14,17 @@ answer_written answer written n m last at f e is =
     ∙ ap (λ o. written ++ and_on o (λ g. answers_from answer m (Some g.end) g.end)) is
     ∙ ap (λ k. written ++ answers_from answer k last at) (sym e)
 
--- there is no further answer
-pub answers_done : (answer : ℕ → Option Found) (n : ℕ) (last : Option ℕ) (at : ℕ) → None ≡ next_answer answer last at → answers_from answer n last at ≡ []
-answers_done answer zero last at is = refl
-answers_done answer (suc n) last at is = ap (λ o. and_on o (λ g. answers_from answer n (Some g.end) g.end)) (sym is)
+-- what is written is the whole list: there is no further answer ...
+pub answers_done : (answer : ℕ → Option Found) (written : List Found) (n : ℕ) (last : Option ℕ) (at : ℕ) → None ≡ next_answer answer last at →
+    written ≡ written ++ answers_from answer n last at
+answers_done answer written zero last at is = sym (append-nil written)
+answers_done answer written (suc n) last at is =
+    sym (append-nil written) ∙ ap (λ o. written ++ and_on o (λ g. answers_from answer n (Some g.end) g.end)) is
 
-pub no_more : (answer : ℕ → Option Found) (n : ℕ) (last : Option ℕ) (at : ℕ) → n ≡ 0 → answers_from answer n last at ≡ []
-no_more answer n last at e = ap (λ k. answers_from answer k last at) e
+-- ... or none is asked for
+pub none_asked : (answer : ℕ → Option Found) (written : List Found) (n : ℕ) (last : Option ℕ) (at : ℕ) → n ≡ 0 →
+    written ≡ written ++ answers_from answer n last at
+none_asked answer written n last at e = sym (append-nil written) ∙ ap (λ k. written ++ answers_from answer k last at) (sym e)
 
 -- a span between two places that ends after the first
 pub record IsPast (at e : ℕ) (f : Found) : Type 0 where
@@ -51,8 +55,10 @@ module _ (answer : ℕ → Option Found) (e : ℕ) (ok : AnswersWithin answer e)
         later = elim (cases_lt at f.end) [
           | inl lt ↦ lt
           | inr ge ↦
-              let one : nat_eq g.start g.end ≡ true = eq-eqb g.start g.end (let s = ap (λ (x : Found). x.start) same in let t = ap (λ (x : Found). x.end) same in omega arith) in
-              let two : nat_eq g.end at ≡ true = eq-eqb g.end at (let t = ap (λ (x : Found). x.end) same in omega arith) in
+              let starts = ap (λ (x : Found). x.start) same in
+              let ends = ap (λ (x : Found). x.end) same in
+              let one : nat_eq g.start g.end ≡ true = eq-eqb g.start g.end (omega arith) in
+              let two : nat_eq g.end at ≡ true = eq-eqb g.end at (omega arith) in
               let both : nat_eq g.start g.end && nat_eq g.end at ≡ true = ap (λ b. b && nat_eq g.end at) one ∙ two in
               cc
         ];

@@ -1,5 +1,5 @@
 -- A head, line by line: whatever reads, or is faulty, behind the lines so far gives that of the whole text.
-use Rattle.std.proofs.Common.{◌≡◌, ◌≢◌, ℕ, ◌+◌, ◌<◌, ◌≤◌, ◌==◌, true, false, List, [], ◌∷◌, ◌++◌, length, get_or, take, drop, Option, Some, None, refl, sym, ◌∙◌, ap, subst, arith, length-append}
+use Rattle.std.proofs.Common.{◌≡◌, ℕ, ◌+◌, List, ◌∷◌, length, refl, ap, arith, length-append}
 use Rattle.hir_core.specs.Tree.{Tree}
 use Rattle.hirscan.specs.declared.fault.FaultKind.{FaultKind}
 use Rattle.hirscan.specs.declared.fault.FaultKind.TheVariants.{NoFindLine}
@@ -15,12 +15,6 @@ use Rattle.hirscan.specs.Reads.{IsOneLine, Reads, reads_find, reads_line, IsFaul
 pub record Behind (text rest : List ℕ) (here : Standing) (at lines : ℕ) : Type 0 where
   pub reads : (patterns : List Tree) (n : ℕ) → Reads rest here patterns n → Reads text at_first patterns (at + n)
   pub faults : (k : ℕ) (kind : FaultKind) → IsFaultAt rest here k kind → IsFaultAt text at_first (lines + k) kind
-
-pub behind_first : (text : List ℕ) → Behind text text at_first 0 0
-behind_first text = record {
-  reads = λ patterns n h. let e : 0 + n ≡ n = omega arith in rw e h;
-  faults = λ k kind h. let e : 0 + k ≡ k = omega arith in rw e h;
-}
 
 pub length-cut : (text line rest : List ℕ) → CutsLine text line rest → length text ≡ length line + (length rest + 1)
 length-cut text line rest cut = omega (arith, ap length cut.parts, length-append line (10 ∷ rest))

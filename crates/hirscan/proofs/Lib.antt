@@ -13,6 +13,10 @@ pub mod StageLemmas
 pub mod SaysLemmas
 pub mod TakesLemmas
 pub mod HeadLemmas
+pub mod EffectLemmas
+pub mod ReadsLemmas
+mod NotationRows
 pub mod SliceLemmas
 pub mod ReplyLemmas
 pub mod RunLemmas
+pub mod OneReplyLemmas

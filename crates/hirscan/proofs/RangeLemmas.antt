@@ -1,6 +1,6 @@
 -- The ranges of a class: built byte by byte from the last, ascending, with the members of the items.
-use Rattle.std.proofs.Common.{◌≡◌, ℕ, zero, suc, ◌+◌, ◌-◌, ◌<◌, ◌≤◌, Bool, true, false, ◌&&◌, ◌||◌, nat_le, eqb, inl, inr, List, [], ◌∷◌, reverse, refl, sym, ◌∙◌, ap, arith, add-one}
-use Rattle.std.proofs.lemmas.Bool.{cases_Bool, and_parts, and_from, leb-true, le-leb, eqb-true}
+use Rattle.std.proofs.Common.{◌≡◌, ℕ, zero, suc, ◌+◌, ◌-◌, ◌<◌, ◌≤◌, Bool, true, false, ◌&&◌, ◌||◌, nat_le, eqb, inl, inr, List, [], ◌∷◌, reverse, refl, sym, ◌∙◌, ap, arith}
+use Rattle.std.proofs.lemmas.Bool.{cases_Bool, cases_eq, and_parts, and_from, or_from, or_left, leb-true, le-leb, eqb-true, eq-eqb, ne_eqb}
 use Rattle.std.proofs.lemmas.Bool.Decides.{nat_tests}
 use Rattle.hir_core.specs.Means.{is_member}
 use Rattle.hir_core.specs.Facts.{rises_from, is_ascending}
@@ -81,3 +81,40 @@ is_member-with_byte b (r ∷ rs) c h =
       | inl t ↦ rw t (joined b r.0 r.1 c (is_member rs c) (eqb-true _ _ t) n)
       | inr f ↦ rw f (apart b c _)
     ]
+
+below_with_member : (m : Bool) (b : ℕ) (rs : List (ℕ × ℕ)) (c : ℕ) → c < b → rises_from (b + 1) rs ≡ true → is_member rs c ≡ false
+    → is_member (with_member m b rs) c ≡ false
+below_with_member true b rs c h k e = is_member-with_byte b rs c k ∙ or_from _ _ (ne_eqb c b (λ f. omega arith)) e
+below_with_member false b rs c h k e = e
+
+at_with_member : (m : Bool) (b : ℕ) (rs : List (ℕ × ℕ)) (c : ℕ) → c ≡ b → rises_from (b + 1) rs ≡ true → is_member rs c ≡ false
+    → is_member (with_member m b rs) c ≡ m
+at_with_member true b rs c h k e = is_member-with_byte b rs c k ∙ or_left _ _ (eq-eqb c b h)
+at_with_member false b rs c h k e = e
+
+above_with_member : (m : Bool) (b : ℕ) (rs : List (ℕ × ℕ)) (c : ℕ) → (c ≡ b → ⊥) → rises_from (b + 1) rs ≡ true
+    → is_member (with_member m b rs) c ≡ is_member rs c
+above_with_member true b rs c h k = let f = ne_eqb c b h in is_member-with_byte b rs c k ∙ ap (λ t. t || is_member rs c) f
+above_with_member false b rs c h k = refl
+
+-- no range of the bytes from b on has a lower byte
+none_below : (member : ℕ → Bool) (n b c : ℕ) → c < b → is_member (ranges_from member n b) c ≡ false
+none_below member zero b c h = refl
+none_below member (suc n) b c h =
+    below_with_member (member b) b _ c h (ranges_from_rise member n (b + 1)) (none_below member n (b + 1) c (omega arith))
+
+members_from : (member : ℕ → Bool) (n b c : ℕ) → b ≤ c → c < b + n → is_member (ranges_from member n b) c ≡ member c
+members_from member zero b c h k = absurd (omega arith)
+members_from member (suc n) b c h k =
+    elim (cases_eq c b) [
+      | inl e ↦
+          at_with_member (member b) b _ c e (ranges_from_rise member n (b + 1)) (none_below member n (b + 1) c (omega arith))
+          ∙ ap member (sym e)
+      | inr ne ↦
+          above_with_member (member b) b _ c ne (ranges_from_rise member n (b + 1))
+          ∙ members_from member n (b + 1) c (omega arith) (omega arith)
+    ]
+
+pub class_members : (items : List (ℕ × ℕ)) (b : ℕ) → b < 256 → is_member (class_ranges items) b ≡ is_member items b
+unfolding class_ranges
+class_members items b h = members_from (is_member items) 256 0 b (omega arith) (omega arith)

@@ -1,9 +1,9 @@
 -- What a run leaves, from what its three steps leave.
-use Rattle.std.proofs.Common.{◌≡◌, ℕ, ◌+◌, ◌-◌, ◌^◌, ◌<◌, ◌≤◌, List, [], ◌∷◌, ◌++◌, length, take, drop, Option, Some, None, refl, sym, ap, ◌∙◌, subst, arith, length-take}
+use Rattle.std.proofs.Common.{◌≡◌, ℕ, ◌+◌, ◌-◌, ◌^◌, ◌≤◌, List, length, take, drop, Option, Some, None, sym, ◌∙◌, subst, arith, length-take}
 use Rattle.std.proofs.Math.Seq.{take-add}
 use Rattle.hirscan.proofs.ReplyLemmas.{reply_of_whole}
 use Rattle.hirscan.proofs.SliceLemmas.{rest_of_slice}
-use Rattle.std.proofs.KnownBytes.{Appends-trans, Appends-nil, Consumes-trans}
+use Rattle.std.proofs.KnownBytes.{Appends-trans}
 use Rattle.std.specs.Prelude.{IfSome}
 use Rattle.std.specs.Io.KnownBytes.{Appends, Consumes, IsAtEnd, Keeps}
 use Rattle.hirscan.specs.declared.program.Ending.{Ending}

@@ -1,5 +1,5 @@
 -- The top of a stack and what is below it.
-use Rattle.std.proofs.Common.{◌≡◌, ℕ, ◌+◌, ◌-◌, ◌<◌, ◌≤◌, List, [], ◌∷◌, ◌++◌, length, get_or, take, drop, refl, sym, ◌∙◌, ap, arith, length-append}
+use Rattle.std.proofs.Common.{◌≡◌, ◌-◌, List, [], ◌∷◌, ◌++◌, length, get_or, sym, ap, arith}
 use Rattle.std.proofs.lemmas.List.{take_all, take_at, drop_at, length_push}
 use Rattle.hir_core.specs.Tree.{Tree, empty}
 use Rattle.hirscan.specs.LineFault.{top, below}

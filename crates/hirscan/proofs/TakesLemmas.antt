@@ -1,22 +1,22 @@
 -- A line without a fault is taken or ends the head, and a line that is taken has no fault and one effect.
-use Rattle.std.proofs.Common.{◌≡◌, ◌≢◌, ◌⊎◌, ℕ, suc, ◌+◌, ◌-◌, ◌<◌, ◌≤◌, Bool, true, false, not, List, [], ◌∷◌, ◌++◌, length, get_or, take, drop, map, Option, Some, None, Result, Ok, Err, IfOk, nat_lt, nat_le, eqb, refl, sym, ◌∙◌, ap, inl, inr, arith, codes, length-append, length-drop}
-use Rattle.std.proofs.lemmas.Bool.{eqb-true, ltb-true, ltb-false, le-ltb, leb-true, le-leb, not-true, not-false, cases_eq}
-use Rattle.std.proofs.lemmas.List.{take_at, drop_at, take-append-drop}
+use Rattle.std.proofs.Common.{◌≡◌, ◌≢◌, ℕ, ◌-◌, ◌≤◌, Bool, true, false, not, List, [], ◌∷◌, ◌++◌, length, get_or, map, Option, Some, None, Result, Ok, Err, IfOk, nat_lt, nat_le, refl, sym, ◌∙◌, ap, arith, codes, length-drop}
+use Rattle.std.proofs.lemmas.Bool.{eqb-true, ltb-false, leb-true, not-false}
+use Rattle.std.proofs.lemmas.List.{take-append-drop}
 use Rattle.hir_core.specs.Tree.{Tree, empty, literal, byte_class, repetition, concat, alternation}
 use Rattle.hir_core.specs.Means.{AtMost}
 use Rattle.hir_core.specs.Facts.{height}
 use Rattle.hirscan.specs.declared.fault.FaultKind.{FaultKind}
-use Rattle.hirscan.specs.declared.fault.FaultKind.TheVariants.{UnknownWord, WrongWordCount, BadNumber, BadHex, BadChoice, MinAboveMax, TooFewTrees, TooDeep, NotOneTree, TreeLeftOver}
+use Rattle.hirscan.specs.declared.fault.FaultKind.TheVariants.{UnknownWord, WrongWordCount, BadNumber, BadChoice, MinAboveMax, TooFewTrees, TooDeep, NotOneTree, TreeLeftOver}
 use Rattle.hirscan.specs.declared.words.LineWord.{LineWord}
 use Rattle.hirscan.specs.declared.words.LineWord.TheVariants.{Empty, Lit, Bytes, Rep, Cat, Alt, Pattern, Find}
-use Rattle.hirscan.specs.declared.line.Step.TheVariants.{Next, End}
-use Rattle.hirscan.specs.Words.{IsNumber, IsBound, IsGreedy, IsHex, IsItem, AreItems, class_ranges}
-use Rattle.hirscan.specs.Readers.{spelling, line_word, number, the_number, bound, the_bound, order, the_order, hex_bytes, the_bytes, item_ends, the_ends, word_at}
-use Rattle.hirscan.specs.Takes.{Standing, Replaces, TakesPattern, Takes, empty_line, lit_line, bytes_line, rep_line, cat_line, alt_line, pattern_line, EndsHead}
-use Rattle.hirscan.specs.LineFault.{first_of, when, unless_read, ends_fault, item_fault, word_fault, is_second_pattern, is_word_count, is_at_most, is_min_above_max, needed, top, below, new_tree, has_too_few_trees, is_too_deep, has_not_one_tree, has_tree_left_over, known_fault, fault_after, fault, after}
+use Rattle.hirscan.specs.declared.line.Step.TheVariants.{Next}
+use Rattle.hirscan.specs.Words.{class_ranges}
+use Rattle.hirscan.specs.Readers.{spelling, line_word, number, the_number, bound, the_bound, order, the_order, the_bytes, the_ends, word_at}
+use Rattle.hirscan.specs.Takes.{Standing, Replaces, Takes, empty_line, lit_line, bytes_line, rep_line, cat_line, alt_line, pattern_line, EndsHead}
+use Rattle.hirscan.specs.LineFault.{first_of, when, unless_read, word_fault, is_second_pattern, is_word_count, is_at_most, is_min_above_max, top, below, has_too_few_trees, is_too_deep, has_not_one_tree, has_tree_left_over, known_fault, after}
 use Rattle.hirscan.specs.declared.line.Step.{Step}
 use Rattle.hirscan.specs.Tells.{step_after, TellsStep}
-use Rattle.hirscan.proofs.SaysLemmas.{line_word_spelled, line_word-spelling, number_says, number_said, bound_says, bound_said, order_says, order_said, hex_bytes_says, hex_bytes_said, items_say, items_said}
+use Rattle.hirscan.proofs.SaysLemmas.{line_word_spelled, number_says, bound_says, order_says, hex_bytes_says, items_say}
 
 -- what each kind of fault says where there is none
 pub record NoFault (k : LineWord) (args : List (List ℕ)) (at : Standing) : Type 0 where

@@ -1,10 +1,9 @@
 -- What the readers of words compute, against what std and `hex` say of the calls that the code makes.
-use Rattle.std.proofs.Common.{◌≡◌, ◌≢◌, ◌⊎◌, ℕ, ◌+◌, ◌*◌, ◌^◌, ◌<◌, ◌≤◌, Bool, true, false, ◌&&◌, ◌||◌, not, cond, List, [], ◌∷◌, ◌++◌, length, get_or, drop, map, Option, Some, None, Result, Ok, Err, nat_lt, eqb, refl, sym, ◌∙◌, ap, inl, inr, arith, rules}
+use Rattle.std.proofs.Common.{◌≡◌, ◌≢◌, ◌⊎◌, ℕ, ◌^◌, ◌<◌, true, ◌||◌, not, List, [], ◌∷◌, length, get_or, Some, None, Result, Ok, Err, nat_lt, eqb, refl, sym, ◌∙◌, ap, inl, inr, arith}
 use Rattle.std.specs.Str.{all_ascii_digits, IsUtf8}
-use Rattle.std.specs.Str.Parse.{digits_value, ParsesUnsigned, IsNumeral}
+use Rattle.std.specs.Str.Parse.{digits_value, ParsesUnsigned}
 use Rattle.std.specs.Result.{result_ok, OkIff}
-use Rattle.std.proofs.lemmas.Bool.{cases_Bool, and_parts, and_from, or_cases, or_left, or_right, eqb-true, eq-eqb, ltb-true, lt-ltb, not-true, not_from_false, ne_eqb, false_from_ne_true, cases_eq}
-use Rattle.std.proofs.lemmas.Bool.Decides.{nat_tests}
+use Rattle.std.proofs.lemmas.Bool.{and_parts, and_from, or_cases, or_left, or_right, eqb-true, eq-eqb, ltb-true, lt-ltb, not-true, not_from_false, ne_eqb, false_from_ne_true}
 use Rattle.std.proofs.lemmas.Str.{IsUtf8-from_ascii}
 use Rattle.std.proofs.lemmas.Fmt.{IsAscii-from_digits}
 use Rattle.std.proofs.lemmas.Str.Parse.{IsNumeralModel, numerals_by_value, tells_all_ascii_digits, parse_plain}
@@ -62,7 +61,7 @@ number_empty w h = number_refused w (λ p. let l = p.some in omega arith)
 -- a plus is no digit
 plus_is_no_digit : (w : List ℕ) → get_or w 0 0 ≡ 43 → all_ascii_digits w ≡ true → ⊥
 plus_is_no_digit [] e h = omega arith
-plus_is_no_digit (c ∷ w) e h = cc (h, ap (λ b. all_ascii_digits (b ∷ w)) e)
+plus_is_no_digit (c ∷ w) e h = cc h
 
 pub number_plus : (w : List ℕ) → get_or w 0 0 ≡ 43 → number w ≡ None
 number_plus w e = number_refused w (λ p. plus_is_no_digit w e p.digits)

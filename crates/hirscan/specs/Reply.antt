@@ -1,5 +1,5 @@
 -- What the program answers to an input, and how it ends.
-use Rattle.std.specs.Prelude.{◌≡◌, ℕ, ◌+◌, ◌^◌, ◌<◌, ◌≤◌, List, [], ◌∷◌, ◌++◌, length, drop, Option, Some, None, codes, decimal}
+use Rattle.std.specs.Prelude.{◌≡◌, ℕ, ◌^◌, ◌<◌, ◌≤◌, List, [], ◌∷◌, ◌++◌, length, drop, Some, None, codes, decimal}
 use Rattle.std.specs.List.{flat_map}
 use Rattle.hir_core.specs.Tree.{Tree}
 use Rattle.hir_core.specs.Facts.{list_count}

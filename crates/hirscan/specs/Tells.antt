@@ -13,7 +13,7 @@ use Rattle.hirscan.specs.declared.line.Stands.{Stands}
 use Rattle.hirscan.specs.Takes.{Standing, at_first, Takes, EndsHead}
 use Rattle.hirscan.specs.Reads.{IsOneLine, IsFaultAt}
 use Rattle.hirscan.specs.declared.words.LineWord.{LineWord}
-use Rattle.hirscan.specs.declared.words.LineWord.TheVariants.{Empty, Lit, Bytes, Rep, Cat, Alt, Pattern, Find}
+use Rattle.hirscan.specs.declared.words.LineWord.TheVariants.{Find}
 use Rattle.hirscan.specs.LineFault.{first_of, when, word_fault, is_min_above_max, has_too_few_trees, is_too_deep, has_not_one_tree, has_tree_left_over, after}
 
 -- how a kind is told

@@ -1,4 +1,4 @@
-use Rattle.std.proofs.Common.{◌≡◌, ◌∷◌, sym, ◌∙◌, ap, rules}
+use Rattle.std.proofs.Common.{◌≡◌, ◌∷◌, sym, ◌∙◌, ap}
 use Rattle.hirscan.specs.Words.{words}
 use Rattle.hirscan.specs.Tells.{texts}
 use Rattle.hirscan.proofs.TakesLemmas.{line_done}

@@ -11,4 +11,5 @@ all_read-loops_read-requires t c =
 
 pub loops_read-all_read-requires-in-Alternation : goal.loops_read-all_read-requires-in-Alternation
 loops_read-all_read-requires-in-Alternation t c =
-    (omega (arith, weight_of_either c.deref-in-Alternation.result.now, ap weight (ap alternation c.deref-in-Alternation.ensures.value ∙ sym (ap node c.in-Alternation.is) ∙ c.kind.ensures.is)), tt)
+    let is = ap alternation c.deref-in-Alternation.ensures.value ∙ sym (ap node c.in-Alternation.is) ∙ c.kind.ensures.is in
+    (omega (arith, weight_of_either c.deref-in-Alternation.result.now, ap weight is), tt)

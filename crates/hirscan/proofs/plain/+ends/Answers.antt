@@ -89,6 +89,12 @@ ends_up_to-returns t c =
     let none : length c.loop-place.stack.items ≡ 0 = search rules in
     let body = preferred_ends c.args.h.now c.args.x.now in
     elim c.if-greedy.branch [
-      | ends_up_to-then-greedy w ↦ let same = met_greedy c.args.greedy body c.args.most c.args.at c.loop-place.met.items c.loop-place.stack.items w.if-greedy.true none c.loop-place.invariant in cc
-      | ends_up_to-else-greedy w ↦ let same = met_lazy c.args.greedy body c.args.most c.args.at c.loop-place.met.items c.loop-place.stack.items w.if-greedy.false none c.loop-place.invariant in cc
+      | ends_up_to-then-greedy w ↦
+          let same = met_greedy c.args.greedy body c.args.most c.args.at c.loop-place.met.items c.loop-place.stack.items
+          w.if-greedy.true none c.loop-place.invariant in
+          cc
+      | ends_up_to-else-greedy w ↦
+          let same = met_lazy c.args.greedy body c.args.most c.args.at c.loop-place.met.items c.loop-place.stack.items
+          w.if-greedy.false none c.loop-place.invariant in
+          cc
     ]

@@ -2,7 +2,6 @@ use Rattle.std.proofs.Common.{◌≡◌, ◌<◌, ◌≤◌, ◌∙◌, ap, rule
 use Rattle.hir_core.specs.Facts.{list_count}
 use Rattle.hirscan.specs.Loops.{first_empty_loop}
 use Rattle.hirscan.specs.Reply.{empty_loop, too_large, refusal_line}
-use Rattle.hirscan.specs.AllAnswers.{answers_of}
 use Rattle.hirscan.proofs.ReplyLemmas.{head_len_le, reply_of_refusal, reply_of_spans}
 use Rattle.hirscan.proofs.reply.head_reply.Goals as goal
 

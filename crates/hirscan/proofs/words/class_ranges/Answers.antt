@@ -1,4 +1,4 @@
-use Rattle.std.proofs.Common.{◌≡◌, ◌<◌, ◌≤◌, ◌-◌, sym, ◌∙◌, true, false, reverse, arith, rules}
+use Rattle.std.proofs.Common.{reverse, arith, rules}
 use Rattle.hir_core.specs.Means.{is_member}
 use Rattle.hirscan.proofs.RangeLemmas.{ranges_with_byte, ranges_without_byte, all_ranges}
 use Rattle.hirscan.proofs.words.class_ranges.Goals as goal

@@ -1,4 +1,4 @@
-use Rattle.std.proofs.Common.{◌≡◌, ◌-◌, ◌≤◌, reverse}
+use Rattle.std.proofs.Common.{◌≡◌, ◌-◌, reverse}
 use Rattle.hir_core.specs.Means.{is_member}
 use Rattle.hirscan.specs.Words.{ranges_from}
 use Rattle.hirscan.proofs.words.class_ranges.Given as goal

@@ -1,4 +1,4 @@
-use Rattle.std.proofs.Common.{◌≡◌, ◌++◌, map, drop, None}
+use Rattle.std.proofs.Common.{◌≡◌, ◌++◌, map, drop}
 use Rattle.hirscan.specs.Readers.{the_ends}
 use Rattle.hirscan.specs.LineFault.{item_fault, first_of}
 use Rattle.hirscan.specs.Tells.{texts}

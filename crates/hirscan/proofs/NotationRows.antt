@@ -1,0 +1,126 @@
+-- The definitions, run on small words, lines and classes.
+use Rattle.std.proofs.Common.{◌≡◌, ℕ, zero, suc, true, List, [], ◌∷◌, codes, Some, None, Option, refl}
+use Rattle.hex.proofs.OnLiterals.{hex_on_literals}
+use Rattle.hir_core.specs.Tree.{Tree, empty, repetition}
+use Rattle.hirscan.specs.declared.fault.FaultKind.{FaultKind}
+use Rattle.hirscan.specs.declared.fault.FaultKind.TheVariants.{UnknownWord, WrongWordCount, BadNumber, BadHex, BadRange, BadChoice, MinAboveMax, TooFewTrees, TooDeep, NotOneTree, TreeLeftOver}
+use Rattle.hirscan.specs.Words.{words, class_ranges}
+use Rattle.hirscan.specs.Readers.{number, bound, hex_bytes, item_ends}
+use Rattle.hirscan.specs.Takes.{Standing, at_first}
+use Rattle.hirscan.specs.LineFault.{fault}
+
+-- numbers: no leading zero, no sign, no more than 32 bits
+zero_alone : number (codes "0") ≡ Some 0
+zero_alone = refl
+
+leading_zero : number (codes "007") ≡ None
+leading_zero = refl
+
+plus_sign : number (codes "+7") ≡ None
+plus_sign = refl
+
+greatest : number (codes "4294967295") ≡ Some 4294967295
+greatest = refl
+
+too_great : number (codes "4294967296") ≡ None
+too_great = refl
+
+no_digits : number [] ≡ None
+no_digits = refl
+
+without_bound : bound (codes "inf") ≡ Some None
+without_bound = refl
+
+-- hexadecimal of either case, two digits to a byte
+both_cases : hex_bytes (codes "4aFf") ≡ Some (74 ∷ 255 ∷ [])
+unfolding hex_on_literals
+both_cases = refl
+
+odd_digits : hex_bytes (codes "4a4") ≡ None
+odd_digits = refl
+
+no_bytes : hex_bytes [] ≡ None
+unfolding hex_on_literals
+no_bytes = refl
+
+-- items of a class
+item : item_ends (codes "30-39") ≡ Some (48, 57)
+unfolding hex_on_literals
+item = refl
+
+item_without_sign : item_ends (codes "30:39") ≡ None
+item_without_sign = refl
+
+item_too_long : item_ends (codes "030-39") ≡ None
+item_too_long = refl
+
+-- items that meet or overlap are one range
+joined : class_ranges ((53, 57) ∷ (48, 52) ∷ (50, 54) ∷ (97, 97) ∷ []) ≡ (48, 57) ∷ (97, 97) ∷ []
+unfolding class_ranges
+joined = refl
+
+-- where these trees are on the stack
+abbrev on_stack : List Tree → Standing
+on_stack trees = record { stack = trees; patterns = [] }
+
+abbrev line : List ℕ → Standing → Option FaultKind
+line text at = fault (words text) at
+
+unknown : line (codes "star") at_first ≡ Some UnknownWord
+unknown = refl
+
+capital : line (codes "Empty") at_first ≡ Some UnknownWord
+capital = refl
+
+second_pattern : line (codes "pattern") (record { stack = []; patterns = empty ∷ [] }) ≡ Some UnknownWord
+second_pattern = refl
+
+stray_space : line (codes "empty ") at_first ≡ Some WrongWordCount
+stray_space = refl
+
+no_item : line (codes "bytes") at_first ≡ Some WrongWordCount
+no_item = refl
+
+-- the first faulty word from the left
+bad_min_first : line (codes "rep x y z") at_first ≡ Some BadNumber
+bad_min_first = refl
+
+bad_choice : line (codes "rep 2 1 eager") at_first ≡ Some BadChoice
+bad_choice = refl
+
+above : line (codes "rep 2 1 lazy") at_first ≡ Some MinAboveMax
+above = refl
+
+bad_hex : line (codes "lit 4g") at_first ≡ Some BadHex
+unfolding hex_on_literals
+bad_hex = refl
+
+range_turned_round : line (codes "bytes 30-39 39-30 xx") at_first ≡ Some BadRange
+unfolding hex_on_literals
+range_turned_round = refl
+
+too_few : line (codes "cat 2") (on_stack (empty ∷ [])) ≡ Some TooFewTrees
+too_few = refl
+
+none_needed : line (codes "cat 0") at_first ≡ None
+none_needed = refl
+
+-- a tree that is so many repetitions high
+abbrev tower : ℕ → Tree
+tower zero = empty
+tower (suc n) = repetition 1 (Some 1) true (tower n)
+
+too_deep : line (codes "rep 1 1 greedy") (on_stack (tower 249 ∷ [])) ≡ Some TooDeep
+too_deep = refl
+
+deep_enough : line (codes "rep 1 1 greedy") (on_stack (tower 248 ∷ [])) ≡ None
+deep_enough = refl
+
+two_trees : line (codes "pattern") (on_stack (empty ∷ empty ∷ [])) ≡ Some NotOneTree
+two_trees = refl
+
+left_over : line (codes "find") (on_stack (empty ∷ [])) ≡ Some TreeLeftOver
+left_over = refl
+
+nothing_left : line (codes "find") at_first ≡ None
+nothing_left = refl
