@@ -9,13 +9,13 @@ use Rattle.std.proofs.lemmas.Fmt.{digits_decimal, digits_value-decimal, decimal-
 use Rattle.hex.specs.Hex.{decode_of}
 use Rattle.hex.proofs.HexLemmas.{decode_of-ok}
 use Rattle.hex.specs.declared.error.FromHexError.{FromHexError}
-use Rattle.hirscan.specs.declared.fault.FaultKind.{FaultKind}
 use Rattle.hirscan.specs.declared.fault.FaultKind.TheVariants.{BadNumber, BadHex, BadRange, BadChoice}
 use Rattle.hirscan.specs.declared.words.LineWord.{LineWord}
 use Rattle.hirscan.specs.declared.words.LineWord.TheVariants.{Empty, Lit, Bytes, Rep, Cat, Alt, Pattern, Find}
 use Rattle.hirscan.specs.Words.{IsNumber, IsBound, IsGreedy, IsHex, IsItem, AreItems}
 use Rattle.hirscan.specs.Readers.{spelling, line_word, is_number, number, the_number, bound, the_bound, order, the_order, one_or_more, hex_bytes, the_bytes, only_one, hex_byte, both, item_ends, the_ends}
-use Rattle.hirscan.specs.LineFault.{first_of, when, unless_read, ends_fault, item_fault}
+use Rattle.hirscan.specs.LineFault.{first_of, unless_read, ends_fault, item_fault}
+use Rattle.hirscan.proofs.StageLemmas.{first_none, when_none}
 use Rattle.hirscan.proofs.WordLemmas.{NumberParts, number_parts, number_read, digits_model}
 
 -- a word is the text, or it isn't
@@ -155,14 +155,6 @@ pub hex_bytes_said : (w bytes : List ℕ) → IsHex w bytes → hex_bytes w ≡ 
 hex_bytes_said w [] h = absurd (h.0 refl)
 hex_bytes_said w (b ∷ bs) h = rw h.1 refl
 
-when_none_false : (b : Bool) → when b BadRange ≡ None → b ≡ false
-when_none_false true h = absurd cc
-when_none_false false h = refl
-
-none_first : (a : Option FaultKind) (rest : List (Option FaultKind)) → first_of (a ∷ rest) ≡ None → (a ≡ None) × (first_of rest ≡ None)
-none_first None rest h = (refl, h)
-none_first (Some k) rest h = absurd cc
-
 -- the two words at the ends of an item, and what is between them
 ends_of : (a b : Option ℕ) → (r : ℕ × ℕ) → both a b ≡ Some r → (a ≡ Some r.0) × (b ≡ Some r.1)
 ends_of None b r e = absurd cc
@@ -196,7 +188,7 @@ item_of_ends w (Some r) e f =
               parts = five w (eqb-true _ _ p.0) (eqb-true _ _ p.1);
               low_is = byte_of_result _ _ _ refl ends.0;
               high_is = byte_of_result _ _ _ refl ends.1;
-              in_order = ltb-false _ _ (when_none_false _ f);
+              in_order = ltb-false _ _ (when_none _ BadRange f);
             },
           )
       | inr n ↦ absurd (let g = rw n at e in cc)
@@ -208,7 +200,7 @@ item_says w e = let i = item_of_ends w (item_ends w) refl e in rw i.1 i.2
 pub items_say : (ws : List (List ℕ)) → first_of (map item_fault ws) ≡ None → AreItems ws (map the_ends ws)
 items_say [] e = tt
 items_say (w ∷ ws) e =
-    let p = none_first (item_fault w) _ e in
+    let p = first_none (item_fault w) _ e in
     (item_says w p.0, items_say ws p.1)
 
 ends_of_parts : (low high : List ℕ) (r : ℕ × ℕ) → length low ≡ 2 → length high ≡ 2 → IsHex low (r.0 ∷ []) → IsHex high (r.1 ∷ [])

@@ -1,11 +1,12 @@
 -- The kinds of faults of a line, stage by stage.
-use Rattle.std.proofs.Common.{◌≡◌, ℕ, true, false, List, length, Some, refl}
+use Rattle.std.proofs.Common.{◌≡◌, ℕ, true, false, List, length, Some, refl, ◌∷◌, Option, None, Bool}
 use Rattle.std.proofs.lemmas.List.{length-map}
 use denote.Ref.{Bor}
+use Rattle.hirscan.specs.declared.fault.FaultKind.{FaultKind}
 use Rattle.hirscan.specs.declared.fault.FaultKind.TheVariants.{UnknownWord, WrongWordCount}
 use Rattle.hirscan.specs.declared.words.LineWord.{LineWord}
 use Rattle.hirscan.specs.Takes.{Standing}
-use Rattle.hirscan.specs.LineFault.{known_fault, is_second_pattern, is_word_count}
+use Rattle.hirscan.specs.LineFault.{first_of, when, known_fault, is_second_pattern, is_word_count}
 use Rattle.hirscan.specs.Tells.{texts, left_fault}
 
 pub known_fault_unknown : (k : LineWord) (args : List (List ℕ)) (at : Standing) → is_second_pattern k at ≡ true
@@ -19,3 +20,12 @@ known_fault_count k args at e f = rw (length-map args (λ (w : Bor (List ℕ)). 
 pub known_fault_left : (k : LineWord) (args : List (Bor (List ℕ))) (at : Standing) → is_second_pattern k at ≡ false
     → is_word_count k (length args) ≡ true → known_fault k (texts args) at ≡ left_fault k (texts args) at
 known_fault_left k args at e f = rw (length-map args (λ (w : Bor (List ℕ)). w.now), e, f) refl
+
+-- where there is no fault at all, none is the first, and no test says one
+pub first_none : (a : Option FaultKind) (rest : List (Option FaultKind)) → first_of (a ∷ rest) ≡ None → (a ≡ None) × (first_of rest ≡ None)
+first_none None rest h = (refl, h)
+first_none (Some k) rest h = absurd cc
+
+pub when_none : (b : Bool) (k : FaultKind) → when b k ≡ None → b ≡ false
+when_none true k h = absurd cc
+when_none false k h = refl

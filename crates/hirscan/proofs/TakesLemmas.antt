@@ -16,6 +16,7 @@ use Rattle.hirscan.specs.Takes.{Standing, Replaces, Takes, empty_line, lit_line,
 use Rattle.hirscan.specs.LineFault.{first_of, when, unless_read, word_fault, is_second_pattern, is_word_count, is_at_most, is_min_above_max, top, below, has_too_few_trees, is_too_deep, has_not_one_tree, has_tree_left_over, known_fault, after}
 use Rattle.hirscan.specs.declared.line.Step.{Step}
 use Rattle.hirscan.specs.Tells.{step_after, TellsStep}
+use Rattle.hirscan.proofs.StageLemmas.{first_none, when_none}
 use Rattle.hirscan.proofs.SaysLemmas.{line_word_spelled, number_says, bound_says, order_says, hex_bytes_says, items_say}
 
 -- what each kind of fault says where there is none
@@ -28,14 +29,6 @@ pub record NoFault (k : LineWord) (args : List (List ℕ)) (at : Standing) : Typ
   pub flat : is_too_deep k args at ≡ false
   pub one_tree : has_not_one_tree k at ≡ false
   pub none_left : has_tree_left_over k at ≡ false
-
-first_none : (a : Option FaultKind) (rest : List (Option FaultKind)) → first_of (a ∷ rest) ≡ None → (a ≡ None) × (first_of rest ≡ None)
-first_none None rest h = (refl, h)
-first_none (Some k) rest h = absurd cc
-
-when_none : (b : Bool) (k : FaultKind) → when b k ≡ None → b ≡ false
-when_none true k h = absurd cc
-when_none false k h = refl
 
 pub no_fault_parts : (k : LineWord) (args : List (List ℕ)) (at : Standing) → known_fault k args at ≡ None → NoFault k args at
 no_fault_parts k args at h =

@@ -10,7 +10,8 @@ use thiserror::Error;
 pub enum FaultKind {
     /// The text ends before the line's line feed.
     NoFindLine,
-    /// The first word begins no line of the notation.
+    /// The first word begins no line of the notation, or it is a second `pattern`, which no line may
+    /// be for now.
     UnknownWord,
     /// There are too few or too many words.
     WrongWordCount,
