@@ -20,3 +20,4 @@ pub mod SliceLemmas
 pub mod ReplyLemmas
 pub mod RunLemmas
 pub mod OneReplyLemmas
+pub mod SomeReplyLemmas

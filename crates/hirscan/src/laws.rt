@@ -101,7 +101,14 @@ pub fn classes_have_their_items_bytes()
     ensures ascending { (items : List (ℕ × ℕ)) → is_ascending (class_ranges items) ≡ true }
 {}
 
-/// An input has one reply, and it ends in one way.
+/// A text reads, or a line of it is the first faulty one.
+pub fn texts_read_or_have_a_fault()
+    ensures { (text : List ℕ) (p : Standing) →
+        ((xs : List Tree) × (n : ℕ) × Reads text p xs n) ⊎ ((k : ℕ) × (kind : FaultKind) × IsFaultAt text p k kind) }
+{}
+
+/// An input has a reply, and only one, which ends in one way.
 pub fn an_input_has_one_reply()
-    ensures { (input : List ℕ) (e f : Ending) (s t : List ℕ) → IsReply input e s → IsReply input f t → (e ≡ f) × (s ≡ t) }
+    ensures some { (input : List ℕ) → (e : Ending) × (t : List ℕ) × IsReply input e t }
+    ensures one { (input : List ℕ) (e f : Ending) (s t : List ℕ) → IsReply input e s → IsReply input f t → (e ≡ f) × (s ≡ t) }
 {}
