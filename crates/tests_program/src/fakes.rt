@@ -36,16 +36,6 @@ impl Read for Source<'_> {
     }
 }
 
-/// Gives zeros without an end.
-#[derive(Drop)]
-pub struct Endless;
-
-impl Read for Endless {
-    fn read(&mut self, buf: &mut [u8]) -> io::Result<usize> {
-        Ok(buf.len())
-    }
-}
-
 /// What a writer does where it has no room left.
 #[derive(Clone, Copy, PartialEq, Eq)]
 pub enum AtLimit {

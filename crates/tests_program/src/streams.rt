@@ -1,5 +1,5 @@
 // Readers and writers that give or take little, and that fail.
-use crate::fakes::{AtLimit, Endless, Sink, Source};
+use crate::fakes::{AtLimit, Sink, Source};
 use crate::heads::{dates, dates_lines};
 use hirscan::{Ending, RunError, run};
 use std::test::Fail;
@@ -65,17 +65,5 @@ fn a_flush_that_fails(rt: HostRuntime) -> Result<(), Fail> {
         Err(RunError::Write)
     );
     assert_eq!(rt; writer.taken.as_slice(), dates_lines());
-    Ok(())
-}
-
-#[test]
-fn an_input_without_an_end(rt: HostRuntime) -> Result<(), Fail> {
-    let alloc = rt.alloc();
-    let mut writer = Sink::open(alloc);
-    assert_eq!(rt; run(alloc, &mut Endless, &mut writer)?, Ending::Refused);
-    assert_eq!(rt;
-        writer.taken.as_slice(),
-        b"refused: input above 1073741824 bytes\n".as_slice()
-    );
     Ok(())
 }
