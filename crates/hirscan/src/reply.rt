@@ -102,7 +102,6 @@ pub(crate) fn reply_to(alloc: Global, input: &[u8]) -> Result<Reply, AllocError>
     match read_head(alloc, input) {
         Ok(head) => head_reply(alloc, &head, input),
         Err(Fault::Notation { line, kind }) => {
-            let kind = kind.text();
             let cause = format!(in alloc; "line {line}: {kind}")?;
             refusal(alloc, cause.as_str())
         }
