@@ -1,6 +1,5 @@
 -- Each text reads or has a first fault, and so each input has a reply.
-use Rattle.std.proofs.Common.{◌≡◌, ◌≢◌, ℕ, zero, suc, ◌+◌, ◌^◌, ◌<◌, ◌≤◌, ◌⊎◌, inl, inr, List, [], ◌∷◌, ◌++◌, length, drop, Option, Some, None, codes, decimal, refl, sym, ap, ◌∙◌, arith, length-append}
-use Rattle.std.specs.List.{All}
+use Rattle.std.proofs.Common.{◌≡◌, ◌≢◌, ℕ, zero, suc, ◌+◌, ◌^◌, ◌<◌, ◌≤◌, ◌⊎◌, inl, inr, List, [], ◌∷◌, ◌++◌, length, Option, Some, None, refl, ap, arith, length-append}
 use Rattle.std.proofs.lemmas.Bool.{cases_eq, cases_lt}
 use Rattle.std.proofs.lemmas.List.Elements.{All-cons, All-nil}
 use Rattle.hir_core.specs.Tree.{Tree}
@@ -10,13 +9,11 @@ use Rattle.hirscan.specs.declared.fault.FaultKind.TheVariants.{NoFindLine}
 use Rattle.hirscan.specs.declared.program.Ending.{Ending}
 use Rattle.hirscan.specs.declared.program.Ending.TheVariants.{Listed, Refused}
 use Rattle.hirscan.specs.Words.{words}
-use Rattle.hirscan.specs.Tells.{kind_text}
-use Rattle.hirscan.specs.Takes.{Standing, at_first, Takes, EndsHead}
+use Rattle.hirscan.specs.Takes.{Standing, at_first, Takes}
 use Rattle.hirscan.specs.LineFault.{fault}
 use Rattle.hirscan.specs.Reads.{IsOneLine, Reads, reads_find, reads_line, IsFaultAt, no_line_feed, faulty_line, faulty_later}
 use Rattle.hirscan.specs.Loops.{first_empty_loop}
-use Rattle.hirscan.specs.AllAnswers.{answers_of}
-use Rattle.hirscan.specs.Reply.{IsReply, too_long, faulty, empty_loop, too_large, listed, refusal_line, span_lines}
+use Rattle.hirscan.specs.Reply.{IsReply, too_long, faulty, empty_loop, too_large, listed}
 use Rattle.hirscan.proofs.EffectLemmas.{taken_or_ends}
 
 -- the first line of a text, and what follows its line feed
