@@ -1,0 +1,10 @@
+mod IndexRows
+pub mod DecodeLemmas
+pub mod Utf8Lemmas
+pub mod SplitLemmas
+pub mod CutLemmas
+mod Utf8Rows
+pub mod MarkLemmas
+pub mod ByteSetLemmas
+pub mod StepLemmas
+pub mod UnitLemmas

@@ -1,0 +1,82 @@
+ghost use Rattle.std.specs.Prelude.{◌≡◌};
+ghost use Rattle.std.specs.Iterator.{YieldsFirst, item_count};
+ghost use Rattle.search_core.specs.ByteSets.{has, bytes_where, ranges_from};
+
+use crate::byte_set::ByteSet;
+use std::marker::Model;
+
+/// The bytes of a set, ascending.
+#[derive(Drop)]
+pub struct ByteSetIter<'a> {
+    set: &'a ByteSet,
+    from: usize,
+}
+
+impl<'a> Model for ByteSetIter<'a> {
+    ghost use Rattle.std.specs.Prelude.{List, ℕ};
+    ghost use Rattle.search_core.specs.ByteSets.{has, bytes_where};
+
+    ghost Value = { List ℕ };
+
+    ghost view = { λ s. bytes_where (has s.set.now) s.from 256 };
+}
+
+impl<'a> ByteSetIter<'a> {
+    pub(crate) fn new(set: &'a ByteSet) -> ByteSetIter<'a>
+        ensures { result ≡ bytes_where (has set.now) 0 256 }
+    {
+        ByteSetIter { set, from: 0 }
+    }
+}
+
+impl<'a> Iterator for ByteSetIter<'a> {
+    type Item = u8;
+
+    ghost next_gives = { YieldsFirst (λ rest. rest) };
+
+    ghost remaining = { item_count (λ rest. rest) };
+
+    fn next(&mut self) -> Option<u8> {
+        let byte = self.set.next_member(self.from)?;
+        self.from = usize::from(byte) + 1;
+        Some(byte)
+    }
+}
+
+/// The ranges of a set, ascending.
+#[derive(Drop)]
+pub struct ByteSetRangeIter<'a> {
+    set: &'a ByteSet,
+    from: usize,
+}
+
+impl<'a> Model for ByteSetRangeIter<'a> {
+    ghost use Rattle.std.specs.Prelude.{List, ℕ};
+    ghost use Rattle.search_core.specs.ByteSets.{ranges_from};
+
+    ghost Value = { List (ℕ × ℕ) };
+
+    ghost view = { λ s. ranges_from s.set.now s.from };
+}
+
+impl<'a> ByteSetRangeIter<'a> {
+    pub(crate) fn new(set: &'a ByteSet) -> ByteSetRangeIter<'a>
+        ensures { result ≡ ranges_from set.now 0 }
+    {
+        ByteSetRangeIter { set, from: 0 }
+    }
+}
+
+impl<'a> Iterator for ByteSetRangeIter<'a> {
+    type Item = (u8, u8);
+
+    ghost next_gives = { YieldsFirst (λ rest. rest) };
+
+    ghost remaining = { item_count (λ rest. rest) };
+
+    fn next(&mut self) -> Option<(u8, u8)> {
+        let start = self.set.next_start(self.from)?;
+        self.from = usize::from(start) + 1;
+        Some((start, self.set.range_end(start)))
+    }
+}

@@ -1,0 +1,33 @@
+//! Laws of the classes by marks. Each function has no code: its contract is the law.
+ghost use Rattle.std.specs.Prelude.{◌≡◌, ℕ, ◌+◌, ◌<◌, ◌≤◌, ◌⊎◌, ◌↔◌, Bool, List, length};
+ghost use Rattle.std.specs.List.{All};
+ghost use Rattle.search_core.specs.Marks.{marks_below, recorded, IsUnmarked, IsRangeBelow, IsIn, HoldsAllOrNone};
+
+/// Classes by marks start at 0, and rise by at most one from byte to byte.
+#[tactic(auto, using(crate::proofs::MarkLemmas::below_zero, crate::proofs::MarkLemmas::below_next))]
+pub fn classes_rise_by_one()
+    ensures start { (marks : List Bool) → marks_below marks 0 ≡ 0 }
+    ensures next { (marks : List Bool) (b : ℕ) → b < length marks →
+        (marks_below marks (b + 1) ≡ marks_below marks b) ⊎ (marks_below marks (b + 1) ≡ marks_below marks b + 1) }
+{}
+
+/// By the marks of ranges, two bytes are in one class exactly where each range holds all bytes from one
+/// to the other or none of them.
+#[tactic(auto, using(crate::proofs::MarkLemmas::same_class_from_ranges))]
+pub fn classes_tell_ranges_apart()
+    ensures tells { (marks : List Bool) (ranges : List (ℕ × ℕ)) (a b : ℕ) → IsUnmarked marks → a ≤ b → b < length marks →
+        marks_below (recorded marks ranges) a ≡ marks_below (recorded marks ranges) b → All (HoldsAllOrNone a b) ranges }
+    ensures only { (marks : List Bool) (ranges : List (ℕ × ℕ)) (a b : ℕ) → IsUnmarked marks → All (IsRangeBelow (length marks)) ranges →
+        a ≤ b → b < length marks → All (HoldsAllOrNone a b) ranges →
+        marks_below (recorded marks ranges) a ≡ marks_below (recorded marks ranges) b }
+{}
+
+/// No numbering of the bytes that rises weakly, and gives one number only to bytes that lie alike in
+/// each range, puts two bytes together that the classes tell apart.
+pub fn classes_are_the_coarsest()
+    ensures { (marks : List Bool) (ranges : List (ℕ × ℕ)) (f : ℕ → ℕ) → IsUnmarked marks → All (IsRangeBelow (length marks)) ranges →
+        ((a b : ℕ) → a ≤ b → b < length marks → f a ≤ f b) →
+        ((a b : ℕ) → a < length marks → b < length marks → f a ≡ f b → All (λ r. IsIn r a ↔ IsIn r b) ranges) →
+        (a b : ℕ) → a < length marks → b < length marks → f a ≡ f b →
+        marks_below (recorded marks ranges) a ≡ marks_below (recorded marks ranges) b }
+{}

@@ -1,0 +1,69 @@
+//! Laws of UTF-8. Each function has no code: its contract is the law.
+ghost use Rattle.std.specs.Prelude.{◌≡◌, ◌≤◌, ◌<◌, ℕ, List, [], ◌++◌, length, take, drop, Option, Result, Some, Ok, ◌⊎◌, true, false};
+ghost use Rattle.std.specs.Char.{IsScalar, encode_utf8};
+ghost use Rattle.std.specs.Str.{IsUtf8};
+ghost use Rattle.search_core.specs.Utf8.{Spells, IsValidText, IsSplit, Decodes, DecodesLast, is_boundary};
+
+/// The table's rows are what std's encoder gives for the scalar values, and for nothing else.
+pub fn spelling_is_encode_utf8()
+    ensures scalar { (c : ℕ) (bytes : List ℕ) → Spells c bytes → IsScalar c × (encode_utf8 c ≡ bytes) }
+    ensures spelled { (c : ℕ) (bytes : List ℕ) → IsScalar c → encode_utf8 c ≡ bytes → Spells c bytes }
+{}
+
+/// Texts of spellings are what std calls UTF-8, so its functions on text may be used on them.
+#[tactic(auto, using(crate::proofs::Utf8Lemmas::utf8_of_valid, crate::proofs::Utf8Lemmas::valid_of_utf8))]
+pub fn valid_text_is_utf8()
+    ensures utf8 { (bytes : List ℕ) → IsValidText bytes → IsUtf8 bytes }
+    ensures valid { (bytes : List ℕ) → IsUtf8 bytes → IsValidText bytes }
+{}
+
+/// A scalar has one spelling, and a spelling is of one scalar.
+#[tactic(auto, using(crate::proofs::Utf8Lemmas::one_spelling, crate::proofs::Utf8Lemmas::one_scalar))]
+pub fn one_spelling_for_a_scalar()
+    ensures spelling { (c : ℕ) (s t : List ℕ) → Spells c s → Spells c t → s ≡ t }
+    ensures scalar { (c d : ℕ) (s : List ℕ) → Spells c s → Spells d s → c ≡ d }
+{}
+
+/// No spelling is a proper beginning of another.
+#[tactic(auto, using(crate::proofs::Utf8Lemmas::no_beginning))]
+pub fn no_spelling_begins_another()
+    ensures { (c d : ℕ) (s t : List ℕ) → Spells c s → Spells d (s ++ t) → t ≡ [] }
+{}
+
+/// A place of a text lies strictly inside one spelling at most, however the text is cut into spellings.
+pub fn places_lie_in_one_spelling()
+    ensures { (h : List ℕ) (i : ℕ) (p q : IsSplit h i) → (p.before ≡ q.before) × (p.spelling ≡ q.spelling) × (p.after ≡ q.after) }
+{}
+
+/// In a valid text a place up to the length is a boundary exactly where it isn't split.
+#[tactic(auto, using(crate::proofs::SplitLemmas::split_is_no_boundary, crate::proofs::SplitLemmas::boundary_or_split))]
+pub fn boundaries_are_not_split()
+    ensures split { (h : List ℕ) (i : ℕ) → IsSplit h i → is_boundary h i ≡ false }
+    ensures either { (h : List ℕ) (i : ℕ) → IsValidText h → i ≤ length h → (is_boundary h i ≡ true) ⊎ IsSplit h i }
+{}
+
+/// Where a valid text is cut at a place that isn't split, both parts are valid.
+#[tactic(auto, using(crate::proofs::CutLemmas::valid_before, crate::proofs::CutLemmas::valid_behind))]
+pub fn parts_of_valid_text_are_valid()
+    ensures before { (h : List ℕ) (i : ℕ) → IsValidText h → i ≤ length h → ¬ (IsSplit h i) → IsValidText (take i h) }
+    ensures behind { (h : List ℕ) (i : ℕ) → IsValidText h → i ≤ length h → ¬ (IsSplit h i) → IsValidText (drop i h) }
+{}
+
+/// A spelling in front is what [`decode`](crate::utf8::decode) reads, and one at the end is what
+/// [`decode_last`](crate::utf8::decode_last) reads, whatever the other bytes are.
+pub fn spellings_decode()
+    ensures first { (c : ℕ) (spelling after : List ℕ) (read : Option (Result ℕ ℕ)) → Spells c spelling →
+        Decodes (spelling ++ after) read → read ≡ Some (Ok c) }
+    ensures last { (c : ℕ) (before spelling : List ℕ) (read : Option (Result ℕ ℕ)) → Spells c spelling →
+        DecodesLast (before ++ spelling) read → read ≡ Some (Ok c) }
+{}
+
+/// At a place of a valid text that isn't split, [`decode`](crate::utf8::decode) gives a character of what
+/// follows unless it is the end, and [`decode_last`](crate::utf8::decode_last) one of what precedes unless it
+/// is the start.
+pub fn cut_points_decode()
+    ensures behind { (h : List ℕ) (i : ℕ) (read : Option (Result ℕ ℕ)) → IsValidText h → i < length h → ¬ (IsSplit h i) →
+        Decodes (drop i h) read → (c : ℕ) × (read ≡ Some (Ok c)) }
+    ensures before { (h : List ℕ) (i : ℕ) (read : Option (Result ℕ ℕ)) → IsValidText h → 0 < i → i ≤ length h → ¬ (IsSplit h i) →
+        DecodesLast (take i h) read → (c : ℕ) × (read ≡ Some (Ok c)) }
+{}
