@@ -1,5 +1,6 @@
 -- A unit of input: a byte or the end of the input.
-use Rattle.std.specs.Prelude.{◌==◌, nat_le, Bool, false, ◌&&◌, ◌||◌, ℕ, Option, Some, None}
+use Rattle.std.specs.Prelude.{◌==◌, Bool, false, ℕ, Option, Some, None}
+use Rattle.search_core.specs.Utf8.{is_word_byte}
 use Rattle.search_core.specs.declared.unit.Unit.{Unit as InputUnit}
 use Rattle.search_core.specs.declared.unit.Unit.TheVariants.{Byte, End}
 
@@ -23,15 +24,7 @@ abbrev pub is_unit_byte : InputUnit → ℕ → Bool
 is_unit_byte (Byte b) c = b == c
 is_unit_byte (End n) c = false
 
--- whether lo ≤ b ≤ hi
-abbrev pub is_between : ℕ → ℕ → ℕ → Bool
-is_between lo hi b = nat_le lo b && nat_le b hi
-
--- whether a byte is an ASCII digit, capital, `_` or small letter
-abbrev pub is_word_code : ℕ → Bool
-is_word_code b = is_between 0x30 0x39 b || (is_between 0x41 0x5A b || ((b == 0x5F) || is_between 0x61 0x7A b))
-
--- whether a unit is such a byte; the end of the input is none
+-- whether the unit is a word byte; the end of the input is none
 abbrev pub is_word_unit : InputUnit → Bool
-is_word_unit (Byte b) = is_word_code b
+is_word_unit (Byte b) = is_word_byte b
 is_word_unit (End n) = false

@@ -1,6 +1,8 @@
 ghost use Rattle.std.specs.Prelude.{◌≡◌, ◌≤◌, ◌↔◌, IsTrue, IsSome};
 ghost use Rattle.search_core.specs.Units.{unit_byte, unit_end, unit_number, is_unit_byte, is_word_unit};
 
+use crate::utf8::is_word_byte;
+
 /// One unit of input: a byte, or the end of the input, whose number lies above those of all bytes or
 /// byte classes.
 #[derive(Clone, Copy, Debug, PartialEq, Eq)]
@@ -70,7 +72,7 @@ impl Unit {
         ensures { result ≡ is_word_unit self }
     {
         match self {
-            Unit::Byte(byte) => matches!(byte, b'0'..=b'9' | b'A'..=b'Z' | b'_' | b'a'..=b'z'),
+            Unit::Byte(byte) => is_word_byte(byte),
             Unit::End(_) => false,
         }
     }
