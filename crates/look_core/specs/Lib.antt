@@ -1,0 +1,4 @@
+pub mod Codes
+pub mod Terminators
+pub mod Looks
+pub mod LookSets

@@ -1,0 +1,44 @@
+-- The character whose spelling begins or ends at a place of a text, computed.
+use Rattle.std.specs.Prelude.{ℕ, ◌+◌, ◌-◌, Bool, ◌&&◌, nat_lt, nat_le, List, length, slice_index_or, Option, Some, None, if◌then◌else◌}
+use Rattle.std.specs.Int.{is_in_range}
+use Rattle.std.specs.Option.{option_or}
+use Rattle.search_core.specs.Utf8.{scalar_of_two, scalar_of_three, scalar_of_four, second_of_three, second_of_four}
+
+-- the byte with index k; 0, which continues nothing, where there is none
+abbrev pub byte_or_zero : List ℕ → ℕ → ℕ
+byte_or_zero h k = slice_index_or h k 0
+
+-- the scalar that is spelled by one byte from the place k on, by two, three or four; None: these spell nothing
+abbrev pub one_byte : List ℕ → ℕ → Option ℕ
+one_byte h k = if nat_lt k (length h) && nat_le (byte_or_zero h k) 0x7F then Some (byte_or_zero h k) else None
+
+abbrev pub two_bytes : List ℕ → ℕ → Option ℕ
+two_bytes h k =
+    if is_in_range 0xC2 0xDF (byte_or_zero h k) && is_in_range 0x80 0xBF (byte_or_zero h (k + 1))
+    then Some (scalar_of_two (byte_or_zero h k) (byte_or_zero h (k + 1))) else None
+
+abbrev pub three_bytes : List ℕ → ℕ → Option ℕ
+three_bytes h k =
+    if second_of_three (byte_or_zero h k) (byte_or_zero h (k + 1)) && is_in_range 0x80 0xBF (byte_or_zero h (k + 2))
+    then Some (scalar_of_three (byte_or_zero h k) (byte_or_zero h (k + 1)) (byte_or_zero h (k + 2))) else None
+
+abbrev pub four_bytes : List ℕ → ℕ → Option ℕ
+four_bytes h k =
+    if second_of_four (byte_or_zero h k) (byte_or_zero h (k + 1)) && is_in_range 0x80 0xBF (byte_or_zero h (k + 2)) && is_in_range 0x80 0xBF (byte_or_zero h (k + 3))
+    then Some (scalar_of_four (byte_or_zero h k) (byte_or_zero h (k + 1)) (byte_or_zero h (k + 2)) (byte_or_zero h (k + 3))) else None
+
+-- the character whose spelling begins at the place; no two of these lengths fit at once
+abbrev pub character_at : List ℕ → ℕ → Option ℕ
+character_at h i = option_or (one_byte h i) (option_or (two_bytes h i) (option_or (three_bytes h i) (four_bytes h i)))
+
+-- what a spelling of n bytes that ends at the place spells
+abbrev pub ending_at : ℕ → (List ℕ → ℕ → Option ℕ) → List ℕ → ℕ → Option ℕ
+ending_at n spelled h i = if nat_le n i then spelled h (i - n) else None
+
+-- the character whose spelling ends at the place
+abbrev pub character_before : List ℕ → ℕ → Option ℕ
+character_before h i = option_or (ending_at 1 one_byte h i) (option_or (ending_at 2 two_bytes h i) (option_or (ending_at 3 three_bytes h i) (ending_at 4 four_bytes h i)))
+
+-- how many bytes spell the scalar
+abbrev pub spelling_len : ℕ → ℕ
+spelling_len c = if nat_le c 0x7F then 1 else if nat_le c 0x7FF then 2 else if nat_le c 0xFFFF then 3 else 4

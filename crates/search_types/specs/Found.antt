@@ -1,0 +1,13 @@
+-- What a contract sees of matches.
+use Rattle.std.specs.Prelude.{ℕ}
+
+-- of a `Match`: the pattern's number, and the span from start to end
+pub record Found : Type 0 where
+  pub pattern : ℕ
+  pub start : ℕ
+  pub end : ℕ
+
+-- of a `HalfMatch`: the pattern's number, and the place where the search along one direction came to
+pub record HalfFound : Type 0 where
+  pub pattern : ℕ
+  pub offset : ℕ

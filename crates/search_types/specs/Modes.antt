@@ -1,0 +1,26 @@
+-- Search modes: at which places a search may start, and which patterns it may find.
+use Rattle.std.specs.Prelude.{ℕ, Bool, true, ◌&&◌, ◌==◌, nat_lt, nat_le}
+use Rattle.search_types.specs.declared.anchored.Anchored.{Anchored}
+use Rattle.search_types.specs.declared.anchored.Anchored.TheVariants.{No, Yes, Pattern}
+
+-- the last place at which a search from s to e may start
+abbrev pub last_start : Anchored → ℕ → ℕ → ℕ
+last_start No s e = e
+last_start Yes s e = s
+last_start (Pattern p) s e = s
+
+-- whether a search from s to e may start at the place i; where s is above e there is no such place
+abbrev pub may_start : Anchored → ℕ → ℕ → ℕ → Bool
+may_start mode s e i = nat_le s e && nat_le s i && nat_le i (last_start mode s e)
+
+-- whether a search may find the pattern p of so many patterns
+abbrev pub allowed : Anchored → ℕ → ℕ → Bool
+allowed No count p = nat_lt p count
+allowed Yes count p = nat_lt p count
+allowed (Pattern named) count p = nat_lt p count && p == named
+
+-- whether an automaton can search in this mode; a start state for each pattern makes the last one possible
+abbrev pub is_supported : Bool → Anchored → Bool
+is_supported starts_for_each_pattern No = true
+is_supported starts_for_each_pattern Yes = true
+is_supported starts_for_each_pattern (Pattern named) = starts_for_each_pattern
