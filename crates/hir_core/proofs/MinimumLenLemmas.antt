@@ -1,10 +1,12 @@
 -- No span is shorter than `minimum_len`.
-use Rattle.std.proofs.Common.{ℕ, zero, suc, ◌+◌, ◌*◌, ◌≤◌, ◌<◌, List, [], ◌∷◌, Option, Some, None, sym, inl, inr, arith, true≢false}
+use Rattle.std.proofs.Common.{◌≡◌, true, ℕ, zero, suc, ◌+◌, ◌*◌, ◌≤◌, ◌<◌, List, [], ◌∷◌, Option, Some, None, sym, inl, inr, arith, true≢false}
 use Rattle.std.proofs.Math.Nat.{mul-le-mul_left}
-use Rattle.hir_core.specs.Tree.{Tree, empty, literal, byte_class, repetition, nothing, cat, never, alt}
-use Rattle.hir_core.specs.Means.{Means, Rounds}
-use Rattle.hir_core.specs.Facts.{sum_of_both, least_of_either, times, minimum_len, IsAtLeast, IsAboveZero}
+use Rattle.hir_core.specs.Tree.{Tree, empty, literal, byte_class, char_class, look, repetition, capture, nothing, cat, never, alt}
+use Rattle.hir_core.specs.Means.{Looks, Means, Rounds, is_member}
+use Rattle.hir_core.specs.Facts.{sum_of_both, least_of_either, times, least_spelling, minimum_len, IsAtLeast, IsAboveZero}
 use Rattle.hir_core.proofs.SpanLemmas.{IsSpan-Means}
+use Rattle.search_core.specs.Characters.{spelling_len}
+use Rattle.hir_core.proofs.SpellingLemmas.{member_len, spelling_len-mono, member_cases}
 
 IsAtLeast-sum_of_both : (a b : Option ℕ) (i k j : ℕ) → IsAtLeast a i k → IsAtLeast b k j → IsAtLeast (sum_of_both a b) i j
 IsAtLeast-sum_of_both None b i k j p q = elim p [ ]
@@ -37,14 +39,25 @@ IsAtLeast-times R (Some m) each forward (suc low) n i j le r =
     let more = mul-le-mul_left m le in
     omega arith
 
-module _ (h : List ℕ) where
-  pub minimum_len_sound : (x : Tree) (i j : ℕ) → Means h x i j → IsAtLeast (minimum_len x) i j
+-- a spelling of a member of the ranges is no shorter than the shortest
+shortest : (ranges : List (ℕ × ℕ)) (c i j : ℕ) → is_member ranges c ≡ true → i + spelling_len c ≡ j → IsAtLeast (least_spelling ranges) i j
+shortest [] c i j m e = absurd cc
+shortest (r ∷ rs) c i j m e = elim (member_cases r rs c m) [
+  | inl p ↦ IsAtLeast-left (Some (spelling_len r.0)) (least_spelling rs) i j (let l = spelling_len-mono r.0 c p.0 in omega arith)
+  | inr q ↦ IsAtLeast-right (Some (spelling_len r.0)) (least_spelling rs) i j (shortest rs c i j q e)
+]
+
+module _ (looks : Looks) (h : List ℕ) where
+  pub minimum_len_sound : (x : Tree) (i j : ℕ) → Means looks h x i j → IsAtLeast (minimum_len x) i j
   minimum_len_sound empty i j m = omega arith
   minimum_len_sound (literal bytes) i j m = omega arith
   minimum_len_sound (byte_class []) i j m = true≢false (sym m.3)
   minimum_len_sound (byte_class (r ∷ rs)) i j m = omega arith
+  minimum_len_sound (char_class ranges) i j m = shortest ranges m.scalar i j m.member (member_len h ranges i j m)
+  minimum_len_sound (look l) i j m = let e = m.0 in omega arith
   minimum_len_sound (repetition low most greedy x) i j m =
-      IsAtLeast-times (Means h x) (minimum_len x) (minimum_len_sound x) (λ a b s. (IsSpan-Means h x a b s).forward) low m.0 i j m.1 m.3
+      IsAtLeast-times (Means looks h x) (minimum_len x) (minimum_len_sound x) (λ a b s. (IsSpan-Means looks h x a b s).forward) low m.0 i j m.1 m.3
+  minimum_len_sound (capture index name x) i j m = minimum_len_sound x i j m
   minimum_len_sound nothing i j m = omega arith
   minimum_len_sound (cat x y) i j m =
       IsAtLeast-sum_of_both (minimum_len x) (minimum_len y) i m.0 j (minimum_len_sound x i m.0 m.1) (minimum_len_sound y m.0 j m.2)
@@ -57,5 +70,5 @@ module _ (h : List ℕ) where
   above_zero (Some n) i j a l = omega arith
 
   -- a span of a tree whose minimum length is above 0 reads a byte
-  pub reads_a_byte : (x : Tree) → IsAboveZero (minimum_len x) → (i j : ℕ) → Means h x i j → i < j
+  pub reads_a_byte : (x : Tree) → IsAboveZero (minimum_len x) → (i j : ℕ) → Means looks h x i j → i < j
   reads_a_byte x a i j m = above_zero (minimum_len x) i j a (minimum_len_sound x i j m)

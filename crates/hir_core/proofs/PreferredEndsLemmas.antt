@@ -1,11 +1,12 @@
 -- The preferred ends are the ends of the spans that the tree means: no others, and all of them.
 use Rattle.std.proofs.Common.{◌≡◌, ℕ, zero, suc, ◌+◌, ◌-◌, ◌≤◌, Bool, true, List, length, Option, Some, None, slice_get, refl, sym, ap, ◌∙◌, subst, inl, inr, arith}
-use Rattle.hir_core.specs.Tree.{Tree, empty, literal, byte_class, repetition, nothing, cat, never, alt}
-use Rattle.hir_core.specs.Means.{Means, Rounds, AtMost, is_member}
+use Rattle.hir_core.specs.Tree.{Tree, empty, literal, byte_class, char_class, look, repetition, capture, nothing, cat, never, alt}
+use Rattle.hir_core.specs.Means.{Looks, SpellsMember, Means, Rounds, AtMost, is_member}
 use Rattle.hir_core.specs.PreferredEnds.{Ends, up_to, at_least, between, repeated, class_end, preferred_ends, Has}
 use Rattle.std.proofs.Math.Nat.{eq-or-lt_of_le}
 use Rattle.hir_core.proofs.HasLemmas.{Has-left, Has-right, Has-append, Has-flat_map, Has-into-flat_map, Has-in_order, Has-more, Has-stop, Has-if, Has-then}
 use Rattle.hir_core.proofs.SpanLemmas.{IsSpan, IsSpan-Means}
+use Rattle.hir_core.proofs.SpellingLemmas.{character_end_sound, character_end_complete}
 
 -- Each end of the body is a span of R, so each end of a repetition is of rounds of R.
 module _ (R : ℕ → ℕ → Type 0) (body : Ends) (sound : (i j : ℕ) → Has (body i) j → R i j) (greedy : Bool) where
@@ -45,22 +46,25 @@ class_end_sound : (ranges : List (ℕ × ℕ)) (o : Option ℕ) (i j : ℕ) → 
 class_end_sound ranges None i j g = elim g [ ]
 class_end_sound ranges (Some b) i j g = let one = Has-if _ (i + 1) j g in (sym one.1, b, refl, one.0)
 
-pub preferred_ends_sound : (h : List ℕ) (x : Tree) (i j : ℕ) → Has (preferred_ends h x i) j → Means h x i j
-preferred_ends_sound h empty i j (inl e) = e
-preferred_ends_sound h empty i j (inr g) = elim g [ ]
-preferred_ends_sound h (literal bytes) i j g = let one = Has-if _ (i + length bytes) j g in (sym one.1, one.0)
-preferred_ends_sound h (byte_class ranges) i j g = class_end_sound ranges (slice_get h i) i j g
-preferred_ends_sound h (repetition min most greedy x) i j g =
-    repeated_sound (Means h x) (preferred_ends h x) (preferred_ends_sound h x) greedy h min most i j g
-preferred_ends_sound h nothing i j (inl e) = e
-preferred_ends_sound h nothing i j (inr g) = elim g [ ]
-preferred_ends_sound h (cat x y) i j g =
-    let step = Has-flat_map (preferred_ends h y) (preferred_ends h x i) j g in
-    (step.0, preferred_ends_sound h x i step.0 step.1, preferred_ends_sound h y step.0 j step.2)
-preferred_ends_sound h never i j g = elim g [ ]
-preferred_ends_sound h (alt x y) i j g = elim (Has-append (preferred_ends h x i) (preferred_ends h y i) j g) [
-  | inl a ↦ inl (preferred_ends_sound h x i j a)
-  | inr b ↦ inr (preferred_ends_sound h y i j b)
+pub preferred_ends_sound : (looks : Looks) (h : List ℕ) (x : Tree) (i j : ℕ) → Has (preferred_ends looks h x i) j → Means looks h x i j
+preferred_ends_sound looks h empty i j (inl e) = e
+preferred_ends_sound looks h empty i j (inr g) = elim g [ ]
+preferred_ends_sound looks h (literal bytes) i j g = let one = Has-if _ (i + length bytes) j g in (sym one.1, one.0)
+preferred_ends_sound looks h (byte_class ranges) i j g = class_end_sound ranges (slice_get h i) i j g
+preferred_ends_sound looks h (char_class ranges) i j g = character_end_sound h ranges i j g
+preferred_ends_sound looks h (look l) i j g = let one = Has-if _ i j g in (one.1, one.0)
+preferred_ends_sound looks h (repetition min most greedy x) i j g =
+    repeated_sound (Means looks h x) (preferred_ends looks h x) (preferred_ends_sound looks h x) greedy h min most i j g
+preferred_ends_sound looks h (capture index name x) i j g = preferred_ends_sound looks h x i j g
+preferred_ends_sound looks h nothing i j (inl e) = e
+preferred_ends_sound looks h nothing i j (inr g) = elim g [ ]
+preferred_ends_sound looks h (cat x y) i j g =
+    let step = Has-flat_map (preferred_ends looks h y) (preferred_ends looks h x i) j g in
+    (step.0, preferred_ends_sound looks h x i step.0 step.1, preferred_ends_sound looks h y step.0 j step.2)
+preferred_ends_sound looks h never i j g = elim g [ ]
+preferred_ends_sound looks h (alt x y) i j g = elim (Has-append (preferred_ends looks h x i) (preferred_ends looks h y i) j g) [
+  | inl a ↦ inl (preferred_ends_sound looks h x i j a)
+  | inr b ↦ inr (preferred_ends_sound looks h y i j b)
 ]
 
 -- A round that reads nothing may be left out, so no more rounds are needed than bytes are left.
@@ -111,19 +115,22 @@ class_end_complete ranges None i j b e s t = cc
 class_end_complete ranges (Some c) i j b e s t =
     Has-then _ (i + 1) j (let same : c ≡ b = cc in ap (is_member ranges) same ∙ t) (sym e)
 
-pub preferred_ends_complete : (h : List ℕ) (x : Tree) (i j : ℕ) → Means h x i j → Has (preferred_ends h x i) j
-preferred_ends_complete h empty i j m = inl m
-preferred_ends_complete h (literal bytes) i j m = Has-then _ (i + length bytes) j m.1 (sym m.0)
-preferred_ends_complete h (byte_class ranges) i j m = class_end_complete ranges (slice_get h i) i j m.1 m.0 m.2 m.3
-preferred_ends_complete h (repetition min None greedy x) i j m =
-    at_least_complete (Means h x) (preferred_ends h x) (preferred_ends_complete h x) greedy h
-    (IsSpan-Means h x) min m.0 i j m.1 m.3
-preferred_ends_complete h (repetition min (Some most) greedy x) i j m =
-    between_complete (Means h x) (preferred_ends h x) (preferred_ends_complete h x) greedy min most m.0 i j m.1 m.2 m.3
-preferred_ends_complete h nothing i j m = inl m
-preferred_ends_complete h (cat x y) i j m =
-    Has-into-flat_map (preferred_ends h y) (preferred_ends h x i) m.0 j
-    (preferred_ends_complete h x i m.0 m.1) (preferred_ends_complete h y m.0 j m.2)
-preferred_ends_complete h never i j m = elim m [ ]
-preferred_ends_complete h (alt x y) i j (inl m) = Has-left (preferred_ends h x i) (preferred_ends h y i) j (preferred_ends_complete h x i j m)
-preferred_ends_complete h (alt x y) i j (inr m) = Has-right (preferred_ends h x i) (preferred_ends h y i) j (preferred_ends_complete h y i j m)
+pub preferred_ends_complete : (looks : Looks) (h : List ℕ) (x : Tree) (i j : ℕ) → Means looks h x i j → Has (preferred_ends looks h x i) j
+preferred_ends_complete looks h empty i j m = inl m
+preferred_ends_complete looks h (literal bytes) i j m = Has-then _ (i + length bytes) j m.1 (sym m.0)
+preferred_ends_complete looks h (byte_class ranges) i j m = class_end_complete ranges (slice_get h i) i j m.1 m.0 m.2 m.3
+preferred_ends_complete looks h (char_class ranges) i j m = character_end_complete h ranges i j m
+preferred_ends_complete looks h (look l) i j m = Has-then _ i j m.1 m.0
+preferred_ends_complete looks h (repetition min None greedy x) i j m =
+    at_least_complete (Means looks h x) (preferred_ends looks h x) (preferred_ends_complete looks h x) greedy h
+    (IsSpan-Means looks h x) min m.0 i j m.1 m.3
+preferred_ends_complete looks h (repetition min (Some most) greedy x) i j m =
+    between_complete (Means looks h x) (preferred_ends looks h x) (preferred_ends_complete looks h x) greedy min most m.0 i j m.1 m.2 m.3
+preferred_ends_complete looks h (capture index name x) i j m = preferred_ends_complete looks h x i j m
+preferred_ends_complete looks h nothing i j m = inl m
+preferred_ends_complete looks h (cat x y) i j m =
+    Has-into-flat_map (preferred_ends looks h y) (preferred_ends looks h x i) m.0 j
+    (preferred_ends_complete looks h x i m.0 m.1) (preferred_ends_complete looks h y m.0 j m.2)
+preferred_ends_complete looks h never i j m = elim m [ ]
+preferred_ends_complete looks h (alt x y) i j (inl m) = Has-left (preferred_ends looks h x i) (preferred_ends looks h y i) j (preferred_ends_complete looks h x i j m)
+preferred_ends_complete looks h (alt x y) i j (inr m) = Has-right (preferred_ends looks h x i) (preferred_ends looks h y i) j (preferred_ends_complete looks h y i j m)

@@ -2,6 +2,7 @@
 use Rattle.std.proofs.Common.{◌≡◌, ℕ, zero, suc, ◌+◌, ◌-◌, ◌<◌, ◌≤◌, Bool, true, false, List, [], ◌∷◌, length, Some, None, refl, sym, ap, ◌∙◌, arith}
 use Rattle.std.specs.List.{flat_map}
 use Rattle.hir_core.specs.Tree.{Tree, repetition}
+use Rattle.hir_core.specs.Means.{Looks}
 use Rattle.hir_core.specs.PreferredEnds.{Ends, in_order, exactly, up_to, between, unbounded, preferred_ends, Has}
 use Rattle.hir_core.specs.Facts.{minimum_len, IsAboveZero}
 use Rattle.hir_core.proofs.HasLemmas.{flat_map_same, nil_from_none}
@@ -38,44 +39,44 @@ module _ (h : List ℕ) (greedy : Bool) (body : Ends) (reading : (i k : ℕ) →
       (λ k r. let step = reading i k r in up_to_enough n (length h - k) k (omega arith) (omega arith)))
 
 -- while a round is owed, both bounds fall by one
-pub repetition_owed : (h : List ℕ) (greedy : Bool) (x : Tree) (min : ℕ) (i : ℕ) →
-    preferred_ends h (repetition (suc min) None greedy x) i
-    ≡ flat_map (preferred_ends h (repetition min None greedy x)) (preferred_ends h x i)
-repetition_owed h greedy x min i = refl
+pub repetition_owed : (looks : Looks) (h : List ℕ) (greedy : Bool) (x : Tree) (min : ℕ) (i : ℕ) →
+    preferred_ends looks h (repetition (suc min) None greedy x) i
+    ≡ flat_map (preferred_ends looks h (repetition min None greedy x)) (preferred_ends looks h x i)
+repetition_owed looks h greedy x min i = refl
 
-pub repetition_owed_bounded : (h : List ℕ) (greedy : Bool) (x : Tree) (min most : ℕ) (i : ℕ) →
-    preferred_ends h (repetition (suc min) (Some (suc most)) greedy x) i
-    ≡ flat_map (preferred_ends h (repetition min (Some most) greedy x)) (preferred_ends h x i)
-repetition_owed_bounded h greedy x min most i = refl
+pub repetition_owed_bounded : (looks : Looks) (h : List ℕ) (greedy : Bool) (x : Tree) (min most : ℕ) (i : ℕ) →
+    preferred_ends looks h (repetition (suc min) (Some (suc most)) greedy x) i
+    ≡ flat_map (preferred_ends looks h (repetition min (Some most) greedy x)) (preferred_ends looks h x i)
+repetition_owed_bounded looks h greedy x min most i = refl
 
 -- equal bounds: so many rounds
 between_exactly : (greedy : Bool) (body : Ends) (n i : ℕ) → between greedy body n n i ≡ exactly body n i
 between_exactly greedy body zero i = refl
 between_exactly greedy body (suc n) i = flat_map_same _ _ (body i) (λ k r. between_exactly greedy body n k)
 
-pub repetition_exact : (h : List ℕ) (greedy : Bool) (x : Tree) (n i : ℕ) →
-    preferred_ends h (repetition n (Some n) greedy x) i ≡ exactly (preferred_ends h x) n i
-repetition_exact h greedy x n i = between_exactly greedy (preferred_ends h x) n i
+pub repetition_exact : (looks : Looks) (h : List ℕ) (greedy : Bool) (x : Tree) (n i : ℕ) →
+    preferred_ends looks h (repetition n (Some n) greedy x) i ≡ exactly (preferred_ends looks h x) n i
+repetition_exact looks h greedy x n i = between_exactly greedy (preferred_ends looks h x) n i
 
 -- no round is owed and none is left
-pub repetition_stopped : (h : List ℕ) (greedy : Bool) (x : Tree) (i : ℕ) →
-    preferred_ends h (repetition 0 (Some 0) greedy x) i ≡ i ∷ []
-repetition_stopped h greedy x i = refl
+pub repetition_stopped : (looks : Looks) (h : List ℕ) (greedy : Bool) (x : Tree) (i : ℕ) →
+    preferred_ends looks h (repetition 0 (Some 0) greedy x) i ≡ i ∷ []
+repetition_stopped looks h greedy x i = refl
 
 -- no round is owed: more rounds, or stop
-pub repetition_more_bounded : (h : List ℕ) (greedy : Bool) (x : Tree) (most : ℕ) (i : ℕ) →
-    preferred_ends h (repetition 0 (Some (suc most)) greedy x) i
-    ≡ in_order greedy (flat_map (preferred_ends h (repetition 0 (Some most) greedy x)) (preferred_ends h x i)) i
-repetition_more_bounded h greedy x most i = refl
+pub repetition_more_bounded : (looks : Looks) (h : List ℕ) (greedy : Bool) (x : Tree) (most : ℕ) (i : ℕ) →
+    preferred_ends looks h (repetition 0 (Some (suc most)) greedy x) i
+    ≡ in_order greedy (flat_map (preferred_ends looks h (repetition 0 (Some most) greedy x)) (preferred_ends looks h x i)) i
+repetition_more_bounded looks h greedy x most i = refl
 
-pub repetition_more : (h : List ℕ) (greedy : Bool) (x : Tree) → IsAboveZero (minimum_len x) → (i : ℕ) →
-    preferred_ends h (repetition 0 None greedy x) i
-    ≡ in_order greedy (flat_map (preferred_ends h (repetition 0 None greedy x)) (preferred_ends h x i)) i
-repetition_more h greedy x a i =
-    unbounded-more h greedy (preferred_ends h x)
+pub repetition_more : (looks : Looks) (h : List ℕ) (greedy : Bool) (x : Tree) → IsAboveZero (minimum_len x) → (i : ℕ) →
+    preferred_ends looks h (repetition 0 None greedy x) i
+    ≡ in_order greedy (flat_map (preferred_ends looks h (repetition 0 None greedy x)) (preferred_ends looks h x i)) i
+repetition_more looks h greedy x a i =
+    unbounded-more h greedy (preferred_ends looks h x)
     (λ i k r.
-    let m = preferred_ends_sound h x i k r in
-    let longer = reads_a_byte h x a i k m in
-    let span = IsSpan-Means h x i k m in
+    let m = preferred_ends_sound looks h x i k r in
+    let longer = reads_a_byte looks h x a i k m in
+    let span = IsSpan-Means looks h x i k m in
     (longer, omega arith))
     i

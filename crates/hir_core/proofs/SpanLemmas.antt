@@ -3,11 +3,11 @@ use Rattle.std.proofs.Common.{◌≡◌, ℕ, zero, suc, ◌+◌, ◌≤◌, max
 use Rattle.std.proofs.lemmas.Option.{slice_get_within}
 use Rattle.std.proofs.lemmas.Slice.Eq.{starts_is}
 use Rattle.std.proofs.lemmas.Bool.Decides.{Decides-eqb}
-use Rattle.hir_core.specs.Tree.{Tree, empty, literal, byte_class, repetition, nothing, cat, never, alt}
-use Rattle.hir_core.specs.Means.{Means, Rounds, stands}
+use Rattle.hir_core.specs.Tree.{Tree, empty, literal, byte_class, char_class, look, repetition, capture, nothing, cat, never, alt}
+use Rattle.hir_core.specs.Means.{Looks, Means, Rounds, stands}
 
 -- bytes that stand at i begin the rest of the haystack
-stands_begin : (h : List ℕ) (i : ℕ) (bytes : List ℕ) → stands h i bytes ≡ true → drop i h ≡ bytes ++ drop (i + length bytes) h
+pub stands_begin : (h : List ℕ) (i : ℕ) (bytes : List ℕ) → stands h i bytes ≡ true → drop i h ≡ bytes ++ drop (i + length bytes) h
 stands_begin h i bytes t =
     (starts_is Decides-eqb (drop i h) bytes true (sym t)).0 refl ∙ ap (λ rest. bytes ++ rest) (drop-drop (length bytes) i h)
 
@@ -27,14 +27,17 @@ IsSpan-Rounds h R each (suc n) i j r =
     let others = IsSpan-Rounds h R each n r.0 j r.2 in
     record { forward = omega arith; within = omega arith }
 
-module _ (h : List ℕ) where
-  pub IsSpan-Means : (x : Tree) (i j : ℕ) → Means h x i j → IsSpan h i j
+module _ (looks : Looks) (h : List ℕ) where
+  pub IsSpan-Means : (x : Tree) (i j : ℕ) → Means looks h x i j → IsSpan h i j
   IsSpan-Means empty i j m = record { forward = omega arith; within = omega arith }
   IsSpan-Means (literal bytes) i j m = let fit = stands_fit h i bytes m.1 in record { forward = omega arith; within = omega arith }
   IsSpan-Means (byte_class ranges) i j m =
       let fit = slice_get_within h i m.1 m.2 in
       record { forward = omega arith; within = omega arith }
-  IsSpan-Means (repetition min most greedy x) i j m = IsSpan-Rounds h (Means h x) (IsSpan-Means x) m.0 i j m.3
+  IsSpan-Means (char_class ranges) i j m = let f = m.forward in let w = m.within in record { forward = f; within = omega arith }
+  IsSpan-Means (look l) i j m = let e = m.0 in record { forward = omega arith; within = omega arith }
+  IsSpan-Means (repetition min most greedy x) i j m = IsSpan-Rounds h (Means looks h x) (IsSpan-Means x) m.0 i j m.3
+  IsSpan-Means (capture index name x) i j m = IsSpan-Means x i j m
   IsSpan-Means nothing i j m = record { forward = omega arith; within = omega arith }
   IsSpan-Means (cat x y) i j m =
       let first = IsSpan-Means x i m.0 m.1 in
@@ -43,8 +46,8 @@ module _ (h : List ℕ) where
   IsSpan-Means never i j m = elim m [ ]
   IsSpan-Means (alt x y) i j m = ⊎_elim (IsSpan-Means x i j) (IsSpan-Means y i j) m
 
-  pub span_forward : (x : Tree) (i j : ℕ) → Means h x i j → i ≤ j
+  pub span_forward : (x : Tree) (i j : ℕ) → Means looks h x i j → i ≤ j
   span_forward x i j m = (IsSpan-Means x i j m).forward
 
-  pub span_within : (x : Tree) (i j : ℕ) → i ≤ length h → Means h x i j → j ≤ length h
+  pub span_within : (x : Tree) (i j : ℕ) → i ≤ length h → Means looks h x i j → j ≤ length h
   span_within x i j place m = let span = IsSpan-Means x i j m in omega arith

@@ -1,8 +1,11 @@
+pub mod Sequences
 pub mod Tree
 pub mod Means
 pub mod PreferredEnds
 pub mod Facts
+pub mod StandsIn
 pub mod Weight
+pub mod LookCode
 pub mod TreeCode
 pub mod Node
 pub mod Falls

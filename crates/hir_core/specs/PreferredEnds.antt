@@ -2,8 +2,9 @@
 -- An earlier part of an alternation is preferred, a greedy repetition prefers more rounds, a lazy one fewer.
 use Rattle.std.specs.Prelude.{◌≡◌, ℕ, zero, suc, ◌+◌, ◌-◌, Bool, true, false, List, [], ◌∷◌, ◌++◌, length, Option, Some, None, if◌then◌else◌, ◌⊎◌, slice_get}
 use Rattle.std.specs.List.{flat_map}
-use Rattle.hir_core.specs.Tree.{Tree, empty, literal, byte_class, repetition, nothing, cat, never, alt}
-use Rattle.hir_core.specs.Means.{stands, is_member}
+use Rattle.hir_core.specs.Tree.{Tree, empty, literal, byte_class, char_class, look, repetition, capture, nothing, cat, never, alt}
+use Rattle.search_core.specs.Characters.{character_at, spelling_len}
+use Rattle.hir_core.specs.Means.{Looks, stands, is_member}
 
 -- for each place the ends of the spans from there
 abbrev pub Ends : Type 0
@@ -50,16 +51,24 @@ abbrev pub class_end : List (ℕ × ℕ) → Option ℕ → Ends
 class_end ranges None i = []
 class_end ranges (Some b) i = if is_member ranges b then (i + 1) ∷ [] else []
 
--- the ends of the tree's spans of the haystack h from i, the preferred ones first
-abbrev pub preferred_ends : List ℕ → Tree → Ends
-preferred_ends h empty i = i ∷ []
-preferred_ends h (literal bytes) i = if stands h i bytes then (i + length bytes) ∷ [] else []
-preferred_ends h (byte_class ranges) i = class_end ranges (slice_get h i) i
-preferred_ends h (repetition min max greedy x) i = repeated h min max greedy (preferred_ends h x) i
-preferred_ends h nothing i = i ∷ []
-preferred_ends h (cat x y) i = flat_map (preferred_ends h y) (preferred_ends h x i)
-preferred_ends h never i = []
-preferred_ends h (alt x y) i = preferred_ends h x i ++ preferred_ends h y i
+-- the end of a character of a class, where a spelling of this character or of none begins at i
+abbrev pub character_end : List (ℕ × ℕ) → Option ℕ → Ends
+character_end ranges None i = []
+character_end ranges (Some c) i = if is_member ranges c then (i + spelling_len c) ∷ [] else []
+
+-- the ends of the tree's spans of the haystack h from i, the preferred ones first, with looks read so
+abbrev pub preferred_ends : Looks → List ℕ → Tree → Ends
+preferred_ends looks h empty i = i ∷ []
+preferred_ends looks h (literal bytes) i = if stands h i bytes then (i + length bytes) ∷ [] else []
+preferred_ends looks h (byte_class ranges) i = class_end ranges (slice_get h i) i
+preferred_ends looks h (char_class ranges) i = character_end ranges (character_at h i) i
+preferred_ends looks h (look l) i = if looks l i then i ∷ [] else []
+preferred_ends looks h (repetition min max greedy x) i = repeated h min max greedy (preferred_ends looks h x) i
+preferred_ends looks h (capture index name x) i = preferred_ends looks h x i
+preferred_ends looks h nothing i = i ∷ []
+preferred_ends looks h (cat x y) i = flat_map (preferred_ends looks h y) (preferred_ends looks h x i)
+preferred_ends looks h never i = []
+preferred_ends looks h (alt x y) i = preferred_ends looks h x i ++ preferred_ends looks h y i
 
 -- j is in the list
 abbrev pub Has : List ℕ → ℕ → Type 0

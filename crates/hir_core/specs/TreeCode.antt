@@ -3,7 +3,8 @@ use Rattle.std.specs.Prelude.{◌≡◌, ℕ, List, Option, refl}
 use Rattle.std.proofs.Common.{ap, arith}
 use base.Stored.{Gv, gnil, gnum, gcons, num}
 use Rattle.std.specs.Coded.{Coded, coded_ℕ, coded_bool, coded_list, coded_option, coded×}
-use Rattle.hir_core.specs.Tree.{Tree, empty, literal, byte_class, repetition, nothing, cat, never, alt}
+use Rattle.hir_core.specs.LookCode.{look_code}
+use Rattle.hir_core.specs.Tree.{Tree, empty, literal, byte_class, char_class, look, repetition, capture, nothing, cat, never, alt}
 
 -- the codes of a literal's bytes, of a class's ranges and of a repetition's upper bound
 abbrev pub bytes_code : Coded (List ℕ)
@@ -14,6 +15,10 @@ ranges_code = coded_list (coded× coded_ℕ coded_ℕ)
 
 abbrev pub bound_code : Coded (Option ℕ)
 bound_code = coded_option coded_ℕ
+
+-- the code of a group's name
+abbrev pub name_code : Coded (Option (List ℕ))
+name_code = coded_option bytes_code
 
 -- a tree as a ghost value: a number for its kind, and its parts
 abbrev pub tree_gv : Tree → Gv
@@ -26,6 +31,9 @@ tree_gv nothing = gcons (gnum 4) gnil
 tree_gv (cat x y) = gcons (gnum 5) (gcons (tree_gv x) (tree_gv y))
 tree_gv never = gcons (gnum 6) gnil
 tree_gv (alt x y) = gcons (gnum 7) (gcons (tree_gv x) (tree_gv y))
+tree_gv (char_class ranges) = gcons (gnum 8) (ranges_code.code ranges)
+tree_gv (look l) = gcons (gnum 9) (look_code.code l)
+tree_gv (capture index name x) = gcons (gnum 10) (gcons (gnum index) (gcons (name_code.code name) (tree_gv x)))
 
 -- the number in front, 0 where there is none
 abbrev pub tag : Gv → ℕ
@@ -42,6 +50,13 @@ tree_one (repetition a m g x) (repetition b n h y) e =
     let least : a ≡ b = cc in
     let most = bound_code.inj m n cc in
     let order = coded_bool.inj g h cc in
+    let body = tree_one x y cc in
+    cc
+tree_one (char_class a) (char_class b) e = ap char_class (ranges_code.inj a b cc)
+tree_one (look k) (look l) e = ap look (look_code.inj k l cc)
+tree_one (capture a m x) (capture b n y) e =
+    let index : a ≡ b = cc in
+    let name = name_code.inj m n cc in
     let body = tree_one x y cc in
     cc
 tree_one nothing nothing e = refl

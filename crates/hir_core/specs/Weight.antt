@@ -2,14 +2,17 @@
 use Rattle.std.specs.Prelude.{ℕ, ◌+◌, ◌≤◌, List, [], ◌∷◌}
 use Rattle.std.proofs.Common.{arith}
 use denote.Param.Weighed.{most}
-use Rattle.hir_core.specs.Tree.{Tree, empty, literal, byte_class, repetition, nothing, cat, never, alt, concat, alternation}
+use Rattle.hir_core.specs.Tree.{Tree, empty, literal, byte_class, char_class, look, repetition, capture, nothing, cat, never, alt, concat, alternation}
 
 -- one for the node, and the weights of its parts
 abbrev pub weight : Tree → ℕ
 weight empty = 1
 weight (literal bytes) = 1
 weight (byte_class ranges) = 1
+weight (char_class ranges) = 1
+weight (look l) = 1
 weight (repetition min most greedy x) = weight x + 1
+weight (capture index name x) = weight x + 1
 weight nothing = 1
 weight (cat x y) = weight x + weight y + 1
 weight never = 1

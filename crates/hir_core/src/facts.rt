@@ -1,27 +1,11 @@
 // The facts of a node from those of its parts.
 ghost use Rattle.std.specs.Prelude.{◌≡◌, ◌≤◌, IfSome};
 ghost use Rattle.hir_core.specs.Tree.{concat, alternation};
-ghost use Rattle.hir_core.specs.Facts.{minimum_len, height, count, repeated_count, sum_of_both, least_of_either, is_ascending};
+ghost use Rattle.hir_core.specs.Facts.{minimum_len, maximum_len, is_utf8_tree, height, count, repeated_count, sum_of_both, least_of_either, greatest_of_both, times, times_most};
 
 use crate::hir::Hir;
 
-/// Whether the ranges are ascending and disjoint, each with its start at most its end: what
-/// [`Hir::bytes`] asks for.
-pub fn is_ascending(ranges: &[(u8, u8)]) -> bool
-    ensures { result ≡ is_ascending ranges.now }
-{
-    let mut low = 0u16;
-    for range in ranges {
-        let (start, end) = *range;
-        if u16::from(start) < low || end < start {
-            return false;
-        }
-        low = u16::from(end) + 1;
-    }
-    true
-}
-
-fn sum_of_both(a: Option<usize>, b: Option<usize>) -> Option<usize>
+pub fn sum_of_both(a: Option<usize>, b: Option<usize>) -> Option<usize>
     ensures { result ≡ sum_of_both a b }
 {
     match (a, b) {
@@ -30,13 +14,43 @@ fn sum_of_both(a: Option<usize>, b: Option<usize>) -> Option<usize>
     }
 }
 
-fn least_of_either(a: Option<usize>, b: Option<usize>) -> Option<usize>
+pub fn least_of_either(a: Option<usize>, b: Option<usize>) -> Option<usize>
     ensures { result ≡ least_of_either a b }
 {
     match (a, b) {
         (Some(a), Some(b)) => Some(a.min(b)),
         (None, b) => b,
         (a, None) => a,
+    }
+}
+
+pub fn greatest_of_both(a: Option<usize>, b: Option<usize>) -> Option<usize>
+    ensures { result ≡ greatest_of_both a b }
+{
+    match (a, b) {
+        (Some(a), Some(b)) => Some(a.max(b)),
+        _ => None,
+    }
+}
+
+/// The least length of so many rounds of a body.
+pub fn times(rounds: usize, body: Option<usize>) -> Option<usize>
+    ensures { result ≡ times rounds body }
+{
+    match (rounds, body) {
+        (0, _) => Some(0),
+        (_, None) => None,
+        (rounds, Some(len)) => Some(len.saturating_mul(rounds)),
+    }
+}
+
+/// The greatest length of so many rounds of a body.
+pub fn times_most(rounds: Option<u32>, body: Option<usize>) -> Option<usize>
+    ensures { result ≡ times_most rounds body }
+{
+    match (rounds, body) {
+        (Some(rounds), Some(len)) => Some(len.saturating_mul(rounds as usize)),
+        _ => None,
     }
 }
 
@@ -58,6 +72,43 @@ pub fn alternation_minimum_len(subs: &[Hir]) -> Option<usize>
         least = least_of_either(subs[i].properties().minimum_len(), least);
     }
     least
+}
+
+pub fn concat_maximum_len(subs: &[Hir]) -> Option<usize>
+    ensures { result ≡ maximum_len (concat subs.now) }
+{
+    let mut total = Some(0usize);
+    for i in (0..subs.len()).rev() {
+        total = sum_of_both(subs[i].properties().maximum_len(), total);
+    }
+    total
+}
+
+pub fn alternation_maximum_len(subs: &[Hir]) -> Option<usize>
+    ensures { result ≡ maximum_len (alternation subs.now) }
+{
+    let mut longest = None;
+    for i in (0..subs.len()).rev() {
+        let part = subs[i].properties().maximum_len();
+        longest = if i + 1 == subs.len() {
+            part
+        } else {
+            greatest_of_both(part, longest)
+        };
+    }
+    longest
+}
+
+/// Whether the spans of all parts are seen to be UTF-8.
+pub fn are_utf8(subs: &[Hir]) -> bool
+    ensures concat { result ≡ is_utf8_tree (concat subs.now) }
+    ensures alternation { result ≡ is_utf8_tree (alternation subs.now) }
+{
+    let mut all = true;
+    for i in (0..subs.len()).rev() {
+        all = subs[i].properties().is_utf8() && all;
+    }
+    all
 }
 
 /// The height of a concatenation or an alternation.

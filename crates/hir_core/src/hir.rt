@@ -1,13 +1,12 @@
-ghost use Rattle.std.specs.Prelude.{◌≡◌, [], ◌≤◌, IfOk, IfSome, IsTrue};
-ghost use Rattle.hir_core.specs.Tree.{empty, literal, byte_class, repetition, concat, alternation};
+ghost use Rattle.std.specs.Prelude.{◌≡◌, [], ◌≤◌, IfOk, IfSome, IsTrue, option_map, string_bytes};
+ghost use Rattle.hir_core.specs.Tree.{empty, literal, byte_class, char_class, look, repetition, capture, concat, alternation};
 ghost use Rattle.hir_core.specs.Facts.{facts, height, count, is_ascending, IsWellFormed};
 ghost use Rattle.hir_core.specs.Node.{node};
 
-use crate::facts::{
-    alternation_count, alternation_minimum_len, concat_count, concat_minimum_len, height_over,
-    repetition_count,
-};
+use crate::class_facts::sequence_count;
+use crate::facts::{alternation_count, concat_count, height_over, repetition_count};
 use crate::properties::Properties;
+use look_core::Look;
 use std::alloc::{AllocError, Global};
 use std::marker::Model;
 
@@ -32,12 +31,23 @@ pub enum HirKind {
     Literal(Vec<u8>),
     /// One byte of one of the ranges, whose ends belong to them; no byte where there is no range.
     Bytes(Vec<(u8, u8)>),
+    /// The UTF-8 of one scalar of one of the ranges, whose ends belong to them; nothing where there is
+    /// no range.
+    Chars(Vec<(char, char)>),
+    /// No byte, at a place where the look holds.
+    Look(Look),
     /// At least `min` and at most `max` rounds of `sub`, without a bound where `max` is `None`. More
     /// rounds are preferred where it is greedy, and fewer where it is lazy.
     Repetition {
         min: u32,
         max: Option<u32>,
         greedy: bool,
+        sub: Box<Hir>,
+    },
+    /// What `sub` means, with its span kept as the group with this index and this name, if it has one.
+    Capture {
+        index: u32,
+        name: Option<String>,
         sub: Box<Hir>,
     },
     /// The parts, one after the other.
@@ -76,7 +86,7 @@ impl Hir {
     {
         Hir {
             kind: HirKind::Empty,
-            properties: Properties::new(Some(0)),
+            properties: Properties::of_empty(),
             height: 1,
             count: 1,
         }
@@ -93,12 +103,13 @@ impl Hir {
     pub fn literal(bytes: Vec<u8>) -> Hir
         ensures { result ≡ literal bytes.items }
     {
-        let len = bytes.len();
+        let properties = Properties::of_literal(&bytes);
+        let count = bytes.len().saturating_mul(2).saturating_add(1);
         Hir {
             kind: HirKind::Literal(bytes),
-            properties: Properties::new(Some(len)),
+            properties,
             height: 1,
-            count: len.saturating_mul(2).saturating_add(1),
+            count,
         }
     }
 
@@ -108,12 +119,40 @@ impl Hir {
         requires { IsTrue (is_ascending ranges.items) }
         ensures { result ≡ byte_class ranges.items }
     {
-        let minimum_len = if ranges.is_empty() { None } else { Some(1) };
+        let properties = Properties::of_bytes(&ranges);
         Hir {
             kind: HirKind::Bytes(ranges),
-            properties: Properties::new(minimum_len),
+            properties,
             height: 1,
             count: 2,
+        }
+    }
+
+    /// The UTF-8 of one scalar of one of the ranges, each of them with both its ends. The ranges have
+    /// to be ascending and disjoint, which [`is_ascending_chars`](crate::is_ascending_chars) tells.
+    pub fn chars(ranges: Vec<(char, char)>) -> Hir
+        requires { IsTrue (is_ascending ranges.items) }
+        ensures { result ≡ char_class ranges.items }
+    {
+        let properties = Properties::of_chars(&ranges);
+        let count = sequence_count(&ranges).saturating_mul(4).saturating_add(2);
+        Hir {
+            kind: HirKind::Chars(ranges),
+            properties,
+            height: 1,
+            count,
+        }
+    }
+
+    /// No byte, at a place where the look holds.
+    pub fn look(assertion: Look) -> Hir
+        ensures { result ≡ look assertion }
+    {
+        Hir {
+            kind: HirKind::Look(assertion),
+            properties: Properties::of_look(assertion),
+            height: 1,
+            count: 1,
         }
     }
 
@@ -130,13 +169,7 @@ impl Hir {
         requires { IfSome max (λ most. min ≤ most) }
         ensures { IfOk result (λ x. x ≡ repetition min max greedy sub) }
     {
-        let minimum_len = if min == 0 {
-            Some(0)
-        } else {
-            sub.properties
-                .minimum_len()
-                .map(|n| n.saturating_mul(min as usize))
-        };
+        let properties = sub.properties.repeated(min, max);
         let height = sub.height.saturating_add(1);
         let count = repetition_count(min as usize, max, sub.count);
         Ok(Hir {
@@ -146,7 +179,32 @@ impl Hir {
                 greedy,
                 sub: Box::new(alloc, sub)?,
             },
-            properties: Properties::new(minimum_len),
+            properties,
+            height,
+            count,
+        })
+    }
+
+    /// What `sub` means, with its span kept as the group with this index and this name, if it has one.
+    /// Refused only for want of memory, and then `sub` is given up.
+    pub fn capture(
+        alloc: Global,
+        index: u32,
+        name: Option<String>,
+        sub: Hir,
+    ) -> Result<Hir, AllocError>
+        ensures { IfOk result (λ x. x ≡ capture index (option_map string_bytes name) sub) }
+    {
+        let properties = sub.properties;
+        let height = sub.height.saturating_add(1);
+        let count = sub.count.saturating_add(2);
+        Ok(Hir {
+            kind: HirKind::Capture {
+                index,
+                name,
+                sub: Box::new(alloc, sub)?,
+            },
+            properties,
             height,
             count,
         })
@@ -156,7 +214,7 @@ impl Hir {
     pub fn concat(subs: Vec<Hir>) -> Hir
         ensures { result ≡ concat subs.items }
     {
-        let properties = Properties::new(concat_minimum_len(&subs));
+        let properties = Properties::of_concat(&subs);
         let height = height_over(&subs);
         let count = concat_count(&subs);
         Hir {
@@ -171,7 +229,7 @@ impl Hir {
     pub fn alternation(subs: Vec<Hir>) -> Hir
         ensures { result ≡ alternation subs.items }
     {
-        let properties = Properties::new(alternation_minimum_len(&subs));
+        let properties = Properties::of_alternation(&subs);
         let height = height_over(&subs);
         let count = alternation_count(&subs);
         Hir {
@@ -204,14 +262,79 @@ impl Hir {
         self.height
     }
 
-    /// A bound on the states of an automaton for the tree: 1 for the empty text, 2k + 1 for a literal
-    /// of k bytes, 2 for a byte class, 1 and the sum of its parts for a concatenation, 4 and the sum
-    /// for an alternation. A repetition has `min` copies of its body, one more than a copy for each
-    /// further round up to `max`, and 1; without a bound at least one copy, and 3. Sums stop at
+    /// A bound on the states of an automaton for the tree: 1 for the empty text and for a look, 2k + 1
+    /// for a literal of k bytes, 2 for a byte class, 2 and four times the sequences of byte ranges for a
+    /// scalar class, 2 and its body's for a capture, 1 and the sum of its parts for a concatenation, 4
+    /// and the sum for an alternation. A repetition has `min` copies of its body, one more than a copy
+    /// for each further round up to `max`, and 1; without a bound at least one copy, and 3. Sums stop at
     /// `usize::MAX`.
     pub fn count(&self) -> usize
         ensures { result ≡ count self.now }
     {
         self.count
     }
+
+    /// A copy of the tree. Refused only for want of memory.
+    #[cycle(try_clone)]
+    pub fn try_clone(&self, alloc: Global) -> Result<Hir, AllocError>
+        ensures { IfOk result (λ x. x ≡ self.now) }
+    {
+        Ok(Hir {
+            kind: clone_kind(&self.kind, alloc)?,
+            properties: self.properties,
+            height: self.height,
+            count: self.count,
+        })
+    }
+}
+
+#[cycle(try_clone)]
+fn clone_kind(kind: &HirKind, alloc: Global) -> Result<HirKind, AllocError>
+    ensures { IfOk result (λ copy. node copy ≡ node kind.now) }
+{
+    Ok(match kind {
+        HirKind::Empty => HirKind::Empty,
+        HirKind::Literal(bytes) => HirKind::Literal(bytes.to_vec(alloc)?),
+        HirKind::Bytes(ranges) => HirKind::Bytes(ranges.to_vec(alloc)?),
+        HirKind::Chars(ranges) => HirKind::Chars(ranges.to_vec(alloc)?),
+        HirKind::Look(look) => HirKind::Look(*look),
+        HirKind::Repetition {
+            min,
+            max,
+            greedy,
+            sub,
+        } => HirKind::Repetition {
+            min: *min,
+            max: *max,
+            greedy: *greedy,
+            sub: Box::new(alloc, sub.try_clone(alloc)?)?,
+        },
+        HirKind::Capture { index, name, sub } => HirKind::Capture {
+            index: *index,
+            name: clone_name(name, alloc)?,
+            sub: Box::new(alloc, sub.try_clone(alloc)?)?,
+        },
+        HirKind::Concat(subs) => HirKind::Concat(clone_all(subs, alloc)?),
+        HirKind::Alternation(subs) => HirKind::Alternation(clone_all(subs, alloc)?),
+    })
+}
+
+fn clone_name(name: &Option<String>, alloc: Global) -> Result<Option<String>, AllocError>
+    ensures { IfOk result (λ copy. option_map string_bytes copy ≡ option_map string_bytes name.now) }
+{
+    match name {
+        None => Ok(None),
+        Some(name) => Ok(Some(String::from_str(alloc, name)?)),
+    }
+}
+
+#[cycle(try_clone)]
+fn clone_all(subs: &[Hir], alloc: Global) -> Result<Vec<Hir>, AllocError>
+    ensures { IfOk result (λ copies. copies.items ≡ subs.now) }
+{
+    let mut copies = Vec::new(alloc);
+    for sub in subs {
+        copies.push(sub.try_clone(alloc)?)?;
+    }
+    Ok(copies)
 }

@@ -2,7 +2,7 @@
 use Rattle.std.proofs.Common.{◌≡◌, ℕ, zero, suc, ◌+◌, ◌-◌, ◌<◌, ◌≤◌, ◌&&◌, Bool, true, false, cond, if◌then◌else◌, List, [], ◌∷◌, ◌++◌, Option, Some, None, nat_eq, refl, sym, ap, ◌∙◌, inl, inr, arith, append-nil, append_assoc, eq-eqb}
 use Rattle.std.specs.List.{All}
 use Rattle.std.proofs.lemmas.Bool.{cases_lt}
-use Rattle.hirscan.specs.declared.found.Found.{Found}
+use Rattle.search_types.specs.Found.{Found}
 use Rattle.hirscan.specs.AllAnswers.{is_repeat, and_on, next_answer, answers_from, all_answers, AnswersWithin, EndsRise}
 
 -- one more answer is written

@@ -1,6 +1,7 @@
 -- A line that is taken has no fault and one effect, and doesn't end the head.
 use Rattle.std.proofs.Common.{◌≡◌, ◌≢◌, ◌⊎◌, ℕ, suc, ◌+◌, ◌-◌, Bool, true, false, not, List, [], ◌∷◌, ◌++◌, length, get_or, take, drop, map, Option, Some, None, nat_lt, nat_le, eqb, refl, sym, ◌∙◌, ap, inl, inr, arith, length-append}
 use Rattle.std.specs.Prelude.{unwrap_or}
+use Rattle.std.proofs.Math.Bool.{and-false}
 use Rattle.std.proofs.lemmas.Bool.{le-ltb, le-leb}
 use Rattle.std.proofs.lemmas.List.{take_at, drop_at}
 use Rattle.hir_core.specs.Tree.{Tree, empty, literal, byte_class, repetition, concat, alternation}
@@ -9,14 +10,14 @@ use Rattle.hir_core.specs.Facts.{height}
 use Rattle.hirscan.specs.declared.fault.FaultKind.{FaultKind}
 use Rattle.hirscan.specs.declared.fault.FaultKind.TheVariants.{BadNumber, BadHex, BadChoice}
 use Rattle.hirscan.specs.declared.words.LineWord.{LineWord}
-use Rattle.hirscan.specs.declared.words.LineWord.TheVariants.{Empty, Lit, Bytes, Rep, Cat, Alt, Pattern, Find}
+use Rattle.hirscan.specs.declared.words.LineWord.TheVariants.{Utf8, Anchored, Span, Empty, Lit, Bytes, Rep, Cat, Alt, Pattern, Find}
 use Rattle.hirscan.specs.declared.line.Step.TheVariants.{Next, End}
 use Rattle.hirscan.specs.Words.{class_ranges}
-use Rattle.hirscan.specs.Readers.{spelling, line_word, number, the_number, bound, the_bound, order, the_order, hex_bytes, the_bytes, the_ends}
-use Rattle.hirscan.specs.Takes.{Standing, Replaces, Takes, empty_line, lit_line, bytes_line, rep_line, cat_line, alt_line, pattern_line, EndsHead}
-use Rattle.hirscan.specs.LineFault.{first_of, unless_read, is_at_most, top, below, known_fault, fault_after, fault, after}
+use Rattle.hirscan.specs.Readers.{spelling, line_word, number, the_number, bound, the_bound, order, the_order, switch, the_switch, yes_or_no, the_yes_or_no, hex_bytes, the_bytes, the_ends}
+use Rattle.hirscan.specs.Takes.{Settings, Standing, Sets, Replaces, Takes, utf8_line, anchored_line, span_line, empty_line, lit_line, bytes_line, rep_line, cat_line, alt_line, pattern_line, EndsHead}
+use Rattle.hirscan.specs.LineFault.{first_of, unless_read, is_at_most, top, below, known_fault, is_setting, is_setting_after_node, fault_after, fault, after}
 use Rattle.hirscan.specs.Tells.{step_after}
-use Rattle.hirscan.proofs.SaysLemmas.{line_word_spelled, line_word-spelling, number_said, bound_said, order_said, hex_bytes_said, items_said}
+use Rattle.hirscan.proofs.SaysLemmas.{line_word_spelled, line_word-spelling, number_said, bound_said, order_said, switch_said, yes_said, hex_bytes_said, items_said}
 use Rattle.hirscan.proofs.TakesLemmas.{NoFault, no_fault_parts, no_fault_from_parts, takes_after, ends_head}
 
 -- a line that was taken, by its first word
@@ -33,12 +34,14 @@ record Replaced (p q : Standing) (n : ℕ) (parts : List Tree) (new : Tree) : Ty
   enough : nat_lt (length p.stack) n ≡ false
   top_is : top n p.stack ≡ parts
   flat : nat_lt 250 (height new) ≡ false
-  is : q ≡ record { stack = below n p.stack ++ new ∷ []; patterns = p.patterns }
+  is : q ≡ record { settings = p.settings; stack = below n p.stack ++ new ∷ []; patterns = p.patterns }
 
-same_standing : (p q : Standing) → p.stack ≡ q.stack → p.patterns ≡ q.patterns → p ≡ q
-same_standing p q e f =
-    let g : p ≡ record { stack = q.stack; patterns = p.patterns } = ap (λ s. record { stack = s; patterns = p.patterns }) e in
-    g ∙ ap (λ s. record { stack = q.stack; patterns = s }) f
+same_standing : (p q : Standing) → p.settings ≡ q.settings → p.stack ≡ q.stack → p.patterns ≡ q.patterns → p ≡ q
+same_standing p q d e f =
+    let g : p ≡ record { settings = q.settings; stack = p.stack; patterns = p.patterns } = ap (λ s. record { settings = s; stack = p.stack; patterns = p.patterns }) d in
+    let h : record { settings = q.settings; stack = p.stack; patterns = p.patterns } ≡ record { settings = q.settings; stack = q.stack; patterns = p.patterns } =
+    ap (λ s. record { settings = q.settings; stack = s; patterns = p.patterns }) e in
+    g ∙ (h ∙ ap (λ s. record { settings = q.settings; stack = q.stack; patterns = s }) f)
 
 replaced : (p q : Standing) (n : ℕ) (parts : List Tree) (new : Tree) → Replaces p q parts new → length parts ≡ n → Replaced p q n parts new
 replaced p q n parts new r l =
@@ -50,12 +53,12 @@ replaced p q n parts new r l =
       enough = le-ltb (length p.stack) n (omega arith);
       top_is = ap (λ s. drop (length p.stack - n) s) r.stack_was ∙ drop_at r.below parts (length p.stack - n) cut;
       flat = le-ltb 250 (height new) r.not_too_deep;
-      is = same_standing q _ (r.stack_is ∙ ap (λ s. s ++ new ∷ []) (sym low)) r.patterns_stay;
+      is = same_standing q _ r.settings_stay (r.stack_is ∙ ap (λ s. s ++ new ∷ []) (sym low)) r.patterns_stay;
     }
 
 -- the new tree, spelled another way
 replaced_by : (p q : Standing) (n : ℕ) (parts : List Tree) (new other : Tree) → Replaced p q n parts new → other ≡ new
-    → (nat_lt 250 (height other) ≡ false) × (q ≡ record { stack = below n p.stack ++ other ∷ []; patterns = p.patterns })
+    → (nat_lt 250 (height other) ≡ false) × (q ≡ record { settings = p.settings; stack = below n p.stack ++ other ∷ []; patterns = p.patterns })
 replaced_by p q n parts new other r e = rw e (r.flat, r.is)
 
 same_repetition : (a b : ℕ) (m n : Option ℕ) (g h : Bool) (x y : Tree) → a ≡ b → m ≡ n → g ≡ h → x ≡ y → repetition a m g x ≡ repetition b n h y
@@ -78,7 +81,55 @@ counted_items (w ∷ ws) h = le-leb 1 (suc (length ws)) (omega arith)
 three_read : (a b c : Option FaultKind) → a ≡ None → b ≡ None → c ≡ None → first_of (a ∷ b ∷ c ∷ []) ≡ None
 three_read a b c e f g = rw (e, f, g) refl
 
+two_read : (a b : Option FaultKind) → a ≡ None → b ≡ None → first_of (a ∷ b ∷ []) ≡ None
+two_read a b e f = rw (e, f) refl
+
+-- a line that sets something stands before each node
+before_nodes : (p : Standing) (k : LineWord) → p.stack ≡ [] → p.patterns ≡ [] → is_setting_after_node k p ≡ false
+before_nodes p k e f = rw (e, f) (and-false (is_setting k))
+
+-- the settings were set
+set_done : (p q : Standing) (new other : Settings) → Sets p q new → other ≡ new
+    → q ≡ record { settings = other; stack = p.stack; patterns = p.patterns }
+set_done p q new other s e = same_standing q _ (s.settings_are ∙ sym e) s.stack_stays s.patterns_stay
+
 pub takes_done : (ws : List (List ℕ)) (p q : Standing) → Takes ws p q → Done ws p q
+takes_done ws p q (utf8_line w on e is s) =
+    let a = switch_said w on is in
+    let a' : the_switch w ≡ on = ap (λ o. unwrap_or o false) a in
+    record {
+      word = Utf8;
+      args = w ∷ [];
+      says = e;
+      goes_on = refl;
+      no_fault = record { settable = before_nodes p Utf8 s.no_node.stack_empty s.no_node.no_pattern; counted = refl; words_fit = read (switch w) on BadChoice a; in_order = refl; enough = le-ltb (length p.stack) 0 (omega arith); flat = refl; one_tree = refl; none_left = refl };
+      is = set_done p q _ _ s (ap (λ b. record { utf8 = b; anchored = p.settings.anchored; span = p.settings.span }) a');
+    }
+takes_done ws p q (anchored_line w said e is s) =
+    let a = yes_said w said is in
+    let a' : the_yes_or_no w ≡ said = ap (λ o. unwrap_or o false) a in
+    record {
+      word = Anchored;
+      args = w ∷ [];
+      says = e;
+      goes_on = refl;
+      no_fault = record { settable = before_nodes p Anchored s.no_node.stack_empty s.no_node.no_pattern; counted = refl; words_fit = read (yes_or_no w) said BadChoice a; in_order = refl; enough = le-ltb (length p.stack) 0 (omega arith); flat = refl; one_tree = refl; none_left = refl };
+      is = set_done p q _ _ s (ap (λ b. record { utf8 = p.settings.utf8; anchored = b; span = p.settings.span }) a');
+    }
+takes_done ws p q (span_line low high start end e is_start is_end s) =
+    let a = number_said low start is_start in
+    let b = number_said high end is_end in
+    let a' : the_number low ≡ start = ap (λ o. unwrap_or o 0) a in
+    let b' : the_number high ≡ end = ap (λ o. unwrap_or o 0) b in
+    record {
+      word = Span;
+      args = low ∷ high ∷ [];
+      says = e;
+      goes_on = refl;
+      no_fault = record { settable = before_nodes p Span s.no_node.stack_empty s.no_node.no_pattern; counted = refl; words_fit = two_read _ _ (read (number low) start BadNumber a) (read (number high) end BadNumber b); in_order = refl; enough = le-ltb (length p.stack) 0 (omega arith); flat = refl; one_tree = refl; none_left = refl };
+      is = set_done p q _ _ s (ap (λ x. record { utf8 = p.settings.utf8; anchored = p.settings.anchored; span = Some (x, the_number high) }) a'
+          ∙ ap (λ x. record { utf8 = p.settings.utf8; anchored = p.settings.anchored; span = Some (start, x) }) b');
+    }
 takes_done ws p q (empty_line e r) =
     let d = replaced p q 0 [] empty r refl in
     record {
@@ -86,7 +137,7 @@ takes_done ws p q (empty_line e r) =
       args = [];
       says = e;
       goes_on = refl;
-      no_fault = record { first_pattern = refl; counted = refl; words_fit = refl; in_order = refl; enough = d.enough; flat = d.flat; one_tree = refl; none_left = refl };
+      no_fault = record { settable = refl; counted = refl; words_fit = refl; in_order = refl; enough = d.enough; flat = d.flat; one_tree = refl; none_left = refl };
       is = d.is;
     }
 takes_done ws p q (lit_line w bytes e hex r) =
@@ -99,7 +150,7 @@ takes_done ws p q (lit_line w bytes e hex r) =
       args = w ∷ [];
       says = e;
       goes_on = refl;
-      no_fault = record { first_pattern = refl; counted = refl; words_fit = read (hex_bytes w) bytes BadHex h; in_order = refl; enough = d.enough; flat = refl; one_tree = refl; none_left = refl };
+      no_fault = record { settable = refl; counted = refl; words_fit = read (hex_bytes w) bytes BadHex h; in_order = refl; enough = d.enough; flat = refl; one_tree = refl; none_left = refl };
       is = b.1;
     }
 takes_done ws p q (bytes_line items ranges e some are r) =
@@ -112,7 +163,7 @@ takes_done ws p q (bytes_line items ranges e some are r) =
       args = items;
       says = e;
       goes_on = refl;
-      no_fault = record { first_pattern = refl; counted = counted_items items some; words_fit = h.0; in_order = refl; enough = d.enough; flat = refl; one_tree = refl; none_left = refl };
+      no_fault = record { settable = refl; counted = counted_items items some; words_fit = h.0; in_order = refl; enough = d.enough; flat = refl; one_tree = refl; none_left = refl };
       is = b.1;
     }
 takes_done ws p q (rep_line low high ord min max greedy x e is_min is_max is_order ordered r) =
@@ -132,7 +183,7 @@ takes_done ws p q (rep_line low high ord min max greedy x e is_min is_max is_ord
       says = e;
       goes_on = refl;
       no_fault = record {
-        first_pattern = refl;
+        settable = refl;
         counted = refl;
         words_fit = three_read _ _ _ (read (number low) min BadNumber a) (read (bound high) max BadNumber b) (read (order ord) greedy BadChoice c);
         in_order = above_same (the_number low) min (the_bound high) max a' b' ordered;
@@ -153,7 +204,7 @@ takes_done ws p q (cat_line w n parts e is len r) =
       args = w ∷ [];
       says = e;
       goes_on = refl;
-      no_fault = record { first_pattern = refl; counted = refl; words_fit = read (number w) n BadNumber a; in_order = refl; enough = d.enough; flat = f.0; one_tree = refl; none_left = refl };
+      no_fault = record { settable = refl; counted = refl; words_fit = read (number w) n BadNumber a; in_order = refl; enough = d.enough; flat = f.0; one_tree = refl; none_left = refl };
       is = f.1;
     }
 takes_done ws p q (alt_line w n parts e is len r) =
@@ -166,7 +217,7 @@ takes_done ws p q (alt_line w n parts e is len r) =
       args = w ∷ [];
       says = e;
       goes_on = refl;
-      no_fault = record { first_pattern = refl; counted = refl; words_fit = read (number w) n BadNumber a; in_order = refl; enough = d.enough; flat = f.0; one_tree = refl; none_left = refl };
+      no_fault = record { settable = refl; counted = refl; words_fit = read (number w) n BadNumber a; in_order = refl; enough = d.enough; flat = f.0; one_tree = refl; none_left = refl };
       is = f.1;
     }
 takes_done ws p q (pattern_line e t) =
@@ -176,7 +227,7 @@ takes_done ws p q (pattern_line e t) =
       says = e;
       goes_on = refl;
       no_fault = record {
-        first_pattern = ap (λ s. nat_lt 0 (length s)) t.none_before;
+        settable = refl;
         counted = refl;
         words_fit = refl;
         in_order = refl;
@@ -185,7 +236,7 @@ takes_done ws p q (pattern_line e t) =
         one_tree = ap (λ s. not (eqb (length s) 1)) t.stack_was;
         none_left = refl;
       };
-      is = same_standing q _ t.stack_is (t.patterns_are ∙ ap (λ s. p.patterns ++ s) (sym t.stack_was));
+      is = same_standing q _ t.settings_stay t.stack_is (t.patterns_are ∙ ap (λ s. p.patterns ++ s) (sym t.stack_was));
     }
 
 known_fault_of : (ws args : List (List ℕ)) (k : LineWord) (p : Standing) → ws ≡ spelling k ∷ args → fault ws p ≡ known_fault k args p
@@ -200,7 +251,7 @@ pub ends_no_fault : (ws : List (List ℕ)) (p : Standing) → EndsHead ws p → 
 ends_no_fault ws p h =
     known_fault_of ws [] Find p h.says_find
     ∙ no_fault_from_parts Find [] p (record {
-      first_pattern = refl;
+      settable = refl;
       counted = refl;
       words_fit = refl;
       in_order = refl;
@@ -212,6 +263,9 @@ ends_no_fault ws p h =
 
 step_cases : (k : LineWord) → (step_after k ≡ Next) ⊎ (k ≡ Find)
 step_cases Find = inr refl
+step_cases Utf8 = inl refl
+step_cases Anchored = inl refl
+step_cases Span = inl refl
 step_cases Empty = inl refl
 step_cases Lit = inl refl
 step_cases Bytes = inl refl

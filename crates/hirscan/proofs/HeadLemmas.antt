@@ -1,5 +1,5 @@
 -- A head, line by line: whatever reads, or is faulty, behind the lines so far gives that of the whole text.
-use Rattle.std.proofs.Common.{◌≡◌, ℕ, ◌+◌, List, ◌∷◌, length, refl, ap, arith, length-append}
+use Rattle.std.proofs.Common.{◌≡◌, ℕ, ◌+◌, List, [], ◌∷◌, length, refl, sym, ◌∙◌, ap, arith, length-append}
 use Rattle.hir_core.specs.Tree.{Tree}
 use Rattle.hirscan.specs.declared.fault.FaultKind.{FaultKind}
 use Rattle.hirscan.specs.declared.fault.FaultKind.TheVariants.{NoFindLine}
@@ -13,7 +13,7 @@ use Rattle.hirscan.specs.Reads.{IsOneLine, Reads, reads_find, reads_line, IsFaul
 
 -- this many bytes and lines of the text were read, and this rest and these trees are there
 pub record Behind (text rest : List ℕ) (here : Standing) (at lines : ℕ) : Type 0 where
-  pub reads : (patterns : List Tree) (n : ℕ) → Reads rest here patterns n → Reads text at_first patterns (at + n)
+  pub reads : (found : Standing) (n : ℕ) → Reads rest here found n → Reads text at_first found (at + n)
   pub faults : (k : ℕ) (kind : FaultKind) → IsFaultAt rest here k kind → IsFaultAt text at_first (lines + k) kind
 
 pub length-cut : (text line rest : List ℕ) → CutsLine text line rest → length text ≡ length line + (length rest + 1)
@@ -22,18 +22,18 @@ length-cut text line rest cut = omega (arith, ap length cut.parts, length-append
 pub behind_more : (text rest line next : List ℕ) (here there : Standing) (at lines : ℕ) → Behind text rest here at lines → CutsLine rest line next
     → Takes (words line) here there → Behind text next there (at + (length line + 1)) (lines + 1)
 behind_more text rest line next here there at lines b cut taken = record {
-  reads = λ patterns m h.
+  reads = λ found m h.
       let e : (at + (length line + 1)) + m ≡ at + ((length line + 1) + m) = omega arith in
-      rw e (b.reads patterns _ (reads_line rest line next here there patterns _ m cut.parts cut.one_line taken h refl));
+      rw e (b.reads found _ (reads_line rest line next here there found _ m cut.parts cut.one_line taken h refl));
   faults = λ k kind h.
       let e : (lines + 1) + k ≡ lines + (k + 1) = omega arith in
       rw e (b.faults _ kind (faulty_later rest line next here there _ k kind cut.parts cut.one_line taken h refl));
 }
 
-pub reads_at_find : (text rest line next : List ℕ) (here : Standing) (patterns : List Tree) (at lines : ℕ) → Behind text rest here at lines
-    → CutsLine rest line next → EndsHead (words line) here → patterns ≡ here.patterns → Reads text at_first patterns (at + (length line + 1))
-reads_at_find text rest line next here patterns at lines b cut ends p =
-    b.reads patterns (length line + 1) (reads_find rest line next here patterns (length line + 1) cut.parts cut.one_line ends p refl)
+pub reads_at_find : (text rest line next : List ℕ) (here found : Standing) (at lines : ℕ) → Behind text rest here at lines
+    → CutsLine rest line next → EndsHead (words line) here → found ≡ here → Reads text at_first found (at + (length line + 1))
+reads_at_find text rest line next here found at lines b cut ends p =
+    b.reads found (length line + 1) (reads_find rest line next here found (length line + 1) cut.parts cut.one_line ends p refl)
 
 pub fault_in_line : (text rest line next : List ℕ) (here : Standing) (at lines : ℕ) (e : LineFault) → Behind text rest here at lines
     → CutsLine rest line next → TellsLineFault (fault (words line) here) e → TellsFault text (on_line e (lines + 1))
@@ -44,3 +44,9 @@ fault_in_line text rest line next here at lines of_line.NoMemory b cut e = tt
 pub fault_at_end : (text rest : List ℕ) (here : Standing) (at lines : ℕ) → Behind text rest here at lines → IsOneLine rest
     → IsFaultAt text at_first (lines + 1) NoFindLine
 fault_at_end text rest here at lines b one = b.faults 1 NoFindLine (no_line_feed rest here 1 NoFindLine one refl refl)
+
+-- what stands at the end of a head has no tree left over
+pub standing_at_end : (now here : Standing) → now ≡ here → here.stack ≡ [] → record { settings = now.settings; stack = []; patterns = now.patterns } ≡ here
+standing_at_end now here e none =
+    let left : now.stack ≡ [] = ap (λ (s : Standing). s.stack) e ∙ none in
+    sym (ap (λ (s : List Tree). record { settings = now.settings; stack = s; patterns = now.patterns }) left) ∙ e

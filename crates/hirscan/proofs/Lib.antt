@@ -1,11 +1,11 @@
 pub mod RoundLemmas
 pub mod WalkLemmas
 pub mod PartLemmas
+pub mod CharacterLemmas
 pub mod ChoiceLemmas
 pub mod AnswerLemmas
 pub mod AllAnswersLemmas
 pub mod LoopLemmas
-mod AnswerRows
 pub mod WordLemmas
 pub mod RangeLemmas
 pub mod StackLemmas
@@ -15,8 +15,10 @@ pub mod TakesLemmas
 pub mod HeadLemmas
 pub mod EffectLemmas
 pub mod ReadsLemmas
+pub mod SomeReadsLemmas
 mod NotationRows
 pub mod SliceLemmas
+pub mod CauseLemmas
 pub mod ReplyLemmas
 pub mod RunLemmas
 pub mod OneReplyLemmas

@@ -3,7 +3,7 @@ use Rattle.std.proofs.Common.{◌≡◌, ℕ, zero, suc, true, List, [], ◌∷�
 use Rattle.hex.proofs.OnLiterals.{hex_on_literals}
 use Rattle.hir_core.specs.Tree.{Tree, empty, repetition}
 use Rattle.hirscan.specs.declared.fault.FaultKind.{FaultKind}
-use Rattle.hirscan.specs.declared.fault.FaultKind.TheVariants.{UnknownWord, WrongWordCount, BadNumber, BadHex, BadRange, BadChoice, MinAboveMax, TooFewTrees, TooDeep, NotOneTree, TreeLeftOver}
+use Rattle.hirscan.specs.declared.fault.FaultKind.TheVariants.{UnknownWord, SettingAfterNode, WrongWordCount, BadNumber, BadHex, BadRange, BadChoice, MinAboveMax, TooFewTrees, TooDeep, NotOneTree, TreeLeftOver}
 use Rattle.hirscan.specs.Words.{words, class_ranges}
 use Rattle.hirscan.specs.Readers.{number, bound, hex_bytes, item_ends}
 use Rattle.hirscan.specs.Takes.{Standing, at_first}
@@ -61,7 +61,7 @@ joined = refl
 
 -- where these trees are on the stack
 abbrev on_stack : List Tree → Standing
-on_stack trees = record { stack = trees; patterns = [] }
+on_stack trees = record { settings = at_first.settings; stack = trees; patterns = [] }
 
 abbrev line : List ℕ → Standing → Option FaultKind
 line text at = fault (words text) at
@@ -72,8 +72,21 @@ unknown = refl
 capital : line (codes "Empty") at_first ≡ Some UnknownWord
 capital = refl
 
-second_pattern : line (codes "pattern") (record { stack = []; patterns = empty ∷ [] }) ≡ Some UnknownWord
-second_pattern = refl
+setting_after_pattern : line (codes "utf8 off") (record { settings = at_first.settings; stack = []; patterns = empty ∷ [] }) ≡ Some SettingAfterNode
+setting_after_pattern = refl
+
+-- before the count of its words, and before its words
+setting_after_node : line (codes "span 1") (on_stack (empty ∷ [])) ≡ Some SettingAfterNode
+setting_after_node = refl
+
+setting_before_node : line (codes "anchored yes") at_first ≡ None
+setting_before_node = refl
+
+no_choice : line (codes "utf8 yes") at_first ≡ Some BadChoice
+no_choice = refl
+
+no_end : line (codes "span 1 x") at_first ≡ Some BadNumber
+no_end = refl
 
 stray_space : line (codes "empty ") at_first ≡ Some WrongWordCount
 stray_space = refl

@@ -3,7 +3,7 @@ use Rattle.std.proofs.Common.{◌≡◌, ℕ, zero, suc, ◌+◌, ◌<◌, ◌�
 use Rattle.std.specs.List.{flat_map}
 use Rattle.hir_core.specs.Tree.{Tree, concat, alternation}
 use Rattle.hir_core.specs.Weight.{weight}
-use Rattle.hir_core.specs.PreferredEnds.{preferred_ends}
+use Rattle.hirscan.specs.PlainEnds.{plain_ends}
 use Rattle.hir_core.proofs.HasLemmas.{flat_map-flat_map}
 
 pub weight_in_concat : (xs : List Tree) (i : ℕ) (d : Tree) → i < length xs → weight (get_or xs i d) < weight (concat xs)
@@ -31,14 +31,14 @@ flat_map_one (x ∷ xs) = ap (λ ys. x ∷ ys) (flat_map_one xs)
 module _ (h : List ℕ) where
   -- the places after the part at i
   pub part_done : (xs : List Tree) (i : ℕ) (x : Tree) (places : List ℕ) → i < length xs → x ≡ get_or xs i x →
-      flat_map (preferred_ends h (concat (drop (i + 1) xs))) (flat_map (preferred_ends h x) places)
-      ≡ flat_map (preferred_ends h (concat (drop i xs))) places
+      flat_map (plain_ends h (concat (drop (i + 1) xs))) (flat_map (plain_ends h x) places)
+      ≡ flat_map (plain_ends h (concat (drop i xs))) places
   part_done xs i x places l e =
-      flat_map-flat_map (preferred_ends h (concat (drop (i + 1) xs))) (preferred_ends h x) places
-      ∙ ap (λ ys. flat_map (preferred_ends h (concat ys)) places) (sym (rest_at xs i x l e))
+      flat_map-flat_map (plain_ends h (concat (drop (i + 1) xs))) (plain_ends h x) places
+      ∙ ap (λ ys. flat_map (plain_ends h (concat ys)) places) (sym (rest_at xs i x l e))
 
   -- the places after the last part
   pub parts_done : (xs : List Tree) (i : ℕ) (places : List ℕ) → length xs ≤ i →
-      flat_map (preferred_ends h (concat (drop i xs))) places ≡ places
+      flat_map (plain_ends h (concat (drop i xs))) places ≡ places
   parts_done xs i places l =
-      ap (λ ys. flat_map (preferred_ends h (concat ys)) places) (drop_of_length-le xs l) ∙ flat_map_one places
+      ap (λ ys. flat_map (plain_ends h (concat ys)) places) (drop_of_length-le xs l) ∙ flat_map_one places

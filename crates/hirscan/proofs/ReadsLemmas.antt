@@ -35,14 +35,14 @@ same_cut text a b x y e f h k = cut_once b a y x (sym f ∙ e) k h
 
 -- the text whose first line is this
 module _ (text line rest : List ℕ) (at : Standing) (cut : text ≡ line ++ 10 ∷ rest) (one : IsOneLine line) where
-  reads_at_end : (ys : List Tree) (m : ℕ) → EndsHead (words line) at → Reads text at ys m → (at.patterns ≡ ys) × (length line + 1 ≡ m)
+  reads_at_end : (ys : Standing) (m : ℕ) → EndsHead (words line) at → Reads text at ys m → (at ≡ ys) × (length line + 1 ≡ m)
   reads_at_end ys m ends (reads_find _ l r _ _ _ e o f p n) =
       let c = same_cut text line l rest r cut e one o in (sym p, ap (λ t. length t + 1) (sym c.0) ∙ sym n)
   reads_at_end ys m ends (reads_line _ l r _ there _ _ k e o f g n) =
       let c = same_cut text line l rest r cut e one o in
       absurd (taken_goes_on (words line) at there (rw c.0 at f) ends)
 
-  reads_behind : (there : Standing) (ys : List Tree) (m : ℕ) → Takes (words line) at there → Reads text at ys m
+  reads_behind : (there ys : Standing) (m : ℕ) → Takes (words line) at there → Reads text at ys m
       → (k : ℕ) × Reads rest there ys k × (m ≡ length line + 1 + k)
   reads_behind there ys m taken (reads_find _ l r _ _ _ e o f p n) =
       let c = same_cut text line l rest r cut e one o in
@@ -87,7 +87,7 @@ fault_without_feed text at k kind one (no_line_feed _ _ _ _ o f g) = (sym f, sym
 fault_without_feed text at k kind one (faulty_line _ l r _ _ _ e o f g) = absurd (no_cut text l r one e)
 fault_without_feed text at k kind one (faulty_later _ l r _ there _ m _ e o f g h) = absurd (no_cut text l r one e)
 
-pub reads_once : (text : List ℕ) (at : Standing) (xs ys : List Tree) (n m : ℕ) → Reads text at xs n → Reads text at ys m → (xs ≡ ys) × (n ≡ m)
+pub reads_once : (text : List ℕ) (at xs ys : Standing) (n m : ℕ) → Reads text at xs n → Reads text at ys m → (xs ≡ ys) × (n ≡ m)
 reads_once text at xs ys n m (reads_find _ l r _ _ _ e o f p q) h =
     let s = reads_at_end text l r at e o ys m f h in (p ∙ s.0, q ∙ s.1)
 reads_once text at xs ys n m (reads_line _ l r _ there _ _ k e o f g q) h =
@@ -95,7 +95,7 @@ reads_once text at xs ys n m (reads_line _ l r _ there _ _ k e o f g q) h =
     let t = reads_once r there xs ys k s.0 g s.1 in
     (t.0, q ∙ (ap (λ j. length l + 1 + j) t.1 ∙ sym s.2))
 
-pub reads_no_fault : (text : List ℕ) (at : Standing) (xs : List Tree) (n k : ℕ) (kind : FaultKind) → Reads text at xs n → IsFaultAt text at k kind → ⊥
+pub reads_no_fault : (text : List ℕ) (at xs : Standing) (n k : ℕ) (kind : FaultKind) → Reads text at xs n → IsFaultAt text at k kind → ⊥
 reads_no_fault text at xs n k kind (reads_find _ l r _ _ _ e o f p q) h = no_fault_at_end text l r at e o k kind f h
 reads_no_fault text at xs n k kind (reads_line _ l r _ there _ _ j e o f g q) h =
     let s = fault_behind text l r at e o there k kind f h in

@@ -7,21 +7,18 @@ use Rattle.hir_core.specs.Tree.{Tree}
 use Rattle.hirscan.specs.declared.program.Ending.{Ending}
 use Rattle.hirscan.specs.declared.program.Ending.TheVariants.{Listed, Refused}
 use Rattle.hirscan.specs.declared.reply.Reply.{Reply}
-use Rattle.hirscan.specs.Takes.{Standing, at_first}
+use Rattle.hirscan.specs.Takes.{Settings, Standing, at_first}
 use Rattle.hirscan.specs.Reads.{Reads, reads_find, reads_line}
-use Rattle.hirscan.specs.Reply.{IsReply, too_long, faulty, empty_loop, too_large, listed, refusal_line, span_lines}
-use Rattle.hirscan.specs.AllAnswers.{answers_of}
-use Rattle.hirscan.specs.Loops.{first_empty_loop}
-use Rattle.hirscan.specs.declared.found.Found.{Found}
-use Rattle.hir_core.specs.Facts.{list_count}
+use Rattle.hirscan.specs.Refusals.{refusal}
+use Rattle.hirscan.specs.Reply.{IsReply, too_long, faulty, searched, IsSearchReply, refused, listed, refusal_line, span_lines}
 use Rattle.hirscan.proofs.SliceLemmas.{rest_of_slice}
 
 -- a head is no longer than its text
-pub head_len_le : (text : List ℕ) (at : Standing) (xs : List Tree) (n : ℕ) → Reads text at xs n → n ≤ length text
-head_len_le _ _ _ _ (reads_find text line rest at xs n parts one ends taken len) =
+pub head_len_le : (text : List ℕ) (at found : Standing) (n : ℕ) → Reads text at found n → n ≤ length text
+head_len_le _ _ _ _ (reads_find text line rest at found n parts one ends taken len) =
     omega (arith, ap length parts, length-append line (10 ∷ rest))
-head_len_le _ _ _ _ (reads_line text line rest at after xs n m parts one takes others len) =
-    omega (arith, ap length parts, length-append line (10 ∷ rest), head_len_le rest after xs m others)
+head_len_le _ _ _ _ (reads_line text line rest at after found n m parts one takes others len) =
+    omega (arith, ap length parts, length-append line (10 ∷ rest), head_len_le rest after found m others)
 
 -- a reply of one line for a cause, where the cause applies
 pub reply_of_refusal : (r : Result Reply AllocError) (input cause : List ℕ) → IfOk r (λ x. x.ending ≡ Refused) →
@@ -44,17 +41,21 @@ reply_of_whole (Some known) (Some left) bytes ending text read whole (too_long l
     too_long (omega (arith, ap length read, length-append bytes left)) e t
 reply_of_whole (Some known) (Some left) bytes ending text read whole (faulty k kind short fault e t) =
     subst (λ (input : List ℕ). IsReply input ending text) (at_end_all known bytes left read (whole short)) (faulty k kind short fault e t)
-reply_of_whole (Some known) (Some left) bytes ending text read whole (empty_loop xs n p short reads loop e t) =
-    subst (λ (input : List ℕ). IsReply input ending text) (at_end_all known bytes left read (whole short)) (empty_loop xs n p short reads loop e t)
-reply_of_whole (Some known) (Some left) bytes ending text read whole (too_large xs n short reads loop large e t) =
-    subst (λ (input : List ℕ). IsReply input ending text) (at_end_all known bytes left read (whole short)) (too_large xs n short reads loop large e t)
-reply_of_whole (Some known) (Some left) bytes ending text read whole (listed xs n short reads loop small e t) =
-    subst (λ (input : List ℕ). IsReply input ending text) (at_end_all known bytes left read (whole short)) (listed xs n short reads loop small e t)
+reply_of_whole (Some known) (Some left) bytes ending text read whole (searched at n short reads reply) =
+    subst (λ (input : List ℕ). IsReply input ending text) (at_end_all known bytes left read (whole short)) (searched at n short reads reply)
 
--- the lines of all answers over what follows the head, as code hands them on: the patterns and the spans by references
-pub reply_of_spans : (input text : List ℕ) (xs ys : List Tree) (n : ℕ) (fs gs : List Found) → length input ≤ 2 ^ 30 → Reads input at_first xs n →
-    first_empty_loop xs ≡ None → list_count xs ≤ 16384 → ys ≡ xs → fs ≡ answers_of ys (take (length input - n) (drop n input)) → gs ≡ fs →
-    text ≡ span_lines gs → IsReply input Listed text
-reply_of_spans input text xs ys n fs gs short read none small same found kept lines =
-    listed xs n short read none small refl
-    (lines ∙ ap span_lines (kept ∙ found ∙ ap (λ zs. answers_of zs (take (length input - n) (drop n input))) same ∙ ap (answers_of xs) (rest_of_slice n input)))
+-- the same for a haystack that is searched
+pub search_reply_of_refusal : (r : Result Reply AllocError) (settings : Settings) (xs : List Tree) (h cause : List ℕ) → IfOk r (λ x. x.ending ≡ Refused) →
+    IfOk r (λ x. string_bytes x.text ≡ refusal_line cause) → refusal settings xs h ≡ Some cause →
+    IfOk r (λ x. IsSearchReply settings xs h x.ending (string_bytes x.text))
+search_reply_of_refusal (Ok x) settings xs h cause p q applies = refused cause applies p q
+search_reply_of_refusal (Err e) settings xs h cause p q applies = tt
+
+-- the reply to a haystack, handed on as that to the whole input
+pub reply_of_search : (r : Result Reply AllocError) (input h : List ℕ) (at : Standing) (n : ℕ) → length input ≤ 2 ^ 30 → Reads input at_first at n →
+    h ≡ take (length input - n) (drop n input) → IfOk r (λ x. IsSearchReply at.settings at.patterns h x.ending (string_bytes x.text)) →
+    IfOk r (λ x. IsReply input x.ending (string_bytes x.text))
+reply_of_search (Ok x) input h at n short reads e reply =
+    searched at n short reads
+    (let P : List ℕ → Type 0 = λ t. IsSearchReply at.settings at.patterns t x.ending (string_bytes x.text) in subst P (e ∙ rest_of_slice n input) reply)
+reply_of_search (Err e) input h at n short reads same reply = tt

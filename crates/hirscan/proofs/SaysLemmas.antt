@@ -11,9 +11,9 @@ use Rattle.hex.proofs.HexLemmas.{decode_of-ok}
 use Rattle.hex.specs.declared.error.FromHexError.{FromHexError}
 use Rattle.hirscan.specs.declared.fault.FaultKind.TheVariants.{BadNumber, BadHex, BadRange, BadChoice}
 use Rattle.hirscan.specs.declared.words.LineWord.{LineWord}
-use Rattle.hirscan.specs.declared.words.LineWord.TheVariants.{Empty, Lit, Bytes, Rep, Cat, Alt, Pattern, Find}
-use Rattle.hirscan.specs.Words.{IsNumber, IsBound, IsGreedy, IsHex, IsItem, AreItems}
-use Rattle.hirscan.specs.Readers.{spelling, line_word, is_number, number, the_number, bound, the_bound, order, the_order, one_or_more, hex_bytes, the_bytes, only_one, hex_byte, both, item_ends, the_ends}
+use Rattle.hirscan.specs.declared.words.LineWord.TheVariants.{Utf8, Anchored, Span, Empty, Lit, Bytes, Rep, Cat, Alt, Pattern, Find}
+use Rattle.hirscan.specs.Words.{IsNumber, IsBound, IsGreedy, IsSwitch, IsYes, IsHex, IsItem, AreItems}
+use Rattle.hirscan.specs.Readers.{spelling, line_word, is_number, number, the_number, bound, the_bound, order, the_order, switch, the_switch, yes_or_no, the_yes_or_no, one_or_more, hex_bytes, the_bytes, only_one, hex_byte, both, item_ends, the_ends}
 use Rattle.hirscan.specs.LineFault.{first_of, unless_read, ends_fault, item_fault}
 use Rattle.hirscan.proofs.StageLemmas.{first_none, when_none}
 use Rattle.hirscan.proofs.WordLemmas.{NumberParts, number_parts, number_read, digits_model}
@@ -26,23 +26,32 @@ text_cases w t =
 -- the first word of a line is how that line is spelled
 pub line_word_spelled : (w : List ℕ) (k : LineWord) → line_word w ≡ Some k → w ≡ spelling k
 line_word_spelled w k e =
-    elim (text_cases w (codes "empty")) [
-      | inl t ↦ let f : Some Empty ≡ Some k = rw t.0 at e in let g : Empty ≡ k = cc in t.1 ∙ ap spelling g
-      | inr n0 ↦ elim (text_cases w (codes "lit")) [
-        | inl t ↦ let f : Some Lit ≡ Some k = rw (n0, t.0) at e in let g : Lit ≡ k = cc in t.1 ∙ ap spelling g
-        | inr n1 ↦ elim (text_cases w (codes "bytes")) [
-          | inl t ↦ let f : Some Bytes ≡ Some k = rw (n0, n1, t.0) at e in let g : Bytes ≡ k = cc in t.1 ∙ ap spelling g
-          | inr n2 ↦ elim (text_cases w (codes "rep")) [
-            | inl t ↦ let f : Some Rep ≡ Some k = rw (n0, n1, n2, t.0) at e in let g : Rep ≡ k = cc in t.1 ∙ ap spelling g
-            | inr n3 ↦ elim (text_cases w (codes "cat")) [
-              | inl t ↦ let f : Some Cat ≡ Some k = rw (n0, n1, n2, n3, t.0) at e in let g : Cat ≡ k = cc in t.1 ∙ ap spelling g
-              | inr n4 ↦ elim (text_cases w (codes "alt")) [
-                | inl t ↦ let f : Some Alt ≡ Some k = rw (n0, n1, n2, n3, n4, t.0) at e in let g : Alt ≡ k = cc in t.1 ∙ ap spelling g
-                | inr n5 ↦ elim (text_cases w (codes "pattern")) [
-                  | inl t ↦ let f : Some Pattern ≡ Some k = rw (n0, n1, n2, n3, n4, n5, t.0) at e in let g : Pattern ≡ k = cc in t.1 ∙ ap spelling g
-                  | inr n6 ↦ elim (text_cases w (codes "find")) [
-                    | inl t ↦ let f : Some Find ≡ Some k = rw (n0, n1, n2, n3, n4, n5, n6, t.0) at e in let g : Find ≡ k = cc in t.1 ∙ ap spelling g
-                    | inr n7 ↦ let f : None ≡ Some k = rw (n0, n1, n2, n3, n4, n5, n6, n7) at e in cc
+    elim (text_cases w (codes "utf8")) [
+      | inl t ↦ let f : Some Utf8 ≡ Some k = rw t.0 at e in let g : Utf8 ≡ k = cc in t.1 ∙ ap spelling g
+      | inr n0 ↦ elim (text_cases w (codes "anchored")) [
+        | inl t ↦ let f : Some Anchored ≡ Some k = rw (n0, t.0) at e in let g : Anchored ≡ k = cc in t.1 ∙ ap spelling g
+        | inr n1 ↦ elim (text_cases w (codes "span")) [
+          | inl t ↦ let f : Some Span ≡ Some k = rw (n0, n1, t.0) at e in let g : Span ≡ k = cc in t.1 ∙ ap spelling g
+          | inr n2 ↦ elim (text_cases w (codes "empty")) [
+            | inl t ↦ let f : Some Empty ≡ Some k = rw (n0, n1, n2, t.0) at e in let g : Empty ≡ k = cc in t.1 ∙ ap spelling g
+            | inr n3 ↦ elim (text_cases w (codes "lit")) [
+              | inl t ↦ let f : Some Lit ≡ Some k = rw (n0, n1, n2, n3, t.0) at e in let g : Lit ≡ k = cc in t.1 ∙ ap spelling g
+              | inr n4 ↦ elim (text_cases w (codes "bytes")) [
+                | inl t ↦ let f : Some Bytes ≡ Some k = rw (n0, n1, n2, n3, n4, t.0) at e in let g : Bytes ≡ k = cc in t.1 ∙ ap spelling g
+                | inr n5 ↦ elim (text_cases w (codes "rep")) [
+                  | inl t ↦ let f : Some Rep ≡ Some k = rw (n0, n1, n2, n3, n4, n5, t.0) at e in let g : Rep ≡ k = cc in t.1 ∙ ap spelling g
+                  | inr n6 ↦ elim (text_cases w (codes "cat")) [
+                    | inl t ↦ let f : Some Cat ≡ Some k = rw (n0, n1, n2, n3, n4, n5, n6, t.0) at e in let g : Cat ≡ k = cc in t.1 ∙ ap spelling g
+                    | inr n7 ↦ elim (text_cases w (codes "alt")) [
+                      | inl t ↦ let f : Some Alt ≡ Some k = rw (n0, n1, n2, n3, n4, n5, n6, n7, t.0) at e in let g : Alt ≡ k = cc in t.1 ∙ ap spelling g
+                      | inr n8 ↦ elim (text_cases w (codes "pattern")) [
+                        | inl t ↦ let f : Some Pattern ≡ Some k = rw (n0, n1, n2, n3, n4, n5, n6, n7, n8, t.0) at e in let g : Pattern ≡ k = cc in t.1 ∙ ap spelling g
+                        | inr n9 ↦ elim (text_cases w (codes "find")) [
+                          | inl t ↦ let f : Some Find ≡ Some k = rw (n0, n1, n2, n3, n4, n5, n6, n7, n8, n9, t.0) at e in let g : Find ≡ k = cc in t.1 ∙ ap spelling g
+                          | inr n10 ↦ let f : None ≡ Some k = rw (n0, n1, n2, n3, n4, n5, n6, n7, n8, n9, n10) at e in cc
+                        ]
+                      ]
+                    ]
                   ]
                 ]
               ]
@@ -53,6 +62,9 @@ line_word_spelled w k e =
     ]
 
 pub line_word-spelling : (k : LineWord) → line_word (spelling k) ≡ Some k
+line_word-spelling Utf8 = refl
+line_word-spelling Anchored = refl
+line_word-spelling Span = refl
 line_word-spelling Empty = refl
 line_word-spelling Lit = refl
 line_word-spelling Bytes = refl
@@ -140,6 +152,36 @@ order_says w e =
 pub order_said : (w : List ℕ) (g : Bool) → IsGreedy w g → order w ≡ Some g
 order_said w true h = rw h refl
 order_said w false h = rw h refl
+
+pub switch_says : (w : List ℕ) → unless_read (switch w) BadChoice ≡ None → IsSwitch w (the_switch w)
+switch_says w e =
+    elim (text_cases w (codes "on")) [
+      | inl t ↦ rw t.0 t.1
+      | inr f ↦
+          elim (text_cases w (codes "off")) [
+            | inl t ↦ rw (f, t.0) t.1
+            | inr g ↦ absurd (let h = rw (f, g) at e in cc)
+          ]
+    ]
+
+pub switch_said : (w : List ℕ) (g : Bool) → IsSwitch w g → switch w ≡ Some g
+switch_said w true h = rw h refl
+switch_said w false h = rw h refl
+
+pub yes_says : (w : List ℕ) → unless_read (yes_or_no w) BadChoice ≡ None → IsYes w (the_yes_or_no w)
+yes_says w e =
+    elim (text_cases w (codes "yes")) [
+      | inl t ↦ rw t.0 t.1
+      | inr f ↦
+          elim (text_cases w (codes "no")) [
+            | inl t ↦ rw (f, t.0) t.1
+            | inr g ↦ absurd (let h = rw (f, g) at e in cc)
+          ]
+    ]
+
+pub yes_said : (w : List ℕ) (g : Bool) → IsYes w g → yes_or_no w ≡ Some g
+yes_said w true h = rw h refl
+yes_said w false h = rw h refl
 
 bytes_of_result : (w : List ℕ) (r : Result (List ℕ) FromHexError) → decode_of w ≡ r → unless_read (one_or_more r) BadHex ≡ None
     → (bytes : List ℕ) × (one_or_more r ≡ Some bytes) × IsHex w bytes

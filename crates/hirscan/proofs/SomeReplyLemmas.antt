@@ -1,90 +1,27 @@
--- Each text reads or has a first fault, and so each input has a reply.
-use Rattle.std.proofs.Common.{◌≡◌, ◌≢◌, ℕ, zero, suc, ◌+◌, ◌^◌, ◌<◌, ◌≤◌, ◌⊎◌, inl, inr, List, [], ◌∷◌, ◌++◌, length, Option, Some, None, refl, ap, arith, length-append}
-use Rattle.std.proofs.lemmas.Bool.{cases_eq, cases_lt}
-use Rattle.std.proofs.lemmas.List.Elements.{All-cons, All-nil}
+-- Each input has a reply.
+use Rattle.std.proofs.Common.{◌≡◌, ℕ, ◌+◌, ◌^◌, ◌<◌, ◌≤◌, ◌⊎◌, inl, inr, List, length, drop, Option, Some, None, refl, arith}
+use Rattle.std.proofs.lemmas.Bool.{cases_lt}
 use Rattle.hir_core.specs.Tree.{Tree}
-use Rattle.hir_core.specs.Facts.{list_count}
 use Rattle.hirscan.specs.declared.fault.FaultKind.{FaultKind}
-use Rattle.hirscan.specs.declared.fault.FaultKind.TheVariants.{NoFindLine}
 use Rattle.hirscan.specs.declared.program.Ending.{Ending}
 use Rattle.hirscan.specs.declared.program.Ending.TheVariants.{Listed, Refused}
-use Rattle.hirscan.specs.Words.{words}
-use Rattle.hirscan.specs.Takes.{Standing, at_first, Takes}
-use Rattle.hirscan.specs.LineFault.{fault}
-use Rattle.hirscan.specs.Reads.{IsOneLine, Reads, reads_find, reads_line, IsFaultAt, no_line_feed, faulty_line, faulty_later}
-use Rattle.hirscan.specs.Loops.{first_empty_loop}
-use Rattle.hirscan.specs.Reply.{IsReply, too_long, faulty, empty_loop, too_large, listed}
-use Rattle.hirscan.proofs.EffectLemmas.{taken_or_ends}
+use Rattle.hirscan.specs.Takes.{Settings, Standing, at_first}
+use Rattle.hirscan.specs.Reads.{Reads, IsFaultAt}
+use Rattle.hirscan.specs.Refusals.{refusal}
+use Rattle.hirscan.specs.Reply.{IsReply, too_long, faulty, searched, IsSearchReply, refused, listed}
+use Rattle.hirscan.proofs.SomeReadsLemmas.{reads_or_faulty}
 
--- the first line of a text, and what follows its line feed
-record Cut (text : List ℕ) : Type 0 where
-  line : List ℕ
-  rest : List ℕ
-  parts : text ≡ line ++ 10 ∷ rest
-  one_line : IsOneLine line
+reply_of_cause : (settings : Settings) (xs : List Tree) (h : List ℕ) (o : Option (List ℕ)) → refusal settings xs h ≡ o →
+    (e : Ending) × (t : List ℕ) × IsSearchReply settings xs h e t
+reply_of_cause settings xs h (Some cause) found = (Refused, _, refused cause found refl refl)
+reply_of_cause settings xs h None none = (Listed, _, listed none refl refl)
 
-cut_more : (b : ℕ) (text : List ℕ) → b ≢ 10 → IsOneLine text ⊎ Cut text → IsOneLine (b ∷ text) ⊎ Cut (b ∷ text)
-cut_more b text other (inl one) = inl (All-cons (λ n. n ≢ 10) b text other one)
-cut_more b text other (inr cut) =
-    inr record {
-      line = b ∷ cut.line;
-      rest = cut.rest;
-      parts = ap (λ t. b ∷ t) cut.parts;
-      one_line = All-cons (λ n. n ≢ 10) b cut.line other cut.one_line;
-    }
-
-one_line_or_cut : (text : List ℕ) → IsOneLine text ⊎ Cut text
-one_line_or_cut [] = inl (All-nil (λ n. n ≢ 10))
-one_line_or_cut (b ∷ text) = elim (cases_eq b 10) [
-  | inl feed ↦ inr record { line = []; rest = text; parts = ap (λ n. n ∷ text) feed; one_line = All-nil (λ n. n ≢ 10) }
-  | inr other ↦ cut_more b text other (one_line_or_cut text)
-]
-
-abbrev Outcome : List ℕ → Standing → Type 0
-Outcome text p = ((xs : List Tree) × (n : ℕ) × Reads text p xs n) ⊎ ((k : ℕ) × (kind : FaultKind) × IsFaultAt text p k kind)
-
--- the outcome of what follows a line, as that of the text from the line on
-outcome_later : (text : List ℕ) (p q : Standing) (cut : Cut text) → Takes (words cut.line) p q → Outcome cut.rest q → Outcome text p
-outcome_later text p q cut takes (inl r) = inl (r.0, length cut.line + 1 + r.1, reads_line text cut.line cut.rest p q r.0 _ r.1 cut.parts cut.one_line takes r.2 refl)
-outcome_later text p q cut takes (inr f) = inr (f.0 + 1, f.1, faulty_later text cut.line cut.rest p q (f.0 + 1) f.0 f.1 cut.parts cut.one_line takes f.2 refl)
-
-outcome_of_line : (text : List ℕ) (p : Standing) (cut : Cut text) (found : Option FaultKind) → fault (words cut.line) p ≡ found →
-    ((q : Standing) → Outcome cut.rest q) → Outcome text p
-outcome_of_line text p cut (Some kind) is later = inr (1, kind, faulty_line text cut.line cut.rest p 1 kind cut.parts cut.one_line is refl)
-outcome_of_line text p cut None is later = elim (taken_or_ends (words cut.line) p is) [
-  | inl taken ↦ outcome_later text p taken.0 cut taken.1 (later taken.0)
-  | inr ends ↦ inl (p.patterns, length cut.line + 1, reads_find text cut.line cut.rest p p.patterns _ cut.parts cut.one_line ends refl refl)
-]
-
-outcome_by : (text : List ℕ) (p : Standing) → IsOneLine text ⊎ Cut text → ((cut : Cut text) (q : Standing) → Outcome cut.rest q) → Outcome text p
-outcome_by text p (inl one) later = inr (1, NoFindLine, no_line_feed text p 1 NoFindLine one refl refl)
-outcome_by text p (inr cut) later = outcome_of_line text p cut (fault (words cut.line) p) refl (later cut)
-
-rest_is_shorter : (text : List ℕ) (cut : Cut text) → length cut.rest < length text
-rest_is_shorter text cut = omega (arith, ap length cut.parts, length-append cut.line (10 ∷ cut.rest))
-
--- by the number of bytes that are left
-outcome_within : (n : ℕ) (text : List ℕ) (p : Standing) → length text ≤ n → Outcome text p
-outcome_within zero text p l = outcome_by text p (one_line_or_cut text) (λ cut q. absurd (omega (arith, rest_is_shorter text cut)))
-outcome_within (suc n) text p l =
-    outcome_by text p (one_line_or_cut text) (λ cut q. outcome_within n cut.rest q (omega (arith, rest_is_shorter text cut)))
-
-pub reads_or_faulty : (text : List ℕ) (p : Standing) →
-    ((xs : List Tree) × (n : ℕ) × Reads text p xs n) ⊎ ((k : ℕ) × (kind : FaultKind) × IsFaultAt text p k kind)
-reads_or_faulty text p = outcome_within (length text) text p (omega arith)
-
-reply_of_size : (input : List ℕ) (xs : List Tree) (n : ℕ) → length input ≤ 2 ^ 30 → Reads input at_first xs n → first_empty_loop xs ≡ None →
-    (list_count xs < 16385) ⊎ (16385 ≤ list_count xs) → (e : Ending) × (t : List ℕ) × IsReply input e t
-reply_of_size input xs n short read none (inl small) = (Listed, _, listed xs n short read none (omega arith) refl refl)
-reply_of_size input xs n short read none (inr large) = (Refused, _, too_large xs n short read none (omega arith) refl refl)
-
-reply_of_loop : (input : List ℕ) (xs : List Tree) (n : ℕ) (found : Option ℕ) → length input ≤ 2 ^ 30 → Reads input at_first xs n →
-    first_empty_loop xs ≡ found → (e : Ending) × (t : List ℕ) × IsReply input e t
-reply_of_loop input xs n (Some p) short read loop = (Refused, _, empty_loop xs n p short read loop refl refl)
-reply_of_loop input xs n None short read none = reply_of_size input xs n short read none (cases_lt (list_count xs) 16385)
-
-reply_of_head : (input : List ℕ) → length input ≤ 2 ^ 30 → Outcome input at_first → (e : Ending) × (t : List ℕ) × IsReply input e t
-reply_of_head input short (inl r) = reply_of_loop input r.0 r.1 (first_empty_loop r.0) short r.2 refl
+reply_of_head : (input : List ℕ) → length input ≤ 2 ^ 30 →
+    ((there : Standing) × (n : ℕ) × Reads input at_first there n) ⊎ ((k : ℕ) × (kind : FaultKind) × IsFaultAt input at_first k kind) →
+    (e : Ending) × (t : List ℕ) × IsReply input e t
+reply_of_head input short (inl r) =
+    let answer = reply_of_cause r.0.settings r.0.patterns (drop r.1 input) (refusal r.0.settings r.0.patterns (drop r.1 input)) refl in
+    (answer.0, answer.1, searched r.0 r.1 short r.2 answer.2)
 reply_of_head input short (inr f) = (Refused, _, faulty f.0 f.1 short f.2 refl refl)
 
 reply_by_length : (input : List ℕ) → (length input < 2 ^ 30 + 1) ⊎ (2 ^ 30 + 1 ≤ length input) → (e : Ending) × (t : List ℕ) × IsReply input e t

@@ -3,21 +3,21 @@ use Rattle.std.proofs.Common.{◌≡◌, ℕ, true, false, List, length, Some, r
 use Rattle.std.proofs.lemmas.List.{length-map}
 use denote.Ref.{Bor}
 use Rattle.hirscan.specs.declared.fault.FaultKind.{FaultKind}
-use Rattle.hirscan.specs.declared.fault.FaultKind.TheVariants.{UnknownWord, WrongWordCount}
+use Rattle.hirscan.specs.declared.fault.FaultKind.TheVariants.{SettingAfterNode, WrongWordCount}
 use Rattle.hirscan.specs.declared.words.LineWord.{LineWord}
 use Rattle.hirscan.specs.Takes.{Standing}
-use Rattle.hirscan.specs.LineFault.{first_of, when, known_fault, is_second_pattern, is_word_count}
+use Rattle.hirscan.specs.LineFault.{first_of, when, known_fault, is_setting_after_node, is_word_count}
 use Rattle.hirscan.specs.Tells.{texts, left_fault}
 
-pub known_fault_unknown : (k : LineWord) (args : List (List ℕ)) (at : Standing) → is_second_pattern k at ≡ true
-    → known_fault k args at ≡ Some UnknownWord
-known_fault_unknown k args at e = rw e refl
+pub known_fault_setting : (k : LineWord) (args : List (List ℕ)) (at : Standing) → is_setting_after_node k at ≡ true
+    → known_fault k args at ≡ Some SettingAfterNode
+known_fault_setting k args at e = rw e refl
 
-pub known_fault_count : (k : LineWord) (args : List (Bor (List ℕ))) (at : Standing) → is_second_pattern k at ≡ false
+pub known_fault_count : (k : LineWord) (args : List (Bor (List ℕ))) (at : Standing) → is_setting_after_node k at ≡ false
     → is_word_count k (length args) ≡ false → known_fault k (texts args) at ≡ Some WrongWordCount
 known_fault_count k args at e f = rw (length-map args (λ (w : Bor (List ℕ)). w.now), e, f) refl
 
-pub known_fault_left : (k : LineWord) (args : List (Bor (List ℕ))) (at : Standing) → is_second_pattern k at ≡ false
+pub known_fault_left : (k : LineWord) (args : List (Bor (List ℕ))) (at : Standing) → is_setting_after_node k at ≡ false
     → is_word_count k (length args) ≡ true → known_fault k (texts args) at ≡ left_fault k (texts args) at
 known_fault_left k args at e f = rw (length-map args (λ (w : Bor (List ℕ)). w.now), e, f) refl
 

@@ -1,27 +1,27 @@
 -- A line without a fault is taken or ends the head, and a line that is taken has no fault and one effect.
-use Rattle.std.proofs.Common.{◌≡◌, ◌≢◌, ℕ, ◌-◌, ◌≤◌, Bool, true, false, not, List, [], ◌∷◌, ◌++◌, length, get_or, map, Option, Some, None, Result, Ok, Err, IfOk, nat_lt, nat_le, refl, sym, ◌∙◌, ap, arith, codes, length-drop}
-use Rattle.std.proofs.lemmas.Bool.{eqb-true, ltb-false, leb-true, not-false}
+use Rattle.std.proofs.Common.{◌≡◌, ◌≢◌, ℕ, ◌-◌, ◌≤◌, Bool, true, false, not, ◌||◌, List, [], ◌∷◌, ◌++◌, length, get_or, map, Option, Some, None, Result, Ok, Err, IfOk, nat_lt, nat_le, refl, sym, ◌∙◌, ap, arith, codes, length-drop}
+use Rattle.std.proofs.lemmas.Bool.{or_parts, eqb-true, ltb-false, leb-true, not-false}
 use Rattle.std.proofs.lemmas.List.{take-append-drop}
 use Rattle.hir_core.specs.Tree.{Tree, empty, literal, byte_class, repetition, concat, alternation}
 use Rattle.hir_core.specs.Means.{AtMost}
 use Rattle.hir_core.specs.Facts.{height}
 use Rattle.hirscan.specs.declared.fault.FaultKind.{FaultKind}
-use Rattle.hirscan.specs.declared.fault.FaultKind.TheVariants.{UnknownWord, WrongWordCount, BadNumber, BadChoice, MinAboveMax, TooFewTrees, TooDeep, NotOneTree, TreeLeftOver}
+use Rattle.hirscan.specs.declared.fault.FaultKind.TheVariants.{SettingAfterNode, WrongWordCount, BadNumber, BadChoice, MinAboveMax, TooFewTrees, TooDeep, NotOneTree, TreeLeftOver}
 use Rattle.hirscan.specs.declared.words.LineWord.{LineWord}
-use Rattle.hirscan.specs.declared.words.LineWord.TheVariants.{Empty, Lit, Bytes, Rep, Cat, Alt, Pattern, Find}
+use Rattle.hirscan.specs.declared.words.LineWord.TheVariants.{Utf8, Anchored, Span, Empty, Lit, Bytes, Rep, Cat, Alt, Pattern, Find}
 use Rattle.hirscan.specs.declared.line.Step.TheVariants.{Next}
 use Rattle.hirscan.specs.Words.{class_ranges}
-use Rattle.hirscan.specs.Readers.{spelling, line_word, number, the_number, bound, the_bound, order, the_order, the_bytes, the_ends, word_at}
-use Rattle.hirscan.specs.Takes.{Standing, Replaces, Takes, empty_line, lit_line, bytes_line, rep_line, cat_line, alt_line, pattern_line, EndsHead}
-use Rattle.hirscan.specs.LineFault.{first_of, when, unless_read, word_fault, is_second_pattern, is_word_count, is_at_most, is_min_above_max, top, below, has_too_few_trees, is_too_deep, has_not_one_tree, has_tree_left_over, known_fault, after}
+use Rattle.hirscan.specs.Readers.{spelling, line_word, number, the_number, bound, the_bound, order, the_order, switch, the_switch, yes_or_no, the_yes_or_no, the_bytes, the_ends, word_at}
+use Rattle.hirscan.specs.Takes.{Settings, Standing, HasNoNode, Sets, Replaces, Takes, utf8_line, anchored_line, span_line, empty_line, lit_line, bytes_line, rep_line, cat_line, alt_line, pattern_line, EndsHead}
+use Rattle.hirscan.specs.LineFault.{first_of, when, unless_read, word_fault, is_setting, is_setting_after_node, is_word_count, is_at_most, is_min_above_max, top, below, has_too_few_trees, is_too_deep, has_not_one_tree, has_tree_left_over, known_fault, settings_after, after}
 use Rattle.hirscan.specs.declared.line.Step.{Step}
 use Rattle.hirscan.specs.Tells.{step_after, TellsStep}
 use Rattle.hirscan.proofs.StageLemmas.{first_none, when_none}
-use Rattle.hirscan.proofs.SaysLemmas.{line_word_spelled, number_says, bound_says, order_says, hex_bytes_says, items_say}
+use Rattle.hirscan.proofs.SaysLemmas.{line_word_spelled, number_says, bound_says, order_says, switch_says, yes_says, hex_bytes_says, items_say}
 
 -- what each kind of fault says where there is none
 pub record NoFault (k : LineWord) (args : List (List ℕ)) (at : Standing) : Type 0 where
-  pub first_pattern : is_second_pattern k at ≡ false
+  pub settable : is_setting_after_node k at ≡ false
   pub counted : is_word_count k (length args) ≡ true
   pub words_fit : word_fault k args ≡ None
   pub in_order : is_min_above_max k args ≡ false
@@ -32,7 +32,7 @@ pub record NoFault (k : LineWord) (args : List (List ℕ)) (at : Standing) : Typ
 
 pub no_fault_parts : (k : LineWord) (args : List (List ℕ)) (at : Standing) → known_fault k args at ≡ None → NoFault k args at
 no_fault_parts k args at h =
-    let a = first_none (when (is_second_pattern k at) UnknownWord) _ h in
+    let a = first_none (when (is_setting_after_node k at) SettingAfterNode) _ h in
     let b = first_none (when (not (is_word_count k (length args))) WrongWordCount) _ a.1 in
     let c = first_none (word_fault k args) _ b.1 in
     let d = first_none (when (is_min_above_max k args) MinAboveMax) _ c.1 in
@@ -41,7 +41,7 @@ no_fault_parts k args at h =
     let g = first_none (when (has_not_one_tree k at) NotOneTree) _ f.1 in
     let i = first_none (when (has_tree_left_over k at) TreeLeftOver) _ g.1 in
     record {
-      first_pattern = when_none _ UnknownWord a.0;
+      settable = when_none _ SettingAfterNode a.0;
       counted = not-false _ (when_none _ WrongWordCount b.0);
       words_fit = c.0;
       in_order = when_none _ MinAboveMax d.0;
@@ -59,7 +59,7 @@ when_false b k e = rw e refl
 
 pub no_fault_from_parts : (k : LineWord) (args : List (List ℕ)) (at : Standing) → NoFault k args at → known_fault k args at ≡ None
 no_fault_from_parts k args at p =
-    first_skips _ _ (when_false _ UnknownWord p.first_pattern)
+    first_skips _ _ (when_false _ SettingAfterNode p.settable)
     (first_skips _ _ (when_false _ WrongWordCount (ap not p.counted))
     (first_skips _ _ p.words_fit
     (first_skips _ _ (when_false _ MinAboveMax p.in_order)
@@ -78,6 +78,12 @@ one_alone [] d h = absurd (omega arith)
 one_alone (x ∷ []) d h = refl
 one_alone (x ∷ y ∷ xs) d h = absurd (omega arith)
 
+two_alone : (xs : List (List ℕ)) → length xs ≡ 2 → xs ≡ word_at xs 0 ∷ word_at xs 1 ∷ []
+two_alone [] h = absurd (omega arith)
+two_alone (x ∷ []) h = absurd (omega arith)
+two_alone (x ∷ y ∷ []) h = refl
+two_alone (x ∷ y ∷ z ∷ xs) h = absurd (omega arith)
+
 three_alone : (xs : List (List ℕ)) → length xs ≡ 3 → xs ≡ word_at xs 0 ∷ word_at xs 1 ∷ word_at xs 2 ∷ []
 three_alone [] h = absurd (omega arith)
 three_alone (x ∷ []) h = absurd (omega arith)
@@ -90,12 +96,13 @@ some_words xs h e = let l = leb-true 1 (length xs) h in let k = ap length e in o
 
 -- the top trees of the stack become one
 replaced_top : (at : Standing) (n : ℕ) (parts : List Tree) (new : Tree) → top n at.stack ≡ parts → height new ≤ 250
-    → Replaces at (record { stack = below n at.stack ++ new ∷ []; patterns = at.patterns }) parts new
+    → Replaces at (record { settings = at.settings; stack = below n at.stack ++ new ∷ []; patterns = at.patterns }) parts new
 replaced_top at n parts new e h = record {
   below = below n at.stack;
   stack_was = sym (take-append-drop (length at.stack - n) at.stack) ∙ ap (λ t. below n at.stack ++ t) e;
   stack_is = refl;
   patterns_stay = refl;
+  settings_stay = refl;
   not_too_deep = h;
 }
 
@@ -112,9 +119,36 @@ at_most n (Some m) h = leb-true n m (not-false _ h)
 height_in : (x : Tree) → nat_lt 250 (height x) ≡ false → height x ≤ 250
 height_in x h = ltb-false 250 (height x) h
 
+-- a line that sets something and has no fault stands before each node
+no_node : (at : Standing) → (nat_lt 0 (length at.stack) || nat_lt 0 (length at.patterns)) ≡ false → HasNoNode at
+no_node at h =
+    let parts = or_parts _ _ h in
+    record {
+      stack_empty = no_words at.stack (let l = ltb-false 0 (length at.stack) parts.0 in omega arith);
+      no_pattern = no_words at.patterns (let l = ltb-false 0 (length at.patterns) parts.1 in omega arith);
+    }
+
+set : (at : Standing) (new : Settings) → HasNoNode at → Sets at (record { settings = new; stack = at.stack; patterns = at.patterns }) new
+set at new h = record { no_node = h; settings_are = refl; stack_stays = refl; patterns_stay = refl }
+
 -- a line that isn't `find` and has no fault is taken, and does what its words say
 pub takes_after : (k : LineWord) (args : List (List ℕ)) (at : Standing) → step_after k ≡ Next → NoFault k args at
     → Takes (spelling k ∷ args) at (after k args at)
+takes_after Utf8 args at n p =
+    let e = one_alone args [] (eqb-true _ _ p.counted) in
+    utf8_line (word_at args 0) (the_switch (word_at args 0)) (ap (λ a. codes "utf8" ∷ a) e) (switch_says (word_at args 0) p.words_fit)
+    (set at (settings_after Utf8 args at.settings) (no_node at p.settable))
+takes_after Anchored args at n p =
+    let e = one_alone args [] (eqb-true _ _ p.counted) in
+    anchored_line (word_at args 0) (the_yes_or_no (word_at args 0)) (ap (λ a. codes "anchored" ∷ a) e) (yes_says (word_at args 0) p.words_fit)
+    (set at (settings_after Anchored args at.settings) (no_node at p.settable))
+takes_after Span args at n p =
+    let e = two_alone args (eqb-true _ _ p.counted) in
+    let a = first_none (unless_read (number (word_at args 0)) BadNumber) _ p.words_fit in
+    let b = first_none (unless_read (number (word_at args 1)) BadNumber) _ a.1 in
+    span_line (word_at args 0) (word_at args 1) (the_number (word_at args 0)) (the_number (word_at args 1)) (ap (λ a. codes "span" ∷ a) e)
+    (number_says (word_at args 0) a.0) (number_says (word_at args 1) b.0)
+    (set at (settings_after Span args at.settings) (no_node at p.settable))
 takes_after Empty args at n p =
     let e = no_words args (eqb-true _ _ p.counted) in
     empty_line (ap (λ a. codes "empty" ∷ a) e) (replaced_top at 0 [] empty (top_none at.stack) (height_in empty p.flat))
@@ -150,11 +184,10 @@ takes_after Alt args at n p =
 takes_after Pattern args at n p =
     let e = no_words args (eqb-true _ _ p.counted) in
     let one = one_alone at.stack empty (eqb-true _ _ (not-false _ p.one_tree)) in
-    let none : at.patterns ≡ [] = no_words at.patterns (let l = ltb-false 0 (length at.patterns) p.first_pattern in omega arith) in
     pattern_line (ap (λ a. codes "pattern" ∷ a) e) (record {
       tree = get_or at.stack 0 empty;
       stack_was = one;
-      none_before = none;
+      settings_stay = refl;
       stack_is = refl;
       patterns_are = ap (λ s. at.patterns ++ s) one;
     })
@@ -169,6 +202,9 @@ ends_head args at p = record {
 
 step_told : (k : LineWord) (args : List (List ℕ)) (at : Standing) → NoFault k args at
     → TellsStep (spelling k ∷ args) at (after k args at) (step_after k)
+step_told Utf8 args at p = takes_after Utf8 args at refl p
+step_told Anchored args at p = takes_after Anchored args at refl p
+step_told Span args at p = takes_after Span args at refl p
 step_told Empty args at p = takes_after Empty args at refl p
 step_told Lit args at p = takes_after Lit args at refl p
 step_told Bytes args at p = takes_after Bytes args at refl p

@@ -1,9 +1,7 @@
 -- The list of all answers, over any function that answers from a place: what an iterator over a haystack's matches gives.
 use Rattle.std.specs.Prelude.{◌≡◌, ℕ, zero, suc, ◌+◌, ◌-◌, ◌<◌, ◌≤◌, ◌&&◌, Bool, false, List, [], ◌∷◌, Option, Some, None, if◌then◌else◌, nat_eq, length}
-use Rattle.hir_core.specs.Tree.{Tree}
-use Rattle.hirscan.specs.declared.found.Found.{Found}
-use Rattle.hirscan.specs.Choices.{tree_choices}
-use Rattle.hirscan.specs.LeftmostAnswer.{leftmost_answer}
+use Rattle.search_types.specs.Found.{Found}
+use Rattle.hirscan.specs.Choices.{Query, answer_from}
 
 -- an answer that is empty at the end of the last one
 abbrev pub is_repeat : Option ℕ → Option Found → Bool
@@ -29,9 +27,9 @@ answers_from answer (suc n) last at = and_on (next_answer answer last at) (λ f.
 abbrev pub all_answers : (ℕ → Option Found) → ℕ → ℕ → List Found
 all_answers answer s e = answers_from answer (e + 2 - s) None s
 
--- all answers of these trees over the whole haystack
-abbrev pub answers_of : List Tree → List ℕ → List Found
-answers_of xs h = all_answers (λ s. leftmost_answer (tree_choices xs h) s (length h)) 0 (length h)
+-- all answers of a search from the place s
+abbrev pub answers_of : Query → ℕ → List Found
+answers_of q s = all_answers (answer_from q) s q.end
 
 -- an answer function for places up to e: what it answers starts at or after the place asked, and ends between its start and e
 pub record AnswersWithin (answer : ℕ → Option Found) (e : ℕ) : Type 0 where

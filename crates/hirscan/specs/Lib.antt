@@ -1,6 +1,7 @@
+pub mod PlainEnds
 pub mod Choices
-pub mod LeftmostAnswer
 pub mod AllAnswers
+pub mod Asks
 pub mod Loops
 pub mod Words
 pub mod Takes
@@ -8,5 +9,6 @@ pub mod Readers
 pub mod LineFault
 pub mod Reads
 pub mod Tells
+pub mod Refusals
 pub mod Reply
 pub mod Runs

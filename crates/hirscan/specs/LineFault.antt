@@ -1,14 +1,14 @@
 -- What is wrong with a line: the kinds of faults in their order, each with its test.
-use Rattle.std.specs.Prelude.{ℕ, ◌-◌, ◌==◌, not, Bool, true, false, List, [], ◌∷◌, ◌++◌, length, map, take, drop, slice_index_or, Option, Some, None, nat_lt, nat_le}
+use Rattle.std.specs.Prelude.{ℕ, ◌-◌, ◌==◌, not, ◌&&◌, ◌||◌, Bool, true, false, List, [], ◌∷◌, ◌++◌, length, map, take, drop, slice_index_or, Option, Some, None, nat_lt, nat_le}
 use Rattle.hir_core.specs.Tree.{Tree, empty, literal, byte_class, repetition, concat, alternation}
 use Rattle.hir_core.specs.Facts.{height}
 use Rattle.hirscan.specs.declared.fault.FaultKind.{FaultKind}
-use Rattle.hirscan.specs.declared.fault.FaultKind.TheVariants.{UnknownWord, WrongWordCount, BadNumber, BadHex, BadRange, BadChoice, MinAboveMax, TooFewTrees, TooDeep, NotOneTree, TreeLeftOver}
+use Rattle.hirscan.specs.declared.fault.FaultKind.TheVariants.{UnknownWord, SettingAfterNode, WrongWordCount, BadNumber, BadHex, BadRange, BadChoice, MinAboveMax, TooFewTrees, TooDeep, NotOneTree, TreeLeftOver}
 use Rattle.hirscan.specs.declared.words.LineWord.{LineWord}
-use Rattle.hirscan.specs.declared.words.LineWord.TheVariants.{Empty, Lit, Bytes, Rep, Cat, Alt, Pattern, Find}
+use Rattle.hirscan.specs.declared.words.LineWord.TheVariants.{Utf8, Anchored, Span, Empty, Lit, Bytes, Rep, Cat, Alt, Pattern, Find}
 use Rattle.hirscan.specs.Words.{class_ranges}
-use Rattle.hirscan.specs.Takes.{Standing}
-use Rattle.hirscan.specs.Readers.{line_word, number, the_number, bound, the_bound, order, the_order, hex_bytes, the_bytes, item_ends, the_ends, word_at}
+use Rattle.hirscan.specs.Takes.{Settings, Standing}
+use Rattle.hirscan.specs.Readers.{line_word, number, the_number, bound, the_bound, order, the_order, switch, the_switch, yes_or_no, the_yes_or_no, hex_bytes, the_bytes, item_ends, the_ends, word_at}
 
 -- the first fault of the list
 abbrev pub first_of : List (Option FaultKind) → Option FaultKind
@@ -26,13 +26,22 @@ abbrev pub unless_read : {A : Type 0} → Option A → FaultKind → Option Faul
 unless_read None kind = Some kind
 unless_read (Some x) kind = None
 
--- whether the line would take a second pattern, which no line does for now
-abbrev pub is_second_pattern : LineWord → Standing → Bool
-is_second_pattern Pattern at = nat_lt 0 (length at.patterns)
-is_second_pattern _ at = false
+-- whether the line sets something
+abbrev pub is_setting : LineWord → Bool
+is_setting Utf8 = true
+is_setting Anchored = true
+is_setting Span = true
+is_setting _ = false
+
+-- whether the line sets something where a tree has been pushed
+abbrev pub is_setting_after_node : LineWord → Standing → Bool
+is_setting_after_node k at = is_setting k && (nat_lt 0 (length at.stack) || nat_lt 0 (length at.patterns))
 
 -- whether so many words may follow the first
 abbrev pub is_word_count : LineWord → ℕ → Bool
+is_word_count Utf8 n = n == 1
+is_word_count Anchored n = n == 1
+is_word_count Span n = n == 2
 is_word_count Empty n = n == 0
 is_word_count Lit n = n == 1
 is_word_count Bytes n = nat_le 1 n
@@ -52,6 +61,11 @@ item_fault w = ends_fault (item_ends w)
 
 -- what is wrong with the first faulty word after the line's first
 abbrev pub word_fault : LineWord → List (List ℕ) → Option FaultKind
+word_fault Utf8 args = unless_read (switch (word_at args 0)) BadChoice
+word_fault Anchored args = unless_read (yes_or_no (word_at args 0)) BadChoice
+word_fault Span args = first_of (unless_read (number (word_at args 0)) BadNumber
+    ∷ unless_read (number (word_at args 1)) BadNumber
+    ∷ [])
 word_fault Lit args = unless_read (hex_bytes (word_at args 0)) BadHex
 word_fault Bytes args = first_of (map item_fault args)
 word_fault Rep args = first_of (unless_read (number (word_at args 0)) BadNumber
@@ -112,7 +126,7 @@ has_tree_left_over _ at = false
 
 -- what is wrong with a line of this first word and these words after it: the first kind that applies
 abbrev pub known_fault : LineWord → List (List ℕ) → Standing → Option FaultKind
-known_fault k args at = first_of (when (is_second_pattern k at) UnknownWord
+known_fault k args at = first_of (when (is_setting_after_node k at) SettingAfterNode
     ∷ when (not (is_word_count k (length args))) WrongWordCount
     ∷ word_fault k args
     ∷ when (is_min_above_max k args) MinAboveMax
@@ -132,8 +146,25 @@ abbrev pub fault : List (List ℕ) → Standing → Option FaultKind
 fault [] at = Some UnknownWord
 fault (w ∷ args) at = fault_after (line_word w) args at
 
+-- the settings after a line of this first word that has no fault
+abbrev pub settings_after : LineWord → List (List ℕ) → Settings → Settings
+settings_after Utf8 args was = record { utf8 = the_switch (word_at args 0); anchored = was.anchored; span = was.span }
+settings_after Anchored args was = record { utf8 = was.utf8; anchored = the_yes_or_no (word_at args 0); span = was.span }
+settings_after Span args was = record { utf8 = was.utf8; anchored = was.anchored; span = Some (the_number (word_at args 0), the_number (word_at args 1)) }
+settings_after _ args was = was
+
+-- what stands after a line that makes a tree of those on the top
+abbrev pub after_tree : LineWord → List (List ℕ) → Standing → Standing
+after_tree k args at = record {
+    settings = at.settings;
+    stack = below (needed k args) at.stack ++ new_tree k args (top (needed k args) at.stack) ∷ [];
+    patterns = at.patterns }
+
 -- what stands after a line of this first word that has no fault
 abbrev pub after : LineWord → List (List ℕ) → Standing → Standing
-after Pattern args at = record { stack = []; patterns = at.patterns ++ at.stack }
+after Utf8 args at = record { settings = settings_after Utf8 args at.settings; stack = at.stack; patterns = at.patterns }
+after Anchored args at = record { settings = settings_after Anchored args at.settings; stack = at.stack; patterns = at.patterns }
+after Span args at = record { settings = settings_after Span args at.settings; stack = at.stack; patterns = at.patterns }
+after Pattern args at = record { settings = at.settings; stack = []; patterns = at.patterns ++ at.stack }
 after Find args at = at
-after k args at = record { stack = below (needed k args) at.stack ++ new_tree k args (top (needed k args) at.stack) ∷ []; patterns = at.patterns }
+after k args at = after_tree k args at

@@ -1,7 +1,7 @@
 -- Whether each unbounded repetition of a tree has a body that reads: the test of `LoopsRead`.
 use Rattle.std.specs.Prelude.{ℕ, Bool, true, false, ◌&&◌, nat_lt, List, Option, Some, None, not}
 use Rattle.std.specs.List.{position}
-use Rattle.hir_core.specs.Tree.{Tree, empty, literal, byte_class, repetition, nothing, cat, never, alt}
+use Rattle.hir_core.specs.Tree.{Tree, empty, literal, byte_class, char_class, look, repetition, capture, nothing, cat, never, alt}
 use Rattle.hir_core.specs.Facts.{minimum_len}
 
 abbrev pub is_above_zero : Option ℕ → Bool
@@ -12,8 +12,11 @@ abbrev pub loops_read : Tree → Bool
 loops_read empty = true
 loops_read (literal bytes) = true
 loops_read (byte_class ranges) = true
+loops_read (char_class ranges) = true
+loops_read (look l) = true
 loops_read (repetition min None greedy x) = is_above_zero (minimum_len x) && loops_read x
 loops_read (repetition min (Some most) greedy x) = loops_read x
+loops_read (capture index name x) = loops_read x
 loops_read nothing = true
 loops_read (cat x y) = loops_read x && loops_read y
 loops_read never = true

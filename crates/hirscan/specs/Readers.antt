@@ -6,10 +6,13 @@ use Rattle.std.specs.Str.Parse.{digits_value}
 use Rattle.hex.specs.Hex.{decode_of}
 use Rattle.hex.specs.declared.error.FromHexError.{FromHexError}
 use Rattle.hirscan.specs.declared.words.LineWord.{LineWord}
-use Rattle.hirscan.specs.declared.words.LineWord.TheVariants.{Empty, Lit, Bytes, Rep, Cat, Alt, Pattern, Find}
+use Rattle.hirscan.specs.declared.words.LineWord.TheVariants.{Utf8, Anchored, Span, Empty, Lit, Bytes, Rep, Cat, Alt, Pattern, Find}
 
 -- the word that begins such a line
 abbrev pub spelling : LineWord → List ℕ
+spelling Utf8 = codes "utf8"
+spelling Anchored = codes "anchored"
+spelling Span = codes "span"
 spelling Empty = codes "empty"
 spelling Lit = codes "lit"
 spelling Bytes = codes "bytes"
@@ -22,7 +25,10 @@ spelling Find = codes "find"
 -- which line the word begins
 abbrev pub line_word : List ℕ → Option LineWord
 line_word w =
-    if bytes_eq w (codes "empty") then Some Empty
+    if bytes_eq w (codes "utf8") then Some Utf8
+    else if bytes_eq w (codes "anchored") then Some Anchored
+    else if bytes_eq w (codes "span") then Some Span
+    else if bytes_eq w (codes "empty") then Some Empty
     else if bytes_eq w (codes "lit") then Some Lit
     else if bytes_eq w (codes "bytes") then Some Bytes
     else if bytes_eq w (codes "rep") then Some Rep
@@ -56,6 +62,20 @@ order w = if bytes_eq w (codes "greedy") then Some true else if bytes_eq w (code
 
 abbrev pub the_order : List ℕ → Bool
 the_order w = unwrap_or (order w) false
+
+-- whether a setting is switched on
+abbrev pub switch : List ℕ → Option Bool
+switch w = if bytes_eq w (codes "on") then Some true else if bytes_eq w (codes "off") then Some false else None
+
+abbrev pub the_switch : List ℕ → Bool
+the_switch w = unwrap_or (switch w) false
+
+-- whether the word says yes
+abbrev pub yes_or_no : List ℕ → Option Bool
+yes_or_no w = if bytes_eq w (codes "yes") then Some true else if bytes_eq w (codes "no") then Some false else None
+
+abbrev pub the_yes_or_no : List ℕ → Bool
+the_yes_or_no w = unwrap_or (yes_or_no w) false
 
 -- the bytes, if there is one or more
 abbrev pub one_or_more : Result (List ℕ) FromHexError → Option (List ℕ)

@@ -1,6 +1,5 @@
 -- What a head reads as, and where the first fault of a text stands.
 use Rattle.std.specs.Prelude.{◌≡◌, ◌≢◌, ℕ, ◌+◌, List, ◌∷◌, ◌++◌, length, Some, All}
-use Rattle.hir_core.specs.Tree.{Tree}
 use Rattle.hirscan.specs.declared.fault.FaultKind.{FaultKind}
 use Rattle.hirscan.specs.declared.fault.FaultKind.TheVariants.{NoFindLine}
 use Rattle.hirscan.specs.Words.{words}
@@ -11,14 +10,15 @@ use Rattle.hirscan.specs.LineFault.{fault}
 abbrev pub IsOneLine : List ℕ → Type 0
 IsOneLine bytes = All (λ b. b ≢ 10) bytes
 
--- From this standing on, the first n bytes of the text are lines, each ended by a line feed, up to a `find` line, and give these patterns.
-pub data Reads : List ℕ → Standing → List Tree → ℕ → Type 0 where
-  reads_find : (text line rest : List ℕ) (at : Standing) (patterns : List Tree) (n : ℕ) →
-      text ≡ line ++ 10 ∷ rest → IsOneLine line → EndsHead (words line) at → patterns ≡ at.patterns → n ≡ length line + 1 →
-      Reads text at patterns n
-  reads_line : (text line rest : List ℕ) (at after : Standing) (patterns : List Tree) (n m : ℕ) →
-      text ≡ line ++ 10 ∷ rest → IsOneLine line → Takes (words line) at after → Reads rest after patterns m → n ≡ length line + 1 + m →
-      Reads text at patterns n
+-- From this standing on, the first n bytes of the text are lines, each ended by a line feed, up to a `find` line, at
+-- which this stands.
+pub data Reads : List ℕ → Standing → Standing → ℕ → Type 0 where
+  reads_find : (text line rest : List ℕ) (at found : Standing) (n : ℕ) →
+      text ≡ line ++ 10 ∷ rest → IsOneLine line → EndsHead (words line) at → found ≡ at → n ≡ length line + 1 →
+      Reads text at found n
+  reads_line : (text line rest : List ℕ) (at after found : Standing) (n m : ℕ) →
+      text ≡ line ++ 10 ∷ rest → IsOneLine line → Takes (words line) at after → Reads rest after found m → n ≡ length line + 1 + m →
+      Reads text at found n
 
 -- From this standing on, line k of the text, counted from 1, is the first faulty one, and has this kind.
 pub data IsFaultAt : List ℕ → Standing → ℕ → FaultKind → Type 0 where

@@ -2,7 +2,7 @@
 use Rattle.std.specs.Prelude.{◌≡◌, ℕ, List, [], ◌∷◌, ◌++◌, map, Option, Some, None, codes}
 use denote.Ref.{Bor}
 use Rattle.hirscan.specs.declared.fault.FaultKind.{FaultKind}
-use Rattle.hirscan.specs.declared.fault.FaultKind.TheVariants.{NoFindLine, UnknownWord, WrongWordCount, BadNumber, BadHex, BadRange, BadChoice, MinAboveMax, TooFewTrees, TooDeep, NotOneTree, TreeLeftOver}
+use Rattle.hirscan.specs.declared.fault.FaultKind.TheVariants.{NoFindLine, UnknownWord, SettingAfterNode, WrongWordCount, BadNumber, BadHex, BadRange, BadChoice, MinAboveMax, TooFewTrees, TooDeep, NotOneTree, TreeLeftOver}
 use Rattle.hirscan.specs.declared.fault.Fault.{Fault}
 use Rattle.hirscan.specs.declared.fault.Fault.TheVariants as of_text
 use Rattle.hirscan.specs.declared.fault.LineFault.{LineFault}
@@ -10,7 +10,9 @@ use Rattle.hirscan.specs.declared.fault.LineFault.TheVariants as of_line
 use Rattle.hirscan.specs.declared.line.Step.{Step}
 use Rattle.hirscan.specs.declared.line.Step.TheVariants.{Next, End}
 use Rattle.hirscan.specs.declared.line.Stands.{Stands}
-use Rattle.hirscan.specs.Takes.{Standing, at_first, Takes, EndsHead}
+use Rattle.hirscan.specs.declared.line.Settings.{Settings as CodeSettings}
+use Rattle.hirscan.specs.declared.head.Head.{Head}
+use Rattle.hirscan.specs.Takes.{Settings, Standing, at_first, Takes, EndsHead}
 use Rattle.hirscan.specs.Reads.{IsOneLine, IsFaultAt}
 use Rattle.hirscan.specs.declared.words.LineWord.{LineWord}
 use Rattle.hirscan.specs.declared.words.LineWord.TheVariants.{Find}
@@ -20,6 +22,7 @@ use Rattle.hirscan.specs.LineFault.{first_of, when, word_fault, is_min_above_max
 abbrev pub kind_text : FaultKind → List ℕ
 kind_text NoFindLine = codes "no find line"
 kind_text UnknownWord = codes "unknown word"
+kind_text SettingAfterNode = codes "setting after a node"
 kind_text WrongWordCount = codes "wrong word count"
 kind_text BadNumber = codes "bad number"
 kind_text BadHex = codes "bad hex"
@@ -35,9 +38,20 @@ kind_text TreeLeftOver = codes "tree left over"
 abbrev pub texts : List (Bor (List ℕ)) → List (List ℕ)
 texts words = map (λ w. w.now) words
 
+-- the settings, as the rules see them
+abbrev pub settings : CodeSettings → Settings
+settings s = record { utf8 = s.utf8; anchored = s.anchored; span = s.span }
+
 -- what stands, as the rules see it
 abbrev pub standing : Stands → Standing
-standing stands = record { stack = stands.stack.items; patterns = stands.patterns.items }
+standing stands = record { settings = settings stands.settings; stack = stands.stack.items; patterns = stands.patterns.items }
+
+-- what stands at the end of a head
+abbrev pub head_standing : Head → Standing
+head_standing head = record {
+    settings = record { utf8 = head.utf8; anchored = head.anchored; span = head.span };
+    stack = [];
+    patterns = head.patterns.items }
 
 -- a fault of a text is the first one; want of memory says nothing of the text
 abbrev pub TellsFault : List ℕ → Fault → Type 0
@@ -49,10 +63,10 @@ abbrev pub TellsLineFault : Option FaultKind → LineFault → Type 0
 TellsLineFault found (of_line.Is kind) = found ≡ Some kind
 TellsLineFault found of_line.NoMemory = Unit {0}
 
--- the line was taken, or it ended the head and its patterns stay
+-- the line was taken, or it ended the head and all stays
 abbrev pub TellsStep : List (List ℕ) → Standing → Standing → Step → Type 0
 TellsStep ws before after Next = Takes ws before after
-TellsStep ws before after End = EndsHead ws before × (after.patterns ≡ before.patterns)
+TellsStep ws before after End = EndsHead ws before × (after ≡ before)
 
 -- what is wrong with a line of this first word, of which there may be so many words and which may stand there
 abbrev pub left_fault : LineWord → List (List ℕ) → Standing → Option FaultKind

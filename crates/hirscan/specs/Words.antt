@@ -22,6 +22,15 @@ abbrev pub IsGreedy : List ℕ → Bool → Type 0
 IsGreedy w true = w ≡ codes "greedy"
 IsGreedy w false = w ≡ codes "lazy"
 
+-- whether the word switches a setting on, and whether it says yes
+abbrev pub IsSwitch : List ℕ → Bool → Type 0
+IsSwitch w true = w ≡ codes "on"
+IsSwitch w false = w ≡ codes "off"
+
+abbrev pub IsYes : List ℕ → Bool → Type 0
+IsYes w true = w ≡ codes "yes"
+IsYes w false = w ≡ codes "no"
+
 -- the word spells these bytes, one or more, as two hexadecimal digits each, of either case
 abbrev pub IsHex : List ℕ → List ℕ → Type 0
 IsHex w bytes = (bytes ≢ []) × (decode_of w ≡ Ok bytes)

@@ -10,9 +10,10 @@ use thiserror::Error;
 pub enum FaultKind {
     /// The text ends before the line's line feed.
     NoFindLine,
-    /// The first word begins no line of the notation, or it is a second `pattern`, which no line may
-    /// be for now.
+    /// The first word begins no line of the notation.
     UnknownWord,
+    /// A line that sets something stands behind one that pushes a tree.
+    SettingAfterNode,
     /// There are too few or too many words.
     WrongWordCount,
     /// A number isn't decimal, has a leading zero or is above 4294967295.
@@ -43,6 +44,7 @@ impl FaultKind {
         match self {
             FaultKind::NoFindLine => "no find line",
             FaultKind::UnknownWord => "unknown word",
+            FaultKind::SettingAfterNode => "setting after a node",
             FaultKind::WrongWordCount => "wrong word count",
             FaultKind::BadNumber => "bad number",
             FaultKind::BadHex => "bad hex",

@@ -2,16 +2,22 @@
 ghost use Rattle.std.specs.Prelude.{IfOk, IfErr, MatchOption};
 ghost use Rattle.hirscan.specs.Takes.{at_first};
 ghost use Rattle.hirscan.specs.Reads.{IsOneLine, Reads};
-ghost use Rattle.hirscan.specs.Tells.{TellsFault, CutsLine};
+ghost use Rattle.hirscan.specs.Tells.{TellsFault, CutsLine, head_standing};
 
 use crate::fault::{Fault, FaultKind};
-use crate::line::{Stands, Step, read_line};
+use crate::line::{Settings, Stands, Step, read_line};
 use hir_core::Hir;
 use std::alloc::Global;
 
 /// What a text has before its haystack.
 #[derive(Debug, Drop)]
 pub struct Head {
+    /// Whether the patterns are searched in UTF-8 mode.
+    pub utf8: bool,
+    /// Whether each match has to start where its search does.
+    pub anchored: bool,
+    /// The start and the end of the span that is searched; `None` for the whole haystack.
+    pub span: Option<(usize, usize)>,
     /// The patterns, in the order in which they were taken.
     pub patterns: Vec<Hir>,
     /// How many bytes the head has, with the line feed of its line `find`.
@@ -31,10 +37,15 @@ fn split_line(text: &[u8]) -> Option<(&[u8], &[u8])>
 /// The first line that can't be taken is refused; so is a text that ends before there is a line
 /// `find`, as of its last line, which has no line feed and may be empty.
 pub fn read_head(alloc: Global, text: &[u8]) -> Result<Head, Fault>
-    ensures ok { IfOk result (λ head. Reads text.now at_first head.patterns.items head.len) }
+    ensures ok { IfOk result (λ head. Reads text.now at_first (head_standing head) head.len) }
     ensures notation { IfErr result (λ e. TellsFault text.now e) }
 {
     let mut stands = Stands {
+        settings: Settings {
+            utf8: true,
+            anchored: false,
+            span: None,
+        },
         stack: Vec::new(alloc),
         patterns: Vec::new(alloc),
     };
@@ -57,8 +68,16 @@ pub fn read_head(alloc: Global, text: &[u8]) -> Result<Head, Fault>
         match step {
             Step::Next => lines += 1,
             Step::End => {
-                let Stands { patterns, .. } = stands;
-                return Ok(Head { patterns, len: at });
+                let Stands {
+                    settings, patterns, ..
+                } = stands;
+                return Ok(Head {
+                    utf8: settings.utf8,
+                    anchored: settings.anchored,
+                    span: settings.span,
+                    patterns,
+                    len: at,
+                });
             }
         }
     }

@@ -1,42 +1,30 @@
-//! Laws of the definitions. Each function has no code: its contract is the law.
-ghost use Rattle.std.specs.Prelude.{◌≡◌, ◌<◌, ◌≤◌, ◌⊎◌, ℕ, ◌+◌, ◌-◌, true, length, slice_get, List, Option, Some, None};
+//! Laws of the answers and of the reply. Each function has no code: its contract is the law.
+ghost use Rattle.std.specs.Prelude.{◌≡◌, ◌≤◌, ℕ, ◌+◌, ◌-◌, true, slice_get, List, Option, Some, None};
 ghost use Rattle.std.specs.List.{All};
 ghost use Rattle.hir_core.specs.Tree.{Tree};
-ghost use Rattle.hir_core.specs.Means.{Means, is_member};
-ghost use Rattle.hir_core.specs.Facts.{is_ascending, LoopsRead};
-ghost use Rattle.hirscan.specs.declared.fault.FaultKind.{FaultKind};
-ghost use Rattle.hirscan.specs.declared.found.Found.{Found};
+ghost use Rattle.hir_core.specs.Means.{Means};
+ghost use Rattle.hir_core.specs.Facts.{LoopsRead};
+ghost use Rattle.search_types.specs.Found.{Found};
+ghost use Rattle.search_types.specs.Places.{counts};
 ghost use Rattle.hirscan.specs.declared.program.Ending.{Ending};
-ghost use Rattle.hirscan.specs.Choices.{tree_choices};
-ghost use Rattle.hirscan.specs.LeftmostAnswer.{leftmost_answer, IsAnswer};
+ghost use Rattle.hirscan.specs.Choices.{Query, answer_from};
 ghost use Rattle.hirscan.specs.AllAnswers.{answers_from, all_answers, AnswersWithin, EndsRise};
 ghost use Rattle.hirscan.specs.Loops.{loops_read};
-ghost use Rattle.hirscan.specs.Words.{class_ranges};
-ghost use Rattle.hirscan.specs.Takes.{Standing, Takes, EndsHead};
-ghost use Rattle.hirscan.specs.LineFault.{fault};
-ghost use Rattle.hirscan.specs.Reads.{Reads, IsFaultAt};
 ghost use Rattle.hirscan.specs.Reply.{IsReply};
-
-/// The answer is the first choice at the least place that has one, and none where no place has one.
-#[tactic(auto, using(crate::proofs::AnswerLemmas::answer_is_leftmost))]
-pub fn the_answer_is_the_leftmost()
-    ensures { (choices_at : ℕ → List (ℕ × ℕ)) (s e : ℕ) → IsAnswer choices_at s e (leftmost_answer choices_at s e) }
-{}
 
 /// An answer over trees is a span that the tree of its number means.
 #[tactic(auto, using(crate::proofs::AnswerLemmas::answer_is_meant))]
 pub fn an_answer_is_meant()
-    ensures { (xs : List Tree) (h : List ℕ) (s : ℕ) (f : Found) → leftmost_answer (tree_choices xs h) s (length h) ≡ Some f →
-        (x : Tree) × (slice_get xs f.pattern ≡ Some x) × Means h x f.start f.end }
+    ensures { (q : Query) (s : ℕ) (f : Found) → answer_from q s ≡ Some f →
+        (x : Tree) × (slice_get q.patterns f.pattern ≡ Some x) × Means q.looks q.haystack x f.start f.end }
 {}
 
-/// Answers over trees start at or after the place asked, and end between their start and the haystack's end.
+/// Answers start at or after the place asked, and end between their start and the end of what is searched.
 #[tactic(auto, using(crate::proofs::AnswerLemmas::answers_within))]
 pub fn answers_over_trees_stay_within()
-    ensures { (xs : List Tree) (h : List ℕ) → AnswersWithin (λ s. leftmost_answer (tree_choices xs h) s (length h)) (length h) }
+    ensures { (q : Query) → AnswersWithin (answer_from q) q.end }
 {}
 
-/// In the list of all answers each end is above the one before, and each span stands between the start
 /// and the end.
 #[tactic(auto, using(crate::proofs::AllAnswersLemmas::ends_rise, crate::proofs::AllAnswersLemmas::spans_within))]
 pub fn ends_rise()
@@ -59,56 +47,14 @@ pub fn loops_read_tells()
     ensures complete { (x : Tree) → LoopsRead x → loops_read x ≡ true }
 {}
 
-/// A line without a fault is taken or ends the head, and a line that is taken or ends the head has
-/// none.
-#[tactic(auto, using(crate::proofs::EffectLemmas::taken_or_ends, crate::proofs::EffectLemmas::ends_no_fault))]
-pub fn lines_without_a_fault_have_a_rule()
-    ensures ruled { (ws : List (List ℕ)) (p : Standing) → fault ws p ≡ None → ((q : Standing) × Takes ws p q) ⊎ EndsHead ws p }
-    ensures taken { (ws : List (List ℕ)) (p q : Standing) → Takes ws p q → fault ws p ≡ None }
-    ensures ended { (ws : List (List ℕ)) (p : Standing) → EndsHead ws p → fault ws p ≡ None }
-{}
-
-/// A line has one effect: it leads to one standing, and doesn't end the head as well.
-#[tactic(auto, using(crate::proofs::EffectLemmas::taken_goes_on))]
-pub fn lines_have_one_effect()
-    ensures same { (ws : List (List ℕ)) (p q r : Standing) → Takes ws p q → Takes ws p r → q ≡ r }
-    ensures goes_on { (ws : List (List ℕ)) (p q : Standing) → Takes ws p q → EndsHead ws p → ⊥ }
-{}
-
-/// A text reads in one way.
-#[tactic(auto, using(crate::proofs::ReadsLemmas::reads_once))]
-pub fn texts_read_in_one_way()
-    ensures { (text : List ℕ) (p : Standing) (xs ys : List Tree) (n m : ℕ) → Reads text p xs n → Reads text p ys m → (xs ≡ ys) × (n ≡ m) }
-{}
-
-/// A text that reads has no fault.
-#[tactic(auto, using(crate::proofs::ReadsLemmas::reads_no_fault))]
-pub fn texts_that_read_have_no_fault()
-    ensures { (text : List ℕ) (p : Standing) (xs : List Tree) (n k : ℕ) (kind : FaultKind) → Reads text p xs n → IsFaultAt text p k kind → ⊥ }
-{}
-
-/// A text has one first fault.
-#[tactic(auto, using(crate::proofs::ReadsLemmas::fault_once))]
-pub fn texts_have_one_first_fault()
-    ensures { (text : List ℕ) (p : Standing) (k l : ℕ) (kind other : FaultKind) → IsFaultAt text p k kind → IsFaultAt text p l other
-        → (k ≡ l) × (kind ≡ other) }
-{}
-
-/// A class has the bytes of its items, and its ranges are ascending and disjoint.
-#[tactic(auto, using(crate::proofs::RangeLemmas::class_members, crate::proofs::RangeLemmas::class_ranges_ascend))]
-pub fn classes_have_their_items_bytes()
-    ensures members { (items : List (ℕ × ℕ)) (b : ℕ) → b < 256 → is_member (class_ranges items) b ≡ is_member items b }
-    ensures ascending { (items : List (ℕ × ℕ)) → is_ascending (class_ranges items) ≡ true }
-{}
-
-/// A text reads, or a line of it is the first faulty one.
-pub fn texts_read_or_have_a_fault()
-    ensures { (text : List ℕ) (p : Standing) →
-        ((xs : List Tree) × (n : ℕ) × Reads text p xs n) ⊎ ((k : ℕ) × (kind : FaultKind) × IsFaultAt text p k kind) }
-{}
-
 /// An input has a reply, and only one, which ends in one way.
 pub fn an_input_has_one_reply()
     ensures some { (input : List ℕ) → (e : Ending) × (t : List ℕ) × IsReply input e t }
     ensures one { (input : List ℕ) (e f : Ending) (s t : List ℕ) → IsReply input e s → IsReply input f t → (e ≡ f) × (s ≡ t) }
+{}
+
+/// In UTF-8 mode no answer starts or ends inside a character.
+pub fn answers_start_and_end_where_it_counts()
+    ensures { (q : Query) (s : ℕ) (f : Found) → answer_from q s ≡ Some f →
+        (counts q.utf8 q.haystack f.start ≡ true) × (counts q.utf8 q.haystack f.end ≡ true) }
 {}

@@ -6,19 +6,19 @@
 //! `AllAnswers.antt`; the reply in `Reply.antt`. Their laws are in [`laws`].
 #![tactic(auto)]
 
+mod causes;
 mod fault;
 mod find;
-mod found;
 mod head;
+pub mod reading_laws;
+mod reply;
 pub mod laws;
 mod line;
 mod loops;
 mod plain;
 mod program;
-mod reply;
 mod words;
 
 pub use fault::{Fault, FaultKind};
-pub use found::Found;
 pub use head::{Head, read_head};
 pub use program::{Ending, RunError, run};

@@ -3,14 +3,15 @@ ghost use Rattle.std.specs.Prelude.{◌≡◌, ◌<◌, ◌≤◌, IfOk, IfErr, 
 ghost use Rattle.hir_core.specs.Tree.{empty};
 ghost use Rattle.hir_core.specs.Facts.{height};
 ghost use Rattle.hirscan.specs.Words.{words};
-ghost use Rattle.hirscan.specs.LineFault.{fault, known_fault, after, top, below, when, is_at_most, is_word_count, is_second_pattern};
+ghost use Rattle.hirscan.specs.LineFault.{fault, known_fault, after, top, below, when, is_at_most, is_word_count, is_setting, is_setting_after_node};
 ghost use Rattle.hirscan.specs.Tells.{texts, standing, TellsLineFault, TellsStep, left_fault, IsDone, step_after};
 ghost use Rattle.hirscan.specs.declared.fault.FaultKind.TheVariants.{TooFewTrees, TooDeep};
-ghost use Rattle.hirscan.specs.declared.words.LineWord.TheVariants.{Empty, Lit, Bytes, Rep, Cat, Alt, Pattern, Find};
+ghost use Rattle.hirscan.specs.declared.words.LineWord.TheVariants.{Utf8, Anchored, Span, Empty, Lit, Bytes, Rep, Cat, Alt, Pattern, Find};
 
 use crate::fault::{FaultKind, LineFault};
 use crate::words::{
-    LineWord, bound, class_ranges, hex_bytes, items, line_word, number, order, word_at,
+    LineWord, bound, class_ranges, hex_bytes, items, line_word, number, order, switch, word_at,
+    yes_or_no,
 };
 use hir_core::Hir;
 use std::alloc::{AllocError, Global};
@@ -18,9 +19,18 @@ use std::alloc::{AllocError, Global};
 /// A tree may not be higher.
 const MAX_HEIGHT: usize = 250;
 
-/// The trees on the stack, the last pushed last, and the patterns that were taken.
+/// How the patterns are searched.
+#[derive(Clone, Copy, Debug)]
+pub(crate) struct Settings {
+    pub utf8: bool,
+    pub anchored: bool,
+    pub span: Option<(usize, usize)>,
+}
+
+/// The settings, the trees on the stack, the last pushed last, and the patterns that were taken.
 #[derive(Debug, Drop)]
 pub(crate) struct Stands {
+    pub settings: Settings,
     pub stack: Vec<Hir>,
     pub patterns: Vec<Hir>,
 }
@@ -42,7 +52,7 @@ fn split_words(alloc: Global, line: &[u8]) -> Result<Vec<&[u8]>, AllocError>
 /// Pushes a tree, unless it is too high.
 fn push(stands: &mut Stands, tree: Hir) -> Result<(), LineFault>
     ensures ok { OnOk result ((height tree ≤ 250) × (stands.new.stack.items ≡ stands.old.stack.items ++ tree ∷ [])
-        × (stands.new.patterns.items ≡ stands.old.patterns.items)) }
+        × (stands.new.patterns.items ≡ stands.old.patterns.items) × (stands.new.settings ≡ stands.old.settings)) }
     ensures err { IfErr result (λ e. TellsLineFault (when (nat_lt 250 (height tree)) TooDeep) e) }
 {
     if tree.height() > MAX_HEIGHT {
@@ -58,6 +68,7 @@ fn pop(stands: &mut Stands) -> Option<Hir>
         × (slice_index_or (top 1 stands.old.stack.items) 0 empty ≡ x)
         × (stands.new.stack.items ≡ below 1 stands.old.stack.items)) }
     ensures patterns { stands.new.patterns.items ≡ stands.old.patterns.items }
+    ensures settings { stands.new.settings ≡ stands.old.settings }
 {
     stands.stack.pop()
 }
@@ -69,6 +80,7 @@ fn pop_many(stands: &mut Stands, count: u32) -> Result<Vec<Hir>, LineFault>
         × (stands.new.stack.items ≡ below count stands.old.stack.items)) }
     ensures err { IfErr result (λ e. TellsLineFault (when (nat_lt (length stands.old.stack.items) count) TooFewTrees) e) }
     ensures patterns { stands.new.patterns.items ≡ stands.old.patterns.items }
+    ensures settings { stands.new.settings ≡ stands.old.settings }
 {
     let len = stands.stack.len();
     if len < count as usize {
@@ -78,6 +90,45 @@ fn pop_many(stands: &mut Stands, count: u32) -> Result<Vec<Hir>, LineFault>
         .stack
         .split_off(len - count as usize)
         .map_err(|_| LineFault::NoMemory)
+}
+
+fn utf8_line(args: &[&[u8]], stands: &mut Stands) -> Result<(), LineFault>
+    requires { length args.now ≡ 1 }
+    ensures ok { OnOk result (IsDone Utf8 (texts args.now) (standing stands.old) (standing stands.new)) }
+    ensures err { IfErr result (λ e. TellsLineFault (left_fault Utf8 (texts args.now) (standing stands.old)) e) }
+{
+    let Some(on) = switch(word_at(args, 0)) else {
+        return Err(LineFault::Is(FaultKind::BadChoice));
+    };
+    stands.settings.utf8 = on;
+    Ok(())
+}
+
+fn anchored_line(args: &[&[u8]], stands: &mut Stands) -> Result<(), LineFault>
+    requires { length args.now ≡ 1 }
+    ensures ok { OnOk result (IsDone Anchored (texts args.now) (standing stands.old) (standing stands.new)) }
+    ensures err { IfErr result (λ e. TellsLineFault (left_fault Anchored (texts args.now) (standing stands.old)) e) }
+{
+    let Some(yes) = yes_or_no(word_at(args, 0)) else {
+        return Err(LineFault::Is(FaultKind::BadChoice));
+    };
+    stands.settings.anchored = yes;
+    Ok(())
+}
+
+fn span_line(args: &[&[u8]], stands: &mut Stands) -> Result<(), LineFault>
+    requires { length args.now ≡ 2 }
+    ensures ok { OnOk result (IsDone Span (texts args.now) (standing stands.old) (standing stands.new)) }
+    ensures err { IfErr result (λ e. TellsLineFault (left_fault Span (texts args.now) (standing stands.old)) e) }
+{
+    let Some(start) = number(word_at(args, 0)) else {
+        return Err(LineFault::Is(FaultKind::BadNumber));
+    };
+    let Some(end) = number(word_at(args, 1)) else {
+        return Err(LineFault::Is(FaultKind::BadNumber));
+    };
+    stands.settings.span = Some((start as usize, end as usize));
+    Ok(())
 }
 
 #[tactic(auto, using(crate::proofs::StackLemmas::below_none))]
@@ -198,19 +249,29 @@ fn is_word_count(word: LineWord, count: usize) -> bool
 {
     match word {
         LineWord::Empty | LineWord::Pattern | LineWord::Find => count == 0,
+        LineWord::Utf8 | LineWord::Anchored => count == 1,
         LineWord::Lit | LineWord::Cat | LineWord::Alt => count == 1,
+        LineWord::Span => count == 2,
         LineWord::Bytes => count >= 1,
         LineWord::Rep => count == 3,
     }
 }
 
-fn is_second_pattern(word: LineWord, stands: &Stands) -> bool
-    ensures { result ≡ is_second_pattern word (standing stands.now) }
+fn is_setting(word: LineWord) -> bool
+    ensures { result ≡ is_setting word }
 {
-    match word {
-        LineWord::Pattern => stands.patterns.len() > 0,
-        _ => false,
-    }
+    matches!(
+        word,
+        LineWord::Utf8 | LineWord::Anchored | LineWord::Span
+    )
+}
+
+/// Whether the line sets something where a tree has been pushed: such a tree stands on the stack,
+/// itself or within another, or was taken as a pattern.
+fn is_setting_after_node(word: LineWord, stands: &Stands) -> bool
+    ensures { result ≡ is_setting_after_node word (standing stands.now) }
+{
+    is_setting(word) && (stands.stack.len() > 0 || stands.patterns.len() > 0)
 }
 
 /// Follows a line that has as many words as it has to.
@@ -226,6 +287,9 @@ fn follow_counted(
     ensures err { IfErr result (λ e. TellsLineFault (left_fault word (texts args.now) (standing stands.old)) e) }
 {
     match word {
+        LineWord::Utf8 => utf8_line(args, stands)?,
+        LineWord::Anchored => anchored_line(args, stands)?,
+        LineWord::Span => span_line(args, stands)?,
         LineWord::Empty => empty_line(args, stands)?,
         LineWord::Lit => lit_line(alloc, args, stands)?,
         LineWord::Bytes => bytes_line(alloc, args, stands)?,
@@ -242,7 +306,7 @@ fn follow_counted(
 }
 
 /// Follows a line of this first word and these words after it.
-#[tactic(auto, using(crate::proofs::StageLemmas::known_fault_left, crate::proofs::StageLemmas::known_fault_unknown, crate::proofs::StageLemmas::known_fault_count))]
+#[tactic(auto, using(crate::proofs::StageLemmas::known_fault_left, crate::proofs::StageLemmas::known_fault_setting, crate::proofs::StageLemmas::known_fault_count))]
 fn follow(
     alloc: Global,
     word: LineWord,
@@ -253,8 +317,8 @@ fn follow(
         × (standing stands.new ≡ after word (texts args.now) (standing stands.old)) × (step ≡ step_after word)) }
     ensures err { IfErr result (λ e. TellsLineFault (known_fault word (texts args.now) (standing stands.old)) e) }
 {
-    if is_second_pattern(word, stands) {
-        return Err(LineFault::Is(FaultKind::UnknownWord));
+    if is_setting_after_node(word, stands) {
+        return Err(LineFault::Is(FaultKind::SettingAfterNode));
     }
     if !is_word_count(word, args.len()) {
         return Err(LineFault::Is(FaultKind::WrongWordCount));

@@ -27,11 +27,16 @@ fn loops_read(x: &Hir) -> bool
     ensures { result ≡ loops_read x.now }
 {
     match x.kind() {
-        HirKind::Empty | HirKind::Literal(_) | HirKind::Bytes(_) => true,
+        HirKind::Empty
+        | HirKind::Literal(_)
+        | HirKind::Bytes(_)
+        | HirKind::Chars(_)
+        | HirKind::Look(_) => true,
         HirKind::Repetition { max, sub, .. } => match max {
             None => is_above_zero(sub.properties().minimum_len()) && loops_read(sub),
             Some(_) => loops_read(sub),
         },
+        HirKind::Capture { sub, .. } => loops_read(sub),
         HirKind::Concat(subs) => all_read(subs),
         HirKind::Alternation(subs) => all_read(subs),
     }

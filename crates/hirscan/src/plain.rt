@@ -3,10 +3,14 @@
 ghost use Rattle.std.specs.Prelude.{◌≡◌, ◌≤◌, [], ◌∷◌, ◌++◌, map, reverse, if◌then◌else◌, IfOk, OnOk};
 ghost use Rattle.std.specs.List.{flat_map};
 ghost use Rattle.hir_core.specs.Tree.{concat, alternation};
+ghost use Rattle.search_core.specs.Characters.{character_at};
 ghost use Rattle.hir_core.specs.Means.{stands, is_member};
-ghost use Rattle.hir_core.specs.PreferredEnds.{preferred_ends, exactly, up_to, between, at_least};
+ghost use Rattle.hirscan.specs.PlainEnds.{plain_looks, plain_ends, holds_beyond};
+ghost use Rattle.hir_core.specs.PreferredEnds.{character_end, exactly, up_to, between, at_least};
 
 use hir_core::{Hir, HirKind};
+use look_core::{AsciiWord, Look, LookMatcher};
+use search_core::utf8;
 use std::alloc::{AllocError, Global};
 
 fn one(alloc: Global, at: usize) -> Result<Vec<usize>, AllocError>
@@ -30,10 +34,65 @@ fn is_in(ranges: &[(u8, u8)], b: u8) -> bool
     ranges.iter().any(|r| r.0 <= b && b <= r.1)
 }
 
+fn is_in_chars(ranges: &[(char, char)], c: char) -> bool
+    ensures { result ≡ is_member ranges.now c }
+{
+    ranges.iter().any(|r| r.0 <= c && c <= r.1)
+}
+
+/// The end of a character of the class that begins at the place.
+#[tactic(auto, using(crate::proofs::CharacterLemmas::char_found, crate::proofs::CharacterLemmas::char_passed, crate::proofs::CharacterLemmas::no_char))]
+fn ends_of_char(
+    alloc: Global,
+    h: &[u8],
+    at: usize,
+    ranges: &[(char, char)],
+) -> Result<Vec<usize>, AllocError>
+    ensures { IfOk result (λ v. v.items ≡ character_end ranges.now (character_at h.now at) at) }
+{
+    let from = at.min(h.len());
+    match utf8::decode(&h[from..]) {
+        Some(Ok(c)) => {
+            if is_in_chars(ranges, c) {
+                one(alloc, at + c.len_utf8())
+            } else {
+                Ok(Vec::new(alloc))
+            }
+        }
+        _ => Ok(Vec::new(alloc)),
+    }
+}
+
+/// Whether the look holds at the place. Beyond the haystack nothing stands on either side.
+fn look_holds(look: Look, h: &[u8], at: usize) -> bool
+    ensures { result ≡ plain_looks h.now look at }
+{
+    if at > h.len() {
+        return holds_beyond(look);
+    }
+    LookMatcher::new(AsciiWord).matches(look, h, at)
+}
+
+/// Whether the look holds where no word stands on either side, and no edge of the haystack or of a
+/// line is.
+fn holds_beyond(look: Look) -> bool
+    ensures { result ≡ holds_beyond look }
+{
+    matches!(
+        look,
+        Look::WordAsciiNegate
+            | Look::WordUnicodeNegate
+            | Look::WordStartHalfAscii
+            | Look::WordEndHalfAscii
+            | Look::WordStartHalfUnicode
+            | Look::WordEndHalfUnicode
+    )
+}
+
 /// The ends of the tree's spans from the place `at`, the preferred ones first.
 #[cycle(ends)]
 pub(crate) fn ends(alloc: Global, x: &Hir, h: &[u8], at: usize) -> Result<Vec<usize>, AllocError>
-    ensures { IfOk result (λ v. v.items ≡ preferred_ends h.now x.now at) }
+    ensures { IfOk result (λ v. v.items ≡ plain_ends h.now x.now at) }
 {
     match x.kind() {
         HirKind::Empty => one(alloc, at),
@@ -54,6 +113,14 @@ pub(crate) fn ends(alloc: Global, x: &Hir, h: &[u8], at: usize) -> Result<Vec<us
             }
             None => Ok(Vec::new(alloc)),
         },
+        HirKind::Chars(ranges) => ends_of_char(alloc, h, at, ranges),
+        HirKind::Look(look) => {
+            if look_holds(*look, h, at) {
+                one(alloc, at)
+            } else {
+                Ok(Vec::new(alloc))
+            }
+        }
         HirKind::Repetition {
             min,
             max,
@@ -63,6 +130,7 @@ pub(crate) fn ends(alloc: Global, x: &Hir, h: &[u8], at: usize) -> Result<Vec<us
             None => ends_at_least(alloc, sub, h, *greedy, *min, at),
             Some(max) => ends_between(alloc, sub, h, *greedy, *min, *max, at),
         },
+        HirKind::Capture { sub, .. } => ends(alloc, sub, h, at),
         HirKind::Concat(subs) => ends_in_turn(alloc, subs, h, at),
         HirKind::Alternation(subs) => ends_of_any(alloc, subs, h, at),
     }
@@ -76,7 +144,7 @@ fn ends_from_each(
     h: &[u8],
     places: &[usize],
 ) -> Result<Vec<usize>, AllocError>
-    ensures { IfOk result (λ v. v.items ≡ flat_map (preferred_ends h.now x.now) places.now) }
+    ensures { IfOk result (λ v. v.items ≡ flat_map (plain_ends h.now x.now) places.now) }
 {
     let mut all = Vec::new(alloc);
     for at in places {
@@ -89,7 +157,7 @@ fn ends_from_each(
 /// The ends of the parts one after the other.
 #[cycle(ends)]
 fn ends_in_turn(alloc: Global, subs: &[Hir], h: &[u8], at: usize) -> Result<Vec<usize>, AllocError>
-    ensures { IfOk result (λ v. v.items ≡ preferred_ends h.now (concat subs.now) at) }
+    ensures { IfOk result (λ v. v.items ≡ plain_ends h.now (concat subs.now) at) }
 {
     let mut places = one(alloc, at)?;
     for sub in subs {
@@ -101,7 +169,7 @@ fn ends_in_turn(alloc: Global, subs: &[Hir], h: &[u8], at: usize) -> Result<Vec<
 /// The ends of each of the parts, those of an earlier part first.
 #[cycle(ends)]
 fn ends_of_any(alloc: Global, subs: &[Hir], h: &[u8], at: usize) -> Result<Vec<usize>, AllocError>
-    ensures { IfOk result (λ v. v.items ≡ preferred_ends h.now (alternation subs.now) at) }
+    ensures { IfOk result (λ v. v.items ≡ plain_ends h.now (alternation subs.now) at) }
 {
     let mut all = Vec::new(alloc);
     for sub in subs {
@@ -120,7 +188,7 @@ fn ends_exactly(
     rounds: u32,
     at: usize,
 ) -> Result<Vec<usize>, AllocError>
-    ensures { IfOk result (λ v. v.items ≡ exactly (preferred_ends h.now x.now) rounds at) }
+    ensures { IfOk result (λ v. v.items ≡ exactly (plain_ends h.now x.now) rounds at) }
 {
     let mut places = one(alloc, at)?;
     for _ in 0..rounds {
@@ -157,7 +225,7 @@ fn ends_to_stack(
     greedy: bool,
     at: usize,
 ) -> Result<Vec<usize>, AllocError>
-    ensures { IfOk result (λ v. v.items ≡ (if greedy then preferred_ends h.now x.now at else reverse (preferred_ends h.now x.now at))) }
+    ensures { IfOk result (λ v. v.items ≡ (if greedy then plain_ends h.now x.now at else reverse (plain_ends h.now x.now at))) }
 {
     let mut places = ends(alloc, x, h, at)?;
     if !greedy {
@@ -178,7 +246,7 @@ fn ends_up_to(
     most: usize,
     at: usize,
 ) -> Result<Vec<usize>, AllocError>
-    ensures { IfOk result (λ v. v.items ≡ up_to greedy (preferred_ends h.now x.now) most at) }
+    ensures { IfOk result (λ v. v.items ≡ up_to greedy (plain_ends h.now x.now) most at) }
 {
     let mut stack = Vec::new(alloc);
     stack.push((at, most))?;
@@ -206,7 +274,7 @@ fn ends_at_least(
     min: u32,
     at: usize,
 ) -> Result<Vec<usize>, AllocError>
-    ensures { IfOk result (λ v. v.items ≡ at_least h.now greedy (preferred_ends h.now x.now) min at) }
+    ensures { IfOk result (λ v. v.items ≡ at_least h.now greedy (plain_ends h.now x.now) min at) }
 {
     let places = ends_exactly(alloc, x, h, min, at)?;
     let mut all = Vec::new(alloc);
@@ -230,7 +298,7 @@ fn ends_between(
     at: usize,
 ) -> Result<Vec<usize>, AllocError>
     requires { min ≤ max }
-    ensures { IfOk result (λ v. v.items ≡ between greedy (preferred_ends h.now x.now) min max at) }
+    ensures { IfOk result (λ v. v.items ≡ between greedy (plain_ends h.now x.now) min max at) }
 {
     let places = ends_exactly(alloc, x, h, min, at)?;
     let most = (max - min) as usize;

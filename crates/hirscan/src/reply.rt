@@ -1,24 +1,20 @@
 // The whole reply to an input, made before anything is written.
-ghost use Rattle.std.specs.Prelude.{◌≡◌, ◌++◌, ◌<◌, ◌^◌, ◌≤◌, length, IfOk, OnOk, string_bytes, drop};
-ghost use Rattle.hir_core.specs.Facts.{list_count};
-ghost use Rattle.hirscan.specs.Reads.{Reads};
-ghost use Rattle.hirscan.specs.Takes.{at_first};
-ghost use Rattle.hirscan.specs.Reply.{IsReply, span_line, span_lines, refusal_line};
+ghost use Rattle.std.specs.Prelude.{◌≡◌, ◌++◌, ◌<◌, ◌^◌, ◌≤◌, length, IfOk, IsTrue, OnOk, string_bytes};
+ghost use Rattle.hirscan.specs.Refusals.{span_of, is_span};
+ghost use Rattle.hirscan.specs.Asks.{search_of};
+ghost use Rattle.hirscan.specs.Tells.{head_standing};
+ghost use Rattle.hirscan.specs.Reply.{IsReply, IsSearchReply, span_line, span_lines, refusal_line};
 
 use crate::fault::Fault;
-use crate::find::all_answers;
-use crate::found::Found;
+use crate::causes::refusal_cause;
+use crate::find::{Asked, all_answers};
 use crate::head::{Head, read_head};
-use crate::loops::first_empty_loop;
 use crate::program::Ending;
-use hir_core::Hir;
+use search_types::{Anchored, Input, Match};
 use std::alloc::{AllocError, Global};
 
 /// The greatest length of an input, in bytes.
 pub(crate) const INPUT_LIMIT: usize = 1_073_741_824;
-
-/// The greatest count of the list of patterns.
-const COUNT_LIMIT: usize = 16384;
 
 /// What is written for an input, and how the run then ends.
 #[derive(Debug, Drop)]
@@ -27,30 +23,17 @@ pub(crate) struct Reply {
     pub text: String,
 }
 
-/// A bound on the states of an automaton for the patterns.
-fn list_count(patterns: &[Hir]) -> usize
-    ensures { result ≡ list_count patterns.now }
-{
-    let mut states = 4usize;
-    for i in (0..patterns.len()).rev() {
-        states = states.saturating_add(patterns[i].count().saturating_add(3));
-    }
-    states
-}
-
-fn push_span(text: &mut String, found: Found) -> Result<(), AllocError>
+fn push_span(text: &mut String, found: Match) -> Result<(), AllocError>
     ensures { OnOk result (string_bytes text.new ≡ string_bytes text.old ++ span_line found) }
 {
-    let Found {
-        pattern,
-        start,
-        end,
-    } = found;
+    let pattern = found.pattern().as_usize();
+    let start = found.start();
+    let end = found.end();
     writeln!(text, "{pattern} {start} {end}")?;
     Ok(())
 }
 
-fn span_lines(alloc: Global, spans: &[Found]) -> Result<String, AllocError>
+fn span_lines(alloc: Global, spans: &[Match]) -> Result<String, AllocError>
     ensures { IfOk result (λ text. string_bytes text ≡ span_lines spans.now) }
 {
     let mut text = String::new(alloc);
@@ -71,20 +54,35 @@ fn refusal(alloc: Global, cause: &str) -> Result<Reply, AllocError>
     })
 }
 
-/// The reply to an input whose head was read.
-fn head_reply(alloc: Global, head: &Head, input: &[u8]) -> Result<Reply, AllocError>
-    requires short { length input.now ≤ 2 ^ 30 }
-    requires read { Reads input.now at_first head.now.patterns.items head.now.len }
-    ensures { IfOk result (λ r. IsReply input.now r.ending (string_bytes r.text)) }
+/// The span that is searched, as an input.
+fn input_of<'h>(head: &Head, h: &'h [u8]) -> Input<'h>
+    requires { IsTrue (is_span (span_of head.now.span h.now) h.now) }
+    ensures { result ≡ search_of head.now h.now }
 {
-    if let Some(pattern) = first_empty_loop(&head.patterns) {
-        let cause = format!(in alloc; "pattern {pattern}: unbounded body may be empty")?;
+    let input = Input::new(h).anchored(if head.anchored {
+        Anchored::Yes
+    } else {
+        Anchored::No
+    });
+    match head.span {
+        None => input,
+        Some((start, end)) => input.range(start..end),
+    }
+}
+
+/// The reply to a haystack that is searched as its head says.
+fn search_reply(alloc: Global, head: &Head, h: &[u8]) -> Result<Reply, AllocError>
+    ensures { IfOk result (λ r. IsSearchReply (head_standing head.now).settings head.now.patterns.items h.now r.ending (string_bytes r.text)) }
+{
+    if let Some(cause) = refusal_cause(alloc, head, h)? {
         return refusal(alloc, cause.as_str());
     }
-    if list_count(&head.patterns) > COUNT_LIMIT {
-        return refusal(alloc, "size limit");
-    }
-    let spans = all_answers(alloc, &head.patterns, &input[head.len..])?;
+    let asked = Asked {
+        patterns: &head.patterns,
+        input: input_of(head, h),
+        utf8: head.utf8,
+    };
+    let spans = all_answers(alloc, &asked)?;
     let text = span_lines(alloc, &spans)?;
     Ok(Reply {
         ending: Ending::Listed,
@@ -100,7 +98,7 @@ pub(crate) fn reply_to(alloc: Global, input: &[u8]) -> Result<Reply, AllocError>
         return refusal(alloc, "input above 1073741824 bytes");
     }
     match read_head(alloc, input) {
-        Ok(head) => head_reply(alloc, &head, input),
+        Ok(head) => search_reply(alloc, &head, &input[head.len..]),
         Err(Fault::Notation { line, kind }) => {
             let cause = format!(in alloc; "line {line}: {kind}")?;
             refusal(alloc, cause.as_str())

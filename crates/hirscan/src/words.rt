@@ -2,7 +2,7 @@
 ghost use Rattle.std.specs.Prelude.{◌≡◌, ◌<◌, ◌≤◌, length, map, reverse, Some, None, IfOk, IfErr, OnOk};
 ghost use Rattle.hir_core.specs.Means.{is_member};
 ghost use Rattle.hirscan.specs.Words.{with_byte, class_ranges};
-ghost use Rattle.hirscan.specs.Readers.{line_word, number, bound, order, hex_bytes, hex_byte, item_ends, the_ends, word_at};
+ghost use Rattle.hirscan.specs.Readers.{line_word, number, bound, order, switch, yes_or_no, hex_bytes, hex_byte, item_ends, the_ends, word_at};
 ghost use Rattle.hirscan.specs.LineFault.{unless_read, item_fault, first_of};
 ghost use Rattle.hirscan.specs.Tells.{texts, TellsLineFault};
 ghost use Rattle.hirscan.specs.declared.fault.FaultKind.TheVariants.{BadHex};
@@ -14,6 +14,9 @@ use std::alloc::{AllocError, Global};
 /// The lines of the notation, by their first word.
 #[derive(Clone, Copy, Debug)]
 pub(crate) enum LineWord {
+    Utf8,
+    Anchored,
+    Span,
     Empty,
     Lit,
     Bytes,
@@ -27,7 +30,13 @@ pub(crate) enum LineWord {
 pub(crate) fn line_word(word: &[u8]) -> Option<LineWord>
     ensures { result ≡ line_word word.now }
 {
-    if word == b"empty".as_slice() {
+    if word == b"utf8".as_slice() {
+        Some(LineWord::Utf8)
+    } else if word == b"anchored".as_slice() {
+        Some(LineWord::Anchored)
+    } else if word == b"span".as_slice() {
+        Some(LineWord::Span)
+    } else if word == b"empty".as_slice() {
         Some(LineWord::Empty)
     } else if word == b"lit".as_slice() {
         Some(LineWord::Lit)
@@ -91,6 +100,32 @@ pub(crate) fn order(word: &[u8]) -> Option<bool>
     if word == b"greedy".as_slice() {
         Some(true)
     } else if word == b"lazy".as_slice() {
+        Some(false)
+    } else {
+        None
+    }
+}
+
+/// Whether a setting is switched on.
+pub(crate) fn switch(word: &[u8]) -> Option<bool>
+    ensures { result ≡ switch word.now }
+{
+    if word == b"on".as_slice() {
+        Some(true)
+    } else if word == b"off".as_slice() {
+        Some(false)
+    } else {
+        None
+    }
+}
+
+/// Whether a word says yes.
+pub(crate) fn yes_or_no(word: &[u8]) -> Option<bool>
+    ensures { result ≡ yes_or_no word.now }
+{
+    if word == b"yes".as_slice() {
+        Some(true)
+    } else if word == b"no".as_slice() {
         Some(false)
     } else {
         None

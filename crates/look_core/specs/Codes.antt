@@ -1,5 +1,5 @@
 -- The eighteen looks: their numbers, their reverses, and the families that a set is asked for.
-use Rattle.std.specs.Prelude.{ℕ, ◌^◌, ◌||◌, Bool, true, false, List, [], ◌∷◌}
+use Rattle.std.specs.Prelude.{ℕ, ◌^◌, ◌||◌, ◌==◌, Bool, true, false, List, [], ◌∷◌}
 use Rattle.look_core.specs.declared.look.Look.{Look}
 use Rattle.look_core.specs.declared.look.Look.TheVariants.{Start, End, StartLF, EndLF, StartCRLF, EndCRLF, WordAscii, WordAsciiNegate, WordUnicode, WordUnicodeNegate, WordStartAscii, WordEndAscii, WordStartUnicode, WordEndUnicode, WordStartHalfAscii, WordEndHalfAscii, WordStartHalfUnicode, WordEndHalfUnicode}
 
@@ -23,6 +23,10 @@ bit_of WordStartHalfAscii = 14
 bit_of WordEndHalfAscii = 15
 bit_of WordStartHalfUnicode = 16
 bit_of WordEndHalfUnicode = 17
+
+-- whether it is the same look
+abbrev pub same_look : Look → Look → Bool
+same_look k l = bit_of k == bit_of l
 
 -- the number that stands for a look
 abbrev pub repr : Look → ℕ
@@ -52,6 +56,27 @@ reversed WordStartHalfAscii = WordEndHalfAscii
 reversed WordEndHalfAscii = WordStartHalfAscii
 reversed WordStartHalfUnicode = WordEndHalfUnicode
 reversed WordEndHalfUnicode = WordStartHalfUnicode
+
+-- the character that stands for a look
+abbrev pub char_of : Look → ℕ
+char_of Start = 0x41
+char_of End = 0x7A
+char_of StartLF = 0x5E
+char_of EndLF = 0x24
+char_of StartCRLF = 0x72
+char_of EndCRLF = 0x52
+char_of WordAscii = 0x62
+char_of WordAsciiNegate = 0x42
+char_of WordUnicode = 0x1D6C3
+char_of WordUnicodeNegate = 0x1D6A9
+char_of WordStartAscii = 0x3C
+char_of WordEndAscii = 0x3E
+char_of WordStartUnicode = 0x3008
+char_of WordEndUnicode = 0x3009
+char_of WordStartHalfAscii = 0x25C1
+char_of WordEndHalfAscii = 0x25B7
+char_of WordStartHalfUnicode = 0x25C0
+char_of WordEndHalfUnicode = 0x25B6
 
 -- the edges of the haystack
 abbrev pub is_anchor_haystack : Look → Bool

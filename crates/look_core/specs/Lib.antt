@@ -2,3 +2,9 @@ pub mod Codes
 pub mod Terminators
 pub mod Looks
 pub mod LookSets
+pub mod ToldApart
+pub mod Words
+pub mod Sides
+pub mod Matchers
+pub mod Mirror
+pub mod SameClasses

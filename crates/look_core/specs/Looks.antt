@@ -1,6 +1,6 @@
 -- Where a look holds: by the neighbours of the place, read on the whole haystack. The source is the table of
 -- assertions of `regex_automata::util::look`.
-use Rattle.std.specs.Prelude.{◌≡◌, ◌<◌, ℕ, Bool, true, false, ◌&&◌, ◌||◌, ◌==◌, not, List, length, Option, Some, None, if◌then◌else◌}
+use Rattle.std.specs.Prelude.{◌≡◌, ◌<◌, ℕ, Bool, true, false, ◌&&◌, ◌||◌, ◌==◌, not, List, length, Option, Some, None}
 use Rattle.search_core.specs.Text.{byte_at, byte_before}
 use Rattle.search_core.specs.Utf8.{is_word_byte}
 use Rattle.search_core.specs.Characters.{character_at, character_before}
@@ -52,8 +52,9 @@ character_side words (Some b) (Some c) = word_if (words c)
 -- words as characters of a set: the character whose spelling ends at the place, and the one whose spelling begins there
 abbrev pub by_characters : (ℕ → Bool) → Reading
 by_characters words = record {
-    before = λ h i. character_side words (byte_before h i) (character_before h i);
-    after = λ h i. character_side words (byte_at h i) (character_at h i) }
+  before = λ h i. character_side words (byte_before h i) (character_before h i);
+  after = λ h i. character_side words (byte_at h i) (character_at h i);
+}
 
 -- a set of word characters agrees with the word bytes on ASCII
 abbrev pub IsWordSet : (ℕ → Bool) → Type 0

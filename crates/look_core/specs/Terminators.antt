@@ -1,5 +1,5 @@
 -- What ends a line: one byte or two.
-use Rattle.std.specs.Prelude.{◌<◌, ◌||◌, ◌==◌, ℕ, nat_lt, Bool, true, false, Option, Some, None, if◌then◌else◌}
+use Rattle.std.specs.Prelude.{◌<◌, ◌||◌, ◌==◌, ℕ, nat_lt, Bool, Option, Some, None, if◌then◌else◌}
 
 -- a set of one or two bytes: the least of them, and the other one, if there is one
 abbrev pub Terminator : Type 0

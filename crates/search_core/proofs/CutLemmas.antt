@@ -27,7 +27,7 @@ not_longer bytes f g s t c d h k ef eg l =
     let inner = spelling_tails d t k (length t - length s) (omega arith) (omega arith) in
     elim (spelling_lead c s h) [ inl low ↦ omega arith | inr high ↦ omega arith ]
 
-same_length : (bytes f g s t : List ℕ) (c d : ℕ) → Spells c s → Spells d t → bytes ≡ f ++ s → bytes ≡ g ++ t → length s ≡ length t
+pub same_length : (bytes f g s t : List ℕ) (c d : ℕ) → Spells c s → Spells d t → bytes ≡ f ++ s → bytes ≡ g ++ t → length s ≡ length t
 same_length bytes f g s t c d h k ef eg = elim (cases_order (length s) (length t)) [
   | inl e ↦ e
   | inr w ↦ elim w [
@@ -36,7 +36,7 @@ same_length bytes f g s t c d h k ef eg = elim (cases_order (length s) (length t
   ]
 ]
 
-lasts_same : (bytes f g s t : List ℕ) (c d : ℕ) → Spells c s → Spells d t → bytes ≡ f ++ s → bytes ≡ g ++ t → s ≡ t
+pub lasts_same : (bytes f g s t : List ℕ) (c d : ℕ) → Spells c s → Spells d t → bytes ≡ f ++ s → bytes ≡ g ++ t → s ≡ t
 lasts_same bytes f g s t c d h k ef eg =
     let n = same_length bytes f g s t c d h k ef eg in
     let nf : length f ≡ length g = omega (arith, ap length ef, ap length eg, length-append f s, length-append g t) in

@@ -80,20 +80,20 @@ spelling_leads c s (from_40000 a b d f r t u w e v) = leads_by s _ e (inr (inr (
 spelling_leads c s (from_100000 a b d f r t u w e v) = leads_by s _ e (inr (inr (inr ((omega arith, omega arith), refl))))
 
 -- a list of so many bytes, written out
-one_of : (s : List ℕ) → length s ≡ 1 → s ≡ get_or s 0 0 ∷ []
+pub one_of : (s : List ℕ) → length s ≡ 1 → s ≡ get_or s 0 0 ∷ []
 one_of [] h = absurd (omega arith)
 one_of (a ∷ []) h = refl
 one_of (a ∷ b ∷ s) h = absurd (omega arith)
 
-two_of : (s : List ℕ) → length s ≡ 2 → s ≡ get_or s 0 0 ∷ get_or s 1 0 ∷ []
+pub two_of : (s : List ℕ) → length s ≡ 2 → s ≡ get_or s 0 0 ∷ get_or s 1 0 ∷ []
 two_of [] h = absurd (omega arith)
 two_of (a ∷ s) h = ap (λ l. a ∷ l) (one_of s (omega arith))
 
-three_of : (s : List ℕ) → length s ≡ 3 → s ≡ get_or s 0 0 ∷ get_or s 1 0 ∷ get_or s 2 0 ∷ []
+pub three_of : (s : List ℕ) → length s ≡ 3 → s ≡ get_or s 0 0 ∷ get_or s 1 0 ∷ get_or s 2 0 ∷ []
 three_of [] h = absurd (omega arith)
 three_of (a ∷ s) h = ap (λ l. a ∷ l) (two_of s (omega arith))
 
-four_of : (s : List ℕ) → length s ≡ 4 → s ≡ get_or s 0 0 ∷ get_or s 1 0 ∷ get_or s 2 0 ∷ get_or s 3 0 ∷ []
+pub four_of : (s : List ℕ) → length s ≡ 4 → s ≡ get_or s 0 0 ∷ get_or s 1 0 ∷ get_or s 2 0 ∷ get_or s 3 0 ∷ []
 four_of [] h = absurd (omega arith)
 four_of (a ∷ s) h = ap (λ l. a ∷ l) (three_of s (omega arith))
 
@@ -113,7 +113,7 @@ leads_four : (a n : ℕ) → Leads a n → 0xF0 ≤ a → n ≡ 4
 leads_four a n h low = grind arith
 
 -- a spelling that stands first: its bytes are those of the text, so the first byte of the text says how long it is
-same_first : (bytes s rest : List ℕ) (k : ℕ) → bytes ≡ s ++ rest → k < length s → get_or s k 0 ≡ get_or bytes k 0
+pub same_first : (bytes s rest : List ℕ) (k : ℕ) → bytes ≡ s ++ rest → k < length s → get_or s k 0 ≡ get_or bytes k 0
 same_first bytes s rest k e h = sym (ap (λ l. get_or l k 0) e ∙ get_or_append_left s rest 0 k h)
 
 module _ (bytes : List ℕ) (c : ℕ) (f : SpellsFirst c bytes) where
@@ -158,19 +158,19 @@ module _ (bytes : List ℕ) (c : ℕ) (f : SpellsFirst c bytes) where
       (omega (arith, first_fits), subst (Spells c) (four_of f.spelling n ∙ cc) f.spells)
 
 -- bytes that are long enough, with the first few written out
-front_one : (bytes : List ℕ) → 0 < length bytes → bytes ≡ (get_or bytes 0 0 ∷ []) ++ drop 1 bytes
+pub front_one : (bytes : List ℕ) → 0 < length bytes → bytes ≡ (get_or bytes 0 0 ∷ []) ++ drop 1 bytes
 front_one [] h = absurd (omega arith)
 front_one (a ∷ t) h = refl
 
-front_two : (bytes : List ℕ) → 1 < length bytes → bytes ≡ (get_or bytes 0 0 ∷ get_or bytes 1 0 ∷ []) ++ drop 2 bytes
+pub front_two : (bytes : List ℕ) → 1 < length bytes → bytes ≡ (get_or bytes 0 0 ∷ get_or bytes 1 0 ∷ []) ++ drop 2 bytes
 front_two [] h = absurd (omega arith)
 front_two (a ∷ t) h = ap (λ l. a ∷ l) (front_one t (omega arith))
 
-front_three : (bytes : List ℕ) → 2 < length bytes → bytes ≡ (get_or bytes 0 0 ∷ get_or bytes 1 0 ∷ get_or bytes 2 0 ∷ []) ++ drop 3 bytes
+pub front_three : (bytes : List ℕ) → 2 < length bytes → bytes ≡ (get_or bytes 0 0 ∷ get_or bytes 1 0 ∷ get_or bytes 2 0 ∷ []) ++ drop 3 bytes
 front_three [] h = absurd (omega arith)
 front_three (a ∷ t) h = ap (λ l. a ∷ l) (front_two t (omega arith))
 
-front_four : (bytes : List ℕ) → 3 < length bytes →
+pub front_four : (bytes : List ℕ) → 3 < length bytes →
     bytes ≡ (get_or bytes 0 0 ∷ get_or bytes 1 0 ∷ get_or bytes 2 0 ∷ get_or bytes 3 0 ∷ []) ++ drop 4 bytes
 front_four [] h = absurd (omega arith)
 front_four (a ∷ t) h = ap (λ l. a ∷ l) (front_three t (omega arith))
@@ -210,25 +210,25 @@ same_last bytes front s k e h =
 abbrev pub back : List ℕ → ℕ → ℕ
 back bytes k = get_or bytes (length bytes - k) 0
 
-back_one : (bytes front s : List ℕ) → bytes ≡ front ++ s → length s ≡ 1 → s ≡ back bytes 1 ∷ []
+pub back_one : (bytes front s : List ℕ) → bytes ≡ front ++ s → length s ≡ 1 → s ≡ back bytes 1 ∷ []
 back_one bytes front s e n =
     let e0 = rw n at (same_last bytes front s 0 e (omega arith)) in
     one_of s n ∙ cc
 
-back_two : (bytes front s : List ℕ) → bytes ≡ front ++ s → length s ≡ 2 → s ≡ back bytes 2 ∷ back bytes 1 ∷ []
+pub back_two : (bytes front s : List ℕ) → bytes ≡ front ++ s → length s ≡ 2 → s ≡ back bytes 2 ∷ back bytes 1 ∷ []
 back_two bytes front s e n =
     let e0 = rw n at (same_last bytes front s 1 e (omega arith)) in
     let e1 = rw n at (same_last bytes front s 0 e (omega arith)) in
     two_of s n ∙ cc
 
-back_three : (bytes front s : List ℕ) → bytes ≡ front ++ s → length s ≡ 3 → s ≡ back bytes 3 ∷ back bytes 2 ∷ back bytes 1 ∷ []
+pub back_three : (bytes front s : List ℕ) → bytes ≡ front ++ s → length s ≡ 3 → s ≡ back bytes 3 ∷ back bytes 2 ∷ back bytes 1 ∷ []
 back_three bytes front s e n =
     let e0 = rw n at (same_last bytes front s 2 e (omega arith)) in
     let e1 = rw n at (same_last bytes front s 1 e (omega arith)) in
     let e2 = rw n at (same_last bytes front s 0 e (omega arith)) in
     three_of s n ∙ cc
 
-back_four : (bytes front s : List ℕ) → bytes ≡ front ++ s → length s ≡ 4 →
+pub back_four : (bytes front s : List ℕ) → bytes ≡ front ++ s → length s ≡ 4 →
     s ≡ back bytes 4 ∷ back bytes 3 ∷ back bytes 2 ∷ back bytes 1 ∷ []
 back_four bytes front s e n =
     let e0 = rw n at (same_last bytes front s 3 e (omega arith)) in
@@ -260,7 +260,7 @@ pub put_three : (bytes : List ℕ) (c : ℕ) → 2 < length bytes → Spells c (
 put_three bytes c long h =
     put_last bytes c 3 long (subst (Spells c) (sym (back_three bytes _ _ (cut bytes 0 3 long) (dropped bytes 0 3 long))) h)
 
-put_four : (bytes : List ℕ) (c : ℕ) → 3 < length bytes →
+pub put_four : (bytes : List ℕ) (c : ℕ) → 3 < length bytes →
     Spells c (back bytes 4 ∷ back bytes 3 ∷ back bytes 2 ∷ back bytes 1 ∷ []) → SpellsLast c bytes
 put_four bytes c long h =
     put_last bytes c 4 long (subst (Spells c) (sym (back_four bytes _ _ (cut bytes 0 4 long) (dropped bytes 0 4 long))) h)

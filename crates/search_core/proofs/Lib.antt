@@ -8,3 +8,5 @@ pub mod MarkLemmas
 pub mod ByteSetLemmas
 pub mod StepLemmas
 pub mod UnitLemmas
+pub mod CharacterLemmas
+mod CharacterRows

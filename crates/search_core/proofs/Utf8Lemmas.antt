@@ -10,26 +10,26 @@ use Rattle.search_core.specs.Utf8.{IsContinuation, scalar_of_two, scalar_of_thre
 use Rattle.search_core.specs.Utf8.Spells.{from_0000, from_0080, from_0800, from_1000, from_d000, from_e000, from_10000, from_40000, from_100000}
 use Rattle.search_core.specs.Utf8.IsValidText.{no_spelling, spelling_then}
 
-encode_two : (c : ℕ) → 0x80 ≤ c → c < 0x800 → encode_utf8 c ≡ (192 + c / 64) ∷ (128 + c % 64) ∷ []
+pub encode_two : (c : ℕ) → 0x80 ≤ c → c < 0x800 → encode_utf8 c ≡ (192 + c / 64) ∷ (128 + c % 64) ∷ []
 unfolding encode_utf8
 encode_two c low high = cond-false _ _ _ (le-ltb c 128 low) ∙ cond-true _ _ _ (lt-ltb c 2048 high)
 
-encode_three : (c : ℕ) → 0x800 ≤ c → c < 0x1_0000 →
+pub encode_three : (c : ℕ) → 0x800 ≤ c → c < 0x1_0000 →
     encode_utf8 c ≡ (224 + c / 4096) ∷ (128 + (c / 64) % 64) ∷ (128 + c % 64) ∷ []
 unfolding encode_utf8
 encode_three c low high =
     cond-false _ _ _ (le-ltb c 128 (omega arith)) ∙ cond-false _ _ _ (le-ltb c 2048 low) ∙ cond-true _ _ _ (lt-ltb c 65536 high)
 
-encode_four : (c : ℕ) → 0x1_0000 ≤ c →
+pub encode_four : (c : ℕ) → 0x1_0000 ≤ c →
     encode_utf8 c ≡ (240 + c / 262144) ∷ (128 + (c / 4096) % 64) ∷ (128 + (c / 64) % 64) ∷ (128 + c % 64) ∷ []
 unfolding encode_utf8
 encode_four c low =
     cond-false _ _ _ (le-ltb c 128 (omega arith)) ∙ cond-false _ _ _ (le-ltb c 2048 (omega arith)) ∙ cond-false _ _ _ (le-ltb c 65536 low)
 
-IsScalar-of_range : (c : ℕ) → InScalarRange c → IsScalar c
+pub IsScalar-of_range : (c : ℕ) → InScalarRange c → IsScalar c
 IsScalar-of_range c h = grind (arith, nat_tests)
 
-range-of_IsScalar : (c : ℕ) → IsScalar c → InScalarRange c
+pub range-of_IsScalar : (c : ℕ) → IsScalar c → InScalarRange c
 range-of_IsScalar c h = grind (arith, nat_tests)
 
 -- the bytes of a code that was put together from the bits of bytes

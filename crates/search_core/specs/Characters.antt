@@ -1,7 +1,8 @@
 -- The character whose spelling begins or ends at a place of a text, computed.
-use Rattle.std.specs.Prelude.{ℕ, ◌+◌, ◌-◌, Bool, ◌&&◌, nat_lt, nat_le, List, length, slice_index_or, Option, Some, None, if◌then◌else◌}
+use Rattle.std.specs.Prelude.{ℕ, ◌+◌, ◌-◌, ◌&&◌, nat_lt, nat_le, List, length, slice_index_or, Option, Some, None, Result, if◌then◌else◌}
 use Rattle.std.specs.Int.{is_in_range}
-use Rattle.std.specs.Option.{option_or}
+use Rattle.std.specs.Option.{option_or, option_map, ok_or}
+use Rattle.search_core.specs.Text.{byte_at, byte_before}
 use Rattle.search_core.specs.Utf8.{scalar_of_two, scalar_of_three, scalar_of_four, second_of_three, second_of_four}
 
 -- the byte with index k; 0, which continues nothing, where there is none
@@ -42,3 +43,12 @@ character_before h i = option_or (ending_at 1 one_byte h i) (option_or (ending_a
 -- how many bytes spell the scalar
 abbrev pub spelling_len : ℕ → ℕ
 spelling_len c = if nat_le c 0x7F then 1 else if nat_le c 0x7FF then 2 else if nat_le c 0xFFFF then 3 else 4
+
+-- what reading the first scalar from the place on gives: nothing where there is no byte, the character that begins there, or
+-- else the byte
+abbrev pub read_at : List ℕ → ℕ → Option (Result ℕ ℕ)
+read_at h i = option_map (λ b. ok_or (character_at h i) b) (byte_at h i)
+
+-- what reading the last scalar before the place gives
+abbrev pub read_before : List ℕ → ℕ → Option (Result ℕ ℕ)
+read_before h i = option_map (λ b. ok_or (character_before h i) b) (byte_before h i)

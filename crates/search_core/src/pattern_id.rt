@@ -179,12 +179,17 @@ impl PatternIDError {
 }
 
 impl fmt::Display for PatternIDError {
+    ghost use Rattle.std.specs.Prelude.{◌++◌, Some, codes, decimal};
+    ghost use Rattle.search_core.specs.Index.{greatest_index};
+
+    ghost output = { λ attempted. Some (codes "failed to create PatternID from " ++ (decimal attempted ++ (codes ", which exceeds PatternID(" ++ (decimal greatest_index ++ codes ")")))) };
+
     fn fmt<W: fmt::Write>(&self, f: &mut fmt::Formatter<W>) -> fmt::Result {
         write!(
             f,
-            "failed to create PatternID from {}, which exceeds {:?}",
+            "failed to create PatternID from {}, which exceeds PatternID({})",
             self.attempted(),
-            PatternID::MAX
+            PatternID::MAX.as_u32()
         )
     }
 }

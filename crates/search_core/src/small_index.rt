@@ -174,12 +174,17 @@ impl SmallIndexError {
 }
 
 impl fmt::Display for SmallIndexError {
+    ghost use Rattle.std.specs.Prelude.{◌++◌, Some, codes, decimal};
+    ghost use Rattle.search_core.specs.Index.{greatest_index};
+
+    ghost output = { λ attempted. Some (codes "failed to create small index from " ++ (decimal attempted ++ (codes ", which exceeds SmallIndex(" ++ (decimal greatest_index ++ codes ")")))) };
+
     fn fmt<W: fmt::Write>(&self, f: &mut fmt::Formatter<W>) -> fmt::Result {
         write!(
             f,
-            "failed to create small index from {}, which exceeds {:?}",
+            "failed to create small index from {}, which exceeds SmallIndex({})",
             self.attempted,
-            SmallIndex::MAX
+            SmallIndex::MAX.as_u32()
         )
     }
 }

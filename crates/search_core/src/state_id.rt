@@ -179,12 +179,17 @@ impl StateIDError {
 }
 
 impl fmt::Display for StateIDError {
+    ghost use Rattle.std.specs.Prelude.{◌++◌, Some, codes, decimal};
+    ghost use Rattle.search_core.specs.Index.{greatest_index};
+
+    ghost output = { λ attempted. Some (codes "failed to create StateID from " ++ (decimal attempted ++ (codes ", which exceeds StateID(" ++ (decimal greatest_index ++ codes ")")))) };
+
     fn fmt<W: fmt::Write>(&self, f: &mut fmt::Formatter<W>) -> fmt::Result {
         write!(
             f,
-            "failed to create StateID from {}, which exceeds {:?}",
+            "failed to create StateID from {}, which exceeds StateID({})",
             self.attempted(),
-            StateID::MAX
+            StateID::MAX.as_u32()
         )
     }
 }

@@ -2,7 +2,8 @@
 ghost use Rattle.std.specs.Prelude.{◌≡◌, ◌≤◌, ◌<◌, ℕ, List, [], ◌++◌, length, take, drop, Option, Result, Some, Ok, ◌⊎◌, true, false};
 ghost use Rattle.std.specs.Char.{IsScalar, encode_utf8};
 ghost use Rattle.std.specs.Str.{IsUtf8};
-ghost use Rattle.search_core.specs.Utf8.{Spells, IsValidText, IsSplit, Decodes, DecodesLast, is_boundary};
+ghost use Rattle.search_core.specs.Characters.{character_at, character_before, spelling_len, read_at, read_before};
+ghost use Rattle.search_core.specs.Utf8.{Spells, SpellsFirst, SpellsLast, IsValidText, IsSplit, Decodes, DecodesLast, is_boundary};
 
 /// The table's rows are what std's encoder gives for the scalar values, and for nothing else.
 pub fn spelling_is_encode_utf8()
@@ -66,4 +67,29 @@ pub fn cut_points_decode()
         Decodes (drop i h) read → (c : ℕ) × (read ≡ Some (Ok c)) }
     ensures before { (h : List ℕ) (i : ℕ) (read : Option (Result ℕ ℕ)) → IsValidText h → 0 < i → i ≤ length h → ¬ (IsSplit h i) →
         DecodesLast (take i h) read → (c : ℕ) × (read ≡ Some (Ok c)) }
+{}
+
+/// How many bytes spell a scalar.
+#[tactic(auto, using(crate::proofs::CharacterLemmas::spelling_has_len))]
+pub fn spellings_have_lengths()
+    ensures { (c : ℕ) (s : List ℕ) → Spells c s → length s ≡ spelling_len c }
+{}
+
+/// The character that is computed at a place is the one whose spelling begins there, and likewise in
+/// front of a place.
+pub fn characters_at_places()
+    ensures begins { (h : List ℕ) (i c : ℕ) → character_at h i ≡ Some c → SpellsFirst c (drop i h) }
+    ensures at { (h : List ℕ) (i c : ℕ) → SpellsFirst c (drop i h) → character_at h i ≡ Some c }
+    ensures ends { (h : List ℕ) (i c : ℕ) → i ≤ length h → character_before h i ≡ Some c → SpellsLast c (take i h) }
+    ensures before { (h : List ℕ) (i c : ℕ) → i ≤ length h → SpellsLast c (take i h) → character_before h i ≡ Some c }
+{}
+
+/// What [`decode`](crate::utf8::decode) reads from a place on, and what
+/// [`decode_last`](crate::utf8::decode_last) reads in front of one, is computed from the character and the
+/// byte there.
+pub fn what_decode_reads()
+    ensures behind { (h : List ℕ) (i : ℕ) (read : Option (Result ℕ ℕ)) → Decodes (drop i h) read → read ≡ read_at h i }
+    ensures behind_decodes { (h : List ℕ) (i : ℕ) → Decodes (drop i h) (read_at h i) }
+    ensures before { (h : List ℕ) (i : ℕ) (read : Option (Result ℕ ℕ)) → i ≤ length h → DecodesLast (take i h) read → read ≡ read_before h i }
+    ensures before_decodes { (h : List ℕ) (i : ℕ) → i ≤ length h → DecodesLast (take i h) (read_before h i) }
 {}

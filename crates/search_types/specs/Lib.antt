@@ -1,5 +1,15 @@
 pub mod Modes
 pub mod Places
+pub mod Inputs
 pub mod Found
 pub mod LeftmostAnswer
 pub mod Groups
+pub mod PatternSets
+pub mod ErrorTexts
+pub mod GroupFaults
+pub mod GroupRefusals
+pub mod GroupPlaces
+pub mod GroupIndices
+pub mod CapturesValue
+pub mod CapturesLends
+pub mod GroupSlots

@@ -1,7 +1,19 @@
 -- Search modes: at which places a search may start, and which patterns it may find.
-use Rattle.std.specs.Prelude.{ℕ, Bool, true, ◌&&◌, ◌==◌, nat_lt, nat_le}
+use Rattle.std.specs.Prelude.{ℕ, Bool, true, false, Option, Some, None, ◌&&◌, ◌==◌, nat_lt, nat_le}
 use Rattle.search_types.specs.declared.anchored.Anchored.{Anchored}
 use Rattle.search_types.specs.declared.anchored.Anchored.TheVariants.{No, Yes, Pattern}
+
+-- whether the mode ties a match to the start of the search
+abbrev pub is_anchored : Anchored → Bool
+is_anchored No = false
+is_anchored Yes = true
+is_anchored (Pattern p) = true
+
+-- the pattern that the mode names
+abbrev pub named_pattern : Anchored → Option ℕ
+named_pattern No = None
+named_pattern Yes = None
+named_pattern (Pattern p) = Some p
 
 -- the last place at which a search from s to e may start
 abbrev pub last_start : Anchored → ℕ → ℕ → ℕ

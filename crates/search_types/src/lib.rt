@@ -1,8 +1,40 @@
 //! What a search is asked and what it answers: inputs, spans, matches, sets of patterns, groups and captures.
 //!
-//! The definitions are in `specs/`.
+//! The definitions are in `specs/`; their laws are public functions without code in [`answer_laws`],
+//! [`group_laws`] and [`captures_laws`].
 #![tactic(auto)]
 
 mod anchored;
+pub mod answer_laws;
+mod captures;
+mod captures_iter;
+pub mod captures_laws;
+mod captures_parts;
+mod group_info;
+mod group_info_error;
+pub mod group_laws;
+mod group_names;
+mod haystack;
+mod input;
+mod match_error;
+mod match_kind;
+mod matches;
+mod pattern_groups;
+mod pattern_set;
+mod pattern_set_iter;
+mod span;
 
 pub use anchored::Anchored;
+pub use captures::Captures;
+pub use captures_iter::CapturesPatternIter;
+pub use group_info::GroupInfo;
+pub use group_info_error::GroupInfoError;
+pub use group_names::{GroupInfoAllNames, GroupInfoPatternNames};
+pub use haystack::Haystack;
+pub use input::Input;
+pub use match_error::{MatchError, MatchErrorKind};
+pub use match_kind::MatchKind;
+pub use matches::{HalfMatch, Match};
+pub use pattern_set::{PatternSet, PatternSetInsertError};
+pub use pattern_set_iter::PatternSetIter;
+pub use span::Span;

@@ -1,5 +1,6 @@
 use crate::small::{Small, trees};
 use hir_core::{Hir, HirKind};
+use look_core::Look;
 use std::process::Abort;
 use std::test::Fail;
 
@@ -36,6 +37,15 @@ fn leaves_are_kept_as_given(rt: HostRuntime) -> Result<(), Fail> {
     );
     let fail = Hir::fail(alloc);
     assert_eq!(rt; class_ranges(&fail), Some([].as_slice()));
+    let letters = Hir::chars(vec![in alloc; ('a', 'z'), ('α', 'ω')]?);
+    match letters.kind() {
+        HirKind::Chars(ranges) => {
+            assert_eq!(rt; ranges.as_slice(), [('a', 'z'), ('α', 'ω')].as_slice())
+        }
+        kind => panic!(rt; "{kind:?} is no class of characters"),
+    }
+    let word = Hir::look(Look::WordUnicode);
+    assert!(rt; matches!(word.kind(), HirKind::Look(Look::WordUnicode)));
     Ok(())
 }
 

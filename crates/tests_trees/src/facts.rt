@@ -1,6 +1,6 @@
 use crate::small::Small::{
-    self, Dash, Date, Digit, Empty, Fail as Failing, Huge, NoBytes, NoChoice, NoParts, Sam,
-    Samwise, Vowel,
+    self, Anchored, Dash, Date, Digit, Empty, Fail as Failing, Group, Huge, Letter, NoBytes,
+    NoChars, NoChoice, NoParts, Sam, Samwise, Start, Vowel, Wide,
 };
 use crate::small::{nested, trees};
 use hir_core::Hir;
@@ -30,6 +30,14 @@ fn facts_of_small_trees(rt: HostRuntime) -> Result<(), Fail> {
         (NoChoice, (None, 1, 4)),
         (Date, (Some(10), 3, 26)),
         (Huge, (Some(MOST), 4, MOST)),
+        // one sequence of byte ranges for the letters of ASCII, and two for the Greek ones
+        (Letter, (Some(1), 1, 14)),
+        // two sequences of two bytes, four of three and three of four
+        (Wide, (Some(2), 1, 38)),
+        (NoChars, (None, 1, 2)),
+        (Start, (Some(0), 1, 1)),
+        (Anchored, (Some(1), 2, 6)),
+        (Group, (Some(1), 3, 8)),
     ];
     for (small, want) in rows {
         let tree = small.tree(rt.alloc())?;

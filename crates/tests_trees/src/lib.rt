@@ -9,4 +9,8 @@ mod facts;
 #[cfg(test)]
 mod ranges;
 #[cfg(test)]
+mod sequences;
+#[cfg(test)]
 mod small;
+#[cfg(test)]
+mod tree_facts;

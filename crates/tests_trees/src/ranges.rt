@@ -1,4 +1,4 @@
-use hir_core::is_ascending;
+use hir_core::{is_ascending, is_ascending_chars};
 
 #[test]
 fn ranges_ascend_and_are_disjoint(rt: HostRuntime) {
@@ -22,5 +22,24 @@ fn ranges_ascend_and_are_disjoint(rt: HostRuntime) {
     ];
     for (ranges, want) in rows {
         assert_eq!(rt; is_ascending(ranges), want, "ranges {ranges:?}");
+    }
+}
+
+#[test]
+fn ranges_of_characters_ascend_and_are_disjoint(rt: HostRuntime) {
+    let rows: [(&[(char, char)], bool); 8] = [
+        (&[], true),
+        (&[('\0', char::MAX)], true),
+        (&[('a', 'z'), ('α', 'ω')], true),
+        // side by side, also where surrogates lie between
+        (&[('a', 'm'), ('n', 'z')], true),
+        (&[('a', '\u{D7FF}'), ('\u{E000}', char::MAX)], true),
+        // `m` is in both
+        (&[('a', 'm'), ('m', 'z')], false),
+        (&[('z', 'a')], false),
+        (&[('α', 'ω'), ('a', 'z')], false),
+    ];
+    for (ranges, want) in rows {
+        assert_eq!(rt; is_ascending_chars(ranges), want, "ranges {ranges:?}");
     }
 }

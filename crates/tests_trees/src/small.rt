@@ -1,5 +1,6 @@
 //! Small trees that the tables of the tests are made of.
 use hir_core::Hir;
+use look_core::Look;
 use std::alloc::{AllocError, Global};
 
 #[derive(Clone, Copy, Debug)]
@@ -28,6 +29,28 @@ pub enum Small {
     Date,
     /// A digit, 4294967295 times in each of three repetitions.
     Huge,
+    /// `α`, as its two bytes.
+    Alpha,
+    /// A literal of the byte FF, which is no UTF-8.
+    LoneByte,
+    /// The bytes from 41 to 80, the last of which is no UTF-8.
+    HighBytes,
+    /// `[a-zα-ω]`
+    Letter,
+    /// The characters from `é` to `😀`.
+    Wide,
+    /// A class of characters without a range.
+    NoChars,
+    /// `^`
+    Start,
+    /// `$`
+    End,
+    /// `\b` of ASCII words.
+    Word,
+    /// `^-$`
+    Anchored,
+    /// `(?<dash>^-$)`, the group with index 1.
+    Group,
 }
 
 impl Small {
@@ -45,6 +68,17 @@ impl Small {
             Small::NoChoice => Ok(Hir::alternation(Vec::new(alloc))),
             Small::Date => date(alloc),
             Small::Huge => nested(alloc, 3),
+            Small::Alpha => text(alloc, "α".as_bytes()),
+            Small::LoneByte => text(alloc, &[0xFF]),
+            Small::HighBytes => Ok(Hir::bytes(vec![in alloc; (0x41, 0x80)]?)),
+            Small::Letter => Ok(Hir::chars(vec![in alloc; ('a', 'z'), ('α', 'ω')]?)),
+            Small::Wide => Ok(Hir::chars(vec![in alloc; ('é', '😀')]?)),
+            Small::NoChars => Ok(Hir::chars(Vec::new(alloc))),
+            Small::Start => Ok(Hir::look(Look::Start)),
+            Small::End => Ok(Hir::look(Look::End)),
+            Small::Word => Ok(Hir::look(Look::WordAscii)),
+            Small::Anchored => anchored(alloc),
+            Small::Group => group(alloc),
         }
     }
 }
@@ -98,4 +132,17 @@ fn date(alloc: Global) -> Result<Hir, AllocError> {
     parts.push(text(alloc, b"-")?)?;
     parts.push(times(alloc, 2, digit(alloc)?)?)?;
     Ok(Hir::concat(parts))
+}
+
+fn anchored(alloc: Global) -> Result<Hir, AllocError> {
+    let mut parts = Vec::new(alloc);
+    parts.push(Hir::look(Look::Start))?;
+    parts.push(text(alloc, b"-")?)?;
+    parts.push(Hir::look(Look::End))?;
+    Ok(Hir::concat(parts))
+}
+
+fn group(alloc: Global) -> Result<Hir, AllocError> {
+    let name = String::from_str(alloc, "dash")?;
+    Hir::capture(alloc, 1, Some(name), anchored(alloc)?)
 }

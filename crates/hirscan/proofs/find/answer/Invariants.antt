@@ -1,9 +1,11 @@
-use Rattle.std.proofs.Common.{◌≡◌, ◌+◌, ◌-◌, length}
-use Rattle.hirscan.specs.Choices.{tree_choices}
-use Rattle.hirscan.specs.LeftmostAnswer.{leftmost, leftmost_answer}
+use Rattle.std.proofs.Common.{◌≡◌, ◌+◌, ◌-◌}
+use Rattle.search_types.specs.Modes.{last_start}
+use Rattle.search_types.specs.LeftmostAnswer.{leftmost}
+use Rattle.hirscan.specs.Asks.{query}
+use Rattle.hirscan.specs.Choices.{choices_at, answer_from}
 use Rattle.hirscan.proofs.find.answer.Given as goal
 
 abbrev pub invariant-loop-at : goal.invariant-loop-at
 invariant-loop-at l =
-    leftmost_answer (tree_choices l.patterns l.h) l.start (length l.h)
-    ≡ leftmost (tree_choices l.patterns l.h) (length l.h + 1 - l.at) l.at
+    answer_from (query l.asked) l.start
+    ≡ leftmost (choices_at (query l.asked)) (last_start l.asked.input.anchored l.start l.asked.input.end + 1 - l.at) l.at

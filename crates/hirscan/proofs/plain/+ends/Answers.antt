@@ -2,7 +2,8 @@ use Rattle.std.proofs.Common.{rules, ◌≡◌, ◌+◌, ◌-◌, length, ap, sy
 use Rattle.std.specs.List.{flat_map}
 use Rattle.std.proofs.lemmas.List.{take_all}
 use Rattle.hir_core.specs.Weight.{weight}
-use Rattle.hir_core.specs.PreferredEnds.{preferred_ends, exactly, up_to, unbounded}
+use Rattle.hirscan.specs.PlainEnds.{plain_ends}
+use Rattle.hir_core.specs.PreferredEnds.{exactly, up_to, unbounded}
 use Rattle.hirscan.proofs.RoundLemmas.{round_done, rounds_done, no_place, between_by_exactly, at_least_by_exactly}
 use Rattle.hirscan.proofs.WalkLemmas.{turn_last, turn_more, met_greedy, met_lazy}
 use Rattle.hirscan.proofs.PartLemmas.{weight_in_concat, weight_in_alternation, part_done, parts_done}
@@ -11,7 +12,7 @@ use Rattle.hirscan.proofs.plain.+ends.Goals.{ends_up_to-then-greedy, ends_up_to-
 
 pub ends_at_least-returns : goal.ends_at_least-returns
 ends_at_least-returns t c =
-    let body = preferred_ends c.args.h.now c.args.x.now in
+    let body = plain_ends c.args.h.now c.args.x.now in
     c.loop-place.invariant
     ∙ ap (flat_map (unbounded c.args.h.now c.args.greedy body))
     (take_all c.loop-place.place-index c.deref-place-items.result.now c.loop-place-test.false
@@ -20,7 +21,7 @@ ends_at_least-returns t c =
 
 pub ends_between-returns : goal.ends_between-returns
 ends_between-returns t c =
-    let body = preferred_ends c.args.h.now c.args.x.now in
+    let body = plain_ends c.args.h.now c.args.x.now in
     c.loop-place.invariant
     ∙ ap (flat_map (up_to c.args.greedy body (c.args.max - c.args.min)))
     (take_all c.loop-place.place-index c.deref-place-items.result.now c.loop-place-test.false
@@ -29,14 +30,14 @@ ends_between-returns t c =
 
 pub ends_exactly-loop-preserved : goal.ends_exactly-loop-preserved
 ends_exactly-loop-preserved t c =
-    let body = preferred_ends c.args.h.now c.args.x.now in
+    let body = plain_ends c.args.h.now c.args.x.now in
     rw (c.in_ok-places-2.ensures, c.deref.ensures.value)
     (round_done body c.loop.places.items (c.args.rounds - c.loop.counter) (c.args.rounds - (c.loop.counter + 1)) (omega arith)
     ∙ c.loop.invariant)
 
 pub ends_exactly-returns : goal.ends_exactly-returns
 ends_exactly-returns t c =
-    let body = preferred_ends c.args.h.now c.args.x.now in
+    let body = plain_ends c.args.h.now c.args.x.now in
     elim c.loop-test.branch [
       | ends_exactly-else-loop-test w ↦
           sym (rounds_done body c.loop.places.items (c.args.rounds - c.loop.counter) (omega arith)) ∙ c.loop.invariant
@@ -64,30 +65,30 @@ ends_of_any-ends-requires t c =
 
 pub ends_up_to-loop-place-smaller-then-left-gt0 : goal.ends_up_to-loop-place-smaller-then-left-gt0
 ends_up_to-loop-place-smaller-then-left-gt0 t c =
-    (turn_more c.args.greedy (preferred_ends c.args.h.now c.args.x.now) c.loop-place.met.items _ _ _ _ c.in-Some.place c.in-Some.left c.deref.result.now
+    (turn_more c.args.greedy (plain_ends c.args.h.now c.args.x.now) c.loop-place.met.items _ _ _ _ c.in-Some.place c.in-Some.left c.deref.result.now
     c.if-left-gt0.true (c.deref.ensures.value ∙ c.in_ok-more.ensures) c.in-Some.ensures.items c.in_ok-push-2.ensures.items c.in_ok-stack_up.ensures).1
 
 pub ends_up_to-loop-place-preserved-then-left-gt0 : goal.ends_up_to-loop-place-preserved-then-left-gt0
 ends_up_to-loop-place-preserved-then-left-gt0 t c =
-    (turn_more c.args.greedy (preferred_ends c.args.h.now c.args.x.now) c.loop-place.met.items _ _ _ _ c.in-Some.place c.in-Some.left c.deref.result.now
+    (turn_more c.args.greedy (plain_ends c.args.h.now c.args.x.now) c.loop-place.met.items _ _ _ _ c.in-Some.place c.in-Some.left c.deref.result.now
     c.if-left-gt0.true (c.deref.ensures.value ∙ c.in_ok-more.ensures) c.in-Some.ensures.items c.in_ok-push-2.ensures.items c.in_ok-stack_up.ensures).0
     ∙ c.loop-place.invariant
 
 pub ends_up_to-loop-place-smaller : goal.ends_up_to-loop-place-smaller
 ends_up_to-loop-place-smaller t c =
-    (turn_last c.args.greedy (preferred_ends c.args.h.now c.args.x.now) c.loop-place.met.items _ _ _ c.in-Some.place c.in-Some.left (omega arith)
+    (turn_last c.args.greedy (plain_ends c.args.h.now c.args.x.now) c.loop-place.met.items _ _ _ c.in-Some.place c.in-Some.left (omega arith)
     c.in-Some.ensures.items c.in_ok-push-2.ensures.items).1
 
 pub ends_up_to-loop-place-preserved : goal.ends_up_to-loop-place-preserved
 ends_up_to-loop-place-preserved t c =
-    (turn_last c.args.greedy (preferred_ends c.args.h.now c.args.x.now) c.loop-place.met.items _ _ _ c.in-Some.place c.in-Some.left (omega arith)
+    (turn_last c.args.greedy (plain_ends c.args.h.now c.args.x.now) c.loop-place.met.items _ _ _ c.in-Some.place c.in-Some.left (omega arith)
     c.in-Some.ensures.items c.in_ok-push-2.ensures.items).0
     ∙ c.loop-place.invariant
 
 pub ends_up_to-returns : goal.ends_up_to-returns
 ends_up_to-returns t c =
     let none : length c.loop-place.stack.items ≡ 0 = search rules in
-    let body = preferred_ends c.args.h.now c.args.x.now in
+    let body = plain_ends c.args.h.now c.args.x.now in
     elim c.if-greedy.branch [
       | ends_up_to-then-greedy w ↦
           let same = met_greedy c.args.greedy body c.args.most c.args.at c.loop-place.met.items c.loop-place.stack.items

@@ -1,7 +1,7 @@
-use Rattle.std.proofs.Common.{◌≡◌, ◌≤◌, ◌^◌, ◌∙◌, ap, rules, codes, ◌++◌, decimal, length}
-use Rattle.hirscan.specs.Tells.{kind_text}
+use Rattle.std.proofs.Common.{refl, ◌≡◌, ◌≤◌, ◌^◌, ◌∙◌, ap, rules, codes, ◌++◌, decimal, length}
+use Rattle.hirscan.specs.Tells.{kind_text, head_standing}
 use Rattle.hirscan.specs.Reply.{faulty, refusal_line}
-use Rattle.hirscan.proofs.ReplyLemmas.{reply_of_refusal}
+use Rattle.hirscan.proofs.ReplyLemmas.{head_len_le, reply_of_refusal, reply_of_search}
 use Rattle.hirscan.proofs.reply.reply_to.Goals as goal
 
 pub returns-in_ok-cause-in-Err-Notation : goal.returns-in_ok-cause-in-Err-Notation
@@ -12,3 +12,14 @@ returns-in_ok-cause-in-Err-Notation c =
     let cause : c.as_str.result.now ≡ codes "line " ++ (decimal k ++ (codes ": " ++ kind_text kind)) = search rules in
     reply_of_refusal _ _ _ c.refusal-in-Err-Notation.ensures.ending c.refusal-in-Err-Notation.ensures.text
     (λ e t p q. faulty k kind short (rw c.in-Err-Notation.field-0-is at c.in-Err-Notation.ensures.notation) p (q ∙ ap refusal_line cause))
+
+pub slice_bounds-search_reply-count : goal.slice_bounds-search_reply-count
+slice_bounds-search_reply-count c = head_len_le _ _ _ _ c.in-Ok.ensures.ok
+
+pub slice_bounds-search_reply-start : goal.slice_bounds-search_reply-start
+slice_bounds-search_reply-start c = head_len_le _ _ _ _ c.in-Ok.ensures.ok
+
+pub returns-in-Ok : goal.returns-in-Ok
+returns-in-Ok c =
+    reply_of_search c.search_reply.result c.args.input.now _ (head_standing c.in-Ok.head) c.in-Ok.head.len c.if-input-gt-INPUT_LIMIT.false c.in-Ok.ensures.ok
+    refl c.search_reply.ensures

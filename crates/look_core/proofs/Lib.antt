@@ -1,0 +1,12 @@
+pub mod LookRows
+pub mod LookSetLemmas
+pub mod TerminatorLemmas
+pub mod SideLemmas
+pub mod MemberLemmas
+pub mod ReadLemmas
+pub mod InsideLemmas
+pub mod MirrorLemmas
+pub mod ClassLemmas
+pub mod CloseLemmas
+pub mod KeepLemmas
+pub mod CharacterMirrorLemmas

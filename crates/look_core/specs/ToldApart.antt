@@ -1,0 +1,40 @@
+-- The ranges of bytes that a look tells apart: inside each range, and outside all of them, bytes are alike for the look,
+-- where words are read as bytes of ASCII.
+use Rattle.std.specs.Prelude.{ℕ, Some, None, List, [], ◌∷◌}
+use Rattle.look_core.specs.Terminators.{Terminator}
+use Rattle.look_core.specs.declared.look.Look.{Look}
+use Rattle.look_core.specs.declared.look.Look.TheVariants.{Start, End, StartLF, EndLF, StartCRLF, EndCRLF, WordAscii, WordAsciiNegate, WordUnicode, WordUnicodeNegate, WordStartAscii, WordEndAscii, WordStartUnicode, WordEndUnicode, WordStartHalfAscii, WordEndHalfAscii, WordStartHalfUnicode, WordEndHalfUnicode}
+
+-- the bytes of a terminator, each as a range
+abbrev pub line_ends : Terminator → List (ℕ × ℕ)
+line_ends (a, None) = (a, a) ∷ []
+line_ends (a, Some b) = (a, a) ∷ (b, b) ∷ []
+
+-- the line feed and the carriage return, each as a range
+abbrev pub crlf_ranges : List (ℕ × ℕ)
+crlf_ranges = (0x0A, 0x0A) ∷ (0x0D, 0x0D) ∷ []
+
+-- the word bytes: digits, capital letters, the underscore and small letters
+abbrev pub word_ranges : List (ℕ × ℕ)
+word_ranges = (0x30, 0x39) ∷ (0x41, 0x5A) ∷ (0x5F, 0x5F) ∷ (0x61, 0x7A) ∷ []
+
+-- what the look tells apart, where lines end at the terminator; the edges of the haystack are no bytes
+abbrev pub told_apart : Terminator → Look → List (ℕ × ℕ)
+told_apart t Start = []
+told_apart t End = []
+told_apart t StartLF = line_ends t
+told_apart t EndLF = line_ends t
+told_apart t StartCRLF = crlf_ranges
+told_apart t EndCRLF = crlf_ranges
+told_apart t WordAscii = word_ranges
+told_apart t WordAsciiNegate = word_ranges
+told_apart t WordUnicode = word_ranges
+told_apart t WordUnicodeNegate = word_ranges
+told_apart t WordStartAscii = word_ranges
+told_apart t WordEndAscii = word_ranges
+told_apart t WordStartUnicode = word_ranges
+told_apart t WordEndUnicode = word_ranges
+told_apart t WordStartHalfAscii = word_ranges
+told_apart t WordEndHalfAscii = word_ranges
+told_apart t WordStartHalfUnicode = word_ranges
+told_apart t WordEndHalfUnicode = word_ranges

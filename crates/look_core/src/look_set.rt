@@ -1,0 +1,276 @@
+ghost use Rattle.std.specs.Prelude.{◌≡◌, ◌↔◌, IsTrue, ℕ, length, Ok};
+ghost use Rattle.std.specs.List.{list_any};
+ghost use Rattle.look_core.specs.Codes.{repr, is_anchor, is_anchor_haystack, is_anchor_line, is_anchor_lf, is_anchor_crlf, is_word_look, is_word_unicode, is_word_ascii};
+ghost use Rattle.look_core.specs.LookSets.{IsLookSet, has_look, full_set, with_look, without_look, union_of, shared_by, without, members, has_any, IsFirstLook};
+
+use crate::look::Look;
+use crate::look_set_iter::LookSetIter;
+use crate::unicode_error::UnicodeWordBoundaryError;
+use std::marker::Model;
+
+/// A set of looks, as `regex_automata::util::look::LookSet`. A contract sees it as a number with a bit for each
+/// member, below 2 to the power of 18.
+#[derive(Clone, Copy, Debug, PartialEq, Eq)]
+pub struct LookSet {
+    bits: u32,
+}
+
+impl Model for LookSet {
+    ghost Value = { ℕ };
+
+    ghost view = { λ s. s.bits };
+
+    ghost invariant = { λ s. IsLookSet s.bits };
+
+    ghost inverse = { λ n. record { bits = n } };
+}
+
+impl LookSet {
+    pub fn empty() -> LookSet
+        ensures { result ≡ 0 }
+    {
+        LookSet { bits: 0 }
+    }
+
+    /// The set of all eighteen looks. It has no bits but theirs, where `regex_automata` sets all 32.
+    pub fn full() -> LookSet
+        ensures { result ≡ full_set }
+    {
+        LookSet { bits: 0x3FFFF }
+    }
+
+    /// The set of one look.
+    pub fn singleton(look: Look) -> LookSet
+        ensures { result ≡ repr look }
+    {
+        LookSet::empty().insert(look)
+    }
+
+    /// The number that the set is, with a bit for each member: those that [`Look::as_repr`] gives, added up.
+    pub fn bits(self) -> u32
+        ensures value { result ≡ self }
+        ensures in_range { IsLookSet result }
+    {
+        self.bits
+    }
+
+    /// How many looks are in the set.
+    pub fn len(self) -> usize
+        ensures { result ≡ length (members self) }
+    {
+        self.bits.count_ones() as usize
+    }
+
+    pub fn is_empty(self) -> bool
+        ensures { IsTrue result ↔ (self ≡ 0) }
+    {
+        self.bits == 0
+    }
+
+    pub fn contains(self, look: Look) -> bool
+        ensures { result ≡ has_look self look }
+    {
+        self.bits & look.as_repr() != 0
+    }
+
+    /// The members, ascending by their numbers.
+    pub fn iter(self) -> LookSetIter
+        ensures { result ≡ members self }
+    {
+        LookSetIter::new(self)
+    }
+
+    /// Nothing: the table of word characters, which some looks need, is always there.
+    pub fn available(self) -> Result<(), UnicodeWordBoundaryError>
+        ensures { result ≡ Ok tt }
+    {
+        UnicodeWordBoundaryError::check()
+    }
+
+    /// The member with the least number.
+    pub(crate) fn first(self) -> Option<Look>
+        ensures { IsFirstLook self result }
+    {
+        if self.is_empty() {
+            return None;
+        }
+        Look::from_repr(1 << self.bits.trailing_zeros())
+    }
+}
+
+/// What the set has of a family of looks.
+impl LookSet {
+    /// Whether it has a look of the haystack's edges or of lines.
+    pub fn contains_anchor(self) -> bool
+        ensures { result ≡ has_any is_anchor self }
+    {
+        self.contains_anchor_haystack() || self.contains_anchor_line()
+    }
+
+    /// Whether it has a look of the haystack's edges.
+    pub fn contains_anchor_haystack(self) -> bool
+        ensures { result ≡ has_any is_anchor_haystack self }
+    {
+        self.contains_any(&[Look::Start, Look::End])
+    }
+
+    /// Whether it has a look of lines.
+    pub fn contains_anchor_line(self) -> bool
+        ensures { result ≡ has_any is_anchor_line self }
+    {
+        self.contains_anchor_lf() || self.contains_anchor_crlf()
+    }
+
+    /// Whether it has a look of lines that the line terminator ends.
+    pub fn contains_anchor_lf(self) -> bool
+        ensures { result ≡ has_any is_anchor_lf self }
+    {
+        self.contains_any(&[Look::StartLF, Look::EndLF])
+    }
+
+    /// Whether it has a look of lines that carriage return and line feed end.
+    pub fn contains_anchor_crlf(self) -> bool
+        ensures { result ≡ has_any is_anchor_crlf self }
+    {
+        self.contains_any(&[Look::StartCRLF, Look::EndCRLF])
+    }
+
+    /// Whether it has a look of words.
+    pub fn contains_word(self) -> bool
+        ensures { result ≡ has_any is_word_look self }
+    {
+        self.contains_word_unicode() || self.contains_word_ascii()
+    }
+
+    /// Whether it has a look of words that are characters.
+    pub fn contains_word_unicode(self) -> bool
+        ensures { result ≡ has_any is_word_unicode self }
+    {
+        self.contains_any(&[
+            Look::WordUnicode,
+            Look::WordUnicodeNegate,
+            Look::WordStartUnicode,
+            Look::WordEndUnicode,
+            Look::WordStartHalfUnicode,
+            Look::WordEndHalfUnicode,
+        ])
+    }
+
+    /// Whether it has a look of words that are bytes of ASCII.
+    pub fn contains_word_ascii(self) -> bool
+        ensures { result ≡ has_any is_word_ascii self }
+    {
+        self.contains_any(&[
+            Look::WordAscii,
+            Look::WordAsciiNegate,
+            Look::WordStartAscii,
+            Look::WordEndAscii,
+            Look::WordStartHalfAscii,
+            Look::WordEndHalfAscii,
+        ])
+    }
+
+    /// Whether it has one of these looks.
+    fn contains_any(self, looks: &[Look]) -> bool
+        ensures { result ≡ list_any (has_look self) looks.now }
+    {
+        for look in looks {
+            if self.contains(*look) {
+                return true;
+            }
+        }
+        false
+    }
+}
+
+/// Sets made of others.
+impl LookSet {
+    /// The set with the look.
+    pub fn insert(self, look: Look) -> LookSet
+        ensures { result ≡ with_look self look }
+    {
+        LookSet {
+            bits: self.bits | look.as_repr(),
+        }
+    }
+
+    /// The set without the look.
+    pub fn remove(self, look: Look) -> LookSet
+        ensures { result ≡ without_look self look }
+    {
+        LookSet {
+            bits: self.bits & !look.as_repr(),
+        }
+    }
+
+    /// The members that the other set has not.
+    pub fn subtract(self, other: LookSet) -> LookSet
+        ensures { result ≡ without self other }
+    {
+        LookSet {
+            bits: self.bits & !other.bits,
+        }
+    }
+
+    /// The members of either set.
+    pub fn union(self, other: LookSet) -> LookSet
+        ensures { result ≡ union_of self other }
+    {
+        LookSet {
+            bits: self.bits | other.bits,
+        }
+    }
+
+    /// The members of both sets.
+    pub fn intersect(self, other: LookSet) -> LookSet
+        ensures { result ≡ shared_by self other }
+    {
+        LookSet {
+            bits: self.bits & other.bits,
+        }
+    }
+
+    /// Puts the look in.
+    pub fn set_insert(&mut self, look: Look)
+        ensures { self.new ≡ with_look self.old look }
+    {
+        *self = self.insert(look);
+    }
+
+    /// Takes the look out.
+    pub fn set_remove(&mut self, look: Look)
+        ensures { self.new ≡ without_look self.old look }
+    {
+        *self = self.remove(look);
+    }
+
+    /// Takes the other set's members out.
+    pub fn set_subtract(&mut self, other: LookSet)
+        ensures { self.new ≡ without self.old other }
+    {
+        *self = self.subtract(other);
+    }
+
+    /// Puts the other set's members in.
+    pub fn set_union(&mut self, other: LookSet)
+        ensures { self.new ≡ union_of self.old other }
+    {
+        *self = self.union(other);
+    }
+
+    /// Leaves the members alone that the other set has too.
+    pub fn set_intersect(&mut self, other: LookSet)
+        ensures { self.new ≡ shared_by self.old other }
+    {
+        *self = self.intersect(other);
+    }
+}
+
+impl Default for LookSet {
+    /// The empty set.
+    fn default() -> LookSet
+        ensures { result ≡ 0 }
+    {
+        LookSet::empty()
+    }
+}

@@ -1,0 +1,29 @@
+ghost use Rattle.std.specs.Prelude.{◌≡◌, Ok};
+
+use std::error::Error;
+use std::fmt;
+
+/// What asking for Unicode's word boundaries would be refused with, where the table of word characters is left
+/// out. Here the table is always there, so nothing gives this error.
+#[derive(Clone, Copy, Debug, PartialEq, Eq)]
+pub struct UnicodeWordBoundaryError(());
+
+impl UnicodeWordBoundaryError {
+    /// Always `Ok`: the table of word characters is there.
+    pub fn check() -> Result<(), UnicodeWordBoundaryError>
+        ensures { result ≡ Ok tt }
+    {
+        Ok(())
+    }
+}
+
+impl fmt::Display for UnicodeWordBoundaryError {
+    fn fmt<W: fmt::Write>(&self, f: &mut fmt::Formatter<W>) -> fmt::Result {
+        write!(
+            f,
+            "the table of word characters, which \\b and \\B need for Unicode text, was left out"
+        )
+    }
+}
+
+impl Error for UnicodeWordBoundaryError {}

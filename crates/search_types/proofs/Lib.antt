@@ -1,0 +1,9 @@
+pub mod IteratorLemmas
+pub mod PatternSetLemmas
+pub mod ModeLemmas
+pub mod AnswerLemmas
+mod AnswerRows
+pub mod GroupLemmas
+pub mod IndexLemmas
+pub mod CapturesLemmas
+pub mod GroupLaws

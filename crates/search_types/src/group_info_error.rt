@@ -1,0 +1,88 @@
+ghost use Rattle.std.specs.Prelude.{◌≡◌};
+ghost use Rattle.search_types.specs.declared.group_info_error.GroupInfoError.TheVariants.{NoMemory};
+
+use search_core::{PatternID, PatternIDError};
+use std::alloc::{AllocError, AllocFailed};
+use std::error::Error;
+use std::fmt;
+
+/// Why groups can't be taken: the first rule that they break, or no memory.
+#[derive(Debug, Drop)]
+pub enum GroupInfoError {
+    /// There are more patterns than can be numbered.
+    TooManyPatterns {
+        /// The refusal of the first number that is too great.
+        err: PatternIDError,
+    },
+    /// A pattern has more groups than can be numbered, or than there are slots for.
+    TooManyGroups {
+        /// The pattern.
+        pattern: PatternID,
+        /// How many groups it has, or at least how many.
+        minimum: usize,
+    },
+    /// A pattern has no groups, not even one for its whole match.
+    MissingGroups {
+        /// The pattern.
+        pattern: PatternID,
+    },
+    /// The first group of a pattern, which is its whole match, has a name.
+    FirstMustBeUnnamed {
+        /// The pattern.
+        pattern: PatternID,
+    },
+    /// Two groups of a pattern have one name.
+    Duplicate {
+        /// The pattern.
+        pattern: PatternID,
+        /// The name.
+        name: String,
+    },
+    /// There is no memory left.
+    NoMemory,
+}
+
+impl fmt::Display for GroupInfoError {
+    fn fmt<W: fmt::Write>(&self, f: &mut fmt::Formatter<W>) -> fmt::Result {
+        match self {
+            GroupInfoError::TooManyPatterns { err } => write!(f, "too many patterns: {err}"),
+            GroupInfoError::TooManyGroups { pattern, minimum } => write!(
+                f,
+                "pattern {} has too many groups, at least {minimum}",
+                pattern.as_usize()
+            ),
+            GroupInfoError::MissingGroups { pattern } => {
+                write!(f, "pattern {} has no groups", pattern.as_usize())
+            }
+            GroupInfoError::FirstMustBeUnnamed { pattern } => write!(
+                f,
+                "the first group of pattern {} has a name",
+                pattern.as_usize()
+            ),
+            GroupInfoError::Duplicate { pattern, name } => write!(
+                f,
+                "two groups of pattern {} have the name '{name}'",
+                pattern.as_usize()
+            ),
+            GroupInfoError::NoMemory => write!(f, "out of memory"),
+        }
+    }
+}
+
+impl Error for GroupInfoError {}
+
+impl From<AllocError> for GroupInfoError {
+    ghost from_gives = { λ _ e. e ≡ NoMemory };
+
+    fn from(_error: AllocError) -> GroupInfoError {
+        GroupInfoError::NoMemory
+    }
+}
+
+impl<T: Drop> From<AllocFailed<T>> for GroupInfoError {
+    ghost from_gives = { λ _ e. e ≡ NoMemory };
+
+    fn from(_error: AllocFailed<T>) -> GroupInfoError {
+        GroupInfoError::NoMemory
+    }
+}

@@ -1,0 +1,565 @@
+ghost use Rattle.std.specs.Prelude.{◌≤◌, length};
+
+use look_core::Look::{
+    End, EndCRLF, EndLF, Start, StartCRLF, StartLF, WordAscii, WordAsciiNegate, WordEndAscii,
+    WordEndHalfAscii, WordEndHalfUnicode, WordEndUnicode, WordStartAscii, WordStartHalfAscii,
+    WordStartHalfUnicode, WordStartUnicode, WordUnicode, WordUnicodeNegate,
+};
+use look_core::{
+    AsciiWord, LineTerm, Look, LookMatcher, LookSet, UnicodeWordBoundaryError, WordClass,
+};
+use search_core::ByteClassSet;
+
+/// The word bytes of ASCII and one Greek letter.
+#[derive(Clone, Copy)]
+struct WithBeta;
+
+impl WordClass for WithBeta {
+    ghost use Rattle.std.specs.Prelude.{◌||◌, ◌==◌};
+    ghost use Rattle.std.proofs.Common.{arith};
+    ghost use Rattle.std.proofs.lemmas.Bool.Decides.{nat_tests};
+    ghost use Rattle.search_core.specs.Utf8.{is_word_byte};
+
+    ghost words = { λ _ c. (c == 0x3B2) || is_word_byte c };
+
+    fn is_word(&self, c: char) -> bool {
+        c == 'β' || AsciiWord.is_word(c)
+    }
+
+    ghost ascii = { λ _ c h. Prim.grind (arith, nat_tests) };
+}
+
+fn all_looks() -> [Look; 18] {
+    [
+        Start,
+        End,
+        StartLF,
+        EndLF,
+        StartCRLF,
+        EndCRLF,
+        WordAscii,
+        WordAsciiNegate,
+        WordUnicode,
+        WordUnicodeNegate,
+        WordStartAscii,
+        WordEndAscii,
+        WordStartUnicode,
+        WordEndUnicode,
+        WordStartHalfAscii,
+        WordEndHalfAscii,
+        WordStartHalfUnicode,
+        WordEndHalfUnicode,
+    ]
+}
+
+/// What the look's own call says.
+fn by_call<W: WordClass>(
+    matcher: &LookMatcher<W>,
+    look: Look,
+    haystack: &[u8],
+    at: usize,
+) -> Result<bool, UnicodeWordBoundaryError>
+    requires { at ≤ length haystack.now }
+{
+    match look {
+        Start => Ok(matcher.is_start(haystack, at)),
+        End => Ok(matcher.is_end(haystack, at)),
+        StartLF => Ok(matcher.is_start_lf(haystack, at)),
+        EndLF => Ok(matcher.is_end_lf(haystack, at)),
+        StartCRLF => Ok(matcher.is_start_crlf(haystack, at)),
+        EndCRLF => Ok(matcher.is_end_crlf(haystack, at)),
+        WordAscii => Ok(matcher.is_word_ascii(haystack, at)),
+        WordAsciiNegate => Ok(matcher.is_word_ascii_negate(haystack, at)),
+        WordUnicode => matcher.is_word_unicode(haystack, at),
+        WordUnicodeNegate => matcher.is_word_unicode_negate(haystack, at),
+        WordStartAscii => Ok(matcher.is_word_start_ascii(haystack, at)),
+        WordEndAscii => Ok(matcher.is_word_end_ascii(haystack, at)),
+        WordStartUnicode => matcher.is_word_start_unicode(haystack, at),
+        WordEndUnicode => matcher.is_word_end_unicode(haystack, at),
+        WordStartHalfAscii => Ok(matcher.is_word_start_half_ascii(haystack, at)),
+        WordEndHalfAscii => Ok(matcher.is_word_end_half_ascii(haystack, at)),
+        WordStartHalfUnicode => matcher.is_word_start_half_unicode(haystack, at),
+        WordEndHalfUnicode => matcher.is_word_end_half_unicode(haystack, at),
+    }
+}
+
+/// Whether these looks hold at the place and no others, by the one call and by each look's own.
+fn holds_only<W: WordClass>(
+    matcher: &LookMatcher<W>,
+    haystack: &[u8],
+    at: usize,
+    looks: &[Look],
+) -> bool {
+    if at > haystack.len() {
+        return false;
+    }
+    for look in all_looks() {
+        let expected = looks.contains(&look);
+        if matcher.matches(look, haystack, at) != expected
+            || by_call(matcher, look, haystack, at) != Ok(expected)
+        {
+            return false;
+        }
+    }
+    true
+}
+
+/// A haystack, a place and the looks that hold there.
+type Row = (&'static [u8], usize, &'static [Look]);
+
+/// Lines: the edges of the haystack, and `\r` and `\n` in each order. No words stand beside these places.
+const fn lines() -> [Row; 9] {
+    [
+        (
+            b"",
+            0,
+            &[
+                Start,
+                End,
+                StartLF,
+                EndLF,
+                StartCRLF,
+                EndCRLF,
+                WordAsciiNegate,
+                WordUnicodeNegate,
+                WordStartHalfAscii,
+                WordEndHalfAscii,
+                WordStartHalfUnicode,
+                WordEndHalfUnicode,
+            ],
+        ),
+        (
+            b"\n",
+            0,
+            &[
+                Start,
+                StartLF,
+                EndLF,
+                StartCRLF,
+                EndCRLF,
+                WordAsciiNegate,
+                WordUnicodeNegate,
+                WordStartHalfAscii,
+                WordEndHalfAscii,
+                WordStartHalfUnicode,
+                WordEndHalfUnicode,
+            ],
+        ),
+        (
+            b"\n",
+            1,
+            &[
+                End,
+                StartLF,
+                EndLF,
+                StartCRLF,
+                EndCRLF,
+                WordAsciiNegate,
+                WordUnicodeNegate,
+                WordStartHalfAscii,
+                WordEndHalfAscii,
+                WordStartHalfUnicode,
+                WordEndHalfUnicode,
+            ],
+        ),
+        (
+            b"\r\n",
+            0,
+            &[
+                Start,
+                StartLF,
+                StartCRLF,
+                EndCRLF,
+                WordAsciiNegate,
+                WordUnicodeNegate,
+                WordStartHalfAscii,
+                WordEndHalfAscii,
+                WordStartHalfUnicode,
+                WordEndHalfUnicode,
+            ],
+        ),
+        (
+            b"\r\n",
+            1,
+            &[
+                EndLF,
+                WordAsciiNegate,
+                WordUnicodeNegate,
+                WordStartHalfAscii,
+                WordEndHalfAscii,
+                WordStartHalfUnicode,
+                WordEndHalfUnicode,
+            ],
+        ),
+        (
+            b"\r\n",
+            2,
+            &[
+                End,
+                StartLF,
+                EndLF,
+                StartCRLF,
+                EndCRLF,
+                WordAsciiNegate,
+                WordUnicodeNegate,
+                WordStartHalfAscii,
+                WordEndHalfAscii,
+                WordStartHalfUnicode,
+                WordEndHalfUnicode,
+            ],
+        ),
+        (
+            b"\n\r",
+            1,
+            &[
+                StartLF,
+                StartCRLF,
+                EndCRLF,
+                WordAsciiNegate,
+                WordUnicodeNegate,
+                WordStartHalfAscii,
+                WordEndHalfAscii,
+                WordStartHalfUnicode,
+                WordEndHalfUnicode,
+            ],
+        ),
+        (
+            b"a\rb",
+            1,
+            &[
+                EndCRLF,
+                WordAscii,
+                WordUnicode,
+                WordEndAscii,
+                WordEndUnicode,
+                WordEndHalfAscii,
+                WordEndHalfUnicode,
+            ],
+        ),
+        (
+            b"a\rb",
+            2,
+            &[
+                StartCRLF,
+                WordAscii,
+                WordUnicode,
+                WordStartAscii,
+                WordStartUnicode,
+                WordStartHalfAscii,
+                WordStartHalfUnicode,
+            ],
+        ),
+    ]
+}
+
+/// Words of ASCII, and bytes that belong to no character.
+const fn words() -> [Row; 11] {
+    [
+        (
+            b"a",
+            0,
+            &[
+                Start,
+                StartLF,
+                StartCRLF,
+                WordAscii,
+                WordUnicode,
+                WordStartAscii,
+                WordStartUnicode,
+                WordStartHalfAscii,
+                WordStartHalfUnicode,
+            ],
+        ),
+        (
+            b"a",
+            1,
+            &[
+                End,
+                EndLF,
+                EndCRLF,
+                WordAscii,
+                WordUnicode,
+                WordEndAscii,
+                WordEndUnicode,
+                WordEndHalfAscii,
+                WordEndHalfUnicode,
+            ],
+        ),
+        (b"_9", 1, &[WordAsciiNegate, WordUnicodeNegate]),
+        (
+            b"-Z",
+            1,
+            &[
+                WordAscii,
+                WordUnicode,
+                WordStartAscii,
+                WordStartUnicode,
+                WordStartHalfAscii,
+                WordStartHalfUnicode,
+            ],
+        ),
+        (
+            b"Z-",
+            1,
+            &[
+                WordAscii,
+                WordUnicode,
+                WordEndAscii,
+                WordEndUnicode,
+                WordEndHalfAscii,
+                WordEndHalfUnicode,
+            ],
+        ),
+        (
+            b"--",
+            1,
+            &[
+                WordAsciiNegate,
+                WordUnicodeNegate,
+                WordStartHalfAscii,
+                WordEndHalfAscii,
+                WordStartHalfUnicode,
+                WordEndHalfUnicode,
+            ],
+        ),
+        // a broken side is neither a word nor none
+        (
+            b"\x80",
+            0,
+            &[
+                Start,
+                StartLF,
+                StartCRLF,
+                WordAsciiNegate,
+                WordStartHalfAscii,
+                WordEndHalfAscii,
+                WordStartHalfUnicode,
+            ],
+        ),
+        (
+            b"\x80",
+            1,
+            &[
+                End,
+                EndLF,
+                EndCRLF,
+                WordAsciiNegate,
+                WordStartHalfAscii,
+                WordEndHalfAscii,
+                WordEndHalfUnicode,
+            ],
+        ),
+        (
+            b"a\xFF",
+            1,
+            &[
+                WordAscii,
+                WordUnicode,
+                WordEndAscii,
+                WordEndUnicode,
+                WordEndHalfAscii,
+            ],
+        ),
+        (
+            b"\xFFa",
+            1,
+            &[
+                WordAscii,
+                WordUnicode,
+                WordStartAscii,
+                WordStartUnicode,
+                WordStartHalfAscii,
+            ],
+        ),
+        (
+            b"\xFF\xFF",
+            1,
+            &[WordAsciiNegate, WordStartHalfAscii, WordEndHalfAscii],
+        ),
+    ]
+}
+
+/// One Greek letter that is a word.
+const fn letters() -> [Row; 4] {
+    [
+        (
+            b"\xCE\xB2",
+            0,
+            &[
+                Start,
+                StartLF,
+                StartCRLF,
+                WordAsciiNegate,
+                WordUnicode,
+                WordStartUnicode,
+                WordStartHalfAscii,
+                WordEndHalfAscii,
+                WordStartHalfUnicode,
+            ],
+        ),
+        (
+            b"\xCE\xB2",
+            1,
+            &[WordAsciiNegate, WordStartHalfAscii, WordEndHalfAscii],
+        ),
+        (
+            b"\xCE\xB2",
+            2,
+            &[
+                End,
+                EndLF,
+                EndCRLF,
+                WordAsciiNegate,
+                WordUnicode,
+                WordEndUnicode,
+                WordStartHalfAscii,
+                WordEndHalfAscii,
+                WordEndHalfUnicode,
+            ],
+        ),
+        (
+            b"a\xCE\xB2",
+            1,
+            &[WordAscii, WordUnicodeNegate, WordEndAscii, WordEndHalfAscii],
+        ),
+    ]
+}
+
+#[test]
+fn looks_hold_by_the_neighbours(rt: HostRuntime) {
+    let matcher = LookMatcher::<AsciiWord>::default();
+    for (haystack, at, looks) in lines() {
+        assert!(rt;
+            holds_only(&matcher, haystack, at, looks),
+            "{haystack:?} at {at}"
+        );
+    }
+    for (haystack, at, looks) in words() {
+        assert!(rt;
+            holds_only(&matcher, haystack, at, looks),
+            "{haystack:?} at {at}"
+        );
+    }
+}
+
+#[test]
+fn words_are_the_callers(rt: HostRuntime) {
+    let matcher = LookMatcher::new(WithBeta);
+    for (haystack, at, looks) in letters() {
+        assert!(rt;
+            holds_only(&matcher, haystack, at, looks),
+            "{haystack:?} at {at}"
+        );
+    }
+    // the same letter is none among the ASCII words, and a place inside a character is broken
+    let matcher = LookMatcher::new(AsciiWord);
+    let text = "𝛃𐆀".as_bytes();
+    for (at, holds) in [(0, true), (4, true), (5, false), (8, true)] {
+        assert!(rt; at <= text.len());
+        assert_eq!(rt;
+            matcher.matches(WordUnicodeNegate, text, at),
+            holds,
+            "place {at}"
+        );
+    }
+}
+
+#[test]
+fn line_terminators(rt: HostRuntime) {
+    let feed = LineTerm::default();
+    assert_eq!(rt; feed, LineTerm::one(b'\n'));
+    assert_eq!(rt; (feed.first(), feed.second()), (b'\n', None));
+    let two = LineTerm::two(b';', 0);
+    assert_eq!(rt; two, LineTerm::two(0, b';'));
+    assert_eq!(rt; (two.first(), two.second()), (0, Some(b';')));
+    assert!(rt; two.contains(0) && two.contains(b';') && !two.contains(b'\n'));
+    assert_eq!(rt; LineTerm::two(7, 7), LineTerm::one(7));
+    let mut matcher = LookMatcher::new(AsciiWord);
+    assert_eq!(rt; matcher.get_line_terminator(), feed);
+    matcher.set_line_terminator(two);
+    assert_eq!(rt; matcher.get_line_terminator(), two);
+    let text = b"a;b\0c\nd";
+    // before each byte, and at the end
+    let rows = [
+        (0, true, false),
+        (1, false, true),
+        (2, true, false),
+        (3, false, true),
+        (4, true, false),
+        (5, false, false),
+        (6, false, false),
+        (7, false, true),
+    ];
+    for (at, start, end) in rows {
+        assert!(rt; at <= text.len());
+        assert_eq!(rt; matcher.is_start_lf(text, at), start, "place {at}");
+        assert_eq!(rt; matcher.is_end_lf(text, at), end, "place {at}");
+    }
+}
+
+/// Whether the byte and the next one are told apart by the look, with lines that end at `;` or a zero byte.
+fn tells_apart(look: Look, byte: u8) -> bool {
+    let mut matcher = LookMatcher::new(AsciiWord);
+    matcher.set_line_terminator(LineTerm::two(b';', 0));
+    let mut set = ByteClassSet::empty();
+    matcher.add_to_byteset(look, &mut set);
+    let classes = set.byte_classes();
+    byte < u8::MAX && classes.get(byte) != classes.get(byte + 1)
+}
+
+#[test]
+fn looks_tell_bytes_apart(rt: HostRuntime) {
+    // the looks by their kinds: the edges, lines by the terminator, by `\r` and `\n`, and words
+    let rows = [
+        (0, false, true, false, false),
+        (b'9', false, false, false, true),
+        (b':', false, true, false, false),
+        (b';', false, true, false, false),
+        (0x09, false, false, true, false),
+        (b'\n', false, false, true, false),
+        (0x0C, false, false, true, false),
+        (b'\r', false, false, true, false),
+        (b'/', false, false, false, true),
+        (b'@', false, false, false, true),
+        (b'Z', false, false, false, true),
+        (b'^', false, false, false, true),
+        (b'_', false, false, false, true),
+        (b'`', false, false, false, true),
+        (b'z', false, false, false, true),
+        (b'm', false, false, false, false),
+    ];
+    for (byte, edge, line, crlf, word) in rows {
+        for look in all_looks() {
+            let expected = match look {
+                Start | End => edge,
+                StartLF | EndLF => line,
+                StartCRLF | EndCRLF => crlf,
+                _ => word,
+            };
+            assert_eq!(rt; tells_apart(look, byte), expected, "{look:?} at {byte}");
+        }
+    }
+}
+
+#[test]
+fn sets_hold_where_each_member_does(rt: HostRuntime) {
+    let matcher = LookMatcher::new(AsciiWord);
+    let edges = LookSet::empty().insert(Start).insert(End);
+    let first = LookSet::empty().insert(Start).insert(WordStartUnicode);
+    let rows: [(LookSet, &[u8], usize, bool); 6] = [
+        (LookSet::empty(), b"a", 0, true),
+        (edges, b"", 0, true),
+        (edges, b"a", 0, false),
+        (edges, b"a", 1, false),
+        (first, b"a", 0, true),
+        (first, b"-", 0, false),
+    ];
+    for (set, haystack, at, holds) in rows {
+        assert!(rt; at <= haystack.len());
+        assert_eq!(rt;
+            matcher.matches_set(set, haystack, at),
+            holds,
+            "{haystack:?} at {at}"
+        );
+    }
+}
