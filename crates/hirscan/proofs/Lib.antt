@@ -23,3 +23,4 @@ pub mod ReplyLemmas
 pub mod RunLemmas
 pub mod OneReplyLemmas
 pub mod SomeReplyLemmas
+mod AnswerRows

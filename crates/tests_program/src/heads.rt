@@ -20,3 +20,18 @@ fn a_head_as_it_is_read(rt: HostRuntime) -> Result<(), Fail> {
     assert_eq!(rt; head.patterns[0].height(), 3);
     Ok(())
 }
+
+fn set_head() -> &'static [u8] {
+    b"anchored yes\nutf8 off\nspan 1 3\nlit 6c6574\npattern\nbytes 61-7A\npattern\nfind\nlet"
+}
+
+#[test]
+fn settings_and_patterns_as_they_are_read(rt: HostRuntime) -> Result<(), Fail> {
+    let head = read_head(rt.alloc(), set_head())?;
+    assert!(rt; !head.utf8);
+    assert!(rt; head.anchored);
+    assert_eq!(rt; head.span, Some((1, 3)));
+    assert_eq!(rt; head.patterns.len(), 2);
+    assert_eq!(rt; head.len, 75);
+    Ok(())
+}

@@ -1,0 +1,9 @@
+pub mod Walks
+pub mod Runs
+pub mod Places
+pub mod Late
+pub mod Nfa
+pub mod Ways
+pub mod NameSets
+pub mod Marked
+pub mod Paired

@@ -1,0 +1,10 @@
+-- A list of numbers beside a table that has each number's place in it.
+use Rattle.std.specs.Prelude.{◌≡◌, ℕ, ◌+◌, ◌<◌, ◌≤◌, List, length, slice_index}
+use Rattle.search_core.specs.Index.{greatest_index}
+
+-- each of the first n numbers has its place
+pub record IsPaired (dense places : List ℕ) (n : ℕ) : Type 0 where
+  pub within : n ≤ length dense
+  pub even : length dense ≡ length places
+  pub small : length places ≤ greatest_index + 1
+  pub paired : (k : ℕ) → k < n → (slice_index dense k < length places) × (slice_index places (slice_index dense k) ≡ k)

@@ -1,0 +1,122 @@
+-- Where the states of an automaton lead from a place of a text, in order of preference.
+use Rattle.std.specs.Prelude.{ℕ, zero, suc, ◌+◌, ◌-◌, ◌*◌, ◌<◌, ◌≤◌, Bool, true, false, List, [], ◌∷◌, ◌++◌, map, length, get_or, Option, Some, None, if◌then◌else◌, ◌&&◌}
+use Rattle.std.specs.Bool.{nat_le, nat_lt}
+use Rattle.search_core.specs.Text.{byte_at}
+use Rattle.look_core.specs.declared.look.Look.{Look}
+use Rattle.look_core.specs.Codes.{reversed}
+use Rattle.look_core.specs.Terminators.{Terminator}
+use Rattle.look_core.specs.Looks.{holds_ascii}
+use Rattle.nfa_core.specs.Nfa.{Node, byte_range, sparse_node, dense_node, look_node, union_node, binary_union, capture_node, match_node, Automaton, node_at}
+use Rattle.nfa_core.specs.Places.{same_pair, IsListed}
+use Rattle.nfa_core.specs.Runs.{run_ends}
+
+-- what is read: the bytes of the haystack between two places, and where looks hold
+pub record Text : Type 0 where
+  pub haystack : List ℕ
+  pub start : ℕ
+  pub end : ℕ
+  pub holds : Look → ℕ → Bool
+
+-- a span of a haystack; looks read all of it
+abbrev pub span : Terminator → List ℕ → ℕ → ℕ → Text
+span t h i j = record { haystack = h; start = i; end = j; holds = holds_ascii t h }
+
+abbrev pub whole : Terminator → List ℕ → Text
+whole t h = span t h 0 (length h)
+
+abbrev pub with_place : ℕ → Option ℕ → Option (ℕ × ℕ)
+with_place i None = None
+with_place i (Some b) = Some (b, i)
+
+-- the byte that is read at a place, with the place behind it: going up the byte that begins there, going down the one
+-- that ends there
+abbrev pub reads : Bool → Text → ℕ → Option (ℕ × ℕ)
+reads false t i = if nat_lt i t.end then with_place (suc i) (byte_at t.haystack i) else None
+reads true t zero = None
+reads true t (suc i) = if nat_le t.start i then with_place i (byte_at t.haystack i) else None
+
+-- whether the look holds for one who reads up, or down
+abbrev pub is_passed : Bool → Text → Look → ℕ → Bool
+is_passed false t l i = t.holds l i
+is_passed true t l i = t.holds (reversed l) i
+
+-- the state that the first range with the byte gives
+abbrev pub in_ranges : List (ℕ × ℕ × ℕ) → ℕ → List ℕ
+in_ranges [] b = []
+in_ranges ((low, high, next) ∷ others) b = if nat_le low b && nat_le b high then next ∷ [] else in_ranges others b
+
+-- a name but 0
+abbrev pub named : ℕ → List ℕ
+named zero = []
+named (suc q) = suc q ∷ []
+
+-- where a state leads by this byte
+abbrev pub on_byte : Node → ℕ → List ℕ
+on_byte (byte_range low high next) b = if nat_le low b && nat_le b high then next ∷ [] else []
+on_byte (sparse_node ranges) b = in_ranges ranges b
+on_byte (dense_node names) b = named (get_or names b 0)
+on_byte _ b = []
+
+-- where a state leads with no byte; looks are passed as `passed` tells
+abbrev pub on_nothing : Node → (Look → Bool) → List ℕ
+on_nothing (look_node l next) passed = if passed l then next ∷ [] else []
+on_nothing (union_node names) passed = names
+on_nothing (binary_union first second) passed = first ∷ second ∷ []
+on_nothing (capture_node next pattern group slot) passed = next ∷ []
+on_nothing _ passed = []
+
+-- where a state leads by what is read
+abbrev pub on_read : Node → Option (ℕ × ℕ) → List ℕ
+on_read node None = []
+on_read node (Some (b, j)) = on_byte node b
+
+-- the place behind what is read, or the place itself
+abbrev pub place_behind : ℕ → Option (ℕ × ℕ) → ℕ
+place_behind i None = i
+place_behind i (Some (b, j)) = j
+
+-- the states to which state q leads from place i by a byte, and those to which it leads without one
+abbrev pub byte_steps : Automaton → Text → ℕ → ℕ → List ℕ
+byte_steps a t i q = on_read (node_at a q) (reads a.reverse t i)
+
+abbrev pub plain_steps : Automaton → Text → ℕ → ℕ → List ℕ
+plain_steps a t i q = on_nothing (node_at a q) (λ l. is_passed a.reverse t l i)
+
+-- where a pair of place and state leads: a byte moves by one place
+abbrev pub ways : Automaton → Text → ℕ × ℕ → List (ℕ × ℕ)
+ways a t p = map (λ q. (place_behind p.0 (reads a.reverse t p.0), q)) (byte_steps a t p.0 p.1) ++ map (λ q. (p.0, q)) (plain_steps a t p.0 p.1)
+
+-- the place behind k bytes that are read from place i
+abbrev pub place_of : Bool → ℕ → ℕ → ℕ
+place_of false i k = i + k
+place_of true i k = i - k
+
+-- how many bytes there are to read from place i
+abbrev pub bytes_left : Bool → Text → ℕ → ℕ
+bytes_left false t i = t.end - i
+bytes_left true t i = i - t.start
+
+-- what matches at a place: the place and the pattern
+abbrev pub match_of : Node → ℕ → Option (ℕ × ℕ)
+match_of (match_node pattern) i = Some (i, pattern)
+match_of _ i = None
+
+abbrev pub matched : Automaton → ℕ × ℕ → Option (ℕ × ℕ)
+matched a p = match_of (node_at a p.1) p.0
+
+-- a pair of a place up to the text's end and a state
+abbrev pub IsPairOf : Automaton → Text → ℕ × ℕ → Type 0
+IsPairOf a t p = (p.0 ≤ t.end) × (p.1 < length a.states)
+
+-- The ends of an automaton's runs from a pair, the preferred ones first, each with its pattern. The bound is how many
+-- pairs there are of a place up to the text's end and a state, so no run is left out.
+abbrev pub ends_from : Automaton → Text → ℕ × ℕ → List (ℕ × ℕ)
+ends_from a t p = run_ends same_pair same_pair (ways a t) (matched a) (suc t.end * length a.states) p
+
+-- the lists of states that one walk a place makes from state q at place i, each as far as `cut` keeps the one before
+abbrev pub AreLists : Automaton → Text → ℕ × ℕ → (ℕ → List ℕ → List ℕ) → (ℕ → List ℕ) → Type 0
+AreLists a t p cut lists = IsListed (λ k. plain_steps a t (place_of a.reverse p.0 k)) (λ k. byte_steps a t (place_of a.reverse p.0 k)) cut (bytes_left a.reverse t p.0) p.1 lists
+
+-- what matches in a state behind k bytes that were read from place i
+abbrev pub matched_behind : Automaton → ℕ → ℕ × ℕ → Option (ℕ × ℕ)
+matched_behind a i p = matched a (place_of a.reverse i p.0, p.1)

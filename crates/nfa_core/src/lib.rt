@@ -1,0 +1,25 @@
+//! Byte automata: their definitions and laws, and what a search over their states keeps, which is counters
+//! and sets of the states' numbers.
+//!
+//! The definitions are in `specs/`: an automaton in `Nfa.antt`, where its states lead in `Ways.antt`, runs and
+//! their preference in `Runs.antt`, walks in `Walks.antt`, lists of states by place in `Places.antt`. Their
+//! laws are public functions without code in [`run_laws`], [`place_laws`] and [`walk_laws`].
+#![tactic(auto)]
+
+mod marks;
+mod name_set;
+mod pair_set;
+pub mod place_laws;
+pub mod run_laws;
+mod sets;
+mod sparse_set;
+mod sparse_set_iter;
+mod steps;
+pub mod walk_laws;
+
+pub use name_set::NameSet;
+pub use pair_set::PairSet;
+pub use sets::{Sets, SparseSets};
+pub use sparse_set::SparseSet;
+pub use sparse_set_iter::SparseSetIter;
+pub use steps::Steps;

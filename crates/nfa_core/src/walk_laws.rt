@@ -1,0 +1,47 @@
+//! Laws of walks over names, as the closure of a set of states makes them. Each function has no code: its
+//! contract is the law. The lemmas behind them, in `proofs/`, are of any graph.
+ghost use Rattle.std.specs.Prelude.{◌≡◌, ℕ, ◌<◌, List, [], ◌∷◌, ◌++◌, Bool, true, false};
+ghost use Rattle.std.specs.Bool.{nat_eq};
+ghost use Rattle.std.specs.List.{filter, flat_map};
+ghost use Rattle.nfa_core.specs.Walks.{has, Has, join, chain_ends, Visits, IsClosed};
+ghost use Rattle.nfa_core.specs.Places.{StaysBelow};
+ghost use Rattle.nfa_core.specs.Late.{IsPassedThrough};
+
+/// Over names below a bound, a depth-first walk with one set for all that was met comes to what it had, and
+/// then the ends of all chains that come to nothing twice, in order of preference, each once.
+pub fn walks_meet_the_ends_of_chains()
+    ensures { (steps : ℕ → List ℕ) (n : ℕ) (todo seen after : List ℕ) → StaysBelow n steps → ((q : ℕ) → Has nat_eq q todo → q < n) →
+        IsClosed nat_eq steps seen → Visits nat_eq steps todo seen after →
+        after ≡ join nat_eq seen (flat_map (chain_ends nat_eq steps n []) todo) }
+{}
+
+/// A walk comes to one list.
+pub fn walks_come_to_one_list()
+    ensures { (steps : ℕ → List ℕ) (todo seen a b : List ℕ) → Visits nat_eq steps todo seen a → Visits nat_eq steps todo seen b → a ≡ b }
+{}
+
+/// A walk may be made with a stack: the ways of a fresh name go before the rest.
+pub fn walks_are_made_with_a_stack()
+    ensures { (steps : ℕ → List ℕ) (x : ℕ) (rest seen after : List ℕ) → has nat_eq x seen ≡ false →
+        Visits nat_eq steps (steps x ++ rest) (seen ++ x ∷ []) after → Visits nat_eq steps (x ∷ rest) seen after }
+{}
+
+/// What was closed under the ways that were known, closed anew in its order under all ways, comes to what the
+/// entries closed under all ways come to. Where nothing in it has more ways, it is that already.
+pub fn lists_close_anew()
+    ensures more { (known full : ℕ → List ℕ) → ((x z : ℕ) → Has nat_eq z (known x) → Has nat_eq z (full x)) → (entries ids after : List ℕ) →
+        Visits nat_eq known entries [] ids → Visits nat_eq full entries [] after → Visits nat_eq full ids [] after }
+    ensures same { (known full : ℕ → List ℕ) → (entries ids : List ℕ) → ((x : ℕ) → Has nat_eq x ids → known x ≡ full x) →
+        Visits nat_eq known entries [] ids → Visits nat_eq full entries [] ids }
+{}
+
+/// The same where a list keeps some names alone, and the others are passed through: closed anew from those
+/// that were kept, those that are kept are what they would have been.
+pub fn kept_lists_close_anew()
+    ensures { (keep : ℕ → Bool) (to : ℕ → List ℕ) (rank : ℕ → ℕ) (known full : ℕ → List ℕ) →
+        ((x : ℕ) → keep x ≡ true → to x ≡ x ∷ []) → ((x q : ℕ) → Has nat_eq q (to x) → keep q ≡ true) →
+        ((x z : ℕ) → Has nat_eq z (known x) → Has nat_eq z (full x)) →
+        ((x : ℕ) → keep x ≡ false → IsPassedThrough known to rank x) → ((x : ℕ) → keep x ≡ false → IsPassedThrough full to rank x) →
+        (entries ids after again : List ℕ) → Visits nat_eq known entries [] ids → Visits nat_eq full entries [] after →
+        Visits nat_eq full (filter keep ids) [] again → filter keep again ≡ filter keep after }
+{}
