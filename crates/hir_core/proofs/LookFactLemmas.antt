@@ -1,5 +1,5 @@
 -- The sets of looks of a tree: those that hold at the start and the end of each span, and all that stand in it.
-use Rattle.std.proofs.Common.{◌≡◌, ℕ, zero, suc, ◌+◌, ◌≤◌, ◌⊎◌, ⊎_elim, Bool, true, false, eqb, List, Option, Some, None, refl, sym, ap, subst, ◌∙◌, inl, inr, arith}
+use Rattle.std.proofs.Common.{◌≡◌, ℕ, zero, suc, ◌≤◌, ◌⊎◌, ⊎_elim, true, List, Option, Some, None, refl, sym, ap, subst, ◌∙◌, inl, inr, arith}
 use Rattle.std.proofs.Math.Bool.{or-true}
 use Rattle.std.proofs.lemmas.Bool.{cases_Bool, and_parts, or_cases, eqb-true, eq-eqb}
 use Rattle.look_core.specs.declared.look.Look.{Look}
@@ -8,7 +8,7 @@ use Rattle.look_core.specs.LookSets.{has_look, union_of, shared_by}
 use Rattle.look_core.proofs.LookRows.{same_from_bit}
 use Rattle.look_core.proofs.LookSetLemmas.{has_look-union, has_look-shared, has_look-repr, has_look-none}
 use Rattle.hir_core.specs.Tree.{Tree, empty, literal, byte_class, char_class, look, repetition, capture, nothing, cat, never, alt}
-use Rattle.hir_core.specs.Means.{Looks, AtMost, Means, Rounds}
+use Rattle.hir_core.specs.Means.{Looks, Means, Rounds}
 use Rattle.hir_core.specs.Facts.{maximum_len, is_never, reads_nothing, if_owed, look_set, look_set_prefix, look_set_suffix}
 use Rattle.hir_core.specs.StandsIn.{StandsIn}
 use Rattle.hir_core.proofs.MaximumLenLemmas.{empty_sound, no_never}

@@ -1,10 +1,10 @@
 -- What a tree means depends on how the looks that it uses are read, and on no other look.
-use Rattle.std.proofs.Common.{◌≡◌, ℕ, zero, suc, ◌+◌, ◌-◌, ◌≤◌, ◌⊎◌, ⊎_elim, Bool, true, cond, List, [], ◌∷◌, ◌++◌, length, Option, Some, None, refl, sym, ap, subst, ◌∙◌, inl, inr, arith}
+use Rattle.std.proofs.Common.{◌≡◌, ℕ, zero, suc, ◌-◌, ◌≤◌, Bool, true, cond, List, [], ◌∷◌, ◌++◌, length, Option, Some, None, refl, sym, ap, ◌∙◌, inl, inr, arith}
 use Rattle.std.specs.List.{flat_map}
 use Rattle.look_core.specs.declared.look.Look.{Look}
 use Rattle.look_core.specs.LookSets.{has_look}
 use Rattle.hir_core.specs.Tree.{Tree, empty, literal, byte_class, char_class, look, repetition, capture, nothing, cat, never, alt}
-use Rattle.hir_core.specs.Means.{Looks, AtMost, Means, Rounds}
+use Rattle.hir_core.specs.Means.{Looks, Means, Rounds}
 use Rattle.hir_core.specs.PreferredEnds.{Ends, in_order, up_to, at_least, between, repeated, preferred_ends}
 use Rattle.hir_core.specs.Facts.{looks_used}
 use Rattle.hir_core.proofs.HasLemmas.{flat_map_same}
@@ -34,9 +34,11 @@ module _ (f g : Looks) (h : List ℕ) where
   same_meaning (repetition min (Some (suc most)) greedy x) a i j m = (m.0, m.1, m.2, rounds_map (Means f h x) (Means g h x) (same_meaning x a) m.0 i j m.3)
   same_meaning (capture index name x) a i j m = same_meaning x a i j m
   same_meaning nothing a i j m = m
-  same_meaning (cat x y) a i j m =
-      (m.0, same_meaning x (λ l e. a l (union_left (looks_used x) (looks_used y) l e)) i m.0 m.1,
-       same_meaning y (λ l e. a l (union_right (looks_used x) (looks_used y) l e)) m.0 j m.2)
+  same_meaning (cat x y) a i j m = (
+    m.0,
+    same_meaning x (λ l e. a l (union_left (looks_used x) (looks_used y) l e)) i m.0 m.1,
+    same_meaning y (λ l e. a l (union_right (looks_used x) (looks_used y) l e)) m.0 j m.2,
+  )
   same_meaning never a i j m = m
   same_meaning (alt x y) a i j (inl m) = inl (same_meaning x (λ l e. a l (union_left (looks_used x) (looks_used y) l e)) i j m)
   same_meaning (alt x y) a i j (inr m) = inr (same_meaning y (λ l e. a l (union_right (looks_used x) (looks_used y) l e)) i j m)

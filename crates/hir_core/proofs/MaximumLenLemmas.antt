@@ -1,12 +1,12 @@
 -- No span is longer than `maximum_len`.
-use Rattle.std.proofs.Common.{◌≡◌, ℕ, zero, suc, ◌+◌, ◌*◌, ◌^◌, ◌≤◌, ◌<◌, ◌⊎◌, ⊎_elim, min, max, Bool, true, false, List, [], ◌∷◌, length, Option, Some, None, refl, sym, ap, subst, ◌∙◌, inl, inr, arith}
+use Rattle.std.proofs.Common.{◌≡◌, ℕ, zero, suc, ◌+◌, ◌*◌, ◌^◌, ◌≤◌, ◌<◌, ◌⊎◌, ⊎_elim, max, true, List, [], ◌∷◌, length, Option, Some, None, refl, ap, subst, ◌∙◌, inl, inr, arith}
 use Rattle.std.proofs.Math.Nat.{mul-le-mul_left}
 use Rattle.std.proofs.lemmas.Bool.{cases_Bool}
 use Rattle.search_core.specs.Characters.{spelling_len}
 use Rattle.hir_core.specs.Tree.{Tree, empty, literal, byte_class, char_class, look, repetition, capture, nothing, cat, never, alt}
-use Rattle.hir_core.specs.Means.{Looks, AtMost, Means, Rounds, SpellsMember, is_member}
+use Rattle.hir_core.specs.Means.{Looks, AtMost, Means, Rounds, is_member}
 use Rattle.hir_core.specs.Facts.{capped, sum_of_both, greatest_of_both, times_most, longest_of, longest_spelling, is_never, maximum_len, IsAtMost}
-use Rattle.hir_core.proofs.SpanLemmas.{IsSpan-Means, span_forward, span_within}
+use Rattle.hir_core.proofs.SpanLemmas.{span_within}
 use Rattle.hir_core.proofs.SpellingLemmas.{member_len, spelling_len-mono, member_cases}
 
 pub never_from_test : (y : Tree) → is_never y ≡ true → y ≡ never

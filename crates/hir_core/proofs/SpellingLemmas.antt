@@ -1,6 +1,6 @@
 -- Spans that spell a character of a class: what the character at a place says, and the lengths of spellings.
-use Rattle.std.proofs.Common.{◌≡◌, ℕ, ◌+◌, ◌-◌, ◌<◌, ◌≤◌, ◌⊎◌, inl, inr, Bool, true, ◌&&◌, List, [], ◌∷◌, ◌++◌, length, take, drop, slice_range, Option, Some, None, leb, refl, sym, ap, ◌∙◌, subst, arith, length-append, length-drop}
-use Rattle.std.proofs.lemmas.Bool.{cases_Bool, cond-true, cond-false, leb-true, leb-false, le-leb, lt-leb, and_parts, or_cases}
+use Rattle.std.proofs.Common.{◌≡◌, ℕ, ◌+◌, ◌-◌, ◌≤◌, ◌⊎◌, inl, inr, true, ◌&&◌, List, ◌∷◌, length, take, drop, slice_range, Option, Some, None, leb, refl, sym, ap, ◌∙◌, subst, arith, length-append, length-drop}
+use Rattle.std.proofs.lemmas.Bool.{leb-true, and_parts, or_cases}
 use Rattle.std.proofs.lemmas.List.{take-append-drop, take_at}
 use Rattle.search_core.specs.Utf8.{Spells, SpellsFirst}
 use Rattle.search_core.specs.Characters.{character_at, spelling_len}
@@ -15,9 +15,10 @@ span_of_spelling : (h : List ℕ) (i c j : ℕ) (f : SpellsFirst c (drop i h)) �
 span_of_spelling h i c j f e =
     let len = spelling_has_len c f.spelling f.spells in
     let some = spelling_some c f.spelling f.spells in
-    let count : length f.spelling ≡ j - i = omega (arith, len, e) in
-    (omega (arith, len, some, e, length-drop i h, ap length f.joined, length-append f.spelling f.rest),
-     ap (λ t. take (j - i) t) f.joined ∙ take_at f.spelling f.rest (j - i) count)
+    let count : length f.spelling ≡ j - i = omega (arith, len, e) in (
+      omega (arith, len, some, e, length-drop i h, ap length f.joined, length-append f.spelling f.rest),
+      ap (λ t. take (j - i) t) f.joined ∙ take_at f.spelling f.rest (j - i) count,
+    )
 
 member_found : (h : List ℕ) (ranges : List (ℕ × ℕ)) (o : Option ℕ) (i j : ℕ) → character_at h i ≡ o → Has (character_end ranges o i) j → SpellsMember h ranges i j
 member_found h ranges None i j e g = elim g [ ]

@@ -1,17 +1,17 @@
 -- Where `is_utf8_tree` holds, each span is a joining of spellings.
-use Rattle.std.proofs.Common.{◌≡◌, ℕ, zero, suc, ◌+◌, ◌-◌, ◌≤◌, ◌<◌, ◌⊎◌, ⊎_elim, Bool, true, ◌&&◌, ltb, leb, List, [], ◌∷◌, ◌++◌, length, get_or, take, drop, slice_get, slice_range, Option, Some, None, refl, sym, ap, subst, ◌∙◌, inl, inr, arith, drop-drop, length-drop}
-use Rattle.std.specs.List.{list_all, list_any}
+use Rattle.std.proofs.Common.{◌≡◌, ℕ, zero, suc, ◌+◌, ◌-◌, ◌≤◌, ◌<◌, ⊎_elim, true, ltb, List, [], ◌∷◌, ◌++◌, length, take, drop, slice_get, slice_range, Some, refl, sym, ap, subst, ◌∙◌, arith, drop-drop}
+use Rattle.std.specs.List.{list_all}
 use Rattle.std.specs.Str.{is_utf8}
 use Rattle.std.proofs.Math.Seq.{take-add, drop-cons}
 use Rattle.std.proofs.lemmas.Bool.{and_parts, ltb-true}
 use Rattle.std.proofs.lemmas.List.{take_at, append-nil, append_assoc}
 use Rattle.std.proofs.lemmas.Option.{slice_get_within, get_or_from_slice_get}
 use Rattle.std.proofs.lemmas.Str.{IsUtf8-from_is_utf8}
-use Rattle.search_core.specs.Utf8.{Spells, IsValidText, no_spelling, spelling_then}
+use Rattle.search_core.specs.Utf8.{IsValidText, no_spelling, spelling_then}
 use Rattle.search_core.specs.Utf8.Spells.{from_0000}
 use Rattle.search_core.proofs.Utf8Lemmas.{valid_of_utf8}
 use Rattle.hir_core.specs.Tree.{Tree, empty, literal, byte_class, char_class, look, repetition, capture, nothing, cat, never, alt}
-use Rattle.hir_core.specs.Means.{Looks, Means, Rounds, SpellsMember, is_member, stands}
+use Rattle.hir_core.specs.Means.{Looks, Means, Rounds, is_member, stands}
 use Rattle.hir_core.specs.Facts.{is_utf8_tree}
 use Rattle.hir_core.proofs.SpanLemmas.{stands_begin, span_forward}
 use Rattle.hir_core.proofs.SpellingLemmas.{member_cases}

@@ -2,21 +2,22 @@
 //!
 //! [`run`] goes from a reader to a writer, [`read_head`] reads the notation alone. What each line
 //! does, how a head reads and where a text has its first fault is defined in `specs/Takes.antt`,
-//! `Reads.antt` and `LineFault.antt`; the answers in `Choices.antt`, `LeftmostAnswer.antt` and
-//! `AllAnswers.antt`; the reply in `Reply.antt`. Their laws are in [`laws`].
+//! `Reads.antt` and `LineFault.antt`; what is searched for and the answers in `Choices.antt` and
+//! `AllAnswers.antt`; why a head is refused with its haystack in `Refusals.antt`; the reply in
+//! `Reply.antt`. Their laws are in [`laws`], those of the notation in [`reading_laws`].
 #![tactic(auto)]
 
 mod causes;
 mod fault;
 mod find;
 mod head;
-pub mod reading_laws;
-mod reply;
 pub mod laws;
 mod line;
 mod loops;
 mod plain;
 mod program;
+pub mod reading_laws;
+mod reply;
 mod words;
 
 pub use fault::{Fault, FaultKind};
