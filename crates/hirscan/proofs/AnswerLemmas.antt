@@ -1,17 +1,17 @@
 -- What is known of an answer: its pattern means its span, and where it stands.
-use Rattle.std.proofs.Common.{◌≡◌, ℕ, zero, suc, ◌+◌, ◌-◌, ◌≤◌, ◌&&◌, Bool, true, false, cond, List, [], ◌∷◌, ◌++◌, map, length, Option, Some, None, slice_get, nat_le, refl, sym, ap, ◌∙◌, subst, inl, inr, arith, leb-true}
+use Rattle.std.proofs.Common.{◌≡◌, ℕ, suc, ◌+◌, ◌-◌, ◌≤◌, Bool, true, false, cond, List, [], ◌∷◌, ◌++◌, map, length, Option, Some, None, slice_get, nat_le, refl, sym, ap, ◌∙◌, subst, inl, inr, arith, leb-true}
 use Rattle.std.specs.Option.{option_or}
 use Rattle.std.specs.List.{filter}
-use Rattle.std.proofs.lemmas.Bool.{and_parts, cases_Bool}
+use Rattle.std.proofs.lemmas.Bool.{and_parts}
 use Rattle.hir_core.specs.Tree.{Tree}
 use Rattle.hir_core.specs.Means.{Means}
 use Rattle.hir_core.specs.PreferredEnds.{preferred_ends, Has}
 use Rattle.hir_core.proofs.PreferredEndsLemmas.{preferred_ends_sound}
 use Rattle.hir_core.proofs.SpanLemmas.{span_forward}
 use Rattle.search_types.specs.Found.{Found}
-use Rattle.search_types.specs.Modes.{allowed, last_start}
+use Rattle.search_types.specs.Modes.{allowed}
 use Rattle.search_types.specs.Places.{counts}
-use Rattle.search_types.specs.LeftmostAnswer.{first_choice, leftmost, leftmost_answer, IsLeftmost, IsAnswer}
+use Rattle.search_types.specs.LeftmostAnswer.{first_choice, leftmost, IsLeftmost, IsAnswer}
 use Rattle.search_types.proofs.ModeLemmas.{starts_at}
 use Rattle.search_types.proofs.AnswerLemmas.{computed_is_answer}
 use Rattle.hirscan.specs.Choices.{Query, pattern_choices, choices, ends_at, may_end, choices_at, answer_from}
@@ -141,6 +141,7 @@ module _ (q : Query) where
 
   -- in UTF-8 mode an answer starts and ends at places that count
   pub answer_counts : (s : ℕ) (f : Found) → answer_from q s ≡ Some f → (counts q.utf8 q.haystack f.start ≡ true) × (counts q.utf8 q.haystack f.end ≡ true)
-  answer_counts s f is =
-      (start_counts f.start f (counts q.utf8 q.haystack f.start) refl (answer_found q s f is).first,
-       (and_parts (nat_le f.end q.end) (counts q.utf8 q.haystack f.end) (tree_chosen s f is).end_kept).1)
+  answer_counts s f is = (
+    start_counts f.start f (counts q.utf8 q.haystack f.start) refl (answer_found q s f is).first,
+    (and_parts (nat_le f.end q.end) (counts q.utf8 q.haystack f.end) (tree_chosen s f is).end_kept).1,
+  )

@@ -1,5 +1,5 @@
 -- The definitions of answers, run on small trees: values by hand from the leftmost-first rules.
-use Rattle.std.proofs.Common.{◌≡◌, ℕ, true, false, List, [], ◌∷◌, codes, length, Option, Some, None, refl}
+use Rattle.std.proofs.Common.{◌≡◌, ℕ, true, false, List, [], ◌∷◌, codes, Option, Some, None, refl}
 use Rattle.hir_core.specs.Tree.{Tree, empty, literal, byte_class, repetition, concat, alternation}
 use Rattle.search_types.specs.Found.{Found}
 use Rattle.hirscan.specs.Takes.{Settings}

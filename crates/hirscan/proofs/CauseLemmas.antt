@@ -1,13 +1,12 @@
 -- What reading a haystack as UTF-8 says of its longest valid beginning, and what follows where nothing is refused.
-use Rattle.std.proofs.Common.{◌≡◌, ℕ, ◌+◌, ◌<◌, ◌≤◌, Bool, true, false, not, List, [], ◌∷◌, length, Option, Some, None, nat_lt, refl, sym, ap, ◌∙◌, arith, codes}
+use Rattle.std.proofs.Common.{◌≡◌, ℕ, ◌≤◌, Bool, true, false, not, List, [], ◌∷◌, length, Option, Some, None, nat_lt, refl, arith, codes}
 use Rattle.std.specs.Str.{IsUtf8, IsValidUpTo}
-use Rattle.std.specs.Str.Lossy.{utf8_valid_len}
 use Rattle.std.proofs.lemmas.Str.{utf8_valid_len-IsUtf8, utf8_valid_len-IsValidUpTo}
 use Rattle.std.proofs.lemmas.Bool.{le-ltb, lt-ltb, ltb-false, not-false}
 use Rattle.hir_core.specs.Tree.{Tree}
-use Rattle.hir_core.specs.Facts.{count, list_count}
+use Rattle.hir_core.specs.Facts.{list_count}
 use Rattle.hirscan.specs.Takes.{Settings}
-use Rattle.hirscan.specs.Refusals.{first_cause, cause_if, first_broken, span_of, is_span, pattern_causes, haystack_causes, refusal, where_utf8, of_pattern}
+use Rattle.hirscan.specs.Refusals.{first_cause, cause_if, first_broken, span_of, is_span, pattern_causes, haystack_causes, refusal}
 
 pub whole_text : (h : List ℕ) → IsUtf8 h → first_broken h ≡ None
 whole_text h u = rw (utf8_valid_len-IsUtf8 h u, le-ltb (length h) (length h) (omega arith)) refl

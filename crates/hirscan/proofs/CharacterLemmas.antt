@@ -1,11 +1,11 @@
 -- The character that begins at a place, as code reads it.
-use Rattle.std.proofs.Common.{◌≡◌, ℕ, zero, suc, ◌+◌, ◌-◌, ◌<◌, ◌≤◌, ◌⊎◌, min, Bool, true, false, List, [], ◌∷◌, length, take, drop, Option, Some, None, Result, Ok, Err, option_map, eqb, refl, sym, ap, subst, ◌∙◌, inl, inr, arith, drop_of_length-le, length-drop, length-append}
+use Rattle.std.proofs.Common.{◌≡◌, ℕ, ◌+◌, ◌-◌, ◌⊎◌, min, true, false, List, [], ◌∷◌, length, take, drop, Option, Some, None, Result, Ok, option_map, refl, sym, ap, subst, ◌∙◌, inl, inr, arith, drop_of_length-le, length-drop, length-append}
 use Rattle.std.specs.Option.{ok_or}
 use Rattle.std.specs.Char.{len_utf8}
 use Rattle.std.proofs.lemmas.Bool.{cases_lt}
 use Rattle.std.proofs.lemmas.Bool.Decides.{nat_tests}
 use Rattle.std.proofs.lemmas.List.{take_all}
-use Rattle.std.proofs.lemmas.Option.{slice_get_past, slice_get-get_or}
+use Rattle.std.proofs.lemmas.Option.{slice_get-get_or}
 use Rattle.search_core.specs.Text.{byte_at}
 use Rattle.search_core.specs.Utf8.{Decodes, SpellsFirst}
 use Rattle.search_core.specs.Characters.{character_at, spelling_len, read_at}

@@ -1,15 +1,14 @@
 -- The first choice at a place: patterns are passed while they have no end that is kept, and the first such end of the next is
 -- chosen.
-use Rattle.std.proofs.Common.{◌≡◌, ℕ, ◌+◌, ◌<◌, ◌≤◌, Bool, true, false, cond, List, [], ◌∷◌, ◌++◌, map, length, drop, get_or, Option, Some, None, slice_get, refl, sym, ap, ◌∙◌, inl, inr, arith, suc, add-one, drop-cons, drop_of_length-le}
+use Rattle.std.proofs.Common.{◌≡◌, ℕ, ◌+◌, ◌<◌, ◌≤◌, Bool, true, false, cond, List, [], ◌∷◌, ◌++◌, map, length, drop, get_or, Some, None, slice_get, refl, sym, ap, ◌∙◌, inl, inr, suc, add-one, drop-cons, drop_of_length-le}
 use Rattle.std.specs.List.{filter}
 use Rattle.hir_core.specs.Tree.{Tree}
 use Rattle.hir_core.specs.PreferredEnds.{preferred_ends, Has}
 use Rattle.hir_core.proofs.PreferredEndsLemmas.{preferred_ends_sound}
 use Rattle.hir_core.proofs.SpanLemmas.{span_forward}
-use Rattle.search_types.specs.Found.{Found}
 use Rattle.search_types.specs.Modes.{allowed}
 use Rattle.search_types.specs.LeftmostAnswer.{first_choice}
-use Rattle.hirscan.specs.Choices.{Query, pattern_choices, choices, ends_at, may_end, choices_at}
+use Rattle.hirscan.specs.Choices.{Query, pattern_choices, choices, may_end}
 use Rattle.hirscan.proofs.PartLemmas.{rest_at}
 
 -- the first of the kept ends is chosen

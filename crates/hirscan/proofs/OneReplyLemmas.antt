@@ -1,10 +1,9 @@
 -- An input has one reply: the cases of the relation exclude each other, and each fixes its text.
-use Rattle.std.proofs.Common.{◌≡◌, ℕ, List, ◌++◌, drop, Option, Some, None, codes, decimal, sym, ap, ◌∙◌, subst, arith}
+use Rattle.std.proofs.Common.{◌≡◌, ℕ, List, ◌++◌, drop, Some, None, codes, decimal, sym, ap, ◌∙◌, subst, arith}
 use Rattle.hir_core.specs.Tree.{Tree}
 use Rattle.hirscan.specs.declared.program.Ending.{Ending}
 use Rattle.hirscan.specs.Tells.{kind_text}
 use Rattle.hirscan.specs.Takes.{Settings, Standing, at_first}
-use Rattle.hirscan.specs.Refusals.{refusal}
 use Rattle.hirscan.specs.Reply.{IsReply, too_long, faulty, searched, IsSearchReply, refused, listed, refusal_line}
 use Rattle.hirscan.proofs.ReadsLemmas.{reads_once, reads_no_fault, fault_once}
 

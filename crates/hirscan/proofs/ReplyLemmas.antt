@@ -1,16 +1,16 @@
 -- Replies: of a refusal, and of an input of which so much was read as decides it.
-use Rattle.std.proofs.Common.{◌≡◌, ℕ, ◌-◌, ◌^◌, ◌≤◌, List, [], ◌∷◌, ◌++◌, length, take, drop, Option, Some, None, Result, Ok, Err, string_bytes, refl, sym, ap, ◌∙◌, subst, arith, append-nil, length-append}
+use Rattle.std.proofs.Common.{◌≡◌, ℕ, ◌-◌, ◌^◌, ◌≤◌, List, [], ◌∷◌, ◌++◌, length, take, drop, Option, Some, None, Result, Ok, Err, string_bytes, sym, ap, ◌∙◌, subst, arith, append-nil, length-append}
 use Rattle.std.specs.Prelude.{IfOk, IfSome}
 use Rattle.std.specs.declared.alloc.AllocError.{AllocError}
 use Rattle.std.specs.Io.KnownBytes.{Consumes, IsAtEnd}
 use Rattle.hir_core.specs.Tree.{Tree}
 use Rattle.hirscan.specs.declared.program.Ending.{Ending}
-use Rattle.hirscan.specs.declared.program.Ending.TheVariants.{Listed, Refused}
+use Rattle.hirscan.specs.declared.program.Ending.TheVariants.{Refused}
 use Rattle.hirscan.specs.declared.reply.Reply.{Reply}
 use Rattle.hirscan.specs.Takes.{Settings, Standing, at_first}
 use Rattle.hirscan.specs.Reads.{Reads, reads_find, reads_line}
 use Rattle.hirscan.specs.Refusals.{refusal}
-use Rattle.hirscan.specs.Reply.{IsReply, too_long, faulty, searched, IsSearchReply, refused, listed, refusal_line, span_lines}
+use Rattle.hirscan.specs.Reply.{IsReply, too_long, faulty, searched, IsSearchReply, refused, refusal_line}
 use Rattle.hirscan.proofs.SliceLemmas.{rest_of_slice}
 
 -- a head is no longer than its text

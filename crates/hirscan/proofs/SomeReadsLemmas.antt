@@ -1,11 +1,11 @@
 -- Each text reads or has a first fault.
-use Rattle.std.proofs.Common.{◌≡◌, ◌≢◌, ℕ, zero, suc, ◌+◌, ◌^◌, ◌<◌, ◌≤◌, ◌⊎◌, inl, inr, List, [], ◌∷◌, ◌++◌, length, Option, Some, None, refl, ap, arith, length-append}
-use Rattle.std.proofs.lemmas.Bool.{cases_eq, cases_lt}
+use Rattle.std.proofs.Common.{◌≡◌, ◌≢◌, ℕ, zero, suc, ◌+◌, ◌<◌, ◌≤◌, ◌⊎◌, inl, inr, List, [], ◌∷◌, ◌++◌, length, Option, Some, None, refl, ap, arith, length-append}
+use Rattle.std.proofs.lemmas.Bool.{cases_eq}
 use Rattle.std.proofs.lemmas.List.Elements.{All-cons, All-nil}
 use Rattle.hirscan.specs.declared.fault.FaultKind.{FaultKind}
 use Rattle.hirscan.specs.declared.fault.FaultKind.TheVariants.{NoFindLine}
 use Rattle.hirscan.specs.Words.{words}
-use Rattle.hirscan.specs.Takes.{Standing, at_first, Takes}
+use Rattle.hirscan.specs.Takes.{Standing, Takes}
 use Rattle.hirscan.specs.LineFault.{fault}
 use Rattle.hirscan.specs.Reads.{IsOneLine, Reads, reads_find, reads_line, IsFaultAt, no_line_feed, faulty_line, faulty_later}
 use Rattle.hirscan.proofs.EffectLemmas.{taken_or_ends}

@@ -11,9 +11,9 @@ use Rattle.hirscan.specs.declared.words.LineWord.{LineWord}
 use Rattle.hirscan.specs.declared.words.LineWord.TheVariants.{Utf8, Anchored, Span, Empty, Lit, Bytes, Rep, Cat, Alt, Pattern, Find}
 use Rattle.hirscan.specs.declared.line.Step.TheVariants.{Next}
 use Rattle.hirscan.specs.Words.{class_ranges}
-use Rattle.hirscan.specs.Readers.{spelling, line_word, number, the_number, bound, the_bound, order, the_order, switch, the_switch, yes_or_no, the_yes_or_no, the_bytes, the_ends, word_at}
+use Rattle.hirscan.specs.Readers.{spelling, line_word, number, the_number, bound, the_bound, order, the_order, the_switch, the_yes_or_no, the_bytes, the_ends, word_at}
 use Rattle.hirscan.specs.Takes.{Settings, Standing, HasNoNode, Sets, Replaces, Takes, utf8_line, anchored_line, span_line, empty_line, lit_line, bytes_line, rep_line, cat_line, alt_line, pattern_line, EndsHead}
-use Rattle.hirscan.specs.LineFault.{first_of, when, unless_read, word_fault, is_setting, is_setting_after_node, is_word_count, is_at_most, is_min_above_max, top, below, has_too_few_trees, is_too_deep, has_not_one_tree, has_tree_left_over, known_fault, settings_after, after}
+use Rattle.hirscan.specs.LineFault.{first_of, when, unless_read, word_fault, is_setting_after_node, is_word_count, is_at_most, is_min_above_max, top, below, has_too_few_trees, is_too_deep, has_not_one_tree, has_tree_left_over, known_fault, settings_after, after}
 use Rattle.hirscan.specs.declared.line.Step.{Step}
 use Rattle.hirscan.specs.Tells.{step_after, TellsStep}
 use Rattle.hirscan.proofs.StageLemmas.{first_none, when_none}

@@ -156,9 +156,10 @@ settings_after _ args was = was
 -- what stands after a line that makes a tree of those on the top
 abbrev pub after_tree : LineWord → List (List ℕ) → Standing → Standing
 after_tree k args at = record {
-    settings = at.settings;
-    stack = below (needed k args) at.stack ++ new_tree k args (top (needed k args) at.stack) ∷ [];
-    patterns = at.patterns }
+  settings = at.settings;
+  stack = below (needed k args) at.stack ++ new_tree k args (top (needed k args) at.stack) ∷ [];
+  patterns = at.patterns;
+}
 
 -- what stands after a line of this first word that has no fault
 abbrev pub after : LineWord → List (List ℕ) → Standing → Standing

@@ -6,7 +6,7 @@ use Rattle.search_types.specs.declared.anchored.Anchored.{Anchored}
 use Rattle.search_types.specs.declared.anchored.Anchored.TheVariants.{No, Yes}
 use Rattle.hir_core.specs.Tree.{Tree}
 use Rattle.hir_core.specs.Facts.{is_utf8_tree, list_count}
-use Rattle.hirscan.specs.Takes.{Settings, Standing}
+use Rattle.hirscan.specs.Takes.{Settings}
 use Rattle.hirscan.specs.Loops.{first_empty_loop}
 use Rattle.hirscan.specs.PlainEnds.{plain_looks}
 use Rattle.hirscan.specs.Choices.{Query}
@@ -51,21 +51,21 @@ of_pattern what p = codes "pattern " ++ (decimal p ++ what)
 -- why the patterns are refused
 abbrev pub pattern_causes : Bool → List Tree → Option (List ℕ)
 pattern_causes utf8 xs = first_cause
-    ( option_map (of_pattern (codes ": unbounded body may be empty")) (first_empty_loop xs)
+    (option_map (of_pattern (codes ": unbounded body may be empty")) (first_empty_loop xs)
     ∷ option_map (of_pattern (codes ": not UTF-8")) (where_utf8 utf8 (first_not_utf8 xs))
     ∷ [])
 
 -- why the haystack is refused, or the span of it
 abbrev pub haystack_causes : Bool → Option (ℕ × ℕ) → List ℕ → Option (List ℕ)
 haystack_causes utf8 span h = first_cause
-    ( option_map (λ b. codes "haystack not UTF-8 at " ++ decimal b) (where_utf8 utf8 (first_broken h))
+    (option_map (λ b. codes "haystack not UTF-8 at " ++ decimal b) (where_utf8 utf8 (first_broken h))
     ∷ cause_if (not (is_span (span_of span h) h)) (codes "span")
     ∷ [])
 
 -- why these settings and patterns are refused with this haystack: None where they are searched
 abbrev pub refusal : Settings → List Tree → List ℕ → Option (List ℕ)
 refusal settings xs h = first_cause
-    ( pattern_causes settings.utf8 xs
+    (pattern_causes settings.utf8 xs
     ∷ haystack_causes settings.utf8 settings.span h
     ∷ cause_if (nat_lt 16384 (list_count xs)) (codes "size limit")
     ∷ [])
@@ -77,9 +77,10 @@ mode_of false = No
 -- what is searched for where nothing is refused
 abbrev pub query_of : Settings → List Tree → List ℕ → Query
 query_of settings xs h = record {
-    patterns = xs;
-    looks = plain_looks h;
-    haystack = h;
-    end = (span_of settings.span h).1;
-    mode = mode_of settings.anchored;
-    utf8 = settings.utf8 }
+  patterns = xs;
+  looks = plain_looks h;
+  haystack = h;
+  end = (span_of settings.span h).1;
+  mode = mode_of settings.anchored;
+  utf8 = settings.utf8;
+}

@@ -49,9 +49,10 @@ standing stands = record { settings = settings stands.settings; stack = stands.s
 -- what stands at the end of a head
 abbrev pub head_standing : Head → Standing
 head_standing head = record {
-    settings = record { utf8 = head.utf8; anchored = head.anchored; span = head.span };
-    stack = [];
-    patterns = head.patterns.items }
+  settings = record { utf8 = head.utf8; anchored = head.anchored; span = head.span };
+  stack = [];
+  patterns = head.patterns.items;
+}
 
 -- a fault of a text is the first one; want of memory says nothing of the text
 abbrev pub TellsFault : List ℕ → Fault → Type 0

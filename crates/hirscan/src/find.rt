@@ -61,11 +61,7 @@ fn first_kept(asked: &Asked<'_>, ends: &[usize]) -> Option<usize>
 }
 
 /// The first choice of the patterns at a place.
-fn first_choice(
-    alloc: Global,
-    asked: &Asked<'_>,
-    at: usize,
-) -> Result<Option<Match>, AllocError>
+fn first_choice(alloc: Global, asked: &Asked<'_>, at: usize) -> Result<Option<Match>, AllocError>
     requires few { length asked.now.patterns.now ≤ greatest_index }
     ensures { IfOk result (λ f. f ≡ first_choice at (choices_at (query asked.now) at)) }
 {

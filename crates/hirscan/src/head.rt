@@ -69,7 +69,9 @@ pub fn read_head(alloc: Global, text: &[u8]) -> Result<Head, Fault>
             Step::Next => lines += 1,
             Step::End => {
                 let Stands {
-                    settings, patterns, ..
+                    settings,
+                    patterns,
+                    ..
                 } = stands;
                 return Ok(Head {
                     utf8: settings.utf8,

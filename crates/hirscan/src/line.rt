@@ -260,10 +260,7 @@ fn is_word_count(word: LineWord, count: usize) -> bool
 fn is_setting(word: LineWord) -> bool
     ensures { result ≡ is_setting word }
 {
-    matches!(
-        word,
-        LineWord::Utf8 | LineWord::Anchored | LineWord::Span
-    )
+    matches!(word, LineWord::Utf8 | LineWord::Anchored | LineWord::Span)
 }
 
 /// Whether the line sets something where a tree has been pushed: such a tree stands on the stack,

@@ -5,8 +5,8 @@ ghost use Rattle.hirscan.specs.Asks.{search_of};
 ghost use Rattle.hirscan.specs.Tells.{head_standing};
 ghost use Rattle.hirscan.specs.Reply.{IsReply, IsSearchReply, span_line, span_lines, refusal_line};
 
-use crate::fault::Fault;
 use crate::causes::refusal_cause;
+use crate::fault::Fault;
 use crate::find::{Asked, all_answers};
 use crate::head::{Head, read_head};
 use crate::program::Ending;

@@ -7,3 +7,5 @@ pub mod Ways
 pub mod NameSets
 pub mod Marked
 pub mod Paired
+pub mod Transitions
+pub mod States

@@ -1,11 +1,12 @@
-//! Byte automata: their definitions and laws, and what a search over their states keeps, which is counters
-//! and sets of the states' numbers.
+//! Byte automata: their definitions and laws, their states, and what a search over these keeps, which is
+//! counters and sets of the states' numbers.
 //!
 //! The definitions are in `specs/`: an automaton in `Nfa.antt`, where its states lead in `Ways.antt`, runs and
 //! their preference in `Runs.antt`, walks in `Walks.antt`, lists of states by place in `Places.antt`. Their
 //! laws are public functions without code in [`run_laws`], [`place_laws`] and [`walk_laws`].
 #![tactic(auto)]
 
+mod dense_transitions;
 mod marks;
 mod name_set;
 mod pair_set;
@@ -14,12 +15,19 @@ pub mod run_laws;
 mod sets;
 mod sparse_set;
 mod sparse_set_iter;
+mod sparse_transitions;
+mod state;
 mod steps;
+mod transition;
 pub mod walk_laws;
 
+pub use dense_transitions::DenseTransitions;
 pub use name_set::NameSet;
 pub use pair_set::PairSet;
 pub use sets::{Sets, SparseSets};
 pub use sparse_set::SparseSet;
 pub use sparse_set_iter::SparseSetIter;
+pub use sparse_transitions::SparseTransitions;
+pub use state::State;
 pub use steps::Steps;
+pub use transition::Transition;

@@ -1,5 +1,7 @@
-//! Tests of the sets of names, with values that were worked out by hand.
+//! Tests of the sets of names and of states, with values that were worked out by hand.
 #![tactic(auto)]
 
 #[cfg(test)]
 mod sets;
+#[cfg(test)]
+mod states;

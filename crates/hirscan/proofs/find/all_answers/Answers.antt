@@ -1,8 +1,6 @@
-use Rattle.std.proofs.Common.{◌≡◌, ℕ, ◌+◌, ◌-◌, length, Some, sym, ap, ◌∙◌, arith}
-use Rattle.search_types.specs.Found.{Found}
+use Rattle.std.proofs.Common.{◌≡◌, ◌+◌, ◌-◌, length, sym, ap, ◌∙◌, arith}
 use Rattle.hirscan.specs.Asks.{query}
 use Rattle.hirscan.specs.Choices.{answer_from}
-use Rattle.hirscan.specs.AllAnswers.{answers_from}
 use Rattle.hirscan.proofs.AnswerLemmas.{answers_within}
 use Rattle.hirscan.proofs.AllAnswersLemmas.{answer_written, answers_done, none_asked, next_within}
 use Rattle.hirscan.proofs.find.all_answers.Goals as goal

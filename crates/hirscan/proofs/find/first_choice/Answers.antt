@@ -1,4 +1,4 @@
-use Rattle.std.proofs.Common.{◌≡◌, true, Some, None, length, sym, ap, ◌∙◌, rules}
+use Rattle.std.proofs.Common.{◌≡◌, true, Some, length, sym, ap, ◌∙◌, rules}
 use Rattle.search_types.specs.Modes.{allowed}
 use Rattle.search_types.specs.LeftmostAnswer.{first_choice}
 use Rattle.hir_core.specs.PreferredEnds.{preferred_ends}

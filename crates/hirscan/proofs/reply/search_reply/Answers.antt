@@ -1,4 +1,4 @@
-use Rattle.std.proofs.Common.{◌≡◌, ◌≤◌, Some, None, length, sym, ap, ◌∙◌, arith}
+use Rattle.std.proofs.Common.{◌≡◌, Some, None, length, sym, ap, ◌∙◌, arith}
 use Rattle.hirscan.specs.Tells.{head_standing}
 use Rattle.hirscan.specs.Refusals.{refusal}
 use Rattle.hirscan.proofs.CauseLemmas.{few_patterns}
