@@ -1,6 +1,8 @@
 -- The sequences of some ranges of scalars, worked out.
 use Rattle.std.proofs.Common.{◌≡◌, [], ◌∷◌, refl}
 use Rattle.hir_core.specs.Sequences.{utf8_sequences}
+use Rattle.hir_core.specs.Tree.{char_class}
+use Rattle.hir_core.specs.Facts.{count}
 
 -- all scalars give the rows of Table 3-7 of the Unicode Standard
 pub all_scalars : utf8_sequences 0 0x10FFFF ≡
@@ -21,3 +23,7 @@ none_between = refl
 beside_the_surrogates : utf8_sequences 0xD7FF 0xE000 ≡
     ((0xED, 0xED) ∷ (0x9F, 0x9F) ∷ (0xBF, 0xBF) ∷ []) ∷ ((0xEE, 0xEE) ∷ (0x80, 0x80) ∷ (0x80, 0x80) ∷ []) ∷ []
 beside_the_surrogates = refl
+
+-- so the class of all scalars has nine of them, and a count of 2 and 4 for each
+all_scalars_count : count (char_class ((0, 0x10FFFF) ∷ [])) ≡ 38
+all_scalars_count = refl
