@@ -1,5 +1,5 @@
 use search_core::{NonMaxUsize, PatternID};
-use search_types::{Captures, GroupInfo, Match, Span};
+use search_types::{Captures, GroupInfo, Span};
 use std::alloc::{AllocError, Global};
 use std::test::Fail;
 
@@ -50,7 +50,8 @@ fn spans_of_a_match(rt: HostRuntime) -> Result<(), Fail> {
     assert_eq!(rt; captures.slots().len(), 6);
     let whole = Span { start: 0, end: 2 };
     let group = Span { start: 1, end: 2 };
-    assert_eq!(rt; copy.get_match(), Some(Match::new(PatternID::ZERO, whole)));
+    assert_eq!(rt; copy.pattern(), Some(PatternID::ZERO));
+    assert_eq!(rt; copy.get_group(0), Some(whole));
     assert_eq!(rt; copy.get_group(1), Some(group));
     assert_eq!(rt; copy.get_group(2), None);
     assert_eq!(rt; copy.get_group_by_name("a"), Some(group));

@@ -29,9 +29,10 @@ fn a_pattern_at_the_capacity_is_refused(rt: HostRuntime) -> Result<(), Fail> {
 #[test]
 fn a_set_is_read_from_both_ends(rt: HostRuntime) -> Result<(), Fail> {
     let mut set = PatternSet::new(rt.alloc(), 8)?;
-    for pattern in [6, 1, 4, 2] {
-        set.insert(PatternID::must(pattern));
-    }
+    assert!(rt; matches!(set.try_insert(PatternID::must(6)), Ok(true)));
+    assert!(rt; matches!(set.try_insert(PatternID::must(1)), Ok(true)));
+    assert!(rt; matches!(set.try_insert(PatternID::must(4)), Ok(true)));
+    assert!(rt; matches!(set.try_insert(PatternID::must(2)), Ok(true)));
     let copy = set.try_clone(rt.alloc())?;
     set.clear();
     let mut members = copy.iter();
