@@ -37,35 +37,6 @@ fn matched(captures: &mut Captures) {
 }
 
 #[test]
-fn spans_of_a_match(rt: HostRuntime) -> Result<(), Fail> {
-    let alloc = rt.alloc();
-    let mut captures = Captures::all(alloc, two_patterns(alloc)?)?;
-    assert!(rt; !captures.is_match());
-    assert_eq!(rt; captures.get_match(), None);
-    assert_eq!(rt; captures.group_len(), 0);
-    matched(&mut captures);
-    let copy = captures.try_clone(alloc)?;
-    captures.clear();
-    assert_eq!(rt; captures.pattern(), None);
-    assert_eq!(rt; captures.slots().len(), 6);
-    let whole = Span { start: 0, end: 2 };
-    let group = Span { start: 1, end: 2 };
-    assert_eq!(rt; copy.pattern(), Some(PatternID::ZERO));
-    assert_eq!(rt; copy.get_group(0), Some(whole));
-    assert_eq!(rt; copy.get_group(1), Some(group));
-    assert_eq!(rt; copy.get_group(2), None);
-    assert_eq!(rt; copy.get_group_by_name("a"), Some(group));
-    assert_eq!(rt; copy.get_group_by_name("b"), None);
-    assert_eq!(rt; copy.group_len(), 2);
-    assert_eq!(rt; copy.group_info().pattern_len(), 2);
-    let mut spans = copy.iter();
-    assert_eq!(rt; spans.next(), Some(Some(whole)));
-    assert_eq!(rt; spans.next(), Some(Some(group)));
-    assert_eq!(rt; spans.next(), None);
-    Ok(())
-}
-
-#[test]
 fn parts_of_a_haystack(rt: HostRuntime) -> Result<(), Fail> {
     let alloc = rt.alloc();
     let mut captures = Captures::all(alloc, two_patterns(alloc)?)?;
