@@ -21,3 +21,5 @@ pub mod ListsLemmas
 pub mod NameLemmas
 pub mod MarkedLemmas
 pub mod PairedLemmas
+pub mod BuilderLemmas
+pub mod RenamingLemmas

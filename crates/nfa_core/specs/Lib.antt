@@ -9,3 +9,7 @@ pub mod Marked
 pub mod Paired
 pub mod Transitions
 pub mod States
+pub mod BuilderStates
+pub mod BuilderFaults
+pub mod Drafts
+pub mod Renaming

@@ -1,12 +1,21 @@
-//! Byte automata: their definitions and laws, their states, and what a search over these keeps, which is
-//! counters and sets of the states' numbers.
+//! Byte automata: their definitions and laws, their states, a builder that puts states together, and what a
+//! search over these keeps, which is counters and sets of the states' numbers.
 //!
 //! The definitions are in `specs/`: an automaton in `Nfa.antt`, where its states lead in `Ways.antt`, runs and
 //! their preference in `Runs.antt`, walks in `Walks.antt`, lists of states by place in `Places.antt`. Their
-//! laws are public functions without code in [`run_laws`], [`place_laws`] and [`walk_laws`].
+//! laws are public functions without code in [`run_laws`], [`place_laws`] and [`walk_laws`]. What a builder
+//! holds is in `BuilderStates.antt`, why it refuses in `BuilderFaults.antt`, and the automaton that its states
+//! stand for in `Renaming.antt`, with a law in [`builder_laws`].
 #![tactic(auto)]
 
+mod build_error;
+mod builder;
+mod builder_groups;
+pub mod builder_laws;
+mod builder_patterns;
+mod builder_states;
 mod dense_transitions;
+mod draft;
 mod marks;
 mod name_set;
 mod pair_set;
@@ -21,6 +30,8 @@ mod steps;
 mod transition;
 pub mod walk_laws;
 
+pub use build_error::BuildError;
+pub use builder::Builder;
 pub use dense_transitions::DenseTransitions;
 pub use name_set::NameSet;
 pub use pair_set::PairSet;

@@ -1,0 +1,56 @@
+-- Why a builder refuses, and how an error tells it.
+use Rattle.std.specs.Prelude.{◌≡◌, ◌⊎◌, ℕ, nat_lt, List, [], ◌∷◌, ◌++◌, length, Option, Some, None, if◌then◌else◌, Result, MatchResult}
+use Rattle.std.specs.Option.{option_or}
+use Rattle.search_core.specs.Index.{greatest_index}
+use Rattle.nfa_core.specs.BuilderStates.{Part, Assembly, bytes_of, with_part, with_group, patched_at}
+use Rattle.search_types.specs.Groups.{Name}
+use Rattle.nfa_core.specs.declared.build_error.BuildError.{BuildError}
+use Rattle.nfa_core.specs.declared.build_error.BuildError.TheVariants as error
+
+pub data BuildFault : Type 0 where
+  too_many_patterns : BuildFault
+  too_many_states : BuildFault
+  exceeded_size_limit : ℕ → BuildFault
+  unsupported_captures : BuildFault
+
+-- the error tells this fault, or that memory ran out, where there is no fault
+abbrev pub Tells : BuildError → Option BuildFault → Type 0
+Tells error.TooManyPatterns found = found ≡ Some too_many_patterns
+Tells error.TooManyStates found = found ≡ Some too_many_states
+Tells (error.ExceededSizeLimit limit) found = found ≡ Some (exceeded_size_limit limit)
+Tells error.UnsupportedCaptures found = found ≡ Some unsupported_captures
+Tells error.NoMemory found = found ≡ None
+
+-- whether so many bytes pass the limit
+abbrev pub limit_fault : Option ℕ → ℕ → Option BuildFault
+limit_fault None bytes = None
+limit_fault (Some limit) bytes = if nat_lt limit bytes then Some (exceeded_size_limit limit) else None
+
+-- whether there is no name for one more state
+abbrev pub name_fault : List Part → Option BuildFault
+name_fault parts = if nat_lt greatest_index (length parts) then Some too_many_states else None
+
+-- what refuses one more state
+abbrev pub add_fault : Assembly → Part → Option BuildFault
+add_fault b part = option_or (name_fault b.parts) (limit_fault b.size_limit (bytes_of (b.parts ++ part ∷ [])))
+
+-- The state comes last, and the result is its name; or the builder stays as it was, and the error tells what refuses it.
+abbrev pub Adds : Assembly → Assembly → Result ℕ BuildError → Part → Type 0
+Adds old new result part = MatchResult result
+    (λ id. (id ≡ length old.parts) × (new ≡ with_part old part) × (add_fault old part ≡ None))
+    (λ e. (new ≡ old) × Tells e (add_fault old part))
+
+-- whether there is no number for one more pattern
+abbrev pub pattern_fault : Assembly → Option BuildFault
+pattern_fault b = if nat_lt greatest_index (length b.starts) then Some too_many_patterns else None
+
+-- what refuses one more way of a state
+abbrev pub patch_fault : Assembly → ℕ → ℕ → Option BuildFault
+patch_fault b from to = limit_fault b.size_limit (bytes_of (patched_at b.parts from to))
+
+-- The same for a state at the start of a group, whose name is noted before. A refusal may leave that noted, or in part
+-- where memory lacks, which is then told before any other fault.
+abbrev pub AddsGroup : Assembly → Assembly → Result ℕ BuildError → ℕ → ℕ → Option Name → Part → Type 0
+AddsGroup old new result pattern index name part = MatchResult result
+    (λ id. (id ≡ length old.parts) × (new ≡ record (with_part old part) { groups = with_group old.groups pattern index name }) × (add_fault old part ≡ None))
+    (λ e. (new ≡ record old { groups = new.groups }) × ((e ≡ error.NoMemory) ⊎ Tells e (add_fault old part)))

@@ -1,0 +1,171 @@
+ghost use Rattle.std.specs.Prelude.{◌≡◌, ◌≢◌, ◌<◌, true, false, [], None, MatchResult};
+ghost use Rattle.look_core.specs.Terminators.{one_of};
+ghost use Rattle.nfa_core.specs.BuilderStates.{blank, bytes_of};
+ghost use Rattle.nfa_core.specs.BuilderFaults.{Adds, Tells, limit_fault};
+ghost use Rattle.nfa_core.specs.Drafts.{part_of};
+
+use crate::build_error::BuildError;
+use crate::draft::Draft;
+use look_core::{AsciiWord, LookMatcher};
+use search_core::StateID;
+use std::alloc::Global;
+use std::marker::Model;
+
+/// Puts the states of an automaton together, as `regex_automata::nfa::thompson::Builder` does. States may
+/// name others that are still to come, and be told later where they lead.
+///
+/// A refusal leaves the builder as it was, in all calls.
+#[derive(Drop)]
+pub struct Builder {
+    pub(crate) drafts: Vec<Draft>,
+    pub(crate) starts: Vec<StateID>,
+    /// The names of each pattern's groups.
+    pub(crate) groups: Vec<Vec<Option<String>>>,
+    pub(crate) is_open: bool,
+    utf8: bool,
+    reverse: bool,
+    look_matcher: LookMatcher<AsciiWord>,
+    pub(crate) size_limit: Option<usize>,
+    /// The bytes of all states, or [`usize::MAX`] where that is less.
+    pub(crate) memory: usize,
+}
+
+impl Model for Builder {
+    ghost use Rattle.std.specs.Prelude.{◌≡◌, ◌≤◌, true, length, map};
+    ghost use Rattle.search_core.specs.Index.{greatest_index};
+    ghost use Rattle.search_types.specs.GroupFaults.{groups_in};
+    ghost use Rattle.nfa_core.specs.BuilderStates.{Assembly, bytes_of};
+    ghost use Rattle.nfa_core.specs.Drafts.{part_of};
+
+    ghost Value = { Assembly };
+
+    ghost view = { λ b. record { parts = map part_of b.drafts.items; starts = b.starts.items; groups = groups_in b.groups.items; is_open = b.is_open; utf8 = b.utf8; reverse = b.reverse; terminator = b.look_matcher.terminator; size_limit = b.size_limit } };
+
+    ghost invariant = { λ b. (b.memory ≡ bytes_of (map part_of b.drafts.items)) × (b.is_open ≡ true → length b.starts.items ≤ greatest_index) };
+}
+
+/// Refuses more bytes than the limit allows.
+pub(crate) fn check_limit(size_limit: Option<usize>, bytes: usize) -> Result<(), BuildError>
+    ensures { MatchResult result (λ _. limit_fault size_limit bytes ≡ None) (λ e. Tells e (limit_fault size_limit bytes) × (limit_fault size_limit bytes ≢ None)) }
+{
+    match size_limit {
+        Some(limit) if limit < bytes => Err(BuildError::ExceededSizeLimit { limit }),
+        _ => Ok(()),
+    }
+}
+
+impl Builder {
+    /// A builder without states and patterns, for automata that read upwards, keep to characters of UTF-8
+    /// and have no limit of their size.
+    pub fn new(alloc: Global) -> Builder
+        ensures { result ≡ blank (one_of 0x0A) }
+    {
+        Builder {
+            drafts: Vec::new(alloc),
+            starts: Vec::new(alloc),
+            groups: Vec::new(alloc),
+            is_open: false,
+            utf8: true,
+            reverse: false,
+            look_matcher: LookMatcher::new(AsciiWord),
+            size_limit: None,
+            memory: 0,
+        }
+    }
+
+    /// Takes all states and patterns away, and keeps the settings.
+    pub fn clear(&mut self)
+        ensures { self.new ≡ record self.old { parts = []; starts = []; groups = []; is_open = false } }
+    {
+        self.drafts.clear();
+        self.starts.clear();
+        self.groups.clear();
+        self.is_open = false;
+        self.memory = 0;
+    }
+
+    /// The bytes that the states are taken to need: 24 for each, 8 for each transition of a sparse one and
+    /// 4 for each alternate of a union. A greater number than [`usize::MAX`] is given as that.
+    pub fn memory_usage(&self) -> usize
+        ensures { result ≡ bytes_of self.now.parts }
+    {
+        self.memory
+    }
+
+    /// Puts a state last.
+    #[tactic(auto, using(crate::proofs::BuilderLemmas::bytes_pushed))]
+    pub(crate) fn add(&mut self, draft: Draft) -> Result<StateID, BuildError>
+        ensures { Adds self.old self.new result (part_of draft) }
+    {
+        let Ok(id) = StateID::new(self.drafts.len()) else {
+            return Err(BuildError::TooManyStates);
+        };
+        let memory = self.memory.saturating_add(draft.memory_usage());
+        check_limit(self.size_limit, memory)?;
+        self.drafts.push(draft)?;
+        self.memory = memory;
+        Ok(id)
+    }
+
+    /// Whether the automaton shall keep to characters of UTF-8: matches without a byte are then found
+    /// between characters alone.
+    pub fn set_utf8(&mut self, utf8: bool)
+        ensures { self.new ≡ record self.old { utf8 = utf8 } }
+    {
+        self.utf8 = utf8;
+    }
+
+    /// See [`set_utf8`](Builder::set_utf8).
+    pub fn get_utf8(&self) -> bool
+        ensures { result ≡ self.now.utf8 }
+    {
+        self.utf8
+    }
+
+    /// Whether the automaton reads from the end of a text to its start.
+    pub fn set_reverse(&mut self, reverse: bool)
+        ensures { self.new ≡ record self.old { reverse = reverse } }
+    {
+        self.reverse = reverse;
+    }
+
+    /// See [`set_reverse`](Builder::set_reverse).
+    pub fn get_reverse(&self) -> bool
+        ensures { result ≡ self.now.reverse }
+    {
+        self.reverse
+    }
+
+    /// Sets what tells where looks hold.
+    pub fn set_look_matcher(&mut self, look_matcher: LookMatcher<AsciiWord>)
+        ensures { self.new ≡ record self.old { terminator = look_matcher.terminator } }
+    {
+        self.look_matcher = look_matcher;
+    }
+
+    /// What tells where looks hold.
+    pub fn get_look_matcher(&self) -> &LookMatcher<AsciiWord>
+        ensures { result.now.terminator ≡ self.now.terminator }
+    {
+        &self.look_matcher
+    }
+
+    /// Sets how many bytes the states may take, any number where it is `None`. It is refused where they
+    /// take more already.
+    pub fn set_size_limit(&mut self, limit: Option<usize>) -> Result<(), BuildError>
+        ensures { MatchResult result
+            (λ _. (self.new ≡ record self.old { size_limit = limit }) × (limit_fault limit (bytes_of self.old.parts) ≡ None))
+            (λ e. (self.new ≡ self.old) × Tells e (limit_fault limit (bytes_of self.old.parts)) × (limit_fault limit (bytes_of self.old.parts) ≢ None)) }
+    {
+        check_limit(limit, self.memory)?;
+        self.size_limit = limit;
+        Ok(())
+    }
+
+    /// How many bytes the states may take, any number where it is `None`.
+    pub fn get_size_limit(&self) -> Option<usize>
+        ensures { result ≡ self.now.size_limit }
+    {
+        self.size_limit
+    }
+}

@@ -1,0 +1,103 @@
+ghost use Rattle.std.specs.Prelude.{◌≡◌, ◌<◌, true, length, MatchResult};
+ghost use Rattle.std.specs.Option.{option_map};
+ghost use Rattle.std.specs.String.{string_bytes};
+ghost use Rattle.search_types.specs.GroupFaults.{names_in, groups_in};
+ghost use Rattle.nfa_core.specs.declared.build_error.BuildError.TheVariants.{NoMemory};
+ghost use Rattle.nfa_core.specs.BuilderStates.{with_name, with_group, up_to_pattern, capture_start_part, capture_end_part};
+ghost use Rattle.nfa_core.specs.BuilderFaults.{Adds, AddsGroup};
+
+use crate::build_error::BuildError;
+use crate::builder::Builder;
+use crate::draft::Draft;
+use search_core::{PatternID, SmallIndex, StateID};
+use std::alloc::Global;
+
+impl Builder {
+    /// Adds a state that notes where a group of the pattern that was begun starts. The group's name is that
+    /// of the first such state; groups with lesser indices that have none yet get no name.
+    pub fn add_capture_start(
+        &mut self,
+        alloc: Global,
+        next: StateID,
+        group_index: SmallIndex,
+        name: Option<String>,
+    ) -> Result<StateID, BuildError>
+        requires { self.old.is_open ≡ true }
+        ensures { AddsGroup self.old self.new result (length self.old.starts) group_index (option_map string_bytes name) (capture_start_part (length self.old.starts) group_index next) }
+    {
+        let pattern_id = self.current_pattern_id();
+        note_group(alloc, &mut self.groups, pattern_id, group_index, name)?;
+        self.add(Draft::CaptureStart {
+            pattern_id,
+            group_index,
+            next,
+        })
+    }
+
+    /// Adds a state that notes where a group of the pattern that was begun ends.
+    pub fn add_capture_end(
+        &mut self,
+        next: StateID,
+        group_index: SmallIndex,
+    ) -> Result<StateID, BuildError>
+        requires { self.old.is_open ≡ true }
+        ensures { Adds self.old self.new result (capture_end_part (length self.old.starts) group_index next) }
+    {
+        let pattern_id = self.current_pattern_id();
+        self.add(Draft::CaptureEnd {
+            pattern_id,
+            group_index,
+            next,
+        })
+    }
+}
+
+/// Notes the name of a pattern's group, unless that group is there.
+fn note_group(
+    alloc: Global,
+    groups: &mut Vec<Vec<Option<String>>>,
+    pattern: PatternID,
+    index: SmallIndex,
+    name: Option<String>,
+) -> Result<(), BuildError>
+    ensures { MatchResult result (λ _. groups_in groups.new.items ≡ with_group (groups_in groups.old.items) pattern index (option_map string_bytes name)) (λ e. e ≡ NoMemory) }
+{
+    fill_patterns(alloc, groups, pattern)?;
+    note_name(&mut groups[pattern.as_usize()], index, name)?;
+    Ok(())
+}
+
+/// Lets there be groups for all patterns up to this one.
+#[tactic(auto, using(crate::proofs::BuilderLemmas::filled_more, crate::proofs::BuilderLemmas::filled_enough))]
+fn fill_patterns(
+    alloc: Global,
+    groups: &mut Vec<Vec<Option<String>>>,
+    pattern: PatternID,
+) -> Result<(), BuildError>
+    ensures all { MatchResult result (λ _. groups_in groups.new.items ≡ up_to_pattern (groups_in groups.old.items) pattern) (λ e. e ≡ NoMemory) }
+    ensures len { MatchResult result (λ _. pattern < length groups.new.items) (λ _. Unit {0}) }
+{
+    while groups.len() <= pattern.as_usize() {
+        groups.push(Vec::new(alloc))?;
+    }
+    Ok(())
+}
+
+/// Notes the name of a group, unless that group is there.
+#[tactic(auto, using(crate::proofs::BuilderLemmas::filled_more, crate::proofs::BuilderLemmas::filled_enough))]
+fn note_name(
+    names: &mut Vec<Option<String>>,
+    index: SmallIndex,
+    name: Option<String>,
+) -> Result<(), BuildError>
+    ensures { MatchResult result (λ _. names_in names.new.items ≡ with_name (names_in names.old.items) index (option_map string_bytes name)) (λ e. e ≡ NoMemory) }
+{
+    if index.as_usize() < names.len() {
+        return Ok(());
+    }
+    while names.len() < index.as_usize() {
+        names.push(None)?;
+    }
+    names.push(name)?;
+    Ok(())
+}

@@ -1,0 +1,110 @@
+ghost use Rattle.std.specs.Prelude.{◌≡◌, min, MatchResult};
+ghost use Rattle.nfa_core.specs.BuilderStates.{part_bytes, list_bytes, way_bytes, patched};
+ghost use Rattle.nfa_core.specs.Drafts.{part_of};
+
+use crate::transition::Transition;
+use look_core::Look;
+use search_core::{PatternID, SmallIndex, StateID};
+use std::alloc::AllocError;
+
+/// The bytes that a state takes by itself, without its list.
+const STATE_SIZE: usize = 24;
+
+/// The bytes that a [`Transition`] takes.
+const TRANSITION_SIZE: usize = 8;
+
+/// A state of a builder. Where it leads may be told later.
+#[derive(Drop)]
+pub(crate) enum Draft {
+    /// Stands for the state that it names.
+    Empty {
+        next: StateID,
+    },
+    ByteRange {
+        trans: Transition,
+    },
+    Sparse {
+        transitions: Vec<Transition>,
+    },
+    Look {
+        look: Look,
+        next: StateID,
+    },
+    CaptureStart {
+        pattern_id: PatternID,
+        group_index: SmallIndex,
+        next: StateID,
+    },
+    CaptureEnd {
+        pattern_id: PatternID,
+        group_index: SmallIndex,
+        next: StateID,
+    },
+    Union {
+        alternates: Vec<StateID>,
+    },
+    /// A union whose last state is preferred.
+    UnionReverse {
+        alternates: Vec<StateID>,
+    },
+    Fail,
+    Match {
+        pattern_id: PatternID,
+    },
+}
+
+impl Draft {
+    /// The bytes that the state is taken to need, or [`usize::MAX`] where that is less.
+    pub(crate) fn memory_usage(&self) -> usize
+        ensures { result ≡ min (part_bytes (part_of self.now)) usize.MAX }
+    {
+        STATE_SIZE.saturating_add(self.list_memory())
+    }
+
+    /// The bytes of the state's list alone.
+    fn list_memory(&self) -> usize
+        ensures { result ≡ min (list_bytes (part_of self.now)) usize.MAX }
+    {
+        match self {
+            Draft::Sparse { transitions } => TRANSITION_SIZE.saturating_mul(transitions.len()),
+            Draft::Union { alternates } => StateID::SIZE.saturating_mul(alternates.len()),
+            Draft::UnionReverse { alternates } => StateID::SIZE.saturating_mul(alternates.len()),
+            Draft::Empty { .. }
+            | Draft::ByteRange { .. }
+            | Draft::Look { .. }
+            | Draft::CaptureStart { .. }
+            | Draft::CaptureEnd { .. }
+            | Draft::Fail
+            | Draft::Match { .. } => 0,
+        }
+    }
+
+    /// The bytes that one more way takes.
+    pub(crate) fn patch_memory(&self) -> usize
+        ensures { result ≡ way_bytes (part_of self.now) }
+    {
+        match self {
+            Draft::Union { .. } | Draft::UnionReverse { .. } => StateID::SIZE,
+            Draft::Empty { .. } | Draft::ByteRange { .. } | Draft::Sparse { .. } => 0,
+            Draft::Look { .. } | Draft::CaptureStart { .. } | Draft::CaptureEnd { .. } => 0,
+            Draft::Fail | Draft::Match { .. } => 0,
+        }
+    }
+
+    /// Lets the state lead to `to`: a union has one more way, and any other state leads there alone.
+    pub(crate) fn patch(&mut self, to: StateID) -> Result<(), AllocError>
+        ensures { MatchResult result (λ _. part_of self.new ≡ patched to (part_of self.old)) (λ _. part_of self.new ≡ part_of self.old) }
+    {
+        match self {
+            Draft::Empty { next } => *next = to,
+            Draft::ByteRange { trans } => trans.next = to,
+            Draft::Look { next, .. } => *next = to,
+            Draft::CaptureStart { next, .. } => *next = to,
+            Draft::CaptureEnd { next, .. } => *next = to,
+            Draft::Union { alternates } => alternates.push(to)?,
+            Draft::UnionReverse { alternates } => alternates.push(to)?,
+            Draft::Sparse { .. } | Draft::Fail | Draft::Match { .. } => (),
+        }
+        Ok(())
+    }
+}
