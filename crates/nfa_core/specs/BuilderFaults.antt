@@ -4,6 +4,8 @@ use Rattle.std.specs.Option.{option_or}
 use Rattle.search_core.specs.Index.{greatest_index}
 use Rattle.nfa_core.specs.BuilderStates.{Part, Assembly, bytes_of, with_part, with_group, patched_at}
 use Rattle.search_types.specs.Groups.{Name}
+use Rattle.search_types.specs.GroupFaults.{GroupFault, TooManyGroups, group_fault}
+use Rattle.search_types.specs.GroupRefusals as group
 use Rattle.nfa_core.specs.declared.build_error.BuildError.{BuildError}
 use Rattle.nfa_core.specs.declared.build_error.BuildError.TheVariants as error
 
@@ -12,6 +14,7 @@ pub data BuildFault : Type 0 where
   too_many_states : BuildFault
   exceeded_size_limit : ℕ → BuildFault
   unsupported_captures : BuildFault
+  captures_refused : GroupFault → BuildFault  -- why the groups can't be taken
 
 -- the error tells this fault, or that memory ran out, where there is no fault
 abbrev pub Tells : BuildError → Option BuildFault → Type 0
@@ -19,6 +22,7 @@ Tells error.TooManyPatterns found = found ≡ Some too_many_patterns
 Tells error.TooManyStates found = found ≡ Some too_many_states
 Tells (error.ExceededSizeLimit limit) found = found ≡ Some (exceeded_size_limit limit)
 Tells error.UnsupportedCaptures found = found ≡ Some unsupported_captures
+Tells (error.Captures err) found = (fault : GroupFault) × (found ≡ Some (captures_refused fault)) × group.Tells err (Some fault)
 Tells error.NoMemory found = found ≡ None
 
 -- whether so many bytes pass the limit
@@ -48,9 +52,28 @@ pattern_fault b = if nat_lt greatest_index (length b.starts) then Some too_many_
 abbrev pub patch_fault : Assembly → ℕ → ℕ → Option BuildFault
 patch_fault b from to = limit_fault b.size_limit (bytes_of (patched_at b.parts from to))
 
+-- whether there is no index for the group
+abbrev pub index_fault : ℕ → ℕ → Option BuildFault
+index_fault pattern index = if nat_lt greatest_index index then Some (captures_refused (TooManyGroups pattern index)) else None
+
+-- The same for a state at the end of a group, whose index may be too great.
+abbrev pub AddsGroupEnd : Assembly → Assembly → Result ℕ BuildError → ℕ → ℕ → Part → Type 0
+AddsGroupEnd old new result pattern index part = MatchResult result
+    (λ id. (id ≡ length old.parts) × (new ≡ with_part old part) × (option_or (index_fault pattern index) (add_fault old part) ≡ None))
+    (λ e. (new ≡ old) × Tells e (option_or (index_fault pattern index) (add_fault old part)))
+
 -- The same for a state at the start of a group, whose name is noted before. A refusal may leave that noted, or in part
--- where memory lacks, which is then told before any other fault.
+-- where memory lacks, which is then told before any other fault but that of the index.
 abbrev pub AddsGroup : Assembly → Assembly → Result ℕ BuildError → ℕ → ℕ → Option Name → Part → Type 0
 AddsGroup old new result pattern index name part = MatchResult result
-    (λ id. (id ≡ length old.parts) × (new ≡ record (with_part old part) { groups = with_group old.groups pattern index name }) × (add_fault old part ≡ None))
-    (λ e. (new ≡ record old { groups = new.groups }) × ((e ≡ error.NoMemory) ⊎ Tells e (add_fault old part)))
+    (λ id. (id ≡ length old.parts) × (new ≡ record (with_part old part) { groups = with_group old.groups pattern index name })
+        × (option_or (index_fault pattern index) (add_fault old part) ≡ None))
+    (λ e. (new ≡ record old { groups = new.groups }) × ((e ≡ error.NoMemory) ⊎ Tells e (option_or (index_fault pattern index) (add_fault old part))))
+
+-- what refuses to build: groups that break a rule
+abbrev pub groups_fault : Option GroupFault → Option BuildFault
+groups_fault None = None
+groups_fault (Some fault) = Some (captures_refused fault)
+
+abbrev pub build_fault : Assembly → Option BuildFault
+build_fault b = groups_fault (group_fault b.groups)

@@ -13,3 +13,6 @@ pub mod BuilderStates
 pub mod BuilderFaults
 pub mod Drafts
 pub mod Renaming
+pub mod Drafted
+pub mod NfaValue
+pub mod CanBuild

@@ -30,7 +30,7 @@ past parts q = past_within parts (length parts) q
 
 -- from each state one comes to one that stands for itself
 abbrev pub HasNoLoop : List Part → Type 0
-HasNoLoop parts = (q : ℕ) → q < length parts → stands_for (part_at parts (past parts q)) ≡ None
+HasNoLoop parts = (q : ℕ) → q < length parts → (n : ℕ) × (stands_for (part_at parts (past_within parts n q)) ≡ None)
 
 -- the states that stand for themselves, in order
 abbrev pub kept : List Part → List Part

@@ -82,9 +82,14 @@ byte_steps a t i q = on_read (node_at a q) (reads a.reverse t i)
 abbrev pub plain_steps : Automaton → Text → ℕ → ℕ → List ℕ
 plain_steps a t i q = on_nothing (node_at a q) (λ l. is_passed a.reverse t l i)
 
--- where a pair of place and state leads: a byte moves by one place
+-- where a state leads from place i, for one who reads up, or down: a byte moves by one place
+abbrev pub node_ways : Bool → Text → Node → ℕ → List (ℕ × ℕ)
+node_ways reverse t node i =
+    map (λ q. (place_behind i (reads reverse t i), q)) (on_read node (reads reverse t i)) ++ map (λ q. (i, q)) (on_nothing node (λ l. is_passed reverse t l i))
+
+-- where a pair of place and state leads
 abbrev pub ways : Automaton → Text → ℕ × ℕ → List (ℕ × ℕ)
-ways a t p = map (λ q. (place_behind p.0 (reads a.reverse t p.0), q)) (byte_steps a t p.0 p.1) ++ map (λ q. (p.0, q)) (plain_steps a t p.0 p.1)
+ways a t p = node_ways a.reverse t (node_at a p.1) p.0
 
 -- the place behind k bytes that are read from place i
 abbrev pub place_of : Bool → ℕ → ℕ → ℕ

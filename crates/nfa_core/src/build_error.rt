@@ -1,6 +1,7 @@
 ghost use Rattle.std.specs.Prelude.{◌≡◌};
 ghost use Rattle.nfa_core.specs.declared.build_error.BuildError.TheVariants.{NoMemory};
 
+use search_types::GroupInfoError;
 use std::alloc::{AllocError, AllocFailed};
 use std::error::Error;
 use std::fmt;
@@ -19,6 +20,11 @@ pub enum BuildError {
     },
     /// Groups were asked for that the automaton can't have, as of one that reads downwards.
     UnsupportedCaptures,
+    /// The groups break a rule, or have an index that is too great.
+    Captures {
+        /// The rule.
+        err: GroupInfoError,
+    },
     /// There is no memory left.
     NoMemory,
 }
@@ -32,6 +38,7 @@ impl fmt::Display for BuildError {
                 write!(f, "the states take more than {limit} bytes")
             }
             BuildError::UnsupportedCaptures => write!(f, "groups are not supported here"),
+            BuildError::Captures { err } => write!(f, "groups can't be taken: {err}"),
             BuildError::NoMemory => write!(f, "out of memory"),
         }
     }

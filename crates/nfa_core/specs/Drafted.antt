@@ -1,0 +1,30 @@
+-- A builder's states as an automaton of their own, before any is left out: what its table means.
+use Rattle.std.specs.Prelude.{ℕ, Bool, List, [], ◌∷◌, map, reverse, Option}
+use Rattle.nfa_core.specs.Nfa.{Node, byte_range, sparse_node, look_node, union_node, capture_node, fail_node, match_node, Automaton}
+use Rattle.nfa_core.specs.BuilderStates.{Part, empty_part, range_part, sparse_part, look_part, capture_start_part, capture_end_part, union_part, union_reverse_part, fail_part, match_part, Assembly}
+use Rattle.nfa_core.specs.Ways.{Text, node_ways, match_of}
+
+-- the state as one of an automaton, under the names of the table; an empty state is a union of one way
+abbrev pub drafted : Part → Node
+drafted (empty_part next) = union_node (next ∷ [])
+drafted (range_part low high next) = byte_range low high next
+drafted (sparse_part ranges) = sparse_node ranges
+drafted (look_part look next) = look_node look next
+drafted (capture_start_part pattern group next) = capture_node next pattern group 0
+drafted (capture_end_part pattern group next) = capture_node next pattern group 0
+drafted (union_part names) = union_node names
+drafted (union_reverse_part names) = union_node (reverse names)
+drafted fail_part = fail_node
+drafted (match_part pattern) = match_node pattern
+
+-- a table of states that gives each name its state
+abbrev pub Table : Type 0
+Table = ℕ → Part
+
+-- where a pair of place and state of a table leads, for one who reads up, or down
+abbrev pub table_ways : Bool → Text → Table → ℕ × ℕ → List (ℕ × ℕ)
+table_ways reverse t table p = node_ways reverse t (drafted (table p.1)) p.0
+
+-- what matches in a state of a table at a place
+abbrev pub table_match : Table → ℕ × ℕ → Option (ℕ × ℕ)
+table_match table p = match_of (drafted (table p.1)) p.0
