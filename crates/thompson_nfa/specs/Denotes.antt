@@ -1,0 +1,55 @@
+-- What a table of states does for a tree on the way from one state to another, in every text and for one who reads up or
+-- down.
+use Rattle.std.specs.Prelude.{◌≡◌, ℕ, ◌≤◌, min, Bool, true, false, List, [], ◌∷◌, map, length, take, Option, Some}
+use Rattle.hir_core.specs.Tree.{Tree}
+use Rattle.hir_core.specs.Means.{Means}
+use Rattle.hir_core.specs.PreferredEnds.{preferred_ends}
+use Rattle.hir_core.specs.Facts.{LoopsRead}
+use Rattle.nfa_core.specs.Walks.{Lists}
+use Rattle.nfa_core.specs.Runs.{IsChain, last_or}
+use Rattle.nfa_core.specs.Places.{same_pair}
+use Rattle.nfa_core.specs.Ways.{Text}
+use Rattle.nfa_core.specs.Drafted.{Table, table_ways, table_match}
+
+-- the state at each of the places
+abbrev pub at : ℕ → List ℕ → List (ℕ × ℕ)
+at q places = map (λ j. (j, q)) places
+
+-- the bytes up to the text's end: what one who reads up may come to see
+abbrev pub seen : Text → List ℕ
+seen t = take t.end t.haystack
+
+-- What one who reads from place i to place j shall have come past: reading up a span of the tree from i to j, reading down
+-- one from j to i whose bytes are in the text.
+abbrev pub IsMeant : Bool → Text → Tree → ℕ → ℕ → Type 0
+IsMeant false t x i j = Means t.holds (seen t) x i j
+IsMeant true t x i j = Means t.holds t.haystack x j i × (min i t.start ≤ j)
+
+-- a chain of ways from p to q
+abbrev pub Leads : Bool → Text → Table → ℕ × ℕ → ℕ × ℕ → Type 0
+Leads reverse t table p q = (r : List (ℕ × ℕ)) × IsChain same_pair (table_ways reverse t table) p r × (last_or p r ≡ q)
+
+-- the chain r from p passes the state e at a place to which something leads that is meant from place i
+pub record Passes (reverse : Bool) (t : Text) (table : Table) (meant : ℕ → ℕ → Type 0) (i e : ℕ) (p : ℕ × ℕ) (r : List (ℕ × ℕ)) : Type 0 where
+  pub middle : ℕ
+  pub rest : List (ℕ × ℕ)
+  pub is_meant : meant i middle
+  pub chain : IsChain same_pair (table_ways reverse t table) (middle, e) rest
+  pub fewer : length rest ≤ length r
+  pub same_end : last_or (middle, e) rest ≡ last_or p r
+
+-- From s one comes to e behind what is meant, and each chain to a match comes past e behind something that is meant.
+pub record Reaches (reverse : Bool) (t : Text) (table : Table) (s e : ℕ) (meant : ℕ → ℕ → Type 0) : Type 0 where
+  pub complete : (i j : ℕ) → meant i j → Leads reverse t table (i, s) (j, e)
+  pub sound : (i : ℕ) (r : List (ℕ × ℕ)) (m : ℕ × ℕ) → IsChain same_pair (table_ways reverse t table) (i, s) r →
+      table_match table (last_or (i, s) r) ≡ Some m → Passes reverse t table meant i e (i, s) r
+
+-- The walk of a stack from s lists what that from e lists at these ends, one after the other.
+pub record Orders (t : Text) (table : Table) (s e : ℕ) (ends : ℕ → List ℕ) : Type 0 where
+  pub lists : (i : ℕ) (l : List (ℕ × ℕ)) → Lists (table_ways false t table) (table_match table) (at e (ends i)) l →
+      Lists (table_ways false t table) (table_match table) ((i, s) ∷ []) l
+
+-- From s to e the table does what the tree means, and, read up, in the order that it prefers where loops read.
+pub record Denotes (reverse : Bool) (table : Table) (s e : ℕ) (x : Tree) : Type 0 where
+  pub reaches : (t : Text) → Reaches reverse t table s e (IsMeant reverse t x)
+  pub orders : reverse ≡ false → LoopsRead x → (t : Text) → Orders t table s e (preferred_ends t.holds (seen t) x)

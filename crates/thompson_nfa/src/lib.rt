@@ -1,0 +1,2 @@
+//! Compiles trees to byte automata.
+#![tactic(auto)]
