@@ -1,1 +1,4 @@
 pub mod Denotes
+pub mod NotedGroups
+pub mod Compiled
+pub mod Refusals
