@@ -1,5 +1,5 @@
 -- Why a compile is refused.
-use Rattle.std.specs.Prelude.{◌≡◌, ℕ, ◌+◌, ◌*◌, ◌<◌, List, Option, Some}
+use Rattle.std.specs.Prelude.{◌≡◌, ℕ, ◌+◌, ◌*◌, ◌<◌, List, length, Option, Some}
 use Rattle.search_core.specs.Index.{greatest_index}
 use Rattle.search_types.specs.declared.group_info_error.GroupInfoError.TheVariants.{TooManyGroups}
 use Rattle.hir_core.specs.Tree.{Tree}

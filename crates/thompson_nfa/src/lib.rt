@@ -1,2 +1,6 @@
 //! Compiles trees to byte automata.
 #![tactic(auto)]
+
+mod which_captures;
+
+pub use which_captures::WhichCaptures;
