@@ -23,3 +23,5 @@ pub mod MarkedLemmas
 pub mod PairedLemmas
 pub mod BuilderLemmas
 pub mod RenamingLemmas
+pub mod RenamingRanks
+pub mod RenamingNodes
