@@ -25,3 +25,4 @@ pub mod BuilderLemmas
 pub mod RenamingLemmas
 pub mod RenamingRanks
 pub mod RenamingNodes
+pub mod RenamingAutomaton

@@ -12,6 +12,12 @@ use Rattle.nfa_core.specs.Drafted.{drafted}
 use Rattle.nfa_core.specs.Ways.{Text, reads, is_passed, in_ranges, on_byte, on_nothing, on_read, place_behind, node_ways, match_of}
 use Rattle.nfa_core.specs.Renaming.{stands_for, ways_node, ranges_node, renamed}
 
+abbrev at_place : ℕ → ℕ → ℕ × ℕ
+at_place i q = (i, q)
+
+abbrev under : (ℕ → ℕ) → ℕ × ℕ → ℕ × ℕ
+under name p = (p.0, name p.1)
+
 if_mapped : (name : ℕ → ℕ) (c : Bool) (next : ℕ) → (if c then name next ∷ [] else []) ≡ map name (if c then next ∷ [] else [])
 if_mapped name true next = refl
 if_mapped name false next = refl
@@ -99,9 +105,9 @@ module _ (name : ℕ → ℕ) (groups : Groups) where
   match_renamed fail_part i = refl
   match_renamed (match_part pattern) i = refl
 
-  placed : (j : ℕ) (names : List ℕ) → map (λ q. (j, q)) (map name names) ≡ map (λ p. (p.0, name p.1)) (map (λ q. (j, q)) names)
+  placed : (j : ℕ) (names : List ℕ) → map (at_place j) (map name names) ≡ map (under name) (map (at_place j) names)
   placed j [] = refl
-  placed j (x ∷ names) = ap (λ l. (j, name x) ∷ l) (placed j names)
+  placed j (x ∷ names) = ap (λ l. at_place j (name x) ∷ l) (placed j names)
 
   pub ways_renamed : (part : Part) → stands_for part ≡ None → (reverse : Bool) (t : Text) (i : ℕ) →
       node_ways reverse t (renamed name groups part) i ≡ map (λ p. (p.0, name p.1)) (node_ways reverse t (drafted part) i)
@@ -111,19 +117,19 @@ module _ (name : ℕ → ℕ) (groups : Groups) where
       let passed : Look → Bool = λ l. is_passed down t l i in
       let first : List ℕ = on_read (drafted part) read in
       let second : List ℕ = on_nothing (drafted part) passed in
-      ap (λ l. map (λ q. (j, q)) l ++ map (λ q. (i, q)) (on_nothing (renamed name groups part) passed)) (read_renamed part kept read)
-      ∙ ap (λ l. map (λ q. (j, q)) (map name first) ++ map (λ q. (i, q)) l) (nothing_renamed part kept passed)
-      ∙ ap (λ l. l ++ map (λ q. (i, q)) (map name second)) (placed j first)
-      ∙ ap (λ l. map (λ p. (p.0, name p.1)) (map (λ q. (j, q)) first) ++ l) (placed i second)
-      ∙ sym (map-append (λ (p : ℕ × ℕ). (p.0, name p.1)) (map (λ q. (j, q)) first) (map (λ q. (i, q)) second))
+      ap (λ l. map (at_place j) l ++ map (at_place i) (on_nothing (renamed name groups part) passed)) (read_renamed part kept read)
+      ∙ ap (λ l. map (at_place j) (map name first) ++ map (at_place i) l) (nothing_renamed part kept passed)
+      ∙ ap (λ l. l ++ map (at_place i) (map name second)) (placed j first)
+      ∙ ap (λ l. map (under name) (map (at_place j) first) ++ l) (placed i second)
+      ∙ sym (map-append (under name) (map (at_place j) first) (map (at_place i) second))
 
 -- ---- a state that stands for another leads there, and nowhere else
 
-one_way_read : (next i : ℕ) (read : Option (ℕ × ℕ)) → map (λ q. (place_behind i read, q)) (on_read (union_node (next ∷ [])) read) ++ ((i, next) ∷ []) ≡ (i, next) ∷ []
+one_way_read : (next i : ℕ) (read : Option (ℕ × ℕ)) → map (at_place (place_behind i read)) (on_read (union_node (next ∷ [])) read) ++ (at_place i next ∷ []) ≡ at_place i next ∷ []
 one_way_read next i None = refl
 one_way_read next i (Some (b, j)) = refl
 
-one_way : (down : Bool) (t : Text) (next i : ℕ) → node_ways down t (union_node (next ∷ [])) i ≡ (i, next) ∷ []
+one_way : (down : Bool) (t : Text) (next i : ℕ) → node_ways down t (union_node (next ∷ [])) i ≡ at_place i next ∷ []
 one_way down t next i = one_way_read next i (reads down t i)
 
 drafted_stand : (part : Part) (r : ℕ) → stands_for part ≡ Some r → drafted part ≡ union_node (r ∷ [])
@@ -142,7 +148,7 @@ drafted_stand (union_reverse_part (next ∷ other ∷ others)) r e = cc
 drafted_stand fail_part r e = cc
 drafted_stand (match_part pattern) r e = cc
 
-pub ways_of_stand : (part : Part) (r : ℕ) → stands_for part ≡ Some r → (down : Bool) (t : Text) (i : ℕ) → node_ways down t (drafted part) i ≡ (i, r) ∷ []
+pub ways_of_stand : (part : Part) (r : ℕ) → stands_for part ≡ Some r → (down : Bool) (t : Text) (i : ℕ) → node_ways down t (drafted part) i ≡ at_place i r ∷ []
 ways_of_stand part r e down t i = ap (λ node. node_ways down t node i) (drafted_stand part r e) ∙ one_way down t r i
 
 pub match_of_stand : (part : Part) (r : ℕ) → stands_for part ≡ Some r → (i : ℕ) → match_of (drafted part) i ≡ None

@@ -1,8 +1,11 @@
 //! Laws of what is built of a builder's states. Each function has no code: its contract is the law.
-ghost use Rattle.std.specs.Prelude.{◌≡◌, ℕ, ◌<◌, List, length, None, Some, All};
-ghost use Rattle.nfa_core.specs.BuilderStates.{Part, part_at};
+ghost use Rattle.std.specs.Prelude.{◌≡◌, ℕ, ◌<◌, List, map, length, None, Some, All};
+ghost use Rattle.nfa_core.specs.BuilderStates.{Part, part_at, Assembly};
 ghost use Rattle.nfa_core.specs.CanBuild.{names_of};
-ghost use Rattle.nfa_core.specs.Renaming.{stands_for, past, HasNoLoop};
+ghost use Rattle.nfa_core.specs.Drafted.{table_ways, table_match};
+ghost use Rattle.nfa_core.specs.Nfa.{node_at};
+ghost use Rattle.nfa_core.specs.Renaming.{stands_for, past, HasNoLoop, new_name, renamed, automaton_of};
+ghost use Rattle.nfa_core.specs.Ways.{Text, ways, matched};
 
 /// A state that stands for itself keeps its place, and past any state there is one that does, where states
 /// that stand for others make no loop. A state that stands for another is passed to where that one is.
@@ -13,4 +16,27 @@ pub fn past_states_stand_for_themselves()
         q < length parts → past parts q < length parts }
     ensures twice { (parts : List Part) (q : ℕ) → HasNoLoop parts → q < length parts → past parts (past parts q) ≡ past parts q }
     ensures next { (parts : List Part) (q r : ℕ) → HasNoLoop parts → stands_for (part_at parts q) ≡ Some r → past parts q ≡ past parts r }
+{}
+
+/// A kept state is in the automaton under its new name, no two have one name, and each name of the automaton
+/// is that of a kept state.
+pub fn kept_states_are_renamed()
+    ensures inside { (b : Assembly) (x y q : ℕ) → q < length b.parts → stands_for (part_at b.parts q) ≡ None →
+        new_name b.parts q < length (automaton_of b x y).states }
+    ensures state { (b : Assembly) (x y q : ℕ) → q < length b.parts → stands_for (part_at b.parts q) ≡ None →
+        node_at (automaton_of b x y) (new_name b.parts q) ≡ renamed (new_name b.parts) b.groups (part_at b.parts q) }
+    ensures one { (parts : List Part) (p q : ℕ) → p < length parts → q < length parts → stands_for (part_at parts p) ≡ None →
+        stands_for (part_at parts q) ≡ None → new_name parts p ≡ new_name parts q → p ≡ q }
+    ensures all { (b : Assembly) (x y k : ℕ) → k < length (automaton_of b x y).states →
+        (q : ℕ) × (q < length b.parts) × (stands_for (part_at b.parts q) ≡ None) × (new_name b.parts q ≡ k) }
+{}
+
+/// A kept state leads in the automaton to where it led in the table, under the new names, and matches what it
+/// matched there.
+pub fn ways_are_renamed()
+    ensures leads { (b : Assembly) (x y q i : ℕ) (t : Text) → q < length b.parts → stands_for (part_at b.parts q) ≡ None →
+        ways (automaton_of b x y) t (i, new_name b.parts q)
+            ≡ map (λ p. (p.0, new_name b.parts p.1)) (table_ways b.reverse t (part_at b.parts) (i, q)) }
+    ensures matches { (b : Assembly) (x y q i : ℕ) → q < length b.parts → stands_for (part_at b.parts q) ≡ None →
+        matched (automaton_of b x y) (i, new_name b.parts q) ≡ table_match (part_at b.parts) (i, q) }
 {}
