@@ -26,3 +26,5 @@ pub mod RenamingLemmas
 pub mod RenamingRanks
 pub mod RenamingNodes
 pub mod RenamingAutomaton
+pub mod RenamingWalks
+pub mod RenamingRuns

@@ -1,10 +1,13 @@
 //! Laws of what is built of a builder's states. Each function has no code: its contract is the law.
-ghost use Rattle.std.specs.Prelude.{◌≡◌, ℕ, ◌<◌, List, map, length, None, Some, All};
+ghost use Rattle.std.specs.Prelude.{◌≡◌, ℕ, ◌<◌, List, [], ◌∷◌, map, length, None, Some, All};
 ghost use Rattle.nfa_core.specs.BuilderStates.{Part, part_at, Assembly};
-ghost use Rattle.nfa_core.specs.CanBuild.{names_of};
+ghost use Rattle.nfa_core.specs.CanBuild.{names_of, CanBuild};
 ghost use Rattle.nfa_core.specs.Drafted.{table_ways, table_match};
 ghost use Rattle.nfa_core.specs.Nfa.{node_at};
+ghost use Rattle.nfa_core.specs.Places.{same_pair};
 ghost use Rattle.nfa_core.specs.Renaming.{stands_for, past, HasNoLoop, new_name, renamed, automaton_of};
+ghost use Rattle.nfa_core.specs.Runs.{IsChain, last_or};
+ghost use Rattle.nfa_core.specs.Walks.{Lists};
 ghost use Rattle.nfa_core.specs.Ways.{Text, ways, matched};
 
 /// A state that stands for itself keeps its place, and past any state there is one that does, where states
@@ -39,4 +42,24 @@ pub fn ways_are_renamed()
             ≡ map (λ p. (p.0, new_name b.parts p.1)) (table_ways b.reverse t (part_at b.parts) (i, q)) }
     ensures matches { (b : Assembly) (x y q i : ℕ) → q < length b.parts → stands_for (part_at b.parts q) ≡ None →
         matched (automaton_of b x y) (i, new_name b.parts q) ≡ table_match (part_at b.parts) (i, q) }
+{}
+
+/// What the walk of a stack lists from a pair of the table, it lists from that pair of the automaton.
+pub fn lists_are_carried_over()
+    ensures { (b : Assembly) (x y : ℕ) (t : Text) (q i : ℕ) (l : List (ℕ × ℕ)) → CanBuild b x y → q < length b.parts →
+        Lists (table_ways b.reverse t (part_at b.parts)) (table_match (part_at b.parts)) ((i, q) ∷ []) l →
+        Lists (ways (automaton_of b x y) t) (matched (automaton_of b x y)) ((i, new_name b.parts q) ∷ []) l }
+{}
+
+/// What a chain of the table finds, one of the automaton finds, and the other way round.
+pub fn chains_are_carried_over()
+    ensures forth { (b : Assembly) (x y : ℕ) (t : Text) (q i : ℕ) (r : List (ℕ × ℕ)) (e : ℕ × ℕ) → CanBuild b x y → q < length b.parts →
+        IsChain same_pair (table_ways b.reverse t (part_at b.parts)) (i, q) r → table_match (part_at b.parts) (last_or (i, q) r) ≡ Some e →
+        (s : List (ℕ × ℕ)) × IsChain same_pair (ways (automaton_of b x y) t) (i, new_name b.parts q) s
+            × (matched (automaton_of b x y) (last_or (i, new_name b.parts q) s) ≡ Some e) }
+    ensures back { (b : Assembly) (x y : ℕ) (t : Text) (q i : ℕ) (s : List (ℕ × ℕ)) (e : ℕ × ℕ) → CanBuild b x y → q < length b.parts →
+        IsChain same_pair (ways (automaton_of b x y) t) (i, new_name b.parts q) s →
+        matched (automaton_of b x y) (last_or (i, new_name b.parts q) s) ≡ Some e →
+        (r : List (ℕ × ℕ)) × IsChain same_pair (table_ways b.reverse t (part_at b.parts)) (i, q) r
+            × (table_match (part_at b.parts) (last_or (i, q) r) ≡ Some e) }
 {}
