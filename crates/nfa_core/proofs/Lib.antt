@@ -28,3 +28,5 @@ pub mod RenamingNodes
 pub mod RenamingAutomaton
 pub mod RenamingWalks
 pub mod RenamingRuns
+pub mod RenamingOnce
+pub mod RenamingEnds

@@ -6,7 +6,7 @@ use Rattle.std.proofs.lemmas.Bool.{cases_Bool}
 use Rattle.std.proofs.lemmas.List.{map-append}
 use Rattle.look_core.specs.declared.look.Look.{Look}
 use Rattle.search_types.specs.Groups.{Groups}
-use Rattle.nfa_core.specs.Nfa.{Node, byte_range, sparse_node, look_node, union_node, binary_union, capture_node, fail_node, match_node}
+use Rattle.nfa_core.specs.Nfa.{Node, byte_range, sparse_node, look_node, union_node, binary_union, capture_node, fail_node, match_node, leads_to}
 use Rattle.nfa_core.specs.BuilderStates.{Part, empty_part, range_part, sparse_part, look_part, capture_start_part, capture_end_part, union_part, union_reverse_part, fail_part, match_part}
 use Rattle.nfa_core.specs.Drafted.{drafted}
 use Rattle.nfa_core.specs.Ways.{Text, reads, is_passed, in_ranges, on_byte, on_nothing, on_read, place_behind, node_ways, match_of}
@@ -17,6 +17,9 @@ at_place i q = (i, q)
 
 abbrev under : (ℕ → ℕ) → ℕ × ℕ → ℕ × ℕ
 under name p = (p.0, name p.1)
+
+abbrev under_range : (ℕ → ℕ) → ℕ × ℕ × ℕ → ℕ × ℕ × ℕ
+under_range name r = (r.0, r.1, name r.2)
 
 if_mapped : (name : ℕ → ℕ) (c : Bool) (next : ℕ) → (if c then name next ∷ [] else []) ≡ map name (if c then next ∷ [] else [])
 if_mapped name true next = refl
@@ -64,7 +67,35 @@ ways_match (x ∷ []) i = refl
 ways_match (x ∷ y ∷ []) i = refl
 ways_match (x ∷ y ∷ z ∷ names) i = refl
 
+ranges_lead : (ranges : List (ℕ × ℕ × ℕ)) → leads_to (ranges_node ranges) ≡ map (λ r. r.2) ranges
+ranges_lead [] = refl
+ranges_lead ((low, high, next) ∷ []) = refl
+ranges_lead ((low, high, next) ∷ other ∷ others) = refl
+
+ways_lead : (names : List ℕ) → leads_to (ways_node names) ≡ names
+ways_lead [] = refl
+ways_lead (x ∷ []) = refl
+ways_lead (x ∷ y ∷ []) = refl
+ways_lead (x ∷ y ∷ z ∷ names) = refl
+
+ranges_led : (name : ℕ → ℕ) (ranges : List (ℕ × ℕ × ℕ)) → map (λ r. r.2) (map (under_range name) ranges) ≡ map name (map (λ r. r.2) ranges)
+ranges_led name [] = refl
+ranges_led name (range ∷ others) = ap (λ l. name range.2 ∷ l) (ranges_led name others)
+
 module _ (name : ℕ → ℕ) (groups : Groups) where
+  -- the names that a kept state leads to are the new ones
+  pub leads_renamed : (part : Part) → stands_for part ≡ None → leads_to (renamed name groups part) ≡ map name (leads_to (drafted part))
+  leads_renamed (empty_part next) kept = cc
+  leads_renamed (range_part low high next) kept = refl
+  leads_renamed (sparse_part ranges) kept = ranges_lead (map (under_range name) ranges) ∙ ranges_led name ranges
+  leads_renamed (look_part look next) kept = refl
+  leads_renamed (capture_start_part pattern group next) kept = refl
+  leads_renamed (capture_end_part pattern group next) kept = refl
+  leads_renamed (union_part names) kept = ways_lead (map name names)
+  leads_renamed (union_reverse_part names) kept = ways_lead (map name (reverse names))
+  leads_renamed fail_part kept = refl
+  leads_renamed (match_part pattern) kept = refl
+
   byte_renamed : (part : Part) → stands_for part ≡ None → (b : ℕ) → on_byte (renamed name groups part) b ≡ map name (on_byte (drafted part) b)
   byte_renamed (empty_part next) kept b = refl
   byte_renamed (range_part low high next) kept b = if_mapped name (nat_le low b && nat_le b high) next

@@ -37,8 +37,8 @@ module _ {A : Type 0} (keep : A → Bool) where
       let l : 0 < rank (x ∷ xs) (suc p) = first_rank x xs p is_q in absurd (omega (arith, e, l))
   one_rank (x ∷ xs) (suc p) (suc q) d inside_p inside_q is_p is_q e =
       let same : rank xs p ≡ rank xs q = ⊎_elim
-          (λ (k : keep x ≡ true). let g : suc (rank xs p) ≡ suc (rank xs q) = (rw k at e) in omega (arith, g))
-          (λ (k : keep x ≡ false). (rw k at e)) (cases_Bool (keep x)) in
+      (λ (k : keep x ≡ true). let g : suc (rank xs p) ≡ suc (rank xs q) = (rw k at e) in omega (arith, g))
+      (λ (k : keep x ≡ false). (rw k at e)) (cases_Bool (keep x)) in
       ap (λ n. suc n) (one_rank xs p q d (omega (arith, inside_p)) (omega (arith, inside_q)) is_p is_q same)
 
   -- each place is that of something kept

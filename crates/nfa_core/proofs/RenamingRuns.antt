@@ -33,7 +33,7 @@ pub every_of_all : (P : ℕ → Type 0) (xs : List ℕ) → All P xs → Every P
 every_of_all P [] all r h = none_in nat_eq r _ h
 every_of_all P (x ∷ xs) all r h = of_cons nat_eq names_equal P x xs (All-head P x xs all) (every_of_all P xs (All-tail P x xs all)) r h
 
-led_names : (P : ℕ → Type 0) (part : Part) → All P (names_of part) → All P (leads_to (drafted part))
+pub led_names : (P : ℕ → Type 0) (part : Part) → All P (names_of part) → All P (leads_to (drafted part))
 led_names P (empty_part next) all = all
 led_names P (range_part low high next) all = all
 led_names P (sparse_part ranges) all = all
@@ -109,7 +109,9 @@ module _ (b : Assembly) (x y : ℕ) (can : CanBuild b x y) (t : Text) where
       let W : List (ℕ × ℕ) → Type 0 = λ w. Has same_pair (i, c.0) w in
       let there : W (from (i, q)) = subst W (sym way) (has_first same_pair pairs_equal (i, c.0) []) in
       record {
-        at = k.at; inside = k.inside; kept = k.kept;
+        at = k.at;
+        inside = k.inside;
+        kept = k.kept;
         named = ap (λ n. (i, n)) (same_name q c.0 c.1) ∙ k.named;
         leads = λ e f. let g = k.leads e f in ((i, c.0) ∷ g.0, (there, g.1), g.2);
       }
