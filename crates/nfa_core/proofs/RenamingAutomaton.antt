@@ -1,12 +1,12 @@
 -- The automaton that is built of a builder's states: where each kept state is in it, and where it leads.
-use Rattle.std.proofs.Common.{◌≡◌, ℕ, zero, suc, ◌+◌, ◌<◌, ◌≤◌, true, false, Bool, List, [], ◌∷◌, length, take, get_or, map, refl, sym, ap, ◌∙◌, arith, Option, Some, None}
+use Rattle.std.proofs.Common.{◌≡◌, ℕ, ◌<◌, true, Bool, List, length, take, get_or, map, refl, sym, ap, ◌∙◌, arith, Option, Some, None}
 use Rattle.std.specs.Prelude.{is_none}
 use Rattle.std.proofs.lemmas.List.{length-map}
 use Rattle.nfa_core.specs.Nfa.{fail_node, node_at}
 use Rattle.nfa_core.specs.BuilderStates.{Part, fail_part, part_at, Assembly}
-use Rattle.nfa_core.specs.Drafted.{drafted, table_ways, table_match}
+use Rattle.nfa_core.specs.Drafted.{table_ways, table_match}
 use Rattle.nfa_core.specs.Ways.{Text, ways, matched, node_ways, match_of}
-use Rattle.nfa_core.specs.Renaming.{stands_for, past, kept, new_name, renamed, automaton_of}
+use Rattle.nfa_core.specs.Renaming.{stands_for, kept, new_name, renamed, automaton_of}
 use Rattle.nfa_core.proofs.RenamingLemmas.{past_itself}
 use Rattle.nfa_core.proofs.RenamingRanks.{rank, rank_inside, at_rank, one_rank, ranked}
 use Rattle.nfa_core.proofs.RenamingNodes.{ways_renamed, match_renamed}

@@ -1,12 +1,12 @@
 -- The ends of the automaton's runs are what the builder's table lists and finds.
-use Rattle.std.proofs.Common.{◌≡◌, ℕ, suc, ◌+◌, ◌*◌, ◌<◌, ◌≤◌, ⊎_elim, Bool, List, [], ◌∷◌, length, take, get_or, map, refl, sym, ap, ◌∙◌, arith, subst, Option, Some, None}
+use Rattle.std.proofs.Common.{◌≡◌, ℕ, suc, ◌*◌, ◌<◌, ◌≤◌, ⊎_elim, List, [], ◌∷◌, length, take, map, sym, ap, arith, subst, Some, None}
 use Rattle.std.specs.Prelude.{All}
 use Rattle.std.specs.Bool.{nat_eq}
 use Rattle.std.proofs.lemmas.List.{get_or_past}
 use Rattle.std.proofs.lemmas.List.Elements.{All-get_or, All-map, All-weaker}
 use Rattle.std.proofs.lemmas.Bool.Decides.{leb_tells}
 use Rattle.nfa_core.specs.Nfa.{Node, fail_node, leads_to, node_at, IsWellFormed}
-use Rattle.nfa_core.specs.BuilderStates.{Part, fail_part, part_at, Assembly}
+use Rattle.nfa_core.specs.BuilderStates.{fail_part, part_at, Assembly}
 use Rattle.nfa_core.specs.CanBuild.{names_of, CanBuild}
 use Rattle.nfa_core.specs.Drafted.{drafted, table_ways, table_match}
 use Rattle.nfa_core.specs.Places.{same_pair}

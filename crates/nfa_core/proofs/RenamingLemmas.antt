@@ -1,13 +1,13 @@
 -- States that stand for themselves. From a state one comes to such a one in fewer steps than there are states, since none
 -- is met twice on the way.
-use Rattle.std.proofs.Common.{◌≡◌, ℕ, zero, suc, ◌+◌, ◌<◌, ◌≤◌, false, Bool, List, [], ◌∷◌, length, Option, Some, None, refl, sym, ap, ◌∙◌, arith, ⊎_elim}
+use Rattle.std.proofs.Common.{◌≡◌, ℕ, zero, suc, ◌<◌, ◌≤◌, List, [], ◌∷◌, length, Option, Some, None, refl, sym, ap, ◌∙◌, arith, ⊎_elim}
 use Rattle.std.specs.Prelude.{All}
 use Rattle.std.specs.Bool.{nat_eq}
 use Rattle.std.proofs.lemmas.List.{get_or_past}
 use Rattle.std.proofs.lemmas.List.Elements.{All-get_or}
 use Rattle.std.proofs.lemmas.Bool.Decides.{leb_tells}
 use Rattle.nfa_core.specs.BuilderStates.{Part, empty_part, range_part, sparse_part, look_part, capture_start_part, capture_end_part, union_part, union_reverse_part, fail_part, match_part, part_at}
-use Rattle.nfa_core.specs.Walks.{has, Has, HasNoneTwice, IsFinite}
+use Rattle.nfa_core.specs.Walks.{Has, HasNoneTwice, IsFinite}
 use Rattle.nfa_core.specs.Renaming.{stands_for, past_within, going_on, past, HasNoLoop}
 use Rattle.nfa_core.specs.CanBuild.{names_of}
 use Rattle.nfa_core.proofs.MemberLemmas.{none_in, has_or_not, of_cons}

@@ -1,12 +1,10 @@
 -- A kept state under new names: it leads where it led, and matches what it matched.
-use Rattle.std.proofs.Common.{◌≡◌, ℕ, zero, suc, ◌+◌, ◌<◌, ◌≤◌, true, false, Bool, List, [], ◌∷◌, ◌++◌, map, reverse, refl, sym, ap, ◌∙◌, ⊎_elim, Option, Some, None, if◌then◌else◌, ◌&&◌}
-use Rattle.std.specs.Option.{unwrap_or}
+use Rattle.std.proofs.Common.{◌≡◌, ℕ, true, false, Bool, List, [], ◌∷◌, ◌++◌, map, reverse, refl, sym, ap, ◌∙◌, Option, Some, None, if◌then◌else◌, ◌&&◌}
 use Rattle.std.specs.Bool.{nat_le}
-use Rattle.std.proofs.lemmas.Bool.{cases_Bool}
 use Rattle.std.proofs.lemmas.List.{map-append}
 use Rattle.look_core.specs.declared.look.Look.{Look}
 use Rattle.search_types.specs.Groups.{Groups}
-use Rattle.nfa_core.specs.Nfa.{Node, byte_range, sparse_node, look_node, union_node, binary_union, capture_node, fail_node, match_node, leads_to}
+use Rattle.nfa_core.specs.Nfa.{union_node, leads_to}
 use Rattle.nfa_core.specs.BuilderStates.{Part, empty_part, range_part, sparse_part, look_part, capture_start_part, capture_end_part, union_part, union_reverse_part, fail_part, match_part}
 use Rattle.nfa_core.specs.Drafted.{drafted}
 use Rattle.nfa_core.specs.Ways.{Text, reads, is_passed, in_ranges, on_byte, on_nothing, on_read, place_behind, node_ways, match_of}

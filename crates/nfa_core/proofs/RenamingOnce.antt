@@ -1,6 +1,6 @@
 -- Where the walk of a stack comes to its end, no chain from its first thing comes to a thing twice.
-use Rattle.std.proofs.Common.{◌≡◌, ℕ, suc, ◌+◌, ◌<◌, ◌≤◌, false, Bool, List, [], ◌∷◌, refl, arith, ⊎_elim, Option, Some}
-use Rattle.nfa_core.specs.Walks.{has, Has, Lists, HasNoneTwice, IsEquality, IsFinite}
+use Rattle.std.proofs.Common.{◌≡◌, ℕ, suc, ◌<◌, Bool, List, [], ◌∷◌, refl, arith, ⊎_elim, Option, Some}
+use Rattle.nfa_core.specs.Walks.{Has, Lists, HasNoneTwice, IsEquality, IsFinite}
 use Rattle.nfa_core.specs.Runs.{IsChain}
 use Rattle.nfa_core.proofs.MemberLemmas.{none_in, has_or_not, has_first, has_cons}
 use Rattle.nfa_core.proofs.StackLemmas.{Falls, no_descent, step_down, all_fall}

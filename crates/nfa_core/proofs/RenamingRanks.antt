@@ -1,8 +1,7 @@
 -- The part of a list that a test keeps, and the place that an element of the list has there: how many are kept before it.
-use Rattle.std.proofs.Common.{◌≡◌, ℕ, zero, suc, ◌+◌, ◌<◌, ◌≤◌, true, false, Bool, List, [], ◌∷◌, length, take, get_or, map, refl, sym, ap, ◌∙◌, arith, ⊎_elim}
+use Rattle.std.proofs.Common.{◌≡◌, ℕ, zero, suc, ◌<◌, true, false, Bool, List, [], ◌∷◌, length, take, get_or, map, refl, ap, arith, ⊎_elim}
 use Rattle.std.proofs.lemmas.Bool.{cases_Bool}
 use Rattle.std.specs.List.{filter}
-use Rattle.nfa_core.proofs.MemberLemmas.{not_both}
 
 module _ {A : Type 0} (keep : A → Bool) where
   abbrev pub rank : List A → ℕ → ℕ

@@ -1,27 +1,27 @@
 -- What a builder's table lists and finds, the automaton that is built of it lists and finds too.
-use Rattle.std.proofs.Common.{◌≡◌, ℕ, zero, suc, ◌+◌, ◌<◌, ◌≤◌, ◌⊎◌, inl, inr, ⊎_elim, true, false, Bool, List, [], ◌∷◌, ◌++◌, length, take, get_or, map, reverse, refl, sym, ap, ◌∙◌, arith, subst, Option, Some, None}
+use Rattle.std.proofs.Common.{◌≡◌, ℕ, zero, suc, ◌<◌, ◌⊎◌, inl, inr, ⊎_elim, Bool, List, [], ◌∷◌, length, take, map, reverse, refl, sym, ap, ◌∙◌, subst, Option, Some, None}
 use Rattle.std.specs.Prelude.{All}
 use Rattle.std.specs.Bool.{nat_eq}
-use Rattle.std.proofs.lemmas.List.Elements.{All-get_or, All-nil, All-head, All-tail}
+use Rattle.std.proofs.lemmas.List.Elements.{All-get_or, All-head, All-tail}
 use Rattle.std.proofs.lemmas.List.Sorted.{IsPermutation-reverse, All-permutation}
 use Rattle.look_core.specs.declared.look.Look.{Look}
-use Rattle.nfa_core.specs.Nfa.{Node, Automaton, leads_to, node_at}
+use Rattle.nfa_core.specs.Nfa.{Node, leads_to}
 use Rattle.nfa_core.specs.BuilderStates.{Part, empty_part, range_part, sparse_part, look_part, capture_start_part, capture_end_part, union_part, union_reverse_part, fail_part, match_part, part_at, Assembly}
 use Rattle.nfa_core.specs.CanBuild.{names_of, CanBuild}
 use Rattle.nfa_core.specs.Drafted.{drafted, table_ways, table_match}
 use Rattle.nfa_core.specs.Places.{same_pair}
-use Rattle.nfa_core.specs.Walks.{has, Has, Lists}
+use Rattle.nfa_core.specs.Walks.{Has, Lists}
 use Rattle.nfa_core.specs.Runs.{IsChain, last_or}
-use Rattle.nfa_core.specs.Ways.{Text, reads, is_passed, on_read, on_nothing, place_behind, node_ways, ways, matched, match_of}
-use Rattle.nfa_core.specs.Renaming.{stands_for, past, kept, new_name, automaton_of, HasNoLoop}
+use Rattle.nfa_core.specs.Ways.{Text, reads, is_passed, on_read, on_nothing, place_behind, node_ways, ways, matched}
+use Rattle.nfa_core.specs.Renaming.{stands_for, kept, new_name, automaton_of}
 use Rattle.nfa_core.proofs.MemberLemmas.{none_in, of_cons, of_append, has_first}
 use Rattle.nfa_core.proofs.PairLemmas.{names_equal, pairs_equal, from_map}
 use Rattle.nfa_core.proofs.AutomatonLemmas.{read_led, nothing_led}
 use Rattle.nfa_core.proofs.PreferenceLemmas.{option_cases}
-use Rattle.nfa_core.proofs.RenamingLemmas.{AreNamed, Comes, comes_to, past_next, next_inside}
+use Rattle.nfa_core.proofs.RenamingLemmas.{Comes, comes_to, past_next, next_inside}
 use Rattle.nfa_core.proofs.RenamingNodes.{ways_of_stand, match_of_stand}
 use Rattle.nfa_core.proofs.RenamingAutomaton.{state_ways, state_match, renamed_pair}
-use Rattle.nfa_core.proofs.RenamingWalks.{IsKept, StandsIn, Finds, FindsOther, Settled, lists_carried, carried_forth, carried_back}
+use Rattle.nfa_core.proofs.RenamingWalks.{IsKept, StandsIn, Settled, lists_carried, carried_forth, carried_back}
 
 -- ---- the names that a state leads to are those that it names
 

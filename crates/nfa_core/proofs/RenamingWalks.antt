@@ -1,8 +1,8 @@
 -- Walks and chains of one graph carried over to another, in which things have other names, and where a thing may have the
 -- name of the only one that it leads to.
-use Rattle.std.proofs.Common.{◌≡◌, ℕ, zero, suc, ◌+◌, ◌<◌, ◌≤◌, ◌⊎◌, inl, inr, ⊎_elim, true, false, Bool, List, [], ◌∷◌, ◌++◌, map, refl, sym, ap, ◌∙◌, subst, Option, Some, None}
+use Rattle.std.proofs.Common.{◌≡◌, ◌⊎◌, ⊎_elim, Bool, List, [], ◌∷◌, ◌++◌, map, sym, ap, ◌∙◌, subst, Option, Some, None}
 use Rattle.std.proofs.lemmas.List.{map-append}
-use Rattle.nfa_core.specs.Walks.{has, Has, Lists, lists_none, lists_answer, lists_ways, HasNoneTwice, IsEquality}
+use Rattle.nfa_core.specs.Walks.{Has, Lists, lists_none, lists_answer, lists_ways, IsEquality}
 use Rattle.nfa_core.specs.Runs.{IsChain, last_or}
 use Rattle.nfa_core.proofs.MemberLemmas.{none_in, has_first, has_later, has_same, has_cons, has_one, of_append}
 use Rattle.nfa_core.proofs.PreferenceLemmas.{no_value}
