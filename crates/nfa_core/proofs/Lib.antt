@@ -23,3 +23,10 @@ pub mod MarkedLemmas
 pub mod PairedLemmas
 pub mod BuilderLemmas
 pub mod RenamingLemmas
+pub mod RenamingRanks
+pub mod RenamingNodes
+pub mod RenamingAutomaton
+pub mod RenamingWalks
+pub mod RenamingRuns
+pub mod RenamingOnce
+pub mod RenamingEnds

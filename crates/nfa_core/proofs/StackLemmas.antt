@@ -21,7 +21,7 @@ module _ {A : Type 0} (same : A → A → Bool) (laws : IsEquality same) (ways :
   falls_more (suc m) (suc k) x h falls = λ y way. falls_more m k y (omega (arith, h)) (falls y way)
 
   -- what falls is not led back to itself
-  no_descent : (x : A) → ((m : ℕ) → Falls m x → (k : ℕ) × (k < m) × Falls k x) → (bound m : ℕ) → m < bound → Falls m x → ⊥
+  pub no_descent : (x : A) → ((m : ℕ) → Falls m x → (k : ℕ) × (k < m) × Falls k x) → (bound m : ℕ) → m < bound → Falls m x → ⊥
   no_descent x down zero m h falls = omega (arith, h)
   no_descent x down (suc bound) m h falls = let d = down m falls in no_descent x down bound d.0 (omega (arith, h, d.1)) d.2
 
@@ -32,7 +32,7 @@ module _ {A : Type 0} (same : A → A → Bool) (laws : IsEquality same) (ways :
   off_path : (path : List A) (x : A) (m : ℕ) → Above path x → Falls m x → has same x path ≡ false
   off_path path x m above falls = ⊎_elim (λ (on : Has same x path). absurd (no_descent x (above x on) (suc m) m (omega arith) falls)) (λ e. e) (has_or_not same x path)
 
-  step_down : (x y : A) (m : ℕ) → Has same y (ways x) → Falls m x → (k : ℕ) × (k < m) × Falls k y
+  pub step_down : (x y : A) (m : ℕ) → Has same y (ways x) → Falls m x → (k : ℕ) × (k < m) × Falls k y
   step_down x y zero way falls = absurd falls
   step_down x y (suc m) way falls = (m, omega arith, falls y way)
 
@@ -78,7 +78,7 @@ module _ {A : Type 0} (same : A → A → Bool) (laws : IsEquality same) (ways :
 
     module _ {B : Type 0} (answer : A → Option B) (ends_there : (x : A) (e : B) → answer x ≡ Some e → ways x ≡ []) where
       -- all on the stack of a walk that ends fall
-      all_fall : {todo : List A} {l : List B} → Lists ways answer todo l → (m : ℕ) × ((x : A) → Has same x todo → Falls m x)
+      pub all_fall : {todo : List A} {l : List B} → Lists ways answer todo l → (m : ℕ) × ((x : A) → Has same x todo → Falls m x)
       all_fall lists_none = (0, λ x h. none_in same x _ h)
       all_fall (lists_answer x e rest l is walk) =
           let r = all_fall walk in

@@ -1,7 +1,7 @@
 -- A builder's states as an automaton of their own, before any is left out: what its table means.
-use Rattle.std.specs.Prelude.{ℕ, Bool, List, [], ◌∷◌, map, reverse, Option}
-use Rattle.nfa_core.specs.Nfa.{Node, byte_range, sparse_node, look_node, union_node, capture_node, fail_node, match_node, Automaton}
-use Rattle.nfa_core.specs.BuilderStates.{Part, empty_part, range_part, sparse_part, look_part, capture_start_part, capture_end_part, union_part, union_reverse_part, fail_part, match_part, Assembly}
+use Rattle.std.specs.Prelude.{ℕ, Bool, List, [], ◌∷◌, reverse, Option}
+use Rattle.nfa_core.specs.Nfa.{Node, byte_range, sparse_node, look_node, union_node, capture_node, fail_node, match_node}
+use Rattle.nfa_core.specs.BuilderStates.{Part, empty_part, range_part, sparse_part, look_part, capture_start_part, capture_end_part, union_part, union_reverse_part, fail_part, match_part}
 use Rattle.nfa_core.specs.Ways.{Text, node_ways, match_of}
 
 -- the state as one of an automaton, under the names of the table; an empty state is a union of one way
