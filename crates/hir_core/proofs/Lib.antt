@@ -16,3 +16,4 @@ pub mod LookFactLemmas
 pub mod LooksUsedLemmas
 pub mod ValidSpanLemmas
 pub mod SequenceLemmas
+pub mod SequenceTreeLemmas
