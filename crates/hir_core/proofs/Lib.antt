@@ -17,3 +17,5 @@ pub mod LooksUsedLemmas
 pub mod ValidSpanLemmas
 pub mod SequenceLemmas
 pub mod SequenceTreeLemmas
+pub mod KeptLemmas
+pub mod CutLemmas

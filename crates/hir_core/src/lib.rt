@@ -4,10 +4,11 @@
 //! simplified. What a tree means, and which of its spans are preferred, is defined in `specs/`:
 //! `Means.antt` and `PreferredEnds.antt`, with laws in [`laws`]; the laws of the facts are in
 //! [`fact_laws`], those of the byte sequences of scalars in [`utf8_sequences_laws`] and, as trees, in
-//! [`sequence_tree_laws`].
+//! [`sequence_tree_laws`], those of haystacks that are cut at a place in [`cut_laws`].
 #![tactic(auto)]
 
 mod class_facts;
+pub mod cut_laws;
 pub mod fact_laws;
 mod facts;
 mod hir;
