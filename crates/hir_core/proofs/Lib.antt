@@ -16,3 +16,6 @@ pub mod LookFactLemmas
 pub mod LooksUsedLemmas
 pub mod ValidSpanLemmas
 pub mod SequenceLemmas
+pub mod SequenceTreeLemmas
+pub mod KeptLemmas
+pub mod CutLemmas

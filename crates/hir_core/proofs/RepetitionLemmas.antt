@@ -19,7 +19,7 @@ module _ (h : List ℕ) (greedy : Bool) (body : Ends) (reading : (i k : ℕ) →
   body_at_end i l = nil_from_none (body i) (λ k m. let step = reading i k m in omega arith)
 
   -- more rounds than the bytes that are left change nothing
-  up_to_enough : (n m i : ℕ) → length h ≤ i + n → length h ≤ i + m → up_to greedy body n i ≡ up_to greedy body m i
+  pub up_to_enough : (n m i : ℕ) → length h ≤ i + n → length h ≤ i + m → up_to greedy body n i ≡ up_to greedy body m i
   up_to_enough zero zero i p q = refl
   up_to_enough zero (suc m) i p q =
       sym (ap (λ xs. in_order greedy (flat_map (up_to greedy body m) xs) i) (body_at_end i (omega arith)) ∙ in_order-nil greedy i)
@@ -69,14 +69,15 @@ pub repetition_more_bounded : (looks : Looks) (h : List ℕ) (greedy : Bool) (x 
     ≡ in_order greedy (flat_map (preferred_ends looks h (repetition 0 (Some most) greedy x)) (preferred_ends looks h x i)) i
 repetition_more_bounded looks h greedy x most i = refl
 
-pub repetition_more : (looks : Looks) (h : List ℕ) (greedy : Bool) (x : Tree) → IsAboveZero (minimum_len x) → (i : ℕ) →
-    preferred_ends looks h (repetition 0 None greedy x) i
-    ≡ in_order greedy (flat_map (preferred_ends looks h (repetition 0 None greedy x)) (preferred_ends looks h x i)) i
-repetition_more looks h greedy x a i =
-    unbounded-more h greedy (preferred_ends looks h x)
-    (λ i k r.
+-- each round of a body whose minimum length is above 0 reads
+pub rounds_read : (looks : Looks) (h : List ℕ) (x : Tree) → IsAboveZero (minimum_len x) → (i k : ℕ) → Has (preferred_ends looks h x i) k → (i < k) × (k ≤ length h)
+rounds_read looks h x a i k r =
     let m = preferred_ends_sound looks h x i k r in
     let longer = reads_a_byte looks h x a i k m in
     let span = IsSpan-Means looks h x i k m in
-    (longer, omega arith))
-    i
+    (longer, omega arith)
+
+pub repetition_more : (looks : Looks) (h : List ℕ) (greedy : Bool) (x : Tree) → IsAboveZero (minimum_len x) → (i : ℕ) →
+    preferred_ends looks h (repetition 0 None greedy x) i
+    ≡ in_order greedy (flat_map (preferred_ends looks h (repetition 0 None greedy x)) (preferred_ends looks h x i)) i
+repetition_more looks h greedy x a i = unbounded-more h greedy (preferred_ends looks h x) (rounds_read looks h x a) i

@@ -13,13 +13,13 @@ use Rattle.hir_core.specs.Sequences.{scalar_from, row_end, block_end, piece_end,
 use Rattle.hir_core.proofs.SequenceSteps.{never, piece_between, pieces_first, pieces_none, scalar_above}
 
 -- ---- what is known of a piece from f to e
-abbrev Aligned : ℕ → ℕ → ℕ → Type 0
+abbrev pub Aligned : ℕ → ℕ → ℕ → Type 0
 Aligned size f e = (f / size ≡ e / size) ⊎ ((f % size ≡ 0) × (e % size ≡ size - 1))
 
-abbrev Blocks : ℕ → ℕ → Type 0
+abbrev pub Blocks : ℕ → ℕ → Type 0
 Blocks f e = Aligned 64 f e × Aligned 4096 f e × Aligned 262144 f e
 
-abbrev IsPiece : ℕ → ℕ → Type 0
+abbrev pub IsPiece : ℕ → ℕ → Type 0
 IsPiece f e =
     (f ≤ e)
     × ((e ≤ 0x7F)
@@ -204,7 +204,7 @@ four_in f c e l h a =
 in_by : (f c e : ℕ) (x y z : List ℕ) → spelling_of f ≡ x → spelling_of e ≡ y → spelling_of c ≡ z → is_in_ranges (zip x y) z ≡ true → is_in_ranges (byte_ranges (f, e)) (spelling_of c) ≡ true
 in_by f c e x y z a b d h = ap₂ is_in_ranges (ap₂ zip a b) d ∙ h
 
-spelling_in : (f c e : ℕ) → IsPiece f e → f ≤ c → c ≤ e → is_in_ranges (byte_ranges (f, e)) (spelling_of c) ≡ true
+pub spelling_in : (f c e : ℕ) → IsPiece f e → f ≤ c → c ≤ e → is_in_ranges (byte_ranges (f, e)) (spelling_of c) ≡ true
 spelling_in f c e p l h = elim p.1 [
   | inl a ↦ in_by f c e _ _ _ (spelled_one f (omega arith)) (spelled_one e a) (spelled_one c (omega arith)) (in_one f e c (l, h))
   | inr r ↦ elim r [
@@ -364,7 +364,7 @@ same_value : {A : Type 0} → (x y : A) → Some x ≡ Some y → x ≡ y
 same_value x y e = ap (λ o. unwrap_or o x) e
 
 -- ---- the pieces of a range
-abbrev Rises : ℕ → ℕ → List (ℕ × ℕ) → Type 0
+abbrev pub Rises : ℕ → ℕ → List (ℕ × ℕ) → Type 0
 Rises low hi [] = Unit {0}
 Rises low hi (p ∷ ps) = (low ≤ p.0) × (p.1 ≤ hi) × IsPiece p.0 p.1 × Rises (p.1 + 1) hi ps
 
@@ -377,7 +377,7 @@ scalar_next n c l r = grind (arith, nat_tests)
 scalar_most : (c : ℕ) → InScalarRange c → c ≤ 0x10FFFF
 scalar_most c r = elim r [ inl a ↦ omega arith | inr a ↦ a.1 ]
 
-rises : (most lo hi : ℕ) → Rises lo hi (pieces_of most lo hi)
+pub rises : (most lo hi : ℕ) → Rises lo hi (pieces_of most lo hi)
 rises zero lo hi = tt
 rises (suc most) lo hi = elim (cases_lt (min hi 0x10FFFF) (scalar_from lo)) [
   | inl none ↦ subst (Rises lo hi) (sym (pieces_none (suc most) lo hi none)) tt
@@ -387,7 +387,7 @@ rises (suc most) lo hi = elim (cases_lt (min hi 0x10FFFF) (scalar_from lo)) [
       (scalar_above lo, p.1, piece_is (scalar_from lo) hi (scalar_is lo (omega arith)) (omega arith), rises most (piece_end (scalar_from lo) hi + 1) hi)
 ]
 
-abbrev IsPieceOf : ℕ → ℕ → ℕ × ℕ → Type 0
+abbrev pub IsPieceOf : ℕ → ℕ → ℕ × ℕ → Type 0
 IsPieceOf low hi p = (low ≤ p.0) × (p.1 ≤ hi) × IsPiece p.0 p.1
 
 at_place : (low hi : ℕ) (ps : List (ℕ × ℕ)) (i : ℕ) (p : ℕ × ℕ) → Rises low hi ps → slice_get ps i ≡ Some p → IsPieceOf low hi p
@@ -406,10 +406,10 @@ in_order low hi (x ∷ ps) zero (suc j) p q r l e f =
     omega (arith, same, s.0)
 in_order low hi (x ∷ ps) (suc i) (suc j) p q r l e f = in_order (x.1 + 1) hi ps i j p q r.3 (omega arith) e f
 
-abbrev HasPiece : ℕ → List (ℕ × ℕ) → Type 0
+abbrev pub HasPiece : ℕ → List (ℕ × ℕ) → Type 0
 HasPiece c ps = (i : ℕ) × (p : ℕ × ℕ) × (slice_get ps i ≡ Some p) × (p.0 ≤ c) × (c ≤ p.1)
 
-covers : (most lo hi c : ℕ) → hi + 1 - lo ≤ most → InScalarRange c → lo ≤ c → c ≤ hi → HasPiece c (pieces_of most lo hi)
+pub covers : (most lo hi c : ℕ) → hi + 1 - lo ≤ most → InScalarRange c → lo ≤ c → c ≤ hi → HasPiece c (pieces_of most lo hi)
 covers zero lo hi c m r l h = absurd (omega arith)
 covers (suc most) lo hi c m r l h =
     let n = scalar_next lo c l r in
@@ -433,10 +433,10 @@ of_some f (Some x) y e = (x, refl, same_value (f x) y e)
 piece_at : (lo hi i : ℕ) (rs : List (ℕ × ℕ)) → slice_get (utf8_sequences lo hi) i ≡ Some rs → (p : ℕ × ℕ) × (slice_get (pieces lo hi) i ≡ Some p) × (byte_ranges p ≡ rs)
 piece_at lo hi i rs e = of_some byte_ranges (slice_get (pieces lo hi) i) rs (sym (slice_get-map byte_ranges (pieces lo hi) i) ∙ e)
 
-spelled_by : (c : ℕ) (s : List ℕ) → Spells c s → spelling_of c ≡ s
+pub spelled_by : (c : ℕ) (s : List ℕ) → Spells c s → spelling_of c ≡ s
 spelled_by c s h = sym (encoded c) ∙ (spelling_encodes c s h).1
 
-scalar_by : (c : ℕ) (s : List ℕ) → Spells c s → InScalarRange c
+pub scalar_by : (c : ℕ) (s : List ℕ) → Spells c s → InScalarRange c
 scalar_by c s h = range-of_IsScalar c (spelling_encodes c s h).0
 
 pub spelling_has_place : (lo hi c : ℕ) (s : List ℕ) → lo ≤ c → c ≤ hi → Spells c s →
@@ -460,10 +460,10 @@ piece_scalars f e c p l h = elim p.1 [
   ]
 ]
 
-abbrev SpelledOf : ℕ × ℕ → List ℕ → Type 0
+abbrev pub SpelledOf : ℕ × ℕ → List ℕ → Type 0
 SpelledOf p s = (c : ℕ) × (p.0 ≤ c) × (c ≤ p.1) × Spells c s
 
-string_spells : (p : ℕ × ℕ) (rs : List (ℕ × ℕ)) (s : List ℕ) → IsPiece p.0 p.1 → byte_ranges p ≡ rs → is_in_ranges rs s ≡ true → SpelledOf p s
+pub string_spells : (p : ℕ × ℕ) (rs : List (ℕ × ℕ)) (s : List ℕ) → IsPiece p.0 p.1 → byte_ranges p ≡ rs → is_in_ranges rs s ≡ true → SpelledOf p s
 string_spells p rs s k e i =
     let o = in_spelled p.0 p.1 s k (ap (λ r. is_in_ranges r s) e ∙ i) in
     (o.0, o.1, o.2, encoded_spells o.0 s (IsScalar-of_range o.0 (piece_scalars p.0 p.1 o.0 k o.1 o.2)) (encoded o.0 ∙ o.3))

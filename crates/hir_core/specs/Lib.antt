@@ -9,3 +9,4 @@ pub mod LookCode
 pub mod TreeCode
 pub mod Node
 pub mod Falls
+pub mod BySequences

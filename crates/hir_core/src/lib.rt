@@ -3,10 +3,12 @@
 //! A [`Hir`] is made by its constructors and read by [`Hir::kind`]. It is kept as given: nothing is
 //! simplified. What a tree means, and which of its spans are preferred, is defined in `specs/`:
 //! `Means.antt` and `PreferredEnds.antt`, with laws in [`laws`]; the laws of the facts are in
-//! [`fact_laws`], those of the byte sequences of scalars in [`utf8_sequences_laws`].
+//! [`fact_laws`], those of the byte sequences of scalars in [`utf8_sequences_laws`] and, as trees, in
+//! [`sequence_tree_laws`], those of haystacks that are cut at a place in [`cut_laws`].
 #![tactic(auto)]
 
 mod class_facts;
+pub mod cut_laws;
 pub mod fact_laws;
 mod facts;
 mod hir;
@@ -14,6 +16,7 @@ pub mod laws;
 mod look_facts;
 mod properties;
 mod ranges;
+pub mod sequence_tree_laws;
 mod utf8_sequences;
 pub mod utf8_sequences_laws;
 

@@ -1,0 +1,26 @@
+//! Laws of trees on a haystack that is cut at a place: looks are read as of the whole. Each function has no
+//! code: its contract is the law.
+ghost use Rattle.std.specs.Prelude.{◌≡◌, ◌≤◌, ℕ, List, take, nat_le};
+ghost use Rattle.std.specs.List.{filter};
+ghost use Rattle.hir_core.specs.Tree.{Tree};
+ghost use Rattle.hir_core.specs.Means.{Looks, Means};
+ghost use Rattle.hir_core.specs.PreferredEnds.{preferred_ends};
+ghost use Rattle.hir_core.specs.Facts.{LoopsRead};
+
+/// A tree means in what is left of the haystack up to e the spans that end at e at the latest, and no
+/// other from a place up to e.
+#[tactic(auto, using(crate::proofs::CutLemmas::cut_to_whole, crate::proofs::CutLemmas::whole_to_cut))]
+pub fn cut_haystacks_have_the_spans_within()
+    ensures whole { (looks : Looks) (h : List ℕ) (e : ℕ) (x : Tree) (i j : ℕ) → i ≤ e →
+        Means looks (take e h) x i j → Means looks h x i j × (j ≤ e) }
+    ensures cut { (looks : Looks) (h : List ℕ) (e : ℕ) (x : Tree) (i j : ℕ) → j ≤ e →
+        Means looks h x i j → Means looks (take e h) x i j }
+{}
+
+/// And it prefers the same ends, those above e left out, in the same order, where each round of an
+/// unbounded repetition reads.
+#[tactic(auto, using(crate::proofs::CutLemmas::cut_ends))]
+pub fn cut_haystacks_prefer_the_ends_within()
+    ensures { (looks : Looks) (h : List ℕ) (e : ℕ) (x : Tree) (i : ℕ) → LoopsRead x → i ≤ e →
+        preferred_ends looks (take e h) x i ≡ filter (λ j. nat_le j e) (preferred_ends looks h x i) }
+{}
