@@ -16,3 +16,4 @@ pub mod Renaming
 pub mod Drafted
 pub mod NfaValue
 pub mod CanBuild
+pub mod InOrder
