@@ -24,3 +24,4 @@ pub mod PairedLemmas
 pub mod BuilderLemmas
 pub mod RenamingLemmas
 pub mod OrderLemmas
+pub mod PastLemmas

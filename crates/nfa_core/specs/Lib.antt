@@ -17,3 +17,4 @@ pub mod Drafted
 pub mod NfaValue
 pub mod CanBuild
 pub mod InOrder
+pub mod Pasts
