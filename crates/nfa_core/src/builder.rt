@@ -1,8 +1,9 @@
-ghost use Rattle.std.specs.Prelude.{◌≡◌, ◌≢◌, ◌<◌, true, false, [], None, MatchResult};
+ghost use Rattle.std.specs.Prelude.{◌≡◌, ◌≢◌, ◌<◌, ◌≤◌, true, false, [], None, MatchResult, MatchOption, ⊤};
 ghost use Rattle.look_core.specs.Terminators.{one_of};
-ghost use Rattle.nfa_core.specs.BuilderStates.{blank, bytes_of};
+ghost use Rattle.nfa_core.specs.BuilderStates.{blank, bytes_of, pattern_count};
 ghost use Rattle.nfa_core.specs.BuilderFaults.{Adds, Tells, limit_fault};
 ghost use Rattle.nfa_core.specs.Drafts.{part_of};
+ghost use Rattle.nfa_core.specs.InOrder.{IsPartOf};
 
 use crate::build_error::BuildError;
 use crate::draft::Draft;
@@ -36,12 +37,13 @@ impl Model for Builder {
     ghost use Rattle.search_types.specs.GroupFaults.{groups_in};
     ghost use Rattle.nfa_core.specs.BuilderStates.{Assembly, bytes_of};
     ghost use Rattle.nfa_core.specs.Drafts.{part_of};
+    ghost use Rattle.nfa_core.specs.InOrder.{IsInOrder, patterns_of};
 
     ghost Value = { Assembly };
 
     ghost view = { λ b. record { parts = map part_of b.drafts.items; starts = b.starts.items; groups = groups_in b.groups.items; is_open = b.is_open; utf8 = b.utf8; reverse = b.reverse; terminator = b.look_matcher.terminator; size_limit = b.size_limit } };
 
-    ghost invariant = { λ b. (b.memory ≡ bytes_of (map part_of b.drafts.items)) × (b.is_open ≡ true → length b.starts.items ≤ greatest_index) };
+    ghost invariant = { λ b. (b.memory ≡ bytes_of (map part_of b.drafts.items)) × (b.is_open ≡ true → length b.starts.items ≤ greatest_index) × IsInOrder (map part_of b.drafts.items) (patterns_of b.is_open b.starts.items) b.size_limit };
 }
 
 /// Refuses more bytes than the limit allows.
@@ -87,14 +89,16 @@ impl Builder {
     /// The bytes that the states are taken to need: 24 for each, 8 for each transition of a sparse one and
     /// 4 for each alternate of a union. A greater number than [`usize::MAX`] is given as that.
     pub fn memory_usage(&self) -> usize
-        ensures { result ≡ bytes_of self.now.parts }
+        ensures value { result ≡ bytes_of self.now.parts }
+        ensures within { MatchOption self.now.size_limit ⊤ (λ most. result ≤ most) }
     {
         self.memory
     }
 
     /// Puts a state last.
-    #[tactic(auto, using(crate::proofs::BuilderLemmas::bytes_pushed))]
+    #[tactic(auto, using(crate::proofs::BuilderLemmas::bytes_pushed, crate::proofs::OrderLemmas::order_added))]
     pub(crate) fn add(&mut self, draft: Draft) -> Result<StateID, BuildError>
+        requires { IsPartOf (pattern_count self.old) (part_of draft) }
         ensures { Adds self.old self.new result (part_of draft) }
     {
         let Ok(id) = StateID::new(self.drafts.len()) else {

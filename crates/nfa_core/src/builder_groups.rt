@@ -1,31 +1,34 @@
-ghost use Rattle.std.specs.Prelude.{◌≡◌, ◌<◌, true, length, MatchResult};
+ghost use Rattle.std.specs.Prelude.{◌≡◌, ◌<◌, true, length, None, Some, MatchResult};
 ghost use Rattle.std.specs.Option.{option_map};
 ghost use Rattle.std.specs.String.{string_bytes};
-ghost use Rattle.search_types.specs.GroupFaults.{names_in, groups_in};
+ghost use Rattle.search_types.specs.GroupFaults.{names_in, groups_in, TooManyGroups};
 ghost use Rattle.nfa_core.specs.declared.build_error.BuildError.TheVariants.{NoMemory};
 ghost use Rattle.nfa_core.specs.BuilderStates.{with_name, with_group, up_to_pattern, capture_start_part, capture_end_part};
-ghost use Rattle.nfa_core.specs.BuilderFaults.{Adds, AddsGroup};
+ghost use Rattle.nfa_core.specs.BuilderFaults.{AddsGroup, AddsGroupEnd, Tells, index_fault, captures_refused};
 
 use crate::build_error::BuildError;
 use crate::builder::Builder;
 use crate::draft::Draft;
 use search_core::{PatternID, SmallIndex, StateID};
+use search_types::GroupInfoError;
 use std::alloc::Global;
 
 impl Builder {
     /// Adds a state that notes where a group of the pattern that was begun starts. The group's name is that
-    /// of the first such state; groups with lesser indices that have none yet get no name.
+    /// of the first such state; groups with lesser indices that have none yet get no name. An index above
+    /// [`SmallIndex::MAX`] is refused before anything else, and nothing is noted then.
     pub fn add_capture_start(
         &mut self,
         alloc: Global,
         next: StateID,
-        group_index: SmallIndex,
+        group_index: u32,
         name: Option<String>,
     ) -> Result<StateID, BuildError>
         requires { self.old.is_open ≡ true }
         ensures { AddsGroup self.old self.new result (length self.old.starts) group_index (option_map string_bytes name) (capture_start_part (length self.old.starts) group_index next) }
     {
         let pattern_id = self.current_pattern_id();
+        let group_index = checked_index(pattern_id, group_index)?;
         note_group(alloc, &mut self.groups, pattern_id, group_index, name)?;
         self.add(Draft::CaptureStart {
             pattern_id,
@@ -34,22 +37,37 @@ impl Builder {
         })
     }
 
-    /// Adds a state that notes where a group of the pattern that was begun ends.
+    /// Adds a state that notes where a group of the pattern that was begun ends. An index above
+    /// [`SmallIndex::MAX`] is refused before anything else.
     pub fn add_capture_end(
         &mut self,
         next: StateID,
-        group_index: SmallIndex,
+        group_index: u32,
     ) -> Result<StateID, BuildError>
         requires { self.old.is_open ≡ true }
-        ensures { Adds self.old self.new result (capture_end_part (length self.old.starts) group_index next) }
+        ensures { AddsGroupEnd self.old self.new result (length self.old.starts) group_index (capture_end_part (length self.old.starts) group_index next) }
     {
         let pattern_id = self.current_pattern_id();
+        let group_index = checked_index(pattern_id, group_index)?;
         self.add(Draft::CaptureEnd {
             pattern_id,
             group_index,
             next,
         })
     }
+}
+
+/// The index of a group of the pattern; one above [`SmallIndex::MAX`] is refused.
+fn checked_index(pattern: PatternID, index: u32) -> Result<SmallIndex, BuildError>
+    ensures { MatchResult result (λ i. (i ≡ index) × (index_fault pattern index ≡ None))
+        (λ e. Tells e (index_fault pattern index) × (index_fault pattern index ≡ Some (captures_refused (TooManyGroups pattern index)))) }
+{
+    let minimum = index as usize;
+    let Ok(small) = SmallIndex::new(minimum) else {
+        let err = GroupInfoError::TooManyGroups { pattern, minimum };
+        return Err(BuildError::Captures { err });
+    };
+    Ok(small)
 }
 
 /// Notes the name of a pattern's group, unless that group is there.

@@ -1,4 +1,4 @@
-ghost use Rattle.std.specs.Prelude.{◌≡◌, ◌<◌, ◌≤◌, true, false, length, map, None, MatchResult};
+ghost use Rattle.std.specs.Prelude.{◌≡◌, ◌<◌, ◌≤◌, true, false, length, map, None, All, MatchResult};
 ghost use Rattle.nfa_core.specs.BuilderStates.{empty_part, range_part, sparse_part, look_part, union_part, union_reverse_part, fail_part, match_part, AscendsFrom, part_at, patched_at, way_bytes, is_sparse};
 ghost use Rattle.nfa_core.specs.BuilderFaults.{Adds, Tells, patch_fault};
 ghost use Rattle.nfa_core.specs.declared.build_error.BuildError.TheVariants.{NoMemory};
@@ -51,6 +51,7 @@ impl Builder {
         requires { AscendsFrom 0 (map range_of transitions.items) }
         ensures { Adds self.old self.new result (sparse_part (map range_of transitions.items)) }
     {
+        see_bytes(&transitions);
         self.add(Draft::Sparse { transitions })
     }
 
@@ -93,6 +94,22 @@ impl Builder {
         patch(&mut self.drafts, from, to)?;
         self.memory = memory;
         Ok(())
+    }
+}
+
+/// The last byte of a range.
+fn last_byte(transition: &Transition) -> u8
+    ensures { transition.now.end < 256 }
+{
+    transition.end
+}
+
+/// The ranges end in bytes, as their type says. The loop does nothing.
+fn see_bytes(transitions: &[Transition])
+    ensures { All (λ t. t.end < 256) transitions.now }
+{
+    for transition in transitions {
+        let _end = last_byte(transition);
     }
 }
 

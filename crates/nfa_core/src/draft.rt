@@ -1,5 +1,6 @@
 ghost use Rattle.std.specs.Prelude.{◌≡◌, min, MatchResult};
-ghost use Rattle.nfa_core.specs.BuilderStates.{part_bytes, list_bytes, way_bytes, patched};
+ghost use Rattle.nfa_core.specs.BuilderStates.{part_bytes, list_bytes, way_bytes, patched, union_part};
+ghost use Rattle.nfa_core.specs.Renaming.{stands_for};
 ghost use Rattle.nfa_core.specs.Drafts.{part_of};
 
 use crate::transition::Transition;
@@ -91,6 +92,20 @@ impl Draft {
         }
     }
 
+    /// The state for which this one stands, where it is empty or a union of one way.
+    pub(crate) fn stands_for(&self) -> Option<StateID>
+        ensures { result ≡ stands_for (part_of self.now) }
+    {
+        match self {
+            Draft::Empty { next } => Some(*next),
+            Draft::Union { alternates } => only(alternates),
+            Draft::UnionReverse { alternates } => only(alternates),
+            Draft::ByteRange { .. } | Draft::Sparse { .. } | Draft::Look { .. } => None,
+            Draft::CaptureStart { .. } | Draft::CaptureEnd { .. } => None,
+            Draft::Fail | Draft::Match { .. } => None,
+        }
+    }
+
     /// Lets the state lead to `to`: a union has one more way, and any other state leads there alone.
     pub(crate) fn patch(&mut self, to: StateID) -> Result<(), AllocError>
         ensures { MatchResult result (λ _. part_of self.new ≡ patched to (part_of self.old)) (λ _. part_of self.new ≡ part_of self.old) }
@@ -106,5 +121,15 @@ impl Draft {
             Draft::Sparse { .. } | Draft::Fail | Draft::Match { .. } => (),
         }
         Ok(())
+    }
+}
+
+/// The state of a list that has no other.
+fn only(names: &[StateID]) -> Option<StateID>
+    ensures { result ≡ stands_for (union_part names.now) }
+{
+    match names {
+        [next] => Some(*next),
+        _ => None,
     }
 }

@@ -19,6 +19,7 @@ mod draft;
 mod marks;
 mod name_set;
 mod pair_set;
+mod pasts;
 pub mod place_laws;
 pub mod run_laws;
 mod sets;

@@ -2,3 +2,4 @@ pub mod Denotes
 pub mod NotedGroups
 pub mod Compiled
 pub mod Refusals
+pub mod Configs
