@@ -23,7 +23,6 @@ pub mod MarkedLemmas
 pub mod PairedLemmas
 pub mod BuilderLemmas
 pub mod RenamingLemmas
-<<<<<<< HEAD
 pub mod RenamingRanks
 pub mod RenamingNodes
 pub mod RenamingAutomaton
@@ -31,7 +30,5 @@ pub mod RenamingWalks
 pub mod RenamingRuns
 pub mod RenamingOnce
 pub mod RenamingEnds
-=======
 pub mod OrderLemmas
 pub mod PastLemmas
->>>>>>> aba35c0585edd3c476042a470d25026b91723204
