@@ -3,3 +3,4 @@ pub mod NotedGroups
 pub mod Compiled
 pub mod Refusals
 pub mod Configs
+pub mod Compilations
