@@ -4,3 +4,4 @@ pub mod Compiled
 pub mod Refusals
 pub mod Configs
 pub mod Compilations
+pub mod Assembled
