@@ -23,3 +23,4 @@ pub mod MarkedLemmas
 pub mod PairedLemmas
 pub mod BuilderLemmas
 pub mod RenamingLemmas
+pub mod StackedLemmas

@@ -16,3 +16,5 @@ pub mod Renaming
 pub mod Drafted
 pub mod NfaValue
 pub mod CanBuild
+pub mod NfaParts
+pub mod Reached
