@@ -24,3 +24,6 @@ pub mod PairedLemmas
 pub mod BuilderLemmas
 pub mod RenamingLemmas
 pub mod StackedLemmas
+pub mod MetLemmas
+pub mod NfaLookLemmas
+pub mod ReachedLemmas

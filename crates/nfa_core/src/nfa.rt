@@ -11,6 +11,7 @@ ghost use Rattle.nfa_core.specs.States.{node_of};
 use crate::nfa_facts::Facts;
 use crate::nfa_parts::Parts;
 use crate::pattern_iter::PatternIter;
+use crate::reached::state_at;
 use crate::state::State;
 use look_core::{AsciiWord, LookMatcher, LookSet};
 use search_core::{ByteClassSet, ByteClasses, PatternID, SmallIndex, StateID};
@@ -110,7 +111,7 @@ impl NFA {
         requires { id < length self.now.automaton.states }
         ensures { node_of result.now ≡ node_at self.now.automaton id }
     {
-        &self.parts.states[id.as_usize()]
+        state_at(&self.parts.states, id)
     }
 
     /// The states in order of their numbers, as `NFA::states`.

@@ -6,12 +6,13 @@ ghost use Rattle.look_core.specs.Terminators.{Terminator};
 ghost use Rattle.nfa_core.specs.Nfa.{fail_node};
 ghost use Rattle.nfa_core.specs.NfaParts.{automaton_in, AreFacts};
 ghost use Rattle.nfa_core.specs.NfaValue.{IsSound, IsNodeOf, IsClassSet, told_by, look_of, looks_of, is_capture, is_match, memory_of};
+ghost use Rattle.nfa_core.specs.Reached.{AreBelow};
 ghost use Rattle.nfa_core.specs.States.{node_of};
 ghost use Rattle.nfa_core.specs.Transitions.{range_of};
 ghost use Rattle.nfa_core.specs.BuilderStates.{AscendsFrom};
 
 use crate::nfa_parts::Parts;
-use crate::reached::reached;
+use crate::reached::{reached, state_at};
 use crate::sparse_set::SparseSet;
 use crate::state::State;
 use crate::transition::Transition;
@@ -66,13 +67,23 @@ fn has_capture(states: &[State]) -> bool
     false
 }
 
+/// Whether the state is a match.
+fn is_match(state: &State) -> bool
+    ensures { result ≡ is_match (node_of state.now) }
+{
+    match state {
+        State::Match { .. } => true,
+        _ => false,
+    }
+}
+
 /// Whether one of the states in the set is a match.
 fn has_match(states: &[State], set: &SparseSet) -> bool
-    requires { All (λ q. q < length states.now) set.now.names }
+    requires { AreBelow (length states.now) set.now.names }
     ensures { result ≡ list_any (λ q. is_match (get_or (map node_of states.now) q fail_node)) set.now.names }
 {
     for id in set.iter() {
-        if let State::Match { .. } = &states[id.as_usize()] {
+        if is_match(state_at(states, id)) {
             return true;
         }
     }
@@ -102,12 +113,12 @@ fn looks(states: &[State]) -> LookSet
 
 /// The looks of the states in the set.
 fn looks_among(states: &[State], set: &SparseSet) -> LookSet
-    requires { All (λ q. q < length states.now) set.now.names }
+    requires { AreBelow (length states.now) set.now.names }
     ensures { result ≡ looks_of (map (λ q. get_or (map node_of states.now) q fail_node) set.now.names) }
 {
     let mut looks = LookSet::empty();
     for id in set.iter() {
-        looks = looks.union(look_of(&states[id.as_usize()]));
+        looks = looks.union(look_of(state_at(states, id)));
     }
     looks
 }

@@ -1,9 +1,10 @@
 // The states to which the patterns' starts lead with no byte.
-ghost use Rattle.std.specs.Prelude.{◌≡◌, ◌<◌, ◌≤◌, ◌++◌, All, length, true, false, IfOk, OnOk};
+ghost use Rattle.std.specs.Prelude.{◌≡◌, ◌<◌, ◌≤◌, ◌++◌, length, map, get_or, true, false, IfOk, IfSome, OnOk};
 ghost use Rattle.std.specs.Bool.{nat_eq};
+ghost use Rattle.nfa_core.specs.Nfa.{fail_node};
 ghost use Rattle.nfa_core.specs.NfaParts.{automaton_in};
 ghost use Rattle.nfa_core.specs.NfaValue.{IsSound, reached_freely};
-ghost use Rattle.nfa_core.specs.Reached.{Meets};
+ghost use Rattle.nfa_core.specs.Reached.{AreBelow, Meets};
 ghost use Rattle.nfa_core.specs.States.{node_of};
 ghost use Rattle.nfa_core.specs.Walks.{distinct};
 ghost use Rattle.nfa_core.specs.Ways.{on_nothing};
@@ -25,7 +26,7 @@ use std::sync::ledger::{Blank, Ledger};
 pub(crate) fn reached(alloc: Global, parts: &Parts) -> Result<SparseSet, AllocError>
     requires { IsSound (automaton_in parts.now) }
     ensures names { IfOk result (λ set. set.names ≡ distinct nat_eq (reached_freely (automaton_in parts.now))) }
-    ensures below { IfOk result (λ set. All (λ q. q < length parts.now.states.items) set.names) }
+    ensures below { IfOk result (λ set. AreBelow (length parts.now.states.items) set.names) }
 {
     walk::<Brand>(alloc, parts, Blank::new(1))
 }
@@ -37,14 +38,14 @@ fn walk<L: Ledger>(alloc: Global, parts: &Parts, blank: Blank) -> Result<SparseS
     requires parts { blank.parts ≡ L.parts }
     requires some { 0 < blank.parts }
     ensures names { IfOk result (λ set. set.names ≡ distinct nat_eq (reached_freely (automaton_in parts.now))) }
-    ensures below { IfOk result (λ set. All (λ q. q < length parts.now.states.items) set.names) }
+    ensures below { IfOk result (λ set. AreBelow (length parts.now.states.items) set.names) }
 {
     let mut steps = Steps::<L>::new(blank);
     let mut set = SparseSet::new(alloc, parts.states.len())?;
     let mut stack = Stack::new(alloc);
     stack.push_all(&parts.start_pattern)?;
     while let Some(id) = next_fresh(&mut stack, &mut set, &mut steps) {
-        push_ways(&mut stack, &parts.states[id.as_usize()])?;
+        push_ways(&mut stack, state_at(&parts.states, id))?;
     }
     Ok(set)
 }
@@ -55,9 +56,11 @@ fn next_fresh<L: Ledger>(
     set: &mut SparseSet,
     steps: &mut Steps<L>,
 ) -> Option<StateID>
-    requires { All (λ q. q < set.old.bound) stack.old }
+    requires below { AreBelow set.old.bound stack.old }
+    requires fits { length set.old.names ≤ set.old.bound }
     ensures bound { set.new.bound ≡ set.old.bound }
-    ensures below { All (λ q. q < set.old.bound) stack.new }
+    ensures below { AreBelow set.old.bound stack.new }
+    ensures inside { IfSome result (λ q. q < set.old.bound) }
     ensures fits { length set.new.names ≤ set.new.bound }
     ensures meets { Meets stack.old set.old.names stack.new set.new.names result }
 {
@@ -67,6 +70,15 @@ fn next_fresh<L: Ledger>(
         }
     }
     None
+}
+
+/// The state with this number.
+#[tactic(auto, using(crate::proofs::ReachedLemmas::node_of_item))]
+pub(crate) fn state_at(states: &[State], id: StateID) -> &State
+    requires { id < length states.now }
+    ensures { node_of result.now ≡ get_or (map node_of states.now) id fail_node }
+{
+    &states[id.as_usize()]
 }
 
 /// Puts the states to which a state leads with no byte on a stack, the preferred one on top.
