@@ -27,3 +27,4 @@ pub mod StackedLemmas
 pub mod MetLemmas
 pub mod NfaLookLemmas
 pub mod ReachedLemmas
+pub mod ToldLemmas

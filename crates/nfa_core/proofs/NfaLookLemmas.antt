@@ -6,8 +6,8 @@ use Rattle.look_core.specs.declared.look.Look.{Look}
 use Rattle.look_core.specs.Codes.{repr}
 use Rattle.look_core.specs.LookSets.{IsLookSet, has_look, union_of}
 use Rattle.look_core.proofs.LookSetLemmas.{has_look-union, has_look-none, repr-lt, same_members, union-lt}
-use Rattle.nfa_core.specs.Nfa.{Node, byte_range, sparse_node, dense_node, look_node, union_node, binary_union, capture_node, fail_node, match_node}
-use Rattle.nfa_core.specs.NfaValue.{look_of, looks_of}
+use Rattle.nfa_core.specs.Nfa.{Node, byte_range, sparse_node, dense_node, look_node, union_node, binary_union, capture_node, fail_node, match_node, Automaton, node_at}
+use Rattle.nfa_core.specs.NfaValue.{look_of, looks_of, is_match, reached_freely, has_empty, prefix_looks}
 use Rattle.nfa_core.specs.Walks.{distinct}
 use Rattle.nfa_core.proofs.MetLemmas.{any_distinct, any_map}
 use Rattle.nfa_core.proofs.PairLemmas.{names_equal}
@@ -48,3 +48,10 @@ pub looks_distinct : (f : ℕ → Node) (xs : List ℕ) → looks_of (map f (dis
 looks_distinct f xs = same_members (looks_of (map f (distinct nat_eq xs))) (looks_of (map f xs)) (looks_in (map f (distinct nat_eq xs))) (looks_in (map f xs))
     (λ l. let test : Node → Bool = λ node. has_look (look_of node) l in
     has_looks (map f (distinct nat_eq xs)) l ∙ any_map test f (distinct nat_eq xs) ∙ any_distinct nat_eq names_equal (λ x. test (f x)) xs ∙ sym (any_map test f xs) ∙ sym (has_looks (map f xs) l))
+
+-- what an NFA knows of the states that its patterns reach, from a list of these without repeats
+pub empty_met : (a : Automaton) (met : List ℕ) → met ≡ distinct nat_eq (reached_freely a) → list_any (λ q. is_match (node_at a q)) met ≡ has_empty a
+empty_met a met e = rw e (any_distinct nat_eq names_equal (λ q. is_match (node_at a q)) (reached_freely a))
+
+pub prefix_met : (a : Automaton) (met : List ℕ) → met ≡ distinct nat_eq (reached_freely a) → looks_of (map (node_at a) met) ≡ prefix_looks a
+prefix_met a met e = rw e (looks_distinct (node_at a) (reached_freely a))
