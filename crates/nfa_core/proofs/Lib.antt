@@ -28,3 +28,6 @@ pub mod MetLemmas
 pub mod NfaLookLemmas
 pub mod ReachedLemmas
 pub mod ToldLemmas
+pub mod ReachLawLemmas
+pub mod ClassLemmas
+pub mod LookedLemmas
