@@ -32,3 +32,11 @@ pub mod RenamingOnce
 pub mod RenamingEnds
 pub mod OrderLemmas
 pub mod PastLemmas
+pub mod StackedLemmas
+pub mod MetLemmas
+pub mod NfaLookLemmas
+pub mod ReachedLemmas
+pub mod ToldLemmas
+pub mod ReachLawLemmas
+pub mod ClassLemmas
+pub mod LookedLemmas

@@ -1,0 +1,42 @@
+//! Laws of what an NFA knows of its automaton. Each function has no code: its contract is the law.
+ghost use Rattle.std.specs.Prelude.{◌≡◌, ℕ, ◌<◌, ◌↔◌, Bool, true, List, get_or};
+ghost use Rattle.std.specs.Bool.{nat_eq};
+ghost use Rattle.std.specs.Option.{option_to_list};
+ghost use Rattle.search_core.specs.Marks.{marks_below};
+ghost use Rattle.look_core.specs.declared.look.Look.{Look};
+ghost use Rattle.look_core.specs.LookSets.{has_look};
+ghost use Rattle.look_core.specs.Terminators.{Terminator};
+ghost use Rattle.nfa_core.specs.Nfa.{Automaton, look_node, node_at};
+ghost use Rattle.nfa_core.specs.NfaValue.{IsSound, IsClassSet, free_steps, reached_freely, looks_of, prefix_looks};
+ghost use Rattle.nfa_core.specs.Runs.{IsChain, last_or};
+ghost use Rattle.nfa_core.specs.Transitions.{sparse_next, dense_next};
+ghost use Rattle.nfa_core.specs.Walks.{Has};
+ghost use Rattle.nfa_core.specs.Ways.{on_byte, in_ranges, named};
+
+/// The states that patterns reach without a byte are those to which chains lead from their starts, each
+/// look taken as passed.
+pub fn reached_states_are_led_to()
+    ensures led { (a : Automaton) (q : ℕ) → IsSound a → Has nat_eq q (reached_freely a) →
+        (s : ℕ) × (r : List ℕ) × Has nat_eq s a.start_pattern × IsChain nat_eq (free_steps a) s r × (last_or s r ≡ q) }
+    ensures all { (a : Automaton) (q s : ℕ) (r : List ℕ) → IsSound a → Has nat_eq s a.start_pattern → IsChain nat_eq (free_steps a) s r →
+        last_or s r ≡ q → Has nat_eq q (reached_freely a) }
+{}
+
+/// By two bytes of one class, each state leads to the same states.
+pub fn bytes_of_one_class_are_followed_alike()
+    ensures { (a : Automaton) (t : Terminator) (marks : List Bool) (b c : ℕ) → IsSound a → IsClassSet t a.states marks → b < 256 → c < 256 →
+        marks_below marks b ≡ marks_below marks c → (q : ℕ) → on_byte (node_at a q) b ≡ on_byte (node_at a q) c }
+{}
+
+/// The sets of looks have the looks of states, and of those that patterns reach without a byte.
+pub fn look_sets_have_the_looks_of_states()
+    ensures any { (a : Automaton) (l : Look) → (has_look (looks_of a.states) l ≡ true) ↔ ((q : ℕ) × (next : ℕ) × (node_at a q ≡ look_node l next)) }
+    ensures prefix { (a : Automaton) (l : Look) → (has_look (prefix_looks a) l ≡ true) ↔
+        ((q : ℕ) × (next : ℕ) × Has nat_eq q (reached_freely a) × (node_at a q ≡ look_node l next)) }
+{}
+
+/// Where transitions lead by a byte is what the ways of an automaton say.
+pub fn transitions_lead_where_bytes_do()
+    ensures sparse { (ranges : List (ℕ × ℕ × ℕ)) (b : ℕ) → option_to_list (sparse_next ranges b) ≡ in_ranges ranges b }
+    ensures dense { (names : List ℕ) (b : ℕ) → option_to_list (dense_next names b) ≡ named (get_or names b 0) }
+{}

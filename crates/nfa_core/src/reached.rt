@@ -1,0 +1,99 @@
+// The states to which the patterns' starts lead with no byte.
+ghost use Rattle.std.specs.Prelude.{◌≡◌, ◌<◌, ◌≤◌, ◌++◌, length, map, get_or, true, false, IfOk, IfSome, OnOk};
+ghost use Rattle.std.specs.Bool.{nat_eq};
+ghost use Rattle.nfa_core.specs.Nfa.{fail_node};
+ghost use Rattle.nfa_core.specs.NfaParts.{automaton_in};
+ghost use Rattle.nfa_core.specs.NfaValue.{IsSound, reached_freely};
+ghost use Rattle.nfa_core.specs.Reached.{AreBelow, Meets};
+ghost use Rattle.nfa_core.specs.States.{node_of};
+ghost use Rattle.nfa_core.specs.Walks.{distinct};
+ghost use Rattle.nfa_core.specs.Ways.{on_nothing};
+ghost use Rattle.search_core.specs.Index.{greatest_index};
+
+use crate::name_set::NameSet;
+use crate::nfa_parts::Parts;
+use crate::sparse_set::SparseSet;
+use crate::stack::Stack;
+use crate::state::State;
+use crate::steps::Steps;
+use search_core::StateID;
+use std::alloc::{AllocError, Global};
+use std::marker::Brand;
+use std::sync::ledger::{Blank, Ledger};
+
+/// The states to which the patterns' starts lead with no byte, each once, in the order of a depth-first
+/// walk that takes each look as passed.
+pub(crate) fn reached(alloc: Global, parts: &Parts) -> Result<SparseSet, AllocError>
+    requires { IsSound (automaton_in parts.now) }
+    ensures names { IfOk result (λ set. set.names ≡ distinct nat_eq (reached_freely (automaton_in parts.now))) }
+    ensures below { IfOk result (λ set. AreBelow (length parts.now.states.items) set.names) }
+{
+    walk::<Brand>(alloc, parts, Blank::new(1))
+}
+
+/// The same, and counts the steps.
+fn walk<L: Ledger>(alloc: Global, parts: &Parts, blank: Blank) -> Result<SparseSet, AllocError>
+    requires sound { IsSound (automaton_in parts.now) }
+    requires name { blank.name ≡ L.name }
+    requires parts { blank.parts ≡ L.parts }
+    requires some { 0 < blank.parts }
+    ensures names { IfOk result (λ set. set.names ≡ distinct nat_eq (reached_freely (automaton_in parts.now))) }
+    ensures below { IfOk result (λ set. AreBelow (length parts.now.states.items) set.names) }
+{
+    let mut steps = Steps::<L>::new(blank);
+    let mut set = SparseSet::new(alloc, parts.states.len())?;
+    let mut stack = Stack::new(alloc);
+    stack.push_all(&parts.start_pattern)?;
+    while let Some(id) = next_fresh(&mut stack, &mut set, &mut steps) {
+        push_ways(&mut stack, state_at(&parts.states, id))?;
+    }
+    Ok(set)
+}
+
+/// Takes states from the stack until one is met that the set lacks, and puts that into the set.
+fn next_fresh<L: Ledger>(
+    stack: &mut Stack,
+    set: &mut SparseSet,
+    steps: &mut Steps<L>,
+) -> Option<StateID>
+    requires below { AreBelow set.old.bound stack.old }
+    requires fits { length set.old.names ≤ set.old.bound }
+    ensures bound { set.new.bound ≡ set.old.bound }
+    ensures below { AreBelow set.old.bound stack.new }
+    ensures inside { IfSome result (λ q. q < set.old.bound) }
+    ensures fits { length set.new.names ≤ set.new.bound }
+    ensures meets { Meets stack.old set.old.names stack.new set.new.names result }
+{
+    while let Some(id) = stack.pop() {
+        if set.insert(id, steps) {
+            return Some(id);
+        }
+    }
+    None
+}
+
+/// The state with this number.
+#[tactic(auto, using(crate::proofs::ReachedLemmas::node_of_item))]
+pub(crate) fn state_at(states: &[State], id: StateID) -> &State
+    requires { id < length states.now }
+    ensures { node_of result.now ≡ get_or (map node_of states.now) id fail_node }
+{
+    &states[id.as_usize()]
+}
+
+/// Puts the states to which a state leads with no byte on a stack, the preferred one on top.
+fn push_ways(stack: &mut Stack, state: &State) -> Result<(), AllocError>
+    ensures { OnOk result (stack.new ≡ on_nothing (node_of state.now) (λ l. true) ++ stack.old) }
+{
+    match state {
+        State::Look { next, .. } => stack.push(*next),
+        State::Capture { next, .. } => stack.push(*next),
+        State::Union { alternates } => stack.push_all(alternates),
+        State::BinaryUnion { alt1, alt2 } => {
+            stack.push(*alt2)?;
+            stack.push(*alt1)
+        }
+        State::ByteRange { .. } | State::Sparse(_) | State::Dense(_) => Ok(()),
+        State::Fail | State::Match { .. } => Ok(()),
+    }
+}
