@@ -1,10 +1,10 @@
 -- Bytes of one class, state by state.
-use Rattle.std.proofs.Common.{◌≡◌, ℕ, zero, suc, ◌+◌, ◌<◌, ◌≤◌, true, false, Bool, List, [], ◌∷◌, ◌++◌, length, map, All, get_or, refl, sym, ap, ◌∙◌, arith, ◌⊎◌, inl, inr, ⊎_elim, ◌&&◌}
+use Rattle.std.proofs.Common.{◌≡◌, ℕ, zero, suc, ◌<◌, ◌≤◌, true, false, Bool, List, [], ◌∷◌, ◌++◌, length, map, All, get_or, refl, sym, ◌∙◌, arith, ⊎_elim, ◌&&◌}
 use Rattle.std.proofs.lemmas.Bool.{cases_Bool}
 use Rattle.std.proofs.lemmas.Bool.Decides.{leb_tells}
 use Rattle.std.specs.Bool.{nat_le}
 use Rattle.std.specs.List.{flat_map}
-use Rattle.search_core.specs.Marks.{marks_below, recorded, IsUnmarked, IsIn, HoldsAllOrNone}
+use Rattle.search_core.specs.Marks.{marks_below, IsIn, HoldsAllOrNone}
 use Rattle.search_core.proofs.MarkLemmas.{same_class_tells}
 use Rattle.look_core.specs.Terminators.{Terminator}
 use Rattle.nfa_core.specs.Nfa.{Node, byte_range, sparse_node, dense_node, look_node, union_node, binary_union, capture_node, fail_node, match_node, Automaton, node_at}
@@ -76,7 +76,7 @@ alike_up : (a : Automaton) (t : Terminator) (marks : List Bool) (b c : ℕ) → 
 alike_up a t marks b c sound class le low same q =
     let there : c < length class.none = omega (arith, class.all_bytes) in
     let tells : All (HoldsAllOrNone b c) (flat_map (told_by t) a.states) =
-        same_class_tells class.none (flat_map (told_by t) a.states) b c class.unmarked le there (rw class.ranges at same) in
+    same_class_tells class.none (flat_map (told_by t) a.states) b c class.unmarked le there (rw class.ranges at same) in
     alike_node b c le t (length a.start_pattern) (node_at a q) (sound_at (length a.start_pattern) a.states q sound.nodes) (told_at t (HoldsAllOrNone b c) a.states q tells)
 
 pub bytes_alike : (a : Automaton) (t : Terminator) (marks : List Bool) (b c : ℕ) → IsSound a → IsClassSet t a.states marks → b < 256 → c < 256 →

@@ -1,11 +1,11 @@
 -- The looks of states that sets of looks have, and where transitions lead.
-use Rattle.std.proofs.Common.{◌≡◌, ℕ, zero, suc, true, false, Bool, List, [], ◌∷◌, map, get_or, refl, sym, ap, ◌∙◌, ◌↔◌, ◌&&◌, ⊎_elim, Some, None}
+use Rattle.std.proofs.Common.{◌≡◌, ℕ, zero, suc, true, false, Bool, List, [], ◌∷◌, map, get_or, refl, sym, ap, ◌∙◌, ◌↔◌, ◌&&◌, ⊎_elim}
 use Rattle.std.proofs.lemmas.Bool.{cases_Bool, eqb-true, eq-eqb}
 use Rattle.std.specs.Bool.{nat_eq, nat_le}
 use Rattle.std.specs.List.{list_any}
 use Rattle.std.specs.Option.{option_to_list}
 use Rattle.look_core.specs.declared.look.Look.{Look}
-use Rattle.look_core.specs.Codes.{repr, bit_of, same_look}
+use Rattle.look_core.specs.Codes.{repr, bit_of}
 use Rattle.look_core.specs.LookSets.{has_look}
 use Rattle.look_core.proofs.LookSetLemmas.{has_look-none, has_look-repr}
 use Rattle.look_core.proofs.LookRows.{same_from_bit}

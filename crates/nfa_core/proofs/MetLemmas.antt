@@ -1,8 +1,8 @@
 -- Tests over the members of lists: what doesn't see their order and repeats.
-use Rattle.std.proofs.Common.{◌≡◌, ℕ, true, false, Bool, List, [], ◌∷◌, map, refl, sym, ap, ◌∙◌, ◌||◌, ⊎_elim}
+use Rattle.std.proofs.Common.{◌≡◌, true, false, Bool, List, [], ◌∷◌, map, refl, sym, ap, ◌∙◌, ◌||◌, ⊎_elim}
 use Rattle.std.proofs.lemmas.Bool.{cases_Bool}
 use Rattle.std.specs.List.{list_any}
-use Rattle.nfa_core.specs.Walks.{Has, IsEquality, join, distinct}
+use Rattle.nfa_core.specs.Walks.{Has, IsEquality, distinct}
 use Rattle.nfa_core.proofs.MemberLemmas.{none_in, not_both, has_first, has_later, has_cons}
 use Rattle.nfa_core.proofs.JoinLemmas.{join_brings, of_join}
 

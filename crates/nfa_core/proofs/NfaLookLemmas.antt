@@ -1,9 +1,8 @@
 -- The looks of states, member by member.
-use Rattle.std.proofs.Common.{◌≡◌, ℕ, ◌<◌, true, false, Bool, List, [], ◌∷◌, map, refl, sym, ap, ◌∙◌, ◌||◌, arith}
+use Rattle.std.proofs.Common.{◌≡◌, ℕ, Bool, List, [], ◌∷◌, map, sym, ap, ◌∙◌, ◌||◌, arith}
 use Rattle.std.specs.List.{list_any, fold}
 use Rattle.std.specs.Bool.{nat_eq}
 use Rattle.look_core.specs.declared.look.Look.{Look}
-use Rattle.look_core.specs.Codes.{repr}
 use Rattle.look_core.specs.LookSets.{IsLookSet, has_look, union_of}
 use Rattle.look_core.proofs.LookSetLemmas.{has_look-union, has_look-none, repr-lt, same_members, union-lt}
 use Rattle.nfa_core.specs.Nfa.{Node, byte_range, sparse_node, dense_node, look_node, union_node, binary_union, capture_node, fail_node, match_node, Automaton, node_at}

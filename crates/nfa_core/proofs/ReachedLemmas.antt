@@ -1,11 +1,9 @@
 -- The walk with a stack over the states of an automaton, looks taken as passed.
-use Rattle.std.proofs.Common.{◌≡◌, ℕ, zero, suc, ◌<◌, ◌≤◌, true, false, Bool, List, [], ◌∷◌, ◌++◌, length, map, All, get_or, refl, sym, ap, ◌∙◌, arith, ⊎_elim, not, if◌then◌else◌, Option, Some, None}
+use Rattle.std.proofs.Common.{◌≡◌, ℕ, suc, ◌<◌, true, false, Bool, List, [], ◌∷◌, ◌++◌, length, map, All, get_or, refl, sym, ap, ◌∙◌, arith, ⊎_elim, not, if◌then◌else◌, Some, None}
 use Rattle.std.proofs.lemmas.Bool.{cases_Bool}
 use Rattle.std.proofs.lemmas.List.{get_or-map, append-nil}
-use Rattle.std.specs.List.{list_any, flat_map}
 use Rattle.std.specs.Bool.{nat_eq}
-use Rattle.look_core.specs.declared.look.Look.{Look}
-use Rattle.nfa_core.specs.Walks.{has, Has, distinct, chain_ends, Visits, done, held, fresh}
+use Rattle.nfa_core.specs.Walks.{has, Has, distinct, Visits, done, held}
 use Rattle.nfa_core.specs.Places.{StaysBelow}
 use Rattle.nfa_core.specs.Nfa.{Node, byte_range, sparse_node, dense_node, look_node, union_node, binary_union, capture_node, fail_node, match_node, Automaton, node_at, leads_to, IsWellFormed}
 use Rattle.nfa_core.specs.Ways.{on_nothing}

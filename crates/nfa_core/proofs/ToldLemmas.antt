@@ -1,15 +1,13 @@
 -- The ranges of bytes of sound states, and steps over their lists.
-use Rattle.std.proofs.Common.{◌≡◌, ℕ, zero, suc, ◌+◌, ◌<◌, ◌≤◌, true, false, Bool, List, [], ◌∷◌, length, map, All, get_or, refl, sym, ap, ◌∙◌, subst, arith}
+use Rattle.std.proofs.Common.{◌≡◌, ℕ, zero, suc, ◌+◌, ◌<◌, ◌≤◌, true, false, Bool, List, [], ◌∷◌, length, map, All, get_or, sym, ap, ◌∙◌, subst, arith}
 use Rattle.std.specs.List.{list_any, fold}
 use Rattle.std.proofs.lemmas.List.{get_or-map, length-map}
 use Rattle.nfa_core.specs.Nfa.{Node, fail_node}
 use Rattle.nfa_core.specs.BuilderStates.{AscendsFrom}
 use Rattle.nfa_core.specs.Transitions.{range_of}
 use Rattle.nfa_core.specs.States.{node_of}
-use Rattle.nfa_core.specs.Reached.{AreBelow}
 use Rattle.nfa_core.specs.declared.state.State.{State}
 use Rattle.nfa_core.specs.declared.transition.Transition.{Transition}
-use Rattle.nfa_core.proofs.ReachedLemmas.{taken_below, left_below}
 
 pub ranges_ascend : (transitions : List Transition) (low : ℕ) → AscendsFrom low (map range_of transitions) → All (λ t. t.start ≤ t.end) transitions
 ranges_ascend [] low ascends k d h = absurd (omega (arith, h))

@@ -1,5 +1,5 @@
 -- The parts of an NFA that its code holds, as contracts see them, and what it keeps of its automaton beside them.
-use Rattle.std.specs.Prelude.{◌≡◌, ℕ, zero, suc, ◌<◌, List, [], ◌∷◌, map, length, slice_index, false, true, Option, None}
+use Rattle.std.specs.Prelude.{◌≡◌, ℕ, zero, suc, ◌<◌, List, [], ◌∷◌, map, length, slice_index, false, true, None}
 use Rattle.std.specs.List.{list_any}
 use Rattle.search_core.specs.Marks.{marks_below}
 use Rattle.look_core.specs.Terminators.{Terminator, one_of}

@@ -2,7 +2,6 @@
 use Rattle.std.specs.Prelude.{◌≡◌, ℕ, ◌<◌, List, [], ◌∷◌, ◌++◌, Option, Some, None}
 use Rattle.std.specs.Bool.{nat_eq}
 use Rattle.nfa_core.specs.Walks.{Has, Visits}
-use Rattle.nfa_core.specs.NameSets.{Names}
 
 -- each name of the list is below n
 abbrev pub AreBelow : ℕ → List ℕ → Type 0

@@ -5,7 +5,8 @@
 //! their preference in `Runs.antt`, walks in `Walks.antt`, lists of states by place in `Places.antt`. Their
 //! laws are public functions without code in [`run_laws`], [`place_laws`] and [`walk_laws`]. What a builder
 //! holds is in `BuilderStates.antt`, why it refuses in `BuilderFaults.antt`, and the automaton that its states
-//! stand for in `Renaming.antt`, with a law in [`builder_laws`].
+//! stand for in `Renaming.antt`, with a law in [`builder_laws`]. What an [`NFA`] knows of its automaton is in
+//! `NfaValue.antt`, with laws in [`nfa_laws`].
 #![tactic(auto)]
 
 mod build_error;

@@ -119,7 +119,7 @@ impl NFA {
     pub fn states(&self) -> &[State]
         ensures { map node_of result.now ≡ self.now.automaton.states }
     {
-        &self.parts.states
+        self.parts.states.as_slice()
     }
 
     /// The groups of the patterns, as `NFA::group_info`.
@@ -168,7 +168,7 @@ impl NFA {
     pub fn is_always_start_anchored(&self) -> bool
         ensures { result ≡ nat_eq self.now.automaton.start_anchored self.now.automaton.start_unanchored }
     {
-        self.parts.start_anchored == self.parts.start_unanchored
+        self.start_anchored() == self.start_unanchored()
     }
 
     /// What tells where looks hold, as `NFA::look_matcher`.
@@ -209,7 +209,7 @@ impl NFA {
     pub fn is_sound(&self)
         ensures { IsSound self.now.automaton }
     {
-        let _ = &self.parts.utf8;
+        let _ = &self.parts;
     }
 }
 

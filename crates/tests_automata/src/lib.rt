@@ -2,6 +2,8 @@
 #![tactic(auto)]
 
 #[cfg(test)]
+mod nfas;
+#[cfg(test)]
 mod sets;
 #[cfg(test)]
 mod states;

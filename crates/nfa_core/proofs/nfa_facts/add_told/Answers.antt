@@ -1,4 +1,3 @@
-use Rattle.std.proofs.Common.{◌≡◌}
 use Rattle.nfa_core.proofs.ToldLemmas.{ranges_ascend}
 use Rattle.nfa_core.proofs.nfa_facts.add_told.Goals as goal
 

@@ -1,4 +1,4 @@
-use Rattle.std.proofs.Common.{◌≡◌, map, drop, All}
+use Rattle.std.proofs.Common.{◌≡◌, map, drop}
 use Rattle.std.specs.List.{flat_map}
 use Rattle.search_core.specs.Marks.{recorded}
 use Rattle.nfa_core.specs.NfaValue.{told_by}

@@ -14,7 +14,7 @@ pub loop-id-preserved : goal.loop-id-preserved
 loop-id-preserved c =
     let node : ℕ → Node = λ q. get_or (map node_of c.args.states.now) q fail_node in
     let is : c.union-looks.result ≡ union_of c.loop-id.looks (look_of (node c.in-Some.id)) =
-        c.union-looks.ensures ∙ ap (union_of c.loop-id.looks) (c.look_of.ensures ∙ ap look_of c.state_at.ensures) in
+    c.union-looks.ensures ∙ ap (union_of c.loop-id.looks) (c.look_of.ensures ∙ ap look_of c.state_at.ensures) in
     record {
       below = left_below (length c.args.states.now) c.in-Some.id c.next.new.self c.loop-id.id-iterator c.in-Some.ensures.steps c.loop-id.invariant.below;
       same = fold_next c.in-Some.id c.next.new.self c.loop-id.id-iterator c.in-Some.ensures.steps node (λ s n. union_of s (look_of n)) c.loop-id.looks c.union-looks.result _ is c.loop-id.invariant.same;

@@ -1,5 +1,4 @@
-use Rattle.std.proofs.Common.{◌≡◌, ◌∙◌, ◌<◌, rules}
-use Rattle.nfa_core.specs.Reached.{AreBelow}
+use Rattle.std.proofs.Common.{◌≡◌, ◌∙◌}
 use Rattle.nfa_core.proofs.ReachedLemmas.{taken_below, left_below, passes, meets}
 use Rattle.nfa_core.proofs.reached.next_fresh.Goals as goal
 
@@ -22,7 +21,7 @@ returns-then-insert-clause-meets g c =
 pub loop-id-preserved : goal.loop-id-preserved
 loop-id-preserved g c =
     let p = passes c.args.stack.now c.args.set.now.names c.loop-id.stack c.loop-id.set.names c.pop.new.self c.insert.new.self.names c.in-Some.id c.insert.result
-        c.loop-id.invariant.names c.in-Some.ensures c.loop-id.invariant.walk c.insert.ensures.fresh c.insert.ensures.names c.if-insert.false in
+    c.loop-id.invariant.names c.in-Some.ensures c.loop-id.invariant.walk c.insert.ensures.fresh c.insert.ensures.names c.if-insert.false in
     record {
       names = p.0;
       bound = c.insert.ensures.bound ∙ c.loop-id.invariant.bound;

@@ -1,7 +1,6 @@
-use Rattle.std.proofs.Common.{◌≡◌, ◌∙◌, ◌<◌, ◌++◌, [], ℕ, List, length, map, rules, true, refl, get_or, Some, None}
-use Rattle.nfa_core.specs.Nfa.{Node, node_at}
+use Rattle.std.proofs.Common.{◌≡◌, ◌∙◌, ◌++◌, [], length, rules, true}
+use Rattle.nfa_core.specs.Nfa.{node_at}
 use Rattle.nfa_core.specs.NfaParts.{automaton_in}
-use Rattle.nfa_core.specs.Reached.{AreBelow, Meets}
 use Rattle.nfa_core.specs.States.{node_of}
 use Rattle.nfa_core.specs.Ways.{on_nothing}
 use Rattle.nfa_core.proofs.ReachedLemmas.{len_nodes, StandsAt, begins, goes_on, ends, met_below}
@@ -26,8 +25,8 @@ loop-id-preserved g c =
     let is : node_of c.state_at.result.now ≡ node_at (automaton_in c.args.parts.now) c.in-Some.id = search rules in
     let ways : c.push_ways.new.stack ≡ on_nothing (node_of c.state_at.result.now) (λ l. true) ++ c.next_fresh.new.stack = search rules in
     let stands : StandsAt (automaton_in c.args.parts.now) c.loop-id.set.bound c.push_ways.new.stack c.next_fresh.new.set.names =
-        goes_on (automaton_in c.args.parts.now) c.loop-id.set.bound len c.requires.sound c.loop-id.stack c.loop-id.set.names c.next_fresh.new.stack c.next_fresh.new.set.names
-        c.push_ways.new.stack c.in-Some.id (node_of c.state_at.result.now) c.loop-id.invariant.stands c.in-Some.ensures.inside c.in-Some.ensures.below c.in-Some.ensures.meets is ways in
+    goes_on (automaton_in c.args.parts.now) c.loop-id.set.bound len c.requires.sound c.loop-id.stack c.loop-id.set.names c.next_fresh.new.stack c.next_fresh.new.set.names
+    c.push_ways.new.stack c.in-Some.id (node_of c.state_at.result.now) c.loop-id.invariant.stands c.in-Some.ensures.inside c.in-Some.ensures.below c.in-Some.ensures.meets is ways in
     record {
       bound = bound ∙ c.loop-id.invariant.bound;
       fits = c.in-Some.ensures.fits;
