@@ -25,3 +25,4 @@ pub mod BuilderLemmas
 pub mod RenamingLemmas
 pub mod OrderLemmas
 pub mod PastLemmas
+pub mod NamingLemmas

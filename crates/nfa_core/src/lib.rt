@@ -18,6 +18,7 @@ mod dense_transitions;
 mod draft;
 mod marks;
 mod name_set;
+mod naming;
 mod pair_set;
 mod pasts;
 pub mod place_laws;
