@@ -26,3 +26,4 @@ pub mod RenamingLemmas
 pub mod OrderLemmas
 pub mod PastLemmas
 pub mod NamingLemmas
+pub mod KeptStateLemmas

@@ -16,6 +16,7 @@ mod builder_patterns;
 mod builder_states;
 mod dense_transitions;
 mod draft;
+mod kept_states;
 mod marks;
 mod name_set;
 mod naming;
