@@ -18,3 +18,5 @@ pub mod NfaValue
 pub mod CanBuild
 pub mod InOrder
 pub mod Pasts
+pub mod NfaOf
+pub mod NfaParts
