@@ -27,3 +27,4 @@ pub mod OrderLemmas
 pub mod PastLemmas
 pub mod NamingLemmas
 pub mod KeptStateLemmas
+pub mod BuildLemmas

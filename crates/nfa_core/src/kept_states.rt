@@ -18,7 +18,7 @@ use search_types::GroupInfo;
 use std::alloc::{AllocError, Global};
 
 /// The name that a state gets.
-fn rename(names: &[StateID], q: StateID) -> StateID
+pub(crate) fn rename(names: &[StateID], q: StateID) -> StateID
     requires { q < length names.now }
     ensures { result ≡ name_in names.now q }
 {

@@ -10,6 +10,7 @@
 
 mod build_error;
 mod builder;
+mod builder_build;
 mod builder_groups;
 pub mod builder_laws;
 mod builder_patterns;
