@@ -11,7 +11,9 @@ use Rattle.search_core.specs.Index.{greatest_index}
 use Rattle.search_types.specs.Groups.{Groups}
 use Rattle.nfa_core.specs.Walks.{Has}
 use Rattle.nfa_core.specs.Nfa.{Node, byte_range, sparse_node, look_node, union_node, binary_union, capture_node, fail_node, match_node, Automaton, node_at, leads_to, IsWellFormed}
-use Rattle.nfa_core.specs.NfaValue.{IsNodeOf, IsSound}
+use Rattle.nfa_core.specs.NfaValue.{Nfa, IsNodeOf, IsSound}
+use Rattle.nfa_core.specs.NfaOf.{nfa_of}
+use Rattle.look_core.specs.Terminators.{Terminator}
 use Rattle.nfa_core.specs.BuilderStates.{Part, empty_part, range_part, sparse_part, look_part, capture_start_part, capture_end_part, union_part, union_reverse_part, fail_part, match_part, part_at, Assembly, AscendsFrom, pattern_count}
 use Rattle.nfa_core.specs.InOrder.{IsPartOf, IsInOrder}
 use Rattle.nfa_core.specs.CanBuild.{CanBuild, names_of}
@@ -21,6 +23,15 @@ use Rattle.nfa_core.proofs.MemberLemmas.{none_in, of_cons}
 use Rattle.nfa_core.proofs.PairLemmas.{names_equal}
 use Rattle.nfa_core.proofs.NamingLemmas.{is_kept, past_inside, kept_more}
 use Rattle.nfa_core.proofs.KeptStateLemmas.{map_reversed}
+
+abbrev pub range_named : (ℕ → ℕ) → ℕ × ℕ × ℕ → ℕ × ℕ × ℕ
+range_named name r = (r.0, r.1, name r.2)
+
+abbrev pub range_next : ℕ × ℕ × ℕ → ℕ
+range_next r = r.2
+
+abbrev pub ends_in_byte : ℕ × ℕ × ℕ → Type 0
+ends_in_byte r = r.1 < 256
 
 all_reversed : {A : Type 0} (P : A → Type 0) (xs : List A) → All P xs → All P (reverse xs)
 all_reversed P [] all = all
@@ -37,12 +48,12 @@ module _ (f g : ℕ → ℕ) (n : ℕ) (agree : (q : ℕ) → q < n → f q ≡ 
   names_same : (names : List ℕ) → All (λ q. q < n) names → map f names ≡ map g names
   names_same names all = map_same (λ q. q < n) f g agree names all
 
-  ranges_same : (ranges : List (ℕ × ℕ × ℕ)) → All (λ q. q < n) (map (λ r. r.2) ranges) → map (λ r. (r.0, r.1, f r.2)) ranges ≡ map (λ r. (r.0, r.1, g r.2)) ranges
+  ranges_same : (ranges : List (ℕ × ℕ × ℕ)) → All (λ q. q < n) (map range_next ranges) → map (range_named f) ranges ≡ map (range_named g) ranges
   ranges_same [] all = refl
   ranges_same (r ∷ rs) all =
-      let head = agree r.2 (All-head (λ q. q < n) r.2 (map (λ r. r.2) rs) all) in
-      ap (λ q. (r.0, r.1, q) ∷ map (λ r. (r.0, r.1, f r.2)) rs) head
-      ∙ ap (λ ys. (r.0, r.1, g r.2) ∷ ys) (ranges_same rs (All-tail (λ q. q < n) r.2 (map (λ r. r.2) rs) all))
+      let head = agree r.2 (All-head (λ q. q < n) r.2 (map range_next rs) all) in
+      ap (λ q. (r.0, r.1, q) ∷ map (range_named f) rs) head
+      ∙ ap (λ ys. (r.0, r.1, g r.2) ∷ ys) (ranges_same rs (All-tail (λ q. q < n) r.2 (map range_next rs) all))
 
   -- the state is the same under names that agree
   renamed_same : (part : Part) → All (λ q. q < n) (names_of part) → renamed f groups part ≡ renamed g groups part
@@ -88,7 +99,7 @@ leads_ways (first ∷ []) = refl
 leads_ways (first ∷ second ∷ []) = refl
 leads_ways (first ∷ second ∷ third ∷ others) = refl
 
-leads_ranges : (ranges : List (ℕ × ℕ × ℕ)) → leads_to (ranges_node ranges) ≡ map (λ r. r.2) ranges
+leads_ranges : (ranges : List (ℕ × ℕ × ℕ)) → leads_to (ranges_node ranges) ≡ map range_next ranges
 leads_ranges [] = refl
 leads_ranges (range ∷ []) = refl
 leads_ranges (range ∷ other ∷ others) = refl
@@ -98,10 +109,10 @@ module _ (n m : ℕ) (name : ℕ → ℕ) (inside : (q : ℕ) → q < n → name
   names_inside [] all = λ k d below. absurd (omega (arith, below))
   names_inside (q ∷ qs) all = All-cons (λ q. q < m) (name q) (map name qs) (inside q (All-head (λ q. q < n) q qs all)) (names_inside qs (All-tail (λ q. q < n) q qs all))
 
-  ranges_inside : (ranges : List (ℕ × ℕ × ℕ)) → All (λ q. q < n) (map (λ r. r.2) ranges) → All (λ q. q < m) (map (λ r. r.2) (map (λ r. (r.0, r.1, name r.2)) ranges))
+  ranges_inside : (ranges : List (ℕ × ℕ × ℕ)) → All (λ q. q < n) (map range_next ranges) → All (λ q. q < m) (map range_next (map (range_named name) ranges))
   ranges_inside [] all = λ k d below. absurd (omega (arith, below))
-  ranges_inside (r ∷ rs) all = All-cons (λ q. q < m) (name r.2) (map (λ r. r.2) (map (λ r. (r.0, r.1, name r.2)) rs)) (inside r.2 (All-head (λ q. q < n) r.2 (map (λ r. r.2) rs) all))
-      (ranges_inside rs (All-tail (λ q. q < n) r.2 (map (λ r. r.2) rs) all))
+  ranges_inside (r ∷ rs) all = All-cons (λ q. q < m) (name r.2) (map range_next (map (range_named name) rs)) (inside r.2 (All-head (λ q. q < n) r.2 (map range_next rs) all))
+      (ranges_inside rs (All-tail (λ q. q < n) r.2 (map range_next rs) all))
 
   -- a list of one name, or of none
   one_inside : (q : ℕ) → q < m → All (λ q. q < m) (q ∷ [])
@@ -113,7 +124,7 @@ module _ (n m : ℕ) (name : ℕ → ℕ) (inside : (q : ℕ) → q < n → name
   leads_inside : (part : Part) → All (λ q. q < n) (names_of part) → All (λ q. q < m) (leads_to (renamed name groups part))
   leads_inside (empty_part next) all = λ k d none. absurd (omega (arith, none))
   leads_inside (range_part low high next) all = one_inside (name next) (inside next (All-head (λ q. q < n) next [] all))
-  leads_inside (sparse_part ranges) all = subst (λ (names : List ℕ). All (λ q. q < m) names) (sym (leads_ranges (map (λ r. (r.0, r.1, name r.2)) ranges))) (ranges_inside ranges all)
+  leads_inside (sparse_part ranges) all = subst (λ (names : List ℕ). All (λ q. q < m) names) (sym (leads_ranges (map (range_named name) ranges))) (ranges_inside ranges all)
   leads_inside (look_part look next) all = one_inside (name next) (inside next (All-head (λ q. q < n) next [] all))
   leads_inside (capture_start_part pattern group next) all = one_inside (name next) (inside next (All-head (λ q. q < n) next [] all))
   leads_inside (capture_end_part pattern group next) all = one_inside (name next) (inside next (All-head (λ q. q < n) next [] all))
@@ -128,16 +139,16 @@ has_all P [] all q h = none_in nat_eq q _ h
 has_all P (x ∷ xs) all q h = of_cons nat_eq names_equal P x xs (All-head P x xs all) (has_all P xs (All-tail P x xs all)) q h
 
 -- the ranges stay in order
-ascends_named : (name : ℕ → ℕ) (low : ℕ) (ranges : List (ℕ × ℕ × ℕ)) → AscendsFrom low ranges → AscendsFrom low (map (λ r. (r.0, r.1, name r.2)) ranges)
+ascends_named : (name : ℕ → ℕ) (low : ℕ) (ranges : List (ℕ × ℕ × ℕ)) → AscendsFrom low ranges → AscendsFrom low (map (range_named name) ranges)
 ascends_named name low [] rises = tt
 ascends_named name low ((start, end, next) ∷ others) rises = (rises.0, rises.1, ascends_named name (end + 1) others rises.2)
 
-bytes_named : (name : ℕ → ℕ) (ranges : List (ℕ × ℕ × ℕ)) → All (λ r. r.1 < 256) ranges → All (λ r. r.1 < 256) (map (λ r. (r.0, r.1, name r.2)) ranges)
-bytes_named name ranges all = All-map (λ r. r.1 < 256) (λ r. (r.0, r.1, name r.2)) ranges all
+bytes_named : (name : ℕ → ℕ) (ranges : List (ℕ × ℕ × ℕ)) → All ends_in_byte ranges → All ends_in_byte (map (range_named name) ranges)
+bytes_named name ranges all = All-map ends_in_byte (range_named name) ranges all
 
-ranges_of_node : (patterns : ℕ) (ranges : List (ℕ × ℕ × ℕ)) → AscendsFrom 0 ranges → All (λ r. r.1 < 256) ranges → IsNodeOf patterns (ranges_node ranges)
+ranges_of_node : (patterns : ℕ) (ranges : List (ℕ × ℕ × ℕ)) → AscendsFrom 0 ranges → All ends_in_byte ranges → IsNodeOf patterns (ranges_node ranges)
 ranges_of_node patterns [] rises bytes = tt
-ranges_of_node patterns (range ∷ []) rises bytes = (rises.1, All-head (λ r. r.1 < 256) range [] bytes)
+ranges_of_node patterns (range ∷ []) rises bytes = (rises.1, All-head ends_in_byte range [] bytes)
 ranges_of_node patterns (range ∷ other ∷ others) rises bytes = (rises, bytes)
 
 ways_of_node : (patterns : ℕ) (names : List ℕ) → IsNodeOf patterns (ways_node names)
@@ -149,7 +160,7 @@ ways_of_node patterns (first ∷ second ∷ third ∷ others) = tt
 node_of_part : (name : ℕ → ℕ) (groups : Groups) (patterns : ℕ) (part : Part) → IsPartOf patterns part → IsNodeOf patterns (renamed name groups part)
 node_of_part name groups patterns (empty_part next) good = tt
 node_of_part name groups patterns (range_part low high next) good = good
-node_of_part name groups patterns (sparse_part ranges) good = ranges_of_node patterns (map (λ r. (r.0, r.1, name r.2)) ranges) (ascends_named name 0 ranges good.0) (bytes_named name ranges good.1)
+node_of_part name groups patterns (sparse_part ranges) good = ranges_of_node patterns (map (range_named name) ranges) (ascends_named name 0 ranges good.0) (bytes_named name ranges good.1)
 node_of_part name groups patterns (look_part look next) good = tt
 node_of_part name groups patterns (capture_start_part pattern group next) good = tt
 node_of_part name groups patterns (capture_end_part pattern group next) good = tt
@@ -169,7 +180,7 @@ sound b x y can reached order =
         (All-weaker (λ part. All (λ q. q < length b.parts) (names_of part)) (λ part. All (λ q. q < length nodes) (leads_to (renamed name b.groups part)))
         (leads_inside (length b.parts) (length nodes) name inside b.groups) (kept b.parts)
         (All-filter is_kept (λ part. All (λ q. q < length b.parts) (names_of part)) b.parts can.named)) in
-    let count : pattern_count b ≡ length b.starts = ap (λ open. if open then length b.starts + 1 else length b.starts) can.closed in
+    let count : pattern_count b ≡ length b.starts = ap (λ is_open. if is_open then length b.starts + 1 else length b.starts) can.closed in
     let starts : length (map name b.starts) ≡ length b.starts = length-map b.starts name in
     let few : length (kept b.parts) ≤ length b.parts = (let e = length-filter is_kept b.parts in let h = count_by-le-length is_kept b.parts in omega (arith, e, h)) in
     let good : All (IsPartOf (length (map name b.starts))) b.parts = subst (λ (k : ℕ). All (IsPartOf k) b.parts) (count ∙ sym starts) order.parts_of in
@@ -198,3 +209,27 @@ same_nfa b x y names states starts can naming all_states all_starts = (
   naming.right x can.anchored_there,
   naming.right y can.unanchored_there,
 )
+
+-- the NFA of these parts
+abbrev pub nfa_with : List Node → ℕ → ℕ → List ℕ → Groups → Bool → Bool → Terminator → Nfa
+nfa_with states anchored unanchored starts groups utf8 reverse terminator = record {
+  automaton = record { states = states; start_anchored = anchored; start_unanchored = unanchored; start_pattern = starts; reverse = reverse };
+  groups = groups;
+  utf8 = utf8;
+  terminator = terminator;
+}
+
+pub nfa_made : (b : Assembly) (x y anchored unanchored : ℕ) (names : List ℕ) (states : List Node) (starts : List ℕ) (groups : Groups) (utf8 reverse : Bool) (t : Terminator) → CanBuild b x y → IsNaming b.parts names →
+    states ≡ map (renamed (name_in names) b.groups) (kept b.parts) → starts ≡ map (name_in names) b.starts → anchored ≡ name_in names x → unanchored ≡ name_in names y →
+    groups ≡ b.groups → utf8 ≡ b.utf8 → reverse ≡ b.reverse → t ≡ b.terminator → nfa_with states anchored unanchored starts groups utf8 reverse t ≡ nfa_of b x y
+nfa_made b x y anchored unanchored names states starts groups utf8 reverse t can naming all_states all_starts a u g f r e =
+    let h = same_nfa b x y names states starts can naming all_states all_starts in
+    let target = automaton_of b x y in
+    ap (λ s. nfa_with s anchored unanchored starts groups utf8 reverse t) h.0
+    ∙ ap (λ s. nfa_with target.states s unanchored starts groups utf8 reverse t) (a ∙ h.2)
+    ∙ ap (λ s. nfa_with target.states target.start_anchored s starts groups utf8 reverse t) (u ∙ h.3)
+    ∙ ap (λ s. nfa_with target.states target.start_anchored target.start_unanchored s groups utf8 reverse t) h.1
+    ∙ ap (λ s. nfa_with target.states target.start_anchored target.start_unanchored target.start_pattern s utf8 reverse t) g
+    ∙ ap (λ s. nfa_with target.states target.start_anchored target.start_unanchored target.start_pattern b.groups s reverse t) f
+    ∙ ap (λ s. nfa_with target.states target.start_anchored target.start_unanchored target.start_pattern b.groups b.utf8 s t) r
+    ∙ ap (λ s. nfa_with target.states target.start_anchored target.start_unanchored target.start_pattern b.groups b.utf8 b.reverse s) e

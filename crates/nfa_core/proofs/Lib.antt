@@ -28,3 +28,4 @@ pub mod PastLemmas
 pub mod NamingLemmas
 pub mod KeptStateLemmas
 pub mod BuildLemmas
+pub mod ReachLemmas

@@ -57,11 +57,12 @@ past_next parts q next reached inside e = (step_at parts (length parts) q next i
 pub steps_fall : (parts : List Part) (q next : ℕ) → IsReached parts → q < length parts → stands_for (part_at parts q) ≡ Some next → steps_from parts q ≡ suc (steps_from parts next)
 steps_fall parts q next reached inside e = (step_at parts (length parts) q next inside e (reached.ends q inside)).1
 
+pub past_self_within : (parts : List Part) (n q : ℕ) → stands_for (part_at parts q) ≡ None → past_within parts n q ≡ q
+past_self_within parts zero q e = refl
+past_self_within parts (suc n) q e = ap (going_on q (past_within parts n)) e
+
 pub past_self : (parts : List Part) (q : ℕ) → stands_for (part_at parts q) ≡ None → past parts q ≡ q
-past_self parts q e = past_self_at (length parts) where
-  past_self_at : (n : ℕ) → past_within parts n q ≡ q
-  past_self_at zero = refl
-  past_self_at (suc n) = ap (going_on q (past_within parts n)) e
+past_self parts q e = past_self_within parts (length parts) q e
 
 -- a state that is told of after another is another one, if it is nearer to its end
 settled_other : (table : List (Option ℕ)) (at q : ℕ) (p : ℕ) → q ≢ at → is_settled table q ≡ false → is_settled (set table at (Some p)) q ≡ false
