@@ -1,16 +1,14 @@
 -- The automaton that is built keeps to what every NFA keeps to, and it makes no difference which table gives its names.
-use Rattle.std.proofs.Common.{◌≡◌, ℕ, zero, suc, ◌+◌, ◌<◌, ◌≤◌, false, true, Bool, List, [], ◌∷◌, ◌++◌, length, map, take, get_or, Option, Some, None, refl, sym, ap, ◌∙◌, arith, subst, ⊎_elim, if◌then◌else◌}
-use Rattle.std.specs.Prelude.{is_some, is_none, unwrap_or, All, reverse, cond}
+use Rattle.std.proofs.Common.{◌≡◌, ℕ, ◌+◌, ◌<◌, ◌≤◌, true, Bool, List, [], ◌∷◌, length, map, take, get_or, Option, None, refl, sym, ap, ◌∙◌, arith, subst, ⊎_elim, if◌then◌else◌}
+use Rattle.std.specs.Prelude.{is_none, All, reverse, cond}
 use Rattle.std.specs.Bool.{nat_eq}
-use Rattle.std.specs.List.{filter, count_by}
-use Rattle.std.proofs.lemmas.List.{length-map, get_or-map, get_or_past, reverse-append}
+use Rattle.std.proofs.lemmas.List.{length-map, get_or_past, reverse-append}
 use Rattle.std.proofs.lemmas.List.Elements.{All-get_or, All-head, All-tail, All-map, All-filter, All-cons, All-weaker, All-push}
 use Rattle.std.proofs.lemmas.List.Sums.{length-filter, sum_by-take-le, count_by-le-length}
 use Rattle.std.proofs.lemmas.Bool.Decides.{leb_tells}
-use Rattle.search_core.specs.Index.{greatest_index}
 use Rattle.search_types.specs.Groups.{Groups}
 use Rattle.nfa_core.specs.Walks.{Has}
-use Rattle.nfa_core.specs.Nfa.{Node, byte_range, sparse_node, look_node, union_node, binary_union, capture_node, fail_node, match_node, Automaton, node_at, leads_to, IsWellFormed}
+use Rattle.nfa_core.specs.Nfa.{Node, byte_range, look_node, fail_node, leads_to}
 use Rattle.nfa_core.specs.NfaValue.{Nfa, IsNodeOf, IsSound}
 use Rattle.nfa_core.specs.NfaOf.{nfa_of}
 use Rattle.look_core.specs.Terminators.{Terminator}
@@ -177,9 +175,9 @@ sound b x y can reached order =
     let len : length nodes ≡ length (kept b.parts) = length-map (kept b.parts) (renamed name b.groups) in
     let inside : (q : ℕ) → q < length b.parts → name q < length nodes = λ q below. (let h = name_inside b.parts q reached below in omega (arith, h, len)) in
     let named : All (λ node. All (λ q. q < length nodes) (leads_to node)) nodes = All-map (λ node. All (λ q. q < length nodes) (leads_to node)) (renamed name b.groups) (kept b.parts)
-        (All-weaker (λ part. All (λ q. q < length b.parts) (names_of part)) (λ part. All (λ q. q < length nodes) (leads_to (renamed name b.groups part)))
-        (leads_inside (length b.parts) (length nodes) name inside b.groups) (kept b.parts)
-        (All-filter is_kept (λ part. All (λ q. q < length b.parts) (names_of part)) b.parts can.named)) in
+    (All-weaker (λ part. All (λ q. q < length b.parts) (names_of part)) (λ part. All (λ q. q < length nodes) (leads_to (renamed name b.groups part)))
+    (leads_inside (length b.parts) (length nodes) name inside b.groups) (kept b.parts)
+    (All-filter is_kept (λ part. All (λ q. q < length b.parts) (names_of part)) b.parts can.named)) in
     let count : pattern_count b ≡ length b.starts = ap (λ is_open. if is_open then length b.starts + 1 else length b.starts) can.closed in
     let starts : length (map name b.starts) ≡ length b.starts = length-map b.starts name in
     let few : length (kept b.parts) ≤ length b.parts = (let e = length-filter is_kept b.parts in let h = count_by-le-length is_kept b.parts in omega (arith, e, h)) in

@@ -1,9 +1,9 @@
 -- The states of an automaton, made one by one of a builder's states.
-use Rattle.std.proofs.Common.{◌≡◌, ℕ, ◌+◌, ◌<◌, ◌≤◌, false, true, Bool, List, [], ◌∷◌, ◌++◌, length, map, take, get_or, Option, Some, None, refl, sym, ap, ◌∙◌, arith, inr, subst}
+use Rattle.std.proofs.Common.{◌≡◌, ℕ, ◌+◌, ◌<◌, ◌≤◌, false, true, List, [], ◌∷◌, ◌++◌, length, map, take, get_or, Option, Some, None, refl, sym, ap, ◌∙◌, arith, inr, subst}
 use Rattle.std.proofs.lemmas.List.{reverse-append}
 use Rattle.std.specs.Prelude.{reverse, is_some, is_none, unwrap_or, All}
 use Rattle.std.proofs.lemmas.List.{length-map, get_or-map, take_more, map-append, append-nil}
-use Rattle.std.proofs.lemmas.List.Elements.{filter-append, All-get_or}
+use Rattle.std.proofs.lemmas.List.Elements.{filter-append}
 use Rattle.search_core.specs.Index.{greatest_index}
 use Rattle.search_types.specs.Groups.{Groups, slot, slot_len}
 use Rattle.search_types.proofs.GroupLaws.{slot_in_range}

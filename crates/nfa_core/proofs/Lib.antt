@@ -29,3 +29,4 @@ pub mod NamingLemmas
 pub mod KeptStateLemmas
 pub mod BuildLemmas
 pub mod ReachLemmas
+pub mod SizeLemmas

@@ -1,12 +1,11 @@
 -- The names that states get: how many states are kept before the one past them.
-use Rattle.std.proofs.Common.{◌≡◌, ◌≢◌, ℕ, zero, suc, ◌+◌, ◌<◌, ◌≤◌, false, true, Bool, List, [], ◌∷◌, ◌++◌, length, map, take, get_or, Option, Some, None, refl, sym, ap, ◌∙◌, arith, length-append, ⊎_elim, inl}
-use Rattle.std.specs.Prelude.{is_some, is_none, unwrap_or, All}
-use Rattle.std.specs.List.{filter}
+use Rattle.std.proofs.Common.{◌≡◌, ◌≢◌, ℕ, zero, suc, ◌+◌, ◌<◌, ◌≤◌, true, Bool, List, [], ◌∷◌, ◌++◌, length, map, take, get_or, Option, Some, None, refl, sym, ap, ◌∙◌, arith, length-append, ⊎_elim, inl}
+use Rattle.std.specs.Prelude.{is_none, unwrap_or}
 use Rattle.std.proofs.lemmas.List.{length-map, get_or-map, take_more, get_or_push, get_or_append_left}
 use Rattle.std.proofs.lemmas.Bool.{cases_eq}
 use Rattle.std.proofs.lemmas.List.Elements.{filter-append}
 use Rattle.nfa_core.specs.BuilderStates.{Part, part_at, fail_part}
-use Rattle.nfa_core.specs.Renaming.{stands_for, past_within, going_on, past, kept, new_name}
+use Rattle.nfa_core.specs.Renaming.{stands_for, past_within, going_on, past, kept}
 use Rattle.nfa_core.specs.Pasts.{IsReached, IsPastTable, is_settled, IsNaming, IsRanking, name_in}
 use Rattle.nfa_core.proofs.PastLemmas.{known_end}
 

@@ -1,6 +1,6 @@
 -- Where states that stand for others make no loop, there are no more steps to a state that stands for itself than there are
 -- states: else one would be met twice.
-use Rattle.std.proofs.Common.{◌≡◌, ℕ, zero, suc, ◌<◌, ◌≤◌, false, List, [], ◌∷◌, length, Option, Some, None, refl, sym, ap, ◌∙◌, arith, ⊎_elim, subst}
+use Rattle.std.proofs.Common.{◌≡◌, ℕ, zero, suc, ◌<◌, ◌≤◌, List, [], ◌∷◌, length, Option, Some, None, refl, sym, ap, ◌∙◌, arith, ⊎_elim, subst}
 use Rattle.std.specs.Prelude.{All}
 use Rattle.std.specs.Bool.{nat_eq}
 use Rattle.std.proofs.lemmas.List.Elements.{All-get_or, All-head}
@@ -106,5 +106,5 @@ module _ (parts : List Part) where
 pub can_reach : (b : Assembly) (x y : ℕ) → CanBuild b x y → IsReached b.parts
 can_reach b x y can =
     let stays = λ (q next : ℕ) (inside : q < length b.parts) (e : stands_for (part_at b.parts q) ≡ Some next). named_next (length b.parts) (part_at b.parts q) next e
-        (All-get_or (λ part. All (λ q. q < length b.parts) (names_of part)) b.parts q fail_part inside can.named) in
+    (All-get_or (λ part. All (λ q. q < length b.parts) (names_of part)) b.parts q fail_part inside can.named) in
     record { ends = reached b.parts stays can.no_loop; stays = stays }

@@ -67,7 +67,7 @@ AddsGroupEnd old new result pattern index part = MatchResult result
 abbrev pub AddsGroup : Assembly → Assembly → Result ℕ BuildError → ℕ → ℕ → Option Name → Part → Type 0
 AddsGroup old new result pattern index name part = MatchResult result
     (λ id. (id ≡ length old.parts) × (new ≡ record (with_part old part) { groups = with_group old.groups pattern index name })
-        × (option_or (index_fault pattern index) (add_fault old part) ≡ None))
+    × (option_or (index_fault pattern index) (add_fault old part) ≡ None))
     (λ e. (new ≡ record old { groups = new.groups }) × ((e ≡ error.NoMemory) ⊎ Tells e (option_or (index_fault pattern index) (add_fault old part))))
 
 -- what refuses to build: groups that break a rule

@@ -1,11 +1,11 @@
-ghost use Rattle.std.specs.Prelude.{◌≡◌, ◌⊎◌, ◌+◌, ◌*◌, ◌≤◌, length, None, IfOk, MatchResult};
+ghost use Rattle.std.specs.Prelude.{◌≡◌, ◌⊎◌, ◌+◌, ◌*◌, ◌≤◌, length, None, IfOk, MatchOption, MatchResult, ⊤};
 ghost use Rattle.search_types.specs.GroupFaults.{groups_in, group_fault};
 ghost use Rattle.nfa_core.specs.declared.build_error.BuildError.TheVariants.{NoMemory};
 ghost use Rattle.nfa_core.specs.BuilderFaults.{Tells, groups_fault, build_fault};
 ghost use Rattle.nfa_core.specs.CanBuild.{CanBuild};
 ghost use Rattle.nfa_core.specs.NfaOf.{nfa_of};
 ghost use Rattle.nfa_core.specs.NfaParts.{automaton_in, nfa_in};
-ghost use Rattle.nfa_core.specs.NfaValue.{IsSound};
+ghost use Rattle.nfa_core.specs.NfaValue.{IsSound, memory_of};
 
 use crate::build_error::BuildError;
 use crate::builder::Builder;
@@ -22,7 +22,8 @@ use std::sync::ledger::Ledger;
 impl Builder {
     /// The automaton of the states, which starts in one of these for an anchored search and in the other for
     /// one that isn't. Empty states and unions of one way are left out, and what led to one of them leads to
-    /// the first state past it that is neither. Groups that break a rule are refused, or memory lacks.
+    /// the first state past it that is neither. Groups that break a rule are refused; want of memory may be told
+    /// before. The automaton keeps to the builder's size limit.
     ///
     /// A move is one way that is followed past a state that is left out; there are two for each state at most.
     pub fn build<L: Ledger>(
@@ -35,6 +36,7 @@ impl Builder {
         requires { CanBuild self.now start_anchored start_unanchored }
         ensures value { MatchResult result (λ n. (n ≡ nfa_of self.now start_anchored start_unanchored) × (build_fault self.now ≡ None))
             (λ e. (e ≡ NoMemory) ⊎ Tells e (build_fault self.now)) }
+        ensures within { IfOk result (λ n. MatchOption self.now.size_limit ⊤ (λ most. memory_of n.automaton.states ≤ most)) }
         ensures moves { steps.new ≤ steps.old + 2 * length self.now.parts }
     {
         let group_info = take_groups(alloc, &self.groups)?;

@@ -1,4 +1,4 @@
-use Rattle.std.proofs.Common.{◌≡◌, ◌<◌, length, List, map, subst, sym, ap, ◌∙◌, rules, ℕ}
+use Rattle.std.proofs.Common.{◌<◌, length, List, map, subst, sym, ap, ◌∙◌}
 use Rattle.std.specs.Prelude.{All, reverse}
 use Rattle.nfa_core.specs.CanBuild.{names_of}
 use Rattle.nfa_core.specs.Drafts.{part_of}
@@ -13,7 +13,7 @@ use Rattle.nfa_core.proofs.kept_states.kept_state.Goals as goal
 pub rename_ranges-requires : goal.rename_ranges-requires
 rename_ranges-requires c =
     let named : All (λ q. q < length c.args.names.now) (map (λ r. r.2) (map range_of c.in-Sparse.transitions.items)) =
-        subst (λ (d : Draft). All (λ q. q < length c.args.names.now) (names_of (part_of d))) c.in-Sparse.is c.requires.named in
+    subst (λ (d : Draft). All (λ q. q < length c.args.names.now) (names_of (part_of d))) c.in-Sparse.is c.requires.named in
     subst (λ (ts : List Transition). All (λ t. t.next < length c.args.names.now) ts) (sym c.deref.ensures.value)
     (all_of_map (λ r. r.2 < length c.args.names.now) range_of c.in-Sparse.transitions.items (all_of_map (λ q. q < length c.args.names.now) (λ r. r.2) (map range_of c.in-Sparse.transitions.items) named))
 

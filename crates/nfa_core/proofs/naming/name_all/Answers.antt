@@ -1,5 +1,4 @@
-use Rattle.std.proofs.Common.{◌≡◌, ◌<◌, length, map, List, ℕ, None, get_or, subst, sym, arith}
-use Rattle.std.specs.Prelude.{unwrap_or}
+use Rattle.std.proofs.Common.{◌<◌, length, map, List, ℕ, subst, sym, arith}
 use Rattle.std.proofs.lemmas.List.{length-map}
 use Rattle.nfa_core.specs.Drafts.{part_of}
 use Rattle.nfa_core.specs.Pasts.{IsRanking}

@@ -1,15 +1,12 @@
 use Rattle.std.proofs.Common.{◌≡◌, List, ℕ, map, subst, sym, ap, ◌∙◌, rules}
-use Rattle.look_core.specs.Terminators.{Terminator}
 use Rattle.search_types.specs.Groups.{Groups}
 use Rattle.nfa_core.specs.BuilderStates.{Assembly, Part, pattern_count}
 use Rattle.nfa_core.specs.Drafts.{part_of}
 use Rattle.nfa_core.specs.InOrder.{IsInOrder}
 use Rattle.nfa_core.specs.Nfa.{Automaton}
-use Rattle.nfa_core.specs.NfaOf.{nfa_of}
-use Rattle.nfa_core.specs.NfaParts.{nfa_in}
 use Rattle.nfa_core.specs.NfaValue.{Nfa, IsSound}
 use Rattle.nfa_core.specs.Pasts.{IsReached, IsNaming, name_in}
-use Rattle.nfa_core.specs.Renaming.{kept, renamed, automaton_of}
+use Rattle.nfa_core.specs.Renaming.{kept, renamed}
 use Rattle.nfa_core.specs.States.{node_of}
 use Rattle.nfa_core.specs.declared.draft.Draft.{Draft}
 use Rattle.nfa_core.proofs.BuildLemmas.{sound, nfa_made}
@@ -28,13 +25,13 @@ returns-clause-value g c =
     let seen : map part_of c.self.inside.drafts.items ≡ b.parts = ap (λ (b : Assembly). b.parts) c.self.view_is in
     let naming : IsNaming b.parts names = subst (λ (parts : List Part). IsNaming parts names) (ap (map part_of) c.deref.ensures.value ∙ seen) c.in_ok-names.ensures.names in
     let states : map node_of c.in_ok-states.states.items ≡ map (renamed (name_in names) b.groups) (kept b.parts) =
-        c.in_ok-states.ensures ∙ ap (λ (ns : List ℕ). map (renamed (name_in ns) c.args.group_info) (kept (map part_of c.deref-3.result.now))) c.deref-2.ensures.value
-        ∙ ap (λ (ds : List Draft). map (renamed (name_in names) c.args.group_info) (kept (map part_of ds))) c.deref-3.ensures.value
-        ∙ ap (λ (parts : List Part). map (renamed (name_in names) c.args.group_info) (kept parts)) seen
-        ∙ ap (λ (gs : Groups). map (renamed (name_in names) gs) (kept b.parts)) c.requires.groups in
+    c.in_ok-states.ensures ∙ ap (λ (ns : List ℕ). map (renamed (name_in ns) c.args.group_info) (kept (map part_of c.deref-3.result.now))) c.deref-2.ensures.value
+    ∙ ap (λ (ds : List Draft). map (renamed (name_in names) c.args.group_info) (kept (map part_of ds))) c.deref-3.ensures.value
+    ∙ ap (λ (parts : List Part). map (renamed (name_in names) c.args.group_info) (kept parts)) seen
+    ∙ ap (λ (gs : Groups). map (renamed (name_in names) gs) (kept b.parts)) c.requires.groups in
     let starts : c.in_ok-start_pattern.start_pattern.items ≡ map (name_in names) b.starts =
-        c.in_ok-start_pattern.ensures ∙ ap (λ (ns : List ℕ). map (name_in ns) c.deref-5.result.now) c.deref-4.ensures.value
-        ∙ ap (map (name_in names)) (c.deref-5.ensures.value ∙ ap (λ (b : Assembly). b.starts) c.self.view_is) in
+    c.in_ok-start_pattern.ensures ∙ ap (λ (ns : List ℕ). map (name_in ns) c.deref-5.result.now) c.deref-4.ensures.value
+    ∙ ap (map (name_in names)) (c.deref-5.ensures.value ∙ ap (λ (b : Assembly). b.starts) c.self.view_is) in
     nfa_made b c.args.start_anchored c.args.start_unanchored c.rename-anchored.result c.rename-unanchored.result names (map node_of c.in_ok-states.states.items)
     c.in_ok-start_pattern.start_pattern.items c.group_info.inside.patterns.items c.self.inside.utf8 c.self.inside.reverse c.in_ok-clone.field-0.terminator
     c.requires.can naming states starts (c.rename-anchored.ensures ∙ ap (λ (ns : List ℕ). name_in ns c.args.start_anchored) c.deref-6.ensures.value)
