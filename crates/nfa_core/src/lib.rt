@@ -5,7 +5,8 @@
 //! their preference in `Runs.antt`, walks in `Walks.antt`, lists of states by place in `Places.antt`. Their
 //! laws are public functions without code in [`run_laws`], [`place_laws`] and [`walk_laws`]. What a builder
 //! holds is in `BuilderStates.antt`, why it refuses in `BuilderFaults.antt`, and the automaton that its states
-//! stand for in `Renaming.antt`, with a law in [`builder_laws`].
+//! stand for in `Renaming.antt`, with laws in [`builder_laws`] and [`builder_size_laws`]. What is asked before
+//! it is built is in `CanBuild.antt`, and what is built in `NfaOf.antt`.
 #![tactic(auto)]
 
 mod build_error;
