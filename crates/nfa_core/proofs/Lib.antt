@@ -40,3 +40,8 @@ pub mod ToldLemmas
 pub mod ReachLawLemmas
 pub mod ClassLemmas
 pub mod LookedLemmas
+pub mod NamingLemmas
+pub mod KeptStateLemmas
+pub mod BuildLemmas
+pub mod ReachLemmas
+pub mod SizeLemmas

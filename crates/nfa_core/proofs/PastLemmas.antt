@@ -1,7 +1,6 @@
 -- What states lead past to, and how far it is: each state that stands for another is one step further than that one.
-use Rattle.std.proofs.Common.{◌≡◌, ◌≢◌, ℕ, zero, suc, ◌+◌, ◌<◌, ◌≤◌, false, true, Bool, List, [], ◌∷◌, length, set, get_or, Option, Some, None, refl, sym, ap, ◌∙◌, arith, get_or-set_other, get_or-set_same, ⊎_elim, subst, ◌⊎◌}
+use Rattle.std.proofs.Common.{◌≡◌, ◌≢◌, ℕ, zero, suc, ◌+◌, ◌<◌, ◌≤◌, false, true, List, length, set, get_or, Option, Some, None, refl, sym, ap, ◌∙◌, arith, get_or-set_other, get_or-set_same, ⊎_elim, subst}
 use Rattle.std.specs.Prelude.{is_some, cond}
-use Rattle.std.specs.List.{count_by}
 use Rattle.std.specs.Option.{unwrap_or}
 use Rattle.std.proofs.lemmas.Bool.{cases_eq}
 use Rattle.std.proofs.lemmas.List.{length-set}
@@ -57,11 +56,12 @@ past_next parts q next reached inside e = (step_at parts (length parts) q next i
 pub steps_fall : (parts : List Part) (q next : ℕ) → IsReached parts → q < length parts → stands_for (part_at parts q) ≡ Some next → steps_from parts q ≡ suc (steps_from parts next)
 steps_fall parts q next reached inside e = (step_at parts (length parts) q next inside e (reached.ends q inside)).1
 
+pub past_self_within : (parts : List Part) (n q : ℕ) → stands_for (part_at parts q) ≡ None → past_within parts n q ≡ q
+past_self_within parts zero q e = refl
+past_self_within parts (suc n) q e = ap (going_on q (past_within parts n)) e
+
 pub past_self : (parts : List Part) (q : ℕ) → stands_for (part_at parts q) ≡ None → past parts q ≡ q
-past_self parts q e = past_self_at (length parts) where
-  past_self_at : (n : ℕ) → past_within parts n q ≡ q
-  past_self_at zero = refl
-  past_self_at (suc n) = ap (going_on q (past_within parts n)) e
+past_self parts q e = past_self_within parts (length parts) q e
 
 -- a state that is told of after another is another one, if it is nearer to its end
 settled_other : (table : List (Option ℕ)) (at q : ℕ) (p : ℕ) → q ≢ at → is_settled table q ≡ false → is_settled (set table at (Some p)) q ≡ false
@@ -72,9 +72,10 @@ open_other : (parts : List Part) (table : List (Option ℕ)) (n q at p : ℕ) �
 open_other parts table zero q at p reached inside nearer opened = tt
 open_other parts table (suc n) q at p reached inside nearer opened =
     let falls = steps_fall parts q opened.1.0 reached inside opened.1.1 in
-    let other : q ≢ at = λ (same : q ≡ at). absurd (omega (arith, nearer, ap (steps_from parts) same)) in
-    (settled_other table at q p other opened.0,
-      (opened.1.0, opened.1.1, open_other parts table n opened.1.0 at p reached (reached.stays q opened.1.0 inside opened.1.1) (omega (arith, nearer, falls)) opened.1.2))
+    let other : q ≢ at = λ (same : q ≡ at). absurd (omega (arith, nearer, ap (steps_from parts) same)) in (
+      settled_other table at q p other opened.0,
+      (opened.1.0, opened.1.1, open_other parts table n opened.1.0 at p reached (reached.stays q opened.1.0 inside opened.1.1) (omega (arith, nearer, falls)) opened.1.2),
+    )
 
 -- the states behind the first are still open where the first is told of
 pub open_behind : (parts : List Part) (table : List (Option ℕ)) (n q next p : ℕ) → IsReached parts → q < length parts → stands_for (part_at parts q) ≡ Some next →

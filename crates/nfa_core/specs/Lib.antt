@@ -20,3 +20,5 @@ pub mod InOrder
 pub mod Pasts
 pub mod NfaParts
 pub mod Reached
+pub mod NfaOf
+pub mod NfaParts

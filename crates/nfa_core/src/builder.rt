@@ -23,9 +23,9 @@ pub struct Builder {
     /// The names of each pattern's groups.
     pub(crate) groups: Vec<Vec<Option<String>>>,
     pub(crate) is_open: bool,
-    utf8: bool,
-    reverse: bool,
-    look_matcher: LookMatcher<AsciiWord>,
+    pub(crate) utf8: bool,
+    pub(crate) reverse: bool,
+    pub(crate) look_matcher: LookMatcher<AsciiWord>,
     pub(crate) size_limit: Option<usize>,
     /// The bytes of all states, or [`usize::MAX`] where that is less.
     pub(crate) memory: usize,

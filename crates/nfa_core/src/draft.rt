@@ -1,6 +1,6 @@
-ghost use Rattle.std.specs.Prelude.{◌≡◌, min, MatchResult};
+ghost use Rattle.std.specs.Prelude.{◌≡◌, ◌≤◌, ◌∷◌, [], length, min, MatchResult};
 ghost use Rattle.nfa_core.specs.BuilderStates.{part_bytes, list_bytes, way_bytes, patched, union_part};
-ghost use Rattle.nfa_core.specs.Renaming.{stands_for};
+ghost use Rattle.nfa_core.specs.Renaming.{stands_for, kept};
 ghost use Rattle.nfa_core.specs.Drafts.{part_of};
 
 use crate::transition::Transition;
@@ -104,6 +104,14 @@ impl Draft {
             Draft::CaptureStart { .. } | Draft::CaptureEnd { .. } => None,
             Draft::Fail | Draft::Match { .. } => None,
         }
+    }
+
+    /// How many states of the automaton it becomes: none where it stands for another, and else one.
+    pub(crate) fn kept_len(&self) -> usize
+        ensures value { result ≡ length (kept (part_of self.now ∷ [])) }
+        ensures most { result ≤ 1 }
+    {
+        if self.stands_for().is_none() { 1 } else { 0 }
     }
 
     /// Lets the state lead to `to`: a union has one more way, and any other state leads there alone.

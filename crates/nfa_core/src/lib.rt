@@ -7,21 +7,28 @@
 //! holds is in `BuilderStates.antt`, why it refuses in `BuilderFaults.antt`, and the automaton that its states
 //! stand for in `Renaming.antt`, with a law in [`builder_laws`]. What an [`NFA`] knows of its automaton is in
 //! `NfaValue.antt`, with laws in [`nfa_laws`].
+//! stand for in `Renaming.antt`, with laws in [`builder_laws`] and [`builder_size_laws`]. What is asked before
+//! it is built is in `CanBuild.antt`, and what is built in `NfaOf.antt`.
 #![tactic(auto)]
 
 mod build_error;
 mod builder;
+mod builder_build;
 mod builder_groups;
 pub mod builder_laws;
 mod builder_patterns;
+pub mod builder_size_laws;
 mod builder_states;
 mod dense_transitions;
 mod draft;
+mod kept_states;
 mod marks;
 mod name_set;
 mod nfa;
 mod nfa_facts;
 pub mod nfa_laws;
+mod naming;
+mod nfa;
 mod nfa_parts;
 mod pair_set;
 mod pasts;

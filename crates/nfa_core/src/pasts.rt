@@ -100,7 +100,14 @@ impl Pasts {
     }
 
     /// Notes where a way from `q` ends for all states that it passed.
-    fn settle_path<L: Ledger>(&mut self, drafts: &[Draft], q: StateID, end: StateID, len: usize, steps: &mut Steps<L>)
+    fn settle_path<L: Ledger>(
+        &mut self,
+        drafts: &[Draft],
+        q: StateID,
+        end: StateID,
+        len: usize,
+        steps: &mut Steps<L>,
+    )
         requires reached { IsReached (map part_of drafts.now) }
         requires table { IsPastTable (map part_of drafts.now) self.old.table.items }
         requires inside { q < length drafts.now }

@@ -1,7 +1,6 @@
-use Rattle.std.proofs.Common.{◌≡◌, ◌<◌, Some, refl, rules}
+use Rattle.std.proofs.Common.{◌<◌, refl, rules}
 use Rattle.search_core.specs.Index.{greatest_index}
 use Rattle.search_types.specs.GroupFaults.{TooManyGroups}
-use Rattle.nfa_core.specs.BuilderFaults.{index_fault, captures_refused}
 use Rattle.nfa_core.proofs.OrderLemmas.{index_refused}
 use Rattle.nfa_core.proofs.builder_groups.checked_index.Goals as goal
 

@@ -1,5 +1,4 @@
 use Rattle.std.proofs.Common.{◌<◌}
-use Rattle.std.specs.Prelude.{All}
 use Rattle.std.proofs.lemmas.List.Elements.{All-map}
 use Rattle.nfa_core.specs.Transitions.{range_of}
 use Rattle.nfa_core.proofs.builder.Builder.add_sparse.Goals as goal

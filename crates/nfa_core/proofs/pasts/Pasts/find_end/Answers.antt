@@ -1,9 +1,8 @@
-use Rattle.std.proofs.Common.{◌≡◌, ◌<◌, ◌≤◌, ◌+◌, suc, map, length, arith, rules, subst, ℕ}
+use Rattle.std.proofs.Common.{◌≡◌, ◌+◌, map, arith, rules, subst, ℕ}
 use Rattle.std.proofs.lemmas.List.{length-map}
-use Rattle.search_core.specs.Index.{greatest_index}
 use Rattle.nfa_core.specs.Drafts.{part_of}
 use Rattle.nfa_core.specs.Pasts.{IsOpen}
-use Rattle.nfa_core.proofs.PastLemmas.{underway_next, underway_start, steps_fall, way_bound}
+use Rattle.nfa_core.proofs.PastLemmas.{underway_next, steps_fall, way_bound}
 use Rattle.nfa_core.proofs.pasts.Pasts.find_end.Goals as goal
 
 pub overflow_add-len : goal.overflow_add-len

@@ -1,4 +1,4 @@
-use Rattle.std.proofs.Common.{◌≡◌, ◌<◌, ◌≤◌, Some, arith, rules, length, set, ap, List, ℕ, Option}
+use Rattle.std.proofs.Common.{◌<◌, arith, length, ap}
 use Rattle.std.proofs.lemmas.List.{length-map}
 use Rattle.nfa_core.specs.Drafts.{part_of}
 use Rattle.nfa_core.specs.Pasts.{settled_count}

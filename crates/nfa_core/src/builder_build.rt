@@ -1,0 +1,91 @@
+ghost use Rattle.std.specs.Prelude.{◌≡◌, ◌⊎◌, ◌+◌, ◌*◌, ◌≤◌, length, None, IfOk, MatchOption, MatchResult, ⊤};
+ghost use Rattle.search_types.specs.GroupFaults.{groups_in, group_fault};
+ghost use Rattle.nfa_core.specs.declared.build_error.BuildError.TheVariants.{NoMemory};
+ghost use Rattle.nfa_core.specs.BuilderFaults.{Tells, groups_fault, build_fault};
+ghost use Rattle.nfa_core.specs.CanBuild.{CanBuild};
+ghost use Rattle.nfa_core.specs.NfaOf.{nfa_of};
+ghost use Rattle.nfa_core.specs.NfaParts.{automaton_in, nfa_in};
+ghost use Rattle.nfa_core.specs.NfaValue.{IsSound, memory_of};
+
+use crate::build_error::BuildError;
+use crate::builder::Builder;
+use crate::kept_states::{kept_states, rename, rename_all};
+use crate::naming::name_all;
+use crate::nfa::NFA;
+use crate::nfa_parts::Parts;
+use crate::steps::Steps;
+use search_core::StateID;
+use search_types::{GroupInfo, GroupInfoError};
+use std::alloc::{AllocError, Global};
+use std::sync::ledger::Ledger;
+
+impl Builder {
+    /// The automaton of the states, which starts in one of these for an anchored search and in the other for
+    /// one that isn't. Empty states and unions of one way are left out, and what led to one of them leads to
+    /// the first state past it that is neither. Groups that break a rule are refused; want of memory may be told
+    /// before. The automaton keeps to the builder's size limit.
+    ///
+    /// A move is one way that is followed past a state that is left out; there are two for each state at most.
+    pub fn build<L: Ledger>(
+        &self,
+        alloc: Global,
+        start_anchored: StateID,
+        start_unanchored: StateID,
+        steps: &mut Steps<L>,
+    ) -> Result<NFA, BuildError>
+        requires { CanBuild self.now start_anchored start_unanchored }
+        ensures value { MatchResult result (λ n. (n ≡ nfa_of self.now start_anchored start_unanchored) × (build_fault self.now ≡ None))
+            (λ e. (e ≡ NoMemory) ⊎ Tells e (build_fault self.now)) }
+        ensures within { IfOk result (λ n. MatchOption self.now.size_limit ⊤ (λ most. memory_of n.automaton.states ≤ most)) }
+        ensures moves { steps.new ≤ steps.old + 2 * length self.now.parts }
+    {
+        let group_info = take_groups(alloc, &self.groups)?;
+        let parts = self.parts(alloc, group_info, start_anchored, start_unanchored, steps)?;
+        let nfa = NFA::from_parts(alloc, parts)?;
+        Ok(nfa)
+    }
+
+    /// The parts of the automaton, where the groups are taken.
+    fn parts<L: Ledger>(
+        &self,
+        alloc: Global,
+        group_info: GroupInfo,
+        start_anchored: StateID,
+        start_unanchored: StateID,
+        steps: &mut Steps<L>,
+    ) -> Result<Parts, AllocError>
+        requires can { CanBuild self.now start_anchored start_unanchored }
+        requires groups { group_info ≡ self.now.groups }
+        ensures value { IfOk result (λ parts. nfa_in parts ≡ nfa_of self.now start_anchored start_unanchored) }
+        ensures sound { IfOk result (λ parts. IsSound (automaton_in parts)) }
+        ensures moves { steps.new ≤ steps.old + 2 * length self.now.parts }
+    {
+        let names = name_all(alloc, &self.drafts, steps)?;
+        let states = kept_states(alloc, &names, &group_info, &self.drafts)?;
+        let start_pattern = rename_all(alloc, &names, &self.starts)?;
+        let anchored = rename(&names, start_anchored);
+        let unanchored = rename(&names, start_unanchored);
+        Ok(Parts {
+            states,
+            start_anchored: anchored,
+            start_unanchored: unanchored,
+            start_pattern,
+            group_info,
+            utf8: self.utf8,
+            reverse: self.reverse,
+            look_matcher: self.look_matcher.clone()?,
+        })
+    }
+}
+
+/// Takes the names of each pattern's groups, where these break no rule.
+fn take_groups(alloc: Global, groups: &[Vec<Option<String>>]) -> Result<GroupInfo, BuildError>
+    ensures { MatchResult result (λ g. (g ≡ groups_in groups.now) × (group_fault (groups_in groups.now) ≡ None))
+        (λ e. (e ≡ NoMemory) ⊎ Tells e (groups_fault (group_fault (groups_in groups.now)))) }
+{
+    match GroupInfo::new(alloc, groups) {
+        Ok(taken) => Ok(taken),
+        Err(GroupInfoError::NoMemory) => Err(BuildError::NoMemory),
+        Err(err) => Err(BuildError::Captures { err }),
+    }
+}
