@@ -21,4 +21,3 @@ pub mod Pasts
 pub mod NfaParts
 pub mod Reached
 pub mod NfaOf
-pub mod NfaParts

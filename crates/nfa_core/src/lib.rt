@@ -5,10 +5,9 @@
 //! their preference in `Runs.antt`, walks in `Walks.antt`, lists of states by place in `Places.antt`. Their
 //! laws are public functions without code in [`run_laws`], [`place_laws`] and [`walk_laws`]. What a builder
 //! holds is in `BuilderStates.antt`, why it refuses in `BuilderFaults.antt`, and the automaton that its states
-//! stand for in `Renaming.antt`, with a law in [`builder_laws`]. What an [`NFA`] knows of its automaton is in
-//! `NfaValue.antt`, with laws in [`nfa_laws`].
 //! stand for in `Renaming.antt`, with laws in [`builder_laws`] and [`builder_size_laws`]. What is asked before
-//! it is built is in `CanBuild.antt`, and what is built in `NfaOf.antt`.
+//! it is built is in `CanBuild.antt`, and what is built in `NfaOf.antt`. What an [`NFA`] knows of its automaton
+//! is in `NfaValue.antt`, with laws in [`nfa_laws`].
 #![tactic(auto)]
 
 mod build_error;
@@ -28,7 +27,6 @@ mod nfa;
 mod nfa_facts;
 pub mod nfa_laws;
 mod naming;
-mod nfa;
 mod nfa_parts;
 mod pair_set;
 mod pasts;
