@@ -1,5 +1,5 @@
 -- One part of a concatenation or an alternation.
-use Rattle.std.proofs.Common.{◌≡◌, ℕ, zero, suc, ◌+◌, ◌<◌, ◌≤◌, List, [], ◌∷◌, length, get_or, drop, refl, sym, ap, ◌∙◌, arith, add-one, drop-cons, drop_of_length-le}
+use Rattle.std.proofs.Common.{◌≡◌, ℕ, suc, ◌+◌, ◌<◌, ◌≤◌, List, [], ◌∷◌, length, get_or, drop, refl, sym, ap, ◌∙◌, arith, add-one, drop-cons, drop_of_length-le}
 use Rattle.std.specs.List.{flat_map}
 use Rattle.hir_core.specs.Tree.{Tree, concat, alternation}
 use Rattle.hir_core.specs.Weight.{weight}
