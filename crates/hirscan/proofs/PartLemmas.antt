@@ -1,24 +1,14 @@
 -- One part of a concatenation or an alternation.
-use Rattle.std.proofs.Common.{◌≡◌, ℕ, zero, suc, ◌+◌, ◌<◌, ◌≤◌, List, [], ◌∷◌, length, get_or, drop, refl, sym, ap, ◌∙◌, arith, add-one, drop-cons, drop_of_length-le}
+use Rattle.std.proofs.Common.{◌≡◌, ℕ, suc, ◌+◌, ◌<◌, ◌≤◌, List, [], ◌∷◌, length, get_or, drop, refl, sym, ap, ◌∙◌, arith, add-one, drop-cons, drop_of_length-le}
 use Rattle.std.specs.List.{flat_map}
 use Rattle.hir_core.specs.Tree.{Tree, concat, alternation}
 use Rattle.hir_core.specs.Weight.{weight}
 use Rattle.hirscan.specs.PlainEnds.{plain_ends}
 use Rattle.hir_core.proofs.HasLemmas.{flat_map-flat_map}
-
-pub weight_in_concat : (xs : List Tree) (i : ℕ) (d : Tree) → i < length xs → weight (get_or xs i d) < weight (concat xs)
-weight_in_concat [] i d l = absurd (omega arith)
-weight_in_concat (x ∷ xs) zero d l = omega arith
-weight_in_concat (x ∷ xs) (suc i) d l = omega (arith, weight_in_concat xs i d (omega arith))
+use Rattle.hir_core.proofs.PartLemmas.{weight_in_concat, weight_of_either}
 
 pub weight_in_alternation : (xs : List Tree) (i : ℕ) (d : Tree) → i < length xs → weight (get_or xs i d) < weight (alternation xs)
-weight_in_alternation [] i d l = absurd (omega arith)
-weight_in_alternation (x ∷ xs) zero d l = omega arith
-weight_in_alternation (x ∷ xs) (suc i) d l = omega (arith, weight_in_alternation xs i d (omega arith))
-
-pub weight_of_either : (xs : List Tree) → weight (alternation xs) ≡ weight (concat xs)
-weight_of_either [] = refl
-weight_of_either (x ∷ xs) = omega (arith, weight_of_either xs)
+weight_in_alternation xs i d l = omega (arith, weight_in_concat xs i d l, weight_of_either xs)
 
 -- the list from i on begins with its element there
 pub rest_at : (xs : List Tree) (i : ℕ) (x : Tree) → i < length xs → x ≡ get_or xs i x → drop i xs ≡ x ∷ drop (i + 1) xs

@@ -25,6 +25,7 @@ pub fn answers_over_trees_stay_within()
     ensures { (q : Query) → AnswersWithin (answer_from q) q.end }
 {}
 
+/// In the list of all answers each end is above the one before, and each span stands between the start
 /// and the end.
 #[tactic(auto, using(crate::proofs::AllAnswersLemmas::ends_rise, crate::proofs::AllAnswersLemmas::spans_within))]
 pub fn ends_rise()

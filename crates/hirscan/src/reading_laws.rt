@@ -8,7 +8,8 @@ ghost use Rattle.hirscan.specs.Takes.{Standing, Takes, EndsHead};
 ghost use Rattle.hirscan.specs.LineFault.{fault};
 ghost use Rattle.hirscan.specs.Reads.{Reads, IsFaultAt};
 
-/// none.
+/// A line without a fault has a rule that takes it or ends the head; a line with such a rule
+/// has none.
 #[tactic(auto, using(crate::proofs::EffectLemmas::taken_or_ends, crate::proofs::EffectLemmas::ends_no_fault))]
 pub fn lines_without_a_fault_have_a_rule()
     ensures ruled { (ws : List (List ℕ)) (p : Standing) → fault ws p ≡ None → ((q : Standing) × Takes ws p q) ⊎ EndsHead ws p }

@@ -3,18 +3,31 @@
 //! which standard error tells in one line. Arguments are ignored.
 #![tactic(auto)]
 
-use hirscan::{Ending, run};
+ghost use Rattle.std.specs.Prelude.{◌≡◌, Ok, IsErr};
+ghost use Rattle.hirscan.specs.declared.program.Ending.TheVariants.{Listed, Refused};
+
+use hirscan::{Ending, RunError, run};
 use std::process::ExitCode;
+
+/// The status with which the program ends.
+fn status(ended: Result<Ending, RunError>) -> u8
+    ensures listed { ended ≡ Ok Listed → result ≡ 0 }
+    ensures refused { ended ≡ Ok Refused → result ≡ 1 }
+    ensures fault { IsErr ended → result ≡ 2 }
+{
+    match ended {
+        Ok(Ending::Listed) => 0,
+        Ok(Ending::Refused) => 1,
+        Err(_) => 2,
+    }
+}
 
 fn main(rt: HostRuntime) -> ExitCode {
     let mut reader = rt.stdin();
     let mut writer = rt.stdout();
-    match run(rt.alloc(), &mut reader, &mut writer) {
-        Ok(Ending::Listed) => ExitCode::SUCCESS,
-        Ok(Ending::Refused) => ExitCode::from(1),
-        Err(fault) => {
-            let _ = eprintln!(rt; "hirscan: {fault}");
-            ExitCode::from(2)
-        }
+    let ended = run(rt.alloc(), &mut reader, &mut writer);
+    if let Err(fault) = ended {
+        let _ = eprintln!(rt; "hirscan: {fault}");
     }
+    ExitCode::from(status(ended))
 }

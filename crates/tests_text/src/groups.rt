@@ -16,7 +16,7 @@ fn names(alloc: Global, texts: &[Option<&str>]) -> Result<Vec<Option<String>>, A
 }
 
 /// Two patterns: one with a group of its own that is called `a`, and one without.
-fn a_and_none(alloc: Global) -> Result<GroupInfo, GroupInfoError> {
+pub(crate) fn a_and_none(alloc: Global) -> Result<GroupInfo, GroupInfoError> {
     let groups = vec![in alloc; names(alloc, &[None, Some("a")])?, names(alloc, &[None])?]?;
     GroupInfo::new(alloc, &groups)
 }
