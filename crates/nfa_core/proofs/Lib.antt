@@ -45,3 +45,4 @@ pub mod KeptStateLemmas
 pub mod BuildLemmas
 pub mod ReachLemmas
 pub mod SizeLemmas
+pub mod CheckLemmas

@@ -21,3 +21,4 @@ pub mod Pasts
 pub mod NfaParts
 pub mod Reached
 pub mod NfaOf
+pub mod Checks

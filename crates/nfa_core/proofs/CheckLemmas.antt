@@ -1,0 +1,104 @@
+-- What is tested of a builder is what is asked of it before an automaton is built.
+use Rattle.std.proofs.Common.{◌≡◌, ℕ, zero, suc, ◌<◌, ◌≤◌, Bool, true, false, List, map, length, get_or, refl, sym, ap, ◌∙◌, arith, [], ◌∷◌, Option, Some, None}
+use Rattle.std.specs.Prelude.{All, nat_lt, not, ◌&&◌, is_some, is_none, Decides, String, string_bytes, Vec, slice_get}
+use Rattle.std.specs.Option.{option_map}
+use Rattle.std.proofs.lemmas.List.{length-map}
+use Rattle.std.specs.List.{list_all}
+use Rattle.std.proofs.lemmas.Bool.{and_parts, and_from}
+use Rattle.std.proofs.lemmas.Bool.Decides.{Decides-ltb}
+use Rattle.std.proofs.lemmas.List.Sums.{AllPass-from_list_all, list_all-from_AllPass}
+use Rattle.search_types.specs.Groups.{Groups, groups_of}
+use Rattle.search_types.specs.GroupFaults.{groups_in}
+use Rattle.nfa_core.specs.BuilderStates.{Part, Assembly, part_at}
+use Rattle.nfa_core.specs.CanBuild.{CanBuild, names_of, is_known}
+use Rattle.nfa_core.specs.Checks.{has_all}
+use Rattle.nfa_core.specs.Renaming.{stands_for, past, past_within, going_on, HasNoLoop}
+use Rattle.nfa_core.proofs.RenamingLemmas.{past_itself, past_stands}
+
+-- what a test decides of each element, it decides of all
+pub decides_all : {A : Type 0} (test : A → Bool) (P : A → Type 0) (xs : List A) → ((x : A) → Decides (test x) (P x)) → Decides (list_all test xs) (All P xs)
+decides_all test P xs each = (
+  λ e k d inside. (each (get_or xs k d)).0 (AllPass-from_list_all test xs e k d inside),
+  λ all. list_all-from_AllPass test xs (λ k d inside. (each (get_or xs k d)).1 (all k d inside)),
+)
+
+pub decides_below : (n : ℕ) (names : List ℕ) → Decides (list_all (λ q. nat_lt q n) names) (All (λ q. q < n) names)
+decides_below n names = decides_all (λ q. nat_lt q n) (λ q. q < n) names (λ q. Decides-ltb q n)
+
+pub decides_named : (n : ℕ) (parts : List Part) → Decides (list_all (λ part. list_all (λ q. nat_lt q n) (names_of part)) parts) (All (λ part. All (λ q. q < n) (names_of part)) parts)
+decides_named n parts = decides_all (λ part. list_all (λ q. nat_lt q n) (names_of part)) (λ part. All (λ q. q < n) (names_of part)) parts (λ part. decides_below n (names_of part))
+
+pub decides_known : (groups : Groups) (parts : List Part) → Decides (list_all (is_known groups) parts) (All (λ part. is_known groups part ≡ true) parts)
+decides_known groups parts = decides_all (is_known groups) (λ part. is_known groups part ≡ true) parts (λ part. (λ e. e, λ e. e))
+
+not_true : (b : Bool) → not b ≡ true → b ≡ false
+not_true true e = cc
+not_true false e = refl
+
+pub checked_can : (b : Assembly) (x y : ℕ) → has_all b x y ≡ true → HasNoLoop b.parts → CanBuild b x y
+checked_can b x y e free =
+    let n = length b.parts in
+    let one = and_parts _ _ e in
+    let two = and_parts _ _ one.1 in
+    let three = and_parts _ _ two.1 in
+    let four = and_parts _ _ three.1 in
+    let five = and_parts _ _ four.1 in
+    record {
+      closed = not_true b.is_open one.0;
+      anchored_there = (Decides-ltb x n).0 two.0;
+      unanchored_there = (Decides-ltb y n).0 three.0;
+      starts_there = (decides_below n b.starts).0 four.0;
+      named = (decides_named n b.parts).0 five.0;
+      known = (decides_known b.groups b.parts).0 five.1;
+      no_loop = free;
+    }
+
+pub can_checked : (b : Assembly) (x y : ℕ) → CanBuild b x y → has_all b x y ≡ true
+can_checked b x y can =
+    let n = length b.parts in
+    and_from _ _ (ap not can.closed) (and_from _ _ ((Decides-ltb x n).1 can.anchored_there) (and_from _ _ ((Decides-ltb y n).1 can.unanchored_there)
+    (and_from _ _ ((decides_below n b.starts).1 can.starts_there) (and_from _ _ ((decides_named n b.parts).1 can.named) ((decides_known b.groups b.parts).1 can.known)))))
+
+-- where each state was followed to one that stands for itself, there is no loop
+pub followed_free : (parts : List Part) (n : ℕ) → length parts ≡ n → ((q : ℕ) → q < n → stands_for (part_at parts (past parts q)) ≡ None) → HasNoLoop parts
+followed_free parts n len all q inside = (length parts, all q (omega (arith, len, inside)))
+
+-- where one wasn't, there is
+pub caught : (parts : List Part) (q : ℕ) → q < length parts → is_none (stands_for (part_at parts (past parts q))) ≡ false → HasNoLoop parts → false ≡ true
+caught parts q inside e free = let stands = past_stands parts free q inside in cc
+
+-- how many groups a pattern has
+pub len_there : {A B : Type 0} (groups : List (Vec (Option (String A)) B)) (p : ℕ) (d : Vec (Option (String A)) B) → p < length groups →
+    length (get_or groups p d).items ≡ length (groups_of (groups_in groups) p)
+len_there [] p d h = absurd (omega (arith, h))
+len_there {A} {B} (first ∷ rest) zero d h = sym (length-map first.items (option_map string_bytes))
+len_there (first ∷ rest) (suc p) d h = len_there rest p d (omega (arith, h))
+
+pub len_absent : {A B : Type 0} (groups : List (Vec (Option (String A)) B)) (p : ℕ) → length groups ≤ p → 0 ≡ length (groups_of (groups_in groups) p)
+len_absent [] p h = refl
+len_absent (first ∷ rest) zero h = absurd (omega (arith, h))
+len_absent (first ∷ rest) (suc p) h = len_absent rest p (omega (arith, h))
+
+-- the tests in their order, where all but the last answered true
+pub all_tested : (b : Assembly) (x y n m : ℕ) (starts : List ℕ) (parts later : List Part) (groups : Groups) (first second third : Bool) →
+    n ≡ length b.parts → m ≡ length b.parts → starts ≡ b.starts → parts ≡ b.parts → later ≡ b.parts → groups ≡ b.groups → b.is_open ≡ false → x < n → y < n →
+    first ≡ list_all (λ q. nat_lt q n) starts → second ≡ list_all (λ part. list_all (λ q. nat_lt q m) (names_of part)) parts → third ≡ list_all (is_known groups) later →
+    first ≡ true → second ≡ true → third ≡ has_all b x y
+all_tested b x y n m starts parts later groups first second third same_n same_m same_starts same_parts same_later same_groups closed x_in y_in e f g is_first is_second =
+    let one : nat_lt x (length b.parts) ≡ true = (Decides-ltb x (length b.parts)).1 (omega (arith, x_in, same_n)) in
+    let two : nat_lt y (length b.parts) ≡ true = (Decides-ltb y (length b.parts)).1 (omega (arith, y_in, same_n)) in
+    let three : list_all (λ q. nat_lt q (length b.parts)) b.starts ≡ true =
+    ap (λ (k : ℕ). list_all (λ q. nat_lt q k) b.starts) (sym same_n) ∙ ap (list_all (λ q. nat_lt q n)) (sym same_starts) ∙ sym e ∙ is_first in
+    let four : list_all (λ part. list_all (λ q. nat_lt q (length b.parts)) (names_of part)) b.parts ≡ true =
+    ap (λ (k : ℕ). list_all (λ part. list_all (λ q. nat_lt q k) (names_of part)) b.parts) (sym same_m)
+    ∙ ap (list_all (λ part. list_all (λ q. nat_lt q m) (names_of part))) (sym same_parts) ∙ sym f ∙ is_second in
+    let five : third ≡ list_all (is_known b.groups) b.parts = g ∙ ap (λ (gs : Groups). list_all (is_known gs) later) same_groups ∙ ap (list_all (is_known b.groups)) same_later in
+    rw (closed, one, two, three, four) five
+
+-- where a state that was followed stands for itself, it is the one past the first
+pub followed : (parts : List Part) (k at q : ℕ) → past_within parts k at ≡ past parts q → stands_for (part_at parts at) ≡ None → true ≡ is_none (stands_for (part_at parts (past parts q)))
+followed parts k at q same e = let there : at ≡ past parts q = sym (past_itself parts k at e) ∙ same in ap is_none (sym (ap (λ (r : ℕ). stands_for (part_at parts r)) (sym there) ∙ e))
+
+-- one way more is followed
+pub follow_next : (parts : List Part) (k r at next q : ℕ) → k ≡ suc r → stands_for (part_at parts at) ≡ Some next → past_within parts k at ≡ past parts q → past_within parts r next ≡ past parts q
+follow_next parts k r at next q more e same = sym (ap (going_on at (past_within parts r)) e) ∙ ap (λ (n : ℕ). past_within parts n at) (sym more) ∙ same
