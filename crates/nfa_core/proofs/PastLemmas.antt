@@ -8,6 +8,7 @@ use Rattle.std.proofs.lemmas.List.Sums.{sum_by-set}
 use Rattle.nfa_core.specs.BuilderStates.{Part, part_at}
 use Rattle.nfa_core.specs.Renaming.{stands_for, past_within, going_on, past}
 use Rattle.nfa_core.specs.Pasts.{IsReached, is_settled, IsPastTable, IsOpen, IsEnd, settled_count}
+use Rattle.nfa_core.proofs.RenamingLemmas.{past_itself}
 
 -- how many steps are made from the state on, up to a number of them
 abbrev pub one_more : (ℕ → ℕ) → Option ℕ → ℕ
@@ -21,7 +22,7 @@ steps_within parts (suc n) q = one_more (steps_within parts n) (stands_for (part
 abbrev pub steps_from : List Part → ℕ → ℕ
 steps_from parts q = steps_within parts (length parts) q
 
-abbrev pub Reaches : List Part → ℕ → ℕ → Type 0
+abbrev Reaches : List Part → ℕ → ℕ → Type 0
 Reaches parts n q = stands_for (part_at parts (past_within parts n q)) ≡ None
 
 -- more steps change nothing where one that stands for itself is reached
@@ -56,13 +57,6 @@ past_next parts q next reached inside e = (step_at parts (length parts) q next i
 pub steps_fall : (parts : List Part) (q next : ℕ) → IsReached parts → q < length parts → stands_for (part_at parts q) ≡ Some next → steps_from parts q ≡ suc (steps_from parts next)
 steps_fall parts q next reached inside e = (step_at parts (length parts) q next inside e (reached.ends q inside)).1
 
-pub past_self_within : (parts : List Part) (n q : ℕ) → stands_for (part_at parts q) ≡ None → past_within parts n q ≡ q
-past_self_within parts zero q e = refl
-past_self_within parts (suc n) q e = ap (going_on q (past_within parts n)) e
-
-pub past_self : (parts : List Part) (q : ℕ) → stands_for (part_at parts q) ≡ None → past parts q ≡ q
-past_self parts q e = past_self_within parts (length parts) q e
-
 -- a state that is told of after another is another one, if it is nearer to its end
 settled_other : (table : List (Option ℕ)) (at q : ℕ) (p : ℕ) → q ≢ at → is_settled table q ≡ false → is_settled (set table at (Some p)) q ≡ false
 settled_other table at q p other e = ap is_some (get_or-set_other table at q (Some p) None other) ∙ e
@@ -86,7 +80,7 @@ open_behind parts table n q next p reached inside e opened =
 
 -- where one stops, the table or the state itself tells the end
 known_by : (parts : List Part) (at : ℕ) (o : Option ℕ) → ((p : ℕ) → o ≡ Some p → p ≡ past parts at) → (is_some o ≡ true → unwrap_or o at ≡ past parts at) × (stands_for (part_at parts at) ≡ None → unwrap_or o at ≡ past parts at)
-known_by parts at None right = (λ (e : false ≡ true). cc, λ e. sym (past_self parts at e))
+known_by parts at None right = (λ (e : false ≡ true). cc, λ e. sym (past_itself parts (length parts) at e))
 known_by parts at (Some p) right = (λ e. right p refl, λ e. right p refl)
 
 pub known_end : (parts : List Part) (table : List (Option ℕ)) (at : ℕ) → IsPastTable parts table → IsEnd parts table at → unwrap_or (get_or table at None) at ≡ past parts at
