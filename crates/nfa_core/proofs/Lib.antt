@@ -46,3 +46,4 @@ pub mod BuildLemmas
 pub mod ReachLemmas
 pub mod SizeLemmas
 pub mod CheckLemmas
+pub mod BuildRows

@@ -15,7 +15,8 @@ use std::marker::Model;
 /// Puts the states of an automaton together, as `regex_automata::nfa::thompson::Builder` does. States may
 /// name others that are still to come, and be told later where they lead.
 ///
-/// A refusal leaves the builder as it was, in all calls.
+/// A refusal leaves the builder as it was; that of [`add_capture_start`](Builder::add_capture_start) may
+/// leave names of groups noted, which shows in what is built.
 #[derive(Drop)]
 pub struct Builder {
     pub(crate) drafts: Vec<Draft>,

@@ -2,6 +2,10 @@
 #![tactic(auto)]
 
 #[cfg(test)]
+mod builder_calls;
+#[cfg(test)]
+mod builders;
+#[cfg(test)]
 mod nfas;
 #[cfg(test)]
 mod sets;

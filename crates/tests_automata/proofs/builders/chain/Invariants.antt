@@ -1,0 +1,9 @@
+use Rattle.std.proofs.Common.{◌≡◌, ◌+◌, ◌<◌, length, true}
+use Rattle.tests_automata.proofs.builders.chain.Given as goal
+
+abbrev pub invariant-loop-index : goal.invariant-loop-index
+invariant-loop-index l = record {
+  len : length l.builder.parts ≡ l._index + 1;
+  there : l.at < length l.builder.parts;
+  opened : l.builder.is_open ≡ true;
+}
