@@ -1,7 +1,8 @@
 pub mod Denotes
 pub mod NotedGroups
 pub mod Compiled
+pub mod Turned
+pub mod Choice
+pub mod Added
 pub mod Refusals
-pub mod Configs
-pub mod Compilations
-pub mod Assembled
+pub mod Branches

@@ -1,8 +1,13 @@
 //! Compiles trees to byte automata.
 #![tactic(auto)]
 
-mod config;
+mod branch;
+mod class;
+mod compile;
+mod fragment;
+mod leaves;
+mod parts;
+mod scalar_class;
 mod which_captures;
 
-pub use config::Config;
 pub use which_captures::WhichCaptures;
