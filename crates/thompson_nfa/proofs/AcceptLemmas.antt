@@ -1,28 +1,26 @@
 -- A state from which a tree leads to a match: what the walk of a stack lists, and the chains to matches.
-use Rattle.std.proofs.Common.{◌≡◌, ℕ, zero, suc, ◌+◌, Bool, true, false, List, [], ◌∷◌, ◌++◌, map, Option, Some, None, ◌⊎◌, inl, inr, refl, sym, ap, ◌∙◌, subst}
+use Rattle.std.proofs.Common.{◌≡◌, ℕ, Bool, false, List, [], ◌∷◌, Some, refl, sym, ap, ◌∙◌, subst}
 use Rattle.hir_core.specs.Tree.{Tree}
-use Rattle.hir_core.specs.Means.{Looks}
 use Rattle.hir_core.specs.PreferredEnds.{preferred_ends}
 use Rattle.hir_core.specs.Facts.{LoopsRead}
-use Rattle.nfa_core.specs.BuilderStates.{Part, match_part, union_part}
+use Rattle.nfa_core.specs.BuilderStates.{Part, match_part}
 use Rattle.nfa_core.specs.Walks.{Has, Lists, lists_none, lists_answer}
 use Rattle.nfa_core.specs.Runs.{IsChain, last_or}
 use Rattle.nfa_core.specs.Places.{same_pair}
 use Rattle.nfa_core.specs.Ways.{Text, match_of}
 use Rattle.nfa_core.specs.Drafted.{drafted, Table, table_ways, table_match}
-use Rattle.nfa_core.proofs.MemberLemmas.{none_in, has_cons, has_same, has_later}
-use Rattle.nfa_core.proofs.PairLemmas.{pairs_equal}
+use Rattle.nfa_core.proofs.MemberLemmas.{none_in}
 use Rattle.thompson_nfa.specs.Denotes.{at, seen, IsMeant, Denotes}
-use Rattle.thompson_nfa.proofs.WayLemmas.{each_at, Goes, goes_union, match_has_no_ways}
-use Rattle.thompson_nfa.proofs.LeadLemmas.{Chain, goes_begins, goes_leads}
-use Rattle.thompson_nfa.proofs.OrderLemmas.{Listed, listed_append, listed_on}
+use Rattle.thompson_nfa.proofs.WayLemmas.{match_has_no_ways}
+use Rattle.thompson_nfa.proofs.LeadLemmas.{Chain}
+use Rattle.thompson_nfa.proofs.OrderLemmas.{Listed}
 
 -- a chain from p to a match of this pattern at this place
 abbrev pub Finds : Bool → Text → Table → ℕ × ℕ → ℕ × ℕ → Type 0
 Finds back t T p m = (r : List (ℕ × ℕ)) × IsChain same_pair (table_ways back t T) p r × (table_match T (last_or p r) ≡ Some m)
 
 -- from s the table finds pattern p wherever the tree leads, and nothing else, and reading up in the tree's order
-pub record Accepts (back : Bool) (T : Table) (s p : ℕ) (x : Tree) : Type 0 where
+pub record FindsTree (back : Bool) (T : Table) (s p : ℕ) (x : Tree) : Type 0 where
   pub lists : back ≡ false → LoopsRead x → (t : Text) (i : ℕ) → Lists (table_ways false t T) (table_match T) ((i, s) ∷ []) (at p (preferred_ends t.holds (seen t) x i))
   pub complete : (t : Text) (i j : ℕ) → IsMeant back t x i j → Finds back t T (i, s) (j, p)
   pub sound : (t : Text) (i : ℕ) (m : ℕ × ℕ) → Finds back t T (i, s) m → (j : ℕ) × IsMeant back t x i j × (m ≡ (j, p))
@@ -44,43 +42,16 @@ stays_at_match back t T q m (w ∷ r) is c =
 some_pair : (a b : ℕ × ℕ) → Some a ≡ Some b → a ≡ b
 some_pair a b e = cc
 
-pub accepts : (back : Bool) (T : Table) (s f p : ℕ) (x : Tree) → T f ≡ match_part p → Denotes back T s f x → Accepts back T s p x
-accepts back T s f p x is d = record {
-    lists = λ up g t i. (d.orders up g t).lists i (at p (preferred_ends t.holds (seen t) x i)) (listed_matches t T f p (preferred_ends t.holds (seen t) x i) is);
-    complete = λ t i j m.
-        let r = (d.reaches t).complete i j m in
-        (r.0, r.1, ap (table_match T) r.2 ∙ is_match_state T f p j is);
-    sound = λ t i m found.
-        let q = (d.reaches t).sound i found.0 m found.1 found.2 in
-        let here = is_match_state T f p q.middle is in
-        let last : last_or (q.middle, f) q.rest ≡ (q.middle, f) = stays_at_match back t T (q.middle, f) (q.middle, p) q.rest here q.chain in
-        let same : Some m ≡ Some (q.middle, p) = sym found.2 ∙ (ap (table_match T) (sym q.same_end ∙ last) ∙ here) in
-        (q.middle, q.is_meant, some_pair m (q.middle, p) same);
-  }
-
--- ---- several patterns
-
--- the ends of each tree with its number, which is n for the first
-abbrev pub pattern_ends : Looks → List ℕ → ℕ → List Tree → ℕ → List (ℕ × ℕ)
-pattern_ends looks h n [] i = []
-pattern_ends looks h n (x ∷ xs) i = at n (preferred_ends looks h x i) ++ pattern_ends looks h (suc n) xs i
-
--- what is meant by one of the trees, with its number
-abbrev pub IsMeantByOne : Bool → Text → ℕ → List Tree → ℕ → ℕ × ℕ → Type 0
-IsMeantByOne back t n [] i m = ⊥
-IsMeantByOne back t n (x ∷ xs) i m = ((j : ℕ) × IsMeant back t x i j × (m ≡ (j, n))) ⊎ IsMeantByOne back t (suc n) xs i m
-
-abbrev pub AllLoopsRead : List Tree → Type 0
-AllLoopsRead [] = Unit {0}
-AllLoopsRead (x ∷ xs) = LoopsRead x × AllLoopsRead xs
-
--- from each of the states the tree at the same place of the list is accepted, with its number
-pub data AllAccept (back : Bool) (T : Table) : ℕ → List ℕ → List Tree → Type 0 where
-  none_accept : (n : ℕ) → AllAccept back T n [] []
-  more_accept : (n s : ℕ) (x : Tree) (ss : List ℕ) (xs : List Tree) → Accepts back T s n x → AllAccept back T (suc n) ss xs → AllAccept back T n (s ∷ ss) (x ∷ xs)
-
--- from a state the patterns are found, with numbers from n on
-pub record AcceptsAll (back : Bool) (T : Table) (u n : ℕ) (xs : List Tree) : Type 0 where
-  pub lists : back ≡ false → AllLoopsRead xs → (t : Text) (i : ℕ) → Lists (table_ways false t T) (table_match T) ((i, u) ∷ []) (pattern_ends t.holds (seen t) n xs i)
-  pub complete : (t : Text) (i : ℕ) (m : ℕ × ℕ) → IsMeantByOne back t n xs i m → Finds back t T (i, u) m
-  pub sound : (t : Text) (i : ℕ) (m : ℕ × ℕ) → Finds back t T (i, u) m → IsMeantByOne back t n xs i m
+pub finds_tree : (back : Bool) (T : Table) (s f p : ℕ) (x : Tree) → T f ≡ match_part p → Denotes back T s f x → FindsTree back T s p x
+finds_tree back T s f p x is d = record {
+  lists = λ up g t i. (d.orders up g t).lists i (at p (preferred_ends t.holds (seen t) x i)) (listed_matches t T f p (preferred_ends t.holds (seen t) x i) is);
+  complete = λ t i j m.
+      let r = (d.reaches t).complete i j m in
+      (r.0, r.1, ap (table_match T) r.2 ∙ is_match_state T f p j is);
+  sound = λ t i m found.
+      let q = (d.reaches t).sound i found.0 m found.1 found.2 in
+      let here = is_match_state T f p q.middle is in
+      let last : last_or (q.middle, f) q.rest ≡ (q.middle, f) = stays_at_match back t T (q.middle, f) (q.middle, p) q.rest here q.chain in
+      let same : Some m ≡ Some (q.middle, p) = sym found.2 ∙ (ap (table_match T) (sym q.same_end ∙ last) ∙ here) in
+      (q.middle, q.is_meant, some_pair m (q.middle, p) same);
+}

@@ -1,19 +1,19 @@
 -- Alternations: a union of states of which each does what its branch means.
-use Rattle.std.proofs.Common.{◌≡◌, ℕ, Bool, true, false, List, [], ◌∷◌, ◌++◌, Option, Some, ◌⊎◌, inl, inr, refl, sym, ap, ◌∙◌, subst}
-use Rattle.hir_core.specs.Tree.{Tree, never, alt, alternation}
+use Rattle.std.proofs.Common.{◌≡◌, ℕ, Bool, true, false, List, [], ◌∷◌, ◌++◌, Some, inl, inr, refl, sym, ap, ◌∙◌, subst}
+use Rattle.hir_core.specs.Tree.{Tree, alternation}
 use Rattle.hir_core.specs.PreferredEnds.{preferred_ends}
 use Rattle.hir_core.specs.Facts.{LoopsRead}
-use Rattle.nfa_core.specs.BuilderStates.{Part, union_part}
+use Rattle.nfa_core.specs.BuilderStates.{union_part}
 use Rattle.nfa_core.specs.Walks.{Has}
 use Rattle.nfa_core.specs.Runs.{last_or}
 use Rattle.nfa_core.specs.Places.{same_pair}
 use Rattle.nfa_core.specs.Ways.{Text}
-use Rattle.nfa_core.specs.Drafted.{Table, table_ways, table_match}
+use Rattle.nfa_core.specs.Drafted.{Table, table_match}
 use Rattle.nfa_core.proofs.MemberLemmas.{none_in, has_cons, has_same, has_later}
 use Rattle.nfa_core.proofs.PairLemmas.{pairs_equal}
 use Rattle.thompson_nfa.specs.Denotes.{at, seen, IsMeant, Leads, Passes, Reaches, Orders, Denotes}
 use Rattle.thompson_nfa.proofs.WayLemmas.{each_at, at_append, Goes, goes_union}
-use Rattle.thompson_nfa.proofs.LeadLemmas.{Chain, leads_trans, Begins, goes_begins, goes_leads, passes_later}
+use Rattle.thompson_nfa.proofs.LeadLemmas.{Chain, goes_begins, goes_leads, passes_later}
 use Rattle.thompson_nfa.proofs.OrderLemmas.{Listed, listed_parts, listed_on}
 use Rattle.thompson_nfa.proofs.MeantLemmas.{meant_never, alt_meant, meant_alt}
 
@@ -43,35 +43,47 @@ module _ (back : Bool) (T : Table) (t : Text) (e : ℕ) where
   all_complete : (qs : List ℕ) (xs : List Tree) → AllDenote back T e qs xs → (i j : ℕ) → IsMeant back t (alternation xs) i j → Chosen qs i j
   all_complete _ _ none_denote i j m = absurd (meant_never back t i j m)
   all_complete _ _ (more_denote q x qs xs d ds) i j m = elim (meant_alt back t x (alternation xs) i j m) [
-      inl a ↦ record { by = q; is_way = has_same same_pair pairs_equal (i, q) (i, q) (each_at qs i) refl; on = (d.reaches t).complete i j a }
+    | inl a ↦ record { by = q; is_way = has_same same_pair pairs_equal (i, q) (i, q) (each_at qs i) refl; on = (d.reaches t).complete i j a }
     | inr b ↦ let c = all_complete qs xs ds i j b in
         record { by = c.by; is_way = has_later same_pair (i, c.by) (i, q) (each_at qs i) c.is_way; on = c.on }
-    ]
+  ]
 
   all_sound : (qs : List ℕ) (xs : List Tree) → AllDenote back T e qs xs → (i : ℕ) (w : ℕ × ℕ) (r : List (ℕ × ℕ)) (m : ℕ × ℕ) → Has same_pair w (each_at qs i) →
       Chain back t T w r → table_match T (last_or w r) ≡ Some m → Passes back t T (IsMeant back t (alternation xs)) i e w r
   all_sound _ _ none_denote i w r m h c final = none_in same_pair w _ h
   all_sound _ _ (more_denote q x qs xs d ds) i w r m h c final = elim (has_cons same_pair pairs_equal w (i, q) (each_at qs i) h) [
-      inl is ↦
+    | inl is ↦
         let C : ℕ × ℕ → Type 0 = λ v. Chain back t T v r in
         let F : ℕ × ℕ → Type 0 = λ v. table_match T (last_or v r) ≡ Some m in
         let p = (d.reaches t).sound i r m (subst C is c) (subst F is final) in
-        record { middle = p.middle; rest = p.rest; is_meant = alt_meant back t x (alternation xs) i p.middle (inl p.is_meant); chain = p.chain; fewer = p.fewer;
-          same_end = p.same_end ∙ ap (λ (v : ℕ × ℕ). last_or v r) (sym is) }
+        record {
+          middle = p.middle;
+          rest = p.rest;
+          is_meant = alt_meant back t x (alternation xs) i p.middle (inl p.is_meant);
+          chain = p.chain;
+          fewer = p.fewer;
+          same_end = p.same_end ∙ ap (λ (v : ℕ × ℕ). last_or v r) (sym is);
+        }
     | inr g ↦
         let p = all_sound qs xs ds i w r m g c final in
-        record { middle = p.middle; rest = p.rest; is_meant = alt_meant back t x (alternation xs) i p.middle (inr p.is_meant); chain = p.chain; fewer = p.fewer;
-          same_end = p.same_end }
-    ]
+        record {
+          middle = p.middle;
+          rest = p.rest;
+          is_meant = alt_meant back t x (alternation xs) i p.middle (inr p.is_meant);
+          chain = p.chain;
+          fewer = p.fewer;
+          same_end = p.same_end;
+        }
+  ]
 
   all_reaches : (u : ℕ) (qs : List ℕ) (xs : List Tree) → AllDenote back T e qs xs → Goes back t T u (each_at qs) → Reaches back t T u e (IsMeant back t (alternation xs))
   all_reaches u qs xs all g = record {
-      complete = λ i j m. let c = all_complete qs xs all i j m in goes_leads back t T u (each_at qs) i (i, c.by) (j, e) g c.is_way c.on;
-      sound = λ i r m c final.
-          let b = goes_begins back t T u (each_at qs) i r m g c final in
-          passes_later back t T (IsMeant back t (alternation xs)) (IsMeant back t (alternation xs)) (each_at qs i) i i e (i, u) b.way r b refl
-          (λ d f. all_sound qs xs all i b.way b.rest m b.has d (ap (table_match T) f ∙ final)) (λ j y. y);
-    }
+    complete = λ i j m. let c = all_complete qs xs all i j m in goes_leads back t T u (each_at qs) i (i, c.by) (j, e) g c.is_way c.on;
+    sound = λ i r m c final.
+        let b = goes_begins back t T u (each_at qs) i r m g c final in
+        passes_later back t T (IsMeant back t (alternation xs)) (IsMeant back t (alternation xs)) (each_at qs i) i i e (i, u) b.way r b refl
+        (λ d f. all_sound qs xs all i b.way b.rest m b.has d (ap (table_match T) f ∙ final)) (λ j y. y);
+  }
 
 all_lists : (T : Table) (t : Text) (e : ℕ) (qs : List ℕ) (xs : List Tree) → AllDenote false T e qs xs → LoopsRead (alternation xs) → (i : ℕ) (l : List (ℕ × ℕ)) →
     Listed t T (at e (preferred_ends t.holds (seen t) (alternation xs) i)) l → Listed t T (each_at qs i) l
@@ -92,6 +104,6 @@ all_orders true T t u e qs xs up all g f = cc
 pub denotes_alternation : (back : Bool) (T : Table) (u e : ℕ) (qs : List ℕ) (xs : List Tree) → T u ≡ union_part qs → AllDenote back T e qs xs →
     Denotes back T u e (alternation xs)
 denotes_alternation back T u e qs xs is all = record {
-    reaches = λ t. all_reaches back T t e u qs xs all (goes_union back t T u qs is);
-    orders = λ up f t. all_orders back T t u e qs xs up all (goes_union back t T u qs is) f;
-  }
+  reaches = λ t. all_reaches back T t e u qs xs all (goes_union back t T u qs is);
+  orders = λ up f t. all_orders back T t u e qs xs up all (goes_union back t T u qs is) f;
+}

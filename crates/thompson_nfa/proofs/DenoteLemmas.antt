@@ -1,13 +1,13 @@
 -- What single states and joined states do for trees, from what is meant of the trees.
-use Rattle.std.proofs.Common.{◌≡◌, ℕ, zero, suc, Bool, true, false, List, [], ◌∷◌, Option, if◌then◌else◌, ◌⊎◌, inl, inr, refl, sym, ap, ◌∙◌, subst}
+use Rattle.std.proofs.Common.{◌≡◌, ℕ, Bool, true, false, List, [], ◌∷◌, if◌then◌else◌, inl, inr, refl, sym, ap, ◌∙◌, subst}
 use Rattle.std.specs.List.{flat_map}
 use Rattle.look_core.specs.declared.look.Look.{Look}
-use Rattle.hir_core.specs.Tree.{Tree, empty, byte_class, look, capture, nothing, never}
+use Rattle.hir_core.specs.Tree.{Tree, empty, byte_class, look, nothing, never}
 use Rattle.hir_core.specs.Means.{Looks, Means}
 use Rattle.hir_core.specs.PreferredEnds.{preferred_ends, Has as HasEnd}
 use Rattle.hir_core.specs.Facts.{LoopsRead}
 use Rattle.hir_core.proofs.PreferredEndsLemmas.{preferred_ends_sound, preferred_ends_complete}
-use Rattle.nfa_core.specs.BuilderStates.{Part, empty_part, range_part, sparse_part, look_part, capture_start_part, capture_end_part, fail_part}
+use Rattle.nfa_core.specs.BuilderStates.{empty_part, range_part, sparse_part, look_part, capture_start_part, capture_end_part, fail_part}
 use Rattle.nfa_core.specs.Ways.{Text, reads, is_passed}
 use Rattle.nfa_core.specs.Drafted.{Table}
 use Rattle.thompson_nfa.specs.Denotes.{at, seen, IsMeant, Denotes}
@@ -30,25 +30,25 @@ pub record Joins (back : Bool) (x1 x2 y : Tree) : Type 0 where
 module _ (back : Bool) (T : Table) where
   pub denotes_join : (s m e : ℕ) (x1 x2 y : Tree) → Joins back x1 x2 y → Denotes back T s m x1 → Denotes back T m e x2 → Denotes back T s e y
   denotes_join s m e x1 x2 y j a b = record {
-      reaches = λ t. reaches_like back t T s e (λ i k. (l : ℕ) × IsMeant back t x1 i l × IsMeant back t x2 l k) (IsMeant back t y) (j.parts t) (j.joined t)
-          (reaches_join back t T s m e (IsMeant back t x1) (IsMeant back t x2) (a.reaches t) (b.reaches t));
-      orders = λ up f t.
-          let r = j.reading up f in
-          let p : ℕ → List ℕ = preferred_ends t.holds (seen t) x1 in
-          let q : ℕ → List ℕ = preferred_ends t.holds (seen t) x2 in
-          orders_like t T s e (λ i. flat_map q (p i)) (preferred_ends t.holds (seen t) y) (j.ends up t.holds (seen t))
-          (orders_join t T s m e p q (a.orders up r.0 t) (b.orders up r.1 t));
-    }
+    reaches = λ t. reaches_like back t T s e (λ i k. (l : ℕ) × IsMeant back t x1 i l × IsMeant back t x2 l k) (IsMeant back t y) (j.parts t) (j.joined t)
+        (reaches_join back t T s m e (IsMeant back t x1) (IsMeant back t x2) (a.reaches t) (b.reaches t));
+    orders = λ up f t.
+        let r = j.reading up f in
+        let p : ℕ → List ℕ = preferred_ends t.holds (seen t) x1 in
+        let q : ℕ → List ℕ = preferred_ends t.holds (seen t) x2 in
+        orders_like t T s e (λ i. flat_map q (p i)) (preferred_ends t.holds (seen t) y) (j.ends up t.holds (seen t))
+        (orders_join t T s m e p q (a.orders up r.0 t) (b.orders up r.1 t));
+  }
 
   -- a tree that means the same, where read up it prefers the same ends
   pub denotes_like_meaning : (s e : ℕ) (x y : Tree) → ((looks : Looks) (h : List ℕ) (i j : ℕ) → Means looks h y i j → Means looks h x i j) →
       ((looks : Looks) (h : List ℕ) (i j : ℕ) → Means looks h x i j → Means looks h y i j) → (back ≡ false → LoopsRead y → LoopsRead x) →
       (back ≡ false → (looks : Looks) (h : List ℕ) (i : ℕ) → preferred_ends looks h x i ≡ preferred_ends looks h y i) → Denotes back T s e x → Denotes back T s e y
   denotes_like_meaning s e x y narrow wide reading same a = record {
-      reaches = λ t. reaches_like back t T s e (IsMeant back t x) (IsMeant back t y) (meant_map y x narrow back t) (meant_map x y wide back t) (a.reaches t);
-      orders = λ up f t.
-          orders_like t T s e (preferred_ends t.holds (seen t) x) (preferred_ends t.holds (seen t) y) (same up t.holds (seen t)) (a.orders up (reading up f) t);
-    }
+    reaches = λ t. reaches_like back t T s e (IsMeant back t x) (IsMeant back t y) (meant_map y x narrow back t) (meant_map x y wide back t) (a.reaches t);
+    orders = λ up f t.
+        orders_like t T s e (preferred_ends t.holds (seen t) x) (preferred_ends t.holds (seen t) y) (same up t.holds (seen t)) (a.orders up (reading up f) t);
+  }
 
   -- a tree that prefers the same ends
   pub denotes_like : (s e : ℕ) (x y : Tree) → (LoopsRead y → LoopsRead x) →
@@ -65,17 +65,17 @@ module _ (back : Bool) (T : Table) where
       ((t : Text) (i j : ℕ) → IsMeant back t x i j → HasEnd (ends t i) j) → ((t : Text) (i j : ℕ) → HasEnd (ends t i) j → IsMeant back t x i j) →
       (back ≡ false → (t : Text) (i : ℕ) → ends t i ≡ preferred_ends t.holds (seen t) x i) → Denotes back T s e x
   denotes_leaf s e x ends g narrow wide same = record {
-      reaches = λ t. reaches_like back t T s e (λ i j. HasEnd (ends t i) j) (IsMeant back t x) (narrow t) (wide t) (reaches_leaf back t T s e (ends t) (g t));
-      orders = λ up f t. orders_like t T s e (ends t) (preferred_ends t.holds (seen t) x) (same up t)
-          (orders_leaf t T s e (ends t) (goes_up back t T s (λ i. at e (ends t i)) up (g t)));
-    }
+    reaches = λ t. reaches_like back t T s e (λ i j. HasEnd (ends t i) j) (IsMeant back t x) (narrow t) (wide t) (reaches_leaf back t T s e (ends t) (g t));
+    orders = λ up f t. orders_like t T s e (ends t) (preferred_ends t.holds (seen t) x) (same up t)
+        (orders_leaf t T s e (ends t) (goes_up back t T s (λ i. at e (ends t i)) up (g t)));
+  }
 
   -- nothing is between a state and itself
   pub denotes_empty_here : (s : ℕ) → Denotes back T s s empty
   denotes_empty_here s = record {
-      reaches = λ t. reaches_like back t T s s (λ i j. i ≡ j) (IsMeant back t empty) (meant_empty back t) (empty_meant back t) (reaches_here back t T s);
-      orders = λ up f t. orders_here t T s;
-    }
+    reaches = λ t. reaches_like back t T s s (λ i j. i ≡ j) (IsMeant back t empty) (meant_empty back t) (empty_meant back t) (reaches_here back t T s);
+    orders = λ up f t. orders_here t T s;
+  }
 
   -- a state that leads on without a byte
   pub denotes_pass : (s e : ℕ) → ((t : Text) → Goes back t T s (λ i. at e (i ∷ []))) → Denotes back T s e empty
@@ -103,9 +103,9 @@ module _ (back : Bool) (T : Table) where
 
   pub denotes_never : (s e : ℕ) → T s ≡ fail_part → Denotes back T s e never
   denotes_never s e is = record {
-      reaches = λ t. reaches_like back t T s e (λ i j. ⊥) (IsMeant back t never) (meant_never back t) (λ i j h. absurd h) (reaches_nowhere back t T s e (goes_fail back t T s is));
-      orders = λ up f t. orders_nowhere t T s e (goes_up back t T s (λ i. []) up (goes_fail back t T s is));
-    }
+    reaches = λ t. reaches_like back t T s e (λ i j. ⊥) (IsMeant back t never) (meant_never back t) (λ i j h. absurd h) (reaches_nowhere back t T s e (goes_fail back t T s is));
+    orders = λ up f t. orders_nowhere t T s e (goes_up back t T s (λ i. []) up (goes_fail back t T s is));
+  }
 
   same_look : back ≡ false → (t : Text) (l : Look) (i : ℕ) → (if is_passed back t (turned back l) i then i ∷ [] else []) ≡ preferred_ends t.holds (seen t) (look l) i
   same_look up t l i = ap (λ (b : Bool). if is_passed b t (turned b l) i then i ∷ [] else []) up

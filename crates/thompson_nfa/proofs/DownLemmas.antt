@@ -1,5 +1,5 @@
 -- Relations between places read down: what leads from j to i, for one who comes from i to j above the text's start.
-use Rattle.std.proofs.Common.{◌≡◌, ℕ, zero, suc, ◌+◌, ◌≤◌, min, refl, sym, ap, ◌∙◌, subst, arith}
+use Rattle.std.proofs.Common.{ℕ, zero, suc, ◌≤◌, min, refl, sym, subst, arith}
 use Rattle.hir_core.specs.Means.{Rounds}
 
 -- R leads from j to i, and j is not below the start but where i is

@@ -47,7 +47,7 @@ one_named : (n to : ℕ) → to < n → All (λ q. q < n) (to ∷ [])
 one_named n to l zero d k = l
 one_named n to l (suc i) d k = absurd (omega arith)
 
-names_patched : (n to : ℕ) (part : Part) → to < n → All (λ q. q < n) (names_of part) → All (λ q. q < n) (names_of (patched to part))
+pub names_patched : (n to : ℕ) (part : Part) → to < n → All (λ q. q < n) (names_of part) → All (λ q. q < n) (names_of (patched to part))
 names_patched n to (empty_part next) l a = one_named n to l
 names_patched n to (range_part low high next) l a = one_named n to l
 names_patched n to (sparse_part ranges) l a = a
@@ -59,7 +59,7 @@ names_patched n to (union_reverse_part names) l a = All-push (λ q. q < n) names
 names_patched n to fail_part l a = a
 names_patched n to (match_part pattern) l a = a
 
-match_patched : (to : ℕ) (part : Part) → is_match_part (patched to part) ≡ is_match_part part
+pub match_patched : (to : ℕ) (part : Part) → is_match_part (patched to part) ≡ is_match_part part
 match_patched to (empty_part next) = refl
 match_patched to (range_part low high next) = refl
 match_patched to (sparse_part ranges) = refl
@@ -71,7 +71,7 @@ match_patched to (union_reverse_part names) = refl
 match_patched to fail_part = refl
 match_patched to (match_part pattern) = refl
 
-known_patched : (b : Assembly) (to : ℕ) (part : Part) → is_known b.groups (patched to part) ≡ is_known b.groups part
+pub known_patched : (b : Assembly) (to : ℕ) (part : Part) → is_known b.groups (patched to part) ≡ is_known b.groups part
 known_patched b to (empty_part next) = refl
 known_patched b to (range_part low high next) = refl
 known_patched b to (sparse_part ranges) = refl

@@ -1,13 +1,13 @@
 -- What one shall have come past for a tree, reading up or down, from what is meant of its parts.
-use Rattle.std.proofs.Common.{◌≡◌, ℕ, zero, suc, ◌+◌, ◌<◌, ◌≤◌, min, Bool, true, false, List, [], ◌∷◌, length, take, Option, Some, None, if◌then◌else◌, slice_get, nat_lt, nat_le, IsTrue, ◌⊎◌, inl, inr, ⊎_elim, refl, sym, ap, ◌∙◌, subst, arith}
-use Rattle.std.proofs.lemmas.Bool.{cases_Bool, ltb-true, ltb-false, le-leb, leb-true}
+use Rattle.std.proofs.Common.{◌≡◌, ℕ, zero, suc, ◌+◌, ◌≤◌, Bool, true, false, List, [], ◌∷◌, take, Option, Some, None, if◌then◌else◌, slice_get, nat_lt, nat_le, IsTrue, ◌⊎◌, inl, inr, refl, sym, ap, ◌∙◌, subst, arith}
+use Rattle.std.proofs.lemmas.Bool.{ltb-true, ltb-false, le-leb, leb-true}
 use Rattle.std.proofs.lemmas.Option.{slice_get_cases, slice_get-get_or, slice_get_past}
 use Rattle.std.proofs.lemmas.List.{length-take, get_or-take}
 use Rattle.search_core.specs.Text.{byte_at}
 use Rattle.look_core.specs.declared.look.Look.{Look}
 use Rattle.look_core.specs.Codes.{reversed}
 use Rattle.look_core.proofs.LookRows.{reversed_twice}
-use Rattle.hir_core.specs.Tree.{Tree, empty, literal, byte_class, char_class, look, repetition, capture, nothing, cat, never, alt}
+use Rattle.hir_core.specs.Tree.{Tree, empty, byte_class, look, repetition, cat, never, alt}
 use Rattle.hir_core.specs.Means.{Looks, Means, Rounds, AtMost, is_member}
 use Rattle.hir_core.specs.PreferredEnds.{preferred_ends, class_end, Has as HasEnd}
 use Rattle.hir_core.proofs.HasLemmas.{Has-if, Has-then}
@@ -16,7 +16,7 @@ use Rattle.hir_core.proofs.PreferredEndsLemmas.{preferred_ends_sound, preferred_
 use Rattle.nfa_core.specs.Ways.{Text, with_place, reads, is_passed}
 use Rattle.thompson_nfa.specs.Denotes.{IsMeant, seen}
 use Rattle.thompson_nfa.proofs.WayLemmas.{byte_ends}
-use Rattle.thompson_nfa.proofs.DownLemmas.{Down, down_rounds, rounds_down, down_join, join_down}
+use Rattle.thompson_nfa.proofs.DownLemmas.{down_rounds, rounds_down, down_join, join_down}
 
 -- the look that a state has for one of a tree
 abbrev pub turned : Bool → Look → Look
@@ -99,10 +99,10 @@ taken_get : (h : List ℕ) (n i : ℕ) (c : Bool) → nat_lt i n ≡ c → slice
 taken_get h n i true e =
     let less = ltb-true i n e in
     elim (slice_get_cases h i).1 [
-      inl x ↦
-        let fits = x.1 in
-        slice_get-get_or (take n h) i x.0 (omega (arith, length-take n h)) ∙ ap (λ (b : ℕ). Some b) (get_or-take n h i x.0 less ∙ x.3) ∙ sym x.2
-    | inr o ↦ let past = o.0 in slice_get_past (take n h) i (omega (arith, length-take n h)) ∙ sym o.1
+      | inl x ↦
+          let fits = x.1 in
+          slice_get-get_or (take n h) i x.0 (omega (arith, length-take n h)) ∙ ap (λ (b : ℕ). Some b) (get_or-take n h i x.0 less ∙ x.3) ∙ sym x.2
+      | inr o ↦ let past = o.0 in slice_get_past (take n h) i (omega (arith, length-take n h)) ∙ sym o.1
     ]
 taken_get h n i false e = let past = ltb-false i n e in slice_get_past (take n h) i (omega (arith, length-take n h))
 

@@ -1,8 +1,8 @@
 -- What the walk of a stack lists from a state: how states that are joined list what their parts list.
-use Rattle.std.proofs.Common.{◌≡◌, ℕ, zero, suc, ◌+◌, ◌<◌, ◌≤◌, Bool, true, false, List, [], ◌∷◌, ◌++◌, length, Option, Some, None, inl, inr, refl, sym, ap, ◌∙◌, subst, arith, append-nil}
+use Rattle.std.proofs.Common.{◌≡◌, ℕ, zero, suc, ◌+◌, ◌<◌, ◌≤◌, Bool, true, false, List, [], ◌∷◌, ◌++◌, inl, inr, refl, sym, subst, arith, append-nil}
 use Rattle.std.specs.List.{flat_map}
 use Rattle.hir_core.specs.PreferredEnds.{Has as HasEnd, in_order}
-use Rattle.nfa_core.specs.Walks.{Lists, lists_none, lists_ways}
+use Rattle.nfa_core.specs.Walks.{Lists, lists_ways}
 use Rattle.nfa_core.specs.Ways.{Text}
 use Rattle.nfa_core.specs.Drafted.{Table, table_ways, table_match}
 use Rattle.nfa_core.proofs.ListsLemmas.{lists_append, lists_split}

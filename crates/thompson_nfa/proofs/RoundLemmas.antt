@@ -1,17 +1,17 @@
 -- Repetitions: copies one after the other, nested choices, and loops.
-use Rattle.std.proofs.Common.{◌≡◌, ℕ, zero, suc, ◌+◌, ◌<◌, ◌≤◌, max, Bool, true, false, List, [], ◌∷◌, length, Option, Some, None, ◌⊎◌, inl, inr, refl, sym, ap, ◌∙◌, subst, arith}
+use Rattle.std.proofs.Common.{◌≡◌, ℕ, zero, suc, Bool, false, List, length, Option, Some, None, ◌⊎◌, inl, inr, refl, arith}
 use Rattle.std.specs.List.{flat_map}
-use Rattle.hir_core.specs.Tree.{Tree, empty, repetition, cat}
-use Rattle.hir_core.specs.Means.{Looks, Means, Rounds, AtMost}
-use Rattle.hir_core.specs.PreferredEnds.{preferred_ends, in_order, Has as HasEnd}
-use Rattle.hir_core.specs.Facts.{LoopsRead, IsAboveZero, minimum_len}
+use Rattle.hir_core.specs.Tree.{Tree, empty, repetition}
+use Rattle.hir_core.specs.Means.{Looks, Rounds, AtMost}
+use Rattle.hir_core.specs.PreferredEnds.{preferred_ends, in_order}
+use Rattle.hir_core.specs.Facts.{LoopsRead}
 use Rattle.hir_core.proofs.SpanLemmas.{IsSpan-Means}
 use Rattle.hir_core.proofs.MinimumLenLemmas.{reads_a_byte}
 use Rattle.hir_core.proofs.PreferredEndsLemmas.{preferred_ends_sound}
 use Rattle.hir_core.proofs.RepetitionLemmas.{repetition_more}
 use Rattle.nfa_core.specs.Ways.{Text}
 use Rattle.nfa_core.specs.Drafted.{Table}
-use Rattle.thompson_nfa.specs.Denotes.{at, seen, choice, IsMeant, Reaches, Orders, Denotes}
+use Rattle.thompson_nfa.specs.Denotes.{seen, choice, IsMeant, Reaches, Orders, Denotes}
 use Rattle.thompson_nfa.proofs.WayLemmas.{both_at, Goes, goes_choice}
 use Rattle.thompson_nfa.proofs.ReachLemmas.{reaches_like, reaches_join, reaches_choice, reaches_rounds}
 use Rattle.thompson_nfa.proofs.OrderLemmas.{orders_like, orders_join, orders_choice, orders_rounds}
@@ -49,15 +49,15 @@ copy_ends looks h low (Some m) greedy x i = refl
 -- a copy and then the other rounds, in both directions
 pub joins_copy : (back : Bool) (low : ℕ) (most : Option ℕ) (greedy : Bool) (x : Tree) → Joins back x (repetition low most greedy x) (repetition (suc low) (one_more most) greedy x)
 joins_copy back low most greedy x = record {
-    parts = λ t i j m.
-        let r = first_round back t low most x i j (meant_rounds back t (suc low) (one_more most) greedy x i j m) in
-        (r.0, r.1, rounds_meant back t low most greedy x r.0 j r.2);
-    joined = λ t i j m.
-        let r = meant_rounds back t low most greedy x m.0 j m.2 in
-        rounds_meant back t (suc low) (one_more most) greedy x i j (suc r.0, omega arith, at_most_more r.0 most r.2, (m.0, m.1, r.3));
-    reading = λ up f. copy_reading low most greedy x f;
-    ends = λ up looks h i. copy_ends looks h low most greedy x i;
-  }
+  parts = λ t i j m.
+      let r = first_round back t low most x i j (meant_rounds back t (suc low) (one_more most) greedy x i j m) in
+      (r.0, r.1, rounds_meant back t low most greedy x r.0 j r.2);
+  joined = λ t i j m.
+      let r = meant_rounds back t low most greedy x m.0 j m.2 in
+      rounds_meant back t (suc low) (one_more most) greedy x i j (suc r.0, omega arith, at_most_more r.0 most r.2, (m.0, m.1, r.3));
+  reading = λ up f. copy_reading low most greedy x f;
+  ends = λ up looks h i. copy_ends looks h low most greedy x i;
+}
 
 -- no round is owed and none is left
 pub same_stopped : (greedy : Bool) (x : Tree) → IsSame empty (repetition 0 (Some 0) greedy x)
@@ -115,9 +115,9 @@ module _ (back : Bool) (T : Table) where
   pub denotes_optional : (u a m e left : ℕ) (greedy : Bool) (x : Tree) → T u ≡ choice greedy a e → Denotes back T a m x →
       Denotes back T m e (repetition 0 (Some left) greedy x) → Denotes back T u e (repetition 0 (Some (suc left)) greedy x)
   denotes_optional u a m e left greedy x is body rest = record {
-      reaches = λ t. few_reaches u a m e left greedy x body rest t (goes_choice back t T u greedy a e is);
-      orders = λ up f t. few_orders u a m e left greedy x body rest t up f (goes_choice false t T u greedy a e is);
-    }
+    reaches = λ t. few_reaches u a m e left greedy x body rest t (goes_choice back t T u greedy a e is);
+    orders = λ up f t. few_orders u a m e left greedy x body rest t up f (goes_choice false t T u greedy a e is);
+  }
 
   -- one round at most
   pub denotes_zero_or_one : (u a e : ℕ) (greedy : Bool) (x : Tree) → T u ≡ choice greedy a e → Denotes back T a e x → Denotes back T u e (repetition 0 (Some 1) greedy x)
@@ -141,13 +141,13 @@ module _ (back : Bool) (T : Table) where
   pub denotes_star : (q u a e : ℕ) (greedy : Bool) (x : Tree) → T u ≡ choice greedy a e → T q ≡ choice greedy a e → Denotes back T a u x →
       Denotes back T q e (repetition 0 None greedy x)
   denotes_star q u a e greedy x loop entry body = record {
-      reaches = λ t.
-          reaches_like back t T q e (λ i j. (n : ℕ) × Rounds (IsMeant back t x) n i j) (IsMeant back t (repetition 0 None greedy x))
-          (λ i j m. let r = meant_rounds back t 0 None greedy x i j m in (r.0, r.3))
-          (λ i j r. rounds_meant back t 0 None greedy x i j (r.0, omega arith, tt, r.1))
-          (reaches_rounds back t T greedy a u e (IsMeant back t x) (goes_choice back t T u greedy a e loop) (body.reaches t) q (goes_choice back t T q greedy a e entry));
-      orders = λ up f t. star_orders q u a e greedy x loop entry body t up f;
-    }
+    reaches = λ t.
+        reaches_like back t T q e (λ i j. (n : ℕ) × Rounds (IsMeant back t x) n i j) (IsMeant back t (repetition 0 None greedy x))
+        (λ i j m. let r = meant_rounds back t 0 None greedy x i j m in (r.0, r.3))
+        (λ i j r. rounds_meant back t 0 None greedy x i j (r.0, omega arith, tt, r.1))
+        (reaches_rounds back t T greedy a u e (IsMeant back t x) (goes_choice back t T u greedy a e loop) (body.reaches t) q (goes_choice back t T q greedy a e entry));
+    orders = λ up f t. star_orders q u a e greedy x loop entry body t up f;
+  }
 
   -- a body, and then the loop
   pub denotes_plus : (u a e : ℕ) (greedy : Bool) (x : Tree) → T u ≡ choice greedy a e → Denotes back T a u x → Denotes back T a e (repetition 1 None greedy x)

@@ -1,10 +1,10 @@
 -- Trees that are the same to a table: they mean the same and prefer the same ends.
-use Rattle.std.proofs.Common.{◌≡◌, ℕ, zero, suc, ◌+◌, ◌<◌, ◌≤◌, Bool, true, false, List, [], ◌∷◌, ◌++◌, length, drop, Option, Some, None, if◌then◌else◌, ◌&&◌, ◌||◌, slice_get, nat_eq, nat_le, ◌⊎◌, inl, inr, refl, sym, ap, ◌∙◌, subst, arith, append-nil, drop-drop, drop-cons, drop_of_length-le}
+use Rattle.std.proofs.Common.{◌≡◌, ℕ, ◌+◌, Bool, true, false, List, [], ◌∷◌, ◌++◌, length, drop, Option, if◌then◌else◌, ◌&&◌, slice_get, nat_eq, inl, inr, refl, sym, ap, ◌∙◌, subst, arith, append-nil, drop-drop, drop-cons, drop_of_length-le}
 use Rattle.std.proofs.lemmas.Grind.{common_steps}
-use Rattle.std.proofs.lemmas.Option.{slice_get_cases, slice_get_past}
+use Rattle.std.proofs.lemmas.Option.{slice_get_cases}
 use Rattle.std.proofs.Math.Bool.{and_assoc}
 use Rattle.std.specs.List.{flat_map, starts_with}
-use Rattle.hir_core.specs.Tree.{Tree, empty, literal, byte_class, repetition, capture, nothing, cat, never, alt, concat, alternation}
+use Rattle.hir_core.specs.Tree.{Tree, empty, literal, byte_class, capture, nothing, cat, concat, alternation}
 use Rattle.hir_core.specs.Means.{Looks, Means, stands, is_member}
 use Rattle.hir_core.specs.PreferredEnds.{preferred_ends, class_end, Has as HasEnd}
 use Rattle.hir_core.specs.Facts.{LoopsRead}
@@ -35,11 +35,11 @@ denotes_same back T s e y z same d = denotes_like back T s e y z same.reading sa
 
 pub joins_same : (back : Bool) (x1 x2 y z : Tree) → IsSame y z → Joins back x1 x2 y → Joins back x1 x2 z
 joins_same back x1 x2 y z same j = record {
-    parts = λ t i k m. j.parts t i k (meant_map z y (same_narrow y z same) back t i k m);
-    joined = λ t i k m. meant_map y z (same_wide y z same) back t i k (j.joined t i k m);
-    reading = λ up f. j.reading up (same.reading f);
-    ends = λ up looks h i. j.ends up looks h i ∙ same.ends looks h i;
-  }
+  parts = λ t i k m. j.parts t i k (meant_map z y (same_narrow y z same) back t i k m);
+  joined = λ t i k m. meant_map y z (same_wide y z same) back t i k (j.joined t i k m);
+  reading = λ up f. j.reading up (same.reading f);
+  ends = λ up looks h i. j.ends up looks h i ∙ same.ends looks h i;
+}
 
 -- two parts: the first is done first reading up, the second reading down
 pub joins_cat_up : (x y : Tree) → Joins false x y (cat x y)
@@ -47,11 +47,11 @@ joins_cat_up x y = record { parts = λ t i j m. m; joined = λ t i j m. m; readi
 
 pub joins_cat_down : (x y : Tree) → Joins true y x (cat x y)
 joins_cat_down x y = record {
-    parts = λ t i j m. meant_cat_down t x y i j m;
-    joined = λ t i j m. cat_meant_down t x y i j m.0 m.1 m.2;
-    reading = λ up f. cc;
-    ends = λ up looks h i. cc;
-  }
+  parts = λ t i j m. meant_cat_down t x y i j m;
+  joined = λ t i j m. cat_meant_down t x y i j m.0 m.1 m.2;
+  reading = λ up f. cc;
+  ends = λ up looks h i. cc;
+}
 
 -- ---- concatenations and alternations of few parts, groups
 
@@ -135,7 +135,7 @@ one_between b c = grind (arith, common_steps)
 
 byte_ends_stand : (h : List ℕ) (i b : ℕ) → class_end ((b, b) ∷ []) (slice_get h i) i ≡ (if stands h i (b ∷ []) then (i + 1) ∷ [] else [])
 byte_ends_stand h i b = elim (slice_get_cases h i).1 [
-    inl x ↦
+  | inl x ↦
       ap (λ (o : Option ℕ). class_end ((b, b) ∷ []) o i) x.2
       ∙ ap (λ (c : Bool). if c then (i + 1) ∷ [] else []) (one_between b x.0)
       ∙ ap (λ (c : ℕ). if nat_eq b c && true then (i + 1) ∷ [] else []) (sym x.3)
@@ -143,7 +143,7 @@ byte_ends_stand h i b = elim (slice_get_cases h i).1 [
   | inr o ↦
       ap (λ (c : Option ℕ). class_end ((b, b) ∷ []) c i) o.1
       ∙ ap (λ (rest : List ℕ). if starts_with nat_eq rest (b ∷ []) then (i + 1) ∷ [] else []) (sym (drop_of_length-le h o.0))
-  ]
+]
 
 pub same_literal_one : (b : ℕ) → IsSame (byte_class ((b, b) ∷ [])) (literal (b ∷ []))
 same_literal_one b = record { reading = λ f. tt; ends = λ looks h i. byte_ends_stand h i b }

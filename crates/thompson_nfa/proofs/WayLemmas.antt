@@ -1,11 +1,10 @@
 -- Where a state of each form leads from a place, and that it is no match.
-use Rattle.std.proofs.Common.{◌≡◌, ℕ, zero, suc, Bool, true, false, List, [], ◌∷◌, ◌++◌, map, Option, Some, None, if◌then◌else◌, ◌&&◌, ◌||◌, nat_le, ◌⊎◌, inl, inr, ⊎_elim, refl, sym, ap, ◌∙◌, subst, append-nil}
+use Rattle.std.proofs.Common.{◌≡◌, ℕ, Bool, true, false, List, [], ◌∷◌, ◌++◌, map, Option, Some, None, if◌then◌else◌, ◌&&◌, ◌||◌, nat_le, ◌⊎◌, inl, inr, refl, sym, ap, ◌∙◌}
 use Rattle.look_core.specs.declared.look.Look.{Look}
-use Rattle.look_core.specs.Codes.{reversed}
 use Rattle.hir_core.specs.Means.{is_member}
 use Rattle.hir_core.specs.PreferredEnds.{Has as HasEnd}
 use Rattle.nfa_core.specs.Nfa.{Node, byte_range, sparse_node, look_node, union_node, capture_node, fail_node, match_node}
-use Rattle.nfa_core.specs.BuilderStates.{Part, empty_part, range_part, sparse_part, look_part, capture_start_part, capture_end_part, union_part, union_reverse_part, fail_part, match_part}
+use Rattle.nfa_core.specs.BuilderStates.{Part, empty_part, range_part, sparse_part, look_part, capture_start_part, capture_end_part, union_part, fail_part}
 use Rattle.nfa_core.specs.Walks.{Has}
 use Rattle.nfa_core.specs.Places.{same_pair}
 use Rattle.nfa_core.specs.Ways.{Text, reads, is_passed, in_ranges, on_byte, on_nothing, on_read, place_behind, node_ways, match_of}
@@ -36,19 +35,19 @@ has_at e (k ∷ ks) j (inr h) = has_later same_pair (j, e) (k, e) (at e ks) (has
 pub at_has : (e : ℕ) (js : List ℕ) (w : ℕ × ℕ) → Has same_pair w (at e js) → (k : ℕ) × HasEnd js k × (w ≡ (k, e))
 at_has e [] w h = none_in same_pair w _ h
 at_has e (k ∷ ks) w h = elim (has_cons same_pair pairs_equal w (k, e) (at e ks) h) [
-    inl is ↦ (k, inl refl, is)
+  | inl is ↦ (k, inl refl, is)
   | inr g ↦ let r = at_has e ks w g in (r.0, inr r.1, r.2)
-  ]
+]
 
 pub has_both : (greedy : Bool) (a e i : ℕ) (w : ℕ × ℕ) → Has same_pair w (both_at greedy a e i) → (w ≡ (i, a)) ⊎ (w ≡ (i, e))
 has_both true a e i w h = elim (has_cons same_pair pairs_equal w (i, a) ((i, e) ∷ []) h) [
-    inl is ↦ inl is
+  | inl is ↦ inl is
   | inr g ↦ elim (has_cons same_pair pairs_equal w (i, e) [] g) [ inl is ↦ inr is | inr n ↦ none_in same_pair w _ n ]
-  ]
+]
 has_both false a e i w h = elim (has_cons same_pair pairs_equal w (i, e) ((i, a) ∷ []) h) [
-    inl is ↦ inr is
+  | inl is ↦ inr is
   | inr g ↦ elim (has_cons same_pair pairs_equal w (i, a) [] g) [ inl is ↦ inl is | inr n ↦ none_in same_pair w _ n ]
-  ]
+]
 
 pub both_has_body : (greedy : Bool) (a e i : ℕ) → Has same_pair (i, a) (both_at greedy a e i)
 both_has_body true a e i = has_same same_pair pairs_equal (i, a) (i, a) ((i, e) ∷ []) refl
@@ -126,9 +125,9 @@ match_has_no_ways back t T p m h =
 module _ (back : Bool) (t : Text) (T : Table) (s : ℕ) where
   goes_as : (n : Part) (to : ℕ → List (ℕ × ℕ)) → T s ≡ n → ((i : ℕ) → match_of (drafted n) i ≡ None) → ((i : ℕ) → node_ways back t (drafted n) i ≡ to i) → Goes back t T s to
   goes_as n to is none same = record {
-      ways = λ i. ap (λ (p : Part). node_ways back t (drafted p) i) is ∙ same i;
-      is_open = λ i. ap (λ (p : Part). match_of (drafted p) i) is ∙ none i;
-    }
+    ways = λ i. ap (λ (p : Part). node_ways back t (drafted p) i) is ∙ same i;
+    is_open = λ i. ap (λ (p : Part). match_of (drafted p) i) is ∙ none i;
+  }
 
   pub goes_empty : (e : ℕ) → T s ≡ empty_part e → Goes back t T s (λ i. at e (i ∷ []))
   goes_empty e is = goes_as (empty_part e) (λ i. at e (i ∷ [])) is (λ i. refl) (λ i. plain_node back t (union_node (e ∷ [])) i (λ b. refl))

@@ -6,3 +6,9 @@ pub mod Choice
 pub mod Added
 pub mod Refusals
 pub mod Branches
+pub mod Configs
+pub mod Compilations
+pub mod Assembled
+pub mod Patterns
+pub mod Prefix
+pub mod RefusedTrees

@@ -76,7 +76,7 @@ fn clone_name(name: &Option<String>, alloc: Global) -> Result<Option<String>, Al
 
 /// A group, between states that note its ends where such states are made.
 #[cycle(compile)]
-fn captured(
+pub(crate) fn captured(
     builder: &mut Builder,
     alloc: Global,
     which: WhichCaptures,

@@ -1,0 +1,61 @@
+-- What stands in a builder when all patterns are compiled, before it is built.
+use Rattle.std.specs.Prelude.{◌≡◌, ◌⊎◌, ℕ, suc, ◌*◌, ◌≤◌, Bool, true, false, ◌&&◌, List, [], ◌∷◌, length, All}
+use Rattle.hir_core.specs.Tree.{Tree}
+use Rattle.hir_core.specs.Facts.{list_count}
+use Rattle.nfa_core.specs.BuilderStates.{Assembly, empty_part, sparse_part, union_part, union_reverse_part, fail_part, match_part, part_at}
+use Rattle.nfa_core.specs.CanBuild.{CanBuild}
+use Rattle.nfa_core.specs.Drafted.{Table}
+use Rattle.thompson_nfa.specs.Configs.{Options, utf8_of, reverse_of, limit_of, captures_of, terminator_of, is_any}
+use Rattle.thompson_nfa.specs.Denotes.{Denotes}
+use Rattle.thompson_nfa.specs.NotedGroups.{noted_from}
+use Rattle.thompson_nfa.specs.Compiled.{sum_of_bytes}
+use Rattle.thompson_nfa.specs.Compilations.{is_anchored_tree}
+
+-- from state s the table does what the tree means on the way to a state in which pattern p matches
+pub record Accepts (reverse : Bool) (table : Table) (s p : ℕ) (x : Tree) : Type 0 where
+  pub end : ℕ
+  pub matches : table end ≡ match_part p
+  pub denotes : Denotes reverse table s end x
+
+-- each tree from pattern p on has its start
+abbrev pub AcceptAll : Bool → Table → ℕ → List ℕ → List Tree → Type 0
+AcceptAll reverse table p [] [] = Unit {0}
+AcceptAll reverse table p (s ∷ starts) (x ∷ xs) = Accepts reverse table s p x × AcceptAll reverse table (suc p) starts xs
+AcceptAll reverse table p [] (x ∷ xs) = ⊥
+AcceptAll reverse table p (s ∷ starts) [] = ⊥
+
+-- the state leads to all these starts, the first ones preferred: it is the only one, a union of them, or leads nowhere
+abbrev pub LeadsToAll : Table → ℕ → List ℕ → Type 0
+LeadsToAll table c starts = (starts ≡ c ∷ []) ⊎ ((table c ≡ union_part starts) ⊎ ((starts ≡ []) × (table c ≡ fail_part)))
+
+-- the state u goes on to c at once, or else reads a byte, whichever it is, and comes back to itself
+pub record TriesEachPlace (table : Table) (u c : ℕ) : Type 0 where
+  pub byte : ℕ
+  pub back : ℕ
+  pub loop : table u ≡ union_reverse_part (byte ∷ c ∷ [])
+  pub any : table byte ≡ sparse_part ((0, 255, back) ∷ [])
+  pub again : table back ≡ empty_part u
+
+-- whether all trees are anchored
+abbrev pub AllAnchored : Bool → List Tree → Type 0
+AllAnchored reverse xs = All (λ x. is_anchored_tree reverse x ≡ true) xs
+
+-- the unanchored start comes to the anchored one as the state that stands for it, where all trees are anchored, and else at
+-- each place
+abbrev pub ComesBefore : Bool → List Tree → Table → ℕ → ℕ → Type 0
+ComesBefore reverse xs table u c = (AllAnchored reverse xs × (table u ≡ empty_part c)) ⊎ ((AllAnchored reverse xs → ⊥) × TriesEachPlace table u c)
+
+pub record IsAssembled (o : Options) (xs : List Tree) (b : Assembly) (anchored unanchored : ℕ) : Type 0 where
+  pub utf8 : b.utf8 ≡ utf8_of o
+  pub reverse : b.reverse ≡ reverse_of o
+  pub terminator : b.terminator ≡ terminator_of o
+  pub size_limit : b.size_limit ≡ limit_of o
+  pub captures : (reverse_of o && is_any (captures_of o)) ≡ false
+  pub can_build : CanBuild b anchored unanchored
+  pub accept : AcceptAll (reverse_of o) (part_at b.parts) 0 b.starts xs
+  pub leads : LeadsToAll (part_at b.parts) anchored b.starts
+  pub before : ComesBefore (reverse_of o) xs (part_at b.parts) unanchored anchored
+  pub one_match : (q r p : ℕ) → part_at b.parts q ≡ match_part p → part_at b.parts r ≡ match_part p → q ≡ r
+  pub groups : b.groups ≡ noted_from (captures_of o) 0 xs []
+  pub states : length b.parts ≤ list_count xs
+  pub bytes : sum_of_bytes b ≤ 4096 * list_count xs

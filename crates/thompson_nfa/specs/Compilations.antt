@@ -1,0 +1,88 @@
+-- The automaton that trees are compiled to: what its runs find, in which order, and how great it is.
+use Rattle.std.specs.Prelude.{◌≡◌, ◌↔◌, ℕ, zero, suc, ◌-◌, ◌<◌, ◌≤◌, min, Bool, true, false, ◌&&◌, List, [], ◌∷◌, ◌++◌, map, length, slice_get, get_or, All, Some}
+use Rattle.std.specs.List.{flat_map}
+use Rattle.look_core.specs.declared.look.Look.TheVariants.{Start, End}
+use Rattle.look_core.specs.LookSets.{has_look}
+use Rattle.hir_core.specs.Tree.{Tree}
+use Rattle.hir_core.specs.Means.{Means}
+use Rattle.hir_core.specs.PreferredEnds.{preferred_ends}
+use Rattle.hir_core.specs.Facts.{LoopsRead, look_set_prefix, look_set_suffix, list_count}
+use Rattle.nfa_core.specs.Walks.{Has, HasNoneTwice, distinct}
+use Rattle.nfa_core.specs.Runs.{IsChain}
+use Rattle.nfa_core.specs.Places.{same_pair}
+use Rattle.nfa_core.specs.Nfa.{match_node, Automaton, node_at}
+use Rattle.nfa_core.specs.NfaValue.{Nfa, has_empty}
+use Rattle.nfa_core.specs.Ways.{Text, span, ways, ends_from}
+use Rattle.thompson_nfa.specs.Configs.{Options, utf8_of, reverse_of, captures_of, terminator_of, is_any}
+use Rattle.thompson_nfa.specs.Denotes.{seen, IsMeant}
+use Rattle.thompson_nfa.specs.NotedGroups.{noted_from}
+
+-- pattern p, with the end e, is a choice at place i: its tree is one that leads from i to e
+abbrev pub IsChoice : Bool → List Tree → Text → ℕ → ℕ × ℕ → Type 0
+IsChoice reverse xs t i e = (x : Tree) × (slice_get xs e.1 ≡ Some x) × IsMeant reverse t x i e.0
+
+-- the choices at place i, for one who reads up: patterns in order, from pattern p on, each one's ends in order
+abbrev pub choices_from : ℕ → List Tree → Text → ℕ → List (ℕ × ℕ)
+choices_from p [] t i = []
+choices_from p (x ∷ xs) t i = map (λ j. (j, p)) (preferred_ends t.holds (seen t) x i) ++ choices_from (suc p) xs t i
+
+-- so many places from i on
+abbrev pub places_from : ℕ → ℕ → List ℕ
+places_from i zero = []
+places_from i (suc n) = i ∷ places_from (suc i) n
+
+-- one who reads from place i may come to place k
+abbrev pub IsReadTo : Bool → Text → ℕ → ℕ → Type 0
+IsReadTo false t i k = (i ≤ k) × (k ≤ t.end)
+IsReadTo true t i k = (k ≤ i) × (min i t.start ≤ k)
+
+-- each span of the tree begins, or in reverse ends, at the haystack's edge, as far as its looks tell
+abbrev pub is_anchored_tree : Bool → Tree → Bool
+is_anchored_tree false x = has_look (look_set_prefix x) Start
+is_anchored_tree true x = has_look (look_set_suffix x) End
+
+abbrev pub start_of : Automaton → ℕ → ℕ
+start_of a p = get_or a.start_pattern p 0
+
+-- What the runs of the automaton find, from each of its starts. From the unanchored one they may begin at each place that
+-- is read to; a text is then a span of a haystack of bytes.
+pub record FindsSpans (reverse : Bool) (xs : List Tree) (n : Nfa) : Type 0 where
+  pub patterns : (p : ℕ) (x : Tree) → slice_get xs p ≡ Some x → (t : Text) (i : ℕ) (e : ℕ × ℕ) → i ≤ t.end →
+      Has same_pair e (ends_from n.automaton t (i, start_of n.automaton p)) ↔ ((e.1 ≡ p) × IsMeant reverse t x i e.0)
+  pub anchored : (t : Text) (i : ℕ) (e : ℕ × ℕ) → i ≤ t.end →
+      Has same_pair e (ends_from n.automaton t (i, n.automaton.start_anchored)) ↔ IsChoice reverse xs t i e
+  pub unanchored : (h : List ℕ) (s f i : ℕ) (e : ℕ × ℕ) → s ≤ i → i ≤ f → f ≤ length h → All (λ byte. byte < 256) h →
+      Has same_pair e (ends_from n.automaton (span n.terminator h s f) (i, n.automaton.start_unanchored))
+      ↔ ((k : ℕ) × IsReadTo reverse (span n.terminator h s f) i k × IsChoice reverse xs (span n.terminator h s f) k e)
+
+-- In which order they find them, for one who reads up, where the loops of all trees read. No chain from a start comes to a
+-- pair twice, so there are no loops that read nothing.
+pub record FindsInOrder (xs : List Tree) (n : Nfa) : Type 0 where
+  pub patterns : (p : ℕ) (x : Tree) → slice_get xs p ≡ Some x → LoopsRead x → (t : Text) (i : ℕ) → i ≤ t.end →
+      ends_from n.automaton t (i, start_of n.automaton p) ≡ distinct same_pair (map (λ j. (j, p)) (preferred_ends t.holds (seen t) x i))
+  pub anchored : All LoopsRead xs → (t : Text) (i : ℕ) → i ≤ t.end →
+      ends_from n.automaton t (i, n.automaton.start_anchored) ≡ distinct same_pair (choices_from 0 xs t i)
+  pub unanchored : All LoopsRead xs → (h : List ℕ) (s f i : ℕ) → s ≤ i → i ≤ f → f ≤ length h → All (λ byte. byte < 256) h →
+      ends_from n.automaton (span n.terminator h s f) (i, n.automaton.start_unanchored)
+      ≡ distinct same_pair (flat_map (choices_from 0 xs (span n.terminator h s f)) (places_from i (suc f - i)))
+  pub no_return : All LoopsRead xs → (t : Text) (i : ℕ) (r : List (ℕ × ℕ)) → i ≤ t.end →
+      IsChain same_pair (ways n.automaton t) (i, n.automaton.start_unanchored) r → HasNoneTwice same_pair ((i, n.automaton.start_unanchored) ∷ r)
+
+-- there is one state in which the pattern matches
+abbrev pub HasOneMatch : Automaton → ℕ → Type 0
+HasOneMatch a p = (q : ℕ) × (node_at a q ≡ match_node p) × ((r : ℕ) → node_at a r ≡ match_node p → r ≡ q)
+
+-- the automaton that these trees are compiled to, under these options
+pub record IsCompiled (o : Options) (xs : List Tree) (n : Nfa) : Type 0 where
+  pub utf8 : n.utf8 ≡ utf8_of o
+  pub reverse : n.automaton.reverse ≡ reverse_of o
+  pub terminator : n.terminator ≡ terminator_of o
+  pub captures : (reverse_of o && is_any (captures_of o)) ≡ false
+  pub patterns : length n.automaton.start_pattern ≡ length xs
+  pub groups : n.groups ≡ noted_from (captures_of o) 0 xs []
+  pub spans : FindsSpans (reverse_of o) xs n
+  pub order : reverse_of o ≡ false → FindsInOrder xs n
+  pub matches : (p : ℕ) → p < length xs → HasOneMatch n.automaton p
+  pub empty : (has_empty n.automaton ≡ true) ↔ ((p : ℕ) × (x : Tree) × (slice_get xs p ≡ Some x) × Means (λ l i. true) [] x 0 0)
+  pub always_anchored : (n.automaton.start_anchored ≡ n.automaton.start_unanchored) ↔ All (λ x. is_anchored_tree (reverse_of o) x ≡ true) xs
+  pub states : length n.automaton.states ≤ list_count xs
