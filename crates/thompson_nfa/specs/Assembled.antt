@@ -1,5 +1,5 @@
 -- What stands in a builder when all patterns are compiled, before it is built.
-use Rattle.std.specs.Prelude.{◌≡◌, ◌⊎◌, ℕ, suc, ◌+◌, ◌*◌, ◌≤◌, Bool, true, false, ◌&&◌, List, [], ◌∷◌, length, All}
+use Rattle.std.specs.Prelude.{◌≡◌, ◌⊎◌, ℕ, suc, ◌*◌, ◌≤◌, Bool, true, false, ◌&&◌, List, [], ◌∷◌, length, All}
 use Rattle.hir_core.specs.Tree.{Tree}
 use Rattle.hir_core.specs.Facts.{list_count}
 use Rattle.nfa_core.specs.BuilderStates.{Assembly, empty_part, sparse_part, union_part, union_reverse_part, fail_part, match_part, part_at}

@@ -1,8 +1,6 @@
 -- The automaton that trees are compiled to: what its runs find, in which order, and how great it is.
-use Rattle.std.specs.Prelude.{◌≡◌, ◌↔◌, ℕ, zero, suc, ◌+◌, ◌-◌, ◌*◌, ◌<◌, ◌≤◌, min, Bool, true, false, ◌&&◌, List, [], ◌∷◌, ◌++◌, map, length, slice_get, get_or, All, Option, Some}
-use Rattle.std.specs.Bool.{nat_eq}
+use Rattle.std.specs.Prelude.{◌≡◌, ◌↔◌, ℕ, zero, suc, ◌-◌, ◌<◌, ◌≤◌, min, Bool, true, false, ◌&&◌, List, [], ◌∷◌, ◌++◌, map, length, slice_get, get_or, All, Some}
 use Rattle.std.specs.List.{flat_map}
-use Rattle.look_core.specs.declared.look.Look.{Look}
 use Rattle.look_core.specs.declared.look.Look.TheVariants.{Start, End}
 use Rattle.look_core.specs.LookSets.{has_look}
 use Rattle.hir_core.specs.Tree.{Tree}
@@ -47,13 +45,13 @@ abbrev pub start_of : Automaton → ℕ → ℕ
 start_of a p = get_or a.start_pattern p 0
 
 -- What the runs of the automaton find, from each of its starts. From the unanchored one they may begin at each place that
--- is read to; a text is then a span of a haystack.
+-- is read to; a text is then a span of a haystack of bytes.
 pub record FindsSpans (reverse : Bool) (xs : List Tree) (n : Nfa) : Type 0 where
   pub patterns : (p : ℕ) (x : Tree) → slice_get xs p ≡ Some x → (t : Text) (i : ℕ) (e : ℕ × ℕ) → i ≤ t.end →
       Has same_pair e (ends_from n.automaton t (i, start_of n.automaton p)) ↔ ((e.1 ≡ p) × IsMeant reverse t x i e.0)
   pub anchored : (t : Text) (i : ℕ) (e : ℕ × ℕ) → i ≤ t.end →
       Has same_pair e (ends_from n.automaton t (i, n.automaton.start_anchored)) ↔ IsChoice reverse xs t i e
-  pub unanchored : (h : List ℕ) (s f i : ℕ) (e : ℕ × ℕ) → s ≤ i → i ≤ f → f ≤ length h →
+  pub unanchored : (h : List ℕ) (s f i : ℕ) (e : ℕ × ℕ) → s ≤ i → i ≤ f → f ≤ length h → All (λ byte. byte < 256) h →
       Has same_pair e (ends_from n.automaton (span n.terminator h s f) (i, n.automaton.start_unanchored))
       ↔ ((k : ℕ) × IsReadTo reverse (span n.terminator h s f) i k × IsChoice reverse xs (span n.terminator h s f) k e)
 
@@ -64,7 +62,7 @@ pub record FindsInOrder (xs : List Tree) (n : Nfa) : Type 0 where
       ends_from n.automaton t (i, start_of n.automaton p) ≡ distinct same_pair (map (λ j. (j, p)) (preferred_ends t.holds (seen t) x i))
   pub anchored : All LoopsRead xs → (t : Text) (i : ℕ) → i ≤ t.end →
       ends_from n.automaton t (i, n.automaton.start_anchored) ≡ distinct same_pair (choices_from 0 xs t i)
-  pub unanchored : All LoopsRead xs → (h : List ℕ) (s f i : ℕ) → s ≤ i → i ≤ f → f ≤ length h →
+  pub unanchored : All LoopsRead xs → (h : List ℕ) (s f i : ℕ) → s ≤ i → i ≤ f → f ≤ length h → All (λ byte. byte < 256) h →
       ends_from n.automaton (span n.terminator h s f) (i, n.automaton.start_unanchored)
       ≡ distinct same_pair (flat_map (choices_from 0 xs (span n.terminator h s f)) (places_from i (suc f - i)))
   pub no_return : All LoopsRead xs → (t : Text) (i : ℕ) (r : List (ℕ × ℕ)) → i ≤ t.end →

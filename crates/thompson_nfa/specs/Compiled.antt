@@ -1,21 +1,27 @@
 -- What a call of the compiler adds to a builder's states: a fragment with a start, and an end that is led on later.
-use Rattle.std.specs.Prelude.{◌≡◌, ◌≢◌, ◌⊎◌, ℕ, zero, suc, ◌+◌, ◌*◌, ◌<◌, ◌≤◌, Bool, true, false, List, length, All, Option, None}
+use Rattle.std.specs.Prelude.{◌≡◌, ◌≢◌, ◌⊎◌, ℕ, zero, suc, ◌+◌, ◌*◌, ◌<◌, ◌≤◌, Bool, true, false, List, length, All, Option, Some, None}
 use Rattle.std.specs.List.{sum_by}
-use Rattle.hir_core.specs.Tree.{Tree}
-use Rattle.hir_core.specs.Facts.{count}
+use Rattle.search_core.specs.Index.{greatest_index}
+use Rattle.hir_core.specs.Tree.{Tree, repetition}
 use Rattle.nfa_core.specs.BuilderStates.{Part, match_part, Assembly, part_at, patched, part_bytes, is_sparse}
 use Rattle.nfa_core.specs.Renaming.{stands_for, going_on}
 use Rattle.nfa_core.specs.CanBuild.{names_of, is_known}
 use Rattle.nfa_core.specs.Drafted.{Table}
 use Rattle.thompson_nfa.specs.Denotes.{Denotes}
-use Rattle.thompson_nfa.specs.NotedGroups.{noted}
 use Rattle.thompson_nfa.specs.declared.which_captures.WhichCaptures.{WhichCaptures}
+use Rattle.thompson_nfa.specs.declared.which_captures.WhichCaptures.TheVariants as which
 
--- states and groups were added, and all else is as it was
+-- a pattern was begun, and where the automaton reads downwards no groups are kept
+pub record IsReady (kept : WhichCaptures) (b : Assembly) : Type 0 where
+  pub in_pattern : b.is_open ≡ true
+  pub upward : b.reverse ≡ true → kept ≡ which.None
+
+-- states and groups were added, and all else is as it was; groups that were there are still
 pub record Grows (old new : Assembly) : Type 0 where
   pub settings : new ≡ record old { parts = new.parts; groups = new.groups }
   pub longer : length old.parts ≤ length new.parts
   pub same : (q : ℕ) → q < length old.parts → part_at new.parts q ≡ part_at old.parts q
+  pub known : (part : Part) → is_known old.groups part ≡ true → is_known new.groups part ≡ true
 
 -- the finished table has the states from `low` on as they are, but for the one that is led on later
 abbrev pub Finishes : ℕ → List Part → ℕ → Table → Type 0
@@ -30,6 +36,10 @@ past_in table (suc n) q = going_on q (past_in table n) (stands_for (table q))
 abbrev pub ComesOut : Table → ℕ → ℕ → Type 0
 ComesOut table target q = (n : ℕ) × ((stands_for (table (past_in table n q)) ≡ None) ⊎ (past_in table n q ≡ target))
 
+-- the same from each state from `low` on and below `high`
+abbrev pub AllComeOut : Table → ℕ → ℕ → ℕ → Type 0
+AllComeOut table target low high = (q : ℕ) → low ≤ q → q < high → ComesOut table target q
+
 abbrev pub is_match_part : Part → Bool
 is_match_part (match_part pattern) = true
 is_match_part _ = false
@@ -39,6 +49,10 @@ pub record IsTame (b : Assembly) (part : Part) : Type 0 where
   pub named : All (λ q. q < length b.parts) (names_of part)
   pub known : is_known b.groups part ≡ true
   pub no_match : is_match_part part ≡ false
+
+-- the states from `low` on are such
+abbrev pub AllTame : ℕ → Assembly → Type 0
+AllTame low b = (q : ℕ) → low ≤ q → q < length b.parts → IsTame b (part_at b.parts q)
 
 abbrev pub sum_of_bytes : Assembly → ℕ
 sum_of_bytes b = sum_by part_bytes b.parts
@@ -52,17 +66,43 @@ pub record IsFragment (old new : Assembly) (start end : ℕ) : Type 0 where
   pub end_there : end < length new.parts
   pub can_be_led_on : is_sparse (part_at new.parts end) ≡ false
 
--- Once its end is led on to a target, the fragment does what the tree means on the way from its start to there, and no
--- states that stand for others go round in it.
-pub record Compiles (old new : Assembly) (start end : ℕ) (x : Tree) : Type 0 where
-  pub fragment : IsFragment old new start end
-  pub denotes : (table : Table) (target : ℕ) → Finishes (length old.parts) new.parts end table → table end ≡ patched target (part_at new.parts end) →
-      Denotes old.reverse table start target x
-  pub comes_out : (table : Table) (target : ℕ) → Finishes (length old.parts) new.parts end table → table end ≡ patched target (part_at new.parts end) →
-      (q : ℕ) → length old.parts ≤ q → q < length new.parts → ComesOut table target q
-  pub tame : (q : ℕ) → length old.parts ≤ q → q < length new.parts → IsTame new (part_at new.parts q)
-
--- so many states are room for it, and 4096 bytes for each
+-- At most n states were added, with 4096 bytes for each and eight less for all; there are names for all states.
 pub record IsWithin (old new : Assembly) (n : ℕ) : Type 0 where
   pub states : length new.parts ≤ length old.parts + n
-  pub bytes : sum_of_bytes new + 4 ≤ sum_of_bytes old + 4096 * n
+  pub bytes : sum_of_bytes new + 8 + 4096 * length old.parts ≤ sum_of_bytes old + 4096 * length new.parts
+  pub numbered : length new.parts ≤ greatest_index + 1
+
+-- The finished table has the fragment's states from `low` on, with its end led on to the target.
+pub record Finished (low : ℕ) (parts : List Part) (end target : ℕ) (table : Table) : Type 0 where
+  pub states : Finishes low parts end table
+  pub led : table end ≡ patched target (part_at parts end)
+
+-- A fragment of n states at most. Once its end is led on to a target, no states that stand for others go round in it.
+pub record Makes (old new : Assembly) (start end n : ℕ) : Type 0 where
+  pub fragment : IsFragment old new start end
+  pub comes_out : (table : Table) (target : ℕ) → Finished (length old.parts) new.parts end target table → AllComeOut table target (length old.parts) (length new.parts)
+  pub tame : AllTame (length old.parts) new
+  pub within : IsWithin old new n
+
+-- Once its end is led on to a target, the fragment does what the tree means on the way from its start to there.
+pub record Does (old new : Assembly) (start end : ℕ) (x : Tree) : Type 0 where
+  pub denotes : (table : Table) (target : ℕ) → Finished (length old.parts) new.parts end target table → Denotes old.reverse table start target x
+
+-- The same where something is still to do behind it: once `rest` is done from the target, `whole` is done from the start.
+pub record DoesFirst (old new : Assembly) (start end : ℕ) (rest whole : Tree) : Type 0 where
+  pub before : (table : Table) (target : ℕ) → Finished (length old.parts) new.parts end target table → (last : ℕ) → Denotes old.reverse table target last rest →
+      Denotes old.reverse table start last whole
+
+-- the bound with n more rounds
+abbrev pub raised : ℕ → Option ℕ → Option ℕ
+raised n None = None
+raised n (Some most) = Some (n + most)
+
+-- n rounds of the tree are done before the others of a repetition
+pub record DoesCopies (old new : Assembly) (start end n : ℕ) (x : Tree) : Type 0 where
+  pub before : (min : ℕ) (most : Option ℕ) (greedy : Bool) → DoesFirst old new start end (repetition min most greedy x) (repetition (n + min) (raised n most) greedy x)
+
+-- one more round of the tree may come before the others, or all of them are passed by on the way to the exit
+pub record DoesOption (old new : Assembly) (start end exit : ℕ) (greedy : Bool) (x : Tree) : Type 0 where
+  pub before : (table : Table) (target : ℕ) → Finished (length old.parts) new.parts end target table → (left : ℕ) →
+      Denotes old.reverse table target exit (repetition 0 (Some left) greedy x) → Denotes old.reverse table start exit (repetition 0 (Some (suc left)) greedy x)

@@ -1,5 +1,5 @@
 -- What contracts see of a configuration: the options that were set.
-use Rattle.std.specs.Prelude.{◌≡◌, ℕ, Bool, true, false, Option, None}
+use Rattle.std.specs.Prelude.{ℕ, Bool, true, false, Option, None}
 use Rattle.std.specs.Option.{option_or, unwrap_or}
 use Rattle.look_core.specs.Terminators.{Terminator, one_of}
 use Rattle.thompson_nfa.specs.declared.which_captures.WhichCaptures.{WhichCaptures}

@@ -9,11 +9,17 @@ use Rattle.nfa_core.specs.Walks.{Lists}
 use Rattle.nfa_core.specs.Runs.{IsChain, last_or}
 use Rattle.nfa_core.specs.Places.{same_pair}
 use Rattle.nfa_core.specs.Ways.{Text}
+use Rattle.nfa_core.specs.BuilderStates.{Part, union_part, union_reverse_part}
 use Rattle.nfa_core.specs.Drafted.{Table, table_ways, table_match}
 
 -- the state at each of the places
 abbrev pub at : ℕ → List ℕ → List (ℕ × ℕ)
 at q places = map (λ j. (j, q)) places
+
+-- the state that leads to the first and to the second: it prefers the first, or the second where it is lazy
+abbrev pub choice : Bool → ℕ → ℕ → Part
+choice true a e = union_part (a ∷ e ∷ [])
+choice false a e = union_reverse_part (a ∷ e ∷ [])
 
 -- the bytes up to the text's end: what one who reads up may come to see
 abbrev pub seen : Text → List ℕ

@@ -1,7 +1,14 @@
 pub mod Denotes
 pub mod NotedGroups
 pub mod Compiled
+pub mod Turned
+pub mod Choice
+pub mod Added
 pub mod Refusals
+pub mod Branches
 pub mod Configs
 pub mod Compilations
 pub mod Assembled
+pub mod Patterns
+pub mod Prefix
+pub mod RefusedTrees

@@ -1,49 +1,59 @@
 -- Why a compile is refused.
-use Rattle.std.specs.Prelude.{◌≡◌, ◌⊎◌, ℕ, ◌+◌, ◌*◌, ◌<◌, ◌≤◌, ◌&&◌, true, false, List, [], length, slice_get, Option, Some, None}
+use Rattle.std.specs.Prelude.{◌≡◌, ℕ, ◌+◌, ◌*◌, ◌<◌, length, Some}
 use Rattle.search_core.specs.Index.{greatest_index}
 use Rattle.search_types.specs.declared.group_info_error.GroupInfoError.{GroupInfoError}
-use Rattle.search_types.specs.declared.group_info_error.GroupInfoError.TheVariants.{TooManyGroups}
-use Rattle.search_types.specs.GroupFaults.{GroupFault, group_fault}
-use Rattle.search_types.specs.GroupRefusals.{Tells}
+use Rattle.search_types.specs.GroupFaults.{TooManyGroups}
+use Rattle.search_types.specs.GroupRefusals as group
 use Rattle.hir_core.specs.Tree.{Tree}
-use Rattle.hir_core.specs.Facts.{count, list_count}
 use Rattle.nfa_core.specs.BuilderStates.{Assembly}
 use Rattle.nfa_core.specs.declared.build_error.BuildError.{BuildError}
 use Rattle.nfa_core.specs.declared.build_error.BuildError.TheVariants as error
 use Rattle.thompson_nfa.specs.Compiled.{sum_of_bytes}
-use Rattle.thompson_nfa.specs.NotedGroups.{HasGroup, noted_from}
-use Rattle.thompson_nfa.specs.Configs.{Options, reverse_of, limit_of, captures_of, is_any}
+use Rattle.thompson_nfa.specs.NotedGroups.{HasGroup}
 use Rattle.thompson_nfa.specs.declared.which_captures.WhichCaptures.{WhichCaptures}
 
--- A fragment for which n states are room is refused: more states are wanted than can be numbered, the limit is passed by its
--- bytes, or memory lacks.
+-- n more states with so many bytes are refused: more states are wanted than can be numbered, the limit is passed by their
+-- bytes, or memory lacks. The count of bytes stops at the largest number of 64 bits, which no limit is below.
+abbrev pub RefusesStep : Assembly → ℕ → ℕ → BuildError → Type 0
+RefusesStep b n bytes error.TooManyStates = greatest_index + 1 < length b.parts + n
+RefusesStep b n bytes (error.ExceededSizeLimit limit) = (b.size_limit ≡ Some limit) × (limit < sum_of_bytes b + bytes) × (limit < 18446744073709551615)
+RefusesStep b n bytes error.NoMemory = Unit {0}
+RefusesStep b n bytes _ = ⊥
+
+-- A fragment for which n states are room is refused.
 abbrev pub RefusesStates : Assembly → ℕ → BuildError → Type 0
-RefusesStates b n error.TooManyStates = greatest_index + 1 < length b.parts + n
-RefusesStates b n (error.ExceededSizeLimit limit) = (b.size_limit ≡ Some limit) × (limit < sum_of_bytes b + 4096 * n)
-RefusesStates b n error.NoMemory = Unit {0}
-RefusesStates b n _ = ⊥
+RefusesStates b n e = RefusesStep b n (4096 * n) e
+
+-- the index is too great, and the error tells it, or that memory ran out for telling it
+abbrev pub RefusesIndex : ℕ → ℕ → GroupInfoError → Type 0
+RefusesIndex p index err = (greatest_index < index) × group.Tells err (Some (TooManyGroups p index))
 
 -- The same for a tree of pattern p, whose groups may have an index that is too great.
-abbrev pub RefusesTree : WhichCaptures → ℕ → Assembly → Tree → BuildError → Type 0
-RefusesTree kept p b x (error.Captures err) = (index : ℕ) × HasGroup kept index x × (greatest_index < index) × (err ≡ TooManyGroups p index)
-RefusesTree kept p b x e = RefusesStates b (count x) e
+abbrev pub RefusesTree : WhichCaptures → ℕ → Assembly → ℕ → Tree → BuildError → Type 0
+RefusesTree kept p b n x (error.Captures err) = (index : ℕ) × HasGroup kept index x × RefusesIndex p index err
+RefusesTree kept p b n x e = RefusesStates b n e
 
--- the limit, if there is one, has room for as many states as can be numbered
-abbrev pub FitsStates : Option ℕ → Type 0
-FitsStates None = Unit {0}
-FitsStates (Some limit) = 24 * (greatest_index + 1) ≤ limit
+-- a step is refused, and the builder is as it was
+pub record Stays (old new : Assembly) (n bytes : ℕ) (e : BuildError) : Type 0 where
+  pub same : new ≡ old
+  pub cause : RefusesStep old n bytes e
 
--- the groups of the trees break a rule, or a group that is kept has an index that is too great
-abbrev pub RefusesGroups : Options → List Tree → GroupInfoError → Type 0
-RefusesGroups o xs err =
-    ((fault : GroupFault) × (group_fault (noted_from (captures_of o) 0 xs []) ≡ Some fault) × Tells err (Some fault))
-    ⊎ ((p index : ℕ) × (x : Tree) × (slice_get xs p ≡ Some x) × HasGroup (captures_of o) index x × (greatest_index < index) × (err ≡ TooManyGroups p index))
+-- a fragment of n states for the tree is refused, and the builder has its settings
+pub record Refuses (kept : WhichCaptures) (old new : Assembly) (n : ℕ) (x : Tree) (e : BuildError) : Type 0 where
+  pub settings : new ≡ record old { parts = new.parts; groups = new.groups }
+  pub cause : RefusesTree kept (length old.starts) old n x e
 
--- Why trees are refused under options: what they would need, at most, passes a limit or the numbers that there are.
-abbrev pub RefusesTrees : Options → List Tree → BuildError → Type 0
-RefusesTrees o xs error.TooManyPatterns = greatest_index + 1 < length xs
-RefusesTrees o xs error.TooManyStates = (greatest_index + 1 < list_count xs) × FitsStates (limit_of o)
-RefusesTrees o xs (error.ExceededSizeLimit limit) = (limit_of o ≡ Some limit) × (limit < 4096 * list_count xs)
-RefusesTrees o xs error.UnsupportedCaptures = (reverse_of o && is_any (captures_of o)) ≡ true
-RefusesTrees o xs (error.Captures err) = (reverse_of o ≡ false) × RefusesGroups o xs err
-RefusesTrees o xs error.NoMemory = Unit {0}
+-- the same for a fragment without groups
+pub record Quits (old new : Assembly) (n : ℕ) (e : BuildError) : Type 0 where
+  pub settings : new ≡ record old { parts = new.parts; groups = new.groups }
+  pub cause : RefusesStates old n e
+
+-- a state at an end of a group of pattern p is refused
+abbrev pub RefusesGroup : ℕ → ℕ → Assembly → BuildError → Type 0
+RefusesGroup p index b (error.Captures err) = RefusesIndex p index err
+RefusesGroup p index b e = RefusesStep b 1 24 e
+
+-- the same, where groups may have been noted before
+pub record QuitsGroup (old new : Assembly) (index : ℕ) (e : BuildError) : Type 0 where
+  pub settings : new ≡ record old { parts = new.parts; groups = new.groups }
+  pub cause : RefusesGroup (length old.starts) index old e

@@ -1,0 +1,55 @@
+-- The automaton that is built of a compile's states is the one that the trees are compiled to.
+use Rattle.std.proofs.Common.{◌≡◌, ◌≢◌, ◌↔◌, ℕ, ◌≤◌, true, List, [], length, Some, slice_get, sym, ap, ◌∙◌, subst}
+use Rattle.std.specs.Bool.{nat_eq}
+use Rattle.hir_core.specs.Tree.{Tree}
+use Rattle.hir_core.specs.Means.{Means}
+use Rattle.hir_core.specs.Facts.{list_count}
+use Rattle.nfa_core.specs.Walks.{Has}
+use Rattle.nfa_core.specs.Runs.{IsChain, last_or}
+use Rattle.nfa_core.specs.Nfa.{Automaton}
+use Rattle.nfa_core.specs.NfaValue.{Nfa, free_steps, reached_freely, has_empty}
+use Rattle.nfa_core.specs.BuilderStates.{Assembly}
+use Rattle.nfa_core.specs.Renaming.{past, automaton_of}
+use Rattle.thompson_nfa.specs.Configs.{Options, reverse_of}
+use Rattle.thompson_nfa.specs.Compilations.{HasOneMatch, IsCompiled}
+use Rattle.thompson_nfa.specs.Assembled.{IsAssembled, AllAnchored}
+use Rattle.thompson_nfa.proofs.AssembledSpans.{assembled_finds_spans}
+use Rattle.thompson_nfa.proofs.AssembledOrders.{assembled_finds_in_order}
+use Rattle.thompson_nfa.proofs.AssembledParts.{assembled_has_one_match, assembled_states, assembled_patterns, assembled_always_anchored}
+use Rattle.thompson_nfa.proofs.AssembledEmpty.{assembled_empty}
+
+-- the states that patterns reach without a byte are those to which chains lead from their starts
+abbrev pub AreLedTo : Automaton → Type 0
+AreLedTo a = (q : ℕ) → Has nat_eq q (reached_freely a)
+    ↔ ((s : ℕ) × Has nat_eq s a.start_pattern × (r : List ℕ) × IsChain nat_eq (free_steps a) s r × (last_or s r ≡ q))
+
+-- the same from the two halves of a law
+pub led_to : (a : Automaton) →
+    ((q : ℕ) → Has nat_eq q (reached_freely a) →
+    (s : ℕ) × (r : List ℕ) × Has nat_eq s a.start_pattern × IsChain nat_eq (free_steps a) s r × (last_or s r ≡ q)) →
+    ((q s : ℕ) (r : List ℕ) → Has nat_eq s a.start_pattern → IsChain nat_eq (free_steps a) s r → last_or s r ≡ q → Has nat_eq q (reached_freely a)) →
+    AreLedTo a
+led_to a led all q = (λ h. let x = led q h in (x.0, x.2, x.1, x.3, x.4), λ x. all q x.0 x.2 x.1 x.3 x.4)
+
+pub assembled_is_compiled : (o : Options) (xs : List Tree) (b : Assembly) (A U : ℕ) → IsAssembled o xs b A U →
+    ((AllAnchored (reverse_of o) xs → ⊥) → past b.parts A ≢ U) → AreLedTo (automaton_of b A U) →
+    (n : Nfa) → n.automaton ≡ automaton_of b A U → n.utf8 ≡ b.utf8 → n.terminator ≡ b.terminator → n.groups ≡ b.groups → IsCompiled o xs n
+assembled_is_compiled o xs b A U is apart reached n same utf8 terminator groups = record {
+  utf8 = utf8 ∙ is.utf8;
+  reverse = ap (λ (a : Automaton). a.reverse) same ∙ is.reverse;
+  terminator = terminator ∙ is.terminator;
+  captures = is.captures;
+  patterns = ap (λ (a : Automaton). length a.start_pattern) same ∙ assembled_patterns o xs b A U is;
+  groups = groups ∙ is.groups;
+  spans = assembled_finds_spans o xs b A U is n same;
+  order = λ up. assembled_finds_in_order o xs b A U is up n same;
+  matches = λ p inside.
+      let P : Automaton → Type 0 = λ a. HasOneMatch a p in subst P (sym same) (assembled_has_one_match o xs b A U is p inside);
+  empty =
+      let P : Automaton → Type 0 = λ a. (has_empty a ≡ true) ↔ ((p : ℕ) × (x : Tree) × (slice_get xs p ≡ Some x) × Means (λ l i. true) [] x 0 0) in
+      subst P (sym same) (assembled_empty o xs b A U is reached);
+  always_anchored =
+      let P : Automaton → Type 0 = λ a. (a.start_anchored ≡ a.start_unanchored) ↔ AllAnchored (reverse_of o) xs in
+      subst P (sym same) (assembled_always_anchored o xs b A U is apart);
+  states = let P : Automaton → Type 0 = λ a. length a.states ≤ list_count xs in subst P (sym same) (assembled_states o xs b A U is);
+}

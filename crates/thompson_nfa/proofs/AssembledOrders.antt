@@ -1,0 +1,130 @@
+-- In which order the automaton that is built of a compile's states finds spans, for one who reads up.
+use Rattle.std.proofs.Common.{◌≡◌, ℕ, suc, ◌-◌, ◌<◌, ◌≤◌, Bool, false, List, [], ◌∷◌, length, map, get_or, slice_get, inl, inr, Some, sym, ap, ◌∙◌, subst, arith}
+use Rattle.std.specs.Prelude.{All}
+use Rattle.std.specs.List.{flat_map}
+use Rattle.look_core.specs.Terminators.{Terminator}
+use Rattle.hir_core.specs.Tree.{Tree}
+use Rattle.hir_core.specs.PreferredEnds.{preferred_ends}
+use Rattle.hir_core.specs.Facts.{LoopsRead}
+use Rattle.nfa_core.specs.Walks.{Lists, HasNoneTwice, distinct}
+use Rattle.nfa_core.specs.Runs.{IsChain}
+use Rattle.nfa_core.specs.Places.{same_pair}
+use Rattle.nfa_core.specs.Nfa.{Automaton}
+use Rattle.nfa_core.specs.NfaValue.{Nfa}
+use Rattle.nfa_core.specs.Ways.{Text, span, ways, ends_from}
+use Rattle.nfa_core.specs.BuilderStates.{Assembly, part_at}
+use Rattle.nfa_core.specs.Renaming.{new_name, automaton_of}
+use Rattle.nfa_core.specs.Drafted.{table_ways, table_match}
+use Rattle.nfa_core.proofs.RenamingEnds.{ends_listed, chains_once}
+use Rattle.thompson_nfa.specs.Configs.{Options, reverse_of}
+use Rattle.thompson_nfa.specs.Denotes.{seen}
+use Rattle.thompson_nfa.specs.Compilations.{choices_from, places_from, start_of, FindsInOrder}
+use Rattle.thompson_nfa.specs.Assembled.{AcceptAll, IsAssembled, ComesBefore}
+use Rattle.thompson_nfa.proofs.OrderLemmas.{Listed}
+use Rattle.thompson_nfa.proofs.FindLemmas.{accepts_lists}
+use Rattle.thompson_nfa.proofs.ChoiceLemmas.{accept_at, all_list}
+use Rattle.thompson_nfa.proofs.TriedOrders.{tried, tries_in_order, listed_behind, all_tried}
+use Rattle.thompson_nfa.proofs.AnchorLemmas.{orders_at_once, choices_at_once}
+use Rattle.thompson_nfa.proofs.AssembledSpans.{start_is, start_inside}
+
+module _ (o : Options) (xs : List Tree) (b : Assembly) (A U : ℕ) (is : IsAssembled o xs b A U) (up : reverse_of o ≡ false) where
+  abbrev auto : Automaton
+  auto = automaton_of b A U
+
+  reads_up : b.reverse ≡ false
+  reads_up = is.reverse ∙ up
+
+  turned : (t : Text) (q i : ℕ) (l : List (ℕ × ℕ)) → Listed t (part_at b.parts) ((i, q) ∷ []) l →
+      Lists (table_ways b.reverse t (part_at b.parts)) (table_match (part_at b.parts)) ((i, q) ∷ []) l
+  turned t q i l walk =
+      let P : Bool → Type 0 = λ r. Lists (table_ways r t (part_at b.parts)) (table_match (part_at b.parts)) ((i, q) ∷ []) l in
+      subst P (sym reads_up) walk
+
+  -- what is listed from a state are the ends from it
+  ends_are_listed : (t : Text) (q i : ℕ) (l : List (ℕ × ℕ)) → q < length b.parts → i ≤ t.end → Listed t (part_at b.parts) ((i, q) ∷ []) l →
+      ends_from auto t (i, new_name b.parts q) ≡ distinct same_pair l
+  ends_are_listed t q i l inside place walk = ends_listed b A U is.can_build t q i inside place l (turned t q i l walk)
+
+  accept_up : AcceptAll false (part_at b.parts) 0 b.starts xs
+  accept_up = let P : Bool → Type 0 = λ r. AcceptAll r (part_at b.parts) 0 b.starts xs in subst P up is.accept
+
+  before_up : ComesBefore false xs (part_at b.parts) U A
+  before_up = let P : Bool → Type 0 = λ r. ComesBefore r xs (part_at b.parts) U A in subst P up is.before
+
+  patterns_listed : (p : ℕ) (x : Tree) → slice_get xs p ≡ Some x → LoopsRead x → (t : Text) (i : ℕ) → i ≤ t.end →
+      ends_from auto t (i, start_of auto p) ≡ distinct same_pair (map (λ j. (j, p)) (preferred_ends t.holds (seen t) x i))
+  patterns_listed p x got reading t i place =
+      let q : ℕ = get_or b.starts p 0 in
+      let a = accept_at false (part_at b.parts) 0 b.starts xs accept_up p p x (omega arith) got in
+      ap (λ (s : ℕ). ends_from auto t (i, s)) (start_is o xs b A U is p x got)
+      ∙ ends_are_listed t q i (map (λ j. (j, p)) (preferred_ends t.holds (seen t) x i)) (start_inside o xs b A U is p x got) place
+      (accepts_lists t (part_at b.parts) q p x i a.accepts reading)
+
+  module _ (reading : All LoopsRead xs) where
+    anchored_walk : (t : Text) (i : ℕ) → Listed t (part_at b.parts) ((i, A) ∷ []) (choices_from 0 xs t i)
+    anchored_walk t i = all_list t (part_at b.parts) A b.starts xs i is.leads accept_up reading
+
+    anchored_listed : (t : Text) (i : ℕ) → i ≤ t.end → ends_from auto t (i, new_name b.parts A) ≡ distinct same_pair (choices_from 0 xs t i)
+    anchored_listed t i place = ends_are_listed t A i (choices_from 0 xs t i) is.can_build.anchored_there place (anchored_walk t i)
+
+    -- the walk from the unanchored start ends in any text
+    unanchored_walk : (t : Text) (i : ℕ) → (l : List (ℕ × ℕ)) × Listed t (part_at b.parts) ((i, U) ∷ []) l
+    unanchored_walk t i = elim before_up [
+      | inl x ↦ (
+        flat_map (choices_from 0 xs t) (i ∷ []),
+        listed_behind t (part_at b.parts) U A (choices_from 0 xs t) (anchored_walk t) (λ k. k ∷ []) i
+            (orders_at_once t (part_at b.parts) U A x.1),
+      )
+      | inr x ↦ (
+        flat_map (choices_from 0 xs t) (tried t i),
+        listed_behind t (part_at b.parts) U A (choices_from 0 xs t) (anchored_walk t) (tried t) i
+            (tries_in_order t (part_at b.parts) U A x.1),
+      )
+    ]
+
+    all_walked : (term : Terminator) (h : List ℕ) (s f i : ℕ) → i ≤ f → f ≤ length h → All (λ byte. byte < 256) h →
+        Listed (span term h s f) (part_at b.parts) ((i, U) ∷ []) (flat_map (choices_from 0 xs (span term h s f)) (places_from i (suc f - i)))
+    all_walked term h s f i high within bytes =
+        let t : Text = span term h s f in
+        let P : List (ℕ × ℕ) → Type 0 = λ l. Listed t (part_at b.parts) ((i, U) ∷ []) l in
+        elim before_up [
+          | inl x ↦ subst P (choices_at_once term h s f xs i x.0 high)
+              (listed_behind t (part_at b.parts) U A (choices_from 0 xs t) (anchored_walk t) (λ k. k ∷ []) i (orders_at_once t (part_at b.parts) U A x.1))
+          | inr x ↦ subst P (ap (flat_map (choices_from 0 xs t)) (all_tried t i (record { within = within; bytes = bytes }) high))
+              (listed_behind t (part_at b.parts) U A (choices_from 0 xs t) (anchored_walk t) (tried t) i (tries_in_order t (part_at b.parts) U A x.1))
+        ]
+
+    unanchored_listed : (term : Terminator) (h : List ℕ) (s f i : ℕ) → i ≤ f → f ≤ length h → All (λ byte. byte < 256) h →
+        ends_from auto (span term h s f) (i, new_name b.parts U)
+        ≡ distinct same_pair (flat_map (choices_from 0 xs (span term h s f)) (places_from i (suc f - i)))
+    unanchored_listed term h s f i high within bytes =
+        ends_are_listed (span term h s f) U i (flat_map (choices_from 0 xs (span term h s f)) (places_from i (suc f - i))) is.can_build.unanchored_there high
+        (all_walked term h s f i high within bytes)
+
+    returns_never : (t : Text) (i : ℕ) (r : List (ℕ × ℕ)) → i ≤ t.end → IsChain same_pair (ways auto t) (i, new_name b.parts U) r →
+        HasNoneTwice same_pair ((i, new_name b.parts U) ∷ r)
+    returns_never t i r place chain =
+        let w = unanchored_walk t i in
+        chains_once b A U is.can_build t U i is.can_build.unanchored_there place w.0 (turned t U i w.0 w.1) r chain
+
+  finds_in_order : (n : Nfa) → n.automaton ≡ auto → FindsInOrder xs n
+  finds_in_order n same = record {
+    patterns = λ p x got reading t i place.
+        let P : Automaton → Type 0 = λ a. ends_from a t (i, start_of a p) ≡ distinct same_pair (map (λ j. (j, p)) (preferred_ends t.holds (seen t) x i)) in
+        subst P (sym same) (patterns_listed p x got reading t i place);
+    anchored = λ reading t i place.
+        let P : Automaton → Type 0 = λ a. ends_from a t (i, a.start_anchored) ≡ distinct same_pair (choices_from 0 xs t i) in
+        subst P (sym same) (anchored_listed reading t i place);
+    unanchored = λ reading h s f i low high within bytes.
+        let P : Automaton → Type 0 = λ a. ends_from a (span n.terminator h s f) (i, a.start_unanchored)
+        ≡ distinct same_pair (flat_map (choices_from 0 xs (span n.terminator h s f)) (places_from i (suc f - i))) in
+        subst P (sym same) (unanchored_listed reading n.terminator h s f i high within bytes);
+    no_return = λ reading t i r place chain.
+        let C : Automaton → Type 0 = λ a. IsChain same_pair (ways a t) (i, a.start_unanchored) r in
+        let P : Automaton → Type 0 = λ a. HasNoneTwice same_pair ((i, a.start_unanchored) ∷ r) in
+        subst P (sym same) (returns_never reading t i r place (subst C same chain));
+  }
+
+pub assembled_finds_in_order : (o : Options) (xs : List Tree) (b : Assembly) (A U : ℕ) → IsAssembled o xs b A U → reverse_of o ≡ false →
+    (n : Nfa) → n.automaton ≡ automaton_of b A U → FindsInOrder xs n
+assembled_finds_in_order o xs b A U is up n same = finds_in_order o xs b A U is up n same

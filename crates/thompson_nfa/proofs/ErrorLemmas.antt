@@ -1,0 +1,8 @@
+-- Errors that are handed on.
+use Rattle.std.proofs.Common.{◌≡◌, refl, sym, subst}
+use Rattle.std.specs.Prelude.{Result, Ok, Err, IfErr, IsErrAnd}
+use Rattle.nfa_core.specs.declared.build_error.BuildError.{BuildError}
+
+pub handed : {A : Type 0} (Q : BuildError → Type 0) (r : Result A BuildError) (e : BuildError) → IsErrAnd r (λ x. x ≡ e) → Q e → IfErr r Q
+handed Q (Ok a) e is q = tt
+handed Q (Err x) e is q = subst Q (sym is) q

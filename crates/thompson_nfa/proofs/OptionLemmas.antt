@@ -1,0 +1,203 @@
+-- Fragments of repetitions with both bounds: the rounds so far, whose exit waits.
+use Rattle.std.proofs.Common.{◌≡◌, ◌≢◌, ◌⊎◌, inl, inr, ℕ, zero, suc, ◌+◌, ◌*◌, ◌<◌, ◌≤◌, Bool, true, false, List, [], ◌∷◌, ◌++◌, length, Option, Some, None, refl, sym, ap, ◌∙◌, subst, arith, ⊎_elim}
+use Rattle.std.proofs.lemmas.Bool.{cases_lt, cases_eq}
+use Rattle.hir_core.specs.Tree.{Tree, repetition}
+use Rattle.nfa_core.specs.BuilderStates.{Part, Assembly, part_at, patched, is_sparse, empty_part}
+use Rattle.nfa_core.specs.Renaming.{stands_for}
+use Rattle.nfa_core.specs.Drafted.{Table}
+use Rattle.thompson_nfa.specs.Choice.{no_choice}
+use Rattle.thompson_nfa.specs.Denotes.{Denotes, choice}
+use Rattle.thompson_nfa.specs.Compiled.{Finished, AllComeOut, ComesOut, Makes, Does, DoesFirst, DoesCopies, DoesOption, raised}
+use Rattle.thompson_nfa.specs.Added.{Added, Led}
+use Rattle.thompson_nfa.proofs.OutLemmas.{out_here, out_next, out_at, out_on, all_here, all_join}
+use Rattle.thompson_nfa.proofs.ProgressLemmas.{Progress, first_added, first_made, then_made, then_led, made}
+use Rattle.thompson_nfa.proofs.RepeatLemmas.{reads_as, choice_first, empty_then, empty_tame, twice_patched, choice_stands}
+use Rattle.thompson_nfa.proofs.BranchLemmas.{FinishesBut}
+use Rattle.thompson_nfa.proofs.RoundLemmas.{denotes_optional, denotes_stopped_here}
+use Rattle.thompson_nfa.proofs.AheadLemmas.{denotes_then_empty}
+use Rattle.thompson_nfa.proofs.DenoteLemmas.{denotes_empty}
+
+-- one round, which may be passed by
+module _ (t0 t1 t2 t3 t4 : Assembly) (greedy : Bool) (u s e n z : ℕ) (added : Added t0 t1 u (no_choice greedy) t0.groups) (body : Makes t1 t2 s e n) (p3 : Led t2 t3 u s) (p4 : Led t3 t4 u z) (there : z < length t0.parts) where
+  option_u : (target : ℕ) (table : Table) → Finished (length t0.parts) t4.parts e target table → table u ≡ choice greedy s z
+  option_u target table fin = fin.states u (omega arith) (omega arith) (omega arith) ∙ p4.here ∙ ap (patched z) (p3.here ∙ ap (patched s) (body.fragment.grows.same u (omega arith) ∙ added.here))
+      ∙ twice_patched greedy s z
+
+  option_body : (target : ℕ) (table : Table) → Finished (length t0.parts) t4.parts e target table → Finished (length t1.parts) t2.parts e target table
+  option_body target table fin = record {
+    states = λ i low high ne. fin.states i (omega arith) (omega arith) ne ∙ p4.same i (omega arith) ∙ p3.same i (omega arith);
+    led = fin.led ∙ ap (patched target) (p4.same e (omega arith) ∙ p3.same e (omega arith));
+  }
+
+  pub option_made : Makes t0 t4 u e (n + 1)
+  option_made =
+      made (n + 1) (then_led 3992 (then_led 3996 (then_made 4000 (choice_first greedy added) body (omega arith)) p3 (omega arith) (omega arith) (omega arith)) p4 (omega arith) (omega arith) (omega arith))
+      (omega arith) (omega arith) (omega arith) (omega arith) (omega arith) (omega arith)
+      (ap is_sparse (p4.same e (omega arith) ∙ p3.same e (omega arith)) ∙ body.fragment.can_be_led_on)
+      (λ table target fin.
+      let real_u = out_here table target u (ap stands_for (option_u target table fin) ∙ choice_stands greedy s z) in
+      let P : ℕ → Type 0 = λ k. AllComeOut table target k (length t1.parts) in
+      let Q : ℕ → Type 0 = λ k. AllComeOut table target (length t1.parts) k in
+      let size : length t2.parts ≡ length t4.parts = omega arith in
+      all_join table target (length t0.parts) (length t1.parts) (length t4.parts) (subst P added.is (all_here table target u (length t1.parts) (omega arith) real_u))
+      (subst Q size (body.comes_out table target (option_body target table fin))))
+
+  pub option_does : (x : Tree) → Does t1 t2 s e x → DoesOption t0 t4 u e z greedy x
+  option_does x does = record {
+    before = λ table target fin left rest.
+        denotes_optional t0.reverse table u s target z left greedy x (option_u target table fin) (reads_as t0 t1 table s target x added.grows (does.denotes table target (option_body target table fin))) rest;
+  }
+
+pub record Options (old mid : Assembly) (start end z n left min most : ℕ) (greedy : Bool) (x : Tree) : Type 0 where
+  pub progress : Progress old mid n 12
+  pub start_new : length old.parts ≤ start
+  pub start_there : start < length mid.parts
+  pub end_new : length old.parts ≤ end
+  pub end_there : end < length mid.parts
+  pub z_new : length old.parts ≤ z
+  pub z_there : z < length mid.parts
+  pub apart : end ≢ z
+  pub kind : is_sparse (part_at mid.parts end) ≡ false
+  pub exit_is : part_at mid.parts z ≡ empty_part 0
+  pub outs : (table : Table) (target : ℕ) → FinishesBut (length old.parts) mid.parts end z table → table end ≡ patched target (part_at mid.parts end) →
+      (q : ℕ) → length old.parts ≤ q → q < length mid.parts → q ≢ z → ComesOut table target q
+  pub does : (table : Table) (target : ℕ) → FinishesBut (length old.parts) mid.parts end z table → table end ≡ patched target (part_at mid.parts end) →
+      Denotes old.reverse table target z (repetition 0 (Some left) greedy x) → Denotes old.reverse table start z (repetition min (Some most) greedy x)
+
+-- behind copies that are owed
+module _ (t0 t1 t2 : Assembly) (s e n z left min most : ℕ) (greedy : Bool) (x : Tree) (prefix : Makes t0 t1 s e n) (copies : DoesCopies t0 t1 s e min x) (added : Added t1 t2 z (empty_part 0) t1.groups)
+    (sum : min + left ≡ most) where
+  owed_prefix : (target : ℕ) (table : Table) → FinishesBut (length t0.parts) t2.parts e z table → table e ≡ patched target (part_at t2.parts e) → Finished (length t0.parts) t1.parts e target table
+  owed_prefix target table fin here = record {
+    states = λ q low high ne. fin q low (omega arith) ne (omega arith) ∙ added.grows.same q high;
+    led = here ∙ ap (patched target) (added.grows.same e (omega arith));
+  }
+
+  pub options_owed : Options t0 t2 s e z (n + 1) left min most greedy x
+  options_owed = record {
+    progress = let p = empty_then (first_made prefix) added in record { partly = p.partly; states = p.states; bytes = omega arith; numbered = p.numbered };
+    start_new = omega arith;
+    start_there = omega arith;
+    end_new = omega arith;
+    end_there = omega arith;
+    z_new = omega arith;
+    z_there = omega arith;
+    apart = omega arith;
+    kind = ap is_sparse (added.grows.same e (omega arith)) ∙ prefix.fragment.can_be_led_on;
+    exit_is = added.here;
+    outs = λ table target fin here q low high not_z. prefix.comes_out table target (owed_prefix target table fin here) q low (omega arith);
+    does = λ table target fin here rest.
+        let P : ℕ → Type 0 = λ k. Denotes t0.reverse table s z (repetition k (Some most) greedy x) in
+        let Q : ℕ → Type 0 = λ k. Denotes t0.reverse table s z (repetition (min + 0) (Some k) greedy x) in
+        let same : min + 0 ≡ min = omega arith in
+        let lead = copies.before 0 (Some left) greedy in
+        subst P same (subst Q sum (lead.before table target (owed_prefix target table fin here) z rest));
+  }
+
+-- from a first round on
+module _ (t0 t1 t2 : Assembly) (u e n z left most : ℕ) (greedy : Bool) (x : Tree) (added : Added t0 t1 z (empty_part 0) t0.groups) (option : Makes t1 t2 u e n) (does : DoesOption t1 t2 u e z greedy x) (sum : suc left ≡ most) where
+  first_option : (target : ℕ) (table : Table) → FinishesBut (length t0.parts) t2.parts e z table → table e ≡ patched target (part_at t2.parts e) → Finished (length t1.parts) t2.parts e target table
+  first_option target table fin here = record { states = λ q low high ne. fin q (omega arith) high ne (omega arith); led = here }
+
+  pub options_first : Options t0 t2 u e z (1 + n) left 0 most greedy x
+  options_first = record {
+    progress = then_made 12 (first_added 4000 added (empty_tame added) (omega arith)) option (omega arith);
+    start_new = omega arith;
+    start_there = omega arith;
+    end_new = omega arith;
+    end_there = omega arith;
+    z_new = omega arith;
+    z_there = omega arith;
+    apart = omega arith;
+    kind = option.fragment.can_be_led_on;
+    exit_is = option.fragment.grows.same z (omega arith) ∙ added.here;
+    outs = λ table target fin here q low high not_z. option.comes_out table target (first_option target table fin here) q (omega arith) high;
+    does = λ table target fin here rest.
+        let Q : ℕ → Type 0 = λ k. Denotes t0.reverse table u z (repetition 0 (Some k) greedy x) in
+        let P : Bool → Type 0 = λ back. Denotes back table e z (repetition 0 (Some left) greedy x) in
+        let turn : t1.reverse ≡ t0.reverse = ap (λ (b : Assembly). b.reverse) added.grows.settings in
+        let R : Bool → Type 0 = λ back. Denotes back table target z (repetition 0 (Some left) greedy x) in
+        subst Q sum (reads_as t0 t1 table u z (repetition 0 (Some (suc left)) greedy x) added.grows (does.before table target (first_option target table fin here) left (subst R (sym turn) rest)));
+  }
+
+-- one more round
+module _ (old b c d : Assembly) (start end z n left rest min most u e k : ℕ) (greedy : Bool) (x : Tree) (os : Options old b start end z n left min most greedy x) (option : Makes b c u e k) (does : DoesOption b c u e z greedy x)
+    (led : Led c d end u) (one : left ≡ suc rest) where
+  more_before : (target : ℕ) (table : Table) → FinishesBut (length old.parts) d.parts e z table → FinishesBut (length old.parts) b.parts end z table
+  more_before target table fin q low high not_end not_z = fin q low (omega arith) (omega arith) not_z ∙ led.same q not_end ∙ option.fragment.grows.same q high
+
+  more_end : (target : ℕ) (table : Table) → FinishesBut (length old.parts) d.parts e z table → table end ≡ patched u (part_at b.parts end)
+  more_end target table fin =
+      let a = os.end_new in let g = os.end_there in let h = os.apart in
+      fin end a (omega arith) (omega arith) h ∙ led.here ∙ ap (patched u) (option.fragment.grows.same end g)
+
+  more_option : (target : ℕ) (table : Table) → FinishesBut (length old.parts) d.parts e z table → table e ≡ patched target (part_at d.parts e) → Finished (length b.parts) c.parts e target table
+  more_option target table fin here =
+      let a = os.end_new in let g = os.end_there in let h = os.z_there in let l = os.progress.partly.grows.longer in
+      record {
+        states = λ q low high ne. fin q (omega arith) (omega arith) ne (omega arith) ∙ led.same q (omega arith);
+        led = here ∙ ap (patched target) (led.same e (omega arith));
+      }
+
+  pub options_then : Options old d start e z (n + k) rest min most greedy x
+  options_then =
+      let a = os.end_new in let g = os.end_there in let h = os.z_there in let l = os.progress.partly.grows.longer in let v = os.start_new in let w = os.start_there in let i = os.z_new in let ap1 = os.apart in
+      record {
+        progress = then_led 12 (then_made 16 os.progress option (omega arith)) led a (omega arith) (omega arith);
+        start_new = v;
+        start_there = omega arith;
+        end_new = omega arith;
+        end_there = omega arith;
+        z_new = i;
+        z_there = omega arith;
+        apart = omega arith;
+        kind = ap is_sparse (led.same e (omega arith)) ∙ option.fragment.can_be_led_on;
+        exit_is = led.same z (λ (same : z ≡ end). ap1 (sym same)) ∙ option.fragment.grows.same z h ∙ os.exit_is;
+        outs = λ table target fin here q low high not_z.
+            let all = option.comes_out table target (more_option target table fin here) in
+            ⊎_elim
+            (λ (less : q < length b.parts).
+            let o = os.outs table u (more_before target table fin) (more_end target table fin) q low less not_z in
+            out_on table target u o.0 q o.1 (all u (omega arith) (omega arith)))
+            (λ (more : length b.parts ≤ q). all q more (omega arith))
+            (cases_lt q (length b.parts));
+        does = λ table target fin here done.
+            let turn : b.reverse ≡ old.reverse = ap (λ (z : Assembly). z.reverse) os.progress.partly.grows.settings in
+            let R : Bool → Type 0 = λ back. Denotes back table target z (repetition 0 (Some rest) greedy x) in
+            let Q : ℕ → Type 0 = λ m. Denotes old.reverse table u z (repetition 0 (Some m) greedy x) in
+            os.does table u (more_before target table fin) (more_end target table fin)
+            (subst Q (sym one) (reads_as old b table u z (repetition 0 (Some (suc rest)) greedy x) os.progress.partly.grows
+            (does.before table target (more_option target table fin here) rest (subst R (sym turn) done))));
+      }
+
+-- no round is left
+module _ (old mid new : Assembly) (start end z n left min most : ℕ) (greedy : Bool) (x : Tree) (os : Options old mid start end z n left min most greedy x) (led : Led mid new end z) (none : left ≡ 0) where
+  last_but : (target : ℕ) (table : Table) → Finished (length old.parts) new.parts z target table → FinishesBut (length old.parts) mid.parts end z table
+  last_but target table fin q low high not_end not_z = fin.states q low (omega arith) not_z ∙ led.same q not_end
+
+  last_end : (target : ℕ) (table : Table) → Finished (length old.parts) new.parts z target table → table end ≡ patched z (part_at mid.parts end)
+  last_end target table fin = let a = os.end_new in let g = os.end_there in fin.states end a (omega arith) os.apart ∙ led.here
+
+  last_z : part_at new.parts z ≡ empty_part 0
+  last_z = let ap1 = os.apart in led.same z (λ (same : z ≡ end). ap1 (sym same)) ∙ os.exit_is
+
+  pub options_made : Makes old new start z n
+  options_made =
+      let a = os.end_new in let h = os.z_there in let v = os.start_new in let w = os.start_there in let i = os.z_new in
+      made n (then_led 8 os.progress led a h (omega arith)) (omega arith) (omega arith) v (omega arith) i (omega arith) (ap is_sparse last_z)
+      (λ table target fin q low high.
+      let out = out_next table target z target (ap stands_for (fin.led ∙ ap (patched target) last_z)) (out_at table target) in
+      let P : ℕ → Type 0 = λ k. ComesOut table target k in
+      ⊎_elim
+      (λ (e : q ≡ z). subst P (sym e) out)
+      (λ (not_z : q ≡ z → ⊥). let o = os.outs table z (last_but target table fin) (last_end target table fin) q low (omega arith) not_z in out_on table target z o.0 q o.1 out)
+      (cases_eq q z))
+
+  pub options_does : Does old new start z (repetition min (Some most) greedy x)
+  options_does = record {
+    denotes = λ table target fin.
+        let Q : ℕ → Type 0 = λ m. Denotes old.reverse table z z (repetition 0 (Some m) greedy x) in
+        denotes_then_empty old.reverse table start z target (repetition min (Some most) greedy x)
+        (os.does table z (last_but target table fin) (last_end target table fin) (subst Q (sym none) (denotes_stopped_here old.reverse table z greedy x)))
+        (denotes_empty old.reverse table z target (fin.led ∙ ap (patched target) last_z));
+  }

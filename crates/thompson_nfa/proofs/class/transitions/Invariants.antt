@@ -1,0 +1,6 @@
+use Rattle.std.proofs.Common.{◌≡◌, map, take}
+use Rattle.nfa_core.specs.Transitions.{range_of}
+use Rattle.thompson_nfa.proofs.class.transitions.Given as goal
+
+abbrev pub invariant-loop-range : goal.invariant-loop-range
+invariant-loop-range l = map range_of l.all.items ≡ map (λ r. (r.0, r.1, l.next)) (take l.range-index l.ranges)

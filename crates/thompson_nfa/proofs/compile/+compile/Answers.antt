@@ -1,0 +1,280 @@
+use Rattle.std.proofs.Common.{◌≡◌, ◌∙◌, ℕ, ◌+◌, ◌<◌, ◌≤◌, ap, sym, refl, length, get_or, None, Some, arith}
+use Rattle.hir_core.specs.Facts.{count}
+use Rattle.hir_core.specs.Weight.{weight}
+use Rattle.nfa_core.specs.BuilderStates.{Assembly}
+use Rattle.thompson_nfa.specs.Turned.{turned_place}
+use Rattle.thompson_nfa.proofs.ErrorLemmas.{handed}
+use Rattle.thompson_nfa.proofs.GrowLemmas.{ready_later}
+use Rattle.thompson_nfa.proofs.ProgressLemmas.{made_capped}
+use Rattle.thompson_nfa.proofs.JoinLemmas.{join_made}
+use Rattle.thompson_nfa.proofs.RepeatLemmas.{star_made, star_does, plus_made, plus_does, loop_made, loop_does, once_made, once_does}
+use Rattle.thompson_nfa.proofs.OptionLemmas.{option_made, option_does}
+use Rattle.thompson_nfa.proofs.CopyLemmas.{copies_first, copies_then, copies_refused, copies_lead_refused, copies_exact, copies_loop, rounds_owed, rounds_first, rounds_then, rounds_refused, rounds_lead_refused, rounds_last_refused, rounds_made, rounds_does, copies_done, at_least_made, stopped_does, bounds_does, groups_again}
+use Rattle.thompson_nfa.proofs.CaptureLemmas.{capture_made, capture_does, plain_does, capture_groups, plain_groups}
+use Rattle.thompson_nfa.proofs.PartsLemmas.{weight_in_concat, weight_in_alternation, parts_first, parts_then, parts_made, parts_does, parts_groups, parts_refused, parts_lead_refused, first_part_refused}
+use Rattle.thompson_nfa.proofs.TurnLemmas.{none_is_concat}
+use Rattle.thompson_nfa.proofs.JoinLemmas.{does_same}
+use Rattle.thompson_nfa.proofs.AlternativeLemmas.{cases_open, union_refused, end_refused, first_lead_refused, second_lead_refused, third_lead_refused, fourth_lead_refused, cases_then, cases_refused, cases_lead_refused, cases_end_refused, cases_made, cases_does, cases_groups, single_does}
+use Rattle.thompson_nfa.proofs.compile.+compile.Goals as goal
+
+pub zero_or_more-returns-clause-made : goal.zero_or_more-returns-clause-made
+zero_or_more-returns-clause-made t c =
+    made_capped _ (star_made _ _ _ _ _ c.args.greedy _ _ _ _ c.in_ok-union.ensures c.in_ok-body.ensures.made c.in_ok-lead.ensures c.in_ok-lead-2.ensures) (omega arith)
+
+pub zero_or_more-returns-clause-denotes : goal.zero_or_more-returns-clause-denotes
+zero_or_more-returns-clause-denotes t c =
+    star_does _ _ _ _ _ c.args.greedy _ _ _ _ c.in_ok-union.ensures c.in_ok-body.ensures.made c.in_ok-lead.ensures c.in_ok-lead-2.ensures c.args.x.now c.in_ok-body.ensures.denotes
+
+pub zero_or_more_of_empty-returns-clause-made : goal.zero_or_more_of_empty-returns-clause-made
+zero_or_more_of_empty-returns-clause-made t c =
+    loop_made _ _ _ _ _ _ _ _ _ _ c.args.greedy _ _ _ _ _ _ c.in_ok-body.ensures.made c.in_ok-plus.ensures c.in_ok-lead.ensures c.in_ok-lead-2.ensures c.in_ok-question.ensures c.in_ok-empty.ensures
+    c.in_ok-lead-3.ensures c.in_ok-lead-4.ensures c.in_ok-lead-5.ensures
+
+pub zero_or_more_of_empty-returns-clause-denotes : goal.zero_or_more_of_empty-returns-clause-denotes
+zero_or_more_of_empty-returns-clause-denotes t c =
+    loop_does _ _ _ _ _ _ _ _ _ _ c.args.greedy _ _ _ _ _ _ c.in_ok-body.ensures.made c.in_ok-plus.ensures c.in_ok-lead.ensures c.in_ok-lead-2.ensures c.in_ok-question.ensures c.in_ok-empty.ensures
+    c.in_ok-lead-3.ensures c.in_ok-lead-4.ensures c.in_ok-lead-5.ensures c.args.x.now c.in_ok-body.ensures.denotes
+
+pub one_or_more-returns-clause-made : goal.one_or_more-returns-clause-made
+one_or_more-returns-clause-made t c = plus_made _ _ _ _ _ c.args.greedy _ _ _ _ c.in_ok-body.ensures.made c.in_ok-union.ensures c.in_ok-lead.ensures c.in_ok-lead-2.ensures
+
+pub one_or_more-returns-clause-denotes : goal.one_or_more-returns-clause-denotes
+one_or_more-returns-clause-denotes t c =
+    plus_does _ _ _ _ _ c.args.greedy _ _ _ _ c.in_ok-body.ensures.made c.in_ok-union.ensures c.in_ok-lead.ensures c.in_ok-lead-2.ensures c.args.x.now c.in_ok-body.ensures.denotes
+
+pub zero_or_one-returns-clause-made : goal.zero_or_one-returns-clause-made
+zero_or_one-returns-clause-made t c =
+    once_made _ _ _ _ _ _ _ c.args.greedy _ _ _ _ _ c.in_ok-union.ensures c.in_ok-body.ensures.made c.in_ok-end.ensures c.in_ok-lead.ensures c.in_ok-lead-2.ensures c.in_ok-lead-3.ensures
+
+pub zero_or_one-returns-clause-denotes : goal.zero_or_one-returns-clause-denotes
+zero_or_one-returns-clause-denotes t c =
+    once_does _ _ _ _ _ _ _ c.args.greedy _ _ _ _ _ c.in_ok-union.ensures c.in_ok-body.ensures.made c.in_ok-end.ensures c.in_ok-lead.ensures c.in_ok-lead-2.ensures c.in_ok-lead-3.ensures
+    c.args.x.now c.in_ok-body.ensures.denotes
+
+pub option-returns-clause-made : goal.option-returns-clause-made
+option-returns-clause-made t c =
+    option_made _ _ _ _ _ c.args.greedy _ _ _ _ _ c.in_ok-union.ensures c.in_ok-body.ensures.made c.in_ok-lead.ensures c.in_ok-lead-2.ensures c.requires.there
+
+pub option-returns-clause-denotes : goal.option-returns-clause-denotes
+option-returns-clause-denotes t c =
+    option_does _ _ _ _ _ c.args.greedy _ _ _ _ _ c.in_ok-union.ensures c.in_ok-body.ensures.made c.in_ok-lead.ensures c.in_ok-lead-2.ensures c.requires.there c.args.x.now c.in_ok-body.ensures.denotes
+
+pub copies-loop-init : goal.copies-loop-init
+copies-loop-init t c = (copies_first c.args.which _ _ _ _ c.args.x.now c.in_ok-first.ensures.made c.in_ok-first.ensures.denotes c.in_ok-first.ensures.groups, c.requires.some)
+
+pub copies-loop-preserved : goal.copies-loop-preserved
+copies-loop-preserved t c =
+    (copies_then c.args.which _ _ _ _ _ _ _ _ c.loop.counter c.args.x.now c.loop.invariant.0 c.in_ok-next.ensures.made c.in_ok-next.ensures.denotes c.in_ok-next.ensures.groups c.in_ok-lead.ensures, omega arith)
+
+pub copies-returns-clause-denotes : goal.copies-returns-clause-denotes
+copies-returns-clause-denotes t c = copies_done c.args.which _ _ _ _ c.loop.counter c.args.n c.args.x.now c.loop.invariant.0 c.loop.invariant.1 c.loop-test.false
+
+pub at_least-returns-clause-made : goal.at_least-returns-clause-made
+at_least-returns-clause-made t c =
+    at_least_made _ _ _ _ _ _ _ _ c.args.min c.args.greedy c.args.x.now (omega arith) c.in_ok-prefix.ensures.made c.in_ok-last.ensures.made c.in_ok-lead.ensures
+
+pub at_least-returns-clause-denotes : goal.at_least-returns-clause-denotes
+at_least-returns-clause-denotes t c =
+    copies_loop _ _ _ _ _ _ _ _ _ _ c.args.min c.args.greedy c.args.x.now c.in_ok-prefix.ensures.made c.in_ok-last.ensures.made c.in_ok-lead.ensures (omega arith)
+    c.in_ok-prefix.ensures.denotes c.in_ok-last.ensures.denotes
+
+pub at_least-returns-clause-groups : goal.at_least-returns-clause-groups
+at_least-returns-clause-groups t c =
+    ap (λ (b : Assembly). b.groups) c.in_ok-lead.ensures.settings
+    ∙ groups_again c.args.which _ _ c.args.x.now _ _ _ (ap (λ (b : Assembly). length b.starts) c.in_ok-prefix.ensures.made.fragment.grows.settings) c.in_ok-prefix.ensures.groups c.in_ok-last.ensures.groups
+
+pub up_to-loop-init : goal.up_to-loop-init
+up_to-loop-init t c =
+    rounds_first c.args.which _ _ _ _ _ _ c.args.most c.args.greedy c.args.x.now (omega arith) c.in_ok-exit.ensures c.in_ok-first.ensures.made c.in_ok-first.ensures.denotes c.in_ok-first.ensures.groups
+
+pub up_to-loop-preserved : goal.up_to-loop-preserved
+up_to-loop-preserved t c =
+    rounds_then c.args.which _ _ _ _ _ c.loop.counter 0 c.args.most _ c.args.greedy c.args.x.now c.loop.invariant _ _ _ _ c.loop-test.true c.in_ok-next.ensures.made c.in_ok-next.ensures.denotes
+    c.in_ok-next.ensures.groups c.in_ok-lead.ensures
+
+pub up_to-returns-clause-made : goal.up_to-returns-clause-made
+up_to-returns-clause-made t c = rounds_made c.args.which _ _ _ _ _ c.loop.counter 0 c.args.most _ c.args.greedy c.args.x.now c.loop.invariant _ c.in_ok-lead-2.ensures c.loop-test.false
+
+pub up_to-returns-clause-denotes : goal.up_to-returns-clause-denotes
+up_to-returns-clause-denotes t c = rounds_does c.args.which _ _ _ _ _ c.loop.counter 0 c.args.most _ c.args.greedy c.args.x.now c.loop.invariant _ c.in_ok-lead-2.ensures c.loop-test.false
+
+pub owed_and_more-loop-init : goal.owed_and_more-loop-init
+owed_and_more-loop-init t c =
+    rounds_owed c.args.which _ _ _ _ _ _ c.args.min c.args.most c.args.greedy c.args.x.now c.requires.ordered c.in_ok-prefix.ensures.made c.in_ok-prefix.ensures.denotes c.in_ok-prefix.ensures.groups c.in_ok-exit.ensures
+
+pub owed_and_more-loop-preserved : goal.owed_and_more-loop-preserved
+owed_and_more-loop-preserved t c =
+    rounds_then c.args.which _ _ _ _ _ c.loop.counter c.args.min c.args.most _ c.args.greedy c.args.x.now c.loop.invariant _ _ _ _ c.loop-test.true c.in_ok-next.ensures.made c.in_ok-next.ensures.denotes
+    c.in_ok-next.ensures.groups c.in_ok-lead.ensures
+
+pub owed_and_more-returns-clause-made : goal.owed_and_more-returns-clause-made
+owed_and_more-returns-clause-made t c = rounds_made c.args.which _ _ _ _ _ c.loop.counter c.args.min c.args.most _ c.args.greedy c.args.x.now c.loop.invariant _ c.in_ok-lead-2.ensures c.loop-test.false
+
+pub owed_and_more-returns-clause-denotes : goal.owed_and_more-returns-clause-denotes
+owed_and_more-returns-clause-denotes t c = rounds_does c.args.which _ _ _ _ _ c.loop.counter c.args.min c.args.most _ c.args.greedy c.args.x.now c.loop.invariant _ c.in_ok-lead-2.ensures c.loop-test.false
+
+pub between-returns-then-most-eq0-clause-denotes : goal.between-returns-then-most-eq0-clause-denotes
+between-returns-then-most-eq0-clause-denotes t c = stopped_does _ _ _ _ c.args.min c.args.most c.args.greedy c.args.x.now (omega arith) (omega arith) c.in_ok-none.ensures.denotes
+
+pub between-returns-then-min-most-clause-denotes : goal.between-returns-then-min-most-clause-denotes
+between-returns-then-min-most-clause-denotes t c = copies_exact _ _ _ _ c.args.min c.args.most c.args.greedy c.args.x.now (omega arith) c.in_ok-all.ensures.denotes
+
+pub between-returns-then-most-eq1-clause-denotes : goal.between-returns-then-most-eq1-clause-denotes
+between-returns-then-most-eq1-clause-denotes t c = bounds_does _ _ _ _ 0 1 c.args.min c.args.most c.args.greedy c.args.x.now (omega arith) (omega arith) c.in_ok-one.ensures.denotes
+
+pub between-returns-clause-denotes : goal.between-returns-clause-denotes
+between-returns-clause-denotes t c = bounds_does _ _ _ _ 0 c.args.most c.args.min c.args.most c.args.greedy c.args.x.now (omega arith) refl c.in_ok-any.ensures.denotes
+
+pub captured-returns-then-not-keeps-clause-denotes : goal.captured-returns-then-not-keeps-clause-denotes
+captured-returns-then-not-keeps-clause-denotes t c = plain_does _ _ _ _ c.args.index _ c.args.x.now c.in_ok-body.ensures.denotes
+
+pub captured-returns-clause-made : goal.captured-returns-clause-made
+captured-returns-clause-made t c =
+    capture_made _ _ _ _ _ _ _ _ _ _ _ c.args.index _ _ c.in_ok-start.ensures.added c.in_ok-body-2.ensures.made c.in_ok-end.ensures.added
+    (ap (λ (b : Assembly). length b.starts) c.in_ok-body-2.ensures.made.fragment.grows.settings ∙ ap (λ (b : Assembly). length b.starts) c.in_ok-start.ensures.added.grows.settings)
+    c.in_ok-lead.ensures c.in_ok-lead-2.ensures
+
+pub captured-returns-clause-denotes : goal.captured-returns-clause-denotes
+captured-returns-clause-denotes t c =
+    capture_does _ _ _ _ _ _ _ _ _ _ _ c.args.index _ _ c.in_ok-start.ensures.added c.in_ok-body-2.ensures.made c.in_ok-end.ensures.added
+    (ap (λ (b : Assembly). length b.starts) c.in_ok-body-2.ensures.made.fragment.grows.settings ∙ ap (λ (b : Assembly). length b.starts) c.in_ok-start.ensures.added.grows.settings)
+    c.in_ok-lead.ensures c.in_ok-lead-2.ensures _ c.args.x.now c.in_ok-body-2.ensures.denotes
+
+pub concatenation-returns-then-subs-eq0-clause-denotes : goal.concatenation-returns-then-subs-eq0-clause-denotes
+concatenation-returns-then-subs-eq0-clause-denotes t c = does_same _ _ _ _ _ _ (none_is_concat c.args.subs.now (omega arith)) c.in_ok-none.ensures.denotes
+
+pub concatenation-compile-requires : goal.concatenation-compile-requires
+concatenation-compile-requires t c =
+    (omega (arith, weight_in_concat c.args.subs.now c.turned_place-begin.result c.index-subs-begin.result c.turned_place-begin.ensures.within, ap weight c.index-subs-begin.is), c.requires)
+
+pub concatenation-compile-requires-in-loop-i : goal.concatenation-compile-requires-in-loop-i
+concatenation-compile-requires-in-loop-i t c = (
+  omega (arith, weight_in_concat c.args.subs.now c.turned_place-place.result c.index-subs-place.result c.turned_place-place.ensures.within, ap weight c.index-subs-place.is),
+  ready_later c.args.which _ _ c.loop-i.invariant.made.fragment.grows c.requires,
+)
+
+pub concatenation-loop-i-init : goal.concatenation-loop-i-init
+concatenation-loop-i-init t c =
+    parts_first c.args.which _ _ _ _ c.index-subs-begin.result c.args.subs.now c.requires (omega arith)
+    (c.index-subs-begin.is ∙ ap (λ k. get_or c.args.subs.now k c.index-subs-begin.result)
+    (c.turned_place-begin.ensures.value ∙ ap (λ back. turned_place back 0 (length c.args.subs.now)) c.get_reverse-reverse.ensures))
+    c.in_ok-first.ensures.made c.in_ok-first.ensures.denotes c.in_ok-first.ensures.groups
+
+pub concatenation-loop-i-preserved : goal.concatenation-loop-i-preserved
+concatenation-loop-i-preserved t c =
+    parts_then c.args.which _ _ _ _ _ _ _ _ c.loop-i.i c.index-subs-place.result c.args.subs.now c.requires c.loop-i-test.true
+    (c.index-subs-place.is ∙ ap (λ k. get_or c.args.subs.now k c.index-subs-place.result)
+    (c.turned_place-place.ensures.value ∙ ap (λ back. turned_place back c.loop-i.i (length c.args.subs.now)) c.get_reverse-reverse.ensures))
+    c.loop-i.invariant c.in_ok-next.ensures.made c.in_ok-next.ensures.denotes c.in_ok-next.ensures.groups c.in_ok-lead.ensures
+
+pub concatenation-returns-in_err-first-clause-refused : goal.concatenation-returns-in_err-first-clause-refused
+concatenation-returns-in_err-first-clause-refused t c =
+    handed _ _ c.in_err-first.field-0.0 c.from_residual-in_err-first.ensures.1
+    (first_part_refused c.args.which _ _ c.index-subs-begin.result c.args.subs.now _ (omega arith)
+    (c.index-subs-begin.is ∙ ap (λ k. get_or c.args.subs.now k c.index-subs-begin.result)
+    (c.turned_place-begin.ensures.value ∙ ap (λ back. turned_place back 0 (length c.args.subs.now)) c.get_reverse-reverse.ensures))
+    c.in_err-first.ensures.refused)
+
+pub concatenation-returns-in_err-next-clause-refused : goal.concatenation-returns-in_err-next-clause-refused
+concatenation-returns-in_err-next-clause-refused t c =
+    handed _ _ c.in_err-next.field-0.0 c.from_residual-in_err-next.ensures.1
+    (parts_refused c.args.which _ _ _ _ c.loop-i.i c.args.subs.now c.loop-i.invariant _ c.index-subs-place.result _ c.loop-i-test.true
+    (c.index-subs-place.is ∙ ap (λ k. get_or c.args.subs.now k c.index-subs-place.result)
+    (c.turned_place-place.ensures.value ∙ ap (λ back. turned_place back c.loop-i.i (length c.args.subs.now)) c.get_reverse-reverse.ensures))
+    c.in_err-next.ensures.refused)
+
+pub concatenation-returns-in_err-lead-clause-refused : goal.concatenation-returns-in_err-lead-clause-refused
+concatenation-returns-in_err-lead-clause-refused t c =
+    handed _ _ c.in_err-lead.field-0.0 c.from_residual-in_err-lead.ensures.1
+    (parts_lead_refused c.args.which _ _ _ _ c.loop-i.i c.args.subs.now c.loop-i.invariant _ _ _ _ c.index-subs-place.result _ c.loop-i-test.true
+    (c.index-subs-place.is ∙ ap (λ k. get_or c.args.subs.now k c.index-subs-place.result)
+    (c.turned_place-place.ensures.value ∙ ap (λ back. turned_place back c.loop-i.i (length c.args.subs.now)) c.get_reverse-reverse.ensures))
+    c.in_ok-next.ensures.made c.in_err-lead.ensures)
+
+pub concatenation-returns-clause-made : goal.concatenation-returns-clause-made
+concatenation-returns-clause-made t c =
+    parts_made c.args.which _ _ _ _ c.loop-i.i c.args.subs.now c.loop-i.invariant
+
+pub concatenation-returns-clause-denotes : goal.concatenation-returns-clause-denotes
+concatenation-returns-clause-denotes t c =
+    parts_does c.args.which _ _ _ _ c.loop-i.i c.args.subs.now c.loop-i.invariant c.loop-i-test.false
+
+pub alternatives-returns-clause-made : goal.alternatives-returns-clause-made
+alternatives-returns-clause-made t c =
+    cases_made c.args.which _ _ _ _ c.loop-i.i c.args.subs.now c.loop-i.invariant
+
+pub alternatives-returns-clause-denotes : goal.alternatives-returns-clause-denotes
+alternatives-returns-clause-denotes t c =
+    cases_does c.args.which _ _ _ _ c.loop-i.i c.args.subs.now c.loop-i.invariant c.loop-i-test.false
+
+pub alternatives-returns-then-subs-eq1-clause-denotes : goal.alternatives-returns-then-subs-eq1-clause-denotes
+alternatives-returns-then-subs-eq1-clause-denotes t c =
+    single_does _ _ _ _ c.index-subs-0.result c.args.subs.now (omega arith) c.index-subs-0.is c.in_ok-one.ensures.denotes
+
+pub alternatives-returns-in_err-union-clause-refused : goal.alternatives-returns-in_err-union-clause-refused
+alternatives-returns-in_err-union-clause-refused t c =
+    handed _ _ c.in_err-union.field-0.0 c.from_residual-in_err-union.ensures.1
+    (union_refused c.args.which _ _ _ _ _ _ _ c.index-subs-0-2.result c.index-subs-1.result c.args.subs.now (omega arith) c.index-subs-0-2.is c.index-subs-1.is
+    c.in_ok-first.ensures.made c.in_ok-second.ensures.made _ _ c.in_err-union.ensures)
+
+pub alternatives-returns-in_err-end-clause-refused : goal.alternatives-returns-in_err-end-clause-refused
+alternatives-returns-in_err-end-clause-refused t c =
+    handed _ _ c.in_err-end.field-0.0 c.from_residual-in_err-end.ensures.1
+    (end_refused c.args.which _ _ _ _ _ _ _ c.index-subs-0-2.result c.index-subs-1.result c.args.subs.now (omega arith) c.index-subs-0-2.is c.index-subs-1.is
+    c.in_ok-first.ensures.made c.in_ok-second.ensures.made _ _ _ _ c.in_ok-union.ensures c.in_err-end.ensures)
+
+pub alternatives-returns-in_err-lead-clause-refused : goal.alternatives-returns-in_err-lead-clause-refused
+alternatives-returns-in_err-lead-clause-refused t c =
+    handed _ _ c.in_err-lead.field-0.0 c.from_residual-in_err-lead.ensures.1
+    (first_lead_refused c.args.which _ _ _ _ _ _ _ c.index-subs-0-2.result c.index-subs-1.result c.args.subs.now (omega arith) c.index-subs-0-2.is c.index-subs-1.is
+    c.in_ok-first.ensures.made c.in_ok-second.ensures.made _ _ _ _ c.in_ok-union.ensures c.in_ok-end.ensures _ _ c.in_err-lead.ensures)
+
+pub alternatives-returns-in_err-lead-2-clause-refused : goal.alternatives-returns-in_err-lead-2-clause-refused
+alternatives-returns-in_err-lead-2-clause-refused t c =
+    handed _ _ c.in_err-lead-2.field-0.0 c.from_residual-in_err-lead-2.ensures.1
+    (second_lead_refused c.args.which _ _ _ _ _ _ _ c.index-subs-0-2.result c.index-subs-1.result c.args.subs.now (omega arith) c.index-subs-0-2.is c.index-subs-1.is
+    c.in_ok-first.ensures.made c.in_ok-second.ensures.made _ _ _ _ c.in_ok-union.ensures c.in_ok-end.ensures _ _ _ c.in_ok-lead.ensures c.in_err-lead-2.ensures)
+
+pub alternatives-returns-in_err-lead-3-clause-refused : goal.alternatives-returns-in_err-lead-3-clause-refused
+alternatives-returns-in_err-lead-3-clause-refused t c =
+    handed _ _ c.in_err-lead-3.field-0.0 c.from_residual-in_err-lead-3.ensures.1
+    (third_lead_refused c.args.which _ _ _ _ _ _ _ c.index-subs-0-2.result c.index-subs-1.result c.args.subs.now (omega arith) c.index-subs-0-2.is c.index-subs-1.is
+    c.in_ok-first.ensures.made c.in_ok-second.ensures.made _ _ _ _ c.in_ok-union.ensures c.in_ok-end.ensures _ _ _ _ c.in_ok-lead.ensures c.in_ok-lead-2.ensures c.in_err-lead-3.ensures)
+
+pub alternatives-returns-in_err-lead-4-clause-refused : goal.alternatives-returns-in_err-lead-4-clause-refused
+alternatives-returns-in_err-lead-4-clause-refused t c =
+    handed _ _ c.in_err-lead-4.field-0.0 c.from_residual-in_err-lead-4.ensures.1
+    (fourth_lead_refused c.args.which _ _ _ _ _ _ _ c.index-subs-0-2.result c.index-subs-1.result c.args.subs.now (omega arith) c.index-subs-0-2.is c.index-subs-1.is
+    c.in_ok-first.ensures.made c.in_ok-second.ensures.made _ _ _ _ c.in_ok-union.ensures c.in_ok-end.ensures _ _ _ _ _ c.in_ok-lead.ensures c.in_ok-lead-2.ensures c.in_ok-lead-3.ensures c.in_err-lead-4.ensures)
+
+pub alternatives-loop-i-init : goal.alternatives-loop-i-init
+alternatives-loop-i-init t c =
+    cases_open c.args.which _ _ _ _ _ _ _ c.index-subs-0-2.result c.index-subs-1.result c.args.subs.now (omega arith) c.index-subs-0-2.is c.index-subs-1.is
+    c.in_ok-first.ensures.made c.in_ok-second.ensures.made _ _ _ _ _ _ _ _ c.in_ok-union.ensures c.in_ok-end.ensures c.in_ok-lead.ensures c.in_ok-lead-2.ensures
+    c.in_ok-lead-3.ensures c.in_ok-lead-4.ensures c.in_ok-first.ensures.denotes c.in_ok-second.ensures.denotes c.in_ok-first.ensures.groups c.in_ok-second.ensures.groups
+
+pub alternatives-loop-i-preserved : goal.alternatives-loop-i-preserved
+alternatives-loop-i-preserved t c =
+    cases_then c.args.which _ _ _ _ c.loop-i.i c.args.subs.now c.loop-i.invariant _ _ _ _ _ c.index-subs-i.result c.loop-i-test.true c.index-subs-i.is c.in_ok-next.ensures.made c.in_ok-next.ensures.denotes
+    c.in_ok-next.ensures.groups c.in_ok-lead-5.ensures c.in_ok-lead-6.ensures
+
+pub alternatives-compile-requires-in-loop-i : goal.alternatives-compile-requires-in-loop-i
+alternatives-compile-requires-in-loop-i t c = (
+  omega (arith, weight_in_alternation c.args.subs.now c.loop-i.i c.index-subs-i.result c.loop-i-test.true, ap weight c.index-subs-i.is),
+  ready_later c.args.which _ _ c.loop-i.invariant.branches.progress.partly.grows c.requires,
+)
+
+pub alternatives-returns-in_err-next-clause-refused : goal.alternatives-returns-in_err-next-clause-refused
+alternatives-returns-in_err-next-clause-refused t c =
+    handed _ _ c.in_err-next.field-0.0 c.from_residual-in_err-next.ensures.1
+    (cases_refused c.args.which _ _ _ _ c.loop-i.i c.args.subs.now c.loop-i.invariant _ c.index-subs-i.result _ c.loop-i-test.true c.index-subs-i.is c.in_err-next.ensures.refused)
+
+pub alternatives-returns-in_err-lead-5-clause-refused : goal.alternatives-returns-in_err-lead-5-clause-refused
+alternatives-returns-in_err-lead-5-clause-refused t c =
+    handed _ _ c.in_err-lead-5.field-0.0 c.from_residual-in_err-lead-5.ensures.1
+    (cases_lead_refused c.args.which _ _ _ _ c.loop-i.i c.args.subs.now c.loop-i.invariant _ _ _ _ c.index-subs-i.result _ c.loop-i-test.true c.index-subs-i.is c.in_ok-next.ensures.made c.in_err-lead-5.ensures)
+
+pub alternatives-returns-in_err-lead-6-clause-refused : goal.alternatives-returns-in_err-lead-6-clause-refused
+alternatives-returns-in_err-lead-6-clause-refused t c =
+    handed _ _ c.in_err-lead-6.field-0.0 c.from_residual-in_err-lead-6.ensures.1
+    (cases_end_refused c.args.which _ _ _ _ c.loop-i.i c.args.subs.now c.loop-i.invariant _ _ _ _ _ c.index-subs-i.result _ c.loop-i-test.true c.index-subs-i.is c.in_ok-next.ensures.made c.in_ok-lead-5.ensures c.in_err-lead-6.ensures)

@@ -1,0 +1,33 @@
+use Rattle.std.proofs.Common.{◌≡◌, ◌∙◌, ℕ, List, [], ◌∷◌, length, get_or, arith, ap, sym, refl, subst}
+use Rattle.hir_core.specs.Tree.{empty, literal}
+use Rattle.nfa_core.specs.BuilderStates.{Assembly}
+use Rattle.thompson_nfa.specs.Turned.{turned_place, left_after}
+use Rattle.thompson_nfa.proofs.JoinLemmas.{join_made, join_does, does_first, does_all, does_same}
+use Rattle.thompson_nfa.proofs.SameLemmas.{same_literal_none}
+use Rattle.thompson_nfa.proofs.TurnLemmas.{literal_joins, literal_begun, literal_ended, none_is_literal}
+use Rattle.thompson_nfa.proofs.leaves.literal.Goals as goal
+
+pub loop-i-init : goal.loop-i-init
+loop-i-init c = (
+  c.in_ok-first.ensures.made,
+  c.in_ok-first.ensures.groups,
+  omega arith,
+  does_first _ _ _ _ _ _ _ (literal_begun c.args.builder.now.reverse c.args.bytes.now _ 0 (omega arith)
+      (ap (λ k. get_or c.args.bytes.now k 0) (c.turned_place.ensures.value ∙ ap (λ back. turned_place back 0 (length c.args.bytes.now)) c.get_reverse-reverse.ensures))) c.in_ok-first.ensures.denotes,
+)
+
+pub loop-i-preserved : goal.loop-i-preserved
+loop-i-preserved c = (
+  join_made _ _ _ _ _ _ _ _ _ _ c.loop-i.invariant.0 c.in_ok-next.ensures.made c.in_ok-lead.ensures,
+  ap (λ (b : Assembly). b.groups) c.in_ok-lead.ensures.settings ∙ c.in_ok-next.ensures.groups ∙ c.loop-i.invariant.1,
+  omega arith,
+  join_does _ _ _ _ _ _ _ _ _ _ c.loop-i.invariant.0 c.in_ok-next.ensures.made c.in_ok-lead.ensures _ _ _ _
+      (literal_joins c.args.builder.now.reverse c.args.bytes.now c.loop-i.i _ 0 (omega arith)
+      (ap (λ k. get_or c.args.bytes.now k 0) (c.turned_place-in-loop-i.ensures.value ∙ ap (λ back. turned_place back c.loop-i.i (length c.args.bytes.now)) c.get_reverse-reverse.ensures))) c.loop-i.invariant.3 c.in_ok-next.ensures.denotes,
+)
+
+pub returns-then-bytes-eq0-clause-denotes : goal.returns-then-bytes-eq0-clause-denotes
+returns-then-bytes-eq0-clause-denotes c = does_same _ _ _ _ _ _ (none_is_literal c.args.bytes.now (omega arith)) c.in_ok-none.ensures.denotes
+
+pub returns-clause-denotes : goal.returns-clause-denotes
+returns-clause-denotes c = does_all _ _ _ _ _ _ (literal_ended c.args.builder.now.reverse c.loop-i.i c.args.bytes.now (omega arith)) c.loop-i.invariant.3

@@ -1,0 +1,88 @@
+//! Fragments of byte classes.
+ghost use Rattle.std.specs.Prelude.{◌≡◌, ◌<◌, ◌≤◌, ◌*◌, length, map, take, All, IfOk, IfErr, MatchResult, IsTrue};
+ghost use Rattle.hir_core.specs.Facts.{is_ascending};
+ghost use Rattle.hir_core.specs.Tree.{byte_class};
+ghost use Rattle.nfa_core.specs.BuilderStates.{sparse_part, AscendsFrom};
+ghost use Rattle.nfa_core.specs.Transitions.{range_of};
+ghost use Rattle.thompson_nfa.specs.Added.{Added};
+ghost use Rattle.thompson_nfa.specs.Compiled.{Makes, Does};
+ghost use Rattle.thompson_nfa.specs.Refusals.{Quits, Stays};
+
+use crate::fragment::Fragment;
+use crate::parts::add_empty;
+use nfa_core::{BuildError, Builder, Transition};
+use search_core::StateID;
+use std::alloc::{AllocError, Global};
+
+/// The last byte of a range.
+fn last_byte(range: &(u8, u8)) -> u8
+    ensures { range.now.1 < 256 }
+{
+    range.1
+}
+
+/// The ranges end in bytes, as their type says. The loop does nothing.
+fn see_bytes(ranges: &[(u8, u8)])
+    ensures { All (λ r. r.1 < 256) ranges.now }
+{
+    for range in ranges {
+        let _end = last_byte(range);
+    }
+}
+
+/// A transition by each of the ranges, all to the same state.
+fn transitions(
+    alloc: Global,
+    ranges: &[(u8, u8)],
+    next: StateID,
+) -> Result<Vec<Transition>, AllocError>
+    ensures { IfOk result (λ v. map range_of v.items ≡ map (λ r. (r.0, r.1, next)) ranges.now) }
+{
+    let mut all = Vec::new(alloc);
+    for range in ranges {
+        all.push(Transition {
+            start: range.0,
+            end: range.1,
+            next,
+        })?;
+    }
+    Ok(all)
+}
+
+/// Adds a state that leads on by the bytes of the ranges, all to the same state. It can't be led on.
+#[tactic(auto, using(crate::proofs::ClassLemmas::ascends, crate::proofs::ClassLemmas::few_ranges, crate::proofs::ClassLemmas::bytes_shown, crate::proofs::StepLemmas::added_of, crate::proofs::StepLemmas::add_refused))]
+fn add_ranges(
+    builder: &mut Builder,
+    alloc: Global,
+    ranges: &[(u8, u8)],
+    next: StateID,
+) -> Result<StateID, BuildError>
+    requires { IsTrue (is_ascending ranges.now) }
+    ensures added { IfOk result (λ id. Added builder.old builder.new id (sparse_part (map (λ r. (r.0, r.1, next)) ranges.now)) builder.old.groups) }
+    ensures few { IfOk result (λ _. length ranges.now ≤ 256) }
+    ensures refused { IfErr result (λ e. Stays builder.old builder.new 1 2072 e) }
+{
+    see_bytes(ranges);
+    let all = transitions(alloc, ranges, next)?;
+    let id = builder.add_sparse(all)?;
+    Ok(id)
+}
+
+/// One state that reads a byte of the ranges, before one that stands for what follows. Read down it is the
+/// same.
+#[tactic(auto, using(crate::proofs::ClassLemmas::class_made, crate::proofs::ClassLemmas::class_does, crate::proofs::ProgressLemmas::first_quits, crate::proofs::ClassLemmas::class_quits))]
+pub(crate) fn byte_class(
+    builder: &mut Builder,
+    alloc: Global,
+    ranges: &[(u8, u8)],
+) -> Result<Fragment, BuildError>
+    requires { IsTrue (is_ascending ranges.now) }
+    ensures made { IfOk result (λ f. Makes builder.old builder.new f.start f.end 2) }
+    ensures denotes { IfOk result (λ f. Does builder.old builder.new f.start f.end (byte_class ranges.now)) }
+    ensures groups { IfOk result (λ _. builder.new.groups ≡ builder.old.groups) }
+    ensures refused { IfErr result (λ e. Quits builder.old builder.new 2 e) }
+{
+    let end = add_empty(builder)?;
+    let start = add_ranges(builder, alloc, ranges, end)?;
+    Ok(Fragment { start, end })
+}

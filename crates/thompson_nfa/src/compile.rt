@@ -1,0 +1,485 @@
+//! Trees as fragments of states. Recursion goes into parts of the tree only.
+ghost use Rattle.std.specs.Prelude.{◌≡◌, ◌<◌, ◌≤◌, ◌+◌, ◌-◌, ◌*◌, [], ◌∷◌, length, IfOk, IfErr, IfSome, Some, None, option_map, string_bytes};
+ghost use Rattle.hir_core.specs.Facts.{count};
+ghost use Rattle.hir_core.specs.Tree.{repetition, capture, concat, alternation};
+ghost use Rattle.thompson_nfa.specs.Compiled.{IsReady, Makes, Does, DoesCopies, DoesOption};
+ghost use Rattle.thompson_nfa.specs.NotedGroups.{noted, keeps_group};
+ghost use Rattle.thompson_nfa.specs.Refusals.{Refuses};
+
+use crate::class::byte_class;
+use crate::fragment::Fragment;
+use crate::leaves::{empty, fail, literal, look, turned_place};
+use crate::parts::{add_choice, add_empty, end_group, lead, start_group};
+use crate::scalar_class::compile_scalars;
+use crate::which_captures::WhichCaptures;
+use hir_core::{Hir, HirKind};
+use nfa_core::{BuildError, Builder};
+use search_core::StateID;
+use std::alloc::{AllocError, Global};
+
+/// Compiles a tree.
+#[cycle(compile)]
+pub(crate) fn compile(
+    builder: &mut Builder,
+    alloc: Global,
+    which: WhichCaptures,
+    x: &Hir,
+) -> Result<Fragment, BuildError>
+    requires { IsReady which builder.old }
+    ensures made { IfOk result (λ f. Makes builder.old builder.new f.start f.end (count x.now)) }
+    ensures denotes { IfOk result (λ f. Does builder.old builder.new f.start f.end (x.now)) }
+    ensures groups { IfOk result (λ _. builder.new.groups ≡ noted which (length builder.old.starts) (x.now) builder.old.groups) }
+    ensures refused { IfErr result (λ e. Refuses which builder.old builder.new (count x.now) (x.now) e) }
+{
+    match x.kind() {
+        HirKind::Empty => empty(builder),
+        HirKind::Literal(bytes) => literal(builder, bytes),
+        HirKind::Bytes(ranges) => byte_class(builder, alloc, ranges),
+        HirKind::Chars(ranges) => compile_scalars(builder, alloc, ranges),
+        HirKind::Look(assertion) => look(builder, *assertion),
+        HirKind::Repetition {
+            min,
+            max,
+            greedy,
+            sub,
+        } => match max {
+            None => at_least(builder, alloc, which, sub, *greedy, *min),
+            Some(max) => between(builder, alloc, which, sub, *greedy, *min, *max),
+        },
+        HirKind::Capture { index, name, sub } => {
+            captured(builder, alloc, which, *index, name, sub)
+        }
+        HirKind::Concat(subs) => concatenation(builder, alloc, which, subs),
+        HirKind::Alternation(subs) => alternatives(builder, alloc, which, subs),
+    }
+}
+
+/// Whether the states of a group are made.
+fn keeps(which: WhichCaptures, index: u32) -> bool
+    ensures { result ≡ keeps_group which index }
+{
+    match which {
+        WhichCaptures::All => true,
+        WhichCaptures::Implicit => index == 0,
+        WhichCaptures::None => false,
+    }
+}
+
+fn clone_name(name: &Option<String>, alloc: Global) -> Result<Option<String>, AllocError>
+    ensures { IfOk result (λ copy. option_map string_bytes copy ≡ option_map string_bytes name.now) }
+{
+    match name {
+        None => Ok(None),
+        Some(name) => Ok(Some(String::from_str(alloc, name)?)),
+    }
+}
+
+/// A group, between states that note its ends where such states are made.
+#[cycle(compile)]
+pub(crate) fn captured(
+    builder: &mut Builder,
+    alloc: Global,
+    which: WhichCaptures,
+    index: u32,
+    name: &Option<String>,
+    x: &Hir,
+) -> Result<Fragment, BuildError>
+    requires { IsReady which builder.old }
+    ensures made { IfOk result (λ f. Makes builder.old builder.new f.start f.end (count x.now + 2)) }
+    ensures denotes { IfOk result (λ f. Does builder.old builder.new f.start f.end (capture index (option_map string_bytes name.now) x.now)) }
+    ensures groups { IfOk result (λ _. builder.new.groups ≡ noted which (length builder.old.starts) (capture index (option_map string_bytes name.now) x.now) builder.old.groups) }
+    ensures refused { IfErr result (λ e. Refuses which builder.old builder.new (count x.now + 2) (capture index (option_map string_bytes name.now) x.now) e) }
+{
+    if !keeps(which, index) {
+        let body = compile(builder, alloc, which, x)?;
+        return Ok(body);
+    }
+    let name = clone_name(name, alloc)?;
+    let start = start_group(builder, alloc, index, name)?;
+    let body = compile(builder, alloc, which, x)?;
+    let end = end_group(builder, index)?;
+    lead(builder, start, body.start)?;
+    lead(builder, body.end, end)?;
+    Ok(Fragment { start, end })
+}
+
+/// The parts, one after the other, in the order in which they are read.
+#[cycle(compile)]
+fn concatenation(
+    builder: &mut Builder,
+    alloc: Global,
+    which: WhichCaptures,
+    subs: &[Hir],
+) -> Result<Fragment, BuildError>
+    requires { IsReady which builder.old }
+    ensures made { IfOk result (λ f. Makes builder.old builder.new f.start f.end (count (concat subs.now))) }
+    ensures denotes { IfOk result (λ f. Does builder.old builder.new f.start f.end (concat subs.now)) }
+    ensures groups { IfOk result (λ _. builder.new.groups ≡ noted which (length builder.old.starts) (concat subs.now) builder.old.groups) }
+    ensures refused { IfErr result (λ e. Refuses which builder.old builder.new (count (concat subs.now)) (concat subs.now) e) }
+{
+    if subs.len() == 0 {
+        let none = empty(builder)?;
+        return Ok(none);
+    }
+    let reverse = builder.get_reverse();
+    let begin = turned_place(reverse, 0, subs.len());
+    let first = compile(builder, alloc, which, &subs[begin])?;
+    let mut end = first.end;
+    for i in 1..subs.len() {
+        let place = turned_place(reverse, i, subs.len());
+        let next = compile(builder, alloc, which, &subs[place])?;
+        lead(builder, end, next.start)?;
+        end = next.end;
+    }
+    Ok(Fragment {
+        start: first.start,
+        end,
+    })
+}
+
+/// Whether each span of the tree has a byte, so far as is known.
+fn reads(x: &Hir) -> bool {
+    match x.properties().minimum_len() {
+        None => false,
+        Some(n) => n > 0,
+    }
+}
+
+/// Any number of rounds.
+#[cycle(compile)]
+fn zero_or_more(
+    builder: &mut Builder,
+    alloc: Global,
+    which: WhichCaptures,
+    x: &Hir,
+    greedy: bool,
+) -> Result<Fragment, BuildError>
+    requires { IsReady which builder.old }
+    ensures made { IfOk result (λ f. Makes builder.old builder.new f.start f.end (count x.now + 3)) }
+    ensures denotes { IfOk result (λ f. Does builder.old builder.new f.start f.end (repetition 0 None greedy x.now)) }
+    ensures groups { IfOk result (λ _. builder.new.groups ≡ noted which (length builder.old.starts) (x.now) builder.old.groups) }
+    ensures refused { IfErr result (λ e. Refuses which builder.old builder.new (count x.now + 3) (x.now) e) }
+{
+    if !reads(x) {
+        let any = zero_or_more_of_empty(builder, alloc, which, x, greedy)?;
+        return Ok(any);
+    }
+    let union = add_choice(builder, alloc, greedy)?;
+    let body = compile(builder, alloc, which, x)?;
+    lead(builder, union, body.start)?;
+    lead(builder, body.end, union)?;
+    Ok(Fragment {
+        start: union,
+        end: union,
+    })
+}
+
+/// Any number of rounds of what may read nothing.
+#[cycle(compile)]
+fn zero_or_more_of_empty(
+    builder: &mut Builder,
+    alloc: Global,
+    which: WhichCaptures,
+    x: &Hir,
+    greedy: bool,
+) -> Result<Fragment, BuildError>
+    requires { IsReady which builder.old }
+    ensures made { IfOk result (λ f. Makes builder.old builder.new f.start f.end (count x.now + 3)) }
+    ensures denotes { IfOk result (λ f. Does builder.old builder.new f.start f.end (repetition 0 None greedy x.now)) }
+    ensures groups { IfOk result (λ _. builder.new.groups ≡ noted which (length builder.old.starts) (x.now) builder.old.groups) }
+    ensures refused { IfErr result (λ e. Refuses which builder.old builder.new (count x.now + 3) (x.now) e) }
+{
+    let body = compile(builder, alloc, which, x)?;
+    let plus = add_choice(builder, alloc, greedy)?;
+    lead(builder, body.end, plus)?;
+    lead(builder, plus, body.start)?;
+    let question = add_choice(builder, alloc, greedy)?;
+    let empty = add_empty(builder)?;
+    lead(builder, question, body.start)?;
+    lead(builder, question, empty)?;
+    lead(builder, plus, empty)?;
+    Ok(Fragment {
+        start: question,
+        end: empty,
+    })
+}
+
+/// One round at least.
+#[cycle(compile)]
+fn one_or_more(
+    builder: &mut Builder,
+    alloc: Global,
+    which: WhichCaptures,
+    x: &Hir,
+    greedy: bool,
+) -> Result<Fragment, BuildError>
+    requires { IsReady which builder.old }
+    ensures made { IfOk result (λ f. Makes builder.old builder.new f.start f.end (count x.now + 1)) }
+    ensures denotes { IfOk result (λ f. Does builder.old builder.new f.start f.end (repetition 1 None greedy x.now)) }
+    ensures groups { IfOk result (λ _. builder.new.groups ≡ noted which (length builder.old.starts) (x.now) builder.old.groups) }
+    ensures refused { IfErr result (λ e. Refuses which builder.old builder.new (count x.now + 1) (x.now) e) }
+{
+    let body = compile(builder, alloc, which, x)?;
+    let union = add_choice(builder, alloc, greedy)?;
+    lead(builder, body.end, union)?;
+    lead(builder, union, body.start)?;
+    Ok(Fragment {
+        start: body.start,
+        end: union,
+    })
+}
+
+/// One round at most.
+#[cycle(compile)]
+fn zero_or_one(
+    builder: &mut Builder,
+    alloc: Global,
+    which: WhichCaptures,
+    x: &Hir,
+    greedy: bool,
+) -> Result<Fragment, BuildError>
+    requires { IsReady which builder.old }
+    ensures made { IfOk result (λ f. Makes builder.old builder.new f.start f.end (count x.now + 2)) }
+    ensures denotes { IfOk result (λ f. Does builder.old builder.new f.start f.end (repetition 0 (Some 1) greedy x.now)) }
+    ensures groups { IfOk result (λ _. builder.new.groups ≡ noted which (length builder.old.starts) (x.now) builder.old.groups) }
+    ensures refused { IfErr result (λ e. Refuses which builder.old builder.new (count x.now + 2) (x.now) e) }
+{
+    let union = add_choice(builder, alloc, greedy)?;
+    let body = compile(builder, alloc, which, x)?;
+    let end = add_empty(builder)?;
+    lead(builder, union, body.start)?;
+    lead(builder, union, end)?;
+    lead(builder, body.end, end)?;
+    Ok(Fragment { start: union, end })
+}
+
+/// So many rounds, one after the other; there is one at least.
+#[cycle(compile)]
+fn copies(
+    builder: &mut Builder,
+    alloc: Global,
+    which: WhichCaptures,
+    x: &Hir,
+    n: u32,
+) -> Result<Fragment, BuildError>
+    requires ready { IsReady which builder.old }
+    requires some { 1 ≤ n }
+    ensures made { IfOk result (λ f. Makes builder.old builder.new f.start f.end (n * count x.now)) }
+    ensures denotes { IfOk result (λ f. DoesCopies builder.old builder.new f.start f.end n x.now) }
+    ensures groups { IfOk result (λ _. builder.new.groups ≡ noted which (length builder.old.starts) (x.now) builder.old.groups) }
+    ensures refused { IfErr result (λ e. Refuses which builder.old builder.new (n * count x.now) (x.now) e) }
+{
+    let first = compile(builder, alloc, which, x)?;
+    let mut end = first.end;
+    for _ in 1..n {
+        let next = compile(builder, alloc, which, x)?;
+        lead(builder, end, next.start)?;
+        end = next.end;
+    }
+    Ok(Fragment {
+        start: first.start,
+        end,
+    })
+}
+
+/// At least so many rounds.
+#[cycle(compile)]
+fn at_least(
+    builder: &mut Builder,
+    alloc: Global,
+    which: WhichCaptures,
+    x: &Hir,
+    greedy: bool,
+    min: u32,
+) -> Result<Fragment, BuildError>
+    requires { IsReady which builder.old }
+    ensures made { IfOk result (λ f. Makes builder.old builder.new f.start f.end (count (repetition min None greedy x.now))) }
+    ensures denotes { IfOk result (λ f. Does builder.old builder.new f.start f.end (repetition min None greedy x.now)) }
+    ensures groups { IfOk result (λ _. builder.new.groups ≡ noted which (length builder.old.starts) (repetition min None greedy x.now) builder.old.groups) }
+    ensures refused { IfErr result (λ e. Refuses which builder.old builder.new (count (repetition min None greedy x.now)) (repetition min None greedy x.now) e) }
+{
+    if min == 0 {
+        let any = zero_or_more(builder, alloc, which, x, greedy)?;
+        return Ok(any);
+    }
+    if min == 1 {
+        let some = one_or_more(builder, alloc, which, x, greedy)?;
+        return Ok(some);
+    }
+    let prefix = copies(builder, alloc, which, x, min - 1)?;
+    let last = one_or_more(builder, alloc, which, x, greedy)?;
+    lead(builder, prefix.end, last.start)?;
+    Ok(Fragment {
+        start: prefix.start,
+        end: last.end,
+    })
+}
+
+/// One round, or the way to the exit.
+#[cycle(compile)]
+fn option(
+    builder: &mut Builder,
+    alloc: Global,
+    which: WhichCaptures,
+    x: &Hir,
+    greedy: bool,
+    exit: StateID,
+) -> Result<Fragment, BuildError>
+    requires ready { IsReady which builder.old }
+    requires there { exit < length builder.old.parts }
+    ensures made { IfOk result (λ f. Makes builder.old builder.new f.start f.end (count x.now + 1)) }
+    ensures denotes { IfOk result (λ f. DoesOption builder.old builder.new f.start f.end exit greedy x.now) }
+    ensures groups { IfOk result (λ _. builder.new.groups ≡ noted which (length builder.old.starts) (x.now) builder.old.groups) }
+    ensures refused { IfErr result (λ e. Refuses which builder.old builder.new (count x.now + 1) (x.now) e) }
+{
+    let union = add_choice(builder, alloc, greedy)?;
+    let body = compile(builder, alloc, which, x)?;
+    lead(builder, union, body.start)?;
+    lead(builder, union, exit)?;
+    Ok(Fragment {
+        start: union,
+        end: body.end,
+    })
+}
+
+/// No more rounds than so many; one may be.
+#[cycle(compile)]
+fn up_to(
+    builder: &mut Builder,
+    alloc: Global,
+    which: WhichCaptures,
+    x: &Hir,
+    greedy: bool,
+    most: u32,
+) -> Result<Fragment, BuildError>
+    requires ready { IsReady which builder.old }
+    requires some { 1 ≤ most }
+    ensures made { IfOk result (λ f. Makes builder.old builder.new f.start f.end (most * (count x.now + 1) + 1)) }
+    ensures denotes { IfOk result (λ f. Does builder.old builder.new f.start f.end (repetition 0 (Some most) greedy x.now)) }
+    ensures groups { IfOk result (λ _. builder.new.groups ≡ noted which (length builder.old.starts) (x.now) builder.old.groups) }
+    ensures refused { IfErr result (λ e. Refuses which builder.old builder.new (most * (count x.now + 1) + 1) (x.now) e) }
+{
+    let exit = add_empty(builder)?;
+    let first = option(builder, alloc, which, x, greedy, exit)?;
+    let mut end = first.end;
+    for _ in 1..most {
+        let next = option(builder, alloc, which, x, greedy, exit)?;
+        lead(builder, end, next.start)?;
+        end = next.end;
+    }
+    lead(builder, end, exit)?;
+    Ok(Fragment {
+        start: first.start,
+        end: exit,
+    })
+}
+
+/// Rounds that are owed, one at least, and more up to a bound above them.
+#[cycle(compile)]
+fn owed_and_more(
+    builder: &mut Builder,
+    alloc: Global,
+    which: WhichCaptures,
+    x: &Hir,
+    greedy: bool,
+    min: u32,
+    most: u32,
+) -> Result<Fragment, BuildError>
+    requires ready { IsReady which builder.old }
+    requires some { 1 ≤ min }
+    requires ordered { min ≤ most }
+    ensures made { IfOk result (λ f. Makes builder.old builder.new f.start f.end (min * count x.now + (most - min) * (count x.now + 1) + 1)) }
+    ensures denotes { IfOk result (λ f. Does builder.old builder.new f.start f.end (repetition min (Some most) greedy x.now)) }
+    ensures groups { IfOk result (λ _. builder.new.groups ≡ noted which (length builder.old.starts) (x.now) builder.old.groups) }
+    ensures refused { IfErr result (λ e. Refuses which builder.old builder.new (min * count x.now + (most - min) * (count x.now + 1) + 1) (x.now) e) }
+{
+    let prefix = copies(builder, alloc, which, x, min)?;
+    let exit = add_empty(builder)?;
+    let mut end = prefix.end;
+    for _ in min..most {
+        let next = option(builder, alloc, which, x, greedy, exit)?;
+        lead(builder, end, next.start)?;
+        end = next.end;
+    }
+    lead(builder, end, exit)?;
+    Ok(Fragment {
+        start: prefix.start,
+        end: exit,
+    })
+}
+
+/// At least so many rounds, and no more than the bound.
+#[cycle(compile)]
+fn between(
+    builder: &mut Builder,
+    alloc: Global,
+    which: WhichCaptures,
+    x: &Hir,
+    greedy: bool,
+    min: u32,
+    most: u32,
+) -> Result<Fragment, BuildError>
+    requires ready { IsReady which builder.old }
+    requires ordered { min ≤ most }
+    ensures made { IfOk result (λ f. Makes builder.old builder.new f.start f.end (count (repetition min (Some most) greedy x.now))) }
+    ensures denotes { IfOk result (λ f. Does builder.old builder.new f.start f.end (repetition min (Some most) greedy x.now)) }
+    ensures groups { IfOk result (λ _. builder.new.groups ≡ noted which (length builder.old.starts) (repetition min (Some most) greedy x.now) builder.old.groups) }
+    ensures refused { IfErr result (λ e. Refuses which builder.old builder.new (count (repetition min (Some most) greedy x.now)) (repetition min (Some most) greedy x.now) e) }
+{
+    if most == 0 {
+        let none = empty(builder)?;
+        return Ok(none);
+    }
+    if min == most {
+        let all = copies(builder, alloc, which, x, min)?;
+        return Ok(all);
+    }
+    if min > 0 {
+        let some = owed_and_more(builder, alloc, which, x, greedy, min, most)?;
+        return Ok(some);
+    }
+    if most == 1 {
+        let one = zero_or_one(builder, alloc, which, x, greedy)?;
+        return Ok(one);
+    }
+    let any = up_to(builder, alloc, which, x, greedy, most)?;
+    Ok(any)
+}
+
+/// One of the parts, an earlier one preferred. Two parts at least are led to by a union.
+#[cycle(compile)]
+fn alternatives(
+    builder: &mut Builder,
+    alloc: Global,
+    which: WhichCaptures,
+    subs: &[Hir],
+) -> Result<Fragment, BuildError>
+    requires { IsReady which builder.old }
+    ensures made { IfOk result (λ f. Makes builder.old builder.new f.start f.end (count (alternation subs.now))) }
+    ensures denotes { IfOk result (λ f. Does builder.old builder.new f.start f.end (alternation subs.now)) }
+    ensures groups { IfOk result (λ _. builder.new.groups ≡ noted which (length builder.old.starts) (alternation subs.now) builder.old.groups) }
+    ensures refused { IfErr result (λ e. Refuses which builder.old builder.new (count (alternation subs.now)) (alternation subs.now) e) }
+{
+    if subs.len() == 0 {
+        let none = fail(builder)?;
+        return Ok(none);
+    }
+    if subs.len() == 1 {
+        let one = compile(builder, alloc, which, &subs[0])?;
+        return Ok(one);
+    }
+    let first = compile(builder, alloc, which, &subs[0])?;
+    let second = compile(builder, alloc, which, &subs[1])?;
+    let union = add_choice(builder, alloc, true)?;
+    let end = add_empty(builder)?;
+    lead(builder, union, first.start)?;
+    lead(builder, first.end, end)?;
+    lead(builder, union, second.start)?;
+    lead(builder, second.end, end)?;
+    for i in 2..subs.len() {
+        let next = compile(builder, alloc, which, &subs[i])?;
+        lead(builder, union, next.start)?;
+        lead(builder, next.end, end)?;
+    }
+    Ok(Fragment { start: union, end })
+}

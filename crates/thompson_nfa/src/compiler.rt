@@ -1,0 +1,75 @@
+ghost use Rattle.std.specs.Prelude.{◌≡◌, [], ◌∷◌, IfOk, IfErr};
+ghost use Rattle.thompson_nfa.specs.Configs.{no_options, changed_by};
+ghost use Rattle.thompson_nfa.specs.Compilations.{IsCompiled};
+ghost use Rattle.thompson_nfa.specs.RefusedTrees.{RefusesTrees};
+
+use crate::config::Config;
+use crate::trees::compile_trees;
+use hir_core::Hir;
+use nfa_core::{BuildError, Builder, NFA};
+use std::alloc::Global;
+use std::marker::Model;
+use std::slice;
+
+/// Makes byte automata of trees. A contract sees the options that were set: what an automaton is depends on
+/// these and the trees alone, and not on what was made or refused before.
+///
+/// As `regex_automata::nfa::thompson::Compiler`.
+#[derive(Drop)]
+pub struct Compiler {
+    config: Config,
+    builder: Builder,
+}
+
+impl Model for Compiler {
+    ghost use Rattle.thompson_nfa.specs.Configs.{Options};
+
+    ghost Value = { Options };
+
+    ghost view = { λ c. c.config };
+}
+
+impl Compiler {
+    /// A compiler with no option set.
+    pub fn new(alloc: Global) -> Compiler
+        ensures { result ≡ no_options }
+    {
+        Compiler {
+            config: Config::new(),
+            builder: Builder::new(alloc),
+        }
+    }
+
+    /// Sets each option that the configuration has set, and keeps the others.
+    pub fn configure(&mut self, config: Config) -> &mut Compiler
+        ensures same { result.ghost_name ≡ self.entry.ghost_name }
+        ensures value { result.now ≡ changed_by self.old config }
+    {
+        self.config = self.config.overwrite(config);
+        self
+    }
+
+    /// The automaton of one tree, as pattern 0. See [`build_many_from_hir`](Compiler::build_many_from_hir).
+    pub fn build_from_hir(&mut self, alloc: Global, expr: &Hir) -> Result<NFA, BuildError>
+        ensures options { self.new ≡ self.old }
+        ensures compiled { IfOk result (λ n. IsCompiled self.old (expr.now ∷ []) n) }
+        ensures refused { IfErr result (λ e. RefusesTrees self.old (expr.now ∷ []) e) }
+    {
+        let nfa = self.build_many_from_hir(alloc, slice::from_ref(expr))?;
+        Ok(nfa)
+    }
+
+    /// The automaton of these trees, each as a pattern of its own, numbered from 0.
+    ///
+    /// It is refused where groups are asked for in an automaton that reads downwards, or break a rule, where
+    /// there are more patterns or states than can be numbered, where the states take more bytes than they may,
+    /// and where memory lacks.
+    pub fn build_many_from_hir(&mut self, alloc: Global, exprs: &[Hir]) -> Result<NFA, BuildError>
+        ensures options { self.new ≡ self.old }
+        ensures compiled { IfOk result (λ n. IsCompiled self.old exprs.now n) }
+        ensures refused { IfErr result (λ e. RefusesTrees self.old exprs.now e) }
+    {
+        let nfa = compile_trees(&mut self.builder, alloc, &self.config, exprs)?;
+        Ok(nfa)
+    }
+}

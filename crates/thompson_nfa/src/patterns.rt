@@ -1,0 +1,152 @@
+//! All patterns, and what stands before them.
+ghost use Rattle.std.specs.Prelude.{◌≡◌, ◌≢◌, ◌<◌, ◌≤◌, ◌+◌, ◌&&◌, true, false, [], ◌∷◌, length, IfOk, IfErr, MatchResult};
+ghost use Rattle.std.specs.List.{list_all};
+ghost use Rattle.search_core.specs.Index.{greatest_index};
+ghost use Rattle.hir_core.specs.Facts.{count};
+ghost use Rattle.nfa_core.specs.BuilderStates.{match_part, union_part, part_at, is_sparse};
+ghost use Rattle.thompson_nfa.specs.declared.which_captures.WhichCaptures.TheVariants as which_captures;
+ghost use Rattle.nfa_core.specs.Renaming.{past};
+ghost use Rattle.thompson_nfa.specs.Added.{Added};
+ghost use Rattle.thompson_nfa.specs.Assembled.{IsAssembled};
+ghost use Rattle.thompson_nfa.specs.Configs.{reverse_of, captures_of, is_any};
+ghost use Rattle.thompson_nfa.specs.Patterns.{HasAll, HasStart, LeadsToFurther, LeadsToPatterns, RefusesPatterns, begun_with, room_for};
+ghost use Rattle.thompson_nfa.specs.Refusals.{Stays};
+ghost use Rattle.thompson_nfa.specs.RefusedTrees.{Breaks};
+
+use crate::config::Config;
+use crate::parts::{add_choice, add_empty, add_fail, lead};
+use crate::prefix::{add_prefix, all_anchored};
+use crate::compile::captured;
+use crate::which_captures::WhichCaptures;
+use hir_core::Hir;
+use nfa_core::{BuildError, Builder};
+use search_core::StateID;
+use std::alloc::Global;
+
+/// The states in which searches start: those at one place alone, and all others.
+#[derive(Clone, Copy)]
+pub(crate) struct Starts {
+    pub(crate) anchored: StateID,
+    pub(crate) unanchored: StateID,
+}
+
+/// Adds a state in which the pattern that was begun matches.
+fn add_match(builder: &mut Builder) -> Result<StateID, BuildError>
+    requires { builder.old.is_open ≡ true }
+    ensures { MatchResult result (λ id. Added builder.old builder.new id (match_part (length builder.old.starts)) builder.old.groups) (λ e. Stays builder.old builder.new 1 24 e) }
+{
+    builder.add_match()
+}
+
+/// One pattern: its tree, with the whole match as group 0, and the state in which it matches. A refusal leaves
+/// it begun.
+fn compile_pattern(
+    builder: &mut Builder,
+    alloc: Global,
+    which: WhichCaptures,
+    expr: &Hir,
+) -> Result<StateID, BuildError>
+    requires closed { builder.old.is_open ≡ false }
+    requires upward { builder.old.reverse ≡ true → which ≡ which_captures.None }
+    requires numbered { length builder.old.starts ≤ greatest_index }
+    ensures has { IfOk result (λ start. HasAll which builder.old builder.new (start ∷ []) (expr.now ∷ []) (count expr.now + 3) 4) }
+    ensures refused { IfErr result (λ e. RefusesPatterns which builder.old (count expr.now + 3) (expr.now ∷ []) e) }
+{
+    builder.start_pattern()?;
+    let unnamed: Option<String> = None;
+    let body = captured(builder, alloc, which, 0, &unnamed, expr)?;
+    let end = add_match(builder)?;
+    lead(builder, body.end, end)?;
+    builder.finish_pattern(body.start)?;
+    Ok(body.start)
+}
+
+/// More patterns, to which a union leads behind those to which it leads already.
+fn compile_further(
+    builder: &mut Builder,
+    alloc: Global,
+    which: WhichCaptures,
+    union: StateID,
+    exprs: &[Hir],
+) -> Result<(), BuildError>
+    requires closed { builder.old.is_open ≡ false }
+    requires upward { builder.old.reverse ≡ true → which ≡ which_captures.None }
+    requires numbered { length builder.old.starts + length exprs.now ≤ greatest_index + 1 }
+    requires there { union < length builder.old.parts }
+    requires kind { is_sparse (part_at builder.old.parts union) ≡ false }
+    ensures has { IfOk result (λ _. LeadsToFurther which union builder.old builder.new exprs.now (room_for exprs.now)) }
+    ensures refused { IfErr result (λ e. RefusesPatterns which builder.old (room_for exprs.now) exprs.now e) }
+{
+    for expr in exprs {
+        let start = compile_pattern(builder, alloc, which, expr)?;
+        lead(builder, union, start)?;
+    }
+    Ok(())
+}
+
+/// All patterns, and the state that leads to them, the first ones preferred: the only one's start, a union, or
+/// a state that leads nowhere.
+fn compile_patterns(
+    builder: &mut Builder,
+    alloc: Global,
+    which: WhichCaptures,
+    exprs: &[Hir],
+) -> Result<StateID, BuildError>
+    requires closed { builder.old.is_open ≡ false }
+    requires upward { builder.old.reverse ≡ true → which ≡ which_captures.None }
+    requires numbered { length builder.old.starts + length exprs.now ≤ greatest_index + 1 }
+    ensures has { IfOk result (λ c. LeadsToPatterns which builder.old builder.new c exprs.now (room_for exprs.now + 1)) }
+    ensures refused { IfErr result (λ e. RefusesPatterns which builder.old (room_for exprs.now + 1) exprs.now e) }
+{
+    let Some((first, rest)) = exprs.split_first() else {
+        let none = add_fail(builder)?;
+        return Ok(none);
+    };
+    let first = compile_pattern(builder, alloc, which, first)?;
+    let Some((second, rest)) = rest.split_first() else {
+        return Ok(first);
+    };
+    let second = compile_pattern(builder, alloc, which, second)?;
+    let union = add_choice(builder, alloc, true)?;
+    lead(builder, union, first)?;
+    lead(builder, union, second)?;
+    compile_further(builder, alloc, which, union, rest)?;
+    Ok(union)
+}
+
+/// Adds what stands before the patterns.
+fn add_start(builder: &mut Builder, alloc: Global, anchored: bool) -> Result<StateID, BuildError>
+    ensures { MatchResult result (λ u. HasStart anchored builder.old builder.new u) (λ e. Breaks builder.old builder.new 3 e) }
+{
+    if anchored {
+        let start = add_empty(builder)?;
+        return Ok(start);
+    }
+    let start = add_prefix(builder, alloc)?;
+    Ok(start)
+}
+
+/// All patterns, and what stands before them: an anchored search starts in the state that leads to the patterns.
+pub(crate) fn compile_all(
+    builder: &mut Builder,
+    alloc: Global,
+    config: &Config,
+    exprs: &[Hir],
+) -> Result<Starts, BuildError>
+    requires begun { builder.old ≡ begun_with config.now }
+    requires captures { (reverse_of config.now && is_any (captures_of config.now)) ≡ false }
+    requires numbered { length exprs.now ≤ greatest_index + 1 }
+    ensures assembled { IfOk result (λ s. IsAssembled config.now exprs.now builder.new s.anchored s.unanchored) }
+    ensures apart { IfOk result (λ s. past builder.new.parts s.anchored ≢ s.unanchored) }
+    ensures refused { IfErr result (λ e. RefusesPatterns (captures_of config.now) builder.old (room_for exprs.now + 4) exprs.now e) }
+{
+    let which = config.get_which_captures();
+    let anchored = all_anchored(exprs, config.get_reverse());
+    let start = add_start(builder, alloc, anchored)?;
+    let patterns = compile_patterns(builder, alloc, which, exprs)?;
+    lead(builder, start, patterns)?;
+    Ok(Starts {
+        anchored: patterns,
+        unanchored: start,
+    })
+}

@@ -1,0 +1,138 @@
+//! The steps from trees to an automaton.
+ghost use Rattle.std.specs.Prelude.{◌≡◌, ◌≢◌, ◌⊎◌, ◌<◌, ◌≤◌, ◌+◌, ◌&&◌, true, false, length, IfOk, IfErr, MatchResult};
+ghost use Rattle.search_core.specs.Index.{greatest_index};
+ghost use Rattle.nfa_core.specs.BuilderFaults.{Tells, build_fault};
+ghost use Rattle.nfa_core.specs.CanBuild.{CanBuild};
+ghost use Rattle.nfa_core.specs.NfaOf.{nfa_of};
+ghost use Rattle.nfa_core.specs.Renaming.{past};
+ghost use Rattle.nfa_core.specs.declared.build_error.BuildError.TheVariants.{NoMemory, TooManyPatterns, UnsupportedCaptures};
+ghost use Rattle.thompson_nfa.specs.Assembled.{IsAssembled};
+ghost use Rattle.thompson_nfa.specs.Compilations.{IsCompiled};
+ghost use Rattle.thompson_nfa.specs.Configs.{reverse_of, captures_of, is_any};
+ghost use Rattle.thompson_nfa.specs.Patterns.{begun_with, told_by};
+ghost use Rattle.thompson_nfa.specs.RefusedTrees.{RefusesTrees};
+
+use crate::config::Config;
+use crate::patterns::{Starts, compile_all};
+use hir_core::Hir;
+use nfa_core::nfa_laws::reached_states_are_led_to;
+use nfa_core::{BuildError, Builder, NFA, Steps};
+use search_core::{PatternID, StateID};
+use std::alloc::Global;
+use std::marker::Brand;
+use std::sync::ledger::{Blank, Ledger};
+
+/// How many bytes as many states as can be numbered take at least.
+const ALL_STATES: usize = 24 * StateID::LIMIT;
+
+/// Refuses more patterns than can be numbered.
+fn check_patterns(len: usize) -> Result<(), BuildError>
+    ensures { MatchResult result (λ _. len ≤ greatest_index + 1) (λ e. (e ≡ TooManyPatterns) × (greatest_index + 1 < len)) }
+{
+    if len > PatternID::LIMIT {
+        return Err(BuildError::TooManyPatterns);
+    }
+    Ok(())
+}
+
+/// Refuses groups in an automaton that reads downwards.
+fn check_captures(config: &Config) -> Result<(), BuildError>
+    ensures { MatchResult result (λ _. (reverse_of config.now && is_any (captures_of config.now)) ≡ false)
+        (λ e. (e ≡ UnsupportedCaptures) × ((reverse_of config.now && is_any (captures_of config.now)) ≡ true)) }
+{
+    if config.get_reverse() && config.get_which_captures().is_any() {
+        return Err(BuildError::UnsupportedCaptures);
+    }
+    Ok(())
+}
+
+/// Takes all states and patterns away, whatever they are, and sets what the configuration says.
+fn start_over(builder: &mut Builder, config: &Config) -> Result<(), BuildError>
+    ensures { MatchResult result (λ _. builder.new ≡ begun_with config.now) (λ e. e ≡ NoMemory) }
+{
+    builder.clear();
+    builder.set_utf8(config.get_utf8());
+    builder.set_reverse(config.get_reverse());
+    builder.set_look_matcher(config.get_look_matcher());
+    builder.set_size_limit(config.get_nfa_size_limit())?;
+    Ok(())
+}
+
+/// Where the limit has no room for as many states as can be numbered, it is told before the want of numbers.
+fn told(limit: Option<usize>, err: BuildError) -> BuildError
+    ensures { result ≡ told_by limit err }
+{
+    match (limit, err) {
+        (Some(limit), BuildError::TooManyStates) if limit < ALL_STATES => {
+            BuildError::ExceededSizeLimit { limit }
+        }
+        (_, err) => err,
+    }
+}
+
+/// Builds the automaton, and counts the moves.
+fn build_counted<L: Ledger>(
+    builder: &Builder,
+    alloc: Global,
+    starts: Starts,
+    blank: Blank,
+) -> Result<NFA, BuildError>
+    requires can { CanBuild builder.now starts.anchored starts.unanchored }
+    requires name { blank.name ≡ L.name }
+    requires parts { blank.parts ≡ L.parts }
+    requires some { 0 < blank.parts }
+    ensures { MatchResult result (λ n. n ≡ nfa_of builder.now starts.anchored starts.unanchored) (λ e. (e ≡ NoMemory) ⊎ Tells e (build_fault builder.now)) }
+{
+    let mut steps = Steps::<L>::new(blank);
+    let nfa = builder.build(alloc, starts.anchored, starts.unanchored, &mut steps)?;
+    Ok(nfa)
+}
+
+/// Builds the automaton.
+fn build(builder: &Builder, alloc: Global, starts: Starts) -> Result<NFA, BuildError>
+    requires { CanBuild builder.now starts.anchored starts.unanchored }
+    ensures { MatchResult result (λ n. n ≡ nfa_of builder.now starts.anchored starts.unanchored) (λ e. (e ≡ NoMemory) ⊎ Tells e (build_fault builder.now)) }
+{
+    build_counted::<Brand>(builder, alloc, starts, Blank::new(1))
+}
+
+/// The automaton of what is compiled.
+fn finish(
+    builder: &Builder,
+    alloc: Global,
+    config: &Config,
+    exprs: &[Hir],
+    starts: Starts,
+) -> Result<NFA, BuildError>
+    requires assembled { IsAssembled config.now exprs.now builder.now starts.anchored starts.unanchored }
+    requires apart { past builder.now.parts starts.anchored ≢ starts.unanchored }
+    ensures compiled { IfOk result (λ n. IsCompiled config.now exprs.now n) }
+    ensures refused { IfErr result (λ e. RefusesTrees config.now exprs.now e) }
+{
+    let _ = (config.get_utf8(), exprs.len());
+    let nfa = build(builder, alloc, starts)?;
+    nfa.is_sound();
+    reached_states_are_led_to();
+    Ok(nfa)
+}
+
+/// The automaton of these trees under the configuration. What the builder has is of no account.
+pub(crate) fn compile_trees(
+    builder: &mut Builder,
+    alloc: Global,
+    config: &Config,
+    exprs: &[Hir],
+) -> Result<NFA, BuildError>
+    ensures compiled { IfOk result (λ n. IsCompiled config.now exprs.now n) }
+    ensures refused { IfErr result (λ e. RefusesTrees config.now exprs.now e) }
+{
+    check_patterns(exprs.len())?;
+    check_captures(config)?;
+    start_over(builder, config)?;
+    let starts = match compile_all(builder, alloc, config, exprs) {
+        Ok(starts) => starts,
+        Err(err) => return Err(told(config.get_nfa_size_limit(), err)),
+    };
+    let nfa = finish(builder, alloc, config, exprs, starts)?;
+    Ok(nfa)
+}
