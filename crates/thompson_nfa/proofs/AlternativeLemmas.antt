@@ -1,23 +1,23 @@
 -- Fragments of alternations: the parts so far.
-use Rattle.std.proofs.Common.{◌≡◌, ◌≢◌, ◌⊎◌, inl, inr, ℕ, zero, suc, ◌+◌, ◌-◌, ◌*◌, ◌<◌, ◌≤◌, min, Bool, true, false, List, [], ◌∷◌, ◌++◌, length, take, drop, get_or, Option, Some, None, refl, sym, ap, ◌∙◌, subst, arith, add-one, drop_of_length-le}
+use Rattle.std.proofs.Common.{◌≡◌, ℕ, zero, suc, ◌+◌, ◌*◌, ◌<◌, ◌≤◌, true, List, [], ◌∷◌, ◌++◌, length, take, drop, get_or, sym, ap, ◌∙◌, subst, arith, drop_of_length-le}
 use Rattle.std.proofs.lemmas.List.{take_more, take_all}
 use Rattle.search_types.specs.Groups.{Groups}
-use Rattle.hir_core.specs.Tree.{Tree, never, alt, alternation}
+use Rattle.hir_core.specs.Tree.{Tree, alternation}
 use Rattle.hir_core.specs.Facts.{count}
 use Rattle.nfa_core.specs.BuilderStates.{Assembly, empty_part, union_part}
 use Rattle.nfa_core.specs.declared.build_error.BuildError.{BuildError}
 use Rattle.thompson_nfa.specs.Compiled.{Makes, Does}
 use Rattle.thompson_nfa.specs.Added.{Added, Led}
-use Rattle.thompson_nfa.specs.NotedGroups.{noted, HasGroup}
+use Rattle.thompson_nfa.specs.NotedGroups.{noted}
 use Rattle.thompson_nfa.specs.Refusals.{Refuses, Stays}
 use Rattle.thompson_nfa.specs.declared.which_captures.WhichCaptures.{WhichCaptures}
-use Rattle.thompson_nfa.proofs.SameLemmas.{IsSame, same_alternation_one}
+use Rattle.thompson_nfa.proofs.SameLemmas.{same_alternation_one}
 use Rattle.thompson_nfa.proofs.JoinLemmas.{does_same}
 use Rattle.thompson_nfa.proofs.TurnLemmas.{first_left}
 use Rattle.thompson_nfa.proofs.BranchLemmas.{Branches, branches_open, branches_then, branches_made, branches_does}
 use Rattle.thompson_nfa.proofs.RepeatLemmas.{choice_then, empty_then}
 use Rattle.thompson_nfa.proofs.PartsLemmas.{counts, count_of_alternation, alternation_includes}
-use Rattle.thompson_nfa.proofs.ProgressLemmas.{Progress, Includes, first_made, then_made, then_led, made_capped, then_quits, refuses, then_refuses, first_refuses}
+use Rattle.thompson_nfa.proofs.ProgressLemmas.{Progress, first_made, then_made, then_led, made_capped, then_quits, refuses, then_refuses, first_refuses}
 
 pub record Cases (kept : WhichCaptures) (old mid : Assembly) (u z i : ℕ) (xs : List Tree) : Type 0 where
   pub n : ℕ

@@ -1,11 +1,11 @@
 -- Fragments of alternations: the branches so far, where the union and the end wait for more.
-use Rattle.std.proofs.Common.{◌≡◌, ◌≢◌, ◌⊎◌, inl, inr, ℕ, zero, suc, ◌+◌, ◌*◌, ◌<◌, ◌≤◌, Bool, true, false, List, [], ◌∷◌, ◌++◌, length, take, get_or, Option, Some, None, refl, sym, ap, ◌∙◌, subst, arith, ⊎_elim, length-append}
+use Rattle.std.proofs.Common.{◌≡◌, ◌≢◌, ℕ, ◌+◌, ◌<◌, ◌≤◌, true, List, [], ◌∷◌, ◌++◌, length, None, refl, sym, ap, ◌∙◌, subst, arith, ⊎_elim, length-append}
 use Rattle.std.proofs.lemmas.Bool.{cases_lt, cases_eq}
 use Rattle.hir_core.specs.Tree.{Tree, alternation}
 use Rattle.nfa_core.specs.BuilderStates.{Part, Assembly, part_at, patched, is_sparse, empty_part, union_part}
 use Rattle.nfa_core.specs.Renaming.{stands_for}
 use Rattle.nfa_core.specs.Drafted.{Table}
-use Rattle.thompson_nfa.specs.Compiled.{Finished, AllComeOut, ComesOut, Makes, Does}
+use Rattle.thompson_nfa.specs.Compiled.{Finished, ComesOut, Makes, Does}
 use Rattle.thompson_nfa.specs.Added.{Added, Led}
 use Rattle.thompson_nfa.proofs.OutLemmas.{out_here, out_next, out_at, out_on}
 use Rattle.thompson_nfa.proofs.ProgressLemmas.{Progress, first_made, then_made, then_led, made}

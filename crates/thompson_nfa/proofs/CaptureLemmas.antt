@@ -1,7 +1,7 @@
 -- Fragments of captures.
-use Rattle.std.proofs.Common.{◌≡◌, ◌≢◌, ◌⊎◌, inl, inr, ℕ, zero, suc, ◌+◌, ◌*◌, ◌<◌, ◌≤◌, Bool, true, false, List, [], ◌∷◌, length, Option, Some, None, nat_lt, if◌then◌else◌, refl, sym, ap, ◌∙◌, subst, arith, ⊎_elim}
+use Rattle.std.proofs.Common.{◌≡◌, ◌⊎◌, inl, ℕ, ◌+◌, ◌*◌, ◌<◌, ◌≤◌, Bool, true, false, length, Option, Some, None, nat_lt, if◌then◌else◌, refl, sym, ap, ◌∙◌, subst, arith, ⊎_elim}
 use Rattle.std.specs.Option.{option_or}
-use Rattle.std.proofs.lemmas.Bool.{ltb-true, ltb-false}
+use Rattle.std.proofs.lemmas.Bool.{ltb-true}
 use Rattle.search_core.specs.Index.{greatest_index}
 use Rattle.search_types.specs.Groups.{Name, Groups}
 use Rattle.search_types.specs.GroupFaults.{GroupFault, TooManyGroups}
@@ -14,16 +14,16 @@ use Rattle.nfa_core.specs.Renaming.{stands_for}
 use Rattle.nfa_core.specs.Drafted.{Table}
 use Rattle.nfa_core.specs.declared.build_error.BuildError.{BuildError}
 use Rattle.nfa_core.specs.declared.build_error.BuildError.TheVariants as error
-use Rattle.thompson_nfa.specs.Compiled.{Grows, Finished, AllComeOut, IsTame, Makes, Does, sum_of_bytes}
+use Rattle.thompson_nfa.specs.Compiled.{Finished, AllComeOut, IsTame, Makes, Does, sum_of_bytes}
 use Rattle.thompson_nfa.specs.Added.{Added, Led}
-use Rattle.thompson_nfa.specs.NotedGroups.{noted, keeps_group, HasGroup}
-use Rattle.thompson_nfa.specs.Refusals.{RefusesGroup, QuitsGroup, Refuses, RefusesTree, RefusesStep, Quits}
+use Rattle.thompson_nfa.specs.NotedGroups.{noted, keeps_group}
+use Rattle.thompson_nfa.specs.Refusals.{RefusesGroup, QuitsGroup, Refuses, RefusesTree, RefusesStep}
 use Rattle.thompson_nfa.specs.declared.which_captures.WhichCaptures.{WhichCaptures}
 use Rattle.thompson_nfa.proofs.OutLemmas.{out_here, all_here, all_join, all_on}
 use Rattle.thompson_nfa.proofs.LeafLemmas.{tame_one}
 use Rattle.thompson_nfa.proofs.StepLemmas.{added_of, added_group, room_for, refused_name}
 use Rattle.thompson_nfa.proofs.NotedLemmas.{group_in, known_of_in, known_group}
-use Rattle.thompson_nfa.proofs.ProgressLemmas.{Progress, first_added, then_added, then_made, then_led, made, tree_later, step_later, size_kept}
+use Rattle.thompson_nfa.proofs.ProgressLemmas.{Progress, first_added, then_added, then_made, then_led, made, step_later, size_kept}
 use Rattle.thompson_nfa.proofs.RepeatLemmas.{reads_as}
 use Rattle.thompson_nfa.proofs.AheadLemmas.{denotes_capture, denotes_capture_plain}
 

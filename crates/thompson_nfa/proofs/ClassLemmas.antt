@@ -1,23 +1,22 @@
 -- Fragments of byte classes.
-use Rattle.std.proofs.Common.{◌≡◌, ◌≢◌, ◌⊎◌, inl, inr, ℕ, zero, suc, ◌+◌, ◌*◌, ◌<◌, ◌≤◌, Bool, true, false, List, [], ◌∷◌, ◌++◌, length, get_or, map, refl, sym, ap, ◌∙◌, subst, arith, IsTrue, nat_le, ◌&&◌}
+use Rattle.std.proofs.Common.{◌≡◌, ℕ, zero, suc, ◌+◌, ◌<◌, ◌≤◌, Bool, true, false, List, [], ◌∷◌, length, get_or, refl, sym, ap, ◌∙◌, subst, arith, IsTrue, nat_le, ◌&&◌}
 use Rattle.std.specs.Prelude.{All}
 use Rattle.std.proofs.lemmas.Bool.{leb-true}
-use Rattle.std.proofs.lemmas.List.{length-map, map-append, take_more}
+use Rattle.std.proofs.lemmas.List.{length-map}
 use Rattle.hir_core.specs.Facts.{rises_from, is_ascending}
 use Rattle.hir_core.specs.Tree.{byte_class}
-use Rattle.nfa_core.specs.BuilderStates.{Part, Assembly, part_at, patched, part_bytes, bytes_of, with_part, is_sparse, AscendsFrom, empty_part, sparse_part}
-use Rattle.nfa_core.specs.Drafted.{Table}
+use Rattle.nfa_core.specs.BuilderStates.{Part, Assembly, part_at, patched, part_bytes, is_sparse, AscendsFrom, empty_part, sparse_part}
 use Rattle.nfa_core.specs.Renaming.{stands_for}
 use Rattle.nfa_core.specs.CanBuild.{names_of}
 use Rattle.nfa_core.specs.declared.build_error.BuildError.{BuildError}
-use Rattle.thompson_nfa.specs.Compiled.{Finished, AllComeOut, IsTame, Makes, Does}
+use Rattle.thompson_nfa.specs.Compiled.{AllComeOut, IsTame, Makes, Does}
 use Rattle.thompson_nfa.specs.Added.{Added}
 use Rattle.thompson_nfa.specs.Refusals.{Stays, Quits}
 use Rattle.thompson_nfa.proofs.WayLemmas.{to_one}
 use Rattle.thompson_nfa.proofs.DenoteLemmas.{denotes_empty, denotes_sparse}
 use Rattle.thompson_nfa.proofs.AheadLemmas.{denotes_then_empty}
 use Rattle.thompson_nfa.proofs.OutLemmas.{out_here, out_next, out_at, all_here, all_join}
-use Rattle.thompson_nfa.proofs.ProgressLemmas.{Progress, first_added, then_added, made, then_quits}
+use Rattle.thompson_nfa.proofs.ProgressLemmas.{first_added, then_added, made, then_quits}
 use Rattle.thompson_nfa.proofs.LeafLemmas.{tame_one}
 
 -- two tests that hold

@@ -1,20 +1,20 @@
 -- Fragments of copies and of rounds that may be passed by: the rounds so far.
-use Rattle.std.proofs.Common.{◌≡◌, ◌≢◌, ◌⊎◌, inl, inr, ℕ, zero, suc, ◌+◌, ◌-◌, ◌*◌, ◌<◌, ◌≤◌, min, max, Bool, true, false, List, [], ◌∷◌, ◌++◌, length, Option, Some, None, refl, sym, ap, ◌∙◌, subst, arith}
+use Rattle.std.proofs.Common.{◌≡◌, ℕ, zero, suc, ◌+◌, ◌-◌, ◌*◌, ◌<◌, ◌≤◌, max, Bool, length, Option, Some, None, refl, sym, ap, ◌∙◌, subst, arith}
 use Rattle.search_types.specs.Groups.{Groups}
 use Rattle.hir_core.specs.Tree.{Tree, empty, repetition}
 use Rattle.hir_core.specs.Facts.{count}
-use Rattle.nfa_core.specs.BuilderStates.{Assembly, part_at, is_sparse, empty_part}
+use Rattle.nfa_core.specs.BuilderStates.{Assembly, empty_part}
 use Rattle.nfa_core.specs.declared.build_error.BuildError.{BuildError}
-use Rattle.thompson_nfa.specs.Compiled.{Grows, Makes, Does, DoesFirst, DoesCopies, DoesOption, raised}
+use Rattle.thompson_nfa.specs.Compiled.{Makes, Does, DoesFirst, DoesCopies, DoesOption, raised}
 use Rattle.thompson_nfa.specs.Added.{Added, Led}
-use Rattle.thompson_nfa.specs.NotedGroups.{noted, HasGroup}
-use Rattle.thompson_nfa.specs.Refusals.{Refuses, Stays, Quits}
+use Rattle.thompson_nfa.specs.NotedGroups.{noted}
+use Rattle.thompson_nfa.specs.Refusals.{Refuses, Stays}
 use Rattle.thompson_nfa.specs.declared.which_captures.WhichCaptures.{WhichCaptures}
 use Rattle.thompson_nfa.proofs.RoundLemmas.{one_more, joins_copy, same_stopped}
 use Rattle.thompson_nfa.proofs.JoinLemmas.{join_made, join_first, join_second, join_does, does_first, does_all, does_same}
 use Rattle.thompson_nfa.proofs.NotedLemmas.{noted_twice}
-use Rattle.thompson_nfa.proofs.ProgressLemmas.{Progress, Includes, first_made, first_added, then_made, made_capped, then_quits, refuses, then_refuses, first_refuses}
-use Rattle.thompson_nfa.proofs.RepeatLemmas.{empty_then, empty_tame, reads_as}
+use Rattle.thompson_nfa.proofs.ProgressLemmas.{first_made, then_made, made_capped, then_quits, refuses, then_refuses}
+use Rattle.thompson_nfa.proofs.RepeatLemmas.{reads_as}
 use Rattle.thompson_nfa.proofs.OptionLemmas.{Options, options_owed, options_first, options_then, options_made, options_does}
 
 one_raised : (most : Option ℕ) → one_more most ≡ raised 1 most

@@ -1,5 +1,5 @@
 -- Errors that are handed on.
-use Rattle.std.proofs.Common.{◌≡◌, refl, sym, subst}
+use Rattle.std.proofs.Common.{◌≡◌, sym, subst}
 use Rattle.std.specs.Prelude.{Result, Ok, Err, IfErr, IsErrAnd}
 use Rattle.nfa_core.specs.declared.build_error.BuildError.{BuildError}
 

@@ -1,15 +1,15 @@
 -- Two fragments, one after the other.
-use Rattle.std.proofs.Common.{◌≡◌, ◌≢◌, ◌⊎◌, inl, inr, ℕ, zero, suc, ◌+◌, ◌*◌, ◌<◌, ◌≤◌, Bool, true, false, List, [], ◌∷◌, ◌++◌, length, get_or, refl, sym, ap, ◌∙◌, subst, arith}
-use Rattle.nfa_core.specs.BuilderStates.{Part, Assembly, part_at, patched, is_sparse}
+use Rattle.std.proofs.Common.{◌≡◌, ℕ, ◌+◌, Bool, length, sym, ap, ◌∙◌, subst, arith}
+use Rattle.nfa_core.specs.BuilderStates.{Assembly, patched, is_sparse}
 use Rattle.nfa_core.specs.Drafted.{Table}
 use Rattle.hir_core.specs.Tree.{Tree, empty}
 use Rattle.thompson_nfa.specs.Denotes.{Denotes}
-use Rattle.thompson_nfa.specs.Compiled.{Finished, AllComeOut, Makes, Grows, Does, DoesFirst}
+use Rattle.thompson_nfa.specs.Compiled.{Finished, AllComeOut, Makes, Does, DoesFirst}
 use Rattle.thompson_nfa.proofs.DenoteLemmas.{Joins, denotes_join, denotes_empty_here}
 use Rattle.thompson_nfa.proofs.SameLemmas.{IsSame, denotes_same}
-use Rattle.thompson_nfa.specs.Added.{Added, Led}
+use Rattle.thompson_nfa.specs.Added.{Led}
 use Rattle.thompson_nfa.proofs.OutLemmas.{all_join, all_on}
-use Rattle.thompson_nfa.proofs.ProgressLemmas.{Progress, first_made, then_made, then_led, made}
+use Rattle.thompson_nfa.proofs.ProgressLemmas.{first_made, then_made, then_led, made}
 
 module _ (a b c d : Assembly) (s1 e1 n1 s2 e2 n2 : ℕ) (first : Makes a b s1 e1 n1) (second : Makes b c s2 e2 n2) (led : Led c d e1 s2) where
   -- in the finished table both stand, the first led on to the second

@@ -1,20 +1,18 @@
 -- Fragments of one state or two.
-use Rattle.std.proofs.Common.{◌≡◌, ◌⊎◌, inl, inr, ℕ, zero, suc, ◌+◌, ◌*◌, ◌<◌, ◌≤◌, Bool, true, false, List, [], ◌∷◌, ◌++◌, length, get_or, map, Option, Some, None, refl, sym, ap, ◌∙◌, subst, arith, ⊎_elim, IsTrue}
+use Rattle.std.proofs.Common.{◌≡◌, ◌⊎◌, inl, inr, ℕ, zero, suc, ◌<◌, ◌≤◌, true, false, List, [], ◌∷◌, length, get_or, Some, None, refl, sym, ap, ◌∙◌, subst, arith, ⊎_elim}
 use Rattle.std.specs.Prelude.{All}
-use Rattle.search_types.specs.Groups.{Groups}
-use Rattle.nfa_core.specs.BuilderStates.{Part, Assembly, part_at, patched, part_bytes, is_sparse, empty_part, range_part, sparse_part, look_part, fail_part}
+use Rattle.nfa_core.specs.BuilderStates.{Part, Assembly, patched, part_bytes, is_sparse, empty_part, range_part, look_part, fail_part}
 use Rattle.nfa_core.specs.CanBuild.{names_of, is_known}
 use Rattle.nfa_core.specs.Renaming.{stands_for}
-use Rattle.nfa_core.specs.Drafted.{Table}
 use Rattle.look_core.specs.declared.look.Look.{Look}
-use Rattle.thompson_nfa.specs.Compiled.{Finished, AllComeOut, IsTame, Makes, Does, is_match_part, ComesOut}
-use Rattle.thompson_nfa.specs.Added.{Added, Led}
-use Rattle.hir_core.specs.Tree.{empty, literal, byte_class, look, nothing, never}
+use Rattle.thompson_nfa.specs.Compiled.{AllComeOut, IsTame, Makes, Does, is_match_part}
+use Rattle.thompson_nfa.specs.Added.{Added}
+use Rattle.hir_core.specs.Tree.{empty, literal, byte_class, look, never}
 use Rattle.thompson_nfa.proofs.MeantLemmas.{turned}
 use Rattle.thompson_nfa.proofs.DenoteLemmas.{denotes_empty, denotes_never, denotes_look, denotes_range}
 use Rattle.thompson_nfa.proofs.AheadLemmas.{denotes_byte}
-use Rattle.thompson_nfa.proofs.OutLemmas.{out_here, out_next, out_at, all_here, all_join}
-use Rattle.thompson_nfa.proofs.ProgressLemmas.{Progress, first_added, then_added, made}
+use Rattle.thompson_nfa.proofs.OutLemmas.{out_here, out_next, out_at, all_here}
+use Rattle.thompson_nfa.proofs.ProgressLemmas.{first_added, made}
 
 -- a state that names one state that is there, or none
 pub tame_one : (b : Assembly) (part : Part) (q : ℕ) → names_of part ≡ q ∷ [] → q < length b.parts → is_known b.groups part ≡ true → is_match_part part ≡ false → IsTame b part

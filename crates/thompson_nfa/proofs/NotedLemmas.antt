@@ -1,12 +1,12 @@
 -- Groups that are noted stay, and to note them again changes nothing.
-use Rattle.std.proofs.Common.{◌≡◌, ◌≢◌, ◌⊎◌, inl, inr, ℕ, zero, suc, ◌+◌, ◌-◌, ◌<◌, ◌≤◌, Bool, true, false, List, [], ◌∷◌, ◌++◌, length, get_or, set, replicate, Option, Some, None, is_some, nat_lt, if◌then◌else◌, refl, sym, ap, ◌∙◌, subst, arith, ⊎_elim, length-append, append-nil, lt-ltb}
-use Rattle.std.proofs.lemmas.Bool.{cases_lt, cases_eq, cases_Bool, ltb-true, ltb-false}
-use Rattle.std.proofs.lemmas.List.{length-set, get_or-set_same, get_or-set_other, set-get_or, get_or_past}
+use Rattle.std.proofs.Common.{◌≡◌, ◌⊎◌, inl, inr, ℕ, zero, suc, ◌-◌, ◌<◌, ◌≤◌, Bool, true, false, List, [], ◌∷◌, ◌++◌, length, get_or, set, replicate, Option, Some, None, is_some, nat_lt, if◌then◌else◌, refl, sym, ap, ◌∙◌, subst, arith, ⊎_elim, length-append, append-nil, lt-ltb}
+use Rattle.std.proofs.lemmas.Bool.{cases_lt, cases_eq, cases_Bool, ltb-true}
+use Rattle.std.proofs.lemmas.List.{get_or-set_same, get_or-set_other, set-get_or, get_or_past}
 use Rattle.search_types.specs.Groups.{Name, Groups, groups_of, slot}
-use Rattle.hir_core.specs.Tree.{Tree, empty, literal, byte_class, char_class, look, repetition, capture, nothing, cat, never, alt, concat}
+use Rattle.hir_core.specs.Tree.{Tree, empty, literal, byte_class, char_class, look, repetition, capture, nothing, cat, never, alt}
 use Rattle.nfa_core.specs.BuilderStates.{Part, empty_part, range_part, sparse_part, look_part, union_part, union_reverse_part, fail_part, match_part, capture_start_part, capture_end_part, filled, with_name, up_to_pattern, with_group}
 use Rattle.nfa_core.specs.CanBuild.{is_known}
-use Rattle.thompson_nfa.specs.NotedGroups.{keeps_group, noted, HasGroup}
+use Rattle.thompson_nfa.specs.NotedGroups.{keeps_group, noted}
 use Rattle.thompson_nfa.specs.declared.which_captures.WhichCaptures.{WhichCaptures}
 use Rattle.thompson_nfa.specs.declared.which_captures.WhichCaptures.TheVariants as which
 

@@ -1,13 +1,13 @@
 -- Fragments of repetitions with both bounds: the rounds so far, whose exit waits.
-use Rattle.std.proofs.Common.{◌≡◌, ◌≢◌, ◌⊎◌, inl, inr, ℕ, zero, suc, ◌+◌, ◌*◌, ◌<◌, ◌≤◌, Bool, true, false, List, [], ◌∷◌, ◌++◌, length, Option, Some, None, refl, sym, ap, ◌∙◌, subst, arith, ⊎_elim}
+use Rattle.std.proofs.Common.{◌≡◌, ◌≢◌, ℕ, suc, ◌+◌, ◌<◌, ◌≤◌, Bool, false, length, Some, sym, ap, ◌∙◌, subst, arith, ⊎_elim}
 use Rattle.std.proofs.lemmas.Bool.{cases_lt, cases_eq}
 use Rattle.hir_core.specs.Tree.{Tree, repetition}
-use Rattle.nfa_core.specs.BuilderStates.{Part, Assembly, part_at, patched, is_sparse, empty_part}
+use Rattle.nfa_core.specs.BuilderStates.{Assembly, part_at, patched, is_sparse, empty_part}
 use Rattle.nfa_core.specs.Renaming.{stands_for}
 use Rattle.nfa_core.specs.Drafted.{Table}
 use Rattle.thompson_nfa.specs.Choice.{no_choice}
 use Rattle.thompson_nfa.specs.Denotes.{Denotes, choice}
-use Rattle.thompson_nfa.specs.Compiled.{Finished, AllComeOut, ComesOut, Makes, Does, DoesFirst, DoesCopies, DoesOption, raised}
+use Rattle.thompson_nfa.specs.Compiled.{Finished, AllComeOut, ComesOut, Makes, Does, DoesCopies, DoesOption}
 use Rattle.thompson_nfa.specs.Added.{Added, Led}
 use Rattle.thompson_nfa.proofs.OutLemmas.{out_here, out_next, out_at, out_on, all_here, all_join}
 use Rattle.thompson_nfa.proofs.ProgressLemmas.{Progress, first_added, first_made, then_made, then_led, made}

@@ -1,7 +1,6 @@
 -- How one comes out of states that stand for others.
-use Rattle.std.proofs.Common.{◌≡◌, ◌⊎◌, inl, inr, ℕ, zero, suc, ◌+◌, ◌<◌, ◌≤◌, Bool, true, false, List, [], ◌∷◌, Option, Some, None, refl, sym, ap, ◌∙◌, subst, arith, ⊎_elim}
+use Rattle.std.proofs.Common.{◌≡◌, ◌⊎◌, inl, inr, ℕ, zero, suc, ◌+◌, ◌<◌, ◌≤◌, Option, Some, None, refl, sym, ap, subst, arith, ⊎_elim}
 use Rattle.std.proofs.lemmas.Bool.{cases_lt}
-use Rattle.nfa_core.specs.BuilderStates.{Part, empty_part}
 use Rattle.nfa_core.specs.Renaming.{stands_for, going_on}
 use Rattle.nfa_core.specs.Drafted.{Table}
 use Rattle.thompson_nfa.specs.Compiled.{ComesOut, AllComeOut, past_in}

@@ -1,7 +1,7 @@
 -- Fragments of concatenations and of copies: the parts so far.
-use Rattle.std.proofs.Common.{◌≡◌, ◌≢◌, ◌⊎◌, inl, inr, ℕ, zero, suc, ◌+◌, ◌-◌, ◌*◌, ◌<◌, ◌≤◌, min, Bool, true, false, List, [], ◌∷◌, ◌++◌, length, take, drop, get_or, Option, Some, None, refl, sym, ap, ◌∙◌, subst, arith, ⊎_elim}
+use Rattle.std.proofs.Common.{◌≡◌, inl, inr, ℕ, zero, suc, ◌+◌, ◌-◌, ◌<◌, ◌≤◌, min, Bool, true, false, List, [], ◌∷◌, ◌++◌, length, take, drop, get_or, refl, sym, ap, ◌∙◌, subst, arith}
 use Rattle.search_types.specs.Groups.{Groups}
-use Rattle.hir_core.specs.Tree.{Tree, empty, repetition, nothing, cat, concat, alternation}
+use Rattle.hir_core.specs.Tree.{Tree, concat, alternation}
 use Rattle.hir_core.specs.Facts.{count}
 use Rattle.hir_core.specs.Weight.{weight}
 use Rattle.nfa_core.specs.BuilderStates.{Assembly}
@@ -9,15 +9,15 @@ use Rattle.nfa_core.specs.declared.build_error.BuildError.{BuildError}
 use Rattle.thompson_nfa.specs.Compiled.{Makes, Does, DoesFirst, IsReady}
 use Rattle.thompson_nfa.specs.Added.{Led}
 use Rattle.thompson_nfa.specs.NotedGroups.{noted, HasGroup}
-use Rattle.thompson_nfa.specs.Refusals.{Refuses, RefusesTree, Stays}
+use Rattle.thompson_nfa.specs.Refusals.{Refuses, Stays}
 use Rattle.thompson_nfa.specs.Turned.{turned_place, left_after}
 use Rattle.thompson_nfa.specs.declared.which_captures.WhichCaptures.{WhichCaptures}
 use Rattle.thompson_nfa.specs.declared.which_captures.WhichCaptures.TheVariants as which
-use Rattle.thompson_nfa.proofs.SameLemmas.{IsSame, same_concat_one}
+use Rattle.thompson_nfa.proofs.SameLemmas.{same_concat_one}
 use Rattle.thompson_nfa.proofs.TurnLemmas.{first_left, last_left, left_all, left_none, concat_joins, concat_begun, concat_ended}
 use Rattle.thompson_nfa.proofs.JoinLemmas.{join_made, join_does, does_first, does_all, does_same}
 use Rattle.thompson_nfa.proofs.NotedLemmas.{noted_none}
-use Rattle.thompson_nfa.proofs.ProgressLemmas.{Progress, Includes, first_made, then_made, made_capped, then_quits, refuses, then_refuses, first_refuses}
+use Rattle.thompson_nfa.proofs.ProgressLemmas.{Includes, first_made, then_made, made_capped, then_quits, refuses, then_refuses, first_refuses}
 
 turned_below : (back : Bool) (i len : ℕ) → i < len → turned_place back i len < len
 turned_below false i len l = l

@@ -1,13 +1,13 @@
 -- A compile so far: how many states and bytes it added, and what its refusal says of the whole.
-use Rattle.std.proofs.Common.{◌≡◌, ◌≢◌, ℕ, zero, suc, ◌+◌, ◌*◌, ◌<◌, ◌≤◌, min, Bool, true, false, List, [], ◌∷◌, ◌++◌, length, get_or, Some, refl, sym, ap, ◌∙◌, subst, arith}
+use Rattle.std.proofs.Common.{◌≡◌, ℕ, ◌+◌, ◌*◌, ◌<◌, ◌≤◌, min, false, length, refl, sym, ap, ◌∙◌, subst, arith}
 use Rattle.search_core.specs.Index.{greatest_index}
 use Rattle.search_types.specs.Groups.{Groups}
 use Rattle.hir_core.specs.Tree.{Tree}
-use Rattle.nfa_core.specs.BuilderStates.{Part, Assembly, part_at, patched, part_bytes, is_sparse}
+use Rattle.nfa_core.specs.BuilderStates.{Part, Assembly, part_at, part_bytes, is_sparse}
 use Rattle.nfa_core.specs.Drafted.{Table}
 use Rattle.nfa_core.specs.declared.build_error.BuildError.{BuildError}
 use Rattle.nfa_core.specs.declared.build_error.BuildError.TheVariants as error
-use Rattle.thompson_nfa.specs.Compiled.{Grows, Finished, AllComeOut, IsTame, AllTame, IsFragment, IsWithin, Makes, sum_of_bytes}
+use Rattle.thompson_nfa.specs.Compiled.{Grows, Finished, AllComeOut, IsTame, Makes, sum_of_bytes}
 use Rattle.thompson_nfa.specs.Added.{Added, Led}
 use Rattle.thompson_nfa.specs.NotedGroups.{HasGroup}
 use Rattle.thompson_nfa.specs.Refusals.{RefusesStep, RefusesStates, RefusesTree, Stays, Refuses, Quits}

@@ -1,21 +1,17 @@
 -- Branches of a choice so far: that they are a fragment once no branch is to come, and what one more adds.
-use Rattle.std.proofs.Common.{◌≡◌, ◌≢◌, ◌⊎◌, inl, inr, ℕ, zero, suc, ◌+◌, ◌*◌, ◌<◌, ◌≤◌, min, Bool, true, false, List, [], ◌∷◌, ◌++◌, length, Some, None, refl, sym, ap, ◌∙◌, subst, arith, ⊎_elim, append_assoc, append-nil}
+use Rattle.std.proofs.Common.{◌≡◌, ◌≢◌, inr, ℕ, ◌+◌, ◌<◌, ◌≤◌, true, List, [], ◌∷◌, ◌++◌, length, refl, sym, ap, ◌∙◌, subst, arith, ⊎_elim}
 use Rattle.std.proofs.lemmas.Bool.{cases_lt, cases_eq}
-use Rattle.search_types.specs.Groups.{Groups}
 use Rattle.hir_core.specs.Tree.{Tree, alternation}
-use Rattle.nfa_core.specs.BuilderStates.{Part, Assembly, part_at, patched, part_bytes, is_sparse, empty_part, union_part, range_part, sparse_part, look_part, capture_start_part, capture_end_part, union_reverse_part, fail_part, match_part}
+use Rattle.nfa_core.specs.BuilderStates.{Assembly, part_at, patched, is_sparse, empty_part, union_part}
 use Rattle.nfa_core.specs.Drafted.{Table}
 use Rattle.nfa_core.specs.Renaming.{stands_for}
-use Rattle.nfa_core.specs.declared.build_error.BuildError.{BuildError}
 use Rattle.thompson_nfa.specs.Added.{Added, Led}
-use Rattle.thompson_nfa.specs.Branches.{LeadsBranch, AddsBranch, AddsAll, adds_none, adds_more, OpensTwo, FailsToLead}
 use Rattle.thompson_nfa.specs.Choice.{no_choice}
-use Rattle.thompson_nfa.specs.Compiled.{Grows, Finished, IsFragment, IsTame, Makes, Does, ComesOut, AllComeOut, sum_of_bytes}
-use Rattle.thompson_nfa.proofs.DoesCases.{Agrees, DoBranches, no_branches, next_branch, first_branches, does_alternation}
-use Rattle.thompson_nfa.proofs.GrowLemmas.{Partly, partly_joined, partly_led}
+use Rattle.thompson_nfa.specs.Compiled.{Finished, Makes, Does, ComesOut}
+use Rattle.thompson_nfa.proofs.DoesCases.{Agrees, DoBranches, no_branches, next_branch, does_alternation}
 use Rattle.thompson_nfa.proofs.LeafLemmas.{tame_one, tame_none}
 use Rattle.thompson_nfa.proofs.OutLemmas.{out_here, out_next, out_on}
-use Rattle.thompson_nfa.proofs.ProgressLemmas.{Progress, first_added, first_made, then_added, then_made, then_led, made}
+use Rattle.thompson_nfa.proofs.ProgressLemmas.{Progress, first_added, then_added, then_made, then_led, made}
 
 -- Whatever the choice u and the common end m become: from each other state one comes out where one does from the end.
 abbrev pub Others : Assembly → Assembly → ℕ → ℕ → Type 0
@@ -54,14 +50,14 @@ module _ (b0 b1 b2 b3 b4 : Assembly) (u m n s e k : ℕ) (xs : List Tree) (x : T
       let f = next.fragment in let g = f.grows.longer in let en = f.end_new in let et = f.end_there in let n3 = l3.size in let n4 = l4.size in
       let g0 = so_far.progress.partly.grows.longer in let ut = so_far.choice_there in let mt = so_far.end_there in let un = so_far.choice_new in let mn = so_far.end_new in
       let old : Agrees b0 b1 u m T = λ p l h not_u not_m.
-        agrees p l (omega arith) not_u not_m ∙ l4.same p (λ (same : p ≡ e). omega arith) ∙ l3.same p not_u ∙ f.grows.same p h in
+      agrees p l (omega arith) not_u not_m ∙ l4.same p (λ (same : p ≡ e). omega arith) ∙ l3.same p not_u ∙ f.grows.same p h in
       let fin : Finished (length b1.parts) b2.parts e m T = record {
         states = λ p l h not_e. agrees p (omega arith) (omega arith) (λ (same : p ≡ u). omega arith) (λ (same : p ≡ m). omega arith) ∙ l4.same p not_e ∙ l3.same p (λ (same : p ≡ u). omega arith);
         led = agrees e (omega arith) (omega arith) (λ (same : e ≡ u). omega arith) (λ (same : e ≡ m). omega arith) ∙ l4.here ∙ ap (patched m) (l3.same e (λ (same : e ≡ u). omega arith));
       } in
       ⊎_elim (λ (h : q < length b1.parts). so_far.others T target old out q low h not_u)
-        (λ (h : length b1.parts ≤ q). let o = next.comes_out T m fin q h (omega arith) in out_on T target m o.0 q o.1 out)
-        (cases_lt q (length b1.parts))
+      (λ (h : length b1.parts ≤ q). let o = next.comes_out T m fin q h (omega arith) in out_on T target m o.0 q o.1 out)
+      (cases_lt q (length b1.parts))
 
   pub branched_next : Does b1 b2 s e x → Branched b0 b4 u m (n + k) (xs ++ x ∷ [])
   branched_next d =
@@ -82,7 +78,7 @@ module _ (b0 b1 b2 b3 b4 : Assembly) (u m n s e k : ℕ) (xs : List Tree) (x : T
         branches = next_branch un ut mn mt so_far.progress.partly.grows so_far.branches f d l3 l4;
         others = others_next;
         one_way = λ to same. one_more_way so_far.ways s to (length b0.parts) (length b4.parts) u
-          (λ q is. let o = so_far.one_way q is in let a = o.0 in let b = o.1 in (a, omega arith, o.2)) (omega arith) (omega arith) (λ (at_u : s ≡ u). omega arith) same;
+            (λ q is. let o = so_far.one_way q is in let a = o.0 in let b = o.1 in (a, omega arith, o.2)) (omega arith) (omega arith) (λ (at_u : s ≡ u). omega arith) same;
       }
 
 -- ---- none as yet
@@ -102,9 +98,9 @@ branched_begun {b0} {b1} {b2} {u} {m} a1 a2 =
       is_end = a2.here;
       branches = no_branches;
       others = λ T target agrees out q low high not_u.
-        let same : m ≡ q = omega arith in
-        let P : ℕ → Type 0 = λ k. ComesOut T target k in
-        subst P same out;
+          let same : m ≡ q = omega arith in
+          let P : ℕ → Type 0 = λ k. ComesOut T target k in
+          subst P same out;
       one_way = λ s same. cc;
     }
 
@@ -123,15 +119,15 @@ module _ (b0 bk : Assembly) (u m n : ℕ) (xs : List Tree) (all : Branched b0 bk
       let un = all.choice_new in let ut = all.choice_there in let mn = all.end_new in let mt = all.end_there in
       made n all.progress (omega arith) (omega arith) un ut mn mt (ap is_sparse all.is_end)
       (λ T target fin q low high.
-        let agrees : Agrees b0 bk u m T = λ p l h not_u not_m. fin.states p l h not_m in
-        let is_end : T m ≡ empty_part target = fin.led ∙ ap (patched target) all.is_end in
-        let out : ComesOut T target m = out_next T target m target (ap stands_for is_end) (0, inr refl) in
-        ⊎_elim
-          (λ (e : q ≡ u).
-            let P : ℕ → Type 0 = λ k. ComesOut T target k in
-            subst P (sym e) (choice_out T target agrees out all.ways (fin.states u un ut all.apart ∙ all.is_choice) all.one_way))
-          (λ (ne : q ≡ u → ⊥). all.others T target agrees out q low high ne)
-          (cases_eq q u))
+      let agrees : Agrees b0 bk u m T = λ p l h not_u not_m. fin.states p l h not_m in
+      let is_end : T m ≡ empty_part target = fin.led ∙ ap (patched target) all.is_end in
+      let out : ComesOut T target m = out_next T target m target (ap stands_for is_end) (0, inr refl) in
+      ⊎_elim
+      (λ (e : q ≡ u).
+      let P : ℕ → Type 0 = λ k. ComesOut T target k in
+      subst P (sym e) (choice_out T target agrees out all.ways (fin.states u un ut all.apart ∙ all.is_choice) all.one_way))
+      (λ (ne : q ≡ u → ⊥). all.others T target agrees out q low high ne)
+      (cases_eq q u))
 
   pub branched_does : Does b0 bk u m (alternation xs)
   branched_does = does_alternation all.choice_new all.choice_there all.apart all.is_choice all.is_end all.branches

@@ -1,27 +1,25 @@
 -- Classes of scalars: the ranges of a sequence joined, the branches of a range's sequences, and those of all ranges.
-use Rattle.std.proofs.Common.{◌≡◌, ◌≢◌, ◌⊎◌, inl, inr, ℕ, zero, suc, ◌+◌, ◌*◌, ◌<◌, ◌≤◌, min, Bool, true, false, List, [], ◌∷◌, ◌++◌, length, take, map, get_or, Option, Some, None, refl, sym, ap, ◌∙◌, subst, arith, ⊎_elim, append_assoc, append-nil, length-append}
+use Rattle.std.proofs.Common.{◌≡◌, ℕ, ◌+◌, ◌*◌, ◌<◌, ◌≤◌, min, Bool, true, false, List, [], ◌∷◌, ◌++◌, length, take, map, get_or, Some, refl, sym, ap, ◌∙◌, subst, arith, append_assoc, append-nil, length-append}
 use Rattle.std.specs.Prelude.{All}
-use Rattle.std.specs.List.{slice_get, flat_map}
-use Rattle.std.proofs.lemmas.Bool.{cases_eq}
+use Rattle.std.specs.List.{slice_get}
 use Rattle.std.proofs.lemmas.Grind.{flat_map-append}
 use Rattle.std.proofs.lemmas.List.{take_more, take_all, get_or-map, length-map, map-append}
 use Rattle.std.proofs.lemmas.Option.{slice_get-get_or}
 use Rattle.hir_core.specs.BySequences.{range_tree, sequence_tree, sequences_of, by_sequences}
 use Rattle.hir_core.specs.Facts.{count, sequence_count, is_ascending}
-use Rattle.hir_core.specs.Sequences.{bytes_of, ranges_of, utf8_sequences}
-use Rattle.hir_core.specs.Tree.{Tree, empty, concat, alternation, char_class}
+use Rattle.hir_core.specs.Sequences.{bytes_of, utf8_sequences}
+use Rattle.hir_core.specs.Tree.{Tree, concat, char_class}
 use Rattle.hir_core.specs.declared.utf8_sequences.Utf8Range.{Utf8Range}
 use Rattle.hir_core.proofs.SequenceLemmas.{sequence_short}
 use Rattle.nfa_core.specs.BuilderStates.{Part, Assembly, part_at, patched, is_sparse, empty_part, range_part, sparse_part, look_part, capture_start_part, capture_end_part, union_part, union_reverse_part, fail_part, match_part}
 use Rattle.nfa_core.specs.declared.build_error.BuildError.{BuildError}
 use Rattle.thompson_nfa.specs.Added.{Added, Led}
-use Rattle.thompson_nfa.specs.Branches.{LeadsBranch, AddsBranch, AddsAll, adds_none, adds_more}
+use Rattle.thompson_nfa.specs.Branches.{AddsBranch, AddsAll, adds_none, adds_more}
 use Rattle.thompson_nfa.specs.Choice.{no_choice}
-use Rattle.thompson_nfa.specs.Compiled.{Grows, Makes, Does, DoesFirst, sum_of_bytes}
-use Rattle.thompson_nfa.specs.Refusals.{RefusesStates, Quits, Stays}
+use Rattle.thompson_nfa.specs.Compiled.{Makes, Does, DoesFirst, sum_of_bytes}
+use Rattle.thompson_nfa.specs.Refusals.{Quits}
 use Rattle.thompson_nfa.specs.Turned.{turned_place, left_after}
 use Rattle.thompson_nfa.proofs.ScalarBranches.{Branched, branched_begun, branched_next, branched_made, branched_does}
-use Rattle.thompson_nfa.proofs.DenoteLemmas.{Joins}
 use Rattle.thompson_nfa.proofs.DoesCases.{does_scalars}
 use Rattle.thompson_nfa.proofs.JoinLemmas.{join_made, join_does, does_first, does_all, does_same}
 use Rattle.thompson_nfa.proofs.ProgressLemmas.{Progress, step_later, made_capped}
@@ -62,7 +60,7 @@ first_joined a b s e k d rs some is l m does groups =
       groups = groups;
       within = some;
       does = does_first a b s e (concat (x ∷ [])) (concat (left_after a.reverse 1 (map range_tree rs))) (concat (map range_tree rs))
-        (concat_begun a.reverse (map range_tree rs) x (omega (arith, long)) (tree_at rs a.reverse 0 k d is l)) (does_same a b s e x (concat (x ∷ [])) (same_concat_one x) does);
+          (concat_begun a.reverse (map range_tree rs) x (omega (arith, long)) (tree_at rs a.reverse 0 k d is l)) (does_same a b s e x (concat (x ∷ [])) (same_concat_one x) does);
     }
 
 pub next_joined : (a b c b4 : Assembly) (s1 e1 s2 e2 i k : ℕ) (d : ℕ × ℕ) (rs : List (ℕ × ℕ)) → JoinedTo a b s1 e1 i rs → i < length rs → k ≡ turned_place a.reverse i (length rs) → k < length rs →
@@ -76,7 +74,7 @@ next_joined a b c b4 s1 e1 s2 e2 i k d rs so_far less is l m does groups led =
       groups = ap (λ (z : Assembly). z.groups) led.settings ∙ groups ∙ so_far.groups;
       within = omega arith;
       does = join_does a b c b4 s1 e1 i s2 e2 1 so_far.made m led (concat (x ∷ [])) (concat (left_after a.reverse (i + 1) parts)) (concat (left_after a.reverse i parts)) (concat parts)
-        (concat_joins a.reverse parts i x (omega (arith, long)) (tree_at rs a.reverse i k d is l)) so_far.does (does_same b c s2 e2 x (concat (x ∷ [])) (same_concat_one x) does);
+          (concat_joins a.reverse parts i x (omega (arith, long)) (tree_at rs a.reverse i k d is l)) so_far.does (does_same b c s2 e2 x (concat (x ∷ [])) (same_concat_one x) does);
     }
 
 pub all_joined : (a b : Assembly) (s e i : ℕ) (rs : List (ℕ × ℕ)) → JoinedTo a b s e i rs → length rs ≤ i → Does a b s e (sequence_tree rs)
@@ -95,10 +93,10 @@ pub record Spent (old mid : Assembly) (n : ℕ) : Type 0 where
 
 pub quits_later : {old mid new : Assembly} {k n : ℕ} {e : BuildError} (m : ℕ) → Spent old mid k → Quits mid new n e → k + n ≤ m → Quits old new m e
 quits_later {old} {mid} {new} {k} {n} {e} m p r le = record {
-    settings = r.settings ∙ ap (λ (b : Assembly). record b { parts = new.parts; groups = new.groups }) p.settings;
-    cause = let a = p.states in let b = p.bytes in let l = p.longer in
+  settings = r.settings ∙ ap (λ (b : Assembly). record b { parts = new.parts; groups = new.groups }) p.settings;
+  cause = let a = p.states in let b = p.bytes in let l = p.longer in
       step_later old mid n (4096 * n) m m e (ap (λ (b : Assembly). b.size_limit) p.settings) (omega arith) (omega arith) (omega arith) r.cause;
-  }
+}
 
 pub quits_capped : {old new : Assembly} {n : ℕ} {e : BuildError} (m : ℕ) → Quits old new n e → min n 18446744073709551615 ≤ m → Quits old new m e
 quits_capped {old} {new} {n} {e} m r cap = record { settings = r.settings; cause = step_later old old n (4096 * n) n m e refl (omega arith) (omega arith) cap r.cause }
@@ -115,7 +113,7 @@ spent_more {a} {b} {c} {u} {m} {i} {n} {x} p one =
     let a1 = p.states in let a2 = p.bytes in let a3 = p.longer in let b1 = w.states in let b2 = w.bytes in let b3 = g.longer in
     let c1 = l1.size in let c2 = l1.bytes in let d1 = l2.size in let d2 = l2.bytes in
     let led : c ≡ record one.middle { parts = c.parts; groups = c.groups } =
-      l2.settings ∙ ap (λ (z : Assembly). record z { parts = c.parts }) l1.settings ∙ ap (λ gs. record one.middle { parts = c.parts; groups = gs }) (sym (ap (λ (z : Assembly). z.groups) l1.settings) ∙ sym (ap (λ (z : Assembly). z.groups) l2.settings)) in
+    l2.settings ∙ ap (λ (z : Assembly). record z { parts = c.parts }) l1.settings ∙ ap (λ gs. record one.middle { parts = c.parts; groups = gs }) (sym (ap (λ (z : Assembly). z.groups) l1.settings) ∙ sym (ap (λ (z : Assembly). z.groups) l2.settings)) in
     record {
       settings = led ∙ ap (λ (z : Assembly). record z { parts = c.parts; groups = c.groups }) (g.settings ∙ ap (λ (z : Assembly). record z { parts = one.middle.parts; groups = one.middle.groups }) p.settings);
       longer = omega arith;
@@ -161,7 +159,7 @@ branched_all b0 u m n k xs b1 _ _ so_far (adds_none _) =
     subst P (sym (append-nil xs)) (subst Q none so_far)
 branched_all b0 u m n k xs b1 _ _ so_far (adds_more _ b c ys y before one) =
     let more = branched_next b0 b one.middle one.leads.middle c u m (n + k * length ys) one.first one.last k (xs ++ ys) y (branched_all b0 u m n k xs b1 b ys so_far before)
-      one.made one.leads.one one.leads.two one.does in
+    one.made one.leads.one one.leads.two one.does in
     let P : List Tree → Type 0 = λ zs. Branched b0 c u m (n + k * length ys + k) zs in
     let Q : ℕ → Type 0 = λ j. Branched b0 c u m j (xs ++ (ys ++ y ∷ [])) in
     let sum : n + k * length ys + k ≡ n + k * length (ys ++ y ∷ []) = omega (arith, one_longer k ys y) in

@@ -1,6 +1,5 @@
 -- What the single steps of a compile do to a builder, and why they are refused.
-use Rattle.std.proofs.Common.{◌≡◌, ◌≢◌, ℕ, zero, suc, ◌+◌, ◌*◌, ◌<◌, ◌≤◌, min, Bool, true, false, List, [], ◌∷◌, ◌++◌, length, set, get_or, Option, Some, None, nat_lt, if◌then◌else◌, refl, sym, ap, ◌∙◌, subst, arith, length-append}
-use Rattle.std.specs.Prelude.{Result, Ok, Err, MatchResult}
+use Rattle.std.proofs.Common.{◌≡◌, ℕ, zero, suc, ◌+◌, ◌*◌, ◌<◌, ◌≤◌, min, Bool, true, false, List, [], ◌∷◌, ◌++◌, length, Option, Some, None, nat_lt, if◌then◌else◌, refl, sym, ap, ◌∙◌, subst, arith, length-append}
 use Rattle.std.specs.List.{sum_by}
 use Rattle.std.specs.Option.{option_or}
 use Rattle.std.proofs.lemmas.Bool.{ltb-false, ltb-true}
@@ -9,11 +8,11 @@ use Rattle.std.proofs.lemmas.List.Sums.{sum_by_push, sum_by-set}
 use Rattle.search_core.specs.Index.{greatest_index}
 use Rattle.search_types.specs.Groups.{Groups}
 use Rattle.nfa_core.specs.CanBuild.{is_known}
-use Rattle.nfa_core.specs.BuilderStates.{Part, Assembly, part_at, patched, patched_at, part_bytes, way_bytes, bytes_of, with_part, fail_part, union_part, union_reverse_part, empty_part, range_part, sparse_part, look_part, capture_start_part, capture_end_part, match_part}
-use Rattle.nfa_core.specs.BuilderFaults.{Tells, add_fault, patch_fault, limit_fault, name_fault, BuildFault, exceeded_size_limit, too_many_states, unsupported_captures, too_many_patterns, captures_refused}
+use Rattle.nfa_core.specs.BuilderStates.{Part, Assembly, part_at, patched, patched_at, part_bytes, bytes_of, with_part, fail_part, union_part, union_reverse_part, empty_part, range_part, sparse_part, look_part, capture_start_part, capture_end_part, match_part}
+use Rattle.nfa_core.specs.BuilderFaults.{Tells, add_fault, patch_fault, limit_fault, BuildFault, exceeded_size_limit, too_many_states, unsupported_captures, too_many_patterns, captures_refused}
 use Rattle.nfa_core.specs.declared.build_error.BuildError.{BuildError}
 use Rattle.nfa_core.specs.declared.build_error.BuildError.TheVariants as error
-use Rattle.thompson_nfa.specs.Compiled.{Grows, sum_of_bytes}
+use Rattle.thompson_nfa.specs.Compiled.{sum_of_bytes}
 use Rattle.thompson_nfa.specs.Added.{Added, Led}
 use Rattle.thompson_nfa.specs.Refusals.{RefusesStep, Stays}
 

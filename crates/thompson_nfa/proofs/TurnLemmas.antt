@@ -1,11 +1,11 @@
 -- Parts that are met from the first on, or from the last where the automaton reads downwards.
-use Rattle.std.proofs.Common.{◌≡◌, ℕ, zero, suc, ◌+◌, ◌-◌, ◌<◌, ◌≤◌, Bool, true, false, List, [], ◌∷◌, ◌++◌, length, take, drop, get_or, refl, sym, ap, ◌∙◌, subst, arith, drop-cons, add-one, drop_of_length-le}
+use Rattle.std.proofs.Common.{◌≡◌, ℕ, suc, ◌+◌, ◌-◌, ◌<◌, ◌≤◌, Bool, true, false, List, [], ◌∷◌, ◌++◌, length, take, drop, get_or, refl, sym, ap, ◌∙◌, subst, arith, drop-cons, add-one, drop_of_length-le}
 use Rattle.std.proofs.lemmas.List.{take_more}
 use Rattle.std.proofs.Math.Seq.{take-length}
-use Rattle.hir_core.specs.Tree.{Tree, empty, literal, nothing, cat, concat}
+use Rattle.hir_core.specs.Tree.{Tree, empty, literal, cat, concat}
 use Rattle.thompson_nfa.specs.Turned.{turned_place, left_after}
 use Rattle.thompson_nfa.proofs.DenoteLemmas.{Joins}
-use Rattle.thompson_nfa.proofs.SameLemmas.{IsSame, joins_same, joins_cat_up, same_concat_none, same_concat_append, same_literal_none, same_literal_append}
+use Rattle.thompson_nfa.proofs.SameLemmas.{IsSame, joins_same, joins_cat_up, same_concat_none, same_concat_append, same_literal_none}
 use Rattle.thompson_nfa.proofs.AheadLemmas.{joins_last_part, joins_first_byte, joins_last_byte}
 
 -- the part at i stands before the others from there on

@@ -1,5 +1,5 @@
 -- States that are to have two ways, of which one is preferred.
-use Rattle.std.specs.Prelude.{ℕ, Bool, true, false, [], ◌∷◌}
+use Rattle.std.specs.Prelude.{Bool, true, false, []}
 use Rattle.nfa_core.specs.BuilderStates.{Part, union_part, union_reverse_part}
 
 -- a choice with no way as yet

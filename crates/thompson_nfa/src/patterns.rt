@@ -13,10 +13,10 @@ ghost use Rattle.thompson_nfa.specs.Patterns.{HasAll, HasStart, LeadsToFurther, 
 ghost use Rattle.thompson_nfa.specs.Refusals.{Stays};
 ghost use Rattle.thompson_nfa.specs.RefusedTrees.{Breaks};
 
+use crate::compile::captured;
 use crate::config::Config;
 use crate::parts::{add_choice, add_empty, add_fail, lead};
 use crate::prefix::{add_prefix, all_anchored};
-use crate::compile::captured;
 use crate::which_captures::WhichCaptures;
 use hir_core::Hir;
 use nfa_core::{BuildError, Builder};

@@ -19,7 +19,11 @@ use search_core::StateID;
 use std::alloc::Global;
 
 /// The state of the range at the place.
-fn range_at(builder: &mut Builder, ranges: &[Utf8Range], place: usize) -> Result<Fragment, BuildError>
+fn range_at(
+    builder: &mut Builder,
+    ranges: &[Utf8Range],
+    place: usize,
+) -> Result<Fragment, BuildError>
     requires within { place < length ranges.now }
     requires rising { All (λ r. r.0 ≤ r.1) (map bytes_of ranges.now) }
     ensures made { IfOk result (λ f. Makes builder.old builder.new f.start f.end 1) }
@@ -98,7 +102,11 @@ fn add_sequences(
 }
 
 /// A choice of the sequences of all ranges, which all lead to one common end.
-pub(crate) fn compile_scalars(builder: &mut Builder, alloc: Global, ranges: &[(char, char)]) -> Result<Fragment, BuildError>
+pub(crate) fn compile_scalars(
+    builder: &mut Builder,
+    alloc: Global,
+    ranges: &[(char, char)],
+) -> Result<Fragment, BuildError>
     requires { is_ascending ranges.now ≡ true }
     ensures made { IfOk result (λ f. Makes builder.old builder.new f.start f.end (count (char_class ranges.now))) }
     ensures does { IfOk result (λ f. Does builder.old builder.new f.start f.end (char_class ranges.now)) }

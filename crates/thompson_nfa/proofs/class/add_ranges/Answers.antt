@@ -1,4 +1,4 @@
-use Rattle.std.proofs.Common.{ap, ◌≡◌}
+use Rattle.std.proofs.Common.{ap}
 use Rattle.nfa_core.specs.BuilderStates.{sparse_part}
 use Rattle.thompson_nfa.proofs.ClassLemmas.{ascends, few_ranges, bytes_shown}
 use Rattle.thompson_nfa.proofs.StepLemmas.{added_of, add_refused}

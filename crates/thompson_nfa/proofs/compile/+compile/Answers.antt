@@ -1,20 +1,18 @@
-use Rattle.std.proofs.Common.{◌≡◌, ◌∙◌, ℕ, ◌+◌, ◌<◌, ◌≤◌, ap, sym, refl, length, get_or, None, Some, arith}
-use Rattle.hir_core.specs.Facts.{count}
+use Rattle.std.proofs.Common.{◌∙◌, ap, refl, length, get_or, arith}
 use Rattle.hir_core.specs.Weight.{weight}
 use Rattle.nfa_core.specs.BuilderStates.{Assembly}
 use Rattle.thompson_nfa.specs.Turned.{turned_place}
 use Rattle.thompson_nfa.proofs.ErrorLemmas.{handed}
 use Rattle.thompson_nfa.proofs.GrowLemmas.{ready_later}
 use Rattle.thompson_nfa.proofs.ProgressLemmas.{made_capped}
-use Rattle.thompson_nfa.proofs.JoinLemmas.{join_made}
 use Rattle.thompson_nfa.proofs.RepeatLemmas.{star_made, star_does, plus_made, plus_does, loop_made, loop_does, once_made, once_does}
 use Rattle.thompson_nfa.proofs.OptionLemmas.{option_made, option_does}
-use Rattle.thompson_nfa.proofs.CopyLemmas.{copies_first, copies_then, copies_refused, copies_lead_refused, copies_exact, copies_loop, rounds_owed, rounds_first, rounds_then, rounds_refused, rounds_lead_refused, rounds_last_refused, rounds_made, rounds_does, copies_done, at_least_made, stopped_does, bounds_does, groups_again}
-use Rattle.thompson_nfa.proofs.CaptureLemmas.{capture_made, capture_does, plain_does, capture_groups, plain_groups}
-use Rattle.thompson_nfa.proofs.PartsLemmas.{weight_in_concat, weight_in_alternation, parts_first, parts_then, parts_made, parts_does, parts_groups, parts_refused, parts_lead_refused, first_part_refused}
+use Rattle.thompson_nfa.proofs.CopyLemmas.{copies_first, copies_then, copies_exact, copies_loop, rounds_owed, rounds_first, rounds_then, rounds_made, rounds_does, copies_done, at_least_made, stopped_does, bounds_does, groups_again}
+use Rattle.thompson_nfa.proofs.CaptureLemmas.{capture_made, capture_does, plain_does}
+use Rattle.thompson_nfa.proofs.PartsLemmas.{weight_in_concat, weight_in_alternation, parts_first, parts_then, parts_made, parts_does, parts_refused, parts_lead_refused, first_part_refused}
 use Rattle.thompson_nfa.proofs.TurnLemmas.{none_is_concat}
 use Rattle.thompson_nfa.proofs.JoinLemmas.{does_same}
-use Rattle.thompson_nfa.proofs.AlternativeLemmas.{cases_open, union_refused, end_refused, first_lead_refused, second_lead_refused, third_lead_refused, fourth_lead_refused, cases_then, cases_refused, cases_lead_refused, cases_end_refused, cases_made, cases_does, cases_groups, single_does}
+use Rattle.thompson_nfa.proofs.AlternativeLemmas.{cases_open, union_refused, end_refused, first_lead_refused, second_lead_refused, third_lead_refused, fourth_lead_refused, cases_then, cases_refused, cases_lead_refused, cases_end_refused, cases_made, cases_does, single_does}
 use Rattle.thompson_nfa.proofs.compile.+compile.Goals as goal
 
 pub zero_or_more-returns-clause-made : goal.zero_or_more-returns-clause-made

@@ -1,4 +1,4 @@
-use Rattle.std.proofs.Common.{◌≡◌, ℕ, ◌+◌, ◌-◌, ◌*◌, ◌≤◌, length}
+use Rattle.std.proofs.Common.{◌+◌, ◌-◌, ◌*◌, ◌≤◌}
 use Rattle.hir_core.specs.Tree.{concat, alternation}
 use Rattle.hir_core.specs.Facts.{count}
 use Rattle.hir_core.specs.Weight.{weight}

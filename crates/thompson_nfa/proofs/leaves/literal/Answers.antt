@@ -1,9 +1,7 @@
-use Rattle.std.proofs.Common.{◌≡◌, ◌∙◌, ℕ, List, [], ◌∷◌, length, get_or, arith, ap, sym, refl, subst}
-use Rattle.hir_core.specs.Tree.{empty, literal}
+use Rattle.std.proofs.Common.{◌∙◌, length, get_or, arith, ap}
 use Rattle.nfa_core.specs.BuilderStates.{Assembly}
-use Rattle.thompson_nfa.specs.Turned.{turned_place, left_after}
+use Rattle.thompson_nfa.specs.Turned.{turned_place}
 use Rattle.thompson_nfa.proofs.JoinLemmas.{join_made, join_does, does_first, does_all, does_same}
-use Rattle.thompson_nfa.proofs.SameLemmas.{same_literal_none}
 use Rattle.thompson_nfa.proofs.TurnLemmas.{literal_joins, literal_begun, literal_ended, none_is_literal}
 use Rattle.thompson_nfa.proofs.leaves.literal.Goals as goal
 

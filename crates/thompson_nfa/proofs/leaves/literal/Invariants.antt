@@ -1,4 +1,4 @@
-use Rattle.std.proofs.Common.{◌≡◌, ◌+◌, ◌≤◌, length}
+use Rattle.std.proofs.Common.{◌≡◌, ◌≤◌, length}
 use Rattle.hir_core.specs.Tree.{literal}
 use Rattle.thompson_nfa.specs.Compiled.{Makes, DoesFirst}
 use Rattle.thompson_nfa.specs.Turned.{left_after}

@@ -1,6 +1,6 @@
 use Rattle.std.proofs.Common.{◌∙◌}
 use Rattle.thompson_nfa.proofs.ErrorLemmas.{handed}
-use Rattle.thompson_nfa.proofs.ScalarLemmas.{no_sequence, there_still, choice_still, some_ranges, few_ranges, rising_ranges, next_sequence, sequence_refused, all_sequences}
+use Rattle.thompson_nfa.proofs.ScalarLemmas.{no_sequence, there_still, choice_still, some_ranges, few_ranges, rising_ranges, next_sequence, sequence_refused}
 use Rattle.thompson_nfa.proofs.scalar_class.add_sequences.Goals as goal
 
 pub loop-sequence-init : goal.loop-sequence-init

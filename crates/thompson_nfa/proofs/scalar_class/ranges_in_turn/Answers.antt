@@ -21,7 +21,7 @@ loop-i-preserved c =
     let within = c.turned_place-in-loop-i.ensures.within in
     next_joined _ _ _ _ _ _ _ _ c.loop-i.i _ (0, 0) _ c.loop-i.invariant (omega (arith, long, less))
     (c.turned_place-in-loop-i.ensures.value ∙ ap (λ back. turned_place back c.loop-i.i (length c.args.ranges.now)) c.get_reverse-reverse.ensures
-      ∙ ap (turned_place c.args.builder.now.reverse c.loop-i.i) (sym long))
+    ∙ ap (turned_place c.args.builder.now.reverse c.loop-i.i) (sym long))
     (omega (arith, long, within)) c.in_ok-next.ensures.made c.in_ok-next.ensures.does c.in_ok-next.ensures.groups c.in_ok-lead.ensures
 
 pub returns-clause-does : goal.returns-clause-does
