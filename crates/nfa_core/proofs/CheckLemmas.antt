@@ -1,6 +1,6 @@
 -- What is tested of a builder is what is asked of it before an automaton is built.
-use Rattle.std.proofs.Common.{◌≡◌, ℕ, zero, suc, ◌<◌, ◌≤◌, Bool, true, false, List, map, length, get_or, refl, sym, ap, ◌∙◌, arith, [], ◌∷◌, Option, Some, None}
-use Rattle.std.specs.Prelude.{All, nat_lt, not, ◌&&◌, is_some, is_none, Decides, String, string_bytes, Vec, slice_get}
+use Rattle.std.proofs.Common.{◌≡◌, ℕ, zero, suc, ◌<◌, ◌≤◌, Bool, true, false, List, length, get_or, refl, sym, ap, ◌∙◌, arith, [], ◌∷◌, Option, Some, None}
+use Rattle.std.specs.Prelude.{All, nat_lt, not, is_none, Decides, String, string_bytes, Vec}
 use Rattle.std.specs.Option.{option_map}
 use Rattle.std.proofs.lemmas.List.{length-map}
 use Rattle.std.specs.List.{list_all}

@@ -1,4 +1,4 @@
-use Rattle.std.proofs.Common.{◌≡◌, ◌<◌, map, length, arith, rules, refl}
+use Rattle.std.proofs.Common.{◌<◌, map, length, arith, rules, refl}
 use Rattle.std.proofs.lemmas.List.{length-map}
 use Rattle.nfa_core.specs.Drafts.{part_of}
 use Rattle.nfa_core.proofs.CheckLemmas.{followed_free, caught}

@@ -1,4 +1,4 @@
-use Rattle.std.proofs.Common.{◌≡◌, map, sym, ap, ◌∙◌, List, Bool, true, subst, rules}
+use Rattle.std.proofs.Common.{map, ap, ◌∙◌, List, subst, rules}
 use Rattle.std.specs.Prelude.{Decides}
 use Rattle.nfa_core.specs.BuilderStates.{Assembly, Part}
 use Rattle.nfa_core.specs.Drafts.{part_of}

@@ -1,4 +1,4 @@
-use Rattle.std.proofs.Common.{◌≡◌, map, length, ap, ◌∙◌, rules, arith}
+use Rattle.std.proofs.Common.{◌≡◌, map, length, ap, ◌∙◌, rules}
 use Rattle.std.proofs.lemmas.List.{length-map}
 use Rattle.search_types.specs.GroupFaults.{groups_in}
 use Rattle.nfa_core.specs.BuilderStates.{Assembly}
