@@ -1,11 +1,10 @@
 -- Branches of a choice: states to which the choice leads, each with an end that is led on to one common end.
-use Rattle.std.specs.Prelude.{◌≡◌, ℕ, true, List, [], ◌∷◌, ◌++◌}
+use Rattle.std.specs.Prelude.{◌≡◌, ℕ, List, [], ◌∷◌, ◌++◌}
 use Rattle.hir_core.specs.Tree.{Tree}
-use Rattle.nfa_core.specs.BuilderStates.{Assembly, empty_part}
+use Rattle.nfa_core.specs.BuilderStates.{Assembly}
 use Rattle.nfa_core.specs.declared.build_error.BuildError.{BuildError}
-use Rattle.thompson_nfa.specs.Choice.{no_choice}
 use Rattle.thompson_nfa.specs.Compiled.{Makes, Does}
-use Rattle.thompson_nfa.specs.Added.{Added, Led}
+use Rattle.thompson_nfa.specs.Added.{Led}
 use Rattle.thompson_nfa.specs.Refusals.{RefusesStep}
 
 -- the choice has one more way, to the branch's first state, and the branch's last state leads to the common end
@@ -32,23 +31,3 @@ pub record AddsBranch (old new : Assembly) (choice end n : ℕ) (x : Tree) : Typ
 pub data AddsAll (choice end n : ℕ) : Assembly → Assembly → List Tree → Type 0 where
   adds_none : (b : Assembly) → AddsAll choice end n b b []
   adds_more : (a b c : Assembly) (xs : List Tree) (x : Tree) → AddsAll choice end n a b xs → AddsBranch b c choice end n x → AddsAll choice end n a c (xs ++ x ∷ [])
-
--- two fragments, a choice of them behind both, and an empty state as their common end
-pub record OpensTwo (old new : Assembly) (choice end n k : ℕ) (x y : Tree) : Type 0 where
-  pub first_start : ℕ
-  pub first_end : ℕ
-  pub second_start : ℕ
-  pub second_end : ℕ
-  pub one : Assembly
-  pub two : Assembly
-  pub chosen : Assembly
-  pub ended : Assembly
-  pub led : Assembly
-  pub first_made : Makes old one first_start first_end n
-  pub first_does : Does old one first_start first_end x
-  pub second_made : Makes one two second_start second_end k
-  pub second_does : Does one two second_start second_end y
-  pub choice_added : Added two chosen choice (no_choice true) two.groups
-  pub end_added : Added chosen ended end (empty_part 0) chosen.groups
-  pub first_leads : LeadsBranch ended led choice end first_start first_end
-  pub second_leads : LeadsBranch led new choice end second_start second_end

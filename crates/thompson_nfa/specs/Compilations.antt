@@ -1,5 +1,5 @@
 -- The automaton that trees are compiled to: what its runs find, in which order, and how great it is.
-use Rattle.std.specs.Prelude.{◌≡◌, ◌↔◌, ℕ, zero, suc, ◌-◌, ◌<◌, ◌≤◌, min, Bool, true, false, ◌&&◌, List, [], ◌∷◌, ◌++◌, map, length, slice_get, get_or, All, Some}
+use Rattle.std.specs.Prelude.{◌*◌, ◌≡◌, ◌↔◌, ℕ, zero, suc, ◌-◌, ◌<◌, ◌≤◌, min, Bool, true, false, ◌&&◌, List, [], ◌∷◌, ◌++◌, map, length, slice_get, get_or, All, Some}
 use Rattle.std.specs.List.{flat_map}
 use Rattle.look_core.specs.declared.look.Look.TheVariants.{Start, End}
 use Rattle.look_core.specs.LookSets.{has_look}
@@ -11,7 +11,7 @@ use Rattle.nfa_core.specs.Walks.{Has, HasNoneTwice, distinct}
 use Rattle.nfa_core.specs.Runs.{IsChain}
 use Rattle.nfa_core.specs.Places.{same_pair}
 use Rattle.nfa_core.specs.Nfa.{match_node, Automaton, node_at}
-use Rattle.nfa_core.specs.NfaValue.{Nfa, has_empty}
+use Rattle.nfa_core.specs.NfaValue.{Nfa, has_empty, memory_of}
 use Rattle.nfa_core.specs.Ways.{Text, span, ways, ends_from}
 use Rattle.thompson_nfa.specs.Configs.{Options, utf8_of, reverse_of, captures_of, terminator_of, is_any}
 use Rattle.thompson_nfa.specs.Denotes.{seen, IsMeant}
@@ -86,3 +86,4 @@ pub record IsCompiled (o : Options) (xs : List Tree) (n : Nfa) : Type 0 where
   pub empty : (has_empty n.automaton ≡ true) ↔ ((p : ℕ) × (x : Tree) × (slice_get xs p ≡ Some x) × Means (λ l i. true) [] x 0 0)
   pub always_anchored : (n.automaton.start_anchored ≡ n.automaton.start_unanchored) ↔ All (λ x. is_anchored_tree (reverse_of o) x ≡ true) xs
   pub states : length n.automaton.states ≤ list_count xs
+  pub bytes : memory_of n.automaton.states ≤ 4096 * list_count xs
