@@ -52,3 +52,12 @@ pub mod StartLemmas
 pub mod AssembleLemmas
 pub mod RefusalLemmas
 pub mod FinishLemmas
+pub mod CallLemmas
+pub mod CoverLemmas
+pub mod InsertLemmas
+pub mod NodeLemmas
+pub mod SequenceOrder
+pub mod SlotLemmas
+pub mod SlotViews
+pub mod TrieLemmas
+pub mod WalkLemmas

@@ -12,3 +12,11 @@ pub mod Assembled
 pub mod Patterns
 pub mod Prefix
 pub mod RefusedTrees
+pub mod SlotTables
+pub mod Slots
+pub mod RangeTries
+pub mod RangeCalls
+pub mod RangeWalks
+pub mod TrieNodes
+pub mod RangeCovers
+pub mod TrieSteps

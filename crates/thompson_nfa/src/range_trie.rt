@@ -1,0 +1,98 @@
+//! A trie of ranges of bytes.
+ghost use Rattle.std.specs.Prelude.{◌≡◌, [], ◌⊎◌, map, alloc_error, IfOk, IfErr, OnOk, OnErr};
+ghost use Rattle.thompson_nfa.specs.RangeCalls.{CallsAll, CallsUpTo};
+ghost use Rattle.hir_core.specs.Sequences.{bytes_of};
+ghost use Rattle.thompson_nfa.specs.RangeTries.{AreRanges, IsApart, IsTrie, IsWith};
+ghost use Rattle.thompson_nfa.specs.RangeWalks.{paths_of};
+
+use crate::range_insert::insert_below;
+use crate::range_walk::{call_each, emit};
+use crate::trie_nodes::{Next, Nodes};
+use hir_core::Utf8Range;
+use std::alloc::{AllocError, Global};
+use std::marker::Model;
+
+/// A set of strings of bytes, given as sequences of ranges in any order, that tells them as sequences that
+/// ascend: where two of them differ first, the earlier one's range ends before the later one's begins. A
+/// contract sees these sequences.
+///
+/// As `regex_automata::nfa::thompson::range_trie::RangeTrie`.
+#[derive(Drop)]
+pub struct RangeTrie {
+    nodes: Nodes,
+    root: Next,
+}
+
+impl Model for RangeTrie {
+    ghost use Rattle.std.specs.Prelude.{ℕ, List, length};
+
+    ghost Value = { List (List (ℕ × ℕ)) };
+
+    ghost use Rattle.thompson_nfa.specs.TrieNodes.{below, IsInside};
+
+    ghost view = { λ t. below t.nodes t.root };
+
+    ghost invariant = { λ t. IsInside (length t.nodes) t.root };
+}
+
+impl RangeTrie {
+    /// A trie with no string.
+    pub fn new(alloc: Global) -> RangeTrie
+        ensures { result ≡ [] }
+    {
+        RangeTrie {
+            nodes: Nodes::new(alloc),
+            root: Next::Nothing,
+        }
+    }
+
+    /// Forgets all strings.
+    pub fn clear(&mut self)
+        ensures { self.new ≡ [] }
+    {
+        self.nodes.clear();
+        self.root = Next::Nothing;
+    }
+
+    /// Adds the strings with a byte of each range, in the order of the ranges. None of them may be a proper
+    /// prefix of a string of the trie, nor have one as a proper prefix. Where there is no memory, the trie
+    /// stays as it is.
+    pub fn insert(&mut self, alloc: Global, ranges: &[Utf8Range]) -> Result<(), AllocError>
+        requires ordered { AreRanges (map bytes_of ranges.now) }
+        requires apart { IsApart self.old (map bytes_of ranges.now) }
+        ensures ok { OnOk result (IsWith self.old (map bytes_of ranges.now) self.new) }
+        ensures err { OnErr result (self.new ≡ self.old) }
+        ensures trie { IsTrie self.new }
+    {
+        let root = insert_below(&mut self.nodes, alloc, self.root, ranges);
+        self.nodes.see_order();
+        self.root = root?;
+        Ok(())
+    }
+
+    /// Calls the closure at each sequence, ascending, and stops at its first error. There is an error too
+    /// where there is no memory for the sequences; then no call was made.
+    pub fn iter<E: From<AllocError>, F: FnMut(&[Utf8Range]) -> Result<(), E>>(
+        &self,
+        alloc: Global,
+        f: F,
+    ) -> Result<(), E>
+        requires { F.IsAlwaysCallable f }
+        ensures ok { OnOk result (CallsAll F.step f self.now) }
+        ensures err { IfErr result (λ e. CallsUpTo F.step f self.now e ⊎ E.from_gives alloc_error e) }
+        ensures trie { IsTrie self.now }
+    {
+        self.nodes.see_order();
+        let paths = self.paths(alloc)?;
+        call_each(f, &paths)
+    }
+
+    /// The sequences.
+    fn paths(&self, alloc: Global) -> Result<Vec<Vec<Utf8Range>>, AllocError>
+        ensures { IfOk result (λ v. paths_of v.items ≡ self.now) }
+    {
+        let mut paths = Vec::new(alloc);
+        emit(&self.nodes, alloc, self.root, &[], &mut paths)?;
+        Ok(paths)
+    }
+}
