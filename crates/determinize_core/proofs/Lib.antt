@@ -1,0 +1,17 @@
+mod DecodeLemmas
+mod EditLemmas
+mod FlagLemmas
+mod LengthLemmas
+mod LookBitsLemmas
+mod PatternLemmas
+mod StateLemmas
+mod StateRows
+mod ValueLemmas
+pub mod StartLemmas
+pub mod LookBehindLemmas
+pub mod EdgeLemmas
+pub mod StartLawLemmas
+pub mod ExactLemmas
+pub mod DecidedLemmas
+pub mod KnownStateLemmas
+mod StartRows

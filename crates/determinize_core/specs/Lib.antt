@@ -1,0 +1,4 @@
+pub mod StateBytes
+pub mod States
+pub mod Starts
+pub mod LookBehind

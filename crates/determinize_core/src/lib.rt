@@ -1,0 +1,28 @@
+//! Powerset states of a byte automaton, one at a time, and how searches start.
+#![tactic(auto)]
+
+mod look_bits;
+mod lookbehind;
+mod start;
+mod start_config;
+pub mod start_laws;
+mod start_map;
+mod state;
+mod state_builder;
+mod state_builder_matches;
+mod state_builder_nfa;
+mod state_bytes;
+mod state_edit;
+mod state_eq;
+mod state_ids;
+pub mod state_laws;
+
+pub use lookbehind::{LookBehind, look_behind_of_start};
+pub use start::Start;
+pub use start_config::Config;
+pub use start_map::StartByteMap;
+pub use state::State;
+pub use state_builder::StateBuilderEmpty;
+pub use state_builder_matches::StateBuilderMatches;
+pub use state_builder_nfa::StateBuilderNFA;
+pub use state_ids::StateIds;

@@ -1,0 +1,126 @@
+ghost use Rattle.std.specs.Prelude.{◌≡◌};
+ghost use Rattle.nfa_core.specs.NfaValue.{looks_of};
+ghost use Rattle.determinize_core.specs.LookBehind.{families_of, with_if, starts_of, behind_nothing, behind_line, behind_byte, look_behind};
+
+use crate::start::Start;
+use look_core::{Look, LookSet};
+use nfa_core::NFA;
+
+/// What is known of the place where a search starts before a byte is read: what
+/// `regex_automata::util::determinize::set_lookbehind_from_start` sets.
+#[derive(Clone, Copy, Debug, PartialEq, Eq)]
+pub struct LookBehind {
+    /// Whether a word byte stands before the place, where the automaton has a look of words.
+    pub is_from_word: bool,
+    /// Whether the first half of a carriage return and a line feed stands before the place, where the
+    /// automaton has a look of such lines. In reverse the line feed is the first half.
+    pub is_half_crlf: bool,
+    /// The looks that hold at the place whatever stands on its other side, of the families that the
+    /// automaton has.
+    pub look_have: LookSet,
+}
+
+/// Of which families an automaton has looks.
+#[derive(Clone, Copy)]
+pub(crate) struct Families {
+    pub(crate) haystack: bool,
+    pub(crate) lines: bool,
+    pub(crate) crlf: bool,
+    pub(crate) words: bool,
+}
+
+/// What is known of the place where a search of the automaton starts, by what stands before the place. An
+/// automaton in reverse is asked about what stands behind the place, and its looks stand for their reverse.
+pub fn look_behind_of_start(nfa: &NFA, start: Start) -> LookBehind
+    ensures { result ≡ look_behind (looks_of nfa.now.automaton.states) nfa.now.automaton.reverse nfa.now.terminator start }
+{
+    let families = Families::of(nfa.look_set_any());
+    let terminator = nfa.look_matcher().get_line_terminator();
+    let reverse = nfa.is_reverse();
+    match start {
+        Start::Text => families.behind_nothing(),
+        Start::LineLF => families.behind_line(reverse, terminator.contains(b'\n')),
+        Start::LineCR => families.behind_line(!reverse, terminator.contains(b'\r')),
+        Start::NonWordByte => families.behind_byte(false, false),
+        Start::WordByte => families.behind_byte(false, true),
+        Start::CustomLineTerminator => families.behind_byte(true, false),
+        Start::CustomWordLineTerminator => families.behind_byte(true, true),
+    }
+}
+
+impl Families {
+    /// The families of a set's members.
+    fn of(looks: LookSet) -> Families
+        ensures { result ≡ families_of looks }
+    {
+        Families {
+            haystack: looks.contains_anchor_haystack(),
+            lines: looks.contains_anchor_lf(),
+            crlf: looks.contains_anchor_crlf(),
+            words: looks.contains_word(),
+        }
+    }
+
+    /// The looks of these families that ask for nothing but what stands before a place.
+    fn starts(self) -> LookSet
+        ensures { result ≡ starts_of self }
+    {
+        let looks = with_if(LookSet::empty(), self.haystack, Look::Start);
+        let looks = with_if(looks, self.lines, Look::StartLF);
+        let looks = with_if(looks, self.crlf, Look::StartCRLF);
+        let looks = with_if(looks, self.words, Look::WordStartHalfAscii);
+        with_if(looks, self.words, Look::WordStartHalfUnicode)
+    }
+
+    /// No byte stands before the place.
+    fn behind_nothing(self) -> LookBehind
+        ensures { result ≡ behind_nothing self }
+    {
+        LookBehind {
+            is_from_word: false,
+            is_half_crlf: false,
+            look_have: self.starts(),
+        }
+    }
+
+    /// A line feed or a carriage return stands before the place.
+    fn behind_line(self, is_first_half: bool, ends_line: bool) -> LookBehind
+        ensures { result ≡ behind_line self is_first_half ends_line }
+    {
+        let known = Families {
+            haystack: false,
+            lines: ends_line && self.lines,
+            crlf: !is_first_half && self.crlf,
+            words: self.words,
+        };
+        LookBehind {
+            is_from_word: false,
+            is_half_crlf: is_first_half && self.crlf,
+            look_have: known.starts(),
+        }
+    }
+
+    /// Another byte stands before the place.
+    fn behind_byte(self, ends_line: bool, is_word: bool) -> LookBehind
+        ensures { result ≡ behind_byte self ends_line is_word }
+    {
+        let known = Families {
+            haystack: false,
+            lines: ends_line && self.lines,
+            crlf: false,
+            words: !is_word && self.words,
+        };
+        LookBehind {
+            is_from_word: is_word && self.words,
+            is_half_crlf: false,
+            look_have: known.starts(),
+        }
+    }
+}
+
+/// The set with the look, where it is wanted.
+fn with_if(looks: LookSet, wanted: bool, look: Look) -> LookSet
+    ensures { result ≡ with_if wanted look looks }
+{
+    if wanted { looks.insert(look) } else { looks }
+}

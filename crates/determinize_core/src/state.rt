@@ -1,0 +1,168 @@
+ghost use Rattle.std.specs.Prelude.{◌≡◌, ◌<◌, ◌≤◌, length, slice_index, IfOk, MatchOption, true, []};
+ghost use Rattle.look_core.specs.LookSets.{IsLookSet};
+ghost use Rattle.determinize_core.specs.States.{dead, IsState};
+ghost use Rattle.determinize_core.specs.StateBytes.{encoded, decoded, IsEncoded, is_match};
+
+use crate::look_bits::look_set_of;
+use crate::state_bytes::{FROM_WORD, HALF_CRLF, LISTED, MATCHES, has_flag, ids_start, number_at};
+use crate::state_ids::StateIds;
+use look_core::LookSet;
+use search_core::PatternID;
+use std::alloc::{AllocError, Global};
+use std::marker::Model;
+use std::rc::RcSlice;
+
+/// A powerset state, as `regex_automata::util::determinize::State`: the states of the NFA that a search is in, in order
+/// of preference, with what is known of the place. It is kept as bytes, which its clones share. A contract sees it as
+/// these parts.
+#[derive(Drop)]
+pub struct State {
+    bytes: RcSlice<u8>,
+}
+
+impl Model for State {
+    ghost use Rattle.std.specs.Rc.{rc_slice_items};
+    ghost use Rattle.determinize_core.specs.States.{StateValue};
+    ghost use Rattle.determinize_core.specs.StateBytes.{decoded, IsEncoded};
+
+    ghost Value = { StateValue };
+
+    ghost view = { λ s. decoded (rc_slice_items s.bytes) };
+
+    ghost invariant = { λ s. IsEncoded (rc_slice_items s.bytes) };
+}
+
+impl State {
+    /// The state of no states, from which no search goes on.
+    pub fn dead(alloc: Global) -> Result<State, AllocError>
+        ensures { IfOk result (λ state. state ≡ dead) }
+    {
+        State::from_bytes(vec![in alloc; 0; 9]?)
+    }
+
+    /// The state that bytes stand for.
+    pub(crate) fn from_bytes(bytes: Vec<u8>) -> Result<State, AllocError>
+        requires { IsEncoded bytes.items }
+        ensures { IfOk result (λ state. state ≡ decoded bytes.items) }
+    {
+        Ok(State {
+            bytes: RcSlice::from_vec(bytes)?,
+        })
+    }
+
+    /// The bytes, which tell states apart.
+    pub fn as_bytes(&self) -> &[u8]
+        ensures value { result.now ≡ encoded self.now }
+        ensures state { IsState self.now }
+    {
+        self.bytes.as_slice()
+    }
+
+    /// How many bytes the state takes in memory beside its own size.
+    pub fn memory_usage(&self) -> usize
+        ensures { result ≡ length (encoded self.now) }
+    {
+        self.as_bytes().len()
+    }
+
+    /// Whether a pattern matches.
+    pub fn is_match(&self) -> bool
+        ensures { result ≡ is_match self.now.matches }
+    {
+        has_flag(self.as_bytes(), MATCHES)
+    }
+
+    /// Whether the byte before the place is a word byte.
+    pub fn is_from_word(&self) -> bool
+        ensures { result ≡ self.now.is_from_word }
+    {
+        has_flag(self.as_bytes(), FROM_WORD)
+    }
+
+    /// Whether the place is inside what may be a CRLF.
+    pub fn is_half_crlf(&self) -> bool
+        ensures { result ≡ self.now.is_half_crlf }
+    {
+        has_flag(self.as_bytes(), HALF_CRLF)
+    }
+
+    /// The looks that are known to hold at the place.
+    pub fn look_have(&self) -> LookSet
+        ensures { result ≡ self.now.look_have }
+    {
+        look_set_of(number_at(self.as_bytes(), 1))
+    }
+
+    /// The looks of the states.
+    pub fn look_need(&self) -> LookSet
+        ensures { result ≡ self.now.look_need }
+    {
+        look_set_of(number_at(self.as_bytes(), 5))
+    }
+}
+
+impl Clone for State {
+    ghost is_clone = { λ state copy. copy ≡ state };
+
+    fn clone(&self) -> Result<State, AllocError> {
+        Ok(State {
+            bytes: self.bytes.clone()?,
+        })
+    }
+}
+
+/// The patterns that match and the states.
+impl State {
+    /// How many patterns match.
+    pub fn match_len(&self) -> usize
+        ensures { result ≡ length self.now.matches }
+    {
+        let bytes = self.as_bytes();
+        if has_flag(bytes, LISTED) {
+            return number_at(bytes, 9) as usize;
+        }
+        if has_flag(bytes, MATCHES) { 1 } else { 0 }
+    }
+
+    /// The pattern at a place among those that match, in order of preference.
+    pub fn match_pattern(&self, index: usize) -> PatternID
+        requires { index < length self.now.matches }
+        ensures { result ≡ slice_index self.now.matches index }
+    {
+        let bytes = self.as_bytes();
+        if has_flag(bytes, LISTED) {
+            return PatternID::must(number_at(bytes, 13 + 4 * index) as usize);
+        }
+        PatternID::ZERO
+    }
+
+    /// The patterns that match, in order of preference, and `None` where none does.
+    pub fn match_pattern_ids(&self, alloc: Global) -> Result<Option<Vec<PatternID>>, AllocError>
+        ensures { IfOk result (λ ids. MatchOption ids (self.now.matches ≡ []) (λ ps. (ps.items ≡ self.now.matches) × (is_match self.now.matches ≡ true))) }
+    {
+        if !self.is_match() {
+            return Ok(None);
+        }
+        Ok(Some(self.patterns(alloc)?))
+    }
+
+    /// The patterns that match.
+    fn patterns(&self, alloc: Global) -> Result<Vec<PatternID>, AllocError>
+        ensures { IfOk result (λ ps. ps.items ≡ self.now.matches) }
+    {
+        let mut ids = Vec::new(alloc);
+        for index in 0..self.match_len() {
+            ids.push(self.match_pattern(index))?;
+        }
+        Ok(ids)
+    }
+
+    /// The states of the NFA, in order of preference.
+    pub fn iter_nfa_state_ids(&self) -> StateIds<'_>
+        ensures { result ≡ self.now.ids }
+    {
+        let bytes = self.as_bytes();
+        let start = ids_start(bytes);
+        StateIds::new(&bytes[start..])
+    }
+}

@@ -1,0 +1,37 @@
+ghost use Rattle.std.specs.Prelude.{◌≡◌, IfOk};
+ghost use Rattle.determinize_core.specs.States.{dead};
+
+use crate::state_builder_matches::StateBuilderMatches;
+use std::alloc::{AllocError, Global};
+
+/// The memory of a builder of powerset states, as `StateBuilderEmpty` of `regex_automata`.
+#[derive(Drop)]
+pub struct StateBuilderEmpty {
+    bytes: Vec<u8>,
+}
+
+impl StateBuilderEmpty {
+    /// A builder that has no memory yet.
+    pub fn new(alloc: Global) -> StateBuilderEmpty {
+        StateBuilderEmpty::from_bytes(Vec::new(alloc))
+    }
+
+    pub(crate) fn from_bytes(bytes: Vec<u8>) -> StateBuilderEmpty {
+        StateBuilderEmpty { bytes }
+    }
+
+    /// Begins a state, which is dead so far.
+    pub fn into_matches(self) -> Result<StateBuilderMatches, AllocError>
+        ensures { IfOk result (λ builder. builder ≡ dead) }
+    {
+        let mut bytes = self.bytes;
+        bytes.clear();
+        bytes.extend_from_slice(&[0; 9])?;
+        Ok(StateBuilderMatches::from_bytes(bytes))
+    }
+
+    /// How many bytes it has room for.
+    pub fn capacity(&self) -> usize {
+        self.bytes.capacity()
+    }
+}

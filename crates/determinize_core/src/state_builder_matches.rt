@@ -1,0 +1,87 @@
+ghost use Rattle.std.specs.Prelude.{◌≡◌, ℕ, true, []};
+ghost use Rattle.determinize_core.specs.States.{StateValue};
+ghost use Rattle.determinize_core.specs.StateBytes.{IsUnfinished, decoded_unfinished};
+
+use crate::look_bits::look_set_of;
+use crate::state_builder_nfa::StateBuilderNFA;
+use crate::state_bytes::{FROM_WORD, HALF_CRLF, LISTED, has_flag, number_at};
+use crate::state_edit::{set_flag, write_number};
+use look_core::LookSet;
+use std::marker::Model;
+
+/// A powerset state while what matches in it is added, as `StateBuilderMatches` of `regex_automata`. A contract sees it
+/// as the state that it is so far, which has no states of the NFA.
+#[derive(Drop)]
+pub struct StateBuilderMatches {
+    bytes: Vec<u8>,
+}
+
+impl Model for StateBuilderMatches {
+    ghost use Rattle.determinize_core.specs.States.{StateValue};
+    ghost use Rattle.determinize_core.specs.StateBytes.{decoded_unfinished, IsUnfinished};
+
+    ghost Value = { StateValue };
+
+    ghost view = { λ b. decoded_unfinished b.bytes.items };
+
+    ghost invariant = { λ b. IsUnfinished b.bytes.items };
+}
+
+impl StateBuilderMatches {
+    /// A builder of the state that bytes stand for.
+    pub(crate) fn from_bytes(bytes: Vec<u8>) -> StateBuilderMatches
+        requires { IsUnfinished bytes.items }
+        ensures { result ≡ decoded_unfinished bytes.items }
+    {
+        StateBuilderMatches { bytes }
+    }
+
+    /// Goes on to the states of the NFA.
+    pub fn into_nfa(self) -> StateBuilderNFA
+        ensures { result ≡ self }
+    {
+        let mut bytes = self.bytes;
+        if has_flag(&bytes, LISTED) {
+            let count = (bytes.len() - 13) / 4;
+            write_number(&mut bytes, 9, count as u32);
+            return StateBuilderNFA::from_bytes(bytes);
+        }
+        StateBuilderNFA::from_bytes(bytes)
+    }
+
+    /// Notes that the byte before the place is a word byte.
+    pub fn set_is_from_word(&mut self)
+        ensures { self.new ≡ record self.old { is_from_word = true } }
+    {
+        set_flag(&mut self.bytes, FROM_WORD);
+    }
+
+    /// Notes that the place is inside what may be a CRLF.
+    pub fn set_is_half_crlf(&mut self)
+        ensures { self.new ≡ record self.old { is_half_crlf = true } }
+    {
+        set_flag(&mut self.bytes, HALF_CRLF);
+    }
+
+    /// The looks that are known to hold at the place.
+    pub fn look_have(&self) -> LookSet
+        ensures { result ≡ self.now.look_have }
+    {
+        look_set_of(number_at(&self.bytes, 1))
+    }
+
+    /// Changes the looks that are known to hold.
+    pub fn set_look_have<F: FnOnce(LookSet) -> LookSet>(&mut self, set: F)
+        requires { F.IsAlwaysCallable set }
+        ensures { (looks : ℕ) × F.post set self.old.look_have looks × (self.new ≡ record self.old { look_have = looks }) }
+    {
+        let looks = set(self.look_have());
+        self.write_have(looks);
+    }
+
+    fn write_have(&mut self, looks: LookSet)
+        ensures { self.new ≡ record self.old { look_have = looks } }
+    {
+        write_number(&mut self.bytes, 1, looks.bits());
+    }
+}
