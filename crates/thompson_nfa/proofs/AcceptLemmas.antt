@@ -4,7 +4,7 @@ use Rattle.hir_core.specs.Tree.{Tree}
 use Rattle.hir_core.specs.PreferredEnds.{preferred_ends}
 use Rattle.hir_core.specs.Facts.{LoopsRead}
 use Rattle.nfa_core.specs.BuilderStates.{Part, match_part}
-use Rattle.nfa_core.specs.Walks.{Has, Lists, lists_none, lists_answer}
+use Rattle.nfa_core.specs.Walks.{Has, lists_none, lists_answer}
 use Rattle.nfa_core.specs.Runs.{IsChain, last_or}
 use Rattle.nfa_core.specs.Places.{same_pair}
 use Rattle.nfa_core.specs.Ways.{Text, match_of}
@@ -13,15 +13,15 @@ use Rattle.nfa_core.proofs.MemberLemmas.{none_in}
 use Rattle.thompson_nfa.specs.Denotes.{at, seen, IsMeant, Denotes}
 use Rattle.thompson_nfa.proofs.WayLemmas.{match_has_no_ways}
 use Rattle.thompson_nfa.proofs.LeadLemmas.{Chain}
-use Rattle.thompson_nfa.proofs.OrderLemmas.{Listed}
+use Rattle.thompson_nfa.proofs.OrderLemmas.{Listed, ListedFirsts}
 
 -- a chain from p to a match of this pattern at this place
 abbrev pub Finds : Bool → Text → Table → ℕ × ℕ → ℕ × ℕ → Type 0
 Finds back t T p m = (r : List (ℕ × ℕ)) × IsChain same_pair (table_ways back t T) p r × (table_match T (last_or p r) ≡ Some m)
 
--- from s the table finds pattern p wherever the tree leads, and nothing else, and reading up in the tree's order
+-- from s the table finds pattern p wherever the tree leads, and nothing else, and reading up in the tree's order, up to repeats
 pub record FindsTree (back : Bool) (T : Table) (s p : ℕ) (x : Tree) : Type 0 where
-  pub lists : back ≡ false → LoopsRead x → (t : Text) (i : ℕ) → Lists (table_ways false t T) (table_match T) ((i, s) ∷ []) (at p (preferred_ends t.holds (seen t) x i))
+  pub lists : back ≡ false → LoopsRead x → (t : Text) (i : ℕ) → ListedFirsts t T ((i, s) ∷ []) (at p (preferred_ends t.holds (seen t) x i))
   pub complete : (t : Text) (i j : ℕ) → IsMeant back t x i j → Finds back t T (i, s) (j, p)
   pub sound : (t : Text) (i : ℕ) (m : ℕ × ℕ) → Finds back t T (i, s) m → (j : ℕ) × IsMeant back t x i j × (m ≡ (j, p))
 

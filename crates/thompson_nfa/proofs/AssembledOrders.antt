@@ -20,7 +20,7 @@ use Rattle.thompson_nfa.specs.Configs.{Options, reverse_of}
 use Rattle.thompson_nfa.specs.Denotes.{seen}
 use Rattle.thompson_nfa.specs.Compilations.{choices_from, places_from, start_of, FindsInOrder}
 use Rattle.thompson_nfa.specs.Assembled.{AcceptAll, IsAssembled, ComesBefore}
-use Rattle.thompson_nfa.proofs.OrderLemmas.{Listed}
+use Rattle.thompson_nfa.proofs.OrderLemmas.{Listed, ListedFirsts}
 use Rattle.thompson_nfa.proofs.FindLemmas.{accepts_lists}
 use Rattle.thompson_nfa.proofs.ChoiceLemmas.{accept_at, all_list}
 use Rattle.thompson_nfa.proofs.TriedOrders.{tried, tries_in_order, listed_behind, all_tried}
@@ -41,9 +41,9 @@ module _ (o : Options) (xs : List Tree) (b : Assembly) (A U : ℕ) (is : IsAssem
       subst P (sym reads_up) walk
 
   -- what is listed from a state are the ends from it
-  ends_are_listed : (t : Text) (q i : ℕ) (l : List (ℕ × ℕ)) → q < length b.parts → i ≤ t.end → Listed t (part_at b.parts) ((i, q) ∷ []) l →
+  ends_are_listed : (t : Text) (q i : ℕ) (l : List (ℕ × ℕ)) → q < length b.parts → i ≤ t.end → ListedFirsts t (part_at b.parts) ((i, q) ∷ []) l →
       ends_from auto t (i, new_name b.parts q) ≡ distinct same_pair l
-  ends_are_listed t q i l inside place walk = ends_listed b A U is.can_build t q i inside place l (turned t q i l walk)
+  ends_are_listed t q i l inside place walk = ends_listed b A U is.can_build t q i inside place walk.0 (turned t q i walk.0 walk.1) ∙ walk.2
 
   accept_up : AcceptAll false (part_at b.parts) 0 b.starts xs
   accept_up = let P : Bool → Type 0 = λ r. AcceptAll r (part_at b.parts) 0 b.starts xs in subst P up is.accept
@@ -61,14 +61,14 @@ module _ (o : Options) (xs : List Tree) (b : Assembly) (A U : ℕ) (is : IsAssem
       (accepts_lists t (part_at b.parts) q p x i a.accepts reading)
 
   module _ (reading : All LoopsRead xs) where
-    anchored_walk : (t : Text) (i : ℕ) → Listed t (part_at b.parts) ((i, A) ∷ []) (choices_from 0 xs t i)
+    anchored_walk : (t : Text) (i : ℕ) → ListedFirsts t (part_at b.parts) ((i, A) ∷ []) (choices_from 0 xs t i)
     anchored_walk t i = all_list t (part_at b.parts) A b.starts xs i is.leads accept_up reading
 
     anchored_listed : (t : Text) (i : ℕ) → i ≤ t.end → ends_from auto t (i, new_name b.parts A) ≡ distinct same_pair (choices_from 0 xs t i)
     anchored_listed t i place = ends_are_listed t A i (choices_from 0 xs t i) is.can_build.anchored_there place (anchored_walk t i)
 
     -- the walk from the unanchored start ends in any text
-    unanchored_walk : (t : Text) (i : ℕ) → (l : List (ℕ × ℕ)) × Listed t (part_at b.parts) ((i, U) ∷ []) l
+    unanchored_walk : (t : Text) (i : ℕ) → (l : List (ℕ × ℕ)) × ListedFirsts t (part_at b.parts) ((i, U) ∷ []) l
     unanchored_walk t i = elim before_up [
       | inl x ↦ (
         flat_map (choices_from 0 xs t) (i ∷ []),
@@ -83,10 +83,10 @@ module _ (o : Options) (xs : List Tree) (b : Assembly) (A U : ℕ) (is : IsAssem
     ]
 
     all_walked : (term : Terminator) (h : List ℕ) (s f i : ℕ) → i ≤ f → f ≤ length h → All (λ byte. byte < 256) h →
-        Listed (span term h s f) (part_at b.parts) ((i, U) ∷ []) (flat_map (choices_from 0 xs (span term h s f)) (places_from i (suc f - i)))
+        ListedFirsts (span term h s f) (part_at b.parts) ((i, U) ∷ []) (flat_map (choices_from 0 xs (span term h s f)) (places_from i (suc f - i)))
     all_walked term h s f i high within bytes =
         let t : Text = span term h s f in
-        let P : List (ℕ × ℕ) → Type 0 = λ l. Listed t (part_at b.parts) ((i, U) ∷ []) l in
+        let P : List (ℕ × ℕ) → Type 0 = λ l. ListedFirsts t (part_at b.parts) ((i, U) ∷ []) l in
         elim before_up [
           | inl x ↦ subst P (choices_at_once term h s f xs i x.0 high)
               (listed_behind t (part_at b.parts) U A (choices_from 0 xs t) (anchored_walk t) (λ k. k ∷ []) i (orders_at_once t (part_at b.parts) U A x.1))
@@ -105,7 +105,7 @@ module _ (o : Options) (xs : List Tree) (b : Assembly) (A U : ℕ) (is : IsAssem
         HasNoneTwice same_pair ((i, new_name b.parts U) ∷ r)
     returns_never t i r place chain =
         let w = unanchored_walk t i in
-        chains_once b A U is.can_build t U i is.can_build.unanchored_there place w.0 (turned t U i w.0 w.1) r chain
+        chains_once b A U is.can_build t U i is.can_build.unanchored_there place w.1.0 (turned t U i w.1.0 w.1.1) r chain
 
   finds_in_order : (n : Nfa) → n.automaton ≡ auto → FindsInOrder xs n
   finds_in_order n same = record {

@@ -14,7 +14,7 @@ use Rattle.nfa_core.proofs.PairLemmas.{pairs_equal}
 use Rattle.thompson_nfa.specs.Denotes.{at, seen, IsMeant, Leads, Passes, Reaches, Orders, Denotes}
 use Rattle.thompson_nfa.proofs.WayLemmas.{each_at, at_append, Goes, goes_union}
 use Rattle.thompson_nfa.proofs.LeadLemmas.{Chain, goes_begins, goes_leads, passes_later}
-use Rattle.thompson_nfa.proofs.OrderLemmas.{Listed, listed_parts, listed_on}
+use Rattle.thompson_nfa.proofs.OrderLemmas.{Listed, ListedFirsts, firsts_of, firsts_parts, firsts_on}
 use Rattle.thompson_nfa.proofs.MeantLemmas.{meant_never, alt_meant, meant_alt}
 
 -- from each of the states to e the table does what the tree at the same place of the list means
@@ -86,18 +86,18 @@ module _ (back : Bool) (T : Table) (t : Text) (e : ℕ) where
   }
 
 all_lists : (T : Table) (t : Text) (e : ℕ) (qs : List ℕ) (xs : List Tree) → AllDenote false T e qs xs → LoopsRead (alternation xs) → (i : ℕ) (l : List (ℕ × ℕ)) →
-    Listed t T (at e (preferred_ends t.holds (seen t) (alternation xs) i)) l → Listed t T (each_at qs i) l
-all_lists T t e _ _ none_denote f i l walk = walk
+    Listed t T (at e (preferred_ends t.holds (seen t) (alternation xs) i)) l → ListedFirsts t T (each_at qs i) l
+all_lists T t e _ _ none_denote f i l walk = firsts_of t T [] l walk
 all_lists T t e _ _ (more_denote q x qs xs d ds) f i l walk =
     let P : List (ℕ × ℕ) → Type 0 = λ st. Listed t T st l in
     let here : List ℕ = preferred_ends t.holds (seen t) x i in
     let others : List ℕ = preferred_ends t.holds (seen t) (alternation xs) i in
-    listed_parts t T (at e here) (at e others) ((i, q) ∷ []) (each_at qs i) l (λ m w. (d.orders refl f.0 t).lists i m w)
+    firsts_parts t T (at e here) (at e others) ((i, q) ∷ []) (each_at qs i) l (λ m w. (d.orders refl f.0 t).lists i m w)
     (λ m w. all_lists T t e qs xs ds f.1 i m w) (subst P (at_append e here others) walk)
 
 all_orders : (back : Bool) (T : Table) (t : Text) (u e : ℕ) (qs : List ℕ) (xs : List Tree) → back ≡ false → AllDenote back T e qs xs → Goes back t T u (each_at qs) →
     LoopsRead (alternation xs) → Orders t T u e (preferred_ends t.holds (seen t) (alternation xs))
-all_orders false T t u e qs xs up all g f = record { lists = λ i l walk. listed_on t T u (each_at qs) i l g (all_lists T t e qs xs all f i l walk) }
+all_orders false T t u e qs xs up all g f = record { lists = λ i l walk. firsts_on t T u (each_at qs) i l g (all_lists T t e qs xs all f i l walk) }
 all_orders true T t u e qs xs up all g f = cc
 
 -- a union of the branches' states

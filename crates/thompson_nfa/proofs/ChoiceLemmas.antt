@@ -18,7 +18,7 @@ use Rattle.thompson_nfa.specs.Compilations.{IsChoice, choices_from}
 use Rattle.thompson_nfa.specs.Assembled.{Accepts, AcceptAll, LeadsToAll}
 use Rattle.thompson_nfa.proofs.WayLemmas.{each_at, Goes, goes_union, goes_fail}
 use Rattle.thompson_nfa.proofs.LeadLemmas.{leads_here, goes_begins, goes_leads}
-use Rattle.thompson_nfa.proofs.OrderLemmas.{Listed, listed_append, listed_on}
+use Rattle.thompson_nfa.proofs.OrderLemmas.{ListedFirsts, firsts_of, firsts_append, firsts_on}
 use Rattle.thompson_nfa.proofs.AcceptLemmas.{Finds}
 use Rattle.thompson_nfa.proofs.FindLemmas.{FindsChoices, found_behind, accepts_finds, accepts_lists}
 
@@ -130,21 +130,21 @@ module _ (back : Bool) (t : Text) (T : Table) where
 
 module _ (t : Text) (T : Table) where
   starts_list : (p : ℕ) (starts : List ℕ) (xs : List Tree) (i : ℕ) → AcceptAll false T p starts xs → All LoopsRead xs →
-      Listed t T (each_at starts i) (choices_from p xs t i)
-  starts_list p [] [] i a reads = lists_none
+      ListedFirsts t T (each_at starts i) (choices_from p xs t i)
+  starts_list p [] [] i a reads = firsts_of t T [] [] lists_none
   starts_list p [] (x ∷ xs) i a reads = absurd a
   starts_list p (s ∷ starts) [] i a reads = absurd a
   starts_list p (s ∷ starts) (x ∷ xs) i a reads =
-      listed_append t T ((i, s) ∷ []) (each_at starts i) (map (λ j. (j, p)) (preferred_ends t.holds (seen t) x i)) (choices_from (suc p) xs t i)
+      firsts_append t T ((i, s) ∷ []) (each_at starts i) (map (λ j. (j, p)) (preferred_ends t.holds (seen t) x i)) (choices_from (suc p) xs t i)
       (accepts_lists t T s p x i a.0 (All-head LoopsRead x xs reads)) (starts_list (suc p) starts xs i a.1 (All-tail LoopsRead x xs reads))
 
-  enters_list : (c : ℕ) (starts : List ℕ) (i : ℕ) (l : List (ℕ × ℕ)) → LeadsToAll T c starts → Listed t T (each_at starts i) l → Listed t T ((i, c) ∷ []) l
-  enters_list c starts i l (inl is) walk = let P : List ℕ → Type 0 = λ qs. Listed t T (each_at qs i) l in subst P is walk
-  enters_list c starts i l (inr (inl is)) walk = listed_on t T c (each_at starts) i l (goes_union false t T c starts is) walk
+  enters_list : (c : ℕ) (starts : List ℕ) (i : ℕ) (l : List (ℕ × ℕ)) → LeadsToAll T c starts → ListedFirsts t T (each_at starts i) l → ListedFirsts t T ((i, c) ∷ []) l
+  enters_list c starts i l (inl is) walk = let P : List ℕ → Type 0 = λ qs. ListedFirsts t T (each_at qs i) l in subst P is walk
+  enters_list c starts i l (inr (inl is)) walk = firsts_on t T c (each_at starts) i l (goes_union false t T c starts is) walk
   enters_list c starts i l (inr (inr is)) walk =
-      let P : List ℕ → Type 0 = λ qs. Listed t T (each_at qs i) l in
-      listed_on t T c (λ k. []) i l (goes_fail false t T c is.1) (subst P is.0 walk)
+      let P : List ℕ → Type 0 = λ qs. ListedFirsts t T (each_at qs i) l in
+      firsts_on t T c (λ k. []) i l (goes_fail false t T c is.1) (subst P is.0 walk)
 
   pub all_list : (c : ℕ) (starts : List ℕ) (xs : List Tree) (i : ℕ) → LeadsToAll T c starts → AcceptAll false T 0 starts xs → All LoopsRead xs →
-      Listed t T ((i, c) ∷ []) (choices_from 0 xs t i)
+      ListedFirsts t T ((i, c) ∷ []) (choices_from 0 xs t i)
   all_list c starts xs i leads accept reads = enters_list c starts i (choices_from 0 xs t i) leads (starts_list 0 starts xs i accept reads)

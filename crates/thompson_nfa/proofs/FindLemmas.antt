@@ -9,7 +9,7 @@ use Rattle.nfa_core.specs.Drafted.{Table, table_match}
 use Rattle.thompson_nfa.specs.Denotes.{seen, IsMeant, Leads, Reaches}
 use Rattle.thompson_nfa.specs.Assembled.{Accepts}
 use Rattle.thompson_nfa.proofs.LeadLemmas.{leads_trans}
-use Rattle.thompson_nfa.proofs.OrderLemmas.{Listed}
+use Rattle.thompson_nfa.proofs.OrderLemmas.{ListedFirsts}
 use Rattle.thompson_nfa.proofs.AcceptLemmas.{Finds, FindsTree, finds_tree}
 
 -- the chains from state q find what is a choice at their place, and nothing else
@@ -51,5 +51,5 @@ module _ (back : Bool) (t : Text) (T : Table) where
 
 -- what is listed where a pattern's tree begins
 pub accepts_lists : (t : Text) (T : Table) (s p : ℕ) (x : Tree) (i : ℕ) → Accepts false T s p x → LoopsRead x →
-    Listed t T ((i, s) ∷ []) (map (λ j. (j, p)) (preferred_ends t.holds (seen t) x i))
+    ListedFirsts t T ((i, s) ∷ []) (map (λ j. (j, p)) (preferred_ends t.holds (seen t) x i))
 accepts_lists t T s p x i a reads = (finds_tree false T s a.end p x a.matches a.denotes).lists refl reads t i

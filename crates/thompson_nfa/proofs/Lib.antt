@@ -1,6 +1,7 @@
 pub mod WayLemmas
 pub mod LeadLemmas
 pub mod ReachLemmas
+pub mod FirstsLemmas
 pub mod OrderLemmas
 pub mod DownLemmas
 pub mod MeantLemmas

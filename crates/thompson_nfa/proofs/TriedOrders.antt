@@ -11,7 +11,7 @@ use Rattle.thompson_nfa.specs.Denotes.{at, Orders}
 use Rattle.thompson_nfa.specs.Compilations.{places_from}
 use Rattle.thompson_nfa.specs.Assembled.{TriesEachPlace}
 use Rattle.thompson_nfa.proofs.WayLemmas.{byte_ends, goes_empty}
-use Rattle.thompson_nfa.proofs.OrderLemmas.{Listed, listed_append, orders_like, orders_join, orders_leaf, orders_rounds}
+use Rattle.thompson_nfa.proofs.OrderLemmas.{ListedFirsts, firsts_of, firsts_append, firsts_behind, orders_like, orders_join, orders_leaf, orders_rounds}
 use Rattle.thompson_nfa.proofs.TriedPlaces.{any_range, any_ends, IsText, ends_up, moves_up, goes_on, goes_any}
 
 -- the place, and those that are come to from it by so many bytes at most
@@ -51,14 +51,14 @@ module _ (t : Text) (T : Table) (u c : ℕ) (w : TriesEachPlace T u c) where
       (orders_leaf t T w.back u (λ i. i ∷ []) (goes_empty false t T w.back u w.again))))
       u (goes_on false t T u c w)
 
-module _ (t : Text) (T : Table) (s c : ℕ) (lists : ℕ → List (ℕ × ℕ)) (each : (k : ℕ) → Listed t T ((k, c) ∷ []) (lists k)) where
-  listed_at : (js : List ℕ) → Listed t T (at c js) (flat_map lists js)
-  listed_at [] = lists_none
-  listed_at (j ∷ js) = listed_append t T ((j, c) ∷ []) (at c js) (lists j) (flat_map lists js) (each j) (listed_at js)
+module _ (t : Text) (T : Table) (s c : ℕ) (lists : ℕ → List (ℕ × ℕ)) (each : (k : ℕ) → ListedFirsts t T ((k, c) ∷ []) (lists k)) where
+  listed_at : (js : List ℕ) → ListedFirsts t T (at c js) (flat_map lists js)
+  listed_at [] = firsts_of t T [] [] lists_none
+  listed_at (j ∷ js) = firsts_append t T ((j, c) ∷ []) (at c js) (lists j) (flat_map lists js) (each j) (listed_at js)
 
   -- what is listed behind states that lead to c at these places
-  pub listed_behind : (ends : ℕ → List ℕ) (i : ℕ) → Orders t T s c ends → Listed t T ((i, s) ∷ []) (flat_map lists (ends i))
-  listed_behind ends i a = a.lists i (flat_map lists (ends i)) (listed_at (ends i))
+  pub listed_behind : (ends : ℕ → List ℕ) (i : ℕ) → Orders t T s c ends → ListedFirsts t T ((i, s) ∷ []) (flat_map lists (ends i))
+  listed_behind ends i a = firsts_behind t T (at c (ends i)) ((i, s) ∷ []) (flat_map lists (ends i)) (a.lists i) (listed_at (ends i))
 
 -- in a text all places up to its end are come to
 tried_places : (t : Text) → IsText t → (n i : ℕ) → i + n ≡ t.end → tried_from t n i ≡ places_from i (suc n)

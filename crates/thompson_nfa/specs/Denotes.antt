@@ -5,7 +5,7 @@ use Rattle.hir_core.specs.Tree.{Tree}
 use Rattle.hir_core.specs.Means.{Means}
 use Rattle.hir_core.specs.PreferredEnds.{preferred_ends}
 use Rattle.hir_core.specs.Facts.{LoopsRead}
-use Rattle.nfa_core.specs.Walks.{Lists}
+use Rattle.nfa_core.specs.Walks.{Lists, distinct}
 use Rattle.nfa_core.specs.Runs.{IsChain, last_or}
 use Rattle.nfa_core.specs.Places.{same_pair}
 use Rattle.nfa_core.specs.Ways.{Text}
@@ -50,10 +50,14 @@ pub record Reaches (reverse : Bool) (t : Text) (table : Table) (s e : ℕ) (mean
   pub sound : (i : ℕ) (r : List (ℕ × ℕ)) (m : ℕ × ℕ) → IsChain same_pair (table_ways reverse t table) (i, s) r →
       table_match table (last_or (i, s) r) ≡ Some m → Passes reverse t table meant i e (i, s) r
 
--- The walk of a stack from s lists what that from e lists at these ends, one after the other.
+-- the two lists are the same, repeats dropped
+abbrev pub HasSameFirsts : List (ℕ × ℕ) → List (ℕ × ℕ) → Type 0
+HasSameFirsts l m = distinct same_pair l ≡ distinct same_pair m
+
+-- The walk of a stack from s lists what that from e lists at these ends, one after the other, up to repeats.
 pub record Orders (t : Text) (table : Table) (s e : ℕ) (ends : ℕ → List ℕ) : Type 0 where
   pub lists : (i : ℕ) (l : List (ℕ × ℕ)) → Lists (table_ways false t table) (table_match table) (at e (ends i)) l →
-      Lists (table_ways false t table) (table_match table) ((i, s) ∷ []) l
+      (m : List (ℕ × ℕ)) × Lists (table_ways false t table) (table_match table) ((i, s) ∷ []) m × HasSameFirsts m l
 
 -- From s to e the table does what the tree means, and, read up, in the order that it prefers where loops read.
 pub record Denotes (reverse : Bool) (table : Table) (s e : ℕ) (x : Tree) : Type 0 where
