@@ -1,4 +1,4 @@
--- A state from which a tree leads to a match: what the walk of a stack lists, and the chains to matches.
+-- A state from which a tree leads to a match: what the walk of a stack lists, that it ends, and the chains to matches.
 use Rattle.std.proofs.Common.{◌≡◌, ℕ, Bool, false, List, [], ◌∷◌, Some, refl, sym, ap, ◌∙◌, subst}
 use Rattle.hir_core.specs.Tree.{Tree}
 use Rattle.hir_core.specs.PreferredEnds.{preferred_ends}
@@ -10,7 +10,7 @@ use Rattle.nfa_core.specs.Places.{same_pair}
 use Rattle.nfa_core.specs.Ways.{Text, match_of}
 use Rattle.nfa_core.specs.Drafted.{drafted, Table, table_ways, table_match}
 use Rattle.nfa_core.proofs.MemberLemmas.{none_in}
-use Rattle.thompson_nfa.specs.Denotes.{at, seen, IsMeant, Denotes}
+use Rattle.thompson_nfa.specs.Denotes.{at, seen, IsMeant, ComesToEnd, Denotes}
 use Rattle.thompson_nfa.proofs.WayLemmas.{match_has_no_ways}
 use Rattle.thompson_nfa.proofs.LeadLemmas.{Chain}
 use Rattle.thompson_nfa.proofs.OrderLemmas.{Listed, ListedFirsts}
@@ -19,9 +19,11 @@ use Rattle.thompson_nfa.proofs.OrderLemmas.{Listed, ListedFirsts}
 abbrev pub Finds : Bool → Text → Table → ℕ × ℕ → ℕ × ℕ → Type 0
 Finds back t T p m = (r : List (ℕ × ℕ)) × IsChain same_pair (table_ways back t T) p r × (table_match T (last_or p r) ≡ Some m)
 
--- from s the table finds pattern p wherever the tree leads, and nothing else, and reading up in the tree's order, up to repeats
+-- From s the table finds pattern p wherever the tree leads, and nothing else. Where loops read, walks come to their end, and
+-- reading up they list in the tree's order, up to repeats.
 pub record FindsTree (back : Bool) (T : Table) (s p : ℕ) (x : Tree) : Type 0 where
   pub lists : back ≡ false → LoopsRead x → (t : Text) (i : ℕ) → ListedFirsts t T ((i, s) ∷ []) (at p (preferred_ends t.holds (seen t) x i))
+  pub ends : LoopsRead x → (t : Text) (i : ℕ) → ComesToEnd back t T (i, s)
   pub complete : (t : Text) (i j : ℕ) → IsMeant back t x i j → Finds back t T (i, s) (j, p)
   pub sound : (t : Text) (i : ℕ) (m : ℕ × ℕ) → Finds back t T (i, s) m → (j : ℕ) × IsMeant back t x i j × (m ≡ (j, p))
 
@@ -31,6 +33,9 @@ is_match_state T f p j is = ap (λ (n : Part). match_of (drafted n) j) is
 listed_matches : (t : Text) (T : Table) (f p : ℕ) (js : List ℕ) → T f ≡ match_part p → Listed t T (at f js) (at p js)
 listed_matches t T f p [] is = lists_none
 listed_matches t T f p (j ∷ js) is = lists_answer (j, f) (j, p) (at f js) (at p js) (is_match_state T f p j is) (listed_matches t T f p js is)
+
+ends_at_match : (back : Bool) (t : Text) (T : Table) (f p j : ℕ) → T f ≡ match_part p → ComesToEnd back t T (j, f)
+ends_at_match back t T f p j is = ((j, p) ∷ [], lists_answer (j, f) (j, p) [] [] (is_match_state T f p j is) lists_none)
 
 -- a chain from a match stays there
 stays_at_match : (back : Bool) (t : Text) (T : Table) (q m : ℕ × ℕ) (r : List (ℕ × ℕ)) → table_match T q ≡ Some m → Chain back t T q r → last_or q r ≡ q
@@ -45,6 +50,7 @@ some_pair a b e = cc
 pub finds_tree : (back : Bool) (T : Table) (s f p : ℕ) (x : Tree) → T f ≡ match_part p → Denotes back T s f x → FindsTree back T s p x
 finds_tree back T s f p x is d = record {
   lists = λ up g t i. (d.orders up g t).lists i (at p (preferred_ends t.holds (seen t) x i)) (listed_matches t T f p (preferred_ends t.holds (seen t) x i) is);
+  ends = λ g t i. (d.halts g t).halts i (λ j m. ends_at_match back t T f p j is);
   complete = λ t i j m.
       let r = (d.reaches t).complete i j m in
       (r.0, r.1, ap (table_match T) r.2 ∙ is_match_state T f p j is);

@@ -24,7 +24,7 @@ pub joins_empty_then : (back : Bool) (x : Tree) → Joins back empty x x
 joins_empty_then back x = record {
   parts = λ t i j m. (i, empty_meant back t i i refl, m);
   joined = λ t i j m. let P : ℕ → Type 0 = λ k. IsMeant back t x k j in subst P (sym (meant_empty back t i m.0 m.1)) m.2;
-  reading = λ up f. (tt, f);
+  reading = λ f. (tt, f);
   ends = λ up looks h i. append-nil _;
 }
 
@@ -32,7 +32,7 @@ pub joins_then_empty : (back : Bool) (x : Tree) → Joins back x empty x
 joins_then_empty back x = record {
   parts = λ t i j m. (j, m, empty_meant back t j j refl);
   joined = λ t i j m. let P : ℕ → Type 0 = λ k. IsMeant back t x i k in subst P (meant_empty back t m.0 j m.2) m.1;
-  reading = λ up f. (f, tt);
+  reading = λ f. (f, tt);
   ends = λ up looks h i. flat_map_each _;
 }
 

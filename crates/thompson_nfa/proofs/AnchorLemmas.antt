@@ -15,11 +15,12 @@ use Rattle.hir_core.proofs.PreferredEndsLemmas.{preferred_ends_sound}
 use Rattle.nfa_core.specs.Ways.{Text, span}
 use Rattle.nfa_core.specs.Drafted.{Table}
 use Rattle.nfa_core.specs.BuilderStates.{empty_part}
-use Rattle.thompson_nfa.specs.Denotes.{seen, IsMeant, Reaches, Orders}
+use Rattle.thompson_nfa.specs.Denotes.{seen, IsMeant, Reaches, Halts, Orders}
 use Rattle.thompson_nfa.specs.Compilations.{IsChoice, choices_from, places_from, IsReadTo, is_anchored_tree}
 use Rattle.thompson_nfa.specs.Assembled.{AllAnchored}
 use Rattle.thompson_nfa.proofs.WayLemmas.{goes_empty}
 use Rattle.thompson_nfa.proofs.ReachLemmas.{reaches_pass}
+use Rattle.thompson_nfa.proofs.HaltLemmas.{halts_pass}
 use Rattle.thompson_nfa.proofs.OrderLemmas.{orders_leaf}
 
 pub of_member : {A : Type 0} (P : A → Type 0) (xs : List A) (n : ℕ) (x : A) → All P xs → slice_get xs n ≡ Some x → P x
@@ -28,6 +29,9 @@ of_member P xs n x all got = subst P (get_or_from_slice_get xs n x x got) (All-g
 -- the state that stands for the anchored start
 pub reaches_at_once : (back : Bool) (t : Text) (T : Table) (u c : ℕ) → T u ≡ empty_part c → Reaches back t T u c (λ i j. i ≡ j)
 reaches_at_once back t T u c is = reaches_pass back t T u c (goes_empty back t T u c is)
+
+pub halts_at_once : (back : Bool) (t : Text) (T : Table) (u c : ℕ) → T u ≡ empty_part c → Halts back t T u c (λ i j. i ≡ j)
+halts_at_once back t T u c is = halts_pass back t T u c (goes_empty back t T u c is)
 
 pub orders_at_once : (t : Text) (T : Table) (u c : ℕ) → T u ≡ empty_part c → Orders t T u c (λ i. i ∷ [])
 orders_at_once t T u c is = orders_leaf t T u c (λ i. i ∷ []) (goes_empty false t T u c is)

@@ -17,6 +17,7 @@ use Rattle.thompson_nfa.specs.Compilations.{HasOneMatch, IsCompiled}
 use Rattle.thompson_nfa.specs.Assembled.{IsAssembled, AllAnchored}
 use Rattle.thompson_nfa.proofs.AssembledSpans.{assembled_finds_spans}
 use Rattle.thompson_nfa.proofs.AssembledOrders.{assembled_finds_in_order}
+use Rattle.thompson_nfa.proofs.AssembledReturns.{assembled_has_no_return}
 use Rattle.thompson_nfa.proofs.AssembledParts.{assembled_has_one_match, assembled_states, assembled_patterns, assembled_always_anchored}
 use Rattle.thompson_nfa.proofs.AssembledEmpty.{assembled_empty}
 
@@ -52,6 +53,7 @@ assembled_is_compiled o xs b A U is apart reached n same utf8 terminator groups 
   groups = groups ∙ is.groups;
   spans = assembled_finds_spans o xs b A U is n same;
   order = λ up. assembled_finds_in_order o xs b A U is up n same;
+  no_return = λ reading. assembled_has_no_return o xs b A U is reading n same;
   matches = λ p inside.
       let P : Automaton → Type 0 = λ a. HasOneMatch a p in subst P (sym same) (assembled_has_one_match o xs b A U is p inside);
   empty =

@@ -6,16 +6,15 @@ use Rattle.look_core.specs.Terminators.{Terminator}
 use Rattle.hir_core.specs.Tree.{Tree}
 use Rattle.hir_core.specs.PreferredEnds.{preferred_ends}
 use Rattle.hir_core.specs.Facts.{LoopsRead}
-use Rattle.nfa_core.specs.Walks.{Lists, HasNoneTwice, distinct}
-use Rattle.nfa_core.specs.Runs.{IsChain}
+use Rattle.nfa_core.specs.Walks.{Lists, distinct}
 use Rattle.nfa_core.specs.Places.{same_pair}
 use Rattle.nfa_core.specs.Nfa.{Automaton}
 use Rattle.nfa_core.specs.NfaValue.{Nfa}
-use Rattle.nfa_core.specs.Ways.{Text, span, ways, ends_from}
+use Rattle.nfa_core.specs.Ways.{Text, span, ends_from}
 use Rattle.nfa_core.specs.BuilderStates.{Assembly, part_at}
 use Rattle.nfa_core.specs.Renaming.{new_name, automaton_of}
 use Rattle.nfa_core.specs.Drafted.{table_ways, table_match}
-use Rattle.nfa_core.proofs.RenamingEnds.{ends_listed, chains_once}
+use Rattle.nfa_core.proofs.RenamingEnds.{ends_listed}
 use Rattle.thompson_nfa.specs.Configs.{Options, reverse_of}
 use Rattle.thompson_nfa.specs.Denotes.{seen}
 use Rattle.thompson_nfa.specs.Compilations.{choices_from, places_from, start_of, FindsInOrder}
@@ -67,21 +66,6 @@ module _ (o : Options) (xs : List Tree) (b : Assembly) (A U : ℕ) (is : IsAssem
     anchored_listed : (t : Text) (i : ℕ) → i ≤ t.end → ends_from auto t (i, new_name b.parts A) ≡ distinct same_pair (choices_from 0 xs t i)
     anchored_listed t i place = ends_are_listed t A i (choices_from 0 xs t i) is.can_build.anchored_there place (anchored_walk t i)
 
-    -- the walk from the unanchored start ends in any text
-    unanchored_walk : (t : Text) (i : ℕ) → (l : List (ℕ × ℕ)) × ListedFirsts t (part_at b.parts) ((i, U) ∷ []) l
-    unanchored_walk t i = elim before_up [
-      | inl x ↦ (
-        flat_map (choices_from 0 xs t) (i ∷ []),
-        listed_behind t (part_at b.parts) U A (choices_from 0 xs t) (anchored_walk t) (λ k. k ∷ []) i
-            (orders_at_once t (part_at b.parts) U A x.1),
-      )
-      | inr x ↦ (
-        flat_map (choices_from 0 xs t) (tried t i),
-        listed_behind t (part_at b.parts) U A (choices_from 0 xs t) (anchored_walk t) (tried t) i
-            (tries_in_order t (part_at b.parts) U A x.1),
-      )
-    ]
-
     all_walked : (term : Terminator) (h : List ℕ) (s f i : ℕ) → i ≤ f → f ≤ length h → All (λ byte. byte < 256) h →
         ListedFirsts (span term h s f) (part_at b.parts) ((i, U) ∷ []) (flat_map (choices_from 0 xs (span term h s f)) (places_from i (suc f - i)))
     all_walked term h s f i high within bytes =
@@ -101,12 +85,6 @@ module _ (o : Options) (xs : List Tree) (b : Assembly) (A U : ℕ) (is : IsAssem
         ends_are_listed (span term h s f) U i (flat_map (choices_from 0 xs (span term h s f)) (places_from i (suc f - i))) is.can_build.unanchored_there high
         (all_walked term h s f i high within bytes)
 
-    returns_never : (t : Text) (i : ℕ) (r : List (ℕ × ℕ)) → i ≤ t.end → IsChain same_pair (ways auto t) (i, new_name b.parts U) r →
-        HasNoneTwice same_pair ((i, new_name b.parts U) ∷ r)
-    returns_never t i r place chain =
-        let w = unanchored_walk t i in
-        chains_once b A U is.can_build t U i is.can_build.unanchored_there place w.1.0 (turned t U i w.1.0 w.1.1) r chain
-
   finds_in_order : (n : Nfa) → n.automaton ≡ auto → FindsInOrder xs n
   finds_in_order n same = record {
     patterns = λ p x got reading t i place.
@@ -119,10 +97,6 @@ module _ (o : Options) (xs : List Tree) (b : Assembly) (A U : ℕ) (is : IsAssem
         let P : Automaton → Type 0 = λ a. ends_from a (span n.terminator h s f) (i, a.start_unanchored)
         ≡ distinct same_pair (flat_map (choices_from 0 xs (span n.terminator h s f)) (places_from i (suc f - i))) in
         subst P (sym same) (unanchored_listed reading n.terminator h s f i high within bytes);
-    no_return = λ reading t i r place chain.
-        let C : Automaton → Type 0 = λ a. IsChain same_pair (ways a t) (i, a.start_unanchored) r in
-        let P : Automaton → Type 0 = λ a. HasNoneTwice same_pair ((i, a.start_unanchored) ∷ r) in
-        subst P (sym same) (returns_never reading t i r place (subst C same chain));
   }
 
 pub assembled_finds_in_order : (o : Options) (xs : List Tree) (b : Assembly) (A U : ℕ) → IsAssembled o xs b A U → reverse_of o ≡ false →

@@ -11,9 +11,10 @@ use Rattle.nfa_core.specs.Ways.{Text}
 use Rattle.nfa_core.specs.Drafted.{Table, table_match}
 use Rattle.nfa_core.proofs.MemberLemmas.{none_in, has_cons, has_same, has_later}
 use Rattle.nfa_core.proofs.PairLemmas.{pairs_equal}
-use Rattle.thompson_nfa.specs.Denotes.{at, seen, IsMeant, Leads, Passes, Reaches, Orders, Denotes}
+use Rattle.thompson_nfa.specs.Denotes.{at, seen, IsMeant, Leads, Passes, Reaches, ComesToEnd, Halts, Orders, Denotes}
 use Rattle.thompson_nfa.proofs.WayLemmas.{each_at, at_append, Goes, goes_union}
 use Rattle.thompson_nfa.proofs.LeadLemmas.{Chain, goes_begins, goes_leads, passes_later}
+use Rattle.thompson_nfa.proofs.HaltLemmas.{Ended, ended_none, ended_append, ended_on}
 use Rattle.thompson_nfa.proofs.OrderLemmas.{Listed, ListedFirsts, firsts_of, firsts_parts, firsts_on}
 use Rattle.thompson_nfa.proofs.MeantLemmas.{meant_never, alt_meant, meant_alt}
 
@@ -85,6 +86,18 @@ module _ (back : Bool) (T : Table) (t : Text) (e : ℕ) where
         (λ d f. all_sound qs xs all i b.way b.rest m b.has d (ap (table_match T) f ∙ final)) (λ j y. y);
   }
 
+  each_ends : (qs : List ℕ) (xs : List Tree) → AllDenote back T e qs xs → LoopsRead (alternation xs) → (i : ℕ) →
+      ((j : ℕ) → IsMeant back t (alternation xs) i j → ComesToEnd back t T (j, e)) → Ended back t T (each_at qs i)
+  each_ends _ _ none_denote f i all = ended_none back t T
+  each_ends _ _ (more_denote q x qs xs d ds) f i all =
+      ended_append back t T ((i, q) ∷ []) (each_at qs i)
+      ((d.halts f.0 t).halts i (λ j m. all j (alt_meant back t x (alternation xs) i j (inl m))))
+      (each_ends qs xs ds f.1 i (λ j m. all j (alt_meant back t x (alternation xs) i j (inr m))))
+
+  all_halts : (u : ℕ) (qs : List ℕ) (xs : List Tree) → AllDenote back T e qs xs → Goes back t T u (each_at qs) → LoopsRead (alternation xs) →
+      Halts back t T u e (IsMeant back t (alternation xs))
+  all_halts u qs xs all g f = record { halts = λ i ends. ended_on back t T u (each_at qs) i g (each_ends qs xs all f i ends) }
+
 all_lists : (T : Table) (t : Text) (e : ℕ) (qs : List ℕ) (xs : List Tree) → AllDenote false T e qs xs → LoopsRead (alternation xs) → (i : ℕ) (l : List (ℕ × ℕ)) →
     Listed t T (at e (preferred_ends t.holds (seen t) (alternation xs) i)) l → ListedFirsts t T (each_at qs i) l
 all_lists T t e _ _ none_denote f i l walk = firsts_of t T [] l walk
@@ -105,5 +118,6 @@ pub denotes_alternation : (back : Bool) (T : Table) (u e : ℕ) (qs : List ℕ) 
     Denotes back T u e (alternation xs)
 denotes_alternation back T u e qs xs is all = record {
   reaches = λ t. all_reaches back T t e u qs xs all (goes_union back t T u qs is);
+  halts = λ f t. all_halts back T t e u qs xs all (goes_union back t T u qs is) f;
   orders = λ up f t. all_orders back T t u e qs xs up all (goes_union back t T u qs is) f;
 }

@@ -13,14 +13,15 @@ use Rattle.nfa_core.specs.Ways.{Text}
 use Rattle.nfa_core.specs.Drafted.{Table, table_match}
 use Rattle.nfa_core.proofs.MemberLemmas.{none_in, has_cons, has_same, has_first, has_later, has_one}
 use Rattle.nfa_core.proofs.PairLemmas.{pairs_equal, names_equal, from_map}
-use Rattle.thompson_nfa.specs.Denotes.{seen, Leads}
+use Rattle.thompson_nfa.specs.Denotes.{seen, Leads, ComesToEnd}
 use Rattle.thompson_nfa.specs.Compilations.{IsChoice, choices_from}
 use Rattle.thompson_nfa.specs.Assembled.{Accepts, AcceptAll, LeadsToAll}
 use Rattle.thompson_nfa.proofs.WayLemmas.{each_at, Goes, goes_union, goes_fail}
 use Rattle.thompson_nfa.proofs.LeadLemmas.{leads_here, goes_begins, goes_leads}
+use Rattle.thompson_nfa.proofs.HaltLemmas.{Ended, ended_none, ended_append, ended_on}
 use Rattle.thompson_nfa.proofs.OrderLemmas.{ListedFirsts, firsts_of, firsts_append, firsts_on}
 use Rattle.thompson_nfa.proofs.AcceptLemmas.{Finds}
-use Rattle.thompson_nfa.proofs.FindLemmas.{FindsChoices, found_behind, accepts_finds, accepts_lists}
+use Rattle.thompson_nfa.proofs.FindLemmas.{FindsChoices, found_behind, accepts_finds, accepts_ends, accepts_lists}
 
 -- ---- each tree has its start
 
@@ -125,6 +126,25 @@ module _ (back : Bool) (t : Text) (T : Table) where
             let m = (accepts_finds back t T (get_or starts x.0 0) x.0 x.1 a.accepts).sound i e (subst P (sym x.3) o.2) in
             (x.1, ap (slice_get xs) m.0 ∙ x.2, m.1);
       }
+
+-- ---- walks that come to their end
+
+module _ (back : Bool) (t : Text) (T : Table) where
+  starts_end : (p : ℕ) (starts : List ℕ) (xs : List Tree) (i : ℕ) → AcceptAll back T p starts xs → All LoopsRead xs → Ended back t T (each_at starts i)
+  starts_end p [] [] i a reads = ended_none back t T
+  starts_end p [] (x ∷ xs) i a reads = absurd a
+  starts_end p (s ∷ starts) [] i a reads = absurd a
+  starts_end p (s ∷ starts) (x ∷ xs) i a reads =
+      ended_append back t T ((i, s) ∷ []) (each_at starts i) (accepts_ends back t T s p x i a.0 (All-head LoopsRead x xs reads))
+      (starts_end (suc p) starts xs i a.1 (All-tail LoopsRead x xs reads))
+
+  enters_end : (c : ℕ) (starts : List ℕ) (i : ℕ) → LeadsToAll T c starts → Ended back t T (each_at starts i) → ComesToEnd back t T (i, c)
+  enters_end c starts i (inl is) walk = let P : List ℕ → Type 0 = λ qs. Ended back t T (each_at qs i) in subst P is walk
+  enters_end c starts i (inr (inl is)) walk = ended_on back t T c (each_at starts) i (goes_union back t T c starts is) walk
+  enters_end c starts i (inr (inr is)) walk = ended_on back t T c (λ k. []) i (goes_fail back t T c is.1) (ended_none back t T)
+
+  pub all_end : (c : ℕ) (starts : List ℕ) (xs : List Tree) (i : ℕ) → LeadsToAll T c starts → AcceptAll back T 0 starts xs → All LoopsRead xs → ComesToEnd back t T (i, c)
+  all_end c starts xs i leads accept reads = enters_end c starts i leads (starts_end 0 starts xs i accept reads)
 
 -- ---- in order
 

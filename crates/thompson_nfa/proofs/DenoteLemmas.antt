@@ -14,6 +14,7 @@ use Rattle.thompson_nfa.specs.Denotes.{at, seen, IsMeant, Denotes}
 use Rattle.thompson_nfa.proofs.WayLemmas.{Goes, byte_ends, to_one, goes_empty, goes_capture_start, goes_capture_end, goes_fail, goes_look, goes_range, goes_sparse}
 use Rattle.thompson_nfa.proofs.ReachLemmas.{reaches_here, reaches_like, reaches_join, reaches_leaf, reaches_nowhere}
 use Rattle.thompson_nfa.proofs.OrderLemmas.{orders_here, orders_like, orders_join, orders_leaf, orders_nowhere}
+use Rattle.thompson_nfa.proofs.HaltLemmas.{halts_here, halts_like, halts_join, halts_leaf, halts_nowhere}
 use Rattle.thompson_nfa.proofs.MeantLemmas.{turned, meant_map, empty_meant, meant_empty, meant_never, look_meant, meant_look, class_ends_up, class_meant, meant_class}
 
 goes_up : (back : Bool) (t : Text) (T : Table) (s : ℕ) (to : ℕ → List (ℕ × ℕ)) → back ≡ false → Goes back t T s to → Goes false t T s to
@@ -24,7 +25,7 @@ goes_up true t T s to e g = cc
 pub record Joins (back : Bool) (x1 x2 y : Tree) : Type 0 where
   pub parts : (t : Text) (i j : ℕ) → IsMeant back t y i j → (k : ℕ) × IsMeant back t x1 i k × IsMeant back t x2 k j
   pub joined : (t : Text) (i j : ℕ) → (k : ℕ) × IsMeant back t x1 i k × IsMeant back t x2 k j → IsMeant back t y i j
-  pub reading : back ≡ false → LoopsRead y → LoopsRead x1 × LoopsRead x2
+  pub reading : LoopsRead y → LoopsRead x1 × LoopsRead x2
   pub ends : back ≡ false → (looks : Looks) (h : List ℕ) (i : ℕ) → flat_map (preferred_ends looks h x2) (preferred_ends looks h x1 i) ≡ preferred_ends looks h y i
 
 module _ (back : Bool) (T : Table) where
@@ -32,8 +33,12 @@ module _ (back : Bool) (T : Table) where
   denotes_join s m e x1 x2 y j a b = record {
     reaches = λ t. reaches_like back t T s e (λ i k. (l : ℕ) × IsMeant back t x1 i l × IsMeant back t x2 l k) (IsMeant back t y) (j.parts t) (j.joined t)
         (reaches_join back t T s m e (IsMeant back t x1) (IsMeant back t x2) (a.reaches t) (b.reaches t));
+    halts = λ f t.
+        let r = j.reading f in
+        halts_like back t T s e (λ i k. (l : ℕ) × IsMeant back t x1 i l × IsMeant back t x2 l k) (IsMeant back t y) (j.joined t)
+        (halts_join back t T s m e (IsMeant back t x1) (IsMeant back t x2) (a.halts r.0 t) (b.halts r.1 t));
     orders = λ up f t.
-        let r = j.reading up f in
+        let r = j.reading f in
         let p : ℕ → List ℕ = preferred_ends t.holds (seen t) x1 in
         let q : ℕ → List ℕ = preferred_ends t.holds (seen t) x2 in
         orders_like t T s e (λ i. flat_map q (p i)) (preferred_ends t.holds (seen t) y) (j.ends up t.holds (seen t))
@@ -42,12 +47,13 @@ module _ (back : Bool) (T : Table) where
 
   -- a tree that means the same, where read up it prefers the same ends
   pub denotes_like_meaning : (s e : ℕ) (x y : Tree) → ((looks : Looks) (h : List ℕ) (i j : ℕ) → Means looks h y i j → Means looks h x i j) →
-      ((looks : Looks) (h : List ℕ) (i j : ℕ) → Means looks h x i j → Means looks h y i j) → (back ≡ false → LoopsRead y → LoopsRead x) →
+      ((looks : Looks) (h : List ℕ) (i j : ℕ) → Means looks h x i j → Means looks h y i j) → (LoopsRead y → LoopsRead x) →
       (back ≡ false → (looks : Looks) (h : List ℕ) (i : ℕ) → preferred_ends looks h x i ≡ preferred_ends looks h y i) → Denotes back T s e x → Denotes back T s e y
   denotes_like_meaning s e x y narrow wide reading same a = record {
     reaches = λ t. reaches_like back t T s e (IsMeant back t x) (IsMeant back t y) (meant_map y x narrow back t) (meant_map x y wide back t) (a.reaches t);
+    halts = λ f t. halts_like back t T s e (IsMeant back t x) (IsMeant back t y) (meant_map x y wide back t) (a.halts (reading f) t);
     orders = λ up f t.
-        orders_like t T s e (preferred_ends t.holds (seen t) x) (preferred_ends t.holds (seen t) y) (same up t.holds (seen t)) (a.orders up (reading up f) t);
+        orders_like t T s e (preferred_ends t.holds (seen t) x) (preferred_ends t.holds (seen t) y) (same up t.holds (seen t)) (a.orders up (reading f) t);
   }
 
   -- a tree that prefers the same ends
@@ -58,7 +64,7 @@ module _ (back : Bool) (T : Table) where
       preferred_ends_sound looks h x i j (subst P (sym (same looks h i)) (preferred_ends_complete looks h y i j m)))
       (λ looks h i j m. let P : List ℕ → Type 0 = λ l. HasEnd l j in
       preferred_ends_sound looks h y i j (subst P (same looks h i) (preferred_ends_complete looks h x i j m)))
-      (λ up f. reading f) (λ up. same) a
+      reading (λ up. same) a
 
   -- one state that leads to e at these places
   pub denotes_leaf : (s e : ℕ) (x : Tree) (ends : Text → ℕ → List ℕ) → ((t : Text) → Goes back t T s (λ i. at e (ends t i))) →
@@ -66,6 +72,7 @@ module _ (back : Bool) (T : Table) where
       (back ≡ false → (t : Text) (i : ℕ) → ends t i ≡ preferred_ends t.holds (seen t) x i) → Denotes back T s e x
   denotes_leaf s e x ends g narrow wide same = record {
     reaches = λ t. reaches_like back t T s e (λ i j. HasEnd (ends t i) j) (IsMeant back t x) (narrow t) (wide t) (reaches_leaf back t T s e (ends t) (g t));
+    halts = λ f t. halts_like back t T s e (λ i j. HasEnd (ends t i) j) (IsMeant back t x) (wide t) (halts_leaf back t T s e (ends t) (g t));
     orders = λ up f t. orders_like t T s e (ends t) (preferred_ends t.holds (seen t) x) (same up t)
         (orders_leaf t T s e (ends t) (goes_up back t T s (λ i. at e (ends t i)) up (g t)));
   }
@@ -74,6 +81,7 @@ module _ (back : Bool) (T : Table) where
   pub denotes_empty_here : (s : ℕ) → Denotes back T s s empty
   denotes_empty_here s = record {
     reaches = λ t. reaches_like back t T s s (λ i j. i ≡ j) (IsMeant back t empty) (meant_empty back t) (empty_meant back t) (reaches_here back t T s);
+    halts = λ f t. halts_like back t T s s (λ i j. i ≡ j) (IsMeant back t empty) (empty_meant back t) (halts_here back t T s);
     orders = λ up f t. orders_here t T s;
   }
 
@@ -104,6 +112,7 @@ module _ (back : Bool) (T : Table) where
   pub denotes_never : (s e : ℕ) → T s ≡ fail_part → Denotes back T s e never
   denotes_never s e is = record {
     reaches = λ t. reaches_like back t T s e (λ i j. ⊥) (IsMeant back t never) (meant_never back t) (λ i j h. absurd h) (reaches_nowhere back t T s e (goes_fail back t T s is));
+    halts = λ f t. halts_like back t T s e (λ i j. ⊥) (IsMeant back t never) (λ i j h. absurd h) (halts_nowhere back t T s e (goes_fail back t T s is));
     orders = λ up f t. orders_nowhere t T s e (goes_up back t T s (λ i. []) up (goes_fail back t T s is));
   }
 

@@ -6,7 +6,7 @@ use Rattle.hir_core.specs.Facts.{LoopsRead}
 use Rattle.nfa_core.specs.Runs.{last_or}
 use Rattle.nfa_core.specs.Ways.{Text}
 use Rattle.nfa_core.specs.Drafted.{Table, table_match}
-use Rattle.thompson_nfa.specs.Denotes.{seen, IsMeant, Leads, Reaches}
+use Rattle.thompson_nfa.specs.Denotes.{seen, IsMeant, Leads, Reaches, ComesToEnd}
 use Rattle.thompson_nfa.specs.Assembled.{Accepts}
 use Rattle.thompson_nfa.proofs.LeadLemmas.{leads_trans}
 use Rattle.thompson_nfa.proofs.OrderLemmas.{ListedFirsts}
@@ -48,6 +48,10 @@ module _ (back : Bool) (t : Text) (T : Table) where
             let P : ℕ → Type 0 = λ k. IsMeant back t x i k in
             (ap (λ (w : ℕ × ℕ). w.1) r.2, subst P (sym (ap (λ (w : ℕ × ℕ). w.0) r.2)) r.1);
       }
+
+-- the walk of a stack comes to its end from where a pattern's tree begins
+pub accepts_ends : (back : Bool) (t : Text) (T : Table) (s p : ℕ) (x : Tree) (i : ℕ) → Accepts back T s p x → LoopsRead x → ComesToEnd back t T (i, s)
+accepts_ends back t T s p x i a reads = (finds_tree back T s a.end p x a.matches a.denotes).ends reads t i
 
 -- what is listed where a pattern's tree begins
 pub accepts_lists : (t : Text) (T : Table) (s p : ℕ) (x : Tree) (i : ℕ) → Accepts false T s p x → LoopsRead x →

@@ -1,6 +1,7 @@
 pub mod WayLemmas
 pub mod LeadLemmas
 pub mod ReachLemmas
+pub mod HaltLemmas
 pub mod FirstsLemmas
 pub mod OrderLemmas
 pub mod DownLemmas
@@ -41,6 +42,7 @@ pub mod TriedOrders
 pub mod AnchorLemmas
 pub mod AssembledSpans
 pub mod AssembledOrders
+pub mod AssembledReturns
 pub mod AssembledParts
 pub mod AssembledEmpty
 pub mod AssembledCompiled

@@ -1,20 +1,21 @@
 -- Repetitions: copies one after the other, nested choices, and loops.
-use Rattle.std.proofs.Common.{◌≡◌, ℕ, zero, suc, Bool, false, List, length, Option, Some, None, ◌⊎◌, inl, inr, refl, arith}
+use Rattle.std.proofs.Common.{◌≡◌, ℕ, zero, suc, ◌-◌, ◌<◌, Bool, true, false, List, length, Option, Some, None, ◌⊎◌, inl, inr, refl, arith}
 use Rattle.std.specs.List.{flat_map}
 use Rattle.hir_core.specs.Tree.{Tree, empty, repetition}
 use Rattle.hir_core.specs.Means.{Looks, Rounds, AtMost}
 use Rattle.hir_core.specs.PreferredEnds.{preferred_ends, in_order}
-use Rattle.hir_core.specs.Facts.{LoopsRead}
+use Rattle.hir_core.specs.Facts.{LoopsRead, IsAboveZero, minimum_len}
 use Rattle.hir_core.proofs.SpanLemmas.{IsSpan-Means}
 use Rattle.hir_core.proofs.MinimumLenLemmas.{reads_a_byte}
 use Rattle.hir_core.proofs.PreferredEndsLemmas.{preferred_ends_sound}
 use Rattle.hir_core.proofs.RepetitionLemmas.{repetition_more}
 use Rattle.nfa_core.specs.Ways.{Text}
 use Rattle.nfa_core.specs.Drafted.{Table}
-use Rattle.thompson_nfa.specs.Denotes.{seen, choice, IsMeant, Reaches, Orders, Denotes}
+use Rattle.thompson_nfa.specs.Denotes.{seen, choice, IsMeant, Reaches, Halts, Orders, Denotes}
 use Rattle.thompson_nfa.proofs.WayLemmas.{both_at, Goes, goes_choice}
 use Rattle.thompson_nfa.proofs.ReachLemmas.{reaches_like, reaches_join, reaches_choice, reaches_rounds}
 use Rattle.thompson_nfa.proofs.OrderLemmas.{orders_like, orders_join, orders_choice, orders_rounds}
+use Rattle.thompson_nfa.proofs.HaltLemmas.{halts_like, halts_join, halts_choice, halts_rounds}
 use Rattle.thompson_nfa.proofs.MeantLemmas.{MeantRounds, meant_rounds, rounds_meant}
 use Rattle.thompson_nfa.proofs.DenoteLemmas.{Joins, denotes_join, denotes_empty_here}
 use Rattle.thompson_nfa.proofs.SameLemmas.{IsSame, denotes_same}
@@ -55,13 +56,27 @@ joins_copy back low most greedy x = record {
   joined = λ t i j m.
       let r = meant_rounds back t low most greedy x m.0 j m.2 in
       rounds_meant back t (suc low) (one_more most) greedy x i j (suc r.0, omega arith, at_most_more r.0 most r.2, (m.0, m.1, r.3));
-  reading = λ up f. copy_reading low most greedy x f;
+  reading = λ f. copy_reading low most greedy x f;
   ends = λ up looks h i. copy_ends looks h low most greedy x i;
 }
 
 -- no round is owed and none is left
 pub same_stopped : (greedy : Bool) (x : Tree) → IsSame empty (repetition 0 (Some 0) greedy x)
 same_stopped greedy x = record { reading = λ f. tt; ends = λ looks h i. refl }
+
+-- what is left to read from a place: up to the end of what is seen, or down to the first byte
+abbrev left_to_read : Bool → Text → ℕ → ℕ
+left_to_read false t i = length (seen t) - i
+left_to_read true t i = i
+
+-- a tree that reads a byte leaves less
+reads_on : (back : Bool) (t : Text) (x : Tree) → IsAboveZero (minimum_len x) → (i k : ℕ) → IsMeant back t x i k → left_to_read back t k < left_to_read back t i
+reads_on false t x above i k m =
+    let longer = reads_a_byte t.holds (seen t) x above i k m in
+    let span = IsSpan-Means t.holds (seen t) x i k m in
+    let within = span.within in
+    omega arith
+reads_on true t x above i k m = reads_a_byte t.holds t.haystack x above k i m.0
 
 module _ (back : Bool) (T : Table) where
   pub denotes_copy : (s m e low : ℕ) (most : Option ℕ) (greedy : Bool) (x : Tree) → Denotes back T s m x → Denotes back T m e (repetition low most greedy x) →
@@ -104,6 +119,13 @@ module _ (back : Bool) (T : Table) where
         (reaches_choice back t T greedy u a e (Both t) g
         (reaches_join back t T a m e (IsMeant back t x) (IsMeant back t (repetition 0 (Some left) greedy x)) (body.reaches t) (rest.reaches t)))
 
+    few_halts : (t : Text) → Goes back t T u (both_at greedy a e) → LoopsRead x → Halts back t T u e (IsMeant back t (repetition 0 (Some (suc left)) greedy x))
+    few_halts t g f =
+        halts_like back t T u e (λ i j. Both t i j ⊎ (i ≡ j)) (IsMeant back t (repetition 0 (Some (suc left)) greedy x))
+        (λ i j y. rounds_meant back t 0 (Some (suc left)) greedy x i j (rounds_few t i j y))
+        (halts_choice back t T greedy u a e (Both t) g
+        (halts_join back t T a m e (IsMeant back t x) (IsMeant back t (repetition 0 (Some left) greedy x)) (body.halts f t) (rest.halts f t)))
+
   few_orders : (u a m e left : ℕ) (greedy : Bool) (x : Tree) → Denotes back T a m x → Denotes back T m e (repetition 0 (Some left) greedy x) → (t : Text) → back ≡ false → LoopsRead x →
       Goes false t T u (both_at greedy a e) → Orders t T u e (preferred_ends t.holds (seen t) (repetition 0 (Some (suc left)) greedy x))
   few_orders u a m e left greedy x body rest t up f g =
@@ -116,6 +138,7 @@ module _ (back : Bool) (T : Table) where
       Denotes back T m e (repetition 0 (Some left) greedy x) → Denotes back T u e (repetition 0 (Some (suc left)) greedy x)
   denotes_optional u a m e left greedy x is body rest = record {
     reaches = λ t. few_reaches u a m e left greedy x body rest t (goes_choice back t T u greedy a e is);
+    halts = λ f t. few_halts u a m e left greedy x body rest t (goes_choice back t T u greedy a e is) f;
     orders = λ up f t. few_orders u a m e left greedy x body rest t up f (goes_choice false t T u greedy a e is);
   }
 
@@ -137,6 +160,14 @@ module _ (back : Bool) (T : Table) where
       (longer, omega arith))
       (repetition_more t.holds (seen t) greedy x f.0) (goes_choice false t T u greedy a e loop) (body.orders up f.1 t) q (goes_choice false t T q greedy a e entry)
 
+  star_halts : (q u a e : ℕ) (greedy : Bool) (x : Tree) → T u ≡ choice greedy a e → T q ≡ choice greedy a e → Denotes back T a u x → (t : Text) →
+      LoopsRead (repetition 0 None greedy x) → Halts back t T q e (IsMeant back t (repetition 0 None greedy x))
+  star_halts q u a e greedy x loop entry body t f =
+      halts_like back t T q e (λ i j. (n : ℕ) × Rounds (IsMeant back t x) n i j) (IsMeant back t (repetition 0 None greedy x))
+      (λ i j r. rounds_meant back t 0 None greedy x i j (r.0, omega arith, tt, r.1))
+      (halts_rounds back t T greedy a u e (IsMeant back t x) (left_to_read back t) (reads_on back t x f.0) (goes_choice back t T u greedy a e loop) (body.halts f.1 t) q
+      (goes_choice back t T q greedy a e entry))
+
   -- a loop, entered at any state that chooses between its body and e
   pub denotes_star : (q u a e : ℕ) (greedy : Bool) (x : Tree) → T u ≡ choice greedy a e → T q ≡ choice greedy a e → Denotes back T a u x →
       Denotes back T q e (repetition 0 None greedy x)
@@ -146,6 +177,7 @@ module _ (back : Bool) (T : Table) where
         (λ i j m. let r = meant_rounds back t 0 None greedy x i j m in (r.0, r.3))
         (λ i j r. rounds_meant back t 0 None greedy x i j (r.0, omega arith, tt, r.1))
         (reaches_rounds back t T greedy a u e (IsMeant back t x) (goes_choice back t T u greedy a e loop) (body.reaches t) q (goes_choice back t T q greedy a e entry));
+    halts = λ f t. star_halts q u a e greedy x loop entry body t f;
     orders = λ up f t. star_orders q u a e greedy x loop entry body t up f;
   }
 

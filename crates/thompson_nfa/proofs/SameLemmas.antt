@@ -37,19 +37,19 @@ pub joins_same : (back : Bool) (x1 x2 y z : Tree) → IsSame y z → Joins back 
 joins_same back x1 x2 y z same j = record {
   parts = λ t i k m. j.parts t i k (meant_map z y (same_narrow y z same) back t i k m);
   joined = λ t i k m. meant_map y z (same_wide y z same) back t i k (j.joined t i k m);
-  reading = λ up f. j.reading up (same.reading f);
+  reading = λ f. j.reading (same.reading f);
   ends = λ up looks h i. j.ends up looks h i ∙ same.ends looks h i;
 }
 
 -- two parts: the first is done first reading up, the second reading down
 pub joins_cat_up : (x y : Tree) → Joins false x y (cat x y)
-joins_cat_up x y = record { parts = λ t i j m. m; joined = λ t i j m. m; reading = λ up f. f; ends = λ up looks h i. refl }
+joins_cat_up x y = record { parts = λ t i j m. m; joined = λ t i j m. m; reading = λ f. f; ends = λ up looks h i. refl }
 
 pub joins_cat_down : (x y : Tree) → Joins true y x (cat x y)
 joins_cat_down x y = record {
   parts = λ t i j m. meant_cat_down t x y i j m;
   joined = λ t i j m. cat_meant_down t x y i j m.0 m.1 m.2;
-  reading = λ up f. cc;
+  reading = λ f. (f.1, f.0);
   ends = λ up looks h i. cc;
 }
 

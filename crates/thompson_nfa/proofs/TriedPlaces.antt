@@ -10,11 +10,12 @@ use Rattle.hir_core.specs.PreferredEnds.{Has as HasEnd}
 use Rattle.hir_core.proofs.HasLemmas.{Has-if}
 use Rattle.nfa_core.specs.Ways.{Text, reads, with_place}
 use Rattle.nfa_core.specs.Drafted.{Table}
-use Rattle.thompson_nfa.specs.Denotes.{at, Reaches}
+use Rattle.thompson_nfa.specs.Denotes.{at, Reaches, Halts}
 use Rattle.thompson_nfa.specs.Compilations.{IsReadTo}
 use Rattle.thompson_nfa.specs.Assembled.{TriesEachPlace}
 use Rattle.thompson_nfa.proofs.WayLemmas.{both_at, byte_ends, Goes, goes_empty, goes_choice, goes_sparse}
 use Rattle.thompson_nfa.proofs.ReachLemmas.{reaches_like, reaches_join, reaches_leaf, reaches_pass, reaches_rounds}
+use Rattle.thompson_nfa.proofs.HaltLemmas.{halts_like, halts_join, halts_leaf, halts_pass, halts_rounds}
 
 -- the ranges of the state that reads any byte
 abbrev pub any_range : List (ℕ × ℕ)
@@ -124,6 +125,15 @@ pub read_rounds : (back : Bool) (t : Text) (i k : ℕ) → IsText t → t.start 
 read_rounds false t i k is low high r = let a = r.0 in let b = r.1 in (k - i, up_rounds t is (k - i) i k (omega arith) b)
 read_rounds true t i k is low high r = let a = r.0 in let b = r.1 in (i - k, down_rounds t is (i - k) i k (omega arith) high (omega arith))
 
+-- what is left to read
+abbrev left : Bool → Text → ℕ → ℕ
+left false t i = t.end - i
+left true t i = i
+
+moves_leave_less : (back : Bool) (t : Text) (i k : ℕ) → Moves back t i k → left back t k < left back t i
+moves_leave_less false t i k m = let r = moves_up t i k m in let is = r.0 in let within = r.1 in omega arith
+moves_leave_less true t i k m = let r = moves_down t i k m in let is = r.0 in omega arith
+
 -- ---- the state that tries each place
 
 module _ (back : Bool) (t : Text) (T : Table) (u c : ℕ) (w : TriesEachPlace T u c) where
@@ -142,3 +152,13 @@ module _ (back : Bool) (t : Text) (T : Table) (u c : ℕ) (w : TriesEachPlace T 
 
   pub tries_places : Reaches back t T u c (λ i j. (n : ℕ) × Rounds (Moves back t) n i j)
   tries_places = reaches_rounds back t T false w.byte u c (Moves back t) goes_on moves_on u goes_on
+
+  moves_halt : Halts back t T w.byte u (Moves back t)
+  moves_halt = halts_like back t T w.byte u (λ i j. (k : ℕ) × Moves back t i k × (k ≡ j)) (Moves back t)
+      (λ i j m. let P : ℕ → Type 0 = λ k. Moves back t i k in subst P m.2 m.1)
+      (halts_join back t T w.byte w.back u (Moves back t) (λ i j. i ≡ j)
+      (halts_leaf back t T w.byte w.back (any_ends back t) goes_any)
+      (halts_pass back t T w.back u (goes_empty back t T w.back u w.again)))
+
+  pub tries_halt : Halts back t T u c (λ i j. (n : ℕ) × Rounds (Moves back t) n i j)
+  tries_halt = halts_rounds back t T false w.byte u c (Moves back t) (left back t) (moves_leave_less back t) goes_on moves_halt u goes_on

@@ -55,8 +55,7 @@ pub record FindsSpans (reverse : Bool) (xs : List Tree) (n : Nfa) : Type 0 where
       Has same_pair e (ends_from n.automaton (span n.terminator h s f) (i, n.automaton.start_unanchored))
       ↔ ((k : ℕ) × IsReadTo reverse (span n.terminator h s f) i k × IsChoice reverse xs (span n.terminator h s f) k e)
 
--- In which order they find them, for one who reads up, where the loops of all trees read. No chain from a start comes to a
--- pair twice, so there are no loops that read nothing.
+-- In which order they find them, for one who reads up, where the loops of all trees read.
 pub record FindsInOrder (xs : List Tree) (n : Nfa) : Type 0 where
   pub patterns : (p : ℕ) (x : Tree) → slice_get xs p ≡ Some x → LoopsRead x → (t : Text) (i : ℕ) → i ≤ t.end →
       ends_from n.automaton t (i, start_of n.automaton p) ≡ distinct same_pair (map (λ j. (j, p)) (preferred_ends t.holds (seen t) x i))
@@ -65,8 +64,11 @@ pub record FindsInOrder (xs : List Tree) (n : Nfa) : Type 0 where
   pub unanchored : All LoopsRead xs → (h : List ℕ) (s f i : ℕ) → s ≤ i → i ≤ f → f ≤ length h → All (λ byte. byte < 256) h →
       ends_from n.automaton (span n.terminator h s f) (i, n.automaton.start_unanchored)
       ≡ distinct same_pair (flat_map (choices_from 0 xs (span n.terminator h s f)) (places_from i (suc f - i)))
-  pub no_return : All LoopsRead xs → (t : Text) (i : ℕ) (r : List (ℕ × ℕ)) → i ≤ t.end →
-      IsChain same_pair (ways n.automaton t) (i, n.automaton.start_unanchored) r → HasNoneTwice same_pair ((i, n.automaton.start_unanchored) ∷ r)
+
+-- No chain from the unanchored start comes to a pair twice, so there are no loops that read nothing.
+abbrev pub HasNoReturn : Nfa → Type 0
+HasNoReturn n = (t : Text) (i : ℕ) (r : List (ℕ × ℕ)) → i ≤ t.end → IsChain same_pair (ways n.automaton t) (i, n.automaton.start_unanchored) r →
+    HasNoneTwice same_pair ((i, n.automaton.start_unanchored) ∷ r)
 
 -- there is one state in which the pattern matches
 abbrev pub HasOneMatch : Automaton → ℕ → Type 0
@@ -82,6 +84,7 @@ pub record IsCompiled (o : Options) (xs : List Tree) (n : Nfa) : Type 0 where
   pub groups : n.groups ≡ noted_from (captures_of o) 0 xs []
   pub spans : FindsSpans (reverse_of o) xs n
   pub order : reverse_of o ≡ false → FindsInOrder xs n
+  pub no_return : All LoopsRead xs → HasNoReturn n
   pub matches : (p : ℕ) → p < length xs → HasOneMatch n.automaton p
   pub empty : (has_empty n.automaton ≡ true) ↔ ((p : ℕ) × (x : Tree) × (slice_get xs p ≡ Some x) × Means (λ l i. true) [] x 0 0)
   pub always_anchored : (n.automaton.start_anchored ≡ n.automaton.start_unanchored) ↔ All (λ x. is_anchored_tree (reverse_of o) x ≡ true) xs

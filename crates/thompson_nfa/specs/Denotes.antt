@@ -59,7 +59,17 @@ pub record Orders (t : Text) (table : Table) (s e : ℕ) (ends : ℕ → List �
   pub lists : (i : ℕ) (l : List (ℕ × ℕ)) → Lists (table_ways false t table) (table_match table) (at e (ends i)) l →
       (m : List (ℕ × ℕ)) × Lists (table_ways false t table) (table_match table) ((i, s) ∷ []) m × HasSameFirsts m l
 
--- From s to e the table does what the tree means, and, read up, in the order that it prefers where loops read.
+-- the walk of a stack from the pair comes to its end
+abbrev pub ComesToEnd : Bool → Text → Table → ℕ × ℕ → Type 0
+ComesToEnd reverse t table p = (l : List (ℕ × ℕ)) × Lists (table_ways reverse t table) (table_match table) (p ∷ []) l
+
+-- From s the walk of a stack comes to its end where it does from e behind all that is meant.
+pub record Halts (reverse : Bool) (t : Text) (table : Table) (s e : ℕ) (meant : ℕ → ℕ → Type 0) : Type 0 where
+  pub halts : (i : ℕ) → ((j : ℕ) → meant i j → ComesToEnd reverse t table (j, e)) → ComesToEnd reverse t table (i, s)
+
+-- From s to e the table does what the tree means. Where loops read, walks come to their end, and read up they list in the
+-- order that the tree prefers, up to repeats.
 pub record Denotes (reverse : Bool) (table : Table) (s e : ℕ) (x : Tree) : Type 0 where
   pub reaches : (t : Text) → Reaches reverse t table s e (IsMeant reverse t x)
+  pub halts : LoopsRead x → (t : Text) → Halts reverse t table s e (IsMeant reverse t x)
   pub orders : reverse ≡ false → LoopsRead x → (t : Text) → Orders t table s e (preferred_ends t.holds (seen t) x)
