@@ -7,7 +7,6 @@ use Rattle.std.proofs.lemmas.Bool.Decides.{leb_tells}
 use Rattle.std.proofs.lemmas.List.{get_or_default, get_or_past}
 use Rattle.std.proofs.lemmas.List.Elements.{All-weaker}
 use Rattle.hir_core.specs.Tree.{Tree}
-use Rattle.hir_core.specs.Facts.{list_count}
 use Rattle.nfa_core.specs.BuilderStates.{Part, Assembly, union_part, fail_part, match_part, part_at, patched}
 use Rattle.nfa_core.specs.CanBuild.{names_of, is_known, CanBuild}
 use Rattle.nfa_core.specs.Renaming.{stands_for, past, past_within, HasNoLoop}
@@ -16,16 +15,18 @@ use Rattle.thompson_nfa.specs.Added.{Led}
 use Rattle.thompson_nfa.specs.Assembled.{IsAssembled, AcceptAll, LeadsToAll}
 use Rattle.thompson_nfa.specs.Compilations.{is_anchored_tree}
 use Rattle.thompson_nfa.specs.Compiled.{sum_of_bytes}
-use Rattle.thompson_nfa.specs.Configs.{Options, reverse_of, captures_of, is_any}
+use Rattle.thompson_nfa.specs.Configs.{Options, reverse_of, captures_of, is_shrunk, is_any}
 use Rattle.thompson_nfa.specs.NotedGroups.{noted_from}
 use Rattle.thompson_nfa.specs.Patterns.{Holds, Stands, HasAll, HasStart, LeadsToPatterns, room_for, begun_with}
+use Rattle.thompson_nfa.specs.Room.{room, list_room}
+use Rattle.thompson_nfa.specs.declared.how.How.{How}
 use Rattle.thompson_nfa.specs.declared.which_captures.WhichCaptures.{WhichCaptures}
 use Rattle.thompson_nfa.proofs.PatternLemmas.{no_match_is}
 use Rattle.thompson_nfa.proofs.StartLemmas.{Out, IsBefore, before_all, past_in_list, past_found}
 
-pub list_room : (xs : List Tree) → min (room_for xs + 4) 18446744073709551615 ≤ list_count xs
-list_room [] = omega arith
-list_room (x ∷ xs) = let l = list_room xs in omega arith
+pub list_fits : (shrink : Bool) (xs : List Tree) → min (room_for shrink xs + 4) 18446744073709551615 ≤ list_room shrink xs
+list_fits shrink [] = omega arith
+list_fits shrink (x ∷ xs) = let l = list_fits shrink xs in omega arith
 
 -- every state of the list, at any default
 each_part : (P : Part → Type 0) (parts : List Part) → ((q : ℕ) → q < length parts → P (part_at parts q)) → All P parts
@@ -44,11 +45,11 @@ leads_same table other c starts same l = ⊎_elim
 
 module _ (o : Options) (xs : List Tree) (b0 b1 b2 b3 : Assembly) (u c : ℕ) (begun : b0 ≡ begun_with o) (captures : (reverse_of o && is_any (captures_of o)) ≡ false) (anchored : Bool)
     (is_anchored : anchored ≡ list_all (is_anchored_tree (reverse_of o)) xs) (start : HasStart anchored b0 b1 u) (below : u < length b1.parts)
-    (patterns : LeadsToPatterns (captures_of o) b1 b2 c xs (room_for xs + 1)) (led : Led b2 b3 u c) where
+    (patterns : LeadsToPatterns (captures_of o) b1 b2 c xs (room_for (is_shrunk o) xs + 1)) (led : Led b2 b3 u c) where
   abbrev starts : List ℕ
   starts = patterns.0
 
-  has : HasAll (captures_of o) b1 b2 patterns.0 xs (room_for xs + 1) 0
+  has : HasAll (captures_of o) b1 b2 patterns.0 xs (room_for (is_shrunk o) xs + 1) 0
   has = patterns.1
 
   no_part : length b0.parts ≡ 0
@@ -171,10 +172,10 @@ module _ (o : Options) (xs : List Tree) (b0 b1 b2 b3 : Assembly) (u c : ℕ) (be
       let k = match_late q p f in let l = match_late r p g in
       has.one_match q r p k (omega arith) (λ e. omega arith) l (omega arith) (λ e. omega arith) (sym (later_same q k) ∙ f) (sym (later_same r l) ∙ g)
 
-  few : length b3.parts ≤ list_count xs
-  few = let a = has.last (let b = before.few in omega arith) in omega (arith, size, has.states, before.few, a, list_room xs)
+  few : length b3.parts ≤ list_room (is_shrunk o) xs
+  few = let a = has.last (let b = before.few in omega arith) in omega (arith, size, has.states, before.few, a, list_fits (is_shrunk o) xs)
 
-  small : sum_of_bytes b3 ≤ 4096 * list_count xs
+  small : sum_of_bytes b3 ≤ 4096 * list_room (is_shrunk o) xs
   small = let a = few in omega (arith, a, size, led.bytes, has.bytes, before.bytes)
 
   pub all_assembled : IsAssembled o xs b3 c u
@@ -211,11 +212,14 @@ start_below true b0 b1 u x = let is = x.is in let size = x.size in omega arith
 start_below false b0 b1 u x = let is = x.is in let size = x.size in omega arith
 
 -- the same from what each call says
-module _ (o : Options) (xs : List Tree) (b0 b1 b2 b3 : Assembly) (u c : ℕ) (anchored reverse : Bool) (which : WhichCaptures) (begun : b0 ≡ begun_with o)
-    (captures : (reverse_of o && is_any (captures_of o)) ≡ false) (turned : reverse ≡ reverse_of o) (kept : which ≡ captures_of o) (is_anchored : anchored ≡ list_all (is_anchored_tree reverse) xs)
-    (start : HasStart anchored b0 b1 u) (patterns : LeadsToPatterns which b1 b2 c xs (room_for xs + 1)) (led : Led b2 b3 u c) where
-  kept_patterns : LeadsToPatterns (captures_of o) b1 b2 c xs (room_for xs + 1)
-  kept_patterns = let P : WhichCaptures → Type 0 = λ w. LeadsToPatterns w b1 b2 c xs (room_for xs + 1) in subst P kept patterns
+module _ (o : Options) (xs : List Tree) (b0 b1 b2 b3 : Assembly) (u c : ℕ) (anchored reverse : Bool) (how : How) (begun : b0 ≡ begun_with o)
+    (captures : (reverse_of o && is_any (captures_of o)) ≡ false) (turned : reverse ≡ reverse_of o) (kept : how.which ≡ captures_of o) (shrunk : how.shrink ≡ is_shrunk o) (is_anchored : anchored ≡ list_all (is_anchored_tree reverse) xs)
+    (start : HasStart anchored b0 b1 u) (patterns : LeadsToPatterns how.which b1 b2 c xs (room_for how.shrink xs + 1)) (led : Led b2 b3 u c) where
+  kept_patterns : LeadsToPatterns (captures_of o) b1 b2 c xs (room_for (is_shrunk o) xs + 1)
+  kept_patterns =
+      let P : WhichCaptures → Type 0 = λ w. LeadsToPatterns w b1 b2 c xs (room_for (is_shrunk o) xs + 1) in
+      let Q : Bool → Type 0 = λ shrink. LeadsToPatterns how.which b1 b2 c xs (room_for shrink xs + 1) in
+      subst P kept (subst Q shrunk patterns)
 
   pub compiled_assembled : IsAssembled o xs b3 c u
   compiled_assembled = all_assembled o xs b0 b1 b2 b3 u c begun captures anchored (is_anchored ∙ ap (λ (r : Bool). list_all (is_anchored_tree r) xs) turned) start (start_below anchored b0 b1 u start) kept_patterns led

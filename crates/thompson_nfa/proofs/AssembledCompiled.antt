@@ -3,7 +3,6 @@ use Rattle.std.proofs.Common.{◌≡◌, ◌≢◌, ◌↔◌, ℕ, ◌*◌, ◌
 use Rattle.std.specs.Bool.{nat_eq}
 use Rattle.hir_core.specs.Tree.{Tree}
 use Rattle.hir_core.specs.Means.{Means}
-use Rattle.hir_core.specs.Facts.{list_count}
 use Rattle.nfa_core.specs.Walks.{Has}
 use Rattle.nfa_core.specs.Runs.{IsChain, last_or}
 use Rattle.nfa_core.specs.Nfa.{Automaton}
@@ -12,7 +11,8 @@ use Rattle.nfa_core.specs.BuilderStates.{Assembly}
 use Rattle.nfa_core.specs.Renaming.{past, automaton_of}
 use Rattle.nfa_core.proofs.SizeLemmas.{smaller}
 use Rattle.thompson_nfa.specs.Compiled.{sum_of_bytes}
-use Rattle.thompson_nfa.specs.Configs.{Options, reverse_of}
+use Rattle.thompson_nfa.specs.Configs.{Options, reverse_of, is_shrunk}
+use Rattle.thompson_nfa.specs.Room.{list_room}
 use Rattle.thompson_nfa.specs.Compilations.{HasOneMatch, IsCompiled}
 use Rattle.thompson_nfa.specs.Assembled.{IsAssembled, AllAnchored}
 use Rattle.thompson_nfa.proofs.AssembledSpans.{assembled_finds_spans}
@@ -38,8 +38,8 @@ capped_below : (a b m s : ℕ) → m ≤ min a b → a ≤ s → m ≤ s
 capped_below a b m s below le = grind arith
 
 -- the states of what is built need no more bytes than those of the builder
-assembled_bytes : (o : Options) (xs : List Tree) (b : Assembly) (A U : ℕ) → IsAssembled o xs b A U → memory_of (automaton_of b A U).states ≤ 4096 * list_count xs
-assembled_bytes o xs b A U is = capped_below (sum_of_bytes b) 18446744073709551615 (memory_of (automaton_of b A U).states) (4096 * list_count xs) (smaller b A U) is.bytes
+assembled_bytes : (o : Options) (xs : List Tree) (b : Assembly) (A U : ℕ) → IsAssembled o xs b A U → memory_of (automaton_of b A U).states ≤ 4096 * list_room (is_shrunk o) xs
+assembled_bytes o xs b A U is = capped_below (sum_of_bytes b) 18446744073709551615 (memory_of (automaton_of b A U).states) (4096 * list_room (is_shrunk o) xs) (smaller b A U) is.bytes
 
 pub assembled_is_compiled : (o : Options) (xs : List Tree) (b : Assembly) (A U : ℕ) → IsAssembled o xs b A U →
     ((AllAnchored (reverse_of o) xs → ⊥) → past b.parts A ≢ U) → AreLedTo (automaton_of b A U) →
@@ -62,6 +62,6 @@ assembled_is_compiled o xs b A U is apart reached n same utf8 terminator groups 
   always_anchored =
       let P : Automaton → Type 0 = λ a. (a.start_anchored ≡ a.start_unanchored) ↔ AllAnchored (reverse_of o) xs in
       subst P (sym same) (assembled_always_anchored o xs b A U is apart);
-  states = let P : Automaton → Type 0 = λ a. length a.states ≤ list_count xs in subst P (sym same) (assembled_states o xs b A U is);
-  bytes = let P : Automaton → Type 0 = λ a. memory_of a.states ≤ 4096 * list_count xs in subst P (sym same) (assembled_bytes o xs b A U is);
+  states = let P : Automaton → Type 0 = λ a. length a.states ≤ list_room (is_shrunk o) xs in subst P (sym same) (assembled_states o xs b A U is);
+  bytes = let P : Automaton → Type 0 = λ a. memory_of a.states ≤ 4096 * list_room (is_shrunk o) xs in subst P (sym same) (assembled_bytes o xs b A U is);
 }

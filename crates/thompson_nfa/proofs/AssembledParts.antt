@@ -5,7 +5,6 @@ use Rattle.std.proofs.lemmas.List.Sums.{length-filter, count_by-le-length}
 use Rattle.std.proofs.lemmas.Bool.Decides.{leb_tells}
 use Rattle.std.proofs.lemmas.Option.{slice_get-get_or}
 use Rattle.hir_core.specs.Tree.{Tree, empty}
-use Rattle.hir_core.specs.Facts.{list_count}
 use Rattle.nfa_core.specs.Nfa.{Node, fail_node, match_node, node_at}
 use Rattle.nfa_core.specs.Ways.{matched, match_of}
 use Rattle.nfa_core.specs.BuilderStates.{Part, empty_part, range_part, sparse_part, look_part, capture_start_part, capture_end_part, union_part, union_reverse_part, fail_part, match_part, part_at, Assembly}
@@ -14,7 +13,8 @@ use Rattle.nfa_core.specs.Renaming.{stands_for, past, kept, new_name, renamed, a
 use Rattle.nfa_core.proofs.AutomatonLemmas.{match_is}
 use Rattle.nfa_core.proofs.RenamingLemmas.{past_inside, past_stands, past_twice, past_next}
 use Rattle.nfa_core.proofs.RenamingAutomaton.{one_state, state_named, state_match}
-use Rattle.thompson_nfa.specs.Configs.{Options, reverse_of}
+use Rattle.thompson_nfa.specs.Configs.{Options, reverse_of, is_shrunk}
+use Rattle.thompson_nfa.specs.Room.{list_room}
 use Rattle.thompson_nfa.specs.Compilations.{HasOneMatch}
 use Rattle.thompson_nfa.specs.Assembled.{IsAssembled, AllAnchored}
 use Rattle.thompson_nfa.proofs.ChoiceLemmas.{accept_count, accept_at}
@@ -78,7 +78,7 @@ module _ (o : Options) (xs : List Tree) (b : Assembly) (A U : ℕ) (is : IsAssem
 
   -- ---- how many there are
 
-  few_states : length (automaton_of b A U).states ≤ list_count xs
+  few_states : length (automaton_of b A U).states ≤ list_room (is_shrunk o) xs
   few_states =
       let mapped = length-map (kept b.parts) (renamed (new_name b.parts) b.groups) in
       let counted = length-filter (λ part. is_none (stands_for part)) b.parts in
@@ -112,7 +112,7 @@ module _ (o : Options) (xs : List Tree) (b : Assembly) (A U : ℕ) (is : IsAssem
 pub assembled_has_one_match : (o : Options) (xs : List Tree) (b : Assembly) (A U : ℕ) → IsAssembled o xs b A U → (p : ℕ) → p < length xs → HasOneMatch (automaton_of b A U) p
 assembled_has_one_match o xs b A U is p inside = has_one_match o xs b A U is p inside
 
-pub assembled_states : (o : Options) (xs : List Tree) (b : Assembly) (A U : ℕ) → IsAssembled o xs b A U → length (automaton_of b A U).states ≤ list_count xs
+pub assembled_states : (o : Options) (xs : List Tree) (b : Assembly) (A U : ℕ) → IsAssembled o xs b A U → length (automaton_of b A U).states ≤ list_room (is_shrunk o) xs
 assembled_states o xs b A U is = few_states o xs b A U is
 
 pub assembled_patterns : (o : Options) (xs : List Tree) (b : Assembly) (A U : ℕ) → IsAssembled o xs b A U → length (automaton_of b A U).start_pattern ≡ length xs

@@ -37,9 +37,9 @@ accept_joined reverse table p (s ∷ ss) ts (x ∷ xs) ys a b =
     let e : p + suc (length ss) ≡ suc p + length ss = omega arith in
     (a.0, accept_joined reverse table (suc p) ss ts xs ys a.1 (subst P e b))
 
-pub room_joined : (xs ys : List Tree) → room_for (xs ++ ys) ≡ room_for xs + room_for ys
-room_joined [] ys = omega arith
-room_joined (x ∷ xs) ys = let e = room_joined xs ys in omega arith
+pub room_joined : (shrink : Bool) (xs ys : List Tree) → room_for shrink (xs ++ ys) ≡ room_for shrink xs + room_for shrink ys
+room_joined shrink [] ys = omega arith
+room_joined shrink (x ∷ xs) ys = let e = room_joined shrink xs ys in omega arith
 
 -- ---- none, and one more state
 

@@ -64,3 +64,4 @@ pub mod SlotLemmas
 pub mod SlotViews
 pub mod TrieLemmas
 pub mod WalkLemmas
+pub mod PlainRoom

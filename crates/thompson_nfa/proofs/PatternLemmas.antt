@@ -4,7 +4,6 @@ use Rattle.std.specs.Prelude.{All}
 use Rattle.std.proofs.lemmas.Bool.{cases_lt, cases_eq}
 use Rattle.std.proofs.lemmas.List.Elements.{All-weaker, All-nil}
 use Rattle.hir_core.specs.Tree.{Tree, capture}
-use Rattle.hir_core.specs.Facts.{count}
 use Rattle.nfa_core.specs.BuilderStates.{Part, Assembly, match_part, part_at, patched}
 use Rattle.nfa_core.specs.CanBuild.{names_of, is_known}
 use Rattle.nfa_core.specs.Renaming.{stands_for}
@@ -14,6 +13,8 @@ use Rattle.thompson_nfa.specs.Assembled.{AcceptAll}
 use Rattle.thompson_nfa.specs.Compiled.{Finished, Makes, Does, IsTame, is_match_part, sum_of_bytes}
 use Rattle.thompson_nfa.specs.NotedGroups.{noted}
 use Rattle.thompson_nfa.specs.Patterns.{Holds, Stands, HasAll}
+use Rattle.thompson_nfa.specs.Room.{room}
+use Rattle.thompson_nfa.specs.declared.how.How.{How}
 use Rattle.thompson_nfa.specs.declared.which_captures.WhichCaptures.{WhichCaptures}
 use Rattle.thompson_nfa.proofs.DoesLemmas.{turned_to}
 use Rattle.thompson_nfa.proofs.GrowLemmas.{names_patched, match_patched, known_patched}
@@ -37,9 +38,9 @@ same_number part p r e f = cc
 capture_is : (x : Tree) → IsSame (capture 0 None x) x
 capture_is x = record { reading = λ reads. reads; ends = λ looks h i. refl }
 
-module _ (which : WhichCaptures) (b0 b1 b2 b3 b4 b5 : Assembly) (x : Tree) (s e m : ℕ) (closed : b0.is_open ≡ false) (begun : b1 ≡ record b0 { is_open = true })
-    (made : Makes b1 b2 s e (count x + 2)) (does : Does b1 b2 s e (capture 0 None x))
-    (noted_here : b2.groups ≡ noted which (length b1.starts) (capture 0 None x) b1.groups)
+module _ (how : How) (b0 b1 b2 b3 b4 b5 : Assembly) (x : Tree) (s e m : ℕ) (closed : b0.is_open ≡ false) (begun : b1 ≡ record b0 { is_open = true })
+    (made : Makes b1 b2 s e (room how.shrink x + 2)) (does : Does b1 b2 s e (capture 0 None x))
+    (noted_here : b2.groups ≡ noted how.which (length b1.starts) (capture 0 None x) b1.groups)
     (added : Added b2 b3 m (match_part (length b2.starts)) b2.groups) (led : Led b3 b4 e m)
     (done : b5 ≡ record b4 { starts = b4.starts ++ s ∷ []; is_open = false }) where
   parts_end : b5.parts ≡ b4.parts
@@ -188,7 +189,7 @@ module _ (which : WhichCaptures) (b0 b1 b2 b3 b4 b5 : Assembly) (x : Tree) (s e 
       let last : sum_of_bytes b5 ≡ sum_of_bytes b4 = ap (λ (z : Assembly). sum_of_bytes z) done in
       omega (arith, first, last, z, n, made.within.bytes, added.bytes, led.bytes)
 
-  pub pattern_compiled : HasAll which b0 b5 (s ∷ []) (x ∷ []) (count x + 3) 4
+  pub pattern_compiled : HasAll how.which b0 b5 (s ∷ []) (x ∷ []) (room how.shrink x + 3) 4
   pattern_compiled =
       let z = size_0 in let n = size_5 in let g = grown in
       let low = made.fragment.start_new in let high = made.fragment.start_there in
@@ -196,7 +197,7 @@ module _ (which : WhichCaptures) (b0 b1 b2 b3 b4 b5 : Assembly) (x : Tree) (s e 
         settings = settings_end;
         starts_are = starts_end;
         as_many = refl;
-        groups = groups_end ∙ noted_here ∙ ap (λ (z : Assembly). noted which (length z.starts) (capture 0 None x) z.groups) begun;
+        groups = groups_end ∙ noted_here ∙ ap (λ (z : Assembly). noted how.which (length z.starts) (capture 0 None x) z.groups) begun;
         known_more = λ part k. ap (λ gs. is_known gs part) groups_end ∙ made.fragment.grows.known part (ap (λ (z : Assembly). is_known z.groups part) begun ∙ k);
         longer = omega arith;
         same = λ q l ne. old_same q l;

@@ -5,20 +5,20 @@ use Rattle.search_core.specs.Index.{greatest_index}
 use Rattle.search_types.specs.Groups.{Groups}
 use Rattle.search_types.specs.GroupFaults.{GroupFault, group_fault}
 use Rattle.hir_core.specs.Tree.{Tree, empty, literal, byte_class, char_class, look, repetition, capture, nothing, cat, never, alt}
-use Rattle.hir_core.specs.Facts.{list_count}
 use Rattle.nfa_core.specs.BuilderStates.{Assembly}
 use Rattle.nfa_core.specs.BuilderFaults.{Tells, BuildFault, groups_fault, build_fault, captures_refused, too_many_patterns, too_many_states, exceeded_size_limit, unsupported_captures}
 use Rattle.nfa_core.specs.declared.build_error.BuildError.{BuildError}
 use Rattle.nfa_core.specs.declared.build_error.BuildError.TheVariants as error
 use Rattle.thompson_nfa.specs.Compiled.{sum_of_bytes}
-use Rattle.thompson_nfa.specs.Configs.{Options, reverse_of, limit_of, captures_of, is_any}
+use Rattle.thompson_nfa.specs.Configs.{Options, reverse_of, limit_of, captures_of, is_any, is_shrunk}
 use Rattle.thompson_nfa.specs.NotedGroups.{noted, noted_from, HasGroup}
 use Rattle.thompson_nfa.specs.Patterns.{RefusesPatterns, begun_with, room_for, told_by}
+use Rattle.thompson_nfa.specs.Room.{list_room}
 use Rattle.thompson_nfa.specs.Refusals.{RefusesIndex}
 use Rattle.thompson_nfa.specs.RefusedTrees.{RefusesTrees, FitsStates}
 use Rattle.thompson_nfa.specs.declared.which_captures.WhichCaptures.{WhichCaptures}
 use Rattle.thompson_nfa.specs.declared.which_captures.WhichCaptures.TheVariants as which
-use Rattle.thompson_nfa.proofs.AssembleLemmas.{list_room}
+use Rattle.thompson_nfa.proofs.AssembleLemmas.{list_fits}
 
 -- ---- no groups where none are kept
 
@@ -76,7 +76,7 @@ upward_fault o xs fault captures e = ⊎_elim (λ (up : reverse_of o ≡ false).
 
 -- ---- patterns are refused
 
-too_many : (b : Bool) (o : Options) (xs : List Tree) (limit : ℕ) → b ≡ nat_lt limit (24 * (greatest_index + 1)) → limit_of o ≡ Some limit → greatest_index + 1 < list_count xs →
+too_many : (b : Bool) (o : Options) (xs : List Tree) (limit : ℕ) → b ≡ nat_lt limit (24 * (greatest_index + 1)) → limit_of o ≡ Some limit → greatest_index + 1 < list_room (is_shrunk o) xs →
     RefusesTrees o xs (if b then error.ExceededSizeLimit limit else error.TooManyStates)
 too_many true o xs limit test is many = let less = ltb-true limit (24 * (greatest_index + 1)) (sym test) in (is, omega arith)
 too_many false o xs limit test is many =
@@ -84,7 +84,7 @@ too_many false o xs limit test is many =
     let fits : 24 * (greatest_index + 1) ≤ limit = ltb-false limit (24 * (greatest_index + 1)) (sym test) in
     (many, subst P (sym is) fits)
 
-too_many_told : (o : Options) (xs : List Tree) (limit : Option ℕ) → limit_of o ≡ limit → greatest_index + 1 < list_count xs → RefusesTrees o xs (told_by limit error.TooManyStates)
+too_many_told : (o : Options) (xs : List Tree) (limit : Option ℕ) → limit_of o ≡ limit → greatest_index + 1 < list_room (is_shrunk o) xs → RefusesTrees o xs (told_by limit error.TooManyStates)
 too_many_told o xs None is many = let P : Option ℕ → Type 0 = FitsStates in (many, subst P (sym is) tt)
 too_many_told o xs (Some limit) is many = too_many (nat_lt limit (24 * (greatest_index + 1))) o xs limit refl is many
 
@@ -102,15 +102,15 @@ as_it_is : (o : Options) (xs : List Tree) (e : BuildError) → (e ≡ error.TooM
 as_it_is o xs e other r = let P : BuildError → Type 0 = λ one. RefusesTrees o xs one in subst P (sym (other_told (limit_of o) e other)) r
 
 pub trees_refused : (o : Options) (xs : List Tree) (b : Assembly) (e : BuildError) → b ≡ begun_with o → (reverse_of o && is_any (captures_of o)) ≡ false →
-    RefusesPatterns (captures_of o) b (room_for xs + 4) xs e → RefusesTrees o xs (told_by (limit_of o) e)
+    RefusesPatterns (captures_of o) b (room_for (is_shrunk o) xs + 4) xs e → RefusesTrees o xs (told_by (limit_of o) e)
 trees_refused o xs b error.TooManyPatterns begun captures r = absurd r
 trees_refused o xs b error.TooManyStates begun captures r =
     let none : length b.parts ≡ 0 = ap (λ (z : Assembly). length z.parts) begun in
-    too_many_told o xs (limit_of o) refl (omega (arith, r, none, list_room xs))
+    too_many_told o xs (limit_of o) refl (omega (arith, r, none, list_fits (is_shrunk o) xs))
 trees_refused o xs b (error.ExceededSizeLimit limit) begun captures r =
     let none : sum_of_bytes b ≡ 0 = ap (λ (z : Assembly). sum_of_bytes z) begun in
     let is : b.size_limit ≡ limit_of o = ap (λ (z : Assembly). z.size_limit) begun in
-    as_it_is o xs (error.ExceededSizeLimit limit) (λ e. cc) (sym is ∙ r.0, omega (arith, r.1, r.2, none, list_room xs))
+    as_it_is o xs (error.ExceededSizeLimit limit) (λ e. cc) (sym is ∙ r.0, omega (arith, r.1, r.2, none, list_fits (is_shrunk o) xs))
 trees_refused o xs b error.UnsupportedCaptures begun captures r = absurd r
 trees_refused o xs b (error.Captures err) begun captures r =
     let none : length b.starts ≡ 0 = ap (λ (z : Assembly). length z.starts) begun in
@@ -153,7 +153,7 @@ build_refused o xs b e groups captures told = ⊎_elim
 
 -- the same of the error that is told
 pub told_refused : (o : Options) (xs : List Tree) (b : Assembly) (limit : Option ℕ) (e told : BuildError) → b ≡ begun_with o → (reverse_of o && is_any (captures_of o)) ≡ false → limit ≡ limit_of o →
-    told ≡ told_by limit e → RefusesPatterns (captures_of o) b (room_for xs + 4) xs e → RefusesTrees o xs told
+    told ≡ told_by limit e → RefusesPatterns (captures_of o) b (room_for (is_shrunk o) xs + 4) xs e → RefusesTrees o xs told
 told_refused o xs b limit e told begun captures same is r =
     let P : BuildError → Type 0 = λ one. RefusesTrees o xs one in
     subst P (sym (is ∙ ap (λ (most : Option ℕ). told_by most e) same)) (trees_refused o xs b e begun captures r)

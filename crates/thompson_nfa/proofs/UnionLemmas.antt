@@ -1,9 +1,8 @@
 -- The union that leads to further patterns, and what refuses them.
-use Rattle.std.proofs.Common.{◌≡◌, ℕ, zero, suc, ◌+◌, ◌*◌, ◌<◌, ◌≤◌, false, List, [], ◌∷◌, ◌++◌, length, get_or, take, slice_get, Some, refl, sym, ap, ◌∙◌, subst, arith, length-append}
+use Rattle.std.proofs.Common.{◌≡◌, ℕ, zero, suc, ◌+◌, ◌*◌, ◌<◌, ◌≤◌, Bool, false, List, [], ◌∷◌, ◌++◌, length, get_or, take, slice_get, Some, refl, sym, ap, ◌∙◌, subst, arith, length-append}
 use Rattle.std.proofs.lemmas.List.{append_assoc, append-nil, take_more, length-take-le}
 use Rattle.std.proofs.lemmas.Option.{slice_get-get_or}
 use Rattle.hir_core.specs.Tree.{Tree}
-use Rattle.hir_core.specs.Facts.{count}
 use Rattle.nfa_core.specs.BuilderStates.{Part, Assembly, empty_part, range_part, sparse_part, look_part, capture_start_part, capture_end_part, union_part, union_reverse_part, fail_part, match_part, part_at, patched, is_sparse}
 use Rattle.nfa_core.specs.declared.build_error.BuildError.{BuildError}
 use Rattle.nfa_core.specs.declared.build_error.BuildError.TheVariants as error
@@ -11,6 +10,8 @@ use Rattle.thompson_nfa.specs.Added.{Led}
 use Rattle.thompson_nfa.specs.Compiled.{sum_of_bytes}
 use Rattle.thompson_nfa.specs.Patterns.{HasPatterns, HasAll, RefusesPatterns, LeadsToFurther, room_for}
 use Rattle.thompson_nfa.specs.Refusals.{RefusesStep, RefusesIndex, Stays}
+use Rattle.thompson_nfa.specs.Room.{room}
+use Rattle.thompson_nfa.specs.declared.how.How.{How}
 use Rattle.thompson_nfa.specs.declared.which_captures.WhichCaptures.{WhichCaptures}
 use Rattle.thompson_nfa.proofs.FurtherLemmas.{patterns_none, hole_moved, patterns_led, patterns_joined, room_joined}
 
@@ -74,50 +75,50 @@ sparse_patched to fail_part = refl
 sparse_patched to (match_part pattern) = refl
 
 -- some of the further patterns were compiled
-pub record IsFurther (which : WhichCaptures) (union : ℕ) (a b : Assembly) (xs : List Tree) : Type 0 where
+pub record IsFurther (how : How) (union : ℕ) (a b : Assembly) (xs : List Tree) : Type 0 where
   pub ways : List ℕ
-  pub has : HasPatterns which union a b ways xs (room_for xs) 0
+  pub has : HasPatterns how.which union a b ways xs (room_for how.shrink xs) 0
   pub leads : (first : List ℕ) → part_at a.parts union ≡ union_part first → part_at b.parts union ≡ union_part (first ++ ways)
   pub kind : is_sparse (part_at b.parts union) ≡ false
 
-pub further_none : (which : WhichCaptures) (union : ℕ) (a : Assembly) → is_sparse (part_at a.parts union) ≡ false → IsFurther which union a a []
-further_none which union a kind = record {
+pub further_none : (how : How) (union : ℕ) (a : Assembly) → is_sparse (part_at a.parts union) ≡ false → IsFurther how union a a []
+further_none how union a kind = record {
   ways = [];
-  has = patterns_none which union a;
+  has = patterns_none how.which union a;
   leads = λ first e. e ∙ ap union_part (sym (append-nil first));
   kind = kind;
 }
 
-module _ (which : WhichCaptures) (union : ℕ) (a b c : Assembly) (xs : List Tree) (x : Tree) (s : ℕ) (there : union < length a.parts) (so_far : IsFurther which union a b xs)
-    (next : HasAll which b c (s ∷ []) (x ∷ []) (count x + 3) 4) where
+module _ (how : How) (union : ℕ) (a b c : Assembly) (xs : List Tree) (x : Tree) (s : ℕ) (there : union < length a.parts) (so_far : IsFurther how union a b xs)
+    (next : HasAll how.which b c (s ∷ []) (x ∷ []) (room how.shrink x + 3) 4) where
   kept_union : part_at c.parts union ≡ part_at b.parts union
   kept_union = let l = so_far.has.longer in let m = next.longer in next.same union (omega arith) (λ e. omega arith)
 
   pub union_kind : is_sparse (part_at c.parts union) ≡ false
   union_kind = ap is_sparse kept_union ∙ so_far.kind
 
-  both : HasPatterns which union a c (so_far.ways ++ s ∷ []) (xs ++ x ∷ []) (room_for xs + (count x + 3)) 4
+  both : HasPatterns how.which union a c (so_far.ways ++ s ∷ []) (xs ++ x ∷ []) (room_for how.shrink xs + (room how.shrink x + 3)) 4
   both = let l = so_far.has.longer in
-      patterns_joined which union a b c so_far.ways (s ∷ []) xs (x ∷ []) (room_for xs) (count x + 3) 0 4 so_far.has
-      (hole_moved which b c (s ∷ []) (x ∷ []) (count x + 3) 4 union (λ q low high e. omega arith) next)
+      patterns_joined how.which union a b c so_far.ways (s ∷ []) xs (x ∷ []) (room_for how.shrink xs) (room how.shrink x + 3) 0 4 so_far.has
+      (hole_moved how.which b c (s ∷ []) (x ∷ []) (room how.shrink x + 3) 4 union (λ q low high e. omega arith) next)
 
-  pub further_one : (d : Assembly) → Led c d union s → IsFurther which union a d (xs ++ x ∷ [])
+  pub further_one : (d : Assembly) → Led c d union s → IsFurther how union a d (xs ++ x ∷ [])
   further_one d led =
-      let P : ℕ → Type 0 = λ n. HasPatterns which union a d (so_far.ways ++ s ∷ []) (xs ++ x ∷ []) n 0 in
-      let room : room_for xs + (count x + 3) ≡ room_for (xs ++ x ∷ []) = omega (arith, room_joined xs (x ∷ [])) in
+      let P : ℕ → Type 0 = λ n. HasPatterns how.which union a d (so_far.ways ++ s ∷ []) (xs ++ x ∷ []) n 0 in
+      let fits : room_for how.shrink xs + (room how.shrink x + 3) ≡ room_for how.shrink (xs ++ x ∷ []) = omega (arith, room_joined how.shrink xs (x ∷ [])) in
       record {
         ways = so_far.ways ++ s ∷ [];
-        has = subst P room (patterns_led which a c d (so_far.ways ++ s ∷ []) (xs ++ x ∷ []) (room_for xs + (count x + 3)) 4 0 union s both led (omega arith));
+        has = subst P fits (patterns_led how.which a c d (so_far.ways ++ s ∷ []) (xs ++ x ∷ []) (room_for how.shrink xs + (room how.shrink x + 3)) 4 0 union s both led (omega arith));
         leads = λ first e. led.here ∙ ap (patched s) (kept_union ∙ so_far.leads first e) ∙ ap union_part (append_assoc first so_far.ways (s ∷ []));
         kind = ap is_sparse led.here ∙ sparse_patched s (part_at c.parts union) ∙ union_kind;
       }
 
   -- the way to it is refused
-  pub way_refused : (d : Assembly) (whole : ℕ) (zs : List Tree) (e : BuildError) → room_for xs + (count x + 3) ≤ whole → Stays c d 0 4 e → RefusesPatterns which a whole zs e
+  pub way_refused : (d : Assembly) (whole : ℕ) (zs : List Tree) (e : BuildError) → room_for how.shrink xs + (room how.shrink x + 3) ≤ whole → Stays c d 0 4 e → RefusesPatterns how.which a whole zs e
   way_refused d whole zs e le r = later_stays 0 4 whole zs e both (omega arith) (omega arith) r
 
-pub further_is : (which : WhichCaptures) (union : ℕ) (a b : Assembly) (xs : List Tree) → IsFurther which union a b xs → LeadsToFurther which union a b xs (room_for xs)
-further_is which union a b xs f = (f.ways, f.has, f.leads)
+pub further_is : (how : How) (union : ℕ) (a b : Assembly) (xs : List Tree) → IsFurther how union a b xs → LeadsToFurther how.which union a b xs (room_for how.shrink xs)
+further_is how union a b xs f = (f.ways, f.has, f.leads)
 
 -- the first of the patterns that are left is refused
 only_one : (xs zs : List Tree) (i : ℕ) (y : Tree) → slice_get zs i ≡ Some y → length xs ≡ i → (k : ℕ) (x : Tree) → slice_get (y ∷ []) k ≡ Some x → slice_get zs (length xs + k) ≡ Some x
@@ -125,35 +126,35 @@ only_one xs zs i y here same zero x e =
     let is : length xs + 0 ≡ i = omega arith in ap (slice_get zs) is ∙ here ∙ e
 only_one xs zs i y here same (suc k) x e = absurd (cc)
 
-pub first_left_refused : (which : WhichCaptures) (union : ℕ) (a b : Assembly) (xs zs : List Tree) (x : Tree) (e : BuildError) → IsFurther which union a b xs → slice_get zs (length xs) ≡ Some x →
-    room_for xs + (count x + 3) ≤ room_for zs → RefusesPatterns which b (count x + 3) (x ∷ []) e → RefusesPatterns which a (room_for zs) zs e
-first_left_refused which union a b xs zs x e f here le r =
-    later_refuse (count x + 3) (room_for zs) (x ∷ []) zs e f.has le (only_one xs zs (length xs) x here refl) r
+pub first_left_refused : (how : How) (union : ℕ) (a b : Assembly) (xs zs : List Tree) (x : Tree) (e : BuildError) → IsFurther how union a b xs → slice_get zs (length xs) ≡ Some x →
+    room_for how.shrink xs + (room how.shrink x + 3) ≤ room_for how.shrink zs → RefusesPatterns how.which b (room how.shrink x + 3) (x ∷ []) e → RefusesPatterns how.which a (room_for how.shrink zs) zs e
+first_left_refused how union a b xs zs x e f here le r =
+    later_refuse (room how.shrink x + 3) (room_for how.shrink zs) (x ∷ []) zs e f.has le (only_one xs zs (length xs) x here refl) r
 
 -- ---- places in the list
 
-pub room_at : (zs : List Tree) (i : ℕ) (d : Tree) → i < length zs → room_for (take i zs) + (count (get_or zs i d) + 3) ≤ room_for zs
-room_at [] i d l = absurd (omega arith)
-room_at (z ∷ zs) zero d l = omega arith
-room_at (z ∷ zs) (suc i) d l = omega (arith, room_at zs i d (omega arith))
+pub room_at : (shrink : Bool) (zs : List Tree) (i : ℕ) (d : Tree) → i < length zs → room_for shrink (take i zs) + (room shrink (get_or zs i d) + 3) ≤ room_for shrink zs
+room_at shrink [] i d l = absurd (omega arith)
+room_at shrink (z ∷ zs) zero d l = omega arith
+room_at shrink (z ∷ zs) (suc i) d l = omega (arith, room_at shrink zs i d (omega arith))
 
-module _ (which : WhichCaptures) (union : ℕ) (a b c : Assembly) (zs : List Tree) (i : ℕ) (x : Tree) (inside : i < length zs) (is : x ≡ get_or zs i x) (there : union < length a.parts)
-    (so_far : IsFurther which union a b (take i zs)) where
+module _ (how : How) (union : ℕ) (a b c : Assembly) (zs : List Tree) (i : ℕ) (x : Tree) (inside : i < length zs) (is : x ≡ get_or zs i x) (there : union < length a.parts)
+    (so_far : IsFurther how union a b (take i zs)) where
   taken : length (take i zs) ≡ i
   taken = length-take-le i zs (omega arith)
 
-  room : room_for (take i zs) + (count x + 3) ≤ room_for zs
-  room = omega (arith, room_at zs i x inside, ap count is)
+  fits : room_for how.shrink (take i zs) + (room how.shrink x + 3) ≤ room_for how.shrink zs
+  fits = omega (arith, room_at how.shrink zs i x inside, ap (room how.shrink) is)
 
-  pub pattern_refused : (e : BuildError) → RefusesPatterns which b (count x + 3) (x ∷ []) e → RefusesPatterns which a (room_for zs) zs e
+  pub pattern_refused : (e : BuildError) → RefusesPatterns how.which b (room how.shrink x + 3) (x ∷ []) e → RefusesPatterns how.which a (room_for how.shrink zs) zs e
   pattern_refused e r =
-      first_left_refused which union a b (take i zs) zs x e so_far (ap (slice_get zs) taken ∙ slice_get-get_or zs i x inside ∙ ap Some (sym is)) room r
+      first_left_refused how union a b (take i zs) zs x e so_far (ap (slice_get zs) taken ∙ slice_get-get_or zs i x inside ∙ ap Some (sym is)) fits r
 
-  pub union_refused : (d : Assembly) (s : ℕ) (e : BuildError) → HasAll which b c (s ∷ []) (x ∷ []) (count x + 3) 4 → Stays c d 0 4 e → RefusesPatterns which a (room_for zs) zs e
-  union_refused d s e next r = way_refused which union a b c (take i zs) x s there so_far next d (room_for zs) zs e room r
+  pub union_refused : (d : Assembly) (s : ℕ) (e : BuildError) → HasAll how.which b c (s ∷ []) (x ∷ []) (room how.shrink x + 3) 4 → Stays c d 0 4 e → RefusesPatterns how.which a (room_for how.shrink zs) zs e
+  union_refused d s e next r = way_refused how union a b c (take i zs) x s there so_far next d (room_for how.shrink zs) zs e fits r
 
-  pub further_next : (d : Assembly) (s : ℕ) → HasAll which b c (s ∷ []) (x ∷ []) (count x + 3) 4 → Led c d union s → IsFurther which union a d (take (i + 1) zs)
+  pub further_next : (d : Assembly) (s : ℕ) → HasAll how.which b c (s ∷ []) (x ∷ []) (room how.shrink x + 3) 4 → Led c d union s → IsFurther how union a d (take (i + 1) zs)
   further_next d s next led =
-      let P : List Tree → Type 0 = λ xs. IsFurther which union a d xs in
+      let P : List Tree → Type 0 = λ xs. IsFurther how union a d xs in
       let more : take (i + 1) zs ≡ take i zs ++ x ∷ [] = take_more zs i x inside ∙ ap (λ (y : Tree). take i zs ++ y ∷ []) (sym is) in
-      subst P (sym more) (further_one which union a b c (take i zs) x s there so_far next d led)
+      subst P (sym more) (further_one how union a b c (take i zs) x s there so_far next d led)

@@ -1,15 +1,15 @@
 -- What stands in a builder when all patterns are compiled, before it is built.
 use Rattle.std.specs.Prelude.{◌≡◌, ◌⊎◌, ℕ, suc, ◌*◌, ◌≤◌, Bool, true, false, ◌&&◌, List, [], ◌∷◌, length, All}
 use Rattle.hir_core.specs.Tree.{Tree}
-use Rattle.hir_core.specs.Facts.{list_count}
 use Rattle.nfa_core.specs.BuilderStates.{Assembly, empty_part, sparse_part, union_part, union_reverse_part, fail_part, match_part, part_at}
 use Rattle.nfa_core.specs.CanBuild.{CanBuild}
 use Rattle.nfa_core.specs.Drafted.{Table}
-use Rattle.thompson_nfa.specs.Configs.{Options, utf8_of, reverse_of, limit_of, captures_of, terminator_of, is_any}
+use Rattle.thompson_nfa.specs.Configs.{Options, utf8_of, reverse_of, limit_of, captures_of, terminator_of, is_any, is_shrunk}
 use Rattle.thompson_nfa.specs.Denotes.{Denotes}
 use Rattle.thompson_nfa.specs.NotedGroups.{noted_from}
 use Rattle.thompson_nfa.specs.Compiled.{sum_of_bytes}
 use Rattle.thompson_nfa.specs.Compilations.{is_anchored_tree}
+use Rattle.thompson_nfa.specs.Room.{list_room}
 
 -- from state s the table does what the tree means on the way to a state in which pattern p matches
 pub record Accepts (reverse : Bool) (table : Table) (s p : ℕ) (x : Tree) : Type 0 where
@@ -57,5 +57,5 @@ pub record IsAssembled (o : Options) (xs : List Tree) (b : Assembly) (anchored u
   pub before : ComesBefore (reverse_of o) xs (part_at b.parts) unanchored anchored
   pub one_match : (q r p : ℕ) → part_at b.parts q ≡ match_part p → part_at b.parts r ≡ match_part p → q ≡ r
   pub groups : b.groups ≡ noted_from (captures_of o) 0 xs []
-  pub states : length b.parts ≤ list_count xs
-  pub bytes : sum_of_bytes b ≤ 4096 * list_count xs
+  pub states : length b.parts ≤ list_room (is_shrunk o) xs
+  pub bytes : sum_of_bytes b ≤ 4096 * list_room (is_shrunk o) xs

@@ -6,16 +6,17 @@ use Rattle.look_core.specs.LookSets.{has_look}
 use Rattle.hir_core.specs.Tree.{Tree}
 use Rattle.hir_core.specs.Means.{Means}
 use Rattle.hir_core.specs.PreferredEnds.{preferred_ends}
-use Rattle.hir_core.specs.Facts.{LoopsRead, look_set_prefix, look_set_suffix, list_count}
+use Rattle.hir_core.specs.Facts.{LoopsRead, look_set_prefix, look_set_suffix}
 use Rattle.nfa_core.specs.Walks.{Has, HasNoneTwice, distinct}
 use Rattle.nfa_core.specs.Runs.{IsChain}
 use Rattle.nfa_core.specs.Places.{same_pair}
 use Rattle.nfa_core.specs.Nfa.{match_node, Automaton, node_at}
 use Rattle.nfa_core.specs.NfaValue.{Nfa, has_empty, memory_of}
 use Rattle.nfa_core.specs.Ways.{Text, span, ways, ends_from}
-use Rattle.thompson_nfa.specs.Configs.{Options, utf8_of, reverse_of, captures_of, terminator_of, is_any}
+use Rattle.thompson_nfa.specs.Configs.{Options, utf8_of, reverse_of, captures_of, terminator_of, is_any, is_shrunk}
 use Rattle.thompson_nfa.specs.Denotes.{seen, IsMeant}
 use Rattle.thompson_nfa.specs.NotedGroups.{noted_from}
+use Rattle.thompson_nfa.specs.Room.{list_room}
 
 -- pattern p, with the end e, is a choice at place i: its tree is one that leads from i to e
 abbrev pub IsChoice : Bool → List Tree → Text → ℕ → ℕ × ℕ → Type 0
@@ -88,5 +89,5 @@ pub record IsCompiled (o : Options) (xs : List Tree) (n : Nfa) : Type 0 where
   pub matches : (p : ℕ) → p < length xs → HasOneMatch n.automaton p
   pub empty : (has_empty n.automaton ≡ true) ↔ ((p : ℕ) × (x : Tree) × (slice_get xs p ≡ Some x) × Means (λ l i. true) [] x 0 0)
   pub always_anchored : (n.automaton.start_anchored ≡ n.automaton.start_unanchored) ↔ All (λ x. is_anchored_tree (reverse_of o) x ≡ true) xs
-  pub states : length n.automaton.states ≤ list_count xs
-  pub bytes : memory_of n.automaton.states ≤ 4096 * list_count xs
+  pub states : length n.automaton.states ≤ list_room (is_shrunk o) xs
+  pub bytes : memory_of n.automaton.states ≤ 4096 * list_room (is_shrunk o) xs

@@ -1,5 +1,5 @@
 -- What contracts see of a configuration: the options that were set.
-use Rattle.std.specs.Prelude.{ℕ, Bool, true, false, Option, None}
+use Rattle.std.specs.Prelude.{ℕ, Bool, true, false, ◌&&◌, Option, None}
 use Rattle.std.specs.Option.{option_or, unwrap_or}
 use Rattle.look_core.specs.Terminators.{Terminator, one_of}
 use Rattle.thompson_nfa.specs.declared.which_captures.WhichCaptures.{WhichCaptures}
@@ -40,6 +40,10 @@ limit_of o = unwrap_or o.size_limit None
 
 abbrev pub shrink_of : Options → Bool
 shrink_of o = unwrap_or o.shrink false
+
+-- whether classes of scalars are shrunk
+abbrev pub is_shrunk : Options → Bool
+is_shrunk o = reverse_of o && shrink_of o
 
 abbrev pub captures_of : Options → WhichCaptures
 captures_of o = unwrap_or o.captures which.All

@@ -20,3 +20,5 @@ pub mod RangeWalks
 pub mod TrieNodes
 pub mod RangeCovers
 pub mod TrieSteps
+pub mod ScalarCounts
+pub mod Room

@@ -2,7 +2,6 @@
 use Rattle.std.specs.Prelude.{◌≡◌, ◌≢◌, ℕ, ◌+◌, ◌*◌, ◌<◌, ◌≤◌, nat_lt, Bool, true, false, List, [], ◌∷◌, ◌++◌, length, slice_get, All, Option, None, Some, if◌then◌else◌}
 use Rattle.search_core.specs.Index.{greatest_index}
 use Rattle.hir_core.specs.Tree.{Tree}
-use Rattle.hir_core.specs.Facts.{count}
 use Rattle.nfa_core.specs.BuilderStates.{Assembly, Part, empty_part, union_part, match_part, part_at}
 use Rattle.nfa_core.specs.Renaming.{stands_for}
 use Rattle.nfa_core.specs.CanBuild.{names_of, is_known}
@@ -16,6 +15,7 @@ use Rattle.thompson_nfa.specs.Configs.{Options, utf8_of, reverse_of, limit_of, t
 use Rattle.thompson_nfa.specs.NotedGroups.{HasGroup, noted_from}
 use Rattle.thompson_nfa.specs.Prefix.{HasPrefix}
 use Rattle.thompson_nfa.specs.Refusals.{RefusesStates, RefusesIndex}
+use Rattle.thompson_nfa.specs.Room.{room}
 use Rattle.thompson_nfa.specs.declared.which_captures.WhichCaptures.{WhichCaptures}
 
 -- the table has these states from `low` on, but for the hole
@@ -27,9 +27,9 @@ abbrev pub Stands : ℕ → Table → ℕ → Type 0
 Stands low table q = (n : ℕ) × (stands_for (table (past_in table n q)) ≡ None) × (low ≤ past_in table n q)
 
 -- what patterns need at most: 3 states beside their trees'
-abbrev pub room_for : List Tree → ℕ
-room_for [] = 0
-room_for (x ∷ xs) = count x + 3 + room_for xs
+abbrev pub room_for : Bool → List Tree → ℕ
+room_for shrink [] = 0
+room_for shrink (x ∷ xs) = room shrink x + 3 + room_for shrink xs
 
 -- The trees xs were compiled, as patterns from the next number on, to n states at most; of 4096 bytes for each, `spare` are
 -- left. Their starts are `starts`. One state, `hole`, may be any: what the patterns do doesn't depend on it.

@@ -1,16 +1,18 @@
 //! Trees as fragments of states. Recursion goes into parts of the tree only.
 ghost use Rattle.std.specs.Prelude.{◌≡◌, ◌<◌, ◌≤◌, ◌+◌, ◌-◌, ◌*◌, [], ◌∷◌, length, IfOk, IfErr, IfSome, Some, None, option_map, string_bytes};
-ghost use Rattle.hir_core.specs.Facts.{count};
 ghost use Rattle.hir_core.specs.Tree.{repetition, capture, concat, alternation};
 ghost use Rattle.thompson_nfa.specs.Compiled.{IsReady, Makes, Does, DoesCopies, DoesOption};
 ghost use Rattle.thompson_nfa.specs.NotedGroups.{noted, keeps_group};
 ghost use Rattle.thompson_nfa.specs.Refusals.{Refuses};
+ghost use Rattle.thompson_nfa.specs.Room.{room};
 
 use crate::class::byte_class;
 use crate::fragment::Fragment;
+use crate::how::How;
 use crate::leaves::{empty, fail, literal, look, turned_place};
 use crate::parts::{add_choice, add_empty, end_group, lead, start_group};
 use crate::scalar_class::compile_scalars;
+use crate::shared::Shared;
 use crate::which_captures::WhichCaptures;
 use hir_core::{Hir, HirKind};
 use nfa_core::{BuildError, Builder};
@@ -22,20 +24,21 @@ use std::alloc::{AllocError, Global};
 pub(crate) fn compile(
     builder: &mut Builder,
     alloc: Global,
-    which: WhichCaptures,
+    how: How,
+    shared: &mut Shared,
     x: &Hir,
 ) -> Result<Fragment, BuildError>
-    requires { IsReady which builder.old }
-    ensures made { IfOk result (λ f. Makes builder.old builder.new f.start f.end (count x.now)) }
+    requires { IsReady how.which builder.old }
+    ensures made { IfOk result (λ f. Makes builder.old builder.new f.start f.end (room how.shrink x.now)) }
     ensures denotes { IfOk result (λ f. Does builder.old builder.new f.start f.end (x.now)) }
-    ensures groups { IfOk result (λ _. builder.new.groups ≡ noted which (length builder.old.starts) (x.now) builder.old.groups) }
-    ensures refused { IfErr result (λ e. Refuses which builder.old builder.new (count x.now) (x.now) e) }
+    ensures groups { IfOk result (λ _. builder.new.groups ≡ noted how.which (length builder.old.starts) (x.now) builder.old.groups) }
+    ensures refused { IfErr result (λ e. Refuses how.which builder.old builder.new (room how.shrink x.now) (x.now) e) }
 {
     match x.kind() {
         HirKind::Empty => empty(builder),
         HirKind::Literal(bytes) => literal(builder, bytes),
         HirKind::Bytes(ranges) => byte_class(builder, alloc, ranges),
-        HirKind::Chars(ranges) => compile_scalars(builder, alloc, ranges),
+        HirKind::Chars(ranges) => compile_scalars(builder, alloc, how, shared, ranges),
         HirKind::Look(assertion) => look(builder, *assertion),
         HirKind::Repetition {
             min,
@@ -43,14 +46,14 @@ pub(crate) fn compile(
             greedy,
             sub,
         } => match max {
-            None => at_least(builder, alloc, which, sub, *greedy, *min),
-            Some(max) => between(builder, alloc, which, sub, *greedy, *min, *max),
+            None => at_least(builder, alloc, how, shared, sub, *greedy, *min),
+            Some(max) => between(builder, alloc, how, shared, sub, *greedy, *min, *max),
         },
         HirKind::Capture { index, name, sub } => {
-            captured(builder, alloc, which, *index, name, sub)
+            captured(builder, alloc, how, shared, *index, name, sub)
         }
-        HirKind::Concat(subs) => concatenation(builder, alloc, which, subs),
-        HirKind::Alternation(subs) => alternatives(builder, alloc, which, subs),
+        HirKind::Concat(subs) => concatenation(builder, alloc, how, shared, subs),
+        HirKind::Alternation(subs) => alternatives(builder, alloc, how, shared, subs),
     }
 }
 
@@ -79,24 +82,25 @@ fn clone_name(name: &Option<String>, alloc: Global) -> Result<Option<String>, Al
 pub(crate) fn captured(
     builder: &mut Builder,
     alloc: Global,
-    which: WhichCaptures,
+    how: How,
+    shared: &mut Shared,
     index: u32,
     name: &Option<String>,
     x: &Hir,
 ) -> Result<Fragment, BuildError>
-    requires { IsReady which builder.old }
-    ensures made { IfOk result (λ f. Makes builder.old builder.new f.start f.end (count x.now + 2)) }
+    requires { IsReady how.which builder.old }
+    ensures made { IfOk result (λ f. Makes builder.old builder.new f.start f.end (room how.shrink x.now + 2)) }
     ensures denotes { IfOk result (λ f. Does builder.old builder.new f.start f.end (capture index (option_map string_bytes name.now) x.now)) }
-    ensures groups { IfOk result (λ _. builder.new.groups ≡ noted which (length builder.old.starts) (capture index (option_map string_bytes name.now) x.now) builder.old.groups) }
-    ensures refused { IfErr result (λ e. Refuses which builder.old builder.new (count x.now + 2) (capture index (option_map string_bytes name.now) x.now) e) }
+    ensures groups { IfOk result (λ _. builder.new.groups ≡ noted how.which (length builder.old.starts) (capture index (option_map string_bytes name.now) x.now) builder.old.groups) }
+    ensures refused { IfErr result (λ e. Refuses how.which builder.old builder.new (room how.shrink x.now + 2) (capture index (option_map string_bytes name.now) x.now) e) }
 {
-    if !keeps(which, index) {
-        let body = compile(builder, alloc, which, x)?;
+    if !keeps(how.which, index) {
+        let body = compile(builder, alloc, how, shared, x)?;
         return Ok(body);
     }
     let name = clone_name(name, alloc)?;
     let start = start_group(builder, alloc, index, name)?;
-    let body = compile(builder, alloc, which, x)?;
+    let body = compile(builder, alloc, how, shared, x)?;
     let end = end_group(builder, index)?;
     lead(builder, start, body.start)?;
     lead(builder, body.end, end)?;
@@ -108,14 +112,15 @@ pub(crate) fn captured(
 fn concatenation(
     builder: &mut Builder,
     alloc: Global,
-    which: WhichCaptures,
+    how: How,
+    shared: &mut Shared,
     subs: &[Hir],
 ) -> Result<Fragment, BuildError>
-    requires { IsReady which builder.old }
-    ensures made { IfOk result (λ f. Makes builder.old builder.new f.start f.end (count (concat subs.now))) }
+    requires { IsReady how.which builder.old }
+    ensures made { IfOk result (λ f. Makes builder.old builder.new f.start f.end (room how.shrink (concat subs.now))) }
     ensures denotes { IfOk result (λ f. Does builder.old builder.new f.start f.end (concat subs.now)) }
-    ensures groups { IfOk result (λ _. builder.new.groups ≡ noted which (length builder.old.starts) (concat subs.now) builder.old.groups) }
-    ensures refused { IfErr result (λ e. Refuses which builder.old builder.new (count (concat subs.now)) (concat subs.now) e) }
+    ensures groups { IfOk result (λ _. builder.new.groups ≡ noted how.which (length builder.old.starts) (concat subs.now) builder.old.groups) }
+    ensures refused { IfErr result (λ e. Refuses how.which builder.old builder.new (room how.shrink (concat subs.now)) (concat subs.now) e) }
 {
     if subs.len() == 0 {
         let none = empty(builder)?;
@@ -123,11 +128,11 @@ fn concatenation(
     }
     let reverse = builder.get_reverse();
     let begin = turned_place(reverse, 0, subs.len());
-    let first = compile(builder, alloc, which, &subs[begin])?;
+    let first = compile(builder, alloc, how, shared, &subs[begin])?;
     let mut end = first.end;
     for i in 1..subs.len() {
         let place = turned_place(reverse, i, subs.len());
-        let next = compile(builder, alloc, which, &subs[place])?;
+        let next = compile(builder, alloc, how, shared, &subs[place])?;
         lead(builder, end, next.start)?;
         end = next.end;
     }
@@ -150,22 +155,23 @@ fn reads(x: &Hir) -> bool {
 fn zero_or_more(
     builder: &mut Builder,
     alloc: Global,
-    which: WhichCaptures,
+    how: How,
+    shared: &mut Shared,
     x: &Hir,
     greedy: bool,
 ) -> Result<Fragment, BuildError>
-    requires { IsReady which builder.old }
-    ensures made { IfOk result (λ f. Makes builder.old builder.new f.start f.end (count x.now + 3)) }
+    requires { IsReady how.which builder.old }
+    ensures made { IfOk result (λ f. Makes builder.old builder.new f.start f.end (room how.shrink x.now + 3)) }
     ensures denotes { IfOk result (λ f. Does builder.old builder.new f.start f.end (repetition 0 None greedy x.now)) }
-    ensures groups { IfOk result (λ _. builder.new.groups ≡ noted which (length builder.old.starts) (x.now) builder.old.groups) }
-    ensures refused { IfErr result (λ e. Refuses which builder.old builder.new (count x.now + 3) (x.now) e) }
+    ensures groups { IfOk result (λ _. builder.new.groups ≡ noted how.which (length builder.old.starts) (x.now) builder.old.groups) }
+    ensures refused { IfErr result (λ e. Refuses how.which builder.old builder.new (room how.shrink x.now + 3) (x.now) e) }
 {
     if !reads(x) {
-        let any = zero_or_more_of_empty(builder, alloc, which, x, greedy)?;
+        let any = zero_or_more_of_empty(builder, alloc, how, shared, x, greedy)?;
         return Ok(any);
     }
     let union = add_choice(builder, alloc, greedy)?;
-    let body = compile(builder, alloc, which, x)?;
+    let body = compile(builder, alloc, how, shared, x)?;
     lead(builder, union, body.start)?;
     lead(builder, body.end, union)?;
     Ok(Fragment {
@@ -179,17 +185,18 @@ fn zero_or_more(
 fn zero_or_more_of_empty(
     builder: &mut Builder,
     alloc: Global,
-    which: WhichCaptures,
+    how: How,
+    shared: &mut Shared,
     x: &Hir,
     greedy: bool,
 ) -> Result<Fragment, BuildError>
-    requires { IsReady which builder.old }
-    ensures made { IfOk result (λ f. Makes builder.old builder.new f.start f.end (count x.now + 3)) }
+    requires { IsReady how.which builder.old }
+    ensures made { IfOk result (λ f. Makes builder.old builder.new f.start f.end (room how.shrink x.now + 3)) }
     ensures denotes { IfOk result (λ f. Does builder.old builder.new f.start f.end (repetition 0 None greedy x.now)) }
-    ensures groups { IfOk result (λ _. builder.new.groups ≡ noted which (length builder.old.starts) (x.now) builder.old.groups) }
-    ensures refused { IfErr result (λ e. Refuses which builder.old builder.new (count x.now + 3) (x.now) e) }
+    ensures groups { IfOk result (λ _. builder.new.groups ≡ noted how.which (length builder.old.starts) (x.now) builder.old.groups) }
+    ensures refused { IfErr result (λ e. Refuses how.which builder.old builder.new (room how.shrink x.now + 3) (x.now) e) }
 {
-    let body = compile(builder, alloc, which, x)?;
+    let body = compile(builder, alloc, how, shared, x)?;
     let plus = add_choice(builder, alloc, greedy)?;
     lead(builder, body.end, plus)?;
     lead(builder, plus, body.start)?;
@@ -209,17 +216,18 @@ fn zero_or_more_of_empty(
 fn one_or_more(
     builder: &mut Builder,
     alloc: Global,
-    which: WhichCaptures,
+    how: How,
+    shared: &mut Shared,
     x: &Hir,
     greedy: bool,
 ) -> Result<Fragment, BuildError>
-    requires { IsReady which builder.old }
-    ensures made { IfOk result (λ f. Makes builder.old builder.new f.start f.end (count x.now + 1)) }
+    requires { IsReady how.which builder.old }
+    ensures made { IfOk result (λ f. Makes builder.old builder.new f.start f.end (room how.shrink x.now + 1)) }
     ensures denotes { IfOk result (λ f. Does builder.old builder.new f.start f.end (repetition 1 None greedy x.now)) }
-    ensures groups { IfOk result (λ _. builder.new.groups ≡ noted which (length builder.old.starts) (x.now) builder.old.groups) }
-    ensures refused { IfErr result (λ e. Refuses which builder.old builder.new (count x.now + 1) (x.now) e) }
+    ensures groups { IfOk result (λ _. builder.new.groups ≡ noted how.which (length builder.old.starts) (x.now) builder.old.groups) }
+    ensures refused { IfErr result (λ e. Refuses how.which builder.old builder.new (room how.shrink x.now + 1) (x.now) e) }
 {
-    let body = compile(builder, alloc, which, x)?;
+    let body = compile(builder, alloc, how, shared, x)?;
     let union = add_choice(builder, alloc, greedy)?;
     lead(builder, body.end, union)?;
     lead(builder, union, body.start)?;
@@ -234,18 +242,19 @@ fn one_or_more(
 fn zero_or_one(
     builder: &mut Builder,
     alloc: Global,
-    which: WhichCaptures,
+    how: How,
+    shared: &mut Shared,
     x: &Hir,
     greedy: bool,
 ) -> Result<Fragment, BuildError>
-    requires { IsReady which builder.old }
-    ensures made { IfOk result (λ f. Makes builder.old builder.new f.start f.end (count x.now + 2)) }
+    requires { IsReady how.which builder.old }
+    ensures made { IfOk result (λ f. Makes builder.old builder.new f.start f.end (room how.shrink x.now + 2)) }
     ensures denotes { IfOk result (λ f. Does builder.old builder.new f.start f.end (repetition 0 (Some 1) greedy x.now)) }
-    ensures groups { IfOk result (λ _. builder.new.groups ≡ noted which (length builder.old.starts) (x.now) builder.old.groups) }
-    ensures refused { IfErr result (λ e. Refuses which builder.old builder.new (count x.now + 2) (x.now) e) }
+    ensures groups { IfOk result (λ _. builder.new.groups ≡ noted how.which (length builder.old.starts) (x.now) builder.old.groups) }
+    ensures refused { IfErr result (λ e. Refuses how.which builder.old builder.new (room how.shrink x.now + 2) (x.now) e) }
 {
     let union = add_choice(builder, alloc, greedy)?;
-    let body = compile(builder, alloc, which, x)?;
+    let body = compile(builder, alloc, how, shared, x)?;
     let end = add_empty(builder)?;
     lead(builder, union, body.start)?;
     lead(builder, union, end)?;
@@ -258,21 +267,22 @@ fn zero_or_one(
 fn copies(
     builder: &mut Builder,
     alloc: Global,
-    which: WhichCaptures,
+    how: How,
+    shared: &mut Shared,
     x: &Hir,
     n: u32,
 ) -> Result<Fragment, BuildError>
-    requires ready { IsReady which builder.old }
+    requires ready { IsReady how.which builder.old }
     requires some { 1 ≤ n }
-    ensures made { IfOk result (λ f. Makes builder.old builder.new f.start f.end (n * count x.now)) }
+    ensures made { IfOk result (λ f. Makes builder.old builder.new f.start f.end (n * room how.shrink x.now)) }
     ensures denotes { IfOk result (λ f. DoesCopies builder.old builder.new f.start f.end n x.now) }
-    ensures groups { IfOk result (λ _. builder.new.groups ≡ noted which (length builder.old.starts) (x.now) builder.old.groups) }
-    ensures refused { IfErr result (λ e. Refuses which builder.old builder.new (n * count x.now) (x.now) e) }
+    ensures groups { IfOk result (λ _. builder.new.groups ≡ noted how.which (length builder.old.starts) (x.now) builder.old.groups) }
+    ensures refused { IfErr result (λ e. Refuses how.which builder.old builder.new (n * room how.shrink x.now) (x.now) e) }
 {
-    let first = compile(builder, alloc, which, x)?;
+    let first = compile(builder, alloc, how, shared, x)?;
     let mut end = first.end;
     for _ in 1..n {
-        let next = compile(builder, alloc, which, x)?;
+        let next = compile(builder, alloc, how, shared, x)?;
         lead(builder, end, next.start)?;
         end = next.end;
     }
@@ -287,27 +297,28 @@ fn copies(
 fn at_least(
     builder: &mut Builder,
     alloc: Global,
-    which: WhichCaptures,
+    how: How,
+    shared: &mut Shared,
     x: &Hir,
     greedy: bool,
     min: u32,
 ) -> Result<Fragment, BuildError>
-    requires { IsReady which builder.old }
-    ensures made { IfOk result (λ f. Makes builder.old builder.new f.start f.end (count (repetition min None greedy x.now))) }
+    requires { IsReady how.which builder.old }
+    ensures made { IfOk result (λ f. Makes builder.old builder.new f.start f.end (room how.shrink (repetition min None greedy x.now))) }
     ensures denotes { IfOk result (λ f. Does builder.old builder.new f.start f.end (repetition min None greedy x.now)) }
-    ensures groups { IfOk result (λ _. builder.new.groups ≡ noted which (length builder.old.starts) (repetition min None greedy x.now) builder.old.groups) }
-    ensures refused { IfErr result (λ e. Refuses which builder.old builder.new (count (repetition min None greedy x.now)) (repetition min None greedy x.now) e) }
+    ensures groups { IfOk result (λ _. builder.new.groups ≡ noted how.which (length builder.old.starts) (repetition min None greedy x.now) builder.old.groups) }
+    ensures refused { IfErr result (λ e. Refuses how.which builder.old builder.new (room how.shrink (repetition min None greedy x.now)) (repetition min None greedy x.now) e) }
 {
     if min == 0 {
-        let any = zero_or_more(builder, alloc, which, x, greedy)?;
+        let any = zero_or_more(builder, alloc, how, shared, x, greedy)?;
         return Ok(any);
     }
     if min == 1 {
-        let some = one_or_more(builder, alloc, which, x, greedy)?;
+        let some = one_or_more(builder, alloc, how, shared, x, greedy)?;
         return Ok(some);
     }
-    let prefix = copies(builder, alloc, which, x, min - 1)?;
-    let last = one_or_more(builder, alloc, which, x, greedy)?;
+    let prefix = copies(builder, alloc, how, shared, x, min - 1)?;
+    let last = one_or_more(builder, alloc, how, shared, x, greedy)?;
     lead(builder, prefix.end, last.start)?;
     Ok(Fragment {
         start: prefix.start,
@@ -320,20 +331,21 @@ fn at_least(
 fn option(
     builder: &mut Builder,
     alloc: Global,
-    which: WhichCaptures,
+    how: How,
+    shared: &mut Shared,
     x: &Hir,
     greedy: bool,
     exit: StateID,
 ) -> Result<Fragment, BuildError>
-    requires ready { IsReady which builder.old }
+    requires ready { IsReady how.which builder.old }
     requires there { exit < length builder.old.parts }
-    ensures made { IfOk result (λ f. Makes builder.old builder.new f.start f.end (count x.now + 1)) }
+    ensures made { IfOk result (λ f. Makes builder.old builder.new f.start f.end (room how.shrink x.now + 1)) }
     ensures denotes { IfOk result (λ f. DoesOption builder.old builder.new f.start f.end exit greedy x.now) }
-    ensures groups { IfOk result (λ _. builder.new.groups ≡ noted which (length builder.old.starts) (x.now) builder.old.groups) }
-    ensures refused { IfErr result (λ e. Refuses which builder.old builder.new (count x.now + 1) (x.now) e) }
+    ensures groups { IfOk result (λ _. builder.new.groups ≡ noted how.which (length builder.old.starts) (x.now) builder.old.groups) }
+    ensures refused { IfErr result (λ e. Refuses how.which builder.old builder.new (room how.shrink x.now + 1) (x.now) e) }
 {
     let union = add_choice(builder, alloc, greedy)?;
-    let body = compile(builder, alloc, which, x)?;
+    let body = compile(builder, alloc, how, shared, x)?;
     lead(builder, union, body.start)?;
     lead(builder, union, exit)?;
     Ok(Fragment {
@@ -347,23 +359,24 @@ fn option(
 fn up_to(
     builder: &mut Builder,
     alloc: Global,
-    which: WhichCaptures,
+    how: How,
+    shared: &mut Shared,
     x: &Hir,
     greedy: bool,
     most: u32,
 ) -> Result<Fragment, BuildError>
-    requires ready { IsReady which builder.old }
+    requires ready { IsReady how.which builder.old }
     requires some { 1 ≤ most }
-    ensures made { IfOk result (λ f. Makes builder.old builder.new f.start f.end (most * (count x.now + 1) + 1)) }
+    ensures made { IfOk result (λ f. Makes builder.old builder.new f.start f.end (most * (room how.shrink x.now + 1) + 1)) }
     ensures denotes { IfOk result (λ f. Does builder.old builder.new f.start f.end (repetition 0 (Some most) greedy x.now)) }
-    ensures groups { IfOk result (λ _. builder.new.groups ≡ noted which (length builder.old.starts) (x.now) builder.old.groups) }
-    ensures refused { IfErr result (λ e. Refuses which builder.old builder.new (most * (count x.now + 1) + 1) (x.now) e) }
+    ensures groups { IfOk result (λ _. builder.new.groups ≡ noted how.which (length builder.old.starts) (x.now) builder.old.groups) }
+    ensures refused { IfErr result (λ e. Refuses how.which builder.old builder.new (most * (room how.shrink x.now + 1) + 1) (x.now) e) }
 {
     let exit = add_empty(builder)?;
-    let first = option(builder, alloc, which, x, greedy, exit)?;
+    let first = option(builder, alloc, how, shared, x, greedy, exit)?;
     let mut end = first.end;
     for _ in 1..most {
-        let next = option(builder, alloc, which, x, greedy, exit)?;
+        let next = option(builder, alloc, how, shared, x, greedy, exit)?;
         lead(builder, end, next.start)?;
         end = next.end;
     }
@@ -379,25 +392,26 @@ fn up_to(
 fn owed_and_more(
     builder: &mut Builder,
     alloc: Global,
-    which: WhichCaptures,
+    how: How,
+    shared: &mut Shared,
     x: &Hir,
     greedy: bool,
     min: u32,
     most: u32,
 ) -> Result<Fragment, BuildError>
-    requires ready { IsReady which builder.old }
+    requires ready { IsReady how.which builder.old }
     requires some { 1 ≤ min }
     requires ordered { min ≤ most }
-    ensures made { IfOk result (λ f. Makes builder.old builder.new f.start f.end (min * count x.now + (most - min) * (count x.now + 1) + 1)) }
+    ensures made { IfOk result (λ f. Makes builder.old builder.new f.start f.end (min * room how.shrink x.now + (most - min) * (room how.shrink x.now + 1) + 1)) }
     ensures denotes { IfOk result (λ f. Does builder.old builder.new f.start f.end (repetition min (Some most) greedy x.now)) }
-    ensures groups { IfOk result (λ _. builder.new.groups ≡ noted which (length builder.old.starts) (x.now) builder.old.groups) }
-    ensures refused { IfErr result (λ e. Refuses which builder.old builder.new (min * count x.now + (most - min) * (count x.now + 1) + 1) (x.now) e) }
+    ensures groups { IfOk result (λ _. builder.new.groups ≡ noted how.which (length builder.old.starts) (x.now) builder.old.groups) }
+    ensures refused { IfErr result (λ e. Refuses how.which builder.old builder.new (min * room how.shrink x.now + (most - min) * (room how.shrink x.now + 1) + 1) (x.now) e) }
 {
-    let prefix = copies(builder, alloc, which, x, min)?;
+    let prefix = copies(builder, alloc, how, shared, x, min)?;
     let exit = add_empty(builder)?;
     let mut end = prefix.end;
     for _ in min..most {
-        let next = option(builder, alloc, which, x, greedy, exit)?;
+        let next = option(builder, alloc, how, shared, x, greedy, exit)?;
         lead(builder, end, next.start)?;
         end = next.end;
     }
@@ -413,36 +427,37 @@ fn owed_and_more(
 fn between(
     builder: &mut Builder,
     alloc: Global,
-    which: WhichCaptures,
+    how: How,
+    shared: &mut Shared,
     x: &Hir,
     greedy: bool,
     min: u32,
     most: u32,
 ) -> Result<Fragment, BuildError>
-    requires ready { IsReady which builder.old }
+    requires ready { IsReady how.which builder.old }
     requires ordered { min ≤ most }
-    ensures made { IfOk result (λ f. Makes builder.old builder.new f.start f.end (count (repetition min (Some most) greedy x.now))) }
+    ensures made { IfOk result (λ f. Makes builder.old builder.new f.start f.end (room how.shrink (repetition min (Some most) greedy x.now))) }
     ensures denotes { IfOk result (λ f. Does builder.old builder.new f.start f.end (repetition min (Some most) greedy x.now)) }
-    ensures groups { IfOk result (λ _. builder.new.groups ≡ noted which (length builder.old.starts) (repetition min (Some most) greedy x.now) builder.old.groups) }
-    ensures refused { IfErr result (λ e. Refuses which builder.old builder.new (count (repetition min (Some most) greedy x.now)) (repetition min (Some most) greedy x.now) e) }
+    ensures groups { IfOk result (λ _. builder.new.groups ≡ noted how.which (length builder.old.starts) (repetition min (Some most) greedy x.now) builder.old.groups) }
+    ensures refused { IfErr result (λ e. Refuses how.which builder.old builder.new (room how.shrink (repetition min (Some most) greedy x.now)) (repetition min (Some most) greedy x.now) e) }
 {
     if most == 0 {
         let none = empty(builder)?;
         return Ok(none);
     }
     if min == most {
-        let all = copies(builder, alloc, which, x, min)?;
+        let all = copies(builder, alloc, how, shared, x, min)?;
         return Ok(all);
     }
     if min > 0 {
-        let some = owed_and_more(builder, alloc, which, x, greedy, min, most)?;
+        let some = owed_and_more(builder, alloc, how, shared, x, greedy, min, most)?;
         return Ok(some);
     }
     if most == 1 {
-        let one = zero_or_one(builder, alloc, which, x, greedy)?;
+        let one = zero_or_one(builder, alloc, how, shared, x, greedy)?;
         return Ok(one);
     }
-    let any = up_to(builder, alloc, which, x, greedy, most)?;
+    let any = up_to(builder, alloc, how, shared, x, greedy, most)?;
     Ok(any)
 }
 
@@ -451,25 +466,26 @@ fn between(
 fn alternatives(
     builder: &mut Builder,
     alloc: Global,
-    which: WhichCaptures,
+    how: How,
+    shared: &mut Shared,
     subs: &[Hir],
 ) -> Result<Fragment, BuildError>
-    requires { IsReady which builder.old }
-    ensures made { IfOk result (λ f. Makes builder.old builder.new f.start f.end (count (alternation subs.now))) }
+    requires { IsReady how.which builder.old }
+    ensures made { IfOk result (λ f. Makes builder.old builder.new f.start f.end (room how.shrink (alternation subs.now))) }
     ensures denotes { IfOk result (λ f. Does builder.old builder.new f.start f.end (alternation subs.now)) }
-    ensures groups { IfOk result (λ _. builder.new.groups ≡ noted which (length builder.old.starts) (alternation subs.now) builder.old.groups) }
-    ensures refused { IfErr result (λ e. Refuses which builder.old builder.new (count (alternation subs.now)) (alternation subs.now) e) }
+    ensures groups { IfOk result (λ _. builder.new.groups ≡ noted how.which (length builder.old.starts) (alternation subs.now) builder.old.groups) }
+    ensures refused { IfErr result (λ e. Refuses how.which builder.old builder.new (room how.shrink (alternation subs.now)) (alternation subs.now) e) }
 {
     if subs.len() == 0 {
         let none = fail(builder)?;
         return Ok(none);
     }
     if subs.len() == 1 {
-        let one = compile(builder, alloc, which, &subs[0])?;
+        let one = compile(builder, alloc, how, shared, &subs[0])?;
         return Ok(one);
     }
-    let first = compile(builder, alloc, which, &subs[0])?;
-    let second = compile(builder, alloc, which, &subs[1])?;
+    let first = compile(builder, alloc, how, shared, &subs[0])?;
+    let second = compile(builder, alloc, how, shared, &subs[1])?;
     let union = add_choice(builder, alloc, true)?;
     let end = add_empty(builder)?;
     lead(builder, union, first.start)?;
@@ -477,7 +493,7 @@ fn alternatives(
     lead(builder, union, second.start)?;
     lead(builder, second.end, end)?;
     for i in 2..subs.len() {
-        let next = compile(builder, alloc, which, &subs[i])?;
+        let next = compile(builder, alloc, how, shared, &subs[i])?;
         lead(builder, union, next.start)?;
         lead(builder, next.end, end)?;
     }

@@ -4,6 +4,7 @@ ghost use Rattle.thompson_nfa.specs.Compilations.{IsCompiled};
 ghost use Rattle.thompson_nfa.specs.RefusedTrees.{RefusesTrees};
 
 use crate::config::Config;
+use crate::shared::Shared;
 use crate::trees::compile_trees;
 use hir_core::Hir;
 use nfa_core::{BuildError, Builder, NFA};
@@ -19,6 +20,7 @@ use std::slice;
 pub struct Compiler {
     config: Config,
     builder: Builder,
+    shared: Shared,
 }
 
 impl Model for Compiler {
@@ -37,6 +39,7 @@ impl Compiler {
         Compiler {
             config: Config::new(),
             builder: Builder::new(alloc),
+            shared: Shared::new(alloc),
         }
     }
 
@@ -69,7 +72,13 @@ impl Compiler {
         ensures compiled { IfOk result (λ n. IsCompiled self.old exprs.now n) }
         ensures refused { IfErr result (λ e. RefusesTrees self.old exprs.now e) }
     {
-        let nfa = compile_trees(&mut self.builder, alloc, &self.config, exprs)?;
+        let nfa = compile_trees(
+            &mut self.builder,
+            alloc,
+            &mut self.shared,
+            &self.config,
+            exprs,
+        )?;
         Ok(nfa)
     }
 }

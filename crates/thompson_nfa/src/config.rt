@@ -1,5 +1,5 @@
 ghost use Rattle.std.specs.Prelude.{◌≡◌, Some};
-ghost use Rattle.thompson_nfa.specs.Configs.{no_options, changed_by, utf8_of, reverse_of, limit_of, shrink_of, captures_of, terminator_of, is_any, all_or_none};
+ghost use Rattle.thompson_nfa.specs.Configs.{no_options, changed_by, utf8_of, reverse_of, limit_of, shrink_of, captures_of, terminator_of, is_any, is_shrunk, all_or_none};
 
 use crate::which_captures::WhichCaptures;
 use look_core::{AsciiWord, LineTerm, LookMatcher};
@@ -143,6 +143,13 @@ impl Config {
         ensures { result ≡ shrink_of self.now }
     {
         self.shrink.unwrap_or(false)
+    }
+
+    /// Whether classes of characters are made smaller.
+    pub(crate) fn is_shrunk(&self) -> bool
+        ensures { result ≡ is_shrunk self.now }
+    {
+        self.get_reverse() && self.get_shrink()
     }
 
     /// Whether there are states for some group.

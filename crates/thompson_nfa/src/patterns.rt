@@ -2,22 +2,23 @@
 ghost use Rattle.std.specs.Prelude.{◌≡◌, ◌≢◌, ◌<◌, ◌≤◌, ◌+◌, ◌&&◌, true, false, [], ◌∷◌, length, IfOk, IfErr, MatchResult};
 ghost use Rattle.std.specs.List.{list_all};
 ghost use Rattle.search_core.specs.Index.{greatest_index};
-ghost use Rattle.hir_core.specs.Facts.{count};
 ghost use Rattle.nfa_core.specs.BuilderStates.{match_part, union_part, part_at, is_sparse};
 ghost use Rattle.thompson_nfa.specs.declared.which_captures.WhichCaptures.TheVariants as which_captures;
 ghost use Rattle.nfa_core.specs.Renaming.{past};
 ghost use Rattle.thompson_nfa.specs.Added.{Added};
 ghost use Rattle.thompson_nfa.specs.Assembled.{IsAssembled};
-ghost use Rattle.thompson_nfa.specs.Configs.{reverse_of, captures_of, is_any};
+ghost use Rattle.thompson_nfa.specs.Configs.{reverse_of, captures_of, is_any, is_shrunk};
 ghost use Rattle.thompson_nfa.specs.Patterns.{HasAll, HasStart, LeadsToFurther, LeadsToPatterns, RefusesPatterns, begun_with, room_for};
 ghost use Rattle.thompson_nfa.specs.Refusals.{Stays};
 ghost use Rattle.thompson_nfa.specs.RefusedTrees.{Breaks};
+ghost use Rattle.thompson_nfa.specs.Room.{room};
 
 use crate::compile::captured;
 use crate::config::Config;
+use crate::how::How;
 use crate::parts::{add_choice, add_empty, add_fail, lead};
 use crate::prefix::{add_prefix, all_anchored};
-use crate::which_captures::WhichCaptures;
+use crate::shared::Shared;
 use hir_core::Hir;
 use nfa_core::{BuildError, Builder};
 use search_core::StateID;
@@ -43,18 +44,19 @@ fn add_match(builder: &mut Builder) -> Result<StateID, BuildError>
 fn compile_pattern(
     builder: &mut Builder,
     alloc: Global,
-    which: WhichCaptures,
+    how: How,
+    shared: &mut Shared,
     expr: &Hir,
 ) -> Result<StateID, BuildError>
     requires closed { builder.old.is_open ≡ false }
-    requires upward { builder.old.reverse ≡ true → which ≡ which_captures.None }
+    requires upward { builder.old.reverse ≡ true → how.which ≡ which_captures.None }
     requires numbered { length builder.old.starts ≤ greatest_index }
-    ensures has { IfOk result (λ start. HasAll which builder.old builder.new (start ∷ []) (expr.now ∷ []) (count expr.now + 3) 4) }
-    ensures refused { IfErr result (λ e. RefusesPatterns which builder.old (count expr.now + 3) (expr.now ∷ []) e) }
+    ensures has { IfOk result (λ start. HasAll how.which builder.old builder.new (start ∷ []) (expr.now ∷ []) (room how.shrink expr.now + 3) 4) }
+    ensures refused { IfErr result (λ e. RefusesPatterns how.which builder.old (room how.shrink expr.now + 3) (expr.now ∷ []) e) }
 {
     builder.start_pattern()?;
     let unnamed: Option<String> = None;
-    let body = captured(builder, alloc, which, 0, &unnamed, expr)?;
+    let body = captured(builder, alloc, how, shared, 0, &unnamed, expr)?;
     let end = add_match(builder)?;
     lead(builder, body.end, end)?;
     builder.finish_pattern(body.start)?;
@@ -65,20 +67,21 @@ fn compile_pattern(
 fn compile_further(
     builder: &mut Builder,
     alloc: Global,
-    which: WhichCaptures,
+    how: How,
+    shared: &mut Shared,
     union: StateID,
     exprs: &[Hir],
 ) -> Result<(), BuildError>
     requires closed { builder.old.is_open ≡ false }
-    requires upward { builder.old.reverse ≡ true → which ≡ which_captures.None }
+    requires upward { builder.old.reverse ≡ true → how.which ≡ which_captures.None }
     requires numbered { length builder.old.starts + length exprs.now ≤ greatest_index + 1 }
     requires there { union < length builder.old.parts }
     requires kind { is_sparse (part_at builder.old.parts union) ≡ false }
-    ensures has { IfOk result (λ _. LeadsToFurther which union builder.old builder.new exprs.now (room_for exprs.now)) }
-    ensures refused { IfErr result (λ e. RefusesPatterns which builder.old (room_for exprs.now) exprs.now e) }
+    ensures has { IfOk result (λ _. LeadsToFurther how.which union builder.old builder.new exprs.now (room_for how.shrink exprs.now)) }
+    ensures refused { IfErr result (λ e. RefusesPatterns how.which builder.old (room_for how.shrink exprs.now) exprs.now e) }
 {
     for expr in exprs {
-        let start = compile_pattern(builder, alloc, which, expr)?;
+        let start = compile_pattern(builder, alloc, how, shared, expr)?;
         lead(builder, union, start)?;
     }
     Ok(())
@@ -89,28 +92,29 @@ fn compile_further(
 fn compile_patterns(
     builder: &mut Builder,
     alloc: Global,
-    which: WhichCaptures,
+    how: How,
+    shared: &mut Shared,
     exprs: &[Hir],
 ) -> Result<StateID, BuildError>
     requires closed { builder.old.is_open ≡ false }
-    requires upward { builder.old.reverse ≡ true → which ≡ which_captures.None }
+    requires upward { builder.old.reverse ≡ true → how.which ≡ which_captures.None }
     requires numbered { length builder.old.starts + length exprs.now ≤ greatest_index + 1 }
-    ensures has { IfOk result (λ c. LeadsToPatterns which builder.old builder.new c exprs.now (room_for exprs.now + 1)) }
-    ensures refused { IfErr result (λ e. RefusesPatterns which builder.old (room_for exprs.now + 1) exprs.now e) }
+    ensures has { IfOk result (λ c. LeadsToPatterns how.which builder.old builder.new c exprs.now (room_for how.shrink exprs.now + 1)) }
+    ensures refused { IfErr result (λ e. RefusesPatterns how.which builder.old (room_for how.shrink exprs.now + 1) exprs.now e) }
 {
     let Some((first, rest)) = exprs.split_first() else {
         let none = add_fail(builder)?;
         return Ok(none);
     };
-    let first = compile_pattern(builder, alloc, which, first)?;
+    let first = compile_pattern(builder, alloc, how, shared, first)?;
     let Some((second, rest)) = rest.split_first() else {
         return Ok(first);
     };
-    let second = compile_pattern(builder, alloc, which, second)?;
+    let second = compile_pattern(builder, alloc, how, shared, second)?;
     let union = add_choice(builder, alloc, true)?;
     lead(builder, union, first)?;
     lead(builder, union, second)?;
-    compile_further(builder, alloc, which, union, rest)?;
+    compile_further(builder, alloc, how, shared, union, rest)?;
     Ok(union)
 }
 
@@ -130,6 +134,7 @@ fn add_start(builder: &mut Builder, alloc: Global, anchored: bool) -> Result<Sta
 pub(crate) fn compile_all(
     builder: &mut Builder,
     alloc: Global,
+    shared: &mut Shared,
     config: &Config,
     exprs: &[Hir],
 ) -> Result<Starts, BuildError>
@@ -138,12 +143,14 @@ pub(crate) fn compile_all(
     requires numbered { length exprs.now ≤ greatest_index + 1 }
     ensures assembled { IfOk result (λ s. IsAssembled config.now exprs.now builder.new s.anchored s.unanchored) }
     ensures apart { IfOk result (λ s. past builder.new.parts s.anchored ≢ s.unanchored) }
-    ensures refused { IfErr result (λ e. RefusesPatterns (captures_of config.now) builder.old (room_for exprs.now + 4) exprs.now e) }
+    ensures refused { IfErr result (λ e. RefusesPatterns (captures_of config.now) builder.old (room_for (is_shrunk config.now) exprs.now + 4) exprs.now e) }
 {
     let which = config.get_which_captures();
+    let shrink = config.is_shrunk();
+    let how = How { which, shrink };
     let anchored = all_anchored(exprs, config.get_reverse());
     let start = add_start(builder, alloc, anchored)?;
-    let patterns = compile_patterns(builder, alloc, which, exprs)?;
+    let patterns = compile_patterns(builder, alloc, how, shared, exprs)?;
     lead(builder, start, patterns)?;
     Ok(Starts {
         anchored: patterns,

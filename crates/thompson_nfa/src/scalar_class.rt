@@ -8,11 +8,14 @@ ghost use Rattle.nfa_core.specs.BuilderStates.{part_at, is_sparse};
 ghost use Rattle.thompson_nfa.specs.Branches.{AddsBranch, AddsAll};
 ghost use Rattle.thompson_nfa.specs.Compiled.{Makes, Does};
 ghost use Rattle.thompson_nfa.specs.Refusals.{Quits};
+ghost use Rattle.thompson_nfa.specs.Room.{room};
 
 use crate::branch::lead_branch;
 use crate::fragment::Fragment;
+use crate::how::How;
 use crate::leaves::{byte_range, turned_place};
 use crate::parts::{add_choice, add_empty, lead};
+use crate::shared::Shared;
 use hir_core::{Utf8Range, Utf8Sequence, Utf8Sequences};
 use nfa_core::{BuildError, Builder};
 use search_core::StateID;
@@ -102,7 +105,7 @@ fn add_sequences(
 }
 
 /// A choice of the sequences of all ranges, which all lead to one common end.
-pub(crate) fn compile_scalars(
+fn plain_scalars(
     builder: &mut Builder,
     alloc: Global,
     ranges: &[(char, char)],
@@ -119,4 +122,22 @@ pub(crate) fn compile_scalars(
         add_sequences(builder, range.0, range.1, choice, end)?;
     }
     Ok(Fragment { start: choice, end })
+}
+
+/// A class of scalars, in the form that suits the direction.
+pub(crate) fn compile_scalars(
+    builder: &mut Builder,
+    alloc: Global,
+    how: How,
+    shared: &mut Shared,
+    ranges: &[(char, char)],
+) -> Result<Fragment, BuildError>
+    requires { is_ascending ranges.now ≡ true }
+    ensures made { IfOk result (λ f. Makes builder.old builder.new f.start f.end (room how.shrink (char_class ranges.now))) }
+    ensures does { IfOk result (λ f. Does builder.old builder.new f.start f.end (char_class ranges.now)) }
+    ensures groups { IfOk result (λ _. builder.new.groups ≡ builder.old.groups) }
+    ensures refused { IfErr result (λ e. Quits builder.old builder.new (room how.shrink (char_class ranges.now)) e) }
+{
+    let class = plain_scalars(builder, alloc, ranges)?;
+    Ok(class)
 }

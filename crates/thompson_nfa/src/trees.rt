@@ -14,6 +14,7 @@ ghost use Rattle.thompson_nfa.specs.RefusedTrees.{RefusesTrees};
 
 use crate::config::Config;
 use crate::patterns::{Starts, compile_all};
+use crate::shared::Shared;
 use hir_core::Hir;
 use nfa_core::nfa_laws::reached_states_are_led_to;
 use nfa_core::{BuildError, Builder, NFA, Steps};
@@ -120,6 +121,7 @@ fn finish(
 pub(crate) fn compile_trees(
     builder: &mut Builder,
     alloc: Global,
+    shared: &mut Shared,
     config: &Config,
     exprs: &[Hir],
 ) -> Result<NFA, BuildError>
@@ -129,7 +131,7 @@ pub(crate) fn compile_trees(
     check_patterns(exprs.len())?;
     check_captures(config)?;
     start_over(builder, config)?;
-    let starts = match compile_all(builder, alloc, config, exprs) {
+    let starts = match compile_all(builder, alloc, shared, config, exprs) {
         Ok(starts) => starts,
         Err(err) => return Err(told(config.get_nfa_size_limit(), err)),
     };

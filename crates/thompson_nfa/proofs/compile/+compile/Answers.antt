@@ -58,18 +58,18 @@ option-returns-clause-denotes t c =
     option_does _ _ _ _ _ c.args.greedy _ _ _ _ _ c.in_ok-union.ensures c.in_ok-body.ensures.made c.in_ok-lead.ensures c.in_ok-lead-2.ensures c.requires.there c.args.x.now c.in_ok-body.ensures.denotes
 
 pub copies-loop-init : goal.copies-loop-init
-copies-loop-init t c = (copies_first c.args.which _ _ _ _ c.args.x.now c.in_ok-first.ensures.made c.in_ok-first.ensures.denotes c.in_ok-first.ensures.groups, c.requires.some)
+copies-loop-init t c = (copies_first c.args.how _ _ _ _ c.args.x.now c.in_ok-first.ensures.made c.in_ok-first.ensures.denotes c.in_ok-first.ensures.groups, c.requires.some)
 
 pub copies-loop-preserved : goal.copies-loop-preserved
 copies-loop-preserved t c =
-    (copies_then c.args.which _ _ _ _ _ _ _ _ c.loop.counter c.args.x.now c.loop.invariant.0 c.in_ok-next.ensures.made c.in_ok-next.ensures.denotes c.in_ok-next.ensures.groups c.in_ok-lead.ensures, omega arith)
+    (copies_then c.args.how _ _ _ _ _ _ _ _ c.loop.counter c.args.x.now c.loop.invariant.0 c.in_ok-next.ensures.made c.in_ok-next.ensures.denotes c.in_ok-next.ensures.groups c.in_ok-lead.ensures, omega arith)
 
 pub copies-returns-clause-denotes : goal.copies-returns-clause-denotes
-copies-returns-clause-denotes t c = copies_done c.args.which _ _ _ _ c.loop.counter c.args.n c.args.x.now c.loop.invariant.0 c.loop.invariant.1 c.loop-test.false
+copies-returns-clause-denotes t c = copies_done c.args.how _ _ _ _ c.loop.counter c.args.n c.args.x.now c.loop.invariant.0 c.loop.invariant.1 c.loop-test.false
 
 pub at_least-returns-clause-made : goal.at_least-returns-clause-made
 at_least-returns-clause-made t c =
-    at_least_made _ _ _ _ _ _ _ _ c.args.min c.args.greedy c.args.x.now (omega arith) c.in_ok-prefix.ensures.made c.in_ok-last.ensures.made c.in_ok-lead.ensures
+    at_least_made c.args.how.shrink _ _ _ _ _ _ _ _ c.args.min c.args.greedy c.args.x.now (omega arith) c.in_ok-prefix.ensures.made c.in_ok-last.ensures.made c.in_ok-lead.ensures
 
 pub at_least-returns-clause-denotes : goal.at_least-returns-clause-denotes
 at_least-returns-clause-denotes t c =
@@ -79,37 +79,37 @@ at_least-returns-clause-denotes t c =
 pub at_least-returns-clause-groups : goal.at_least-returns-clause-groups
 at_least-returns-clause-groups t c =
     ap (λ (b : Assembly). b.groups) c.in_ok-lead.ensures.settings
-    ∙ groups_again c.args.which _ _ c.args.x.now _ _ _ (ap (λ (b : Assembly). length b.starts) c.in_ok-prefix.ensures.made.fragment.grows.settings) c.in_ok-prefix.ensures.groups c.in_ok-last.ensures.groups
+    ∙ groups_again c.args.how.which _ _ c.args.x.now _ _ _ (ap (λ (b : Assembly). length b.starts) c.in_ok-prefix.ensures.made.fragment.grows.settings) c.in_ok-prefix.ensures.groups c.in_ok-last.ensures.groups
 
 pub up_to-loop-init : goal.up_to-loop-init
 up_to-loop-init t c =
-    rounds_first c.args.which _ _ _ _ _ _ c.args.most c.args.greedy c.args.x.now (omega arith) c.in_ok-exit.ensures c.in_ok-first.ensures.made c.in_ok-first.ensures.denotes c.in_ok-first.ensures.groups
+    rounds_first c.args.how _ _ _ _ _ _ c.args.most c.args.greedy c.args.x.now (omega arith) c.in_ok-exit.ensures c.in_ok-first.ensures.made c.in_ok-first.ensures.denotes c.in_ok-first.ensures.groups
 
 pub up_to-loop-preserved : goal.up_to-loop-preserved
 up_to-loop-preserved t c =
-    rounds_then c.args.which _ _ _ _ _ c.loop.counter 0 c.args.most _ c.args.greedy c.args.x.now c.loop.invariant _ _ _ _ c.loop-test.true c.in_ok-next.ensures.made c.in_ok-next.ensures.denotes
+    rounds_then c.args.how _ _ _ _ _ c.loop.counter 0 c.args.most _ c.args.greedy c.args.x.now c.loop.invariant _ _ _ _ c.loop-test.true c.in_ok-next.ensures.made c.in_ok-next.ensures.denotes
     c.in_ok-next.ensures.groups c.in_ok-lead.ensures
 
 pub up_to-returns-clause-made : goal.up_to-returns-clause-made
-up_to-returns-clause-made t c = rounds_made c.args.which _ _ _ _ _ c.loop.counter 0 c.args.most _ c.args.greedy c.args.x.now c.loop.invariant _ c.in_ok-lead-2.ensures c.loop-test.false
+up_to-returns-clause-made t c = rounds_made c.args.how _ _ _ _ _ c.loop.counter 0 c.args.most _ c.args.greedy c.args.x.now c.loop.invariant _ c.in_ok-lead-2.ensures c.loop-test.false
 
 pub up_to-returns-clause-denotes : goal.up_to-returns-clause-denotes
-up_to-returns-clause-denotes t c = rounds_does c.args.which _ _ _ _ _ c.loop.counter 0 c.args.most _ c.args.greedy c.args.x.now c.loop.invariant _ c.in_ok-lead-2.ensures c.loop-test.false
+up_to-returns-clause-denotes t c = rounds_does c.args.how _ _ _ _ _ c.loop.counter 0 c.args.most _ c.args.greedy c.args.x.now c.loop.invariant _ c.in_ok-lead-2.ensures c.loop-test.false
 
 pub owed_and_more-loop-init : goal.owed_and_more-loop-init
 owed_and_more-loop-init t c =
-    rounds_owed c.args.which _ _ _ _ _ _ c.args.min c.args.most c.args.greedy c.args.x.now c.requires.ordered c.in_ok-prefix.ensures.made c.in_ok-prefix.ensures.denotes c.in_ok-prefix.ensures.groups c.in_ok-exit.ensures
+    rounds_owed c.args.how _ _ _ _ _ _ c.args.min c.args.most c.args.greedy c.args.x.now c.requires.ordered c.in_ok-prefix.ensures.made c.in_ok-prefix.ensures.denotes c.in_ok-prefix.ensures.groups c.in_ok-exit.ensures
 
 pub owed_and_more-loop-preserved : goal.owed_and_more-loop-preserved
 owed_and_more-loop-preserved t c =
-    rounds_then c.args.which _ _ _ _ _ c.loop.counter c.args.min c.args.most _ c.args.greedy c.args.x.now c.loop.invariant _ _ _ _ c.loop-test.true c.in_ok-next.ensures.made c.in_ok-next.ensures.denotes
+    rounds_then c.args.how _ _ _ _ _ c.loop.counter c.args.min c.args.most _ c.args.greedy c.args.x.now c.loop.invariant _ _ _ _ c.loop-test.true c.in_ok-next.ensures.made c.in_ok-next.ensures.denotes
     c.in_ok-next.ensures.groups c.in_ok-lead.ensures
 
 pub owed_and_more-returns-clause-made : goal.owed_and_more-returns-clause-made
-owed_and_more-returns-clause-made t c = rounds_made c.args.which _ _ _ _ _ c.loop.counter c.args.min c.args.most _ c.args.greedy c.args.x.now c.loop.invariant _ c.in_ok-lead-2.ensures c.loop-test.false
+owed_and_more-returns-clause-made t c = rounds_made c.args.how _ _ _ _ _ c.loop.counter c.args.min c.args.most _ c.args.greedy c.args.x.now c.loop.invariant _ c.in_ok-lead-2.ensures c.loop-test.false
 
 pub owed_and_more-returns-clause-denotes : goal.owed_and_more-returns-clause-denotes
-owed_and_more-returns-clause-denotes t c = rounds_does c.args.which _ _ _ _ _ c.loop.counter c.args.min c.args.most _ c.args.greedy c.args.x.now c.loop.invariant _ c.in_ok-lead-2.ensures c.loop-test.false
+owed_and_more-returns-clause-denotes t c = rounds_does c.args.how _ _ _ _ _ c.loop.counter c.args.min c.args.most _ c.args.greedy c.args.x.now c.loop.invariant _ c.in_ok-lead-2.ensures c.loop-test.false
 
 pub between-returns-then-most-eq0-clause-denotes : goal.between-returns-then-most-eq0-clause-denotes
 between-returns-then-most-eq0-clause-denotes t c = stopped_does _ _ _ _ c.args.min c.args.most c.args.greedy c.args.x.now (omega arith) (omega arith) c.in_ok-none.ensures.denotes
@@ -148,19 +148,19 @@ concatenation-compile-requires t c =
 pub concatenation-compile-requires-in-loop-i : goal.concatenation-compile-requires-in-loop-i
 concatenation-compile-requires-in-loop-i t c = (
   omega (arith, weight_in_concat c.args.subs.now c.turned_place-place.result c.index-subs-place.result c.turned_place-place.ensures.within, ap weight c.index-subs-place.is),
-  ready_later c.args.which _ _ c.loop-i.invariant.made.fragment.grows c.requires,
+  ready_later c.args.how.which _ _ c.loop-i.invariant.made.fragment.grows c.requires,
 )
 
 pub concatenation-loop-i-init : goal.concatenation-loop-i-init
 concatenation-loop-i-init t c =
-    parts_first c.args.which _ _ _ _ c.index-subs-begin.result c.args.subs.now c.requires (omega arith)
+    parts_first c.args.how _ _ _ _ c.index-subs-begin.result c.args.subs.now c.requires (omega arith)
     (c.index-subs-begin.is ∙ ap (λ k. get_or c.args.subs.now k c.index-subs-begin.result)
     (c.turned_place-begin.ensures.value ∙ ap (λ back. turned_place back 0 (length c.args.subs.now)) c.get_reverse-reverse.ensures))
     c.in_ok-first.ensures.made c.in_ok-first.ensures.denotes c.in_ok-first.ensures.groups
 
 pub concatenation-loop-i-preserved : goal.concatenation-loop-i-preserved
 concatenation-loop-i-preserved t c =
-    parts_then c.args.which _ _ _ _ _ _ _ _ c.loop-i.i c.index-subs-place.result c.args.subs.now c.requires c.loop-i-test.true
+    parts_then c.args.how _ _ _ _ _ _ _ _ c.loop-i.i c.index-subs-place.result c.args.subs.now c.requires c.loop-i-test.true
     (c.index-subs-place.is ∙ ap (λ k. get_or c.args.subs.now k c.index-subs-place.result)
     (c.turned_place-place.ensures.value ∙ ap (λ back. turned_place back c.loop-i.i (length c.args.subs.now)) c.get_reverse-reverse.ensures))
     c.loop-i.invariant c.in_ok-next.ensures.made c.in_ok-next.ensures.denotes c.in_ok-next.ensures.groups c.in_ok-lead.ensures
@@ -168,7 +168,7 @@ concatenation-loop-i-preserved t c =
 pub concatenation-returns-in_err-first-clause-refused : goal.concatenation-returns-in_err-first-clause-refused
 concatenation-returns-in_err-first-clause-refused t c =
     handed _ _ c.in_err-first.field-0.0 c.from_residual-in_err-first.ensures.1
-    (first_part_refused c.args.which _ _ c.index-subs-begin.result c.args.subs.now _ (omega arith)
+    (first_part_refused c.args.how _ _ c.index-subs-begin.result c.args.subs.now _ (omega arith)
     (c.index-subs-begin.is ∙ ap (λ k. get_or c.args.subs.now k c.index-subs-begin.result)
     (c.turned_place-begin.ensures.value ∙ ap (λ back. turned_place back 0 (length c.args.subs.now)) c.get_reverse-reverse.ensures))
     c.in_err-first.ensures.refused)
@@ -176,7 +176,7 @@ concatenation-returns-in_err-first-clause-refused t c =
 pub concatenation-returns-in_err-next-clause-refused : goal.concatenation-returns-in_err-next-clause-refused
 concatenation-returns-in_err-next-clause-refused t c =
     handed _ _ c.in_err-next.field-0.0 c.from_residual-in_err-next.ensures.1
-    (parts_refused c.args.which _ _ _ _ c.loop-i.i c.args.subs.now c.loop-i.invariant _ c.index-subs-place.result _ c.loop-i-test.true
+    (parts_refused c.args.how _ _ _ _ c.loop-i.i c.args.subs.now c.loop-i.invariant _ c.index-subs-place.result _ c.loop-i-test.true
     (c.index-subs-place.is ∙ ap (λ k. get_or c.args.subs.now k c.index-subs-place.result)
     (c.turned_place-place.ensures.value ∙ ap (λ back. turned_place back c.loop-i.i (length c.args.subs.now)) c.get_reverse-reverse.ensures))
     c.in_err-next.ensures.refused)
@@ -184,26 +184,26 @@ concatenation-returns-in_err-next-clause-refused t c =
 pub concatenation-returns-in_err-lead-clause-refused : goal.concatenation-returns-in_err-lead-clause-refused
 concatenation-returns-in_err-lead-clause-refused t c =
     handed _ _ c.in_err-lead.field-0.0 c.from_residual-in_err-lead.ensures.1
-    (parts_lead_refused c.args.which _ _ _ _ c.loop-i.i c.args.subs.now c.loop-i.invariant _ _ _ _ c.index-subs-place.result _ c.loop-i-test.true
+    (parts_lead_refused c.args.how _ _ _ _ c.loop-i.i c.args.subs.now c.loop-i.invariant _ _ _ _ c.index-subs-place.result _ c.loop-i-test.true
     (c.index-subs-place.is ∙ ap (λ k. get_or c.args.subs.now k c.index-subs-place.result)
     (c.turned_place-place.ensures.value ∙ ap (λ back. turned_place back c.loop-i.i (length c.args.subs.now)) c.get_reverse-reverse.ensures))
     c.in_ok-next.ensures.made c.in_err-lead.ensures)
 
 pub concatenation-returns-clause-made : goal.concatenation-returns-clause-made
 concatenation-returns-clause-made t c =
-    parts_made c.args.which _ _ _ _ c.loop-i.i c.args.subs.now c.loop-i.invariant
+    parts_made c.args.how _ _ _ _ c.loop-i.i c.args.subs.now c.loop-i.invariant
 
 pub concatenation-returns-clause-denotes : goal.concatenation-returns-clause-denotes
 concatenation-returns-clause-denotes t c =
-    parts_does c.args.which _ _ _ _ c.loop-i.i c.args.subs.now c.loop-i.invariant c.loop-i-test.false
+    parts_does c.args.how _ _ _ _ c.loop-i.i c.args.subs.now c.loop-i.invariant c.loop-i-test.false
 
 pub alternatives-returns-clause-made : goal.alternatives-returns-clause-made
 alternatives-returns-clause-made t c =
-    cases_made c.args.which _ _ _ _ c.loop-i.i c.args.subs.now c.loop-i.invariant
+    cases_made c.args.how _ _ _ _ c.loop-i.i c.args.subs.now c.loop-i.invariant
 
 pub alternatives-returns-clause-denotes : goal.alternatives-returns-clause-denotes
 alternatives-returns-clause-denotes t c =
-    cases_does c.args.which _ _ _ _ c.loop-i.i c.args.subs.now c.loop-i.invariant c.loop-i-test.false
+    cases_does c.args.how _ _ _ _ c.loop-i.i c.args.subs.now c.loop-i.invariant c.loop-i-test.false
 
 pub alternatives-returns-then-subs-eq1-clause-denotes : goal.alternatives-returns-then-subs-eq1-clause-denotes
 alternatives-returns-then-subs-eq1-clause-denotes t c =
@@ -212,67 +212,67 @@ alternatives-returns-then-subs-eq1-clause-denotes t c =
 pub alternatives-returns-in_err-union-clause-refused : goal.alternatives-returns-in_err-union-clause-refused
 alternatives-returns-in_err-union-clause-refused t c =
     handed _ _ c.in_err-union.field-0.0 c.from_residual-in_err-union.ensures.1
-    (union_refused c.args.which _ _ _ _ _ _ _ c.index-subs-0-2.result c.index-subs-1.result c.args.subs.now (omega arith) c.index-subs-0-2.is c.index-subs-1.is
+    (union_refused c.args.how _ _ _ _ _ _ _ c.index-subs-0-2.result c.index-subs-1.result c.args.subs.now (omega arith) c.index-subs-0-2.is c.index-subs-1.is
     c.in_ok-first.ensures.made c.in_ok-second.ensures.made _ _ c.in_err-union.ensures)
 
 pub alternatives-returns-in_err-end-clause-refused : goal.alternatives-returns-in_err-end-clause-refused
 alternatives-returns-in_err-end-clause-refused t c =
     handed _ _ c.in_err-end.field-0.0 c.from_residual-in_err-end.ensures.1
-    (end_refused c.args.which _ _ _ _ _ _ _ c.index-subs-0-2.result c.index-subs-1.result c.args.subs.now (omega arith) c.index-subs-0-2.is c.index-subs-1.is
+    (end_refused c.args.how _ _ _ _ _ _ _ c.index-subs-0-2.result c.index-subs-1.result c.args.subs.now (omega arith) c.index-subs-0-2.is c.index-subs-1.is
     c.in_ok-first.ensures.made c.in_ok-second.ensures.made _ _ _ _ c.in_ok-union.ensures c.in_err-end.ensures)
 
 pub alternatives-returns-in_err-lead-clause-refused : goal.alternatives-returns-in_err-lead-clause-refused
 alternatives-returns-in_err-lead-clause-refused t c =
     handed _ _ c.in_err-lead.field-0.0 c.from_residual-in_err-lead.ensures.1
-    (first_lead_refused c.args.which _ _ _ _ _ _ _ c.index-subs-0-2.result c.index-subs-1.result c.args.subs.now (omega arith) c.index-subs-0-2.is c.index-subs-1.is
+    (first_lead_refused c.args.how _ _ _ _ _ _ _ c.index-subs-0-2.result c.index-subs-1.result c.args.subs.now (omega arith) c.index-subs-0-2.is c.index-subs-1.is
     c.in_ok-first.ensures.made c.in_ok-second.ensures.made _ _ _ _ c.in_ok-union.ensures c.in_ok-end.ensures _ _ c.in_err-lead.ensures)
 
 pub alternatives-returns-in_err-lead-2-clause-refused : goal.alternatives-returns-in_err-lead-2-clause-refused
 alternatives-returns-in_err-lead-2-clause-refused t c =
     handed _ _ c.in_err-lead-2.field-0.0 c.from_residual-in_err-lead-2.ensures.1
-    (second_lead_refused c.args.which _ _ _ _ _ _ _ c.index-subs-0-2.result c.index-subs-1.result c.args.subs.now (omega arith) c.index-subs-0-2.is c.index-subs-1.is
+    (second_lead_refused c.args.how _ _ _ _ _ _ _ c.index-subs-0-2.result c.index-subs-1.result c.args.subs.now (omega arith) c.index-subs-0-2.is c.index-subs-1.is
     c.in_ok-first.ensures.made c.in_ok-second.ensures.made _ _ _ _ c.in_ok-union.ensures c.in_ok-end.ensures _ _ _ c.in_ok-lead.ensures c.in_err-lead-2.ensures)
 
 pub alternatives-returns-in_err-lead-3-clause-refused : goal.alternatives-returns-in_err-lead-3-clause-refused
 alternatives-returns-in_err-lead-3-clause-refused t c =
     handed _ _ c.in_err-lead-3.field-0.0 c.from_residual-in_err-lead-3.ensures.1
-    (third_lead_refused c.args.which _ _ _ _ _ _ _ c.index-subs-0-2.result c.index-subs-1.result c.args.subs.now (omega arith) c.index-subs-0-2.is c.index-subs-1.is
+    (third_lead_refused c.args.how _ _ _ _ _ _ _ c.index-subs-0-2.result c.index-subs-1.result c.args.subs.now (omega arith) c.index-subs-0-2.is c.index-subs-1.is
     c.in_ok-first.ensures.made c.in_ok-second.ensures.made _ _ _ _ c.in_ok-union.ensures c.in_ok-end.ensures _ _ _ _ c.in_ok-lead.ensures c.in_ok-lead-2.ensures c.in_err-lead-3.ensures)
 
 pub alternatives-returns-in_err-lead-4-clause-refused : goal.alternatives-returns-in_err-lead-4-clause-refused
 alternatives-returns-in_err-lead-4-clause-refused t c =
     handed _ _ c.in_err-lead-4.field-0.0 c.from_residual-in_err-lead-4.ensures.1
-    (fourth_lead_refused c.args.which _ _ _ _ _ _ _ c.index-subs-0-2.result c.index-subs-1.result c.args.subs.now (omega arith) c.index-subs-0-2.is c.index-subs-1.is
+    (fourth_lead_refused c.args.how _ _ _ _ _ _ _ c.index-subs-0-2.result c.index-subs-1.result c.args.subs.now (omega arith) c.index-subs-0-2.is c.index-subs-1.is
     c.in_ok-first.ensures.made c.in_ok-second.ensures.made _ _ _ _ c.in_ok-union.ensures c.in_ok-end.ensures _ _ _ _ _ c.in_ok-lead.ensures c.in_ok-lead-2.ensures c.in_ok-lead-3.ensures c.in_err-lead-4.ensures)
 
 pub alternatives-loop-i-init : goal.alternatives-loop-i-init
 alternatives-loop-i-init t c =
-    cases_open c.args.which _ _ _ _ _ _ _ c.index-subs-0-2.result c.index-subs-1.result c.args.subs.now (omega arith) c.index-subs-0-2.is c.index-subs-1.is
+    cases_open c.args.how _ _ _ _ _ _ _ c.index-subs-0-2.result c.index-subs-1.result c.args.subs.now (omega arith) c.index-subs-0-2.is c.index-subs-1.is
     c.in_ok-first.ensures.made c.in_ok-second.ensures.made _ _ _ _ _ _ _ _ c.in_ok-union.ensures c.in_ok-end.ensures c.in_ok-lead.ensures c.in_ok-lead-2.ensures
     c.in_ok-lead-3.ensures c.in_ok-lead-4.ensures c.in_ok-first.ensures.denotes c.in_ok-second.ensures.denotes c.in_ok-first.ensures.groups c.in_ok-second.ensures.groups
 
 pub alternatives-loop-i-preserved : goal.alternatives-loop-i-preserved
 alternatives-loop-i-preserved t c =
-    cases_then c.args.which _ _ _ _ c.loop-i.i c.args.subs.now c.loop-i.invariant _ _ _ _ _ c.index-subs-i.result c.loop-i-test.true c.index-subs-i.is c.in_ok-next.ensures.made c.in_ok-next.ensures.denotes
+    cases_then c.args.how _ _ _ _ c.loop-i.i c.args.subs.now c.loop-i.invariant _ _ _ _ _ c.index-subs-i.result c.loop-i-test.true c.index-subs-i.is c.in_ok-next.ensures.made c.in_ok-next.ensures.denotes
     c.in_ok-next.ensures.groups c.in_ok-lead-5.ensures c.in_ok-lead-6.ensures
 
 pub alternatives-compile-requires-in-loop-i : goal.alternatives-compile-requires-in-loop-i
 alternatives-compile-requires-in-loop-i t c = (
   omega (arith, weight_in_alternation c.args.subs.now c.loop-i.i c.index-subs-i.result c.loop-i-test.true, ap weight c.index-subs-i.is),
-  ready_later c.args.which _ _ c.loop-i.invariant.branches.progress.partly.grows c.requires,
+  ready_later c.args.how.which _ _ c.loop-i.invariant.branches.progress.partly.grows c.requires,
 )
 
 pub alternatives-returns-in_err-next-clause-refused : goal.alternatives-returns-in_err-next-clause-refused
 alternatives-returns-in_err-next-clause-refused t c =
     handed _ _ c.in_err-next.field-0.0 c.from_residual-in_err-next.ensures.1
-    (cases_refused c.args.which _ _ _ _ c.loop-i.i c.args.subs.now c.loop-i.invariant _ c.index-subs-i.result _ c.loop-i-test.true c.index-subs-i.is c.in_err-next.ensures.refused)
+    (cases_refused c.args.how _ _ _ _ c.loop-i.i c.args.subs.now c.loop-i.invariant _ c.index-subs-i.result _ c.loop-i-test.true c.index-subs-i.is c.in_err-next.ensures.refused)
 
 pub alternatives-returns-in_err-lead-5-clause-refused : goal.alternatives-returns-in_err-lead-5-clause-refused
 alternatives-returns-in_err-lead-5-clause-refused t c =
     handed _ _ c.in_err-lead-5.field-0.0 c.from_residual-in_err-lead-5.ensures.1
-    (cases_lead_refused c.args.which _ _ _ _ c.loop-i.i c.args.subs.now c.loop-i.invariant _ _ _ _ c.index-subs-i.result _ c.loop-i-test.true c.index-subs-i.is c.in_ok-next.ensures.made c.in_err-lead-5.ensures)
+    (cases_lead_refused c.args.how _ _ _ _ c.loop-i.i c.args.subs.now c.loop-i.invariant _ _ _ _ c.index-subs-i.result _ c.loop-i-test.true c.index-subs-i.is c.in_ok-next.ensures.made c.in_err-lead-5.ensures)
 
 pub alternatives-returns-in_err-lead-6-clause-refused : goal.alternatives-returns-in_err-lead-6-clause-refused
 alternatives-returns-in_err-lead-6-clause-refused t c =
     handed _ _ c.in_err-lead-6.field-0.0 c.from_residual-in_err-lead-6.ensures.1
-    (cases_end_refused c.args.which _ _ _ _ c.loop-i.i c.args.subs.now c.loop-i.invariant _ _ _ _ _ c.index-subs-i.result _ c.loop-i-test.true c.index-subs-i.is c.in_ok-next.ensures.made c.in_ok-lead-5.ensures c.in_err-lead-6.ensures)
+    (cases_end_refused c.args.how _ _ _ _ c.loop-i.i c.args.subs.now c.loop-i.invariant _ _ _ _ _ c.index-subs-i.result _ c.loop-i-test.true c.index-subs-i.is c.in_ok-next.ensures.made c.in_ok-lead-5.ensures c.in_err-lead-6.ensures)

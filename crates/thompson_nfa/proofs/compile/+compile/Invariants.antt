@@ -1,7 +1,7 @@
 use Rattle.std.proofs.Common.{◌+◌, ◌-◌, ◌*◌, ◌≤◌}
 use Rattle.hir_core.specs.Tree.{concat, alternation}
-use Rattle.hir_core.specs.Facts.{count}
 use Rattle.hir_core.specs.Weight.{weight}
+use Rattle.thompson_nfa.specs.Room.{room}
 use Rattle.thompson_nfa.proofs.PartsLemmas.{Parts}
 use Rattle.thompson_nfa.proofs.CopyLemmas.{Copies, Rounds}
 use Rattle.thompson_nfa.proofs.AlternativeLemmas.{Cases}
@@ -50,17 +50,17 @@ abbrev pub decreases-between : goal.decreases-between
 decreases-between l = 8 * weight l.x.now + 5
 
 abbrev pub invariant-concatenation-loop-i : goal.invariant-concatenation-loop-i
-invariant-concatenation-loop-i l = Parts l.which l.fn.builder l.builder l.first.start l.end l.i l.subs
+invariant-concatenation-loop-i l = Parts l.how l.fn.builder l.builder l.first.start l.end l.i l.subs
 
 abbrev pub invariant-copies-loop : goal.invariant-copies-loop
-invariant-copies-loop l = Copies l.which l.fn.builder l.builder l.first.start l.end l.counter l.x × (l.counter ≤ l.n)
+invariant-copies-loop l = Copies l.how l.fn.builder l.builder l.first.start l.end l.counter l.x × (l.counter ≤ l.n)
 
 abbrev pub invariant-up_to-loop : goal.invariant-up_to-loop
-invariant-up_to-loop l = Rounds l.which l.fn.builder l.builder l.first.start l.end l.exit l.counter 0 l.most (l.most * (count l.x + 1) + 1) l.greedy l.x
+invariant-up_to-loop l = Rounds l.how l.fn.builder l.builder l.first.start l.end l.exit l.counter 0 l.most (l.most * (room l.how.shrink l.x + 1) + 1) l.greedy l.x
 
 abbrev pub invariant-owed_and_more-loop : goal.invariant-owed_and_more-loop
 invariant-owed_and_more-loop l =
-    Rounds l.which l.fn.builder l.builder l.prefix.start l.end l.exit l.counter l.min l.most (l.min * count l.x + (l.most - l.min) * (count l.x + 1) + 1) l.greedy l.x
+    Rounds l.how l.fn.builder l.builder l.prefix.start l.end l.exit l.counter l.min l.most (l.min * room l.how.shrink l.x + (l.most - l.min) * (room l.how.shrink l.x + 1) + 1) l.greedy l.x
 
 abbrev pub invariant-alternatives-loop-i : goal.invariant-alternatives-loop-i
-invariant-alternatives-loop-i l = Cases l.which l.fn.builder l.builder l.union l.end l.i l.subs
+invariant-alternatives-loop-i l = Cases l.how l.fn.builder l.builder l.union l.end l.i l.subs
