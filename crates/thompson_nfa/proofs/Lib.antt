@@ -65,3 +65,4 @@ pub mod SlotViews
 pub mod TrieLemmas
 pub mod WalkLemmas
 pub mod PlainRoom
+pub mod LiteralLemmas

@@ -10,7 +10,8 @@ use Rattle.thompson_nfa.specs.Compiled.{Makes}
 use Rattle.thompson_nfa.specs.Refusals.{Quits}
 use Rattle.thompson_nfa.specs.Room.{room, list_room, class_room}
 use Rattle.thompson_nfa.specs.ScalarCounts.{scalars_in}
-use Rattle.thompson_nfa.proofs.ProgressLemmas.{made_capped, step_later}
+use Rattle.thompson_nfa.proofs.ProgressLemmas.{made_capped}
+use Rattle.thompson_nfa.proofs.ScalarLemmas.{quits_capped}
 
 -- where nothing is shrunk
 pub room_is_count : (x : Tree) → room false x ≡ count x
@@ -59,9 +60,5 @@ plain_fits true ranges = omega (arith, sequences_below_scalars ranges)
 pub plain_made : (shrink : Bool) (a b : Assembly) (start end : ℕ) (ranges : List (ℕ × ℕ)) → Makes a b start end (count (char_class ranges)) → Makes a b start end (room shrink (char_class ranges))
 plain_made shrink a b start end ranges m = let fits = plain_fits shrink ranges in made_capped (room shrink (char_class ranges)) m (omega arith)
 
--- what is refused with less room is refused with more
-pub quits_wider : (a b : Assembly) (n m : ℕ) (e : BuildError) → n ≤ m → Quits a b n e → Quits a b m e
-quits_wider a b n m e le q = record { settings = q.settings; cause = step_later a a n (4096 * n) m m e refl (omega arith) (omega arith) (omega arith) q.cause }
-
 pub plain_quits : (shrink : Bool) (a b : Assembly) (ranges : List (ℕ × ℕ)) (e : BuildError) → Quits a b (count (char_class ranges)) e → Quits a b (room shrink (char_class ranges)) e
-plain_quits shrink a b ranges e q = quits_wider a b (count (char_class ranges)) (room shrink (char_class ranges)) e (plain_fits shrink ranges) q
+plain_quits shrink a b ranges e q = let fits = plain_fits shrink ranges in quits_capped (room shrink (char_class ranges)) q (omega arith)

@@ -22,3 +22,4 @@ pub mod RangeCovers
 pub mod TrieSteps
 pub mod ScalarCounts
 pub mod Room
+pub mod Literals

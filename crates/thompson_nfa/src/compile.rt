@@ -10,6 +10,7 @@ use crate::class::byte_class;
 use crate::fragment::Fragment;
 use crate::how::How;
 use crate::leaves::{empty, fail, literal, look, turned_place};
+use crate::literals::{all_literals, compile_literals};
 use crate::parts::{add_choice, add_empty, end_group, lead, start_group};
 use crate::scalar_class::compile_scalars;
 use crate::shared::Shared;
@@ -479,6 +480,10 @@ fn alternatives(
     if subs.len() == 0 {
         let none = fail(builder)?;
         return Ok(none);
+    }
+    if all_literals(subs) {
+        let literals = compile_literals(builder, alloc, subs)?;
+        return Ok(literals);
     }
     if subs.len() == 1 {
         let one = compile(builder, alloc, how, shared, &subs[0])?;

@@ -10,6 +10,7 @@ mod fnv;
 mod fragment;
 mod how;
 mod leaves;
+mod literals;
 mod parts;
 mod patterns;
 mod prefix;

@@ -1,4 +1,4 @@
-use Rattle.std.proofs.Common.{◌∙◌, ap, refl, length, get_or, arith}
+use Rattle.std.proofs.Common.{◌∙◌, ap, sym, refl, length, get_or, arith}
 use Rattle.hir_core.specs.Weight.{weight}
 use Rattle.nfa_core.specs.BuilderStates.{Assembly}
 use Rattle.thompson_nfa.specs.Turned.{turned_place}
@@ -13,6 +13,7 @@ use Rattle.thompson_nfa.proofs.PartsLemmas.{weight_in_concat, weight_in_alternat
 use Rattle.thompson_nfa.proofs.TurnLemmas.{none_is_concat}
 use Rattle.thompson_nfa.proofs.JoinLemmas.{does_same}
 use Rattle.thompson_nfa.proofs.AlternativeLemmas.{cases_open, union_refused, end_refused, first_lead_refused, second_lead_refused, third_lead_refused, fourth_lead_refused, cases_then, cases_refused, cases_lead_refused, cases_end_refused, cases_made, cases_does, single_does}
+use Rattle.thompson_nfa.proofs.LiteralLemmas.{literals_made, literals_noted, literals_refused}
 use Rattle.thompson_nfa.proofs.compile.+compile.Goals as goal
 
 pub zero_or_more-returns-clause-made : goal.zero_or_more-returns-clause-made
@@ -196,6 +197,21 @@ concatenation-returns-clause-made t c =
 pub concatenation-returns-clause-denotes : goal.concatenation-returns-clause-denotes
 concatenation-returns-clause-denotes t c =
     parts_does c.args.how _ _ _ _ c.loop-i.i c.args.subs.now c.loop-i.invariant c.loop-i-test.false
+
+pub alternatives-returns-then-all_literals-clause-made : goal.alternatives-returns-then-all_literals-clause-made
+alternatives-returns-then-all_literals-clause-made t c =
+    literals_made c.args.how.shrink _ _ _ _ c.args.subs.now (sym c.all_literals.ensures ∙ c.if-all_literals.true) c.in_ok-literals.ensures.made
+
+pub alternatives-returns-then-all_literals-clause-groups :
+    goal.alternatives-returns-then-all_literals-clause-groups
+alternatives-returns-then-all_literals-clause-groups t c =
+    literals_noted c.args.how.which _ c.args.subs.now _ _ (sym c.all_literals.ensures ∙ c.if-all_literals.true) c.in_ok-literals.ensures.groups
+
+pub alternatives-returns-in_err-literals-clause-refused :
+    goal.alternatives-returns-in_err-literals-clause-refused
+alternatives-returns-in_err-literals-clause-refused t c =
+    handed _ _ c.in_err-literals.field-0.0 c.from_residual-in_err-literals.ensures.1
+    (literals_refused c.args.how.which c.args.how.shrink _ _ c.args.subs.now _ (sym c.all_literals.ensures ∙ c.if-all_literals.true) c.in_err-literals.ensures.refused)
 
 pub alternatives-returns-clause-made : goal.alternatives-returns-clause-made
 alternatives-returns-clause-made t c =
