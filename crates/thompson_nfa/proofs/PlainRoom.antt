@@ -53,6 +53,9 @@ pub sequences_below_scalars : (ranges : List (ℕ × ℕ)) → sequence_count ra
 sequences_below_scalars [] = omega arith
 sequences_below_scalars ((first, last) ∷ ranges) = omega (arith, few_sequences first last, sequences_below_scalars ranges)
 
+pub plain_below_shrunk : (ranges : List (ℕ × ℕ)) → count (char_class ranges) ≤ 2 + 4 * scalars_in ranges
+plain_below_shrunk ranges = omega (arith, sequences_below_scalars ranges)
+
 pub plain_fits : (shrink : Bool) (ranges : List (ℕ × ℕ)) → count (char_class ranges) ≤ room shrink (char_class ranges)
 plain_fits false ranges = omega arith
 plain_fits true ranges = omega (arith, sequences_below_scalars ranges)

@@ -23,3 +23,4 @@ pub mod TrieSteps
 pub mod ScalarCounts
 pub mod Room
 pub mod Literals
+pub mod AsciiClasses

@@ -20,6 +20,7 @@ mod range_trie;
 mod range_walk;
 pub mod room_laws;
 mod scalar_class;
+mod scalar_stubs;
 mod shared;
 mod slots;
 mod trees;

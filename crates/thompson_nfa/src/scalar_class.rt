@@ -15,6 +15,9 @@ use crate::fragment::Fragment;
 use crate::how::How;
 use crate::leaves::{byte_range, turned_place};
 use crate::parts::{add_choice, add_empty, lead};
+use crate::scalar_stubs::{
+    compile_ascii, compile_scalars_down, compile_scalars_forward, compile_scalars_shrunk, is_ascii,
+};
 use crate::shared::Shared;
 use hir_core::{Utf8Range, Utf8Sequence, Utf8Sequences};
 use nfa_core::{BuildError, Builder};
@@ -105,7 +108,7 @@ fn add_sequences(
 }
 
 /// A choice of the sequences of all ranges, which all lead to one common end.
-fn plain_scalars(
+pub(crate) fn plain_scalars(
     builder: &mut Builder,
     alloc: Global,
     ranges: &[(char, char)],
@@ -138,6 +141,19 @@ pub(crate) fn compile_scalars(
     ensures groups { IfOk result (λ _. builder.new.groups ≡ builder.old.groups) }
     ensures refused { IfErr result (λ e. Quits builder.old builder.new (room how.shrink (char_class ranges.now)) e) }
 {
-    let class = plain_scalars(builder, alloc, ranges)?;
-    Ok(class)
+    if is_ascii(ranges) {
+        let ascii = compile_ascii(builder, alloc, ranges)?;
+        return Ok(ascii);
+    }
+    if !builder.get_reverse() {
+        let forward = compile_scalars_forward(builder, alloc, &mut shared.utf8, ranges)?;
+        return Ok(forward);
+    }
+    if how.shrink {
+        let (trie, utf8) = (&mut shared.trie, &mut shared.utf8);
+        let shrunk = compile_scalars_shrunk(builder, alloc, trie, utf8, ranges)?;
+        return Ok(shrunk);
+    }
+    let down = compile_scalars_down(builder, alloc, &mut shared.suffixes, ranges)?;
+    Ok(down)
 }
