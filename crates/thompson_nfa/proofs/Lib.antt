@@ -66,3 +66,7 @@ pub mod TrieLemmas
 pub mod WalkLemmas
 pub mod PlainRoom
 pub mod LiteralLemmas
+pub mod AsciiLemmas
+pub mod SuffixLemmas
+pub mod SuffixSteps
+pub mod SuffixRanges

@@ -24,3 +24,4 @@ pub mod ScalarCounts
 pub mod Room
 pub mod Literals
 pub mod AsciiClasses
+pub mod SharedSuffixes

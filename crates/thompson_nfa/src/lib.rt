@@ -1,6 +1,7 @@
 //! Compiles trees to byte automata.
 #![tactic(auto)]
 
+mod ascii_class;
 mod branch;
 mod class;
 mod compile;
@@ -27,6 +28,7 @@ mod trees;
 mod trie_nodes;
 mod utf8_bounded_map;
 mod utf8_state_stub;
+mod utf8_suffix;
 mod utf8_suffix_map;
 mod which_captures;
 
