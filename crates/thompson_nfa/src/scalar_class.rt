@@ -11,14 +11,14 @@ ghost use Rattle.thompson_nfa.specs.Refusals.{Quits};
 ghost use Rattle.thompson_nfa.specs.Room.{room};
 
 use crate::branch::lead_branch;
+use crate::ascii_class::{compile_ascii, is_ascii};
 use crate::fragment::Fragment;
 use crate::how::How;
 use crate::leaves::{byte_range, turned_place};
 use crate::parts::{add_choice, add_empty, lead};
-use crate::scalar_stubs::{
-    compile_ascii, compile_scalars_down, compile_scalars_forward, compile_scalars_shrunk, is_ascii,
-};
+use crate::scalar_stubs::{compile_scalars_forward, compile_scalars_shrunk};
 use crate::shared::Shared;
+use crate::utf8_suffix::compile_scalars_down;
 use hir_core::{Utf8Range, Utf8Sequence, Utf8Sequences};
 use nfa_core::{BuildError, Builder};
 use search_core::StateID;

@@ -1,8 +1,7 @@
 //! The forms of a class of scalars, all of them plain.
-ghost use Rattle.std.specs.Prelude.{◌≡◌, ◌<◌, ◌+◌, ◌*◌, true, false, IfOk, IfErr};
+ghost use Rattle.std.specs.Prelude.{◌≡◌, ◌+◌, ◌*◌, true, false, IfOk, IfErr};
 ghost use Rattle.hir_core.specs.Facts.{count, is_ascending};
 ghost use Rattle.hir_core.specs.Tree.{char_class};
-ghost use Rattle.thompson_nfa.specs.AsciiClasses.{is_ascii};
 ghost use Rattle.thompson_nfa.specs.Compiled.{Makes, Does};
 ghost use Rattle.thompson_nfa.specs.Refusals.{Quits};
 ghost use Rattle.thompson_nfa.specs.ScalarCounts.{scalars_in};
@@ -11,32 +10,8 @@ use crate::fragment::Fragment;
 use crate::range_trie::RangeTrie;
 use crate::scalar_class::plain_scalars;
 use crate::utf8_state_stub::Utf8State;
-use crate::utf8_suffix_map::Utf8SuffixMap;
 use nfa_core::{BuildError, Builder};
 use std::alloc::Global;
-
-/// Whether one byte spells each scalar of the ranges.
-pub(crate) fn is_ascii(ranges: &[(char, char)]) -> bool
-    ensures { result ≡ is_ascii ranges.now }
-{
-    ranges.iter().all(|range| range.1 < '\u{80}')
-}
-
-/// A class whose scalars one byte spells each.
-pub(crate) fn compile_ascii(
-    builder: &mut Builder,
-    alloc: Global,
-    ranges: &[(char, char)],
-) -> Result<Fragment, BuildError>
-    requires ascending { is_ascending ranges.now ≡ true }
-    requires ascii { is_ascii ranges.now ≡ true }
-    ensures made { IfOk result (λ f. Makes builder.old builder.new f.start f.end (count (char_class ranges.now))) }
-    ensures does { IfOk result (λ f. Does builder.old builder.new f.start f.end (char_class ranges.now)) }
-    ensures groups { IfOk result (λ _. builder.new.groups ≡ builder.old.groups) }
-    ensures refused { IfErr result (λ e. Quits builder.old builder.new (count (char_class ranges.now)) e) }
-{
-    plain_scalars(builder, alloc, ranges)
-}
 
 /// A class for one who reads up.
 pub(crate) fn compile_scalars_forward(
@@ -53,26 +28,6 @@ pub(crate) fn compile_scalars_forward(
     ensures refused { IfErr result (λ e. Quits builder.old builder.new (count (char_class ranges.now)) e) }
 {
     let _ = state;
-    plain_scalars(builder, alloc, ranges)
-}
-
-/// A class for one who reads down.
-pub(crate) fn compile_scalars_down(
-    builder: &mut Builder,
-    alloc: Global,
-    suffixes: &mut Utf8SuffixMap,
-    ranges: &[(char, char)],
-) -> Result<Fragment, BuildError>
-    requires ascending { is_ascending ranges.now ≡ true }
-    requires reverse { builder.old.reverse ≡ true }
-    requires places { 0 < suffixes.old.capacity }
-    ensures made { IfOk result (λ f. Makes builder.old builder.new f.start f.end (count (char_class ranges.now))) }
-    ensures does { IfOk result (λ f. Does builder.old builder.new f.start f.end (char_class ranges.now)) }
-    ensures groups { IfOk result (λ _. builder.new.groups ≡ builder.old.groups) }
-    ensures capacity { suffixes.new.capacity ≡ suffixes.old.capacity }
-    ensures refused { IfErr result (λ e. Quits builder.old builder.new (count (char_class ranges.now)) e) }
-{
-    let _ = suffixes;
     plain_scalars(builder, alloc, ranges)
 }
 
