@@ -70,3 +70,4 @@ pub mod AsciiLemmas
 pub mod SuffixLemmas
 pub mod SuffixSteps
 pub mod SuffixRanges
+pub mod EmptyString

@@ -70,6 +70,15 @@ impl RangeTrie {
         Ok(())
     }
 
+    /// Adds the string without a byte. It is a proper prefix of every other string, so none may be there.
+    #[tactic(auto, using(crate::proofs::EmptyString::empty_alone))]
+    pub fn add_empty(&mut self)
+        requires { IsApart self.old [] }
+        ensures { IsWith self.old [] self.new }
+    {
+        self.root = Next::End;
+    }
+
     /// Calls the closure at each sequence, ascending, and stops at its first error. There is an error too
     /// where there is no memory for the sequences; then no call was made.
     pub fn iter<E: From<AllocError>, F: FnMut(&[Utf8Range]) -> Result<(), E>>(
