@@ -71,3 +71,4 @@ pub mod SuffixLemmas
 pub mod SuffixSteps
 pub mod SuffixRanges
 pub mod EmptyString
+pub mod SharedLemmas

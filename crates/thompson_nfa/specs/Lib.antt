@@ -25,3 +25,4 @@ pub mod Room
 pub mod Literals
 pub mod AsciiClasses
 pub mod SharedSuffixes
+pub mod Shared
