@@ -72,3 +72,4 @@ pub mod SuffixSteps
 pub mod SuffixRanges
 pub mod EmptyString
 pub mod SharedLemmas
+pub mod StackLemmas

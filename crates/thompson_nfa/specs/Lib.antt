@@ -26,3 +26,5 @@ pub mod Literals
 pub mod AsciiClasses
 pub mod SharedSuffixes
 pub mod Shared
+pub mod Utf8Stacks
+pub mod Utf8Compiles

@@ -1,0 +1,104 @@
+-- A class that is compiled sequence by sequence: what its states and the nodes on the path of the last sequence read.
+use Rattle.std.specs.Prelude.{◌≡◌, ◌⊎◌, ℕ, suc, ◌+◌, ◌*◌, ◌<◌, ◌≤◌, Bool, List, [], ◌∷◌, ◌++◌, length, map, None}
+use Rattle.hir_core.specs.Tree.{Tree, empty, never, alternation}
+use Rattle.hir_core.specs.Means.{Looks}
+use Rattle.hir_core.specs.PreferredEnds.{preferred_ends}
+use Rattle.hir_core.specs.Facts.{LoopsRead}
+use Rattle.nfa_core.specs.BuilderStates.{Assembly, part_at, empty_part}
+use Rattle.nfa_core.specs.Renaming.{stands_for}
+use Rattle.nfa_core.specs.Drafted.{Table}
+use Rattle.thompson_nfa.specs.Compiled.{Grows, Finishes, AllTame, sum_of_bytes}
+use Rattle.thompson_nfa.specs.Denotes.{Denotes}
+use Rattle.thompson_nfa.specs.Shared.{read_then, read_tree}
+use Rattle.thompson_nfa.specs.Utf8Stacks.{Stage, StagesRise, Keeps, path_of}
+use Rattle.thompson_nfa.specs.declared.utf8_state.Utf8State.{Utf8State}
+use Rattle.search_core.specs.Index.{greatest_index}
+
+-- a range that leads to a state, and what is read from there
+pub record Branch : Type 0 where
+  pub low : ℕ
+  pub high : ℕ
+  pub next : ℕ
+  pub tree : Tree
+
+-- a node with what is read behind its ranges
+pub record Limb : Type 0 where
+  pub branches : List Branch
+  pub last : ℕ × ℕ
+
+abbrev pub edge : Branch → ℕ × ℕ × ℕ
+edge b = (b.low, b.high, b.next)
+
+abbrev pub stage_of : Limb → Stage
+stage_of l = record { frozen = map edge l.branches; last = l.last }
+
+-- what is read by way of the branch
+abbrev pub branch_tree : Bool → Branch → Tree
+branch_tree back b = read_then back (b.low, b.high) b.tree
+
+-- what is read from a node on the path: by one of its branches, or on along the path
+abbrev pub limb_tree : Bool → List Limb → Tree
+limb_tree back [] = empty
+limb_tree back (l ∷ ls) = alternation (map (branch_tree back) l.branches ++ read_then back l.last (limb_tree back ls) ∷ [])
+
+-- what is read from the first node: nothing, where there is none as yet
+abbrev pub whole_tree : Bool → List Limb → Tree
+whole_tree back [] = never
+whole_tree back (l ∷ ls) = limb_tree back (l ∷ ls)
+
+-- from the branches' states to the end the table does what the branches' trees mean
+abbrev pub BranchesLead : Bool → Table → ℕ → List Branch → Type 0
+BranchesLead back table end [] = Unit {0}
+BranchesLead back table end (b ∷ bs) = Denotes back table b.next end b.tree × BranchesLead back table end bs
+
+abbrev pub LimbsLead : Bool → Table → ℕ → List Limb → Type 0
+LimbsLead back table end [] = Unit {0}
+LimbsLead back table end (l ∷ ls) = BranchesLead back table end l.branches × LimbsLead back table end ls
+
+-- the branches' states are below n
+abbrev pub BranchesBelow : ℕ → List Branch → Type 0
+BranchesBelow n [] = Unit {0}
+BranchesBelow n (b ∷ bs) = (b.next < n) × BranchesBelow n bs
+
+abbrev pub LimbsBelow : ℕ → List Limb → Type 0
+LimbsBelow n [] = Unit {0}
+LimbsBelow n (l ∷ ls) = BranchesBelow n l.branches × LimbsBelow n ls
+
+-- both prefer the same ends, and where loops read in z they read in y
+pub record ReadsAs (y z : Tree) : Type 0 where
+  pub reading : LoopsRead z → LoopsRead y
+  pub ends : (looks : Looks) (h : List ℕ) (i : ℕ) → preferred_ends looks h y i ≡ preferred_ends looks h z i
+
+-- the last of the sequences; no range where there is none
+abbrev pub last_of : List (List (ℕ × ℕ)) → List (ℕ × ℕ)
+last_of [] = []
+last_of (q ∷ []) = q
+last_of (q ∷ r ∷ qs) = last_of (r ∷ qs)
+
+-- The states that were added since `old`: the end, and behind it states that are never led on. No more were added than one,
+-- and four for each sequence, less the nodes of the path, each with 4096 bytes.
+pub record HasStates (old new : Assembly) (end : ℕ) (most : ℕ) : Type 0 where
+  pub end_is : end ≡ length old.parts
+  pub there : end < length new.parts
+  pub grows : Grows old new
+  pub groups_are : new.groups ≡ old.groups
+  pub tame : AllTame (length old.parts) new
+  pub waits : part_at new.parts end ≡ empty_part 0
+  pub stands : (q : ℕ) → end < q → q < length new.parts → stands_for (part_at new.parts q) ≡ None
+  pub states : length new.parts ≤ length old.parts + most
+  pub bytes : sum_of_bytes new + 8 + 4096 * length old.parts ≤ sum_of_bytes old + 4096 * length new.parts
+  pub numbered : length new.parts ≤ greatest_index + 1
+
+-- What is read by the nodes of the path, once it is all led on, is what is read by the sequences.
+pub record IsCompiling (old new : Assembly) (state : Utf8State) (qs : List (List (ℕ × ℕ))) : Type 0 where
+  pub most : ℕ
+  pub has : HasStates old new state.end most
+  pub room : most + length state.nodes.items ≤ 1 + 4 * length qs
+  pub keeps : Keeps new state.end state.compiled
+  pub rising : StagesRise state.nodes.items
+  pub path : path_of state.nodes.items ≡ last_of qs
+  pub limbs : List Limb
+  pub nodes_are : state.nodes.items ≡ map stage_of limbs
+  pub below : LimbsBelow (length new.parts) limbs
+  pub leads : (table : Table) → Finishes state.end new.parts state.end table → LimbsLead old.reverse table state.end limbs
+  pub reads : ReadsAs (whole_tree old.reverse limbs) (alternation (map (read_tree old.reverse) qs))

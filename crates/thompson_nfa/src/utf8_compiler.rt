@@ -1,0 +1,157 @@
+//! Classes as sequences of byte ranges, compiled one after the other to states that are shared.
+ghost use Rattle.std.specs.Prelude.{◌≡◌, ◌<◌, ◌≤◌, ◌+◌, ◌*◌, ◌++◌, [], ◌∷◌, ℕ, List, length, map, drop, IfOk, IfErr, IsTrue};
+ghost use Rattle.hir_core.specs.Sequences.{bytes_of};
+ghost use Rattle.nfa_core.specs.BuilderStates.{Assembly, sparse_part};
+ghost use Rattle.nfa_core.specs.Transitions.{range_of};
+ghost use Rattle.thompson_nfa.specs.Added.{Added};
+ghost use Rattle.thompson_nfa.specs.Refusals.{Quits, Stays};
+ghost use Rattle.thompson_nfa.specs.RangeTries.{IsBefore};
+ghost use Rattle.thompson_nfa.specs.Utf8Stacks.{fresh, path_of, RisesIn, StagesRise, AreBytes, ComesAfter, Keeps, Compiles, MakesTop, Pops, PopsUntil, Turns, PartsAt};
+
+use crate::utf8_state::{Utf8Node, Utf8State};
+use hir_core::Utf8Range;
+use nfa_core::{BuildError, Builder, Transition};
+use search_core::StateID;
+use std::alloc::{AllocError, Global};
+
+/// Adds a state with these transitions. It can't be led on.
+#[tactic(auto, using(crate::proofs::StackLemmas::rises_ascends, crate::proofs::StackLemmas::few_bytes, crate::proofs::StepLemmas::added_of, crate::proofs::StepLemmas::add_refused))]
+fn add_state(builder: &mut Builder, trans: Vec<Transition>) -> Result<StateID, BuildError>
+    requires { RisesIn 0 (map range_of trans.items) }
+    ensures added { IfOk result (λ id. Added builder.old builder.new id (sparse_part (map range_of trans.items)) builder.old.groups) }
+    ensures refused { IfErr result (λ e. Stays builder.old builder.new 1 2072 e) }
+{
+    let id = builder.add_sparse(trans)?;
+    Ok(id)
+}
+
+/// A state with these transitions: one that was made before, where it is kept, or a new one.
+fn compile(
+    builder: &mut Builder,
+    state: &mut Utf8State,
+    trans: Vec<Transition>,
+) -> Result<StateID, BuildError>
+    requires rising { RisesIn 0 (map range_of trans.items) }
+    requires keeps { Keeps builder.old state.old.end state.old.compiled }
+    ensures compiled { IfOk result (λ id. Compiles builder.old builder.new state.old.end (map range_of trans.items) id) }
+    ensures keeps { IfOk result (λ _. Keeps builder.new state.old.end state.new.compiled) }
+    ensures nodes { state.new.nodes.items ≡ state.old.nodes.items }
+    ensures end { state.new.end ≡ state.old.end }
+    ensures refused { IfErr result (λ e. Stays builder.old builder.new 1 2072 e) }
+{
+    let hash = state.compiled.hash(&trans);
+    if let Some(id) = state.compiled.get(&trans, hash) {
+        return Ok(id);
+    }
+    let key = trans.clone()?;
+    let id = add_state(builder, trans)?;
+    state.compiled.set(key, hash, id);
+    Ok(id)
+}
+
+/// Makes the state of the path's top node, whose last range leads to the next state.
+#[tactic(auto, using(crate::proofs::StackLemmas::top_rises, crate::proofs::StackLemmas::rest_rises, crate::proofs::StackLemmas::top_made))]
+fn compile_top(
+    builder: &mut Builder,
+    state: &mut Utf8State,
+    next: StateID,
+) -> Result<StateID, BuildError>
+    requires some { 0 < length state.old.nodes.items }
+    requires rising { StagesRise state.old.nodes.items }
+    requires keeps { Keeps builder.old state.old.end state.old.compiled }
+    ensures top { IfOk result (λ id. MakesTop builder.old builder.new state.old.end state.old.nodes.items state.new.nodes.items next id) }
+    ensures rising { IfOk result (λ _. StagesRise state.new.nodes.items) }
+    ensures keeps { IfOk result (λ _. Keeps builder.new state.old.end state.new.compiled) }
+    ensures end { state.new.end ≡ state.old.end }
+    ensures refused { IfErr result (λ e. Stays builder.old builder.new 1 2072 e) }
+{
+    let Some(node) = state.nodes.pop() else {
+        return Ok(next);
+    };
+    let trans = node.freeze(next)?;
+    let id = compile(builder, state, trans)?;
+    Ok(id)
+}
+
+/// Makes the states of the path's nodes down to the place, and gives what the last range below leads to.
+fn compile_from(
+    builder: &mut Builder,
+    state: &mut Utf8State,
+    from: usize,
+) -> Result<StateID, BuildError>
+    requires below { from ≤ length state.old.nodes.items }
+    requires rising { StagesRise state.old.nodes.items }
+    requires keeps { Keeps builder.old state.old.end state.old.compiled }
+    ensures pops { IfOk result (λ next. Pops state.old.end builder.old state.old.nodes.items builder.new state.new.nodes.items next) }
+    ensures left { IfOk result (λ _. length state.new.nodes.items ≡ from) }
+    ensures rising { IfOk result (λ _. StagesRise state.new.nodes.items) }
+    ensures keeps { IfOk result (λ _. Keeps builder.new state.old.end state.new.compiled) }
+    ensures end { state.new.end ≡ state.old.end }
+    ensures refused { IfErr result (λ e. PopsUntil state.old.end builder.old builder.new state.old.nodes.items e) }
+{
+    let mut next = state.end;
+    for _count in from..state.nodes.len() {
+        next = compile_top(builder, state, next)?;
+    }
+    Ok(next)
+}
+
+/// Lets the node at the place lead on by its last range, once the states above it are made, and puts the new
+/// range behind that.
+#[tactic(auto, using(crate::proofs::StackLemmas::turned, crate::proofs::StackLemmas::one_shorter))]
+fn turn(
+    builder: &mut Builder,
+    state: &mut Utf8State,
+    from: usize,
+    range: Utf8Range,
+) -> Result<(), BuildError>
+    requires below { from < length state.old.nodes.items }
+    requires rising { StagesRise state.old.nodes.items }
+    requires keeps { Keeps builder.old state.old.end state.old.compiled }
+    ensures turns { IfOk result (λ _. Turns state.old.end builder.old builder.new state.old.nodes.items state.new.nodes.items (bytes_of range) from) }
+    ensures keeps { IfOk result (λ _. Keeps builder.new state.old.end state.new.compiled) }
+    ensures end { state.new.end ≡ state.old.end }
+    ensures refused { IfErr result (λ e. PopsUntil state.old.end builder.old builder.new state.old.nodes.items e) }
+{
+    let next = compile_from(builder, state, from + 1)?;
+    let Some(mut node) = state.nodes.pop() else {
+        return Ok(());
+    };
+    node.advance(next, range)?;
+    state.nodes.push(node)?;
+    Ok(())
+}
+
+/// Puts a node for each of the ranges from the place on above the path.
+fn push_nodes(
+    alloc: Global,
+    state: &mut Utf8State,
+    ranges: &[Utf8Range],
+    from: usize,
+) -> Result<(), AllocError>
+    ensures nodes { IfOk result (λ _. state.new.nodes.items ≡ state.old.nodes.items ++ map fresh (drop from (map bytes_of ranges.now))) }
+    ensures compiled { state.new.compiled ≡ state.old.compiled }
+    ensures end { state.new.end ≡ state.old.end }
+{
+    for i in from..ranges.len() {
+        state.nodes.push(Utf8Node::new(alloc, ranges[i]))?;
+    }
+    Ok(())
+}
+
+/// The first place at which the ranges aren't those of the path.
+fn first_difference(state: &Utf8State, ranges: &[Utf8Range]) -> usize
+    requires some { 0 < length state.now.nodes.items }
+    requires rising { StagesRise state.now.nodes.items }
+    requires after { IsBefore (path_of state.now.nodes.items) (map bytes_of ranges.now) }
+    ensures parts { PartsAt (path_of state.now.nodes.items) (map bytes_of ranges.now) result }
+    ensures below { result < length state.now.nodes.items }
+    ensures inside { result < length ranges.now }
+{
+    for i in 0..state.nodes.len() {
+        if !state.nodes[i].ends_in(ranges[i]) {
+            return i;
+        }
+    }
+    0
+}
