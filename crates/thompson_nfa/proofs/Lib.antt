@@ -73,3 +73,6 @@ pub mod SuffixRanges
 pub mod EmptyString
 pub mod SharedLemmas
 pub mod StackLemmas
+pub mod ReadLemmas
+pub mod LimbLemmas
+pub mod PathLemmas

@@ -73,10 +73,10 @@ rise_both (n ∷ ns) ms up more = (up.0, rise_both ns ms up.1 more)
 kept_by : (b : Assembly) (end id : ℕ) (key : List Transition) (o : Option (List Transition × ℕ)) → o ≡ Some (key, id) → IsKept b end o → IsKept b end (Some (key, id))
 kept_by b end id key o is k = let P : Option (List Transition × ℕ) → Type 0 = λ p. IsKept b end p in subst P is k
 
-pub kept_found : (b : Assembly) (end at id : ℕ) (table : SlotTable (List Transition)) (key : List Transition) → Keeps b end table → held_at table at ≡ Some (key, id) → Compiles b b end (map range_of key) id
-kept_found b end at id table key k is =
+pub kept_found : (b : Assembly) (end at id : ℕ) (table : SlotTable (List Transition)) (key : List Transition) → RisesIn 0 (map range_of key) → Keeps b end table → held_at table at ≡ Some (key, id) → Compiles b b end (map range_of key) id
+kept_found b end at id table key up k is =
     let x = kept_by b end id key (held_at table at) is (k.kept at) in
-    record { behind = x.0; there = x.1; here = x.2; how = inl refl }
+    record { rises = up; behind = x.0; there = x.1; here = x.2; how = inl refl }
 
 pub kept_none : (b : Assembly) (end at : ℕ) (o : Option (List Transition × ℕ)) → o ≡ None → IsKept b end o
 kept_none b end at o is = let P : Option (List Transition × ℕ) → Type 0 = λ p. IsKept b end p in subst P (sym is) tt
@@ -85,8 +85,8 @@ still_kept : (b c : Assembly) (end : ℕ) (o : Option (List Transition × ℕ)) 
 still_kept b c end None same l k = tt
 still_kept b c end (Some (key, id)) same l k = let m = k.1 in (k.0, omega arith, same id k.1 ∙ k.2)
 
-pub added_compiles : (b c : Assembly) (end id : ℕ) (table : SlotTable (List Transition)) (trans : List (ℕ × ℕ × ℕ)) → Keeps b end table → Added b c id (sparse_part trans) b.groups → Compiles b c end trans id
-added_compiles b c end id table trans k x = let l = k.end_there in let i = x.is in let s = x.size in record { behind = omega arith; there = omega arith; here = x.here; how = inr x }
+pub added_compiles : (b c : Assembly) (end id : ℕ) (table : SlotTable (List Transition)) (trans : List (ℕ × ℕ × ℕ)) → RisesIn 0 trans → Keeps b end table → Added b c id (sparse_part trans) b.groups → Compiles b c end trans id
+added_compiles b c end id table trans up k x = let l = k.end_there in let i = x.is in let s = x.size in record { rises = up; behind = omega arith; there = omega arith; here = x.here; how = inr x }
 
 ready_length : (table : SlotTable (List Transition)) → IsTrue (is_ready table) → length table.places ≡ table.capacity
 ready_length table e = grind (arith, e)
@@ -187,7 +187,7 @@ pub record Agree (p q : List (ℕ × ℕ)) (i : ℕ) : Type 0 where
 pub agree_begun : (p q : List (ℕ × ℕ)) → IsBefore p q → Agree p q 0
 agree_begun p q b = record { before = []; left = p; right = q; one_is = refl; other_is = refl; place = refl; behind = b }
 
-get_behind : (before : List (ℕ × ℕ)) (a : ℕ × ℕ) (rest : List (ℕ × ℕ)) (d : ℕ × ℕ) → get_or (before ++ a ∷ rest) (length before) d ≡ a
+pub get_behind : (before : List (ℕ × ℕ)) (a : ℕ × ℕ) (rest : List (ℕ × ℕ)) (d : ℕ × ℕ) → get_or (before ++ a ∷ rest) (length before) d ≡ a
 get_behind [] a rest d = refl
 get_behind (b ∷ before) a rest d = get_behind before a rest d
 

@@ -11,7 +11,8 @@ use Rattle.thompson_nfa.specs.Compiled.{Grows, Finishes, AllTame, sum_of_bytes}
 use Rattle.thompson_nfa.specs.Denotes.{Denotes}
 use Rattle.thompson_nfa.specs.Shared.{read_then, read_tree}
 use Rattle.thompson_nfa.specs.Utf8Stacks.{Stage, StagesRise, Keeps, path_of}
-use Rattle.thompson_nfa.specs.declared.utf8_state.Utf8State.{Utf8State}
+use Rattle.thompson_nfa.specs.SlotTables.{SlotTable}
+use Rattle.nfa_core.specs.declared.transition.Transition.{Transition}
 use Rattle.search_core.specs.Index.{greatest_index}
 
 -- a range that leads to a state, and what is read from there
@@ -45,6 +46,14 @@ limb_tree back (l ∷ ls) = alternation (map (branch_tree back) l.branches ++ re
 abbrev pub whole_tree : Bool → List Limb → Tree
 whole_tree back [] = never
 whole_tree back (l ∷ ls) = limb_tree back (l ∷ ls)
+
+-- a node with no branch
+abbrev pub fresh_limb : ℕ × ℕ → Limb
+fresh_limb range = record { branches = []; last = range }
+
+-- the node whose last range leads to a state from which this tree is read, with another range behind it
+abbrev pub grown : ℕ → Tree → ℕ × ℕ → Limb → Limb
+grown next x range l = record { branches = l.branches ++ record { low = l.last.0; high = l.last.1; next = next; tree = x } ∷ []; last = range }
 
 -- from the branches' states to the end the table does what the branches' trees mean
 abbrev pub BranchesLead : Bool → Table → ℕ → List Branch → Type 0
@@ -90,15 +99,15 @@ pub record HasStates (old new : Assembly) (end : ℕ) (most : ℕ) : Type 0 wher
   pub numbered : length new.parts ≤ greatest_index + 1
 
 -- What is read by the nodes of the path, once it is all led on, is what is read by the sequences.
-pub record IsCompiling (old new : Assembly) (state : Utf8State) (qs : List (List (ℕ × ℕ))) : Type 0 where
+pub record IsCompiling (old new : Assembly) (end : ℕ) (compiled : SlotTable (List Transition)) (nodes : List Stage) (qs : List (List (ℕ × ℕ))) : Type 0 where
   pub most : ℕ
-  pub has : HasStates old new state.end most
-  pub room : most + length state.nodes.items ≤ 1 + 4 * length qs
-  pub keeps : Keeps new state.end state.compiled
-  pub rising : StagesRise state.nodes.items
-  pub path : path_of state.nodes.items ≡ last_of qs
+  pub has : HasStates old new end most
+  pub room : most + length nodes ≤ 1 + 4 * length qs
+  pub keeps : Keeps new end compiled
+  pub rising : StagesRise nodes
+  pub path : path_of nodes ≡ last_of qs
   pub limbs : List Limb
-  pub nodes_are : state.nodes.items ≡ map stage_of limbs
+  pub nodes_are : nodes ≡ map stage_of limbs
   pub below : LimbsBelow (length new.parts) limbs
-  pub leads : (table : Table) → Finishes state.end new.parts state.end table → LimbsLead old.reverse table state.end limbs
+  pub leads : (table : Table) → Finishes end new.parts end table → LimbsLead old.reverse table end limbs
   pub reads : ReadsAs (whole_tree old.reverse limbs) (alternation (map (read_tree old.reverse) qs))

@@ -64,6 +64,7 @@ pub record Keeps (b : Assembly) (end : ℕ) (table : SlotTable (List Transition)
 
 -- a state with this content is there: nothing was done, or it was added
 pub record Compiles (old new : Assembly) (end : ℕ) (trans : List (ℕ × ℕ × ℕ)) (id : ℕ) : Type 0 where
+  pub rises : RisesIn 0 trans
   pub behind : end < id
   pub there : id < length new.parts
   pub here : part_at new.parts id ≡ sparse_part trans

@@ -3,16 +3,23 @@ ghost use Rattle.std.specs.Prelude.{◌≡◌, ◌<◌, ◌≤◌, ◌+◌, ◌*
 ghost use Rattle.hir_core.specs.Sequences.{bytes_of};
 ghost use Rattle.nfa_core.specs.BuilderStates.{Assembly, sparse_part};
 ghost use Rattle.nfa_core.specs.Transitions.{range_of};
+ghost use Rattle.nfa_core.specs.declared.build_error.BuildError.TheVariants.{NoMemory};
 ghost use Rattle.thompson_nfa.specs.Added.{Added};
+ghost use Rattle.thompson_nfa.specs.Compiled.{Makes, Does};
 ghost use Rattle.thompson_nfa.specs.Refusals.{Quits, Stays};
+ghost use Rattle.thompson_nfa.specs.Shared.{read_tree};
+ghost use Rattle.thompson_nfa.specs.Utf8Compiles.{IsCompiling};
+ghost use Rattle.hir_core.specs.Tree.{alternation};
 ghost use Rattle.thompson_nfa.specs.RangeTries.{IsBefore};
 ghost use Rattle.thompson_nfa.specs.Utf8Stacks.{fresh, path_of, RisesIn, StagesRise, AreBytes, ComesAfter, Keeps, Compiles, MakesTop, Pops, PopsUntil, Turns, PartsAt};
 
+use crate::fragment::Fragment;
+use crate::parts::add_empty;
 use crate::utf8_state::{Utf8Node, Utf8State};
 use hir_core::Utf8Range;
 use nfa_core::{BuildError, Builder, Transition};
 use search_core::StateID;
-use std::alloc::{AllocError, Global};
+use std::alloc::Global;
 
 /// Adds a state with these transitions. It can't be led on.
 #[tactic(auto, using(crate::proofs::StackLemmas::rises_ascends, crate::proofs::StackLemmas::few_bytes, crate::proofs::StepLemmas::added_of, crate::proofs::StepLemmas::add_refused))]
@@ -128,8 +135,9 @@ fn push_nodes(
     state: &mut Utf8State,
     ranges: &[Utf8Range],
     from: usize,
-) -> Result<(), AllocError>
+) -> Result<(), BuildError>
     ensures nodes { IfOk result (λ _. state.new.nodes.items ≡ state.old.nodes.items ++ map fresh (drop from (map bytes_of ranges.now))) }
+    ensures memory { IfErr result (λ e. e ≡ NoMemory) }
     ensures compiled { state.new.compiled ≡ state.old.compiled }
     ensures end { state.new.end ≡ state.old.end }
 {
@@ -154,4 +162,76 @@ fn first_difference(state: &Utf8State, ranges: &[Utf8Range]) -> usize
         }
     }
     0
+}
+
+/// Begins a class: adds the state that is its end, to which all its sequences lead.
+///
+/// As `regex_automata::nfa::thompson::compiler::Utf8Compiler::new`.
+#[tactic(auto, using(crate::proofs::PathLemmas::compile_begun, crate::proofs::ProgressLemmas::first_quits))]
+pub(crate) fn begin(builder: &mut Builder, state: &mut Utf8State) -> Result<(), BuildError>
+    ensures begun { IfOk result (λ _. IsCompiling builder.old builder.new state.new.end state.new.compiled state.new.nodes.items []) }
+    ensures refused { IfErr result (λ e. Quits builder.old builder.new 1 e) }
+{
+    state.compiled.clear()?;
+    state.nodes.clear();
+    let end = add_empty(builder)?;
+    state.end = end;
+    Ok(())
+}
+
+/// Adds a sequence behind those that were added: where it first differs from the last one, its range lies
+/// above the last one's.
+///
+/// As `regex_automata::nfa::thompson::compiler::Utf8Compiler::add`.
+pub(crate) fn add(
+    builder: &mut Builder,
+    alloc: Global,
+    state: &mut Utf8State,
+    ranges: &[Utf8Range],
+) -> Result<(), BuildError>
+    requires some { 1 ≤ length ranges.now }
+    requires few { length ranges.now ≤ 4 }
+    requires bytes { AreBytes (map bytes_of ranges.now) }
+    requires after { ComesAfter (path_of state.old.nodes.items) (map bytes_of ranges.now) }
+    requires rising { StagesRise state.old.nodes.items }
+    requires keeps { Keeps builder.old state.old.end state.old.compiled }
+    ensures added { IfOk result (λ _. (old : Assembly) (qs : List (List (ℕ × ℕ))) →
+        IsCompiling old builder.old state.old.end state.old.compiled state.old.nodes.items qs →
+        IsCompiling old builder.new state.new.end state.new.compiled state.new.nodes.items (qs ++ map bytes_of ranges.now ∷ [])) }
+    ensures refused { IfErr result (λ e. (old : Assembly) (qs : List (List (ℕ × ℕ))) →
+        IsCompiling old builder.old state.old.end state.old.compiled state.old.nodes.items qs → Quits old builder.new (2 + 4 * length qs) e) }
+{
+    if state.nodes.is_empty() {
+        push_nodes(alloc, state, ranges, 0)?;
+        return Ok(());
+    }
+    let from = first_difference(state, ranges);
+    turn(builder, state, from, ranges[from])?;
+    push_nodes(alloc, state, ranges, from + 1)?;
+    Ok(())
+}
+
+/// Makes the states that aren't made yet, and gives the fragment of all sequences.
+///
+/// As `regex_automata::nfa::thompson::compiler::Utf8Compiler::finish`.
+pub(crate) fn finish(
+    builder: &mut Builder,
+    alloc: Global,
+    state: &mut Utf8State,
+) -> Result<Fragment, BuildError>
+    requires rising { StagesRise state.old.nodes.items }
+    requires keeps { Keeps builder.old state.old.end state.old.compiled }
+    ensures closed { IfOk result (λ f. (old : Assembly) (qs : List (List (ℕ × ℕ))) →
+        IsCompiling old builder.old state.old.end state.old.compiled state.old.nodes.items qs →
+        Makes old builder.new f.start f.end (2 + 4 * length qs) × Does old builder.new f.start f.end (alternation (map (read_tree old.reverse) qs)) × (builder.new.groups ≡ old.groups)) }
+    ensures refused { IfErr result (λ e. (old : Assembly) (qs : List (List (ℕ × ℕ))) →
+        IsCompiling old builder.old state.old.end state.old.compiled state.old.nodes.items qs → Quits old builder.new (2 + 4 * length qs) e) }
+{
+    let end = state.end;
+    if state.nodes.is_empty() {
+        let start = compile(builder, state, Vec::new(alloc))?;
+        return Ok(Fragment { start, end });
+    }
+    let start = compile_from(builder, state, 0)?;
+    Ok(Fragment { start, end })
 }

@@ -1,0 +1,39 @@
+use Rattle.std.proofs.Common.{◌≡◌, ◌<◌, ◌≤◌, refl, ◌∙◌, arith, map, length}
+use Rattle.std.proofs.lemmas.List.{length-map}
+use Rattle.hir_core.specs.Sequences.{bytes_of}
+use Rattle.thompson_nfa.proofs.ErrorLemmas.{handed}
+use Rattle.thompson_nfa.proofs.PathLemmas.{sequence_turned, sequence_first, compiling_as, parts_range, empty_by, all_quit, first_quit, turned_quit}
+use Rattle.thompson_nfa.proofs.utf8_compiler.add.Goals as goal
+
+pub returns-then-is_empty-clause-added : goal.returns-then-is_empty-clause-added
+returns-then-is_empty-clause-added c = λ old qs i.
+    let q = map bytes_of c.args.ranges.now in
+    let long = length-map c.args.ranges.now bytes_of in
+    let some : 1 ≤ length c.args.ranges.now = c.requires.some in
+    let few : length c.args.ranges.now ≤ 4 = c.requires.few in
+    let none : length c.args.state.now.nodes.items ≡ 0 = grind (arith, c.is_empty.ensures, c.if-is_empty.true) in
+    compiling_as _ _ _ _ _ _ _ _ c.push_nodes.ensures.end c.push_nodes.ensures.compiled
+    (sequence_first _ _ _ _ _ _ _ i (empty_by _ none) q (omega (arith, long, some)) c.requires.bytes (omega (arith, long, few)) c.in_ok-push_nodes.ensures.nodes)
+
+pub returns-clause-added : goal.returns-clause-added
+returns-clause-added c = λ old qs i.
+    let q = map bytes_of c.args.ranges.now in
+    let long = length-map c.args.ranges.now bytes_of in
+    let few : length c.args.ranges.now ≤ 4 = c.requires.few in
+    let at = c.first_difference-from in
+    compiling_as _ _ _ _ _ _ _ _ (c.push_nodes-2.ensures.end ∙ c.turn.ensures.end) c.push_nodes-2.ensures.compiled
+    (sequence_turned _ _ _ _ _ _ _ _ _ qs q _ at.result i c.in_ok-turn.ensures.turns at.ensures.parts
+    (parts_range _ q c.args.ranges.now _ (record { start = 0; end = 0 }) at.result refl at.ensures.inside refl at.ensures.parts) c.requires.bytes (omega (arith, long, few)) c.in_ok-push_nodes-2.ensures.nodes
+    c.in_ok-turn.ensures.keeps)
+
+pub returns-in_err-push_nodes-clause-refused : goal.returns-in_err-push_nodes-clause-refused
+returns-in_err-push_nodes-clause-refused c = handed _ _ c.in_err-push_nodes.field-0.0 c.from_residual.ensures.1
+    (first_quit c.args.state.now.end _ c.args.state.now.compiled c.args.state.now.nodes.items _ c.in_err-push_nodes.ensures.memory)
+
+pub returns-in_err-turn-clause-refused : goal.returns-in_err-turn-clause-refused
+returns-in_err-turn-clause-refused c = handed _ _ c.in_err-turn.field-0.0 c.from_residual-in_err-turn.ensures.1
+    (all_quit _ _ _ c.args.state.now.compiled _ _ c.in_err-turn.ensures.refused)
+
+pub returns-in_err-push_nodes-2-clause-refused : goal.returns-in_err-push_nodes-2-clause-refused
+returns-in_err-push_nodes-2-clause-refused c = handed _ _ c.in_err-push_nodes-2.field-0.0 c.from_residual-in_err-push_nodes-2.ensures.1
+    (turned_quit _ _ _ c.args.state.now.compiled _ _ _ _ _ c.in_ok-turn.ensures.turns c.in_err-push_nodes-2.ensures.memory)

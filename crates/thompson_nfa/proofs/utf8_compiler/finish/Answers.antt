@@ -1,0 +1,21 @@
+use Rattle.std.proofs.Common.{◌≡◌, ◌<◌, ap, map, length, arith}
+use Rattle.nfa_core.specs.Transitions.{range_of}
+use Rattle.thompson_nfa.proofs.ErrorLemmas.{handed}
+use Rattle.thompson_nfa.proofs.PathLemmas.{path_closed, none_closed, closed_made, closed_does, closed_groups, empty_by, all_quit}
+use Rattle.thompson_nfa.proofs.utf8_compiler.finish.Goals as goal
+
+pub returns-then-is_empty-clause-closed : goal.returns-then-is_empty-clause-closed
+returns-then-is_empty-clause-closed c = λ old qs i.
+    let none : length c.args.state.now.nodes.items ≡ 0 = grind (arith, c.is_empty.ensures, c.if-is_empty.true) in
+    let x = none_closed _ _ _ _ _ _ _ i c.in_ok-start.start _ (empty_by _ none) (ap (map range_of) c.new.ensures.items) c.in_ok-start.ensures.compiled in
+    (closed_made _ _ _ _ _ _ x, closed_does _ _ _ _ _ _ x, closed_groups _ _ _ _ _ _ x)
+
+pub returns-clause-closed : goal.returns-clause-closed
+returns-clause-closed c = λ old qs i.
+    let some : 0 < length c.args.state.now.nodes.items = grind (arith, c.is_empty.ensures, c.if-is_empty.false) in
+    let x = path_closed _ _ _ _ _ _ _ i _ c.in_ok-start-2.start some c.in_ok-start-2.ensures.pops c.in_ok-start-2.ensures.left in
+    (closed_made _ _ _ _ _ _ x, closed_does _ _ _ _ _ _ x, closed_groups _ _ _ _ _ _ x)
+
+pub returns-in_err-start-2-clause-refused : goal.returns-in_err-start-2-clause-refused
+returns-in_err-start-2-clause-refused c = handed _ _ c.in_err-start-2.field-0.0 c.from_residual-in_err-start-2.ensures.1
+    (all_quit _ _ _ c.args.state.now.compiled _ _ c.in_err-start-2.ensures.refused)
