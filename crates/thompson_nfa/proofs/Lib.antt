@@ -76,3 +76,8 @@ pub mod StackLemmas
 pub mod ReadLemmas
 pub mod LimbLemmas
 pub mod PathLemmas
+pub mod TurnedStrings
+pub mod ScalarCountLemmas
+pub mod ClassTrieLemmas
+pub mod TurnedMeanings
+pub mod TurnedLengths

@@ -28,3 +28,4 @@ pub mod SharedSuffixes
 pub mod Shared
 pub mod Utf8Stacks
 pub mod Utf8Compiles
+pub mod ClassTries

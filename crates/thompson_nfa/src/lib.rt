@@ -4,6 +4,7 @@
 mod ascii_class;
 mod branch;
 mod class;
+mod class_trie;
 mod compile;
 mod compiler;
 mod config;

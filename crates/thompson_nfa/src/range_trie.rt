@@ -91,15 +91,23 @@ impl RangeTrie {
         ensures err { IfErr result (λ e. CallsUpTo F.step f self.now e ⊎ E.from_gives alloc_error e) }
         ensures trie { IsTrie self.now }
     {
-        self.nodes.see_order();
         let paths = self.paths(alloc)?;
         call_each(f, &paths)
     }
 
-    /// The sequences.
-    fn paths(&self, alloc: Global) -> Result<Vec<Vec<Utf8Range>>, AllocError>
-        ensures { IfOk result (λ v. paths_of v.items ≡ self.now) }
+    /// The sequences ascend.
+    pub(crate) fn see_order(&self)
+        ensures { IsTrie self.now }
     {
+        self.nodes.see_order();
+    }
+
+    /// The sequences, ascending.
+    pub(crate) fn paths(&self, alloc: Global) -> Result<Vec<Vec<Utf8Range>>, AllocError>
+        ensures paths { IfOk result (λ v. paths_of v.items ≡ self.now) }
+        ensures trie { IsTrie self.now }
+    {
+        self.nodes.see_order();
         let mut paths = Vec::new(alloc);
         emit(&self.nodes, alloc, self.root, &[], &mut paths)?;
         Ok(paths)

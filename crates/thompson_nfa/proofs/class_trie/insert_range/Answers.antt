@@ -1,0 +1,22 @@
+-- Each sequence stands next in what is left.
+use Rattle.std.proofs.Common.{◌∙◌}
+use Rattle.thompson_nfa.proofs.ClassTrieLemmas.{none_gained, next_ranges, next_turned, met_turned, next_gained, all_gained}
+use Rattle.thompson_nfa.proofs.class_trie.insert_range.Goals as goal
+
+pub loop-sequence-init : goal.loop-sequence-init
+loop-sequence-init c = none_gained c.args.trie.now _ _ (c.into_iter-sequence-iterator.ensures.into_iter_gives ∙ c.new-sequence-items.ensures)
+
+pub insert_turned-requires-clause-ordered : goal.insert_turned-requires-clause-ordered
+insert_turned-requires-clause-ordered c = next_ranges _ _ _ _ c.args.first c.args.last _ c.loop-sequence.invariant c.in-Some.ensures.steps
+
+pub insert_turned-requires-clause-old : goal.insert_turned-requires-clause-old
+insert_turned-requires-clause-old c = met_turned _ _ _ _ c.args.first c.args.last _ c.loop-sequence.invariant c.in-Some.ensures.steps c.requires
+
+pub insert_turned-requires-clause-new : goal.insert_turned-requires-clause-new
+insert_turned-requires-clause-new c = next_turned _ _ _ _ c.args.first c.args.last _ c.loop-sequence.invariant c.in-Some.ensures.steps
+
+pub loop-sequence-preserved : goal.loop-sequence-preserved
+loop-sequence-preserved c = next_gained _ _ _ _ _ _ _ c.loop-sequence.invariant c.in-Some.ensures.steps c.in_ok-insert_turned.ensures
+
+pub returns : goal.returns
+returns c = all_gained _ _ _ _ c.loop-sequence.invariant c.in-None.ensures.steps.0
