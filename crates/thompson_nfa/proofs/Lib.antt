@@ -81,3 +81,4 @@ pub mod ScalarCountLemmas
 pub mod ClassTrieLemmas
 pub mod TurnedMeanings
 pub mod TurnedLengths
+pub mod ClassOrder
