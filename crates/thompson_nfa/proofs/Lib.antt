@@ -82,3 +82,5 @@ pub mod ClassTrieLemmas
 pub mod TurnedMeanings
 pub mod TurnedLengths
 pub mod ClassOrder
+pub mod TriePathLemmas
+pub mod ShrunkLemmas

@@ -24,6 +24,7 @@ pub mod room_laws;
 mod scalar_class;
 mod scalar_stubs;
 mod shared;
+mod shrunk_class;
 mod slots;
 mod trees;
 mod trie_nodes;
