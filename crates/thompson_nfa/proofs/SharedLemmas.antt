@@ -16,11 +16,12 @@ use Rattle.nfa_core.specs.Ways.{Text, reads, in_ranges, on_read, place_behind, n
 use Rattle.nfa_core.specs.Drafted.{drafted, Table, table_match}
 use Rattle.nfa_core.proofs.MemberLemmas.{none_in, has_one, has_same}
 use Rattle.nfa_core.proofs.PairLemmas.{pairs_equal}
-use Rattle.thompson_nfa.specs.Denotes.{at, seen, IsMeant, Leads, Passes, Reaches, Orders, Denotes}
+use Rattle.thompson_nfa.specs.Denotes.{at, seen, IsMeant, Leads, Passes, Reaches, ComesToEnd, Halts, Orders, Denotes}
 use Rattle.thompson_nfa.specs.Shared.{read_then, branch_trees, LeadAll}
 use Rattle.thompson_nfa.proofs.WayLemmas.{each_at, byte_ends, Goes}
 use Rattle.thompson_nfa.proofs.LeadLemmas.{Chain, goes_begins, goes_leads, passes_later}
-use Rattle.thompson_nfa.proofs.OrderLemmas.{Listed, listed_on}
+use Rattle.thompson_nfa.proofs.HaltLemmas.{Ended, ended_none, ended_on}
+use Rattle.thompson_nfa.proofs.OrderLemmas.{Listed, ListedFirsts, firsts_of, firsts_on}
 use Rattle.thompson_nfa.proofs.MeantLemmas.{meant_never, alt_meant, meant_alt, class_ends_up, class_meant, meant_class}
 use Rattle.thompson_nfa.proofs.DenoteLemmas.{Joins}
 use Rattle.thompson_nfa.proofs.SameLemmas.{joins_cat_up, joins_cat_down}
@@ -237,6 +238,40 @@ module _ (back : Bool) (t : Text) (T : Table) (e : ℕ) where
             (λ d f. branch_sound trans ys all i b.way b.rest m b.has d (ap (table_match T) f ∙ final)) (λ j y. y);
       }
 
+  -- ---- the walk comes to its end
+
+  first_ended : (low high next : ℕ) (trans : List (ℕ × ℕ × ℕ)) (b j : ℕ) (c : Bool) → within low high b ≡ c → (within low high b ≡ true → ComesToEnd back t T (j, next)) →
+      Ended back t T (each_at (in_ranges trans b) j) → Ended back t T (each_at (in_ranges ((low, high, next) ∷ trans) b) j)
+  first_ended low high next trans b j true is here later =
+      let Q : List ℕ → Type 0 = λ qs. Ended back t T (each_at qs j) in
+      subst Q (sym (first_in low high next b trans true is refl)) (here is)
+  first_ended low high next trans b j false is here later =
+      let Q : List ℕ → Type 0 = λ qs. Ended back t T (each_at qs j) in
+      subst Q (sym (later_in low high next b trans false is refl)) later
+
+  branch_ended : (trans : List (ℕ × ℕ × ℕ)) (ys : List Tree) → LeadAll back T e trans ys → LoopsRead (alternation (branch_trees back trans ys)) → (i : ℕ) (o : Option (ℕ × ℕ)) → reads back t i ≡ o →
+      ((j : ℕ) → IsMeant back t (alternation (branch_trees back trans ys)) i j → ComesToEnd back t T (j, e)) → Ended back t T (sparse_to trans o)
+  branch_ended [] ys all f i None is ends = ended_none back t T
+  branch_ended [] ys all f i (Some (b, j)) is ends = ended_none back t T
+  branch_ended ((low, high, next) ∷ trans) [] all f i o is ends = absurd all
+  branch_ended ((low, high, next) ∷ trans) (y ∷ ys) all f i None is ends = ended_none back t T
+  branch_ended ((low, high, next) ∷ trans) (y ∷ ys) all f i (Some (b, j)) is ends =
+      let r : ℕ × ℕ = (low, high) in
+      let later : Tree = alternation (branch_trees back trans ys) in
+      first_ended low high next trans b j (within low high b) refl
+      (λ inside.
+      let by : ReadsIn low high (reads back t i) j = record { byte = b; is = is; inside = inside } in
+      let here = class_meant back t (r ∷ []) i j (in_read low high (reads back t i) j by) in
+      (all.0.halts ((joins_read back r y).reading f.0).1 t).halts j
+      (λ k m. ends k (alt_meant back t (read_then back r y) later i k (inl ((joins_read back r y).joined t i k (j, here, m))))))
+      (branch_ended trans ys all.1 f.1 i (Some (b, j)) is (λ k m. ends k (alt_meant back t (read_then back r y) later i k (inr m))))
+
+  branch_halts : (s : ℕ) (trans : List (ℕ × ℕ × ℕ)) (ys : List Tree) → T s ≡ sparse_part trans → LeadAll back T e trans ys → LoopsRead (alternation (branch_trees back trans ys)) →
+      Halts back t T s e (IsMeant back t (alternation (branch_trees back trans ys)))
+  branch_halts s trans ys is all f = record {
+    halts = λ i ends. ended_on back t T s (λ k. sparse_to trans (reads back t k)) i (goes_sparse back t T s trans is) (branch_ended trans ys all f i (reads back t i) refl ends);
+  }
+
 -- ---- in order, read up
 
 module _ (t : Text) (T : Table) (e : ℕ) where
@@ -265,27 +300,27 @@ module _ (t : Text) (T : Table) (e : ℕ) where
 
   -- by the byte the first range leads on, or a later one
   first_lists : (low high next : ℕ) (trans : List (ℕ × ℕ × ℕ)) (y later : Tree) (b j i : ℕ) (l : List (ℕ × ℕ)) (c : Bool) → within low high b ≡ c → (b < high + 1 → ends later i ≡ []) →
-      reads false t i ≡ Some (b, j) → Denotes false T next e y → LoopsRead y → (Listed t T (at e (ends later i)) l → Listed t T (each_at (in_ranges trans b) j) l) →
-      Listed t T (at e (flat_map (ends y) (ends (range_tree (low, high)) i) ++ ends later i)) l → Listed t T (each_at (in_ranges ((low, high, next) ∷ trans) b) j) l
+      reads false t i ≡ Some (b, j) → Denotes false T next e y → LoopsRead y → (Listed t T (at e (ends later i)) l → ListedFirsts t T (each_at (in_ranges trans b) j) l) →
+      Listed t T (at e (flat_map (ends y) (ends (range_tree (low, high)) i) ++ ends later i)) l → ListedFirsts t T (each_at (in_ranges ((low, high, next) ∷ trans) b) j) l
   first_lists low high next trans y later b j i l true is none read d f on walk =
       let x = is_within low high b is in
       let P : List ℕ → Type 0 = λ js. Listed t T (at e (flat_map (ends y) js ++ ends later i)) l in
       let Q : List ℕ → Type 0 = λ js. Listed t T (at e ((ends y j ++ []) ++ js)) l in
       let R : List ℕ → Type 0 = λ js. Listed t T (at e js) l in
-      let S : List ℕ → Type 0 = λ qs. Listed t T (each_at qs j) l in
+      let S : List ℕ → Type 0 = λ qs. ListedFirsts t T (each_at qs j) l in
       let least : b < high + 1 = let z = x.1 in omega arith in
       let plain : (ends y j ++ []) ++ [] ≡ ends y j = append-nil (ends y j ++ []) ∙ append-nil (ends y j) in
       subst S (sym (first_in low high next b trans true is refl))
       ((d.orders refl f t).lists j l (subst R plain (subst Q (none least) (subst P (one_end low high i b j read is) walk))))
   first_lists low high next trans y later b j i l false is none read d f on walk =
       let P : List ℕ → Type 0 = λ js. Listed t T (at e (flat_map (ends y) js ++ ends later i)) l in
-      let S : List ℕ → Type 0 = λ qs. Listed t T (each_at qs j) l in
+      let S : List ℕ → Type 0 = λ qs. ListedFirsts t T (each_at qs j) l in
       subst S (sym (later_in low high next b trans false is refl)) (on (subst P (no_end low high i b j read is) walk))
 
   branch_lists : (least : ℕ) (trans : List (ℕ × ℕ × ℕ)) (ys : List Tree) → AscendsFrom least trans → LeadAll false T e trans ys → LoopsRead (alternation (branch_trees false trans ys)) →
-      (i : ℕ) (o : Option (ℕ × ℕ)) → reads false t i ≡ o → (l : List (ℕ × ℕ)) → Listed t T (at e (ends (alternation (branch_trees false trans ys)) i)) l → Listed t T (sparse_to trans o) l
-  branch_lists least [] ys up all f i None is l walk = walk
-  branch_lists least [] ys up all f i (Some (b, j)) is l walk = walk
+      (i : ℕ) (o : Option (ℕ × ℕ)) → reads false t i ≡ o → (l : List (ℕ × ℕ)) → Listed t T (at e (ends (alternation (branch_trees false trans ys)) i)) l → ListedFirsts t T (sparse_to trans o) l
+  branch_lists least [] ys up all f i None is l walk = firsts_of t T [] l walk
+  branch_lists least [] ys up all f i (Some (b, j)) is l walk = firsts_of t T [] l walk
   branch_lists least ((low, high, next) ∷ trans) [] up all f i o is l walk = absurd all
   branch_lists least ((low, high, next) ∷ trans) (y ∷ ys) up all f i None is l walk =
       let later : Tree = alternation (branch_trees false trans ys) in
@@ -300,7 +335,7 @@ module _ (t : Text) (T : Table) (e : ℕ) where
 branch_orders : (back : Bool) (t : Text) (T : Table) (e s : ℕ) (trans : List (ℕ × ℕ × ℕ)) (ys : List Tree) → back ≡ false → T s ≡ sparse_part trans → AscendsFrom 0 trans → LeadAll back T e trans ys →
     LoopsRead (alternation (branch_trees back trans ys)) → Orders t T s e (preferred_ends t.holds (seen t) (alternation (branch_trees back trans ys)))
 branch_orders false t T e s trans ys up is rising all f = record {
-  lists = λ i l walk. listed_on t T s (λ k. sparse_to trans (reads false t k)) i l (goes_sparse false t T s trans is)
+  lists = λ i l walk. firsts_on t T s (λ k. sparse_to trans (reads false t k)) i l (goes_sparse false t T s trans is)
       (branch_lists t T e 0 trans ys rising all f i (reads false t i) refl l walk);
 }
 branch_orders true t T e s trans ys up is rising all f = cc
@@ -310,5 +345,6 @@ pub denotes_branches : (back : Bool) (T : Table) (s e : ℕ) (trans : List (ℕ 
     Denotes back T s e (alternation (branch_trees back trans ys))
 denotes_branches back T s e trans ys is rising all = record {
   reaches = λ t. branch_reaches back t T e s trans ys is rising all;
+  halts = λ f t. branch_halts back t T e s trans ys is all f;
   orders = λ up f t. branch_orders back t T e s trans ys up is rising all f;
 }

@@ -4,6 +4,7 @@ use Rattle.std.proofs.Common.{◌≡◌, ◌⊎◌, inl, inr, ℕ, suc, ◌+◌,
 use Rattle.std.proofs.lemmas.Bool.{false≢true, true≢false}
 use Rattle.std.proofs.lemmas.List.{reverse-append, reverse-reverse, length-reverse}
 use Rattle.hir_core.specs.Tree.{Tree, char_class, alternation}
+use Rattle.hir_core.specs.Facts.{LoopsRead}
 use Rattle.hir_core.specs.Means.{Looks, Means, is_member}
 use Rattle.hir_core.specs.Sequences.{is_in_ranges}
 use Rattle.hir_core.specs.BySequences.{sequence_tree, range_tree, sequences_of}
@@ -150,6 +151,15 @@ module _ (looks : Looks) (h : List ℕ) where
         let end : i + length (reverse p.0) ≡ j = ap (λ n. i + n) (length-reverse p.0) ∙ sym p.3 in
         subst (λ (k : ℕ). Means looks h (alternation (map (read_tree true) qs)) i k) end whole
 
+-- no loop stands in what is read
+tree_loops : (q : List (ℕ × ℕ)) → LoopsRead (read_tree true q)
+tree_loops [] = tt
+tree_loops (r ∷ q) = (tree_loops q, tt)
+
+all_loops : (qs : List (List (ℕ × ℕ))) → LoopsRead (alternation (map (read_tree true) qs))
+all_loops [] = tt
+all_loops (q ∷ qs) = (tree_loops q, all_loops qs)
+
 -- read downwards, a table does for the sequences turned round what it does for the class
 pub denotes_turned : (back : Bool) (T : Table) (s e : ℕ) (qs : List (List (ℕ × ℕ))) (ranges : List (ℕ × ℕ)) → back ≡ true → HasTurned qs (sequences_of ranges) →
     Denotes back T s e (alternation (map (read_tree back) qs)) → Denotes back T s e (char_class ranges)
@@ -157,4 +167,4 @@ denotes_turned false T s e qs ranges down has d = absurd (false≢true down)
 denotes_turned true T s e qs ranges down has d =
     denotes_like_meaning true T s e (alternation (map (read_tree true) qs)) (char_class ranges)
     (λ looks h i j. class_to_turned looks h qs ranges has i j) (λ looks h i j. turned_to_class looks h qs ranges has i j)
-    (λ up. absurd (true≢false up)) (λ up. absurd (true≢false up)) d
+    (λ f. all_loops qs) (λ up. absurd (true≢false up)) d

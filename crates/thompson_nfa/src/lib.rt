@@ -29,10 +29,9 @@ mod slots;
 mod trees;
 mod trie_nodes;
 mod utf8_bounded_map;
-mod utf8_state_stub;
-mod utf8_suffix;
 mod utf8_compiler;
 mod utf8_state;
+mod utf8_suffix;
 mod utf8_suffix_map;
 mod which_captures;
 

@@ -1,5 +1,5 @@
 use crate::range_trie::RangeTrie;
-use crate::utf8_state_stub::Utf8State;
+use crate::utf8_state::Utf8State;
 use crate::utf8_suffix_map::Utf8SuffixMap;
 use std::alloc::Global;
 use std::marker::Model;
