@@ -18,7 +18,7 @@ use Rattle.thompson_nfa.specs.Compiled.{sum_of_bytes}
 use Rattle.thompson_nfa.specs.Configs.{Options, reverse_of, captures_of, is_shrunk, is_any}
 use Rattle.thompson_nfa.specs.NotedGroups.{noted_from}
 use Rattle.thompson_nfa.specs.Patterns.{Holds, Stands, HasAll, HasStart, LeadsToPatterns, room_for, begun_with}
-use Rattle.thompson_nfa.specs.Room.{room, list_room}
+use Rattle.thompson_nfa.specs.Room.{list_room}
 use Rattle.thompson_nfa.specs.declared.how.How.{How}
 use Rattle.thompson_nfa.specs.declared.which_captures.WhichCaptures.{WhichCaptures}
 use Rattle.thompson_nfa.proofs.PatternLemmas.{no_match_is}

@@ -15,7 +15,6 @@ use Rattle.thompson_nfa.specs.NotedGroups.{noted}
 use Rattle.thompson_nfa.specs.Patterns.{Holds, Stands, HasAll}
 use Rattle.thompson_nfa.specs.Room.{room}
 use Rattle.thompson_nfa.specs.declared.how.How.{How}
-use Rattle.thompson_nfa.specs.declared.which_captures.WhichCaptures.{WhichCaptures}
 use Rattle.thompson_nfa.proofs.DoesLemmas.{turned_to}
 use Rattle.thompson_nfa.proofs.GrowLemmas.{names_patched, match_patched, known_patched}
 use Rattle.thompson_nfa.proofs.SameLemmas.{IsSame, denotes_same}

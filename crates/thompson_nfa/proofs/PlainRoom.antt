@@ -1,5 +1,5 @@
 -- Where classes aren't shrunk, `room` is `count`; where they are, it has room for the plain form too.
-use Rattle.std.proofs.Common.{◌≡◌, ℕ, zero, suc, ◌+◌, ◌-◌, ◌*◌, ◌≤◌, min, Bool, true, false, List, [], ◌∷◌, length, refl, ap, ap₂, ◌∙◌, arith, nat_le}
+use Rattle.std.proofs.Common.{◌≡◌, ℕ, zero, suc, ◌+◌, ◌-◌, ◌*◌, ◌≤◌, min, Bool, true, false, List, [], ◌∷◌, length, refl, ap, ap₂, arith, nat_le}
 use Rattle.std.proofs.lemmas.List.{length-map}
 use Rattle.hir_core.specs.Tree.{Tree, empty, literal, byte_class, char_class, look, repetition, capture, nothing, cat, never, alt}
 use Rattle.hir_core.specs.Facts.{count, list_count, capped, repeated_count, sequence_count}
@@ -8,7 +8,7 @@ use Rattle.nfa_core.specs.BuilderStates.{Assembly}
 use Rattle.nfa_core.specs.declared.build_error.BuildError.{BuildError}
 use Rattle.thompson_nfa.specs.Compiled.{Makes}
 use Rattle.thompson_nfa.specs.Refusals.{Quits}
-use Rattle.thompson_nfa.specs.Room.{room, list_room, class_room}
+use Rattle.thompson_nfa.specs.Room.{room, list_room}
 use Rattle.thompson_nfa.specs.ScalarCounts.{scalars_in}
 use Rattle.thompson_nfa.proofs.ProgressLemmas.{made_capped}
 use Rattle.thompson_nfa.proofs.ScalarLemmas.{quits_capped}
