@@ -15,3 +15,4 @@ pub mod ExactLemmas
 pub mod DecidedLemmas
 pub mod KnownStateLemmas
 mod StartRows
+mod StepRows

@@ -2,3 +2,4 @@ pub mod StateBytes
 pub mod States
 pub mod Starts
 pub mod LookBehind
+pub mod Steps

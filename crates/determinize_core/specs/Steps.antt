@@ -1,0 +1,185 @@
+-- The step from a powerset state to the next one by a unit of the input, as a function of values. A unit is a byte, or none
+-- at the end of the input.
+use Rattle.std.specs.Prelude.{ℕ, zero, suc, ◌==◌, ◌&&◌, ◌||◌, ◌++◌, not, Bool, true, false, List, [], ◌∷◌, map, length, Option, Some, None, if◌then◌else◌}
+use Rattle.std.specs.Bool.{nat_eq}
+use Rattle.std.specs.List.{filter, flat_map, fold}
+use Rattle.std.specs.Option.{option_to_list}
+use Rattle.search_core.specs.Text.{byte_at, byte_before}
+use Rattle.look_core.specs.LookSets.{has_look, union_of, shared_by, without}
+use Rattle.look_core.specs.Looks.{word_if, byte_side, is_no_word, is_word, is_edge_of_word, is_no_edge_of_word, is_start_of_word, is_end_of_word, is_byte, is_line_end}
+use Rattle.look_core.specs.Terminators.{Terminator}
+use Rattle.look_core.specs.declared.look.Look.TheVariants.{End, EndLF, StartCRLF, EndCRLF, WordAscii, WordAsciiNegate, WordUnicode, WordUnicodeNegate, WordStartAscii, WordEndAscii, WordStartUnicode, WordEndUnicode, WordEndHalfAscii, WordEndHalfUnicode}
+use Rattle.search_types.specs.declared.match_kind.MatchKind.{MatchKind}
+use Rattle.search_types.specs.declared.match_kind.MatchKind.TheVariants.{All as AllMatches, LeftmostFirst}
+use Rattle.nfa_core.specs.Walks.{chain_ends, distinct}
+use Rattle.nfa_core.specs.Runs.{answers}
+use Rattle.nfa_core.specs.Places.{before_answer, first}
+use Rattle.nfa_core.specs.Nfa.{Automaton, Node, match_node, node_at}
+use Rattle.nfa_core.specs.NfaValue.{look_of, looks_of, is_capture}
+use Rattle.nfa_core.specs.Ways.{on_byte, on_nothing, place_of}
+use Rattle.determinize_core.specs.States.{StateValue, dead}
+use Rattle.determinize_core.specs.LookBehind.{families_of, with_if, starts_of, look_behind, with_look_behind}
+use Rattle.determinize_core.specs.Starts.{start_of}
+use Rattle.determinize_core.specs.declared.lookbehind.LookBehind.{LookBehind}
+use Rattle.determinize_core.specs.declared.lookbehind.Families.{Families}
+use Rattle.determinize_core.specs.declared.start.Start.{Start}
+
+-- ---- the looks at a place
+
+-- the half of a CRLF that is read first, and the other
+abbrev pub first_half : Bool → ℕ
+first_half false = 0x0D
+first_half true = 0x0A
+
+abbrev pub second_half : Bool → ℕ
+second_half false = 0x0A
+second_half true = 0x0D
+
+abbrev pub is_end : Option ℕ → Bool
+is_end None = true
+is_end (Some b) = false
+
+-- the looks that are known to hold at the place of a state, with those that the unit after it decides
+abbrev pub known_before : Bool → Terminator → StateValue → Option ℕ → ℕ
+known_before reverse t v u =
+    with_if (is_end u) End
+    (with_if (is_end u || is_line_end t u) EndLF
+    (with_if (is_end u || (is_byte (first_half reverse) u || (is_byte (second_half reverse) u && not v.is_half_crlf))) EndCRLF
+    (with_if (v.is_half_crlf && not (is_byte (second_half reverse) u)) StartCRLF
+    (with_if (is_edge_of_word (word_if v.is_from_word) (byte_side u)) WordAscii
+    (with_if (is_edge_of_word (word_if v.is_from_word) (byte_side u)) WordUnicode
+    (with_if (is_no_edge_of_word (word_if v.is_from_word) (byte_side u)) WordAsciiNegate
+    (with_if (is_no_edge_of_word (word_if v.is_from_word) (byte_side u)) WordUnicodeNegate
+    (with_if (is_start_of_word (word_if v.is_from_word) (byte_side u)) WordStartAscii
+    (with_if (is_start_of_word (word_if v.is_from_word) (byte_side u)) WordStartUnicode
+    (with_if (is_end_of_word (word_if v.is_from_word) (byte_side u)) WordEndAscii
+    (with_if (is_end_of_word (word_if v.is_from_word) (byte_side u)) WordEndUnicode
+    (with_if (is_no_word (byte_side u)) WordEndHalfAscii
+    (with_if (is_no_word (byte_side u)) WordEndHalfUnicode v.look_have)))))))))))))
+
+-- the looks that hold behind a unit whatever follows it, of the families that an automaton has
+abbrev pub known_behind : Families → Bool → Terminator → Option ℕ → ℕ
+known_behind f reverse t u = starts_of (record {
+  haystack = false;
+  lines = f.lines && is_line_end t u;
+  crlf = f.crlf && is_byte (second_half reverse) u;
+  words = f.words && is_no_word (byte_side u);
+})
+
+-- ---- the states of the automaton
+
+-- where a state leads with no byte, where these looks are known to hold
+abbrev pub known_steps : Automaton → ℕ → ℕ → List ℕ
+known_steps a looks q = on_nothing (node_at a q) (has_look looks)
+
+-- to which states the walk depth first from these, in order, comes along such ways, each once
+abbrev pub closed : Automaton → ℕ → List ℕ → List ℕ
+closed a looks qs = distinct nat_eq (flat_map (chain_ends nat_eq (known_steps a looks) (length a.states) []) qs)
+
+-- where a state leads by the unit
+abbrev pub unit_steps : Automaton → Option ℕ → ℕ → List ℕ
+unit_steps a None q = []
+unit_steps a (Some b) q = on_byte (node_at a q) b
+
+abbrev pub pattern_of : Node → Option ℕ
+pattern_of (match_node p) = Some p
+pattern_of _ = None
+
+-- the pattern that matches in a state
+abbrev pub pattern_at : Automaton → ℕ → Option ℕ
+pattern_at a q = pattern_of (node_at a q)
+
+-- of these states, those that read the next unit: under leftmost-first the ones before the first match
+abbrev pub reading : MatchKind → Automaton → List ℕ → List ℕ
+reading AllMatches a qs = qs
+reading LeftmostFirst a qs = before_answer (pattern_at a) qs
+
+-- the patterns that match in these states, each once; under leftmost-first the first alone
+abbrev pub patterns_in : MatchKind → Automaton → List ℕ → List ℕ
+patterns_in AllMatches a qs = distinct nat_eq (answers (pattern_at a) qs)
+patterns_in LeftmostFirst a qs = option_to_list (first (answers (pattern_at a) qs))
+
+-- a powerset state keeps no captures
+abbrev pub is_kept : Automaton → ℕ → Bool
+is_kept a q = not (is_capture (node_at a q))
+
+abbrev pub kept : Automaton → List ℕ → List ℕ
+kept a qs = filter (is_kept a) qs
+
+-- the looks of these states, with those of a set
+abbrev pub looks_with : Automaton → ℕ → List ℕ → ℕ
+looks_with a looks qs = fold (λ s q. union_of s (look_of (node_at a q))) looks qs
+
+-- looks that hold are told where looks are needed
+abbrev pub have_if : ℕ → ℕ → ℕ
+have_if need have = if need == 0 then 0 else have
+
+-- ---- states
+
+-- the state with these states of the automaton behind its own, and with their looks
+abbrev pub with_states : Automaton → List ℕ → StateValue → StateValue
+with_states a qs v = record v {
+  look_have = have_if (looks_with a v.look_need qs) v.look_have;
+  look_need = looks_with a v.look_need qs;
+  ids = v.ids ++ kept a qs;
+}
+
+-- whether a needed look is among these that wasn't known to hold
+abbrev pub gains : StateValue → ℕ → Bool
+gains v looks = not (shared_by (without looks v.look_have) v.look_need == 0)
+
+-- the states at the place of a state before the unit, by the looks that it decides
+abbrev pub ids_before : Automaton → Terminator → StateValue → Option ℕ → List ℕ
+ids_before a t v u =
+    if gains v (known_before a.reverse t v u) then closed a (known_before a.reverse t v u) v.ids else v.ids
+
+abbrev pub families : Automaton → Families
+families a = families_of (looks_of a.states)
+
+-- the states behind the unit
+abbrev pub states_behind : Automaton → Terminator → MatchKind → StateValue → Option ℕ → List ℕ
+states_behind a t kind v u =
+    closed a (known_behind (families a) a.reverse t u) (flat_map (unit_steps a u) (reading kind a (ids_before a t v u)))
+
+abbrev pub is_some_kept : Automaton → List ℕ → Bool
+is_some_kept a [] = false
+is_some_kept a (q ∷ qs) = is_kept a q || is_some_kept a qs
+
+-- what is known behind the unit apart from states; of a place without states no more is known
+abbrev pub begun : Automaton → Terminator → MatchKind → StateValue → Option ℕ → StateValue
+begun a t kind v u = record {
+  is_from_word = (families a).words && (is_word (byte_side u) && is_some_kept a (states_behind a t kind v u));
+  is_half_crlf = (families a).crlf && (is_byte (first_half a.reverse) u && is_some_kept a (states_behind a t kind v u));
+  look_have = known_behind (families a) a.reverse t u;
+  look_need = 0;
+  matches = patterns_in kind a (ids_before a t v u);
+  ids = [];
+}
+
+-- The state behind the unit. It lists what matched before the unit.
+abbrev pub step_value : Automaton → Terminator → MatchKind → StateValue → Option ℕ → StateValue
+step_value a t kind v u = with_states a (states_behind a t kind v u) (begun a t kind v u)
+
+-- the looks and flags of a start
+abbrev pub behind : Automaton → Terminator → Start → LookBehind
+behind a t s = look_behind (looks_of a.states) a.reverse t s
+
+-- the state in which a search starts, from state q of the automaton
+abbrev pub start_value : Automaton → Terminator → Start → ℕ → StateValue
+start_value a t s q = with_states a (closed a (behind a t s).look_have (q ∷ [])) (with_look_behind (behind a t s) dead)
+
+-- ---- walks
+
+-- the byte of a haystack that one who reads up or down from a place reads next, past any span, and the one just before it
+abbrev pub unit_at : Bool → List ℕ → ℕ → Option ℕ
+unit_at false h i = byte_at h i
+unit_at true h i = byte_before h i
+
+abbrev pub unit_behind : Bool → List ℕ → ℕ → Option ℕ
+unit_behind false h i = byte_before h i
+unit_behind true h i = byte_at h i
+
+-- The state behind k units of the haystack, from state q of the automaton at place i.
+abbrev pub walk_value : Automaton → Terminator → MatchKind → List ℕ → ℕ → ℕ → ℕ → StateValue
+walk_value a t kind h i q zero = start_value a t (start_of t (unit_behind a.reverse h i)) q
+walk_value a t kind h i q (suc k) = step_value a t kind (walk_value a t kind h i q k) (unit_at a.reverse h (place_of a.reverse i k))
