@@ -61,7 +61,7 @@ last_more : (before : ℕ) (ids : List ℕ) (q : ℕ) → last_id before (ids ++
 last_more before [] q = refl
 last_more before (p ∷ ps) q = last_more p ps q
 
-all_more : (bound : ℕ) (xs : List ℕ) (x : ℕ) → All (λ y. y ≤ bound) xs → x ≤ bound → All (λ y. y ≤ bound) (xs ++ x ∷ [])
+pub all_more : (bound : ℕ) (xs : List ℕ) (x : ℕ) → All (λ y. y ≤ bound) xs → x ≤ bound → All (λ y. y ≤ bound) (xs ++ x ∷ [])
 all_more bound [] x all within zero d p = within
 all_more bound [] x all within (suc k) d p = absurd (omega arith)
 all_more bound (y ∷ ys) x all within zero d p = all 0 0 (omega arith)

@@ -1,3 +1,5 @@
+mod AddLemmas
+mod AddedLemmas
 mod DecodeLemmas
 mod EditLemmas
 mod FlagLemmas

@@ -12,7 +12,7 @@ use Rattle.determinize_core.proofs.DecodeLemmas.{length-four_bytes_each, past_13
 use Rattle.determinize_core.proofs.ValueLemmas.{few, small, decoded_encoded}
 
 -- a number among others
-number_of : (i : ℕ) (ns rest : List ℕ) → i < length ns → All (λ n. n < 2 ^ 32) ns → from_le_bytes w32 (drop (4 * i) (four_bytes_each ns ++ rest)) ≡ get_or ns i 0
+pub number_of : (i : ℕ) (ns rest : List ℕ) → i < length ns → All (λ n. n < 2 ^ 32) ns → from_le_bytes w32 (drop (4 * i) (four_bytes_each ns ++ rest)) ≡ get_or ns i 0
 number_of zero (n ∷ ns) rest within all = number_back n (four_bytes_each ns ++ rest) (all 0 0 (omega arith))
 number_of (suc i) (n ∷ ns) rest within all =
     let place : 4 * suc i ≡ 4 + 4 * i = omega arith in

@@ -3,3 +3,4 @@ pub mod States
 pub mod Starts
 pub mod LookBehind
 pub mod Steps
+pub mod Added

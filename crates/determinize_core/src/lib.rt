@@ -3,6 +3,7 @@
 
 mod look_bits;
 mod lookbehind;
+mod nfa_states;
 mod start;
 mod start_config;
 pub mod start_laws;
@@ -17,7 +18,8 @@ mod state_eq;
 mod state_ids;
 pub mod state_laws;
 
-pub use lookbehind::{LookBehind, look_behind_of_start};
+pub use lookbehind::{LookBehind, look_behind_of_start, set_lookbehind_from_start};
+pub use nfa_states::add_nfa_states;
 pub use start::Start;
 pub use start_config::Config;
 pub use start_map::StartByteMap;

@@ -1,12 +1,16 @@
-ghost use Rattle.std.specs.Prelude.{◌≡◌, ℕ, true, []};
+ghost use Rattle.std.specs.Prelude.{◌≡◌, ℕ, true, false, [], ◌∷◌, ◌++◌, OnOk, OnErr};
+ghost use Rattle.std.specs.Bool.{nat_eq};
+ghost use Rattle.std.specs.List.{list_any};
 ghost use Rattle.determinize_core.specs.States.{StateValue};
-ghost use Rattle.determinize_core.specs.StateBytes.{IsUnfinished, decoded_unfinished};
+ghost use Rattle.determinize_core.specs.StateBytes.{IsUnfinished, decoded_unfinished, is_listed};
 
 use crate::look_bits::look_set_of;
 use crate::state_builder_nfa::StateBuilderNFA;
-use crate::state_bytes::{FROM_WORD, HALF_CRLF, LISTED, has_flag, number_at};
-use crate::state_edit::{set_flag, write_number};
+use crate::state_bytes::{FROM_WORD, HALF_CRLF, LISTED, MATCHES, has_flag, number_at};
+use crate::state_edit::{push_behind_eight, push_behind_four, push_number, set_flag, write_number};
 use look_core::LookSet;
+use search_core::PatternID;
+use std::alloc::AllocError;
 use std::marker::Model;
 
 /// A powerset state while what matches in it is added, as `StateBuilderMatches` of `regex_automata`. A contract sees it
@@ -79,9 +83,60 @@ impl StateBuilderMatches {
         self.write_have(looks);
     }
 
-    fn write_have(&mut self, looks: LookSet)
+    /// Writes the looks that are known to hold.
+    pub(crate) fn write_have(&mut self, looks: LookSet)
         ensures { self.new ≡ record self.old { look_have = looks } }
     {
         write_number(&mut self.bytes, 1, looks.bits());
+    }
+}
+
+/// The patterns that match.
+impl StateBuilderMatches {
+    /// Whether the pattern is one of those that match so far.
+    pub fn has_match_pattern_id(&self, pid: PatternID) -> bool
+        ensures { result ≡ list_any (nat_eq pid) self.now.matches }
+    {
+        if has_flag(&self.bytes, LISTED) {
+            return self.lists(pid);
+        }
+        has_flag(&self.bytes, MATCHES) && pid == PatternID::ZERO
+    }
+
+    /// Whether the pattern is one of those that are listed.
+    fn lists(&self, pid: PatternID) -> bool
+        requires { is_listed self.now.matches ≡ true }
+        ensures { result ≡ list_any (nat_eq pid) self.now.matches }
+    {
+        for index in 0..(self.bytes.len() - 13) / 4 {
+            if number_at(&self.bytes, 13 + 4 * index) == pid.as_u32() {
+                return true;
+            }
+        }
+        false
+    }
+
+    /// Adds a pattern that matches, behind the others, or leaves all as it is where there is no memory.
+    pub fn add_match_pattern_id(&mut self, pid: PatternID) -> Result<(), AllocError>
+        requires { list_any (nat_eq pid) self.old.matches ≡ false }
+        ensures ok { OnOk result (self.new ≡ record self.old { matches = self.old.matches ++ pid ∷ [] }) }
+        ensures err { OnErr result (self.new ≡ self.old) }
+    {
+        if has_flag(&self.bytes, LISTED) {
+            push_number(&mut self.bytes, pid.as_u32())?;
+            return Ok(());
+        }
+        if has_flag(&self.bytes, MATCHES) {
+            push_behind_eight(&mut self.bytes, pid.as_u32())?;
+            set_flag(&mut self.bytes, LISTED);
+            return Ok(());
+        }
+        if pid == PatternID::ZERO {
+            set_flag(&mut self.bytes, MATCHES);
+            return Ok(());
+        }
+        push_behind_four(&mut self.bytes, pid.as_u32())?;
+        set_flag(&mut self.bytes, MATCHES | LISTED);
+        Ok(())
     }
 }

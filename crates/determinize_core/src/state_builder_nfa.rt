@@ -100,13 +100,15 @@ impl StateBuilderNFA {
         self.write_need(looks);
     }
 
-    fn write_have(&mut self, looks: LookSet)
+    /// Writes the looks that are known to hold.
+    pub(crate) fn write_have(&mut self, looks: LookSet)
         ensures { self.new ≡ record self.old { look_have = looks } }
     {
         write_number(&mut self.bytes, 1, looks.bits());
     }
 
-    fn write_need(&mut self, looks: LookSet)
+    /// Writes the looks of the states.
+    pub(crate) fn write_need(&mut self, looks: LookSet)
         ensures { self.new ≡ record self.old { look_need = looks } }
     {
         write_number(&mut self.bytes, 5, looks.bits());

@@ -21,6 +21,32 @@ pub(crate) fn write_number(bytes: &mut Vec<u8>, at: usize, number: u32)
     bytes[at..at + 4].copy_from_slice(&number.to_le_bytes());
 }
 
+/// Adds a number in four bytes, or leaves the bytes as they are where there is no memory.
+pub(crate) fn push_number(bytes: &mut Vec<u8>, number: u32) -> Result<(), AllocError>
+    ensures ok { OnOk result (bytes.new.items ≡ bytes.old.items ++ four_bytes number) }
+    ensures err { OnErr result (bytes.new.items ≡ bytes.old.items) }
+{
+    bytes.extend_from_slice(&number.to_le_bytes())
+}
+
+/// The same with a 0 in four bytes in front of it.
+pub(crate) fn push_behind_four(bytes: &mut Vec<u8>, number: u32) -> Result<(), AllocError>
+    ensures ok { OnOk result (bytes.new.items ≡ bytes.old.items ++ (four_bytes 0 ++ four_bytes number)) }
+    ensures err { OnErr result (bytes.new.items ≡ bytes.old.items) }
+{
+    let [a, b, c, d] = number.to_le_bytes();
+    bytes.extend_from_slice(&[0, 0, 0, 0, a, b, c, d])
+}
+
+/// The same with two of them.
+pub(crate) fn push_behind_eight(bytes: &mut Vec<u8>, number: u32) -> Result<(), AllocError>
+    ensures ok { OnOk result (bytes.new.items ≡ bytes.old.items ++ (four_bytes 0 ++ (four_bytes 0 ++ four_bytes number))) }
+    ensures err { OnErr result (bytes.new.items ≡ bytes.old.items) }
+{
+    let [a, b, c, d] = number.to_le_bytes();
+    bytes.extend_from_slice(&[0, 0, 0, 0, 0, 0, 0, 0, a, b, c, d])
+}
+
 /// Adds a number in groups of seven bits, or leaves the bytes as they are where there is no memory.
 pub(crate) fn push_groups(bytes: &mut Vec<u8>, number: u32) -> Result<(), AllocError>
     ensures ok { OnOk result (bytes.new.items ≡ bytes.old.items ++ groups 4 number) }
