@@ -18,3 +18,5 @@ pub mod DecidedLemmas
 pub mod KnownStateLemmas
 mod StartRows
 mod StepRows
+pub mod TodoLemmas
+pub mod ClosureLemmas

@@ -4,3 +4,4 @@ pub mod Starts
 pub mod LookBehind
 pub mod Steps
 pub mod Added
+pub mod Costs

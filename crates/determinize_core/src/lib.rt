@@ -1,6 +1,7 @@
 //! Powerset states of a byte automaton, one at a time, and how searches start.
 #![tactic(auto)]
 
+mod closure;
 mod look_bits;
 mod lookbehind;
 mod nfa_states;
@@ -17,7 +18,9 @@ mod state_edit;
 mod state_eq;
 mod state_ids;
 pub mod state_laws;
+mod todo;
 
+pub use closure::epsilon_closure;
 pub use lookbehind::{LookBehind, look_behind_of_start, set_lookbehind_from_start};
 pub use nfa_states::add_nfa_states;
 pub use start::Start;

@@ -1,0 +1,51 @@
+use Rattle.std.proofs.Common.{◌≡◌, ◌∙◌, sym, ap, refl, ◌∷◌, [], List, ℕ, length, reverse}
+use Rattle.nfa_core.specs.Reached.{AreBelow}
+use Rattle.determinize_core.proofs.ClosureLemmas.{begins, goes_on, ends, counts}
+use Rattle.determinize_core.proofs.TodoLemmas.{none_left}
+use Rattle.determinize_core.proofs.closure.epsilon_closure.Goals as goal
+
+pub loop-id-init : goal.loop-id-init
+loop-id-init g c =
+    let one : reverse c.push.new.stack.items ≡ c.args.start ∷ [] = c.in_ok-push.ensures ∙ ap (λ (xs : List ℕ). c.args.start ∷ reverse xs) c.requires.empty in
+    record {
+      bound = refl;
+      fits = c.len.ensures.fits;
+      stands = begins c.args.nfa.now.automaton c.args.look_have c.args.start (g.S.NameSet.names c.args.set.now) c.args.steps.now (reverse c.push.new.stack.items) c.requires.inside one;
+    }
+
+pub next_fresh-requires-clause-below : goal.next_fresh-requires-clause-below
+next_fresh-requires-clause-below g c =
+    let bound : g.S.NameSet.bound c.loop-id.set ≡ length c.args.nfa.now.automaton.states = c.loop-id.invariant.bound ∙ c.requires.bound in
+    rw bound c.loop-id.invariant.stands.below
+
+pub state-requires : goal.state-requires
+state-requires g c =
+    let bound : g.S.NameSet.bound c.loop-id.set ≡ length c.args.nfa.now.automaton.states = c.loop-id.invariant.bound ∙ c.requires.bound in
+    rw (← bound) c.in-Some.ensures.inside
+
+pub loop-id-preserved : goal.loop-id-preserved
+loop-id-preserved g c =
+    let bound : g.S.NameSet.bound c.loop-id.set ≡ length c.args.nfa.now.automaton.states = c.loop-id.invariant.bound ∙ c.requires.bound in
+    record {
+      bound = c.in-Some.ensures.bound ∙ c.loop-id.invariant.bound;
+      fits = c.in-Some.ensures.fits;
+      stands = goes_on c.args.nfa.now.automaton c.args.look_have c.args.start (g.S.NameSet.names c.args.set.now) c.args.steps.now
+          (reverse c.loop-id.stack.items) (g.S.NameSet.names c.loop-id.set) (reverse c.next_fresh.new.stack.items) (g.S.NameSet.names c.next_fresh.new.set) c.loop-id.steps c.next_fresh.new.steps
+          c.loop-id.invariant.stands (reverse c.push_ways.new.stack.items) c.in-Some.id _ c.is_sound.ensures.named
+          (rw (← bound) c.in-Some.ensures.inside) (rw (← bound) c.in-Some.ensures.below) c.in-Some.ensures.meets c.in-Some.ensures.cost c.state.ensures c.in_ok-push_ways.ensures;
+    }
+
+pub returns-clause-visits : goal.returns-clause-visits
+returns-clause-visits g c =
+    ends c.args.nfa.now.automaton c.args.look_have c.args.start (g.S.NameSet.names c.args.set.now) c.args.steps.now
+    (reverse c.loop-id.stack.items) (g.S.NameSet.names c.loop-id.set) (reverse c.next_fresh.new.stack.items) (g.S.NameSet.names c.next_fresh.new.set) c.loop-id.steps c.next_fresh.new.steps
+    c.loop-id.invariant.stands c.in_default.ensures.meets
+
+pub returns-clause-cost : goal.returns-clause-cost
+returns-clause-cost g c =
+    counts c.args.nfa.now.automaton c.args.look_have c.args.start (g.S.NameSet.names c.args.set.now) c.args.steps.now
+    (reverse c.loop-id.stack.items) (g.S.NameSet.names c.loop-id.set) (reverse c.next_fresh.new.stack.items) (g.S.NameSet.names c.next_fresh.new.set) c.loop-id.steps c.next_fresh.new.steps
+    c.loop-id.invariant.stands c.in_default.ensures.meets c.in_default.ensures.cost
+
+pub returns-clause-stack : goal.returns-clause-stack
+returns-clause-stack g c = none_left c.next_fresh.new.stack.items c.in_default.ensures.meets.0

@@ -1,0 +1,90 @@
+ghost use Rattle.std.specs.Prelude.{◌≡◌, ◌+◌, ◌<◌, ◌≤◌, [], ◌∷◌, ◌++◌, length, drop, reverse, OnOk, IfSome};
+ghost use Rattle.std.specs.Bool.{nat_eq};
+ghost use Rattle.look_core.specs.LookSets.{has_look};
+ghost use Rattle.nfa_core.specs.Reached.{AreBelow, Meets};
+ghost use Rattle.nfa_core.specs.States.{node_of};
+ghost use Rattle.nfa_core.specs.Walks.{Visits};
+ghost use Rattle.nfa_core.specs.Ways.{on_nothing};
+ghost use Rattle.determinize_core.specs.Costs.{known_ways};
+ghost use Rattle.determinize_core.specs.Steps.{known_steps};
+
+use crate::todo::{pop, push, push_all};
+use look_core::LookSet;
+use nfa_core::{NFA, NameSet, State, Steps};
+use search_core::StateID;
+use std::alloc::AllocError;
+use std::sync::ledger::Ledger;
+
+/// Puts the states into a set to which a state leads with no byte where these looks are known to hold, itself
+/// first, in the order of a depth-first walk, as `regex_automata::util::determinize::epsilon_closure`. What the set
+/// held already isn't followed. It is refused where memory for the stack lacks.
+pub fn epsilon_closure<S: NameSet, L: Ledger>(
+    nfa: &NFA,
+    start: StateID,
+    look_have: LookSet,
+    stack: &mut Vec<StateID>,
+    set: &mut S,
+    steps: &mut Steps<L>,
+) -> Result<(), AllocError>
+    requires inside { start < length nfa.now.automaton.states }
+    requires bound { S.bound set.old ≡ length nfa.now.automaton.states }
+    requires empty { stack.old.items ≡ [] }
+    ensures visits { OnOk result (Visits nat_eq (known_steps nfa.now.automaton look_have) (start ∷ []) (S.names set.old) (S.names set.new)) }
+    ensures stack { OnOk result (stack.new.items ≡ []) }
+    ensures bound { S.bound set.new ≡ S.bound set.old }
+    ensures cost { OnOk result (steps.new ≤ steps.old + 1 + known_ways nfa.now.automaton look_have (drop (length (S.names set.old)) (S.names set.new))) }
+{
+    let _ = set.len();
+    nfa.is_sound();
+    push(stack, start)?;
+    while let Some(id) = next_fresh(stack, set, steps) {
+        push_ways(nfa.state(id), look_have, stack)?;
+    }
+    Ok(())
+}
+
+/// Takes states from the stack until one is met that the set lacks, and puts that into the set.
+fn next_fresh<S: NameSet, L: Ledger>(
+    stack: &mut Vec<StateID>,
+    set: &mut S,
+    steps: &mut Steps<L>,
+) -> Option<StateID>
+    requires below { AreBelow (S.bound set.old) (reverse stack.old.items) }
+    requires fits { length (S.names set.old) ≤ S.bound set.old }
+    ensures bound { S.bound set.new ≡ S.bound set.old }
+    ensures below { AreBelow (S.bound set.old) (reverse stack.new.items) }
+    ensures inside { IfSome result (λ q. q < S.bound set.old) }
+    ensures fits { length (S.names set.new) ≤ S.bound set.new }
+    ensures meets { Meets (reverse stack.old.items) (S.names set.old) (reverse stack.new.items) (S.names set.new) result }
+    ensures cost { steps.new + length (reverse stack.new.items) ≡ steps.old + length (reverse stack.old.items) }
+{
+    while let Some(id) = pop(stack) {
+        if set.insert(id, steps) {
+            return Some(id);
+        }
+    }
+    None
+}
+
+/// Puts the states on a stack to which a state leads with no byte where these looks are known to hold, the
+/// preferred one on top.
+fn push_ways(state: &State, look_have: LookSet, stack: &mut Vec<StateID>) -> Result<(), AllocError>
+    ensures { OnOk result (reverse stack.new.items ≡ on_nothing (node_of state.now) (has_look look_have) ++ reverse stack.old.items) }
+{
+    match state {
+        State::Look { look, next } => {
+            if !look_have.contains(*look) {
+                return Ok(());
+            }
+            push(stack, *next)
+        }
+        State::Capture { next, .. } => push(stack, *next),
+        State::Union { alternates } => push_all(stack, alternates),
+        State::BinaryUnion { alt1, alt2 } => {
+            push(stack, *alt2)?;
+            push(stack, *alt1)
+        }
+        State::ByteRange { .. } | State::Sparse(_) | State::Dense(_) => Ok(()),
+        State::Fail | State::Match { .. } => Ok(()),
+    }
+}
