@@ -17,6 +17,11 @@ past_all [] (suc k) past = refl
 past_all (q ∷ qs) zero past = absurd (omega (arith, past))
 past_all (q ∷ qs) (suc k) past = past_all qs k (omega (arith, past))
 
+pub next_left : (qs : List ℕ) (k q : ℕ) → k < length qs → q ≡ get_or qs k 0 → drop k qs ≡ q ∷ drop (k + 1) qs
+next_left qs k q within e =
+    let next : suc k ≡ k + 1 = omega arith in
+    from_member qs k within ∙ (ap (λ (p : ℕ). p ∷ drop (suc k) qs) (sym e) ∙ ap (λ (i : ℕ). q ∷ drop i qs) next)
+
 -- what is kept of a list is kept of its first and then of the others
 kept_by : (b : Bool) (q : ℕ) (xs ys zs : List ℕ) → zs ≡ (cond b (q ∷ []) []) → xs ++ (cond b (q ∷ ys) ys) ≡ (xs ++ zs) ++ ys
 kept_by true q xs ys zs e = ap (λ l. l) (sym (append_assoc xs (q ∷ []) ys)) ∙ ap (λ (l : List ℕ). (xs ++ l) ++ ys) (sym e)

@@ -20,3 +20,8 @@ mod StartRows
 mod StepRows
 pub mod TodoLemmas
 pub mod ClosureLemmas
+pub mod TargetLemmas
+pub mod CloseLemmas
+pub mod MatchLemmas
+pub mod EachLemmas
+pub mod NextLemmas

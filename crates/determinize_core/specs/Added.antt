@@ -1,5 +1,9 @@
--- The states of an automaton that a state gets one after another.
-use Rattle.std.specs.Prelude.{ℕ, ◌++◌, List}
+-- What a state that is built gets one after another: states of the automaton, and patterns.
+use Rattle.std.specs.Prelude.{ℕ, ◌++◌, ◌∷◌, [], List, Bool, false, Option, Some, None, is_some, if◌then◌else◌}
+use Rattle.std.specs.Bool.{nat_eq}
+use Rattle.search_types.specs.declared.match_kind.MatchKind.{MatchKind}
+use Rattle.search_types.specs.declared.match_kind.MatchKind.TheVariants.{All as AllMatches, LeftmostFirst}
+use Rattle.nfa_core.specs.Walks.{has}
 use Rattle.nfa_core.specs.Nfa.{Automaton}
 use Rattle.determinize_core.specs.States.{StateValue}
 use Rattle.determinize_core.specs.Steps.{kept, looks_with}
@@ -7,3 +11,13 @@ use Rattle.determinize_core.specs.Steps.{kept, looks_with}
 -- the state with these states of the automaton behind its own, and their looks; what is known to hold stays
 abbrev pub with_each : Automaton → List ℕ → StateValue → StateValue
 with_each a qs v = record v { look_need = looks_with a v.look_need qs; ids = v.ids ++ kept a qs }
+
+-- what the pattern that matches in a state, if there is one, adds to those that are listed
+abbrev pub listed_with : Option ℕ → List ℕ → List ℕ
+listed_with None ps = ps
+listed_with (Some p) ps = if has nat_eq p ps then ps else (ps ++ p ∷ [])
+
+-- whether no state behind a state reads the unit, by the pattern that matches in it
+abbrev pub stops : MatchKind → Option ℕ → Bool
+stops AllMatches o = false
+stops LeftmostFirst o = is_some o

@@ -5,3 +5,4 @@ pub mod LookBehind
 pub mod Steps
 pub mod Added
 pub mod Costs
+pub mod KnownBefore

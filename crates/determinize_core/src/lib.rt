@@ -1,9 +1,12 @@
 //! Powerset states of a byte automaton, one at a time, and how searches start.
 #![tactic(auto)]
 
+mod close_all;
 mod closure;
+mod known;
 mod look_bits;
 mod lookbehind;
+mod next_state;
 mod nfa_states;
 mod start;
 mod start_config;
@@ -18,10 +21,13 @@ mod state_edit;
 mod state_eq;
 mod state_ids;
 pub mod state_laws;
+mod step_each;
+mod target;
 mod todo;
 
 pub use closure::epsilon_closure;
 pub use lookbehind::{LookBehind, look_behind_of_start, set_lookbehind_from_start};
+pub use next_state::next;
 pub use nfa_states::add_nfa_states;
 pub use start::Start;
 pub use start_config::Config;

@@ -72,7 +72,7 @@ pub(crate) fn set_flags(is_from_word: bool, is_half_crlf: bool, builder: &mut St
 
 impl Families {
     /// The families of a set's members.
-    fn of(looks: LookSet) -> Families
+    pub(crate) fn of(looks: LookSet) -> Families
         ensures { result ≡ families_of looks }
     {
         Families {
@@ -84,7 +84,7 @@ impl Families {
     }
 
     /// The looks of these families that ask for nothing but what stands before a place.
-    fn starts(self) -> LookSet
+    pub(crate) fn starts(self) -> LookSet
         ensures { result ≡ starts_of self }
     {
         let looks = with_if(LookSet::empty(), self.haystack, Look::Start);
@@ -141,7 +141,7 @@ impl Families {
 }
 
 /// The set with the look, where it is wanted.
-fn with_if(looks: LookSet, wanted: bool, look: Look) -> LookSet
+pub(crate) fn with_if(looks: LookSet, wanted: bool, look: Look) -> LookSet
     ensures { result ≡ with_if wanted look looks }
 {
     if wanted { looks.insert(look) } else { looks }
