@@ -25,3 +25,11 @@ pub mod CloseLemmas
 pub mod MatchLemmas
 pub mod EachLemmas
 pub mod NextLemmas
+pub mod MadeLemmas
+pub mod DependLemmas
+pub mod CaptureLemmas
+pub mod PassedLemmas
+pub mod ClosesLemmas
+pub mod ReadingLemmas
+pub mod WalkedLemmas
+pub mod ListedLemmas

@@ -6,3 +6,4 @@ pub mod Steps
 pub mod Added
 pub mod Costs
 pub mod KnownBefore
+pub mod Walked

@@ -24,6 +24,7 @@ pub mod state_laws;
 mod step_each;
 mod target;
 mod todo;
+pub mod walk_theorem;
 
 pub use closure::epsilon_closure;
 pub use lookbehind::{LookBehind, look_behind_of_start, set_lookbehind_from_start};
