@@ -1,5 +1,5 @@
 -- What the states of a walk list: the ends of runs at each place, and under leftmost-first the end of the most preferred one.
-use Rattle.std.proofs.Common.{◌≡◌, ℕ, zero, suc, ◌+◌, ◌<◌, ◌≤◌, true, false, List, [], ◌∷◌, ◌++◌, map, length, Option, Some, None, refl, sym, ap, ◌∙◌, ◌⊎◌, inl, inr, ⊎_elim, arith}
+use Rattle.std.proofs.Common.{◌≡◌, ℕ, zero, suc, ◌+◌, ◌<◌, ◌≤◌, true, false, List, [], ◌∷◌, ◌++◌, map, length, Option, Some, None, refl, sym, ap, ◌∙◌, ◌⊎◌, inl, inr, ⊎_elim, subst, arith}
 use Rattle.std.proofs.lemmas.Bool.{cases_lt}
 use Rattle.std.specs.List.{filter}
 use Rattle.std.specs.Option.{option_or, option_to_list}
@@ -7,13 +7,14 @@ use Rattle.std.specs.Bool.{nat_eq}
 use Rattle.look_core.specs.Terminators.{Terminator}
 use Rattle.search_types.specs.declared.match_kind.MatchKind.TheVariants.{All as AllMatches, LeftmostFirst}
 use Rattle.nfa_core.specs.Walks.{has, join, distinct}
-use Rattle.nfa_core.specs.Runs.{answers}
+use Rattle.nfa_core.specs.Runs.{answers, IsMostPreferred}
 use Rattle.nfa_core.specs.Places.{same_pair, answers_at, first, latest}
 use Rattle.nfa_core.specs.Nfa.{Node, byte_range, sparse_node, dense_node, look_node, union_node, binary_union, capture_node, fail_node, match_node, Automaton, node_at, IsWellFormed}
-use Rattle.nfa_core.specs.Ways.{Text, span, match_of, matched_behind, place_of, bytes_left, ends_from}
+use Rattle.nfa_core.specs.Ways.{Text, span, match_of, ways, matched, matched_behind, place_of, bytes_left, ends_from}
 use Rattle.nfa_core.proofs.MemberLemmas.{has_or_not}
 use Rattle.nfa_core.proofs.PairLemmas.{same_here}
 use Rattle.nfa_core.proofs.PreferenceLemmas.{option_cases, one_value, no_value}
+use Rattle.nfa_core.proofs.EndsLemmas.{most_preferred}
 use Rattle.nfa_core.proofs.BehindLemmas.{list_matches, latest_is_preferred}
 use Rattle.determinize_core.specs.States.{StateValue}
 use Rattle.determinize_core.specs.Steps.{pattern_of, pattern_at, walk_value}
@@ -180,6 +181,11 @@ module _ (a : Automaton) (t : Terminator) (h : List ℕ) (s e i q : ℕ) (formed
 
   pub latest_is_first : latest_listed state place len 0 ≡ first (ends_from a text (i, q))
   latest_is_first = latest_is len 0 (omega arith) ∙ latest_is_preferred a text i formed below q low lists (lists_are_lists LeftmostFirst a text i q formed low)
+
+  pub latest_is_preferred_run : IsMostPreferred same_pair (ways a text) (matched a) (i, q) (latest_listed state place len 0)
+  latest_is_preferred_run =
+      let P : Option (ℕ × ℕ) → Type 0 = λ o. IsMostPreferred same_pair (ways a text) (matched a) (i, q) o in
+      subst P (sym latest_is_first) (most_preferred a text (i, q) formed (below, low))
 
 pub one_listed : (a : Automaton) (t : Terminator) (h : List ℕ) (i q k : ℕ) → length (walk_value a t LeftmostFirst h i q k).matches ≤ 1
 one_listed a t h i q zero = omega arith

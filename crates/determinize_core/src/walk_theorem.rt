@@ -6,9 +6,10 @@ ghost use Rattle.std.specs.List.{filter};
 ghost use Rattle.look_core.specs.Terminators.{Terminator};
 ghost use Rattle.search_types.specs.declared.match_kind.MatchKind.{MatchKind};
 ghost use Rattle.search_types.specs.declared.match_kind.MatchKind.TheVariants.{All as AllMatches, LeftmostFirst};
-ghost use Rattle.nfa_core.specs.Places.{first};
+ghost use Rattle.nfa_core.specs.Runs.{IsMostPreferred};
+ghost use Rattle.nfa_core.specs.Places.{same_pair, first};
 ghost use Rattle.nfa_core.specs.Nfa.{Automaton, IsWellFormed};
-ghost use Rattle.nfa_core.specs.Ways.{Text, span, AreLists, bytes_left, place_of, ends_from};
+ghost use Rattle.nfa_core.specs.Ways.{Text, span, ways, matched, AreLists, bytes_left, place_of, ends_from};
 ghost use Rattle.determinize_core.specs.Steps.{kept, ids_before, patterns_in, unit_at, unit_behind, walk_value};
 ghost use Rattle.determinize_core.specs.Walked.{cut_of, walked_lists, latest_listed};
 
@@ -38,9 +39,13 @@ pub fn all_ends_are_listed()
         map (λ (x : ℕ × ℕ). x.1) (filter (λ x. nat_eq x.0 (place_of a.reverse i k)) (ends_from a (span t h s e) (i, q))) }
 {}
 
-/// Under leftmost-first the last state that lists a match tells of the end of the most preferred run.
+/// Under leftmost-first the last state that lists a match tells of the first end of runs, which is that of the
+/// most preferred one.
 pub fn the_last_listed_match_is_the_first_end()
-    ensures { (a : Automaton) (t : Terminator) (h : List ℕ) (s i e q : ℕ) → IsWellFormed a → i ≤ e → e ≤ length h → q < length a.states →
+    ensures preferred { (a : Automaton) (t : Terminator) (h : List ℕ) (s i e q : ℕ) → IsWellFormed a → i ≤ e → e ≤ length h → q < length a.states →
+        IsMostPreferred same_pair (ways a (span t h s e)) (matched a) (i, q)
+        (latest_listed (walk_value a t LeftmostFirst h i q) (place_of a.reverse i) (bytes_left a.reverse (span t h s e) i) 0) }
+    ensures first { (a : Automaton) (t : Terminator) (h : List ℕ) (s i e q : ℕ) → IsWellFormed a → i ≤ e → e ≤ length h → q < length a.states →
         latest_listed (walk_value a t LeftmostFirst h i q) (place_of a.reverse i) (bytes_left a.reverse (span t h s e) i) 0 ≡
         first (ends_from a (span t h s e) (i, q)) }
 {}
