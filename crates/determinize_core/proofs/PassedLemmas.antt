@@ -207,10 +207,6 @@ pub record IsFlagged (looks : ℕ) (r : Bool) (o : Option ℕ) (from_word half_c
   pub word : has_any is_word_look looks ≡ true → from_word ≡ is_word (byte_side o)
   pub half : has_any is_anchor_crlf looks ≡ true → half_crlf ≡ is_byte (first_half r) o
 
-holds_or : (a b : Bool) → a ≡ true → (a || b) ≡ true
-holds_or true b e = refl
-holds_or false b e = let f : true ≡ false = sym e in cc
-
 -- what the byte behind tells holds
 pub told_holds : (r : Bool) (t : Terminator) (o u : Option ℕ) (l : Look) → told_by r t o l ≡ true → passed_by r t o u l ≡ true
 told_holds r t o u AtStart e = e
