@@ -91,7 +91,8 @@ ascii_ends h i ranges e = elim (slice_get_cases h i).1 [
 pub same_ascii : (ranges : List (ℕ × ℕ)) → is_ascii ranges ≡ true → IsSame (byte_class ranges) (char_class ranges)
 same_ascii ranges e = record { reading = λ f. tt; ends = λ looks h i. ascii_ends h i ranges e }
 
-pub ascii_does : (a b : Assembly) (ranges bytes : List (ℕ × ℕ)) → bytes ≡ ranges → (s e : ℕ) → is_ascii ranges ≡ true → Does a b s e (byte_class bytes) → Does a b s e (char_class ranges)
+pub ascii_does : (a b : Assembly) (ranges bytes : List (ℕ × ℕ)) → bytes ≡ ranges → (s e : ℕ) → is_ascii ranges ≡ true → Does a b s e (byte_class bytes) →
+    Does a b s e (char_class ranges)
 ascii_does a b ranges bytes is s e ascii d =
     let P : List (ℕ × ℕ) → Type 0 = λ rs. Does a b s e (byte_class rs) in
     does_same a b s e (byte_class ranges) (char_class ranges) (same_ascii ranges ascii) (subst P is d)
@@ -101,7 +102,8 @@ ascii_does a b ranges bytes is s e ascii d =
 abbrev pub IsByteRange : ℕ × ℕ → Type 0
 IsByteRange r = (r.0 < 256) × (r.1 < 256)
 
-byte_range_at : (low : ℕ) (ranges : List (ℕ × ℕ)) (k : ℕ) (d : ℕ × ℕ) → rises_from low ranges ≡ true → is_ascii ranges ≡ true → k < length ranges → IsByteRange (get_or ranges k d)
+byte_range_at : (low : ℕ) (ranges : List (ℕ × ℕ)) (k : ℕ) (d : ℕ × ℕ) → rises_from low ranges ≡ true → is_ascii ranges ≡ true → k < length ranges →
+    IsByteRange (get_or ranges k d)
 byte_range_at low [] k d up e l = absurd (omega arith)
 byte_range_at low (r ∷ rs) zero d up e l =
     let order = and_parts (nat_le low r.0 && nat_le r.0 r.1) (rises_from (r.1 + 1) rs) up in
@@ -111,5 +113,6 @@ byte_range_at low (r ∷ rs) zero d up e l =
 byte_range_at low (r ∷ rs) (suc k) d up e l =
     byte_range_at (r.1 + 1) rs k d (and_parts (nat_le low r.0 && nat_le r.0 r.1) (rises_from (r.1 + 1) rs) up).1 (and_parts (nat_lt r.1 0x80) (is_ascii rs) e).1 (omega arith)
 
-pub ascii_range_at : (ranges : List (ℕ × ℕ)) (k : ℕ) (d : ℕ × ℕ) → is_ascending ranges ≡ true → is_ascii ranges ≡ true → k < length ranges → IsByteRange (get_or ranges k d)
+pub ascii_range_at : (ranges : List (ℕ × ℕ)) (k : ℕ) (d : ℕ × ℕ) → is_ascending ranges ≡ true → is_ascii ranges ≡ true → k < length ranges →
+    IsByteRange (get_or ranges k d)
 ascii_range_at ranges k d up e l = byte_range_at 0 ranges k d up e l

@@ -49,13 +49,15 @@ held_cases (x ∷ xs) zero (suc j) a b e = inr e
 held_cases (x ∷ xs) (suc i) zero a b e = inr e
 held_cases (x ∷ xs) (suc i) (suc j) a b e = held_cases xs i j a b e
 
-pub keeps_more : {low u m : ℕ} {b : Assembly} (table : SlotTable Utf8SuffixKey) (place id : ℕ) (key : Utf8SuffixKey) → Keeps low b u m table → IsKept low b u m key id → Keeps low b u m (with_held table place key id)
+pub keeps_more : {low u m : ℕ} {b : Assembly} (table : SlotTable Utf8SuffixKey) (place id : ℕ) (key : Utf8SuffixKey) → Keeps low b u m table → IsKept low b u m key id →
+    Keeps low b u m (with_held table place key id)
 keeps_more {low} {u} {m} {b} table place id key keeps one at other k e =
     let P : Utf8SuffixKey × ℕ → Type 0 = λ p. IsKept low b u m p.0 p.1 in
     ⊎_elim (λ (same : (key, id) ≡ (k, other)). subst P same one) (λ h. keeps at other k h) (held_cases table.places place at (key, id) (k, other) e)
 
 -- the state is as it was
-pub keeps_later : {low u m : ℕ} {b c : Assembly} (table : SlotTable Utf8SuffixKey) → length b.parts ≤ length c.parts → ((q : ℕ) → q < length b.parts → q ≢ u → part_at c.parts q ≡ part_at b.parts q) → Keeps low b u m table → Keeps low c u m table
+pub keeps_later : {low u m : ℕ} {b c : Assembly} (table : SlotTable Utf8SuffixKey) → length b.parts ≤ length c.parts →
+    ((q : ℕ) → q < length b.parts → q ≢ u → part_at c.parts q ≡ part_at b.parts q) → Keeps low b u m table → Keeps low c u m table
 keeps_later table longer same keeps place id key e =
     let k = keeps place id key e in
     let l = k.there in
@@ -63,7 +65,8 @@ keeps_later table longer same keeps place id key e =
 
 -- ---- a range read down, and then what was read before it
 
-range_then : (back : Bool) (T : Table) (id s m : ℕ) (r : ℕ × ℕ) (rs : List (ℕ × ℕ)) → back ≡ true → T id ≡ range_part r.0 r.1 s → Denotes back T s m (sequence_tree rs) → Denotes back T id m (sequence_tree (rs ++ r ∷ []))
+range_then : (back : Bool) (T : Table) (id s m : ℕ) (r : ℕ × ℕ) (rs : List (ℕ × ℕ)) → back ≡ true → T id ≡ range_part r.0 r.1 s →
+    Denotes back T s m (sequence_tree rs) → Denotes back T id m (sequence_tree (rs ++ r ∷ []))
 range_then false T id s m r rs e is d = absurd (cc)
 range_then true T id s m r rs e is d =
     let x : Tree = range_tree r in
@@ -74,7 +77,8 @@ range_then true T id s m r rs e is d =
 
 -- ---- a state that is added to branches
 
-module _ (b0 b c : Assembly) (u m n id lo hi q : ℕ) (xs : List Tree) (so_far : Branched b0 b u m n xs) (x : Added b c id (range_part lo hi q) b.groups) (named : q < length b.parts) where
+module _ (b0 b c : Assembly) (u m n id lo hi q : ℕ) (xs : List Tree) (so_far : Branched b0 b u m n xs)
+    (x : Added b c id (range_part lo hi q) b.groups) (named : q < length b.parts) where
   older : (T : Table) → Agrees b0 c u m T → Agrees b0 b u m T
   older T agrees p l h not_u not_m = let s = x.size in agrees p l (omega arith) not_u not_m ∙ x.grows.same p h
 
@@ -121,7 +125,8 @@ only_way [] s to low high u one l h ne e =
 only_way (a ∷ []) s to low high u one l h ne e = cc
 only_way (a ∷ b ∷ names) s to low high u one l h ne e = cc
 
-module _ (b0 b c d : Assembly) (u m n id lo hi q : ℕ) (xs : List Tree) (so_far : Branched b0 b u m n xs) (x : Added b c id (range_part lo hi q) b.groups) (named : q < length b.parts) (led : Led c d u id) where
+module _ (b0 b c d : Assembly) (u m n id lo hi q : ℕ) (xs : List Tree) (so_far : Branched b0 b u m n xs)
+    (x : Added b c id (range_part lo hi q) b.groups) (named : q < length b.parts) (led : Led c d u id) where
   -- the choice leads to the new state, too
   pub branched_way : (y : Tree) → ((T : Table) → Agrees b0 c u m T → Denotes b0.reverse T id m y) → Branched b0 d u m (n + 1) (xs ++ y ∷ [])
   unfolding branched_added
@@ -173,10 +178,17 @@ pub record Chained (b0 b : Assembly) (table : SlotTable Utf8SuffixKey) (u m n s 
   pub there : s < length b.parts
   pub denotes : (T : Table) → Agrees b0 b u m T → Denotes b0.reverse T s m (sequence_tree rs)
 
-chained_none : (b0 b : Assembly) (table : SlotTable Utf8SuffixKey) (u m n : ℕ) (xs : List Tree) → Branched b0 b u m n xs → Keeps (length b0.parts) b u m table → Chained b0 b table u m n m xs []
-chained_none b0 b table u m n xs branched keeps = record { branched = branched; keeps = keeps; there = branched.end_there; denotes = λ T agrees. denotes_nothing_here b0.reverse T m }
+chained_none : (b0 b : Assembly) (table : SlotTable Utf8SuffixKey) (u m n : ℕ) (xs : List Tree) → Branched b0 b u m n xs → Keeps (length b0.parts) b u m table →
+    Chained b0 b table u m n m xs []
+chained_none b0 b table u m n xs branched keeps = record {
+  branched = branched;
+  keeps = keeps;
+  there = branched.end_there;
+  denotes = λ T agrees. denotes_nothing_here b0.reverse T m;
+}
 
-module _ (b0 b : Assembly) (table : SlotTable Utf8SuffixKey) (u m n s : ℕ) (xs : List Tree) (rs : List (ℕ × ℕ)) (down : b0.reverse ≡ true) (so_far : Chained b0 b table u m n s xs rs) where
+module _ (b0 b : Assembly) (table : SlotTable Utf8SuffixKey) (u m n s : ℕ) (xs : List Tree) (rs : List (ℕ × ℕ))
+    (down : b0.reverse ≡ true) (so_far : Chained b0 b table u m n s xs rs) where
   chained_found : (place id : ℕ) (r : ℕ × ℕ) → held_at table place ≡ Some (key_of s r, id) → Chained b0 b table u m (n + 1) id xs (rs ++ r ∷ [])
   chained_found place id r at =
       let k = so_far.keeps place id (key_of s r) at in
@@ -239,8 +251,8 @@ pub record Suffixed (b0 b : Assembly) (table : SlotTable Utf8SuffixKey) (u m n :
   pub keeps : Keeps (length b0.parts) b u m table
 
 module _ (b0 : Assembly) (u m : ℕ) (down : b0.reverse ≡ true) where
-  suffixed_one : (a b : Assembly) (table changed : SlotTable Utf8SuffixKey) (n : ℕ) (xs : List Tree) (rs : List (ℕ × ℕ)) → Suffixed b0 a table u m n xs → AddsSequence a b table changed u m rs →
-      Suffixed b0 b changed u m (n + 4) (xs ++ sequence_tree rs ∷ [])
+  suffixed_one : (a b : Assembly) (table changed : SlotTable Utf8SuffixKey) (n : ℕ) (xs : List Tree) (rs : List (ℕ × ℕ)) → Suffixed b0 a table u m n xs →
+      AddsSequence a b table changed u m rs → Suffixed b0 b changed u m (n + 4) (xs ++ sequence_tree rs ∷ [])
   suffixed_one a b table changed n xs rs so_far one =
       let chain = chained_all b0 a table u m n xs down so_far.branched so_far.keeps one.shared one.kept one.next one.others one.shares in
       let k : ℕ = n + length one.others in
@@ -258,8 +270,8 @@ module _ (b0 : Assembly) (u m : ℕ) (down : b0.reverse ≡ true) where
         keeps = keeps_later changed (omega arith) (λ q h not_u. led.same q not_u) (kept_added b0 one.shared one.kept u m k one.next xs one.others down chain one.whole changed one.first r x);
       }
 
-  pub suffixed_all : (a : Assembly) (table : SlotTable Utf8SuffixKey) (n : ℕ) (xs : List Tree) → Suffixed b0 a table u m n xs → (b : Assembly) (changed : SlotTable Utf8SuffixKey) (qs : List (List (ℕ × ℕ))) →
-      AddsSequences u m a table b changed qs → Suffixed b0 b changed u m (n + 4 * length qs) (xs ++ map sequence_tree qs)
+  pub suffixed_all : (a : Assembly) (table : SlotTable Utf8SuffixKey) (n : ℕ) (xs : List Tree) → Suffixed b0 a table u m n xs →
+      (b : Assembly) (changed : SlotTable Utf8SuffixKey) (qs : List (List (ℕ × ℕ))) → AddsSequences u m a table b changed qs → Suffixed b0 b changed u m (n + 4 * length qs) (xs ++ map sequence_tree qs)
   suffixed_all a table n xs so_far _ _ _ sequences_none =
       let P : ℕ → Type 0 = λ k. Suffixed b0 a table u m k (xs ++ []) in
       let Q : List Tree → Type 0 = λ ys. Suffixed b0 a table u m n ys in

@@ -28,13 +28,14 @@ pub record RangesDown (a b : Assembly) (capacity : ℕ) (table : SlotTable Utf8S
 empty_ready : (capacity : ℕ) → is_ready (empty_table {K = Utf8SuffixKey} capacity) ≡ true
 empty_ready capacity = eq-eqb (length (empty_table {K = Utf8SuffixKey} capacity).places) capacity (length-replicate capacity None)
 
-pub down_begun : (a b c : Assembly) (capacity : ℕ) (table : SlotTable Utf8SuffixKey) (u m : ℕ) (ranges : List (ℕ × ℕ)) → table ≡ empty_table capacity → Added a b u (no_choice true) a.groups →
-    Added b c m (empty_part 0) b.groups → RangesDown a c capacity table u m 0 ranges
+pub down_begun : (a b c : Assembly) (capacity : ℕ) (table : SlotTable Utf8SuffixKey) (u m : ℕ) (ranges : List (ℕ × ℕ)) → table ≡ empty_table capacity →
+    Added a b u (no_choice true) a.groups → Added b c m (empty_part 0) b.groups → RangesDown a c capacity table u m 0 ranges
 down_begun a b c capacity table u m ranges e x y =
     let P : SlotTable Utf8SuffixKey → Type 0 = λ t. RangesDown a c capacity t u m 0 ranges in
     subst P (sym e) (record { met = no_range a b c u m ranges x y; keeps = keeps_none (length a.parts) c u m capacity; ready = empty_ready capacity; as_many = refl })
 
-module _ (a b : Assembly) (capacity : ℕ) (table : SlotTable Utf8SuffixKey) (u m i : ℕ) (ranges : List (ℕ × ℕ)) (so_far : RangesDown a b capacity table u m i ranges) (d : ℕ × ℕ) (less : i < length ranges) where
+module _ (a b : Assembly) (capacity : ℕ) (table : SlotTable Utf8SuffixKey) (u m i : ℕ) (ranges : List (ℕ × ℕ))
+    (so_far : RangesDown a b capacity table u m i ranges) (d : ℕ × ℕ) (less : i < length ranges) where
   abbrev here : ℕ × ℕ
   here = get_or ranges i d
 
@@ -45,7 +46,8 @@ module _ (a b : Assembly) (capacity : ℕ) (table : SlotTable Utf8SuffixKey) (u 
       ∙ ap (λ (l : List (List (ℕ × ℕ))). map sequence_tree l) (sym (flat_map-append (λ (r : ℕ × ℕ). utf8_sequences r.0 r.1) (take i ranges) (here ∷ [])))
       ∙ ap (λ (l : List (ℕ × ℕ)). map sequence_tree (sequences_of l)) (sym (take_more ranges i d less))
 
-  pub down_next : a.reverse ≡ true → (c : Assembly) (changed : SlotTable Utf8SuffixKey) → AddsSequences u m b table c changed (utf8_sequences here.0 here.1) → RangesDown a c capacity changed u m (i + 1) ranges
+  pub down_next : a.reverse ≡ true → (c : Assembly) (changed : SlotTable Utf8SuffixKey) → AddsSequences u m b table c changed (utf8_sequences here.0 here.1) →
+      RangesDown a c capacity changed u m (i + 1) ranges
   down_next down c changed added =
       let n : ℕ = 2 + 4 * sequence_count (take i ranges) in
       let qs = utf8_sequences here.0 here.1 in

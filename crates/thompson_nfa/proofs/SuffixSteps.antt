@@ -34,6 +34,9 @@ StaysReady table changed = is_ready table ≡ true → is_ready changed ≡ true
 spent_none : (a : Assembly) → Spent a a 0
 spent_none a = record { settings = refl; longer = omega arith; states = omega arith; bytes = omega arith }
 
+spent_wider : {a b : Assembly} {n : ℕ} (k : ℕ) → Spent a b n → n ≤ k → Spent a b k
+spent_wider k p le = let x = p.states in record { settings = p.settings; longer = p.longer; states = omega arith; bytes = p.bytes }
+
 pub spent_then : {a b c : Assembly} {n k : ℕ} → Spent a b n → Spent b c k → Spent a c (n + k)
 spent_then {a} {b} {c} {n} {k} x y =
     let a1 = x.longer in let a2 = x.states in let a3 = x.bytes in let b1 = y.longer in let b2 = y.states in let b3 = y.bytes in
@@ -76,9 +79,7 @@ shares_nothing : (a : Assembly) (table : SlotTable Utf8SuffixKey) → Shares a a
 shares_nothing a table = record { grows = grows_refl a; spent = spent_none a; groups = refl; capacity = refl; ready = λ e. e }
 
 shares_wider : {a b : Assembly} {table changed : SlotTable Utf8SuffixKey} {n : ℕ} (k : ℕ) → Shares a b table changed n → n ≤ k → Shares a b table changed k
-shares_wider k s le =
-    let p = s.spent in let x = p.states in
-    record { grows = s.grows; spent = record { settings = p.settings; longer = p.longer; states = omega arith; bytes = p.bytes }; groups = s.groups; capacity = s.capacity; ready = s.ready }
+shares_wider k s le = record { grows = s.grows; spent = spent_wider k s.spent le; groups = s.groups; capacity = s.capacity; ready = s.ready }
 
 shares_then : {a b c : Assembly} {m1 m2 m3 : SlotTable Utf8SuffixKey} {n k : ℕ} → Shares a b m1 m2 n → Shares b c m2 m3 k → Shares a c m1 m3 (n + k)
 shares_then x y = record { grows = grows_trans x.grows y.grows; spent = spent_then x.spent y.spent; groups = y.groups ∙ x.groups; capacity = y.capacity ∙ x.capacity; ready = λ e. y.ready (x.ready e) }
@@ -114,7 +115,8 @@ pub record SharesUpTo (a b : Assembly) (table changed : SlotTable Utf8SuffixKey)
 pub none_shared : (a : Assembly) (table : SlotTable Utf8SuffixKey) (end : ℕ) (rs : List (ℕ × ℕ)) → SharesUpTo a a table table end end 0 rs
 none_shared a table end rs = record { shares = shares_none; within = omega arith }
 
-module _ (a b : Assembly) (table changed : SlotTable Utf8SuffixKey) (end id i : ℕ) (rs : List (ℕ × ℕ)) (so_far : SharesUpTo a b table changed end id i rs) where
+module _ (a b : Assembly) (table changed : SlotTable Utf8SuffixKey) (end id i : ℕ) (rs : List (ℕ × ℕ))
+    (so_far : SharesUpTo a b table changed end id i rs) where
   pub ready_up_to : is_ready table ≡ true → is_ready changed ≡ true
   ready_up_to e = (ranges_share so_far.shares).ready e
 
@@ -135,7 +137,8 @@ module _ (a b : Assembly) (table changed : SlotTable Utf8SuffixKey) (end id i : 
       let same : i ≡ many = omega arith in
       subst P same so_far.shares
 
-  pub shared_more : (c : Assembly) (last : SlotTable Utf8SuffixKey) (state : ℕ) (r d : ℕ × ℕ) → r ≡ get_or rs i d → i < length rs → SharesRange b c changed last id r state → SharesUpTo a c table last end state (i + 1) rs
+  pub shared_more : (c : Assembly) (last : SlotTable Utf8SuffixKey) (state : ℕ) (r d : ℕ × ℕ) → r ≡ get_or rs i d → i < length rs →
+      SharesRange b c changed last id r state → SharesUpTo a c table last end state (i + 1) rs
   shared_more c last state r d is less step =
       let P : List (ℕ × ℕ) → Type 0 = λ qs. SharesRanges end a table c last state qs in
       let more : take (i + 1) rs ≡ take i rs ++ r ∷ [] = take_more rs i d less ∙ ap (λ (x : ℕ × ℕ). take i rs ++ x ∷ []) (sym is) in
@@ -164,7 +167,8 @@ sparse_still to (union_reverse_part names) = refl
 sparse_still to fail_part = refl
 sparse_still to (match_part pattern) = refl
 
-module _ (a b c : Assembly) (table kept changed : SlotTable Utf8SuffixKey) (m next first : ℕ) (rs : List (ℕ × ℕ)) (r : ℕ × ℕ) (shares : SharesRanges m a table b kept next rs) (adds : AddsRange b c kept changed next r first) where
+module _ (a b c : Assembly) (table kept changed : SlotTable Utf8SuffixKey) (m next first : ℕ) (rs : List (ℕ × ℕ)) (r : ℕ × ℕ)
+    (shares : SharesRanges m a table b kept next rs) (adds : AddsRange b c kept changed next r first) where
   pub still_there : (u : ℕ) → u < length a.parts → u < length c.parts
   still_there u l = let x = (ranges_share shares).grows.longer in let y = adds.added.grows.longer in omega arith
 
@@ -191,7 +195,8 @@ module _ (a b c : Assembly) (table kept changed : SlotTable Utf8SuffixKey) (m ne
       }
 
 -- the last range's state is refused
-pub last_refused : (a b c : Assembly) (table kept : SlotTable Utf8SuffixKey) (m next : ℕ) (rs : List (ℕ × ℕ)) (e : BuildError) → SharesRanges m a table b kept next rs → length rs ≤ 3 → Stays b c 1 24 e → Quits a c 4 e
+pub last_refused : (a b c : Assembly) (table kept : SlotTable Utf8SuffixKey) (m next : ℕ) (rs : List (ℕ × ℕ)) (e : BuildError) →
+    SharesRanges m a table b kept next rs → length rs ≤ 3 → Stays b c 1 24 e → Quits a c 4 e
 last_refused a b c table kept m next rs e shares few r = quits_later 4 (ranges_share shares).spent (first_quits 1 r (omega arith) (omega arith)) (omega arith)
 
 -- states were added, and the choice may have more ways
@@ -203,9 +208,6 @@ pub record Steps (a b : Assembly) (table changed : SlotTable Utf8SuffixKey) (n :
 
 steps_then : {a b c : Assembly} {t1 t2 t3 : SlotTable Utf8SuffixKey} {n k : ℕ} → Steps a b t1 t2 n → Steps b c t2 t3 k → Steps a c t1 t3 (n + k)
 steps_then x y = record { spent = spent_then x.spent y.spent; groups = y.groups ∙ x.groups; capacity = y.capacity ∙ x.capacity; ready = λ e. y.ready (x.ready e) }
-
-spent_wider : {a b : Assembly} {n : ℕ} (k : ℕ) → Spent a b n → n ≤ k → Spent a b k
-spent_wider k p le = let x = p.states in record { settings = p.settings; longer = p.longer; states = omega arith; bytes = p.bytes }
 
 pub sequence_steps : {a b : Assembly} {table changed : SlotTable Utf8SuffixKey} {u m : ℕ} {rs : List (ℕ × ℕ)} → AddsSequence a b table changed u m rs → Steps a b table changed 4
 sequence_steps {a} {b} {table} {changed} {u} {m} {rs} one =
@@ -230,8 +232,8 @@ sequences_steps {u} {m} {a} {table} (sequences_more mid new kept last qs rs befo
     subst P sum x
 
 -- the choice can be led on still
-pub sequences_kind : (u m : ℕ) (a : Assembly) (table : SlotTable Utf8SuffixKey) (b : Assembly) (changed : SlotTable Utf8SuffixKey) (qs : List (List (ℕ × ℕ))) → AddsSequences u m a table b changed qs →
-    u < length a.parts → is_sparse (part_at a.parts u) ≡ false → is_sparse (part_at b.parts u) ≡ false
+pub sequences_kind : (u m : ℕ) (a : Assembly) (table : SlotTable Utf8SuffixKey) (b : Assembly) (changed : SlotTable Utf8SuffixKey) (qs : List (List (ℕ × ℕ))) →
+    AddsSequences u m a table b changed qs → u < length a.parts → is_sparse (part_at a.parts u) ≡ false → is_sparse (part_at b.parts u) ≡ false
 sequences_kind u m a table _ _ _ sequences_none l kind = kind
 sequences_kind u m a table _ _ _ (sequences_more mid new kept last qs rs before one) l kind =
     let longer = (sequences_steps before).spent.longer in
@@ -253,7 +255,8 @@ got_behind : (xs : List (List (ℕ × ℕ))) (x : List (ℕ × ℕ)) (rest : Lis
 got_behind [] x rest = refl
 got_behind (y ∷ xs) x rest = got_behind xs x rest
 
-module _ (a b : Assembly) (table changed : SlotTable Utf8SuffixKey) (u m lo hi : ℕ) (left : List (List (ℕ × ℕ))) (so_far : MetSequences a b table changed u m lo hi left) where
+module _ (a b : Assembly) (table changed : SlotTable Utf8SuffixKey) (u m lo hi : ℕ) (left : List (List (ℕ × ℕ)))
+    (so_far : MetSequences a b table changed u m lo hi left) where
   pub met_ready : is_ready table ≡ true → is_ready changed ≡ true
   met_ready e = (sequences_steps so_far.added).ready e
 
@@ -310,7 +313,8 @@ others_few ranges all e few =
     let taken : length (take (length ranges - 1) (map bytes_of ranges)) ≡ length ranges - 1 = length-take-le (length ranges - 1) (map bytes_of ranges) (omega (arith, here)) in
     omega (arith, taken, same, long, few)
 
-pub last_rising : (ranges all : List Utf8Range) (d : Utf8Range) → ranges ≡ all → 1 ≤ length (map bytes_of all) → All (λ r. r.0 ≤ r.1) (map bytes_of all) → (get_or ranges (length ranges - 1) d).start ≤ (get_or ranges (length ranges - 1) d).end
+pub last_rising : (ranges all : List Utf8Range) (d : Utf8Range) → ranges ≡ all → 1 ≤ length (map bytes_of all) →
+    All (λ r. r.0 ≤ r.1) (map bytes_of all) → (get_or ranges (length ranges - 1) d).start ≤ (get_or ranges (length ranges - 1) d).end
 last_rising ranges all d e some rising =
     let same : length ranges ≡ length all = ap length e in
     let long : length (map bytes_of all) ≡ length all = length-map all bytes_of in

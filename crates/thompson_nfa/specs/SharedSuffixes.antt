@@ -19,7 +19,8 @@ pub record AddsRange (old new : Assembly) (map changed : SlotTable Utf8SuffixKey
 
 -- a state for the range that leads to `next` is kept at a place, or was added
 pub data SharesRange (old new : Assembly) (map changed : SlotTable Utf8SuffixKey) (next : ℕ) (range : ℕ × ℕ) (id : ℕ) : Type 0 where
-  finds_state : (place : ℕ) → held_at map place ≡ Some (key_of next range, id) → new ≡ old → changed ≡ map → SharesRange old new map changed next range id
+  finds_state : (place : ℕ) → held_at map place ≡ Some (key_of next range, id) → new ≡ old → changed ≡ map →
+      SharesRange old new map changed next range id
   adds_state : AddsRange old new map changed next range id → SharesRange old new map changed next range id
 
 -- the same for one range after the other, where the first one's state leads to the end: `id` is that of the last, or the end
@@ -27,7 +28,8 @@ pub data SharesRange (old new : Assembly) (map changed : SlotTable Utf8SuffixKey
 pub data SharesRanges (end : ℕ) (old : Assembly) (map : SlotTable Utf8SuffixKey) : Assembly → SlotTable Utf8SuffixKey → ℕ → List (ℕ × ℕ) → Type 0 where
   shares_none : SharesRanges end old map old map end []
   shares_more : (mid new : Assembly) (kept changed : SlotTable Utf8SuffixKey) (next id : ℕ) (ranges : List (ℕ × ℕ)) (range : ℕ × ℕ) →
-      SharesRanges end old map mid kept next ranges → SharesRange mid new kept changed next range id → SharesRanges end old map new changed id (ranges ++ range ∷ [])
+      SharesRanges end old map mid kept next ranges → SharesRange mid new kept changed next range id →
+      SharesRanges end old map new changed id (ranges ++ range ∷ [])
 
 -- The choice has one more way, to the states of a sequence of four ranges at most. The state of the last range is new: no
 -- sequence is another one, or the begin of another.
@@ -49,4 +51,5 @@ pub record AddsSequence (old new : Assembly) (map changed : SlotTable Utf8Suffix
 pub data AddsSequences (choice end : ℕ) (old : Assembly) (map : SlotTable Utf8SuffixKey) : Assembly → SlotTable Utf8SuffixKey → List (List (ℕ × ℕ)) → Type 0 where
   sequences_none : AddsSequences choice end old map old map []
   sequences_more : (mid new : Assembly) (kept changed : SlotTable Utf8SuffixKey) (sequences : List (List (ℕ × ℕ))) (ranges : List (ℕ × ℕ)) →
-      AddsSequences choice end old map mid kept sequences → AddsSequence mid new kept changed choice end ranges → AddsSequences choice end old map new changed (sequences ++ ranges ∷ [])
+      AddsSequences choice end old map mid kept sequences → AddsSequence mid new kept changed choice end ranges →
+      AddsSequences choice end old map new changed (sequences ++ ranges ∷ [])
