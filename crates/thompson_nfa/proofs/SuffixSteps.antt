@@ -1,5 +1,5 @@
 -- What the steps of shared suffixes do to the builder and to the map: how many states they add, and that the choice can be led on.
-use Rattle.std.proofs.Common.{◌≡◌, ℕ, ◌+◌, ◌-◌, ◌*◌, ◌<◌, ◌≤◌, true, false, List, [], ◌∷◌, ◌++◌, length, map, take, get_or, Some, nat_eq, refl, sym, ap, ◌∙◌, subst, arith, append_assoc, append-nil, length-append}
+use Rattle.std.proofs.Common.{◌≡◌, ℕ, ◌+◌, ◌-◌, ◌*◌, ◌<◌, ◌≤◌, true, false, List, [], ◌∷◌, ◌++◌, length, map, take, get_or, Some, nat_eq, refl, sym, ap, ◌∙◌, subst, arith, append_assoc, length-append}
 use Rattle.std.specs.Prelude.{All}
 use Rattle.std.specs.List.{slice_get}
 use Rattle.std.proofs.lemmas.List.{length-set, length-take-le, take_more, get_or-map, length-map}
@@ -131,12 +131,6 @@ module _ (a b : Assembly) (table changed : SlotTable Utf8SuffixKey) (end id i : 
       let long : length (take i rs) ≡ i = length-take-le i rs so_far.within in
       quits_later many (ranges_share so_far.shares).spent (first_quits 1 r (omega arith) (omega arith)) (omega (arith, long))
 
-  pub shared_all : (many : ℕ) → i ≤ many → many ≤ i → SharesRanges end a table b changed id (take many rs)
-  shared_all many le ge =
-      let P : ℕ → Type 0 = λ k. SharesRanges end a table b changed id (take k rs) in
-      let same : i ≡ many = omega arith in
-      subst P same so_far.shares
-
   pub shared_more : (c : Assembly) (last : SlotTable Utf8SuffixKey) (state : ℕ) (r d : ℕ × ℕ) → r ≡ get_or rs i d → i < length rs →
       SharesRange b c changed last id r state → SharesUpTo a c table last end state (i + 1) rs
   shared_more c last state r d is less step =
@@ -177,9 +171,6 @@ module _ (a b c : Assembly) (table kept changed : SlotTable Utf8SuffixKey) (m ne
 
   pub still_kind : (u : ℕ) → u < length a.parts → is_sparse (part_at a.parts u) ≡ false → is_sparse (part_at c.parts u) ≡ false
   still_kind u l kind = ap is_sparse (still_part u l) ∙ kind
-
-  pub first_there : first < length c.parts
-  first_there = let x = adds.added.is in let y = adds.added.size in omega arith
 
   -- the choice is refused its way
   pub way_refused : (d : Assembly) (e : BuildError) → length rs ≤ 3 → Stays c d 0 4 e → Quits a d 4 e
@@ -263,30 +254,15 @@ module _ (a b : Assembly) (table changed : SlotTable Utf8SuffixKey) (u m lo hi :
   pub met_capacity : changed.capacity ≡ table.capacity
   met_capacity = (sequences_steps so_far.added).capacity
 
-  pub met_places : 0 < table.capacity → 0 < changed.capacity
-  met_places l = let e = met_capacity in omega (arith, e)
-
   pub met_there : u < length a.parts → u < length b.parts
   met_there l = let longer = (sequences_steps so_far.added).spent.longer in omega arith
 
   pub met_kind : u < length a.parts → is_sparse (part_at a.parts u) ≡ false → is_sparse (part_at b.parts u) ≡ false
   met_kind l kind = sequences_kind u m a table b changed so_far.met so_far.added l kind
 
-  pub all_met : left ≡ [] → AddsSequences u m a table b changed (utf8_sequences lo hi)
-  all_met none =
-      let P : List (List (ℕ × ℕ)) → Type 0 = λ qs. AddsSequences u m a table b changed qs in
-      let whole : so_far.met ≡ utf8_sequences lo hi = sym (append-nil so_far.met) ∙ ap (λ (qs : List (List (ℕ × ℕ))). so_far.met ++ qs) (sym none) ∙ so_far.split in
-      subst P whole so_far.added
-
   module _ (rest : List (List (ℕ × ℕ))) (rs : List (ℕ × ℕ)) (e : left ≡ rs ∷ rest) where
     place : slice_get (utf8_sequences lo hi) (length so_far.met) ≡ Some rs
     place = ap (λ (qs : List (List (ℕ × ℕ))). slice_get qs (length so_far.met)) (sym so_far.split ∙ ap (λ (qs : List (List (ℕ × ℕ))). so_far.met ++ qs) e) ∙ got_behind so_far.met rs rest
-
-    pub met_some : 1 ≤ length rs
-    met_some = (sequence_short lo hi (length so_far.met) rs place).0
-
-    pub met_few : length rs ≤ 4
-    met_few = (sequence_short lo hi (length so_far.met) rs place).1
 
     pub met_rising : All (λ r. r.0 ≤ r.1) rs
     met_rising k d l = ((sequence_short lo hi (length so_far.met) rs place).2 k (get_or rs k d) (slice_get-get_or rs k d l)).0
