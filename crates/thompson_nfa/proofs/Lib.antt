@@ -84,3 +84,5 @@ pub mod TurnedLengths
 pub mod ClassOrder
 pub mod TriePathLemmas
 pub mod ShrunkLemmas
+pub mod LiteralGroupLemmas
+pub mod LiteralNodeLemmas

@@ -29,3 +29,6 @@ pub mod Shared
 pub mod Utf8Stacks
 pub mod Utf8Compiles
 pub mod ClassTries
+pub mod LiteralGroups
+pub mod LiteralTries
+pub mod LiteralStates

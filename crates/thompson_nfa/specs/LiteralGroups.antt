@@ -1,0 +1,108 @@
+-- Strings of bytes in groups, by the bytes with which they begin.
+use Rattle.std.specs.Prelude.{◌≡◌, ℕ, zero, suc, ◌+◌, ◌<◌, ◌≤◌, min, List, [], ◌∷◌, ◌++◌, map, length, get_or, Option, Some, None, nat_eq, nat_le, if◌then◌else◌}
+use denote.Ref.{Bor}
+use Rattle.thompson_nfa.specs.declared.literal_groups.Edge.{Edge}
+
+-- the strings behind references to them
+abbrev pub texts : List (Bor (List ℕ)) → List (List ℕ)
+texts strings = map (λ s. s.now) strings
+
+-- one more string: it is kept, without its first byte, where this is the byte
+abbrev pub with_tail : ℕ → List ℕ → List (List ℕ) → List (List ℕ)
+with_tail b [] rest = rest
+with_tail b (a ∷ w) rest = if nat_eq a b then w ∷ rest else rest
+
+-- what follows the byte in the strings that begin with it, in order
+abbrev pub tails : ℕ → List (List ℕ) → List (List ℕ)
+tails b [] = []
+tails b (w ∷ ws) = with_tail b w (tails b ws)
+
+abbrev pub lesser : ℕ → Option ℕ → Option ℕ
+lesser a None = Some a
+lesser a (Some b) = Some (min a b)
+
+-- the lesser of this and of the first byte, where that is `low` or above
+abbrev pub with_first : ℕ → List ℕ → Option ℕ → Option ℕ
+with_first low [] least = least
+with_first low (a ∷ w) least = if nat_le low a then lesser a least else least
+
+-- the least byte, from `low` on, with which a string begins
+abbrev pub next_of : ℕ → List (List ℕ) → Option ℕ
+next_of low [] = None
+next_of low (w ∷ ws) = with_first low w (next_of low ws)
+
+-- how many strings stand before the first that is empty
+abbrev pub run_of : List (List ℕ) → ℕ
+run_of [] = 0
+run_of ([] ∷ ws) = 0
+run_of ((b ∷ w) ∷ ws) = suc (run_of ws)
+
+-- all of them, each behind the byte
+abbrev pub behind_byte : ℕ → List (List ℕ) → List (List ℕ)
+behind_byte b [] = []
+behind_byte b (w ∷ ws) = (b ∷ w) ∷ behind_byte b ws
+
+-- the strings of each group, where groups hold references
+abbrev pub groups_of : {V : Type 0} → (V → List (Bor (List ℕ))) → List V → List (List (List ℕ))
+groups_of items groups = map (λ g. texts (items g)) groups
+
+-- the strings of edges, each of which leads to a group by its number
+abbrev pub chunk_strings : List (List (List ℕ)) → List Edge → List (List ℕ)
+chunk_strings groups [] = []
+chunk_strings groups (e ∷ es) = behind_byte e.byte (get_or groups e.next []) ++ chunk_strings groups es
+
+-- what is left between two bytes: each edge has a byte of its own, and they ascend
+abbrev pub Ascends : ℕ → List Edge → ℕ → Type 0
+Ascends low [] high = low ≤ high
+Ascends low (e ∷ es) high = (low ≤ e.byte) × (e.byte < 256) × Ascends (e.byte + 1) es high
+
+-- each edge leads to a group with such a number
+abbrev pub AreInside : ℕ → ℕ → List Edge → Type 0
+AreInside first end [] = Unit {0}
+AreInside first end (e ∷ es) = (first ≤ e.next) × (e.next < end) × AreInside first end es
+
+-- how many bytes there are in all
+abbrev pub bytes_in : List (List ℕ) → ℕ
+bytes_in [] = 0
+bytes_in (w ∷ ws) = length w + bytes_in ws
+
+abbrev pub bytes_in_all : List (List (List ℕ)) → ℕ
+bytes_in_all [] = 0
+bytes_in_all (g ∷ gs) = bytes_in g + bytes_in_all gs
+
+-- the bytes of those that begin with `low` or above
+abbrev pub bytes_from : ℕ → List (List ℕ) → ℕ
+bytes_from low [] = 0
+bytes_from low ([] ∷ ws) = bytes_from low ws
+bytes_from low ((a ∷ w) ∷ ws) = (if nat_le low a then suc (length w) else 0) + bytes_from low ws
+
+-- Edges to groups with numbers from `first` on, which have the strings that begin with a byte.
+pub record IsChunk (first : ℕ) (groups : List (List (List ℕ))) (edges : List Edge) (strings : List (List ℕ)) : Type 0 where
+  pub ascends : Ascends 0 edges 256
+  pub inside : AreInside first (length groups) edges
+  pub same_tails : (c : ℕ) → tails c (chunk_strings groups edges) ≡ tails c strings
+
+-- each of the groups has a string
+abbrev pub AllSome : List (List (List ℕ)) → Type 0
+AllSome [] = Unit {0}
+AllSome (g ∷ gs) = (1 ≤ length g) × AllSome gs
+
+-- Groups were added, one for each edge, whose strings are shorter by a byte each.
+pub record AddsGroups (first : ℕ) (old new : List (List (List ℕ))) (edges : ℕ) (strings : List (List ℕ)) : Type 0 where
+  pub added : List (List (List ℕ))
+  pub is : new ≡ old ++ added
+  pub one_each : length added ≡ edges
+  pub some : AllSome added
+  pub room : length new + bytes_in_all new ≤ length old + bytes_in_all old + bytes_in strings
+
+-- none of the strings is empty
+abbrev pub NoneEnds : List (List ℕ) → Type 0
+NoneEnds [] = Unit {0}
+NoneEnds ([] ∷ ws) = ⊥
+NoneEnds ((b ∷ w) ∷ ws) = NoneEnds ws
+
+-- The first string, where it is empty, or else the strings before the first that is; and the others.
+pub record IsTurn (all turn rest : List (List ℕ)) : Type 0 where
+  pub split : turn ++ rest ≡ all
+  pub ended : (ws : List (List ℕ)) → turn ≡ [] ∷ ws → ws ≡ []
+  pub none_ends : (b : ℕ) (w : List ℕ) (ws : List (List ℕ)) → turn ≡ (b ∷ w) ∷ ws → NoneEnds turn

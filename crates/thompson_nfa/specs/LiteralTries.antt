@@ -1,0 +1,60 @@
+-- Nodes of a trie of strings, each with its items in order of preference: edges by bytes, or a match.
+use Rattle.std.specs.Prelude.{◌≡◌, ℕ, suc, ◌+◌, ◌*◌, ◌<◌, ◌≤◌, List, [], ◌∷◌, ◌++◌, length, get_or, nat_eq, if◌then◌else◌}
+use Rattle.hir_core.specs.Means.{stands}
+use Rattle.nfa_core.specs.Walks.{distinct}
+use Rattle.thompson_nfa.specs.LiteralGroups.{chunk_strings, Ascends, AreInside, bytes_in}
+use Rattle.thompson_nfa.specs.declared.literal_groups.Edge.{Edge}
+
+-- where the strings end that stand at the place, in order
+abbrev pub ends_of : List (List ℕ) → List ℕ → ℕ → List ℕ
+ends_of [] h i = []
+ends_of (w ∷ ws) h i = (if stands h i w then (i + length w) ∷ [] else []) ++ ends_of ws h i
+
+-- at each place the same ends first
+abbrev pub IsLike : List (List ℕ) → List (List ℕ) → Type 0
+IsLike vs ws = (h : List ℕ) (i : ℕ) → distinct nat_eq (ends_of vs h i) ≡ distinct nat_eq (ends_of ws h i)
+
+-- the strings of an item: one without edges is a match, which is the end of a string
+abbrev pub item_strings : List (List (List ℕ)) → List Edge → List (List ℕ)
+item_strings groups [] = [] ∷ []
+item_strings groups (e ∷ es) = chunk_strings groups (e ∷ es)
+
+abbrev pub node_strings : List (List (List ℕ)) → List (List Edge) → List (List ℕ)
+node_strings groups [] = []
+node_strings groups (x ∷ xs) = item_strings groups x ++ node_strings groups xs
+
+-- how many edges there are
+abbrev pub edges_in : List (List Edge) → ℕ
+edges_in [] = 0
+edges_in (x ∷ xs) = length x + edges_in xs
+
+abbrev pub edges_in_all : List (List (List Edge)) → ℕ
+edges_in_all [] = 0
+edges_in_all (n ∷ ns) = edges_in n + edges_in_all ns
+
+-- how many items are no match
+abbrev pub chunks_in : List (List Edge) → ℕ
+chunks_in [] = 0
+chunks_in ([] ∷ xs) = chunks_in xs
+chunks_in ((e ∷ es) ∷ xs) = suc (chunks_in xs)
+
+-- the edges of each item ascend, and lead to groups with such numbers
+abbrev pub AreChunks : ℕ → ℕ → List (List Edge) → Type 0
+AreChunks first end [] = Unit {0}
+AreChunks first end (x ∷ xs) = Ascends 0 x 256 × AreInside first end x × AreChunks first end xs
+
+-- The items have the strings, those of the groups to which edges lead, from number `first` on; no two matches stand side by side.
+pub record IsNode (first : ℕ) (groups : List (List (List ℕ))) (items : List (List Edge)) (strings : List (List ℕ)) : Type 0 where
+  pub like : IsLike (node_strings groups items) strings
+  pub chunks : AreChunks first (length groups) items
+  pub some : 1 ≤ length items
+  pub few : length items ≤ 2 * chunks_in items + 1
+
+-- The nodes of all groups, of which the first has all strings. Edges lead to later nodes, and there are as many as bytes at most.
+pub record IsTrie (nodes : List (List (List Edge))) (strings : List (List ℕ)) : Type 0 where
+  pub groups : List (List (List ℕ))
+  pub as_many : length groups ≡ length nodes
+  pub some : 1 ≤ length nodes
+  pub root : get_or groups 0 [] ≡ strings
+  pub each : (i : ℕ) → i < length nodes → IsNode (i + 1) groups (get_or nodes i []) (get_or groups i [])
+  pub room : edges_in_all nodes ≤ bytes_in strings
