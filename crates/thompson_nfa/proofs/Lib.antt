@@ -86,3 +86,4 @@ pub mod TriePathLemmas
 pub mod ShrunkLemmas
 pub mod LiteralGroupLemmas
 pub mod LiteralNodeLemmas
+pub mod LiteralStateLemmas

@@ -121,7 +121,7 @@ pub edges_append : (xs ys : List (List Edge)) → edges_in (xs ++ ys) ≡ edges_
 edges_append [] ys = omega arith
 edges_append (x ∷ xs) ys = omega (arith, edges_append xs ys)
 
-chunks_append : (xs ys : List (List Edge)) → chunks_in (xs ++ ys) ≡ chunks_in xs + chunks_in ys
+pub chunks_append : (xs ys : List (List Edge)) → chunks_in (xs ++ ys) ≡ chunks_in xs + chunks_in ys
 chunks_append [] ys = omega arith
 chunks_append ([] ∷ xs) ys = chunks_append xs ys
 chunks_append ((e ∷ es) ∷ xs) ys = omega (arith, chunks_append xs ys)

@@ -1,9 +1,15 @@
 -- The states of a trie's nodes.
-use Rattle.std.specs.Prelude.{◌≡◌, ℕ, suc, ◌+◌, ◌≤◌, ◌<◌, Bool, true, false, List, [], ◌∷◌, map, get_or, length, reversed}
+use Rattle.std.specs.Prelude.{◌≡◌, ◌⊎◌, ℕ, suc, ◌+◌, ◌*◌, ◌≤◌, ◌<◌, Bool, true, false, List, [], ◌∷◌, map, get_or, length, reverse, None}
+use Rattle.search_core.specs.Index.{greatest_index}
 use Rattle.hir_core.specs.Tree.{Tree, empty, literal, alternation}
-use Rattle.nfa_core.specs.BuilderStates.{Assembly, sparse_part}
+use Rattle.nfa_core.specs.BuilderStates.{Assembly, part_at, sparse_part}
+use Rattle.nfa_core.specs.Drafted.{Table}
+use Rattle.nfa_core.specs.Renaming.{stands_for}
 use Rattle.thompson_nfa.specs.Added.{Added}
-use Rattle.thompson_nfa.specs.Shared.{read_then}
+use Rattle.thompson_nfa.specs.Compiled.{Grows, AllTame, sum_of_bytes}
+use Rattle.thompson_nfa.specs.Denotes.{Denotes}
+use Rattle.thompson_nfa.specs.LiteralTries.{edges_in, AreChunks}
+use Rattle.thompson_nfa.specs.Shared.{branch_trees}
 use Rattle.thompson_nfa.specs.declared.literal_groups.Edge.{Edge}
 
 -- a transition by the byte of each edge, to the state of the node to which it leads
@@ -19,8 +25,39 @@ AddsItem old new names end (e ∷ es) id = Added old new id (sparse_part (edge_r
 -- a string that was read forward, or from its last byte on
 abbrev pub spelt : Bool → List ℕ → List ℕ
 spelt false w = w
-spelt true w = reversed w
+spelt true w = reverse w
 
 -- one of the strings, each as it is spelt
 abbrev pub literals : Bool → List (List ℕ) → Tree
 literals back ws = alternation (map (λ w. literal (spelt back w)) ws)
+
+-- the trees of the nodes to which the edges lead
+abbrev pub edge_trees : (ℕ → Tree) → List Edge → List Tree
+edge_trees x [] = []
+edge_trees x (e ∷ es) = x e.next ∷ edge_trees x es
+
+-- a byte of an edge, and then the tree of its node; a match reads nothing
+abbrev pub item_tree : Bool → List ℕ → (ℕ → Tree) → List Edge → Tree
+item_tree back names x [] = empty
+item_tree back names x (e ∷ es) = alternation (branch_trees back (edge_ranges names (e ∷ es)) (edge_trees x (e ∷ es)))
+
+abbrev pub item_trees : Bool → List ℕ → (ℕ → Tree) → List (List Edge) → List Tree
+item_trees back names x [] = []
+item_trees back names x (i ∷ is) = item_tree back names x i ∷ item_trees back names x is
+
+-- from the state of each node, from number `first` on, the table does what the node's tree means
+abbrev pub IsLed : Bool → Table → ℕ → ℕ → List ℕ → (ℕ → Tree) → Type 0
+IsLed back table end first names x = (n : ℕ) → first ≤ n → n < length names → Denotes back table (get_or names n 0) end (x n)
+
+-- States of a node were added, or none where it is a match alone, whose state is the common end.
+pub record AddsNode (old new : Assembly) (names : List ℕ) (end : ℕ) (items : List (List Edge)) (id : ℕ) : Type 0 where
+  pub grows : Grows old new
+  pub groups : new.groups ≡ old.groups
+  pub states : length new.parts ≤ length old.parts + 2 * edges_in items
+  pub bytes : sum_of_bytes new + 4096 * length old.parts ≤ sum_of_bytes old + 4096 * length new.parts
+  pub numbered : length old.parts ≤ greatest_index + 1 → length new.parts ≤ greatest_index + 1
+  pub tame : AllTame (length old.parts) new
+  pub stands : (q : ℕ) → length old.parts ≤ q → q < length new.parts → stands_for (part_at new.parts q) ≡ None
+  pub there : (id ≡ end) ⊎ ((length old.parts ≤ id) × (id < length new.parts))
+  pub denotes : (table : Table) → ((q : ℕ) → length old.parts ≤ q → q < length new.parts → table q ≡ part_at new.parts q) → (first : ℕ) → AreChunks first (length names) items → (x : ℕ → Tree) →
+      IsLed old.reverse table end first names x → Denotes old.reverse table id end (alternation (item_trees old.reverse names x items))

@@ -1,11 +1,12 @@
 //! The states of a trie's nodes.
-ghost use Rattle.std.specs.Prelude.{◌≡◌, ◌≤◌, ◌<◌, length, map, IfOk, IfErr};
-ghost use Rattle.nfa_core.specs.BuilderStates.{sparse_part};
+ghost use Rattle.std.specs.Prelude.{◌≡◌, ◌≤◌, ◌<◌, ◌+◌, ◌*◌, ◌++◌, [], ◌∷◌, length, map, All, IfOk, IfErr, MatchResult};
+ghost use Rattle.nfa_core.specs.BuilderStates.{sparse_part, union_part};
 ghost use Rattle.nfa_core.specs.Transitions.{range_of};
 ghost use Rattle.thompson_nfa.specs.Added.{Added};
 ghost use Rattle.thompson_nfa.specs.LiteralGroups.{Ascends, AreInside};
-ghost use Rattle.thompson_nfa.specs.LiteralStates.{edge_ranges, AddsItem};
-ghost use Rattle.thompson_nfa.specs.Refusals.{Stays};
+ghost use Rattle.thompson_nfa.specs.LiteralStates.{edge_ranges, AddsItem, AddsNode};
+ghost use Rattle.thompson_nfa.specs.LiteralTries.{edges_in, chunks_in, AreChunks};
+ghost use Rattle.thompson_nfa.specs.Refusals.{Stays, Quits};
 
 use crate::literal_groups::Edge;
 use nfa_core::{BuildError, Builder, Transition};
@@ -60,11 +61,53 @@ fn add_item(
     requires inside { AreInside 0 (length names.now) item.now }
     requires ascending { Ascends 0 item.now 256 }
     ensures added { IfOk result (λ id. AddsItem builder.old builder.new names.now end item.now id) }
-    ensures refused { IfErr result (λ e. Stays builder.old builder.new 1 2072 e) }
+    ensures refused { IfErr result (λ e. (1 ≤ length item.now) × Stays builder.old builder.new 1 2072 e) }
 {
     if item.is_empty() {
         return Ok(end);
     }
     let id = add_chunk(builder, alloc, item, names)?;
+    Ok(id)
+}
+
+/// Adds a state that leads to each of these, the preferred first.
+fn add_ways(builder: &mut Builder, ways: Vec<StateID>) -> Result<StateID, BuildError>
+    ensures { MatchResult result (λ id. Added builder.old builder.new id (union_part ways.items) builder.old.groups) (λ e. Stays builder.old builder.new 1 (24 + 4 * length ways.items) e) }
+{
+    builder.add_union(ways)
+}
+
+fn push_way(ways: &mut Vec<StateID>, id: StateID) -> Result<(), AllocError>
+    ensures { IfOk result (λ _. ways.new.items ≡ ways.old.items ++ id ∷ []) }
+{
+    ways.push(id)?;
+    Ok(())
+}
+
+/// Adds the states of a node: one for each item that is no match, and a union of more items than one.
+fn add_node(
+    builder: &mut Builder,
+    alloc: Global,
+    items: &[Vec<Edge>],
+    names: &[StateID],
+    end: StateID,
+) -> Result<StateID, BuildError>
+    requires end { end < length builder.old.parts }
+    requires names { All (λ q. q < length builder.old.parts) names.now }
+    requires chunks { AreChunks 0 (length names.now) (map (λ x. x.items) items.now) }
+    requires some { 1 ≤ length items.now }
+    requires few { length items.now ≤ 2 * chunks_in (map (λ x. x.items) items.now) + 1 }
+    ensures added { IfOk result (λ id. AddsNode builder.old builder.new names.now end (map (λ x. x.items) items.now) id) }
+    ensures refused { IfErr result (λ e. Quits builder.old builder.new (2 * edges_in (map (λ x. x.items) items.now)) e) }
+{
+    let mut ways = Vec::new(alloc);
+    for item in items {
+        let id = add_item(builder, alloc, item, names, end)?;
+        push_way(&mut ways, id)?;
+    }
+    if ways.len() == 1 {
+        return Ok(ways[0]);
+    }
+    let id = add_ways(builder, ways)?;
     Ok(id)
 }
