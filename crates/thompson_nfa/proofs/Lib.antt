@@ -87,3 +87,5 @@ pub mod ShrunkLemmas
 pub mod LiteralGroupLemmas
 pub mod LiteralNodeLemmas
 pub mod LiteralStateLemmas
+pub mod LiteralTreeLemmas
+pub mod LiteralTrieLemmas

@@ -27,9 +27,12 @@ abbrev pub spelt : Bool → List ℕ → List ℕ
 spelt false w = w
 spelt true w = reverse w
 
+abbrev pub spelt_literal : Bool → List ℕ → Tree
+spelt_literal back w = literal (spelt back w)
+
 -- one of the strings, each as it is spelt
 abbrev pub literals : Bool → List (List ℕ) → Tree
-literals back ws = alternation (map (λ w. literal (spelt back w)) ws)
+literals back ws = alternation (map (spelt_literal back) ws)
 
 -- the trees of the nodes to which the edges lead
 abbrev pub edge_trees : (ℕ → Tree) → List Edge → List Tree

@@ -16,6 +16,7 @@ mod literals;
 mod literal_groups;
 mod literal_nodes;
 mod literal_states;
+mod literal_trie;
 mod parts;
 mod patterns;
 mod prefix;

@@ -85,7 +85,7 @@ fn push_way(ways: &mut Vec<StateID>, id: StateID) -> Result<(), AllocError>
 }
 
 /// Adds the states of a node: one for each item that is no match, and a union of more items than one.
-fn add_node(
+pub(crate) fn add_node(
     builder: &mut Builder,
     alloc: Global,
     items: &[Vec<Edge>],

@@ -1,0 +1,285 @@
+-- A trie of strings: what the nodes that are compiled make.
+use Rattle.std.proofs.Common.{◌≡◌, ◌≢◌, ◌⊎◌, inl, inr, ℕ, zero, suc, ◌+◌, ◌-◌, ◌*◌, ◌<◌, ◌≤◌, Bool, true, false, List, [], ◌∷◌, ◌++◌, map, length, take, drop, get_or, set, None, refl, sym, ap, ◌∙◌, subst, arith, ⊎_elim}
+use Rattle.std.specs.Prelude.{All}
+use Rattle.std.proofs.lemmas.Bool.{cases_lt, cases_eq}
+use Rattle.std.proofs.lemmas.List.{length-set, get_or-set_same, get_or-set_other, get_or-map, length-map}
+use Rattle.std.proofs.lemmas.List.Elements.{All-weaker}
+use Rattle.search_core.specs.Index.{greatest_index}
+use Rattle.nfa_core.specs.BuilderStates.{Part, Assembly, part_at, patched, is_sparse, empty_part}
+use Rattle.nfa_core.specs.Drafted.{Table}
+use Rattle.nfa_core.specs.Renaming.{stands_for}
+use Rattle.nfa_core.specs.declared.build_error.BuildError.{BuildError}
+use Rattle.nfa_core.specs.declared.build_error.BuildError.TheVariants as error
+use Rattle.thompson_nfa.specs.Added.{Added}
+use Rattle.thompson_nfa.specs.Compiled.{Finished, ComesOut, Makes, Does, sum_of_bytes}
+use Rattle.thompson_nfa.specs.Denotes.{Denotes}
+use Rattle.thompson_nfa.specs.LiteralGroups.{bytes_in}
+use Rattle.thompson_nfa.specs.LiteralStates.{AddsNode, literals, IsLed, item_trees}
+use Rattle.thompson_nfa.specs.LiteralTries.{edges_in, edges_in_all, chunks_in, AreChunks, IsNode, IsTrie}
+use Rattle.thompson_nfa.specs.Refusals.{Quits}
+use Rattle.thompson_nfa.specs.declared.literal_groups.Edge.{Edge}
+use Rattle.hir_core.specs.Tree.{Tree, alternation}
+use Rattle.thompson_nfa.proofs.AheadLemmas.{denotes_then_empty}
+use Rattle.thompson_nfa.proofs.DenoteLemmas.{denotes_empty}
+use Rattle.thompson_nfa.proofs.GrowLemmas.{Partly, partly_joined, partly_added}
+use Rattle.thompson_nfa.proofs.LeafLemmas.{tame_one}
+use Rattle.thompson_nfa.proofs.LiteralNodeLemmas.{are_wider}
+use Rattle.thompson_nfa.proofs.LiteralTreeLemmas.{node_tree, denotes_node}
+use Rattle.thompson_nfa.proofs.OutLemmas.{out_here, out_next, out_at}
+use Rattle.thompson_nfa.proofs.ProgressLemmas.{Progress, made}
+use Rattle.thompson_nfa.proofs.ScalarLemmas.{Spent, quits_later}
+
+-- one of the states from the common end on
+abbrev pub IsThere : Assembly → Assembly → ℕ → Type 0
+IsThere old mid q = (length old.parts ≤ q) × (q < length mid.parts)
+
+-- the table has the states that were added, but for the common end
+abbrev pub HasOthers : Assembly → Assembly → Table → Type 0
+HasOthers old mid table = (q : ℕ) → length old.parts < q → q < length mid.parts → table q ≡ part_at mid.parts q
+
+-- the nodes from number k on are compiled
+pub record TrieTo (old mid : Assembly) (end : ℕ) (nodes : List (List (List Edge))) (strings : List (List ℕ)) (names : List ℕ) (k : ℕ) : Type 0 where
+  pub trie : IsTrie nodes strings
+  pub within : k ≤ length nodes
+  pub end_is : end ≡ length old.parts
+  pub partly : Partly old mid
+  pub groups : mid.groups ≡ old.groups
+  pub here : part_at mid.parts end ≡ empty_part 0
+  pub longer : length old.parts + 1 ≤ length mid.parts
+  pub states : length mid.parts ≤ length old.parts + 1 + 2 * edges_in_all (drop k nodes)
+  pub bytes : sum_of_bytes mid + 8 + 4096 * length old.parts ≤ sum_of_bytes old + 4096 * length mid.parts
+  pub numbered : length mid.parts ≤ greatest_index + 1
+  pub stands : (q : ℕ) → length old.parts < q → q < length mid.parts → stands_for (part_at mid.parts q) ≡ None
+  pub names_long : length names ≡ length nodes
+  pub names_there : All (IsThere old mid) names
+  pub denotes : (table : Table) → HasOthers old mid table → (n : ℕ) → k ≤ n → n < length nodes → Denotes old.reverse table (get_or names n 0) end (literals old.reverse (get_or trie.groups n []))
+
+edges_behind : (nodes : List (List (List Edge))) (k : ℕ) → length nodes ≤ k → edges_in_all (drop k nodes) ≡ 0
+edges_behind [] zero l = refl
+edges_behind [] (suc k) l = refl
+edges_behind (n ∷ nodes) zero l = absurd (omega arith)
+edges_behind (n ∷ nodes) (suc k) l = edges_behind nodes k (omega arith)
+
+edges_from : (nodes : List (List (List Edge))) (k : ℕ) → k < length nodes → edges_in_all (drop k nodes) ≡ edges_in (get_or nodes k []) + edges_in_all (drop (k + 1) nodes)
+edges_from [] k l = absurd (omega arith)
+edges_from (n ∷ nodes) zero l = refl
+edges_from (n ∷ nodes) (suc k) l =
+    let P : ℕ → Type 0 = λ m. edges_in_all (drop k nodes) ≡ edges_in (get_or nodes k []) + edges_in_all (drop m (n ∷ nodes)) in
+    let same : suc (k + 1) ≡ suc k + 1 = omega arith in
+    subst P same (edges_from nodes k (omega arith))
+
+edges_left : (nodes : List (List (List Edge))) (k : ℕ) → edges_in_all (drop k nodes) ≤ edges_in_all nodes
+edges_left nodes zero = omega arith
+edges_left [] (suc k) = omega arith
+edges_left (n ∷ nodes) (suc k) = omega (arith, edges_left nodes k)
+
+pub trie_begun : (old mid : Assembly) (end : ℕ) (nodes : List (List (List Edge))) (strings : List (List ℕ)) (names : List ℕ) (k : ℕ) → IsTrie nodes strings → Added old mid end (empty_part 0) old.groups → length names ≡ length nodes →
+    All (λ q. q ≡ end) names → k ≡ length nodes → TrieTo old mid end nodes strings names k
+trie_begun old mid end nodes strings names k trie added long same past =
+    let is = added.is in let size = added.size in
+    record {
+      trie = trie;
+      within = omega arith;
+      end_is = is;
+      partly = partly_added added (tame_one mid (empty_part 0) 0 refl (omega arith) refl refl);
+      groups = added.groups_are;
+      here = added.here;
+      longer = omega arith;
+      states = omega arith;
+      bytes = omega (arith, added.bytes);
+      numbered = added.numbered;
+      stands = λ q l h. absurd (omega arith);
+      names_long = long;
+      names_there = All-weaker (λ q. q ≡ end) (IsThere old mid) (λ q e. (omega arith, omega arith)) names same;
+      denotes = λ table has n l h. absurd (omega arith);
+    }
+
+set_there : (P : ℕ → Type 0) (names : List ℕ) (k id : ℕ) → All P names → P id → All P (set names k id)
+set_there P names k id all p n d l =
+    let m : n < length names = omega (arith, length-set names k id) in
+    ⊎_elim
+    (λ (e : n ≡ k).
+    let Q : ℕ → Type 0 = λ j. P (get_or (set names k id) j d) in
+    subst Q (sym e) (subst P (sym (get_or-set_same names k id d (omega arith))) p))
+    (λ (ne : n ≡ k → ⊥). subst P (sym (get_or-set_other names k n id d ne)) (all n d m))
+    (cases_eq n k)
+
+module _ (old mid new : Assembly) (end : ℕ) (nodes : List (List (List Edge))) (strings : List (List ℕ)) (names : List ℕ) (k : ℕ) (so_far : TrieTo old mid end nodes strings names (k + 1)) (less : k < length nodes) (items : List (List Edge))
+    (items_are : get_or nodes k [] ≡ items) where
+  back_same : mid.reverse ≡ old.reverse
+  back_same = ap (λ (b : Assembly). b.reverse) so_far.partly.grows.settings
+
+  node : IsNode (k + 1) so_far.trie.groups items (get_or so_far.trie.groups k [])
+  node = let P : List (List Edge) → Type 0 = λ x. IsNode (k + 1) so_far.trie.groups x (get_or so_far.trie.groups k []) in subst P items_are (so_far.trie.each k less)
+
+  pub node_some : 1 ≤ length items
+  node_some = node.some
+
+  pub node_few : length items ≤ 2 * chunks_in items + 1
+  node_few = node.few
+
+  pub node_chunks : AreChunks 0 (length names) items
+  node_chunks = are_wider (k + 1) (length so_far.trie.groups) 0 (length names) items node.chunks (omega arith) (omega (arith, so_far.names_long, so_far.trie.as_many))
+
+  pub names_below : All (λ q. q < length mid.parts) names
+  names_below = All-weaker (IsThere old mid) (λ q. q < length mid.parts) (λ q t. t.1) names so_far.names_there
+
+  pub end_below : end < length mid.parts
+  end_below = omega (arith, so_far.end_is, so_far.longer)
+
+  edges_now : edges_in_all (drop k nodes) ≡ edges_in items + edges_in_all (drop (k + 1) nodes)
+  edges_now = edges_from nodes k less ∙ ap (λ (x : List (List Edge)). edges_in x + edges_in_all (drop (k + 1) nodes)) items_are
+
+  pub node_refused : (e : BuildError) → Quits mid new (2 * edges_in items) e → Quits old new (1 + 2 * bytes_in strings) e
+  node_refused e r =
+      let spent : Spent old mid (1 + 2 * edges_in_all (drop (k + 1) nodes)) = record {
+        settings = so_far.partly.grows.settings;
+        longer = so_far.partly.grows.longer;
+        states = omega (arith, so_far.states);
+        bytes = omega (arith, so_far.bytes);
+      } in
+      quits_later (1 + 2 * bytes_in strings) spent r (omega (arith, edges_now, edges_left nodes k, so_far.trie.room))
+
+  module _ (id : ℕ) (adds : AddsNode mid new names end items id) (names2 : List ℕ) (names_are : names2 ≡ set names k id) where
+    grown : length mid.parts ≤ length new.parts
+    grown = adds.grows.longer
+
+    id_there : IsThere old new id
+    id_there = let a = so_far.end_is in let b = so_far.longer in let g = grown in
+        ⊎_elim (λ (e : id ≡ end). (omega arith, omega arith)) (λ (n : (length mid.parts ≤ id) × (id < length new.parts)). let l = n.0 in (omega arith, n.1)) adds.there
+
+    older : (table : Table) → HasOthers old new table → HasOthers old mid table
+    older table has q l h = has q l (omega (arith, grown)) ∙ adds.grows.same q h
+
+    added_have : (table : Table) → HasOthers old new table → (q : ℕ) → length mid.parts ≤ q → q < length new.parts → table q ≡ part_at new.parts q
+    added_have table has q l h = has q (omega (arith, so_far.longer)) h
+
+    own : (table : Table) → HasOthers old new table → Denotes old.reverse table id end (literals old.reverse (get_or so_far.trie.groups k []))
+    own table has =
+        let P : Bool → Type 0 = λ back. (x : ℕ → Tree) → IsLed back table end (k + 1) names x → Denotes back table id end (alternation (item_trees back names x items)) in
+        let chunks : AreChunks (k + 1) (length names) items = are_wider (k + 1) (length so_far.trie.groups) (k + 1) (length names) items node.chunks (omega arith) (omega (arith, so_far.names_long, so_far.trie.as_many)) in
+        let all = subst P back_same (adds.denotes table (added_have table has) (k + 1) chunks) in
+        denotes_node old.reverse table id end names so_far.trie.groups items (get_or so_far.trie.groups k []) node.like
+        (all (node_tree old.reverse so_far.trie.groups) (λ n l h. so_far.denotes table (older table has) n l (omega (arith, so_far.names_long))))
+
+    pub node_compiled : TrieTo old new end nodes strings names2 k
+    node_compiled =
+        let g = grown in
+        record {
+          trie = so_far.trie;
+          within = omega arith;
+          end_is = so_far.end_is;
+          partly = partly_joined so_far.partly (record { grows = adds.grows; tame = adds.tame });
+          groups = adds.groups ∙ so_far.groups;
+          here = adds.grows.same end end_below ∙ so_far.here;
+          longer = omega (arith, so_far.longer, grown);
+          states = omega (arith, so_far.states, adds.states, edges_now);
+          bytes = omega (arith, so_far.bytes, adds.bytes);
+          numbered = adds.numbered so_far.numbered;
+          stands = λ q l h. ⊎_elim
+              (λ (b : q < length mid.parts). ap stands_for (adds.grows.same q b) ∙ so_far.stands q l b)
+              (λ (b : length mid.parts ≤ q). adds.stands q b h)
+              (cases_lt q (length mid.parts));
+          names_long = ap length names_are ∙ length-set names k id ∙ so_far.names_long;
+          names_there =
+              let P : List ℕ → Type 0 = All (IsThere old new) in
+              subst P (sym names_are) (set_there (IsThere old new) names k id (All-weaker (IsThere old mid) (IsThere old new) (λ q t. let h = t.1 in (t.0, omega arith)) names so_far.names_there) id_there);
+          denotes = λ table has n l h.
+              let P : List ℕ → Type 0 = λ ns. Denotes old.reverse table (get_or ns n 0) end (literals old.reverse (get_or so_far.trie.groups n [])) in
+              let Q : ℕ → Type 0 = λ q. Denotes old.reverse table q end (literals old.reverse (get_or so_far.trie.groups n [])) in
+              subst P (sym names_are) (⊎_elim
+              (λ (e : n ≡ k).
+              let R : ℕ → Type 0 = λ m. Denotes old.reverse table (get_or (set names k id) m 0) end (literals old.reverse (get_or so_far.trie.groups m [])) in
+              let S : ℕ → Type 0 = λ q. Denotes old.reverse table q end (literals old.reverse (get_or so_far.trie.groups k [])) in
+              subst R (sym e) (subst S (sym (get_or-set_same names k id 0 (omega (arith, so_far.names_long, less)))) (own table has)))
+              (λ (ne : n ≡ k → ⊥). subst Q (sym (get_or-set_other names k n id 0 ne)) (so_far.denotes table (older table has) n (omega arith) h))
+              (cases_eq n k));
+        }
+
+module _ (old mid : Assembly) (end : ℕ) (nodes : List (List (List Edge))) (strings : List (List ℕ)) (names : List ℕ) (all : TrieTo old mid end nodes strings names 0) (start : ℕ) (start_is : get_or names 0 0 ≡ start) where
+  start_there : IsThere old mid start
+  start_there = let P : ℕ → Type 0 = IsThere old mid in subst P start_is (all.names_there 0 0 (omega (arith, all.names_long, all.trie.some)))
+
+  progress : Progress old mid (1 + 2 * edges_in_all nodes) 8
+  progress = record { partly = all.partly; states = omega (arith, all.states); bytes = all.bytes; numbered = all.numbered }
+
+  ends_on : (table : Table) (target : ℕ) → Finished (length old.parts) mid.parts end target table → table end ≡ empty_part target
+  ends_on table target fin = fin.led ∙ ap (patched target) all.here
+
+  pub trie_made : Makes old mid start end (1 + 2 * bytes_in strings)
+  trie_made =
+      let e = all.end_is in let l = all.longer in
+      made (1 + 2 * bytes_in strings) progress (omega arith) (omega (arith, all.trie.room)) start_there.0 start_there.1 (omega arith) (omega arith) (ap is_sparse all.here)
+      (λ table target fin q low high.
+      ⊎_elim
+      (λ (same : q ≡ end). let P : ℕ → Type 0 = λ n. ComesOut table target n in subst P (sym same) (out_next table target end target (ap stands_for (ends_on table target fin)) (out_at table target)))
+      (λ (ne : q ≡ end → ⊥). out_here table target q (ap stands_for (fin.states q low high ne) ∙ all.stands q (omega arith) high))
+      (cases_eq q end))
+
+  pub trie_does : Does old mid start end (literals old.reverse strings)
+  trie_does = record {
+    denotes = λ table target fin.
+        let P : ℕ → Type 0 = λ s. Denotes old.reverse table s end (literals old.reverse strings) in
+        let Q : List (List ℕ) → Type 0 = λ ws. Denotes old.reverse table (get_or names 0 0) end (literals old.reverse ws) in
+        let has : HasOthers old mid table = λ q l h. fin.states q (omega arith) h (λ (same : q ≡ end). omega (arith, all.end_is)) in
+        denotes_then_empty old.reverse table start end target (literals old.reverse strings)
+        (subst P start_is (subst Q all.trie.root (all.denotes table has 0 (omega arith) (omega (arith, all.trie.some)))))
+        (denotes_empty old.reverse table end target (ends_on table target fin));
+  }
+
+-- the node whose turn it is, in a list of rows
+module _ {V : Type 0} (items_of : V → List (List Edge)) (rows : List V) (old mid : Assembly) (end : ℕ) (strings : List (List ℕ)) (names now : List ℕ) (m k : ℕ) (so_far : TrieTo old mid end (map items_of rows) strings names m) (some : 1 ≤ m)
+    (turn : k ≡ m - 1) (v : V) (got : v ≡ get_or rows k v) (row : List (List Edge)) (row_is : row ≡ items_of v) (now_is : now ≡ names) where
+  next : TrieTo old mid end (map items_of rows) strings names (k + 1)
+  next = let P : ℕ → Type 0 = λ n. TrieTo old mid end (map items_of rows) strings names n in let e : m ≡ k + 1 = omega arith in subst P e so_far
+
+  less : k < length (map items_of rows)
+  less = let w = so_far.within in omega arith
+
+  here : get_or (map items_of rows) k [] ≡ row
+  here = get_or-map items_of rows k v [] (omega (arith, less, length-map rows items_of)) ∙ ap items_of (sym got) ∙ sym row_is
+
+  pub turn_some : 1 ≤ length row
+  turn_some = node_some old mid old end (map items_of rows) strings names k next less row here
+
+  pub turn_few : length row ≤ 2 * chunks_in row + 1
+  turn_few = node_few old mid old end (map items_of rows) strings names k next less row here
+
+  pub turn_chunks : AreChunks 0 (length now) row
+  turn_chunks =
+      let P : List ℕ → Type 0 = λ ns. AreChunks 0 (length ns) row in
+      subst P (sym now_is) (node_chunks old mid old end (map items_of rows) strings names k next less row here)
+
+  pub turn_names : All (λ q. q < length mid.parts) now
+  turn_names =
+      let P : List ℕ → Type 0 = All (λ q. q < length mid.parts) in
+      subst P (sym now_is) (names_below old mid old end (map items_of rows) strings names k next less row here)
+
+  pub turn_end : end < length mid.parts
+  turn_end = end_below old mid old end (map items_of rows) strings names k next less row here
+
+  pub turn_refused : (new : Assembly) (e : BuildError) → Quits mid new (2 * edges_in row) e → Quits old new (1 + 2 * bytes_in strings) e
+  turn_refused new e r = node_refused old mid new end (map items_of rows) strings names k next less row here e r
+
+  pub turn_compiled : (new : Assembly) (id : ℕ) → AddsNode mid new now end row id → TrieTo old new end (map items_of rows) strings (set names k id) k
+  turn_compiled new id adds =
+      let P : List ℕ → Type 0 = λ ns. AddsNode mid new ns end row id in
+      node_compiled old mid new end (map items_of rows) strings names k next less row here id (subst P now_is adds) (set names k id) refl
+
+-- all nodes are compiled
+module _ (old mid : Assembly) (end : ℕ) (nodes : List (List (List Edge))) (strings : List (List ℕ)) (names : List ℕ) (k : ℕ) (so_far : TrieTo old mid end nodes strings names k) (none : k ≤ 0) (start : ℕ) (start_is : start ≡ get_or names 0 start) where
+  all_nodes : TrieTo old mid end nodes strings names 0
+  all_nodes = let P : ℕ → Type 0 = λ n. TrieTo old mid end nodes strings names n in let e : k ≡ 0 = omega arith in subst P e so_far
+
+  first_name : (xs : List ℕ) → 1 ≤ length xs → start ≡ get_or xs 0 start → get_or xs 0 0 ≡ start
+  first_name [] l e = absurd (omega arith)
+  first_name (x ∷ xs) l e = sym e
+
+  first_is : get_or names 0 0 ≡ start
+  first_is = first_name names (omega (arith, so_far.names_long, so_far.trie.some)) start_is
+
+  pub all_made : Makes old mid start end (1 + 2 * bytes_in strings)
+  all_made = trie_made old mid end nodes strings names all_nodes start first_is
+
+  pub all_does : Does old mid start end (literals old.reverse strings)
+  all_does = trie_does old mid end nodes strings names all_nodes start first_is
