@@ -86,6 +86,7 @@ pub mod TriePathLemmas
 pub mod ShrunkLemmas
 pub mod LiteralGroupLemmas
 pub mod LiteralNodeLemmas
+pub mod LiteralPartLemmas
 pub mod LiteralStateLemmas
 pub mod LiteralTreeLemmas
 pub mod LiteralTrieLemmas

@@ -64,3 +64,8 @@ pub record AddsNode (old new : Assembly) (names : List ℕ) (end : ℕ) (items :
   pub there : (id ≡ end) ⊎ ((length old.parts ≤ id) × (id < length new.parts))
   pub denotes : (table : Table) → ((q : ℕ) → length old.parts ≤ q → q < length new.parts → table q ≡ part_at new.parts q) → (first : ℕ) → AreChunks first (length names) items → (x : ℕ → Tree) →
       IsLed old.reverse table end first names x → Denotes old.reverse table id end (alternation (item_trees old.reverse names x items))
+
+-- what contracts see of a trie of literals: the strings in which they are read, in order of preference
+pub record Strings : Type 0 where
+  pub reverse : Bool  -- whether a literal is read from its last byte on
+  pub strings : List (List ℕ)

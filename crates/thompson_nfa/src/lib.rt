@@ -17,6 +17,7 @@ mod literal_groups;
 mod literal_nodes;
 mod literal_states;
 mod literal_trie;
+mod literals;
 mod parts;
 mod patterns;
 mod prefix;

@@ -1,9 +1,8 @@
-//! A trie of strings as a fragment: its nodes are compiled from the last to the first.
-ghost use Rattle.std.specs.Prelude.{◌≡◌, ◌≤◌, ◌<◌, ◌+◌, ◌*◌, ◌++◌, [], ◌∷◌, length, map, All, IfOk, IfErr, MatchResult};
-ghost use Rattle.nfa_core.specs.BuilderStates.{sparse_part, union_part};
+//! A trie of literals as a fragment: its nodes are compiled from the last to the first.
+ghost use Rattle.std.specs.Prelude.{◌≡◌, ◌≤◌, ◌+◌, ◌*◌, ◌++◌, [], ◌∷◌, true, false, length, All, IfOk, IfErr, OnOk, OnErr};
 ghost use Rattle.thompson_nfa.specs.Compiled.{Makes, Does};
 ghost use Rattle.thompson_nfa.specs.LiteralGroups.{texts, bytes_in};
-ghost use Rattle.thompson_nfa.specs.LiteralStates.{literals};
+ghost use Rattle.thompson_nfa.specs.LiteralStates.{literals, spelt};
 ghost use Rattle.thompson_nfa.specs.Refusals.{Quits};
 
 use crate::fragment::Fragment;
@@ -13,6 +12,7 @@ use crate::parts::add_empty;
 use nfa_core::{BuildError, Builder};
 use search_core::StateID;
 use std::alloc::{AllocError, Global};
+use std::marker::Model;
 
 /// The same name for each of so many nodes.
 fn same_names(alloc: Global, id: StateID, len: usize) -> Result<Vec<StateID>, AllocError>
@@ -49,4 +49,94 @@ fn compile_strings(
         start: names[0],
         end,
     })
+}
+
+/// Literals in order of preference, which share the states of what they begin with, in the order in which they
+/// are read. A contract sees the strings that are read, in that order.
+///
+/// As `regex_automata::nfa::thompson::literal_trie::LiteralTrie`.
+#[derive(Drop)]
+pub(crate) struct LiteralTrie {
+    reverse: bool,
+    strings: Vec<Vec<u8>>,
+}
+
+impl Model for LiteralTrie {
+    ghost use Rattle.std.specs.Prelude.{map};
+    ghost use Rattle.thompson_nfa.specs.LiteralStates.{Strings};
+
+    ghost Value = { Strings };
+
+    ghost view = { λ t. record { reverse = t.reverse; strings = map (λ v. v.items) t.strings.items } };
+}
+
+/// The bytes in the order in which they are read.
+fn in_order(alloc: Global, reverse: bool, literal: &[u8]) -> Result<Vec<u8>, AllocError>
+    ensures { IfOk result (λ v. v.items ≡ spelt reverse literal.now) }
+{
+    let mut string = Vec::new(alloc);
+    string.extend_from_slice(literal)?;
+    if reverse {
+        string.reverse();
+    }
+    Ok(string)
+}
+
+impl LiteralTrie {
+    /// A trie without literals, which are read from the first byte on.
+    pub(crate) fn forward(alloc: Global) -> LiteralTrie
+        ensures { result ≡ record { reverse = false; strings = [] } }
+    {
+        LiteralTrie {
+            reverse: false,
+            strings: Vec::new(alloc),
+        }
+    }
+
+    /// A trie without literals, which are read from the last byte on.
+    pub(crate) fn reverse(alloc: Global) -> LiteralTrie
+        ensures { result ≡ record { reverse = true; strings = [] } }
+    {
+        LiteralTrie {
+            reverse: true,
+            strings: Vec::new(alloc),
+        }
+    }
+
+    /// Adds a literal, behind those that are there.
+    pub(crate) fn add(&mut self, alloc: Global, literal: &[u8]) -> Result<(), AllocError>
+        ensures ok { OnOk result (self.new ≡ record self.old { strings = self.old.strings ++ spelt self.old.reverse literal.now ∷ [] }) }
+        ensures err { OnErr result (self.new ≡ self.old) }
+    {
+        let string = in_order(alloc, self.reverse, literal)?;
+        self.strings.push(string)?;
+        Ok(())
+    }
+
+    fn texts(&self, alloc: Global) -> Result<Vec<&[u8]>, AllocError>
+        ensures { IfOk result (λ v. texts v.items ≡ self.now.strings) }
+    {
+        let mut all = Vec::new(alloc);
+        for string in &self.strings {
+            all.push(string.as_slice())?;
+        }
+        Ok(all)
+    }
+
+    /// Compiles the trie.
+    pub(crate) fn compile(
+        &self,
+        builder: &mut Builder,
+        alloc: Global,
+    ) -> Result<Fragment, BuildError>
+        requires { 1 ≤ length self.now.strings }
+        ensures made { IfOk result (λ f. Makes builder.old builder.new f.start f.end (1 + 2 * bytes_in self.now.strings)) }
+        ensures denotes { IfOk result (λ f. Does builder.old builder.new f.start f.end (literals builder.old.reverse self.now.strings)) }
+        ensures groups { IfOk result (λ _. builder.new.groups ≡ builder.old.groups) }
+        ensures refused { IfErr result (λ e. Quits builder.old builder.new (1 + 2 * bytes_in self.now.strings) e) }
+    {
+        let strings = self.texts(alloc)?;
+        let all = compile_strings(builder, alloc, strings)?;
+        Ok(all)
+    }
 }

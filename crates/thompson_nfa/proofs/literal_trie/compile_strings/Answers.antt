@@ -12,14 +12,20 @@ loop-i-init c =
     c.in_ok-names.ensures.1 (omega (arith, c.len-i.ensures, length-map c.in_ok-laid.laid.items (λ n. map (λ x. x.items) n.items)))
 
 pub add_node-requires-clause-some : goal.add_node-requires-clause-some
-add_node-requires-clause-some c = omega (arith, length-map c.deref.result.now (λ x. x.items),
+add_node-requires-clause-some c = omega (
+  arith,
+  length-map c.deref.result.now (λ x. x.items),
   turn_some (λ n. map (λ x. x.items) n.items) c.in_ok-laid.laid.items _ _ c.in_ok-end.end (texts c.args.strings.items) c.loop-i.names.items c.deref-in-loop-i.result.now c.loop-i.i _ c.loop-i.invariant c.loop-i-test.true refl c.index.result.now
-      c.index.ensures (map (λ x. x.items) c.deref.result.now) (ap (map (λ x. x.items)) c.deref.ensures.value) c.deref-in-loop-i.ensures.value)
+      c.index.ensures (map (λ x. x.items) c.deref.result.now) (ap (map (λ x. x.items)) c.deref.ensures.value) c.deref-in-loop-i.ensures.value,
+)
 
 pub add_node-requires-clause-few : goal.add_node-requires-clause-few
-add_node-requires-clause-few c = omega (arith, length-map c.deref.result.now (λ x. x.items),
+add_node-requires-clause-few c = omega (
+  arith,
+  length-map c.deref.result.now (λ x. x.items),
   turn_few (λ n. map (λ x. x.items) n.items) c.in_ok-laid.laid.items _ _ c.in_ok-end.end (texts c.args.strings.items) c.loop-i.names.items c.deref-in-loop-i.result.now c.loop-i.i _ c.loop-i.invariant c.loop-i-test.true refl c.index.result.now
-      c.index.ensures (map (λ x. x.items) c.deref.result.now) (ap (map (λ x. x.items)) c.deref.ensures.value) c.deref-in-loop-i.ensures.value)
+      c.index.ensures (map (λ x. x.items) c.deref.result.now) (ap (map (λ x. x.items)) c.deref.ensures.value) c.deref-in-loop-i.ensures.value,
+)
 
 pub add_node-requires-clause-chunks : goal.add_node-requires-clause-chunks
 add_node-requires-clause-chunks c =

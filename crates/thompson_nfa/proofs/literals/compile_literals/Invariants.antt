@@ -1,5 +1,6 @@
-use Rattle.thompson_nfa.proofs.LiteralLemmas.{LiteralsTo}
+use Rattle.std.proofs.Common.{◌≡◌, take}
+use Rattle.thompson_nfa.specs.LiteralParts.{read_strings}
 use Rattle.thompson_nfa.proofs.literals.compile_literals.Given as goal
 
-abbrev pub invariant-loop-x : goal.invariant-loop-x
-invariant-loop-x l = LiteralsTo l.fn.builder l.builder l.choice l.end l.x-index l.subs
+abbrev pub invariant-loop-sub : goal.invariant-loop-sub
+invariant-loop-sub l = l.trie ≡ record { reverse = l.fn.builder.reverse; strings = read_strings l.fn.builder.reverse (take l.sub-index l.subs) }

@@ -1,0 +1,6 @@
+use Rattle.std.proofs.Common.{sym}
+use Rattle.thompson_nfa.proofs.LiteralPartLemmas.{other_node}
+use Rattle.thompson_nfa.proofs.literals.is_literal.Goals as goal
+
+pub returns-in_default : goal.returns-in_default
+returns-in_default c = sym (other_node c.kind.result.now c.args.x.now c.kind.ensures.is c.in_default.not-Literal)
