@@ -1,11 +1,17 @@
 -- Strings in groups: what one more edge adds.
-use Rattle.std.proofs.Common.{◌≡◌, ◌≢◌, ◌⊎◌, inl, inr, ℕ, zero, suc, ◌+◌, ◌<◌, ◌≤◌, min, Bool, true, false, List, [], ◌∷◌, ◌++◌, map, length, get_or, Option, Some, None, nat_eq, nat_le, if◌then◌else◌, refl, sym, ap, ◌∙◌, subst, arith, length-append, append_assoc, append-nil, ⊎_elim}
-use Rattle.std.proofs.lemmas.Bool.{leb-true, leb-false, cases_eq, cases_lt}
+use Rattle.std.proofs.Common.{◌≡◌, ℕ, zero, suc, ◌+◌, ◌<◌, ◌≤◌, min, Bool, true, false, List, [], ◌∷◌, ◌++◌, length, get_or, Option, Some, None, nat_eq, nat_le, if◌then◌else◌, refl, sym, ap, ◌∙◌, subst, arith, length-append, append_assoc, append-nil, ⊎_elim}
+use Rattle.std.proofs.lemmas.Bool.{cases_eq, cases_lt}
 use Rattle.std.proofs.lemmas.Grind.{common_steps}
 use Rattle.thompson_nfa.specs.declared.literal_groups.Edge.{Edge}
 use denote.Ref.{Bor}
 use Rattle.std.proofs.lemmas.List.{map-append, length-map}
-use Rattle.thompson_nfa.specs.LiteralGroups.{texts, groups_of, with_tail, tails, lesser, with_first, next_of, behind_byte, chunk_strings, Ascends, AreInside, bytes_in, bytes_in_all, bytes_from, AllSome, IsChunk, AddsGroups}
+use Rattle.thompson_nfa.specs.LiteralGroups.{texts, groups_of, with_tail, tails, lesser, with_first, next_of, behind_byte, chunk_strings, Ascends, AreInside, bytes_in, bytes_in_all, AllSome, IsChunk, AddsGroups}
+
+-- the bytes of those that begin with `low` or above
+abbrev pub bytes_from : ℕ → List (List ℕ) → ℕ
+bytes_from low [] = 0
+bytes_from low ([] ∷ ws) = bytes_from low ws
+bytes_from low ((a ∷ w) ∷ ws) = (if nat_le low a then suc (length w) else 0) + bytes_from low ws
 
 -- the edges so far are those for the bytes below `low`
 pub record Chunking (first : ℕ) (old new : List (List (List ℕ))) (low : ℕ) (edges : List Edge) (strings : List (List ℕ)) : Type 0 where
@@ -303,7 +309,7 @@ module _ (first : ℕ) (old new : List (List (List ℕ))) (low : ℕ) (edges : L
       same_tails = λ c. ⊎_elim (λ (l : c < low). so_far.below before len c l) (λ (l : low ≤ c). so_far.above before len c l ∙ sym (over c l)) (cases_lt c low);
     }
 
-    pub chunk_adds : AddsGroups first old new (length edges) strings
+    pub chunk_adds : AddsGroups old new (length edges) strings
     chunk_adds = record { added = so_far.added; is = so_far.is; one_each = so_far.one_each; some = so_far.some; room = omega (arith, so_far.room) }
 
 -- ---- groups that hold references

@@ -1,5 +1,5 @@
 -- The nodes of a trie of strings: what one more item adds to a node.
-use Rattle.std.proofs.Common.{◌≡◌, ◌⊎◌, inl, inr, ℕ, zero, suc, ◌+◌, ◌-◌, ◌*◌, ◌<◌, ◌≤◌, max, Bool, true, false, List, [], ◌∷◌, ◌++◌, map, length, take, drop, get_or, slice_get, Option, Some, None, nat_eq, ◌&&◌, ◌||◌, ◌==◌, if◌then◌else◌, refl, sym, ap, ◌∙◌, subst, arith, length-append, replicate, append_assoc, append-nil, drop-cons, drop_of_length-le, ⊎_elim}
+use Rattle.std.proofs.Common.{◌≡◌, inl, inr, ℕ, zero, suc, ◌+◌, ◌-◌, ◌*◌, ◌<◌, ◌≤◌, max, Bool, true, false, List, [], ◌∷◌, ◌++◌, length, take, drop, get_or, Option, Some, None, nat_eq, ◌&&◌, ◌||◌, ◌==◌, if◌then◌else◌, refl, sym, ap, ◌∙◌, subst, arith, length-append, replicate, append_assoc, append-nil, drop-cons, drop_of_length-le, ⊎_elim}
 use Rattle.std.proofs.lemmas.Bool.{cases_lt}
 use Rattle.std.proofs.lemmas.List.{length-replicate, map-append, get_or-map}
 use Rattle.std.proofs.lemmas.Grind.{common_steps}
@@ -9,7 +9,7 @@ use denote.Ref.{Bor}
 use Rattle.hir_core.specs.Means.{stands}
 use Rattle.nfa_core.specs.Walks.{has, join, distinct}
 use Rattle.thompson_nfa.specs.declared.literal_groups.Edge.{Edge}
-use Rattle.thompson_nfa.specs.LiteralGroups.{NoneEnds, IsTurn, texts, groups_of, tails, with_tail, run_of, behind_byte, chunk_strings, Ascends, AreInside, bytes_in, bytes_in_all, AllSome, IsChunk, AddsGroups}
+use Rattle.thompson_nfa.specs.LiteralGroups.{texts, groups_of, tails, run_of, behind_byte, chunk_strings, Ascends, AreInside, bytes_in, bytes_in_all, AllSome, IsChunk, AddsGroups}
 use Rattle.thompson_nfa.specs.LiteralTries.{ends_of, IsLike, item_strings, node_strings, edges_in, edges_in_all, chunks_in, AreChunks, IsNode, IsTrie}
 use Rattle.thompson_nfa.proofs.LiteralGroupLemmas.{group_count, all_some_append, chunk_kept, inside_wider, all_bytes_append}
 
@@ -20,6 +20,12 @@ ends_append [] vs h i = refl
 ends_append (w ∷ us) vs h i =
     let here : List ℕ = if stands h i w then (i + length w) ∷ [] else [] in
     ap (λ (l : List ℕ). here ++ l) (ends_append us vs h i) ∙ sym (append_assoc here (ends_of us h i) (ends_of vs h i))
+
+-- none of the strings is empty
+abbrev pub NoneEnds : List (List ℕ) → Type 0
+NoneEnds [] = Unit {0}
+NoneEnds ([] ∷ ws) = ⊥
+NoneEnds ((b ∷ w) ∷ ws) = NoneEnds ws
 
 pub none_end_append : (us vs : List (List ℕ)) → NoneEnds us → NoneEnds vs → NoneEnds (us ++ vs)
 none_end_append [] vs a b = b
@@ -175,6 +181,12 @@ one_at_most : (t : Bool) (n c : ℕ) → n ≤ 2 * c + (if t then 1 else 0) → 
 one_at_most true n c l = l
 one_at_most false n c l = omega arith
 
+-- The first string, where it is empty, or else the strings before the first that is; and the others.
+pub record IsTurn (all turn rest : List (List ℕ)) : Type 0 where
+  pub split : turn ++ rest ≡ all
+  pub ended : (ws : List (List ℕ)) → turn ≡ [] ∷ ws → ws ≡ []
+  pub none_ends : (b : ℕ) (w : List ℕ) (ws : List (List ℕ)) → turn ≡ (b ∷ w) ∷ ws → NoneEnds turn
+
 -- ---- one node
 
 -- the items so far, where `left` are the strings still to come, and whether the last item is a match
@@ -288,13 +300,13 @@ module _ (first : ℕ) (old new : List (List (List ℕ))) (items : List (List Ed
         few = one_at_most matched (length items) (chunks_in items) so_far.few;
       }
 
-  pub all_added : left ≡ [] → AddsGroups first old new (edges_in items) all
+  pub all_added : left ≡ [] → AddsGroups old new (edges_in items) all
   all_added none =
       let whole : so_far.met ≡ all = sym (append-nil so_far.met) ∙ ap (λ (l : List (List ℕ)). so_far.met ++ l) (sym none) ∙ so_far.split in
       record { added = so_far.added; is = so_far.is; one_each = so_far.one_each; some = so_far.some_added; room = omega (arith, so_far.room, ap bytes_in whole) }
 
   -- a run of strings that don't end here
-  chunk_pushed : (more : List (List (List ℕ))) (edges : List Edge) (run rest : List (List ℕ)) → left ≡ run ++ rest → NoneEnds run → 1 ≤ length run → AddsGroups first new more (length edges) run →
+  chunk_pushed : (more : List (List (List ℕ))) (edges : List Edge) (run rest : List (List ℕ)) → left ≡ run ++ rest → NoneEnds run → 1 ≤ length run → AddsGroups new more (length edges) run →
       ((before : List (List (List ℕ))) → length before ≡ first → IsChunk first (before ++ more) edges run) → Listing first old more (items ++ edges ∷ []) rest false all
   chunk_pushed more edges run rest e none some adds chunk =
       let long : length more ≡ length new + length adds.added = ap length adds.is ∙ length-append new adds.added in
@@ -326,7 +338,7 @@ module _ (first : ℕ) (old new : List (List (List ℕ))) (items : List (List Ed
       }
 
   pub chunk_next : (more : List (List (List ℕ))) (items2 : List (List Edge)) (edges : List Edge) (run rest : List (List ℕ)) → IsTurn left run rest → (b : ℕ) (w : List ℕ) → get_or run 0 [] ≡ b ∷ w → 1 ≤ length run →
-      items2 ≡ items ++ edges ∷ [] → AddsGroups first new more (length edges) run → ((before : List (List (List ℕ))) → length before ≡ first → IsChunk first (before ++ more) edges run) →
+      items2 ≡ items ++ edges ∷ [] → AddsGroups new more (length edges) run → ((before : List (List (List ℕ))) → length before ≡ first → IsChunk first (before ++ more) edges run) →
       Listing first old more items2 rest false all
   chunk_next more items2 edges run rest t b w here some is adds chunk =
       let P : List (List Edge) → Type 0 = λ xs. Listing first old more xs rest false all in
@@ -432,7 +444,7 @@ module _ (first : ℕ) (old new : List (List (List ℕ))) (items : List (List Ed
       match_here first old new items (texts rest) matched all so_far matched refl (texts (take n rest)) (texts (take m (drop n rest))) items2 turn (here ∙ no_text (get_or (take n rest) 0 d).now (grind (arith, common_steps, empty))) one is
 
   pub chunk_turn : (more : List (List (List ℕ))) (items2 : List (List Edge)) (edges : List Edge) → false ≡ (length (get_or (take n rest) 0 d).now == 0) → items2 ≡ items ++ edges ∷ [] →
-      AddsGroups first new more (length edges) (texts (take n rest)) → ((before : List (List (List ℕ))) → length before ≡ first → IsChunk first (before ++ more) edges (texts (take n rest))) →
+      AddsGroups new more (length edges) (texts (take n rest)) → ((before : List (List (List ℕ))) → length before ≡ first → IsChunk first (before ++ more) edges (texts (take n rest))) →
       Listing first old more items2 (texts (take m (drop n rest))) false all
   chunk_turn more items2 edges ne is adds chunk =
       let w = some_text (get_or (take n rest) 0 d).now (is_some (length (get_or (take n rest) 0 d).now) ne) in
@@ -511,7 +523,7 @@ waiting (g ∷ groups) fresh (suc k) l =
     subst P same (waiting groups fresh k (omega arith))
 
 module _ (nodes : List (List (List Edge))) (groups : List (List (List ℕ))) (strings : List (List ℕ)) (so_far : NodesTo nodes groups strings) (k : ℕ) (at : k ≡ length nodes) (less : k < length groups)
-    (fresh : List (List (List ℕ))) (items : List (List Edge)) (adds : AddsGroups (length groups) [] fresh (edges_in items) (get_or groups k [])) (node : IsNode (length groups) (groups ++ fresh) items (get_or groups k [])) where
+    (fresh : List (List (List ℕ))) (items : List (List Edge)) (adds : AddsGroups [] fresh (edges_in items) (get_or groups k [])) (node : IsNode (length groups) (groups ++ fresh) items (get_or groups k [])) where
   fresh_count : length fresh ≡ edges_in items
   fresh_count = omega (arith, ap length adds.is, adds.one_each)
 
@@ -569,7 +581,7 @@ all_nodes nodes groups strings all past = let w = all.within in let s = all.some
 -- the group at the place is taken, and others are added
 module _ {V : Type 0} (items_of : V → List (Bor (List ℕ))) (nodes nodes2 : List (List (List Edge))) (groups fresh groups2 : List V) (strings : List (List ℕ)) (so_far : NodesTo nodes (groups_of items_of groups) strings)
     (k n : ℕ) (less : k < length groups) (at : k ≡ length nodes) (is_n : n ≡ length groups) (g : V) (row : List (Bor (List ℕ))) (got : g ≡ get_or groups k g) (is_row : row ≡ items_of g) (none : List V) (is_none : none ≡ []) (items : List (List Edge))
-    (adds : AddsGroups n (groups_of items_of none) (groups_of items_of fresh) (edges_in items) (texts row))
+    (adds : AddsGroups (groups_of items_of none) (groups_of items_of fresh) (edges_in items) (texts row))
     (node : (before : List (List (List ℕ))) → length before ≡ n → IsNode n (before ++ groups_of items_of fresh) items (texts row)) (e1 : nodes2 ≡ nodes ++ items ∷ []) (e2 : groups2 ≡ groups ++ fresh) where
   abbrev pub gs : List (List (List ℕ))
   gs = groups_of items_of groups
@@ -586,7 +598,7 @@ module _ {V : Type 0} (items_of : V → List (Bor (List ℕ))) (nodes nodes2 : L
       let Q : List (List ℕ) → Type 0 = λ ws. IsNode n (gs ++ groups_of items_of fresh) items ws in
       subst P (sym count) (subst Q text_is (node gs count))
 
-  adds_here : AddsGroups (length gs) [] (groups_of items_of fresh) (edges_in items) (get_or gs k [])
+  adds_here : AddsGroups [] (groups_of items_of fresh) (edges_in items) (get_or gs k [])
   adds_here = record {
     added = adds.added;
     is = adds.is ∙ ap (λ (vs : List V). groups_of items_of vs ++ adds.added) is_none;

@@ -1,26 +1,25 @@
 -- The states of a trie's nodes: what the items of a node add.
-use Rattle.std.proofs.Common.{◌≡◌, ◌≢◌, ◌⊎◌, inl, inr, ℕ, zero, suc, ◌+◌, ◌*◌, ◌<◌, ◌≤◌, Bool, true, false, List, [], ◌∷◌, ◌++◌, map, length, take, drop, get_or, None, Some, refl, sym, ap, ◌∙◌, subst, arith, length-append, append-nil, ⊎_elim}
+use Rattle.std.proofs.Common.{◌≡◌, ◌⊎◌, inl, inr, ℕ, zero, suc, ◌+◌, ◌*◌, ◌<◌, ◌≤◌, Bool, List, [], ◌∷◌, ◌++◌, map, length, take, drop, get_or, None, refl, sym, ap, ◌∙◌, subst, arith, length-append, ⊎_elim}
 use Rattle.std.specs.Prelude.{All}
-use Rattle.std.proofs.lemmas.Bool.{cases_lt, cases_eq}
+use Rattle.std.proofs.lemmas.Bool.{cases_lt}
 use Rattle.std.proofs.lemmas.List.{take_more, take_all, length-map, get_or-map}
 use Rattle.std.proofs.lemmas.List.Elements.{All-push, All-weaker}
 use Rattle.thompson_nfa.proofs.LiteralNodeLemmas.{chunks_append, edges_append}
 use Rattle.search_core.specs.Index.{greatest_index}
 use Rattle.hir_core.specs.Tree.{Tree, empty, alternation}
-use Rattle.nfa_core.specs.BuilderStates.{Part, Assembly, AscendsFrom, part_at, part_bytes, sparse_part, union_part, is_sparse}
-use Rattle.nfa_core.specs.CanBuild.{names_of, is_known}
+use Rattle.nfa_core.specs.BuilderStates.{Part, Assembly, AscendsFrom, part_at, part_bytes, sparse_part, union_part}
+use Rattle.nfa_core.specs.CanBuild.{names_of}
 use Rattle.nfa_core.specs.Drafted.{Table}
 use Rattle.nfa_core.specs.Renaming.{stands_for}
 use Rattle.nfa_core.specs.declared.build_error.BuildError.{BuildError}
-use Rattle.nfa_core.specs.declared.build_error.BuildError.TheVariants as error
 use Rattle.thompson_nfa.specs.Added.{Added}
-use Rattle.thompson_nfa.specs.Compiled.{Grows, IsTame, AllTame, sum_of_bytes}
+use Rattle.thompson_nfa.specs.Compiled.{Grows, IsTame, sum_of_bytes}
 use Rattle.thompson_nfa.specs.Denotes.{Denotes}
 use Rattle.thompson_nfa.specs.LiteralGroups.{Ascends, AreInside}
 use Rattle.thompson_nfa.specs.LiteralTries.{edges_in, chunks_in, AreChunks}
 use Rattle.thompson_nfa.specs.LiteralStates.{edge_ranges, AddsItem, AddsNode, edge_trees, item_tree, item_trees, IsLed}
 use Rattle.thompson_nfa.specs.Refusals.{Stays, Quits}
-use Rattle.thompson_nfa.specs.Shared.{branch_trees, LeadAll}
+use Rattle.thompson_nfa.specs.Shared.{LeadAll}
 use Rattle.thompson_nfa.specs.declared.literal_groups.Edge.{Edge}
 use Rattle.thompson_nfa.proofs.AheadLemmas.{denotes_alternation_one}
 use Rattle.thompson_nfa.proofs.CaseLemmas.{AllDenote, none_denote, more_denote, all_denote_push, denotes_alternation}
@@ -280,10 +279,6 @@ item_refused old mid new names end all items others item ways e so_far is some r
       cause = step_later old mid 1 2072 m m e (ap (λ (b : Assembly). b.size_limit) so_far.partly.grows.settings) (omega (arith, so_far.states, chunks_edges items, edges))
           (omega (arith, so_far.bytes, so_far.states, chunks_edges items, edges)) (omega arith) r.cause;
     }
-
--- memory lacks
-pub items_lack : (old mid : Assembly) (names : List ℕ) (end n : ℕ) (items : List (List Edge)) (ways : List ℕ) → ItemsTo old mid names end items ways → Quits old mid n error.NoMemory
-items_lack old mid names end n items ways so_far = record { settings = so_far.partly.grows.settings; cause = tt }
 
 -- ---- places in the list of items
 

@@ -1,14 +1,13 @@
 -- What the items of a node mean: the strings of the node.
-use Rattle.std.proofs.Common.{◌≡◌, ◌⊎◌, inl, inr, ℕ, zero, suc, ◌+◌, ◌<◌, ◌≤◌, Bool, true, false, List, [], ◌∷◌, ◌++◌, map, length, take, drop, get_or, slice_get, Option, Some, None, nat_eq, ◌&&◌, if◌then◌else◌, reverse, refl, sym, ap, ◌∙◌, subst, arith, append_assoc, append-nil, ⊎_elim}
-use Rattle.std.specs.List.{flat_map, starts_with}
-use Rattle.std.proofs.lemmas.Bool.{cases_Bool}
+use Rattle.std.proofs.Common.{◌≡◌, ◌⊎◌, inl, inr, ℕ, ◌+◌, Bool, true, false, List, [], ◌∷◌, ◌++◌, map, length, get_or, nat_eq, ◌&&◌, if◌then◌else◌, reverse, refl, sym, ap, ◌∙◌, subst, arith, append_assoc, append-nil}
+use Rattle.std.specs.List.{flat_map}
 use Rattle.std.proofs.lemmas.Grind.{common_steps, flat_map-append}
 use Rattle.std.proofs.lemmas.List.{map-append, reverse-append}
 use Rattle.hir_core.specs.BySequences.{range_tree}
 use Rattle.hir_core.specs.Facts.{LoopsRead}
 use Rattle.hir_core.specs.Means.{Looks, Means, stands}
 use Rattle.hir_core.specs.PreferredEnds.{preferred_ends, Has as HasEnd}
-use Rattle.hir_core.specs.Tree.{Tree, empty, literal, cat, alternation}
+use Rattle.hir_core.specs.Tree.{Tree, empty, literal, alternation}
 use Rattle.hir_core.proofs.HasLemmas.{Has-left, Has-right, Has-append, Has-if, Has-then, flat_map_same}
 use Rattle.nfa_core.specs.Drafted.{Table}
 use Rattle.nfa_core.specs.Walks.{Has, distinct}
@@ -18,7 +17,7 @@ use Rattle.nfa_core.proofs.MemberLemmas.{none_in, has_cons, has_same, has_later}
 use Rattle.nfa_core.proofs.PairLemmas.{names_equal}
 use Rattle.thompson_nfa.specs.Denotes.{seen, IsMeant, Orders, Denotes}
 use Rattle.thompson_nfa.specs.LiteralGroups.{behind_byte, chunk_strings}
-use Rattle.thompson_nfa.specs.LiteralStates.{spelt, spelt_literal, literals, edge_ranges, edge_trees, item_tree, item_trees}
+use Rattle.thompson_nfa.specs.LiteralStates.{spelt_literal, literals, edge_ranges, edge_trees, item_tree, item_trees}
 use Rattle.thompson_nfa.specs.LiteralTries.{ends_of, IsLike, item_strings, node_strings}
 use Rattle.thompson_nfa.specs.Shared.{read_then, branch_trees}
 use Rattle.thompson_nfa.specs.declared.literal_groups.Edge.{Edge}

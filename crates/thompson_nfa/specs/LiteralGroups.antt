@@ -1,5 +1,5 @@
 -- Strings of bytes in groups, by the bytes with which they begin.
-use Rattle.std.specs.Prelude.{◌≡◌, ℕ, zero, suc, ◌+◌, ◌<◌, ◌≤◌, min, List, [], ◌∷◌, ◌++◌, map, length, get_or, Option, Some, None, nat_eq, nat_le, if◌then◌else◌}
+use Rattle.std.specs.Prelude.{◌≡◌, ℕ, suc, ◌+◌, ◌<◌, ◌≤◌, min, List, [], ◌∷◌, ◌++◌, map, length, get_or, Option, Some, None, nat_eq, nat_le, if◌then◌else◌}
 use denote.Ref.{Bor}
 use Rattle.thompson_nfa.specs.declared.literal_groups.Edge.{Edge}
 
@@ -70,12 +70,6 @@ abbrev pub bytes_in_all : List (List (List ℕ)) → ℕ
 bytes_in_all [] = 0
 bytes_in_all (g ∷ gs) = bytes_in g + bytes_in_all gs
 
--- the bytes of those that begin with `low` or above
-abbrev pub bytes_from : ℕ → List (List ℕ) → ℕ
-bytes_from low [] = 0
-bytes_from low ([] ∷ ws) = bytes_from low ws
-bytes_from low ((a ∷ w) ∷ ws) = (if nat_le low a then suc (length w) else 0) + bytes_from low ws
-
 -- Edges to groups with numbers from `first` on, which have the strings that begin with a byte.
 pub record IsChunk (first : ℕ) (groups : List (List (List ℕ))) (edges : List Edge) (strings : List (List ℕ)) : Type 0 where
   pub ascends : Ascends 0 edges 256
@@ -88,21 +82,9 @@ AllSome [] = Unit {0}
 AllSome (g ∷ gs) = (1 ≤ length g) × AllSome gs
 
 -- Groups were added, one for each edge, whose strings are shorter by a byte each.
-pub record AddsGroups (first : ℕ) (old new : List (List (List ℕ))) (edges : ℕ) (strings : List (List ℕ)) : Type 0 where
+pub record AddsGroups (old new : List (List (List ℕ))) (edges : ℕ) (strings : List (List ℕ)) : Type 0 where
   pub added : List (List (List ℕ))
   pub is : new ≡ old ++ added
   pub one_each : length added ≡ edges
   pub some : AllSome added
   pub room : length new + bytes_in_all new ≤ length old + bytes_in_all old + bytes_in strings
-
--- none of the strings is empty
-abbrev pub NoneEnds : List (List ℕ) → Type 0
-NoneEnds [] = Unit {0}
-NoneEnds ([] ∷ ws) = ⊥
-NoneEnds ((b ∷ w) ∷ ws) = NoneEnds ws
-
--- The first string, where it is empty, or else the strings before the first that is; and the others.
-pub record IsTurn (all turn rest : List (List ℕ)) : Type 0 where
-  pub split : turn ++ rest ≡ all
-  pub ended : (ws : List (List ℕ)) → turn ≡ [] ∷ ws → ws ≡ []
-  pub none_ends : (b : ℕ) (w : List ℕ) (ws : List (List ℕ)) → turn ≡ (b ∷ w) ∷ ws → NoneEnds turn

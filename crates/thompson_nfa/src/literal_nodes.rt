@@ -28,7 +28,7 @@ fn items<'a>(
 ) -> Result<Vec<Vec<Edge>>, AllocError>
     requires few { first ≤ 9223372036854775807 }
     requires some { 1 ≤ length strings.now }
-    ensures adds { IfOk result (λ v. AddsGroups first (groups_of (λ g. g.items) groups.old.items) (groups_of (λ g. g.items) groups.new.items) (edges_in (map (λ x. x.items) v.items)) (texts strings.now)) }
+    ensures adds { IfOk result (λ v. AddsGroups (groups_of (λ g. g.items) groups.old.items) (groups_of (λ g. g.items) groups.new.items) (edges_in (map (λ x. x.items) v.items)) (texts strings.now)) }
     ensures node { IfOk result (λ v. (before : List (List (List ℕ))) → length before ≡ first → IsNode first (before ++ groups_of (λ g. g.items) groups.new.items) (map (λ x. x.items) v.items) (texts strings.now)) }
 {
     let mut items = Vec::new(alloc);

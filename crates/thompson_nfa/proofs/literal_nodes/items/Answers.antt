@@ -1,6 +1,6 @@
-use Rattle.std.proofs.Common.{◌≡◌, ◌+◌, ◌-◌, arith, ap, ◌∙◌, sym, length, map, refl}
+use Rattle.std.proofs.Common.{arith, ap, ◌∙◌, map, refl}
 use Rattle.std.proofs.lemmas.List.{map-append}
-use Rattle.thompson_nfa.specs.LiteralGroups.{texts, groups_of}
+use Rattle.thompson_nfa.specs.LiteralGroups.{texts}
 use Rattle.thompson_nfa.proofs.LiteralNodeLemmas.{no_item, match_turn, chunk_turn}
 use Rattle.thompson_nfa.proofs.literal_nodes.items.Goals as goal
 

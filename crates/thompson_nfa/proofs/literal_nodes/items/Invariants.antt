@@ -1,4 +1,4 @@
-use Rattle.std.proofs.Common.{◌≡◌, ◌+◌, length, map}
+use Rattle.std.proofs.Common.{length, map}
 use Rattle.thompson_nfa.specs.LiteralGroups.{texts, groups_of}
 use Rattle.thompson_nfa.proofs.LiteralNodeLemmas.{Listing}
 use Rattle.thompson_nfa.proofs.literal_nodes.items.Given as goal

@@ -1,6 +1,6 @@
-use Rattle.std.proofs.Common.{◌≡◌, ap, ◌∙◌, sym, length, map, arith, ℕ}
+use Rattle.std.proofs.Common.{ap, ◌∙◌, map, arith}
 use Rattle.std.proofs.lemmas.List.{map-append, length-map}
-use Rattle.thompson_nfa.specs.LiteralGroups.{texts, groups_of}
+use Rattle.thompson_nfa.specs.LiteralGroups.{texts}
 use Rattle.thompson_nfa.proofs.LiteralNodeLemmas.{taken_next, taken_less, some_here}
 use Rattle.thompson_nfa.proofs.literal_nodes.nodes.Goals as goal
 

@@ -1,6 +1,4 @@
-use Rattle.std.proofs.Common.{◌≡◌, ap, ◌∙◌, sym, refl, length, map, arith, ℕ, subst}
-use Rattle.std.proofs.lemmas.List.{length-map}
-use Rattle.thompson_nfa.specs.LiteralStates.{AddsNode}
+use Rattle.std.proofs.Common.{refl, length, arith}
 use Rattle.thompson_nfa.proofs.ErrorLemmas.{handed}
 use Rattle.thompson_nfa.proofs.LiteralStateLemmas.{no_items, row_chunk, row_added, row_refused, rows_one, rows_union, rows_refused}
 use Rattle.thompson_nfa.proofs.literal_states.add_node.Goals as goal
