@@ -15,7 +15,7 @@ use Rattle.thompson_nfa.specs.Added.{Added}
 use Rattle.thompson_nfa.specs.Branches.{AddsBranch}
 use Rattle.thompson_nfa.specs.Choice.{no_choice}
 use Rattle.thompson_nfa.specs.Compiled.{Makes, Does}
-use Rattle.thompson_nfa.specs.Literals.{is_literal, are_literals}
+use Rattle.thompson_nfa.specs.LiteralParts.{is_literal, are_literals}
 use Rattle.thompson_nfa.specs.NotedGroups.{noted}
 use Rattle.thompson_nfa.specs.Refusals.{Quits, Refuses, Stays}
 use Rattle.thompson_nfa.specs.Room.{room}

@@ -22,7 +22,6 @@ pub mod RangeCovers
 pub mod TrieSteps
 pub mod ScalarCounts
 pub mod Room
-pub mod Literals
 pub mod AsciiClasses
 pub mod SharedSuffixes
 pub mod Shared

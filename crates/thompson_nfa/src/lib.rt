@@ -12,7 +12,6 @@ mod fnv;
 mod fragment;
 mod how;
 mod leaves;
-mod literals;
 mod literal_groups;
 mod literal_nodes;
 mod literal_states;
