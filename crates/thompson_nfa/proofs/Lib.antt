@@ -90,3 +90,5 @@ pub mod LiteralPartLemmas
 pub mod LiteralStateLemmas
 pub mod LiteralTreeLemmas
 pub mod LiteralTrieLemmas
+pub mod PieceLemmas
+pub mod FollowLemmas

@@ -1,30 +1,27 @@
 -- A class that is compiled sequence by sequence: what its states do for the table, and what is read along the path.
-use Rattle.std.proofs.Common.{◌≡◌, ℕ, zero, suc, ◌+◌, ◌*◌, ◌<◌, ◌≤◌, ◌⊎◌, inl, inr, Bool, List, [], ◌∷◌, ◌++◌, map, length, get_or, drop, None, refl, sym, ap, ◌∙◌, subst, arith, length-append, append_assoc, append-nil, ⊎_elim}
+use Rattle.std.proofs.Common.{◌≡◌, ℕ, zero, suc, ◌+◌, ◌*◌, ◌<◌, ◌≤◌, ◌⊎◌, inl, inr, Bool, List, [], ◌∷◌, ◌++◌, map, length, get_or, refl, sym, ap, ◌∙◌, subst, arith, length-append, append_assoc, append-nil, ⊎_elim}
 use Rattle.std.specs.Prelude.{All}
 use Rattle.std.proofs.lemmas.Bool.{cases_lt}
-use Rattle.std.proofs.lemmas.List.{length-map, map-append}
 use Rattle.hir_core.specs.Tree.{Tree, alternation}
-use Rattle.nfa_core.specs.BuilderStates.{Part, Assembly, part_at, sparse_part}
+use Rattle.nfa_core.specs.BuilderStates.{Assembly, part_at, sparse_part}
 use Rattle.nfa_core.specs.CanBuild.{names_of}
 use Rattle.nfa_core.specs.Renaming.{stands_for}
 use Rattle.nfa_core.specs.Drafted.{Table}
-use Rattle.nfa_core.specs.Transitions.{range_of}
 use Rattle.nfa_core.specs.declared.transition.Transition.{Transition}
 use Rattle.nfa_core.specs.declared.build_error.BuildError.{BuildError}
 use Rattle.thompson_nfa.specs.Added.{Added}
 use Rattle.thompson_nfa.specs.Compiled.{Grows, Finishes, IsTame}
 use Rattle.thompson_nfa.specs.Denotes.{Denotes}
 use Rattle.thompson_nfa.specs.Refusals.{Quits}
-use Rattle.thompson_nfa.specs.Shared.{read_then, read_tree, branch_trees, LeadAll}
+use Rattle.thompson_nfa.specs.Shared.{read_then, branch_trees, LeadAll}
 use Rattle.thompson_nfa.specs.SlotTables.{SlotTable}
-use Rattle.thompson_nfa.specs.Utf8Stacks.{Stage, frozen_with, fresh, advanced, path_of, RisesIn, StagesRise, AreBytes, Keeps, Compiles, MakesTop, Pops, pops_none, pops_more, Turns, PopsUntil, PartsAt}
-use Rattle.thompson_nfa.specs.Utf8Compiles.{Branch, Limb, edge, stage_of, branch_tree, fresh_limb, grown, limb_tree, whole_tree, BranchesLead, LimbsLead, BranchesBelow, LimbsBelow, ReadsAs, last_of, HasStates, IsCompiling}
+use Rattle.thompson_nfa.specs.Utf8Stacks.{Stage, frozen_with, RisesIn, MakesTop, Pops, pops_none, pops_more, PopsUntil}
+use Rattle.thompson_nfa.specs.Utf8Compiles.{Branch, Limb, edge, stage_of, branch_tree, fresh_limb, limb_tree, BranchesLead, LimbsLead, BranchesBelow, LimbsBelow, HasStates, IsCompiling}
 use Rattle.thompson_nfa.proofs.DenoteLemmas.{denotes_empty_here}
 use Rattle.thompson_nfa.proofs.GrowLemmas.{grows_refl}
 use Rattle.thompson_nfa.proofs.ProgressLemmas.{Progress, then_added, then_quits}
-use Rattle.thompson_nfa.proofs.ReadLemmas.{lasts, turned_reads, more_reads, first_reads}
 use Rattle.thompson_nfa.proofs.SharedLemmas.{denotes_branches}
-use Rattle.thompson_nfa.proofs.StackLemmas.{rises_ascends, few_bytes, advanced_rises, rise_front, rise_back, rise_both}
+use Rattle.thompson_nfa.proofs.StackLemmas.{rises_ascends, few_bytes}
 
 -- ---- the states that were added
 

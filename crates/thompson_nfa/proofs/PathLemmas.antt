@@ -1,12 +1,11 @@
 -- A compiler of sequences: one sequence more, the first one, and the end.
-use Rattle.std.proofs.Common.{◌≡◌, ◌≢◌, ℕ, zero, suc, ◌+◌, ◌*◌, ◌<◌, ◌≤◌, inl, inr, Bool, List, [], ◌∷◌, ◌++◌, map, length, drop, replicate, get_or, Option, None, refl, sym, ap, ◌∙◌, subst, arith, length-append, append_assoc, append-nil, ⊎_elim}
-use Rattle.std.specs.Bool.{nat_eq}
+use Rattle.std.proofs.Common.{◌≡◌, ℕ, zero, suc, ◌+◌, ◌*◌, ◌<◌, ◌≤◌, Bool, List, [], ◌∷◌, ◌++◌, map, length, drop, replicate, get_or, Option, None, refl, sym, ap, ◌∙◌, subst, arith, length-append, append_assoc, ⊎_elim}
 use Rattle.std.proofs.lemmas.Bool.{cases_eq, eq-eqb}
 use Rattle.std.proofs.lemmas.List.{length-map, map-append, get_or-map, length-replicate}
 use Rattle.hir_core.specs.Sequences.{bytes_of}
 use Rattle.hir_core.specs.declared.utf8_sequences.Utf8Range.{Utf8Range}
 use Rattle.hir_core.specs.Tree.{Tree, never, alt, alternation}
-use Rattle.nfa_core.specs.BuilderStates.{Assembly, part_at, patched, is_sparse, sparse_part, empty_part}
+use Rattle.nfa_core.specs.BuilderStates.{Assembly, patched, is_sparse, sparse_part, empty_part}
 use Rattle.nfa_core.specs.Renaming.{stands_for}
 use Rattle.nfa_core.specs.Drafted.{Table}
 use Rattle.nfa_core.specs.declared.transition.Transition.{Transition}
@@ -15,18 +14,17 @@ use Rattle.nfa_core.specs.declared.build_error.BuildError.TheVariants.{NoMemory}
 use Rattle.thompson_nfa.specs.Added.{Added}
 use Rattle.thompson_nfa.specs.Compiled.{Finished, Finishes, ComesOut, Makes, Does}
 use Rattle.thompson_nfa.specs.Denotes.{Denotes}
-use Rattle.thompson_nfa.specs.RangeTries.{IsBefore}
-use Rattle.thompson_nfa.specs.Refusals.{Quits, Stays}
+use Rattle.thompson_nfa.specs.Refusals.{Quits}
 use Rattle.thompson_nfa.specs.Shared.{read_tree}
-use Rattle.thompson_nfa.specs.SlotTables.{SlotTable, empty_table, held_at}
-use Rattle.thompson_nfa.specs.Utf8Stacks.{Stage, frozen_with, fresh, advanced, path_of, RisesIn, StagesRise, AreBytes, ComesAfter, IsKept, Keeps, Compiles, Pops, pops_none, Turns, PopsUntil, PartsAt}
-use Rattle.thompson_nfa.specs.Utf8Compiles.{Branch, Limb, edge, stage_of, branch_tree, fresh_limb, grown, limb_tree, whole_tree, LimbsLead, LimbsBelow, ReadsAs, last_of, HasStates, IsCompiling}
+use Rattle.thompson_nfa.specs.SlotTables.{SlotTable, empty_table}
+use Rattle.thompson_nfa.specs.Utf8Stacks.{Stage, fresh, advanced, path_of, StagesRise, AreBytes, IsKept, Keeps, Compiles, Pops, pops_none, Turns, PopsUntil, PartsAt}
+use Rattle.thompson_nfa.specs.Utf8Compiles.{Limb, edge, stage_of, fresh_limb, grown, limb_tree, whole_tree, LimbsLead, LimbsBelow, ReadsAs, last_of, HasStates, IsCompiling}
 use Rattle.thompson_nfa.proofs.AheadLemmas.{denotes_then_empty}
 use Rattle.thompson_nfa.proofs.DenoteLemmas.{denotes_empty}
 use Rattle.thompson_nfa.proofs.LeafLemmas.{tame_one}
 use Rattle.thompson_nfa.proofs.LimbLemmas.{Popped, popped_none, popped_all, LastLimb, last_limb, below_front, below_back, below_both, branches_push, fresh_below, lead_front, lead_back, lead_both, lead_push, fresh_lead, has_progress, more_states, until_quits}
 use Rattle.thompson_nfa.proofs.OutLemmas.{out_here, out_next, out_at}
-use Rattle.thompson_nfa.proofs.ProgressLemmas.{first_added, then_quits, made}
+use Rattle.thompson_nfa.proofs.ProgressLemmas.{first_added, made}
 use Rattle.thompson_nfa.proofs.ReadLemmas.{as_itself, lasts, turned_reads, more_reads, first_reads}
 use Rattle.thompson_nfa.proofs.SameLemmas.{IsSame, denotes_same}
 use Rattle.thompson_nfa.proofs.SharedLemmas.{denotes_branches}
@@ -68,7 +66,7 @@ bytes_back : (xs ys : List (ℕ × ℕ)) → AreBytes (xs ++ ys) → AreBytes ys
 bytes_back [] ys bytes = bytes
 bytes_back (x ∷ xs) ys bytes = bytes_back xs ys bytes.2
 
-last_pushed : (qs : List (List (ℕ × ℕ))) (q : List (ℕ × ℕ)) → last_of (qs ++ q ∷ []) ≡ q
+pub last_pushed : (qs : List (List (ℕ × ℕ))) (q : List (ℕ × ℕ)) → last_of (qs ++ q ∷ []) ≡ q
 last_pushed [] q = refl
 last_pushed (p ∷ []) q = refl
 last_pushed (p ∷ r ∷ qs) q = last_pushed (r ∷ qs) q
@@ -256,10 +254,6 @@ module _ (old b : Assembly) (end : ℕ) (compiled : SlotTable (List Transition))
   pub sequence_first : (q : List (ℕ × ℕ)) → 1 ≤ length q → AreBytes q → length q ≤ 4 → ns ≡ ns0 ++ map fresh (drop 0 q) → IsCompiling old b end compiled ns (qs ++ q ∷ [])
   sequence_first q some bytes few pushed = some_begun q some bytes few (pushed ∙ ap (λ (l : List Stage). l ++ map fresh q) none)
 
-pub after_path : (ns : List Stage) (q : List (ℕ × ℕ)) → 0 < length ns → ComesAfter (path_of ns) q → IsBefore (path_of ns) q
-after_path [] q some after = absurd (omega arith)
-after_path (n ∷ ns) q some after = after
-
 -- ---- the begin
 
 abbrev nothing_held : Option (List Transition × ℕ)
@@ -347,7 +341,7 @@ module _ (old b : Assembly) (end start n : ℕ) (x : Tree) (c : Closed old b end
   pub closed_groups : b.groups ≡ old.groups
   closed_groups = c.has.groups_are
 
-as_same : (y z : Tree) → ReadsAs y z → IsSame y z
+pub as_same : (y z : Tree) → ReadsAs y z → IsSame y z
 as_same y z r = record { reading = r.reading; ends = r.ends }
 
 whole_some : (back : Bool) (ls : List Limb) → 0 < length ls → whole_tree back ls ≡ limb_tree back ls
@@ -401,9 +395,6 @@ module _ (old b0 b : Assembly) (end : ℕ) (compiled : SlotTable (List Transitio
             let here : table start ≡ sparse_part [] = fin start (omega arith) y.there (λ (same : start ≡ end). omega arith) ∙ y.here in
             denotes_same back table start end never all_read (as_same never all_read (never_read old b0 end compiled ns0 ns0 qs c none)) (denotes_branches back table start end [] [] here tt tt);
       }
-
-  pub state_quits : (new : Assembly) (e : BuildError) → Stays b0 new 1 2072 e → Quits old new (2 + 4 * length qs) e
-  state_quits new e r = let room = c.room in then_quits (2 + 4 * length qs) (has_progress c.has) r (omega arith) (omega arith)
 
 -- what refuses a state on the way refuses the class
 abbrev pub QuitsAll : ℕ → Assembly → Assembly → SlotTable (List Transition) → List Stage → BuildError → Type 0

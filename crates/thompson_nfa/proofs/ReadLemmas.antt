@@ -5,12 +5,11 @@ use Rattle.std.proofs.lemmas.Grind.{flat_map-append}
 use Rattle.std.proofs.lemmas.List.{map-append}
 use Rattle.hir_core.specs.BySequences.{range_tree}
 use Rattle.hir_core.specs.Tree.{Tree, never, alt, alternation}
-use Rattle.hir_core.specs.Means.{Looks, is_member}
+use Rattle.hir_core.specs.Means.{is_member}
 use Rattle.hir_core.specs.PreferredEnds.{preferred_ends, class_end}
-use Rattle.hir_core.specs.Facts.{LoopsRead}
 use Rattle.hir_core.proofs.HasLemmas.{flat_map_same}
 use Rattle.thompson_nfa.specs.Shared.{read_then, read_tree}
-use Rattle.thompson_nfa.specs.Utf8Compiles.{Branch, Limb, branch_tree, fresh_limb, grown, limb_tree, whole_tree, ReadsAs}
+use Rattle.thompson_nfa.specs.Utf8Compiles.{Limb, branch_tree, fresh_limb, grown, limb_tree, whole_tree, ReadsAs}
 
 pub as_itself : (x : Tree) → ReadsAs x x
 as_itself x = record { reading = λ f. f; ends = λ looks h i. refl }
@@ -59,7 +58,7 @@ snoc_as (x ∷ xs) z = as_trans (alt (alt x (alternation xs)) z) (alt x (alt (al
 
 -- ---- behind a range
 
-as_then : (back : Bool) (r : ℕ × ℕ) (y z : Tree) → ReadsAs y z → ReadsAs (read_then back r y) (read_then back r z)
+pub as_then : (back : Bool) (r : ℕ × ℕ) (y z : Tree) → ReadsAs y z → ReadsAs (read_then back r y) (read_then back r z)
 as_then false r y z a = record {
   reading = λ f. (tt, a.reading f.1);
   ends = λ looks h i. flat_map_same (preferred_ends looks h y) (preferred_ends looks h z) (preferred_ends looks h (range_tree r) i) (λ k m. a.ends looks h k);

@@ -52,13 +52,9 @@ goes_sparse back t T s trans is = record {
 abbrev within : ℕ → ℕ → ℕ → Bool
 within low high b = nat_le low b && nat_le b high
 
-both_hold : (c d : Bool) → (c && d) ≡ true → (c ≡ true) × (d ≡ true)
+pub both_hold : (c d : Bool) → (c && d) ≡ true → (c ≡ true) × (d ≡ true)
 both_hold true d e = (refl, e)
 both_hold false d e = absurd (cc)
-
-both_held : (c d : Bool) → c ≡ true → d ≡ true → (c && d) ≡ true
-both_held true d e f = f
-both_held false d e f = cc
 
 or_false : (c : Bool) → (c || false) ≡ true → c ≡ true
 or_false true e = refl

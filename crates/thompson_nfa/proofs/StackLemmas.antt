@@ -1,20 +1,16 @@
 -- The steps of a compiler of sequences: states that are kept, and the nodes of the path.
-use Rattle.std.proofs.Common.{◌≡◌, ℕ, zero, suc, ◌+◌, ◌*◌, ◌<◌, ◌≤◌, ◌⊎◌, inl, inr, Bool, true, false, List, [], ◌∷◌, ◌++◌, map, length, get_or, set, drop, Option, Some, None, IsTrue, refl, sym, ap, ◌∙◌, subst, arith, length-append, append_assoc, append-nil, ⊎_elim}
-use Rattle.std.proofs.lemmas.Bool.{cases_eq}
-use Rattle.std.proofs.lemmas.List.{length-set, get_or-set_same, get_or-set_other, length-map, get_or-map, map-append}
-use Rattle.search_types.specs.Groups.{Groups}
+use Rattle.std.proofs.Common.{◌≡◌, ℕ, zero, suc, ◌+◌, ◌<◌, ◌≤◌, ◌⊎◌, List, [], ◌∷◌, ◌++◌, map, length, get_or, drop, refl, sym, ap, ◌∙◌, subst, arith, length-append, append_assoc, ⊎_elim}
+use Rattle.std.proofs.lemmas.List.{length-map, get_or-map}
 use Rattle.hir_core.specs.Sequences.{bytes_of}
 use Rattle.hir_core.specs.declared.utf8_sequences.Utf8Range.{Utf8Range}
-use Rattle.nfa_core.specs.BuilderStates.{Assembly, part_at, part_bytes, sparse_part, AscendsFrom}
-use Rattle.nfa_core.specs.Transitions.{range_of}
+use Rattle.nfa_core.specs.BuilderStates.{Assembly, part_bytes, sparse_part, AscendsFrom}
 use Rattle.nfa_core.specs.declared.transition.Transition.{Transition}
 use Rattle.nfa_core.specs.declared.build_error.BuildError.{BuildError}
-use Rattle.thompson_nfa.specs.Added.{Added}
 use Rattle.thompson_nfa.specs.RangeTries.{IsBefore}
 use Rattle.thompson_nfa.specs.Refusals.{Stays}
-use Rattle.thompson_nfa.specs.SlotTables.{SlotTable, held_at, is_ready, with_held, IsStored}
+use Rattle.thompson_nfa.specs.SlotTables.{SlotTable}
 use Rattle.thompson_nfa.proofs.TurnLemmas.{first_left}
-use Rattle.thompson_nfa.specs.Utf8Stacks.{Stage, frozen_with, fresh, advanced, path_of, RisesIn, StagesRise, IsKept, Keeps, Compiles, MakesTop, Pops, pops_none, pops_more, Turns, PopsUntil, PartsAt}
+use Rattle.thompson_nfa.specs.Utf8Stacks.{Stage, frozen_with, fresh, advanced, path_of, RisesIn, StagesRise, Keeps, Compiles, MakesTop, Pops, pops_none, pops_more, Turns, PopsUntil, PartsAt}
 
 -- ---- ranges that rise
 
@@ -68,60 +64,6 @@ pub rise_both : (ns ms : List Stage) → StagesRise ns → StagesRise ms → Sta
 rise_both [] ms up more = more
 rise_both (n ∷ ns) ms up more = (up.0, rise_both ns ms up.1 more)
 
--- ---- states that are kept
-
-kept_by : (b : Assembly) (end id : ℕ) (key : List Transition) (o : Option (List Transition × ℕ)) → o ≡ Some (key, id) → IsKept b end o → IsKept b end (Some (key, id))
-kept_by b end id key o is k = let P : Option (List Transition × ℕ) → Type 0 = λ p. IsKept b end p in subst P is k
-
-pub kept_found : (b : Assembly) (end at id : ℕ) (table : SlotTable (List Transition)) (key : List Transition) → RisesIn 0 (map range_of key) → Keeps b end table → held_at table at ≡ Some (key, id) → Compiles b b end (map range_of key) id
-kept_found b end at id table key up k is =
-    let x = kept_by b end id key (held_at table at) is (k.kept at) in
-    record { rises = up; behind = x.0; there = x.1; here = x.2; how = inl refl }
-
-pub kept_none : (b : Assembly) (end at : ℕ) (o : Option (List Transition × ℕ)) → o ≡ None → IsKept b end o
-kept_none b end at o is = let P : Option (List Transition × ℕ) → Type 0 = λ p. IsKept b end p in subst P (sym is) tt
-
-still_kept : (b c : Assembly) (end : ℕ) (o : Option (List Transition × ℕ)) → ((q : ℕ) → q < length b.parts → part_at c.parts q ≡ part_at b.parts q) → length b.parts ≤ length c.parts → IsKept b end o → IsKept c end o
-still_kept b c end None same l k = tt
-still_kept b c end (Some (key, id)) same l k = let m = k.1 in (k.0, omega arith, same id k.1 ∙ k.2)
-
-pub added_compiles : (b c : Assembly) (end id : ℕ) (table : SlotTable (List Transition)) (trans : List (ℕ × ℕ × ℕ)) → RisesIn 0 trans → Keeps b end table → Added b c id (sparse_part trans) b.groups → Compiles b c end trans id
-added_compiles b c end id table trans up k x = let l = k.end_there in let i = x.is in let s = x.size in record { rises = up; behind = omega arith; there = omega arith; here = x.here; how = inr x }
-
-ready_length : (table : SlotTable (List Transition)) → IsTrue (is_ready table) → length table.places ≡ table.capacity
-ready_length table e = grind (arith, e)
-
-module _ (b c : Assembly) (end hash id : ℕ) (table : SlotTable (List Transition)) (key : List Transition) (k : Keeps b end table) (below : hash < table.capacity)
-    (x : Added b c id (sparse_part (map range_of key)) b.groups) where
-  held : SlotTable (List Transition)
-  held = with_held table hash key id
-
-  held_kept : (at : ℕ) → (at ≡ hash) ⊎ (at ≡ hash → ⊥) → IsKept c end (held_at (with_held table hash key id) at)
-  held_kept at (inl same) =
-      let l = k.end_there in let i = x.is in let s = x.size in let long = ready_length table k.ready in
-      let P : Option (List Transition × ℕ) → Type 0 = λ p. IsKept c end p in
-      let is : held_at (with_held table hash key id) at ≡ Some (key, id) =
-      ap (held_at (with_held table hash key id)) same ∙ get_or-set_same table.places hash (Some (key, id)) None (omega arith) in
-      subst P (sym is) (omega arith, omega arith, x.here)
-  held_kept at (inr other) =
-      let long = x.grows.longer in
-      let P : Option (List Transition × ℕ) → Type 0 = λ p. IsKept c end p in
-      subst P (sym (get_or-set_other table.places hash at (Some (key, id)) None other)) (still_kept b c end (held_at table at) x.grows.same long (k.kept at))
-
-  pub held_keeps : Keeps c end (with_held table hash key id)
-  held_keeps =
-      let l = k.end_there in let s = x.size in
-      let P : ℕ → Type 0 = λ n. IsTrue (Rattle.std.specs.Bool.nat_eq n table.capacity) in
-      record {
-        end_there = omega arith;
-        ready = subst P (sym (length-set table.places hash (Some (key, id)))) k.ready;
-        kept = λ at. held_kept at (cases_eq at hash);
-      }
-
--- what is kept is kept where no state was touched
-pub keeps_later : (b c : Assembly) (end : ℕ) (table : SlotTable (List Transition)) → ((q : ℕ) → q < length b.parts → part_at c.parts q ≡ part_at b.parts q) → length b.parts ≤ length c.parts → Keeps b end table → Keeps c end table
-keeps_later b c end table same l k = let e = k.end_there in record { end_there = omega arith; ready = k.ready; kept = λ at. still_kept b c end (held_at table at) same l (k.kept at) }
-
 -- ---- the path
 
 pub top_made : (b c : Assembly) (end next id : ℕ) (ns ms : List Stage) (top : Stage) (trans : List (ℕ × ℕ × ℕ)) → ns ≡ ms ++ top ∷ [] → trans ≡ frozen_with next top → Compiles b c end trans id → MakesTop b c end ns ms next id
@@ -159,9 +101,6 @@ one_popped end same b0 b c ns0 ns ms next id from i table new e p top up k =
     let Q : ℕ → Type 0 = λ n. Keeps c n new in
     record { pops = pops_more b c ns ms next id p.pops (subst P e top); left = omega arith; rising = up; keeps = subst Q e k }
 
-pub some_left : (end : ℕ) (b0 b : Assembly) (ns0 ns : List Stage) (next from i : ℕ) (table : SlotTable (List Transition)) → PopsTo end b0 b ns0 ns next from i table → i < length ns0 → 0 < length ns
-some_left end b0 b ns0 ns next from i table p less = let l = p.left in omega arith
-
 pub pops_refused : (end : ℕ) (b0 b new : Assembly) (ns0 ns : List Stage) (next from i : ℕ) (table : SlotTable (List Transition)) (e : BuildError) → PopsTo end b0 b ns0 ns next from i table → Stays b new 1 2072 e →
     PopsUntil end b0 new ns0 e
 pops_refused end b0 b new ns0 ns next from i table e p r = record { middle = b; stack = ns; next = next; pops = p.pops; stays = r }
@@ -183,9 +122,6 @@ pub record Agree (p q : List (ℕ × ℕ)) (i : ℕ) : Type 0 where
   pub other_is : q ≡ before ++ right
   pub place : length before ≡ i
   pub behind : IsBefore left right
-
-pub agree_begun : (p q : List (ℕ × ℕ)) → IsBefore p q → Agree p q 0
-agree_begun p q b = record { before = []; left = p; right = q; one_is = refl; other_is = refl; place = refl; behind = b }
 
 pub get_behind : (before : List (ℕ × ℕ)) (a : ℕ × ℕ) (rest : List (ℕ × ℕ)) (d : ℕ × ℕ) → get_or (before ++ a ∷ rest) (length before) d ≡ a
 get_behind [] a rest d = refl
@@ -214,9 +150,6 @@ next_at p q i a = next_of p q a.before a.left a.right i a.one_is a.other_is a.pl
 module _ (p q : List (ℕ × ℕ)) (i : ℕ) (a : Agree p q i) where
   next : Next p q i
   next = next_at p q i a
-
-  pub one_inside : i < length p
-  one_inside = let e = ap length next.one_is in let l = length-append next.before (next.one ∷ next.one_rest) in let k = next.place in omega (arith, e, l, k)
 
   pub other_inside : i < length q
   other_inside = let e = ap length next.other_is in let l = length-append next.before (next.other ∷ next.other_rest) in let k = next.place in omega (arith, e, l, k)

@@ -1,5 +1,5 @@
 -- A class that is compiled sequence by sequence: what its states and the nodes on the path of the last sequence read.
-use Rattle.std.specs.Prelude.{◌≡◌, ◌⊎◌, ℕ, suc, ◌+◌, ◌*◌, ◌<◌, ◌≤◌, Bool, List, [], ◌∷◌, ◌++◌, length, map, None}
+use Rattle.std.specs.Prelude.{◌≡◌, ℕ, ◌+◌, ◌*◌, ◌<◌, ◌≤◌, Bool, List, [], ◌∷◌, ◌++◌, length, map, None}
 use Rattle.hir_core.specs.Tree.{Tree, empty, never, alternation}
 use Rattle.hir_core.specs.Means.{Looks}
 use Rattle.hir_core.specs.PreferredEnds.{preferred_ends}
@@ -10,7 +10,7 @@ use Rattle.nfa_core.specs.Drafted.{Table}
 use Rattle.thompson_nfa.specs.Compiled.{Grows, Finishes, AllTame, sum_of_bytes}
 use Rattle.thompson_nfa.specs.Denotes.{Denotes}
 use Rattle.thompson_nfa.specs.Shared.{read_then, read_tree}
-use Rattle.thompson_nfa.specs.Utf8Stacks.{Stage, StagesRise, Keeps, path_of}
+use Rattle.thompson_nfa.specs.Utf8Stacks.{Stage, StagesRise, Keeps, AreBytes, ComesAfter, path_of}
 use Rattle.thompson_nfa.specs.SlotTables.{SlotTable}
 use Rattle.nfa_core.specs.declared.transition.Transition.{Transition}
 use Rattle.search_core.specs.Index.{greatest_index}
@@ -111,3 +111,14 @@ pub record IsCompiling (old new : Assembly) (end : ℕ) (compiled : SlotTable (L
   pub below : LimbsBelow (length new.parts) limbs
   pub leads : (table : Table) → Finishes end new.parts end table → LimbsLead old.reverse table end limbs
   pub reads : ReadsAs (whole_tree old.reverse limbs) (alternation (map (read_tree old.reverse) qs))
+
+-- a class is being compiled: some sequences were added since some builder
+pub record IsOpen (b : Assembly) (end : ℕ) (compiled : SlotTable (List Transition)) (nodes : List Stage) : Type 0 where
+  pub old : Assembly
+  pub before : List (List (ℕ × ℕ))
+  pub is : IsCompiling old b end compiled nodes before
+
+-- the sequences may be added behind the path, one after the other
+abbrev pub CanFollow : List (ℕ × ℕ) → List (List (ℕ × ℕ)) → Type 0
+CanFollow p [] = Unit {0}
+CanFollow p (q ∷ qs) = (1 ≤ length q) × (length q ≤ 4) × AreBytes q × ComesAfter p q × CanFollow q qs

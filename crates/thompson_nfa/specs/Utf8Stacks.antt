@@ -1,6 +1,6 @@
 -- A compiler of sequences of byte ranges: the path of the last sequence, whose states aren't made yet, and the states that
 -- were made.
-use Rattle.std.specs.Prelude.{◌≡◌, ◌⊎◌, ℕ, zero, suc, ◌+◌, ◌<◌, ◌≤◌, List, [], ◌∷◌, ◌++◌, length, map, Option, Some, None, IsTrue}
+use Rattle.std.specs.Prelude.{◌≡◌, ◌⊎◌, ℕ, ◌+◌, ◌<◌, ◌≤◌, List, [], ◌∷◌, ◌++◌, length, map, Option, Some, None, IsTrue}
 use Rattle.nfa_core.specs.BuilderStates.{Assembly, part_at, sparse_part}
 use Rattle.nfa_core.specs.Transitions.{range_of}
 use Rattle.nfa_core.specs.declared.transition.Transition.{Transition}

@@ -29,6 +29,7 @@ mod scalar_class;
 mod scalar_stubs;
 mod shared;
 mod shrunk_class;
+mod scalar_forward;
 mod slots;
 mod trees;
 mod trie_nodes;

@@ -2,6 +2,7 @@
 ghost use Rattle.std.specs.Prelude.{◌≡◌, ◌<◌, ◌↔◌, [], map, IfOk, OnOk, IsTrue};
 ghost use Rattle.hir_core.specs.Sequences.{bytes_of};
 ghost use Rattle.nfa_core.specs.Transitions.{range_of};
+ghost use Rattle.thompson_nfa.specs.SlotTables.{unready_table};
 ghost use Rattle.thompson_nfa.specs.Utf8Stacks.{frozen_with, fresh, advanced};
 
 use crate::utf8_bounded_map::Utf8BoundedMap;
@@ -94,7 +95,10 @@ pub(crate) struct Utf8State {
 
 impl Utf8State {
     /// A state that has compiled nothing.
-    pub(crate) fn new(alloc: Global) -> Utf8State {
+    pub(crate) fn new(alloc: Global) -> Utf8State
+        ensures compiled { result.compiled ≡ unready_table 10000 }
+        ensures nodes { result.nodes.items ≡ [] }
+    {
         Utf8State {
             compiled: Utf8BoundedMap::new(alloc, CAPACITY),
             nodes: Vec::new(alloc),

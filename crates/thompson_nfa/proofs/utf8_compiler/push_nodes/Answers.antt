@@ -1,4 +1,4 @@
-use Rattle.std.proofs.Common.{refl, arith, ◌<◌, length}
+use Rattle.std.proofs.Common.{refl, ◌<◌, length}
 use Rattle.thompson_nfa.proofs.StackLemmas.{push_more}
 use Rattle.thompson_nfa.proofs.utf8_compiler.push_nodes.Goals as goal
 

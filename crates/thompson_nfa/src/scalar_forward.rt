@@ -1,0 +1,85 @@
+//! Fragments of classes of scalars for automata that read upwards: their sequences share states.
+ghost use Rattle.std.specs.Prelude.{◌≡◌, ◌≤◌, ◌+◌, ◌*◌, ◌++◌, ◌∷◌, [], ℕ, List, true, false, length, IfOk, IfErr};
+ghost use Rattle.hir_core.specs.Facts.{count, is_ascending};
+ghost use Rattle.hir_core.specs.Sequences.{ranges_of, utf8_sequences};
+ghost use Rattle.hir_core.specs.Tree.{char_class};
+ghost use Rattle.nfa_core.specs.BuilderStates.{Assembly};
+ghost use Rattle.thompson_nfa.specs.Compiled.{Makes, Does};
+ghost use Rattle.thompson_nfa.specs.Refusals.{Quits};
+ghost use Rattle.thompson_nfa.specs.Utf8Stacks.{path_of, StagesRise, AreBytes, ComesAfter, Keeps};
+ghost use Rattle.thompson_nfa.specs.Utf8Compiles.{IsCompiling, IsOpen, CanFollow};
+
+use crate::fragment::Fragment;
+use crate::utf8_compiler::{add, begin, finish};
+use crate::utf8_state::Utf8State;
+use hir_core::{Utf8Sequence, Utf8Sequences};
+use nfa_core::{BuildError, Builder};
+use std::alloc::Global;
+
+/// Adds one sequence.
+fn add_sequence(
+    builder: &mut Builder,
+    alloc: Global,
+    state: &mut Utf8State,
+    sequence: &Utf8Sequence,
+) -> Result<(), BuildError>
+    requires some { 1 ≤ length (ranges_of sequence.now) }
+    requires few { length (ranges_of sequence.now) ≤ 4 }
+    requires bytes { AreBytes (ranges_of sequence.now) }
+    requires after { ComesAfter (path_of state.old.nodes.items) (ranges_of sequence.now) }
+    requires rising { StagesRise state.old.nodes.items }
+    requires keeps { Keeps builder.old state.old.end state.old.compiled }
+    ensures added { IfOk result (λ _. (old : Assembly) (qs : List (List (ℕ × ℕ))) →
+        IsCompiling old builder.old state.old.end state.old.compiled state.old.nodes.items qs →
+        IsCompiling old builder.new state.new.end state.new.compiled state.new.nodes.items (qs ++ ranges_of sequence.now ∷ [])) }
+    ensures refused { IfErr result (λ e. (old : Assembly) (qs : List (List (ℕ × ℕ))) →
+        IsCompiling old builder.old state.old.end state.old.compiled state.old.nodes.items qs → Quits old builder.new (2 + 4 * length qs) e) }
+{
+    add(builder, alloc, state, sequence.as_slice())?;
+    Ok(())
+}
+
+/// Adds the sequences of the characters from `first` to `last`.
+fn add_sequences(
+    builder: &mut Builder,
+    alloc: Global,
+    state: &mut Utf8State,
+    first: char,
+    last: char,
+) -> Result<(), BuildError>
+    requires begun { IsOpen builder.old state.old.end state.old.compiled state.old.nodes.items }
+    requires order { CanFollow (path_of state.old.nodes.items) (utf8_sequences first last) }
+    ensures added { IfOk result (λ _. (old : Assembly) (qs : List (List (ℕ × ℕ))) →
+        IsCompiling old builder.old state.old.end state.old.compiled state.old.nodes.items qs →
+        IsCompiling old builder.new state.new.end state.new.compiled state.new.nodes.items (qs ++ utf8_sequences first last)) }
+    ensures refused { IfErr result (λ e. (old : Assembly) (qs : List (List (ℕ × ℕ))) →
+        IsCompiling old builder.old state.old.end state.old.compiled state.old.nodes.items qs →
+        Quits old builder.new (2 + 4 * length (qs ++ utf8_sequences first last)) e) }
+{
+    for sequence in Utf8Sequences::new(first, last) {
+        add_sequence(builder, alloc, state, &sequence)?;
+    }
+    Ok(())
+}
+
+/// The states of a class of scalars, shared where sequences begin or end alike.
+pub(crate) fn compile_scalars_forward(
+    builder: &mut Builder,
+    alloc: Global,
+    state: &mut Utf8State,
+    ranges: &[(char, char)],
+) -> Result<Fragment, BuildError>
+    requires ascending { is_ascending ranges.now ≡ true }
+    requires upward { builder.old.reverse ≡ false }
+    ensures made { IfOk result (λ f. Makes builder.old builder.new f.start f.end (count (char_class ranges.now))) }
+    ensures does { IfOk result (λ f. Does builder.old builder.new f.start f.end (char_class ranges.now)) }
+    ensures groups { IfOk result (λ _. builder.new.groups ≡ builder.old.groups) }
+    ensures refused { IfErr result (λ e. Quits builder.old builder.new (count (char_class ranges.now)) e) }
+{
+    begin(builder, state)?;
+    for range in ranges {
+        add_sequences(builder, alloc, state, range.0, range.1)?;
+    }
+    let whole = finish(builder, alloc, state)?;
+    Ok(whole)
+}
