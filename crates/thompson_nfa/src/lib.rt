@@ -2,7 +2,6 @@
 #![tactic(auto)]
 
 mod ascii_class;
-mod branch;
 mod class;
 mod class_trie;
 mod compile;
@@ -26,7 +25,6 @@ mod range_trie;
 mod range_walk;
 pub mod room_laws;
 mod scalar_class;
-mod scalar_stubs;
 mod shared;
 mod shrunk_class;
 mod scalar_forward;
