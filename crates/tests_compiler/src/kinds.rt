@@ -72,38 +72,37 @@ fn classes(rt: HostRuntime) -> Result<(), Fail> {
     Ok(())
 }
 
+/// Upwards the last range's state is made first, downwards the first range's.
 #[test]
 fn scalar_classes(rt: HostRuntime) -> Result<(), Fail> {
     let alloc = rt.alloc();
-    let (first, any) = prefix(2);
+    let (first, any) = prefix(3);
     let greek = Hir::chars(vec![in alloc; ('α', 'β')]?);
     let up = [
         first,
         any,
-        Shape::Range(0xCE, 0xCE, 3),
         Shape::Range(0xB1, 0xB2, 4),
+        Shape::Range(0xCE, 0xCE, 2),
         Shape::Match(0),
     ];
-    assert!(rt; is_made_of(&compiled(alloc, false, &greek)?, 2, 0, &up));
+    assert!(rt; is_made_of(&compiled(alloc, false, &greek)?, 3, 0, &up));
     let down = [
         first,
         any,
-        Shape::Range(0xB1, 0xB2, 3),
         Shape::Range(0xCE, 0xCE, 4),
+        Shape::Range(0xB1, 0xB2, 2),
         Shape::Match(0),
     ];
-    assert!(rt; is_made_of(&compiled(alloc, true, &greek)?, 2, 0, &down));
+    assert!(rt; is_made_of(&compiled(alloc, true, &greek)?, 3, 0, &down));
     let edge = Hir::chars(vec![in alloc; ('\u{7F}', '\u{80}')]?);
     let states = [
         first,
         any,
-        Shape::Two(3, 4),
-        Shape::Range(0x7F, 0x7F, 6),
-        Shape::Range(0xC2, 0xC2, 5),
-        Shape::Range(0x80, 0x80, 6),
+        Shape::Range(0x80, 0x80, 4),
+        Shape::TwoRanges((0x7F, 0x7F, 4), (0xC2, 0xC2, 2)),
         Shape::Match(0),
     ];
-    assert!(rt; is_made_of(&compiled(alloc, false, &edge)?, 2, 0, &states));
+    assert!(rt; is_made_of(&compiled(alloc, false, &edge)?, 3, 0, &states));
     Ok(())
 }
 
@@ -152,9 +151,9 @@ fn alternations(rt: HostRuntime) -> Result<(), Fail> {
     let states = [first, any, Shape::Range(b'a', b'a', 3), Shape::Match(0)];
     assert!(rt; is_made_of(&compiled(alloc, false, &one)?, 2, 0, &states));
     let three = Hir::alternation(vec![in alloc;
-        text(alloc, b"a")?,
-        text(alloc, b"b")?,
-        text(alloc, b"c")?,
+        Hir::bytes(vec![in alloc; (b'a', b'a')]?),
+        Hir::bytes(vec![in alloc; (b'b', b'b')]?),
+        Hir::bytes(vec![in alloc; (b'c', b'c')]?),
     ]?);
     let (first, any) = prefix(4);
     let states = [

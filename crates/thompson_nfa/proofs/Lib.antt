@@ -81,7 +81,6 @@ pub mod ScalarCountLemmas
 pub mod ClassTrieLemmas
 pub mod TurnedMeanings
 pub mod TurnedLengths
-pub mod ClassOrder
 pub mod TriePathLemmas
 pub mod ShrunkLemmas
 pub mod LiteralGroupLemmas
