@@ -1,31 +1,19 @@
 -- Alternations of literals: how many states they take, and that they have no groups.
-use Rattle.std.proofs.Common.{◌≡◌, ℕ, zero, suc, ◌+◌, ◌<◌, ◌≤◌, min, Bool, true, false, nat_lt, List, [], ◌∷◌, ◌++◌, length, take, get_or, Vec, Global, refl, sym, ap, ap₂, ◌∙◌, subst, arith}
+use Rattle.std.proofs.Common.{◌≡◌, ℕ, ◌+◌, Bool, true, nat_lt, List, [], ◌∷◌, length, refl, sym, ap, ap₂, ◌∙◌, subst, arith}
 use Rattle.std.specs.List.{list_all}
 use Rattle.std.proofs.lemmas.Bool.{and_parts}
-use Rattle.std.proofs.lemmas.List.{take_more, take_all}
 use Rattle.search_types.specs.Groups.{Groups}
-use Rattle.hir_core.specs.Tree.{Tree, empty, literal, byte_class, char_class, look, repetition, capture, nothing, cat, never, alt, concat, alternation}
+use Rattle.hir_core.specs.Tree.{Tree, empty, literal, byte_class, char_class, look, repetition, capture, nothing, cat, never, alt, alternation}
 use Rattle.hir_core.specs.Facts.{count, capped}
-use Rattle.hir_core.specs.Node.{node}
-use Rattle.hir_core.specs.declared.hir.HirKind.{HirKind}
-use Rattle.hir_core.specs.declared.hir.HirKind.TheVariants as kind
-use Rattle.nfa_core.specs.BuilderStates.{Assembly, part_at, is_sparse, empty_part, union_part}
+use Rattle.nfa_core.specs.BuilderStates.{Assembly}
 use Rattle.nfa_core.specs.declared.build_error.BuildError.{BuildError}
-use Rattle.thompson_nfa.specs.Added.{Added}
-use Rattle.thompson_nfa.specs.Branches.{AddsBranch}
-use Rattle.thompson_nfa.specs.Choice.{no_choice}
-use Rattle.thompson_nfa.specs.Compiled.{Makes, Does}
+use Rattle.thompson_nfa.specs.Compiled.{Makes}
 use Rattle.thompson_nfa.specs.LiteralParts.{is_literal, are_literals}
 use Rattle.thompson_nfa.specs.NotedGroups.{noted}
-use Rattle.thompson_nfa.specs.Refusals.{Quits, Refuses, Stays}
+use Rattle.thompson_nfa.specs.Refusals.{Quits, Refuses}
 use Rattle.thompson_nfa.specs.Room.{room}
 use Rattle.thompson_nfa.specs.declared.which_captures.WhichCaptures.{WhichCaptures}
-use Rattle.thompson_nfa.proofs.LeafLemmas.{tame_none}
-use Rattle.thompson_nfa.proofs.PartsLemmas.{rooms, room_of_alternation}
-use Rattle.thompson_nfa.proofs.PlainRoom.{room_is_count}
-use Rattle.thompson_nfa.proofs.ProgressLemmas.{made_capped, first_added, first_quits, then_quits, refuses}
-use Rattle.thompson_nfa.proofs.ScalarBranches.{Branched, branched_begun, branched_next, branched_made, branched_does}
-use Rattle.thompson_nfa.proofs.ScalarLemmas.{quits_later, quits_capped, spent_of}
+use Rattle.thompson_nfa.proofs.ProgressLemmas.{refuses}
 
 -- ---- each part is a literal
 

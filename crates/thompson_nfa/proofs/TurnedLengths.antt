@@ -1,7 +1,6 @@
 -- Each sequence of a trie with the strings of a class, turned round, has one to four ranges of bytes: its greatest string is a
 -- spelling turned round.
-use Rattle.std.proofs.Common.{◌≡◌, inl, inr, ℕ, zero, suc, ◌+◌, ◌<◌, ◌≤◌, List, [], ◌∷◌, ◌++◌, reverse, length, get_or, true, refl, sym, ap, ◌∙◌, arith, subst}
-use Rattle.std.proofs.lemmas.Bool.{false≢true}
+use Rattle.std.proofs.Common.{◌≡◌, inl, inr, ℕ, zero, suc, ◌<◌, ◌≤◌, List, [], ◌∷◌, ◌++◌, reverse, length, get_or, true, refl, sym, ap, ◌∙◌, arith, subst}
 use Rattle.std.proofs.lemmas.List.{reverse-append, reverse-reverse, length-reverse}
 use Rattle.search_core.specs.Utf8.{Spells}
 use Rattle.search_core.specs.Utf8.Spells.{from_0000, from_0080, from_0800, from_1000, from_d000, from_e000, from_10000, from_40000, from_100000}
@@ -9,7 +8,7 @@ use Rattle.hir_core.specs.Sequences.{is_in_ranges}
 use Rattle.hir_core.specs.BySequences.{sequences_of}
 use Rattle.thompson_nfa.specs.RangeTries.{IsIn, AreRanges, IsTrie}
 use Rattle.thompson_nfa.specs.ClassTries.{turned_round, HasTurned, AreByteRanges, IsShort}
-use Rattle.thompson_nfa.proofs.TrieLemmas.{spelled, spells}
+use Rattle.thompson_nfa.proofs.TrieLemmas.{spells}
 use Rattle.thompson_nfa.proofs.TurnedStrings.{turned_round_in}
 use Rattle.thompson_nfa.proofs.ScalarCountLemmas.{class_spells}
 

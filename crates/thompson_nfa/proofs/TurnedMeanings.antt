@@ -1,9 +1,9 @@
 -- What a class of scalars means where it is read backwards by sequences that were turned round: the strings of these are its
 -- spellings, their last bytes first.
-use Rattle.std.proofs.Common.{◌≡◌, ◌⊎◌, inl, inr, ℕ, suc, ◌+◌, ◌≤◌, Bool, true, false, ◌&&◌, ◌||◌, leb, List, [], ◌∷◌, ◌++◌, map, reverse, length, slice_get, Some, refl, sym, ap, ◌∙◌, arith, subst}
+use Rattle.std.proofs.Common.{◌≡◌, inl, inr, ℕ, suc, ◌+◌, ◌≤◌, Bool, true, false, ◌&&◌, ◌||◌, leb, List, [], ◌∷◌, ◌++◌, map, reverse, length, slice_get, Some, refl, sym, ap, ◌∙◌, arith, subst}
 use Rattle.std.proofs.lemmas.Bool.{false≢true, true≢false}
 use Rattle.std.proofs.lemmas.List.{reverse-append, reverse-reverse, length-reverse}
-use Rattle.hir_core.specs.Tree.{Tree, char_class, alternation}
+use Rattle.hir_core.specs.Tree.{char_class, alternation}
 use Rattle.hir_core.specs.Facts.{LoopsRead}
 use Rattle.hir_core.specs.Means.{Looks, Means, is_member}
 use Rattle.hir_core.specs.Sequences.{is_in_ranges}
@@ -13,7 +13,7 @@ use Rattle.hir_core.proofs.SpellingLemmas.{member_cases}
 use Rattle.nfa_core.specs.Drafted.{Table}
 use Rattle.thompson_nfa.specs.Denotes.{Denotes}
 use Rattle.thompson_nfa.specs.RangeTries.{IsIn}
-use Rattle.thompson_nfa.specs.ClassTries.{turned_round, HasTurned}
+use Rattle.thompson_nfa.specs.ClassTries.{HasTurned}
 use Rattle.thompson_nfa.specs.Shared.{read_tree}
 use Rattle.thompson_nfa.proofs.DenoteLemmas.{denotes_like_meaning}
 use Rattle.thompson_nfa.proofs.TrieLemmas.{spelled, spells}

@@ -1,14 +1,14 @@
 -- Strings turned round, and the spellings of scalars turned round: none of them is a proper prefix of another.
-use Rattle.std.proofs.Common.{◌≡◌, ◌⊎◌, inl, inr, ℕ, zero, suc, ◌+◌, ◌<◌, ◌≤◌, List, [], ◌∷◌, ◌++◌, map, reverse, length, slice_get, Some, true, ◌&&◌, refl, sym, ap, ap₂, ◌∙◌, arith, subst}
-use Rattle.std.proofs.lemmas.Bool.{and_parts, and_from, false≢true}
+use Rattle.std.proofs.Common.{◌≡◌, inl, inr, ℕ, suc, ◌≤◌, List, [], ◌∷◌, ◌++◌, reverse, slice_get, Some, true, refl, sym, ap₂, ◌∙◌, arith, subst}
+use Rattle.std.proofs.lemmas.Bool.{false≢true}
 use Rattle.std.proofs.lemmas.List.{reverse-append, reverse-reverse}
 use Rattle.search_core.specs.Utf8.{Spells}
 use Rattle.search_core.specs.Utf8.Spells.{from_0000, from_0080, from_0800, from_1000, from_d000, from_e000, from_10000, from_40000, from_100000}
 use Rattle.hir_core.specs.Sequences.{is_in_ranges, utf8_sequences}
 use Rattle.hir_core.proofs.SequenceLemmas.{string_is_spelling}
-use Rattle.thompson_nfa.specs.RangeTries.{IsIn, IsApart, IsWith, AreRanges}
-use Rattle.thompson_nfa.specs.ClassTries.{turned_round, HasTurned, GainsTurned, IsTurnedSpelling, AreTurnedSpellings}
-use Rattle.thompson_nfa.proofs.TrieLemmas.{spelled, spells, in_append, in_left, in_right}
+use Rattle.thompson_nfa.specs.RangeTries.{IsIn, IsApart}
+use Rattle.thompson_nfa.specs.ClassTries.{turned_round, IsTurnedSpelling, AreTurnedSpellings}
+use Rattle.thompson_nfa.proofs.TrieLemmas.{spelled, spells}
 
 -- ---- strings of sequences turned round
 

@@ -1,5 +1,5 @@
 -- The ranges that are inserted are those of the sequence, turned round.
-use Rattle.std.proofs.Common.{map, reverse, sym, ap, ◌∙◌, subst}
+use Rattle.std.proofs.Common.{map, sym, ap, ◌∙◌, subst}
 use Rattle.hir_core.specs.Sequences.{bytes_of}
 use Rattle.thompson_nfa.specs.RangeTries.{AreRanges, IsApart}
 use Rattle.thompson_nfa.proofs.ClassTrieLemmas.{ranges_turned}

@@ -2,7 +2,7 @@
 use Rattle.std.proofs.Common.{sym, ◌+◌, ◌*◌, List, ℕ, subst, map, length, take, arith}
 use Rattle.hir_core.specs.Sequences.{bytes_of}
 use Rattle.thompson_nfa.specs.RangeWalks.{paths_of}
-use Rattle.hir_core.specs.Tree.{Tree, alternation}
+use Rattle.hir_core.specs.Tree.{alternation}
 use Rattle.thompson_nfa.specs.Compiled.{Makes, Does}
 use Rattle.thompson_nfa.specs.Shared.{read_tree}
 use Rattle.thompson_nfa.specs.Utf8Compiles.{IsCompiling}
