@@ -33,3 +33,4 @@ pub mod ClosesLemmas
 pub mod ReadingLemmas
 pub mod WalkedLemmas
 pub mod ListedLemmas
+pub mod StartingLemmas
