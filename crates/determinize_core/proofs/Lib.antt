@@ -34,3 +34,4 @@ pub mod ReadingLemmas
 pub mod WalkedLemmas
 pub mod ListedLemmas
 pub mod StartingLemmas
+pub mod StepLawLemmas

@@ -23,6 +23,7 @@ mod state_eq;
 mod state_ids;
 pub mod state_laws;
 mod step_each;
+pub mod step_laws;
 mod target;
 mod todo;
 pub mod walk_theorem;

@@ -1,0 +1,135 @@
+-- Laws of steps.
+use Rattle.std.proofs.Common.{◌≡◌, ℕ, zero, suc, ◌<◌, ◌≤◌, ◌+◌, true, false, Bool, not, ◌&&◌, ◌||◌, List, [], ◌∷◌, ◌++◌, length, Option, Some, None, refl, sym, ap, ◌∙◌, arith, cond, All, subst, ⊎_elim, option_to_list}
+use Rattle.std.proofs.lemmas.Bool.{cases_Bool}
+use Rattle.std.specs.Bool.{nat_eq}
+use lib.Bits.{or_zero_r}
+use Rattle.std.specs.List.{IsDistinct, filter, flat_map}
+use Rattle.look_core.specs.LookSets.{union_of}
+use Rattle.look_core.specs.Looks.{byte_side, is_word, is_byte}
+use Rattle.look_core.specs.Terminators.{Terminator}
+use Rattle.search_types.specs.declared.match_kind.MatchKind.{MatchKind}
+use Rattle.search_types.specs.declared.match_kind.MatchKind.TheVariants.{All as AllMatches, LeftmostFirst}
+use Rattle.nfa_core.specs.Walks.{has, Has, HasNoneTwice}
+use Rattle.nfa_core.specs.Places.{first}
+use Rattle.nfa_core.specs.Runs.{answers}
+use Rattle.nfa_core.specs.Nfa.{Node, byte_range, sparse_node, dense_node, look_node, union_node, binary_union, capture_node, fail_node, match_node, Automaton, node_at, IsWellFormed}
+use Rattle.nfa_core.specs.NfaValue.{look_of, is_capture}
+use Rattle.nfa_core.specs.Reached.{AreBelow}
+use Rattle.nfa_core.proofs.MemberLemmas.{none_in, not_both, has_first, has_later, of_cons}
+use Rattle.nfa_core.proofs.PairLemmas.{names_equal}
+use Rattle.determinize_core.specs.States.{StateValue, dead}
+use Rattle.determinize_core.specs.Steps.{is_kept, kept, looks_with, have_if, with_states, is_some_kept, closed, known_before, known_behind, gains, ids_before, families, first_half, pattern_at, patterns_in, reading, unit_steps, states_behind, begun, step_value, behind, start_value}
+use Rattle.determinize_core.specs.declared.start.Start.{Start}
+use Rattle.determinize_core.proofs.CloseLemmas.{closed_once, closed_below, distinct_from_once, all_from_below}
+use Rattle.determinize_core.proofs.DecodeLemmas.{same_made}
+use Rattle.determinize_core.proofs.MatchLemmas.{reading_none}
+use Rattle.determinize_core.proofs.StartingLemmas.{one_inside}
+use Rattle.determinize_core.proofs.TargetLemmas.{units_below}
+
+-- ---- what is kept of a list
+
+kept_has : (a : Automaton) (q : ℕ) (xs : List ℕ) → Has nat_eq q (kept a xs) → Has nat_eq q xs
+kept_has a q [] h = h
+kept_has a q (x ∷ xs) h = ⊎_elim
+    (λ (e : is_kept a x ≡ true). let g : Has nat_eq q (x ∷ kept a xs) = (rw e at h) in
+    of_cons nat_eq names_equal (λ p. Has nat_eq p (x ∷ xs)) x (kept a xs) (has_first nat_eq names_equal x xs) (λ p i. has_later nat_eq p x xs (kept_has a p xs i)) q g)
+    (λ (e : is_kept a x ≡ false). let g : Has nat_eq q (kept a xs) = (rw e at h) in has_later nat_eq q x xs (kept_has a q xs g)) (cases_Bool (is_kept a x))
+
+kept_lacks : (a : Automaton) (q : ℕ) (xs : List ℕ) → has nat_eq q xs ≡ false → has nat_eq q (kept a xs) ≡ false
+kept_lacks a q xs absent = ⊎_elim (λ (h : Has nat_eq q (kept a xs)). not_both (has nat_eq q xs) _ (kept_has a q xs h) absent) (λ e. e) (cases_Bool (has nat_eq q (kept a xs)))
+
+kept_once : (a : Automaton) (xs : List ℕ) → HasNoneTwice nat_eq xs → HasNoneTwice nat_eq (kept a xs)
+kept_once a [] once = tt
+kept_once a (x ∷ xs) once = ⊎_elim
+    (λ (e : is_kept a x ≡ true). rw e (kept_lacks a x xs once.0, kept_once a xs once.1))
+    (λ (e : is_kept a x ≡ false). rw e (kept_once a xs once.1)) (cases_Bool (is_kept a x))
+
+pub kept_distinct : (a : Automaton) (looks : ℕ) (qs : List ℕ) → IsDistinct nat_eq (kept a (closed a looks qs))
+kept_distinct a looks qs = distinct_from_once (kept a (closed a looks qs)) (kept_once a (closed a looks qs) (closed_once a looks qs))
+
+pub kept_below : (a : Automaton) (looks : ℕ) (qs : List ℕ) → IsWellFormed a → AreBelow (length a.states) qs → All (λ q. q < length a.states) (kept a (closed a looks qs))
+kept_below a looks qs formed below =
+    all_from_below (length a.states) (kept a (closed a looks qs)) (λ q h. closed_below a looks formed qs below q (kept_has a q (closed a looks qs) h))
+
+-- ---- laws
+
+module _ (a : Automaton) (t : Terminator) (kind : MatchKind) (v : StateValue) (u : Option ℕ) where
+  pub step_below : IsWellFormed a → All (λ q. q < length a.states) (step_value a t kind v u).ids
+  step_below formed = kept_below a (known_behind (families a) a.reverse t u) (flat_map (unit_steps a u) (reading kind a (ids_before a t v u))) formed (units_below a formed u (reading kind a (ids_before a t v u)))
+
+  pub step_once : IsDistinct nat_eq (step_value a t kind v u).ids
+  step_once = kept_distinct a (known_behind (families a) a.reverse t u) (flat_map (unit_steps a u) (reading kind a (ids_before a t v u)))
+
+pub start_below : (a : Automaton) (t : Terminator) (s : Start) (q : ℕ) → IsWellFormed a → q < length a.states → All (λ r. r < length a.states) (start_value a t s q).ids
+start_below a t s q formed low = kept_below a (behind a t s).look_have (q ∷ []) formed (one_inside (length a.states) q low)
+
+pub start_once : (a : Automaton) (t : Terminator) (s : Start) (q : ℕ) → IsDistinct nat_eq (start_value a t s q).ids
+start_once a t s q = kept_distinct a (behind a t s).look_have (q ∷ [])
+
+one_at_most : (o : Option ℕ) → length (option_to_list o) ≤ 1
+one_at_most None = omega arith
+one_at_most (Some p) = omega arith
+
+pub few_matches : (a : Automaton) (t : Terminator) (v : StateValue) (u : Option ℕ) → length (step_value a t LeftmostFirst v u).matches ≤ 1
+few_matches a t v u = one_at_most (first (answers (pattern_at a) (ids_before a t v u)))
+
+-- the dead state
+never_both : (b c : Bool) → (b && (c && false)) ≡ false
+never_both true true = refl
+never_both true false = refl
+never_both false c = refl
+
+none_matches : (kind : MatchKind) (a : Automaton) → patterns_in kind a [] ≡ []
+none_matches AllMatches a = refl
+none_matches LeftmostFirst a = refl
+
+capture_has_no_look : (node : Node) → not (is_capture node) ≡ false → look_of node ≡ 0
+capture_has_no_look (look_node l next) e = let never : true ≡ false = e in cc
+capture_has_no_look (byte_range low high next) e = refl
+capture_has_no_look (sparse_node ranges) e = refl
+capture_has_no_look (dense_node names) e = refl
+capture_has_no_look (union_node names) e = refl
+capture_has_no_look (binary_union left right) e = refl
+capture_has_no_look (capture_node next pattern group slot) e = refl
+capture_has_no_look fail_node e = refl
+capture_has_no_look (match_node pattern) e = refl
+
+module _ (a : Automaton) where
+  first_not_kept : (q : ℕ) (qs : List ℕ) → kept a (q ∷ qs) ≡ [] → (is_kept a q ≡ false) × (kept a qs ≡ [])
+  first_not_kept q qs none = ⊎_elim
+      (λ (e : is_kept a q ≡ true). let some : q ∷ kept a qs ≡ [] = (rw e at none) in cc)
+      (λ (e : is_kept a q ≡ false). let rest : kept a qs ≡ [] = (rw e at none) in (e, rest)) (cases_Bool (is_kept a q))
+
+  none_is_kept : (qs : List ℕ) → kept a qs ≡ [] → is_some_kept a qs ≡ false
+  none_is_kept [] none = refl
+  none_is_kept (q ∷ qs) none = let parts = first_not_kept q qs none in rw parts.0 (none_is_kept qs parts.1)
+
+  none_looks : (looks : ℕ) (qs : List ℕ) → kept a qs ≡ [] → looks_with a looks qs ≡ looks
+  none_looks looks [] none = refl
+  none_looks looks (q ∷ qs) none =
+      let parts = first_not_kept q qs none in
+      let same : union_of looks (look_of (node_at a q)) ≡ looks = ap (union_of looks) (capture_has_no_look (node_at a q) parts.0) ∙ or_zero_r looks in
+      ap (λ (l : ℕ). looks_with a l qs) same ∙ none_looks looks qs parts.1
+
+  module _ (t : Terminator) (kind : MatchKind) (v : StateValue) (u : Option ℕ) where
+    pub comes_to_none : (step_value a t kind v u).matches ≡ [] → (step_value a t kind v u).ids ≡ [] → step_value a t kind v u ≡ dead
+    comes_to_none no_match no_state =
+        let some : is_some_kept a (states_behind a t kind v u) ≡ false = none_is_kept (states_behind a t kind v u) no_state in
+        let looks : looks_with a 0 (states_behind a t kind v u) ≡ 0 = none_looks 0 (states_behind a t kind v u) no_state in
+        same_made
+        (ap (λ (b : Bool). (families a).words && (is_word (byte_side u) && b)) some ∙ never_both (families a).words (is_word (byte_side u)))
+        (ap (λ (b : Bool). (families a).crlf && (is_byte (first_half a.reverse) u && b)) some ∙ never_both (families a).crlf (is_byte (first_half a.reverse) u))
+        (ap (λ (n : ℕ). have_if n (known_behind (families a) a.reverse t u)) looks) looks no_match no_state
+
+  dead_before_by : (t : Terminator) (u : Option ℕ) (b : Bool) → gains dead (known_before a.reverse t dead u) ≡ b → ids_before a t dead u ≡ []
+  dead_before_by t u true e = ap (λ (g : Bool). cond g (closed a (known_before a.reverse t dead u) []) []) e
+  dead_before_by t u false e = ap (λ (g : Bool). cond g (closed a (known_before a.reverse t dead u) []) []) e
+
+  pub stays_dead : (t : Terminator) (kind : MatchKind) (u : Option ℕ) → step_value a t kind dead u ≡ dead
+  stays_dead t kind u =
+      let before : ids_before a t dead u ≡ [] = dead_before_by t u (gains dead (known_before a.reverse t dead u)) refl in
+      let no_match : patterns_in kind a (ids_before a t dead u) ≡ [] = ap (patterns_in kind a) before ∙ none_matches kind a in
+      let reads : reading kind a (ids_before a t dead u) ≡ [] = ap (reading kind a) before ∙ reading_none kind a in
+      let no_state : kept a (states_behind a t kind dead u) ≡ [] =
+      ap (λ (qs : List ℕ). kept a (closed a (known_behind (families a) a.reverse t u) (flat_map (unit_steps a u) qs))) reads in
+      comes_to_none t kind dead u no_match no_state
