@@ -1,15 +1,15 @@
 -- A pattern that is added to the bytes of a state that is being built, and whether it is there already.
-use Rattle.std.proofs.Common.{◌≡◌, ℕ, zero, suc, ◌+◌, ◌-◌, ◌*◌, ◌/◌, ◌^◌, ◌<◌, ◌≤◌, ◌==◌, ◌||◌, Bool, true, false, not, List, [], ◌∷◌, ◌++◌, length, drop, get_or, refl, sym, ap, ◌∙◌, arith, append_assoc, append-nil, subst}
+use Rattle.std.proofs.Common.{◌≡◌, ℕ, zero, suc, ◌+◌, ◌-◌, ◌*◌, ◌/◌, ◌<◌, ◌≤◌, ◌==◌, ◌||◌, Bool, true, false, List, [], ◌∷◌, ◌++◌, length, drop, get_or, refl, sym, ap, ◌∙◌, arith, append_assoc, append-nil, subst}
 use Rattle.std.specs.Prelude.{All, slice_index, slice_set, nat_eq}
 use Rattle.std.specs.List.{list_any, IsDistinct, AllByRecursion}
 use Rattle.std.specs.Int.{w32, from_le_bytes}
 use Rattle.std.specs.Int.Bits.{bit_or}
 use Rattle.search_core.specs.Index.{greatest_index}
 use Rattle.determinize_core.specs.States.{StateValue, IsState}
-use Rattle.determinize_core.specs.StateBytes.{has_flag, number_at, first_bytes, four_bytes, four_bytes_each, pattern_bytes, flag_byte, is_match, is_listed, unfinished, decoded_unfinished, IsUnfinished}
+use Rattle.determinize_core.specs.StateBytes.{has_flag, number_at, four_bytes, four_bytes_each, pattern_bytes, flag_byte, is_match, is_listed, unfinished, decoded_unfinished, IsUnfinished}
 use Rattle.determinize_core.proofs.FlagLemmas.{set_match, set_listed, set_both, match_back, listed_back}
 use Rattle.determinize_core.proofs.DecodeLemmas.{nine, past_13, length-four_bytes_each}
-use Rattle.determinize_core.proofs.ValueLemmas.{few, small}
+use Rattle.determinize_core.proofs.ValueLemmas.{small}
 use Rattle.determinize_core.proofs.PatternLemmas.{number_of}
 use Rattle.determinize_core.proofs.EditLemmas.{told_unfinished, all_more}
 

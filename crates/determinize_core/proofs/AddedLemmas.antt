@@ -1,8 +1,8 @@
 -- States of an automaton are added one after another.
-use Rattle.std.proofs.Common.{◌≡◌, ℕ, zero, suc, ◌+◌, ◌<◌, ◌≤◌, ◌==◌, Bool, true, false, not, List, [], ◌∷◌, ◌++◌, length, drop, get_or, refl, sym, ap, ◌∙◌, arith, append_assoc, append-nil, cond, IsTrue, ◌↔◌}
+use Rattle.std.proofs.Common.{◌≡◌, ℕ, zero, suc, ◌+◌, ◌<◌, ◌≤◌, Bool, true, false, List, [], ◌∷◌, ◌++◌, length, drop, get_or, refl, sym, ap, ◌∙◌, arith, append_assoc, append-nil, cond}
 use Rattle.nfa_core.specs.Nfa.{Automaton}
 use Rattle.determinize_core.specs.States.{StateValue}
-use Rattle.determinize_core.specs.Steps.{is_kept, kept, looks_with, have_if, with_states}
+use Rattle.determinize_core.specs.Steps.{is_kept, kept, looks_with}
 use Rattle.determinize_core.specs.Added.{with_each}
 
 -- a list from a member on

@@ -1,12 +1,11 @@
 -- Walks from several states, one after another, into a set that was empty.
-use Rattle.std.proofs.Common.{◌≡◌, ℕ, zero, suc, ◌+◌, ◌*◌, ◌<◌, ◌≤◌, true, false, Bool, not, List, [], ◌∷◌, ◌++◌, length, drop, get_or, refl, sym, ap, ◌∙◌, arith, ⊎_elim, ◌⊎◌, subst, cond, append_assoc, append-nil, All, ◌||◌}
+use Rattle.std.proofs.Common.{◌≡◌, ℕ, zero, suc, ◌+◌, ◌<◌, ◌≤◌, true, false, Bool, not, List, [], ◌∷◌, ◌++◌, length, drop, refl, sym, ap, ◌∙◌, arith, ⊎_elim, subst, cond, append_assoc, append-nil, All}
 use Rattle.std.proofs.lemmas.Bool.{cases_Bool}
 use Rattle.std.proofs.lemmas.List.Sums.{sum_by-append, sum_by-cons}
 use Rattle.std.proofs.lemmas.Map.Steps.{length-le_from_distinct_below}
 use Rattle.std.proofs.Math.Seq.{drop-append_seam}
 use Rattle.std.specs.Bool.{nat_eq}
 use Rattle.std.specs.List.{sum_by, flat_map, IsDistinct, AllByRecursion}
-use Rattle.look_core.specs.declared.look.Look.{Look}
 use Rattle.look_core.specs.LookSets.{has_look}
 use Rattle.nfa_core.specs.Walks.{has, Has, HasNoneTwice, join, distinct, chain_ends, Visits, done, held, fresh}
 use Rattle.nfa_core.specs.Nfa.{Node, byte_range, sparse_node, dense_node, look_node, union_node, binary_union, capture_node, fail_node, match_node, Automaton, node_at, IsWellFormed}

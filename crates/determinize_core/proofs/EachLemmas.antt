@@ -1,5 +1,5 @@
 -- The walk over the states at a place that lists their patterns and closes where they lead by the unit.
-use Rattle.std.proofs.Common.{◌≡◌, ℕ, suc, ◌+◌, ◌<◌, ◌≤◌, true, false, List, [], ◌∷◌, ◌++◌, length, drop, get_or, Option, refl, sym, ap, ◌∙◌, arith}
+use Rattle.std.proofs.Common.{◌≡◌, ℕ, ◌+◌, ◌<◌, ◌≤◌, Bool, true, false, List, [], ◌∷◌, length, drop, get_or, Option, refl, sym, ap, ◌∙◌, arith}
 use Rattle.std.specs.Bool.{nat_eq}
 use Rattle.std.specs.List.{flat_map}
 use Rattle.search_types.specs.declared.match_kind.MatchKind.{MatchKind}
@@ -39,16 +39,19 @@ module _ (kind : MatchKind) (a : Automaton) (u : Option ℕ) (looks : ℕ) (qs :
     others_now : x ≡ record v { matches = x.matches }
     others_now = told ∙ (ap (λ (y : StateValue). record y { matches = listed_with (pattern_at a q) w.matches }) at.others ∙ ap (λ (ps : List ℕ). record v { matches = ps }) (sym listed_now))
 
-    pub step_goes_on : (new : List ℕ) (then : ℕ) → stops kind (pattern_at a q) ≡ false → Visits nat_eq (known_steps a looks) (unit_steps a u q) met new →
+    pub step_goes_on : (new : List ℕ) (then : ℕ) (b : Bool) → b ≡ stops kind (pattern_at a q) → b ≡ false → Visits nat_eq (known_steps a looks) (unit_steps a u q) met new →
         then ≤ now + 1 + known_ways a looks (drop (length met) new) → StepsAt kind a u looks qs v before (k + 1) x new then
-    step_goes_on new then on visits cost = record {
+    step_goes_on new then b tells none visits cost = let on : stops kind (pattern_at a q) ≡ false = sym tells ∙ none in record {
       closes = closes_more a looks (entries kind a u qs) before (entries kind a u (drop k qs)) met k now at.closes (unit_steps a u q) (entries kind a u (drop (k + 1) qs)) new then
           (goes_on_reading kind a (drop k qs) (drop (k + 1) qs) q left u on) visits cost;
       listed = goes_on_listed kind a (drop k qs) (drop (k + 1) qs) q left w.matches x.matches on listed_now ∙ at.listed;
       others = others_now;
     }
 
-    module _ (none : v.matches ≡ []) (last : stops kind (pattern_at a q) ≡ true) where
+    module _ (none : v.matches ≡ []) (b : Bool) (tells : b ≡ stops kind (pattern_at a q)) (some : b ≡ true) where
+      last : stops kind (pattern_at a q) ≡ true
+      last = sym tells ∙ some
+
       pub stop_matches : x ≡ record v { matches = patterns_in kind a qs }
       stop_matches =
           others_now ∙ ap (λ (ps : List ℕ). record v { matches = ps })

@@ -18,7 +18,7 @@ with_if-lt : (b : Bool) (l : Look) (s : ℕ) → IsLookSet s → IsLookSet (with
 with_if-lt true l s h = union-lt s (repr l) h (repr-lt l)
 with_if-lt false l s h = h
 
-starts_of-lt : (f : Families) → IsLookSet (starts_of f)
+pub starts_of-lt : (f : Families) → IsLookSet (starts_of f)
 starts_of-lt f =
     with_if-lt f.words WordStartHalfUnicode _
     (with_if-lt f.words WordStartHalfAscii _

@@ -35,3 +35,6 @@ pub mod WalkedLemmas
 pub mod ListedLemmas
 pub mod StartingLemmas
 pub mod StepLawLemmas
+pub mod StepStateLemmas
+pub mod IdsLemmas
+pub mod WalkingLemmas

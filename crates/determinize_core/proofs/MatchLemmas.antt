@@ -1,11 +1,11 @@
 -- The patterns that match in states, listed one after another, and the states that read the unit.
-use Rattle.std.proofs.Common.{◌≡◌, ℕ, suc, ◌+◌, ◌<◌, ◌≤◌, true, false, Bool, not, List, [], ◌∷◌, ◌++◌, length, drop, get_or, Option, Some, None, is_some, refl, sym, ap, ◌∙◌, arith, ⊎_elim, cond, option_to_list}
+use Rattle.std.proofs.Common.{◌≡◌, ℕ, true, false, List, [], ◌∷◌, ◌++◌, Option, Some, None, refl, sym, ap, ◌∙◌, ⊎_elim, option_to_list}
 use Rattle.std.proofs.lemmas.Bool.{cases_Bool}
 use Rattle.std.specs.Bool.{nat_eq}
 use Rattle.std.specs.List.{flat_map}
 use Rattle.search_types.specs.declared.match_kind.MatchKind.{MatchKind}
 use Rattle.search_types.specs.declared.match_kind.MatchKind.TheVariants.{All as AllMatches, LeftmostFirst}
-use Rattle.nfa_core.specs.Walks.{has, join, distinct}
+use Rattle.nfa_core.specs.Walks.{has, join}
 use Rattle.nfa_core.specs.Runs.{answers}
 use Rattle.nfa_core.specs.Places.{before_answer, unless_answered, first}
 use Rattle.nfa_core.specs.Nfa.{Automaton}

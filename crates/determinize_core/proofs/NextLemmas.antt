@@ -1,5 +1,5 @@
 -- What a step of powerset states puts together.
-use Rattle.std.proofs.Common.{◌≡◌, ℕ, ◌+◌, ◌*◌, ◌≤◌, true, false, Bool, List, length, Option, ◌&&◌, ◌||◌, [], refl, sym, ap, ◌∙◌, arith, cond, All, ◌<◌, subst}
+use Rattle.std.proofs.Common.{◌≡◌, ℕ, ◌≤◌, true, false, Bool, List, length, Option, ◌&&◌, ◌||◌, [], refl, sym, ap, ◌∙◌, cond, All, ◌<◌, subst}
 use Rattle.std.specs.Bool.{nat_eq}
 use Rattle.std.specs.List.{IsDistinct, flat_map}
 use Rattle.search_types.specs.declared.match_kind.MatchKind.{MatchKind}
@@ -10,7 +10,6 @@ use Rattle.nfa_core.specs.Nfa.{Automaton, IsWellFormed}
 use Rattle.nfa_core.specs.Reached.{AreBelow}
 use Rattle.nfa_core.proofs.ReachedLemmas.{has_from_all}
 use Rattle.determinize_core.specs.States.{StateValue, dead}
-use Rattle.determinize_core.specs.Costs.{free_ways}
 use Rattle.determinize_core.specs.Steps.{closed, known_before, gains, ids_before, families, first_half, patterns_in, known_behind, unit_steps, reading, states_behind, begun, is_some_kept, with_states, step_value}
 use Rattle.determinize_core.proofs.CloseLemmas.{distinct_already, once_from_distinct, distinct_from_once, closed_once, closed_below, few_once}
 

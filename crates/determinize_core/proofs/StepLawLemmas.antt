@@ -1,9 +1,9 @@
 -- Laws of steps.
-use Rattle.std.proofs.Common.{◌≡◌, ℕ, zero, suc, ◌<◌, ◌≤◌, ◌+◌, true, false, Bool, not, ◌&&◌, ◌||◌, List, [], ◌∷◌, ◌++◌, length, Option, Some, None, refl, sym, ap, ◌∙◌, arith, cond, All, subst, ⊎_elim, option_to_list}
+use Rattle.std.proofs.Common.{◌≡◌, ℕ, ◌<◌, ◌≤◌, true, false, Bool, not, ◌&&◌, List, [], ◌∷◌, length, Option, Some, None, refl, ap, ◌∙◌, arith, cond, All, ⊎_elim, option_to_list}
 use Rattle.std.proofs.lemmas.Bool.{cases_Bool}
 use Rattle.std.specs.Bool.{nat_eq}
 use lib.Bits.{or_zero_r}
-use Rattle.std.specs.List.{IsDistinct, filter, flat_map}
+use Rattle.std.specs.List.{IsDistinct, flat_map}
 use Rattle.look_core.specs.LookSets.{union_of}
 use Rattle.look_core.specs.Looks.{byte_side, is_word, is_byte}
 use Rattle.look_core.specs.Terminators.{Terminator}
@@ -15,10 +15,10 @@ use Rattle.nfa_core.specs.Runs.{answers}
 use Rattle.nfa_core.specs.Nfa.{Node, byte_range, sparse_node, dense_node, look_node, union_node, binary_union, capture_node, fail_node, match_node, Automaton, node_at, IsWellFormed}
 use Rattle.nfa_core.specs.NfaValue.{look_of, is_capture}
 use Rattle.nfa_core.specs.Reached.{AreBelow}
-use Rattle.nfa_core.proofs.MemberLemmas.{none_in, not_both, has_first, has_later, of_cons}
+use Rattle.nfa_core.proofs.MemberLemmas.{not_both, has_first, has_later, of_cons}
 use Rattle.nfa_core.proofs.PairLemmas.{names_equal}
 use Rattle.determinize_core.specs.States.{StateValue, dead}
-use Rattle.determinize_core.specs.Steps.{is_kept, kept, looks_with, have_if, with_states, is_some_kept, closed, known_before, known_behind, gains, ids_before, families, first_half, pattern_at, patterns_in, reading, unit_steps, states_behind, begun, step_value, behind, start_value}
+use Rattle.determinize_core.specs.Steps.{is_kept, kept, looks_with, have_if, is_some_kept, closed, known_before, known_behind, gains, ids_before, families, first_half, pattern_at, patterns_in, reading, unit_steps, states_behind, step_value, behind, start_value}
 use Rattle.determinize_core.specs.declared.start.Start.{Start}
 use Rattle.determinize_core.proofs.CloseLemmas.{closed_once, closed_below, distinct_from_once, all_from_below}
 use Rattle.determinize_core.proofs.DecodeLemmas.{same_made}

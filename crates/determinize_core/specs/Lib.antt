@@ -7,3 +7,4 @@ pub mod Added
 pub mod Costs
 pub mod KnownBefore
 pub mod Walked
+pub mod WalkLists

@@ -3,6 +3,7 @@
 
 mod close_all;
 mod closure;
+mod ids_of;
 mod known;
 mod look_bits;
 mod lookbehind;
@@ -27,8 +28,10 @@ pub mod step_laws;
 mod target;
 mod todo;
 pub mod walk_theorem;
+mod walking;
 
 pub use closure::epsilon_closure;
+pub use ids_of::of_nfa;
 pub use lookbehind::{LookBehind, look_behind_of_start, set_lookbehind_from_start};
 pub use next_state::next;
 pub use nfa_states::add_nfa_states;
@@ -41,3 +44,4 @@ pub use state_builder::StateBuilderEmpty;
 pub use state_builder_matches::StateBuilderMatches;
 pub use state_builder_nfa::StateBuilderNFA;
 pub use state_ids::StateIds;
+pub use walking::{walk, walk_with};

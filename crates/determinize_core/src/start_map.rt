@@ -50,7 +50,7 @@ impl StartByteMap {
 }
 
 /// The start where this byte stands before the place, and lines end at the terminator.
-fn start_of_byte(terminator: LineTerm, byte: u8) -> Start
+pub(crate) fn start_of_byte(terminator: LineTerm, byte: u8) -> Start
     ensures { result ≡ start_of terminator (Some byte) }
 {
     if byte == b'\n' {

@@ -39,6 +39,16 @@ impl<'a> StateIds<'a> {
             previous: StateID::ZERO,
         }
     }
+
+    /// Those that are left, once more.
+    pub(crate) fn rest(&self) -> StateIds<'a>
+        ensures { result ≡ self.now }
+    {
+        StateIds {
+            bytes: self.bytes,
+            previous: self.previous,
+        }
+    }
 }
 
 impl<'a> Iterator for StateIds<'a> {

@@ -6,7 +6,8 @@ ghost use Rattle.look_core.specs.Terminators.{Terminator};
 ghost use Rattle.search_types.specs.declared.match_kind.MatchKind.{MatchKind};
 ghost use Rattle.search_types.specs.declared.match_kind.MatchKind.TheVariants.{LeftmostFirst};
 ghost use Rattle.nfa_core.specs.Nfa.{Automaton, IsWellFormed};
-ghost use Rattle.determinize_core.specs.States.{StateValue, dead};
+ghost use Rattle.nfa_core.specs.NfaValue.{IsSound};
+ghost use Rattle.determinize_core.specs.States.{StateValue, IsState, dead};
 ghost use Rattle.determinize_core.specs.Steps.{step_value, start_value};
 ghost use Rattle.determinize_core.specs.declared.start.Start.{Start};
 
@@ -32,4 +33,10 @@ pub fn steps_come_to_states_of_the_automaton()
     ensures start_below { (a : Automaton) (t : Terminator) (s : Start) (q : ℕ) → IsWellFormed a → q < length a.states →
         All (λ r. r < length a.states) (start_value a t s q).ids }
     ensures start_once { (a : Automaton) (t : Terminator) (s : Start) (q : ℕ) → IsDistinct nat_eq (start_value a t s q).ids }
+{}
+
+/// What starts and steps come to is a state.
+pub fn steps_come_to_states()
+    ensures step { (a : Automaton) (t : Terminator) (kind : MatchKind) (v : StateValue) (u : Option ℕ) → IsSound a → IsState (step_value a t kind v u) }
+    ensures start { (a : Automaton) (t : Terminator) (s : Start) (q : ℕ) → IsSound a → q < length a.states → IsState (start_value a t s q) }
 {}

@@ -1,4 +1,4 @@
-use Rattle.std.proofs.Common.{◌≡◌, ◌+◌, ◌<◌, ◌≤◌, length, drop, ◌∷◌, [], arith, ap, refl, ◌∙◌}
+use Rattle.std.proofs.Common.{◌+◌, ◌<◌, ◌≤◌, length, drop, ◌∷◌, [], arith, refl, ◌∙◌}
 use Rattle.nfa_core.specs.Reached.{AreBelow}
 use Rattle.nfa_core.proofs.ReachedLemmas.{has_from_all}
 use Rattle.determinize_core.proofs.AddedLemmas.{next_left, past_all}

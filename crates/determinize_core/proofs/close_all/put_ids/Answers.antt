@@ -1,4 +1,4 @@
-use Rattle.std.proofs.Common.{◌≡◌, ◌+◌, ℕ, List, length, ◌∷◌, [], arith, ap, refl, sym, ◌∙◌, subst}
+use Rattle.std.proofs.Common.{◌≡◌, ◌+◌, ℕ, List, length, [], arith, ap, refl, sym, ◌∙◌, subst}
 use Rattle.std.specs.Bool.{nat_eq}
 use Rattle.nfa_core.specs.Reached.{AreBelow}
 use Rattle.nfa_core.specs.Walks.{join}

@@ -1,5 +1,4 @@
-use Rattle.std.proofs.Common.{◌≡◌, ◌∙◌, sym, ap, refl, ◌∷◌, [], List, ℕ, length, reverse}
-use Rattle.nfa_core.specs.Reached.{AreBelow}
+use Rattle.std.proofs.Common.{◌≡◌, ◌∙◌, ap, refl, ◌∷◌, [], List, ℕ, length, reverse}
 use Rattle.determinize_core.proofs.ClosureLemmas.{begins, goes_on, ends, counts}
 use Rattle.determinize_core.proofs.TodoLemmas.{none_left}
 use Rattle.determinize_core.proofs.closure.epsilon_closure.Goals as goal

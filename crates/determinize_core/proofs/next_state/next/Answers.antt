@@ -1,4 +1,4 @@
-use Rattle.std.proofs.Common.{◌≡◌, refl, arith}
+use Rattle.std.proofs.Common.{arith}
 use Rattle.search_core.specs.Units.{unit_byte}
 use Rattle.determinize_core.proofs.NextLemmas.{builds}
 use Rattle.determinize_core.proofs.next_state.next.Goals as goal

@@ -1,4 +1,4 @@
-use Rattle.std.proofs.Common.{◌≡◌, ap, ◌∙◌, ◌≤◌, ◌+◌, length, arith}
+use Rattle.std.proofs.Common.{ap, ◌∙◌, ◌≤◌, length, arith}
 use Rattle.search_core.specs.Units.{unit_byte}
 use Rattle.nfa_core.proofs.ReachedLemmas.{has_from_all}
 use Rattle.determinize_core.proofs.CloseLemmas.{few_once}

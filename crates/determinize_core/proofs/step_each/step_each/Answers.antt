@@ -1,4 +1,4 @@
-use Rattle.std.proofs.Common.{◌≡◌, ◌<◌, ◌≤◌, length, false, true, refl, sym, ◌∙◌, arith}
+use Rattle.std.proofs.Common.{◌<◌, ◌≤◌, length, refl, ◌∙◌, arith}
 use Rattle.search_core.specs.Units.{unit_byte}
 use Rattle.determinize_core.proofs.EachLemmas.{step_begins, step_goes_on, stop_matches, stop_closed, stop_cost, end_matches, end_closed, end_cost}
 use Rattle.determinize_core.proofs.step_each.step_each.Goals as goal
@@ -16,7 +16,7 @@ loop-k-preserved g c =
     record {
       at = step_goes_on c.args.kind c.args.nfa.now.automaton (unit_byte c.args.unit) c.args.looks (g.S.NameSet.names c.args.from.now) c.args.builder.now c.args.steps.now
           c.loop-k.k c.name-id.result c.loop-k.builder c.list_match.new.builder (g.S.NameSet.names c.loop-k.set) c.loop-k.steps c.loop-k.invariant.at within c.name-id.ensures c.in_ok-last.ensures.listed
-          (g.S.NameSet.names c.close_target.new.set) c.close_target.new.steps (sym c.in_ok-last.ensures.stops ∙ c.if-last.false) c.in_ok-close_target.ensures.visits c.in_ok-close_target.ensures.cost;
+          (g.S.NameSet.names c.close_target.new.set) c.close_target.new.steps _ c.in_ok-last.ensures.stops c.if-last.false c.in_ok-close_target.ensures.visits c.in_ok-close_target.ensures.cost;
       empty = c.in_ok-close_target.ensures.stack;
       bound = c.in_ok-close_target.ensures.bound ∙ c.loop-k.invariant.bound;
     }
@@ -26,21 +26,21 @@ returns-then-last-clause-matches g c =
     let within : c.loop-k.k < length (g.S.NameSet.names c.args.from.now) = omega (arith, c.loop-k-test.true, c.len-k-end.ensures.len) in
     stop_matches c.args.kind c.args.nfa.now.automaton (unit_byte c.args.unit) c.args.looks (g.S.NameSet.names c.args.from.now) c.args.builder.now c.args.steps.now
     c.loop-k.k c.name-id.result c.loop-k.builder c.list_match.new.builder (g.S.NameSet.names c.loop-k.set) c.loop-k.steps c.loop-k.invariant.at within c.name-id.ensures c.in_ok-last.ensures.listed
-    c.requires.matches (sym c.in_ok-last.ensures.stops ∙ c.if-last.true)
+    c.requires.matches _ c.in_ok-last.ensures.stops c.if-last.true
 
 pub returns-then-last-clause-closed : goal.returns-then-last-clause-closed
 returns-then-last-clause-closed g c =
     let within : c.loop-k.k < length (g.S.NameSet.names c.args.from.now) = omega (arith, c.loop-k-test.true, c.len-k-end.ensures.len) in
     stop_closed c.args.kind c.args.nfa.now.automaton (unit_byte c.args.unit) c.args.looks (g.S.NameSet.names c.args.from.now) c.args.builder.now c.args.steps.now
     c.loop-k.k c.name-id.result c.loop-k.builder c.list_match.new.builder (g.S.NameSet.names c.loop-k.set) c.loop-k.steps c.loop-k.invariant.at within c.name-id.ensures c.in_ok-last.ensures.listed
-    c.requires.matches (sym c.in_ok-last.ensures.stops ∙ c.if-last.true) c.is_sound.ensures.named
+    c.requires.matches _ c.in_ok-last.ensures.stops c.if-last.true c.is_sound.ensures.named
 
 pub returns-then-last-clause-cost : goal.returns-then-last-clause-cost
 returns-then-last-clause-cost g c =
     let within : c.loop-k.k < length (g.S.NameSet.names c.args.from.now) = omega (arith, c.loop-k-test.true, c.len-k-end.ensures.len) in
     let cost = stop_cost c.args.kind c.args.nfa.now.automaton (unit_byte c.args.unit) c.args.looks (g.S.NameSet.names c.args.from.now) c.args.builder.now c.args.steps.now
     c.loop-k.k c.name-id.result c.loop-k.builder c.list_match.new.builder (g.S.NameSet.names c.loop-k.set) c.loop-k.steps c.loop-k.invariant.at within c.name-id.ensures c.in_ok-last.ensures.listed
-    c.requires.matches (sym c.in_ok-last.ensures.stops ∙ c.if-last.true) c.is_sound.ensures.named in
+    c.requires.matches _ c.in_ok-last.ensures.stops c.if-last.true c.is_sound.ensures.named in
     omega (arith, cost, c.len-k-end.ensures.fits, c.requires.from)
 
 pub returns-clause-matches : goal.returns-clause-matches

@@ -1,10 +1,10 @@
-use Rattle.std.proofs.Common.{◌≡◌, ℕ, ◌≤◌, ◌==◌, ◌++◌, ◌∷◌, [], List, true, false, arith, ap, sym, ◌∙◌, subst}
+use Rattle.std.proofs.Common.{◌≡◌, ℕ, ◌≤◌, ◌++◌, List, true, false, arith, ap, sym, ◌∙◌}
 use Rattle.std.specs.Prelude.{slice_index, slice_set, nat_eq}
 use Rattle.std.specs.Int.Bits.{bit_or}
 use Rattle.std.specs.List.{list_any}
 use Rattle.search_core.specs.Index.{greatest_index}
 use Rattle.determinize_core.specs.States.{StateValue}
-use Rattle.determinize_core.specs.StateBytes.{has_flag, four_bytes, decoded_unfinished, IsUnfinished}
+use Rattle.determinize_core.specs.StateBytes.{has_flag, four_bytes}
 use Rattle.determinize_core.proofs.AddLemmas.{with_match, keeps_listed, keeps_second, keeps_first, keeps_told}
 use Rattle.determinize_core.proofs.state_builder_matches.StateBuilderMatches.add_match_pattern_id.Goals as goal
 

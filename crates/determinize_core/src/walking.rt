@@ -1,0 +1,176 @@
+ghost use Rattle.std.specs.Prelude.{◌≡◌, ◌<◌, ◌≤◌, ℕ, [], ◌∷◌, ◌++◌, drop, length, All, OnOk, IfOk, Some};
+ghost use Rattle.std.specs.Bool.{nat_eq};
+ghost use Rattle.std.specs.List.{IsDistinct};
+ghost use Rattle.search_core.specs.Units.{unit_byte};
+ghost use Rattle.determinize_core.specs.States.{StateValue};
+ghost use Rattle.determinize_core.specs.Starts.{start_of};
+ghost use Rattle.determinize_core.specs.Steps.{start_value, step_value};
+ghost use Rattle.determinize_core.specs.WalkLists.{walked, units_of};
+
+use crate::next_state::next;
+use crate::start::Start;
+use crate::start_map::start_of_byte;
+use crate::starting::start_state;
+use crate::state::State;
+use crate::state_builder::StateBuilderEmpty;
+use nfa_core::{NFA, NameSet, Sets, SparseSets, Steps};
+use search_core::{StateID, Unit};
+use search_types::MatchKind;
+use std::alloc::{AllocError, Global};
+use std::marker::Brand;
+use std::sync::ledger::{Blank, Ledger};
+
+/// The states of a walk over bytes in the order in which they are read: the one in which it starts from a state of the
+/// automaton, by the byte behind its first place, the one behind each byte, and the one behind the end of the
+/// input. It is refused where memory lacks.
+pub fn walk(
+    alloc: Global,
+    nfa: &NFA,
+    kind: MatchKind,
+    start: StateID,
+    look_behind: Option<u8>,
+    bytes: &[u8],
+) -> Result<Vec<State>, AllocError>
+    requires { start < length nfa.now.automaton.states }
+    ensures { IfOk result (λ states. states.items ≡ walked nfa.now.automaton nfa.now.terminator kind
+        (start_value nfa.now.automaton nfa.now.terminator (start_of nfa.now.terminator look_behind) start) (units_of bytes.now)) }
+{
+    walk_counted::<Brand>(alloc, nfa, kind, start, look_behind, bytes, Blank::new(1))
+}
+
+/// The same, and counts the steps.
+fn walk_counted<L: Ledger>(
+    alloc: Global,
+    nfa: &NFA,
+    kind: MatchKind,
+    start: StateID,
+    look_behind: Option<u8>,
+    bytes: &[u8],
+    blank: Blank,
+) -> Result<Vec<State>, AllocError>
+    requires inside { start < length nfa.now.automaton.states }
+    requires name { blank.name ≡ L.name }
+    requires parts { blank.parts ≡ L.parts }
+    requires some { 0 < blank.parts }
+    ensures { IfOk result (λ states. states.items ≡ walked nfa.now.automaton nfa.now.terminator kind
+        (start_value nfa.now.automaton nfa.now.terminator (start_of nfa.now.terminator look_behind) start) (units_of bytes.now)) }
+{
+    nfa.is_sound();
+    let mut steps = Steps::<L>::new(blank);
+    let mut sets = SparseSets::new(alloc, nfa.states().len())?;
+    let states = walk_with(
+        alloc,
+        nfa,
+        kind,
+        &mut sets,
+        start,
+        look_behind,
+        bytes,
+        &mut steps,
+    )?;
+    Ok(states)
+}
+
+/// The same with sets for the states of the automaton.
+pub fn walk_with<S: NameSet, L: Ledger>(
+    alloc: Global,
+    nfa: &NFA,
+    kind: MatchKind,
+    sets: &mut Sets<S>,
+    start: StateID,
+    look_behind: Option<u8>,
+    bytes: &[u8],
+    steps: &mut Steps<L>,
+) -> Result<Vec<State>, AllocError>
+    requires inside { start < length nfa.now.automaton.states }
+    requires bound1 { S.bound sets.old.set1 ≡ length nfa.now.automaton.states }
+    requires bound2 { S.bound sets.old.set2 ≡ length nfa.now.automaton.states }
+    ensures { IfOk result (λ states. states.items ≡ walked nfa.now.automaton nfa.now.terminator kind
+        (start_value nfa.now.automaton nfa.now.terminator (start_of nfa.now.terminator look_behind) start) (units_of bytes.now)) }
+{
+    nfa.is_sound();
+    let mut stack = Vec::new(alloc);
+    let begin = start_behind(nfa, look_behind);
+    let built = start_state(
+        nfa,
+        begin,
+        start,
+        &mut sets.set1,
+        &mut stack,
+        StateBuilderEmpty::new(alloc),
+        steps,
+    )?;
+    let first = built.to_state(alloc)?;
+    let states = walk_from(alloc, nfa, kind, sets, &mut stack, first, bytes, steps)?;
+    Ok(states)
+}
+
+/// The states of a walk over bytes from a state.
+fn walk_from<S: NameSet, L: Ledger>(
+    alloc: Global,
+    nfa: &NFA,
+    kind: MatchKind,
+    sets: &mut Sets<S>,
+    stack: &mut Vec<StateID>,
+    first: State,
+    bytes: &[u8],
+    steps: &mut Steps<L>,
+) -> Result<Vec<State>, AllocError>
+    requires bound1 { S.bound sets.old.set1 ≡ length nfa.now.automaton.states }
+    requires bound2 { S.bound sets.old.set2 ≡ length nfa.now.automaton.states }
+    requires below { All (λ q. q < length nfa.now.automaton.states) first.ids }
+    requires once { IsDistinct nat_eq first.ids }
+    requires empty { stack.old.items ≡ [] }
+    ensures { IfOk result (λ states. states.items ≡ walked nfa.now.automaton nfa.now.terminator kind first (units_of bytes.now)) }
+{
+    nfa.is_sound();
+    let mut states = Vec::new(alloc);
+    let mut last = first;
+    for k in 0..bytes.len() {
+        let unit = Unit::u8(bytes[k]);
+        let behind = state_behind(alloc, nfa, kind, sets, stack, &last, unit, steps)?;
+        states.push(last)?;
+        last = behind;
+    }
+    let end = state_behind(alloc, nfa, kind, sets, stack, &last, Unit::eoi(256), steps)?;
+    states.push(last)?;
+    states.push(end)?;
+    Ok(states)
+}
+
+/// The state behind a unit.
+fn state_behind<S: NameSet, L: Ledger>(
+    alloc: Global,
+    nfa: &NFA,
+    kind: MatchKind,
+    sets: &mut Sets<S>,
+    stack: &mut Vec<StateID>,
+    state: &State,
+    unit: Unit,
+    steps: &mut Steps<L>,
+) -> Result<State, AllocError>
+    requires bound1 { S.bound sets.old.set1 ≡ length nfa.now.automaton.states }
+    requires bound2 { S.bound sets.old.set2 ≡ length nfa.now.automaton.states }
+    requires below { All (λ q. q < length nfa.now.automaton.states) state.now.ids }
+    requires once { IsDistinct nat_eq state.now.ids }
+    requires empty { stack.old.items ≡ [] }
+    ensures value { IfOk result (λ behind. behind ≡ step_value nfa.now.automaton nfa.now.terminator kind state.now (unit_byte unit)) }
+    ensures stack { OnOk result (stack.new.items ≡ []) }
+    ensures bound1 { S.bound sets.new.set1 ≡ length nfa.now.automaton.states }
+    ensures bound2 { S.bound sets.new.set2 ≡ length nfa.now.automaton.states }
+{
+    let empty = StateBuilderEmpty::new(alloc);
+    let built = next(nfa, kind, sets, stack, state, unit, empty, steps)?;
+    let behind = built.to_state(alloc)?;
+    Ok(behind)
+}
+
+/// The start where this byte stands before the place, if one does.
+fn start_behind(nfa: &NFA, look_behind: Option<u8>) -> Start
+    ensures { result ≡ start_of nfa.now.terminator look_behind }
+{
+    match look_behind {
+        Some(byte) => start_of_byte(nfa.look_matcher().get_line_terminator(), byte),
+        None => Start::Text,
+    }
+}
