@@ -5,7 +5,7 @@ use Rattle.std.proofs.lemmas.Grind.{common_steps}
 use Rattle.thompson_nfa.specs.declared.literal_groups.Edge.{Edge}
 use denote.Ref.{Bor}
 use Rattle.std.proofs.lemmas.List.{map-append, length-map}
-use Rattle.thompson_nfa.specs.LiteralGroups.{texts, groups_of, with_tail, tails, lesser, with_first, next_of, behind_byte, chunk_strings, Ascends, AreInside, bytes_in, bytes_in_all, AllSome, IsChunk, AddsGroups}
+use Rattle.thompson_nfa.specs.LiteralGroups.{texts, groups_of, with_tail, tails, lesser, with_first, next_of, behind_byte, chunk_strings, Ascends, AreInside, bytes_in, bytes_in_all, AllSome, IsChunk}
 
 -- the bytes of those that begin with `low` or above
 abbrev pub bytes_from : ℕ → List (List ℕ) → ℕ
@@ -308,9 +308,6 @@ module _ (first : ℕ) (old new : List (List (List ℕ))) (low : ℕ) (edges : L
       inside = inside_wider (first + length old) (first + length new) first (length (before ++ new)) edges so_far.inside (omega arith) (omega (arith, length-append before new, len));
       same_tails = λ c. ⊎_elim (λ (l : c < low). so_far.below before len c l) (λ (l : low ≤ c). so_far.above before len c l ∙ sym (over c l)) (cases_lt c low);
     }
-
-    pub chunk_adds : AddsGroups old new (length edges) strings
-    chunk_adds = record { added = so_far.added; is = so_far.is; one_each = so_far.one_each; some = so_far.some; room = omega (arith, so_far.room) }
 
 -- ---- groups that hold references
 

@@ -289,22 +289,6 @@ module _ (first : ℕ) (old new : List (List (List ℕ))) (items : List (List Ed
   match_next true m rest items2 e is = let P : List (List Edge) → Type 0 = λ xs. Listing first old new xs rest true all in subst P (sym is) (match_again rest m e)
   match_next false m rest items2 e is = let P : List (List Edge) → Type 0 = λ xs. Listing first old new xs rest true all in subst P (sym is) (match_pushed rest m e)
 
-  -- all strings were met
-  pub all_listed : 1 ≤ length all → left ≡ [] → (before : List (List (List ℕ))) → length before ≡ first → IsNode first (before ++ new) items all
-  all_listed enough none before len =
-      let whole : so_far.met ≡ all = sym (append-nil so_far.met) ∙ ap (λ (l : List (List ℕ)). so_far.met ++ l) (sym none) ∙ so_far.split in
-      record {
-        like = λ h i. so_far.like before len h i ∙ ap (λ (l : List (List ℕ)). distinct nat_eq (ends_of l h i)) whole;
-        chunks = so_far.chunks before len;
-        some = so_far.some (omega (arith, ap length whole, enough));
-        few = one_at_most matched (length items) (chunks_in items) so_far.few;
-      }
-
-  pub all_added : left ≡ [] → AddsGroups old new (edges_in items) all
-  all_added none =
-      let whole : so_far.met ≡ all = sym (append-nil so_far.met) ∙ ap (λ (l : List (List ℕ)). so_far.met ++ l) (sym none) ∙ so_far.split in
-      record { added = so_far.added; is = so_far.is; one_each = so_far.one_each; some = so_far.some_added; room = omega (arith, so_far.room, ap bytes_in whole) }
-
   -- a run of strings that don't end here
   chunk_pushed : (more : List (List (List ℕ))) (edges : List Edge) (run rest : List (List ℕ)) → left ≡ run ++ rest → NoneEnds run → 1 ≤ length run → AddsGroups new more (length edges) run →
       ((before : List (List (List ℕ))) → length before ≡ first → IsChunk first (before ++ more) edges run) → Listing first old more (items ++ edges ∷ []) rest false all
@@ -475,12 +459,6 @@ pub record NodesTo (nodes : List (List (List Edge))) (groups : List (List (List 
   pub root : get_or groups 0 [] ≡ strings
   pub each : (i : ℕ) → i < length nodes → IsNode (i + 1) groups (get_or nodes i []) (get_or groups i [])
   pub room : edges_in_all nodes + bytes_in_all (drop (length nodes) groups) ≤ bytes_in strings
-
-pub one_group : (nodes : List (List (List Edge))) (groups : List (List (List ℕ))) (strings : List (List ℕ)) → 1 ≤ length strings → nodes ≡ [] → groups ≡ strings ∷ [] → NodesTo nodes groups strings
-one_group nodes groups strings enough none one =
-    let P : List (List (List Edge)) → Type 0 = λ ns. NodesTo ns groups strings in
-    let Q : List (List (List ℕ)) → Type 0 = λ gs. NodesTo [] gs strings in
-    subst P (sym none) (subst Q (sym one) (record { within = omega arith; some = omega arith; filled = (enough, tt); root = refl; each = λ i l. absurd (omega arith); room = omega arith }))
 
 -- groups that are added later don't matter
 node_kept : (first less : ℕ) (groups more : List (List (List ℕ))) (items : List (List Edge)) (strings : List (List ℕ)) → less ≤ first → IsNode first groups items strings → IsNode less (groups ++ more) items strings

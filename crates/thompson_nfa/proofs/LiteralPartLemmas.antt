@@ -3,7 +3,6 @@ use Rattle.std.proofs.Common.{◌≡◌, ℕ, suc, ◌+◌, ◌*◌, ◌<◌, �
 use Rattle.std.specs.Prelude.{Vec}
 use Rattle.std.specs.Global.{Global}
 use Rattle.std.specs.List.{list_all, sum_by}
-use Rattle.std.proofs.lemmas.Bool.{leb-true}
 use Rattle.std.proofs.lemmas.List.{reverse-reverse, length-reverse, take_more, take_all}
 use Rattle.std.proofs.lemmas.List.Sums.{sum_by-cons}
 use Rattle.hir_core.specs.Facts.{count, capped}
@@ -17,10 +16,7 @@ use Rattle.thompson_nfa.specs.Compiled.{Makes, Does}
 use Rattle.thompson_nfa.specs.LiteralGroups.{bytes_in}
 use Rattle.thompson_nfa.specs.LiteralParts.{is_literal, are_literals, bytes_of_literal, read_strings}
 use Rattle.thompson_nfa.specs.LiteralStates.{spelt, literals, Strings}
-use Rattle.search_types.specs.Groups.{Groups}
-use Rattle.thompson_nfa.specs.NotedGroups.{noted}
 use Rattle.thompson_nfa.specs.Refusals.{Quits}
-use Rattle.thompson_nfa.specs.declared.which_captures.WhichCaptures.{WhichCaptures}
 use Rattle.thompson_nfa.proofs.ProgressLemmas.{made_capped}
 use Rattle.thompson_nfa.proofs.RoomLemmas.{alternation_count}
 use Rattle.thompson_nfa.proofs.ScalarLemmas.{quits_capped}
@@ -136,11 +132,6 @@ module _ (trie : Strings) (xs : List Tree) (k : ℕ) (old new : Assembly) (is : 
   all : list_all is_literal xs ≡ true
   all = (both_hold (nat_le 2 (length xs)) (list_all is_literal xs) wanted).1
 
-  pub some_strings : 1 ≤ length trie.strings
-  some_strings =
-      let two = leb-true 2 (length xs) (both_hold (nat_le 2 (length xs)) (list_all is_literal xs) wanted).0 in
-      omega (arith, ap length strings_are, read_long old.reverse xs)
-
   pub literals_made : (start end : ℕ) → Makes old new start end (1 + 2 * bytes_in trie.strings) → Makes old new start end (count (alternation xs))
   literals_made start end m =
       let P : List (List ℕ) → Type 0 = λ ws. Makes old new start end (1 + 2 * bytes_in ws) in
@@ -155,18 +146,3 @@ module _ (trie : Strings) (xs : List Tree) (k : ℕ) (old new : Assembly) (is : 
   literals_quit e q =
       let P : List (List ℕ) → Type 0 = λ ws. Quits old new (1 + 2 * bytes_in ws) e in
       quits_capped (count (alternation xs)) (subst P strings_are q) (fits old.reverse xs all)
-
--- ---- groups: there are none
-
-literal_notes : (kept : WhichCaptures) (p : ℕ) (x : Tree) (groups : Groups) → is_literal x ≡ true → noted kept p x groups ≡ groups
-literal_notes kept p x groups e = ap (λ (y : Tree). noted kept p y groups) (sym (literal_is x e))
-
-literals_note : (kept : WhichCaptures) (p : ℕ) (xs : List Tree) (groups : Groups) → list_all is_literal xs ≡ true → noted kept p (alternation xs) groups ≡ groups
-literals_note kept p [] groups e = refl
-literals_note kept p (x ∷ xs) groups e =
-    let b = both_hold (is_literal x) (list_all is_literal xs) e in
-    ap (λ (gs : Groups). noted kept p (alternation xs) gs) (literal_notes kept p x groups b.0) ∙ literals_note kept p xs groups b.1
-
--- an alternation of literals notes no group
-pub literals_note_none : (kept : WhichCaptures) (p : ℕ) (xs : List Tree) (groups : Groups) → are_literals xs ≡ true → noted kept p (alternation xs) groups ≡ groups
-literals_note_none kept p xs groups wanted = literals_note kept p xs groups (both_hold (nat_le 2 (length xs)) (list_all is_literal xs) wanted).1

@@ -120,10 +120,7 @@ module _ (old mid new : Assembly) (end : ℕ) (nodes : List (List (List Edge))) 
   pub node_chunks : AreChunks 0 (length names) items
   node_chunks = are_wider (k + 1) (length so_far.trie.groups) 0 (length names) items node.chunks (omega arith) (omega (arith, so_far.names_long, so_far.trie.as_many))
 
-  pub names_below : All (λ q. q < length mid.parts) names
-  names_below = All-weaker (IsThere old mid) (λ q. q < length mid.parts) (λ q t. t.1) names so_far.names_there
-
-  pub end_below : end < length mid.parts
+  end_below : end < length mid.parts
   end_below = omega (arith, so_far.end_is, so_far.longer)
 
   edges_now : edges_in_all (drop k nodes) ≡ edges_in items + edges_in_all (drop (k + 1) nodes)
@@ -248,14 +245,6 @@ module _ {V : Type 0} (items_of : V → List (List Edge)) (rows : List V) (old m
   turn_chunks =
       let P : List ℕ → Type 0 = λ ns. AreChunks 0 (length ns) row in
       subst P (sym now_is) (node_chunks old mid old end (map items_of rows) strings names k next less row here)
-
-  pub turn_names : All (λ q. q < length mid.parts) now
-  turn_names =
-      let P : List ℕ → Type 0 = All (λ q. q < length mid.parts) in
-      subst P (sym now_is) (names_below old mid old end (map items_of rows) strings names k next less row here)
-
-  pub turn_end : end < length mid.parts
-  turn_end = end_below old mid old end (map items_of rows) strings names k next less row here
 
   pub turn_refused : (new : Assembly) (e : BuildError) → Quits mid new (2 * edges_in row) e → Quits old new (1 + 2 * bytes_in strings) e
   turn_refused new e r = node_refused old mid new end (map items_of rows) strings names k next less row here e r
