@@ -4,7 +4,6 @@ mod DecodeLemmas
 mod EditLemmas
 mod FlagLemmas
 mod LengthLemmas
-mod LookBitsLemmas
 mod PatternLemmas
 mod StateLemmas
 mod StateRows

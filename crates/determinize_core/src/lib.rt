@@ -5,7 +5,6 @@ mod close_all;
 mod closure;
 mod ids_of;
 mod known;
-mod look_bits;
 mod lookbehind;
 mod next_state;
 mod nfa_states;

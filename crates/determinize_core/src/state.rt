@@ -3,7 +3,6 @@ ghost use Rattle.look_core.specs.LookSets.{IsLookSet};
 ghost use Rattle.determinize_core.specs.States.{dead, IsState};
 ghost use Rattle.determinize_core.specs.StateBytes.{encoded, decoded, IsEncoded, is_match};
 
-use crate::look_bits::look_set_of;
 use crate::state_bytes::{FROM_WORD, HALF_CRLF, LISTED, MATCHES, has_flag, ids_start, number_at};
 use crate::state_ids::StateIds;
 use look_core::LookSet;
@@ -90,14 +89,14 @@ impl State {
     pub fn look_have(&self) -> LookSet
         ensures { result ≡ self.now.look_have }
     {
-        look_set_of(number_at(self.as_bytes(), 1))
+        LookSet::from_bits(number_at(self.as_bytes(), 1))
     }
 
     /// The looks of the states.
     pub fn look_need(&self) -> LookSet
         ensures { result ≡ self.now.look_need }
     {
-        look_set_of(number_at(self.as_bytes(), 5))
+        LookSet::from_bits(number_at(self.as_bytes(), 5))
     }
 }
 

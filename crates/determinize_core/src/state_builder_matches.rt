@@ -4,7 +4,6 @@ ghost use Rattle.std.specs.List.{list_any};
 ghost use Rattle.determinize_core.specs.States.{StateValue};
 ghost use Rattle.determinize_core.specs.StateBytes.{IsUnfinished, decoded_unfinished, is_listed};
 
-use crate::look_bits::look_set_of;
 use crate::state_builder_nfa::StateBuilderNFA;
 use crate::state_bytes::{FROM_WORD, HALF_CRLF, LISTED, MATCHES, has_flag, number_at};
 use crate::state_edit::{push_behind_eight, push_behind_four, push_number, set_flag, write_number};
@@ -71,7 +70,7 @@ impl StateBuilderMatches {
     pub fn look_have(&self) -> LookSet
         ensures { result ≡ self.now.look_have }
     {
-        look_set_of(number_at(&self.bytes, 1))
+        LookSet::from_bits(number_at(&self.bytes, 1))
     }
 
     /// Changes the looks that are known to hold.

@@ -3,7 +3,6 @@ ghost use Rattle.search_core.specs.Index.{greatest_index};
 ghost use Rattle.determinize_core.specs.States.{StateValue, IsState};
 ghost use Rattle.determinize_core.specs.StateBytes.{encoded, IsEncoded, decoded, zigzag};
 
-use crate::look_bits::look_set_of;
 use crate::state::State;
 use crate::state_builder::StateBuilderEmpty;
 use crate::state_bytes::number_at;
@@ -72,14 +71,14 @@ impl StateBuilderNFA {
     pub fn look_have(&self) -> LookSet
         ensures { result ≡ self.now.look_have }
     {
-        look_set_of(number_at(self.as_bytes(), 1))
+        LookSet::from_bits(number_at(self.as_bytes(), 1))
     }
 
     /// The looks of the states.
     pub fn look_need(&self) -> LookSet
         ensures { result ≡ self.now.look_need }
     {
-        look_set_of(number_at(self.as_bytes(), 5))
+        LookSet::from_bits(number_at(self.as_bytes(), 5))
     }
 
     /// Changes the looks that are known to hold.

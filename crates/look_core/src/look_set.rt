@@ -54,6 +54,14 @@ impl LookSet {
         self.bits
     }
 
+    /// The set that a number is, as [`bits`](LookSet::bits) gives it.
+    pub fn from_bits(bits: u32) -> LookSet
+        requires { IsLookSet bits }
+        ensures { result ≡ bits }
+    {
+        LookSet { bits }
+    }
+
     /// How many looks are in the set.
     pub fn len(self) -> usize
         ensures { result ≡ length (members self) }
