@@ -1,9 +1,11 @@
 -- What a step of powerset states puts together.
-use Rattle.std.proofs.Common.{◌≡◌, ℕ, ◌≤◌, true, false, Bool, List, length, Option, ◌&&◌, ◌||◌, [], refl, sym, ap, ◌∙◌, cond, All, ◌<◌, subst}
+use Rattle.std.proofs.Common.{◌≡◌, ℕ, ◌≤◌, ◌==◌, true, false, not, Bool, List, length, Option, ◌&&◌, ◌||◌, [], refl, sym, ap, ◌∙◌, cond, All, ◌<◌, subst}
 use Rattle.std.specs.Bool.{nat_eq}
+use Rattle.std.specs.Int.Bits.{and_zero_r}
 use Rattle.std.specs.List.{IsDistinct, flat_map}
 use Rattle.search_types.specs.declared.match_kind.MatchKind.{MatchKind}
 use Rattle.look_core.specs.Looks.{byte_side, is_word, is_byte}
+use Rattle.look_core.specs.LookSets.{shared_by, without}
 use Rattle.look_core.specs.Terminators.{Terminator}
 use Rattle.nfa_core.specs.Walks.{distinct, HasNoneTwice}
 use Rattle.nfa_core.specs.Nfa.{Automaton, IsWellFormed}
@@ -17,6 +19,15 @@ module _ (a : Automaton) (t : Terminator) (v : StateValue) (u : Option ℕ) wher
   -- the states at the place, where the unit decides a needed look and where it doesn't
   by_gain : (b : Bool) → gains v (known_before a.reverse t v u) ≡ b → ids_before a t v u ≡ cond b (closed a (known_before a.reverse t v u) v.ids) v.ids
   by_gain b e = ap (λ (g : Bool). cond g (closed a (known_before a.reverse t v u) v.ids) v.ids) e
+
+  -- a state that needs no looks gains none
+  nothing_gained : v.look_need ≡ 0 → gains v (known_before a.reverse t v u) ≡ false
+  nothing_gained none =
+      let new : ℕ = without (known_before a.reverse t v u) v.look_have in
+      ap (λ (s : ℕ). not (s == 0)) (ap (shared_by new) none ∙ and_zero_r new)
+
+  pub before_without_looks : IsDistinct nat_eq v.ids → (put : List ℕ) → put ≡ distinct nat_eq v.ids → (need : ℕ) → need ≡ v.look_need → need ≡ 0 → put ≡ ids_before a t v u
+  before_without_looks once put is need needed none = is ∙ (distinct_already v.ids once ∙ sym (by_gain false (nothing_gained (sym needed ∙ none))))
 
   module _ (once : IsDistinct nat_eq v.ids) (looks : ℕ) (known : looks ≡ known_before a.reverse t v u) (put : List ℕ) (is : put ≡ distinct nat_eq v.ids) (b : Bool) (told : b ≡ gains v looks) where
     put_is : put ≡ v.ids

@@ -89,6 +89,9 @@ fn states_before<S: NameSet, L: Ledger>(
 {
     sets.clear();
     put_ids(state, &mut sets.set1, steps);
+    if state.look_need().is_empty() {
+        return Ok(());
+    }
     let looks = known_before(nfa, state, unit);
     if !gains(state, looks) {
         return Ok(());

@@ -1,9 +1,18 @@
-use Rattle.std.proofs.Common.{ap, ◌∙◌, ◌≤◌, length, arith}
+use Rattle.std.proofs.Common.{refl, ap, ◌∙◌, ◌≤◌, length, arith}
 use Rattle.search_core.specs.Units.{unit_byte}
 use Rattle.nfa_core.proofs.ReachedLemmas.{has_from_all}
 use Rattle.determinize_core.proofs.CloseLemmas.{few_once}
-use Rattle.determinize_core.proofs.NextLemmas.{before_same, before_gained, put_few}
+use Rattle.determinize_core.proofs.NextLemmas.{before_without_looks, before_same, before_gained, put_few}
 use Rattle.determinize_core.proofs.next_state.states_before.Goals as goal
+
+pub returns-then-is_empty-clause-ids : goal.returns-then-is_empty-clause-ids
+returns-then-is_empty-clause-ids g c =
+    before_without_looks c.args.nfa.now.automaton c.args.nfa.now.terminator c.args.state.now (unit_byte c.args.unit) c.requires.once (g.S.NameSet.names c.put_ids.new.set) c.put_ids.ensures.names c.look_need.result c.look_need.ensures (c.if-is_empty.ensures.0 refl)
+
+pub returns-then-is_empty-clause-cost : goal.returns-then-is_empty-clause-cost
+returns-then-is_empty-clause-cost g c =
+    let all : length c.args.state.now.ids ≤ length c.args.nfa.now.automaton.states = few_once _ c.args.state.now.ids c.requires.once (has_from_all _ c.args.state.now.ids c.requires.below) in
+    omega (arith, c.put_ids.ensures.cost, all)
 
 pub returns-then-not-gains-clause-ids : goal.returns-then-not-gains-clause-ids
 returns-then-not-gains-clause-ids g c =
