@@ -37,3 +37,4 @@ pub mod StepLawLemmas
 pub mod StepStateLemmas
 pub mod IdsLemmas
 pub mod WalkingLemmas
+pub mod HaystackLemmas

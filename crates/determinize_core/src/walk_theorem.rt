@@ -1,8 +1,8 @@
 //! Laws of walks from powerset state to powerset state, by the runs of the automaton. Each function has no
 //! code: its contract is the law.
-ghost use Rattle.std.specs.Prelude.{◌≡◌, ◌<◌, ◌≤◌, ℕ, suc, List, [], ◌∷◌, map, length, Option, Some, None};
+ghost use Rattle.std.specs.Prelude.{◌≡◌, ◌+◌, ◌<◌, ◌≤◌, ℕ, suc, List, [], ◌∷◌, map, length, Option, Some, None};
 ghost use Rattle.std.specs.Bool.{nat_eq};
-ghost use Rattle.std.specs.List.{filter};
+ghost use Rattle.std.specs.List.{filter, slice_get};
 ghost use Rattle.look_core.specs.Terminators.{Terminator};
 ghost use Rattle.search_types.specs.declared.match_kind.MatchKind.{MatchKind};
 ghost use Rattle.search_types.specs.declared.match_kind.MatchKind.TheVariants.{All as AllMatches, LeftmostFirst};
@@ -10,8 +10,11 @@ ghost use Rattle.nfa_core.specs.Runs.{IsMostPreferred};
 ghost use Rattle.nfa_core.specs.Places.{same_pair, first};
 ghost use Rattle.nfa_core.specs.Nfa.{Automaton, IsWellFormed};
 ghost use Rattle.nfa_core.specs.Ways.{Text, span, ways, matched, AreLists, bytes_left, place_of, ends_from};
-ghost use Rattle.determinize_core.specs.Steps.{kept, ids_before, patterns_in, unit_at, unit_behind, walk_value};
+ghost use Rattle.determinize_core.specs.States.{StateValue};
+ghost use Rattle.determinize_core.specs.Starts.{start_of};
+ghost use Rattle.determinize_core.specs.Steps.{kept, ids_before, patterns_in, start_value, unit_at, unit_behind, walk_value};
 ghost use Rattle.determinize_core.specs.Walked.{cut_of, walked_lists, latest_listed};
+ghost use Rattle.determinize_core.specs.WalkLists.{walked, units_of, haystack_of, first_place, text_of};
 
 /// The states that a search under all looks is in place by place are the lists of a walk.
 pub fn walked_lists_are_lists()
@@ -70,4 +73,38 @@ pub fn walks_depend_on_what_they_read()
         unit_behind a.reverse h i ≡ unit_behind a.reverse g j →
         ((m : ℕ) → m < k → unit_at a.reverse h (place_of a.reverse i m) ≡ unit_at a.reverse g (place_of a.reverse j m)) →
         walk_value a t kind h i q k ≡ walk_value a t kind g j q k }
+{}
+
+/// A walk over bytes behind a byte, or at the edge, is the walk over a haystack that has them there and no more, from
+/// the place where they begin for one who reads upwards, or downwards.
+pub fn walks_go_over_haystacks()
+    ensures states { (a : Automaton) (t : Terminator) (kind : MatchKind) (q : ℕ) (behind : Option ℕ) (bytes : List ℕ) (k : ℕ) → k ≤ length bytes + 1 →
+        slice_get (walked a t kind (start_value a t (start_of t behind) q) (units_of bytes)) k ≡
+        Some (walk_value a t kind (haystack_of a.reverse behind bytes) (first_place a.reverse behind bytes) q k) }
+    ensures len { (a : Automaton) (t : Terminator) (kind : MatchKind) (q : ℕ) (behind : Option ℕ) (bytes : List ℕ) →
+        length (walked a t kind (start_value a t (start_of t behind) q) (units_of bytes)) ≡ length bytes + 2 }
+{}
+
+/// The states of a walk over bytes tell what runs find in them. Where all matches are asked for, each state but the
+/// first lists the patterns of all ends of runs at the place before its unit, those of the preferred runs first.
+/// Under leftmost-first a state lists one pattern at most: where there is a run, the state behind the unit at the end of
+/// the most preferred one lists its pattern, and no later one lists any; where there is none, no state does.
+pub fn walks_list_what_runs_find()
+    ensures all { (a : Automaton) (t : Terminator) (q : ℕ) (behind : Option ℕ) (bytes : List ℕ) (states : List StateValue) → IsWellFormed a → q < length a.states →
+        states ≡ walked a t AllMatches (start_value a t (start_of t behind) q) (units_of bytes) →
+        (k : ℕ) (v : StateValue) → slice_get states (suc k) ≡ Some v →
+        v.matches ≡ map (λ (x : ℕ × ℕ). x.1) (filter (λ x. nat_eq x.0 (place_of a.reverse (first_place a.reverse behind bytes) k))
+        (ends_from a (text_of a.reverse t behind bytes) (first_place a.reverse behind bytes, q))) }
+    ensures one { (a : Automaton) (t : Terminator) (q : ℕ) (behind : Option ℕ) (bytes : List ℕ) (states : List StateValue) →
+        states ≡ walked a t LeftmostFirst (start_value a t (start_of t behind) q) (units_of bytes) →
+        (k : ℕ) (v : StateValue) → slice_get states k ≡ Some v → length v.matches ≤ 1 }
+    ensures some { (a : Automaton) (t : Terminator) (q : ℕ) (behind : Option ℕ) (bytes : List ℕ) (states : List StateValue) → IsWellFormed a → q < length a.states →
+        states ≡ walked a t LeftmostFirst (start_value a t (start_of t behind) q) (units_of bytes) →
+        (j p : ℕ) → first (ends_from a (text_of a.reverse t behind bytes) (first_place a.reverse behind bytes, q)) ≡ Some (j, p) →
+        (k : ℕ) × (v : StateValue) × (j ≡ place_of a.reverse (first_place a.reverse behind bytes) k) × (slice_get states (suc k) ≡ Some v) × (v.matches ≡ p ∷ []) ×
+        ((m : ℕ) (w : StateValue) → k < m → slice_get states (suc m) ≡ Some w → w.matches ≡ []) }
+    ensures none { (a : Automaton) (t : Terminator) (q : ℕ) (behind : Option ℕ) (bytes : List ℕ) (states : List StateValue) → IsWellFormed a → q < length a.states →
+        states ≡ walked a t LeftmostFirst (start_value a t (start_of t behind) q) (units_of bytes) →
+        first (ends_from a (text_of a.reverse t behind bytes) (first_place a.reverse behind bytes, q)) ≡ None →
+        (k : ℕ) (v : StateValue) → slice_get states (suc k) ≡ Some v → v.matches ≡ [] }
 {}
