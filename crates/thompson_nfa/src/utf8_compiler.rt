@@ -73,6 +73,7 @@ fn compile_top(
     ensures refused { IfErr result (λ e. Stays builder.old builder.new 1 2072 e) }
 {
     let Some(node) = state.nodes.pop() else {
+        // Not reached: there is a node.
         return Ok(next);
     };
     let trans = node.freeze(next)?;
@@ -122,6 +123,7 @@ fn turn(
 {
     let next = compile_from(builder, state, from + 1)?;
     let Some(mut node) = state.nodes.pop() else {
+        // Not reached: the node at the place is left.
         return Ok(());
     };
     node.advance(next, range)?;
@@ -161,6 +163,7 @@ fn first_difference(state: &Utf8State, ranges: &[Utf8Range]) -> usize
             return i;
         }
     }
+    // Not reached: the sequence leaves the path somewhere.
     0
 }
 
