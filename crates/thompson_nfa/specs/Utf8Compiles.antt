@@ -84,8 +84,8 @@ last_of [] = []
 last_of (q ∷ []) = q
 last_of (q ∷ r ∷ qs) = last_of (r ∷ qs)
 
--- The states that were added since `old`: the end, and behind it states that are never led on. No more were added than one,
--- and four for each sequence, less the nodes of the path, each with 4096 bytes.
+-- At most so many states were added since `old`, with 4096 bytes for each and eight less for all: the end, and behind it states
+-- that are never led on.
 pub record HasStates (old new : Assembly) (end : ℕ) (most : ℕ) : Type 0 where
   pub end_is : end ≡ length old.parts
   pub there : end < length new.parts
@@ -98,7 +98,8 @@ pub record HasStates (old new : Assembly) (end : ℕ) (most : ℕ) : Type 0 wher
   pub bytes : sum_of_bytes new + 8 + 4096 * length old.parts ≤ sum_of_bytes old + 4096 * length new.parts
   pub numbered : length new.parts ≤ greatest_index + 1
 
--- What is read by the nodes of the path, once it is all led on, is what is read by the sequences.
+-- What is read along the path, once its last ranges lead on, is what is read by the sequences. One state is for the end, and
+-- four for each sequence, of which the path's nodes are still to be made.
 pub record IsCompiling (old new : Assembly) (end : ℕ) (compiled : SlotTable (List Transition)) (nodes : List Stage) (qs : List (List (ℕ × ℕ))) : Type 0 where
   pub most : ℕ
   pub has : HasStates old new end most
