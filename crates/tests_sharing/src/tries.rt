@@ -1,0 +1,67 @@
+//! A trie of ranges emits what was inserted, each string in one sequence, ascending.
+ghost use Rattle.std.specs.Prelude.{◌≡◌, ◌≤◌, OnOk};
+ghost use Rattle.tests_sharing.specs.Pairs.{HasPairs};
+
+use hir_core::Utf8Range;
+use std::alloc::{AllocError, Global};
+use std::test::Fail;
+use thompson_nfa::RangeTrie;
+
+fn range(start: u8, end: u8) -> Utf8Range
+    requires { start ≤ end }
+    ensures first { result.start ≡ start }
+    ensures last { result.end ≡ end }
+{
+    Utf8Range { start, end }
+}
+
+/// Adds strings of two bytes to such strings, none of which is a proper prefix of another.
+fn insert(
+    trie: &mut RangeTrie,
+    alloc: Global,
+    first: Utf8Range,
+    second: Utf8Range,
+) -> Result<(), AllocError>
+    requires old { HasPairs trie.old }
+    requires first { first.start ≤ first.end }
+    requires second { second.start ≤ second.end }
+    ensures { OnOk result (HasPairs trie.new) }
+{
+    trie.insert(alloc, &[first, second])
+}
+
+/// The sequences as they come, until one has this first byte.
+fn told(trie: &RangeTrie, alloc: Global, stop: u8) -> Result<Vec<u8>, AllocError> {
+    let mut bytes = Vec::new(alloc);
+    let _stopped = trie.iter(alloc, |ranges| {
+        for range in ranges {
+            if range.start == stop {
+                return Err(AllocError);
+            }
+            bytes.push(range.start)?;
+            bytes.push(range.end)?;
+        }
+        Ok(())
+    });
+    Ok(bytes)
+}
+
+#[test]
+fn two_that_overlap(rt: HostRuntime) -> Result<(), Fail> {
+    let alloc = rt.alloc();
+    let mut trie = RangeTrie::new(alloc);
+    insert(&mut trie, alloc, range(0xE1, 0xE2), range(0x80, 0xBF))?;
+    insert(&mut trie, alloc, range(0xE2, 0xE3), range(0x81, 0x82))?;
+    let expected: [u8; 20] = [
+        0xE1, 0xE1, 0x80, 0xBF, 0xE2, 0xE2, 0x80, 0x80, 0xE2, 0xE2, 0x81, 0x82, 0xE2, 0xE2, 0x83,
+        0xBF, 0xE3, 0xE3, 0x81, 0x82,
+    ];
+    assert_eq!(rt; told(&trie, alloc, 0)?.as_slice(), expected.as_slice());
+    assert_eq!(rt;
+        told(&trie, alloc, 0xE2)?.as_slice(),
+        [0xE1u8, 0xE1, 0x80, 0xBF].as_slice()
+    );
+    trie.clear();
+    assert_eq!(rt; told(&trie, alloc, 0)?.len(), 0);
+    Ok(())
+}
