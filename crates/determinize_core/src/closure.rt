@@ -34,6 +34,7 @@ pub fn epsilon_closure<S: NameSet, L: Ledger>(
     ensures bound { S.bound set.new ≡ S.bound set.old }
     ensures cost { OnOk result (steps.new ≤ steps.old + 1 + known_ways nfa.now.automaton look_have (drop (length (S.names set.old)) (S.names set.new))) }
 {
+    // What a set has fits its bound, which bounds the walk.
     let _ = set.len();
     nfa.is_sound();
     push(stack, start)?;
