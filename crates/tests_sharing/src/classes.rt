@@ -5,6 +5,7 @@ use hir_core::{Hir, is_ascending_chars};
 use nfa_core::{BuildError, NFA};
 use std::alloc::{AllocError, Global};
 use std::test::Fail;
+use thompson_nfa::{Compiler, Config, WhichCaptures};
 
 /// The class of these ranges, which ascend.
 fn class(ranges: Vec<(char, char)>) -> Hir {
@@ -86,6 +87,23 @@ fn hundreds_of_ranges(rt: HostRuntime) -> Result<(), Fail> {
     let ranges = many(rt.alloc())?;
     let (up, down, shrunk) = sizes(rt.alloc(), &ranges)?;
     assert!(rt; up == 7 && down <= 604 && shrunk <= 604);
+    Ok(())
+}
+
+/// The bytes of all states that the nine states above are built of: 88 before the class, 24 for its end and 296
+/// for its six nodes with nineteen transitions, and 24 for the match. So many are enough, and one less
+/// isn't.
+#[test]
+fn small_classes_keep_to_their_limit(rt: HostRuntime) -> Result<(), Fail> {
+    let alloc = rt.alloc();
+    let all = range(alloc, '\u{0}', '\u{10FFFF}')?;
+    let mut compiler = Compiler::new(alloc);
+    let config = Config::new().which_captures(WhichCaptures::None);
+    compiler.configure(config.reverse(true).shrink(true).nfa_size_limit(Some(432)));
+    assert!(rt; compiler.build_from_hir(alloc, &all)?.states().len() == 9);
+    compiler.configure(Config::new().nfa_size_limit(Some(431)));
+    let refused = compiler.build_from_hir(alloc, &all);
+    assert!(rt; matches!(refused, Err(BuildError::ExceededSizeLimit { limit: 431 })));
     Ok(())
 }
 
