@@ -22,7 +22,8 @@ use std::sync::ledger::{Blank, Ledger};
 
 /// The states of a walk over bytes in the order in which they are read: the one in which it starts from a state of the
 /// automaton, by the byte behind its first place, the one behind each byte, and the one behind the end of the
-/// input. It is refused where memory lacks.
+/// input. It is refused where memory lacks. [`walks_list_what_runs_find`](crate::walk_theorem::walks_list_what_runs_find)
+/// says what these states tell.
 pub fn walk(
     alloc: Global,
     nfa: &NFA,
