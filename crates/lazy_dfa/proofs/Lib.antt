@@ -1,0 +1,5 @@
+pub mod ListLemmas
+pub mod CacheLemmas
+pub mod IsCacheLemmas
+pub mod ChangeLemmas
+pub mod MadeLemmas

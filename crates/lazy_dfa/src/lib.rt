@@ -1,0 +1,24 @@
+//! A search engine that makes the powerset states of a byte automaton as it goes, and keeps them in a cache of bounded
+//! size.
+//!
+//! The definitions are in `specs/`: what is counted as a cache's bytes in `Accounting.antt`, at which bytes searches give
+//! up in `Quits.antt`, options in `ConfigValue.antt`, an automaton in `Dfas.antt`, a cache and how it belongs to its
+//! automaton in `Caches.antt`, steps in `Steps.antt`.
+#![tactic(auto)]
+
+mod cache;
+mod cache_error;
+mod cache_writes;
+mod config;
+pub mod dfa;
+mod dfa_steps;
+mod lazy_id;
+mod making;
+mod measures;
+mod progress;
+mod stepping;
+mod work;
+
+pub use cache_error::CacheError;
+pub use lazy_id::LazyStateID;
+pub use work::Work;
