@@ -50,4 +50,5 @@ pub mod BuildRows
 pub mod ExistLemmas
 pub mod PassedLemmas
 pub mod TableLemmas
+pub mod SameTextLemmas
 pub mod ForCallers
