@@ -51,4 +51,8 @@ pub mod ExistLemmas
 pub mod PassedLemmas
 pub mod TableLemmas
 pub mod SameTextLemmas
+pub mod InsideLemmas
+pub mod OverLemmas
+pub mod ReadAlikeLemmas
+pub mod HereLemmas
 pub mod ForCallers

@@ -23,3 +23,4 @@ pub mod Reached
 pub mod NfaOf
 pub mod Checks
 pub mod Alike
+pub mod Reaches
