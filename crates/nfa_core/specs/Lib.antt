@@ -24,3 +24,4 @@ pub mod NfaOf
 pub mod Checks
 pub mod Alike
 pub mod Reaches
+pub mod BuildErrors
