@@ -5,7 +5,7 @@ use Rattle.search_core.specs.Index.{greatest_index}
 use Rattle.look_core.specs.LookSets.{IsLookSet, union_of}
 use Rattle.look_core.specs.Looks.{byte_side, is_no_word, is_line_end, is_byte}
 use Rattle.look_core.specs.Terminators.{Terminator}
-use Rattle.look_core.proofs.LookSetLemmas.{union-lt, repr-lt}
+use Rattle.look_core.proofs.ForCallers.{union-lt, repr-lt}
 use Rattle.search_types.specs.declared.match_kind.MatchKind.{MatchKind}
 use Rattle.search_types.specs.declared.match_kind.MatchKind.TheVariants.{All as AllMatches, LeftmostFirst}
 use Rattle.nfa_core.specs.Walks.{HasNoneTwice}
@@ -14,9 +14,7 @@ use Rattle.nfa_core.specs.Runs.{answers}
 use Rattle.nfa_core.specs.Nfa.{Node, byte_range, sparse_node, dense_node, look_node, union_node, binary_union, capture_node, fail_node, match_node, Automaton, node_at}
 use Rattle.nfa_core.specs.NfaValue.{IsSound, IsNodeOf, look_of}
 use Rattle.nfa_core.specs.Reached.{AreBelow}
-use Rattle.nfa_core.proofs.MemberLemmas.{none_in, has_first, of_flat_map}
-use Rattle.nfa_core.proofs.JoinLemmas.{join_once, of_join}
-use Rattle.nfa_core.proofs.PairLemmas.{names_equal}
+use Rattle.nfa_core.proofs.ForCallers.{none_in, has_first, of_flat_map, join_once, of_join, names_equal}
 use Rattle.determinize_core.specs.States.{StateValue, IsState, dead}
 use Rattle.determinize_core.specs.LookBehind.{with_look_behind}
 use Rattle.determinize_core.specs.Steps.{looks_with, have_if, closed, known_behind, ids_before, families, second_half, pattern_of, pattern_at, patterns_in, states_behind, step_value, behind, start_value}
@@ -94,7 +92,7 @@ module _ (a : Automaton) where
       of_flat_map nat_eq names_equal nat_eq (λ q. option_to_list (pattern_at a q)) (λ p. p < length a.start_pattern) qs
       (λ q _h. pattern_below (length a.start_pattern) (node_at a q) (node_of_all (length a.start_pattern) a.states q sound.nodes))
 
-  patterns_below : IsSound a → (kind : MatchKind) (qs : List ℕ) → AreBelow (length a.start_pattern) (patterns_in kind a qs)
+  pub patterns_below : IsSound a → (kind : MatchKind) (qs : List ℕ) → AreBelow (length a.start_pattern) (patterns_in kind a qs)
   patterns_below sound AllMatches qs = of_join nat_eq names_equal (λ p. p < length a.start_pattern) [] (answers (pattern_at a) qs) (λ p h. none_in nat_eq p _ h) (answers_below sound qs)
   patterns_below sound LeftmostFirst qs = first_below (length a.start_pattern) (answers (pattern_at a) qs) (answers_below sound qs)
 

@@ -22,3 +22,6 @@ pub mod NfaParts
 pub mod Reached
 pub mod NfaOf
 pub mod Checks
+pub mod Alike
+pub mod Reaches
+pub mod BuildErrors

@@ -10,3 +10,4 @@ pub mod StepLemmas
 pub mod UnitLemmas
 pub mod CharacterLemmas
 mod CharacterRows
+pub mod ForCallers
