@@ -123,29 +123,27 @@ IsShaped-cleared v n i =
 
 -- ---- the whole
 
-pub IsKept-same : {S : Type 0} (v : CacheValue) (m n : HashMap StateValue ℕ S) (used other : ℕ) → IsKept v m used other → n.entries ≡ m.entries → IsKept v n used other
-IsKept-same v m n used other i e = record { shape = i.shape; agree = Agrees-same v.states m n i.agree e; counted = i.counted; even = i.even }
+pub IsKept-same : {S : Type 0} (v : CacheValue) (m n : HashMap StateValue ℕ S) (used : ℕ) → IsKept v m used → n.entries ≡ m.entries → IsKept v n used
+IsKept-same v m n used i e = record { shape = i.shape; agree = Agrees-same v.states m n i.agree e; counted = i.counted }
 
-pub IsKept-cleared : {S : Type 0} (v : CacheValue) (m n : HashMap StateValue ℕ S) (used other clears : ℕ) (starts : List ℕ) (progress : Option Progress) →
-    IsKept v m used other → n.entries ≡ [] → IsKept (record (cleared v) { clears = clears; starts = starts; progress = progress }) n v.fresh other
-IsKept-cleared v m n used other clears starts progress k e =
+pub IsKept-cleared : {S : Type 0} (v : CacheValue) (m n : HashMap StateValue ℕ S) (used clears : ℕ) (starts : List ℕ) (progress : Option Progress) →
+    IsKept v m used → n.entries ≡ [] → IsKept (record (cleared v) { clears = clears; starts = starts; progress = progress }) n v.fresh
+IsKept-cleared v m n used clears starts progress k e =
     let i = IsShaped-cleared v clears k.shape in
     record {
       shape = record { positive = i.positive; narrow = i.narrow; sized = i.sized; small = i.small; named = i.named; tags = i.tags; real = i.real; apart = i.apart };
       agree = Agrees-empty n e;
       counted = omega arith;
-      even = k.even;
     }
 
-pub IsKept-added : {S : Type 0} (v : CacheValue) (m n : HashMap StateValue ℕ S) (used other k add : ℕ) (b : Bool) (s : StateValue) →
-    IsKept v m used other → IsState s → place_of s v.states ≡ None → length v.cells + v.stride ≤ tag → k ≡ length v.states → add ≡ cost v.stride s →
+pub IsKept-added : {S : Type 0} (v : CacheValue) (m n : HashMap StateValue ℕ S) (used k add : ℕ) (b : Bool) (s : StateValue) →
+    IsKept v m used → IsState s → place_of s v.states ≡ None → length v.cells + v.stride ≤ tag → k ≡ length v.states → add ≡ cost v.stride s →
     ((q : StateValue) → get_by (same q) n ≡ cond (same s q) (Some k) (get_by (same q) m)) →
-    IsKept (with_state b s v) n (used + add) other
-IsKept-added v m n used other k add b s i real fresh room e is put = record {
+    IsKept (with_state b s v) n (used + add)
+IsKept-added v m n used k add b s i real fresh room e is put = record {
   shape = IsShaped-added v b s i.shape real fresh room;
   agree = Agrees-add v.states m n s k i.agree fresh e put;
   counted = omega (arith, i.counted, is, states_cost-append v.stride v.states s);
-  even = i.even;
 }
 
 pub resized : (cells : List ℕ) (n m stride v : ℕ) → n ≡ length cells → m ≡ length cells →
@@ -188,21 +186,20 @@ IsShaped-empty stride fresh starts bound positive narrow =
       apart = λ j k less l. absurd (omega (arith, l));
     }
 
-pub IsKept-empty : {S : Type 0} (stride fresh starts bound other : ℕ) (n : HashMap StateValue ℕ S) → 0 < stride → stride ≤ 512 → n.entries ≡ [] → other ≡ bound →
-    IsKept (empty_cache stride fresh starts bound) n fresh other
-IsKept-empty stride fresh starts bound other n positive narrow e even = record {
+pub IsKept-empty : {S : Type 0} (stride fresh starts bound : ℕ) (n : HashMap StateValue ℕ S) → 0 < stride → stride ≤ 512 → n.entries ≡ [] →
+    IsKept (empty_cache stride fresh starts bound) n fresh
+IsKept-empty stride fresh starts bound n positive narrow e = record {
   shape = IsShaped-empty stride fresh starts bound positive narrow;
   agree = Agrees-empty n e;
   counted = omega arith;
-  even = even;
 }
 
 -- the same where the parts were just made
-pub IsKept-made : {S : Type 0} (stride fresh starts bound one other : ℕ) (states : List StateValue) (ids cells known : List ℕ) (n : HashMap StateValue ℕ S) →
-    0 < stride → stride ≤ 512 → states ≡ [] → ids ≡ [] → cells ≡ sentinel_rows stride → known ≡ replicate starts unknown_id → n.entries ≡ [] → one ≡ bound → other ≡ bound →
-    IsKept (record (empty_cache stride fresh starts bound) { states = states; ids = ids; cells = cells; starts = known; bound = one }) n fresh other
-IsKept-made stride fresh starts bound one other states ids cells known n positive narrow a b c d e f g =
-    rw (a, b, c, d, f) (IsKept-empty stride fresh starts bound other n positive narrow e g)
+pub IsKept-made : {S : Type 0} (stride fresh starts bound one : ℕ) (states : List StateValue) (ids cells known : List ℕ) (n : HashMap StateValue ℕ S) →
+    0 < stride → stride ≤ 512 → states ≡ [] → ids ≡ [] → cells ≡ sentinel_rows stride → known ≡ replicate starts unknown_id → n.entries ≡ [] → one ≡ bound →
+    IsKept (record (empty_cache stride fresh starts bound) { states = states; ids = ids; cells = cells; starts = known; bound = one }) n fresh
+IsKept-made stride fresh starts bound one states ids cells known n positive narrow a b c d e f =
+    rw (a, b, c, d, f) (IsKept-empty stride fresh starts bound n positive narrow e)
 
 -- ---- found and not
 

@@ -14,7 +14,7 @@ use Rattle.determinize_core.specs.declared.start.Start.TheVariants.{NonWordByte,
 use Rattle.lazy_dfa.specs.Accounting.{states_cost, fresh_usage}
 use Rattle.lazy_dfa.specs.ConfigValue.{kind_of}
 use Rattle.lazy_dfa.specs.Readers.{is_quit}
-use Rattle.lazy_dfa.specs.Dfas.{Dfa, IsDfa, IsStateOf, NeedsLooksOf, IsUnit, Alike, after, first_state, start_in, class_of, is_dead, is_empty, cost}
+use Rattle.lazy_dfa.specs.Dfas.{Dfa, IsDfa, IsStateOf, IsUnit, Alike, after, first_state, start_in, class_of, is_dead, is_empty, cost}
 use Rattle.lazy_dfa.specs.Ids.{tag, tagged, unknown_id, dead_id, quit_id}
 use Rattle.lazy_dfa.specs.Caches.{CacheValue, IsShaped, IsCacheOf, Leads, Names, names_dead, names_held, HeldAt, IsRow, same, place_of, state_at, id_at, cell_at, slot, Begins, new_id, with_state, cleared, usage, Fits, empty_cache}
 use Rattle.lazy_dfa.proofs.ListLemmas.{found_at, one_longer, below_or_last, at_old, at_last}
@@ -22,7 +22,9 @@ use Rattle.lazy_dfa.proofs.CacheLemmas.{IsShaped-added, IsShaped-cleared, IsShap
 use Rattle.std.proofs.lemmas.Bool.Decides.{leb_tells, Decides-eqb}
 use Rattle.std.specs.Prelude.{nat_le, ◌&&◌, ◌==◌, not, IfSome, min, MatchOption}
 use Rattle.determinize_core.specs.Steps.{step_value, start_value}
-use Rattle.determinize_core.proofs.StepLawLemmas.{step_below, step_once, start_below, start_once}
+use Rattle.determinize_core.proofs.ForCallers.{step_stepped, start_stepped, stepped_short}
+use Rattle.determinize_core.specs.Stepped.{IsStepped, widest}
+use Rattle.lazy_dfa.specs.Accounting.{Measures, longest_state}
 use Rattle.look_core.specs.Terminators.{Terminator}
 use Rattle.search_types.specs.declared.match_kind.MatchKind.{MatchKind}
 use Rattle.nfa_core.specs.Nfa.{Automaton}
@@ -95,7 +97,7 @@ leads_added d v b t s u id i x = record { quits = x.quits; goes = λ e. names_ad
 pub leads_cells : (d : Dfa) (v : CacheValue) (cells : List ℕ) (s : StateValue) (u : Option ℕ) (id : ℕ) → Leads d v s u id → Leads d (record v { cells = cells }) s u id
 leads_cells d v cells s u id x = record { quits = x.quits; goes = λ e. names_cells v cells id (after d s u) (x.goes e) }
 
-pub leads_alike : (d : Dfa) (v : CacheValue) (s : StateValue) (u w : Option ℕ) (id : ℕ) → NeedsLooksOf d.nfa.automaton s → Alike d u w → Leads d v s u id → Leads d v s w id
+pub leads_alike : (d : Dfa) (v : CacheValue) (s : StateValue) (u w : Option ℕ) (id : ℕ) → IsStepped d.nfa.automaton s → Alike d u w → Leads d v s u id → Leads d v s w id
 unfolding Alike
 leads_alike d v s u w id looks a x = record {
   quits = λ e. x.quits (a.0 ∙ e);
@@ -186,7 +188,7 @@ is_cache_set d v k to u made own l unit there =
           (λ (is : (j + 3) * v.stride + e ≡ at).
           let both = same_place v.stride j e k c lower low (is ∙ place) in
           let read : get_or cells ((j + 3) * v.stride + e) 0 ≡ to = ap (λ (n : ℕ). get_or cells n 0) is ∙ get_or-set_same v.cells at to 0 (place_inside v i k l c low) in
-          let led = leads_alike d v (state_at v k) u w to (own.states k l).looks (made.alike u w unit unit2 (sym both.1)) there in
+          let led = leads_alike d v (state_at v k) u w to (own.states k l).stepped (made.alike u w unit unit2 (sym both.1)) there in
           subst (λ (x : ℕ). Leads d (record v { cells = cells }) (state_at v j) w x) (sym read)
           (subst (λ (n : ℕ). Leads d (record v { cells = cells }) (state_at v n) w to) (sym both.0) (leads_cells d v cells (state_at v k) w to led)))
           (λ (ne : (j + 3) * v.stride + e ≢ at).
@@ -357,9 +359,16 @@ unfolding after
 after_of d a t kind s u r e f g h =
     h ∙ (ap (λ (x : Automaton). step_value x t kind s u) e ∙ (ap (λ (x : Terminator). step_value d.nfa.automaton x kind s u) f ∙ ap (λ (x : MatchKind). step_value d.nfa.automaton d.nfa.terminator x s u) g))
 
+as_long : (d : Dfa) → IsDfa d → widest d.nfa.automaton ≡ longest_state d.measures
+as_long d made = ap (λ (m : Measures). longest_state m) (sym made.measured)
+
+-- what starts and steps come to is the automaton's
+is_state : (d : Dfa) (s : StateValue) → IsDfa d → IsStepped d.nfa.automaton s → IsStateOf d s
+is_state d s made i = record { stepped = i; short = subst (λ (n : ℕ). length (encoded s) ≤ n) (as_long d made) (stepped_short d.nfa.automaton s i) }
+
 after_below : (d : Dfa) (s : StateValue) (u : Option ℕ) → IsDfa d → IsStateOf d (after d s u)
 unfolding after
-after_below d s u made = record { below = step_below d.nfa.automaton d.nfa.terminator (kind_of d.options) s u made.sound.named; once = step_once d.nfa.automaton d.nfa.terminator (kind_of d.options) s u; short = made.short s u; looks = made.looks s u }
+after_below d s u made = is_state d (after d s u) made (step_stepped d.nfa.automaton d.nfa.terminator (kind_of d.options) s u made.sound)
 
 pub state_of : (d : Dfa) (s : StateValue) (u : Option ℕ) (r : StateValue) → IsDfa d → r ≡ after d s u → IsStateOf d r
 state_of d s u r made e = subst (IsStateOf d) (sym e) (after_below d s u made)
@@ -451,7 +460,7 @@ first_of d a t s q r e f h = h ∙ (ap (λ (x : Automaton). start_value x t s q)
 
 first_below : (d : Dfa) (s : Start) (q : ℕ) → IsDfa d → q < length d.nfa.automaton.states → IsStateOf d (first_state d s q)
 unfolding first_state
-first_below d s q made l = record { below = start_below d.nfa.automaton d.nfa.terminator s q made.sound.named l; once = start_once d.nfa.automaton d.nfa.terminator s q; short = made.start_short s q l; looks = made.start_looks s q }
+first_below d s q made l = is_state d (first_state d s q) made (start_stepped d.nfa.automaton d.nfa.terminator s q made.sound l)
 
 pub first_is : (d : Dfa) (s : Start) (q : ℕ) (r : StateValue) → IsDfa d → q < length d.nfa.automaton.states → r ≡ first_state d s q → IsStateOf d r
 first_is d s q r made l e = subst (IsStateOf d) (sym e) (first_below d s q made l)

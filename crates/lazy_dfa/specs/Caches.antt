@@ -23,7 +23,7 @@ pub record CacheValue : Type 0 where
   pub starts : List ℕ  -- the IDs of starts, seven for each mode
   pub stride : ℕ  -- how long a row is
   pub fresh : ℕ  -- the bytes that it takes with no states
-  pub bound : ℕ  -- the names that its sets have room for
+  pub bound : ℕ  -- for how many states of an NFA it has room to make steps
   pub clears : ℕ
   pub searched : ℕ  -- bytes searched since the last clear, without those of the search that goes on
   pub progress : Option Progress
@@ -84,12 +84,11 @@ Agrees states m = (q : StateValue) → get_by (same q) m ≡ position_from (same
 abbrev pub usage : CacheValue → ℕ
 usage v = v.fresh + states_cost v.stride v.states
 
--- The map, the count of bytes and the other set are what the rest says.
-pub record IsKept {S : Type 0} (v : CacheValue) (rows : HashMap StateValue ℕ S) (used other : ℕ) : Type 0 where
+-- The map and the count of bytes are what the rest says.
+pub record IsKept {S : Type 0} (v : CacheValue) (rows : HashMap StateValue ℕ S) (used : ℕ) : Type 0 where
   pub shape : IsShaped v
   pub agree : Agrees v.states rows
   pub counted : used ≡ usage v
-  pub even : other ≡ v.bound
 
 -- ---- progress
 

@@ -1,14 +1,10 @@
 -- What contracts see of an automaton that is determinized as it is used, and what each such automaton keeps to.
 use Rattle.std.specs.Prelude.{◌≡◌, ◌<◌, ◌≤◌, ◌+◌, ◌*◌, ℕ, Bool, true, false, List, All, length, Option, Some, None, slice_index, slice_index_or, slice_get, zero, suc, ⊤, [], ◌∷◌, ◌&&◌, ◌==◌, not}
-use Rattle.std.specs.Bool.{nat_eq}
-use Rattle.std.specs.List.{IsDistinct}
-use Rattle.look_core.specs.LookSets.{has_look}
-use Rattle.look_core.specs.declared.look.Look.{Look}
 use Rattle.search_types.specs.declared.match_kind.MatchKind.{MatchKind}
-use Rattle.nfa_core.specs.Nfa.{Automaton}
-use Rattle.nfa_core.specs.NfaValue.{Nfa, IsSound, looks_of}
+use Rattle.nfa_core.specs.NfaValue.{Nfa, IsSound}
 use Rattle.determinize_core.specs.States.{StateValue}
 use Rattle.determinize_core.specs.StateBytes.{encoded}
+use Rattle.determinize_core.specs.Stepped.{IsStepped}
 use Rattle.determinize_core.specs.Steps.{step_value, start_value}
 use Rattle.determinize_core.specs.declared.start.Start.{Start}
 use Rattle.lazy_dfa.specs.Accounting.{Measures, measures_of, longest_state, state_cost, least_capacity, effective_capacity}
@@ -52,20 +48,14 @@ abbrev pub class_of : List ℕ → Option ℕ → ℕ
 class_of classes None = slice_index classes 255 + 1
 class_of classes (Some b) = slice_index classes b
 
--- the looks of a state are the NFA's
-unfoldable pub NeedsLooksOf : Automaton → StateValue → Type 0
-NeedsLooksOf a s = (l : Look) → has_look s.look_need l ≡ true → has_look (looks_of a.states) l ≡ true
-
--- what a step may be made from
+-- what a step may be made from: of the states that starts and steps come to
 pub record IsStateOf (d : Dfa) (s : StateValue) : Type 0 where
-  pub below : All (λ q. q < length d.nfa.automaton.states) s.ids
-  pub once : IsDistinct nat_eq s.ids
+  pub stepped : IsStepped d.nfa.automaton s
   pub short : length (encoded s) ≤ longest_state d.measures
-  pub looks : NeedsLooksOf d.nfa.automaton s
 
 -- two units that no step tells apart
 unfoldable pub Alike : Dfa → Option ℕ → Option ℕ → Type 0
-Alike d u w = (is_quit d.quits u ≡ is_quit d.quits w) × ((s : StateValue) → NeedsLooksOf d.nfa.automaton s → after d s u ≡ after d s w)
+Alike d u w = (is_quit d.quits u ≡ is_quit d.quits w) × ((s : StateValue) → IsStepped d.nfa.automaton s → after d s u ≡ after d s w)
 
 -- what a state adds to the bytes of a cache
 abbrev pub cost : ℕ → StateValue → ℕ
@@ -80,10 +70,6 @@ pub record IsDfa (d : Dfa) : Type 0 where
   pub narrow : d.measures.stride ≤ 512
   pub classed : (u : Option ℕ) → IsUnit u → class_of d.classes u < d.measures.stride
   pub alike : (u w : Option ℕ) → IsUnit u → IsUnit w → class_of d.classes u ≡ class_of d.classes w → Alike d u w
-  pub short : (s : StateValue) (u : Option ℕ) → length (encoded (after d s u)) ≤ longest_state d.measures
-  pub start_short : (s : Start) (q : ℕ) → q < length d.nfa.automaton.states → length (encoded (first_state d s q)) ≤ longest_state d.measures
-  pub looks : (s : StateValue) (u : Option ℕ) → NeedsLooksOf d.nfa.automaton (after d s u)
-  pub start_looks : (s : Start) (q : ℕ) → NeedsLooksOf d.nfa.automaton (first_state d s q)
   pub enough : least_capacity d.measures ≤ d.capacity
 
 -- ---- the dead state

@@ -5,10 +5,8 @@ ghost use Rattle.lazy_dfa.specs.Ids.{tag};
 
 use crate::lazy_id::{LazyStateID, MATCH};
 use crate::progress::Progress;
-use determinize_core::State;
 use determinize_core::state_laws::bytes_stand_for_states;
-use nfa_core::SparseSets;
-use search_core::StateID;
+use determinize_core::{State, Workspace};
 use std::collections::HashMap;
 use std::marker::Model;
 
@@ -27,8 +25,8 @@ pub struct Cache {
     pub(crate) cells: Vec<LazyStateID>,
     /// The IDs of starts, seven for each mode.
     pub(crate) starts: Vec<LazyStateID>,
-    pub(crate) sets: SparseSets,
-    pub(crate) stack: Vec<StateID>,
+    /// What steps need beside the automaton.
+    pub(crate) workspace: Workspace,
     /// How long a row is.
     pub(crate) stride: usize,
     /// The bytes that the cache is taken to need with no states.
@@ -46,9 +44,9 @@ impl Model for Cache {
 
     ghost Value = { CacheValue };
 
-    ghost view = { λ c. record { states = c.states.items; ids = c.ids.items; cells = c.cells.items; starts = c.starts.items; stride = c.stride; fresh = c.fresh; bound = c.sets.set1.bound; clears = c.clears; searched = c.searched; progress = c.progress } };
+    ghost view = { λ c. record { states = c.states.items; ids = c.ids.items; cells = c.cells.items; starts = c.starts.items; stride = c.stride; fresh = c.fresh; bound = c.workspace; clears = c.clears; searched = c.searched; progress = c.progress } };
 
-    ghost invariant = { λ c. IsKept (record { states = c.states.items; ids = c.ids.items; cells = c.cells.items; starts = c.starts.items; stride = c.stride; fresh = c.fresh; bound = c.sets.set1.bound; clears = c.clears; searched = c.searched; progress = c.progress }) c.rows c.used c.sets.set2.bound };
+    ghost invariant = { λ c. IsKept (record { states = c.states.items; ids = c.ids.items; cells = c.cells.items; starts = c.starts.items; stride = c.stride; fresh = c.fresh; bound = c.workspace; clears = c.clears; searched = c.searched; progress = c.progress }) c.rows c.used };
 }
 
 impl Cache {

@@ -1,10 +1,9 @@
 //! What writes to a cache. Each call either writes all that it says or nothing: growths come before any write.
-ghost use Rattle.std.specs.Prelude.{◌≡◌, ◌+◌, ◌*◌, ◌%◌, ◌<◌, ◌≤◌, ◌⊎◌, All, length, slice_set, IfOk, OnOk, OnErr, None};
-ghost use Rattle.std.specs.Bool.{nat_eq};
-ghost use Rattle.std.specs.List.{IsDistinct};
+ghost use Rattle.std.specs.Prelude.{◌≡◌, ◌+◌, ◌*◌, ◌%◌, ◌<◌, ◌≤◌, ◌⊎◌, length, slice_set, IfOk, OnOk, OnErr, None};
 ghost use Rattle.search_core.specs.Index.{greatest_index};
 ghost use Rattle.search_core.specs.Units.{unit_byte};
 ghost use Rattle.determinize_core.specs.Costs.{free_ways};
+ghost use Rattle.determinize_core.specs.Stepped.{IsStepped};
 ghost use Rattle.determinize_core.specs.Steps.{step_value, start_value};
 ghost use Rattle.lazy_dfa.specs.Dfas.{cost};
 ghost use Rattle.lazy_dfa.specs.Caches.{state_at, id_at, place_of, usage, with_state, new_id, cleared, empty_cache, sentinel_rows};
@@ -14,8 +13,8 @@ use crate::cache::Cache;
 use crate::lazy_id::{LazyStateID, MATCH, id_of};
 use crate::progress::begun_anew;
 use crate::work::Work;
-use determinize_core::{Start, State, StateBuilderEmpty, next, start_state};
-use nfa_core::{NFA, SparseSets};
+use determinize_core::{Start, State, Workspace, next_in, start_in};
+use nfa_core::NFA;
 use search_core::{StateID, Unit};
 use search_types::MatchKind;
 use std::alloc::{AllocError, Global};
@@ -36,7 +35,7 @@ impl Cache {
         requires names { names ≤ greatest_index + 1 }
         ensures { IfOk result (λ c. c ≡ empty_cache stride fresh starts names) }
     {
-        let sets = SparseSets::new(alloc, names)?;
+        let workspace = Workspace::new(alloc, names)?;
         let cells = sentinel_rows(alloc, stride)?;
         let starts = vec![in alloc; LazyStateID::unknown(); starts]?;
         Ok(Cache {
@@ -45,8 +44,7 @@ impl Cache {
             rows: HashMap::new(alloc),
             cells,
             starts,
-            sets,
-            stack: Vec::new(alloc),
+            workspace,
             stride,
             fresh,
             used: fresh,
@@ -67,28 +65,21 @@ impl Cache {
     ) -> Result<State, AllocError>
         requires row { k < length self.old.states }
         requires bound { self.old.bound ≡ length nfa.now.automaton.states }
-        requires below { All (λ q. q < length nfa.now.automaton.states) (state_at self.old k).ids }
-        requires once { IsDistinct nat_eq (state_at self.old k).ids }
+        requires stepped { IsStepped nfa.now.automaton (state_at self.old k) }
         ensures value { IfOk result (λ behind. behind ≡ step_value nfa.now.automaton nfa.now.terminator kind (state_at self.old k) (unit_byte unit)) }
         ensures same { self.new ≡ self.old }
         ensures determinized { work.new.determinized ≡ work.old.determinized + 1 }
-        ensures inserted { OnOk result (work.new.inserted ≤ work.old.inserted + 3 * length nfa.now.automaton.states + 2 * free_ways nfa.now.automaton) }
+        ensures inserted { work.new.inserted ≤ work.old.inserted + 3 * length nfa.now.automaton.states + 2 * free_ways nfa.now.automaton }
     {
         work.determinized.tick();
-        self.stack.clear();
-        let alloc = *self.states.allocator();
-        let empty = StateBuilderEmpty::new(alloc);
-        let built = next(
+        let behind = next_in(
             nfa,
             kind,
-            &mut self.sets,
-            &mut self.stack,
+            &mut self.workspace,
             &self.states[k],
             unit,
-            empty,
             &mut work.inserted,
         )?;
-        let behind = built.to_state(alloc)?;
         Ok(behind)
     }
 
@@ -105,22 +96,10 @@ impl Cache {
         ensures value { IfOk result (λ first. first ≡ start_value nfa.now.automaton nfa.now.terminator start name) }
         ensures same { self.new ≡ self.old }
         ensures determinized { work.new.determinized ≡ work.old.determinized + 1 }
-        ensures inserted { OnOk result (work.new.inserted ≤ work.old.inserted + 1 + free_ways nfa.now.automaton) }
+        ensures inserted { work.new.inserted ≤ work.old.inserted + 1 + free_ways nfa.now.automaton }
     {
         work.determinized.tick();
-        self.stack.clear();
-        let alloc = *self.states.allocator();
-        let empty = StateBuilderEmpty::new(alloc);
-        let built = start_state(
-            nfa,
-            start,
-            name,
-            &mut self.sets.set1,
-            &mut self.stack,
-            empty,
-            &mut work.inserted,
-        )?;
-        let first = built.to_state(alloc)?;
+        let first = start_in(nfa, start, name, &mut self.workspace, &mut work.inserted)?;
         Ok(first)
     }
 

@@ -41,7 +41,7 @@ impl DFA {
         ensures same { IsKnown self.now cache.old current (Some input) → cache.new ≡ cache.old }
         ensures free { IsKnown self.now cache.old current (Some input) → work.new ≡ work.old }
         ensures determinized { work.new.determinized ≤ work.old.determinized + 1 }
-        ensures inserted { OnOk result (work.new.inserted ≤ work.old.inserted + most_inserts self.now) }
+        ensures inserted { work.new.inserted ≤ work.old.inserted + most_inserts self.now }
     {
         let class = self.class(input);
         let is_quit = self.is_quit(input);
@@ -71,7 +71,7 @@ impl DFA {
         ensures same { IsKnown self.now cache.old current None → cache.new ≡ cache.old }
         ensures free { IsKnown self.now cache.old current None → work.new ≡ work.old }
         ensures determinized { work.new.determinized ≤ work.old.determinized + 1 }
-        ensures inserted { OnOk result (work.new.inserted ≤ work.old.inserted + most_inserts self.now) }
+        ensures inserted { work.new.inserted ≤ work.old.inserted + most_inserts self.now }
     {
         let class = self.end_class();
         let to = step(self, cache, current, Unit::eoi(class), class, false, work)?;

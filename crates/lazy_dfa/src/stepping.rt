@@ -143,7 +143,7 @@ fn state_behind<L: Ledger, M: Ledger>(
     ensures is { IfOk result (λ s. IsStateOf dfa.now s) }
     ensures same { cache.new ≡ cache.old }
     ensures determinized { work.new.determinized ≡ work.old.determinized + 1 }
-    ensures inserted { OnOk result (work.new.inserted ≤ work.old.inserted + most_inserts dfa.now) }
+    ensures inserted { work.new.inserted ≤ work.old.inserted + most_inserts dfa.now }
 {
     dfa.is_made();
     let nfa = dfa.get_nfa();
@@ -173,7 +173,7 @@ fn fill<L: Ledger, M: Ledger>(
     ensures ok { OnOk result (¬ GivesUp dfa.now cache.old id (unit_byte unit)) }
     ensures err { IfErr result (λ e. IsStepCause dfa.now cache.old id (unit_byte unit) e) }
     ensures determinized { work.new.determinized ≡ work.old.determinized + 1 }
-    ensures inserted { OnOk result (work.new.inserted ≤ work.old.inserted + most_inserts dfa.now) }
+    ensures inserted { work.new.inserted ≤ work.old.inserted + most_inserts dfa.now }
 {
     dfa.is_made();
     let k = cache.row(id);
@@ -214,7 +214,7 @@ pub(crate) fn step<L: Ledger, M: Ledger>(
     ensures same { IsKnown dfa.now cache.old current (unit_byte unit) → cache.new ≡ cache.old }
     ensures free { IsKnown dfa.now cache.old current (unit_byte unit) → work.new ≡ work.old }
     ensures determinized { work.new.determinized ≤ work.old.determinized + 1 }
-    ensures inserted { OnOk result (work.new.inserted ≤ work.old.inserted + most_inserts dfa.now) }
+    ensures inserted { work.new.inserted ≤ work.old.inserted + most_inserts dfa.now }
 {
     dfa.is_made();
     let stride = cache.stride();

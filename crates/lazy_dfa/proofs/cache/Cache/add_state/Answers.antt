@@ -8,10 +8,10 @@ use Rattle.lazy_dfa.proofs.cache.Cache.add_state.Goals as goal
 
 pub invariant_of-self-in_err-reserve-4 : goal.invariant_of-self-in_err-reserve-4
 invariant_of-self-in_err-reserve-4 c = rw (c.reserve.ensures.items, c.reserve-2.ensures.items, c.reserve-3.ensures.items)
-    (IsKept-same _ _ _ _ _ c.self.invariant c.in_err-reserve-4.ensures.err)
+    (IsKept-same _ _ _ _ c.self.invariant c.in_err-reserve-4.ensures.err)
 
 abbrev value : goal.After-self-1 → CacheValue
-value c = record { states = c.self.inside.states.items; ids = c.self.inside.ids.items; cells = c.self.inside.cells.items; starts = c.self.inside.starts.items; stride = c.self.inside.stride; fresh = c.self.inside.fresh; bound = c.self.inside.sets.set1.bound; clears = c.self.inside.clears; searched = c.self.inside.searched; progress = c.self.inside.progress }
+value c = record { states = c.self.inside.states.items; ids = c.self.inside.ids.items; cells = c.self.inside.cells.items; starts = c.self.inside.starts.items; stride = c.self.inside.stride; fresh = c.self.inside.fresh; bound = c.self.inside.workspace; clears = c.self.inside.clears; searched = c.self.inside.searched; progress = c.self.inside.progress }
 
 parts : (c : goal.After-self-1) →
     record (value c) { states = c.push.new.self.items; ids = c.push-2.new.self.items; cells = c.resize.new.self.items } ≡ with_state c.args.is_start c.args.state (value c)
@@ -30,8 +30,8 @@ pub invariant_of-self-2 : goal.invariant_of-self-2
 invariant_of-self-2 c =
     let v = value c in
     let k : c.len-k.result ≡ length v.states = c.len-k.ensures ∙ c.self.inside.states.ok.0 in
-    subst (λ (w : CacheValue). IsKept w c.insert.new.self (c.self.inside.used + (4 * c.self.inside.stride + 16 + 20 + c.memory_usage.result)) c.self.inside.sets.set2.bound) (sym (parts c))
-    (IsKept-added v c.self.inside.rows c.insert.new.self c.self.inside.used c.self.inside.sets.set2.bound c.len-k.result (4 * c.self.inside.stride + 16 + 20 + c.memory_usage.result) c.args.is_start c.args.state
+    subst (λ (w : CacheValue). IsKept w c.insert.new.self (c.self.inside.used + (4 * c.self.inside.stride + 16 + 20 + c.memory_usage.result))) (sym (parts c))
+    (IsKept-added v c.self.inside.rows c.insert.new.self c.self.inside.used c.len-k.result (4 * c.self.inside.stride + 16 + 20 + c.memory_usage.result) c.args.is_start c.args.state
     c.self.invariant
     (subst IsState c.state.view_is c.state.invariant.state)
     (rw (← c.self.view_is) at c.requires.fresh)
