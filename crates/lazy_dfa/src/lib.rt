@@ -16,6 +16,7 @@ mod lazy_id;
 mod making;
 mod measures;
 mod progress;
+mod starting;
 mod stepping;
 mod work;
 
