@@ -3,3 +3,4 @@ pub mod CacheLemmas
 pub mod IsCacheLemmas
 pub mod ChangeLemmas
 pub mod MadeLemmas
+pub mod StartCallLemmas
