@@ -7,3 +7,4 @@ pub mod Ids
 pub mod Caches
 pub mod Steps
 pub mod StartCalls
+pub mod Building

@@ -6,6 +6,7 @@ ghost use Rattle.lazy_dfa.specs.ConfigValue.{kind_of, clears_of, bytes_of, speci
 ghost use Rattle.lazy_dfa.specs.Dfas.{IsDfa, class_of};
 ghost use Rattle.lazy_dfa.specs.Readers.{is_quit};
 
+pub use crate::builder::Builder;
 pub use crate::cache::Cache;
 pub use crate::config::Config;
 use crate::measures::Measures;

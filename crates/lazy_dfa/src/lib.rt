@@ -6,6 +6,8 @@
 //! automaton in `Caches.antt`, steps in `Steps.antt`, starts in `StartCalls.antt`.
 #![tactic(auto)]
 
+mod build_error;
+mod builder;
 mod cache;
 mod cache_error;
 mod cache_writes;
@@ -18,10 +20,12 @@ mod making;
 mod measures;
 mod progress;
 mod start_error;
+mod quits;
 mod starting;
 mod stepping;
 mod work;
 
+pub use build_error::BuildError;
 pub use cache_error::CacheError;
 pub use lazy_id::LazyStateID;
 pub use start_error::StartError;

@@ -1,0 +1,58 @@
+-- What is built of an NFA with options, and why it is refused: a function of both.
+use Rattle.std.specs.Prelude.{ℕ, ◌+◌, ◌&&◌, not, nat_lt, Bool, true, false, List, map, if◌then◌else◌, Result, Ok, Err}
+use Rattle.std.specs.List.{range_with_len}
+use Rattle.search_core.specs.ByteSets.{ranges_from}
+use Rattle.search_core.specs.Marks.{marks_below, recorded}
+use Rattle.nfa_core.specs.Alike.{marks_of}
+use Rattle.nfa_core.specs.NfaValue.{Nfa}
+use Rattle.lazy_dfa.specs.Accounting.{Measures, measures_of, least_capacity, effective_capacity}
+use Rattle.lazy_dfa.specs.ConfigValue.{Options, starts_each_of, classes_on, word_boundary_of, by_hand, capacity_of, skips_check}
+use Rattle.lazy_dfa.specs.Dfas.{Dfa}
+use Rattle.lazy_dfa.specs.Quits.{quit_bytes, is_unsupported}
+use Rattle.lazy_dfa.specs.declared.build_error.BuildError.{BuildError}
+use Rattle.lazy_dfa.specs.declared.build_error.BuildError.TheVariants.{InsufficientCacheCapacity, Unsupported, NoMemory, NFA}
+use Rattle.nfa_core.specs.declared.build_error.BuildError.{BuildError as NfaBuildError}
+use Rattle.nfa_core.specs.declared.build_error.BuildError.TheVariants.{NoMemory as NfaNoMemory}
+
+-- the quit bytes of the NFA with these options
+abbrev pub quits_of : Nfa → Options → List Bool
+quits_of n o = quit_bytes n.automaton (word_boundary_of o) (by_hand o)
+
+-- the class of a byte: by the marks of the NFA and of the quit bytes, or a class of its own
+abbrev pub class_in : Nfa → Options → ℕ → ℕ
+class_in n o b = if classes_on o then marks_below (recorded (marks_of n.terminator n.automaton.states) (ranges_from (quits_of n o) 0)) b else b
+
+unfoldable pub classes_of : Nfa → Options → List ℕ
+classes_of n o = map (class_in n o) (range_with_len 0 256)
+
+abbrev pub measures_with : Nfa → Options → Measures
+measures_with n o = measures_of n.automaton (classes_of n o) (starts_each_of o)
+
+-- the automaton that is built
+abbrev pub dfa_of : Nfa → Options → Dfa
+dfa_of n o = record {
+  nfa = n;
+  options = o;
+  classes = classes_of n o;
+  quits = quits_of n o;
+  measures = measures_with n o;
+  capacity = effective_capacity (measures_with n o) (skips_check o) (capacity_of o);
+}
+
+-- whether the given capacity is too small, and that matters
+abbrev pub is_too_small : Nfa → Options → Bool
+is_too_small n o = not (skips_check o) && nat_lt (capacity_of o) (least_capacity (measures_with n o))
+
+-- the refusal of a compile: want of memory is told as that
+abbrev pub told_by : NfaBuildError → BuildError
+told_by NfaNoMemory = NoMemory
+told_by e = NFA e
+
+-- what the builder answers
+abbrev pub built : Nfa → Options → Result Dfa BuildError
+built n o =
+    if is_unsupported n.automaton (word_boundary_of o) (by_hand o)
+    then Err Unsupported
+    else if is_too_small n o
+    then Err (InsufficientCacheCapacity (least_capacity (measures_with n o)) (capacity_of o))
+    else Ok (dfa_of n o)

@@ -1,0 +1,128 @@
+ghost use Rattle.std.specs.Prelude.{◌≡◌, ◌≤◌, ◌<◌};
+ghost use Rattle.lazy_dfa.specs.Accounting.{stride_of, start_count};
+ghost use Rattle.lazy_dfa.specs.Building.{built, classes_of, quits_of, measures_with};
+ghost use Rattle.lazy_dfa.specs.ConfigValue.{no_options, changed_by};
+
+use crate::build_error::BuildError;
+use crate::dfa::{Config, DFA};
+use crate::measures::Measures;
+use crate::quits::{is_unsupported, quit_bytes};
+use determinize_core::StartByteMap;
+use nfa_core::NFA;
+use search_core::{ByteClasses, ByteSet};
+use std::marker::Model;
+
+/// Builds lazy DFAs, as `regex_automata::hybrid::dfa::Builder`. A contract sees the options that are set.
+#[derive(Clone, Copy)]
+pub struct Builder {
+    config: Config,
+}
+
+impl Model for Builder {
+    ghost use Rattle.lazy_dfa.specs.ConfigValue.{Options};
+
+    ghost Value = { Options };
+
+    ghost view = { λ b. b.config };
+
+    ghost inverse = { λ o. record { config = o } };
+}
+
+impl Builder {
+    /// A builder with no option set.
+    pub fn new() -> Builder
+        ensures { result ≡ no_options }
+    {
+        Builder {
+            config: Config::new(),
+        }
+    }
+
+    /// Sets each option that the configuration has set, and keeps the others.
+    pub fn configure(&mut self, config: Config) -> &mut Builder
+        ensures same { result.ghost_name ≡ self.entry.ghost_name }
+        ensures value { result.now ≡ changed_by self.old config }
+    {
+        self.config = self.config.overwrite(config);
+        self
+    }
+
+    /// The DFA of an NFA. It is refused where the NFA asks for words by characters and searches aren't set to give up at
+    /// the bytes above 7F, and else where the capacity of caches is below the least and that isn't to be raised.
+    pub fn build_from_nfa(&self, nfa: NFA) -> Result<DFA, BuildError>
+        ensures { result ≡ built nfa self.now }
+    {
+        nfa.is_sound();
+        let config = self.config;
+        if is_unsupported(&nfa, &config) {
+            return Err(BuildError::Unsupported);
+        }
+        let quits = quit_bytes(&nfa, &config);
+        let classes = classes_of(&nfa, &config, &quits);
+        let measures = measures_of(&nfa, &classes, &config);
+        let minimum = measures.least_capacity();
+        let given = config.get_cache_capacity();
+        if given < minimum && !config.get_skip_cache_capacity_check() {
+            return Err(BuildError::InsufficientCacheCapacity { minimum, given });
+        }
+        let capacity = if given < minimum { minimum } else { given };
+        let start_map = StartByteMap::new(nfa.look_matcher());
+        Ok(DFA {
+            nfa,
+            config,
+            classes,
+            quits,
+            start_map,
+            measures,
+            capacity,
+        })
+    }
+}
+
+/// The classes of bytes that share transitions.
+fn classes_of(nfa: &NFA, config: &Config, quits: &ByteSet) -> ByteClasses
+    requires { quits.now ≡ quits_of nfa.now config.now }
+    ensures { result ≡ classes_of nfa.now config.now }
+{
+    if !config.get_byte_classes() {
+        return ByteClasses::singletons();
+    }
+    let mut marks = *nfa.byte_class_set();
+    marks.add_set(quits);
+    marks.byte_classes()
+}
+
+/// How many transitions a state has.
+fn stride_of(classes: &ByteClasses) -> usize
+    ensures value { result ≡ stride_of classes.now }
+    ensures most { result ≤ 512 }
+{
+    let len = classes.alphabet_len();
+    let mut stride = 1usize;
+    for _index in 0..9usize {
+        if len <= stride {
+            return stride;
+        }
+        stride *= 2;
+    }
+    stride
+}
+
+/// By what the bytes of a cache are told.
+fn measures_of(nfa: &NFA, classes: &ByteClasses, config: &Config) -> Measures
+    requires { classes.now ≡ classes_of nfa.now config.now }
+    ensures { result ≡ measures_with nfa.now config.now }
+{
+    let patterns = nfa.pattern_len();
+    let starts = if config.get_starts_for_each_pattern() {
+        14 + 7 * patterns
+    } else {
+        14
+    };
+    Measures {
+        states: nfa.states().len(),
+        patterns,
+        stride: stride_of(classes),
+        starts,
+    }
+}
