@@ -6,3 +6,4 @@ pub mod MadeLemmas
 pub mod BuildLemmas
 pub mod QuitLemmas
 pub mod StartCallLemmas
+pub mod ForCallers
