@@ -1,9 +1,10 @@
 //! What a search is asked and what it answers: inputs, spans, matches, sets of patterns, groups and captures.
 //!
 //! The definitions are in `specs/`; their laws are public functions without code in [`answer_laws`],
-//! [`group_laws`] and [`captures_laws`].
+//! [`all_answers_laws`], [`group_laws`] and [`captures_laws`].
 #![tactic(auto)]
 
+pub mod all_answers_laws;
 mod anchored;
 pub mod answer_laws;
 mod captures;
