@@ -31,7 +31,7 @@ pub use captures_iter::CapturesPatternIter;
 pub use group_info::GroupInfo;
 pub use group_info_error::GroupInfoError;
 pub use group_names::{GroupInfoAllNames, GroupInfoPatternNames};
-pub use haystack::Haystack;
+pub use haystack::{Bytes, Haystack, Text};
 pub use input::Input;
 pub use match_error::{MatchError, MatchErrorKind};
 pub use match_kind::MatchKind;
