@@ -8,7 +8,7 @@ use Rattle.std.specs.Bool.{nat_eq}
 use Rattle.look_core.specs.declared.look.Look.{Look}
 use Rattle.look_core.specs.Terminators.{Terminator}
 use Rattle.look_core.specs.LookSets.{IsLookSet, has_look, union_of, shared_by, without}
-use Rattle.look_core.proofs.LookSetLemmas.{has_look-none, has_look-union, has_look-shared, has_look-without, has_look-repr}
+use Rattle.look_core.proofs.ForCallers.{has_look-none, has_look-union, has_look-shared, has_look-without, has_look-repr}
 use Rattle.nfa_core.specs.Walks.{Has, Visits}
 use Rattle.nfa_core.specs.Places.{StaysBelow}
 use Rattle.nfa_core.specs.Nfa.{Node, byte_range, sparse_node, dense_node, look_node, union_node, binary_union, capture_node, fail_node, match_node, Automaton, node_at, IsWellFormed}

@@ -8,7 +8,7 @@ use Rattle.look_core.specs.Looks.{holds_ascii, byte_side, is_byte, is_word, is_n
 use Rattle.look_core.specs.Terminators.{Terminator}
 use Rattle.look_core.specs.declared.look.Look.{Look}
 use Rattle.look_core.specs.declared.look.Look.TheVariants.{Start as AtStart, StartLF, StartCRLF, WordStartHalfAscii, WordStartHalfUnicode}
-use Rattle.look_core.proofs.LookRows.{look_at-bit_of, bit_of-lt}
+use Rattle.look_core.proofs.ForCallers.{look_at-bit_of, bit_of-lt}
 use Rattle.determinize_core.specs.Starts.{start_of}
 use Rattle.determinize_core.specs.LookBehind.{families_of, look_behind, is_decided}
 use Rattle.determinize_core.specs.declared.lookbehind.LookBehind.{LookBehind}

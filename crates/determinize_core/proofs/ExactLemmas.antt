@@ -8,7 +8,7 @@ use Rattle.look_core.specs.Codes.{same_look}
 use Rattle.look_core.specs.Terminators.{Terminator, ends_line}
 use Rattle.look_core.specs.declared.look.Look.{Look}
 use Rattle.look_core.specs.declared.look.Look.TheVariants.{Start as AtStart, StartLF, StartCRLF, WordStartHalfAscii, WordStartHalfUnicode}
-use Rattle.look_core.proofs.LookSetLemmas.{has_look-none, has_look-with}
+use Rattle.look_core.proofs.ForCallers.{has_look-none, has_look-with}
 use Rattle.determinize_core.specs.Starts.{start_of}
 use Rattle.determinize_core.specs.LookBehind.{with_if, starts_of, known_at_line, known_at_byte, behind_start}
 use Rattle.determinize_core.proofs.LookBehindLemmas.{start_cases}

@@ -6,7 +6,7 @@ use Rattle.look_core.specs.LookSets.{IsLookSet}
 use Rattle.look_core.specs.Terminators.{Terminator, ends_line}
 use Rattle.look_core.specs.declared.look.Look.{Look}
 use Rattle.look_core.specs.declared.look.Look.TheVariants.{Start as AtStart, StartLF, StartCRLF, WordStartHalfAscii, WordStartHalfUnicode}
-use Rattle.look_core.proofs.LookSetLemmas.{union-lt, repr-lt}
+use Rattle.look_core.proofs.ForCallers.{union-lt, repr-lt}
 use Rattle.determinize_core.specs.States.{StateValue, IsState, dead}
 use Rattle.determinize_core.specs.LookBehind.{with_if, starts_of, known_at_line, known_at_byte, behind_start, with_look_behind}
 use Rattle.determinize_core.specs.declared.start.Start.{Start}

@@ -8,8 +8,7 @@ use Rattle.look_core.specs.Codes.{bit_of, same_look}
 use Rattle.look_core.specs.Terminators.{Terminator, ends_line}
 use Rattle.look_core.specs.declared.look.Look.{Look}
 use Rattle.look_core.specs.declared.look.Look.TheVariants.{Start as AtStart, StartLF, StartCRLF, WordStartHalfAscii, WordStartHalfUnicode}
-use Rattle.look_core.proofs.LookSetLemmas.{has_look-none, has_look-with}
-use Rattle.look_core.proofs.LookRows.{same_from_bit}
+use Rattle.look_core.proofs.ForCallers.{has_look-none, has_look-with, same_from_bit}
 use Rattle.determinize_core.specs.Starts.{start_by, start_of}
 use Rattle.determinize_core.specs.LookBehind.{with_if, starts_of, behind_nothing, behind_line, behind_byte, behind_start}
 use Rattle.determinize_core.specs.declared.start.Start.TheVariants.{LineLF, LineCR}

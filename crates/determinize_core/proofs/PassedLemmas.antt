@@ -9,7 +9,7 @@ use Rattle.look_core.specs.Looks.{Side, holds_ascii, byte_side, is_byte, is_word
 use Rattle.look_core.specs.Terminators.{Terminator, ends_line}
 use Rattle.look_core.specs.declared.look.Look.{Look}
 use Rattle.look_core.specs.declared.look.Look.TheVariants.{Start as AtStart, End, StartLF, EndLF, StartCRLF, EndCRLF, WordAscii, WordAsciiNegate, WordUnicode, WordUnicodeNegate, WordStartAscii, WordEndAscii, WordStartUnicode, WordEndUnicode, WordStartHalfAscii, WordEndHalfAscii, WordStartHalfUnicode, WordEndHalfUnicode}
-use Rattle.look_core.proofs.LookSetLemmas.{has_look-none, has_look-with}
+use Rattle.look_core.proofs.ForCallers.{has_look-none, has_look-with}
 use Rattle.nfa_core.specs.Ways.{span, is_passed}
 use Rattle.determinize_core.specs.States.{StateValue}
 use Rattle.determinize_core.specs.Starts.{start_of}

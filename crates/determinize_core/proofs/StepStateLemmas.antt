@@ -5,7 +5,7 @@ use Rattle.search_core.specs.Index.{greatest_index}
 use Rattle.look_core.specs.LookSets.{IsLookSet, union_of}
 use Rattle.look_core.specs.Looks.{byte_side, is_no_word, is_line_end, is_byte}
 use Rattle.look_core.specs.Terminators.{Terminator}
-use Rattle.look_core.proofs.LookSetLemmas.{union-lt, repr-lt}
+use Rattle.look_core.proofs.ForCallers.{union-lt, repr-lt}
 use Rattle.search_types.specs.declared.match_kind.MatchKind.{MatchKind}
 use Rattle.search_types.specs.declared.match_kind.MatchKind.TheVariants.{All as AllMatches, LeftmostFirst}
 use Rattle.nfa_core.specs.Walks.{HasNoneTwice}

@@ -8,7 +8,7 @@ use Rattle.std.proofs.lemmas.Bool.{and_parts, and_from, cond-true, cond-false, l
 use Rattle.std.proofs.lemmas.Bool.Decides.{eqb_tells, nat_tests}
 use Rattle.std.proofs.lemmas.Option.{none-some, slice_get-map, slice_get_past}
 use Rattle.search_core.specs.Utf8.{scalar_of_two, scalar_of_three, scalar_of_four, Spells}
-use Rattle.search_core.proofs.Utf8Lemmas.{spelling_encodes, encoded_spells, one_scalar, encode_two, encode_three, encode_four, range-of_IsScalar, IsScalar-of_range}
+use Rattle.search_core.proofs.ForCallers.{spelling_encodes, encoded_spells, one_scalar, encode_two, encode_three, encode_four, range-of_IsScalar, IsScalar-of_range}
 use Rattle.hir_core.specs.Sequences.{scalar_from, row_end, block_end, piece_end, pieces_of, pieces, spelling_of, byte_ranges, utf8_sequences, is_in_ranges, begins_in_ranges}
 use Rattle.hir_core.proofs.SequenceSteps.{never, piece_between, pieces_first, pieces_none, scalar_above}
 

@@ -8,7 +8,7 @@ use Rattle.std.proofs.lemmas.List.{take-append-drop}
 use Rattle.std.proofs.lemmas.List.Concat.{flat_map-append}
 use Rattle.search_core.specs.Utf8.{SpellsFirst}
 use Rattle.search_core.specs.Characters.{character_at, spelling_len}
-use Rattle.search_core.proofs.CharacterLemmas.{spelling_has_len, character_begins, begun_character}
+use Rattle.search_core.proofs.ForCallers.{spelling_has_len, character_begins, begun_character}
 use Rattle.hir_core.specs.Tree.{char_class, alternation}
 use Rattle.hir_core.specs.Means.{Looks, Means, is_member}
 use Rattle.hir_core.specs.PreferredEnds.{class_end, character_end, preferred_ends, Has}

@@ -4,7 +4,6 @@ pub mod PartLemmas
 pub mod CharacterLemmas
 pub mod ChoiceLemmas
 pub mod AnswerLemmas
-pub mod AllAnswersLemmas
 pub mod LoopLemmas
 pub mod WordLemmas
 pub mod RangeLemmas

@@ -5,7 +5,7 @@ use Rattle.std.proofs.lemmas.Bool.Decides.{leb_tells}
 use Rattle.std.specs.Bool.{nat_le}
 use Rattle.std.specs.List.{flat_map}
 use Rattle.search_core.specs.Marks.{marks_below, IsIn, HoldsAllOrNone}
-use Rattle.search_core.proofs.MarkLemmas.{same_class_tells}
+use Rattle.search_core.proofs.ForCallers.{same_class_tells}
 use Rattle.look_core.specs.Terminators.{Terminator}
 use Rattle.nfa_core.specs.Nfa.{Node, byte_range, sparse_node, dense_node, look_node, union_node, binary_union, capture_node, fail_node, match_node, Automaton, node_at}
 use Rattle.nfa_core.specs.NfaValue.{IsSound, IsNodeOf, IsClassSet, told_by}

@@ -10,3 +10,5 @@ pub mod StepLemmas
 pub mod UnitLemmas
 pub mod CharacterLemmas
 mod CharacterRows
+pub mod RisingLemmas
+pub mod ForCallers

@@ -7,3 +7,7 @@ pub mod GroupLemmas
 pub mod IndexLemmas
 pub mod CapturesLemmas
 pub mod GroupLaws
+pub mod AllAnswersLemmas
+pub mod ChainLemmas
+pub mod FirstLemmas
+pub mod ForCallers

@@ -4,7 +4,7 @@ use Rattle.std.proofs.lemmas.Bool.{and_parts, cases_lt, cond-true, cond-false, f
 use Rattle.std.proofs.lemmas.Option.{slice_get_cases}
 use Rattle.search_core.specs.Characters.{character_at, spelling_len}
 use Rattle.search_core.specs.Utf8.{Spells, from_0000}
-use Rattle.search_core.proofs.CharacterLemmas.{character_begins, begun_character}
+use Rattle.search_core.proofs.ForCallers.{character_begins, begun_character}
 use Rattle.hir_core.specs.Facts.{is_ascending, rises_from}
 use Rattle.hir_core.specs.Means.{is_member}
 use Rattle.hir_core.specs.PreferredEnds.{class_end, character_end}

@@ -6,7 +6,7 @@ use Rattle.std.proofs.lemmas.List.{length-take, get_or-take}
 use Rattle.search_core.specs.Text.{byte_at}
 use Rattle.look_core.specs.declared.look.Look.{Look}
 use Rattle.look_core.specs.Codes.{reversed}
-use Rattle.look_core.proofs.LookRows.{reversed_twice}
+use Rattle.look_core.proofs.ForCallers.{reversed_twice}
 use Rattle.hir_core.specs.Tree.{Tree, empty, byte_class, look, repetition, cat, never, alt}
 use Rattle.hir_core.specs.Means.{Looks, Means, Rounds, AtMost, is_member}
 use Rattle.hir_core.specs.PreferredEnds.{preferred_ends, class_end, Has as HasEnd}

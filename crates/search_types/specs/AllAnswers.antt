@@ -1,7 +1,6 @@
 -- The list of all answers, over any function that answers from a place: what an iterator over a haystack's matches gives.
 use Rattle.std.specs.Prelude.{◌≡◌, ℕ, zero, suc, ◌+◌, ◌-◌, ◌<◌, ◌≤◌, ◌&&◌, Bool, false, List, [], ◌∷◌, Option, Some, None, if◌then◌else◌, nat_eq}
 use Rattle.search_types.specs.Found.{Found}
-use Rattle.hirscan.specs.Choices.{Query, answer_from}
 
 -- an answer that is empty at the end of the last one
 abbrev pub is_repeat : Option ℕ → Option Found → Bool
@@ -26,10 +25,6 @@ answers_from answer (suc n) last at = and_on (next_answer answer last at) (λ f.
 -- All answers from s to e. Since their ends rise, there are no more of them than places.
 abbrev pub all_answers : (ℕ → Option Found) → ℕ → ℕ → List Found
 all_answers answer s e = answers_from answer (e + 2 - s) None s
-
--- all answers of a search from the place s
-abbrev pub answers_of : Query → ℕ → List Found
-answers_of q s = all_answers (answer_from q) s q.end
 
 -- an answer function for places up to e: what it answers starts at or after the place asked, and ends between its start and e
 pub record AnswersWithin (answer : ℕ → Option Found) (e : ℕ) : Type 0 where

@@ -3,7 +3,7 @@ use Rattle.std.proofs.Common.{◌≡◌, ℕ, zero, suc, ◌+◌, ◌-◌, ◌<�
 use Rattle.std.specs.List.{All}
 use Rattle.std.proofs.lemmas.Bool.{cases_lt}
 use Rattle.search_types.specs.Found.{Found}
-use Rattle.hirscan.specs.AllAnswers.{is_repeat, and_on, next_answer, answers_from, all_answers, AnswersWithin, EndsRise}
+use Rattle.search_types.specs.AllAnswers.{is_repeat, and_on, next_answer, answers_from, all_answers, AnswersWithin, EndsRise}
 
 -- one more answer is written
 pub answer_written : (answer : ℕ → Option Found) (written : List Found) (n m : ℕ) (last : Option ℕ) (at : ℕ) (f : Found) → n ≡ suc m →

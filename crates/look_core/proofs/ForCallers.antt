@@ -1,0 +1,12 @@
+-- What the proofs of other crates may cite of this crate, beside its definitions and its public laws.
+
+-- looks are told apart by their numbers, which are below eighteen
+pub use Rattle.look_core.proofs.LookRows.{same_from_bit, look_at-bit_of, bit_of-lt}
+-- a look that is turned round twice is as it was
+pub use Rattle.look_core.proofs.LookRows.{reversed_twice}
+-- the members of the empty set, of a set of one look, and of sets that are made of others
+pub use Rattle.look_core.proofs.LookSetLemmas.{has_look-none, has_look-repr, has_look-with, has_look-union, has_look-shared, has_look-without}
+-- sets that are made so have no bits but those of looks
+pub use Rattle.look_core.proofs.LookSetLemmas.{repr-lt, union-lt}
+-- sets with the same members are equal
+pub use Rattle.look_core.proofs.LookSetLemmas.{same_members}
