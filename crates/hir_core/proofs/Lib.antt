@@ -23,4 +23,5 @@ pub mod BoundedSpanLemmas
 pub mod LocalLookLemmas
 pub mod TwoTextsLemmas
 pub mod EmptyLemmas
+pub mod BackwardLemmas
 pub mod ForCallers
