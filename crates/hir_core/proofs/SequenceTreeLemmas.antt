@@ -19,7 +19,8 @@ use Rattle.hir_core.proofs.HasLemmas.{Has-left, Has-right, Has-append, Has-if, H
 use Rattle.hir_core.proofs.SpellingLemmas.{member_cases}
 use Rattle.hir_core.proofs.PreferredEndsLemmas.{preferred_ends_sound, preferred_ends_complete}
 use Rattle.hir_core.proofs.SequenceSteps.{never}
-use Rattle.hir_core.proofs.SequenceLemmas.{begins_with, IsPiece, Rises, spelling_in, rises, covers, spelled_by, scalar_by, string_spells}
+use Rattle.hir_core.specs.Pieces.{IsPiece, Rises}
+use Rattle.hir_core.proofs.SequenceLemmas.{begins_with, spelling_in, rises, covers, spelled_by, scalar_by, string_spells}
 
 -- ---- counting, and the premise on loops
 pub sequences_counted : (ranges : List (ℕ × ℕ)) → length (sequences_of ranges) ≡ sequence_count ranges

@@ -6,8 +6,7 @@ use Rattle.std.proofs.lemmas.Bool.{and_parts}
 use Rattle.hir_core.specs.Tree.{Tree}
 use Rattle.hir_core.specs.Means.{Means}
 use Rattle.hir_core.specs.PreferredEnds.{preferred_ends, Has}
-use Rattle.hir_core.proofs.PreferredEndsLemmas.{preferred_ends_sound}
-use Rattle.hir_core.proofs.SpanLemmas.{span_forward}
+use Rattle.hir_core.proofs.ForCallers.{preferred_ends_sound, span_forward}
 use Rattle.search_types.specs.Found.{Found}
 use Rattle.search_types.specs.Modes.{allowed}
 use Rattle.search_types.specs.Places.{counts}

@@ -9,7 +9,9 @@ pub mod WordLemmas
 pub mod RangeLemmas
 pub mod StackLemmas
 pub mod StageLemmas
+pub mod HexLemmas
 pub mod SaysLemmas
+pub mod ReaderLemmas
 pub mod TakesLemmas
 pub mod HeadLemmas
 pub mod EffectLemmas

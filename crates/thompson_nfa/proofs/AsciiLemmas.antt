@@ -9,8 +9,7 @@ use Rattle.hir_core.specs.Facts.{is_ascending, rises_from}
 use Rattle.hir_core.specs.Means.{is_member}
 use Rattle.hir_core.specs.PreferredEnds.{class_end, character_end}
 use Rattle.hir_core.specs.Tree.{byte_class, char_class}
-use Rattle.hir_core.proofs.SequenceLemmas.{spelled_by}
-use Rattle.hir_core.proofs.SpellingLemmas.{member_cases}
+use Rattle.hir_core.proofs.ForCallers.{spelled_by, member_cases}
 use Rattle.nfa_core.specs.BuilderStates.{Assembly}
 use Rattle.thompson_nfa.specs.AsciiClasses.{is_ascii}
 use Rattle.thompson_nfa.specs.Compiled.{Does}

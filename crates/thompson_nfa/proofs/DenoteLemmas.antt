@@ -6,7 +6,7 @@ use Rattle.hir_core.specs.Tree.{Tree, empty, byte_class, look, nothing, never}
 use Rattle.hir_core.specs.Means.{Looks, Means}
 use Rattle.hir_core.specs.PreferredEnds.{preferred_ends, Has as HasEnd}
 use Rattle.hir_core.specs.Facts.{LoopsRead}
-use Rattle.hir_core.proofs.PreferredEndsLemmas.{preferred_ends_sound, preferred_ends_complete}
+use Rattle.hir_core.proofs.ForCallers.{preferred_ends_sound, preferred_ends_complete}
 use Rattle.nfa_core.specs.BuilderStates.{empty_part, range_part, sparse_part, look_part, capture_start_part, capture_end_part, fail_part}
 use Rattle.nfa_core.specs.Ways.{Text, reads, is_passed}
 use Rattle.nfa_core.specs.Drafted.{Table}

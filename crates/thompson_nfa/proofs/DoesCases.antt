@@ -9,7 +9,7 @@ use Rattle.nfa_core.specs.Drafted.{Table}
 use Rattle.thompson_nfa.specs.Added.{Added, Led}
 use Rattle.thompson_nfa.specs.Compiled.{Grows, Finishes, IsFragment, Does}
 use Rattle.thompson_nfa.proofs.CaseLemmas.{AllDenote, none_denote, more_denote, all_denote_push, denotes_alternation}
-use Rattle.hir_core.proofs.SequenceTreeLemmas.{sequences_read, class_ends}
+use Rattle.hir_core.proofs.ForCallers.{sequences_read, class_ends}
 use Rattle.thompson_nfa.proofs.SameLemmas.{IsSame, denotes_same}
 use Rattle.thompson_nfa.proofs.DoesLemmas.{way_of_grown, turned_to, ends_at}
 

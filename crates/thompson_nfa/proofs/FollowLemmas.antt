@@ -7,8 +7,8 @@ use Rattle.hir_core.specs.BySequences.{sequence_tree, sequences_of, by_sequences
 use Rattle.hir_core.specs.Facts.{count, sequence_count, rises_from, is_ascending}
 use Rattle.hir_core.specs.Sequences.{byte_ranges, pieces, utf8_sequences}
 use Rattle.hir_core.specs.Tree.{alternation, char_class}
-use Rattle.hir_core.proofs.SequenceLemmas.{IsPiece, Rises, rises, sequence_short}
-use Rattle.hir_core.proofs.SequenceTreeLemmas.{sequences_counted}
+use Rattle.hir_core.specs.Pieces.{IsPiece, Rises}
+use Rattle.hir_core.proofs.ForCallers.{rises, sequence_short, sequences_counted}
 use Rattle.nfa_core.specs.BuilderStates.{Assembly}
 use Rattle.nfa_core.specs.declared.transition.Transition.{Transition}
 use Rattle.nfa_core.specs.declared.build_error.BuildError.{BuildError}

@@ -10,9 +10,7 @@ use Rattle.look_core.proofs.ForCallers.{reversed_twice}
 use Rattle.hir_core.specs.Tree.{Tree, empty, byte_class, look, repetition, cat, never, alt}
 use Rattle.hir_core.specs.Means.{Looks, Means, Rounds, AtMost, is_member}
 use Rattle.hir_core.specs.PreferredEnds.{preferred_ends, class_end, Has as HasEnd}
-use Rattle.hir_core.proofs.HasLemmas.{Has-if, Has-then}
-use Rattle.hir_core.proofs.SpanLemmas.{span_forward}
-use Rattle.hir_core.proofs.PreferredEndsLemmas.{preferred_ends_sound, preferred_ends_complete}
+use Rattle.hir_core.proofs.ForCallers.{Has-if, Has-then, span_forward, preferred_ends_sound, preferred_ends_complete}
 use Rattle.nfa_core.specs.Ways.{Text, with_place, reads, is_passed}
 use Rattle.thompson_nfa.specs.Denotes.{IsMeant, seen}
 use Rattle.thompson_nfa.proofs.WayLemmas.{byte_ends}

@@ -5,10 +5,7 @@ use Rattle.hir_core.specs.Tree.{Tree, empty, repetition}
 use Rattle.hir_core.specs.Means.{Looks, Rounds, AtMost}
 use Rattle.hir_core.specs.PreferredEnds.{preferred_ends, in_order}
 use Rattle.hir_core.specs.Facts.{LoopsRead, IsAboveZero, minimum_len}
-use Rattle.hir_core.proofs.SpanLemmas.{IsSpan-Means}
-use Rattle.hir_core.proofs.MinimumLenLemmas.{reads_a_byte}
-use Rattle.hir_core.proofs.PreferredEndsLemmas.{preferred_ends_sound}
-use Rattle.hir_core.proofs.RepetitionLemmas.{repetition_more}
+use Rattle.hir_core.proofs.ForCallers.{IsSpan-Means, reads_a_byte, preferred_ends_sound, repetition_more}
 use Rattle.nfa_core.specs.Ways.{Text}
 use Rattle.nfa_core.specs.Drafted.{Table}
 use Rattle.thompson_nfa.specs.Denotes.{seen, choice, IsMeant, Reaches, Halts, Orders, Denotes}

@@ -8,8 +8,7 @@ use Rattle.hir_core.specs.Tree.{Tree, empty, literal, byte_class, capture, nothi
 use Rattle.hir_core.specs.Means.{Looks, Means, stands, is_member}
 use Rattle.hir_core.specs.PreferredEnds.{preferred_ends, class_end, Has as HasEnd}
 use Rattle.hir_core.specs.Facts.{LoopsRead}
-use Rattle.hir_core.proofs.HasLemmas.{flat_map-flat_map, flat_map_same}
-use Rattle.hir_core.proofs.PreferredEndsLemmas.{preferred_ends_sound, preferred_ends_complete}
+use Rattle.hir_core.proofs.ForCallers.{flat_map-flat_map, flat_map_same, preferred_ends_sound, preferred_ends_complete}
 use Rattle.nfa_core.specs.Drafted.{Table}
 use Rattle.thompson_nfa.specs.Denotes.{Denotes}
 use Rattle.thompson_nfa.proofs.MeantLemmas.{meant_map, meant_cat_down, cat_meant_down}
