@@ -59,7 +59,7 @@ alike_for t looks l a b c h = All-contains (λ k. All (LieAlike a b) (told_apart
 same_in_range : (lo hi a b : ℕ) → LieAlike a b (lo, hi) → is_in_range lo hi a ≡ is_in_range lo hi b
 same_in_range lo hi a b h = grind (arith, nat_tests)
 
-same_byte : (r a b : ℕ) → LieAlike a b (r, r) → eqb r a ≡ eqb r b
+pub same_byte : (r a b : ℕ) → LieAlike a b (r, r) → eqb r a ≡ eqb r b
 same_byte r a b h = grind (arith, nat_tests)
 
 same_byte_turned : (r a b : ℕ) → LieAlike a b (r, r) → eqb a r ≡ eqb b r
@@ -83,7 +83,7 @@ same_word a b h =
     or_of_four _ _ _ _ _ _ _ _ (same_in_range 0x30 0x39 a b (All-head P (0x30, 0x39) capital h)) (same_in_range 0x41 0x5A a b (All-head P (0x41, 0x5A) score h1))
     (same_byte_turned 0x5F a b (All-head P (0x5F, 0x5F) small h2)) (same_in_range 0x61 0x7A a b (All-head P (0x61, 0x7A) [] h3))
 
-same_end : (t : Terminator) (a b : ℕ) → All (LieAlike a b) (line_ends t) → ends_line t a ≡ ends_line t b
+pub same_end : (t : Terminator) (a b : ℕ) → All (LieAlike a b) (line_ends t) → ends_line t a ≡ ends_line t b
 same_end (c, None) a b h = same_byte c a b (All-head (LieAlike a b) (c, c) [] h)
 same_end (c, Some d) a b h =
     ap₂ ◌||◌ (same_byte c a b (All-head (LieAlike a b) (c, c) ((d, d) ∷ []) h)) (same_byte d a b (second (LieAlike a b) (c, c) (d, d) [] h))

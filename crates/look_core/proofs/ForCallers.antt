@@ -1,5 +1,4 @@
 -- What the proofs of other crates may cite of this crate, beside its definitions and its public laws.
-
 -- looks are told apart by their numbers, which are below eighteen
 pub use Rattle.look_core.proofs.LookRows.{same_from_bit, look_at-bit_of, bit_of-lt}
 -- a look that is turned round twice is as it was
@@ -10,3 +9,9 @@ pub use Rattle.look_core.proofs.LookSetLemmas.{has_look-none, has_look-repr, has
 pub use Rattle.look_core.proofs.LookSetLemmas.{repr-lt, union-lt}
 -- sets with the same members are equal
 pub use Rattle.look_core.proofs.LookSetLemmas.{same_members}
+-- bytes of one class lie alike in each range of which the classes were made
+pub use Rattle.look_core.proofs.ClassLemmas.{same_class_alike}
+-- bytes that lie alike in the ranges of terminators, of word bytes and of one byte read alike as such
+pub use Rattle.look_core.proofs.ClassLemmas.{LieAlike, same_end, same_word, same_byte}
+-- haystacks whose bytes lie alike place by place: what is read beside a place, and the looks there
+pub use Rattle.look_core.proofs.ClassLemmas.{AtEach, same_at, same_before, alike_bytes, same_unicode, word_ranges_told}

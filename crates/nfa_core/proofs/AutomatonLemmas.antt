@@ -84,7 +84,7 @@ reads_beside false t i = ⊎_elim (λ (e : nat_lt i t.end ≡ true). rw e (besid
 reads_beside true t zero = tt
 reads_beside true t (suc i) = ⊎_elim (λ told. rw told.0 (beside_down t i (byte_at t.haystack i) told.1)) (λ told. rw told.0 tt) (leb_tells t.start i)
 
-behind_inside : (down : Bool) (t : Text) (i : ℕ) (read : Option (ℕ × ℕ)) → IsBeside down t i read → i ≤ t.end → place_behind i read ≤ t.end
+pub behind_inside : (down : Bool) (t : Text) (i : ℕ) (read : Option (ℕ × ℕ)) → IsBeside down t i read → i ≤ t.end → place_behind i read ≤ t.end
 behind_inside down t i None beside h = h
 behind_inside false t i (Some (b, j)) beside h = omega (arith, beside.0, beside.1)
 behind_inside true t i (Some (b, j)) beside h = omega (arith, beside.0, h)

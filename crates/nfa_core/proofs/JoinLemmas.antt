@@ -47,7 +47,7 @@ module _ {A : Type 0} (same : A → A → Bool) (laws : IsEquality same) where
       (λ last. let e : y ≡ x = sym (has_one same laws x y last) in not_both (has same y (x ∷ xs)) _ (has_same same laws y x xs e) apart) (has_append same x xs (y ∷ []) h))
       (λ e. e) (has_or_not same x (xs ++ y ∷ []))
 
-  once_pushed : (y : A) (xs : List A) → has same y xs ≡ false → HasNoneTwice same xs → HasNoneTwice same (xs ++ y ∷ [])
+  pub once_pushed : (y : A) (xs : List A) → has same y xs ≡ false → HasNoneTwice same xs → HasNoneTwice same (xs ++ y ∷ [])
   once_pushed y [] absent once = (refl, tt)
   once_pushed y (x ∷ xs) absent once = (lacks_pushed x y xs absent once.0, once_pushed y xs (lacks_later same y x xs absent) once.1)
 

@@ -47,3 +47,8 @@ pub mod ReachLemmas
 pub mod SizeLemmas
 pub mod CheckLemmas
 pub mod BuildRows
+pub mod ExistLemmas
+pub mod PassedLemmas
+pub mod TableLemmas
+pub mod SameTextLemmas
+pub mod ForCallers

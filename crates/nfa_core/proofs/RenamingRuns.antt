@@ -45,7 +45,7 @@ led_names P (union_reverse_part names) all = All-permutation P names (reverse na
 led_names P fail_part all = all
 led_names P (match_part pattern) all = all
 
-node_ways_inside : (down : Bool) (t : Text) (node : Node) (n i : ℕ) → All (λ r. r < n) (leads_to node) → (p : ℕ × ℕ) → Has same_pair p (node_ways down t node i) → p.1 < n
+pub node_ways_inside : (down : Bool) (t : Text) (node : Node) (n i : ℕ) → All (λ r. r < n) (leads_to node) → (p : ℕ × ℕ) → Has same_pair p (node_ways down t node i) → p.1 < n
 node_ways_inside down t node n i all =
     let below : Every (λ r. r < n) (leads_to node) = every_of_all (λ r. r < n) (leads_to node) all in
     let read : Option (ℕ × ℕ) = reads down t i in
@@ -80,7 +80,7 @@ module _ (b : Assembly) (x y : ℕ) (can : CanBuild b x y) (t : Text) where
   abbrev Stands : ℕ × ℕ → Type 0
   Stands p = StandsIn same_pair pairs_equal same_pair pairs_equal (renamed_pair b.parts) from found from_built found_built p
 
-  stays : (p : ℕ × ℕ) → IsInside p → (q : ℕ × ℕ) → Has same_pair q (from p) → IsInside q
+  pub stays : (p : ℕ × ℕ) → IsInside p → (q : ℕ × ℕ) → Has same_pair q (from p) → IsInside q
   stays p here q way =
       let named : All (λ r. r < length b.parts) (names_of (part_at b.parts p.1)) = All-get_or (λ part. All (λ r. r < length b.parts) (names_of part)) b.parts p.1 fail_part here can.named in
       node_ways_inside b.reverse t (drafted (part_at b.parts p.1)) (length b.parts) p.0 (led_names (λ r. r < length b.parts) (part_at b.parts p.1) named) q way
@@ -88,7 +88,7 @@ module _ (b : Assembly) (x y : ℕ) (can : CanBuild b x y) (t : Text) where
   is_kept : (p : ℕ × ℕ) → IsInside p → stands_for (part_at b.parts p.1) ≡ None → Kept p
   is_kept p here e = (state_ways b x y p.1 p.0 t here e, state_match b x y p.1 p.0 here e)
 
-  same_name : (q r : ℕ) → stands_for (part_at b.parts q) ≡ Some r → new_name b.parts q ≡ new_name b.parts r
+  pub same_name : (q r : ℕ) → stands_for (part_at b.parts q) ≡ Some r → new_name b.parts q ≡ new_name b.parts r
   same_name q r e = ap (λ k. length (kept (take k b.parts))) (past_next b.parts can.no_loop q r e)
 
   stands_in : (p : ℕ × ℕ) (r : ℕ) → stands_for (part_at b.parts p.1) ≡ Some r → Stands p

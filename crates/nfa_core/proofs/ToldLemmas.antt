@@ -1,9 +1,12 @@
 -- The ranges of bytes of sound states, and steps over their lists.
-use Rattle.std.proofs.Common.{◌≡◌, ℕ, zero, suc, ◌+◌, ◌<◌, ◌≤◌, true, false, Bool, List, [], ◌∷◌, length, map, All, get_or, sym, ap, ◌∙◌, subst, arith}
-use Rattle.std.specs.List.{list_any, fold}
-use Rattle.std.proofs.lemmas.List.{get_or-map, length-map}
+use Rattle.std.proofs.Common.{◌≡◌, ℕ, zero, suc, ◌+◌, ◌<◌, ◌≤◌, true, false, Bool, List, [], ◌∷◌, length, map, drop, All, get_or, sym, ap, ◌∙◌, subst, arith}
+use Rattle.std.specs.List.{list_any, flat_map, fold}
+use Rattle.search_core.specs.Marks.{recorded}
+use Rattle.look_core.specs.Terminators.{Terminator}
+use Rattle.std.proofs.lemmas.List.{drop_all, get_or-map, length-map}
 use Rattle.nfa_core.specs.Nfa.{Node, fail_node}
 use Rattle.nfa_core.specs.BuilderStates.{AscendsFrom}
+use Rattle.nfa_core.specs.NfaValue.{told_by}
 use Rattle.nfa_core.specs.Transitions.{range_of}
 use Rattle.nfa_core.specs.States.{node_of}
 use Rattle.nfa_core.specs.declared.state.State.{State}
@@ -30,3 +33,10 @@ module _ (x : ℕ) (rest old : List ℕ) (e : old ≡ x ∷ rest) where
 
   pub fold_next : (node : ℕ → Node) (step : ℕ → Node → ℕ) (before now all : ℕ) → now ≡ step before (node x) → fold step before (map node old) ≡ all → fold step now (map node rest) ≡ all
   fold_next node step before now all is same = let f : fold step before (map node (x ∷ rest)) ≡ all = (rw e at same) in rw is f
+
+-- where a loop has marked the ranges of all states
+pub marked_all : (t : Terminator) (states : List State) (set all : List Bool) (i : ℕ) → length states ≤ i →
+    recorded set (flat_map (told_by t) (map node_of (drop i states))) ≡ all → set ≡ all
+marked_all t states set all i past same =
+    let left : recorded set (flat_map (told_by t) (map node_of (drop i states))) ≡ set = ap (λ l. recorded set (flat_map (told_by t) (map node_of l))) (drop_all i states past) in
+    sym left ∙ same

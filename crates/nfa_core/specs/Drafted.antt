@@ -1,7 +1,9 @@
 -- A builder's states as an automaton of their own, before any is left out: what its table means.
-use Rattle.std.specs.Prelude.{ℕ, Bool, List, [], ◌∷◌, reverse, Option}
+use Rattle.std.specs.Prelude.{ℕ, suc, ◌*◌, Bool, List, [], ◌∷◌, reverse, length, Option}
 use Rattle.nfa_core.specs.Nfa.{Node, byte_range, sparse_node, look_node, union_node, capture_node, fail_node, match_node}
-use Rattle.nfa_core.specs.BuilderStates.{Part, empty_part, range_part, sparse_part, look_part, capture_start_part, capture_end_part, union_part, union_reverse_part, fail_part, match_part}
+use Rattle.nfa_core.specs.BuilderStates.{Part, empty_part, range_part, sparse_part, look_part, capture_start_part, capture_end_part, union_part, union_reverse_part, fail_part, match_part, part_at}
+use Rattle.nfa_core.specs.Places.{same_pair}
+use Rattle.nfa_core.specs.Runs.{run_ends}
 use Rattle.nfa_core.specs.Ways.{Text, node_ways, match_of}
 
 -- the state as one of an automaton, under the names of the table; an empty state is a union of one way
@@ -28,3 +30,7 @@ table_ways reverse t table p = node_ways reverse t (drafted (table p.1)) p.0
 -- what matches in a state of a table at a place
 abbrev pub table_match : Table → ℕ × ℕ → Option (ℕ × ℕ)
 table_match table p = match_of (drafted (table p.1)) p.0
+
+-- The ends of the runs of a builder's states from a pair, the preferred ones first. The bound is how many pairs there are.
+abbrev pub table_ends : Bool → Text → List Part → ℕ × ℕ → List (ℕ × ℕ)
+table_ends reverse t parts p = run_ends same_pair same_pair (table_ways reverse t (part_at parts)) (table_match (part_at parts)) (suc t.end * length parts) p

@@ -4,7 +4,8 @@ use Rattle.std.specs.List.{list_any}
 use Rattle.search_core.specs.Marks.{marks_below}
 use Rattle.look_core.specs.Terminators.{Terminator, one_of}
 use Rattle.nfa_core.specs.Nfa.{capture_node, fail_node, match_node, Automaton}
-use Rattle.nfa_core.specs.NfaValue.{Nfa, IsClassSet, looks_of, is_capture, has_empty, prefix_looks, memory_of}
+use Rattle.nfa_core.specs.NfaValue.{Nfa, looks_of, is_capture, has_empty, prefix_looks, memory_of}
+use Rattle.nfa_core.specs.Alike.{marks_of}
 use Rattle.nfa_core.specs.States.{node_of}
 use Rattle.nfa_core.specs.declared.nfa_parts.Parts.{Parts}
 use Rattle.nfa_core.specs.declared.nfa_facts.Facts.{Facts}
@@ -27,7 +28,7 @@ pub record AreFacts (t : Terminator) (a : Automaton) (facts : Facts) : Type 0 wh
   pub empty : facts.has_empty ≡ has_empty a
   pub looks : facts.look_set_any ≡ looks_of a.states
   pub prefix : facts.look_set_prefix_any ≡ prefix_looks a
-  pub marks : IsClassSet t a.states facts.byte_class_set
+  pub marks : facts.byte_class_set ≡ marks_of t a.states
   pub all_bytes : length facts.byte_classes ≡ 256
   pub classes : (b : ℕ) → b < 256 → slice_index facts.byte_classes b ≡ marks_below facts.byte_class_set b
   pub memory : facts.memory ≡ memory_of a.states

@@ -3,7 +3,6 @@ use Rattle.std.specs.Prelude.{◌≡◌, ℕ, ◌+◌, ◌<◌, ◌≤◌, min, 
 use Rattle.std.specs.Bool.{nat_eq}
 use Rattle.std.specs.List.{list_any, flat_map, fold, sum_by}
 use Rattle.search_core.specs.Index.{greatest_index}
-use Rattle.search_core.specs.Marks.{recorded, IsUnmarked}
 use Rattle.look_core.specs.Codes.{repr}
 use Rattle.look_core.specs.LookSets.{union_of}
 use Rattle.look_core.specs.Terminators.{Terminator}
@@ -27,13 +26,6 @@ told_by t (byte_range low high next) = (low, high) ∷ []
 told_by t (sparse_node ranges) = map (λ r. (r.0, r.1)) ranges
 told_by t (look_node l next) = told_apart t l
 told_by t _ = []
-
--- these are the marks of all ranges that states tell apart
-pub record IsClassSet (t : Terminator) (nodes : List Node) (marks : List Bool) : Type 0 where
-  pub none : List Bool
-  pub all_bytes : length none ≡ 256
-  pub unmarked : IsUnmarked none
-  pub ranges : marks ≡ recorded none (flat_map (told_by t) nodes)
 
 -- the look of a state, as a set
 abbrev pub look_of : Node → ℕ

@@ -2,7 +2,7 @@
 ghost use Rattle.std.specs.Prelude.{◌≡◌, ℕ, ◌<◌, ◌≤◌, List, [], ◌∷◌, map, length, None, Some, All};
 ghost use Rattle.nfa_core.specs.BuilderStates.{Part, part_at, Assembly};
 ghost use Rattle.nfa_core.specs.CanBuild.{names_of, CanBuild};
-ghost use Rattle.nfa_core.specs.Drafted.{table_ways, table_match};
+ghost use Rattle.nfa_core.specs.Drafted.{table_ways, table_match, table_ends};
 ghost use Rattle.nfa_core.specs.Nfa.{node_at, IsWellFormed};
 ghost use Rattle.nfa_core.specs.Places.{same_pair};
 ghost use Rattle.nfa_core.specs.Renaming.{stands_for, past, HasNoLoop, new_name, renamed, automaton_of};
@@ -68,6 +68,13 @@ pub fn chains_are_carried_over()
 pub fn built_automata_are_well_formed()
     ensures inside { (b : Assembly) (x y q : ℕ) → CanBuild b x y → q < length b.parts → new_name b.parts q < length (automaton_of b x y).states }
     ensures formed { (b : Assembly) (x y : ℕ) → CanBuild b x y → IsWellFormed (automaton_of b x y) }
+{}
+
+/// The ends of the automaton's runs from a pair are those of the table's runs, in the same order of preference,
+/// whatever loops the table has that read nothing.
+pub fn ends_keep_their_order()
+    ensures { (b : Assembly) (x y : ℕ) (t : Text) (q i : ℕ) → CanBuild b x y → q < length b.parts → i ≤ t.end →
+        ends_from (automaton_of b x y) t (i, new_name b.parts q) ≡ table_ends b.reverse t b.parts (i, q) }
 {}
 
 /// The ends of the automaton's runs from a pair are what the table lists from it, repeats dropped, and what

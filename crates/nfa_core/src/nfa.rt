@@ -1,11 +1,12 @@
-ghost use Rattle.std.specs.Prelude.{◌≡◌, ℕ, ◌+◌, ◌<◌, ◌≤◌, Bool, List, map, length, slice_get, slice_index, IfOk};
+ghost use Rattle.std.specs.Prelude.{◌≡◌, ℕ, ◌+◌, ◌<◌, ◌≤◌, map, length, slice_get, slice_index, IfOk};
 ghost use Rattle.std.specs.Bool.{nat_eq};
 ghost use Rattle.std.specs.List.{list_any};
 ghost use Rattle.search_core.specs.Index.{greatest_index};
 ghost use Rattle.search_core.specs.Marks.{marks_below};
+ghost use Rattle.nfa_core.specs.Alike.{marks_of};
 ghost use Rattle.nfa_core.specs.Nfa.{node_at};
 ghost use Rattle.nfa_core.specs.NfaParts.{automaton_in, nfa_in, counted, always_matching, never_matching};
-ghost use Rattle.nfa_core.specs.NfaValue.{IsSound, IsClassSet, looks_of, is_capture, has_empty, prefix_looks, memory_of};
+ghost use Rattle.nfa_core.specs.NfaValue.{IsSound, looks_of, is_capture, has_empty, prefix_looks, memory_of};
 ghost use Rattle.nfa_core.specs.States.{node_of};
 
 use crate::nfa_facts::Facts;
@@ -92,15 +93,15 @@ impl NFA {
     /// The classes of bytes that the states don't tell apart, as `NFA::byte_classes`.
     pub fn byte_classes(&self) -> &ByteClasses
         ensures len { length result.now ≡ 256 }
-        ensures classes { (marks : List Bool) × IsClassSet self.now.terminator self.now.automaton.states marks
-            × ((b : ℕ) → b < 256 → slice_index result.now b ≡ marks_below marks b) }
+        ensures classes { (b : ℕ) → b < 256 →
+            slice_index result.now b ≡ marks_below (marks_of self.now.terminator self.now.automaton.states) b }
     {
         &self.facts.byte_classes
     }
 
     /// The marks by which these classes are made, as `NFA::byte_class_set`.
     pub fn byte_class_set(&self) -> &ByteClassSet
-        ensures { IsClassSet self.now.terminator self.now.automaton.states result.now }
+        ensures { result.now ≡ marks_of self.now.terminator self.now.automaton.states }
     {
         &self.facts.byte_class_set
     }

@@ -3,9 +3,10 @@ ghost use Rattle.std.specs.Prelude.{◌≡◌, ℕ, ◌<◌, ◌≤◌, All, map
 ghost use Rattle.std.specs.List.{list_any};
 ghost use Rattle.search_core.specs.Marks.{recorded};
 ghost use Rattle.look_core.specs.Terminators.{Terminator};
+ghost use Rattle.nfa_core.specs.Alike.{marks_of};
 ghost use Rattle.nfa_core.specs.Nfa.{fail_node};
 ghost use Rattle.nfa_core.specs.NfaParts.{automaton_in, AreFacts};
-ghost use Rattle.nfa_core.specs.NfaValue.{IsSound, IsNodeOf, IsClassSet, told_by, look_of, looks_of, is_capture, is_match, memory_of};
+ghost use Rattle.nfa_core.specs.NfaValue.{IsSound, IsNodeOf, told_by, look_of, looks_of, is_capture, is_match, memory_of};
 ghost use Rattle.nfa_core.specs.Reached.{AreBelow};
 ghost use Rattle.nfa_core.specs.States.{node_of};
 ghost use Rattle.nfa_core.specs.Transitions.{range_of};
@@ -126,7 +127,7 @@ fn looks_among(states: &[State], set: &SparseSet) -> LookSet
 /// The marks by which the bytes are told apart that states tell apart.
 fn class_set(states: &[State], matcher: &LookMatcher<AsciiWord>) -> ByteClassSet
     requires { (patterns : ℕ) × All (IsNodeOf patterns) (map node_of states.now) }
-    ensures { IsClassSet matcher.now.terminator (map node_of states.now) result }
+    ensures { result ≡ marks_of matcher.now.terminator (map node_of states.now) }
 {
     let mut set = ByteClassSet::empty();
     for state in states {

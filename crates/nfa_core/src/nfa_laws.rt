@@ -1,17 +1,19 @@
 //! Laws of what an NFA knows of its automaton. Each function has no code: its contract is the law.
-ghost use Rattle.std.specs.Prelude.{◌≡◌, ℕ, ◌<◌, ◌↔◌, Bool, true, List, get_or};
+ghost use Rattle.std.specs.Prelude.{◌≡◌, ℕ, ◌<◌, ◌↔◌, Bool, true, List, get_or, All};
 ghost use Rattle.std.specs.Bool.{nat_eq};
 ghost use Rattle.std.specs.Option.{option_to_list};
-ghost use Rattle.search_core.specs.Marks.{marks_below};
+ghost use Rattle.search_core.specs.Marks.{marks_below, HasMarks};
 ghost use Rattle.look_core.specs.declared.look.Look.{Look};
 ghost use Rattle.look_core.specs.LookSets.{has_look};
+ghost use Rattle.look_core.specs.SameClasses.{HaveSameClasses};
 ghost use Rattle.look_core.specs.Terminators.{Terminator};
+ghost use Rattle.nfa_core.specs.Alike.{marks_of, AreAlike};
 ghost use Rattle.nfa_core.specs.Nfa.{Automaton, look_node, node_at};
-ghost use Rattle.nfa_core.specs.NfaValue.{IsSound, IsClassSet, free_steps, reached_freely, looks_of, prefix_looks};
+ghost use Rattle.nfa_core.specs.NfaValue.{IsSound, free_steps, reached_freely, looks_of, prefix_looks};
 ghost use Rattle.nfa_core.specs.Runs.{IsChain, last_or};
 ghost use Rattle.nfa_core.specs.Transitions.{sparse_next, dense_next};
 ghost use Rattle.nfa_core.specs.Walks.{Has};
-ghost use Rattle.nfa_core.specs.Ways.{on_byte, in_ranges, named};
+ghost use Rattle.nfa_core.specs.Ways.{span, ways, in_ranges, named, ends_from};
 
 /// The states that patterns reach without a byte are those to which chains lead from their starts, each
 /// look taken as passed.
@@ -22,10 +24,21 @@ pub fn reached_states_are_led_to()
         last_or s r ≡ q → Has nat_eq q (reached_freely a) }
 {}
 
-/// By two bytes of one class, each state leads to the same states.
-pub fn bytes_of_one_class_are_followed_alike()
-    ensures { (a : Automaton) (t : Terminator) (marks : List Bool) (b c : ℕ) → IsSound a → IsClassSet t a.states marks → b < 256 → c < 256 →
-        marks_below marks b ≡ marks_below marks c → (q : ℕ) → on_byte (node_at a q) b ≡ on_byte (node_at a q) c }
+/// By two bytes of one class each state leads to the same states, and the looks of states read them alike.
+/// The classes may be finer than the automaton's, as with marks on further bytes.
+pub fn bytes_of_one_class_are_alike()
+    ensures { (a : Automaton) (t : Terminator) (marks : List Bool) (b c : ℕ) → IsSound a → HasMarks marks (marks_of t a.states) →
+        b < 256 → c < 256 → marks_below marks b ≡ marks_below marks c → AreAlike t a b c }
+{}
+
+/// Texts whose bytes are of one class place by place are followed alike, and runs find the same ends in them.
+pub fn texts_of_one_class_are_followed_alike()
+    ensures ways { (a : Automaton) (t : Terminator) (marks : List Bool) (h g : List ℕ) (start end : ℕ) (p : ℕ × ℕ) → IsSound a →
+        HasMarks marks (marks_of t a.states) → All (λ b. b < 256) h → All (λ b. b < 256) g → HaveSameClasses marks h g →
+        ways a (span t h start end) p ≡ ways a (span t g start end) p }
+    ensures ends { (a : Automaton) (t : Terminator) (marks : List Bool) (h g : List ℕ) (start end : ℕ) (p : ℕ × ℕ) → IsSound a →
+        HasMarks marks (marks_of t a.states) → All (λ b. b < 256) h → All (λ b. b < 256) g → HaveSameClasses marks h g →
+        ends_from a (span t h start end) p ≡ ends_from a (span t g start end) p }
 {}
 
 /// The sets of looks have the looks of states, and of those that patterns reach without a byte.

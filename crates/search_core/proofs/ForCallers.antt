@@ -1,5 +1,4 @@
 -- What the proofs of other crates may cite of this crate, beside its definitions and its public laws.
-
 -- a spelling has a byte, and as many as its scalar takes
 pub use Rattle.search_core.proofs.SplitLemmas.{spelling_some}
 pub use Rattle.search_core.proofs.CharacterLemmas.{spelling_has_len}
@@ -35,3 +34,7 @@ pub use Rattle.search_core.proofs.RestLemmas.{start_whole}
 pub use Rattle.search_core.proofs.RestLemmas.{unsplit_boundary}
 -- what stands behind a place of valid text that splits no character is valid
 pub use Rattle.search_core.proofs.CutLemmas.{valid_behind}
+-- how many bytes have marks stays the same where ranges are marked
+pub use Rattle.search_core.proofs.MarkLemmas.{length-recorded}
+-- marks are among themselves, and stay where ranges are marked; bytes of one class are in one class of fewer marks too
+pub use Rattle.search_core.proofs.MarkLemmas.{own_marks, marks_stay, same_class_of_finer}

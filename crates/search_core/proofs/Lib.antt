@@ -13,4 +13,3 @@ pub mod UnitLemmas
 pub mod CharacterLemmas
 mod CharacterRows
 pub mod RisingLemmas
-pub mod ForCallers

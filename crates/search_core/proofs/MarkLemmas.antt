@@ -5,7 +5,7 @@ use Rattle.std.specs.List.{All}
 use Rattle.std.proofs.lemmas.Bool.{cases_Bool, cases_lt, cases_eq, eq-eqb, ne_eqb, cond-true, cond-false}
 use Rattle.std.proofs.lemmas.List.Sums.{count_by_more_yes, count_by_more_no}
 use Rattle.std.proofs.lemmas.List.Elements.{All-nil, All-cons, All-head, All-tail, All-weaker}
-use Rattle.search_core.specs.Marks.{marks_below, mark_before, mark_range, recorded, IsUnmarked, IsRangeBelow, IsIn, HoldsAllOrNone}
+use Rattle.search_core.specs.Marks.{marks_below, mark_before, mark_range, recorded, IsUnmarked, IsRangeBelow, IsIn, HoldsAllOrNone, HasMarks}
 
 -- ---- the number of marks below a byte
 pub below_zero : (m : List Bool) → marks_below m 0 ≡ 0
@@ -184,7 +184,7 @@ recorded_apart m a b (r ∷ rs) h u =
     let v = recorded_first (mark_range m r.0 r.1) a b rs (omega arith) u in
     All-cons (IsApart a b) r rs (clear_start m a b r.0 r.1 h v, clear_end m a b r.0 r.1 h v) (recorded_apart (mark_range m r.0 r.1) a b rs (omega arith) u)
 
-length-recorded : (m : List Bool) (rs : List (ℕ × ℕ)) → length (recorded m rs) ≡ length m
+pub length-recorded : (m : List Bool) (rs : List (ℕ × ℕ)) → length (recorded m rs) ≡ length m
 length-recorded m [] = refl
 length-recorded m (r ∷ rs) = length-recorded (mark_range m r.0 r.1) rs ∙ length-mark_range m r.0 r.1
 
@@ -282,3 +282,42 @@ coarsest m rs f u o rises alike a b h k e = elim (cases_lt a b) [
   | inl p ↦ coarsest_up m rs f u o rises alike a b (omega arith) k e
   | inr p ↦ sym (coarsest_up m rs f u o rises alike b a p h (sym e))
 ]
+
+-- ---- marks among others
+pub own_marks : (m : List Bool) → HasMarks m m
+own_marks m = record { len = refl; marked = λ k t. t }
+
+-- a byte with a mark is one of those that there are
+marked_inside : (m : List Bool) (k : ℕ) → get_or m k false ≡ true → k < length m
+marked_inside [] k t = absurd (not_both false t refl)
+marked_inside (x ∷ xs) zero t = omega arith
+marked_inside (x ∷ xs) (suc k) t = let h = marked_inside xs k t in omega arith
+
+finer_up : (m others : List Bool) (a b : ℕ) → HasMarks m others → a ≤ b → b < length m → marks_below m a ≡ marks_below m b → marks_below others a ≡ marks_below others b
+finer_up m others a b has h l e =
+    let clear : IsClear m a b = same_clear m a b (omega arith) e in
+    let len = has.len in
+    clear_same others a b h (omega arith) (λ k p q. elim (cases_Bool (get_or others k false)) [
+      | inl t ↦ absurd (not_both _ (has.marked k t) (clear k p q))
+      | inr f ↦ f
+    ])
+
+pub same_class_of_finer : (m others : List Bool) (a b : ℕ) → HasMarks m others → a < length m → b < length m →
+    marks_below m a ≡ marks_below m b → marks_below others a ≡ marks_below others b
+same_class_of_finer m others a b has k l e = elim (cases_lt a b) [
+  | inl p ↦ finer_up m others a b has (omega arith) l e
+  | inr p ↦ sym (finer_up m others b a has p k (sym e))
+]
+
+recorded_keeps : (m : List Bool) (rs : List (ℕ × ℕ)) (k : ℕ) → k < length m → get_or m k false ≡ true → get_or (recorded m rs) k false ≡ true
+recorded_keeps m [] k h t = t
+recorded_keeps m (r ∷ rs) k h t =
+    let e = length-mark_range m r.0 r.1 in
+    recorded_keeps (mark_range m r.0 r.1) rs k (omega arith) (range_keeps m r.0 r.1 k h t)
+
+-- marks stay when ranges are marked
+pub marks_stay : (m others : List Bool) (rs : List (ℕ × ℕ)) → HasMarks m others → HasMarks (recorded m rs) others
+marks_stay m others rs has = record {
+  len = length-recorded m rs ∙ has.len;
+  marked = λ k t. recorded_keeps m rs k (marked_inside m k (has.marked k t)) (has.marked k t);
+}

@@ -33,3 +33,8 @@ IsIn r c = (r.0 ≤ c) × (c ≤ r.1)
 -- the range holds all bytes from a to b, or none of them
 abbrev pub HoldsAllOrNone : ℕ → ℕ → ℕ × ℕ → Type 0
 HoldsAllOrNone a b r = ((c : ℕ) → a ≤ c → c ≤ b → IsIn r c) ⊎ ((c : ℕ) → a ≤ c → c ≤ b → IsIn r c → ⊥)
+
+-- each mark of the others is among the marks
+pub record HasMarks (marks others : List Bool) : Type 0 where
+  pub len : length marks ≡ length others
+  pub marked : (k : ℕ) → slice_index_or others k false ≡ true → slice_index_or marks k false ≡ true

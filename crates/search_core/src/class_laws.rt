@@ -2,7 +2,7 @@
 ghost use Rattle.std.specs.Prelude.{◌≡◌, ℕ, ◌+◌, ◌<◌, ◌≤◌, ◌⊎◌, ◌↔◌, Bool, List, length, slice_index};
 ghost use Rattle.std.specs.List.{All};
 ghost use Rattle.search_core.specs.Classes.{IsRising};
-ghost use Rattle.search_core.specs.Marks.{marks_below, recorded, IsUnmarked, IsRangeBelow, IsIn, HoldsAllOrNone};
+ghost use Rattle.search_core.specs.Marks.{marks_below, recorded, IsUnmarked, IsRangeBelow, IsIn, HoldsAllOrNone, HasMarks};
 
 /// Classes by marks start at 0, and rise by at most one from byte to byte.
 #[tactic(auto, using(crate::proofs::MarkLemmas::below_zero, crate::proofs::MarkLemmas::below_next))]
@@ -41,4 +41,14 @@ pub fn classes_are_the_coarsest()
         ((a b : ℕ) → a < length marks → b < length marks → f a ≡ f b → All (λ r. IsIn r a ↔ IsIn r b) ranges) →
         (a b : ℕ) → a < length marks → b < length marks → f a ≡ f b →
         marks_below (recorded marks ranges) a ≡ marks_below (recorded marks ranges) b }
+{}
+
+/// Bytes that marks put into one class are in one class of fewer marks too. Marks stay where ranges are
+/// marked beside them.
+#[tactic(auto, using(crate::proofs::MarkLemmas::same_class_of_finer, crate::proofs::MarkLemmas::own_marks))]
+pub fn more_marks_make_finer_classes()
+    ensures finer { (marks others : List Bool) (a b : ℕ) → HasMarks marks others → a < length marks → b < length marks →
+        marks_below marks a ≡ marks_below marks b → marks_below others a ≡ marks_below others b }
+    ensures own { (marks : List Bool) → HasMarks marks marks }
+    ensures more { (marks others : List Bool) (ranges : List (ℕ × ℕ)) → HasMarks marks others → HasMarks (recorded marks ranges) others }
 {}
