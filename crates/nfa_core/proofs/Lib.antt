@@ -47,3 +47,5 @@ pub mod ReachLemmas
 pub mod SizeLemmas
 pub mod CheckLemmas
 pub mod BuildRows
+pub mod InsideLemmas
+pub mod ForCallers
