@@ -51,4 +51,5 @@ pub mod ExistLemmas
 pub mod PassedLemmas
 pub mod TableLemmas
 pub mod SameTextLemmas
+pub mod InsideLemmas
 pub mod ForCallers

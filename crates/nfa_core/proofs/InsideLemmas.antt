@@ -1,0 +1,61 @@
+-- Where the ends of runs lie: at places that are reached by reading bytes of the text.
+use Rattle.std.proofs.Common.{◌≡◌, ℕ, suc, ◌≤◌, true, false, Bool, List, [], ◌∷◌, map, refl, sym, ap, ⊎_elim, Option, Some, None, subst, arith}
+use Rattle.nfa_core.specs.Walks.{Has}
+use Rattle.nfa_core.specs.Runs.{IsChain, last_or}
+use Rattle.nfa_core.specs.Places.{same_pair}
+use Rattle.nfa_core.specs.Nfa.{Node, Automaton, node_at, IsWellFormed}
+use Rattle.nfa_core.specs.Ways.{Text, reads, is_passed, on_read, on_nothing, place_behind, ways, match_of, place_of, bytes_left, IsPairOf, ends_from}
+use Rattle.nfa_core.proofs.MemberLemmas.{has_append}
+use Rattle.nfa_core.proofs.PairLemmas.{from_map}
+use Rattle.nfa_core.proofs.AutomatonLemmas.{IsBeside, reads_beside, match_is}
+use Rattle.nfa_core.proofs.EndsLemmas.{listed_run}
+
+place_zero : (down : Bool) (i : ℕ) → place_of down i 0 ≡ i
+place_zero false i = omega arith
+place_zero true i = omega arith
+
+-- a place to which one comes by reading so many bytes at most
+abbrev pub IsInside : Bool → ℕ → ℕ → ℕ → Type 0
+IsInside down i len j = (k : ℕ) × (k ≤ len) × (j ≡ place_of down i k)
+
+read_inside : (down : Bool) (t : Text) (i k : ℕ) (read : Option (ℕ × ℕ)) → k ≤ bytes_left down t i → IsBeside down t (place_of down i k) read →
+    IsInside down i (bytes_left down t i) (place_behind (place_of down i k) read)
+read_inside down t i k None l beside = (k, l, refl)
+read_inside false t i k (Some (b, j)) l beside = (suc k, omega (arith, beside.1), omega (arith, beside.0))
+read_inside true t i k (Some (b, j)) l beside = (suc k, omega (arith, beside.0, beside.1), omega (arith, beside.0))
+
+match_there : (node : Node) (j : ℕ) (e : ℕ × ℕ) → match_of node j ≡ Some e → e.0 ≡ j
+match_there node j e h =
+    let is = match_is node j e h in
+    let g : Some (j, is.0) ≡ Some e = subst (λ (m : Node). match_of m j ≡ Some e) is.1 h in
+    let f : (j, is.0) ≡ e = cc in
+    sym (ap (λ (p : ℕ × ℕ). p.0) f)
+
+module _ (a : Automaton) (t : Text) (i : ℕ) where
+  abbrev Inside : ℕ → Type 0
+  Inside j = IsInside a.reverse i (bytes_left a.reverse t i) j
+
+  moved : (j x : ℕ) → Inside j → Inside (place_behind j (reads a.reverse t j))
+  moved j x there =
+      subst (λ (m : ℕ). Inside (place_behind m (reads a.reverse t m))) (sym there.2)
+      (read_inside a.reverse t i there.0 (reads a.reverse t (place_of a.reverse i there.0)) there.1 (reads_beside a.reverse t (place_of a.reverse i there.0)))
+
+  way_inside : (p y : ℕ × ℕ) → Inside p.0 → Has same_pair y (ways a t p) → Inside y.0
+  way_inside p y there way = ⊎_elim
+      (λ read. let o = from_map (place_behind p.0 (reads a.reverse t p.0)) y (on_read (node_at a p.1) (reads a.reverse t p.0)) read in
+      subst (λ (z : ℕ × ℕ). Inside z.0) (sym o.2) (moved p.0 p.1 there))
+      (λ none. let o = from_map p.0 y (on_nothing (node_at a p.1) (λ l. is_passed a.reverse t l p.0)) none in
+      subst (λ (z : ℕ × ℕ). Inside z.0) (sym o.2) there)
+      (has_append same_pair y (map (λ q. (place_behind p.0 (reads a.reverse t p.0), q)) (on_read (node_at a p.1) (reads a.reverse t p.0)))
+      (map (λ q. (p.0, q)) (on_nothing (node_at a p.1) (λ l. is_passed a.reverse t l p.0))) way)
+
+  chain_inside : (r : List (ℕ × ℕ)) (p : ℕ × ℕ) → Inside p.0 → IsChain same_pair (ways a t) p r → Inside (last_or p r).0
+  chain_inside [] p there chain = there
+  chain_inside (y ∷ r) p there chain = chain_inside r y (way_inside p y there chain.0) chain.1
+
+  pub ends_inside : (q : ℕ) → IsWellFormed a → IsPairOf a t (i, q) → (x : ℕ × ℕ) → Has same_pair x (ends_from a t (i, q)) → Inside x.0
+  ends_inside q formed pair x h =
+      let run = listed_run a t (i, q) formed pair x h in
+      let end = last_or (i, q) run.0 in
+      subst Inside (sym (match_there (node_at a (last_or (i, q) run.0).1) (last_or (i, q) run.0).0 x run.1.2))
+      (chain_inside run.0 (i, q) (0, omega arith, sym (place_zero a.reverse i)) run.1.0)
