@@ -8,4 +8,4 @@ pub use Rattle.nfa_core.proofs.RunLemmas.{has_filter}
 -- values of options
 pub use Rattle.nfa_core.proofs.PreferenceLemmas.{one_value, no_value}
 -- ends of runs lie where reading the text leads
-pub use Rattle.nfa_core.proofs.InsideLemmas.{IsInside, ends_inside}
+pub use Rattle.nfa_core.proofs.InsideLemmas.{ends_inside}

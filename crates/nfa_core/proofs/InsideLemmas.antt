@@ -4,6 +4,7 @@ use Rattle.nfa_core.specs.Walks.{Has}
 use Rattle.nfa_core.specs.Runs.{IsChain, last_or}
 use Rattle.nfa_core.specs.Places.{same_pair}
 use Rattle.nfa_core.specs.Nfa.{Node, Automaton, node_at, IsWellFormed}
+use Rattle.nfa_core.specs.Reaches.{IsInside}
 use Rattle.nfa_core.specs.Ways.{Text, reads, is_passed, on_read, on_nothing, place_behind, ways, match_of, place_of, bytes_left, IsPairOf, ends_from}
 use Rattle.nfa_core.proofs.MemberLemmas.{has_append}
 use Rattle.nfa_core.proofs.PairLemmas.{from_map}
@@ -14,17 +15,13 @@ place_zero : (down : Bool) (i : ℕ) → place_of down i 0 ≡ i
 place_zero false i = omega arith
 place_zero true i = omega arith
 
--- a place to which one comes by reading so many bytes at most
-abbrev pub IsInside : Bool → ℕ → ℕ → ℕ → Type 0
-IsInside down i len j = (k : ℕ) × (k ≤ len) × (j ≡ place_of down i k)
-
 read_inside : (down : Bool) (t : Text) (i k : ℕ) (read : Option (ℕ × ℕ)) → k ≤ bytes_left down t i → IsBeside down t (place_of down i k) read →
     IsInside down i (bytes_left down t i) (place_behind (place_of down i k) read)
 read_inside down t i k None l beside = (k, l, refl)
 read_inside false t i k (Some (b, j)) l beside = (suc k, omega (arith, beside.1), omega (arith, beside.0))
 read_inside true t i k (Some (b, j)) l beside = (suc k, omega (arith, beside.0, beside.1), omega (arith, beside.0))
 
-match_there : (node : Node) (j : ℕ) (e : ℕ × ℕ) → match_of node j ≡ Some e → e.0 ≡ j
+pub match_there : (node : Node) (j : ℕ) (e : ℕ × ℕ) → match_of node j ≡ Some e → e.0 ≡ j
 match_there node j e h =
     let is = match_is node j e h in
     let g : Some (j, is.0) ≡ Some e = subst (λ (m : Node). match_of m j ≡ Some e) is.1 h in
@@ -59,3 +56,15 @@ module _ (a : Automaton) (t : Text) (i : ℕ) where
       let end = last_or (i, q) run.0 in
       subst Inside (sym (match_there (node_at a (last_or (i, q) run.0).1) (last_or (i, q) run.0).0 x run.1.2))
       (chain_inside run.0 (i, q) (0, omega arith, sym (place_zero a.reverse i)) run.1.0)
+
+pub inside_up : (a : Automaton) (t : Text) (i j : ℕ) → a.reverse ≡ false → i ≤ t.end → IsInside a.reverse i (bytes_left a.reverse t i) j → (i ≤ j) × (j ≤ t.end)
+inside_up a t i j up here is =
+    let I : Bool → Type 0 = λ b. IsInside b i (bytes_left b t i) j in
+    let k : I false = subst I up is in
+    (omega (arith, k.1, k.2), omega (arith, k.1, k.2, here))
+
+pub inside_down : (a : Automaton) (t : Text) (i j : ℕ) → a.reverse ≡ true → t.start ≤ i → IsInside a.reverse i (bytes_left a.reverse t i) j → (t.start ≤ j) × (j ≤ i)
+inside_down a t i j down here is =
+    let I : Bool → Type 0 = λ b. IsInside b i (bytes_left b t i) j in
+    let k : I true = subst I down is in
+    (omega (arith, k.1, k.2, here), omega (arith, k.1, k.2))

@@ -52,4 +52,7 @@ pub mod PassedLemmas
 pub mod TableLemmas
 pub mod SameTextLemmas
 pub mod InsideLemmas
+pub mod OverLemmas
+pub mod ReadAlikeLemmas
+pub mod HereLemmas
 pub mod ForCallers

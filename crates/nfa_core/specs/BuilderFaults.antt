@@ -1,11 +1,12 @@
 -- Why a builder refuses, and how an error tells it.
-use Rattle.std.specs.Prelude.{◌≡◌, ◌⊎◌, ℕ, nat_lt, List, [], ◌∷◌, ◌++◌, length, Option, Some, None, if◌then◌else◌, Result, MatchResult}
+use Rattle.std.specs.Prelude.{◌≡◌, ◌<◌, ◌⊎◌, ℕ, nat_lt, List, [], ◌∷◌, ◌++◌, length, Option, Some, None, if◌then◌else◌, Result, MatchResult}
 use Rattle.std.specs.Option.{option_or}
 use Rattle.search_core.specs.Index.{greatest_index}
 use Rattle.nfa_core.specs.BuilderStates.{Part, Assembly, bytes_of, with_part, with_group, patched_at}
 use Rattle.search_types.specs.Groups.{Name}
 use Rattle.search_types.specs.GroupFaults.{GroupFault, TooManyGroups, group_fault}
 use Rattle.search_types.specs.GroupRefusals as group
+use Rattle.search_types.specs.declared.group_info_error.GroupInfoError.TheVariants as group_error
 use Rattle.nfa_core.specs.declared.build_error.BuildError.{BuildError}
 use Rattle.nfa_core.specs.declared.build_error.BuildError.TheVariants as error
 
@@ -56,19 +57,25 @@ patch_fault b from to = limit_fault b.size_limit (bytes_of (patched_at b.parts f
 abbrev pub index_fault : ℕ → ℕ → Option BuildFault
 index_fault pattern index = if nat_lt greatest_index index then Some (captures_refused (TooManyGroups pattern index)) else None
 
+-- an index that is too great is told as that, whatever else may lack
+abbrev pub TellsIndex : BuildError → ℕ → ℕ → Type 0
+TellsIndex e pattern index = greatest_index < index → e ≡ error.Captures (group_error.TooManyGroups pattern index)
+
 -- The same for a state at the end of a group, whose index may be too great.
 abbrev pub AddsGroupEnd : Assembly → Assembly → Result ℕ BuildError → ℕ → ℕ → Part → Type 0
 AddsGroupEnd old new result pattern index part = MatchResult result
     (λ id. (id ≡ length old.parts) × (new ≡ with_part old part) × (option_or (index_fault pattern index) (add_fault old part) ≡ None))
-    (λ e. (new ≡ old) × Tells e (option_or (index_fault pattern index) (add_fault old part)))
+    (λ e. (new ≡ old) × Tells e (option_or (index_fault pattern index) (add_fault old part)) × TellsIndex e pattern index)
 
 -- The same for a state at the start of a group, whose name is noted before. A refusal may leave that noted, or in part
--- where memory lacks, which is then told before any other fault but that of the index.
+-- where memory lacks, which is then told before any other fault but that of the index. An index that is too great leaves
+-- nothing noted.
 abbrev pub AddsGroup : Assembly → Assembly → Result ℕ BuildError → ℕ → ℕ → Option Name → Part → Type 0
 AddsGroup old new result pattern index name part = MatchResult result
     (λ id. (id ≡ length old.parts) × (new ≡ record (with_part old part) { groups = with_group old.groups pattern index name })
     × (option_or (index_fault pattern index) (add_fault old part) ≡ None))
-    (λ e. (new ≡ record old { groups = new.groups }) × ((e ≡ error.NoMemory) ⊎ Tells e (option_or (index_fault pattern index) (add_fault old part))))
+    (λ e. (new ≡ record old { groups = new.groups }) × ((e ≡ error.NoMemory) ⊎ Tells e (option_or (index_fault pattern index) (add_fault old part)))
+    × TellsIndex e pattern index × (greatest_index < index → new ≡ old))
 
 -- what refuses to build: groups that break a rule
 abbrev pub groups_fault : Option GroupFault → Option BuildFault

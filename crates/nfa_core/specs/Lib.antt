@@ -23,3 +23,5 @@ pub mod Reached
 pub mod NfaOf
 pub mod Checks
 pub mod Alike
+pub mod Reaches
+pub mod BuildErrors

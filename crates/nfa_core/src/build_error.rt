@@ -3,48 +3,50 @@ ghost use Rattle.nfa_core.specs.declared.build_error.BuildError.TheVariants.{NoM
 
 use search_types::GroupInfoError;
 use std::alloc::{AllocError, AllocFailed};
-use std::error::Error;
-use std::fmt;
+use thiserror::Error;
 
 /// Why an automaton can't be built.
-#[derive(Debug, Drop)]
+#[derive(Debug, Drop, Error)]
 pub enum BuildError {
     /// There are more patterns than can be numbered.
+    #[error("too many patterns")]
     TooManyPatterns,
     /// There are more states than can be numbered.
+    #[error("too many states")]
     TooManyStates,
     /// The states take more bytes than they may.
+    #[error("the states take more than {limit} bytes")]
     ExceededSizeLimit {
         /// How many bytes are allowed.
         limit: usize,
     },
     /// Groups were asked for that the automaton can't have, as of one that reads downwards.
+    #[error("groups are not supported here")]
     UnsupportedCaptures,
     /// The groups break a rule, or have an index that is too great.
+    #[error("groups can't be taken: {err}")]
     Captures {
         /// The rule.
         err: GroupInfoError,
     },
     /// There is no memory left.
+    #[error("out of memory")]
     NoMemory,
 }
 
-impl fmt::Display for BuildError {
-    fn fmt<W: fmt::Write>(&self, f: &mut fmt::Formatter<W>) -> fmt::Result {
+impl BuildError {
+    ghost use Rattle.nfa_core.specs.BuildErrors.{size_limit_of};
+
+    /// How many bytes are allowed, where the states take more, as `BuildError::size_limit`.
+    pub fn size_limit(&self) -> Option<usize>
+        ensures { result ≡ size_limit_of self.now }
+    {
         match self {
-            BuildError::TooManyPatterns => write!(f, "too many patterns"),
-            BuildError::TooManyStates => write!(f, "too many states"),
-            BuildError::ExceededSizeLimit { limit } => {
-                write!(f, "the states take more than {limit} bytes")
-            }
-            BuildError::UnsupportedCaptures => write!(f, "groups are not supported here"),
-            BuildError::Captures { err } => write!(f, "groups can't be taken: {err}"),
-            BuildError::NoMemory => write!(f, "out of memory"),
+            BuildError::ExceededSizeLimit { limit } => Some(*limit),
+            _ => None,
         }
     }
 }
-
-impl Error for BuildError {}
 
 impl From<AllocError> for BuildError {
     ghost from_gives = { λ _ e. e ≡ NoMemory };

@@ -1,10 +1,11 @@
-ghost use Rattle.std.specs.Prelude.{◌≡◌, ◌<◌, true, length, None, Some, MatchResult};
+ghost use Rattle.std.specs.Prelude.{◌≡◌, ◌<◌, ◌≤◌, true, length, None, Some, MatchResult};
 ghost use Rattle.std.specs.Option.{option_map};
 ghost use Rattle.std.specs.String.{string_bytes};
+ghost use Rattle.search_core.specs.Index.{greatest_index};
 ghost use Rattle.search_types.specs.GroupFaults.{names_in, groups_in, TooManyGroups};
 ghost use Rattle.nfa_core.specs.declared.build_error.BuildError.TheVariants.{NoMemory};
 ghost use Rattle.nfa_core.specs.BuilderStates.{with_name, with_group, up_to_pattern, capture_start_part, capture_end_part};
-ghost use Rattle.nfa_core.specs.BuilderFaults.{AddsGroup, AddsGroupEnd, Tells, index_fault, captures_refused};
+ghost use Rattle.nfa_core.specs.BuilderFaults.{AddsGroup, AddsGroupEnd, Tells, TellsIndex, index_fault, captures_refused};
 
 use crate::build_error::BuildError;
 use crate::builder::Builder;
@@ -59,8 +60,8 @@ impl Builder {
 
 /// The index of a group of the pattern; one above [`SmallIndex::MAX`] is refused.
 fn checked_index(pattern: PatternID, index: u32) -> Result<SmallIndex, BuildError>
-    ensures { MatchResult result (λ i. (i ≡ index) × (index_fault pattern index ≡ None))
-        (λ e. Tells e (index_fault pattern index) × (index_fault pattern index ≡ Some (captures_refused (TooManyGroups pattern index)))) }
+    ensures { MatchResult result (λ i. (i ≡ index) × (index_fault pattern index ≡ None) × (index ≤ greatest_index))
+        (λ e. Tells e (index_fault pattern index) × (index_fault pattern index ≡ Some (captures_refused (TooManyGroups pattern index))) × TellsIndex e pattern index) }
 {
     let minimum = index as usize;
     let Ok(small) = SmallIndex::new(minimum) else {

@@ -42,6 +42,7 @@ mod sparse_transitions;
 mod stack;
 mod state;
 mod steps;
+pub mod text_laws;
 mod transition;
 pub mod walk_laws;
 

@@ -26,13 +26,18 @@ struct Way {
     len: usize,
 }
 
-/// The state for which this one stands.
+/// The state for which this one stands. To go there is a move, and is counted.
 #[tactic(auto, using(crate::proofs::BuilderLemmas::view_at))]
-fn next_of(drafts: &[Draft], q: StateID) -> Option<StateID>
+fn next_of<L: Ledger>(drafts: &[Draft], q: StateID, steps: &mut Steps<L>) -> Option<StateID>
     requires { q < length drafts.now }
-    ensures { result ≡ stands_for (part_at (map part_of drafts.now) q) }
+    ensures value { result ≡ stands_for (part_at (map part_of drafts.now) q) }
+    ensures moves { MatchOption result (steps.new ≡ steps.old) (λ _. steps.new ≡ steps.old + 1) }
 {
-    drafts[q.as_usize()].stands_for()
+    let next = drafts[q.as_usize()].stands_for();
+    if next.is_some() {
+        steps.tick();
+    }
+    next
 }
 
 impl Pasts {
@@ -54,17 +59,24 @@ impl Pasts {
         self.table[q.as_usize()] = Some(end);
     }
 
-    /// The state for which this one stands, unless the table tells what it leads past to.
-    fn next_open(&self, drafts: &[Draft], at: StateID) -> Option<StateID>
+    /// The state for which this one stands, unless the table tells what it leads past to. To go there is
+    /// counted.
+    fn next_open<L: Ledger>(
+        &self,
+        drafts: &[Draft],
+        at: StateID,
+        steps: &mut Steps<L>,
+    ) -> Option<StateID>
         requires table { at < length self.now.table.items }
         requires inside { at < length drafts.now }
-        ensures { MatchOption result (IsEnd (map part_of drafts.now) self.now.table.items at)
+        ensures value { MatchOption result (IsEnd (map part_of drafts.now) self.now.table.items at)
             (λ next. (is_settled self.now.table.items at ≡ false) × (stands_for (part_at (map part_of drafts.now) at) ≡ Some next)) }
+        ensures moves { MatchOption result (steps.new ≡ steps.old) (λ _. steps.new ≡ steps.old + 1) }
     {
         if self.table[at.as_usize()].is_some() {
             return None;
         }
-        next_of(drafts, at)
+        next_of(drafts, at, steps)
     }
 
     /// What the table tells that the state leads past to, or else the state itself.
@@ -88,8 +100,7 @@ impl Pasts {
     {
         let mut at = q;
         let mut len = 0;
-        while let Some(next) = self.next_open(drafts, at) {
-            steps.tick();
+        while let Some(next) = self.next_open(drafts, at, steps) {
             at = next;
             len += 1;
         }
@@ -120,10 +131,9 @@ impl Pasts {
     {
         let mut at = q;
         for passed in 0..len {
-            let Some(next) = next_of(drafts, at) else {
+            let Some(next) = next_of(drafts, at, steps) else {
                 return;
             };
-            steps.tick();
             self.settle(at, end);
             at = next;
         }

@@ -13,12 +13,12 @@ overflow_add-len g c =
 
 pub loop-next-smaller : goal.loop-next-smaller
 loop-next-smaller g c =
-    let falls = steps_fall (map part_of c.args.drafts.now) c.loop-next.at c.in-Some.next c.requires.reached c.loop-next.invariant.way.inside c.in-Some.ensures.1 in
+    let falls = steps_fall (map part_of c.args.drafts.now) c.loop-next.at c.in-Some.next c.requires.reached c.loop-next.invariant.way.inside c.in-Some.ensures.value.1 in
     omega (arith, falls)
 
 pub loop-next-preserved : goal.loop-next-preserved
 loop-next-preserved g c = record {
-  way = underway_next (map part_of c.args.drafts.now) c.args.self.now.table.items c.args.q c.loop-next.at c.in-Some.next c.loop-next.len c.requires.reached c.in-Some.ensures.0 c.in-Some.ensures.1 c.loop-next.invariant.way;
+  way = underway_next (map part_of c.args.drafts.now) c.args.self.now.table.items c.args.q c.loop-next.at c.in-Some.next c.loop-next.len c.requires.reached c.in-Some.ensures.value.0 c.in-Some.ensures.value.1 c.loop-next.invariant.way;
   moves = search rules;
 }
 
