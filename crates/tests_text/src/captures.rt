@@ -34,60 +34,87 @@ fn match_in_order(captures: &Captures) -> Option<Match> {
     }
 }
 
-#[test]
-fn groups_of_a_match(rt: HostRuntime) -> Result<(), Fail> {
-    let captures = all_of_a_match(rt.alloc())?;
-    let whole = Match::must(0, Span { start: 0, end: 2 });
-    let group = Some(Span { start: 1, end: 2 });
-    assert_eq!(rt; match_in_order(&captures), Some(whole));
-    assert_eq!(rt; captures.group_len(), 2);
-    assert_eq!(rt; captures.get_group(1), group);
-    assert_eq!(rt; captures.get_group(2), None);
-    assert_eq!(rt; captures.get_group_by_name("a"), group);
-    assert_eq!(rt; captures.get_group_by_name("b"), None);
-    Ok(())
+/// What a match tells of its groups: its span, how many groups it has, and the spans of the second group, of the third,
+/// and of those with the names `a` and `b`.
+fn groups_of(captures: &Captures) -> (Option<Match>, usize, [Option<Span>; 4]) {
+    let groups = [
+        captures.get_group(1),
+        captures.get_group(2),
+        captures.get_group_by_name("a"),
+        captures.get_group_by_name("b"),
+    ];
+    (match_in_order(captures), captures.group_len(), groups)
+}
+
+/// The spans of the first three groups as they are told one after the other.
+fn spans_of(captures: &Captures) -> [Option<Option<Span>>; 3] {
+    let mut spans = captures.iter();
+    [spans.next(), spans.next(), spans.next()]
 }
 
 #[test]
-fn spans_of_a_match(rt: HostRuntime) -> Result<(), Fail> {
+fn groups_of_a_match(rt: HostRuntime) -> Result<(), Fail> {
     let captures = all_of_a_match(rt.alloc())?;
-    let mut spans = captures.iter();
-    assert_eq!(rt; spans.next(), Some(Some(Span { start: 0, end: 2 })));
-    assert_eq!(rt; spans.next(), Some(Some(Span { start: 1, end: 2 })));
-    assert_eq!(rt; spans.next(), None);
+    let whole = Some(Span { start: 0, end: 2 });
+    let group = Some(Span { start: 1, end: 2 });
+    let found = Some(Match::must(0, Span { start: 0, end: 2 }));
+    let told = (found, 2, [group, None, group, None]);
+    assert_eq!(rt; groups_of(&captures), told);
+    assert_eq!(rt; spans_of(&captures), [Some(whole), Some(group), None]);
     Ok(())
+}
+
+/// The pattern, the number of slots and of groups, and the match.
+fn facts_of(captures: &Captures) -> (Option<PatternID>, usize, usize, Option<Match>) {
+    (
+        captures.pattern(),
+        captures.slots().len(),
+        captures.group_len(),
+        match_in_order(captures),
+    )
 }
 
 #[test]
 fn copy_of_a_match(rt: HostRuntime) -> Result<(), Fail> {
-    let alloc = rt.alloc();
-    let mut captures = all_of_a_match(alloc)?;
-    let copy = captures.try_clone(alloc)?;
+    let mut captures = all_of_a_match(rt.alloc())?;
+    let copy = captures.try_clone(rt.alloc())?;
     captures.clear();
-    assert_eq!(rt; captures.pattern(), None);
-    assert_eq!(rt; captures.slots().len(), 6);
-    assert_eq!(rt; captures.group_len(), 0);
-    assert_eq!(rt; match_in_order(&captures), None);
-    assert_eq!(rt; copy.pattern(), Some(PatternID::ZERO));
-    assert_eq!(rt; copy.get_group(1), Some(Span { start: 1, end: 2 }));
+    assert_eq!(rt; facts_of(&captures), (None, 6, 0, None));
+    let group = Some(Span { start: 1, end: 2 });
+    assert_eq!(rt;
+        (copy.pattern(), copy.get_group(1)),
+        (Some(PatternID::ZERO), group)
+    );
     assert_eq!(rt; copy.group_info().pattern_len(), 2);
     Ok(())
 }
 
+/// Whether these parts are told: of bytes, of a character of two bytes, of a haystack of one, and of a third group.
+fn has_parts(captures: &Captures) -> [bool; 4] {
+    let bytes: &[u8] = &[0x61, 0xC3];
+    [
+        captures.extract::<&[u8], 0>(bytes).is_some(),
+        captures.extract::<&str, 1>("é").is_some(),
+        captures.extract::<&str, 1>("a").is_some(),
+        captures.extract::<&str, 2>("ab").is_some(),
+    ]
+}
+
 #[test]
 fn parts_of_a_haystack(rt: HostRuntime) -> Result<(), Fail> {
-    let alloc = rt.alloc();
-    let mut captures = Captures::all(alloc, a_and_none(alloc)?)?;
-    matched(&mut captures);
-    let text = captures.extract::<&str, 1>("ab");
-    assert_eq!(rt; text, Some(("ab", ["b"])));
-    let bytes: &[u8] = &[0x61, 0xC3];
-    assert!(rt; captures.extract::<&[u8], 0>(bytes).is_some());
-    // a character of two bytes, a haystack of one, and a third group
-    assert!(rt; captures.extract::<&str, 1>("é").is_none());
-    assert!(rt; captures.extract::<&str, 1>("a").is_none());
-    assert!(rt; captures.extract::<&str, 2>("ab").is_none());
+    let captures = all_of_a_match(rt.alloc())?;
+    assert_eq!(rt; captures.extract::<&str, 1>("ab"), Some(("ab", ["b"])));
+    assert_eq!(rt; has_parts(&captures), [true, false, false, false]);
     Ok(())
+}
+
+/// How many slots are kept, and the spans of the first two groups.
+fn kept(captures: &Captures) -> (usize, Option<Span>, Option<Span>) {
+    (
+        captures.slots().len(),
+        captures.get_group(0),
+        captures.get_group(1),
+    )
 }
 
 #[test]
@@ -95,12 +122,9 @@ fn slots_that_are_not_kept(rt: HostRuntime) -> Result<(), Fail> {
     let alloc = rt.alloc();
     let mut first = Captures::matches(alloc, a_and_none(alloc)?)?;
     matched(&mut first);
-    assert_eq!(rt; first.slots().len(), 4);
-    assert_eq!(rt; first.get_group(0), Some(Span { start: 0, end: 2 }));
-    assert_eq!(rt; first.get_group(1), None);
+    assert_eq!(rt; kept(&first), (4, Some(Span { start: 0, end: 2 }), None));
     let mut none = Captures::empty(alloc, a_and_none(alloc)?);
     matched(&mut none);
-    assert!(rt; none.is_match());
-    assert_eq!(rt; none.get_group(0), None);
+    assert_eq!(rt; (none.is_match(), none.get_group(0)), (true, None));
     Ok(())
 }

@@ -2,6 +2,7 @@ ghost use Rattle.std.specs.Prelude.{◌≡◌, ◌<◌, ◌≤◌, ◌↔◌, Is
 ghost use Rattle.std.specs.Ordering.{nat_cmp};
 
 use search_core::{NonMaxUsize, PatternID, SmallIndex, StateID};
+use std::alloc::{AllocError, Global};
 use std::cmp::Ordering;
 use std::collections::HashSet;
 use std::test::Fail;
@@ -10,14 +11,17 @@ use std::test::Fail;
 type Reads = (usize, u64, u32, i32, usize);
 
 /// The reads of indices at both ends.
-const READS: [Reads; 4] = [
-    (0, 0, 0, 0, 1),
-    (65536, 65536, 65536, 65536, 65537),
-    (2147483645, 2147483645, 2147483645, 2147483645, 2147483646),
-    (2147483646, 2147483646, 2147483646, 2147483646, 2147483647),
-];
+const fn reads_of_both_ends() -> [Reads; 4] {
+    [
+        (0, 0, 0, 0, 1),
+        (65536, 65536, 65536, 65536, 65537),
+        (2147483645, 2147483645, 2147483645, 2147483645, 2147483646),
+        (2147483646, 2147483646, 2147483646, 2147483646, 2147483647),
+    ]
+}
 
-/// Each way to make one type of index, at both ends of what it takes, and the number that it takes or refuses.
+/// Each way to make one type of index, at both ends of what it takes, and the number that it takes or refuses; and
+/// each index that is made with no refusal.
 macro_rules! ways {
     ($index:ident) => {
         [
@@ -30,19 +34,11 @@ macro_rules! ways {
             ($index::try_from(4294967296usize), Err(4294967296)),
             ($index::new(2147483646), Ok(2147483646)),
             ($index::new(2147483647), Err(2147483647)),
-        ]
-    };
-}
-
-/// Each index that is made with no refusal, and its number.
-macro_rules! sure_ways {
-    ($index:ident) => {
-        [
-            ($index::from(u8::MAX), 255),
-            ($index::must(2147483646), 2147483646),
-            ($index::MAX, 2147483646),
-            ($index::ZERO, 0),
-            ($index::default(), 0),
+            (Ok($index::from(u8::MAX)), Ok(255)),
+            (Ok($index::must(2147483646)), Ok(2147483646)),
+            (Ok($index::MAX), Ok(2147483646)),
+            (Ok($index::ZERO), Ok(0)),
+            (Ok($index::default()), Ok(0)),
         ]
     };
 }
@@ -77,17 +73,23 @@ fn state_reads(id: StateID) -> Reads {
     )
 }
 
+/// What is read of each type's index of this number.
+fn reads_of(number: usize) -> [Option<Reads>; 3] {
+    [
+        SmallIndex::new(number).map(index_reads).ok(),
+        PatternID::new(number).map(pattern_reads).ok(),
+        StateID::new(number).map(state_reads).ok(),
+    ]
+}
+
 #[test]
 fn reads(rt: HostRuntime) {
-    for row in READS {
-        assert_eq!(rt; SmallIndex::new(row.0).map(index_reads), Ok(row));
-        assert_eq!(rt; PatternID::new(row.0).map(pattern_reads), Ok(row));
-        assert_eq!(rt; StateID::new(row.0).map(state_reads), Ok(row));
+    for row in reads_of_both_ends() {
+        assert_eq!(rt; reads_of(row.0), [Some(row); 3]);
     }
     let limits = [SmallIndex::LIMIT, PatternID::LIMIT, StateID::LIMIT];
-    assert_eq!(rt; limits, [2147483647; 3]);
     let sizes = [SmallIndex::SIZE, PatternID::SIZE, StateID::SIZE];
-    assert_eq!(rt; sizes, [4; 3]);
+    assert_eq!(rt; (limits, sizes), ([2147483647; 3], [4; 3]));
 }
 
 #[test]
@@ -97,9 +99,6 @@ fn small_indices(rt: HostRuntime) {
             .map(|index| index.as_u64())
             .map_err(|error| error.attempted());
         assert_eq!(rt; made, want);
-    }
-    for (index, want) in sure_ways!(SmallIndex) {
-        assert_eq!(rt; index.as_u64(), want);
     }
 }
 
@@ -111,9 +110,6 @@ fn pattern_ids(rt: HostRuntime) {
             .map_err(|error| error.attempted());
         assert_eq!(rt; made, want);
     }
-    for (id, want) in sure_ways!(PatternID) {
-        assert_eq!(rt; id.as_u64(), want);
-    }
 }
 
 #[test]
@@ -124,43 +120,38 @@ fn state_ids(rt: HostRuntime) {
             .map_err(|error| error.attempted());
         assert_eq!(rt; made, want);
     }
-    for (id, want) in sure_ways!(StateID) {
-        assert_eq!(rt; id.as_u64(), want);
-    }
+}
+
+/// One index of each type, as it is printed.
+fn printed(alloc: Global) -> Result<String, AllocError> {
+    let (index, pattern, state) = (SmallIndex::must(7), PatternID::must(7), StateID::must(7));
+    let number = NonMaxUsize::new(7);
+    format!(in alloc; "{index:?}, {pattern:?}, {state:?}, {number:?}")
+}
+
+/// What refuses a number that is too great, for each type.
+fn refusals(alloc: Global) -> Result<[String; 3], AllocError> {
+    Ok([
+        SmallIndex::new(2147483647).unwrap_err().to_string(alloc)?,
+        PatternID::new(2147483647).unwrap_err().to_string(alloc)?,
+        StateID::new(2147483647).unwrap_err().to_string(alloc)?,
+    ])
 }
 
 #[test]
 fn texts(rt: HostRuntime) -> Result<(), Fail> {
-    let alloc = rt.alloc();
-    let rows = [
-        (
-            format!(in alloc; "{:?}", SmallIndex::must(7))?,
-            "SmallIndex(7)",
-        ),
-        (
-            format!(in alloc; "{:?}", PatternID::must(7))?,
-            "PatternID(7)",
-        ),
-        (format!(in alloc; "{:?}", StateID::must(7))?, "StateID(7)"),
-        (
-            format!(in alloc; "{:?}", NonMaxUsize::new(7))?,
-            "Some(NonMaxUsize(7))",
-        ),
-        (
-            SmallIndex::new(2147483647).unwrap_err().to_string(alloc)?,
-            "failed to create small index from 2147483647, which exceeds SmallIndex(2147483646)",
-        ),
-        (
-            PatternID::new(2147483647).unwrap_err().to_string(alloc)?,
-            "failed to create PatternID from 2147483647, which exceeds PatternID(2147483646)",
-        ),
-        (
-            StateID::new(2147483647).unwrap_err().to_string(alloc)?,
-            "failed to create StateID from 2147483647, which exceeds StateID(2147483646)",
-        ),
+    let text = printed(rt.alloc())?;
+    assert_eq!(rt;
+        text.as_str(),
+        "SmallIndex(7), PatternID(7), StateID(7), Some(NonMaxUsize(7))"
+    );
+    let wants = [
+        "failed to create small index from 2147483647, which exceeds SmallIndex(2147483646)",
+        "failed to create PatternID from 2147483647, which exceeds PatternID(2147483646)",
+        "failed to create StateID from 2147483647, which exceeds StateID(2147483646)",
     ];
-    for (text, want) in &rows {
-        assert_eq!(rt; text.as_str(), *want);
+    for (text, want) in refusals(rt.alloc())?.iter().zip(wants) {
+        assert_eq!(rt; text.as_str(), want);
     }
     Ok(())
 }
@@ -201,31 +192,28 @@ fn is_less(a: NonMaxUsize, b: NonMaxUsize) -> bool
     a < b
 }
 
+/// Two numbers compared as two types of index, and whether they are one state.
+fn compared(a: u8, b: u8) -> (Ordering, Ordering, bool) {
+    (
+        compare_indices(SmallIndex::from(a), SmallIndex::from(b)),
+        compare_patterns(PatternID::from(a), PatternID::from(b)),
+        is_same_state(StateID::from(a), StateID::from(b)),
+    )
+}
+
 #[test]
-fn comparisons_go_by_number(rt: HostRuntime) -> Result<(), Fail> {
+fn comparisons_go_by_number(rt: HostRuntime) {
     let rows = [
         (3, 3, Ordering::Equal),
         (3, 5, Ordering::Less),
         (5, 3, Ordering::Greater),
     ];
     for (a, b, order) in rows {
-        assert_eq!(rt;
-            compare_indices(SmallIndex::new(a)?, SmallIndex::new(b)?),
-            order
-        );
-        assert_eq!(rt;
-            compare_patterns(PatternID::new(a)?, PatternID::new(b)?),
-            order
-        );
-        assert_eq!(rt;
-            is_same_state(StateID::new(a)?, StateID::new(b)?),
-            order == Ordering::Equal
-        );
+        assert_eq!(rt; compared(a, b), (order, order, order == Ordering::Equal));
     }
     let three = NonMaxUsize::new(3).unwrap();
     let five = NonMaxUsize::new(5).unwrap();
     assert!(rt; is_less(three, five) && !is_less(five, three) && !is_less(three, three));
-    Ok(())
 }
 
 #[test]

@@ -4,8 +4,9 @@ use search_core::PatternID;
 use search_types::{
     Anchored, HalfMatch, Input, Match, MatchError, MatchErrorKind, MatchKind, Span,
 };
-use std::alloc::AllocError;
+use std::alloc::{AllocError, Global};
 use std::collections::HashSet;
+use std::ops::Range;
 use std::test::Fail;
 
 /// A span by its two ends.
@@ -23,15 +24,16 @@ fn spans_leave_their_end_out(rt: HostRuntime) {
         (span(5, 4), 0, true),
     ];
     for (part, len, is_empty) in rows {
-        assert_eq!(rt; part.len(), len);
-        assert_eq!(rt; part.is_empty(), is_empty);
-        assert_eq!(rt; part.range(), part.start..part.end);
-        assert!(rt; !part.contains(part.end));
+        let told = (part.len(), part.is_empty(), part.contains(part.end));
+        assert_eq!(rt; told, (len, is_empty, false));
     }
     for (at, inside) in [(1, false), (2, true), (4, true), (5, false)] {
         assert_eq!(rt; span(2, 5).contains(at), inside, "place {at}");
     }
-    assert_eq!(rt; span(2, 5).offset(7), span(9, 12));
+    assert_eq!(rt;
+        (span(2, 5).offset(7), span(2, 5).range()),
+        (span(9, 12), 2..5)
+    );
 }
 
 #[test]
@@ -43,11 +45,13 @@ fn modes_and_kinds(rt: HostRuntime) {
         (Anchored::Pattern(seven), true, Some(seven)),
     ];
     for (mode, is_anchored, pattern) in rows {
-        assert_eq!(rt; mode.is_anchored(), is_anchored);
-        assert_eq!(rt; mode.pattern(), pattern);
+        assert_eq!(rt;
+            (mode.is_anchored(), mode.pattern()),
+            (is_anchored, pattern)
+        );
     }
-    assert_eq!(rt; MatchKind::default(), MatchKind::LeftmostFirst);
-    assert!(rt; MatchKind::default() != MatchKind::All);
+    let kind = MatchKind::default();
+    assert!(rt; kind == MatchKind::LeftmostFirst && kind != MatchKind::All);
 }
 
 /// Whether a search of two bytes would be done at once, for a span that such a search may have.
@@ -79,50 +83,73 @@ fn inputs_fit_by_the_span_rule(rt: HostRuntime) {
     }
 }
 
+/// The span of a search, its mode and whether it ends early.
+fn search_of(input: &Input<'_>) -> (Span, Anchored, bool) {
+    (input.get_span(), input.get_anchored(), input.get_earliest())
+}
+
+/// Whether each place up to one behind the end stands between characters.
+fn boundaries(input: &Input<'_>) -> [bool; 6] {
+    [
+        input.is_char_boundary(0),
+        input.is_char_boundary(1),
+        input.is_char_boundary(2),
+        input.is_char_boundary(3),
+        input.is_char_boundary(4),
+        input.is_char_boundary(5),
+    ]
+}
+
+/// The spans of a search of four bytes, whose ends are set one after the other.
+fn spans_as_set() -> [Span; 3] {
+    let mut input = Input::new(b"abcd").range(1..3);
+    input.set_start(4);
+    let first = input.get_span();
+    input.set_end(4);
+    let second = input.get_span();
+    input.set_range(0..2);
+    [first, second, input.get_span()]
+}
+
 #[test]
 fn inputs_are_what_was_set(rt: HostRuntime) {
     let fresh = Input::new("a\u{E9}!".as_bytes());
     assert_eq!(rt; fresh.haystack(), [0x61, 0xC3, 0xA9, 0x21].as_slice());
-    assert_eq!(rt; fresh.get_span(), span(0, 4));
-    assert_eq!(rt; fresh.get_anchored(), Anchored::No);
-    assert!(rt; !fresh.get_earliest());
-    for (at, cut) in [
-        (0, true),
-        (1, true),
-        (2, false),
-        (3, true),
-        (4, true),
-        (5, false),
-    ] {
-        assert_eq!(rt; fresh.is_char_boundary(at), cut, "place {at}");
-    }
+    assert_eq!(rt; search_of(&fresh), (span(0, 4), Anchored::No, false));
+    assert_eq!(rt; boundaries(&fresh), [true, true, false, true, true, false]);
     let mut input = fresh.range(1..3).anchored(Anchored::Yes).earliest(true);
-    assert_eq!(rt; (input.start(), input.end()), (1, 3));
-    assert_eq!(rt; input.get_range(), 1..3);
-    assert_eq!(rt; input.get_anchored(), Anchored::Yes);
-    assert!(rt; input.get_earliest());
-    input.set_start(4);
-    assert_eq!(rt; input.get_span(), span(4, 3));
-    input.set_end(4);
-    assert_eq!(rt; input.get_span(), span(4, 4));
-    input.set_range(0..2);
-    assert_eq!(rt; input.get_span(), span(0, 2));
+    assert_eq!(rt; search_of(&input), (span(1, 3), Anchored::Yes, true));
+    assert_eq!(rt;
+        (input.start(), input.end(), input.get_range()),
+        (1, 3, 1..3)
+    );
+    assert_eq!(rt; spans_as_set(), [span(4, 3), span(4, 4), span(0, 2)]);
     input.set_span(span(1, 1));
     input.set_anchored(Anchored::Pattern(PatternID::ZERO));
     input.set_earliest(false);
-    assert_eq!(rt; input.get_span(), span(1, 1));
-    assert_eq!(rt; input.get_anchored().pattern(), Some(PatternID::ZERO));
-    assert!(rt; !input.get_earliest());
+    let mode = Anchored::Pattern(PatternID::ZERO);
+    assert_eq!(rt; search_of(&input), (span(1, 1), mode, false));
+}
+
+/// The pattern, the two ends, the length, the span as its type and as a range, and whether it is empty.
+fn told(found: Match) -> (usize, usize, usize, usize, Span, Range<usize>, bool) {
+    (
+        found.pattern().as_usize(),
+        found.start(),
+        found.end(),
+        found.len(),
+        found.span(),
+        found.range(),
+        found.is_empty(),
+    )
 }
 
 #[test]
 fn matches_tell_their_spans(rt: HostRuntime) -> Result<(), Fail> {
     let found = Match::must(3, span(2, 5));
+    assert_eq!(rt; told(found), (3, 2, 5, 3, span(2, 5), 2..5, false));
     assert_eq!(rt; found, Match::new(PatternID::must(3), span(2, 5)));
-    assert_eq!(rt; found.pattern().as_usize(), 3);
-    assert_eq!(rt; (found.start(), found.end(), found.len()), (2, 5, 3));
-    assert_eq!(rt; (found.range(), found.span()), (2..5, span(2, 5)));
-    assert!(rt; !found.is_empty() && Match::must(3, span(5, 5)).is_empty());
+    assert!(rt; Match::must(3, span(5, 5)).is_empty());
     let half = HalfMatch::must(3, 5);
     assert_eq!(rt; half, HalfMatch::new(PatternID::must(3), 5));
     assert_eq!(rt; (half.pattern().as_usize(), half.offset()), (3, 5));
@@ -137,10 +164,9 @@ fn matches_tell_their_spans(rt: HostRuntime) -> Result<(), Fail> {
     Ok(())
 }
 
-#[test]
-fn errors_are_told_in_words(rt: HostRuntime) -> Result<(), Fail> {
-    let alloc = rt.alloc();
-    let rows = [
+/// Each error and its words.
+fn errors() -> [(MatchError, &'static str); 8] {
+    [
         (MatchError::quit(10, 7), "quit at byte 10 at offset 7"),
         (MatchError::gave_up(7), "gave up at offset 7"),
         (
@@ -164,10 +190,20 @@ fn errors_are_told_in_words(rt: HostRuntime) -> Result<(), Fail> {
             "forward and reverse automata are no pair",
         ),
         (MatchError::from(AllocError), "out of memory"),
-    ];
-    for (error, want) in rows {
-        assert_eq!(rt; error.to_string(alloc)?.as_str(), want);
-        assert_eq!(rt; error.kind().to_string(alloc)?.as_str(), want);
+    ]
+}
+
+/// Whether the error is told in these words, and its kind too.
+fn is_told(alloc: Global, error: &MatchError, want: &str) -> Result<bool, AllocError> {
+    let text = error.to_string(alloc)?;
+    let of_kind = error.kind().to_string(alloc)?;
+    Ok(text.as_str() == want && of_kind.as_str() == want)
+}
+
+#[test]
+fn errors_are_told_in_words(rt: HostRuntime) -> Result<(), Fail> {
+    for (error, want) in errors() {
+        assert!(rt; is_told(rt.alloc(), &error, want)?, "{want}");
     }
     Ok(())
 }
@@ -198,10 +234,7 @@ fn copies_and_comparisons(rt: HostRuntime) -> Result<(), Fail> {
     let input = Input::new(b"abc").range(1..2).anchored(Anchored::Yes);
     let copy = copied(&input)?;
     assert_eq!(rt; copy.haystack(), b"abc".as_slice());
-    assert_eq!(rt;
-        (copy.get_span(), copy.get_anchored()),
-        (span(1, 2), Anchored::Yes)
-    );
+    assert_eq!(rt; search_of(&copy), (span(1, 2), Anchored::Yes, false));
     let found = Match::must(3, span(2, 5));
     assert!(rt; is_same_match(found, found) && !is_same_match(found, Match::must(3, span(2, 4))));
     let half = HalfMatch::must(3, 5);

@@ -111,42 +111,65 @@ const fn single_bytes() -> [(u8, bool, bool); 18] {
 #[test]
 fn rows_are_read_from_both_ends(rt: HostRuntime) {
     for (bytes, c) in spellings() {
-        assert_eq!(rt; decode(bytes), Some(Ok(c)), "{bytes:?}");
-        assert_eq!(rt; decode_last(bytes), Some(Ok(c)), "{bytes:?}");
+        let read = Some(Ok(c));
+        assert_eq!(rt;
+            (decode(bytes), decode_last(bytes)),
+            (read, read),
+            "{bytes:?}"
+        );
+    }
+}
+
+/// The byte that is given in place of a character at the front.
+fn refused(bytes: &[u8]) -> Option<u8> {
+    match decode(bytes) {
+        Some(Err(byte)) => Some(byte),
+        _ => None,
     }
 }
 
 #[test]
 fn faults_give_a_byte(rt: HostRuntime) {
     for (bytes, last) in faults() {
-        let first = bytes.first().copied();
         assert_eq!(rt;
-            decode(bytes).and_then(|read| read.err()),
-            first,
+            (refused(bytes), decode_last(bytes)),
+            (bytes.first().copied(), Some(last)),
             "{bytes:?}"
         );
-        assert_eq!(rt; decode_last(bytes), Some(last), "{bytes:?}");
     }
 }
 
 #[test]
 fn longer_texts_are_read_from_both_ends(rt: HostRuntime) {
     for (bytes, first, last) in texts() {
-        assert_eq!(rt; decode(bytes), Some(first), "{bytes:?}");
-        assert_eq!(rt; decode_last(bytes), Some(last), "{bytes:?}");
+        assert_eq!(rt;
+            (decode(bytes), decode_last(bytes)),
+            (Some(first), Some(last)),
+            "{bytes:?}"
+        );
     }
-    assert_eq!(rt; decode(&[]), None);
-    assert_eq!(rt; decode_last(&[]), None);
+    assert_eq!(rt; (decode(&[]), decode_last(&[])), (None, None));
+}
+
+/// Whether a text of three bytes, of which the first two are one character, may be cut at each place up to one behind
+/// its end; and whether one of no bytes may.
+fn cuts() -> [bool; 6] {
+    let text = [0xC3, 0xA9, 0x21];
+    [
+        is_boundary(&text, 0),
+        is_boundary(&text, 1),
+        is_boundary(&text, 2),
+        is_boundary(&text, 3),
+        is_boundary(&text, 4),
+        is_boundary(&[], 0),
+    ]
 }
 
 #[test]
 fn boundaries_and_word_bytes(rt: HostRuntime) {
     for (byte, cut, word) in single_bytes() {
-        assert_eq!(rt; is_boundary(&[byte], 0), cut, "byte {byte}");
-        assert_eq!(rt; is_word_byte(byte), word, "byte {byte}");
+        let told = (is_boundary(&[byte], 0), is_word_byte(byte));
+        assert_eq!(rt; told, (cut, word), "byte {byte}");
     }
-    for (i, cut) in [(0, true), (1, false), (2, true), (3, true), (4, false)] {
-        assert_eq!(rt; is_boundary(&[0xC3, 0xA9, 0x21], i), cut, "place {i}");
-    }
-    assert!(rt; is_boundary(&[], 0));
+    assert_eq!(rt; cuts(), [true, false, true, true, false, true]);
 }
