@@ -10,8 +10,7 @@ use Rattle.nfa_core.specs.Late.{IsHead, IsPassedThrough}
 use Rattle.nfa_core.specs.Nfa.{Node, byte_range, sparse_node, dense_node, look_node, union_node, binary_union, capture_node, fail_node, match_node, Automaton, node_at, leads_to, IsWellFormed}
 use Rattle.nfa_core.specs.NfaValue.{is_capture}
 use Rattle.nfa_core.specs.Ways.{on_nothing}
-use Rattle.nfa_core.proofs.MemberLemmas.{none_in, not_both, has_or_not, has_first, has_one, of_cons}
-use Rattle.nfa_core.proofs.PairLemmas.{names_equal, finite_names}
+use Rattle.nfa_core.proofs.ForCallers.{none_in, not_both, has_or_not, has_first, has_one, of_cons, names_equal, finite_names}
 use Rattle.determinize_core.specs.Steps.{is_kept}
 
 -- where a capture leads

@@ -12,11 +12,7 @@ use Rattle.nfa_core.specs.Nfa.{Node, byte_range, sparse_node, dense_node, look_n
 use Rattle.nfa_core.specs.NfaValue.{free_steps}
 use Rattle.nfa_core.specs.Ways.{on_nothing}
 use Rattle.nfa_core.specs.Reached.{AreBelow}
-use Rattle.nfa_core.proofs.MemberLemmas.{none_in, not_both, has_cons, has_first, has_later, of_cons, of_flat_map}
-use Rattle.nfa_core.proofs.JoinLemmas.{join_once, of_join}
-use Rattle.nfa_core.proofs.PairLemmas.{names_equal}
-use Rattle.nfa_core.proofs.StepLemmas.{joined}
-use Rattle.nfa_core.proofs.EndsLemmas.{chains_met}
+use Rattle.nfa_core.proofs.ForCallers.{none_in, not_both, has_cons, has_first, has_later, of_cons, of_flat_map, join_once, of_join, names_equal, joined, chains_met}
 use Rattle.determinize_core.specs.Costs.{known_ways, free_ways, sum_below}
 use Rattle.determinize_core.specs.Steps.{known_steps, closed}
 use Rattle.determinize_core.proofs.ClosureLemmas.{known_below}

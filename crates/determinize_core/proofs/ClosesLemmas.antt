@@ -14,12 +14,7 @@ use Rattle.nfa_core.specs.Places.{StaysBelow}
 use Rattle.nfa_core.specs.Nfa.{Node, byte_range, sparse_node, dense_node, look_node, union_node, binary_union, capture_node, fail_node, match_node, Automaton, node_at, IsWellFormed}
 use Rattle.nfa_core.specs.NfaValue.{look_of, looks_of, is_capture}
 use Rattle.nfa_core.specs.Ways.{on_nothing}
-use Rattle.nfa_core.proofs.MemberLemmas.{none_in, not_both, has_cons, has_first, has_later, of_cons}
-use Rattle.nfa_core.proofs.PairLemmas.{names_equal}
-use Rattle.nfa_core.proofs.AutomatonLemmas.{nothing_led}
-use Rattle.nfa_core.proofs.LookedLemmas.{looks_any}
-use Rattle.nfa_core.proofs.StepLemmas.{one_after, stays_closed}
-use Rattle.nfa_core.proofs.KeptLemmas.{kept_close_anew}
+use Rattle.nfa_core.proofs.ForCallers.{none_in, not_both, has_cons, has_first, has_later, of_cons, names_equal, nothing_led, looks_any, one_after, stays_closed, kept_close_anew}
 use Rattle.determinize_core.specs.States.{StateValue}
 use Rattle.determinize_core.specs.Steps.{known_before, known_steps, closed, is_kept, kept, looks_with, have_if, gains, ids_before, is_some_kept}
 use Rattle.determinize_core.proofs.MadeLemmas.{AreBelow, walk_made}

@@ -10,8 +10,7 @@ use Rattle.nfa_core.specs.Places.{StaysBelow}
 use Rattle.nfa_core.specs.Nfa.{Node, byte_range, sparse_node, dense_node, look_node, union_node, binary_union, capture_node, fail_node, match_node, Automaton, node_at, leads_to, IsWellFormed}
 use Rattle.nfa_core.specs.Ways.{on_nothing}
 use Rattle.nfa_core.specs.Reached.{AreBelow, Meets}
-use Rattle.nfa_core.proofs.MemberLemmas.{none_in, of_cons, of_append}
-use Rattle.nfa_core.proofs.PairLemmas.{names_equal}
+use Rattle.nfa_core.proofs.ForCallers.{none_in, of_cons, of_append, names_equal}
 use Rattle.determinize_core.specs.Steps.{known_steps}
 use Rattle.determinize_core.specs.Costs.{known_ways}
 

@@ -12,7 +12,7 @@ use Rattle.search_types.specs.declared.match_kind.MatchKind.TheVariants.{All as 
 use Rattle.nfa_core.specs.Places.{first}
 use Rattle.nfa_core.specs.Nfa.{Automaton, IsWellFormed}
 use Rattle.nfa_core.specs.Ways.{Text, bytes_left, place_of, ends_from}
-use Rattle.nfa_core.proofs.PreferenceLemmas.{one_value, no_value}
+use Rattle.nfa_core.proofs.ForCallers.{one_value, no_value}
 use Rattle.determinize_core.specs.States.{StateValue}
 use Rattle.determinize_core.specs.Starts.{start_of}
 use Rattle.determinize_core.specs.Steps.{start_value, step_value, unit_at, unit_behind, walk_value}

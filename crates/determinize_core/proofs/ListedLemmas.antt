@@ -11,11 +11,7 @@ use Rattle.nfa_core.specs.Runs.{answers, IsMostPreferred}
 use Rattle.nfa_core.specs.Places.{same_pair, answers_at, first, latest}
 use Rattle.nfa_core.specs.Nfa.{Node, byte_range, sparse_node, dense_node, look_node, union_node, binary_union, capture_node, fail_node, match_node, Automaton, node_at, IsWellFormed}
 use Rattle.nfa_core.specs.Ways.{Text, span, match_of, ways, matched, matched_behind, place_of, bytes_left, ends_from}
-use Rattle.nfa_core.proofs.MemberLemmas.{has_or_not}
-use Rattle.nfa_core.proofs.PairLemmas.{same_here}
-use Rattle.nfa_core.proofs.PreferenceLemmas.{option_cases, one_value, no_value}
-use Rattle.nfa_core.proofs.EndsLemmas.{most_preferred}
-use Rattle.nfa_core.proofs.BehindLemmas.{list_matches, latest_is_preferred}
+use Rattle.nfa_core.proofs.ForCallers.{has_or_not, same_here, option_cases, one_value, no_value, most_preferred, list_matches, latest_is_preferred}
 use Rattle.determinize_core.specs.States.{StateValue}
 use Rattle.determinize_core.specs.Steps.{pattern_of, pattern_at, walk_value}
 use Rattle.determinize_core.specs.Walked.{walked_lists, end_at, latest_listed}

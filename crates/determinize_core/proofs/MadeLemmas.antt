@@ -4,10 +4,7 @@ use Rattle.std.specs.List.{flat_map}
 use Rattle.std.specs.Bool.{nat_eq}
 use Rattle.nfa_core.specs.Walks.{has, Has, join, distinct, chain_ends, Visits, done, held, fresh, HasNoneTwice}
 use Rattle.nfa_core.specs.Places.{StaysBelow}
-use Rattle.nfa_core.proofs.MemberLemmas.{none_in, has_or_not, has_first, has_later, of_push}
-use Rattle.nfa_core.proofs.JoinLemmas.{join_once}
-use Rattle.nfa_core.proofs.PairLemmas.{names_equal, finite_names}
-use Rattle.nfa_core.proofs.EndsLemmas.{chains_met}
+use Rattle.nfa_core.proofs.ForCallers.{none_in, has_or_not, has_first, has_later, of_push, join_once, names_equal, finite_names, chains_met}
 
 abbrev pub AreBelow : ℕ → List ℕ → Type 0
 AreBelow n xs = (q : ℕ) → Has nat_eq q xs → q < n

@@ -10,7 +10,7 @@ use Rattle.look_core.specs.Terminators.{Terminator}
 use Rattle.nfa_core.specs.Walks.{distinct, HasNoneTwice}
 use Rattle.nfa_core.specs.Nfa.{Automaton, IsWellFormed}
 use Rattle.nfa_core.specs.Reached.{AreBelow}
-use Rattle.nfa_core.proofs.ReachedLemmas.{has_from_all}
+use Rattle.nfa_core.proofs.ForCallers.{has_from_all}
 use Rattle.determinize_core.specs.States.{StateValue, dead}
 use Rattle.determinize_core.specs.Steps.{closed, known_before, gains, ids_before, families, first_half, patterns_in, known_behind, unit_steps, reading, states_behind, begun, is_some_kept, with_states, step_value}
 use Rattle.determinize_core.proofs.CloseLemmas.{distinct_already, once_from_distinct, distinct_from_once, closed_once, closed_below, few_once}

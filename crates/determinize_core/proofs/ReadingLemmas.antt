@@ -17,10 +17,7 @@ use Rattle.nfa_core.specs.Places.{before_answer, unless_answered, first}
 use Rattle.nfa_core.specs.Nfa.{Node, byte_range, sparse_node, dense_node, look_node, union_node, binary_union, capture_node, fail_node, match_node, Automaton, node_at, IsWellFormed}
 use Rattle.nfa_core.specs.NfaValue.{is_capture}
 use Rattle.nfa_core.specs.Ways.{Text, span, reads, with_place, on_byte, on_read, byte_steps, match_of, matched_behind, place_of, bytes_left}
-use Rattle.nfa_core.proofs.MemberLemmas.{none_in, of_flat_map}
-use Rattle.nfa_core.proofs.PairLemmas.{names_equal}
-use Rattle.nfa_core.proofs.AutomatonLemmas.{read_led}
-use Rattle.nfa_core.proofs.PreferenceLemmas.{option_cases}
+use Rattle.nfa_core.proofs.ForCallers.{none_in, of_flat_map, names_equal, read_led, option_cases}
 use Rattle.determinize_core.specs.Steps.{unit_steps, pattern_of, pattern_at, reading, patterns_in, is_kept, kept, unit_at, unit_behind}
 use Rattle.determinize_core.specs.Walked.{cut_of}
 use Rattle.determinize_core.proofs.MadeLemmas.{AreBelow}

@@ -5,8 +5,7 @@ use Rattle.look_core.specs.Terminators.{Terminator}
 use Rattle.nfa_core.specs.Walks.{Visits}
 use Rattle.nfa_core.specs.Nfa.{Automaton, IsWellFormed}
 use Rattle.nfa_core.specs.Reached.{AreBelow}
-use Rattle.nfa_core.proofs.MemberLemmas.{none_in, of_cons}
-use Rattle.nfa_core.proofs.PairLemmas.{names_equal}
+use Rattle.nfa_core.proofs.ForCallers.{none_in, of_cons, names_equal}
 use Rattle.determinize_core.specs.States.{StateValue, dead}
 use Rattle.determinize_core.specs.LookBehind.{with_look_behind}
 use Rattle.determinize_core.specs.Costs.{known_ways, free_ways}

@@ -15,8 +15,7 @@ use Rattle.nfa_core.specs.Runs.{answers}
 use Rattle.nfa_core.specs.Nfa.{Node, byte_range, sparse_node, dense_node, look_node, union_node, binary_union, capture_node, fail_node, match_node, Automaton, node_at, IsWellFormed}
 use Rattle.nfa_core.specs.NfaValue.{look_of, is_capture}
 use Rattle.nfa_core.specs.Reached.{AreBelow}
-use Rattle.nfa_core.proofs.MemberLemmas.{not_both, has_first, has_later, of_cons}
-use Rattle.nfa_core.proofs.PairLemmas.{names_equal}
+use Rattle.nfa_core.proofs.ForCallers.{not_both, has_first, has_later, of_cons, names_equal}
 use Rattle.determinize_core.specs.States.{StateValue, dead}
 use Rattle.determinize_core.specs.Steps.{is_kept, kept, looks_with, have_if, is_some_kept, closed, known_before, known_behind, gains, ids_before, families, first_half, pattern_at, patterns_in, reading, unit_steps, states_behind, step_value, behind, start_value}
 use Rattle.determinize_core.specs.declared.start.Start.{Start}

@@ -14,9 +14,7 @@ use Rattle.nfa_core.specs.Runs.{answers}
 use Rattle.nfa_core.specs.Nfa.{Node, byte_range, sparse_node, dense_node, look_node, union_node, binary_union, capture_node, fail_node, match_node, Automaton, node_at}
 use Rattle.nfa_core.specs.NfaValue.{IsSound, IsNodeOf, look_of}
 use Rattle.nfa_core.specs.Reached.{AreBelow}
-use Rattle.nfa_core.proofs.MemberLemmas.{none_in, has_first, of_flat_map}
-use Rattle.nfa_core.proofs.JoinLemmas.{join_once, of_join}
-use Rattle.nfa_core.proofs.PairLemmas.{names_equal}
+use Rattle.nfa_core.proofs.ForCallers.{none_in, has_first, of_flat_map, join_once, of_join, names_equal}
 use Rattle.determinize_core.specs.States.{StateValue, IsState, dead}
 use Rattle.determinize_core.specs.LookBehind.{with_look_behind}
 use Rattle.determinize_core.specs.Steps.{looks_with, have_if, closed, known_behind, ids_before, families, second_half, pattern_of, pattern_at, patterns_in, states_behind, step_value, behind, start_value}

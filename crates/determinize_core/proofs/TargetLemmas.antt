@@ -6,9 +6,7 @@ use Rattle.nfa_core.specs.Walks.{Has}
 use Rattle.nfa_core.specs.Nfa.{Node, Automaton, node_at, IsWellFormed}
 use Rattle.nfa_core.specs.Reached.{AreBelow}
 use Rattle.nfa_core.specs.Ways.{on_byte}
-use Rattle.nfa_core.proofs.AutomatonLemmas.{read_led}
-use Rattle.nfa_core.proofs.MemberLemmas.{none_in, has_first, of_flat_map}
-use Rattle.nfa_core.proofs.PairLemmas.{names_equal}
+use Rattle.nfa_core.proofs.ForCallers.{read_led, none_in, has_first, of_flat_map, names_equal}
 use Rattle.determinize_core.specs.Steps.{unit_steps}
 
 pub byte_below : (a : Automaton) → IsWellFormed a → (b q r : ℕ) → Has nat_eq r (on_byte (node_at a q) b) → r < length a.states

@@ -10,9 +10,7 @@ use Rattle.nfa_core.specs.Walks.{Visits}
 use Rattle.nfa_core.specs.Nfa.{Automaton, node_at, IsWellFormed}
 use Rattle.nfa_core.specs.NfaValue.{looks_of}
 use Rattle.nfa_core.specs.Ways.{Text, span, is_passed, on_nothing, plain_steps, byte_steps, place_of, bytes_left, AreLists}
-use Rattle.nfa_core.proofs.MemberLemmas.{none_in, of_cons}
-use Rattle.nfa_core.proofs.PairLemmas.{names_equal}
-use Rattle.nfa_core.proofs.StepLemmas.{stays_closed}
+use Rattle.nfa_core.proofs.ForCallers.{none_in, of_cons, names_equal, stays_closed}
 use Rattle.determinize_core.specs.States.{StateValue}
 use Rattle.determinize_core.specs.Starts.{start_of}
 use Rattle.determinize_core.specs.LookBehind.{starts_of}

@@ -4,7 +4,7 @@ use Rattle.std.proofs.lemmas.Bool.{cases_Bool}
 use Rattle.std.specs.Bool.{nat_le, nat_lt}
 use mathlib.Core.Path.{fun_ext}
 use Rattle.search_core.specs.Marks.{marks_below, HasMarks}
-use Rattle.search_core.specs.Text.{byte_at, byte_before}
+use Rattle.search_core.specs.Text.{byte_at}
 use Rattle.look_core.specs.Codes.{reversed, is_word_unicode}
 use Rattle.look_core.specs.Looks.{Side, by_bytes, byte_side, word_if, holds_ascii}
 use Rattle.look_core.specs.SameClasses.{HaveSameClasses}
@@ -13,7 +13,7 @@ use Rattle.look_core.specs.ToldApart.{told_apart, word_ranges}
 use Rattle.look_core.specs.declared.look.Look.{Look}
 use Rattle.look_core.specs.declared.look.Look.TheVariants.{Start, End, StartLF, EndLF, StartCRLF, EndCRLF, WordAscii, WordAsciiNegate, WordUnicode, WordUnicodeNegate, WordStartAscii, WordEndAscii, WordStartUnicode, WordEndUnicode, WordStartHalfAscii, WordEndHalfAscii, WordStartHalfUnicode, WordEndHalfUnicode}
 use Rattle.look_core.proofs.ForCallers.{LieAlike, AtEach, same_at, same_before, same_word, alike_bytes, same_unicode, word_ranges_told}
-use Rattle.nfa_core.specs.Alike.{marks_of, AreAlike}
+use Rattle.nfa_core.specs.Alike.{marks_of}
 use Rattle.nfa_core.specs.Nfa.{Node, byte_range, sparse_node, dense_node, look_node, union_node, binary_union, capture_node, fail_node, match_node, Automaton, node_at}
 use Rattle.nfa_core.specs.NfaValue.{IsSound, told_by}
 use Rattle.nfa_core.specs.Places.{same_pair}

@@ -28,7 +28,6 @@ impl Builder {
     /// A move is one way that is followed past a state that is left out; there are two for each state at most.
     pub fn build<L: Ledger>(
         &self,
-        alloc: Global,
         start_anchored: StateID,
         start_unanchored: StateID,
         steps: &mut Steps<L>,
@@ -39,6 +38,7 @@ impl Builder {
         ensures within { IfOk result (λ n. MatchOption self.now.size_limit ⊤ (λ most. memory_of n.automaton.states ≤ most)) }
         ensures moves { steps.new ≤ steps.old + 2 * length self.now.parts }
     {
+        let alloc = *self.drafts.allocator();
         let group_info = take_groups(alloc, &self.groups)?;
         let parts = self.parts(alloc, group_info, start_anchored, start_unanchored, steps)?;
         let nfa = NFA::from_parts(alloc, parts)?;

@@ -12,7 +12,6 @@ use crate::builder::Builder;
 use crate::draft::Draft;
 use search_core::{PatternID, SmallIndex, StateID};
 use search_types::GroupInfoError;
-use std::alloc::Global;
 
 impl Builder {
     /// Adds a state that notes where a group of the pattern that was begun starts. The group's name is that
@@ -20,7 +19,6 @@ impl Builder {
     /// [`SmallIndex::MAX`] is refused before anything else, and nothing is noted then.
     pub fn add_capture_start(
         &mut self,
-        alloc: Global,
         next: StateID,
         group_index: u32,
         name: Option<String>,
@@ -30,7 +28,7 @@ impl Builder {
     {
         let pattern_id = self.current_pattern_id();
         let group_index = checked_index(pattern_id, group_index)?;
-        note_group(alloc, &mut self.groups, pattern_id, group_index, name)?;
+        note_group(&mut self.groups, pattern_id, group_index, name)?;
         self.add(Draft::CaptureStart {
             pattern_id,
             group_index,
@@ -73,7 +71,6 @@ fn checked_index(pattern: PatternID, index: u32) -> Result<SmallIndex, BuildErro
 
 /// Notes the name of a pattern's group, unless that group is there.
 fn note_group(
-    alloc: Global,
     groups: &mut Vec<Vec<Option<String>>>,
     pattern: PatternID,
     index: SmallIndex,
@@ -81,7 +78,7 @@ fn note_group(
 ) -> Result<(), BuildError>
     ensures { MatchResult result (λ _. groups_in groups.new.items ≡ with_group (groups_in groups.old.items) pattern index (option_map string_bytes name)) (λ e. e ≡ NoMemory) }
 {
-    fill_patterns(alloc, groups, pattern)?;
+    fill_patterns(groups, pattern)?;
     note_name(&mut groups[pattern.as_usize()], index, name)?;
     Ok(())
 }
@@ -89,13 +86,13 @@ fn note_group(
 /// Lets there be groups for all patterns up to this one.
 #[tactic(auto, using(crate::proofs::BuilderLemmas::filled_more, crate::proofs::BuilderLemmas::filled_enough))]
 fn fill_patterns(
-    alloc: Global,
     groups: &mut Vec<Vec<Option<String>>>,
     pattern: PatternID,
 ) -> Result<(), BuildError>
     ensures all { MatchResult result (λ _. groups_in groups.new.items ≡ up_to_pattern (groups_in groups.old.items) pattern) (λ e. e ≡ NoMemory) }
     ensures len { MatchResult result (λ _. pattern < length groups.new.items) (λ _. Unit {0}) }
 {
+    let alloc = *groups.allocator();
     while groups.len() <= pattern.as_usize() {
         groups.push(Vec::new(alloc))?;
     }

@@ -7,7 +7,8 @@
 //! holds is in `BuilderStates.antt`, why it refuses in `BuilderFaults.antt`, and the automaton that its states
 //! stand for in `Renaming.antt`, with laws in [`builder_laws`] and [`builder_size_laws`]. What is asked before
 //! it is built is in `CanBuild.antt`, and what is built in `NfaOf.antt`. What an [`NFA`] knows of its automaton
-//! is in `NfaValue.antt`, with laws in [`nfa_laws`].
+//! is in `NfaValue.antt`, which bytes it doesn't tell apart in `Alike.antt`, with laws in [`nfa_laws`]. How far
+//! runs read is in `Reaches.antt`, with laws in [`text_laws`].
 #![tactic(auto)]
 
 mod build_error;

@@ -43,7 +43,7 @@ fn the_limit_is_passed_by_the_last_state(rt: HostRuntime) -> Result<(), Fail> {
 fn an_index_that_is_too_great(rt: HostRuntime) -> Result<(), Fail> {
     let mut builder = Builder::new(rt.alloc());
     builder.start_pattern()?;
-    let refused = builder.add_capture_start(rt.alloc(), StateID::ZERO, 2_147_483_647, None);
+    let refused = builder.add_capture_start(StateID::ZERO, 2_147_483_647, None);
     assert_eq!(rt;
         told(rt.alloc(), refused)?.as_str(),
         "groups can't be taken: pattern 0 has too many groups, at least 2147483647"

@@ -11,7 +11,6 @@ use std::test::Fail;
 
 /// Builds, and counts the moves.
 fn build_counted<L: Ledger>(
-    alloc: Global,
     builder: &Builder,
     anchored: StateID,
     unanchored: StateID,
@@ -23,15 +22,15 @@ fn build_counted<L: Ledger>(
     requires some { 0 < blank.parts }
 {
     let mut steps = Steps::<L>::new(blank);
-    builder.build(alloc, anchored, unanchored, &mut steps)
+    builder.build(anchored, unanchored, &mut steps)
 }
 
 /// The automaton that starts in this state, or none where the builder says that it can't be built.
-fn built(alloc: Global, builder: &Builder, start: StateID) -> Result<Option<NFA>, BuildError> {
+fn built(builder: &Builder, start: StateID) -> Result<Option<NFA>, BuildError> {
     if !builder.can_build(start, start) {
         return Ok(None);
     }
-    let nfa = build_counted::<Brand>(alloc, builder, start, start, Blank::new(1))?;
+    let nfa = build_counted::<Brand>(builder, start, start, Blank::new(1))?;
     Ok(Some(nfa))
 }
 
@@ -123,7 +122,7 @@ fn a_byte_behind_any_others(rt: HostRuntime) -> Result<(), Fail> {
     let builder = byte_a(rt.alloc())?;
     let (anchored, unanchored) = (StateID::must(3), StateID::ZERO);
     assert!(rt; builder.can_build(anchored, unanchored));
-    let nfa = build_counted::<Brand>(rt.alloc(), &builder, anchored, unanchored, Blank::new(1))?;
+    let nfa = build_counted::<Brand>(&builder, anchored, unanchored, Blank::new(1))?;
     assert_eq!(rt; nfa.states(), byte_a_states(rt.alloc())?.as_slice());
     assert_eq!(rt; nfa.start_anchored().as_usize(), 2);
     assert_eq!(rt; nfa.start_unanchored().as_usize(), 0);
@@ -194,7 +193,7 @@ fn few_ways_states(alloc: Global) -> Result<Vec<State>, AllocError> {
 #[test]
 fn unions(rt: HostRuntime) -> Result<(), Fail> {
     let builder = few_ways(rt.alloc())?;
-    let nfa = built(rt.alloc(), &builder, StateID::must(7))?;
+    let nfa = built(&builder, StateID::must(7))?;
     let states = few_ways_states(rt.alloc())?;
     assert!(rt; has_states(&nfa, &states));
     assert_eq!(rt; builder.memory_usage(), 8 * 24 + 12 * 4);
@@ -236,7 +235,7 @@ fn few_ranges_states(alloc: Global) -> Result<Vec<State>, AllocError> {
 #[test]
 fn sparse_states(rt: HostRuntime) -> Result<(), Fail> {
     let builder = few_ranges(rt.alloc())?;
-    let nfa = built(rt.alloc(), &builder, StateID::must(4))?;
+    let nfa = built(&builder, StateID::must(4))?;
     let states = few_ranges_states(rt.alloc())?;
     assert!(rt; has_states(&nfa, &states));
     assert_eq!(rt; builder.memory_usage(), 6 * 24 + 3 * 8);
@@ -252,9 +251,9 @@ fn groups(alloc: Global, first: &str, second: &str, reverse: bool) -> Result<Bui
     let mut builder = Builder::new(alloc);
     builder.set_reverse(reverse);
     builder.start_pattern()?;
-    let start = builder.add_capture_start(alloc, StateID::must(1), 0, None)?;
-    builder.add_capture_start(alloc, StateID::must(2), 1, Some(first))?;
-    builder.add_capture_start(alloc, StateID::must(3), 2, Some(second))?;
+    let start = builder.add_capture_start(StateID::must(1), 0, None)?;
+    builder.add_capture_start(StateID::must(2), 1, Some(first))?;
+    builder.add_capture_start(StateID::must(3), 2, Some(second))?;
     builder.add_capture_end(StateID::must(4), 2)?;
     builder.add_capture_end(StateID::must(5), 0)?;
     builder.add_match()?;
@@ -299,7 +298,7 @@ fn groups_with_their_slots(rt: HostRuntime) -> Result<(), Fail> {
     let states = group_states(rt.alloc())?;
     for reverse in [false, true] {
         let builder = groups(rt.alloc(), "a", "b", reverse)?;
-        let nfa = built(rt.alloc(), &builder, StateID::ZERO)?;
+        let nfa = built(&builder, StateID::ZERO)?;
         assert!(rt; has_states(&nfa, &states));
         assert!(rt; nfa.is_some_and(|nfa| has_groups(&nfa, reverse)));
     }
@@ -309,7 +308,7 @@ fn groups_with_their_slots(rt: HostRuntime) -> Result<(), Fail> {
 #[test]
 fn two_groups_of_one_name(rt: HostRuntime) -> Result<(), Fail> {
     let builder = groups(rt.alloc(), "a", "a", false)?;
-    let Err(error) = built(rt.alloc(), &builder, StateID::ZERO) else {
+    let Err(error) = built(&builder, StateID::ZERO) else {
         panic!(rt; "the groups were taken");
     };
     let text = format!(in rt.alloc(); "{error}")?;
@@ -336,7 +335,6 @@ fn chain(alloc: Global) -> Result<(Builder, StateID), BuildError>
 
 /// Builds in a number of moves that is known beforehand.
 fn build_bounded<L: Ledger>(
-    alloc: Global,
     builder: &Builder,
     start: StateID,
     steps: &mut Steps<L>,
@@ -345,12 +343,11 @@ fn build_bounded<L: Ledger>(
     requires len { length builder.now.parts ≡ 1001 }
     ensures { steps.new ≤ steps.old + 2002 }
 {
-    builder.build(alloc, start, start, steps)
+    builder.build(start, start, steps)
 }
 
 /// The same, and counts the moves.
 fn build_chain<L: Ledger>(
-    alloc: Global,
     builder: &Builder,
     start: StateID,
     blank: Blank,
@@ -362,7 +359,7 @@ fn build_chain<L: Ledger>(
     requires some { 0 < blank.parts }
 {
     let mut steps = Steps::<L>::new(blank);
-    build_bounded(alloc, builder, start, &mut steps)
+    build_bounded(builder, start, &mut steps)
 }
 
 #[test]
@@ -370,7 +367,7 @@ fn empty_states_are_left_out(rt: HostRuntime) -> Result<(), Fail> {
     let (builder, start) = chain(rt.alloc())?;
     assert_eq!(rt; builder.memory_usage(), 24_024);
     assert!(rt; builder.can_build(start, start));
-    let nfa = build_chain::<Brand>(rt.alloc(), &builder, start, Blank::new(1))?;
+    let nfa = build_chain::<Brand>(&builder, start, Blank::new(1))?;
     assert_eq!(rt; nfa.states().len(), 1);
     assert_eq!(rt; nfa.start_anchored(), StateID::ZERO);
     assert_eq!(rt; nfa.start_pattern(PatternID::ZERO), Some(StateID::ZERO));

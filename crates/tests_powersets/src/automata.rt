@@ -11,7 +11,6 @@ use std::sync::ledger::{Blank, Ledger};
 
 /// Builds, and counts the moves.
 fn build_counted<L: Ledger>(
-    alloc: Global,
     builder: &Builder,
     anchored: StateID,
     unanchored: StateID,
@@ -23,7 +22,7 @@ fn build_counted<L: Ledger>(
     requires some { 0 < blank.parts }
 {
     let mut steps = Steps::<L>::new(blank);
-    builder.build(alloc, anchored, unanchored, &mut steps)
+    builder.build(anchored, unanchored, &mut steps)
 }
 
 /// The automaton that starts in these states, or one that never matches where the builder says that it
@@ -37,7 +36,7 @@ pub(crate) fn built(
     if !builder.can_build(anchored, unanchored) {
         return Ok(NFA::never_match(alloc)?);
     }
-    let nfa = build_counted::<Brand>(alloc, builder, anchored, unanchored, Blank::new(1))?;
+    let nfa = build_counted::<Brand>(builder, anchored, unanchored, Blank::new(1))?;
     Ok(nfa)
 }
 

@@ -9,7 +9,7 @@ use Rattle.nfa_core.specs.Runs.{IsChain, last_or}
 use Rattle.nfa_core.specs.Places.{same_pair}
 use Rattle.nfa_core.specs.Ways.{Text, match_of}
 use Rattle.nfa_core.specs.Drafted.{drafted, Table, table_ways, table_match}
-use Rattle.nfa_core.proofs.MemberLemmas.{none_in}
+use Rattle.nfa_core.proofs.ForCallers.{none_in}
 use Rattle.thompson_nfa.specs.Denotes.{at, seen, IsMeant, ComesToEnd, Denotes}
 use Rattle.thompson_nfa.proofs.WayLemmas.{match_has_no_ways}
 use Rattle.thompson_nfa.proofs.LeadLemmas.{Chain}

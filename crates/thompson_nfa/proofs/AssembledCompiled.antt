@@ -9,7 +9,7 @@ use Rattle.nfa_core.specs.Nfa.{Automaton}
 use Rattle.nfa_core.specs.NfaValue.{Nfa, free_steps, reached_freely, has_empty, memory_of}
 use Rattle.nfa_core.specs.BuilderStates.{Assembly}
 use Rattle.nfa_core.specs.Renaming.{past, automaton_of}
-use Rattle.nfa_core.proofs.SizeLemmas.{smaller}
+use Rattle.nfa_core.proofs.ForCallers.{smaller}
 use Rattle.thompson_nfa.specs.Compiled.{sum_of_bytes}
 use Rattle.thompson_nfa.specs.Configs.{Options, reverse_of, is_shrunk}
 use Rattle.thompson_nfa.specs.Room.{list_room}

@@ -14,11 +14,7 @@ use Rattle.nfa_core.specs.NfaValue.{is_match, free_steps, reached_freely, has_em
 use Rattle.nfa_core.specs.Ways.{Text, node_ways, on_nothing, ways, match_of, matched}
 use Rattle.nfa_core.specs.BuilderStates.{Assembly, part_at}
 use Rattle.nfa_core.specs.Renaming.{new_name, automaton_of}
-use Rattle.nfa_core.proofs.MemberLemmas.{none_in, has_cons, has_same, has_first, has_later}
-use Rattle.nfa_core.proofs.PairLemmas.{names_equal, pairs_equal, from_map}
-use Rattle.nfa_core.proofs.AutomatonLemmas.{match_is}
-use Rattle.nfa_core.proofs.EndsLemmas.{listed_run, chain_listed}
-use Rattle.nfa_core.proofs.RenamingEnds.{name_inside, is_well_formed}
+use Rattle.nfa_core.proofs.ForCallers.{none_in, has_cons, has_same, has_first, has_later, names_equal, pairs_equal, from_map, match_is, listed_run, chain_listed, name_inside, is_well_formed}
 use Rattle.thompson_nfa.specs.Configs.{Options, reverse_of}
 use Rattle.thompson_nfa.specs.Denotes.{IsMeant}
 use Rattle.thompson_nfa.specs.Compilations.{start_of}

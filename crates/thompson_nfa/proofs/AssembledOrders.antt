@@ -14,7 +14,7 @@ use Rattle.nfa_core.specs.Ways.{Text, span, ends_from}
 use Rattle.nfa_core.specs.BuilderStates.{Assembly, part_at}
 use Rattle.nfa_core.specs.Renaming.{new_name, automaton_of}
 use Rattle.nfa_core.specs.Drafted.{table_ways, table_match}
-use Rattle.nfa_core.proofs.RenamingEnds.{ends_listed}
+use Rattle.nfa_core.proofs.ForCallers.{ends_listed}
 use Rattle.thompson_nfa.specs.Configs.{Options, reverse_of}
 use Rattle.thompson_nfa.specs.Denotes.{seen}
 use Rattle.thompson_nfa.specs.Compilations.{choices_from, places_from, start_of, FindsInOrder}

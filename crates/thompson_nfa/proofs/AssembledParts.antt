@@ -10,9 +10,7 @@ use Rattle.nfa_core.specs.Ways.{matched, match_of}
 use Rattle.nfa_core.specs.BuilderStates.{Part, empty_part, range_part, sparse_part, look_part, capture_start_part, capture_end_part, union_part, union_reverse_part, fail_part, match_part, part_at, Assembly}
 use Rattle.nfa_core.specs.Drafted.{drafted}
 use Rattle.nfa_core.specs.Renaming.{stands_for, past, kept, new_name, renamed, automaton_of}
-use Rattle.nfa_core.proofs.AutomatonLemmas.{match_is}
-use Rattle.nfa_core.proofs.RenamingLemmas.{past_inside, past_stands, past_twice, past_next}
-use Rattle.nfa_core.proofs.RenamingAutomaton.{one_state, state_named, state_match}
+use Rattle.nfa_core.proofs.ForCallers.{match_is, past_inside, past_stands, past_twice, past_next, one_state, state_named, state_match}
 use Rattle.thompson_nfa.specs.Configs.{Options, reverse_of, is_shrunk}
 use Rattle.thompson_nfa.specs.Room.{list_room}
 use Rattle.thompson_nfa.specs.Compilations.{HasOneMatch}

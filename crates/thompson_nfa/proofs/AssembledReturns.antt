@@ -11,7 +11,7 @@ use Rattle.nfa_core.specs.NfaValue.{Nfa}
 use Rattle.nfa_core.specs.Ways.{Text, ways}
 use Rattle.nfa_core.specs.BuilderStates.{Assembly, part_at}
 use Rattle.nfa_core.specs.Renaming.{new_name, automaton_of}
-use Rattle.nfa_core.proofs.RenamingEnds.{chains_once}
+use Rattle.nfa_core.proofs.ForCallers.{chains_once}
 use Rattle.thompson_nfa.specs.Configs.{Options, reverse_of}
 use Rattle.thompson_nfa.specs.Denotes.{ComesToEnd}
 use Rattle.thompson_nfa.specs.Compilations.{HasNoReturn}

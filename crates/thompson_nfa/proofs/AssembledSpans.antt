@@ -15,7 +15,7 @@ use Rattle.nfa_core.specs.Ways.{Text, span, ends_from}
 use Rattle.nfa_core.specs.BuilderStates.{Assembly, part_at}
 use Rattle.nfa_core.specs.Renaming.{new_name, automaton_of}
 use Rattle.nfa_core.specs.Drafted.{Table}
-use Rattle.nfa_core.proofs.RenamingEnds.{ends_found, found_end}
+use Rattle.nfa_core.proofs.ForCallers.{ends_found, found_end}
 use Rattle.thompson_nfa.specs.Configs.{Options, reverse_of}
 use Rattle.thompson_nfa.specs.Denotes.{IsMeant}
 use Rattle.thompson_nfa.specs.Compilations.{IsChoice, IsReadTo, start_of, FindsSpans}

@@ -9,8 +9,7 @@ use Rattle.nfa_core.specs.Runs.{last_or}
 use Rattle.nfa_core.specs.Places.{same_pair}
 use Rattle.nfa_core.specs.Ways.{Text}
 use Rattle.nfa_core.specs.Drafted.{Table, table_match}
-use Rattle.nfa_core.proofs.MemberLemmas.{none_in, has_cons, has_same, has_later}
-use Rattle.nfa_core.proofs.PairLemmas.{pairs_equal}
+use Rattle.nfa_core.proofs.ForCallers.{none_in, has_cons, has_same, has_later, pairs_equal}
 use Rattle.thompson_nfa.specs.Denotes.{at, seen, IsMeant, Leads, Passes, Reaches, ComesToEnd, Halts, Orders, Denotes}
 use Rattle.thompson_nfa.proofs.WayLemmas.{each_at, at_append, Goes, goes_union}
 use Rattle.thompson_nfa.proofs.LeadLemmas.{Chain, goes_begins, goes_leads, passes_later}

@@ -11,8 +11,7 @@ use Rattle.nfa_core.specs.Walks.{Has, lists_none}
 use Rattle.nfa_core.specs.Places.{same_pair}
 use Rattle.nfa_core.specs.Ways.{Text}
 use Rattle.nfa_core.specs.Drafted.{Table, table_match}
-use Rattle.nfa_core.proofs.MemberLemmas.{none_in, has_cons, has_same, has_first, has_later, has_one}
-use Rattle.nfa_core.proofs.PairLemmas.{pairs_equal, names_equal, from_map}
+use Rattle.nfa_core.proofs.ForCallers.{none_in, has_cons, has_same, has_first, has_later, has_one, pairs_equal, names_equal, from_map}
 use Rattle.thompson_nfa.specs.Denotes.{seen, Leads, ComesToEnd}
 use Rattle.thompson_nfa.specs.Compilations.{IsChoice, choices_from}
 use Rattle.thompson_nfa.specs.Assembled.{Accepts, AcceptAll, LeadsToAll}

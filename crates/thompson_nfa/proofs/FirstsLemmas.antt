@@ -4,8 +4,7 @@ use Rattle.std.specs.Bool.{nat_eq}
 use Rattle.std.specs.List.{flat_map}
 use Rattle.nfa_core.specs.Walks.{join, distinct}
 use Rattle.nfa_core.specs.Places.{same_pair}
-use Rattle.nfa_core.proofs.JoinLemmas.{join-append, join_flat_map}
-use Rattle.nfa_core.proofs.PairLemmas.{pairs_equal, names_equal}
+use Rattle.nfa_core.proofs.ForCallers.{join-append, join_flat_map, pairs_equal, names_equal}
 use Rattle.thompson_nfa.specs.Denotes.{HasSameFirsts}
 
 pub same_firsts_trans : (k l m : List (ℕ × ℕ)) → HasSameFirsts k l → HasSameFirsts l m → HasSameFirsts k m

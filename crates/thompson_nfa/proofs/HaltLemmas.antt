@@ -6,7 +6,7 @@ use Rattle.hir_core.specs.PreferredEnds.{Has as HasEnd}
 use Rattle.nfa_core.specs.Walks.{Lists, lists_none, lists_ways}
 use Rattle.nfa_core.specs.Ways.{Text}
 use Rattle.nfa_core.specs.Drafted.{Table, table_ways, table_match}
-use Rattle.nfa_core.proofs.ListsLemmas.{lists_append}
+use Rattle.nfa_core.proofs.ForCallers.{lists_append}
 use Rattle.thompson_nfa.specs.Denotes.{at, ComesToEnd, Halts}
 use Rattle.thompson_nfa.proofs.WayLemmas.{both_at, Goes}
 

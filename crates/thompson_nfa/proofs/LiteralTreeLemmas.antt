@@ -12,9 +12,7 @@ use Rattle.hir_core.proofs.ForCallers.{Has-left, Has-right, Has-append, Has-if, 
 use Rattle.nfa_core.specs.Drafted.{Table}
 use Rattle.nfa_core.specs.Walks.{Has, distinct}
 use Rattle.nfa_core.specs.Ways.{Text}
-use Rattle.nfa_core.proofs.JoinLemmas.{join_brings, of_join}
-use Rattle.nfa_core.proofs.MemberLemmas.{none_in, has_cons, has_same, has_later}
-use Rattle.nfa_core.proofs.PairLemmas.{names_equal}
+use Rattle.nfa_core.proofs.ForCallers.{join_brings, of_join, none_in, has_cons, has_same, has_later, names_equal}
 use Rattle.thompson_nfa.specs.Denotes.{seen, IsMeant, Orders, Denotes}
 use Rattle.thompson_nfa.specs.LiteralGroups.{behind_byte, chunk_strings}
 use Rattle.thompson_nfa.specs.LiteralStates.{spelt_literal, literals, edge_ranges, edge_trees, item_tree, item_trees}

@@ -7,10 +7,7 @@ use Rattle.hir_core.specs.PreferredEnds.{Has as HasEnd, in_order}
 use Rattle.nfa_core.specs.Walks.{Has, Lists, lists_none, lists_ways, distinct}
 use Rattle.nfa_core.specs.Ways.{Text}
 use Rattle.nfa_core.specs.Drafted.{Table, table_ways, table_match}
-use Rattle.nfa_core.proofs.JoinLemmas.{join_brings, of_join}
-use Rattle.nfa_core.proofs.ListsLemmas.{lists_append, lists_split, one_list}
-use Rattle.nfa_core.proofs.MemberLemmas.{none_in, has_first, has_later}
-use Rattle.nfa_core.proofs.PairLemmas.{names_equal}
+use Rattle.nfa_core.proofs.ForCallers.{join_brings, of_join, lists_append, lists_split, one_list, none_in, has_first, has_later, names_equal}
 use Rattle.thompson_nfa.specs.Denotes.{at, HasSameFirsts, Orders}
 use Rattle.thompson_nfa.proofs.WayLemmas.{at_append, both_at, Goes}
 use Rattle.thompson_nfa.proofs.FirstsLemmas.{same_firsts_trans, same_firsts_append, same_firsts_each}

@@ -6,7 +6,7 @@ use Rattle.nfa_core.specs.Runs.{last_or}
 use Rattle.nfa_core.specs.Places.{same_pair}
 use Rattle.nfa_core.specs.Ways.{Text}
 use Rattle.nfa_core.specs.Drafted.{Table, table_match}
-use Rattle.nfa_core.proofs.MemberLemmas.{none_in}
+use Rattle.nfa_core.proofs.ForCallers.{none_in}
 use Rattle.thompson_nfa.specs.Denotes.{at, Leads, Passes, Reaches}
 use Rattle.thompson_nfa.proofs.WayLemmas.{both_at, has_at, at_has, has_both, both_has_body, both_has_exit, Goes}
 use Rattle.thompson_nfa.proofs.LeadLemmas.{Chain, leads_trans, leads_here, goes_begins, goes_leads, passes_later}

@@ -14,8 +14,7 @@ use Rattle.nfa_core.specs.Runs.{last_or}
 use Rattle.nfa_core.specs.Places.{same_pair}
 use Rattle.nfa_core.specs.Ways.{Text, reads, in_ranges, on_read, place_behind, node_ways, match_of}
 use Rattle.nfa_core.specs.Drafted.{drafted, Table, table_match}
-use Rattle.nfa_core.proofs.MemberLemmas.{none_in, has_one, has_same}
-use Rattle.nfa_core.proofs.PairLemmas.{pairs_equal}
+use Rattle.nfa_core.proofs.ForCallers.{none_in, has_one, has_same, pairs_equal}
 use Rattle.thompson_nfa.specs.Denotes.{at, seen, IsMeant, Leads, Passes, Reaches, ComesToEnd, Halts, Orders, Denotes}
 use Rattle.thompson_nfa.specs.Shared.{read_then, branch_trees, LeadAll}
 use Rattle.thompson_nfa.proofs.WayLemmas.{each_at, byte_ends, Goes}

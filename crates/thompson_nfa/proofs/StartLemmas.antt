@@ -7,7 +7,7 @@ use Rattle.hir_core.specs.Tree.{Tree}
 use Rattle.nfa_core.specs.BuilderStates.{Part, Assembly, empty_part, sparse_part, union_reverse_part, part_at, patched}
 use Rattle.nfa_core.specs.Renaming.{stands_for, going_on, past_within, past, HasNoLoop}
 use Rattle.nfa_core.specs.Drafted.{Table}
-use Rattle.nfa_core.proofs.RenamingLemmas.{past_itself, past_next}
+use Rattle.nfa_core.proofs.ForCallers.{past_itself, past_next}
 use Rattle.thompson_nfa.specs.Added.{Added}
 use Rattle.thompson_nfa.specs.Assembled.{ComesBefore}
 use Rattle.thompson_nfa.specs.Compilations.{is_anchored_tree}

@@ -9,9 +9,7 @@ use Rattle.nfa_core.specs.Walks.{Has}
 use Rattle.nfa_core.specs.Places.{same_pair}
 use Rattle.nfa_core.specs.Ways.{Text, reads, is_passed, in_ranges, on_byte, on_nothing, on_read, place_behind, node_ways, match_of}
 use Rattle.nfa_core.specs.Drafted.{drafted, Table, table_ways, table_match}
-use Rattle.nfa_core.proofs.MemberLemmas.{none_in, has_cons, has_same, has_later}
-use Rattle.nfa_core.proofs.PairLemmas.{pairs_equal}
-use Rattle.nfa_core.proofs.AutomatonLemmas.{match_is}
+use Rattle.nfa_core.proofs.ForCallers.{none_in, has_cons, has_same, has_later, pairs_equal, match_is}
 use Rattle.thompson_nfa.specs.Denotes.{at, choice}
 
 -- ---- a state at several places, and several states at a place

@@ -100,7 +100,7 @@ pub(crate) fn captured(
         return Ok(body);
     }
     let name = clone_name(name, alloc)?;
-    let start = start_group(builder, alloc, index, name)?;
+    let start = start_group(builder, index, name)?;
     let body = compile(builder, alloc, how, shared, x)?;
     let end = end_group(builder, index)?;
     lead(builder, start, body.start)?;

@@ -73,7 +73,6 @@ pub(crate) fn lead(builder: &mut Builder, from: StateID, to: StateID) -> Result<
 #[tactic(auto, using(crate::proofs::CaptureLemmas::start_added, crate::proofs::CaptureLemmas::start_refused))]
 pub(crate) fn start_group(
     builder: &mut Builder,
-    alloc: Global,
     index: u32,
     name: Option<String>,
 ) -> Result<StateID, BuildError>
@@ -81,7 +80,7 @@ pub(crate) fn start_group(
     ensures added { IfOk result (λ id. Added builder.old builder.new id (capture_start_part (length builder.old.starts) index 0) (with_group builder.old.groups (length builder.old.starts) index (option_map string_bytes name))) }
     ensures refused { IfErr result (λ e. QuitsGroup builder.old builder.new index e) }
 {
-    let id = builder.add_capture_start(alloc, StateID::ZERO, index, name)?;
+    let id = builder.add_capture_start(StateID::ZERO, index, name)?;
     Ok(id)
 }
 

@@ -74,7 +74,6 @@ fn told(limit: Option<usize>, err: BuildError) -> BuildError
 /// Builds the automaton, and counts the moves.
 fn build_counted<L: Ledger>(
     builder: &Builder,
-    alloc: Global,
     starts: Starts,
     blank: Blank,
 ) -> Result<NFA, BuildError>
@@ -85,22 +84,21 @@ fn build_counted<L: Ledger>(
     ensures { MatchResult result (λ n. n ≡ nfa_of builder.now starts.anchored starts.unanchored) (λ e. (e ≡ NoMemory) ⊎ Tells e (build_fault builder.now)) }
 {
     let mut steps = Steps::<L>::new(blank);
-    let nfa = builder.build(alloc, starts.anchored, starts.unanchored, &mut steps)?;
+    let nfa = builder.build(starts.anchored, starts.unanchored, &mut steps)?;
     Ok(nfa)
 }
 
 /// Builds the automaton.
-fn build(builder: &Builder, alloc: Global, starts: Starts) -> Result<NFA, BuildError>
+fn build(builder: &Builder, starts: Starts) -> Result<NFA, BuildError>
     requires { CanBuild builder.now starts.anchored starts.unanchored }
     ensures { MatchResult result (λ n. n ≡ nfa_of builder.now starts.anchored starts.unanchored) (λ e. (e ≡ NoMemory) ⊎ Tells e (build_fault builder.now)) }
 {
-    build_counted::<Brand>(builder, alloc, starts, Blank::new(1))
+    build_counted::<Brand>(builder, starts, Blank::new(1))
 }
 
 /// The automaton of what is compiled.
 fn finish(
     builder: &Builder,
-    alloc: Global,
     config: &Config,
     exprs: &[Hir],
     starts: Starts,
@@ -111,7 +109,7 @@ fn finish(
     ensures refused { IfErr result (λ e. RefusesTrees config.now exprs.now e) }
 {
     let _ = (config.get_utf8(), exprs.len());
-    let nfa = build(builder, alloc, starts)?;
+    let nfa = build(builder, starts)?;
     nfa.is_sound();
     reached_states_are_led_to();
     Ok(nfa)
@@ -135,6 +133,6 @@ pub(crate) fn compile_trees(
         Ok(starts) => starts,
         Err(err) => return Err(told(config.get_nfa_size_limit(), err)),
     };
-    let nfa = finish(builder, alloc, config, exprs, starts)?;
+    let nfa = finish(builder, config, exprs, starts)?;
     Ok(nfa)
 }

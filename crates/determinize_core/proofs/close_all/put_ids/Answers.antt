@@ -2,7 +2,7 @@ use Rattle.std.proofs.Common.{◌≡◌, ◌+◌, ℕ, List, length, [], arith, 
 use Rattle.std.specs.Bool.{nat_eq}
 use Rattle.nfa_core.specs.Reached.{AreBelow}
 use Rattle.nfa_core.specs.Walks.{join}
-use Rattle.nfa_core.proofs.ReachedLemmas.{has_from_all, taken_below, left_below}
+use Rattle.nfa_core.proofs.ForCallers.{has_from_all, taken_below, left_below}
 use Rattle.determinize_core.proofs.CloseLemmas.{joins_one}
 use Rattle.determinize_core.proofs.close_all.put_ids.Goals as goal
 

@@ -1,5 +1,5 @@
 use Rattle.std.proofs.Common.{◌≡◌, ◌+◌, ap, ◌∙◌, length, reverse, arith}
-use Rattle.nfa_core.proofs.ReachedLemmas.{taken_below, left_below, passes, meets}
+use Rattle.nfa_core.proofs.ForCallers.{taken_below, left_below, passes, meets}
 use Rattle.determinize_core.proofs.closure.next_fresh.Goals as goal
 
 pub insert-requires : goal.insert-requires

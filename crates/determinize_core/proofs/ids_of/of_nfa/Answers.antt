@@ -1,5 +1,5 @@
 use Rattle.std.proofs.Common.{length, ap, ◌∙◌}
-use Rattle.nfa_core.proofs.ReachedLemmas.{len_nodes}
+use Rattle.nfa_core.proofs.ForCallers.{len_nodes}
 use Rattle.determinize_core.proofs.IdsLemmas.{told_then, told_else}
 use Rattle.determinize_core.proofs.ids_of.of_nfa.Goals as goal
 

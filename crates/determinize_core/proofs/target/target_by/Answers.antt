@@ -3,7 +3,7 @@ use Rattle.nfa_core.specs.Transitions.{range_of}
 use Rattle.nfa_core.specs.States.{node_of}
 use Rattle.nfa_core.specs.Ways.{on_byte}
 use Rattle.nfa_core.specs.declared.state.State.{State}
-use Rattle.nfa_core.proofs.LookedLemmas.{sparse_leads}
+use Rattle.nfa_core.proofs.ForCallers.{sparse_leads}
 use Rattle.determinize_core.proofs.target.target_by.Goals as goal
 
 pub returns-in-Sparse : goal.returns-in-Sparse
