@@ -5,7 +5,7 @@ use std::alloc::Global;
 use std::test::Fail;
 
 /// Sets each of these slots that is kept.
-fn set(captures: &mut Captures, values: &[(usize, usize)]) {
+pub(crate) fn set(captures: &mut Captures, values: &[(usize, usize)]) {
     for (index, value) in values {
         if let Some(slot) = captures.slots_mut().get_mut(*index) {
             *slot = NonMaxUsize::new(*value);
@@ -82,7 +82,7 @@ fn parts_of_a_haystack(rt: HostRuntime) -> Result<(), Fail> {
     let text = captures.extract::<&str, 1>("ab");
     assert_eq!(rt; text, Some(("ab", ["b"])));
     let bytes: &[u8] = &[0x61, 0xC3];
-    assert!(rt; captures.extract::<&[u8], 0>(bytes).is_some());
+    assert!(rt; captures.extract_bytes::<&[u8], 0>(bytes).is_some());
     // a character of two bytes, a haystack of one, and a third group
     assert!(rt; captures.extract::<&str, 1>("é").is_none());
     assert!(rt; captures.extract::<&str, 1>("a").is_none());

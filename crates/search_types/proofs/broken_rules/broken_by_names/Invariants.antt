@@ -1,0 +1,12 @@
+use Rattle.std.proofs.Common.{◌≡◌, ◌+◌, ◌*◌, ◌<◌, ◌≤◌, [], length, take, drop, is_some}
+use Rattle.std.specs.List.{position}
+use Rattle.search_core.specs.Index.{greatest_index}
+use Rattle.search_types.specs.Groups.{is_named, implicit_slot_len}
+use Rattle.search_types.specs.GroupFaults.{names_in, groups_in, fault_after, names_fault, slots_fault}
+use Rattle.search_types.proofs.broken_rules.broken_by_names.Given as goal
+
+abbrev pub invariant-loop-index : goal.invariant-loop-index
+invariant-loop-index l = record {
+  in_range : l.index ≤ greatest_index + 1;
+  fault : names_fault l.index (groups_in (drop l.index l.groups)) ≡ names_fault 0 (groups_in l.groups);
+}
