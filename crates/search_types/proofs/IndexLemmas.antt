@@ -2,10 +2,10 @@
 use Rattle.std.proofs.Common.{◌≡◌, ℕ, suc, ◌<◌, ◌≤◌, Bool, true, false, List, [], ◌∷◌, ◌++◌, length, refl, sym, ap, ◌∙◌, subst, inl, inr, arith, Some, None, is_some}
 use Rattle.std.specs.Prelude.{Option, nat_lt, if◌then◌else◌, String, string_bytes}
 use Rattle.std.specs.Option.{option_or, option_map}
-use Rattle.std.specs.List.{position, AllZip}
+use Rattle.std.specs.List.{position}
 use Rattle.std.specs.Str.{bytes_eq}
-use Rattle.std.specs.Map.{update, lookup}
-use Rattle.std.specs.HashMap.{HashMap, get_by_text, Updates, IsClone}
+use Rattle.std.specs.Map.{update}
+use Rattle.std.specs.HashMap.{HashMap, get_by_text, Updates}
 use Rattle.std.specs.String.{string_eq}
 use Rattle.std.proofs.lemmas.Bool.{cases_Bool, cond-true, cond-false, lt-ltb, le-ltb}
 use Rattle.std.proofs.lemmas.List.{length-map}
@@ -14,7 +14,7 @@ use Rattle.search_core.specs.Index.{greatest_index}
 use Rattle.std.proofs.lemmas.Map.Text.{hash_map_updates_text}
 use Rattle.search_types.specs.Groups.{Name, is_named}
 use Rattle.search_types.specs.GroupFaults.{names_in, TooManyGroups, Duplicate, name_fault, group_fault_after}
-use Rattle.search_types.specs.GroupIndices.{FindsEach, IsIndexed}
+use Rattle.search_types.specs.GroupIndices.{FindsEach}
 
 -- ---- the first place
 pub position_first : {X : Type 0} (p : X → Bool) (x : X) (xs : List X) → p x ≡ true → position p (x ∷ xs) ≡ Some 0

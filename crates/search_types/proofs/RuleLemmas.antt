@@ -1,14 +1,13 @@
 -- Whether a group has the name of an earlier one, as a loop over these finds it, and what rule it breaks then.
-use Rattle.std.proofs.Common.{◌≡◌, ℕ, suc, ◌+◌, ◌-◌, ◌*◌, ◌<◌, ◌≤◌, Bool, true, false, List, [], ◌∷◌, ◌++◌, length, take, drop, get_or, min, refl, sym, ap, ◌∙◌, arith, Some, None, is_some}
-use Rattle.std.specs.Prelude.{Option, nat_lt, if◌then◌else◌, String, string_bytes, Vec}
-use Rattle.std.specs.Option.{option_or, option_map}
+use Rattle.std.proofs.Common.{◌≡◌, ℕ, suc, ◌+◌, ◌<◌, ◌≤◌, Bool, true, false, List, ◌∷◌, length, drop, get_or, refl, sym, ap, ◌∙◌, arith, Some, None, is_some}
+use Rattle.std.specs.Prelude.{Option, String, string_bytes}
+use Rattle.std.specs.Option.{option_map}
 use Rattle.std.specs.List.{position}
 use Rattle.std.specs.Str.{bytes_eq}
-use Rattle.std.proofs.lemmas.Bool.{cond-true, cond-false, lt-ltb, le-ltb}
-use Rattle.std.proofs.lemmas.List.{drop_more, take_more, map-append, length-map}
+use Rattle.std.proofs.lemmas.List.{drop_more, length-map}
 use Rattle.search_core.specs.Index.{greatest_index}
 use Rattle.search_types.specs.Groups.{Name, is_named}
-use Rattle.search_types.specs.GroupFaults.{GroupFault, TooManyGroups, Duplicate, names_in, groups_in, group_fault_after, fault_after, numbered_fault, names_fault, slots_end, end_fault, slots_fault}
+use Rattle.search_types.specs.GroupFaults.{Duplicate, names_in, group_fault_after}
 use Rattle.search_types.proofs.IndexLemmas.{position_first, position_later, fault_duplicate, fault_new_name}
 
 is_some-option_map : {A B : Type 0} (f : A → B) (o : Option A) → is_some (option_map f o) ≡ is_some o

@@ -1,9 +1,9 @@
 -- Groups of a pattern that break no rule: whatever the pattern's number is, one after the other, and as they are indexed.
-use Rattle.std.proofs.Common.{◌≡◌, ℕ, suc, ◌+◌, ◌<◌, ◌≤◌, Bool, true, false, List, [], ◌∷◌, ◌++◌, length, drop, get_or, refl, sym, ap, ◌∙◌, arith, Some, None, is_some, inl, inr}
+use Rattle.std.proofs.Common.{◌≡◌, ℕ, ◌+◌, ◌<◌, ◌≤◌, Bool, true, false, List, [], ◌∷◌, ◌++◌, length, drop, get_or, refl, sym, ap, ◌∙◌, arith, Some, None, is_some, inl, inr}
 use Rattle.std.specs.Prelude.{Option, nat_lt, if◌then◌else◌, String, string_bytes, Vec}
 use Rattle.std.specs.Option.{option_or, option_map}
 use Rattle.std.specs.List.{position}
-use Rattle.std.specs.HashMap.{HashMap, get_by_text, Updates}
+use Rattle.std.specs.HashMap.{HashMap, Updates}
 use Rattle.std.specs.String.{string_eq}
 use Rattle.std.proofs.lemmas.Bool.{cases_lt, lt-ltb}
 use Rattle.std.proofs.lemmas.List.{length-map, drop_more}

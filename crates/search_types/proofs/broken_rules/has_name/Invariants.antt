@@ -1,8 +1,7 @@
-use Rattle.std.proofs.Common.{◌≡◌, ◌+◌, ◌*◌, ◌<◌, ◌≤◌, [], length, take, drop, is_some}
+use Rattle.std.proofs.Common.{◌≡◌, drop, is_some}
 use Rattle.std.specs.List.{position}
-use Rattle.search_core.specs.Index.{greatest_index}
-use Rattle.search_types.specs.Groups.{is_named, implicit_slot_len}
-use Rattle.search_types.specs.GroupFaults.{names_in, groups_in, fault_after, names_fault, slots_fault}
+use Rattle.search_types.specs.Groups.{is_named}
+use Rattle.search_types.specs.GroupFaults.{names_in}
 use Rattle.search_types.proofs.broken_rules.has_name.Given as goal
 
 abbrev pub invariant-loop-group : goal.invariant-loop-group
