@@ -1,24 +1,17 @@
--- What other crates' proofs may cite of this crate's, beside its public functions: lemmas on graphs, walks and runs.
-pub use Rattle.nfa_core.proofs.PairLemmas.{names_equal, pairs_equal}
-pub use Rattle.nfa_core.proofs.MemberLemmas.{none_in, not_both}
--- members of lists
-pub use Rattle.nfa_core.proofs.MemberLemmas.{has_first}
--- what passes a test is kept by it
-pub use Rattle.nfa_core.proofs.RunLemmas.{has_filter}
--- values of options
-pub use Rattle.nfa_core.proofs.PreferenceLemmas.{one_value, no_value}
--- ends of runs lie where reading the text leads
-pub use Rattle.nfa_core.proofs.InsideLemmas.{ends_inside}
+-- What other crates' proofs may cite of this crate's, beside its public functions.
+
 -- ---- equality, and members of lists
+
 -- names are equal, and pairs are, where the test says so; the names below a bound are finitely many
-pub use Rattle.nfa_core.proofs.PairLemmas.{same_here, from_map, finite_names}
+pub use Rattle.nfa_core.proofs.PairLemmas.{names_equal, pairs_equal, same_here, from_map, finite_names}
 -- nothing is in an empty list; a thing is in a list or not; what is in a longer list, and what holds of all in it
-pub use Rattle.nfa_core.proofs.MemberLemmas.{has_or_not, has_cons, has_same, has_one, has_later, of_cons, of_append, of_push, of_flat_map}
+pub use Rattle.nfa_core.proofs.MemberLemmas.{none_in, not_both, has_or_not, has_cons, has_first, has_same, has_one, has_later, of_cons, of_append, of_push, of_flat_map}
 -- a list joined to what was there: in two parts, without repeats, all that comes, and no more; repeats below a flat_map
 pub use Rattle.nfa_core.proofs.JoinLemmas.{join-append, join_once, join_brings, of_join, join_flat_map}
 -- an optional value is there or not, and is one value
-pub use Rattle.nfa_core.proofs.PreferenceLemmas.{option_cases}
+pub use Rattle.nfa_core.proofs.PreferenceLemmas.{option_cases, one_value, no_value}
 -- ---- walks and runs
+
 -- walks of two lists are one walk; a walk comes to one list, and to the same where nothing in it has more ways
 pub use Rattle.nfa_core.proofs.StepLemmas.{joined, one_after, stays_closed}
 -- closed anew from what was kept, what is kept is what it would have been
@@ -32,7 +25,7 @@ pub use Rattle.nfa_core.proofs.ExistLemmas.{walk_from}
 -- lists of states by place: the latest match is the first end, and each list has the ends at its place
 pub use Rattle.nfa_core.proofs.BehindLemmas.{latest_is_preferred, list_matches}
 -- runs end within the text that there is to read, and what such places are for one who reads up, or down
-pub use Rattle.nfa_core.proofs.InsideLemmas.{inside_up, inside_down}
+pub use Rattle.nfa_core.proofs.InsideLemmas.{ends_inside, inside_up, inside_down}
 -- no run is empty where none may be
 pub use Rattle.nfa_core.proofs.HereLemmas.{none_here}
 -- the lists and the first end are those of each text that is alike up to where the walk is over
@@ -40,6 +33,7 @@ pub use Rattle.nfa_core.proofs.OverLemmas.{other_lists, first_same}
 -- texts are alike where the looks of the states are read alike
 pub use Rattle.nfa_core.proofs.ReadAlikeLemmas.{alike_by_looks, alike_up}
 -- ---- states, and the bytes and looks that they have
+
 -- what a state leads to by what is read, and without a byte, is named by it; what matches is a match
 pub use Rattle.nfa_core.proofs.AutomatonLemmas.{read_led, nothing_led, match_is}
 -- the set of looks has the looks of states; where a sparse state leads
@@ -51,6 +45,7 @@ pub use Rattle.nfa_core.proofs.SameTextLemmas.{ways_alike, ends_alike}
 -- the walk with a stack over an automaton's states: names below a bound, and what a step of the walk does
 pub use Rattle.nfa_core.proofs.ReachedLemmas.{has_from_all, taken_below, left_below, len_nodes, passes, meets}
 -- ---- what is built of a builder's states
+
 -- past a state there is one that stands for itself, and it stays where it is
 pub use Rattle.nfa_core.proofs.RenamingLemmas.{past_itself, past_inside, past_stands, past_twice, past_next}
 -- no two kept states have one name, each name is one's, and a kept state matches what it matched
@@ -61,3 +56,5 @@ pub use Rattle.nfa_core.proofs.RenamingEnds.{name_inside, is_well_formed, ends_l
 pub use Rattle.nfa_core.proofs.TableLemmas.{ends_kept}
 -- the automaton needs no more bytes than the builder
 pub use Rattle.nfa_core.proofs.SizeLemmas.{smaller}
+-- what passes a test is kept by it
+pub use Rattle.nfa_core.proofs.RunLemmas.{has_filter}

@@ -6,7 +6,7 @@ use Rattle.search_types.proofs.AllAnswersLemmas.{no_answer_is_cut_off}
 use Rattle.search_types.specs.Chains.{IsTaken, IsNext, IsChain, IsWholeChain, TellsAnswers}
 
 module _ (answer : ℕ → Option Found) (low e : ℕ) (answers : ℕ → Option Found → Type 0)
-  (one : TellsAnswers answers answer low e) (ok : AnswersWithin answer e) where
+    (one : TellsAnswers answers answer low e) (ok : AnswersWithin answer e) where
   -- where the next search is from: behind an answer within the span, or as first asked
   abbrev IsPlace : Option ℕ → ℕ → Type 0
   IsPlace None at = (low ≤ at) × (at ≤ e + 1)

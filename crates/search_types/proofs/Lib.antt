@@ -10,4 +10,6 @@ pub mod GroupLaws
 pub mod AllAnswersLemmas
 pub mod ChainLemmas
 pub mod FirstLemmas
+pub mod RuleLemmas
+pub mod SoundLemmas
 pub mod ForCallers

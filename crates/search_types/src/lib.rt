@@ -7,6 +7,7 @@
 pub mod all_answers_laws;
 mod anchored;
 pub mod answer_laws;
+mod broken_rules;
 mod captures;
 mod captures_iter;
 pub mod captures_laws;

@@ -5,7 +5,7 @@ use std::alloc::Global;
 use std::test::Fail;
 
 /// Sets each of these slots that is kept.
-fn set(captures: &mut Captures, values: &[(usize, usize)]) {
+pub(crate) fn set(captures: &mut Captures, values: &[(usize, usize)]) {
     for (index, value) in values {
         if let Some(slot) = captures.slots_mut().get_mut(*index) {
             *slot = NonMaxUsize::new(*value);
@@ -93,7 +93,7 @@ fn copy_of_a_match(rt: HostRuntime) -> Result<(), Fail> {
 fn has_parts(captures: &Captures) -> [bool; 4] {
     let bytes: &[u8] = &[0x61, 0xC3];
     [
-        captures.extract::<&[u8], 0>(bytes).is_some(),
+        captures.extract_bytes::<&[u8], 0>(bytes).is_some(),
         captures.extract::<&str, 1>("é").is_some(),
         captures.extract::<&str, 1>("a").is_some(),
         captures.extract::<&str, 2>("ab").is_some(),

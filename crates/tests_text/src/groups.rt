@@ -4,7 +4,10 @@ use std::alloc::{AllocError, Global};
 use std::test::Fail;
 
 /// The names of a pattern's groups.
-fn names(alloc: Global, texts: &[Option<&str>]) -> Result<Vec<Option<String>>, AllocError> {
+pub(crate) fn names(
+    alloc: Global,
+    texts: &[Option<&str>],
+) -> Result<Vec<Option<String>>, AllocError> {
     let mut names = Vec::new(alloc);
     for text in texts {
         match text {

@@ -1,4 +1,4 @@
-use Rattle.std.proofs.Common.{◌≡◌, ℕ, ◌<◌, get_or, length, rules, ap, sym, arith}
+use Rattle.std.proofs.Common.{◌≡◌, ℕ, ◌<◌, get_or, length, rules, ap, arith}
 use Rattle.search_core.specs.Marks.{marks_below}
 use Rattle.search_core.proofs.RisingLemmas.{marks_make_rising}
 use Rattle.search_core.proofs.class_set.ByteClassSet.byte_classes.Goals as goal
