@@ -10,10 +10,7 @@ use Rattle.std.proofs.lemmas.List.{reverse-append, reverse-reverse, map-append}
 use Rattle.std.proofs.lemmas.Iterator.Adapters.{YieldsList-from_rev_slice}
 use Rattle.std.proofs.lemmas.Iterator.Consumers.{YieldsList-end}
 use denote.Ref.{Bor}
-
--- the end of a slice, of which the last element was met first
-abbrev pub behind : {A : Type 0} → List (Bor A) → List A
-behind met = reverse (map (λ y. y.now) met)
+use Rattle.hir_core.specs.Backward.{behind}
 
 pub behind_more : {A : Type 0} (met : List (Bor A)) (x : Bor A) → behind (met ++ x ∷ []) ≡ x.now ∷ behind met
 behind_more met x = ap reverse (map-append (λ y. y.now) met (x ∷ [])) ∙ reverse-append (map (λ y. y.now) met) (x.now ∷ [])

@@ -82,3 +82,8 @@ pub use Rattle.hir_core.proofs.SequenceTreeLemmas.{class_ends, sequences_read}
 
 -- there are so many sequences as the count of states takes
 pub use Rattle.hir_core.proofs.SequenceTreeLemmas.{sequences_counted}
+
+-- ---- loops that go backwards over a slice
+
+-- one more element that was met stands before those behind it; at the end all was met
+pub use Rattle.hir_core.proofs.BackwardLemmas.{behind_more, behind_all}
