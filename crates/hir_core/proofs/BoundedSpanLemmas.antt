@@ -17,7 +17,8 @@ spans_end_whole : (looks : Looks) (h : List ℕ) (x : Tree) (i j : ℕ) → IsVa
 spans_end_whole looks h x i j v u m l within =
     let behind : IsValidText (drop i h) = valid_behind h i v (omega arith) (spans_start_whole looks h x i j v u m l within) in
     let sum : i + (j - i) ≡ j = omega arith in
-    let parts : IsValidText (take (j - i) (drop i h) ++ drop (j - i) (drop i h)) = subst IsValidText (sym (take-append-drop (j - i) (drop i h))) behind in
+    let parts : IsValidText (take (j - i) (drop i h) ++ drop (j - i) (drop i h)) =
+    subst IsValidText (sym (take-append-drop (j - i) (drop i h))) behind in
     let rest : IsValidText (drop j h) = subst IsValidText (drop-drop (j - i) i h ∙ ap (λ k. drop k h) sum)
     (rest_valid (take (j - i) (drop i h)) (drop (j - i) (drop i h)) (utf8_sound looks h x i j u m) parts) in
     behind_whole h j within rest
@@ -32,4 +33,5 @@ span_end_bounded looks h x i j v u m l within = unsplit_boundary h j v within (s
 
 pub spans_bounded : (looks : Looks) (h : List ℕ) (x : Tree) (i j : ℕ) → IsValidText h → is_utf8_tree x ≡ true →
     Means looks h x i j → i < j → j ≤ length h → (is_boundary h i ≡ true) × (is_boundary h j ≡ true)
-spans_bounded looks h x i j v u m l within = (span_start_bounded looks h x i j v u m l within, span_end_bounded looks h x i j v u m l within)
+spans_bounded looks h x i j v u m l within =
+    (span_start_bounded looks h x i j v u m l within, span_end_bounded looks h x i j v u m l within)

@@ -1,5 +1,5 @@
 -- An empty span of a tree, wherever it is, is one that the tree means without bytes where each look holds.
-use Rattle.std.proofs.Common.{◌≡◌, ℕ, zero, suc, ◌-◌, ◌≤◌, true, List, [], ◌∷◌, take, drop, inl, inr, refl, arith}
+use Rattle.std.proofs.Common.{◌≡◌, ℕ, zero, suc, ◌-◌, ◌≤◌, List, [], ◌∷◌, take, drop, inl, inr, refl, arith}
 use Rattle.std.proofs.lemmas.List.{length-take}
 use Rattle.search_core.proofs.ForCallers.{spelling_some}
 use Rattle.hir_core.specs.Tree.{Tree, empty, literal, byte_class, char_class, look, repetition, capture, nothing, cat, never, alt}

@@ -14,7 +14,8 @@ use Rattle.hir_core.proofs.PreferredEndsLemmas.{preferred_ends_sound, preferred_
 use Rattle.hir_core.proofs.CutLemmas.{cut_to_whole, whole_to_cut}
 
 -- two bodies with the same ends at each place of a set, from which no end leads out
-module _ (In : ℕ → Type 0) (greedy : Bool) (b c : Ends) (same : (i : ℕ) → In i → b i ≡ c i) (stays : (i j : ℕ) → In i → Has (b i) j → In j) where
+module _ (In : ℕ → Type 0) (greedy : Bool) (b c : Ends) (same : (i : ℕ) → In i → b i ≡ c i)
+    (stays : (i j : ℕ) → In i → Has (b i) j → In j) where
   flat_same : (p q : Ends) → ((i : ℕ) → In i → p i ≡ q i) → (i : ℕ) → In i → flat_map p (b i) ≡ flat_map q (c i)
   flat_same p q each i here = flat_map_same p q (b i) (λ k r. each k (stays i k here r)) ∙ ap (flat_map q) (same i here)
 
@@ -29,7 +30,8 @@ module _ (In : ℕ → Type 0) (greedy : Bool) (b c : Ends) (same : (i : ℕ) �
   between_same : (min most i : ℕ) → In i → between greedy b min most i ≡ between greedy c min most i
   between_same zero most i here = up_to_same most i here
   between_same (suc min) zero i here = refl
-  between_same (suc min) (suc most) i here = flat_same (between greedy b min most) (between greedy c min most) (between_same min most) i here
+  between_same (suc min) (suc most) i here =
+      flat_same (between greedy b min most) (between greedy c min most) (between_same min most) i here
 
   repeated_same : (h : List ℕ) (min : ℕ) (most : Option ℕ) (i : ℕ) → In i → repeated h min most greedy b i ≡ repeated h min most greedy c i
   repeated_same h min None i here = at_least_same h min i here
@@ -75,7 +77,8 @@ module _ (f g : Looks) (h : List ℕ) (s e : ℕ) (fits : e ≤ length h) where
   cut_length : length (take e h) ≡ e
   cut_length = omega (arith, length-take e h)
 
-  pub same_ends_within : (x : Tree) → AgreeFrom f g s e x → (i : ℕ) → s ≤ i → i ≤ e → preferred_ends f (take e h) x i ≡ preferred_ends g (take e h) x i
+  pub same_ends_within : (x : Tree) → AgreeFrom f g s e x → (i : ℕ) → s ≤ i → i ≤ e →
+      preferred_ends f (take e h) x i ≡ preferred_ends g (take e h) x i
   same_ends_within x a i low high =
       let n = cut_length in
       same_ends_from f g (take e h) s x (λ l t k from to. a l t k from (omega arith)) i (low, omega arith)

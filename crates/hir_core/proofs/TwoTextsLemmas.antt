@@ -65,11 +65,13 @@ module _ (f g : Looks) (h k : List ℕ) (s e : ℕ) (len : length h ≡ length k
 
 -- Two haystacks with the same bytes from s to e, and readings that agree at the places from s to e: the agreement behind e
 -- doesn't count, as the bytes are cut there.
-module _ (f g : Looks) (h k : List ℕ) (s e : ℕ) (fits : e ≤ length h) (fits_too : e ≤ length k) (same : drop s (take e h) ≡ drop s (take e k)) where
+module _ (f g : Looks) (h k : List ℕ) (s e : ℕ) (fits : e ≤ length h) (fits_too : e ≤ length k)
+    (same : drop s (take e h) ≡ drop s (take e k)) where
   cut_tails : (i : ℕ) → s ≤ i → drop i (take e h) ≡ drop i (take e k)
   cut_tails i l =
       let sum : s + (i - s) ≡ i = omega arith in
-      ap (λ n. drop n (take e h)) (sym sum) ∙ sym (drop-drop (i - s) s (take e h)) ∙ ap (drop (i - s)) same ∙ drop-drop (i - s) s (take e k) ∙ ap (λ n. drop n (take e k)) sum
+      ap (λ n. drop n (take e h)) (sym sum) ∙ sym (drop-drop (i - s) s (take e h)) ∙ ap (drop (i - s)) same
+      ∙ drop-drop (i - s) s (take e k) ∙ ap (λ n. drop n (take e k)) sum
 
   cut_len : length (take e h) ≡ length (take e k)
   cut_len = omega (arith, length-take e h, length-take e k)

@@ -1,5 +1,5 @@
 -- Where two readings of looks are alike, and the reading under which each look holds.
-use Rattle.std.specs.Prelude.{◌≡◌, ℕ, ◌≤◌, Bool, true}
+use Rattle.std.specs.Prelude.{◌≡◌, ℕ, ◌≤◌, true}
 use Rattle.look_core.specs.declared.look.Look.{Look}
 use Rattle.look_core.specs.LookSets.{has_look}
 use Rattle.hir_core.specs.Tree.{Tree}

@@ -13,3 +13,4 @@ pub mod BySequences
 pub mod Agree
 pub mod Pieces
 pub mod Spans
+pub mod Backward

@@ -15,7 +15,8 @@ IsPiece f e =
     (f ≤ e)
     × ((e ≤ 0x7F)
     ⊎ (((0x80 ≤ f) × (e ≤ 0x7FF) × Blocks f e)
-    ⊎ (((0x800 ≤ f) × (e ≤ 0xD7FF) × Blocks f e) ⊎ (((0xE000 ≤ f) × (e ≤ 0xFFFF) × Blocks f e) ⊎ ((0x10000 ≤ f) × (e ≤ 0x10FFFF) × Blocks f e)))))
+    ⊎ (((0x800 ≤ f) × (e ≤ 0xD7FF) × Blocks f e)
+    ⊎ (((0xE000 ≤ f) × (e ≤ 0xFFFF) × Blocks f e) ⊎ ((0x10000 ≤ f) × (e ≤ 0x10FFFF) × Blocks f e)))))
 
 -- a piece between two numbers
 abbrev pub IsPieceOf : ℕ → ℕ → ℕ × ℕ → Type 0

@@ -53,7 +53,8 @@ digit_read c i v None e = absurd cc
 
 -- ---- pairs of digits
 
-bind_ok : {A B : Type 0} (r : Result A FromHexError) (f : A → Result B FromHexError) (y : B) → (r >>= f) ≡ Ok y → (x : A) × (r ≡ Ok x) × (f x ≡ Ok y)
+bind_ok : {A B : Type 0} (r : Result A FromHexError) (f : A → Result B FromHexError) (y : B) → (r >>= f) ≡ Ok y →
+    (x : A) × (r ≡ Ok x) × (f x ≡ Ok y)
 bind_ok (Ok x) f y e = (x, refl, e)
 bind_ok (Err x) f y e = absurd cc
 
@@ -109,7 +110,8 @@ pairs_say i (a ∷ c ∷ w) bytes e =
     let P : List ℕ → Type 0 = λ bs. (k : ℕ) → k < length bs → SpellsAt (a ∷ c ∷ w) bs k in
     subst P same (all_spelled a c byte.0 w rest.0 first (pairs_say (i + 2) w rest.0 rest.1))
 
-pairs_said : (i : ℕ) (w bytes : List ℕ) → length w ≡ 2 * length bytes → ((k : ℕ) → k < length bytes → SpellsAt w bytes k) → decode_pairs i w ≡ Ok bytes
+pairs_said : (i : ℕ) (w bytes : List ℕ) → length w ≡ 2 * length bytes → ((k : ℕ) → k < length bytes → SpellsAt w bytes k) →
+    decode_pairs i w ≡ Ok bytes
 unfolding decode_pairs
 pairs_said i [] [] l each = refl
 pairs_said i [] (b ∷ bs) l each = absurd (omega arith)

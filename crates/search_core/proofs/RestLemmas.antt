@@ -1,5 +1,5 @@
 -- What follows valid text within valid text is valid, and no character is split where valid text starts or ends.
-use Rattle.std.proofs.Common.{◌≡◌, ℕ, ◌+◌, ◌-◌, ◌<◌, ◌≤◌, inl, inr, true, List, ◌++◌, length, take, drop, get_or, sym, ap, subst, ◌∙◌, arith, length-append, length-drop, append_assoc}
+use Rattle.std.proofs.Common.{◌≡◌, ℕ, ◌-◌, ◌<◌, ◌≤◌, inl, inr, true, List, ◌++◌, length, take, drop, get_or, sym, ap, subst, ◌∙◌, arith, length-append, length-drop, append_assoc}
 use Rattle.std.proofs.lemmas.List.{get_or_append_left, get_or-append_right, length-take, take-append-drop}
 use Rattle.search_core.specs.Utf8.{Spells, IsValidText, IsSplit, is_boundary}
 use Rattle.search_core.specs.Utf8.IsValidText.{no_spelling, spelling_then}

@@ -1,6 +1,6 @@
 use Rattle.std.proofs.Common.{◌≡◌}
 use Rattle.hir_core.specs.Facts.{least_spelling}
-use Rattle.hir_core.proofs.BackwardLemmas.{behind}
+use Rattle.hir_core.specs.Backward.{behind}
 use Rattle.hir_core.proofs.class_facts.least_spelling.Given as goal
 
 abbrev pub invariant-loop-range : goal.invariant-loop-range

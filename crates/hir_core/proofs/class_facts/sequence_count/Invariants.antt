@@ -1,6 +1,6 @@
 use Rattle.std.proofs.Common.{◌≡◌}
 use Rattle.hir_core.specs.Facts.{capped, sequence_count}
-use Rattle.hir_core.proofs.BackwardLemmas.{behind}
+use Rattle.hir_core.specs.Backward.{behind}
 use Rattle.hir_core.proofs.class_facts.sequence_count.Given as goal
 
 abbrev pub invariant-loop-range : goal.invariant-loop-range

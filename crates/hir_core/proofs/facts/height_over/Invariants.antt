@@ -1,7 +1,7 @@
 use Rattle.std.proofs.Common.{◌≡◌}
 use Rattle.hir_core.specs.Tree.{concat, alternation}
 use Rattle.hir_core.specs.Facts.{height}
-use Rattle.hir_core.proofs.BackwardLemmas.{behind}
+use Rattle.hir_core.specs.Backward.{behind}
 use Rattle.hir_core.proofs.facts.height_over.Given as goal
 
 abbrev pub invariant-loop-sub : goal.invariant-loop-sub

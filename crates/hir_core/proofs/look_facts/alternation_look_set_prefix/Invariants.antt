@@ -1,7 +1,7 @@
 use Rattle.std.proofs.Common.{◌≡◌, false, List, ◌++◌}
 use Rattle.hir_core.specs.Tree.{Tree, alternation}
 use Rattle.hir_core.specs.Facts.{is_never, look_set_prefix}
-use Rattle.hir_core.proofs.BackwardLemmas.{behind}
+use Rattle.hir_core.specs.Backward.{behind}
 use Rattle.hir_core.proofs.look_facts.alternation_look_set_prefix.Given as goal
 
 -- whatever parts the loop began with, it has come to those and what it met before them

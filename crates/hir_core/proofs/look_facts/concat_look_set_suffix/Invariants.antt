@@ -1,7 +1,7 @@
 use Rattle.std.proofs.Common.{◌≡◌}
 use Rattle.hir_core.specs.Tree.{concat}
 use Rattle.hir_core.specs.Facts.{maximum_len, look_set_suffix}
-use Rattle.hir_core.proofs.BackwardLemmas.{behind}
+use Rattle.hir_core.specs.Backward.{behind}
 use Rattle.hir_core.proofs.look_facts.concat_look_set_suffix.Given as goal
 
 abbrev pub invariant-loop-sub : goal.invariant-loop-sub
