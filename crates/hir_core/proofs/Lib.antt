@@ -19,3 +19,4 @@ pub mod SequenceLemmas
 pub mod SequenceTreeLemmas
 pub mod KeptLemmas
 pub mod CutLemmas
+pub mod ForCallers

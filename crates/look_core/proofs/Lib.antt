@@ -10,3 +10,4 @@ pub mod ClassLemmas
 pub mod CloseLemmas
 pub mod KeepLemmas
 pub mod CharacterMirrorLemmas
+pub mod ForCallers

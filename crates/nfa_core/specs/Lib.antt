@@ -22,3 +22,4 @@ pub mod NfaParts
 pub mod Reached
 pub mod NfaOf
 pub mod Checks
+pub mod Returns
