@@ -29,12 +29,14 @@ module _ {A : Type 0} (same : A → A → Bool) (laws : IsEquality same) (steps 
       (λ e. e) (has_or_not same q (path ++ p ∷ []))
 
   -- so it makes no difference that they keep off it
-  path_apart : (n : ℕ) (path : List A) (q : A) → IsApartFrom q → chain_ends same steps n (path ++ p ∷ []) q ≡ chain_ends same steps n path q
+  path_apart : (n : ℕ) (path : List A) (q : A) → IsApartFrom q →
+      chain_ends same steps n (path ++ p ∷ []) q ≡ chain_ends same steps n path q
   path_apart zero path q apart = refl
   path_apart (suc n) path q apart = ⊎_elim
       (λ (e : has same q path ≡ true). let f : has same q (path ++ p ∷ []) ≡ true = has_left same q path (p ∷ []) e in rw (e, f))
       (λ (e : has same q path ≡ false). let f : has same q (path ++ p ∷ []) ≡ false = lacks_end q path apart e in rw (e, f)
-      (ap (λ l. q ∷ l) (flat_map_same same laws (chain_ends same steps n (q ∷ (path ++ p ∷ []))) (chain_ends same steps n (q ∷ path)) (steps q)
+      (ap (λ l. q ∷ l) (flat_map_same same laws (chain_ends same steps n (q ∷ (path ++ p ∷ []))) (chain_ends same steps n (q ∷ path))
+      (steps q)
       (λ y way. path_apart n (q ∷ path) y (apart_on q y apart way))))) (has_or_not same q path)
 
 -- repeats in the lists that are joined do not show above
@@ -49,7 +51,8 @@ module _ {A : Type 0} (same : A → A → Bool) (laws : IsEquality same) where
       ∙ join_flat_map same laws same laws (λ x. x ∷ []) t [] xs
       ∙ ap (join same t) (one_each xs)
 
-  pub join_distinct_each : {B : Type 0} (g : B → List A) (t : List A) (qs : List B) → join same t (flat_map g qs) ≡ join same t (flat_map (λ q. distinct same (g q)) qs)
+  pub join_distinct_each : {B : Type 0} (g : B → List A) (t : List A) (qs : List B) →
+      join same t (flat_map g qs) ≡ join same t (flat_map (λ q. distinct same (g q)) qs)
   join_distinct_each g t [] = refl
   join_distinct_each g t (q ∷ qs) =
       join-append same t (g q) (flat_map g qs)
@@ -67,25 +70,29 @@ module _ (a : Automaton) (t : Text) (p : ℕ × ℕ) (formed : IsWellFormed a) (
   abbrev found : ℕ → List (ℕ × ℕ) → ℕ × ℕ → List (ℕ × ℕ)
   found n path q = answers (matched a) (chain_ends same_pair (ways a t) n path q)
 
-  found_on : (n : ℕ) → bound ≡ suc n → IsLeftForGood a t p → (q : ℕ × ℕ) → Has same_pair q (ways a t p) → found n (p ∷ []) q ≡ found bound [] q
+  found_on : (n : ℕ) → bound ≡ suc n → IsLeftForGood a t p → (q : ℕ × ℕ) → Has same_pair q (ways a t p) →
+      found n (p ∷ []) q ≡ found bound [] q
   found_on n e none q way =
       let inside : IsPairOf a t q = finite.stays p here q way in
       ap (answers (matched a))
       (same_bound same_pair pairs_equal (ways a t) (IsPairOf a t) bound finite n bound (p ∷ []) q inside
-      (of_cons same_pair pairs_equal (IsPairOf a t) p [] here (λ k has. none_in same_pair k _ has)) (refl, tt) (omega (arith, e)) (omega arith)
+      (of_cons same_pair pairs_equal (IsPairOf a t) p [] here (λ k has. none_in same_pair k _ has)) (refl, tt) (omega (arith, e))
+      (omega arith)
       ∙ path_apart same_pair pairs_equal (ways a t) p bound [] q (none q way))
 
   found_first : (n : ℕ) → bound ≡ suc n → matched a p ≡ None → found bound [] p ≡ flat_map (found n (p ∷ [])) (ways a t p)
   found_first n e none =
       ap (λ k. found k [] p) e
-      ∙ ap (λ o. option_to_list o ++ flat_map (λ x. option_to_list (matched a x)) (flat_map (chain_ends same_pair (ways a t) n (p ∷ [])) (ways a t p))) none
+      ∙ ap (λ o. option_to_list o ++ flat_map (λ x. option_to_list (matched a x))
+      (flat_map (chain_ends same_pair (ways a t) n (p ∷ [])) (ways a t p))) none
       ∙ flat_map_twice (λ x. option_to_list (matched a x)) (chain_ends same_pair (ways a t) n (p ∷ [])) (ways a t p)
 
   some_room : (n : ℕ) → bound ≡ n → (m : ℕ) × (bound ≡ suc m)
   some_room zero e = let l = here.1 in absurd (grind (arith, e, l))
   some_room (suc m) e = (m, e)
 
-  pub ends_by_ways : IsLeftForGood a t p → matched a p ≡ None → ends_from a t p ≡ distinct same_pair (flat_map (ends_from a t) (ways a t p))
+  pub ends_by_ways : IsLeftForGood a t p → matched a p ≡ None →
+      ends_from a t p ≡ distinct same_pair (flat_map (ends_from a t) (ways a t p))
   ends_by_ways none unmatched =
       let m = some_room bound refl in
       ap (distinct same_pair) (found_first m.0 m.1 unmatched

@@ -45,7 +45,8 @@ led_names P (union_reverse_part names) all = All-permutation P names (reverse na
 led_names P fail_part all = all
 led_names P (match_part pattern) all = all
 
-node_ways_inside : (down : Bool) (t : Text) (node : Node) (n i : ℕ) → All (λ r. r < n) (leads_to node) → (p : ℕ × ℕ) → Has same_pair p (node_ways down t node i) → p.1 < n
+node_ways_inside : (down : Bool) (t : Text) (node : Node) (n i : ℕ) → All (λ r. r < n) (leads_to node) → (p : ℕ × ℕ) →
+    Has same_pair p (node_ways down t node i) → p.1 < n
 node_ways_inside down t node n i all =
     let below : Every (λ r. r < n) (leads_to node) = every_of_all (λ r. r < n) (leads_to node) all in
     let read : Option (ℕ × ℕ) = reads down t i in
@@ -70,8 +71,10 @@ module _ (b : Assembly) (x y : ℕ) (can : CanBuild b x y) (t : Text) where
 
   stays : (p : ℕ × ℕ) → IsInside p → (q : ℕ × ℕ) → Has same_pair q (from p) → IsInside q
   stays p here q way =
-      let named : All (λ r. r < length b.parts) (names_of (part_at b.parts p.1)) = All-get_or (λ part. All (λ r. r < length b.parts) (names_of part)) b.parts p.1 fail_part here can.named in
-      node_ways_inside b.reverse t (drafted (part_at b.parts p.1)) (length b.parts) p.0 (led_names (λ r. r < length b.parts) (part_at b.parts p.1) named) q way
+      let named : All (λ r. r < length b.parts) (names_of (part_at b.parts p.1)) =
+      All-get_or (λ part. All (λ r. r < length b.parts) (names_of part)) b.parts p.1 fail_part here can.named in
+      node_ways_inside b.reverse t (drafted (part_at b.parts p.1)) (length b.parts) p.0
+      (led_names (λ r. r < length b.parts) (part_at b.parts p.1) named) q way
 
   same_name : (q r : ℕ) → stands_for (part_at b.parts q) ≡ Some r → new_name b.parts q ≡ new_name b.parts r
   same_name q r e = ap (λ k. length (kept (take k b.parts))) (past_next b.parts can.no_loop q r e)
@@ -92,11 +95,13 @@ module _ (b : Assembly) (x y : ℕ) (can : CanBuild b x y) (t : Text) where
     is_kept p here e = (state_ways b x y p.1 p.0 t here e, alike.kept p here e)
 
     stands_in : (p : ℕ × ℕ) (r : ℕ) → stands_for (part_at b.parts p.1) ≡ Some r → Stands p
-    stands_in p r e = ((p.0, r), ways_of_stand (part_at b.parts p.1) r e b.reverse t p.0, alike.stands p r e, ap (λ n. (p.0, n)) (same_name p.1 r e))
+    stands_in p r e =
+        ((p.0, r), ways_of_stand (part_at b.parts p.1) r e b.reverse t p.0, alike.stands p r e, ap (λ n. (p.0, n)) (same_name p.1 r e))
 
     either : (p : ℕ × ℕ) → IsInside p → Kept p ⊎ Stands p
     either p here = ⊎_elim (λ (none : stands_for (part_at b.parts p.1) ≡ None). inl (is_kept p here none))
-        (λ (some : (r : ℕ) × (stands_for (part_at b.parts p.1) ≡ Some r)). inr (stands_in p some.0 some.1)) (option_cases (stands_for (part_at b.parts p.1)))
+        (λ (some : (r : ℕ) × (stands_for (part_at b.parts p.1) ≡ Some r)). inr (stands_in p some.0 some.1))
+        (option_cases (stands_for (part_at b.parts p.1)))
 
     abbrev IsSettled : ℕ × ℕ → Type 0
     IsSettled p = Settled same_pair pairs_equal same_pair pairs_equal (renamed_pair b.parts) from found from_built found_built IsInside p
@@ -119,16 +124,23 @@ module _ (b : Assembly) (x y : ℕ) (can : CanBuild b x y) (t : Text) where
     settle : (p : ℕ × ℕ) → IsInside p → IsSettled p
     settle p here = let c = comes_to b.parts can.no_loop p.1 here in settle_by c.0 p.0 p.1 here c.1
 
-    pub lists_renamed : (p : ℕ × ℕ) (l : List E) → IsInside p → Lists from found (p ∷ []) l → Lists from_built found_built (renamed_pair b.parts p ∷ []) l
-    lists_renamed p l here walk = lists_carried same_pair pairs_equal same_pair pairs_equal (renamed_pair b.parts) from found from_built found_built IsInside stays either walk
+    pub lists_renamed : (p : ℕ × ℕ) (l : List E) → IsInside p → Lists from found (p ∷ []) l →
+        Lists from_built found_built (renamed_pair b.parts p ∷ []) l
+    lists_renamed p l here walk =
+        lists_carried same_pair pairs_equal same_pair pairs_equal
+        (renamed_pair b.parts) from found from_built found_built IsInside stays either walk
         (of_cons same_pair pairs_equal IsInside p [] here (λ q h. none_in same_pair q _ h))
 
     pub renamed_forth : (p : ℕ × ℕ) (r : List (ℕ × ℕ)) (e : E) → IsInside p → IsChain same_pair from p r → found (last_or p r) ≡ Some e →
-        (s : List (ℕ × ℕ)) × IsChain same_pair from_built (renamed_pair b.parts p) s × (found_built (last_or (renamed_pair b.parts p) s) ≡ Some e)
+        (s : List (ℕ × ℕ)) × IsChain same_pair from_built (renamed_pair b.parts p) s
+        × (found_built (last_or (renamed_pair b.parts p) s) ≡ Some e)
     renamed_forth p r e here chain is =
-        carried_forth same_pair pairs_equal same_pair pairs_equal (renamed_pair b.parts) from found from_built found_built IsInside stays either r p here e chain is
+        carried_forth same_pair pairs_equal same_pair pairs_equal
+        (renamed_pair b.parts) from found from_built found_built IsInside stays either r p here e chain is
 
     pub renamed_back : (p : ℕ × ℕ) (s : List (ℕ × ℕ)) (e : E) → IsInside p → IsChain same_pair from_built (renamed_pair b.parts p) s →
-        found_built (last_or (renamed_pair b.parts p) s) ≡ Some e → (r : List (ℕ × ℕ)) × IsChain same_pair from p r × (found (last_or p r) ≡ Some e)
+        found_built (last_or (renamed_pair b.parts p) s) ≡ Some e →
+        (r : List (ℕ × ℕ)) × IsChain same_pair from p r × (found (last_or p r) ≡ Some e)
     renamed_back p s e here chain is =
-        carried_back same_pair pairs_equal same_pair pairs_equal (renamed_pair b.parts) from found from_built found_built IsInside stays either settle s p here e chain is
+        carried_back same_pair pairs_equal same_pair pairs_equal
+        (renamed_pair b.parts) from found from_built found_built IsInside stays either settle s p here e chain is

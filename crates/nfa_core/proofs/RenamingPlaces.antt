@@ -12,7 +12,8 @@ use Rattle.nfa_core.specs.Renaming.{stands_for, new_name, automaton_of}
 use Rattle.nfa_core.proofs.RenamingAutomaton.{one_state}
 use Rattle.nfa_core.proofs.RenamingAnswers.{AnswerAlike, renamed_back}
 
-module _ (b : Assembly) (x y : ℕ) (can : CanBuild b x y) (t : Text) (c : ℕ) (c_there : c < length b.parts) (c_stands : stands_for (part_at b.parts c) ≡ None) where
+module _ (b : Assembly) (x y : ℕ) (can : CanBuild b x y) (t : Text) (c : ℕ) (c_there : c < length b.parts)
+    (c_stands : stands_for (part_at b.parts c) ≡ None) where
   -- what is answered is the place, where it is in state c
   abbrev found : ℕ × ℕ → Option ℕ
   found p = if nat_eq p.1 c then Some p.0 else None
@@ -20,7 +21,8 @@ module _ (b : Assembly) (x y : ℕ) (can : CanBuild b x y) (t : Text) (c : ℕ) 
   abbrev found_built : ℕ × ℕ → Option ℕ
   found_built p = if nat_eq p.1 (new_name b.parts c) then Some p.0 else None
 
-  same_found : (q : ℕ) → q < length b.parts → stands_for (part_at b.parts q) ≡ None → nat_eq (new_name b.parts q) (new_name b.parts c) ≡ nat_eq q c
+  same_found : (q : ℕ) → q < length b.parts → stands_for (part_at b.parts q) ≡ None →
+      nat_eq (new_name b.parts q) (new_name b.parts c) ≡ nat_eq q c
   same_found q here e = ⊎_elim
       (λ (is : nat_eq q c ≡ true). eq-eqb (new_name b.parts q) (new_name b.parts c) (ap (new_name b.parts) (eqb-true q c is)) ∙ sym is)
       (λ (isnt : nat_eq q c ≡ false). ⊎_elim
@@ -48,7 +50,8 @@ module _ (b : Assembly) (x y : ℕ) (can : CanBuild b x y) (t : Text) (c : ℕ) 
       (λ (isnt : nat_eq p.1 c ≡ false). let none : found p ≡ None = cond-false (nat_eq p.1 c) _ _ isnt in cc)
       (cases_Bool (nat_eq p.1 c))
 
-  pub chain_to : (q i : ℕ) (s : List (ℕ × ℕ)) → q < length b.parts → IsChain same_pair (ways (automaton_of b x y) t) (i, new_name b.parts q) s →
+  pub chain_to : (q i : ℕ) (s : List (ℕ × ℕ)) → q < length b.parts →
+      IsChain same_pair (ways (automaton_of b x y) t) (i, new_name b.parts q) s →
       (last_or (i, new_name b.parts q) s).1 ≡ new_name b.parts c →
       (r : List (ℕ × ℕ)) × IsChain same_pair (table_ways b.reverse t (part_at b.parts)) (i, q) r × ((last_or (i, q) r).1 ≡ c)
   chain_to q i s here chain last =
