@@ -1,7 +1,6 @@
 -- What other crates' proofs may cite of this crate's, beside its public functions.
 
 -- ---- lists of ends, and the lists of several places joined
-
 -- what one of two lists has, the joined list has
 pub use Rattle.hir_core.proofs.HasLemmas.{Has-left, Has-right}
 -- what the joined list has, one of the two has
@@ -15,7 +14,6 @@ pub use Rattle.hir_core.proofs.HasLemmas.{flat_map-flat_map}
 -- functions that agree on a list's members give the same joined lists
 pub use Rattle.hir_core.proofs.HasLemmas.{flat_map_same}
 -- ---- what trees mean and prefer
-
 -- the ends that a tree prefers are those that it means
 pub use Rattle.hir_core.proofs.PreferredEndsLemmas.{preferred_ends_sound, preferred_ends_complete}
 -- a span goes forward, and stays within the haystack
@@ -29,7 +27,6 @@ pub use Rattle.hir_core.proofs.LookFactLemmas.{prefix_sound, suffix_sound}
 -- a part weighs less than the concatenation, and an alternation as much as one
 pub use Rattle.hir_core.proofs.PartLemmas.{weight_in_concat, weight_of_either}
 -- ---- what meaning depends on
-
 -- a span with bytes, of a UTF-8 tree in valid text, starts and ends at boundaries
 pub use Rattle.hir_core.proofs.BoundedSpanLemmas.{spans_bounded, span_start_bounded, span_end_bounded}
 -- ends depend on the looks from the start on
@@ -41,7 +38,6 @@ pub use Rattle.hir_core.proofs.TwoTextsLemmas.{same_spans_in_both}
 -- an empty span anywhere is one without bytes where each look holds
 pub use Rattle.hir_core.proofs.EmptyLemmas.{empty_span}
 -- ---- classes of scalars and their sequences of byte ranges
-
 -- a member of a list of ranges is one of the first range or of the others
 pub use Rattle.hir_core.proofs.SpellingLemmas.{member_cases}
 -- the pieces of a range ascend
@@ -59,6 +55,7 @@ pub use Rattle.hir_core.proofs.SequenceTreeLemmas.{class_ends, sequences_read}
 -- there are so many sequences as the count of states takes
 pub use Rattle.hir_core.proofs.SequenceTreeLemmas.{sequences_counted}
 -- ---- loops that go backwards over a slice
-
 -- one more element that was met stands before those behind it; at the end all was met
 pub use Rattle.hir_core.proofs.BackwardLemmas.{behind_more, behind_all}
+-- the set of one look has that look and no other
+pub use Rattle.hir_core.proofs.LookFactLemmas.{one_has, one_held}

@@ -88,7 +88,7 @@ ascii_ends h i ranges e = elim (slice_get_cases h i).1 [
 
 -- a class of scalars is that of the same bytes where all of them are spelled by one
 pub same_ascii : (ranges : List (ℕ × ℕ)) → is_ascii ranges ≡ true → IsSame (byte_class ranges) (char_class ranges)
-same_ascii ranges e = record { reading = λ f. tt; ends = λ looks h i. ascii_ends h i ranges e }
+same_ascii ranges e = record { reading = λ f. tt; ends = λ looks h i. ascii_ends h i ranges e; met = λ back l. refl }
 
 pub ascii_does : (a b : Assembly) (ranges bytes : List (ℕ × ℕ)) → bytes ≡ ranges → (s e : ℕ) → is_ascii ranges ≡ true → Does a b s e (byte_class bytes) →
     Does a b s e (char_class ranges)

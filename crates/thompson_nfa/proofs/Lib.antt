@@ -44,6 +44,12 @@ pub mod AssembledSpans
 pub mod AssembledOrders
 pub mod AssembledReturns
 pub mod AssembledParts
+pub mod AssembledLooks
+pub mod ApartLemmas
+pub mod AssembledStarts
+pub mod AssembledTries
+pub mod DirectionLemmas
+pub mod CallerLemmas
 pub mod AssembledEmpty
 pub mod AssembledCompiled
 pub mod StandLemmas
@@ -89,5 +95,7 @@ pub mod LiteralPartLemmas
 pub mod LiteralStateLemmas
 pub mod LiteralTreeLemmas
 pub mod LiteralTrieLemmas
+mod LookLemmas
 pub mod PieceLemmas
 pub mod FollowLemmas
+pub mod ForCallers

@@ -13,13 +13,9 @@ use Rattle.hir_core.specs.PreferredEnds.{preferred_ends, class_end, Has as HasEn
 use Rattle.hir_core.proofs.ForCallers.{Has-if, Has-then, span_forward, preferred_ends_sound, preferred_ends_complete}
 use Rattle.nfa_core.specs.Ways.{Text, with_place, reads, is_passed}
 use Rattle.thompson_nfa.specs.Denotes.{IsMeant, seen}
+use Rattle.thompson_nfa.specs.Compiled.{turned}
 use Rattle.thompson_nfa.proofs.WayLemmas.{byte_ends}
 use Rattle.thompson_nfa.proofs.DownLemmas.{down_rounds, rounds_down, down_join, join_down}
-
--- the look that a state has for one of a tree
-abbrev pub turned : Bool → Look → Look
-turned false l = l
-turned true l = reversed l
 
 -- two trees of which one means what the other means
 pub meant_map : (x y : Tree) → ((looks : Looks) (h : List ℕ) (i j : ℕ) → Means looks h x i j → Means looks h y i j) →

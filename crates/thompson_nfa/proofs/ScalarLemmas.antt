@@ -101,7 +101,7 @@ quits_later {old} {mid} {new} {k} {n} {e} m p r le = record {
 pub quits_capped : {old new : Assembly} {n : ℕ} {e : BuildError} (m : ℕ) → Quits old new n e → min n 18446744073709551615 ≤ m → Quits old new m e
 quits_capped {old} {new} {n} {e} m r cap = record { settings = r.settings; cause = step_later old old n (4096 * n) n m e refl (omega arith) (omega arith) cap r.cause }
 
-pub spent_of : {old mid : Assembly} {n s : ℕ} → Progress old mid n s → Spent old mid n
+pub spent_of : {old mid : Assembly} {n s : ℕ} → Progress false old mid n s → Spent old mid n
 spent_of p = let b = p.bytes in record { settings = p.partly.grows.settings; longer = p.partly.grows.longer; states = p.states; bytes = omega arith }
 
 -- ---- branches one after the other

@@ -12,8 +12,9 @@ use std::alloc::Global;
 use std::marker::Model;
 use std::slice;
 
-/// Makes byte automata of trees. A contract sees the options that were set: what an automaton is depends on
-/// these and the trees alone, and not on what was made or refused before.
+/// Makes byte automata of trees. A contract sees the options that were set: it relates each automaton, and each
+/// refusal, to these and the trees alone, whatever was made or refused before. That is a relation, and no
+/// function: how states are numbered, and which of them are shared, is not said.
 ///
 /// As `regex_automata::nfa::thompson::Compiler`.
 #[derive(Drop)]
