@@ -38,3 +38,4 @@ pub mod StepStateLemmas
 pub mod IdsLemmas
 pub mod WalkingLemmas
 pub mod HaystackLemmas
+pub mod ForCallers

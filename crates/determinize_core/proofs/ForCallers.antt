@@ -1,0 +1,6 @@
+-- What other crates' proofs may cite of this crate's, beside its public functions: lemmas on steps and on what states list.
+
+-- each step from the dead state leads to it
+pub use Rattle.determinize_core.proofs.StepLawLemmas.{stays_dead}
+-- what the states of a walk list, by the ends of runs
+pub use Rattle.determinize_core.proofs.ListedLemmas.{latest_is_first, all_listed, none_listed, last_listed}
