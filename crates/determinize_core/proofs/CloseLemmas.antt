@@ -12,7 +12,7 @@ use Rattle.nfa_core.specs.Nfa.{Node, byte_range, sparse_node, dense_node, look_n
 use Rattle.nfa_core.specs.NfaValue.{free_steps}
 use Rattle.nfa_core.specs.Ways.{on_nothing}
 use Rattle.nfa_core.specs.Reached.{AreBelow}
-use Rattle.nfa_core.proofs.ForCallers.{none_in, not_both, has_cons, has_first, has_later, of_cons, of_flat_map, join_once, of_join, names_equal, joined, chains_met}
+use Rattle.nfa_core.proofs.ForCallers.{none_in, not_both, has_cons, has_first, has_later, of_cons, of_flat_map, join_once, of_join, names_equal, has_from_all, joined, chains_met}
 use Rattle.determinize_core.specs.Costs.{known_ways, free_ways, sum_below}
 use Rattle.determinize_core.specs.Steps.{known_steps, closed}
 use Rattle.determinize_core.proofs.ClosureLemmas.{known_below}
@@ -215,6 +215,18 @@ module _ (a : Automaton) (looks : ℕ) (all : List ℕ) (before : ℕ) where
           walk = λ after w. of.walk after (subst (λ (l : List ℕ). Visits nat_eq (known_steps a looks) l met after) (sym e) (joined nat_eq (known_steps a looks) part rest met new after v w));
           cost = omega (arith, of.cost, cost, sum, ways);
         }
+
+    -- wherever the walk is cut off, it has cost no more
+    pub here_cost : IsDistinct nat_eq met → All (λ q. q < length a.states) met → (most : ℕ) → count ≤ most → now ≤ before + most + free_ways a
+    here_cost once below most few = omega (arith, of.cost, few, ways_once a looks met (once_from_distinct met once) (has_from_all (length a.states) met below))
+
+    pub cut_cost : (new : List ℕ) (then most : ℕ) → ((more : List ℕ) × (new ≡ met ++ more)) → IsDistinct nat_eq new → All (λ q. q < length a.states) new →
+        then ≤ now + 1 + known_ways a looks (drop (length met) new) → count + 1 ≤ most → then ≤ before + most + free_ways a
+    cut_cost new then most grown once below cost few =
+        let others : drop (length met) new ≡ grown.0 = ap (drop (length met)) grown.1 ∙ drop-append_seam met grown.0 in
+        let sum : known_ways a looks new ≡ known_ways a looks met + known_ways a looks grown.0 = ap (known_ways a looks) grown.1 ∙ sum_by-append (λ q. length (known_steps a looks q)) met grown.0 in
+        let ways : known_ways a looks (drop (length met) new) ≡ known_ways a looks grown.0 = ap (known_ways a looks) others in
+        omega (arith, of.cost, cost, sum, ways, few, ways_once a looks new (once_from_distinct new once) (has_from_all (length a.states) new below))
 
     -- where none is left, the closure is whole
     module _ (formed : IsWellFormed a) (below : AreBelow (length a.states) all) (none : left ≡ []) where

@@ -75,3 +75,21 @@ module _ (a : Automaton) (looks start : ℕ) (seen : List ℕ) (before : ℕ) wh
         let none : length later ≡ 0 = ap length m.0 in
         let sum : known_ways a looks (drop (length seen) new) ≡ known_ways a looks stands.grown.0 = ap (known_ways a looks) rest in
         omega (arith, cost, none, sum, stands.grown.2)
+
+    -- what was met so far begins with what the set held
+    pub has_grown : Meets stack met later new None → (more : List ℕ) × (new ≡ seen ++ more)
+    has_grown m = (stands.grown.0, m.1 ∙ stands.grown.1)
+
+    -- the same where the walk is cut off behind a state that was met
+    module _ (q : ℕ) (m : Meets stack met later new (Some q)) where
+      pub cut_grown : (more : List ℕ) × (new ≡ seen ++ more)
+      cut_grown = (stands.grown.0 ++ q ∷ [], m.0 ∙ (ap (λ (l : List ℕ). l ++ q ∷ []) stands.grown.1 ∙ append_assoc seen stands.grown.0 (q ∷ [])))
+
+      pub cut_counts : then + length later ≡ now + length stack → then ≤ before + 1 + known_ways a looks (drop (length seen) new)
+      unfolding cut_grown
+      cut_counts cost =
+          let rest : drop (length seen) new ≡ stands.grown.0 ++ q ∷ [] = ap (drop (length seen)) cut_grown.1 ∙ drop-append_seam seen (stands.grown.0 ++ q ∷ []) in
+          let ways : known_ways a looks (drop (length seen) new) ≡ known_ways a looks (stands.grown.0 ++ q ∷ []) = ap (known_ways a looks) rest in
+          let sum : known_ways a looks (stands.grown.0 ++ q ∷ []) ≡ known_ways a looks stands.grown.0 + length (known_steps a looks q) =
+          sum_by_push (λ p. length (known_steps a looks p)) stands.grown.0 q in
+          omega (arith, cost, ways, sum, stands.grown.2)

@@ -1,7 +1,7 @@
 -- The walk over the states at a place that lists their patterns and closes where they lead by the unit.
-use Rattle.std.proofs.Common.{◌≡◌, ℕ, ◌+◌, ◌<◌, ◌≤◌, Bool, true, false, List, [], ◌∷◌, length, drop, get_or, Option, refl, sym, ap, ◌∙◌, arith}
+use Rattle.std.proofs.Common.{◌≡◌, ℕ, ◌+◌, ◌<◌, ◌≤◌, Bool, true, false, List, [], ◌∷◌, ◌++◌, length, drop, get_or, All, Option, refl, sym, ap, ◌∙◌, arith}
 use Rattle.std.specs.Bool.{nat_eq}
-use Rattle.std.specs.List.{flat_map}
+use Rattle.std.specs.List.{flat_map, IsDistinct}
 use Rattle.search_types.specs.declared.match_kind.MatchKind.{MatchKind}
 use Rattle.nfa_core.specs.Walks.{Visits}
 use Rattle.nfa_core.specs.Nfa.{Automaton, IsWellFormed}
@@ -10,7 +10,7 @@ use Rattle.determinize_core.specs.Added.{listed_with, stops}
 use Rattle.determinize_core.specs.Costs.{known_ways, free_ways}
 use Rattle.determinize_core.specs.Steps.{closed, known_steps, pattern_at, patterns_in, reading, unit_steps}
 use Rattle.determinize_core.proofs.AddedLemmas.{next_left, past_all}
-use Rattle.determinize_core.proofs.CloseLemmas.{Closes, closes_none, closes_more, closes_all, closes_cost}
+use Rattle.determinize_core.proofs.CloseLemmas.{Closes, closes_none, closes_more, closes_all, closes_cost, here_cost, cut_cost}
 use Rattle.determinize_core.proofs.MatchLemmas.{listed_from, listed_in_all, listed_of_none, reading_none, goes_on_listed, goes_on_reading, ends_listed, ends_reading}
 use Rattle.determinize_core.proofs.TargetLemmas.{units_below}
 
@@ -85,3 +85,14 @@ module _ (kind : MatchKind) (a : Automaton) (u : Option ℕ) (looks : ℕ) (qs :
     pub end_cost : IsWellFormed a → k ≤ length qs → now ≤ before + length qs + free_ways a
     end_cost formed few =
         closes_cost a looks (entries kind a u qs) before (entries kind a u (drop k qs)) met k now at.closes formed (units_below a formed u (reading kind a qs)) end_left (length qs) few
+
+  -- what the walk has cost where memory is refused in front of state k, or while states are closed to which it leads
+  module _ (k : ℕ) (w : StateValue) (met : List ℕ) (now : ℕ) (at : StepsAt kind a u looks qs v before k w met now) (within : k < length qs) where
+    pub match_refused : IsDistinct nat_eq met → All (λ q. q < length a.states) met → now ≤ before + length qs + free_ways a
+    match_refused once low =
+        here_cost a looks (entries kind a u qs) before (entries kind a u (drop k qs)) met k now at.closes once low (length qs) (omega (arith, within))
+
+    pub target_refused : (new : List ℕ) (then : ℕ) → ((more : List ℕ) × (new ≡ met ++ more)) → IsDistinct nat_eq new → All (λ q. q < length a.states) new →
+        then ≤ now + 1 + known_ways a looks (drop (length met) new) → then ≤ before + length qs + free_ways a
+    target_refused new then grown once low cost =
+        cut_cost a looks (entries kind a u qs) before (entries kind a u (drop k qs)) met k now at.closes new then (length qs) grown once low cost (omega (arith, within))

@@ -3,11 +3,11 @@ mod AddedLemmas
 mod DecodeLemmas
 mod EditLemmas
 mod FlagLemmas
-mod LengthLemmas
+pub mod LengthLemmas
 mod PatternLemmas
 mod StateLemmas
 mod StateRows
-mod ValueLemmas
+pub mod ValueLemmas
 pub mod StartLemmas
 pub mod LookBehindLemmas
 pub mod EdgeLemmas
@@ -38,4 +38,7 @@ pub mod StepStateLemmas
 pub mod IdsLemmas
 pub mod WalkingLemmas
 pub mod HaystackLemmas
+pub mod SteppedLemmas
+pub mod RangeLemmas
+pub mod AlikeLemmas
 pub mod ForCallers

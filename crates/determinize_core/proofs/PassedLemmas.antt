@@ -14,6 +14,7 @@ use Rattle.nfa_core.specs.Ways.{span, is_passed}
 use Rattle.determinize_core.specs.States.{StateValue}
 use Rattle.determinize_core.specs.Starts.{start_of}
 use Rattle.determinize_core.specs.LookBehind.{with_if, starts_of, families_of, known_at_line, known_at_byte, behind_start, look_behind}
+use Rattle.determinize_core.specs.KnownBefore.{known_words, known_lines}
 use Rattle.determinize_core.specs.Steps.{first_half, second_half, is_end, known_before, known_behind, unit_at, unit_behind}
 use Rattle.determinize_core.specs.declared.lookbehind.Families.{Families}
 use Rattle.determinize_core.proofs.EdgeLemmas.{none_before, none_at}
@@ -116,14 +117,14 @@ looks_passed true t h s e i within l = reverse_passed t h i within l
 
 -- ---- the members of a set to which looks are added where they are wanted
 
-abbrev Wanted : Type 0
+abbrev pub Wanted : Type 0
 Wanted = Bool × Look
 
-abbrev with_all : List Wanted → ℕ → ℕ
+abbrev pub with_all : List Wanted → ℕ → ℕ
 with_all [] s = s
 with_all ((b, k) ∷ ws) s = with_if b k (with_all ws s)
 
-abbrev any_wanted : List Wanted → Look → Bool → Bool
+abbrev pub any_wanted : List Wanted → Look → Bool → Bool
 any_wanted [] l there = there
 any_wanted ((b, k) ∷ ws) l there = (same_look l k && b) || any_wanted ws l there
 
@@ -234,7 +235,7 @@ end_is None = refl
 end_is (Some b) = refl
 
 -- the looks that the unit decides
-abbrev known_list : Bool → Terminator → Bool → Bool → Option ℕ → List Wanted
+abbrev pub known_list : Bool → Terminator → Bool → Bool → Option ℕ → List Wanted
 known_list r t w c u =
     (is_end u, End)
     ∷ (is_end u || is_line_end t u, EndLF)
@@ -252,8 +253,9 @@ known_list r t w c u =
     ∷ (is_no_word (byte_side u), WordEndHalfUnicode)
     ∷ []
 
-known_wanted : (r : Bool) (t : Terminator) (v : StateValue) (u : Option ℕ) (l : Look) →
+pub known_wanted : (r : Bool) (t : Terminator) (v : StateValue) (u : Option ℕ) (l : Look) →
     has_look (known_before r t v u) l ≡ any_wanted (known_list r t v.is_from_word v.is_half_crlf u) l (has_look v.look_have l)
+unfolding known_words known_lines
 known_wanted r t v u l = has_all_wanted (known_list r t v.is_from_word v.is_half_crlf u) v.look_have l
 
 module _ (looks : ℕ) (r : Bool) (t : Terminator) (o u : Option ℕ) (w c : Bool) (flagged : IsFlagged looks r o w c) where
@@ -320,15 +322,15 @@ haystack_is : (looks : ℕ) → (families_of looks).haystack ≡ has_any is_anch
 unfolding families_of
 haystack_is looks = refl
 
-lines_is : (looks : ℕ) → (families_of looks).lines ≡ has_any is_anchor_lf looks
+pub lines_is : (looks : ℕ) → (families_of looks).lines ≡ has_any is_anchor_lf looks
 unfolding families_of
 lines_is looks = refl
 
-crlf_is : (looks : ℕ) → (families_of looks).crlf ≡ has_any is_anchor_crlf looks
+pub crlf_is : (looks : ℕ) → (families_of looks).crlf ≡ has_any is_anchor_crlf looks
 unfolding families_of
 crlf_is looks = refl
 
-words_is : (looks : ℕ) → (families_of looks).words ≡ has_any is_word_look looks
+pub words_is : (looks : ℕ) → (families_of looks).words ≡ has_any is_word_look looks
 unfolding families_of
 words_is looks = refl
 

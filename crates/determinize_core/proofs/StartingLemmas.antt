@@ -1,18 +1,19 @@
 -- What a start state is put together of.
-use Rattle.std.proofs.Common.{◌≡◌, ℕ, ◌+◌, ◌<◌, ◌≤◌, List, [], ◌∷◌, length, drop, ap, ◌∙◌, arith, subst}
+use Rattle.std.proofs.Common.{◌≡◌, ℕ, ◌+◌, ◌<◌, ◌≤◌, List, [], ◌∷◌, length, drop, All, ap, ◌∙◌, arith, subst}
 use Rattle.std.specs.Bool.{nat_eq}
+use Rattle.std.specs.List.{IsDistinct}
 use Rattle.look_core.specs.Terminators.{Terminator}
 use Rattle.nfa_core.specs.Walks.{Visits}
 use Rattle.nfa_core.specs.Nfa.{Automaton, IsWellFormed}
 use Rattle.nfa_core.specs.Reached.{AreBelow}
-use Rattle.nfa_core.proofs.ForCallers.{none_in, of_cons, names_equal}
+use Rattle.nfa_core.proofs.ForCallers.{none_in, of_cons, names_equal, has_from_all}
 use Rattle.determinize_core.specs.States.{StateValue, dead}
 use Rattle.determinize_core.specs.LookBehind.{with_look_behind}
 use Rattle.determinize_core.specs.Costs.{known_ways, free_ways}
 use Rattle.determinize_core.specs.Steps.{known_steps, closed, with_states, behind, start_value}
 use Rattle.determinize_core.specs.declared.start.Start.{Start}
 use Rattle.determinize_core.proofs.KnownStateLemmas.{fresh_with_known}
-use Rattle.determinize_core.proofs.CloseLemmas.{closed_is, closed_once, closed_below, ways_once}
+use Rattle.determinize_core.proofs.CloseLemmas.{closed_is, once_from_distinct, ways_once}
 
 pub one_inside : (n q : ℕ) → q < n → AreBelow n (q ∷ [])
 one_inside n q low = of_cons nat_eq names_equal (λ r. r < n) q [] low (λ r h. none_in nat_eq r _ h)
@@ -30,8 +31,9 @@ module _ (a : Automaton) (formed : IsWellFormed a) (q : ℕ) (low : q < length a
       ∙ (ap (λ (qs : List ℕ). with_states a qs (with_look_behind (behind a t s) dead)) one_closed
       ∙ ap (λ (l : ℕ). with_states a (closed a l (q ∷ [])) (with_look_behind (behind a t s) dead)) looks_are))
 
-  pub start_costs : (before now : ℕ) → now ≤ before + 1 + known_ways a looks (drop (length old) set) → now ≤ before + 1 + free_ways a
-  start_costs before now cost =
-      let whole : known_ways a looks (drop (length old) set) ≡ known_ways a looks (closed a looks (q ∷ [])) =
-      ap (λ (l : List ℕ). known_ways a looks (drop (length l) set)) none ∙ ap (known_ways a looks) one_closed in
-      omega (arith, cost, whole, ways_once a looks (closed a looks (q ∷ [])) (closed_once a looks (q ∷ [])) (closed_below a looks formed (q ∷ []) (one_inside (length a.states) q low)))
+-- what the walk from a start has cost, wherever it was cut off
+pub start_costs : (a : Automaton) (looks : ℕ) (old set : List ℕ) → old ≡ [] → IsDistinct nat_eq set → All (λ q. q < length a.states) set → (before now : ℕ) →
+    now ≤ before + 1 + known_ways a looks (drop (length old) set) → now ≤ before + 1 + free_ways a
+start_costs a looks old set none once below before now cost =
+    let whole : known_ways a looks (drop (length old) set) ≡ known_ways a looks set = ap (λ (l : List ℕ). known_ways a looks (drop (length l) set)) none in
+    omega (arith, cost, whole, ways_once a looks set (once_from_distinct set once) (has_from_all (length a.states) set below))

@@ -92,7 +92,7 @@ module _ (a : Automaton) where
       of_flat_map nat_eq names_equal nat_eq (λ q. option_to_list (pattern_at a q)) (λ p. p < length a.start_pattern) qs
       (λ q _h. pattern_below (length a.start_pattern) (node_at a q) (node_of_all (length a.start_pattern) a.states q sound.nodes))
 
-  patterns_below : IsSound a → (kind : MatchKind) (qs : List ℕ) → AreBelow (length a.start_pattern) (patterns_in kind a qs)
+  pub patterns_below : IsSound a → (kind : MatchKind) (qs : List ℕ) → AreBelow (length a.start_pattern) (patterns_in kind a qs)
   patterns_below sound AllMatches qs = of_join nat_eq names_equal (λ p. p < length a.start_pattern) [] (answers (pattern_at a) qs) (λ p h. none_in nat_eq p _ h) (answers_below sound qs)
   patterns_below sound LeftmostFirst qs = first_below (length a.start_pattern) (answers (pattern_at a) qs) (answers_below sound qs)
 

@@ -1,11 +1,12 @@
 -- The bytes of a state stand for that state, and states are told apart by their bytes.
-use Rattle.std.proofs.Common.{◌≡◌, ℕ, suc, ◌+◌, ◌^◌, ◌<◌, ◌≤◌, ◌||◌, Bool, true, false, List, [], ◌∷◌, ◌++◌, length, refl, sym, ap, subst, ◌∙◌, arith}
+use Rattle.std.proofs.Common.{◌≡◌, ℕ, suc, ◌+◌, ◌^◌, ◌<◌, ◌≤◌, ◌||◌, Bool, true, false, List, [], ◌∷◌, ◌++◌, length, refl, sym, ap, subst, ◌∙◌, ◌↔◌, arith}
 use Rattle.std.specs.Prelude.{All, nat_eq}
 use Rattle.std.specs.List.{list_any, IsDistinct}
+use Rattle.std.proofs.lemmas.Slice.Eq.{bytes_eq-Decides}
 use Rattle.std.proofs.lemmas.Map.Steps.{length-le_from_distinct_below}
 use Rattle.search_core.specs.Index.{greatest_index}
 use Rattle.determinize_core.specs.States.{StateValue, IsState, dead}
-use Rattle.determinize_core.specs.StateBytes.{four_bytes, four_bytes_each, numbers, pattern_bytes, id_bytes, has_flag, flag_byte, patterns_told, is_match, is_listed, encoded, decoded, unfinished, decoded_unfinished, IsEncoded}
+use Rattle.determinize_core.specs.StateBytes.{has_same_bytes, four_bytes, four_bytes_each, numbers, pattern_bytes, id_bytes, has_flag, flag_byte, patterns_told, is_match, is_listed, encoded, decoded, unfinished, decoded_unfinished, IsEncoded}
 use Rattle.determinize_core.proofs.StateLemmas.{number_back, numbers_back}
 use Rattle.determinize_core.proofs.FlagLemmas.{match_back, listed_back, word_back, half_back}
 use Rattle.determinize_core.proofs.DecodeLemmas.{told_back, told_unlisted, same_made, nine, decoded_listed, decoded_unlisted}
@@ -86,3 +87,14 @@ nothing_twice = tt
 
 pub dead_state : IsState dead
 dead_state = record { have = omega arith; need = omega arith; patterns = λ k d p. absurd (omega arith); once = nothing_twice; states = λ k d p. absurd (omega arith) }
+
+-- states are the same where their bytes are
+pub told_by_bytes : (v w : StateValue) → IsState v → IsState w → (encoded v ≡ encoded w) ↔ (v ≡ w)
+told_by_bytes v w state other = (same_from_bytes v w state other, λ e. ap encoded e)
+
+pub told_by_test : (v w : StateValue) → IsState v → IsState w → (has_same_bytes v w ≡ true) ↔ (v ≡ w)
+told_by_test v w state other =
+    (λ e. same_from_bytes v w state other ((bytes_eq-Decides (encoded v) (encoded w)).0 e), λ e. (bytes_eq-Decides (encoded v) (encoded w)).1 (ap encoded e))
+
+pub has_its_own : (v : StateValue) → has_same_bytes v v ≡ true
+has_its_own v = (bytes_eq-Decides (encoded v) (encoded v)).1 refl

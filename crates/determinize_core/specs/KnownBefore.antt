@@ -1,13 +1,25 @@
 -- The looks that a unit decides at the place in front of it, in two parts.
-use Rattle.std.specs.Prelude.{ℕ, Bool, not, ◌&&◌, ◌||◌, Option}
+use Rattle.std.specs.Prelude.{ℕ, Bool, true, false, not, ◌&&◌, ◌||◌, Option, Some, None}
 use Rattle.look_core.specs.Looks.{Side, is_no_word, is_edge_of_word, is_no_edge_of_word, is_start_of_word, is_end_of_word, is_byte, is_line_end}
 use Rattle.look_core.specs.Terminators.{Terminator}
 use Rattle.look_core.specs.declared.look.Look.TheVariants.{End, EndLF, StartCRLF, EndCRLF, WordAscii, WordAsciiNegate, WordUnicode, WordUnicodeNegate, WordStartAscii, WordEndAscii, WordStartUnicode, WordEndUnicode, WordEndHalfAscii, WordEndHalfUnicode}
 use Rattle.determinize_core.specs.LookBehind.{with_if}
-use Rattle.determinize_core.specs.Steps.{is_end, first_half, second_half}
 
--- those of words, by the two sides of the place
-abbrev pub known_words : Side → Side → ℕ → ℕ
+-- the half of a CRLF that is read first, and the other
+abbrev pub first_half : Bool → ℕ
+first_half false = 0x0D
+first_half true = 0x0A
+
+abbrev pub second_half : Bool → ℕ
+second_half false = 0x0A
+second_half true = 0x0D
+
+abbrev pub is_end : Option ℕ → Bool
+is_end None = true
+is_end (Some b) = false
+
+-- with those of words, by the two sides of the place
+unfoldable pub known_words : Side → Side → ℕ → ℕ
 known_words before after looks =
     with_if (is_edge_of_word before after) WordAscii
     (with_if (is_edge_of_word before after) WordUnicode
@@ -20,8 +32,8 @@ known_words before after looks =
     (with_if (is_no_word after) WordEndHalfAscii
     (with_if (is_no_word after) WordEndHalfUnicode looks)))))))))
 
--- those of lines and of the haystack's edge, by whether the half of a CRLF stands behind the place
-abbrev pub known_lines : Bool → Terminator → Bool → Option ℕ → ℕ → ℕ
+-- with those of lines and of the haystack's edge, by whether the half of a CRLF stands behind the place
+unfoldable pub known_lines : Bool → Terminator → Bool → Option ℕ → ℕ → ℕ
 known_lines reverse t half u looks =
     with_if (is_end u) End
     (with_if (is_end u || is_line_end t u) EndLF

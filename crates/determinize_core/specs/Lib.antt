@@ -8,3 +8,5 @@ pub mod Costs
 pub mod KnownBefore
 pub mod Walked
 pub mod WalkLists
+pub mod Stepped
+pub mod Alike

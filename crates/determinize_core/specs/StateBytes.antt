@@ -4,6 +4,7 @@
 use Rattle.std.specs.Prelude.{◌≡◌, ℕ, zero, suc, ◌+◌, ◌-◌, ◌*◌, ◌/◌, ◌%◌, ◌==◌, ◌||◌, Bool, true, false, not, nat_lt, nat_le, List, [], ◌∷◌, ◌++◌, length, take, drop, slice_index, if◌then◌else◌}
 use Rattle.std.specs.Int.{w32, to_le_bytes, from_le_bytes}
 use Rattle.std.specs.Int.Bits.{bit_and}
+use Rattle.std.specs.Str.{bytes_eq}
 use Rattle.determinize_core.specs.States.{StateValue, IsState}
 
 -- a number in four bytes, the least one first
@@ -90,6 +91,10 @@ ids_read before part weight (b ∷ bs) =
 -- the bytes of a state
 abbrev pub encoded : StateValue → List ℕ
 encoded v = first_bytes v ++ (pattern_bytes (is_listed v.matches) (length v.matches) v.matches ++ id_bytes 0 v.ids)
+
+-- whether two states have the same bytes, which is how a map tests them
+abbrev pub has_same_bytes : StateValue → StateValue → Bool
+has_same_bytes v w = bytes_eq (encoded v) (encoded w)
 
 -- the bytes while patterns are added: their number is 0 until all are there
 abbrev pub unfinished : StateValue → List ℕ

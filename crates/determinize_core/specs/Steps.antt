@@ -6,9 +6,8 @@ use Rattle.std.specs.List.{filter, flat_map, fold}
 use Rattle.std.specs.Option.{option_to_list}
 use Rattle.search_core.specs.Text.{byte_at, byte_before}
 use Rattle.look_core.specs.LookSets.{has_look, union_of, shared_by, without}
-use Rattle.look_core.specs.Looks.{word_if, byte_side, is_no_word, is_word, is_edge_of_word, is_no_edge_of_word, is_start_of_word, is_end_of_word, is_byte, is_line_end}
+use Rattle.look_core.specs.Looks.{word_if, byte_side, is_no_word, is_word, is_byte, is_line_end}
 use Rattle.look_core.specs.Terminators.{Terminator}
-use Rattle.look_core.specs.declared.look.Look.TheVariants.{End, EndLF, StartCRLF, EndCRLF, WordAscii, WordAsciiNegate, WordUnicode, WordUnicodeNegate, WordStartAscii, WordEndAscii, WordStartUnicode, WordEndUnicode, WordEndHalfAscii, WordEndHalfUnicode}
 use Rattle.search_types.specs.declared.match_kind.MatchKind.{MatchKind}
 use Rattle.search_types.specs.declared.match_kind.MatchKind.TheVariants.{All as AllMatches, LeftmostFirst}
 use Rattle.nfa_core.specs.Walks.{chain_ends, distinct}
@@ -20,42 +19,17 @@ use Rattle.nfa_core.specs.Ways.{on_byte, on_nothing, place_of}
 use Rattle.determinize_core.specs.States.{StateValue, dead}
 use Rattle.determinize_core.specs.LookBehind.{families_of, with_if, starts_of, look_behind, with_look_behind}
 use Rattle.determinize_core.specs.Starts.{start_of}
+use Rattle.determinize_core.specs.KnownBefore.{known_words, known_lines}
+pub use Rattle.determinize_core.specs.KnownBefore.{first_half, second_half, is_end}
 use Rattle.determinize_core.specs.declared.lookbehind.LookBehind.{LookBehind}
 use Rattle.determinize_core.specs.declared.lookbehind.Families.{Families}
 use Rattle.determinize_core.specs.declared.start.Start.{Start}
 
 -- ---- the looks at a place
 
--- the half of a CRLF that is read first, and the other
-abbrev pub first_half : Bool → ℕ
-first_half false = 0x0D
-first_half true = 0x0A
-
-abbrev pub second_half : Bool → ℕ
-second_half false = 0x0A
-second_half true = 0x0D
-
-abbrev pub is_end : Option ℕ → Bool
-is_end None = true
-is_end (Some b) = false
-
 -- the looks that are known to hold at the place of a state, with those that the unit after it decides
 abbrev pub known_before : Bool → Terminator → StateValue → Option ℕ → ℕ
-known_before reverse t v u =
-    with_if (is_end u) End
-    (with_if (is_end u || is_line_end t u) EndLF
-    (with_if (is_end u || (is_byte (first_half reverse) u || (is_byte (second_half reverse) u && not v.is_half_crlf))) EndCRLF
-    (with_if (v.is_half_crlf && not (is_byte (second_half reverse) u)) StartCRLF
-    (with_if (is_edge_of_word (word_if v.is_from_word) (byte_side u)) WordAscii
-    (with_if (is_edge_of_word (word_if v.is_from_word) (byte_side u)) WordUnicode
-    (with_if (is_no_edge_of_word (word_if v.is_from_word) (byte_side u)) WordAsciiNegate
-    (with_if (is_no_edge_of_word (word_if v.is_from_word) (byte_side u)) WordUnicodeNegate
-    (with_if (is_start_of_word (word_if v.is_from_word) (byte_side u)) WordStartAscii
-    (with_if (is_start_of_word (word_if v.is_from_word) (byte_side u)) WordStartUnicode
-    (with_if (is_end_of_word (word_if v.is_from_word) (byte_side u)) WordEndAscii
-    (with_if (is_end_of_word (word_if v.is_from_word) (byte_side u)) WordEndUnicode
-    (with_if (is_no_word (byte_side u)) WordEndHalfAscii
-    (with_if (is_no_word (byte_side u)) WordEndHalfUnicode v.look_have)))))))))))))
+known_before reverse t v u = known_lines reverse t v.is_half_crlf u (known_words (word_if v.is_from_word) (byte_side u) v.look_have)
 
 -- the looks that hold behind a unit whatever follows it, of the families that an automaton has
 abbrev pub known_behind : Families → Bool → Terminator → Option ℕ → ℕ

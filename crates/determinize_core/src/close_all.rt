@@ -43,7 +43,7 @@ pub(crate) fn close_all<S: NameSet, L: Ledger>(
     ensures closed { OnOk result (S.names set.new ≡ closed nfa.now.automaton looks (S.names from.now)) }
     ensures stack { OnOk result (stack.new.items ≡ []) }
     ensures bound { S.bound set.new ≡ S.bound set.old }
-    ensures cost { OnOk result (steps.new ≤ steps.old + length (S.names from.now) + free_ways nfa.now.automaton) }
+    ensures cost { steps.new ≤ steps.old + length (S.names from.now) + free_ways nfa.now.automaton }
 {
     nfa.is_sound();
     for k in 0..from.len() {

@@ -1,5 +1,6 @@
-ghost use Rattle.std.specs.Prelude.{◌≡◌, ◌+◌, ◌<◌, ◌≤◌, [], ◌∷◌, ◌++◌, length, drop, reverse, OnOk, IfSome};
+ghost use Rattle.std.specs.Prelude.{◌≡◌, ℕ, ◌+◌, ◌<◌, ◌≤◌, List, [], ◌∷◌, ◌++◌, length, drop, reverse, All, OnOk, IfSome};
 ghost use Rattle.std.specs.Bool.{nat_eq};
+ghost use Rattle.std.specs.List.{IsDistinct};
 ghost use Rattle.look_core.specs.LookSets.{has_look};
 ghost use Rattle.nfa_core.specs.Reached.{AreBelow, Meets};
 ghost use Rattle.nfa_core.specs.States.{node_of};
@@ -17,7 +18,7 @@ use std::sync::ledger::Ledger;
 
 /// Puts the states into a set to which a state leads with no byte where these looks are known to hold, itself
 /// first, in the order of a depth-first walk, as `regex_automata::util::determinize::epsilon_closure`. What the set
-/// held already isn't followed. It is refused where memory for the stack lacks.
+/// held already isn't followed. It is refused where memory for the stack lacks; the steps up to there were counted.
 pub fn epsilon_closure<S: NameSet, L: Ledger>(
     nfa: &NFA,
     start: StateID,
@@ -32,7 +33,10 @@ pub fn epsilon_closure<S: NameSet, L: Ledger>(
     ensures visits { OnOk result (Visits nat_eq (known_steps nfa.now.automaton look_have) (start ∷ []) (S.names set.old) (S.names set.new)) }
     ensures stack { OnOk result (stack.new.items ≡ []) }
     ensures bound { S.bound set.new ≡ S.bound set.old }
-    ensures cost { OnOk result (steps.new ≤ steps.old + 1 + known_ways nfa.now.automaton look_have (drop (length (S.names set.old)) (S.names set.new))) }
+    ensures grows { (more : List ℕ) × (S.names set.new ≡ S.names set.old ++ more) }
+    ensures once { IsDistinct nat_eq (S.names set.new) }
+    ensures below { All (λ q. q < length nfa.now.automaton.states) (S.names set.new) }
+    ensures cost { steps.new ≤ steps.old + 1 + known_ways nfa.now.automaton look_have (drop (length (S.names set.old)) (S.names set.new)) }
 {
     // What a set has fits its bound, which bounds the walk.
     let _ = set.len();
@@ -56,14 +60,19 @@ fn next_fresh<S: NameSet, L: Ledger>(
     ensures below { AreBelow (S.bound set.old) (reverse stack.new.items) }
     ensures inside { IfSome result (λ q. q < S.bound set.old) }
     ensures fits { length (S.names set.new) ≤ S.bound set.new }
+    ensures once { IsDistinct nat_eq (S.names set.new) }
+    ensures all_below { All (λ q. q < S.bound set.new) (S.names set.new) }
     ensures meets { Meets (reverse stack.old.items) (S.names set.old) (reverse stack.new.items) (S.names set.new) result }
     ensures cost { steps.new + length (reverse stack.new.items) ≡ steps.old + length (reverse stack.old.items) }
 {
     while let Some(id) = pop(stack) {
         if set.insert(id, steps) {
+            // What a set has is there once, and below its bound.
+            let _ = set.len();
             return Some(id);
         }
     }
+    let _ = set.len();
     None
 }
 

@@ -42,6 +42,7 @@ pub(crate) fn known_behind(nfa: &NFA, unit: Unit) -> LookSet
 }
 
 /// The looks of words, by whether a word byte stands on each side of the place.
+#[tactic(auto, unfolding(crate::specs::KnownBefore::known_words))]
 fn known_words(looks: LookSet, before: bool, after: bool) -> LookSet
     ensures { result ≡ known_words (word_if before) (word_if after) looks }
 {
@@ -72,6 +73,7 @@ fn is_no_edge(before: bool, after: bool) -> bool
 }
 
 /// The looks of lines and of the haystack's edge, by the unit and whether the half of a CRLF stands behind the place.
+#[tactic(auto, unfolding(crate::specs::KnownBefore::known_lines))]
 fn known_lines(nfa: &NFA, looks: LookSet, half: bool, unit: Unit) -> LookSet
     ensures { result ≡ known_lines nfa.now.automaton.reverse nfa.now.terminator half (unit_byte unit) looks }
 {

@@ -1,6 +1,7 @@
 //! Powerset states of a byte automaton, one at a time, and how searches start.
 #![tactic(auto)]
 
+pub mod alike_laws;
 mod close_all;
 mod closure;
 mod ids_of;
@@ -24,10 +25,12 @@ mod state_ids;
 pub mod state_laws;
 mod step_each;
 pub mod step_laws;
+pub mod stepped_laws;
 mod target;
 mod todo;
 pub mod walk_theorem;
 mod walking;
+mod workspace;
 
 pub use closure::epsilon_closure;
 pub use ids_of::of_nfa;
@@ -44,3 +47,4 @@ pub use state_builder_matches::StateBuilderMatches;
 pub use state_builder_nfa::StateBuilderNFA;
 pub use state_ids::StateIds;
 pub use walking::{walk, walk_with};
+pub use workspace::{Workspace, next_in, start_in};

@@ -50,10 +50,10 @@ pub fn look_behind_of_start(nfa: &NFA, start: Start) -> LookBehind
 
 /// Tells a state that is begun what is known of the place where a search of the automaton starts, as
 /// `regex_automata::util::determinize::set_lookbehind_from_start`.
-pub fn set_lookbehind_from_start(nfa: &NFA, start: Start, builder: &mut StateBuilderMatches)
-    ensures { builder.new ≡ with_look_behind (look_behind (looks_of nfa.now.automaton.states) nfa.now.automaton.reverse nfa.now.terminator start) builder.old }
+pub fn set_lookbehind_from_start(nfa: &NFA, start: &Start, builder: &mut StateBuilderMatches)
+    ensures { builder.new ≡ with_look_behind (look_behind (looks_of nfa.now.automaton.states) nfa.now.automaton.reverse nfa.now.terminator start.now) builder.old }
 {
-    let behind = look_behind_of_start(nfa, start);
+    let behind = look_behind_of_start(nfa, *start);
     set_flags(behind.is_from_word, behind.is_half_crlf, builder);
     builder.write_have(builder.look_have().union(behind.look_have));
 }

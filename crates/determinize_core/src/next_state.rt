@@ -22,7 +22,7 @@ use std::alloc::AllocError;
 use std::sync::ledger::Ledger;
 
 /// The state behind a unit, as `regex_automata::util::determinize::next`. It lists what matched before the unit. It is
-/// refused where memory lacks.
+/// refused where memory lacks, and then costs no more steps than where it is not.
 pub fn next<S: NameSet, L: Ledger>(
     nfa: &NFA,
     kind: MatchKind,
@@ -42,7 +42,7 @@ pub fn next<S: NameSet, L: Ledger>(
     ensures stack { OnOk result (stack.new.items ≡ []) }
     ensures bound1 { S.bound sets.new.set1 ≡ length nfa.now.automaton.states }
     ensures bound2 { S.bound sets.new.set2 ≡ length nfa.now.automaton.states }
-    ensures cost { OnOk result (steps.new ≤ steps.old + 3 * length nfa.now.automaton.states + 2 * free_ways nfa.now.automaton) }
+    ensures cost { steps.new ≤ steps.old + 3 * length nfa.now.automaton.states + 2 * free_ways nfa.now.automaton }
 {
     states_before(nfa, sets, stack, state, unit, steps)?;
     let mut builder = builder.into_matches()?;
@@ -85,7 +85,7 @@ fn states_before<S: NameSet, L: Ledger>(
     ensures stack { OnOk result (stack.new.items ≡ []) }
     ensures bound1 { S.bound sets.new.set1 ≡ length nfa.now.automaton.states }
     ensures bound2 { S.bound sets.new.set2 ≡ length nfa.now.automaton.states }
-    ensures cost { OnOk result (steps.new ≤ steps.old + 2 * length nfa.now.automaton.states + free_ways nfa.now.automaton) }
+    ensures cost { steps.new ≤ steps.old + 2 * length nfa.now.automaton.states + free_ways nfa.now.automaton }
 {
     sets.clear();
     put_ids(state, &mut sets.set1, steps);

@@ -91,6 +91,15 @@ impl Config {
     }
 }
 
+impl Default for Config {
+    /// A search that isn't anchored and starts at the haystack's edge, as [`Config::new`].
+    fn default() -> Config
+        ensures { result ≡ record { look_behind = None; anchored = No } }
+    {
+        Config::new()
+    }
+}
+
 /// The byte in front of a place; `None` at place 0, and above the place behind the last byte.
 fn byte_in_front(haystack: &[u8], at: usize) -> Option<u8>
     ensures { result ≡ byte_before haystack.now at }

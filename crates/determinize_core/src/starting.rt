@@ -30,12 +30,12 @@ pub fn start_state<S: NameSet, L: Ledger>(
     ensures value { IfOk result (λ built. built ≡ start_value nfa.now.automaton nfa.now.terminator start id) }
     ensures stack { OnOk result (stack.new.items ≡ []) }
     ensures bound { S.bound set.new ≡ length nfa.now.automaton.states }
-    ensures cost { OnOk result (steps.new ≤ steps.old + 1 + free_ways nfa.now.automaton) }
+    ensures cost { steps.new ≤ steps.old + 1 + free_ways nfa.now.automaton }
 {
     nfa.is_sound();
     set.clear();
     let mut builder = builder.into_matches()?;
-    set_lookbehind_from_start(nfa, start, &mut builder);
+    set_lookbehind_from_start(nfa, &start, &mut builder);
     let looks = builder.look_have();
     epsilon_closure(nfa, id, looks, stack, set, steps)?;
     let mut built = builder.into_nfa();

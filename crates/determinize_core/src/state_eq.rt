@@ -1,19 +1,19 @@
 //! States are equal, ordered and hashed by their bytes.
-ghost use Rattle.std.specs.Prelude.{◌≡◌, Some, nat_eq, refl};
+ghost use Rattle.std.specs.Prelude.{◌≡◌, Some, refl};
 ghost use Rattle.std.proofs.Common.{rules};
 ghost use Rattle.std.specs.Ordering.{nat_cmp};
 ghost use Rattle.std.specs.Cmp.{on_equiv, on_per, on_po, on_total, partial_equiv_from_equiv};
-ghost use Rattle.std.specs.Cmp.Lexicographic.{nat_list_cmp_total, nat_list_eq_equiv, pointwise, slice_cmp, texts_po, texts_ties};
+ghost use Rattle.std.specs.Cmp.Lexicographic.{nat_list_cmp_total, nat_list_eq_equiv, slice_cmp, texts_po, texts_ties};
 ghost use Rattle.std.specs.Cmp.Rules.{hashing};
 ghost use Rattle.std.specs.Hash as fed;
-ghost use Rattle.determinize_core.specs.StateBytes.{encoded};
+ghost use Rattle.determinize_core.specs.StateBytes.{encoded, has_same_bytes};
 
 use crate::state::State;
 use std::cmp::Ordering;
 use std::hash::{Hash, Hasher};
 
 impl PartialEq for State {
-    ghost eq = { λ a b. pointwise nat_eq (encoded a) (encoded b) };
+    ghost eq = { has_same_bytes };
 
     ghost laws = { on_per encoded (partial_equiv_from_equiv nat_list_eq_equiv) };
 

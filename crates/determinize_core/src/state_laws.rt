@@ -1,12 +1,20 @@
 //! Laws of the bytes of states. The contract of each function is the law; they have no code.
-ghost use Rattle.std.specs.Prelude.{◌≡◌, ◌≤◌, ◌+◌, ◌*◌, length};
+ghost use Rattle.std.specs.Prelude.{◌≡◌, ◌≤◌, ◌+◌, ◌*◌, ◌↔◌, true, length};
 ghost use Rattle.determinize_core.specs.States.{StateValue, IsState};
-ghost use Rattle.determinize_core.specs.StateBytes.{encoded, decoded};
+ghost use Rattle.determinize_core.specs.StateBytes.{encoded, decoded, has_same_bytes};
 
 /// The bytes of a state stand for that state alone.
 pub fn bytes_stand_for_states()
     ensures back { (v : StateValue) → IsState v → decoded (encoded v) ≡ v }
     ensures apart { (v w : StateValue) → IsState v → IsState w → encoded v ≡ encoded w → v ≡ w }
+{}
+
+/// Two states are the same exactly where their bytes are, and where the test of a map that keeps states by their bytes
+/// says so.
+pub fn states_are_told_by_their_bytes()
+    ensures bytes { (v w : StateValue) → IsState v → IsState w → (encoded v ≡ encoded w) ↔ (v ≡ w) }
+    ensures test { (v w : StateValue) → IsState v → IsState w → (has_same_bytes v w ≡ true) ↔ (v ≡ w) }
+    ensures itself { (v : StateValue) → has_same_bytes v v ≡ true }
 {}
 
 /// A state has at most thirteen bytes, four for each pattern that matches, and five for each state of the NFA.

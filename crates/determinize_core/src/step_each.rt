@@ -1,6 +1,6 @@
-ghost use Rattle.std.specs.Prelude.{◌≡◌, ◌+◌, ◌<◌, ◌≤◌, [], length, drop, OnOk, IfOk};
+ghost use Rattle.std.specs.Prelude.{◌≡◌, ℕ, ◌+◌, ◌<◌, ◌≤◌, List, [], ◌++◌, length, drop, All, OnOk, IfOk};
 ghost use Rattle.std.specs.Bool.{nat_eq};
-ghost use Rattle.std.specs.List.{flat_map};
+ghost use Rattle.std.specs.List.{flat_map, IsDistinct};
 ghost use Rattle.search_core.specs.Units.{unit_byte};
 ghost use Rattle.nfa_core.specs.Walks.{Visits};
 ghost use Rattle.determinize_core.specs.Added.{listed_with, stops};
@@ -40,11 +40,13 @@ pub(crate) fn step_each<S: NameSet, L: Ledger>(
     ensures closed { OnOk result (S.names set.new ≡ closed nfa.now.automaton looks (flat_map (unit_steps nfa.now.automaton (unit_byte unit)) (reading kind nfa.now.automaton (S.names from.now)))) }
     ensures stack { OnOk result (stack.new.items ≡ []) }
     ensures bound { S.bound set.new ≡ S.bound set.old }
-    ensures cost { OnOk result (steps.new ≤ steps.old + length nfa.now.automaton.states + free_ways nfa.now.automaton) }
+    ensures cost { steps.new ≤ steps.old + length nfa.now.automaton.states + free_ways nfa.now.automaton }
 {
     nfa.is_sound();
     for k in 0..from.len() {
         let id = from.name(k);
+        // What a set has is there once, and below its bound.
+        let _ = set.len();
         let last = list_match(nfa, kind, id, builder)?;
         if last {
             return Ok(());
@@ -91,8 +93,12 @@ fn close_target<S: NameSet, L: Ledger>(
     ensures visits { OnOk result (Visits nat_eq (known_steps nfa.now.automaton looks) (unit_steps nfa.now.automaton (unit_byte unit) id) (S.names set.old) (S.names set.new)) }
     ensures stack { OnOk result (stack.new.items ≡ []) }
     ensures bound { S.bound set.new ≡ S.bound set.old }
-    ensures cost { OnOk result (steps.new ≤ steps.old + 1 + known_ways nfa.now.automaton looks (drop (length (S.names set.old)) (S.names set.new))) }
+    ensures grows { (more : List ℕ) × (S.names set.new ≡ S.names set.old ++ more) }
+    ensures once { IsDistinct nat_eq (S.names set.new) }
+    ensures below { All (λ q. q < length nfa.now.automaton.states) (S.names set.new) }
+    ensures cost { steps.new ≤ steps.old + 1 + known_ways nfa.now.automaton looks (drop (length (S.names set.old)) (S.names set.new)) }
 {
+    let _ = set.len();
     let Some(next) = target(nfa, id, unit) else {
         return Ok(());
     };

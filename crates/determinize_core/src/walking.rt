@@ -72,7 +72,7 @@ fn walk_counted<L: Ledger>(
     Ok(states)
 }
 
-/// The same with sets for the states of the automaton.
+/// The same with sets for the states of the automaton, which keep their bounds.
 pub fn walk_with<S: NameSet, L: Ledger>(
     alloc: Global,
     nfa: &NFA,
@@ -86,8 +86,10 @@ pub fn walk_with<S: NameSet, L: Ledger>(
     requires inside { start < length nfa.now.automaton.states }
     requires bound1 { S.bound sets.old.set1 ≡ length nfa.now.automaton.states }
     requires bound2 { S.bound sets.old.set2 ≡ length nfa.now.automaton.states }
-    ensures { IfOk result (λ states. states.items ≡ walked nfa.now.automaton nfa.now.terminator kind
+    ensures states { IfOk result (λ states. states.items ≡ walked nfa.now.automaton nfa.now.terminator kind
         (start_value nfa.now.automaton nfa.now.terminator (start_of nfa.now.terminator look_behind) start) (units_of bytes.now)) }
+    ensures bound1 { S.bound sets.new.set1 ≡ S.bound sets.old.set1 }
+    ensures bound2 { S.bound sets.new.set2 ≡ S.bound sets.old.set2 }
 {
     nfa.is_sound();
     let mut stack = Vec::new(alloc);
@@ -122,7 +124,9 @@ fn walk_from<S: NameSet, L: Ledger>(
     requires below { All (λ q. q < length nfa.now.automaton.states) first.ids }
     requires once { IsDistinct nat_eq first.ids }
     requires empty { stack.old.items ≡ [] }
-    ensures { IfOk result (λ states. states.items ≡ walked nfa.now.automaton nfa.now.terminator kind first (units_of bytes.now)) }
+    ensures states { IfOk result (λ states. states.items ≡ walked nfa.now.automaton nfa.now.terminator kind first (units_of bytes.now)) }
+    ensures bound1 { S.bound sets.new.set1 ≡ length nfa.now.automaton.states }
+    ensures bound2 { S.bound sets.new.set2 ≡ length nfa.now.automaton.states }
 {
     nfa.is_sound();
     let mut states = Vec::new(alloc);

@@ -2,7 +2,7 @@ use Rattle.std.proofs.Common.{◌+◌, ◌<◌, ◌≤◌, length, drop, ◌∷�
 use Rattle.nfa_core.specs.Reached.{AreBelow}
 use Rattle.nfa_core.proofs.ForCallers.{has_from_all}
 use Rattle.determinize_core.proofs.AddedLemmas.{next_left, past_all}
-use Rattle.determinize_core.proofs.CloseLemmas.{closes_none, closes_more, closes_all, closes_cost}
+use Rattle.determinize_core.proofs.CloseLemmas.{closes_none, closes_more, closes_all, closes_cost, cut_cost}
 use Rattle.determinize_core.proofs.close_all.close_all.Goals as goal
 
 pub loop-k-init : goal.loop-k-init
@@ -41,3 +41,11 @@ returns-clause-cost g c =
     closes_cost c.args.nfa.now.automaton c.args.looks (g.S.NameSet.names c.args.from.now) c.args.steps.now
     (drop c.loop-k.k (g.S.NameSet.names c.args.from.now)) (g.S.NameSet.names c.loop-k.set) c.loop-k.k c.loop-k.steps c.loop-k.invariant.closes
     c.is_sound.ensures.named below (past_all (g.S.NameSet.names c.args.from.now) c.loop-k.k past) (length (g.S.NameSet.names c.args.from.now)) few
+
+pub returns-in_err-epsilon_closure-clause-cost : goal.returns-in_err-epsilon_closure-clause-cost
+returns-in_err-epsilon_closure-clause-cost g c =
+    let few : c.loop-k.k + 1 ≤ length (g.S.NameSet.names c.args.from.now) = omega (arith, c.loop-k-test.true, c.len-k-end.ensures.len) in
+    cut_cost c.args.nfa.now.automaton c.args.looks (g.S.NameSet.names c.args.from.now) c.args.steps.now
+    (drop c.loop-k.k (g.S.NameSet.names c.args.from.now)) (g.S.NameSet.names c.loop-k.set) c.loop-k.k c.loop-k.steps c.loop-k.invariant.closes
+    (g.S.NameSet.names c.epsilon_closure.new.set) c.epsilon_closure.new.steps (length (g.S.NameSet.names c.args.from.now))
+    c.in_err-epsilon_closure.ensures.grows c.in_err-epsilon_closure.ensures.once c.in_err-epsilon_closure.ensures.below c.in_err-epsilon_closure.ensures.cost few

@@ -1,5 +1,5 @@
-use Rattle.std.proofs.Common.{◌≡◌, ◌∙◌, ap, refl, ◌∷◌, [], List, ℕ, length, reverse}
-use Rattle.determinize_core.proofs.ClosureLemmas.{begins, goes_on, ends, counts}
+use Rattle.std.proofs.Common.{◌≡◌, ◌<◌, ◌∙◌, ap, refl, sym, subst, ◌∷◌, [], List, ℕ, All, length, reverse, append-nil}
+use Rattle.determinize_core.proofs.ClosureLemmas.{begins, goes_on, ends, counts, has_grown, cut_grown, cut_counts}
 use Rattle.determinize_core.proofs.TodoLemmas.{none_left}
 use Rattle.determinize_core.proofs.closure.epsilon_closure.Goals as goal
 
@@ -33,6 +33,42 @@ loop-id-preserved g c =
           c.loop-id.invariant.stands (reverse c.push_ways.new.stack.items) c.in-Some.id _ c.is_sound.ensures.named
           (rw (← bound) c.in-Some.ensures.inside) (rw (← bound) c.in-Some.ensures.below) c.in-Some.ensures.meets c.in-Some.ensures.cost c.state.ensures c.in_ok-push_ways.ensures;
     }
+
+-- where there is no memory to begin with, nothing was done
+pub returns-in_err-push-clause-grows : goal.returns-in_err-push-clause-grows
+returns-in_err-push-clause-grows g c = ([], sym (append-nil (g.S.NameSet.names c.args.set.now)))
+
+pub returns-in_err-push-clause-below : goal.returns-in_err-push-clause-below
+returns-in_err-push-clause-below g c = subst (λ (n : ℕ). All (λ q. q < n) (g.S.NameSet.names c.args.set.now)) c.requires.bound c.len.ensures.below
+
+-- where it lacks later, a state was met whose ways were not followed
+pub returns-in_err-push_ways-clause-grows : goal.returns-in_err-push_ways-clause-grows
+returns-in_err-push_ways-clause-grows g c =
+    cut_grown c.args.nfa.now.automaton c.args.look_have c.args.start (g.S.NameSet.names c.args.set.now) c.args.steps.now
+    (reverse c.loop-id.stack.items) (g.S.NameSet.names c.loop-id.set) (reverse c.next_fresh.new.stack.items) (g.S.NameSet.names c.next_fresh.new.set) c.loop-id.steps c.next_fresh.new.steps
+    c.loop-id.invariant.stands c.in-Some.id c.in-Some.ensures.meets
+
+pub returns-in_err-push_ways-clause-below : goal.returns-in_err-push_ways-clause-below
+returns-in_err-push_ways-clause-below g c =
+    let bound : g.S.NameSet.bound c.next_fresh.new.set ≡ length c.args.nfa.now.automaton.states = c.in-Some.ensures.bound ∙ (c.loop-id.invariant.bound ∙ c.requires.bound) in
+    subst (λ (n : ℕ). All (λ q. q < n) (g.S.NameSet.names c.next_fresh.new.set)) bound c.in-Some.ensures.all_below
+
+pub returns-in_err-push_ways-clause-cost : goal.returns-in_err-push_ways-clause-cost
+returns-in_err-push_ways-clause-cost g c =
+    cut_counts c.args.nfa.now.automaton c.args.look_have c.args.start (g.S.NameSet.names c.args.set.now) c.args.steps.now
+    (reverse c.loop-id.stack.items) (g.S.NameSet.names c.loop-id.set) (reverse c.next_fresh.new.stack.items) (g.S.NameSet.names c.next_fresh.new.set) c.loop-id.steps c.next_fresh.new.steps
+    c.loop-id.invariant.stands c.in-Some.id c.in-Some.ensures.meets c.in-Some.ensures.cost
+
+pub returns-clause-grows : goal.returns-clause-grows
+returns-clause-grows g c =
+    has_grown c.args.nfa.now.automaton c.args.look_have c.args.start (g.S.NameSet.names c.args.set.now) c.args.steps.now
+    (reverse c.loop-id.stack.items) (g.S.NameSet.names c.loop-id.set) (reverse c.next_fresh.new.stack.items) (g.S.NameSet.names c.next_fresh.new.set) c.loop-id.steps c.next_fresh.new.steps
+    c.loop-id.invariant.stands c.in_default.ensures.meets
+
+pub returns-clause-below : goal.returns-clause-below
+returns-clause-below g c =
+    let bound : g.S.NameSet.bound c.next_fresh.new.set ≡ length c.args.nfa.now.automaton.states = c.in_default.ensures.bound ∙ (c.loop-id.invariant.bound ∙ c.requires.bound) in
+    subst (λ (n : ℕ). All (λ q. q < n) (g.S.NameSet.names c.next_fresh.new.set)) bound c.in_default.ensures.all_below
 
 pub returns-clause-visits : goal.returns-clause-visits
 returns-clause-visits g c =

@@ -12,3 +12,15 @@ returns-clause-value g c =
 
 pub returns-clause-cost : goal.returns-clause-cost
 returns-clause-cost g c = omega (arith, c.in_ok-states_before.ensures.cost, c.in_ok-step_each.ensures.cost)
+
+pub returns-in_err-states_before-clause-cost : goal.returns-in_err-states_before-clause-cost
+returns-in_err-states_before-clause-cost g c = omega (arith, c.in_err-states_before.ensures.cost)
+
+pub returns-in_err-builder-clause-cost : goal.returns-in_err-builder-clause-cost
+returns-in_err-builder-clause-cost g c = omega (arith, c.in_ok-states_before.ensures.cost)
+
+pub returns-in_err-step_each-clause-cost : goal.returns-in_err-step_each-clause-cost
+returns-in_err-step_each-clause-cost g c = omega (arith, c.in_ok-states_before.ensures.cost, c.in_err-step_each.ensures.cost)
+
+pub returns-in_err-add_nfa_states-clause-cost : goal.returns-in_err-add_nfa_states-clause-cost
+returns-in_err-add_nfa_states-clause-cost g c = omega (arith, c.in_ok-states_before.ensures.cost, c.in_ok-step_each.ensures.cost)

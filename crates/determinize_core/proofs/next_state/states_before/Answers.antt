@@ -32,3 +32,9 @@ returns-clause-cost g c =
     let few = put_few c.args.nfa.now.automaton c.args.nfa.now.terminator c.args.state.now (unit_byte c.args.unit) c.requires.once c.known_before-looks.result c.known_before-looks.ensures (g.S.NameSet.names c.put_ids.new.set) c.put_ids.ensures.names c.gains.result c.gains.ensures c.requires.below in
     let all : length c.args.state.now.ids ≤ length c.args.nfa.now.automaton.states = few_once _ c.args.state.now.ids c.requires.once (has_from_all _ c.args.state.now.ids c.requires.below) in
     omega (arith, c.put_ids.ensures.cost, c.in_ok-close_all.ensures.cost, few, all)
+
+pub returns-in_err-close_all-clause-cost : goal.returns-in_err-close_all-clause-cost
+returns-in_err-close_all-clause-cost g c =
+    let few = put_few c.args.nfa.now.automaton c.args.nfa.now.terminator c.args.state.now (unit_byte c.args.unit) c.requires.once c.known_before-looks.result c.known_before-looks.ensures (g.S.NameSet.names c.put_ids.new.set) c.put_ids.ensures.names c.gains.result c.gains.ensures c.requires.below in
+    let all : length c.args.state.now.ids ≤ length c.args.nfa.now.automaton.states = few_once _ c.args.state.now.ids c.requires.once (has_from_all _ c.args.state.now.ids c.requires.below) in
+    omega (arith, c.put_ids.ensures.cost, c.in_err-close_all.ensures.cost, few, all)

@@ -1,6 +1,6 @@
-use Rattle.std.proofs.Common.{◌<◌, ◌≤◌, length, refl, ◌∙◌, arith}
+use Rattle.std.proofs.Common.{ℕ, ◌<◌, ◌≤◌, All, length, refl, subst, ◌∙◌, arith}
 use Rattle.search_core.specs.Units.{unit_byte}
-use Rattle.determinize_core.proofs.EachLemmas.{step_begins, step_goes_on, stop_matches, stop_closed, stop_cost, end_matches, end_closed, end_cost}
+use Rattle.determinize_core.proofs.EachLemmas.{target_refused, match_refused, step_begins, step_goes_on, stop_matches, stop_closed, stop_cost, end_matches, end_closed, end_cost}
 use Rattle.determinize_core.proofs.step_each.step_each.Goals as goal
 
 pub loop-k-init : goal.loop-k-init
@@ -61,4 +61,22 @@ returns-clause-cost g c =
     let few : c.loop-k.k ≤ length (g.S.NameSet.names c.args.from.now) = omega (arith, c.loop-k.auto.k-end, c.len-k-end.ensures.len) in
     let cost = end_cost c.args.kind c.args.nfa.now.automaton (unit_byte c.args.unit) c.args.looks (g.S.NameSet.names c.args.from.now) c.args.builder.now c.args.steps.now
     c.loop-k.k c.loop-k.builder (g.S.NameSet.names c.loop-k.set) c.loop-k.steps c.loop-k.invariant.at past c.is_sound.ensures.named few in
+    omega (arith, cost, c.len-k-end.ensures.fits, c.requires.from)
+
+-- where memory is refused
+pub returns-in_err-last-clause-cost : goal.returns-in_err-last-clause-cost
+returns-in_err-last-clause-cost g c =
+    let within : c.loop-k.k < length (g.S.NameSet.names c.args.from.now) = omega (arith, c.loop-k-test.true, c.len-k-end.ensures.len) in
+    let low : All (λ q. q < length c.args.nfa.now.automaton.states) (g.S.NameSet.names c.loop-k.set) =
+    subst (λ (n : ℕ). All (λ q. q < n) (g.S.NameSet.names c.loop-k.set)) (c.loop-k.invariant.bound ∙ c.requires.bound) c.len.ensures.below in
+    let cost = match_refused c.args.kind c.args.nfa.now.automaton (unit_byte c.args.unit) c.args.looks (g.S.NameSet.names c.args.from.now) c.args.builder.now c.args.steps.now
+    c.loop-k.k c.loop-k.builder (g.S.NameSet.names c.loop-k.set) c.loop-k.steps c.loop-k.invariant.at within c.len.ensures.distinct low in
+    omega (arith, cost, c.len-k-end.ensures.fits, c.requires.from)
+
+pub returns-in_err-close_target-clause-cost : goal.returns-in_err-close_target-clause-cost
+returns-in_err-close_target-clause-cost g c =
+    let within : c.loop-k.k < length (g.S.NameSet.names c.args.from.now) = omega (arith, c.loop-k-test.true, c.len-k-end.ensures.len) in
+    let cost = target_refused c.args.kind c.args.nfa.now.automaton (unit_byte c.args.unit) c.args.looks (g.S.NameSet.names c.args.from.now) c.args.builder.now c.args.steps.now
+    c.loop-k.k c.loop-k.builder (g.S.NameSet.names c.loop-k.set) c.loop-k.steps c.loop-k.invariant.at within (g.S.NameSet.names c.close_target.new.set) c.close_target.new.steps
+    c.in_err-close_target.ensures.grows c.in_err-close_target.ensures.once c.in_err-close_target.ensures.below c.in_err-close_target.ensures.cost in
     omega (arith, cost, c.len-k-end.ensures.fits, c.requires.from)
