@@ -13,12 +13,12 @@ use Rattle.look_core.specs.Looks.{Side, byte_side, is_byte, is_word, is_no_word,
 use Rattle.look_core.specs.Terminators.{Terminator, ends_line}
 use Rattle.look_core.specs.declared.look.Look.{Look}
 use Rattle.look_core.specs.declared.look.Look.TheVariants.{Start as AtStart, End, StartLF, EndLF, StartCRLF, EndCRLF, WordAscii, WordAsciiNegate, WordUnicode, WordUnicodeNegate, WordStartAscii, WordEndAscii, WordStartUnicode, WordEndUnicode, WordStartHalfAscii, WordEndHalfAscii, WordStartHalfUnicode, WordEndHalfUnicode}
-use Rattle.look_core.proofs.LookSetLemmas.{has_look-shared, has_look-without, same_members}
+use Rattle.look_core.proofs.ForCallers.{has_look-shared, has_look-without, same_members}
 use Rattle.search_types.specs.declared.match_kind.MatchKind.{MatchKind}
 use Rattle.nfa_core.specs.Walks.{chain_ends, distinct}
 use Rattle.nfa_core.specs.Nfa.{Automaton, look_node, node_at}
 use Rattle.nfa_core.specs.NfaValue.{looks_of}
-use Rattle.nfa_core.proofs.LookedLemmas.{looks_any}
+use Rattle.nfa_core.proofs.ForCallers.{looks_any}
 use Rattle.determinize_core.specs.Alike.{AreAlike, AreUnitsAlike}
 use Rattle.determinize_core.specs.LookBehind.{starts_of, families_of, behind_start, behind_line, with_look_behind}
 use Rattle.determinize_core.specs.Starts.{start_of}

@@ -16,7 +16,7 @@ use Rattle.look_core.specs.declared.look.Look.TheVariants.{StartLF, EndLF, Start
 use Rattle.nfa_core.specs.Nfa.{Node, byte_range, sparse_node, dense_node, look_node, union_node, binary_union, capture_node, fail_node, match_node, Automaton, node_at}
 use Rattle.nfa_core.specs.NfaValue.{IsSound, IsNodeOf, IsClassSet, looks_of, told_by}
 use Rattle.nfa_core.specs.Ways.{on_byte, in_ranges}
-use Rattle.nfa_core.proofs.LookedLemmas.{looks_any}
+use Rattle.nfa_core.proofs.ForCallers.{looks_any}
 use Rattle.determinize_core.specs.Alike.{AreAlike}
 
 -- ---- what holds of all of a joined list

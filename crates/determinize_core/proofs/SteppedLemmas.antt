@@ -7,14 +7,11 @@ use Rattle.look_core.specs.declared.look.Look.{Look}
 use Rattle.look_core.specs.Codes.{bit_of}
 use Rattle.look_core.specs.LookSets.{has_look, union_of}
 use Rattle.look_core.specs.Terminators.{Terminator}
-use Rattle.look_core.proofs.LookSetLemmas.{has_look-none, has_look-repr, has_look-union}
-use Rattle.look_core.proofs.LookRows.{same_from_bit}
+use Rattle.look_core.proofs.ForCallers.{has_look-none, has_look-repr, has_look-union, same_from_bit}
 use Rattle.search_types.specs.declared.match_kind.MatchKind.{MatchKind}
 use Rattle.nfa_core.specs.Nfa.{Node, byte_range, sparse_node, dense_node, look_node, union_node, binary_union, capture_node, fail_node, match_node, Automaton, node_at}
 use Rattle.nfa_core.specs.NfaValue.{IsSound, look_of, looks_of}
-use Rattle.nfa_core.proofs.LookedLemmas.{looks_any}
-use Rattle.nfa_core.proofs.MemberLemmas.{not_both}
-use Rattle.nfa_core.proofs.ReachedLemmas.{has_from_all}
+use Rattle.nfa_core.proofs.ForCallers.{looks_any, not_both, has_from_all}
 use Rattle.determinize_core.specs.States.{StateValue, IsState, dead}
 use Rattle.determinize_core.specs.StateBytes.{encoded}
 use Rattle.determinize_core.specs.Stepped.{IsStepped, widest}

@@ -10,9 +10,6 @@ use Rattle.hir_core.specs.Tree.{Tree}
 use Rattle.hir_core.specs.PreferredEnds.{preferred_ends}
 use Rattle.hir_core.proofs.ForCallers.{nil_from_none, prefix_sound, suffix_sound, preferred_ends_sound}
 use Rattle.nfa_core.specs.Ways.{Text, span}
-use Rattle.hir_core.proofs.HasLemmas.{nil_from_none}
-use Rattle.hir_core.proofs.LookFactLemmas.{prefix_sound, suffix_sound}
-use Rattle.hir_core.proofs.PreferredEndsLemmas.{preferred_ends_sound}
 use Rattle.nfa_core.specs.Drafted.{Table}
 use Rattle.nfa_core.specs.BuilderStates.{empty_part}
 use Rattle.thompson_nfa.specs.Denotes.{seen, IsMeant, Reaches, Halts, Orders}

@@ -13,12 +13,7 @@ use Rattle.nfa_core.specs.Renaming.{stands_for, kept, new_name, automaton_of}
 use Rattle.nfa_core.specs.Runs.{IsChain, last_or, answers}
 use Rattle.nfa_core.specs.Walks.{Has, distinct, chain_ends}
 use Rattle.nfa_core.specs.Ways.{Text, ways, matched, ends_from}
-use Rattle.nfa_core.proofs.MemberLemmas.{none_in}
-use Rattle.nfa_core.proofs.PairLemmas.{pairs_equal, from_map}
-use Rattle.nfa_core.proofs.RenamingAutomaton.{state_match}
-use Rattle.nfa_core.proofs.RenamingEnds.{name_inside, is_well_formed}
-use Rattle.nfa_core.proofs.RenamingLemmas.{past_next}
-use Rattle.nfa_core.proofs.ForCallers.{join_once_more, ends_by_ways, renamed_pair, state_ways, from_mapped, every_of_all, chain_to}
+use Rattle.nfa_core.proofs.ForCallers.{none_in, pairs_equal, from_map, state_match, name_inside, is_well_formed, past_next, join_once_more, ends_by_ways, renamed_pair, state_ways, from_mapped, every_of_all, chain_to}
 use Rattle.thompson_nfa.specs.Assembled.{AcceptAll, IsAssembled}
 use Rattle.thompson_nfa.specs.Compilations.{places_from, start_of}
 use Rattle.thompson_nfa.specs.Configs.{Options}

@@ -17,13 +17,7 @@ use Rattle.nfa_core.specs.Renaming.{stands_for, kept, new_name, automaton_of}
 use Rattle.nfa_core.specs.Runs.{IsChain, last_or}
 use Rattle.nfa_core.specs.Walks.{Has, distinct}
 use Rattle.nfa_core.specs.Ways.{Text, reads, with_place, is_passed, on_read, on_nothing, place_behind, ways}
-use Rattle.nfa_core.proofs.ForCallers.{join_once_more, of_append, ends_by_ways, renamed_pair, state_ways, chain_to}
-use Rattle.nfa_core.proofs.JoinLemmas.{join-append}
-use Rattle.nfa_core.proofs.MemberLemmas.{none_in, has_first, has_cons}
-use Rattle.nfa_core.proofs.PairLemmas.{names_equal, pairs_equal, from_map}
-use Rattle.nfa_core.proofs.RenamingAutomaton.{state_match, one_state}
-use Rattle.nfa_core.proofs.RenamingEnds.{name_inside, is_well_formed}
-use Rattle.nfa_core.proofs.RenamingLemmas.{past_next}
+use Rattle.nfa_core.proofs.ForCallers.{join_once_more, of_append, ends_by_ways, renamed_pair, state_ways, chain_to, join-append, none_in, has_first, has_cons, names_equal, pairs_equal, from_map, state_match, one_state, name_inside, is_well_formed, past_next}
 use Rattle.thompson_nfa.specs.Assembled.{IsAssembled, TriesEachPlace, AllAnchored}
 use Rattle.thompson_nfa.specs.Compilations.{places_from, IsReadTo, IsRead}
 use Rattle.thompson_nfa.specs.Configs.{Options, reverse_of}
