@@ -1,7 +1,7 @@
 -- Bytes that an automaton does not tell apart lead from a state to the same state, and a search starts in the same state behind
 -- them.
-use Rattle.std.proofs.Common.{◌≡◌, ◌≢◌, ℕ, ◌<◌, ◌≤◌, ◌==◌, ◌&&◌, ◌||◌, true, false, Bool, not, List, [], ◌∷◌, length, Option, Some, None, refl, sym, ap, ◌∙◌, subst, arith}
-use Rattle.std.proofs.lemmas.Bool.{cases_Bool, ne_eqb}
+use Rattle.std.proofs.Common.{◌≡◌, ◌≢◌, ℕ, ◌==◌, ◌&&◌, ◌||◌, true, false, Bool, not, List, [], ◌∷◌, length, Option, Some, None, refl, sym, ap, ◌∙◌, subst, arith}
+use Rattle.std.proofs.lemmas.Bool.{ne_eqb}
 use Rattle.std.proofs.lemmas.Nat.{and_le_r}
 use Rattle.std.specs.Bool.{nat_eq}
 use Rattle.std.specs.List.{flat_map, list_any}
@@ -9,14 +9,15 @@ use Rattle.std.specs.Prelude.{if◌then◌else◌}
 use Rattle.search_core.specs.Utf8.{is_word_byte}
 use Rattle.look_core.specs.Codes.{all_looks, is_anchor_lf, is_anchor_crlf, is_word_look}
 use Rattle.look_core.specs.LookSets.{IsLookSet, has_look, has_any, shared_by, without}
-use Rattle.look_core.specs.Looks.{Side, byte_side, is_byte, is_word, is_no_word, word_if, is_edge_of_word, is_no_edge_of_word, is_start_of_word, is_end_of_word}
+use Rattle.look_core.specs.Looks.{byte_side, is_byte, is_word, is_no_word, word_if, is_edge_of_word, is_no_edge_of_word, is_start_of_word, is_end_of_word}
 use Rattle.look_core.specs.Terminators.{Terminator, ends_line}
 use Rattle.look_core.specs.declared.look.Look.{Look}
 use Rattle.look_core.specs.declared.look.Look.TheVariants.{Start as AtStart, End, StartLF, EndLF, StartCRLF, EndCRLF, WordAscii, WordAsciiNegate, WordUnicode, WordUnicodeNegate, WordStartAscii, WordEndAscii, WordStartUnicode, WordEndUnicode, WordStartHalfAscii, WordEndHalfAscii, WordStartHalfUnicode, WordEndHalfUnicode}
 use Rattle.look_core.proofs.ForCallers.{has_look-shared, has_look-without, same_members}
 use Rattle.search_types.specs.declared.match_kind.MatchKind.{MatchKind}
+use Rattle.nfa_core.specs.Alike.{AreAlike}
 use Rattle.nfa_core.specs.Walks.{chain_ends, distinct}
-use Rattle.nfa_core.specs.Nfa.{Automaton, look_node, node_at}
+use Rattle.nfa_core.specs.Nfa.{Automaton, node_at}
 use Rattle.nfa_core.specs.NfaValue.{looks_of}
 use Rattle.nfa_core.proofs.ForCallers.{looks_any}
 use Rattle.determinize_core.specs.Alike.{AreAlike, AreUnitsAlike}
@@ -24,7 +25,7 @@ use Rattle.determinize_core.specs.LookBehind.{starts_of, families_of, behind_sta
 use Rattle.determinize_core.specs.Starts.{start_of}
 use Rattle.determinize_core.specs.States.{StateValue, dead}
 use Rattle.determinize_core.specs.Stepped.{IsStepped}
-use Rattle.determinize_core.specs.Steps.{first_half, second_half, known_before, known_behind, known_steps, closed, unit_steps, patterns_in, reading, gains, ids_before, families, states_behind, is_some_kept, with_states, step_value, start_value, behind}
+use Rattle.determinize_core.specs.Steps.{first_half, second_half, known_before, known_behind, known_steps, closed, unit_steps, patterns_in, reading, gains, ids_before, families, states_behind, is_some_kept, with_states, step_value, start_value}
 use Rattle.determinize_core.specs.declared.lookbehind.Families.{Families}
 use Rattle.determinize_core.specs.declared.lookbehind.LookBehind.{LookBehind}
 use Rattle.determinize_core.proofs.ClosesLemmas.{ways_agree}

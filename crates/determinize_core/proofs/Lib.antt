@@ -39,6 +39,5 @@ pub mod IdsLemmas
 pub mod WalkingLemmas
 pub mod HaystackLemmas
 pub mod SteppedLemmas
-pub mod RangeLemmas
 pub mod AlikeLemmas
 pub mod ForCallers

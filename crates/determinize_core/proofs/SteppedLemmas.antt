@@ -1,5 +1,5 @@
 -- What starts and steps of an automaton come to is made of its states, looks and patterns, and has few bytes.
-use Rattle.std.proofs.Common.{◌≡◌, ℕ, ◌<◌, ◌≤◌, ◌+◌, ◌*◌, ◌||◌, true, false, Bool, List, [], ◌∷◌, length, Option, refl, sym, ap, ◌∙◌, arith, All}
+use Rattle.std.proofs.Common.{◌≡◌, ℕ, ◌<◌, ◌≤◌, ◌||◌, true, false, Bool, List, [], ◌∷◌, length, Option, refl, sym, ap, ◌∙◌, arith, All}
 use Rattle.std.proofs.lemmas.Bool.{eqb-true}
 use Rattle.std.specs.Bool.{nat_eq}
 use Rattle.std.specs.List.{IsDistinct}

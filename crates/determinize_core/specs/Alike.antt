@@ -1,27 +1,10 @@
--- Bytes and units of the input that an automaton does not tell apart.
-use Rattle.std.specs.Prelude.{◌≡◌, ◌==◌, ℕ, true, Option, Some, None}
-use Rattle.search_core.specs.Utf8.{is_word_byte}
-use Rattle.look_core.specs.Codes.{is_anchor_lf, is_anchor_crlf, is_word_look}
-use Rattle.look_core.specs.LookSets.{has_look}
-use Rattle.look_core.specs.Terminators.{Terminator, ends_line}
-use Rattle.look_core.specs.declared.look.Look.{Look}
-use Rattle.nfa_core.specs.Nfa.{Automaton, node_at}
-use Rattle.nfa_core.specs.NfaValue.{looks_of}
-use Rattle.nfa_core.specs.Ways.{on_byte}
+-- Units of the input that an automaton does not tell apart.
+use Rattle.std.specs.Prelude.{ℕ, Option, Some, None}
+use Rattle.look_core.specs.Terminators.{Terminator}
+use Rattle.nfa_core.specs.Alike.{AreAlike}
+use Rattle.nfa_core.specs.Nfa.{Automaton}
 
--- what a look asks of a byte beside its place is the same of both bytes
-pub record AreReadAlike (t : Terminator) (l : Look) (b c : ℕ) : Type 0 where
-  pub lines : is_anchor_lf l ≡ true → ends_line t b ≡ ends_line t c
-  pub feeds : is_anchor_crlf l ≡ true → (0x0A == b) ≡ (0x0A == c)
-  pub returns : is_anchor_crlf l ≡ true → (0x0D == b) ≡ (0x0D == c)
-  pub words : is_word_look l ≡ true → is_word_byte b ≡ is_word_byte c
-
--- the automaton doesn't tell the bytes apart: each state leads to the same states, and each look of a state reads alike
-pub record AreAlike (t : Terminator) (a : Automaton) (b c : ℕ) : Type 0 where
-  pub led : (q : ℕ) → on_byte (node_at a q) b ≡ on_byte (node_at a q) c
-  pub looks : (l : Look) → has_look (looks_of a.states) l ≡ true → AreReadAlike t l b c
-
--- the same of units: the end of the input is alike with itself alone
+-- two bytes that it does not tell apart; the end of the input is alike with itself alone
 abbrev pub AreUnitsAlike : Automaton → Terminator → Option ℕ → Option ℕ → Type 0
 AreUnitsAlike a t None None = Unit {0}
 AreUnitsAlike a t (Some b) (Some c) = AreAlike t a b c

@@ -17,7 +17,7 @@ use Rattle.nfa_core.specs.Nfa.{Automaton, Node, match_node, node_at}
 use Rattle.nfa_core.specs.NfaValue.{look_of, looks_of, is_capture}
 use Rattle.nfa_core.specs.Ways.{on_byte, on_nothing, place_of}
 use Rattle.determinize_core.specs.States.{StateValue, dead}
-use Rattle.determinize_core.specs.LookBehind.{families_of, with_if, starts_of, look_behind, with_look_behind}
+use Rattle.determinize_core.specs.LookBehind.{families_of, starts_of, look_behind, with_look_behind}
 use Rattle.determinize_core.specs.Starts.{start_of}
 use Rattle.determinize_core.specs.KnownBefore.{known_words, known_lines}
 pub use Rattle.determinize_core.specs.KnownBefore.{first_half, second_half, is_end}
