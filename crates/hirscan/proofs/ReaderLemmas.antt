@@ -1,10 +1,9 @@
 -- Each reader answers just what its relation says of the word, and nothing just where that says nothing.
-use Rattle.std.proofs.Common.{◌≡◌, ℕ, ◌<◌, Bool, true, false, List, [], ◌∷◌, Option, Some, None, nat_lt, refl, sym, ap, subst, ◌∙◌, arith}
+use Rattle.std.proofs.Common.{◌≡◌, ℕ, ◌<◌, Bool, true, false, List, [], ◌∷◌, Option, Some, None, nat_lt, refl, sym, ap, subst, ◌∙◌}
 use Rattle.std.specs.Prelude.{◌↔◌}
 use Rattle.std.specs.Option.{unwrap_or}
 use Rattle.std.proofs.lemmas.Bool.{ltb-true, lt-ltb}
 use Rattle.hex.specs.Hex.{decode_of}
-use Rattle.hirscan.specs.declared.fault.FaultKind.{FaultKind}
 use Rattle.hirscan.specs.declared.fault.FaultKind.TheVariants.{BadNumber, BadHex, BadRange, BadChoice}
 use Rattle.hirscan.specs.Words.{IsNumber, IsBound, IsGreedy, IsSwitch, IsYes, IsHex, IsHexByte, HasEnds, IsItem}
 use Rattle.hirscan.specs.Readers.{IsReader, IsSpelled, line_word, number, bound, order, switch, yes_or_no, hex_bytes, only_one, hex_byte, item_ends, the_ends}
