@@ -8,6 +8,8 @@ pub use Rattle.nfa_core.proofs.MemberLemmas.{none_in, not_both, has_or_not, has_
 pub use Rattle.nfa_core.proofs.JoinLemmas.{join-append, join_once, join_brings, of_join, join_flat_map}
 -- an optional value is there or not, and is one value
 pub use Rattle.nfa_core.proofs.PreferenceLemmas.{option_cases, one_value, no_value}
+-- what passes a test is in what the test keeps, exactly where it is in all
+pub use Rattle.nfa_core.proofs.RunLemmas.{has_filter}
 -- ---- walks and runs
 -- walks of two lists are one walk; a walk comes to one list, and to the same where nothing in it has more ways
 pub use Rattle.nfa_core.proofs.StepLemmas.{joined, one_after, stays_closed}
