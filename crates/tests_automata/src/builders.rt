@@ -117,6 +117,15 @@ fn byte_a_states(alloc: Global) -> Result<Vec<State>, AllocError> {
     Ok(states)
 }
 
+/// The two starts, and that of the first pattern.
+fn starts(nfa: &NFA) -> (StateID, StateID, Option<StateID>) {
+    (
+        nfa.start_anchored(),
+        nfa.start_unanchored(),
+        nfa.start_pattern(PatternID::ZERO),
+    )
+}
+
 #[test]
 fn a_byte_behind_any_others(rt: HostRuntime) -> Result<(), Fail> {
     let builder = byte_a(rt.alloc())?;
@@ -124,14 +133,11 @@ fn a_byte_behind_any_others(rt: HostRuntime) -> Result<(), Fail> {
     assert!(rt; builder.can_build(anchored, unanchored));
     let nfa = build_counted::<Brand>(&builder, anchored, unanchored, Blank::new(1))?;
     assert_eq!(rt; nfa.states(), byte_a_states(rt.alloc())?.as_slice());
-    assert_eq!(rt; nfa.start_anchored().as_usize(), 2);
-    assert_eq!(rt; nfa.start_unanchored().as_usize(), 0);
-    assert_eq!(rt; nfa.start_pattern(PatternID::ZERO), Some(StateID::must(2)));
-    assert!(rt; !nfa.is_always_start_anchored());
-    assert!(rt; !nfa.has_empty());
-    assert_eq!(rt; nfa.memory_usage(), 96);
-    assert_eq!(rt; builder.memory_usage(), 136);
-    assert_eq!(rt; nfa.byte_classes().alphabet_len(), 4);
+    let start = StateID::must(2);
+    assert_eq!(rt; starts(&nfa), (start, StateID::ZERO, Some(start)));
+    assert!(rt; !nfa.is_always_start_anchored() && !nfa.has_empty());
+    let sizes = (nfa.memory_usage(), builder.memory_usage());
+    assert_eq!(rt; (sizes, nfa.byte_classes().alphabet_len()), ((96, 136), 4));
     Ok(())
 }
 
@@ -368,9 +374,8 @@ fn empty_states_are_left_out(rt: HostRuntime) -> Result<(), Fail> {
     assert_eq!(rt; builder.memory_usage(), 24_024);
     assert!(rt; builder.can_build(start, start));
     let nfa = build_chain::<Brand>(&builder, start, Blank::new(1))?;
-    assert_eq!(rt; nfa.states().len(), 1);
-    assert_eq!(rt; nfa.start_anchored(), StateID::ZERO);
-    assert_eq!(rt; nfa.start_pattern(PatternID::ZERO), Some(StateID::ZERO));
-    assert!(rt; nfa.has_empty());
+    assert_eq!(rt; (nfa.states().len(), nfa.has_empty()), (1, true));
+    let start = StateID::ZERO;
+    assert_eq!(rt; starts(&nfa), (start, start, Some(start)));
     Ok(())
 }

@@ -79,15 +79,12 @@ fn has_exactly<S: NameSet>(set: &S, names: &[usize]) -> bool
 fn check<S: NameSet>(rt: &impl Abort, alloc: Global, set: &mut S) -> Result<(), AllocError>
     requires { S.bound set.old ≡ 256 }
 {
-    assert_eq!(rt; set.capacity(), CAPACITY);
-    assert_eq!(rt; set.len(), 0);
-    assert!(rt; inserts_quietly(set));
+    assert_eq!(rt; (set.capacity(), set.len()), (CAPACITY, 0));
+    assert!(rt; inserts_quietly(set) && has_exactly(set, &NAMES));
     assert_eq!(rt; names_of(alloc, set)?.as_slice(), NAMES.as_slice());
-    assert!(rt; has_exactly(set, &NAMES));
     set.clear();
     assert_eq!(rt; set.len(), 0);
-    assert!(rt; has_exactly(set, &[]));
-    assert!(rt; inserts_quietly(set));
+    assert!(rt; has_exactly(set, &[]) && inserts_quietly(set));
     assert_eq!(rt; names_of(alloc, set)?.as_slice(), NAMES.as_slice());
     Ok(())
 }
@@ -101,21 +98,23 @@ fn both_sets_are_alike(rt: HostRuntime) -> Result<(), Fail> {
     Ok(())
 }
 
-#[test]
-fn sparse_sets(rt: HostRuntime) -> Result<(), Fail> {
-    let mut set = SparseSet::new(rt.alloc(), CAPACITY)?;
-    assert!(rt; set.is_empty());
-    assert_eq!(rt; set.memory_usage(), 2048);
-    assert!(rt; inserts_quietly(&mut set));
-    assert!(rt; !set.is_empty());
-    let mut names = Vec::new(rt.alloc());
+/// The numbers that the set's iterator tells.
+fn told(alloc: Global, set: &SparseSet) -> Result<Vec<usize>, AllocError> {
+    let mut names = Vec::new(alloc);
     for id in set.iter() {
         names.push(id.as_usize())?;
     }
-    assert_eq!(rt; names.as_slice(), NAMES.as_slice());
+    Ok(names)
+}
+
+#[test]
+fn sparse_sets(rt: HostRuntime) -> Result<(), Fail> {
+    let mut set = SparseSet::new(rt.alloc(), CAPACITY)?;
+    assert_eq!(rt; (set.is_empty(), set.memory_usage()), (true, 2048));
+    assert!(rt; inserts_quietly(&mut set) && !set.is_empty());
+    assert_eq!(rt; told(rt.alloc(), &set)?.as_slice(), NAMES.as_slice());
     set.resize(64)?;
-    assert!(rt; set.is_empty());
-    assert_eq!(rt; set.capacity(), 64);
+    assert_eq!(rt; (set.is_empty(), set.capacity()), (true, 64));
     assert!(rt; !set.contains(StateID::must(63)));
     set.resize(1000)?;
     assert_eq!(rt; set.memory_usage(), 8000);
@@ -129,16 +128,17 @@ fn two_sets(rt: HostRuntime) -> Result<(), Fail> {
     assert_eq!(rt; sets.memory_usage(), 4096);
     assert!(rt; inserts_quietly(&mut sets.set1));
     sets.swap();
-    assert!(rt; sets.set1.is_empty());
     assert_eq!(rt;
         names_of(rt.alloc(), &sets.set2)?.as_slice(),
         NAMES.as_slice()
     );
+    assert!(rt; sets.set1.is_empty());
     sets.clear();
-    assert!(rt; sets.set2.is_empty());
-    assert_eq!(rt; sets.set2.capacity(), CAPACITY);
+    assert_eq!(rt;
+        (sets.set2.is_empty(), sets.set2.capacity()),
+        (true, CAPACITY)
+    );
     sets.resize(10)?;
-    assert_eq!(rt; sets.set1.capacity(), 10);
-    assert_eq!(rt; sets.memory_usage(), 160);
+    assert_eq!(rt; (sets.set1.capacity(), sets.memory_usage()), (10, 160));
     Ok(())
 }

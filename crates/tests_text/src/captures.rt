@@ -1,7 +1,7 @@
 use crate::groups::a_and_none;
 use search_core::{NonMaxUsize, PatternID};
-use search_types::{Captures, Match, Span};
-use std::alloc::Global;
+use search_types::{Captures, GroupInfo, Match, Span};
+use std::alloc::{AllocError, Global};
 use std::test::Fail;
 
 /// Sets each of these slots that is kept.
@@ -52,16 +52,13 @@ fn spans_of(captures: &Captures) -> [Option<Option<Span>>; 3] {
     [spans.next(), spans.next(), spans.next()]
 }
 
-#[test]
-fn groups_of_a_match(rt: HostRuntime) -> Result<(), Fail> {
-    let captures = all_of_a_match(rt.alloc())?;
+/// Whether a match tells its groups: its own span, and that of the second one, whose name is `a`.
+fn tells_groups(captures: &Captures) -> bool {
     let whole = Some(Span { start: 0, end: 2 });
     let group = Some(Span { start: 1, end: 2 });
     let found = Some(Match::must(0, Span { start: 0, end: 2 }));
-    let told = (found, 2, [group, None, group, None]);
-    assert_eq!(rt; groups_of(&captures), told);
-    assert_eq!(rt; spans_of(&captures), [Some(whole), Some(group), None]);
-    Ok(())
+    groups_of(captures) == (found, 2, [group, None, group, None])
+        && spans_of(captures) == [Some(whole), Some(group), None]
 }
 
 /// The pattern, the number of slots and of groups, and the match.
@@ -74,18 +71,26 @@ fn facts_of(captures: &Captures) -> (Option<PatternID>, usize, usize, Option<Mat
     )
 }
 
+/// Whether captures that were cleared tell nothing.
+fn tells_nothing(captures: &Captures) -> bool {
+    facts_of(captures) == (None, 6, 0, None)
+}
+
+/// Whether a copy tells the match.
+fn tells_match(copy: &Captures) -> bool {
+    copy.pattern() == Some(PatternID::ZERO)
+        && copy.get_group(1) == Some(Span { start: 1, end: 2 })
+        && copy.group_info().pattern_len() == 2
+}
+
 #[test]
-fn copy_of_a_match(rt: HostRuntime) -> Result<(), Fail> {
+fn groups_of_a_match(rt: HostRuntime) -> Result<(), Fail> {
     let mut captures = all_of_a_match(rt.alloc())?;
     let copy = captures.try_clone(rt.alloc())?;
+    assert!(rt; tells_groups(&captures));
     captures.clear();
-    assert_eq!(rt; facts_of(&captures), (None, 6, 0, None));
-    let group = Some(Span { start: 1, end: 2 });
-    assert_eq!(rt;
-        (copy.pattern(), copy.get_group(1)),
-        (Some(PatternID::ZERO), group)
-    );
-    assert_eq!(rt; copy.group_info().pattern_len(), 2);
+    assert!(rt; tells_nothing(&captures));
+    assert!(rt; tells_match(&copy));
     Ok(())
 }
 
@@ -100,16 +105,23 @@ fn has_parts(captures: &Captures) -> [bool; 4] {
     ]
 }
 
+/// Whether the parts of a text are told.
+fn tells_parts(captures: &Captures) -> bool {
+    captures.extract::<&str, 1>("ab") == Some(("ab", ["b"]))
+}
+
 #[test]
 fn parts_of_a_haystack(rt: HostRuntime) -> Result<(), Fail> {
     let captures = all_of_a_match(rt.alloc())?;
-    assert_eq!(rt; captures.extract::<&str, 1>("ab"), Some(("ab", ["b"])));
-    assert_eq!(rt; has_parts(&captures), [true, false, false, false]);
+    assert!(rt; tells_parts(&captures));
+    assert!(rt; has_parts(&captures) == [true, false, false, false]);
     Ok(())
 }
 
 /// How many slots are kept, and the spans of the first two groups.
-fn kept(captures: &Captures) -> (usize, Option<Span>, Option<Span>) {
+type Kept = (usize, Option<Span>, Option<Span>);
+
+fn kept(captures: &Captures) -> Kept {
     (
         captures.slots().len(),
         captures.get_group(0),
@@ -117,14 +129,24 @@ fn kept(captures: &Captures) -> (usize, Option<Span>, Option<Span>) {
     )
 }
 
+/// What is kept of a match in slots of whole matches.
+fn kept_of_matches(alloc: Global, info: GroupInfo) -> Result<Kept, AllocError> {
+    let mut captures = Captures::matches(alloc, info)?;
+    matched(&mut captures);
+    Ok(kept(&captures))
+}
+
+/// Whether a match without slots is one, and tells no span.
+fn is_match_alone(alloc: Global, info: GroupInfo) -> bool {
+    let mut captures = Captures::empty(alloc, info);
+    matched(&mut captures);
+    captures.is_match() && captures.get_group(0).is_none()
+}
+
 #[test]
 fn slots_that_are_not_kept(rt: HostRuntime) -> Result<(), Fail> {
-    let alloc = rt.alloc();
-    let mut first = Captures::matches(alloc, a_and_none(alloc)?)?;
-    matched(&mut first);
-    assert_eq!(rt; kept(&first), (4, Some(Span { start: 0, end: 2 }), None));
-    let mut none = Captures::empty(alloc, a_and_none(alloc)?);
-    matched(&mut none);
-    assert_eq!(rt; (none.is_match(), none.get_group(0)), (true, None));
+    let kept = kept_of_matches(rt.alloc(), a_and_none(rt.alloc())?)?;
+    assert!(rt; kept == (4, Some(Span { start: 0, end: 2 }), None));
+    assert!(rt; is_match_alone(rt.alloc(), a_and_none(rt.alloc())?));
     Ok(())
 }

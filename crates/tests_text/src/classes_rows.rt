@@ -28,8 +28,8 @@ fn sizes(classes: &ByteClasses) -> (usize, usize, bool) {
     )
 }
 
-#[test]
-fn a_range_has_a_class_of_its_own(rt: HostRuntime) {
+/// Whether the small letters have a class of their own.
+fn letters_are_told_apart() -> bool {
     let classes = letters();
     let rows = [
         (0, 0),
@@ -41,25 +41,24 @@ fn a_range_has_a_class_of_its_own(rt: HostRuntime) {
         (255, 2),
     ];
     for (byte, class) in rows {
-        assert_eq!(rt; classes.get(byte), class, "byte {byte}");
+        if classes.get(byte) != class {
+            return false;
+        }
     }
-    assert_eq!(rt; sizes(&classes), (4, 2, false));
     let end = classes.eoi();
     let letter = classes.get_by_unit(Unit::u8(0x6D));
-    assert_eq!(rt;
-        (end, letter, classes.get_by_unit(end)),
-        (Unit::eoi(3), 1, 3)
-    );
+    sizes(&classes) == (4, 2, false)
+        && (end, letter, classes.get_by_unit(end)) == (Unit::eoi(3), 1, 3)
 }
 
-#[test]
-fn classes_of_one_kind(rt: HostRuntime) {
+/// Whether there may be one class, one for each byte, and classes that are set.
+fn kinds_of_classes() -> bool {
     let (one, all) = (ByteClasses::empty(), ByteClasses::default());
-    assert_eq!(rt; (one.get(255), sizes(&one)), (0, (2, 1, false)));
-    assert_eq!(rt; (all.get(0x61), sizes(&all)), (0x61, (257, 9, true)));
     let mut changed = ByteClasses::singletons();
     changed.set(7, 6);
-    assert_eq!(rt; changed.get(7), 6);
+    (one.get(255), sizes(&one)) == (0, (2, 1, false))
+        && (all.get(0x61), sizes(&all)) == (0x61, (257, 9, true))
+        && changed.get(7) == 6
 }
 
 /// A unit as a byte, as the end and as a number; and whether it is this byte, one of words, and the end.
@@ -68,28 +67,19 @@ fn told(unit: Unit, byte: u8) -> (Option<u8>, Option<u16>, usize, [bool; 3]) {
     (unit.as_u8(), unit.as_eoi(), unit.as_usize(), is)
 }
 
+/// Whether units of both kinds are told.
+fn units_are_told() -> bool {
+    let letter = Unit::u8(b'a');
+    told(letter, b'a') == (Some(b'a'), None, 97, [true, true, false])
+        && told(letter, b'b') == (Some(b'a'), None, 97, [false, true, false])
+        && told(Unit::eoi(256), 0) == (None, Some(256), 256, [false, false, true])
+}
+
 #[test]
-fn units_of_both_kinds(rt: HostRuntime) {
-    let rows = [
-        (
-            Unit::u8(b'a'),
-            b'a',
-            (Some(b'a'), None, 97, [true, true, false]),
-        ),
-        (
-            Unit::u8(b'a'),
-            b'b',
-            (Some(b'a'), None, 97, [false, true, false]),
-        ),
-        (
-            Unit::eoi(256),
-            0,
-            (None, Some(256), 256, [false, false, true]),
-        ),
-    ];
-    for (unit, byte, want) in rows {
-        assert_eq!(rt; told(unit, byte), want);
-    }
+fn classes_and_units(rt: HostRuntime) {
+    assert!(rt; letters_are_told_apart());
+    assert!(rt; kinds_of_classes());
+    assert!(rt; units_are_told());
 }
 
 /// What each iterator over units gives: all classes, the bytes of the second, the end's, and the first bytes of
@@ -107,20 +97,14 @@ fn units(alloc: Global, classes: &ByteClasses) -> Result<[Vec<Unit>; 5], AllocEr
 #[test]
 fn iterators_over_units(rt: HostRuntime) -> Result<(), Fail> {
     let [all, inside, end, firsts, bounded] = units(rt.alloc(), &letters())?;
-    assert_eq!(rt; inside.len(), 26);
-    let (zero, three) = (Unit::u8(0), Unit::eoi(3));
-    let rows: [(&[Unit], &[Unit]); 4] = [
-        (&all, &[zero, Unit::u8(1), Unit::u8(2), three]),
-        (&end, &[three]),
-        (
-            &firsts,
-            &[Unit::u8(0x41), Unit::u8(0x61), Unit::u8(0x7B), three],
-        ),
-        (&bounded, &[Unit::u8(0x62), Unit::u8(0x7B)]),
-    ];
-    for (given, want) in rows {
-        assert_eq!(rt; given, want);
-    }
+    let (zero, last) = (Unit::u8(0), Unit::eoi(3));
+    let ones = [zero, Unit::u8(1), Unit::u8(2), last];
+    let heads = [Unit::u8(0x41), Unit::u8(0x61), Unit::u8(0x7B), last];
+    assert!(rt; inside.len() == 26);
+    assert!(rt; all.as_slice() == ones.as_slice());
+    assert!(rt; end.as_slice() == [last].as_slice());
+    assert!(rt; firsts.as_slice() == heads.as_slice());
+    assert!(rt; bounded.as_slice() == [Unit::u8(0x62), Unit::u8(0x7B)].as_slice());
     Ok(())
 }
 
@@ -143,20 +127,32 @@ fn classes_of(set: &ByteSet, bytes: [u8; 6]) -> [u8; 6] {
     bytes.map(|byte| classes.get(byte))
 }
 
+/// Whether the set's iterators tell these bytes and ranges.
+fn tells(
+    alloc: Global,
+    set: &ByteSet,
+    bytes: &[u8],
+    ranges: &[(u8, u8)],
+) -> Result<bool, AllocError> {
+    let each = set.iter().collect::<Vec<_>>(alloc)?;
+    let parts = set.iter_ranges().collect::<Vec<_>>(alloc)?;
+    Ok(each.as_slice() == bytes && parts.as_slice() == ranges)
+}
+
 #[test]
 fn sets_of_bytes(rt: HostRuntime) -> Result<(), Fail> {
-    let alloc = rt.alloc();
     let set = words();
-    assert_eq!(rt; asked(&set), [false, true, false, true, false]);
-    assert_eq!(rt; asked(&ByteSet::default())[0], true);
-    let bytes = set.iter().collect::<Vec<_>>(alloc)?;
-    assert_eq!(rt; bytes.as_slice(), [0, 1, 0x61, 0x62, 0x63, 0xFF].as_slice());
-    let ranges = set.iter_ranges().collect::<Vec<_>>(alloc)?;
-    assert_eq!(rt;
-        ranges.as_slice(),
-        [(0, 1), (0x61, 0x63), (0xFF, 0xFF)].as_slice()
+    assert!(rt; ByteSet::default().is_empty());
+    assert!(rt; asked(&set) == [false, true, false, true, false]);
+    let bytes = [0, 1, 0x61, 0x62, 0x63, 0xFF];
+    assert!(rt;
+        tells(
+            rt.alloc(),
+            &set,
+            &bytes,
+            &[(0, 1), (0x61, 0x63), (0xFF, 0xFF)]
+        )?
     );
-    let classes = classes_of(&set, [1, 2, 0x63, 0x64, 0xFE, 0xFF]);
-    assert_eq!(rt; classes, [0, 1, 2, 3, 3, 4]);
+    assert!(rt; classes_of(&set, [1, 2, 0x63, 0x64, 0xFE, 0xFF]) == [0, 1, 2, 3, 3, 4]);
     Ok(())
 }

@@ -67,21 +67,21 @@ fn told(
     )
 }
 
+/// Whether each group of two patterns has its slots and its name.
+fn slots_are_told(info: &GroupInfo) -> bool {
+    let (first, second) = (PatternID::must(0), PatternID::must(1));
+    sizes(info) == [2, 3, 6, 4, 2]
+        && told(info, first, 0) == (Some((0, 1)), Some(0), None)
+        && told(info, second, 0) == (Some((2, 3)), Some(2), None)
+        && told(info, first, 1) == (Some((4, 5)), Some(4), Some("a"))
+        && told(info, first, 2) == (None, None, None)
+        && told(info, second, 1) == (None, None, None)
+}
+
 #[test]
 fn slots_of_two_patterns(rt: HostRuntime) -> Result<(), Fail> {
     let info = a_and_none(rt.alloc())?;
-    assert_eq!(rt; sizes(&info), [2, 3, 6, 4, 2]);
-    let rows = [
-        (0, 0, (Some((0, 1)), Some(0), None)),
-        (1, 0, (Some((2, 3)), Some(2), None)),
-        (0, 1, (Some((4, 5)), Some(4), Some("a"))),
-        (0, 2, (None, None, None)),
-        (1, 1, (None, None, None)),
-    ];
-    for (pattern, group, want) in rows {
-        let found = told(&info, PatternID::from(pattern), group);
-        assert_eq!(rt; found, want, "group {group} of pattern {pattern}");
-    }
+    assert!(rt; slots_are_told(&info));
     Ok(())
 }
 
@@ -99,18 +99,21 @@ fn groups_of(
     ))
 }
 
+/// Whether the groups' names are printed so.
+fn are_named(alloc: Global, info: &GroupInfo, want: &str) -> Result<bool, AllocError> {
+    Ok(all_names(alloc, info)?.as_str() == want)
+}
+
 #[test]
 fn names_of_two_patterns(rt: HostRuntime) -> Result<(), Fail> {
     let alloc = rt.alloc();
     let info = a_and_none(alloc)?.try_clone(alloc)?;
-    for (pattern, want) in [(0, (2, Some(1), 2)), (1, (1, None, 1)), (2, (0, None, 0))] {
-        let found = groups_of(alloc, &info, PatternID::from(pattern))?;
-        assert_eq!(rt; found, want, "pattern {pattern}");
-    }
-    assert_eq!(rt; all_names(alloc, &info)?.as_str(), "0 0 -;0 1 a;1 0 -;");
+    assert!(rt; groups_of(alloc, &info, PatternID::must(0))? == (2, Some(1), 2));
+    assert!(rt; groups_of(alloc, &info, PatternID::must(1))? == (1, None, 1));
+    assert!(rt; groups_of(alloc, &info, PatternID::must(2))? == (0, None, 0));
+    assert!(rt; are_named(alloc, &info, "0 0 -;0 1 a;1 0 -;")?);
     let nothing = GroupInfo::empty(alloc);
-    assert_eq!(rt; all_names(alloc, &nothing)?.as_str(), "");
-    assert_eq!(rt; nothing.slot_len(), 0);
+    assert!(rt; are_named(alloc, &nothing, "")? && nothing.slot_len() == 0);
     Ok(())
 }
 
@@ -131,7 +134,7 @@ fn groups_that_break_a_rule(rt: HostRuntime) -> Result<(), Fail> {
         ),
     ];
     for (texts, told) in rows {
-        assert_eq!(rt; refusal(alloc, texts)?.as_str(), told);
+        assert!(rt; refusal(alloc, texts)?.as_str() == told, "{told}");
     }
     Ok(())
 }

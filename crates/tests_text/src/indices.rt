@@ -1,10 +1,9 @@
 ghost use Rattle.std.specs.Prelude.{◌≡◌, ◌<◌, ◌≤◌, ◌↔◌, IsTrue};
 ghost use Rattle.std.specs.Ordering.{nat_cmp};
 
-use search_core::{NonMaxUsize, PatternID, SmallIndex, StateID};
+use search_core::{NonMaxUsize, PatternID, SmallIndex, SmallIndexError, StateID};
 use std::alloc::{AllocError, Global};
 use std::cmp::Ordering;
-use std::collections::HashSet;
 use std::test::Fail;
 
 /// What is read of an index: as each type, and one more.
@@ -20,27 +19,25 @@ const fn reads_of_both_ends() -> [Reads; 4] {
     ]
 }
 
-/// Each way to make one type of index, at both ends of what it takes, and the number that it takes or refuses; and
-/// each index that is made with no refusal.
-macro_rules! ways {
-    ($index:ident) => {
-        [
-            ($index::try_from(u16::MAX), Ok(65535)),
-            ($index::try_from(2147483646u32), Ok(2147483646)),
-            ($index::try_from(2147483647u32), Err(2147483647)),
-            ($index::try_from(2147483646u64), Ok(2147483646)),
-            ($index::try_from(u64::MAX), Err(18446744073709551615)),
-            ($index::try_from(2147483646usize), Ok(2147483646)),
-            ($index::try_from(4294967296usize), Err(4294967296)),
-            ($index::new(2147483646), Ok(2147483646)),
-            ($index::new(2147483647), Err(2147483647)),
-            (Ok($index::from(u8::MAX)), Ok(255)),
-            (Ok($index::must(2147483646)), Ok(2147483646)),
-            (Ok($index::MAX), Ok(2147483646)),
-            (Ok($index::ZERO), Ok(0)),
-            (Ok($index::default()), Ok(0)),
-        ]
-    };
+/// Each way to make an index, at both ends of what it takes, and the number that it takes or refuses. Those of the
+/// other types of index have the same contracts.
+fn ways() -> [(Result<SmallIndex, SmallIndexError>, Result<u64, u64>); 14] {
+    [
+        (SmallIndex::try_from(u16::MAX), Ok(65535)),
+        (SmallIndex::try_from(2147483646u32), Ok(2147483646)),
+        (SmallIndex::try_from(2147483647u32), Err(2147483647)),
+        (SmallIndex::try_from(2147483646u64), Ok(2147483646)),
+        (SmallIndex::try_from(u64::MAX), Err(18446744073709551615)),
+        (SmallIndex::try_from(2147483646usize), Ok(2147483646)),
+        (SmallIndex::try_from(4294967296usize), Err(4294967296)),
+        (SmallIndex::new(2147483646), Ok(2147483646)),
+        (SmallIndex::new(2147483647), Err(2147483647)),
+        (Ok(SmallIndex::from(u8::MAX)), Ok(255)),
+        (Ok(SmallIndex::must(2147483646)), Ok(2147483646)),
+        (Ok(SmallIndex::MAX), Ok(2147483646)),
+        (Ok(SmallIndex::ZERO), Ok(0)),
+        (Ok(SmallIndex::default()), Ok(0)),
+    ]
 }
 
 fn index_reads(id: SmallIndex) -> Reads {
@@ -73,53 +70,41 @@ fn state_reads(id: StateID) -> Reads {
     )
 }
 
-/// What is read of each type's index of this number.
-fn reads_of(number: usize) -> [Option<Reads>; 3] {
-    [
-        SmallIndex::new(number).map(index_reads).ok(),
-        PatternID::new(number).map(pattern_reads).ok(),
-        StateID::new(number).map(state_reads).ok(),
-    ]
+/// Whether each type's index of this number is read so.
+fn is_read_as(row: Reads) -> bool {
+    let (index, pattern) = (SmallIndex::new(row.0), PatternID::new(row.0));
+    match (index, pattern, StateID::new(row.0)) {
+        (Ok(index), Ok(pattern), Ok(state)) => {
+            index_reads(index) == row && pattern_reads(pattern) == row && state_reads(state) == row
+        }
+        _ => false,
+    }
 }
 
-#[test]
-fn reads(rt: HostRuntime) {
+/// Whether indices at both ends are read as they are expected.
+fn indices_are_read() -> bool {
     for row in reads_of_both_ends() {
-        assert_eq!(rt; reads_of(row.0), [Some(row); 3]);
+        if !is_read_as(row) {
+            return false;
+        }
     }
     let limits = [SmallIndex::LIMIT, PatternID::LIMIT, StateID::LIMIT];
     let sizes = [SmallIndex::SIZE, PatternID::SIZE, StateID::SIZE];
-    assert_eq!(rt; (limits, sizes), ([2147483647; 3], [4; 3]));
+    limits == [2147483647; 3] && sizes == [4; 3]
 }
 
-#[test]
-fn small_indices(rt: HostRuntime) {
-    for (made, want) in ways!(SmallIndex) {
-        let made = made
-            .map(|index| index.as_u64())
-            .map_err(|error| error.attempted());
-        assert_eq!(rt; made, want);
+/// Whether each way to make an index takes or refuses its number.
+fn ways_are_told() -> bool {
+    for (made, want) in ways() {
+        let told = match made {
+            Ok(index) => Ok(index.as_u64()),
+            Err(error) => Err(error.attempted()),
+        };
+        if told != want {
+            return false;
+        }
     }
-}
-
-#[test]
-fn pattern_ids(rt: HostRuntime) {
-    for (made, want) in ways!(PatternID) {
-        let made = made
-            .map(|id| id.as_u64())
-            .map_err(|error| error.attempted());
-        assert_eq!(rt; made, want);
-    }
-}
-
-#[test]
-fn state_ids(rt: HostRuntime) {
-    for (made, want) in ways!(StateID) {
-        let made = made
-            .map(|id| id.as_u64())
-            .map_err(|error| error.attempted());
-        assert_eq!(rt; made, want);
-    }
+    true
 }
 
 /// One index of each type, as it is printed.
@@ -156,12 +141,15 @@ fn texts(rt: HostRuntime) -> Result<(), Fail> {
     Ok(())
 }
 
-#[test]
-fn numbers_below_the_greatest(rt: HostRuntime) {
+/// Whether all numbers but the greatest are taken.
+fn all_but_the_greatest() -> bool {
     for n in [0, 1, 2147483647, usize::MAX - 1] {
-        assert_eq!(rt; NonMaxUsize::new(n).map(|value| value.get()), Some(n));
+        match NonMaxUsize::new(n) {
+            Some(value) if value.get() == n => {}
+            _ => return false,
+        }
     }
-    assert_eq!(rt; NonMaxUsize::new(usize::MAX), None);
+    NonMaxUsize::new(usize::MAX).is_none()
 }
 
 /// Compares by number, as the contract of the derived method lets a caller prove.
@@ -192,36 +180,31 @@ fn is_less(a: NonMaxUsize, b: NonMaxUsize) -> bool
     a < b
 }
 
-/// Two numbers compared as two types of index, and whether they are one state.
-fn compared(a: u8, b: u8) -> (Ordering, Ordering, bool) {
-    (
-        compare_indices(SmallIndex::from(a), SmallIndex::from(b)),
-        compare_patterns(PatternID::from(a), PatternID::from(b)),
-        is_same_state(StateID::from(a), StateID::from(b)),
-    )
+/// Whether two numbers are compared so: as two types of index, and as states that may be the same.
+fn are_compared(a: u8, b: u8, order: Ordering) -> bool {
+    let is_same = is_same_state(StateID::from(a), StateID::from(b));
+    compare_indices(SmallIndex::from(a), SmallIndex::from(b)) == order
+        && compare_patterns(PatternID::from(a), PatternID::from(b)) == order
+        && is_same == (order == Ordering::Equal)
+}
+
+/// Whether one number is below another, which isn't below it, and neither is below itself.
+fn rises() -> bool {
+    match (NonMaxUsize::new(3), NonMaxUsize::new(5)) {
+        (Some(three), Some(five)) => {
+            is_less(three, five) && !is_less(five, three) && !is_less(three, three)
+        }
+        _ => false,
+    }
 }
 
 #[test]
-fn comparisons_go_by_number(rt: HostRuntime) {
-    let rows = [
-        (3, 3, Ordering::Equal),
-        (3, 5, Ordering::Less),
-        (5, 3, Ordering::Greater),
-    ];
-    for (a, b, order) in rows {
-        assert_eq!(rt; compared(a, b), (order, order, order == Ordering::Equal));
-    }
-    let three = NonMaxUsize::new(3).unwrap();
-    let five = NonMaxUsize::new(5).unwrap();
-    assert!(rt; is_less(three, five) && !is_less(five, three) && !is_less(three, three));
-}
-
-#[test]
-fn hashes_go_by_number(rt: HostRuntime) -> Result<(), Fail> {
-    let mut patterns = HashSet::new(rt.alloc());
-    for (id, is_new) in [(3, true), (5, true), (3, false)] {
-        assert_eq!(rt; patterns.insert(PatternID::new(id)?)?, is_new);
-    }
-    assert_eq!(rt; patterns.len(), 2);
-    Ok(())
+fn indices(rt: HostRuntime) {
+    assert!(rt; indices_are_read());
+    assert!(rt; ways_are_told());
+    assert!(rt; all_but_the_greatest());
+    assert!(rt; are_compared(3, 3, Ordering::Equal));
+    assert!(rt; are_compared(3, 5, Ordering::Less));
+    assert!(rt; are_compared(5, 3, Ordering::Greater));
+    assert!(rt; rises());
 }

@@ -16,42 +16,47 @@ fn span(start: usize, end: usize) -> Span
     Span { start, end }
 }
 
+/// Whether the span has this length, and leaves its end out.
+fn has_length(part: Span, len: usize, is_empty: bool) -> bool {
+    (part.len(), part.is_empty(), part.contains(part.end)) == (len, is_empty, false)
+}
+
+/// Whether a span has its first places and those inside, but not its end.
+fn places() -> [bool; 4] {
+    let part = span(2, 5);
+    [
+        part.contains(1),
+        part.contains(2),
+        part.contains(4),
+        part.contains(5),
+    ]
+}
+
 #[test]
 fn spans_leave_their_end_out(rt: HostRuntime) {
-    let rows = [
-        (span(2, 5), 3, false),
-        (span(4, 4), 0, true),
-        (span(5, 4), 0, true),
-    ];
-    for (part, len, is_empty) in rows {
-        let told = (part.len(), part.is_empty(), part.contains(part.end));
-        assert_eq!(rt; told, (len, is_empty, false));
-    }
-    for (at, inside) in [(1, false), (2, true), (4, true), (5, false)] {
-        assert_eq!(rt; span(2, 5).contains(at), inside, "place {at}");
-    }
-    assert_eq!(rt;
-        (span(2, 5).offset(7), span(2, 5).range()),
-        (span(9, 12), 2..5)
-    );
+    assert!(rt; has_length(span(2, 5), 3, false));
+    assert!(rt; has_length(span(4, 4), 0, true));
+    assert!(rt; has_length(span(5, 4), 0, true));
+    assert!(rt; places() == [false, true, true, false]);
+    assert!(rt; span(2, 5).offset(7) == span(9, 12));
+    assert!(rt; span(2, 5).range() == (2..5));
+}
+
+/// Whether each mode tells whether it is anchored, and to which pattern.
+fn modes_are_told() -> bool {
+    let seven = PatternID::must(7);
+    let yes = Anchored::Yes;
+    let pattern = Anchored::Pattern(seven);
+    (Anchored::No.is_anchored(), Anchored::No.pattern()) == (false, None)
+        && (yes.is_anchored(), yes.pattern()) == (true, None)
+        && (pattern.is_anchored(), pattern.pattern()) == (true, Some(seven))
 }
 
 #[test]
 fn modes_and_kinds(rt: HostRuntime) {
-    let seven = PatternID::must(7);
-    let rows = [
-        (Anchored::No, false, None),
-        (Anchored::Yes, true, None),
-        (Anchored::Pattern(seven), true, Some(seven)),
-    ];
-    for (mode, is_anchored, pattern) in rows {
-        assert_eq!(rt;
-            (mode.is_anchored(), mode.pattern()),
-            (is_anchored, pattern)
-        );
-    }
-    let kind = MatchKind::default();
-    assert!(rt; kind == MatchKind::LeftmostFirst && kind != MatchKind::All);
+    assert!(rt; modes_are_told());
+    assert!(rt; MatchKind::default() == MatchKind::LeftmostFirst);
+    assert!(rt; MatchKind::default() != MatchKind::All);
 }
 
 /// Whether a search of two bytes would be done at once, for a span that such a search may have.
@@ -64,8 +69,8 @@ fn is_done(part: Span) -> Option<bool> {
     }
 }
 
-#[test]
-fn inputs_fit_by_the_span_rule(rt: HostRuntime) {
+/// Whether spans fit, and leave something to search, as it is expected.
+fn spans_fit() -> bool {
     let rows = [
         (span(0, 0), Some(false)),
         (span(0, 2), Some(false)),
@@ -79,8 +84,16 @@ fn inputs_fit_by_the_span_rule(rt: HostRuntime) {
         (span(usize::MAX, 2), None),
     ];
     for (part, want) in rows {
-        assert_eq!(rt; is_done(part), want, "{part:?}");
+        if is_done(part) != want {
+            return false;
+        }
     }
+    true
+}
+
+#[test]
+fn inputs_fit_by_the_span_rule(rt: HostRuntime) {
+    assert!(rt; spans_fit());
 }
 
 /// The span of a search, its mode and whether it ends early.
@@ -111,24 +124,38 @@ fn spans_as_set() -> [Span; 3] {
     [first, second, input.get_span()]
 }
 
-#[test]
-fn inputs_are_what_was_set(rt: HostRuntime) {
+/// Whether a new input searches all of its haystack.
+fn new_searches_all() -> bool {
     let fresh = Input::new("a\u{E9}!".as_bytes());
-    assert_eq!(rt; fresh.haystack(), [0x61, 0xC3, 0xA9, 0x21].as_slice());
-    assert_eq!(rt; search_of(&fresh), (span(0, 4), Anchored::No, false));
-    assert_eq!(rt; boundaries(&fresh), [true, true, false, true, true, false]);
-    let mut input = fresh.range(1..3).anchored(Anchored::Yes).earliest(true);
-    assert_eq!(rt; search_of(&input), (span(1, 3), Anchored::Yes, true));
-    assert_eq!(rt;
-        (input.start(), input.end(), input.get_range()),
-        (1, 3, 1..3)
-    );
-    assert_eq!(rt; spans_as_set(), [span(4, 3), span(4, 4), span(0, 2)]);
+    fresh.haystack() == [0x61, 0xC3, 0xA9, 0x21].as_slice()
+        && search_of(&fresh) == (span(0, 4), Anchored::No, false)
+        && boundaries(&fresh) == [true, true, false, true, true, false]
+}
+
+/// Whether an input has what was set when it was made.
+fn has_what_was_given() -> bool {
+    let input = Input::new(b"abcd").range(1..3);
+    let input = input.anchored(Anchored::Yes).earliest(true);
+    search_of(&input) == (span(1, 3), Anchored::Yes, true)
+        && (input.start(), input.end(), input.get_range()) == (1, 3, 1..3)
+}
+
+/// Whether it has what was set later.
+fn has_what_was_set() -> bool {
+    let mut input = Input::new(b"abcd").range(1..3);
     input.set_span(span(1, 1));
     input.set_anchored(Anchored::Pattern(PatternID::ZERO));
-    input.set_earliest(false);
+    input.set_earliest(true);
     let mode = Anchored::Pattern(PatternID::ZERO);
-    assert_eq!(rt; search_of(&input), (span(1, 1), mode, false));
+    search_of(&input) == (span(1, 1), mode, true)
+}
+
+#[test]
+fn inputs_are_what_was_set(rt: HostRuntime) {
+    assert!(rt; new_searches_all());
+    assert!(rt; has_what_was_given());
+    assert!(rt; has_what_was_set());
+    assert!(rt; spans_as_set() == [span(4, 3), span(4, 4), span(0, 2)]);
 }
 
 /// The pattern, the two ends, the length, the span as its type and as a range, and whether it is empty.
@@ -144,23 +171,31 @@ fn told(found: Match) -> (usize, usize, usize, usize, Span, Range<usize>, bool) 
     )
 }
 
+/// Whether matches are made of the same parts in both ways, and of one end too.
+fn are_made_alike() -> bool {
+    let half = HalfMatch::must(3, 5);
+    Match::must(3, span(2, 5)) == Match::new(PatternID::must(3), span(2, 5))
+        && Match::must(3, span(5, 5)).is_empty()
+        && half == HalfMatch::new(PatternID::must(3), 5)
+        && (half.pattern().as_usize(), half.offset()) == (3, 5)
+}
+
+/// Whether each of three matches is new to a set of them.
+fn new_in_a_set(alloc: Global) -> Result<[bool; 3], AllocError> {
+    let mut seen = HashSet::new(alloc);
+    Ok([
+        seen.insert(Match::must(3, span(2, 5)))?,
+        seen.insert(Match::must(2, span(2, 5)))?,
+        seen.insert(Match::must(3, span(2, 5)))?,
+    ])
+}
+
 #[test]
 fn matches_tell_their_spans(rt: HostRuntime) -> Result<(), Fail> {
     let found = Match::must(3, span(2, 5));
-    assert_eq!(rt; told(found), (3, 2, 5, 3, span(2, 5), 2..5, false));
-    assert_eq!(rt; found, Match::new(PatternID::must(3), span(2, 5)));
-    assert!(rt; Match::must(3, span(5, 5)).is_empty());
-    let half = HalfMatch::must(3, 5);
-    assert_eq!(rt; half, HalfMatch::new(PatternID::must(3), 5));
-    assert_eq!(rt; (half.pattern().as_usize(), half.offset()), (3, 5));
-    let mut seen = HashSet::new(rt.alloc());
-    for (other, is_new) in [
-        (found, true),
-        (Match::must(2, span(2, 5)), true),
-        (found, false),
-    ] {
-        assert_eq!(rt; seen.insert(other)?, is_new);
-    }
+    assert!(rt; told(found) == (3, 2, 5, 3, span(2, 5), 2..5, false));
+    assert!(rt; are_made_alike());
+    assert!(rt; new_in_a_set(rt.alloc())? == [true, true, false]);
     Ok(())
 }
 
@@ -229,15 +264,26 @@ fn is_same_half(a: HalfMatch, b: HalfMatch) -> bool
     a == b
 }
 
+/// Whether an input's copy has its haystack and is the same search.
+fn is_copied(input: &Input<'_>) -> Result<bool, AllocError> {
+    let copy = copied(input)?;
+    Ok(copy.haystack() == input.haystack() && search_of(&copy) == search_of(input))
+}
+
+/// Whether matches, and ends of matches, are the same just where all their parts are.
+fn are_compared() -> bool {
+    let found = Match::must(3, span(2, 5));
+    let half = HalfMatch::must(3, 5);
+    is_same_match(found, found)
+        && !is_same_match(found, Match::must(3, span(2, 4)))
+        && is_same_half(half, half)
+        && !is_same_half(half, HalfMatch::must(2, 5))
+}
+
 #[test]
 fn copies_and_comparisons(rt: HostRuntime) -> Result<(), Fail> {
     let input = Input::new(b"abc").range(1..2).anchored(Anchored::Yes);
-    let copy = copied(&input)?;
-    assert_eq!(rt; copy.haystack(), b"abc".as_slice());
-    assert_eq!(rt; search_of(&copy), (span(1, 2), Anchored::Yes, false));
-    let found = Match::must(3, span(2, 5));
-    assert!(rt; is_same_match(found, found) && !is_same_match(found, Match::must(3, span(2, 4))));
-    let half = HalfMatch::must(3, 5);
-    assert!(rt; is_same_half(half, half) && !is_same_half(half, HalfMatch::must(2, 5)));
+    assert!(rt; is_copied(&input)?);
+    assert!(rt; are_compared());
     Ok(())
 }

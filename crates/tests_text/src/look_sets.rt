@@ -57,17 +57,21 @@ fn three() -> LookSet {
         .insert(Look::EndLF)
 }
 
-#[test]
-fn looks(rt: HostRuntime) {
+/// Whether each look has its number, its character and its reverse, and no other number is a look's.
+fn looks_are_told() -> bool {
     for (look, number, character, reversed) in rows() {
         let told = (look.as_repr(), look.as_char(), look.reversed());
-        assert_eq!(rt; told, (number, character, reversed));
         let read = (Look::from_repr(number), LookSet::singleton(look).bits());
-        assert_eq!(rt; read, (Some(look), number));
+        if told != (number, character, reversed) || read != (Some(look), number) {
+            return false;
+        }
     }
     for number in [0, 3, 262144, u32::MAX] {
-        assert_eq!(rt; Look::from_repr(number), None);
+        if Look::from_repr(number).is_some() {
+            return false;
+        }
     }
+    true
 }
 
 /// The bits of a set, the number of its members, and whether it has none.
@@ -75,56 +79,12 @@ fn told(set: LookSet) -> (u32, usize, bool) {
     (set.bits(), set.len(), set.is_empty())
 }
 
-#[test]
-fn sets(rt: HostRuntime) {
-    let set = three();
-    let rows = [
-        (set, (1034, 3, false)),
-        (LookSet::empty(), (0, 0, true)),
-        (LookSet::default(), (0, 0, true)),
-        (LookSet::full(), (262143, 18, false)),
-    ];
-    for (set, want) in rows {
-        assert_eq!(rt; told(set), want);
-    }
-    assert!(rt; set.contains(Look::EndLF) && !set.contains(Look::StartLF));
-    assert_eq!(rt; set.available(), Ok(()));
-}
-
-/// The bits of the set as it is changed five times.
-fn changed(set: LookSet, other: LookSet) -> [u32; 5] {
-    let mut changed = set;
-    changed.set_insert(Look::StartLF);
-    let first = changed.bits();
-    changed.set_remove(Look::EndLF);
-    let second = changed.bits();
-    changed.set_union(other);
-    let third = changed.bits();
-    changed.set_subtract(set);
-    let fourth = changed.bits();
-    changed.set_intersect(other);
-    [first, second, third, fourth, changed.bits()]
-}
-
-/// The bits of seven sets that are made of these.
-fn made(set: LookSet, other: LookSet) -> [u32; 7] {
-    [
-        set.insert(Look::Start).bits(),
-        set.insert(Look::End).bits(),
-        set.remove(Look::End).bits(),
-        set.remove(Look::Start).bits(),
-        set.subtract(other).bits(),
-        set.union(other).bits(),
-        set.intersect(other).bits(),
-    ]
-}
-
-#[test]
-fn sets_of_others(rt: HostRuntime) {
-    let set = three();
-    let other = LookSet::singleton(Look::Start).insert(Look::End);
-    assert_eq!(rt; made(set, other), [1035, 1034, 1032, 1034, 1032, 1035, 2]);
-    assert_eq!(rt; changed(set, other), [1038, 1030, 1031, 5, 1]);
+/// Whether four sets have their bits and their numbers of members.
+fn sets_are_told() -> bool {
+    told(three()) == (1034, 3, false)
+        && told(LookSet::empty()) == (0, 0, true)
+        && told(LookSet::default()) == (0, 0, true)
+        && told(LookSet::full()) == (262143, 18, false)
 }
 
 /// The first five members that a set tells.
@@ -139,22 +99,21 @@ fn members(set: LookSet) -> [Option<Look>; 5] {
     ]
 }
 
-#[test]
-fn members_ascend(rt: HostRuntime) {
-    let (last, word) = (Some(Look::EndLF), Some(Look::WordStartAscii));
-    assert_eq!(rt; members(three()), [Some(Look::End), last, word, None, None]);
+/// Whether the members of a set, and of the full one, ascend.
+fn members_ascend() -> bool {
     for (member, row) in LookSet::full().iter().zip(rows()) {
-        assert_eq!(rt; member, row.0);
+        if member != row.0 {
+            return false;
+        }
     }
+    let (last, word) = (Some(Look::EndLF), Some(Look::WordStartAscii));
+    members(three()) == [Some(Look::End), last, word, None, None]
 }
 
-#[test]
-fn families_of_looks(rt: HostRuntime) {
-    let rows = [
-        (
-            LookSet::empty(),
-            [false, false, false, false, false, false, false, false],
-        ),
+/// Sets, and what they answer of each family.
+fn of_families() -> [(LookSet, [bool; 8]); 8] {
+    [
+        (LookSet::empty(), [false; 8]),
         (
             LookSet::singleton(Look::End),
             [true, true, false, false, false, false, false, false],
@@ -176,14 +135,27 @@ fn families_of_looks(rt: HostRuntime) {
             [false, false, false, false, false, true, false, true],
         ),
         (three(), [true, true, true, true, false, true, false, true]),
-        (
-            LookSet::full(),
-            [true, true, true, true, true, true, true, true],
-        ),
-    ];
-    for (set, want) in rows {
-        assert_eq!(rt; families(set), want, "the set {}", set.bits());
+        (LookSet::full(), [true; 8]),
+    ]
+}
+
+/// Whether the sets answer so.
+fn families_are_told() -> bool {
+    for (set, want) in of_families() {
+        if families(set) != want {
+            return false;
+        }
     }
+    true
+}
+
+#[test]
+fn looks_and_their_sets(rt: HostRuntime) {
+    assert!(rt; looks_are_told());
+    assert!(rt; sets_are_told());
+    assert!(rt; members_ascend());
+    assert!(rt; families_are_told());
+    assert!(rt; three().available() == Ok(()));
 }
 
 #[test]

@@ -435,13 +435,6 @@ fn hold<W: WordClass>(matcher: &LookMatcher<W>, rows: &[Row]) -> bool {
     true
 }
 
-#[test]
-fn looks_hold_by_the_neighbours(rt: HostRuntime) {
-    let matcher = LookMatcher::<AsciiWord>::default();
-    assert!(rt; hold(&matcher, &lines()));
-    assert!(rt; hold(&matcher, &words()));
-}
-
 /// Whether a letter that is no ASCII word stands beside no edge at each of its places. A place inside it is broken.
 fn no_edges() -> [bool; 4] {
     let matcher = LookMatcher::new(AsciiWord);
@@ -455,10 +448,12 @@ fn no_edges() -> [bool; 4] {
 }
 
 #[test]
-fn words_are_the_callers(rt: HostRuntime) {
-    let matcher = LookMatcher::new(WithBeta);
-    assert!(rt; hold(&matcher, &letters()));
-    assert_eq!(rt; no_edges(), [true, true, false, true]);
+fn looks_hold_by_the_neighbours(rt: HostRuntime) {
+    let matcher = LookMatcher::<AsciiWord>::default();
+    assert!(rt; hold(&matcher, &lines()));
+    assert!(rt; hold(&matcher, &words()));
+    assert!(rt; hold(&LookMatcher::new(WithBeta), &letters()));
+    assert!(rt; no_edges() == [true, true, false, true]);
 }
 
 /// The bytes by which lines end, and whether three bytes are among them.
@@ -479,29 +474,20 @@ fn is_edge(matcher: &LookMatcher<AsciiWord>, text: &[u8], at: usize) -> Option<(
     Some((matcher.is_start_lf(text, at), matcher.is_end_lf(text, at)))
 }
 
-#[test]
-fn line_terminators(rt: HostRuntime) {
+/// Whether two line terminators have their bytes, and are the same as others.
+fn terminators_are_told() -> bool {
     let (feed, two) = (LineTerm::default(), LineTerm::two(b';', 0));
-    assert_eq!(rt; ends(feed), (b'\n', None, [false, false, true]));
-    assert_eq!(rt; ends(two), (0, Some(b';'), [true, true, false]));
-    let pairs = [
-        (feed, LineTerm::one(b'\n')),
-        (two, LineTerm::two(0, b';')),
-        (LineTerm::two(7, 7), LineTerm::one(7)),
-    ];
-    for (lines, same) in pairs {
-        assert_eq!(rt; lines, same);
-    }
+    ends(feed) == (b'\n', None, [false, false, true])
+        && ends(two) == (0, Some(b';'), [true, true, false])
+        && feed == LineTerm::one(b'\n')
+        && two == LineTerm::two(0, b';')
+        && LineTerm::two(7, 7) == LineTerm::one(7)
 }
 
-#[test]
-fn lines_end_by_their_terminator(rt: HostRuntime) {
-    let two = LineTerm::two(b';', 0);
+/// Whether lines end by a terminator of two bytes: before each byte, and at the end.
+fn lines_end_by_two() -> bool {
     let mut matcher = LookMatcher::new(AsciiWord);
-    assert_eq!(rt; matcher.get_line_terminator(), LineTerm::default());
-    matcher.set_line_terminator(two);
-    assert_eq!(rt; matcher.get_line_terminator(), two);
-    // before each byte, and at the end
+    matcher.set_line_terminator(LineTerm::two(b';', 0));
     let rows = [
         (0, (true, false)),
         (1, (false, true)),
@@ -513,12 +499,17 @@ fn lines_end_by_their_terminator(rt: HostRuntime) {
         (7, (false, true)),
     ];
     for (at, edges) in rows {
-        assert_eq!(rt;
-            is_edge(&matcher, b"a;b\0c\nd", at),
-            Some(edges),
-            "place {at}"
-        );
+        if is_edge(&matcher, b"a;b\0c\nd", at) != Some(edges) {
+            return false;
+        }
     }
+    matcher.get_line_terminator() == LineTerm::two(b';', 0)
+}
+
+#[test]
+fn line_terminators(rt: HostRuntime) {
+    assert!(rt; terminators_are_told());
+    assert!(rt; lines_end_by_two());
 }
 
 /// Whether the byte and the next one are told apart by the look, with lines that end at `;` or a zero byte.
@@ -577,25 +568,25 @@ fn looks_tell_bytes_apart(rt: HostRuntime) {
     }
 }
 
-/// Whether each look of the set holds at the place.
+/// Whether each look of the set holds at the place, which is in the haystack.
 fn holds_all(set: LookSet, haystack: &[u8], at: usize) -> bool {
     let matcher = LookMatcher::new(AsciiWord);
     at <= haystack.len() && matcher.matches_set(set, haystack, at)
 }
 
-#[test]
-fn sets_hold_where_each_member_does(rt: HostRuntime) {
+/// Whether sets hold where each of their looks does.
+fn sets_hold() -> bool {
     let edges = LookSet::empty().insert(Start).insert(End);
     let first = LookSet::empty().insert(Start).insert(WordStartUnicode);
-    let rows: [(LookSet, &[u8], usize, bool); 6] = [
-        (LookSet::empty(), b"a", 0, true),
-        (edges, b"", 0, true),
-        (edges, b"a", 0, false),
-        (edges, b"a", 1, false),
-        (first, b"a", 0, true),
-        (first, b"-", 0, false),
-    ];
-    for (set, haystack, at, holds) in rows {
-        assert_eq!(rt; holds_all(set, haystack, at), holds, "{haystack:?} at {at}");
-    }
+    holds_all(LookSet::empty(), b"a", 0)
+        && holds_all(edges, b"", 0)
+        && !holds_all(edges, b"a", 0)
+        && !holds_all(edges, b"a", 1)
+        && holds_all(first, b"a", 0)
+        && !holds_all(first, b"-", 0)
+}
+
+#[test]
+fn sets_hold_where_each_member_does(rt: HostRuntime) {
+    assert!(rt; sets_hold());
 }

@@ -108,47 +108,55 @@ const fn single_bytes() -> [(u8, bool, bool); 18] {
     ]
 }
 
-#[test]
-fn rows_are_read_from_both_ends(rt: HostRuntime) {
+/// Whether each row is read as its character from both ends.
+fn spellings_are_read() -> bool {
     for (bytes, c) in spellings() {
-        let read = Some(Ok(c));
-        assert_eq!(rt;
-            (decode(bytes), decode_last(bytes)),
-            (read, read),
-            "{bytes:?}"
-        );
+        if decode(bytes) != Some(Ok(c)) || decode_last(bytes) != Some(Ok(c)) {
+            return false;
+        }
     }
+    true
 }
 
-/// The byte that is given in place of a character at the front.
-fn refused(bytes: &[u8]) -> Option<u8> {
-    match decode(bytes) {
-        Some(Err(byte)) => Some(byte),
-        _ => None,
-    }
-}
-
-#[test]
-fn faults_give_a_byte(rt: HostRuntime) {
+/// Whether each fault gives its first byte at the front, and what is expected at the end.
+fn faults_give_a_byte() -> bool {
     for (bytes, last) in faults() {
-        assert_eq!(rt;
-            (refused(bytes), decode_last(bytes)),
-            (bytes.first().copied(), Some(last)),
-            "{bytes:?}"
-        );
+        let first = match decode(bytes) {
+            Some(Err(byte)) => Some(byte),
+            _ => None,
+        };
+        if first != bytes.first().copied() || decode_last(bytes) != Some(last) {
+            return false;
+        }
     }
+    true
+}
+
+/// Whether longer texts are read from both ends.
+fn texts_are_read() -> bool {
+    for (bytes, first, last) in texts() {
+        if decode(bytes) != Some(first) || decode_last(bytes) != Some(last) {
+            return false;
+        }
+    }
+    decode(&[]).is_none() && decode_last(&[]).is_none()
 }
 
 #[test]
-fn longer_texts_are_read_from_both_ends(rt: HostRuntime) {
-    for (bytes, first, last) in texts() {
-        assert_eq!(rt;
-            (decode(bytes), decode_last(bytes)),
-            (Some(first), Some(last)),
-            "{bytes:?}"
-        );
+fn characters_are_read_from_both_ends(rt: HostRuntime) {
+    assert!(rt; spellings_are_read());
+    assert!(rt; faults_give_a_byte());
+    assert!(rt; texts_are_read());
+}
+
+/// Whether each byte may be cut off, and is one of words, as is expected.
+fn bytes_are_told() -> bool {
+    for (byte, cut, word) in single_bytes() {
+        if is_boundary(&[byte], 0) != cut || is_word_byte(byte) != word {
+            return false;
+        }
     }
-    assert_eq!(rt; (decode(&[]), decode_last(&[])), (None, None));
+    true
 }
 
 /// Whether a text of three bytes, of which the first two are one character, may be cut at each place up to one behind
@@ -167,9 +175,6 @@ fn cuts() -> [bool; 6] {
 
 #[test]
 fn boundaries_and_word_bytes(rt: HostRuntime) {
-    for (byte, cut, word) in single_bytes() {
-        let told = (is_boundary(&[byte], 0), is_word_byte(byte));
-        assert_eq!(rt; told, (cut, word), "byte {byte}");
-    }
-    assert_eq!(rt; cuts(), [true, false, true, true, false, true]);
+    assert!(rt; bytes_are_told());
+    assert!(rt; cuts() == [true, false, true, true, false, true]);
 }
