@@ -53,8 +53,6 @@ pub use Rattle.nfa_core.proofs.RenamingEnds.{name_inside, is_well_formed, ends_l
 pub use Rattle.nfa_core.proofs.TableLemmas.{ends_kept}
 -- the automaton needs no more bytes than the builder
 pub use Rattle.nfa_core.proofs.SizeLemmas.{smaller}
--- what passes a test is kept by it
-pub use Rattle.nfa_core.proofs.RunLemmas.{has_filter}
 -- where lists are joined and repeats dropped, repeats within them don't show
 pub use Rattle.nfa_core.proofs.JoinedWays.{join_once_more, join_distinct_each}
 -- the ends from a pair to which nothing leads back
