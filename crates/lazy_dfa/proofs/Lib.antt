@@ -1,5 +1,5 @@
 pub mod TurnLemmas
-pub mod QuitLemmas
+pub mod PassQuitLemmas
 pub mod LastLemmas
 pub mod BothKindsLemmas
 pub mod PassLemmas
@@ -13,8 +13,10 @@ pub mod ReachLemmas
 pub mod IntervalLemmas
 pub mod IntervalReachLemmas
 pub mod ReadingLemmas
+pub mod FoundLemmas
 pub mod CountLemmas
 pub mod QuitSetLemmas
 pub mod AccountingLemmas
 mod ScanRows
 mod AccountingRows
+pub mod ForCallers

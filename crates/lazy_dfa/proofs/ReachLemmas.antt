@@ -22,7 +22,7 @@ use Rattle.lazy_dfa.specs.ScanLaws.{begins_at, larger, passes_len, scan_len}
 use Rattle.search_types.specs.Inputs.{Search}
 use Rattle.search_types.specs.Modes.{is_anchored}
 use Rattle.lazy_dfa.proofs.TurnLemmas.{place_zero, place_later, one_found, turn_found, found_no_quit, found_no_mode}
-use Rattle.lazy_dfa.proofs.QuitLemmas.{unit_first, unit_later, reads_all, found_in_mode, found_without_quit, pass_units, dead_pass}
+use Rattle.lazy_dfa.proofs.PassQuitLemmas.{unit_first, unit_later, reads_all, found_in_mode, found_without_quit, pass_units, dead_pass}
 use Rattle.lazy_dfa.proofs.AlikeLemmas.{within, first_within, pass_alike}
 use Rattle.lazy_dfa.proofs.RestartLemmas.{whole_stays, split_goes}
 use Rattle.lazy_dfa.proofs.NearbyLemmas.{Fits, fits_next}
@@ -206,11 +206,11 @@ unless_alike c d a b other rest same alike on = ⊎_elim
     (λ (e : splits c a ≡ false). whole_stays c a other e ∙ same ∙ sym (whole_stays d b rest (sym alike ∙ e)))
     (cases_Bool (splits c a))
 
-in_first : (b : Bool) (k m n : ℕ) → k < m → k < (if b then larger m n else m)
+pub in_first : (b : Bool) (k m n : ℕ) → k < m → k < (if b then larger m n else m)
 in_first true k m n l = larger_left m n k l
 in_first false k m n l = l
 
-in_later : (b : Bool) (k m n : ℕ) → b ≡ true → k < n → k < (if b then larger m n else m)
+pub in_later : (b : Bool) (k m n : ℕ) → b ≡ true → k < n → k < (if b then larger m n else m)
 in_later true k m n e l = larger_right m n k l
 in_later false k m n e l = let never : false ≡ true = e in absurd (grind (arith, never))
 
