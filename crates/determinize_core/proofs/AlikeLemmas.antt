@@ -20,7 +20,7 @@ use Rattle.nfa_core.specs.Walks.{chain_ends, distinct}
 use Rattle.nfa_core.specs.Nfa.{Automaton, node_at}
 use Rattle.nfa_core.specs.NfaValue.{looks_of}
 use Rattle.nfa_core.proofs.ForCallers.{looks_any}
-use Rattle.determinize_core.specs.Alike.{AreAlike, AreUnitsAlike}
+use Rattle.determinize_core.specs.Alike.{AreUnitsAlike}
 use Rattle.determinize_core.specs.LookBehind.{starts_of, families_of, behind_start, behind_line, with_look_behind}
 use Rattle.determinize_core.specs.Starts.{start_of}
 use Rattle.determinize_core.specs.States.{StateValue, dead}
