@@ -40,6 +40,18 @@ fn the_limit_is_passed_by_the_last_state(rt: HostRuntime) -> Result<(), Fail> {
 }
 
 #[test]
+fn errors_tell_the_limit(rt: HostRuntime) -> Result<(), Fail> {
+    let mut builder = Builder::new(rt.alloc());
+    builder.add_fail()?;
+    let Err(error) = builder.set_size_limit(Some(23)) else {
+        panic!(rt; "a state has 24 bytes");
+    };
+    assert_eq!(rt; error.size_limit(), Some(23));
+    assert_eq!(rt; BuildError::TooManyStates.size_limit(), None);
+    Ok(())
+}
+
+#[test]
 fn an_index_that_is_too_great(rt: HostRuntime) -> Result<(), Fail> {
     let mut builder = Builder::new(rt.alloc());
     builder.start_pattern()?;
