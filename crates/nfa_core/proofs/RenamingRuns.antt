@@ -1,7 +1,8 @@
--- What a builder's table lists and finds, the automaton that is built of it lists and finds too.
-use Rattle.std.proofs.Common.{◌≡◌, ℕ, zero, suc, ◌<◌, ◌⊎◌, inl, inr, ⊎_elim, Bool, List, [], ◌∷◌, length, take, map, reverse, refl, sym, ap, ◌∙◌, subst, Option, Some, None}
+-- What a builder's table lists and finds, the automaton that is built of it lists and finds too, whatever its states answer.
+use Rattle.std.proofs.Common.{◌≡◌, ℕ, zero, suc, ◌<◌, ◌⊎◌, inl, inr, ⊎_elim, Bool, true, false, if◌then◌else◌, List, [], ◌∷◌, length, take, map, reverse, refl, sym, ap, ap₂, ◌∙◌, subst, Option, Some, None}
 use Rattle.std.specs.Prelude.{All}
 use Rattle.std.specs.Bool.{nat_eq}
+use Rattle.std.proofs.lemmas.Bool.{cases_Bool, cond-true, cond-false, eqb-true, eq-eqb}
 use Rattle.std.proofs.lemmas.List.Elements.{All-get_or, All-head, All-tail}
 use Rattle.std.proofs.lemmas.List.Sorted.{IsPermutation-reverse, All-permutation}
 use Rattle.look_core.specs.declared.look.Look.{Look}
@@ -17,11 +18,14 @@ use Rattle.nfa_core.specs.Renaming.{stands_for, kept, new_name, automaton_of}
 use Rattle.nfa_core.proofs.MemberLemmas.{none_in, of_cons, of_append, has_first}
 use Rattle.nfa_core.proofs.PairLemmas.{names_equal, pairs_equal, from_map}
 use Rattle.nfa_core.proofs.AutomatonLemmas.{read_led, nothing_led}
-use Rattle.nfa_core.proofs.PreferenceLemmas.{option_cases}
+use Rattle.nfa_core.proofs.PreferenceLemmas.{option_cases, one_value, no_value}
 use Rattle.nfa_core.proofs.RenamingLemmas.{Comes, comes_to, past_next, next_inside}
 use Rattle.nfa_core.proofs.RenamingNodes.{ways_of_stand, match_of_stand}
-use Rattle.nfa_core.proofs.RenamingAutomaton.{state_ways, state_match, renamed_pair}
+use Rattle.nfa_core.proofs.RenamingAutomaton.{state_ways, state_match, one_state, renamed_pair}
 use Rattle.nfa_core.proofs.RenamingWalks.{IsKept, StandsIn, Settled, lists_carried, carried_forth, carried_back}
+
+abbrev pair_of : ℕ → ℕ → ℕ × ℕ
+pair_of i q = (i, q)
 
 -- ---- the names that a state leads to are those that it names
 
@@ -65,71 +69,143 @@ module _ (b : Assembly) (x y : ℕ) (can : CanBuild b x y) (t : Text) where
   abbrev from : ℕ × ℕ → List (ℕ × ℕ)
   from p = table_ways b.reverse t (part_at b.parts) p
 
-  abbrev found : ℕ × ℕ → Option (ℕ × ℕ)
-  found p = table_match (part_at b.parts) p
-
   abbrev from_built : ℕ × ℕ → List (ℕ × ℕ)
   from_built p = ways (automaton_of b x y) t p
-
-  abbrev found_built : ℕ × ℕ → Option (ℕ × ℕ)
-  found_built p = matched (automaton_of b x y) p
-
-  abbrev Kept : ℕ × ℕ → Type 0
-  Kept p = IsKept same_pair pairs_equal same_pair pairs_equal (renamed_pair b.parts) from found from_built found_built p
-
-  abbrev Stands : ℕ × ℕ → Type 0
-  Stands p = StandsIn same_pair pairs_equal same_pair pairs_equal (renamed_pair b.parts) from found from_built found_built p
 
   pub stays : (p : ℕ × ℕ) → IsInside p → (q : ℕ × ℕ) → Has same_pair q (from p) → IsInside q
   stays p here q way =
       let named : All (λ r. r < length b.parts) (names_of (part_at b.parts p.1)) = All-get_or (λ part. All (λ r. r < length b.parts) (names_of part)) b.parts p.1 fail_part here can.named in
       node_ways_inside b.reverse t (drafted (part_at b.parts p.1)) (length b.parts) p.0 (led_names (λ r. r < length b.parts) (part_at b.parts p.1) named) q way
 
-  is_kept : (p : ℕ × ℕ) → IsInside p → stands_for (part_at b.parts p.1) ≡ None → Kept p
-  is_kept p here e = (state_ways b x y p.1 p.0 t here e, state_match b x y p.1 p.0 here e)
-
   pub same_name : (q r : ℕ) → stands_for (part_at b.parts q) ≡ Some r → new_name b.parts q ≡ new_name b.parts r
   same_name q r e = ap (λ k. length (kept (take k b.parts))) (past_next b.parts can.no_loop q r e)
 
-  stands_in : (p : ℕ × ℕ) (r : ℕ) → stands_for (part_at b.parts p.1) ≡ Some r → Stands p
-  stands_in p r e = ((p.0, r), ways_of_stand (part_at b.parts p.1) r e b.reverse t p.0, match_of_stand (part_at b.parts p.1) r e p.0, ap (λ n. (p.0, n)) (same_name p.1 r e))
+  -- a kept state answers under its new name what it answered, and a state that stands for another answers nothing
+  module _ {B : Type 0} (found found_built : ℕ × ℕ → Option B)
+      (kept_same : (p : ℕ × ℕ) → p.1 < length b.parts → stands_for (part_at b.parts p.1) ≡ None → found_built (renamed_pair b.parts p) ≡ found p)
+      (stand_none : (p : ℕ × ℕ) (r : ℕ) → stands_for (part_at b.parts p.1) ≡ Some r → found p ≡ None) where
+    abbrev Kept : ℕ × ℕ → Type 0
+    Kept p = IsKept same_pair pairs_equal same_pair pairs_equal (renamed_pair b.parts) from found from_built found_built p
 
-  either : (p : ℕ × ℕ) → IsInside p → Kept p ⊎ Stands p
-  either p here = ⊎_elim (λ (none : stands_for (part_at b.parts p.1) ≡ None). inl (is_kept p here none))
-      (λ (some : (r : ℕ) × (stands_for (part_at b.parts p.1) ≡ Some r)). inr (stands_in p some.0 some.1)) (option_cases (stands_for (part_at b.parts p.1)))
+    abbrev Stands : ℕ × ℕ → Type 0
+    Stands p = StandsIn same_pair pairs_equal same_pair pairs_equal (renamed_pair b.parts) from found from_built found_built p
 
-  abbrev IsSettled : ℕ × ℕ → Type 0
-  IsSettled p = Settled same_pair pairs_equal same_pair pairs_equal (renamed_pair b.parts) from found from_built found_built IsInside p
+    is_kept : (p : ℕ × ℕ) → IsInside p → stands_for (part_at b.parts p.1) ≡ None → Kept p
+    is_kept p here e = (state_ways b x y p.1 p.0 t here e, kept_same p here e)
 
-  settle_by : (m i q : ℕ) → q < length b.parts → Comes b.parts m q → IsSettled (i, q)
-  settle_by zero i q here c = record { at = (i, q); inside = here; kept = is_kept (i, q) here c; named = refl; leads = λ e f. f }
-  settle_by (suc m) i q here c =
-      let k = settle_by m i c.0 (next_inside b.parts can.named q c.0 c.1) c.2 in
-      let way : from (i, q) ≡ (i, c.0) ∷ [] = ways_of_stand (part_at b.parts q) c.0 c.1 b.reverse t i in
-      let W : List (ℕ × ℕ) → Type 0 = λ w. Has same_pair (i, c.0) w in
-      let there : W (from (i, q)) = subst W (sym way) (has_first same_pair pairs_equal (i, c.0) []) in
-      record {
-        at = k.at;
-        inside = k.inside;
-        kept = k.kept;
-        named = ap (λ n. (i, n)) (same_name q c.0 c.1) ∙ k.named;
-        leads = λ e f. let g = k.leads e f in ((i, c.0) ∷ g.0, (there, g.1), g.2);
-      }
+    stands_in : (p : ℕ × ℕ) (r : ℕ) → stands_for (part_at b.parts p.1) ≡ Some r → Stands p
+    stands_in p r e = ((p.0, r), ways_of_stand (part_at b.parts p.1) r e b.reverse t p.0, stand_none p r e, ap (λ n. (p.0, n)) (same_name p.1 r e))
 
-  settle : (p : ℕ × ℕ) → IsInside p → IsSettled p
-  settle p here = let c = comes_to b.parts can.no_loop p.1 here in settle_by c.0 p.0 p.1 here c.1
+    either : (p : ℕ × ℕ) → IsInside p → Kept p ⊎ Stands p
+    either p here = ⊎_elim (λ (none : stands_for (part_at b.parts p.1) ≡ None). inl (is_kept p here none))
+        (λ (some : (r : ℕ) × (stands_for (part_at b.parts p.1) ≡ Some r)). inr (stands_in p some.0 some.1)) (option_cases (stands_for (part_at b.parts p.1)))
+
+    abbrev IsSettled : ℕ × ℕ → Type 0
+    IsSettled p = Settled same_pair pairs_equal same_pair pairs_equal (renamed_pair b.parts) from found from_built found_built IsInside p
+
+    settle_by : (m i q : ℕ) → q < length b.parts → Comes b.parts m q → IsSettled (i, q)
+    settle_by zero i q here c = record { at = (i, q); inside = here; kept = is_kept (i, q) here c; named = refl; leads = λ e f. f }
+    settle_by (suc m) i q here c =
+        let k = settle_by m i c.0 (next_inside b.parts can.named q c.0 c.1) c.2 in
+        let way : from (i, q) ≡ (i, c.0) ∷ [] = ways_of_stand (part_at b.parts q) c.0 c.1 b.reverse t i in
+        let W : List (ℕ × ℕ) → Type 0 = λ w. Has same_pair (i, c.0) w in
+        let there : W (from (i, q)) = subst W (sym way) (has_first same_pair pairs_equal (i, c.0) []) in
+        record {
+          at = k.at;
+          inside = k.inside;
+          kept = k.kept;
+          named = ap (λ n. (i, n)) (same_name q c.0 c.1) ∙ k.named;
+          leads = λ e f. let g = k.leads e f in ((i, c.0) ∷ g.0, (there, g.1), g.2);
+        }
+
+    settle : (p : ℕ × ℕ) → IsInside p → IsSettled p
+    settle p here = let c = comes_to b.parts can.no_loop p.1 here in settle_by c.0 p.0 p.1 here c.1
+
+    pub lists_by : (q i : ℕ) (l : List B) → q < length b.parts → Lists from found ((i, q) ∷ []) l → Lists from_built found_built ((i, new_name b.parts q) ∷ []) l
+    lists_by q i l here walk = lists_carried same_pair pairs_equal same_pair pairs_equal (renamed_pair b.parts) from found from_built found_built IsInside stays either walk
+        (of_cons same_pair pairs_equal IsInside (i, q) [] here (λ p h. none_in same_pair p _ h))
+
+    pub forth_by : (q i : ℕ) (r : List (ℕ × ℕ)) (e : B) → q < length b.parts → IsChain same_pair from (i, q) r → found (last_or (i, q) r) ≡ Some e →
+        (s : List (ℕ × ℕ)) × IsChain same_pair from_built (i, new_name b.parts q) s × (found_built (last_or (i, new_name b.parts q) s) ≡ Some e)
+    forth_by q i r e here chain is = carried_forth same_pair pairs_equal same_pair pairs_equal (renamed_pair b.parts) from found from_built found_built IsInside stays either r (i, q) here e chain is
+
+    pub back_by : (q i : ℕ) (s : List (ℕ × ℕ)) (e : B) → q < length b.parts → IsChain same_pair from_built (i, new_name b.parts q) s →
+        found_built (last_or (i, new_name b.parts q) s) ≡ Some e → (r : List (ℕ × ℕ)) × IsChain same_pair from (i, q) r × (found (last_or (i, q) r) ≡ Some e)
+    back_by q i s e here chain is = carried_back same_pair pairs_equal same_pair pairs_equal (renamed_pair b.parts) from found from_built found_built IsInside stays either settle s (i, q) here e chain is
+
+  -- ---- where they answer what matches
+
+  match_same : (p : ℕ × ℕ) → p.1 < length b.parts → stands_for (part_at b.parts p.1) ≡ None → matched (automaton_of b x y) (renamed_pair b.parts p) ≡ table_match (part_at b.parts) p
+  match_same p here e = state_match b x y p.1 p.0 here e
+
+  no_match : (p : ℕ × ℕ) (r : ℕ) → stands_for (part_at b.parts p.1) ≡ Some r → table_match (part_at b.parts) p ≡ None
+  no_match p r e = match_of_stand (part_at b.parts p.1) r e p.0
 
   pub same_lists : (q i : ℕ) (l : List (ℕ × ℕ)) → q < length b.parts → Lists (table_ways b.reverse t (part_at b.parts)) (table_match (part_at b.parts)) ((i, q) ∷ []) l →
       Lists (ways (automaton_of b x y) t) (matched (automaton_of b x y)) ((i, new_name b.parts q) ∷ []) l
-  same_lists q i l here walk = lists_carried same_pair pairs_equal same_pair pairs_equal (renamed_pair b.parts) from found from_built found_built IsInside stays either walk
-      (of_cons same_pair pairs_equal IsInside (i, q) [] here (λ p h. none_in same_pair p _ h))
+  same_lists = lists_by (table_match (part_at b.parts)) (matched (automaton_of b x y)) match_same no_match
 
   pub chains_forth : (q i : ℕ) (r : List (ℕ × ℕ)) (e : ℕ × ℕ) → q < length b.parts → IsChain same_pair (table_ways b.reverse t (part_at b.parts)) (i, q) r →
       table_match (part_at b.parts) (last_or (i, q) r) ≡ Some e →
       (s : List (ℕ × ℕ)) × IsChain same_pair (ways (automaton_of b x y) t) (i, new_name b.parts q) s × (matched (automaton_of b x y) (last_or (i, new_name b.parts q) s) ≡ Some e)
-  chains_forth q i r e here chain is = carried_forth same_pair pairs_equal same_pair pairs_equal (renamed_pair b.parts) from found from_built found_built IsInside stays either r (i, q) here e chain is
+  chains_forth = forth_by (table_match (part_at b.parts)) (matched (automaton_of b x y)) match_same no_match
 
   pub chains_back : (q i : ℕ) (s : List (ℕ × ℕ)) (e : ℕ × ℕ) → q < length b.parts → IsChain same_pair (ways (automaton_of b x y) t) (i, new_name b.parts q) s →
       matched (automaton_of b x y) (last_or (i, new_name b.parts q) s) ≡ Some e →
       (r : List (ℕ × ℕ)) × IsChain same_pair (table_ways b.reverse t (part_at b.parts)) (i, q) r × (table_match (part_at b.parts) (last_or (i, q) r) ≡ Some e)
-  chains_back q i s e here chain is = carried_back same_pair pairs_equal same_pair pairs_equal (renamed_pair b.parts) from found from_built found_built IsInside stays either settle s (i, q) here e chain is
+  chains_back = back_by (table_match (part_at b.parts)) (matched (automaton_of b x y)) match_same no_match
+
+  -- ---- where a kept state answers its place
+
+  module _ (c : ℕ) (there : c < length b.parts) (stands : stands_for (part_at b.parts c) ≡ None) where
+    abbrev place_in : ℕ → ℕ × ℕ → Option ℕ
+    place_in state p = if nat_eq p.1 state then Some p.0 else None
+
+    same_state : (q : ℕ) → q < length b.parts → stands_for (part_at b.parts q) ≡ None → nat_eq (new_name b.parts q) (new_name b.parts c) ≡ nat_eq q c
+    same_state q here e = ⊎_elim
+        (λ (is : nat_eq q c ≡ true). eq-eqb (new_name b.parts q) (new_name b.parts c) (ap (new_name b.parts) (eqb-true q c is)) ∙ sym is)
+        (λ (isnt : nat_eq q c ≡ false). ⊎_elim
+        (λ (is : nat_eq (new_name b.parts q) (new_name b.parts c) ≡ true).
+        let one : q ≡ c = one_state b.parts q c here there e stands (eqb-true (new_name b.parts q) (new_name b.parts c) is) in
+        is ∙ sym (eq-eqb q c one))
+        (λ (other : nat_eq (new_name b.parts q) (new_name b.parts c) ≡ false). other ∙ sym isnt)
+        (cases_Bool (nat_eq (new_name b.parts q) (new_name b.parts c))))
+        (cases_Bool (nat_eq q c))
+
+    place_same : (p : ℕ × ℕ) → p.1 < length b.parts → stands_for (part_at b.parts p.1) ≡ None → place_in (new_name b.parts c) (renamed_pair b.parts p) ≡ place_in c p
+    place_same p here e = ap (λ (k : Bool). if k then Some p.0 else None) (same_state p.1 here e)
+
+    no_place : (p : ℕ × ℕ) (r : ℕ) → stands_for (part_at b.parts p.1) ≡ Some r → place_in c p ≡ None
+    no_place p r e = ⊎_elim
+        (λ (is : nat_eq p.1 c ≡ true).
+        let none : stands_for (part_at b.parts p.1) ≡ None = ap (λ (k : ℕ). stands_for (part_at b.parts k)) (eqb-true p.1 c is) ∙ stands in
+        no_value (stands_for (part_at b.parts p.1)) r _ none e)
+        (λ (isnt : nat_eq p.1 c ≡ false). cond-false (nat_eq p.1 c) _ _ isnt) (cases_Bool (nat_eq p.1 c))
+
+    place_found : (p : ℕ × ℕ) (state j : ℕ) → place_in state p ≡ Some j → p ≡ (j, state)
+    place_found p state j e = ⊎_elim
+        (λ (is : nat_eq p.1 state ≡ true).
+        let some : place_in state p ≡ Some p.0 = cond-true (nat_eq p.1 state) _ _ is in
+        let place : p.0 ≡ j = one_value (place_in state p) p.0 j some e in
+        ap₂ pair_of place (eqb-true p.1 state is))
+        (λ (isnt : nat_eq p.1 state ≡ false). let none : place_in state p ≡ None = cond-false (nat_eq p.1 state) _ _ isnt in no_value (place_in state p) j _ none e)
+        (cases_Bool (nat_eq p.1 state))
+
+    found_place : (p : ℕ × ℕ) (state j : ℕ) → p ≡ (j, state) → place_in state p ≡ Some j
+    found_place p state j e =
+        let is : nat_eq p.1 state ≡ true = eq-eqb p.1 state (ap (λ z. z.1) e) in
+        cond-true (nat_eq p.1 state) _ _ is ∙ ap (λ k. Some k) (ap (λ z. z.0) e)
+
+    -- chains to a kept state
+    pub goes_to : (q i j : ℕ) (r : List (ℕ × ℕ)) → q < length b.parts → IsChain same_pair (table_ways b.reverse t (part_at b.parts)) (i, q) r → last_or (i, q) r ≡ (j, c) →
+        (s : List (ℕ × ℕ)) × IsChain same_pair (ways (automaton_of b x y) t) (i, new_name b.parts q) s × (last_or (i, new_name b.parts q) s ≡ (j, new_name b.parts c))
+    goes_to q i j r here chain last =
+        let s = forth_by (place_in c) (place_in (new_name b.parts c)) place_same no_place q i r j here chain (found_place (last_or (i, q) r) c j last) in
+        (s.0, s.1, place_found (last_or (i, new_name b.parts q) s.0) (new_name b.parts c) j s.2)
+
+    pub comes_from : (q i j : ℕ) (s : List (ℕ × ℕ)) → q < length b.parts → IsChain same_pair (ways (automaton_of b x y) t) (i, new_name b.parts q) s →
+        last_or (i, new_name b.parts q) s ≡ (j, new_name b.parts c) →
+        (r : List (ℕ × ℕ)) × IsChain same_pair (table_ways b.reverse t (part_at b.parts)) (i, q) r × (last_or (i, q) r ≡ (j, c))
+    comes_from q i j s here chain last =
+        let r = back_by (place_in c) (place_in (new_name b.parts c)) place_same no_place q i s j here chain (found_place (last_or (i, new_name b.parts q) s) (new_name b.parts c) j last) in
+        (r.0, r.1, place_found (last_or (i, q) r.0) c j r.2)

@@ -64,6 +64,18 @@ pub fn chains_are_carried_over()
         × (table_match (part_at b.parts) (last_or (i, q) r) ≡ Some e) }
 {}
 
+/// Chains of the table to a kept state are chains of the automaton to its new name, and the other way round.
+pub fn chains_to_kept_states_are_carried_over()
+    ensures forth { (b : Assembly) (x y : ℕ) (t : Text) (c q i j : ℕ) (r : List (ℕ × ℕ)) → CanBuild b x y → c < length b.parts →
+        stands_for (part_at b.parts c) ≡ None → q < length b.parts → IsChain same_pair (table_ways b.reverse t (part_at b.parts)) (i, q) r →
+        last_or (i, q) r ≡ (j, c) → (s : List (ℕ × ℕ)) × IsChain same_pair (ways (automaton_of b x y) t) (i, new_name b.parts q) s
+        × (last_or (i, new_name b.parts q) s ≡ (j, new_name b.parts c)) }
+    ensures back { (b : Assembly) (x y : ℕ) (t : Text) (c q i j : ℕ) (s : List (ℕ × ℕ)) → CanBuild b x y → c < length b.parts →
+        stands_for (part_at b.parts c) ≡ None → q < length b.parts → IsChain same_pair (ways (automaton_of b x y) t) (i, new_name b.parts q) s →
+        last_or (i, new_name b.parts q) s ≡ (j, new_name b.parts c) →
+        (r : List (ℕ × ℕ)) × IsChain same_pair (table_ways b.reverse t (part_at b.parts)) (i, q) r × (last_or (i, q) r ≡ (j, c)) }
+{}
+
 /// All names of the automaton are names of its states.
 pub fn built_automata_are_well_formed()
     ensures inside { (b : Assembly) (x y q : ℕ) → CanBuild b x y → q < length b.parts → new_name b.parts q < length (automaton_of b x y).states }
