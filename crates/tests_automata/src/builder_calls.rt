@@ -80,6 +80,18 @@ fn last_group(alloc: Global) -> Result<usize, BuildError> {
 }
 
 #[test]
+fn errors_tell_the_limit(rt: HostRuntime) -> Result<(), Fail> {
+    let mut builder = Builder::new(rt.alloc());
+    builder.add_fail()?;
+    let Err(error) = builder.set_size_limit(Some(23)) else {
+        panic!(rt; "a state has 24 bytes");
+    };
+    assert_eq!(rt; error.size_limit(), Some(23));
+    assert_eq!(rt; BuildError::TooManyStates.size_limit(), None);
+    Ok(())
+}
+
+#[test]
 fn an_index_that_is_too_great(rt: HostRuntime) -> Result<(), Fail> {
     assert!(rt; refuses_groups(rt.alloc())?);
     assert!(rt; last_group(rt.alloc())? == 24);
