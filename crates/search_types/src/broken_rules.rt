@@ -23,7 +23,7 @@ pub(crate) enum BrokenRule<'a> {
 }
 
 /// The error that tells a broken rule. It takes memory for a name that stands twice, and for nothing else.
-pub(crate) fn told(alloc: Global, rule: BrokenRule<'_>) -> GroupInfoError
+pub(crate) fn error_of(alloc: Global, rule: BrokenRule<'_>) -> GroupInfoError
     ensures { Tells result (Some (fault_of rule.entry)) }
 {
     match rule {

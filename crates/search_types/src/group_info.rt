@@ -6,7 +6,7 @@ ghost use Rattle.search_types.specs.GroupFaults.{groups_in, names_fault, slots_f
 ghost use Rattle.search_types.specs.GroupPlaces.{all_named, starts_from};
 ghost use Rattle.search_types.specs.GroupRefusals.{Tells};
 
-use crate::broken_rules::{broken_rule, told};
+use crate::broken_rules::{broken_rule, error_of};
 use crate::group_info_error::GroupInfoError;
 use crate::group_names::{GroupInfoAllNames, GroupInfoPatternNames};
 use crate::pattern_groups::PatternGroups;
@@ -50,7 +50,7 @@ impl GroupInfo {
             (λ e. Tells e (group_fault (groups_in groups.now))) }
     {
         if let Some(rule) = broken_rule(groups) {
-            return Err(told(alloc, rule));
+            return Err(error_of(alloc, rule));
         }
         let patterns = take_patterns(alloc, groups)?;
         let (starts, slot_len) = lay_out(alloc, &patterns)?;
