@@ -1,0 +1,14 @@
+pub mod TurnLemmas
+pub mod QuitLemmas
+pub mod LastLemmas
+pub mod BothKindsLemmas
+pub mod PassLemmas
+pub mod NearestLemmas
+pub mod AlikeLemmas
+pub mod RestartLemmas
+pub mod NearbyLemmas
+pub mod ScanLemmas
+pub mod ReachLemmas
+pub mod IntervalLemmas
+pub mod IntervalReachLemmas
+pub mod CountLemmas

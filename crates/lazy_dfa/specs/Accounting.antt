@@ -1,0 +1,71 @@
+-- How many bytes a cache is taken to need. The numbers stand for what it keeps and not for real memory, so that they are
+-- the same on every machine.
+use Rattle.std.specs.Prelude.{ℕ, zero, suc, ◌+◌, ◌*◌, max, Bool, true, false, List, [], ◌∷◌, length, if◌then◌else◌, nat_le}
+use Rattle.search_core.specs.Classes.{alphabet_size}
+use Rattle.nfa_core.specs.Nfa.{Automaton}
+use Rattle.determinize_core.specs.States.{StateValue}
+use Rattle.determinize_core.specs.StateBytes.{encoded}
+
+-- by what the bytes of a cache are told, apart from the states that it holds
+pub record Measures : Type 0 where
+  pub states : ℕ  -- how many states the automaton has
+  pub patterns : ℕ  -- and how many patterns
+  pub stride : ℕ  -- how many transitions a state of the cache has
+  pub starts : ℕ  -- how many starts it knows
+
+-- seven starts each for searches that may start anywhere and for anchored ones, and seven for each pattern where a search
+-- may name its pattern
+abbrev pub start_count : Bool → ℕ → ℕ
+start_count starts_for_each_pattern patterns = if starts_for_each_pattern then 14 + 7 * patterns else 14
+
+-- the least of the powers of two from s on that isn't below n, or the last of so many more
+abbrev pub power_from : ℕ → ℕ → ℕ → ℕ
+power_from zero s n = s
+power_from (suc more) s n = if nat_le n s then s else power_from more (2 * s) n
+
+-- how many transitions a state has: the least power of two that isn't below the number of classes, that of the end of
+-- input among them
+abbrev pub stride_of : List ℕ → ℕ
+stride_of classes = power_from 9 1 (alphabet_size classes)
+
+abbrev pub measures_of : Automaton → List ℕ → Bool → Measures
+measures_of a classes starts_for_each_pattern = record {
+  states = length a.states;
+  patterns = length a.start_pattern;
+  stride = stride_of classes;
+  starts = start_count starts_for_each_pattern (length a.start_pattern);
+}
+
+-- a state has so many bytes at most
+abbrev pub longest_state : Measures → ℕ
+longest_state m = 13 + 4 * m.patterns + 5 * m.states
+
+-- a row of transitions, with its place in the list of states
+abbrev pub row_cost : ℕ → ℕ
+row_cost stride = 4 * stride + 16
+
+-- a state of so many bytes, with its row and its entry in the map from states to rows
+abbrev pub state_cost : ℕ → ℕ → ℕ
+state_cost stride bytes = row_cost stride + 20 + bytes
+
+-- Of a cache that holds no states: what it works with, its starts, three sentinels of nine bytes each, and an entry for
+-- the dead one.
+abbrev pub fresh_usage : Measures → ℕ
+fresh_usage m = 20 * m.states + longest_state m + 4 * m.starts + 3 * row_cost m.stride + 20 + 27
+
+-- what states add
+abbrev pub states_cost : ℕ → List StateValue → ℕ
+states_cost stride [] = 0
+states_cost stride (v ∷ vs) = state_cost stride (length (encoded v)) + states_cost stride vs
+
+-- of a cache that holds these states, apart from the sentinels
+abbrev pub usage : Measures → List StateValue → ℕ
+usage m held = fresh_usage m + states_cost m.stride held
+
+-- the least capacity: room for two states, whatever they are
+abbrev pub least_capacity : Measures → ℕ
+least_capacity m = fresh_usage m + 2 * state_cost m.stride (longest_state m)
+
+-- the capacity that counts: the given one, or the least one where that is larger and the caller asks for no check
+abbrev pub effective_capacity : Measures → Bool → ℕ → ℕ
+effective_capacity m skips_check given = if skips_check then max (least_capacity m) given else given
