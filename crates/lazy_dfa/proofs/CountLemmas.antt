@@ -1,6 +1,6 @@
 -- How many passes half searches make, and how many units these read.
-use Rattle.std.proofs.Common.{◌≡◌, ℕ, zero, suc, ◌+◌, ◌-◌, ◌*◌, ◌<◌, ◌≤◌, Bool, true, false, List, refl, sym, ap, ◌∙◌, ⊎_elim, subst, arith, if◌then◌else◌}
-use Rattle.std.proofs.lemmas.Bool.{cases_Bool, le-leb}
+use Rattle.std.proofs.Common.{◌≡◌, ℕ, zero, suc, ◌+◌, ◌-◌, ◌*◌, ◌<◌, ◌≤◌, Bool, true, false, List, refl, ap, ◌∙◌, arith, if◌then◌else◌}
+use Rattle.std.proofs.lemmas.Bool.{le-leb}
 use Rattle.std.specs.Bool.{nat_le}
 use Rattle.search_types.specs.declared.anchored.Anchored.{Anchored}
 use Rattle.search_types.specs.Inputs.{Search}
@@ -29,7 +29,8 @@ module _ (r : Reader) (mode : Anchored) (earliest : Bool) (h : List ℕ) where
 
   pub few_passes : (n i : ℕ) → passes_made r mode earliest h n i ≤ suc n
   few_passes zero i = omega arith
-  few_passes (suc n) i = one_more (split (suc n) i) (passes_made r mode earliest h n (next_place r i)) (suc n) (few_passes n (next_place r i))
+  few_passes (suc n) i =
+      one_more (split (suc n) i) (passes_made r mode earliest h n (next_place r i)) (suc n) (few_passes n (next_place r i))
 
   pub one_made : (n i : ℕ) → r.between_characters ≡ false → passes_made r mode earliest h n i ≡ 1
   one_made zero i e = refl
@@ -41,7 +42,8 @@ module _ (r : Reader) (mode : Anchored) (earliest : Bool) (h : List ℕ) where
   few_units_made zero i = let few = pass_units r mode earliest h 0 i in omega (arith, few)
   few_units_made (suc n) i =
       units_of_more (split (suc n) i) (pass_len r mode earliest h (suc n) i) (units_in_passes r mode earliest h n (next_place r i))
-      (passes_made r mode earliest h n (next_place r i)) n (pass_units r mode earliest h (suc n) i) (few_units_made n (next_place r i))
+      (passes_made r mode earliest h n (next_place r i)) n (pass_units r mode earliest h (suc n) i)
+      (few_units_made n (next_place r i))
 
 -- ---- half searches
 
@@ -49,7 +51,8 @@ either_few : (a : Bool) (n made : ℕ) → made ≤ suc n → (if a then 1 else 
 either_few true n made l = omega arith
 either_few false n made l = l
 
-either_units : (a : Bool) (n one made units : ℕ) → one ≤ suc n → units ≤ made * suc n → (if a then one else units) ≤ (if a then 1 else made) * suc n
+either_units : (a : Bool) (n one made units : ℕ) → one ≤ suc n → units ≤ made * suc n →
+    (if a then one else units) ≤ (if a then 1 else made) * suc n
 either_units true n one made units few all = omega (arith, few)
 either_units false n one made units few all = all
 
@@ -91,7 +94,8 @@ module _ (r : Reader) (q : Search) where
   made_if_begun l = ap (λ (b : Bool). if b then made_in_mode else 0) (le-leb q.start q.end l)
 
   pub one_pass_counted : q.start ≤ q.end → r.between_characters ≡ false → pass_count r q ≡ 1
-  one_pass_counted l e = made_if_begun l ∙ either_one (is_anchored q.anchored) made (one_made r q.anchored q.earliest q.haystack n (begins_at r q) e)
+  one_pass_counted l e = made_if_begun l
+      ∙ either_one (is_anchored q.anchored) made (one_made r q.anchored q.earliest q.haystack n (begins_at r q) e)
 
   pub anchored_pass_counted : q.start ≤ q.end → is_anchored q.anchored ≡ true → pass_count r q ≡ 1
   anchored_pass_counted l a = made_if_begun l ∙ ap (λ (b : Bool). if b then 1 else made) a

@@ -1,5 +1,5 @@
 -- The bytes at which one who reads looks, by their indices: they follow each other.
-use Rattle.std.proofs.Common.{◌≡◌, ℕ, zero, suc, ◌+◌, ◌-◌, ◌<◌, ◌≤◌, Bool, true, false, List, Option, refl, sym, ap, ◌∙◌, ⊎_elim, subst, arith}
+use Rattle.std.proofs.Common.{◌≡◌, ℕ, zero, suc, ◌+◌, ◌-◌, ◌<◌, ◌≤◌, Bool, true, false, List, refl, ⊎_elim, subst, arith}
 use Rattle.std.proofs.lemmas.Bool.{cases_lt}
 use Rattle.search_core.specs.Text.{byte_at, byte_before}
 use Rattle.nfa_core.specs.Ways.{place_of}
@@ -9,13 +9,15 @@ use Rattle.lazy_dfa.specs.ScanLaws.{IsReached, Agree}
 
 -- ---- from indices to units
 
-pub behind_agrees : (down : Bool) (h g : List ℕ) (i n : ℕ) → Agree h g (IsReached down i n) → unit_behind down h i ≡ unit_behind down g i
+pub behind_agrees : (down : Bool) (h g : List ℕ) (i n : ℕ) → Agree h g (IsReached down i n) →
+    unit_behind down h i ≡ unit_behind down g i
 behind_agrees false h g zero n agree = refl
 behind_agrees false h g (suc i) n agree = agree i (omega arith, omega arith)
 behind_agrees true h g i n agree = agree i (omega arith, omega arith)
 
 -- for one who reads down, the byte before a place
-before_agrees : (h g : List ℕ) (i n k j : ℕ) → Agree h g (IsReached true i n) → k < n → j ≡ i - k → byte_before h j ≡ byte_before g j
+before_agrees : (h g : List ℕ) (i n k j : ℕ) → Agree h g (IsReached true i n) → k < n → j ≡ i - k →
+    byte_before h j ≡ byte_before g j
 before_agrees h g i n k zero agree l is = refl
 before_agrees h g i n k (suc j) agree l is = agree j (omega (arith, l, is), omega (arith, is))
 
@@ -28,7 +30,8 @@ units_agree true h g i n k agree l = before_agrees h g i n k (i - k) agree l ref
 
 -- what is told of the unit behind place i and of those from there on is told of each byte
 pub told_of_each : (quits : List Bool) (down : Bool) (h : List ℕ) (i n x : ℕ) → is_quit quits (unit_behind down h i) ≡ false →
-    ((k : ℕ) → k < n → is_quit quits (unit_at down h (place_of down i k)) ≡ false) → IsReached down i n x → is_quit quits (byte_at h x) ≡ false
+    ((k : ℕ) → k < n → is_quit quits (unit_at down h (place_of down i k)) ≡ false) → IsReached down i n x →
+    is_quit quits (byte_at h x) ≡ false
 told_of_each quits false h i n x back all there = ⊎_elim
     (λ (before : x < i).
     let from = there.0 in

@@ -1,5 +1,5 @@
 -- What half searches depend on, by the indices of the bytes at which they look.
-use Rattle.std.proofs.Common.{◌≡◌, ℕ, suc, ◌+◌, ◌-◌, ◌<◌, ◌≤◌, Bool, true, false, List, length, Option, Some, None, refl, sym, ap, ◌∙◌, ⊎_elim, arith}
+use Rattle.std.proofs.Common.{◌≡◌, ℕ, suc, ◌+◌, ◌-◌, ◌<◌, ◌≤◌, Bool, true, false, List, length, Option, Some, None, sym, ◌∙◌, ⊎_elim, arith}
 use Rattle.search_core.specs.Text.{byte_at}
 use Rattle.search_types.specs.declared.anchored.Anchored.{Anchored}
 use Rattle.search_types.specs.Inputs.{Search}
@@ -16,13 +16,15 @@ use Rattle.lazy_dfa.proofs.IntervalLemmas.{behind_agrees, units_agree, told_of_e
 
 -- ---- passes
 
-pub pass_by_reach : (r : Reader) (mode : Anchored) (earliest : Bool) (h g : List ℕ) (n i : ℕ) → Agree h g (IsInPass r mode earliest h n i) →
+pub pass_by_reach : (r : Reader) (mode : Anchored) (earliest : Bool) (h g : List ℕ) (n i : ℕ) →
+    Agree h g (IsInPass r mode earliest h n i) →
     pass r mode earliest h n i ≡ pass r mode earliest g n i
 pass_by_reach r mode earliest h g n i agree =
     pass_alike r earliest h g mode n i (behind_agrees r.automaton.reverse h g i (pass_len r mode earliest h n i) agree)
     (λ k l. units_agree r.automaton.reverse h g i (pass_len r mode earliest h n i) k agree l)
 
-pub pass_is_quiet : (r : Reader) (mode : Anchored) (earliest : Bool) (h : List ℕ) (n i : ℕ) (o : Option (ℕ × ℕ)) → pass r mode earliest h n i ≡ found o →
+pub pass_is_quiet : (r : Reader) (mode : Anchored) (earliest : Bool) (h : List ℕ) (n i : ℕ) (o : Option (ℕ × ℕ)) →
+    pass r mode earliest h n i ≡ found o →
     (x : ℕ) → IsInPass r mode earliest h n i x → is_quit r.quits (byte_at h x) ≡ false
 pass_is_quiet r mode earliest h n i o is x there =
     let none = found_without_quit r mode earliest h n i o is in
@@ -30,7 +32,8 @@ pass_is_quiet r mode earliest h n i o is x there =
 
 -- ---- half searches
 
-reached_near : (down : Bool) (s e n x : ℕ) → s ≤ e → n ≤ suc (e - s) → IsReached down (first_place down s e) n x → (s ≤ x + 1) × (x ≤ e)
+reached_near : (down : Bool) (s e n x : ℕ) → s ≤ e → n ≤ suc (e - s) → IsReached down (first_place down s e) n x →
+    (s ≤ x + 1) × (x ≤ e)
 reached_near false s e n x fits few there = let to = there.1 in (there.0, omega (arith, fits, few, to))
 reached_near true s e n x fits few there = let from = there.0 in (omega (arith, fits, few, from), there.1)
 

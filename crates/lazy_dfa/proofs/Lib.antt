@@ -8,7 +8,12 @@ pub mod AlikeLemmas
 pub mod RestartLemmas
 pub mod NearbyLemmas
 pub mod ScanLemmas
+pub mod AnewLemmas
 pub mod ReachLemmas
 pub mod IntervalLemmas
 pub mod IntervalReachLemmas
 pub mod CountLemmas
+pub mod QuitSetLemmas
+pub mod AccountingLemmas
+mod ScanRows
+mod AccountingRows

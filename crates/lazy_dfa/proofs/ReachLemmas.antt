@@ -32,7 +32,8 @@ use Rattle.nfa_core.specs.Nfa.{Automaton}
 
 -- ---- a place that is found was read behind
 
-recorded_by : (o : Option ℕ) (j : ℕ) (best : Option (ℕ × ℕ)) → (option_or (end_at j o) best ≡ best) ⊎ ((p : ℕ) × (option_or (end_at j o) best ≡ Some (j, p)))
+recorded_by : (o : Option ℕ) (j : ℕ) (best : Option (ℕ × ℕ)) →
+    (option_or (end_at j o) best ≡ best) ⊎ ((p : ℕ) × (option_or (end_at j o) best ≡ Some (j, p)))
 recorded_by None j best = inl refl
 recorded_by (Some p) j best = inr (p, refl)
 
@@ -48,13 +49,21 @@ module _ (r : Reader) (earliest : Bool) (h : List ℕ) where
       (recorded_by (first v.matches) i best)
 
   read_later : (i n m : ℕ) (o : Option (ℕ × ℕ)) → ((k : ℕ) → k < m → suc k < n) → IsRead (next_place r i) m o → IsRead i n o
-  read_later i n m o up there = (suc there.0, there.1, up there.0 there.2, there.3 ∙ ap (λ (j : ℕ). Some (j, there.1)) (place_later r.automaton.reverse i there.0))
+  read_later i n m o up there = (
+    suc there.0,
+    there.1,
+    up there.0 there.2,
+    there.3
+        ∙ ap (λ (j : ℕ). Some (j, there.1)) (place_later r.automaton.reverse i there.0),
+  )
 
-  stopped : (s : Bool) (a b : Option (ℕ × ℕ)) (rest : HalfAnswer) → (if s then found a else rest) ≡ found b → ((s ≡ true) × (a ≡ b)) ⊎ ((s ≡ false) × (rest ≡ found b))
+  stopped : (s : Bool) (a b : Option (ℕ × ℕ)) (rest : HalfAnswer) → (if s then found a else rest) ≡ found b →
+      ((s ≡ true) × (a ≡ b)) ⊎ ((s ≡ false) × (rest ≡ found b))
   stopped true a b rest e = inl (refl, one_found a b e)
   stopped false a b rest e = inr (refl, e)
 
-  pub found_read : (n i : ℕ) (v : StateValue) (best o : Option (ℕ × ℕ)) → pass_from r earliest h n i v best ≡ found o → (o ≡ best) ⊎ IsRead i (units_read r earliest h n i v) o
+  pub found_read : (n i : ℕ) (v : StateValue) (best o : Option (ℕ × ℕ)) → pass_from r earliest h n i v best ≡ found o →
+      (o ≡ best) ⊎ IsRead i (units_read r earliest h n i v) o
   unfolding pass_from
   found_read zero i v best o e = inl (sym (one_found best o e))
   found_read (suc n) i v best o e = ⊎_elim
@@ -65,14 +74,19 @@ module _ (r : Reader) (earliest : Bool) (h : List ℕ) where
       ⊎_elim
       (λ (stop : ((earliest && not (is_empty (next_value r h i v).matches)) ≡ true) × (recorded i (next_value r h i v) best ≡ o)).
       read_here i (units_read r earliest h (suc n) i v) (next_value r h i v) best o
-      (first_within (is_dead v) (earliest && not (is_empty (next_value r h i v).matches)) (units_read r earliest h n (next_place r i) (next_value r h i v)) goes.0) stop.1)
-      (λ (on : ((earliest && not (is_empty (next_value r h i v).matches)) ≡ false) × (pass_from r earliest h n (next_place r i) (next_value r h i v) (recorded i (next_value r h i v) best) ≡ found o)).
+      (first_within (is_dead v) (earliest && not (is_empty (next_value r h i v).matches))
+      (units_read r earliest h n (next_place r i) (next_value r h i v)) goes.0) stop.1)
+      (λ (on : ((earliest && not (is_empty (next_value r h i v).matches)) ≡ false) ×
+      (pass_from r earliest h n (next_place r i) (next_value r h i v) (recorded i (next_value r h i v) best) ≡ found o)).
       ⊎_elim
-      (λ (same : o ≡ recorded i (next_value r h i v) best). read_here i (units_read r earliest h (suc n) i v) (next_value r h i v) best o
-      (first_within (is_dead v) (earliest && not (is_empty (next_value r h i v).matches)) (units_read r earliest h n (next_place r i) (next_value r h i v)) goes.0) (sym same))
+      (λ (same : o ≡ recorded i (next_value r h i v) best).
+      read_here i (units_read r earliest h (suc n) i v) (next_value r h i v) best o
+      (first_within (is_dead v) (earliest && not (is_empty (next_value r h i v).matches))
+      (units_read r earliest h n (next_place r i) (next_value r h i v)) goes.0) (sym same))
       (λ (there : IsRead (next_place r i) (units_read r earliest h n (next_place r i) (next_value r h i v)) o).
       inr (read_later i (units_read r earliest h (suc n) i v) (units_read r earliest h n (next_place r i) (next_value r h i v)) o
-      (λ k l. within (is_dead v) (earliest && not (is_empty (next_value r h i v).matches)) k (units_read r earliest h n (next_place r i) (next_value r h i v)) goes.0 on.0 l) there))
+      (λ k l. within (is_dead v) (earliest && not (is_empty (next_value r h i v).matches)) k
+      (units_read r earliest h n (next_place r i) (next_value r h i v)) goes.0 on.0 l) there))
       (found_read n (next_place r i) (next_value r h i v) (recorded i (next_value r h i v) best) o on.1))
       (stopped (earliest && not (is_empty (next_value r h i v).matches)) (recorded i (next_value r h i v) best) o
       (pass_from r earliest h n (next_place r i) (next_value r h i v) (recorded i (next_value r h i v) best)) goes.2))
@@ -91,7 +105,8 @@ module _ (r : Reader) (earliest : Bool) (h : List ℕ) where
       ⊎_elim
       (λ (never : Some x ≡ None). no_some x _ never)
       (λ (there : IsRead i (units_read r earliest h (suc n) i (first_value r mode h i)) (Some x)).
-      let pair : x ≡ (place_of r.automaton.reverse i there.0, there.1) = same_pair_of x (place_of r.automaton.reverse i there.0, there.1) there.3 in
+      let pair : x ≡ (place_of r.automaton.reverse i there.0, there.1) =
+      same_pair_of x (place_of r.automaton.reverse i there.0, there.1) there.3 in
       let l = there.2 in
       (there.0, omega (arith, l, same), ap (λ (y : ℕ × ℕ). y.0) pair))
       (found_read (suc n) i (first_value r mode h i) None (Some x) begun.1)
@@ -108,16 +123,20 @@ boundary_by (Some b) = nat_le b 0x7F || nat_le 0xC0 b
 boundary_is : (h : List ℕ) (j : ℕ) → j ≤ length h → is_boundary h j ≡ boundary_by (byte_at h j)
 boundary_is h j l = ⊎_elim
     (λ (less : j < length h).
-    ap (λ (b : Bool). b || (nat_lt j (length h) && (nat_le (get_or h j 0) 0x7F || nat_le 0xC0 (get_or h j 0)))) (ne_eqb j (length h) (λ e. omega arith))
+    ap (λ (b : Bool). b || (nat_lt j (length h) && (nat_le (get_or h j 0) 0x7F || nat_le 0xC0 (get_or h j 0))))
+    (ne_eqb j (length h) (λ e. omega arith))
     ∙ ap (λ (b : Bool). b && (nat_le (get_or h j 0) 0x7F || nat_le 0xC0 (get_or h j 0))) (lt-ltb j (length h) less)
     ∙ sym (ap boundary_by (slice_get-get_or h j 0 less)))
     (λ (past : length h ≤ j).
-    ap (λ (b : Bool). b || (nat_lt j (length h) && (nat_le (get_or h j 0) 0x7F || nat_le 0xC0 (get_or h j 0)))) (eq-eqb j (length h) (omega arith))
+    ap (λ (b : Bool). b || (nat_lt j (length h) && (nat_le (get_or h j 0) 0x7F || nat_le 0xC0 (get_or h j 0))))
+    (eq-eqb j (length h) (omega arith))
     ∙ sym (ap boundary_by (slice_get_past h j past)))
     (cases_lt j (length h))
 
-pub counts_alike : (utf8 : Bool) (h g : List ℕ) (j : ℕ) → j ≤ length h → j ≤ length g → byte_at h j ≡ byte_at g j → counts utf8 h j ≡ counts utf8 g j
-counts_alike utf8 h g j lh lg e = ap (λ (b : Bool). not utf8 || b) (boundary_is h j lh ∙ ap boundary_by e ∙ sym (boundary_is g j lg))
+pub counts_alike : (utf8 : Bool) (h g : List ℕ) (j : ℕ) → j ≤ length h → j ≤ length g → byte_at h j ≡ byte_at g j →
+    counts utf8 h j ≡ counts utf8 g j
+counts_alike utf8 h g j lh lg e =
+    ap (λ (b : Bool). not utf8 || b) (boundary_is h j lh ∙ ap boundary_by e ∙ sym (boundary_is g j lg))
 
 -- ---- places
 
@@ -139,7 +158,8 @@ larger_cases m n k l = by (nat_le m n) l
     by false l = inl l
 
 -- the byte behind the next place is the one that is read
-behind_next : (down : Bool) (h : List ℕ) (s e n i : ℕ) → Fits down s e (suc n) i → unit_behind down h (place_of down i 1) ≡ unit_at down h i
+behind_next : (down : Bool) (h : List ℕ) (s e n i : ℕ) → Fits down s e (suc n) i →
+    unit_behind down h (place_of down i 1) ≡ unit_at down h i
 behind_next false h s e n i fit = ap (byte_before h) (one i)
   where
     one : (i : ℕ) → i + 1 ≡ suc i
@@ -152,7 +172,8 @@ behind_next true h s e n (suc i) fit = ap (byte_at h) (one i)
 
 -- the byte behind a place that was reached is one of those that were read
 byte_alike : (down : Bool) (h g : List ℕ) (i k : ℕ) → (k ≤ i) ⊎ (down ≡ false) → unit_behind down h i ≡ unit_behind down g i →
-    ((m : ℕ) → m ≤ k → unit_at down h (place_of down i m) ≡ unit_at down g (place_of down i m)) → byte_at h (place_of down i k) ≡ byte_at g (place_of down i k)
+    ((m : ℕ) → m ≤ k → unit_at down h (place_of down i m) ≡ unit_at down g (place_of down i m)) →
+    byte_at h (place_of down i k) ≡ byte_at g (place_of down i k)
 byte_alike false h g i k low back all = all k (omega arith)
 byte_alike true h g i zero low back all = ap (byte_at h) (same i) ∙ back ∙ sym (ap (byte_at g) (same i))
   where
@@ -178,7 +199,8 @@ room_below true s e n i k fit l = inl (omega (arith, fit.0, l))
 
 -- ---- passes that follow each other
 
-unless_alike : (c d : ℕ → Bool) (a b other rest : HalfAnswer) → a ≡ b → splits c a ≡ splits d b → (splits c a ≡ true → other ≡ rest) → unless_split c a other ≡ unless_split d b rest
+unless_alike : (c d : ℕ → Bool) (a b other rest : HalfAnswer) → a ≡ b → splits c a ≡ splits d b →
+    (splits c a ≡ true → other ≡ rest) → unless_split c a other ≡ unless_split d b rest
 unless_alike c d a b other rest same alike on = ⊎_elim
     (λ (e : splits c a ≡ true). split_goes c a other e ∙ on e ∙ sym (split_goes d b rest (sym alike ∙ e)))
     (λ (e : splits c a ≡ false). whole_stays c a other e ∙ same ∙ sym (whole_stays d b rest (sym alike ∙ e)))
@@ -199,7 +221,8 @@ module _ (r : Reader) (mode : Anchored) (earliest : Bool) (h g : List ℕ) (s e 
   abbrev Same : ℕ → ℕ → Type 0
   Same i n = (k : ℕ) → k < n → unit_of r h i k ≡ unit_of r g i k
 
-  counts_at : (n i : ℕ) (x : ℕ × ℕ) → Fits down s e n i → unit_behind down h i ≡ unit_behind down g i → Same i (pass_len r mode earliest h n i) →
+  counts_at : (n i : ℕ) (x : ℕ × ℕ) → Fits down s e n i → unit_behind down h i ≡ unit_behind down g i →
+      Same i (pass_len r mode earliest h n i) →
       pass r mode earliest h n i ≡ found (Some x) → counts r.between_characters h x.0 ≡ counts r.between_characters g x.0
   counts_at n i x fit back all is =
       let rd = pass_read r earliest h mode n i x is in
@@ -212,55 +235,68 @@ module _ (r : Reader) (mode : Anchored) (earliest : Bool) (h g : List ℕ) (s e 
       (byte_alike down h g i rd.0 (room_below down s e n i rd.0 fit up) back (λ m l. all m (omega (arith, l, read))))
       ∙ ap (counts r.between_characters g) (sym rd.2)
 
-  splits_at : (n i : ℕ) (a : HalfAnswer) → pass r mode earliest h n i ≡ a → Fits down s e n i → unit_behind down h i ≡ unit_behind down g i → Same i (pass_len r mode earliest h n i) →
+  splits_at : (n i : ℕ) (a : HalfAnswer) → pass r mode earliest h n i ≡ a → Fits down s e n i →
+      unit_behind down h i ≡ unit_behind down g i → Same i (pass_len r mode earliest h n i) →
       splits (counts r.between_characters h) a ≡ splits (counts r.between_characters g) a
   splits_at n i (quit b x) is fit back all = refl
   splits_at n i (unsupported m) is fit back all = refl
   splits_at n i (found None) is fit back all = refl
   splits_at n i (found (Some x)) is fit back all = ap not (counts_at n i x fit back all is)
 
-  one_alike : (n i : ℕ) (other rest : HalfAnswer) → Fits down s e n i → unit_behind down h i ≡ unit_behind down g i → Same i (pass_len r mode earliest h n i) →
+  one_alike : (n i : ℕ) (other rest : HalfAnswer) → Fits down s e n i → unit_behind down h i ≡ unit_behind down g i →
+      Same i (pass_len r mode earliest h n i) →
       (splits (counts r.between_characters h) (pass r mode earliest h n i) ≡ true → other ≡ rest) →
-      unless_split (counts r.between_characters h) (pass r mode earliest h n i) other ≡ unless_split (counts r.between_characters g) (pass r mode earliest g n i) rest
+      unless_split (counts r.between_characters h) (pass r mode earliest h n i) other ≡ unless_split (counts r.between_characters g)
+      (pass r mode earliest g n i) rest
   one_alike n i other rest fit back all on =
       let same : pass r mode earliest h n i ≡ pass r mode earliest g n i = pass_alike r earliest h g mode n i back all in
-      unless_alike (counts r.between_characters h) (counts r.between_characters g) (pass r mode earliest h n i) (pass r mode earliest g n i) other rest same
+      unless_alike (counts r.between_characters h) (counts r.between_characters g) (pass r mode earliest h n i)
+      (pass r mode earliest g n i) other rest same
       (splits_at n i (pass r mode earliest h n i) refl fit back all ∙ ap (splits (counts r.between_characters g)) same) on
 
-  pub once_alike : (n i : ℕ) → Fits down s e n i → unit_behind down h i ≡ unit_behind down g i → Same i (pass_len r mode earliest h n i) →
-      unless_split (counts r.between_characters h) (pass r mode earliest h n i) (found None) ≡ unless_split (counts r.between_characters g) (pass r mode earliest g n i) (found None)
+  pub once_alike : (n i : ℕ) → Fits down s e n i → unit_behind down h i ≡ unit_behind down g i →
+      Same i (pass_len r mode earliest h n i) →
+      unless_split (counts r.between_characters h) (pass r mode earliest h n i) (found None) ≡ unless_split
+      (counts r.between_characters g) (pass r mode earliest g n i) (found None)
   once_alike n i fit back all = one_alike n i (found None) (found None) fit back all (λ e. refl)
 
   -- where an end splits, a unit was read
-  read_one : (n i : ℕ) → splits (counts r.between_characters h) (pass r mode earliest h n i) ≡ true → 0 < pass_len r mode earliest h n i
+  read_one : (n i : ℕ) → splits (counts r.between_characters h) (pass r mode earliest h n i) ≡ true →
+      0 < pass_len r mode earliest h n i
   read_one n i split =
       let x = split_found (counts r.between_characters h) (pass r mode earliest h n i) split in
       let rd = pass_read r earliest h mode n i x.0 x.1 in
       let l = rd.1 in omega (arith, l)
 
-  pub passes_alike : (n i : ℕ) → Fits down s e n i → unit_behind down h i ≡ unit_behind down g i → Same i (passes_len r mode earliest h n i) →
+  pub passes_alike : (n i : ℕ) → Fits down s e n i → unit_behind down h i ≡ unit_behind down g i →
+      Same i (passes_len r mode earliest h n i) →
       passes r mode earliest h n i ≡ passes r mode earliest g n i
   passes_alike zero i fit back all = once_alike 0 i fit back all
   passes_alike (suc n) i fit back all =
       let first_len : ℕ = pass_len r mode earliest h (suc n) i in
       one_alike (suc n) i (passes r mode earliest h n (next_place r i)) (passes r mode earliest g n (next_place r i)) fit back
-      (λ k l. all k (in_first (splits (counts r.between_characters h) (pass r mode earliest h (suc n) i)) k (pass_len r mode earliest h (suc n) i) (suc (passes_len r mode earliest h n (next_place r i))) l))
+      (λ k l. all k (in_first (splits (counts r.between_characters h) (pass r mode earliest h (suc n) i)) k
+      (pass_len r mode earliest h (suc n) i) (suc (passes_len r mode earliest h n (next_place r i))) l))
       (λ split. passes_alike n (next_place r i) (fits_next down s e n i fit)
       (behind_next down h s e n i fit ∙ sym (unit_first r h i)
-      ∙ all 0 (in_first (splits (counts r.between_characters h) (pass r mode earliest h (suc n) i)) 0 (pass_len r mode earliest h (suc n) i) (suc (passes_len r mode earliest h n (next_place r i))) (read_one (suc n) i split))
+      ∙ all 0 (in_first (splits (counts r.between_characters h) (pass r mode earliest h (suc n) i)) 0
+      (pass_len r mode earliest h (suc n) i) (suc (passes_len r mode earliest h n (next_place r i))) (read_one (suc n) i split))
       ∙ unit_first r g i ∙ sym (behind_next down g s e n i fit))
       (λ k l. unit_later r h i k
-      ∙ all (suc k) (in_later (splits (counts r.between_characters h) (pass r mode earliest h (suc n) i)) (suc k) (pass_len r mode earliest h (suc n) i) (suc (passes_len r mode earliest h n (next_place r i))) split (omega (arith, l)))
+      ∙ all (suc k) (in_later (splits (counts r.between_characters h) (pass r mode earliest h (suc n) i)) (suc k)
+      (pass_len r mode earliest h (suc n) i) (suc (passes_len r mode earliest h n (next_place r i))) split (omega (arith, l)))
       ∙ sym (unit_later r g i k)))
 
 -- ---- no quit byte is read on the way to an answer
 
-found_first : (c : ℕ → Bool) (a other : HalfAnswer) (o : Option (ℕ × ℕ)) → unless_split c a other ≡ found o → (x : Option (ℕ × ℕ)) × (a ≡ found x)
+found_first : (c : ℕ → Bool) (a other : HalfAnswer) (o : Option (ℕ × ℕ)) → unless_split c a other ≡ found o →
+    (x : Option (ℕ × ℕ)) × (a ≡ found x)
 found_first c (found x) other o e = (x, refl)
 found_first c (quit b x) other o e = absurd (found_no_quit o b x (sym e))
 found_first c (unsupported m) other o e = absurd (found_no_mode o m (sym e))
 
-none_joined : (b : Bool) (m n : ℕ) (P : ℕ → Type 0) → ((k : ℕ) → k < m → P k) → (b ≡ true → (k : ℕ) → k < n → P k) → (k : ℕ) → k < (if b then larger m n else m) → P k
+none_joined : (b : Bool) (m n : ℕ) (P : ℕ → Type 0) → ((k : ℕ) → k < m → P k) → (b ≡ true → (k : ℕ) → k < n → P k) → (k : ℕ) →
+    k < (if b then larger m n else m) → P k
 none_joined true m n P one later k l = ⊎_elim (λ (x : k < m). one k x) (λ (y : k < n). later refl k y) (larger_cases m n k l)
 none_joined false m n P one later k l = one k l
 
@@ -268,22 +304,30 @@ module _ (r : Reader) (mode : Anchored) (earliest : Bool) (h : List ℕ) (s e : 
   abbrev none_behind : ℕ → Type 0
   none_behind i = is_quit r.quits (unit_behind r.automaton.reverse h i) ≡ false
 
-  pub once_quiet : (n i : ℕ) (other : HalfAnswer) (o : Option (ℕ × ℕ)) → unless_split (counts r.between_characters h) (pass r mode earliest h n i) other ≡ found o → none_behind i × HasNoQuit r h i (pass_len r mode earliest h n i)
-  once_quiet n i other o is = let x = found_first (counts r.between_characters h) (pass r mode earliest h n i) other o is in found_without_quit r mode earliest h n i x.0 x.1
+  pub once_quiet : (n i : ℕ) (other : HalfAnswer) (o : Option (ℕ × ℕ)) →
+      unless_split (counts r.between_characters h) (pass r mode earliest h n i) other ≡ found o →
+      none_behind i × HasNoQuit r h i (pass_len r mode earliest h n i)
+  once_quiet n i other o is = let x = found_first (counts r.between_characters h) (pass r mode earliest h n i) other o is in
+      found_without_quit r mode earliest h n i x.0 x.1
 
-  shifted : (n i m : ℕ) → Fits r.automaton.reverse s e (suc n) i → none_behind (next_place r i) → HasNoQuit r h (next_place r i) m → HasNoQuit r h i (suc m)
-  shifted n i m fit back none zero l = ap (is_quit r.quits) (unit_first r h i ∙ sym (behind_next r.automaton.reverse h s e n i fit)) ∙ back
+  shifted : (n i m : ℕ) → Fits r.automaton.reverse s e (suc n) i → none_behind (next_place r i) → HasNoQuit r h (next_place r i) m →
+      HasNoQuit r h i (suc m)
+  shifted n i m fit back none zero l = ap (is_quit r.quits) (unit_first r h i ∙ sym (behind_next r.automaton.reverse h s e n i fit))
+      ∙ back
   shifted n i m fit back none (suc k) l = ap (is_quit r.quits) (sym (unit_later r h i k)) ∙ none k (omega (arith, l))
 
-  pub passes_quiet : (n i : ℕ) (o : Option (ℕ × ℕ)) → Fits r.automaton.reverse s e n i → passes r mode earliest h n i ≡ found o → none_behind i × HasNoQuit r h i (passes_len r mode earliest h n i)
+  pub passes_quiet : (n i : ℕ) (o : Option (ℕ × ℕ)) → Fits r.automaton.reverse s e n i → passes r mode earliest h n i ≡ found o →
+      none_behind i × HasNoQuit r h i (passes_len r mode earliest h n i)
   passes_quiet zero i o fit is = once_quiet 0 i (found None) o is
   passes_quiet (suc n) i o fit is =
       let first = once_quiet (suc n) i (passes r mode earliest h n (next_place r i)) o is in (
         first.0,
-        none_joined (splits (counts r.between_characters h) (pass r mode earliest h (suc n) i)) (pass_len r mode earliest h (suc n) i) (suc (passes_len r mode earliest h n (next_place r i)))
+        none_joined (splits (counts r.between_characters h) (pass r mode earliest h (suc n) i))
+            (pass_len r mode earliest h (suc n) i) (suc (passes_len r mode earliest h n (next_place r i)))
             (λ k. is_quit r.quits (unit_of r h i k) ≡ false) first.1
             (λ split. let later = passes_quiet n (next_place r i) o (fits_next r.automaton.reverse s e n i fit)
-            (sym (split_goes (counts r.between_characters h) (pass r mode earliest h (suc n) i) (passes r mode earliest h n (next_place r i)) split) ∙ is) in
+            (sym (split_goes (counts r.between_characters h) (pass r mode earliest h (suc n) i)
+            (passes r mode earliest h n (next_place r i)) split) ∙ is) in
             shifted n i (passes_len r mode earliest h n (next_place r i)) fit later.0 later.1),
       )
 
@@ -296,16 +340,23 @@ module _ (r : Reader) (q : Search) (fits : q.start ≤ q.end) where
   abbrev i : ℕ
   i = begins_at r q
 
-  pub len_begun : scan_len r q ≡ (if is_anchored q.anchored then pass_len r q.anchored q.earliest q.haystack n i else passes_len r q.anchored q.earliest q.haystack n i)
-  len_begun = ap (λ (b : Bool). if b then (if is_anchored q.anchored then pass_len r q.anchored q.earliest q.haystack n i else passes_len r q.anchored q.earliest q.haystack n i) else 0) (le-leb q.start q.end fits)
+  abbrev len_once : ℕ
+  len_once = pass_len r q.anchored q.earliest q.haystack n i
 
-  pub len_anchored : is_anchored q.anchored ≡ true → scan_len r q ≡ pass_len r q.anchored q.earliest q.haystack n i
-  len_anchored a = len_begun ∙ ap (λ (b : Bool). if b then pass_len r q.anchored q.earliest q.haystack n i else passes_len r q.anchored q.earliest q.haystack n i) a
+  abbrev len_anew : ℕ
+  len_anew = passes_len r q.anchored q.earliest q.haystack n i
 
-  pub len_unanchored : is_anchored q.anchored ≡ false → scan_len r q ≡ passes_len r q.anchored q.earliest q.haystack n i
-  len_unanchored a = len_begun ∙ ap (λ (b : Bool). if b then pass_len r q.anchored q.earliest q.haystack n i else passes_len r q.anchored q.earliest q.haystack n i) a
+  len_begun : scan_len r q ≡ (if is_anchored q.anchored then len_once else len_anew)
+  len_begun = ap (λ (b : Bool). if b then (if is_anchored q.anchored then len_once else len_anew) else 0) (le-leb q.start q.end fits)
 
-module _ (r : Reader) (q : Search) (g : List ℕ) (fits : q.start ≤ q.end) (in_h : q.end ≤ length q.haystack) (in_g : q.end ≤ length g) where
+  pub len_anchored : is_anchored q.anchored ≡ true → scan_len r q ≡ len_once
+  len_anchored a = len_begun ∙ ap (λ (b : Bool). if b then len_once else len_anew) a
+
+  pub len_unanchored : is_anchored q.anchored ≡ false → scan_len r q ≡ len_anew
+  len_unanchored a = len_begun ∙ ap (λ (b : Bool). if b then len_once else len_anew) a
+
+module _ (r : Reader) (q : Search) (g : List ℕ) (fits : q.start ≤ q.end) (in_h : q.end ≤ length q.haystack)
+    (in_g : q.end ≤ length g) where
   abbrev all_bytes : ℕ
   all_bytes = q.end - q.start
 
@@ -320,21 +371,26 @@ module _ (r : Reader) (q : Search) (g : List ℕ) (fits : q.start ≤ q.end) (in
   scan_alike back all = ⊎_elim
       (λ (a : is_anchored q.anchored ≡ true). let len = len_anchored r q fits a in
       scan_anchored r q fits a
-      ∙ once_alike r q.anchored q.earliest q.haystack g q.start q.end in_h in_g all_bytes begin (begins_inside r q r.automaton.reverse q.start q.end fits) back (λ k l. all k (omega (arith, l, len)))
+      ∙ once_alike r q.anchored q.earliest q.haystack g q.start q.end in_h in_g all_bytes begin
+      (begins_inside r q r.automaton.reverse q.start q.end fits) back (λ k l. all k (omega (arith, l, len)))
       ∙ sym (scan_anchored r over_g fits a))
       (λ (a : is_anchored q.anchored ≡ false). let len = len_unanchored r q fits a in
       scan_unanchored r q fits a
-      ∙ passes_alike r q.anchored q.earliest q.haystack g q.start q.end in_h in_g all_bytes begin (begins_inside r q r.automaton.reverse q.start q.end fits) back (λ k l. all k (omega (arith, l, len)))
+      ∙ passes_alike r q.anchored q.earliest q.haystack g q.start q.end in_h in_g all_bytes begin
+      (begins_inside r q r.automaton.reverse q.start q.end fits) back (λ k l. all k (omega (arith, l, len)))
       ∙ sym (scan_unanchored r over_g fits a))
       (cases_Bool (is_anchored q.anchored))
 
-  pub scan_quiet : (o : Option (ℕ × ℕ)) → scan r q ≡ found o → (is_quit r.quits (unit_behind r.automaton.reverse q.haystack begin) ≡ false) × HasNoQuit r q.haystack begin (scan_len r q)
+  pub scan_quiet : (o : Option (ℕ × ℕ)) → scan r q ≡ found o →
+      (is_quit r.quits (unit_behind r.automaton.reverse q.haystack begin) ≡ false) × HasNoQuit r q.haystack begin (scan_len r q)
   scan_quiet o is = ⊎_elim
       (λ (a : is_anchored q.anchored ≡ true).
-      let quiet = once_quiet r q.anchored q.earliest q.haystack q.start q.end all_bytes begin (found None) o (sym (scan_anchored r q fits a) ∙ is) in
+      let quiet = once_quiet r q.anchored q.earliest q.haystack q.start q.end all_bytes begin (found None) o
+      (sym (scan_anchored r q fits a) ∙ is) in
       (quiet.0, subst (λ (m : ℕ). HasNoQuit r q.haystack begin m) (sym (len_anchored r q fits a)) quiet.1))
       (λ (a : is_anchored q.anchored ≡ false).
-      let quiet = passes_quiet r q.anchored q.earliest q.haystack q.start q.end all_bytes begin o (begins_inside r q r.automaton.reverse q.start q.end fits) (sym (scan_unanchored r q fits a) ∙ is) in
+      let quiet = passes_quiet r q.anchored q.earliest q.haystack q.start q.end all_bytes begin o
+      (begins_inside r q r.automaton.reverse q.start q.end fits) (sym (scan_unanchored r q fits a) ∙ is) in
       (quiet.0, subst (λ (m : ℕ). HasNoQuit r q.haystack begin m) (sym (len_unanchored r q fits a)) quiet.1))
       (cases_Bool (is_anchored q.anchored))
 
@@ -344,48 +400,63 @@ module _ (r : Reader) (mode : Anchored) (earliest : Bool) (h : List ℕ) (x : �
   abbrev IsReadFrom : ℕ → ℕ → Type 0
   IsReadFrom i m = (k : ℕ) × (k < m) × (x.0 ≡ place_of r.automaton.reverse i k)
 
-  once_read : (n i m : ℕ) (other : HalfAnswer) → unless_split (counts r.between_characters h) (pass r mode earliest h n i) other ≡ found (Some x) →
-      (splits (counts r.between_characters h) (pass r mode earliest h n i) ≡ false → IsReadFrom i (pass_len r mode earliest h n i) → IsReadFrom i m) →
-      (splits (counts r.between_characters h) (pass r mode earliest h n i) ≡ true → other ≡ found (Some x) → IsReadFrom i m) → IsReadFrom i m
+  once_read : (n i m : ℕ) (other : HalfAnswer) →
+      unless_split (counts r.between_characters h) (pass r mode earliest h n i) other ≡ found (Some x) →
+      (splits (counts r.between_characters h) (pass r mode earliest h n i) ≡ false → IsReadFrom i (pass_len r mode earliest h n i) →
+      IsReadFrom i m) →
+      (splits (counts r.between_characters h) (pass r mode earliest h n i) ≡ true → other ≡ found (Some x) → IsReadFrom i m) →
+      IsReadFrom i m
   once_read n i m other is here later = ⊎_elim
       (λ (split : splits (counts r.between_characters h) (pass r mode earliest h n i) ≡ true).
       later split (sym (split_goes (counts r.between_characters h) (pass r mode earliest h n i) other split) ∙ is))
       (λ (whole : splits (counts r.between_characters h) (pass r mode earliest h n i) ≡ false).
-      here whole (pass_read r earliest h mode n i x (sym (whole_stays (counts r.between_characters h) (pass r mode earliest h n i) other whole) ∙ is)))
+      here whole (pass_read r earliest h mode n i x
+      (sym (whole_stays (counts r.between_characters h) (pass r mode earliest h n i) other whole) ∙ is)))
       (cases_Bool (splits (counts r.between_characters h) (pass r mode earliest h n i)))
 
   nothing_later : (i m : ℕ) → found None ≡ found (Some x) → IsReadFrom i m
   nothing_later i m e = no_some r earliest h x (IsReadFrom i m) (sym (one_found None (Some x) e))
 
-  pub once_found_read : (n i : ℕ) → unless_split (counts r.between_characters h) (pass r mode earliest h n i) (found None) ≡ found (Some x) →
+  pub once_found_read : (n i : ℕ) →
+      unless_split (counts r.between_characters h) (pass r mode earliest h n i) (found None) ≡ found (Some x) →
       IsReadFrom i (pass_len r mode earliest h n i)
-  once_found_read n i is = once_read n i (pass_len r mode earliest h n i) (found None) is (λ whole there. there) (λ split e. nothing_later i (pass_len r mode earliest h n i) e)
+  once_found_read n i is =
+      once_read n i (pass_len r mode earliest h n i) (found None) is (λ whole there. there)
+      (λ split e. nothing_later i (pass_len r mode earliest h n i) e)
 
-  pub passes_found_read : (n i : ℕ) → passes r mode earliest h n i ≡ found (Some x) → IsReadFrom i (passes_len r mode earliest h n i)
+  pub passes_found_read : (n i : ℕ) → passes r mode earliest h n i ≡ found (Some x) →
+      IsReadFrom i (passes_len r mode earliest h n i)
   passes_found_read zero i is = once_found_read 0 i is
-  passes_found_read (suc n) i is = once_read (suc n) i (passes_len r mode earliest h (suc n) i) (passes r mode earliest h n (next_place r i)) is
+  passes_found_read (suc n) i is =
+      once_read (suc n) i (passes_len r mode earliest h (suc n) i) (passes r mode earliest h n (next_place r i)) is
       (λ whole there. (
         there.0,
-        in_first (splits (counts r.between_characters h) (pass r mode earliest h (suc n) i)) there.0 (pass_len r mode earliest h (suc n) i) (suc (passes_len r mode earliest h n (next_place r i))) there.1,
+        in_first (splits (counts r.between_characters h) (pass r mode earliest h (suc n) i)) there.0
+            (pass_len r mode earliest h (suc n) i) (suc (passes_len r mode earliest h n (next_place r i))) there.1,
         there.2,
       ))
       (λ split e. let later = passes_found_read n (next_place r i) e in
       let less = later.1 in (
         suc later.0,
-        in_later (splits (counts r.between_characters h) (pass r mode earliest h (suc n) i)) (suc later.0) (pass_len r mode earliest h (suc n) i) (suc (passes_len r mode earliest h n (next_place r i))) split (omega (arith, less)),
+        in_later (splits (counts r.between_characters h) (pass r mode earliest h (suc n) i)) (suc later.0)
+            (pass_len r mode earliest h (suc n) i) (suc (passes_len r mode earliest h n (next_place r i))) split
+            (omega (arith, less)),
         later.2 ∙ place_later r.automaton.reverse i later.0,
       ))
 
 module _ (r : Reader) (q : Search) (fits : q.start ≤ q.end) where
-  pub scan_found_read : (x : ℕ × ℕ) → scan r q ≡ found (Some x) → (k : ℕ) × (k < scan_len r q) × (x.0 ≡ place_of r.automaton.reverse (begins_at r q) k)
+  pub scan_found_read : (x : ℕ × ℕ) → scan r q ≡ found (Some x) →
+      (k : ℕ) × (k < scan_len r q) × (x.0 ≡ place_of r.automaton.reverse (begins_at r q) k)
   scan_found_read x is = ⊎_elim
       (λ (a : is_anchored q.anchored ≡ true).
       let len = len_anchored r q fits a in
-      let there = once_found_read r q.anchored q.earliest q.haystack x (q.end - q.start) (begins_at r q) (sym (scan_anchored r q fits a) ∙ is) in
+      let there = once_found_read r q.anchored q.earliest q.haystack x (q.end - q.start) (begins_at r q)
+      (sym (scan_anchored r q fits a) ∙ is) in
       let less = there.1 in (there.0, omega (arith, less, len), there.2))
       (λ (a : is_anchored q.anchored ≡ false).
       let len = len_unanchored r q fits a in
-      let there = passes_found_read r q.anchored q.earliest q.haystack x (q.end - q.start) (begins_at r q) (sym (scan_unanchored r q fits a) ∙ is) in
+      let there = passes_found_read r q.anchored q.earliest q.haystack x (q.end - q.start) (begins_at r q)
+      (sym (scan_unanchored r q fits a) ∙ is) in
       let less = there.1 in (there.0, omega (arith, less, len), there.2))
       (cases_Bool (is_anchored q.anchored))
 
@@ -406,16 +477,22 @@ passes_few r mode earliest h (suc n) i =
     let one = pass_units r mode earliest h (suc n) i in
     let later = passes_few r mode earliest h n (next_place r i) in
     either_below (splits (counts r.between_characters h) (pass r mode earliest h (suc n) i))
-    (larger (pass_len r mode earliest h (suc n) i) (suc (passes_len r mode earliest h n (next_place r i)))) (pass_len r mode earliest h (suc n) i) (suc (suc n))
-    (larger_below (pass_len r mode earliest h (suc n) i) (suc (passes_len r mode earliest h n (next_place r i))) (suc (suc n)) one (omega (arith, later))) one
+    (larger (pass_len r mode earliest h (suc n) i) (suc (passes_len r mode earliest h n (next_place r i))))
+    (pass_len r mode earliest h (suc n) i) (suc (suc n))
+    (larger_below (pass_len r mode earliest h (suc n) i) (suc (passes_len r mode earliest h n (next_place r i))) (suc (suc n)) one
+    (omega (arith, later))) one
 
 pub scan_few : (r : Reader) (q : Search) → scan_len r q ≤ suc (q.end - q.start)
 scan_few r q =
     either_below (nat_le q.start q.end)
-    (if is_anchored q.anchored then pass_len r q.anchored q.earliest q.haystack (q.end - q.start) (first_place r.automaton.reverse q.start q.end)
-    else passes_len r q.anchored q.earliest q.haystack (q.end - q.start) (first_place r.automaton.reverse q.start q.end)) 0 (suc (q.end - q.start))
-    (either_below (is_anchored q.anchored) (pass_len r q.anchored q.earliest q.haystack (q.end - q.start) (first_place r.automaton.reverse q.start q.end))
-    (passes_len r q.anchored q.earliest q.haystack (q.end - q.start) (first_place r.automaton.reverse q.start q.end)) (suc (q.end - q.start))
+    (if is_anchored q.anchored then pass_len r q.anchored q.earliest q.haystack (q.end - q.start)
+    (first_place r.automaton.reverse q.start q.end)
+    else passes_len r q.anchored q.earliest q.haystack (q.end - q.start) (first_place r.automaton.reverse q.start q.end)) 0
+    (suc (q.end - q.start))
+    (either_below (is_anchored q.anchored)
+    (pass_len r q.anchored q.earliest q.haystack (q.end - q.start) (first_place r.automaton.reverse q.start q.end))
+    (passes_len r q.anchored q.earliest q.haystack (q.end - q.start) (first_place r.automaton.reverse q.start q.end))
+    (suc (q.end - q.start))
     (pass_units r q.anchored q.earliest q.haystack (q.end - q.start) (first_place r.automaton.reverse q.start q.end))
     (passes_few r q.anchored q.earliest q.haystack (q.end - q.start) (first_place r.automaton.reverse q.start q.end)))
     (omega arith)
@@ -427,16 +504,19 @@ named_only No a e = let never : Some a.start_unanchored ≡ None = e in cc
 named_only Yes a e = refl
 named_only (Pattern p) a e = refl
 
-once_none : (c : ℕ → Bool) (a : HalfAnswer) (o : Option (ℕ × ℕ)) → ((x : Option (ℕ × ℕ)) → a ≡ found x → x ≡ None) → unless_split c a (found None) ≡ found o → o ≡ None
+once_none : (c : ℕ → Bool) (a : HalfAnswer) (o : Option (ℕ × ℕ)) → ((x : Option (ℕ × ℕ)) → a ≡ found x → x ≡ None) →
+    unless_split c a (found None) ≡ found o → o ≡ None
 once_none c (quit b x) o all is = absurd (found_no_quit o b x (sym is))
 once_none c (unsupported m) o all is = absurd (found_no_mode o m (sym is))
 once_none c (found None) o all is = sym (one_found None o is)
 once_none c (found (Some x)) o all is = let never : Some x ≡ None = all (Some x) refl in cc
 
-pub no_pattern : (r : Reader) (q : Search) (o : Option (ℕ × ℕ)) → start_name r.automaton q.anchored ≡ None → scan r q ≡ found o → o ≡ None
+pub no_pattern : (r : Reader) (q : Search) (o : Option (ℕ × ℕ)) → start_name r.automaton q.anchored ≡ None → scan r q ≡ found o →
+    o ≡ None
 no_pattern r q o none is = ⊎_elim
     (λ (l : q.start ≤ q.end).
-    once_none (counts r.between_characters q.haystack) (pass r q.anchored q.earliest q.haystack (q.end - q.start) (first_place r.automaton.reverse q.start q.end)) o
+    once_none (counts r.between_characters q.haystack)
+    (pass r q.anchored q.earliest q.haystack (q.end - q.start) (first_place r.automaton.reverse q.start q.end)) o
     (λ x e. dead_pass r q.anchored q.earliest q.haystack (q.end - q.start) (first_place r.automaton.reverse q.start q.end) x none e)
     (sym (scan_anchored r q l (named_only q.anchored r.automaton none)) ∙ is))
     (λ (past : q.end < q.start). sym (one_found None o (sym (scan_done r q past) ∙ is)))

@@ -24,13 +24,17 @@ use Rattle.lazy_dfa.proofs.NearbyLemmas.{Fits, once_quits_near, passes_quit_near
 
 -- ---- what one pass finds
 
-pub pass_finds : (r : Reader) (mode : Anchored) (earliest : Bool) (h : List ℕ) (s e i q : ℕ) (o : Option (ℕ × ℕ)) → IsWellFormed r.automaton → i ≤ e → e ≤ length h →
+pub pass_finds : (r : Reader) (mode : Anchored) (earliest : Bool) (h : List ℕ) (s e i q : ℕ) (o : Option (ℕ × ℕ)) →
+    IsWellFormed r.automaton → i ≤ e → e ≤ length h →
     start_name r.automaton mode ≡ Some q → q < length r.automaton.states → (kind : MatchKind) → r.kind ≡ kind →
     pass r mode earliest h (bytes_left r.automaton.reverse (span r.terminator h s e) i) i ≡ found o →
     IsWanted kind earliest r.automaton.reverse (ends_from r.automaton (span r.terminator h s e) (i, q)) o
-pass_finds r mode true h s e i q o formed below within named low kind k is = pass_finds_nearest r mode h s e i q formed below within named low o is
-pass_finds r mode false h s e i q o formed below within named low LeftmostFirst k is = pass_finds_first r mode h s e i q formed below within named low o k is
-pass_finds r mode false h s e i q o formed below within named low AllMatches k is = pass_finds_last r mode h s e i q formed below within named low o k is
+pass_finds r mode true h s e i q o formed below within named low kind k is =
+    pass_finds_nearest r mode h s e i q formed below within named low o is
+pass_finds r mode false h s e i q o formed below within named low LeftmostFirst k is =
+    pass_finds_first r mode h s e i q formed below within named low o k is
+pass_finds r mode false h s e i q o formed below within named low AllMatches k is =
+    pass_finds_last r mode h s e i q formed below within named low o k is
 
 -- ---- passes that follow each other
 
@@ -41,7 +45,8 @@ module _ (r : Reader) (mode : Anchored) (earliest : Bool) (h : List ℕ) where
   abbrev at : ℕ → ℕ → ℕ → HalfAnswer
   at n i m = pass_of r mode earliest h n i m
 
-  stays_first : (n i : ℕ) (other : HalfAnswer) → split (pass r mode earliest h n i) ≡ false → IsOfPasses r mode earliest h n i (unless_split (counts r.between_characters h) (pass r mode earliest h n i) other)
+  stays_first : (n i : ℕ) (other : HalfAnswer) → split (pass r mode earliest h n i) ≡ false →
+      IsOfPasses r mode earliest h n i (unless_split (counts r.between_characters h) (pass r mode earliest h n i) other)
   stays_first n i other e = inl (
     0,
     omega arith,
@@ -53,7 +58,10 @@ module _ (r : Reader) (mode : Anchored) (earliest : Bool) (h : List ℕ) where
   pub passes_are : (n i : ℕ) → IsOfPasses r mode earliest h n i (passes r mode earliest h n i)
   passes_are zero i = ⊎_elim
       (λ (e : split (pass r mode earliest h 0 i) ≡ true).
-      inr ((λ m l. only m (omega (arith, l)) e), split_goes (counts r.between_characters h) (pass r mode earliest h 0 i) (found None) e))
+      inr (
+        (λ m l. only m (omega (arith, l)) e),
+        split_goes (counts r.between_characters h) (pass r mode earliest h 0 i) (found None) e,
+      ))
       (λ (e : split (pass r mode earliest h 0 i) ≡ false). stays_first 0 i (found None) e)
       (cases_Bool (split (pass r mode earliest h 0 i)))
     where
@@ -61,9 +69,12 @@ module _ (r : Reader) (mode : Anchored) (earliest : Bool) (h : List ℕ) where
       only m is e = ap (λ (k : ℕ). split (at 0 i k)) is ∙ ap split (later_first r mode earliest h 0 i) ∙ e
   passes_are (suc n) i = ⊎_elim
       (λ (e : split (pass r mode earliest h (suc n) i) ≡ true).
-      let goes : passes r mode earliest h (suc n) i ≡ passes r mode earliest h n (next_place r i) = split_goes (counts r.between_characters h) (pass r mode earliest h (suc n) i) (passes r mode earliest h n (next_place r i)) e in
+      let goes : passes r mode earliest h (suc n) i ≡ passes r mode earliest h n (next_place r i) =
+      split_goes (counts r.between_characters h) (pass r mode earliest h (suc n) i)
+      (passes r mode earliest h n (next_place r i)) e in
       ⊎_elim
-      (λ (some : (k : ℕ) × (k ≤ n) × ((m : ℕ) → m < k → split (at n (next_place r i) m) ≡ true) × (split (at n (next_place r i) k) ≡ false) × (passes r mode earliest h n (next_place r i) ≡ at n (next_place r i) k)).
+      (λ (some : (k : ℕ) × (k ≤ n) × ((m : ℕ) → m < k → split (at n (next_place r i) m) ≡ true) ×
+      (split (at n (next_place r i) k) ≡ false) × (passes r mode earliest h n (next_place r i) ≡ at n (next_place r i) k)).
       let up = some.1 in
       inl (
         suc some.0,
@@ -72,20 +83,24 @@ module _ (r : Reader) (mode : Anchored) (earliest : Bool) (h : List ℕ) where
         ap split (sym (later_next r mode earliest h n i some.0)) ∙ some.3,
         goes ∙ some.4 ∙ later_next r mode earliest h n i some.0,
       ))
-      (λ (none : ((m : ℕ) → m ≤ n → split (at n (next_place r i) m) ≡ true) × (passes r mode earliest h n (next_place r i) ≡ found None)).
+      (λ (none : ((m : ℕ) → m ≤ n → split (at n (next_place r i) m) ≡ true) ×
+      (passes r mode earliest h n (next_place r i) ≡ found None)).
       inr ((λ m l. before e m (λ k is. none.0 k (omega (arith, is, l)))), goes ∙ none.1))
       (passes_are n (next_place r i)))
-      (λ (e : split (pass r mode earliest h (suc n) i) ≡ false). stays_first (suc n) i (passes r mode earliest h n (next_place r i)) e)
+      (λ (e : split (pass r mode earliest h (suc n) i) ≡ false).
+      stays_first (suc n) i (passes r mode earliest h n (next_place r i)) e)
       (cases_Bool (split (pass r mode earliest h (suc n) i)))
     where
-      before : split (pass r mode earliest h (suc n) i) ≡ true → (m : ℕ) → ((k : ℕ) → m ≡ suc k → split (at n (next_place r i) k) ≡ true) → split (at (suc n) i m) ≡ true
+      before : split (pass r mode earliest h (suc n) i) ≡ true → (m : ℕ) →
+          ((k : ℕ) → m ≡ suc k → split (at n (next_place r i) k) ≡ true) → split (at (suc n) i m) ≡ true
       before e zero rest = ap split (later_first r mode earliest h (suc n) i) ∙ e
       before e (suc k) rest = ap split (sym (later_next r mode earliest h n i k)) ∙ rest k refl
 
 -- ---- half searches
 
 pub past_le : (s e : ℕ) → e < s → nat_le s e ≡ false
-past_le s e l = ⊎_elim (λ (t : nat_le s e ≡ true). let u = leb-true s e t in absurd (omega (arith, l, u))) (λ f. f) (cases_Bool (nat_le s e))
+past_le s e l = ⊎_elim (λ (t : nat_le s e ≡ true). let u = leb-true s e t in absurd (omega (arith, l, u))) (λ f. f)
+    (cases_Bool (nat_le s e))
 
 pub not_split : (h : List ℕ) (a : HalfAnswer) → splits (counts false h) a ≡ false
 not_split h (quit b x) = refl
@@ -104,29 +119,42 @@ module _ (r : Reader) (q : Search) where
   one_pass = pass r q.anchored q.earliest q.haystack n i
 
   pub scan_done : q.end < q.start → scan r q ≡ found None
-  scan_done past = ap (λ (b : Bool). if b then begun_at r q.anchored q.earliest q.haystack n i else found None) (past_le q.start q.end past)
+  scan_done past = ap (λ (b : Bool). if b then begun_at r q.anchored q.earliest q.haystack n i else found None)
+      (past_le q.start q.end past)
 
   pub scan_begun : q.start ≤ q.end → scan r q ≡ begun_at r q.anchored q.earliest q.haystack n i
-  scan_begun l = ap (λ (b : Bool). if b then begun_at r q.anchored q.earliest q.haystack n i else found None) (le-leb q.start q.end l)
+  scan_begun l = ap (λ (b : Bool). if b then begun_at r q.anchored q.earliest q.haystack n i else found None)
+      (le-leb q.start q.end l)
 
-  pub scan_anchored : q.start ≤ q.end → is_anchored q.anchored ≡ true → scan r q ≡ unless_split (counts r.between_characters q.haystack) one_pass (found None)
-  scan_anchored l e = scan_begun l ∙ ap (λ (b : Bool). if b then unless_split (counts r.between_characters q.haystack) one_pass (found None) else passes r q.anchored q.earliest q.haystack n i) e
+  pub scan_anchored : q.start ≤ q.end → is_anchored q.anchored ≡ true →
+      scan r q ≡ unless_split (counts r.between_characters q.haystack) one_pass (found None)
+  scan_anchored l e = scan_begun l
+      ∙ ap (λ (b : Bool). if b then unless_split (counts r.between_characters q.haystack) one_pass
+      (found None) else passes r q.anchored q.earliest q.haystack n i) e
 
   pub scan_unanchored : q.start ≤ q.end → is_anchored q.anchored ≡ false → scan r q ≡ passes r q.anchored q.earliest q.haystack n i
-  scan_unanchored l e = scan_begun l ∙ ap (λ (b : Bool). if b then unless_split (counts r.between_characters q.haystack) one_pass (found None) else passes r q.anchored q.earliest q.haystack n i) e
+  scan_unanchored l e = scan_begun l
+      ∙ ap (λ (b : Bool). if b then unless_split (counts r.between_characters q.haystack) one_pass
+      (found None) else passes r q.anchored q.earliest q.haystack n i) e
 
   pub scan_is_pass : q.start ≤ q.end → r.between_characters ≡ false → scan r q ≡ one_pass
   scan_is_pass l e = ⊎_elim
-      (λ (a : is_anchored q.anchored ≡ true). scan_anchored l a ∙ whole_stays (counts r.between_characters q.haystack) one_pass (found None) here)
+      (λ (a : is_anchored q.anchored ≡ true). scan_anchored l a
+      ∙ whole_stays (counts r.between_characters q.haystack) one_pass (found None) here)
       (λ (a : is_anchored q.anchored ≡ false). scan_unanchored l a ∙ first_stays n here)
       (cases_Bool (is_anchored q.anchored))
     where
       here : splits (counts r.between_characters q.haystack) one_pass ≡ false
       here = ap (λ (w : Bool). splits (counts w q.haystack) one_pass) e ∙ not_split q.haystack one_pass
 
-      first_stays : (m : ℕ) → splits (counts r.between_characters q.haystack) (pass r q.anchored q.earliest q.haystack m i) ≡ false → passes r q.anchored q.earliest q.haystack m i ≡ pass r q.anchored q.earliest q.haystack m i
-      first_stays zero h = whole_stays (counts r.between_characters q.haystack) (pass r q.anchored q.earliest q.haystack 0 i) (found None) h
-      first_stays (suc m) h = whole_stays (counts r.between_characters q.haystack) (pass r q.anchored q.earliest q.haystack (suc m) i) (passes r q.anchored q.earliest q.haystack m (next_place r i)) h
+      first_stays : (m : ℕ) →
+          splits (counts r.between_characters q.haystack) (pass r q.anchored q.earliest q.haystack m i) ≡ false →
+          passes r q.anchored q.earliest q.haystack m i ≡ pass r q.anchored q.earliest q.haystack m i
+      first_stays zero h = whole_stays (counts r.between_characters q.haystack) (pass r q.anchored q.earliest q.haystack 0 i)
+          (found None) h
+      first_stays (suc m) h =
+          whole_stays (counts r.between_characters q.haystack) (pass r q.anchored q.earliest q.haystack (suc m) i)
+          (passes r q.anchored q.earliest q.haystack m (next_place r i)) h
 
   pub begins_inside : (down : Bool) (s e : ℕ) → s ≤ e → Fits down s e (e - s) (first_place down s e)
   begins_inside false s e l = (omega (arith, l), omega arith)
@@ -138,8 +166,10 @@ module _ (r : Reader) (q : Search) where
   pub scan_quits_near : (b x : ℕ) → scan r q ≡ quit b x → IsQuitNear r q.haystack q.start q.end b x
   scan_quits_near b x is = ⊎_elim
       (λ (l : q.start ≤ q.end). ⊎_elim
-      (λ (a : is_anchored q.anchored ≡ true). once_quits_near r q.anchored q.earliest q.haystack q.start q.end n i b x (begins_inside r.automaton.reverse q.start q.end l) (sym (scan_anchored l a) ∙ is))
-      (λ (a : is_anchored q.anchored ≡ false). passes_quit_near r q.anchored q.earliest q.haystack q.start q.end n i b x (begins_inside r.automaton.reverse q.start q.end l) (sym (scan_unanchored l a) ∙ is))
+      (λ (a : is_anchored q.anchored ≡ true). once_quits_near r q.anchored q.earliest q.haystack q.start q.end n i b x
+      (begins_inside r.automaton.reverse q.start q.end l) (sym (scan_anchored l a) ∙ is))
+      (λ (a : is_anchored q.anchored ≡ false). passes_quit_near r q.anchored q.earliest q.haystack q.start q.end n i b x
+      (begins_inside r.automaton.reverse q.start q.end l) (sym (scan_unanchored l a) ∙ is))
       (cases_Bool (is_anchored q.anchored)))
       (λ (past : q.end < q.start). absurd (found_no_quit None b x (sym (scan_done past) ∙ is)))
       (le_or_done q.start q.end)
@@ -147,11 +177,16 @@ module _ (r : Reader) (q : Search) where
   found_by : (a : HalfAnswer) → scan r q ≡ a → (o : Option (ℕ × ℕ)) × (a ≡ found o) → (o : Option (ℕ × ℕ)) × (scan r q ≡ found o)
   found_by a is f = (f.0, is ∙ f.1)
 
-  pub scan_finds_near : is_supported r.starts_for_each_pattern q.anchored ≡ true → HasNoQuitNear r q.haystack q.start q.end → (o : Option (ℕ × ℕ)) × (scan r q ≡ found o)
+  pub scan_finds_near : is_supported r.starts_for_each_pattern q.anchored ≡ true → HasNoQuitNear r q.haystack q.start q.end →
+      (o : Option (ℕ × ℕ)) × (scan r q ≡ found o)
   scan_finds_near supported none = ⊎_elim
       (λ (l : q.start ≤ q.end). ⊎_elim
-      (λ (a : is_anchored q.anchored ≡ true). found_by (unless_split (counts r.between_characters q.haystack) one_pass (found None)) (scan_anchored l a) (once_finds_near r q.anchored q.earliest q.haystack q.start q.end n i supported none (begins_inside r.automaton.reverse q.start q.end l)))
-      (λ (a : is_anchored q.anchored ≡ false). found_by (passes r q.anchored q.earliest q.haystack n i) (scan_unanchored l a) (passes_find_near r q.anchored q.earliest q.haystack q.start q.end n i supported none (begins_inside r.automaton.reverse q.start q.end l)))
+      (λ (a : is_anchored q.anchored ≡ true). found_by (unless_split (counts r.between_characters q.haystack) one_pass (found None))
+      (scan_anchored l a) (once_finds_near r q.anchored q.earliest q.haystack q.start q.end n i supported none
+      (begins_inside r.automaton.reverse q.start q.end l)))
+      (λ (a : is_anchored q.anchored ≡ false). found_by (passes r q.anchored q.earliest q.haystack n i) (scan_unanchored l a)
+      (passes_find_near r q.anchored q.earliest q.haystack q.start q.end n i supported none
+      (begins_inside r.automaton.reverse q.start q.end l)))
       (cases_Bool (is_anchored q.anchored)))
       (λ (past : q.end < q.start). (None, scan_done past))
       (le_or_done q.start q.end)
@@ -161,12 +196,16 @@ module _ (r : Reader) (q : Search) where
   abbrev is_fit : Bool
   is_fit = is_supported r.starts_for_each_pattern q.anchored
 
-  stays : (m : Anchored) (other : HalfAnswer) → one_pass ≡ unsupported m → unless_split (counts r.between_characters q.haystack) one_pass other ≡ unsupported m
+  stays : (m : Anchored) (other : HalfAnswer) → one_pass ≡ unsupported m →
+      unless_split (counts r.between_characters q.haystack) one_pass other ≡ unsupported m
   stays m other e = ap (λ (a : HalfAnswer). unless_split (counts r.between_characters q.haystack) a other) e
 
-  passes_stay : (m : Anchored) (k : ℕ) → pass r q.anchored q.earliest q.haystack k i ≡ unsupported m → passes r q.anchored q.earliest q.haystack k i ≡ unsupported m
+  passes_stay : (m : Anchored) (k : ℕ) → pass r q.anchored q.earliest q.haystack k i ≡ unsupported m →
+      passes r q.anchored q.earliest q.haystack k i ≡ unsupported m
   passes_stay m zero e = ap (λ (a : HalfAnswer). unless_split (counts r.between_characters q.haystack) a (found None)) e
-  passes_stay m (suc k) e = ap (λ (a : HalfAnswer). unless_split (counts r.between_characters q.haystack) a (passes r q.anchored q.earliest q.haystack k (next_place r i))) e
+  passes_stay m (suc k) e =
+      ap (λ (a : HalfAnswer). unless_split (counts r.between_characters q.haystack) a
+      (passes r q.anchored q.earliest q.haystack k (next_place r i))) e
 
   pub scan_tells_mode : q.start ≤ q.end → is_fit ≡ false → HasNoQuitBehind r q.haystack i → scan r q ≡ unsupported q.anchored
   scan_tells_mode l unfit none =
@@ -179,22 +218,28 @@ module _ (r : Reader) (q : Search) where
   abbrev IsTold : Anchored → Type 0
   IsTold m = (m ≡ q.anchored) × (is_fit ≡ false)
 
-  told_once : (m : Anchored) → unless_split (counts r.between_characters q.haystack) one_pass (found None) ≡ unsupported m → IsTold m
+  told_once : (m : Anchored) → unless_split (counts r.between_characters q.haystack) one_pass (found None) ≡ unsupported m →
+      IsTold m
   told_once m e = ⊎_elim
       (λ (split : splits (counts r.between_characters q.haystack) one_pass ≡ true).
       absurd (found_no_mode None m (sym (split_goes (counts r.between_characters q.haystack) one_pass (found None) split) ∙ e)))
       (λ (whole : splits (counts r.between_characters q.haystack) one_pass ≡ false).
-      let told = told_is_mode r q.anchored q.earliest q.haystack n i m (sym (whole_stays (counts r.between_characters q.haystack) one_pass (found None) whole) ∙ e) in
+      let told = told_is_mode r q.anchored q.earliest q.haystack n i m
+      (sym (whole_stays (counts r.between_characters q.haystack) one_pass (found None) whole) ∙ e) in
       (told.0, told.1))
       (cases_Bool (splits (counts r.between_characters q.haystack) one_pass))
 
-  told_by_passes : (m : Anchored) (a : HalfAnswer) → IsOfPasses r q.anchored q.earliest q.haystack n i a → a ≡ unsupported m → IsTold m
+  told_by_passes : (m : Anchored) (a : HalfAnswer) → IsOfPasses r q.anchored q.earliest q.haystack n i a → a ≡ unsupported m →
+      IsTold m
   told_by_passes m a of e = ⊎_elim
       (λ (some : (k : ℕ) × (k ≤ n) × ((j : ℕ) → j < k → Splits r q.anchored q.earliest q.haystack n i j) ×
-      (splits (counts r.between_characters q.haystack) (pass_of r q.anchored q.earliest q.haystack n i k) ≡ false) × (a ≡ pass_of r q.anchored q.earliest q.haystack n i k)).
-      let told = told_is_mode r q.anchored q.earliest q.haystack (n - some.0) (place_of r.automaton.reverse i some.0) m (sym some.4 ∙ e) in
+      (splits (counts r.between_characters q.haystack) (pass_of r q.anchored q.earliest q.haystack n i k) ≡ false) ×
+      (a ≡ pass_of r q.anchored q.earliest q.haystack n i k)).
+      let told = told_is_mode r q.anchored q.earliest q.haystack (n - some.0) (place_of r.automaton.reverse i some.0) m
+      (sym some.4 ∙ e) in
       (told.0, told.1))
-      (λ (none : ((j : ℕ) → j ≤ n → Splits r q.anchored q.earliest q.haystack n i j) × (a ≡ found None)). absurd (found_no_mode None m (sym none.1 ∙ e)))
+      (λ (none : ((j : ℕ) → j ≤ n → Splits r q.anchored q.earliest q.haystack n i j) × (a ≡ found None)).
+      absurd (found_no_mode None m (sym none.1 ∙ e)))
       of
 
   pub scan_mode_told : (m : Anchored) → scan r q ≡ unsupported m → (q.start ≤ q.end) × (m ≡ q.anchored) × (is_fit ≡ false)
@@ -202,7 +247,8 @@ module _ (r : Reader) (q : Search) where
       (λ (l : q.start ≤ q.end). ⊎_elim
       (λ (a : is_anchored q.anchored ≡ true). let told = told_once m (sym (scan_anchored l a) ∙ e) in (l, told.0, told.1))
       (λ (a : is_anchored q.anchored ≡ false).
-      let told = told_by_passes m (passes r q.anchored q.earliest q.haystack n i) (passes_are r q.anchored q.earliest q.haystack n i) (sym (scan_unanchored l a) ∙ e) in
+      let told = told_by_passes m (passes r q.anchored q.earliest q.haystack n i)
+      (passes_are r q.anchored q.earliest q.haystack n i) (sym (scan_unanchored l a) ∙ e) in
       (l, told.0, told.1))
       (cases_Bool (is_anchored q.anchored)))
       (λ (past : q.end < q.start). absurd (found_no_mode None m (sym (scan_done past) ∙ e)))
@@ -210,7 +256,8 @@ module _ (r : Reader) (q : Search) where
 
 -- ---- what a half search finds
 
-pub split_found : (counted : ℕ → Bool) (a : HalfAnswer) → splits counted a ≡ true → (x : ℕ × ℕ) × (a ≡ found (Some x)) × (counted x.0 ≡ false)
+pub split_found : (counted : ℕ → Bool) (a : HalfAnswer) → splits counted a ≡ true →
+    (x : ℕ × ℕ) × (a ≡ found (Some x)) × (counted x.0 ≡ false)
 split_found counted (quit b x) e = let never : false ≡ true = e in absurd (grind (arith, never))
 split_found counted (unsupported mode) e = let never : false ≡ true = e in absurd (grind (arith, never))
 split_found counted (found None) e = let never : false ≡ true = e in absurd (grind (arith, never))
@@ -220,7 +267,8 @@ split_found counted (found (Some x)) e = (x, refl, not_not (counted x.0) e)
     not_not false e = refl
     not_not true e = let never : false ≡ true = e in cc
 
-module _ (r : Reader) (q : Search) (name : ℕ) (formed : IsWellFormed r.automaton) (fits : q.start ≤ q.end) (within : q.end ≤ length q.haystack)
+module _ (r : Reader) (q : Search) (name : ℕ) (formed : IsWellFormed r.automaton) (fits : q.start ≤ q.end)
+    (within : q.end ≤ length q.haystack)
     (named : start_name r.automaton q.anchored ≡ Some name) (low : name < length r.automaton.states) where
   abbrev len : ℕ
   len = q.end - q.start
@@ -228,7 +276,8 @@ module _ (r : Reader) (q : Search) (name : ℕ) (formed : IsWellFormed r.automat
   abbrev begin : ℕ
   begin = first_place r.automaton.reverse q.start q.end
 
-  left_is : (down : Bool) (t : Text) (s e k : ℕ) → t.start ≡ s → t.end ≡ e → s ≤ e → k ≤ e - s → e - s - k ≡ bytes_left down t (place_of down (first_place down s e) k)
+  left_is : (down : Bool) (t : Text) (s e k : ℕ) → t.start ≡ s → t.end ≡ e → s ≤ e → k ≤ e - s →
+      e - s - k ≡ bytes_left down t (place_of down (first_place down s e) k)
   left_is false t s e k a b l up = omega (arith, a, b, l, up)
   left_is true t s e k a b l up = omega (arith, a, b, l, up)
 
@@ -244,12 +293,14 @@ module _ (r : Reader) (q : Search) (name : ℕ) (formed : IsWellFormed r.automat
 
   pub nth_finds : (k : ℕ) (o : Option (ℕ × ℕ)) → k ≤ len → nth k ≡ found o → Wanted k o
   nth_finds k o up is =
-      pass_finds r q.anchored q.earliest q.haystack q.start q.end (place_of r.automaton.reverse begin k) name o formed (place_low r.automaton.reverse q.start q.end k fits up) within named low r.kind refl
+      pass_finds r q.anchored q.earliest q.haystack q.start q.end (place_of r.automaton.reverse begin k) name o formed
+      (place_low r.automaton.reverse q.start q.end k fits up) within named low r.kind refl
       (subst (λ (m : ℕ). pass r q.anchored q.earliest q.haystack m (place_of r.automaton.reverse begin k) ≡ found o)
       (left_is r.automaton.reverse (span r.terminator q.haystack q.start q.end) q.start q.end k refl refl fits up) is)
 
   nth_splits : (k : ℕ) → k ≤ len → splits (counts r.between_characters q.haystack) (nth k) ≡ true → IsSplitAt r q name k
-  nth_splits k up e = let x = split_found (counts r.between_characters q.haystack) (nth k) e in (x.0, nth_finds k (Some x.0) up x.1, x.2)
+  nth_splits k up e = let x = split_found (counts r.between_characters q.haystack) (nth k) e in
+      (x.0, nth_finds k (Some x.0) up x.1, x.2)
 
   anew : is_anchored q.anchored ≡ false → restarts q.anchored len ≡ len
   anew a = ap (λ (b : Bool). if b then 0 else len) a
@@ -262,7 +313,9 @@ module _ (r : Reader) (q : Search) (name : ℕ) (formed : IsWellFormed r.automat
       let bound = anew a in
       let all : passes r q.anchored q.earliest q.haystack len begin ≡ found o = sym (scan_unanchored r q fits a) ∙ is in
       ⊎_elim
-      (λ (some : (k : ℕ) × (k ≤ len) × ((m : ℕ) → m < k → splits (counts r.between_characters q.haystack) (nth m) ≡ true) × (splits (counts r.between_characters q.haystack) (nth k) ≡ false) × (passes r q.anchored q.earliest q.haystack len begin ≡ nth k)).
+      (λ (some : (k : ℕ) × (k ≤ len) × ((m : ℕ) → m < k → splits (counts r.between_characters q.haystack) (nth m) ≡ true) ×
+      (splits (counts r.between_characters q.haystack) (nth k) ≡ false) ×
+      (passes r q.anchored q.earliest q.haystack len begin ≡ nth k)).
       let up = some.1 in
       let there : nth some.0 ≡ found o = sym some.4 ∙ all in
       inl (
@@ -272,28 +325,45 @@ module _ (r : Reader) (q : Search) (name : ℕ) (formed : IsWellFormed r.automat
         nth_finds some.0 o some.1 there,
         ap (splits (counts r.between_characters q.haystack)) (sym there) ∙ some.3,
       ))
-      (λ (none : ((m : ℕ) → m ≤ len → splits (counts r.between_characters q.haystack) (nth m) ≡ true) × (passes r q.anchored q.earliest q.haystack len begin ≡ found None)).
-      inr ((λ m l. nth_splits m (omega (arith, l, bound)) (none.0 m (omega (arith, l, bound)))), one_found o None (sym all ∙ none.1)))
+      (λ (none : ((m : ℕ) → m ≤ len → splits (counts r.between_characters q.haystack) (nth m) ≡ true) ×
+      (passes r q.anchored q.earliest q.haystack len begin ≡ found None)).
+      inr (
+        (λ m l. nth_splits m (omega (arith, l, bound)) (none.0 m (omega (arith, l, bound)))),
+        one_found o None (sym all ∙ none.1),
+      ))
       (passes_are r q.anchored q.earliest q.haystack len begin)
 
   found_anchored : (o : Option (ℕ × ℕ)) → is_anchored q.anchored ≡ true → scan r q ≡ found o → IsFound r q name o
   found_anchored o a is =
       let bound = never_anew a in
-      let one : unless_split (counts r.between_characters q.haystack) (pass r q.anchored q.earliest q.haystack len begin) (found None) ≡ found o = sym (scan_anchored r q fits a) ∙ is in
-      let same : nth 0 ≡ pass r q.anchored q.earliest q.haystack len begin = later_first r q.anchored q.earliest q.haystack len begin in
+      let one : unless_split (counts r.between_characters q.haystack) (pass r q.anchored q.earliest q.haystack len begin)
+      (found None) ≡ found o = sym (scan_anchored r q fits a) ∙ is in
+      let same : nth 0 ≡ pass r q.anchored q.earliest q.haystack len begin =
+      later_first r q.anchored q.earliest q.haystack len begin in
       ⊎_elim
       (λ (e : splits (counts r.between_characters q.haystack) (nth 0) ≡ true).
       inr (
         (λ m l. zero_splits e m (omega (arith, l, bound))),
-        one_found o None (sym one ∙ split_goes (counts r.between_characters q.haystack) (pass r q.anchored q.earliest q.haystack len begin) (found None) (ap (splits (counts r.between_characters q.haystack)) (sym same) ∙ e)),
+        one_found o None (sym one
+            ∙ split_goes (counts r.between_characters q.haystack) (pass r q.anchored q.earliest q.haystack len begin) (found None)
+            (ap (splits (counts r.between_characters q.haystack)) (sym same) ∙ e)),
       ))
       (λ (e : splits (counts r.between_characters q.haystack) (nth 0) ≡ false).
-      let there : nth 0 ≡ found o = same ∙ sym (whole_stays (counts r.between_characters q.haystack) (pass r q.anchored q.earliest q.haystack len begin) (found None) (ap (splits (counts r.between_characters q.haystack)) (sym same) ∙ e)) ∙ one in
-      inl (0, omega arith, (λ m l. absurd (omega (arith, l))), nth_finds 0 o (omega arith) there, ap (splits (counts r.between_characters q.haystack)) (sym there) ∙ e))
+      let there : nth 0 ≡ found o = same
+      ∙ sym (whole_stays (counts r.between_characters q.haystack) (pass r q.anchored q.earliest q.haystack len begin)
+      (found None) (ap (splits (counts r.between_characters q.haystack)) (sym same) ∙ e)) ∙ one in
+      inl (
+        0,
+        omega arith,
+        (λ m l. absurd (omega (arith, l))),
+        nth_finds 0 o (omega arith) there,
+        ap (splits (counts r.between_characters q.haystack)) (sym there) ∙ e,
+      ))
       (cases_Bool (splits (counts r.between_characters q.haystack) (nth 0)))
     where
       zero_splits : splits (counts r.between_characters q.haystack) (nth 0) ≡ true → (m : ℕ) → m ≡ 0 → IsSplitAt r q name m
       zero_splits e m is = subst (λ (k : ℕ). IsSplitAt r q name k) (sym is) (nth_splits 0 (omega arith) e)
 
   pub scan_finds : (o : Option (ℕ × ℕ)) → scan r q ≡ found o → IsFound r q name o
-  scan_finds o is = ⊎_elim (λ (a : is_anchored q.anchored ≡ true). found_anchored o a is) (λ (a : is_anchored q.anchored ≡ false). found_unanchored o a is) (cases_Bool (is_anchored q.anchored))
+  scan_finds o is = ⊎_elim (λ (a : is_anchored q.anchored ≡ true). found_anchored o a is)
+      (λ (a : is_anchored q.anchored ≡ false). found_unanchored o a is) (cases_Bool (is_anchored q.anchored))

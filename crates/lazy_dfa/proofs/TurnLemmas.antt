@@ -35,15 +35,19 @@ not_true true e = let never : false ≡ true = e in cc
 
 pub dead_is : (v : StateValue) → is_dead v ≡ true → v ≡ dead
 dead_is v e =
-    let a = and_parts (is_empty v.ids && is_empty v.matches && v.look_have == 0 && v.look_need == 0 && not v.is_from_word) (not v.is_half_crlf) e in
+    let a = and_parts (is_empty v.ids && is_empty v.matches && v.look_have == 0 && v.look_need == 0 && not v.is_from_word)
+    (not v.is_half_crlf) e in
     let b = and_parts (is_empty v.ids && is_empty v.matches && v.look_have == 0 && v.look_need == 0) (not v.is_from_word) a.0 in
     let c = and_parts (is_empty v.ids && is_empty v.matches && v.look_have == 0) (v.look_need == 0) b.0 in
     let d = and_parts (is_empty v.ids && is_empty v.matches) (v.look_have == 0) c.0 in
     let f = and_parts (is_empty v.ids) (is_empty v.matches) d.0 in
-    same_parts v dead (not_true v.is_from_word b.1) (not_true v.is_half_crlf a.1) (eqb-true v.look_have 0 d.1) (eqb-true v.look_need 0 c.1) (empty_is v.matches f.1) (empty_is v.ids f.0)
+    same_parts v dead (not_true v.is_from_word b.1) (not_true v.is_half_crlf a.1) (eqb-true v.look_have 0 d.1)
+    (eqb-true v.look_need 0 c.1) (empty_is v.matches f.1) (empty_is v.ids f.0)
   where
-    same_parts : (v w : StateValue) → v.is_from_word ≡ w.is_from_word → v.is_half_crlf ≡ w.is_half_crlf → v.look_have ≡ w.look_have → v.look_need ≡ w.look_need → v.matches ≡ w.matches → v.ids ≡ w.ids → v ≡ w
-    same_parts v w p q r s t u = λ n. record { is_from_word = p n; is_half_crlf = q n; look_have = r n; look_need = s n; matches = t n; ids = u n }
+    same_parts : (v w : StateValue) → v.is_from_word ≡ w.is_from_word → v.is_half_crlf ≡ w.is_half_crlf →
+        v.look_have ≡ w.look_have → v.look_need ≡ w.look_need → v.matches ≡ w.matches → v.ids ≡ w.ids → v ≡ w
+    same_parts v w p q r s t u =
+        λ n. record { is_from_word = p n; is_half_crlf = q n; look_have = r n; look_need = s n; matches = t n; ids = u n }
 
 -- ---- turns
 
@@ -59,11 +63,13 @@ quit_no_mode b x mode e = let never : true ≡ false = cc in absurd (grind (arit
 pub one_found : (x y : Option (ℕ × ℕ)) → found x ≡ found y → x ≡ y
 one_found x y e = cc
 
-past_quit : (is : Bool) (b index : ℕ) (o : Option (ℕ × ℕ)) (rest : HalfAnswer) → (if is then quit b index else rest) ≡ found o → (is ≡ false) × (rest ≡ found o)
+past_quit : (is : Bool) (b index : ℕ) (o : Option (ℕ × ℕ)) (rest : HalfAnswer) → (if is then quit b index else rest) ≡ found o →
+    (is ≡ false) × (rest ≡ found o)
 past_quit true b index o rest e = let never : quit b index ≡ found o = e in (cc, cc)
 past_quit false b index o rest e = (refl, e)
 
-pub no_quit_found : (quits : List Bool) (u : Option ℕ) (index : ℕ) (o : Option (ℕ × ℕ)) (rest : HalfAnswer) → unless_quit quits u index rest ≡ found o → (is_quit quits u ≡ false) × (rest ≡ found o)
+pub no_quit_found : (quits : List Bool) (u : Option ℕ) (index : ℕ) (o : Option (ℕ × ℕ)) (rest : HalfAnswer) →
+    unless_quit quits u index rest ≡ found o → (is_quit quits u ≡ false) × (rest ≡ found o)
 no_quit_found quits None index o rest e = (refl, e)
 no_quit_found quits (Some b) index o rest e = past_quit (has quits b) b index o rest e
 
@@ -73,7 +79,8 @@ pub turn_found : (end : Bool) (quits : List Bool) (u : Option ℕ) (index : ℕ)
 turn_found true quits u index best o rest e = inl (refl, one_found best o e)
 turn_found false quits u index best o rest e = let r = no_quit_found quits u index o rest e in inr (refl, r.0, r.1)
 
-quit_here : (is : Bool) (quits : List Bool) (b index c x : ℕ) (rest : HalfAnswer) → has quits b ≡ is → (if is then quit b index else rest) ≡ quit c x →
+quit_here : (is : Bool) (quits : List Bool) (b index c x : ℕ) (rest : HalfAnswer) → has quits b ≡ is →
+    (if is then quit b index else rest) ≡ quit c x →
     IsQuitAt quits (Some b) index c x ⊎ ((is ≡ false) × (rest ≡ quit c x))
 quit_here true quits b index c x rest was e =
     let byte : b ≡ c = cc in
@@ -81,7 +88,8 @@ quit_here true quits b index c x rest was e =
     inl (ap Some byte, sym (ap (has quits) byte) ∙ was, place)
 quit_here false quits b index c x rest was e = inr (refl, e)
 
-pub quit_or_on : (quits : List Bool) (u : Option ℕ) (index c x : ℕ) (rest : HalfAnswer) → unless_quit quits u index rest ≡ quit c x →
+pub quit_or_on : (quits : List Bool) (u : Option ℕ) (index c x : ℕ) (rest : HalfAnswer) →
+    unless_quit quits u index rest ≡ quit c x →
     IsQuitAt quits u index c x ⊎ ((is_quit quits u ≡ false) × (rest ≡ quit c x))
 quit_or_on quits None index c x rest e = inr (refl, e)
 quit_or_on quits (Some b) index c x rest e = quit_here (has quits b) quits b index c x rest refl e
@@ -93,7 +101,8 @@ turn_quit true quits u index best c x rest e = absurd (found_no_quit best c x e)
 turn_quit false quits u index best c x rest e = (refl, quit_or_on quits u index c x rest e)
 
 -- where the unit is no quit byte, the pass goes on
-pub goes_on : (quits : List Bool) (u : Option ℕ) (index : ℕ) (rest : HalfAnswer) → is_quit quits u ≡ false → unless_quit quits u index rest ≡ rest
+pub goes_on : (quits : List Bool) (u : Option ℕ) (index : ℕ) (rest : HalfAnswer) → is_quit quits u ≡ false →
+    unless_quit quits u index rest ≡ rest
 goes_on quits None index rest e = refl
 goes_on quits (Some b) index rest e = rw e refl
 
@@ -104,7 +113,8 @@ byte_no_mode : (is : Bool) (b index : ℕ) (m : Anchored) (rest : HalfAnswer) �
 byte_no_mode true b index m rest e = absurd (quit_no_mode b index m e)
 byte_no_mode false b index m rest e = (refl, e)
 
-pub unless_no_mode : (quits : List Bool) (u : Option ℕ) (index : ℕ) (m : Anchored) (rest : HalfAnswer) → unless_quit quits u index rest ≡ unsupported m →
+pub unless_no_mode : (quits : List Bool) (u : Option ℕ) (index : ℕ) (m : Anchored) (rest : HalfAnswer) →
+    unless_quit quits u index rest ≡ unsupported m →
     (is_quit quits u ≡ false) × (rest ≡ unsupported m)
 unless_no_mode quits None index m rest e = (refl, e)
 unless_no_mode quits (Some b) index m rest e = byte_no_mode (has quits b) b index m rest e

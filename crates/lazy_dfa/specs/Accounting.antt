@@ -1,6 +1,6 @@
 -- How many bytes a cache is taken to need. The numbers stand for what it keeps and not for real memory, so that they are
 -- the same on every machine.
-use Rattle.std.specs.Prelude.{ℕ, zero, suc, ◌+◌, ◌*◌, max, Bool, true, false, List, [], ◌∷◌, length, if◌then◌else◌, nat_le}
+use Rattle.std.specs.Prelude.{ℕ, zero, suc, ◌+◌, ◌*◌, max, Bool, List, [], ◌∷◌, length, if◌then◌else◌, nat_le}
 use Rattle.search_core.specs.Classes.{alphabet_size}
 use Rattle.nfa_core.specs.Nfa.{Automaton}
 use Rattle.determinize_core.specs.States.{StateValue}

@@ -1,6 +1,6 @@
 -- The bytes at which searches over an automaton give up, and when an automaton can't be searched at all: a search reads
 -- bytes, so it can't tell whether the character that a byte above 7F belongs to is a word.
-use Rattle.std.specs.Prelude.{ℕ, ◌&&◌, ◌||◌, not, nat_le, Bool, true, List, map, if◌then◌else◌}
+use Rattle.std.specs.Prelude.{◌&&◌, ◌||◌, not, nat_le, Bool, List, map, if◌then◌else◌}
 use Rattle.std.specs.List.{range_with_len, list_all}
 use Rattle.search_core.specs.ByteSets.{has}
 use Rattle.look_core.specs.Codes.{is_word_unicode}

@@ -1,5 +1,5 @@
 -- By what a half search goes, and what it answers.
-use Rattle.std.specs.Prelude.{ℕ, Bool, true, false, ◌&&◌, List, Option, Some, None, slice_index_or}
+use Rattle.std.specs.Prelude.{ℕ, Bool, false, ◌&&◌, List, Option, Some, None, slice_index_or}
 use Rattle.look_core.specs.Terminators.{Terminator}
 use Rattle.search_types.specs.declared.match_kind.MatchKind.{MatchKind}
 use Rattle.search_types.specs.declared.anchored.Anchored.{Anchored}

@@ -6,7 +6,7 @@ use Rattle.search_types.specs.declared.match_kind.MatchKind.{MatchKind}
 use Rattle.search_types.specs.declared.match_kind.MatchKind.TheVariants.{All as AllMatches, LeftmostFirst}
 use Rattle.search_types.specs.declared.anchored.Anchored.{Anchored}
 use Rattle.search_types.specs.Modes.{is_anchored}
-use Rattle.search_types.specs.Inputs.{Search}
+use Rattle.search_types.specs.Inputs.{Search, with_span}
 use Rattle.search_types.specs.Places.{counts}
 use Rattle.nfa_core.specs.Places.{first}
 use Rattle.nfa_core.specs.Ways.{span, place_of, ends_from}
@@ -63,6 +63,11 @@ IsOfPasses r mode earliest h n i answer =
     ((k : ℕ) × (k ≤ n) × ((m : ℕ) → m < k → Splits r mode earliest h n i m) ×
     (splits (counts r.between_characters h) (pass_of r mode earliest h n i k) ≡ false) × (answer ≡ pass_of r mode earliest h n i k)) ⊎
     (((m : ℕ) → m ≤ n → Splits r mode earliest h n i m) × (answer ≡ found None))
+
+-- the same search over one byte less at the side where it begins to read
+abbrev pub shorter : Bool → Search → Search
+shorter false q = with_span (q.start + 1) q.end q
+shorter true q = with_span q.start (q.end - 1) q
 
 -- ---- quit bytes in or beside a span
 

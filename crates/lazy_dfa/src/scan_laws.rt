@@ -10,7 +10,7 @@ ghost use Rattle.lazy_dfa.specs.Readers.{Reader, found, quit, unsupported};
 ghost use Rattle.lazy_dfa.specs.Passes.{start_name, pass};
 ghost use Rattle.lazy_dfa.specs.PassLaws.{HasNoQuitBehind, splits, pass_of};
 ghost use Rattle.lazy_dfa.specs.Scans.{passes, scan, unless_split};
-ghost use Rattle.lazy_dfa.specs.ScanLaws.{begins_at, IsOfPasses, IsFound, IsQuitNear, HasNoQuitNear, Splits, pass_count, unit_count};
+ghost use Rattle.lazy_dfa.specs.ScanLaws.{begins_at, IsOfPasses, IsFound, IsQuitNear, HasNoQuitNear, Splits, shorter, pass_count, unit_count};
 
 /// What a half search finds is what is wanted of the ends of runs: the end of the most preferred run, the last end or the
 /// nearest one, from the first of the places where it begins at which this end counts.
@@ -45,6 +45,16 @@ pub fn scans_make_passes()
         IsOfPasses r q.anchored q.earliest q.haystack (q.end - q.start) (begins_at r q) (scan r q) }
     ensures one { (r : Reader) (q : Search) → q.start ≤ q.end → r.between_characters ≡ false →
         scan r q ≡ pass r q.anchored q.earliest q.haystack (q.end - q.start) (begins_at r q) }
+{}
+
+/// A search that may start anywhere answers what its first pass does, and where the end of this doesn't count, what the
+/// search over one byte less does; where no byte is left, none.
+pub fn scans_begin_anew_over_one_byte_less()
+    ensures more { (r : Reader) (q : Search) → q.start < q.end → is_anchored q.anchored ≡ false → scan r q ≡
+        unless_split (counts r.between_characters q.haystack) (pass r q.anchored q.earliest q.haystack (q.end - q.start) (begins_at r q))
+        (scan r (shorter r.automaton.reverse q)) }
+    ensures last { (r : Reader) (q : Search) → q.start ≡ q.end → is_anchored q.anchored ≡ false → scan r q ≡
+        unless_split (counts r.between_characters q.haystack) (pass r q.anchored q.earliest q.haystack (q.end - q.start) (begins_at r q)) (found None) }
 {}
 
 /// A quit byte that a half search answers stands there, in or beside the span. Where none does and the mode is supported,
