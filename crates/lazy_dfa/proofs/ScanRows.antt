@@ -5,7 +5,8 @@ use Rattle.look_core.specs.Terminators.{Terminator, one_of}
 use Rattle.search_types.specs.declared.match_kind.MatchKind.TheVariants.{All as AllMatches, LeftmostFirst}
 use Rattle.search_types.specs.declared.anchored.Anchored.TheVariants.{No, Yes, Pattern}
 use Rattle.search_types.specs.Inputs.{Search}
-use Rattle.nfa_core.specs.Nfa.{Node, Automaton, byte_range, sparse_node, look_node, binary_union, match_node}
+use Rattle.nfa_core.specs.NfaParts.{never_matching}
+use Rattle.nfa_core.specs.Nfa.{Node, Automaton, fail_node, byte_range, sparse_node, look_node, binary_union, match_node}
 use Rattle.determinize_core.specs.LookBehind.{families_of}
 use Rattle.lazy_dfa.specs.Readers.{Reader, found, quit, unsupported}
 use Rattle.lazy_dfa.specs.Quits.{with_high_bytes, has_high_bytes, quit_bytes, is_unsupported}
@@ -171,6 +172,19 @@ three_units_are_read = refl
 quit_byte_behind_a_match : scan (reads (forward letter) (only 100)) (over (97 ∷ 98 ∷ 100 ∷ []) 0 3) ≡ quit 100 2
 unfolding families_of next_value start_or_dead pass_from
 quit_byte_behind_a_match = refl
+
+-- a state that leads nowhere is no dead one, so one byte more is read
+abbrev letter_then_fail : List Node
+letter_then_fail = byte_range 97 97 3 ∷ fail_node ∷ []
+
+quit_byte_behind_a_state_that_leads_nowhere : scan (reads (forward letter_then_fail) (only 98)) (record (over (97 ∷ 98 ∷ []) 0 2) { anchored = Yes }) ≡
+    quit 98 1
+unfolding families_of next_value start_or_dead pass_from
+quit_byte_behind_a_state_that_leads_nowhere = refl
+
+quit_byte_where_no_pattern_is : scan (reads never_matching.automaton (only 97)) (over (97 ∷ []) 0 1) ≡ quit 97 0
+unfolding families_of next_value start_or_dead pass_from
+quit_byte_where_no_pattern_is = refl
 
 -- the byte past the span is read, even where a match was found, and downwards the one before it
 quit_past_the_span : scan (reads (forward letters) (only 255)) (over (97 ∷ 255 ∷ []) 0 1) ≡ quit 255 1
