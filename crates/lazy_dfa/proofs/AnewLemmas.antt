@@ -28,7 +28,8 @@ module _ (r : Reader) (q : Search) (free : is_anchored q.anchored ≡ false) whe
   abbrev len : ℕ
   len = q.end - q.start
 
-  shorter_scan : (down : Bool) → r.automaton.reverse ≡ down → q.start < q.end → scan r (shorter down q) ≡ from (len - 1) (next_place r (begins_at r q))
+  shorter_scan : (down : Bool) → r.automaton.reverse ≡ down → q.start < q.end →
+      scan r (shorter down q) ≡ from (len - 1) (next_place r (begins_at r q))
   shorter_scan false is l =
       scan_unanchored r (shorter false q) (omega (arith, l)) free
       ∙ ap (λ (n : ℕ). from n (first_place r.automaton.reverse (q.start + 1) q.end)) (less q.start q.end)

@@ -7,7 +7,8 @@ use Rattle.std.specs.Bool.{nat_eq}
 use Rattle.nfa_core.specs.Walks.{has, Has}
 use Rattle.nfa_core.specs.Places.{same_pair, first}
 use Rattle.nfa_core.specs.Ways.{place_of}
-use Rattle.nfa_core.proofs.ForCallers.{none_in, has_first, pairs_equal, one_value, no_value, has_filter, IsInside}
+use Rattle.nfa_core.specs.Reaches.{IsInside}
+use Rattle.nfa_core.proofs.ForCallers.{none_in, has_first, pairs_equal, one_value, no_value, has_filter}
 use Rattle.determinize_core.specs.States.{StateValue}
 use Rattle.determinize_core.specs.Walked.{latest_listed}
 use Rattle.determinize_core.proofs.ForCallers.{none_listed, last_listed}

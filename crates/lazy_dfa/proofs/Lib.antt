@@ -12,6 +12,7 @@ pub mod AnewLemmas
 pub mod ReachLemmas
 pub mod IntervalLemmas
 pub mod IntervalReachLemmas
+pub mod ReadingLemmas
 pub mod CountLemmas
 pub mod QuitSetLemmas
 pub mod AccountingLemmas

@@ -347,7 +347,8 @@ module _ (r : Reader) (q : Search) (fits : q.start ≤ q.end) where
   len_anew = passes_len r q.anchored q.earliest q.haystack n i
 
   len_begun : scan_len r q ≡ (if is_anchored q.anchored then len_once else len_anew)
-  len_begun = ap (λ (b : Bool). if b then (if is_anchored q.anchored then len_once else len_anew) else 0) (le-leb q.start q.end fits)
+  len_begun = ap (λ (b : Bool). if b then (if is_anchored q.anchored then len_once else len_anew) else 0)
+      (le-leb q.start q.end fits)
 
   pub len_anchored : is_anchored q.anchored ≡ true → scan_len r q ≡ len_once
   len_anchored a = len_begun ∙ ap (λ (b : Bool). if b then len_once else len_anew) a

@@ -177,7 +177,8 @@ quit_byte_behind_a_match = refl
 abbrev letter_then_fail : List Node
 letter_then_fail = byte_range 97 97 3 ∷ fail_node ∷ []
 
-quit_byte_behind_a_state_that_leads_nowhere : scan (reads (forward letter_then_fail) (only 98)) (record (over (97 ∷ 98 ∷ []) 0 2) { anchored = Yes }) ≡
+quit_byte_behind_a_state_that_leads_nowhere : scan (reads (forward letter_then_fail) (only 98))
+    (record (over (97 ∷ 98 ∷ []) 0 2) { anchored = Yes }) ≡
     quit 98 1
 unfolding families_of next_value start_or_dead pass_from
 quit_byte_behind_a_state_that_leads_nowhere = refl

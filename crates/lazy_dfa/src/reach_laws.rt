@@ -1,10 +1,20 @@
 //! Laws of the reach of half searches: the bytes at which they look. Each function has no code: its contract is the law.
-ghost use Rattle.std.specs.Prelude.{◌≡◌, ℕ, suc, ◌+◌, ◌-◌, ◌≤◌, Bool, false, List, length, Option, Some};
+ghost use Rattle.std.specs.Prelude.{◌≡◌, ℕ, suc, ◌+◌, ◌-◌, ◌<◌, ◌≤◌, Bool, true, false, List, length, Option, Some};
+ghost use Rattle.std.specs.List.{list_any};
 ghost use Rattle.search_core.specs.Text.{byte_at};
+ghost use Rattle.look_core.specs.LookSets.{has_look};
+ghost use Rattle.look_core.specs.declared.look.Look.{Look};
 ghost use Rattle.search_types.specs.Inputs.{Search};
 ghost use Rattle.search_types.specs.declared.anchored.Anchored.{Anchored};
+ghost use Rattle.search_types.specs.declared.match_kind.MatchKind.TheVariants.{LeftmostFirst};
+ghost use Rattle.nfa_core.specs.Nfa.{IsWellFormed};
+ghost use Rattle.nfa_core.specs.NfaValue.{looks_of, is_capture};
+ghost use Rattle.nfa_core.specs.Places.{first};
+ghost use Rattle.nfa_core.specs.Reaches.{read_by};
+ghost use Rattle.nfa_core.specs.Ways.{span, is_passed, place_of, bytes_left, ends_from};
 ghost use Rattle.lazy_dfa.specs.Readers.{Reader, found, is_quit};
-ghost use Rattle.lazy_dfa.specs.Passes.{pass};
+ghost use Rattle.lazy_dfa.specs.Passes.{start_name, pass};
+ghost use Rattle.lazy_dfa.specs.PassLaws.{pass_len};
 ghost use Rattle.lazy_dfa.specs.Scans.{scan};
 ghost use Rattle.lazy_dfa.specs.ScanLaws.{IsInPass, IsInReach, Agree, scan_len};
 
@@ -15,6 +25,21 @@ pub fn passes_depend_on_their_reach()
         Agree h g (IsInPass r mode earliest h n i) → pass r mode earliest h n i ≡ pass r mode earliest g n i }
     ensures quiet { (r : Reader) (mode : Anchored) (earliest : Bool) (h : List ℕ) (n i : ℕ) (o : Option (ℕ × ℕ)) → pass r mode earliest h n i ≡ found o →
         (x : ℕ) → IsInPass r mode earliest h n i x → is_quit r.quits (byte_at h x) ≡ false }
+{}
+
+/// Under leftmost-first a pass that finds a match or none finds the first end for each reading of looks that agrees with
+/// the one by ASCII bytes, of the looks that the automaton has, at the places between the bytes in its reach. So where a
+/// reading of words by characters agrees there, what is found is what it defines. The automaton keeps no captures.
+pub fn passes_find_the_first_end_for_each_reading()
+    ensures { (r : Reader) (mode : Anchored) (h : List ℕ) (s e i q : ℕ) (holds : Look → ℕ → Bool) (o : Option (ℕ × ℕ)) → r.kind ≡ LeftmostFirst →
+        IsWellFormed r.automaton → list_any is_capture r.automaton.states ≡ false → i ≤ e → e ≤ length h →
+        start_name r.automaton mode ≡ Some q → q < length r.automaton.states →
+        ((l : Look) (k : ℕ) → has_look (looks_of r.automaton.states) l ≡ true →
+        k < pass_len r mode false h (bytes_left r.automaton.reverse (span r.terminator h s e) i) i →
+        is_passed r.automaton.reverse (span r.terminator h s e) l (place_of r.automaton.reverse i k) ≡
+        is_passed r.automaton.reverse (read_by holds h s e) l (place_of r.automaton.reverse i k)) →
+        pass r mode false h (bytes_left r.automaton.reverse (span r.terminator h s e) i) i ≡ found o →
+        o ≡ first (ends_from r.automaton (read_by holds h s e) (i, q)) }
 {}
 
 /// A half search depends on the bytes in its reach alone, those among them that passes read which begin anew. Where it

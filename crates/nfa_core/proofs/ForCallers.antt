@@ -10,7 +10,8 @@ pub use Rattle.nfa_core.proofs.MemberLemmas.{none_in, not_both, has_or_not, has_
 pub use Rattle.nfa_core.proofs.JoinLemmas.{join-append, join_once, join_brings, of_join, join_flat_map}
 -- an optional value is there or not, and is one value
 pub use Rattle.nfa_core.proofs.PreferenceLemmas.{option_cases, one_value, no_value}
-
+-- what passes a test is in what the test keeps, exactly where it is in all
+pub use Rattle.nfa_core.proofs.RunLemmas.{has_filter}
 -- ---- walks and runs
 
 -- walks of two lists are one walk; a walk comes to one list, and to the same where nothing in it has more ways
@@ -33,7 +34,6 @@ pub use Rattle.nfa_core.proofs.HereLemmas.{none_here}
 pub use Rattle.nfa_core.proofs.OverLemmas.{other_lists, first_same}
 -- texts are alike where the looks of the states are read alike
 pub use Rattle.nfa_core.proofs.ReadAlikeLemmas.{alike_by_looks, alike_up}
-
 -- ---- states, and the bytes and looks that they have
 
 -- what a state leads to by what is read, and without a byte, is named by it; what matches is a match
@@ -46,7 +46,6 @@ pub use Rattle.nfa_core.proofs.ClassLemmas.{bytes_alike}
 pub use Rattle.nfa_core.proofs.SameTextLemmas.{ways_alike, ends_alike}
 -- the walk with a stack over an automaton's states: names below a bound, and what a step of the walk does
 pub use Rattle.nfa_core.proofs.ReachedLemmas.{has_from_all, taken_below, left_below, len_nodes, passes, meets}
-
 -- ---- what is built of a builder's states
 
 -- past a state there is one that stands for itself, and it stays where it is
