@@ -13,6 +13,7 @@ pub mod ReachLemmas
 pub mod IntervalLemmas
 pub mod IntervalReachLemmas
 pub mod ReadingLemmas
+pub mod FoundLemmas
 pub mod CountLemmas
 pub mod QuitSetLemmas
 pub mod AccountingLemmas

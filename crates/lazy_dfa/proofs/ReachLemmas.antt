@@ -206,11 +206,11 @@ unless_alike c d a b other rest same alike on = ⊎_elim
     (λ (e : splits c a ≡ false). whole_stays c a other e ∙ same ∙ sym (whole_stays d b rest (sym alike ∙ e)))
     (cases_Bool (splits c a))
 
-in_first : (b : Bool) (k m n : ℕ) → k < m → k < (if b then larger m n else m)
+pub in_first : (b : Bool) (k m n : ℕ) → k < m → k < (if b then larger m n else m)
 in_first true k m n l = larger_left m n k l
 in_first false k m n l = l
 
-in_later : (b : Bool) (k m n : ℕ) → b ≡ true → k < n → k < (if b then larger m n else m)
+pub in_later : (b : Bool) (k m n : ℕ) → b ≡ true → k < n → k < (if b then larger m n else m)
 in_later true k m n e l = larger_right m n k l
 in_later false k m n e l = let never : false ≡ true = e in absurd (grind (arith, never))
 

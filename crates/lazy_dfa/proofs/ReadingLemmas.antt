@@ -1,9 +1,9 @@
 -- Beyond what a pass reads looks may hold anyhow: what it finds is the first end all the same.
-use Rattle.std.proofs.Common.{◌≡◌, ℕ, zero, suc, ◌+◌, ◌-◌, ◌<◌, ◌≤◌, Bool, true, false, ◌||◌, not, List, [], ◌∷◌, ◌++◌, length, get_or, Option, Some, None, refl, sym, ap, ◌∙◌, ◌⊎◌, inl, inr, ⊎_elim, subst, arith, if◌then◌else◌}
+use Rattle.std.proofs.Common.{◌≡◌, ℕ, zero, suc, ◌+◌, ◌<◌, ◌≤◌, Bool, true, false, ◌||◌, not, List, [], ◌∷◌, ◌++◌, length, get_or, Option, Some, None, refl, sym, ap, ◌∙◌, ◌⊎◌, inl, inr, ⊎_elim, subst, arith, if◌then◌else◌}
 use Rattle.std.proofs.lemmas.Bool.{cases_Bool, le-ltb}
 use Rattle.std.proofs.lemmas.Bool.Decides.{leb_tells}
 use Rattle.std.specs.Bool.{nat_eq, nat_lt, nat_le}
-use Rattle.std.specs.List.{flat_map, filter, list_any}
+use Rattle.std.specs.List.{flat_map, list_any}
 use Rattle.look_core.specs.declared.look.Look.{Look}
 use Rattle.look_core.specs.Looks.{holds_ascii}
 use Rattle.look_core.specs.LookSets.{has_look}
@@ -16,12 +16,12 @@ use Rattle.nfa_core.specs.Walks.{chain_ends, distinct}
 use Rattle.nfa_core.specs.Places.{first}
 use Rattle.nfa_core.specs.Nfa.{Node, Automaton, fail_node, node_at, IsWellFormed}
 use Rattle.nfa_core.specs.NfaValue.{looks_of, is_capture}
-use Rattle.nfa_core.specs.Reaches.{read_by, IsOver}
+use Rattle.nfa_core.specs.Reaches.{read_by}
 use Rattle.nfa_core.specs.Ways.{Text, span, reads, is_passed, on_read, byte_steps, place_of, bytes_left, ends_from}
 use Rattle.nfa_core.proofs.ForCallers.{first_same, alike_by_looks}
 use Rattle.determinize_core.specs.States.{StateValue}
 use Rattle.determinize_core.specs.Starts.{start_of}
-use Rattle.determinize_core.specs.Steps.{closed, known_steps, kept, is_kept, unit_steps, reading, ids_before, states_behind, behind, start_value, step_value, unit_at, unit_behind, walk_value}
+use Rattle.determinize_core.specs.Steps.{closed, known_steps, kept, unit_steps, reading, ids_before, behind, start_value, step_value, unit_at, unit_behind}
 use Rattle.determinize_core.specs.Walked.{cut_of, walked_lists}
 use Rattle.determinize_core.proofs.ForCallers.{lists_are_lists, states_are, entries_alike}
 use Rattle.lazy_dfa.specs.Readers.{Reader, found}

@@ -1,5 +1,5 @@
 -- Half searches as passes.
-use Rattle.std.proofs.Common.{◌≡◌, ℕ, zero, suc, ◌-◌, ◌<◌, ◌≤◌, Bool, true, false, not, List, length, Option, Some, None, if◌then◌else◌, refl, sym, ap, ◌∙◌, ◌⊎◌, inl, inr, ⊎_elim, subst, arith}
+use Rattle.std.proofs.Common.{◌≡◌, ℕ, zero, suc, ◌-◌, ◌<◌, ◌≤◌, Bool, true, false, not, List, length, Option, Some, None, if◌then◌else◌, refl, sym, ap, ◌∙◌, ◌⊎◌, inl, inr, ⊎_elim, arith}
 use Rattle.std.proofs.lemmas.Bool.{cases_Bool, cases_lt, le-leb, leb-true}
 use Rattle.std.specs.Bool.{nat_le}
 use Rattle.search_types.specs.declared.match_kind.MatchKind.{MatchKind}
@@ -9,13 +9,13 @@ use Rattle.search_types.specs.Modes.{is_anchored, is_supported}
 use Rattle.search_types.specs.Inputs.{Search}
 use Rattle.search_types.specs.Places.{counts}
 use Rattle.nfa_core.specs.Nfa.{IsWellFormed}
-use Rattle.nfa_core.specs.Ways.{Text, span, place_of, bytes_left, ends_from}
+use Rattle.nfa_core.specs.Ways.{span, place_of, bytes_left, ends_from}
 use Rattle.lazy_dfa.specs.Readers.{Reader, HalfAnswer, found, quit, unsupported}
 use Rattle.lazy_dfa.specs.Passes.{next_place, start_name, pass}
 use Rattle.lazy_dfa.specs.Scans.{unless_split, passes, first_place, begun_at, scan}
 use Rattle.lazy_dfa.specs.PassLaws.{HasNoQuitBehind, splits, pass_of}
-use Rattle.lazy_dfa.specs.ScanLaws.{IsWanted, ends_of, restarts, IsSplitAt, IsFound, Splits, IsOfPasses, HasNoQuitNear, IsQuitNear}
-use Rattle.lazy_dfa.proofs.TurnLemmas.{one_found, found_no_quit, found_no_mode}
+use Rattle.lazy_dfa.specs.ScanLaws.{IsWanted, Splits, IsOfPasses, HasNoQuitNear, IsQuitNear}
+use Rattle.lazy_dfa.proofs.TurnLemmas.{found_no_quit, found_no_mode}
 use Rattle.lazy_dfa.proofs.QuitLemmas.{mode_is_told, told_is_mode}
 use Rattle.lazy_dfa.proofs.PassLemmas.{pass_finds_first, pass_finds_last}
 use Rattle.lazy_dfa.proofs.NearestLemmas.{pass_finds_nearest}
@@ -266,104 +266,3 @@ split_found counted (found (Some x)) e = (x, refl, not_not (counted x.0) e)
     not_not : (b : Bool) → not b ≡ true → b ≡ false
     not_not false e = refl
     not_not true e = let never : false ≡ true = e in cc
-
-module _ (r : Reader) (q : Search) (name : ℕ) (formed : IsWellFormed r.automaton) (fits : q.start ≤ q.end)
-    (within : q.end ≤ length q.haystack)
-    (named : start_name r.automaton q.anchored ≡ Some name) (low : name < length r.automaton.states) where
-  abbrev len : ℕ
-  len = q.end - q.start
-
-  abbrev begin : ℕ
-  begin = first_place r.automaton.reverse q.start q.end
-
-  left_is : (down : Bool) (t : Text) (s e k : ℕ) → t.start ≡ s → t.end ≡ e → s ≤ e → k ≤ e - s →
-      e - s - k ≡ bytes_left down t (place_of down (first_place down s e) k)
-  left_is false t s e k a b l up = omega (arith, a, b, l, up)
-  left_is true t s e k a b l up = omega (arith, a, b, l, up)
-
-  place_low : (down : Bool) (s e k : ℕ) → s ≤ e → k ≤ e - s → place_of down (first_place down s e) k ≤ e
-  place_low false s e k l up = omega (arith, l, up)
-  place_low true s e k l up = omega (arith, l, up)
-
-  abbrev nth : ℕ → HalfAnswer
-  nth k = pass_of r q.anchored q.earliest q.haystack len begin k
-
-  abbrev Wanted : ℕ → Option (ℕ × ℕ) → Type 0
-  Wanted k o = IsWanted r.kind q.earliest r.automaton.reverse (ends_of r q name k) o
-
-  pub nth_finds : (k : ℕ) (o : Option (ℕ × ℕ)) → k ≤ len → nth k ≡ found o → Wanted k o
-  nth_finds k o up is =
-      pass_finds r q.anchored q.earliest q.haystack q.start q.end (place_of r.automaton.reverse begin k) name o formed
-      (place_low r.automaton.reverse q.start q.end k fits up) within named low r.kind refl
-      (subst (λ (m : ℕ). pass r q.anchored q.earliest q.haystack m (place_of r.automaton.reverse begin k) ≡ found o)
-      (left_is r.automaton.reverse (span r.terminator q.haystack q.start q.end) q.start q.end k refl refl fits up) is)
-
-  nth_splits : (k : ℕ) → k ≤ len → splits (counts r.between_characters q.haystack) (nth k) ≡ true → IsSplitAt r q name k
-  nth_splits k up e = let x = split_found (counts r.between_characters q.haystack) (nth k) e in
-      (x.0, nth_finds k (Some x.0) up x.1, x.2)
-
-  anew : is_anchored q.anchored ≡ false → restarts q.anchored len ≡ len
-  anew a = ap (λ (b : Bool). if b then 0 else len) a
-
-  never_anew : is_anchored q.anchored ≡ true → restarts q.anchored len ≡ 0
-  never_anew a = ap (λ (b : Bool). if b then 0 else len) a
-
-  found_unanchored : (o : Option (ℕ × ℕ)) → is_anchored q.anchored ≡ false → scan r q ≡ found o → IsFound r q name o
-  found_unanchored o a is =
-      let bound = anew a in
-      let all : passes r q.anchored q.earliest q.haystack len begin ≡ found o = sym (scan_unanchored r q fits a) ∙ is in
-      ⊎_elim
-      (λ (some : (k : ℕ) × (k ≤ len) × ((m : ℕ) → m < k → splits (counts r.between_characters q.haystack) (nth m) ≡ true) ×
-      (splits (counts r.between_characters q.haystack) (nth k) ≡ false) ×
-      (passes r q.anchored q.earliest q.haystack len begin ≡ nth k)).
-      let up = some.1 in
-      let there : nth some.0 ≡ found o = sym some.4 ∙ all in
-      inl (
-        some.0,
-        omega (arith, up, bound),
-        (λ m l. nth_splits m (omega (arith, l, up)) (some.2 m l)),
-        nth_finds some.0 o some.1 there,
-        ap (splits (counts r.between_characters q.haystack)) (sym there) ∙ some.3,
-      ))
-      (λ (none : ((m : ℕ) → m ≤ len → splits (counts r.between_characters q.haystack) (nth m) ≡ true) ×
-      (passes r q.anchored q.earliest q.haystack len begin ≡ found None)).
-      inr (
-        (λ m l. nth_splits m (omega (arith, l, bound)) (none.0 m (omega (arith, l, bound)))),
-        one_found o None (sym all ∙ none.1),
-      ))
-      (passes_are r q.anchored q.earliest q.haystack len begin)
-
-  found_anchored : (o : Option (ℕ × ℕ)) → is_anchored q.anchored ≡ true → scan r q ≡ found o → IsFound r q name o
-  found_anchored o a is =
-      let bound = never_anew a in
-      let one : unless_split (counts r.between_characters q.haystack) (pass r q.anchored q.earliest q.haystack len begin)
-      (found None) ≡ found o = sym (scan_anchored r q fits a) ∙ is in
-      let same : nth 0 ≡ pass r q.anchored q.earliest q.haystack len begin =
-      later_first r q.anchored q.earliest q.haystack len begin in
-      ⊎_elim
-      (λ (e : splits (counts r.between_characters q.haystack) (nth 0) ≡ true).
-      inr (
-        (λ m l. zero_splits e m (omega (arith, l, bound))),
-        one_found o None (sym one
-            ∙ split_goes (counts r.between_characters q.haystack) (pass r q.anchored q.earliest q.haystack len begin) (found None)
-            (ap (splits (counts r.between_characters q.haystack)) (sym same) ∙ e)),
-      ))
-      (λ (e : splits (counts r.between_characters q.haystack) (nth 0) ≡ false).
-      let there : nth 0 ≡ found o = same
-      ∙ sym (whole_stays (counts r.between_characters q.haystack) (pass r q.anchored q.earliest q.haystack len begin)
-      (found None) (ap (splits (counts r.between_characters q.haystack)) (sym same) ∙ e)) ∙ one in
-      inl (
-        0,
-        omega arith,
-        (λ m l. absurd (omega (arith, l))),
-        nth_finds 0 o (omega arith) there,
-        ap (splits (counts r.between_characters q.haystack)) (sym there) ∙ e,
-      ))
-      (cases_Bool (splits (counts r.between_characters q.haystack) (nth 0)))
-    where
-      zero_splits : splits (counts r.between_characters q.haystack) (nth 0) ≡ true → (m : ℕ) → m ≡ 0 → IsSplitAt r q name m
-      zero_splits e m is = subst (λ (k : ℕ). IsSplitAt r q name k) (sym is) (nth_splits 0 (omega arith) e)
-
-  pub scan_finds : (o : Option (ℕ × ℕ)) → scan r q ≡ found o → IsFound r q name o
-  scan_finds o is = ⊎_elim (λ (a : is_anchored q.anchored ≡ true). found_anchored o a is)
-      (λ (a : is_anchored q.anchored ≡ false). found_unanchored o a is) (cases_Bool (is_anchored q.anchored))

@@ -2,6 +2,8 @@
 use Rattle.std.specs.Prelude.{◌≡◌, ◌⊎◌, ℕ, zero, suc, nat_le, ◌+◌, ◌-◌, ◌<◌, ◌≤◌, Bool, true, false, List, Option, Some, None, if◌then◌else◌}
 use Rattle.search_core.specs.ByteSets.{has}
 use Rattle.search_core.specs.Text.{byte_at}
+use Rattle.look_core.specs.declared.look.Look.{Look}
+use Rattle.look_core.specs.LookSets.{has_look}
 use Rattle.search_types.specs.declared.match_kind.MatchKind.{MatchKind}
 use Rattle.search_types.specs.declared.match_kind.MatchKind.TheVariants.{All as AllMatches, LeftmostFirst}
 use Rattle.search_types.specs.declared.anchored.Anchored.{Anchored}
@@ -9,7 +11,9 @@ use Rattle.search_types.specs.Modes.{is_anchored}
 use Rattle.search_types.specs.Inputs.{Search, with_span}
 use Rattle.search_types.specs.Places.{counts}
 use Rattle.nfa_core.specs.Places.{first}
-use Rattle.nfa_core.specs.Ways.{span, place_of, ends_from}
+use Rattle.nfa_core.specs.NfaValue.{looks_of}
+use Rattle.nfa_core.specs.Reaches.{read_by}
+use Rattle.nfa_core.specs.Ways.{span, is_passed, place_of, ends_from}
 use Rattle.lazy_dfa.specs.Readers.{Reader, HalfAnswer, found, is_quit}
 use Rattle.lazy_dfa.specs.Passes.{next_place, pass}
 use Rattle.lazy_dfa.specs.Scans.{first_place}
@@ -36,20 +40,30 @@ ends_of r q name k =
 abbrev pub restarts : Anchored → ℕ → ℕ
 restarts mode n = if is_anchored mode then 0 else n
 
--- k places behind its first place, a search would find an end that doesn't count
-abbrev pub IsSplitAt : Reader → Search → ℕ → ℕ → Type 0
-IsSplitAt r q name k =
-    (x : ℕ × ℕ) × IsWanted r.kind q.earliest r.automaton.reverse (ends_of r q name k) (Some x) ×
-    (counts r.between_characters q.haystack x.0 ≡ false)
+-- k places behind its first place, what is wanted of a search that begins there has an end that doesn't count
+abbrev pub IsSplitBy : (ℕ → Option (ℕ × ℕ) → Type 0) → Reader → Search → ℕ → Type 0
+IsSplitBy wanted r q k = (x : ℕ × ℕ) × wanted k (Some x) × (counts r.between_characters q.haystack x.0 ≡ false)
 
--- What a half search finds: what is wanted of the ends of the runs from the first place at which this is no end that
--- doesn't count; or nothing, where it is one at each place.
-abbrev pub IsFound : Reader → Search → ℕ → Option (ℕ × ℕ) → Type 0
-IsFound r q name o =
-    ((k : ℕ) × (k ≤ restarts q.anchored (q.end - q.start)) × ((m : ℕ) → m < k → IsSplitAt r q name m) ×
-    IsWanted r.kind q.earliest r.automaton.reverse (ends_of r q name k) o ×
+-- What a half search finds: what is wanted at the first place where it begins at which this is no end that doesn't count;
+-- or nothing, where it is one at each place.
+abbrev pub IsFoundBy : (ℕ → Option (ℕ × ℕ) → Type 0) → Reader → Search → Option (ℕ × ℕ) → Type 0
+IsFoundBy wanted r q o =
+    ((k : ℕ) × (k ≤ restarts q.anchored (q.end - q.start)) × ((m : ℕ) → m < k → IsSplitBy wanted r q m) × wanted k o ×
     (splits (counts r.between_characters q.haystack) (found o) ≡ false)) ⊎
-    (((m : ℕ) → m ≤ restarts q.anchored (q.end - q.start) → IsSplitAt r q name m) × (o ≡ None))
+    (((m : ℕ) → m ≤ restarts q.anchored (q.end - q.start) → IsSplitBy wanted r q m) × (o ≡ None))
+
+-- of the ends of runs from a state of the automaton
+abbrev pub IsFound : Reader → Search → ℕ → Option (ℕ × ℕ) → Type 0
+IsFound r q name o = IsFoundBy (λ k x. IsWanted r.kind q.earliest r.automaton.reverse (ends_of r q name k) x) r q o
+
+-- the same ends where looks are read so
+abbrev pub ends_by : Reader → Search → (Look → ℕ → Bool) → ℕ → ℕ → List (ℕ × ℕ)
+ends_by r q holds name k =
+    ends_from r.automaton (read_by holds q.haystack q.start q.end) (place_of r.automaton.reverse (begins_at r q) k, name)
+
+-- and the first of these
+abbrev pub IsFirstFound : Reader → Search → (Look → ℕ → Bool) → ℕ → Option (ℕ × ℕ) → Type 0
+IsFirstFound r q holds name o = IsFoundBy (λ k x. x ≡ first (ends_by r q holds name k)) r q o
 
 -- ---- passes that follow each other
 
@@ -116,6 +130,13 @@ IsInReach r q x = (q.start ≤ q.end) × IsReached r.automaton.reverse (begins_a
 -- two haystacks have the same bytes, or ends, in a reach
 abbrev pub Agree : List ℕ → List ℕ → (ℕ → Type 0) → Type 0
 Agree h g reach = (x : ℕ) → reach x → byte_at h x ≡ byte_at g x
+
+-- looks of the automaton are read so as by ASCII bytes, from place i on up to the n-th one
+abbrev pub ReadsAlike : Reader → (Look → ℕ → Bool) → List ℕ → ℕ → ℕ → ℕ → ℕ → Type 0
+ReadsAlike r holds h s e i n =
+    (l : Look) (k : ℕ) → has_look (looks_of r.automaton.states) l ≡ true → k < n →
+    is_passed r.automaton.reverse (span r.terminator h s e) l (place_of r.automaton.reverse i k) ≡
+    is_passed r.automaton.reverse (read_by holds h s e) l (place_of r.automaton.reverse i k)
 
 -- ---- how much is done
 

@@ -2,21 +2,20 @@
 ghost use Rattle.std.specs.Prelude.{◌≡◌, ℕ, suc, ◌+◌, ◌-◌, ◌<◌, ◌≤◌, Bool, true, false, List, length, Option, Some};
 ghost use Rattle.std.specs.List.{list_any};
 ghost use Rattle.search_core.specs.Text.{byte_at};
-ghost use Rattle.look_core.specs.LookSets.{has_look};
 ghost use Rattle.look_core.specs.declared.look.Look.{Look};
 ghost use Rattle.search_types.specs.Inputs.{Search};
 ghost use Rattle.search_types.specs.declared.anchored.Anchored.{Anchored};
 ghost use Rattle.search_types.specs.declared.match_kind.MatchKind.TheVariants.{LeftmostFirst};
 ghost use Rattle.nfa_core.specs.Nfa.{IsWellFormed};
-ghost use Rattle.nfa_core.specs.NfaValue.{looks_of, is_capture};
+ghost use Rattle.nfa_core.specs.NfaValue.{is_capture};
 ghost use Rattle.nfa_core.specs.Places.{first};
 ghost use Rattle.nfa_core.specs.Reaches.{read_by};
-ghost use Rattle.nfa_core.specs.Ways.{span, is_passed, place_of, bytes_left, ends_from};
+ghost use Rattle.nfa_core.specs.Ways.{span, bytes_left, ends_from};
 ghost use Rattle.lazy_dfa.specs.Readers.{Reader, found, is_quit};
 ghost use Rattle.lazy_dfa.specs.Passes.{start_name, pass};
 ghost use Rattle.lazy_dfa.specs.PassLaws.{pass_len};
 ghost use Rattle.lazy_dfa.specs.Scans.{scan};
-ghost use Rattle.lazy_dfa.specs.ScanLaws.{IsInPass, IsInReach, Agree, scan_len};
+ghost use Rattle.lazy_dfa.specs.ScanLaws.{begins_at, IsFirstFound, ReadsAlike, IsInPass, IsInReach, Agree, scan_len};
 
 /// A pass depends on the bytes in its reach alone: the one behind its first place and those of the units that it reads.
 /// Where it finds a match or none, none of these is a quit byte.
@@ -34,12 +33,18 @@ pub fn passes_find_the_first_end_for_each_reading()
     ensures { (r : Reader) (mode : Anchored) (h : List ℕ) (s e i q : ℕ) (holds : Look → ℕ → Bool) (o : Option (ℕ × ℕ)) → r.kind ≡ LeftmostFirst →
         IsWellFormed r.automaton → list_any is_capture r.automaton.states ≡ false → i ≤ e → e ≤ length h →
         start_name r.automaton mode ≡ Some q → q < length r.automaton.states →
-        ((l : Look) (k : ℕ) → has_look (looks_of r.automaton.states) l ≡ true →
-        k < pass_len r mode false h (bytes_left r.automaton.reverse (span r.terminator h s e) i) i →
-        is_passed r.automaton.reverse (span r.terminator h s e) l (place_of r.automaton.reverse i k) ≡
-        is_passed r.automaton.reverse (read_by holds h s e) l (place_of r.automaton.reverse i k)) →
+        ReadsAlike r holds h s e i (pass_len r mode false h (bytes_left r.automaton.reverse (span r.terminator h s e) i) i) →
         pass r mode false h (bytes_left r.automaton.reverse (span r.terminator h s e) i) i ≡ found o →
         o ≡ first (ends_from r.automaton (read_by holds h s e) (i, q)) }
+{}
+
+/// So does a half search with its restarts.
+pub fn scans_find_the_first_ends_for_each_reading()
+    ensures { (r : Reader) (q : Search) (name : ℕ) (holds : Look → ℕ → Bool) (o : Option (ℕ × ℕ)) → r.kind ≡ LeftmostFirst → q.earliest ≡ false →
+        IsWellFormed r.automaton → list_any is_capture r.automaton.states ≡ false → q.start ≤ q.end → q.end ≤ length q.haystack →
+        start_name r.automaton q.anchored ≡ Some name → name < length r.automaton.states →
+        ReadsAlike r holds q.haystack q.start q.end (begins_at r q) (scan_len r q) →
+        scan r q ≡ found o → IsFirstFound r q holds name o }
 {}
 
 /// A half search depends on the bytes in its reach alone, those among them that passes read which begin anew. Where it
