@@ -8,7 +8,7 @@ use Rattle.determinize_core.specs.Steps.{unit_at, unit_behind, step_value}
 use Rattle.lazy_dfa.specs.Readers.{Reader, HalfAnswer, found}
 use Rattle.lazy_dfa.specs.Passes.{index_at, index_behind, is_empty, is_dead, unless_quit, if_supported, recorded, next_value, next_place, pass_from, start_name, start_or_dead, first_value, pass}
 use Rattle.lazy_dfa.specs.PassLaws.{units_read, pass_len, unit_of}
-use Rattle.lazy_dfa.proofs.QuitLemmas.{unit_first, unit_later, reads_all}
+use Rattle.lazy_dfa.proofs.PassQuitLemmas.{unit_first, unit_later, reads_all}
 
 next_alike : (r : Reader) (h g : List ℕ) (i : ℕ) (v : StateValue) →
     unit_at r.automaton.reverse h i ≡ unit_at r.automaton.reverse g i → next_value r h i v ≡ next_value r g i v

@@ -10,7 +10,7 @@ use Rattle.lazy_dfa.specs.Readers.{Reader}
 use Rattle.lazy_dfa.specs.Passes.{next_place, pass}
 use Rattle.lazy_dfa.specs.PassLaws.{pass_len, splits}
 use Rattle.lazy_dfa.specs.ScanLaws.{begins_at, passes_made, units_in_passes, pass_count, unit_count}
-use Rattle.lazy_dfa.proofs.QuitLemmas.{pass_units}
+use Rattle.lazy_dfa.proofs.PassQuitLemmas.{pass_units}
 use Rattle.lazy_dfa.proofs.ScanLemmas.{not_split, past_le}
 
 -- one pass more where an end splits

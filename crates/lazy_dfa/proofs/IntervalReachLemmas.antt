@@ -8,7 +8,7 @@ use Rattle.lazy_dfa.specs.Passes.{pass}
 use Rattle.lazy_dfa.specs.Scans.{first_place, scan}
 use Rattle.lazy_dfa.specs.PassLaws.{pass_len}
 use Rattle.lazy_dfa.specs.ScanLaws.{IsReached, IsInPass, IsInReach, Agree, begins_at, scan_len}
-use Rattle.lazy_dfa.proofs.QuitLemmas.{found_without_quit}
+use Rattle.lazy_dfa.proofs.PassQuitLemmas.{found_without_quit}
 use Rattle.lazy_dfa.proofs.AlikeLemmas.{pass_alike}
 use Rattle.lazy_dfa.proofs.ScanLemmas.{scan_done, le_or_done}
 use Rattle.lazy_dfa.proofs.ReachLemmas.{scan_alike, scan_quiet, scan_found_read, scan_few}

@@ -1,5 +1,5 @@
 pub mod TurnLemmas
-pub mod QuitLemmas
+pub mod PassQuitLemmas
 pub mod LastLemmas
 pub mod BothKindsLemmas
 pub mod PassLemmas
@@ -19,3 +19,4 @@ pub mod QuitSetLemmas
 pub mod AccountingLemmas
 mod ScanRows
 mod AccountingRows
+pub mod ForCallers

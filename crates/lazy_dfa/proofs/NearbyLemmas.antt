@@ -13,7 +13,7 @@ use Rattle.lazy_dfa.specs.Scans.{unless_split, passes}
 use Rattle.lazy_dfa.specs.PassLaws.{pass_len, IsQuitAt, IsFirstQuit}
 use Rattle.lazy_dfa.specs.ScanLaws.{HasNoQuitNear, IsQuitNear}
 use Rattle.lazy_dfa.proofs.TurnLemmas.{found_no_quit}
-use Rattle.lazy_dfa.proofs.QuitLemmas.{pass_quits, without_quit_found, pass_units}
+use Rattle.lazy_dfa.proofs.PassQuitLemmas.{pass_quits, without_quit_found, pass_units}
 
 -- what is read from place i over n bytes lies in the span from s to e
 abbrev pub Fits : Bool → ℕ → ℕ → ℕ → ℕ → Type 0

@@ -16,7 +16,7 @@ use Rattle.lazy_dfa.specs.Passes.{index_at, is_dead, unless_quit, recorded, next
 use Rattle.lazy_dfa.specs.PassLaws.{IsLastEnd}
 use Rattle.nfa_core.proofs.ForCallers.{ends_inside}
 use Rattle.lazy_dfa.proofs.LastLemmas.{last_end}
-use Rattle.lazy_dfa.proofs.QuitLemmas.{found_in_mode}
+use Rattle.lazy_dfa.proofs.PassQuitLemmas.{found_in_mode}
 use Rattle.lazy_dfa.proofs.TurnLemmas.{place_zero, place_next, dead_is, one_found, turn_found}
 
 or_or : (x y z : Option (ℕ × ℕ)) → option_or x (option_or y z) ≡ option_or (option_or x y) z

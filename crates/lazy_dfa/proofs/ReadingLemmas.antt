@@ -28,7 +28,7 @@ use Rattle.lazy_dfa.specs.Readers.{Reader, found}
 use Rattle.lazy_dfa.specs.Passes.{is_dead, next_value, next_place, start_name, start_or_dead, pass}
 use Rattle.lazy_dfa.specs.PassLaws.{units_read, pass_len}
 use Rattle.lazy_dfa.proofs.TurnLemmas.{place_zero, place_next, dead_is}
-use Rattle.lazy_dfa.proofs.QuitLemmas.{found_in_mode, reads_all}
+use Rattle.lazy_dfa.proofs.PassQuitLemmas.{found_in_mode, reads_all}
 use Rattle.lazy_dfa.proofs.BothKindsLemmas.{first_joined}
 use Rattle.lazy_dfa.proofs.PassLemmas.{walk, walk_steps, walk_starts, pass_finds_first}
 

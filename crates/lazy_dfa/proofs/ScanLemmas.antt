@@ -16,7 +16,7 @@ use Rattle.lazy_dfa.specs.Scans.{unless_split, passes, first_place, begun_at, sc
 use Rattle.lazy_dfa.specs.PassLaws.{HasNoQuitBehind, splits, pass_of}
 use Rattle.lazy_dfa.specs.ScanLaws.{IsWanted, Splits, IsOfPasses, HasNoQuitNear, IsQuitNear}
 use Rattle.lazy_dfa.proofs.TurnLemmas.{found_no_quit, found_no_mode}
-use Rattle.lazy_dfa.proofs.QuitLemmas.{mode_is_told, told_is_mode}
+use Rattle.lazy_dfa.proofs.PassQuitLemmas.{mode_is_told, told_is_mode}
 use Rattle.lazy_dfa.proofs.PassLemmas.{pass_finds_first, pass_finds_last}
 use Rattle.lazy_dfa.proofs.NearestLemmas.{pass_finds_nearest}
 use Rattle.lazy_dfa.proofs.RestartLemmas.{whole_stays, split_goes, later_first, later_next}
