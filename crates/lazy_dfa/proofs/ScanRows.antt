@@ -1,6 +1,6 @@
 -- Half searches of small automata, worked out by hand.
 use Rattle.std.proofs.Common.{◌≡◌, ℕ, ◌-◌, Bool, true, false, List, [], ◌∷◌, ◌++◌, replicate, Some, None, refl}
-use Rattle.look_core.specs.declared.look.Look.TheVariants.{End, EndLF, StartLF, WordUnicode}
+use Rattle.look_core.specs.declared.look.Look.TheVariants.{Start, End, EndLF, StartLF, WordUnicode}
 use Rattle.look_core.specs.Terminators.{Terminator, one_of}
 use Rattle.search_types.specs.declared.match_kind.MatchKind.TheVariants.{All as AllMatches, LeftmostFirst}
 use Rattle.search_types.specs.declared.anchored.Anchored.TheVariants.{No, Yes, Pattern}
@@ -186,6 +186,20 @@ quit_byte_behind_a_state_that_leads_nowhere = refl
 quit_byte_where_no_pattern_is : scan (reads never_matching.automaton (only 97)) (over (97 ∷ []) 0 1) ≡ quit 97 0
 unfolding families_of next_value start_or_dead pass_from
 quit_byte_where_no_pattern_is = refl
+
+-- where no prefix stands before a tree that begins at the start, the state is dead behind the first byte
+abbrev at_the_start : Automaton
+at_the_start = record {
+  states = look_node Start 1 ∷ byte_range 97 97 2 ∷ match_node 0 ∷ [];
+  start_anchored = 0;
+  start_unanchored = 0;
+  start_pattern = 0 ∷ [];
+  reverse = false;
+}
+
+quit_byte_behind_a_search_that_is_over : scan (reads at_the_start (only 100)) (over (98 ∷ 99 ∷ 100 ∷ []) 0 3) ≡ found None
+unfolding families_of next_value start_or_dead pass_from
+quit_byte_behind_a_search_that_is_over = refl
 
 -- the byte past the span is read, even where a match was found, and downwards the one before it
 quit_past_the_span : scan (reads (forward letters) (only 255)) (over (97 ∷ 255 ∷ []) 0 1) ≡ quit 255 1
