@@ -19,10 +19,11 @@ pub use Rattle.determinize_core.proofs.StepStateLemmas.{step_state, start_state}
 pub use Rattle.determinize_core.proofs.WalkingLemmas.{behind_below, behind_once}
 -- a walk's states are those of the walk under all looks, and list what it finds at each place
 pub use Rattle.determinize_core.proofs.WalkedLemmas.{lists_are_lists, states_are, matches_are}
+-- where the states of a walk lead by the unit at their place, the lists under all looks lead too
+pub use Rattle.determinize_core.proofs.ReadingLemmas.{entries_alike}
 -- what the states of a walk list: all ends, or the first end; whether there is one, and where
 pub use Rattle.determinize_core.proofs.ListedLemmas.{one_listed, some_listed, never_listed, latest_is_preferred_run}
 -- a walk depends on what it reads alone
 pub use Rattle.determinize_core.proofs.DependLemmas.{walks_alike}
 -- walks over bytes are walks over a haystack that has them, and what their states tell
 pub use Rattle.determinize_core.proofs.HaystackLemmas.{state_there, states_len, all_are_listed, one_is_listed, end_is_told, none_is_told}
-pub use Rattle.determinize_core.proofs.ReadingLemmas.{entries_alike}
