@@ -20,3 +20,8 @@ pub mod AccountingLemmas
 mod ScanRows
 mod AccountingRows
 pub mod ForCallers
+pub mod ListLemmas
+pub mod CacheLemmas
+pub mod IsCacheLemmas
+pub mod ChangeLemmas
+pub mod MadeLemmas

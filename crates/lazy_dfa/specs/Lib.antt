@@ -5,3 +5,8 @@ pub mod Scans
 pub mod PassLaws
 pub mod ScanLaws
 pub mod Accounting
+pub mod ConfigValue
+pub mod Dfas
+pub mod Ids
+pub mod Caches
+pub mod Steps

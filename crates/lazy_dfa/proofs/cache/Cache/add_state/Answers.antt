@@ -1,0 +1,44 @@
+use Rattle.std.proofs.Common.{arith, length, sym, ap, subst, ◌∙◌, ◌+◌, ◌*◌, ◌≡◌, ◌++◌, ◌∷◌, [], ℕ, Bool, List, cond, Some, vec_len, replicate}
+use Rattle.determinize_core.specs.States.{StateValue, IsState}
+use Rattle.lazy_dfa.specs.Ids.{unknown_id, tagged}
+use Rattle.lazy_dfa.specs.Caches.{CacheValue, IsKept, same, with_state}
+use Rattle.determinize_core.specs.StateBytes.{is_match}
+use Rattle.lazy_dfa.proofs.CacheLemmas.{IsKept-same, IsKept-added, resized, added_parts}
+use Rattle.lazy_dfa.proofs.cache.Cache.add_state.Goals as goal
+
+pub invariant_of-self-in_err-reserve-4 : goal.invariant_of-self-in_err-reserve-4
+invariant_of-self-in_err-reserve-4 c = rw (c.reserve.ensures.items, c.reserve-2.ensures.items, c.reserve-3.ensures.items)
+    (IsKept-same _ _ _ _ c.self.invariant c.in_err-reserve-4.ensures.err)
+
+abbrev value : goal.After-self-1 → CacheValue
+value c = record { states = c.self.inside.states.items; ids = c.self.inside.ids.items; cells = c.self.inside.cells.items; starts = c.self.inside.starts.items; stride = c.self.inside.stride; fresh = c.self.inside.fresh; bound = c.self.inside.workspace; clears = c.self.inside.clears; searched = c.self.inside.searched; progress = c.self.inside.progress }
+
+parts : (c : goal.After-self-1) →
+    record (value c) { states = c.push.new.self.items; ids = c.push-2.new.self.items; cells = c.resize.new.self.items } ≡ with_state c.args.is_start c.args.state (value c)
+parts c =
+    let v = value c in
+    let at : c.len-at.result ≡ length c.self.inside.cells.items = c.len-at.ensures ∙ c.self.inside.cells.ok.0 in
+    let now : vec_len c.reserve.new.self ≡ length c.self.inside.cells.items = c.reserve.ensures.len ∙ c.self.inside.cells.ok.0 in
+    added_parts v c.args.is_start c.args.state c.in_ok-copy.copy c.id_of-id.result c.push.new.self.items c.push-2.new.self.items c.resize.new.self.items
+    (rw (← c.reserve-2.ensures.items) c.in_ok-push.ensures.items)
+    c.in_ok-copy.ensures.cases
+    (rw (← c.reserve-3.ensures.items) c.in_ok-push-2.ensures.items)
+    (c.id_of-id.ensures ∙ (ap (λ (b : Bool). tagged c.args.is_start b c.len-at.result) c.is_match.ensures ∙ ap (tagged c.args.is_start (is_match c.args.state.matches)) at))
+    (rw (c.in_ok-resize.ensures.items, c.reserve.ensures.items, c.unknown.ensures) (resized c.self.inside.cells.items c.len-at.result (vec_len c.reserve.new.self) c.self.inside.stride unknown_id at now))
+
+pub invariant_of-self-2 : goal.invariant_of-self-2
+invariant_of-self-2 c =
+    let v = value c in
+    let k : c.len-k.result ≡ length v.states = c.len-k.ensures ∙ c.self.inside.states.ok.0 in
+    subst (λ (w : CacheValue). IsKept w c.insert.new.self (c.self.inside.used + (4 * c.self.inside.stride + 16 + 20 + c.memory_usage.result))) (sym (parts c))
+    (IsKept-added v c.self.inside.rows c.insert.new.self c.self.inside.used c.len-k.result (4 * c.self.inside.stride + 16 + 20 + c.memory_usage.result) c.args.is_start c.args.state
+    c.self.invariant
+    (subst IsState c.state.view_is c.state.invariant.state)
+    (rw (← c.self.view_is) at c.requires.fresh)
+    (rw (← c.self.view_is) at c.requires.room)
+    k
+    (ap (λ (n : ℕ). 4 * v.stride + 16 + 20 + n) c.memory_usage.ensures)
+    (λ q. c.in_ok-insert.ensures.updates.0 q ∙ ap (cond (same c.args.state q) (Some c.len-k.result)) (c.in_ok-reserve-4.ensures.entries.2 q)))
+
+pub returns-clause-ok : goal.returns-clause-ok
+returns-clause-ok c = parts c ∙ ap (with_state c.args.is_start c.args.state) c.self.view_is

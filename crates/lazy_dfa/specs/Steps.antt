@@ -1,0 +1,88 @@
+-- What steps over a cache are told of, what they answer, and what they change.
+use Rattle.std.specs.Prelude.{◌≡◌, ◌≢◌, ◌⊎◌, ◌<◌, ◌≤◌, ◌+◌, ◌*◌, ◌%◌, ℕ, Bool, true, false, min, length, Option, Some, None, slice_index_or}
+use Rattle.determinize_core.specs.Costs.{free_ways}
+use Rattle.determinize_core.specs.States.{StateValue}
+use Rattle.lazy_dfa.specs.Dfas.{Dfa, class_of, after, IsUnit}
+use Rattle.lazy_dfa.specs.Ids.{tag, unknown_id, dead_id, quit_id, is_sentinel}
+use Rattle.lazy_dfa.specs.Caches.{CacheValue, IsShaped, IsRow, HeldAt, Names, Leads, greatest, begun_anew, lacks_room}
+use Rattle.lazy_dfa.specs.Readers.{is_quit}
+use Rattle.lazy_dfa.specs.declared.cache_error.CacheError.{CacheError}
+use Rattle.lazy_dfa.specs.declared.cache_error.CacheError.TheVariants.{GaveUp, NoMemory}
+
+-- an ID that a step may be made from
+abbrev pub IsHeld : CacheValue → ℕ → Type 0
+IsHeld v id = (id ≡ dead_id v.stride) ⊎ (id ≡ quit_id v.stride) ⊎ IsRow v id
+
+-- where the step from an ID by a unit leads
+abbrev pub StepsTo : Dfa → CacheValue → CacheValue → ℕ → Option ℕ → ℕ → Type 0
+StepsTo d old new id u r = (s : StateValue) → HeldAt old id s → Leads d new s u r
+
+-- what is known of the step from an ID by a unit: the ID to which it leads, or the unknown one
+abbrev pub noted : Dfa → CacheValue → ℕ → Option ℕ → ℕ
+noted d v id u = slice_index_or v.cells (id % tag + class_of d.classes u) 0
+
+-- the step is known: a sentinel leads to itself
+abbrev pub IsKnown : Dfa → CacheValue → ℕ → Option ℕ → Type 0
+IsKnown d v id u = (is_sentinel id ≡ true) ⊎ (noted d v id u ≢ unknown_id)
+
+-- where the ID still names its state, the step was noted
+abbrev pub IsNoted : Dfa → CacheValue → CacheValue → ℕ → Option ℕ → ℕ → Type 0
+IsNoted d old new id u r = (s : StateValue) → HeldAt old id s → HeldAt new id s → noted d new id u ≡ r
+
+-- ---- refusals
+
+-- memory lacked; or a clear was refused, for this state
+abbrev pub IsCause : Dfa → CacheValue → StateValue → CacheError → Type 0
+IsCause d v s e = (e ≡ NoMemory) ⊎ ((e ≡ GaveUp) × (lacks_room d v s ≡ true))
+
+-- the same for the state behind that of an ID by a unit, where the step isn't known
+pub record GivesUp (d : Dfa) (v : CacheValue) (id : ℕ) (u : Option ℕ) : Type 0 where
+  pub row : IsRow v id
+  pub unknown : noted d v id u ≡ unknown_id
+  pub no_quit : is_quit d.quits u ≡ false
+  pub lacks : (s : StateValue) → HeldAt v id s → lacks_room d v (after d s u) ≡ true
+
+abbrev pub IsStepCause : Dfa → CacheValue → ℕ → Option ℕ → CacheError → Type 0
+IsStepCause d v id u e = (e ≡ NoMemory) ⊎ ((e ≡ GaveUp) × GivesUp d v id u)
+
+-- ---- what calls change
+
+-- nothing was cleared: each ID names what it named, and what was known of steps is known
+pub record Added (old new : CacheValue) : Type 0 where
+  pub shape : IsShaped old
+  pub stride : new.stride ≡ old.stride
+  pub names : (id : ℕ) (s : StateValue) → Names old id s → Names new id s
+  pub cells : (id c : ℕ) → IsRow old id → c < old.stride → slice_index_or new.cells (id % tag + c) 0 ≡ slice_index_or old.cells (id % tag + c) 0
+  pub clears : new.clears ≡ old.clears
+  pub searched : new.searched ≡ old.searched
+  pub progress : new.progress ≡ old.progress
+
+-- the same, where a step more may be known
+pub record Grew (d : Dfa) (old new : CacheValue) : Type 0 where
+  pub names : (id : ℕ) (s : StateValue) → Names old id s → Names new id s
+  pub known : (id : ℕ) (u : Option ℕ) → IsRow old id → IsUnit u → noted d old id u ≢ unknown_id → noted d new id u ≡ noted d old id u
+  pub clears : new.clears ≡ old.clears
+  pub searched : new.searched ≡ old.searched
+  pub progress : new.progress ≡ old.progress
+
+-- the cache was cleared, and what is held now was added after that: so many states at most
+pub record WasCleared (old new : CacheValue) (most : ℕ) : Type 0 where
+  pub clears : new.clears ≡ min (old.clears + 1) greatest
+  pub searched : new.searched ≡ 0
+  pub progress : new.progress ≡ begun_anew old.progress
+  pub few : length new.states ≤ most
+
+abbrev pub MadeRoom : CacheValue → CacheValue → Type 0
+MadeRoom old new = (new ≡ old) ⊎ WasCleared old new 1
+
+abbrev pub AddsOrClears : CacheValue → CacheValue → Type 0
+AddsOrClears old new = Added old new ⊎ WasCleared old new 2
+
+abbrev pub KeepsOrClears : Dfa → CacheValue → CacheValue → Type 0
+KeepsOrClears d old new = Grew d old new ⊎ WasCleared old new 2
+
+-- ---- work
+
+-- as many names are put into sets, at most, for a state that is made
+abbrev pub most_inserts : Dfa → ℕ
+most_inserts d = 3 * length d.nfa.automaton.states + 2 * free_ways d.nfa.automaton

@@ -1,0 +1,35 @@
+use std::alloc::{AllocError, AllocFailed};
+use thiserror::Error;
+
+/// Why a step can't be made, as `regex_automata::hybrid::CacheError`.
+#[derive(Clone, Copy, Debug, PartialEq, Eq, Error)]
+pub enum CacheError {
+    /// A state has no room, and the configuration doesn't allow another clear.
+    #[error("lazy DFA cache has been cleared too many times")]
+    GaveUp,
+    /// There is no memory left.
+    #[error("out of memory")]
+    NoMemory,
+}
+
+impl From<AllocError> for CacheError {
+    ghost use Rattle.std.specs.Prelude.{◌≡◌};
+    ghost use Rattle.lazy_dfa.specs.declared.cache_error.CacheError.TheVariants.{NoMemory};
+
+    ghost from_gives = { λ _ e. e ≡ NoMemory };
+
+    fn from(_error: AllocError) -> CacheError {
+        CacheError::NoMemory
+    }
+}
+
+impl<T: Drop> From<AllocFailed<T>> for CacheError {
+    ghost use Rattle.std.specs.Prelude.{◌≡◌};
+    ghost use Rattle.lazy_dfa.specs.declared.cache_error.CacheError.TheVariants.{NoMemory};
+
+    ghost from_gives = { λ _ e. e ≡ NoMemory };
+
+    fn from(_error: AllocFailed<T>) -> CacheError {
+        CacheError::NoMemory
+    }
+}

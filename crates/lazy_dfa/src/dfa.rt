@@ -1,0 +1,158 @@
+//! A DFA that is made as it is used, as `regex_automata::hybrid::dfa`.
+ghost use Rattle.std.specs.Prelude.{◌≡◌, ◌+◌, ◌≤◌, Some, None, length};
+ghost use Rattle.search_core.specs.Index.{greatest_index};
+ghost use Rattle.determinize_core.specs.Starts.{IsStartTable, start_of};
+ghost use Rattle.lazy_dfa.specs.ConfigValue.{kind_of, clears_of, bytes_of, specializes, starts_each_of};
+ghost use Rattle.lazy_dfa.specs.Dfas.{IsDfa, class_of};
+ghost use Rattle.lazy_dfa.specs.Readers.{is_quit};
+
+pub use crate::cache::Cache;
+pub use crate::config::Config;
+use crate::measures::Measures;
+use determinize_core::{Start, StartByteMap};
+use nfa_core::NFA;
+use search_core::{ByteClasses, ByteSet};
+use search_types::MatchKind;
+use std::marker::Model;
+
+/// An automaton whose powerset states are made as searches come to them, as `regex_automata::hybrid::dfa::DFA`. What was
+/// made is kept in a [`Cache`], which each call takes.
+#[derive(Drop)]
+pub struct DFA {
+    pub(crate) nfa: NFA,
+    pub(crate) config: Config,
+    pub(crate) classes: ByteClasses,
+    pub(crate) quits: ByteSet,
+    pub(crate) start_map: StartByteMap,
+    pub(crate) measures: Measures,
+    /// How many bytes a cache may take.
+    pub(crate) capacity: usize,
+}
+
+impl Model for DFA {
+    ghost use Rattle.determinize_core.specs.Starts.{IsStartTable};
+    ghost use Rattle.lazy_dfa.specs.Dfas.{Dfa, IsDfa};
+
+    ghost Value = { Dfa };
+
+    ghost view = { λ d. record { nfa = d.nfa; options = d.config; classes = d.classes; quits = d.quits; measures = d.measures; capacity = d.capacity } };
+
+    ghost invariant = { λ d. IsDfa (record { nfa = d.nfa; options = d.config; classes = d.classes; quits = d.quits; measures = d.measures; capacity = d.capacity }) × IsStartTable d.nfa.terminator d.start_map };
+}
+
+/// What the automaton is of.
+impl DFA {
+    /// How many patterns it searches for, as `DFA::pattern_len`.
+    pub fn pattern_len(&self) -> usize
+        ensures value { result ≡ length self.now.nfa.automaton.start_pattern }
+        ensures in_range { result ≤ greatest_index + 1 }
+    {
+        self.nfa.pattern_len()
+    }
+
+    /// The classes of bytes that share transitions, as `DFA::byte_classes`.
+    pub fn byte_classes(&self) -> &ByteClasses
+        ensures { result.now ≡ self.now.classes }
+    {
+        &self.classes
+    }
+
+    /// The options as they were given, as `DFA::get_config`: a capacity that was raised is told as it was.
+    pub fn get_config(&self) -> &Config
+        ensures { result.now ≡ self.now.options }
+    {
+        &self.config
+    }
+
+    /// The NFA, as `DFA::get_nfa`.
+    pub fn get_nfa(&self) -> &NFA
+        ensures { result.now ≡ self.now.nfa }
+    {
+        &self.nfa
+    }
+
+    /// The bytes that it takes beside its own size and its NFA's, as `DFA::memory_usage`: none.
+    pub fn memory_usage(&self) -> usize
+        ensures { result ≡ 0 }
+    {
+        0
+    }
+
+    /// What each automaton keeps to.
+    pub fn is_made(&self)
+        ensures { IsDfa self.now }
+    {
+        let _ = &self.nfa;
+    }
+}
+
+/// What steps ask of it.
+impl DFA {
+    pub(crate) fn kind(&self) -> MatchKind
+        ensures { result ≡ kind_of self.now.options }
+    {
+        self.config.get_match_kind()
+    }
+
+    pub(crate) fn capacity(&self) -> usize
+        ensures { result ≡ self.now.capacity }
+    {
+        self.capacity
+    }
+
+    pub(crate) fn least_clears(&self) -> Option<usize>
+        ensures { result ≡ clears_of self.now.options }
+    {
+        self.config.get_minimum_cache_clear_count()
+    }
+
+    pub(crate) fn least_bytes(&self) -> Option<usize>
+        ensures { result ≡ bytes_of self.now.options }
+    {
+        self.config.get_minimum_bytes_per_state()
+    }
+
+    /// Whether the IDs of states in which searches start are tagged.
+    pub(crate) fn specializes(&self) -> bool
+        ensures { result ≡ specializes self.now.options }
+    {
+        self.config.get_specialize_start_states()
+    }
+
+    /// By what the bytes of a cache are told.
+    pub(crate) fn measures(&self) -> Measures
+        ensures { result ≡ self.now.measures }
+    {
+        self.measures
+    }
+
+    /// The class of a byte.
+    #[inline(always)]
+    pub(crate) fn class(&self, byte: u8) -> usize
+        ensures { result ≡ class_of self.now.classes (Some byte) }
+    {
+        usize::from(self.classes.get(byte))
+    }
+
+    /// The class of the end of the input.
+    pub(crate) fn end_class(&self) -> usize
+        ensures value { result ≡ class_of self.now.classes None }
+        ensures in_range { result ≤ 256 }
+    {
+        usize::from(self.classes.get(255)) + 1
+    }
+
+    /// Whether a search gives up at the byte.
+    pub(crate) fn is_quit(&self, byte: u8) -> bool
+        ensures { result ≡ is_quit self.now.quits (Some byte) }
+    {
+        self.quits.contains(byte)
+    }
+
+    /// The start behind a byte.
+    pub(crate) fn start_behind(&self, byte: u8) -> Start
+        ensures { result ≡ start_of self.now.nfa.terminator (Some byte) }
+    {
+        self.start_map.get(byte)
+    }
+}

@@ -1,0 +1,123 @@
+//! The states in which searches start.
+ghost use Rattle.std.specs.Prelude.{◌≡◌, ◌+◌, ◌<◌, ◌≤◌, false, length, IfOk, OnOk, IfErr, None, Some};
+ghost use Rattle.lazy_dfa.specs.Dfas.{IsStateOf, is_dead, start_in, first_state};
+ghost use Rattle.lazy_dfa.specs.Caches.{IsCacheOf, Names, Fits, place_of, slot, lacks_room};
+ghost use Rattle.lazy_dfa.specs.Steps.{IsCause, MadeRoom, most_inserts};
+
+use crate::cache_error::CacheError;
+use crate::dfa::{Cache, DFA};
+use crate::lazy_id::LazyStateID;
+use crate::stepping::{fits, is_dead_state, refuses_clear};
+use crate::work::Work;
+use determinize_core::{Start, State};
+use search_core::StateID;
+use std::alloc::AllocError;
+use std::sync::ledger::Ledger;
+
+/// Makes room for a state that isn't held, by a clear of all where there is none.
+fn room_alone(dfa: &DFA, cache: &mut Cache, state: &State) -> Result<(), CacheError>
+    requires own { IsCacheOf dfa.now cache.old }
+    requires is { IsStateOf dfa.now state.now }
+    requires alive { is_dead state.now ≡ false }
+    requires fresh { place_of state.now cache.old.states ≡ None }
+    ensures own { IsCacheOf dfa.now cache.new }
+    ensures slots { length cache.new.starts ≡ length cache.old.starts }
+    ensures fresh { OnOk result (place_of state.now cache.new.states ≡ None) }
+    ensures fits { OnOk result (Fits dfa.now.capacity state.now cache.new) }
+    ensures ok { OnOk result (lacks_room dfa.now cache.old state.now ≡ false) }
+    ensures err { IfErr result (λ e. IsCause dfa.now cache.old state.now e) }
+{
+    dfa.is_made();
+    if fits(dfa, cache, state) {
+        return Ok(());
+    }
+    if refuses_clear(dfa, cache) {
+        return Err(CacheError::GaveUp);
+    }
+    cache.clear();
+    Ok(())
+}
+
+/// The ID of a state in which a search starts, which is added where it isn't held.
+fn place_start(dfa: &DFA, cache: &mut Cache, state: State) -> Result<LazyStateID, CacheError>
+    requires own { IsCacheOf dfa.now cache.old }
+    requires is { IsStateOf dfa.now state }
+    ensures own { IsCacheOf dfa.now cache.new }
+    ensures slots { length cache.new.starts ≡ length cache.old.starts }
+    ensures to { IfOk result (λ id. Names cache.new id state) }
+    ensures ok { OnOk result (lacks_room dfa.now cache.old state ≡ false) }
+    ensures err { IfErr result (λ e. IsCause dfa.now cache.old state e) }
+{
+    dfa.is_made();
+    let stride = cache.stride();
+    if is_dead_state(&state) {
+        return Ok(LazyStateID::dead(stride));
+    }
+    if let Some(j) = cache.find(&state) {
+        let id = cache.id(j);
+        return Ok(id);
+    }
+    room_alone(dfa, cache, &state)?;
+    // a capacity is a number of 64 bits, so the count doesn't pass these
+    let _capacity = dfa.capacity();
+    let id = cache.add_state(state, dfa.specializes())?;
+    Ok(id)
+}
+
+/// The state in which a search starts from a state of the NFA.
+fn first_of<L: Ledger, M: Ledger>(
+    dfa: &DFA,
+    cache: &mut Cache,
+    name: StateID,
+    start: Start,
+    work: &mut Work<L, M>,
+) -> Result<State, AllocError>
+    requires own { IsCacheOf dfa.now cache.old }
+    requires below { name < length dfa.now.nfa.automaton.states }
+    ensures value { IfOk result (λ s. s ≡ first_state dfa.now start name) }
+    ensures is { IfOk result (λ s. IsStateOf dfa.now s) }
+    ensures same { cache.new ≡ cache.old }
+    ensures determinized { work.new.determinized ≡ work.old.determinized + 1 }
+    ensures inserted { work.new.inserted ≤ work.old.inserted + most_inserts dfa.now }
+{
+    dfa.is_made();
+    let nfa = dfa.get_nfa();
+    let state = cache.first(nfa, start, name, work)?;
+    Ok(state)
+}
+
+/// The ID of the state in which a search starts in a mode, from the NFA's state for that mode. Of modes 0 is the one of
+/// unanchored searches, 1 that of anchored ones, and the others are those of patterns.
+pub(crate) fn start_in_mode<L: Ledger, M: Ledger>(
+    dfa: &DFA,
+    cache: &mut Cache,
+    mode: usize,
+    name: StateID,
+    start: Start,
+    work: &mut Work<L, M>,
+) -> Result<LazyStateID, CacheError>
+    requires own { IsCacheOf dfa.now cache.old }
+    requires inside { slot mode start < length cache.old.starts }
+    requires named { start_in dfa.now mode ≡ Some name }
+    requires below { name < length dfa.now.nfa.automaton.states }
+    ensures own { IsCacheOf dfa.now cache.new }
+    ensures start { IfOk result (λ id. Names cache.new id (first_state dfa.now start name)) }
+    ensures err { IfErr result (λ e. IsCause dfa.now cache.old (first_state dfa.now start name) e) }
+    ensures determinized { work.new.determinized ≤ work.old.determinized + 1 }
+    ensures inserted { work.new.inserted ≤ work.old.inserted + most_inserts dfa.now }
+{
+    dfa.is_made();
+    let i = mode * 7 + start.as_usize();
+    let known = cache.start(i);
+    if !known.is_not_known() {
+        return Ok(known);
+    }
+    let state = first_of(dfa, cache, name, start, work)?;
+    match place_start(dfa, cache, state) {
+        Ok(id) => {
+            cache.set_start(i, id);
+            Ok(id)
+        }
+        Err(e) => Err(e),
+    }
+}

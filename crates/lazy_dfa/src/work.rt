@@ -1,0 +1,34 @@
+ghost use Rattle.std.specs.Prelude.{◌≡◌, ◌<◌};
+
+use nfa_core::Steps;
+use std::sync::ledger::{Blank, Ledger};
+
+/// How much work was done: how many powerset states were made, and how many names were put into sets for them. It has no
+/// bytes, so the built program has no trace of it; contracts say by it what a call costs.
+#[derive(Drop)]
+pub struct Work<L: Ledger, M: Ledger> {
+    /// How many states were made: one for each step or start that wasn't known.
+    pub determinized: Steps<L>,
+    /// How many names were put into a set, or tried to be.
+    pub inserted: Steps<M>,
+}
+
+impl<L: Ledger, M: Ledger> Work<L, M> {
+    /// A count of nothing. A caller that counts nothing has a function that is generic in `L` and `M` make it, and calls
+    /// that at [`Brand`](std::marker::Brand) with `Blank::new(1)` twice.
+    pub fn new(determinized: Blank, inserted: Blank) -> Work<L, M>
+        requires name1 { determinized.name ≡ L.name }
+        requires parts1 { determinized.parts ≡ L.parts }
+        requires some1 { 0 < determinized.parts }
+        requires name2 { inserted.name ≡ M.name }
+        requires parts2 { inserted.parts ≡ M.parts }
+        requires some2 { 0 < inserted.parts }
+        ensures determinized { result.determinized ≡ 0 }
+        ensures inserted { result.inserted ≡ 0 }
+    {
+        Work {
+            determinized: Steps::new(determinized),
+            inserted: Steps::new(inserted),
+        }
+    }
+}
