@@ -20,9 +20,9 @@ fn take(alloc: Global, config: Config, trees: &[Hir], bytes: usize) -> Result<bo
     };
     let mut compiler = Compiler::new(alloc);
     compiler.configure(config.nfa_size_limit(Some(bytes)));
-    let _nfa = compiler.build_many_from_hir(alloc, trees)?;
+    let _nfa = compiler.build_many_from_hir(trees)?;
     compiler.configure(Config::new().nfa_size_limit(Some(less)));
-    match compiler.build_many_from_hir(alloc, trees) {
+    match compiler.build_many_from_hir(trees) {
         Err(BuildError::ExceededSizeLimit { limit }) => Ok(limit == less),
         _ => Ok(false),
     }
