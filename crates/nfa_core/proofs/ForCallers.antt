@@ -38,8 +38,8 @@ pub use Rattle.nfa_core.proofs.AutomatonLemmas.{read_led, nothing_led, match_is}
 pub use Rattle.nfa_core.proofs.LookedLemmas.{looks_any, sparse_leads}
 -- bytes of one class are alike for the automaton, also where the classes are finer
 pub use Rattle.nfa_core.proofs.ClassLemmas.{bytes_alike}
--- texts of one class place by place are followed alike, and have the same ends
-pub use Rattle.nfa_core.proofs.SameTextLemmas.{ways_alike, ends_alike}
+-- texts of one class place by place are followed alike, looks of states hold alike in them, and they have the same ends
+pub use Rattle.nfa_core.proofs.SameTextLemmas.{looks_alike, ways_alike, ends_alike}
 -- the walk with a stack over an automaton's states: names below a bound, and what a step of the walk does
 pub use Rattle.nfa_core.proofs.ReachedLemmas.{has_from_all, taken_below, left_below, len_nodes, passes, meets}
 -- ---- what is built of a builder's states
