@@ -1,17 +1,19 @@
 -- What `IsCompiled` says of looks and of starts, in the forms that callers take.
-use Rattle.std.proofs.Common.{◌≡◌, ◌↔◌, ℕ, zero, suc, ◌+◌, ◌-◌, ◌≤◌, Bool, true, false, List, [], ◌∷◌, ◌++◌, ⊎_elim, Some, refl, sym, ap, ap₂, ◌∙◌, arith}
-use Rattle.std.specs.Prelude.{slice_get}
+use Rattle.std.proofs.Common.{◌≡◌, ◌↔◌, ℕ, zero, suc, ◌+◌, ◌-◌, ◌<◌, ◌≤◌, Bool, true, false, List, [], ◌∷◌, ◌++◌, length, ⊎_elim, Some, refl, sym, ap, ap₂, ◌∙◌, arith}
+use Rattle.std.specs.Prelude.{All, slice_get}
 use Rattle.std.specs.List.{flat_map, list_any}
 use Rattle.std.proofs.lemmas.Bool.{cases_Bool}
 use Rattle.look_core.specs.declared.look.Look.{Look}
 use Rattle.look_core.specs.LookSets.{has_look}
+use Rattle.look_core.specs.Terminators.{Terminator}
 use Rattle.hir_core.specs.Tree.{Tree}
 use Rattle.hir_core.specs.Facts.{looks_used}
 use Rattle.nfa_core.specs.NfaValue.{Nfa, looks_of}
 use Rattle.nfa_core.specs.Places.{same_pair}
 use Rattle.nfa_core.specs.Walks.{distinct}
-use Rattle.nfa_core.specs.Ways.{Text, ends_from}
+use Rattle.nfa_core.specs.Ways.{Text, ends_from, span}
 use Rattle.nfa_core.proofs.ForCallers.{join_distinct_each, pairs_equal}
+use Rattle.nfa_core.proofs.PairLemmas.{pairs_equal}
 use Rattle.thompson_nfa.specs.Compilations.{IsCompiled, HasStarts, IsRead, places_from, start_of}
 use Rattle.thompson_nfa.specs.Compiled.{turned}
 use Rattle.thompson_nfa.specs.Configs.{Options, reverse_of}
@@ -69,3 +71,9 @@ module _ (count : ℕ) (n : Nfa) (starts : HasStarts false count n) (t : Text) w
       starts.unanchored refl t i read low high
       ∙ ap (distinct same_pair) (each_place (suc t.end - i) i (omega (arith, high)))
       ∙ sym (join_distinct_each same_pair pairs_equal by_patterns [] (places_from i (suc t.end - i)))
+
+-- ---- texts
+
+-- a span of a haystack of bytes, with words read as bytes, is a text whose edges are read as they are
+pub span_is_read : (t : Terminator) (h : List ℕ) (s e : ℕ) → e ≤ length h → All (λ byte. byte < 256) h → IsRead (span t h s e)
+span_is_read t h s e within bytes = record { within = within; bytes = bytes; at_start = λ i. refl; at_end = λ i. refl }

@@ -6,6 +6,8 @@
 pub use Rattle.thompson_nfa.proofs.CallerLemmas.{looks_are_used}
 -- read upwards, the unanchored start finds what the patterns find at one place after the other
 pub use Rattle.thompson_nfa.proofs.CallerLemmas.{by_patterns, unanchored_by_patterns}
+-- a span of a haystack of bytes, with words read as bytes, is a text whose edges are read as they are
+pub use Rattle.thompson_nfa.proofs.CallerLemmas.{span_is_read}
 -- a look that is turned round twice is the look
 pub use Rattle.thompson_nfa.proofs.AssembledLooks.{reversed_twice}
 -- over one text what is meant upwards is meant downwards; and what the automata of both directions find, from the starts of

@@ -50,6 +50,7 @@ pub mod AssembledStarts
 pub mod AssembledTries
 pub mod DirectionLemmas
 pub mod CallerLemmas
+pub mod CompileRows
 pub mod AssembledEmpty
 pub mod AssembledCompiled
 pub mod StandLemmas
