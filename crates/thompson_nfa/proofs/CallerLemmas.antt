@@ -13,7 +13,6 @@ use Rattle.nfa_core.specs.Places.{same_pair}
 use Rattle.nfa_core.specs.Walks.{distinct}
 use Rattle.nfa_core.specs.Ways.{Text, ends_from, span}
 use Rattle.nfa_core.proofs.ForCallers.{join_distinct_each, pairs_equal}
-use Rattle.nfa_core.proofs.PairLemmas.{pairs_equal}
 use Rattle.thompson_nfa.specs.Compilations.{IsCompiled, HasStarts, IsRead, places_from, start_of}
 use Rattle.thompson_nfa.specs.Compiled.{turned}
 use Rattle.thompson_nfa.specs.Configs.{Options, reverse_of}
