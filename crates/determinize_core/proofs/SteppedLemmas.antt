@@ -12,7 +12,7 @@ use Rattle.search_types.specs.declared.match_kind.MatchKind.{MatchKind}
 use Rattle.nfa_core.specs.Nfa.{Node, byte_range, sparse_node, dense_node, look_node, union_node, binary_union, capture_node, fail_node, match_node, Automaton, node_at}
 use Rattle.nfa_core.specs.NfaValue.{IsSound, look_of, looks_of}
 use Rattle.nfa_core.proofs.ForCallers.{looks_any, not_both, has_from_all}
-use Rattle.determinize_core.specs.States.{StateValue, IsState, dead}
+use Rattle.determinize_core.specs.States.{StateValue, dead}
 use Rattle.determinize_core.specs.StateBytes.{encoded}
 use Rattle.determinize_core.specs.Stepped.{IsStepped, widest}
 use Rattle.determinize_core.specs.Steps.{looks_with, closed, ids_before, patterns_in, states_behind, step_value, behind, start_value}
