@@ -211,7 +211,7 @@ numbered (suc (suc (suc (suc zero)))) = LineCR
 numbered (suc (suc (suc (suc (suc zero))))) = CustomLineTerminator
 numbered (suc (suc (suc (suc (suc (suc n)))))) = CustomWordLineTerminator
 
-numbered_back : (s : Start) → (numbered (number_of s) ≡ s) × (number_of s < 7)
+pub numbered_back : (s : Start) → (numbered (number_of s) ≡ s) × (number_of s < 7)
 numbered_back NonWordByte = (refl, omega arith)
 numbered_back WordByte = (refl, omega arith)
 numbered_back Text = (refl, omega arith)

@@ -25,3 +25,4 @@ pub mod CacheLemmas
 pub mod IsCacheLemmas
 pub mod ChangeLemmas
 pub mod MadeLemmas
+pub mod StartCallLemmas

@@ -10,3 +10,4 @@ pub mod Dfas
 pub mod Ids
 pub mod Caches
 pub mod Steps
+pub mod StartCalls

@@ -112,6 +112,13 @@ impl DFA {
         self.config.get_minimum_bytes_per_state()
     }
 
+    /// Whether a search may name the pattern that it looks for.
+    pub(crate) fn starts_for_each_pattern(&self) -> bool
+        ensures { result ≡ starts_each_of self.now.options }
+    {
+        self.config.get_starts_for_each_pattern()
+    }
+
     /// Whether the IDs of states in which searches start are tagged.
     pub(crate) fn specializes(&self) -> bool
         ensures { result ≡ specializes self.now.options }

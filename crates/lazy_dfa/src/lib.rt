@@ -9,7 +9,7 @@
 //! [`accounting_laws`].
 //!
 //! Options are in `ConfigValue.antt`, an automaton in `Dfas.antt`, a cache and how it belongs to its automaton in
-//! `Caches.antt`, steps in `Steps.antt`.
+//! `Caches.antt`, steps in `Steps.antt`, starts in `StartCalls.antt`.
 #![tactic(auto)]
 
 pub mod accounting_laws;
@@ -18,6 +18,7 @@ mod cache_error;
 mod cache_writes;
 mod config;
 pub mod dfa;
+mod dfa_starts;
 mod dfa_steps;
 mod lazy_id;
 mod making;
@@ -27,10 +28,12 @@ mod progress;
 pub mod quit_laws;
 pub mod reach_laws;
 pub mod scan_laws;
+mod start_error;
 mod starting;
 mod stepping;
 mod work;
 
 pub use cache_error::CacheError;
 pub use lazy_id::LazyStateID;
+pub use start_error::StartError;
 pub use work::Work;

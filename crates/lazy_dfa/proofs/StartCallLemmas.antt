@@ -1,0 +1,95 @@
+-- What start calls answer, by modes.
+use Rattle.std.proofs.Common.{◌≡◌, ◌≢◌, ℕ, zero, suc, ◌+◌, ◌*◌, ◌<◌, ◌≤◌, Bool, true, false, true≢false, ◌⊎◌, List, [], ◌∷◌, length, refl, sym, ap, ◌∙◌, subst, inl, inr, ⊎_elim, arith, Option, Some, None}
+use Rattle.std.specs.Prelude.{slice_get, All, MatchOption, IfSome, if◌then◌else◌}
+use Rattle.search_core.specs.Index.{greatest_index}
+use Rattle.search_types.specs.Modes.{is_supported}
+use Rattle.search_types.specs.declared.anchored.Anchored.{Anchored}
+use Rattle.search_types.specs.declared.anchored.Anchored.TheVariants.{No, Yes, Pattern}
+use Rattle.determinize_core.specs.Starts.{StartValue, start_of, number_of}
+use Rattle.determinize_core.specs.declared.start.Start.{Start}
+use Rattle.lazy_dfa.specs.Accounting.{Measures, start_count}
+use Rattle.lazy_dfa.specs.ConfigValue.{starts_each_of}
+use Rattle.lazy_dfa.specs.Dfas.{Dfa, IsDfa, start_in, first_state}
+use Rattle.lazy_dfa.specs.Ids.{dead_id}
+use Rattle.lazy_dfa.specs.Caches.{CacheValue, IsCacheOf, Names, slot, lacks_room}
+use Rattle.lazy_dfa.specs.Readers.{is_quit}
+use Rattle.lazy_dfa.specs.Steps.{IsCause}
+use Rattle.lazy_dfa.specs.StartCalls.{mode_of, quit_refusal, behind_refusal, mode_refusal, start_refusal, start_error_of, IsStart, IsStartCause}
+use Rattle.lazy_dfa.specs.declared.cache_error.CacheError.{CacheError}
+use Rattle.lazy_dfa.specs.declared.cache_error.CacheError.TheVariants.{GaveUp, NoMemory as CacheNoMemory}
+use Rattle.lazy_dfa.specs.declared.start_error.StartError.{StartError}
+use Rattle.lazy_dfa.specs.declared.start_error.StartError.TheVariants.{Cache, Quit, UnsupportedAnchored, NoMemory}
+use Rattle.lazy_dfa.proofs.IsCacheLemmas.{numbered_back}
+
+inside_of : {X : Type 0} (xs : List X) (k : ℕ) (x : X) → slice_get xs k ≡ Some x → k < length xs
+inside_of [] k x e = absurd cc
+inside_of (y ∷ ys) zero x e = omega arith
+inside_of (y ∷ ys) (suc k) x e = let l = inside_of ys k x e in omega (arith, l)
+
+starts_are : (d : Dfa) (v : CacheValue) → IsDfa d → IsCacheOf d v → length v.starts ≡ start_count (starts_each_of d.options) (length d.nfa.automaton.start_pattern)
+starts_are d v made own = own.slots ∙ ap (λ (m : Measures). m.starts) made.measured
+
+at_least : (each : Bool) (p : ℕ) → 14 ≤ start_count each p
+at_least true p = omega arith
+at_least false p = omega arith
+
+-- each mode that is supported, and has a state to start in, has its slots
+pub slot_inside : (d : Dfa) (v : CacheValue) (mode : Anchored) (s : Start) (q n : ℕ) → IsDfa d → IsCacheOf d v → mode_refusal d mode ≡ None → n ≡ mode_of mode →
+    start_in d n ≡ Some q → slot n s < length v.starts
+slot_inside d v No s q n made own fine e f =
+    let few = (numbered_back s).1 in let long = starts_are d v made own in let least = at_least (starts_each_of d.options) (length d.nfa.automaton.start_pattern) in
+    omega (arith, few, long, least, e)
+slot_inside d v Yes s q n made own fine e f =
+    let few = (numbered_back s).1 in let long = starts_are d v made own in let least = at_least (starts_each_of d.options) (length d.nfa.automaton.start_pattern) in
+    omega (arith, few, long, least, e)
+slot_inside d v (Pattern p) s q n made own fine e f =
+    let l : p < length d.nfa.automaton.start_pattern = inside_of d.nfa.automaton.start_pattern p q (ap (start_in d) (sym e) ∙ f) in
+    let few = (numbered_back s).1 in
+    let long : length v.starts ≡ 14 + 7 * length d.nfa.automaton.start_pattern =
+    starts_are d v made own ∙ ap (λ (b : Bool). start_count b (length d.nfa.automaton.start_pattern)) (on (starts_each_of d.options) fine) in
+    omega (arith, few, long, l, e)
+  where
+    on : (b : Bool) → (if b then None else Some (UnsupportedAnchored (Pattern p))) ≡ None → b ≡ true
+    on true e = refl
+    on false e = absurd cc
+
+-- ---- refusals
+
+quit_passes : (quits : Bool) (b : ℕ) (rest : Option StartError) → quit_refusal quits b rest ≡ None → rest ≡ None
+quit_passes true b rest e = absurd cc
+quit_passes false b rest e = e
+
+pub mode_fine : (d : Dfa) (c : StartValue) → start_refusal d c ≡ None → mode_refusal d c.anchored ≡ None
+mode_fine d c e = by_behind c.look_behind e
+  where
+    by_behind : (o : Option ℕ) → behind_refusal d o (mode_refusal d c.anchored) ≡ None → mode_refusal d c.anchored ≡ None
+    by_behind None e = e
+    by_behind (Some b) e = quit_passes (is_quit d.quits (Some b)) b (mode_refusal d c.anchored) e
+
+-- ---- answers
+
+pub no_start : (d : Dfa) (v : CacheValue) (c : StartValue) (id : ℕ) (o : Option ℕ) → None ≡ start_in d (mode_of c.anchored) → id ≡ dead_id v.stride → IsStart d v c id
+no_start d v c id o e f = subst (λ (o : Option ℕ). MatchOption o (id ≡ dead_id v.stride) (λ q. Names v id (first_state d (start_of d.nfa.terminator c.look_behind) q))) e f
+
+pub one_start : (d : Dfa) (v : CacheValue) (c : StartValue) (s : Start) (id q : ℕ) → Some q ≡ start_in d (mode_of c.anchored) → s ≡ start_of d.nfa.terminator c.look_behind →
+    Names v id (first_state d s q) → IsStart d v c id
+one_start d v c s id q e f n = subst (λ (o : Option ℕ). MatchOption o (id ≡ dead_id v.stride) (λ q. Names v id (first_state d (start_of d.nfa.terminator c.look_behind) q))) e
+    (subst (λ (t : Start). Names v id (first_state d t q)) f n)
+
+pub start_cause : (d : Dfa) (v : CacheValue) (c : StartValue) (s : Start) (q : ℕ) (e : CacheError) (r : StartError) → Some q ≡ start_in d (mode_of c.anchored) →
+    s ≡ start_of d.nfa.terminator c.look_behind → r ≡ start_error_of e → IsCause d v (first_state d s q) e → IsStartCause d v c r
+start_cause d v c s q e r named is told cause = ⊎_elim
+    (λ (m : e ≡ CacheNoMemory). inl (told ∙ ap start_error_of m))
+    (λ (g : (e ≡ GaveUp) × (lacks_room d v (first_state d s q) ≡ true)).
+    inr (
+      told ∙ ap start_error_of g.0,
+      subst (λ (o : Option ℕ). MatchOption o ⊥ (λ q. lacks_room d v (first_state d (start_of d.nfa.terminator c.look_behind) q) ≡ true)) named
+          (ap (λ (t : Start). lacks_room d v (first_state d t q)) (sym is) ∙ g.1),
+    ))
+    cause
+
+-- where nothing was refused the mode is supported
+pub fine_of : (d : Dfa) (c : StartValue) (r : Option StartError) (o : Option ℕ) (m : Anchored) → r ≡ None → r ≡ behind_refusal d o (mode_refusal d m) → o ≡ c.look_behind → m ≡ c.anchored →
+    mode_refusal d c.anchored ≡ None
+fine_of d c r o m none e f g =
+    mode_fine d c (ap (λ (o : Option ℕ). behind_refusal d o (mode_refusal d c.anchored)) (sym f) ∙ (ap (λ (m : Anchored). behind_refusal d o (mode_refusal d m)) (sym g) ∙ (sym e ∙ none)))
