@@ -1,5 +1,5 @@
 -- What the table, the list and the map keep to.
-use Rattle.std.proofs.Common.{◌≡◌, ◌≢◌, ℕ, zero, suc, ◌+◌, ◌-◌, ◌*◌, ◌<◌, ◌≤◌, Bool, true, false, cond, ◌⊎◌, List, [], ◌∷◌, ◌++◌, length, get_or, take, take_all, replicate, refl, sym, ap, ◌∙◌, subst, inl, inr, ⊎_elim, arith, length-append, Option, Some, None}
+use Rattle.std.proofs.Common.{◌≡◌, ℕ, zero, suc, ◌+◌, ◌-◌, ◌*◌, ◌<◌, ◌≤◌, Bool, true, false, cond, List, [], ◌∷◌, ◌++◌, length, get_or, take, take_all, replicate, refl, sym, ap, ◌∙◌, subst, ⊎_elim, arith, length-append, Option, Some, None}
 use Rattle.std.proofs.lemmas.Bool.Decides.{same_from_decides, Decides-like}
 use Rattle.std.proofs.lemmas.Slice.Eq.{bytes_eq-Decides}
 use Rattle.std.specs.Map.{lookup}
@@ -13,7 +13,7 @@ use Rattle.lazy_dfa.specs.Dfas.{cost}
 use Rattle.lazy_dfa.specs.Accounting.{states_cost}
 use Rattle.lazy_dfa.specs.Ids.{tagged, tag, unknown_id}
 use Rattle.lazy_dfa.specs.declared.progress.Progress.{Progress}
-use Rattle.lazy_dfa.specs.Caches.{CacheValue, IsShaped, IsTagged, IsKept, Agrees, same, place_of, state_at, id_at, new_id, with_state, cleared, usage, empty_cache, sentinel_rows}
+use Rattle.lazy_dfa.specs.Caches.{CacheValue, IsShaped, IsKept, Agrees, same, place_of, state_at, new_id, with_state, cleared, empty_cache, sentinel_rows}
 use Rattle.lazy_dfa.proofs.ListLemmas.{or_last, or_last-false, pf-append, none_at, one_longer, below_or_last, at_old, at_last}
 
 pub Agrees-place : {S : Type 0} (states : List StateValue) (m : HashMap StateValue ℕ S) (q : StateValue) → Agrees states m → get_by (same q) m ≡ place_of q states

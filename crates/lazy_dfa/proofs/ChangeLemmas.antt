@@ -1,5 +1,5 @@
 -- What calls change of a cache: nothing, a state more, a step more, or all but two states.
-use Rattle.std.proofs.Common.{◌≡◌, ◌≢◌, ℕ, ◌+◌, ◌*◌, ◌%◌, ◌/◌, ◌-◌, ◌<◌, ◌≤◌, Bool, true, false, ◌⊎◌, List, [], ◌∷◌, ◌++◌, length, get_or, set, replicate, refl, sym, ap, ◌∙◌, subst, inl, inr, ⊎_elim, arith, true≢false, Option, Some, None, length-set, get_or-set_same, get_or-set_other}
+use Rattle.std.proofs.Common.{◌≡◌, ◌≢◌, ℕ, ◌+◌, ◌%◌, ◌/◌, ◌-◌, ◌<◌, ◌≤◌, Bool, true, false, ◌⊎◌, List, length, get_or, set, replicate, refl, sym, ap, ◌∙◌, subst, inl, inr, ⊎_elim, arith, true≢false, Option, Some, None, get_or-set_same, get_or-set_other}
 use Rattle.std.proofs.lemmas.Bool.{cases_lt, cases_eq, cases_Bool}
 use Rattle.std.proofs.lemmas.Bool.Decides.{leb_tells}
 use Rattle.std.specs.Prelude.{nat_le, not, ◌&&◌, is_none}
@@ -12,13 +12,13 @@ use Rattle.determinize_core.specs.States.{StateValue, dead}
 use Rattle.lazy_dfa.specs.ConfigValue.{clears_of, bytes_of}
 use Rattle.lazy_dfa.specs.Readers.{is_quit}
 use Rattle.lazy_dfa.specs.Dfas.{Dfa, IsDfa, IsUnit, after, class_of, is_dead, cost}
-use Rattle.lazy_dfa.specs.Ids.{tag, unknown_id, dead_id, quit_id, is_sentinel}
+use Rattle.lazy_dfa.specs.Ids.{tag, unknown_id, is_sentinel}
 use Rattle.lazy_dfa.specs.Caches.{CacheValue, IsShaped, IsCacheOf, Leads, Names, names_dead, names_held, HeldAt, IsRow, same, place_of, state_at, id_at, cell_at, with_state, cleared, usage, fits, Fits, is_refused, lacks_room}
-use Rattle.lazy_dfa.specs.Steps.{IsHeld, StepsTo, Added, Grew, WasCleared, MadeRoom, AddsOrClears, KeepsOrClears, noted, IsKnown, IsNoted, GivesUp, IsCause, IsStepCause}
+use Rattle.lazy_dfa.specs.Steps.{IsHeld, StepsTo, Added, WasCleared, MadeRoom, AddsOrClears, KeepsOrClears, noted, IsKnown, IsNoted, GivesUp, IsCause, IsStepCause}
 use Rattle.lazy_dfa.specs.declared.cache_error.CacheError.{CacheError}
 use Rattle.lazy_dfa.specs.declared.cache_error.CacheError.TheVariants.{GaveUp, NoMemory}
 use Rattle.lazy_dfa.proofs.ListLemmas.{one_longer}
-use Rattle.lazy_dfa.proofs.IsCacheLemmas.{names_added, names_cells, place_inside, untagged, row_place, row_is_plain, same_row, same_place, known_leads, row_is_low, row_of_held, row_quotient, le_of, lt_of}
+use Rattle.lazy_dfa.proofs.IsCacheLemmas.{names_added, names_cells, place_inside, untagged, row_place, row_is_plain, same_row, row_of_held, row_quotient, le_of, lt_of}
 
 -- ---- a state more
 

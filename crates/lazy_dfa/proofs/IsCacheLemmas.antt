@@ -1,9 +1,8 @@
 -- How a cache stays its automaton's.
-use Rattle.std.proofs.Common.{◌≡◌, ◌≢◌, ℕ, zero, suc, ◌+◌, ◌-◌, ◌*◌, ◌%◌, ◌/◌, ◌<◌, ◌≤◌, Bool, true, false, cond, ◌⊎◌, List, [], ◌∷◌, ◌++◌, length, get_or, set, take, replicate, refl, sym, ap, ◌∙◌, subst, inl, inr, ⊎_elim, arith, true≢false, Option, Some, None, length-set, get_or-set_same, get_or-set_other}
-use Rattle.std.proofs.lemmas.Bool.{cases_lt, cases_eq, cases_Bool}
+use Rattle.std.proofs.Common.{◌≡◌, ◌≢◌, ℕ, zero, suc, ◌+◌, ◌*◌, ◌%◌, ◌/◌, ◌<◌, ◌≤◌, Bool, true, false, ◌⊎◌, List, [], ◌∷◌, ◌++◌, length, get_or, set, replicate, refl, sym, ap, ◌∙◌, subst, inl, inr, ⊎_elim, arith, true≢false, Option, Some, None, length-set, get_or-set_same, get_or-set_other}
+use Rattle.std.proofs.lemmas.Bool.{cases_lt, cases_eq}
 use Rattle.std.proofs.lemmas.Slice.Eq.{bytes_eq-Decides}
 use Rattle.std.proofs.Math.Nat.{mul-le-mul_left, mul-div_cancel}
-use Rattle.std.specs.List.{position_from}
 use lib.ListN.{get_or-append, get_or-replicate, length-replicate}
 use lib.Seq.{get_or-append-add}
 use Rattle.determinize_core.specs.States.{StateValue, dead, IsState}
@@ -11,16 +10,15 @@ use Rattle.determinize_core.specs.StateBytes.{encoded, is_match}
 use Rattle.determinize_core.specs.Starts.{number_of}
 use Rattle.determinize_core.specs.declared.start.Start.{Start}
 use Rattle.determinize_core.specs.declared.start.Start.TheVariants.{NonWordByte, WordByte, Text, LineLF, LineCR, CustomLineTerminator, CustomWordLineTerminator}
-use Rattle.lazy_dfa.specs.Accounting.{states_cost, fresh_usage}
 use Rattle.lazy_dfa.specs.ConfigValue.{kind_of}
 use Rattle.lazy_dfa.specs.Readers.{is_quit}
-use Rattle.lazy_dfa.specs.Dfas.{Dfa, IsDfa, IsStateOf, IsUnit, Alike, after, first_state, start_in, class_of, is_dead, is_empty, cost}
-use Rattle.lazy_dfa.specs.Ids.{tag, tagged, unknown_id, dead_id, quit_id}
-use Rattle.lazy_dfa.specs.Caches.{CacheValue, IsShaped, IsCacheOf, Leads, Names, names_dead, names_held, HeldAt, IsRow, same, place_of, state_at, id_at, cell_at, slot, Begins, new_id, with_state, cleared, usage, Fits, empty_cache}
+use Rattle.lazy_dfa.specs.Dfas.{Dfa, IsDfa, IsStateOf, IsUnit, Alike, after, first_state, start_in, class_of, is_dead, is_empty}
+use Rattle.lazy_dfa.specs.Ids.{tag, tagged, unknown_id, quit_id}
+use Rattle.lazy_dfa.specs.Caches.{CacheValue, IsShaped, IsCacheOf, Leads, Names, names_dead, names_held, HeldAt, IsRow, same, place_of, state_at, id_at, cell_at, slot, Begins, new_id, with_state, cleared, Fits}
 use Rattle.lazy_dfa.proofs.ListLemmas.{found_at, one_longer, below_or_last, at_old, at_last}
-use Rattle.lazy_dfa.proofs.CacheLemmas.{IsShaped-added, IsShaped-cleared, IsShaped-empty, states_cost-append, grown, place_in_none, place_in_one, fresh_at}
+use Rattle.lazy_dfa.proofs.CacheLemmas.{IsShaped-added, IsShaped-cleared, states_cost-append, grown, place_in_none, place_in_one, fresh_at}
 use Rattle.std.proofs.lemmas.Bool.Decides.{leb_tells, Decides-eqb}
-use Rattle.std.specs.Prelude.{nat_le, ◌&&◌, ◌==◌, not, IfSome, min, MatchOption}
+use Rattle.std.specs.Prelude.{nat_le, ◌&&◌, ◌==◌, not, IfSome}
 use Rattle.determinize_core.specs.Steps.{step_value, start_value}
 use Rattle.determinize_core.proofs.ForCallers.{step_stepped, start_stepped, stepped_short}
 use Rattle.determinize_core.specs.Stepped.{IsStepped, widest}

@@ -26,3 +26,4 @@ pub mod IsCacheLemmas
 pub mod ChangeLemmas
 pub mod MadeLemmas
 pub mod StartCallLemmas
+pub mod ForCallers

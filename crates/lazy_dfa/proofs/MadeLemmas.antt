@@ -1,12 +1,12 @@
 -- A cache that was just made is its automaton's.
-use Rattle.std.proofs.Common.{◌≡◌, ◌≢◌, ℕ, ◌+◌, ◌*◌, ◌<◌, ◌≤◌, Bool, true, false, length, get_or, replicate, refl, sym, ap, ◌∙◌, subst, arith, Option, Some, None}
+use Rattle.std.proofs.Common.{◌≡◌, ℕ, ◌+◌, ◌<◌, ◌≤◌, Bool, true, false, length, refl, sym, ap, ◌∙◌, subst, arith, None}
 use lib.ListN.{get_or-replicate, length-replicate}
 use Rattle.search_core.specs.Index.{greatest_index}
-use Rattle.lazy_dfa.specs.Accounting.{Measures, measures_of, start_count, fresh_usage, least_capacity}
+use Rattle.lazy_dfa.specs.Accounting.{Measures, start_count, fresh_usage}
 use Rattle.lazy_dfa.specs.ConfigValue.{starts_each_of}
 use Rattle.lazy_dfa.specs.Dfas.{Dfa, IsDfa}
 use Rattle.lazy_dfa.specs.Ids.{unknown_id}
-use Rattle.lazy_dfa.specs.Caches.{CacheValue, IsCacheOf, slot, empty_cache, made_for}
+use Rattle.lazy_dfa.specs.Caches.{IsCacheOf, slot, empty_cache, made_for}
 use Rattle.lazy_dfa.proofs.CacheLemmas.{IsShaped-empty}
 
 module _ (d : Dfa) (made : IsDfa d) where

@@ -1,11 +1,9 @@
 -- What start calls answer, by modes.
-use Rattle.std.proofs.Common.{◌≡◌, ◌≢◌, ℕ, zero, suc, ◌+◌, ◌*◌, ◌<◌, ◌≤◌, Bool, true, false, true≢false, ◌⊎◌, List, [], ◌∷◌, length, refl, sym, ap, ◌∙◌, subst, inl, inr, ⊎_elim, arith, Option, Some, None}
-use Rattle.std.specs.Prelude.{slice_get, All, MatchOption, IfSome, if◌then◌else◌}
-use Rattle.search_core.specs.Index.{greatest_index}
-use Rattle.search_types.specs.Modes.{is_supported}
+use Rattle.std.proofs.Common.{◌≡◌, ℕ, zero, suc, ◌+◌, ◌*◌, ◌<◌, ◌≤◌, Bool, true, false, List, [], ◌∷◌, length, refl, sym, ap, ◌∙◌, subst, inl, inr, ⊎_elim, arith, Option, Some, None}
+use Rattle.std.specs.Prelude.{slice_get, MatchOption, if◌then◌else◌}
 use Rattle.search_types.specs.declared.anchored.Anchored.{Anchored}
 use Rattle.search_types.specs.declared.anchored.Anchored.TheVariants.{No, Yes, Pattern}
-use Rattle.determinize_core.specs.Starts.{StartValue, start_of, number_of}
+use Rattle.determinize_core.specs.Starts.{StartValue, start_of}
 use Rattle.determinize_core.specs.declared.start.Start.{Start}
 use Rattle.lazy_dfa.specs.Accounting.{Measures, start_count}
 use Rattle.lazy_dfa.specs.ConfigValue.{starts_each_of}
@@ -18,7 +16,7 @@ use Rattle.lazy_dfa.specs.StartCalls.{mode_of, quit_refusal, behind_refusal, mod
 use Rattle.lazy_dfa.specs.declared.cache_error.CacheError.{CacheError}
 use Rattle.lazy_dfa.specs.declared.cache_error.CacheError.TheVariants.{GaveUp, NoMemory as CacheNoMemory}
 use Rattle.lazy_dfa.specs.declared.start_error.StartError.{StartError}
-use Rattle.lazy_dfa.specs.declared.start_error.StartError.TheVariants.{Cache, Quit, UnsupportedAnchored, NoMemory}
+use Rattle.lazy_dfa.specs.declared.start_error.StartError.TheVariants.{UnsupportedAnchored}
 use Rattle.lazy_dfa.proofs.IsCacheLemmas.{numbered_back}
 
 inside_of : {X : Type 0} (xs : List X) (k : ℕ) (x : X) → slice_get xs k ≡ Some x → k < length xs

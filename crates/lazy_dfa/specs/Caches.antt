@@ -1,5 +1,5 @@
 -- What contracts see of a cache, and how it belongs to an automaton.
-use Rattle.std.specs.Prelude.{◌≡◌, ◌≢◌, ◌<◌, ◌≤◌, ◌+◌, ◌-◌, ◌*◌, ◌/◌, ◌%◌, ◌⊎◌, ℕ, Bool, true, false, List, [], ◌∷◌, ◌++◌, length, Option, Some, None, slice_index, slice_index_or, slice_set, take, replicate, min, not, nat_le, ◌&&◌, is_none}
+use Rattle.std.specs.Prelude.{◌≡◌, ◌≢◌, ◌<◌, ◌≤◌, ◌+◌, ◌-◌, ◌*◌, ℕ, Bool, true, false, List, [], ◌∷◌, ◌++◌, length, Option, Some, None, slice_index_or, take, replicate, min, not, nat_le, ◌&&◌, is_none}
 use Rattle.std.specs.List.{position_from}
 use Rattle.std.specs.Str.{bytes_eq}
 use Rattle.std.specs.HashMap.{HashMap, get_by}
@@ -10,7 +10,7 @@ use Rattle.determinize_core.specs.declared.start.Start.{Start}
 use Rattle.lazy_dfa.specs.Accounting.{fresh_usage, states_cost}
 use Rattle.lazy_dfa.specs.ConfigValue.{clears_of, bytes_of}
 use Rattle.lazy_dfa.specs.Dfas.{Dfa, after, first_state, start_in, IsUnit, class_of, IsStateOf, cost, is_dead}
-use Rattle.lazy_dfa.specs.Ids.{tag, has_tag, start_tag, unknown_id, dead_id, quit_id, tagged}
+use Rattle.lazy_dfa.specs.Ids.{tag, unknown_id, dead_id, quit_id, tagged}
 use Rattle.lazy_dfa.specs.Readers.{is_quit}
 use Rattle.lazy_dfa.specs.declared.progress.Progress.{Progress}
 

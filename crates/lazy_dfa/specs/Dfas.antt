@@ -1,6 +1,5 @@
 -- What contracts see of an automaton that is determinized as it is used, and what each such automaton keeps to.
-use Rattle.std.specs.Prelude.{◌≡◌, ◌<◌, ◌≤◌, ◌+◌, ◌*◌, ℕ, Bool, true, false, List, All, length, Option, Some, None, slice_index, slice_index_or, slice_get, zero, suc, ⊤, [], ◌∷◌, ◌&&◌, ◌==◌, not}
-use Rattle.search_types.specs.declared.match_kind.MatchKind.{MatchKind}
+use Rattle.std.specs.Prelude.{◌≡◌, ◌<◌, ◌≤◌, ◌+◌, ℕ, Bool, true, false, List, length, Option, Some, None, slice_index, slice_get, zero, suc, ⊤, [], ◌∷◌, ◌&&◌, ◌==◌, not}
 use Rattle.nfa_core.specs.NfaValue.{Nfa, IsSound}
 use Rattle.determinize_core.specs.States.{StateValue}
 use Rattle.determinize_core.specs.StateBytes.{encoded}

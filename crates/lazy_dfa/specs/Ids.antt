@@ -1,6 +1,6 @@
 -- The numbers that name the states of a cache: the place of the state's first transition in the table, with tags in the
 -- five highest bits. Rows 0, 1 and 2 of the table are those of three sentinels, which are no states.
-use Rattle.std.specs.Prelude.{ℕ, ◌+◌, ◌*◌, ◌/◌, ◌%◌, ◌==◌, ◌||◌, Bool, nat_le}
+use Rattle.std.specs.Prelude.{ℕ, ◌+◌, ◌*◌, ◌/◌, ◌%◌, ◌==◌, Bool, nat_le}
 use Rattle.determinize_core.specs.StateBytes.{flag_if}
 
 -- from the least tag on

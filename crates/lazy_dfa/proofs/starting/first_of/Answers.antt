@@ -1,4 +1,4 @@
-use Rattle.std.proofs.Common.{◌∙◌, ap}
+use Rattle.std.proofs.Common.{ap}
 use Rattle.nfa_core.specs.NfaValue.{Nfa}
 use Rattle.lazy_dfa.proofs.IsCacheLemmas.{first_of, first_is}
 use Rattle.lazy_dfa.proofs.starting.first_of.Goals as goal

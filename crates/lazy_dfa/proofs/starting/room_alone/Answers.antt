@@ -1,6 +1,6 @@
-use Rattle.std.proofs.Common.{◌∙◌, ◌≡◌, sym, subst, ap, None, inr, refl, length}
+use Rattle.std.proofs.Common.{◌∙◌, sym, subst, ap, inr, refl, length}
 use lib.ListN.{length-replicate}
-use Rattle.lazy_dfa.specs.Caches.{CacheValue, IsCacheOf, Fits, place_of}
+use Rattle.lazy_dfa.specs.Caches.{CacheValue, IsCacheOf, Fits}
 use Rattle.lazy_dfa.proofs.CacheLemmas.{place_in_none}
 use Rattle.lazy_dfa.proofs.IsCacheLemmas.{is_cache_cleared, fits_in_cleared}
 use Rattle.lazy_dfa.proofs.ChangeLemmas.{fits_is, lacks_not_fitting, lacks_not_allowed, lacks_all}

@@ -1,5 +1,4 @@
-use Rattle.std.proofs.Common.{◌∙◌, ◌≡◌, ◌+◌, ◌*◌, ◌<◌, ℕ, sym, subst, ap, length}
-use Rattle.lazy_dfa.specs.declared.cache_error.CacheError.{CacheError}
+use Rattle.std.proofs.Common.{◌∙◌, ◌+◌, ◌*◌, ◌<◌, ℕ, sym, subst, ap, length}
 use Rattle.determinize_core.specs.States.{StateValue}
 use Rattle.lazy_dfa.specs.Caches.{CacheValue, IsCacheOf, slot}
 use Rattle.lazy_dfa.specs.Steps.{IsCause}

@@ -1,8 +1,6 @@
-use Rattle.std.proofs.Common.{◌∙◌, ◌≡◌, sym, subst, ap, ◌+◌, ◌%◌, ◌<◌, ℕ, length}
+use Rattle.std.proofs.Common.{sym, subst, ◌<◌, length}
 use Rattle.search_core.specs.Units.{unit_byte}
-use Rattle.determinize_core.specs.States.{StateValue}
 use Rattle.lazy_dfa.specs.Caches.{CacheValue, IsCacheOf, HeldAt, Leads, state_at}
-use Rattle.lazy_dfa.specs.Dfas.{after}
 use Rattle.lazy_dfa.specs.Steps.{AddsOrClears, KeepsOrClears}
 use Rattle.lazy_dfa.proofs.IsCacheLemmas.{row_place, is_cache_stepped, leads_stepped, leads_to, steps_of_row}
 use Rattle.lazy_dfa.proofs.ChangeLemmas.{grew_refl, grew_of, grew_set, set_is_noted, step_cause, no_cause}

@@ -1,4 +1,4 @@
-use Rattle.std.proofs.Common.{◌∙◌, ◌≡◌, sym, subst, None, inl, inr, refl, ℕ}
+use Rattle.std.proofs.Common.{◌∙◌, ◌≡◌, sym, subst, None, inr, refl, ℕ}
 use Rattle.lazy_dfa.specs.Ids.{has_tag, start_tag}
 use Rattle.lazy_dfa.specs.Caches.{CacheValue, IsCacheOf, HeldAt, Fits, id_at, state_at, place_of, with_state, cleared}
 use Rattle.lazy_dfa.proofs.IsCacheLemmas.{is_cache_kept, is_cache_refused, fresh_beside, kept_held, fits_beside}

@@ -1,7 +1,6 @@
-use Rattle.std.proofs.Common.{◌∙◌, ◌≡◌, sym, subst, ap, false, ℕ, refl, inl, Some}
+use Rattle.std.proofs.Common.{◌∙◌, sym, subst, ap, false, ℕ, refl, inl, Some}
 use Rattle.lazy_dfa.specs.Ids.{dead_id}
 use Rattle.lazy_dfa.specs.Caches.{CacheValue, IsCacheOf, HeldAt, Names, names_dead, names_held, state_at, with_state}
-use Rattle.lazy_dfa.specs.Steps.{AddsOrClears}
 use Rattle.lazy_dfa.proofs.IsCacheLemmas.{is_cache_added, alive_of, dead_of, held_added, new_held}
 use Rattle.lazy_dfa.proofs.ChangeLemmas.{added_refl, adds_after, adds_nothing, lacks_not_dead, lacks_not_found}
 use Rattle.lazy_dfa.proofs.stepping.place.Goals as goal

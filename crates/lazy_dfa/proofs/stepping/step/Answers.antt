@@ -1,8 +1,7 @@
-use Rattle.std.proofs.Common.{◌∙◌, ◌≡◌, ◌≢◌, sym, subst, ap, set, ◌+◌, ◌%◌, ℕ, refl, inl, inr, ⊎_elim, Ok, true≢false, true, false}
+use Rattle.std.proofs.Common.{◌∙◌, sym, ap, ℕ, refl, inl, inr, Ok, true≢false}
 use Rattle.search_core.specs.Units.{unit_byte}
-use Rattle.lazy_dfa.specs.Ids.{tag, quit_id, unknown_id, is_sentinel}
-use Rattle.lazy_dfa.specs.Caches.{CacheValue, Leads, HeldAt, IsRow, state_at}
-use Rattle.lazy_dfa.specs.Steps.{noted, IsKnown}
+use Rattle.lazy_dfa.specs.Ids.{quit_id}
+use Rattle.lazy_dfa.specs.Caches.{state_at}
 use Rattle.lazy_dfa.proofs.IsCacheLemmas.{no_step, row_place, row_of_held, known_leads, is_cache_stepped, leads_quit, leads_stepped, steps_of_row}
 use Rattle.lazy_dfa.proofs.ChangeLemmas.{grew_refl, grew_set, set_is_noted, added_refl, no_row, noted_read, unknown_here, not_known, known_cell}
 use Rattle.lazy_dfa.proofs.stepping.step.Goals as goal

@@ -1,5 +1,5 @@
-use Rattle.std.proofs.Common.{arith, length, sym, ap, subst, ◌∙◌, ◌+◌, ◌*◌, ◌≡◌, ◌++◌, ◌∷◌, [], ℕ, Bool, List, cond, Some, vec_len, replicate}
-use Rattle.determinize_core.specs.States.{StateValue, IsState}
+use Rattle.std.proofs.Common.{length, sym, ap, subst, ◌∙◌, ◌+◌, ◌*◌, ◌≡◌, ℕ, Bool, cond, Some, vec_len}
+use Rattle.determinize_core.specs.States.{IsState}
 use Rattle.lazy_dfa.specs.Ids.{unknown_id, tagged}
 use Rattle.lazy_dfa.specs.Caches.{CacheValue, IsKept, same, with_state}
 use Rattle.determinize_core.specs.StateBytes.{is_match}

@@ -1,9 +1,9 @@
-use Rattle.std.proofs.Common.{◌∙◌, ◌≡◌, ap, sym, subst}
+use Rattle.std.proofs.Common.{◌∙◌, ap, sym, subst}
 use Rattle.search_core.specs.Units.{unit_byte}
 use Rattle.determinize_core.specs.States.{StateValue}
 use Rattle.determinize_core.specs.Stepped.{IsStepped}
 use Rattle.determinize_core.specs.Steps.{step_value}
-use Rattle.lazy_dfa.specs.Caches.{CacheValue, state_at}
+use Rattle.lazy_dfa.specs.Caches.{CacheValue}
 use Rattle.lazy_dfa.proofs.CacheLemmas.{read_state}
 use Rattle.lazy_dfa.proofs.cache.Cache.behind.Goals as goal
 

@@ -1,4 +1,4 @@
-use Rattle.std.proofs.Common.{◌∙◌, sym}
+use Rattle.std.proofs.Common.{◌∙◌}
 use Rattle.lazy_dfa.proofs.CacheLemmas.{Agrees-place}
 use Rattle.lazy_dfa.proofs.IsCacheLemmas.{held_some, row_some}
 use Rattle.lazy_dfa.proofs.cache.Cache.find.Goals as goal

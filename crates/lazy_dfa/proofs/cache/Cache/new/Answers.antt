@@ -1,5 +1,4 @@
 use Rattle.std.proofs.Common.{◌≡◌, ◌∙◌, sym, subst}
-use Rattle.lazy_dfa.specs.Accounting.{Measures}
 use Rattle.lazy_dfa.specs.Caches.{IsCacheOf, made_for}
 use Rattle.lazy_dfa.proofs.MadeLemmas.{is_cache_made, made_value}
 use Rattle.lazy_dfa.proofs.cache.Cache.new.Goals as goal

@@ -1,4 +1,4 @@
-use Rattle.std.proofs.Common.{◌∙◌, ◌≡◌, ◌+◌, ◌-◌, ◌/◌, ◌%◌, ◌<◌, ℕ, sym, ap, subst, arith, length}
+use Rattle.std.proofs.Common.{◌∙◌, ◌≡◌, ◌-◌, ◌/◌, ◌%◌, sym, ap, arith}
 use Rattle.lazy_dfa.specs.Caches.{id_at}
 use Rattle.lazy_dfa.proofs.IsCacheLemmas.{row_quotient}
 use Rattle.lazy_dfa.proofs.cache.Cache.row.Goals as goal

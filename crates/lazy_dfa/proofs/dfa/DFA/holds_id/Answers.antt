@@ -1,7 +1,6 @@
-use Rattle.std.proofs.Common.{◌≡◌, ◌∙◌, ◌⊎◌, ℕ, ap, sym, true≢false, refl, inl, inr, true}
+use Rattle.std.proofs.Common.{◌≡◌, ◌∙◌, ◌⊎◌, ap, sym, true≢false, refl, inl, inr, true}
 use Rattle.std.proofs.lemmas.Bool.Decides.{Decides-eqb}
 use Rattle.lazy_dfa.specs.Ids.{unknown_id, dead_id, quit_id}
-use Rattle.lazy_dfa.specs.Caches.{IsRow}
 use Rattle.lazy_dfa.specs.Steps.{IsHeld}
 use Rattle.lazy_dfa.proofs.dfa.DFA.holds_id.Goals as goal
 

@@ -1,4 +1,4 @@
-use Rattle.std.proofs.Common.{◌≡◌, ◌<◌, ◌∙◌, sym, ap, subst, length, get_or, refl}
+use Rattle.std.proofs.Common.{◌<◌, ◌∙◌, sym, ap, subst, length, get_or, refl}
 use Rattle.determinize_core.specs.States.{StateValue}
 use Rattle.lazy_dfa.specs.Caches.{state_at}
 use Rattle.lazy_dfa.proofs.ChangeLemmas.{one_state}

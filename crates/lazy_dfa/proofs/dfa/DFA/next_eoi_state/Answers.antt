@@ -1,7 +1,7 @@
-use Rattle.std.proofs.Common.{◌≡◌, ℕ, Option, Some, None, ap, subst}
+use Rattle.std.proofs.Common.{subst}
 use Rattle.search_core.specs.Units.{unit_byte}
 use Rattle.search_core.specs.declared.unit.Unit.{Unit as InputUnit}
-use Rattle.lazy_dfa.specs.Steps.{StepsTo, IsNoted, IsKnown}
+use Rattle.lazy_dfa.specs.Steps.{StepsTo, IsNoted}
 use Rattle.lazy_dfa.proofs.ChangeLemmas.{step_held}
 use Rattle.lazy_dfa.proofs.dfa.DFA.next_eoi_state.Goals as goal
 

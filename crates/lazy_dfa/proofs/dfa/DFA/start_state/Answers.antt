@@ -1,6 +1,6 @@
-use Rattle.std.proofs.Common.{◌∙◌, ◌≡◌, ap, sym, Some, None}
+use Rattle.std.proofs.Common.{◌∙◌, ap, sym}
 use Rattle.lazy_dfa.specs.Dfas.{start_in}
-use Rattle.lazy_dfa.specs.StartCalls.{mode_of, mode_refusal}
+use Rattle.lazy_dfa.specs.StartCalls.{mode_of}
 use Rattle.lazy_dfa.proofs.StartCallLemmas.{slot_inside, fine_of}
 use Rattle.lazy_dfa.proofs.dfa.DFA.start_state.Goals as goal
 
