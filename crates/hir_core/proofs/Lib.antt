@@ -19,3 +19,9 @@ pub mod SequenceLemmas
 pub mod SequenceTreeLemmas
 pub mod KeptLemmas
 pub mod CutLemmas
+pub mod BoundedSpanLemmas
+pub mod LocalLookLemmas
+pub mod TwoTextsLemmas
+pub mod EmptyLemmas
+pub mod BackwardLemmas
+pub mod ForCallers

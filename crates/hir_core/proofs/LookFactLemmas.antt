@@ -5,8 +5,7 @@ use Rattle.std.proofs.lemmas.Bool.{cases_Bool, and_parts, or_cases, eqb-true, eq
 use Rattle.look_core.specs.declared.look.Look.{Look}
 use Rattle.look_core.specs.Codes.{bit_of, repr}
 use Rattle.look_core.specs.LookSets.{has_look, union_of, shared_by}
-use Rattle.look_core.proofs.LookRows.{same_from_bit}
-use Rattle.look_core.proofs.LookSetLemmas.{has_look-union, has_look-shared, has_look-repr, has_look-none}
+use Rattle.look_core.proofs.ForCallers.{same_from_bit, has_look-union, has_look-shared, has_look-repr, has_look-none}
 use Rattle.hir_core.specs.Tree.{Tree, empty, literal, byte_class, char_class, look, repetition, capture, nothing, cat, never, alt}
 use Rattle.hir_core.specs.Means.{Looks, Means, Rounds}
 use Rattle.hir_core.specs.Facts.{maximum_len, is_never, reads_nothing, if_owed, look_set, look_set_prefix, look_set_suffix}

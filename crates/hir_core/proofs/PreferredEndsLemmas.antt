@@ -2,10 +2,11 @@
 use Rattle.std.proofs.Common.{◌≡◌, ℕ, zero, suc, ◌+◌, ◌-◌, ◌≤◌, Bool, true, List, length, Option, Some, None, slice_get, refl, sym, ap, ◌∙◌, subst, inl, inr, arith}
 use Rattle.hir_core.specs.Tree.{Tree, empty, literal, byte_class, char_class, look, repetition, capture, nothing, cat, never, alt}
 use Rattle.hir_core.specs.Means.{Looks, Means, Rounds, AtMost, is_member}
+use Rattle.hir_core.specs.Spans.{IsSpan}
 use Rattle.hir_core.specs.PreferredEnds.{Ends, up_to, at_least, between, repeated, class_end, preferred_ends, Has}
 use Rattle.std.proofs.Math.Nat.{eq-or-lt_of_le}
 use Rattle.hir_core.proofs.HasLemmas.{Has-left, Has-right, Has-append, Has-flat_map, Has-into-flat_map, Has-in_order, Has-more, Has-stop, Has-if, Has-then}
-use Rattle.hir_core.proofs.SpanLemmas.{IsSpan, IsSpan-Means}
+use Rattle.hir_core.proofs.SpanLemmas.{IsSpan-Means}
 use Rattle.hir_core.proofs.SpellingLemmas.{character_end_sound, character_end_complete}
 
 -- Each end of the body is a span of R, so each end of a repetition is of rounds of R.

@@ -8,23 +8,10 @@ use Rattle.std.proofs.lemmas.Bool.{and_parts, and_from, cond-true, cond-false, l
 use Rattle.std.proofs.lemmas.Bool.Decides.{eqb_tells, nat_tests}
 use Rattle.std.proofs.lemmas.Option.{none-some, slice_get-map, slice_get_past}
 use Rattle.search_core.specs.Utf8.{scalar_of_two, scalar_of_three, scalar_of_four, Spells}
-use Rattle.search_core.proofs.Utf8Lemmas.{spelling_encodes, encoded_spells, one_scalar, encode_two, encode_three, encode_four, range-of_IsScalar, IsScalar-of_range}
+use Rattle.search_core.proofs.ForCallers.{spelling_encodes, encoded_spells, one_scalar, encode_two, encode_three, encode_four, range-of_IsScalar, IsScalar-of_range}
 use Rattle.hir_core.specs.Sequences.{scalar_from, row_end, block_end, piece_end, pieces_of, pieces, spelling_of, byte_ranges, utf8_sequences, is_in_ranges, begins_in_ranges}
+use Rattle.hir_core.specs.Pieces.{Aligned, Blocks, IsPiece, IsPieceOf, Rises}
 use Rattle.hir_core.proofs.SequenceSteps.{never, piece_between, pieces_first, pieces_none, scalar_above}
-
--- ---- what is known of a piece from f to e
-abbrev pub Aligned : ℕ → ℕ → ℕ → Type 0
-Aligned size f e = (f / size ≡ e / size) ⊎ ((f % size ≡ 0) × (e % size ≡ size - 1))
-
-abbrev pub Blocks : ℕ → ℕ → Type 0
-Blocks f e = Aligned 64 f e × Aligned 4096 f e × Aligned 262144 f e
-
-abbrev pub IsPiece : ℕ → ℕ → Type 0
-IsPiece f e =
-    (f ≤ e)
-    × ((e ≤ 0x7F)
-    ⊎ (((0x80 ≤ f) × (e ≤ 0x7FF) × Blocks f e)
-    ⊎ (((0x800 ≤ f) × (e ≤ 0xD7FF) × Blocks f e) ⊎ (((0xE000 ≤ f) × (e ≤ 0xFFFF) × Blocks f e) ⊎ ((0x10000 ≤ f) × (e ≤ 0x10FFFF) × Blocks f e)))))
 
 -- where a piece of whole blocks ends
 abbrev EndsAt : ℕ → ℕ → ℕ → ℕ → Type 0
@@ -159,6 +146,9 @@ encoded c = elim (cases_lt c 0x80) [
     | inr l ↦ elim (cases_lt c 0x10000) [ inl a ↦ encode_three c l a ∙ sym (spelled_three c l (omega arith)) | inr l ↦ encode_four c l ∙ sym (spelled_four c l) ]
   ]
 ]
+
+pub spelled_encoded : (c : ℕ) → spelling_of c ≡ encode_utf8 c
+spelled_encoded c = sym (encoded c)
 
 -- ---- every spelling of a piece is in its ranges
 abbrev Between : ℕ → ℕ → ℕ → Type 0
@@ -364,10 +354,6 @@ same_value : {A : Type 0} → (x y : A) → Some x ≡ Some y → x ≡ y
 same_value x y e = ap (λ o. unwrap_or o x) e
 
 -- ---- the pieces of a range
-abbrev pub Rises : ℕ → ℕ → List (ℕ × ℕ) → Type 0
-Rises low hi [] = Unit {0}
-Rises low hi (p ∷ ps) = (low ≤ p.0) × (p.1 ≤ hi) × IsPiece p.0 p.1 × Rises (p.1 + 1) hi ps
-
 scalar_is : (n : ℕ) → scalar_from n ≤ 0x10FFFF → InScalarRange (scalar_from n)
 scalar_is n h = grind (arith, nat_tests)
 
@@ -386,9 +372,6 @@ rises (suc most) lo hi = elim (cases_lt (min hi 0x10FFFF) (scalar_from lo)) [
       subst (Rises lo hi) (sym (pieces_first most lo hi l))
       (scalar_above lo, p.1, piece_is (scalar_from lo) hi (scalar_is lo (omega arith)) (omega arith), rises most (piece_end (scalar_from lo) hi + 1) hi)
 ]
-
-abbrev pub IsPieceOf : ℕ → ℕ → ℕ × ℕ → Type 0
-IsPieceOf low hi p = (low ≤ p.0) × (p.1 ≤ hi) × IsPiece p.0 p.1
 
 at_place : (low hi : ℕ) (ps : List (ℕ × ℕ)) (i : ℕ) (p : ℕ × ℕ) → Rises low hi ps → slice_get ps i ≡ Some p → IsPieceOf low hi p
 at_place low hi [] i p r e = absurd (none-some p (sym (slice_get_past [] i (omega arith)) ∙ e))

@@ -8,7 +8,7 @@ use Rattle.std.proofs.lemmas.List.{take-append-drop}
 use Rattle.std.proofs.lemmas.List.Concat.{flat_map-append}
 use Rattle.search_core.specs.Utf8.{SpellsFirst}
 use Rattle.search_core.specs.Characters.{character_at, spelling_len}
-use Rattle.search_core.proofs.CharacterLemmas.{spelling_has_len, character_begins, begun_character}
+use Rattle.search_core.proofs.ForCallers.{spelling_has_len, character_begins, begun_character}
 use Rattle.hir_core.specs.Tree.{char_class, alternation}
 use Rattle.hir_core.specs.Means.{Looks, Means, is_member}
 use Rattle.hir_core.specs.PreferredEnds.{class_end, character_end, preferred_ends, Has}
@@ -19,7 +19,8 @@ use Rattle.hir_core.proofs.HasLemmas.{Has-left, Has-right, Has-append, Has-if, H
 use Rattle.hir_core.proofs.SpellingLemmas.{member_cases}
 use Rattle.hir_core.proofs.PreferredEndsLemmas.{preferred_ends_sound, preferred_ends_complete}
 use Rattle.hir_core.proofs.SequenceSteps.{never}
-use Rattle.hir_core.proofs.SequenceLemmas.{begins_with, IsPiece, Rises, spelling_in, rises, covers, spelled_by, scalar_by, string_spells}
+use Rattle.hir_core.specs.Pieces.{IsPiece, Rises}
+use Rattle.hir_core.proofs.SequenceLemmas.{begins_with, spelling_in, rises, covers, spelled_by, scalar_by, string_spells}
 
 -- ---- counting, and the premise on loops
 pub sequences_counted : (ranges : List (ℕ × ℕ)) → length (sequences_of ranges) ≡ sequence_count ranges

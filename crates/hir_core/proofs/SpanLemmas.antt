@@ -5,6 +5,7 @@ use Rattle.std.proofs.lemmas.Slice.Eq.{starts_is}
 use Rattle.std.proofs.lemmas.Bool.Decides.{Decides-eqb}
 use Rattle.hir_core.specs.Tree.{Tree, empty, literal, byte_class, char_class, look, repetition, capture, nothing, cat, never, alt}
 use Rattle.hir_core.specs.Means.{Looks, Means, Rounds, stands}
+use Rattle.hir_core.specs.Spans.{IsSpan}
 
 -- bytes that stand at i begin the rest of the haystack
 pub stands_begin : (h : List ℕ) (i : ℕ) (bytes : List ℕ) → stands h i bytes ≡ true → drop i h ≡ bytes ++ drop (i + length bytes) h
@@ -14,10 +15,6 @@ stands_begin h i bytes t =
 stands_fit : (h : List ℕ) (i : ℕ) (bytes : List ℕ) → stands h i bytes ≡ true → i + length bytes ≤ max i (length h)
 stands_fit h i bytes t =
     omega (arith, ap length (stands_begin h i bytes t), length-drop i h, length-append bytes (drop (i + length bytes) h))
-
-pub record IsSpan (h : List ℕ) (i j : ℕ) : Type 0 where
-  pub forward : i ≤ j
-  pub within : j ≤ max i (length h)
 
 pub IsSpan-Rounds : (h : List ℕ) (R : ℕ → ℕ → Type 0) → ((i j : ℕ) → R i j → IsSpan h i j) →
     (n i j : ℕ) → Rounds R n i j → IsSpan h i j

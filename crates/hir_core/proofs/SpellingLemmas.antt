@@ -4,8 +4,7 @@ use Rattle.std.proofs.lemmas.Bool.{leb-true, and_parts, or_cases}
 use Rattle.std.proofs.lemmas.List.{take-append-drop, take_at}
 use Rattle.search_core.specs.Utf8.{Spells, SpellsFirst}
 use Rattle.search_core.specs.Characters.{character_at, spelling_len}
-use Rattle.search_core.proofs.CharacterLemmas.{spelling_has_len, character_begins, begun_character}
-use Rattle.search_core.proofs.SplitLemmas.{spelling_some}
+use Rattle.search_core.proofs.ForCallers.{spelling_has_len, character_begins, begun_character, spelling_some}
 use Rattle.hir_core.specs.Means.{SpellsMember, is_member}
 use Rattle.hir_core.specs.PreferredEnds.{character_end, Has}
 use Rattle.hir_core.proofs.HasLemmas.{Has-if, Has-then}

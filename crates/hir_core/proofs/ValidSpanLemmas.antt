@@ -9,7 +9,7 @@ use Rattle.std.proofs.lemmas.Option.{slice_get_within, get_or_from_slice_get}
 use Rattle.std.proofs.lemmas.Str.{IsUtf8-from_is_utf8}
 use Rattle.search_core.specs.Utf8.{IsValidText, no_spelling, spelling_then}
 use Rattle.search_core.specs.Utf8.Spells.{from_0000}
-use Rattle.search_core.proofs.Utf8Lemmas.{valid_of_utf8}
+use Rattle.search_core.proofs.ForCallers.{valid_of_utf8}
 use Rattle.hir_core.specs.Tree.{Tree, empty, literal, byte_class, char_class, look, repetition, capture, nothing, cat, never, alt}
 use Rattle.hir_core.specs.Means.{Looks, Means, Rounds, is_member, stands}
 use Rattle.hir_core.specs.Facts.{is_utf8_tree}

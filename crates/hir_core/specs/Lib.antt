@@ -10,3 +10,7 @@ pub mod TreeCode
 pub mod Node
 pub mod Falls
 pub mod BySequences
+pub mod Agree
+pub mod Pieces
+pub mod Spans
+pub mod Backward

@@ -3,7 +3,7 @@ use Rattle.std.specs.Prelude.{◌≡◌}
 use Rattle.std.specs.Coded.{Coded, coded_ℕ}
 use Rattle.look_core.specs.declared.look.Look.{Look}
 use Rattle.look_core.specs.Codes.{bit_of}
-use Rattle.look_core.proofs.LookRows.{same_from_bit}
+use Rattle.look_core.proofs.ForCallers.{same_from_bit}
 
 -- looks with one bit are one look
 pub look_one : (k l : Look) → coded_ℕ.code (bit_of k) ≡ coded_ℕ.code (bit_of l) → k ≡ l

@@ -1,5 +1,7 @@
 -- Ranges of scalars as sequences of byte ranges: a range is cut into pieces, and the spellings of a piece's scalars are the
--- strings whose bytes lie, one by one, between those of the spellings of its first and last scalar.
+-- strings whose bytes lie, one by one, between those of the spellings of its first and last scalar. This says how they are
+-- cut; what they mean is said by the laws (`utf8_sequences_laws`): each spelling of a scalar of the range is a string of
+-- exactly one sequence, each string spells one of its scalars, and the sequences ascend.
 use Rattle.std.specs.Prelude.{ℕ, zero, suc, ◌+◌, ◌-◌, ◌/◌, ◌%◌, min, Bool, true, false, ◌&&◌, ◌==◌, nat_le, List, [], ◌∷◌, map, if◌then◌else◌}
 use Rattle.std.specs.List.{zip}
 use Rattle.hir_core.specs.declared.utf8_sequences.Utf8Range.{Utf8Range}
@@ -40,7 +42,7 @@ pieces_of (suc most) lo hi = elim (nat_le (scalar_from lo) (min hi 0x10FFFF)) as
 abbrev pub pieces : ℕ → ℕ → List (ℕ × ℕ)
 pieces lo hi = pieces_of (hi + 1 - lo) lo hi
 
--- the bytes that spell the scalar
+-- the bytes that spell the scalar: those of std's `encode_utf8`, as a law says, written out so that they compute
 abbrev pub spelling_of : ℕ → List ℕ
 spelling_of c =
     if nat_le c 0x7F then c ∷ []

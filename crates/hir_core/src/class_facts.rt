@@ -23,12 +23,13 @@ pub fn are_ascii(ranges: &[(u8, u8)]) -> bool
 }
 
 /// The least number of bytes that spell a scalar of the ranges.
+#[tactic(auto, using(crate::proofs::BackwardLemmas::behind_more, crate::proofs::BackwardLemmas::behind_all))]
 pub fn least_spelling(ranges: &[(char, char)]) -> Option<usize>
     ensures { result ≡ least_spelling ranges.now }
 {
     let mut least = None;
-    for i in (0..ranges.len()).rev() {
-        least = least_of_either(Some(ranges[i].0.len_utf8()), least);
+    for range in ranges.iter().rev() {
+        least = least_of_either(Some(range.0.len_utf8()), least);
     }
     least
 }
@@ -55,13 +56,13 @@ fn sequences_between(start: char, end: char) -> usize
 }
 
 /// How many sequences of byte ranges spell the scalars of the ranges, at most `usize::MAX`.
+#[tactic(auto, using(crate::proofs::BackwardLemmas::behind_more, crate::proofs::BackwardLemmas::behind_all))]
 pub fn sequence_count(ranges: &[(char, char)]) -> usize
     ensures { result ≡ capped (sequence_count ranges.now) }
 {
     let mut sequences = 0usize;
-    for i in (0..ranges.len()).rev() {
-        let (start, end) = ranges[i];
-        sequences = sequences.saturating_add(sequences_between(start, end));
+    for range in ranges.iter().rev() {
+        sequences = sequences.saturating_add(sequences_between(range.0, range.1));
     }
     sequences
 }

@@ -1,4 +1,6 @@
 // The facts of a node from those of its parts.
+#![tactic(auto, using(crate::proofs::BackwardLemmas::behind_more, crate::proofs::BackwardLemmas::behind_all))]
+
 ghost use Rattle.std.specs.Prelude.{◌≡◌, ◌≤◌, IfSome};
 ghost use Rattle.hir_core.specs.Tree.{concat, alternation};
 ghost use Rattle.hir_core.specs.Facts.{minimum_len, maximum_len, is_utf8_tree, height, count, repeated_count, sum_of_both, least_of_either, greatest_of_both, times, times_most};
@@ -58,8 +60,8 @@ pub fn concat_minimum_len(subs: &[Hir]) -> Option<usize>
     ensures { result ≡ minimum_len (concat subs.now) }
 {
     let mut total = Some(0usize);
-    for i in (0..subs.len()).rev() {
-        total = sum_of_both(subs[i].properties().minimum_len(), total);
+    for sub in subs.iter().rev() {
+        total = sum_of_both(sub.properties().minimum_len(), total);
     }
     total
 }
@@ -68,8 +70,8 @@ pub fn alternation_minimum_len(subs: &[Hir]) -> Option<usize>
     ensures { result ≡ minimum_len (alternation subs.now) }
 {
     let mut least = None;
-    for i in (0..subs.len()).rev() {
-        least = least_of_either(subs[i].properties().minimum_len(), least);
+    for sub in subs.iter().rev() {
+        least = least_of_either(sub.properties().minimum_len(), least);
     }
     least
 }
@@ -78,8 +80,8 @@ pub fn concat_maximum_len(subs: &[Hir]) -> Option<usize>
     ensures { result ≡ maximum_len (concat subs.now) }
 {
     let mut total = Some(0usize);
-    for i in (0..subs.len()).rev() {
-        total = sum_of_both(subs[i].properties().maximum_len(), total);
+    for sub in subs.iter().rev() {
+        total = sum_of_both(sub.properties().maximum_len(), total);
     }
     total
 }
@@ -87,14 +89,12 @@ pub fn concat_maximum_len(subs: &[Hir]) -> Option<usize>
 pub fn alternation_maximum_len(subs: &[Hir]) -> Option<usize>
     ensures { result ≡ maximum_len (alternation subs.now) }
 {
-    let mut longest = None;
-    for i in (0..subs.len()).rev() {
-        let part = subs[i].properties().maximum_len();
-        longest = if i + 1 == subs.len() {
-            part
-        } else {
-            greatest_of_both(part, longest)
-        };
+    let Some((last, others)) = subs.split_last() else {
+        return None;
+    };
+    let mut longest = last.properties().maximum_len();
+    for sub in others.iter().rev() {
+        longest = greatest_of_both(sub.properties().maximum_len(), longest);
     }
     longest
 }
@@ -105,8 +105,8 @@ pub fn are_utf8(subs: &[Hir]) -> bool
     ensures alternation { result ≡ is_utf8_tree (alternation subs.now) }
 {
     let mut all = true;
-    for i in (0..subs.len()).rev() {
-        all = subs[i].properties().is_utf8() && all;
+    for sub in subs.iter().rev() {
+        all = sub.properties().is_utf8() && all;
     }
     all
 }
@@ -117,8 +117,8 @@ pub fn height_over(subs: &[Hir]) -> usize
     ensures alternation { result ≡ height (alternation subs.now) }
 {
     let mut levels = 1usize;
-    for i in (0..subs.len()).rev() {
-        levels = levels.max(subs[i].height().saturating_add(1));
+    for sub in subs.iter().rev() {
+        levels = levels.max(sub.height().saturating_add(1));
     }
     levels
 }
@@ -127,8 +127,8 @@ pub fn concat_count(subs: &[Hir]) -> usize
     ensures { result ≡ count (concat subs.now) }
 {
     let mut states = 1usize;
-    for i in (0..subs.len()).rev() {
-        states = states.saturating_add(subs[i].count());
+    for sub in subs.iter().rev() {
+        states = states.saturating_add(sub.count());
     }
     states
 }
@@ -137,8 +137,8 @@ pub fn alternation_count(subs: &[Hir]) -> usize
     ensures { result ≡ count (alternation subs.now) }
 {
     let mut states = 4usize;
-    for i in (0..subs.len()).rev() {
-        states = states.saturating_add(subs[i].count());
+    for sub in subs.iter().rev() {
+        states = states.saturating_add(sub.count());
     }
     states
 }

@@ -4,7 +4,8 @@
 //! simplified. What a tree means, and which of its spans are preferred, is defined in `specs/`:
 //! `Means.antt` and `PreferredEnds.antt`, with laws in [`laws`]; the laws of the facts are in
 //! [`fact_laws`], those of the byte sequences of scalars in [`utf8_sequences_laws`] and, as trees, in
-//! [`sequence_tree_laws`], those of haystacks that are cut at a place in [`cut_laws`].
+//! [`sequence_tree_laws`], those of haystacks that are cut at a place in [`cut_laws`], those of where spans
+//! stand and what they depend on in [`span_laws`].
 #![tactic(auto)]
 
 mod class_facts;
@@ -17,6 +18,7 @@ mod look_facts;
 mod properties;
 mod ranges;
 pub mod sequence_tree_laws;
+pub mod span_laws;
 mod utf8_sequences;
 pub mod utf8_sequences_laws;
 

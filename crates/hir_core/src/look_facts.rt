@@ -1,4 +1,6 @@
 // The looks of a node from those of its parts.
+#![tactic(auto, using(crate::proofs::BackwardLemmas::behind_more, crate::proofs::BackwardLemmas::behind_all))]
+
 ghost use Rattle.std.specs.Prelude.{◌≡◌};
 ghost use Rattle.hir_core.specs.Tree.{concat, alternation};
 ghost use Rattle.hir_core.specs.Facts.{if_owed, look_set, look_set_prefix, look_set_suffix};
@@ -20,8 +22,8 @@ pub fn all_looks(subs: &[Hir]) -> LookSet
     ensures alternation { result ≡ look_set (alternation subs.now) }
 {
     let mut looks = LookSet::empty();
-    for i in (0..subs.len()).rev() {
-        looks = subs[i].properties().look_set().union(looks);
+    for sub in subs.iter().rev() {
+        looks = sub.properties().look_set().union(looks);
     }
     looks
 }
@@ -31,8 +33,8 @@ pub fn concat_look_set_prefix(subs: &[Hir]) -> LookSet
     ensures { result ≡ look_set_prefix (concat subs.now) }
 {
     let mut looks = LookSet::empty();
-    for i in (0..subs.len()).rev() {
-        let part = subs[i].properties();
+    for sub in subs.iter().rev() {
+        let part = sub.properties();
         looks = if part.maximum_len() == Some(0) {
             part.look_set_prefix().union(looks)
         } else {
@@ -48,8 +50,8 @@ pub fn concat_look_set_suffix(subs: &[Hir]) -> LookSet
 {
     let mut looks = LookSet::empty();
     let mut maximum_len = Some(0usize);
-    for i in (0..subs.len()).rev() {
-        let part = subs[i].properties();
+    for sub in subs.iter().rev() {
+        let part = sub.properties();
         if maximum_len == Some(0) {
             looks = part.look_set_suffix().union(looks);
         }
@@ -62,14 +64,12 @@ pub fn concat_look_set_suffix(subs: &[Hir]) -> LookSet
 pub fn alternation_look_set_prefix(subs: &[Hir]) -> LookSet
     ensures { result ≡ look_set_prefix (alternation subs.now) }
 {
-    let mut looks = LookSet::empty();
-    for i in (0..subs.len()).rev() {
-        let prefix = subs[i].properties().look_set_prefix();
-        looks = if i + 1 == subs.len() {
-            prefix
-        } else {
-            prefix.intersect(looks)
-        };
+    let Some((last, others)) = subs.split_last() else {
+        return LookSet::empty();
+    };
+    let mut looks = last.properties().look_set_prefix();
+    for sub in others.iter().rev() {
+        looks = sub.properties().look_set_prefix().intersect(looks);
     }
     looks
 }
@@ -78,14 +78,12 @@ pub fn alternation_look_set_prefix(subs: &[Hir]) -> LookSet
 pub fn alternation_look_set_suffix(subs: &[Hir]) -> LookSet
     ensures { result ≡ look_set_suffix (alternation subs.now) }
 {
-    let mut looks = LookSet::empty();
-    for i in (0..subs.len()).rev() {
-        let suffix = subs[i].properties().look_set_suffix();
-        looks = if i + 1 == subs.len() {
-            suffix
-        } else {
-            suffix.intersect(looks)
-        };
+    let Some((last, others)) = subs.split_last() else {
+        return LookSet::empty();
+    };
+    let mut looks = last.properties().look_set_suffix();
+    for sub in others.iter().rev() {
+        looks = sub.properties().look_set_suffix().intersect(looks);
     }
     looks
 }

@@ -3,7 +3,8 @@
 //! left out of it.
 ghost use Rattle.std.specs.Prelude.{◌≡◌, ◌≤◌, ◌<◌, ℕ, List, [], ◌∷◌, length, take, slice_get, Some, true};
 ghost use Rattle.search_core.specs.Utf8.{Spells};
-ghost use Rattle.hir_core.specs.Sequences.{utf8_sequences, is_in_ranges, begins_in_ranges};
+ghost use Rattle.std.specs.Char.{encode_utf8};
+ghost use Rattle.hir_core.specs.Sequences.{spelling_of, utf8_sequences, is_in_ranges, begins_in_ranges};
 
 /// Every spelling of a scalar of the range is a string of one of the sequences, and no string is one of
 /// two of them.
@@ -52,4 +53,12 @@ pub fn all_scalars_have_the_rows_of_the_table()
         ∷ ((0xF0, 0xF0) ∷ (0x90, 0xBF) ∷ (0x80, 0xBF) ∷ (0x80, 0xBF) ∷ [])
         ∷ ((0xF1, 0xF3) ∷ (0x80, 0xBF) ∷ (0x80, 0xBF) ∷ (0x80, 0xBF) ∷ [])
         ∷ ((0xF4, 0xF4) ∷ (0x80, 0x8F) ∷ (0x80, 0xBF) ∷ (0x80, 0xBF) ∷ []) ∷ [] }
+{}
+
+/// The bytes that sequences are made of are those of std's `encode_utf8`, and what the table of UTF-8 says
+/// that they are.
+#[tactic(auto, using(crate::proofs::SequenceLemmas::spelled_encoded, crate::proofs::SequenceLemmas::spelled_by))]
+pub fn spellings_are_encoded()
+    ensures encoded { (c : ℕ) → spelling_of c ≡ encode_utf8 c }
+    ensures spelled { (c : ℕ) (s : List ℕ) → Spells c s → spelling_of c ≡ s }
 {}

@@ -6,16 +6,14 @@ use Rattle.std.proofs.lemmas.Bool.{and_parts}
 use Rattle.hir_core.specs.Tree.{Tree}
 use Rattle.hir_core.specs.Means.{Means}
 use Rattle.hir_core.specs.PreferredEnds.{preferred_ends, Has}
-use Rattle.hir_core.proofs.PreferredEndsLemmas.{preferred_ends_sound}
-use Rattle.hir_core.proofs.SpanLemmas.{span_forward}
+use Rattle.hir_core.proofs.ForCallers.{preferred_ends_sound, span_forward}
 use Rattle.search_types.specs.Found.{Found}
 use Rattle.search_types.specs.Modes.{allowed}
 use Rattle.search_types.specs.Places.{counts}
 use Rattle.search_types.specs.LeftmostAnswer.{first_choice, leftmost, IsLeftmost, IsAnswer}
-use Rattle.search_types.proofs.ModeLemmas.{starts_at}
-use Rattle.search_types.proofs.AnswerLemmas.{computed_is_answer}
+use Rattle.search_types.proofs.ForCallers.{starts_at, computed_is_answer}
 use Rattle.hirscan.specs.Choices.{Query, pattern_choices, choices, ends_at, may_end, choices_at, answer_from}
-use Rattle.hirscan.specs.AllAnswers.{AnswersWithin}
+use Rattle.search_types.specs.AllAnswers.{AnswersWithin}
 
 -- a place without a choice is passed
 pub leftmost_step : (cs : ℕ → List (ℕ × ℕ)) (last i : ℕ) → i ≤ last → None ≡ first_choice i (cs i) →

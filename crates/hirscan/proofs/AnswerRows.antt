@@ -4,7 +4,7 @@ use Rattle.hir_core.specs.Tree.{Tree, empty, literal, byte_class, repetition, co
 use Rattle.search_types.specs.Found.{Found}
 use Rattle.hirscan.specs.Takes.{Settings}
 use Rattle.hirscan.specs.Choices.{answer_from}
-use Rattle.hirscan.specs.AllAnswers as whole
+use Rattle.hirscan.specs.Choices as whole
 use Rattle.hirscan.specs.Refusals.{query_of, span_of}
 use Rattle.hirscan.specs.Loops.{first_empty_loop}
 

@@ -9,8 +9,7 @@ use Rattle.std.proofs.lemmas.Option.{slice_get-get_or}
 use Rattle.search_core.specs.Text.{byte_at}
 use Rattle.search_core.specs.Utf8.{Decodes, SpellsFirst}
 use Rattle.search_core.specs.Characters.{character_at, spelling_len, read_at}
-use Rattle.search_core.proofs.CharacterLemmas.{character_begins, read_at_once}
-use Rattle.search_core.proofs.SplitLemmas.{spelling_some}
+use Rattle.search_core.proofs.ForCallers.{character_begins, read_at_once, spelling_some}
 use Rattle.hir_core.specs.Means.{is_member}
 use Rattle.hir_core.specs.PreferredEnds.{character_end}
 

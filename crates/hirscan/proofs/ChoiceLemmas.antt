@@ -4,8 +4,7 @@ use Rattle.std.proofs.Common.{◌≡◌, ℕ, ◌+◌, ◌<◌, ◌≤◌, Bool,
 use Rattle.std.specs.List.{filter}
 use Rattle.hir_core.specs.Tree.{Tree}
 use Rattle.hir_core.specs.PreferredEnds.{preferred_ends, Has}
-use Rattle.hir_core.proofs.PreferredEndsLemmas.{preferred_ends_sound}
-use Rattle.hir_core.proofs.SpanLemmas.{span_forward}
+use Rattle.hir_core.proofs.ForCallers.{preferred_ends_sound, span_forward}
 use Rattle.search_types.specs.Modes.{allowed}
 use Rattle.search_types.specs.LeftmostAnswer.{first_choice}
 use Rattle.hirscan.specs.Choices.{Query, pattern_choices, choices, may_end}

@@ -4,13 +4,14 @@ pub mod PartLemmas
 pub mod CharacterLemmas
 pub mod ChoiceLemmas
 pub mod AnswerLemmas
-pub mod AllAnswersLemmas
 pub mod LoopLemmas
 pub mod WordLemmas
 pub mod RangeLemmas
 pub mod StackLemmas
 pub mod StageLemmas
+pub mod HexLemmas
 pub mod SaysLemmas
+pub mod ReaderLemmas
 pub mod TakesLemmas
 pub mod HeadLemmas
 pub mod EffectLemmas

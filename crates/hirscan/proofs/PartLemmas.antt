@@ -4,8 +4,7 @@ use Rattle.std.specs.List.{flat_map}
 use Rattle.hir_core.specs.Tree.{Tree, concat, alternation}
 use Rattle.hir_core.specs.Weight.{weight}
 use Rattle.hirscan.specs.PlainEnds.{plain_ends}
-use Rattle.hir_core.proofs.HasLemmas.{flat_map-flat_map}
-use Rattle.hir_core.proofs.PartLemmas.{weight_in_concat, weight_of_either}
+use Rattle.hir_core.proofs.ForCallers.{flat_map-flat_map, weight_in_concat, weight_of_either}
 
 pub weight_in_alternation : (xs : List Tree) (i : ℕ) (d : Tree) → i < length xs → weight (get_or xs i d) < weight (alternation xs)
 weight_in_alternation xs i d l = omega (arith, weight_in_concat xs i d l, weight_of_either xs)

@@ -2,7 +2,7 @@
 use Rattle.std.proofs.Common.{◌≡◌, ℕ, zero, suc, ◌-◌, ◌≤◌, Bool, List, [], ◌∷◌, length, refl, sym, ap, ◌∙◌, arith, append-nil}
 use Rattle.std.specs.List.{flat_map}
 use Rattle.hir_core.specs.PreferredEnds.{Ends, exactly, up_to, unbounded, at_least, between}
-use Rattle.hir_core.proofs.HasLemmas.{flat_map-flat_map, flat_map_same}
+use Rattle.hir_core.proofs.ForCallers.{flat_map-flat_map, flat_map_same}
 
 -- one of the rounds that are owed
 pub round_done : (body : Ends) (places : List ℕ) (owed left : ℕ) → owed ≡ suc left →

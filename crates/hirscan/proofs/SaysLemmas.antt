@@ -7,15 +7,15 @@ use Rattle.std.proofs.lemmas.Bool.{cases_Bool, and_parts, eqb-true, eq-eqb, ltb-
 use Rattle.std.proofs.lemmas.Slice.Eq.{bytes_eq-Decides}
 use Rattle.std.proofs.lemmas.Fmt.{digits_decimal, digits_value-decimal, decimal-digits_value, decimal_nonempty, decimal_digit, first_decimal}
 use Rattle.hex.specs.Hex.{decode_of}
-use Rattle.hex.proofs.HexLemmas.{decode_of-ok}
 use Rattle.hex.specs.declared.error.FromHexError.{FromHexError}
 use Rattle.hirscan.specs.declared.fault.FaultKind.TheVariants.{BadNumber, BadHex, BadRange, BadChoice}
 use Rattle.hirscan.specs.declared.words.LineWord.{LineWord}
 use Rattle.hirscan.specs.declared.words.LineWord.TheVariants.{Utf8, Anchored, Span, Empty, Lit, Bytes, Rep, Cat, Alt, Pattern, Find}
-use Rattle.hirscan.specs.Words.{IsNumber, IsBound, IsGreedy, IsSwitch, IsYes, IsHex, IsItem, AreItems}
+use Rattle.hirscan.specs.Words.{IsNumber, IsBound, IsGreedy, IsSwitch, IsYes, IsHex, HasEnds, IsItem, AreItems}
 use Rattle.hirscan.specs.Readers.{spelling, line_word, is_number, number, the_number, bound, the_bound, order, the_order, switch, the_switch, yes_or_no, the_yes_or_no, one_or_more, hex_bytes, the_bytes, only_one, hex_byte, both, item_ends, the_ends}
 use Rattle.hirscan.specs.LineFault.{first_of, unless_read, ends_fault, item_fault}
 use Rattle.hirscan.proofs.StageLemmas.{first_none, when_none}
+use Rattle.hirscan.proofs.HexLemmas.{hex_says, hex_said}
 use Rattle.hirscan.proofs.WordLemmas.{NumberParts, number_parts, number_read, digits_model}
 
 -- a word is the text, or it isn't
@@ -186,7 +186,7 @@ yes_said w false h = rw h refl
 bytes_of_result : (w : List ℕ) (r : Result (List ℕ) FromHexError) → decode_of w ≡ r → unless_read (one_or_more r) BadHex ≡ None
     → (bytes : List ℕ) × (one_or_more r ≡ Some bytes) × IsHex w bytes
 bytes_of_result w (Ok []) e f = absurd cc
-bytes_of_result w (Ok (b ∷ bs)) e f = (b ∷ bs, refl, (λ k. cc, e))
+bytes_of_result w (Ok (b ∷ bs)) e f = (b ∷ bs, refl, hex_says w (b ∷ bs) e (omega arith))
 bytes_of_result w (Err x) e f = absurd cc
 
 pub hex_bytes_says : (w : List ℕ) → unless_read (hex_bytes w) BadHex ≡ None → IsHex w (the_bytes w)
@@ -194,8 +194,8 @@ hex_bytes_says w e =
     let b = bytes_of_result w (decode_of w) refl e in rw b.1 b.2
 
 pub hex_bytes_said : (w bytes : List ℕ) → IsHex w bytes → hex_bytes w ≡ Some bytes
-hex_bytes_said w [] h = absurd (h.0 refl)
-hex_bytes_said w (b ∷ bs) h = rw h.1 refl
+hex_bytes_said w [] h = absurd (let l = h.some in omega arith)
+hex_bytes_said w (b ∷ bs) h = rw (hex_said w (b ∷ bs) h) refl
 
 -- the two words at the ends of an item, and what is between them
 ends_of : (a b : Option ℕ) → (r : ℕ × ℕ) → both a b ≡ Some r → (a ≡ Some r.0) × (b ≡ Some r.1)
@@ -203,9 +203,9 @@ ends_of None b r e = absurd cc
 ends_of (Some x) None r e = absurd cc
 ends_of (Some x) (Some y) r e = let f : (x, y) ≡ r = cc in (ap (λ (q : ℕ × ℕ). Some q.0) f, ap (λ (q : ℕ × ℕ). Some q.1) f)
 
-byte_of_result : (w : List ℕ) (r : Result (List ℕ) FromHexError) (b : ℕ) → decode_of w ≡ r → only_one r ≡ Some b → IsHex w (b ∷ [])
+pub byte_of_result : (w : List ℕ) (r : Result (List ℕ) FromHexError) (b : ℕ) → decode_of w ≡ r → only_one r ≡ Some b → IsHex w (b ∷ [])
 byte_of_result w (Ok []) b e f = absurd cc
-byte_of_result w (Ok (c ∷ [])) b e f = let g : c ≡ b = cc in (λ k. cc, e ∙ ap (λ x. Ok (x ∷ [])) g)
+byte_of_result w (Ok (c ∷ [])) b e f = let g : c ≡ b = cc in hex_says w (b ∷ []) (e ∙ ap (λ x. Ok (x ∷ [])) g) (omega arith)
 byte_of_result w (Ok (c ∷ d ∷ cs)) b e f = absurd cc
 byte_of_result w (Err x) b e f = absurd cc
 
@@ -215,26 +215,26 @@ five (a ∷ []) l e = absurd (omega arith)
 five (a ∷ b ∷ []) l e = absurd (omega arith)
 five (a ∷ b ∷ c ∷ w) l e = ap (λ x. a ∷ b ∷ x ∷ w) e
 
-item_of_ends : (w : List ℕ) (o : Option (ℕ × ℕ)) → item_ends w ≡ o → ends_fault o ≡ None → (r : ℕ × ℕ) × (o ≡ Some r) × IsItem w r
-item_of_ends w None e f = absurd cc
-item_of_ends w (Some r) e f =
+-- what the ends of an item say
+pub ends_say : (w : List ℕ) (r : ℕ × ℕ) → item_ends w ≡ Some r → HasEnds w r
+ends_say w r e =
     elim (cases_Bool (eqb (length w) 5 && eqb (get_or w 2 0) 45)) [
       | inl t ↦
           let p = and_parts _ _ t in
-          let ends = ends_of (hex_byte (take 2 w)) (hex_byte (drop 3 w)) r (rw t at e) in (
-            r,
-            refl,
-            record {
-              low = take 2 w;
-              high = drop 3 w;
-              parts = five w (eqb-true _ _ p.0) (eqb-true _ _ p.1);
-              low_is = byte_of_result _ _ _ refl ends.0;
-              high_is = byte_of_result _ _ _ refl ends.1;
-              in_order = ltb-false _ _ (when_none _ BadRange f);
-            },
-          )
+          let ends = ends_of (hex_byte (take 2 w)) (hex_byte (drop 3 w)) r (rw t at e) in
+          record {
+            low = take 2 w;
+            high = drop 3 w;
+            parts = five w (eqb-true _ _ p.0) (eqb-true _ _ p.1);
+            low_is = byte_of_result _ _ _ refl ends.0;
+            high_is = byte_of_result _ _ _ refl ends.1;
+          }
       | inr n ↦ absurd (let g = rw n at e in cc)
     ]
+
+item_of_ends : (w : List ℕ) (o : Option (ℕ × ℕ)) → item_ends w ≡ o → ends_fault o ≡ None → (r : ℕ × ℕ) × (o ≡ Some r) × IsItem w r
+item_of_ends w None e f = absurd cc
+item_of_ends w (Some r) e f = (r, refl, record { ends = ends_say w r e; in_order = ltb-false _ _ (when_none _ BadRange f) })
 
 pub item_says : (w : List ℕ) → item_fault w ≡ None → IsItem w (the_ends w)
 item_says w e = let i = item_of_ends w (item_ends w) refl e in rw i.1 i.2
@@ -250,14 +250,18 @@ ends_of_parts : (low high : List ℕ) (r : ℕ × ℕ) → length low ≡ 2 → 
 ends_of_parts [] high r l m g h = absurd (omega arith)
 ends_of_parts (a ∷ []) high r l m g h = absurd (omega arith)
 ends_of_parts (a ∷ b ∷ []) high r l m g h =
-    let t : eqb (length (a ∷ b ∷ 45 ∷ high)) 5 ≡ true = eq-eqb _ _ (omega arith) in rw (t, g.1, h.1) refl
+    let t : eqb (length (a ∷ b ∷ 45 ∷ high)) 5 ≡ true = eq-eqb _ _ (omega arith) in
+    rw (t, hex_said (a ∷ b ∷ []) (r.0 ∷ []) g, hex_said high (r.1 ∷ []) h) refl
 ends_of_parts (a ∷ b ∷ c ∷ low) high r l m g h = absurd (omega arith)
+
+pub ends_said : (w : List ℕ) (r : ℕ × ℕ) → HasEnds w r → item_ends w ≡ Some r
+ends_said w r h =
+    let l = h.low_is.two_each in let m = h.high_is.two_each in
+    rw h.parts (ends_of_parts h.low h.high r (omega arith) (omega arith) h.low_is h.high_is)
 
 pub item_said : (w : List ℕ) (r : ℕ × ℕ) → IsItem w r → (item_fault w ≡ None) × (the_ends w ≡ r)
 item_said w r h =
-    let l = (decode_of-ok h.low (r.0 ∷ []) h.low_is.1).2 in
-    let m = (decode_of-ok h.high (r.1 ∷ []) h.high_is.1).2 in
-    let ends : item_ends w ≡ Some r = rw h.parts (ends_of_parts h.low h.high r l m h.low_is h.high_is) in
+    let ends = ends_said w r h.ends in
     let ordered : nat_lt r.1 r.0 ≡ false = le-ltb r.1 r.0 h.in_order in
     (rw (ends, ordered) refl, rw ends refl)
 

@@ -6,8 +6,8 @@ use Rattle.hirscan.specs.declared.fault.FaultKind.{FaultKind}
 use Rattle.hirscan.specs.declared.fault.FaultKind.TheVariants.{SettingAfterNode, WrongWordCount}
 use Rattle.hirscan.specs.declared.words.LineWord.{LineWord}
 use Rattle.hirscan.specs.Takes.{Standing}
-use Rattle.hirscan.specs.LineFault.{first_of, when, known_fault, is_setting_after_node, is_word_count}
-use Rattle.hirscan.specs.Tells.{texts, left_fault}
+use Rattle.hirscan.specs.LineFault.{first_of, when, known_fault, is_setting_after_node, is_word_count, left_fault}
+use Rattle.hirscan.specs.Tells.{texts}
 
 pub known_fault_setting : (k : LineWord) (args : List (List ℕ)) (at : Standing) → is_setting_after_node k at ≡ true
     → known_fault k args at ≡ Some SettingAfterNode

@@ -5,7 +5,7 @@ use Rattle.std.proofs.lemmas.List.{reverse-append, reverse-reverse}
 use Rattle.std.proofs.lemmas.List.Concat.{flat_map-append}
 use Rattle.std.specs.List.{flat_map}
 use Rattle.hir_core.specs.PreferredEnds.{Ends, up_to}
-use Rattle.hir_core.proofs.HasLemmas.{flat_map_same}
+use Rattle.hir_core.proofs.ForCallers.{flat_map_same}
 
 -- the ends of one round in the order of a walk: a greedy repetition is walked from its last end to its first
 abbrev pub flipped : Bool → List ℕ → List ℕ

@@ -1,6 +1,5 @@
 pub mod PlainEnds
 pub mod Choices
-pub mod AllAnswers
 pub mod Asks
 pub mod Loops
 pub mod Words

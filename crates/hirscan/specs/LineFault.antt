@@ -124,17 +124,25 @@ abbrev pub has_tree_left_over : LineWord → Standing → Bool
 has_tree_left_over Find at = nat_lt 0 (length at.stack)
 has_tree_left_over _ at = false
 
--- what is wrong with a line of this first word and these words after it: the first kind that applies
-abbrev pub known_fault : LineWord → List (List ℕ) → Standing → Option FaultKind
-known_fault k args at = first_of (when (is_setting_after_node k at) SettingAfterNode
-    ∷ when (not (is_word_count k (length args))) WrongWordCount
-    ∷ word_fault k args
+-- what may be wrong with a line of this first word that may stand there and has as many words as it may: the kinds in order
+abbrev pub later_faults : LineWord → List (List ℕ) → Standing → List (Option FaultKind)
+later_faults k args at = word_fault k args
     ∷ when (is_min_above_max k args) MinAboveMax
     ∷ when (has_too_few_trees k args at) TooFewTrees
     ∷ when (is_too_deep k args at) TooDeep
     ∷ when (has_not_one_tree k at) NotOneTree
     ∷ when (has_tree_left_over k at) TreeLeftOver
-    ∷ [])
+    ∷ []
+
+-- the first of these that applies
+abbrev pub left_fault : LineWord → List (List ℕ) → Standing → Option FaultKind
+left_fault k args at = first_of (later_faults k args at)
+
+-- what is wrong with a line of this first word and these words after it: the first kind that applies
+abbrev pub known_fault : LineWord → List (List ℕ) → Standing → Option FaultKind
+known_fault k args at = first_of (when (is_setting_after_node k at) SettingAfterNode
+    ∷ when (not (is_word_count k (length args))) WrongWordCount
+    ∷ later_faults k args at)
 
 -- the same, where the first word may begin no line
 abbrev pub fault_after : Option LineWord → List (List ℕ) → Standing → Option FaultKind

@@ -1,12 +1,18 @@
 -- Readers that compute what Words.antt says of a word: None where the word says no such thing. Each
--- has a reader beside it, `the_..`, that answers any value there.
-use Rattle.std.specs.Prelude.{ℕ, ◌^◌, ◌==◌, ◌&&◌, ◌||◌, not, Bool, true, false, List, [], ◌∷◌, length, take, drop, slice_index, slice_index_or, Option, Some, None, Result, Ok, Err, nat_lt, codes, if◌then◌else◌, option_map, unwrap_or}
+-- has a reader beside it, `the_..`, that answers any value there. That each reads just what its relation says is a law
+-- (`word_laws`).
+use Rattle.std.specs.Prelude.{◌≡◌, ◌↔◌, ℕ, ◌^◌, ◌==◌, ◌&&◌, ◌||◌, not, Bool, true, false, List, [], ◌∷◌, length, take, drop, slice_index, slice_index_or, Option, Some, None, Result, Ok, Err, nat_lt, codes, if◌then◌else◌, option_map, unwrap_or}
 use Rattle.std.specs.Str.{all_ascii_digits, bytes_eq}
 use Rattle.std.specs.Str.Parse.{digits_value}
 use Rattle.hex.specs.Hex.{decode_of}
 use Rattle.hex.specs.declared.error.FromHexError.{FromHexError}
 use Rattle.hirscan.specs.declared.words.LineWord.{LineWord}
 use Rattle.hirscan.specs.declared.words.LineWord.TheVariants.{Utf8, Anchored, Span, Empty, Lit, Bytes, Rep, Cat, Alt, Pattern, Find}
+
+-- the reader answers x just where the relation holds of the text and x, and nothing just where it holds of no x
+pub record IsReader {X : Type 0} (read : List ℕ → Option X) (says : List ℕ → X → Type 0) : Type 0 where
+  pub some : (w : List ℕ) (x : X) → (read w ≡ Some x) ↔ says w x
+  pub none : (w : List ℕ) → (read w ≡ None) ↔ ((x : X) → says w x → ⊥)
 
 -- the word that begins such a line
 abbrev pub spelling : LineWord → List ℕ
@@ -21,6 +27,10 @@ spelling Cat = codes "cat"
 spelling Alt = codes "alt"
 spelling Pattern = codes "pattern"
 spelling Find = codes "find"
+
+-- the word begins lines of this kind
+abbrev pub IsSpelled : List ℕ → LineWord → Type 0
+IsSpelled w k = w ≡ spelling k
 
 -- which line the word begins
 abbrev pub line_word : List ℕ → Option LineWord

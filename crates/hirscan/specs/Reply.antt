@@ -10,7 +10,7 @@ use Rattle.hir_core.specs.Tree.{Tree}
 use Rattle.hirscan.specs.Takes.{Settings, Standing, at_first}
 use Rattle.hirscan.specs.Reads.{Reads, IsFaultAt}
 use Rattle.hirscan.specs.Refusals.{refusal, query_of, span_of}
-use Rattle.hirscan.specs.AllAnswers.{answers_of}
+use Rattle.hirscan.specs.Choices.{answers_of}
 
 -- the line of one span: the pattern's number, the start and the end in decimal, parted by spaces, 32, and ended by a line feed, 10
 abbrev pub span_line : Found → List ℕ

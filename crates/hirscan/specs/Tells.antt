@@ -16,7 +16,7 @@ use Rattle.hirscan.specs.Takes.{Settings, Standing, at_first, Takes, EndsHead}
 use Rattle.hirscan.specs.Reads.{IsOneLine, IsFaultAt}
 use Rattle.hirscan.specs.declared.words.LineWord.{LineWord}
 use Rattle.hirscan.specs.declared.words.LineWord.TheVariants.{Find}
-use Rattle.hirscan.specs.LineFault.{first_of, when, word_fault, is_min_above_max, has_too_few_trees, is_too_deep, has_not_one_tree, has_tree_left_over, after}
+use Rattle.hirscan.specs.LineFault.{left_fault, after}
 
 -- how a kind is told
 abbrev pub kind_text : FaultKind → List ℕ
@@ -69,17 +69,7 @@ abbrev pub TellsStep : List (List ℕ) → Standing → Standing → Step → Ty
 TellsStep ws before after Next = Takes ws before after
 TellsStep ws before after End = EndsHead ws before × (after ≡ before)
 
--- what is wrong with a line of this first word, of which there may be so many words and which may stand there
-abbrev pub left_fault : LineWord → List (List ℕ) → Standing → Option FaultKind
-left_fault k args at = first_of (word_fault k args
-    ∷ when (is_min_above_max k args) MinAboveMax
-    ∷ when (has_too_few_trees k args at) TooFewTrees
-    ∷ when (is_too_deep k args at) TooDeep
-    ∷ when (has_not_one_tree k at) NotOneTree
-    ∷ when (has_tree_left_over k at) TreeLeftOver
-    ∷ [])
-
--- the line has none of these faults, and does what it says
+-- a line that may stand there and has as many words as it may has no fault, and does what it says
 abbrev pub IsDone : LineWord → List (List ℕ) → Standing → Standing → Type 0
 IsDone k args before now = (left_fault k args before ≡ None) × (now ≡ after k args before)
 

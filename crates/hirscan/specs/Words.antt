@@ -1,7 +1,6 @@
 -- The words of a line, and what a word says by itself.
-use Rattle.std.specs.Prelude.{◌≡◌, ◌≢◌, ℕ, zero, suc, ◌+◌, ◌^◌, ◌<◌, ◌≤◌, ◌==◌, Bool, true, false, List, [], ◌∷◌, ◌++◌, Option, Some, None, Ok, decimal, codes, if◌then◌else◌}
+use Rattle.std.specs.Prelude.{◌≡◌, ℕ, zero, suc, ◌+◌, ◌-◌, ◌*◌, ◌/◌, ◌%◌, ◌^◌, ◌<◌, ◌≤◌, ◌==◌, Bool, true, false, List, [], ◌∷◌, ◌++◌, length, slice_index, Option, Some, None, decimal, codes, if◌then◌else◌}
 use Rattle.std.specs.List.{slice_split}
-use Rattle.hex.specs.Hex.{decode_of}
 use Rattle.hir_core.specs.Means.{is_member}
 
 -- what stands between the spaces of the line: n spaces part n + 1 words, some of which may be empty
@@ -31,17 +30,38 @@ abbrev pub IsYes : List ℕ → Bool → Type 0
 IsYes w true = w ≡ codes "yes"
 IsYes w false = w ≡ codes "no"
 
--- the word spells these bytes, one or more, as two hexadecimal digits each, of either case
-abbrev pub IsHex : List ℕ → List ℕ → Type 0
-IsHex w bytes = (bytes ≢ []) × (decode_of w ≡ Ok bytes)
+-- the character is the hexadecimal digit of this value: 48 is `0`, 97 is `a` and 65 is `A`
+pub data IsHexDigit (c value : ℕ) : Type 0 where
+  from_zero : value < 10 → c ≡ 48 + value → IsHexDigit c value
+  from_small_a : 10 ≤ value → value < 16 → c ≡ 97 + (value - 10) → IsHexDigit c value
+  from_great_a : 10 ≤ value → value < 16 → c ≡ 65 + (value - 10) → IsHexDigit c value
 
--- the word is an item of a class, as in `30-39`: a low end and a high end that isn't below it, 45 being the sign between them
-pub record IsItem (w : List ℕ) (range : ℕ × ℕ) : Type 0 where
+-- two characters spell the byte: the digits of its high and its low four bits
+pub record SpellsByte (high low byte : ℕ) : Type 0 where
+  pub high_is : IsHexDigit high (byte / 16)
+  pub low_is : IsHexDigit low (byte % 16)
+
+-- the word spells these bytes, one or more: byte k by the characters 2 k and 2 k + 1
+pub record IsHex (w bytes : List ℕ) : Type 0 where
+  pub some : 0 < length bytes
+  pub two_each : length w ≡ 2 * length bytes
+  pub spelled : (k : ℕ) → k < length bytes → SpellsByte (slice_index w (2 * k)) (slice_index w (2 * k + 1)) (slice_index bytes k)
+
+-- the word spells one byte
+abbrev pub IsHexByte : List ℕ → ℕ → Type 0
+IsHexByte w byte = IsHex w (byte ∷ [])
+
+-- the word has two ends, as `30-39` has, in whichever order, 45 being the sign between them
+pub record HasEnds (w : List ℕ) (ends : ℕ × ℕ) : Type 0 where
   pub low : List ℕ
   pub high : List ℕ
   pub parts : w ≡ low ++ 45 ∷ high
-  pub low_is : IsHex low (range.0 ∷ [])
-  pub high_is : IsHex high (range.1 ∷ [])
+  pub low_is : IsHexByte low ends.0
+  pub high_is : IsHexByte high ends.1
+
+-- the word is an item of a class: its low end stands first and isn't above its high end
+pub record IsItem (w : List ℕ) (range : ℕ × ℕ) : Type 0 where
+  pub ends : HasEnds w range
   pub in_order : range.0 ≤ range.1
 
 -- each word is the item at its place in the list

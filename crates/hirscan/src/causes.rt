@@ -17,8 +17,8 @@ fn list_count(patterns: &[Hir]) -> usize
     ensures { result ≡ list_count patterns.now }
 {
     let mut states = 4usize;
-    for i in (0..patterns.len()).rev() {
-        states = states.saturating_add(patterns[i].count().saturating_add(3));
+    for pattern in patterns.iter().rev() {
+        states = states.saturating_add(pattern.count().saturating_add(3));
     }
     states
 }

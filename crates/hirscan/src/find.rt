@@ -6,8 +6,8 @@ ghost use Rattle.search_types.specs.LeftmostAnswer.{first_choice};
 ghost use Rattle.search_types.specs.Modes.{allowed, last_start};
 ghost use Rattle.search_types.specs.Places.{counts};
 ghost use Rattle.hirscan.specs.Asks.{query};
-ghost use Rattle.hirscan.specs.Choices.{may_end, choices_at, answer_from};
-ghost use Rattle.hirscan.specs.AllAnswers.{is_repeat, next_answer, answers_of};
+ghost use Rattle.search_types.specs.AllAnswers.{is_repeat, next_answer};
+ghost use Rattle.hirscan.specs.Choices.{may_end, choices_at, answer_from, answers_of};
 
 use crate::plain::ends;
 use hir_core::Hir;

@@ -1,14 +1,13 @@
 //! Laws of the answers and of the reply. Each function has no code: its contract is the law.
-ghost use Rattle.std.specs.Prelude.{◌≡◌, ◌≤◌, ℕ, ◌+◌, ◌-◌, true, slice_get, List, Option, Some, None};
-ghost use Rattle.std.specs.List.{All};
+ghost use Rattle.std.specs.Prelude.{◌≡◌, ℕ, true, slice_get, List, Some};
 ghost use Rattle.hir_core.specs.Tree.{Tree};
 ghost use Rattle.hir_core.specs.Means.{Means};
 ghost use Rattle.hir_core.specs.Facts.{LoopsRead};
+ghost use Rattle.search_types.specs.AllAnswers.{AnswersWithin};
 ghost use Rattle.search_types.specs.Found.{Found};
 ghost use Rattle.search_types.specs.Places.{counts};
 ghost use Rattle.hirscan.specs.declared.program.Ending.{Ending};
 ghost use Rattle.hirscan.specs.Choices.{Query, answer_from};
-ghost use Rattle.hirscan.specs.AllAnswers.{answers_from, all_answers, AnswersWithin, EndsRise};
 ghost use Rattle.hirscan.specs.Loops.{loops_read};
 ghost use Rattle.hirscan.specs.Reply.{IsReply};
 
@@ -23,22 +22,6 @@ pub fn an_answer_is_meant()
 #[tactic(auto, using(crate::proofs::AnswerLemmas::answers_within))]
 pub fn answers_over_trees_stay_within()
     ensures { (q : Query) → AnswersWithin (answer_from q) q.end }
-{}
-
-/// In the list of all answers each end is above the one before, and each span stands between the start
-/// and the end.
-#[tactic(auto, using(crate::proofs::AllAnswersLemmas::ends_rise, crate::proofs::AllAnswersLemmas::spans_within))]
-pub fn ends_rise()
-    ensures ends { (answer : ℕ → Option Found) (s e : ℕ) → AnswersWithin answer e → EndsRise None (all_answers answer s e) }
-    ensures spans { (answer : ℕ → Option Found) (s e : ℕ) → AnswersWithin answer e →
-        All (λ f. (s ≤ f.start) × (f.start ≤ f.end) × (f.end ≤ e)) (all_answers answer s e) }
-{}
-
-/// The list of all answers stops for want of a further answer only: no greater bound makes it longer.
-#[tactic(auto, using(crate::proofs::AllAnswersLemmas::no_answer_is_cut_off))]
-pub fn no_answer_is_cut_off()
-    ensures { (answer : ℕ → Option Found) (s e n : ℕ) → AnswersWithin answer e → e + 2 - s ≤ n →
-        answers_from answer n None s ≡ all_answers answer s e }
 {}
 
 /// The test for repetitions without a bound tells whether each of them has a body that reads.

@@ -3,8 +3,8 @@ ghost use Rattle.std.specs.Prelude.{◌≡◌, ◌<◌, ◌≤◌, IfOk, IfErr, 
 ghost use Rattle.hir_core.specs.Tree.{empty};
 ghost use Rattle.hir_core.specs.Facts.{height};
 ghost use Rattle.hirscan.specs.Words.{words};
-ghost use Rattle.hirscan.specs.LineFault.{fault, known_fault, after, top, below, when, is_at_most, is_word_count, is_setting, is_setting_after_node};
-ghost use Rattle.hirscan.specs.Tells.{texts, standing, TellsLineFault, TellsStep, left_fault, IsDone, step_after};
+ghost use Rattle.hirscan.specs.LineFault.{fault, known_fault, after, top, below, when, is_at_most, is_word_count, is_setting, is_setting_after_node, left_fault};
+ghost use Rattle.hirscan.specs.Tells.{texts, standing, TellsLineFault, TellsStep, IsDone, step_after};
 ghost use Rattle.hirscan.specs.declared.fault.FaultKind.TheVariants.{TooFewTrees, TooDeep};
 ghost use Rattle.hirscan.specs.declared.words.LineWord.TheVariants.{Utf8, Anchored, Span, Empty, Lit, Bytes, Rep, Cat, Alt, Pattern, Find};
 

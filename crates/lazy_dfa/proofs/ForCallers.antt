@@ -1,4 +1,22 @@
 -- What other crates' proofs may cite of this crate's, beside its public functions.
+-- ---- what a half search finds
+-- what is wanted of the ends of runs, and the first ends where looks are read otherwise beyond the reach
+pub use Rattle.lazy_dfa.proofs.FoundLemmas.{scan_finds, scan_finds_first}
+-- of a pattern that doesn't exist, and over a done span, nothing
+pub use Rattle.lazy_dfa.proofs.ReachLemmas.{no_pattern}
+pub use Rattle.lazy_dfa.proofs.ScanLemmas.{scan_done}
+-- where each end counts it is one pass; else it begins anew over one byte less
+pub use Rattle.lazy_dfa.proofs.ScanLemmas.{scan_is_pass, scan_anchored, scan_unanchored}
+pub use Rattle.lazy_dfa.proofs.AnewLemmas.{again, last_pass}
+-- ---- quit bytes, modes, reach
+-- a quit byte stands in or beside the span; where none does and the mode is supported, there is an answer
+pub use Rattle.lazy_dfa.proofs.ScanLemmas.{scan_quits_near, scan_finds_near}
+-- which modes are told that can't be searched in
+pub use Rattle.lazy_dfa.proofs.ScanLemmas.{scan_tells_mode, scan_mode_told}
+-- an answer depends on its reach, which has no quit byte, the place that is found, and lies in or beside the span
+pub use Rattle.lazy_dfa.proofs.IntervalReachLemmas.{scan_by_reach, scan_is_quiet, scan_place_is_reached, reach_is_near}
+-- each byte above 7F is a quit byte where words by characters are asked for
+pub use Rattle.lazy_dfa.proofs.QuitSetLemmas.{supported_quits}
 -- an ID names one state, a state has one ID, and an ID of a sentinel is no row's
 pub use Rattle.lazy_dfa.proofs.ChangeLemmas.{one_id, one_state, no_row}
 -- the dead state, and IDs that name states have no tag of a sentinel

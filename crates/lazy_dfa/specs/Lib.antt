@@ -1,7 +1,11 @@
+pub mod Readers
+pub mod Quits
+pub mod Passes
+pub mod Scans
+pub mod PassLaws
+pub mod ScanLaws
 pub mod Accounting
 pub mod ConfigValue
-pub mod Quits
-pub mod Readers
 pub mod Dfas
 pub mod Ids
 pub mod Caches

@@ -1,11 +1,18 @@
-//! A search engine that makes the powerset states of a byte automaton as it goes, and keeps them in a cache of bounded
-//! size.
+//! Byte automata that are determinized while they are searched: a search makes the powerset states that it needs, and keeps
+//! them in a cache of bounded size.
 //!
-//! The definitions are in `specs/`: what is counted as a cache's bytes in `Accounting.antt`, at which bytes searches give
-//! up in `Quits.antt`, options in `ConfigValue.antt`, an automaton in `Dfas.antt`, a cache and how it belongs to its
-//! automaton in `Caches.antt`, steps in `Steps.antt`, starts in `StartCalls.antt`.
+//! A half search finds one end of a match: upwards its end, downwards its start. What it answers is a function of values
+//! that knows no cache. By what it goes is in `specs/Readers.antt`, one pass of it in `Passes.antt`, and the search with
+//! its restarts in `Scans.antt`. Their laws are public functions without code in [`pass_laws`], [`scan_laws`] and
+//! [`reach_laws`], in words of `PassLaws.antt` and `ScanLaws.antt`. Which bytes are quit bytes is in `Quits.antt`, with
+//! laws in [`quit_laws`], and how many bytes a cache is taken to need in `Accounting.antt`, with laws in
+//! [`accounting_laws`].
+//!
+//! Options are in `ConfigValue.antt`, an automaton in `Dfas.antt`, a cache and how it belongs to its automaton in
+//! `Caches.antt`, steps in `Steps.antt`, starts in `StartCalls.antt`.
 #![tactic(auto)]
 
+pub mod accounting_laws;
 mod build_error;
 mod builder;
 mod cache;
@@ -18,7 +25,11 @@ mod dfa_steps;
 mod lazy_id;
 mod making;
 mod measures;
+pub mod pass_laws;
 mod progress;
+pub mod quit_laws;
+pub mod reach_laws;
+pub mod scan_laws;
 mod start_error;
 mod quits;
 mod starting;

@@ -8,9 +8,7 @@ use Rattle.std.proofs.Math.Seq.{take-append_seam, drop-append_seam}
 use Rattle.std.specs.Char.{encode_utf8}
 use Rattle.std.specs.Str.{encode_utf8_all, all_scalars}
 use Rattle.search_core.specs.Utf8.{Spells, SpellsFirst, SpellsLast}
-use Rattle.search_core.proofs.CharacterLemmas.{begun_character, ended_character}
-use Rattle.search_core.proofs.SplitLemmas.{spelling_some}
-use Rattle.search_core.proofs.Utf8Lemmas.{encoded_spells}
+use Rattle.search_core.proofs.ForCallers.{begun_character, ended_character, spelling_some, encoded_spells}
 use Rattle.look_core.specs.Looks.{Side, no_word, word_if, character_side, by_characters, holds}
 use Rattle.look_core.specs.Terminators.{Terminator}
 use Rattle.look_core.specs.Codes.{reversed, is_word_unicode}

@@ -9,7 +9,7 @@ use Rattle.std.specs.List.{All, Contains, flat_map}
 use Rattle.search_core.specs.Text.{byte_at, byte_before}
 use Rattle.search_core.specs.Utf8.{is_word_byte}
 use Rattle.search_core.specs.Marks.{marks_below, recorded, IsUnmarked, IsIn, HoldsAllOrNone}
-use Rattle.search_core.proofs.MarkLemmas.{same_class_tells}
+use Rattle.search_core.proofs.ForCallers.{same_class_tells}
 use Rattle.look_core.specs.Looks.{Reading, byte_side, word_if, is_byte, is_line_end, is_no_word, is_edge_of_word, is_no_edge_of_word, is_start_of_word, is_end_of_word, holds_by, holds_ascii}
 use Rattle.look_core.specs.Terminators.{Terminator, ends_line}
 use Rattle.look_core.specs.ToldApart.{line_ends, crlf_ranges, word_ranges, told_apart}

@@ -1,12 +1,17 @@
--- What other crates' proofs may cite of this crate's, beside its public functions.
+-- What the proofs of other crates may cite of this crate, beside its definitions and its public laws.
+-- looks are told apart by their numbers, which are below eighteen
+pub use Rattle.look_core.proofs.LookRows.{same_from_bit, look_at-bit_of, bit_of-lt}
+-- a look that is turned round twice is as it was
+pub use Rattle.look_core.proofs.LookRows.{reversed_twice}
+-- the members of the empty set, of a set of one look, and of sets that are made of others
+pub use Rattle.look_core.proofs.LookSetLemmas.{has_look-none, has_look-repr, has_look-with, has_look-union, has_look-shared, has_look-without}
+-- sets that are made so have no bits but those of looks
+pub use Rattle.look_core.proofs.LookSetLemmas.{repr-lt, union-lt}
+-- sets with the same members are equal
+pub use Rattle.look_core.proofs.LookSetLemmas.{same_members}
 -- bytes of one class lie alike in each range of which the classes were made
 pub use Rattle.look_core.proofs.ClassLemmas.{same_class_alike}
 -- bytes that lie alike in the ranges of terminators, of word bytes and of one byte read alike as such
 pub use Rattle.look_core.proofs.ClassLemmas.{LieAlike, same_end, same_word, same_byte}
 -- haystacks whose bytes lie alike place by place: what is read beside a place, and the looks there
 pub use Rattle.look_core.proofs.ClassLemmas.{AtEach, same_at, same_before, alike_bytes, same_unicode, word_ranges_told}
--- the members of the empty set, of one look, of a set with one more, of two sets together, shared, and of one without another;
--- sets with the same members are one, and sets have no bit above those of the looks
-pub use Rattle.look_core.proofs.LookSetLemmas.{has_look-none, has_look-repr, has_look-with, has_look-union, has_look-shared, has_look-without, same_members, union-lt, repr-lt}
--- a look is told by its bit
-pub use Rattle.look_core.proofs.LookRows.{same_from_bit, look_at-bit_of, bit_of-lt}

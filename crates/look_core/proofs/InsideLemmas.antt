@@ -7,8 +7,7 @@ use Rattle.std.proofs.lemmas.Option.{slice_get-get_or}
 use Rattle.search_core.specs.Text.{byte_at, byte_before}
 use Rattle.search_core.specs.Utf8.{IsContinuation, Spells}
 use Rattle.search_core.specs.Characters.{one_byte, two_bytes, three_bytes, four_bytes, character_at, character_before, ending_at}
-use Rattle.search_core.proofs.DecodeLemmas.{Leads, spelling_leads}
-use Rattle.search_core.proofs.SplitLemmas.{spelling_tails}
+use Rattle.search_core.proofs.ForCallers.{Leads, spelling_leads, spelling_tails}
 use Rattle.look_core.specs.Looks.{broken, by_characters, holds}
 use Rattle.look_core.specs.Terminators.{Terminator}
 use Rattle.look_core.specs.Codes.{is_word_unicode}

@@ -7,7 +7,7 @@ use Rattle.std.proofs.lemmas.Bool.Decides.{nat_tests}
 use Rattle.std.proofs.lemmas.Option.{slice_get_within, get_or_from_slice_get}
 use Rattle.search_core.specs.Text.{byte_at, byte_before}
 use Rattle.search_core.specs.Utf8.{Decodes, DecodesLast}
-use Rattle.search_core.proofs.CharacterLemmas.{read_at_once, read_before_once}
+use Rattle.search_core.proofs.ForCallers.{read_at_once, read_before_once}
 use Rattle.search_core.specs.Characters.{one_byte, character_at, character_before}
 use Rattle.look_core.specs.Terminators.{Terminator}
 use Rattle.look_core.specs.Looks.{word_if, byte_side, character_side, IsWordSet, by_bytes, by_characters, holds_by, holds, holds_ascii, Reading}

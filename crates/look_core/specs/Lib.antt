@@ -8,3 +8,4 @@ pub mod Sides
 pub mod Matchers
 pub mod Mirror
 pub mod SameClasses
+pub mod ErrorTexts

@@ -18,10 +18,14 @@ impl UnicodeWordBoundaryError {
 }
 
 impl fmt::Display for UnicodeWordBoundaryError {
+    ghost use Rattle.std.specs.Prelude.{Some};
+    ghost use Rattle.look_core.specs.ErrorTexts.{word_boundary_text};
+
+    ghost output = { λ _. Some word_boundary_text };
+
     fn fmt<W: fmt::Write>(&self, f: &mut fmt::Formatter<W>) -> fmt::Result {
-        write!(
-            f,
-            "the table of word characters, which \\b and \\B need for Unicode text, was left out"
+        f.write_str(
+            "the table of word characters, which \\b and \\B need for Unicode text, was left out",
         )
     }
 }

@@ -1,5 +1,5 @@
 -- Bytes of one class, state by state: they lie alike in the ranges that states and their looks tell apart.
-use Rattle.std.proofs.Common.{◌≡◌, ◌==◌, ℕ, zero, suc, ◌<◌, ◌≤◌, ◌↔◌, true, false, Bool, List, [], ◌∷◌, ◌++◌, length, map, replicate, All, get_or, refl, sym, ap, ap₂, ◌∙◌, subst, arith, ⊎_elim, ◌&&◌}
+use Rattle.std.proofs.Common.{◌≡◌, ℕ, zero, suc, ◌<◌, true, false, Bool, List, [], ◌∷◌, ◌++◌, length, map, replicate, All, get_or, refl, ap, ap₂, ◌∙◌, subst, arith, ⊎_elim, ◌&&◌}
 use Rattle.std.proofs.lemmas.Bool.{cases_Bool}
 use Rattle.std.proofs.lemmas.Bool.Decides.{nat_tests}
 use Rattle.std.proofs.lemmas.List.{length-replicate}
@@ -8,7 +8,6 @@ use Rattle.std.specs.List.{flat_map}
 use Rattle.search_core.specs.Marks.{marks_below, recorded, IsUnmarked, HasMarks}
 use Rattle.search_core.proofs.ForCallers.{length-recorded, same_class_of_finer}
 use Rattle.look_core.specs.Codes.{is_anchor_lf, is_anchor_crlf, is_word_look}
-use Rattle.look_core.specs.LookSets.{has_look}
 use Rattle.look_core.specs.Terminators.{Terminator}
 use Rattle.look_core.specs.ToldApart.{told_apart, line_ends, crlf_ranges, word_ranges}
 use Rattle.look_core.specs.declared.look.Look.{Look}
@@ -16,7 +15,7 @@ use Rattle.look_core.specs.declared.look.Look.TheVariants.{Start, End, StartLF, 
 use Rattle.look_core.proofs.ForCallers.{LieAlike, same_class_alike, same_end, same_word, same_byte}
 use Rattle.nfa_core.specs.Alike.{marks_of, AreReadAlike, AreAlike}
 use Rattle.nfa_core.specs.Nfa.{Node, byte_range, sparse_node, dense_node, look_node, union_node, binary_union, capture_node, fail_node, match_node, Automaton, node_at}
-use Rattle.nfa_core.specs.NfaValue.{IsSound, IsNodeOf, told_by, looks_of}
+use Rattle.nfa_core.specs.NfaValue.{IsSound, IsNodeOf, told_by}
 use Rattle.nfa_core.specs.Ways.{on_byte, in_ranges}
 use Rattle.nfa_core.proofs.LookedLemmas.{looks_any}
 

@@ -1,5 +1,5 @@
 -- From any list to do, a walk with one set for all that was met comes to its end, where ways stay in a finite set.
-use Rattle.std.proofs.Common.{◌≡◌, ℕ, zero, suc, ◌+◌, ◌<◌, ◌≤◌, true, false, Bool, List, [], ◌∷◌, ◌++◌, length, ◌-◌, refl, subst, arith, ⊎_elim, length-append}
+use Rattle.std.proofs.Common.{◌≡◌, ℕ, zero, suc, ◌+◌, ◌<◌, ◌≤◌, false, Bool, List, [], ◌∷◌, ◌++◌, length, ◌-◌, refl, subst, arith, ⊎_elim, length-append}
 use Rattle.nfa_core.specs.Walks.{has, Has, Visits, done, held, fresh, HasNoneTwice, IsEquality, IsFinite}
 use Rattle.nfa_core.proofs.MemberLemmas.{none_in, has_or_not, has_later, has_first, of_cons, of_push}
 use Rattle.nfa_core.proofs.JoinLemmas.{once_pushed}

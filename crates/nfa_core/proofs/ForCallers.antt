@@ -1,7 +1,5 @@
 -- What other crates' proofs may cite of this crate's, beside its public functions.
-
 -- ---- equality, and members of lists
-
 -- names are equal, and pairs are, where the test says so; the names below a bound are finitely many
 pub use Rattle.nfa_core.proofs.PairLemmas.{names_equal, pairs_equal, same_here, from_map, finite_names}
 -- nothing is in an empty list; a thing is in a list or not; what is in a longer list, and what holds of all in it
@@ -10,9 +8,9 @@ pub use Rattle.nfa_core.proofs.MemberLemmas.{none_in, not_both, has_or_not, has_
 pub use Rattle.nfa_core.proofs.JoinLemmas.{join-append, join_once, join_brings, of_join, join_flat_map}
 -- an optional value is there or not, and is one value
 pub use Rattle.nfa_core.proofs.PreferenceLemmas.{option_cases, one_value, no_value}
-
+-- what passes a test is in what the test keeps, exactly where it is in all
+pub use Rattle.nfa_core.proofs.RunLemmas.{has_filter}
 -- ---- walks and runs
-
 -- walks of two lists are one walk; a walk comes to one list, and to the same where nothing in it has more ways
 pub use Rattle.nfa_core.proofs.StepLemmas.{joined, one_after, stays_closed}
 -- closed anew from what was kept, what is kept is what it would have been
@@ -33,22 +31,18 @@ pub use Rattle.nfa_core.proofs.HereLemmas.{none_here}
 pub use Rattle.nfa_core.proofs.OverLemmas.{other_lists, first_same}
 -- texts are alike where the looks of the states are read alike
 pub use Rattle.nfa_core.proofs.ReadAlikeLemmas.{alike_by_looks, alike_up}
-
 -- ---- states, and the bytes and looks that they have
-
 -- what a state leads to by what is read, and without a byte, is named by it; what matches is a match
 pub use Rattle.nfa_core.proofs.AutomatonLemmas.{read_led, nothing_led, match_is}
 -- the set of looks has the looks of states; where a sparse state leads
 pub use Rattle.nfa_core.proofs.LookedLemmas.{looks_any, sparse_leads}
 -- bytes of one class are alike for the automaton, also where the classes are finer
 pub use Rattle.nfa_core.proofs.ClassLemmas.{bytes_alike}
--- texts of one class place by place are followed alike, and have the same ends
-pub use Rattle.nfa_core.proofs.SameTextLemmas.{ways_alike, ends_alike}
+-- texts of one class place by place are followed alike, looks of states hold alike in them, and they have the same ends
+pub use Rattle.nfa_core.proofs.SameTextLemmas.{looks_alike, ways_alike, ends_alike}
 -- the walk with a stack over an automaton's states: names below a bound, and what a step of the walk does
 pub use Rattle.nfa_core.proofs.ReachedLemmas.{has_from_all, taken_below, left_below, len_nodes, passes, meets}
-
 -- ---- what is built of a builder's states
-
 -- past a state there is one that stands for itself, and it stays where it is
 pub use Rattle.nfa_core.proofs.RenamingLemmas.{past_itself, past_inside, past_stands, past_twice, past_next}
 -- no two kept states have one name, each name is one's, and a kept state matches what it matched
@@ -59,3 +53,16 @@ pub use Rattle.nfa_core.proofs.RenamingEnds.{name_inside, is_well_formed, ends_l
 pub use Rattle.nfa_core.proofs.TableLemmas.{ends_kept}
 -- the automaton needs no more bytes than the builder
 pub use Rattle.nfa_core.proofs.SizeLemmas.{smaller}
+-- where lists are joined and repeats dropped, repeats within them don't show
+pub use Rattle.nfa_core.proofs.JoinedWays.{join_once_more, join_distinct_each}
+-- the ends from a pair to which nothing leads back
+pub use Rattle.nfa_core.proofs.JoinedWays.{ends_by_ways}
+-- the looks of states, one by one
+pub use Rattle.nfa_core.proofs.NfaLookLemmas.{has_looks}
+-- where the automaton that is built leads, by the builder's table: under new names to the same places, and what is of a
+-- renamed list comes from one of the list
+pub use Rattle.nfa_core.proofs.RenamingAutomaton.{renamed_pair, state_ways}
+pub use Rattle.nfa_core.proofs.RenamingWalks.{from_mapped}
+pub use Rattle.nfa_core.proofs.RenamingAnswers.{every_of_all}
+-- a chain of what is built that comes to a kept state is one of the table
+pub use Rattle.nfa_core.proofs.RenamingPlaces.{chain_to}

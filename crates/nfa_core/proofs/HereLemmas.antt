@@ -1,5 +1,5 @@
 -- Where no match is reached without a byte, no run ends at the place where it begins.
-use Rattle.std.proofs.Common.{◌≡◌, ℕ, suc, ◌<◌, ◌≤◌, true, false, Bool, if◌then◌else◌, List, [], ◌∷◌, map, refl, sym, ap, ◌∙◌, ⊎_elim, Option, Some, None, subst, arith}
+use Rattle.std.proofs.Common.{◌≡◌, ℕ, ◌≤◌, true, false, Bool, if◌then◌else◌, List, [], ◌∷◌, map, refl, sym, ap, ◌∙◌, ⊎_elim, Option, Some, None, subst, arith}
 use Rattle.std.specs.Bool.{nat_eq}
 use Rattle.look_core.specs.declared.look.Look.{Look}
 use Rattle.nfa_core.specs.Walks.{Has}
@@ -7,7 +7,7 @@ use Rattle.nfa_core.specs.Runs.{IsChain, last_or}
 use Rattle.nfa_core.specs.Places.{same_pair}
 use Rattle.nfa_core.specs.Nfa.{Node, byte_range, sparse_node, dense_node, look_node, union_node, binary_union, capture_node, fail_node, match_node, Automaton, node_at}
 use Rattle.nfa_core.specs.NfaValue.{IsSound, free_steps, reached_freely, is_match, has_empty}
-use Rattle.nfa_core.specs.Ways.{Text, reads, is_passed, on_read, on_nothing, place_behind, ways, matched, match_of, IsPairOf, ends_from}
+use Rattle.nfa_core.specs.Ways.{Text, reads, is_passed, on_read, on_nothing, place_behind, ways, IsPairOf, ends_from}
 use Rattle.nfa_core.proofs.MemberLemmas.{none_in, not_both, has_append}
 use Rattle.nfa_core.proofs.PairLemmas.{names_equal, from_map}
 use Rattle.nfa_core.proofs.AutomatonLemmas.{IsBeside, reads_beside, match_is}

@@ -6,7 +6,7 @@ use Rattle.std.proofs.lemmas.List.{length-map, get_or-map, take_more, map-append
 use Rattle.std.proofs.lemmas.List.Elements.{filter-append}
 use Rattle.search_core.specs.Index.{greatest_index}
 use Rattle.search_types.specs.Groups.{Groups, slot, slot_len}
-use Rattle.search_types.proofs.GroupLaws.{slot_in_range}
+use Rattle.search_types.proofs.ForCallers.{slot_in_range}
 use Rattle.nfa_core.specs.Nfa.{Node}
 use Rattle.nfa_core.specs.BuilderStates.{Part, fail_part}
 use Rattle.nfa_core.specs.Renaming.{stands_for, kept}

@@ -13,6 +13,7 @@ pub mod AutomatonLemmas
 pub mod StepLemmas
 pub mod KeptLemmas
 pub mod EndsLemmas
+pub mod JoinedWays
 pub mod RelabelLemmas
 pub mod BehindLemmas
 pub mod RunRows
@@ -27,7 +28,9 @@ pub mod RenamingRanks
 pub mod RenamingNodes
 pub mod RenamingAutomaton
 pub mod RenamingWalks
+pub mod RenamingAnswers
 pub mod RenamingRuns
+pub mod RenamingPlaces
 pub mod RenamingOnce
 pub mod RenamingEnds
 pub mod OrderLemmas

@@ -7,8 +7,7 @@ use Rattle.std.specs.Option.{option_to_list}
 use Rattle.look_core.specs.declared.look.Look.{Look}
 use Rattle.look_core.specs.Codes.{repr, bit_of}
 use Rattle.look_core.specs.LookSets.{has_look}
-use Rattle.look_core.proofs.LookSetLemmas.{has_look-none, has_look-repr}
-use Rattle.look_core.proofs.LookRows.{same_from_bit}
+use Rattle.look_core.proofs.ForCallers.{has_look-none, has_look-repr, same_from_bit}
 use Rattle.nfa_core.specs.Nfa.{Node, byte_range, sparse_node, dense_node, look_node, union_node, binary_union, capture_node, fail_node, match_node, Automaton, node_at}
 use Rattle.nfa_core.specs.NfaValue.{look_of, looks_of, reached_freely, prefix_looks}
 use Rattle.nfa_core.specs.Transitions.{sparse_next, dense_next, name_or_none}

@@ -4,7 +4,7 @@ use Rattle.std.specs.List.{list_any, fold}
 use Rattle.std.specs.Bool.{nat_eq}
 use Rattle.look_core.specs.declared.look.Look.{Look}
 use Rattle.look_core.specs.LookSets.{IsLookSet, has_look, union_of}
-use Rattle.look_core.proofs.LookSetLemmas.{has_look-union, has_look-none, repr-lt, same_members, union-lt}
+use Rattle.look_core.proofs.ForCallers.{has_look-union, has_look-none, repr-lt, same_members, union-lt}
 use Rattle.nfa_core.specs.Nfa.{Node, byte_range, sparse_node, dense_node, look_node, union_node, binary_union, capture_node, fail_node, match_node, Automaton, node_at}
 use Rattle.nfa_core.specs.NfaValue.{look_of, looks_of, is_match, reached_freely, has_empty, prefix_looks}
 use Rattle.nfa_core.specs.Walks.{distinct}

@@ -1,10 +1,10 @@
 -- Two readings of looks that agree on the looks of an automaton make texts that are alike for it.
-use Rattle.std.proofs.Common.{◌≡◌, ℕ, zero, suc, ◌+◌, ◌≤◌, Bool, true, false, cond, List, [], ◌∷◌, refl, sym, ap, ⊎_elim, arith}
+use Rattle.std.proofs.Common.{◌≡◌, ℕ, zero, suc, ◌+◌, ◌≤◌, Bool, true, false, cond, List, [], ◌∷◌, refl, ap, arith}
 use Rattle.look_core.specs.declared.look.Look.{Look}
 use Rattle.look_core.specs.LookSets.{has_look}
 use Rattle.nfa_core.specs.Nfa.{Node, byte_range, sparse_node, dense_node, look_node, union_node, binary_union, capture_node, fail_node, match_node, Automaton, node_at}
 use Rattle.nfa_core.specs.NfaValue.{looks_of}
-use Rattle.nfa_core.specs.Ways.{span, reads, is_passed, on_nothing, on_read, place_of}
+use Rattle.nfa_core.specs.Ways.{reads, is_passed, on_nothing, on_read, place_of}
 use Rattle.nfa_core.proofs.LookedLemmas.{looks_any}
 use Rattle.nfa_core.specs.Reaches.{IsAlike, read_by}
 

@@ -1,135 +1,41 @@
 -- What a builder's table lists and finds, the automaton that is built of it lists and finds too.
-use Rattle.std.proofs.Common.{◌≡◌, ℕ, zero, suc, ◌<◌, ◌⊎◌, inl, inr, ⊎_elim, Bool, List, [], ◌∷◌, length, take, map, reverse, refl, sym, ap, ◌∙◌, subst, Option, Some, None}
-use Rattle.std.specs.Prelude.{All}
-use Rattle.std.specs.Bool.{nat_eq}
-use Rattle.std.proofs.lemmas.List.Elements.{All-get_or, All-head, All-tail}
-use Rattle.std.proofs.lemmas.List.Sorted.{IsPermutation-reverse, All-permutation}
-use Rattle.look_core.specs.declared.look.Look.{Look}
-use Rattle.nfa_core.specs.Nfa.{Node, leads_to}
-use Rattle.nfa_core.specs.BuilderStates.{Part, empty_part, range_part, sparse_part, look_part, capture_start_part, capture_end_part, union_part, union_reverse_part, fail_part, match_part, part_at, Assembly}
-use Rattle.nfa_core.specs.CanBuild.{names_of, CanBuild}
-use Rattle.nfa_core.specs.Drafted.{drafted, table_ways, table_match}
+use Rattle.std.proofs.Common.{◌≡◌, ℕ, ◌<◌, List, [], ◌∷◌, length, Some}
+use Rattle.nfa_core.specs.BuilderStates.{part_at, Assembly}
+use Rattle.nfa_core.specs.CanBuild.{CanBuild}
+use Rattle.nfa_core.specs.Drafted.{table_ways, table_match}
 use Rattle.nfa_core.specs.Places.{same_pair}
-use Rattle.nfa_core.specs.Walks.{Has, Lists}
+use Rattle.nfa_core.specs.Walks.{Lists}
 use Rattle.nfa_core.specs.Runs.{IsChain, last_or}
-use Rattle.nfa_core.specs.Ways.{Text, reads, is_passed, on_read, on_nothing, place_behind, node_ways, ways, matched}
-use Rattle.nfa_core.specs.Renaming.{stands_for, kept, new_name, automaton_of}
-use Rattle.nfa_core.proofs.MemberLemmas.{none_in, of_cons, of_append, has_first}
-use Rattle.nfa_core.proofs.PairLemmas.{names_equal, pairs_equal, from_map}
-use Rattle.nfa_core.proofs.AutomatonLemmas.{read_led, nothing_led}
-use Rattle.nfa_core.proofs.PreferenceLemmas.{option_cases}
-use Rattle.nfa_core.proofs.RenamingLemmas.{Comes, comes_to, past_next, next_inside}
-use Rattle.nfa_core.proofs.RenamingNodes.{ways_of_stand, match_of_stand}
-use Rattle.nfa_core.proofs.RenamingAutomaton.{state_ways, state_match, renamed_pair}
-use Rattle.nfa_core.proofs.RenamingWalks.{IsKept, StandsIn, Settled, lists_carried, carried_forth, carried_back}
-
--- ---- the names that a state leads to are those that it names
-
--- each of the list has the property
-abbrev pub Every : (ℕ → Type 0) → List ℕ → Type 0
-Every P xs = (r : ℕ) → Has nat_eq r xs → P r
-
-pub every_of_all : (P : ℕ → Type 0) (xs : List ℕ) → All P xs → Every P xs
-every_of_all P [] all r h = none_in nat_eq r _ h
-every_of_all P (x ∷ xs) all r h = of_cons nat_eq names_equal P x xs (All-head P x xs all) (every_of_all P xs (All-tail P x xs all)) r h
-
-pub led_names : (P : ℕ → Type 0) (part : Part) → All P (names_of part) → All P (leads_to (drafted part))
-led_names P (empty_part next) all = all
-led_names P (range_part low high next) all = all
-led_names P (sparse_part ranges) all = all
-led_names P (look_part look next) all = all
-led_names P (capture_start_part pattern group next) all = all
-led_names P (capture_end_part pattern group next) all = all
-led_names P (union_part names) all = all
-led_names P (union_reverse_part names) all = All-permutation P names (reverse names) (IsPermutation-reverse names) all
-led_names P fail_part all = all
-led_names P (match_part pattern) all = all
-
-pub node_ways_inside : (down : Bool) (t : Text) (node : Node) (n i : ℕ) → All (λ r. r < n) (leads_to node) → (p : ℕ × ℕ) → Has same_pair p (node_ways down t node i) → p.1 < n
-node_ways_inside down t node n i all =
-    let below : Every (λ r. r < n) (leads_to node) = every_of_all (λ r. r < n) (leads_to node) all in
-    let read : Option (ℕ × ℕ) = reads down t i in
-    let passed : Look → Bool = λ l. is_passed down t l i in
-    let j : ℕ = place_behind i read in
-    let I : ℕ × ℕ → Type 0 = λ p. p.1 < n in
-    of_append same_pair pairs_equal I (map (λ q. (j, q)) (on_read node read)) (map (λ q. (i, q)) (on_nothing node passed))
-    (λ p h. let o = from_map j p (on_read node read) h in let l : o.0 < n = below o.0 (read_led node read o.0 o.1) in rw o.2 l)
-    (λ p h. let o = from_map i p (on_nothing node passed) h in let l : o.0 < n = below o.0 (nothing_led node passed o.0 o.1) in rw o.2 l)
-
--- ---- the table and the automaton
+use Rattle.nfa_core.specs.Ways.{Text, ways, matched}
+use Rattle.nfa_core.specs.Renaming.{new_name, automaton_of}
+use Rattle.nfa_core.proofs.RenamingNodes.{match_of_stand}
+use Rattle.nfa_core.proofs.RenamingAutomaton.{state_match}
+use Rattle.nfa_core.proofs.RenamingAnswers.{AnswerAlike, lists_renamed, renamed_forth, renamed_back}
+pub use Rattle.nfa_core.proofs.RenamingAnswers.{Every, every_of_all, led_names}
 
 module _ (b : Assembly) (x y : ℕ) (can : CanBuild b x y) (t : Text) where
-  abbrev IsInside : ℕ × ℕ → Type 0
-  IsInside p = p.1 < length b.parts
+  matches_alike : AnswerAlike b x y can t (table_match (part_at b.parts)) (matched (automaton_of b x y))
+  matches_alike =
+      record { kept = λ p here e. state_match b x y p.1 p.0 here e; stands = λ p r e. match_of_stand (part_at b.parts p.1) r e p.0 }
 
-  abbrev from : ℕ × ℕ → List (ℕ × ℕ)
-  from p = table_ways b.reverse t (part_at b.parts) p
-
-  abbrev found : ℕ × ℕ → Option (ℕ × ℕ)
-  found p = table_match (part_at b.parts) p
-
-  abbrev from_built : ℕ × ℕ → List (ℕ × ℕ)
-  from_built p = ways (automaton_of b x y) t p
-
-  abbrev found_built : ℕ × ℕ → Option (ℕ × ℕ)
-  found_built p = matched (automaton_of b x y) p
-
-  abbrev Kept : ℕ × ℕ → Type 0
-  Kept p = IsKept same_pair pairs_equal same_pair pairs_equal (renamed_pair b.parts) from found from_built found_built p
-
-  abbrev Stands : ℕ × ℕ → Type 0
-  Stands p = StandsIn same_pair pairs_equal same_pair pairs_equal (renamed_pair b.parts) from found from_built found_built p
-
-  pub stays : (p : ℕ × ℕ) → IsInside p → (q : ℕ × ℕ) → Has same_pair q (from p) → IsInside q
-  stays p here q way =
-      let named : All (λ r. r < length b.parts) (names_of (part_at b.parts p.1)) = All-get_or (λ part. All (λ r. r < length b.parts) (names_of part)) b.parts p.1 fail_part here can.named in
-      node_ways_inside b.reverse t (drafted (part_at b.parts p.1)) (length b.parts) p.0 (led_names (λ r. r < length b.parts) (part_at b.parts p.1) named) q way
-
-  is_kept : (p : ℕ × ℕ) → IsInside p → stands_for (part_at b.parts p.1) ≡ None → Kept p
-  is_kept p here e = (state_ways b x y p.1 p.0 t here e, state_match b x y p.1 p.0 here e)
-
-  pub same_name : (q r : ℕ) → stands_for (part_at b.parts q) ≡ Some r → new_name b.parts q ≡ new_name b.parts r
-  same_name q r e = ap (λ k. length (kept (take k b.parts))) (past_next b.parts can.no_loop q r e)
-
-  stands_in : (p : ℕ × ℕ) (r : ℕ) → stands_for (part_at b.parts p.1) ≡ Some r → Stands p
-  stands_in p r e = ((p.0, r), ways_of_stand (part_at b.parts p.1) r e b.reverse t p.0, match_of_stand (part_at b.parts p.1) r e p.0, ap (λ n. (p.0, n)) (same_name p.1 r e))
-
-  either : (p : ℕ × ℕ) → IsInside p → Kept p ⊎ Stands p
-  either p here = ⊎_elim (λ (none : stands_for (part_at b.parts p.1) ≡ None). inl (is_kept p here none))
-      (λ (some : (r : ℕ) × (stands_for (part_at b.parts p.1) ≡ Some r)). inr (stands_in p some.0 some.1)) (option_cases (stands_for (part_at b.parts p.1)))
-
-  abbrev IsSettled : ℕ × ℕ → Type 0
-  IsSettled p = Settled same_pair pairs_equal same_pair pairs_equal (renamed_pair b.parts) from found from_built found_built IsInside p
-
-  settle_by : (m i q : ℕ) → q < length b.parts → Comes b.parts m q → IsSettled (i, q)
-  settle_by zero i q here c = record { at = (i, q); inside = here; kept = is_kept (i, q) here c; named = refl; leads = λ e f. f }
-  settle_by (suc m) i q here c =
-      let k = settle_by m i c.0 (next_inside b.parts can.named q c.0 c.1) c.2 in
-      let way : from (i, q) ≡ (i, c.0) ∷ [] = ways_of_stand (part_at b.parts q) c.0 c.1 b.reverse t i in
-      let W : List (ℕ × ℕ) → Type 0 = λ w. Has same_pair (i, c.0) w in
-      let there : W (from (i, q)) = subst W (sym way) (has_first same_pair pairs_equal (i, c.0) []) in
-      record {
-        at = k.at;
-        inside = k.inside;
-        kept = k.kept;
-        named = ap (λ n. (i, n)) (same_name q c.0 c.1) ∙ k.named;
-        leads = λ e f. let g = k.leads e f in ((i, c.0) ∷ g.0, (there, g.1), g.2);
-      }
-
-  settle : (p : ℕ × ℕ) → IsInside p → IsSettled p
-  settle p here = let c = comes_to b.parts can.no_loop p.1 here in settle_by c.0 p.0 p.1 here c.1
-
-  pub same_lists : (q i : ℕ) (l : List (ℕ × ℕ)) → q < length b.parts → Lists (table_ways b.reverse t (part_at b.parts)) (table_match (part_at b.parts)) ((i, q) ∷ []) l →
+  pub same_lists : (q i : ℕ) (l : List (ℕ × ℕ)) → q < length b.parts →
+      Lists (table_ways b.reverse t (part_at b.parts)) (table_match (part_at b.parts)) ((i, q) ∷ []) l →
       Lists (ways (automaton_of b x y) t) (matched (automaton_of b x y)) ((i, new_name b.parts q) ∷ []) l
-  same_lists q i l here walk = lists_carried same_pair pairs_equal same_pair pairs_equal (renamed_pair b.parts) from found from_built found_built IsInside stays either walk
-      (of_cons same_pair pairs_equal IsInside (i, q) [] here (λ p h. none_in same_pair p _ h))
+  same_lists q i l here walk =
+      lists_renamed b x y can t (table_match (part_at b.parts)) (matched (automaton_of b x y)) matches_alike (i, q) l here walk
 
-  pub chains_forth : (q i : ℕ) (r : List (ℕ × ℕ)) (e : ℕ × ℕ) → q < length b.parts → IsChain same_pair (table_ways b.reverse t (part_at b.parts)) (i, q) r →
+  pub chains_forth : (q i : ℕ) (r : List (ℕ × ℕ)) (e : ℕ × ℕ) → q < length b.parts →
+      IsChain same_pair (table_ways b.reverse t (part_at b.parts)) (i, q) r →
       table_match (part_at b.parts) (last_or (i, q) r) ≡ Some e →
-      (s : List (ℕ × ℕ)) × IsChain same_pair (ways (automaton_of b x y) t) (i, new_name b.parts q) s × (matched (automaton_of b x y) (last_or (i, new_name b.parts q) s) ≡ Some e)
-  chains_forth q i r e here chain is = carried_forth same_pair pairs_equal same_pair pairs_equal (renamed_pair b.parts) from found from_built found_built IsInside stays either r (i, q) here e chain is
+      (s : List (ℕ × ℕ)) × IsChain same_pair (ways (automaton_of b x y) t) (i, new_name b.parts q) s
+      × (matched (automaton_of b x y) (last_or (i, new_name b.parts q) s) ≡ Some e)
+  chains_forth q i r e here chain is =
+      renamed_forth b x y can t (table_match (part_at b.parts)) (matched (automaton_of b x y)) matches_alike (i, q) r e here chain is
 
-  pub chains_back : (q i : ℕ) (s : List (ℕ × ℕ)) (e : ℕ × ℕ) → q < length b.parts → IsChain same_pair (ways (automaton_of b x y) t) (i, new_name b.parts q) s →
+  pub chains_back : (q i : ℕ) (s : List (ℕ × ℕ)) (e : ℕ × ℕ) → q < length b.parts →
+      IsChain same_pair (ways (automaton_of b x y) t) (i, new_name b.parts q) s →
       matched (automaton_of b x y) (last_or (i, new_name b.parts q) s) ≡ Some e →
-      (r : List (ℕ × ℕ)) × IsChain same_pair (table_ways b.reverse t (part_at b.parts)) (i, q) r × (table_match (part_at b.parts) (last_or (i, q) r) ≡ Some e)
-  chains_back q i s e here chain is = carried_back same_pair pairs_equal same_pair pairs_equal (renamed_pair b.parts) from found from_built found_built IsInside stays either settle s (i, q) here e chain is
+      (r : List (ℕ × ℕ)) × IsChain same_pair (table_ways b.reverse t (part_at b.parts)) (i, q) r
+      × (table_match (part_at b.parts) (last_or (i, q) r) ≡ Some e)
+  chains_back q i s e here chain is =
+      renamed_back b x y can t (table_match (part_at b.parts)) (matched (automaton_of b x y)) matches_alike (i, q) s e here chain is

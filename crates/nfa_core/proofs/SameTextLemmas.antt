@@ -4,8 +4,9 @@ use Rattle.std.proofs.lemmas.Bool.{cases_Bool}
 use Rattle.std.specs.Bool.{nat_le, nat_lt}
 use mathlib.Core.Path.{fun_ext}
 use Rattle.search_core.specs.Marks.{marks_below, HasMarks}
-use Rattle.search_core.specs.Text.{byte_at, byte_before}
+use Rattle.search_core.specs.Text.{byte_at}
 use Rattle.look_core.specs.Codes.{reversed, is_word_unicode}
+use Rattle.look_core.specs.LookSets.{has_look}
 use Rattle.look_core.specs.Looks.{Side, by_bytes, byte_side, word_if, holds_ascii}
 use Rattle.look_core.specs.SameClasses.{HaveSameClasses}
 use Rattle.look_core.specs.Terminators.{Terminator}
@@ -13,13 +14,14 @@ use Rattle.look_core.specs.ToldApart.{told_apart, word_ranges}
 use Rattle.look_core.specs.declared.look.Look.{Look}
 use Rattle.look_core.specs.declared.look.Look.TheVariants.{Start, End, StartLF, EndLF, StartCRLF, EndCRLF, WordAscii, WordAsciiNegate, WordUnicode, WordUnicodeNegate, WordStartAscii, WordEndAscii, WordStartUnicode, WordEndUnicode, WordStartHalfAscii, WordEndHalfAscii, WordStartHalfUnicode, WordEndHalfUnicode}
 use Rattle.look_core.proofs.ForCallers.{LieAlike, AtEach, same_at, same_before, same_word, alike_bytes, same_unicode, word_ranges_told}
-use Rattle.nfa_core.specs.Alike.{marks_of, AreAlike}
+use Rattle.nfa_core.specs.Alike.{marks_of}
 use Rattle.nfa_core.specs.Nfa.{Node, byte_range, sparse_node, dense_node, look_node, union_node, binary_union, capture_node, fail_node, match_node, Automaton, node_at}
-use Rattle.nfa_core.specs.NfaValue.{IsSound, told_by}
+use Rattle.nfa_core.specs.NfaValue.{IsSound, told_by, looks_of}
 use Rattle.nfa_core.specs.Places.{same_pair}
 use Rattle.nfa_core.specs.Runs.{run_ends}
 use Rattle.nfa_core.specs.Ways.{span, reads, with_place, is_passed, on_byte, on_nothing, on_read, place_behind, ways, matched, ends_from}
 use Rattle.nfa_core.proofs.ClassLemmas.{lie_alike, bytes_alike}
+use Rattle.nfa_core.proofs.LookedLemmas.{looks_any}
 
 turned_alike : (t : Terminator) (l : Look) → told_apart t (reversed l) ≡ told_apart t l
 turned_alike t Start = refl
@@ -108,3 +110,10 @@ module _ (a : Automaton) (t : Terminator) (marks : List Bool) (h g : List ℕ) (
 
   pub ends_alike : (p : ℕ × ℕ) → ends_from a (span t h start end) p ≡ ends_from a (span t g start end) p
   ends_alike p = ap (λ (w : ℕ × ℕ → List (ℕ × ℕ)). run_ends same_pair same_pair w (matched a) (suc end * length a.states) p) (fun_ext ways_alike)
+
+  -- looks of states hold alike
+  pub looks_alike : (l : Look) → has_look (looks_of a.states) l ≡ true → (i : ℕ) → holds_ascii t h l i ≡ holds_ascii t g l i
+  looks_alike l there i =
+      let r = (looks_any l a).0 there in
+      same_look t h g classes.0 l (at_each (λ b c. All (LieAlike b c) (told_apart t l)) (λ b c lb lc same.
+      let P : Node → Type 0 = λ node. All (LieAlike b c) (told_by t node) in subst P r.2 (lie_alike a t marks b c has lb lc same r.0))) i

@@ -22,7 +22,7 @@ use Rattle.nfa_core.proofs.RenamingAutomaton.{state_ways, state_match, one_state
 use Rattle.nfa_core.proofs.RenamingEnds.{name_inside, is_well_formed}
 use Rattle.nfa_core.proofs.RenamingLemmas.{Comes, comes_to}
 use Rattle.nfa_core.proofs.RenamingNodes.{ways_of_stand, match_of_stand}
-use Rattle.nfa_core.proofs.RenamingRuns.{stays, same_name}
+use Rattle.nfa_core.proofs.RenamingAnswers.{stays, same_name}
 use Rattle.nfa_core.proofs.RunLemmas.{walk_ends}
 
 -- no way leads behind the text's end

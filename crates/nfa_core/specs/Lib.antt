@@ -25,3 +25,4 @@ pub mod Checks
 pub mod Alike
 pub mod Reaches
 pub mod BuildErrors
+pub mod Returns

@@ -3,11 +3,12 @@
 //!
 //! The definitions are in `specs/`: an automaton in `Nfa.antt`, where its states lead in `Ways.antt`, runs and
 //! their preference in `Runs.antt`, walks in `Walks.antt`, lists of states by place in `Places.antt`. Their
-//! laws are public functions without code in [`run_laws`], [`place_laws`] and [`walk_laws`]. What a builder
+//! laws are public functions without code in [`run_laws`], [`place_laws`], [`walk_laws`] and [`way_laws`]. What a builder
 //! holds is in `BuilderStates.antt`, why it refuses in `BuilderFaults.antt`, and the automaton that its states
 //! stand for in `Renaming.antt`, with laws in [`builder_laws`] and [`builder_size_laws`]. What is asked before
 //! it is built is in `CanBuild.antt`, and what is built in `NfaOf.antt`. What an [`NFA`] knows of its automaton
-//! is in `NfaValue.antt`, with laws in [`nfa_laws`].
+//! is in `NfaValue.antt`, which bytes it doesn't tell apart in `Alike.antt`, with laws in [`nfa_laws`]. How far
+//! runs read is in `Reaches.antt`, with laws in [`text_laws`].
 #![tactic(auto)]
 
 mod build_error;
@@ -45,6 +46,7 @@ mod steps;
 pub mod text_laws;
 mod transition;
 pub mod walk_laws;
+pub mod way_laws;
 
 pub use build_error::BuildError;
 pub use builder::Builder;

@@ -5,6 +5,7 @@ ghost use Rattle.std.specs.Option.{option_to_list};
 ghost use Rattle.search_core.specs.Marks.{marks_below, HasMarks};
 ghost use Rattle.look_core.specs.declared.look.Look.{Look};
 ghost use Rattle.look_core.specs.LookSets.{has_look};
+ghost use Rattle.look_core.specs.Looks.{holds_ascii};
 ghost use Rattle.look_core.specs.SameClasses.{HaveSameClasses};
 ghost use Rattle.look_core.specs.Terminators.{Terminator};
 ghost use Rattle.nfa_core.specs.Alike.{marks_of, AreAlike};
@@ -31,8 +32,12 @@ pub fn bytes_of_one_class_are_alike()
         b < 256 → c < 256 → marks_below marks b ≡ marks_below marks c → AreAlike t a b c }
 {}
 
-/// Texts whose bytes are of one class place by place are followed alike, and runs find the same ends in them.
+/// Texts whose bytes are of one class place by place are followed alike, the looks of states hold at the same
+/// places, and runs find the same ends.
 pub fn texts_of_one_class_are_followed_alike()
+    ensures looks { (a : Automaton) (t : Terminator) (marks : List Bool) (h g : List ℕ) (l : Look) (i : ℕ) → IsSound a →
+        HasMarks marks (marks_of t a.states) → All (λ b. b < 256) h → All (λ b. b < 256) g → HaveSameClasses marks h g →
+        has_look (looks_of a.states) l ≡ true → holds_ascii t h l i ≡ holds_ascii t g l i }
     ensures ways { (a : Automaton) (t : Terminator) (marks : List Bool) (h g : List ℕ) (start end : ℕ) (p : ℕ × ℕ) → IsSound a →
         HasMarks marks (marks_of t a.states) → All (λ b. b < 256) h → All (λ b. b < 256) g → HaveSameClasses marks h g →
         ways a (span t h start end) p ≡ ways a (span t g start end) p }

@@ -27,3 +27,10 @@ range_end set b = b + prefix_len (λ m. m) (drop (b + 1) set)
 -- the maximal ranges of the set that start at `from` or above, ascending
 abbrev pub ranges_from : List Bool → ℕ → List (ℕ × ℕ)
 ranges_from set from = map (λ b. (b, range_end set b)) (bytes_where (starts_range set) from 256)
+
+-- all bytes of the set, and all its maximal ranges, ascending
+abbrev pub members_of : List Bool → List ℕ
+members_of set = bytes_where (has set) 0 256
+
+abbrev pub ranges_of : List Bool → List (ℕ × ℕ)
+ranges_of set = ranges_from set 0

@@ -1,4 +1,5 @@
 pub mod Index
+pub mod ErrorTexts
 pub mod Text
 pub mod Utf8
 pub mod Characters

@@ -1,5 +1,5 @@
 ghost use Rattle.std.specs.Prelude.{◌≡◌, ℕ, ◌+◌, ◌<◌, ◌≤◌, ◌↔◌, IsTrue, true, false, length, slice_set};
-ghost use Rattle.search_core.specs.ByteSets.{has, IsFirstWhere, starts_range, range_end, ranges_from, bytes_where};
+ghost use Rattle.search_core.specs.ByteSets.{has, IsFirstWhere, starts_range, range_end, ranges_of, members_of};
 
 use crate::byte_set_iter::{ByteSetIter, ByteSetRangeIter};
 use std::marker::Model;
@@ -68,7 +68,7 @@ impl ByteSet {
 
     /// The bytes of the set, ascending.
     pub fn iter(&self) -> ByteSetIter<'_>
-        ensures { result ≡ bytes_where (has self.now) 0 256 }
+        ensures { result ≡ members_of self.now }
     {
         ByteSetIter::new(self)
     }
@@ -76,7 +76,7 @@ impl ByteSet {
     /// The ranges of bytes that are in the set, none of which touches another: the first byte and the
     /// last of each, ascending.
     pub fn iter_ranges(&self) -> ByteSetRangeIter<'_>
-        ensures { result ≡ ranges_from self.now 0 }
+        ensures { result ≡ ranges_of self.now }
     {
         ByteSetRangeIter::new(self)
     }

@@ -1,6 +1,6 @@
 ghost use Rattle.std.specs.Prelude.{◌≡◌};
 ghost use Rattle.std.specs.Iterator.{YieldsFirst, item_count};
-ghost use Rattle.search_core.specs.ByteSets.{has, bytes_where, ranges_from};
+ghost use Rattle.search_core.specs.ByteSets.{members_of, ranges_of};
 
 use crate::byte_set::ByteSet;
 use std::marker::Model;
@@ -23,7 +23,7 @@ impl<'a> Model for ByteSetIter<'a> {
 
 impl<'a> ByteSetIter<'a> {
     pub(crate) fn new(set: &'a ByteSet) -> ByteSetIter<'a>
-        ensures { result ≡ bytes_where (has set.now) 0 256 }
+        ensures { result ≡ members_of set.now }
     {
         ByteSetIter { set, from: 0 }
     }
@@ -61,7 +61,7 @@ impl<'a> Model for ByteSetRangeIter<'a> {
 
 impl<'a> ByteSetRangeIter<'a> {
     pub(crate) fn new(set: &'a ByteSet) -> ByteSetRangeIter<'a>
-        ensures { result ≡ ranges_from set.now 0 }
+        ensures { result ≡ ranges_of set.now }
     {
         ByteSetRangeIter { set, from: 0 }
     }

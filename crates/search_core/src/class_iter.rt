@@ -1,6 +1,6 @@
 ghost use Rattle.std.specs.Prelude.{◌≡◌, ◌≤◌, ◌+◌, slice_index};
 ghost use Rattle.std.specs.Iterator.{YieldsFirst, item_count};
-ghost use Rattle.search_core.specs.Classes.{units_from, elements_from, first_units};
+ghost use Rattle.search_core.specs.Classes.{units_from, elements_of, representatives_of};
 
 use crate::classes::ByteClasses;
 use crate::unit::Unit;
@@ -74,7 +74,7 @@ impl<'a> Model for ByteClassElements<'a> {
 
 impl<'a> ByteClassElements<'a> {
     pub(crate) fn new(classes: &'a ByteClasses, class: Unit) -> ByteClassElements<'a>
-        ensures { result ≡ elements_from classes.now class 0 }
+        ensures { result ≡ elements_of classes.now class }
     {
         ByteClassElements {
             classes,
@@ -134,7 +134,7 @@ impl<'a> ByteClassRepresentatives<'a> {
         lo: u8,
         hi: Option<u8>,
     ) -> ByteClassRepresentatives<'a>
-        ensures { result ≡ first_units classes.now lo hi lo }
+        ensures { result ≡ representatives_of classes.now lo hi }
     {
         ByteClassRepresentatives {
             classes,

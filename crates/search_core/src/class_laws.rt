@@ -1,6 +1,7 @@
 //! Laws of the classes by marks. Each function has no code: its contract is the law.
-ghost use Rattle.std.specs.Prelude.{◌≡◌, ℕ, ◌+◌, ◌<◌, ◌≤◌, ◌⊎◌, ◌↔◌, Bool, List, length};
+ghost use Rattle.std.specs.Prelude.{◌≡◌, ℕ, ◌+◌, ◌<◌, ◌≤◌, ◌⊎◌, ◌↔◌, Bool, List, length, slice_index};
 ghost use Rattle.std.specs.List.{All};
+ghost use Rattle.search_core.specs.Classes.{IsRising};
 ghost use Rattle.search_core.specs.Marks.{marks_below, recorded, IsUnmarked, IsRangeBelow, IsIn, HoldsAllOrNone, HasMarks};
 
 /// Classes by marks start at 0, and rise by at most one from byte to byte.
@@ -9,6 +10,16 @@ pub fn classes_rise_by_one()
     ensures start { (marks : List Bool) → marks_below marks 0 ≡ 0 }
     ensures next { (marks : List Bool) (b : ℕ) → b < length marks →
         (marks_below marks (b + 1) ≡ marks_below marks b) ⊎ (marks_below marks (b + 1) ≡ marks_below marks b + 1) }
+{}
+
+/// Classes that start at 0 and rise by at most one from byte to byte have the numbers up to that of the
+/// last byte: each is the class of a byte, and no byte has a greater one. Where that number is 255, each
+/// byte is in a class of its own.
+pub fn classes_that_rise_are_numbered_by_the_last()
+    ensures met { (classes : List ℕ) (c : ℕ) → IsRising classes → c ≤ slice_index classes 255 →
+        (b : ℕ) × (b < 256) × (slice_index classes b ≡ c) }
+    ensures most { (classes : List ℕ) (b : ℕ) → IsRising classes → b < 256 → slice_index classes b ≤ slice_index classes 255 }
+    ensures own { (classes : List ℕ) (b : ℕ) → IsRising classes → slice_index classes 255 ≡ 255 → b < 256 → slice_index classes b ≡ b }
 {}
 
 /// By the marks of ranges, two bytes are in one class exactly where each range holds all bytes from one

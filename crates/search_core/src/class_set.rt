@@ -1,6 +1,7 @@
 ghost use Rattle.std.specs.Prelude.{◌≡◌, ℕ, ◌<◌, ◌≤◌, false, length, slice_index, slice_index_or};
 ghost use Rattle.search_core.specs.Marks.{marks_below, mark_range, recorded};
-ghost use Rattle.search_core.specs.ByteSets.{ranges_from};
+ghost use Rattle.search_core.specs.ByteSets.{ranges_of};
+ghost use Rattle.search_core.specs.Classes.{IsRising};
 
 use crate::byte_set::ByteSet;
 use crate::classes::ByteClasses;
@@ -48,17 +49,19 @@ impl ByteClassSet {
     /// Tells the bytes of each range of a set apart from all others, and so the bytes of the set from
     /// those outside.
     pub fn add_set(&mut self, set: &ByteSet)
-        ensures { self.new ≡ recorded self.old (ranges_from set.now 0) }
+        ensures { self.new ≡ recorded self.old (ranges_of set.now) }
     {
         for (start, end) in set.iter_ranges() {
             self.set_range(start, end);
         }
     }
 
-    /// The classes by the marks: the class of a byte is the number of marks below it.
+    /// The classes by the marks: the class of a byte is the number of marks below it. So they rise from 0
+    /// by at most one from byte to byte.
     pub fn byte_classes(&self) -> ByteClasses
         ensures len { length result ≡ 256 }
         ensures numbered { (b : ℕ) → b < 256 → slice_index result b ≡ marks_below self.now b }
+        ensures rising { IsRising result }
     {
         let mut classes = ByteClasses::empty();
         let mut class = 0u8;

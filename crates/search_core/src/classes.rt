@@ -1,5 +1,5 @@
 ghost use Rattle.std.specs.Prelude.{◌≡◌, ℕ, ◌+◌, ◌<◌, ◌≤◌, ◌↔◌, ◌==◌, IsTrue, length, slice_set, slice_index};
-ghost use Rattle.search_core.specs.Classes.{unit_class, alphabet_size, IsLeastExponent, units_from, elements_from, first_units, is_first, range_limit};
+ghost use Rattle.search_core.specs.Classes.{unit_class, alphabet_size, IsRising, IsLeastExponent, all_units, elements_of, representatives_of, is_first, range_limit};
 ghost use Rattle.search_core.specs.ByteSets.{IsFirstWhere};
 
 use crate::class_iter::{ByteClassElements, ByteClassIter, ByteClassRepresentatives};
@@ -101,24 +101,31 @@ impl ByteClasses {
         exponent
     }
 
-    /// Whether each byte is in a class of its own, where the classes rise from 0 by at most one from
-    /// byte to byte.
+    /// Whether the last byte is in class 255. Where classes rise from 0 by at most one from byte to byte,
+    /// as those of a [`ByteClassSet`](crate::ByteClassSet) do, this tells whether each byte is in a class
+    /// of its own. Where they were set one by one it tells no more than that.
+    #[tactic(auto, using(crate::proofs::RisingLemmas::singletons_by_last))]
     pub fn is_singleton(&self) -> bool
-        ensures { IsTrue result ↔ (alphabet_size self.now ≡ 257) }
+        ensures last { IsTrue result ↔ (slice_index self.now 255 ≡ 255) }
+        ensures own { IsRising self.now → IsTrue result ↔ ((b : ℕ) → b < 256 → slice_index self.now b ≡ b) }
     {
         self.alphabet_len() == 257
     }
 
-    /// The classes, each once as a unit with its number, ascending, and then the end of the input.
+    /// A unit for each number from 0 to the class of the last byte, ascending, and then the end of the
+    /// input. Where classes rise from 0 by at most one from byte to byte, these are the classes, each
+    /// once. Where they were set one by one, a number may be the class of no byte, and a greater class is
+    /// left out.
     pub fn iter(&self) -> ByteClassIter
-        ensures { result ≡ units_from (slice_index self.now 255 + 1) 0 }
+        ensures { result ≡ all_units self.now }
     {
         ByteClassIter::new(self.alphabet_len() - 1)
     }
 
-    /// The bytes of the class with this number, ascending; of the end of the input itself alone.
+    /// The bytes of the class with this number, ascending, wherever they stand; of the end of the input
+    /// itself alone.
     pub fn elements(&self, class: Unit) -> ByteClassElements<'_>
-        ensures { result ≡ elements_from self.now class 0 }
+        ensures { result ≡ elements_of self.now class }
     {
         ByteClassElements::new(self, class)
     }
@@ -126,7 +133,7 @@ impl ByteClasses {
     /// The first unit of each class that is met from `lo` to `hi`, or to the end of the input: `lo`, and
     /// each later byte that is in another class than the byte before it.
     pub fn representatives(&self, lo: u8, hi: Option<u8>) -> ByteClassRepresentatives<'_>
-        ensures { result ≡ first_units self.now lo hi lo }
+        ensures { result ≡ representatives_of self.now lo hi }
     {
         ByteClassRepresentatives::new(self, lo, hi)
     }

@@ -179,10 +179,10 @@ impl PatternIDError {
 }
 
 impl fmt::Display for PatternIDError {
-    ghost use Rattle.std.specs.Prelude.{◌++◌, Some, codes, decimal};
-    ghost use Rattle.search_core.specs.Index.{greatest_index};
+    ghost use Rattle.std.specs.Prelude.{Some};
+    ghost use Rattle.search_core.specs.ErrorTexts.{pattern_id_text};
 
-    ghost output = { λ attempted. Some (codes "failed to create PatternID from " ++ (decimal attempted ++ (codes ", which exceeds PatternID(" ++ (decimal greatest_index ++ codes ")")))) };
+    ghost output = { λ attempted. Some (pattern_id_text attempted) };
 
     fn fmt<W: fmt::Write>(&self, f: &mut fmt::Formatter<W>) -> fmt::Result {
         write!(

@@ -174,10 +174,10 @@ impl SmallIndexError {
 }
 
 impl fmt::Display for SmallIndexError {
-    ghost use Rattle.std.specs.Prelude.{◌++◌, Some, codes, decimal};
-    ghost use Rattle.search_core.specs.Index.{greatest_index};
+    ghost use Rattle.std.specs.Prelude.{Some};
+    ghost use Rattle.search_core.specs.ErrorTexts.{small_index_text};
 
-    ghost output = { λ attempted. Some (codes "failed to create small index from " ++ (decimal attempted ++ (codes ", which exceeds SmallIndex(" ++ (decimal greatest_index ++ codes ")")))) };
+    ghost output = { λ attempted. Some (small_index_text attempted) };
 
     fn fmt<W: fmt::Write>(&self, f: &mut fmt::Formatter<W>) -> fmt::Result {
         write!(

@@ -179,10 +179,10 @@ impl StateIDError {
 }
 
 impl fmt::Display for StateIDError {
-    ghost use Rattle.std.specs.Prelude.{◌++◌, Some, codes, decimal};
-    ghost use Rattle.search_core.specs.Index.{greatest_index};
+    ghost use Rattle.std.specs.Prelude.{Some};
+    ghost use Rattle.search_core.specs.ErrorTexts.{state_id_text};
 
-    ghost output = { λ attempted. Some (codes "failed to create StateID from " ++ (decimal attempted ++ (codes ", which exceeds StateID(" ++ (decimal greatest_index ++ codes ")")))) };
+    ghost output = { λ attempted. Some (state_id_text attempted) };
 
     fn fmt<W: fmt::Write>(&self, f: &mut fmt::Formatter<W>) -> fmt::Result {
         write!(

@@ -2,10 +2,10 @@
 use Rattle.std.proofs.Common.{◌≡◌, ℕ, suc, ◌<◌, ◌≤◌, Bool, true, false, List, [], ◌∷◌, ◌++◌, length, refl, sym, ap, ◌∙◌, subst, inl, inr, arith, Some, None, is_some}
 use Rattle.std.specs.Prelude.{Option, nat_lt, if◌then◌else◌, String, string_bytes}
 use Rattle.std.specs.Option.{option_or, option_map}
-use Rattle.std.specs.List.{position, AllZip}
+use Rattle.std.specs.List.{position}
 use Rattle.std.specs.Str.{bytes_eq}
-use Rattle.std.specs.Map.{update, lookup}
-use Rattle.std.specs.HashMap.{HashMap, get_by_text, Updates, IsClone}
+use Rattle.std.specs.Map.{update}
+use Rattle.std.specs.HashMap.{HashMap, get_by_text, Updates}
 use Rattle.std.specs.String.{string_eq}
 use Rattle.std.proofs.lemmas.Bool.{cases_Bool, cond-true, cond-false, lt-ltb, le-ltb}
 use Rattle.std.proofs.lemmas.List.{length-map}
@@ -14,7 +14,7 @@ use Rattle.search_core.specs.Index.{greatest_index}
 use Rattle.std.proofs.lemmas.Map.Text.{hash_map_updates_text}
 use Rattle.search_types.specs.Groups.{Name, is_named}
 use Rattle.search_types.specs.GroupFaults.{names_in, TooManyGroups, Duplicate, name_fault, group_fault_after}
-use Rattle.search_types.specs.GroupIndices.{FindsEach, IsIndexed}
+use Rattle.search_types.specs.GroupIndices.{FindsEach}
 
 -- ---- the first place
 pub position_first : {X : Type 0} (p : X → Bool) (x : X) (xs : List X) → p x ≡ true → position p (x ∷ xs) ≡ Some 0
@@ -110,51 +110,9 @@ pub not_some : {A : Type 0} (o : Option A) → is_some o ≡ false → o ≡ Non
 not_some None h = refl
 not_some (Some x) h = absurd (grind (arith, h))
 
--- ---- clones
--- a map whose entries are clones finds what it found
-lookup_clone : {A : Type 0} (bs : List ℕ) (es fs : List (String A × ℕ)) → AllZip (λ p q. (string_bytes q.0 ≡ string_bytes p.0) × (q.1 ≡ p.1)) es fs
-    → lookup (λ k. bytes_eq bs (string_bytes k)) fs ≡ lookup (λ k. bytes_eq bs (string_bytes k)) es
-lookup_clone bs [] [] h = refl
-lookup_clone bs [] (f ∷ fs) h = absurd h
-lookup_clone bs (e ∷ es) [] h = absurd h
-lookup_clone bs (e ∷ es) (f ∷ fs) h =
-    let rest = lookup_clone bs es fs h.1 in
-    let same : bytes_eq bs (string_bytes f.0) ≡ bytes_eq bs (string_bytes e.0) = ap (bytes_eq bs) h.0.0 in
-    let value : f.1 ≡ e.1 = h.0.1 in
-    grind (arith, rest, same, value)
-
-pub indexed_clone : {A S : Type 0} (names copies : List (Option Name)) (old new : HashMap (String A) ℕ S) → IsIndexed names old → copies ≡ names
-    → IsClone (λ s t. string_bytes t ≡ string_bytes s) (λ x y. y ≡ x) old new → IsIndexed copies new
-indexed_clone names copies old new h e c = record {
-  finds = λ name. lookup_clone name old.entries new.entries c ∙ h.finds name ∙ ap (position (is_named name)) (sym e);
-  some = omega (arith, h.some, ap length e);
-  in_range = omega (arith, h.in_range, ap length e);
-}
-
 -- ---- what is said of texts, from what is said of their bytes
 length-names_in : {A : Type 0} (texts : List (Option (String A))) → length (names_in texts) ≡ length texts
 length-names_in texts = length-map texts (option_map string_bytes)
-
-pub told_duplicate : {A S : Type 0} (p : ℕ) (texts : List (Option (String A))) (indices : HashMap (String A) ℕ S) (name : Option (String A)) (text key : String A)
-    → length texts ≤ greatest_index → FindsEach (names_in texts) indices → name ≡ Some text → string_bytes key ≡ string_bytes text
-    → is_some (get_by_text indices (string_bytes text)) ≡ true
-    → group_fault_after p (names_in texts) (option_map string_bytes name) ≡ Some (Duplicate p (string_bytes key))
-told_duplicate p texts indices name text key l h e k f =
-    let len : length (names_in texts) ≤ greatest_index = omega (arith, l, length-names_in texts) in
-    let found : is_some (position (is_named (string_bytes text)) (names_in texts)) ≡ true = ap is_some (sym (h (string_bytes text))) ∙ f in
-    ap (λ n. group_fault_after p (names_in texts) (option_map string_bytes n)) e
-    ∙ fault_duplicate p (names_in texts) (string_bytes text) len found
-    ∙ ap (λ n. Some (Duplicate p n)) (sym k)
-
-pub told_new : {A S : Type 0} (p : ℕ) (texts : List (Option (String A))) (indices : HashMap (String A) ℕ S) (name : Option (String A)) (text : String A)
-    → length texts ≤ greatest_index → FindsEach (names_in texts) indices → name ≡ Some text
-    → is_some (get_by_text indices (string_bytes text)) ≡ false
-    → group_fault_after p (names_in texts) (option_map string_bytes name) ≡ None
-told_new p texts indices name text l h e f =
-    let len : length (names_in texts) ≤ greatest_index = omega (arith, l, length-names_in texts) in
-    let found : is_some (position (is_named (string_bytes text)) (names_in texts)) ≡ false = ap is_some (sym (h (string_bytes text))) ∙ f in
-    ap (λ n. group_fault_after p (names_in texts) (option_map string_bytes n)) e
-    ∙ fault_new_name p (names_in texts) (string_bytes text) len found
 
 pub indexed_new : {A S : Type 0} (texts : List (Option (String A))) (old new : HashMap (String A) ℕ S) (name : Option (String A)) (text key : String A) (index : ℕ)
     → index ≡ length texts → FindsEach (names_in texts) old → name ≡ Some text → string_bytes key ≡ string_bytes text

@@ -7,3 +7,9 @@ pub mod GroupLemmas
 pub mod IndexLemmas
 pub mod CapturesLemmas
 pub mod GroupLaws
+pub mod AllAnswersLemmas
+pub mod ChainLemmas
+pub mod FirstLemmas
+pub mod RuleLemmas
+pub mod SoundLemmas
+pub mod ForCallers

@@ -64,6 +64,12 @@ group_spans c = spans_from c 0 (matched_group_len c.groups c.pattern)
 abbrev pub known_spans : List (Option Span) → List Span
 known_spans spans = filter_map (λ span. span) spans
 
+-- the overall span, and behind it those of the other groups that took part; nothing where the overall span isn't there
+abbrev pub match_spans : List (Option Span) → List Span
+match_spans [] = []
+match_spans (None ∷ spans) = []
+match_spans (Some whole ∷ spans) = whole ∷ known_spans spans
+
 -- whether a span cuts bytes out of a haystack, and whether it cuts a text out of a text
 abbrev pub cuts_bytes : List ℕ → Span → Bool
 cuts_bytes h s = nat_le s.start s.end && nat_le s.end (length h)

@@ -1,6 +1,10 @@
--- How the errors of a search are told.
-use Rattle.std.specs.Prelude.{ℕ, List, ◌++◌, codes}
+-- How the errors of a search, of groups and of sets of patterns are told.
+use Rattle.std.specs.Prelude.{ℕ, List, ◌++◌, codes, string_bytes}
 use Rattle.std.specs.Fmt.{decimal}
+use Rattle.search_core.specs.ErrorTexts.{pattern_id_text}
+use Rattle.search_types.specs.PatternSets.{InsertRefusal}
+use Rattle.search_types.specs.declared.group_info_error.GroupInfoError.{GroupInfoError}
+use Rattle.search_types.specs.declared.group_info_error.GroupInfoError.TheVariants as group
 use Rattle.search_types.specs.declared.anchored.Anchored.{Anchored}
 use Rattle.search_types.specs.declared.anchored.Anchored.TheVariants.{No, Yes, Pattern}
 use Rattle.search_types.specs.declared.match_error.MatchErrorKind.{MatchErrorKind}
@@ -20,3 +24,16 @@ error_text (HaystackTooLong len) = codes "haystack of " ++ (decimal len ++ codes
 error_text (UnsupportedAnchored mode) = mode_text mode
 error_text NotAPair = codes "forward and reverse automata are no pair"
 error_text NoMemory = codes "out of memory"
+
+-- groups that can't be taken
+abbrev pub group_error_text : GroupInfoError → List ℕ
+group_error_text (group.TooManyPatterns attempted) = codes "too many patterns: " ++ pattern_id_text attempted
+group_error_text (group.TooManyGroups p minimum) = codes "pattern " ++ (decimal p ++ (codes " has too many groups, at least " ++ decimal minimum))
+group_error_text (group.MissingGroups p) = codes "pattern " ++ (decimal p ++ codes " has no groups")
+group_error_text (group.FirstMustBeUnnamed p) = codes "the first group of pattern " ++ (decimal p ++ codes " has a name")
+group_error_text (group.Duplicate p name) = codes "two groups of pattern " ++ (decimal p ++ (codes " have the name '" ++ (string_bytes name ++ codes "'")))
+group_error_text group.NoMemory = codes "out of memory"
+
+-- a pattern for which a set has no room
+abbrev pub insert_error_text : InsertRefusal → List ℕ
+insert_error_text r = codes "pattern " ++ (decimal r.attempted ++ (codes " is not below the set's capacity " ++ decimal r.capacity))

@@ -14,6 +14,10 @@ abbrev pub all_named_from : ℕ → Groups → List (ℕ × ℕ × Option Name)
 all_named_from p [] = []
 all_named_from p (names ∷ rest) = named_from p 0 names ++ all_named_from (p + 1) rest
 
+-- all groups, pattern by pattern
+abbrev pub all_named : Groups → List (ℕ × ℕ × Option Name)
+all_named gs = all_named_from 0 gs
+
 -- the groups from group g of pattern p on
 abbrev pub left_from : Groups → ℕ → ℕ → List (ℕ × ℕ × Option Name)
 left_from gs p g = named_from p g (drop g (groups_of gs p)) ++ all_named_from (p + 1) (drop (p + 1) gs)

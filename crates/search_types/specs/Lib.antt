@@ -13,3 +13,6 @@ pub mod GroupIndices
 pub mod CapturesValue
 pub mod CapturesLends
 pub mod GroupSlots
+pub mod AllAnswers
+pub mod Chains
+pub mod FirstFound

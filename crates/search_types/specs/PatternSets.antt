@@ -16,6 +16,10 @@ abbrev pub members_from : ℕ → List Bool → List ℕ
 members_from p [] = []
 members_from p (is_member ∷ rest) = onto_members is_member p (members_from (p + 1) rest)
 
+-- the patterns of the set, ascending
+abbrev pub members_of : List Bool → List ℕ
+members_of set = members_from 0 set
+
 -- the pattern p comes into a set that has room for it, and `added` says whether it was absent
 pub record Inserts (old : List Bool) (p : ℕ) (added : Bool) (new : List Bool) : Type 0 where
   pub room : p < length old

@@ -1,6 +1,6 @@
 ghost use Rattle.std.specs.Prelude.{◌≡◌, [], ◌∷◌, MatchOption};
 ghost use Rattle.std.specs.Iterator.{YieldsFirst, item_count};
-ghost use Rattle.search_types.specs.CapturesValue.{group_spans, known_spans};
+ghost use Rattle.search_types.specs.CapturesValue.{group_spans, known_spans, match_spans};
 
 use crate::captures::Captures;
 use crate::span::Span;
@@ -35,6 +35,13 @@ impl<'a> CapturesPatternIter<'a> {
             next: 0,
             end: captures.group_len(),
         }
+    }
+
+    /// The overall span, which comes first, if it is there.
+    pub(crate) fn next_overall(&mut self) -> Option<Span>
+        ensures { MatchOption result (match_spans self.old ≡ []) (λ span. match_spans self.old ≡ span ∷ known_spans self.new) }
+    {
+        self.next()?
     }
 
     /// The next span of a group that took part in the match.

@@ -3,9 +3,10 @@ ghost use Rattle.std.specs.Option.{option_copied, option_map};
 ghost use Rattle.search_core.specs.Index.{greatest_index};
 ghost use Rattle.search_types.specs.Groups.{groups_of, to_index, to_name, slot, slot_len, implicit_slot_len, explicit_slot_len, all_group_len};
 ghost use Rattle.search_types.specs.GroupFaults.{groups_in, names_fault, slots_fault, group_fault};
-ghost use Rattle.search_types.specs.GroupPlaces.{all_named_from, starts_from};
+ghost use Rattle.search_types.specs.GroupPlaces.{all_named, starts_from};
 ghost use Rattle.search_types.specs.GroupRefusals.{Tells};
 
+use crate::broken_rules::{broken_rule, error_of};
 use crate::group_info_error::GroupInfoError;
 use crate::group_names::{GroupInfoAllNames, GroupInfoPatternNames};
 use crate::pattern_groups::PatternGroups;
@@ -40,12 +41,18 @@ impl Model for GroupInfo {
 
 impl GroupInfo {
     /// Takes the names of each pattern's groups, where these break no rule. If they do, the error tells
-    /// the first one; it may also come from want of memory.
+    /// the first one, whatever memory there is; but a name that stands twice is copied into the error, so
+    /// that want of memory may be told for it.
+    ///
+    /// Each name is compared with those before it in its pattern, which takes the square of their number.
     pub fn new(alloc: Global, groups: &[Vec<Option<String>>]) -> Result<GroupInfo, GroupInfoError>
         ensures { MatchResult result (λ g. (g ≡ groups_in groups.now) × (group_fault (groups_in groups.now) ≡ None))
             (λ e. Tells e (group_fault (groups_in groups.now))) }
     {
-        let patterns = read_patterns(alloc, groups)?;
+        if let Some(rule) = broken_rule(groups) {
+            return Err(error_of(alloc, rule));
+        }
+        let patterns = take_patterns(alloc, groups)?;
         let (starts, slot_len) = lay_out(alloc, &patterns)?;
         Ok(GroupInfo {
             patterns,
@@ -70,7 +77,7 @@ impl GroupInfo {
         ensures { IfOk result (λ g. g ≡ self.now) }
     {
         let patterns = clone_patterns(alloc, &self.patterns)?;
-        let starts = self.starts.clone()?;
+        let starts = self.starts.to_vec(alloc)?;
         Ok(GroupInfo {
             patterns,
             starts,
@@ -109,7 +116,7 @@ impl GroupInfo {
     /// The groups of all patterns, pattern by pattern: the pattern, the group's index and its name, if it
     /// has one.
     pub fn all_names(&self) -> GroupInfoAllNames<'_>
-        ensures { result ≡ all_named_from 0 self.now }
+        ensures { result ≡ all_named self.now }
     {
         GroupInfoAllNames::new(self)
     }
@@ -205,48 +212,35 @@ impl GroupInfo {
     }
 }
 
-/// Takes the names of each pattern's groups, and finds the first rule that they break but for the count
-/// of slots.
-fn read_patterns(
+/// Takes the names of each pattern's groups, which break no rule.
+fn take_patterns(
     alloc: Global,
     groups: &[Vec<Option<String>>],
-) -> Result<Vec<PatternGroups>, GroupInfoError>
-    ensures in_range { IfOk result (λ ps. length ps.items ≤ greatest_index + 1) }
-    ensures fault { MatchResult result (λ ps. (ps.items ≡ groups_in groups.now) × (names_fault 0 (groups_in groups.now) ≡ None))
-        (λ e. Tells e (names_fault 0 (groups_in groups.now))) }
+) -> Result<Vec<PatternGroups>, AllocError>
+    requires { names_fault 0 (groups_in groups.now) ≡ None }
+    ensures { IfOk result (λ ps. ps.items ≡ groups_in groups.now) }
 {
     let mut patterns = Vec::new(alloc);
     for names in groups {
-        let pattern = match PatternID::new(patterns.len()) {
-            Ok(pattern) => pattern,
-            Err(err) => return Err(GroupInfoError::TooManyPatterns { err }),
-        };
-        patterns.push(PatternGroups::new(alloc, pattern, names)?)?;
+        patterns.push(PatternGroups::new(alloc, names)?)?;
     }
     Ok(patterns)
 }
 
-/// The first explicit slot of each pattern and how many slots there are in all, if not too many.
+/// The first explicit slot of each pattern, and how many slots there are in all, which aren't too many.
 fn lay_out(
     alloc: Global,
     patterns: &[PatternGroups],
-) -> Result<(Vec<usize>, SmallIndex), GroupInfoError>
-    requires { length patterns.now ≤ greatest_index + 1 }
-    ensures { MatchResult result
-        (λ laid. (laid.0.items ≡ starts_from (implicit_slot_len patterns.now) patterns.now) × (laid.1 ≡ slot_len patterns.now)
-        × (slots_fault 0 (implicit_slot_len patterns.now) patterns.now ≡ None))
-        (λ e. Tells e (slots_fault 0 (implicit_slot_len patterns.now) patterns.now)) }
+) -> Result<(Vec<usize>, SmallIndex), AllocError>
+    requires in_range { length patterns.now ≤ greatest_index + 1 }
+    requires sound { slots_fault 0 (implicit_slot_len patterns.now) patterns.now ≡ None }
+    ensures { IfOk result (λ laid. (laid.0.items ≡ starts_from (implicit_slot_len patterns.now) patterns.now) × (laid.1 ≡ slot_len patterns.now)) }
 {
     let mut starts = Vec::new(alloc);
     let mut end = patterns.len() * 2;
     for groups in patterns {
-        let pattern = PatternID::must(starts.len());
-        let minimum = groups.len();
         starts.push(end)?;
-        end += (minimum - 1) * 2;
-        if end > SmallIndex::MAX.as_usize() {
-            return Err(GroupInfoError::TooManyGroups { pattern, minimum });
-        }
+        end += (groups.len() - 1) * 2;
     }
     Ok((starts, SmallIndex::must(end)))
 }

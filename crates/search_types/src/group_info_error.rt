@@ -43,6 +43,11 @@ pub enum GroupInfoError {
 }
 
 impl fmt::Display for GroupInfoError {
+    ghost use Rattle.std.specs.Prelude.{Some};
+    ghost use Rattle.search_types.specs.ErrorTexts.{group_error_text};
+
+    ghost output = { λ error. Some (group_error_text error) };
+
     fn fmt<W: fmt::Write>(&self, f: &mut fmt::Formatter<W>) -> fmt::Result {
         match self {
             GroupInfoError::TooManyPatterns { err } => write!(f, "too many patterns: {err}"),
@@ -64,7 +69,7 @@ impl fmt::Display for GroupInfoError {
                 "two groups of pattern {} have the name '{name}'",
                 pattern.as_usize()
             ),
-            GroupInfoError::NoMemory => write!(f, "out of memory"),
+            GroupInfoError::NoMemory => f.write_str("out of memory"),
         }
     }
 }

@@ -2,7 +2,7 @@ ghost use Rattle.std.specs.Prelude.{◌≡◌};
 ghost use Rattle.std.specs.Option.{option_copied};
 ghost use Rattle.std.specs.Iterator.{YieldsFirstBy, item_count};
 ghost use Rattle.search_types.specs.Groups.{groups_of};
-ghost use Rattle.search_types.specs.GroupPlaces.{all_named_from, left_from};
+ghost use Rattle.search_types.specs.GroupPlaces.{all_named, left_from};
 
 use crate::group_info::GroupInfo;
 use search_core::PatternID;
@@ -78,7 +78,7 @@ impl<'a> Model for GroupInfoAllNames<'a> {
 impl<'a> GroupInfoAllNames<'a> {
     #[tactic(auto, using(crate::proofs::GroupLemmas::has_group, crate::proofs::GroupLemmas::left_from_start))]
     pub(crate) fn new(info: &'a GroupInfo) -> GroupInfoAllNames<'a>
-        ensures { result ≡ all_named_from 0 info.now }
+        ensures { result ≡ all_named info.now }
     {
         info.without_fault();
         GroupInfoAllNames {

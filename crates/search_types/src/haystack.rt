@@ -19,6 +19,16 @@ pub trait Haystack: Copy + Drop {
         ensures { option_map bytes result ≡ cut_span (cuts (bytes self)) (bytes self) span };
 }
 
+/// A haystack that is a text.
+pub trait Text: Haystack {}
+
+/// A haystack of bytes.
+pub trait Bytes: Haystack {}
+
+impl<'h> Text for &'h str {}
+
+impl<'h> Bytes for &'h [u8] {}
+
 /// A span cuts bytes out if its start isn't above its end, nor this above the haystack's.
 impl<'h> Haystack for &'h [u8] {
     ghost bytes = { λ h. h.now };

@@ -1,11 +1,13 @@
 //! What a search is asked and what it answers: inputs, spans, matches, sets of patterns, groups and captures.
 //!
 //! The definitions are in `specs/`; their laws are public functions without code in [`answer_laws`],
-//! [`group_laws`] and [`captures_laws`].
+//! [`all_answers_laws`], [`group_laws`] and [`captures_laws`].
 #![tactic(auto)]
 
+pub mod all_answers_laws;
 mod anchored;
 pub mod answer_laws;
+mod broken_rules;
 mod captures;
 mod captures_iter;
 pub mod captures_laws;
@@ -30,7 +32,7 @@ pub use captures_iter::CapturesPatternIter;
 pub use group_info::GroupInfo;
 pub use group_info_error::GroupInfoError;
 pub use group_names::{GroupInfoAllNames, GroupInfoPatternNames};
-pub use haystack::Haystack;
+pub use haystack::{Bytes, Haystack, Text};
 pub use input::Input;
 pub use match_error::{MatchError, MatchErrorKind};
 pub use match_kind::MatchKind;

@@ -1,15 +1,13 @@
-ghost use Rattle.std.specs.Prelude.{◌≡◌, ◌+◌, ◌<◌, ◌≤◌, [], ◌∷◌, ◌++◌, length, None, IfOk, OnOk, IfErr, MatchResult, slice_get};
+ghost use Rattle.std.specs.Prelude.{◌≡◌, ◌+◌, ◌<◌, ◌≤◌, [], ◌∷◌, ◌++◌, length, None, IfOk, OnOk, slice_get};
 ghost use Rattle.std.specs.Option.{option_and_then, option_copied, option_map};
 ghost use Rattle.std.specs.String.{string_bytes};
 ghost use Rattle.std.specs.List.{position};
 ghost use Rattle.search_core.specs.Index.{greatest_index};
 ghost use Rattle.search_types.specs.Groups.{is_named};
-ghost use Rattle.search_types.specs.GroupFaults.{names_in, group_fault_after, fault_after, pattern_fault};
+ghost use Rattle.search_types.specs.GroupFaults.{names_in, group_fault_after, pattern_fault};
 ghost use Rattle.search_types.specs.GroupIndices.{FindsEach};
-ghost use Rattle.search_types.specs.GroupRefusals.{Tells};
 
-use crate::group_info_error::GroupInfoError;
-use search_core::{PatternID, SmallIndex};
+use search_core::SmallIndex;
 use std::alloc::{AllocError, Global};
 use std::collections::HashMap;
 use std::marker::Model;
@@ -35,37 +33,16 @@ impl Model for PatternGroups {
 }
 
 impl PatternGroups {
-    /// Takes the names of a pattern's groups, and finds the first rule that they break.
-    pub(crate) fn new(
-        alloc: Global,
-        pattern: PatternID,
-        groups: &[Option<String>],
-    ) -> Result<PatternGroups, GroupInfoError>
-        ensures { MatchResult result (λ g. (g ≡ names_in groups.now) × (pattern_fault pattern (names_in groups.now) ≡ None))
-            (λ e. Tells e (pattern_fault pattern (names_in groups.now))) }
-    {
-        match groups {
-            [] => Err(GroupInfoError::MissingGroups { pattern }),
-            [Some(_), ..] => Err(GroupInfoError::FirstMustBeUnnamed { pattern }),
-            [None, rest @ ..] => PatternGroups::with_first(alloc, pattern, rest),
-        }
-    }
-
-    /// Takes the names of a pattern's groups behind the first one, which has none.
-    fn with_first(
-        alloc: Global,
-        pattern: PatternID,
-        rest: &[Option<String>],
-    ) -> Result<PatternGroups, GroupInfoError>
-        ensures { MatchResult result (λ g. (g ≡ None ∷ names_in rest.now) × (fault_after pattern (None ∷ []) (names_in rest.now) ≡ None))
-            (λ e. Tells e (fault_after pattern (None ∷ []) (names_in rest.now))) }
+    /// Takes the names of a pattern's groups, which break no rule.
+    pub(crate) fn new(alloc: Global, groups: &[Option<String>]) -> Result<PatternGroups, AllocError>
+        requires { pattern_fault 0 (names_in groups.now) ≡ None }
+        ensures { IfOk result (λ g. g ≡ names_in groups.now) }
     {
         let mut names = Vec::new(alloc);
-        names.push(None)?;
         let mut indices = HashMap::new(alloc);
-        for name in rest {
-            index_group(&names, &mut indices, pattern, name)?;
-            names.push(name.clone()?)?;
+        for name in groups {
+            note_group(alloc, &names, &mut indices, name)?;
+            names.push(copy_of(alloc, name)?)?;
         }
         Ok(PatternGroups { names, indices })
     }
@@ -103,49 +80,36 @@ impl PatternGroups {
     pub(crate) fn try_clone(&self, alloc: Global) -> Result<PatternGroups, AllocError>
         ensures { IfOk result (λ g. g ≡ self.now) }
     {
-        let names = clone_names(alloc, &self.names)?;
-        let indices = self.indices.clone()?;
-        Ok(PatternGroups { names, indices })
+        PatternGroups::new(alloc, &self.names)
     }
 }
 
-/// Notes the index of the next group under its name, if it has one, unless that breaks a rule.
-fn index_group(
+/// Notes the index of the next group under its name, if it has one.
+fn note_group(
+    alloc: Global,
     names: &[Option<String>],
     indices: &mut HashMap<String, SmallIndex>,
-    pattern: PatternID,
     name: &Option<String>,
-) -> Result<(), GroupInfoError>
-    requires { FindsEach (names_in names.now) indices.old }
+) -> Result<(), AllocError>
+    requires finds { FindsEach (names_in names.now) indices.old }
+    requires sound { group_fault_after 0 (names_in names.now) (option_map string_bytes name.now) ≡ None }
     ensures indexed { OnOk result (FindsEach (names_in names.now ++ option_map string_bytes name.now ∷ []) indices.new) }
-    ensures in_range { OnOk result (length names.now ≤ greatest_index) }
-    ensures fault { MatchResult result (λ _. group_fault_after pattern (names_in names.now) (option_map string_bytes name.now) ≡ None)
-        (λ e. Tells e (group_fault_after pattern (names_in names.now) (option_map string_bytes name.now))) }
+    ensures in_range { length names.now ≤ greatest_index }
 {
-    let minimum = names.len();
-    let Ok(index) = SmallIndex::new(minimum) else {
-        return Err(GroupInfoError::TooManyGroups { pattern, minimum });
-    };
     let Some(text) = name else {
         return Ok(());
     };
-    if indices.contains_key(text.as_str()) {
-        return Err(GroupInfoError::Duplicate {
-            pattern,
-            name: text.clone()?,
-        });
-    }
-    indices.insert(text.clone()?, index)?;
+    let index = SmallIndex::must(names.len());
+    indices.insert(String::from_str(alloc, text.as_str())?, index)?;
     Ok(())
 }
 
-/// Copies of names.
-fn clone_names(alloc: Global, names: &[Option<String>]) -> Result<Vec<Option<String>>, AllocError>
-    ensures { IfOk result (λ copies. names_in copies.items ≡ names_in names.now) }
+/// A copy of a name, if there is one.
+fn copy_of(alloc: Global, name: &Option<String>) -> Result<Option<String>, AllocError>
+    ensures { IfOk result (λ copy. option_map string_bytes copy ≡ option_map string_bytes name.now) }
 {
-    let mut copies = Vec::new(alloc);
-    for name in names {
-        copies.push(name.clone()?)?;
+    match name {
+        Some(text) => Ok(Some(String::from_str(alloc, text.as_str())?)),
+        None => Ok(None),
     }
-    Ok(copies)
 }

@@ -1,7 +1,7 @@
 ghost use Rattle.std.specs.Prelude.{◌≡◌, ℕ, ◌<◌, ◌≤◌, ◌↔◌, IsTrue, true, false, not, length, replicate, slice_set, IfOk, MatchResult};
 ghost use Rattle.search_core.specs.Index.{greatest_index};
 ghost use Rattle.search_core.specs.ByteSets.{has};
-ghost use Rattle.search_types.specs.PatternSets.{member_count, members_from, Inserts, Refuses};
+ghost use Rattle.search_types.specs.PatternSets.{member_count, members_of, Inserts, Refuses};
 
 use crate::pattern_set_iter::PatternSetIter;
 use search_core::PatternID;
@@ -119,7 +119,7 @@ impl PatternSet {
 
     /// The patterns of the set, ascending.
     pub fn iter(&self) -> PatternSetIter<'_>
-        ensures { result ≡ members_from 0 self.now }
+        ensures { result ≡ members_of self.now }
     {
         PatternSetIter::new(&self.which)
     }
@@ -155,6 +155,11 @@ impl Model for PatternSetInsertError {
 }
 
 impl fmt::Display for PatternSetInsertError {
+    ghost use Rattle.std.specs.Prelude.{Some};
+    ghost use Rattle.search_types.specs.ErrorTexts.{insert_error_text};
+
+    ghost output = { λ refusal. Some (insert_error_text refusal) };
+
     fn fmt<W: fmt::Write>(&self, f: &mut fmt::Formatter<W>) -> fmt::Result {
         write!(
             f,

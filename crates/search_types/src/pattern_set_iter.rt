@@ -1,7 +1,7 @@
 ghost use Rattle.std.specs.Prelude.{◌≡◌, ◌≤◌, ◌+◌, length};
 ghost use Rattle.std.specs.Iterator.{YieldsFirst, YieldsLast, item_count};
 ghost use Rattle.search_core.specs.Index.{greatest_index};
-ghost use Rattle.search_types.specs.PatternSets.{members_from};
+ghost use Rattle.search_types.specs.PatternSets.{members_of};
 
 use search_core::PatternID;
 use std::iter::FusedIterator;
@@ -31,7 +31,7 @@ impl<'a> Model for PatternSetIter<'a> {
 impl<'a> PatternSetIter<'a> {
     pub(crate) fn new(which: &'a [bool]) -> PatternSetIter<'a>
         requires { length which.now ≤ greatest_index + 1 }
-        ensures { result ≡ members_from 0 which.now }
+        ensures { result ≡ members_of which.now }
     {
         PatternSetIter { which, first: 0 }
     }

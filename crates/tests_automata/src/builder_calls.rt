@@ -14,48 +14,87 @@ fn told<T: Drop>(alloc: Global, answer: Result<T, BuildError>) -> Result<String,
     }
 }
 
-#[test]
-fn the_limit_is_passed_by_the_last_state(rt: HostRuntime) -> Result<(), Fail> {
-    let mut builder = Builder::new(rt.alloc());
+/// Three states that take all of a limit of 72 bytes.
+fn at_limit(alloc: Global) -> Result<Builder, BuildError> {
+    let mut builder = Builder::new(alloc);
     builder.set_size_limit(Some(72))?;
     builder.add_fail()?;
     builder.add_fail()?;
     builder.add_fail()?;
-    let refused = builder.add_fail();
-    assert_eq!(rt;
-        told(rt.alloc(), refused)?.as_str(),
-        "the states take more than 72 bytes"
-    );
-    assert_eq!(rt; builder.memory_usage(), 72);
-    let refused = builder.set_size_limit(Some(71));
-    assert_eq!(rt;
-        told(rt.alloc(), refused)?.as_str(),
-        "the states take more than 71 bytes"
-    );
-    assert_eq!(rt; builder.get_size_limit(), Some(72));
+    Ok(builder)
+}
+
+/// Whether a limit of 72 bytes refuses one more state and a lower limit, and both leave all as it was.
+fn keeps_to_limit(alloc: Global) -> Result<bool, BuildError> {
+    let mut builder = at_limit(alloc)?;
+    let state = builder.add_fail();
+    let state = told(alloc, state)?;
+    let limit = builder.set_size_limit(Some(71));
+    let limit = told(alloc, limit)?;
+    Ok(
+        state.as_str() == "the states take more than 72 bytes"
+            && limit.as_str() == "the states take more than 71 bytes"
+            && builder.get_size_limit() == Some(72)
+            && builder.memory_usage() == 72,
+    )
+}
+
+/// The memory where the limit is taken away and a state is added.
+fn without_limit(alloc: Global) -> Result<usize, BuildError> {
+    let mut builder = at_limit(alloc)?;
     builder.set_size_limit(None)?;
     builder.add_fail()?;
-    assert_eq!(rt; builder.memory_usage(), 96);
+    Ok(builder.memory_usage())
+}
+
+#[test]
+fn the_limit_is_passed_by_the_last_state(rt: HostRuntime) -> Result<(), Fail> {
+    assert!(rt; keeps_to_limit(rt.alloc())?);
+    assert!(rt; without_limit(rt.alloc())? == 96);
+    Ok(())
+}
+
+/// Whether too great an index refuses to begin a group, and to end one, and nothing is added.
+fn refuses_groups(alloc: Global) -> Result<bool, BuildError> {
+    let mut builder = Builder::new(alloc);
+    builder.start_pattern()?;
+    let start = builder.add_capture_start(StateID::ZERO, 2_147_483_647, None);
+    let start = told(alloc, start)?;
+    let end = builder.add_capture_end(StateID::ZERO, 4_294_967_295);
+    let end = told(alloc, end)?;
+    Ok(
+        start.as_str()
+            == "groups can't be taken: pattern 0 has too many groups, at least 2147483647"
+            && end.as_str()
+                == "groups can't be taken: pattern 0 has too many groups, at least 4294967295"
+            && builder.memory_usage() == 0,
+    )
+}
+
+/// The memory of the end of the last group that there can be.
+fn last_group(alloc: Global) -> Result<usize, BuildError> {
+    let mut builder = Builder::new(alloc);
+    builder.start_pattern()?;
+    builder.add_capture_end(StateID::ZERO, 2_147_483_646)?;
+    Ok(builder.memory_usage())
+}
+
+#[test]
+fn errors_tell_the_limit(rt: HostRuntime) -> Result<(), Fail> {
+    let mut builder = Builder::new(rt.alloc());
+    builder.add_fail()?;
+    let Err(error) = builder.set_size_limit(Some(23)) else {
+        panic!(rt; "a state has 24 bytes");
+    };
+    assert_eq!(rt; error.size_limit(), Some(23));
+    assert_eq!(rt; BuildError::TooManyStates.size_limit(), None);
     Ok(())
 }
 
 #[test]
 fn an_index_that_is_too_great(rt: HostRuntime) -> Result<(), Fail> {
-    let mut builder = Builder::new(rt.alloc());
-    builder.start_pattern()?;
-    let refused = builder.add_capture_start(StateID::ZERO, 2_147_483_647, None);
-    assert_eq!(rt;
-        told(rt.alloc(), refused)?.as_str(),
-        "groups can't be taken: pattern 0 has too many groups, at least 2147483647"
-    );
-    let refused = builder.add_capture_end(StateID::ZERO, 4_294_967_295);
-    assert_eq!(rt;
-        told(rt.alloc(), refused)?.as_str(),
-        "groups can't be taken: pattern 0 has too many groups, at least 4294967295"
-    );
-    assert_eq!(rt; builder.memory_usage(), 0);
-    builder.add_capture_end(StateID::ZERO, 2_147_483_646)?;
-    assert_eq!(rt; builder.memory_usage(), 24);
+    assert!(rt; refuses_groups(rt.alloc())?);
+    assert!(rt; last_group(rt.alloc())? == 24);
     Ok(())
 }
 
@@ -70,17 +109,22 @@ fn three_states(alloc: Global, start: u8) -> Result<Builder, BuildError> {
     Ok(builder)
 }
 
-#[test]
-fn starts_have_to_be_there(rt: HostRuntime) -> Result<(), Fail> {
+/// Whether it can build what starts in its first state.
+fn can_build(builder: &Builder) -> bool {
+    builder.can_build(StateID::ZERO, StateID::ZERO)
+}
+
+/// Whether a builder can build with the first and the last state as starts, with one that isn't there for each of them,
+/// and where its pattern starts in one that isn't there.
+fn can_start(alloc: Global) -> Result<[bool; 4], BuildError> {
+    let builder = three_states(alloc, 2)?;
     let (first, last, none) = (StateID::ZERO, StateID::must(2), StateID::must(3));
-    let builder = three_states(rt.alloc(), 2)?;
-    assert!(rt; builder.can_build(first, last));
-    assert!(rt; !builder.can_build(none, last));
-    assert!(rt; !builder.can_build(last, none));
-    let builder = three_states(rt.alloc(), 3)?;
-    assert!(rt; !builder.can_build(first, first));
-    assert!(rt; !Builder::new(rt.alloc()).can_build(first, first));
-    Ok(())
+    Ok([
+        builder.can_build(first, last),
+        builder.can_build(none, last),
+        builder.can_build(last, none),
+        can_build(&three_states(alloc, 3)?),
+    ])
 }
 
 /// Three states as before, of which the last two stand for each other.
@@ -115,20 +159,26 @@ fn with_no_end(alloc: Global) -> Result<Builder, BuildError> {
     Ok(builder)
 }
 
+/// Whether it can build of three states, cleared, of one state, and in a pattern.
+fn can_build_in_turn(alloc: Global) -> Result<[bool; 4], BuildError> {
+    let mut builder = three_states(alloc, 0)?;
+    let of_three = can_build(&builder);
+    builder.clear();
+    let cleared = can_build(&builder);
+    builder.add_fail()?;
+    let of_one = can_build(&builder);
+    builder.start_pattern()?;
+    Ok([of_three, cleared, of_one, can_build(&builder)])
+}
+
 #[test]
 fn states_that_cannot_be_built(rt: HostRuntime) -> Result<(), Fail> {
-    let start = StateID::ZERO;
-    assert!(rt; !with_loop(rt.alloc())?.can_build(start, start));
-    assert!(rt; !with_end_alone(rt.alloc())?.can_build(start, start));
-    assert!(rt; !with_no_end(rt.alloc())?.can_build(start, start));
-    let mut builder = three_states(rt.alloc(), 0)?;
-    assert!(rt; builder.can_build(start, start));
-    builder.clear();
-    assert!(rt; !builder.can_build(start, start));
-    builder.add_fail()?;
-    assert!(rt; builder.can_build(start, start));
-    builder.start_pattern()?;
-    assert!(rt; !builder.can_build(start, start));
+    assert!(rt; !can_build(&Builder::new(rt.alloc())));
+    assert!(rt; !can_build(&with_loop(rt.alloc())?));
+    assert!(rt; !can_build(&with_end_alone(rt.alloc())?));
+    assert!(rt; !can_build(&with_no_end(rt.alloc())?));
+    assert!(rt; can_start(rt.alloc())? == [true, false, false, false]);
+    assert!(rt; can_build_in_turn(rt.alloc())? == [true, false, true, false]);
     Ok(())
 }
 
@@ -143,44 +193,52 @@ fn set_all(builder: &mut Builder) -> Result<(), BuildError> {
     Ok(())
 }
 
-#[test]
-fn clear_keeps_settings(rt: HostRuntime) -> Result<(), Fail> {
-    let mut builder = Builder::new(rt.alloc());
-    assert!(rt; builder.get_utf8());
-    assert!(rt; !builder.get_reverse());
-    assert_eq!(rt; builder.get_size_limit(), None);
-    assert!(rt;
-        builder
-            .get_look_matcher()
-            .get_line_terminator()
-            .contains(b'\n')
-    );
+/// Whether spans are UTF-8, whether the text is read downwards, the limit, and by what lines end.
+type Settings = (bool, bool, Option<usize>, LineTerm);
+
+fn settings(builder: &Builder) -> Settings {
+    (
+        builder.get_utf8(),
+        builder.get_reverse(),
+        builder.get_size_limit(),
+        builder.get_look_matcher().get_line_terminator(),
+    )
+}
+
+/// What is set at a new builder, and at one where all was set and which was cleared behind that.
+fn kept_settings(alloc: Global) -> Result<[Settings; 2], BuildError> {
+    let mut builder = Builder::new(alloc);
+    let first = settings(&builder);
     set_all(&mut builder)?;
     builder.add_fail()?;
     builder.clear();
-    assert!(rt; !builder.get_utf8());
-    assert!(rt; builder.get_reverse());
-    assert_eq!(rt; builder.get_size_limit(), Some(100));
-    assert!(rt; builder.get_look_matcher().get_line_terminator().contains(0));
-    assert_eq!(rt; builder.memory_usage(), 0);
-    Ok(())
+    Ok([first, settings(&builder)])
+}
+
+/// Whether a pattern was begun, and how many there are: at first, in a pattern, behind it, in the next one, and cleared.
+fn patterns(alloc: Global) -> Result<[(bool, usize); 5], BuildError> {
+    let mut builder = Builder::new(alloc);
+    let first = (builder.in_pattern(), builder.pattern_len());
+    builder.start_pattern()?;
+    let second = (builder.in_pattern(), builder.pattern_len());
+    builder.finish_pattern(StateID::ZERO)?;
+    let third = (builder.in_pattern(), builder.pattern_len());
+    builder.start_pattern()?;
+    let fourth = (
+        builder.in_pattern(),
+        builder.current_pattern_id().one_more(),
+    );
+    builder.clear();
+    let last = (builder.in_pattern(), builder.pattern_len());
+    Ok([first, second, third, fourth, last])
 }
 
 #[test]
-fn patterns_are_counted(rt: HostRuntime) -> Result<(), Fail> {
-    let mut builder = Builder::new(rt.alloc());
-    assert_eq!(rt; builder.pattern_len(), 0);
-    assert!(rt; !builder.in_pattern());
-    let first = builder.start_pattern()?;
-    assert!(rt; builder.in_pattern());
-    assert_eq!(rt; builder.current_pattern_id(), first);
-    assert_eq!(rt; builder.pattern_len(), 1);
-    assert_eq!(rt; builder.finish_pattern(StateID::ZERO)?, first);
-    let second = builder.start_pattern()?;
-    assert_eq!(rt; second.as_usize(), 1);
-    assert_eq!(rt; builder.pattern_len(), 2);
-    builder.clear();
-    assert!(rt; !builder.in_pattern());
-    assert_eq!(rt; builder.pattern_len(), 0);
+fn what_clear_keeps(rt: HostRuntime) -> Result<(), Fail> {
+    let given = (true, false, None, LineTerm::one(b'\n'));
+    let set = (false, true, Some(100), LineTerm::one(0));
+    assert!(rt; kept_settings(rt.alloc())? == [given, set]);
+    let counts = [(false, 0), (true, 1), (false, 1), (true, 2), (false, 0)];
+    assert!(rt; patterns(rt.alloc())? == counts);
     Ok(())
 }

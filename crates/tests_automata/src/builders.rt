@@ -117,21 +117,31 @@ fn byte_a_states(alloc: Global) -> Result<Vec<State>, AllocError> {
     Ok(states)
 }
 
+/// The two starts, and that of the first pattern.
+fn starts(nfa: &NFA) -> (StateID, StateID, Option<StateID>) {
+    (
+        nfa.start_anchored(),
+        nfa.start_unanchored(),
+        nfa.start_pattern(PatternID::ZERO),
+    )
+}
+
+/// Whether the starts, the memory and the classes are those of the automaton that finds `a`.
+fn finds_byte_a(nfa: &NFA) -> bool {
+    let start = StateID::must(2);
+    starts(nfa) == (start, StateID::ZERO, Some(start))
+        && (nfa.is_always_start_anchored(), nfa.has_empty()) == (false, false)
+        && (nfa.memory_usage(), nfa.byte_classes().alphabet_len()) == (96, 4)
+}
+
 #[test]
 fn a_byte_behind_any_others(rt: HostRuntime) -> Result<(), Fail> {
     let builder = byte_a(rt.alloc())?;
     let (anchored, unanchored) = (StateID::must(3), StateID::ZERO);
     assert!(rt; builder.can_build(anchored, unanchored));
     let nfa = build_counted::<Brand>(&builder, anchored, unanchored, Blank::new(1))?;
-    assert_eq!(rt; nfa.states(), byte_a_states(rt.alloc())?.as_slice());
-    assert_eq!(rt; nfa.start_anchored().as_usize(), 2);
-    assert_eq!(rt; nfa.start_unanchored().as_usize(), 0);
-    assert_eq!(rt; nfa.start_pattern(PatternID::ZERO), Some(StateID::must(2)));
-    assert!(rt; !nfa.is_always_start_anchored());
-    assert!(rt; !nfa.has_empty());
-    assert_eq!(rt; nfa.memory_usage(), 96);
-    assert_eq!(rt; builder.memory_usage(), 136);
-    assert_eq!(rt; nfa.byte_classes().alphabet_len(), 4);
+    assert!(rt; nfa.states() == byte_a_states(rt.alloc())?.as_slice());
+    assert!(rt; finds_byte_a(&nfa) && builder.memory_usage() == 136);
     Ok(())
 }
 
@@ -362,15 +372,18 @@ fn build_chain<L: Ledger>(
     build_bounded(builder, start, &mut steps)
 }
 
+/// Whether a match is the one state, in which all begins.
+fn is_a_match(nfa: &NFA) -> bool {
+    let start = StateID::ZERO;
+    nfa.states().len() == 1 && nfa.has_empty() && starts(nfa) == (start, start, Some(start))
+}
+
 #[test]
 fn empty_states_are_left_out(rt: HostRuntime) -> Result<(), Fail> {
     let (builder, start) = chain(rt.alloc())?;
     assert_eq!(rt; builder.memory_usage(), 24_024);
     assert!(rt; builder.can_build(start, start));
     let nfa = build_chain::<Brand>(&builder, start, Blank::new(1))?;
-    assert_eq!(rt; nfa.states().len(), 1);
-    assert_eq!(rt; nfa.start_anchored(), StateID::ZERO);
-    assert_eq!(rt; nfa.start_pattern(PatternID::ZERO), Some(StateID::ZERO));
-    assert!(rt; nfa.has_empty());
+    assert!(rt; is_a_match(&nfa));
     Ok(())
 }

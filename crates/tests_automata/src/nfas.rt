@@ -15,49 +15,75 @@ fn is_plain(nfa: &NFA) -> bool {
         && nfa.look_matcher().get_line_terminator().contains(b'\n')
 }
 
+/// The two starts, and those of the first two patterns.
+fn starts(nfa: &NFA) -> (StateID, StateID, Option<StateID>, Option<StateID>) {
+    (
+        nfa.start_anchored(),
+        nfa.start_unanchored(),
+        nfa.start_pattern(PatternID::ZERO),
+        nfa.start_pattern(PatternID::must(1)),
+    )
+}
+
+/// The number of patterns, of states and of groups, and the memory.
+fn sizes(nfa: &NFA) -> [usize; 4] {
+    [
+        nfa.pattern_len(),
+        nfa.states().len(),
+        nfa.group_info().all_group_len(),
+        nfa.memory_usage(),
+    ]
+}
+
+/// Whether this is the automaton that matches everywhere.
+fn is_always(nfa: &NFA) -> bool {
+    let start = StateID::ZERO;
+    starts(nfa) == (start, start, Some(start), None)
+        && sizes(nfa) == [1, 3, 1, 72]
+        && is_plain(nfa)
+        && nfa.has_capture()
+        && nfa.has_empty()
+}
+
+/// Whether this is the automaton that matches nowhere.
+fn is_never(nfa: &NFA) -> bool {
+    let start = StateID::ZERO;
+    starts(nfa) == (start, start, None, None)
+        && sizes(nfa) == [0, 1, 0, 24]
+        && is_plain(nfa)
+        && !nfa.has_capture()
+        && !nfa.has_empty()
+}
+
+/// Whether the state with this number leads on with no byte.
+fn leads_on(nfa: &NFA, number: u8) -> Option<bool> {
+    if usize::from(number) >= nfa.states().len() {
+        return None;
+    }
+    Some(nfa.state(StateID::from(number)).is_epsilon())
+}
+
 #[test]
 fn always_match(rt: HostRuntime) -> Result<(), Fail> {
     let nfa = NFA::always_match(rt.alloc())?;
-    assert!(rt; is_plain(&nfa));
-    assert_eq!(rt; nfa.pattern_len(), 1);
-    assert_eq!(rt; nfa.start_anchored().as_usize(), 0);
-    assert_eq!(rt; nfa.start_unanchored().as_usize(), 0);
-    assert_eq!(rt; nfa.start_pattern(PatternID::ZERO), Some(StateID::ZERO));
-    assert_eq!(rt; nfa.start_pattern(PatternID::must(1)), None);
-    assert_eq!(rt; nfa.states().len(), 3);
-    assert_eq!(rt; nfa.memory_usage(), 72);
-    assert_eq!(rt; nfa.group_info().all_group_len(), 1);
-    assert!(rt; nfa.has_capture());
-    assert!(rt; nfa.has_empty());
-    assert!(rt; nfa.state(StateID::must(1)).is_epsilon());
-    assert!(rt; !nfa.state(StateID::must(2)).is_epsilon());
+    assert!(rt; is_always(&nfa));
+    assert!(rt; patterns_of(&nfa) == [Some(PatternID::ZERO), None]);
+    assert!(rt; leads_on(&nfa, 1) == Some(true));
+    assert!(rt; leads_on(&nfa, 2) == Some(false));
     Ok(())
 }
 
 #[test]
 fn never_match(rt: HostRuntime) -> Result<(), Fail> {
     let nfa = NFA::never_match(rt.alloc())?;
-    assert!(rt; is_plain(&nfa));
-    assert_eq!(rt; nfa.pattern_len(), 0);
-    assert_eq!(rt; nfa.start_anchored().as_usize(), 0);
-    assert_eq!(rt; nfa.start_unanchored().as_usize(), 0);
-    assert_eq!(rt; nfa.start_pattern(PatternID::ZERO), None);
-    assert_eq!(rt; nfa.states().len(), 1);
-    assert_eq!(rt; nfa.memory_usage(), 24);
-    assert_eq!(rt; nfa.group_info().all_group_len(), 0);
-    assert!(rt; !nfa.has_capture());
-    assert!(rt; !nfa.has_empty());
-    assert!(rt; !nfa.state(StateID::ZERO).is_epsilon());
+    assert!(rt; is_never(&nfa));
+    assert!(rt; patterns_of(&nfa) == [None, None]);
+    assert!(rt; leads_on(&nfa, 0) == Some(false));
     Ok(())
 }
 
-#[test]
-fn patterns(rt: HostRuntime) -> Result<(), Fail> {
-    let nfa = NFA::always_match(rt.alloc())?;
+/// The first two patterns as they are told.
+fn patterns_of(nfa: &NFA) -> [Option<PatternID>; 2] {
     let mut patterns = nfa.patterns();
-    assert_eq!(rt; patterns.next(), Some(PatternID::ZERO));
-    assert_eq!(rt; patterns.next(), None);
-    let nfa = NFA::never_match(rt.alloc())?;
-    assert_eq!(rt; nfa.patterns().next(), None);
-    Ok(())
+    [patterns.next(), patterns.next()]
 }

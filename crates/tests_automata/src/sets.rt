@@ -4,7 +4,6 @@ use nfa_core::{NameSet, PairSet, SparseSet, SparseSets, Steps};
 use search_core::StateID;
 use std::alloc::{AllocError, Global};
 use std::marker::Brand;
-use std::process::Abort;
 use std::sync::ledger::{Blank, Ledger};
 use std::test::Fail;
 
@@ -75,70 +74,98 @@ fn has_exactly<S: NameSet>(set: &S, names: &[usize]) -> bool
     true
 }
 
-/// What holds of a set of either kind that has nothing in it at first.
-fn check<S: NameSet>(rt: &impl Abort, alloc: Global, set: &mut S) -> Result<(), AllocError>
+/// Whether the set of either kind takes the rows' numbers, and tells them in their order.
+fn takes_rows<S: NameSet>(alloc: Global, set: &mut S) -> Result<bool, AllocError>
+    requires { S.bound set.old ≡ 256 }
+    ensures { S.bound set.new ≡ 256 }
+{
+    let agrees = inserts_quietly(set) && has_exactly(set, &NAMES);
+    let names = names_of(alloc, set)?;
+    Ok(agrees && names.as_slice() == NAMES.as_slice())
+}
+
+/// What holds of a set of either kind that has nothing in it at first, and again when it is cleared.
+fn is_right<S: NameSet>(alloc: Global, set: &mut S) -> Result<bool, AllocError>
     requires { S.bound set.old ≡ 256 }
 {
-    assert_eq!(rt; set.capacity(), CAPACITY);
-    assert_eq!(rt; set.len(), 0);
-    assert!(rt; inserts_quietly(set));
-    assert_eq!(rt; names_of(alloc, set)?.as_slice(), NAMES.as_slice());
-    assert!(rt; has_exactly(set, &NAMES));
+    let is_empty = set.capacity() == CAPACITY && set.len() == 0;
+    let first = takes_rows(alloc, set)?;
     set.clear();
-    assert_eq!(rt; set.len(), 0);
-    assert!(rt; has_exactly(set, &[]));
-    assert!(rt; inserts_quietly(set));
-    assert_eq!(rt; names_of(alloc, set)?.as_slice(), NAMES.as_slice());
-    Ok(())
+    let is_clear = set.len() == 0 && has_exactly(set, &[]);
+    let second = takes_rows(alloc, set)?;
+    Ok(is_empty && first && is_clear && second)
 }
 
 #[test]
 fn both_sets_are_alike(rt: HostRuntime) -> Result<(), Fail> {
-    let mut set = SparseSet::new(rt.alloc(), CAPACITY)?;
-    check(&rt, rt.alloc(), &mut set)?;
-    let mut set = PairSet::new(rt.alloc(), CAPACITY)?;
-    check(&rt, rt.alloc(), &mut set)?;
+    assert!(rt; is_right(rt.alloc(), &mut SparseSet::new(rt.alloc(), CAPACITY)?)?);
+    assert!(rt; is_right(rt.alloc(), &mut PairSet::new(rt.alloc(), CAPACITY)?)?);
     Ok(())
+}
+
+/// The numbers that the set's iterator tells.
+fn told(alloc: Global, set: &SparseSet) -> Result<Vec<usize>, AllocError> {
+    let mut names = Vec::new(alloc);
+    for id in set.iter() {
+        names.push(id.as_usize())?;
+    }
+    Ok(names)
+}
+
+/// Whether the set's iterator tells the rows' numbers when they are inserted.
+fn tells_names(alloc: Global) -> Result<bool, AllocError> {
+    let mut set = SparseSet::new(alloc, CAPACITY)?;
+    let is_empty = set.is_empty() && set.memory_usage() == 2048;
+    let agrees = inserts_quietly(&mut set) && !set.is_empty();
+    let names = told(alloc, &set)?;
+    Ok(is_empty && agrees && names.as_slice() == NAMES.as_slice())
+}
+
+/// Whether a set with numbers in it is emptied where it is made smaller and then larger.
+fn is_resized(alloc: Global) -> Result<[bool; 2], AllocError> {
+    let mut set = SparseSet::new(alloc, CAPACITY)?;
+    inserts_quietly(&mut set);
+    set.resize(64)?;
+    let small = set.is_empty() && set.capacity() == 64 && !set.contains(StateID::must(63));
+    set.resize(1000)?;
+    Ok([
+        small,
+        set.memory_usage() == 8000 && !set.contains(StateID::must(999)),
+    ])
 }
 
 #[test]
 fn sparse_sets(rt: HostRuntime) -> Result<(), Fail> {
-    let mut set = SparseSet::new(rt.alloc(), CAPACITY)?;
-    assert!(rt; set.is_empty());
-    assert_eq!(rt; set.memory_usage(), 2048);
-    assert!(rt; inserts_quietly(&mut set));
-    assert!(rt; !set.is_empty());
-    let mut names = Vec::new(rt.alloc());
-    for id in set.iter() {
-        names.push(id.as_usize())?;
-    }
-    assert_eq!(rt; names.as_slice(), NAMES.as_slice());
-    set.resize(64)?;
-    assert!(rt; set.is_empty());
-    assert_eq!(rt; set.capacity(), 64);
-    assert!(rt; !set.contains(StateID::must(63)));
-    set.resize(1000)?;
-    assert_eq!(rt; set.memory_usage(), 8000);
-    assert!(rt; !set.contains(StateID::must(999)));
+    assert!(rt; tells_names(rt.alloc())?);
+    assert!(rt; is_resized(rt.alloc())? == [true, true]);
     Ok(())
+}
+
+/// Whether the numbers of the first set stand in the second where both are swapped.
+fn are_swapped(alloc: Global) -> Result<bool, AllocError> {
+    let mut sets = SparseSets::new(alloc, CAPACITY)?;
+    let agrees = sets.memory_usage() == 4096 && inserts_quietly(&mut sets.set1);
+    sets.swap();
+    let names = names_of(alloc, &sets.set2)?;
+    Ok(agrees && sets.set1.is_empty() && names.as_slice() == NAMES.as_slice())
+}
+
+/// Whether both sets are cleared, and resized.
+fn are_cleared(alloc: Global) -> Result<[bool; 2], AllocError> {
+    let mut sets = SparseSets::new(alloc, CAPACITY)?;
+    inserts_quietly(&mut sets.set2);
+    sets.clear();
+    let clear = sets.set2.is_empty() && sets.set2.capacity() == CAPACITY;
+    sets.resize(10)?;
+    Ok([
+        clear,
+        sets.set1.capacity() == 10 && sets.memory_usage() == 160,
+    ])
 }
 
 #[test]
 fn two_sets(rt: HostRuntime) -> Result<(), Fail> {
-    let mut sets = SparseSets::new(rt.alloc(), CAPACITY)?;
-    assert_eq!(rt; sets.memory_usage(), 4096);
-    assert!(rt; inserts_quietly(&mut sets.set1));
-    sets.swap();
-    assert!(rt; sets.set1.is_empty());
-    assert_eq!(rt;
-        names_of(rt.alloc(), &sets.set2)?.as_slice(),
-        NAMES.as_slice()
-    );
-    sets.clear();
-    assert!(rt; sets.set2.is_empty());
-    assert_eq!(rt; sets.set2.capacity(), CAPACITY);
-    sets.resize(10)?;
-    assert_eq!(rt; sets.set1.capacity(), 10);
-    assert_eq!(rt; sets.memory_usage(), 160);
+    assert!(rt; are_swapped(rt.alloc())?);
+    assert!(rt; are_cleared(rt.alloc())? == [true, true]);
     Ok(())
 }

@@ -68,37 +68,64 @@ fn state(name: u8) -> Option<StateID> {
     }
 }
 
+/// Whether the range has the byte just as it is expected, as a byte and as a unit.
+fn has_byte(range: &Transition, byte: u8, is_in: bool) -> bool {
+    range.matches_byte(byte) == is_in && range.matches_unit(Unit::u8(byte)) == is_in
+}
+
 #[test]
-fn ranges_of_bytes(rt: HostRuntime) -> Result<(), Fail> {
+fn ranges_of_bytes(rt: HostRuntime) {
     let range = transition(b'a', b'z', 1);
     for (byte, is_in) in [(b'`', false), (b'a', true), (b'z', true), (b'{', false)] {
-        assert_eq!(rt; range.matches_byte(byte), is_in);
-        assert_eq!(rt; range.matches_unit(Unit::u8(byte)), is_in);
+        assert!(rt; has_byte(&range, byte, is_in));
+    }
+    for (at, is_in) in [
+        (0, false),
+        (1, true),
+        (4, true),
+        (5, false),
+        (6, false),
+        (usize::MAX, false),
+    ] {
+        assert!(rt; range.matches(HAYSTACK, at) == is_in);
     }
     assert!(rt; !range.matches_unit(Unit::eoi(usize::from(b'b'))));
-    for (at, is_in) in [(0, false), (1, true), (4, true), (5, false), (6, false)] {
-        assert_eq!(rt; range.matches(HAYSTACK, at), is_in);
+}
+
+/// Where the byte leads: by the ranges and by the table, as a byte and as a unit.
+fn steps_of(
+    sparse: &SparseTransitions,
+    dense: &DenseTransitions,
+    byte: u8,
+) -> [Option<StateID>; 4] {
+    let unit = Unit::u8(byte);
+    [
+        sparse.matches_byte(byte),
+        sparse.matches_unit(unit),
+        dense.matches_byte(byte),
+        dense.matches_unit(unit),
+    ]
+}
+
+/// Whether ranges and table lead from each byte to its state, from each place of the haystack, and from the end nowhere.
+fn lead_as_told(sparse: &SparseTransitions, dense: &DenseTransitions) -> bool {
+    for (byte, name) in STEPS {
+        if steps_of(sparse, dense, byte) != [state(name); 4] {
+            return false;
+        }
     }
-    assert!(rt; !range.matches(HAYSTACK, usize::MAX));
-    Ok(())
+    for (at, name) in [(0, 0), (1, 2), (2, 2), (3, 2), (4, 3), (5, 0), (6, 0)] {
+        if [sparse.matches(HAYSTACK, at), dense.matches(HAYSTACK, at)] != [state(name); 2] {
+            return false;
+        }
+    }
+    let end = Unit::eoi(0);
+    [sparse.matches_unit(end), dense.matches_unit(end)] == [None; 2]
 }
 
 #[test]
 fn steps_by_a_byte(rt: HostRuntime) -> Result<(), Fail> {
-    let sparse = sparse(rt.alloc())?;
-    let dense = dense(rt.alloc())?;
-    for (byte, name) in STEPS {
-        assert_eq!(rt; sparse.matches_byte(byte), state(name));
-        assert_eq!(rt; sparse.matches_unit(Unit::u8(byte)), state(name));
-        assert_eq!(rt; dense.matches_byte(byte), state(name));
-        assert_eq!(rt; dense.matches_unit(Unit::u8(byte)), state(name));
-    }
-    for (at, name) in [(0, 0), (1, 2), (2, 2), (3, 2), (4, 3), (5, 0), (6, 0)] {
-        assert_eq!(rt; sparse.matches(HAYSTACK, at), state(name));
-        assert_eq!(rt; dense.matches(HAYSTACK, at), state(name));
-    }
-    assert_eq!(rt; sparse.matches_unit(Unit::eoi(0)), None);
-    assert_eq!(rt; dense.matches_unit(Unit::eoi(0)), None);
+    assert!(rt; lead_as_told(&sparse(rt.alloc())?, &dense(rt.alloc())?));
     Ok(())
 }
 
@@ -107,54 +134,61 @@ fn facts(state: &State) -> (bool, usize) {
     (state.is_epsilon(), state.memory_usage())
 }
 
-#[test]
-fn states_that_read(rt: HostRuntime) -> Result<(), Fail> {
-    let range = State::ByteRange {
-        trans: transition(b'a', b'z', 1),
-    };
-    assert_eq!(rt; facts(&range), (false, 24));
-    assert_eq!(rt; facts(&State::Sparse(sparse(rt.alloc())?)), (false, 64));
-    assert_eq!(rt; facts(&State::Dense(dense(rt.alloc())?)), (false, 1048));
-    assert_eq!(rt; facts(&State::Fail), (false, 24));
-    let last = State::Match {
-        pattern_id: PatternID::ZERO,
-    };
-    assert_eq!(rt; facts(&last), (false, 24));
-    Ok(())
+/// Whether states that read, or end, don't lead on with no byte, and take so many bytes.
+fn reading(alloc: Global) -> Result<bool, AllocError> {
+    let pattern_id = PatternID::ZERO;
+    let trans = transition(b'a', b'z', 1);
+    Ok(
+        facts(&State::ByteRange { trans }) == (false, 24)
+            && facts(&State::Fail) == (false, 24)
+            && facts(&State::Match { pattern_id }) == (false, 24)
+            && facts(&State::Sparse(sparse(alloc)?)) == (false, 64)
+            && facts(&State::Dense(dense(alloc)?)) == (false, 1048),
+    )
 }
 
-#[test]
-fn states_that_lead_on(rt: HostRuntime) -> Result<(), Fail> {
+/// Whether states that lead on do with no byte, and take so many bytes.
+fn leading_on(alloc: Global) -> bool {
     let next = StateID::ZERO;
     let look = State::Look {
         look: Look::Start,
         next,
     };
-    assert_eq!(rt; facts(&look), (true, 24));
     let capture = State::Capture {
         next,
         pattern_id: PatternID::ZERO,
         group_index: SmallIndex::ZERO,
         slot: SmallIndex::ZERO,
     };
-    assert_eq!(rt; facts(&capture), (true, 24));
     let pair = State::BinaryUnion {
         alt1: next,
         alt2: StateID::MAX,
     };
-    assert_eq!(rt; facts(&pair), (true, 24));
-    let mut alternates = Vec::new(rt.alloc());
-    let none = State::Union {
-        alternates: Vec::new(rt.alloc()),
-    };
-    assert_eq!(rt; facts(&none), (true, 24));
-    alternates.push(next)?;
-    alternates.push(StateID::MAX)?;
-    alternates.push(next)?;
-    let union = State::Union { alternates };
-    assert_eq!(rt; facts(&union), (true, 36));
+    let alternates = Vec::new(alloc);
+    let none = State::Union { alternates };
+    let told = [facts(&look), facts(&capture), facts(&pair), facts(&none)];
+    told == [(true, 24); 4]
+}
+
+/// A union of three ways.
+fn union_of_three(alloc: Global) -> Result<State, AllocError> {
+    let alternates = vec![in alloc; StateID::ZERO, StateID::MAX, StateID::ZERO]?;
+    Ok(State::Union { alternates })
+}
+
+/// Whether the union leads on, takes so many bytes, and is its copy but no other union.
+fn copied(alloc: Global) -> Result<bool, AllocError> {
+    let union = union_of_three(alloc)?;
     let copy = union.clone()?;
-    assert!(rt; copy == union);
-    assert!(rt; copy != none);
+    let alternates = Vec::new(alloc);
+    let none = State::Union { alternates };
+    Ok(facts(&union) == (true, 36) && copy == union && copy != none)
+}
+
+#[test]
+fn facts_of_states(rt: HostRuntime) -> Result<(), Fail> {
+    assert!(rt; reading(rt.alloc())?);
+    assert!(rt; leading_on(rt.alloc()));
+    assert!(rt; copied(rt.alloc())?);
     Ok(())
 }

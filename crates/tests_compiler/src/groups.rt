@@ -17,7 +17,7 @@ fn group(alloc: Global, index: u32) -> Result<Hir, AllocError> {
 fn groups_have_states(rt: HostRuntime) -> Result<(), Fail> {
     let alloc = rt.alloc();
     let mut compiler = Compiler::new(alloc);
-    let nfa = compiler.build_from_hir(alloc, &group(alloc, 1)?)?;
+    let nfa = compiler.build_from_hir(&group(alloc, 1)?)?;
     let states = [
         Shape::Two(2, 1),
         Shape::Range(0, 255, 0),
@@ -31,7 +31,7 @@ fn groups_have_states(rt: HostRuntime) -> Result<(), Fail> {
     assert!(rt; is_made_of(&nfa, 2, 0, &states));
     assert!(rt; nfa.has_capture());
     compiler.configure(Config::new().which_captures(WhichCaptures::Implicit));
-    let nfa = compiler.build_from_hir(alloc, &group(alloc, 1)?)?;
+    let nfa = compiler.build_from_hir(&group(alloc, 1)?)?;
     assert_eq!(rt; nfa.states().len(), 6);
     assert_eq!(rt; nfa.group_info().all_group_len(), 1);
     Ok(())
@@ -42,7 +42,7 @@ fn groups_are_refused_downwards(rt: HostRuntime) -> Result<(), Fail> {
     let alloc = rt.alloc();
     let mut compiler = Compiler::new(alloc);
     compiler.configure(Config::new().reverse(true));
-    let refused = compiler.build_from_hir(alloc, &Hir::empty());
+    let refused = compiler.build_from_hir(&Hir::empty());
     assert!(rt; matches!(refused, Err(BuildError::UnsupportedCaptures)));
     Ok(())
 }
@@ -52,7 +52,7 @@ fn one_name_is_refused_twice(rt: HostRuntime) -> Result<(), Fail> {
     let alloc = rt.alloc();
     let mut compiler = Compiler::new(alloc);
     let tree = Hir::concat(vec![in alloc; group(alloc, 1)?, group(alloc, 2)?]?);
-    let refused = compiler.build_from_hir(alloc, &tree);
+    let refused = compiler.build_from_hir(&tree);
     assert!(rt;
         matches!(
             refused,
@@ -62,7 +62,7 @@ fn one_name_is_refused_twice(rt: HostRuntime) -> Result<(), Fail> {
         )
     );
     compiler.configure(Config::new().which_captures(WhichCaptures::None));
-    let nfa = compiler.build_from_hir(alloc, &text(alloc, b"a")?)?;
+    let nfa = compiler.build_from_hir(&text(alloc, b"a")?)?;
     let states = [
         Shape::Two(2, 1),
         Shape::Range(0, 255, 0),

@@ -6,6 +6,8 @@ mod groups;
 #[cfg(test)]
 mod kinds;
 #[cfg(test)]
+mod limits;
+#[cfg(test)]
 mod options;
 #[cfg(test)]
 mod patterns;

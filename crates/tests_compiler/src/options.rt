@@ -58,16 +58,16 @@ fn automata_have_the_options_set_last(rt: HostRuntime) -> Result<(), Fail> {
     );
     compiler.configure(Config::new().reverse(true));
     let a = text(alloc, b"a")?;
-    let nfa = compiler.build_from_hir(alloc, &a)?;
+    let nfa = compiler.build_from_hir(&a)?;
     assert!(rt; !nfa.is_utf8());
     assert!(rt; nfa.is_reverse());
     // the builder's states take 24 bytes each, a range of a sparse one 8 and an alternate of a union 4
     compiler.configure(Config::new().nfa_size_limit(Some(136)));
-    assert!(rt; compiler.build_from_hir(alloc, &a).is_ok());
+    assert!(rt; compiler.build_from_hir(&a).is_ok());
     compiler.configure(Config::new().nfa_size_limit(Some(135)));
-    let refused = compiler.build_from_hir(alloc, &a);
+    let refused = compiler.build_from_hir(&a);
     assert!(rt; matches!(refused, Err(BuildError::ExceededSizeLimit { limit: 135 })));
     compiler.configure(Config::new().nfa_size_limit(None));
-    assert!(rt; compiler.build_from_hir(alloc, &a).is_ok());
+    assert!(rt; compiler.build_from_hir(&a).is_ok());
     Ok(())
 }

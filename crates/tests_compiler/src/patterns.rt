@@ -12,7 +12,7 @@ fn patterns_are_tried_in_order(rt: HostRuntime) -> Result<(), Fail> {
     let mut compiler = Compiler::new(alloc);
     compiler.configure(Config::new().which_captures(WhichCaptures::None));
     let trees = vec![in alloc; text(alloc, b"a")?, text(alloc, b"b")?]?;
-    let nfa = compiler.build_many_from_hir(alloc, &trees)?;
+    let nfa = compiler.build_many_from_hir(&trees)?;
     let states = [
         Shape::Two(6, 1),
         Shape::Range(0, 255, 0),
@@ -36,7 +36,7 @@ fn patterns_are_tried_in_order(rt: HostRuntime) -> Result<(), Fail> {
 fn no_patterns_never_match(rt: HostRuntime) -> Result<(), Fail> {
     let alloc = rt.alloc();
     let mut compiler = Compiler::new(alloc);
-    let nfa = compiler.build_many_from_hir(alloc, &[])?;
+    let nfa = compiler.build_many_from_hir(&[])?;
     assert!(rt; is_made_of(&nfa, 0, 0, &[Shape::Fail]));
     assert!(rt; nfa.is_always_start_anchored());
     assert_eq!(rt; nfa.pattern_len(), 0);
@@ -49,7 +49,7 @@ fn nothing_stands_before_anchored_patterns(rt: HostRuntime) -> Result<(), Fail> 
     let mut compiler = Compiler::new(alloc);
     compiler.configure(Config::new().which_captures(WhichCaptures::None));
     let anchored = Hir::concat(vec![in alloc; Hir::look(Look::Start), text(alloc, b"a")?]?);
-    let nfa = compiler.build_from_hir(alloc, &anchored)?;
+    let nfa = compiler.build_from_hir(&anchored)?;
     let states = [
         Shape::Look(Look::Start, 1),
         Shape::Range(b'a', b'a', 2),
@@ -58,7 +58,7 @@ fn nothing_stands_before_anchored_patterns(rt: HostRuntime) -> Result<(), Fail> 
     assert!(rt; is_made_of(&nfa, 0, 0, &states));
     assert!(rt; nfa.is_always_start_anchored());
     let one_of_two = vec![in alloc; anchored, text(alloc, b"b")?]?;
-    let nfa = compiler.build_many_from_hir(alloc, &one_of_two)?;
+    let nfa = compiler.build_many_from_hir(&one_of_two)?;
     assert!(rt; !nfa.is_always_start_anchored());
     assert_eq!(rt; nfa.states().len(), 8);
     Ok(())

@@ -103,7 +103,7 @@ pub fn compiled(alloc: Global, reverse: bool, tree: &Hir) -> Result<NFA, BuildEr
             .which_captures(WhichCaptures::None)
             .reverse(reverse),
     );
-    compiler.build_from_hir(alloc, tree)
+    compiler.build_from_hir(tree)
 }
 
 /// A literal.

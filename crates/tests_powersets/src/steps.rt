@@ -4,7 +4,8 @@ ghost use Rattle.nfa_core.specs.NameSets.{empty_below};
 
 use crate::automata::one_letter;
 use determinize_core::{
-    Start, State, StateBuilderEmpty, next, of_nfa, start_state, walk, walk_with,
+    Start, State, StateBuilderEmpty, Workspace, next, next_in, of_nfa, start_in, start_state, walk,
+    walk_with,
 };
 use nfa_core::{NFA, PairSet, Sets, Steps};
 use search_core::{StateID, Unit};
@@ -45,6 +46,27 @@ fn walk_with_pairs<L: Ledger>(
     walk_with(alloc, nfa, kind, &mut sets, start, None, bytes, &mut steps)
 }
 
+/// The state behind a letter, made in the workspace in which the first one was made.
+fn behind_in<L: Ledger>(
+    alloc: Global,
+    nfa: &NFA,
+    start: StateID,
+    blank: Blank,
+) -> Result<State, AllocError>
+    requires inside { start < length nfa.now.automaton.states }
+    requires name { blank.name ≡ L.name }
+    requires parts { blank.parts ≡ L.parts }
+    requires some { 0 < blank.parts }
+{
+    nfa.is_sound();
+    let mut steps = Steps::<L>::new(blank);
+    let mut work = Workspace::new(alloc, nfa.states().len())?;
+    let first = start_in(nfa, Start::Text, start, &mut work, &mut steps)?;
+    let kind = MatchKind::LeftmostFirst;
+    let behind = next_in(nfa, kind, &mut work, &first, Unit::u8(b'a'), &mut steps)?;
+    Ok(behind)
+}
+
 /// The bytes of the states, one state after the other.
 fn bytes_of(alloc: Global, states: &[State]) -> Result<Vec<u8>, AllocError> {
     let mut bytes = Vec::new(alloc);
@@ -63,6 +85,18 @@ fn sets_make_no_difference(rt: HostRuntime) -> Result<(), Fail> {
     let pairs = walk_with_pairs::<Brand>(alloc, &nfa, start, b"ab", Blank::new(1))?;
     assert!(rt; bytes_of(alloc, &sparse)?.as_slice() == bytes_of(alloc, &pairs)?.as_slice());
     assert_eq!(rt; pairs.len(), 4);
+    Ok(())
+}
+
+#[test]
+fn one_workspace_serves_a_start_and_a_step(rt: HostRuntime) -> Result<(), Fail> {
+    let alloc = rt.alloc();
+    let nfa = one_letter(alloc)?;
+    let start = nfa.start_unanchored();
+    let walked = walk(alloc, &nfa, MatchKind::LeftmostFirst, start, None, b"a")?;
+    let behind = behind_in::<Brand>(alloc, &nfa, start, Blank::new(1))?;
+    assert_eq!(rt; walked.len(), 3);
+    assert!(rt; walked[1].as_bytes() == behind.as_bytes());
     Ok(())
 }
 

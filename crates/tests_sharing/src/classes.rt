@@ -100,9 +100,9 @@ fn small_classes_keep_to_their_limit(rt: HostRuntime) -> Result<(), Fail> {
     let mut compiler = Compiler::new(alloc);
     let config = Config::new().which_captures(WhichCaptures::None);
     compiler.configure(config.reverse(true).shrink(true).nfa_size_limit(Some(432)));
-    assert!(rt; compiler.build_from_hir(alloc, &all)?.states().len() == 9);
+    assert!(rt; compiler.build_from_hir(&all)?.states().len() == 9);
     compiler.configure(Config::new().nfa_size_limit(Some(431)));
-    let refused = compiler.build_from_hir(alloc, &all);
+    let refused = compiler.build_from_hir(&all);
     assert!(rt; matches!(refused, Err(BuildError::ExceededSizeLimit { limit: 431 })));
     Ok(())
 }

@@ -16,7 +16,7 @@ pub(crate) fn compiled(
     let mut compiler = Compiler::new(alloc);
     let config = Config::new().which_captures(WhichCaptures::None);
     compiler.configure(config.reverse(reverse).shrink(shrink));
-    compiler.build_from_hir(alloc, tree)
+    compiler.build_from_hir(tree)
 }
 
 /// How many states there are upwards, downwards, and downwards where classes are made smaller.

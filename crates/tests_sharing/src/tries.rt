@@ -27,13 +27,13 @@ fn insert(
     requires second { second.start ≤ second.end }
     ensures { OnOk result (HasPairs trie.new) }
 {
-    trie.insert(alloc, &[first, second])
+    trie.insert(&[first, second])
 }
 
 /// The sequences as they come, until one has this first byte.
 fn told(trie: &RangeTrie, alloc: Global, stop: u8) -> Result<Vec<u8>, AllocError> {
     let mut bytes = Vec::new(alloc);
-    let _stopped = trie.iter(alloc, |ranges| {
+    let _stopped = trie.iter(|ranges| {
         for range in ranges {
             if range.start == stop {
                 return Err(AllocError);

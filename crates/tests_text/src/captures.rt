@@ -1,11 +1,11 @@
 use crate::groups::a_and_none;
 use search_core::{NonMaxUsize, PatternID};
-use search_types::{Captures, Match, Span};
-use std::alloc::Global;
+use search_types::{Captures, GroupInfo, Match, Span};
+use std::alloc::{AllocError, Global};
 use std::test::Fail;
 
 /// Sets each of these slots that is kept.
-fn set(captures: &mut Captures, values: &[(usize, usize)]) {
+pub(crate) fn set(captures: &mut Captures, values: &[(usize, usize)]) {
     for (index, value) in values {
         if let Some(slot) = captures.slots_mut().get_mut(*index) {
             *slot = NonMaxUsize::new(*value);
@@ -34,73 +34,119 @@ fn match_in_order(captures: &Captures) -> Option<Match> {
     }
 }
 
+/// What a match tells of its groups: its span, how many groups it has, and the spans of the second group, of the third,
+/// and of those with the names `a` and `b`.
+fn groups_of(captures: &Captures) -> (Option<Match>, usize, [Option<Span>; 4]) {
+    let groups = [
+        captures.get_group(1),
+        captures.get_group(2),
+        captures.get_group_by_name("a"),
+        captures.get_group_by_name("b"),
+    ];
+    (match_in_order(captures), captures.group_len(), groups)
+}
+
+/// The spans of the first three groups as they are told one after the other.
+fn spans_of(captures: &Captures) -> [Option<Option<Span>>; 3] {
+    let mut spans = captures.iter();
+    [spans.next(), spans.next(), spans.next()]
+}
+
+/// Whether a match tells its groups: its own span, and that of the second one, whose name is `a`.
+fn tells_groups(captures: &Captures) -> bool {
+    let whole = Some(Span { start: 0, end: 2 });
+    let group = Some(Span { start: 1, end: 2 });
+    let found = Some(Match::must(0, Span { start: 0, end: 2 }));
+    groups_of(captures) == (found, 2, [group, None, group, None])
+        && spans_of(captures) == [Some(whole), Some(group), None]
+}
+
+/// The pattern, the number of slots and of groups, and the match.
+fn facts_of(captures: &Captures) -> (Option<PatternID>, usize, usize, Option<Match>) {
+    (
+        captures.pattern(),
+        captures.slots().len(),
+        captures.group_len(),
+        match_in_order(captures),
+    )
+}
+
+/// Whether captures that were cleared tell nothing.
+fn tells_nothing(captures: &Captures) -> bool {
+    facts_of(captures) == (None, 6, 0, None)
+}
+
+/// Whether a copy tells the match.
+fn tells_match(copy: &Captures) -> bool {
+    copy.pattern() == Some(PatternID::ZERO)
+        && copy.get_group(1) == Some(Span { start: 1, end: 2 })
+        && copy.group_info().pattern_len() == 2
+}
+
 #[test]
 fn groups_of_a_match(rt: HostRuntime) -> Result<(), Fail> {
-    let captures = all_of_a_match(rt.alloc())?;
-    let whole = Match::must(0, Span { start: 0, end: 2 });
-    let group = Some(Span { start: 1, end: 2 });
-    assert_eq!(rt; match_in_order(&captures), Some(whole));
-    assert_eq!(rt; captures.group_len(), 2);
-    assert_eq!(rt; captures.get_group(1), group);
-    assert_eq!(rt; captures.get_group(2), None);
-    assert_eq!(rt; captures.get_group_by_name("a"), group);
-    assert_eq!(rt; captures.get_group_by_name("b"), None);
-    Ok(())
-}
-
-#[test]
-fn spans_of_a_match(rt: HostRuntime) -> Result<(), Fail> {
-    let captures = all_of_a_match(rt.alloc())?;
-    let mut spans = captures.iter();
-    assert_eq!(rt; spans.next(), Some(Some(Span { start: 0, end: 2 })));
-    assert_eq!(rt; spans.next(), Some(Some(Span { start: 1, end: 2 })));
-    assert_eq!(rt; spans.next(), None);
-    Ok(())
-}
-
-#[test]
-fn copy_of_a_match(rt: HostRuntime) -> Result<(), Fail> {
-    let alloc = rt.alloc();
-    let mut captures = all_of_a_match(alloc)?;
-    let copy = captures.try_clone(alloc)?;
+    let mut captures = all_of_a_match(rt.alloc())?;
+    let copy = captures.try_clone(rt.alloc())?;
+    assert!(rt; tells_groups(&captures));
     captures.clear();
-    assert_eq!(rt; captures.pattern(), None);
-    assert_eq!(rt; captures.slots().len(), 6);
-    assert_eq!(rt; captures.group_len(), 0);
-    assert_eq!(rt; match_in_order(&captures), None);
-    assert_eq!(rt; copy.pattern(), Some(PatternID::ZERO));
-    assert_eq!(rt; copy.get_group(1), Some(Span { start: 1, end: 2 }));
-    assert_eq!(rt; copy.group_info().pattern_len(), 2);
+    assert!(rt; tells_nothing(&captures));
+    assert!(rt; tells_match(&copy));
     Ok(())
+}
+
+/// Whether these parts are told: of bytes, of a character of two bytes, of a haystack of one, and of a third group.
+fn has_parts(captures: &Captures) -> [bool; 4] {
+    let bytes: &[u8] = &[0x61, 0xC3];
+    [
+        captures.extract_bytes::<&[u8], 0>(bytes).is_some(),
+        captures.extract::<&str, 1>("é").is_some(),
+        captures.extract::<&str, 1>("a").is_some(),
+        captures.extract::<&str, 2>("ab").is_some(),
+    ]
+}
+
+/// Whether the parts of a text are told.
+fn tells_parts(captures: &Captures) -> bool {
+    captures.extract::<&str, 1>("ab") == Some(("ab", ["b"]))
 }
 
 #[test]
 fn parts_of_a_haystack(rt: HostRuntime) -> Result<(), Fail> {
-    let alloc = rt.alloc();
-    let mut captures = Captures::all(alloc, a_and_none(alloc)?)?;
-    matched(&mut captures);
-    let text = captures.extract::<&str, 1>("ab");
-    assert_eq!(rt; text, Some(("ab", ["b"])));
-    let bytes: &[u8] = &[0x61, 0xC3];
-    assert!(rt; captures.extract::<&[u8], 0>(bytes).is_some());
-    // a character of two bytes, a haystack of one, and a third group
-    assert!(rt; captures.extract::<&str, 1>("é").is_none());
-    assert!(rt; captures.extract::<&str, 1>("a").is_none());
-    assert!(rt; captures.extract::<&str, 2>("ab").is_none());
+    let captures = all_of_a_match(rt.alloc())?;
+    assert!(rt; tells_parts(&captures));
+    assert!(rt; has_parts(&captures) == [true, false, false, false]);
     Ok(())
+}
+
+/// How many slots are kept, and the spans of the first two groups.
+type Kept = (usize, Option<Span>, Option<Span>);
+
+fn kept(captures: &Captures) -> Kept {
+    (
+        captures.slots().len(),
+        captures.get_group(0),
+        captures.get_group(1),
+    )
+}
+
+/// What is kept of a match in slots of whole matches.
+fn kept_of_matches(alloc: Global, info: GroupInfo) -> Result<Kept, AllocError> {
+    let mut captures = Captures::matches(alloc, info)?;
+    matched(&mut captures);
+    Ok(kept(&captures))
+}
+
+/// Whether a match without slots is one, and tells no span.
+fn is_match_alone(alloc: Global, info: GroupInfo) -> bool {
+    let mut captures = Captures::empty(alloc, info);
+    matched(&mut captures);
+    captures.is_match() && captures.get_group(0).is_none()
 }
 
 #[test]
 fn slots_that_are_not_kept(rt: HostRuntime) -> Result<(), Fail> {
-    let alloc = rt.alloc();
-    let mut first = Captures::matches(alloc, a_and_none(alloc)?)?;
-    matched(&mut first);
-    assert_eq!(rt; first.slots().len(), 4);
-    assert_eq!(rt; first.get_group(0), Some(Span { start: 0, end: 2 }));
-    assert_eq!(rt; first.get_group(1), None);
-    let mut none = Captures::empty(alloc, a_and_none(alloc)?);
-    matched(&mut none);
-    assert!(rt; none.is_match());
-    assert_eq!(rt; none.get_group(0), None);
+    let kept = kept_of_matches(rt.alloc(), a_and_none(rt.alloc())?)?;
+    assert!(rt; kept == (4, Some(Span { start: 0, end: 2 }), None));
+    assert!(rt; is_match_alone(rt.alloc(), a_and_none(rt.alloc())?));
     Ok(())
 }

@@ -4,7 +4,10 @@ use std::alloc::{AllocError, Global};
 use std::test::Fail;
 
 /// The names of a pattern's groups.
-fn names(alloc: Global, texts: &[Option<&str>]) -> Result<Vec<Option<String>>, AllocError> {
+pub(crate) fn names(
+    alloc: Global,
+    texts: &[Option<&str>],
+) -> Result<Vec<Option<String>>, AllocError> {
     let mut names = Vec::new(alloc);
     for text in texts {
         match text {
@@ -40,54 +43,77 @@ fn refusal(alloc: Global, texts: &[Option<&str>]) -> Result<String, AllocError> 
     }
 }
 
+/// The number of patterns, of all groups, and of slots: all, implicit and explicit ones.
+fn sizes(info: &GroupInfo) -> [usize; 5] {
+    [
+        info.pattern_len(),
+        info.all_group_len(),
+        info.slot_len(),
+        info.implicit_slot_len(),
+        info.explicit_slot_len(),
+    ]
+}
+
+/// What is told of a group by its pattern and its index: the slots, the first slot and the name.
+fn told(
+    info: &GroupInfo,
+    pattern: PatternID,
+    group: usize,
+) -> (Option<(usize, usize)>, Option<usize>, Option<&str>) {
+    (
+        info.slots(pattern, group),
+        info.slot(pattern, group),
+        info.to_name(pattern, group),
+    )
+}
+
+/// Whether each group of two patterns has its slots and its name.
+fn slots_are_told(info: &GroupInfo) -> bool {
+    let (first, second) = (PatternID::must(0), PatternID::must(1));
+    sizes(info) == [2, 3, 6, 4, 2]
+        && told(info, first, 0) == (Some((0, 1)), Some(0), None)
+        && told(info, second, 0) == (Some((2, 3)), Some(2), None)
+        && told(info, first, 1) == (Some((4, 5)), Some(4), Some("a"))
+        && told(info, first, 2) == (None, None, None)
+        && told(info, second, 1) == (None, None, None)
+}
+
 #[test]
 fn slots_of_two_patterns(rt: HostRuntime) -> Result<(), Fail> {
     let info = a_and_none(rt.alloc())?;
-    let (first, second) = (PatternID::must(0), PatternID::must(1));
-    assert_eq!(rt; info.pattern_len(), 2);
-    assert_eq!(rt; info.group_len(first), 2);
-    assert_eq!(rt; info.group_len(PatternID::must(2)), 0);
-    assert_eq!(rt; info.all_group_len(), 3);
-    assert_eq!(rt; info.slot_len(), 6);
-    assert_eq!(rt; info.implicit_slot_len(), 4);
-    assert_eq!(rt; info.explicit_slot_len(), 2);
-    let rows = [
-        (first, 0, Some((0, 1))),
-        (second, 0, Some((2, 3))),
-        (first, 1, Some((4, 5))),
-        (first, 2, None),
-        (second, 1, None),
-    ];
-    for (pattern, group, slots) in rows {
-        assert_eq!(rt;
-            info.slots(pattern, group),
-            slots,
-            "group {group} of {pattern:?}"
-        );
-    }
-    assert_eq!(rt; info.slot(first, 1), Some(4));
+    assert!(rt; slots_are_told(&info));
     Ok(())
+}
+
+/// The number of a pattern's groups, the index of its group `a`, and how many names it tells.
+fn groups_of(
+    alloc: Global,
+    info: &GroupInfo,
+    pattern: PatternID,
+) -> Result<(usize, Option<usize>, usize), AllocError> {
+    let names = info.pattern_names(pattern).collect::<Vec<_>>(alloc)?;
+    Ok((
+        info.group_len(pattern),
+        info.to_index(pattern, "a"),
+        names.len(),
+    ))
+}
+
+/// Whether the groups' names are printed so.
+fn are_named(alloc: Global, info: &GroupInfo, want: &str) -> Result<bool, AllocError> {
+    Ok(all_names(alloc, info)?.as_str() == want)
 }
 
 #[test]
 fn names_of_two_patterns(rt: HostRuntime) -> Result<(), Fail> {
     let alloc = rt.alloc();
     let info = a_and_none(alloc)?.try_clone(alloc)?;
-    let (first, second) = (PatternID::must(0), PatternID::must(1));
-    assert_eq!(rt; info.to_index(first, "a"), Some(1));
-    assert_eq!(rt; info.to_index(second, "a"), None);
-    assert_eq!(rt; info.to_name(first, 1), Some("a"));
-    assert_eq!(rt; info.to_name(first, 0), None);
-    let of_first = info.pattern_names(first).collect::<Vec<_>>(alloc)?;
-    assert_eq!(rt; of_first.as_slice(), [None, Some("a")].as_slice());
-    let of_third = info
-        .pattern_names(PatternID::must(2))
-        .collect::<Vec<_>>(alloc)?;
-    assert!(rt; of_third.is_empty());
-    assert_eq!(rt; all_names(alloc, &info)?.as_str(), "0 0 -;0 1 a;1 0 -;");
+    assert!(rt; groups_of(alloc, &info, PatternID::must(0))? == (2, Some(1), 2));
+    assert!(rt; groups_of(alloc, &info, PatternID::must(1))? == (1, None, 1));
+    assert!(rt; groups_of(alloc, &info, PatternID::must(2))? == (0, None, 0));
+    assert!(rt; are_named(alloc, &info, "0 0 -;0 1 a;1 0 -;")?);
     let nothing = GroupInfo::empty(alloc);
-    assert_eq!(rt; nothing.slot_len(), 0);
-    assert_eq!(rt; all_names(alloc, &nothing)?.as_str(), "");
+    assert!(rt; are_named(alloc, &nothing, "")? && nothing.slot_len() == 0);
     Ok(())
 }
 
@@ -108,7 +134,7 @@ fn groups_that_break_a_rule(rt: HostRuntime) -> Result<(), Fail> {
         ),
     ];
     for (texts, told) in rows {
-        assert_eq!(rt; refusal(alloc, texts)?.as_str(), told);
+        assert!(rt; refusal(alloc, texts)?.as_str() == told, "{told}");
     }
     Ok(())
 }

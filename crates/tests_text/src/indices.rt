@@ -1,50 +1,43 @@
 ghost use Rattle.std.specs.Prelude.{◌≡◌, ◌<◌, ◌≤◌, ◌↔◌, IsTrue};
 ghost use Rattle.std.specs.Ordering.{nat_cmp};
 
-use search_core::{NonMaxUsize, PatternID, SmallIndex, StateID};
+use search_core::{NonMaxUsize, PatternID, SmallIndex, SmallIndexError, StateID};
+use std::alloc::{AllocError, Global};
 use std::cmp::Ordering;
-use std::collections::HashSet;
 use std::test::Fail;
 
 /// What is read of an index: as each type, and one more.
 type Reads = (usize, u64, u32, i32, usize);
 
 /// The reads of indices at both ends.
-const READS: [Reads; 4] = [
-    (0, 0, 0, 0, 1),
-    (65536, 65536, 65536, 65536, 65537),
-    (2147483645, 2147483645, 2147483645, 2147483645, 2147483646),
-    (2147483646, 2147483646, 2147483646, 2147483646, 2147483647),
-];
-
-/// Each way to make one type of index, at both ends of what it takes, and the number that it takes or refuses.
-macro_rules! ways {
-    ($index:ident) => {
-        [
-            ($index::try_from(u16::MAX), Ok(65535)),
-            ($index::try_from(2147483646u32), Ok(2147483646)),
-            ($index::try_from(2147483647u32), Err(2147483647)),
-            ($index::try_from(2147483646u64), Ok(2147483646)),
-            ($index::try_from(u64::MAX), Err(18446744073709551615)),
-            ($index::try_from(2147483646usize), Ok(2147483646)),
-            ($index::try_from(4294967296usize), Err(4294967296)),
-            ($index::new(2147483646), Ok(2147483646)),
-            ($index::new(2147483647), Err(2147483647)),
-        ]
-    };
+const fn reads_of_both_ends() -> [Reads; 4] {
+    [
+        (0, 0, 0, 0, 1),
+        (65536, 65536, 65536, 65536, 65537),
+        (2147483645, 2147483645, 2147483645, 2147483645, 2147483646),
+        (2147483646, 2147483646, 2147483646, 2147483646, 2147483647),
+    ]
 }
 
-/// Each index that is made with no refusal, and its number.
-macro_rules! sure_ways {
-    ($index:ident) => {
-        [
-            ($index::from(u8::MAX), 255),
-            ($index::must(2147483646), 2147483646),
-            ($index::MAX, 2147483646),
-            ($index::ZERO, 0),
-            ($index::default(), 0),
-        ]
-    };
+/// Each way to make an index, at both ends of what it takes, and the number that it takes or refuses. Those of the
+/// other types of index have the same contracts.
+fn ways() -> [(Result<SmallIndex, SmallIndexError>, Result<u64, u64>); 14] {
+    [
+        (SmallIndex::try_from(u16::MAX), Ok(65535)),
+        (SmallIndex::try_from(2147483646u32), Ok(2147483646)),
+        (SmallIndex::try_from(2147483647u32), Err(2147483647)),
+        (SmallIndex::try_from(2147483646u64), Ok(2147483646)),
+        (SmallIndex::try_from(u64::MAX), Err(18446744073709551615)),
+        (SmallIndex::try_from(2147483646usize), Ok(2147483646)),
+        (SmallIndex::try_from(4294967296usize), Err(4294967296)),
+        (SmallIndex::new(2147483646), Ok(2147483646)),
+        (SmallIndex::new(2147483647), Err(2147483647)),
+        (Ok(SmallIndex::from(u8::MAX)), Ok(255)),
+        (Ok(SmallIndex::must(2147483646)), Ok(2147483646)),
+        (Ok(SmallIndex::MAX), Ok(2147483646)),
+        (Ok(SmallIndex::ZERO), Ok(0)),
+        (Ok(SmallIndex::default()), Ok(0)),
+    ]
 }
 
 fn index_reads(id: SmallIndex) -> Reads {
@@ -77,100 +70,86 @@ fn state_reads(id: StateID) -> Reads {
     )
 }
 
-#[test]
-fn reads(rt: HostRuntime) {
-    for row in READS {
-        assert_eq!(rt; SmallIndex::new(row.0).map(index_reads), Ok(row));
-        assert_eq!(rt; PatternID::new(row.0).map(pattern_reads), Ok(row));
-        assert_eq!(rt; StateID::new(row.0).map(state_reads), Ok(row));
+/// Whether each type's index of this number is read so.
+fn is_read_as(row: Reads) -> bool {
+    let (index, pattern) = (SmallIndex::new(row.0), PatternID::new(row.0));
+    match (index, pattern, StateID::new(row.0)) {
+        (Ok(index), Ok(pattern), Ok(state)) => {
+            index_reads(index) == row && pattern_reads(pattern) == row && state_reads(state) == row
+        }
+        _ => false,
+    }
+}
+
+/// Whether indices at both ends are read as they are expected.
+fn indices_are_read() -> bool {
+    for row in reads_of_both_ends() {
+        if !is_read_as(row) {
+            return false;
+        }
     }
     let limits = [SmallIndex::LIMIT, PatternID::LIMIT, StateID::LIMIT];
-    assert_eq!(rt; limits, [2147483647; 3]);
     let sizes = [SmallIndex::SIZE, PatternID::SIZE, StateID::SIZE];
-    assert_eq!(rt; sizes, [4; 3]);
+    limits == [2147483647; 3] && sizes == [4; 3]
 }
 
-#[test]
-fn small_indices(rt: HostRuntime) {
-    for (made, want) in ways!(SmallIndex) {
-        let made = made
-            .map(|index| index.as_u64())
-            .map_err(|error| error.attempted());
-        assert_eq!(rt; made, want);
+/// Whether each way to make an index takes or refuses its number.
+fn ways_are_told() -> bool {
+    for (made, want) in ways() {
+        let told = match made {
+            Ok(index) => Ok(index.as_u64()),
+            Err(error) => Err(error.attempted()),
+        };
+        if told != want {
+            return false;
+        }
     }
-    for (index, want) in sure_ways!(SmallIndex) {
-        assert_eq!(rt; index.as_u64(), want);
-    }
+    true
 }
 
-#[test]
-fn pattern_ids(rt: HostRuntime) {
-    for (made, want) in ways!(PatternID) {
-        let made = made
-            .map(|id| id.as_u64())
-            .map_err(|error| error.attempted());
-        assert_eq!(rt; made, want);
-    }
-    for (id, want) in sure_ways!(PatternID) {
-        assert_eq!(rt; id.as_u64(), want);
-    }
+/// One index of each type, as it is printed.
+fn printed(alloc: Global) -> Result<String, AllocError> {
+    let (index, pattern, state) = (SmallIndex::must(7), PatternID::must(7), StateID::must(7));
+    let number = NonMaxUsize::new(7);
+    format!(in alloc; "{index:?}, {pattern:?}, {state:?}, {number:?}")
 }
 
-#[test]
-fn state_ids(rt: HostRuntime) {
-    for (made, want) in ways!(StateID) {
-        let made = made
-            .map(|id| id.as_u64())
-            .map_err(|error| error.attempted());
-        assert_eq!(rt; made, want);
-    }
-    for (id, want) in sure_ways!(StateID) {
-        assert_eq!(rt; id.as_u64(), want);
-    }
+/// What refuses a number that is too great, for each type.
+fn refusals(alloc: Global) -> Result<[String; 3], AllocError> {
+    Ok([
+        SmallIndex::new(2147483647).unwrap_err().to_string(alloc)?,
+        PatternID::new(2147483647).unwrap_err().to_string(alloc)?,
+        StateID::new(2147483647).unwrap_err().to_string(alloc)?,
+    ])
 }
 
 #[test]
 fn texts(rt: HostRuntime) -> Result<(), Fail> {
-    let alloc = rt.alloc();
-    let rows = [
-        (
-            format!(in alloc; "{:?}", SmallIndex::must(7))?,
-            "SmallIndex(7)",
-        ),
-        (
-            format!(in alloc; "{:?}", PatternID::must(7))?,
-            "PatternID(7)",
-        ),
-        (format!(in alloc; "{:?}", StateID::must(7))?, "StateID(7)"),
-        (
-            format!(in alloc; "{:?}", NonMaxUsize::new(7))?,
-            "Some(NonMaxUsize(7))",
-        ),
-        (
-            SmallIndex::new(2147483647).unwrap_err().to_string(alloc)?,
-            "failed to create small index from 2147483647, which exceeds SmallIndex(2147483646)",
-        ),
-        (
-            PatternID::new(2147483647).unwrap_err().to_string(alloc)?,
-            "failed to create PatternID from 2147483647, which exceeds PatternID(2147483646)",
-        ),
-        (
-            StateID::new(2147483647).unwrap_err().to_string(alloc)?,
-            "failed to create StateID from 2147483647, which exceeds StateID(2147483646)",
-        ),
+    let text = printed(rt.alloc())?;
+    assert_eq!(rt;
+        text.as_str(),
+        "SmallIndex(7), PatternID(7), StateID(7), Some(NonMaxUsize(7))"
+    );
+    let wants = [
+        "failed to create small index from 2147483647, which exceeds SmallIndex(2147483646)",
+        "failed to create PatternID from 2147483647, which exceeds PatternID(2147483646)",
+        "failed to create StateID from 2147483647, which exceeds StateID(2147483646)",
     ];
-    for (text, want) in &rows {
-        assert_eq!(rt; text.as_str(), *want);
+    for (text, want) in refusals(rt.alloc())?.iter().zip(wants) {
+        assert_eq!(rt; text.as_str(), want);
     }
     Ok(())
 }
 
-#[test]
-fn numbers_below_the_greatest(rt: HostRuntime) {
+/// Whether all numbers but the greatest are taken.
+fn all_but_the_greatest() -> bool {
     for n in [0, 1, 2147483647, usize::MAX - 1] {
-        assert_eq!(rt; NonMaxUsize::new(n).map(|value| value.get()), Some(n));
+        match NonMaxUsize::new(n) {
+            Some(value) if value.get() == n => {}
+            _ => return false,
+        }
     }
-    assert_eq!(rt; NonMaxUsize::new(usize::MAX), None);
+    NonMaxUsize::new(usize::MAX).is_none()
 }
 
 /// Compares by number, as the contract of the derived method lets a caller prove.
@@ -201,39 +180,31 @@ fn is_less(a: NonMaxUsize, b: NonMaxUsize) -> bool
     a < b
 }
 
-#[test]
-fn comparisons_go_by_number(rt: HostRuntime) -> Result<(), Fail> {
-    let rows = [
-        (3, 3, Ordering::Equal),
-        (3, 5, Ordering::Less),
-        (5, 3, Ordering::Greater),
-    ];
-    for (a, b, order) in rows {
-        assert_eq!(rt;
-            compare_indices(SmallIndex::new(a)?, SmallIndex::new(b)?),
-            order
-        );
-        assert_eq!(rt;
-            compare_patterns(PatternID::new(a)?, PatternID::new(b)?),
-            order
-        );
-        assert_eq!(rt;
-            is_same_state(StateID::new(a)?, StateID::new(b)?),
-            order == Ordering::Equal
-        );
+/// Whether two numbers are compared so: as two types of index, and as states that may be the same.
+fn are_compared(a: u8, b: u8, order: Ordering) -> bool {
+    let is_same = is_same_state(StateID::from(a), StateID::from(b));
+    compare_indices(SmallIndex::from(a), SmallIndex::from(b)) == order
+        && compare_patterns(PatternID::from(a), PatternID::from(b)) == order
+        && is_same == (order == Ordering::Equal)
+}
+
+/// Whether one number is below another, which isn't below it, and neither is below itself.
+fn rises() -> bool {
+    match (NonMaxUsize::new(3), NonMaxUsize::new(5)) {
+        (Some(three), Some(five)) => {
+            is_less(three, five) && !is_less(five, three) && !is_less(three, three)
+        }
+        _ => false,
     }
-    let three = NonMaxUsize::new(3).unwrap();
-    let five = NonMaxUsize::new(5).unwrap();
-    assert!(rt; is_less(three, five) && !is_less(five, three) && !is_less(three, three));
-    Ok(())
 }
 
 #[test]
-fn hashes_go_by_number(rt: HostRuntime) -> Result<(), Fail> {
-    let mut patterns = HashSet::new(rt.alloc());
-    for (id, is_new) in [(3, true), (5, true), (3, false)] {
-        assert_eq!(rt; patterns.insert(PatternID::new(id)?)?, is_new);
-    }
-    assert_eq!(rt; patterns.len(), 2);
-    Ok(())
+fn indices(rt: HostRuntime) {
+    assert!(rt; indices_are_read());
+    assert!(rt; ways_are_told());
+    assert!(rt; all_but_the_greatest());
+    assert!(rt; are_compared(3, 3, Ordering::Equal));
+    assert!(rt; are_compared(3, 5, Ordering::Less));
+    assert!(rt; are_compared(5, 3, Ordering::Greater));
+    assert!(rt; rises());
 }

@@ -8,6 +8,8 @@ mod captures;
 #[cfg(test)]
 mod classes_rows;
 #[cfg(test)]
+mod group_faults;
+#[cfg(test)]
 mod groups;
 #[cfg(test)]
 mod indices;
@@ -17,6 +19,8 @@ mod inputs;
 mod look_sets;
 #[cfg(test)]
 mod looks;
+#[cfg(test)]
+mod parts;
 #[cfg(test)]
 mod sets;
 #[cfg(test)]

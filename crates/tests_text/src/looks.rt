@@ -425,76 +425,91 @@ const fn letters() -> [Row; 4] {
     ]
 }
 
-#[test]
-fn looks_hold_by_the_neighbours(rt: HostRuntime) {
-    let matcher = LookMatcher::<AsciiWord>::default();
-    for (haystack, at, looks) in lines() {
-        assert!(rt;
-            holds_only(&matcher, haystack, at, looks),
-            "{haystack:?} at {at}"
-        );
+/// Whether just these looks hold in each row.
+fn hold<W: WordClass>(matcher: &LookMatcher<W>, rows: &[Row]) -> bool {
+    for (haystack, at, looks) in rows {
+        if !holds_only(matcher, haystack, *at, looks) {
+            return false;
+        }
     }
-    for (haystack, at, looks) in words() {
-        assert!(rt;
-            holds_only(&matcher, haystack, at, looks),
-            "{haystack:?} at {at}"
-        );
-    }
+    true
+}
+
+/// Whether a letter that is no ASCII word stands beside no edge at each of its places. A place inside it is broken.
+fn no_edges() -> [bool; 4] {
+    let matcher = LookMatcher::new(AsciiWord);
+    let text: &[u8; 8] = b"\xF0\x9D\x9B\x83\xF0\x90\x86\x80";
+    [
+        matcher.matches(WordUnicodeNegate, text, 0),
+        matcher.matches(WordUnicodeNegate, text, 4),
+        matcher.matches(WordUnicodeNegate, text, 5),
+        matcher.matches(WordUnicodeNegate, text, 8),
+    ]
 }
 
 #[test]
-fn words_are_the_callers(rt: HostRuntime) {
-    let matcher = LookMatcher::new(WithBeta);
-    for (haystack, at, looks) in letters() {
-        assert!(rt;
-            holds_only(&matcher, haystack, at, looks),
-            "{haystack:?} at {at}"
-        );
+fn looks_hold_by_the_neighbours(rt: HostRuntime) {
+    let matcher = LookMatcher::<AsciiWord>::default();
+    assert!(rt; hold(&matcher, &lines()));
+    assert!(rt; hold(&matcher, &words()));
+    assert!(rt; hold(&LookMatcher::new(WithBeta), &letters()));
+    assert!(rt; no_edges() == [true, true, false, true]);
+}
+
+/// The bytes by which lines end, and whether three bytes are among them.
+fn ends(lines: LineTerm) -> (u8, Option<u8>, [bool; 3]) {
+    let among = [
+        lines.contains(0),
+        lines.contains(b';'),
+        lines.contains(b'\n'),
+    ];
+    (lines.first(), lines.second(), among)
+}
+
+/// Whether a line starts at the place, and whether one ends there.
+fn is_edge(matcher: &LookMatcher<AsciiWord>, text: &[u8], at: usize) -> Option<(bool, bool)> {
+    if at > text.len() {
+        return None;
     }
-    // the same letter is none among the ASCII words, and a place inside a character is broken
-    let matcher = LookMatcher::new(AsciiWord);
-    let text = "𝛃𐆀".as_bytes();
-    for (at, holds) in [(0, true), (4, true), (5, false), (8, true)] {
-        assert!(rt; at <= text.len());
-        assert_eq!(rt;
-            matcher.matches(WordUnicodeNegate, text, at),
-            holds,
-            "place {at}"
-        );
+    Some((matcher.is_start_lf(text, at), matcher.is_end_lf(text, at)))
+}
+
+/// Whether two line terminators have their bytes, and are the same as others.
+fn terminators_are_told() -> bool {
+    let (feed, two) = (LineTerm::default(), LineTerm::two(b';', 0));
+    ends(feed) == (b'\n', None, [false, false, true])
+        && ends(two) == (0, Some(b';'), [true, true, false])
+        && feed == LineTerm::one(b'\n')
+        && two == LineTerm::two(0, b';')
+        && LineTerm::two(7, 7) == LineTerm::one(7)
+}
+
+/// Whether lines end by a terminator of two bytes: before each byte, and at the end.
+fn lines_end_by_two() -> bool {
+    let mut matcher = LookMatcher::new(AsciiWord);
+    matcher.set_line_terminator(LineTerm::two(b';', 0));
+    let rows = [
+        (0, (true, false)),
+        (1, (false, true)),
+        (2, (true, false)),
+        (3, (false, true)),
+        (4, (true, false)),
+        (5, (false, false)),
+        (6, (false, false)),
+        (7, (false, true)),
+    ];
+    for (at, edges) in rows {
+        if is_edge(&matcher, b"a;b\0c\nd", at) != Some(edges) {
+            return false;
+        }
     }
+    matcher.get_line_terminator() == LineTerm::two(b';', 0)
 }
 
 #[test]
 fn line_terminators(rt: HostRuntime) {
-    let feed = LineTerm::default();
-    assert_eq!(rt; feed, LineTerm::one(b'\n'));
-    assert_eq!(rt; (feed.first(), feed.second()), (b'\n', None));
-    let two = LineTerm::two(b';', 0);
-    assert_eq!(rt; two, LineTerm::two(0, b';'));
-    assert_eq!(rt; (two.first(), two.second()), (0, Some(b';')));
-    assert!(rt; two.contains(0) && two.contains(b';') && !two.contains(b'\n'));
-    assert_eq!(rt; LineTerm::two(7, 7), LineTerm::one(7));
-    let mut matcher = LookMatcher::new(AsciiWord);
-    assert_eq!(rt; matcher.get_line_terminator(), feed);
-    matcher.set_line_terminator(two);
-    assert_eq!(rt; matcher.get_line_terminator(), two);
-    let text = b"a;b\0c\nd";
-    // before each byte, and at the end
-    let rows = [
-        (0, true, false),
-        (1, false, true),
-        (2, true, false),
-        (3, false, true),
-        (4, true, false),
-        (5, false, false),
-        (6, false, false),
-        (7, false, true),
-    ];
-    for (at, start, end) in rows {
-        assert!(rt; at <= text.len());
-        assert_eq!(rt; matcher.is_start_lf(text, at), start, "place {at}");
-        assert_eq!(rt; matcher.is_end_lf(text, at), end, "place {at}");
-    }
+    assert!(rt; terminators_are_told());
+    assert!(rt; lines_end_by_two());
 }
 
 /// Whether the byte and the next one are told apart by the look, with lines that end at `;` or a zero byte.
@@ -507,59 +522,71 @@ fn tells_apart(look: Look, byte: u8) -> bool {
     byte < u8::MAX && classes.get(byte) != classes.get(byte + 1)
 }
 
-#[test]
-fn looks_tell_bytes_apart(rt: HostRuntime) {
-    // the looks by their kinds: the edges, lines by the terminator, by `\r` and `\n`, and words
-    let rows = [
-        (0, false, true, false, false),
-        (b'9', false, false, false, true),
-        (b':', false, true, false, false),
-        (b';', false, true, false, false),
-        (0x09, false, false, true, false),
-        (b'\n', false, false, true, false),
-        (0x0C, false, false, true, false),
-        (b'\r', false, false, true, false),
-        (b'/', false, false, false, true),
-        (b'@', false, false, false, true),
-        (b'Z', false, false, false, true),
-        (b'^', false, false, false, true),
-        (b'_', false, false, false, true),
-        (b'`', false, false, false, true),
-        (b'z', false, false, false, true),
-        (b'm', false, false, false, false),
-    ];
-    for (byte, edge, line, crlf, word) in rows {
-        for look in all_looks() {
-            let expected = match look {
-                Start | End => edge,
-                StartLF | EndLF => line,
-                StartCRLF | EndCRLF => crlf,
-                _ => word,
-            };
-            assert_eq!(rt; tells_apart(look, byte), expected, "{look:?} at {byte}");
+/// By which kind of look the byte and the next one are told apart, as a look of that kind does: the edges, lines by the
+/// terminator, lines by `\r` and `\n`, and words.
+type Kinds = (bool, bool, bool, bool);
+
+/// Whether each look tells the byte and the next one apart just as its kind does.
+fn tell_apart_as(byte: u8, kinds: Kinds) -> bool {
+    let (edge, line, crlf, word) = kinds;
+    for look in all_looks() {
+        let expected = match look {
+            Start | End => edge,
+            StartLF | EndLF => line,
+            StartCRLF | EndCRLF => crlf,
+            _ => word,
+        };
+        if tells_apart(look, byte) != expected {
+            return false;
         }
     }
+    true
+}
+
+#[test]
+fn looks_tell_bytes_apart(rt: HostRuntime) {
+    let rows = [
+        (0, (false, true, false, false)),
+        (b'9', (false, false, false, true)),
+        (b':', (false, true, false, false)),
+        (b';', (false, true, false, false)),
+        (0x09, (false, false, true, false)),
+        (b'\n', (false, false, true, false)),
+        (0x0C, (false, false, true, false)),
+        (b'\r', (false, false, true, false)),
+        (b'/', (false, false, false, true)),
+        (b'@', (false, false, false, true)),
+        (b'Z', (false, false, false, true)),
+        (b'^', (false, false, false, true)),
+        (b'_', (false, false, false, true)),
+        (b'`', (false, false, false, true)),
+        (b'z', (false, false, false, true)),
+        (b'm', (false, false, false, false)),
+    ];
+    for (byte, kinds) in rows {
+        assert!(rt; tell_apart_as(byte, kinds), "byte {byte}");
+    }
+}
+
+/// Whether each look of the set holds at the place, which is in the haystack.
+fn holds_all(set: LookSet, haystack: &[u8], at: usize) -> bool {
+    let matcher = LookMatcher::new(AsciiWord);
+    at <= haystack.len() && matcher.matches_set(set, haystack, at)
+}
+
+/// Whether sets hold where each of their looks does.
+fn sets_hold() -> bool {
+    let edges = LookSet::empty().insert(Start).insert(End);
+    let first = LookSet::empty().insert(Start).insert(WordStartUnicode);
+    holds_all(LookSet::empty(), b"a", 0)
+        && holds_all(edges, b"", 0)
+        && !holds_all(edges, b"a", 0)
+        && !holds_all(edges, b"a", 1)
+        && holds_all(first, b"a", 0)
+        && !holds_all(first, b"-", 0)
 }
 
 #[test]
 fn sets_hold_where_each_member_does(rt: HostRuntime) {
-    let matcher = LookMatcher::new(AsciiWord);
-    let edges = LookSet::empty().insert(Start).insert(End);
-    let first = LookSet::empty().insert(Start).insert(WordStartUnicode);
-    let rows: [(LookSet, &[u8], usize, bool); 6] = [
-        (LookSet::empty(), b"a", 0, true),
-        (edges, b"", 0, true),
-        (edges, b"a", 0, false),
-        (edges, b"a", 1, false),
-        (first, b"a", 0, true),
-        (first, b"-", 0, false),
-    ];
-    for (set, haystack, at, holds) in rows {
-        assert!(rt; at <= haystack.len());
-        assert_eq!(rt;
-            matcher.matches_set(set, haystack, at),
-            holds,
-            "{haystack:?} at {at}"
-        );
-    }
+    assert!(rt; sets_hold());
 }

@@ -108,45 +108,73 @@ const fn single_bytes() -> [(u8, bool, bool); 18] {
     ]
 }
 
-#[test]
-fn rows_are_read_from_both_ends(rt: HostRuntime) {
+/// Whether each row is read as its character from both ends.
+fn spellings_are_read() -> bool {
     for (bytes, c) in spellings() {
-        assert_eq!(rt; decode(bytes), Some(Ok(c)), "{bytes:?}");
-        assert_eq!(rt; decode_last(bytes), Some(Ok(c)), "{bytes:?}");
+        if decode(bytes) != Some(Ok(c)) || decode_last(bytes) != Some(Ok(c)) {
+            return false;
+        }
     }
+    true
 }
 
-#[test]
-fn faults_give_a_byte(rt: HostRuntime) {
+/// Whether each fault gives its first byte at the front, and what is expected at the end.
+fn faults_give_a_byte() -> bool {
     for (bytes, last) in faults() {
-        let first = bytes.first().copied();
-        assert_eq!(rt;
-            decode(bytes).and_then(|read| read.err()),
-            first,
-            "{bytes:?}"
-        );
-        assert_eq!(rt; decode_last(bytes), Some(last), "{bytes:?}");
+        let first = match decode(bytes) {
+            Some(Err(byte)) => Some(byte),
+            _ => None,
+        };
+        if first != bytes.first().copied() || decode_last(bytes) != Some(last) {
+            return false;
+        }
     }
+    true
+}
+
+/// Whether longer texts are read from both ends.
+fn texts_are_read() -> bool {
+    for (bytes, first, last) in texts() {
+        if decode(bytes) != Some(first) || decode_last(bytes) != Some(last) {
+            return false;
+        }
+    }
+    decode(&[]).is_none() && decode_last(&[]).is_none()
 }
 
 #[test]
-fn longer_texts_are_read_from_both_ends(rt: HostRuntime) {
-    for (bytes, first, last) in texts() {
-        assert_eq!(rt; decode(bytes), Some(first), "{bytes:?}");
-        assert_eq!(rt; decode_last(bytes), Some(last), "{bytes:?}");
+fn characters_are_read_from_both_ends(rt: HostRuntime) {
+    assert!(rt; spellings_are_read());
+    assert!(rt; faults_give_a_byte());
+    assert!(rt; texts_are_read());
+}
+
+/// Whether each byte may be cut off, and is one of words, as is expected.
+fn bytes_are_told() -> bool {
+    for (byte, cut, word) in single_bytes() {
+        if is_boundary(&[byte], 0) != cut || is_word_byte(byte) != word {
+            return false;
+        }
     }
-    assert_eq!(rt; decode(&[]), None);
-    assert_eq!(rt; decode_last(&[]), None);
+    true
+}
+
+/// Whether a text of three bytes, of which the first two are one character, may be cut at each place up to one behind
+/// its end; and whether one of no bytes may.
+fn cuts() -> [bool; 6] {
+    let text = [0xC3, 0xA9, 0x21];
+    [
+        is_boundary(&text, 0),
+        is_boundary(&text, 1),
+        is_boundary(&text, 2),
+        is_boundary(&text, 3),
+        is_boundary(&text, 4),
+        is_boundary(&[], 0),
+    ]
 }
 
 #[test]
 fn boundaries_and_word_bytes(rt: HostRuntime) {
-    for (byte, cut, word) in single_bytes() {
-        assert_eq!(rt; is_boundary(&[byte], 0), cut, "byte {byte}");
-        assert_eq!(rt; is_word_byte(byte), word, "byte {byte}");
-    }
-    for (i, cut) in [(0, true), (1, false), (2, true), (3, true), (4, false)] {
-        assert_eq!(rt; is_boundary(&[0xC3, 0xA9, 0x21], i), cut, "place {i}");
-    }
-    assert!(rt; is_boundary(&[], 0));
+    assert!(rt; bytes_are_told());
+    assert!(rt; cuts() == [true, false, true, true, false, true]);
 }

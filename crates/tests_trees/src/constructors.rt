@@ -1,7 +1,7 @@
-use crate::small::{Small, trees};
+use crate::small::{Small, repeated, trees};
 use hir_core::{Hir, HirKind};
 use look_core::Look;
-use std::process::Abort;
+use std::alloc::{AllocError, Global};
 use std::test::Fail;
 
 /// The bytes of a literal.
@@ -20,33 +20,68 @@ fn class_ranges(tree: &Hir) -> Option<&[(u8, u8)]> {
     }
 }
 
+/// Whether a literal has the bytes that it was given.
+fn keeps_bytes(alloc: Global, bytes: &[u8]) -> Result<bool, AllocError> {
+    let literal = Hir::literal(bytes.to_vec(alloc)?);
+    Ok(literal_bytes(&literal) == Some(bytes))
+}
+
+/// Whether two classes of bytes have the ranges that they were given, and the one that always fails has none.
+fn keep_ranges(alloc: Global) -> Result<bool, AllocError> {
+    let letters = Hir::bytes(vec![in alloc; (65, 90), (97, 122)]?);
+    let fail = Hir::fail(alloc);
+    Ok(
+        class_ranges(&letters) == Some([(65, 90), (97, 122)].as_slice())
+            && class_ranges(&fail) == Some([].as_slice()),
+    )
+}
+
+/// Whether a class of characters has the ranges that it was given.
+fn keeps_chars(alloc: Global) -> Result<bool, AllocError> {
+    let letters = Hir::chars(vec![in alloc; ('a', 'z'), ('α', 'ω')]?);
+    match letters.kind() {
+        HirKind::Chars(ranges) => Ok(ranges.as_slice() == [('a', 'z'), ('α', 'ω')].as_slice()),
+        _ => Ok(false),
+    }
+}
+
 #[test]
 fn leaves_are_kept_as_given(rt: HostRuntime) -> Result<(), Fail> {
     let alloc = rt.alloc();
-    let empty = Hir::empty();
-    assert!(rt; matches!(empty.kind(), HirKind::Empty));
     let literals: [&[u8]; 3] = [b"", b"-", b"samwise"];
     for bytes in literals {
-        let literal = Hir::literal(bytes.to_vec(alloc)?);
-        assert_eq!(rt; literal_bytes(&literal), Some(bytes));
+        assert!(rt; keeps_bytes(alloc, bytes)?);
     }
-    let letters = Hir::bytes(vec![in alloc; (65, 90), (97, 122)]?);
-    assert_eq!(rt;
-        class_ranges(&letters),
-        Some([(65, 90), (97, 122)].as_slice())
-    );
-    let fail = Hir::fail(alloc);
-    assert_eq!(rt; class_ranges(&fail), Some([].as_slice()));
-    let letters = Hir::chars(vec![in alloc; ('a', 'z'), ('α', 'ω')]?);
-    match letters.kind() {
-        HirKind::Chars(ranges) => {
-            assert_eq!(rt; ranges.as_slice(), [('a', 'z'), ('α', 'ω')].as_slice())
-        }
-        kind => panic!(rt; "{kind:?} is no class of characters"),
-    }
+    assert!(rt; keep_ranges(alloc)?);
+    assert!(rt; keeps_chars(alloc)?);
+    assert!(rt; matches!(Hir::empty().kind(), HirKind::Empty));
     let word = Hir::look(Look::WordUnicode);
     assert!(rt; matches!(word.kind(), HirKind::Look(Look::WordUnicode)));
     Ok(())
+}
+
+/// The bounds of a repetition, and whether it is greedy.
+type Bounds = (u32, Option<u32>, bool);
+
+/// Whether the repetition of a digit has the bounds that it was given.
+fn keeps_bounds(alloc: Global, row: Bounds) -> Result<bool, AllocError> {
+    let Some(tree) = repeated(alloc, Small::Digit, row.0, row.1, row.2)? else {
+        return Ok(false);
+    };
+    match tree.kind() {
+        HirKind::Repetition {
+            min,
+            max,
+            greedy,
+            sub,
+        } => Ok(
+            *min == row.0
+                && *max == row.1
+                && *greedy == row.2
+                && class_ranges(sub) == Some([(48, 57)].as_slice()),
+        ),
+        _ => Ok(false),
+    }
 }
 
 #[test]
@@ -64,46 +99,45 @@ fn repetitions_are_kept_as_given(rt: HostRuntime) -> Result<(), Fail> {
         (0, Some(u32::MAX), true),
     ];
     for row in rows {
-        let (min, max, greedy) = row;
-        assert!(rt; max.is_none_or(|most| min <= most));
-        let sub = Small::Digit.tree(rt.alloc())?;
-        let tree = Hir::repetition(rt.alloc(), min, max, greedy, sub)?;
-        match tree.kind() {
-            HirKind::Repetition {
-                min,
-                max,
-                greedy,
-                sub,
-            } => {
-                assert_eq!(rt; (*min, *max, *greedy), row);
-                assert_eq!(rt; class_ranges(sub), Some([(48, 57)].as_slice()));
-            }
-            kind => panic!(rt; "{kind:?} where {row:?} was given"),
-        }
+        assert!(rt; keeps_bounds(rt.alloc(), row)?, "{row:?}");
     }
     Ok(())
 }
 
-fn assert_sam_and_samwise(rt: &impl Abort, parts: &[Hir]) {
+/// Whether these are the literals `sam`, one of no bytes, and `samwise`.
+fn are_sam_and_samwise(parts: &[Hir]) -> bool {
     let words: [&[u8]; 3] = [b"sam", b"", b"samwise"];
-    assert_eq!(rt; parts.len(), words.len());
+    if parts.len() != words.len() {
+        return false;
+    }
     for (part, word) in parts.iter().zip(words) {
-        assert_eq!(rt; literal_bytes(part), Some(word));
+        if literal_bytes(part) != Some(word) {
+            return false;
+        }
+    }
+    true
+}
+
+/// Whether the parts of a concatenation are those words.
+fn joins_words(tree: &Hir) -> bool {
+    match tree.kind() {
+        HirKind::Concat(parts) => are_sam_and_samwise(parts),
+        _ => false,
+    }
+}
+
+/// Whether the parts of an alternation are those words.
+fn chooses_words(tree: &Hir) -> bool {
+    match tree.kind() {
+        HirKind::Alternation(parts) => are_sam_and_samwise(parts),
+        _ => false,
     }
 }
 
 #[test]
 fn parts_are_kept_in_order(rt: HostRuntime) -> Result<(), Fail> {
     let words = [Small::Sam, Small::NoBytes, Small::Samwise];
-    let concat = Hir::concat(trees(rt.alloc(), &words)?);
-    match concat.kind() {
-        HirKind::Concat(parts) => assert_sam_and_samwise(&rt, parts),
-        kind => panic!(rt; "{kind:?} is no concatenation"),
-    }
-    let alternation = Hir::alternation(trees(rt.alloc(), &words)?);
-    match alternation.kind() {
-        HirKind::Alternation(parts) => assert_sam_and_samwise(&rt, parts),
-        kind => panic!(rt; "{kind:?} is no alternation"),
-    }
+    assert!(rt; joins_words(&Hir::concat(trees(rt.alloc(), &words)?)));
+    assert!(rt; chooses_words(&Hir::alternation(trees(rt.alloc(), &words)?)));
     Ok(())
 }

@@ -2,8 +2,9 @@ use crate::small::Small::{
     self, Anchored, Dash, Date, Digit, Empty, Fail as Failing, Group, Huge, Letter, NoBytes,
     NoChars, NoChoice, NoParts, Sam, Samwise, Start, Vowel, Wide,
 };
-use crate::small::{nested, trees};
+use crate::small::{nested, repeated, trees};
 use hir_core::Hir;
+use std::alloc::{AllocError, Global};
 use std::test::Fail;
 
 /// The minimum length, the height and the count of a tree.
@@ -13,6 +14,24 @@ const MOST: usize = usize::MAX;
 
 fn facts(tree: &Hir) -> Facts {
     (tree.properties().minimum_len(), tree.height(), tree.count())
+}
+
+/// Whether the small tree has these facts.
+fn has_facts(alloc: Global, small: Small, want: Facts) -> Result<bool, AllocError> {
+    let tree = small.tree(alloc)?;
+    Ok(facts(&tree) == want)
+}
+
+/// Whether the small trees one behind the other have these facts.
+fn concat_has(alloc: Global, parts: &[Small], want: Facts) -> Result<bool, AllocError> {
+    let tree = Hir::concat(trees(alloc, parts)?);
+    Ok(facts(&tree) == want)
+}
+
+/// Whether a choice between the small trees has these facts.
+fn alternation_has(alloc: Global, parts: &[Small], want: Facts) -> Result<bool, AllocError> {
+    let tree = Hir::alternation(trees(alloc, parts)?);
+    Ok(facts(&tree) == want)
 }
 
 #[test]
@@ -40,8 +59,7 @@ fn facts_of_small_trees(rt: HostRuntime) -> Result<(), Fail> {
         (Group, (Some(1), 3, 8)),
     ];
     for (small, want) in rows {
-        let tree = small.tree(rt.alloc())?;
-        assert_eq!(rt; facts(&tree), want, "{small:?}");
+        assert!(rt; has_facts(rt.alloc(), small, want)?, "{small:?}");
     }
     Ok(())
 }
@@ -91,10 +109,11 @@ fn facts_of_repetitions(rt: HostRuntime) -> Result<(), Fail> {
         (Huge, 2, None, false, (Some(MOST), 5, MOST)),
     ];
     for (small, min, max, greedy, want) in rows {
-        assert!(rt; max.is_none_or(|most| min <= most));
-        let sub = small.tree(rt.alloc())?;
-        let tree = Hir::repetition(rt.alloc(), min, max, greedy, sub)?;
-        assert_eq!(rt; facts(&tree), want, "{small:?} from {min} to {max:?}");
+        let tree = repeated(rt.alloc(), small, min, max, greedy)?;
+        assert!(rt;
+            tree.is_some_and(|tree| facts(&tree) == want),
+            "{small:?} from {min} to {max:?}"
+        );
     }
     Ok(())
 }
@@ -115,8 +134,7 @@ fn facts_of_concatenations(rt: HostRuntime) -> Result<(), Fail> {
         (&[Digit, Huge, Huge], (Some(MOST), 5, MOST)),
     ];
     for (parts, want) in rows {
-        let tree = Hir::concat(trees(rt.alloc(), parts)?);
-        assert_eq!(rt; facts(&tree), want, "{parts:?}");
+        assert!(rt; concat_has(rt.alloc(), parts, want)?, "{parts:?}");
     }
     Ok(())
 }
@@ -137,10 +155,15 @@ fn facts_of_alternations(rt: HostRuntime) -> Result<(), Fail> {
         (&[Huge, Digit], (Some(1), 5, MOST)),
     ];
     for (parts, want) in rows {
-        let tree = Hir::alternation(trees(rt.alloc(), parts)?);
-        assert_eq!(rt; facts(&tree), want, "{parts:?}");
+        assert!(rt; alternation_has(rt.alloc(), parts, want)?, "{parts:?}");
     }
     Ok(())
+}
+
+/// The facts of two trees one behind the other, each of which reads more than half of the largest `usize`.
+fn facts_of_halves(alloc: Global) -> Result<Facts, AllocError> {
+    let halves = vec![in alloc; nested(alloc, 2)?, nested(alloc, 2)?]?;
+    Ok(facts(&Hir::concat(halves)))
 }
 
 #[test]
@@ -153,10 +176,9 @@ fn sums_and_products_stop_at_the_largest_usize(rt: HostRuntime) -> Result<(), Fa
         (3, (Some(MOST), 4, MOST)),
     ];
     for (levels, want) in rows {
-        let tree = nested(rt.alloc(), levels)?;
-        assert_eq!(rt; facts(&tree), want, "at {levels} levels");
+        let told = facts(&nested(rt.alloc(), levels)?);
+        assert!(rt; told == want, "at {levels} levels");
     }
-    let halves = vec![in rt.alloc(); nested(rt.alloc(), 2)?, nested(rt.alloc(), 2)?]?;
-    assert_eq!(rt; facts(&Hir::concat(halves)), (Some(MOST), 4, MOST));
+    assert!(rt; facts_of_halves(rt.alloc())? == (Some(MOST), 4, MOST));
     Ok(())
 }

@@ -21,7 +21,7 @@ fn ranges_ascend_and_are_disjoint(rt: HostRuntime) {
         (&[(97, 122), (48, 57)], false),
     ];
     for (ranges, want) in rows {
-        assert_eq!(rt; is_ascending(ranges), want, "ranges {ranges:?}");
+        assert!(rt; is_ascending(ranges) == want, "ranges {ranges:?}");
     }
 }
 
@@ -40,6 +40,6 @@ fn ranges_of_characters_ascend_and_are_disjoint(rt: HostRuntime) {
         (&[('α', 'ω'), ('a', 'z')], false),
     ];
     for (ranges, want) in rows {
-        assert_eq!(rt; is_ascending_chars(ranges), want, "ranges {ranges:?}");
+        assert!(rt; is_ascending_chars(ranges) == want, "ranges {ranges:?}");
     }
 }

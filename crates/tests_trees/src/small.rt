@@ -92,6 +92,21 @@ pub fn trees(alloc: Global, names: &[Small]) -> Result<Vec<Hir>, AllocError> {
     Ok(trees)
 }
 
+/// From `min` to `max` rounds of a small tree, or nothing where the least number is above the greatest.
+pub fn repeated(
+    alloc: Global,
+    small: Small,
+    min: u32,
+    max: Option<u32>,
+    greedy: bool,
+) -> Result<Option<Hir>, AllocError> {
+    if !max.is_none_or(|most| min <= most) {
+        return Ok(None);
+    }
+    let tree = Hir::repetition(alloc, min, max, greedy, small.tree(alloc)?)?;
+    Ok(Some(tree))
+}
+
 /// A digit, 4294967295 times in each of so many repetitions.
 pub fn nested(alloc: Global, levels: u8) -> Result<Hir, AllocError> {
     let mut tree = digit(alloc)?;

@@ -3,8 +3,9 @@ use crate::small::Small::{
     self, Alpha, Anchored, Dash, Date, Digit, Empty, End, Fail as Failing, Group, HighBytes, Huge,
     Letter, LoneByte, NoBytes, NoChars, NoChoice, NoParts, Sam, Samwise, Start, Wide, Word,
 };
-use crate::small::trees;
+use crate::small::{repeated, trees};
 use hir_core::{Hir, HirKind};
+use std::alloc::{AllocError, Global};
 use std::test::Fail;
 
 /// The least and the greatest length, whether spans are UTF-8, and the numbers of the looks that stand
@@ -28,6 +29,24 @@ fn facts(tree: &Hir) -> Facts {
     )
 }
 
+/// Whether the small tree has these facts.
+fn has_facts(alloc: Global, small: Small, want: Facts) -> Result<bool, AllocError> {
+    let tree = small.tree(alloc)?;
+    Ok(facts(&tree) == want)
+}
+
+/// Whether the small trees one behind the other have these facts.
+fn concat_has(alloc: Global, parts: &[Small], want: Facts) -> Result<bool, AllocError> {
+    let tree = Hir::concat(trees(alloc, parts)?);
+    Ok(facts(&tree) == want)
+}
+
+/// Whether a choice between the small trees has these facts.
+fn alternation_has(alloc: Global, parts: &[Small], want: Facts) -> Result<bool, AllocError> {
+    let tree = Hir::alternation(trees(alloc, parts)?);
+    Ok(facts(&tree) == want)
+}
+
 #[test]
 fn leaves(rt: HostRuntime) -> Result<(), Fail> {
     let rows: [(Small, Facts); 16] = [
@@ -49,8 +68,7 @@ fn leaves(rt: HostRuntime) -> Result<(), Fail> {
         (Huge, (Some(MOST), Some(MOST), true, (0, 0, 0))),
     ];
     for (small, want) in rows {
-        let tree = small.tree(rt.alloc())?;
-        assert_eq!(rt; facts(&tree), want, "{small:?}");
+        assert!(rt; has_facts(rt.alloc(), small, want)?, "{small:?}");
     }
     Ok(())
 }
@@ -72,10 +90,11 @@ fn repetitions(rt: HostRuntime) -> Result<(), Fail> {
         (Word, 2, Some(2), (Some(0), Some(0), true, (64, 64, 64))),
     ];
     for (small, min, max, want) in rows {
-        assert!(rt; max.is_none_or(|most| min <= most));
-        let sub = small.tree(rt.alloc())?;
-        let tree = Hir::repetition(rt.alloc(), min, max, true, sub)?;
-        assert_eq!(rt; facts(&tree), want, "{small:?} from {min} to {max:?}");
+        let tree = repeated(rt.alloc(), small, min, max, true)?;
+        assert!(rt;
+            tree.is_some_and(|tree| facts(&tree) == want),
+            "{small:?} from {min} to {max:?}"
+        );
     }
     Ok(())
 }
@@ -103,8 +122,7 @@ fn concatenations(rt: HostRuntime) -> Result<(), Fail> {
         ),
     ];
     for (parts, want) in rows {
-        let tree = Hir::concat(trees(rt.alloc(), parts)?);
-        assert_eq!(rt; facts(&tree), want, "{parts:?}");
+        assert!(rt; concat_has(rt.alloc(), parts, want)?, "{parts:?}");
     }
     Ok(())
 }
@@ -127,44 +145,54 @@ fn alternations(rt: HostRuntime) -> Result<(), Fail> {
         (&[Start, NoChoice], (Some(0), None, true, (1, 0, 0))),
     ];
     for (parts, want) in rows {
-        let tree = Hir::alternation(trees(rt.alloc(), parts)?);
-        assert_eq!(rt; facts(&tree), want, "{parts:?}");
+        assert!(rt; alternation_has(rt.alloc(), parts, want)?, "{parts:?}");
     }
     Ok(())
+}
+
+/// Whether a group has the facts of what it is around, is one higher, and counts two states more.
+fn groups_as_its_body(alloc: Global, small: Small) -> Result<bool, AllocError> {
+    let body = small.tree(alloc)?;
+    let (known, height, count) = (facts(&body), body.height(), body.count());
+    let tree = Hir::capture(alloc, 7, None, body)?;
+    Ok(
+        facts(&tree) == known
+            && tree.height() == height.saturating_add(1)
+            && tree.count() == count.saturating_add(2),
+    )
+}
+
+/// Whether the tree is the group 1 with the name `dash`.
+fn is_named_dash(tree: &Hir) -> bool {
+    match tree.kind() {
+        HirKind::Capture { index, name, .. } => *index == 1 && name.as_deref() == Some("dash"),
+        _ => false,
+    }
 }
 
 #[test]
 fn groups(rt: HostRuntime) -> Result<(), Fail> {
     for small in [Empty, Date, LoneByte, Wide, Anchored, NoChoice, Huge] {
-        let body = small.tree(rt.alloc())?;
-        let (known, height, count) = (facts(&body), body.height(), body.count());
-        let tree = Hir::capture(rt.alloc(), 7, None, body)?;
-        assert_eq!(rt; facts(&tree), known, "{small:?}");
-        assert_eq!(rt; tree.height(), height.saturating_add(1), "{small:?}");
-        assert_eq!(rt; tree.count(), count.saturating_add(2), "{small:?}");
+        assert!(rt; groups_as_its_body(rt.alloc(), small)?, "{small:?}");
     }
-    let named = Group.tree(rt.alloc())?;
-    match named.kind() {
-        HirKind::Capture { index, name, .. } => {
-            assert_eq!(rt; *index, 1);
-            assert_eq!(rt; name.as_deref(), Some("dash"));
-        }
-        kind => panic!(rt; "{kind:?} is no group"),
-    }
+    assert!(rt; is_named_dash(&Group.tree(rt.alloc())?));
     Ok(())
 }
 
-#[test]
-fn copies_are_the_same(rt: HostRuntime) -> Result<(), Fail> {
-    let alloc = rt.alloc();
+/// One tree with all kinds, and its copy, as they are printed.
+fn printed(alloc: Global) -> Result<(String, String), AllocError> {
     let parts = [
         Empty, Sam, LoneByte, Digit, Letter, Word, Date, Group, NoParts, NoChoice,
     ];
     let tree = Hir::alternation(trees(alloc, &parts)?);
     let copy = tree.try_clone(alloc)?;
-    assert_eq!(rt;
-        format!(in alloc; "{copy:?}")?,
-        format!(in alloc; "{tree:?}")?
-    );
+    let copied = format!(in alloc; "{copy:?}")?;
+    Ok((format!(in alloc; "{tree:?}")?, copied))
+}
+
+#[test]
+fn copies_are_the_same(rt: HostRuntime) -> Result<(), Fail> {
+    let (tree, copy) = printed(rt.alloc())?;
+    assert!(rt; tree == copy);
     Ok(())
 }

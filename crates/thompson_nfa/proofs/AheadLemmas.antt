@@ -7,7 +7,9 @@ use Rattle.hir_core.specs.Tree.{Tree, empty, literal, byte_class, repetition, ca
 use Rattle.nfa_core.specs.BuilderStates.{range_part, capture_start_part, capture_end_part}
 use Rattle.nfa_core.specs.Drafted.{Table}
 use Rattle.thompson_nfa.specs.Denotes.{choice, IsMeant, Denotes}
+use Rattle.thompson_nfa.proofs.LookLemmas.{or_none}
 use Rattle.thompson_nfa.proofs.MeantLemmas.{empty_meant, meant_empty}
+use Rattle.thompson_nfa.specs.Compiled.{uses}
 use Rattle.thompson_nfa.proofs.DenoteLemmas.{Joins, denotes_join, denotes_empty_here, denotes_nothing_here, denotes_capture_start, denotes_capture_end, denotes_range}
 use Rattle.thompson_nfa.proofs.SameLemmas.{IsSame, denotes_same, joins_same, joins_cat_up, joins_cat_down, flat_map_each, same_concat_one, same_alternation_one, same_concat_append, same_capture, same_literal_none, same_literal_one, same_literal_append}
 use Rattle.thompson_nfa.proofs.RoundLemmas.{one_more, joins_copy, denotes_stopped_here, denotes_optional}
@@ -26,6 +28,7 @@ joins_empty_then back x = record {
   joined = λ t i j m. let P : ℕ → Type 0 = λ k. IsMeant back t x k j in subst P (sym (meant_empty back t i m.0 m.1)) m.2;
   reading = λ f. (tt, f);
   ends = λ up looks h i. append-nil _;
+  met = λ l. refl;
 }
 
 pub joins_then_empty : (back : Bool) (x : Tree) → Joins back x empty x
@@ -34,6 +37,7 @@ joins_then_empty back x = record {
   joined = λ t i j m. let P : ℕ → Type 0 = λ k. IsMeant back t x i k in subst P (meant_empty back t m.0 j m.2) m.1;
   reading = λ f. (f, tt);
   ends = λ up looks h i. flat_map_each _;
+  met = λ l. sym (or_none (uses back x l));
 }
 
 -- one part more behind the others, reading down

@@ -1,5 +1,5 @@
 -- Fragments of alternations: the parts so far.
-use Rattle.std.proofs.Common.{◌≡◌, ℕ, zero, suc, ◌+◌, ◌*◌, ◌<◌, ◌≤◌, Bool, true, List, [], ◌∷◌, ◌++◌, length, take, drop, get_or, sym, ap, ◌∙◌, subst, arith, drop_of_length-le}
+use Rattle.std.proofs.Common.{◌≡◌, ℕ, zero, suc, ◌+◌, ◌*◌, ◌<◌, ◌≤◌, Bool, true, List, [], ◌∷◌, ◌++◌, length, take, drop, get_or, sym, ap, ◌∙◌, subst, arith, drop_of_length-le, false}
 use Rattle.std.proofs.lemmas.List.{take_more, take_all}
 use Rattle.search_types.specs.Groups.{Groups}
 use Rattle.hir_core.specs.Tree.{Tree, alternation}
@@ -44,13 +44,14 @@ module _ (how : How) (t0 t1 t2 : Assembly) (s1 e1 s2 e2 : ℕ) (x y : Tree) (xs 
 
   module _ (second : Makes t1 t2 s2 e2 (room how.shrink y)) where
     -- a step behind the first two parts is refused
-    pub later_refused : {mid new : Assembly} {k s n bytes : ℕ} {e : BuildError} → Progress t0 mid k s → Stays mid new n bytes e → k + n ≤ room how.shrink x + room how.shrink y + 2 → bytes ≤ s + 4096 * n →
+    pub later_refused : {mid new : Assembly} {k s n bytes : ℕ} {e : BuildError} → Progress false t0 mid k s → Stays mid new n bytes e →
+        k + n ≤ room how.shrink x + room how.shrink y + 2 → bytes ≤ s + 4096 * n →
         Refuses how.which t0 new (room how.shrink (alternation xs)) (alternation xs) e
     later_refused p r le lb =
         let c = room_of_alternation how.shrink xs in let d = counted in
         refuses how.which (room how.shrink (alternation xs)) (alternation xs) (then_quits (rooms how.shrink xs + 2) p r (omega arith) lb) (omega arith)
 
-    begun : Progress t0 t2 (room how.shrink x + room how.shrink y) 8
+    begun : Progress false t0 t2 (room how.shrink x + room how.shrink y) 8
     begun = then_made 8 (first_made first) second (omega arith)
 
     pub union_refused : (new : Assembly) (e : BuildError) → Stays t2 new 1 24 e → Refuses how.which t0 new (room how.shrink (alternation xs)) (alternation xs) e
@@ -60,7 +61,7 @@ module _ (how : How) (t0 t1 t2 : Assembly) (s1 e1 s2 e2 : ℕ) (x y : Tree) (xs 
     end_refused t3 new u e union r = later_refused (choice_then true begun union) r (omega arith) (omega arith)
 
     module _ (t3 t4 : Assembly) (u z : ℕ) (union : Added t2 t3 u (union_part []) t2.groups) (last : Added t3 t4 z (empty_part 0) t3.groups) where
-      both : Progress t0 t4 (room how.shrink x + room how.shrink y + 1 + 1) 4000
+      both : Progress false t0 t4 (room how.shrink x + room how.shrink y + 1 + 1) 4000
       both = empty_then (choice_then true begun union) last
 
       pub first_lead_refused : (new : Assembly) (e : BuildError) → Stays t4 new 0 4 e → Refuses how.which t0 new (room how.shrink (alternation xs)) (alternation xs) e
@@ -125,7 +126,8 @@ module _ (how : How) (old b : Assembly) (u z i : ℕ) (xs : List Tree) (cs : Cas
       let c = room_of_alternation how.shrink xs in
       first_refuses (room how.shrink (alternation xs)) (alternation xs) (then_refuses (rooms how.shrink xs + 2) (alternation xs) cs.branches.progress r (alternation_includes how.which xs i x l is) (omega arith)) (λ index h. h) (omega arith)
 
-  pub cases_led : (c : Assembly) (s e : ℕ) (x : Tree) → Makes b c s e (room how.shrink x) → Progress old c (cs.n + room how.shrink x) 16
+  pub cases_led : (c : Assembly) (s e : ℕ) (x : Tree) → Makes b c s e (room how.shrink x) →
+      Progress false old c (cs.n + room how.shrink x) 16
   cases_led c s e x m = then_made 16 cs.branches.progress m (omega arith)
 
   pub cases_lead_refused : (c new : Assembly) (s t : ℕ) (x : Tree) (e : BuildError) → i < length xs → x ≡ get_or xs i x → Makes b c s t (room how.shrink x) → Stays c new 0 4 e →

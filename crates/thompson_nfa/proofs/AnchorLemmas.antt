@@ -6,17 +6,14 @@ use Rattle.std.proofs.lemmas.Bool.{eqb-true}
 use Rattle.std.proofs.lemmas.Option.{slice_get_within, get_or_from_slice_get}
 use Rattle.std.proofs.lemmas.List.Elements.{All-get_or, All-head, All-tail}
 use Rattle.look_core.specs.declared.look.Look.TheVariants.{Start, End}
-use Rattle.look_core.specs.Terminators.{Terminator}
 use Rattle.hir_core.specs.Tree.{Tree}
 use Rattle.hir_core.specs.PreferredEnds.{preferred_ends}
-use Rattle.hir_core.proofs.HasLemmas.{nil_from_none}
-use Rattle.hir_core.proofs.LookFactLemmas.{prefix_sound, suffix_sound}
-use Rattle.hir_core.proofs.PreferredEndsLemmas.{preferred_ends_sound}
+use Rattle.hir_core.proofs.ForCallers.{nil_from_none, prefix_sound, suffix_sound, preferred_ends_sound}
 use Rattle.nfa_core.specs.Ways.{Text, span}
 use Rattle.nfa_core.specs.Drafted.{Table}
 use Rattle.nfa_core.specs.BuilderStates.{empty_part}
 use Rattle.thompson_nfa.specs.Denotes.{seen, IsMeant, Reaches, Halts, Orders}
-use Rattle.thompson_nfa.specs.Compilations.{IsChoice, choices_from, places_from, IsReadTo, is_anchored_tree}
+use Rattle.thompson_nfa.specs.Compilations.{IsChoice, choices_from, places_from, IsReadTo, IsRead, is_anchored_tree}
 use Rattle.thompson_nfa.specs.Assembled.{AllAnchored}
 use Rattle.thompson_nfa.proofs.WayLemmas.{goes_empty}
 use Rattle.thompson_nfa.proofs.ReachLemmas.{reaches_pass}
@@ -36,25 +33,25 @@ halts_at_once back t T u c is = halts_pass back t T u c (goes_empty back t T u c
 pub orders_at_once : (t : Text) (T : Table) (u c : ℕ) → T u ≡ empty_part c → Orders t T u c (λ i. i ∷ [])
 orders_at_once t T u c is = orders_leaf t T u c (λ i. i ∷ []) (goes_empty false t T u c is)
 
-module _ (term : Terminator) (h : List ℕ) (s f : ℕ) where
-  abbrev t : Text
-  t = span term h s f
-
+module _ (t : Text) (is : IsRead t) where
   meant_at_start : (x : Tree) (k j : ℕ) → is_anchored_tree false x ≡ true → IsMeant false t x k j → k ≡ 0
-  meant_at_start x k j anchored meant = eqb-true k 0 (prefix_sound t.holds (seen t) Start x k j meant anchored)
+  meant_at_start x k j anchored meant = eqb-true k 0 (sym (is.at_start k) ∙ prefix_sound t.holds (seen t) Start x k j meant anchored)
 
-  meant_at_end : (x : Tree) (k j : ℕ) → is_anchored_tree true x ≡ true → IsMeant true t x k j → k ≡ length h
-  meant_at_end x k j anchored meant = eqb-true k (length h) (suffix_sound t.holds h End x j k meant.0 anchored)
+  meant_at_end : (x : Tree) (k j : ℕ) → is_anchored_tree true x ≡ true → IsMeant true t x k j → k ≡ length t.haystack
+  meant_at_end x k j anchored meant =
+      eqb-true k (length t.haystack) (sym (is.at_end k) ∙ suffix_sound t.holds t.haystack End x j k meant.0 anchored)
 
   -- a choice at a place that is read to is one where reading begins
-  pub anchored_place : (back : Bool) (xs : List Tree) (i k : ℕ) (e : ℕ × ℕ) → AllAnchored back xs → s ≤ i → i ≤ f → f ≤ length h →
+  pub anchored_place : (back : Bool) (xs : List Tree) (i k : ℕ) (e : ℕ × ℕ) → AllAnchored back xs → t.start ≤ i → i ≤ t.end →
       IsReadTo back t i k → IsChoice back xs t k e → i ≡ k
-  anchored_place false xs i k e all low high within read choice =
+  anchored_place false xs i k e all low high read choice =
       let z : k ≡ 0 = meant_at_start choice.0 k e.0 (of_member (λ x. is_anchored_tree false x ≡ true) xs e.1 choice.0 all choice.1) choice.2 in
       let a = read.0 in
       omega arith
-  anchored_place true xs i k e all low high within read choice =
-      let z : k ≡ length h = meant_at_end choice.0 k e.0 (of_member (λ x. is_anchored_tree true x ≡ true) xs e.1 choice.0 all choice.1) choice.2 in
+  anchored_place true xs i k e all low high read choice =
+      let within = is.within in
+      let z : k ≡ length t.haystack =
+      meant_at_end choice.0 k e.0 (of_member (λ x. is_anchored_tree true x ≡ true) xs e.1 choice.0 all choice.1) choice.2 in
       let a = read.0 in
       omega arith
 
@@ -74,8 +71,8 @@ module _ (term : Terminator) (h : List ℕ) (s f : ℕ) where
       ap (λ (l : List (ℕ × ℕ)). l ++ flat_map (choices_from 0 xs t) (places_from (suc (suc i)) n)) (no_choices 0 xs i all) ∙ nothing_later xs (suc i) n all
 
   -- so the choices at all places are those where reading begins
-  pub choices_at_once : (xs : List Tree) (i : ℕ) → AllAnchored false xs → i ≤ f →
-      flat_map (choices_from 0 xs t) (i ∷ []) ≡ flat_map (choices_from 0 xs t) (places_from i (suc f - i))
+  pub choices_at_once : (xs : List Tree) (i : ℕ) → AllAnchored false xs → i ≤ t.end →
+      flat_map (choices_from 0 xs t) (i ∷ []) ≡ flat_map (choices_from 0 xs t) (places_from i (suc t.end - i))
   choices_at_once xs i all high =
-      ap (λ (l : List (ℕ × ℕ)). choices_from 0 xs t i ++ l) (sym (nothing_later xs i (f - i) all))
-      ∙ ap (λ (n : ℕ). flat_map (choices_from 0 xs t) (places_from i n)) (let e : suc (f - i) ≡ suc f - i = omega arith in e)
+      ap (λ (l : List (ℕ × ℕ)). choices_from 0 xs t i ++ l) (sym (nothing_later xs i (t.end - i) all))
+      ∙ ap (λ (n : ℕ). flat_map (choices_from 0 xs t) (places_from i n)) (let e : suc (t.end - i) ≡ suc t.end - i = omega arith in e)

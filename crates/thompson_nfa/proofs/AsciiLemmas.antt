@@ -4,13 +4,12 @@ use Rattle.std.proofs.lemmas.Bool.{and_parts, cases_lt, cond-true, cond-false, f
 use Rattle.std.proofs.lemmas.Option.{slice_get_cases}
 use Rattle.search_core.specs.Characters.{character_at, spelling_len}
 use Rattle.search_core.specs.Utf8.{Spells, from_0000}
-use Rattle.search_core.proofs.CharacterLemmas.{character_begins, begun_character}
+use Rattle.search_core.proofs.ForCallers.{character_begins, begun_character}
 use Rattle.hir_core.specs.Facts.{is_ascending, rises_from}
 use Rattle.hir_core.specs.Means.{is_member}
 use Rattle.hir_core.specs.PreferredEnds.{class_end, character_end}
 use Rattle.hir_core.specs.Tree.{byte_class, char_class}
-use Rattle.hir_core.proofs.SequenceLemmas.{spelled_by}
-use Rattle.hir_core.proofs.SpellingLemmas.{member_cases}
+use Rattle.hir_core.proofs.ForCallers.{spelled_by, member_cases}
 use Rattle.nfa_core.specs.BuilderStates.{Assembly}
 use Rattle.thompson_nfa.specs.AsciiClasses.{is_ascii}
 use Rattle.thompson_nfa.specs.Compiled.{Does}
@@ -89,7 +88,7 @@ ascii_ends h i ranges e = elim (slice_get_cases h i).1 [
 
 -- a class of scalars is that of the same bytes where all of them are spelled by one
 pub same_ascii : (ranges : List (ℕ × ℕ)) → is_ascii ranges ≡ true → IsSame (byte_class ranges) (char_class ranges)
-same_ascii ranges e = record { reading = λ f. tt; ends = λ looks h i. ascii_ends h i ranges e }
+same_ascii ranges e = record { reading = λ f. tt; ends = λ looks h i. ascii_ends h i ranges e; met = λ back l. refl }
 
 pub ascii_does : (a b : Assembly) (ranges bytes : List (ℕ × ℕ)) → bytes ≡ ranges → (s e : ℕ) → is_ascii ranges ≡ true → Does a b s e (byte_class bytes) →
     Does a b s e (char_class ranges)

@@ -1,8 +1,8 @@
 -- What stands in a builder when all patterns are compiled.
-use Rattle.std.proofs.Common.{◌≡◌, ◌≢◌, inl, inr, ℕ, ◌+◌, ◌*◌, ◌<◌, ◌≤◌, min, Bool, true, false, ◌&&◌, List, [], ◌∷◌, ◌++◌, length, None, sym, ap, ◌∙◌, subst, arith, ⊎_elim}
+use Rattle.std.proofs.Common.{◌≡◌, ◌≢◌, inl, inr, ℕ, ◌+◌, ◌*◌, ◌<◌, ◌≤◌, min, Bool, true, false, ◌&&◌, List, [], ◌∷◌, ◌++◌, length, None, sym, ap, ◌∙◌, subst, arith, ⊎_elim, ◌||◌, ◌⊎◌}
 use Rattle.std.specs.Prelude.{All}
 use Rattle.std.specs.List.{list_all}
-use Rattle.std.proofs.lemmas.Bool.{cases_lt}
+use Rattle.std.proofs.lemmas.Bool.{cases_lt, cases_eq}
 use Rattle.std.proofs.lemmas.Bool.Decides.{leb_tells}
 use Rattle.std.proofs.lemmas.List.{get_or_default, get_or_past}
 use Rattle.std.proofs.lemmas.List.Elements.{All-weaker}
@@ -12,7 +12,7 @@ use Rattle.nfa_core.specs.CanBuild.{names_of, is_known, CanBuild}
 use Rattle.nfa_core.specs.Renaming.{stands_for, past, past_within, HasNoLoop}
 use Rattle.nfa_core.specs.Drafted.{Table}
 use Rattle.thompson_nfa.specs.Added.{Led}
-use Rattle.thompson_nfa.specs.Assembled.{IsAssembled, AcceptAll, LeadsToAll}
+use Rattle.thompson_nfa.specs.Assembled.{IsAssembled, AcceptAll, LeadsToAll, IsFree}
 use Rattle.thompson_nfa.specs.Compilations.{is_anchored_tree}
 use Rattle.thompson_nfa.specs.Compiled.{sum_of_bytes}
 use Rattle.thompson_nfa.specs.Configs.{Options, reverse_of, captures_of, is_shrunk, is_any}
@@ -21,6 +21,10 @@ use Rattle.thompson_nfa.specs.Patterns.{Holds, Stands, HasAll, HasStart, LeadsTo
 use Rattle.thompson_nfa.specs.Room.{list_room}
 use Rattle.thompson_nfa.specs.declared.how.How.{How}
 use Rattle.thompson_nfa.specs.declared.which_captures.WhichCaptures.{WhichCaptures}
+use Rattle.look_core.specs.declared.look.Look.{Look}
+use Rattle.thompson_nfa.specs.Compiled.{is_look, looks_in, any_uses}
+use Rattle.thompson_nfa.proofs.LookLemmas.{any_more, look_patched, plain_look, quiet_led}
+use Rattle.thompson_nfa.proofs.GrowLemmas.{unmatched}
 use Rattle.thompson_nfa.proofs.PatternLemmas.{no_match_is}
 use Rattle.thompson_nfa.proofs.StartLemmas.{Out, IsBefore, before_all, past_in_list, past_found}
 
@@ -162,8 +166,28 @@ module _ (o : Options) (xs : List Tree) (b0 b1 b2 b3 : Assembly) (u c : ℕ) (be
       let turn : b1.reverse ≡ reverse_of o = ap (λ (z : Assembly). z.reverse) before.settings ∙ ap (λ (z : Assembly). z.reverse) begun in
       subst R (sym starts_are) (subst Q starts_0 (subst P turn (has.accept (part_at b3.parts) holding)))
 
+  free : IsFree (reverse_of o) (length b1.parts) 0 b3.parts c b3.starts xs
+  free =
+      let f = patterns.5 in
+      let z = size in
+      let turn : b1.reverse ≡ reverse_of o = ap (λ (z : Assembly). z.reverse) before.settings ∙ ap (λ (z : Assembly). z.reverse) begun in
+      let H : List ℕ → Type 0 = λ ss. (f.hole ≡ c) ⊎ (ss ≡ c ∷ []) in
+      record {
+        hole = f.hole;
+        hole_is = subst H (sym starts_are) f.hole_is;
+        accept = λ table hold.
+            let P : Bool → Type 0 = λ back. AcceptAll back table (length b1.starts) patterns.0 xs in
+            let Q : List ℕ → Type 0 = λ ss. AcceptAll (reverse_of o) table (length ss) patterns.0 xs in
+            let R : List ℕ → Type 0 = λ ss. AcceptAll (reverse_of o) table 0 ss xs in
+            subst R (sym starts_are) (subst Q starts_0
+            (subst P turn (f.accept table (λ q l h ne. hold q l (omega arith) ne ∙ later_same q l))));
+      }
+
   match_late : (q p : ℕ) → part_at b3.parts q ≡ match_part p → length b1.parts ≤ q
-  match_late q p is = ⊎_elim (λ (low : q < length b1.parts). absurd (no_match_is (part_at b3.parts q) p (before.tame q low).no_match is)) (λ (high : length b1.parts ≤ q). high) (cases_lt q (length b1.parts))
+  match_late q p is =
+      ⊎_elim (λ (low : q < length b1.parts). absurd
+      (no_match_is (part_at b3.parts q) p (unmatched true (part_at b3.parts q) (before.tame q low).not_barred) is))
+      (λ (high : length b1.parts ≤ q). high) (cases_lt q (length b1.parts))
 
   one_match : (q r p : ℕ) → part_at b3.parts q ≡ match_part p → part_at b3.parts r ≡ match_part p → q ≡ r
   one_match q r p f g =
@@ -178,6 +202,23 @@ module _ (o : Options) (xs : List Tree) (b0 b1 b2 b3 : Assembly) (u c : ℕ) (be
   small : sum_of_bytes b3 ≤ 4096 * list_room (is_shrunk o) xs
   small = let a = few in omega (arith, a, size, led.bytes, has.bytes, before.bytes)
 
+  -- what stands before the patterns has no looks
+  no_look_before : (l : Look) (q : ℕ) → q < length b1.parts → is_look l (part_at b1.parts q) ≡ false
+  no_look_before l q low = ⊎_elim
+      (λ (same : q ≡ u). ap (λ (k : ℕ). is_look l (part_at b1.parts k)) same ∙ sym (look_patched l c (part_at b1.parts u))
+      ∙ ap (is_look l) (sym led_on)
+      ∙ plain_look l (part_at b3.parts u) (before.tame u below).not_barred)
+      (λ (ne : q ≡ u → ⊥). ap (is_look l) (sym (old_same q low ne)) ∙ plain_look l (part_at b3.parts q) (before.tame q low).not_barred)
+      (cases_eq q u)
+
+  looks_all : (l : Look) → looks_in b3.parts l ≡ any_uses (reverse_of o) xs l
+  looks_all l =
+      let turn : b1.reverse ≡ reverse_of o = ap (λ (z : Assembly). z.reverse) before.settings ∙ ap (λ (z : Assembly). z.reverse) begun in
+      quiet_led led l ∙ has.looks l
+      ∙ ap (λ (k : Bool). k || any_uses b1.reverse xs l)
+      (any_more (is_look l) [] b1.parts (omega arith) (λ q h. absurd (omega arith)) (λ q h k. no_look_before l q k))
+      ∙ ap (λ (r : Bool). any_uses r xs l) turn
+
   pub all_assembled : IsAssembled o xs b3 c u
   all_assembled =
       let P : List ℕ → Type 0 = λ ss. LeadsToAll (part_at b3.parts) c ss in
@@ -191,8 +232,13 @@ module _ (o : Options) (xs : List Tree) (b0 b1 b2 b3 : Assembly) (u c : ℕ) (be
         accept = accepted;
         leads = subst P (sym starts_are) (leads_same (part_at b2.parts) (part_at b3.parts) c patterns.0 (sym (later_same c above)) patterns.2);
         before = before.before;
+        low = length b1.parts;
+        below = below;
+        above = above;
+        free = free;
         one_match = one_match;
         groups = groups_are;
+        looks = looks_all;
         states = few;
         bytes = small;
       }

@@ -1,20 +1,31 @@
 -- The automaton that is built of a compile's states is the one that the trees are compiled to.
-use Rattle.std.proofs.Common.{◌≡◌, ◌≢◌, ◌↔◌, ℕ, ◌*◌, ◌≤◌, min, arith, true, List, [], length, Some, slice_get, sym, ap, ◌∙◌, subst}
+use Rattle.std.proofs.Common.{◌≡◌, ◌≢◌, ◌↔◌, ℕ, suc, ◌-◌, ◌*◌, ◌≤◌, min, arith, true, List, [], length, Some, slice_get, sym, ap, ◌∙◌, subst}
+use Rattle.std.specs.Prelude.{MatchOption, ⊤}
 use Rattle.std.specs.Bool.{nat_eq}
 use Rattle.hir_core.specs.Tree.{Tree}
 use Rattle.hir_core.specs.Means.{Means}
-use Rattle.nfa_core.specs.Walks.{Has}
+use Rattle.nfa_core.specs.Walks.{Has, distinct}
 use Rattle.nfa_core.specs.Runs.{IsChain, last_or}
 use Rattle.nfa_core.specs.Nfa.{Automaton}
-use Rattle.nfa_core.specs.NfaValue.{Nfa, free_steps, reached_freely, has_empty, memory_of}
+use Rattle.nfa_core.specs.NfaValue.{Nfa, free_steps, reached_freely, has_empty, memory_of, looks_of}
 use Rattle.nfa_core.specs.BuilderStates.{Assembly}
 use Rattle.nfa_core.specs.Renaming.{past, automaton_of}
 use Rattle.nfa_core.proofs.ForCallers.{smaller}
 use Rattle.thompson_nfa.specs.Compiled.{sum_of_bytes}
-use Rattle.thompson_nfa.specs.Configs.{Options, reverse_of, is_shrunk}
+use Rattle.thompson_nfa.specs.Configs.{Options, reverse_of, limit_of, is_shrunk}
 use Rattle.thompson_nfa.specs.Room.{list_room}
-use Rattle.thompson_nfa.specs.Compilations.{HasOneMatch, IsCompiled}
+use Rattle.thompson_nfa.specs.Compilations.{HasOneMatch, IsCompiled, places_from, start_of}
 use Rattle.thompson_nfa.specs.Assembled.{IsAssembled, AllAnchored}
+use Rattle.look_core.specs.declared.look.Look.{Look}
+use Rattle.look_core.specs.LookSets.{has_look}
+use Rattle.std.specs.List.{list_any, flat_map}
+use Rattle.nfa_core.specs.Ways.{ends_from}
+use Rattle.nfa_core.specs.Places.{same_pair}
+use Rattle.thompson_nfa.proofs.AssembledStarts.{anchored_starts}
+use Rattle.thompson_nfa.proofs.AssembledTries.{unanchored_starts}
+use Rattle.hir_core.specs.Facts.{looks_used}
+use Rattle.thompson_nfa.specs.Compiled.{turned}
+use Rattle.thompson_nfa.proofs.AssembledLooks.{assembled_looks}
 use Rattle.thompson_nfa.proofs.AssembledSpans.{assembled_finds_spans}
 use Rattle.thompson_nfa.proofs.AssembledOrders.{assembled_finds_in_order}
 use Rattle.thompson_nfa.proofs.AssembledReturns.{assembled_has_no_return}
@@ -43,8 +54,25 @@ assembled_bytes o xs b A U is = capped_below (sum_of_bytes b) 184467440737095516
 
 pub assembled_is_compiled : (o : Options) (xs : List Tree) (b : Assembly) (A U : ℕ) → IsAssembled o xs b A U →
     ((AllAnchored (reverse_of o) xs → ⊥) → past b.parts A ≢ U) → AreLedTo (automaton_of b A U) →
-    (n : Nfa) → n.automaton ≡ automaton_of b A U → n.utf8 ≡ b.utf8 → n.terminator ≡ b.terminator → n.groups ≡ b.groups → IsCompiled o xs n
-assembled_is_compiled o xs b A U is apart reached n same utf8 terminator groups = record {
+    (n : Nfa) → n.automaton ≡ automaton_of b A U → n.utf8 ≡ b.utf8 → n.terminator ≡ b.terminator → n.groups ≡ b.groups →
+    MatchOption (limit_of o) ⊤ (λ most. memory_of n.automaton.states ≤ most) → IsCompiled o xs n
+assembled_is_compiled o xs b A U is apart reached n same utf8 terminator groups limit = record {
+  limit = limit;
+  starts = record {
+    anchored = λ t i place.
+        let P : Automaton → Type 0 =
+        λ a. ends_from a t (i, a.start_anchored)
+        ≡ distinct same_pair (flat_map (λ p. ends_from a t (i, start_of a p)) (places_from 0 (length xs))) in
+        subst P (sym same) (anchored_starts o xs b A U is t i place);
+    unanchored = λ up t i read low high.
+        let P : Automaton → Type 0 =
+        λ a. ends_from a t (i, a.start_unanchored)
+        ≡ distinct same_pair (flat_map (λ k. ends_from a t (k, a.start_anchored)) (places_from i (suc t.end - i))) in
+        subst P (sym same) (unanchored_starts o xs b A U is (is.reverse ∙ up) t i read low high);
+  };
+  looks = let P : Automaton → Type 0 = λ a. (l : Look) →
+      has_look (looks_of a.states) l ≡ list_any (λ x. has_look (looks_used x) (turned (reverse_of o) l)) xs in
+      subst P (sym same) (assembled_looks o xs b A U is);
   utf8 = utf8 ∙ is.utf8;
   reverse = ap (λ (a : Automaton). a.reverse) same ∙ is.reverse;
   terminator = terminator ∙ is.terminator;

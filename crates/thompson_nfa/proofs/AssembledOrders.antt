@@ -2,7 +2,6 @@
 use Rattle.std.proofs.Common.{◌≡◌, ℕ, suc, ◌-◌, ◌<◌, ◌≤◌, Bool, false, List, [], ◌∷◌, length, map, get_or, slice_get, inl, inr, Some, sym, ap, ◌∙◌, subst, arith}
 use Rattle.std.specs.Prelude.{All}
 use Rattle.std.specs.List.{flat_map}
-use Rattle.look_core.specs.Terminators.{Terminator}
 use Rattle.hir_core.specs.Tree.{Tree}
 use Rattle.hir_core.specs.PreferredEnds.{preferred_ends}
 use Rattle.hir_core.specs.Facts.{LoopsRead}
@@ -10,14 +9,14 @@ use Rattle.nfa_core.specs.Walks.{Lists, distinct}
 use Rattle.nfa_core.specs.Places.{same_pair}
 use Rattle.nfa_core.specs.Nfa.{Automaton}
 use Rattle.nfa_core.specs.NfaValue.{Nfa}
-use Rattle.nfa_core.specs.Ways.{Text, span, ends_from}
+use Rattle.nfa_core.specs.Ways.{Text, ends_from}
 use Rattle.nfa_core.specs.BuilderStates.{Assembly, part_at}
 use Rattle.nfa_core.specs.Renaming.{new_name, automaton_of}
 use Rattle.nfa_core.specs.Drafted.{table_ways, table_match}
 use Rattle.nfa_core.proofs.ForCallers.{ends_listed}
 use Rattle.thompson_nfa.specs.Configs.{Options, reverse_of}
 use Rattle.thompson_nfa.specs.Denotes.{seen}
-use Rattle.thompson_nfa.specs.Compilations.{choices_from, places_from, start_of, FindsInOrder}
+use Rattle.thompson_nfa.specs.Compilations.{choices_from, places_from, start_of, IsRead, FindsInOrder}
 use Rattle.thompson_nfa.specs.Assembled.{AcceptAll, IsAssembled, ComesBefore}
 use Rattle.thompson_nfa.proofs.OrderLemmas.{Listed, ListedFirsts}
 use Rattle.thompson_nfa.proofs.FindLemmas.{accepts_lists}
@@ -66,24 +65,23 @@ module _ (o : Options) (xs : List Tree) (b : Assembly) (A U : ℕ) (is : IsAssem
     anchored_listed : (t : Text) (i : ℕ) → i ≤ t.end → ends_from auto t (i, new_name b.parts A) ≡ distinct same_pair (choices_from 0 xs t i)
     anchored_listed t i place = ends_are_listed t A i (choices_from 0 xs t i) is.can_build.anchored_there place (anchored_walk t i)
 
-    all_walked : (term : Terminator) (h : List ℕ) (s f i : ℕ) → i ≤ f → f ≤ length h → All (λ byte. byte < 256) h →
-        ListedFirsts (span term h s f) (part_at b.parts) ((i, U) ∷ []) (flat_map (choices_from 0 xs (span term h s f)) (places_from i (suc f - i)))
-    all_walked term h s f i high within bytes =
-        let t : Text = span term h s f in
+    all_walked : (t : Text) (i : ℕ) → IsRead t → i ≤ t.end →
+        ListedFirsts t (part_at b.parts) ((i, U) ∷ []) (flat_map (choices_from 0 xs t) (places_from i (suc t.end - i)))
+    all_walked t i read high =
         let P : List (ℕ × ℕ) → Type 0 = λ l. ListedFirsts t (part_at b.parts) ((i, U) ∷ []) l in
         elim before_up [
-          | inl x ↦ subst P (choices_at_once term h s f xs i x.0 high)
+          | inl x ↦ subst P (choices_at_once t read xs i x.0 high)
               (listed_behind t (part_at b.parts) U A (choices_from 0 xs t) (anchored_walk t) (λ k. k ∷ []) i (orders_at_once t (part_at b.parts) U A x.1))
-          | inr x ↦ subst P (ap (flat_map (choices_from 0 xs t)) (all_tried t i (record { within = within; bytes = bytes }) high))
+          | inr x ↦ subst P (ap (flat_map (choices_from 0 xs t))
+              (all_tried t i (record { within = read.within; bytes = read.bytes }) high))
               (listed_behind t (part_at b.parts) U A (choices_from 0 xs t) (anchored_walk t) (tried t) i (tries_in_order t (part_at b.parts) U A x.1))
         ]
 
-    unanchored_listed : (term : Terminator) (h : List ℕ) (s f i : ℕ) → i ≤ f → f ≤ length h → All (λ byte. byte < 256) h →
-        ends_from auto (span term h s f) (i, new_name b.parts U)
-        ≡ distinct same_pair (flat_map (choices_from 0 xs (span term h s f)) (places_from i (suc f - i)))
-    unanchored_listed term h s f i high within bytes =
-        ends_are_listed (span term h s f) U i (flat_map (choices_from 0 xs (span term h s f)) (places_from i (suc f - i))) is.can_build.unanchored_there high
-        (all_walked term h s f i high within bytes)
+    unanchored_listed : (t : Text) (i : ℕ) → IsRead t → i ≤ t.end →
+        ends_from auto t (i, new_name b.parts U) ≡ distinct same_pair (flat_map (choices_from 0 xs t) (places_from i (suc t.end - i)))
+    unanchored_listed t i read high =
+        ends_are_listed t U i (flat_map (choices_from 0 xs t) (places_from i (suc t.end - i))) is.can_build.unanchored_there high
+        (all_walked t i read high)
 
   finds_in_order : (n : Nfa) → n.automaton ≡ auto → FindsInOrder xs n
   finds_in_order n same = record {
@@ -93,10 +91,11 @@ module _ (o : Options) (xs : List Tree) (b : Assembly) (A U : ℕ) (is : IsAssem
     anchored = λ reading t i place.
         let P : Automaton → Type 0 = λ a. ends_from a t (i, a.start_anchored) ≡ distinct same_pair (choices_from 0 xs t i) in
         subst P (sym same) (anchored_listed reading t i place);
-    unanchored = λ reading h s f i low high within bytes.
-        let P : Automaton → Type 0 = λ a. ends_from a (span n.terminator h s f) (i, a.start_unanchored)
-        ≡ distinct same_pair (flat_map (choices_from 0 xs (span n.terminator h s f)) (places_from i (suc f - i))) in
-        subst P (sym same) (unanchored_listed reading n.terminator h s f i high within bytes);
+    unanchored = λ reading t i read low high.
+        let P : Automaton → Type 0 =
+        λ a. ends_from a t (i, a.start_unanchored)
+        ≡ distinct same_pair (flat_map (choices_from 0 xs t) (places_from i (suc t.end - i))) in
+        subst P (sym same) (unanchored_listed reading t i read high);
   }
 
 pub assembled_finds_in_order : (o : Options) (xs : List Tree) (b : Assembly) (A U : ℕ) → IsAssembled o xs b A U → reverse_of o ≡ false →

@@ -1,24 +1,22 @@
 -- Which spans the automaton finds that is built of a compile's states.
 use Rattle.std.proofs.Common.{◌≡◌, ◌↔◌, ℕ, ◌<◌, ◌≤◌, Bool, true, false, List, length, get_or, slice_get, inl, inr, Some, sym, subst, arith}
-use Rattle.std.specs.Prelude.{All}
 use Rattle.std.proofs.lemmas.List.{get_or-map}
 use Rattle.std.proofs.lemmas.List.Elements.{All-get_or}
 use Rattle.std.proofs.lemmas.Option.{slice_get_within}
-use Rattle.look_core.specs.Terminators.{Terminator}
 use Rattle.hir_core.specs.Tree.{Tree}
 use Rattle.hir_core.specs.Means.{Rounds}
 use Rattle.nfa_core.specs.Walks.{Has}
 use Rattle.nfa_core.specs.Places.{same_pair}
 use Rattle.nfa_core.specs.Nfa.{Automaton}
 use Rattle.nfa_core.specs.NfaValue.{Nfa}
-use Rattle.nfa_core.specs.Ways.{Text, span, ends_from}
+use Rattle.nfa_core.specs.Ways.{Text, ends_from}
 use Rattle.nfa_core.specs.BuilderStates.{Assembly, part_at}
 use Rattle.nfa_core.specs.Renaming.{new_name, automaton_of}
 use Rattle.nfa_core.specs.Drafted.{Table}
 use Rattle.nfa_core.proofs.ForCallers.{ends_found, found_end}
 use Rattle.thompson_nfa.specs.Configs.{Options, reverse_of}
 use Rattle.thompson_nfa.specs.Denotes.{IsMeant}
-use Rattle.thompson_nfa.specs.Compilations.{IsChoice, IsReadTo, start_of, FindsSpans}
+use Rattle.thompson_nfa.specs.Compilations.{IsChoice, IsReadTo, IsRead, start_of, FindsSpans}
 use Rattle.thompson_nfa.specs.Assembled.{IsAssembled}
 use Rattle.thompson_nfa.proofs.AcceptLemmas.{Finds}
 use Rattle.thompson_nfa.proofs.FindLemmas.{FindsChoices, finds_behind, accepts_finds}
@@ -73,13 +71,11 @@ module _ (o : Options) (xs : List Tree) (b : Assembly) (A U : ℕ) (is : IsAssem
   choices : (t : Text) → FindsChoices (reverse_of o) t parts A (IsChoice (reverse_of o) xs t)
   choices t = all_find (reverse_of o) t parts A b.starts xs is.leads is.accept
 
-  anchored_found : (t : Text) (i : ℕ) (e : ℕ × ℕ) → i ≤ t.end → Has same_pair e (ends_from built t (i, new_name b.parts A)) ↔ IsChoice (reverse_of o) xs t i e
+  pub anchored_found : (t : Text) (i : ℕ) (e : ℕ × ℕ) → i ≤ t.end → Has same_pair e (ends_from built t (i, new_name b.parts A))
+      ↔ IsChoice (reverse_of o) xs t i e
   anchored_found t i e place = ends_are_found t A (IsChoice (reverse_of o) xs t) is.can_build.anchored_there (choices t) i e place
 
-  module _ (term : Terminator) (h : List ℕ) (s f i : ℕ) (e : ℕ × ℕ) (low : s ≤ i) (high : i ≤ f) (within : f ≤ length h) (bytes : All (λ byte. byte < 256) h) where
-    abbrev t : Text
-    t = span term h s f
-
+  module _ (t : Text) (i : ℕ) (e : ℕ × ℕ) (read_well : IsRead t) (low : t.start ≤ i) (high : i ≤ t.end) where
     abbrev Somewhere : Type 0
     Somewhere = (k : ℕ) × IsReadTo (reverse_of o) t i k × IsChoice (reverse_of o) xs t k e
 
@@ -97,12 +93,13 @@ module _ (o : Options) (xs : List Tree) (b : Assembly) (A U : ℕ) (is : IsAssem
       | inl x ↦ behind (λ j k. j ≡ k)
           (finds_behind (reverse_of o) t parts U A (λ j k. j ≡ k) (IsChoice (reverse_of o) xs t) (reaches_at_once (reverse_of o) t parts U A x.1) (choices t))
           (λ k same. read_here (reverse_of o) t i k high same)
-          (λ k read choice. anchored_place term h s f (reverse_of o) xs i k e x.0 low high within read choice)
+          (λ k read choice. anchored_place t read_well (reverse_of o) xs i k e x.0 low high read choice)
       | inr x ↦ behind (λ j k. (n : ℕ) × Rounds (Moves (reverse_of o) t) n j k)
           (finds_behind (reverse_of o) t parts U A (λ j k. (n : ℕ) × Rounds (Moves (reverse_of o) t) n j k) (IsChoice (reverse_of o) xs t)
           (tries_places (reverse_of o) t parts U A x.1) (choices t))
           (λ k r. rounds_read (reverse_of o) t r.0 i k high r.1)
-          (λ k read choice. read_rounds (reverse_of o) t i k (record { within = within; bytes = bytes }) low high read)
+          (λ k read choice. read_rounds (reverse_of o) t i k
+          (record { within = read_well.within; bytes = read_well.bytes }) low high read)
     ]
 
   finds_spans : (n : Nfa) → n.automaton ≡ built → FindsSpans (reverse_of o) xs n
@@ -113,10 +110,10 @@ module _ (o : Options) (xs : List Tree) (b : Assembly) (A U : ℕ) (is : IsAssem
     anchored = λ t i e place.
         let P : Automaton → Type 0 = λ a. Has same_pair e (ends_from a t (i, a.start_anchored)) ↔ IsChoice (reverse_of o) xs t i e in
         subst P (sym same) (anchored_found t i e place);
-    unanchored = λ h s f i e low high within bytes.
-        let P : Automaton → Type 0 = λ a. Has same_pair e (ends_from a (span n.terminator h s f) (i, a.start_unanchored))
-        ↔ ((k : ℕ) × IsReadTo (reverse_of o) (span n.terminator h s f) i k × IsChoice (reverse_of o) xs (span n.terminator h s f) k e) in
-        subst P (sym same) (unanchored_found n.terminator h s f i e low high within bytes);
+    unanchored = λ t i e read low high.
+        let P : Automaton → Type 0 = λ a. Has same_pair e (ends_from a t (i, a.start_unanchored))
+        ↔ ((k : ℕ) × IsReadTo (reverse_of o) t i k × IsChoice (reverse_of o) xs t k e) in
+        subst P (sym same) (unanchored_found t i e read low high);
   }
 
 pub assembled_finds_spans : (o : Options) (xs : List Tree) (b : Assembly) (A U : ℕ) → IsAssembled o xs b A U → (n : Nfa) → n.automaton ≡ automaton_of b A U →

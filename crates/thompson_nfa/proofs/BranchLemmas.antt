@@ -1,12 +1,13 @@
 -- Fragments of alternations: the branches so far, where the union and the end wait for more.
-use Rattle.std.proofs.Common.{◌≡◌, ◌≢◌, ℕ, ◌+◌, ◌<◌, ◌≤◌, true, List, [], ◌∷◌, ◌++◌, length, None, refl, sym, ap, ◌∙◌, subst, arith, ⊎_elim, length-append}
+use Rattle.std.proofs.Common.{◌≡◌, ◌≢◌, ℕ, ◌+◌, ◌<◌, ◌≤◌, true, List, [], ◌∷◌, ◌++◌, length, None, refl, sym, ap, ◌∙◌, subst, arith, ⊎_elim, length-append, Bool, ◌||◌, false}
 use Rattle.std.proofs.lemmas.Bool.{cases_lt, cases_eq}
 use Rattle.hir_core.specs.Tree.{Tree, alternation}
 use Rattle.nfa_core.specs.BuilderStates.{Part, Assembly, part_at, patched, is_sparse, empty_part, union_part}
 use Rattle.nfa_core.specs.Renaming.{stands_for}
 use Rattle.nfa_core.specs.Drafted.{Table}
-use Rattle.thompson_nfa.specs.Compiled.{Finished, ComesOut, Makes, Does}
+use Rattle.thompson_nfa.specs.Compiled.{Finished, ComesOut, Makes, Does, uses}
 use Rattle.thompson_nfa.specs.Added.{Added, Led}
+use Rattle.thompson_nfa.proofs.LookLemmas.{AddsLooks, quiet_led, quiet_added, adds_both, uses_alternation, or_none}
 use Rattle.thompson_nfa.proofs.OutLemmas.{out_here, out_next, out_at, out_on}
 use Rattle.thompson_nfa.proofs.ProgressLemmas.{Progress, first_made, then_made, then_led, made}
 use Rattle.thompson_nfa.proofs.RepeatLemmas.{reads_as, choice_then, empty_then}
@@ -19,7 +20,7 @@ abbrev pub FinishesBut : ℕ → List Part → ℕ → ℕ → Table → Type 0
 FinishesBut low parts a b table = (q : ℕ) → low ≤ q → q < length parts → q ≢ a → q ≢ b → table q ≡ part_at parts q
 
 pub record Branches (old mid : Assembly) (u z n : ℕ) (done : List Tree) : Type 0 where
-  pub progress : Progress old mid n 8
+  pub progress : Progress false old mid n 8
   pub u_new : length old.parts ≤ u
   pub u_z : u < z
   pub z_there : z < length mid.parts
@@ -29,16 +30,17 @@ pub record Branches (old mid : Assembly) (u z n : ℕ) (done : List Tree) : Type
   pub end_is : part_at mid.parts z ≡ empty_part 0
   pub outs : (table : Table) → FinishesBut (length old.parts) mid.parts u z table → (q : ℕ) → length old.parts ≤ q → q < length mid.parts → q ≢ u → q ≢ z → ComesOut table z q
   pub denote : (table : Table) → FinishesBut (length old.parts) mid.parts u z table → AllDenote old.reverse table z entries done
+  pub looks : AddsLooks old.reverse old mid (alternation done)
 
 module _ (t0 t1 t2 t3 t4 t5 t6 t7 t8 : Assembly) (s1 e1 n1 s2 e2 n2 u z : ℕ) (x y : Tree) (first : Makes t0 t1 s1 e1 n1) (second : Makes t1 t2 s2 e2 n2) (union : Added t2 t3 u (union_part []) t2.groups)
     (last : Added t3 t4 z (empty_part 0) t3.groups) (p5 : Led t4 t5 u s1) (p6 : Led t5 t6 e1 z) (p7 : Led t6 t7 u s2) (p8 : Led t7 t8 e2 z) where
-  open_2 : Progress t0 t2 (n1 + n2) 8
+  open_2 : Progress false t0 t2 (n1 + n2) 8
   open_2 = then_made 8 (first_made first) second (omega arith)
 
-  pub open_4 : Progress t0 t4 (n1 + n2 + 1 + 1) 4000
+  pub open_4 : Progress false t0 t4 (n1 + n2 + 1 + 1) 4000
   open_4 = empty_then (choice_then true open_2 union) last
 
-  pub open_8 : Progress t0 t8 (n1 + n2 + 1 + 1) 8
+  pub open_8 : Progress false t0 t8 (n1 + n2 + 1 + 1) 8
   open_8 = then_led 8 (then_led 12 (then_led 16 (then_led 20 open_4 p5 (omega arith) (omega arith) (omega arith)) p6 (omega arith) (omega arith) (omega arith))
       p7 (omega arith) (omega arith) (omega arith)) p8 (omega arith) (omega arith) (omega arith)
 
@@ -78,6 +80,11 @@ module _ (t0 t1 t2 t3 t4 t5 t6 t7 t8 : Assembly) (s1 e1 n1 s2 e2 n2 u z : ℕ) (
         (cases_lt q (length t1.parts));
     denote = λ table fin. more_denote s1 x (s2 ∷ []) (y ∷ []) (does1.denotes table z (open_first table fin))
         (more_denote s2 y [] [] (reads_as t0 t1 table s2 z y first.fragment.grows (does2.denotes table z (open_second table fin))) none_denote);
+    looks = λ l. quiet_led p8 l ∙ quiet_led p7 l ∙ quiet_led p6 l ∙ quiet_led p5 l ∙ quiet_added last (λ k. refl) l
+        ∙ quiet_added union (λ k. refl) l
+        ∙ adds_both t0 t1 t2 x y (alternation (x ∷ y ∷ [])) does1.looks
+        (ap (λ (z : Assembly). z.reverse) first.fragment.grows.settings) does2.looks
+        (λ k. ap (λ (b : Bool). uses t0.reverse x k || b) (or_none (uses t0.reverse y k))) l;
   }
 
 module _ (old b c d f : Assembly) (u z n s e k : ℕ) (done : List Tree) (x : Tree) (bs : Branches old b u z n done) (part : Makes b c s e k) (p1 : Led c d u s) (p2 : Led d f e z) where
@@ -112,6 +119,10 @@ module _ (old b c d f : Assembly) (u z n s e k : ℕ) (done : List Tree) (x : Tr
             (cases_lt q (length b.parts));
         denote = λ table fin. all_denote_push old.reverse table z s x bs.entries done (bs.denote table (more_before table fin))
             (reads_as old b table s z x bs.progress.partly.grows (does.denotes table z (more_part table fin)));
+        looks = λ l. quiet_led p2 l ∙ quiet_led p1 l
+            ∙ adds_both old b c (alternation done) x (alternation (done ++ x ∷ [])) bs.looks
+            (ap (λ (z : Assembly). z.reverse) bs.progress.partly.grows.settings) does.looks
+            (λ k. uses_alternation old.reverse done x k) l;
       }
 
 union_stands : (names : List ℕ) → 2 ≤ length names → stands_for (union_part names) ≡ None
@@ -148,4 +159,5 @@ module _ (old mid : Assembly) (u z n : ℕ) (done : List Tree) (bs : Branches ol
         denotes_then_empty old.reverse table u z target (alternation done)
         (denotes_alternation old.reverse table u z bs.entries done (done_u target table fin) (bs.denote table (all_but target table fin)))
         (denotes_empty old.reverse table z target (fin.led ∙ ap (patched target) bs.end_is));
+    looks = bs.looks;
   }

@@ -19,6 +19,7 @@ use Rattle.thompson_nfa.specs.Added.{Added, Led}
 use Rattle.thompson_nfa.specs.NotedGroups.{noted, keeps_group}
 use Rattle.thompson_nfa.specs.Refusals.{RefusesGroup, QuitsGroup, Refuses, RefusesTree, RefusesStep}
 use Rattle.thompson_nfa.specs.declared.which_captures.WhichCaptures.{WhichCaptures}
+use Rattle.thompson_nfa.proofs.LookLemmas.{quiet_led, quiet_added, adds_around}
 use Rattle.thompson_nfa.proofs.OutLemmas.{out_here, all_here, all_join, all_on}
 use Rattle.thompson_nfa.proofs.LeafLemmas.{tame_one}
 use Rattle.thompson_nfa.proofs.StepLemmas.{added_of, added_group, room_for, refused_name}
@@ -112,7 +113,8 @@ start_quits kept old new index m name x e keeps le r = record {
   cause = group_later kept (length old.starts) index name x old old 0 m e refl keeps (omega arith) (omega arith) r.cause (omega arith);
 }
 
-pub end_quits : {kept : WhichCaptures} {old mid new : Assembly} {k s : ℕ} {e : BuildError} (index m : ℕ) (name : Option Name) (x : Tree) → Progress old mid k s → keeps_group kept index ≡ true → k < m →
+pub end_quits : {kept : WhichCaptures} {old mid new : Assembly} {k s : ℕ} {e : BuildError} (index m : ℕ) (name : Option Name)
+    (x : Tree) → Progress false old mid k s → keeps_group kept index ≡ true → k < m →
     QuitsGroup mid new index e → Refuses kept old new m (capture index name x) e
 end_quits {kept} {old} {mid} {new} {k} {s} {e} index m name x p keeps le r =
     let starts : length mid.starts ≡ length old.starts = ap (λ (b : Assembly). length b.starts) p.partly.grows.settings in
@@ -133,7 +135,13 @@ pub plain_groups : (kept : WhichCaptures) (p index : ℕ) (shown : Option Name) 
 plain_groups kept p index shown x old now drops is = is ∙ sym (ap (λ (b : Bool). noted kept p x (if b then with_group old p index shown else old)) drops)
 
 pub plain_does : (old new : Assembly) (s e index : ℕ) (name : Option Name) (x : Tree) → Does old new s e x → Does old new s e (capture index name x)
-plain_does old new s e index name x does = record { denotes = λ table target fin. denotes_capture_plain old.reverse table s target index name x (does.denotes table target fin) }
+plain_does old new s e index name x does =
+    record {
+      denotes =
+          λ table target fin. denotes_capture_plain old.reverse table s target index name x (does.denotes table target fin);
+      looks =
+          does.looks;
+    }
 
 module _ (t0 t1 t2 t3 t4 t5 : Assembly) (a s e z n index pattern : ℕ) (name : Option Name) (first : Added t0 t1 a (capture_start_part (length t0.starts) index 0) (with_group t0.groups (length t0.starts) index name))
     (body : Makes t1 t2 s e n) (last : Added t2 t3 z (capture_end_part pattern index 0) t2.groups) (same_pattern : pattern ≡ length t0.starts) (p4 : Led t3 t4 a s) (p5 : Led t4 t5 e z) where
@@ -141,25 +149,25 @@ module _ (t0 t1 t2 t3 t4 t5 : Assembly) (a s e z n index pattern : ℕ) (name : 
   start_known = ap (λ (gs : Groups). is_known gs (capture_start_part (length t0.starts) index 0)) first.groups_are
       ∙ known_of_in (with_group t0.groups (length t0.starts) index name) (length t0.starts) index (group_in t0.groups (length t0.starts) index name)
 
-  start_tame : IsTame t1 (capture_start_part (length t0.starts) index 0)
+  start_tame : IsTame false t1 (capture_start_part (length t0.starts) index 0)
   start_tame = tame_one t1 (capture_start_part (length t0.starts) index 0) 0 refl (omega arith) start_known refl
 
-  end_tame : IsTame t3 (capture_end_part pattern index 0)
+  end_tame : IsTame false t3 (capture_end_part pattern index 0)
   end_tame =
       let P : ℕ → Type 0 = λ p. is_known t1.groups (capture_end_part p index 0) ≡ true in
       tame_one t3 (capture_end_part pattern index 0) 0 refl (omega arith)
       (last.grows.known (capture_end_part pattern index 0) (body.fragment.grows.known (capture_end_part pattern index 0) (subst P (sym same_pattern) start_known))) refl
 
-  pub capture_1 : Progress t0 t1 1 4000
+  pub capture_1 : Progress false t0 t1 1 4000
   capture_1 = first_added 4000 first start_tame (omega arith)
 
-  pub capture_2 : Progress t0 t2 (1 + n) 4000
+  pub capture_2 : Progress false t0 t2 (1 + n) 4000
   capture_2 = then_made 4000 capture_1 body (omega arith)
 
-  pub capture_3 : Progress t0 t3 (1 + n + 1) 4000
+  pub capture_3 : Progress false t0 t3 (1 + n + 1) 4000
   capture_3 = then_added 4000 capture_2 last end_tame (omega arith)
 
-  pub capture_4 : Progress t0 t4 (1 + n + 1) 3996
+  pub capture_4 : Progress false t0 t4 (1 + n + 1) 3996
   capture_4 = then_led 3996 capture_3 p4 (omega arith) (omega arith) (omega arith)
 
   capture_z : part_at t5.parts z ≡ capture_end_part pattern index 0
@@ -197,4 +205,6 @@ module _ (t0 t1 t2 t3 t4 t5 : Assembly) (a s e z n index pattern : ℕ) (name : 
     denotes = λ table target fin.
         denotes_capture t0.reverse table a s z target (length t0.starts) index pattern index index shown x (capture_start target table fin)
         (reads_as t0 t1 table s z x first.grows (does.denotes table z (capture_body target table fin))) (capture_end target table fin);
+    looks = adds_around t0 t1 t2 t5 x (quiet_added first (λ k. refl)) (ap (λ (z : Assembly). z.reverse) first.grows.settings) does.looks
+        (λ l. quiet_led p5 l ∙ quiet_led p4 l ∙ quiet_added last (λ k. refl) l);
   }

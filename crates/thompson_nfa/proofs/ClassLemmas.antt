@@ -12,6 +12,7 @@ use Rattle.nfa_core.specs.declared.build_error.BuildError.{BuildError}
 use Rattle.thompson_nfa.specs.Compiled.{AllComeOut, IsTame, Makes, Does}
 use Rattle.thompson_nfa.specs.Added.{Added}
 use Rattle.thompson_nfa.specs.Refusals.{Stays, Quits}
+use Rattle.thompson_nfa.proofs.LookLemmas.{quiet_added, adds_none}
 use Rattle.thompson_nfa.proofs.WayLemmas.{to_one}
 use Rattle.thompson_nfa.proofs.DenoteLemmas.{denotes_empty, denotes_sparse}
 use Rattle.thompson_nfa.proofs.AheadLemmas.{denotes_then_empty}
@@ -70,7 +71,8 @@ module _ (a b c : Assembly) (end start : ℕ) (ranges : List (ℕ × ℕ)) (firs
   pub class_made : Makes a c start end 2
   class_made =
       let bytes : part_bytes class_part ≤ 2072 = bytes_to_one end ranges few in
-      let tame : IsTame c class_part = record { named = names_to_one (length c.parts) end ranges (omega arith); known = refl; no_match = refl } in
+      let tame : IsTame true c class_part =
+      record { named = names_to_one (length c.parts) end ranges (omega arith); known = refl; not_barred = refl } in
       made 2 (then_added 8 (first_added 8 first (tame_one b (empty_part 0) 0 refl (omega arith) refl refl) (omega arith)) second tame (omega arith)) (omega arith) (omega arith)
       (omega arith) (omega arith) (omega arith) (omega arith) (ap is_sparse class_end)
       (λ table target fin.
@@ -87,10 +89,14 @@ module _ (a b c : Assembly) (end start : ℕ) (ranges : List (ℕ × ℕ)) (firs
         denotes_then_empty a.reverse table start end target (byte_class ranges)
         (denotes_sparse a.reverse table start end ranges (fin.states start (omega arith) (omega arith) (omega arith) ∙ second.here))
         (denotes_empty a.reverse table end target (fin.led ∙ ap (patched target) class_end));
+    looks = adds_none a.reverse (byte_class ranges) a c (λ l. quiet_added second (λ k. refl) l ∙ quiet_added first (λ k. refl) l)
+        (λ l. refl);
   }
 
 pub class_quits : (a b c : Assembly) (end : ℕ) (e : BuildError) → Added a b end (empty_part 0) a.groups → Stays b c 1 2072 e → Quits a c 2 e
-class_quits a b c end e first r = then_quits 2 (first_added 8 first (tame_one b (empty_part 0) 0 refl (omega arith) refl refl) (omega arith)) r (omega arith) (omega arith)
+class_quits a b c end e first r =
+    then_quits 2 (first_added 8 first (tame_one {plain = true} b (empty_part 0) 0 refl (omega arith) refl refl) (omega arith)) r
+    (omega arith) (omega arith)
 
 pub bytes_shown : (next : ℕ) (ranges : List (ℕ × ℕ)) (transitions : List (ℕ × ℕ × ℕ)) → transitions ≡ to_one next ranges → length ranges ≤ 256 → part_bytes (sparse_part transitions) ≤ 2072
 bytes_shown next ranges transitions same few =

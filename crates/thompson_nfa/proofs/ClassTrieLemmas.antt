@@ -4,7 +4,7 @@ use Rattle.std.proofs.lemmas.Grind.{flat_map-append}
 use Rattle.std.proofs.lemmas.List.{reverse-append, reverse-reverse, map-append, take_more, take_all}
 use Rattle.hir_core.specs.Sequences.{is_in_ranges, utf8_sequences}
 use Rattle.hir_core.specs.BySequences.{sequences_of}
-use Rattle.hir_core.proofs.SequenceLemmas.{sequence_short}
+use Rattle.hir_core.proofs.ForCallers.{sequence_short}
 use Rattle.thompson_nfa.specs.RangeTries.{IsIn, IsWith, AreRanges}
 use Rattle.thompson_nfa.specs.ClassTries.{turned_round, HasTurned, GainsTurned, IsTurnedSpelling, AreTurnedSpellings}
 use Rattle.thompson_nfa.proofs.TrieLemmas.{in_append, in_left, in_right}

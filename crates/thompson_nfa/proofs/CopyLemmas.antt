@@ -1,16 +1,17 @@
 -- Fragments of copies and of rounds that may be passed by: the rounds so far.
-use Rattle.std.proofs.Common.{◌≡◌, ℕ, zero, suc, ◌+◌, ◌-◌, ◌*◌, ◌<◌, ◌≤◌, max, Bool, length, Option, Some, None, refl, sym, ap, ◌∙◌, subst, arith}
+use Rattle.std.proofs.Common.{◌≡◌, ℕ, zero, suc, ◌+◌, ◌-◌, ◌*◌, ◌<◌, ◌≤◌, max, Bool, length, Option, Some, None, refl, sym, ap, ◌∙◌, subst, arith, ◌||◌}
 use Rattle.search_types.specs.Groups.{Groups}
 use Rattle.hir_core.specs.Tree.{Tree, empty, repetition}
 use Rattle.nfa_core.specs.BuilderStates.{Assembly, empty_part}
 use Rattle.nfa_core.specs.declared.build_error.BuildError.{BuildError}
-use Rattle.thompson_nfa.specs.Compiled.{Makes, Does, DoesFirst, DoesCopies, DoesOption, raised}
+use Rattle.thompson_nfa.specs.Compiled.{Makes, Does, DoesFirst, DoesCopies, DoesOption, raised, looks_in, uses}
 use Rattle.thompson_nfa.specs.Added.{Added, Led}
 use Rattle.thompson_nfa.specs.NotedGroups.{noted}
 use Rattle.thompson_nfa.specs.Refusals.{Refuses, Stays}
 use Rattle.thompson_nfa.specs.Room.{room}
 use Rattle.thompson_nfa.specs.declared.how.How.{How}
 use Rattle.thompson_nfa.specs.declared.which_captures.WhichCaptures.{WhichCaptures}
+use Rattle.thompson_nfa.proofs.LookLemmas.{quiet_led}
 use Rattle.thompson_nfa.proofs.RoundLemmas.{one_more, joins_copy, same_stopped}
 use Rattle.thompson_nfa.proofs.JoinLemmas.{join_made, join_first, join_second, join_does, does_first, does_all, does_same}
 use Rattle.thompson_nfa.proofs.NotedLemmas.{noted_twice}
@@ -104,6 +105,9 @@ copies_loop a b c d s1 e1 n1 s2 e2 n2 low greedy x first second led some copies 
       denotes = λ table target fin.
           lead.before table s2 (join_first a b c d s1 e1 n1 s2 e2 n2 first second led target table fin) target
           (reads_as a b table s2 target (repetition 1 None greedy x) first.fragment.grows (does.denotes table target (join_second a b c d s1 e1 n1 s2 e2 n2 first second led target table fin)));
+      looks = λ l. quiet_led led l ∙ does.looks l
+          ∙ ap (λ (r : Bool). looks_in b.parts l || uses r x l) (ap (λ (z : Assembly). z.reverse) first.fragment.grows.settings)
+          ∙ lead.looks l;
     })
 
 -- rounds that may be passed by, of which i are done

@@ -1,12 +1,12 @@
 -- What single states and joined states do for trees, from what is meant of the trees.
-use Rattle.std.proofs.Common.{◌≡◌, ℕ, Bool, true, false, List, [], ◌∷◌, if◌then◌else◌, inl, inr, refl, sym, ap, ◌∙◌, subst}
+use Rattle.std.proofs.Common.{◌≡◌, ℕ, Bool, true, false, List, [], ◌∷◌, if◌then◌else◌, inl, inr, refl, sym, ap, ◌∙◌, subst, ◌||◌}
 use Rattle.std.specs.List.{flat_map}
 use Rattle.look_core.specs.declared.look.Look.{Look}
 use Rattle.hir_core.specs.Tree.{Tree, empty, byte_class, look, nothing, never}
 use Rattle.hir_core.specs.Means.{Looks, Means}
 use Rattle.hir_core.specs.PreferredEnds.{preferred_ends, Has as HasEnd}
 use Rattle.hir_core.specs.Facts.{LoopsRead}
-use Rattle.hir_core.proofs.PreferredEndsLemmas.{preferred_ends_sound, preferred_ends_complete}
+use Rattle.hir_core.proofs.ForCallers.{preferred_ends_sound, preferred_ends_complete}
 use Rattle.nfa_core.specs.BuilderStates.{empty_part, range_part, sparse_part, look_part, capture_start_part, capture_end_part, fail_part}
 use Rattle.nfa_core.specs.Ways.{Text, reads, is_passed}
 use Rattle.nfa_core.specs.Drafted.{Table}
@@ -15,7 +15,8 @@ use Rattle.thompson_nfa.proofs.WayLemmas.{Goes, byte_ends, to_one, goes_empty, g
 use Rattle.thompson_nfa.proofs.ReachLemmas.{reaches_here, reaches_like, reaches_join, reaches_leaf, reaches_nowhere}
 use Rattle.thompson_nfa.proofs.OrderLemmas.{orders_here, orders_like, orders_join, orders_leaf, orders_nowhere}
 use Rattle.thompson_nfa.proofs.HaltLemmas.{halts_here, halts_like, halts_join, halts_leaf, halts_nowhere}
-use Rattle.thompson_nfa.proofs.MeantLemmas.{turned, meant_map, empty_meant, meant_empty, meant_never, look_meant, meant_look, class_ends_up, class_meant, meant_class}
+use Rattle.thompson_nfa.specs.Compiled.{turned, uses}
+use Rattle.thompson_nfa.proofs.MeantLemmas.{meant_map, empty_meant, meant_empty, meant_never, look_meant, meant_look, class_ends_up, class_meant, meant_class}
 
 goes_up : (back : Bool) (t : Text) (T : Table) (s : ℕ) (to : ℕ → List (ℕ × ℕ)) → back ≡ false → Goes back t T s to → Goes false t T s to
 goes_up false t T s to e g = g
@@ -27,6 +28,7 @@ pub record Joins (back : Bool) (x1 x2 y : Tree) : Type 0 where
   pub joined : (t : Text) (i j : ℕ) → (k : ℕ) × IsMeant back t x1 i k × IsMeant back t x2 k j → IsMeant back t y i j
   pub reading : LoopsRead y → LoopsRead x1 × LoopsRead x2
   pub ends : back ≡ false → (looks : Looks) (h : List ℕ) (i : ℕ) → flat_map (preferred_ends looks h x2) (preferred_ends looks h x1 i) ≡ preferred_ends looks h y i
+  pub met : (l : Look) → uses back y l ≡ (uses back x1 l || uses back x2 l)
 
 module _ (back : Bool) (T : Table) where
   pub denotes_join : (s m e : ℕ) (x1 x2 y : Tree) → Joins back x1 x2 y → Denotes back T s m x1 → Denotes back T m e x2 → Denotes back T s e y

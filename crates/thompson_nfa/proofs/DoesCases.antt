@@ -1,15 +1,16 @@
 -- What alternations do: branches that a union leads to, each with its end led on to one common end.
-use Rattle.std.proofs.Common.{◌≡◌, ◌≢◌, ℕ, ◌<◌, ◌≤◌, true, List, [], ◌∷◌, ◌++◌, length, sym, ap, ◌∙◌, arith}
+use Rattle.std.proofs.Common.{◌≡◌, ◌≢◌, ℕ, ◌<◌, ◌≤◌, true, List, [], ◌∷◌, ◌++◌, length, sym, ap, ◌∙◌, arith, Bool, ◌||◌}
 use Rattle.search_types.specs.Groups.{Groups}
 use Rattle.hir_core.specs.Tree.{Tree, alternation, char_class}
 use Rattle.hir_core.specs.Facts.{is_ascending}
-use Rattle.hir_core.specs.BySequences.{by_sequences}
+use Rattle.hir_core.specs.BySequences.{by_sequences, sequences_of}
 use Rattle.nfa_core.specs.BuilderStates.{Part, Assembly, part_at, patched, empty_part, union_part}
 use Rattle.nfa_core.specs.Drafted.{Table}
 use Rattle.thompson_nfa.specs.Added.{Added, Led}
-use Rattle.thompson_nfa.specs.Compiled.{Grows, Finishes, IsFragment, Does}
+use Rattle.thompson_nfa.specs.Compiled.{Grows, Finishes, IsFragment, Does, looks_in}
+use Rattle.thompson_nfa.proofs.LookLemmas.{AddsLooks, uses_sequences}
 use Rattle.thompson_nfa.proofs.CaseLemmas.{AllDenote, none_denote, more_denote, all_denote_push, denotes_alternation}
-use Rattle.hir_core.proofs.SequenceTreeLemmas.{sequences_read, class_ends}
+use Rattle.hir_core.proofs.ForCallers.{sequences_read, class_ends}
 use Rattle.thompson_nfa.proofs.SameLemmas.{IsSame, denotes_same}
 use Rattle.thompson_nfa.proofs.DoesLemmas.{way_of_grown, turned_to, ends_at}
 
@@ -66,16 +67,28 @@ first_branches {b0} {b1} {b2} {b3} {b4} {b5} {b6} {b7} {b8} {u} {m} {s} {e} {s'}
 
 -- all branches are there: the union leads to their starts, and the common end is led on
 pub does_alternation : {b0 bk : Assembly} {u m : ℕ} {qs : List ℕ} {xs : List Tree} → length b0.parts ≤ u → u < length bk.parts → u ≢ m → part_at bk.parts u ≡ union_part qs →
-    part_at bk.parts m ≡ empty_part 0 → DoBranches b0 bk u m qs xs → Does b0 bk u m (alternation xs)
-does_alternation {b0} {bk} {u} {m} {qs} {xs} un ut apart is_union is_end so_far = record {
+    part_at bk.parts m ≡ empty_part 0 → DoBranches b0 bk u m qs xs → AddsLooks b0.reverse b0 bk (alternation xs) →
+    Does b0 bk u m (alternation xs)
+does_alternation {b0} {bk} {u} {m} {qs} {xs} un ut apart is_union is_end so_far looks = record {
   denotes = λ T target fin.
       let agrees : Agrees b0 bk u m T = λ q low high not_u not_m. fin.states q low high not_m in
       ends_at b0.reverse T u m target (alternation xs) (denotes_alternation b0.reverse T u m qs xs (fin.states u un ut apart ∙ is_union) (so_far.all T agrees))
       (fin.led ∙ ap (patched target) is_end);
+  looks = looks;
 }
 
 -- a class of scalars, as the alternation of its sequences
 pub does_scalars : {b0 b1 : Assembly} {s e : ℕ} {ranges : List (ℕ × ℕ)} → is_ascending ranges ≡ true → Does b0 b1 s e (by_sequences ranges) → Does b0 b1 s e (char_class ranges)
 does_scalars {b0} {b1} {s} {e} {ranges} ascending d =
-    let same : IsSame (by_sequences ranges) (char_class ranges) = record { reading = λ _. sequences_read ranges; ends = λ looks h i. sym (class_ends looks h ranges i ascending) } in
-    record { denotes = λ T target fin. denotes_same b0.reverse T s target (by_sequences ranges) (char_class ranges) same (d.denotes T target fin) }
+    let same : IsSame (by_sequences ranges) (char_class ranges) =
+    record {
+      reading = λ _. sequences_read ranges;
+      ends = λ looks h i. sym (class_ends looks h ranges i ascending);
+      met =
+          λ back l. uses_sequences back l (sequences_of ranges);
+    } in
+    record {
+      denotes =
+          λ T target fin. denotes_same b0.reverse T s target (by_sequences ranges) (char_class ranges) same (d.denotes T target fin);
+      looks = λ l. d.looks l ∙ ap (λ (k : Bool). looks_in b0.parts l || k) (same.met b0.reverse l);
+    }

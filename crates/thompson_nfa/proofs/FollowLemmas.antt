@@ -7,8 +7,8 @@ use Rattle.hir_core.specs.BySequences.{sequence_tree, sequences_of, by_sequences
 use Rattle.hir_core.specs.Facts.{count, sequence_count, rises_from, is_ascending}
 use Rattle.hir_core.specs.Sequences.{byte_ranges, pieces, utf8_sequences}
 use Rattle.hir_core.specs.Tree.{alternation, char_class}
-use Rattle.hir_core.proofs.SequenceLemmas.{IsPiece, Rises, rises, sequence_short}
-use Rattle.hir_core.proofs.SequenceTreeLemmas.{sequences_counted}
+use Rattle.hir_core.specs.Pieces.{IsPiece, Rises}
+use Rattle.hir_core.proofs.ForCallers.{rises, sequence_short, sequences_counted}
 use Rattle.nfa_core.specs.BuilderStates.{Assembly}
 use Rattle.nfa_core.specs.declared.transition.Transition.{Transition}
 use Rattle.nfa_core.specs.declared.build_error.BuildError.{BuildError}
@@ -19,6 +19,7 @@ use Rattle.thompson_nfa.specs.Shared.{read_tree}
 use Rattle.thompson_nfa.specs.SlotTables.{SlotTable}
 use Rattle.thompson_nfa.specs.Utf8Stacks.{Stage, path_of, StagesRise, AreBytes, ComesAfter, Keeps}
 use Rattle.thompson_nfa.specs.Utf8Compiles.{ReadsAs, last_of, IsCompiling, IsOpen, CanFollow}
+use Rattle.thompson_nfa.proofs.LookLemmas.{uses_reads, uses_sequences}
 use Rattle.thompson_nfa.proofs.DoesCases.{does_scalars}
 use Rattle.thompson_nfa.proofs.JoinLemmas.{does_same}
 use Rattle.thompson_nfa.proofs.PathLemmas.{as_same, last_pushed}
@@ -260,7 +261,9 @@ module _ (a f : Assembly) (ranges : List (ℕ × ℕ)) where
   class_does s t up forward d =
       let qs = sequences_of ranges in
       let P : Bool → Type 0 = λ back. Does a f s t (alternation (map (read_tree back) qs)) in
-      does_scalars up (does_same a f s t (alternation (map (read_tree false) qs)) (by_sequences ranges) (as_same (alternation (map (read_tree false) qs)) (by_sequences ranges) (all_spelt qs)) (subst P forward d))
+      does_scalars up (does_same a f s t (alternation (map (read_tree false) qs)) (by_sequences ranges)
+      (as_same (alternation (map (read_tree false) qs)) (by_sequences ranges) (all_spelt qs)
+      (λ back l. uses_reads back false l qs ∙ sym (uses_sequences back l qs))) (subst P forward d))
 
   pub class_refused : (err : BuildError) → Quits a f (2 + 4 * length (sequences_of ranges)) err → Quits a f (count (char_class ranges)) err
   class_refused err r = let same = whole_count in quits_capped (count (char_class ranges)) r (fits_char_class (2 + 4 * length (sequences_of ranges)) ranges (omega (arith, same)))

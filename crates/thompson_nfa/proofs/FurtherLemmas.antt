@@ -1,5 +1,5 @@
 -- Patterns one after the other, with the state that is led to their starts.
-use Rattle.std.proofs.Common.{◌≡◌, ◌≢◌, ℕ, suc, ◌+◌, ◌<◌, ◌≤◌, Bool, true, List, [], ◌∷◌, ◌++◌, length, None, refl, sym, ap, ◌∙◌, subst, arith, ⊎_elim, length-append, append-nil}
+use Rattle.std.proofs.Common.{◌≡◌, ◌≢◌, ℕ, suc, ◌+◌, ◌<◌, ◌≤◌, Bool, true, List, [], ◌∷◌, ◌++◌, length, None, refl, sym, ap, ◌∙◌, subst, arith, ⊎_elim, length-append, append-nil, ◌||◌, ap₂, false}
 use Rattle.std.specs.Prelude.{All}
 use Rattle.std.proofs.lemmas.Bool.{cases_lt, cases_eq}
 use Rattle.std.proofs.lemmas.List.{append_assoc}
@@ -16,6 +16,10 @@ use Rattle.thompson_nfa.specs.Compiled.{IsTame}
 use Rattle.thompson_nfa.specs.NotedGroups.{noted, noted_from}
 use Rattle.thompson_nfa.specs.Patterns.{Holds, Stands, HasPatterns, HasAll, room_for}
 use Rattle.thompson_nfa.specs.declared.which_captures.WhichCaptures.{WhichCaptures}
+use Rattle.look_core.specs.declared.look.Look.{Look}
+use Rattle.thompson_nfa.specs.Compiled.{is_look, looks_in, uses, any_uses}
+use Rattle.thompson_nfa.proofs.LookLemmas.{quiet_led, quiet_added, or_none, or_grouped}
+use Rattle.thompson_nfa.proofs.GrowLemmas.{unmatched}
 use Rattle.thompson_nfa.proofs.PatternLemmas.{no_match_is}
 
 -- ---- lists of patterns, one behind the other
@@ -41,6 +45,12 @@ pub room_joined : (shrink : Bool) (xs ys : List Tree) → room_for shrink (xs ++
 room_joined shrink [] ys = omega arith
 room_joined shrink (x ∷ xs) ys = let e = room_joined shrink xs ys in omega arith
 
+any_joined : (back : Bool) (xs ys : List Tree) (l : Look) → any_uses back (xs ++ ys) l ≡ (any_uses back xs l || any_uses back ys l)
+any_joined back [] ys l = refl
+any_joined back (x ∷ xs) ys l =
+    ap (λ (k : Bool). uses back x l || k) (any_joined back xs ys l)
+    ∙ sym (or_grouped (uses back x l) (any_uses back xs l) (any_uses back ys l))
+
 -- ---- none, and one more state
 
 pub patterns_none : (which : WhichCaptures) (hole : ℕ) (b : Assembly) → HasPatterns which hole b b [] [] 0 0
@@ -60,6 +70,7 @@ patterns_none which hole b = record {
   known = λ q low high ne. absurd (omega arith);
   numbered = λ q p low high ne found. absurd (omega arith);
   one_match = λ q r p low high ne l h n f g. absurd (omega arith);
+  looks = λ l. sym (or_none (looks_in b.parts l));
   states = omega arith;
   bytes = omega arith;
   last = λ le. le;
@@ -89,13 +100,14 @@ hole_moved which a b ss xs n spare hole out h =
       one_match = λ q r p l1 h1 n1 l2 h2 n2. h.one_match q r p l1 h1 (λ e. omega arith) l2 h2 (λ e. omega arith);
       states = h.states;
       bytes = h.bytes;
+      looks = h.looks;
       last = h.last;
     }
 
 -- a state is added, which is the hole from now on
 pub patterns_added : (which : WhichCaptures) (a b c : Assembly) (ss : List ℕ) (xs : List Tree) (n spare more id : ℕ) (part : Part) → HasAll which a b ss xs n spare → Added b c id part b.groups →
-    more + part_bytes part ≤ spare + 4096 → HasPatterns which id a c ss xs (n + 1) more
-patterns_added which a b c ss xs n spare more id part h x le =
+    more + part_bytes part ≤ spare + 4096 → ((l : Look) → is_look l part ≡ false) → HasPatterns which id a c ss xs (n + 1) more
+patterns_added which a b c ss xs n spare more id part h x le no_look =
     let longer = h.longer in let is = x.is in let size = x.size in
     let there : (table : Table) → Holds id (length a.parts) c.parts table → Holds (length b.parts) (length a.parts) b.parts table =
     λ table hold q low high ne. hold q low (omega arith) (λ e. omega arith) ∙ x.grows.same q high in
@@ -124,6 +136,7 @@ patterns_added which a b c ss xs n spare more id part h x le =
           h.one_match q r p l1 i (λ e. omega arith) l2 j (λ e. omega arith) (sym (x.grows.same q i) ∙ f1) (sym (x.grows.same r j) ∙ f2);
       states = omega (arith, h.states, size);
       bytes = omega (arith, h.bytes, x.bytes, size, le);
+      looks = λ l. quiet_added x no_look l ∙ h.looks l;
       last = λ l. x.numbered;
     }
 
@@ -159,16 +172,20 @@ patterns_led which a b c ss xs n spare more hole to h x le =
       one_match = λ q r p l1 h1 n1 l2 h2 n2 f1 f2. h.one_match q r p l1 (omega arith) n1 l2 (omega arith) n2 (sym (x.same q n1) ∙ f1) (sym (x.same r n2) ∙ f2);
       states = omega (arith, h.states, size);
       bytes = omega (arith, h.bytes, x.bytes, size, le);
+      looks = λ l. quiet_led x l ∙ h.looks l;
       last = λ l. let k = h.last l in omega arith;
     }
 
 -- the hole is a state like others
 pub hole_closed : (which : WhichCaptures) (a b : Assembly) (ss : List ℕ) (xs : List Tree) (n spare hole : ℕ) → HasPatterns which hole a b ss xs n spare → length a.parts ≤ hole →
-    ((table : Table) → table hole ≡ part_at b.parts hole → stands_for (table hole) ≡ None) → IsTame b (part_at b.parts hole) → HasAll which a b ss xs n spare
+    ((table : Table) → table hole ≡ part_at b.parts hole → stands_for (table hole) ≡ None) → IsTame true b (part_at b.parts hole) →
+    HasAll which a b ss xs n spare
 hole_closed which a b ss xs n spare hole h above none tame =
     let there : (table : Table) → Holds (length b.parts) (length a.parts) b.parts table → Holds hole (length a.parts) b.parts table =
     λ table hold q low high ne. hold q low high (λ e. omega arith) in
-    let other : (q p : ℕ) → part_at b.parts q ≡ match_part p → q ≢ hole = λ q p found e. no_match_is (part_at b.parts hole) p tame.no_match (ap (part_at b.parts) (sym e) ∙ found) in
+    let other : (q p : ℕ) → part_at b.parts q ≡ match_part p → q ≢ hole =
+    λ q p found e. no_match_is (part_at b.parts hole) p (unmatched true (part_at b.parts hole) tame.not_barred)
+    (ap (part_at b.parts) (sym e) ∙ found) in
     let N : ℕ → Type 0 = λ q. All (λ r. r < length b.parts) (names_of (part_at b.parts q)) in
     record {
       settings = h.settings;
@@ -192,6 +209,7 @@ hole_closed which a b ss xs n spare hole h above none tame =
       one_match = λ q r p l1 h1 n1 l2 h2 n2 f1 f2. h.one_match q r p l1 h1 (other q p f1) l2 h2 (other r p f2) f1 f2;
       states = h.states;
       bytes = h.bytes;
+      looks = h.looks;
       last = h.last;
     }
 
@@ -269,6 +287,13 @@ module _ (which : WhichCaptures) (hole : ℕ) (a b c : Assembly) (ss ts : List �
       (cases_lt r (length b.parts)))
       (cases_lt q (length b.parts))
 
+  looks_both : (l : Look) → looks_in c.parts l ≡ (looks_in a.parts l || any_uses a.reverse (xs ++ ys) l)
+  looks_both l =
+      let turn : b.reverse ≡ a.reverse = ap (λ (z : Assembly). z.reverse) first.settings in
+      second.looks l ∙ ap₂ (λ (p q : Bool). p || q) (first.looks l) (ap (λ (r : Bool). any_uses r ys l) turn)
+      ∙ or_grouped (looks_in a.parts l) (any_uses a.reverse xs l) (any_uses a.reverse ys l)
+      ∙ ap (λ (k : Bool). looks_in a.parts l || k) (sym (any_joined a.reverse xs ys l))
+
   pub patterns_joined : HasPatterns which hole a c (ss ++ ts) (xs ++ ys) (n + m) (s1 + s2)
   patterns_joined =
       let longer = first.longer in let longer_2 = second.longer in
@@ -290,5 +315,6 @@ module _ (which : WhichCaptures) (hole : ℕ) (a b c : Assembly) (ss ts : List �
         one_match = matches_once;
         states = omega (arith, first.states, second.states);
         bytes = omega (arith, first.bytes, second.bytes);
+        looks = looks_both;
         last = λ le. second.last (first.last le);
       }

@@ -1,12 +1,12 @@
 -- How a builder grows by several steps, and that its new states stay tame.
-use Rattle.std.proofs.Common.{◌≡◌, ℕ, zero, suc, ◌<◌, ◌≤◌, true, [], ◌∷◌, length, refl, sym, ap, ◌∙◌, subst, arith, ⊎_elim}
+use Rattle.std.proofs.Common.{◌≡◌, ℕ, zero, suc, ◌<◌, ◌≤◌, true, [], ◌∷◌, length, refl, sym, ap, ◌∙◌, subst, arith, ⊎_elim, Bool, false}
 use Rattle.std.specs.Prelude.{All}
 use Rattle.std.proofs.lemmas.Bool.{cases_lt, cases_eq}
 use Rattle.std.proofs.lemmas.List.Elements.{All-push, All-weaker}
 use Rattle.search_types.specs.Groups.{Groups}
 use Rattle.nfa_core.specs.BuilderStates.{Part, Assembly, part_at, patched, empty_part, range_part, sparse_part, look_part, capture_start_part, capture_end_part, union_part, union_reverse_part, fail_part, match_part}
 use Rattle.nfa_core.specs.CanBuild.{names_of, is_known}
-use Rattle.thompson_nfa.specs.Compiled.{Grows, IsTame, AllTame, is_match_part, IsReady}
+use Rattle.thompson_nfa.specs.Compiled.{Grows, IsTame, AllTame, is_match_part, is_barred, IsReady}
 use Rattle.thompson_nfa.specs.Added.{Added, Led}
 use Rattle.thompson_nfa.specs.declared.which_captures.WhichCaptures.{WhichCaptures}
 
@@ -36,11 +36,12 @@ grows_led {a} {b} {c} {from} {to} x l new =
       known = λ part k. ap (λ gs. is_known gs part) (sym groups) ∙ x.known part k;
     }
 
-tame_wider : (b c : Assembly) (part : Part) → length b.parts ≤ length c.parts → ((p : Part) → is_known b.groups p ≡ true → is_known c.groups p ≡ true) → IsTame b part → IsTame c part
+tame_wider : {plain : Bool} (b c : Assembly) (part : Part) → length b.parts ≤ length c.parts →
+    ((p : Part) → is_known b.groups p ≡ true → is_known c.groups p ≡ true) → IsTame plain b part → IsTame plain c part
 tame_wider b c part longer known tame = record {
   named = All-weaker (λ q. q < length b.parts) (λ q. q < length c.parts) (λ q l. omega arith) (names_of part) tame.named;
   known = known part tame.known;
-  no_match = tame.no_match;
+  not_barred = tame.not_barred;
 }
 
 one_named : (n to : ℕ) → to < n → All (λ q. q < n) (to ∷ [])
@@ -71,6 +72,46 @@ match_patched to (union_reverse_part names) = refl
 match_patched to fail_part = refl
 match_patched to (match_part pattern) = refl
 
+barred_patched : (plain : Bool) (to : ℕ) (part : Part) → is_barred plain (patched to part) ≡ is_barred plain part
+barred_patched plain to (empty_part next) = refl
+barred_patched plain to (range_part low high next) = refl
+barred_patched plain to (sparse_part ranges) = refl
+barred_patched plain to (look_part look next) = refl
+barred_patched plain to (capture_start_part pattern group next) = refl
+barred_patched plain to (capture_end_part pattern group next) = refl
+barred_patched plain to (union_part names) = refl
+barred_patched plain to (union_reverse_part names) = refl
+barred_patched plain to fail_part = refl
+barred_patched plain to (match_part pattern) = refl
+
+-- a state that isn't barred is no match; plain ones are fit anywhere
+pub unmatched : (plain : Bool) (part : Part) → is_barred plain part ≡ false → is_match_part part ≡ false
+unmatched plain (empty_part next) e = refl
+unmatched plain (range_part low high next) e = refl
+unmatched plain (sparse_part ranges) e = refl
+unmatched plain (look_part look next) e = refl
+unmatched plain (capture_start_part pattern group next) e = refl
+unmatched plain (capture_end_part pattern group next) e = refl
+unmatched plain (union_part names) e = refl
+unmatched plain (union_reverse_part names) e = refl
+unmatched plain fail_part e = refl
+unmatched plain (match_part pattern) e = e
+
+less_barred : (plain : Bool) (part : Part) → is_barred plain part ≡ false → is_barred false part ≡ false
+less_barred plain (empty_part next) e = refl
+less_barred plain (range_part low high next) e = refl
+less_barred plain (sparse_part ranges) e = refl
+less_barred plain (look_part look next) e = refl
+less_barred plain (capture_start_part pattern group next) e = refl
+less_barred plain (capture_end_part pattern group next) e = refl
+less_barred plain (union_part names) e = refl
+less_barred plain (union_reverse_part names) e = refl
+less_barred plain fail_part e = refl
+less_barred plain (match_part pattern) e = e
+
+pub tame_anyhow : {plain : Bool} (b : Assembly) (part : Part) → IsTame plain b part → IsTame false b part
+tame_anyhow {plain} b part tame = record { named = tame.named; known = tame.known; not_barred = less_barred plain part tame.not_barred }
+
 pub known_patched : (b : Assembly) (to : ℕ) (part : Part) → is_known b.groups (patched to part) ≡ is_known b.groups part
 known_patched b to (empty_part next) = refl
 known_patched b to (range_part low high next) = refl
@@ -83,50 +124,53 @@ known_patched b to (union_reverse_part names) = refl
 known_patched b to fail_part = refl
 known_patched b to (match_part pattern) = refl
 
-tame_patched : (b : Assembly) (to : ℕ) (part : Part) → to < length b.parts → IsTame b part → IsTame b (patched to part)
-tame_patched b to part l tame = record {
+tame_patched : {plain : Bool} (b : Assembly) (to : ℕ) (part : Part) → to < length b.parts → IsTame plain b part →
+    IsTame plain b (patched to part)
+tame_patched {plain} b to part l tame = record {
   named = names_patched (length b.parts) to part l tame.named;
   known = known_patched b to part ∙ tame.known;
-  no_match = match_patched to part ∙ tame.no_match;
+  not_barred = barred_patched plain to part ∙ tame.not_barred;
 }
 
 -- a compile so far: the builder grew, and its new states are tame
-pub record Partly (old mid : Assembly) : Type 0 where
+pub record Partly (plain : Bool) (old mid : Assembly) : Type 0 where
   pub grows : Grows old mid
-  pub tame : AllTame (length old.parts) mid
+  pub tame : AllTame plain (length old.parts) mid
 
-pub partly_begun : (b : Assembly) → Partly b b
+pub partly_begun : {plain : Bool} (b : Assembly) → Partly plain b b
 partly_begun b = record { grows = grows_refl b; tame = λ q low high. absurd (omega arith) }
 
 -- the states of both halves are tame
-pub partly_joined : {a b c : Assembly} → Partly a b → Partly b c → Partly a c
-partly_joined {a} {b} {c} x y = record {
+pub partly_joined : {plain : Bool} {a b c : Assembly} → Partly plain a b → Partly plain b c → Partly plain a c
+partly_joined {plain} {a} {b} {c} x y = record {
   grows = grows_trans x.grows y.grows;
   tame = λ q low high. ⊎_elim
       (λ (l : q < length b.parts).
-      let T : Part → Type 0 = λ part. IsTame c part in
+      let T : Part → Type 0 = λ part. IsTame plain c part in
       subst T (sym (y.grows.same q l)) (tame_wider b c (part_at b.parts q) y.grows.longer y.grows.known (x.tame q low l)))
       (λ (l : length b.parts ≤ q). y.tame q l high)
       (cases_lt q (length b.parts));
 }
 
-pub partly_added : {a b : Assembly} {id : ℕ} {part : Part} {groups : Groups} → Added a b id part groups → IsTame b part → Partly a b
-partly_added {a} {b} {id} {part} {groups} x tame =
+pub partly_added : {plain : Bool} {a b : Assembly} {id : ℕ} {part : Part} {groups : Groups} → Added a b id part groups →
+    IsTame plain b part → Partly plain a b
+partly_added {plain} {a} {b} {id} {part} {groups} x tame =
     let m = x.size in let n = x.is in
     record {
       grows = x.grows;
       tame = λ q low high.
           let e : id ≡ q = omega arith in
-          let T : Part → Type 0 = λ one. IsTame b one in
+          let T : Part → Type 0 = λ one. IsTame plain b one in
           subst T (sym x.here ∙ ap (λ k. part_at b.parts k) e) tame;
     }
 
-pub partly_led : {a b c : Assembly} {from to : ℕ} → Partly a b → Led b c from to → length a.parts ≤ from → to < length b.parts → Partly a c
-partly_led {a} {b} {c} {from} {to} x l new there =
+pub partly_led : {plain : Bool} {a b c : Assembly} {from to : ℕ} → Partly plain a b → Led b c from to → length a.parts ≤ from →
+    to < length b.parts → Partly plain a c
+partly_led {plain} {a} {b} {c} {from} {to} x l new there =
     let m = l.size in
     let groups : b.groups ≡ c.groups = sym (ap (λ (z : Assembly). z.groups) l.settings) in
-    let T : Part → Type 0 = λ part. IsTame c part in
-    let kept : (q : ℕ) → length a.parts ≤ q → q < length b.parts → IsTame c (part_at b.parts q) =
+    let T : Part → Type 0 = λ part. IsTame plain c part in
+    let kept : (q : ℕ) → length a.parts ≤ q → q < length b.parts → IsTame plain c (part_at b.parts q) =
     λ q low high. tame_wider b c (part_at b.parts q) (omega arith) (λ p k. ap (λ gs. is_known gs p) (sym groups) ∙ k) (x.tame q low high) in
     record {
       grows = grows_led x.grows l new;

@@ -1,10 +1,11 @@
 -- Two fragments, one after the other.
-use Rattle.std.proofs.Common.{◌≡◌, ℕ, ◌+◌, Bool, length, sym, ap, ◌∙◌, subst, arith}
+use Rattle.std.proofs.Common.{◌≡◌, ℕ, ◌+◌, Bool, length, sym, ap, ◌∙◌, subst, arith, ◌||◌}
 use Rattle.nfa_core.specs.BuilderStates.{Assembly, patched, is_sparse}
 use Rattle.nfa_core.specs.Drafted.{Table}
 use Rattle.hir_core.specs.Tree.{Tree, empty}
 use Rattle.thompson_nfa.specs.Denotes.{Denotes}
-use Rattle.thompson_nfa.specs.Compiled.{Finished, AllComeOut, Makes, Does, DoesFirst}
+use Rattle.thompson_nfa.specs.Compiled.{Finished, AllComeOut, Makes, Does, DoesFirst, looks_in, uses}
+use Rattle.thompson_nfa.proofs.LookLemmas.{or_none, or_grouped, quiet_led}
 use Rattle.thompson_nfa.proofs.DenoteLemmas.{Joins, denotes_join, denotes_empty_here}
 use Rattle.thompson_nfa.proofs.SameLemmas.{IsSame, denotes_same}
 use Rattle.thompson_nfa.specs.Added.{Led}
@@ -49,16 +50,31 @@ module _ (a b c d : Assembly) (s1 e1 n1 s2 e2 n2 : ℕ) (first : Makes a b s1 e1
         let turn : b.reverse ≡ a.reverse = ap (λ (z : Assembly). z.reverse) first.fragment.grows.settings in
         let here : Denotes a.reverse table s2 target x = subst P turn (does.denotes table target (join_second target table fin)) in
         lead.before table s2 (join_first target table fin) last (denotes_join a.reverse table s2 target last x rest owed j here done);
+    looks = λ l.
+        let turn : b.reverse ≡ a.reverse = ap (λ (z : Assembly). z.reverse) first.fragment.grows.settings in
+        ap (λ (k : Bool). k || uses a.reverse rest l)
+        (quiet_led led l ∙ does.looks l ∙ ap (λ (r : Bool). looks_in b.parts l || uses r x l) turn)
+        ∙ or_grouped (looks_in b.parts l) (uses a.reverse x l) (uses a.reverse rest l)
+        ∙ ap (λ (k : Bool). looks_in b.parts l || k) (sym (j.met l)) ∙ lead.looks l;
   }
 
 pub does_first : (a b : Assembly) (s e : ℕ) (x rest owed : Tree) → Joins a.reverse x rest owed → Does a b s e x → DoesFirst a b s e rest owed
-does_first a b s e x rest owed j does = record { before = λ table target fin last done. denotes_join a.reverse table s target last x rest owed j (does.denotes table target fin) done }
+does_first a b s e x rest owed j does = record {
+  before = λ table target fin last done. denotes_join a.reverse table s target last x rest owed j (does.denotes table target fin) done;
+  looks = λ l. ap (λ (k : Bool). k || uses a.reverse rest l) (does.looks l)
+      ∙ or_grouped (looks_in a.parts l) (uses a.reverse x l) (uses a.reverse rest l)
+      ∙ ap (λ (k : Bool). looks_in a.parts l || k) (sym (j.met l));
+}
 
 pub does_all : (a b : Assembly) (s e : ℕ) (rest whole : Tree) → IsSame empty rest → DoesFirst a b s e rest whole → Does a b s e whole
 does_all a b s e rest whole none lead = record {
   denotes = λ table target fin. lead.before table target fin target (denotes_same a.reverse table target target empty rest none (denotes_empty_here a.reverse table target));
+  looks = λ l. sym (or_none (looks_in b.parts l)) ∙ ap (λ (k : Bool). looks_in b.parts l || k) (none.met a.reverse l) ∙ lead.looks l;
 }
 
 -- a tree that is the same to a table
 pub does_same : (a b : Assembly) (s e : ℕ) (x y : Tree) → IsSame x y → Does a b s e x → Does a b s e y
-does_same a b s e x y same does = record { denotes = λ table target fin. denotes_same a.reverse table s target x y same (does.denotes table target fin) }
+does_same a b s e x y same does = record {
+  denotes = λ table target fin. denotes_same a.reverse table s target x y same (does.denotes table target fin);
+  looks = λ l. does.looks l ∙ ap (λ (k : Bool). looks_in a.parts l || k) (same.met a.reverse l);
+}

@@ -44,6 +44,13 @@ pub mod AssembledSpans
 pub mod AssembledOrders
 pub mod AssembledReturns
 pub mod AssembledParts
+pub mod AssembledLooks
+pub mod ApartLemmas
+pub mod AssembledStarts
+pub mod AssembledTries
+pub mod DirectionLemmas
+pub mod CallerLemmas
+pub mod CompileRows
 pub mod AssembledEmpty
 pub mod AssembledCompiled
 pub mod StandLemmas
@@ -89,5 +96,7 @@ pub mod LiteralPartLemmas
 pub mod LiteralStateLemmas
 pub mod LiteralTreeLemmas
 pub mod LiteralTrieLemmas
+mod LookLemmas
 pub mod PieceLemmas
 pub mod FollowLemmas
+pub mod ForCallers

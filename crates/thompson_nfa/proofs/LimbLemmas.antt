@@ -1,5 +1,5 @@
 -- A class that is compiled sequence by sequence: what its states do for the table, and what is read along the path.
-use Rattle.std.proofs.Common.{◌≡◌, ℕ, zero, suc, ◌+◌, ◌*◌, ◌<◌, ◌≤◌, ◌⊎◌, inl, inr, Bool, List, [], ◌∷◌, ◌++◌, map, length, get_or, refl, sym, ap, ◌∙◌, subst, arith, length-append, append_assoc, append-nil, ⊎_elim}
+use Rattle.std.proofs.Common.{◌≡◌, ℕ, zero, suc, ◌+◌, ◌*◌, ◌<◌, ◌≤◌, ◌⊎◌, inl, inr, Bool, List, [], ◌∷◌, ◌++◌, map, length, get_or, refl, sym, ap, ◌∙◌, subst, arith, length-append, append_assoc, append-nil, ⊎_elim, true}
 use Rattle.std.specs.Prelude.{All}
 use Rattle.std.proofs.lemmas.Bool.{cases_lt}
 use Rattle.hir_core.specs.Tree.{Tree, alternation}
@@ -25,15 +25,15 @@ use Rattle.thompson_nfa.proofs.StackLemmas.{rises_ascends, few_bytes}
 
 -- ---- the states that were added
 
-pub has_progress : {old b : Assembly} {end most : ℕ} → HasStates old b end most → Progress old b most 8
+pub has_progress : {old b : Assembly} {end most : ℕ} → HasStates old b end most → Progress true old b most 8
 has_progress h = record { partly = record { grows = h.grows; tame = h.tame }; states = h.states; bytes = h.bytes; numbered = h.numbered }
 
 has_added : (old b c : Assembly) (end most id : ℕ) (trans : List (ℕ × ℕ × ℕ)) → HasStates old b end most → Added b c id (sparse_part trans) b.groups → RisesIn 0 trans →
     All (λ q. q < length c.parts) (names_of (sparse_part trans)) → HasStates old c end (most + 1)
 has_added old b c end most id trans h x up named =
     let few = few_bytes trans up in
-    let tame : IsTame c (sparse_part trans) = record { named = named; known = refl; no_match = refl } in
-    let p : Progress old c (most + 1) 8 = then_added 8 (has_progress h) x tame (omega arith) in
+    let tame : IsTame true c (sparse_part trans) = record { named = named; known = refl; not_barred = refl } in
+    let p : Progress true old c (most + 1) 8 = then_added 8 (has_progress h) x tame (omega arith) in
     let there = h.there in let size = x.size in let is = x.is in
     record {
       end_is = h.end_is;

@@ -1,5 +1,5 @@
 -- The states of a trie's nodes: what the items of a node add.
-use Rattle.std.proofs.Common.{◌≡◌, ◌⊎◌, inl, inr, ℕ, zero, suc, ◌+◌, ◌*◌, ◌<◌, ◌≤◌, Bool, List, [], ◌∷◌, ◌++◌, map, length, take, drop, get_or, None, refl, sym, ap, ◌∙◌, subst, arith, length-append, ⊎_elim}
+use Rattle.std.proofs.Common.{◌≡◌, ◌⊎◌, inl, inr, ℕ, zero, suc, ◌+◌, ◌*◌, ◌<◌, ◌≤◌, Bool, List, [], ◌∷◌, ◌++◌, map, length, take, drop, get_or, None, refl, sym, ap, ◌∙◌, subst, arith, length-append, ⊎_elim, true}
 use Rattle.std.specs.Prelude.{All}
 use Rattle.std.proofs.lemmas.Bool.{cases_lt}
 use Rattle.std.proofs.lemmas.List.{take_more, take_all, length-map, get_or-map}
@@ -76,7 +76,7 @@ HasStates old mid table = (q : ℕ) → length old.parts ≤ q → q < length mi
 
 -- the items so far, each with the state that is the way to it
 pub record ItemsTo (old mid : Assembly) (names : List ℕ) (end : ℕ) (items : List (List Edge)) (ways : List ℕ) : Type 0 where
-  pub partly : Partly old mid
+  pub partly : Partly true old mid
   pub groups : mid.groups ≡ old.groups
   pub ways_long : length ways ≡ length items
   pub states : length mid.parts ≡ length old.parts + chunks_in items
@@ -143,11 +143,11 @@ module _ (old mid : Assembly) (names : List ℕ) (end : ℕ) (items : List (List
     one : chunks_in (items ++ (e ∷ es) ∷ []) ≡ chunks_in items + 1
     one = chunks_append items ((e ∷ es) ∷ [])
 
-    tame : IsTame new part
+    tame : IsTame true new part
     tame = record {
       named = chunk_names names (length new.parts) 0 (e ∷ es) (All-weaker (λ q. q < length old.parts) (λ q. q < length new.parts) (λ q l. omega (arith, added.size, so_far.states)) names names_there) inside;
       known = refl;
-      no_match = refl;
+      not_barred = refl;
     }
 
     older : (table : Table) → HasStates old new table → HasStates old mid table
@@ -224,12 +224,12 @@ module _ (old mid : Assembly) (names : List ℕ) (end : ℕ) (items : List (List
     some_chunk : 1 ≤ chunks_in items
     some_chunk = omega (arith, so_far.ways_long)
 
-    union_tame : IsTame new (union_part ways)
+    union_tame : IsTame true new (union_part ways)
     union_tame = record {
       named = All-weaker (IsWay old mid end) (λ q. q < length new.parts)
           (λ q w. let a = so_far.states in let b = added.size in ⊎_elim (λ (s : q ≡ end). omega arith) (λ (n : (length old.parts ≤ q) × (q < length mid.parts)). let h = n.1 in omega arith) w) ways so_far.there;
       known = refl;
-      no_match = refl;
+      not_barred = refl;
     }
 
     union_older : (table : Table) → HasStates old new table → HasStates old mid table

@@ -8,7 +8,7 @@ use Rattle.hir_core.specs.Facts.{LoopsRead}
 use Rattle.hir_core.specs.Means.{Looks, Means, stands}
 use Rattle.hir_core.specs.PreferredEnds.{preferred_ends, Has as HasEnd}
 use Rattle.hir_core.specs.Tree.{Tree, empty, literal, alternation}
-use Rattle.hir_core.proofs.HasLemmas.{Has-left, Has-right, Has-append, Has-if, Has-then, flat_map_same}
+use Rattle.hir_core.proofs.ForCallers.{Has-left, Has-right, Has-append, Has-if, Has-then, flat_map_same}
 use Rattle.nfa_core.specs.Drafted.{Table}
 use Rattle.nfa_core.specs.Walks.{Has, distinct}
 use Rattle.nfa_core.specs.Ways.{Text}

@@ -1,5 +1,5 @@
 -- A trie of strings: what the nodes that are compiled make.
-use Rattle.std.proofs.Common.{◌≡◌, ℕ, zero, suc, ◌+◌, ◌-◌, ◌*◌, ◌<◌, ◌≤◌, Bool, List, [], ◌∷◌, map, length, drop, get_or, set, None, refl, sym, ap, ◌∙◌, subst, arith, ⊎_elim}
+use Rattle.std.proofs.Common.{◌≡◌, ℕ, zero, suc, ◌+◌, ◌-◌, ◌*◌, ◌<◌, ◌≤◌, Bool, List, [], ◌∷◌, map, length, drop, get_or, set, None, refl, sym, ap, ◌∙◌, subst, arith, ⊎_elim, true}
 use Rattle.std.specs.Prelude.{All}
 use Rattle.std.proofs.lemmas.Bool.{cases_lt, cases_eq}
 use Rattle.std.proofs.lemmas.List.{length-set, get_or-set_same, get_or-set_other, get_or-map, length-map}
@@ -18,6 +18,7 @@ use Rattle.thompson_nfa.specs.LiteralTries.{edges_in, edges_in_all, chunks_in, A
 use Rattle.thompson_nfa.specs.Refusals.{Quits}
 use Rattle.thompson_nfa.specs.declared.literal_groups.Edge.{Edge}
 use Rattle.hir_core.specs.Tree.{Tree, alternation}
+use Rattle.thompson_nfa.proofs.LookLemmas.{adds_none, quiet_plain, uses_literals}
 use Rattle.thompson_nfa.proofs.AheadLemmas.{denotes_then_empty}
 use Rattle.thompson_nfa.proofs.DenoteLemmas.{denotes_empty}
 use Rattle.thompson_nfa.proofs.GrowLemmas.{Partly, partly_joined, partly_added}
@@ -41,7 +42,7 @@ pub record TrieTo (old mid : Assembly) (end : ℕ) (nodes : List (List (List Edg
   pub trie : IsTrie nodes strings
   pub within : k ≤ length nodes
   pub end_is : end ≡ length old.parts
-  pub partly : Partly old mid
+  pub partly : Partly true old mid
   pub groups : mid.groups ≡ old.groups
   pub here : part_at mid.parts end ≡ empty_part 0
   pub longer : length old.parts + 1 ≤ length mid.parts
@@ -196,7 +197,7 @@ module _ (old mid : Assembly) (end : ℕ) (nodes : List (List (List Edge))) (str
   start_there : IsThere old mid start
   start_there = let P : ℕ → Type 0 = IsThere old mid in subst P start_is (all.names_there 0 0 (omega (arith, all.names_long, all.trie.some)))
 
-  progress : Progress old mid (1 + 2 * edges_in_all nodes) 8
+  progress : Progress true old mid (1 + 2 * edges_in_all nodes) 8
   progress = record { partly = all.partly; states = omega (arith, all.states); bytes = all.bytes; numbered = all.numbered }
 
   ends_on : (table : Table) (target : ℕ) → Finished (length old.parts) mid.parts end target table → table end ≡ empty_part target
@@ -221,6 +222,8 @@ module _ (old mid : Assembly) (end : ℕ) (nodes : List (List (List Edge))) (str
         denotes_then_empty old.reverse table start end target (literals old.reverse strings)
         (subst P start_is (subst Q all.trie.root (all.denotes table has 0 (omega arith) (omega (arith, all.trie.some)))))
         (denotes_empty old.reverse table end target (ends_on table target fin));
+    looks = adds_none old.reverse (literals old.reverse strings) old mid (quiet_plain all.partly.grows all.partly.tame)
+        (λ l. uses_literals old.reverse old.reverse l strings);
   }
 
 -- the node whose turn it is, in a list of rows

@@ -6,22 +6,16 @@ use Rattle.std.proofs.lemmas.List.{length-take, get_or-take}
 use Rattle.search_core.specs.Text.{byte_at}
 use Rattle.look_core.specs.declared.look.Look.{Look}
 use Rattle.look_core.specs.Codes.{reversed}
-use Rattle.look_core.proofs.LookRows.{reversed_twice}
+use Rattle.look_core.proofs.ForCallers.{reversed_twice}
 use Rattle.hir_core.specs.Tree.{Tree, empty, byte_class, look, repetition, cat, never, alt}
 use Rattle.hir_core.specs.Means.{Looks, Means, Rounds, AtMost, is_member}
 use Rattle.hir_core.specs.PreferredEnds.{preferred_ends, class_end, Has as HasEnd}
-use Rattle.hir_core.proofs.HasLemmas.{Has-if, Has-then}
-use Rattle.hir_core.proofs.SpanLemmas.{span_forward}
-use Rattle.hir_core.proofs.PreferredEndsLemmas.{preferred_ends_sound, preferred_ends_complete}
+use Rattle.hir_core.proofs.ForCallers.{Has-if, Has-then, span_forward, preferred_ends_sound, preferred_ends_complete}
 use Rattle.nfa_core.specs.Ways.{Text, with_place, reads, is_passed}
 use Rattle.thompson_nfa.specs.Denotes.{IsMeant, seen}
+use Rattle.thompson_nfa.specs.Compiled.{turned}
 use Rattle.thompson_nfa.proofs.WayLemmas.{byte_ends}
 use Rattle.thompson_nfa.proofs.DownLemmas.{down_rounds, rounds_down, down_join, join_down}
-
--- the look that a state has for one of a tree
-abbrev pub turned : Bool → Look → Look
-turned false l = l
-turned true l = reversed l
 
 -- two trees of which one means what the other means
 pub meant_map : (x y : Tree) → ((looks : Looks) (h : List ℕ) (i j : ℕ) → Means looks h x i j → Means looks h y i j) →

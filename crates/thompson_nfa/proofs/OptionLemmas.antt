@@ -1,14 +1,16 @@
 -- Fragments of repetitions with both bounds: the rounds so far, whose exit waits.
-use Rattle.std.proofs.Common.{◌≡◌, ◌≢◌, ℕ, suc, ◌+◌, ◌<◌, ◌≤◌, Bool, false, length, Some, sym, ap, ◌∙◌, subst, arith, ⊎_elim}
+use Rattle.std.proofs.Common.{◌≡◌, ◌≢◌, ℕ, suc, ◌+◌, ◌<◌, ◌≤◌, Bool, false, length, Some, sym, ap, ◌∙◌, subst, arith, ⊎_elim, ◌||◌, refl}
 use Rattle.std.proofs.lemmas.Bool.{cases_lt, cases_eq}
+use Rattle.look_core.specs.declared.look.Look.{Look}
 use Rattle.hir_core.specs.Tree.{Tree, repetition}
 use Rattle.nfa_core.specs.BuilderStates.{Assembly, part_at, patched, is_sparse, empty_part}
 use Rattle.nfa_core.specs.Renaming.{stands_for}
 use Rattle.nfa_core.specs.Drafted.{Table}
 use Rattle.thompson_nfa.specs.Choice.{no_choice}
 use Rattle.thompson_nfa.specs.Denotes.{Denotes, choice}
-use Rattle.thompson_nfa.specs.Compiled.{Finished, AllComeOut, ComesOut, Makes, Does, DoesCopies, DoesOption}
+use Rattle.thompson_nfa.specs.Compiled.{Finished, AllComeOut, ComesOut, Makes, Does, DoesCopies, DoesOption, looks_in, uses}
 use Rattle.thompson_nfa.specs.Added.{Added, Led}
+use Rattle.thompson_nfa.proofs.LookLemmas.{quiet_led, quiet_added, quiet_choice, adds_around, left_used, or_none}
 use Rattle.thompson_nfa.proofs.OutLemmas.{out_here, out_next, out_at, out_on, all_here, all_join}
 use Rattle.thompson_nfa.proofs.ProgressLemmas.{Progress, first_added, first_made, then_made, then_led, made}
 use Rattle.thompson_nfa.proofs.RepeatLemmas.{reads_as, choice_first, empty_then, empty_tame, twice_patched, choice_stands}
@@ -46,10 +48,16 @@ module _ (t0 t1 t2 t3 t4 : Assembly) (greedy : Bool) (u s e n z : ℕ) (added : 
   option_does x does = record {
     before = λ table target fin left rest.
         denotes_optional t0.reverse table u s target z left greedy x (option_u target table fin) (reads_as t0 t1 table s target x added.grows (does.denotes table target (option_body target table fin))) rest;
+    looks = λ l left.
+        let all =
+        adds_around t0 t1 t2 t4 x (quiet_choice greedy added) (ap (λ (z : Assembly). z.reverse) added.grows.settings) does.looks
+        (λ k. quiet_led p4 k ∙ quiet_led p3 k) l in
+        ap (λ (b : Bool). b || uses t0.reverse (repetition 0 (Some left) greedy x) l) all
+        ∙ left_used t0.reverse greedy left x l (looks_in t0.parts l);
   }
 
 pub record Options (old mid : Assembly) (start end z n left min most : ℕ) (greedy : Bool) (x : Tree) : Type 0 where
-  pub progress : Progress old mid n 12
+  pub progress : Progress false old mid n 12
   pub start_new : length old.parts ≤ start
   pub start_there : start < length mid.parts
   pub end_new : length old.parts ≤ end
@@ -63,6 +71,8 @@ pub record Options (old mid : Assembly) (start end z n left min most : ℕ) (gre
       (q : ℕ) → length old.parts ≤ q → q < length mid.parts → q ≢ z → ComesOut table target q
   pub does : (table : Table) (target : ℕ) → FinishesBut (length old.parts) mid.parts end z table → table end ≡ patched target (part_at mid.parts end) →
       Denotes old.reverse table target z (repetition 0 (Some left) greedy x) → Denotes old.reverse table start z (repetition min (Some most) greedy x)
+  pub looks : (l : Look) → (looks_in mid.parts l || uses old.reverse (repetition 0 (Some left) greedy x) l)
+      ≡ (looks_in old.parts l || uses old.reverse (repetition min (Some most) greedy x) l)
 
 -- behind copies that are owed
 module _ (t0 t1 t2 : Assembly) (s e n z left min most : ℕ) (greedy : Bool) (x : Tree) (prefix : Makes t0 t1 s e n) (copies : DoesCopies t0 t1 s e min x) (added : Added t1 t2 z (empty_part 0) t1.groups)
@@ -92,6 +102,12 @@ module _ (t0 t1 t2 : Assembly) (s e n z left min most : ℕ) (greedy : Bool) (x 
         let same : min + 0 ≡ min = omega arith in
         let lead = copies.before 0 (Some left) greedy in
         subst P same (subst Q sum (lead.before table target (owed_prefix target table fin here) z rest));
+    looks = λ l.
+        let same : min + 0 ≡ min = omega arith in
+        ap (λ (b : Bool). b || uses t0.reverse (repetition 0 (Some left) greedy x) l) (quiet_added added (λ k. refl) l)
+        ∙ (copies.before 0 (Some left) greedy).looks l
+        ∙ ap (λ (m : ℕ). looks_in t0.parts l || uses t0.reverse (repetition (min + 0) (Some m) greedy x) l) sum
+        ∙ ap (λ (m : ℕ). looks_in t0.parts l || uses t0.reverse (repetition m (Some most) greedy x) l) same;
   }
 
 -- from a first round on
@@ -118,6 +134,12 @@ module _ (t0 t1 t2 : Assembly) (u e n z left most : ℕ) (greedy : Bool) (x : Tr
         let turn : t1.reverse ≡ t0.reverse = ap (λ (b : Assembly). b.reverse) added.grows.settings in
         let R : Bool → Type 0 = λ back. Denotes back table target z (repetition 0 (Some left) greedy x) in
         subst Q sum (reads_as t0 t1 table u z (repetition 0 (Some (suc left)) greedy x) added.grows (does.before table target (first_option target table fin here) left (subst R (sym turn) rest)));
+    looks = λ l.
+        let turn : t1.reverse ≡ t0.reverse = ap (λ (z : Assembly). z.reverse) added.grows.settings in
+        let F : Bool → Type 0 =
+        λ back. (looks_in t2.parts l || uses back (repetition 0 (Some left) greedy x) l) ≡ (looks_in t1.parts l || uses back x l) in
+        subst F turn (does.looks l left) ∙ ap (λ (b : Bool). b || uses t0.reverse x l) (quiet_added added (λ k. refl) l)
+        ∙ ap (λ (m : ℕ). looks_in t0.parts l || uses t0.reverse (repetition 0 (Some m) greedy x) l) sum;
   }
 
 -- one more round
@@ -168,6 +190,13 @@ module _ (old b c d : Assembly) (start end z n left rest min most u e k : ℕ) (
             os.does table u (more_before target table fin) (more_end target table fin)
             (subst Q (sym one) (reads_as old b table u z (repetition 0 (Some (suc rest)) greedy x) os.progress.partly.grows
             (does.before table target (more_option target table fin here) rest (subst R (sym turn) done))));
+        looks = λ l.
+            let turn : b.reverse ≡ old.reverse = ap (λ (z : Assembly). z.reverse) os.progress.partly.grows.settings in
+            let F : Bool → Type 0 =
+            λ back. (looks_in c.parts l || uses back (repetition 0 (Some rest) greedy x) l) ≡ (looks_in b.parts l || uses back x l) in
+            ap (λ (k : Bool). k || uses old.reverse (repetition 0 (Some rest) greedy x) l) (quiet_led led l)
+            ∙ subst F turn (does.looks l rest)
+            ∙ ap (λ (m : ℕ). looks_in b.parts l || uses old.reverse (repetition 0 (Some m) greedy x) l) (sym one) ∙ os.looks l;
       }
 
 -- no round is left
@@ -200,4 +229,6 @@ module _ (old mid new : Assembly) (start end z n left min most : ℕ) (greedy : 
         denotes_then_empty old.reverse table start z target (repetition min (Some most) greedy x)
         (os.does table z (last_but target table fin) (last_end target table fin) (subst Q (sym none) (denotes_stopped_here old.reverse table z greedy x)))
         (denotes_empty old.reverse table z target (fin.led ∙ ap (patched target) last_z));
+    looks = λ l. quiet_led led l ∙ sym (or_none (looks_in mid.parts l))
+        ∙ ap (λ (m : ℕ). looks_in mid.parts l || uses old.reverse (repetition 0 (Some m) greedy x) l) (sym none) ∙ os.looks l;
   }

@@ -1,9 +1,10 @@
 -- A compiler of sequences: one sequence more, the first one, and the end.
-use Rattle.std.proofs.Common.{◌≡◌, ℕ, zero, suc, ◌+◌, ◌*◌, ◌<◌, ◌≤◌, Bool, List, [], ◌∷◌, ◌++◌, map, length, drop, replicate, get_or, Option, None, refl, sym, ap, ◌∙◌, subst, arith, length-append, append_assoc, ⊎_elim}
+use Rattle.std.proofs.Common.{◌≡◌, ℕ, zero, suc, ◌+◌, ◌*◌, ◌<◌, ◌≤◌, Bool, List, [], ◌∷◌, ◌++◌, map, length, drop, replicate, get_or, Option, None, refl, sym, ap, ◌∙◌, subst, arith, length-append, append_assoc, ⊎_elim, false}
 use Rattle.std.proofs.lemmas.Bool.{cases_eq, eq-eqb}
 use Rattle.std.proofs.lemmas.List.{length-map, map-append, get_or-map, length-replicate}
 use Rattle.hir_core.specs.Sequences.{bytes_of}
 use Rattle.hir_core.specs.declared.utf8_sequences.Utf8Range.{Utf8Range}
+use Rattle.look_core.specs.declared.look.Look.{Look}
 use Rattle.hir_core.specs.Tree.{Tree, never, alt, alternation}
 use Rattle.nfa_core.specs.BuilderStates.{Assembly, patched, is_sparse, sparse_part, empty_part}
 use Rattle.nfa_core.specs.Renaming.{stands_for}
@@ -12,21 +13,22 @@ use Rattle.nfa_core.specs.declared.transition.Transition.{Transition}
 use Rattle.nfa_core.specs.declared.build_error.BuildError.{BuildError}
 use Rattle.nfa_core.specs.declared.build_error.BuildError.TheVariants.{NoMemory}
 use Rattle.thompson_nfa.specs.Added.{Added}
-use Rattle.thompson_nfa.specs.Compiled.{Finished, Finishes, ComesOut, Makes, Does}
+use Rattle.thompson_nfa.specs.Compiled.{Finished, Finishes, ComesOut, Makes, Does, uses}
 use Rattle.thompson_nfa.specs.Denotes.{Denotes}
 use Rattle.thompson_nfa.specs.Refusals.{Quits}
 use Rattle.thompson_nfa.specs.Shared.{read_tree}
 use Rattle.thompson_nfa.specs.SlotTables.{SlotTable, empty_table}
 use Rattle.thompson_nfa.specs.Utf8Stacks.{Stage, fresh, advanced, path_of, StagesRise, AreBytes, IsKept, Keeps, Compiles, Pops, pops_none, Turns, PopsUntil, PartsAt}
 use Rattle.thompson_nfa.specs.Utf8Compiles.{Limb, edge, stage_of, fresh_limb, grown, limb_tree, whole_tree, LimbsLead, LimbsBelow, ReadsAs, last_of, HasStates, IsCompiling}
+use Rattle.thompson_nfa.proofs.LookLemmas.{adds_none, quiet_plain, uses_reads}
 use Rattle.thompson_nfa.proofs.AheadLemmas.{denotes_then_empty}
-use Rattle.thompson_nfa.proofs.DenoteLemmas.{denotes_empty}
+use Rattle.thompson_nfa.proofs.DenoteLemmas.{denotes_empty, denotes_like}
 use Rattle.thompson_nfa.proofs.LeafLemmas.{tame_one}
 use Rattle.thompson_nfa.proofs.LimbLemmas.{Popped, popped_none, popped_all, LastLimb, last_limb, below_front, below_back, below_both, branches_push, fresh_below, lead_front, lead_back, lead_both, lead_push, fresh_lead, has_progress, more_states, until_quits}
 use Rattle.thompson_nfa.proofs.OutLemmas.{out_here, out_next, out_at}
 use Rattle.thompson_nfa.proofs.ProgressLemmas.{first_added, made}
 use Rattle.thompson_nfa.proofs.ReadLemmas.{as_itself, lasts, turned_reads, more_reads, first_reads}
-use Rattle.thompson_nfa.proofs.SameLemmas.{IsSame, denotes_same}
+use Rattle.thompson_nfa.proofs.SameLemmas.{IsSame}
 use Rattle.thompson_nfa.proofs.SharedLemmas.{denotes_branches}
 use Rattle.thompson_nfa.proofs.StackLemmas.{advanced_rises, rise_front, rise_back, rise_both, get_behind}
 
@@ -312,6 +314,7 @@ pub record Closed (old b : Assembly) (end start : ℕ) (x : Tree) (n : ℕ) : Ty
   pub least : most ≤ n
   pub behind : end ≤ start
   pub there : start < length b.parts
+  pub met : (l : Look) → uses old.reverse x l ≡ false
   pub denotes : (table : Table) → Finishes end b.parts end table → Denotes old.reverse table start end x
 
 module _ (old b : Assembly) (end start n : ℕ) (x : Tree) (c : Closed old b end start x n) where
@@ -336,13 +339,14 @@ module _ (old b : Assembly) (end start n : ℕ) (x : Tree) (c : Closed old b end
   closed_does = record {
     denotes = λ table target fin.
         denotes_then_empty old.reverse table start end target x (c.denotes table (closed_states table target fin)) (denotes_empty old.reverse table end target (closed_end table target fin));
+    looks = adds_none old.reverse x old b (quiet_plain c.has.grows c.has.tame) c.met;
   }
 
   pub closed_groups : b.groups ≡ old.groups
   closed_groups = c.has.groups_are
 
-pub as_same : (y z : Tree) → ReadsAs y z → IsSame y z
-as_same y z r = record { reading = r.reading; ends = r.ends }
+pub as_same : (y z : Tree) → ReadsAs y z → ((back : Bool) (l : Look) → uses back y l ≡ uses back z l) → IsSame y z
+as_same y z r met = record { reading = r.reading; ends = r.ends; met = met }
 
 whole_some : (back : Bool) (ls : List Limb) → 0 < length ls → whole_tree back ls ≡ limb_tree back ls
 whole_some back [] some = absurd (omega arith)
@@ -374,7 +378,9 @@ module _ (old b0 b : Assembly) (end : ℕ) (compiled : SlotTable (List Transitio
         there = p.next_there;
         denotes = λ table fin.
             let P : Tree → Type 0 = λ x. Denotes back table start end x in
-            denotes_same back table start end (whole_tree back c.limbs) all_read (as_same (whole_tree back c.limbs) all_read c.reads) (subst P same (p.next_leads table fin));
+            denotes_like back table start end (whole_tree back c.limbs) all_read c.reads.reading c.reads.ends
+            (subst P same (p.next_leads table fin));
+        met = λ l. uses_reads back back l qs;
       }
 
   -- there was no sequence
@@ -393,7 +399,10 @@ module _ (old b0 b : Assembly) (end : ℕ) (compiled : SlotTable (List Transitio
         there = y.there;
         denotes = λ table fin.
             let here : table start ≡ sparse_part [] = fin start (omega arith) y.there (λ (same : start ≡ end). omega arith) ∙ y.here in
-            denotes_same back table start end never all_read (as_same never all_read (never_read old b0 end compiled ns0 ns0 qs c none)) (denotes_branches back table start end [] [] here tt tt);
+            let reads = never_read old b0 end compiled ns0 ns0 qs c none in
+            denotes_like back table start end never all_read reads.reading reads.ends
+            (denotes_branches back table start end [] [] here tt tt);
+        met = λ l. uses_reads back back l qs;
       }
 
 -- what refuses a state on the way refuses the class

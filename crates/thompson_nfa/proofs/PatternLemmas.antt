@@ -1,5 +1,5 @@
 -- One pattern: the fragment of its tree, and the state in which it matches.
-use Rattle.std.proofs.Common.{◌≡◌, ◌≢◌, ℕ, zero, suc, ◌+◌, ◌*◌, ◌<◌, ◌≤◌, Bool, true, false, List, [], ◌∷◌, ◌++◌, length, None, refl, sym, ap, ◌∙◌, subst, arith, ⊎_elim, length-append}
+use Rattle.std.proofs.Common.{◌≡◌, ◌≢◌, ℕ, zero, suc, ◌+◌, ◌*◌, ◌<◌, ◌≤◌, Bool, true, false, List, [], ◌∷◌, ◌++◌, length, None, refl, sym, ap, ◌∙◌, subst, arith, ⊎_elim, length-append, ◌||◌}
 use Rattle.std.specs.Prelude.{All}
 use Rattle.std.proofs.lemmas.Bool.{cases_lt, cases_eq}
 use Rattle.std.proofs.lemmas.List.Elements.{All-weaker, All-nil}
@@ -15,8 +15,10 @@ use Rattle.thompson_nfa.specs.NotedGroups.{noted}
 use Rattle.thompson_nfa.specs.Patterns.{Holds, Stands, HasAll}
 use Rattle.thompson_nfa.specs.Room.{room}
 use Rattle.thompson_nfa.specs.declared.how.How.{How}
+use Rattle.thompson_nfa.specs.Compiled.{looks_in, uses}
+use Rattle.thompson_nfa.proofs.LookLemmas.{quiet_led, quiet_added, or_none}
 use Rattle.thompson_nfa.proofs.DoesLemmas.{turned_to}
-use Rattle.thompson_nfa.proofs.GrowLemmas.{names_patched, match_patched, known_patched}
+use Rattle.thompson_nfa.proofs.GrowLemmas.{unmatched, names_patched, match_patched, known_patched}
 use Rattle.thompson_nfa.proofs.SameLemmas.{IsSame, denotes_same}
 use Rattle.thompson_nfa.proofs.StandLemmas.{fenced, fenced_above, stands_from}
 
@@ -35,7 +37,7 @@ same_number : (part : Part) (p r : ℕ) → part ≡ match_part p → part ≡ m
 same_number part p r e f = cc
 
 capture_is : (x : Tree) → IsSame (capture 0 None x) x
-capture_is x = record { reading = λ reads. reads; ends = λ looks h i. refl }
+capture_is x = record { reading = λ reads. reads; ends = λ looks h i. refl; met = λ back l. refl }
 
 module _ (how : How) (b0 b1 b2 b3 b4 b5 : Assembly) (x : Tree) (s e m : ℕ) (closed : b0.is_open ≡ false) (begun : b1 ≡ record b0 { is_open = true })
     (made : Makes b1 b2 s e (room how.shrink x + 2)) (does : Does b1 b2 s e (capture 0 None x))
@@ -128,7 +130,8 @@ module _ (how : How) (b0 b1 b2 b3 b4 b5 : Assembly) (x : Tree) (s e m : ℕ) (cl
       (cases_lt q (length b2.parts))
 
   -- what holds of each new state
-  each : (P : Part → Type 0) → ((part : Part) → IsTame b2 part → P part) → (((part : Part) → IsTame b2 part → P (patched m part))) → P (match_part (length b0.starts)) →
+  each : (P : Part → Type 0) → ((part : Part) → IsTame false b2 part → P part) →
+      (((part : Part) → IsTame false b2 part → P (patched m part))) → P (match_part (length b0.starts)) →
       (q : ℕ) → length b0.parts ≤ q → q < length b5.parts → P (part_at b5.parts q)
   each P plain patched_one last q low high =
       let z = size_0 in let n = size_5 in let is = end_is in let en = end_low in let et = end_high in
@@ -143,7 +146,7 @@ module _ (how : How) (b0 b1 b2 b3 b4 b5 : Assembly) (x : Tree) (s e m : ℕ) (cl
   named_end : (q : ℕ) → length b0.parts ≤ q → q < length b5.parts → All (λ r. r < length b5.parts) (names_of (part_at b5.parts q))
   named_end =
       let n = size_5 in let is = end_is in
-      let wider : (part : Part) → IsTame b2 part → All (λ r. r < length b5.parts) (names_of part) =
+      let wider : (part : Part) → IsTame false b2 part → All (λ r. r < length b5.parts) (names_of part) =
       λ part tame. All-weaker (λ r. r < length b2.parts) (λ r. r < length b5.parts) (λ r l. omega arith) (names_of part) tame.named in
       each (λ part. All (λ r. r < length b5.parts) (names_of part)) wider
       (λ part tame. names_patched (length b5.parts) m part (omega arith) (wider part tame)) (All-nil (λ r. r < length b5.parts))
@@ -158,9 +161,11 @@ module _ (how : How) (b0 b1 b2 b3 b4 b5 : Assembly) (x : Tree) (s e m : ℕ) (cl
       let z = size_0 in let n = size_5 in let is = end_is in let en = end_low in let et = end_high in
       ⊎_elim
       (λ (l : q < length b2.parts). ⊎_elim
-      (λ (same : q ≡ e). absurd (no_match_is (patched m (part_at b2.parts e)) p (match_patched m (part_at b2.parts e) ∙ (made.tame e en et).no_match)
+      (λ (same : q ≡ e). absurd (no_match_is (patched m (part_at b2.parts e)) p
+      (match_patched m (part_at b2.parts e) ∙ unmatched false (part_at b2.parts e) (made.tame e en et).not_barred)
       (sym at_end ∙ ap (part_at b5.parts) (sym same) ∙ found)))
-      (λ (ne : q ≡ e → ⊥). absurd (no_match_is (part_at b2.parts q) p (made.tame q (omega arith) l).no_match (sym (at_all q l ne) ∙ found)))
+      (λ (ne : q ≡ e → ⊥). absurd (no_match_is (part_at b2.parts q) p
+      (unmatched false (part_at b2.parts q) (made.tame q (omega arith) l).not_barred) (sym (at_all q l ne) ∙ found)))
       (cases_eq q e))
       (λ (l : length b2.parts ≤ q). omega arith)
       (cases_lt q (length b2.parts))
@@ -208,6 +213,9 @@ module _ (how : How) (b0 b1 b2 b3 b4 b5 : Assembly) (x : Tree) (s e m : ℕ) (cl
         known = λ q l h ne. known_end q l h;
         numbered = λ q p l h ne found. let e = match_number q p l h found in let o = one_more in (omega arith, omega arith);
         one_match = λ q r p l h ne l2 h2 ne2 found found2. only_match q p l h found ∙ sym (only_match r p l2 h2 found2);
+        looks = λ l. ap (λ (w : Assembly). looks_in w.parts l) done ∙ quiet_led led l ∙ quiet_added added (λ k. refl) l ∙ does.looks l
+            ∙ ap (λ (w : Assembly). looks_in w.parts l || uses w.reverse x l) begun
+            ∙ ap (λ (k : Bool). looks_in b0.parts l || k) (sym (or_none (uses b0.reverse x l)));
         states = omega (arith, made.within.states, z, n);
         bytes = bytes_end;
         last = λ le. omega (arith, added.numbered, added.size, n);

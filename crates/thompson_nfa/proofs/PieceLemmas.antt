@@ -3,7 +3,7 @@ use Rattle.std.proofs.Common.{◌≡◌, ℕ, ◌+◌, ◌/◌, ◌%◌, ◌<◌
 use Rattle.std.specs.List.{zip}
 use Rattle.std.proofs.lemmas.Bool.{cond-true, cond-false, le-leb, lt-leb, cases_lt}
 use Rattle.hir_core.specs.Sequences.{spelling_of, byte_ranges}
-use Rattle.hir_core.proofs.SequenceLemmas.{Aligned, Blocks, IsPiece}
+use Rattle.hir_core.specs.Pieces.{Aligned, Blocks, IsPiece}
 use Rattle.thompson_nfa.specs.RangeTries.{IsBefore}
 
 -- ---- spellings by their length

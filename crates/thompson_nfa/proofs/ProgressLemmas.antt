@@ -1,5 +1,5 @@
 -- A compile so far: how many states and bytes it added, and what its refusal says of the whole.
-use Rattle.std.proofs.Common.{◌≡◌, ℕ, ◌+◌, ◌*◌, ◌<◌, ◌≤◌, min, false, length, refl, sym, ap, ◌∙◌, subst, arith}
+use Rattle.std.proofs.Common.{◌≡◌, ℕ, ◌+◌, ◌*◌, ◌<◌, ◌≤◌, min, false, length, refl, sym, ap, ◌∙◌, subst, arith, Bool}
 use Rattle.search_core.specs.Index.{greatest_index}
 use Rattle.search_types.specs.Groups.{Groups}
 use Rattle.hir_core.specs.Tree.{Tree}
@@ -12,40 +12,45 @@ use Rattle.thompson_nfa.specs.Added.{Added, Led}
 use Rattle.thompson_nfa.specs.NotedGroups.{HasGroup}
 use Rattle.thompson_nfa.specs.Refusals.{RefusesStep, RefusesStates, RefusesTree, Stays, Refuses, Quits}
 use Rattle.thompson_nfa.specs.declared.which_captures.WhichCaptures.{WhichCaptures}
-use Rattle.thompson_nfa.proofs.GrowLemmas.{grows_refl, grows_trans, Partly, partly_joined, partly_added, partly_led}
+use Rattle.thompson_nfa.proofs.GrowLemmas.{grows_refl, grows_trans, Partly, tame_anyhow, partly_joined, partly_added, partly_led}
 
 -- n states were added at most, and `spare` bytes are left of 4096 for each
-pub record Progress (old mid : Assembly) (n spare : ℕ) : Type 0 where
-  pub partly : Partly old mid
+pub record Progress (plain : Bool) (old mid : Assembly) (n spare : ℕ) : Type 0 where
+  pub partly : Partly plain old mid
   pub states : length mid.parts ≤ length old.parts + n
   pub bytes : sum_of_bytes mid + spare + 4096 * length old.parts ≤ sum_of_bytes old + 4096 * length mid.parts
   pub numbered : length mid.parts ≤ greatest_index + 1
 
-pub first_added : {a b : Assembly} {id : ℕ} {part : Part} {groups : Groups} (spare : ℕ) → Added a b id part groups → IsTame b part → part_bytes part + spare ≤ 4096 → Progress a b 1 spare
+pub first_added : {plain : Bool} {a b : Assembly} {id : ℕ} {part : Part} {groups : Groups} (spare : ℕ) → Added a b id part groups →
+    IsTame plain b part → part_bytes part + spare ≤ 4096 → Progress plain a b 1 spare
 first_added spare x tame le = record { partly = partly_added x tame; states = omega arith; bytes = omega arith; numbered = x.numbered }
 
-pub first_made : {a b : Assembly} {start end n : ℕ} → Makes a b start end n → Progress a b n 8
+pub first_made : {a b : Assembly} {start end n : ℕ} → Makes a b start end n → Progress false a b n 8
 first_made m = record { partly = record { grows = m.fragment.grows; tame = m.tame }; states = m.within.states; bytes = m.within.bytes; numbered = m.within.numbered }
 
-pub then_added : {a b c : Assembly} {id n s : ℕ} {part : Part} {groups : Groups} (spare : ℕ) → Progress a b n s → Added b c id part groups → IsTame c part → part_bytes part + spare ≤ s + 4096 →
-    Progress a c (n + 1) spare
+pub then_added : {plain : Bool} {a b c : Assembly} {id n s : ℕ} {part : Part} {groups : Groups} (spare : ℕ) → Progress plain a b n s →
+    Added b c id part groups → IsTame plain c part → part_bytes part + spare ≤ s + 4096 →
+    Progress plain a c (n + 1) spare
 then_added spare p x tame le = record { partly = partly_joined p.partly (partly_added x tame); states = omega arith; bytes = omega arith; numbered = x.numbered }
 
-pub then_made : {a b c : Assembly} {start end n s k : ℕ} (spare : ℕ) → Progress a b n s → Makes b c start end k → spare ≤ s + 8 → Progress a c (n + k) spare
+pub then_made : {a b c : Assembly} {start end n s k : ℕ} (spare : ℕ) → Progress false a b n s → Makes b c start end k → spare ≤ s + 8 →
+    Progress false a c (n + k) spare
 then_made spare p m le = record { partly = partly_joined p.partly (record { grows = m.fragment.grows; tame = m.tame }); states = omega arith; bytes = omega arith; numbered = m.within.numbered }
 
-pub then_led : {a b c : Assembly} {from to n s : ℕ} (spare : ℕ) → Progress a b n s → Led b c from to → length a.parts ≤ from → to < length b.parts → spare + 4 ≤ s → Progress a c n spare
+pub then_led : {plain : Bool} {a b c : Assembly} {from to n s : ℕ} (spare : ℕ) → Progress plain a b n s → Led b c from to →
+    length a.parts ≤ from → to < length b.parts → spare + 4 ≤ s → Progress plain a c n spare
 then_led spare p x new there le = record { partly = partly_led p.partly x new there; states = omega arith; bytes = omega arith; numbered = omega arith }
 
 -- a fragment that is done
-pub made : {a b : Assembly} {start end n s : ℕ} (m : ℕ) → Progress a b n s → 8 ≤ s → n ≤ m → length a.parts ≤ start → start < length b.parts → length a.parts ≤ end → end < length b.parts →
+pub made : {plain : Bool} {a b : Assembly} {start end n s : ℕ} (m : ℕ) → Progress plain a b n s → 8 ≤ s → n ≤ m →
+    length a.parts ≤ start → start < length b.parts → length a.parts ≤ end → end < length b.parts →
     is_sparse (part_at b.parts end) ≡ false →
     ((table : Table) (target : ℕ) → Finished (length a.parts) b.parts end target table → AllComeOut table target (length a.parts) (length b.parts)) →
     Makes a b start end m
-made m p spare le s1 s2 e1 e2 kind out = record {
+made {plain} {a} {b} m p spare le s1 s2 e1 e2 kind out = record {
   fragment = record { grows = p.partly.grows; start_new = s1; start_there = s2; end_new = e1; end_there = e2; can_be_led_on = kind };
   comes_out = out;
-  tame = p.partly.tame;
+  tame = λ q low high. tame_anyhow b (part_at b.parts q) (p.partly.tame q low high);
   within = record { states = omega arith; bytes = omega arith; numbered = p.numbered };
 }
 
@@ -96,8 +101,9 @@ first_quits {old} {new} {n} {bytes} {e} m r le lb = record {
 }
 
 -- a later step is refused
-pub then_quits : {old mid new : Assembly} {k s n bytes : ℕ} {e : BuildError} (m : ℕ) → Progress old mid k s → Stays mid new n bytes e → k + n ≤ m → bytes ≤ s + 4096 * n → Quits old new m e
-then_quits {old} {mid} {new} {k} {s} {n} {bytes} {e} m p r le lb = record {
+pub then_quits : {plain : Bool} {old mid new : Assembly} {k s n bytes : ℕ} {e : BuildError} (m : ℕ) → Progress plain old mid k s →
+    Stays mid new n bytes e → k + n ≤ m → bytes ≤ s + 4096 * n → Quits old new m e
+then_quits {plain} {old} {mid} {new} {k} {s} {n} {bytes} {e} m p r le lb = record {
   settings = (grows_trans p.partly.grows (let P : Assembly → Type 0 = λ b. Grows mid b in subst P (sym r.same) (grows_refl mid))).settings;
   cause = step_later old mid n bytes m m e (size_kept p.partly.grows) (omega arith) (omega arith) (omega arith) r.cause;
 }
@@ -116,9 +122,10 @@ first_refuses {old} {new} {n} {e} {kept} {x} m y r inside cap = record {
 }
 
 -- a later call is refused
-pub then_refuses : {old mid new : Assembly} {k s n : ℕ} {e : BuildError} {kept : WhichCaptures} {x : Tree} (m : ℕ) (y : Tree) → Progress old mid k s → Refuses kept mid new n x e → Includes kept x y →
+pub then_refuses : {plain : Bool} {old mid new : Assembly} {k s n : ℕ} {e : BuildError} {kept : WhichCaptures} {x : Tree} (m : ℕ)
+    (y : Tree) → Progress plain old mid k s → Refuses kept mid new n x e → Includes kept x y →
     k + n ≤ m → Refuses kept old new m y e
-then_refuses {old} {mid} {new} {k} {s} {n} {e} {kept} {x} m y p r inside le =
+then_refuses {plain} {old} {mid} {new} {k} {s} {n} {e} {kept} {x} m y p r inside le =
     let starts : length mid.starts ≡ length old.starts = ap (λ (b : Assembly). length b.starts) p.partly.grows.settings in
     let P : ℕ → Type 0 = λ pattern. RefusesTree kept pattern mid n x e in
     record {

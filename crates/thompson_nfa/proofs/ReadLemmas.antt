@@ -7,7 +7,7 @@ use Rattle.hir_core.specs.BySequences.{range_tree}
 use Rattle.hir_core.specs.Tree.{Tree, never, alt, alternation}
 use Rattle.hir_core.specs.Means.{is_member}
 use Rattle.hir_core.specs.PreferredEnds.{preferred_ends, class_end}
-use Rattle.hir_core.proofs.HasLemmas.{flat_map_same}
+use Rattle.hir_core.proofs.ForCallers.{flat_map_same}
 use Rattle.thompson_nfa.specs.Shared.{read_then, read_tree}
 use Rattle.thompson_nfa.specs.Utf8Compiles.{Limb, branch_tree, fresh_limb, grown, limb_tree, whole_tree, ReadsAs}
 

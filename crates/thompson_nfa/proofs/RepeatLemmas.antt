@@ -1,5 +1,6 @@
 -- Fragments of repetitions.
-use Rattle.std.proofs.Common.{◌≡◌, ℕ, ◌+◌, Bool, true, false, length, Some, None, refl, ap, ◌∙◌, subst, arith}
+use Rattle.std.proofs.Common.{◌≡◌, ◌==◌, ℕ, ◌+◌, Bool, true, false, length, Option, None, refl, sym, ap, ◌∙◌, subst, arith, ⊎_elim, eq-eqb}
+use Rattle.std.proofs.lemmas.Bool.{cases_Bool, eqb-true}
 use Rattle.hir_core.specs.Tree.{Tree, repetition}
 use Rattle.search_types.specs.Groups.{Groups}
 use Rattle.nfa_core.specs.BuilderStates.{Part, Assembly, part_at, patched, part_bytes, is_sparse, empty_part}
@@ -7,12 +8,13 @@ use Rattle.nfa_core.specs.Renaming.{stands_for}
 use Rattle.nfa_core.specs.Drafted.{Table}
 use Rattle.thompson_nfa.specs.Choice.{no_choice}
 use Rattle.thompson_nfa.specs.Denotes.{Denotes, choice}
-use Rattle.thompson_nfa.specs.Compiled.{Grows, Finished, AllComeOut, IsTame, Makes, Does}
+use Rattle.thompson_nfa.specs.Compiled.{Grows, Finished, AllComeOut, IsTame, Makes, Does, is_above_zero}
 use Rattle.thompson_nfa.specs.Added.{Added, Led}
+use Rattle.thompson_nfa.proofs.LookLemmas.{quiet_led, quiet_added, quiet_choice, adds_around}
 use Rattle.thompson_nfa.proofs.OutLemmas.{out_here, out_next, out_at, all_here, all_join, all_on}
 use Rattle.thompson_nfa.proofs.LeafLemmas.{tame_one, tame_none}
 use Rattle.thompson_nfa.proofs.ProgressLemmas.{Progress, first_added, first_made, then_added, then_made, then_led, made}
-use Rattle.thompson_nfa.proofs.RoundLemmas.{denotes_star, denotes_plus, denotes_zero_or_one}
+use Rattle.thompson_nfa.proofs.RoundLemmas.{denotes_star, denotes_plus}
 use Rattle.thompson_nfa.proofs.AheadLemmas.{denotes_then_empty}
 use Rattle.thompson_nfa.proofs.DenoteLemmas.{denotes_empty}
 
@@ -36,20 +38,23 @@ pub no_choice_bytes : (greedy : Bool) → part_bytes (no_choice greedy) ≡ 24
 no_choice_bytes true = refl
 no_choice_bytes false = refl
 
-pub no_choice_tame : (b : Assembly) (greedy : Bool) → IsTame b (no_choice greedy)
+pub no_choice_tame : (b : Assembly) (greedy : Bool) → IsTame false b (no_choice greedy)
 no_choice_tame b true = tame_none b (no_choice true) refl refl refl
 no_choice_tame b false = tame_none b (no_choice false) refl refl refl
 
-pub empty_tame : {a b : Assembly} {id : ℕ} {part : Part} {groups : Groups} → Added a b id part groups → IsTame b (empty_part 0)
+pub empty_tame : {a b : Assembly} {id : ℕ} {part : Part} {groups : Groups} → Added a b id part groups → IsTame false b (empty_part 0)
 empty_tame {a} {b} x = tame_one b (empty_part 0) 0 refl (omega arith) refl refl
 
-pub choice_first : {a b : Assembly} {id : ℕ} {groups : Groups} (greedy : Bool) → Added a b id (no_choice greedy) groups → Progress a b 1 4000
+pub choice_first : {a b : Assembly} {id : ℕ} {groups : Groups} (greedy : Bool) → Added a b id (no_choice greedy) groups →
+    Progress false a b 1 4000
 choice_first {a} {b} greedy x = let e = no_choice_bytes greedy in first_added 4000 x (no_choice_tame b greedy) (omega arith)
 
-pub choice_then : {a b c : Assembly} {id n s : ℕ} {groups : Groups} (greedy : Bool) → Progress a b n s → Added b c id (no_choice greedy) groups → Progress a c (n + 1) 4000
+pub choice_then : {a b c : Assembly} {id n s : ℕ} {groups : Groups} (greedy : Bool) → Progress false a b n s →
+    Added b c id (no_choice greedy) groups → Progress false a c (n + 1) 4000
 choice_then {a} {b} {c} greedy p x = let e = no_choice_bytes greedy in then_added 4000 p x (no_choice_tame c greedy) (omega arith)
 
-pub empty_then : {a b c : Assembly} {id n s : ℕ} {groups : Groups} → Progress a b n s → Added b c id (empty_part 0) groups → Progress a c (n + 1) 4000
+pub empty_then : {a b c : Assembly} {id n s : ℕ} {groups : Groups} → Progress false a b n s → Added b c id (empty_part 0) groups →
+    Progress false a c (n + 1) 4000
 empty_then p x = then_added 4000 p x (empty_tame x) (omega arith)
 
 pub reads_as : (a b : Assembly) (table : Table) (s e : ℕ) (x : Tree) → Grows a b → Denotes b.reverse table s e x → Denotes a.reverse table s e x
@@ -57,10 +62,10 @@ reads_as a b table s e x g d = let P : Bool → Type 0 = λ back. Denotes back t
 
 -- a loop whose body reads
 module _ (t0 t1 t2 t3 t4 : Assembly) (greedy : Bool) (u s e n : ℕ) (added : Added t0 t1 u (no_choice greedy) t0.groups) (body : Makes t1 t2 s e n) (led : Led t2 t3 u s) (back : Led t3 t4 e u) where
-  pub star_2 : Progress t0 t2 (1 + n) 4000
+  pub star_2 : Progress false t0 t2 (1 + n) 4000
   star_2 = then_made 4000 (choice_first greedy added) body (omega arith)
 
-  pub star_3 : Progress t0 t3 (1 + n) 3996
+  pub star_3 : Progress false t0 t3 (1 + n) 3996
   star_3 = then_led 3996 star_2 led (omega arith) (omega arith) (omega arith)
 
   star_u : part_at t4.parts u ≡ patched s (no_choice greedy)
@@ -92,14 +97,16 @@ module _ (t0 t1 t2 t3 t4 : Assembly) (greedy : Bool) (u s e n : ℕ) (added : Ad
     denotes = λ table target fin.
         let loop = star_choice target table fin in
         denotes_star t0.reverse table u u s target greedy x loop loop (reads_as t0 t1 table s u x added.grows (does.denotes table u (star_body target table fin)));
+    looks = adds_around t0 t1 t2 t4 x (quiet_choice greedy added) (ap (λ (z : Assembly). z.reverse) added.grows.settings) does.looks
+        (λ l. quiet_led back l ∙ quiet_led led l);
   }
 
 -- a body, and then a loop
 module _ (t0 t1 t2 t3 t4 : Assembly) (greedy : Bool) (u s e n : ℕ) (body : Makes t0 t1 s e n) (added : Added t1 t2 u (no_choice greedy) t1.groups) (back : Led t2 t3 e u) (led : Led t3 t4 u s) where
-  pub plus_2 : Progress t0 t2 (n + 1) 4000
+  pub plus_2 : Progress false t0 t2 (n + 1) 4000
   plus_2 = choice_then greedy (first_made body) added
 
-  pub plus_3 : Progress t0 t3 (n + 1) 3996
+  pub plus_3 : Progress false t0 t3 (n + 1) 3996
   plus_3 = then_led 3996 plus_2 back (omega arith) (omega arith) (omega arith)
 
   plus_u : part_at t4.parts u ≡ patched s (no_choice greedy)
@@ -129,30 +136,31 @@ module _ (t0 t1 t2 t3 t4 : Assembly) (greedy : Bool) (u s e n : ℕ) (body : Mak
   plus_does x does = record {
     denotes = λ table target fin.
         denotes_plus t0.reverse table u s target greedy x (plus_choice target table fin) (does.denotes table u (plus_body target table fin));
+    looks = λ l. quiet_led led l ∙ quiet_led back l ∙ quiet_choice greedy added l ∙ does.looks l;
   }
 
 -- a loop whose body may read nothing
 module _ (t0 t1 t2 t3 t4 t5 t6 t7 t8 t9 : Assembly) (greedy : Bool) (s e u q z n : ℕ) (body : Makes t0 t1 s e n) (p1 : Added t1 t2 u (no_choice greedy) t1.groups) (p2 : Led t2 t3 e u) (p3 : Led t3 t4 u s)
     (p4 : Added t4 t5 q (no_choice greedy) t4.groups) (p5 : Added t5 t6 z (empty_part 0) t5.groups) (p6 : Led t6 t7 q s) (p7 : Led t7 t8 q z) (p8 : Led t8 t9 u z) where
-  pub loop_2 : Progress t0 t2 (n + 1) 4000
+  pub loop_2 : Progress false t0 t2 (n + 1) 4000
   loop_2 = choice_then greedy (first_made body) p1
 
-  pub loop_3 : Progress t0 t3 (n + 1) 3996
+  pub loop_3 : Progress false t0 t3 (n + 1) 3996
   loop_3 = then_led 3996 loop_2 p2 (omega arith) (omega arith) (omega arith)
 
-  pub loop_4 : Progress t0 t4 (n + 1) 3992
+  pub loop_4 : Progress false t0 t4 (n + 1) 3992
   loop_4 = then_led 3992 loop_3 p3 (omega arith) (omega arith) (omega arith)
 
-  pub loop_5 : Progress t0 t5 (n + 1 + 1) 4000
+  pub loop_5 : Progress false t0 t5 (n + 1 + 1) 4000
   loop_5 = choice_then greedy loop_4 p4
 
-  pub loop_6 : Progress t0 t6 (n + 1 + 1 + 1) 4000
+  pub loop_6 : Progress false t0 t6 (n + 1 + 1 + 1) 4000
   loop_6 = empty_then loop_5 p5
 
-  pub loop_7 : Progress t0 t7 (n + 1 + 1 + 1) 3996
+  pub loop_7 : Progress false t0 t7 (n + 1 + 1 + 1) 3996
   loop_7 = then_led 3996 loop_6 p6 (omega arith) (omega arith) (omega arith)
 
-  pub loop_8 : Progress t0 t8 (n + 1 + 1 + 1) 3992
+  pub loop_8 : Progress false t0 t8 (n + 1 + 1 + 1) 3992
   loop_8 = then_led 3992 loop_7 p7 (omega arith) (omega arith) (omega arith)
 
   loop_z : part_at t9.parts z ≡ empty_part 0
@@ -200,54 +208,22 @@ module _ (t0 t1 t2 t3 t4 t5 t6 t7 t8 t9 : Assembly) (greedy : Bool) (s e u q z n
         denotes_then_empty t0.reverse table q z target (repetition 0 None greedy x)
         (denotes_star t0.reverse table q u s z greedy x (loop_u target table fin) (loop_q target table fin) (does.denotes table u (loop_body target table fin)))
         (denotes_empty t0.reverse table z target (loop_end target table fin));
+    looks = λ l. quiet_led p8 l ∙ quiet_led p7 l ∙ quiet_led p6 l ∙ quiet_added p5 (λ k. refl) l ∙ quiet_choice greedy p4 l
+        ∙ quiet_led p3 l ∙ quiet_led p2 l ∙ quiet_choice greedy p1 l ∙ does.looks l;
   }
 
--- one round at most
-module _ (t0 t1 t2 t3 t4 t5 t6 : Assembly) (greedy : Bool) (u s e z n : ℕ) (added : Added t0 t1 u (no_choice greedy) t0.groups) (body : Makes t1 t2 s e n) (last : Added t2 t3 z (empty_part 0) t2.groups)
-    (p4 : Led t3 t4 u s) (p5 : Led t4 t5 u z) (p6 : Led t5 t6 e z) where
-  pub once_3 : Progress t0 t3 (1 + n + 1) 4000
-  once_3 = empty_then (then_made 4000 (choice_first greedy added) body (omega arith)) last
+-- ---- which of the two forms a loop has
 
-  pub once_4 : Progress t0 t4 (1 + n + 1) 3996
-  once_4 = then_led 3996 once_3 p4 (omega arith) (omega arith) (omega arith)
+pub loop_form : (q : ℕ) (some : Bool) (least : Option ℕ) → some ≡ is_above_zero least → some ≡ true → (q == q) ≡ is_above_zero least
+loop_form q some least is reads = eq-eqb q q refl ∙ sym reads ∙ is
 
-  pub once_5 : Progress t0 t5 (1 + n + 1) 3992
-  once_5 = then_led 3992 once_4 p5 (omega arith) (omega arith) (omega arith)
+pub other_form : (same some : Bool) (least : Option ℕ) → same ≡ false → some ≡ is_above_zero least → some ≡ false →
+    same ≡ is_above_zero least
+other_form same some least apart is none = apart ∙ sym none ∙ is
 
-  once_z : part_at t6.parts z ≡ empty_part 0
-  once_z = p6.same z (omega arith) ∙ p5.same z (omega arith) ∙ p4.same z (omega arith) ∙ last.here
-
-  once_end : (target : ℕ) (table : Table) → Finished (length t0.parts) t6.parts z target table → table z ≡ empty_part target
-  once_end target table fin = fin.led ∙ ap (patched target) once_z
-
-  once_u : (target : ℕ) (table : Table) → Finished (length t0.parts) t6.parts z target table → table u ≡ choice greedy s z
-  once_u target table fin = fin.states u (omega arith) (omega arith) (omega arith) ∙ p6.same u (omega arith) ∙ p5.here
-      ∙ ap (patched z) (p4.here ∙ ap (patched s) (last.grows.same u (omega arith) ∙ body.fragment.grows.same u (omega arith) ∙ added.here)) ∙ twice_patched greedy s z
-
-  once_body : (target : ℕ) (table : Table) → Finished (length t0.parts) t6.parts z target table → Finished (length t1.parts) t2.parts e z table
-  once_body target table fin = record {
-    states = λ i low high ne. fin.states i (omega arith) (omega arith) (omega arith) ∙ p6.same i ne ∙ p5.same i (omega arith) ∙ p4.same i (omega arith) ∙ last.grows.same i (omega arith);
-    led = fin.states e (omega arith) (omega arith) (omega arith) ∙ p6.here ∙ ap (patched z) (p5.same e (omega arith) ∙ p4.same e (omega arith) ∙ last.grows.same e (omega arith));
-  }
-
-  pub once_made : Makes t0 t6 u z (n + 2)
-  once_made =
-      made (n + 2) (then_led 3988 once_5 p6 (omega arith) (omega arith) (omega arith)) (omega arith) (omega arith) (omega arith) (omega arith) (omega arith) (omega arith)
-      (ap is_sparse once_z)
-      (λ table target fin.
-      let real_u = out_here table target u (ap stands_for (once_u target table fin) ∙ choice_stands greedy s z) in
-      let out = out_next table target z target (ap stands_for (once_end target table fin)) (out_at table target) in
-      let P : ℕ → Type 0 = λ k. AllComeOut table target k (length t1.parts) in
-      let Q : ℕ → Type 0 = λ k. AllComeOut table target k (length t6.parts) in
-      all_join table target (length t0.parts) (length t1.parts) (length t6.parts) (subst P added.is (all_here table target u (length t1.parts) (omega arith) real_u))
-      (all_join table target (length t1.parts) (length t2.parts) (length t6.parts)
-      (all_on table target z (length t1.parts) (length t2.parts) (body.comes_out table z (once_body target table fin)) out)
-      (subst Q last.is (all_here table target z (length t6.parts) (omega arith) out))))
-
-  pub once_does : (x : Tree) → Does t1 t2 s e x → Does t0 t6 u z (repetition 0 (Some 1) greedy x)
-  once_does x does = record {
-    denotes = λ table target fin.
-        denotes_then_empty t0.reverse table u z target (repetition 0 (Some 1) greedy x)
-        (denotes_zero_or_one t0.reverse table u s z greedy x (once_u target table fin) (reads_as t0 t1 table s z x added.grows (does.denotes table z (once_body target table fin))))
-        (denotes_empty t0.reverse table z target (once_end target table fin));
-  }
+-- the choice at the start and the state at the end are two
+pub loops_apart : {a b c : Assembly} {q z : ℕ} {part last : Part} {groups more : Groups} → Added a b q part groups →
+    Added b c z last more → (q == z) ≡ false
+loops_apart {a} {b} {c} {q} {z} x y =
+    ⊎_elim (λ (same : (q == z) ≡ true). let e : q ≡ z = eqb-true q z same in absurd (omega (arith, e, x.is, x.size, y.is)))
+    (λ other. other) (cases_Bool (q == z))

@@ -7,7 +7,7 @@ use Rattle.std.proofs.lemmas.Slice.Zip.{length-zip}
 use Rattle.std.proofs.lemmas.List.{length-set, take_more}
 use Rattle.std.proofs.lemmas.List.Sums.{sum_by_push, sum_by-cons, sum_by-set, sum_by-drop_more}
 use Rattle.search_core.specs.Index.{greatest_index}
-use Rattle.search_types.proofs.GroupLemmas.{none_first}
+use Rattle.search_types.proofs.ForCallers.{none_first}
 use Rattle.hir_core.specs.Tree.{Tree, literal, char_class, repetition, capture, cat, alt, concat, alternation}
 use Rattle.hir_core.specs.Facts.{count, capped, sequence_count, rises_from}
 use Rattle.hir_core.specs.Sequences.{utf8_sequences, byte_ranges, spelling_of}

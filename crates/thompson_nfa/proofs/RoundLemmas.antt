@@ -1,17 +1,17 @@
 -- Repetitions: copies one after the other, nested choices, and loops.
-use Rattle.std.proofs.Common.{◌≡◌, ℕ, zero, suc, ◌-◌, ◌<◌, Bool, true, false, List, length, Option, Some, None, ◌⊎◌, inl, inr, refl, arith}
+use Rattle.std.proofs.Common.{◌≡◌, ℕ, zero, suc, ◌-◌, ◌<◌, Bool, true, false, List, length, Option, Some, None, ◌⊎◌, inl, inr, refl, arith, ◌||◌, sym}
 use Rattle.std.specs.List.{flat_map}
+use Rattle.look_core.specs.declared.look.Look.{Look}
+use Rattle.thompson_nfa.specs.Compiled.{uses}
 use Rattle.hir_core.specs.Tree.{Tree, empty, repetition}
 use Rattle.hir_core.specs.Means.{Looks, Rounds, AtMost}
 use Rattle.hir_core.specs.PreferredEnds.{preferred_ends, in_order}
 use Rattle.hir_core.specs.Facts.{LoopsRead, IsAboveZero, minimum_len}
-use Rattle.hir_core.proofs.SpanLemmas.{IsSpan-Means}
-use Rattle.hir_core.proofs.MinimumLenLemmas.{reads_a_byte}
-use Rattle.hir_core.proofs.PreferredEndsLemmas.{preferred_ends_sound}
-use Rattle.hir_core.proofs.RepetitionLemmas.{repetition_more}
+use Rattle.hir_core.proofs.ForCallers.{IsSpan-Means, reads_a_byte, preferred_ends_sound, repetition_more}
 use Rattle.nfa_core.specs.Ways.{Text}
 use Rattle.nfa_core.specs.Drafted.{Table}
 use Rattle.thompson_nfa.specs.Denotes.{seen, choice, IsMeant, Reaches, Halts, Orders, Denotes}
+use Rattle.thompson_nfa.proofs.LookLemmas.{or_none, or_twice}
 use Rattle.thompson_nfa.proofs.WayLemmas.{both_at, Goes, goes_choice}
 use Rattle.thompson_nfa.proofs.ReachLemmas.{reaches_like, reaches_join, reaches_choice, reaches_rounds}
 use Rattle.thompson_nfa.proofs.OrderLemmas.{orders_like, orders_join, orders_choice, orders_rounds}
@@ -47,6 +47,13 @@ copy_ends : (looks : Looks) (h : List ℕ) (low : ℕ) (most : Option ℕ) (gree
 copy_ends looks h low None greedy x i = refl
 copy_ends looks h low (Some m) greedy x i = refl
 
+-- the looks of a copy and of the other rounds
+used_copy : (back : Bool) (low : ℕ) (most : Option ℕ) (greedy : Bool) (x : Tree) (l : Look) →
+    uses back (repetition (suc low) (one_more most) greedy x) l ≡ (uses back x l || uses back (repetition low most greedy x) l)
+used_copy back low None greedy x l = or_twice (uses back x l)
+used_copy back low (Some zero) greedy x l = sym (or_none (uses back x l))
+used_copy back low (Some (suc m)) greedy x l = or_twice (uses back x l)
+
 -- a copy and then the other rounds, in both directions
 pub joins_copy : (back : Bool) (low : ℕ) (most : Option ℕ) (greedy : Bool) (x : Tree) → Joins back x (repetition low most greedy x) (repetition (suc low) (one_more most) greedy x)
 joins_copy back low most greedy x = record {
@@ -58,11 +65,12 @@ joins_copy back low most greedy x = record {
       rounds_meant back t (suc low) (one_more most) greedy x i j (suc r.0, omega arith, at_most_more r.0 most r.2, (m.0, m.1, r.3));
   reading = λ f. copy_reading low most greedy x f;
   ends = λ up looks h i. copy_ends looks h low most greedy x i;
+  met = λ l. used_copy back low most greedy x l;
 }
 
 -- no round is owed and none is left
 pub same_stopped : (greedy : Bool) (x : Tree) → IsSame empty (repetition 0 (Some 0) greedy x)
-same_stopped greedy x = record { reading = λ f. tt; ends = λ looks h i. refl }
+same_stopped greedy x = record { reading = λ f. tt; ends = λ looks h i. refl; met = λ back l. refl }
 
 -- what is left to read from a place: up to the end of what is seen, or down to the first byte
 abbrev left_to_read : Bool → Text → ℕ → ℕ
@@ -141,10 +149,6 @@ module _ (back : Bool) (T : Table) where
     halts = λ f t. few_halts u a m e left greedy x body rest t (goes_choice back t T u greedy a e is) f;
     orders = λ up f t. few_orders u a m e left greedy x body rest t up f (goes_choice false t T u greedy a e is);
   }
-
-  -- one round at most
-  pub denotes_zero_or_one : (u a e : ℕ) (greedy : Bool) (x : Tree) → T u ≡ choice greedy a e → Denotes back T a e x → Denotes back T u e (repetition 0 (Some 1) greedy x)
-  denotes_zero_or_one u a e greedy x is body = denotes_optional u a e e 0 greedy x is body (denotes_stopped_here e greedy x)
 
   -- ---- loops
 

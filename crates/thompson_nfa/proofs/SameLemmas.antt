@@ -8,17 +8,20 @@ use Rattle.hir_core.specs.Tree.{Tree, empty, literal, byte_class, capture, nothi
 use Rattle.hir_core.specs.Means.{Looks, Means, stands, is_member}
 use Rattle.hir_core.specs.PreferredEnds.{preferred_ends, class_end, Has as HasEnd}
 use Rattle.hir_core.specs.Facts.{LoopsRead}
-use Rattle.hir_core.proofs.HasLemmas.{flat_map-flat_map, flat_map_same}
-use Rattle.hir_core.proofs.PreferredEndsLemmas.{preferred_ends_sound, preferred_ends_complete}
+use Rattle.hir_core.proofs.ForCallers.{flat_map-flat_map, flat_map_same, preferred_ends_sound, preferred_ends_complete}
 use Rattle.nfa_core.specs.Drafted.{Table}
 use Rattle.thompson_nfa.specs.Denotes.{Denotes}
+use Rattle.thompson_nfa.proofs.LookLemmas.{or_none, or_turned, uses_concat}
 use Rattle.thompson_nfa.proofs.MeantLemmas.{meant_map, meant_cat_down, cat_meant_down}
+use Rattle.look_core.specs.declared.look.Look.{Look}
+use Rattle.thompson_nfa.specs.Compiled.{uses}
 use Rattle.thompson_nfa.proofs.DenoteLemmas.{Joins, denotes_like}
 
 -- wherever loops read in z they read in y, and both prefer the same ends
 pub record IsSame (y z : Tree) : Type 0 where
   pub reading : LoopsRead z → LoopsRead y
   pub ends : (looks : Looks) (h : List ℕ) (i : ℕ) → preferred_ends looks h y i ≡ preferred_ends looks h z i
+  pub met : (back : Bool) (l : Look) → uses back y l ≡ uses back z l
 
 pub same_narrow : (y z : Tree) → IsSame y z → (looks : Looks) (h : List ℕ) (i j : ℕ) → Means looks h z i j → Means looks h y i j
 same_narrow y z s looks h i j m =
@@ -39,11 +42,12 @@ joins_same back x1 x2 y z same j = record {
   joined = λ t i k m. meant_map y z (same_wide y z same) back t i k (j.joined t i k m);
   reading = λ f. j.reading (same.reading f);
   ends = λ up looks h i. j.ends up looks h i ∙ same.ends looks h i;
+  met = λ l. sym (same.met back l) ∙ j.met l;
 }
 
 -- two parts: the first is done first reading up, the second reading down
 pub joins_cat_up : (x y : Tree) → Joins false x y (cat x y)
-joins_cat_up x y = record { parts = λ t i j m. m; joined = λ t i j m. m; reading = λ f. f; ends = λ up looks h i. refl }
+joins_cat_up x y = record { parts = λ t i j m. m; joined = λ t i j m. m; reading = λ f. f; ends = λ up looks h i. refl; met = λ l. refl }
 
 pub joins_cat_down : (x y : Tree) → Joins true y x (cat x y)
 joins_cat_down x y = record {
@@ -51,6 +55,7 @@ joins_cat_down x y = record {
   joined = λ t i j m. cat_meant_down t x y i j m.0 m.1 m.2;
   reading = λ f. (f.1, f.0);
   ends = λ up looks h i. cc;
+  met = λ l. or_turned (uses true x l) (uses true y l);
 }
 
 -- ---- concatenations and alternations of few parts, groups
@@ -60,22 +65,40 @@ flat_map_each [] = refl
 flat_map_each (x ∷ xs) = ap (λ (l : List ℕ). x ∷ l) (flat_map_each xs)
 
 pub same_concat_none : IsSame empty nothing
-same_concat_none = record { reading = λ f. tt; ends = λ looks h i. refl }
+same_concat_none = record { reading = λ f. tt; ends = λ looks h i. refl; met = λ back l. refl }
 
 pub same_concat_one : (x : Tree) → IsSame x (concat (x ∷ []))
-same_concat_one x = record { reading = λ f. f.0; ends = λ looks h i. sym (flat_map_each (preferred_ends looks h x i)) }
+same_concat_one x =
+    record {
+      reading = λ f. f.0;
+      ends = λ looks h i. sym (flat_map_each (preferred_ends looks h x i));
+      met =
+          λ back l. sym (or_none (uses back x l));
+    }
 
 pub same_alternation_one : (x : Tree) → IsSame x (alternation (x ∷ []))
-same_alternation_one x = record { reading = λ f. f.0; ends = λ looks h i. sym (append-nil (preferred_ends looks h x i)) }
+same_alternation_one x =
+    record {
+      reading = λ f. f.0;
+      ends = λ looks h i. sym (append-nil (preferred_ends looks h x i));
+      met =
+          λ back l. sym (or_none (uses back x l));
+    }
 
 pub same_capture : (index : ℕ) (name : Option (List ℕ)) (x : Tree) → IsSame x (capture index name x)
-same_capture index name x = record { reading = λ f. f; ends = λ looks h i. refl }
+same_capture index name x = record { reading = λ f. f; ends = λ looks h i. refl; met = λ back l. refl }
 
 pub same_empty_then : (x : Tree) → IsSame (cat empty x) x
-same_empty_then x = record { reading = λ f. (tt, f); ends = λ looks h i. append-nil (preferred_ends looks h x i) }
+same_empty_then x = record { reading = λ f. (tt, f); ends = λ looks h i. append-nil (preferred_ends looks h x i); met = λ back l. refl }
 
 pub same_then_empty : (x : Tree) → IsSame (cat x empty) x
-same_then_empty x = record { reading = λ f. (f, tt); ends = λ looks h i. flat_map_each (preferred_ends looks h x i) }
+same_then_empty x =
+    record {
+      reading = λ f. (f, tt);
+      ends = λ looks h i. flat_map_each (preferred_ends looks h x i);
+      met =
+          λ back l. or_none (uses back x l);
+    }
 
 concat_reading : (xs ys : List Tree) → LoopsRead (concat (xs ++ ys)) → LoopsRead (concat xs) × LoopsRead (concat ys)
 concat_reading [] ys f = (tt, f)
@@ -90,7 +113,13 @@ concat_ends looks h (x ∷ xs) ys i =
     (preferred_ends looks h x i) (λ k m. concat_ends looks h xs ys k)
 
 pub same_concat_append : (xs ys : List Tree) → IsSame (cat (concat xs) (concat ys)) (concat (xs ++ ys))
-same_concat_append xs ys = record { reading = λ f. concat_reading xs ys f; ends = λ looks h i. concat_ends looks h xs ys i }
+same_concat_append xs ys =
+    record {
+      reading = λ f. concat_reading xs ys f;
+      ends = λ looks h i. concat_ends looks h xs ys i;
+      met =
+          λ back l. sym (uses_concat back xs ys l);
+    }
 
 -- ---- bytes
 
@@ -121,13 +150,13 @@ literal_ends looks h us vs i =
     ∙ ap (λ (c : Bool). if c then (i + length (us ++ vs)) ∷ [] else []) (sym (stands_append h i us vs))
 
 pub same_literal_append : (us vs : List ℕ) → IsSame (cat (literal us) (literal vs)) (literal (us ++ vs))
-same_literal_append us vs = record { reading = λ f. (tt, tt); ends = λ looks h i. literal_ends looks h us vs i }
+same_literal_append us vs = record { reading = λ f. (tt, tt); ends = λ looks h i. literal_ends looks h us vs i; met = λ back l. refl }
 
 none_stands : (h : List ℕ) (i : ℕ) → i ∷ [] ≡ (if stands h i [] then (i + 0) ∷ [] else [])
 none_stands h i = ap (λ (k : ℕ). k ∷ []) (let e : i ≡ i + 0 = omega arith in e)
 
 pub same_literal_none : IsSame empty (literal [])
-same_literal_none = record { reading = λ f. tt; ends = λ looks h i. none_stands h i }
+same_literal_none = record { reading = λ f. tt; ends = λ looks h i. none_stands h i; met = λ back l. refl }
 
 -- a byte between b and b
 one_between : (b c : ℕ) → is_member ((b, b) ∷ []) c ≡ (nat_eq b c && true)
@@ -146,4 +175,4 @@ byte_ends_stand h i b = elim (slice_get_cases h i).1 [
 ]
 
 pub same_literal_one : (b : ℕ) → IsSame (byte_class ((b, b) ∷ [])) (literal (b ∷ []))
-same_literal_one b = record { reading = λ f. tt; ends = λ looks h i. byte_ends_stand h i b }
+same_literal_one b = record { reading = λ f. tt; ends = λ looks h i. byte_ends_stand h i b; met = λ back l. refl }

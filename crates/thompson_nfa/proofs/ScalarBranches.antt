@@ -1,13 +1,14 @@
 -- Branches of a choice so far: that they are a fragment once no branch is to come, and what one more adds.
-use Rattle.std.proofs.Common.{◌≡◌, ◌≢◌, inr, ℕ, ◌+◌, ◌<◌, ◌≤◌, true, List, [], ◌∷◌, ◌++◌, length, refl, sym, ap, ◌∙◌, subst, arith, ⊎_elim}
+use Rattle.std.proofs.Common.{◌≡◌, ◌≢◌, inr, ℕ, ◌+◌, ◌<◌, ◌≤◌, true, List, [], ◌∷◌, ◌++◌, length, refl, sym, ap, ◌∙◌, subst, arith, ⊎_elim, false}
 use Rattle.std.proofs.lemmas.Bool.{cases_lt, cases_eq}
-use Rattle.hir_core.specs.Tree.{Tree, alternation}
+use Rattle.hir_core.specs.Tree.{Tree, alternation, never}
 use Rattle.nfa_core.specs.BuilderStates.{Assembly, part_at, patched, is_sparse, empty_part, union_part}
 use Rattle.nfa_core.specs.Drafted.{Table}
 use Rattle.nfa_core.specs.Renaming.{stands_for}
 use Rattle.thompson_nfa.specs.Added.{Added, Led}
 use Rattle.thompson_nfa.specs.Choice.{no_choice}
 use Rattle.thompson_nfa.specs.Compiled.{Finished, Makes, Does, ComesOut}
+use Rattle.thompson_nfa.proofs.LookLemmas.{AddsLooks, adds_none, adds_both, quiet_led, quiet_added, quiet_choice, uses_alternation}
 use Rattle.thompson_nfa.proofs.DoesCases.{Agrees, DoBranches, no_branches, next_branch, does_alternation}
 use Rattle.thompson_nfa.proofs.LeafLemmas.{tame_one, tame_none}
 use Rattle.thompson_nfa.proofs.OutLemmas.{out_here, out_next, out_on}
@@ -20,7 +21,7 @@ Others b0 bk u m = (T : Table) (target : ℕ) → Agrees b0 bk u m T → ComesOu
 -- n states were added at most, among them the choice and the common end, and branches for the trees
 pub record Branched (b0 bk : Assembly) (u m n : ℕ) (xs : List Tree) : Type 0 where
   pub ways : List ℕ
-  pub progress : Progress b0 bk n 8
+  pub progress : Progress false b0 bk n 8
   pub choice_new : length b0.parts ≤ u
   pub choice_there : u < length bk.parts
   pub end_new : length b0.parts ≤ m
@@ -29,6 +30,7 @@ pub record Branched (b0 bk : Assembly) (u m n : ℕ) (xs : List Tree) : Type 0 w
   pub is_choice : part_at bk.parts u ≡ union_part ways
   pub is_end : part_at bk.parts m ≡ empty_part 0
   pub branches : DoBranches b0 bk u m ways xs
+  pub looks : AddsLooks b0.reverse b0 bk (alternation xs)
   pub others : Others b0 bk u m
   pub one_way : (s : ℕ) → ways ≡ s ∷ [] → (length b0.parts ≤ s) × (s < length bk.parts) × (s ≢ u)
 
@@ -76,6 +78,10 @@ module _ (b0 b1 b2 b3 b4 : Assembly) (u m n s e k : ℕ) (xs : List Tree) (x : T
         is_choice = l4.same u (λ (same : u ≡ e). omega arith) ∙ l3.here ∙ ap (patched s) u2;
         is_end = l4.same m (λ (same : m ≡ e). omega arith) ∙ l3.same m (λ (same : m ≡ u). so_far.apart (sym same)) ∙ m2;
         branches = next_branch un ut mn mt so_far.progress.partly.grows so_far.branches f d l3 l4;
+        looks = λ l. quiet_led l4 l ∙ quiet_led l3 l
+            ∙ adds_both b0 b1 b2 (alternation xs) x (alternation (xs ++ x ∷ [])) so_far.looks
+            (ap (λ (z : Assembly). z.reverse) so_far.progress.partly.grows.settings) d.looks
+            (λ k. uses_alternation b0.reverse xs x k) l;
         others = others_next;
         one_way = λ to same. one_more_way so_far.ways s to (length b0.parts) (length b4.parts) u
             (λ q is. let o = so_far.one_way q is in let a = o.0 in let b = o.1 in (a, omega arith, o.2)) (omega arith) (omega arith) (λ (at_u : s ≡ u). omega arith) same;
@@ -97,6 +103,7 @@ branched_begun {b0} {b1} {b2} {u} {m} a1 a2 =
       is_choice = a2.grows.same u (omega arith) ∙ a1.here;
       is_end = a2.here;
       branches = no_branches;
+      looks = adds_none b0.reverse never b0 b2 (λ l. quiet_added a2 (λ k. refl) l ∙ quiet_choice true a1 l) (λ l. refl);
       others = λ T target agrees out q low high not_u.
           let same : m ≡ q = omega arith in
           let P : ℕ → Type 0 = λ k. ComesOut T target k in
@@ -130,4 +137,4 @@ module _ (b0 bk : Assembly) (u m n : ℕ) (xs : List Tree) (all : Branched b0 bk
       (cases_eq q u))
 
   pub branched_does : Does b0 bk u m (alternation xs)
-  branched_does = does_alternation all.choice_new all.choice_there all.apart all.is_choice all.is_end all.branches
+  branched_does = does_alternation all.choice_new all.choice_there all.apart all.is_choice all.is_end all.branches all.looks

@@ -5,7 +5,7 @@ use Rattle.std.proofs.lemmas.List.{length-map, reverse-reverse}
 use Rattle.search_core.specs.Utf8.{Spells}
 use Rattle.hir_core.specs.Sequences.{spelling_of, is_in_ranges, utf8_sequences}
 use Rattle.hir_core.specs.BySequences.{sequences_of}
-use Rattle.hir_core.proofs.SequenceLemmas.{spelled_by}
+use Rattle.hir_core.proofs.ForCallers.{spelled_by}
 use Rattle.thompson_nfa.specs.RangeTries.{IsIn, IsBefore, IsBeforeAll, AreRanges, IsTrie}
 use Rattle.thompson_nfa.specs.ClassTries.{turned_round, HasTurned}
 use Rattle.thompson_nfa.specs.ScalarCounts.{scalars_in}

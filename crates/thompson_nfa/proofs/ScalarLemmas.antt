@@ -10,7 +10,7 @@ use Rattle.hir_core.specs.Facts.{count, sequence_count, is_ascending}
 use Rattle.hir_core.specs.Sequences.{bytes_of, utf8_sequences}
 use Rattle.hir_core.specs.Tree.{Tree, concat, char_class}
 use Rattle.hir_core.specs.declared.utf8_sequences.Utf8Range.{Utf8Range}
-use Rattle.hir_core.proofs.SequenceLemmas.{sequence_short}
+use Rattle.hir_core.proofs.ForCallers.{sequence_short}
 use Rattle.nfa_core.specs.BuilderStates.{Part, Assembly, part_at, patched, is_sparse, empty_part, range_part, sparse_part, look_part, capture_start_part, capture_end_part, union_part, union_reverse_part, fail_part, match_part}
 use Rattle.nfa_core.specs.declared.build_error.BuildError.{BuildError}
 use Rattle.thompson_nfa.specs.Added.{Added, Led}
@@ -101,7 +101,7 @@ quits_later {old} {mid} {new} {k} {n} {e} m p r le = record {
 pub quits_capped : {old new : Assembly} {n : ℕ} {e : BuildError} (m : ℕ) → Quits old new n e → min n 18446744073709551615 ≤ m → Quits old new m e
 quits_capped {old} {new} {n} {e} m r cap = record { settings = r.settings; cause = step_later old old n (4096 * n) n m e refl (omega arith) (omega arith) cap r.cause }
 
-pub spent_of : {old mid : Assembly} {n s : ℕ} → Progress old mid n s → Spent old mid n
+pub spent_of : {old mid : Assembly} {n s : ℕ} → Progress false old mid n s → Spent old mid n
 spent_of p = let b = p.bytes in record { settings = p.partly.grows.settings; longer = p.partly.grows.longer; states = p.states; bytes = omega arith }
 
 -- ---- branches one after the other

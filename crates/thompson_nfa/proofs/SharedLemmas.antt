@@ -6,7 +6,7 @@ use Rattle.hir_core.specs.BySequences.{range_tree}
 use Rattle.hir_core.specs.Tree.{Tree, alternation}
 use Rattle.hir_core.specs.PreferredEnds.{preferred_ends, Has as HasEnd}
 use Rattle.hir_core.specs.Facts.{LoopsRead}
-use Rattle.hir_core.proofs.HasLemmas.{Has-if, Has-then}
+use Rattle.hir_core.proofs.ForCallers.{Has-if, Has-then}
 use Rattle.nfa_core.specs.BuilderStates.{Part, sparse_part, AscendsFrom}
 use Rattle.nfa_core.specs.Nfa.{sparse_node}
 use Rattle.nfa_core.specs.Walks.{Has}

@@ -1,5 +1,5 @@
 -- A class that is read backwards by the sequences of a trie: what is done for these is done for the class.
-use Rattle.std.proofs.Common.{◌≡◌, ℕ, ◌+◌, ◌*◌, ◌<◌, ◌≤◌, true, List, [], map, length, get_or, refl, sym, subst, arith}
+use Rattle.std.proofs.Common.{◌≡◌, ℕ, ◌+◌, ◌*◌, ◌<◌, ◌≤◌, true, List, [], map, length, get_or, refl, sym, subst, arith, Bool, ◌||◌, ap, ◌∙◌}
 use Rattle.std.proofs.lemmas.List.{length-map}
 use Rattle.std.specs.Prelude.{Vec}
 use Rattle.std.specs.declared.alloc.Global.{Global}
@@ -10,12 +10,13 @@ use Rattle.hir_core.specs.declared.utf8_sequences.Utf8Range.{Utf8Range}
 use Rattle.nfa_core.specs.BuilderStates.{Assembly}
 use Rattle.nfa_core.specs.declared.build_error.BuildError.{BuildError}
 use Rattle.thompson_nfa.specs.ClassTries.{HasTurned, IsShort}
-use Rattle.thompson_nfa.specs.Compiled.{Makes, Does}
+use Rattle.thompson_nfa.specs.Compiled.{Makes, Does, looks_in}
 use Rattle.thompson_nfa.specs.RangeTries.{IsTrie}
 use Rattle.thompson_nfa.specs.RangeWalks.{paths_of}
 use Rattle.thompson_nfa.specs.Refusals.{Quits}
 use Rattle.thompson_nfa.specs.ScalarCounts.{scalars_in}
 use Rattle.thompson_nfa.specs.Shared.{read_tree}
+use Rattle.thompson_nfa.proofs.LookLemmas.{uses_reads}
 use Rattle.thompson_nfa.proofs.ProgressLemmas.{made_capped, step_later}
 use Rattle.thompson_nfa.proofs.ScalarCountLemmas.{sequences_counted}
 use Rattle.thompson_nfa.proofs.TurnedLengths.{turned_short}
@@ -47,6 +48,7 @@ module _ (ranges : List (ℕ × ℕ)) (trie : List (List (ℕ × ℕ))) (ascends
   pub shrunk_does : {old new : Assembly} {start end : ℕ} → old.reverse ≡ true → Does old new start end (alternation (map (read_tree old.reverse) (paths_of paths))) → Does old new start end (char_class ranges)
   shrunk_does {old} {new} {start} {end} down d = record {
     denotes = λ table target fin. denotes_turned old.reverse table start target (paths_of paths) ranges down paths_have (d.denotes table target fin);
+    looks = λ l. d.looks l ∙ ap (λ (k : Bool). looks_in old.parts l || k) (uses_reads old.reverse old.reverse l (paths_of paths));
   }
 
   pub shrunk_quits : {old new : Assembly} {e : BuildError} → Quits old new (2 + 4 * length paths) e → Quits old new (2 + 4 * scalars_in ranges) e

@@ -53,7 +53,7 @@ pub record IsBefore (reverse : Bool) (xs : List Tree) (b0 b1 b3 : Assembly) (u c
   pub below : u < length b1.parts
   pub few : length b1.parts ≤ 3
   pub bytes : sum_of_bytes b1 + 4 ≤ 4096 * length b1.parts
-  pub tame : (q : ℕ) → q < length b1.parts → IsTame b3 (part_at b3.parts q)
+  pub tame : (q : ℕ) → q < length b1.parts → IsTame true b3 (part_at b3.parts q)
   pub stands : (q : ℕ) → q < length b1.parts → Out (part_at b3.parts) q
   pub before : ComesBefore reverse xs (part_at b3.parts) u c
 
@@ -63,10 +63,11 @@ module _ (reverse : Bool) (xs : List Tree) (b0 b1 b3 : Assembly) (u c : ℕ) (no
   before_empty anchored x =
       let is = x.is in let size = x.size in let bytes = x.bytes in
       let here : part_at b3.parts u ≡ empty_part c = led ∙ ap (patched c) x.here in
-      let P : ℕ → Type 0 = λ q. IsTame b3 (part_at b3.parts q) in
+      let P : ℕ → Type 0 = λ q. IsTame true b3 (part_at b3.parts q) in
       let Q : ℕ → Type 0 = λ q. Out (part_at b3.parts) q in
-      let R : Part → Type 0 = λ part. IsTame b3 part in
-      let tame : IsTame b3 (part_at b3.parts u) = subst R (sym here) (record { named = one_below (length b3.parts) c there; known = refl; no_match = refl }) in
+      let R : Part → Type 0 = λ part. IsTame true b3 part in
+      let tame : IsTame true b3 (part_at b3.parts u) =
+      subst R (sym here) (record { named = one_below (length b3.parts) c there; known = refl; not_barred = refl }) in
       record {
         settings = settings_added b0 b1 u (empty_part 0) x;
         below = omega arith;
@@ -89,9 +90,9 @@ module _ (reverse : Bool) (xs : List Tree) (b0 b1 b3 : Assembly) (u c : ℕ) (no
       let here : part_at b3.parts u ≡ union_reverse_part ((u + 2) ∷ c ∷ []) = led ∙ ap (patched c) x.loop in
       let back : part_at b3.parts (u + 1) ≡ empty_part u = same (u + 1) (omega arith) (λ e. omega arith) ∙ x.back in
       let any : part_at b3.parts (u + 2) ≡ sparse_part ((0, 255, u + 1) ∷ []) = same (u + 2) (omega arith) (λ e. omega arith) ∙ x.any in
-      let P : ℕ → Type 0 = λ q. IsTame b3 (part_at b3.parts q) in
+      let P : ℕ → Type 0 = λ q. IsTame true b3 (part_at b3.parts q) in
       let Q : ℕ → Type 0 = λ q. Out (part_at b3.parts) q in
-      let R : Part → Type 0 = λ part. IsTame b3 part in
+      let R : Part → Type 0 = λ part. IsTame true b3 part in
       let first_out : Out (part_at b3.parts) u = (0, ap stands_for here) in
       let names : All (λ q. q < length b3.parts) ((u + 2) ∷ c ∷ []) = λ k d h.
       elim k as (λ j. j < 2 → get_or ((u + 2) ∷ c ∷ []) j d < length b3.parts) [
@@ -103,9 +104,10 @@ module _ (reverse : Bool) (xs : List Tree) (b0 b1 b3 : Assembly) (u c : ℕ) (no
         below = omega arith;
         few = omega arith;
         bytes = omega arith;
-        tame = λ q l. three P (subst R (sym here) (record { named = names; known = refl; no_match = refl }))
-            (subst R (sym back) (record { named = one_below (length b3.parts) u (omega arith); known = refl; no_match = refl }))
-            (subst R (sym any) (record { named = one_below (length b3.parts) (u + 1) (omega arith); known = refl; no_match = refl })) (omega arith) q (omega arith);
+        tame = λ q l. three P (subst R (sym here) (record { named = names; known = refl; not_barred = refl }))
+            (subst R (sym back) (record { named = one_below (length b3.parts) u (omega arith); known = refl; not_barred = refl }))
+            (subst R (sym any) (record { named = one_below (length b3.parts) (u + 1) (omega arith); known = refl; not_barred = refl }))
+            (omega arith) q (omega arith);
         stands = λ q l. three Q first_out (out_one (part_at b3.parts) (u + 1) u back first_out) (0, ap stands_for any) (omega arith) q (omega arith);
         before = inr (
           λ all. let no = list_all-from_AllPass (is_anchored_tree reverse) xs all in absurd (cc),

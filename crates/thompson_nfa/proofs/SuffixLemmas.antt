@@ -1,9 +1,10 @@
 -- What shared suffixes do: branches of a choice whose states are kept for later branches.
-use Rattle.std.proofs.Common.{◌≡◌, ◌≢◌, ◌⊎◌, inl, inr, ℕ, zero, suc, ◌+◌, ◌*◌, ◌<◌, ◌≤◌, Bool, true, false, List, [], ◌∷◌, ◌++◌, length, map, get_or, set, replicate, Option, Some, None, refl, sym, ap, ◌∙◌, subst, arith, ⊎_elim, append_assoc, append-nil, length-append}
+use Rattle.std.proofs.Common.{◌≡◌, ◌≢◌, ◌⊎◌, inl, inr, ℕ, zero, suc, ◌+◌, ◌*◌, ◌<◌, ◌≤◌, Bool, true, false, List, [], ◌∷◌, ◌++◌, length, map, get_or, set, replicate, Option, Some, None, refl, sym, ap, ◌∙◌, subst, arith, ⊎_elim, append_assoc, append-nil, length-append, ◌||◌}
 use Rattle.std.proofs.lemmas.Bool.{cases_lt}
 use Rattle.std.proofs.lemmas.List.{map-append}
 use Rattle.hir_core.specs.BySequences.{range_tree, sequence_tree}
-use Rattle.hir_core.specs.Tree.{Tree, concat}
+use Rattle.look_core.specs.declared.look.Look.{Look}
+use Rattle.hir_core.specs.Tree.{Tree, concat, alternation}
 use Rattle.nfa_core.specs.BuilderStates.{Assembly, part_at, patched, range_part}
 use Rattle.nfa_core.specs.Drafted.{Table}
 use Rattle.nfa_core.specs.Renaming.{stands_for}
@@ -12,6 +13,8 @@ use Rattle.thompson_nfa.specs.Denotes.{Denotes}
 use Rattle.thompson_nfa.specs.SharedSuffixes.{key_of, AddsRange, SharesRange, finds_state, adds_state, SharesRanges, shares_none, shares_more, AddsSequence, AddsSequences, sequences_none, sequences_more}
 use Rattle.thompson_nfa.specs.SlotTables.{SlotTable, held_at, empty_table, with_held}
 use Rattle.thompson_nfa.specs.declared.utf8_suffix_map.Utf8SuffixKey.{Utf8SuffixKey}
+use Rattle.thompson_nfa.specs.Compiled.{looks_in, uses}
+use Rattle.thompson_nfa.proofs.LookLemmas.{quiet_led, quiet_added, uses_alternation, uses_sequence, or_none}
 use Rattle.thompson_nfa.proofs.AheadLemmas.{joins_last_part, denotes_concat_one}
 use Rattle.thompson_nfa.proofs.CaseLemmas.{all_denote_push}
 use Rattle.thompson_nfa.proofs.DenoteLemmas.{denotes_join, denotes_nothing_here, denotes_range}
@@ -92,7 +95,7 @@ module _ (b0 b c : Assembly) (u m n id lo hi q : ℕ) (xs : List Tree) (so_far :
       out_here T target p (ap stands_for here))
       (cases_lt p (length b.parts))
 
-  pub added_progress : (spare : ℕ) → spare ≤ 4000 → Progress b0 c (n + 1) spare
+  pub added_progress : (spare : ℕ) → spare ≤ 4000 → Progress false b0 c (n + 1) spare
   added_progress spare le =
       let s = x.size in
       then_added spare so_far.progress x (tame_one c (range_part lo hi q) q refl (omega arith) refl refl) (omega arith)
@@ -111,6 +114,7 @@ module _ (b0 b c : Assembly) (u m n id lo hi q : ℕ) (xs : List Tree) (so_far :
         is_choice = x.grows.same u ut ∙ so_far.is_choice;
         is_end = x.grows.same m mt ∙ so_far.is_end;
         branches = record { all = λ T agrees. so_far.branches.all T (older T agrees) };
+        looks = λ l. quiet_added x (λ k. refl) l ∙ so_far.looks l;
         others = others_added;
         one_way = λ k e. let o = so_far.one_way k e in let h = o.1 in (o.0, omega arith, o.2);
       }
@@ -128,9 +132,10 @@ only_way (a ∷ b ∷ names) s to low high u one l h ne e = cc
 module _ (b0 b c d : Assembly) (u m n id lo hi q : ℕ) (xs : List Tree) (so_far : Branched b0 b u m n xs)
     (x : Added b c id (range_part lo hi q) b.groups) (named : q < length b.parts) (led : Led c d u id) where
   -- the choice leads to the new state, too
-  pub branched_way : (y : Tree) → ((T : Table) → Agrees b0 c u m T → Denotes b0.reverse T id m y) → Branched b0 d u m (n + 1) (xs ++ y ∷ [])
+  pub branched_way : (y : Tree) → ((l : Look) → uses b0.reverse y l ≡ false) →
+      ((T : Table) → Agrees b0 c u m T → Denotes b0.reverse T id m y) → Branched b0 d u m (n + 1) (xs ++ y ∷ [])
   unfolding branched_added
-  branched_way y denotes =
+  branched_way y none denotes =
       let w = branched_added b0 b c u m n id lo hi q xs so_far x named in
       let un = so_far.choice_new in let ut = so_far.choice_there in let s = x.size in let is = x.is in let t = led.size in let ct = w.choice_there in let et = w.end_there in
       let g = so_far.progress.partly.grows.longer in
@@ -145,6 +150,10 @@ module _ (b0 b c d : Assembly) (u m n id lo hi q : ℕ) (xs : List Tree) (so_far
         apart = so_far.apart;
         is_choice = led.here ∙ ap (patched id) w.is_choice;
         is_end = led.same m (λ (e : m ≡ u). so_far.apart (sym e)) ∙ w.is_end;
+        looks = λ l. quiet_led led l ∙ w.looks l
+            ∙ ap (λ (k : Bool). looks_in b0.parts l || k)
+            (sym (uses_alternation b0.reverse xs y l ∙ ap (λ (k : Bool). uses b0.reverse (alternation xs) l || k) (none l)
+            ∙ or_none (uses b0.reverse (alternation xs) l)));
         branches = record { all = λ T agrees. all_denote_push b0.reverse T m id y so_far.ways xs (w.branches.all T (old T agrees)) (denotes T (old T agrees)) };
         others = λ T target agrees out p l h not_u. w.others T target (old T agrees) out p l (omega arith) not_u;
         one_way = λ to same. only_way so_far.ways id to (length b0.parts) (length d.parts) u
@@ -165,6 +174,7 @@ branched_wider k le s =
       is_choice = s.is_choice;
       is_end = s.is_end;
       branches = s.branches;
+      looks = s.looks;
       others = s.others;
       one_way = s.one_way;
     }
@@ -263,7 +273,9 @@ module _ (b0 : Assembly) (u m : ℕ) (down : b0.reverse ≡ true) where
       let few = one.few in
       let sum : length one.others + 1 ≡ length rs = sym (length-append one.others (r ∷ [])) ∙ ap length one.split in
       let P : List (ℕ × ℕ) → Type 0 = λ qs. Branched b0 b u m (k + 1) (xs ++ sequence_tree qs ∷ []) in
-      let way = branched_way b0 one.shared one.whole b u m k one.first r.0 r.1 one.next xs chain.branched x.added chain.there led (sequence_tree (one.others ++ r ∷ []))
+      let way =
+      branched_way b0 one.shared one.whole b u m k one.first r.0 r.1 one.next xs chain.branched x.added chain.there led
+      (sequence_tree (one.others ++ r ∷ [])) (λ l. uses_sequence b0.reverse l (one.others ++ r ∷ []))
       (denotes_added b0 one.shared one.kept u m k one.next xs one.others down chain one.whole changed one.first r x) in
       record {
         branched = branched_wider (n + 4) (omega (arith, sum, few)) (subst P one.split way);

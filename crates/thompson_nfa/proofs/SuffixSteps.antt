@@ -7,7 +7,7 @@ use Rattle.std.proofs.lemmas.Option.{slice_get-get_or}
 use Rattle.search_types.specs.Groups.{Groups}
 use Rattle.hir_core.specs.Sequences.{bytes_of, utf8_sequences}
 use Rattle.hir_core.specs.declared.utf8_sequences.Utf8Range.{Utf8Range}
-use Rattle.hir_core.proofs.SequenceLemmas.{sequence_short}
+use Rattle.hir_core.proofs.ForCallers.{sequence_short}
 use Rattle.nfa_core.specs.BuilderStates.{Part, Assembly, part_at, patched, part_bytes, is_sparse, empty_part, range_part, sparse_part, look_part, capture_start_part, capture_end_part, union_part, union_reverse_part, fail_part, match_part}
 use Rattle.nfa_core.specs.declared.build_error.BuildError.{BuildError}
 use Rattle.thompson_nfa.specs.Added.{Added, Led}

@@ -3,7 +3,7 @@ use Rattle.std.proofs.Common.{◌≡◌, ℕ, zero, suc, ◌+◌, ◌-◌, ◌�
 use Rattle.std.specs.List.{flat_map}
 use Rattle.std.proofs.lemmas.Bool.{cases_Bool, ltb-true}
 use Rattle.search_core.specs.Text.{byte_at}
-use Rattle.hir_core.proofs.HasLemmas.{flat_map_same}
+use Rattle.hir_core.proofs.ForCallers.{flat_map_same}
 use Rattle.nfa_core.specs.Walks.{lists_none}
 use Rattle.nfa_core.specs.Ways.{Text, with_place}
 use Rattle.nfa_core.specs.Drafted.{Table}

@@ -7,7 +7,7 @@ use Rattle.std.proofs.lemmas.List.Elements.{All-get_or}
 use Rattle.search_core.specs.Text.{byte_at}
 use Rattle.hir_core.specs.Means.{Rounds, is_member}
 use Rattle.hir_core.specs.PreferredEnds.{Has as HasEnd}
-use Rattle.hir_core.proofs.HasLemmas.{Has-if}
+use Rattle.hir_core.proofs.ForCallers.{Has-if}
 use Rattle.nfa_core.specs.Ways.{Text, reads, with_place}
 use Rattle.nfa_core.specs.Drafted.{Table}
 use Rattle.thompson_nfa.specs.Denotes.{at, Reaches, Halts}

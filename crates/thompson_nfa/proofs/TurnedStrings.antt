@@ -5,7 +5,7 @@ use Rattle.std.proofs.lemmas.List.{reverse-append, reverse-reverse}
 use Rattle.search_core.specs.Utf8.{Spells}
 use Rattle.search_core.specs.Utf8.Spells.{from_0000, from_0080, from_0800, from_1000, from_d000, from_e000, from_10000, from_40000, from_100000}
 use Rattle.hir_core.specs.Sequences.{is_in_ranges, utf8_sequences}
-use Rattle.hir_core.proofs.SequenceLemmas.{string_is_spelling}
+use Rattle.hir_core.proofs.ForCallers.{string_is_spelling}
 use Rattle.thompson_nfa.specs.RangeTries.{IsIn, IsApart}
 use Rattle.thompson_nfa.specs.ClassTries.{turned_round, IsTurnedSpelling, AreTurnedSpellings}
 use Rattle.thompson_nfa.proofs.TrieLemmas.{spelled, spells}

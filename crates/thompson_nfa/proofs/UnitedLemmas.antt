@@ -35,6 +35,7 @@ patterns_wider which hole a b ss xs n m spare less more fewer h = record {
   one_match = h.one_match;
   states = omega (arith, h.states, more);
   bytes = omega (arith, h.bytes, fewer);
+  looks = h.looks;
   last = h.last;
 }
 
@@ -44,11 +45,15 @@ pub none_compiled : (how : How) (a b : Assembly) (xs : List Tree) (id : ℕ) →
 none_compiled how a b [] id none x =
     let is = x.is in let size = x.size in (
       [],
-      hole_closed how.which a b [] [] 1 0 id (patterns_added how.which a a b [] [] 0 0 0 id fail_part (patterns_none how.which (length a.parts) a) x (omega arith)) (omega arith)
-          (λ table e. ap stands_for (e ∙ x.here)) (let P : Part → Type 0 = λ part. IsTame b part in subst P (sym x.here) (tame_none b fail_part refl refl refl)),
+      hole_closed how.which a b [] [] 1 0 id
+          (patterns_added how.which a a b [] [] 0 0 0 id fail_part (patterns_none how.which (length a.parts) a) x (omega arith)
+          (λ l. refl)) (omega arith)
+          (λ table e. ap stands_for (e ∙ x.here))
+          (let P : Part → Type 0 = λ part. IsTame true b part in subst P (sym x.here) (tame_none b fail_part refl refl refl)),
       inr (inr (refl, x.here)),
       omega arith,
       omega arith,
+      record { hole = id; hole_is = inl refl; accept = λ table hold. tt },
     )
 none_compiled how a b (y ∷ ys) id none x = absurd (omega arith)
 
@@ -62,6 +67,7 @@ one_compiled how a b xs [] x s is none h =
       inl refl,
       h.starts_there 0 0 (omega arith),
       h.starts_new 0 0 (omega arith),
+      record { hole = length b.parts; hole_is = inr refl; accept = λ table hold. h.accept table hold },
     )
 one_compiled how a b xs (y ∷ ys) x s is none h = absurd (omega arith)
 
@@ -88,7 +94,8 @@ module _ (how : How) (a b c d e f : Assembly) (x y : Tree) (s t u : ℕ) (first 
       let n : ℕ = (room how.shrink x + 3) + (room how.shrink y + 3) in
       patterns_led how.which a e f (s ∷ t ∷ []) (x ∷ y ∷ []) (n + 1) 4 0 u t
       (patterns_led how.which a d e (s ∷ t ∷ []) (x ∷ y ∷ []) (n + 1) 8 4 u s
-      (patterns_added how.which a c d (s ∷ t ∷ []) (x ∷ y ∷ []) n 8 8 u (no_choice true) two added (omega arith)) led (omega arith)) led_2 (omega arith)
+      (patterns_added how.which a c d (s ∷ t ∷ []) (x ∷ y ∷ []) n 8 8 u (no_choice true) two added (omega arith) (λ l. refl)) led
+      (omega arith)) led_2 (omega arith)
 
   union_here : part_at f.parts u ≡ union_part (s ∷ t ∷ [])
   union_here = led_2.here ∙ ap (patched t) (led.here ∙ ap (patched s) added.here)
@@ -107,9 +114,9 @@ module _ (how : How) (a b c d e f : Assembly) (x y : Tree) (s t u : ℕ) (first 
     all_patterns : HasPatterns how.which u a g (s ∷ t ∷ more.0) (x ∷ y ∷ rest) ((room how.shrink x + 3) + (room how.shrink y + 3) + 1 + room_for how.shrink rest) 0
     all_patterns = patterns_joined how.which u a f g (s ∷ t ∷ []) more.0 (x ∷ y ∷ []) rest ((room how.shrink x + 3) + (room how.shrink y + 3) + 1) (room_for how.shrink rest) 0 0 united more.1
 
-    union_tame : IsTame g (part_at g.parts u)
-    union_tame = let P : Part → Type 0 = λ part. IsTame g part in
-        subst P (sym union_at) (record { named = all_patterns.starts_there; known = refl; no_match = refl })
+    union_tame : IsTame true g (part_at g.parts u)
+    union_tame = let P : Part → Type 0 = λ part. IsTame true g part in
+        subst P (sym union_at) (record { named = all_patterns.starts_there; known = refl; not_barred = refl })
 
     pub several_compiled : (xs ys : List Tree) → xs ≡ x ∷ ys → ys ≡ y ∷ rest → LeadsToPatterns how.which a g u xs (room_for how.shrink xs + 1)
     several_compiled xs ys is is_2 =
@@ -124,4 +131,5 @@ module _ (how : How) (a b c d e f : Assembly) (x y : Tree) (s t u : ℕ) (first 
           inr (inl union_at),
           omega arith,
           omega arith,
+          record { hole = u; hole_is = inl refl; accept = λ table hold. all_patterns.accept table hold },
         )

@@ -1,13 +1,14 @@
 -- What stands in a builder when all patterns are compiled, before it is built.
-use Rattle.std.specs.Prelude.{◌≡◌, ◌⊎◌, ℕ, suc, ◌*◌, ◌≤◌, Bool, true, false, ◌&&◌, List, [], ◌∷◌, length, All}
+use Rattle.std.specs.Prelude.{◌≡◌, ◌≢◌, ◌⊎◌, ℕ, suc, ◌*◌, ◌<◌, ◌≤◌, Bool, true, false, ◌&&◌, List, [], ◌∷◌, length, All}
+use Rattle.look_core.specs.declared.look.Look.{Look}
 use Rattle.hir_core.specs.Tree.{Tree}
-use Rattle.nfa_core.specs.BuilderStates.{Assembly, empty_part, sparse_part, union_part, union_reverse_part, fail_part, match_part, part_at}
+use Rattle.nfa_core.specs.BuilderStates.{Part, Assembly, empty_part, sparse_part, union_part, union_reverse_part, fail_part, match_part, part_at}
 use Rattle.nfa_core.specs.CanBuild.{CanBuild}
 use Rattle.nfa_core.specs.Drafted.{Table}
 use Rattle.thompson_nfa.specs.Configs.{Options, utf8_of, reverse_of, limit_of, captures_of, terminator_of, is_any, is_shrunk}
 use Rattle.thompson_nfa.specs.Denotes.{Denotes}
 use Rattle.thompson_nfa.specs.NotedGroups.{noted_from}
-use Rattle.thompson_nfa.specs.Compiled.{sum_of_bytes}
+use Rattle.thompson_nfa.specs.Compiled.{sum_of_bytes, looks_in, any_uses}
 use Rattle.thompson_nfa.specs.Compilations.{is_anchored_tree}
 use Rattle.thompson_nfa.specs.Room.{list_room}
 
@@ -45,6 +46,14 @@ AllAnchored reverse xs = All (λ x. is_anchored_tree reverse x ≡ true) xs
 abbrev pub ComesBefore : Bool → List Tree → Table → ℕ → ℕ → Type 0
 ComesBefore reverse xs table u c = (AllAnchored reverse xs × (table u ≡ empty_part c)) ⊎ ((AllAnchored reverse xs → ⊥) × TriesEachPlace table u c)
 
+-- what the patterns do depends neither on states below `low` nor on one hole: the state that leads to them, where it isn't
+-- the start of the only one
+pub record IsFree (reverse : Bool) (low first : ℕ) (parts : List Part) (c : ℕ) (starts : List ℕ) (xs : List Tree) : Type 0 where
+  pub hole : ℕ
+  pub hole_is : (hole ≡ c) ⊎ (starts ≡ c ∷ [])
+  pub accept : (table : Table) → ((q : ℕ) → low ≤ q → q < length parts → q ≢ hole → table q ≡ part_at parts q) →
+      AcceptAll reverse table first starts xs
+
 pub record IsAssembled (o : Options) (xs : List Tree) (b : Assembly) (anchored unanchored : ℕ) : Type 0 where
   pub utf8 : b.utf8 ≡ utf8_of o
   pub reverse : b.reverse ≡ reverse_of o
@@ -55,7 +64,13 @@ pub record IsAssembled (o : Options) (xs : List Tree) (b : Assembly) (anchored u
   pub accept : AcceptAll (reverse_of o) (part_at b.parts) 0 b.starts xs
   pub leads : LeadsToAll (part_at b.parts) anchored b.starts
   pub before : ComesBefore (reverse_of o) xs (part_at b.parts) unanchored anchored
+  -- what stands before the patterns is below `low`, and what leads to them isn't
+  pub low : ℕ
+  pub below : unanchored < low
+  pub above : low ≤ anchored
+  pub free : IsFree (reverse_of o) low 0 b.parts anchored b.starts xs
   pub one_match : (q r p : ℕ) → part_at b.parts q ≡ match_part p → part_at b.parts r ≡ match_part p → q ≡ r
   pub groups : b.groups ≡ noted_from (captures_of o) 0 xs []
+  pub looks : (l : Look) → looks_in b.parts l ≡ any_uses (reverse_of o) xs l
   pub states : length b.parts ≤ list_room (is_shrunk o) xs
   pub bytes : sum_of_bytes b ≤ 4096 * list_room (is_shrunk o) xs

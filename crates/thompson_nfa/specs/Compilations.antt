@@ -1,19 +1,21 @@
 -- The automaton that trees are compiled to: what its runs find, in which order, and how great it is.
-use Rattle.std.specs.Prelude.{◌*◌, ◌≡◌, ◌↔◌, ℕ, zero, suc, ◌-◌, ◌<◌, ◌≤◌, min, Bool, true, false, ◌&&◌, List, [], ◌∷◌, ◌++◌, map, length, slice_get, get_or, All, Some}
-use Rattle.std.specs.List.{flat_map}
+use Rattle.std.specs.Prelude.{◌*◌, ◌≡◌, ◌↔◌, ℕ, zero, suc, ◌-◌, ◌<◌, ◌≤◌, min, Bool, true, false, ◌&&◌, ◌==◌, List, [], ◌∷◌, ◌++◌, map, length, slice_get, get_or, All, Some, MatchOption, ⊤}
+use Rattle.std.specs.List.{flat_map, list_any}
+use Rattle.look_core.specs.declared.look.Look.{Look}
 use Rattle.look_core.specs.declared.look.Look.TheVariants.{Start, End}
 use Rattle.look_core.specs.LookSets.{has_look}
 use Rattle.hir_core.specs.Tree.{Tree}
 use Rattle.hir_core.specs.Means.{Means}
 use Rattle.hir_core.specs.PreferredEnds.{preferred_ends}
-use Rattle.hir_core.specs.Facts.{LoopsRead, look_set_prefix, look_set_suffix}
+use Rattle.hir_core.specs.Facts.{LoopsRead, look_set_prefix, look_set_suffix, looks_used}
 use Rattle.nfa_core.specs.Walks.{Has, HasNoneTwice, distinct}
 use Rattle.nfa_core.specs.Runs.{IsChain}
 use Rattle.nfa_core.specs.Places.{same_pair}
 use Rattle.nfa_core.specs.Nfa.{match_node, Automaton, node_at}
-use Rattle.nfa_core.specs.NfaValue.{Nfa, has_empty, memory_of}
-use Rattle.nfa_core.specs.Ways.{Text, span, ways, ends_from}
-use Rattle.thompson_nfa.specs.Configs.{Options, utf8_of, reverse_of, captures_of, terminator_of, is_any, is_shrunk}
+use Rattle.nfa_core.specs.NfaValue.{Nfa, has_empty, memory_of, looks_of}
+use Rattle.nfa_core.specs.Ways.{Text, ways, ends_from}
+use Rattle.thompson_nfa.specs.Configs.{Options, utf8_of, reverse_of, limit_of, captures_of, terminator_of, is_any, is_shrunk}
+use Rattle.thompson_nfa.specs.Compiled.{turned}
 use Rattle.thompson_nfa.specs.Denotes.{seen, IsMeant}
 use Rattle.thompson_nfa.specs.NotedGroups.{noted_from}
 use Rattle.thompson_nfa.specs.Room.{list_room}
@@ -45,16 +47,23 @@ is_anchored_tree true x = has_look (look_set_suffix x) End
 abbrev pub start_of : Automaton → ℕ → ℕ
 start_of a p = get_or a.start_pattern p 0
 
+-- a text of bytes that ends in its haystack, and whose looks at the haystack's edges are read as they are
+pub record IsRead (t : Text) : Type 0 where
+  pub within : t.end ≤ length t.haystack
+  pub bytes : All (λ byte. byte < 256) t.haystack
+  pub at_start : (i : ℕ) → t.holds Start i ≡ (i == 0)
+  pub at_end : (i : ℕ) → t.holds End i ≡ (i == length t.haystack)
+
 -- What the runs of the automaton find, from each of its starts. From the unanchored one they may begin at each place that
--- is read to; a text is then a span of a haystack of bytes.
+-- is read to; the text is then one of bytes whose edges are read as they are.
 pub record FindsSpans (reverse : Bool) (xs : List Tree) (n : Nfa) : Type 0 where
   pub patterns : (p : ℕ) (x : Tree) → slice_get xs p ≡ Some x → (t : Text) (i : ℕ) (e : ℕ × ℕ) → i ≤ t.end →
       Has same_pair e (ends_from n.automaton t (i, start_of n.automaton p)) ↔ ((e.1 ≡ p) × IsMeant reverse t x i e.0)
   pub anchored : (t : Text) (i : ℕ) (e : ℕ × ℕ) → i ≤ t.end →
       Has same_pair e (ends_from n.automaton t (i, n.automaton.start_anchored)) ↔ IsChoice reverse xs t i e
-  pub unanchored : (h : List ℕ) (s f i : ℕ) (e : ℕ × ℕ) → s ≤ i → i ≤ f → f ≤ length h → All (λ byte. byte < 256) h →
-      Has same_pair e (ends_from n.automaton (span n.terminator h s f) (i, n.automaton.start_unanchored))
-      ↔ ((k : ℕ) × IsReadTo reverse (span n.terminator h s f) i k × IsChoice reverse xs (span n.terminator h s f) k e)
+  pub unanchored : (t : Text) (i : ℕ) (e : ℕ × ℕ) → IsRead t → t.start ≤ i → i ≤ t.end →
+      Has same_pair e (ends_from n.automaton t (i, n.automaton.start_unanchored))
+      ↔ ((k : ℕ) × IsReadTo reverse t i k × IsChoice reverse xs t k e)
 
 -- In which order they find them, for one who reads up, where the loops of all trees read.
 pub record FindsInOrder (xs : List Tree) (n : Nfa) : Type 0 where
@@ -62,14 +71,23 @@ pub record FindsInOrder (xs : List Tree) (n : Nfa) : Type 0 where
       ends_from n.automaton t (i, start_of n.automaton p) ≡ distinct same_pair (map (λ j. (j, p)) (preferred_ends t.holds (seen t) x i))
   pub anchored : All LoopsRead xs → (t : Text) (i : ℕ) → i ≤ t.end →
       ends_from n.automaton t (i, n.automaton.start_anchored) ≡ distinct same_pair (choices_from 0 xs t i)
-  pub unanchored : All LoopsRead xs → (h : List ℕ) (s f i : ℕ) → s ≤ i → i ≤ f → f ≤ length h → All (λ byte. byte < 256) h →
-      ends_from n.automaton (span n.terminator h s f) (i, n.automaton.start_unanchored)
-      ≡ distinct same_pair (flat_map (choices_from 0 xs (span n.terminator h s f)) (places_from i (suc f - i)))
+  pub unanchored : All LoopsRead xs → (t : Text) (i : ℕ) → IsRead t → t.start ≤ i → i ≤ t.end →
+      ends_from n.automaton t (i, n.automaton.start_unanchored)
+      ≡ distinct same_pair (flat_map (choices_from 0 xs t) (places_from i (suc t.end - i)))
 
 -- No chain from the unanchored start comes to a pair twice, so there are no loops that read nothing.
 abbrev pub HasNoReturn : Nfa → Type 0
 HasNoReturn n = (t : Text) (i : ℕ) (r : List (ℕ × ℕ)) → i ≤ t.end → IsChain same_pair (ways n.automaton t) (i, n.automaton.start_unanchored) r →
     HasNoneTwice same_pair ((i, n.automaton.start_unanchored) ∷ r)
+
+-- Whatever the loops, the anchored start leads to those of the patterns, one after the other; the unanchored one leads, for
+-- one who reads up, to the anchored one at one place after the other.
+pub record HasStarts (reverse : Bool) (count : ℕ) (n : Nfa) : Type 0 where
+  pub anchored : (t : Text) (i : ℕ) → i ≤ t.end → ends_from n.automaton t (i, n.automaton.start_anchored)
+      ≡ distinct same_pair (flat_map (λ p. ends_from n.automaton t (i, start_of n.automaton p)) (places_from 0 count))
+  pub unanchored : reverse ≡ false → (t : Text) (i : ℕ) → IsRead t → t.start ≤ i → i ≤ t.end →
+      ends_from n.automaton t (i, n.automaton.start_unanchored)
+      ≡ distinct same_pair (flat_map (λ k. ends_from n.automaton t (k, n.automaton.start_anchored)) (places_from i (suc t.end - i)))
 
 -- there is one state in which the pattern matches
 abbrev pub HasOneMatch : Automaton → ℕ → Type 0
@@ -91,3 +109,6 @@ pub record IsCompiled (o : Options) (xs : List Tree) (n : Nfa) : Type 0 where
   pub always_anchored : (n.automaton.start_anchored ≡ n.automaton.start_unanchored) ↔ All (λ x. is_anchored_tree (reverse_of o) x ≡ true) xs
   pub states : length n.automaton.states ≤ list_room (is_shrunk o) xs
   pub bytes : memory_of n.automaton.states ≤ 4096 * list_room (is_shrunk o) xs
+  pub looks : (l : Look) → has_look (looks_of n.automaton.states) l ≡ list_any (λ x. has_look (looks_used x) (turned (reverse_of o) l)) xs
+  pub starts : HasStarts (reverse_of o) (length xs) n
+  pub limit : MatchOption (limit_of o) ⊤ (λ most. memory_of n.automaton.states ≤ most)

@@ -1,9 +1,12 @@
 -- What a call of the compiler adds to a builder's states: a fragment with a start, and an end that is led on later.
-use Rattle.std.specs.Prelude.{◌≡◌, ◌≢◌, ◌⊎◌, ℕ, zero, suc, ◌+◌, ◌*◌, ◌<◌, ◌≤◌, Bool, true, false, List, length, All, Option, Some, None}
-use Rattle.std.specs.List.{sum_by}
+use Rattle.std.specs.Prelude.{◌≡◌, ◌≢◌, ◌⊎◌, ℕ, zero, suc, ◌+◌, ◌*◌, ◌<◌, ◌≤◌, nat_lt, Bool, true, false, ◌||◌, List, length, All, Option, Some, None}
+use Rattle.std.specs.List.{sum_by, list_any}
 use Rattle.search_core.specs.Index.{greatest_index}
-use Rattle.hir_core.specs.Tree.{Tree, repetition}
-use Rattle.nfa_core.specs.BuilderStates.{Part, match_part, Assembly, part_at, patched, part_bytes, is_sparse}
+use Rattle.look_core.specs.declared.look.Look.{Look}
+use Rattle.look_core.specs.Codes.{repr, reversed}
+use Rattle.look_core.specs.LookSets.{has_look}
+use Rattle.hir_core.specs.Tree.{Tree, empty, literal, byte_class, char_class, look, repetition, capture, nothing, cat, never, alt}
+use Rattle.nfa_core.specs.BuilderStates.{Part, look_part, match_part, Assembly, part_at, patched, part_bytes, is_sparse}
 use Rattle.nfa_core.specs.Renaming.{stands_for, going_on}
 use Rattle.nfa_core.specs.CanBuild.{names_of, is_known}
 use Rattle.nfa_core.specs.Drafted.{Table}
@@ -44,15 +47,59 @@ abbrev pub is_match_part : Part → Bool
 is_match_part (match_part pattern) = true
 is_match_part _ = false
 
--- the state names states that are there, its group is noted, and it is no match
-pub record IsTame (b : Assembly) (part : Part) : Type 0 where
+-- a match is barred, and where states are plain a look is, too
+abbrev pub is_barred : Bool → Part → Bool
+is_barred plain (match_part pattern) = true
+is_barred plain (look_part l next) = plain
+is_barred plain _ = false
+
+-- the state names states that are there, its group is noted, and it is no match, nor a look where states are plain
+pub record IsTame (plain : Bool) (b : Assembly) (part : Part) : Type 0 where
   pub named : All (λ q. q < length b.parts) (names_of part)
   pub known : is_known b.groups part ≡ true
-  pub no_match : is_match_part part ≡ false
+  pub not_barred : is_barred plain part ≡ false
 
 -- the states from `low` on are such
-abbrev pub AllTame : ℕ → Assembly → Type 0
-AllTame low b = (q : ℕ) → low ≤ q → q < length b.parts → IsTame b (part_at b.parts q)
+abbrev pub AllTame : Bool → ℕ → Assembly → Type 0
+AllTame plain low b = (q : ℕ) → low ≤ q → q < length b.parts → IsTame plain b (part_at b.parts q)
+
+-- whether a length is told, and above 0
+abbrev pub is_above_zero : Option ℕ → Bool
+is_above_zero None = false
+is_above_zero (Some n) = nat_lt 0 n
+
+-- whether the state has the look
+abbrev pub is_look : Look → Part → Bool
+is_look l (look_part m next) = has_look (repr m) l
+is_look l _ = false
+
+-- whether one of the states has it
+abbrev pub looks_in : List Part → Look → Bool
+looks_in parts l = list_any (is_look l) parts
+
+-- the look that holds where this one does, for one who reads up, or down
+abbrev pub turned : Bool → Look → Look
+turned false l = l
+turned true l = reversed l
+
+-- whether one who reads up, or down, comes to the look in the tree; repetitions of no rounds have none
+abbrev pub uses : Bool → Tree → Look → Bool
+uses back empty l = false
+uses back (literal bytes) l = false
+uses back (byte_class ranges) l = false
+uses back (char_class ranges) l = false
+uses back (look m) l = has_look (repr (turned back m)) l
+uses back (repetition min (Some zero) greedy x) l = false
+uses back (repetition min most greedy x) l = uses back x l
+uses back (capture index name x) l = uses back x l
+uses back nothing l = false
+uses back (cat x y) l = uses back x l || uses back y l
+uses back never l = false
+uses back (alt x y) l = uses back x l || uses back y l
+
+-- whether one of the trees does
+abbrev pub any_uses : Bool → List Tree → Look → Bool
+any_uses back xs l = list_any (λ x. uses back x l) xs
 
 abbrev pub sum_of_bytes : Assembly → ℕ
 sum_of_bytes b = sum_by part_bytes b.parts
@@ -81,17 +128,19 @@ pub record Finished (low : ℕ) (parts : List Part) (end target : ℕ) (table : 
 pub record Makes (old new : Assembly) (start end n : ℕ) : Type 0 where
   pub fragment : IsFragment old new start end
   pub comes_out : (table : Table) (target : ℕ) → Finished (length old.parts) new.parts end target table → AllComeOut table target (length old.parts) (length new.parts)
-  pub tame : AllTame (length old.parts) new
+  pub tame : AllTame false (length old.parts) new
   pub within : IsWithin old new n
 
 -- Once its end is led on to a target, the fragment does what the tree means on the way from its start to there.
 pub record Does (old new : Assembly) (start end : ℕ) (x : Tree) : Type 0 where
   pub denotes : (table : Table) (target : ℕ) → Finished (length old.parts) new.parts end target table → Denotes old.reverse table start target x
+  pub looks : (l : Look) → looks_in new.parts l ≡ (looks_in old.parts l || uses old.reverse x l)
 
 -- The same where something is still to do behind it: once `rest` is done from the target, `whole` is done from the start.
 pub record DoesFirst (old new : Assembly) (start end : ℕ) (rest whole : Tree) : Type 0 where
   pub before : (table : Table) (target : ℕ) → Finished (length old.parts) new.parts end target table → (last : ℕ) → Denotes old.reverse table target last rest →
       Denotes old.reverse table start last whole
+  pub looks : (l : Look) → (looks_in new.parts l || uses old.reverse rest l) ≡ (looks_in old.parts l || uses old.reverse whole l)
 
 -- the bound with n more rounds
 abbrev pub raised : ℕ → Option ℕ → Option ℕ
@@ -106,3 +155,5 @@ pub record DoesCopies (old new : Assembly) (start end n : ℕ) (x : Tree) : Type
 pub record DoesOption (old new : Assembly) (start end exit : ℕ) (greedy : Bool) (x : Tree) : Type 0 where
   pub before : (table : Table) (target : ℕ) → Finished (length old.parts) new.parts end target table → (left : ℕ) →
       Denotes old.reverse table target exit (repetition 0 (Some left) greedy x) → Denotes old.reverse table start exit (repetition 0 (Some (suc left)) greedy x)
+  pub looks : (l : Look) (left : ℕ) →
+      (looks_in new.parts l || uses old.reverse (repetition 0 (Some left) greedy x) l) ≡ (looks_in old.parts l || uses old.reverse x l)

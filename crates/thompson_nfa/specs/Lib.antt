@@ -32,3 +32,4 @@ pub mod LiteralGroups
 pub mod LiteralTries
 pub mod LiteralStates
 pub mod LiteralParts
+pub mod Directions

@@ -59,7 +59,7 @@ pub record AddsNode (old new : Assembly) (names : List ℕ) (end : ℕ) (items :
   pub states : length new.parts ≤ length old.parts + 2 * edges_in items
   pub bytes : sum_of_bytes new + 4096 * length old.parts ≤ sum_of_bytes old + 4096 * length new.parts
   pub numbered : length old.parts ≤ greatest_index + 1 → length new.parts ≤ greatest_index + 1
-  pub tame : AllTame (length old.parts) new
+  pub tame : AllTame true (length old.parts) new
   pub stands : (q : ℕ) → length old.parts ≤ q → q < length new.parts → stands_for (part_at new.parts q) ≡ None
   pub there : (id ≡ end) ⊎ ((length old.parts ≤ id) × (id < length new.parts))
   pub denotes : (table : Table) → ((q : ℕ) → length old.parts ≤ q → q < length new.parts → table q ≡ part_at new.parts q) → (first : ℕ) → AreChunks first (length names) items → (x : ℕ → Tree) →

@@ -1,6 +1,7 @@
 -- What the compile of patterns, one after the other, adds to a builder, and why it is refused.
-use Rattle.std.specs.Prelude.{◌≡◌, ◌≢◌, ℕ, ◌+◌, ◌*◌, ◌<◌, ◌≤◌, nat_lt, Bool, true, false, List, [], ◌∷◌, ◌++◌, length, slice_get, All, Option, None, Some, if◌then◌else◌}
+use Rattle.std.specs.Prelude.{◌≡◌, ◌≢◌, ℕ, ◌+◌, ◌*◌, ◌<◌, ◌≤◌, nat_lt, Bool, true, false, ◌||◌, List, [], ◌∷◌, ◌++◌, length, slice_get, All, Option, None, Some, if◌then◌else◌}
 use Rattle.search_core.specs.Index.{greatest_index}
+use Rattle.look_core.specs.declared.look.Look.{Look}
 use Rattle.hir_core.specs.Tree.{Tree}
 use Rattle.nfa_core.specs.BuilderStates.{Assembly, Part, empty_part, union_part, match_part, part_at}
 use Rattle.nfa_core.specs.Renaming.{stands_for}
@@ -9,8 +10,8 @@ use Rattle.nfa_core.specs.Drafted.{Table}
 use Rattle.nfa_core.specs.declared.build_error.BuildError.{BuildError}
 use Rattle.nfa_core.specs.declared.build_error.BuildError.TheVariants as error
 use Rattle.thompson_nfa.specs.Added.{Added}
-use Rattle.thompson_nfa.specs.Compiled.{past_in, sum_of_bytes}
-use Rattle.thompson_nfa.specs.Assembled.{AcceptAll, LeadsToAll}
+use Rattle.thompson_nfa.specs.Compiled.{past_in, sum_of_bytes, looks_in, any_uses}
+use Rattle.thompson_nfa.specs.Assembled.{AcceptAll, LeadsToAll, IsFree}
 use Rattle.thompson_nfa.specs.Configs.{Options, utf8_of, reverse_of, limit_of, terminator_of}
 use Rattle.thompson_nfa.specs.NotedGroups.{HasGroup, noted_from}
 use Rattle.thompson_nfa.specs.Prefix.{HasPrefix}
@@ -50,6 +51,7 @@ pub record HasPatterns (which : WhichCaptures) (hole : ℕ) (old new : Assembly)
   pub numbered : (q p : ℕ) → length old.parts ≤ q → q < length new.parts → q ≢ hole → part_at new.parts q ≡ match_part p → (length old.starts ≤ p) × (p < length new.starts)
   pub one_match : (q r p : ℕ) → length old.parts ≤ q → q < length new.parts → q ≢ hole → length old.parts ≤ r → r < length new.parts → r ≢ hole →
       part_at new.parts q ≡ match_part p → part_at new.parts r ≡ match_part p → q ≡ r
+  pub looks : (l : Look) → looks_in new.parts l ≡ (looks_in old.parts l || any_uses old.reverse xs l)
   pub states : length new.parts ≤ length old.parts + n
   pub bytes : sum_of_bytes new + spare + 4096 * length old.parts ≤ sum_of_bytes old + 4096 * length new.parts
   pub last : length old.parts ≤ greatest_index + 1 → length new.parts ≤ greatest_index + 1
@@ -62,6 +64,7 @@ HasAll which old new starts xs n spare = HasPatterns which (length new.parts) ol
 abbrev pub LeadsToPatterns : WhichCaptures → Assembly → Assembly → ℕ → List Tree → ℕ → Type 0
 LeadsToPatterns which old new c xs n =
     (starts : List ℕ) × HasAll which old new starts xs n 0 × LeadsToAll (part_at new.parts) c starts × (c < length new.parts) × (length old.parts ≤ c)
+    × IsFree old.reverse (length old.parts) (length old.starts) new.parts c starts xs
 
 -- The union led to some states, and leads to the starts of further patterns too.
 abbrev pub LeadsToFurther : WhichCaptures → ℕ → Assembly → Assembly → List Tree → ℕ → Type 0

@@ -1,5 +1,5 @@
 -- A class that is compiled sequence by sequence: what its states and the nodes on the path of the last sequence read.
-use Rattle.std.specs.Prelude.{◌≡◌, ℕ, ◌+◌, ◌*◌, ◌<◌, ◌≤◌, Bool, List, [], ◌∷◌, ◌++◌, length, map, None}
+use Rattle.std.specs.Prelude.{◌≡◌, ℕ, ◌+◌, ◌*◌, ◌<◌, ◌≤◌, Bool, List, [], ◌∷◌, ◌++◌, length, map, None, true}
 use Rattle.hir_core.specs.Tree.{Tree, empty, never, alternation}
 use Rattle.hir_core.specs.Means.{Looks}
 use Rattle.hir_core.specs.PreferredEnds.{preferred_ends}
@@ -91,7 +91,7 @@ pub record HasStates (old new : Assembly) (end : ℕ) (most : ℕ) : Type 0 wher
   pub there : end < length new.parts
   pub grows : Grows old new
   pub groups_are : new.groups ≡ old.groups
-  pub tame : AllTame (length old.parts) new
+  pub tame : AllTame true (length old.parts) new
   pub waits : part_at new.parts end ≡ empty_part 0
   pub stands : (q : ℕ) → end < q → q < length new.parts → stands_for (part_at new.parts q) ≡ None
   pub states : length new.parts ≤ length old.parts + most

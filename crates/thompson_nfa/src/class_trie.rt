@@ -22,7 +22,7 @@ fn insert_turned(
 {
     let mut turned = sequence;
     turned.reverse();
-    trie.insert(alloc, turned.as_slice())?;
+    trie.insert(turned.as_slice())?;
     Ok(())
 }
 

@@ -1,7 +1,8 @@
 //! Trees as fragments of states. Recursion goes into parts of the tree only.
-ghost use Rattle.std.specs.Prelude.{◌≡◌, ◌<◌, ◌≤◌, ◌+◌, ◌-◌, ◌*◌, [], ◌∷◌, length, IfOk, IfErr, IfSome, Some, None, option_map, string_bytes};
+ghost use Rattle.std.specs.Prelude.{◌≡◌, ◌<◌, ◌≤◌, ◌+◌, ◌-◌, ◌*◌, ◌==◌, false, [], ◌∷◌, length, IfOk, IfErr, IfSome, Some, None, option_map, string_bytes};
+ghost use Rattle.hir_core.specs.Facts.{minimum_len};
 ghost use Rattle.hir_core.specs.Tree.{repetition, capture, concat, alternation};
-ghost use Rattle.thompson_nfa.specs.Compiled.{IsReady, Makes, Does, DoesCopies, DoesOption};
+ghost use Rattle.thompson_nfa.specs.Compiled.{IsReady, Makes, Does, DoesCopies, DoesOption, is_above_zero};
 ghost use Rattle.thompson_nfa.specs.NotedGroups.{noted, keeps_group};
 ghost use Rattle.thompson_nfa.specs.Refusals.{Refuses};
 ghost use Rattle.thompson_nfa.specs.Room.{room};
@@ -143,15 +144,18 @@ fn concatenation(
     })
 }
 
-/// Whether each span of the tree has a byte, so far as is known.
-fn reads(x: &Hir) -> bool {
+/// Whether each span of the tree has a byte, so far as its minimum length tells.
+fn reads(x: &Hir) -> bool
+    ensures { result ≡ is_above_zero (minimum_len x.now) }
+{
     match x.properties().minimum_len() {
         None => false,
         Some(n) => n > 0,
     }
 }
 
-/// Any number of rounds.
+/// Any number of rounds. Where each of them reads, one choice is both start and end. Where rounds may read
+/// nothing, such a loop would prefer other ends, so there it has a form of its own.
 #[cycle(compile)]
 fn zero_or_more(
     builder: &mut Builder,
@@ -166,8 +170,10 @@ fn zero_or_more(
     ensures denotes { IfOk result (λ f. Does builder.old builder.new f.start f.end (repetition 0 None greedy x.now)) }
     ensures groups { IfOk result (λ _. builder.new.groups ≡ noted how.which (length builder.old.starts) (x.now) builder.old.groups) }
     ensures refused { IfErr result (λ e. Refuses how.which builder.old builder.new (room how.shrink x.now + 3) (x.now) e) }
+    ensures form { IfOk result (λ f. (f.start == f.end) ≡ is_above_zero (minimum_len x.now)) }
 {
-    if !reads(x) {
+    let some = reads(x);
+    if !some {
         let any = zero_or_more_of_empty(builder, alloc, how, shared, x, greedy)?;
         return Ok(any);
     }
@@ -196,6 +202,7 @@ fn zero_or_more_of_empty(
     ensures denotes { IfOk result (λ f. Does builder.old builder.new f.start f.end (repetition 0 None greedy x.now)) }
     ensures groups { IfOk result (λ _. builder.new.groups ≡ noted how.which (length builder.old.starts) (x.now) builder.old.groups) }
     ensures refused { IfErr result (λ e. Refuses how.which builder.old builder.new (room how.shrink x.now + 3) (x.now) e) }
+    ensures apart { IfOk result (λ f. (f.start == f.end) ≡ false) }
 {
     let body = compile(builder, alloc, how, shared, x)?;
     let plus = add_choice(builder, alloc, greedy)?;
@@ -236,31 +243,6 @@ fn one_or_more(
         start: body.start,
         end: union,
     })
-}
-
-/// One round at most.
-#[cycle(compile)]
-fn zero_or_one(
-    builder: &mut Builder,
-    alloc: Global,
-    how: How,
-    shared: &mut Shared,
-    x: &Hir,
-    greedy: bool,
-) -> Result<Fragment, BuildError>
-    requires { IsReady how.which builder.old }
-    ensures made { IfOk result (λ f. Makes builder.old builder.new f.start f.end (room how.shrink x.now + 2)) }
-    ensures denotes { IfOk result (λ f. Does builder.old builder.new f.start f.end (repetition 0 (Some 1) greedy x.now)) }
-    ensures groups { IfOk result (λ _. builder.new.groups ≡ noted how.which (length builder.old.starts) (x.now) builder.old.groups) }
-    ensures refused { IfErr result (λ e. Refuses how.which builder.old builder.new (room how.shrink x.now + 2) (x.now) e) }
-{
-    let union = add_choice(builder, alloc, greedy)?;
-    let body = compile(builder, alloc, how, shared, x)?;
-    let end = add_empty(builder)?;
-    lead(builder, union, body.start)?;
-    lead(builder, union, end)?;
-    lead(builder, body.end, end)?;
-    Ok(Fragment { start: union, end })
 }
 
 /// So many rounds, one after the other; there is one at least.
@@ -453,10 +435,6 @@ fn between(
     if min > 0 {
         let some = owed_and_more(builder, alloc, how, shared, x, greedy, min, most)?;
         return Ok(some);
-    }
-    if most == 1 {
-        let one = zero_or_one(builder, alloc, how, shared, x, greedy)?;
-        return Ok(one);
     }
     let any = up_to(builder, alloc, how, shared, x, greedy, most)?;
     Ok(any)

@@ -12,12 +12,14 @@ use std::alloc::Global;
 use std::marker::Model;
 use std::slice;
 
-/// Makes byte automata of trees. A contract sees the options that were set: what an automaton is depends on
-/// these and the trees alone, and not on what was made or refused before.
+/// Makes byte automata of trees. A contract sees the options that were set: it relates each automaton, and each
+/// refusal, to these and the trees alone, whatever was made or refused before. That is a relation, and no
+/// function: how states are numbered, and which of them are shared, is not said.
 ///
 /// As `regex_automata::nfa::thompson::Compiler`.
 #[derive(Drop)]
 pub struct Compiler {
+    alloc: Global,
     config: Config,
     builder: Builder,
     shared: Shared,
@@ -37,6 +39,7 @@ impl Compiler {
         ensures { result ≡ no_options }
     {
         Compiler {
+            alloc,
             config: Config::new(),
             builder: Builder::new(alloc),
             shared: Shared::new(alloc),
@@ -53,12 +56,12 @@ impl Compiler {
     }
 
     /// The automaton of one tree, as pattern 0. See [`build_many_from_hir`](Compiler::build_many_from_hir).
-    pub fn build_from_hir(&mut self, alloc: Global, expr: &Hir) -> Result<NFA, BuildError>
+    pub fn build_from_hir(&mut self, expr: &Hir) -> Result<NFA, BuildError>
         ensures options { self.new ≡ self.old }
         ensures compiled { IfOk result (λ n. IsCompiled self.old (expr.now ∷ []) n) }
         ensures refused { IfErr result (λ e. RefusesTrees self.old (expr.now ∷ []) e) }
     {
-        let nfa = self.build_many_from_hir(alloc, slice::from_ref(expr))?;
+        let nfa = self.build_many_from_hir(slice::from_ref(expr))?;
         Ok(nfa)
     }
 
@@ -67,14 +70,14 @@ impl Compiler {
     /// It is refused where groups are asked for in an automaton that reads downwards, or break a rule, where
     /// there are more patterns or states than can be numbered, where the states take more bytes than they may,
     /// and where memory lacks.
-    pub fn build_many_from_hir(&mut self, alloc: Global, exprs: &[Hir]) -> Result<NFA, BuildError>
+    pub fn build_many_from_hir(&mut self, exprs: &[Hir]) -> Result<NFA, BuildError>
         ensures options { self.new ≡ self.old }
         ensures compiled { IfOk result (λ n. IsCompiled self.old exprs.now n) }
         ensures refused { IfErr result (λ e. RefusesTrees self.old exprs.now e) }
     {
         let nfa = compile_trees(
             &mut self.builder,
-            alloc,
+            self.alloc,
             &mut self.shared,
             &self.config,
             exprs,

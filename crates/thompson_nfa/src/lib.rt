@@ -5,6 +5,7 @@ mod ascii_class;
 mod class;
 mod class_trie;
 mod compile;
+pub mod compile_laws;
 mod compiler;
 mod config;
 mod fnv;

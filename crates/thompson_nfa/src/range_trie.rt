@@ -19,6 +19,7 @@ use std::marker::Model;
 /// As `regex_automata::nfa::thompson::range_trie::RangeTrie`.
 #[derive(Drop)]
 pub struct RangeTrie {
+    alloc: Global,
     nodes: Nodes,
     root: Next,
 }
@@ -41,6 +42,7 @@ impl RangeTrie {
         ensures { result ≡ [] }
     {
         RangeTrie {
+            alloc,
             nodes: Nodes::new(alloc),
             root: Next::Nothing,
         }
@@ -57,14 +59,14 @@ impl RangeTrie {
     /// Adds the strings with a byte of each range, in the order of the ranges. None of them may be a proper
     /// prefix of a string of the trie, nor have one as a proper prefix. Where there is no memory, the trie
     /// stays as it is.
-    pub fn insert(&mut self, alloc: Global, ranges: &[Utf8Range]) -> Result<(), AllocError>
+    pub fn insert(&mut self, ranges: &[Utf8Range]) -> Result<(), AllocError>
         requires ordered { AreRanges (map bytes_of ranges.now) }
         requires apart { IsApart self.old (map bytes_of ranges.now) }
         ensures ok { OnOk result (IsWith self.old (map bytes_of ranges.now) self.new) }
         ensures err { OnErr result (self.new ≡ self.old) }
         ensures trie { IsTrie self.new }
     {
-        let root = insert_below(&mut self.nodes, alloc, self.root, ranges);
+        let root = insert_below(&mut self.nodes, self.alloc, self.root, ranges);
         self.nodes.see_order();
         self.root = root?;
         Ok(())
@@ -83,7 +85,6 @@ impl RangeTrie {
     /// where there is no memory for the sequences; then no call was made.
     pub fn iter<E: From<AllocError>, F: FnMut(&[Utf8Range]) -> Result<(), E>>(
         &self,
-        alloc: Global,
         f: F,
     ) -> Result<(), E>
         requires { F.IsAlwaysCallable f }
@@ -91,7 +92,7 @@ impl RangeTrie {
         ensures err { IfErr result (λ e. CallsUpTo F.step f self.now e ⊎ E.from_gives alloc_error e) }
         ensures trie { IsTrie self.now }
     {
-        let paths = self.paths(alloc)?;
+        let paths = self.paths(self.alloc)?;
         call_each(f, &paths)
     }
 

@@ -1,9 +1,10 @@
 //! The steps from trees to an automaton.
-ghost use Rattle.std.specs.Prelude.{◌≡◌, ◌≢◌, ◌⊎◌, ◌<◌, ◌≤◌, ◌+◌, ◌&&◌, true, false, length, IfOk, IfErr, MatchResult};
+ghost use Rattle.std.specs.Prelude.{◌≡◌, ◌≢◌, ◌⊎◌, ◌<◌, ◌≤◌, ◌+◌, ◌&&◌, true, false, length, IfOk, IfErr, MatchOption, MatchResult, ⊤};
 ghost use Rattle.search_core.specs.Index.{greatest_index};
 ghost use Rattle.nfa_core.specs.BuilderFaults.{Tells, build_fault};
 ghost use Rattle.nfa_core.specs.CanBuild.{CanBuild};
 ghost use Rattle.nfa_core.specs.NfaOf.{nfa_of};
+ghost use Rattle.nfa_core.specs.NfaValue.{memory_of};
 ghost use Rattle.nfa_core.specs.Renaming.{past};
 ghost use Rattle.nfa_core.specs.declared.build_error.BuildError.TheVariants.{NoMemory, TooManyPatterns, UnsupportedCaptures};
 ghost use Rattle.thompson_nfa.specs.Assembled.{IsAssembled};
@@ -81,7 +82,8 @@ fn build_counted<L: Ledger>(
     requires name { blank.name ≡ L.name }
     requires parts { blank.parts ≡ L.parts }
     requires some { 0 < blank.parts }
-    ensures { MatchResult result (λ n. n ≡ nfa_of builder.now starts.anchored starts.unanchored) (λ e. (e ≡ NoMemory) ⊎ Tells e (build_fault builder.now)) }
+    ensures value { MatchResult result (λ n. n ≡ nfa_of builder.now starts.anchored starts.unanchored) (λ e. (e ≡ NoMemory) ⊎ Tells e (build_fault builder.now)) }
+    ensures within { IfOk result (λ n. MatchOption builder.now.size_limit ⊤ (λ most. memory_of n.automaton.states ≤ most)) }
 {
     let mut steps = Steps::<L>::new(blank);
     let nfa = builder.build(starts.anchored, starts.unanchored, &mut steps)?;
@@ -91,7 +93,8 @@ fn build_counted<L: Ledger>(
 /// Builds the automaton.
 fn build(builder: &Builder, starts: Starts) -> Result<NFA, BuildError>
     requires { CanBuild builder.now starts.anchored starts.unanchored }
-    ensures { MatchResult result (λ n. n ≡ nfa_of builder.now starts.anchored starts.unanchored) (λ e. (e ≡ NoMemory) ⊎ Tells e (build_fault builder.now)) }
+    ensures value { MatchResult result (λ n. n ≡ nfa_of builder.now starts.anchored starts.unanchored) (λ e. (e ≡ NoMemory) ⊎ Tells e (build_fault builder.now)) }
+    ensures within { IfOk result (λ n. MatchOption builder.now.size_limit ⊤ (λ most. memory_of n.automaton.states ≤ most)) }
 {
     build_counted::<Brand>(builder, starts, Blank::new(1))
 }
@@ -115,7 +118,7 @@ fn finish(
     Ok(nfa)
 }
 
-/// The automaton of these trees under the configuration. What the builder has is of no account.
+/// The automaton of these trees under the configuration. What the builder holds is taken away first.
 pub(crate) fn compile_trees(
     builder: &mut Builder,
     alloc: Global,

@@ -1,7 +1,8 @@
-use Rattle.std.proofs.Common.{◌≡◌, drop}
+use Rattle.std.proofs.Common.{◌≡◌}
 use Rattle.hir_core.specs.Tree.{alternation}
 use Rattle.hir_core.specs.Facts.{minimum_len}
+use Rattle.hir_core.specs.Backward.{behind}
 use Rattle.hir_core.proofs.facts.alternation_minimum_len.Given as goal
 
-abbrev pub invariant-loop-i : goal.invariant-loop-i
-invariant-loop-i l = l.least ≡ minimum_len (alternation (drop l.i l.subs))
+abbrev pub invariant-loop-sub : goal.invariant-loop-sub
+invariant-loop-sub l = l.least ≡ minimum_len (alternation (behind l.yielded))

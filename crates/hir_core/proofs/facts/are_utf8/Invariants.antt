@@ -1,7 +1,8 @@
-use Rattle.std.proofs.Common.{◌≡◌, drop}
+use Rattle.std.proofs.Common.{◌≡◌}
 use Rattle.hir_core.specs.Tree.{concat, alternation}
 use Rattle.hir_core.specs.Facts.{is_utf8_tree}
+use Rattle.hir_core.specs.Backward.{behind}
 use Rattle.hir_core.proofs.facts.are_utf8.Given as goal
 
-abbrev pub invariant-loop-i : goal.invariant-loop-i
-invariant-loop-i l = (l.all ≡ is_utf8_tree (concat (drop l.i l.subs))) × (l.all ≡ is_utf8_tree (alternation (drop l.i l.subs)))
+abbrev pub invariant-loop-sub : goal.invariant-loop-sub
+invariant-loop-sub l = (l.all ≡ is_utf8_tree (concat (behind l.yielded))) × (l.all ≡ is_utf8_tree (alternation (behind l.yielded)))

@@ -2,7 +2,7 @@ use Rattle.std.proofs.Common.{◌≡◌, ◌+◌, ◌-◌, length, sym, ap, ◌�
 use Rattle.hirscan.specs.Asks.{query}
 use Rattle.hirscan.specs.Choices.{answer_from}
 use Rattle.hirscan.proofs.AnswerLemmas.{answers_within}
-use Rattle.hirscan.proofs.AllAnswersLemmas.{answer_written, answers_done, none_asked, next_within}
+use Rattle.search_types.proofs.ForCallers.{answer_written, answers_done, none_asked, next_within}
 use Rattle.hirscan.proofs.find.all_answers.Goals as goal
 use Rattle.hirscan.proofs.find.all_answers.Goals.{else-loop-test, then-loop-test+in_ok-found+in_default}
 

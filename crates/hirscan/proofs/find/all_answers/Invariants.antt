@@ -1,7 +1,7 @@
 use Rattle.std.proofs.Common.{◌≡◌, ◌+◌, ◌-◌, ◌≤◌, ◌++◌}
 use Rattle.hirscan.specs.Asks.{query}
-use Rattle.hirscan.specs.Choices.{answer_from}
-use Rattle.hirscan.specs.AllAnswers.{answers_from, answers_of}
+use Rattle.search_types.specs.AllAnswers.{answers_from}
+use Rattle.hirscan.specs.Choices.{answer_from, answers_of}
 use Rattle.hirscan.proofs.find.all_answers.Given as goal
 
 abbrev pub invariant-loop : goal.invariant-loop

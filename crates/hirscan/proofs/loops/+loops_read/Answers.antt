@@ -2,7 +2,7 @@ use Rattle.std.proofs.Common.{sym, ap, ◌∙◌, arith}
 use Rattle.hir_core.specs.Tree.{alternation}
 use Rattle.hir_core.specs.Node.{node}
 use Rattle.hir_core.specs.Weight.{weight}
-use Rattle.hir_core.proofs.PartLemmas.{weight_in_concat, weight_of_either}
+use Rattle.hir_core.proofs.ForCallers.{weight_in_concat, weight_of_either}
 use Rattle.hirscan.proofs.loops.+loops_read.Goals as goal
 
 pub all_read-loops_read-requires : goal.all_read-loops_read-requires

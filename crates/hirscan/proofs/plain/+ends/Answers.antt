@@ -6,7 +6,7 @@ use Rattle.hirscan.specs.PlainEnds.{plain_ends}
 use Rattle.hir_core.specs.PreferredEnds.{exactly, up_to, unbounded}
 use Rattle.hirscan.proofs.RoundLemmas.{round_done, rounds_done, no_place, between_by_exactly, at_least_by_exactly}
 use Rattle.hirscan.proofs.WalkLemmas.{turn_last, turn_more, met_greedy, met_lazy}
-use Rattle.hir_core.proofs.PartLemmas.{weight_in_concat}
+use Rattle.hir_core.proofs.ForCallers.{weight_in_concat}
 use Rattle.hirscan.proofs.PartLemmas.{weight_in_alternation, part_done, parts_done}
 use Rattle.hirscan.proofs.plain.+ends.Goals as goal
 use Rattle.hirscan.proofs.plain.+ends.Goals.{ends_up_to-then-greedy, ends_up_to-else-greedy, ends_exactly-else-loop-test, ends_exactly-then-loop-test+then-is_empty}

@@ -1,4 +1,4 @@
-use Rattle.search_core.proofs.Utf8Lemmas.{utf8_of_valid}
+use Rattle.search_core.proofs.ForCallers.{utf8_of_valid}
 use Rattle.look_core.proofs.CharacterMirrorLemmas.{mirror_characters}
 use Rattle.look_core.proofs.laws.reversed_looks_hold_between_the_reversed_characters.Goals as goal
 

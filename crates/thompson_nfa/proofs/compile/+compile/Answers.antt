@@ -1,11 +1,12 @@
 use Rattle.std.proofs.Common.{◌∙◌, ap, sym, refl, length, get_or, arith}
+use Rattle.hir_core.specs.Facts.{minimum_len}
 use Rattle.hir_core.specs.Weight.{weight}
 use Rattle.nfa_core.specs.BuilderStates.{Assembly}
 use Rattle.thompson_nfa.specs.Turned.{turned_place}
 use Rattle.thompson_nfa.proofs.ErrorLemmas.{handed}
 use Rattle.thompson_nfa.proofs.GrowLemmas.{ready_later}
 use Rattle.thompson_nfa.proofs.ProgressLemmas.{made_capped}
-use Rattle.thompson_nfa.proofs.RepeatLemmas.{star_made, star_does, plus_made, plus_does, loop_made, loop_does, once_made, once_does}
+use Rattle.thompson_nfa.proofs.RepeatLemmas.{star_made, star_does, plus_made, plus_does, loop_made, loop_does, loop_form, loops_apart, other_form}
 use Rattle.thompson_nfa.proofs.OptionLemmas.{option_made, option_does}
 use Rattle.thompson_nfa.proofs.CopyLemmas.{copies_first, copies_then, copies_exact, copies_loop, rounds_owed, rounds_first, rounds_then, rounds_made, rounds_does, copies_done, at_least_made, stopped_does, bounds_does, groups_again}
 use Rattle.thompson_nfa.proofs.CaptureLemmas.{capture_made, capture_does, plain_does}
@@ -24,6 +25,15 @@ pub zero_or_more-returns-clause-denotes : goal.zero_or_more-returns-clause-denot
 zero_or_more-returns-clause-denotes t c =
     star_does _ _ _ _ _ c.args.greedy _ _ _ _ c.in_ok-union.ensures c.in_ok-body.ensures.made c.in_ok-lead.ensures c.in_ok-lead-2.ensures c.args.x.now c.in_ok-body.ensures.denotes
 
+pub zero_or_more-returns-clause-form : goal.zero_or_more-returns-clause-form
+zero_or_more-returns-clause-form t c = loop_form _ _ (minimum_len c.args.x.now) c.reads-some.ensures c.if-not-some.false
+
+pub zero_or_more-returns-then-not-some-clause-form : goal.zero_or_more-returns-then-not-some-clause-form
+zero_or_more-returns-then-not-some-clause-form t c = other_form _ _ (minimum_len c.args.x.now) c.in_ok-any.ensures.apart c.reads-some.ensures c.if-not-some.true
+
+pub zero_or_more_of_empty-returns-clause-apart : goal.zero_or_more_of_empty-returns-clause-apart
+zero_or_more_of_empty-returns-clause-apart t c = loops_apart c.in_ok-question.ensures c.in_ok-empty.ensures
+
 pub zero_or_more_of_empty-returns-clause-made : goal.zero_or_more_of_empty-returns-clause-made
 zero_or_more_of_empty-returns-clause-made t c =
     loop_made _ _ _ _ _ _ _ _ _ _ c.args.greedy _ _ _ _ _ _ c.in_ok-body.ensures.made c.in_ok-plus.ensures c.in_ok-lead.ensures c.in_ok-lead-2.ensures c.in_ok-question.ensures c.in_ok-empty.ensures
@@ -40,15 +50,6 @@ one_or_more-returns-clause-made t c = plus_made _ _ _ _ _ c.args.greedy _ _ _ _ 
 pub one_or_more-returns-clause-denotes : goal.one_or_more-returns-clause-denotes
 one_or_more-returns-clause-denotes t c =
     plus_does _ _ _ _ _ c.args.greedy _ _ _ _ c.in_ok-body.ensures.made c.in_ok-union.ensures c.in_ok-lead.ensures c.in_ok-lead-2.ensures c.args.x.now c.in_ok-body.ensures.denotes
-
-pub zero_or_one-returns-clause-made : goal.zero_or_one-returns-clause-made
-zero_or_one-returns-clause-made t c =
-    once_made _ _ _ _ _ _ _ c.args.greedy _ _ _ _ _ c.in_ok-union.ensures c.in_ok-body.ensures.made c.in_ok-end.ensures c.in_ok-lead.ensures c.in_ok-lead-2.ensures c.in_ok-lead-3.ensures
-
-pub zero_or_one-returns-clause-denotes : goal.zero_or_one-returns-clause-denotes
-zero_or_one-returns-clause-denotes t c =
-    once_does _ _ _ _ _ _ _ c.args.greedy _ _ _ _ _ c.in_ok-union.ensures c.in_ok-body.ensures.made c.in_ok-end.ensures c.in_ok-lead.ensures c.in_ok-lead-2.ensures c.in_ok-lead-3.ensures
-    c.args.x.now c.in_ok-body.ensures.denotes
 
 pub option-returns-clause-made : goal.option-returns-clause-made
 option-returns-clause-made t c =
@@ -117,9 +118,6 @@ between-returns-then-most-eq0-clause-denotes t c = stopped_does _ _ _ _ c.args.m
 
 pub between-returns-then-min-most-clause-denotes : goal.between-returns-then-min-most-clause-denotes
 between-returns-then-min-most-clause-denotes t c = copies_exact _ _ _ _ c.args.min c.args.most c.args.greedy c.args.x.now (omega arith) c.in_ok-all.ensures.denotes
-
-pub between-returns-then-most-eq1-clause-denotes : goal.between-returns-then-most-eq1-clause-denotes
-between-returns-then-most-eq1-clause-denotes t c = bounds_does _ _ _ _ 0 1 c.args.min c.args.most c.args.greedy c.args.x.now (omega arith) (omega arith) c.in_ok-one.ensures.denotes
 
 pub between-returns-clause-denotes : goal.between-returns-clause-denotes
 between-returns-clause-denotes t c = bounds_does _ _ _ _ 0 c.args.most c.args.min c.args.most c.args.greedy c.args.x.now (omega arith) refl c.in_ok-any.ensures.denotes

@@ -25,9 +25,6 @@ decreases-zero_or_more_of_empty l = 8 * weight l.x.now + 2
 abbrev pub decreases-one_or_more : goal.decreases-one_or_more
 decreases-one_or_more l = 8 * weight l.x.now + 2
 
-abbrev pub decreases-zero_or_one : goal.decreases-zero_or_one
-decreases-zero_or_one l = 8 * weight l.x.now + 2
-
 abbrev pub decreases-copies : goal.decreases-copies
 decreases-copies l = 8 * weight l.x.now + 2
 

@@ -1,5 +1,5 @@
 use Rattle.std.proofs.Common.{◌∷◌, ap, sym, ◌∙◌}
-use Rattle.search_core.proofs.StepLemmas.{step_goes}
+use Rattle.search_core.proofs.ForCallers.{step_goes}
 use Rattle.look_core.specs.LookSets.{members}
 use Rattle.look_core.proofs.LookSetLemmas.{first-gives}
 use Rattle.look_core.proofs.look_set_iter.LookSetIterIterator.next.Goals as goal

@@ -1,4 +1,4 @@
-use Rattle.std.proofs.Common.{◌≡◌, ℕ, ◌<◌, slice_index, ap, ◌∙◌}
+use Rattle.std.proofs.Common.{ap, ◌∙◌}
 use Rattle.search_core.specs.Marks.{marks_below}
 use Rattle.nfa_core.proofs.nfa.NFA.byte_classes.Goals as goal
 

@@ -1,0 +1,42 @@
+//! Laws of words: each reader answers just what its relation says of a word, and nothing just where the relation
+//! says nothing, so that a line's faults are told by what its words spell. Each function has no code: its contract
+//! is the law.
+ghost use Rattle.std.specs.Prelude.{◌≡◌, ◌↔◌, ◌<◌, ℕ, List, Some, None};
+ghost use Rattle.hirscan.specs.declared.fault.FaultKind.TheVariants.{BadHex, BadRange};
+ghost use Rattle.hirscan.specs.Words.{IsNumber, IsBound, IsGreedy, IsSwitch, IsYes, IsHex, IsHexByte, HasEnds, IsItem};
+ghost use Rattle.hirscan.specs.Readers.{IsReader, IsSpelled, line_word, number, bound, order, switch, yes_or_no, hex_bytes, hex_byte, item_ends};
+ghost use Rattle.hirscan.specs.LineFault.{item_fault};
+
+/// A line's first word says which line it is by being spelled so.
+pub fn first_words_are_read()
+    ensures { IsReader line_word IsSpelled }
+{}
+
+/// A number is read from its decimal text alone: it has no sign and no leading zero, and is at most
+/// 4294967295. A bound on rounds is a number, or none for `inf`.
+pub fn numbers_are_read()
+    ensures numbers { IsReader number IsNumber }
+    ensures bounds { IsReader bound IsBound }
+{}
+
+/// Words of two choices are read: `greedy` and `lazy`, `on` and `off`, `yes` and `no`.
+pub fn choices_are_read()
+    ensures orders { IsReader order IsGreedy }
+    ensures switches { IsReader switch IsSwitch }
+    ensures assents { IsReader yes_or_no IsYes }
+{}
+
+/// Bytes are read from two hexadecimal digits each, of either case.
+pub fn bytes_are_read()
+    ensures bytes { IsReader hex_bytes IsHex }
+    ensures byte { IsReader hex_byte IsHexByte }
+{}
+
+/// An item of a class is read by its ends. It has no fault just where it is an item, bad hex just where it has
+/// no ends, and a bad range just where its low end is above its high end.
+pub fn items_are_read()
+    ensures ends { IsReader item_ends HasEnds }
+    ensures taken { (w : List ℕ) → (item_fault w ≡ None) ↔ ((r : ℕ × ℕ) × IsItem w r) }
+    ensures bad_hex { (w : List ℕ) → (item_fault w ≡ Some BadHex) ↔ ((r : ℕ × ℕ) → HasEnds w r → ⊥) }
+    ensures bad_range { (w : List ℕ) → (item_fault w ≡ Some BadRange) ↔ ((r : ℕ × ℕ) × HasEnds w r × (r.1 < r.0)) }
+{}

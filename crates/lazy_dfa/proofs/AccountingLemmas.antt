@@ -1,0 +1,90 @@
+-- How many bytes caches are taken to need.
+use Rattle.std.proofs.Common.{◌≡◌, ℕ, zero, suc, ◌+◌, ◌*◌, ◌^◌, ◌<◌, ◌≤◌, max, Bool, true, false, List, [], ◌∷◌, ◌++◌, length, refl, sym, ap, ◌∙◌, ⊎_elim, arith, if◌then◌else◌}
+use Rattle.std.proofs.lemmas.Bool.{cases_lt}
+use Rattle.std.proofs.lemmas.Bool.Decides.{leb_tells}
+use Rattle.std.proofs.Math.Nat.{pow-succ', le-max_left, le-max_right, max-le}
+use Rattle.search_core.specs.Classes.{IsLeastExponent}
+use Rattle.determinize_core.specs.States.{StateValue}
+use Rattle.determinize_core.specs.StateBytes.{encoded}
+use Rattle.lazy_dfa.specs.Accounting.{Measures, power_from, longest_state, state_cost, states_cost, fresh_usage, usage, least_capacity, effective_capacity}
+
+-- ---- powers of two
+
+twice : (j : ℕ) → 2 * 2 ^ j ≡ 2 ^ suc j
+twice j = sym (pow-succ' 2 j)
+
+if_more : (b : Bool) (s later top : ℕ) → (b ≡ true → s ≡ top) → (b ≡ false → later ≡ top) → (if b then s else later) ≡ top
+if_more true s later top here on = here refl
+if_more false s later top here on = on refl
+
+module _ (k n : ℕ) (least : IsLeastExponent k n) where
+  -- the power before it is too small
+  too_small : (j : ℕ) → j ≤ k → n ≤ 2 ^ j → j ≡ k
+  too_small j up big = ⊎_elim
+      (λ (less : j < k). let small = least.1 j less in absurd (omega (arith, small, big)))
+      (λ (l : k ≤ j). omega (arith, up, l))
+      (cases_lt j k)
+
+  too_big : (j : ℕ) → j ≤ k → 2 ^ j < n → j < k
+  too_big j up small = ⊎_elim
+      (λ (less : j < k). less)
+      (λ (l : k ≤ j).
+      let same : 2 ^ k ≡ 2 ^ j = ap (λ (i : ℕ). 2 ^ i) (at j up l) in
+      let fits = least.0 in absurd (omega (arith, same, fits, small)))
+      (cases_lt j k)
+    where
+      at : (j : ℕ) → j ≤ k → k ≤ j → k ≡ j
+      at j up l = omega (arith, up, l)
+
+  pub power_is : (more j s : ℕ) → s ≡ 2 ^ j → j ≤ k → k ≤ j + more → power_from more s n ≡ 2 ^ k
+  power_is zero j s is up to = is ∙ ap (λ (i : ℕ). 2 ^ i) (at j up to)
+    where
+      at : (j : ℕ) → j ≤ k → k ≤ j + 0 → j ≡ k
+      at j up to = omega (arith, up, to)
+  power_is (suc more) j s is up to = ⊎_elim
+      (λ told. let big = told.1 in
+      ap (λ (b : Bool). if b then s else power_from more (2 * s) n) told.0
+      ∙ is ∙ ap (λ (i : ℕ). 2 ^ i) (too_small j up (omega (arith, big, is))))
+      (λ told. let small = told.1 in
+      let less : j < k = too_big j up (omega (arith, small, is)) in
+      ap (λ (b : Bool). if b then s else power_from more (2 * s) n) told.0
+      ∙ power_is more (suc j) (2 * s) (ap (λ (x : ℕ). 2 * x) is ∙ twice j) (omega (arith, less)) (omega (arith, to)))
+      (leb_tells n s)
+
+-- ---- states
+
+pub costs_of_more : (stride : ℕ) (held : List StateValue) (v : StateValue) →
+    states_cost stride (held ++ v ∷ []) ≡ states_cost stride held + state_cost stride (length (encoded v))
+costs_of_more stride [] v = omega arith
+costs_of_more stride (w ∷ held) v = let rest = costs_of_more stride held v in omega (arith, rest)
+
+pub usage_of_none : (m : Measures) → usage m [] ≡ fresh_usage m
+usage_of_none m = omega arith
+
+pub usage_of_more : (m : Measures) (held : List StateValue) (v : StateValue) →
+    usage m (held ++ v ∷ []) ≡ usage m held + state_cost m.stride (length (encoded v))
+usage_of_more m held v = let rest = costs_of_more m.stride held v in omega (arith, rest)
+
+pub two_fit : (m : Measures) (v w : StateValue) → length (encoded v) ≤ longest_state m → length (encoded w) ≤ longest_state m →
+    usage m (v ∷ w ∷ []) ≤ least_capacity m
+two_fit m v w short small = fits (length (encoded v)) (length (encoded w)) (longest_state m) (fresh_usage m) short small
+  where
+    fits : (a b longest fresh : ℕ) → a ≤ longest → b ≤ longest →
+        fresh + (state_cost m.stride a + (state_cost m.stride b + 0)) ≤ fresh + 2 * state_cost m.stride longest
+    fits a b longest fresh l k = omega (arith, l, k)
+
+-- ---- capacities
+
+pub raised : (m : Measures) (skips : Bool) (given : ℕ) → given ≤ effective_capacity m skips given
+raised m true given = le-max_right (least_capacity m) given
+raised m false given = omega arith
+
+pub raised_to_least : (m : Measures) (given : ℕ) → least_capacity m ≤ effective_capacity m true given
+raised_to_least m given = le-max_left (least_capacity m) given
+
+pub not_raised : (m : Measures) (skips : Bool) (given : ℕ) → least_capacity m ≤ given → effective_capacity m skips given ≡ given
+not_raised m false given l = refl
+not_raised m true given l = larger (least_capacity m) given l
+  where
+    larger : (a b : ℕ) → a ≤ b → max a b ≡ b
+    larger a b l = let up : max a b ≤ b = max-le l (omega arith) in let low = le-max_right a b in omega (arith, up, low)

@@ -1,0 +1,86 @@
+-- What the laws of passes speak of: the units that a pass reads, quit bytes among them, and the last and the nearest end.
+use Rattle.std.specs.Prelude.{◌≡◌, ℕ, zero, suc, ◌-◌, ◌<◌, ◌&&◌, not, nat_lt, Bool, true, false, List, [], Option, Some, None, if◌then◌else◌}
+use Rattle.std.specs.List.{filter}
+use Rattle.std.specs.Bool.{nat_eq}
+use Rattle.search_core.specs.ByteSets.{has}
+use Rattle.search_types.specs.declared.anchored.Anchored.{Anchored}
+use Rattle.search_types.specs.Modes.{is_supported}
+use Rattle.nfa_core.specs.Walks.{Has}
+use Rattle.nfa_core.specs.Places.{first, same_pair}
+use Rattle.nfa_core.specs.Ways.{place_of}
+use Rattle.determinize_core.specs.States.{StateValue}
+use Rattle.determinize_core.specs.Steps.{unit_at, unit_behind}
+use Rattle.lazy_dfa.specs.Readers.{Reader, HalfAnswer, found, quit, unsupported, is_quit}
+use Rattle.lazy_dfa.specs.Passes.{index_at, index_behind, is_empty, is_dead, next_value, next_place, first_value, pass}
+
+-- How many units a pass from a state at a place reads, of n, where none is a quit byte: until its state is dead and, where
+-- the earliest end is asked for, until its state lists a match.
+abbrev pub units_read : Reader → Bool → List ℕ → ℕ → ℕ → StateValue → ℕ
+units_read r earliest h zero i v = 0
+units_read r earliest h (suc n) i v =
+    if is_dead v then 0 else
+    if earliest && not (is_empty (next_value r h i v).matches) then 1 else
+    suc (units_read r earliest h n (next_place r i) (next_value r h i v))
+
+-- and how many a pass from place i over n bytes reads, apart from the byte behind i
+abbrev pub pass_len : Reader → Anchored → Bool → List ℕ → ℕ → ℕ → ℕ
+pass_len r mode earliest h n i =
+    if is_supported r.starts_for_each_pattern mode then units_read r earliest h (suc n) i (first_value r mode h i) else 0
+
+-- unit k from place i on
+abbrev pub unit_of : Reader → List ℕ → ℕ → ℕ → Option ℕ
+unit_of r h i k = unit_at r.automaton.reverse h (place_of r.automaton.reverse i k)
+
+-- the unit is the quit byte b, with the index x
+abbrev pub IsQuitAt : List Bool → Option ℕ → ℕ → ℕ → ℕ → Type 0
+IsQuitAt quits u index b x = (u ≡ Some b) × (has quits b ≡ true) × (x ≡ index)
+
+-- the byte behind place i is one
+abbrev pub IsQuitBehind : Reader → List ℕ → ℕ → ℕ → ℕ → Type 0
+IsQuitBehind r h i b x = IsQuitAt r.quits (unit_behind r.automaton.reverse h i) (index_behind r.automaton.reverse i) b x
+
+-- or it is none
+abbrev pub HasNoQuitBehind : Reader → List ℕ → ℕ → Type 0
+HasNoQuitBehind r h i = is_quit r.quits (unit_behind r.automaton.reverse h i) ≡ false
+
+-- none of the first n units from place i on is a quit byte
+abbrev pub HasNoQuit : Reader → List ℕ → ℕ → ℕ → Type 0
+HasNoQuit r h i n = (k : ℕ) → k < n → is_quit r.quits (unit_of r h i k) ≡ false
+
+-- the first quit byte of these is b, and has the index x
+abbrev pub IsFirstQuit : Reader → List ℕ → ℕ → ℕ → ℕ → ℕ → Type 0
+IsFirstQuit r h i n b x =
+    (k : ℕ) × (k < n) × (unit_of r h i k ≡ Some b) × (has r.quits b ≡ true) ×
+    (x ≡ index_at r.automaton.reverse (place_of r.automaton.reverse i k)) × HasNoQuit r h i k
+
+-- place j lies beyond place k for one who reads up, or down
+abbrev pub is_past : Bool → ℕ → ℕ → Bool
+is_past false j k = nat_lt k j
+is_past true j k = nat_lt j k
+
+-- the end of the best of the runs that end at place j
+abbrev pub best_at : List (ℕ × ℕ) → ℕ → Option (ℕ × ℕ)
+best_at ends j = first (filter (λ x. nat_eq x.0 j) ends)
+
+-- of these ends of runs, the last one in reading order, with the pattern of the best run there
+abbrev pub IsLastEnd : Bool → List (ℕ × ℕ) → Option (ℕ × ℕ) → Type 0
+IsLastEnd reverse ends None = ends ≡ []
+IsLastEnd reverse ends (Some e) =
+    (best_at ends e.0 ≡ Some e) × ((x : ℕ × ℕ) → Has same_pair x ends → is_past reverse x.0 e.0 ≡ false)
+
+-- and the nearest one
+abbrev pub IsNearestEnd : Bool → List (ℕ × ℕ) → Option (ℕ × ℕ) → Type 0
+IsNearestEnd reverse ends None = ends ≡ []
+IsNearestEnd reverse ends (Some e) =
+    (best_at ends e.0 ≡ Some e) × ((x : ℕ × ℕ) → Has same_pair x ends → is_past reverse e.0 x.0 ≡ false)
+
+-- whether an answer has an end that doesn't count
+abbrev pub splits : (ℕ → Bool) → HalfAnswer → Bool
+splits counted (found (Some e)) = not (counted e.0)
+splits counted (found None) = false
+splits counted (quit b x) = false
+splits counted (unsupported mode) = false
+
+-- of the passes over n bytes from place i, over one byte less from the next place, and so on, the one with the number k
+abbrev pub pass_of : Reader → Anchored → Bool → List ℕ → ℕ → ℕ → ℕ → HalfAnswer
+pass_of r mode earliest h n i k = pass r mode earliest h (n - k) (place_of r.automaton.reverse i k)

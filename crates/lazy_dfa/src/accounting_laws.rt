@@ -1,0 +1,42 @@
+//! Laws of accounting. Each function has no code: its contract is the law.
+ghost use Rattle.std.specs.Prelude.{◌≡◌, ◌≤◌, ◌+◌, ◌^◌, ◌++◌, ℕ, Bool, true, List, [], ◌∷◌, length};
+ghost use Rattle.search_core.specs.Classes.{alphabet_size, IsLeastExponent};
+ghost use Rattle.determinize_core.specs.States.{StateValue};
+ghost use Rattle.determinize_core.specs.StateBytes.{encoded};
+ghost use Rattle.lazy_dfa.specs.Accounting.{Measures, stride_of, longest_state, state_cost, fresh_usage, usage, least_capacity, effective_capacity};
+
+use determinize_core::state_laws::states_are_short;
+
+/// A state has as many transitions as the least power of two that isn't below the number of classes.
+pub fn strides_are_least_powers_of_two()
+    ensures { (classes : List ℕ) (k : ℕ) → IsLeastExponent k (alphabet_size classes) → k ≤ 9 → stride_of classes ≡ 2 ^ k }
+{}
+
+/// A cache without states is taken to need what a fresh one does, and each state adds its row, its entry in the map and
+/// its bytes.
+pub fn states_add_to_the_usage()
+    ensures none { (m : Measures) → usage m [] ≡ fresh_usage m }
+    ensures more { (m : Measures) (held : List StateValue) (v : StateValue) →
+        usage m (held ++ v ∷ []) ≡ usage m held + state_cost m.stride (length (encoded v)) }
+{}
+
+/// A state lists each pattern and each state of the automaton once at most, so it has no more bytes than the longest one.
+pub fn states_are_no_longer_than_the_longest()
+    ensures { (m : Measures) (v : StateValue) → length v.matches ≤ m.patterns → length v.ids ≤ m.states → length (encoded v) ≤ longest_state m }
+{
+    states_are_short();
+}
+
+/// The least capacity has room for two states, whatever they are.
+pub fn the_least_capacity_has_room_for_two_states()
+    ensures { (m : Measures) (v w : StateValue) → length (encoded v) ≤ longest_state m → length (encoded w) ≤ longest_state m →
+        usage m (v ∷ w ∷ []) ≤ least_capacity m }
+{}
+
+/// The capacity that counts is the given one where this is no less than the least one. It is never below the given one,
+/// and where the check is skipped never below the least one.
+pub fn capacities_are_raised_to_the_least_one()
+    ensures enough { (m : Measures) (skips : Bool) (given : ℕ) → least_capacity m ≤ given → effective_capacity m skips given ≡ given }
+    ensures given { (m : Measures) (skips : Bool) (given : ℕ) → given ≤ effective_capacity m skips given }
+    ensures least { (m : Measures) (given : ℕ) → least_capacity m ≤ effective_capacity m true given }
+{}

@@ -1,0 +1,62 @@
+//! Laws of the reach of half searches: the bytes at which they look. Each function has no code: its contract is the law.
+ghost use Rattle.std.specs.Prelude.{◌≡◌, ℕ, suc, ◌+◌, ◌-◌, ◌<◌, ◌≤◌, Bool, true, false, List, length, Option, Some};
+ghost use Rattle.std.specs.List.{list_any};
+ghost use Rattle.search_core.specs.Text.{byte_at};
+ghost use Rattle.look_core.specs.declared.look.Look.{Look};
+ghost use Rattle.search_types.specs.Inputs.{Search};
+ghost use Rattle.search_types.specs.declared.anchored.Anchored.{Anchored};
+ghost use Rattle.search_types.specs.declared.match_kind.MatchKind.TheVariants.{LeftmostFirst};
+ghost use Rattle.nfa_core.specs.Nfa.{IsWellFormed};
+ghost use Rattle.nfa_core.specs.NfaValue.{is_capture};
+ghost use Rattle.nfa_core.specs.Places.{first};
+ghost use Rattle.nfa_core.specs.Reaches.{read_by};
+ghost use Rattle.nfa_core.specs.Ways.{span, bytes_left, ends_from};
+ghost use Rattle.lazy_dfa.specs.Readers.{Reader, found, is_quit};
+ghost use Rattle.lazy_dfa.specs.Passes.{start_name, pass};
+ghost use Rattle.lazy_dfa.specs.PassLaws.{pass_len};
+ghost use Rattle.lazy_dfa.specs.Scans.{scan};
+ghost use Rattle.lazy_dfa.specs.ScanLaws.{begins_at, IsFirstFound, ReadsAlike, IsInPass, IsInReach, Agree, scan_len};
+
+/// A pass depends on the bytes in its reach alone: the one behind its first place and those of the units that it reads.
+/// Where it finds a match or none, none of these is a quit byte.
+pub fn passes_depend_on_their_reach()
+    ensures alike { (r : Reader) (mode : Anchored) (earliest : Bool) (h g : List ℕ) (n i : ℕ) →
+        Agree h g (IsInPass r mode earliest h n i) → pass r mode earliest h n i ≡ pass r mode earliest g n i }
+    ensures quiet { (r : Reader) (mode : Anchored) (earliest : Bool) (h : List ℕ) (n i : ℕ) (o : Option (ℕ × ℕ)) → pass r mode earliest h n i ≡ found o →
+        (x : ℕ) → IsInPass r mode earliest h n i x → is_quit r.quits (byte_at h x) ≡ false }
+{}
+
+/// Under leftmost-first a pass that finds a match or none finds the first end for each reading of looks that agrees with
+/// the one by ASCII bytes, of the looks that the automaton has, at the places between the bytes in its reach. So where a
+/// reading of words by characters agrees there, what is found is what it defines. The automaton keeps no captures.
+pub fn passes_find_the_first_end_for_each_reading()
+    ensures { (r : Reader) (mode : Anchored) (h : List ℕ) (s e i q : ℕ) (holds : Look → ℕ → Bool) (o : Option (ℕ × ℕ)) → r.kind ≡ LeftmostFirst →
+        IsWellFormed r.automaton → list_any is_capture r.automaton.states ≡ false → i ≤ e → e ≤ length h →
+        start_name r.automaton mode ≡ Some q → q < length r.automaton.states →
+        ReadsAlike r holds h s e i (pass_len r mode false h (bytes_left r.automaton.reverse (span r.terminator h s e) i) i) →
+        pass r mode false h (bytes_left r.automaton.reverse (span r.terminator h s e) i) i ≡ found o →
+        o ≡ first (ends_from r.automaton (read_by holds h s e) (i, q)) }
+{}
+
+/// So does a half search with its restarts.
+pub fn scans_find_the_first_ends_for_each_reading()
+    ensures { (r : Reader) (q : Search) (name : ℕ) (holds : Look → ℕ → Bool) (o : Option (ℕ × ℕ)) → r.kind ≡ LeftmostFirst → q.earliest ≡ false →
+        IsWellFormed r.automaton → list_any is_capture r.automaton.states ≡ false → q.start ≤ q.end → q.end ≤ length q.haystack →
+        start_name r.automaton q.anchored ≡ Some name → name < length r.automaton.states →
+        ReadsAlike r holds q.haystack q.start q.end (begins_at r q) (scan_len r q) →
+        scan r q ≡ found o → IsFirstFound r q holds name o }
+{}
+
+/// A half search depends on the bytes in its reach alone, those among them that passes read which begin anew. Where it
+/// finds a match or none, none of these is a quit byte, and where it finds a match, the byte at its place is in the reach
+/// too. The reach lies between the byte before the span and the one behind it, and has as many bytes and ends as units are
+/// read, and one more.
+pub fn scans_depend_on_their_reach()
+    ensures alike { (r : Reader) (q : Search) (g : List ℕ) → q.end ≤ length q.haystack → q.end ≤ length g →
+        Agree q.haystack g (IsInReach r q) → scan r q ≡ scan r (record q { haystack = g }) }
+    ensures quiet { (r : Reader) (q : Search) (o : Option (ℕ × ℕ)) → q.end ≤ length q.haystack → scan r q ≡ found o →
+        (x : ℕ) → IsInReach r q x → is_quit r.quits (byte_at q.haystack x) ≡ false }
+    ensures place { (r : Reader) (q : Search) (e : ℕ × ℕ) → scan r q ≡ found (Some e) → IsInReach r q e.0 }
+    ensures within { (r : Reader) (q : Search) (x : ℕ) → IsInReach r q x → (q.start ≤ x + 1) × (x ≤ q.end) }
+    ensures few { (r : Reader) (q : Search) → scan_len r q ≤ suc (q.end - q.start) }
+{}

@@ -1,0 +1,29 @@
+//! Laws of where an automaton leads. Each function has no code: its contract is the law.
+ghost use Rattle.std.specs.Prelude.{◌≡◌, ◌<◌, ℕ, List, length, None};
+ghost use Rattle.std.specs.List.{flat_map};
+ghost use Rattle.nfa_core.specs.BuilderStates.{Assembly, part_at};
+ghost use Rattle.nfa_core.specs.CanBuild.{CanBuild};
+ghost use Rattle.nfa_core.specs.Drafted.{table_ways};
+ghost use Rattle.nfa_core.specs.Nfa.{Automaton, IsWellFormed};
+ghost use Rattle.nfa_core.specs.Places.{same_pair};
+ghost use Rattle.nfa_core.specs.Renaming.{stands_for, new_name, automaton_of};
+ghost use Rattle.nfa_core.specs.Returns.{IsLeftForGood};
+ghost use Rattle.nfa_core.specs.Runs.{IsChain, last_or};
+ghost use Rattle.nfa_core.specs.Walks.{distinct};
+ghost use Rattle.nfa_core.specs.Ways.{Text, IsPairOf, ways, matched, ends_from};
+
+/// From a pair that matches nothing and to which nothing leads back, the ends of runs are those from where it
+/// leads, one after the other, repeats dropped. Rounds without a byte elsewhere make no difference.
+pub fn ends_come_by_the_ways()
+    ensures { (a : Automaton) (t : Text) (p : ℕ × ℕ) → IsWellFormed a → IsPairOf a t p → IsLeftForGood a t p → matched a p ≡ None →
+        ends_from a t p ≡ distinct same_pair (flat_map (ends_from a t) (ways a t p)) }
+{}
+
+/// A chain of what is built that comes to a state which was kept comes from a chain of the builder's own states
+/// that comes there.
+pub fn chains_come_from_the_builders_states()
+    ensures { (b : Assembly) (x y : ℕ) → CanBuild b x y → (t : Text) (c : ℕ) → c < length b.parts → stands_for (part_at b.parts c) ≡ None →
+        (q i : ℕ) (s : List (ℕ × ℕ)) → q < length b.parts → IsChain same_pair (ways (automaton_of b x y) t) (i, new_name b.parts q) s →
+        (last_or (i, new_name b.parts q) s).1 ≡ new_name b.parts c →
+        (r : List (ℕ × ℕ)) × IsChain same_pair (table_ways b.reverse t (part_at b.parts)) (i, q) r × ((last_or (i, q) r).1 ≡ c) }
+{}

@@ -1,0 +1,20 @@
+-- What the proofs of other crates may cite of this crate, beside its definitions and its public laws.
+
+-- where a search that may start at a place has it
+pub use Rattle.search_types.proofs.ModeLemmas.{starts_at}
+-- the computed answer is the leftmost
+pub use Rattle.search_types.proofs.AnswerLemmas.{computed_is_answer}
+-- the list of all answers by the steps of a loop that writes it: one more is written, no more is answered, none is asked for
+pub use Rattle.search_types.proofs.AllAnswersLemmas.{answer_written, answers_done, none_asked}
+-- no answer ends past the end
+pub use Rattle.search_types.proofs.AllAnswersLemmas.{next_within}
+-- ends rise, spans stand between the start and the end, and a greater bound makes the list no longer
+pub use Rattle.search_types.proofs.AllAnswersLemmas.{ends_rise, spans_within, no_answer_is_cut_off}
+-- answers that are taken one after the other are the list of all answers, or a beginning of it
+pub use Rattle.search_types.proofs.ChainLemmas.{chains_begin_the_list, whole_chains_are_the_list}
+-- the first of joined lists is the first of the least place that has one
+pub use Rattle.search_types.proofs.FirstLemmas.{first_found}
+-- of two choices that are both none the first is none
+pub use Rattle.search_types.proofs.GroupLemmas.{none_first}
+-- slots of groups that break no rule are in range
+pub use Rattle.search_types.proofs.GroupLaws.{slot_in_range}

@@ -1,0 +1,28 @@
+-- Answers one after the other, where a search is known by a relation between the place that it is asked from and its answer. A
+-- next search is from the end of the last answer; an empty answer there is a repeat, and that of one place further is taken.
+use Rattle.std.specs.Prelude.{◌≡◌, ℕ, ◌+◌, ◌≤◌, Bool, true, false, List, [], ◌∷◌, Option, Some, None}
+use Rattle.search_types.specs.Found.{Found}
+use Rattle.search_types.specs.AllAnswers.{is_repeat}
+
+-- what is taken where the answer is o: o itself, or where that is a repeat the answer from one place further
+abbrev pub IsTaken : (ℕ → Option Found → Type 0) → ℕ → Option Found → Bool → Option Found → Type 0
+IsTaken answers at o false taken = taken ≡ o
+IsTaken answers at o true taken = answers (at + 1) taken
+
+-- what is taken at the present place, where the last answer ended there
+abbrev pub IsNext : (ℕ → Option Found → Type 0) → Option ℕ → ℕ → Option Found → Type 0
+IsNext answers last at taken = (o : Option Found) × answers at o × IsTaken answers at o (is_repeat last o) taken
+
+-- these are taken one after the other
+abbrev pub IsChain : (ℕ → Option Found → Type 0) → Option ℕ → ℕ → List Found → Type 0
+IsChain answers last at [] = Unit {0}
+IsChain answers last at (f ∷ fs) = IsNext answers last at (Some f) × IsChain answers (Some f.end) f.end fs
+
+-- and then nothing more
+abbrev pub IsWholeChain : (ℕ → Option Found → Type 0) → Option ℕ → ℕ → List Found → Type 0
+IsWholeChain answers last at [] = IsNext answers last at None
+IsWholeChain answers last at (f ∷ fs) = IsNext answers last at (Some f) × IsWholeChain answers (Some f.end) f.end fs
+
+-- the relation tells what a function answers, from each place that a search up to e may be asked from, `low` the first
+abbrev pub TellsAnswers : (ℕ → Option Found → Type 0) → (ℕ → Option Found) → ℕ → ℕ → Type 0
+TellsAnswers answers answer low e = (s : ℕ) (o : Option Found) → low ≤ s → s ≤ e + 1 → answers s o → o ≡ answer s

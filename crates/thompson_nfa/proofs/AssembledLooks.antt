@@ -1,0 +1,127 @@
+-- The looks of the automaton that is built of a compile's states.
+use Rattle.std.proofs.Common.{◌≡◌, ℕ, zero, suc, Bool, true, false, ◌||◌, List, [], ◌∷◌, map, reverse, Some, None, refl, sym, ap, ap₂, ◌∙◌}
+use Rattle.std.specs.List.{list_any}
+use Rattle.look_core.specs.declared.look.Look.{Look}
+use Rattle.look_core.specs.declared.look.Look.TheVariants.{Start, End, StartLF, EndLF, StartCRLF, EndCRLF, WordAscii, WordAsciiNegate, WordUnicode, WordUnicodeNegate, WordStartAscii, WordEndAscii, WordStartUnicode, WordEndUnicode, WordStartHalfAscii, WordEndHalfAscii, WordStartHalfUnicode, WordEndHalfUnicode}
+use Rattle.look_core.specs.Codes.{repr, reversed}
+use Rattle.look_core.specs.LookSets.{has_look}
+use Rattle.look_core.proofs.ForCallers.{has_look-union, has_look-none}
+use Rattle.search_types.specs.Groups.{Groups}
+use Rattle.hir_core.specs.Tree.{Tree, empty, literal, byte_class, char_class, look, repetition, capture, nothing, cat, never, alt}
+use Rattle.hir_core.specs.Facts.{looks_used}
+use Rattle.hir_core.proofs.ForCallers.{one_has, one_held}
+use Rattle.nfa_core.specs.Nfa.{Node}
+use Rattle.nfa_core.specs.NfaValue.{look_of, looks_of}
+use Rattle.nfa_core.specs.BuilderStates.{Part, empty_part, range_part, sparse_part, look_part, capture_start_part, capture_end_part, union_part, union_reverse_part, fail_part, match_part, Assembly}
+use Rattle.nfa_core.specs.Renaming.{kept, new_name, ways_node, ranges_node, renamed, automaton_of}
+use Rattle.nfa_core.proofs.ForCallers.{has_looks}
+use Rattle.thompson_nfa.specs.Configs.{Options, reverse_of}
+use Rattle.thompson_nfa.specs.Compiled.{looks_in, turned, uses, any_uses}
+use Rattle.thompson_nfa.specs.Assembled.{IsAssembled}
+
+-- ---- states that are kept
+
+abbrev has_it : Look → Node → Bool
+has_it l node = has_look (look_of node) l
+
+no_look_ways : (names : List ℕ) → look_of (ways_node names) ≡ 0
+no_look_ways [] = refl
+no_look_ways (a ∷ []) = refl
+no_look_ways (a ∷ b ∷ []) = refl
+no_look_ways (a ∷ b ∷ c ∷ names) = refl
+
+no_look_ranges : (ranges : List (ℕ × ℕ × ℕ)) → look_of (ranges_node ranges) ≡ 0
+no_look_ranges [] = refl
+no_look_ranges ((low, high, next) ∷ []) = refl
+no_look_ranges ((low, high, next) ∷ r ∷ ranges) = refl
+
+none_there : (l : Look) (node : Node) → look_of node ≡ 0 → has_it l node ≡ false
+none_there l node e = ap (λ (s : ℕ). has_look s l) e ∙ has_look-none l
+
+module _ (name : ℕ → ℕ) (groups : Groups) (l : Look) where
+  abbrev there : List Part → Bool
+  there parts = list_any (has_it l) (map (renamed name groups) (kept parts))
+
+  kept_looks : (parts : List Part) → there parts ≡ looks_in parts l
+  kept_looks [] = refl
+  kept_looks (empty_part next ∷ parts) = kept_looks parts
+  kept_looks (range_part low high next ∷ parts) = ap₂ (λ (a b : Bool). a || b) (has_look-none l) (kept_looks parts)
+  kept_looks (sparse_part ranges ∷ parts) =
+      ap₂ (λ (a b : Bool). a || b) (none_there l (renamed name groups (sparse_part ranges))
+      (no_look_ranges (map (λ r. (r.0, r.1, name r.2)) ranges))) (kept_looks parts)
+  kept_looks (look_part m next ∷ parts) = ap (λ (b : Bool). has_look (repr m) l || b) (kept_looks parts)
+  kept_looks (capture_start_part pattern group next ∷ parts) = ap₂ (λ (a b : Bool). a || b) (has_look-none l) (kept_looks parts)
+  kept_looks (capture_end_part pattern group next ∷ parts) = ap₂ (λ (a b : Bool). a || b) (has_look-none l) (kept_looks parts)
+  kept_looks (union_part [] ∷ parts) = ap₂ (λ (a b : Bool). a || b) (has_look-none l) (kept_looks parts)
+  kept_looks (union_part (a ∷ []) ∷ parts) = kept_looks parts
+  kept_looks (union_part (a ∷ b ∷ names) ∷ parts) =
+      ap₂ (λ (a b : Bool). a || b) (none_there l (renamed name groups (union_part (a ∷ b ∷ names)))
+      (no_look_ways (map name (a ∷ b ∷ names)))) (kept_looks parts)
+  kept_looks (union_reverse_part [] ∷ parts) = ap₂ (λ (a b : Bool). a || b) (has_look-none l) (kept_looks parts)
+  kept_looks (union_reverse_part (a ∷ []) ∷ parts) = kept_looks parts
+  kept_looks (union_reverse_part (a ∷ b ∷ names) ∷ parts) =
+      ap₂ (λ (a b : Bool). a || b) (none_there l (renamed name groups (union_reverse_part (a ∷ b ∷ names)))
+      (no_look_ways (map name (reverse (a ∷ b ∷ names))))) (kept_looks parts)
+  kept_looks (fail_part ∷ parts) = ap₂ (λ (a b : Bool). a || b) (has_look-none l) (kept_looks parts)
+  kept_looks (match_part pattern ∷ parts) = ap₂ (λ (a b : Bool). a || b) (has_look-none l) (kept_looks parts)
+
+-- ---- looks that are turned round
+
+pub reversed_twice : (l : Look) → reversed (reversed l) ≡ l
+reversed_twice Start = refl
+reversed_twice End = refl
+reversed_twice StartLF = refl
+reversed_twice EndLF = refl
+reversed_twice StartCRLF = refl
+reversed_twice EndCRLF = refl
+reversed_twice WordAscii = refl
+reversed_twice WordAsciiNegate = refl
+reversed_twice WordUnicode = refl
+reversed_twice WordUnicodeNegate = refl
+reversed_twice WordStartAscii = refl
+reversed_twice WordEndAscii = refl
+reversed_twice WordStartUnicode = refl
+reversed_twice WordEndUnicode = refl
+reversed_twice WordStartHalfAscii = refl
+reversed_twice WordEndHalfAscii = refl
+reversed_twice WordStartHalfUnicode = refl
+reversed_twice WordEndHalfUnicode = refl
+
+one_truth : (a b : Bool) → (a ≡ true → b ≡ true) → (b ≡ true → a ≡ true) → a ≡ b
+one_truth true b f g = sym (f refl)
+one_truth false true f g = g refl
+one_truth false false f g = refl
+
+turned_look : (back : Bool) (m l : Look) → has_look (repr (turned back m)) l ≡ has_look (repr m) (turned back l)
+turned_look false m l = refl
+turned_look true m l = one_truth (has_look (repr (reversed m)) l) (has_look (repr m) (reversed l))
+    (λ h. one_held m (reversed l) (ap reversed (one_has (reversed m) l h) ∙ reversed_twice m))
+    (λ h. one_held (reversed m) l (sym (reversed_twice l) ∙ ap reversed (one_has m (reversed l) h)))
+
+-- ---- what a tree uses
+
+used_is : (back : Bool) (x : Tree) (l : Look) → uses back x l ≡ has_look (looks_used x) (turned back l)
+used_is back empty l = sym (has_look-none (turned back l))
+used_is back (literal bytes) l = sym (has_look-none (turned back l))
+used_is back (byte_class ranges) l = sym (has_look-none (turned back l))
+used_is back (char_class ranges) l = sym (has_look-none (turned back l))
+used_is back (look m) l = turned_look back m l
+used_is back (repetition min None greedy x) l = used_is back x l
+used_is back (repetition min (Some zero) greedy x) l = sym (has_look-none (turned back l))
+used_is back (repetition min (Some (suc most)) greedy x) l = used_is back x l
+used_is back (capture index name x) l = used_is back x l
+used_is back nothing l = sym (has_look-none (turned back l))
+used_is back (cat x y) l = ap₂ (λ (a b : Bool). a || b) (used_is back x l) (used_is back y l)
+    ∙ sym (has_look-union (looks_used x) (looks_used y) (turned back l))
+used_is back never l = sym (has_look-none (turned back l))
+used_is back (alt x y) l = ap₂ (λ (a b : Bool). a || b) (used_is back x l) (used_is back y l)
+    ∙ sym (has_look-union (looks_used x) (looks_used y) (turned back l))
+
+any_used : (back : Bool) (xs : List Tree) (l : Look) → any_uses back xs l ≡ list_any (λ x. has_look (looks_used x) (turned back l)) xs
+any_used back [] l = refl
+any_used back (x ∷ xs) l = ap₂ (λ (a b : Bool). a || b) (used_is back x l) (any_used back xs l)
+
+pub assembled_looks : (o : Options) (xs : List Tree) (b : Assembly) (A U : ℕ) → IsAssembled o xs b A U → (l : Look) →
+    has_look (looks_of (automaton_of b A U).states) l ≡ list_any (λ x. has_look (looks_used x) (turned (reverse_of o) l)) xs
+assembled_looks o xs b A U is l =
+    has_looks (automaton_of b A U).states l ∙ kept_looks (new_name b.parts) b.groups l b.parts ∙ is.looks l ∙ any_used (reverse_of o) xs l

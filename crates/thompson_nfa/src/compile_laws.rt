@@ -1,0 +1,62 @@
+//! Laws of the automata that trees are compiled to. The contract of each function is the law; none has work to do.
+ghost use Rattle.std.specs.Prelude.{◌≡◌, ◌↔◌, ◌<◌, ◌≤◌, ◌-◌, ℕ, suc, true, false, List, All, length, slice_get, Some};
+ghost use Rattle.std.specs.List.{flat_map};
+ghost use Rattle.look_core.specs.LookSets.{has_look};
+ghost use Rattle.look_core.specs.Terminators.{Terminator};
+ghost use Rattle.look_core.specs.declared.look.Look.{Look};
+ghost use Rattle.hir_core.specs.Facts.{looks_used};
+ghost use Rattle.hir_core.specs.Tree.{Tree};
+ghost use Rattle.nfa_core.specs.NfaValue.{Nfa, looks_of};
+ghost use Rattle.nfa_core.specs.Places.{same_pair};
+ghost use Rattle.nfa_core.specs.Walks.{Has, distinct};
+ghost use Rattle.nfa_core.specs.Ways.{Text, span, ends_from};
+ghost use Rattle.thompson_nfa.specs.Compilations.{HasStarts, IsCompiled, IsRead, places_from, start_of};
+ghost use Rattle.thompson_nfa.specs.Compiled.{turned};
+ghost use Rattle.thompson_nfa.specs.Configs.{Options, reverse_of};
+ghost use Rattle.thompson_nfa.specs.Directions.{AreBothWays};
+
+use hir_core::cut_laws::cut_haystacks_have_the_spans_within;
+
+/// A span of a haystack of bytes, with words read as bytes, is a text whose edges are read as they are.
+pub fn spans_have_edges_that_are_read_as_they_are()
+    ensures { (t : Terminator) (h : List ℕ) (s e : ℕ) → e ≤ length h → All (λ byte. byte < 256) h → IsRead (span t h s e) }
+{}
+
+/// A state has a look exactly where one of the trees uses it; where the automaton reads downwards, the look that
+/// the tree uses is the reverse of the state's.
+pub fn states_have_the_looks_that_trees_use()
+    ensures { (o : Options) (xs : List Tree) (n : Nfa) → IsCompiled o xs n → (l : Look) →
+        (has_look (looks_of n.automaton.states) l ≡ true)
+        ↔ ((p : ℕ) × (x : Tree) × (slice_get xs p ≡ Some x) × (has_look (looks_used x) (turned (reverse_of o) l) ≡ true)) }
+{}
+
+/// Read upwards, the ends from the unanchored start are those from the patterns' starts, pattern after pattern at
+/// one place after the other, repeats dropped, whatever the loops read. So what is said of the orders of the
+/// patterns' ends alone tells all orders.
+pub fn unanchored_ends_are_those_of_the_patterns()
+    ensures { (count : ℕ) (n : Nfa) → HasStarts false count n → (t : Text) (i : ℕ) → IsRead t → t.start ≤ i → i ≤ t.end →
+        ends_from n.automaton t (i, n.automaton.start_unanchored)
+        ≡ distinct same_pair (flat_map (λ k. flat_map (λ p. ends_from n.automaton t (k, start_of n.automaton p)) (places_from 0 count))
+        (places_from i (suc t.end - i))) }
+{}
+
+/// Over one text, from places of it, upwards pattern p is found from i to j exactly where it is found downwards
+/// from j to i: from the pattern's own starts, and from those that lead to all patterns. From the unanchored
+/// start an end is found upwards exactly where downwards, from there, a start is found that isn't before the
+/// search's. It holds for every tree, whatever its loops read.
+pub fn both_directions_find_the_same_spans()
+    ensures patterns { (o r : Options) (xs : List Tree) (n m : Nfa) → AreBothWays o r xs n m →
+        (t : Text) (p i j : ℕ) → p < length xs → t.start ≤ i → i ≤ t.end → j ≤ t.end →
+        Has same_pair (j, p) (ends_from n.automaton t (i, start_of n.automaton p))
+        ↔ Has same_pair (i, p) (ends_from m.automaton t (j, start_of m.automaton p)) }
+    ensures anchored { (o r : Options) (xs : List Tree) (n m : Nfa) → AreBothWays o r xs n m →
+        (t : Text) (p i j : ℕ) → t.start ≤ i → i ≤ t.end → j ≤ t.end →
+        Has same_pair (j, p) (ends_from n.automaton t (i, n.automaton.start_anchored))
+        ↔ Has same_pair (i, p) (ends_from m.automaton t (j, m.automaton.start_anchored)) }
+    ensures unanchored { (o r : Options) (xs : List Tree) (n m : Nfa) → AreBothWays o r xs n m →
+        (t : Text) (p s j : ℕ) → IsRead t → t.start ≤ s → s ≤ t.end → j ≤ t.end →
+        Has same_pair (j, p) (ends_from n.automaton t (s, n.automaton.start_unanchored))
+        ↔ ((i : ℕ) × (s ≤ i) × (i ≤ t.end) × Has same_pair (i, p) (ends_from m.automaton t (j, m.automaton.start_anchored))) }
+{
+    cut_haystacks_have_the_spans_within();
+}
