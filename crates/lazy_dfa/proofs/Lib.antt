@@ -26,6 +26,8 @@ pub mod IsCacheLemmas
 pub mod ChangeLemmas
 pub mod MadeLemmas
 pub mod BuildLemmas
+pub mod QuitClassLemmas
+pub mod BuiltLemmas
+pub mod FixedLemmas
 pub mod QuitLemmas
 pub mod StartCallLemmas
-pub mod ForCallers

@@ -1,6 +1,7 @@
 -- Sets of bytes that are made or read byte by byte.
 use Rattle.std.proofs.Common.{◌≡◌, ◌≢◌, ℕ, zero, suc, ◌+◌, ◌-◌, ◌<◌, ◌≤◌, Bool, true, false, ◌||◌, ◌&&◌, ◌⊎◌, List, [], ◌∷◌, length, get_or, set, map, nat_le, refl, sym, ap, ◌∙◌, subst, ⊎_elim, arith, length-set, get_or-set_same, get_or-set_other}
-use Rattle.std.proofs.lemmas.Bool.{cases_eq, cases_lt}
+use Rattle.std.proofs.lemmas.Bool.{cases_eq, cases_lt, le-leb}
+use Rattle.std.proofs.lemmas.Bool.Decides.{leb_tells}
 use Rattle.std.specs.List.{range_with_len, list_all}
 use Rattle.search_core.specs.ByteSets.{has}
 use Rattle.lazy_dfa.specs.Quits.{with_high_bytes, has_high_bytes}
@@ -14,12 +15,25 @@ by_elements f a (suc n) (x ∷ xs) e g =
     let here : a + 0 ≡ a = omega arith in
     let head : x ≡ f a = g 0 (omega arith) ∙ ap f here in
     let rest : xs ≡ map f (range_with_len (a + 1) n) =
-            by_elements f (a + 1) n xs (omega (arith, e)) (λ k l. let there : a + suc k ≡ a + 1 + k = omega arith in g (suc k) (omega (arith, l)) ∙ ap f there) in
+    by_elements f (a + 1) n xs (omega (arith, e)) (λ k l. let there : a + suc k ≡ a + 1 + k = omega arith in g (suc k) (omega (arith, l)) ∙ ap f there) in
     ap (λ (y : Bool). y ∷ xs) head ∙ ap (λ (ys : List Bool). f a ∷ ys) rest
 
 -- whether the byte is to be in the set
 abbrev pub is_wanted : List Bool → ℕ → Bool
 is_wanted set b = has set b || nat_le 0x80 b
+
+pub wanted_by_set : (set : List Bool) (b : ℕ) → has set b ≡ true → is_wanted set b ≡ true
+wanted_by_set set b e = ap (λ (x : Bool). x || nat_le 0x80 b) e
+
+or_true : (x y : Bool) → y ≡ true → (x || y) ≡ true
+or_true true y e = refl
+or_true false y e = e
+
+pub wanted_high : (set : List Bool) (b : ℕ) → 0x80 ≤ b → is_wanted set b ≡ true
+wanted_high set b l = or_true (has set b) (nat_le 0x80 b) (le-leb 0x80 b l)
+
+pub unwanted : (set : List Bool) (b : ℕ) → has set b ≡ false → b < 0x80 → is_wanted set b ≡ false
+unwanted set b e l = ap (λ (x : Bool). x || nat_le 0x80 b) e ∙ ⊎_elim (λ told. let up = told.1 in absurd (omega (arith, l, up))) (λ told. told.0) (leb_tells 0x80 b)
 
 -- so many bytes are settled, and the others aren't in the set
 pub record IsSettled (set : List Bool) (made : List Bool) (n : ℕ) : Type 0 where
@@ -38,9 +52,9 @@ pub settled_in : (xs made : List Bool) (n : ℕ) → n < 256 → is_wanted xs n 
 settled_in xs made n small want i = record {
   len = length-set made n true ∙ i.len;
   done = λ k l. ⊎_elim
-    (λ (e : k ≡ n). ap (λ (m : ℕ). get_or (set made n true) m false) e ∙ (get_or-set_same made n true false (rw i.len small) ∙ (sym want ∙ ap (is_wanted xs) (sym e))))
-    (λ (ne : k ≢ n). get_or-set_other made n k true false ne ∙ i.done k (omega (arith, l, ne)))
-    (cases_eq k n);
+      (λ (e : k ≡ n). ap (λ (m : ℕ). get_or (set made n true) m false) e ∙ (get_or-set_same made n true false (rw i.len small) ∙ (sym want ∙ ap (is_wanted xs) (sym e))))
+      (λ (ne : k ≢ n). get_or-set_other made n k true false ne ∙ i.done k (omega (arith, l, ne)))
+      (cases_eq k n);
   rest = λ k l m. get_or-set_other made n k true false (λ e. omega (arith, e, l)) ∙ i.rest k (omega (arith, l)) m;
 }
 
@@ -48,9 +62,9 @@ pub settled_out : (xs made : List Bool) (n : ℕ) → n < 256 → is_wanted xs n
 settled_out xs made n small none i = record {
   len = i.len;
   done = λ k l. ⊎_elim
-    (λ (e : k ≡ n). ap (has made) e ∙ (i.rest n (omega arith) small ∙ (sym none ∙ ap (is_wanted xs) (sym e))))
-    (λ (ne : k ≢ n). i.done k (omega (arith, l, ne)))
-    (cases_eq k n);
+      (λ (e : k ≡ n). ap (has made) e ∙ (i.rest n (omega arith) small ∙ (sym none ∙ ap (is_wanted xs) (sym e))))
+      (λ (ne : k ≢ n). i.done k (omega (arith, l, ne)))
+      (cases_eq k n);
   rest = λ k l m. i.rest k (omega (arith, l)) m;
 }
 

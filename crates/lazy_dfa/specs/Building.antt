@@ -56,3 +56,8 @@ built n o =
     else if is_too_small n o
     then Err (InsufficientCacheCapacity (least_capacity (measures_with n o)) (capacity_of o))
     else Ok (dfa_of n o)
+
+-- the least capacity of caches, refused where an automaton can't be searched
+abbrev pub least_for : Nfa → Options → Result ℕ BuildError
+least_for n o =
+    if is_unsupported n.automaton (word_boundary_of o) (by_hand o) then Err Unsupported else Ok (least_capacity (measures_with n o))

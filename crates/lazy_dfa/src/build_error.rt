@@ -29,6 +29,7 @@ pub enum BuildError {
 }
 
 impl From<nfa_core::BuildError> for BuildError {
+    ghost use Rattle.std.specs.Prelude.{◌≡◌};
     ghost use Rattle.lazy_dfa.specs.Building.{told_by};
 
     ghost from_gives = { λ e refusal. refusal ≡ told_by e };

@@ -1,6 +1,7 @@
-ghost use Rattle.std.specs.Prelude.{◌≡◌, ◌≤◌, ◌<◌};
-ghost use Rattle.lazy_dfa.specs.Accounting.{stride_of, start_count};
-ghost use Rattle.lazy_dfa.specs.Building.{built, classes_of, quits_of, measures_with};
+ghost use Rattle.std.specs.Prelude.{◌≡◌, ◌&&◌, not, nat_lt, max, if◌then◌else◌, MatchResult};
+ghost use Rattle.nfa_core.specs.NfaParts.{always_matching, never_matching};
+ghost use Rattle.lazy_dfa.specs.Accounting.{stride_of};
+ghost use Rattle.lazy_dfa.specs.Building.{built, dfa_of, least_for, classes_of, quits_of, measures_with};
 ghost use Rattle.lazy_dfa.specs.ConfigValue.{no_options, changed_by};
 
 use crate::build_error::BuildError;
@@ -10,6 +11,7 @@ use crate::quits::{is_unsupported, quit_bytes};
 use determinize_core::StartByteMap;
 use nfa_core::NFA;
 use search_core::{ByteClasses, ByteSet};
+use std::alloc::Global;
 use std::marker::Model;
 
 /// Builds lazy DFAs, as `regex_automata::hybrid::dfa::Builder`. A contract sees the options that are set.
@@ -62,10 +64,11 @@ impl Builder {
         let measures = measures_of(&nfa, &classes, &config);
         let minimum = measures.least_capacity();
         let given = config.get_cache_capacity();
-        if given < minimum && !config.get_skip_cache_capacity_check() {
+        let skips = config.get_skip_cache_capacity_check();
+        if is_refused(skips, given, minimum) {
             return Err(BuildError::InsufficientCacheCapacity { minimum, given });
         }
-        let capacity = if given < minimum { minimum } else { given };
+        let capacity = capacity_for(skips, given, minimum);
         let start_map = StartByteMap::new(nfa.look_matcher());
         Ok(DFA {
             nfa,
@@ -77,6 +80,75 @@ impl Builder {
             capacity,
         })
     }
+}
+
+impl Config {
+    /// The least capacity that caches for the NFA may be given, as `Config::get_minimum_cache_capacity`. It is refused
+    /// where the NFA can't be searched with these options.
+    pub fn get_minimum_cache_capacity(&self, nfa: &NFA) -> Result<usize, BuildError>
+        ensures { result ≡ least_for nfa.now self.now }
+    {
+        nfa.is_sound();
+        if is_unsupported(nfa, self) {
+            return Err(BuildError::Unsupported);
+        }
+        let quits = quit_bytes(nfa, self);
+        let classes = classes_of(nfa, self, &quits);
+        let measures = measures_of(nfa, &classes, self);
+        Ok(measures.least_capacity())
+    }
+}
+
+/// DFAs that are built without more.
+impl DFA {
+    /// A configuration with no option set, as `DFA::config`.
+    pub fn config() -> Config
+        ensures { result ≡ no_options }
+    {
+        Config::new()
+    }
+
+    /// A builder with no option set, as `DFA::builder`.
+    pub fn builder() -> Builder
+        ensures { result ≡ no_options }
+    {
+        Builder::new()
+    }
+
+    /// The DFA of one pattern that matches at each place without a byte, as `DFA::always_match`. It is refused where
+    /// memory lacks.
+    pub fn always_match(alloc: Global) -> Result<DFA, BuildError>
+        ensures { MatchResult result (λ d. d ≡ dfa_of always_matching no_options) (λ e. e ≡ BuildError.NoMemory) }
+    {
+        match NFA::always_match(alloc) {
+            Ok(nfa) => Builder::new().build_from_nfa(nfa),
+            Err(_) => Err(BuildError::NoMemory),
+        }
+    }
+
+    /// The DFA of no pattern, as `DFA::never_match`. It is refused where memory lacks.
+    pub fn never_match(alloc: Global) -> Result<DFA, BuildError>
+        ensures { MatchResult result (λ d. d ≡ dfa_of never_matching no_options) (λ e. e ≡ BuildError.NoMemory) }
+    {
+        match NFA::never_match(alloc) {
+            Ok(nfa) => Builder::new().build_from_nfa(nfa),
+            Err(_) => Err(BuildError::NoMemory),
+        }
+    }
+}
+
+/// Whether a capacity is refused.
+fn is_refused(skips: bool, given: usize, minimum: usize) -> bool
+    ensures { result ≡ not skips && nat_lt given minimum }
+{
+    !skips && given < minimum
+}
+
+/// The capacity that counts, of one that isn't refused.
+fn capacity_for(skips: bool, given: usize, minimum: usize) -> usize
+    ensures { result ≡ if skips then max minimum given else given }
+{
+    if skips { minimum.max(given) } else { given }
 }
 
 /// The classes of bytes that share transitions.
@@ -94,15 +166,11 @@ fn classes_of(nfa: &NFA, config: &Config, quits: &ByteSet) -> ByteClasses
 
 /// How many transitions a state has.
 fn stride_of(classes: &ByteClasses) -> usize
-    ensures value { result ≡ stride_of classes.now }
-    ensures most { result ≤ 512 }
+    ensures { result ≡ stride_of classes.now }
 {
-    let len = classes.alphabet_len();
+    let exponent = classes.stride2();
     let mut stride = 1usize;
-    for _index in 0..9usize {
-        if len <= stride {
-            return stride;
-        }
+    for _index in 0..exponent {
         stride *= 2;
     }
     stride

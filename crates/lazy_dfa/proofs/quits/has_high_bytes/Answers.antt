@@ -1,11 +1,14 @@
-use Rattle.lazy_dfa.proofs.QuitLemmas.{high_from, all_here, none_here, all_over}
+use Rattle.std.proofs.Common.{◌≡◌, ◌∙◌, sym, ap, arith}
+use Rattle.lazy_dfa.proofs.QuitLemmas.{high_from, all_here, none_here, all_over, all_from}
 use Rattle.lazy_dfa.proofs.quits.has_high_bytes.Goals as goal
 
 pub loop-byte-init : goal.loop-byte-init
 loop-byte-init c = high_from c.args.set.now
 
 pub loop-byte-preserved : goal.loop-byte-preserved
-loop-byte-preserved c = ?
+loop-byte-preserved c = c.loop-byte.invariant ∙ all_here c.args.set.now c.loop-byte.byte c.loop-byte-test.true (sym c.contains.ensures ∙ c.if-not-contains.false)
 
 pub returns : goal.returns
-returns c = ?
+returns c =
+    let over : c.loop-byte.byte ≡ 256 = omega (arith, c.loop-byte-test.false, c.loop-byte.auto.byte-end) in
+    sym (c.loop-byte.invariant ∙ (ap (all_from c.args.set.now) over ∙ all_over c.args.set.now))
