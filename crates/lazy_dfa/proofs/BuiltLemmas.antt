@@ -1,5 +1,5 @@
 -- That what is built of a sound NFA keeps to IsDfa.
-use Rattle.std.proofs.Common.{◌≡◌, ℕ, zero, suc, ◌+◌, ◌-◌, ◌*◌, ◌^◌, ◌<◌, ◌≤◌, Bool, true, false, ◌&&◌, not, ◌⊎◌, nat_lt, max, List, [], ◌∷◌, length, get_or, map, take, Option, Some, None, Ok, Err, if◌then◌else◌, replicate, inl, inr, refl, sym, ap, ◌∙◌, subst, ⊎_elim, arith}
+use Rattle.std.proofs.Common.{◌≡◌, ℕ, zero, suc, ◌+◌, ◌-◌, ◌<◌, ◌≤◌, Bool, true, false, ◌&&◌, not, ◌⊎◌, nat_lt, max, List, length, get_or, map, take, Option, Some, None, Ok, Err, if◌then◌else◌, replicate, inl, inr, refl, sym, ap, ◌∙◌, subst, ⊎_elim, arith}
 use Rattle.std.proofs.lemmas.Bool.{cases_Bool, cases_lt, lt-ltb}
 use Rattle.std.proofs.lemmas.List.{length-take, length-replicate}
 use Rattle.std.proofs.lemmas.List.FromFn.{get_or-map-range_with_len, fill_by_all}
@@ -8,19 +8,16 @@ use Rattle.std.proofs.Math.Nat.{le-max_left}
 use Rattle.std.specs.List.{range_with_len, flat_map}
 use Rattle.search_core.specs.ByteSets.{has, ranges_from}
 use Rattle.search_core.specs.Classes.{alphabet_size}
-use Rattle.search_core.specs.Index.{greatest_index}
 use Rattle.search_core.specs.Marks.{marks_below, recorded, IsUnmarked}
 use Rattle.search_core.proofs.ForCallers.{length-recorded, own_marks, marks_stay}
 use Rattle.look_core.specs.Terminators.{Terminator}
 use Rattle.nfa_core.specs.Alike.{marks_of}
-use Rattle.nfa_core.specs.Nfa.{Node, Automaton}
+use Rattle.nfa_core.specs.Nfa.{Node}
 use Rattle.nfa_core.specs.NfaValue.{Nfa, IsSound, told_by}
 use Rattle.nfa_core.proofs.ForCallers.{bytes_alike}
-use Rattle.determinize_core.specs.States.{StateValue}
-use Rattle.determinize_core.specs.Stepped.{IsStepped}
 use Rattle.determinize_core.specs.Steps.{step_value}
 use Rattle.determinize_core.proofs.ForCallers.{units_step_alike}
-use Rattle.lazy_dfa.specs.Accounting.{Measures, power_from, stride_of, start_count, least_capacity, effective_capacity}
+use Rattle.lazy_dfa.specs.Accounting.{Measures, stride_of, start_count, least_capacity, effective_capacity}
 use Rattle.lazy_dfa.specs.declared.build_error.BuildError.TheVariants.{InsufficientCacheCapacity, Unsupported}
 use Rattle.lazy_dfa.specs.Building.{quits_of, class_in, classes_of, measures_with, dfa_of, is_too_small, built}
 use Rattle.lazy_dfa.specs.ConfigValue.{Options, kind_of, classes_on, starts_each_of, word_boundary_of, by_hand, capacity_of, skips_check}
@@ -199,16 +196,6 @@ pub made_is_dfa : (n : Nfa) (o : Options) (cs : List ℕ) (qs : List Bool) (m : 
     IsSound n.automaton → is_unsupported n.automaton (word_boundary_of o) (by_hand o) ≡ false → is_too_small n o ≡ false → IsDfa (made_dfa n o cs qs m cap)
 made_is_dfa n o cs qs m cap e sound fine large = subst IsDfa (sym e) (is_dfa n o sound fine large)
 
-pub built_unsupported : (n : Nfa) (o : Options) → is_unsupported n.automaton (word_boundary_of o) (by_hand o) ≡ true → Err Unsupported ≡ built n o
-built_unsupported n o e = sym (ap (λ (t : Bool). if t then Err Unsupported else if is_too_small n o then Err (InsufficientCacheCapacity (least_capacity (measures_with n o)) (capacity_of o)) else Ok (dfa_of n o)) e)
-
-pub built_small : (n : Nfa) (o : Options) (least given : ℕ) → is_unsupported n.automaton (word_boundary_of o) (by_hand o) ≡ false → is_too_small n o ≡ true →
-    least ≡ least_capacity (measures_with n o) → given ≡ capacity_of o → Err (InsufficientCacheCapacity least given) ≡ built n o
-built_small n o least given e f p q =
-    (λ i. Err (InsufficientCacheCapacity (p i) (q i)))
-    ∙ sym (ap (λ (t : Bool). if t then Err Unsupported else if is_too_small n o then Err (InsufficientCacheCapacity (least_capacity (measures_with n o)) (capacity_of o)) else Ok (dfa_of n o)) e
-    ∙ ap (λ (t : Bool). if t then Err (InsufficientCacheCapacity (least_capacity (measures_with n o)) (capacity_of o)) else Ok (dfa_of n o)) f)
-
 pub built_dfa : (n : Nfa) (o : Options) (d : Dfa) → is_unsupported n.automaton (word_boundary_of o) (by_hand o) ≡ false → is_too_small n o ≡ false →
     d ≡ dfa_of n o → Ok d ≡ built n o
 built_dfa n o d e f is =
@@ -225,11 +212,3 @@ pub capacity_is : (n : Nfa) (o : Options) (skips : Bool) (given least cap : ℕ)
     least ≡ least_capacity (measures_with n o) → cap ≡ (if skips then max least given else given) →
     cap ≡ effective_capacity (measures_with n o) (skips_check o) (capacity_of o)
 capacity_is n o skips given least cap p q r e = e ∙ (λ i. if p i then max (r i) (q i) else q i)
-
--- what counting needs of the measures
-pub starts_few : (n : Nfa) (o : Options) → IsSound n.automaton → start_count (starts_each_of o) (length n.automaton.start_pattern) < 0x10_0000_0000
-starts_few n o sound = few (starts_each_of o) (length n.automaton.start_pattern) sound.patterns_numbered
-  where
-    few : (t : Bool) (p : ℕ) → p ≤ greatest_index + 1 → start_count t p < 0x10_0000_0000
-    few true p l = omega (arith, l)
-    few false p l = omega arith

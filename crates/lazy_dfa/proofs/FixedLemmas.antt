@@ -1,11 +1,11 @@
 -- The automata of no pattern and of one that matches everywhere can be built with no option set.
-use Rattle.std.proofs.Common.{◌≡◌, ℕ, ◌+◌, ◌*◌, ◌<◌, ◌≤◌, Bool, true, false, ◌&&◌, not, nat_lt, Result, Ok, Err, refl, sym, ap, ◌∙◌, subst, arith}
+use Rattle.std.proofs.Common.{◌≡◌, ℕ, ◌≤◌, Bool, true, false, ◌&&◌, not, Result, Ok, refl, sym, ap, ◌∙◌, subst, arith}
 use Rattle.std.specs.Prelude.{MatchResult}
 use Rattle.std.proofs.lemmas.Bool.{le-ltb}
 use Rattle.nfa_core.specs.NfaParts.{always_matching, never_matching}
 use Rattle.nfa_core.specs.NfaValue.{Nfa}
 use Rattle.lazy_dfa.specs.Accounting.{stride_of, least_capacity}
-use Rattle.lazy_dfa.specs.Building.{classes_of, measures_with, dfa_of, is_too_small, built}
+use Rattle.lazy_dfa.specs.Building.{classes_of, measures_with, dfa_of, built}
 use Rattle.lazy_dfa.specs.ConfigValue.{Options, no_options, by_hand}
 use Rattle.lazy_dfa.specs.Dfas.{Dfa}
 use Rattle.lazy_dfa.specs.Quits.{has_unicode_word, has_high_bytes, is_unsupported}

@@ -29,5 +29,6 @@ pub mod BuildLemmas
 pub mod QuitClassLemmas
 pub mod BuiltLemmas
 pub mod FixedLemmas
+pub mod SearchStartLemmas
 pub mod QuitLemmas
 pub mod StartCallLemmas

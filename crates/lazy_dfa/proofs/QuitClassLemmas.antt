@@ -1,13 +1,13 @@
 -- Bytes of one class of the marks of an automaton and of a set's ranges are both in the set or neither is.
-use Rattle.std.proofs.Common.{◌≡◌, ℕ, zero, suc, ◌+◌, ◌-◌, ◌<◌, ◌≤◌, Bool, true, false, ◌&&◌, not, ◌⊎◌, nat_lt, List, [], ◌∷◌, ◌++◌, length, get_or, drop, map, cond, refl, sym, ap, ◌∙◌, subst, ⊎_elim, arith}
+use Rattle.std.proofs.Common.{◌≡◌, ℕ, zero, suc, ◌+◌, ◌-◌, ◌<◌, ◌≤◌, Bool, true, false, ◌&&◌, not, nat_lt, List, [], ◌∷◌, ◌++◌, length, get_or, drop, map, cond, refl, sym, ap, ◌∙◌, subst, ⊎_elim, arith}
 use Rattle.std.proofs.lemmas.Bool.{cases_Bool, cases_lt, and_parts}
 use Rattle.std.proofs.lemmas.List.{get_or-drop}
-use Rattle.std.proofs.lemmas.List.Elements.{All-nil, All-head, All-tail}
+use Rattle.std.proofs.lemmas.List.Elements.{All-head, All-tail}
 use Rattle.std.proofs.lemmas.List.Sums.{prefix_len_passes}
 use Rattle.std.specs.List.{All, filter, range_with_len, prefix_len}
 use Rattle.search_core.specs.ByteSets.{has, bytes_where, starts_range, range_end, ranges_from}
 use Rattle.search_core.specs.Marks.{marks_below, mark_range, recorded, IsUnmarked, IsIn, HoldsAllOrNone}
-use Rattle.search_core.proofs.ForCallers.{same_class_tells, length-recorded}
+use Rattle.search_core.proofs.ForCallers.{same_class_tells}
 
 -- ---- ranges of a set
 

@@ -1,5 +1,5 @@
 -- What is built of an NFA with options, and why it is refused: a function of both.
-use Rattle.std.specs.Prelude.{ℕ, ◌+◌, ◌&&◌, not, nat_lt, Bool, true, false, List, map, if◌then◌else◌, Result, Ok, Err}
+use Rattle.std.specs.Prelude.{ℕ, ◌&&◌, not, nat_lt, Bool, List, map, if◌then◌else◌, Result, Ok, Err}
 use Rattle.std.specs.List.{range_with_len}
 use Rattle.search_core.specs.ByteSets.{ranges_from}
 use Rattle.search_core.specs.Marks.{marks_below, recorded}

@@ -11,4 +11,5 @@ pub mod Ids
 pub mod Caches
 pub mod Steps
 pub mod StartCalls
+pub mod SearchStarts
 pub mod Building

@@ -31,6 +31,7 @@ pub mod quit_laws;
 mod quits;
 pub mod reach_laws;
 pub mod scan_laws;
+mod search_starts;
 mod start_error;
 mod starting;
 mod stepping;

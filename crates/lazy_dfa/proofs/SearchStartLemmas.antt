@@ -1,0 +1,45 @@
+-- The answers of starts of searches, by those of starts.
+use Rattle.std.proofs.Common.{◌≡◌, ℕ, Option, Some, None, Result, Ok, Err, ap, ◌∙◌}
+use Rattle.std.specs.Prelude.{MatchOption, ⊤}
+use Rattle.search_types.specs.declared.match_error.MatchErrorKind.{MatchErrorKind}
+use Rattle.determinize_core.specs.Starts.{StartValue}
+use Rattle.lazy_dfa.specs.Caches.{CacheValue}
+use Rattle.lazy_dfa.specs.Dfas.{Dfa}
+use Rattle.lazy_dfa.specs.StartCalls.{start_refusal, IsStart, IsStartCause}
+use Rattle.lazy_dfa.specs.SearchStarts.{AnswersStart, error_at}
+use Rattle.lazy_dfa.specs.declared.start_error.StartError.{StartError}
+
+-- the result is this refusal
+abbrev pub is_error : Result ℕ StartError → StartError → Type 0
+is_error r e = r ≡ Err e
+
+abbrev pub is_told : Result ℕ MatchErrorKind → MatchErrorKind → Type 0
+is_told r k = r ≡ Err k
+
+never_refused : (o : Option StartError) (id : ℕ) (f : StartError → MatchErrorKind) →
+    MatchOption o ⊤ (λ e. is_error (Ok id) e) → MatchOption o ⊤ (λ e. is_told (Ok id) (f e))
+never_refused None id f h = tt
+never_refused (Some e) id f h = cc
+
+is_refused : (o : Option StartError) (e : StartError) (told : MatchErrorKind) (f : StartError → MatchErrorKind) → told ≡ f e →
+    MatchOption o ⊤ (λ x. is_error (Err e) x) → MatchOption o ⊤ (λ x. is_told (Err told) (f x))
+is_refused None e told f is h = tt
+is_refused (Some x) e told f is h = let same : e ≡ x = cc in let led : told ≡ f x = is ∙ ap f same in cc
+
+pub started : (d : Dfa) (old new : CacheValue) (c : StartValue) (quit_place place id : ℕ) →
+    MatchOption (start_refusal d c) ⊤ (λ e. is_error (Ok id) e) → (start_refusal d c ≡ None → IsStart d new c id) →
+    AnswersStart d old new c quit_place place (Ok id)
+started d old new c quit_place place id h is = record {
+  refused = never_refused (start_refusal d c) id (error_at quit_place place) h;
+  start = is;
+  err = λ e. tt;
+}
+
+pub not_started : (d : Dfa) (old new : CacheValue) (c : StartValue) (quit_place place : ℕ) (e : StartError) (told : MatchErrorKind) →
+    told ≡ error_at quit_place place e → MatchOption (start_refusal d c) ⊤ (λ x. is_error (Err e) x) → (start_refusal d c ≡ None → IsStartCause d old c e) →
+    AnswersStart d old new c quit_place place (Err told)
+not_started d old new c quit_place place e told is h cause = record {
+  refused = is_refused (start_refusal d c) e told (error_at quit_place place) is h;
+  start = λ x. tt;
+  err = λ x. (e, cause x, is);
+}

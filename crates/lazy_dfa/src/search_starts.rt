@@ -1,0 +1,91 @@
+//! The starts of searches over an input.
+ghost use Rattle.std.specs.Prelude.{◌≡◌, ◌-◌, ◌+◌, ◌≤◌};
+ghost use Rattle.lazy_dfa.specs.Caches.{IsCacheOf};
+ghost use Rattle.lazy_dfa.specs.SearchStarts.{AnswersStart, error_at, forward_start, reverse_start};
+ghost use Rattle.lazy_dfa.specs.Steps.{most_inserts};
+
+use crate::dfa::{Cache, DFA};
+use crate::lazy_id::LazyStateID;
+use crate::start_error::StartError;
+use crate::work::Work;
+use determinize_core::Config as StartConfig;
+use search_types::{Input, MatchError, MatchErrorKind};
+use std::sync::ledger::Ledger;
+
+/// The refusal of a search by that of its start.
+fn match_error(err: StartError, quit_place: usize, place: usize) -> MatchError
+    ensures { result ≡ error_at quit_place place err }
+{
+    match err {
+        StartError::Cache { .. } => MatchError::gave_up(place),
+        StartError::Quit { byte } => MatchError::quit(byte, quit_place),
+        StartError::UnsupportedAnchored { mode } => MatchError::unsupported_anchored(mode),
+        StartError::NoMemory => MatchError::new(MatchErrorKind::NoMemory),
+    }
+}
+
+/// The start of a search at a place, with the refusals of searches.
+fn start_at<L: Ledger, M: Ledger>(
+    dfa: &DFA,
+    cache: &mut Cache,
+    config: &StartConfig,
+    quit_place: usize,
+    place: usize,
+    work: &mut Work<L, M>,
+) -> Result<LazyStateID, MatchError>
+    requires { IsCacheOf dfa.now cache.old }
+    ensures own { IsCacheOf dfa.now cache.new }
+    ensures answer { AnswersStart dfa.now cache.old cache.new config.now quit_place place result }
+    ensures determinized { work.new.determinized ≤ work.old.determinized + 1 }
+    ensures inserted { work.new.inserted ≤ work.old.inserted + most_inserts dfa.now }
+{
+    match dfa.start_state(cache, config, work) {
+        Ok(id) => Ok(id),
+        Err(e) => {
+            let told = match_error(e, quit_place, place);
+            Err(told)
+        }
+    }
+}
+
+impl DFA {
+    /// The ID of the state in which a search forward over the input starts, as `DFA::start_state_forward`. It is refused
+    /// as [`start_state`](DFA::start_state) is: a quit byte stands one place before the span's start, and a search gives
+    /// up at that start.
+    pub fn start_state_forward<L: Ledger, M: Ledger>(
+        &self,
+        cache: &mut Cache,
+        input: &Input<'_>,
+        work: &mut Work<L, M>,
+    ) -> Result<LazyStateID, MatchError>
+        requires { IsCacheOf self.now cache.old }
+        ensures own { IsCacheOf self.now cache.new }
+        ensures answer { AnswersStart self.now cache.old cache.new (forward_start input.now) (input.now.start - 1) input.now.start result }
+        ensures determinized { work.new.determinized ≤ work.old.determinized + 1 }
+        ensures inserted { work.new.inserted ≤ work.old.inserted + most_inserts self.now }
+    {
+        let place = input.start();
+        let quit_place = place.saturating_sub(1);
+        let config = StartConfig::from_input_forward(input);
+        start_at(self, cache, &config, quit_place, place, work)
+    }
+
+    /// The ID of the state in which a search in reverse over the input starts, as `DFA::start_state_reverse`. It is refused
+    /// as [`start_state`](DFA::start_state) is: a quit byte stands at the span's end, where a search gives up too.
+    pub fn start_state_reverse<L: Ledger, M: Ledger>(
+        &self,
+        cache: &mut Cache,
+        input: &Input<'_>,
+        work: &mut Work<L, M>,
+    ) -> Result<LazyStateID, MatchError>
+        requires { IsCacheOf self.now cache.old }
+        ensures own { IsCacheOf self.now cache.new }
+        ensures answer { AnswersStart self.now cache.old cache.new (reverse_start input.now) input.now.end input.now.end result }
+        ensures determinized { work.new.determinized ≤ work.old.determinized + 1 }
+        ensures inserted { work.new.inserted ≤ work.old.inserted + most_inserts self.now }
+    {
+        let place = input.end();
+        let config = StartConfig::from_input_reverse(input);
+        start_at(self, cache, &config, place, place, work)
+    }
+}
