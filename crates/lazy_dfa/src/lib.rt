@@ -9,7 +9,8 @@
 //! [`accounting_laws`].
 //!
 //! Options are in `ConfigValue.antt`, an automaton in `Dfas.antt`, a cache and how it belongs to its automaton in
-//! `Caches.antt`, steps in `Steps.antt`, starts in `StartCalls.antt`.
+//! `Caches.antt`, steps in `Steps.antt`, starts in `StartCalls.antt`, those of searches over an input in
+//! `SearchStarts.antt`. What is built of an NFA, and why it is refused, is in `Building.antt`.
 #![tactic(auto)]
 
 pub mod accounting_laws;
