@@ -26,4 +26,3 @@ pub mod IsCacheLemmas
 pub mod ChangeLemmas
 pub mod MadeLemmas
 pub mod StartCallLemmas
-pub mod ForCallers
