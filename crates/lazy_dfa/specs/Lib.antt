@@ -13,3 +13,8 @@ pub mod Steps
 pub mod StartCalls
 pub mod SearchStarts
 pub mod Building
+pub mod Courses
+pub mod Linked
+pub mod SearchAnswers
+pub mod Points
+pub mod MadePasses

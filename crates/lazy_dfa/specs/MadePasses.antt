@@ -1,0 +1,55 @@
+-- What the functions that make passes, turn by turn and one after the other, say of what they did.
+use Rattle.std.specs.Prelude.{◌≡◌, ◌≢◌, ◌⊎◌, ℕ, suc, ◌+◌, ◌-◌, ◌*◌, ◌<◌, ◌≤◌, Bool, true, false, Option, Some, None, Result, Ok, Err, OnOk, IsSome}
+use Rattle.search_core.specs.ByteSets.{has}
+use Rattle.nfa_core.specs.Ways.{place_of}
+use Rattle.determinize_core.specs.States.{StateValue}
+use Rattle.search_types.specs.declared.match_error.MatchErrorKind.{MatchErrorKind}
+use Rattle.search_types.specs.declared.match_error.MatchErrorKind.TheVariants.{Quit, GaveUp, NoMemory}
+use Rattle.search_types.specs.Found.{HalfFound}
+use Rattle.search_types.specs.Inputs.{Search}
+use Rattle.lazy_dfa.specs.Caches.{CacheValue, HeldAt, Names, lacks_room}
+use Rattle.lazy_dfa.specs.Courses.{state_behind, AreRead, HasNoStop, stops_behind}
+use Rattle.lazy_dfa.specs.Dfas.{Dfa, reader}
+use Rattle.lazy_dfa.specs.Linked.{IsLinkedOver, IsLinkedPass, IsLinked, Grows, HasCleared, GrowsOrClears, IsMoved, passes_of}
+use Rattle.lazy_dfa.specs.Passes.{index_at, is_dead, pass, pass_from}
+use Rattle.lazy_dfa.specs.PassLaws.{units_read, unit_of, pass_len}
+use Rattle.lazy_dfa.specs.Points.{Point, GoesTo, Follows}
+use Rattle.lazy_dfa.specs.Scans.{first_place, scan}
+use Rattle.lazy_dfa.specs.ScanLaws.{begins_at}
+use Rattle.lazy_dfa.specs.SearchAnswers.{half_of, told, GivesUpIn, give_up_place, Answers, told_of, told_by_pass, told_by, made_by}
+use Rattle.lazy_dfa.specs.Steps.{most_inserts}
+
+-- how many bytes a search is over
+abbrev pub span_len : Search → ℕ
+span_len q = q.end - q.start
+
+-- the last place of its span
+abbrev pub last_place : Bool → Search → ℕ
+last_place false q = q.end
+last_place true q = q.start
+
+-- how many bytes are left of it at a place
+abbrev pub left_at : Bool → Search → ℕ → ℕ
+left_at false q i = q.end - i
+left_at true q i = i - q.start
+
+-- one pass of a search over its whole span
+pub record MakesPass (d : Dfa) (q : Search) (old new : CacheValue) (m1 m2 n1 n2 : ℕ) (result : Result (Option HalfFound) MatchErrorKind) : Type 0 where
+  pub answer : (result ≡ told (pass (reader d) q.anchored q.earliest q.haystack (span_len q) (begins_at (reader d) q))) ⊎ (result ≡ Err NoMemory) ⊎
+      ((x : ℕ) × (result ≡ Err (GaveUp x)) × GivesUpIn d new q.anchored q.earliest q.haystack (span_len q) (begins_at (reader d) q) x)
+  pub kept : GrowsOrClears d old new
+  pub follows : OnOk result ((Grows d old new × IsLinkedPass d new q.anchored q.earliest q.haystack (span_len q) (begins_at (reader d) q) ×
+      (told_of new ≡ told_by_pass (reader d) q.anchored q.earliest q.haystack (told_of old) (span_len q, begins_at (reader d) q))) ⊎ HasCleared old new)
+  pub free : IsLinkedPass d old q.anchored q.earliest q.haystack (span_len q) (begins_at (reader d) q) →
+      IsMoved old new × (m2 ≡ m1) × (n2 ≡ n1) × (result ≡ told (pass (reader d) q.anchored q.earliest q.haystack (span_len q) (begins_at (reader d) q)))
+  pub determinized : m2 ≤ m1 + suc (pass_len (reader d) q.anchored q.earliest q.haystack (span_len q) (begins_at (reader d) q))
+  pub inserted : n2 ≤ n1 + suc (pass_len (reader d) q.anchored q.earliest q.haystack (span_len q) (begins_at (reader d) q)) * most_inserts d
+
+-- a half search with its restarts
+pub record MakesSearch (d : Dfa) (q : Search) (old new : CacheValue) (m1 m2 n1 n2 : ℕ) (result : Result (Option HalfFound) MatchErrorKind) : Type 0 where
+  pub answer : Answers d new q result
+  pub kept : GrowsOrClears d old new
+  pub follows : OnOk result ((Grows d old new × IsLinked d new q × (told_of new ≡ told_by (reader d) q (told_of old) (passes_of (reader d) q))) ⊎ HasCleared old new)
+  pub free : IsLinked d old q → IsMoved old new × (m2 ≡ m1) × (n2 ≡ n1) × (result ≡ told (scan (reader d) q))
+  pub determinized : m2 ≤ m1 + made_by (reader d) q (passes_of (reader d) q)
+  pub inserted : n2 ≤ n1 + made_by (reader d) q (passes_of (reader d) q) * most_inserts d

@@ -1,0 +1,55 @@
+-- How a pass goes on over a cache, for the functions that make passes.
+use Rattle.std.specs.Prelude.{◌≡◌, ◌⊎◌, ℕ, suc, ◌+◌, ◌*◌, ◌<◌, ◌≤◌, Bool, List, Option, Some, IsSome, MatchOption}
+use Rattle.nfa_core.specs.Ways.{place_of}
+use Rattle.determinize_core.specs.States.{StateValue}
+use Rattle.search_types.specs.Found.{HalfFound}
+use Rattle.lazy_dfa.specs.Caches.{CacheValue, Names}
+use Rattle.lazy_dfa.specs.Courses.{state_behind, best_behind, AreRead}
+use Rattle.lazy_dfa.specs.declared.progress.Progress.{Progress}
+use Rattle.lazy_dfa.specs.Dfas.{Dfa, reader}
+use Rattle.lazy_dfa.specs.Linked.{id_behind, IsLinkedOver, Grows, HasCleared, IsMoved}
+use Rattle.lazy_dfa.specs.Steps.{most_inserts}
+
+-- a pass in its course: the cache, the work done, the place, the ID of the state there, and the match recorded last
+pub record Point : Type 0 where
+  pub cache : CacheValue
+  pub determinized : ℕ
+  pub inserted : ℕ
+  pub at : ℕ
+  pub id : ℕ
+  pub best : Option (ℕ × ℕ)
+
+-- where a running search began
+abbrev pub began : Option Progress → Option ℕ
+began None = None
+began (Some p) = Some p.start
+
+-- nothing was cleared on the way through k units, and the way is known behind it
+pub record Follows (d : Dfa) (h : List ℕ) (from to : Point) (k : ℕ) : Type 0 where
+  pub grows : Grows d from.cache to.cache
+  pub leads : id_behind d to.cache h from.at from.id k ≡ to.id
+  pub linked : IsLinkedOver d to.cache h from.at from.id k
+  pub searched : to.cache.searched ≡ from.cache.searched
+  pub began : began to.cache.progress ≡ began from.cache.progress
+
+-- where the way was known, nothing is made on it
+pub record IsFree (d : Dfa) (h : List ℕ) (from to : Point) (k : ℕ) : Type 0 where
+  pub moved : IsMoved from.cache to.cache
+  pub leads : id_behind d from.cache h from.at from.id k ≡ to.id
+  pub determinized : to.determinized ≡ from.determinized
+  pub inserted : to.inserted ≡ from.inserted
+
+-- a pass comes from a point to another one through k units, which are read
+pub record GoesTo (d : Dfa) (h : List ℕ) (from to : Point) (k : ℕ) : Type 0 where
+  pub place : to.at ≡ place_of d.nfa.automaton.reverse from.at k
+  pub names : (s : StateValue) → Names from.cache from.id s → Names to.cache to.id (state_behind (reader d) h from.at s k)
+  pub read : (s : StateValue) → Names from.cache from.id s → AreRead (reader d) h from.at s k
+  pub best : (s : StateValue) → Names from.cache from.id s → to.best ≡ best_behind (reader d) h from.at s from.best k
+  pub kept : Follows d h from to k ⊎ HasCleared from.cache to.cache
+  pub free : IsLinkedOver d from.cache h from.at from.id k → IsFree d h from to k
+  pub running : IsSome from.cache.progress → IsSome to.cache.progress
+  pub determinized : to.determinized ≤ from.determinized + k
+  pub inserted : to.inserted ≤ from.inserted + k * most_inserts d
+
+abbrev pub point : CacheValue → ℕ → ℕ → ℕ → ℕ → Option (ℕ × ℕ) → Point
+point v m n at id best = record { cache = v; determinized = m; inserted = n; at = at; id = id; best = best }

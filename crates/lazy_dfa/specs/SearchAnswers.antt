@@ -1,0 +1,110 @@
+-- What half searches over a cache answer, and what they tell of how far they came.
+use Rattle.std.specs.Prelude.{◌≡◌, ◌⊎◌, ℕ, suc, zero, ◌+◌, ◌-◌, ◌<◌, ◌≤◌, ◌==◌, ◌&&◌, Bool, true, false, min, List, [], ◌∷◌, length, Option, Some, None, Result, Ok, Err, if◌then◌else◌, nat_lt}
+use Rattle.std.specs.List.{list_any}
+use Rattle.search_core.specs.Text.{byte_at}
+use Rattle.look_core.specs.declared.look.Look.{Look}
+use Rattle.search_types.specs.declared.anchored.Anchored.{Anchored}
+use Rattle.search_types.specs.declared.match_error.MatchErrorKind.{MatchErrorKind}
+use Rattle.search_types.specs.declared.match_error.MatchErrorKind.TheVariants.{Quit, GaveUp, UnsupportedAnchored, NoMemory}
+use Rattle.search_types.specs.declared.match_kind.MatchKind.TheVariants.{LeftmostFirst}
+use Rattle.search_types.specs.Found.{HalfFound}
+use Rattle.search_types.specs.Inputs.{Search}
+use Rattle.nfa_core.specs.NfaValue.{is_capture}
+use Rattle.nfa_core.specs.Ways.{place_of}
+use Rattle.determinize_core.specs.States.{StateValue}
+use Rattle.lazy_dfa.specs.Caches.{CacheValue, greatest, progress_len, lacks_room}
+use Rattle.lazy_dfa.specs.Courses.{state_behind}
+use Rattle.lazy_dfa.specs.declared.progress.Progress.{Progress}
+use Rattle.lazy_dfa.specs.Dfas.{Dfa, reader}
+use Rattle.lazy_dfa.specs.Linked.{passes_of}
+use Rattle.lazy_dfa.specs.Passes.{index_at, first_value, start_name}
+use Rattle.lazy_dfa.specs.PassLaws.{pass_len}
+use Rattle.lazy_dfa.specs.Readers.{Reader, HalfAnswer, found, quit, unsupported, is_quit}
+use Rattle.lazy_dfa.specs.ScanLaws.{begins_at, ReadsAlike, IsFirstFound}
+use Rattle.lazy_dfa.specs.Scans.{scan}
+
+-- ---- answers
+
+-- the end of a match by its place and its pattern
+abbrev pub half_of : Option (ℕ × ℕ) → Option HalfFound
+half_of None = None
+half_of (Some e) = Some (record { pattern = e.1; offset = e.0 })
+
+-- the answer of code that stands for one of the scan
+abbrev pub told : HalfAnswer → Result (Option HalfFound) MatchErrorKind
+told (found o) = Ok (half_of o)
+told (quit b x) = Err (Quit b x)
+told (unsupported mode) = Err (UnsupportedAnchored mode)
+
+-- where a pass over n bytes from place i that can't make the state behind unit k says that it gave up: at the byte that is
+-- unit k, and for the last unit at the last place of its span
+abbrev pub give_up_place : Bool → ℕ → ℕ → ℕ → ℕ
+give_up_place down n i k = if nat_lt k n then index_at down (place_of down i k) else place_of down i k
+
+-- A pass over n bytes from place i gave up at x: its first state, or the one behind a unit that it reads, has no room, and no
+-- clear is allowed.
+pub data GivesUpIn (d : Dfa) (v : CacheValue) (mode : Anchored) (earliest : Bool) (h : List ℕ) (n i x : ℕ) : Type 0 where
+  at_start : x ≡ i → lacks_room d v (first_value (reader d) mode h i) ≡ true → GivesUpIn d v mode earliest h n i x
+  at_unit : (k : ℕ) → k < pass_len (reader d) mode earliest h n i → x ≡ give_up_place d.nfa.automaton.reverse n i k →
+      lacks_room d v (state_behind (reader d) h i (first_value (reader d) mode h i) (suc k)) ≡ true → GivesUpIn d v mode earliest h n i x
+
+-- of these passes one gave up
+abbrev pub GivesUpAmong : Dfa → CacheValue → Search → ℕ → List (ℕ × ℕ) → Type 0
+GivesUpAmong d v q x [] = ⊥
+GivesUpAmong d v q x (p ∷ ps) = GivesUpIn d v q.anchored q.earliest q.haystack p.0 p.1 x ⊎ GivesUpAmong d v q x ps
+
+-- A half search answers what the scan does, over whatever cache. Else memory lacked, or it gave up, and the cache is as it
+-- was then.
+abbrev pub Answers : Dfa → CacheValue → Search → Result (Option HalfFound) MatchErrorKind → Type 0
+Answers d v q result = (result ≡ told (scan (reader d) q)) ⊎ (result ≡ Err NoMemory) ⊎
+    ((x : ℕ) × (result ≡ Err (GaveUp x)) × GivesUpAmong d v q x (passes_of (reader d) q))
+
+-- ---- how far it came
+
+-- what a cache keeps of that
+pub record Told : Type 0 where
+  pub searched : ℕ
+  pub progress : Option Progress
+
+abbrev pub told_of : CacheValue → Told
+told_of v = record { searched = v.searched; progress = v.progress }
+
+-- how far a pass over n bytes that reads so many units comes, by its first and its last byte
+abbrev pub pass_distance : Bool → ℕ → ℕ → ℕ
+pass_distance false n units = units - 1
+pass_distance true n units = min (units - 1) (n - 1)
+
+-- A pass ends the search that goes on and adds its own length. Downwards one over no bytes tells nothing.
+abbrev pub told_by_pass : Reader → Anchored → Bool → List ℕ → Told → ℕ × ℕ → Told
+told_by_pass r mode earliest h t p =
+    if r.automaton.reverse && p.0 == 0 then t else record {
+      searched = min (t.searched + progress_len t.progress + pass_distance r.automaton.reverse p.0 (pass_len r mode earliest h p.0 p.1)) greatest;
+      progress = None;
+    }
+
+-- what these passes tell
+abbrev pub told_by : Reader → Search → Told → List (ℕ × ℕ) → Told
+told_by r q t [] = t
+told_by r q t (p ∷ ps) = told_by r q (told_by_pass r q.anchored q.earliest q.haystack t p) ps
+
+-- ---- work
+
+-- these passes make so many states at most: one for each start, and one for each unit
+abbrev pub made_by : Reader → Search → List (ℕ × ℕ) → ℕ
+made_by r q [] = 0
+made_by r q (p ∷ ps) = suc (pass_len r q.anchored q.earliest q.haystack p.0 p.1) + made_by r q ps
+
+-- ---- reach
+
+-- The place behind what a half search upwards read. From the byte before the span to there stands no quit byte, and under
+-- leftmost-first it found the first end for each reading of looks that agrees with the one by ASCII bytes up to there.
+pub record IsReachOf (r : Reader) (q : Search) (o : Option (ℕ × ℕ)) (end : ℕ) : Type 0 where
+  pub within : end ≤ suc q.end
+  pub past : (e : ℕ × ℕ) → o ≡ Some e → e.0 < end
+  pub quiet : (x : ℕ) → q.start ≤ x + 1 → x < end → is_quit r.quits (byte_at q.haystack x) ≡ false
+  pub first : (name : ℕ) (holds : Look → ℕ → Bool) → r.kind ≡ LeftmostFirst → q.earliest ≡ false → list_any is_capture r.automaton.states ≡ false →
+      start_name r.automaton q.anchored ≡ Some name → ReadsAlike r holds q.haystack q.start q.end (begins_at r q) (end - begins_at r q) →
+      IsFirstFound r q holds name o
+
+abbrev pub HasReach : Reader → Search → Option (ℕ × ℕ) → Type 0
+HasReach r q o = (end : ℕ) × IsReachOf r q o end

@@ -1,0 +1,85 @@
+//! Runs over known steps: the loops in which searches spend their time. They only read.
+ghost use Rattle.std.specs.Prelude.{◌≡◌, ℕ, ◌-◌, ◌<◌, ◌≤◌, false, true, length, Option};
+ghost use Rattle.lazy_dfa.specs.Caches.{IsCacheOf, IsRow};
+ghost use Rattle.lazy_dfa.specs.Ids.{tag};
+ghost use Rattle.lazy_dfa.specs.Points.{GoesTo, point};
+
+use crate::dfa::{Cache, DFA};
+use crate::lazy_id::LazyStateID;
+
+/// How far a run came, and to which state.
+#[derive(Clone, Copy)]
+pub(crate) struct Moved {
+    pub(crate) at: usize,
+    pub(crate) id: LazyStateID,
+}
+
+/// Goes on upwards over known steps while no state has a tag.
+pub(crate) fn run_up(
+    dfa: &DFA,
+    cache: &Cache,
+    haystack: &[u8],
+    id: LazyStateID,
+    from: usize,
+    end: usize,
+) -> Moved
+    requires own { IsCacheOf dfa.now cache.now }
+    requires up { dfa.now.nfa.automaton.reverse ≡ false }
+    requires row { IsRow cache.now id }
+    requires untagged { id < tag }
+    requires fits { from ≤ end }
+    requires within { end ≤ length haystack.now }
+    ensures row { IsRow cache.now result.id }
+    ensures untagged { result.id < tag }
+    ensures past { from ≤ result.at }
+    ensures within { result.at ≤ end }
+    ensures goes { (m n : ℕ) (best : Option (ℕ × ℕ)) → GoesTo dfa.now haystack.now (point cache.now m n from id best) (point cache.now m n result.at result.id best) (result.at - from) }
+{
+    dfa.is_made();
+    let mut at = from;
+    let mut sid = id;
+    while at < end {
+        let next = cache.cell_of_untagged(sid, dfa.class(haystack[at]));
+        if next.is_tagged() {
+            return Moved { at, id: sid };
+        }
+        sid = next;
+        at += 1;
+    }
+    Moved { at, id: sid }
+}
+
+/// Goes on downwards over known steps while no state has a tag.
+pub(crate) fn run_down(
+    dfa: &DFA,
+    cache: &Cache,
+    haystack: &[u8],
+    id: LazyStateID,
+    from: usize,
+    end: usize,
+) -> Moved
+    requires own { IsCacheOf dfa.now cache.now }
+    requires down { dfa.now.nfa.automaton.reverse ≡ true }
+    requires row { IsRow cache.now id }
+    requires untagged { id < tag }
+    requires fits { end ≤ from }
+    requires within { from ≤ length haystack.now }
+    ensures row { IsRow cache.now result.id }
+    ensures untagged { result.id < tag }
+    ensures past { result.at ≤ from }
+    ensures within { end ≤ result.at }
+    ensures goes { (m n : ℕ) (best : Option (ℕ × ℕ)) → GoesTo dfa.now haystack.now (point cache.now m n from id best) (point cache.now m n result.at result.id best) (from - result.at) }
+{
+    dfa.is_made();
+    let mut at = from;
+    let mut sid = id;
+    while at > end {
+        let next = cache.cell_of_untagged(sid, dfa.class(haystack[at - 1]));
+        if next.is_tagged() {
+            return Moved { at, id: sid };
+        }
+        sid = next;
+        at -= 1;
+    }
+    Moved { at, id: sid }
+}

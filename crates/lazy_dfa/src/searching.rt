@@ -1,0 +1,130 @@
+//! Half searches: passes one after the other.
+ghost use Rattle.std.specs.Prelude.{◌≡◌, ◌⊎◌, ◌+◌, ◌*◌, ◌<◌, ◌≤◌, false, true, None, IfOk, IfErr, OnOk};
+ghost use Rattle.search_types.specs.declared.match_error.MatchErrorKind.TheVariants.{NoMemory};
+ghost use Rattle.search_types.specs.Modes.{is_supported};
+ghost use Rattle.lazy_dfa.specs.Caches.{IsCacheOf, greatest};
+ghost use Rattle.lazy_dfa.specs.ConfigValue.{clears_of};
+ghost use Rattle.lazy_dfa.specs.Dfas.{reader};
+ghost use Rattle.lazy_dfa.specs.Linked.{IsLinked, GrowsOrClears, IsMoved, passes_of};
+ghost use Rattle.lazy_dfa.specs.MadePasses.{MakesSearch};
+ghost use Rattle.lazy_dfa.specs.ScanLaws.{HasNoQuitNear, pass_count, unit_count};
+ghost use Rattle.lazy_dfa.specs.Scans.{scan};
+ghost use Rattle.lazy_dfa.specs.SearchAnswers.{Answers, told, told_of, told_by, half_of, HasReach};
+ghost use Rattle.lazy_dfa.specs.Steps.{most_inserts};
+
+use crate::dfa::{Cache, DFA};
+use crate::passing::pass;
+use crate::work::Work;
+use search_types::{HalfMatch, Input, MatchError};
+use std::sync::ledger::Ledger;
+
+/// A half search: a pass, and while its end doesn't count another one over a byte less.
+fn search<L: Ledger, M: Ledger>(
+    dfa: &DFA,
+    cache: &mut Cache,
+    input: &Input<'_>,
+    work: &mut Work<L, M>,
+) -> Result<Option<HalfMatch>, MatchError>
+    requires { IsCacheOf dfa.now cache.old }
+    ensures own { IsCacheOf dfa.now cache.new }
+    ensures search { MakesSearch dfa.now input.now cache.old cache.new work.old.determinized work.new.determinized work.old.inserted work.new.inserted result }
+{
+    let nfa = dfa.get_nfa();
+    let is_down = nfa.is_reverse();
+    let between_characters = nfa.is_utf8() && nfa.has_empty();
+    let mut rest = input.clone();
+    while !rest.is_done() {
+        let found = match pass(dfa, cache, &rest, work) {
+            Ok(found) => found,
+            Err(e) => return Err(e),
+        };
+        let Some(half) = found else {
+            return Ok(None);
+        };
+        if !between_characters {
+            return Ok(Some(half));
+        }
+        if rest.is_char_boundary(half.offset()) {
+            return Ok(Some(half));
+        }
+        if rest.get_anchored().is_anchored() {
+            return Ok(None);
+        }
+        if is_down {
+            if rest.end() == 0 {
+                return Ok(None);
+            }
+            rest.set_end(rest.end() - 1);
+        } else {
+            let _len = rest.haystack().len();
+            rest.set_start(rest.start() + 1);
+        }
+    }
+    Ok(None)
+}
+
+impl DFA {
+    /// The end of the match in a span that the kind of match prefers, or none, as `DFA::try_search_fwd`. The automaton
+    /// reads upwards.
+    ///
+    /// The answer is that of [`scan`](crate::scan_laws) over the automaton and the input, whatever the cache holds and
+    /// whatever was done with it before. Else the search is refused: it gave up where a state has no room and no clear is
+    /// allowed, at the place of the byte to be read, or memory lacked. The cache is of use after that too.
+    ///
+    /// Where no quit byte stands in or beside the span, no least count of clears is set and the mode is supported, it
+    /// answers, if memory suffices. Where the cache isn't cleared on the way, all steps of the search are known afterwards,
+    /// and a search whose steps are known makes no states and takes no memory.
+    pub fn try_search_fwd<L: Ledger, M: Ledger>(
+        &self,
+        cache: &mut Cache,
+        input: &Input<'_>,
+        work: &mut Work<L, M>,
+    ) -> Result<Option<HalfMatch>, MatchError>
+        requires own { IsCacheOf self.now cache.old }
+        requires up { self.now.nfa.automaton.reverse ≡ false }
+        ensures own { IsCacheOf self.now cache.new }
+        ensures answer { Answers self.now cache.new input.now result }
+        ensures sure { clears_of self.now.options ≡ None → is_supported (reader self.now).starts_for_each_pattern input.now.anchored ≡ true →
+            HasNoQuitNear (reader self.now) input.now.haystack input.now.start input.now.end → IfErr result (λ e. e ≡ NoMemory) }
+        ensures kept { GrowsOrClears self.now cache.old cache.new }
+        ensures linked { OnOk result (cache.new.clears ≡ cache.old.clears → cache.old.clears < greatest → IsLinked self.now cache.new input.now) }
+        ensures told { OnOk result (cache.new.clears ≡ cache.old.clears → cache.old.clears < greatest →
+            told_of cache.new ≡ told_by (reader self.now) input.now (told_of cache.old) (passes_of (reader self.now) input.now)) }
+        ensures moved { IsLinked self.now cache.old input.now → IsMoved cache.old cache.new }
+        ensures free { IsLinked self.now cache.old input.now → work.new ≡ work.old }
+        ensures sure_if_linked { IsLinked self.now cache.old input.now → result ≡ told (scan (reader self.now) input.now) }
+        ensures reach { IfOk result (λ found. (o : Option (ℕ × ℕ)) × (found ≡ half_of o) × HasReach (reader self.now) input.now o) }
+        ensures determinized { work.new.determinized ≤ work.old.determinized + (pass_count (reader self.now) input.now + unit_count (reader self.now) input.now) }
+        ensures inserted { work.new.inserted ≤ work.old.inserted + (pass_count (reader self.now) input.now + unit_count (reader self.now) input.now) * most_inserts self.now }
+    {
+        search(self, cache, input, work)
+    }
+
+    /// The start of the match in a span that the kind of match prefers, or none, as `DFA::try_search_rev`. The automaton
+    /// reads downwards, from the span's end. All else is as [`try_search_fwd`](DFA::try_search_fwd) has it; what is found
+    /// goes by the bytes in and beside the span.
+    pub fn try_search_rev<L: Ledger, M: Ledger>(
+        &self,
+        cache: &mut Cache,
+        input: &Input<'_>,
+        work: &mut Work<L, M>,
+    ) -> Result<Option<HalfMatch>, MatchError>
+        requires own { IsCacheOf self.now cache.old }
+        requires down { self.now.nfa.automaton.reverse ≡ true }
+        ensures own { IsCacheOf self.now cache.new }
+        ensures answer { Answers self.now cache.new input.now result }
+        ensures sure { clears_of self.now.options ≡ None → is_supported (reader self.now).starts_for_each_pattern input.now.anchored ≡ true →
+            HasNoQuitNear (reader self.now) input.now.haystack input.now.start input.now.end → IfErr result (λ e. e ≡ NoMemory) }
+        ensures kept { GrowsOrClears self.now cache.old cache.new }
+        ensures linked { OnOk result (cache.new.clears ≡ cache.old.clears → cache.old.clears < greatest → IsLinked self.now cache.new input.now) }
+        ensures told { OnOk result (cache.new.clears ≡ cache.old.clears → cache.old.clears < greatest →
+            told_of cache.new ≡ told_by (reader self.now) input.now (told_of cache.old) (passes_of (reader self.now) input.now)) }
+        ensures moved { IsLinked self.now cache.old input.now → IsMoved cache.old cache.new }
+        ensures free { IsLinked self.now cache.old input.now → work.new ≡ work.old }
+        ensures sure_if_linked { IsLinked self.now cache.old input.now → result ≡ told (scan (reader self.now) input.now) }
+        ensures determinized { work.new.determinized ≤ work.old.determinized + (pass_count (reader self.now) input.now + unit_count (reader self.now) input.now) }
+        ensures inserted { work.new.inserted ≤ work.old.inserted + (pass_count (reader self.now) input.now + unit_count (reader self.now) input.now) * most_inserts self.now }
+    {
+        search(self, cache, input, work)
+    }
+}
