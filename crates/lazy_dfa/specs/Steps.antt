@@ -1,10 +1,11 @@
 -- What steps over a cache are told of, what they answer, and what they change.
-use Rattle.std.specs.Prelude.{◌≡◌, ◌≢◌, ◌⊎◌, ◌<◌, ◌≤◌, ◌+◌, ◌*◌, ◌%◌, ℕ, true, false, min, length, Option, slice_index_or}
+use Rattle.std.specs.Prelude.{◌≡◌, ◌≢◌, ◌⊎◌, ◌<◌, ◌≤◌, ◌+◌, ◌*◌, ◌%◌, ℕ, true, false, min, [], ◌∷◌, length, Option, slice_index_or, replicate}
 use Rattle.determinize_core.specs.Costs.{free_ways}
+use Rattle.determinize_core.specs.StateBytes.{is_match}
 use Rattle.determinize_core.specs.States.{StateValue}
 use Rattle.lazy_dfa.specs.Dfas.{Dfa, class_of, after, IsUnit}
-use Rattle.lazy_dfa.specs.Ids.{tag, unknown_id, dead_id, quit_id, is_sentinel}
-use Rattle.lazy_dfa.specs.Caches.{CacheValue, IsShaped, IsRow, HeldAt, Names, Leads, greatest, begun_anew, lacks_room}
+use Rattle.lazy_dfa.specs.Ids.{tag, has_tag, start_tag, tagged, unknown_id, dead_id, quit_id, is_sentinel}
+use Rattle.lazy_dfa.specs.Caches.{CacheValue, IsShaped, IsRow, HeldAt, Names, Leads, id_at, state_at, with_state, cleared, greatest, begun_anew, lacks_room}
 use Rattle.lazy_dfa.specs.Readers.{is_quit}
 use Rattle.lazy_dfa.specs.declared.cache_error.CacheError.{CacheError}
 use Rattle.lazy_dfa.specs.declared.cache_error.CacheError.TheVariants.{GaveUp, NoMemory}
@@ -47,20 +48,23 @@ IsStepCause d v id u e = (e ≡ NoMemory) ⊎ ((e ≡ GaveUp) × GivesUp d v id 
 
 -- ---- what calls change
 
--- nothing was cleared: each ID names what it named, and what was known of steps is known
+-- nothing was cleared: each ID names what it named, and what was known of steps and starts is known
 pub record Added (old new : CacheValue) : Type 0 where
   pub shape : IsShaped old
   pub stride : new.stride ≡ old.stride
   pub names : (id : ℕ) (s : StateValue) → Names old id s → Names new id s
   pub cells : (id c : ℕ) → IsRow old id → c < old.stride → slice_index_or new.cells (id % tag + c) 0 ≡ slice_index_or old.cells (id % tag + c) 0
+  pub starts : (i : ℕ) → slice_index_or old.starts i 0 ≢ unknown_id → slice_index_or new.starts i 0 ≡ slice_index_or old.starts i 0
   pub clears : new.clears ≡ old.clears
   pub searched : new.searched ≡ old.searched
   pub progress : new.progress ≡ old.progress
 
--- the same, where a step more may be known
+-- the same, where a step or a start more may be known
 pub record Grew (d : Dfa) (old new : CacheValue) : Type 0 where
   pub names : (id : ℕ) (s : StateValue) → Names old id s → Names new id s
+  pub rows : (id : ℕ) → IsRow old id → IsRow new id
   pub known : (id : ℕ) (u : Option ℕ) → IsRow old id → IsUnit u → noted d old id u ≢ unknown_id → noted d new id u ≡ noted d old id u
+  pub starts : (i : ℕ) → slice_index_or old.starts i 0 ≢ unknown_id → slice_index_or new.starts i 0 ≡ slice_index_or old.starts i 0
   pub clears : new.clears ≡ old.clears
   pub searched : new.searched ≡ old.searched
   pub progress : new.progress ≡ old.progress
@@ -71,6 +75,18 @@ pub record WasCleared (old new : CacheValue) (most : ℕ) : Type 0 where
   pub searched : new.searched ≡ 0
   pub progress : new.progress ≡ begun_anew old.progress
   pub few : length new.states ≤ most
+
+-- a step cleared the cache: of what was held the state stepped from is held alone, under a new ID that keeps the tag of
+-- starts, and the state stepped to; no start is known
+pub record ClearedFrom (d : Dfa) (old new : CacheValue) (id : ℕ) (u : Option ℕ) : Type 0 where
+  pub cleared : WasCleared old new 2
+  pub from : (s : StateValue) → HeldAt old id s → id_at new 0 ≡ tagged (has_tag start_tag id) (is_match s.matches) (3 * new.stride)
+  pub states : (s : StateValue) → HeldAt old id s → new.states ≡ s ∷ after d s u ∷ []
+  pub starts : new.starts ≡ replicate (length old.starts) unknown_id
+
+-- a cache that was cleared but for the state of a row
+abbrev pub kept_alone : CacheValue → ℕ → CacheValue
+kept_alone v k = with_state (has_tag start_tag (id_at v k)) (state_at v k) (cleared v)
 
 abbrev pub MadeRoom : CacheValue → CacheValue → Type 0
 MadeRoom old new = (new ≡ old) ⊎ WasCleared old new 1

@@ -1,9 +1,10 @@
 //! The steps of a DFA: what searches are made of.
-ghost use Rattle.std.specs.Prelude.{◌≡◌, ◌≢◌, ◌⊎◌, ◌↔◌, ◌+◌, ◌<◌, ◌≤◌, true, false, length, slice_index, IfOk, OnOk, IfErr, Ok, None, Some};
+ghost use Rattle.std.specs.Prelude.{◌≡◌, ◌≢◌, ◌⊎◌, ◌↔◌, ◌+◌, ◌<◌, ◌≤◌, true, false, length, slice_index, IfOk, OnOk, IfErr, Ok, Err, None, Some};
 ghost use Rattle.determinize_core.specs.States.{StateValue};
 ghost use Rattle.lazy_dfa.specs.Ids.{tag, unknown_id, is_sentinel};
 ghost use Rattle.lazy_dfa.specs.Caches.{IsCacheOf, HeldAt, IsRow};
-ghost use Rattle.lazy_dfa.specs.Steps.{IsHeld, GivesUp, IsStepCause, StepsTo, KeepsOrClears, noted, IsKnown, IsNoted, most_inserts};
+ghost use Rattle.lazy_dfa.specs.declared.cache_error.CacheError.TheVariants.{GaveUp};
+ghost use Rattle.lazy_dfa.specs.Steps.{IsHeld, GivesUp, IsStepCause, StepsTo, Grew, ClearedFrom, KeepsOrClears, noted, IsKnown, IsNoted, most_inserts};
 
 use crate::cache_error::CacheError;
 use crate::dfa::{Cache, DFA};
@@ -19,7 +20,7 @@ impl DFA {
     ///
     /// The cache may be cleared: the ID that is answered is held then, and the others are to be asked of
     /// [`holds_id`](DFA::holds_id) again. The step is refused where a state has no room and no clear is allowed, and where
-    /// memory lacks; the cache is of use after that too.
+    /// memory lacks; the cache is of use after that too. Where a clear isn't allowed the cache is as it was.
     pub fn next_state<L: Ledger, M: Ledger>(
         &self,
         cache: &mut Cache,
@@ -31,6 +32,8 @@ impl DFA {
         requires held { IsHeld cache.old current }
         ensures own { IsCacheOf self.now cache.new }
         ensures kept { KeepsOrClears self.now cache.old cache.new }
+        ensures remains { OnOk result (Grew self.now cache.old cache.new ⊎ ClearedFrom self.now cache.old cache.new current (Some input)) }
+        ensures gave_up { result ≡ Err GaveUp → cache.new ≡ cache.old }
         ensures loops { is_sentinel current ≡ true → result ≡ Ok current }
         ensures step { IfOk result (λ to. StepsTo self.now cache.old cache.new current (Some input) to) }
         ensures noted { IfOk result (λ to. IsNoted self.now cache.old cache.new current (Some input) to) }
@@ -61,6 +64,8 @@ impl DFA {
         requires held { IsHeld cache.old current }
         ensures own { IsCacheOf self.now cache.new }
         ensures kept { KeepsOrClears self.now cache.old cache.new }
+        ensures remains { OnOk result (Grew self.now cache.old cache.new ⊎ ClearedFrom self.now cache.old cache.new current None) }
+        ensures gave_up { result ≡ Err GaveUp → cache.new ≡ cache.old }
         ensures loops { is_sentinel current ≡ true → result ≡ Ok current }
         ensures step { IfOk result (λ to. StepsTo self.now cache.old cache.new current None to) }
         ensures noted { IfOk result (λ to. IsNoted self.now cache.old cache.new current None to) }

@@ -1,8 +1,11 @@
 //! The states in which searches start.
-ghost use Rattle.std.specs.Prelude.{◌≡◌, ◌+◌, ◌<◌, ◌≤◌, false, length, IfOk, OnOk, IfErr, None, Some};
+ghost use Rattle.std.specs.Prelude.{◌≡◌, ◌≢◌, ◌⊎◌, ◌+◌, ◌<◌, ◌≤◌, false, length, slice_index_or, IfOk, OnOk, IfErr, OnErr, Ok, Err, None, Some};
 ghost use Rattle.lazy_dfa.specs.Dfas.{IsStateOf, is_dead, start_in, first_state};
-ghost use Rattle.lazy_dfa.specs.Caches.{IsCacheOf, Names, Fits, place_of, slot, lacks_room};
-ghost use Rattle.lazy_dfa.specs.Steps.{IsCause, MadeRoom, most_inserts};
+ghost use Rattle.lazy_dfa.specs.Caches.{IsCacheOf, Names, Fits, place_of, slot, lacks_room, cleared};
+ghost use Rattle.lazy_dfa.specs.Ids.{unknown_id};
+ghost use Rattle.lazy_dfa.specs.StartCalls.{PlacesStart, ClearedFor, TagsStart};
+ghost use Rattle.lazy_dfa.specs.Steps.{IsCause, Grew, WasCleared, most_inserts};
+ghost use Rattle.lazy_dfa.specs.declared.cache_error.CacheError.TheVariants.{GaveUp};
 
 use crate::cache_error::CacheError;
 use crate::dfa::{Cache, DFA};
@@ -22,6 +25,8 @@ fn room_alone(dfa: &DFA, cache: &mut Cache, state: &State) -> Result<(), CacheEr
     requires fresh { place_of state.now cache.old.states ≡ None }
     ensures own { IsCacheOf dfa.now cache.new }
     ensures slots { length cache.new.starts ≡ length cache.old.starts }
+    ensures room { (cache.new ≡ cache.old) ⊎ (cache.new ≡ cleared cache.old) }
+    ensures err_same { OnErr result (cache.new ≡ cache.old) }
     ensures fresh { OnOk result (place_of state.now cache.new.states ≡ None) }
     ensures fits { OnOk result (Fits dfa.now.capacity state.now cache.new) }
     ensures ok { OnOk result (lacks_room dfa.now cache.old state.now ≡ false) }
@@ -44,6 +49,9 @@ fn place_start(dfa: &DFA, cache: &mut Cache, state: State) -> Result<LazyStateID
     requires is { IsStateOf dfa.now state }
     ensures own { IsCacheOf dfa.now cache.new }
     ensures slots { length cache.new.starts ≡ length cache.old.starts }
+    ensures made { IfOk result (λ id. PlacesStart dfa.now cache.old cache.new state id) }
+    ensures unmade { OnErr result ((cache.new ≡ cache.old) ⊎ (cache.new ≡ cleared cache.old)) }
+    ensures gave_up { result ≡ Err GaveUp → cache.new ≡ cache.old }
     ensures to { IfOk result (λ id. Names cache.new id state) }
     ensures ok { OnOk result (lacks_room dfa.now cache.old state ≡ false) }
     ensures err { IfErr result (λ e. IsCause dfa.now cache.old state e) }
@@ -102,6 +110,16 @@ pub(crate) fn start_in_mode<L: Ledger, M: Ledger>(
     requires below { name < length dfa.now.nfa.automaton.states }
     ensures own { IsCacheOf dfa.now cache.new }
     ensures start { IfOk result (λ id. Names cache.new id (first_state dfa.now start name)) }
+    ensures noted { IfOk result (λ id. slice_index_or cache.new.starts (slot mode start) 0 ≡ id) }
+    ensures known { slice_index_or cache.old.starts (slot mode start) 0 ≢ unknown_id → result ≡ Ok (slice_index_or cache.old.starts (slot mode start) 0) }
+    ensures same { slice_index_or cache.old.starts (slot mode start) 0 ≢ unknown_id → cache.new ≡ cache.old }
+    ensures free { slice_index_or cache.old.starts (slot mode start) 0 ≢ unknown_id → work.new ≡ work.old }
+    ensures kept { Grew dfa.now cache.old cache.new ⊎ WasCleared cache.old cache.new 1 }
+    ensures remains { OnOk result (Grew dfa.now cache.old cache.new ⊎ ClearedFor dfa.now cache.old cache.new (slot mode start) (first_state dfa.now start name)) }
+    ensures ok { OnOk result (slice_index_or cache.old.starts (slot mode start) 0 ≡ unknown_id → lacks_room dfa.now cache.old (first_state dfa.now start name) ≡ false) }
+    ensures gave_up { result ≡ Err GaveUp → cache.new ≡ cache.old }
+    ensures tag { IfOk result (λ id. TagsStart dfa.now cache.old (first_state dfa.now start name) id) }
+    ensures unknown { OnErr result (slice_index_or cache.old.starts (slot mode start) 0 ≡ unknown_id) }
     ensures err { IfErr result (λ e. IsCause dfa.now cache.old (first_state dfa.now start name) e) }
     ensures determinized { work.new.determinized ≤ work.old.determinized + 1 }
     ensures inserted { work.new.inserted ≤ work.old.inserted + most_inserts dfa.now }

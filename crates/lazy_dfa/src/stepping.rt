@@ -1,13 +1,14 @@
 //! Steps from state to state over a cache.
-ghost use Rattle.std.specs.Prelude.{◌≡◌, ◌≢◌, ◌⊎◌, ◌+◌, ◌%◌, ◌<◌, ◌≤◌, false, length, IfOk, OnOk, IfErr, Ok, None, true};
+ghost use Rattle.std.specs.Prelude.{◌≡◌, ◌≢◌, ◌⊎◌, ◌+◌, ◌%◌, ◌<◌, ◌≤◌, false, length, IfOk, OnOk, IfErr, Ok, Err, None, true};
 ghost use Rattle.search_core.specs.Units.{unit_byte};
 ghost use Rattle.determinize_core.specs.Costs.{free_ways};
 ghost use Rattle.lazy_dfa.specs.Dfas.{IsStateOf, IsUnit, after, class_of, is_dead};
 ghost use Rattle.lazy_dfa.specs.Ids.{unknown_id, is_sentinel};
-ghost use Rattle.lazy_dfa.specs.Caches.{IsCacheOf, HeldAt, IsRow, Names, Fits, fits, is_refused, place_of, state_at, lacks_room};
+ghost use Rattle.lazy_dfa.specs.Caches.{IsCacheOf, HeldAt, IsRow, Names, Fits, fits, is_refused, place_of, state_at, with_state, lacks_room};
 ghost use Rattle.lazy_dfa.specs.ConfigValue.{clears_of, bytes_of};
+ghost use Rattle.lazy_dfa.specs.declared.cache_error.CacheError.TheVariants.{GaveUp};
 ghost use Rattle.lazy_dfa.specs.Readers.{is_quit, is_quit as is_quit_unit};
-ghost use Rattle.lazy_dfa.specs.Steps.{IsHeld, IsCause, GivesUp, IsStepCause, StepsTo, MadeRoom, AddsOrClears, KeepsOrClears, noted, IsKnown, IsNoted, most_inserts};
+ghost use Rattle.lazy_dfa.specs.Steps.{IsHeld, IsCause, GivesUp, IsStepCause, StepsTo, Added, Grew, ClearedFrom, kept_alone, MadeRoom, AddsOrClears, KeepsOrClears, noted, IsKnown, IsNoted, most_inserts};
 
 use crate::cache_error::CacheError;
 use crate::dfa::{Cache, DFA};
@@ -69,6 +70,8 @@ fn make_room(
     requires fresh { place_of state.now cache.old.states ≡ None }
     ensures own { IsCacheOf dfa.now cache.new }
     ensures room { MadeRoom cache.old cache.new }
+    ensures made { OnOk result ((cache.new ≡ cache.old) ⊎ (cache.new ≡ kept_alone cache.old k)) }
+    ensures gave_up { result ≡ Err GaveUp → cache.new ≡ cache.old }
     ensures from { IfOk result (λ id. HeldAt cache.new id (state_at cache.old k)) }
     ensures fresh { OnOk result (place_of state.now cache.new.states ≡ None) }
     ensures fits { OnOk result (Fits dfa.now.capacity state.now cache.new) }
@@ -102,6 +105,8 @@ fn place(dfa: &DFA, cache: &mut Cache, k: usize, state: State) -> Result<Rows, C
     requires is { IsStateOf dfa.now state }
     ensures own { IsCacheOf dfa.now cache.new }
     ensures kept { AddsOrClears cache.old cache.new }
+    ensures made { OnOk result (Added cache.old cache.new ⊎ (cache.new ≡ with_state false state (kept_alone cache.old k))) }
+    ensures gave_up { result ≡ Err GaveUp → cache.new ≡ cache.old }
     ensures from { IfOk result (λ rows. HeldAt cache.new rows.from (state_at cache.old k)) }
     ensures to { IfOk result (λ rows. Names cache.new rows.to state) }
     ensures ok { OnOk result (lacks_room dfa.now cache.old state ≡ false) }
@@ -168,6 +173,8 @@ fn fill<L: Ledger, M: Ledger>(
     requires unknown { noted dfa.now cache.old id (unit_byte unit) ≡ unknown_id }
     ensures own { IsCacheOf dfa.now cache.new }
     ensures kept { KeepsOrClears dfa.now cache.old cache.new }
+    ensures remains { OnOk result (Grew dfa.now cache.old cache.new ⊎ ClearedFrom dfa.now cache.old cache.new id (unit_byte unit)) }
+    ensures gave_up { result ≡ Err GaveUp → cache.new ≡ cache.old }
     ensures step { IfOk result (λ to. StepsTo dfa.now cache.old cache.new id (unit_byte unit) to) }
     ensures noted { IfOk result (λ to. IsNoted dfa.now cache.old cache.new id (unit_byte unit) to) }
     ensures ok { OnOk result (¬ GivesUp dfa.now cache.old id (unit_byte unit)) }
@@ -205,6 +212,8 @@ pub(crate) fn step<L: Ledger, M: Ledger>(
     requires quit { is_quit ≡ is_quit_unit dfa.now.quits (unit_byte unit) }
     ensures own { IsCacheOf dfa.now cache.new }
     ensures kept { KeepsOrClears dfa.now cache.old cache.new }
+    ensures remains { OnOk result (Grew dfa.now cache.old cache.new ⊎ ClearedFrom dfa.now cache.old cache.new current (unit_byte unit)) }
+    ensures gave_up { result ≡ Err GaveUp → cache.new ≡ cache.old }
     ensures loops { is_sentinel current ≡ true → result ≡ Ok current }
     ensures step { IfOk result (λ to. StepsTo dfa.now cache.old cache.new current (unit_byte unit) to) }
     ensures noted { IfOk result (λ to. IsNoted dfa.now cache.old cache.new current (unit_byte unit) to) }
