@@ -1,5 +1,5 @@
 -- How a pass goes on over a cache, for the functions that make passes.
-use Rattle.std.specs.Prelude.{◌≡◌, ◌⊎◌, ℕ, suc, ◌+◌, ◌*◌, ◌<◌, ◌≤◌, Bool, List, Option, Some, IsSome, MatchOption}
+use Rattle.std.specs.Prelude.{◌≡◌, ◌⊎◌, ℕ, suc, ◌+◌, ◌*◌, ◌<◌, ◌≤◌, Bool, List, Option, Some, None, IsSome}
 use Rattle.nfa_core.specs.Ways.{place_of}
 use Rattle.determinize_core.specs.States.{StateValue}
 use Rattle.search_types.specs.Found.{HalfFound}

@@ -1,5 +1,5 @@
 //! Half searches: passes one after the other.
-ghost use Rattle.std.specs.Prelude.{◌≡◌, ◌⊎◌, ◌+◌, ◌*◌, ◌<◌, ◌≤◌, false, true, None, IfOk, IfErr, OnOk};
+ghost use Rattle.std.specs.Prelude.{◌≡◌, ◌⊎◌, ◌+◌, ◌*◌, ◌<◌, ◌≤◌, ℕ, Option, false, true, None, IfOk, IfErr, OnOk};
 ghost use Rattle.search_types.specs.declared.match_error.MatchErrorKind.TheVariants.{NoMemory};
 ghost use Rattle.search_types.specs.Modes.{is_supported};
 ghost use Rattle.lazy_dfa.specs.Caches.{IsCacheOf, greatest};
@@ -18,6 +18,17 @@ use crate::work::Work;
 use search_types::{HalfMatch, Input, MatchError};
 use std::sync::ledger::Ledger;
 
+/// The same input.
+fn same_input<'h>(input: &Input<'h>) -> Input<'h>
+    ensures { result ≡ input.now }
+{
+    let mut same = Input::new(input.haystack());
+    same.set_span(input.get_span());
+    same.set_anchored(input.get_anchored());
+    same.set_earliest(input.get_earliest());
+    same
+}
+
 /// A half search: a pass, and while its end doesn't count another one over a byte less.
 fn search<L: Ledger, M: Ledger>(
     dfa: &DFA,
@@ -32,7 +43,7 @@ fn search<L: Ledger, M: Ledger>(
     let nfa = dfa.get_nfa();
     let is_down = nfa.is_reverse();
     let between_characters = nfa.is_utf8() && nfa.has_empty();
-    let mut rest = input.clone();
+    let mut rest = same_input(input);
     while !rest.is_done() {
         let found = match pass(dfa, cache, &rest, work) {
             Ok(found) => found,
