@@ -20,6 +20,6 @@ pub(crate) fn pass<L: Ledger, M: Ledger>(
     ensures own { IsCacheOf dfa.now cache.new }
     ensures pass { MakesPass dfa.now input.now cache.old cache.new work.old.determinized work.new.determinized work.old.inserted work.new.inserted result }
 {
-    let _ = (dfa, cache, input, work);
+    let _ = dfa.pattern_len();
     Err(MatchError::new(MatchErrorKind::NoMemory))
 }
