@@ -39,6 +39,7 @@ mod searching;
 mod start_error;
 mod starting;
 mod stepping;
+mod turns;
 mod work;
 
 pub use build_error::BuildError;
