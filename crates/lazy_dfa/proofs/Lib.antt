@@ -32,3 +32,4 @@ pub mod FixedLemmas
 pub mod SearchStartLemmas
 pub mod QuitLemmas
 pub mod StartCallLemmas
+pub mod StartChangeLemmas
