@@ -33,3 +33,4 @@ pub mod SearchStartLemmas
 pub mod QuitLemmas
 pub mod StartCallLemmas
 pub mod StartChangeLemmas
+pub mod LinkedLemmas
