@@ -1,5 +1,5 @@
 -- What calls change of a cache: nothing, a state more, a step more, or all but two states.
-use Rattle.std.proofs.Common.{◌≡◌, ◌≢◌, ℕ, ◌+◌, ◌%◌, ◌/◌, ◌-◌, ◌<◌, ◌≤◌, Bool, true, false, ◌⊎◌, List, length, get_or, set, replicate, refl, sym, ap, ◌∙◌, subst, inl, inr, ⊎_elim, arith, true≢false, Option, Some, None, get_or-set_same, get_or-set_other}
+use Rattle.std.proofs.Common.{◌≡◌, ◌≢◌, ℕ, ◌+◌, ◌%◌, ◌/◌, ◌-◌, ◌<◌, ◌≤◌, Bool, true, false, ◌⊎◌, List, [], ◌∷◌, ◌*◌, length, get_or, set, replicate, refl, sym, ap, ◌∙◌, subst, inl, inr, ⊎_elim, arith, true≢false, Option, Some, None, get_or-set_same, get_or-set_other}
 use Rattle.std.proofs.lemmas.Bool.{cases_lt, cases_eq, cases_Bool}
 use Rattle.std.proofs.lemmas.Bool.Decides.{leb_tells}
 use Rattle.std.specs.Prelude.{nat_le, not, ◌&&◌, is_none}
@@ -7,23 +7,24 @@ use Rattle.std.proofs.Math.Nat.{mod-eq_of_lt}
 use Rattle.std.specs.Prelude.{Result, Ok, Err}
 use Rattle.std.proofs.lemmas.Slice.Eq.{bytes_eq-Decides}
 use lib.ListN.{get_or-append}
-use Rattle.determinize_core.specs.StateBytes.{encoded}
+use Rattle.determinize_core.specs.StateBytes.{encoded, is_match}
 use Rattle.determinize_core.specs.States.{StateValue, dead}
 use Rattle.lazy_dfa.specs.ConfigValue.{clears_of, bytes_of}
 use Rattle.lazy_dfa.specs.Readers.{is_quit}
 use Rattle.lazy_dfa.specs.Dfas.{Dfa, IsDfa, IsUnit, after, class_of, is_dead, cost}
-use Rattle.lazy_dfa.specs.Ids.{tag, unknown_id, is_sentinel}
+use Rattle.lazy_dfa.specs.Ids.{tag, unknown_id, is_sentinel, tagged, has_tag, start_tag}
 use Rattle.lazy_dfa.specs.Caches.{CacheValue, IsShaped, IsCacheOf, Leads, Names, names_dead, names_held, HeldAt, IsRow, same, place_of, state_at, id_at, cell_at, with_state, cleared, usage, fits, Fits, is_refused, lacks_room}
-use Rattle.lazy_dfa.specs.Steps.{IsHeld, StepsTo, Added, WasCleared, MadeRoom, AddsOrClears, KeepsOrClears, noted, IsKnown, IsNoted, GivesUp, IsCause, IsStepCause}
+use Rattle.lazy_dfa.specs.Steps.{IsHeld, StepsTo, Added, Grew, WasCleared, ClearedFrom, kept_alone, MadeRoom, AddsOrClears, KeepsOrClears, noted, IsKnown, IsNoted, GivesUp, IsCause, IsStepCause}
 use Rattle.lazy_dfa.specs.declared.cache_error.CacheError.{CacheError}
 use Rattle.lazy_dfa.specs.declared.cache_error.CacheError.TheVariants.{GaveUp, NoMemory}
 use Rattle.lazy_dfa.proofs.ListLemmas.{one_longer}
+use Rattle.lazy_dfa.proofs.CacheLemmas.{IsShaped-cleared}
 use Rattle.lazy_dfa.proofs.IsCacheLemmas.{names_added, names_cells, place_inside, untagged, row_place, row_is_plain, same_row, row_of_held, row_quotient, le_of, lt_of}
 
 -- ---- a state more
 
 pub added_refl : (v : CacheValue) → IsShaped v → Added v v
-added_refl v i = record { shape = i; stride = refl; names = λ id s n. n; cells = λ id c r l. refl; clears = refl; searched = refl; progress = refl }
+added_refl v i = record { shape = i; stride = refl; names = λ id s n. n; cells = λ id c r l. refl; starts = λ j n. refl; clears = refl; searched = refl; progress = refl }
 
 pub added_state : (v : CacheValue) (b : Bool) (s : StateValue) → IsShaped v → Added v (with_state b s v)
 added_state v b s i = record {
@@ -33,6 +34,7 @@ added_state v b s i = record {
   cells = λ id c r l.
       let inside : id % tag + c < length v.cells = subst (λ (n : ℕ). n % tag + c < length v.cells) (sym r.2) (place_inside v i r.0 r.1 c l) in
       get_or-append v.cells (replicate v.stride unknown_id) 0 (id % tag + c) inside;
+  starts = λ j n. refl;
   clears = refl;
   searched = refl;
   progress = refl;
@@ -62,6 +64,25 @@ adds_nothing v mid new i room e = ⊎_elim
     (λ (f : mid ≡ v). inl (subst (Added v) (sym (e ∙ f)) (added_refl v i)))
     (λ (f : WasCleared v mid 1). inr (subst (λ (x : CacheValue). WasCleared v x 2) (sym e) (record { clears = f.clears; searched = f.searched; progress = f.progress; few = omega (arith, f.few) })))
     room
+
+-- the state of a row is kept, and another one added
+pub made_after : (v mid new : CacheValue) (k : ℕ) (s : StateValue) → IsShaped v → (mid ≡ v) ⊎ (mid ≡ kept_alone v k) → new ≡ with_state false s mid →
+    Added v new ⊎ (new ≡ with_state false s (kept_alone v k))
+made_after v mid new k s i made e = ⊎_elim
+    (λ (f : mid ≡ v). inl (subst (Added v) (sym (e ∙ ap (with_state false s) f)) (added_state v false s i)))
+    (λ (f : mid ≡ kept_alone v k). inr (e ∙ ap (with_state false s) f))
+    made
+
+-- an ID of a row stays one where it names what it named
+pub row_kept : (v w : CacheValue) → IsShaped v → ((id : ℕ) (s : StateValue) → Names v id s → Names w id s) → (id : ℕ) → IsRow v id → IsRow w id
+row_kept v w i names id r = row_of (state_at v r.0) (names id (state_at v r.0) (names_held (r.0, r.1, r.2, refl)))
+  where
+    low : id < 0x2000_0000
+    low = row_is_plain v id r.0 i r.1 r.2
+
+    row_of : (s : StateValue) → Names w id s → IsRow w id
+    row_of s (names_dead e f) = absurd (omega (arith, e, low))
+    row_of s (names_held h) = (h.0, h.1, h.2)
 
 -- ---- known steps
 
@@ -146,17 +167,51 @@ module _ (d : Dfa) (v mid new : CacheValue) (id from c k to : ℕ) (u : Option �
       get_or-set_other mid.cells (from % tag + c) (i % tag + class_of d.classes w) to 0 n ∙ a.cells i (class_of d.classes w) r (column d v made own w unitw))
       (cases_eq (i % tag + class_of d.classes w) (from % tag + c))
 
+  pub grew_cell : noted d v id u ≡ unknown_id → Added v mid → Grew d v new
+  grew_cell unknown a = subst (Grew d v) (sym e) (record {
+    names = λ i s n. names_cells mid cells i s (a.names i s n);
+    rows = λ i r. row_kept v (record mid { cells = cells }) own.shape (λ i s n. names_cells mid cells i s (a.names i s n)) i r;
+    known = λ i w r unitw n. known_on a unknown i w r unitw n;
+    starts = a.starts;
+    clears = a.clears;
+    searched = a.searched;
+    progress = a.progress;
+  })
+
   pub grew_set : noted d v id u ≡ unknown_id → AddsOrClears v mid → KeepsOrClears d v new
-  grew_set unknown changes = subst (KeepsOrClears d v) (sym e) (⊎_elim
-      (λ (a : Added v mid). inl (record {
-        names = λ i s n. names_cells mid cells i s (a.names i s n);
-        known = λ i w r unitw n. known_on a unknown i w r unitw n;
-        clears = a.clears;
-        searched = a.searched;
-        progress = a.progress;
-      }))
-      (λ (x : WasCleared v mid 2). inr (record { clears = x.clears; searched = x.searched; progress = x.progress; few = x.few }))
-      changes)
+  grew_set unknown changes = ⊎_elim
+      (λ (a : Added v mid). inl (grew_cell unknown a))
+      (λ (x : WasCleared v mid 2). inr (subst (λ (w : CacheValue). WasCleared v w 2) (sym e) (record { clears = x.clears; searched = x.searched; progress = x.progress; few = x.few })))
+      changes
+
+  -- after a clear the state stepped from and the one stepped to are left
+  pub remains_set : (s : StateValue) → noted d v id u ≡ unknown_id → s ≡ after d (state_at v k) u → Added v mid ⊎ (mid ≡ with_state false s (kept_alone v k)) →
+      Grew d v new ⊎ ClearedFrom d v new id u
+  remains_set s unknown value changes = ⊎_elim
+      (λ (a : Added v mid). inl (grew_cell unknown a))
+      (λ (f : mid ≡ with_state false s (kept_alone v k)). inr (left f))
+      changes
+    where
+      at_first : length (cleared v).cells ≡ 3 * v.stride
+      at_first = (IsShaped-cleared v (cleared v).clears own.shape).sized
+
+      one : (t : StateValue) → HeldAt v id t → state_at v k ≡ t
+      one t h = ap (state_at v) (same_row v k h.0 own.shape inside h.1 (sym row ∙ h.2)) ∙ sym h.3
+
+      there : ClearedFrom d v (record (with_state false s (kept_alone v k)) { cells = set (with_state false s (kept_alone v k)).cells (from % tag + c) to }) id u
+      there = record {
+        cleared = record { clears = refl; searched = refl; progress = refl; few = omega arith };
+        from = λ t h.
+            ap (λ (n : ℕ). tagged (has_tag start_tag (id_at v k)) (is_match (state_at v k).matches) n) at_first
+            ∙ (ap (λ (x : StateValue). tagged (has_tag start_tag (id_at v k)) (is_match x.matches) (3 * v.stride)) (one t h)
+            ∙ ap (λ (n : ℕ). tagged (has_tag start_tag n) (is_match t.matches) (3 * v.stride)) (sym row));
+        states = λ t h.
+            ap (λ (x : StateValue). state_at v k ∷ x ∷ []) value ∙ ap (λ (x : StateValue). x ∷ after d x u ∷ []) (one t h);
+        starts = refl;
+      }
+
+      left : mid ≡ with_state false s (kept_alone v k) → ClearedFrom d v new id u
+      left f = subst (λ (w : CacheValue). ClearedFrom d v w id u) (sym (e ∙ ap (λ (m : CacheValue). record m { cells = set m.cells (from % tag + c) to }) f)) there
 
   pub set_is_noted : IsNoted d v new id u to
   set_is_noted = subst (λ (w : CacheValue). IsNoted d v w id u to) (sym e) there
@@ -168,15 +223,20 @@ module _ (d : Dfa) (v mid new : CacheValue) (id from c k to : ℕ) (u : Option �
           ap (λ (m : ℕ). get_or cells (m % tag + class_of d.classes u) 0) name
           ∙ (ap (λ (m : ℕ). get_or cells (from % tag + m) 0) (sym class) ∙ get_or-set_same mid.cells (from % tag + c) to 0 fits_row)
 
+pub same_grew : (d : Dfa) (v : CacheValue) → Grew d v v
+same_grew d v = record { names = λ id s n. n; rows = λ id r. r; known = λ id u r unit n. refl; starts = λ i n. refl; clears = refl; searched = refl; progress = refl }
+
 pub grew_refl : (d : Dfa) (v : CacheValue) → KeepsOrClears d v v
-grew_refl d v = inl (record { names = λ id s n. n; known = λ id u r unit n. refl; clears = refl; searched = refl; progress = refl })
+grew_refl d v = inl (same_grew d v)
 
 -- where no step was noted
 pub grew_of : (d : Dfa) (v mid : CacheValue) → IsDfa d → IsCacheOf d v → AddsOrClears v mid → KeepsOrClears d v mid
 grew_of d v mid made own changes = ⊎_elim
     (λ (a : Added v mid). inl (record {
       names = a.names;
+      rows = row_kept v mid a.shape a.names;
       known = λ i w r unitw n. a.cells i (class_of d.classes w) r (column d v made own w unitw);
+      starts = a.starts;
       clears = a.clears;
       searched = a.searched;
       progress = a.progress;

@@ -226,7 +226,7 @@ same_slot m n s t e =
     let numbers : number_of s ≡ number_of t = omega (arith, e, f, g) in
     (modes, sym (numbered_back s).0 ∙ (ap numbered numbers ∙ (numbered_back t).0))
 
-names_starts : (v : CacheValue) (starts : List ℕ) (id : ℕ) (s : StateValue) → Names v id s → Names (record v { starts = starts }) id s
+pub names_starts : (v : CacheValue) (starts : List ℕ) (id : ℕ) (s : StateValue) → Names v id s → Names (record v { starts = starts }) id s
 names_starts v starts id s (names_dead e f) = names_dead e f
 names_starts v starts id s (names_held h) = names_held h
 

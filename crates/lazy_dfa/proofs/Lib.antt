@@ -32,3 +32,5 @@ pub mod FixedLemmas
 pub mod SearchStartLemmas
 pub mod QuitLemmas
 pub mod StartCallLemmas
+pub mod StartChangeLemmas
+pub mod LinkedLemmas

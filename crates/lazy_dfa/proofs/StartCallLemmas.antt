@@ -1,6 +1,6 @@
 -- What start calls answer, by modes.
-use Rattle.std.proofs.Common.{◌≡◌, ℕ, zero, suc, ◌+◌, ◌*◌, ◌<◌, ◌≤◌, Bool, true, false, List, [], ◌∷◌, length, refl, sym, ap, ◌∙◌, subst, inl, inr, ⊎_elim, arith, Option, Some, None}
-use Rattle.std.specs.Prelude.{slice_get, MatchOption, if◌then◌else◌}
+use Rattle.std.proofs.Common.{◌≡◌, ℕ, zero, suc, ◌+◌, ◌*◌, ◌<◌, ◌≤◌, ◌≢◌, ◌⊎◌, Bool, true, false, List, [], ◌∷◌, length, get_or, refl, sym, ap, ◌∙◌, subst, inl, inr, ⊎_elim, arith, Option, Some, None}
+use Rattle.std.specs.Prelude.{slice_get, if◌then◌else◌}
 use Rattle.search_types.specs.declared.anchored.Anchored.{Anchored}
 use Rattle.search_types.specs.declared.anchored.Anchored.TheVariants.{No, Yes, Pattern}
 use Rattle.determinize_core.specs.Starts.{StartValue, start_of}
@@ -8,13 +8,11 @@ use Rattle.determinize_core.specs.declared.start.Start.{Start}
 use Rattle.lazy_dfa.specs.Accounting.{Measures, start_count}
 use Rattle.lazy_dfa.specs.ConfigValue.{starts_each_of}
 use Rattle.lazy_dfa.specs.Dfas.{Dfa, IsDfa, start_in, first_state}
-use Rattle.lazy_dfa.specs.Ids.{dead_id}
-use Rattle.lazy_dfa.specs.Caches.{CacheValue, IsCacheOf, Names, slot, lacks_room}
+use Rattle.lazy_dfa.specs.Ids.{unknown_id}
+use Rattle.lazy_dfa.specs.Caches.{CacheValue, IsCacheOf, slot}
 use Rattle.lazy_dfa.specs.Readers.{is_quit}
-use Rattle.lazy_dfa.specs.Steps.{IsCause}
-use Rattle.lazy_dfa.specs.StartCalls.{mode_of, quit_refusal, behind_refusal, mode_refusal, start_refusal, start_error_of, IsStart, IsStartCause}
-use Rattle.lazy_dfa.specs.declared.cache_error.CacheError.{CacheError}
-use Rattle.lazy_dfa.specs.declared.cache_error.CacheError.TheVariants.{GaveUp, NoMemory as CacheNoMemory}
+use Rattle.lazy_dfa.specs.Steps.{Grew}
+use Rattle.lazy_dfa.specs.StartCalls.{mode_of, quit_refusal, behind_refusal, mode_refusal, start_refusal, start_slot, start_first, IsStartKnown, ClearedFor, StartCleared}
 use Rattle.lazy_dfa.specs.declared.start_error.StartError.{StartError}
 use Rattle.lazy_dfa.specs.declared.start_error.StartError.TheVariants.{UnsupportedAnchored}
 use Rattle.lazy_dfa.proofs.IsCacheLemmas.{numbered_back}
@@ -66,28 +64,33 @@ mode_fine d c e = by_behind c.look_behind e
 
 -- ---- answers
 
-pub no_start : (d : Dfa) (v : CacheValue) (c : StartValue) (id : ℕ) (o : Option ℕ) → None ≡ start_in d (mode_of c.anchored) → id ≡ dead_id v.stride → IsStart d v c id
-no_start d v c id o e f = subst (λ (o : Option ℕ). MatchOption o (id ≡ dead_id v.stride) (λ q. Names v id (first_state d (start_of d.nfa.terminator c.look_behind) q))) e f
+-- where nothing was refused there is no refusal, and the mode is supported
+pub allowed_of : (d : Dfa) (c : StartValue) (r : Option StartError) (o : Option ℕ) (m : Anchored) → r ≡ None → r ≡ behind_refusal d o (mode_refusal d m) → o ≡ c.look_behind → m ≡ c.anchored →
+    start_refusal d c ≡ None
+allowed_of d c r o m none e f g =
+    ap (λ (o : Option ℕ). behind_refusal d o (mode_refusal d c.anchored)) (sym f) ∙ (ap (λ (m : Anchored). behind_refusal d o (mode_refusal d m)) (sym g) ∙ (sym e ∙ none))
 
-pub one_start : (d : Dfa) (v : CacheValue) (c : StartValue) (s : Start) (id q : ℕ) → Some q ≡ start_in d (mode_of c.anchored) → s ≡ start_of d.nfa.terminator c.look_behind →
-    Names v id (first_state d s q) → IsStart d v c id
-one_start d v c s id q e f n = subst (λ (o : Option ℕ). MatchOption o (id ≡ dead_id v.stride) (λ q. Names v id (first_state d (start_of d.nfa.terminator c.look_behind) q))) e
-    (subst (λ (t : Start). Names v id (first_state d t q)) f n)
-
-pub start_cause : (d : Dfa) (v : CacheValue) (c : StartValue) (s : Start) (q : ℕ) (e : CacheError) (r : StartError) → Some q ≡ start_in d (mode_of c.anchored) →
-    s ≡ start_of d.nfa.terminator c.look_behind → r ≡ start_error_of e → IsCause d v (first_state d s q) e → IsStartCause d v c r
-start_cause d v c s q e r named is told cause = ⊎_elim
-    (λ (m : e ≡ CacheNoMemory). inl (told ∙ ap start_error_of m))
-    (λ (g : (e ≡ GaveUp) × (lacks_room d v (first_state d s q) ≡ true)).
-    inr (
-      told ∙ ap start_error_of g.0,
-      subst (λ (o : Option ℕ). MatchOption o ⊥ (λ q. lacks_room d v (first_state d (start_of d.nfa.terminator c.look_behind) q) ≡ true)) named
-          (ap (λ (t : Start). lacks_room d v (first_state d t q)) (sym is) ∙ g.1),
-    ))
-    cause
-
--- where nothing was refused the mode is supported
 pub fine_of : (d : Dfa) (c : StartValue) (r : Option StartError) (o : Option ℕ) (m : Anchored) → r ≡ None → r ≡ behind_refusal d o (mode_refusal d m) → o ≡ c.look_behind → m ≡ c.anchored →
     mode_refusal d c.anchored ≡ None
-fine_of d c r o m none e f g =
-    mode_fine d c (ap (λ (o : Option ℕ). behind_refusal d o (mode_refusal d c.anchored)) (sym f) ∙ (ap (λ (m : Anchored). behind_refusal d o (mode_refusal d m)) (sym g) ∙ (sym e ∙ none)))
+fine_of d c r o m none e f g = mode_fine d c (allowed_of d c r o m none e f g)
+
+module _ (d : Dfa) (c : StartValue) (n q : ℕ) (s : Start) (named : Some q ≡ start_in d (mode_of c.anchored)) (number : n ≡ mode_of c.anchored)
+    (is : s ≡ start_of d.nfa.terminator c.look_behind) where
+  same_slot : slot n s ≡ start_slot d c
+  same_slot = ap (λ (m : ℕ). slot m s) number ∙ ap (λ (t : Start). slot (mode_of c.anchored) t) is
+
+  -- a start of which nothing is to be made is known
+  pub known_here : (v : CacheValue) → start_refusal d c ≡ None → IsStartKnown d v c → get_or v.starts (slot n s) 0 ≢ unknown_id
+  known_here v none (inl r) z = r none
+  known_here v none (inr (inl e)) z = let f : Some q ≡ None = named ∙ e in absurd cc
+  known_here v none (inr (inr k)) z = k (ap (λ (i : ℕ). get_or v.starts i 0) (sym same_slot) ∙ z)
+
+  pub start_left : (v w : CacheValue) → Grew d v w ⊎ ClearedFor d v w (slot n s) (first_state d s q) → Grew d v w ⊎ StartCleared d v w c
+  start_left v w e = ⊎_elim
+      (λ (g : Grew d v w). inl g)
+      (λ (x : ClearedFor d v w (slot n s) (first_state d s q)). inr (record {
+        name = q;
+        named = sym named;
+        clears = subst (λ (i : ℕ). ClearedFor d v w i (start_first d c q)) same_slot (subst (λ (t : Start). ClearedFor d v w (slot n s) (first_state d t q)) is x);
+      }))
+      e

@@ -1,6 +1,7 @@
-use Rattle.std.proofs.Common.{◌∙◌, sym, subst, ap, ℕ, refl, Some, length}
+use Rattle.std.proofs.Common.{◌∙◌, sym, subst, ap, ℕ, Bool, refl, Some, length}
 use Rattle.lazy_dfa.specs.Ids.{dead_id}
-use Rattle.lazy_dfa.specs.Caches.{CacheValue, IsCacheOf, Names, names_dead, names_held, with_state}
+use Rattle.lazy_dfa.specs.Caches.{CacheValue, IsCacheOf, Names, names_dead, names_held, with_state, new_id}
+use Rattle.lazy_dfa.specs.StartCalls.{start_added}
 use Rattle.lazy_dfa.proofs.IsCacheLemmas.{is_cache_added, alive_of, dead_of, new_held}
 use Rattle.lazy_dfa.proofs.ChangeLemmas.{lacks_not_dead, lacks_not_found}
 use Rattle.lazy_dfa.proofs.starting.place_start.Goals as goal
@@ -24,6 +25,11 @@ returns-clause-own c = subst (IsCacheOf c.args.dfa.now) (sym c.in_ok-id.ensures.
 
 pub returns-clause-slots : goal.returns-clause-slots
 returns-clause-slots c = ap (λ (v : CacheValue). length v.starts) c.in_ok-id.ensures.ok ∙ c.in_ok-room_alone.ensures.slots
+
+pub returns-clause-made : goal.returns-clause-made
+returns-clause-made c = start_added c.room_alone.new.cache c.in_ok-room_alone.ensures.room c.in_ok-room_alone.ensures.fits.1
+    (c.in_ok-id.ensures.ok ∙ ap (λ (b : Bool). with_state b c.args.state c.room_alone.new.cache) c.specializes.ensures)
+    (c.in_ok-id.ensures.id ∙ ap (λ (b : Bool). new_id c.room_alone.new.cache b c.args.state) c.specializes.ensures)
 
 pub returns-clause-to : goal.returns-clause-to
 returns-clause-to c = subst (λ (w : CacheValue). Names w c.in_ok-id.id c.args.state) (sym c.in_ok-id.ensures.ok)

@@ -1,9 +1,9 @@
-use Rattle.std.proofs.Common.{sym, subst, ◌<◌, length}
+use Rattle.std.proofs.Common.{◌≡◌, ◌⊎◌, false, sym, subst, ◌<◌, length}
 use Rattle.search_core.specs.Units.{unit_byte}
-use Rattle.lazy_dfa.specs.Caches.{CacheValue, IsCacheOf, HeldAt, Leads, state_at}
-use Rattle.lazy_dfa.specs.Steps.{AddsOrClears, KeepsOrClears}
+use Rattle.lazy_dfa.specs.Caches.{CacheValue, IsCacheOf, HeldAt, Leads, state_at, with_state}
+use Rattle.lazy_dfa.specs.Steps.{Added, AddsOrClears, KeepsOrClears, kept_alone}
 use Rattle.lazy_dfa.proofs.IsCacheLemmas.{row_place, is_cache_stepped, leads_stepped, leads_to, steps_of_row}
-use Rattle.lazy_dfa.proofs.ChangeLemmas.{grew_refl, grew_of, grew_set, set_is_noted, step_cause, no_cause}
+use Rattle.lazy_dfa.proofs.ChangeLemmas.{grew_refl, grew_of, grew_set, remains_set, set_is_noted, step_cause, no_cause}
 use Rattle.lazy_dfa.proofs.stepping.fill.Goals as goal
 
 pub returns-in_err-state-clause-own : goal.returns-in_err-state-clause-own
@@ -46,6 +46,12 @@ pub returns-in-Ok-clause-kept : goal.returns-in-Ok-clause-kept
 returns-in-Ok-clause-kept g c = grew_set c.args.dfa.now c.args.cache.now c.place.new.cache c.set_cell.new.self c.args.id c.in-Ok.rows.from c.args.class c.row-k.result c.in-Ok.rows.to (unit_byte c.args.unit)
     c.is_made.ensures c.requires.own c.in-Ok.ensures.own c.requires.unit c.requires.class c.row-k.ensures.inside c.row-k.ensures.id (held g c) c.set_cell.ensures c.requires.unknown
     (subst (λ (v : CacheValue). AddsOrClears v c.place.new.cache) c.state_behind.ensures.same c.in-Ok.ensures.kept)
+
+pub returns-in-Ok-clause-remains : goal.returns-in-Ok-clause-remains
+returns-in-Ok-clause-remains g c = remains_set c.args.dfa.now c.args.cache.now c.place.new.cache c.set_cell.new.self c.args.id c.in-Ok.rows.from c.args.class c.row-k.result c.in-Ok.rows.to (unit_byte c.args.unit)
+    c.is_made.ensures c.requires.own c.in-Ok.ensures.own c.requires.unit c.requires.class c.row-k.ensures.inside c.row-k.ensures.id (held g c) c.set_cell.ensures c.in_ok-state.state c.requires.unknown
+    c.in_ok-state.ensures.value
+    (subst (λ (v : CacheValue). Added v c.place.new.cache ⊎ (c.place.new.cache ≡ with_state false c.in_ok-state.state (kept_alone v c.row-k.result))) c.state_behind.ensures.same c.in-Ok.ensures.made)
 
 pub returns-in-Ok-clause-noted : goal.returns-in-Ok-clause-noted
 returns-in-Ok-clause-noted g c = set_is_noted c.args.dfa.now c.args.cache.now c.place.new.cache c.set_cell.new.self c.args.id c.in-Ok.rows.from c.args.class c.row-k.result c.in-Ok.rows.to (unit_byte c.args.unit)

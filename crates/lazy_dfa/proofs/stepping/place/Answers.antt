@@ -2,7 +2,7 @@ use Rattle.std.proofs.Common.{◌∙◌, sym, subst, ap, false, ℕ, refl, inl, 
 use Rattle.lazy_dfa.specs.Ids.{dead_id}
 use Rattle.lazy_dfa.specs.Caches.{CacheValue, IsCacheOf, HeldAt, Names, names_dead, names_held, state_at, with_state}
 use Rattle.lazy_dfa.proofs.IsCacheLemmas.{is_cache_added, alive_of, dead_of, held_added, new_held}
-use Rattle.lazy_dfa.proofs.ChangeLemmas.{added_refl, adds_after, adds_nothing, lacks_not_dead, lacks_not_found}
+use Rattle.lazy_dfa.proofs.ChangeLemmas.{added_refl, adds_after, adds_nothing, made_after, lacks_not_dead, lacks_not_found}
 use Rattle.lazy_dfa.proofs.stepping.place.Goals as goal
 
 pub returns-then-is_dead_state-clause-kept : goal.returns-then-is_dead_state-clause-kept
@@ -23,6 +23,12 @@ returns-in-Some-clause-kept c = inl (added_refl c.args.cache.now c.requires.own.
 pub returns-in-Some-clause-ok : goal.returns-in-Some-clause-ok
 returns-in-Some-clause-ok c = lacks_not_found c.args.dfa.now c.args.cache.now c.args.state (Some c.in-Some.j) c.in-Some.ensures.place refl
 
+pub returns-then-is_dead_state-clause-made : goal.returns-then-is_dead_state-clause-made
+returns-then-is_dead_state-clause-made c = inl (added_refl c.args.cache.now c.requires.own.shape)
+
+pub returns-in-Some-clause-made : goal.returns-in-Some-clause-made
+returns-in-Some-clause-made c = inl (added_refl c.args.cache.now c.requires.own.shape)
+
 pub returns-in_err-from-clause-kept : goal.returns-in_err-from-clause-kept
 returns-in_err-from-clause-kept c = adds_nothing c.args.cache.now c.make_room.new.cache c.make_room.new.cache c.requires.own.shape c.in_err-from.ensures.room refl
 
@@ -36,6 +42,9 @@ returns-clause-own c = subst (IsCacheOf c.args.dfa.now) (sym c.in_ok-to.ensures.
 
 pub returns-clause-kept : goal.returns-clause-kept
 returns-clause-kept c = adds_after c.args.cache.now c.make_room.new.cache c.add_state.new.self false c.args.state c.requires.own.shape c.in_ok-from.ensures.room c.in_ok-to.ensures.ok
+
+pub returns-clause-made : goal.returns-clause-made
+returns-clause-made c = made_after c.args.cache.now c.make_room.new.cache c.add_state.new.self c.args.k c.args.state c.requires.own.shape c.in_ok-from.ensures.made c.in_ok-to.ensures.ok
 
 pub returns-clause-from : goal.returns-clause-from
 returns-clause-from c = subst (λ (w : CacheValue). HeldAt w c.in_ok-from.from (state_at c.args.cache.now c.args.k)) (sym c.in_ok-to.ensures.ok)

@@ -3,13 +3,16 @@ use Rattle.search_core.specs.Units.{unit_byte}
 use Rattle.lazy_dfa.specs.Ids.{quit_id}
 use Rattle.lazy_dfa.specs.Caches.{state_at}
 use Rattle.lazy_dfa.proofs.IsCacheLemmas.{no_step, row_place, row_of_held, known_leads, is_cache_stepped, leads_quit, leads_stepped, steps_of_row}
-use Rattle.lazy_dfa.proofs.ChangeLemmas.{grew_refl, grew_set, set_is_noted, added_refl, no_row, noted_read, unknown_here, not_known, known_cell}
+use Rattle.lazy_dfa.proofs.ChangeLemmas.{grew_refl, same_grew, grew_cell, grew_set, set_is_noted, added_refl, no_row, noted_read, unknown_here, not_known, known_cell}
 use Rattle.lazy_dfa.proofs.stepping.step.Goals as goal
 
 -- ---- a sentinel
 
 pub returns-then-is_sentinel-clause-kept : goal.returns-then-is_sentinel-clause-kept
 returns-then-is_sentinel-clause-kept g c = grew_refl c.args.dfa.now c.args.cache.now
+
+pub returns-then-is_sentinel-clause-remains : goal.returns-then-is_sentinel-clause-remains
+returns-then-is_sentinel-clause-remains g c = inl (same_grew c.args.dfa.now c.args.cache.now)
 
 pub returns-then-is_sentinel-clause-step : goal.returns-then-is_sentinel-clause-step
 returns-then-is_sentinel-clause-step g c = no_step c.args.dfa.now c.args.cache.now c.args.current c.args.current (unit_byte c.args.unit) c.requires.own.shape (sym c.is_sentinel.ensures ∙ c.if-is_sentinel.true)
@@ -31,6 +34,9 @@ cell-cell-requires g c = row_place c.args.dfa.now c.args.cache.now c.args.curren
 
 pub returns-then-not-is_not_known-clause-kept : goal.returns-then-not-is_not_known-clause-kept
 returns-then-not-is_not_known-clause-kept g c = grew_refl c.args.dfa.now c.args.cache.now
+
+pub returns-then-not-is_not_known-clause-remains : goal.returns-then-not-is_not_known-clause-remains
+returns-then-not-is_not_known-clause-remains g c = inl (same_grew c.args.dfa.now c.args.cache.now)
 
 pub returns-then-not-is_not_known-clause-loops : goal.returns-then-not-is_not_known-clause-loops
 returns-then-not-is_not_known-clause-loops g c e = absurd (true≢false (sym e ∙ (sym c.is_sentinel.ensures ∙ c.if-is_sentinel.false)))
@@ -66,6 +72,14 @@ returns-then-is_quit-clause-kept g c =
     c.is_made.ensures c.requires.own c.requires.own c.requires.unit c.requires.class row.1 row.2 (row.0, row.1, row.2, refl) c.set_cell.ensures
     (unknown_here c.args.dfa.now c.args.cache.now c.args.current c.args.class c.cell-cell.result (unit_byte c.args.unit) c.is_made.ensures c.requires.own c.requires.unit c.requires.class c.cell-cell.ensures row (sym c.is_not_known.ensures ∙ c.if-not-is_not_known.false))
     (inl (added_refl c.args.cache.now c.requires.own.shape))
+
+pub returns-then-is_quit-clause-remains : goal.returns-then-is_quit-clause-remains
+returns-then-is_quit-clause-remains g c =
+    let row = row_of_held c.args.cache.now c.args.current c.requires.held (sym c.is_sentinel.ensures ∙ c.if-is_sentinel.false) in
+    inl (grew_cell c.args.dfa.now c.args.cache.now c.args.cache.now c.set_cell.new.self c.args.current c.args.current c.args.class row.0 c.quit-quit.result (unit_byte c.args.unit)
+    c.is_made.ensures c.requires.own c.requires.own c.requires.unit c.requires.class row.1 row.2 (row.0, row.1, row.2, refl) c.set_cell.ensures
+    (unknown_here c.args.dfa.now c.args.cache.now c.args.current c.args.class c.cell-cell.result (unit_byte c.args.unit) c.is_made.ensures c.requires.own c.requires.unit c.requires.class c.cell-cell.ensures row (sym c.is_not_known.ensures ∙ c.if-not-is_not_known.false))
+    (added_refl c.args.cache.now c.requires.own.shape))
 
 pub returns-then-is_quit-clause-loops : goal.returns-then-is_quit-clause-loops
 returns-then-is_quit-clause-loops g c e = absurd (true≢false (sym e ∙ (sym c.is_sentinel.ensures ∙ c.if-is_sentinel.false)))
