@@ -34,3 +34,4 @@ pub mod QuitLemmas
 pub mod StartCallLemmas
 pub mod StartChangeLemmas
 pub mod LinkedLemmas
+pub mod PassEndLemmas
