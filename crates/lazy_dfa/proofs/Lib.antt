@@ -35,3 +35,5 @@ pub mod StartCallLemmas
 pub mod StartChangeLemmas
 pub mod LinkedLemmas
 pub mod PassEndLemmas
+pub mod CourseLemmas
+pub mod PointLemmas

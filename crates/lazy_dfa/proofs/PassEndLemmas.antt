@@ -144,9 +144,9 @@ module _ (r : Reader) (earliest : Bool) (h : List ℕ) (i : ℕ) (v : StateValue
   pub ends_stop : (m n : ℕ) (best : Option (ℕ × ℕ)) → m < n → AreRead r h i v (suc m) → HasNoStop r earliest h i v m → stops m ≡ true →
       (pass_from r earliest h n i v best ≡ found (best_at best (suc m))) × (units_read r earliest h n i v ≡ suc m)
   ends_stop m n best l read free e =
-      (ap (λ (k : ℕ). pass_from r earliest h k i v best) (one_less m n l) ∙ (goes m (suc (n - m - 1)) best (fewer m read) open
+      (ap (λ (k : ℕ). pass_from r earliest h k i v best) (one_less m n l) ∙ (goes m (suc (n - m - 1)) best (fewer m read) free
       ∙ one_stop (n - m - 1) m (best_at best m) (read m (omega arith)) e)
-      , ap (λ (k : ℕ). units_read r earliest h k i v) (one_less m n l) ∙ (goes_units m (suc (n - m - 1)) (fewer m read) open
+      , ap (λ (k : ℕ). units_read r earliest h k i v) (one_less m n l) ∙ (goes_units m (suc (n - m - 1)) (fewer m read) free
       ∙ (ap (λ (k : ℕ). m + k) (stop_units (n - m - 1) m (read m (omega arith)).alive e) ∙ one m)))
     where
       one : (m : ℕ) → m + 1 ≡ suc m
