@@ -1,5 +1,5 @@
 -- How a pass goes on through the units that it reads, and how it ends.
-use Rattle.std.proofs.Common.{◌≡◌, ℕ, zero, suc, ◌+◌, ◌-◌, ◌<◌, ◌≤◌, Bool, true, false, ◌&&◌, not, List, [], ◌∷◌, Option, Some, None, if◌then◌else◌, refl, sym, ap, ◌∙◌, arith, ⊎_elim, subst}
+use Rattle.std.proofs.Common.{◌≡◌, ℕ, zero, suc, ◌+◌, ◌-◌, ◌<◌, ◌≤◌, Bool, true, false, ◌&&◌, not, List, [], ◌∷◌, Option, Some, None, if◌then◌else◌, refl, sym, ap, ◌∙◌, arith, ◌⊎◌, ⊎_elim}
 use Rattle.std.proofs.lemmas.Bool.{cases_Bool}
 use Rattle.search_core.specs.ByteSets.{has}
 use Rattle.nfa_core.specs.Ways.{place_of}
@@ -100,9 +100,12 @@ module _ (r : Reader) (earliest : Bool) (h : List ℕ) (i : ℕ) (v : StateValue
   fewer_stops : (m : ℕ) → HasNoStop r earliest h i v (suc m) → HasNoStop r earliest h i v m
   fewer_stops m all k l = all k (omega (arith, l))
 
+  none_more : (n : ℕ) → 0 + n ≡ n
+  none_more n = omega arith
+
   pub goes : (m n : ℕ) (best : Option (ℕ × ℕ)) → AreRead r h i v m → HasNoStop r earliest h i v m →
       pass_from r earliest h (m + n) i v best ≡ pass_at n m (best_behind r h i v best m)
-  goes zero n best read free = ap (λ (j : ℕ). pass_from r earliest h n j v best) (sym (place_zero r.automaton.reverse i))
+  goes zero n best read free = ap (λ (k : ℕ). pass_from r earliest h k i v best) (none_more n) ∙ ap (λ (j : ℕ). pass_from r earliest h n j v best) (sym (place_zero r.automaton.reverse i))
   goes (suc m) n best read free =
       let same : suc m + n ≡ m + suc n = omega arith in
       ap (λ (k : ℕ). pass_from r earliest h k i v best) same
@@ -111,7 +114,8 @@ module _ (r : Reader) (earliest : Bool) (h : List ℕ) (i : ℕ) (v : StateValue
 
   pub goes_units : (m n : ℕ) → AreRead r h i v m → HasNoStop r earliest h i v m →
       units_read r earliest h (m + n) i v ≡ m + units_at n m
-  goes_units zero n read free = ap (λ (j : ℕ). units_read r earliest h n j v) (sym (place_zero r.automaton.reverse i))
+  goes_units zero n read free =
+      ap (λ (k : ℕ). units_read r earliest h k i v) (none_more n) ∙ (ap (λ (j : ℕ). units_read r earliest h n j v) (sym (place_zero r.automaton.reverse i)) ∙ sym (none_more (units_at n 0)))
   goes_units (suc m) n read free =
       let same : suc m + n ≡ m + suc n = omega arith in
       let before = goes_units m (suc n) (fewer m read) (fewer_stops m free) in
@@ -190,11 +194,3 @@ module _ (r : Reader) (earliest : Bool) (h : List ℕ) (i : ℕ) (v : StateValue
       let all = ap (λ (k : ℕ). units_read r earliest h k i v) (one_less m n l) ∙ goes_units m (suc (n - m - 1)) read free in
       omega (arith, some, all)
 
-  -- ---- where nothing is recorded, nothing stops
-
-  nothing : (i : ℕ) (w : StateValue) (best : Option (ℕ × ℕ)) → recorded i w best ≡ None → is_empty w.matches ≡ true
-  nothing i w best e = by_list w.matches e
-    where
-      by_list : (ms : List ℕ) → recorded i (record w { matches = ms }) best ≡ None → is_empty ms ≡ true
-      by_list [] e = refl
-      by_list (p ∷ ps) e = let never : Some (i, p) ≡ None = e in cc
