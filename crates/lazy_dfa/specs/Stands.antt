@@ -73,9 +73,9 @@ error_of place StepNoMemory = NoMemory
 
 -- ---- turns in a span
 
--- a pass comes from a point to another one, and stops nowhere between
-abbrev pub GoesBetween : Dfa → Bool → List ℕ → Point → Point → Type 0
-GoesBetween d earliest h from to = (k : ℕ) × GoesTo d h from to k ×
+-- a pass comes from a point to another one through k units, and stops nowhere between
+abbrev pub GoesBetween : Dfa → Bool → List ℕ → Point → Point → ℕ → Type 0
+GoesBetween d earliest h from to k = GoesTo d h from to k ×
     ((s : StateValue) → HeldAt from.cache from.id s → HasNoStop (reader d) earliest h from.at s k)
 
 -- A pass ends with the turn at a point, and with this match: its cache was told where it came, before the step or behind it.

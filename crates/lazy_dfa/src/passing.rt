@@ -113,7 +113,8 @@ fn run(dfa: &DFA, cache: &Cache, input: &Input<'_>, is_down: bool, stand: Stand)
     ensures within { IsWithinSpan input.now result.at }
     ensures closer { left_at is_down input.now result.at ≤ left_at is_down input.now stand.at }
     ensures goes { (earliest : Bool) (m n : ℕ) → GoesBetween dfa.now earliest input.now.haystack
-        (point cache.now m n stand.at stand.id (pair_of stand.best)) (point cache.now m n result.at result.id (pair_of result.best)) }
+        (point cache.now m n stand.at stand.id (pair_of stand.best)) (point cache.now m n result.at result.id (pair_of result.best))
+        (left_at is_down input.now stand.at - left_at is_down input.now result.at) }
 {
     if stand.id.is_tagged() {
         return stand;
