@@ -34,3 +34,7 @@ pub mod QuitLemmas
 pub mod StartCallLemmas
 pub mod StartChangeLemmas
 pub mod LinkedLemmas
+pub mod PassListLemmas
+pub mod AnswerLemmas
+pub mod SearchLemmas
+pub mod SearchEndLemmas
