@@ -38,3 +38,4 @@ pub mod PassListLemmas
 pub mod AnswerLemmas
 pub mod SearchLemmas
 pub mod SearchEndLemmas
+pub mod HasReachLemmas
