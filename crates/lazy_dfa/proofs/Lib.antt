@@ -39,3 +39,4 @@ pub mod AnswerLemmas
 pub mod SearchLemmas
 pub mod SearchEndLemmas
 pub mod HasReachLemmas
+pub mod SearchClauseLemmas

@@ -1,10 +1,11 @@
 //! Half searches: passes one after the other.
 ghost use Rattle.std.specs.Prelude.{slice_index_or, ◌≡◌, ◌⊎◌, ◌+◌, ◌*◌, ◌<◌, ◌≤◌, ℕ, Option, false, true, None, IfOk, IfErr, OnOk};
 ghost use Rattle.search_types.specs.declared.match_error.MatchErrorKind.TheVariants.{NoMemory};
+ghost use Rattle.search_types.specs.Inputs.{IsWithin};
 ghost use Rattle.search_types.specs.Modes.{is_supported};
 ghost use Rattle.lazy_dfa.specs.Caches.{IsCacheOf, greatest};
 ghost use Rattle.lazy_dfa.specs.ConfigValue.{clears_of};
-ghost use Rattle.lazy_dfa.specs.Dfas.{reader};
+ghost use Rattle.lazy_dfa.specs.Dfas.{IsDfa, reader};
 ghost use Rattle.lazy_dfa.specs.Linked.{IsLinked, GrowsOrClears, IsMoved, passes_of};
 ghost use Rattle.lazy_dfa.specs.MadePasses.{MakesSearch};
 ghost use Rattle.lazy_dfa.specs.ScanLaws.{HasNoQuitNear, pass_count, unit_count};
@@ -57,6 +58,8 @@ fn search<L: Ledger, M: Ledger>(
     work: &mut Work<L, M>,
 ) -> Result<Option<HalfMatch>, MatchError>
     requires { IsCacheOf dfa.now cache.old }
+    ensures made { IsDfa dfa.now }
+    ensures within { IsWithin input.now }
     ensures own { IsCacheOf dfa.now cache.new }
     ensures search { MakesSearch dfa.now input.now cache.old cache.new work.old.determinized work.new.determinized work.old.inserted work.new.inserted result }
 {
