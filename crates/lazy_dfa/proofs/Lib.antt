@@ -38,3 +38,9 @@ pub mod PassEndLemmas
 pub mod CourseLemmas
 pub mod PointLemmas
 pub mod RunLemmas
+pub mod PassListLemmas
+pub mod AnswerLemmas
+pub mod SearchLemmas
+pub mod SearchEndLemmas
+pub mod HasReachLemmas
+pub mod SearchClauseLemmas
