@@ -44,3 +44,4 @@ pub mod SearchLemmas
 pub mod SearchEndLemmas
 pub mod HasReachLemmas
 pub mod SearchClauseLemmas
+pub mod PassLoopLemmas
