@@ -34,3 +34,5 @@ pub mod QuitLemmas
 pub mod StartCallLemmas
 pub mod StartChangeLemmas
 pub mod LinkedLemmas
+pub mod CourseLemmas
+pub mod PointLemmas
