@@ -36,3 +36,4 @@ pub mod StartChangeLemmas
 pub mod LinkedLemmas
 pub mod CourseLemmas
 pub mod PointLemmas
+pub mod TurnStepLemmas
