@@ -37,3 +37,4 @@ pub mod LinkedLemmas
 pub mod CourseLemmas
 pub mod PointLemmas
 pub mod TurnStepLemmas
+pub mod PassStartLemmas
