@@ -14,18 +14,18 @@ use Rattle.determinize_core.specs.Steps.{unit_behind}
 use Rattle.lazy_dfa.specs.Caches.{CacheValue, Names, names_dead, lacks_room}
 use Rattle.lazy_dfa.specs.ConfigValue.{starts_each_of}
 use Rattle.lazy_dfa.specs.declared.start_error.StartError.{StartError}
-use Rattle.lazy_dfa.specs.declared.start_error.StartError.TheVariants.{Cache, Quit, UnsupportedAnchored, NoMemory as StartNoMemory}
+use Rattle.lazy_dfa.specs.declared.start_error.StartError.TheVariants.{Quit, UnsupportedAnchored}
 use Rattle.lazy_dfa.specs.Dfas.{Dfa, reader, start_in, first_state}
 use Rattle.lazy_dfa.specs.Ids.{dead_id, unknown_id}
 use Rattle.lazy_dfa.specs.MadePasses.{span_len}
 use Rattle.lazy_dfa.specs.Passes.{index_behind, unless_quit, if_supported, start_name, start_or_dead, first_value, pass, pass_from}
-use Rattle.lazy_dfa.specs.Readers.{HalfAnswer, quit, unsupported, is_quit}
+use Rattle.lazy_dfa.specs.Readers.{HalfAnswer, quit, is_quit}
 use Rattle.lazy_dfa.specs.Scans.{first_place}
 use Rattle.lazy_dfa.specs.ScanLaws.{begins_at}
 use Rattle.lazy_dfa.specs.SearchAnswers.{told}
 use Rattle.lazy_dfa.specs.SearchStarts.{AnswersStart, error_at}
 use Rattle.lazy_dfa.specs.Stands.{pass_start, StartsPass}
-use Rattle.lazy_dfa.specs.StartCalls.{mode_of, quit_refusal, behind_refusal, mode_refusal, start_refusal, start_noted, start_first, IsStart, IsStartKnown, IsStartCause, StartGivesUp}
+use Rattle.lazy_dfa.specs.StartCalls.{mode_of, quit_refusal, behind_refusal, mode_refusal, start_refusal, start_noted, start_first, IsStartKnown, IsStartCause}
 use Rattle.lazy_dfa.specs.Steps.{Grew, WasCleared, most_inserts}
 
 -- what one who reads up, or down, through the span tells of the start
@@ -148,7 +148,7 @@ module _ (d : Dfa) (q : Search) (old new : CacheValue) where
       inl (
         λ n. some_none x (sym e ∙ n),
         ap failed (one_refused k (error_at quits_at begins x) is)
-        ∙ pass_told d told_of_it.look_behind q.anchored quits_at begins (pass_from (reader d) q.earliest q.haystack (suc (span_len q)) begins first None) x e,
+            ∙ pass_told d told_of_it.look_behind q.anchored quits_at begins (pass_from (reader d) q.earliest q.haystack (suc (span_len q)) begins first None) x e,
       )
     where
       some_none : (x : StartError) → Some x ≡ None → ⊥
