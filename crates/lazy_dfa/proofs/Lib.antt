@@ -34,7 +34,15 @@ pub mod QuitLemmas
 pub mod StartCallLemmas
 pub mod StartChangeLemmas
 pub mod LinkedLemmas
+pub mod PassEndLemmas
 pub mod CourseLemmas
 pub mod PointLemmas
 pub mod TurnStepLemmas
 pub mod PassStartLemmas
+pub mod RunLemmas
+pub mod PassListLemmas
+pub mod AnswerLemmas
+pub mod SearchLemmas
+pub mod SearchEndLemmas
+pub mod HasReachLemmas
+pub mod SearchClauseLemmas

@@ -21,7 +21,7 @@ use Rattle.lazy_dfa.specs.Linked.{IsLinkedOver, Grows, HasCleared, GrowsOrClears
 use Rattle.lazy_dfa.specs.MadePasses.{span_len}
 use Rattle.lazy_dfa.specs.Passes.{index_at, is_dead, first_value, pass, pass_from}
 use Rattle.lazy_dfa.specs.PassLaws.{units_read}
-use Rattle.lazy_dfa.specs.Points.{Point, GoesTo, point}
+use Rattle.lazy_dfa.specs.Points.{Point, GoesTo, began}
 use Rattle.lazy_dfa.specs.Readers.{is_quit}
 use Rattle.lazy_dfa.specs.Scans.{first_place}
 use Rattle.lazy_dfa.specs.ScanLaws.{begins_at}
@@ -57,6 +57,10 @@ tells down q = not (down && nat_le q.end q.start)
 abbrev pub first_index : Bool → Search → ℕ
 first_index down q = index_at down (first_place down q.start q.end)
 
+-- the running search began with the pass; after a clear it has begun anew
+abbrev pub BeganFirst : Bool → Search → CacheValue → Type 0
+BeganFirst down q v = tells down q ≡ true → began v.progress ≡ Some (first_index down q)
+
 -- what a pass over n bytes tells at its end that has told where it begins
 abbrev pub told_behind : Bool → ℕ → Told → ℕ → Told
 told_behind down n t units =
@@ -69,9 +73,9 @@ error_of place StepNoMemory = NoMemory
 
 -- ---- turns in a span
 
--- a pass comes from a point to another one, and stops nowhere between
-abbrev pub GoesBetween : Dfa → Bool → List ℕ → Point → Point → Type 0
-GoesBetween d earliest h from to = (k : ℕ) × GoesTo d h from to k ×
+-- a pass comes from a point to another one through k units, and stops nowhere between
+abbrev pub GoesBetween : Dfa → Bool → List ℕ → Point → Point → ℕ → Type 0
+GoesBetween d earliest h from to k = GoesTo d h from to k ×
     ((s : StateValue) → HeldAt from.cache from.id s → HasNoStop (reader d) earliest h from.at s k)
 
 -- A pass ends with the turn at a point, and with this match: its cache was told where it came, before the step or behind it.
@@ -82,7 +86,8 @@ pub record EndsWith (d : Dfa) (q : Search) (from : Point) (new : CacheValue) (m 
   pub begun : IsMoved from.cache before
   pub goes : GoesOne d q.haystack (record from { cache = before }) behind m n id best
   pub ended : IsMoved behind new
-  pub told : (told_of new ≡ told_behind d.nfa.automaton.reverse (span_len q) (told_of from.cache) (suc (came d.nfa.automaton.reverse q from.at))) ⊎
+  pub told : BeganFirst d.nfa.automaton.reverse q from.cache →
+      (told_of new ≡ told_behind d.nfa.automaton.reverse (span_len q) (told_of from.cache) (suc (came d.nfa.automaton.reverse q from.at))) ⊎
       HasCleared from.cache new
   pub why : (s : StateValue) → HeldAt from.cache from.id s →
       (stops_behind (reader d) q.earliest q.haystack from.at s 0 ≡ true) ⊎

@@ -6,10 +6,10 @@ ghost use Rattle.determinize_core.specs.Steps.{unit_at};
 ghost use Rattle.lazy_dfa.specs.Caches.{IsCacheOf, IsRow, HeldAt};
 ghost use Rattle.lazy_dfa.specs.MadePasses.{MakesPass};
 ghost use Rattle.lazy_dfa.specs.Passes.{index_at};
-ghost use Rattle.lazy_dfa.specs.Points.{point, began};
+ghost use Rattle.lazy_dfa.specs.Points.{point};
 ghost use Rattle.lazy_dfa.specs.Scans.{first_place};
 ghost use Rattle.lazy_dfa.specs.SearchAnswers.{pair_of};
-ghost use Rattle.lazy_dfa.specs.Stands.{IsWithinSpan, last_place, left_at, tells, first_index, error_of, GoesBetween, TurnsTo, RunsOn, StartsPass};
+ghost use Rattle.lazy_dfa.specs.Stands.{IsWithinSpan, last_place, left_at, tells, error_of, BeganFirst, GoesBetween, TurnsTo, RunsOn, StartsPass};
 
 use crate::cache_error::CacheError;
 use crate::dfa::{Cache, DFA};
@@ -113,7 +113,8 @@ fn run(dfa: &DFA, cache: &Cache, input: &Input<'_>, is_down: bool, stand: Stand)
     ensures within { IsWithinSpan input.now result.at }
     ensures closer { left_at is_down input.now result.at ≤ left_at is_down input.now stand.at }
     ensures goes { (earliest : Bool) (m n : ℕ) → GoesBetween dfa.now earliest input.now.haystack
-        (point cache.now m n stand.at stand.id (pair_of stand.best)) (point cache.now m n result.at result.id (pair_of result.best)) }
+        (point cache.now m n stand.at stand.id (pair_of stand.best)) (point cache.now m n result.at result.id (pair_of result.best))
+        (left_at is_down input.now stand.at - left_at is_down input.now result.at) }
 {
     if stand.id.is_tagged() {
         return stand;
@@ -158,7 +159,7 @@ fn byte_turn<L: Ledger, M: Ledger>(
     requires row { IsRow cache.old stand.id }
     requires within { IsWithinSpan input.now stand.at }
     requires left { stand.at ≢ last_place is_down input.now }
-    requires running { began cache.old.progress ≡ Some (first_index is_down input.now) }
+    requires running { IsSome cache.old.progress }
     ensures own { IsCacheOf dfa.now cache.new }
     ensures turn { TurnsTo dfa.now input.now (point cache.old work.old.determinized work.old.inserted stand.at stand.id (pair_of stand.best)) cache.new work.new.determinized work.new.inserted result }
 {
@@ -203,7 +204,7 @@ fn last_turn<L: Ledger, M: Ledger>(
     requires row { IsRow cache.old stand.id }
     requires last { stand.at ≡ last_place is_down input.now }
     requires begun { input.now.start ≤ input.now.end }
-    requires running { tells is_down input.now ≡ true → began cache.old.progress ≡ Some (first_index is_down input.now) }
+    requires running { tells is_down input.now ≡ true → IsSome cache.old.progress }
     ensures own { IsCacheOf dfa.now cache.new }
     ensures turn { TurnsTo dfa.now input.now (point cache.old work.old.determinized work.old.inserted stand.at stand.id (pair_of stand.best)) cache.new work.new.determinized work.new.inserted result }
 {
@@ -246,7 +247,7 @@ fn turn_at<L: Ledger, M: Ledger>(
     requires down { is_down ≡ dfa.now.nfa.automaton.reverse }
     requires row { IsRow cache.old stand.id }
     requires within { IsWithinSpan input.now stand.at }
-    requires running { tells is_down input.now ≡ true → began cache.old.progress ≡ Some (first_index is_down input.now) }
+    requires running { tells is_down input.now ≡ true → IsSome cache.old.progress }
     ensures own { IsCacheOf dfa.now cache.new }
     ensures turn { TurnsTo dfa.now input.now (point cache.old work.old.determinized work.old.inserted stand.at stand.id (pair_of stand.best)) cache.new work.new.determinized work.new.inserted result }
 {
@@ -272,7 +273,7 @@ fn go_on<L: Ledger, M: Ledger>(
     requires down { is_down ≡ dfa.now.nfa.automaton.reverse }
     requires row { IsRow cache.old id }
     requires begun { input.now.start ≤ input.now.end }
-    requires running { tells is_down input.now ≡ true → began cache.old.progress ≡ Some (first_index is_down input.now) }
+    requires running { BeganFirst is_down input.now cache.old }
     ensures own { IsCacheOf dfa.now cache.new }
     ensures runs { (s : StateValue) → HeldAt cache.old id s → RunsOn dfa.now input.now s
         (point cache.old work.old.determinized work.old.inserted (first_place is_down input.now.start input.now.end) id None) cache.new work.new.determinized work.new.inserted result }
