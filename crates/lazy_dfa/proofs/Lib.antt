@@ -37,6 +37,8 @@ pub mod LinkedLemmas
 pub mod PassEndLemmas
 pub mod CourseLemmas
 pub mod PointLemmas
+pub mod TurnStepLemmas
+pub mod PassStartLemmas
 pub mod RunLemmas
 pub mod PassListLemmas
 pub mod AnswerLemmas
