@@ -11,10 +11,11 @@ use Rattle.search_types.specs.Inputs.{Search}
 use Rattle.lazy_dfa.specs.Caches.{CacheValue, IsCacheOf, HeldAt, IsRow}
 use Rattle.lazy_dfa.specs.Courses.{HasNoStop, stops_behind}
 use Rattle.lazy_dfa.specs.declared.passing.Stand.{Stand}
+use Rattle.lazy_dfa.specs.declared.progress.Progress.{Progress}
 use Rattle.lazy_dfa.specs.Dfas.{Dfa, IsDfa, reader}
 use Rattle.lazy_dfa.specs.MadePasses.{span_len}
 use Rattle.lazy_dfa.specs.Passes.{index_at}
-use Rattle.lazy_dfa.specs.Points.{Point, point}
+use Rattle.lazy_dfa.specs.Points.{Point, point, began}
 use Rattle.lazy_dfa.specs.Scans.{first_place}
 use Rattle.lazy_dfa.specs.SearchAnswers.{pair_of, give_up_place}
 use Rattle.lazy_dfa.specs.Stands.{last_place, came, left_at, tells, BeganFirst, IsWithinSpan, GoesBetween, gave_up_at, TurnsInto, TurnsTo, RunsOn}
@@ -84,6 +85,11 @@ gave_up_there down q i from k w there is = by (cases_at i (last_place down q))
         ap (λ (b : Bool). if b then i else index_at down i) (ne_eqb i (last_place down q) n)
         ∙ (ap (index_at down) there ∙ sym (ap (λ (b : Bool). if b then index_at down (place_of down from k) else place_of down from k) (lt-ltb k (span_len q) (omega (arith, is, less)))))
 
+-- a search that began goes on
+pub began_runs : (p : Option Progress) (x : ℕ) → began p ≡ Some x → IsSome p
+began_runs None x e = let never : None ≡ Some x = e in cc
+began_runs (Some p) x e = refl
+
 -- ---- stands
 
 -- where a run may start in a pass
@@ -147,3 +153,14 @@ module _ (d : Dfa) (q : Search) (down : Bool) (is : down ≡ d.nfa.automaton.rev
     ends_error (HaystackTooLong len) t = absurd t
     ends_error (UnsupportedAnchored mode) t = absurd t
     ends_error NotAPair t = absurd t
+
+-- the next stand is in the span, and closer to its end
+module _ (d : Dfa) (q : Search) (down : Bool) (p : Point) (v : CacheValue) (m n : ℕ) (next : Stand) where
+  abbrev rev : Bool
+  rev = d.nfa.automaton.reverse
+
+  pub within_next : down ≡ rev → IsWithinSpan q p.at → TurnsInto d q p v m n next false → IsWithinSpan q next.at
+  within_next is w t = next_within rev q p.at next.at w t.2 t.1
+
+  pub closer_next : (k : ℕ) → down ≡ rev → IsWithinSpan q p.at → TurnsInto d q p v m n next false → left_at down q k ≤ left_at down q next.at → left_at down q k < left_at down q p.at
+  closer_next k is w t l = next_closer down q p.at next.at k w (λ e. t.2 (e ∙ ap (λ (x : Bool). last_place x q) is)) (t.1 ∙ ap (λ (x : Bool). place_of x p.at 1) (sym is)) l

@@ -14,7 +14,7 @@ ghost use Rattle.lazy_dfa.specs.Stands.{IsWithinSpan, last_place, left_at, tells
 use crate::cache_error::CacheError;
 use crate::dfa::{Cache, DFA};
 use crate::lazy_id::LazyStateID;
-use crate::runs::{run_down, run_up};
+use crate::runs::{run_down, run_up, see_bytes};
 use crate::turns::{Turn, make_turn};
 use crate::work::Work;
 use search_types::{HalfMatch, Input, MatchError, MatchErrorKind};
@@ -278,6 +278,8 @@ fn go_on<L: Ledger, M: Ledger>(
     ensures runs { (s : StateValue) → HeldAt cache.old id s → RunsOn dfa.now input.now s
         (point cache.old work.old.determinized work.old.inserted (first_place is_down input.now.start input.now.end) id None) cache.new work.new.determinized work.new.inserted result }
 {
+    dfa.is_made();
+    see_bytes(input.haystack());
     let first = Stand {
         at: first_place(input, is_down),
         id,

@@ -15,6 +15,7 @@ ghost use Rattle.lazy_dfa.specs.Steps.{most_inserts};
 
 use crate::dfa::{Cache, DFA};
 use crate::passing::pass;
+use crate::runs::see_bytes;
 use crate::work::Work;
 use search_types::{HalfMatch, Input, MatchError};
 use std::sync::ledger::Ledger;
@@ -29,11 +30,6 @@ fn same_input<'h>(input: &Input<'h>) -> Input<'h>
     same.set_earliest(input.get_earliest());
     same
 }
-
-/// The bytes of a haystack are bytes.
-fn see_bytes(bytes: &[u8])
-    ensures { (at : ℕ) → slice_index_or bytes.now at 0 < 256 }
-{}
 
 /// Whether it reads downwards.
 fn is_down(dfa: &DFA) -> bool
