@@ -372,3 +372,18 @@ module _ (d : Dfa) (q : Search) (old mid : CacheValue) (m1 m n1 n id : ℕ) (mad
 
       is_none : Ok None ≡ told rest
       is_none = sym (ap told nothing.0)
+
+  -- the same in words of code that knows in which direction it reads
+  module _ (down : Bool) (is : down ≡ d.nfa.automaton.reverse) (new : CacheValue) where
+    pub goes_dead : has_tag dead_tag id ≡ true → IsMoved mid new → told_of new ≡ told_behind down (span_len q) (told_begun down q (told_of mid)) 0 → MakesPass d q old new m1 m n1 n (Ok None)
+    goes_dead tagged moved e =
+        makes_dead_pass new tagged moved (subst (λ (b : Bool). told_of new ≡ told_behind b (span_len q) (told_begun b q (told_of mid)) 0) is e)
+
+    pub goes_further : (here : CacheValue) (m2 n2 : ℕ) (result : Result (Option HalfFound) MatchErrorKind) → has_tag dead_tag id ≡ false → IsMoved mid here →
+        told_of here ≡ told_begun down q (told_of mid) →
+        ((s : StateValue) → HeldAt here id s → RunsOn d q s (point here m n (first_place down q.start q.end) id None) new m2 n2 result) →
+        MakesPass d q old new m1 m2 n1 n2 result
+    goes_further here m2 n2 result untagged moved e runs =
+        makes_pass here new m2 n2 result moved (subst (λ (b : Bool). told_of here ≡ told_begun b q (told_of mid)) is e)
+        (subst (λ (b : Bool). RunsOn d q first (point here m n (first_place b q.start q.end) id None) new m2 n2 result) is
+        (runs first (row_named d mid here id first mine.shape moved untagged start.start.1)))
