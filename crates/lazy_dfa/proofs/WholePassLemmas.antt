@@ -1,6 +1,6 @@
 -- A whole pass: its start, and what comes of it behind that.
-use Rattle.std.proofs.Common.{◌≡◌, ◌≢◌, ◌⊎◌, ℕ, zero, suc, ◌+◌, ◌-◌, ◌*◌, ◌/◌, ◌%◌, ◌<◌, ◌≤◌, ◌==◌, ◌&&◌, not, Bool, true, false, List, [], ◌∷◌, Option, Some, None, Result, Ok, Err, if◌then◌else◌, get_or, refl, sym, ap, ◌∙◌, subst, inl, inr, ⊎_elim, arith, true≢false}
-use Rattle.std.specs.Prelude.{min, nat_le, OnOk, ⊤}
+use Rattle.std.proofs.Common.{◌≡◌, ◌≢◌, ◌⊎◌, ℕ, suc, ◌+◌, ◌-◌, ◌*◌, ◌/◌, ◌%◌, ◌<◌, ◌≤◌, ◌==◌, ◌&&◌, not, Bool, true, false, List, Option, Some, None, Result, Ok, Err, if◌then◌else◌, refl, sym, ap, ◌∙◌, subst, inl, inr, ⊎_elim, arith, true≢false}
+use Rattle.std.specs.Prelude.{min, nat_le, OnOk}
 use Rattle.std.proofs.lemmas.Bool.{cases_Bool, cases_lt, eqb-true}
 use Rattle.std.proofs.lemmas.Bool.Decides.{leb_tells}
 use Rattle.std.proofs.Math.Nat.{min-eq_left, min-eq_right, suc-mul}
@@ -14,10 +14,9 @@ use Rattle.search_types.specs.Modes.{is_supported}
 use Rattle.determinize_core.specs.States.{StateValue, dead}
 use Rattle.determinize_core.specs.Starts.{StartValue}
 use Rattle.determinize_core.specs.Steps.{unit_behind}
-use Rattle.lazy_dfa.specs.Caches.{CacheValue, IsShaped, IsCacheOf, IsRow, HeldAt, Names, names_dead, names_held, greatest, progress_len, lacks_room}
+use Rattle.lazy_dfa.specs.Caches.{CacheValue, IsShaped, IsCacheOf, HeldAt, Names, names_dead, names_held, greatest, progress_len, lacks_room}
 use Rattle.lazy_dfa.specs.ConfigValue.{starts_each_of}
 use Rattle.lazy_dfa.specs.Courses.{state_behind}
-use Rattle.lazy_dfa.specs.declared.progress.Progress.{Progress}
 use Rattle.lazy_dfa.specs.declared.start_error.StartError.{StartError}
 use Rattle.lazy_dfa.specs.declared.start_error.StartError.TheVariants.{UnsupportedAnchored}
 use Rattle.lazy_dfa.specs.Dfas.{Dfa, IsDfa, reader, start_in}
@@ -30,12 +29,12 @@ use Rattle.lazy_dfa.specs.Points.{point}
 use Rattle.lazy_dfa.specs.Readers.{HalfAnswer, found, is_quit}
 use Rattle.lazy_dfa.specs.Scans.{first_place}
 use Rattle.lazy_dfa.specs.ScanLaws.{begins_at}
-use Rattle.lazy_dfa.specs.SearchAnswers.{half_of, told, give_up_place, GivesUpIn, at_start, at_unit, Told, told_of, pass_distance, told_by_pass}
+use Rattle.lazy_dfa.specs.SearchAnswers.{told, give_up_place, GivesUpIn, at_start, at_unit, Told, told_of, pass_distance, told_by_pass}
 use Rattle.lazy_dfa.specs.Stands.{tells, first_index, told_begun, told_behind, RunsOn, pass_start, StartsPass}
 use Rattle.lazy_dfa.specs.StartCalls.{mode_of, quit_refusal, behind_refusal, mode_refusal, start_refusal, start_slot, start_noted, IsStartKnown}
 use Rattle.lazy_dfa.specs.Steps.{Grew, WasCleared, most_inserts}
 use Rattle.lazy_dfa.proofs.IsCacheLemmas.{row_is_plain}
-use Rattle.lazy_dfa.proofs.LinkedLemmas.{grows_trans, grew_grows, has_cleared, start_grows_of, cleared_grows, grows_or_clears_trans, moved_refl, moved_trans, moved_same, is_cache_moved, names_moved, grows_moved, linked_moved, linked_none, held_named}
+use Rattle.lazy_dfa.proofs.LinkedLemmas.{grows_trans, grew_grows, has_cleared, start_grows_of, cleared_grows, grows_or_clears_trans, moved_trans, moved_same, names_moved, grows_moved, linked_moved, linked_none, held_named}
 use Rattle.lazy_dfa.proofs.PassEndLemmas.{ends_dead}
 use Rattle.lazy_dfa.proofs.PassQuitLemmas.{reads_all}
 use Rattle.lazy_dfa.proofs.PointLemmas.{held_known}

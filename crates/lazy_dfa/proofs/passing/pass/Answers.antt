@@ -26,8 +26,8 @@ go_on-requires-clause-own g c = is_cache_moved c.args.dfa.now c.start_of_pass.ne
 pub go_on-requires-clause-row : goal.go_on-requires-clause-row
 go_on-requires-clause-row g c =
     let h = row_named c.args.dfa.now c.start_of_pass.new.cache c.begin_at_first.new.cache c.in-Ok.id
-        (first_value (reader c.args.dfa.now) c.args.input.now.anchored c.args.input.now.haystack (begins_at (reader c.args.dfa.now) c.args.input.now))
-        c.in-Ok.ensures.own.shape c.begin_at_first.ensures.moved (sym c.is_dead.ensures ∙ c.if-is_dead.false) c.in-Ok.ensures.start.start.1 in
+    (first_value (reader c.args.dfa.now) c.args.input.now.anchored c.args.input.now.haystack (begins_at (reader c.args.dfa.now) c.args.input.now))
+    c.in-Ok.ensures.own.shape c.begin_at_first.ensures.moved (sym c.is_dead.ensures ∙ c.if-is_dead.false) c.in-Ok.ensures.start.start.1 in
     (h.0, h.1, h.2)
 
 pub returns-clause-pass : goal.returns-clause-pass
