@@ -38,3 +38,13 @@ pub mod PassEndLemmas
 pub mod CourseLemmas
 pub mod PointLemmas
 pub mod WholePassLemmas
+pub mod TurnStepLemmas
+pub mod PassStartLemmas
+pub mod RunLemmas
+pub mod PassListLemmas
+pub mod AnswerLemmas
+pub mod SearchLemmas
+pub mod SearchEndLemmas
+pub mod HasReachLemmas
+pub mod SearchClauseLemmas
+pub mod PassLoopLemmas

@@ -1,6 +1,6 @@
 ghost use Rattle.std.specs.Prelude.{◌≡◌};
 
-#[tactic(auto, using(crate::proofs::PassEndLemmas::ends_dead))]
+#[tactic(auto, using(crate::proofs::PassLoopLemmas::next_within))]
 pub fn scratch(x: bool) -> bool
     ensures { result ≡ x }
 {
