@@ -37,6 +37,7 @@ pub mod LinkedLemmas
 pub mod PassEndLemmas
 pub mod CourseLemmas
 pub mod PointLemmas
+pub mod WholePassLemmas
 pub mod TurnStepLemmas
 pub mod PassStartLemmas
 pub mod RunLemmas

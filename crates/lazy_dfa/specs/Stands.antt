@@ -9,7 +9,7 @@ use Rattle.search_types.specs.declared.match_error.MatchErrorKind.{MatchErrorKin
 use Rattle.search_types.specs.declared.match_error.MatchErrorKind.TheVariants.{Quit, GaveUp, HaystackTooLong, UnsupportedAnchored, NotAPair, NoMemory}
 use Rattle.search_types.specs.Found.{HalfFound}
 use Rattle.search_types.specs.Inputs.{Search}
-use Rattle.lazy_dfa.specs.Caches.{CacheValue, HeldAt, IsRow, Names, greatest, lacks_room}
+use Rattle.lazy_dfa.specs.Caches.{CacheValue, HeldAt, IsRow, Names, greatest, progress_len, lacks_room}
 use Rattle.lazy_dfa.specs.Courses.{state_behind, HasNoStop, stops_behind}
 use Rattle.lazy_dfa.specs.declared.cache_error.CacheError.{CacheError}
 use Rattle.lazy_dfa.specs.declared.cache_error.CacheError.TheVariants.{GaveUp as StepGaveUp, NoMemory as StepNoMemory}
@@ -60,6 +60,13 @@ first_index down q = index_at down (first_place down q.start q.end)
 -- the running search began with the pass; after a clear it has begun anew
 abbrev pub BeganFirst : Bool → Search → CacheValue → Type 0
 BeganFirst down q v = tells down q ≡ true → began v.progress ≡ Some (first_index down q)
+
+-- what a cache keeps of that when a pass has told it where it begins
+abbrev pub told_begun : Bool → Search → Told → Told
+told_begun down q t =
+    if tells down q
+    then record { searched = min (t.searched + progress_len t.progress) greatest; progress = Some (record { start = first_index down q; at = first_index down q }) }
+    else t
 
 -- what a pass over n bytes tells at its end that has told where it begins
 abbrev pub told_behind : Bool → ℕ → Told → ℕ → Told
@@ -153,6 +160,8 @@ pub record StartsPass (d : Dfa) (q : Search) (old new : CacheValue) (m1 m2 n1 n2
   pub noted : IfOk r (λ id. (p : ℕ) → start_in d (mode_of q.anchored) ≡ Some p → start_noted d new (pass_start d q) ≡ id)
   pub known : (p : ℕ) → start_refusal d (pass_start d q) ≡ None → start_in d (mode_of q.anchored) ≡ Some p →
       start_noted d old (pass_start d q) ≢ unknown_id → r ≡ Ok (start_noted d old (pass_start d q))
+  pub refused : IsStartKnown d old (pass_start d q) →
+      IfErr r (λ e. Err e ≡ told (pass (reader d) q.anchored q.earliest q.haystack (span_len q) (begins_at (reader d) q)))
   pub same : IsStartKnown d old (pass_start d q) → (new ≡ old) × (m2 ≡ m1) × (n2 ≡ n1)
   pub determinized : m2 ≤ m1 + 1
   pub inserted : n2 ≤ n1 + most_inserts d
