@@ -1,5 +1,5 @@
 -- The start of a pass, by what start calls answer.
-use Rattle.std.proofs.Common.{◌≡◌, ◌≢◌, ◌⊎◌, ℕ, suc, ◌+◌, ◌≤◌, Bool, true, false, Option, Some, None, refl, sym, ap, ◌∙◌, subst, inl, inr}
+use Rattle.std.proofs.Common.{◌≡◌, ◌≢◌, ◌⊎◌, ℕ, suc, ◌+◌, ◌≤◌, Bool, true, false, Option, Some, None, refl, sym, ap, ◌∙◌, subst, inl, inr, ⊎_elim}
 use Rattle.std.specs.Prelude.{Result, Ok, Err, IfOk, IfErr, MatchOption, ⊤, if◌then◌else◌}
 use Rattle.search_types.specs.declared.anchored.Anchored.{Anchored}
 use Rattle.search_types.specs.declared.anchored.Anchored.TheVariants.{No, Yes, Pattern}
@@ -37,6 +37,7 @@ pub record ToldStart (d : Dfa) (c : StartValue) (quit_place place : ℕ) (old ne
   pub answer : AnswersStart d old new c quit_place place r
   pub noted : IfOk r (λ id. (p : ℕ) → start_in d (mode_of c.anchored) ≡ Some p → start_noted d new c ≡ id)
   pub known : start_refusal d c ≡ None → (p : ℕ) → start_in d (mode_of c.anchored) ≡ Some p → start_noted d old c ≢ unknown_id → r ≡ Ok (start_noted d old c)
+  pub none : start_refusal d c ≡ None → start_in d (mode_of c.anchored) ≡ None → r ≡ Ok (dead_id new.stride)
   pub same : IsStartKnown d old c → new ≡ old
   pub free : IsStartKnown d old c → (m2 ≡ m1) × (n2 ≡ n1)
   pub kept : Grew d old new ⊎ WasCleared old new 1
@@ -46,7 +47,7 @@ pub record ToldStart (d : Dfa) (c : StartValue) (quit_place place : ℕ) (old ne
 
 -- ---- the first state
 
-named_alike : (d : Dfa) (mode : Anchored) → start_in d (mode_of mode) ≡ start_name d.nfa.automaton mode
+pub named_alike : (d : Dfa) (mode : Anchored) → start_in d (mode_of mode) ≡ start_name d.nfa.automaton mode
 named_alike d No = refl
 named_alike d Yes = refl
 named_alike d (Pattern p) = refl
@@ -56,7 +57,7 @@ starts_from : (d : Dfa) (behind o : Option ℕ) (p : ℕ) → o ≡ Some p → s
 unfolding start_or_dead first_state
 starts_from d behind o p e = ap (start_or_dead (reader d) behind) e
 
-starts_dead : (d : Dfa) (behind o : Option ℕ) → o ≡ None → start_or_dead (reader d) behind o ≡ dead
+pub starts_dead : (d : Dfa) (behind o : Option ℕ) → o ≡ None → start_or_dead (reader d) behind o ≡ dead
 unfolding start_or_dead
 starts_dead d behind o e = ap (start_or_dead (reader d) behind) e
 
@@ -140,16 +141,16 @@ module _ (d : Dfa) (q : Search) (old new : CacheValue) where
       let gave : k ≡ GaveUp begins = is ∙ ap (error_at quits_at begins) g.0 in
       inr (inr (gave, lacks_first (start_in d (mode_of q.anchored)) refl (same (ap refused gave)) g.1.lacks))
 
+  pass_refused : (k : MatchErrorKind) (x : StartError) → start_refusal d told_of_it ≡ Some x → AnswersStart d old new told_of_it quits_at begins (Err k) → failed k ≡ told whole
+  pass_refused k x e a =
+      let is : refused k ≡ Err (error_at quits_at begins x) = subst (λ (o : Option StartError). MatchOption o ⊤ (λ y. refused k ≡ Err (error_at quits_at begins y))) e a.refused in
+      ap failed (one_refused k (error_at quits_at begins x) is)
+      ∙ pass_told d told_of_it.look_behind q.anchored quits_at begins (pass_from (reader d) q.earliest q.haystack (suc (span_len q)) begins first None) x e
+
   refusal_told : (k : MatchErrorKind) (o : Option StartError) → start_refusal d told_of_it ≡ o → AnswersStart d old new told_of_it quits_at begins (Err k) →
       (refused k ≡ Err (GaveUp begins) → new ≡ old) → FailsAt k
   refusal_told k None e a same = let x = a.err e in caused k x.0 x.1 x.2 same
-  refusal_told k (Some x) e a same =
-      let is : refused k ≡ Err (error_at quits_at begins x) = subst (λ (o : Option StartError). MatchOption o ⊤ (λ y. refused k ≡ Err (error_at quits_at begins y))) e a.refused in
-      inl (
-        λ n. some_none x (sym e ∙ n),
-        ap failed (one_refused k (error_at quits_at begins x) is)
-            ∙ pass_told d told_of_it.look_behind q.anchored quits_at begins (pass_from (reader d) q.earliest q.haystack (suc (span_len q)) begins first None) x e,
-      )
+  refusal_told k (Some x) e a same = inl (λ n. some_none x (sym e ∙ n), pass_refused k x e a)
     where
       some_none : (x : StartError) → Some x ≡ None → ⊥
       some_none x e = absurd cc
@@ -157,6 +158,31 @@ module _ (d : Dfa) (q : Search) (old new : CacheValue) where
   err_told : (r : Result ℕ MatchErrorKind) → AnswersStart d old new told_of_it quits_at begins r → (r ≡ Err (GaveUp begins) → new ≡ old) → IfErr r FailsAt
   err_told (Ok id) a same = tt
   err_told (Err k) a same = refusal_told k (start_refusal d told_of_it) refl a same
+
+  -- a start of which nothing is to be made is told, but for the refusal of the pass
+  known_refused : (r : Result ℕ MatchErrorKind) → AnswersStart d old new told_of_it quits_at begins r →
+      ((p : ℕ) → start_refusal d told_of_it ≡ None → start_in d (mode_of q.anchored) ≡ Some p → start_noted d old told_of_it ≢ unknown_id → r ≡ Ok (start_noted d old told_of_it)) →
+      (start_refusal d told_of_it ≡ None → start_in d (mode_of q.anchored) ≡ None → r ≡ Ok (dead_id new.stride)) →
+      IsStartKnown d old told_of_it → IfErr r (λ e. failed e ≡ told whole)
+  known_refused (Ok id) a known none x = tt
+  known_refused (Err k) a known none x = by (start_refusal d told_of_it) refl
+    where
+      no_ok : (id : ℕ) → refused k ≡ Ok id → failed k ≡ told whole
+      no_ok id e = absurd cc
+
+      named : start_refusal d told_of_it ≡ None → start_noted d old told_of_it ≢ unknown_id → (o : Option ℕ) → start_in d (mode_of q.anchored) ≡ o → failed k ≡ told whole
+      named e n None f = no_ok (dead_id new.stride) (none e f)
+      named e n (Some p) f = no_ok (start_noted d old told_of_it) (known p e f n)
+
+      by : (o : Option StartError) → start_refusal d told_of_it ≡ o → failed k ≡ told whole
+      by (Some y) e = pass_refused k y e a
+      by None e = ⊎_elim
+          (λ (n : start_refusal d told_of_it ≢ None). absurd (n e))
+          (λ (y : (start_in d (mode_of q.anchored) ≡ None) ⊎ (start_noted d old told_of_it ≢ unknown_id)). ⊎_elim
+          (λ (f : start_in d (mode_of q.anchored) ≡ None). no_ok (dead_id new.stride) (none e f))
+          (λ (n : start_noted d old told_of_it ≢ unknown_id). named e n (start_in d (mode_of q.anchored)) refl)
+          y)
+          x
 
   module _ (m1 m2 n1 n2 : ℕ) (r : Result ℕ MatchErrorKind) where
     starts_so : ToldStart d told_of_it quits_at begins old new m1 m2 n1 n2 r → StartsPass d q old new m1 m2 n1 n2 r
@@ -166,6 +192,7 @@ module _ (d : Dfa) (q : Search) (old new : CacheValue) where
       kept = t.kept;
       noted = t.noted;
       known = λ p none named n. t.known none p named n;
+      refused = known_refused r t.answer (λ p none named n. t.known none p named n) t.none;
       same = λ k. let w = t.free k in (t.same k, w.0, w.1);
       determinized = t.determinized;
       inserted = t.inserted;

@@ -5,7 +5,6 @@ use Rattle.std.proofs.lemmas.Bool.{cases_Bool, cases_lt, eqb-true}
 use Rattle.std.proofs.lemmas.Bool.Decides.{leb_tells}
 use Rattle.std.proofs.Math.Nat.{min-eq_left, min-eq_right, suc-mul}
 use Rattle.search_types.specs.declared.anchored.Anchored.{Anchored}
-use Rattle.search_types.specs.declared.anchored.Anchored.TheVariants.{No, Yes, Pattern}
 use Rattle.search_types.specs.declared.match_error.MatchErrorKind.{MatchErrorKind}
 use Rattle.search_types.specs.declared.match_error.MatchErrorKind.TheVariants.{GaveUp, NoMemory}
 use Rattle.search_types.specs.Found.{HalfFound}
@@ -23,7 +22,7 @@ use Rattle.lazy_dfa.specs.Dfas.{Dfa, IsDfa, reader, start_in}
 use Rattle.lazy_dfa.specs.Ids.{tag, unknown_id, dead_id, has_tag, dead_tag}
 use Rattle.lazy_dfa.specs.Linked.{IsLinkedOver, start_from, IsLinkedPass, Grows, HasCleared, GrowsOrClears, IsMoved}
 use Rattle.lazy_dfa.specs.MadePasses.{span_len, MakesPass}
-use Rattle.lazy_dfa.specs.Passes.{is_dead, index_behind, if_supported, start_name, start_or_dead, first_value, pass, pass_from}
+use Rattle.lazy_dfa.specs.Passes.{is_dead, index_behind, if_supported, start_name, first_value, pass, pass_from}
 use Rattle.lazy_dfa.specs.PassLaws.{units_read, pass_len}
 use Rattle.lazy_dfa.specs.Points.{point}
 use Rattle.lazy_dfa.specs.Readers.{HalfAnswer, found, is_quit}
@@ -37,6 +36,7 @@ use Rattle.lazy_dfa.proofs.IsCacheLemmas.{row_is_plain}
 use Rattle.lazy_dfa.proofs.LinkedLemmas.{grows_trans, grew_grows, has_cleared, start_grows_of, cleared_grows, grows_or_clears_trans, moved_trans, moved_same, names_moved, grows_moved, linked_moved, linked_none, held_named}
 use Rattle.lazy_dfa.proofs.PassEndLemmas.{ends_dead}
 use Rattle.lazy_dfa.proofs.PassQuitLemmas.{reads_all}
+use Rattle.lazy_dfa.proofs.PassStartLemmas.{named_alike, starts_dead}
 use Rattle.lazy_dfa.proofs.PointLemmas.{held_known}
 use Rattle.lazy_dfa.proofs.StartCallLemmas.{mode_fine}
 use Rattle.lazy_dfa.proofs.TurnLemmas.{goes_on, goes_in_mode}
@@ -157,14 +157,8 @@ module _ (d : Dfa) (mode : Anchored) (h : List ℕ) (i : ℕ) where
       units_read (reader d) earliest h (suc n) i (first_value (reader d) mode h i) ≡ pass_len (reader d) mode earliest h n i
   plain_len earliest n none = reads_all (reader d) mode earliest h n i (is_fit none)
 
-  alike : (m : Anchored) → start_name d.nfa.automaton m ≡ start_in d (mode_of m)
-  alike No = refl
-  alike Yes = refl
-  alike (Pattern p) = refl
-
   dead_first : start_in d (mode_of mode) ≡ None → first_value (reader d) mode h i ≡ dead
-  unfolding start_or_dead
-  dead_first e = ap (start_or_dead (reader d) (unit_behind d.nfa.automaton.reverse h i)) (alike mode ∙ e)
+  dead_first e = starts_dead d (unit_behind d.nfa.automaton.reverse h i) (start_name d.nfa.automaton mode) (sym (named_alike d mode) ∙ e)
 
   -- a pass whose path is known makes nothing at its start
   pub linked_start : (v : CacheValue) (earliest : Bool) (n : ℕ) → IsLinkedPass d v mode earliest h n i → IsStartKnown d v told_start

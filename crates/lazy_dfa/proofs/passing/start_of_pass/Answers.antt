@@ -9,6 +9,7 @@ returns-then-is_down-clause-start g c = let x = c.start_state_reverse.ensures in
       answer = x.answer;
       noted = x.noted;
       known = x.known;
+      none = x.none;
       same = x.same;
       free = λ k. (λ i. (x.free k i).determinized, λ i. (x.free k i).inserted);
       kept = x.kept;
@@ -24,6 +25,7 @@ returns-else-is_down-clause-start g c = let x = c.start_state_forward.ensures in
       answer = x.answer;
       noted = x.noted;
       known = x.known;
+      none = x.none;
       same = x.same;
       free = λ k. (λ i. (x.free k i).determinized, λ i. (x.free k i).inserted);
       kept = x.kept;
