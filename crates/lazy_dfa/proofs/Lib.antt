@@ -37,3 +37,4 @@ pub mod LinkedLemmas
 pub mod PassEndLemmas
 pub mod CourseLemmas
 pub mod PointLemmas
+pub mod SpanLemmas

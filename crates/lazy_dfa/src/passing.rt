@@ -119,25 +119,16 @@ fn run(dfa: &DFA, cache: &Cache, input: &Input<'_>, is_down: bool, stand: Stand)
     if stand.id.is_tagged() {
         return stand;
     }
-    let moved = if is_down {
-        run_down(
-            dfa,
-            cache,
-            input.haystack(),
-            stand.id,
-            stand.at,
-            input.start(),
-        )
-    } else {
-        run_up(
-            dfa,
-            cache,
-            input.haystack(),
-            stand.id,
-            stand.at,
-            input.end(),
-        )
-    };
+    let haystack = input.haystack();
+    if is_down {
+        let moved = run_down(dfa, cache, haystack, stand.id, stand.at, input.start());
+        return Stand {
+            at: moved.at,
+            id: moved.id,
+            best: stand.best,
+        };
+    }
+    let moved = run_up(dfa, cache, haystack, stand.id, stand.at, input.end());
     Stand {
         at: moved.at,
         id: moved.id,
