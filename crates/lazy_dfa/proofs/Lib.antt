@@ -38,3 +38,4 @@ pub mod PassEndLemmas
 pub mod CourseLemmas
 pub mod PointLemmas
 pub mod SpanLemmas
+pub mod TurnStepLemmas

@@ -115,8 +115,9 @@ pub(crate) fn make_turn<L: Ledger, M: Ledger>(
     ensures own { IsCacheOf dfa.now cache.new }
     ensures turn { (h : List ℕ) → unit ≡ unit_at dfa.now.nfa.automaton.reverse h place → IsTurn dfa.now earliest h unit (point cache.old work.old.determinized work.old.inserted place current (pair_of best)) cache.new work.new.determinized work.new.inserted result }
 {
-    dfa.is_made();
-    let id = step_by(dfa, cache, current, unit, work)?;
-    let seen = see(dfa, cache, id, place, best, earliest);
-    Ok(seen)
+    let id = match step_by(dfa, cache, current, unit, work) {
+        Ok(id) => id,
+        Err(e) => return Err(e),
+    };
+    Ok(see(dfa, cache, id, place, best, earliest))
 }
