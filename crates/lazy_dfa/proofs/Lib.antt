@@ -38,4 +38,5 @@ pub mod PassEndLemmas
 pub mod CourseLemmas
 pub mod PointLemmas
 pub mod SpanLemmas
+pub mod SpanTurnLemmas
 pub mod TurnStepLemmas
