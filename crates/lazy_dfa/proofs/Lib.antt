@@ -38,6 +38,8 @@ pub mod PassEndLemmas
 pub mod CourseLemmas
 pub mod PointLemmas
 pub mod WholePassLemmas
+pub mod SpanLemmas
+pub mod SpanTurnLemmas
 pub mod TurnStepLemmas
 pub mod PassStartLemmas
 pub mod RunLemmas

@@ -9,7 +9,7 @@ use Rattle.search_types.specs.declared.match_error.MatchErrorKind.{MatchErrorKin
 use Rattle.search_types.specs.declared.match_error.MatchErrorKind.TheVariants.{Quit, GaveUp, HaystackTooLong, UnsupportedAnchored, NotAPair, NoMemory}
 use Rattle.search_types.specs.Found.{HalfFound}
 use Rattle.search_types.specs.Inputs.{Search}
-use Rattle.lazy_dfa.specs.Caches.{CacheValue, HeldAt, IsRow, Names, greatest, progress_len, lacks_room}
+use Rattle.lazy_dfa.specs.Caches.{CacheValue, HeldAt, IsRow, Names, greatest, progress_len, moved_to, lacks_room}
 use Rattle.lazy_dfa.specs.Courses.{state_behind, HasNoStop, stops_behind}
 use Rattle.lazy_dfa.specs.declared.cache_error.CacheError.{CacheError}
 use Rattle.lazy_dfa.specs.declared.cache_error.CacheError.TheVariants.{GaveUp as StepGaveUp, NoMemory as StepNoMemory}
@@ -67,6 +67,13 @@ told_begun down q t =
     if tells down q
     then record { searched = min (t.searched + progress_len t.progress) greatest; progress = Some (record { start = first_index down q; at = first_index down q }) }
     else t
+
+-- the search that goes on ends at this place, and its length is added; or only where that is wanted
+abbrev pub finished : ℕ → CacheValue → CacheValue
+finished at v = record v { searched = min (v.searched + progress_len (moved_to at v.progress)) greatest; progress = None }
+
+abbrev pub finished_where : Bool → ℕ → CacheValue → CacheValue
+finished_where wanted at v = if wanted then finished at v else v
 
 -- what a pass over n bytes tells at its end that has told where it begins
 abbrev pub told_behind : Bool → ℕ → Told → ℕ → Told

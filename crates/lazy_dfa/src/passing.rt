@@ -1,5 +1,5 @@
 //! One pass of a half search.
-ghost use Rattle.std.specs.Prelude.{◌≡◌, ◌≢◌, ℕ, ◌+◌, ◌-◌, ◌<◌, ◌≤◌, Bool, true, None, Option, Some, IsSome};
+ghost use Rattle.std.specs.Prelude.{◌≡◌, ◌≢◌, ◌&&◌, ℕ, ◌+◌, ◌-◌, ◌<◌, ◌≤◌, Bool, true, None, Option, Some, IsSome};
 ghost use Rattle.nfa_core.specs.Ways.{place_of};
 ghost use Rattle.determinize_core.specs.States.{StateValue};
 ghost use Rattle.determinize_core.specs.Steps.{unit_at};
@@ -10,7 +10,7 @@ ghost use Rattle.lazy_dfa.specs.Passes.{index_at};
 ghost use Rattle.lazy_dfa.specs.Points.{point};
 ghost use Rattle.lazy_dfa.specs.Scans.{first_place};
 ghost use Rattle.lazy_dfa.specs.SearchAnswers.{pair_of, told_of};
-ghost use Rattle.lazy_dfa.specs.Stands.{IsWithinSpan, last_place, left_at, tells, error_of, told_begun, told_behind, BeganFirst, GoesBetween, TurnsTo, RunsOn, StartsPass};
+ghost use Rattle.lazy_dfa.specs.Stands.{IsWithinSpan, last_place, left_at, tells, finished_where, error_of, told_begun, told_behind, BeganFirst, GoesBetween, TurnsTo, RunsOn, StartsPass};
 
 use crate::cache_error::CacheError;
 use crate::dfa::{Cache, DFA};
@@ -91,6 +91,23 @@ fn tells(input: &Input<'_>, is_down: bool) -> bool
     !(is_down && input.end() <= input.start())
 }
 
+/// Whether it tells so before its last step: one who reads down does, since its last byte is behind it by then.
+fn tells_before(input: &Input<'_>, is_down: bool) -> bool
+    ensures { result ≡ is_down && tells is_down input.now }
+{
+    is_down && tells(input, is_down)
+}
+
+/// Where it is wanted, ends the search that goes on at this place.
+fn finish_where(cache: &mut Cache, at: usize, wanted: bool)
+    requires { wanted ≡ true → IsSome cache.old.progress }
+    ensures { cache.new ≡ finished_where wanted at cache.old }
+{
+    if wanted {
+        cache.search_finish(at);
+    }
+}
+
 /// The refusal of a search by that of a step.
 fn refusal(err: CacheError, place: usize) -> MatchError
     ensures { result ≡ error_of place err }
@@ -120,25 +137,16 @@ fn run(dfa: &DFA, cache: &Cache, input: &Input<'_>, is_down: bool, stand: Stand)
     if stand.id.is_tagged() {
         return stand;
     }
-    let moved = if is_down {
-        run_down(
-            dfa,
-            cache,
-            input.haystack(),
-            stand.id,
-            stand.at,
-            input.start(),
-        )
-    } else {
-        run_up(
-            dfa,
-            cache,
-            input.haystack(),
-            stand.id,
-            stand.at,
-            input.end(),
-        )
-    };
+    let haystack = input.haystack();
+    if is_down {
+        let moved = run_down(dfa, cache, haystack, stand.id, stand.at, input.start());
+        return Stand {
+            at: moved.at,
+            id: moved.id,
+            best: stand.best,
+        };
+    }
+    let moved = run_up(dfa, cache, haystack, stand.id, stand.at, input.end());
     Stand {
         at: moved.at,
         id: moved.id,
@@ -211,22 +219,16 @@ fn last_turn<L: Ledger, M: Ledger>(
 {
     let unit = unit_at(input.haystack(), stand.at, is_down);
     let earliest = input.get_earliest();
-    if is_down && tells(input, is_down) {
-        cache.search_finish(stand.at);
-    }
+    finish_where(cache, stand.at, tells_before(input, is_down));
     let seen = match make_turn(dfa, cache, stand.id, unit, stand.at, stand.best, earliest, work) {
         Ok(seen) => seen,
         Err(e) => return Err(refusal(e, stand.at)),
     };
     if let Turn::Quits = seen.turn {
-        return match unit {
-            Some(byte) => Err(MatchError::quit(byte, index_at(stand.at, is_down))),
-            None => unreachable!(),
-        };
+        let Some(byte) = unit else { unreachable!() };
+        return Err(MatchError::quit(byte, index_at(stand.at, is_down)));
     }
-    if !is_down {
-        cache.search_finish(stand.at);
-    }
+    finish_where(cache, stand.at, !is_down);
     let last = Stand {
         at: stand.at,
         id: seen.id,
