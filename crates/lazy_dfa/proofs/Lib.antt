@@ -34,6 +34,10 @@ pub mod QuitLemmas
 pub mod StartCallLemmas
 pub mod StartChangeLemmas
 pub mod LinkedLemmas
+pub mod PassEndLemmas
+pub mod CourseLemmas
+pub mod PointLemmas
+pub mod RunLemmas
 pub mod PassListLemmas
 pub mod AnswerLemmas
 pub mod SearchLemmas

@@ -136,7 +136,7 @@ module _ (d : Dfa) (v w : CacheValue) (e : IsMoved v w) where
   pub moved_starts : w.starts ≡ v.starts
   moved_starts = ap (λ (x : CacheValue). x.starts) e
 
-  noted_moved : (id : ℕ) (u : Option ℕ) → noted d w id u ≡ noted d v id u
+  pub noted_moved : (id : ℕ) (u : Option ℕ) → noted d w id u ≡ noted d v id u
   noted_moved id u = ap (λ (c : List ℕ). get_or c (id % tag + class_of d.classes u) 0) moved_cells
 
   pub grows_moved : Grows d v w

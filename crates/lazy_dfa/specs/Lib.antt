@@ -18,3 +18,5 @@ pub mod Linked
 pub mod SearchAnswers
 pub mod Points
 pub mod MadePasses
+pub mod Turns
+pub mod Stands

@@ -1,37 +1,22 @@
--- What the functions that make passes, turn by turn and one after the other, say of what they did.
-use Rattle.std.specs.Prelude.{◌≡◌, ◌≢◌, ◌⊎◌, ℕ, suc, ◌+◌, ◌-◌, ◌*◌, ◌<◌, ◌≤◌, Bool, true, false, Option, Some, None, Result, Ok, Err, OnOk, IsSome}
-use Rattle.search_core.specs.ByteSets.{has}
-use Rattle.nfa_core.specs.Ways.{place_of}
-use Rattle.determinize_core.specs.States.{StateValue}
+-- What the functions that make passes, one after the other, say of what they did.
+use Rattle.std.specs.Prelude.{◌≡◌, ◌⊎◌, ℕ, suc, ◌+◌, ◌-◌, ◌*◌, ◌≤◌, Option, Result, Err, OnOk}
 use Rattle.search_types.specs.declared.match_error.MatchErrorKind.{MatchErrorKind}
-use Rattle.search_types.specs.declared.match_error.MatchErrorKind.TheVariants.{Quit, GaveUp, NoMemory}
+use Rattle.search_types.specs.declared.match_error.MatchErrorKind.TheVariants.{GaveUp, NoMemory}
 use Rattle.search_types.specs.Found.{HalfFound}
 use Rattle.search_types.specs.Inputs.{Search}
-use Rattle.lazy_dfa.specs.Caches.{CacheValue, HeldAt, Names, lacks_room}
-use Rattle.lazy_dfa.specs.Courses.{state_behind, AreRead, HasNoStop, stops_behind}
+use Rattle.lazy_dfa.specs.Caches.{CacheValue}
 use Rattle.lazy_dfa.specs.Dfas.{Dfa, reader}
-use Rattle.lazy_dfa.specs.Linked.{IsLinkedOver, IsLinkedPass, IsLinked, Grows, HasCleared, GrowsOrClears, IsMoved, passes_of}
-use Rattle.lazy_dfa.specs.Passes.{index_at, is_dead, pass, pass_from}
-use Rattle.lazy_dfa.specs.PassLaws.{units_read, unit_of, pass_len}
-use Rattle.lazy_dfa.specs.Points.{Point, GoesTo, Follows}
-use Rattle.lazy_dfa.specs.Scans.{first_place, scan}
+use Rattle.lazy_dfa.specs.Linked.{IsLinkedPass, IsLinked, Grows, HasCleared, GrowsOrClears, IsMoved, passes_of}
+use Rattle.lazy_dfa.specs.Passes.{pass}
+use Rattle.lazy_dfa.specs.PassLaws.{pass_len}
+use Rattle.lazy_dfa.specs.Scans.{scan}
 use Rattle.lazy_dfa.specs.ScanLaws.{begins_at}
-use Rattle.lazy_dfa.specs.SearchAnswers.{half_of, told, GivesUpIn, give_up_place, Answers, told_of, told_by_pass, told_by, made_by}
+use Rattle.lazy_dfa.specs.SearchAnswers.{told, GivesUpIn, Answers, told_of, told_by_pass, told_by, made_by}
 use Rattle.lazy_dfa.specs.Steps.{most_inserts}
 
 -- how many bytes a search is over
 abbrev pub span_len : Search → ℕ
 span_len q = q.end - q.start
-
--- the last place of its span
-abbrev pub last_place : Bool → Search → ℕ
-last_place false q = q.end
-last_place true q = q.start
-
--- how many bytes are left of it at a place
-abbrev pub left_at : Bool → Search → ℕ → ℕ
-left_at false q i = q.end - i
-left_at true q i = i - q.start
 
 -- one pass of a search over its whole span
 pub record MakesPass (d : Dfa) (q : Search) (old new : CacheValue) (m1 m2 n1 n2 : ℕ) (result : Result (Option HalfFound) MatchErrorKind) : Type 0 where

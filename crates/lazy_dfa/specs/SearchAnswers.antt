@@ -30,6 +30,10 @@ abbrev pub half_of : Option (ℕ × ℕ) → Option HalfFound
 half_of None = None
 half_of (Some e) = Some (record { pattern = e.1; offset = e.0 })
 
+abbrev pub pair_of : Option HalfFound → Option (ℕ × ℕ)
+pair_of None = None
+pair_of (Some m) = Some (m.offset, m.pattern)
+
 -- the answer of code that stands for one of the scan
 abbrev pub told : HalfAnswer → Result (Option HalfFound) MatchErrorKind
 told (found o) = Ok (half_of o)

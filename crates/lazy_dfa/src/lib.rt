@@ -34,11 +34,13 @@ mod quits;
 pub mod reach_laws;
 mod runs;
 pub mod scan_laws;
+mod scratch;
 mod search_starts;
 mod searching;
 mod start_error;
 mod starting;
 mod stepping;
+mod turns;
 mod work;
 
 pub use build_error::BuildError;

@@ -1,12 +1,320 @@
 //! One pass of a half search.
-ghost use Rattle.std.specs.Prelude.{◌≤◌};
-ghost use Rattle.lazy_dfa.specs.Caches.{IsCacheOf};
+ghost use Rattle.std.specs.Prelude.{◌≡◌, ◌≢◌, ℕ, ◌+◌, ◌-◌, ◌<◌, ◌≤◌, Bool, true, None, Option, Some, IsSome};
+ghost use Rattle.nfa_core.specs.Ways.{place_of};
+ghost use Rattle.determinize_core.specs.States.{StateValue};
+ghost use Rattle.determinize_core.specs.Steps.{unit_at};
+ghost use Rattle.lazy_dfa.specs.Caches.{IsCacheOf, IsRow, HeldAt};
 ghost use Rattle.lazy_dfa.specs.MadePasses.{MakesPass};
+ghost use Rattle.lazy_dfa.specs.Passes.{index_at};
+ghost use Rattle.lazy_dfa.specs.Points.{point};
+ghost use Rattle.lazy_dfa.specs.Scans.{first_place};
+ghost use Rattle.lazy_dfa.specs.SearchAnswers.{pair_of};
+ghost use Rattle.lazy_dfa.specs.Stands.{IsWithinSpan, last_place, left_at, tells, error_of, BeganFirst, GoesBetween, TurnsTo, RunsOn, StartsPass};
 
+use crate::cache_error::CacheError;
 use crate::dfa::{Cache, DFA};
+use crate::lazy_id::LazyStateID;
+use crate::runs::{run_down, run_up};
+use crate::turns::{Turn, make_turn};
 use crate::work::Work;
 use search_types::{HalfMatch, Input, MatchError, MatchErrorKind};
 use std::sync::ledger::Ledger;
+
+/// Where a pass stands: before the unit at a place, in a state that isn't dead, with the match that it recorded last.
+#[derive(Clone, Copy)]
+pub(crate) struct Stand {
+    at: usize,
+    id: LazyStateID,
+    best: Option<HalfMatch>,
+}
+
+/// What comes of a turn in a span: the pass goes on from a stand, or it has ended with the match that was recorded last.
+#[derive(Clone, Copy)]
+pub(crate) struct Turned {
+    stand: Stand,
+    has_ended: bool,
+}
+
+// ---- places
+
+/// Where one who reads up, or down, through the span begins.
+fn first_place(input: &Input<'_>, is_down: bool) -> usize
+    ensures { result ≡ first_place is_down input.now.start input.now.end }
+{
+    if is_down { input.end() } else { input.start() }
+}
+
+/// Where one ends.
+fn last_place(input: &Input<'_>, is_down: bool) -> usize
+    ensures { result ≡ last_place is_down input.now }
+{
+    if is_down { input.start() } else { input.end() }
+}
+
+/// The index of the byte that is read next at a place.
+fn index_at(at: usize, is_down: bool) -> usize
+    ensures { result ≡ index_at is_down at }
+{
+    if is_down { at.saturating_sub(1) } else { at }
+}
+
+/// The place behind the byte at a place.
+fn next_place(at: usize, is_down: bool) -> usize
+    requires { at < 0xFFFF_FFFF_FFFF_FFFF }
+    ensures { result ≡ place_of is_down at 1 }
+{
+    if is_down {
+        at.saturating_sub(1)
+    } else {
+        at + 1
+    }
+}
+
+/// The unit at a place: a byte, or none at the end of the input.
+fn unit_at(haystack: &[u8], at: usize, is_down: bool) -> Option<u8>
+    ensures { result ≡ unit_at is_down haystack.now at }
+{
+    if !is_down {
+        return haystack.get(at).copied();
+    }
+    if at == 0 {
+        return None;
+    }
+    haystack.get(at - 1).copied()
+}
+
+/// Whether a pass tells its cache how far it comes.
+fn tells(input: &Input<'_>, is_down: bool) -> bool
+    ensures { result ≡ tells is_down input.now }
+{
+    !(is_down && input.end() <= input.start())
+}
+
+/// The refusal of a search by that of a step.
+fn refusal(err: CacheError, place: usize) -> MatchError
+    ensures { result ≡ error_of place err }
+{
+    match err {
+        CacheError::GaveUp => MatchError::gave_up(place),
+        CacheError::NoMemory => MatchError::new(MatchErrorKind::NoMemory),
+    }
+}
+
+// ---- turns
+
+/// Goes on over known steps while no state has a tag, up to the last place of the span.
+#[inline(always)]
+fn run(dfa: &DFA, cache: &Cache, input: &Input<'_>, is_down: bool, stand: Stand) -> Stand
+    requires own { IsCacheOf dfa.now cache.now }
+    requires down { is_down ≡ dfa.now.nfa.automaton.reverse }
+    requires row { IsRow cache.now stand.id }
+    requires within { IsWithinSpan input.now stand.at }
+    ensures row { IsRow cache.now result.id }
+    ensures within { IsWithinSpan input.now result.at }
+    ensures closer { left_at is_down input.now result.at ≤ left_at is_down input.now stand.at }
+    ensures goes { (earliest : Bool) (m n : ℕ) → GoesBetween dfa.now earliest input.now.haystack
+        (point cache.now m n stand.at stand.id (pair_of stand.best)) (point cache.now m n result.at result.id (pair_of result.best))
+        (left_at is_down input.now stand.at - left_at is_down input.now result.at) }
+{
+    if stand.id.is_tagged() {
+        return stand;
+    }
+    let moved = if is_down {
+        run_down(
+            dfa,
+            cache,
+            input.haystack(),
+            stand.id,
+            stand.at,
+            input.start(),
+        )
+    } else {
+        run_up(
+            dfa,
+            cache,
+            input.haystack(),
+            stand.id,
+            stand.at,
+            input.end(),
+        )
+    };
+    Stand {
+        at: moved.at,
+        id: moved.id,
+        best: stand.best,
+    }
+}
+
+/// A turn by a byte of the span.
+fn byte_turn<L: Ledger, M: Ledger>(
+    dfa: &DFA,
+    cache: &mut Cache,
+    input: &Input<'_>,
+    is_down: bool,
+    stand: Stand,
+    work: &mut Work<L, M>,
+) -> Result<Turned, MatchError>
+    requires own { IsCacheOf dfa.now cache.old }
+    requires down { is_down ≡ dfa.now.nfa.automaton.reverse }
+    requires row { IsRow cache.old stand.id }
+    requires within { IsWithinSpan input.now stand.at }
+    requires left { stand.at ≢ last_place is_down input.now }
+    requires running { IsSome cache.old.progress }
+    ensures own { IsCacheOf dfa.now cache.new }
+    ensures turn { TurnsTo dfa.now input.now (point cache.old work.old.determinized work.old.inserted stand.at stand.id (pair_of stand.best)) cache.new work.new.determinized work.new.inserted result }
+{
+    let haystack = input.haystack();
+    let index = index_at(stand.at, is_down);
+    let byte = haystack[index];
+    let earliest = input.get_earliest();
+    cache.search_update(index);
+    let seen = match make_turn(dfa, cache, stand.id, Some(byte), stand.at, stand.best, earliest, work) {
+        Ok(seen) => seen,
+        Err(e) => return Err(refusal(e, index)),
+    };
+    let next = Stand {
+        at: next_place(stand.at, is_down),
+        id: seen.id,
+        best: seen.best,
+    };
+    match seen.turn {
+        Turn::GoesOn => Ok(Turned { stand: next, has_ended: false }),
+        Turn::Ends => {
+            cache.search_finish(index);
+            Ok(Turned { stand: next, has_ended: true })
+        }
+        Turn::Quits => {
+            cache.search_finish(index);
+            Err(MatchError::quit(byte, index))
+        }
+    }
+}
+
+/// The last turn, by the unit behind the span.
+fn last_turn<L: Ledger, M: Ledger>(
+    dfa: &DFA,
+    cache: &mut Cache,
+    input: &Input<'_>,
+    is_down: bool,
+    stand: Stand,
+    work: &mut Work<L, M>,
+) -> Result<Turned, MatchError>
+    requires own { IsCacheOf dfa.now cache.old }
+    requires down { is_down ≡ dfa.now.nfa.automaton.reverse }
+    requires row { IsRow cache.old stand.id }
+    requires last { stand.at ≡ last_place is_down input.now }
+    requires begun { input.now.start ≤ input.now.end }
+    requires running { tells is_down input.now ≡ true → IsSome cache.old.progress }
+    ensures own { IsCacheOf dfa.now cache.new }
+    ensures turn { TurnsTo dfa.now input.now (point cache.old work.old.determinized work.old.inserted stand.at stand.id (pair_of stand.best)) cache.new work.new.determinized work.new.inserted result }
+{
+    let unit = unit_at(input.haystack(), stand.at, is_down);
+    let earliest = input.get_earliest();
+    if is_down && tells(input, is_down) {
+        cache.search_finish(stand.at);
+    }
+    let seen = match make_turn(dfa, cache, stand.id, unit, stand.at, stand.best, earliest, work) {
+        Ok(seen) => seen,
+        Err(e) => return Err(refusal(e, stand.at)),
+    };
+    if let Turn::Quits = seen.turn {
+        return match unit {
+            Some(byte) => Err(MatchError::quit(byte, index_at(stand.at, is_down))),
+            None => unreachable!(),
+        };
+    }
+    if !is_down {
+        cache.search_finish(stand.at);
+    }
+    let last = Stand {
+        at: stand.at,
+        id: seen.id,
+        best: seen.best,
+    };
+    Ok(Turned { stand: last, has_ended: true })
+}
+
+/// A turn by the unit at a place.
+fn turn_at<L: Ledger, M: Ledger>(
+    dfa: &DFA,
+    cache: &mut Cache,
+    input: &Input<'_>,
+    is_down: bool,
+    stand: Stand,
+    work: &mut Work<L, M>,
+) -> Result<Turned, MatchError>
+    requires own { IsCacheOf dfa.now cache.old }
+    requires down { is_down ≡ dfa.now.nfa.automaton.reverse }
+    requires row { IsRow cache.old stand.id }
+    requires within { IsWithinSpan input.now stand.at }
+    requires running { tells is_down input.now ≡ true → IsSome cache.old.progress }
+    ensures own { IsCacheOf dfa.now cache.new }
+    ensures turn { TurnsTo dfa.now input.now (point cache.old work.old.determinized work.old.inserted stand.at stand.id (pair_of stand.best)) cache.new work.new.determinized work.new.inserted result }
+{
+    if stand.at == last_place(input, is_down) {
+        last_turn(dfa, cache, input, is_down, stand, work)
+    } else {
+        byte_turn(dfa, cache, input, is_down, stand, work)
+    }
+}
+
+// ---- passes
+
+/// The pass from its first state on, which isn't dead.
+fn go_on<L: Ledger, M: Ledger>(
+    dfa: &DFA,
+    cache: &mut Cache,
+    input: &Input<'_>,
+    is_down: bool,
+    id: LazyStateID,
+    work: &mut Work<L, M>,
+) -> Result<Option<HalfMatch>, MatchError>
+    requires own { IsCacheOf dfa.now cache.old }
+    requires down { is_down ≡ dfa.now.nfa.automaton.reverse }
+    requires row { IsRow cache.old id }
+    requires begun { input.now.start ≤ input.now.end }
+    requires running { BeganFirst is_down input.now cache.old }
+    ensures own { IsCacheOf dfa.now cache.new }
+    ensures runs { (s : StateValue) → HeldAt cache.old id s → RunsOn dfa.now input.now s
+        (point cache.old work.old.determinized work.old.inserted (first_place is_down input.now.start input.now.end) id None) cache.new work.new.determinized work.new.inserted result }
+{
+    let first = Stand {
+        at: first_place(input, is_down),
+        id,
+        best: None,
+    };
+    let mut stand = run(dfa, cache, input, is_down, first);
+    loop {
+        let turned = match turn_at(dfa, cache, input, is_down, stand, work) {
+            Ok(turned) => turned,
+            Err(e) => return Err(e),
+        };
+        if turned.has_ended {
+            return Ok(turned.stand.best);
+        }
+        stand = run(dfa, cache, input, is_down, turned.stand);
+    }
+}
+
+/// The ID of the state in which a pass starts.
+fn start_of_pass<L: Ledger, M: Ledger>(
+    dfa: &DFA,
+    cache: &mut Cache,
+    input: &Input<'_>,
+    is_down: bool,
+    work: &mut Work<L, M>,
+) -> Result<LazyStateID, MatchError>
+    requires own { IsCacheOf dfa.now cache.old }
+    requires down { is_down ≡ dfa.now.nfa.automaton.reverse }
+    ensures own { IsCacheOf dfa.now cache.new }
+    ensures start { StartsPass dfa.now input.now cache.old cache.new work.old.determinized work.new.determinized work.old.inserted work.new.inserted result }
+{
+    if is_down {
+        dfa.start_state_reverse(cache, input, work)
+    } else {
+        dfa.start_state_forward(cache, input, work)
+    }
+}
 
 /// A pass over a whole span.
 pub(crate) fn pass<L: Ledger, M: Ledger>(
@@ -20,6 +328,19 @@ pub(crate) fn pass<L: Ledger, M: Ledger>(
     ensures own { IsCacheOf dfa.now cache.new }
     ensures pass { MakesPass dfa.now input.now cache.old cache.new work.old.determinized work.new.determinized work.old.inserted work.new.inserted result }
 {
-    let _ = dfa.pattern_len();
-    Err(MatchError::new(MatchErrorKind::NoMemory))
+    let is_down = dfa.get_nfa().is_reverse();
+    let id = match start_of_pass(dfa, cache, input, is_down, work) {
+        Ok(id) => id,
+        Err(e) => return Err(e),
+    };
+    if tells(input, is_down) {
+        cache.search_start(index_at(first_place(input, is_down), is_down));
+    }
+    if !id.is_dead() {
+        return go_on(dfa, cache, input, is_down, id, work);
+    }
+    if tells(input, is_down) {
+        cache.search_finish(index_at(first_place(input, is_down), is_down));
+    }
+    Ok(None)
 }

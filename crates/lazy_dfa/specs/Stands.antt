@@ -1,0 +1,158 @@
+-- Where a pass stands in its span, turn by turn, and how it ends.
+use Rattle.std.specs.Prelude.{◌≡◌, ◌≢◌, ◌⊎◌, ℕ, suc, ◌+◌, ◌-◌, ◌*◌, ◌<◌, ◌≤◌, ◌==◌, ◌&&◌, not, nat_le, min, Bool, true, false, List, Option, Some, None, Result, Ok, Err, IfOk, IfErr, OnOk, if◌then◌else◌}
+use Rattle.search_core.specs.ByteSets.{has}
+use Rattle.nfa_core.specs.Ways.{place_of}
+use Rattle.determinize_core.specs.States.{StateValue}
+use Rattle.determinize_core.specs.Starts.{StartValue}
+use Rattle.determinize_core.specs.Steps.{unit_at}
+use Rattle.search_types.specs.declared.match_error.MatchErrorKind.{MatchErrorKind}
+use Rattle.search_types.specs.declared.match_error.MatchErrorKind.TheVariants.{Quit, GaveUp, HaystackTooLong, UnsupportedAnchored, NotAPair, NoMemory}
+use Rattle.search_types.specs.Found.{HalfFound}
+use Rattle.search_types.specs.Inputs.{Search}
+use Rattle.lazy_dfa.specs.Caches.{CacheValue, HeldAt, IsRow, Names, greatest, lacks_room}
+use Rattle.lazy_dfa.specs.Courses.{state_behind, HasNoStop, stops_behind}
+use Rattle.lazy_dfa.specs.declared.cache_error.CacheError.{CacheError}
+use Rattle.lazy_dfa.specs.declared.cache_error.CacheError.TheVariants.{GaveUp as StepGaveUp, NoMemory as StepNoMemory}
+use Rattle.lazy_dfa.specs.declared.passing.Stand.{Stand}
+use Rattle.lazy_dfa.specs.declared.passing.Turned.{Turned}
+use Rattle.lazy_dfa.specs.Dfas.{Dfa, reader, start_in}
+use Rattle.lazy_dfa.specs.Ids.{unknown_id}
+use Rattle.lazy_dfa.specs.Linked.{IsLinkedOver, Grows, HasCleared, GrowsOrClears, IsMoved, start_from}
+use Rattle.lazy_dfa.specs.MadePasses.{span_len}
+use Rattle.lazy_dfa.specs.Passes.{index_at, is_dead, first_value, pass, pass_from}
+use Rattle.lazy_dfa.specs.PassLaws.{units_read}
+use Rattle.lazy_dfa.specs.Points.{Point, GoesTo, began}
+use Rattle.lazy_dfa.specs.Readers.{is_quit}
+use Rattle.lazy_dfa.specs.Scans.{first_place}
+use Rattle.lazy_dfa.specs.ScanLaws.{begins_at}
+use Rattle.lazy_dfa.specs.SearchAnswers.{pair_of, told, give_up_place, Told, told_of, pass_distance}
+use Rattle.lazy_dfa.specs.StartCalls.{mode_of, start_refusal, start_noted, IsStartKnown}
+use Rattle.lazy_dfa.specs.Steps.{Grew, WasCleared, most_inserts}
+use Rattle.lazy_dfa.specs.Turns.{GoesOne, Leaves, FailsOn}
+
+-- ---- places of a span
+
+-- the last place of a span for one who reads up, or down
+abbrev pub last_place : Bool → Search → ℕ
+last_place false q = q.end
+last_place true q = q.start
+
+-- how many bytes are read of it at a place, and how many are left
+abbrev pub came : Bool → Search → ℕ → ℕ
+came false q i = i - q.start
+came true q i = q.end - i
+
+abbrev pub left_at : Bool → Search → ℕ → ℕ
+left_at false q i = q.end - i
+left_at true q i = i - q.start
+
+abbrev pub IsWithinSpan : Search → ℕ → Type 0
+IsWithinSpan q i = (q.start ≤ i) × (i ≤ q.end)
+
+-- whether a pass tells a cache how far it comes: not downwards over no bytes
+abbrev pub tells : Bool → Search → Bool
+tells down q = not (down && nat_le q.end q.start)
+
+-- the index of the first byte of a pass
+abbrev pub first_index : Bool → Search → ℕ
+first_index down q = index_at down (first_place down q.start q.end)
+
+-- the running search began with the pass; after a clear it has begun anew
+abbrev pub BeganFirst : Bool → Search → CacheValue → Type 0
+BeganFirst down q v = tells down q ≡ true → began v.progress ≡ Some (first_index down q)
+
+-- what a pass over n bytes tells at its end that has told where it begins
+abbrev pub told_behind : Bool → ℕ → Told → ℕ → Told
+told_behind down n t units =
+    if down && n == 0 then t else record { searched = min (t.searched + pass_distance down n units) greatest; progress = None }
+
+-- the refusal of a search by that of a step
+abbrev pub error_of : ℕ → CacheError → MatchErrorKind
+error_of place StepGaveUp = GaveUp place
+error_of place StepNoMemory = NoMemory
+
+-- ---- turns in a span
+
+-- a pass comes from a point to another one through k units, and stops nowhere between
+abbrev pub GoesBetween : Dfa → Bool → List ℕ → Point → Point → ℕ → Type 0
+GoesBetween d earliest h from to k = GoesTo d h from to k ×
+    ((s : StateValue) → HeldAt from.cache from.id s → HasNoStop (reader d) earliest h from.at s k)
+
+-- A pass ends with the turn at a point, and with this match: its cache was told where it came, before the step or behind it.
+pub record EndsWith (d : Dfa) (q : Search) (from : Point) (new : CacheValue) (m n : ℕ) (best : Option (ℕ × ℕ)) : Type 0 where
+  pub before : CacheValue
+  pub behind : CacheValue
+  pub id : ℕ
+  pub begun : IsMoved from.cache before
+  pub goes : GoesOne d q.haystack (record from { cache = before }) behind m n id best
+  pub ended : IsMoved behind new
+  pub told : BeganFirst d.nfa.automaton.reverse q from.cache →
+      (told_of new ≡ told_behind d.nfa.automaton.reverse (span_len q) (told_of from.cache) (suc (came d.nfa.automaton.reverse q from.at))) ⊎
+      HasCleared from.cache new
+  pub why : (s : StateValue) → HeldAt from.cache from.id s →
+      (stops_behind (reader d) q.earliest q.haystack from.at s 0 ≡ true) ⊎
+      (is_dead (state_behind (reader d) q.haystack from.at s 1) ≡ true) ⊎
+      (from.at ≡ last_place d.nfa.automaton.reverse q)
+
+-- the place at which a pass gives up that stands at another one
+abbrev pub gave_up_at : Bool → Search → ℕ → ℕ
+gave_up_at down q at = if at == last_place down q then at else index_at down at
+
+-- what comes of a turn of a pass in its span: it ends, or goes on
+abbrev pub TurnsInto : Dfa → Search → Point → CacheValue → ℕ → ℕ → Stand → Bool → Type 0
+TurnsInto d q from new m n stand true = EndsWith d q from new m n (pair_of stand.best)
+TurnsInto d q from new m n stand false =
+    GoesOne d q.haystack from new m n stand.id (pair_of stand.best) × (stand.at ≡ place_of d.nfa.automaton.reverse from.at 1) ×
+    (from.at ≢ last_place d.nfa.automaton.reverse q) × IsRow new stand.id ×
+    ((s : StateValue) → HeldAt from.cache from.id s → stops_behind (reader d) q.earliest q.haystack from.at s 0 ≡ false)
+
+-- one turn of a pass in its span
+abbrev pub TurnsTo : Dfa → Search → Point → CacheValue → ℕ → ℕ → Result Turned MatchErrorKind → Type 0
+TurnsTo d q from new m n (Ok turned) = TurnsInto d q from new m n turned.stand turned.has_ended
+TurnsTo d q from new m n (Err (Quit b x)) = Leaves d q.haystack from new m n 0 ×
+    (unit_at d.nfa.automaton.reverse q.haystack from.at ≡ Some b) × (has d.quits b ≡ true) × (x ≡ index_at d.nfa.automaton.reverse from.at)
+TurnsTo d q from new m n (Err (GaveUp x)) = FailsOn d q.haystack from new m n 0 ×
+    (is_quit d.quits (unit_at d.nfa.automaton.reverse q.haystack from.at) ≡ false) × (x ≡ gave_up_at d.nfa.automaton.reverse q from.at) ×
+    ((s : StateValue) → HeldAt from.cache from.id s → lacks_room d new (state_behind (reader d) q.haystack from.at s 1) ≡ true)
+TurnsTo d q from new m n (Err NoMemory) = FailsOn d q.haystack from new m n 0
+TurnsTo d q from new m n (Err (HaystackTooLong len)) = ⊥
+TurnsTo d q from new m n (Err (UnsupportedAnchored mode)) = ⊥
+TurnsTo d q from new m n (Err NotAPair) = ⊥
+
+-- ---- the rest of a pass
+
+-- The rest of a pass from its first place in state s, through all units that are left.
+pub record RunsOn (d : Dfa) (q : Search) (s : StateValue) (from : Point) (new : CacheValue) (m n : ℕ) (result : Result (Option HalfFound) MatchErrorKind) : Type 0 where
+  pub answer : (result ≡ told (pass_from (reader d) q.earliest q.haystack (suc (span_len q)) from.at s None)) ⊎ (result ≡ Err NoMemory) ⊎
+      ((x k : ℕ) × (result ≡ Err (GaveUp x)) × (k < units_read (reader d) q.earliest q.haystack (suc (span_len q)) from.at s) ×
+      (x ≡ give_up_place d.nfa.automaton.reverse (span_len q) from.at k) × (lacks_room d new (state_behind (reader d) q.haystack from.at s (suc k)) ≡ true))
+  pub kept : GrowsOrClears d from.cache new
+  pub follows : OnOk result ((Grows d from.cache new ×
+      IsLinkedOver d new q.haystack from.at from.id (units_read (reader d) q.earliest q.haystack (suc (span_len q)) from.at s) ×
+      (told_of new ≡ told_behind d.nfa.automaton.reverse (span_len q) (told_of from.cache) (units_read (reader d) q.earliest q.haystack (suc (span_len q)) from.at s))) ⊎
+      HasCleared from.cache new)
+  pub free : IsLinkedOver d from.cache q.haystack from.at from.id (units_read (reader d) q.earliest q.haystack (suc (span_len q)) from.at s) →
+      IsMoved from.cache new × (m ≡ from.determinized) × (n ≡ from.inserted) ×
+      (result ≡ told (pass_from (reader d) q.earliest q.haystack (suc (span_len q)) from.at s None))
+  pub determinized : m ≤ from.determinized + units_read (reader d) q.earliest q.haystack (suc (span_len q)) from.at s
+  pub inserted : n ≤ from.inserted + units_read (reader d) q.earliest q.haystack (suc (span_len q)) from.at s * most_inserts d
+
+-- ---- the start of a pass
+
+-- what it tells of its start
+abbrev pub pass_start : Dfa → Search → StartValue
+pass_start d q = start_from (reader d) q.anchored q.haystack (begins_at (reader d) q)
+
+-- what it is told of its start: the ID of its first state, or why there is none
+pub record StartsPass (d : Dfa) (q : Search) (old new : CacheValue) (m1 m2 n1 n2 : ℕ) (r : Result ℕ MatchErrorKind) : Type 0 where
+  pub start : IfOk r (λ id. (start_refusal d (pass_start d q) ≡ None) × Names new id (first_value (reader d) q.anchored q.haystack (begins_at (reader d) q)))
+  pub err : IfErr r (λ e. ((start_refusal d (pass_start d q) ≢ None) ×
+      (Err e ≡ told (pass (reader d) q.anchored q.earliest q.haystack (span_len q) (begins_at (reader d) q)))) ⊎ (e ≡ NoMemory) ⊎
+      ((e ≡ GaveUp (begins_at (reader d) q)) × (lacks_room d new (first_value (reader d) q.anchored q.haystack (begins_at (reader d) q)) ≡ true)))
+  pub kept : Grew d old new ⊎ WasCleared old new 1
+  pub noted : IfOk r (λ id. (p : ℕ) → start_in d (mode_of q.anchored) ≡ Some p → start_noted d new (pass_start d q) ≡ id)
+  pub known : (p : ℕ) → start_refusal d (pass_start d q) ≡ None → start_in d (mode_of q.anchored) ≡ Some p →
+      start_noted d old (pass_start d q) ≢ unknown_id → r ≡ Ok (start_noted d old (pass_start d q))
+  pub same : IsStartKnown d old (pass_start d q) → (new ≡ old) × (m2 ≡ m1) × (n2 ≡ n1)
+  pub determinized : m2 ≤ m1 + 1
+  pub inserted : n2 ≤ n1 + most_inserts d

@@ -1,0 +1,89 @@
+-- One turn of a pass: a step of its cache by a unit, and what the new state says.
+use Rattle.std.specs.Prelude.{◌≡◌, ◌≢◌, ◌⊎◌, ℕ, suc, ◌+◌, ◌*◌, ◌≤◌, ◌&&◌, not, Bool, true, false, List, Option, Some, None, Result, Ok, Err, IfOk, IfErr, IsSome}
+use Rattle.search_core.specs.ByteSets.{has}
+use Rattle.nfa_core.specs.Ways.{place_of}
+use Rattle.determinize_core.specs.States.{StateValue}
+use Rattle.lazy_dfa.specs.Caches.{CacheValue, HeldAt, IsRow, lacks_room}
+use Rattle.lazy_dfa.specs.Courses.{state_behind, stops_behind}
+use Rattle.lazy_dfa.specs.declared.cache_error.CacheError.{CacheError}
+use Rattle.lazy_dfa.specs.declared.cache_error.CacheError.TheVariants.{GaveUp, NoMemory}
+use Rattle.lazy_dfa.specs.declared.turns.Seen.{Seen}
+use Rattle.lazy_dfa.specs.declared.turns.Turn.{Turn}
+use Rattle.lazy_dfa.specs.declared.turns.Turn.TheVariants.{GoesOn, Ends, Quits}
+use Rattle.lazy_dfa.specs.Dfas.{Dfa, reader, IsUnit}
+use Rattle.lazy_dfa.specs.Ids.{dead_id, quit_id, unknown_id, is_sentinel}
+use Rattle.lazy_dfa.specs.Linked.{IsLinkedOver, HasCleared, GrowsOrClears, IsMoved}
+use Rattle.lazy_dfa.specs.Passes.{is_empty, is_dead, recorded}
+use Rattle.lazy_dfa.specs.Points.{Point, GoesTo, point}
+use Rattle.lazy_dfa.specs.Readers.{is_quit}
+use Rattle.lazy_dfa.specs.SearchAnswers.{pair_of, told_of}
+use Rattle.lazy_dfa.specs.Steps.{IsHeld, StepsTo, KeepsOrClears, noted, IsKnown, IsNoted, IsStepCause, most_inserts}
+
+-- What an ID that is held says of a pass that came to it by the unit at a place: of the dead state it ends, of the quit
+-- sentinel the unit is a quit byte, and else the match of the state's is recorded.
+pub data Sees (v : CacheValue) (id place : ℕ) (best : Option (ℕ × ℕ)) (earliest : Bool) (seen : Seen) : Type 0 where
+  sees_dead : id ≡ dead_id v.stride → seen.id ≡ id → seen.turn ≡ Ends → pair_of seen.best ≡ best → Sees v id place best earliest seen
+  sees_quit : id ≡ quit_id v.stride → seen.turn ≡ Quits → Sees v id place best earliest seen
+  sees_end : (s : StateValue) → HeldAt v id s → seen.id ≡ id → seen.turn ≡ Ends → pair_of seen.best ≡ recorded place s best →
+      (earliest && not (is_empty s.matches)) ≡ true → Sees v id place best earliest seen
+  sees_on : (s : StateValue) → HeldAt v id s → seen.id ≡ id → seen.turn ≡ GoesOn → pair_of seen.best ≡ recorded place s best →
+      (earliest && not (is_empty s.matches)) ≡ false → Sees v id place best earliest seen
+
+-- what a step from an ID by a unit, of either kind, says
+pub record IsStep (d : Dfa) (old new : CacheValue) (m1 m2 n1 n2 id : ℕ) (u : Option ℕ) (result : Result ℕ CacheError) : Type 0 where
+  pub unit : IsUnit u
+  pub kept : KeepsOrClears d old new
+  pub step : IfOk result (λ to. StepsTo d old new id u to)
+  pub notes : IfOk result (λ to. IsNoted d old new id u to)
+  pub held : IfOk result (λ to. IsHeld new to)
+  pub err : IfErr result (λ e. IsStepCause d old id u e)
+  pub gave_up : result ≡ Err GaveUp → new ≡ old
+  pub known : is_sentinel id ≡ false → noted d old id u ≢ unknown_id → result ≡ Ok (noted d old id u)
+  pub same : IsKnown d old id u → new ≡ old
+  pub free : IsKnown d old id u → (m2 ≡ m1) × (n2 ≡ n1)
+  pub determinized : m2 ≤ m1 + 1
+  pub inserted : n2 ≤ n1 + most_inserts d
+
+-- Of the cache and the work behind k units from a point and one more, whether that one was read or not.
+pub record Leaves (d : Dfa) (h : List ℕ) (from : Point) (new : CacheValue) (m n k : ℕ) : Type 0 where
+  pub kept : GrowsOrClears d from.cache new
+  pub free : IsLinkedOver d from.cache h from.at from.id (suc k) → IsMoved from.cache new × (m ≡ from.determinized) × (n ≡ from.inserted)
+  pub determinized : m ≤ from.determinized + suc k
+  pub inserted : n ≤ from.inserted + suc k * most_inserts d
+
+-- the same where the way isn't known
+pub record FailsOn (d : Dfa) (h : List ℕ) (from : Point) (new : CacheValue) (m n k : ℕ) : Type 0 where
+  pub leaves : Leaves d h from new m n k
+  pub unknown : ¬ IsLinkedOver d from.cache h from.at from.id (suc k)
+
+-- a cache that searches goes on to do so
+abbrev pub StaysRunning : CacheValue → CacheValue → Type 0
+StaysRunning old new = IsSome old.progress → IsSome new.progress
+
+-- how far searches came is as before, or the cache was cleared
+abbrev pub TellsTheSame : CacheValue → CacheValue → Type 0
+TellsTheSame old new = (told_of new ≡ told_of old) ⊎ HasCleared old new
+
+-- the pass goes to another point by one unit
+abbrev pub GoesOne : Dfa → List ℕ → Point → CacheValue → ℕ → ℕ → ℕ → Option (ℕ × ℕ) → Type 0
+GoesOne d h from new m n id best = GoesTo d h from (point new m n (place_of d.nfa.automaton.reverse from.at 1) id best) 1
+
+-- what was read at a point, by what comes of it
+abbrev pub IsSeen : Dfa → Bool → List ℕ → Option ℕ → Point → CacheValue → ℕ → ℕ → ℕ → Option (ℕ × ℕ) → Turn → Type 0
+IsSeen d earliest h u from new m n id best GoesOn =
+    GoesOne d h from new m n id best × TellsTheSame from.cache new × IsRow new id ×
+    ((s : StateValue) → HeldAt from.cache from.id s → stops_behind (reader d) earliest h from.at s 0 ≡ false)
+IsSeen d earliest h u from new m n id best Ends =
+    GoesOne d h from new m n id best × TellsTheSame from.cache new ×
+    ((s : StateValue) → HeldAt from.cache from.id s →
+    (stops_behind (reader d) earliest h from.at s 0 ≡ true) ⊎ (is_dead (state_behind (reader d) h from.at s 1) ≡ true))
+IsSeen d earliest h u from new m n id best Quits =
+    Leaves d h from new m n 0 × StaysRunning from.cache new × ((b : ℕ) × (u ≡ Some b) × (has d.quits b ≡ true))
+
+-- one turn from a point, by the unit there
+abbrev pub IsTurn : Dfa → Bool → List ℕ → Option ℕ → Point → CacheValue → ℕ → ℕ → Result Seen CacheError → Type 0
+IsTurn d earliest h u from new m n (Ok seen) = IsSeen d earliest h u from new m n seen.id (pair_of seen.best) seen.turn
+IsTurn d earliest h u from new m n (Err NoMemory) = FailsOn d h from new m n 0
+IsTurn d earliest h u from new m n (Err GaveUp) =
+    FailsOn d h from new m n 0 × (is_quit d.quits u ≡ false) ×
+    ((s : StateValue) → HeldAt from.cache from.id s → lacks_room d new (state_behind (reader d) h from.at s 1) ≡ true)
