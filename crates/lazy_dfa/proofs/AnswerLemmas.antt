@@ -1,7 +1,6 @@
 -- What an answer of code tells of the one that it stands for.
-use Rattle.std.proofs.Common.{◌≡◌, ℕ, Bool, true, false, List, [], ◌∷◌, ◌++◌, Option, Some, None, refl, sym, ap, ◌∙◌, ◌⊎◌, inl, inr, ⊎_elim, arith}
+use Rattle.std.proofs.Common.{◌≡◌, ℕ, Bool, true, false, List, [], ◌∷◌, ◌++◌, Option, Some, None, refl, sym, ap, ◌∙◌, ◌⊎◌, inl, inr, arith}
 use Rattle.std.specs.Prelude.{Result, Ok, Err}
-use Rattle.search_types.specs.declared.anchored.Anchored.{Anchored}
 use Rattle.search_types.specs.declared.match_error.MatchErrorKind.{MatchErrorKind}
 use Rattle.search_types.specs.declared.match_error.MatchErrorKind.TheVariants.{Quit, GaveUp, UnsupportedAnchored, NoMemory}
 use Rattle.search_types.specs.Found.{HalfFound}
@@ -10,7 +9,7 @@ use Rattle.lazy_dfa.specs.Caches.{CacheValue}
 use Rattle.lazy_dfa.specs.Dfas.{Dfa}
 use Rattle.lazy_dfa.specs.PassLaws.{splits}
 use Rattle.lazy_dfa.specs.Readers.{HalfAnswer, found, quit, unsupported}
-use Rattle.lazy_dfa.specs.SearchAnswers.{half_of, told, GivesUpIn, GivesUpAmong}
+use Rattle.lazy_dfa.specs.SearchAnswers.{half_of, pair_of, told, GivesUpIn, GivesUpAmong}
 
 -- of code, with its type
 abbrev pub answer : Option HalfFound → Result (Option HalfFound) MatchErrorKind
@@ -18,11 +17,6 @@ answer f = Ok f
 
 abbrev pub error : MatchErrorKind → Result (Option HalfFound) MatchErrorKind
 error x = Err x
-
--- an end of a match as code has it
-abbrev pub pair_of : Option HalfFound → Option (ℕ × ℕ)
-pair_of None = None
-pair_of (Some m) = Some (m.offset, m.pattern)
 
 pair_of_half : (o : Option (ℕ × ℕ)) → pair_of (half_of o) ≡ o
 pair_of_half None = refl

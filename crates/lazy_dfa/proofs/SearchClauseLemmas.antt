@@ -1,10 +1,10 @@
 -- What a half search tells its callers.
-use Rattle.std.proofs.Common.{◌≡◌, ℕ, zero, suc, ◌+◌, ◌-◌, ◌*◌, ◌<◌, ◌≤◌, Bool, true, false, not, ◌&&◌, List, [], ◌∷◌, length, Option, Some, None, refl, sym, ap, ◌∙◌, ◌⊎◌, inl, inr, ⊎_elim, subst, arith, if◌then◌else◌, true≢false}
+use Rattle.std.proofs.Common.{◌≡◌, ℕ, zero, suc, ◌+◌, ◌-◌, ◌*◌, ◌<◌, ◌≤◌, Bool, true, false, not, ◌&&◌, List, [], ◌∷◌, length, Option, Some, None, refl, sym, ap, ◌∙◌, ◌⊎◌, inl, inr, subst, arith, if◌then◌else◌, true≢false}
 use Rattle.std.specs.Bool.{nat_le}
 use Rattle.std.specs.Prelude.{Result, Ok, Err, OnOk, IfOk, IfErr, is_none}
 use Rattle.search_types.specs.declared.anchored.Anchored.{Anchored}
 use Rattle.search_types.specs.declared.match_error.MatchErrorKind.{MatchErrorKind}
-use Rattle.search_types.specs.declared.match_error.MatchErrorKind.TheVariants.{GaveUp, NoMemory}
+use Rattle.search_types.specs.declared.match_error.MatchErrorKind.TheVariants.{NoMemory}
 use Rattle.search_types.specs.Found.{HalfFound}
 use Rattle.search_types.specs.Inputs.{Search}
 use Rattle.search_types.specs.Modes.{is_anchored, is_supported}
@@ -18,12 +18,12 @@ use Rattle.lazy_dfa.specs.Linked.{Grows, HasCleared, IsLinked, passes_on, passes
 use Rattle.lazy_dfa.specs.MadePasses.{MakesSearch}
 use Rattle.lazy_dfa.specs.PassLaws.{pass_len, splits}
 use Rattle.lazy_dfa.specs.Passes.{next_place, pass, first_value}
-use Rattle.lazy_dfa.specs.Readers.{Reader, HalfAnswer, found}
+use Rattle.lazy_dfa.specs.Readers.{Reader, found}
 use Rattle.lazy_dfa.specs.ScanLaws.{begins_at, passes_made, units_in_passes, pass_count, unit_count, HasNoQuitNear}
 use Rattle.lazy_dfa.specs.Scans.{scan}
-use Rattle.lazy_dfa.specs.SearchAnswers.{half_of, told, GivesUpIn, at_start, at_unit, GivesUpAmong, Answers, told_of, told_by, made_by, HasReach}
+use Rattle.lazy_dfa.specs.SearchAnswers.{half_of, pair_of, told, GivesUpIn, at_start, at_unit, GivesUpAmong, Answers, told_of, told_by, made_by, HasReach}
 use Rattle.lazy_dfa.specs.Steps.{most_inserts}
-use Rattle.lazy_dfa.proofs.AnswerLemmas.{pair_of, ok_is_told, ok_is_found}
+use Rattle.lazy_dfa.proofs.AnswerLemmas.{ok_is_told, ok_is_found}
 use Rattle.lazy_dfa.proofs.HasReachLemmas.{scan_has_reach}
 use Rattle.lazy_dfa.proofs.LinkedLemmas.{not_cleared}
 use Rattle.lazy_dfa.proofs.ScanLemmas.{scan_finds_near}

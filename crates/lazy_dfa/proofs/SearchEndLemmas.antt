@@ -1,5 +1,5 @@
 -- How a half search goes on, and how it ends, by what its next pass answers.
-use Rattle.std.proofs.Common.{◌≡◌, ℕ, suc, ◌+◌, ◌-◌, ◌<◌, ◌≤◌, Bool, true, false, not, List, [], ◌∷◌, ◌++◌, Option, Some, None, refl, sym, ap, ◌∙◌, ◌⊎◌, inl, inr, ⊎_elim, subst, arith, true≢false}
+use Rattle.std.proofs.Common.{◌≡◌, ℕ, ◌+◌, ◌-◌, ◌<◌, ◌≤◌, Bool, true, false, not, List, [], ◌∷◌, ◌++◌, Option, Some, None, refl, sym, ap, ◌∙◌, ◌⊎◌, ⊎_elim, subst, arith, true≢false}
 use Rattle.std.specs.Prelude.{Ok, Err, IsTrue, ◌↔◌}
 use Rattle.std.proofs.lemmas.Bool.{cases_lt}
 use Rattle.std.proofs.lemmas.List.{append_assoc, append-nil}
@@ -14,15 +14,15 @@ use Rattle.lazy_dfa.specs.Dfas.{Dfa, IsDfa, reader}
 use Rattle.lazy_dfa.specs.Linked.{passes_of}
 use Rattle.lazy_dfa.specs.MadePasses.{MakesPass, MakesSearch}
 use Rattle.lazy_dfa.specs.PassLaws.{splits}
-use Rattle.lazy_dfa.specs.Readers.{Reader, HalfAnswer, found}
+use Rattle.lazy_dfa.specs.Readers.{Reader, found}
 use Rattle.lazy_dfa.specs.ScanLaws.{shorter}
 use Rattle.lazy_dfa.specs.Scans.{scan}
-use Rattle.lazy_dfa.specs.SearchAnswers.{told, GivesUpIn}
-use Rattle.lazy_dfa.proofs.AnswerLemmas.{answer, ok_is_told, ok_is_found, pair_of}
+use Rattle.lazy_dfa.specs.SearchAnswers.{pair_of, told, GivesUpIn}
+use Rattle.lazy_dfa.proofs.AnswerLemmas.{answer, ok_is_told, ok_is_found}
 use Rattle.lazy_dfa.proofs.LinkedLemmas.{AreBytes}
 use Rattle.lazy_dfa.proofs.PassListLemmas.{first_pass, first_answer, first_splits, done_passes, whole_once, whole_scan, anchored_once, anchored_scan, lowest_once, lowest_scan, passes_begin, passes_anew, scan_anew}
 use Rattle.lazy_dfa.proofs.ScanLemmas.{scan_done}
-use Rattle.lazy_dfa.proofs.SearchLemmas.{HasMade, IsLeft, Stands, makes_one, fails_here, finishes}
+use Rattle.lazy_dfa.proofs.SearchLemmas.{HasMade, Stands, makes_one, fails_here, finishes}
 
 -- ---- what tests tell
 

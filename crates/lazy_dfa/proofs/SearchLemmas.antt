@@ -1,28 +1,24 @@
 -- What a half search has done when it has made so many of its passes.
-use Rattle.std.proofs.Common.{◌≡◌, ℕ, suc, ◌+◌, ◌-◌, ◌*◌, ◌<◌, ◌≤◌, Bool, true, false, not, min, List, [], ◌∷◌, ◌++◌, Option, Some, None, refl, sym, ap, ◌∙◌, ◌⊎◌, inl, inr, ⊎_elim, subst, arith}
-use Rattle.std.specs.Prelude.{Result, Ok, Err, OnOk, All}
-use Rattle.std.proofs.lemmas.List.{append_assoc}
+use Rattle.std.proofs.Common.{◌≡◌, ℕ, suc, ◌+◌, ◌-◌, ◌*◌, ◌≤◌, min, List, [], ◌∷◌, ◌++◌, Option, refl, sym, ap, ◌∙◌, ◌⊎◌, inl, inr, subst, arith}
+use Rattle.std.specs.Prelude.{Result, Ok, Err, All}
 use Rattle.std.proofs.lemmas.List.Elements.{All-nil, All-cons, All-head, All-tail, All-push}
-use Rattle.search_types.specs.declared.anchored.Anchored.{Anchored}
 use Rattle.search_types.specs.declared.match_error.MatchErrorKind.{MatchErrorKind}
 use Rattle.search_types.specs.declared.match_error.MatchErrorKind.TheVariants.{GaveUp, NoMemory}
 use Rattle.search_types.specs.Found.{HalfFound}
 use Rattle.search_types.specs.Inputs.{Search, with_span}
-use Rattle.search_types.specs.Modes.{is_anchored}
 use Rattle.search_types.specs.Places.{counts}
 use Rattle.lazy_dfa.specs.Caches.{CacheValue, IsCacheOf, greatest}
 use Rattle.lazy_dfa.specs.Dfas.{Dfa, IsDfa, reader}
-use Rattle.lazy_dfa.specs.Linked.{IsLinkedPass, AreLinked, IsLinked, Grows, HasCleared, GrowsOrClears, IsMoved, passes_of}
-use Rattle.lazy_dfa.specs.MadePasses.{MakesPass, MakesSearch, span_len}
+use Rattle.lazy_dfa.specs.Linked.{IsLinkedPass, AreLinked, Grows, HasCleared, GrowsOrClears, IsMoved, passes_of}
+use Rattle.lazy_dfa.specs.MadePasses.{MakesPass, MakesSearch}
 use Rattle.lazy_dfa.specs.PassLaws.{pass_len}
-use Rattle.lazy_dfa.specs.Readers.{Reader, HalfAnswer, found}
-use Rattle.lazy_dfa.specs.ScanLaws.{begins_at, shorter}
+use Rattle.lazy_dfa.specs.Readers.{Reader}
 use Rattle.lazy_dfa.specs.Scans.{scan}
-use Rattle.lazy_dfa.specs.SearchAnswers.{half_of, told, GivesUpIn, GivesUpAmong, Answers, Told, told_of, told_by_pass, told_by, made_by}
+use Rattle.lazy_dfa.specs.SearchAnswers.{told, GivesUpIn, GivesUpAmong, Answers, Told, told_of, told_by_pass, told_by, made_by}
 use Rattle.lazy_dfa.specs.Steps.{most_inserts}
-use Rattle.lazy_dfa.proofs.AnswerLemmas.{error, error_is_whole, ok_is_told, ok_is_found, gave_up_among, ok_is_no_error, pair_of}
+use Rattle.lazy_dfa.proofs.AnswerLemmas.{error, error_is_whole, gave_up_among}
 use Rattle.lazy_dfa.proofs.LinkedLemmas.{AreBytes, grows_refl, grows_trans, cleared_grows, moved_refl, moved_trans, linked_pass_moved, are_linked_grows}
-use Rattle.lazy_dfa.proofs.PassListLemmas.{first_pass, first_answer, first_splits, whole_once, whole_scan, passes_begin}
+use Rattle.lazy_dfa.proofs.PassListLemmas.{first_pass, first_answer, whole_scan}
 
 -- ---- clears
 

@@ -105,6 +105,10 @@ impl DFA {
     /// Where no quit byte stands in or beside the span, no least count of clears is set and the mode is supported, it
     /// answers, if memory suffices. Where the cache isn't cleared on the way, all steps of the search are known afterwards,
     /// and a search whose steps are known makes no states and takes no memory.
+    ///
+    /// A match, or none, comes with a place up to which it was looked for: no quit byte stands from the byte before the span
+    /// to there, and under leftmost-first what is found is the first end for each reading of looks that agrees with the one
+    /// by ASCII bytes up to there.
     pub fn try_search_fwd<L: Ledger, M: Ledger>(
         &self,
         cache: &mut Cache,

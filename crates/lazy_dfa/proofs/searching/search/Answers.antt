@@ -1,4 +1,4 @@
-use Rattle.std.proofs.Common.{◌≡◌, ℕ, ◌+◌, ◌-◌, true, false, ap, sym, ◌∙◌, subst}
+use Rattle.std.proofs.Common.{ℕ, ◌+◌, ◌-◌, true, false, ap, sym, ◌∙◌, subst}
 use Rattle.search_core.specs.Utf8.{is_boundary}
 use Rattle.search_types.specs.Inputs.{with_span}
 use Rattle.search_types.specs.Modes.{is_anchored}
@@ -76,31 +76,31 @@ pub loop-rest-preserved-then-is_down : goal.loop-rest-preserved-then-is_down
 loop-rest-preserved-then-is_down g c = record {
   own = c.in-Ok.ensures.own;
   stands = goes_down c.args.dfa.now c.args.input.now c.loop-rest.rest c.args.cache.now c.loop-rest.cache c.pass.new.cache c.args.work.now.determinized
-    c.loop-rest.work.determinized c.pass.new.work.determinized c.args.work.now.inserted c.loop-rest.work.inserted
-    c.pass.new.work.inserted c.is_made.ensures c.requires c.loop-rest.invariant.own (subst AreBytes c.haystack.ensures.value c.see_bytes.ensures)
-    c.loop-rest.invariant.stands (not_done c.is_done.result c.loop-rest.rest.start c.loop-rest.rest.end c.is_done.ensures c.loop-rest-test.true) c.in-Ok.found c.in-Ok.ensures.pass
-    c.in-Some.half c.in-Some.is
-    (inside_counts (reader c.args.dfa.now).between_characters c.loop-rest.rest.haystack c.in-Some.half.offset
-    (sym c.is_between_characters-between_characters.ensures ∙ c.if-not-between_characters.false)
-    (ap (is_boundary c.loop-rest.rest.haystack) (sym c.offset.ensures) ∙ sym c.is_char_boundary.ensures ∙ c.if-is_char_boundary.false))
-    (ap is_anchored (sym c.get_anchored.ensures) ∙ sym c.is_anchored.ensures ∙ c.if-is_anchored.false) (sym c.is_down-is_down.ensures ∙ c.if-is_down.true)
-    (above_none c.end.result c.loop-rest.rest.end c.end.ensures.value c.if-end-eq0.false) c.set_end.new.self
-    (c.set_end.ensures ∙ ap (λ (e : ℕ). with_span c.loop-rest.rest.start (e - 1) c.loop-rest.rest) c.end-then-is_down.ensures.value);
+      c.loop-rest.work.determinized c.pass.new.work.determinized c.args.work.now.inserted c.loop-rest.work.inserted
+      c.pass.new.work.inserted c.is_made.ensures c.requires c.loop-rest.invariant.own (subst AreBytes c.haystack.ensures.value c.see_bytes.ensures)
+      c.loop-rest.invariant.stands (not_done c.is_done.result c.loop-rest.rest.start c.loop-rest.rest.end c.is_done.ensures c.loop-rest-test.true) c.in-Ok.found c.in-Ok.ensures.pass
+      c.in-Some.half c.in-Some.is
+      (inside_counts (reader c.args.dfa.now).between_characters c.loop-rest.rest.haystack c.in-Some.half.offset
+      (sym c.is_between_characters-between_characters.ensures ∙ c.if-not-between_characters.false)
+      (ap (is_boundary c.loop-rest.rest.haystack) (sym c.offset.ensures) ∙ sym c.is_char_boundary.ensures ∙ c.if-is_char_boundary.false))
+      (ap is_anchored (sym c.get_anchored.ensures) ∙ sym c.is_anchored.ensures ∙ c.if-is_anchored.false) (sym c.is_down-is_down.ensures ∙ c.if-is_down.true)
+      (above_none c.end.result c.loop-rest.rest.end c.end.ensures.value c.if-end-eq0.false) c.set_end.new.self
+      (c.set_end.ensures ∙ ap (λ (e : ℕ). with_span c.loop-rest.rest.start (e - 1) c.loop-rest.rest) c.end-then-is_down.ensures.value);
 }
 
 pub loop-rest-preserved : goal.loop-rest-preserved
 loop-rest-preserved g c = record {
   own = c.in-Ok.ensures.own;
   stands = goes_up c.args.dfa.now c.args.input.now c.loop-rest.rest c.args.cache.now c.loop-rest.cache c.pass.new.cache c.args.work.now.determinized
-    c.loop-rest.work.determinized c.pass.new.work.determinized c.args.work.now.inserted c.loop-rest.work.inserted
-    c.pass.new.work.inserted c.is_made.ensures c.requires c.loop-rest.invariant.own (subst AreBytes c.haystack.ensures.value c.see_bytes.ensures)
-    c.loop-rest.invariant.stands (not_done c.is_done.result c.loop-rest.rest.start c.loop-rest.rest.end c.is_done.ensures c.loop-rest-test.true) c.in-Ok.found c.in-Ok.ensures.pass
-    c.in-Some.half c.in-Some.is
-    (inside_counts (reader c.args.dfa.now).between_characters c.loop-rest.rest.haystack c.in-Some.half.offset
-    (sym c.is_between_characters-between_characters.ensures ∙ c.if-not-between_characters.false)
-    (ap (is_boundary c.loop-rest.rest.haystack) (sym c.offset.ensures) ∙ sym c.is_char_boundary.ensures ∙ c.if-is_char_boundary.false))
-    (ap is_anchored (sym c.get_anchored.ensures) ∙ sym c.is_anchored.ensures ∙ c.if-is_anchored.false) (sym c.is_down-is_down.ensures ∙ c.if-is_down.false) c.set_start.new.self
-    (c.set_start.ensures ∙ ap (λ (b : ℕ). with_span (b + 1) c.loop-rest.rest.end c.loop-rest.rest) c.start.ensures.value);
+      c.loop-rest.work.determinized c.pass.new.work.determinized c.args.work.now.inserted c.loop-rest.work.inserted
+      c.pass.new.work.inserted c.is_made.ensures c.requires c.loop-rest.invariant.own (subst AreBytes c.haystack.ensures.value c.see_bytes.ensures)
+      c.loop-rest.invariant.stands (not_done c.is_done.result c.loop-rest.rest.start c.loop-rest.rest.end c.is_done.ensures c.loop-rest-test.true) c.in-Ok.found c.in-Ok.ensures.pass
+      c.in-Some.half c.in-Some.is
+      (inside_counts (reader c.args.dfa.now).between_characters c.loop-rest.rest.haystack c.in-Some.half.offset
+      (sym c.is_between_characters-between_characters.ensures ∙ c.if-not-between_characters.false)
+      (ap (is_boundary c.loop-rest.rest.haystack) (sym c.offset.ensures) ∙ sym c.is_char_boundary.ensures ∙ c.if-is_char_boundary.false))
+      (ap is_anchored (sym c.get_anchored.ensures) ∙ sym c.is_anchored.ensures ∙ c.if-is_anchored.false) (sym c.is_down-is_down.ensures ∙ c.if-is_down.false) c.set_start.new.self
+      (c.set_start.ensures ∙ ap (λ (b : ℕ). with_span (b + 1) c.loop-rest.rest.end c.loop-rest.rest) c.start.ensures.value);
 }
 
 pub returns-clause-search : goal.returns-clause-search

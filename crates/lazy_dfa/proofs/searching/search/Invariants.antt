@@ -1,6 +1,5 @@
-use Rattle.std.proofs.Common.{◌≡◌, ◌+◌, ◌-◌, ◌⊎◌}
+use Rattle.std.proofs.Common.{◌+◌, ◌-◌}
 use Rattle.lazy_dfa.specs.Caches.{IsCacheOf}
-use Rattle.lazy_dfa.specs.Dfas.{IsDfa, reader}
 use Rattle.lazy_dfa.proofs.SearchLemmas.{Stands}
 use Rattle.lazy_dfa.proofs.searching.search.Given as goal
 
