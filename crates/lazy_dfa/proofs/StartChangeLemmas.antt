@@ -1,5 +1,5 @@
 -- What start calls change of a cache, and which tag a start gets.
-use Rattle.std.proofs.Common.{◌≡◌, ◌≢◌, ℕ, ◌+◌, ◌*◌, ◌%◌, ◌/◌, ◌<◌, ◌≤◌, Bool, true, false, ◌⊎◌, List, [], ◌∷◌, length, get_or, set, replicate, refl, sym, ap, ◌∙◌, subst, inl, inr, ⊎_elim, arith, true≢false, Some, None, get_or-set_other}
+use Rattle.std.proofs.Common.{◌≡◌, ◌≢◌, ℕ, ◌*◌, ◌%◌, ◌/◌, ◌<◌, Bool, true, false, ◌⊎◌, length, get_or, set, refl, sym, ap, ◌∙◌, subst, inl, inr, ⊎_elim, arith, true≢false, Some, None, get_or-set_other}
 use Rattle.std.proofs.lemmas.Bool.{cases_eq}
 use Rattle.std.proofs.lemmas.Bool.Decides.{Decides-eqb}
 use Rattle.std.proofs.lemmas.Slice.Eq.{bytes_eq-Decides}
@@ -10,12 +10,12 @@ use Rattle.determinize_core.specs.declared.start.Start.{Start}
 use Rattle.lazy_dfa.specs.ConfigValue.{specializes}
 use Rattle.lazy_dfa.specs.Dfas.{Dfa, IsDfa, class_of, first_state, start_in, is_dead}
 use Rattle.lazy_dfa.specs.Ids.{tag, unknown_id, tagged, has_tag, start_tag}
-use Rattle.lazy_dfa.specs.Caches.{CacheValue, IsShaped, IsCacheOf, Names, names_dead, names_held, IsRow, same, place_of, state_at, slot, new_id, with_state, cleared}
+use Rattle.lazy_dfa.specs.Caches.{CacheValue, IsShaped, IsCacheOf, Names, names_dead, names_held, same, place_of, slot, new_id, with_state, cleared}
 use Rattle.lazy_dfa.specs.Steps.{IsHeld, Added, Grew, WasCleared}
 use Rattle.lazy_dfa.specs.StartCalls.{TagsStart, ClearedFor, PlacesStart, start_found, start_added}
 use Rattle.lazy_dfa.proofs.CacheLemmas.{IsShaped-cleared, fresh_at}
 use Rattle.lazy_dfa.proofs.ChangeLemmas.{added_refl, added_state, column, row_kept, cleared_few, same_grew}
-use Rattle.lazy_dfa.proofs.IsCacheLemmas.{alive_of, row_is_plain, names_starts, lt_of, le_of}
+use Rattle.lazy_dfa.proofs.IsCacheLemmas.{alive_of, row_is_plain, names_starts, le_of}
 
 -- ---- tags
 

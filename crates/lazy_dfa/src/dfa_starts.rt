@@ -90,8 +90,9 @@ impl DFA {
     /// The ID of the state in which a search starts, as `DFA::start_state`; the dead one for a pattern that there isn't.
     ///
     /// It is refused for a look-behind byte at which searches give up, else for a mode for which there are no starts, else
-    /// where the state has no room and no clear is allowed, and where memory lacks. The cache may be cleared: the IDs from
-    /// before are then to be asked of [`holds_id`](DFA::holds_id) again.
+    /// where the state has no room and no clear is allowed, which leaves the cache as it was, and where memory lacks. The
+    /// cache may be cleared: the start is held alone then, and the IDs from before are to be asked of
+    /// [`holds_id`](DFA::holds_id) again. A start that is known is answered at once.
     pub fn start_state<L: Ledger, M: Ledger>(
         &self,
         cache: &mut Cache,
