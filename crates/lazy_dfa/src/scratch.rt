@@ -1,6 +1,6 @@
 ghost use Rattle.std.specs.Prelude.{◌≡◌};
 
-#[tactic(auto, using(crate::proofs::SpanTurnLemmas::some_moved))]
+#[tactic(auto, using(crate::proofs::PassEndLemmas::ends_dead))]
 pub fn scratch(x: bool) -> bool
     ensures { result ≡ x }
 {
