@@ -10,11 +10,11 @@ use Rattle.lazy_dfa.specs.Scans.{unless_split, passes, first_place, scan}
 use Rattle.lazy_dfa.specs.ScanLaws.{begins_at, shorter}
 use Rattle.lazy_dfa.proofs.ScanLemmas.{scan_unanchored}
 
-next_up : (down : Bool) (s e : ℕ) → down ≡ false → first_place down (s + 1) e ≡ place_of down (first_place down s e) 1
+pub next_up : (down : Bool) (s e : ℕ) → down ≡ false → first_place down (s + 1) e ≡ place_of down (first_place down s e) 1
 next_up false s e is = refl
 next_up true s e is = let never : true ≡ false = is in absurd (grind (arith, never))
 
-next_down : (down : Bool) (s e : ℕ) → down ≡ true → first_place down s (e - 1) ≡ place_of down (first_place down s e) 1
+pub next_down : (down : Bool) (s e : ℕ) → down ≡ true → first_place down s (e - 1) ≡ place_of down (first_place down s e) 1
 next_down true s e is = refl
 next_down false s e is = let never : false ≡ true = is in absurd (grind (arith, never))
 

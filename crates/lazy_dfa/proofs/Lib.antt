@@ -37,6 +37,16 @@ pub mod LinkedLemmas
 pub mod PassEndLemmas
 pub mod CourseLemmas
 pub mod PointLemmas
+pub mod WholePassLemmas
 pub mod SpanLemmas
 pub mod SpanTurnLemmas
 pub mod TurnStepLemmas
+pub mod PassStartLemmas
+pub mod RunLemmas
+pub mod PassListLemmas
+pub mod AnswerLemmas
+pub mod SearchLemmas
+pub mod SearchEndLemmas
+pub mod HasReachLemmas
+pub mod SearchClauseLemmas
+pub mod PassLoopLemmas

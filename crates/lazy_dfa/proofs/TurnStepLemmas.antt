@@ -1,30 +1,28 @@
 -- One turn of a pass over a cache: what an ID says by its tags, and what a step by one unit makes of the pass.
-use Rattle.std.proofs.Common.{◌≡◌, ◌≢◌, ◌⊎◌, ℕ, zero, suc, ◌+◌, ◌*◌, ◌/◌, ◌%◌, ◌<◌, ◌≤◌, Bool, true, false, List, [], ◌∷◌, length, get_or, Option, Some, None, refl, sym, ap, ◌∙◌, subst, inl, inr, ⊎_elim, arith, true≢false}
-use Rattle.std.specs.Prelude.{◌&&◌, ◌==◌, not, nat_le, Result, Ok, Err, IsSome, if◌then◌else◌}
+use Rattle.std.proofs.Common.{◌≡◌, ◌≢◌, ℕ, ◌+◌, ◌*◌, ◌/◌, ◌%◌, ◌<◌, ◌≤◌, Bool, true, false, List, [], ◌∷◌, length, get_or, Option, Some, None, refl, sym, ap, ◌∙◌, subst, inl, inr, ⊎_elim, arith, true≢false}
+use Rattle.std.specs.Prelude.{◌&&◌, ◌==◌, not, nat_le, Result, Ok, Err, IsSome}
 use Rattle.std.proofs.lemmas.Bool.{cases_Bool}
 use Rattle.std.proofs.lemmas.Bool.Decides.{Decides-eqb}
-use Rattle.search_types.specs.Found.{HalfFound}
-use Rattle.nfa_core.specs.Ways.{place_of}
 use Rattle.determinize_core.specs.States.{StateValue, dead}
 use Rattle.determinize_core.specs.StateBytes.{is_match}
 use Rattle.determinize_core.specs.Steps.{unit_at}
 use Rattle.lazy_dfa.specs.Caches.{CacheValue, IsShaped, IsCacheOf, IsRow, HeldAt, Names, names_dead, names_held, Leads, begun_anew, state_at, lacks_room}
-use Rattle.lazy_dfa.specs.Courses.{state_behind, stops_behind}
+use Rattle.lazy_dfa.specs.Courses.{stops_behind}
 use Rattle.lazy_dfa.specs.declared.cache_error.CacheError.{CacheError}
 use Rattle.lazy_dfa.specs.declared.cache_error.CacheError.TheVariants.{GaveUp, NoMemory}
 use Rattle.lazy_dfa.specs.declared.progress.Progress.{Progress}
 use Rattle.lazy_dfa.specs.declared.turns.Seen.{Seen}
 use Rattle.lazy_dfa.specs.declared.turns.Turn.{Turn}
 use Rattle.lazy_dfa.specs.declared.turns.Turn.TheVariants.{GoesOn, Ends, Quits}
-use Rattle.lazy_dfa.specs.Dfas.{Dfa, IsUnit, after, reader}
-use Rattle.lazy_dfa.specs.Ids.{tag, has_tag, dead_tag, quit_tag, match_tag, tagged, dead_id, quit_id, unknown_id, is_sentinel}
-use Rattle.lazy_dfa.specs.Linked.{IsLinkedOver, HasCleared, IsMoved}
+use Rattle.lazy_dfa.specs.Dfas.{Dfa, after, reader}
+use Rattle.lazy_dfa.specs.Ids.{tag, has_tag, dead_tag, quit_tag, match_tag, tagged, dead_id, quit_id, is_sentinel}
+use Rattle.lazy_dfa.specs.Linked.{IsLinkedOver}
 use Rattle.lazy_dfa.specs.Passes.{is_empty, is_dead, recorded}
 use Rattle.lazy_dfa.specs.PassLaws.{unit_of}
 use Rattle.lazy_dfa.specs.Points.{Point, point}
 use Rattle.lazy_dfa.specs.Readers.{is_quit}
-use Rattle.lazy_dfa.specs.SearchAnswers.{pair_of, Told, told_of}
-use Rattle.lazy_dfa.specs.Steps.{IsHeld, StepsTo, Grew, WasCleared, KeepsOrClears, noted, IsKnown, IsNoted, GivesUp, IsStepCause, most_inserts}
+use Rattle.lazy_dfa.specs.SearchAnswers.{pair_of, told_of}
+use Rattle.lazy_dfa.specs.Steps.{IsHeld, Grew, WasCleared, noted, IsKnown, GivesUp, IsStepCause, most_inserts}
 use Rattle.lazy_dfa.specs.Turns.{Sees, sees_dead, sees_quit, sees_end, sees_on, IsStep, Leaves, FailsOn, StaysRunning, TellsTheSame, GoesOne, IsSeen, IsTurn}
 use Rattle.lazy_dfa.proofs.ChangeLemmas.{one_state}
 use Rattle.lazy_dfa.proofs.CourseLemmas.{state_behind_one, unmatched}
@@ -254,7 +252,7 @@ module _ (d : Dfa) (h : List ℕ) (old : CacheValue) (at id m1 n1 : ℕ) (u : Op
           fails_on GaveUp step,
           g.no_quit,
           λ s held. ap (λ (t : StateValue). lacks_room d new t) (state_behind_one d h at u is s)
-          ∙ (ap (λ (v : CacheValue). lacks_room d v (after d s u)) (step.gave_up refl) ∙ g.lacks s held),
+              ∙ (ap (λ (v : CacheValue). lacks_room d v (after d s u)) (step.gave_up refl) ∙ g.lacks s held),
         )
 
     -- ---- where it leads

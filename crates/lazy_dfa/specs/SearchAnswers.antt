@@ -101,12 +101,13 @@ made_by r q (p ∷ ps) = suc (pass_len r q.anchored q.earliest q.haystack p.0 p.
 -- ---- reach
 
 -- The place behind what a half search upwards read. From the byte before the span to there stands no quit byte, and under
--- leftmost-first it found the first end for each reading of looks that agrees with the one by ASCII bytes up to there.
+-- leftmost-first it found the first end for each reading of looks that agrees with the one by ASCII bytes up to there, if
+-- it wasn't done before it began.
 pub record IsReachOf (r : Reader) (q : Search) (o : Option (ℕ × ℕ)) (end : ℕ) : Type 0 where
   pub within : end ≤ suc q.end
   pub past : (e : ℕ × ℕ) → o ≡ Some e → e.0 < end
   pub quiet : (x : ℕ) → q.start ≤ x + 1 → x < end → is_quit r.quits (byte_at q.haystack x) ≡ false
-  pub first : (name : ℕ) (holds : Look → ℕ → Bool) → r.kind ≡ LeftmostFirst → q.earliest ≡ false → list_any is_capture r.automaton.states ≡ false →
+  pub first : (name : ℕ) (holds : Look → ℕ → Bool) → q.start ≤ q.end → r.kind ≡ LeftmostFirst → q.earliest ≡ false → list_any is_capture r.automaton.states ≡ false →
       start_name r.automaton q.anchored ≡ Some name → ReadsAlike r holds q.haystack q.start q.end (begins_at r q) (end - begins_at r q) →
       IsFirstFound r q holds name o
 

@@ -61,6 +61,13 @@ first_index down q = index_at down (first_place down q.start q.end)
 abbrev pub BeganFirst : Bool → Search → CacheValue → Type 0
 BeganFirst down q v = tells down q ≡ true → began v.progress ≡ Some (first_index down q)
 
+-- what a cache keeps of that when a pass has told it where it begins
+abbrev pub told_begun : Bool → Search → Told → Told
+told_begun down q t =
+    if tells down q
+    then record { searched = min (t.searched + progress_len t.progress) greatest; progress = Some (record { start = first_index down q; at = first_index down q }) }
+    else t
+
 -- the search that goes on ends at this place, and its length is added; or only where that is wanted
 abbrev pub finished : ℕ → CacheValue → CacheValue
 finished at v = record v { searched = min (v.searched + progress_len (moved_to at v.progress)) greatest; progress = None }
@@ -160,6 +167,8 @@ pub record StartsPass (d : Dfa) (q : Search) (old new : CacheValue) (m1 m2 n1 n2
   pub noted : IfOk r (λ id. (p : ℕ) → start_in d (mode_of q.anchored) ≡ Some p → start_noted d new (pass_start d q) ≡ id)
   pub known : (p : ℕ) → start_refusal d (pass_start d q) ≡ None → start_in d (mode_of q.anchored) ≡ Some p →
       start_noted d old (pass_start d q) ≢ unknown_id → r ≡ Ok (start_noted d old (pass_start d q))
+  pub refused : IsStartKnown d old (pass_start d q) →
+      IfErr r (λ e. Err e ≡ told (pass (reader d) q.anchored q.earliest q.haystack (span_len q) (begins_at (reader d) q)))
   pub same : IsStartKnown d old (pass_start d q) → (new ≡ old) × (m2 ≡ m1) × (n2 ≡ n1)
   pub determinized : m2 ≤ m1 + 1
   pub inserted : n2 ≤ n1 + most_inserts d

@@ -3,7 +3,7 @@ ghost use Rattle.std.specs.Prelude.{◌≡◌, ◌≢◌, ◌⊎◌, ◌+◌, �
 ghost use Rattle.determinize_core.specs.Starts.{start_of};
 ghost use Rattle.lazy_dfa.specs.Caches.{IsCacheOf};
 ghost use Rattle.lazy_dfa.specs.Dfas.{start_in};
-ghost use Rattle.lazy_dfa.specs.Ids.{unknown_id};
+ghost use Rattle.lazy_dfa.specs.Ids.{unknown_id, dead_id};
 ghost use Rattle.lazy_dfa.specs.declared.cache_error.CacheError.TheVariants.{GaveUp};
 ghost use Rattle.lazy_dfa.specs.declared.start_error.StartError.TheVariants.{Cache as CacheRefusal};
 ghost use Rattle.lazy_dfa.specs.StartCalls.{mode_of, behind_refusal, mode_refusal, start_refusal, start_error_of, start_noted, start_first, IsStart, IsStartKnown, IsStartCause, StartGivesUp, TagsStart, StartCleared};
@@ -106,6 +106,7 @@ impl DFA {
         ensures held { IfOk result (λ id. IsHeld cache.new id) }
         ensures noted { IfOk result (λ id. (q : ℕ) → start_in self.now (mode_of config.now.anchored) ≡ Some q → start_noted self.now cache.new config.now ≡ id) }
         ensures known { start_refusal self.now config.now ≡ None → (q : ℕ) → start_in self.now (mode_of config.now.anchored) ≡ Some q → start_noted self.now cache.old config.now ≢ unknown_id → result ≡ Ok (start_noted self.now cache.old config.now) }
+        ensures none { start_refusal self.now config.now ≡ None → start_in self.now (mode_of config.now.anchored) ≡ None → result ≡ Ok (dead_id cache.new.stride) }
         ensures same { IsStartKnown self.now cache.old config.now → cache.new ≡ cache.old }
         ensures free { IsStartKnown self.now cache.old config.now → work.new ≡ work.old }
         ensures kept { Grew self.now cache.old cache.new ⊎ WasCleared cache.old cache.new 1 }

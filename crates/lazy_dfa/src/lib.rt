@@ -34,7 +34,6 @@ mod quits;
 pub mod reach_laws;
 mod runs;
 pub mod scan_laws;
-mod scratch;
 mod search_starts;
 mod searching;
 mod start_error;

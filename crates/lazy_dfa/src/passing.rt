@@ -4,17 +4,18 @@ ghost use Rattle.nfa_core.specs.Ways.{place_of};
 ghost use Rattle.determinize_core.specs.States.{StateValue};
 ghost use Rattle.determinize_core.specs.Steps.{unit_at};
 ghost use Rattle.lazy_dfa.specs.Caches.{IsCacheOf, IsRow, HeldAt};
-ghost use Rattle.lazy_dfa.specs.MadePasses.{MakesPass};
+ghost use Rattle.lazy_dfa.specs.Linked.{IsMoved};
+ghost use Rattle.lazy_dfa.specs.MadePasses.{span_len, MakesPass};
 ghost use Rattle.lazy_dfa.specs.Passes.{index_at};
 ghost use Rattle.lazy_dfa.specs.Points.{point};
 ghost use Rattle.lazy_dfa.specs.Scans.{first_place};
-ghost use Rattle.lazy_dfa.specs.SearchAnswers.{pair_of};
-ghost use Rattle.lazy_dfa.specs.Stands.{IsWithinSpan, last_place, left_at, tells, finished_where, error_of, BeganFirst, GoesBetween, TurnsTo, RunsOn, StartsPass};
+ghost use Rattle.lazy_dfa.specs.SearchAnswers.{pair_of, told_of};
+ghost use Rattle.lazy_dfa.specs.Stands.{IsWithinSpan, last_place, left_at, tells, finished_where, error_of, told_begun, told_behind, BeganFirst, GoesBetween, TurnsTo, RunsOn, StartsPass};
 
 use crate::cache_error::CacheError;
 use crate::dfa::{Cache, DFA};
 use crate::lazy_id::LazyStateID;
-use crate::runs::{run_down, run_up};
+use crate::runs::{run_down, run_up, see_bytes};
 use crate::turns::{Turn, make_turn};
 use crate::work::Work;
 use search_types::{HalfMatch, Input, MatchError, MatchErrorKind};
@@ -295,6 +296,8 @@ fn go_on<L: Ledger, M: Ledger>(
     ensures runs { (s : StateValue) → HeldAt cache.old id s → RunsOn dfa.now input.now s
         (point cache.old work.old.determinized work.old.inserted (first_place is_down input.now.start input.now.end) id None) cache.new work.new.determinized work.new.inserted result }
 {
+    dfa.is_made();
+    see_bytes(input.haystack());
     let first = Stand {
         at: first_place(input, is_down),
         id,
@@ -333,6 +336,31 @@ fn start_of_pass<L: Ledger, M: Ledger>(
     }
 }
 
+/// Tells a cache where a pass begins.
+fn begin_at_first(cache: &mut Cache, input: &Input<'_>, is_down: bool)
+    ensures moved { IsMoved cache.old cache.new }
+    ensures told { told_of cache.new ≡ told_begun is_down input.now (told_of cache.old) }
+    ensures running { BeganFirst is_down input.now cache.new }
+{
+    if !tells(input, is_down) {
+        return;
+    }
+    cache.search_start(index_at(first_place(input, is_down), is_down));
+}
+
+/// Tells it that one begins there and reads nothing.
+fn end_at_first(cache: &mut Cache, input: &Input<'_>, is_down: bool)
+    ensures moved { IsMoved cache.old cache.new }
+    ensures told { told_of cache.new ≡ told_behind is_down (span_len input.now) (told_begun is_down input.now (told_of cache.old)) 0 }
+{
+    if !tells(input, is_down) {
+        return;
+    }
+    let index = index_at(first_place(input, is_down), is_down);
+    cache.search_start(index);
+    cache.search_finish(index);
+}
+
 /// A pass over a whole span.
 pub(crate) fn pass<L: Ledger, M: Ledger>(
     dfa: &DFA,
@@ -345,19 +373,16 @@ pub(crate) fn pass<L: Ledger, M: Ledger>(
     ensures own { IsCacheOf dfa.now cache.new }
     ensures pass { MakesPass dfa.now input.now cache.old cache.new work.old.determinized work.new.determinized work.old.inserted work.new.inserted result }
 {
+    dfa.is_made();
     let is_down = dfa.get_nfa().is_reverse();
     let id = match start_of_pass(dfa, cache, input, is_down, work) {
         Ok(id) => id,
         Err(e) => return Err(e),
     };
-    if tells(input, is_down) {
-        cache.search_start(index_at(first_place(input, is_down), is_down));
+    if id.is_dead() {
+        end_at_first(cache, input, is_down);
+        return Ok(None);
     }
-    if !id.is_dead() {
-        return go_on(dfa, cache, input, is_down, id, work);
-    }
-    if tells(input, is_down) {
-        cache.search_finish(index_at(first_place(input, is_down), is_down));
-    }
-    Ok(None)
+    begin_at_first(cache, input, is_down);
+    go_on(dfa, cache, input, is_down, id, work)
 }

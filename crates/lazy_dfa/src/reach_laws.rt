@@ -7,7 +7,7 @@ ghost use Rattle.search_types.specs.Inputs.{Search};
 ghost use Rattle.search_types.specs.declared.anchored.Anchored.{Anchored};
 ghost use Rattle.search_types.specs.declared.match_kind.MatchKind.TheVariants.{LeftmostFirst};
 ghost use Rattle.nfa_core.specs.Nfa.{IsWellFormed};
-ghost use Rattle.nfa_core.specs.NfaValue.{is_capture};
+ghost use Rattle.nfa_core.specs.NfaValue.{is_capture, IsSound};
 ghost use Rattle.nfa_core.specs.Places.{first};
 ghost use Rattle.nfa_core.specs.Reaches.{read_by};
 ghost use Rattle.nfa_core.specs.Ways.{span, bytes_left, ends_from};
@@ -15,6 +15,7 @@ ghost use Rattle.lazy_dfa.specs.Readers.{Reader, found, is_quit};
 ghost use Rattle.lazy_dfa.specs.Passes.{start_name, pass};
 ghost use Rattle.lazy_dfa.specs.PassLaws.{pass_len};
 ghost use Rattle.lazy_dfa.specs.Scans.{scan};
+ghost use Rattle.lazy_dfa.specs.SearchAnswers.{HasReach};
 ghost use Rattle.lazy_dfa.specs.ScanLaws.{begins_at, IsFirstFound, ReadsAlike, IsInPass, IsInReach, Agree, scan_len};
 
 /// A pass depends on the bytes in its reach alone: the one behind its first place and those of the units that it reads.
@@ -59,4 +60,12 @@ pub fn scans_depend_on_their_reach()
     ensures place { (r : Reader) (q : Search) (e : ℕ × ℕ) → scan r q ≡ found (Some e) → IsInReach r q e.0 }
     ensures within { (r : Reader) (q : Search) (x : ℕ) → IsInReach r q x → (q.start ≤ x + 1) × (x ≤ q.end) }
     ensures few { (r : Reader) (q : Search) → scan_len r q ≤ suc (q.end - q.start) }
+{}
+
+/// A half search upwards that finds a match or none has a place up to which it read: behind what it found, one past the
+/// byte behind the span at most. From the byte before the span to there stands no quit byte, and under leftmost-first it
+/// found the first end for each reading of looks that agrees with the one by ASCII bytes up to there.
+pub fn scans_reach_a_place()
+    ensures { (r : Reader) (q : Search) (o : Option (ℕ × ℕ)) → r.automaton.reverse ≡ false → IsSound r.automaton → q.end ≤ length q.haystack →
+        scan r q ≡ found o → HasReach r q o }
 {}

@@ -1,11 +1,16 @@
 //! Runs over known steps: the loops in which searches spend their time. They only read.
-ghost use Rattle.std.specs.Prelude.{◌≡◌, ℕ, ◌-◌, ◌<◌, ◌≤◌, false, true, length, Option};
+ghost use Rattle.std.specs.Prelude.{◌≡◌, ℕ, ◌-◌, ◌<◌, ◌≤◌, false, true, length, Option, slice_index_or};
 ghost use Rattle.lazy_dfa.specs.Caches.{IsCacheOf, IsRow};
 ghost use Rattle.lazy_dfa.specs.Ids.{tag};
 ghost use Rattle.lazy_dfa.specs.Points.{GoesTo, point};
 
 use crate::dfa::{Cache, DFA};
 use crate::lazy_id::LazyStateID;
+
+/// The bytes of a haystack are bytes.
+pub(crate) fn see_bytes(bytes: &[u8])
+    ensures { (at : ℕ) → slice_index_or bytes.now at 0 < 256 }
+{}
 
 /// How far a run came, and to which state.
 #[derive(Clone, Copy)]

@@ -3,7 +3,7 @@ ghost use Rattle.std.specs.Prelude.{◌≡◌, ◌≢◌, ◌⊎◌, ◌-◌, �
 ghost use Rattle.lazy_dfa.specs.Caches.{IsCacheOf};
 ghost use Rattle.search_types.specs.declared.match_error.MatchErrorKind.TheVariants.{GaveUp as SearchGaveUp};
 ghost use Rattle.lazy_dfa.specs.Dfas.{start_in};
-ghost use Rattle.lazy_dfa.specs.Ids.{unknown_id};
+ghost use Rattle.lazy_dfa.specs.Ids.{unknown_id, dead_id};
 ghost use Rattle.lazy_dfa.specs.StartCalls.{mode_of, start_refusal, start_noted, start_first, IsStartKnown, StartGivesUp, TagsStart, StartCleared};
 ghost use Rattle.lazy_dfa.specs.SearchStarts.{AnswersStart, error_at, forward_start, reverse_start};
 ghost use Rattle.lazy_dfa.specs.Steps.{IsHeld, Grew, WasCleared, most_inserts};
@@ -43,6 +43,7 @@ fn start_at<L: Ledger, M: Ledger>(
     ensures held { IfOk result (λ id. IsHeld cache.new id) }
     ensures noted { IfOk result (λ id. (q : ℕ) → start_in dfa.now (mode_of config.now.anchored) ≡ Some q → start_noted dfa.now cache.new config.now ≡ id) }
     ensures known { start_refusal dfa.now config.now ≡ None → (q : ℕ) → start_in dfa.now (mode_of config.now.anchored) ≡ Some q → start_noted dfa.now cache.old config.now ≢ unknown_id → result ≡ Ok (start_noted dfa.now cache.old config.now) }
+    ensures none { start_refusal dfa.now config.now ≡ None → start_in dfa.now (mode_of config.now.anchored) ≡ None → result ≡ Ok (dead_id cache.new.stride) }
     ensures same { IsStartKnown dfa.now cache.old config.now → cache.new ≡ cache.old }
     ensures free { IsStartKnown dfa.now cache.old config.now → work.new ≡ work.old }
     ensures kept { Grew dfa.now cache.old cache.new ⊎ WasCleared cache.old cache.new 1 }
@@ -78,6 +79,7 @@ impl DFA {
         ensures held { IfOk result (λ id. IsHeld cache.new id) }
         ensures noted { IfOk result (λ id. (q : ℕ) → start_in self.now (mode_of (forward_start input.now).anchored) ≡ Some q → start_noted self.now cache.new (forward_start input.now) ≡ id) }
         ensures known { start_refusal self.now (forward_start input.now) ≡ None → (q : ℕ) → start_in self.now (mode_of (forward_start input.now).anchored) ≡ Some q → start_noted self.now cache.old (forward_start input.now) ≢ unknown_id → result ≡ Ok (start_noted self.now cache.old (forward_start input.now)) }
+        ensures none { start_refusal self.now (forward_start input.now) ≡ None → start_in self.now (mode_of (forward_start input.now).anchored) ≡ None → result ≡ Ok (dead_id cache.new.stride) }
         ensures same { IsStartKnown self.now cache.old (forward_start input.now) → cache.new ≡ cache.old }
         ensures free { IsStartKnown self.now cache.old (forward_start input.now) → work.new ≡ work.old }
         ensures kept { Grew self.now cache.old cache.new ⊎ WasCleared cache.old cache.new 1 }
@@ -108,6 +110,7 @@ impl DFA {
         ensures held { IfOk result (λ id. IsHeld cache.new id) }
         ensures noted { IfOk result (λ id. (q : ℕ) → start_in self.now (mode_of (reverse_start input.now).anchored) ≡ Some q → start_noted self.now cache.new (reverse_start input.now) ≡ id) }
         ensures known { start_refusal self.now (reverse_start input.now) ≡ None → (q : ℕ) → start_in self.now (mode_of (reverse_start input.now).anchored) ≡ Some q → start_noted self.now cache.old (reverse_start input.now) ≢ unknown_id → result ≡ Ok (start_noted self.now cache.old (reverse_start input.now)) }
+        ensures none { start_refusal self.now (reverse_start input.now) ≡ None → start_in self.now (mode_of (reverse_start input.now).anchored) ≡ None → result ≡ Ok (dead_id cache.new.stride) }
         ensures same { IsStartKnown self.now cache.old (reverse_start input.now) → cache.new ≡ cache.old }
         ensures free { IsStartKnown self.now cache.old (reverse_start input.now) → work.new ≡ work.old }
         ensures kept { Grew self.now cache.old cache.new ⊎ WasCleared cache.old cache.new 1 }

@@ -1,10 +1,11 @@
 //! Half searches: passes one after the other.
-ghost use Rattle.std.specs.Prelude.{◌≡◌, ◌⊎◌, ◌+◌, ◌*◌, ◌<◌, ◌≤◌, ℕ, Option, false, true, None, IfOk, IfErr, OnOk};
+ghost use Rattle.std.specs.Prelude.{slice_index_or, ◌≡◌, ◌⊎◌, ◌+◌, ◌*◌, ◌<◌, ◌≤◌, ℕ, Option, false, true, None, IfOk, IfErr, OnOk};
 ghost use Rattle.search_types.specs.declared.match_error.MatchErrorKind.TheVariants.{NoMemory};
+ghost use Rattle.search_types.specs.Inputs.{IsWithin};
 ghost use Rattle.search_types.specs.Modes.{is_supported};
 ghost use Rattle.lazy_dfa.specs.Caches.{IsCacheOf, greatest};
 ghost use Rattle.lazy_dfa.specs.ConfigValue.{clears_of};
-ghost use Rattle.lazy_dfa.specs.Dfas.{reader};
+ghost use Rattle.lazy_dfa.specs.Dfas.{IsDfa, reader};
 ghost use Rattle.lazy_dfa.specs.Linked.{IsLinked, GrowsOrClears, IsMoved, passes_of};
 ghost use Rattle.lazy_dfa.specs.MadePasses.{MakesSearch};
 ghost use Rattle.lazy_dfa.specs.ScanLaws.{HasNoQuitNear, pass_count, unit_count};
@@ -14,6 +15,7 @@ ghost use Rattle.lazy_dfa.specs.Steps.{most_inserts};
 
 use crate::dfa::{Cache, DFA};
 use crate::passing::pass;
+use crate::runs::see_bytes;
 use crate::work::Work;
 use search_types::{HalfMatch, Input, MatchError};
 use std::sync::ledger::Ledger;
@@ -29,6 +31,21 @@ fn same_input<'h>(input: &Input<'h>) -> Input<'h>
     same
 }
 
+/// Whether it reads downwards.
+fn is_down(dfa: &DFA) -> bool
+    ensures { result ≡ (reader dfa.now).automaton.reverse }
+{
+    dfa.get_nfa().is_reverse()
+}
+
+/// Whether an end inside a character doesn't count.
+fn is_between_characters(dfa: &DFA) -> bool
+    ensures { result ≡ (reader dfa.now).between_characters }
+{
+    let nfa = dfa.get_nfa();
+    nfa.is_utf8() && nfa.has_empty()
+}
+
 /// A half search: a pass, and while its end doesn't count another one over a byte less.
 fn search<L: Ledger, M: Ledger>(
     dfa: &DFA,
@@ -37,12 +54,15 @@ fn search<L: Ledger, M: Ledger>(
     work: &mut Work<L, M>,
 ) -> Result<Option<HalfMatch>, MatchError>
     requires { IsCacheOf dfa.now cache.old }
+    ensures made { IsDfa dfa.now }
+    ensures within { IsWithin input.now }
     ensures own { IsCacheOf dfa.now cache.new }
     ensures search { MakesSearch dfa.now input.now cache.old cache.new work.old.determinized work.new.determinized work.old.inserted work.new.inserted result }
 {
-    let nfa = dfa.get_nfa();
-    let is_down = nfa.is_reverse();
-    let between_characters = nfa.is_utf8() && nfa.has_empty();
+    dfa.is_made();
+    see_bytes(input.haystack());
+    let is_down = is_down(dfa);
+    let between_characters = is_between_characters(dfa);
     let mut rest = same_input(input);
     while !rest.is_done() {
         let found = match pass(dfa, cache, &rest, work) {

@@ -1,0 +1,83 @@
+-- How far a half search upwards came when it found a match or none.
+use Rattle.std.proofs.Common.{◌≡◌, ℕ, zero, suc, ◌+◌, ◌-◌, ◌<◌, ◌≤◌, Bool, true, false, List, [], ◌∷◌, length, Option, Some, None, refl, sym, ap, ◌∙◌, ⊎_elim, subst, arith}
+use Rattle.std.specs.Prelude.{All, slice_get}
+use Rattle.std.proofs.lemmas.List.Elements.{All-head, All-tail}
+use Rattle.search_types.specs.declared.anchored.Anchored.{Anchored}
+use Rattle.search_types.specs.declared.anchored.Anchored.TheVariants.{No, Yes, Pattern}
+use Rattle.search_types.specs.Inputs.{Search}
+use Rattle.nfa_core.specs.Nfa.{Automaton}
+use Rattle.nfa_core.specs.NfaValue.{IsSound}
+use Rattle.lazy_dfa.specs.Passes.{start_name}
+use Rattle.lazy_dfa.specs.Readers.{Reader, found}
+use Rattle.lazy_dfa.specs.ScanLaws.{IsReached, begins_at, scan_len, ReadsAlike}
+use Rattle.lazy_dfa.specs.Scans.{first_place, scan}
+use Rattle.lazy_dfa.specs.SearchAnswers.{IsReachOf, HasReach}
+use Rattle.lazy_dfa.proofs.FoundLemmas.{scan_finds_first}
+use Rattle.lazy_dfa.proofs.IntervalReachLemmas.{scan_is_quiet, scan_place_is_reached}
+use Rattle.lazy_dfa.proofs.ReachLemmas.{scan_few}
+use Rattle.lazy_dfa.proofs.ScanLemmas.{scan_done, le_or_done}
+use Rattle.lazy_dfa.proofs.TurnLemmas.{one_found}
+
+-- ---- where a search starts
+
+one_of : (P : ℕ → Type 0) (xs : List ℕ) (k x : ℕ) → All P xs → slice_get xs k ≡ Some x → P x
+one_of P [] k x all e = let never : true ≡ false = cc in absurd (grind (arith, never))
+one_of P (y ∷ ys) zero x all e = let same : y ≡ x = cc in subst P same (All-head P y ys all)
+one_of P (y ∷ ys) (suc k) x all e = one_of P ys k x (All-tail P y ys all) e
+
+some_is : (x y : ℕ) → Some x ≡ Some y → x ≡ y
+some_is x y e = cc
+
+-- a state in which a search starts is one of the automaton's
+pub start_is_state : (a : Automaton) (mode : Anchored) (name : ℕ) → IsSound a → start_name a mode ≡ Some name → name < length a.states
+start_is_state a No name sound e = subst (λ (x : ℕ). x < length a.states) (some_is a.start_unanchored name e) sound.unanchored
+start_is_state a Yes name sound e = subst (λ (x : ℕ). x < length a.states) (some_is a.start_anchored name e) sound.anchored
+start_is_state a (Pattern p) name sound e = one_of (λ (x : ℕ). x < length a.states) a.start_pattern p name sound.starts e
+
+-- ---- places
+
+reached_up : (down : Bool) (s e n x : ℕ) → down ≡ false → s ≤ x + 1 → x < s + n → IsReached down (first_place down s e) n x
+reached_up false s e n x up from to = (from, to)
+reached_up true s e n x up from to = let never : true ≡ false = up in absurd (grind (arith, never))
+
+below_reach : (down : Bool) (s e n x : ℕ) → down ≡ false → IsReached down (first_place down s e) n x → x < s + n
+below_reach false s e n x up there = there.1
+below_reach true s e n x up there = let never : true ≡ false = up in absurd (grind (arith, never))
+
+same_length : (down : Bool) (s e n : ℕ) → down ≡ false → s + n - first_place down s e ≡ n
+same_length false s e n up = omega arith
+same_length true s e n up = let never : true ≡ false = up in absurd (grind (arith, never))
+
+-- ---- reaches
+
+module _ (r : Reader) (q : Search) (o : Option (ℕ × ℕ)) (up : r.automaton.reverse ≡ false) (sound : IsSound r.automaton)
+    (within : q.end ≤ length q.haystack) (is : scan r q ≡ found o) where
+  abbrev len : ℕ
+  len = scan_len r q
+
+  reach_begun : q.start ≤ q.end → IsReachOf r q o (q.start + len)
+  reach_begun fits = record {
+    within = let few = scan_few r q in omega (arith, fits, few);
+    past = λ e same. below_reach r.automaton.reverse q.start q.end len e.0 up (scan_place_is_reached r q e (is ∙ ap found same)).1;
+    quiet = λ x from to. scan_is_quiet r q o within is x (fits, reached_up r.automaton.reverse q.start q.end len x up from to);
+    first = λ name holds begun leftmost late plain named alike.
+        scan_finds_first r q name sound.named fits within named (start_is_state r.automaton q.anchored name sound named) leftmost late plain holds
+        (subst (λ (n : ℕ). ReadsAlike r holds q.haystack q.start q.end (begins_at r q) n) (same_length r.automaton.reverse q.start q.end len up) alike) o is;
+  }
+
+  reach_done : q.end < q.start → IsReachOf r q o 0
+  reach_done past = record {
+    within = omega arith;
+    past = λ e same. let never : true ≡ false = nothing e (one_found None o (sym (scan_done r q past) ∙ is) ∙ same) in absurd (grind (arith, never));
+    quiet = λ x from to. absurd (omega (arith, to));
+    first = λ name holds begun leftmost late plain named alike. absurd (omega (arith, past, begun));
+  }
+    where
+      nothing : (e : ℕ × ℕ) → None ≡ Some e → true ≡ false
+      nothing e never = cc
+
+  pub scan_has_reach : HasReach r q o
+  scan_has_reach = ⊎_elim
+      (λ (fits : q.start ≤ q.end). (q.start + len, reach_begun fits))
+      (λ (past : q.end < q.start). (0, reach_done past))
+      (le_or_done r q q.start q.end)

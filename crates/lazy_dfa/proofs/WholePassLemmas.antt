@@ -1,0 +1,382 @@
+-- A whole pass: its start, and what comes of it behind that.
+use Rattle.std.proofs.Common.{◌≡◌, ◌≢◌, ◌⊎◌, ℕ, suc, ◌+◌, ◌-◌, ◌*◌, ◌/◌, ◌%◌, ◌<◌, ◌≤◌, ◌==◌, ◌&&◌, not, Bool, true, false, List, Option, Some, None, Result, Ok, Err, if◌then◌else◌, refl, sym, ap, ◌∙◌, subst, inl, inr, ⊎_elim, arith, true≢false}
+use Rattle.std.specs.Prelude.{min, nat_le, OnOk}
+use Rattle.std.proofs.lemmas.Bool.{cases_Bool, cases_lt, eqb-true}
+use Rattle.std.proofs.lemmas.Bool.Decides.{leb_tells}
+use Rattle.std.proofs.Math.Nat.{min-eq_left, min-eq_right, suc-mul}
+use Rattle.search_types.specs.declared.anchored.Anchored.{Anchored}
+use Rattle.search_types.specs.declared.match_error.MatchErrorKind.{MatchErrorKind}
+use Rattle.search_types.specs.declared.match_error.MatchErrorKind.TheVariants.{GaveUp, NoMemory}
+use Rattle.search_types.specs.Found.{HalfFound}
+use Rattle.search_types.specs.Inputs.{Search}
+use Rattle.search_types.specs.Modes.{is_supported}
+use Rattle.determinize_core.specs.States.{StateValue, dead}
+use Rattle.determinize_core.specs.Starts.{StartValue}
+use Rattle.determinize_core.specs.Steps.{unit_behind}
+use Rattle.lazy_dfa.specs.Caches.{CacheValue, IsShaped, IsCacheOf, HeldAt, Names, names_dead, names_held, greatest, progress_len, lacks_room}
+use Rattle.lazy_dfa.specs.ConfigValue.{starts_each_of}
+use Rattle.lazy_dfa.specs.Courses.{state_behind}
+use Rattle.lazy_dfa.specs.declared.start_error.StartError.{StartError}
+use Rattle.lazy_dfa.specs.declared.start_error.StartError.TheVariants.{UnsupportedAnchored}
+use Rattle.lazy_dfa.specs.Dfas.{Dfa, IsDfa, reader, start_in}
+use Rattle.lazy_dfa.specs.Ids.{tag, unknown_id, dead_id, has_tag, dead_tag}
+use Rattle.lazy_dfa.specs.Linked.{IsLinkedOver, start_from, IsLinkedPass, Grows, HasCleared, GrowsOrClears, IsMoved}
+use Rattle.lazy_dfa.specs.MadePasses.{span_len, MakesPass}
+use Rattle.lazy_dfa.specs.Passes.{is_dead, index_behind, if_supported, start_name, first_value, pass, pass_from}
+use Rattle.lazy_dfa.specs.PassLaws.{units_read, pass_len}
+use Rattle.lazy_dfa.specs.Points.{point}
+use Rattle.lazy_dfa.specs.Readers.{HalfAnswer, found, is_quit}
+use Rattle.lazy_dfa.specs.Scans.{first_place}
+use Rattle.lazy_dfa.specs.ScanLaws.{begins_at}
+use Rattle.lazy_dfa.specs.SearchAnswers.{told, give_up_place, GivesUpIn, at_start, at_unit, Told, told_of, pass_distance, told_by_pass}
+use Rattle.lazy_dfa.specs.Stands.{tells, first_index, told_begun, told_behind, RunsOn, pass_start, StartsPass}
+use Rattle.lazy_dfa.specs.StartCalls.{mode_of, quit_refusal, behind_refusal, mode_refusal, start_refusal, start_slot, start_noted, IsStartKnown}
+use Rattle.lazy_dfa.specs.Steps.{Grew, WasCleared, most_inserts}
+use Rattle.lazy_dfa.proofs.IsCacheLemmas.{row_is_plain}
+use Rattle.lazy_dfa.proofs.LinkedLemmas.{grows_trans, grew_grows, has_cleared, start_grows_of, cleared_grows, grows_or_clears_trans, moved_trans, moved_same, names_moved, grows_moved, linked_moved, linked_none, held_named}
+use Rattle.lazy_dfa.proofs.PassEndLemmas.{ends_dead}
+use Rattle.lazy_dfa.proofs.PassQuitLemmas.{reads_all}
+use Rattle.lazy_dfa.proofs.PassStartLemmas.{named_alike, starts_dead}
+use Rattle.lazy_dfa.proofs.PointLemmas.{held_known}
+use Rattle.lazy_dfa.proofs.StartCallLemmas.{mode_fine}
+use Rattle.lazy_dfa.proofs.TurnLemmas.{goes_on, goes_in_mode}
+
+none_or_not : {X : Type 0} (o : Option X) → (o ≡ None) ⊎ (o ≢ None)
+none_or_not None = inl refl
+none_or_not (Some x) = inr (λ e. absurd cc)
+
+none_or_some : (o : Option ℕ) → (o ≡ None) ⊎ ((p : ℕ) × (o ≡ Some p))
+none_or_some None = inl refl
+none_or_some (Some p) = inr (p, refl)
+
+on_ok : {A B X Y : Type 0} (r : Result A B) → (X → Y) → OnOk r X → OnOk r Y
+on_ok (Ok a) f x = f x
+on_ok (Err e) f x = tt
+
+abbrev are_same : Result ℕ MatchErrorKind → Result ℕ MatchErrorKind → Type 0
+are_same r s = r ≡ s
+
+one_ok : (a b : ℕ) → are_same (Ok a) (Ok b) → a ≡ b
+one_ok a b e = cc
+
+-- ---- what a pass tells
+
+no_zero : (n : ℕ) → 0 < n → (n == 0) ≡ false
+no_zero n l = ⊎_elim
+    (λ (e : (n == 0) ≡ true). let z = eqb-true n 0 e in absurd (omega (arith, l, z)))
+    (λ (e : (n == 0) ≡ false). e)
+    (cases_Bool (n == 0))
+
+none_left : (s e : ℕ) → nat_le e s ≡ (e - s == 0)
+none_left s e = ⊎_elim
+    (λ (p : (nat_le e s ≡ true) × (e ≤ s)). let l = p.1 in let z : e - s ≡ 0 = omega (arith, l) in p.0 ∙ sym (ap (λ (n : ℕ). n == 0) z))
+    (λ (p : (nat_le e s ≡ false) × (s < e)). let l = p.1 in p.0 ∙ sym (no_zero (e - s) (omega (arith, l))))
+    (leb_tells e s)
+
+min_twice : (a k g : ℕ) → min (min a g + k) g ≡ min (a + k) g
+min_twice a k g = ⊎_elim
+    (λ (l : a < g). ap (λ (n : ℕ). min (n + k) g) (min-eq_left (omega (arith, l))))
+    (λ (l : g ≤ a).
+    ap (λ (n : ℕ). min (n + k) g) (min-eq_right l) ∙ (min-eq_right (omega arith) ∙ sym (min-eq_right (omega (arith, l)))))
+    (cases_lt a g)
+
+abbrev begun : ℕ → Told → Told
+begun at t = record { searched = min (t.searched + progress_len t.progress) greatest; progress = Some (record { start = at; at = at }) }
+
+abbrev ended : ℕ → ℕ → Told
+ended searched k = record { searched = min (searched + k) greatest; progress = None }
+
+parts_told : (none : Bool) (t : Told) (at k : ℕ) →
+    (if none then (if not none then begun at t else t) else ended (if not none then begun at t else t).searched k) ≡
+    (if none then t else ended (t.searched + progress_len t.progress) k)
+parts_told true t at k = refl
+parts_told false t at k = ap (λ (n : ℕ). record { searched = n; progress = None }) (min_twice (t.searched + progress_len t.progress) k greatest)
+
+-- what it tells at its start and at its end, together
+whole_told : (down : Bool) (q : Search) (t : Told) (units : ℕ) → told_behind down (span_len q) (told_begun down q t) units ≡
+    (if down && span_len q == 0 then t else ended (t.searched + progress_len t.progress) (pass_distance down (span_len q) units))
+whole_told down q t units =
+    ap (λ (b : Bool). told_behind down (span_len q) (if not (down && b) then begun (first_index down q) t else t) units) (none_left q.start q.end)
+    ∙ parts_told (down && span_len q == 0) t (first_index down q) (pass_distance down (span_len q) units)
+
+-- ---- dead IDs
+
+eqb_of : (n : ℕ) → n ≡ 1 → (n == 1) ≡ true
+eqb_of n e = ap (λ (m : ℕ). m == 1) e
+
+no_tag : (id : ℕ) → id < 0x2000_0000 → has_tag dead_tag id ≡ true → ⊥
+no_tag id l e = let f : (id / dead_tag) % 2 ≡ 1 = eqb-true ((id / dead_tag) % 2) 1 e in omega (arith, l, f)
+
+-- an ID with the tag of the dead state names it
+pub dead_named : (v : CacheValue) (id : ℕ) (s : StateValue) → IsShaped v → has_tag dead_tag id ≡ true → Names v id s → is_dead s ≡ true
+dead_named v id s i e (names_dead f g) = ap is_dead g
+dead_named v id s i e (names_held h) = absurd (no_tag id (row_is_plain v id h.0 i h.1 h.2) e)
+
+-- and one without it a row
+pub row_named : (d : Dfa) (v w : CacheValue) (id : ℕ) (s : StateValue) → IsShaped v → IsMoved v w → has_tag dead_tag id ≡ false → Names v id s → HeldAt w id s
+row_named d v w id s i moved e n = by (names_moved d v w moved id s n)
+  where
+    untagged : id ≡ dead_id v.stride → has_tag dead_tag id ≡ true
+    untagged f = eqb_of ((id / dead_tag) % 2) (omega (arith, f, i.narrow))
+
+    by : Names w id s → HeldAt w id s
+    by (names_held h) = h
+    by (names_dead f g) = absurd (true≢false (sym (untagged (f ∙ ap dead_id (ap (λ (x : CacheValue). x.stride) moved))) ∙ e))
+
+-- ---- starts
+
+module _ (d : Dfa) (mode : Anchored) (h : List ℕ) (i : ℕ) where
+  abbrev told_start : StartValue
+  told_start = start_from (reader d) mode h i
+
+  quiet_behind : (o : Option ℕ) (rest : Option StartError) → behind_refusal d o rest ≡ None → is_quit d.quits o ≡ false
+  quiet_behind None rest e = refl
+  quiet_behind (Some b) rest e = by (is_quit d.quits (Some b)) refl e
+    where
+      by : (quits : Bool) → is_quit d.quits (Some b) ≡ quits → quit_refusal quits b rest ≡ None → is_quit d.quits (Some b) ≡ false
+      by true is e = absurd cc
+      by false is e = is
+
+  fits_mode : (fit : Bool) → (if fit then None else Some (UnsupportedAnchored mode)) ≡ None → fit ≡ true
+  fits_mode true e = refl
+  fits_mode false e = absurd cc
+
+  is_fit : start_refusal d told_start ≡ None → is_supported (starts_each_of d.options) mode ≡ true
+  is_fit none = fits_mode (is_supported (starts_each_of d.options) mode) (mode_fine d told_start none)
+
+  -- a pass whose start isn't refused goes on from its first state
+  plain_pass : (earliest : Bool) (n : ℕ) → start_refusal d told_start ≡ None →
+      pass (reader d) mode earliest h n i ≡ pass_from (reader d) earliest h (suc n) i (first_value (reader d) mode h i) None
+  plain_pass earliest n none =
+      goes_on d.quits (unit_behind d.nfa.automaton.reverse h i) (index_behind d.nfa.automaton.reverse i)
+      (if_supported (is_supported (starts_each_of d.options) mode) mode (pass_from (reader d) earliest h (suc n) i (first_value (reader d) mode h i) None))
+      (quiet_behind (unit_behind d.nfa.automaton.reverse h i) (mode_refusal d mode) none)
+      ∙ goes_in_mode (is_supported (starts_each_of d.options) mode) mode (pass_from (reader d) earliest h (suc n) i (first_value (reader d) mode h i) None) (is_fit none)
+
+  plain_len : (earliest : Bool) (n : ℕ) → start_refusal d told_start ≡ None →
+      units_read (reader d) earliest h (suc n) i (first_value (reader d) mode h i) ≡ pass_len (reader d) mode earliest h n i
+  plain_len earliest n none = reads_all (reader d) mode earliest h n i (is_fit none)
+
+  dead_first : start_in d (mode_of mode) ≡ None → first_value (reader d) mode h i ≡ dead
+  dead_first e = starts_dead d (unit_behind d.nfa.automaton.reverse h i) (start_name d.nfa.automaton mode) (sym (named_alike d mode) ∙ e)
+
+  -- a pass whose path is known makes nothing at its start
+  pub linked_start : (v : CacheValue) (earliest : Bool) (n : ℕ) → IsLinkedPass d v mode earliest h n i → IsStartKnown d v told_start
+  linked_start v earliest n linked = ⊎_elim
+      (λ (none : start_refusal d told_start ≡ None). ⊎_elim
+      (λ (e : start_in d (mode_of mode) ≡ None). inr (inl e))
+      (λ (s : (p : ℕ) × (start_in d (mode_of mode) ≡ Some p)). inr (inr (linked s.0 none s.1).start))
+      (none_or_some (start_in d (mode_of mode))))
+      (λ (some : start_refusal d told_start ≢ None). inl some)
+      (none_or_not (start_refusal d told_start))
+
+-- what a pass costs of which the start and each unit make a state
+one_more : (a b c k m : ℕ) → b ≤ a + m → c ≤ b + k * m → c ≤ a + suc k * m
+one_more a b c k m f g = let e = suc-mul k m in omega (arith, e, f, g)
+
+one_at_most : (a b k m : ℕ) → b ≤ a + m → b ≤ a + suc k * m
+one_at_most a b k m f = let e = suc-mul k m in omega (arith, e, f)
+
+-- ---- a start that is refused
+
+module _ (d : Dfa) (q : Search) (old new : CacheValue) (m1 m2 n1 n2 : ℕ) (e : MatchErrorKind) (start : StartsPass d q old new m1 m2 n1 n2 (Err e)) where
+  abbrev at : ℕ
+  at = begins_at (reader d) q
+
+  abbrev whole : HalfAnswer
+  whole = pass (reader d) q.anchored q.earliest q.haystack (span_len q) at
+
+  abbrev length : ℕ
+  length = pass_len (reader d) q.anchored q.earliest q.haystack (span_len q) at
+
+  pub refused_pass : MakesPass d q old new m1 m2 n1 n2 (Err e)
+  refused_pass = record {
+    answer = ⊎_elim
+        (λ (x : (start_refusal d (pass_start d q) ≢ None) × (Err e ≡ told whole)). inl x.1)
+        (λ (x : (e ≡ NoMemory) ⊎ ((e ≡ GaveUp at) × (lacks_room d new (first_value (reader d) q.anchored q.haystack at) ≡ true))). inr (⊎_elim
+        (λ (f : e ≡ NoMemory). inl (ap Err f))
+        (λ (f : (e ≡ GaveUp at) × (lacks_room d new (first_value (reader d) q.anchored q.haystack at) ≡ true)). inr (at, ap Err f.0, at_start refl f.1))
+        x))
+        start.err;
+    kept = start_grows_of d old new start.kept;
+    follows = tt;
+    free = λ linked.
+        let known = linked_start d q.anchored q.haystack at old q.earliest (span_len q) linked in
+        let same = start.same known in
+        (moved_same old new same.0, same.1, same.2, start.refused known);
+    determinized = let l = start.determinized in omega (arith, l);
+    inserted = one_at_most n1 n2 length (most_inserts d) start.inserted;
+  }
+
+-- ---- a start that is told
+
+same_told : (d : Dfa) (a b : CacheValue) → Grew d a b → told_of b ≡ told_of a
+same_told d a b g = λ n. record { searched = g.searched n; progress = g.progress n }
+
+module _ (d : Dfa) (q : Search) (old mid : CacheValue) (m1 m n1 n id : ℕ) (made : IsDfa d) (own : IsCacheOf d old) (mine : IsCacheOf d mid)
+    (start : StartsPass d q old mid m1 m n1 n (Ok id)) where
+  abbrev from : ℕ
+  from = begins_at (reader d) q
+
+  abbrev first : StateValue
+  first = first_value (reader d) q.anchored q.haystack from
+
+  abbrev units : ℕ
+  units = units_read (reader d) q.earliest q.haystack (suc (span_len q)) from first
+
+  abbrev rest : HalfAnswer
+  rest = pass_from (reader d) q.earliest q.haystack (suc (span_len q)) from first None
+
+  abbrev all : ℕ
+  all = pass_len (reader d) q.anchored q.earliest q.haystack (span_len q) from
+
+  is_rest : pass (reader d) q.anchored q.earliest q.haystack (span_len q) from ≡ rest
+  is_rest = plain_pass d q.anchored q.haystack from q.earliest (span_len q) start.start.0
+
+  same_len : units ≡ all
+  same_len = plain_len d q.anchored q.haystack from q.earliest (span_len q) start.start.0
+
+  id_known : id ≢ unknown_id
+  id_known = held_known mid id mine.shape (held_named mid id first start.start.1)
+
+  module _ (here new : CacheValue) (m2 n2 : ℕ) (result : Result (Option HalfFound) MatchErrorKind) (moved : IsMoved mid here)
+      (tells_start : told_of here ≡ told_begun d.nfa.automaton.reverse q (told_of mid)) (runs : RunsOn d q first (point here m n from id None) new m2 n2 result) where
+    from_mid : GrowsOrClears d mid new
+    from_mid = grows_or_clears_trans d mid here new made mine (inl (grows_moved d mid here moved)) runs.kept
+
+    linked_behind : Grows d mid new → IsLinkedOver d new q.haystack from id units → IsLinkedPass d new q.anchored q.earliest q.haystack (span_len q) from
+    linked_behind grows linked p none named =
+        let slot : start_noted d mid (pass_start d q) ≡ id = start.noted p named in
+        let noted : start_noted d new (pass_start d q) ≡ id = grows.starts (start_slot d (pass_start d q)) (λ z. id_known (sym slot ∙ z)) ∙ slot in
+        subst (λ (x : ℕ). IsLinkedOver d new q.haystack from x all) (sym noted) (subst (IsLinkedOver d new q.haystack from id) same_len linked)
+
+    told_behind_all : Grew d old mid → told_of new ≡ told_behind d.nfa.automaton.reverse (span_len q) (told_of here) units →
+        told_of new ≡ told_by_pass (reader d) q.anchored q.earliest q.haystack (told_of old) (span_len q, from)
+    told_behind_all g e =
+        e
+        ∙ (ap (λ (t : Told). told_behind d.nfa.automaton.reverse (span_len q) t units) (tells_start ∙ ap (told_begun d.nfa.automaton.reverse q) (same_told d old mid g))
+        ∙ (whole_told d.nfa.automaton.reverse q (told_of old) units
+        ∙ ap (λ (k : ℕ). if d.nfa.automaton.reverse && span_len q == 0 then told_of old else ended (old.searched + progress_len old.progress) (pass_distance d.nfa.automaton.reverse (span_len q) k)) same_len))
+
+    abbrev Followed : Type 0
+    Followed = Grows d here new × IsLinkedOver d new q.haystack from id units × (told_of new ≡ told_behind d.nfa.automaton.reverse (span_len q) (told_of here) units)
+
+    abbrev FollowedPass : Type 0
+    FollowedPass = Grows d old new × IsLinkedPass d new q.anchored q.earliest q.haystack (span_len q) from ×
+        (told_of new ≡ told_by_pass (reader d) q.anchored q.earliest q.haystack (told_of old) (span_len q, from))
+
+    followed : Grew d old mid → Followed → FollowedPass
+    followed g f =
+        let grows = grows_trans d mid here new made mine (grows_moved d mid here moved) f.0 in
+        (grows_trans d old mid new made own (grew_grows d old mid g) grows, linked_behind grows f.1, told_behind_all g f.2)
+
+    -- a clear at the start, or behind it
+    clear_first : WasCleared old mid 1 → HasCleared old new
+    clear_first w = cleared_grows d old mid new (has_cleared old mid 1 w) from_mid
+
+    clear_later : Grew d old mid → HasCleared here new → HasCleared old new
+    clear_later g x =
+        subst (λ (n : ℕ). min (n + 1) greatest ≤ new.clears) ((grows_moved d mid here moved).clears ∙ g.clears) x
+
+    followed_or_cleared : Followed ⊎ HasCleared here new → FollowedPass ⊎ HasCleared old new
+    followed_or_cleared f = ⊎_elim
+        (λ (g : Grew d old mid). ⊎_elim (λ (x : Followed). inl (followed g x)) (λ (x : HasCleared here new). inr (clear_later g x)) f)
+        (λ (w : WasCleared old mid 1). inr (clear_first w))
+        start.kept
+
+    -- where the path was known
+    known_path : IsMoved old here → IsLinkedPass d old q.anchored q.earliest q.haystack (span_len q) from → IsLinkedOver d here q.haystack from id units
+    known_path still linked = ⊎_elim
+        (λ (e : start_in d (mode_of q.anchored) ≡ None).
+        let gone = ap is_dead (dead_first d q.anchored q.haystack from e) in
+        let nothing = ends_dead (reader d) q.earliest q.haystack from first 0 (suc (span_len q)) None (omega arith) (λ k l. absurd (omega (arith, l))) (λ k l. absurd (omega (arith, l))) gone in
+        subst (IsLinkedOver d here q.haystack from id) (sym nothing.1) (linked_none d here q.haystack from id id_known))
+        (λ (s : (p : ℕ) × (start_in d (mode_of q.anchored) ≡ Some p)).
+        let path = linked s.0 start.start.0 s.1 in
+        let same : id ≡ start_noted d old (pass_start d q) = one_ok id (start_noted d old (pass_start d q)) (start.known s.0 start.start.0 s.1 path.start) in
+        linked_moved d old here still q.haystack from id units
+        (subst (λ (x : ℕ). IsLinkedOver d old q.haystack from x units) (sym same)
+        (subst (IsLinkedOver d old q.haystack from (start_noted d old (pass_start d q))) (sym same_len) path)))
+        (none_or_some (start_in d (mode_of q.anchored)))
+
+    free_pass : IsLinkedPass d old q.anchored q.earliest q.haystack (span_len q) from →
+        IsMoved old new × (m2 ≡ m1) × (n2 ≡ n1) × (result ≡ told (pass (reader d) q.anchored q.earliest q.haystack (span_len q) from))
+    free_pass linked =
+        let same = start.same (linked_start d q.anchored q.haystack from old q.earliest (span_len q) linked) in
+        let still = moved_trans old mid here (moved_same old mid same.0) moved in
+        let f = runs.free (known_path still linked) in
+        (moved_trans old here new still f.0, f.1 ∙ same.1, f.2 ∙ same.2, f.3 ∙ ap told (sym is_rest))
+
+    answered : (result ≡ told (pass (reader d) q.anchored q.earliest q.haystack (span_len q) from)) ⊎ (result ≡ Err NoMemory) ⊎
+        ((x : ℕ) × (result ≡ Err (GaveUp x)) × GivesUpIn d new q.anchored q.earliest q.haystack (span_len q) from x)
+    answered = ⊎_elim
+        (λ (e : result ≡ told rest). inl (e ∙ ap told (sym is_rest)))
+        (λ (e : (result ≡ Err NoMemory) ⊎ ((x k : ℕ) × (result ≡ Err (GaveUp x)) × (k < units) ×
+        (x ≡ give_up_place d.nfa.automaton.reverse (span_len q) from k) × (lacks_room d new (state_behind (reader d) q.haystack from first (suc k)) ≡ true))).
+        inr (⊎_elim
+        (λ (f : result ≡ Err NoMemory). inl f)
+        (λ (g : (x k : ℕ) × (result ≡ Err (GaveUp x)) × (k < units) ×
+        (x ≡ give_up_place d.nfa.automaton.reverse (span_len q) from k) × (lacks_room d new (state_behind (reader d) q.haystack from first (suc k)) ≡ true)).
+        inr (g.0, g.2, at_unit g.1 (subst (λ (l : ℕ). g.1 < l) same_len g.3) g.4 g.5))
+        e))
+        runs.answer
+
+    pub makes_pass : MakesPass d q old new m1 m2 n1 n2 result
+    makes_pass = record {
+      answer = answered;
+      kept = grows_or_clears_trans d old mid new made own (start_grows_of d old mid start.kept) from_mid;
+      follows = on_ok result followed_or_cleared runs.follows;
+      free = free_pass;
+      determinized = let a = start.determinized in let b = runs.determinized in let l = same_len in omega (arith, a, b, l);
+      inserted = one_more n1 n n2 all (most_inserts d) start.inserted (subst (λ (k : ℕ). n2 ≤ n + k * most_inserts d) same_len runs.inserted);
+    }
+
+  abbrev here : CacheValue
+  here = record mid {
+    searched = (told_begun d.nfa.automaton.reverse q (told_of mid)).searched;
+    progress = (told_begun d.nfa.automaton.reverse q (told_of mid)).progress;
+  }
+
+  -- the first state is dead: nothing is read
+  pub makes_dead_pass : (new : CacheValue) → has_tag dead_tag id ≡ true → IsMoved mid new →
+      told_of new ≡ told_behind d.nfa.automaton.reverse (span_len q) (told_begun d.nfa.automaton.reverse q (told_of mid)) 0 → MakesPass d q old new m1 m n1 n (Ok None)
+  makes_dead_pass new tagged moved e =
+      makes_pass here new m n (Ok None) refl refl (record {
+        answer = inl is_none;
+        kept = inl (grows_moved d here new still);
+        follows = inl (
+          grows_moved d here new still,
+          subst (IsLinkedOver d new q.haystack from id) (sym nothing.1) (linked_none d new q.haystack from id id_known),
+          e ∙ ap (told_behind d.nfa.automaton.reverse (span_len q) (told_of here)) (sym nothing.1),
+        );
+        free = λ l. (still, refl, refl, is_none);
+        determinized = omega arith;
+        inserted = omega arith;
+      })
+    where
+      still : IsMoved here new
+      still = moved
+
+      gone : is_dead first ≡ true
+      gone = dead_named mid id first mine.shape tagged start.start.1
+
+      nothing : (rest ≡ found None) × (units ≡ 0)
+      nothing = ends_dead (reader d) q.earliest q.haystack from first 0 (suc (span_len q)) None (omega arith) (λ k l. absurd (omega (arith, l))) (λ k l. absurd (omega (arith, l))) gone
+
+      is_none : Ok None ≡ told rest
+      is_none = sym (ap told nothing.0)
+
+  -- the same in words of code that knows in which direction it reads
+  module _ (down : Bool) (is : down ≡ d.nfa.automaton.reverse) (new : CacheValue) where
+    pub goes_dead : has_tag dead_tag id ≡ true → IsMoved mid new → told_of new ≡ told_behind down (span_len q) (told_begun down q (told_of mid)) 0 → MakesPass d q old new m1 m n1 n (Ok None)
+    goes_dead tagged moved e =
+        makes_dead_pass new tagged moved (subst (λ (b : Bool). told_of new ≡ told_behind b (span_len q) (told_begun b q (told_of mid)) 0) is e)
+
+    pub goes_further : (here : CacheValue) (m2 n2 : ℕ) (result : Result (Option HalfFound) MatchErrorKind) → has_tag dead_tag id ≡ false → IsMoved mid here →
+        told_of here ≡ told_begun down q (told_of mid) →
+        ((s : StateValue) → HeldAt here id s → RunsOn d q s (point here m n (first_place down q.start q.end) id None) new m2 n2 result) →
+        MakesPass d q old new m1 m2 n1 n2 result
+    goes_further here m2 n2 result untagged moved e runs =
+        makes_pass here new m2 n2 result moved (subst (λ (b : Bool). told_of here ≡ told_begun b q (told_of mid)) is e)
+        (subst (λ (b : Bool). RunsOn d q first (point here m n (first_place b q.start q.end) id None) new m2 n2 result) is
+        (runs first (row_named d mid here id first mine.shape moved untagged start.start.1)))
