@@ -1,15 +1,15 @@
 -- Runs and turns of a pass in its span, and what they tell a cache.
-use Rattle.std.proofs.Common.{◌≡◌, ◌≢◌, ◌⊎◌, ℕ, zero, suc, ◌+◌, ◌-◌, ◌<◌, ◌≤◌, Bool, true, false, ◌&&◌, not, List, [], ◌∷◌, Option, Some, None, refl, sym, ap, ◌∙◌, subst, inl, inr, ⊎_elim, arith}
+use Rattle.std.proofs.Common.{◌≡◌, ◌⊎◌, ℕ, zero, suc, ◌-◌, ◌<◌, ◌≤◌, Bool, true, false, ◌&&◌, not, List, [], ◌∷◌, Option, Some, None, refl, sym, ap, subst, ⊎_elim, arith}
 use Rattle.std.specs.Option.{option_or}
 use Rattle.nfa_core.specs.Ways.{place_of}
 use Rattle.nfa_core.specs.Places.{first}
 use Rattle.determinize_core.specs.States.{StateValue}
 use Rattle.determinize_core.specs.Walked.{end_at}
 use Rattle.search_types.specs.Inputs.{Search}
-use Rattle.lazy_dfa.specs.Caches.{CacheValue, IsCacheOf, IsRow, HeldAt, names_held}
-use Rattle.lazy_dfa.specs.Courses.{state_behind, best_behind, stops_behind, HasNoStop}
+use Rattle.lazy_dfa.specs.Caches.{CacheValue, IsCacheOf, IsRow, names_held}
+use Rattle.lazy_dfa.specs.Courses.{state_behind, best_behind, HasNoStop}
 use Rattle.lazy_dfa.specs.Dfas.{Dfa, reader}
-use Rattle.lazy_dfa.specs.Passes.{is_empty, recorded}
+use Rattle.lazy_dfa.specs.Passes.{is_empty}
 use Rattle.lazy_dfa.specs.Points.{GoesTo, point}
 use Rattle.lazy_dfa.specs.Readers.{Reader}
 use Rattle.lazy_dfa.specs.Stands.{left_at, GoesBetween}
@@ -38,7 +38,7 @@ module _ (r : Reader) (h : List ℕ) (i : ℕ) (s : StateValue) where
       ⊎_elim
       (λ (less : k < n). none_there n both.1 k less)
       (λ (same : k ≡ n). subst (λ (j : ℕ). is_empty (state_behind r h i s (suc j)).matches ≡ true) (sym same)
-          (none_listed (place_of r.automaton.reverse i n) (state_behind r h i s (suc n)).matches both.0))
+      (none_listed (place_of r.automaton.reverse i n) (state_behind r h i s (suc n)).matches both.0))
       (below k n l)
     where
       below : (k n : ℕ) → k < suc n → (k < n) ⊎ (k ≡ n)

@@ -1,5 +1,5 @@
 -- Turns of a pass in its span: what is carried over to a cache in which only searches came further, and what they tell it.
-use Rattle.std.proofs.Common.{◌≡◌, ◌≢◌, ◌⊎◌, ℕ, zero, suc, ◌+◌, ◌-◌, ◌<◌, ◌≤◌, ◌==◌, Bool, true, false, ◌&&◌, not, if◌then◌else◌, nat_le, List, length, get_or, is_some, Option, Some, None, Err, refl, sym, ap, ◌∙◌, subst, inl, inr, ⊎_elim, arith, true≢false}
+use Rattle.std.proofs.Common.{◌≡◌, ◌≢◌, ◌⊎◌, ℕ, suc, ◌+◌, ◌-◌, ◌<◌, ◌≤◌, ◌==◌, Bool, true, false, ◌&&◌, not, if◌then◌else◌, nat_le, List, length, get_or, is_some, Option, Some, None, Err, refl, sym, ap, ◌∙◌, subst, inl, inr, ⊎_elim, arith, true≢false}
 use Rattle.std.specs.Prelude.{min, IsSome}
 use Rattle.std.proofs.lemmas.Bool.{cases_lt, cases_Bool, eqb-true, eq-eqb}
 use Rattle.std.proofs.lemmas.Option.{slice_get-get_or}
@@ -20,7 +20,7 @@ use Rattle.lazy_dfa.specs.declared.progress.Progress.{Progress}
 use Rattle.lazy_dfa.specs.declared.turns.Turn.{Turn}
 use Rattle.lazy_dfa.specs.declared.turns.Turn.TheVariants.{GoesOn, Ends, Quits}
 use Rattle.lazy_dfa.specs.Dfas.{Dfa, reader}
-use Rattle.lazy_dfa.specs.Linked.{Grows, HasCleared, GrowsOrClears, IsMoved, IsLinkedOver}
+use Rattle.lazy_dfa.specs.Linked.{Grows, HasCleared, GrowsOrClears, IsMoved}
 use Rattle.lazy_dfa.specs.MadePasses.{span_len}
 use Rattle.lazy_dfa.specs.Passes.{index_at, is_dead}
 use Rattle.lazy_dfa.specs.Points.{Point, began, Follows, GoesTo, point}
@@ -313,11 +313,12 @@ module _ (d : Dfa) (q : Search) (down : Bool) (same : down ≡ d.nfa.automaton.r
   refused_so : (earliest : Bool) (place : ℕ) (e : CacheError) → IsMoved v0 v1 → u ≡ unit_at d.nfa.automaton.reverse q.haystack at → place ≡ gave_up_at d.nfa.automaton.reverse q at →
       IsTurn d earliest q.haystack u before v2 m2 n2 (Err e) → TurnsTo d q from v2 m2 n2 (Err (error_of place e))
   refused_so earliest place NoMemory moved is there turn = fails_back d v0 v1 moved q.haystack m1 n1 at id best v2 m2 n2 0 turn
-  refused_so earliest place GaveUp moved is there turn =
-      (fails_back d v0 v1 moved q.haystack m1 n1 at id best v2 m2 n2 0 turn.0
-      , ap (is_quit d.quits) (sym is) ∙ turn.1
-      , there
-      , λ s held. turn.2 s (held_moved v0 v1 id s moved held))
+  refused_so earliest place GaveUp moved is there turn = (
+    fails_back d v0 v1 moved q.haystack m1 n1 at id best v2 m2 n2 0 turn.0,
+    ap (is_quit d.quits) (sym is) ∙ turn.1,
+    there,
+    λ s held. turn.2 s (held_moved v0 v1 id s moved held),
+  )
 
   -- a turn that was refused
   pub turn_refused : (earliest : Bool) (place : ℕ) (e : CacheError) (err : MatchErrorKind) → IsMoved v0 v1 → u ≡ unit_at d.nfa.automaton.reverse q.haystack at →
@@ -341,11 +342,12 @@ module _ (d : Dfa) (q : Search) (down : Bool) (same : down ≡ d.nfa.automaton.r
     turn_quits v3 b index err moved after is some here told e =
         let x = seen_as Quits e in
         let byte : x.2.0 ≡ b = one_byte x.2.0 b (sym x.2.1 ∙ some) in
-        subst (λ (o : MatchErrorKind). TurnsTo d q from v3 m2 n2 (Err o)) (sym told)
-        (leaves_forth d q.haystack from v2 v3 m2 n2 0 after (leaves_back d v0 v1 moved q.haystack m1 n1 at id best v2 m2 n2 0 x.0)
-        , sym is ∙ some
-        , ap (has d.quits) (sym byte) ∙ x.2.2
-        , index_there index here)
+        subst (λ (o : MatchErrorKind). TurnsTo d q from v3 m2 n2 (Err o)) (sym told) (
+          leaves_forth d q.haystack from v2 v3 m2 n2 0 after (leaves_back d v0 v1 moved q.haystack m1 n1 at id best v2 m2 n2 0 x.0),
+          sym is ∙ some,
+          ap (has d.quits) (sym byte) ∙ x.2.2,
+          index_there index here,
+        )
       where
         one_byte : (a b : ℕ) → Some a ≡ Some b → a ≡ b
         one_byte a b e = cc
@@ -365,13 +367,14 @@ module _ (d : Dfa) (q : Search) (down : Bool) (same : down ≡ d.nfa.automaton.r
         ((s : StateValue) → HeldAt v0 id s → stops_behind (reader d) q.earliest q.haystack at s 0 ≡ false)
     byte_goes index next moved place left e =
         let x = seen_as GoesOn e in
-        let m = moved_is v0 v1 index moved in
-        (goes_back d v0 v1 m q.haystack m1 n1 at id best (point v2 m2 n2 (place_of d.nfa.automaton.reverse at 1) to best2) 1 (ap (λ (c : CacheValue). c.searched) moved)
-        (ap (λ (c : CacheValue). began c.progress) moved ∙ began_moved index v0.progress) (some_moved v0 v1 index moved) x.0
-        , place ∙ ap (λ (b : Bool). place_of b at 1) same
-        , (λ z. left (z ∙ ap (λ (b : Bool). last_place b q) (sym same)))
-        , x.2
-        , λ s held. x.3 s (held_moved v0 v1 id s m held))
+        let m = moved_is v0 v1 index moved in (
+          goes_back d v0 v1 m q.haystack m1 n1 at id best (point v2 m2 n2 (place_of d.nfa.automaton.reverse at 1) to best2) 1 (ap (λ (c : CacheValue). c.searched) moved)
+              (ap (λ (c : CacheValue). began c.progress) moved ∙ began_moved index v0.progress) (some_moved v0 v1 index moved) x.0,
+          place ∙ ap (λ (b : Bool). place_of b at 1) same,
+          (λ z. left (z ∙ ap (λ (b : Bool). last_place b q) (sym same))),
+          x.2,
+          λ s held. x.3 s (held_moved v0 v1 id s m held),
+        )
 
     -- by a byte, with which it ends
     pub byte_ends : (v3 : CacheValue) (index : ℕ) → index ≡ index_at down at → v1 ≡ record v0 { progress = moved_to index v0.progress } → v3 ≡ finished index v2 →

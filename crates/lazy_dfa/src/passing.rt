@@ -91,7 +91,8 @@ fn tells(input: &Input<'_>, is_down: bool) -> bool
     !(is_down && input.end() <= input.start())
 }
 
-/// Whether it tells so before its last step: one who reads down does, since its last byte is behind it by then.
+/// Whether it tells that before its last turn: downwards it does, where it tells anything, since its last byte is read by
+/// then.
 fn tells_before(input: &Input<'_>, is_down: bool) -> bool
     ensures { result ≡ is_down && tells is_down input.now }
 {
@@ -175,9 +176,12 @@ fn byte_turn<L: Ledger, M: Ledger>(
     let haystack = input.haystack();
     let index = index_at(stand.at, is_down);
     let byte = haystack[index];
+    let unit = Some(byte);
     let earliest = input.get_earliest();
     cache.search_update(index);
-    let seen = match make_turn(dfa, cache, stand.id, Some(byte), stand.at, stand.best, earliest, work) {
+    let seen = match make_turn(
+        dfa, cache, stand.id, unit, stand.at, stand.best, earliest, work,
+    ) {
         Ok(seen) => seen,
         Err(e) => return Err(refusal(e, index)),
     };
@@ -187,10 +191,16 @@ fn byte_turn<L: Ledger, M: Ledger>(
         best: seen.best,
     };
     match seen.turn {
-        Turn::GoesOn => Ok(Turned { stand: next, has_ended: false }),
+        Turn::GoesOn => Ok(Turned {
+            stand: next,
+            has_ended: false,
+        }),
         Turn::Ends => {
             cache.search_finish(index);
-            Ok(Turned { stand: next, has_ended: true })
+            Ok(Turned {
+                stand: next,
+                has_ended: true,
+            })
         }
         Turn::Quits => {
             cache.search_finish(index);
@@ -220,7 +230,9 @@ fn last_turn<L: Ledger, M: Ledger>(
     let unit = unit_at(input.haystack(), stand.at, is_down);
     let earliest = input.get_earliest();
     finish_where(cache, stand.at, tells_before(input, is_down));
-    let seen = match make_turn(dfa, cache, stand.id, unit, stand.at, stand.best, earliest, work) {
+    let seen = match make_turn(
+        dfa, cache, stand.id, unit, stand.at, stand.best, earliest, work,
+    ) {
         Ok(seen) => seen,
         Err(e) => return Err(refusal(e, stand.at)),
     };
@@ -234,7 +246,10 @@ fn last_turn<L: Ledger, M: Ledger>(
         id: seen.id,
         best: seen.best,
     };
-    Ok(Turned { stand: last, has_ended: true })
+    Ok(Turned {
+        stand: last,
+        has_ended: true,
+    })
 }
 
 /// A turn by the unit at a place.

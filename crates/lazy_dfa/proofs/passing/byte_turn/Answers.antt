@@ -1,4 +1,4 @@
-use Rattle.std.proofs.Common.{◌∙◌, ap, refl, get_or, Some}
+use Rattle.std.proofs.Common.{refl, get_or, Some}
 use Rattle.lazy_dfa.specs.SearchAnswers.{pair_of}
 use Rattle.lazy_dfa.proofs.LinkedLemmas.{is_cache_moved}
 use Rattle.lazy_dfa.proofs.SpanTurnLemmas.{byte_unit, moved_is, some_moved, finished_moves, gave_up_byte, turn_refused, turn_quits, some_behind, some_kept, byte_goes, byte_ends}

@@ -30,8 +30,8 @@ pub returns : goal.returns
 returns g c = record {
   own = is_cache_moved c.args.dfa.now c.make_turn.new.cache c.finish_where-2.new.cache (finished_where_moves c.make_turn.new.cache c.finish_where-2.new.cache c.args.stand.at (not c.args.is_down) c.finish_where-2.ensures) c.in-Ok.ensures.own;
   turn = last_ends c.args.dfa.now c.args.input.now c.args.is_down c.requires.down c.args.cache.now c.finish_where.new.cache c.make_turn.new.cache c.args.work.now.determinized c.args.work.now.inserted
-    c.make_turn.new.work.determinized c.make_turn.new.work.inserted c.args.stand.at c.args.stand.id (pair_of c.args.stand.best) c.unit_at-unit.result
-    c.in-Ok.seen.id (pair_of c.in-Ok.seen.best) c.get_earliest-earliest.result c.in-Ok.seen.turn c.get_earliest-earliest.ensures
-    (c.in-Ok.ensures.turn c.args.input.now.haystack (c.unit_at-unit.ensures ∙ (ap (λ (h : List ℕ). unit_at c.args.is_down h c.args.stand.at) c.haystack.ensures.value ∙ ap (λ (b : Bool). unit_at b c.args.input.now.haystack c.args.stand.at) c.requires.down)))
-    c.finish_where-2.new.cache (c.finish_where.ensures ∙ ap (λ (b : Bool). finished_where b c.args.stand.at c.args.cache.now) c.tells_before.ensures) c.finish_where-2.ensures c.requires.last c.requires.begun c.in_default.not-Quits;
+      c.make_turn.new.work.determinized c.make_turn.new.work.inserted c.args.stand.at c.args.stand.id (pair_of c.args.stand.best) c.unit_at-unit.result
+      c.in-Ok.seen.id (pair_of c.in-Ok.seen.best) c.get_earliest-earliest.result c.in-Ok.seen.turn c.get_earliest-earliest.ensures
+      (c.in-Ok.ensures.turn c.args.input.now.haystack (c.unit_at-unit.ensures ∙ (ap (λ (h : List ℕ). unit_at c.args.is_down h c.args.stand.at) c.haystack.ensures.value ∙ ap (λ (b : Bool). unit_at b c.args.input.now.haystack c.args.stand.at) c.requires.down)))
+      c.finish_where-2.new.cache (c.finish_where.ensures ∙ ap (λ (b : Bool). finished_where b c.args.stand.at c.args.cache.now) c.tells_before.ensures) c.finish_where-2.ensures c.requires.last c.requires.begun c.in_default.not-Quits;
 }
