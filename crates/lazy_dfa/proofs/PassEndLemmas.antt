@@ -1,14 +1,13 @@
 -- How a pass goes on through the units that it reads, and how it ends.
-use Rattle.std.proofs.Common.{◌≡◌, ℕ, zero, suc, ◌+◌, ◌-◌, ◌<◌, ◌≤◌, Bool, true, false, ◌&&◌, not, List, [], ◌∷◌, Option, Some, None, if◌then◌else◌, refl, sym, ap, ◌∙◌, arith, ◌⊎◌, ⊎_elim}
+use Rattle.std.proofs.Common.{◌≡◌, ℕ, zero, suc, ◌+◌, ◌-◌, ◌<◌, ◌≤◌, Bool, true, false, List, Option, Some, if◌then◌else◌, refl, sym, ap, ◌∙◌, arith, ◌⊎◌, ⊎_elim}
 use Rattle.std.proofs.lemmas.Bool.{cases_Bool}
 use Rattle.search_core.specs.ByteSets.{has}
 use Rattle.nfa_core.specs.Ways.{place_of}
 use Rattle.determinize_core.specs.States.{StateValue}
-use Rattle.determinize_core.specs.Steps.{unit_at}
 use Rattle.lazy_dfa.specs.Courses.{state_behind, best_behind, IsRead, AreRead, stops_behind, HasNoStop}
-use Rattle.lazy_dfa.specs.Passes.{index_at, is_empty, is_dead, unless_quit, recorded, next_value, next_place, pass_from}
+use Rattle.lazy_dfa.specs.Passes.{index_at, is_dead, unless_quit, recorded, next_place, pass_from}
 use Rattle.lazy_dfa.specs.PassLaws.{units_read, unit_of}
-use Rattle.lazy_dfa.specs.Readers.{Reader, HalfAnswer, found, quit, is_quit}
+use Rattle.lazy_dfa.specs.Readers.{Reader, HalfAnswer, found, quit}
 use Rattle.lazy_dfa.proofs.TurnLemmas.{place_zero, place_next, goes_on}
 
 quits_here : (quits : List Bool) (u : Option ℕ) (index b : ℕ) (rest : HalfAnswer) → u ≡ Some b → has quits b ≡ true → unless_quit quits u index rest ≡ quit b index
@@ -138,29 +137,32 @@ module _ (r : Reader) (earliest : Bool) (h : List ℕ) (i : ℕ) (v : StateValue
 
   pub ends_dead : (m n : ℕ) (best : Option (ℕ × ℕ)) → m ≤ n → AreRead r h i v m → HasNoStop r earliest h i v m → is_dead (state m) ≡ true →
       (pass_from r earliest h n i v best ≡ found (best_at best m)) × (units_read r earliest h n i v ≡ m)
-  ends_dead m n best l read free e =
-      (ap (λ (k : ℕ). pass_from r earliest h k i v best) (split m n l) ∙ (goes m (n - m) best read free ∙ dead_at (n - m) m (best_at best m) e)
-      , ap (λ (k : ℕ). units_read r earliest h k i v) (split m n l) ∙ (goes_units m (n - m) read free ∙ (ap (λ (k : ℕ). m + k) (dead_units (n - m) m e) ∙ none m)))
+  ends_dead m n best l read free e = (
+    ap (λ (k : ℕ). pass_from r earliest h k i v best) (split m n l) ∙ (goes m (n - m) best read free ∙ dead_at (n - m) m (best_at best m) e),
+    ap (λ (k : ℕ). units_read r earliest h k i v) (split m n l) ∙ (goes_units m (n - m) read free ∙ (ap (λ (k : ℕ). m + k) (dead_units (n - m) m e) ∙ none m)),
+  )
     where
       none : (m : ℕ) → m + 0 ≡ m
       none m = omega arith
 
   pub ends_stop : (m n : ℕ) (best : Option (ℕ × ℕ)) → m < n → AreRead r h i v (suc m) → HasNoStop r earliest h i v m → stops m ≡ true →
       (pass_from r earliest h n i v best ≡ found (best_at best (suc m))) × (units_read r earliest h n i v ≡ suc m)
-  ends_stop m n best l read free e =
-      (ap (λ (k : ℕ). pass_from r earliest h k i v best) (one_less m n l) ∙ (goes m (suc (n - m - 1)) best (fewer m read) free
-      ∙ one_stop (n - m - 1) m (best_at best m) (read m (omega arith)) e)
-      , ap (λ (k : ℕ). units_read r earliest h k i v) (one_less m n l) ∙ (goes_units m (suc (n - m - 1)) (fewer m read) free
-      ∙ (ap (λ (k : ℕ). m + k) (stop_units (n - m - 1) m (read m (omega arith)).alive e) ∙ one m)))
+  ends_stop m n best l read free e = (
+    ap (λ (k : ℕ). pass_from r earliest h k i v best) (one_less m n l) ∙ (goes m (suc (n - m - 1)) best (fewer m read) free
+        ∙ one_stop (n - m - 1) m (best_at best m) (read m (omega arith)) e),
+    ap (λ (k : ℕ). units_read r earliest h k i v) (one_less m n l) ∙ (goes_units m (suc (n - m - 1)) (fewer m read) free
+        ∙ (ap (λ (k : ℕ). m + k) (stop_units (n - m - 1) m (read m (omega arith)).alive e) ∙ one m)),
+  )
     where
       one : (m : ℕ) → m + 1 ≡ suc m
       one m = omega arith
 
   ends_all : (n : ℕ) (best : Option (ℕ × ℕ)) → AreRead r h i v n → HasNoStop r earliest h i v n →
       (pass_from r earliest h n i v best ≡ found (best_at best n)) × (units_read r earliest h n i v ≡ n)
-  ends_all n best read free =
-      (ap (λ (k : ℕ). pass_from r earliest h k i v best) (whole n) ∙ (goes n 0 best read free ∙ none_left n (best_at best n))
-      , ap (λ (k : ℕ). units_read r earliest h k i v) (whole n) ∙ (goes_units n 0 read free ∙ sym (whole n)))
+  ends_all n best read free = (
+    ap (λ (k : ℕ). pass_from r earliest h k i v best) (whole n) ∙ (goes n 0 best read free ∙ none_left n (best_at best n)),
+    ap (λ (k : ℕ). units_read r earliest h k i v) (whole n) ∙ (goes_units n 0 read free ∙ sym (whole n)),
+  )
     where
       whole : (n : ℕ) → n ≡ n + 0
       whole n = omega arith
@@ -193,4 +195,3 @@ module _ (r : Reader) (earliest : Bool) (h : List ℕ) (i : ℕ) (v : StateValue
       let some = some_units (n - m - 1) m e in
       let all = ap (λ (k : ℕ). units_read r earliest h k i v) (one_less m n l) ∙ goes_units m (suc (n - m - 1)) read free in
       omega (arith, some, all)
-

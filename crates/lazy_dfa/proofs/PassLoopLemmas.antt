@@ -1,5 +1,5 @@
 -- The loop of a pass: from stand to stand, and out of it.
-use Rattle.std.proofs.Common.{◌≡◌, ◌≢◌, ◌⊎◌, inl, inr, ℕ, zero, suc, ◌+◌, ◌-◌, ◌<◌, ◌≤◌, ◌==◌, not, nat_le, nat_lt, Bool, true, false, true≢false, List, Option, Some, None, Result, Ok, Err, IsSome, if◌then◌else◌, refl, sym, ap, ◌∙◌, subst, ⊎_elim, arith}
+use Rattle.std.proofs.Common.{◌≡◌, ◌≢◌, ◌⊎◌, inl, inr, ℕ, zero, suc, ◌+◌, ◌-◌, ◌<◌, ◌≤◌, not, nat_le, Bool, true, false, true≢false, Option, Some, None, Ok, Err, IsSome, if◌then◌else◌, refl, sym, ap, ◌∙◌, subst, ⊎_elim, arith}
 use Rattle.std.proofs.lemmas.Bool.{cases_lt, cases_eq, le-ltb, lt-ltb, ne_eqb, eq-eqb}
 use Rattle.std.proofs.lemmas.Bool.Decides.{leb_tells}
 use Rattle.nfa_core.specs.Ways.{place_of}
@@ -9,7 +9,7 @@ use Rattle.search_types.specs.declared.match_error.MatchErrorKind.TheVariants.{Q
 use Rattle.search_types.specs.Found.{HalfFound}
 use Rattle.search_types.specs.Inputs.{Search}
 use Rattle.lazy_dfa.specs.Caches.{CacheValue, IsCacheOf, HeldAt, IsRow}
-use Rattle.lazy_dfa.specs.Courses.{HasNoStop, stops_behind}
+use Rattle.lazy_dfa.specs.Courses.{HasNoStop}
 use Rattle.lazy_dfa.specs.declared.passing.Stand.{Stand}
 use Rattle.lazy_dfa.specs.declared.progress.Progress.{Progress}
 use Rattle.lazy_dfa.specs.Dfas.{Dfa, IsDfa, reader}
@@ -19,7 +19,6 @@ use Rattle.lazy_dfa.specs.Points.{Point, point, began}
 use Rattle.lazy_dfa.specs.Scans.{first_place}
 use Rattle.lazy_dfa.specs.SearchAnswers.{pair_of, give_up_place}
 use Rattle.lazy_dfa.specs.Stands.{last_place, came, left_at, tells, BeganFirst, IsWithinSpan, GoesBetween, gave_up_at, TurnsInto, TurnsTo, RunsOn}
-use Rattle.lazy_dfa.specs.Turns.{GoesOne}
 use Rattle.lazy_dfa.proofs.LinkedLemmas.{AreBytes}
 use Rattle.lazy_dfa.proofs.RunLemmas.{between_on, runs_found, runs_quit, runs_no_memory, runs_gave_up}
 

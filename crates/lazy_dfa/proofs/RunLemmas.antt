@@ -1,12 +1,11 @@
 -- The rest of a pass, by the turns that it makes one after the other.
-use Rattle.std.proofs.Common.{◌≡◌, ◌≢◌, ◌⊎◌, inl, inr, ℕ, zero, suc, ◌+◌, ◌-◌, ◌*◌, ◌<◌, ◌≤◌, ◌==◌, ◌&&◌, not, nat_le, nat_lt, min, Bool, true, false, List, Option, Some, None, Result, Ok, Err, IsSome, get_or, if◌then◌else◌, refl, sym, ap, ◌∙◌, subst, ⊎_elim, arith, true≢false}
+use Rattle.std.proofs.Common.{◌≡◌, ◌⊎◌, inl, inr, ℕ, suc, ◌+◌, ◌-◌, ◌*◌, ◌<◌, ◌≤◌, ◌==◌, ◌&&◌, not, min, Bool, true, false, List, Option, Some, None, Ok, Err, get_or, if◌then◌else◌, refl, sym, ap, ◌∙◌, subst, ⊎_elim, arith, true≢false}
 use Rattle.std.proofs.lemmas.Bool.{cases_Bool, cases_lt, le-leb, ne_eqb}
 use Rattle.std.proofs.Math.Nat.{mul-le-mul_right, suc-mul}
 use Rattle.search_core.specs.ByteSets.{has}
 use Rattle.nfa_core.specs.Ways.{place_of}
 use Rattle.determinize_core.specs.States.{StateValue}
 use Rattle.determinize_core.specs.Steps.{unit_at}
-use Rattle.search_types.specs.declared.match_error.MatchErrorKind.{MatchErrorKind}
 use Rattle.search_types.specs.declared.match_error.MatchErrorKind.TheVariants.{Quit, GaveUp, NoMemory}
 use Rattle.search_types.specs.Found.{HalfFound}
 use Rattle.search_types.specs.Inputs.{Search}
@@ -17,16 +16,15 @@ use Rattle.lazy_dfa.specs.Linked.{IsLinkedOver, Grows, HasCleared, GrowsOrClears
 use Rattle.lazy_dfa.specs.MadePasses.{span_len}
 use Rattle.lazy_dfa.specs.Passes.{index_at, is_empty, is_dead, pass_from}
 use Rattle.lazy_dfa.specs.PassLaws.{units_read, unit_of}
-use Rattle.lazy_dfa.specs.Points.{Point, Follows, IsFree, GoesTo, point, began}
-use Rattle.lazy_dfa.specs.Readers.{HalfAnswer, found, quit, is_quit}
-use Rattle.lazy_dfa.specs.Scans.{first_place}
+use Rattle.lazy_dfa.specs.Points.{Point, Follows, IsFree, GoesTo, point}
+use Rattle.lazy_dfa.specs.Readers.{HalfAnswer, found, quit}
 use Rattle.lazy_dfa.specs.SearchAnswers.{half_of, pair_of, told, give_up_place, Told, told_of, pass_distance}
-use Rattle.lazy_dfa.specs.Stands.{last_place, came, left_at, tells, first_index, BeganFirst, told_behind, IsWithinSpan, GoesBetween, EndsWith, gave_up_at, RunsOn}
+use Rattle.lazy_dfa.specs.Stands.{last_place, came, tells, BeganFirst, told_behind, GoesBetween, EndsWith, RunsOn}
 use Rattle.lazy_dfa.specs.Steps.{most_inserts}
 use Rattle.lazy_dfa.specs.Turns.{Leaves, FailsOn}
 use Rattle.lazy_dfa.proofs.CourseLemmas.{state_there, unit_there, not_dead}
 use Rattle.lazy_dfa.proofs.IsCacheLemmas.{row_is_plain}
-use Rattle.lazy_dfa.proofs.LinkedLemmas.{AreBytes, grows_trans, grows_or_clears_trans, cleared_grows, moved_refl, moved_trans, is_cache_moved, names_moved, noted_moved, moved_starts, grows_moved, id_moved, linked_moved, linked_less, linked_split}
+use Rattle.lazy_dfa.proofs.LinkedLemmas.{AreBytes, grows_trans, grows_or_clears_trans, cleared_grows, moved_trans, names_moved, noted_moved, moved_starts, grows_moved, id_moved, linked_moved, linked_less}
 use Rattle.lazy_dfa.proofs.PassEndLemmas.{ends_dead, ends_stop, ends_last, ends_quit, reads_on}
 use Rattle.lazy_dfa.proofs.PointLemmas.{goes_on, held_plain, linked_from}
 use Rattle.lazy_dfa.proofs.TurnLemmas.{place_zero, dead_is}
@@ -317,9 +315,10 @@ module _ (d : Dfa) (q : Search) (made : IsDfa d) (bytes : AreBytes q.haystack) (
     at_last : k ≡ span_len q → IsEnd
     at_last e =
         let same_total : suc k ≡ total = ap suc e in
-        let x = ends_last (reader d) q.earliest h from.at s k None all_read stays in
-        (sym (ap (λ (j : ℕ). pass_from (reader d) q.earliest h j from.at s None) same_total) ∙ x.0
-        , sym (ap (λ (j : ℕ). units_read (reader d) q.earliest h j from.at s) same_total) ∙ x.1)
+        let x = ends_last (reader d) q.earliest h from.at s k None all_read stays in (
+          sym (ap (λ (j : ℕ). pass_from (reader d) q.earliest h j from.at s None) same_total) ∙ x.0,
+          sym (ap (λ (j : ℕ). units_read (reader d) q.earliest h j from.at s) same_total) ∙ x.1,
+        )
 
     by_reason : (stops_behind (reader d) q.earliest h p.at state 0 ≡ true) ⊎ (is_dead (state_behind (reader d) h p.at state 1) ≡ true) ⊎
         (p.at ≡ last_place d.nfa.automaton.reverse q) → IsEnd
@@ -373,10 +372,11 @@ module _ (d : Dfa) (q : Search) (made : IsDfa d) (bytes : AreBytes q.haystack) (
 
     follows_new : Follows d h from p k → Follows d h from to (k + 1) → ToldBehind from.cache →
         Grows d from.cache new × IsLinkedOver d new h from.at from.id units × (told_of new ≡ told_behind down (span_len q) (told_of from.cache) units)
-    follows_new f g t =
-        (grows_trans d from.cache behind new made own g.grows (grows_moved d behind new moved)
-        , subst (IsLinkedOver d new h from.at from.id) (sym units_are) (linked_moved d behind new moved h from.at from.id (k + 1) g.linked)
-        , t ∙ sym (ap (told_behind down (span_len q) (told_of from.cache)) ended.1))
+    follows_new f g t = (
+      grows_trans d from.cache behind new made own g.grows (grows_moved d behind new moved),
+      subst (IsLinkedOver d new h from.at from.id) (sym units_are) (linked_moved d behind new moved h from.at from.id (k + 1) g.linked),
+      t ∙ sym (ap (told_behind down (span_len q) (told_of from.cache)) ended.1),
+    )
 
     followed : Follows d h from p k ⊎ HasCleared from.cache p.cache → Follows d h from to (k + 1) ⊎ HasCleared from.cache behind →
         (Grows d from.cache new × IsLinkedOver d new h from.at from.id units × (told_of new ≡ told_behind down (span_len q) (told_of from.cache) units)) ⊎

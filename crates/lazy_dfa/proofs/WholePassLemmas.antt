@@ -19,7 +19,7 @@ use Rattle.lazy_dfa.specs.Courses.{state_behind}
 use Rattle.lazy_dfa.specs.declared.start_error.StartError.{StartError}
 use Rattle.lazy_dfa.specs.declared.start_error.StartError.TheVariants.{UnsupportedAnchored}
 use Rattle.lazy_dfa.specs.Dfas.{Dfa, IsDfa, reader, start_in}
-use Rattle.lazy_dfa.specs.Ids.{tag, unknown_id, dead_id, has_tag, dead_tag}
+use Rattle.lazy_dfa.specs.Ids.{unknown_id, dead_id, has_tag, dead_tag}
 use Rattle.lazy_dfa.specs.Linked.{IsLinkedOver, start_from, IsLinkedPass, Grows, HasCleared, GrowsOrClears, IsMoved}
 use Rattle.lazy_dfa.specs.MadePasses.{span_len, MakesPass}
 use Rattle.lazy_dfa.specs.Passes.{is_dead, index_behind, if_supported, start_name, first_value, pass, pass_from}
@@ -29,7 +29,7 @@ use Rattle.lazy_dfa.specs.Readers.{HalfAnswer, found, is_quit}
 use Rattle.lazy_dfa.specs.Scans.{first_place}
 use Rattle.lazy_dfa.specs.ScanLaws.{begins_at}
 use Rattle.lazy_dfa.specs.SearchAnswers.{told, give_up_place, GivesUpIn, at_start, at_unit, Told, told_of, pass_distance, told_by_pass}
-use Rattle.lazy_dfa.specs.Stands.{tells, first_index, told_begun, told_behind, RunsOn, pass_start, StartsPass}
+use Rattle.lazy_dfa.specs.Stands.{first_index, told_begun, told_behind, RunsOn, pass_start, StartsPass}
 use Rattle.lazy_dfa.specs.StartCalls.{mode_of, quit_refusal, behind_refusal, mode_refusal, start_refusal, start_slot, start_noted, IsStartKnown}
 use Rattle.lazy_dfa.specs.Steps.{Grew, WasCleared, most_inserts}
 use Rattle.lazy_dfa.proofs.IsCacheLemmas.{row_is_plain}

@@ -1,7 +1,5 @@
 -- What is known of the steps of a search before it begins, and what calls leave of that.
-use Rattle.std.specs.Prelude.{◌≡◌, ◌≢◌, ◌⊎◌, ℕ, zero, suc, ◌+◌, ◌-◌, ◌<◌, ◌≤◌, Bool, true, false, min, List, [], ◌∷◌, Option, Some, None, if◌then◌else◌, nat_le, All, slice_index_or}
-use Rattle.nfa_core.specs.Ways.{place_of}
-use Rattle.determinize_core.specs.StateBytes.{is_match}
+use Rattle.std.specs.Prelude.{◌≡◌, ◌≢◌, ◌⊎◌, ℕ, zero, suc, ◌+◌, ◌-◌, ◌<◌, ◌≤◌, Bool, min, List, [], ◌∷◌, Option, Some, None, if◌then◌else◌, nat_le, All, slice_index_or}
 use Rattle.determinize_core.specs.States.{StateValue}
 use Rattle.determinize_core.specs.Starts.{StartValue}
 use Rattle.determinize_core.specs.Steps.{unit_behind}

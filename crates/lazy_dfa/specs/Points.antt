@@ -1,8 +1,7 @@
 -- How a pass goes on over a cache, for the functions that make passes.
-use Rattle.std.specs.Prelude.{◌≡◌, ◌⊎◌, ℕ, suc, ◌+◌, ◌*◌, ◌<◌, ◌≤◌, Bool, List, Option, Some, None, IsSome}
+use Rattle.std.specs.Prelude.{◌≡◌, ◌⊎◌, ℕ, ◌+◌, ◌*◌, ◌≤◌, List, Option, Some, None, IsSome}
 use Rattle.nfa_core.specs.Ways.{place_of}
 use Rattle.determinize_core.specs.States.{StateValue}
-use Rattle.search_types.specs.Found.{HalfFound}
 use Rattle.lazy_dfa.specs.Caches.{CacheValue, Names}
 use Rattle.lazy_dfa.specs.Courses.{state_behind, best_behind, AreRead}
 use Rattle.lazy_dfa.specs.declared.progress.Progress.{Progress}

@@ -1,5 +1,5 @@
 -- What half searches over a cache answer, and what they tell of how far they came.
-use Rattle.std.specs.Prelude.{◌≡◌, ◌⊎◌, ℕ, suc, zero, ◌+◌, ◌-◌, ◌<◌, ◌≤◌, ◌==◌, ◌&&◌, Bool, true, false, min, List, [], ◌∷◌, length, Option, Some, None, Result, Ok, Err, if◌then◌else◌, nat_lt}
+use Rattle.std.specs.Prelude.{◌≡◌, ◌⊎◌, ℕ, suc, ◌+◌, ◌-◌, ◌<◌, ◌≤◌, ◌==◌, ◌&&◌, Bool, true, false, min, List, [], ◌∷◌, Option, Some, None, Result, Ok, Err, if◌then◌else◌, nat_lt}
 use Rattle.std.specs.List.{list_any}
 use Rattle.search_core.specs.Text.{byte_at}
 use Rattle.look_core.specs.declared.look.Look.{Look}
@@ -11,7 +11,6 @@ use Rattle.search_types.specs.Found.{HalfFound}
 use Rattle.search_types.specs.Inputs.{Search}
 use Rattle.nfa_core.specs.NfaValue.{is_capture}
 use Rattle.nfa_core.specs.Ways.{place_of}
-use Rattle.determinize_core.specs.States.{StateValue}
 use Rattle.lazy_dfa.specs.Caches.{CacheValue, greatest, progress_len, lacks_room}
 use Rattle.lazy_dfa.specs.Courses.{state_behind}
 use Rattle.lazy_dfa.specs.declared.progress.Progress.{Progress}

@@ -1,5 +1,5 @@
 -- One turn of a pass: a step of its cache by a unit, and what the new state says.
-use Rattle.std.specs.Prelude.{◌≡◌, ◌≢◌, ◌⊎◌, ℕ, suc, ◌+◌, ◌*◌, ◌≤◌, ◌&&◌, not, Bool, true, false, List, Option, Some, None, Result, Ok, Err, IfOk, IfErr, IsSome}
+use Rattle.std.specs.Prelude.{◌≡◌, ◌≢◌, ◌⊎◌, ℕ, suc, ◌+◌, ◌*◌, ◌≤◌, ◌&&◌, not, Bool, true, false, List, Option, Some, Result, Ok, Err, IfOk, IfErr, IsSome}
 use Rattle.search_core.specs.ByteSets.{has}
 use Rattle.nfa_core.specs.Ways.{place_of}
 use Rattle.determinize_core.specs.States.{StateValue}

@@ -1,9 +1,8 @@
-use Rattle.std.proofs.Common.{◌≡◌, Bool, true, false, sym, ap, ◌∙◌, refl, arith, None, Option, subst, ◌<◌, ℕ, ◌-◌, get_or}
-use Rattle.lazy_dfa.specs.declared.passing.Stand.{Stand}
+use Rattle.std.proofs.Common.{refl, None, subst, ℕ, ◌-◌}
 use Rattle.lazy_dfa.specs.Points.{point, Point}
 use Rattle.lazy_dfa.specs.Scans.{first_place}
 use Rattle.lazy_dfa.specs.SearchAnswers.{pair_of}
-use Rattle.lazy_dfa.specs.Stands.{first_index, left_at, came, GoesBetween, TurnsInto}
+use Rattle.lazy_dfa.specs.Stands.{first_index, left_at, GoesBetween, TurnsInto}
 use Rattle.lazy_dfa.proofs.LinkedLemmas.{AreBytes}
 use Rattle.lazy_dfa.proofs.PassLoopLemmas.{began_runs, stand_first, stand_on, goes_further, within_next, told_nothing, ends_found, ends_error}
 use Rattle.lazy_dfa.proofs.passing.go_on.Goals as goal
@@ -48,7 +47,7 @@ loop-turned-preserved g c =
     let on = subst (TurnsInto c.args.dfa.now c.args.input.now here c.turn_at.new.cache c.turn_at.new.work.determinized c.turn_at.new.work.inserted c.in-Ok.turned.stand) c.if-turned.false c.in-Ok.ensures.turn in
     let first : Point = point c.args.cache.now c.args.work.now.determinized c.args.work.now.inserted (first_place c.args.is_down c.args.input.now.start c.args.input.now.end) c.args.id None in
     let further = goes_further c.args.dfa.now c.args.input.now c.args.is_down c.requires.down c.is_made.ensures (subst AreBytes c.haystack.ensures.value c.see_bytes.ensures) first here c.requires.own c.loop-turned.invariant.own c.requires.row c.loop-turned.invariant.row
-        c.loop-turned.invariant.within c.loop-turned.invariant.goes c.turn_at.new.cache c.turn_at.new.work.determinized c.turn_at.new.work.inserted c.in-Ok.turned.stand c.in-Ok.ensures.own on in
+    c.loop-turned.invariant.within c.loop-turned.invariant.goes c.turn_at.new.cache c.turn_at.new.work.determinized c.turn_at.new.work.inserted c.in-Ok.turned.stand c.in-Ok.ensures.own on in
     record {
       own = c.in-Ok.ensures.own;
       row = c.run-stand-in-loop-turned.ensures.row;

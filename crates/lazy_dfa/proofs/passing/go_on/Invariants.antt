@@ -1,4 +1,4 @@
-use Rattle.std.proofs.Common.{◌≡◌, Bool, true, false, Option, None, IsSome}
+use Rattle.std.proofs.Common.{◌≡◌, true, false, None, IsSome}
 use Rattle.lazy_dfa.specs.Caches.{IsCacheOf, IsRow}
 use Rattle.lazy_dfa.specs.Points.{point}
 use Rattle.lazy_dfa.specs.Scans.{first_place}

@@ -1,4 +1,4 @@
-use Rattle.std.proofs.Common.{ℕ, ◌+◌, ◌-◌, true, false, ap, sym, ◌∙◌, subst}
+use Rattle.std.proofs.Common.{ℕ, ◌+◌, ◌-◌, ap, sym, ◌∙◌, subst}
 use Rattle.search_core.specs.Utf8.{is_boundary}
 use Rattle.search_types.specs.Inputs.{with_span}
 use Rattle.search_types.specs.Modes.{is_anchored}
