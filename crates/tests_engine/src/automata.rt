@@ -1,54 +1,118 @@
-//! Automata of small trees, and machines of them.
+//! Small automata, made by hand, and machines of them.
+ghost use Rattle.std.specs.Prelude.{◌≡◌, ◌<◌};
+ghost use Rattle.nfa_core.specs.CanBuild.{CanBuild};
+
 use crate::machine::Machine;
-use hir_core::Hir;
 use lazy_dfa::BuildError;
 use lazy_dfa::dfa::Config;
 use look_core::Look;
-use nfa_core::NFA;
-use std::alloc::{AllocError, Global};
-use thompson_nfa::{Compiler, Config as CompilerConfig, WhichCaptures};
+use nfa_core::{BuildError as NfaError, Builder, NFA, Steps, Transition};
+use search_core::StateID;
+use std::alloc::Global;
+use std::marker::Brand;
+use std::sync::ledger::{Blank, Ledger};
 
-/// The automaton of trees without states for groups.
-fn compiled(alloc: Global, reverse: bool, trees: &[Hir]) -> Result<NFA, nfa_core::BuildError> {
-    let mut compiler = Compiler::new(alloc);
-    let config = CompilerConfig::new().which_captures(WhichCaptures::None);
-    compiler.configure(config.reverse(reverse));
-    compiler.build_many_from_hir(trees)
+/// Builds, and counts the moves.
+fn build_counted<L: Ledger>(
+    builder: &Builder,
+    anchored: StateID,
+    unanchored: StateID,
+    blank: Blank,
+) -> Result<NFA, NfaError>
+    requires can { CanBuild builder.now anchored unanchored }
+    requires name { blank.name ≡ L.name }
+    requires parts { blank.parts ≡ L.parts }
+    requires some { 0 < blank.parts }
+{
+    let mut steps = Steps::<L>::new(blank);
+    builder.build(anchored, unanchored, &mut steps)
 }
 
-/// The text of one byte.
-fn byte(alloc: Global, byte: u8) -> Result<Hir, AllocError> {
-    Ok(Hir::literal(vec![in alloc; byte]?))
+/// The automaton that starts in these states; the builder says whether it can be built.
+fn built(builder: &Builder, anchored: StateID, unanchored: StateID) -> Result<NFA, NfaError> {
+    if !builder.can_build(anchored, unanchored) {
+        return Err(NfaError::TooManyStates);
+    }
+    build_counted::<Brand>(builder, anchored, unanchored, Blank::new(1))
 }
 
-/// The automaton of the pattern `a`: four states, in two classes of bytes above and below `a` and one of `a` alone.
-pub(crate) fn letter(alloc: Global) -> Result<NFA, nfa_core::BuildError> {
-    let tree = byte(alloc, b'a')?;
-    compiled(alloc, false, &[tree])
+/// From the bytes of a range to a state.
+fn range(start: u8, end: u8, next: StateID) -> Transition
+    ensures first { result.start ≡ start }
+    ensures last { result.end ≡ end }
+{
+    Transition { start, end, next }
 }
 
-/// The automaton of the patterns `a`, `b` and `a`.
-pub(crate) fn letters(alloc: Global) -> Result<NFA, nfa_core::BuildError> {
-    let trees = [byte(alloc, b'a')?, byte(alloc, b'b')?, byte(alloc, b'a')?];
-    compiled(alloc, false, &trees)
+/// A pattern of one letter, behind a look if there is one, and where it starts.
+fn pattern(builder: &mut Builder, letter: u8, look: Option<Look>) -> Result<StateID, NfaError> {
+    if builder.in_pattern() {
+        return Err(NfaError::TooManyPatterns);
+    }
+    builder.start_pattern()?;
+    let last = builder.add_match()?;
+    let byte = builder.add_range(range(letter, letter, last))?;
+    let Some(look) = look else {
+        builder.finish_pattern(byte)?;
+        return Ok(byte);
+    };
+    let start = builder.add_look(byte, look)?;
+    builder.finish_pattern(start)?;
+    Ok(start)
 }
 
-/// The automaton of a look, and of `b` behind it.
-pub(crate) fn look(alloc: Global, look: Look) -> Result<NFA, nfa_core::BuildError> {
-    let parts = vec![in alloc; Hir::look(look), byte(alloc, b'b')?]?;
-    compiled(alloc, false, &[Hir::concat(parts)])
+/// The patterns of these letters, and where they start.
+fn patterns(
+    alloc: Global,
+    builder: &mut Builder,
+    letters: &[u8],
+    look: Option<Look>,
+) -> Result<Vec<StateID>, NfaError> {
+    let mut starts = Vec::new(alloc);
+    for letter in letters {
+        starts.push(pattern(builder, *letter, look)?)?;
+    }
+    Ok(starts)
 }
 
-/// What becomes of groups that are asked for downwards, which are refused.
-pub(crate) fn refused(alloc: Global, config: Config) -> Result<Machine, BuildError> {
-    let mut compiler = Compiler::new(alloc);
-    compiler.configure(CompilerConfig::new().reverse(true));
-    let nfa = compiler.build_from_hir(&Hir::empty())?;
+/// Finds one pattern for each letter at any place, the first one preferred. For one letter it has four states: a match, the
+/// letter, any byte, and a choice of the letter and any byte.
+pub(crate) fn letters(
+    alloc: Global,
+    letters: &[u8],
+    look: Option<Look>,
+    limit: Option<usize>,
+) -> Result<NFA, NfaError> {
+    let mut builder = Builder::new(alloc);
+    builder.set_size_limit(limit)?;
+    let starts = patterns(alloc, &mut builder, letters, look)?;
+    let anchored = builder.add_union(starts)?;
+    let Ok(next) = StateID::new(anchored.as_usize().saturating_add(2)) else {
+        return Err(NfaError::TooManyStates);
+    };
+    let all = builder.add_range(range(0, 255, next))?;
+    let prefix = builder.add_union(vec![in alloc; anchored, all]?)?;
+    built(&builder, anchored, prefix)
+}
+
+/// The machine of these patterns.
+pub(crate) fn machine_of(
+    alloc: Global,
+    each: &[u8],
+    look: Option<Look>,
+    config: Config,
+) -> Result<Machine, BuildError> {
+    let nfa = letters(alloc, each, look, None)?;
     Machine::new(alloc, nfa, config)
 }
 
 /// The machine of the pattern `a`.
 pub(crate) fn machine(alloc: Global, config: Config) -> Result<Machine, BuildError> {
-    let nfa = letter(alloc)?;
-    Machine::new(alloc, nfa, config)
+    machine_of(alloc, b"a", None, config)
+}
+
+/// The same where the automaton may take this many bytes.
+pub(crate) fn limited(alloc: Global, bytes: usize) -> Result<Machine, BuildError> {
+    let nfa = letters(alloc, b"a", None, Some(bytes))?;
+    Machine::new(alloc, nfa, Config::new())
 }

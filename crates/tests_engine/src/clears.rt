@@ -1,70 +1,76 @@
-//! Clears of a cache that has room for two states, which is the least, and why they are refused.
+//! Clears of a cache that has room for two states, which is the least, and why they are refused: the start of `a` and the
+//! state behind `a` need 445 of 494 bytes, so the step by `b` lacks room.
 use crate::automata::machine;
-use crate::machine::{Machine, Stepped};
-use determinize_core::Config as StartConfig;
+use crate::calls::{Call, Kind, Over, Text, are_answered};
 use lazy_dfa::dfa::Config;
-use lazy_dfa::{BuildError, CacheError, LazyStateID, StartError};
-use search_types::{Input, MatchErrorKind};
+use lazy_dfa::{BuildError, CacheError, StartError};
+use search_types::{Anchored, MatchErrorKind};
 use std::alloc::Global;
 use std::test::Fail;
 
-/// A machine of `a` that has room for two states, at its start and behind `a`: the step by `b` lacks room.
-#[derive(Drop)]
-struct FullCache {
-    machine: Machine,
-    start: LazyStateID,
-    letter: LazyStateID,
+/// Whether the calls are answered behind these two states, in a search that has come to this place from 0.
+fn goes_on(
+    alloc: Global,
+    config: Config,
+    place: usize,
+    calls: &[Call],
+) -> Result<bool, BuildError> {
+    let mut machine = machine(alloc, config)?;
+    let first = [
+        Call::SearchStart(0),
+        Call::SearchUpdate(place),
+        Call::Start(None, Anchored::No, 0),
+        Call::Step(0, Some(b'a'), 1),
+        Call::Usage(445, 0),
+        Call::Held(0, true),
+        Call::Held(1, true),
+    ];
+    Ok(are_answered(&mut machine, &first) && are_answered(&mut machine, calls))
 }
 
-/// Such a machine, in a search that has come to this place from 0; none where a start or a step is refused.
-fn full(alloc: Global, config: Config, place: usize) -> Result<Option<FullCache>, BuildError> {
-    let mut machine = machine(alloc, config.cache_capacity(494))?;
-    let Ok(start) = machine.start(&StartConfig::new()) else {
-        return Ok(None);
-    };
-    machine.search_start(0);
-    machine.search_update(place);
-    let Stepped::To(letter) = machine.step(start, Some(b'a')) else {
-        return Ok(None);
-    };
-    Ok(Some(FullCache {
-        machine,
-        start,
-        letter,
-    }))
-}
-
-/// Whether the step by `b` clears the cache, and how many bytes it needs then.
+/// Whether the step by `b` clears the cache, and not only once.
 fn clears(alloc: Global, config: Config, place: usize) -> Result<bool, BuildError> {
-    let Some(mut full) = full(alloc, config, place)? else {
-        return Ok(false);
-    };
-    if full.machine.usage() != 445 || full.machine.clear_count() != 0 {
-        return Ok(false);
-    }
-    let Stepped::To(matched) = full.machine.step(full.letter, Some(b'b')) else {
-        return Ok(false);
-    };
-    let cleared = full.machine.clear_count() == 1 && full.machine.usage() == 442;
-    Ok(cleared && matched.is_match() && full.machine.total() == 0)
+    let calls = [
+        Call::Start(None, Anchored::No, 0),
+        Call::Step(0, Some(b'a'), 1),
+        Call::Step(1, Some(b'b'), 2),
+        Call::Usage(442, 1),
+        Call::Total(0, true),
+        Call::Is(2, Kind::Match),
+        Call::Held(2, true),
+        Call::Lists(2, 0, 0, 1),
+    ];
+    goes_on(alloc, config, place, &calls)
 }
 
 /// Whether the step by `b` is refused, and leaves all as it was.
 fn gives_up(alloc: Global, config: Config, place: usize) -> Result<bool, BuildError> {
-    let Some(mut full) = full(alloc, config, place)? else {
-        return Ok(false);
-    };
-    let refused = full.machine.step(full.letter, Some(b'b'));
-    if !matches!(refused, Stepped::Refused(CacheError::GaveUp)) {
-        return Ok(false);
-    }
-    let same = full.machine.clear_count() == 0 && full.machine.usage() == 445;
-    Ok(same && full.machine.holds(full.letter) && full.machine.total() == place)
+    let calls = [
+        Call::Start(None, Anchored::No, 0),
+        Call::Step(0, Some(b'a'), 1),
+        Call::NoStep(1, Some(b'b')),
+        Call::Usage(445, 0),
+        Call::Total(place, true),
+        Call::Held(0, true),
+        Call::Held(1, true),
+    ];
+    goes_on(alloc, config, place, &calls)
 }
 
-/// After so many clears a further one may be refused, for a place that was come to with so few bytes a state.
+/// The least capacity.
+fn least() -> Config {
+    Config::new().cache_capacity(494)
+}
+
+/// A capacity that is too small, and raised to the least.
+fn raised(capacity: usize) -> Config {
+    let config = Config::new().skip_cache_capacity_check(true);
+    config.cache_capacity(capacity)
+}
+
+/// A clear may be refused after so many, where fewer bytes than this were searched for each state.
 fn after(clears: usize, bytes: Option<usize>) -> Config {
-    Config::new()
+    least()
         .minimum_cache_clear_count(Some(clears))
         .minimum_bytes_per_state(bytes)
 }
@@ -73,7 +79,8 @@ fn after(clears: usize, bytes: Option<usize>) -> Config {
 #[test]
 fn causes(rt: HostRuntime) -> Result<(), Fail> {
     let alloc = rt.alloc();
-    assert!(rt; clears(alloc, Config::new(), 1)?);
+    assert!(rt; clears(alloc, least(), 1)?);
+    assert!(rt; clears(alloc, raised(493), 1)? && clears(alloc, raised(0), 1)?);
     assert!(rt; clears(alloc, after(1, None), 1)?);
     assert!(rt; gives_up(alloc, after(0, None), 1)?);
     assert!(rt; clears(alloc, after(0, Some(0)), 1)?);
@@ -83,102 +90,67 @@ fn causes(rt: HostRuntime) -> Result<(), Fail> {
     Ok(())
 }
 
-/// Which of the IDs of the start and of the state behind `a` are held after the step by `b` that clears: the latter state
-/// gets the first row, which was the former's, and its own row is that of a state that matches.
-fn held_after(alloc: Global, config: Config) -> Result<(bool, bool), BuildError> {
-    let Some(mut full) = full(alloc, config, 1)? else {
-        return Ok((true, true));
-    };
-    let both = full.machine.holds(full.start) && full.machine.holds(full.letter);
-    let Stepped::To(matched) = full.machine.step(full.letter, Some(b'b')) else {
-        return Ok((true, true));
-    };
-    if !both || !full.machine.holds(matched) || full.machine.match_len(matched) != 1 {
-        return Ok((true, true));
-    }
-    let start = full.machine.holds(full.start);
-    Ok((start, full.machine.holds(full.letter)))
+/// The state behind `a` gets the first row, which was the start's, and its own row is that of a state that matches: so its
+/// ID isn't held any more, and that of the start is held only where it has no tag. A search begins anew where it is. A
+/// start behind it is made again, by a clear that keeps no state.
+fn leaves(alloc: Global, config: Config, start_is_held: bool) -> Result<bool, BuildError> {
+    let calls = [
+        Call::Start(None, Anchored::No, 0),
+        Call::Step(0, Some(b'a'), 1),
+        Call::Step(1, Some(b'b'), 2),
+        Call::Held(0, start_is_held),
+        Call::Held(1, false),
+        Call::Held(2, true),
+        Call::SearchUpdate(7),
+        Call::Total(2, true),
+        Call::Start(None, Anchored::No, 3),
+        Call::Usage(380, 2),
+        Call::Held(2, false),
+        Call::Held(3, true),
+        Call::Total(0, true),
+        Call::SearchFinish(10),
+        Call::Total(3, false),
+        Call::Reset,
+        Call::Usage(316, 0),
+        Call::Total(0, false),
+        Call::Held(3, false),
+    ];
+    goes_on(alloc, config, 5, &calls)
 }
 
-/// A search that goes on begins anew where it is, and a start after a clear is made again, by another clear that keeps
-/// no state.
-fn goes_on(alloc: Global) -> Result<bool, BuildError> {
-    let Some(mut full) = full(alloc, Config::new(), 5)? else {
-        return Ok(false);
-    };
-    let Stepped::To(_matched) = full.machine.step(full.letter, Some(b'b')) else {
-        return Ok(false);
-    };
-    full.machine.search_update(7);
-    let two = full.machine.total() == 2 && full.machine.in_progress();
-    let Ok(start) = full.machine.start(&StartConfig::new()) else {
-        return Ok(false);
-    };
-    let again = full.machine.clear_count() == 2 && full.machine.usage() == 380;
-    full.machine.search_finish(10);
-    Ok(two && again && full.machine.holds(start) && full.machine.total() == 3)
+/// A search over the span 1..2 of "xa".
+fn inside() -> Over {
+    Over {
+        haystack: Text::Xa,
+        start: 1,
+        end: 2,
+        mode: Anchored::No,
+    }
+}
+
+/// Starts are refused too where their state has no room, behind the one clear that is allowed; searches give up where they
+/// start.
+fn starts_give_up(alloc: Global) -> Result<bool, BuildError> {
+    let err = CacheError::GaveUp;
+    let calls = [
+        Call::Start(None, Anchored::No, 0),
+        Call::Step(0, Some(b'a'), 1),
+        Call::Step(1, Some(b'b'), 2),
+        Call::NoStart(None, Anchored::No, StartError::Cache { err }),
+        Call::NotOver(false, inside(), MatchErrorKind::GaveUp { offset: 1 }),
+        Call::NotOver(true, inside(), MatchErrorKind::GaveUp { offset: 2 }),
+        Call::Usage(442, 1),
+        Call::Held(2, true),
+    ];
+    goes_on(alloc, after(1, None), 1, &calls)
 }
 
 #[test]
 fn what_is_left(rt: HostRuntime) -> Result<(), Fail> {
     let alloc = rt.alloc();
-    assert!(rt; held_after(alloc, Config::new())? == (true, false));
-    let tagged = Config::new().specialize_start_states(true);
-    assert!(rt; held_after(alloc, tagged)? == (false, false));
-    assert!(rt; goes_on(alloc)?);
-    Ok(())
-}
-
-/// Whether searches over the span 1..2 of "xa" give up where they start.
-fn gives_up_over(machine: &mut Machine) -> bool {
-    let input = Input::new(b"xa").range(1..2);
-    let forward = machine.start_over(&input, false);
-    let reverse = machine.start_over(&input, true);
-    let (Err(forward), Err(reverse)) = (forward, reverse) else {
-        return false;
-    };
-    *forward.kind() == MatchErrorKind::GaveUp { offset: 1 }
-        && *reverse.kind() == MatchErrorKind::GaveUp { offset: 2 }
-}
-
-/// Starts are refused too where their state has no room, behind the one clear that is allowed.
-fn start_gives_up(alloc: Global) -> Result<bool, BuildError> {
-    let Some(mut full) = full(alloc, after(1, None), 1)? else {
-        return Ok(false);
-    };
-    let Stepped::To(_matched) = full.machine.step(full.letter, Some(b'b')) else {
-        return Ok(false);
-    };
-    let start = full.machine.start(&StartConfig::new());
-    let refused = matches!(
-        start,
-        Err(StartError::Cache {
-            err: CacheError::GaveUp
-        })
-    );
-    Ok(refused && gives_up_over(&mut full.machine) && full.machine.clear_count() == 1)
-}
-
-/// A cache that is made anew is as a fresh one, and one that is made for another automaton too.
-fn resets(alloc: Global) -> Result<bool, BuildError> {
-    let Some(full) = full(alloc, Config::new(), 5)? else {
-        return Ok(false);
-    };
-    let mut machine = full.machine;
-    let Stepped::To(_matched) = machine.step(full.letter, Some(b'b')) else {
-        return Ok(false);
-    };
-    if machine.reset().is_err() {
-        return Ok(false);
-    }
-    let fresh = machine.usage() == 316 && machine.clear_count() == 0;
-    let idle = machine.total() == 0 && !machine.in_progress();
-    Ok(fresh && idle && !machine.holds(full.start) && !machine.holds(full.letter))
-}
-
-#[test]
-fn starts_and_resets(rt: HostRuntime) -> Result<(), Fail> {
-    assert!(rt; start_gives_up(rt.alloc())?);
-    assert!(rt; resets(rt.alloc())?);
+    assert!(rt; leaves(alloc, least(), true)?);
+    let tagged = least().specialize_start_states(true);
+    assert!(rt; leaves(alloc, tagged, false)?);
+    assert!(rt; starts_give_up(alloc)?);
     Ok(())
 }

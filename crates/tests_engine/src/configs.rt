@@ -1,5 +1,5 @@
 //! Options: their defaults, and that those which are set replace the ones before.
-use crate::automata::letter;
+use crate::automata::letters;
 use lazy_dfa::BuildError;
 use lazy_dfa::dfa::{Builder, Config, DFA};
 use search_types::MatchKind;
@@ -105,7 +105,7 @@ fn options(rt: HostRuntime) -> Result<(), Fail> {
 
 /// The options of an automaton that is built by a builder which was configured with the first and then with the second.
 fn configured(alloc: Global, first: Config, second: Config) -> Result<Config, BuildError> {
-    let nfa = letter(alloc)?;
+    let nfa = letters(alloc, b"a", None, None)?;
     let mut builder = Builder::new();
     builder.configure(first);
     builder.configure(second);

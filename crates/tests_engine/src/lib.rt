@@ -4,6 +4,8 @@
 #[cfg(test)]
 mod automata;
 #[cfg(test)]
+mod calls;
+#[cfg(test)]
 mod clears;
 #[cfg(test)]
 mod configs;

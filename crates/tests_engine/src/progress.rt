@@ -1,71 +1,74 @@
 //! How far searches came, and a cache that is handed on to another automaton.
 use crate::automata::machine;
-use crate::machine::{Machine, Stepped};
-use determinize_core::Config as StartConfig;
+use crate::calls::{Call, Kind, are_answered};
+use crate::machine::Machine;
 use lazy_dfa::BuildError;
 use lazy_dfa::dfa::{Config, DFA};
+use search_types::Anchored;
 use std::alloc::Global;
 use std::test::Fail;
 
-/// A length is the distance from the start to the place, upwards or downwards; a search that starts ends the one before.
+/// A length is the distance from the start to the place, upwards or downwards; a search that starts ends the one before;
+/// sums stop at the greatest number.
 fn adds(alloc: Global) -> Result<bool, BuildError> {
     let mut machine = machine(alloc, Config::new())?;
-    let idle = machine.total() == 0 && !machine.in_progress();
-    machine.search_start(0);
-    machine.search_update(3);
-    let three = machine.total() == 3 && machine.in_progress();
-    machine.search_finish(5);
-    let five = machine.total() == 5 && !machine.in_progress();
-    machine.search_start(7);
-    machine.search_update(4);
-    machine.search_start(0);
-    Ok(idle && three && five && machine.total() == 8)
+    let calls = [
+        Call::Total(0, false),
+        Call::SearchStart(0),
+        Call::SearchUpdate(3),
+        Call::Total(3, true),
+        Call::SearchFinish(5),
+        Call::Total(5, false),
+        Call::SearchStart(7),
+        Call::SearchUpdate(4),
+        Call::SearchStart(0),
+        Call::Total(8, true),
+        Call::SearchUpdate(usize::MAX),
+        Call::Total(usize::MAX, true),
+        Call::SearchFinish(usize::MAX),
+        Call::Total(usize::MAX, false),
+        Call::Reset,
+        Call::Total(0, false),
+        Call::Usage(316, 0),
+    ];
+    Ok(are_answered(&mut machine, &calls))
 }
 
-/// Sums stop at the greatest number.
-fn stops(alloc: Global) -> Result<bool, BuildError> {
-    let mut machine = machine(alloc, Config::new())?;
-    machine.search_start(0);
-    machine.search_finish(usize::MAX);
-    machine.search_start(9);
-    machine.search_update(2);
-    let running = machine.total() == usize::MAX;
-    machine.search_finish(2);
-    Ok(running && machine.total() == usize::MAX)
-}
-
-/// A cache of `a`, in a search, made anew for the automaton that has no pattern: its ID of a start is held no more, and
-/// the other automaton starts.
-fn handed_on(alloc: Global) -> Result<bool, BuildError> {
-    let mut machine = machine(alloc, Config::new())?;
-    machine.search_start(0);
-    machine.search_update(9);
-    let Ok(start) = machine.start(&StartConfig::new()) else {
-        return Ok(false);
-    };
+/// Whether the calls are answered over the machine's cache, made anew for the automaton that has no pattern.
+fn goes_on(alloc: Global, machine: Machine, calls: &[Call]) -> Result<bool, BuildError> {
     let never = DFA::never_match(alloc)?;
-    let Ok(mut machine) = machine.reset_to(never) else {
-        return Err(BuildError::NoMemory);
-    };
-    let fresh = machine.usage() == 213 && machine.clear_count() == 0 && machine.total() == 0;
-    Ok(fresh && !machine.in_progress() && !machine.holds(start) && is_over(&mut machine))
-}
-
-/// Whether the step from the start by a byte is dead.
-fn is_over(machine: &mut Machine) -> bool {
-    let Ok(start) = machine.start(&StartConfig::new()) else {
-        return false;
-    };
-    match machine.step(start, Some(b'a')) {
-        Stepped::To(end) => end.is_dead() && !start.is_dead(),
-        _ => false,
+    match machine.reset_to(never) {
+        Ok(mut machine) => Ok(are_answered(&mut machine, calls)),
+        Err(_) => Err(BuildError::NoMemory),
     }
 }
 
+/// A cache of `a`, in a search, made anew for the automaton that has no pattern.
+fn handed_on(alloc: Global) -> Result<bool, BuildError> {
+    let mut machine = machine(alloc, Config::new())?;
+    let before = [
+        Call::Start(None, Anchored::No, 0),
+        Call::SearchStart(0),
+        Call::SearchUpdate(9),
+        Call::Usage(380, 0),
+    ];
+    let after = [
+        Call::Usage(213, 0),
+        Call::Total(0, false),
+        Call::Start(None, Anchored::No, 0),
+        Call::Is(0, Kind::Plain),
+        Call::Step(0, Some(b'a'), 1),
+        Call::Is(1, Kind::Dead),
+    ];
+    if !are_answered(&mut machine, &before) {
+        return Ok(false);
+    }
+    goes_on(alloc, machine, &after)
+}
+
 #[test]
-fn lengths(rt: HostRuntime) -> Result<(), Fail> {
+fn progress(rt: HostRuntime) -> Result<(), Fail> {
     assert!(rt; adds(rt.alloc())?);
-    assert!(rt; stops(rt.alloc())?);
     assert!(rt; handed_on(rt.alloc())?);
     Ok(())
 }
