@@ -1,9 +1,13 @@
 //! Calls over a machine, one after the other, each with what it should answer. The IDs that are answered are kept by
 //! numbers, which later calls name.
+use crate::automata::machine_of;
 use crate::machine::{Machine, Stepped};
 use determinize_core::Config as StartConfig;
+use lazy_dfa::dfa::Config;
 use lazy_dfa::{CacheError, LazyStateID, StartError};
+use look_core::Look;
 use search_types::{Anchored, Input, MatchErrorKind, Span};
+use std::alloc::Global;
 
 /// A call, with what it should answer.
 #[derive(Clone, Copy)]
@@ -244,4 +248,19 @@ pub(crate) fn are_answered(machine: &mut Machine, calls: &[Call]) -> bool {
         }
     }
     true
+}
+
+/// Whether each of the calls answers what it should over a fresh cache for the patterns of these letters, behind a look if
+/// there is one.
+pub(crate) fn answers(
+    alloc: Global,
+    letters: &[u8],
+    look: Option<Look>,
+    config: Config,
+    calls: &[Call],
+) -> bool {
+    match machine_of(alloc, letters, look, config) {
+        Ok(mut machine) => are_answered(&mut machine, calls),
+        Err(_) => false,
+    }
 }

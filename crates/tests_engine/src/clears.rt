@@ -3,20 +3,24 @@
 use crate::automata::machine;
 use crate::calls::{Call, Kind, Over, Text, are_answered};
 use lazy_dfa::dfa::Config;
-use lazy_dfa::{BuildError, CacheError, StartError};
+use lazy_dfa::{CacheError, StartError};
 use search_types::{Anchored, MatchErrorKind};
 use std::alloc::Global;
 use std::test::Fail;
 
 /// Whether the calls are answered behind these two states, in a search that has come to this place from 0.
-fn goes_on(
-    alloc: Global,
-    config: Config,
-    place: usize,
-    calls: &[Call],
-) -> Result<bool, BuildError> {
-    let mut machine = machine(alloc, config)?;
-    let first = [
+fn goes_on(alloc: Global, config: Config, place: usize, calls: &[Call]) -> bool {
+    match machine(alloc, config) {
+        Ok(mut machine) => {
+            are_answered(&mut machine, &first(place)) && are_answered(&mut machine, calls)
+        }
+        Err(_) => false,
+    }
+}
+
+/// The calls that lead to these two states.
+fn first(place: usize) -> [Call; 7] {
+    [
         Call::SearchStart(0),
         Call::SearchUpdate(place),
         Call::Start(None, Anchored::No, 0),
@@ -24,13 +28,12 @@ fn goes_on(
         Call::Usage(445, 0),
         Call::Held(0, true),
         Call::Held(1, true),
-    ];
-    Ok(are_answered(&mut machine, &first) && are_answered(&mut machine, calls))
+    ]
 }
 
-/// Whether the step by `b` clears the cache, and not only once.
-fn clears(alloc: Global, config: Config, place: usize) -> Result<bool, BuildError> {
-    let calls = [
+/// The step by `b` clears the cache.
+fn clears() -> [Call; 8] {
+    [
         Call::Start(None, Anchored::No, 0),
         Call::Step(0, Some(b'a'), 1),
         Call::Step(1, Some(b'b'), 2),
@@ -39,13 +42,12 @@ fn clears(alloc: Global, config: Config, place: usize) -> Result<bool, BuildErro
         Call::Is(2, Kind::Match),
         Call::Held(2, true),
         Call::Lists(2, 0, 0, 1),
-    ];
-    goes_on(alloc, config, place, &calls)
+    ]
 }
 
-/// Whether the step by `b` is refused, and leaves all as it was.
-fn gives_up(alloc: Global, config: Config, place: usize) -> Result<bool, BuildError> {
-    let calls = [
+/// The step by `b` is refused, and leaves all as it was.
+fn gives_up(place: usize) -> [Call; 7] {
+    [
         Call::Start(None, Anchored::No, 0),
         Call::Step(0, Some(b'a'), 1),
         Call::NoStep(1, Some(b'b')),
@@ -53,8 +55,7 @@ fn gives_up(alloc: Global, config: Config, place: usize) -> Result<bool, BuildEr
         Call::Total(place, true),
         Call::Held(0, true),
         Call::Held(1, true),
-    ];
-    goes_on(alloc, config, place, &calls)
+    ]
 }
 
 /// The least capacity.
@@ -79,22 +80,24 @@ fn after(clears: usize, bytes: Option<usize>) -> Config {
 #[test]
 fn causes(rt: HostRuntime) -> Result<(), Fail> {
     let alloc = rt.alloc();
-    assert!(rt; clears(alloc, least(), 1)?);
-    assert!(rt; clears(alloc, raised(493), 1)? && clears(alloc, raised(0), 1)?);
-    assert!(rt; clears(alloc, after(1, None), 1)?);
-    assert!(rt; gives_up(alloc, after(0, None), 1)?);
-    assert!(rt; clears(alloc, after(0, Some(0)), 1)?);
-    assert!(rt; gives_up(alloc, after(0, Some(1)), 1)?);
-    assert!(rt; gives_up(alloc, after(0, Some(1)), 4)?);
-    assert!(rt; clears(alloc, after(0, Some(1)), 5)?);
+    assert!(rt; goes_on(alloc, least(), 1, &clears()));
+    assert!(rt;
+        goes_on(alloc, raised(493), 1, &clears()) && goes_on(alloc, raised(0), 1, &clears())
+    );
+    assert!(rt; goes_on(alloc, after(1, None), 1, &clears()));
+    assert!(rt; goes_on(alloc, after(0, None), 1, &gives_up(1)));
+    assert!(rt; goes_on(alloc, after(0, Some(0)), 1, &clears()));
+    assert!(rt; goes_on(alloc, after(0, Some(1)), 1, &gives_up(1)));
+    assert!(rt; goes_on(alloc, after(0, Some(1)), 4, &gives_up(4)));
+    assert!(rt; goes_on(alloc, after(0, Some(1)), 5, &clears()));
     Ok(())
 }
 
 /// The state behind `a` gets the first row, which was the start's, and its own row is that of a state that matches: so its
 /// ID isn't held any more, and that of the start is held only where it has no tag. A search begins anew where it is. A
 /// start behind it is made again, by a clear that keeps no state.
-fn leaves(alloc: Global, config: Config, start_is_held: bool) -> Result<bool, BuildError> {
-    let calls = [
+fn leaves(start_is_held: bool) -> [Call; 19] {
+    [
         Call::Start(None, Anchored::No, 0),
         Call::Step(0, Some(b'a'), 1),
         Call::Step(1, Some(b'b'), 2),
@@ -114,8 +117,7 @@ fn leaves(alloc: Global, config: Config, start_is_held: bool) -> Result<bool, Bu
         Call::Usage(316, 0),
         Call::Total(0, false),
         Call::Held(3, false),
-    ];
-    goes_on(alloc, config, 5, &calls)
+    ]
 }
 
 /// A search over the span 1..2 of "xa".
@@ -130,9 +132,9 @@ fn inside() -> Over {
 
 /// Starts are refused too where their state has no room, behind the one clear that is allowed; searches give up where they
 /// start.
-fn starts_give_up(alloc: Global) -> Result<bool, BuildError> {
+fn starts_give_up() -> [Call; 8] {
     let err = CacheError::GaveUp;
-    let calls = [
+    [
         Call::Start(None, Anchored::No, 0),
         Call::Step(0, Some(b'a'), 1),
         Call::Step(1, Some(b'b'), 2),
@@ -141,16 +143,15 @@ fn starts_give_up(alloc: Global) -> Result<bool, BuildError> {
         Call::NotOver(true, inside(), MatchErrorKind::GaveUp { offset: 2 }),
         Call::Usage(442, 1),
         Call::Held(2, true),
-    ];
-    goes_on(alloc, after(1, None), 1, &calls)
+    ]
 }
 
 #[test]
 fn what_is_left(rt: HostRuntime) -> Result<(), Fail> {
     let alloc = rt.alloc();
-    assert!(rt; leaves(alloc, least(), true)?);
+    assert!(rt; goes_on(alloc, least(), 5, &leaves(true)));
     let tagged = least().specialize_start_states(true);
-    assert!(rt; leaves(alloc, tagged, false)?);
-    assert!(rt; starts_give_up(alloc)?);
+    assert!(rt; goes_on(alloc, tagged, 5, &leaves(false)));
+    assert!(rt; goes_on(alloc, after(1, None), 1, &starts_give_up()));
     Ok(())
 }

@@ -9,7 +9,8 @@ mod calls;
 mod clears;
 #[cfg(test)]
 mod configs;
-pub mod machine;
+#[cfg(test)]
+mod machine;
 #[cfg(test)]
 mod progress;
 #[cfg(test)]

@@ -15,7 +15,7 @@ use std::sync::ledger::{Blank, Ledger};
 
 /// An automaton with a cache of it.
 #[derive(Drop)]
-pub struct Machine {
+pub(crate) struct Machine {
     dfa: DFA,
     cache: Cache,
 }
@@ -33,7 +33,7 @@ impl Model for Machine {
 
 /// What a step answers.
 #[derive(Clone, Copy)]
-pub enum Stepped {
+pub(crate) enum Stepped {
     /// The ID to which it leads.
     To(LazyStateID),
     /// Why it isn't made.
@@ -45,7 +45,7 @@ pub enum Stepped {
 /// How it is made.
 impl Machine {
     /// The automaton of an NFA, with a fresh cache.
-    pub fn new(alloc: Global, nfa: NFA, config: Config) -> Result<Machine, BuildError> {
+    pub(crate) fn new(alloc: Global, nfa: NFA, config: Config) -> Result<Machine, BuildError> {
         let mut builder = DFA::builder();
         builder.configure(config);
         let dfa = builder.build_from_nfa(nfa)?;
@@ -56,23 +56,23 @@ impl Machine {
     }
 
     /// An automaton, with a fresh cache.
-    pub fn of(alloc: Global, dfa: DFA) -> Result<Machine, AllocError> {
+    pub(crate) fn of(alloc: Global, dfa: DFA) -> Result<Machine, AllocError> {
         let cache = Cache::new(alloc, &dfa)?;
         Ok(Machine { dfa, cache })
     }
 
     /// The automaton.
-    pub fn dfa(&self) -> &DFA {
+    pub(crate) fn dfa(&self) -> &DFA {
         &self.dfa
     }
 
     /// Makes the cache anew.
-    pub fn reset(&mut self) -> Result<(), AllocError> {
+    pub(crate) fn reset(&mut self) -> Result<(), AllocError> {
         self.cache.reset(&self.dfa)
     }
 
     /// The cache, made anew for another automaton.
-    pub fn reset_to(self, dfa: DFA) -> Result<Machine, AllocError> {
+    pub(crate) fn reset_to(self, dfa: DFA) -> Result<Machine, AllocError> {
         let mut cache = self.cache;
         dfa.reset_cache(&mut cache)?;
         Ok(Machine { dfa, cache })
@@ -82,22 +82,22 @@ impl Machine {
 /// What the cache tells.
 impl Machine {
     /// How many times it was cleared.
-    pub fn clear_count(&self) -> usize {
+    pub(crate) fn clear_count(&self) -> usize {
         self.cache.clear_count()
     }
 
     /// The bytes that it is taken to need.
-    pub fn usage(&self) -> usize {
+    pub(crate) fn usage(&self) -> usize {
         self.cache.memory_usage()
     }
 
     /// Whether the ID is held.
-    pub fn holds(&self, id: LazyStateID) -> bool {
+    pub(crate) fn holds(&self, id: LazyStateID) -> bool {
         self.dfa.holds_id(&self.cache, id)
     }
 
     /// How many patterns the state of an ID lists; none where it has no state.
-    pub fn match_len(&self, id: LazyStateID) -> usize {
+    pub(crate) fn match_len(&self, id: LazyStateID) -> usize {
         if !is_row(&self.dfa, &self.cache, id) {
             return 0;
         }
@@ -105,7 +105,7 @@ impl Machine {
     }
 
     /// The pattern at a place among these.
-    pub fn pattern(&self, id: LazyStateID, index: usize) -> Option<PatternID> {
+    pub(crate) fn pattern(&self, id: LazyStateID, index: usize) -> Option<PatternID> {
         if !is_row(&self.dfa, &self.cache, id) {
             return None;
         }
@@ -116,7 +116,7 @@ impl Machine {
     }
 
     /// What is known of the step from an untagged ID by a byte.
-    pub fn known(&self, id: LazyStateID, byte: u8) -> Option<LazyStateID> {
+    pub(crate) fn known(&self, id: LazyStateID, byte: u8) -> Option<LazyStateID> {
         if !is_row(&self.dfa, &self.cache, id) {
             return None;
         }
@@ -130,7 +130,7 @@ impl Machine {
 /// Steps and starts.
 impl Machine {
     /// The step by a byte, or by the end of the input.
-    pub fn step(&mut self, id: LazyStateID, unit: Option<u8>) -> Stepped {
+    pub(crate) fn step(&mut self, id: LazyStateID, unit: Option<u8>) -> Stepped {
         if !is_held(&self.dfa, &self.cache, id) {
             return Stepped::NotHeld;
         }
@@ -143,14 +143,14 @@ impl Machine {
     }
 
     /// Where a search starts.
-    pub fn start(&mut self, config: &StartConfig) -> Result<LazyStateID, StartError> {
+    pub(crate) fn start(&mut self, config: &StartConfig) -> Result<LazyStateID, StartError> {
         let one = Blank::new(1);
         let two = Blank::new(1);
         start_counted::<Brand, Brand>(&self.dfa, &mut self.cache, config, one, two)
     }
 
     /// Where a search over an input starts, upwards or downwards.
-    pub fn start_over(
+    pub(crate) fn start_over(
         &mut self,
         input: &Input<'_>,
         reverse: bool,
@@ -164,12 +164,12 @@ impl Machine {
 /// Progress.
 impl Machine {
     /// A search starts.
-    pub fn search_start(&mut self, at: usize) {
+    pub(crate) fn search_start(&mut self, at: usize) {
         self.cache.search_start(at);
     }
 
     /// The search that goes on, if one does, has come to this place.
-    pub fn search_update(&mut self, at: usize) {
+    pub(crate) fn search_update(&mut self, at: usize) {
         if !self.cache.in_progress() {
             return;
         }
@@ -177,7 +177,7 @@ impl Machine {
     }
 
     /// The search that goes on, if one does, ends at this place.
-    pub fn search_finish(&mut self, at: usize) {
+    pub(crate) fn search_finish(&mut self, at: usize) {
         if !self.cache.in_progress() {
             return;
         }
@@ -185,12 +185,12 @@ impl Machine {
     }
 
     /// Whether a search goes on.
-    pub fn in_progress(&self) -> bool {
+    pub(crate) fn in_progress(&self) -> bool {
         self.cache.in_progress()
     }
 
     /// How many bytes were searched.
-    pub fn total(&self) -> usize {
+    pub(crate) fn total(&self) -> usize {
         self.cache.search_total_len()
     }
 }

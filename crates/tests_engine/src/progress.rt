@@ -1,8 +1,7 @@
 //! How far searches came, and a cache that is handed on to another automaton.
 use crate::automata::machine;
-use crate::calls::{Call, Kind, are_answered};
+use crate::calls::{Call, Kind, answers, are_answered};
 use crate::machine::Machine;
-use lazy_dfa::BuildError;
 use lazy_dfa::dfa::{Config, DFA};
 use search_types::Anchored;
 use std::alloc::Global;
@@ -10,9 +9,8 @@ use std::test::Fail;
 
 /// A length is the distance from the start to the place, upwards or downwards; a search that starts ends the one before;
 /// sums stop at the greatest number.
-fn adds(alloc: Global) -> Result<bool, BuildError> {
-    let mut machine = machine(alloc, Config::new())?;
-    let calls = [
+fn adds() -> [Call; 17] {
+    [
         Call::Total(0, false),
         Call::SearchStart(0),
         Call::SearchUpdate(3),
@@ -30,45 +28,57 @@ fn adds(alloc: Global) -> Result<bool, BuildError> {
         Call::Reset,
         Call::Total(0, false),
         Call::Usage(316, 0),
-    ];
-    Ok(are_answered(&mut machine, &calls))
+    ]
 }
 
-/// Whether the calls are answered over the machine's cache, made anew for the automaton that has no pattern.
-fn goes_on(alloc: Global, machine: Machine, calls: &[Call]) -> Result<bool, BuildError> {
-    let never = DFA::never_match(alloc)?;
-    match machine.reset_to(never) {
-        Ok(mut machine) => Ok(are_answered(&mut machine, calls)),
-        Err(_) => Err(BuildError::NoMemory),
-    }
-}
-
-/// A cache of `a`, in a search, made anew for the automaton that has no pattern.
-fn handed_on(alloc: Global) -> Result<bool, BuildError> {
-    let mut machine = machine(alloc, Config::new())?;
-    let before = [
+/// A start, in a search.
+fn before() -> [Call; 4] {
+    [
         Call::Start(None, Anchored::No, 0),
         Call::SearchStart(0),
         Call::SearchUpdate(9),
         Call::Usage(380, 0),
-    ];
-    let after = [
+    ]
+}
+
+/// What a fresh cache of the automaton that has no pattern answers.
+fn behind() -> [Call; 6] {
+    [
         Call::Usage(213, 0),
         Call::Total(0, false),
         Call::Start(None, Anchored::No, 0),
         Call::Is(0, Kind::Plain),
         Call::Step(0, Some(b'a'), 1),
         Call::Is(1, Kind::Dead),
-    ];
-    if !are_answered(&mut machine, &before) {
-        return Ok(false);
+    ]
+}
+
+/// The cache of `a`, in a search.
+fn used(alloc: Global) -> Option<Machine> {
+    let Ok(mut machine) = machine(alloc, Config::new()) else {
+        return None;
+    };
+    if !are_answered(&mut machine, &before()) {
+        return None;
     }
-    goes_on(alloc, machine, &after)
+    Some(machine)
+}
+
+/// Whether the cache is as a fresh one where it is made anew for the automaton.
+fn is_handed_on(machine: Machine, dfa: DFA) -> bool {
+    match machine.reset_to(dfa) {
+        Ok(mut machine) => are_answered(&mut machine, &behind()),
+        Err(_) => false,
+    }
 }
 
 #[test]
 fn progress(rt: HostRuntime) -> Result<(), Fail> {
-    assert!(rt; adds(rt.alloc())?);
-    assert!(rt; handed_on(rt.alloc())?);
+    assert!(rt; answers(rt.alloc(), b"a", None, Config::new(), &adds()));
+    let Some(used) = used(rt.alloc()) else {
+        assert!(rt; false);
+        return Ok(());
+    };
+    assert!(rt; is_handed_on(used, DFA::never_match(rt.alloc())?));
     Ok(())
 }

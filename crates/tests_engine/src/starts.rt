@@ -1,12 +1,10 @@
 //! Starts of searches: refusals in their order, modes, and tags.
-use crate::automata::{machine, machine_of};
-use crate::calls::{Call, Kind, Over, Text, are_answered};
+use crate::calls::{Call, Kind, Over, Text, answers};
+use lazy_dfa::StartError;
 use lazy_dfa::dfa::Config;
-use lazy_dfa::{BuildError, StartError};
 use look_core::Look;
 use search_core::PatternID;
 use search_types::{Anchored, MatchErrorKind};
-use std::alloc::Global;
 use std::test::Fail;
 
 /// The mode of searches for the pattern with this number.
@@ -37,10 +35,8 @@ fn no_mode() -> MatchErrorKind {
 /// Of the patterns `a`, `b` and `a`, without starts for each and with the quit byte `x`: the byte before the place is asked
 /// for before the mode. On "xab" in the span 1..3 only a search upwards looks at `x`, and on "abx" in the span 0..2 only
 /// one downwards.
-fn refused_in_order(alloc: Global) -> Result<bool, BuildError> {
-    let config = Config::new().quit(b'x', true);
-    let mut machine = machine_of(alloc, b"aba", None, config)?;
-    let calls = [
+fn refused_in_order() -> [Call; 9] {
+    [
         Call::NoStart(Some(b'x'), only(1), StartError::Quit { byte: b'x' }),
         Call::NoStart(Some(b'x'), Anchored::No, StartError::Quit { byte: b'x' }),
         Call::NoStart(
@@ -54,15 +50,12 @@ fn refused_in_order(alloc: Global) -> Result<bool, BuildError> {
         Call::NotOver(true, over(Text::Abx, 0, 2, only(1)), quit(b'x', 2)),
         Call::NotOver(false, over(Text::Abx, 0, 2, only(1)), no_mode()),
         Call::Over(true, over(Text::Xab, 1, 3, Anchored::No), 1),
-    ];
-    Ok(are_answered(&mut machine, &calls))
+    ]
 }
 
 /// With starts for each a pattern that there isn't has the dead state, and another one that of its own.
-fn by_pattern(alloc: Global) -> Result<bool, BuildError> {
-    let config = Config::new().starts_for_each_pattern(true);
-    let mut machine = machine_of(alloc, b"aba", None, config)?;
-    let calls = [
+fn by_pattern() -> [Call; 11] {
+    [
         Call::Start(None, only(7), 0),
         Call::Is(0, Kind::Dead),
         Call::Start(None, only(1), 1),
@@ -74,16 +67,13 @@ fn by_pattern(alloc: Global) -> Result<bool, BuildError> {
         Call::Lists(4, 0, 1, 1),
         Call::Step(2, Some(b'b'), 3),
         Call::Is(3, Kind::Dead),
-    ];
-    Ok(are_answered(&mut machine, &calls))
+    ]
 }
 
 /// With a look for words by characters each byte from 80 on is a quit byte: on "β123" in the span 2..5 the one before it,
 /// and on "123β" in the span 0..3 the one behind it; and a step by one of them quits.
-fn refused_by_words(alloc: Global) -> Result<bool, BuildError> {
-    let config = Config::new().unicode_word_boundary(true);
-    let mut machine = machine_of(alloc, b"b", Some(Look::WordUnicode), config)?;
-    let calls = [
+fn refused_by_words() -> [Call; 8] {
+    [
         Call::NotOver(
             false,
             over(Text::BetaFirst, 2, 5, Anchored::No),
@@ -100,23 +90,26 @@ fn refused_by_words(alloc: Global) -> Result<bool, BuildError> {
         Call::Is(2, Kind::Quit),
         Call::Step(1, Some(0x7F), 3),
         Call::Is(3, Kind::Plain),
-    ];
-    Ok(are_answered(&mut machine, &calls))
+    ]
 }
 
 #[test]
 fn refusals(rt: HostRuntime) -> Result<(), Fail> {
-    assert!(rt; refused_in_order(rt.alloc())?);
-    assert!(rt; by_pattern(rt.alloc())?);
-    assert!(rt; refused_by_words(rt.alloc())?);
+    let alloc = rt.alloc();
+    let quit = Config::new().quit(b'x', true);
+    let each = Config::new().starts_for_each_pattern(true);
+    let words = Config::new().unicode_word_boundary(true);
+    let look = Some(Look::WordUnicode);
+    assert!(rt; answers(alloc, b"aba", None, quit, &refused_in_order()));
+    assert!(rt; answers(alloc, b"aba", None, each, &by_pattern()));
+    assert!(rt; answers(alloc, b"b", look, words, &refused_by_words()));
     Ok(())
 }
 
 /// A state that a start call makes has a tag where that is asked for, and keeps its ID, also where a step finds it. One
 /// that a step makes has none. Without looks it is no matter what stands before a start.
-fn tags(alloc: Global, yes: bool, kind: Kind) -> Result<bool, BuildError> {
-    let mut machine = machine(alloc, Config::new().specialize_start_states(yes))?;
-    let calls = [
+fn tags(kind: Kind) -> [Call; 13] {
+    [
         Call::Start(None, Anchored::Yes, 0),
         Call::Is(0, kind),
         Call::Step(0, Some(b'z'), 1),
@@ -130,13 +123,14 @@ fn tags(alloc: Global, yes: bool, kind: Kind) -> Result<bool, BuildError> {
         Call::Same(2, 4, true),
         Call::Step(2, Some(b'a'), 5),
         Call::Is(5, Kind::Plain),
-    ];
-    Ok(are_answered(&mut machine, &calls))
+    ]
 }
 
 #[test]
 fn kinds(rt: HostRuntime) -> Result<(), Fail> {
-    assert!(rt; tags(rt.alloc(), false, Kind::Plain)?);
-    assert!(rt; tags(rt.alloc(), true, Kind::Start)?);
+    let alloc = rt.alloc();
+    let tagged = Config::new().specialize_start_states(true);
+    assert!(rt; answers(alloc, b"a", None, Config::new(), &tags(Kind::Plain)));
+    assert!(rt; answers(alloc, b"a", None, tagged, &tags(Kind::Start)));
     Ok(())
 }

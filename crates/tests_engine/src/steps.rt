@@ -1,8 +1,6 @@
 //! Steps from state to state, and what the states list.
-use crate::automata::{machine, machine_of};
-use crate::calls::{Call, Kind, Over, Text, are_answered};
+use crate::calls::{Call, Kind, Over, Text, answers, are_answered};
 use crate::machine::Machine;
-use lazy_dfa::BuildError;
 use lazy_dfa::dfa::{Config, DFA};
 use search_types::{Anchored, MatchKind};
 use std::alloc::Global;
@@ -20,9 +18,8 @@ fn both() -> Over {
 
 /// The walk over "ab", with 64 bytes for the start, 65 behind `a` and 61 behind `b`. The end adds none, and neither does
 /// what is known; `z` leads back to the start, and with it each byte of its class.
-fn walks(alloc: Global) -> Result<bool, BuildError> {
-    let mut machine = machine(alloc, Config::new())?;
-    let calls = [
+fn walks() -> [Call; 28] {
+    [
         Call::Usage(316, 0),
         Call::Start(None, Anchored::No, 0),
         Call::Is(0, Kind::Plain),
@@ -51,15 +48,13 @@ fn walks(alloc: Global) -> Result<bool, BuildError> {
         Call::Held(1, true),
         Call::Held(2, true),
         Call::Held(3, true),
-    ];
-    Ok(are_answered(&mut machine, &calls))
+    ]
 }
 
 /// A quit byte is answered exactly where one is read, also behind a match; sentinels lead to themselves. The default ID
 /// is never held.
-fn quits(alloc: Global) -> Result<bool, BuildError> {
-    let mut machine = machine(alloc, Config::new().quit(b'd', true))?;
-    let calls = [
+fn quits() -> [Call; 13] {
+    [
         Call::Held(5, false),
         Call::Start(None, Anchored::No, 0),
         Call::Step(0, Some(b'a'), 1),
@@ -73,16 +68,13 @@ fn quits(alloc: Global) -> Result<bool, BuildError> {
         Call::Step(4, None, 5),
         Call::Same(4, 5, true),
         Call::Held(4, true),
-    ];
-    Ok(are_answered(&mut machine, &calls))
+    ]
 }
 
 /// Over "ab" the patterns `a`, `b` and `a`: behind `b` the first and the last are listed in order, where all matches are
 /// asked for, and behind the end the second one.
-fn lists(alloc: Global) -> Result<bool, BuildError> {
-    let config = Config::new().match_kind(MatchKind::All);
-    let mut machine = machine_of(alloc, b"aba", None, config)?;
-    let calls = [
+fn lists() -> [Call; 9] {
+    [
         Call::Start(None, Anchored::No, 0),
         Call::Step(0, Some(b'a'), 1),
         Call::Step(1, Some(b'b'), 2),
@@ -92,43 +84,48 @@ fn lists(alloc: Global) -> Result<bool, BuildError> {
         Call::Step(2, None, 3),
         Call::Is(3, Kind::Match),
         Call::Lists(3, 0, 1, 1),
-    ];
-    Ok(are_answered(&mut machine, &calls))
+    ]
 }
 
 /// Else the first is listed alone, and behind the end nothing is left.
-fn lists_first(alloc: Global) -> Result<bool, BuildError> {
-    let mut machine = machine_of(alloc, b"aba", None, Config::new())?;
-    let calls = [
+fn lists_first() -> [Call; 6] {
+    [
         Call::Start(None, Anchored::No, 0),
         Call::Step(0, Some(b'a'), 1),
         Call::Step(1, Some(b'b'), 2),
         Call::Lists(2, 0, 0, 1),
         Call::Step(2, None, 3),
         Call::Is(3, Kind::Dead),
-    ];
-    Ok(are_answered(&mut machine, &calls))
+    ]
 }
 
 /// What stands behind the end where there is nothing to read.
-fn ends(alloc: Global, dfa: DFA, kind: Kind) -> Result<bool, BuildError> {
-    let Ok(mut machine) = Machine::of(alloc, dfa) else {
-        return Err(BuildError::NoMemory);
-    };
-    let calls = [
+fn ends(kind: Kind) -> [Call; 3] {
+    [
         Call::Start(None, Anchored::No, 0),
         Call::Step(0, None, 1),
         Call::Is(1, kind),
-    ];
-    Ok(are_answered(&mut machine, &calls))
+    ]
+}
+
+/// Whether the calls are answered over a fresh cache of an automaton.
+fn answers_of(alloc: Global, dfa: DFA, calls: &[Call]) -> bool {
+    match Machine::of(alloc, dfa) {
+        Ok(mut machine) => are_answered(&mut machine, calls),
+        Err(_) => false,
+    }
 }
 
 #[test]
 fn steps(rt: HostRuntime) -> Result<(), Fail> {
     let alloc = rt.alloc();
-    assert!(rt; walks(alloc)? && quits(alloc)?);
-    assert!(rt; lists(alloc)? && lists_first(alloc)?);
-    assert!(rt; ends(alloc, DFA::always_match(alloc)?, Kind::Match)?);
-    assert!(rt; ends(alloc, DFA::never_match(alloc)?, Kind::Dead)?);
+    let quit = Config::new().quit(b'd', true);
+    let all = Config::new().match_kind(MatchKind::All);
+    assert!(rt; answers(alloc, b"a", None, Config::new(), &walks()));
+    assert!(rt; answers(alloc, b"a", None, quit, &quits()));
+    assert!(rt; answers(alloc, b"aba", None, all, &lists()));
+    assert!(rt; answers(alloc, b"aba", None, Config::new(), &lists_first()));
+    assert!(rt; answers_of(alloc, DFA::always_match(alloc)?, &ends(Kind::Match)));
+    assert!(rt; answers_of(alloc, DFA::never_match(alloc)?, &ends(Kind::Dead)));
     Ok(())
 }
