@@ -1,0 +1,266 @@
+//! Calls over a machine, one after the other, each with what it should answer. The IDs that are answered are kept by
+//! numbers, which later calls name.
+use crate::automata::machine_of;
+use crate::machine::{Machine, Stepped};
+use determinize_core::Config as StartConfig;
+use lazy_dfa::dfa::Config;
+use lazy_dfa::{CacheError, LazyStateID, StartError};
+use look_core::Look;
+use search_types::{Anchored, Input, MatchErrorKind, Span};
+use std::alloc::Global;
+
+/// A call, with what it should answer.
+#[derive(Clone, Copy)]
+pub(crate) enum Call {
+    /// The start behind a byte, or none, in a mode is the ID that gets this number.
+    Start(Option<u8>, Anchored, usize),
+    /// It is refused.
+    NoStart(Option<u8>, Anchored, StartError),
+    /// The start upwards, or downwards, over these bytes in this span and mode is the ID that gets this number.
+    Over(bool, Over, usize),
+    /// It is refused.
+    NotOver(bool, Over, MatchErrorKind),
+    /// The step from an ID by a byte, or the end, leads to the ID that gets this number.
+    Step(usize, Option<u8>, usize),
+    /// It gives up.
+    NoStep(usize, Option<u8>),
+    /// The cache is made anew.
+    Reset,
+    /// A search starts, has come to a place, and ends.
+    SearchStart(usize),
+    SearchUpdate(usize),
+    SearchFinish(usize),
+    /// So many bytes were searched, and a search goes on or not.
+    Total(usize, bool),
+    /// So many bytes are needed, after so many clears.
+    Usage(usize, usize),
+    /// What the ID is.
+    Is(usize, Kind),
+    /// Whether two IDs are one.
+    Same(usize, usize, bool),
+    /// Whether the ID is held.
+    Held(usize, bool),
+    /// What is known of the step from an ID by a byte.
+    Known(usize, u8, usize),
+    Unknown(usize, u8),
+    /// The pattern at a place among so many that the ID's state lists.
+    Lists(usize, usize, usize, usize),
+}
+
+/// Of which form an ID is.
+#[derive(Clone, Copy)]
+pub(crate) enum Kind {
+    Plain,
+    Start,
+    Match,
+    Dead,
+    Quit,
+}
+
+/// A haystack.
+#[derive(Clone, Copy)]
+pub(crate) enum Text {
+    Ab,
+    Xa,
+    Xab,
+    Abx,
+    /// "β123".
+    BetaFirst,
+    /// "123β".
+    BetaLast,
+}
+
+/// A search.
+#[derive(Clone, Copy)]
+pub(crate) struct Over {
+    pub(crate) haystack: Text,
+    pub(crate) start: usize,
+    pub(crate) end: usize,
+    pub(crate) mode: Anchored,
+}
+
+/// The ID with this number.
+fn id_of(ids: &[LazyStateID], number: usize) -> LazyStateID {
+    match ids.get(number) {
+        Some(id) => *id,
+        None => LazyStateID::default(),
+    }
+}
+
+/// Keeps an ID by its number.
+fn keep(ids: &mut [LazyStateID], number: usize, id: LazyStateID) -> bool {
+    match ids.get_mut(number) {
+        Some(kept) => {
+            *kept = id;
+            true
+        }
+        None => false,
+    }
+}
+
+/// The start that a call asks for.
+fn start(
+    machine: &mut Machine,
+    behind: Option<u8>,
+    mode: Anchored,
+) -> Result<LazyStateID, StartError> {
+    machine.start(&StartConfig::new().look_behind(behind).anchored(mode))
+}
+
+/// The bytes of a haystack.
+fn bytes_of(text: Text) -> &'static [u8] {
+    match text {
+        Text::Ab => b"ab",
+        Text::Xa => b"xa",
+        Text::Xab => b"xab",
+        Text::Abx => b"abx",
+        Text::BetaFirst => b"\xCE\xB2123",
+        Text::BetaLast => b"123\xCE\xB2",
+    }
+}
+
+/// The start over an input that a call asks for.
+fn start_over(
+    machine: &mut Machine,
+    reverse: bool,
+    over: Over,
+) -> Result<LazyStateID, MatchErrorKind> {
+    let input = Input::new(bytes_of(over.haystack)).anchored(over.mode);
+    let span = Span {
+        start: over.start,
+        end: over.end,
+    };
+    if !input.fits(span) {
+        return Err(MatchErrorKind::NotAPair);
+    }
+    match machine.start_over(&input.span(span), reverse) {
+        Ok(id) => Ok(id),
+        Err(e) => Err(*e.kind()),
+    }
+}
+
+/// Whether the call of a start or a step answers what it should.
+fn is_answered(machine: &mut Machine, ids: &mut [LazyStateID], call: &Call) -> bool {
+    match *call {
+        Call::Start(behind, mode, number) => match start(machine, behind, mode) {
+            Ok(id) => keep(ids, number, id),
+            Err(_) => false,
+        },
+        Call::NoStart(behind, mode, wanted) => start(machine, behind, mode) == Err(wanted),
+        Call::Over(reverse, over, number) => match start_over(machine, reverse, over) {
+            Ok(id) => keep(ids, number, id),
+            Err(_) => false,
+        },
+        Call::NotOver(reverse, over, wanted) => start_over(machine, reverse, over) == Err(wanted),
+        Call::Step(from, unit, number) => match machine.step(id_of(ids, from), unit) {
+            Stepped::To(id) => keep(ids, number, id),
+            _ => false,
+        },
+        Call::NoStep(from, unit) => matches!(
+            machine.step(id_of(ids, from), unit),
+            Stepped::Refused(CacheError::GaveUp)
+        ),
+        _ => is_moved(machine, call) && is_told(machine, ids, call),
+    }
+}
+
+/// Whether a call that moves a search on is made, and true of the others.
+fn is_moved(machine: &mut Machine, call: &Call) -> bool {
+    match *call {
+        Call::Reset => machine.reset().is_ok(),
+        Call::SearchStart(at) => {
+            machine.search_start(at);
+            true
+        }
+        Call::SearchUpdate(at) => {
+            machine.search_update(at);
+            true
+        }
+        Call::SearchFinish(at) => {
+            machine.search_finish(at);
+            true
+        }
+        _ => true,
+    }
+}
+
+/// Whether what a call asks of the cache is told, and true of the others.
+fn is_told(machine: &Machine, ids: &[LazyStateID], call: &Call) -> bool {
+    match *call {
+        Call::Total(bytes, goes_on) => {
+            machine.total() == bytes && machine.in_progress() == goes_on
+        }
+        Call::Usage(bytes, clears) => {
+            machine.usage() == bytes && machine.clear_count() == clears
+        }
+        Call::Is(number, kind) => is_of(id_of(ids, number), kind),
+        Call::Same(first, second, same) => (id_of(ids, first) == id_of(ids, second)) == same,
+        Call::Held(number, held) => machine.holds(id_of(ids, number)) == held,
+        Call::Known(from, byte, to) => {
+            machine.known(id_of(ids, from), byte) == Some(id_of(ids, to))
+        }
+        Call::Unknown(from, byte) => match machine.known(id_of(ids, from), byte) {
+            Some(id) => id.is_unknown(),
+            None => false,
+        },
+        Call::Lists(number, place, pattern, len) => {
+            lists(machine, id_of(ids, number), place, pattern, len)
+        }
+        _ => true,
+    }
+}
+
+/// Whether the ID has just the tags of its kind.
+fn is_of(id: LazyStateID, kind: Kind) -> bool {
+    let (start, matching, dead, quit) = match kind {
+        Kind::Plain => (false, false, false, false),
+        Kind::Start => (true, false, false, false),
+        Kind::Match => (false, true, false, false),
+        Kind::Dead => (false, false, true, false),
+        Kind::Quit => (false, false, false, true),
+    };
+    if id.is_start() != start || id.is_match() != matching || id.is_unknown() {
+        return false;
+    }
+    if id.is_dead() != dead || id.is_quit() != quit {
+        return false;
+    }
+    id.is_tagged() == (start || matching || dead || quit)
+}
+
+/// Whether the state of an ID lists this pattern at this place, and so many in all.
+fn lists(machine: &Machine, id: LazyStateID, place: usize, pattern: usize, len: usize) -> bool {
+    if machine.match_len(id) != len {
+        return false;
+    }
+    match machine.pattern(id, place) {
+        Some(listed) => listed.as_usize() == pattern,
+        None => place >= len,
+    }
+}
+
+/// Whether each of the calls answers what it should.
+pub(crate) fn are_answered(machine: &mut Machine, calls: &[Call]) -> bool {
+    let mut ids = [LazyStateID::default(); 6];
+    for call in calls {
+        if !is_answered(machine, &mut ids, call) {
+            return false;
+        }
+    }
+    true
+}
+
+/// Whether each of the calls answers what it should over a fresh cache for the patterns of these letters, behind a look if
+/// there is one.
+pub(crate) fn answers(
+    alloc: Global,
+    letters: &[u8],
+    look: Option<Look>,
+    config: Config,
+    calls: &[Call],
+) -> bool {
+    match machine_of(alloc, letters, look, config) {
+        Ok(mut machine) => are_answered(&mut machine, calls),
+        Err(_) => false,
+    }
+}

@@ -1,0 +1,23 @@
+//! Tests of lazy automata, of their caches, and of their steps and starts, with values that were worked out by hand.
+#![tactic(auto)]
+
+#[cfg(test)]
+mod automata;
+#[cfg(test)]
+mod calls;
+#[cfg(test)]
+mod clears;
+#[cfg(test)]
+mod configs;
+#[cfg(test)]
+mod machine;
+#[cfg(test)]
+mod progress;
+#[cfg(test)]
+mod refusals;
+#[cfg(test)]
+mod starts;
+#[cfg(test)]
+mod steps;
+#[cfg(test)]
+mod texts;
