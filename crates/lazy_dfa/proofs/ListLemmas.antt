@@ -1,5 +1,6 @@
 -- Where a list has the first element that passes a test, and lists that are one longer.
-use Rattle.std.proofs.Common.{◌≡◌, ℕ, zero, suc, ◌+◌, ◌-◌, ◌<◌, ◌≤◌, Bool, true, false, cond, ◌⊎◌, List, [], ◌∷◌, ◌++◌, length, get_or, replicate, refl, sym, ap, ◌∙◌, inl, inr, ⊎_elim, arith, length-append, Option, Some, None}
+use Rattle.std.proofs.Common.{◌≡◌, ℕ, zero, suc, ◌+◌, ◌-◌, ◌<◌, ◌≤◌, Bool, true, false, cond, ◌⊎◌, List, [], ◌∷◌, ◌++◌, length, get_or, take, drop, replicate, refl, sym, ap, ◌∙◌, inl, inr, ⊎_elim, arith, length-append, Option, Some, None}
+use Rattle.std.proofs.lemmas.List.{get_or-drop, get_or-take}
 use Rattle.std.proofs.lemmas.Bool.{cases_lt, cases_Bool}
 use Rattle.std.proofs.Math.Seq.{get_or-append_seam}
 use Rattle.std.specs.List.{position_from}
@@ -81,3 +82,10 @@ all_false (suc n) (x ∷ xs) e f =
     let head : x ≡ false = f 0 (omega arith) in
     let rest : xs ≡ replicate n false = all_false n xs (omega (arith, e)) (λ b l. f (suc b) (omega (arith, l))) in
     ap (λ (y : Bool). y ∷ xs) head ∙ ap (λ (ys : List Bool). false ∷ ys) rest
+
+-- what stands in a column of a table
+pub cell_of_column : (cells : List ℕ) (id c : ℕ) → id + c < length cells →
+    get_or (take (length cells - c) (drop c cells)) id 0 ≡ get_or cells (id + c) 0
+cell_of_column cells id c h =
+    let e : c + id ≡ id + c = omega arith in
+    get_or-take (length cells - c) (drop c cells) id 0 (omega (arith, h)) ∙ (get_or-drop c cells id 0 ∙ ap (λ (k : ℕ). get_or cells k 0) e)

@@ -157,12 +157,17 @@ impl Cache {
     }
 
     /// The same for an ID without tags.
+    ///
+    /// It reads the column of the class, and not the table: so a search waits for one load a byte, and not for a sum before
+    /// it too.
     #[inline(always)]
+    #[tactic(auto, using(crate::proofs::ListLemmas::cell_of_column))]
     pub(crate) fn cell_of_untagged(&self, id: LazyStateID, class: usize) -> LazyStateID
         requires { id + class < length self.now.cells }
         ensures { result ≡ slice_index_or self.now.cells (id + class) 0 }
     {
-        self.cells[id.bits() as usize + class]
+        let column = &self.cells[class..];
+        column[id.bits() as usize]
     }
 
     /// What is known of a start.
