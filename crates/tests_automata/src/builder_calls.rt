@@ -4,13 +4,19 @@ use look_core::{AsciiWord, LineTerm, LookMatcher};
 use nfa_core::{BuildError, Builder, Transition};
 use search_core::StateID;
 use std::alloc::{AllocError, Global};
-use std::test::Fail;
 
-/// What refuses, as text.
-fn told<T: Drop>(alloc: Global, answer: Result<T, BuildError>) -> Result<String, AllocError> {
+/// Whether what refuses is told in these words.
+fn is_told<T: Drop>(
+    alloc: Global,
+    answer: Result<T, BuildError>,
+    want: &str,
+) -> Result<bool, AllocError> {
     match answer {
-        Ok(_) => String::from_str(alloc, "nothing"),
-        Err(error) => format!(in alloc; "{error}"),
+        Ok(_) => Ok(false),
+        Err(error) => {
+            let text = format!(in alloc; "{error}")?;
+            Ok(text.as_str() == want)
+        }
     }
 }
 
@@ -24,19 +30,24 @@ fn at_limit(alloc: Global) -> Result<Builder, BuildError> {
     Ok(builder)
 }
 
-/// Whether a limit of 72 bytes refuses one more state and a lower limit, and both leave all as it was.
+/// Whether a limit of 72 bytes refuses one more state.
+fn refuses_state(alloc: Global, builder: &mut Builder) -> Result<bool, AllocError> {
+    let refused = builder.add_fail();
+    is_told(alloc, refused, "the states take more than 72 bytes")
+}
+
+/// Whether states of so many bytes refuse a lower limit.
+fn refuses_limit(alloc: Global, builder: &mut Builder) -> Result<bool, AllocError> {
+    let refused = builder.set_size_limit(Some(71));
+    is_told(alloc, refused, "the states take more than 71 bytes")
+}
+
+/// Whether both refusals leave all as it was.
 fn keeps_to_limit(alloc: Global) -> Result<bool, BuildError> {
     let mut builder = at_limit(alloc)?;
-    let state = builder.add_fail();
-    let state = told(alloc, state)?;
-    let limit = builder.set_size_limit(Some(71));
-    let limit = told(alloc, limit)?;
-    Ok(
-        state.as_str() == "the states take more than 72 bytes"
-            && limit.as_str() == "the states take more than 71 bytes"
-            && builder.get_size_limit() == Some(72)
-            && builder.memory_usage() == 72,
-    )
+    let state = refuses_state(alloc, &mut builder)?;
+    let limit = refuses_limit(alloc, &mut builder)?;
+    Ok(state && limit && (builder.get_size_limit(), builder.memory_usage()) == (Some(72), 72))
 }
 
 /// The memory where the limit is taken away and a state is added.
@@ -48,27 +59,38 @@ fn without_limit(alloc: Global) -> Result<usize, BuildError> {
 }
 
 #[test]
-fn the_limit_is_passed_by_the_last_state(rt: HostRuntime) -> Result<(), Fail> {
-    assert!(rt; keeps_to_limit(rt.alloc())?);
-    assert!(rt; without_limit(rt.alloc())? == 96);
-    Ok(())
+fn the_limit_is_passed_by_the_last_state(rt: HostRuntime) {
+    assert!(rt; matches!(keeps_to_limit(rt.alloc()), Ok(true)));
+    assert!(rt; matches!(without_limit(rt.alloc()), Ok(96)));
 }
 
-/// Whether too great an index refuses to begin a group, and to end one, and nothing is added.
+/// Whether too great an index refuses to begin a group, where a pattern was begun.
+fn refuses_start(alloc: Global, builder: &mut Builder) -> Result<bool, AllocError> {
+    if !builder.in_pattern() {
+        return Ok(false);
+    }
+    let refused = builder.add_capture_start(StateID::ZERO, 2_147_483_647, None);
+    let want = "groups can't be taken: pattern 0 has too many groups, at least 2147483647";
+    is_told(alloc, refused, want)
+}
+
+/// Whether it refuses to end one.
+fn refuses_end(alloc: Global, builder: &mut Builder) -> Result<bool, AllocError> {
+    if !builder.in_pattern() {
+        return Ok(false);
+    }
+    let refused = builder.add_capture_end(StateID::ZERO, 4_294_967_295);
+    let want = "groups can't be taken: pattern 0 has too many groups, at least 4294967295";
+    is_told(alloc, refused, want)
+}
+
+/// Whether both are refused, and nothing is added.
 fn refuses_groups(alloc: Global) -> Result<bool, BuildError> {
     let mut builder = Builder::new(alloc);
     builder.start_pattern()?;
-    let start = builder.add_capture_start(StateID::ZERO, 2_147_483_647, None);
-    let start = told(alloc, start)?;
-    let end = builder.add_capture_end(StateID::ZERO, 4_294_967_295);
-    let end = told(alloc, end)?;
-    Ok(
-        start.as_str()
-            == "groups can't be taken: pattern 0 has too many groups, at least 2147483647"
-            && end.as_str()
-                == "groups can't be taken: pattern 0 has too many groups, at least 4294967295"
-            && builder.memory_usage() == 0,
-    )
+    let start = refuses_start(alloc, &mut builder)?;
+    let end = refuses_end(alloc, &mut builder)?;
+    Ok(start && end && builder.memory_usage() == 0)
 }
 
 /// The memory of the end of the last group that there can be.
@@ -79,23 +101,26 @@ fn last_group(alloc: Global) -> Result<usize, BuildError> {
     Ok(builder.memory_usage())
 }
 
-#[test]
-fn errors_tell_the_limit(rt: HostRuntime) -> Result<(), Fail> {
-    let mut builder = Builder::new(rt.alloc());
+/// The limit that refuses a state of 24 bytes, as the error tells it.
+fn told_limit(alloc: Global) -> Result<Option<usize>, BuildError> {
+    let mut builder = Builder::new(alloc);
     builder.add_fail()?;
-    let Err(error) = builder.set_size_limit(Some(23)) else {
-        panic!(rt; "a state has 24 bytes");
-    };
-    assert_eq!(rt; error.size_limit(), Some(23));
-    assert_eq!(rt; BuildError::TooManyStates.size_limit(), None);
-    Ok(())
+    match builder.set_size_limit(Some(23)) {
+        Ok(_) => Ok(None),
+        Err(error) => Ok(error.size_limit()),
+    }
 }
 
 #[test]
-fn an_index_that_is_too_great(rt: HostRuntime) -> Result<(), Fail> {
-    assert!(rt; refuses_groups(rt.alloc())?);
-    assert!(rt; last_group(rt.alloc())? == 24);
-    Ok(())
+fn errors_tell_the_limit(rt: HostRuntime) {
+    assert!(rt; matches!(told_limit(rt.alloc()), Ok(Some(23))));
+    assert!(rt; BuildError::TooManyStates.size_limit().is_none());
+}
+
+#[test]
+fn an_index_that_is_too_great(rt: HostRuntime) {
+    assert!(rt; matches!(refuses_groups(rt.alloc()), Ok(true)));
+    assert!(rt; matches!(last_group(rt.alloc()), Ok(24)));
 }
 
 /// One pattern, which starts in this state and is a match and two empty states.
@@ -171,15 +196,33 @@ fn can_build_in_turn(alloc: Global) -> Result<[bool; 4], BuildError> {
     Ok([of_three, cleared, of_one, can_build(&builder)])
 }
 
+/// Whether the first and the last state may be starts, and others not.
+fn starts_are_told(alloc: Global) -> Result<bool, BuildError> {
+    Ok(can_start(alloc)? == [true, false, false, false])
+}
+
+/// Whether three states can be built, none, one, and none in a pattern.
+fn turns_are_told(alloc: Global) -> Result<bool, BuildError> {
+    Ok(can_build_in_turn(alloc)? == [true, false, true, false])
+}
+
+/// Whether what was made can't be built.
+fn is_incomplete(made: Result<Builder, BuildError>) -> bool {
+    match made {
+        Ok(builder) => !can_build(&builder),
+        Err(_) => false,
+    }
+}
+
 #[test]
-fn states_that_cannot_be_built(rt: HostRuntime) -> Result<(), Fail> {
-    assert!(rt; !can_build(&Builder::new(rt.alloc())));
-    assert!(rt; !can_build(&with_loop(rt.alloc())?));
-    assert!(rt; !can_build(&with_end_alone(rt.alloc())?));
-    assert!(rt; !can_build(&with_no_end(rt.alloc())?));
-    assert!(rt; can_start(rt.alloc())? == [true, false, false, false]);
-    assert!(rt; can_build_in_turn(rt.alloc())? == [true, false, true, false]);
-    Ok(())
+fn states_that_cannot_be_built(rt: HostRuntime) {
+    let alloc = rt.alloc();
+    assert!(rt; is_incomplete(Ok(Builder::new(alloc))));
+    assert!(rt; is_incomplete(with_loop(alloc)));
+    assert!(rt; is_incomplete(with_end_alone(alloc)));
+    assert!(rt; is_incomplete(with_no_end(alloc)));
+    assert!(rt; matches!(starts_are_told(alloc), Ok(true)));
+    assert!(rt; matches!(turns_are_told(alloc), Ok(true)));
 }
 
 /// Sets all settings to others than those of a new builder.
@@ -205,14 +248,19 @@ fn settings(builder: &Builder) -> Settings {
     )
 }
 
-/// What is set at a new builder, and at one where all was set and which was cleared behind that.
-fn kept_settings(alloc: Global) -> Result<[Settings; 2], BuildError> {
+/// What is set at a builder where all was set and which was cleared behind that.
+fn kept_settings(alloc: Global) -> Result<Settings, BuildError> {
     let mut builder = Builder::new(alloc);
-    let first = settings(&builder);
     set_all(&mut builder)?;
     builder.add_fail()?;
     builder.clear();
-    Ok([first, settings(&builder)])
+    Ok(settings(&builder))
+}
+
+/// Whether they are those that were set.
+fn keeps_settings(alloc: Global) -> Result<bool, BuildError> {
+    let kept = kept_settings(alloc)?;
+    Ok(kept == (false, true, Some(100), LineTerm::one(0)))
 }
 
 /// Whether a pattern was begun, and how many there are: at first, in a pattern, behind it, in the next one, and cleared.
@@ -233,12 +281,16 @@ fn patterns(alloc: Global) -> Result<[(bool, usize); 5], BuildError> {
     Ok([first, second, third, fourth, last])
 }
 
+/// Whether they are counted so.
+fn patterns_are_counted(alloc: Global) -> Result<bool, BuildError> {
+    let counts = patterns(alloc)?;
+    Ok(counts == [(false, 0), (true, 1), (false, 1), (true, 2), (false, 0)])
+}
+
 #[test]
-fn what_clear_keeps(rt: HostRuntime) -> Result<(), Fail> {
+fn what_clear_keeps(rt: HostRuntime) {
     let given = (true, false, None, LineTerm::one(b'\n'));
-    let set = (false, true, Some(100), LineTerm::one(0));
-    assert!(rt; kept_settings(rt.alloc())? == [given, set]);
-    let counts = [(false, 0), (true, 1), (false, 1), (true, 2), (false, 0)];
-    assert!(rt; patterns(rt.alloc())? == counts);
-    Ok(())
+    assert!(rt; settings(&Builder::new(rt.alloc())) == given);
+    assert!(rt; matches!(keeps_settings(rt.alloc()), Ok(true)));
+    assert!(rt; matches!(patterns_are_counted(rt.alloc()), Ok(true)));
 }

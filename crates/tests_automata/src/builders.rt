@@ -1,13 +1,13 @@
 ghost use Rattle.std.specs.Prelude.{◌≡◌, ◌+◌, ◌<◌, ◌≤◌, false, true, length, IfOk};
 ghost use Rattle.nfa_core.specs.CanBuild.{CanBuild};
 
+use crate::shapes::{Shape, has_states};
 use look_core::Look;
-use nfa_core::{BuildError, Builder, NFA, SparseTransitions, State, Steps, Transition};
-use search_core::{PatternID, SmallIndex, StateID};
+use nfa_core::{BuildError, Builder, NFA, Steps, Transition};
+use search_core::{PatternID, StateID};
 use std::alloc::{AllocError, Global};
 use std::marker::Brand;
 use std::sync::ledger::{Blank, Ledger};
-use std::test::Fail;
 
 /// Builds, and counts the moves.
 fn build_counted<L: Ledger>(
@@ -25,13 +25,13 @@ fn build_counted<L: Ledger>(
     builder.build(anchored, unanchored, &mut steps)
 }
 
-/// The automaton that starts in this state, or none where the builder says that it can't be built.
-fn built(builder: &Builder, start: StateID) -> Result<Option<NFA>, BuildError> {
+/// The automaton that starts in this state, or one that never matches where the builder says that it can't be built.
+fn built(alloc: Global, builder: &Builder, start: StateID) -> Result<NFA, BuildError> {
     if !builder.can_build(start, start) {
-        return Ok(None);
+        return Ok(NFA::never_match(alloc)?);
     }
     let nfa = build_counted::<Brand>(builder, start, start, Blank::new(1))?;
-    Ok(Some(nfa))
+    Ok(nfa)
 }
 
 fn transition(start: u8, end: u8, next: u8) -> Transition
@@ -43,15 +43,6 @@ fn transition(start: u8, end: u8, next: u8) -> Transition
         end,
         next: StateID::from(next),
     }
-}
-
-/// A sparse state with these ranges.
-fn sparse(alloc: Global, ranges: &[Transition]) -> Result<State, AllocError> {
-    let mut transitions = Vec::new(alloc);
-    for range in ranges {
-        transitions.push(*range)?;
-    }
-    Ok(State::Sparse(SparseTransitions { transitions }))
 }
 
 /// The states of these numbers.
@@ -98,25 +89,6 @@ fn byte_a(alloc: Global) -> Result<Builder, BuildError> {
     Ok(builder)
 }
 
-/// The states that are built of these.
-fn byte_a_states(alloc: Global) -> Result<Vec<State>, AllocError> {
-    let mut states = Vec::new(alloc);
-    states.push(State::BinaryUnion {
-        alt1: StateID::must(2),
-        alt2: StateID::must(1),
-    })?;
-    states.push(State::ByteRange {
-        trans: transition(0, 255, 0),
-    })?;
-    states.push(State::ByteRange {
-        trans: transition(b'a', b'a', 3),
-    })?;
-    states.push(State::Match {
-        pattern_id: PatternID::ZERO,
-    })?;
-    Ok(states)
-}
-
 /// The two starts, and that of the first pattern.
 fn starts(nfa: &NFA) -> (StateID, StateID, Option<StateID>) {
     (
@@ -134,199 +106,247 @@ fn finds_byte_a(nfa: &NFA) -> bool {
         && (nfa.memory_usage(), nfa.byte_classes().alphabet_len()) == (96, 4)
 }
 
-#[test]
-fn a_byte_behind_any_others(rt: HostRuntime) -> Result<(), Fail> {
-    let builder = byte_a(rt.alloc())?;
+/// The automaton that finds `a`.
+fn build_byte_a(builder: &Builder) -> Result<Option<NFA>, BuildError> {
     let (anchored, unanchored) = (StateID::must(3), StateID::ZERO);
-    assert!(rt; builder.can_build(anchored, unanchored));
-    let nfa = build_counted::<Brand>(&builder, anchored, unanchored, Blank::new(1))?;
-    assert!(rt; nfa.states() == byte_a_states(rt.alloc())?.as_slice());
-    assert!(rt; finds_byte_a(&nfa) && builder.memory_usage() == 136);
-    Ok(())
+    if !builder.can_build(anchored, unanchored) {
+        return Ok(None);
+    }
+    let nfa = build_counted::<Brand>(builder, anchored, unanchored, Blank::new(1))?;
+    Ok(Some(nfa))
 }
 
-/// Whether the automaton was built and has these states.
-fn has_states(nfa: &Option<NFA>, states: &[State]) -> bool {
-    match nfa {
-        Some(nfa) => nfa.states() == states,
-        None => false,
+/// Whether it has its four states and finds the byte.
+fn is_byte_a(nfa: &NFA) -> bool {
+    let states = [
+        Shape::Two(2, 1),
+        Shape::Range(0, 255, 0),
+        Shape::Range(b'a', b'a', 3),
+        Shape::Match,
+    ];
+    has_states(nfa, &states) && finds_byte_a(nfa)
+}
+
+/// Whether the builder takes so many bytes and builds it.
+fn byte_a_is_built(alloc: Global) -> Result<bool, BuildError> {
+    let builder = byte_a(alloc)?;
+    match build_byte_a(&builder)? {
+        Some(nfa) => Ok(is_byte_a(&nfa) && builder.memory_usage() == 136),
+        None => Ok(false),
     }
 }
 
+#[test]
+fn a_byte_behind_any_others(rt: HostRuntime) {
+    assert!(rt; matches!(byte_a_is_built(rt.alloc()), Ok(true)));
+}
+
 /// Unions of a few ways, behind a match. The states 2 and 5 stand for the match.
-fn few_ways(alloc: Global) -> Result<Builder, BuildError> {
-    let mut builder = Builder::new(alloc);
-    builder.start_pattern()?;
-    let last = builder.add_match()?;
+fn add_ways(alloc: Global, builder: &mut Builder) -> Result<(), BuildError> {
     builder.add_union(names(alloc, &[])?)?;
     builder.add_union(names(alloc, &[0])?)?;
     builder.add_union(names(alloc, &[2, 1])?)?;
     builder.add_union(names(alloc, &[1, 2, 0])?)?;
-    builder.add_union_reverse(names(alloc, &[0])?)?;
-    builder.add_union_reverse(names(alloc, &[1, 2])?)?;
-    builder.add_union_reverse(names(alloc, &[1, 2, 3])?)?;
-    builder.finish_pattern(last)?;
-    Ok(builder)
-}
-
-/// A union of two ways.
-fn pair(first: u8, second: u8) -> State {
-    State::BinaryUnion {
-        alt1: StateID::from(first),
-        alt2: StateID::from(second),
-    }
-}
-
-/// A match of the first pattern.
-fn first_match() -> State {
-    State::Match {
-        pattern_id: PatternID::ZERO,
-    }
-}
-
-/// The states that are built of these.
-fn few_ways_states(alloc: Global) -> Result<Vec<State>, AllocError> {
-    let mut states = Vec::new(alloc);
-    states.push(first_match())?;
-    states.push(State::Fail)?;
-    states.push(pair(0, 1))?;
-    states.push(State::Union {
-        alternates: names(alloc, &[1, 0, 0])?,
-    })?;
-    states.push(pair(0, 1))?;
-    states.push(State::Union {
-        alternates: names(alloc, &[2, 0, 1])?,
-    })?;
-    Ok(states)
-}
-
-#[test]
-fn unions(rt: HostRuntime) -> Result<(), Fail> {
-    let builder = few_ways(rt.alloc())?;
-    let nfa = built(&builder, StateID::must(7))?;
-    let states = few_ways_states(rt.alloc())?;
-    assert!(rt; has_states(&nfa, &states));
-    assert_eq!(rt; builder.memory_usage(), 8 * 24 + 12 * 4);
-    assert!(rt; nfa.is_some_and(|nfa| nfa.has_empty() && nfa.memory_usage() == 6 * 24 + 6 * 4));
     Ok(())
 }
 
-/// Sparse states of a few ranges, a look and a state that leads nowhere, behind a match.
-fn few_ranges(alloc: Global) -> Result<Builder, BuildError> {
+/// More of them, whose ways are given in the other order.
+fn add_ways_reverse(alloc: Global, builder: &mut Builder) -> Result<(), BuildError> {
+    builder.add_union_reverse(names(alloc, &[0])?)?;
+    builder.add_union_reverse(names(alloc, &[1, 2])?)?;
+    builder.add_union_reverse(names(alloc, &[1, 2, 3])?)?;
+    Ok(())
+}
+
+/// A builder with one pattern, which is a match.
+fn match_alone(alloc: Global) -> Result<Builder, BuildError> {
     let mut builder = Builder::new(alloc);
     builder.start_pattern()?;
     let last = builder.add_match()?;
     builder.finish_pattern(last)?;
+    Ok(builder)
+}
+
+/// The match with the unions.
+fn few_ways(alloc: Global) -> Result<Builder, BuildError> {
+    let mut builder = match_alone(alloc)?;
+    add_ways(alloc, &mut builder)?;
+    add_ways_reverse(alloc, &mut builder)?;
+    Ok(builder)
+}
+
+/// Whether the automaton of these has their states, the memory of these and an empty match.
+fn are_ways(nfa: &NFA) -> bool {
+    let states = [
+        Shape::Match,
+        Shape::Fail,
+        Shape::Two(0, 1),
+        Shape::Union(&[1, 0, 0]),
+        Shape::Two(0, 1),
+        Shape::Union(&[2, 0, 1]),
+    ];
+    has_states(nfa, &states) && nfa.has_empty() && nfa.memory_usage() == 6 * 24 + 6 * 4
+}
+
+/// Whether they are built so, of so many bytes.
+fn ways_are_built(alloc: Global) -> Result<bool, BuildError> {
+    let builder = few_ways(alloc)?;
+    let nfa = built(alloc, &builder, StateID::must(7))?;
+    Ok(are_ways(&nfa) && builder.memory_usage() == 8 * 24 + 12 * 4)
+}
+
+#[test]
+fn unions(rt: HostRuntime) {
+    assert!(rt; matches!(ways_are_built(rt.alloc()), Ok(true)));
+}
+
+/// Sparse states of a few ranges, a look and a state that leads nowhere.
+fn add_ranges(alloc: Global, builder: &mut Builder) -> Result<(), BuildError> {
     builder.add_sparse(Vec::new(alloc))?;
     builder.add_sparse(vec![in alloc; transition(7, 8, 0)]?)?;
     builder.add_sparse(vec![in alloc; transition(0, 0, 1), transition(1, 255, 2)]?)?;
     builder.add_look(StateID::must(3), Look::StartLF)?;
     builder.add_fail()?;
-    Ok(builder)
-}
-
-/// The states that are built of these.
-fn few_ranges_states(alloc: Global) -> Result<Vec<State>, AllocError> {
-    let mut states = Vec::new(alloc);
-    states.push(first_match())?;
-    states.push(State::Fail)?;
-    states.push(State::ByteRange {
-        trans: transition(7, 8, 0),
-    })?;
-    states.push(sparse(alloc, &[transition(0, 0, 1), transition(1, 255, 2)])?)?;
-    states.push(State::Look {
-        look: Look::StartLF,
-        next: StateID::must(3),
-    })?;
-    states.push(State::Fail)?;
-    Ok(states)
-}
-
-#[test]
-fn sparse_states(rt: HostRuntime) -> Result<(), Fail> {
-    let builder = few_ranges(rt.alloc())?;
-    let nfa = built(&builder, StateID::must(4))?;
-    let states = few_ranges_states(rt.alloc())?;
-    assert!(rt; has_states(&nfa, &states));
-    assert_eq!(rt; builder.memory_usage(), 6 * 24 + 3 * 8);
     Ok(())
 }
 
-/// A pattern with three groups, of which the last two have these names.
-fn groups(alloc: Global, first: &str, second: &str, reverse: bool) -> Result<Builder, BuildError> {
-    let (first, second) = (
-        String::from_str(alloc, first)?,
-        String::from_str(alloc, second)?,
-    );
+/// The same behind a match.
+fn few_ranges(alloc: Global) -> Result<Builder, BuildError> {
+    let mut builder = match_alone(alloc)?;
+    add_ranges(alloc, &mut builder)?;
+    Ok(builder)
+}
+
+/// Whether the automaton has their states.
+fn are_ranges(nfa: &NFA) -> bool {
+    let states = [
+        Shape::Match,
+        Shape::Fail,
+        Shape::Range(7, 8, 0),
+        Shape::Sparse(&[(0, 0, 1), (1, 255, 2)]),
+        Shape::Look(Look::StartLF, 3),
+        Shape::Fail,
+    ];
+    has_states(nfa, &states)
+}
+
+/// Whether they are built so, of so many bytes.
+fn ranges_are_built(alloc: Global) -> Result<bool, BuildError> {
+    let builder = few_ranges(alloc)?;
+    let nfa = built(alloc, &builder, StateID::must(4))?;
+    Ok(are_ranges(&nfa) && builder.memory_usage() == 6 * 24 + 3 * 8)
+}
+
+#[test]
+fn sparse_states(rt: HostRuntime) {
+    assert!(rt; matches!(ranges_are_built(rt.alloc()), Ok(true)));
+}
+
+/// Begins a group, where a pattern was begun.
+fn begin_group(
+    alloc: Global,
+    builder: &mut Builder,
+    next: u8,
+    group: u32,
+    name: &str,
+) -> Result<(), BuildError> {
+    let name = String::from_str(alloc, name)?;
+    if builder.in_pattern() {
+        builder.add_capture_start(StateID::from(next), group, Some(name))?;
+    }
+    Ok(())
+}
+
+/// Ends a group, where a pattern was begun.
+fn end_group(builder: &mut Builder, next: u8, group: u32) -> Result<(), BuildError> {
+    if builder.in_pattern() {
+        builder.add_capture_end(StateID::from(next), group)?;
+    }
+    Ok(())
+}
+
+/// Ends the pattern that was begun, with a match as its last state.
+fn end_pattern(builder: &mut Builder, start: StateID) -> Result<(), BuildError> {
+    if builder.in_pattern() {
+        builder.add_match()?;
+        builder.finish_pattern(start)?;
+    }
+    Ok(())
+}
+
+/// A pattern with three groups, of which the last two have the names `a` and this one.
+fn groups(alloc: Global, name: &str, reverse: bool) -> Result<Builder, BuildError> {
     let mut builder = Builder::new(alloc);
     builder.set_reverse(reverse);
     builder.start_pattern()?;
     let start = builder.add_capture_start(StateID::must(1), 0, None)?;
-    builder.add_capture_start(StateID::must(2), 1, Some(first))?;
-    builder.add_capture_start(StateID::must(3), 2, Some(second))?;
-    builder.add_capture_end(StateID::must(4), 2)?;
-    builder.add_capture_end(StateID::must(5), 0)?;
-    builder.add_match()?;
-    builder.finish_pattern(start)?;
+    begin_group(alloc, &mut builder, 2, 1, "a")?;
+    begin_group(alloc, &mut builder, 3, 2, name)?;
+    end_group(&mut builder, 4, 2)?;
+    end_group(&mut builder, 5, 0)?;
+    end_pattern(&mut builder, start)?;
     Ok(builder)
 }
 
-/// A state that puts the place into a slot.
-fn capture(next: u8, group: u8, slot: u8) -> State {
-    State::Capture {
-        next: StateID::from(next),
-        pattern_id: PatternID::ZERO,
-        group_index: SmallIndex::from(group),
-        slot: SmallIndex::from(slot),
-    }
+/// Whether these are the states of three groups.
+fn has_group_states(nfa: &NFA) -> bool {
+    let states = [
+        Shape::Capture(1, 0, 0),
+        Shape::Capture(2, 1, 2),
+        Shape::Capture(3, 2, 4),
+        Shape::Capture(4, 2, 5),
+        Shape::Capture(5, 0, 1),
+        Shape::Match,
+    ];
+    has_states(nfa, &states)
 }
 
-/// The states that are built of these.
-fn group_states(alloc: Global) -> Result<Vec<State>, AllocError> {
-    let mut states = Vec::new(alloc);
-    states.push(capture(1, 0, 0))?;
-    states.push(capture(2, 1, 2))?;
-    states.push(capture(3, 2, 4))?;
-    states.push(capture(4, 2, 5))?;
-    states.push(capture(5, 0, 1))?;
-    states.push(first_match())?;
-    Ok(states)
+/// Whether these are the three groups.
+fn has_groups(nfa: &NFA) -> bool {
+    let (info, first) = (nfa.group_info(), PatternID::ZERO);
+    info.group_len(first) == 3
+        && info.to_index(first, "a") == Some(1)
+        && info.to_index(first, "b") == Some(2)
 }
 
-/// Whether these are the three groups, of a text that is read in this direction.
-fn has_groups(nfa: &NFA, reverse: bool) -> bool {
-    let info = nfa.group_info();
-    nfa.is_reverse() == reverse
-        && nfa.has_capture()
-        && info.group_len(PatternID::ZERO) == 3
-        && info.to_index(PatternID::ZERO, "a") == Some(1)
-        && info.to_index(PatternID::ZERO, "b") == Some(2)
+/// The automaton of three groups.
+fn build_groups(alloc: Global, name: &str, reverse: bool) -> Result<NFA, BuildError> {
+    let builder = groups(alloc, name, reverse)?;
+    built(alloc, &builder, StateID::ZERO)
 }
 
-#[test]
-fn groups_with_their_slots(rt: HostRuntime) -> Result<(), Fail> {
-    let states = group_states(rt.alloc())?;
-    for reverse in [false, true] {
-        let builder = groups(rt.alloc(), "a", "b", reverse)?;
-        let nfa = built(&builder, StateID::ZERO)?;
-        assert!(rt; has_states(&nfa, &states));
-        assert!(rt; nfa.is_some_and(|nfa| has_groups(&nfa, reverse)));
-    }
-    Ok(())
+/// Whether it is built of a text that is read in this direction.
+fn groups_are_built(alloc: Global, reverse: bool) -> Result<bool, BuildError> {
+    let nfa = build_groups(alloc, "b", reverse)?;
+    Ok(
+        nfa.is_reverse() == reverse
+            && nfa.has_capture()
+            && has_groups(&nfa)
+            && has_group_states(&nfa),
+    )
 }
 
 #[test]
-fn two_groups_of_one_name(rt: HostRuntime) -> Result<(), Fail> {
-    let builder = groups(rt.alloc(), "a", "a", false)?;
-    let Err(error) = built(&builder, StateID::ZERO) else {
-        panic!(rt; "the groups were taken");
-    };
-    let text = format!(in rt.alloc(); "{error}")?;
-    assert_eq!(rt;
-        text.as_str(),
-        "groups can't be taken: two groups of pattern 0 have the name 'a'"
-    );
-    Ok(())
+fn groups_with_their_slots(rt: HostRuntime) {
+    assert!(rt; matches!(groups_are_built(rt.alloc(), false), Ok(true)));
+    assert!(rt; matches!(groups_are_built(rt.alloc(), true), Ok(true)));
+}
+
+/// Whether the second group is refused in these words where both have one name.
+fn is_refused_as(alloc: Global, want: &str) -> Result<bool, AllocError> {
+    match build_groups(alloc, "a", false) {
+        Ok(_) => Ok(false),
+        Err(error) => {
+            let text = format!(in alloc; "{error}")?;
+            Ok(text.as_str() == want)
+        }
+    }
+}
+
+#[test]
+fn two_groups_of_one_name(rt: HostRuntime) {
+    let told = "groups can't be taken: two groups of pattern 0 have the name 'a'";
+    assert!(rt; matches!(is_refused_as(rt.alloc(), told), Ok(true)));
 }
 
 /// A chain of empty states to a match, and the last of them.
@@ -378,12 +398,17 @@ fn is_a_match(nfa: &NFA) -> bool {
     nfa.states().len() == 1 && nfa.has_empty() && starts(nfa) == (start, start, Some(start))
 }
 
-#[test]
-fn empty_states_are_left_out(rt: HostRuntime) -> Result<(), Fail> {
-    let (builder, start) = chain(rt.alloc())?;
-    assert_eq!(rt; builder.memory_usage(), 24_024);
-    assert!(rt; builder.can_build(start, start));
+/// Whether a chain takes all its bytes and is built as the match alone.
+fn chain_is_built(alloc: Global) -> Result<bool, BuildError> {
+    let (builder, start) = chain(alloc)?;
+    if !builder.can_build(start, start) {
+        return Ok(false);
+    }
     let nfa = build_chain::<Brand>(&builder, start, Blank::new(1))?;
-    assert!(rt; is_a_match(&nfa));
-    Ok(())
+    Ok(is_a_match(&nfa) && builder.memory_usage() == 24_024)
+}
+
+#[test]
+fn empty_states_are_left_out(rt: HostRuntime) {
+    assert!(rt; matches!(chain_is_built(rt.alloc()), Ok(true)));
 }

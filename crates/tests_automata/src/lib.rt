@@ -10,4 +10,6 @@ mod nfas;
 #[cfg(test)]
 mod sets;
 #[cfg(test)]
+mod shapes;
+#[cfg(test)]
 mod states;

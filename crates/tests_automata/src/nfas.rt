@@ -1,7 +1,7 @@
 use look_core::LookSet;
 use nfa_core::NFA;
 use search_core::{PatternID, StateID};
-use std::test::Fail;
+use std::alloc::{AllocError, Global};
 
 /// Whether an NFA has no looks, reads upwards with matches between characters, and takes all bytes as alike.
 fn is_plain(nfa: &NFA) -> bool {
@@ -63,23 +63,31 @@ fn leads_on(nfa: &NFA, number: u8) -> Option<bool> {
     Some(nfa.state(StateID::from(number)).is_epsilon())
 }
 
-#[test]
-fn always_match(rt: HostRuntime) -> Result<(), Fail> {
-    let nfa = NFA::always_match(rt.alloc())?;
-    assert!(rt; is_always(&nfa));
-    assert!(rt; patterns_of(&nfa) == [Some(PatternID::ZERO), None]);
-    assert!(rt; leads_on(&nfa, 1) == Some(true));
-    assert!(rt; leads_on(&nfa, 2) == Some(false));
-    Ok(())
+/// Whether the automaton that matches everywhere is made.
+fn always_is_made(alloc: Global) -> Result<bool, AllocError> {
+    let nfa = NFA::always_match(alloc)?;
+    Ok(
+        is_always(&nfa)
+            && patterns_of(&nfa) == [Some(PatternID::ZERO), None]
+            && leads_on(&nfa, 1) == Some(true)
+            && leads_on(&nfa, 2) == Some(false),
+    )
 }
 
 #[test]
-fn never_match(rt: HostRuntime) -> Result<(), Fail> {
-    let nfa = NFA::never_match(rt.alloc())?;
-    assert!(rt; is_never(&nfa));
-    assert!(rt; patterns_of(&nfa) == [None, None]);
-    assert!(rt; leads_on(&nfa, 0) == Some(false));
-    Ok(())
+fn always_match(rt: HostRuntime) {
+    assert!(rt; matches!(always_is_made(rt.alloc()), Ok(true)));
+}
+
+/// Whether the automaton that matches nowhere is made.
+fn never_is_made(alloc: Global) -> Result<bool, AllocError> {
+    let nfa = NFA::never_match(alloc)?;
+    Ok(is_never(&nfa) && patterns_of(&nfa) == [None, None] && leads_on(&nfa, 0) == Some(false))
+}
+
+#[test]
+fn never_match(rt: HostRuntime) {
+    assert!(rt; matches!(never_is_made(rt.alloc()), Ok(true)));
 }
 
 /// The first two patterns as they are told.

@@ -5,7 +5,6 @@ use search_core::StateID;
 use std::alloc::{AllocError, Global};
 use std::marker::Brand;
 use std::sync::ledger::{Blank, Ledger};
-use std::test::Fail;
 
 /// How many numbers the sets of these tests may hold: four words of bits.
 const CAPACITY: usize = 256;
@@ -96,11 +95,22 @@ fn is_right<S: NameSet>(alloc: Global, set: &mut S) -> Result<bool, AllocError>
     Ok(is_empty && first && is_clear && second)
 }
 
+/// Whether that holds of a set in two tables.
+fn sparse_is_right(alloc: Global) -> Result<bool, AllocError> {
+    let mut set = SparseSet::new(alloc, CAPACITY)?;
+    is_right(alloc, &mut set)
+}
+
+/// Whether it holds of a set of pairs.
+fn pairs_are_right(alloc: Global) -> Result<bool, AllocError> {
+    let mut set = PairSet::new(alloc, CAPACITY)?;
+    is_right(alloc, &mut set)
+}
+
 #[test]
-fn both_sets_are_alike(rt: HostRuntime) -> Result<(), Fail> {
-    assert!(rt; is_right(rt.alloc(), &mut SparseSet::new(rt.alloc(), CAPACITY)?)?);
-    assert!(rt; is_right(rt.alloc(), &mut PairSet::new(rt.alloc(), CAPACITY)?)?);
-    Ok(())
+fn both_sets_are_alike(rt: HostRuntime) {
+    assert!(rt; matches!(sparse_is_right(rt.alloc()), Ok(true)));
+    assert!(rt; matches!(pairs_are_right(rt.alloc()), Ok(true)));
 }
 
 /// The numbers that the set's iterator tells.
@@ -122,23 +132,19 @@ fn tells_names(alloc: Global) -> Result<bool, AllocError> {
 }
 
 /// Whether a set with numbers in it is emptied where it is made smaller and then larger.
-fn is_resized(alloc: Global) -> Result<[bool; 2], AllocError> {
+fn is_resized(alloc: Global) -> Result<bool, AllocError> {
     let mut set = SparseSet::new(alloc, CAPACITY)?;
     inserts_quietly(&mut set);
     set.resize(64)?;
     let small = set.is_empty() && set.capacity() == 64 && !set.contains(StateID::must(63));
     set.resize(1000)?;
-    Ok([
-        small,
-        set.memory_usage() == 8000 && !set.contains(StateID::must(999)),
-    ])
+    Ok(small && set.memory_usage() == 8000 && !set.contains(StateID::must(999)))
 }
 
 #[test]
-fn sparse_sets(rt: HostRuntime) -> Result<(), Fail> {
-    assert!(rt; tells_names(rt.alloc())?);
-    assert!(rt; is_resized(rt.alloc())? == [true, true]);
-    Ok(())
+fn sparse_sets(rt: HostRuntime) {
+    assert!(rt; matches!(tells_names(rt.alloc()), Ok(true)));
+    assert!(rt; matches!(is_resized(rt.alloc()), Ok(true)));
 }
 
 /// Whether the numbers of the first set stand in the second where both are swapped.
@@ -151,21 +157,17 @@ fn are_swapped(alloc: Global) -> Result<bool, AllocError> {
 }
 
 /// Whether both sets are cleared, and resized.
-fn are_cleared(alloc: Global) -> Result<[bool; 2], AllocError> {
+fn are_cleared(alloc: Global) -> Result<bool, AllocError> {
     let mut sets = SparseSets::new(alloc, CAPACITY)?;
     inserts_quietly(&mut sets.set2);
     sets.clear();
     let clear = sets.set2.is_empty() && sets.set2.capacity() == CAPACITY;
     sets.resize(10)?;
-    Ok([
-        clear,
-        sets.set1.capacity() == 10 && sets.memory_usage() == 160,
-    ])
+    Ok(clear && sets.set1.capacity() == 10 && sets.memory_usage() == 160)
 }
 
 #[test]
-fn two_sets(rt: HostRuntime) -> Result<(), Fail> {
-    assert!(rt; are_swapped(rt.alloc())?);
-    assert!(rt; are_cleared(rt.alloc())? == [true, true]);
-    Ok(())
+fn two_sets(rt: HostRuntime) {
+    assert!(rt; matches!(are_swapped(rt.alloc()), Ok(true)));
+    assert!(rt; matches!(are_cleared(rt.alloc()), Ok(true)));
 }

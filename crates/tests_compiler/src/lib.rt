@@ -15,3 +15,5 @@ mod patterns;
 mod repeats;
 #[cfg(test)]
 mod shapes;
+#[cfg(test)]
+mod small;

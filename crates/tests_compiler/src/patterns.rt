@@ -1,65 +1,68 @@
 //! Several patterns, none, and what stands before them.
-use crate::shapes::{Shape, is_made_of, text};
-use hir_core::Hir;
+use crate::shapes::{Shape, compiled, is_anchored, is_made_of, plain};
+use crate::small::Small;
 use look_core::Look;
+use nfa_core::{BuildError, NFA};
 use search_core::PatternID;
-use std::test::Fail;
-use thompson_nfa::{Compiler, Config, WhichCaptures};
+use std::alloc::Global;
+use thompson_nfa::Config;
 
-#[test]
-fn patterns_are_tried_in_order(rt: HostRuntime) -> Result<(), Fail> {
-    let alloc = rt.alloc();
-    let mut compiler = Compiler::new(alloc);
-    compiler.configure(Config::new().which_captures(WhichCaptures::None));
-    let trees = vec![in alloc; text(alloc, b"a")?, text(alloc, b"b")?]?;
-    let nfa = compiler.build_many_from_hir(&trees)?;
+/// Whether there are two patterns, the second of which begins in this state.
+fn has_two(nfa: &NFA, second: usize) -> bool {
+    match nfa.start_pattern(PatternID::must(1)) {
+        Some(start) => start.as_usize() == second && nfa.pattern_len() == 2,
+        None => false,
+    }
+}
+
+/// Whether two patterns are tried in their order.
+fn are_tried_in_order(alloc: Global) -> Result<bool, BuildError> {
+    let nfa = compiled(alloc, plain(false), &[Small::A, Small::B])?;
     let states = [
-        Shape::Two(6, 1),
-        Shape::Range(0, 255, 0),
         Shape::Range(b'a', b'a', 3),
         Shape::Match(0),
         Shape::Range(b'b', b'b', 5),
         Shape::Match(1),
         Shape::Two(2, 4),
     ];
-    assert!(rt; is_made_of(&nfa, 6, 0, &states));
-    assert_eq!(rt; nfa.pattern_len(), 2);
-    assert_eq!(rt;
-        nfa.start_pattern(PatternID::must(1))
-            .map(|id| id.as_usize()),
-        Some(4)
-    );
-    Ok(())
+    Ok(is_made_of(&nfa, 6, &states) && has_two(&nfa, 4))
 }
 
 #[test]
-fn no_patterns_never_match(rt: HostRuntime) -> Result<(), Fail> {
-    let alloc = rt.alloc();
-    let mut compiler = Compiler::new(alloc);
-    let nfa = compiler.build_many_from_hir(&[])?;
-    assert!(rt; is_made_of(&nfa, 0, 0, &[Shape::Fail]));
-    assert!(rt; nfa.is_always_start_anchored());
-    assert_eq!(rt; nfa.pattern_len(), 0);
-    Ok(())
+fn patterns_are_tried_in_order(rt: HostRuntime) {
+    assert!(rt; matches!(are_tried_in_order(rt.alloc()), Ok(true)));
+}
+
+/// Whether no patterns, with states for groups, become one state that leads nowhere.
+fn none_matches(alloc: Global) -> Result<bool, BuildError> {
+    let nfa = compiled(alloc, Config::new(), &[])?;
+    Ok(is_anchored(&nfa, &[Shape::Fail]) && nfa.pattern_len() == 0)
 }
 
 #[test]
-fn nothing_stands_before_anchored_patterns(rt: HostRuntime) -> Result<(), Fail> {
-    let alloc = rt.alloc();
-    let mut compiler = Compiler::new(alloc);
-    compiler.configure(Config::new().which_captures(WhichCaptures::None));
-    let anchored = Hir::concat(vec![in alloc; Hir::look(Look::Start), text(alloc, b"a")?]?);
-    let nfa = compiler.build_from_hir(&anchored)?;
+fn no_patterns_never_match(rt: HostRuntime) {
+    assert!(rt; matches!(none_matches(rt.alloc()), Ok(true)));
+}
+
+/// Whether nothing stands before a pattern that is anchored.
+fn begins_at_once(alloc: Global) -> Result<bool, BuildError> {
+    let nfa = compiled(alloc, plain(false), &[Small::AtStart])?;
     let states = [
         Shape::Look(Look::Start, 1),
         Shape::Range(b'a', b'a', 2),
         Shape::Match(0),
     ];
-    assert!(rt; is_made_of(&nfa, 0, 0, &states));
-    assert!(rt; nfa.is_always_start_anchored());
-    let one_of_two = vec![in alloc; anchored, text(alloc, b"b")?]?;
-    let nfa = compiler.build_many_from_hir(&one_of_two)?;
-    assert!(rt; !nfa.is_always_start_anchored());
-    assert_eq!(rt; nfa.states().len(), 8);
-    Ok(())
+    Ok(is_anchored(&nfa, &states))
+}
+
+/// Whether something does where another one isn't.
+fn begins_anywhere(alloc: Global) -> Result<bool, BuildError> {
+    let nfa = compiled(alloc, plain(false), &[Small::AtStart, Small::B])?;
+    Ok(!nfa.is_always_start_anchored() && nfa.states().len() == 8)
+}
+
+#[test]
+fn nothing_stands_before_anchored_patterns(rt: HostRuntime) {
+    assert!(rt; matches!(begins_at_once(rt.alloc()), Ok(true)));
+    assert!(rt; matches!(begins_anywhere(rt.alloc()), Ok(true)));
 }

@@ -1,14 +1,13 @@
-//! States as they are expected, and small trees.
-ghost use Rattle.std.specs.Prelude.{◌≤◌, IfSome};
-
+//! States as they are expected.
+use crate::small::{Small, trees};
 use hir_core::Hir;
 use look_core::Look;
 use nfa_core::{BuildError, NFA, State, Transition};
-use std::alloc::{AllocError, Global};
+use std::alloc::Global;
 use thompson_nfa::{Compiler, Config, WhichCaptures};
 
 /// A state as it is expected. It leads to states by their numbers.
-#[derive(Clone, Copy, Debug)]
+#[derive(Clone, Copy)]
 pub enum Shape {
     Range(u8, u8, usize),
     TwoRanges((u8, u8, usize), (u8, u8, usize)),
@@ -76,14 +75,8 @@ fn has_shape(state: &State, shape: Shape) -> bool {
     }
 }
 
-/// Whether the NFA has these states and starts.
-pub fn is_made_of(nfa: &NFA, anchored: usize, unanchored: usize, shapes: &[Shape]) -> bool {
-    if nfa.start_anchored().as_usize() != anchored
-        || nfa.start_unanchored().as_usize() != unanchored
-    {
-        return false;
-    }
-    let states = nfa.states();
+/// Whether each state is as expected.
+fn have_shapes(states: &[State], shapes: &[Shape]) -> bool {
     if states.len() != shapes.len() {
         return false;
     }
@@ -95,25 +88,56 @@ pub fn is_made_of(nfa: &NFA, anchored: usize, unanchored: usize, shapes: &[Shape
     true
 }
 
-/// The NFA of a tree without states for groups.
-pub fn compiled(alloc: Global, reverse: bool, tree: &Hir) -> Result<NFA, BuildError> {
+/// The two starts.
+fn starts(nfa: &NFA) -> (usize, usize) {
+    (
+        nfa.start_anchored().as_usize(),
+        nfa.start_unanchored().as_usize(),
+    )
+}
+
+/// Whether the NFA has these states, all searches begin in the first of them, and none may begin elsewhere.
+pub fn is_anchored(nfa: &NFA, shapes: &[Shape]) -> bool {
+    starts(nfa) == (0, 0) && have_shapes(nfa.states(), shapes) && nfa.is_always_start_anchored()
+}
+
+/// Whether the NFA has these states and the two by which a search begins at each place: the first one tries what
+/// begins at this state, the second reads any byte.
+pub fn is_made_of(nfa: &NFA, start: usize, shapes: &[Shape]) -> bool {
+    let states = nfa.states();
+    let prefix = [Shape::Two(start, 1), Shape::Range(0, 255, 0)];
+    match (states.get(..2), states.get(2..)) {
+        (Some(first), Some(others)) => {
+            starts(nfa) == (start, 0) && have_shapes(first, &prefix) && have_shapes(others, shapes)
+        }
+        _ => false,
+    }
+}
+
+/// No states for groups.
+pub fn plain(reverse: bool) -> Config {
+    Config::new()
+        .which_captures(WhichCaptures::None)
+        .reverse(reverse)
+}
+
+/// The NFA of these trees.
+pub fn build(alloc: Global, config: Config, trees: &[Hir]) -> Result<NFA, BuildError> {
     let mut compiler = Compiler::new(alloc);
-    compiler.configure(
-        Config::new()
-            .which_captures(WhichCaptures::None)
-            .reverse(reverse),
-    );
-    compiler.build_from_hir(tree)
+    compiler.configure(config);
+    compiler.build_many_from_hir(trees)
 }
 
-/// A literal.
-pub fn text(alloc: Global, bytes: &[u8]) -> Result<Hir, AllocError> {
-    Ok(Hir::literal(bytes.to_vec(alloc)?))
+/// The NFA of the trees of these names.
+pub fn compiled(alloc: Global, config: Config, patterns: &[Small]) -> Result<NFA, BuildError> {
+    let trees = trees(alloc, patterns)?;
+    build(alloc, config, &trees)
 }
 
-/// Rounds of `a`.
-pub fn rounds(alloc: Global, min: u32, max: Option<u32>, greedy: bool) -> Result<Hir, AllocError>
-    requires { IfSome max (λ most. min ≤ most) }
-{
-    Hir::repetition(alloc, min, max, greedy, text(alloc, b"a")?)
+/// Whether the tree has these states behind the two by which a search begins, without states for groups.
+pub fn becomes(alloc: Global, reverse: bool, small: Small, start: usize, shapes: &[Shape]) -> bool {
+    match compiled(alloc, plain(reverse), &[small]) {
+        Ok(nfa) => is_made_of(&nfa, start, shapes),
+        Err(_) => false,
+    }
 }

@@ -27,7 +27,7 @@ fn build_counted<L: Ledger>(
 
 /// The automaton that starts in these states, or one that never matches where the builder says that it
 /// can't be built.
-pub(crate) fn built(
+fn built(
     alloc: Global,
     builder: &Builder,
     anchored: StateID,
@@ -40,36 +40,96 @@ pub(crate) fn built(
     Ok(nfa)
 }
 
-fn one_byte(byte: u8) -> Transition
-    ensures first { result.start ≡ byte }
-    ensures last { result.end ≡ byte }
-{
-    Transition {
-        start: byte,
-        end: byte,
-        next: StateID::ZERO,
+/// What is given to a builder. States are led to by their numbers.
+#[derive(Clone, Copy)]
+enum Step {
+    /// A choice of two states, the first of which is preferred.
+    Two(u8, u8),
+    /// Any byte, and where it leads.
+    Any(u8),
+    /// A byte, and where it leads.
+    Byte(u8, u8),
+    /// A look, and where it leads.
+    Look(Look, u8),
+    /// A match of the pattern that was begun.
+    Match,
+    /// A pattern begins.
+    Begin,
+    /// It ends, and starts in this state.
+    End(u8),
+}
+
+/// Adds a choice of two states.
+fn add_two(
+    alloc: Global,
+    builder: &mut Builder,
+    first: u8,
+    second: u8,
+) -> Result<StateID, BuildError> {
+    let ways = vec![in alloc; StateID::from(first), StateID::from(second)]?;
+    builder.add_union(ways)
+}
+
+/// Adds a state that leads on at these bytes, if there is one.
+fn add_range(builder: &mut Builder, start: u8, end: u8, next: u8) -> Result<(), BuildError> {
+    let next = StateID::from(next);
+    if start <= end {
+        builder.add_range(Transition { start, end, next })?;
     }
+    Ok(())
+}
+
+/// Gives one step to the builder, which passes over a match or an end outside a pattern.
+fn add(alloc: Global, builder: &mut Builder, step: Step) -> Result<(), BuildError> {
+    let in_pattern = builder.in_pattern();
+    match step {
+        Step::Two(first, second) => {
+            add_two(alloc, builder, first, second)?;
+        }
+        Step::Any(next) => add_range(builder, 0, 255, next)?,
+        Step::Byte(byte, next) => add_range(builder, byte, byte, next)?,
+        Step::Look(look, next) => {
+            builder.add_look(StateID::from(next), look)?;
+        }
+        Step::Match if in_pattern => {
+            builder.add_match()?;
+        }
+        Step::Begin if !in_pattern => {
+            builder.start_pattern()?;
+        }
+        Step::End(start) if in_pattern => {
+            builder.finish_pattern(StateID::from(start))?;
+        }
+        _ => {}
+    }
+    Ok(())
+}
+
+/// The automaton of these steps, in the states of these numbers.
+fn made(
+    alloc: Global,
+    mut builder: Builder,
+    steps: &[Step],
+    starts: (u8, u8),
+) -> Result<NFA, BuildError> {
+    for step in steps {
+        add(alloc, &mut builder, *step)?;
+    }
+    let (anchored, unanchored) = (StateID::from(starts.0), StateID::from(starts.1));
+    built(alloc, &builder, anchored, unanchored)
 }
 
 /// Finds the byte `a` at any place. Its states are a choice of 2 and 1, any byte to 0, `a` to 3, and a match.
 pub(crate) fn one_letter(alloc: Global) -> Result<NFA, BuildError> {
-    let mut builder = Builder::new(alloc);
-    let prefix = builder.add_union_reverse(Vec::new(alloc))?;
-    let all = builder.add_range(Transition {
-        start: 0,
-        end: 255,
-        next: StateID::ZERO,
-    })?;
-    builder.patch(all, prefix)?;
-    builder.patch(prefix, all)?;
-    builder.start_pattern()?;
-    let letter = builder.add_range(one_byte(b'a'))?;
-    let last = builder.add_match()?;
-    builder.patch(letter, last)?;
-    builder.finish_pattern(letter)?;
-    builder.patch(prefix, letter)?;
-    let nfa = built(alloc, &builder, letter, prefix)?;
-    Ok(nfa)
+    let steps = [
+        Step::Two(2, 1),
+        Step::Any(0),
+        Step::Begin,
+        Step::Byte(b'a', 3),
+        Step::Match,
+        Step::End(2),
+    ];
+    made(alloc, Builder::new(alloc), &steps, (2, 0))
 }
 
 /// Matches at once where the look holds. Lines end at the line feed and at this byte.
@@ -79,35 +139,27 @@ pub(crate) fn one_look(
     reverse: bool,
     line_end: u8,
 ) -> Result<NFA, BuildError> {
-    let mut builder = Builder::new(alloc);
     let mut matcher = LookMatcher::new(AsciiWord);
     matcher.set_line_terminator(LineTerm::two(b'\n', line_end));
+    let mut builder = Builder::new(alloc);
     builder.set_look_matcher(matcher);
     builder.set_reverse(reverse);
-    builder.start_pattern()?;
-    let last = builder.add_match()?;
-    let asked = builder.add_look(last, look)?;
-    builder.finish_pattern(asked)?;
-    let nfa = built(alloc, &builder, asked, asked)?;
-    Ok(nfa)
+    let steps = [Step::Begin, Step::Match, Step::Look(look, 0), Step::End(1)];
+    made(alloc, builder, &steps, (1, 1))
 }
 
-/// One pattern for each of the bytes `a` and `b`, each of which matches behind `a`; `b` is preferred.
+/// Two patterns, each of which matches behind `a`; the second one is preferred.
 pub(crate) fn two_patterns(alloc: Global) -> Result<NFA, BuildError> {
-    let mut builder = Builder::new(alloc);
-    let start = builder.add_union(Vec::new(alloc))?;
-    builder.start_pattern()?;
-    let first = builder.add_range(one_byte(b'a'))?;
-    let last = builder.add_match()?;
-    builder.patch(first, last)?;
-    builder.finish_pattern(first)?;
-    builder.start_pattern()?;
-    let second = builder.add_range(one_byte(b'a'))?;
-    let last = builder.add_match()?;
-    builder.patch(second, last)?;
-    builder.finish_pattern(second)?;
-    builder.patch(start, second)?;
-    builder.patch(start, first)?;
-    let nfa = built(alloc, &builder, start, start)?;
-    Ok(nfa)
+    let steps = [
+        Step::Two(3, 1),
+        Step::Begin,
+        Step::Byte(b'a', 2),
+        Step::Match,
+        Step::End(1),
+        Step::Begin,
+        Step::Byte(b'a', 4),
+        Step::Match,
+        Step::End(3),
+    ];
+    made(alloc, Builder::new(alloc), &steps, (0, 0))
 }

@@ -3,10 +3,19 @@
 use crate::automata::one_look;
 use determinize_core::walk;
 use look_core::Look;
-use nfa_core::BuildError;
+use nfa_core::{BuildError, NFA};
 use search_types::MatchKind;
-use std::alloc::Global;
-use std::test::Fail;
+use std::alloc::{AllocError, Global};
+
+/// Whether the automaton matches between the byte that it comes from and the one that it reads.
+fn matches_between(alloc: Global, nfa: &NFA, from: u8, read: u8) -> Result<bool, AllocError> {
+    let (kind, start) = (MatchKind::LeftmostFirst, nfa.start_anchored());
+    let states = walk(alloc, nfa, kind, start, Some(from), &[read])?;
+    match states.get(1) {
+        Some(state) => Ok(state.is_match()),
+        None => Ok(false),
+    }
+}
 
 /// Whether the look is passed between the two bytes, by one who reads up, or down.
 fn is_passed(
@@ -17,24 +26,13 @@ fn is_passed(
     after: u8,
 ) -> Result<bool, BuildError> {
     let nfa = one_look(alloc, look, reverse, b'\n')?;
-    let (behind, ahead) = if reverse {
+    let (from, read) = if reverse {
         (after, before)
     } else {
         (before, after)
     };
-    let start = nfa.start_anchored();
-    let states = walk(
-        alloc,
-        &nfa,
-        MatchKind::LeftmostFirst,
-        start,
-        Some(behind),
-        &[ahead],
-    )?;
-    match states.get(1) {
-        Some(state) => Ok(state.is_match()),
-        None => Ok(false),
-    }
+    let passed = matches_between(alloc, &nfa, from, read)?;
+    Ok(passed)
 }
 
 /// Whether the look is passed just where the table says: a row for each byte before the place, in it a `+`
@@ -43,7 +41,7 @@ fn is_passed_as(
     alloc: Global,
     look: Look,
     reverse: bool,
-    table: [&[u8; 4]; 4],
+    table: &[&[u8; 4]; 4],
 ) -> Result<bool, BuildError> {
     let bytes = [b'a', b'-', b'\r', b'\n'];
     for row in 0..4 {
@@ -71,35 +69,41 @@ const BEHIND_NO_WORD: [&[u8; 4]; 4] = [b"----", b"++++", b"++++", b"++++"];
 
 const BEFORE_NO_WORD: [&[u8; 4]; 4] = [b"-+++", b"-+++", b"-+++", b"-+++"];
 
+/// Whether the look is passed upwards as the table says.
+fn up(alloc: Global, look: Look, table: &[&[u8; 4]; 4]) -> bool {
+    matches!(is_passed_as(alloc, look, false, table), Ok(true))
+}
+
+/// Likewise downwards.
+fn down(alloc: Global, look: Look, table: &[&[u8; 4]; 4]) -> bool {
+    matches!(is_passed_as(alloc, look, true, table), Ok(true))
+}
+
 #[test]
-fn lines_upwards(rt: HostRuntime) -> Result<(), Fail> {
-    assert!(rt; is_passed_as(rt.alloc(), Look::StartCRLF, false, STARTS_OF_LINES)?);
-    assert!(rt; is_passed_as(rt.alloc(), Look::EndCRLF, false, ENDS_OF_LINES)?);
-    Ok(())
+fn lines_upwards(rt: HostRuntime) {
+    assert!(rt; up(rt.alloc(), Look::StartCRLF, &STARTS_OF_LINES));
+    assert!(rt; up(rt.alloc(), Look::EndCRLF, &ENDS_OF_LINES));
 }
 
 /// Downwards a look stands for its reverse.
 #[test]
-fn lines_downwards(rt: HostRuntime) -> Result<(), Fail> {
-    assert!(rt; is_passed_as(rt.alloc(), Look::StartCRLF, true, ENDS_OF_LINES)?);
-    assert!(rt; is_passed_as(rt.alloc(), Look::EndCRLF, true, STARTS_OF_LINES)?);
-    Ok(())
+fn lines_downwards(rt: HostRuntime) {
+    assert!(rt; down(rt.alloc(), Look::StartCRLF, &ENDS_OF_LINES));
+    assert!(rt; down(rt.alloc(), Look::EndCRLF, &STARTS_OF_LINES));
 }
 
 #[test]
-fn words_upwards(rt: HostRuntime) -> Result<(), Fail> {
-    assert!(rt; is_passed_as(rt.alloc(), Look::WordAscii, false, EDGES_OF_WORDS)?);
-    assert!(rt; is_passed_as(rt.alloc(), Look::WordStartAscii, false, STARTS_OF_WORDS)?);
-    assert!(rt; is_passed_as(rt.alloc(), Look::WordEndUnicode, false, ENDS_OF_WORDS)?);
-    assert!(rt; is_passed_as(rt.alloc(), Look::WordStartHalfAscii, false, BEHIND_NO_WORD)?);
-    assert!(rt; is_passed_as(rt.alloc(), Look::WordEndHalfUnicode, false, BEFORE_NO_WORD)?);
-    Ok(())
+fn words_upwards(rt: HostRuntime) {
+    assert!(rt; up(rt.alloc(), Look::WordAscii, &EDGES_OF_WORDS));
+    assert!(rt; up(rt.alloc(), Look::WordStartAscii, &STARTS_OF_WORDS));
+    assert!(rt; up(rt.alloc(), Look::WordEndUnicode, &ENDS_OF_WORDS));
+    assert!(rt; up(rt.alloc(), Look::WordStartHalfAscii, &BEHIND_NO_WORD));
+    assert!(rt; up(rt.alloc(), Look::WordEndHalfUnicode, &BEFORE_NO_WORD));
 }
 
 #[test]
-fn words_downwards(rt: HostRuntime) -> Result<(), Fail> {
-    assert!(rt; is_passed_as(rt.alloc(), Look::WordUnicode, true, EDGES_OF_WORDS)?);
-    assert!(rt; is_passed_as(rt.alloc(), Look::WordStartAscii, true, ENDS_OF_WORDS)?);
-    assert!(rt; is_passed_as(rt.alloc(), Look::WordEndHalfAscii, true, BEHIND_NO_WORD)?);
-    Ok(())
+fn words_downwards(rt: HostRuntime) {
+    assert!(rt; down(rt.alloc(), Look::WordUnicode, &EDGES_OF_WORDS));
+    assert!(rt; down(rt.alloc(), Look::WordStartAscii, &ENDS_OF_WORDS));
+    assert!(rt; down(rt.alloc(), Look::WordEndHalfAscii, &BEHIND_NO_WORD));
 }

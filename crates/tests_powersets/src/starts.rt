@@ -5,17 +5,19 @@ use look_core::{AsciiWord, LineTerm, Look, LookMatcher, LookSet};
 use nfa_core::BuildError;
 use search_types::{Anchored, Input};
 use std::alloc::Global;
-use std::test::Fail;
+
+/// Whether starts have their numbers, and no other number is a start's.
+fn numbers_are_told() -> bool {
+    Start::from_usize(5) == Some(Start::CustomLineTerminator)
+        && Start::from_usize(6) == Some(Start::CustomWordLineTerminator)
+        && Start::from_usize(7).is_none()
+        && (Start::len(), Start::LineLF.as_usize()) == (7, 3)
+        && Start::LineCR.as_u8() == 4
+}
 
 #[test]
-fn numbers(rt: HostRuntime) -> Result<(), Fail> {
-    assert_eq!(rt; Start::from_usize(5), Some(Start::CustomLineTerminator));
-    assert_eq!(rt; Start::from_usize(6), Some(Start::CustomWordLineTerminator));
-    assert_eq!(rt; Start::from_usize(7), None);
-    assert_eq!(rt; Start::len(), 7);
-    assert_eq!(rt; Start::LineLF.as_usize(), 3);
-    assert_eq!(rt; Start::LineCR.as_u8(), 4);
-    Ok(())
+fn numbers(rt: HostRuntime) {
+    assert!(rt; numbers_are_told());
 }
 
 /// The start of each byte, where lines end at these bytes.
@@ -25,37 +27,65 @@ fn map_of(terminator: LineTerm) -> StartByteMap {
     StartByteMap::new(&matcher)
 }
 
-#[test]
-fn bytes(rt: HostRuntime) -> Result<(), Fail> {
-    let map = map_of(LineTerm::one(b'_'));
-    assert_eq!(rt; map.get(b'_'), Start::CustomWordLineTerminator);
-    assert_eq!(rt; map.get(b'\n'), Start::LineLF);
-    let map = map_of(LineTerm::one(b'\n'));
-    assert_eq!(rt; map.get(b'_'), Start::WordByte);
-    assert_eq!(rt; map.get(b'-'), Start::NonWordByte);
-    assert_eq!(rt; map.get(b'\r'), Start::LineCR);
-    assert_eq!(rt; map.get(0xFF), Start::NonWordByte);
-    let map = map_of(LineTerm::two(0, b'x'));
-    assert_eq!(rt; map.get(0), Start::CustomLineTerminator);
-    assert_eq!(rt; map.get(b'x'), Start::CustomWordLineTerminator);
-    Ok(())
+/// Whether each byte has its start where lines end so.
+fn are_starts(terminator: LineTerm, rows: &[(u8, Start)]) -> bool {
+    let map = map_of(terminator);
+    for (byte, start) in rows {
+        if map.get(*byte) != *start {
+            return false;
+        }
+    }
+    true
 }
 
 #[test]
-fn configs(rt: HostRuntime) -> Result<(), Fail> {
+fn bytes(rt: HostRuntime) {
+    let by_low_line = [
+        (b'_', Start::CustomWordLineTerminator),
+        (b'\n', Start::LineLF),
+    ];
+    assert!(rt; are_starts(LineTerm::one(b'_'), &by_low_line));
+    let by_line_feed = [
+        (b'_', Start::WordByte),
+        (b'-', Start::NonWordByte),
+        (b'\r', Start::LineCR),
+        (0xFF, Start::NonWordByte),
+    ];
+    assert!(rt; are_starts(LineTerm::one(b'\n'), &by_line_feed));
+    let by_two = [
+        (0, Start::CustomLineTerminator),
+        (b'x', Start::CustomWordLineTerminator),
+    ];
+    assert!(rt; are_starts(LineTerm::two(0, b'x'), &by_two));
+}
+
+/// The byte behind the start, and the mode.
+fn told(config: &Config) -> (Option<u8>, Anchored) {
+    (config.get_look_behind(), config.get_anchored())
+}
+
+/// Whether a span's neighbours stand behind its starts, read upwards and downwards.
+fn neighbours_are_behind() -> bool {
     let input = Input::new(b"abc").range(1..2).anchored(Anchored::Yes);
     let forward = Config::from_input_forward(&input);
-    assert_eq!(rt; forward.get_look_behind(), Some(b'a'));
-    assert_eq!(rt; forward.get_anchored(), Anchored::Yes);
     let reverse = Config::from_input_reverse(&input);
-    assert_eq!(rt; reverse.get_look_behind(), Some(b'c'));
+    told(&forward) == (Some(b'a'), Anchored::Yes) && reverse.get_look_behind() == Some(b'c')
+}
+
+/// Whether nothing stands behind the starts of a whole haystack.
+fn nothing_is_behind() -> bool {
     let whole = Input::new(b"abc");
-    assert_eq!(rt; Config::from_input_forward(&whole).get_look_behind(), None);
-    assert_eq!(rt; Config::from_input_reverse(&whole).get_look_behind(), None);
+    let forward = Config::from_input_forward(&whole);
+    let reverse = Config::from_input_reverse(&whole);
+    forward.get_look_behind().is_none() && reverse.get_look_behind().is_none()
+}
+
+#[test]
+fn configs(rt: HostRuntime) {
+    assert!(rt; neighbours_are_behind());
+    assert!(rt; nothing_is_behind());
     let config = Config::new().look_behind(Some(7)).anchored(Anchored::Yes);
-    assert_eq!(rt; config.get_look_behind(), Some(7));
-    assert_eq!(rt; config.get_anchored(), Anchored::Yes);
-    Ok(())
+    assert!(rt; told(&config) == (Some(7), Anchored::Yes));
 }
 
 /// What is known at a start where the automaton has this look alone, and lines end at the line feed and `;`.
@@ -100,64 +130,74 @@ fn flags_as(alloc: Global, look: Look, reverse: bool, table: &[u8; 7]) -> Result
     Ok(true)
 }
 
-// The starts are no word byte, a word byte, the edge, line feed, carriage return, another byte that ends
-// lines, and a word byte that does.
-#[test]
-fn known_upwards(rt: HostRuntime) -> Result<(), Fail> {
-    let alloc = rt.alloc();
-    assert!(rt; holds_as(alloc, Look::End, Look::Start, false, b"--+----")?);
-    assert!(rt; holds_as(alloc, Look::EndLF, Look::StartLF, false, b"--++-++")?);
-    assert!(rt; holds_as(alloc, Look::EndCRLF, Look::StartCRLF, false, b"--++---")?);
-    assert!(rt;
-        holds_as(
-            alloc,
-            Look::WordAscii,
-            Look::WordStartHalfAscii,
-            false,
-            b"+-++++-"
-        )?
-    );
-    assert!(rt;
-        holds_as(
-            alloc,
-            Look::WordUnicode,
-            Look::WordStartHalfUnicode,
-            false,
-            b"+-++++-"
-        )?
-    );
-    assert!(rt; flags_as(alloc, Look::WordAscii, false, b"-w----w")?);
-    assert!(rt; flags_as(alloc, Look::EndCRLF, false, b"----h--")?);
-    Ok(())
+/// A look of an automaton, one that is known at starts because of it, and at which of them: no word byte, a word
+/// byte, the edge, line feed, carriage return, another byte that ends lines, and a word byte that does.
+type Known = (Look, Look, &'static [u8; 7]);
+
+/// Whether each row's look is known so.
+fn hold_as(alloc: Global, reverse: bool, rows: &[Known]) -> Result<bool, BuildError> {
+    for (look, told, table) in rows {
+        if !holds_as(alloc, *look, *told, reverse, table)? {
+            return Ok(false);
+        }
+    }
+    Ok(true)
+}
+
+/// What is known because of edges, lines and words, read upwards.
+const fn upwards() -> [Known; 5] {
+    [
+        (Look::End, Look::Start, b"--+----"),
+        (Look::EndLF, Look::StartLF, b"--++-++"),
+        (Look::EndCRLF, Look::StartCRLF, b"--++---"),
+        (Look::WordAscii, Look::WordStartHalfAscii, b"+-++++-"),
+        (Look::WordUnicode, Look::WordStartHalfUnicode, b"+-++++-"),
+    ]
 }
 
 #[test]
-fn known_downwards(rt: HostRuntime) -> Result<(), Fail> {
+fn known_upwards(rt: HostRuntime) {
     let alloc = rt.alloc();
-    assert!(rt; holds_as(alloc, Look::End, Look::Start, true, b"--+----")?);
-    assert!(rt; holds_as(alloc, Look::EndLF, Look::StartLF, true, b"--++-++")?);
-    assert!(rt; holds_as(alloc, Look::EndCRLF, Look::StartCRLF, true, b"--+-+--")?);
+    assert!(rt; matches!(hold_as(alloc, false, &upwards()), Ok(true)));
     assert!(rt;
-        holds_as(
-            alloc,
-            Look::WordAscii,
-            Look::WordStartHalfAscii,
-            true,
-            b"+-++++-"
-        )?
+        matches!(
+            flags_as(alloc, Look::WordAscii, false, b"-w----w"),
+            Ok(true)
+        )
     );
-    assert!(rt; flags_as(alloc, Look::WordAscii, true, b"-w----w")?);
-    assert!(rt; flags_as(alloc, Look::EndCRLF, true, b"---h---")?);
-    Ok(())
+    assert!(rt; matches!(flags_as(alloc, Look::EndCRLF, false, b"----h--"), Ok(true)));
+}
+
+/// The same, read downwards.
+const fn downwards() -> [Known; 4] {
+    [
+        (Look::End, Look::Start, b"--+----"),
+        (Look::EndLF, Look::StartLF, b"--++-++"),
+        (Look::EndCRLF, Look::StartCRLF, b"--+-+--"),
+        (Look::WordAscii, Look::WordStartHalfAscii, b"+-++++-"),
+    ]
+}
+
+#[test]
+fn known_downwards(rt: HostRuntime) {
+    let alloc = rt.alloc();
+    assert!(rt; matches!(hold_as(alloc, true, &downwards()), Ok(true)));
+    assert!(rt; matches!(flags_as(alloc, Look::WordAscii, true, b"-w----w"), Ok(true)));
+    assert!(rt; matches!(flags_as(alloc, Look::EndCRLF, true, b"---h---"), Ok(true)));
 }
 
 /// Looks of other families are never told.
+fn others_are_unknown(alloc: Global) -> Result<bool, BuildError> {
+    let at_edge = known(alloc, Look::EndCRLF, false, Start::Text)?;
+    let behind_word = known(alloc, Look::End, false, Start::WordByte)?;
+    Ok(
+        at_edge.look_have == LookSet::singleton(Look::StartCRLF)
+            && behind_word.look_have == LookSet::empty()
+            && !behind_word.is_from_word,
+    )
+}
+
 #[test]
-fn only_looks_that_are_asked_for(rt: HostRuntime) -> Result<(), Fail> {
-    let known = known(rt.alloc(), Look::EndCRLF, false, Start::Text)?;
-    assert_eq!(rt; known.look_have, LookSet::singleton(Look::StartCRLF));
-    let known = self::known(rt.alloc(), Look::End, false, Start::WordByte)?;
-    assert_eq!(rt; known.look_have, LookSet::empty());
-    assert!(rt; !known.is_from_word);
-    Ok(())
+fn only_looks_that_are_asked_for(rt: HostRuntime) {
+    assert!(rt; matches!(others_are_unknown(rt.alloc()), Ok(true)));
 }

@@ -7,13 +7,12 @@ use determinize_core::{
     Start, State, StateBuilderEmpty, Workspace, next, next_in, of_nfa, start_in, start_state, walk,
     walk_with,
 };
-use nfa_core::{NFA, PairSet, Sets, Steps};
+use nfa_core::{BuildError, NFA, PairSet, Sets, Steps};
 use search_core::{StateID, Unit};
 use search_types::MatchKind;
 use std::alloc::{AllocError, Global};
 use std::marker::Brand;
 use std::sync::ledger::{Blank, Ledger};
-use std::test::Fail;
 
 /// Two sets of pairs for the states of an automaton.
 fn pair_sets(alloc: Global, nfa: &NFA) -> Result<Sets<PairSet>, AllocError>
@@ -76,28 +75,57 @@ fn bytes_of(alloc: Global, states: &[State]) -> Result<Vec<u8>, AllocError> {
     Ok(bytes)
 }
 
-#[test]
-fn sets_make_no_difference(rt: HostRuntime) -> Result<(), Fail> {
-    let alloc = rt.alloc();
+/// The bytes of the states of a walk over `ab` with the library's own sets.
+fn own_bytes(alloc: Global, nfa: &NFA) -> Result<Vec<u8>, AllocError> {
+    let (kind, start) = (MatchKind::LeftmostFirst, nfa.start_unanchored());
+    let states = walk(alloc, nfa, kind, start, None, b"ab")?;
+    bytes_of(alloc, &states)
+}
+
+/// The states of such a walk with sets of pairs.
+fn pair_states(alloc: Global, nfa: &NFA) -> Result<Vec<State>, AllocError> {
+    walk_with_pairs::<Brand>(alloc, nfa, nfa.start_unanchored(), b"ab", Blank::new(1))
+}
+
+/// Whether both walks have the same states.
+fn are_the_same(alloc: Global) -> Result<bool, BuildError> {
     let nfa = one_letter(alloc)?;
-    let start = nfa.start_unanchored();
-    let sparse = walk(alloc, &nfa, MatchKind::LeftmostFirst, start, None, b"ab")?;
-    let pairs = walk_with_pairs::<Brand>(alloc, &nfa, start, b"ab", Blank::new(1))?;
-    assert!(rt; bytes_of(alloc, &sparse)?.as_slice() == bytes_of(alloc, &pairs)?.as_slice());
-    assert_eq!(rt; pairs.len(), 4);
-    Ok(())
+    let states = pair_states(alloc, &nfa)?;
+    let bytes = bytes_of(alloc, &states)?;
+    Ok(states.len() == 4 && own_bytes(alloc, &nfa)?.as_slice() == bytes.as_slice())
 }
 
 #[test]
-fn one_workspace_serves_a_start_and_a_step(rt: HostRuntime) -> Result<(), Fail> {
-    let alloc = rt.alloc();
+fn sets_make_no_difference(rt: HostRuntime) {
+    assert!(rt; matches!(are_the_same(rt.alloc()), Ok(true)));
+}
+
+/// The state behind `a`, made in one workspace.
+fn state_in(alloc: Global, nfa: &NFA) -> Result<State, AllocError> {
+    behind_in::<Brand>(alloc, nfa, nfa.start_unanchored(), Blank::new(1))
+}
+
+/// Whether a walk over `a` comes by the state behind its first one.
+fn comes_by(alloc: Global, nfa: &NFA, state: &State) -> Result<bool, AllocError> {
+    let (kind, start) = (MatchKind::LeftmostFirst, nfa.start_unanchored());
+    let walked = walk(alloc, nfa, kind, start, None, b"a")?;
+    match walked.get(1) {
+        Some(second) => Ok(walked.len() == 3 && second.as_bytes() == state.as_bytes()),
+        None => Ok(false),
+    }
+}
+
+/// Whether it comes by the state that one workspace makes.
+fn is_walked(alloc: Global) -> Result<bool, BuildError> {
     let nfa = one_letter(alloc)?;
-    let start = nfa.start_unanchored();
-    let walked = walk(alloc, &nfa, MatchKind::LeftmostFirst, start, None, b"a")?;
-    let behind = behind_in::<Brand>(alloc, &nfa, start, Blank::new(1))?;
-    assert_eq!(rt; walked.len(), 3);
-    assert!(rt; walked[1].as_bytes() == behind.as_bytes());
-    Ok(())
+    let state = state_in(alloc, &nfa)?;
+    let walked = comes_by(alloc, &nfa, &state)?;
+    Ok(walked)
+}
+
+#[test]
+fn one_workspace_serves_a_start_and_a_step(rt: HostRuntime) {
+    assert!(rt; matches!(is_walked(rt.alloc()), Ok(true)));
 }
 
 /// The state behind the byte `a`, or none where the state is of another automaton.
@@ -159,20 +187,48 @@ fn start_of<L: Ledger>(
     built.to_state(alloc)
 }
 
-#[test]
-fn one_step(rt: HostRuntime) -> Result<(), Fail> {
-    let alloc = rt.alloc();
+/// The state of the start that may be at any place.
+fn first_state(alloc: Global, nfa: &NFA) -> Result<State, AllocError> {
+    start_of::<Brand>(alloc, nfa, nfa.start_unanchored(), Blank::new(1))
+}
+
+/// The state behind `a`, or none where the state is of another automaton.
+fn next_state(alloc: Global, nfa: &NFA, state: &State) -> Result<Option<State>, AllocError> {
+    behind_letter::<Brand>(alloc, nfa, state, Blank::new(1))
+}
+
+/// Whether the first state is the automaton's, and the one behind it has these bytes.
+fn steps_to(alloc: Global, nfa: &NFA, bytes: &[u8]) -> Result<bool, AllocError> {
+    let first = first_state(alloc, nfa)?;
+    match next_state(alloc, nfa, &first)? {
+        Some(behind) => Ok(of_nfa(nfa, &first) && behind.as_bytes() == bytes),
+        None => Ok(false),
+    }
+}
+
+/// Whether the automaton for one letter steps to its state and to that of any byte.
+fn letter_steps(alloc: Global) -> Result<bool, BuildError> {
     let nfa = one_letter(alloc)?;
-    let start = start_of::<Brand>(alloc, &nfa, nfa.start_unanchored(), Blank::new(1))?;
-    assert!(rt; of_nfa(&nfa, &start));
-    let Some(behind) = behind_letter::<Brand>(alloc, &nfa, &start, Blank::new(1))? else {
-        assert!(rt; false);
-        return Ok(());
-    };
-    let expected: &[u8] = &[0, 0, 0, 0, 0, 0, 0, 0, 0, 6, 5, 4, 1];
-    assert!(rt; behind.as_bytes() == expected);
+    let steps = steps_to(alloc, &nfa, &[0, 0, 0, 0, 0, 0, 0, 0, 0, 6, 5, 4, 1])?;
+    Ok(steps)
+}
+
+/// The first state of that automaton.
+fn letter_state(alloc: Global) -> Result<State, BuildError> {
+    let nfa = one_letter(alloc)?;
+    let state = first_state(alloc, &nfa)?;
+    Ok(state)
+}
+
+/// Whether an automaton that never matches has no such state and no step from it.
+fn is_foreign(alloc: Global) -> Result<bool, BuildError> {
+    let state = letter_state(alloc)?;
     let never = NFA::never_match(alloc)?;
-    assert!(rt; !of_nfa(&never, &start));
-    assert!(rt; behind_letter::<Brand>(alloc, &never, &start, Blank::new(1))?.is_none());
-    Ok(())
+    Ok(!of_nfa(&never, &state) && next_state(alloc, &never, &state)?.is_none())
+}
+
+#[test]
+fn one_step(rt: HostRuntime) {
+    assert!(rt; matches!(letter_steps(rt.alloc()), Ok(true)));
+    assert!(rt; matches!(is_foreign(rt.alloc()), Ok(true)));
 }

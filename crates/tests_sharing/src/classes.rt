@@ -1,11 +1,10 @@
 //! Classes of scalars: how many states they take, worked out by hand from the table of UTF-8, and which
 //! scalars they find. Two states stand before them and a match behind them.
-use crate::finds::{accepts, compiled, sizes};
+use crate::finds::{accepts, build, compiled, plain, sizes};
 use hir_core::{Hir, is_ascending_chars};
 use nfa_core::{BuildError, NFA};
 use std::alloc::{AllocError, Global};
-use std::test::Fail;
-use thompson_nfa::{Compiler, Config, WhichCaptures};
+use thompson_nfa::Config;
 
 /// The class of these ranges, which ascend.
 fn class(ranges: Vec<(char, char)>) -> Hir {
@@ -42,8 +41,8 @@ fn have_sizes(alloc: Global, cases: &[Sized]) -> Result<bool, BuildError> {
 /// nine rows; downwards no two rows end in the same bytes, and each range is a state behind a choice; made
 /// smaller, they are six. Then the edges between spellings of different lengths.
 #[test]
-fn ranges(rt: HostRuntime) -> Result<(), Fail> {
-    let cases = [
+fn ranges(rt: HostRuntime) {
+    let cases: [Sized; 7] = [
         ('\u{0}', '\u{10FFFF}', (11, 31, 9)),
         ('\u{7F}', '\u{80}', (5, 7, 5)),
         ('\u{7FF}', '\u{800}', (7, 9, 7)),
@@ -52,19 +51,27 @@ fn ranges(rt: HostRuntime) -> Result<(), Fail> {
         ('\u{10FFFF}', '\u{10FFFF}', (7, 7, 7)),
         ('A', 'Z', (4, 4, 4)),
     ];
-    assert!(rt; have_sizes(rt.alloc(), &cases)?);
-    Ok(())
+    assert!(rt; matches!(have_sizes(rt.alloc(), &cases), Ok(true)));
+}
+
+/// Two ranges, and how many states they take.
+fn two_have_sizes(
+    alloc: Global,
+    ranges: [(char, char); 2],
+    want: (usize, usize, usize),
+) -> Result<bool, BuildError> {
+    let two = class(Vec::from_array(alloc, ranges)?);
+    Ok(sizes(alloc, &two)? == want)
 }
 
 /// Downwards the two sequences have one state for their common first byte; a class of ASCII is one state.
 #[test]
-fn two_ranges(rt: HostRuntime) -> Result<(), Fail> {
+fn two_ranges(rt: HostRuntime) {
     let alloc = rt.alloc();
-    let letters = class(vec![in alloc; ('\u{430}', '\u{431}'), ('\u{433}', '\u{433}')]?);
-    assert!(rt; sizes(alloc, &letters)? == (5, 7, 5));
-    let ascii = class(vec![in alloc; ('A', 'Z'), ('a', 'z')]?);
-    assert!(rt; sizes(alloc, &ascii)? == (4, 4, 4));
-    Ok(())
+    let letters = [('\u{430}', '\u{431}'), ('\u{433}', '\u{433}')];
+    assert!(rt; matches!(two_have_sizes(alloc, letters, (5, 7, 5)), Ok(true)));
+    let ascii = [('A', 'Z'), ('a', 'z')];
+    assert!(rt; matches!(two_have_sizes(alloc, ascii, (4, 4, 4)), Ok(true)));
 }
 
 /// Two hundred ranges of sixteen scalars, with sixteen left out behind each, from U+1000 on.
@@ -82,29 +89,38 @@ fn many(alloc: Global) -> Result<Hir, AllocError> {
 
 /// Two hundred ranges have two sequences for each of a hundred blocks, behind one of two first bytes. In the
 /// plain form that is six hundred states and the choice.
+fn many_are_few_states(alloc: Global) -> Result<bool, BuildError> {
+    let ranges = many(alloc)?;
+    let (up, down, shrunk) = sizes(alloc, &ranges)?;
+    Ok(up == 7 && down <= 604 && shrunk <= 604)
+}
+
 #[test]
-fn hundreds_of_ranges(rt: HostRuntime) -> Result<(), Fail> {
-    let ranges = many(rt.alloc())?;
-    let (up, down, shrunk) = sizes(rt.alloc(), &ranges)?;
-    assert!(rt; up == 7 && down <= 604 && shrunk <= 604);
-    Ok(())
+fn hundreds_of_ranges(rt: HostRuntime) {
+    assert!(rt; matches!(many_are_few_states(rt.alloc()), Ok(true)));
+}
+
+/// All scalars, downwards and made smaller, under a limit of so many bytes.
+fn limited(alloc: Global, limit: usize) -> Result<NFA, BuildError> {
+    let all = range(alloc, '\u{0}', '\u{10FFFF}')?;
+    let config = plain(true, true).nfa_size_limit(Some(limit));
+    build(alloc, config, &all)
+}
+
+/// How many states there are under the limit.
+fn limited_len(alloc: Global, limit: usize) -> Result<usize, BuildError> {
+    let nfa = limited(alloc, limit)?;
+    Ok(nfa.states().len())
 }
 
 /// The bytes of all states that the nine states above are built of: 88 before the class, 24 for its end and 296
 /// for its six nodes with nineteen transitions, and 24 for the match. So many are enough, and one less
 /// isn't.
 #[test]
-fn small_classes_keep_to_their_limit(rt: HostRuntime) -> Result<(), Fail> {
-    let alloc = rt.alloc();
-    let all = range(alloc, '\u{0}', '\u{10FFFF}')?;
-    let mut compiler = Compiler::new(alloc);
-    let config = Config::new().which_captures(WhichCaptures::None);
-    compiler.configure(config.reverse(true).shrink(true).nfa_size_limit(Some(432)));
-    assert!(rt; compiler.build_from_hir(&all)?.states().len() == 9);
-    compiler.configure(Config::new().nfa_size_limit(Some(431)));
-    let refused = compiler.build_from_hir(&all);
+fn small_classes_keep_to_their_limit(rt: HostRuntime) {
+    assert!(rt; matches!(limited_len(rt.alloc(), 432), Ok(9)));
+    let refused = limited(rt.alloc(), 431);
     assert!(rt; matches!(refused, Err(BuildError::ExceededSizeLimit { limit: 431 })));
-    Ok(())
 }
 
 /// Whether the automaton finds the scalar's spelling, read upwards or downwards.
@@ -162,14 +178,19 @@ fn are_classes(
     Ok(up && down && shrunk)
 }
 
-#[test]
-fn scalars_are_found(rt: HostRuntime) -> Result<(), Fail> {
-    let alloc = rt.alloc();
-    let ranges = vec![in alloc;
+/// Three ranges of one to four bytes.
+fn three(alloc: Global) -> Result<Hir, AllocError> {
+    let ranges = [
         ('\u{7F}', '\u{800}'),
         ('\u{D7FF}', '\u{FFFF}'),
         ('\u{10001}', '\u{10FFFE}'),
-    ]?;
+    ];
+    Ok(class(Vec::from_array(alloc, ranges)?))
+}
+
+/// Whether they are found, and their neighbours aren't.
+fn three_are_found(alloc: Global) -> Result<bool, BuildError> {
+    let three = three(alloc)?;
     let inside = [
         '\u{7F}',
         '\u{80}',
@@ -191,17 +212,25 @@ fn scalars_are_found(rt: HostRuntime) -> Result<(), Fail> {
         '\u{10000}',
         '\u{10FFFF}',
     ];
-    assert!(rt; are_classes(alloc, &class(ranges), &inside, &outside)?);
-    Ok(())
+    are_classes(alloc, &three, &inside, &outside)
 }
 
 #[test]
-fn scalars_of_many_ranges_are_found(rt: HostRuntime) -> Result<(), Fail> {
-    let ranges = many(rt.alloc())?;
+fn scalars_are_found(rt: HostRuntime) {
+    assert!(rt; matches!(three_are_found(rt.alloc()), Ok(true)));
+}
+
+/// Whether scalars of many ranges are found, and none between them.
+fn many_are_found(alloc: Global) -> Result<bool, BuildError> {
+    let many = many(alloc)?;
     let inside = ['\u{1000}', '\u{100F}', '\u{1020}', '\u{2000}', '\u{28EF}'];
     let outside = ['\u{FFF}', '\u{1010}', '\u{101F}', '\u{28F0}', 'a'];
-    assert!(rt; are_classes(rt.alloc(), &ranges, &inside, &outside)?);
-    Ok(())
+    are_classes(alloc, &many, &inside, &outside)
+}
+
+#[test]
+fn scalars_of_many_ranges_are_found(rt: HostRuntime) {
+    assert!(rt; matches!(many_are_found(rt.alloc()), Ok(true)));
 }
 
 /// Bytes, and whether the automaton finds them.
@@ -216,10 +245,20 @@ fn finds_as(alloc: Global, nfa: &NFA, cases: &[Found<'_>]) -> Result<bool, Alloc
     Ok(true)
 }
 
+/// Whether the tree finds the bytes as it is expected.
+fn tree_finds_as(
+    alloc: Global,
+    tree: &Hir,
+    config: Config,
+    cases: &[Found<'_>],
+) -> Result<bool, BuildError> {
+    let nfa = build(alloc, config, tree)?;
+    let found = finds_as(alloc, &nfa, cases)?;
+    Ok(found)
+}
+
 /// A spelling that is cut, or read the other way round, is not found; nor is that of a surrogate.
-#[test]
-fn parts_are_not_found(rt: HostRuntime) -> Result<(), Fail> {
-    let alloc = rt.alloc();
+fn whole_are_found(alloc: Global) -> Result<bool, BuildError> {
     let all = range(alloc, '\u{0}', '\u{10FFFF}')?;
     let up: [Found<'_>; 4] = [
         (&[0xE2, 0x82, 0xAC], true),
@@ -227,15 +266,21 @@ fn parts_are_not_found(rt: HostRuntime) -> Result<(), Fail> {
         (&[0xAC, 0x82, 0xE2], false),
         (&[0xED, 0xA0, 0x80], false),
     ];
-    assert!(rt; finds_as(alloc, &compiled(alloc, false, false, &all)?, &up)?);
     let down: [Found<'_>; 4] = [
         (&[0xAC, 0x82, 0xE2], true),
         (&[0x80], false),
         (&[0xE2, 0x82, 0xAC], false),
         (&[0x80, 0xA0, 0xED], false),
     ];
-    assert!(rt; finds_as(alloc, &compiled(alloc, true, true, &all)?, &down)?);
-    Ok(())
+    Ok(
+        tree_finds_as(alloc, &all, plain(false, false), &up)?
+            && tree_finds_as(alloc, &all, plain(true, true), &down)?,
+    )
+}
+
+#[test]
+fn parts_are_not_found(rt: HostRuntime) {
+    assert!(rt; matches!(whole_are_found(rt.alloc()), Ok(true)));
 }
 
 /// Two classes of one spelling but for the last byte, one behind the other.
@@ -245,21 +290,35 @@ fn two_classes(alloc: Global) -> Result<Hir, AllocError> {
     Ok(Hir::concat(vec![in alloc; first, second]?))
 }
 
-/// What was kept of one class is not taken for the next.
-#[test]
-fn classes_one_after_the_other(rt: HostRuntime) -> Result<(), Fail> {
-    let alloc = rt.alloc();
+/// Whether they take seven states, upwards, downwards and made smaller.
+fn two_take_seven(alloc: Global) -> Result<bool, BuildError> {
     let two = two_classes(alloc)?;
-    assert!(rt; sizes(alloc, &two)? == (7, 7, 7));
+    Ok(sizes(alloc, &two)? == (7, 7, 7))
+}
+
+/// What was kept of one class is not taken for the next, read upwards.
+fn are_apart_upwards(alloc: Global) -> Result<bool, BuildError> {
+    let two = two_classes(alloc)?;
     let up: [Found<'_>; 2] = [
         (&[0xD0, 0xB0, 0xD0, 0xB2], true),
         (&[0xD0, 0xB2, 0xD0, 0xB0], false),
     ];
-    assert!(rt; finds_as(alloc, &compiled(alloc, false, false, &two)?, &up)?);
+    tree_finds_as(alloc, &two, plain(false, false), &up)
+}
+
+/// Likewise downwards.
+fn are_apart_downwards(alloc: Global) -> Result<bool, BuildError> {
+    let two = two_classes(alloc)?;
     let down: [Found<'_>; 2] = [
         (&[0xB2, 0xD0, 0xB0, 0xD0], true),
         (&[0xB0, 0xD0, 0xB2, 0xD0], false),
     ];
-    assert!(rt; finds_as(alloc, &compiled(alloc, true, false, &two)?, &down)?);
-    Ok(())
+    tree_finds_as(alloc, &two, plain(true, false), &down)
+}
+
+#[test]
+fn classes_one_after_the_other(rt: HostRuntime) {
+    assert!(rt; matches!(two_take_seven(rt.alloc()), Ok(true)));
+    assert!(rt; matches!(are_apart_upwards(rt.alloc()), Ok(true)));
+    assert!(rt; matches!(are_apart_downwards(rt.alloc()), Ok(true)));
 }

@@ -6,6 +6,19 @@ use search_types::MatchKind;
 use std::alloc::{AllocError, Global};
 use thompson_nfa::{Compiler, Config, WhichCaptures};
 
+/// The automaton of a tree.
+pub(crate) fn build(alloc: Global, config: Config, tree: &Hir) -> Result<NFA, BuildError> {
+    let mut compiler = Compiler::new(alloc);
+    compiler.configure(config);
+    compiler.build_from_hir(tree)
+}
+
+/// No states for groups.
+pub(crate) fn plain(reverse: bool, shrink: bool) -> Config {
+    let config = Config::new().which_captures(WhichCaptures::None);
+    config.reverse(reverse).shrink(shrink)
+}
+
 /// The automaton of a tree without states for groups.
 pub(crate) fn compiled(
     alloc: Global,
@@ -13,22 +26,21 @@ pub(crate) fn compiled(
     shrink: bool,
     tree: &Hir,
 ) -> Result<NFA, BuildError> {
-    let mut compiler = Compiler::new(alloc);
-    let config = Config::new().which_captures(WhichCaptures::None);
-    compiler.configure(config.reverse(reverse).shrink(shrink));
-    compiler.build_from_hir(tree)
+    build(alloc, plain(reverse, shrink), tree)
+}
+
+/// How many states it has.
+fn len(alloc: Global, reverse: bool, shrink: bool, tree: &Hir) -> Result<usize, BuildError> {
+    let nfa = compiled(alloc, reverse, shrink, tree)?;
+    Ok(nfa.states().len())
 }
 
 /// How many states there are upwards, downwards, and downwards where classes are made smaller.
 pub(crate) fn sizes(alloc: Global, tree: &Hir) -> Result<(usize, usize, usize), BuildError> {
-    let up = compiled(alloc, false, false, tree)?;
-    let down = compiled(alloc, true, false, tree)?;
-    let shrunk = compiled(alloc, true, true, tree)?;
-    Ok((
-        up.states().len(),
-        down.states().len(),
-        shrunk.states().len(),
-    ))
+    let up = len(alloc, false, false, tree)?;
+    let down = len(alloc, true, false, tree)?;
+    let shrunk = len(alloc, true, true, tree)?;
+    Ok((up, down, shrunk))
 }
 
 /// Whether a match of the automaton ends behind all of these bytes, in the order in which it reads them.

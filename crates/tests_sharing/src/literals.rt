@@ -1,9 +1,8 @@
 //! Alternations of literals: their states, worked out by hand, and which end is preferred.
 use crate::finds::{compiled, preferred_end, sizes};
 use hir_core::Hir;
-use nfa_core::BuildError;
+use nfa_core::{BuildError, NFA};
 use std::alloc::{AllocError, Global};
-use std::test::Fail;
 
 fn alternation(alloc: Global, texts: &[&[u8]]) -> Result<Hir, AllocError> {
     let mut parts = Vec::new(alloc);
@@ -19,69 +18,87 @@ fn states(alloc: Global, texts: &[&[u8]]) -> Result<(usize, usize), BuildError> 
     Ok((up, down))
 }
 
+/// Whether the literals take so many.
+fn take(alloc: Global, texts: &[&[u8]], want: (usize, usize)) -> bool {
+    match states(alloc, texts) {
+        Ok(told) => told == want,
+        Err(_) => false,
+    }
+}
+
 /// Three letters that both have, a choice, four letters more; downwards nothing is common: a first state by
 /// two letters, two chains of two and six. Three states are around them. Then two words that end alike: a
 /// first state and two chains of four; downwards four letters and a state for the last two.
 #[test]
-fn states_are_shared(rt: HostRuntime) -> Result<(), Fail> {
-    let alloc = rt.alloc();
-    assert!(rt; states(alloc, &[b"sam", b"samwise"])? == (11, 12));
-    assert!(rt; states(alloc, &[b"samwise", b"sam"])? == (11, 12));
-    assert!(rt; states(alloc, &[b"going", b"doing"])? == (12, 8));
-    Ok(())
+fn states_are_shared(rt: HostRuntime) {
+    assert!(rt; take(rt.alloc(), &[b"sam", b"samwise"], (11, 12)));
+    assert!(rt; take(rt.alloc(), &[b"samwise", b"sam"], (11, 12)));
+    assert!(rt; take(rt.alloc(), &[b"going", b"doing"], (12, 8)));
 }
 
 /// A text, and behind how many bytes the preferred match from its start ends.
 type Ended<'a> = (&'a [u8], Option<usize>);
 
-fn end_as(
-    alloc: Global,
-    reverse: bool,
-    texts: &[&[u8]],
-    cases: &[Ended<'_>],
-) -> Result<bool, BuildError> {
-    let tree = alternation(alloc, texts)?;
-    let nfa = compiled(alloc, reverse, false, &tree)?;
+fn ends_as(alloc: Global, nfa: &NFA, cases: &[Ended<'_>]) -> Result<bool, AllocError> {
     for case in cases {
-        if preferred_end(alloc, &nfa, case.0)? != case.1 {
+        if preferred_end(alloc, nfa, case.0)? != case.1 {
             return Ok(false);
         }
     }
     Ok(true)
 }
 
+/// The automaton of the literals.
+fn compiled_texts(alloc: Global, reverse: bool, texts: &[&[u8]]) -> Result<NFA, BuildError> {
+    let tree = alternation(alloc, texts)?;
+    compiled(alloc, reverse, false, &tree)
+}
+
+fn texts_end_as(
+    alloc: Global,
+    reverse: bool,
+    texts: &[&[u8]],
+    cases: &[Ended<'_>],
+) -> Result<bool, BuildError> {
+    let nfa = compiled_texts(alloc, reverse, texts)?;
+    let ended = ends_as(alloc, &nfa, cases)?;
+    Ok(ended)
+}
+
+/// Whether the preferred matches of the literals end so, read upwards.
+fn up(alloc: Global, texts: &[&[u8]], cases: &[Ended<'_>]) -> bool {
+    matches!(texts_end_as(alloc, false, texts, cases), Ok(true))
+}
+
 /// Where one is the begin of the other, the earlier one is preferred.
 #[test]
-fn one_is_the_begin_of_the_other(rt: HostRuntime) -> Result<(), Fail> {
-    let alloc = rt.alloc();
+fn one_is_the_begin_of_the_other(rt: HostRuntime) {
     let short: [Ended<'_>; 2] = [(b"samwise", Some(3)), (b"saw", None)];
-    assert!(rt; end_as(alloc, false, &[b"sam", b"samwise"], &short)?);
+    assert!(rt; up(rt.alloc(), &[b"sam", b"samwise"], &short));
     let long: [Ended<'_>; 3] = [(b"samwise", Some(7)), (b"samwell", Some(3)), (b"saw", None)];
-    assert!(rt; end_as(alloc, false, &[b"samwise", b"sam"], &long)?);
-    Ok(())
+    assert!(rt; up(rt.alloc(), &[b"samwise", b"sam"], &long));
 }
 
 /// A literal behind a shorter one that it begins with isn't preferred to it, though others of its letters
 /// came first.
 #[test]
-fn preference_is_kept(rt: HostRuntime) -> Result<(), Fail> {
-    let alloc = rt.alloc();
+fn preference_is_kept(rt: HostRuntime) {
     let mixed: [Ended<'_>; 3] = [(b"abc", Some(2)), (b"ac", Some(1)), (b"b", None)];
-    assert!(rt; end_as(alloc, false, &[b"ab", b"a", b"ac", b"abc"], &mixed)?);
-    let first: [Ended<'_>; 1] = [(b"a", Some(0))];
-    assert!(rt; end_as(alloc, false, &[b"", b"a"], &first)?);
+    assert!(rt; up(rt.alloc(), &[b"ab", b"a", b"ac", b"abc"], &mixed));
+    assert!(rt; up(rt.alloc(), &[b"", b"a"], &[(b"a", Some(0))]));
     let last: [Ended<'_>; 2] = [(b"a", Some(1)), (b"b", Some(0))];
-    assert!(rt; end_as(alloc, false, &[b"a", b""], &last)?);
-    Ok(())
+    assert!(rt; up(rt.alloc(), &[b"a", b""], &last));
 }
 
 /// Downwards the last letters are read first.
-#[test]
-fn literals_are_read_downwards(rt: HostRuntime) -> Result<(), Fail> {
-    let alloc = rt.alloc();
+fn last_are_first(alloc: Global) -> Result<bool, BuildError> {
     let cases: [Ended<'_>; 3] = [(b"gniog", Some(5)), (b"gniod", Some(5)), (b"going", None)];
-    assert!(rt; end_as(alloc, true, &[b"going", b"doing"], &cases)?);
-    Ok(())
+    texts_end_as(alloc, true, &[b"going", b"doing"], &cases)
+}
+
+#[test]
+fn literals_are_read_downwards(rt: HostRuntime) {
+    assert!(rt; matches!(last_are_first(rt.alloc()), Ok(true)));
 }
 
 /// The last digit of the number.
@@ -105,13 +122,20 @@ fn words(alloc: Global) -> Result<Hir, AllocError> {
     Ok(Hir::alternation(parts))
 }
 
+/// The automaton of a thousand literals.
+fn compiled_words(alloc: Global) -> Result<NFA, BuildError> {
+    let words = words(alloc)?;
+    compiled(alloc, false, false, &words)
+}
+
 /// A thousand literals: four letters are common, then come a digit of ten, ten of ten and a hundred of ten.
+fn words_are_found(alloc: Global) -> Result<bool, BuildError> {
+    let nfa = compiled_words(alloc)?;
+    let cases: [Ended<'_>; 2] = [(b"word7045", Some(7)), (b"word70", None)];
+    Ok(nfa.states().len() == 3 + 4 + 1 + 10 + 100 && ends_as(alloc, &nfa, &cases)?)
+}
+
 #[test]
-fn a_thousand_literals(rt: HostRuntime) -> Result<(), Fail> {
-    let alloc = rt.alloc();
-    let nfa = compiled(alloc, false, false, &words(alloc)?)?;
-    assert!(rt; nfa.states().len() == 3 + 4 + 1 + 10 + 100);
-    assert!(rt; preferred_end(alloc, &nfa, b"word7045")? == Some(7));
-    assert!(rt; preferred_end(alloc, &nfa, b"word70")?.is_none());
-    Ok(())
+fn a_thousand_literals(rt: HostRuntime) {
+    assert!(rt; matches!(words_are_found(rt.alloc()), Ok(true)));
 }

@@ -14,50 +14,64 @@ fn key(alloc: Global, start: u8, next: u8) -> Result<Vec<Transition>, AllocError
     Ok(vec![in alloc; transition]?)
 }
 
-#[test]
-fn nodes(rt: HostRuntime) -> Result<(), Fail> {
-    let alloc = rt.alloc();
+/// Whether a map of nodes has what was stored at a place last, for its key alone, until it is cleared.
+fn nodes_are_kept(alloc: Global) -> Result<bool, AllocError> {
     let mut map = Utf8BoundedMap::new(alloc, 8);
     map.clear()?;
-    assert!(rt; map.is_ready());
+    if !map.is_ready() {
+        return Ok(false);
+    }
     let one = key(alloc, b'a', 3)?;
-    let place = map.hash(&one);
-    assert_eq!(rt; map.get(&one, place), None);
-    map.set(key(alloc, b'a', 3)?, place, StateID::must(5));
-    assert_eq!(rt; map.get(&one, place), Some(StateID::must(5)));
     let other = key(alloc, b'a', 4)?;
-    assert_eq!(rt; map.get(&other, place), None);
+    let place = map.hash(&one);
+    let first = map.get(&one, place);
+    map.set(key(alloc, b'a', 3)?, place, StateID::must(5));
+    let second = [map.get(&one, place), map.get(&other, place)];
     map.set(key(alloc, b'a', 4)?, place, StateID::must(6));
-    assert_eq!(rt; map.get(&other, place), Some(StateID::must(6)));
-    assert_eq!(rt; map.get(&one, place), None);
+    let third = [map.get(&one, place), map.get(&other, place)];
     map.clear()?;
-    assert_eq!(rt; map.get(&other, place), None);
-    assert_eq!(rt; map.get(&[], 0), None);
-    Ok(())
+    let last = [map.get(&other, place), map.get(&[], 0)];
+    Ok(
+        first.is_none()
+            && second == [Some(StateID::must(5)), None]
+            && third == [None, Some(StateID::must(6))]
+            && last == [None, None],
+    )
 }
 
 #[test]
-fn suffixes(rt: HostRuntime) -> Result<(), Fail> {
-    let mut map = Utf8SuffixMap::new(rt.alloc(), 8);
+fn nodes(rt: HostRuntime) {
+    assert!(rt; matches!(nodes_are_kept(rt.alloc()), Ok(true)));
+}
+
+/// Whether a map of endings does.
+fn suffixes_are_kept(alloc: Global) -> Result<bool, AllocError> {
+    let mut map = Utf8SuffixMap::new(alloc, 8);
     map.clear()?;
-    assert!(rt; map.is_ready());
+    if !map.is_ready() {
+        return Ok(false);
+    }
     let one = Utf8SuffixKey {
         from: StateID::must(3),
         start: b'a',
         end: b'z',
     };
-    let place = map.hash(&one);
-    assert_eq!(rt; map.get(&one, place), None);
-    map.set(one, place, StateID::must(5));
-    assert_eq!(rt; map.get(&one, place), Some(StateID::must(5)));
     let other = Utf8SuffixKey {
         from: StateID::must(4),
         ..one
     };
-    assert_eq!(rt; map.get(&other, place), None);
+    let place = map.hash(&one);
+    let first = map.get(&one, place);
+    map.set(one, place, StateID::must(5));
+    let second = [map.get(&one, place), map.get(&other, place)];
     map.clear()?;
-    assert_eq!(rt; map.get(&one, place), None);
-    Ok(())
+    let last = map.get(&one, place);
+    Ok(first.is_none() && second == [Some(StateID::must(5)), None] && last.is_none())
+}
+
+#[test]
+fn suffixes(rt: HostRuntime) {
+    assert!(rt; matches!(suffixes_are_kept(rt.alloc()), Ok(true)));
 }
 
 /// A map is cleared more often than a count of sixteen bits goes, and forgets each time.

@@ -1,8 +1,7 @@
 use crate::groups::a_and_none;
 use search_core::{NonMaxUsize, PatternID};
-use search_types::{Captures, GroupInfo, Match, Span};
-use std::alloc::{AllocError, Global};
-use std::test::Fail;
+use search_types::{Captures, GroupInfoError, Match, Span};
+use std::alloc::Global;
 
 /// Sets each of these slots that is kept.
 pub(crate) fn set(captures: &mut Captures, values: &[(usize, usize)]) {
@@ -20,7 +19,7 @@ fn matched(captures: &mut Captures) {
 }
 
 /// Captures of all slots, with a match of the first pattern.
-fn all_of_a_match(alloc: Global) -> Result<Captures, Fail> {
+fn all_of_a_match(alloc: Global) -> Result<Captures, GroupInfoError> {
     let mut captures = Captures::all(alloc, a_and_none(alloc)?)?;
     matched(&mut captures);
     Ok(captures)
@@ -83,15 +82,18 @@ fn tells_match(copy: &Captures) -> bool {
         && copy.group_info().pattern_len() == 2
 }
 
-#[test]
-fn groups_of_a_match(rt: HostRuntime) -> Result<(), Fail> {
-    let mut captures = all_of_a_match(rt.alloc())?;
-    let copy = captures.try_clone(rt.alloc())?;
-    assert!(rt; tells_groups(&captures));
+/// Whether captures tell a match, nothing when they are cleared, and a copy still the match.
+fn tell_a_match(alloc: Global) -> Result<bool, GroupInfoError> {
+    let mut captures = all_of_a_match(alloc)?;
+    let copy = captures.try_clone(alloc)?;
+    let told = tells_groups(&captures);
     captures.clear();
-    assert!(rt; tells_nothing(&captures));
-    assert!(rt; tells_match(&copy));
-    Ok(())
+    Ok(told && tells_nothing(&captures) && tells_match(&copy))
+}
+
+#[test]
+fn groups_of_a_match(rt: HostRuntime) {
+    assert!(rt; matches!(tell_a_match(rt.alloc()), Ok(true)));
 }
 
 /// Whether these parts are told: of bytes, of a character of two bytes, of a haystack of one, and of a third group.
@@ -110,12 +112,15 @@ fn tells_parts(captures: &Captures) -> bool {
     captures.extract::<&str, 1>("ab") == Some(("ab", ["b"]))
 }
 
+/// Whether parts are told where they are in a haystack, and else none.
+fn tell_parts(alloc: Global) -> Result<bool, GroupInfoError> {
+    let captures = all_of_a_match(alloc)?;
+    Ok(tells_parts(&captures) && has_parts(&captures) == [true, false, false, false])
+}
+
 #[test]
-fn parts_of_a_haystack(rt: HostRuntime) -> Result<(), Fail> {
-    let captures = all_of_a_match(rt.alloc())?;
-    assert!(rt; tells_parts(&captures));
-    assert!(rt; has_parts(&captures) == [true, false, false, false]);
-    Ok(())
+fn parts_of_a_haystack(rt: HostRuntime) {
+    assert!(rt; matches!(tell_parts(rt.alloc()), Ok(true)));
 }
 
 /// How many slots are kept, and the spans of the first two groups.
@@ -129,24 +134,22 @@ fn kept(captures: &Captures) -> Kept {
     )
 }
 
-/// What is kept of a match in slots of whole matches.
-fn kept_of_matches(alloc: Global, info: GroupInfo) -> Result<Kept, AllocError> {
-    let mut captures = Captures::matches(alloc, info)?;
+/// Whether slots of whole matches keep those of a match alone.
+fn keep_matches(alloc: Global) -> Result<bool, GroupInfoError> {
+    let mut captures = Captures::matches(alloc, a_and_none(alloc)?)?;
     matched(&mut captures);
-    Ok(kept(&captures))
+    Ok(kept(&captures) == (4, Some(Span { start: 0, end: 2 }), None))
 }
 
 /// Whether a match without slots is one, and tells no span.
-fn is_match_alone(alloc: Global, info: GroupInfo) -> bool {
-    let mut captures = Captures::empty(alloc, info);
+fn is_match_alone(alloc: Global) -> Result<bool, GroupInfoError> {
+    let mut captures = Captures::empty(alloc, a_and_none(alloc)?);
     matched(&mut captures);
-    captures.is_match() && captures.get_group(0).is_none()
+    Ok(captures.is_match() && captures.get_group(0).is_none())
 }
 
 #[test]
-fn slots_that_are_not_kept(rt: HostRuntime) -> Result<(), Fail> {
-    let kept = kept_of_matches(rt.alloc(), a_and_none(rt.alloc())?)?;
-    assert!(rt; kept == (4, Some(Span { start: 0, end: 2 }), None));
-    assert!(rt; is_match_alone(rt.alloc(), a_and_none(rt.alloc())?));
-    Ok(())
+fn slots_that_are_not_kept(rt: HostRuntime) {
+    assert!(rt; matches!(keep_matches(rt.alloc()), Ok(true)));
+    assert!(rt; matches!(is_match_alone(rt.alloc()), Ok(true)));
 }

@@ -1,6 +1,5 @@
 use search_core::{ByteClassSet, ByteClasses, ByteSet, Unit};
 use std::alloc::{AllocError, Global};
-use std::test::Fail;
 
 /// The classes that tell the small letters apart from all other bytes.
 fn letters() -> ByteClasses {
@@ -82,30 +81,54 @@ fn classes_and_units(rt: HostRuntime) {
     assert!(rt; units_are_told());
 }
 
-/// What each iterator over units gives: all classes, the bytes of the second, the end's, and the first bytes of
-/// classes from a byte on, and up to another one.
-fn units(alloc: Global, classes: &ByteClasses) -> Result<[Vec<Unit>; 5], AllocError> {
-    Ok([
-        classes.iter().collect(alloc)?,
-        classes.elements(Unit::u8(1)).collect(alloc)?,
-        classes.elements(classes.eoi()).collect(alloc)?,
-        classes.representatives(0x41, None).collect(alloc)?,
-        classes.representatives(0x62, Some(0x7B)).collect(alloc)?,
-    ])
+/// Whether the iterator over classes gives one of each class.
+fn classes_are_given(
+    alloc: Global,
+    classes: &ByteClasses,
+    want: &[Unit],
+) -> Result<bool, AllocError> {
+    let units = classes.iter().collect::<Vec<_>>(alloc)?;
+    Ok(units.as_slice() == want)
+}
+
+/// Whether the first bytes of classes from a byte on, and up to another one, are these.
+fn firsts_are_given(
+    alloc: Global,
+    classes: &ByteClasses,
+    bounds: (u8, Option<u8>),
+    want: &[Unit],
+) -> Result<bool, AllocError> {
+    let units = classes
+        .representatives(bounds.0, bounds.1)
+        .collect::<Vec<_>>(alloc)?;
+    Ok(units.as_slice() == want)
+}
+
+/// Whether the members of the letters' class, and of the end's, are given.
+fn members_are_given(alloc: Global, classes: &ByteClasses) -> Result<bool, AllocError> {
+    let letters = classes.elements(Unit::u8(1)).collect::<Vec<_>>(alloc)?;
+    let mut ends = classes.elements(classes.eoi());
+    Ok(letters.len() == 26 && [ends.next(), ends.next()] == [Some(Unit::eoi(3)), None])
+}
+
+/// Whether each iterator over units gives those of the letters' classes.
+fn units_are_given(alloc: Global) -> Result<bool, AllocError> {
+    let classes = letters();
+    let last = Unit::eoi(3);
+    let all = [Unit::u8(0), Unit::u8(1), Unit::u8(2), last];
+    let heads = [Unit::u8(0x41), Unit::u8(0x61), Unit::u8(0x7B), last];
+    let within = [Unit::u8(0x62), Unit::u8(0x7B)];
+    Ok(
+        members_are_given(alloc, &classes)?
+            && classes_are_given(alloc, &classes, &all)?
+            && firsts_are_given(alloc, &classes, (0x41, None), &heads)?
+            && firsts_are_given(alloc, &classes, (0x62, Some(0x7B)), &within)?,
+    )
 }
 
 #[test]
-fn iterators_over_units(rt: HostRuntime) -> Result<(), Fail> {
-    let [all, inside, end, firsts, bounded] = units(rt.alloc(), &letters())?;
-    let (zero, last) = (Unit::u8(0), Unit::eoi(3));
-    let ones = [zero, Unit::u8(1), Unit::u8(2), last];
-    let heads = [Unit::u8(0x41), Unit::u8(0x61), Unit::u8(0x7B), last];
-    assert!(rt; inside.len() == 26);
-    assert!(rt; all.as_slice() == ones.as_slice());
-    assert!(rt; end.as_slice() == [last].as_slice());
-    assert!(rt; firsts.as_slice() == heads.as_slice());
-    assert!(rt; bounded.as_slice() == [Unit::u8(0x62), Unit::u8(0x7B)].as_slice());
-    Ok(())
+fn iterators_over_units(rt: HostRuntime) {
+    assert!(rt; matches!(units_are_given(rt.alloc()), Ok(true)));
 }
 
 /// Whether the set is empty, has two bytes, and has two ranges.
@@ -119,40 +142,48 @@ fn asked(set: &ByteSet) -> [bool; 5] {
     ]
 }
 
-/// The classes that tell the members of a set apart from other bytes, of these bytes.
-fn classes_of(set: &ByteSet, bytes: [u8; 6]) -> [u8; 6] {
+/// The class of a byte where the members of a set are told apart from other bytes.
+fn class_of(set: &ByteSet, byte: u8) -> u8 {
     let mut marks = ByteClassSet::default();
     marks.add_set(set);
-    let classes = marks.byte_classes();
-    bytes.map(|byte| classes.get(byte))
+    marks.byte_classes().get(byte)
 }
 
-/// Whether the set's iterators tell these bytes and ranges.
-fn tells(
-    alloc: Global,
-    set: &ByteSet,
-    bytes: &[u8],
-    ranges: &[(u8, u8)],
-) -> Result<bool, AllocError> {
-    let each = set.iter().collect::<Vec<_>>(alloc)?;
-    let parts = set.iter_ranges().collect::<Vec<_>>(alloc)?;
-    Ok(each.as_slice() == bytes && parts.as_slice() == ranges)
+/// Whether each byte has its class there.
+fn have_classes(set: &ByteSet) -> bool {
+    for (byte, class) in [(1, 0), (2, 1), (0x63, 2), (0x64, 3), (0xFE, 3), (0xFF, 4)] {
+        if class_of(set, byte) != class {
+            return false;
+        }
+    }
+    true
+}
+
+/// Whether the set's iterator tells these bytes.
+fn tells_bytes(alloc: Global, set: &ByteSet, want: &[u8]) -> Result<bool, AllocError> {
+    let bytes = set.iter().collect::<Vec<_>>(alloc)?;
+    Ok(bytes.as_slice() == want)
+}
+
+/// Whether the set's iterator tells these ranges.
+fn tells_ranges(alloc: Global, set: &ByteSet, want: &[(u8, u8)]) -> Result<bool, AllocError> {
+    let ranges = set.iter_ranges().collect::<Vec<_>>(alloc)?;
+    Ok(ranges.as_slice() == want)
+}
+
+/// Whether the iterators of a few bytes tell them, and their ranges.
+fn tells_words(alloc: Global) -> Result<bool, AllocError> {
+    let set = words();
+    Ok(
+        tells_bytes(alloc, &set, &[0, 1, 0x61, 0x62, 0x63, 0xFF])?
+            && tells_ranges(alloc, &set, &[(0, 1), (0x61, 0x63), (0xFF, 0xFF)])?,
+    )
 }
 
 #[test]
-fn sets_of_bytes(rt: HostRuntime) -> Result<(), Fail> {
-    let set = words();
+fn sets_of_bytes(rt: HostRuntime) {
     assert!(rt; ByteSet::default().is_empty());
-    assert!(rt; asked(&set) == [false, true, false, true, false]);
-    let bytes = [0, 1, 0x61, 0x62, 0x63, 0xFF];
-    assert!(rt;
-        tells(
-            rt.alloc(),
-            &set,
-            &bytes,
-            &[(0, 1), (0x61, 0x63), (0xFF, 0xFF)]
-        )?
-    );
-    assert!(rt; classes_of(&set, [1, 2, 0x63, 0x64, 0xFE, 0xFF]) == [0, 1, 2, 3, 3, 4]);
-    Ok(())
+    assert!(rt; asked(&words()) == [false, true, false, true, false]);
+    assert!(rt; have_classes(&words()));
+    assert!(rt; matches!(tells_words(rt.alloc()), Ok(true)));
 }

@@ -1,7 +1,6 @@
 use search_core::PatternID;
 use search_types::{GroupInfo, GroupInfoError};
 use std::alloc::{AllocError, Global};
-use std::test::Fail;
 
 /// The names of a pattern's groups.
 pub(crate) fn names(
@@ -78,25 +77,32 @@ fn slots_are_told(info: &GroupInfo) -> bool {
         && told(info, second, 1) == (None, None, None)
 }
 
+/// Whether two patterns that were made have them.
+fn two_are_told(alloc: Global) -> Result<bool, GroupInfoError> {
+    let info = a_and_none(alloc)?;
+    Ok(slots_are_told(&info))
+}
+
 #[test]
-fn slots_of_two_patterns(rt: HostRuntime) -> Result<(), Fail> {
-    let info = a_and_none(rt.alloc())?;
-    assert!(rt; slots_are_told(&info));
-    Ok(())
+fn slots_of_two_patterns(rt: HostRuntime) {
+    assert!(rt; matches!(two_are_told(rt.alloc()), Ok(true)));
 }
 
 /// The number of a pattern's groups, the index of its group `a`, and how many names it tells.
-fn groups_of(
-    alloc: Global,
-    info: &GroupInfo,
-    pattern: PatternID,
-) -> Result<(usize, Option<usize>, usize), AllocError> {
-    let names = info.pattern_names(pattern).collect::<Vec<_>>(alloc)?;
-    Ok((
+fn groups_of(info: &GroupInfo, pattern: u8) -> (usize, Option<usize>, usize) {
+    let pattern = PatternID::from(pattern);
+    (
         info.group_len(pattern),
         info.to_index(pattern, "a"),
-        names.len(),
-    ))
+        info.pattern_names(pattern).count(),
+    )
+}
+
+/// Whether the groups of two patterns, and of one more, are told.
+fn groups_are_told(info: &GroupInfo) -> bool {
+    groups_of(info, 0) == (2, Some(1), 2)
+        && groups_of(info, 1) == (1, None, 1)
+        && groups_of(info, 2) == (0, None, 0)
 }
 
 /// Whether the groups' names are printed so.
@@ -104,23 +110,27 @@ fn are_named(alloc: Global, info: &GroupInfo, want: &str) -> Result<bool, AllocE
     Ok(all_names(alloc, info)?.as_str() == want)
 }
 
-#[test]
-fn names_of_two_patterns(rt: HostRuntime) -> Result<(), Fail> {
-    let alloc = rt.alloc();
+/// Whether a copy of two patterns' groups tells them and their names.
+fn copy_is_told(alloc: Global) -> Result<bool, GroupInfoError> {
     let info = a_and_none(alloc)?.try_clone(alloc)?;
-    assert!(rt; groups_of(alloc, &info, PatternID::must(0))? == (2, Some(1), 2));
-    assert!(rt; groups_of(alloc, &info, PatternID::must(1))? == (1, None, 1));
-    assert!(rt; groups_of(alloc, &info, PatternID::must(2))? == (0, None, 0));
-    assert!(rt; are_named(alloc, &info, "0 0 -;0 1 a;1 0 -;")?);
+    Ok(groups_are_told(&info) && are_named(alloc, &info, "0 0 -;0 1 a;1 0 -;")?)
+}
+
+/// Whether no groups have no names and no slots.
+fn nothing_is_told(alloc: Global) -> Result<bool, AllocError> {
     let nothing = GroupInfo::empty(alloc);
-    assert!(rt; are_named(alloc, &nothing, "")? && nothing.slot_len() == 0);
-    Ok(())
+    Ok(nothing.slot_len() == 0 && are_named(alloc, &nothing, "")?)
 }
 
 #[test]
-fn groups_that_break_a_rule(rt: HostRuntime) -> Result<(), Fail> {
-    let alloc = rt.alloc();
-    let rows: [(&[Option<&str>], &str); 5] = [
+fn names_of_two_patterns(rt: HostRuntime) {
+    assert!(rt; matches!(copy_is_told(rt.alloc()), Ok(true)));
+    assert!(rt; matches!(nothing_is_told(rt.alloc()), Ok(true)));
+}
+
+/// The names of a pattern's groups, and what refuses them.
+const fn refusals() -> [(&'static [Option<&'static str>], &'static str); 5] {
+    [
         (&[None, Some("a"), None, Some("b")], "none"),
         (&[], "pattern 0 has no groups"),
         (&[Some("a")], "the first group of pattern 0 has a name"),
@@ -132,9 +142,20 @@ fn groups_that_break_a_rule(rt: HostRuntime) -> Result<(), Fail> {
             &[Some("a"), Some("a")],
             "the first group of pattern 0 has a name",
         ),
-    ];
-    for (texts, told) in rows {
-        assert!(rt; refusal(alloc, texts)?.as_str() == told, "{told}");
+    ]
+}
+
+/// Whether each row is refused as it says.
+fn are_refused(alloc: Global) -> Result<bool, AllocError> {
+    for (texts, told) in refusals() {
+        if refusal(alloc, texts)?.as_str() != told {
+            return Ok(false);
+        }
     }
-    Ok(())
+    Ok(true)
+}
+
+#[test]
+fn groups_that_break_a_rule(rt: HostRuntime) {
+    assert!(rt; matches!(are_refused(rt.alloc()), Ok(true)));
 }

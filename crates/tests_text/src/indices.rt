@@ -4,7 +4,6 @@ ghost use Rattle.std.specs.Ordering.{nat_cmp};
 use search_core::{NonMaxUsize, PatternID, SmallIndex, SmallIndexError, StateID};
 use std::alloc::{AllocError, Global};
 use std::cmp::Ordering;
-use std::test::Fail;
 
 /// What is read of an index: as each type, and one more.
 type Reads = (usize, u64, u32, i32, usize);
@@ -114,31 +113,40 @@ fn printed(alloc: Global) -> Result<String, AllocError> {
     format!(in alloc; "{index:?}, {pattern:?}, {state:?}, {number:?}")
 }
 
-/// What refuses a number that is too great, for each type.
-fn refusals(alloc: Global) -> Result<[String; 3], AllocError> {
-    Ok([
-        SmallIndex::new(2147483647).unwrap_err().to_string(alloc)?,
-        PatternID::new(2147483647).unwrap_err().to_string(alloc)?,
-        StateID::new(2147483647).unwrap_err().to_string(alloc)?,
-    ])
+/// Whether the indices are printed so.
+fn are_printed(alloc: Global, want: &str) -> Result<bool, AllocError> {
+    Ok(printed(alloc)?.as_str() == want)
+}
+
+/// Whether a small index is refused in these words where its number is too great.
+fn index_is_refused(alloc: Global, want: &str) -> Result<bool, AllocError> {
+    let text = SmallIndex::new(2147483647).unwrap_err().to_string(alloc)?;
+    Ok(text.as_str() == want)
+}
+
+/// Likewise a pattern.
+fn pattern_is_refused(alloc: Global, want: &str) -> Result<bool, AllocError> {
+    let text = PatternID::new(2147483647).unwrap_err().to_string(alloc)?;
+    Ok(text.as_str() == want)
+}
+
+/// Likewise a state.
+fn state_is_refused(alloc: Global, want: &str) -> Result<bool, AllocError> {
+    let text = StateID::new(2147483647).unwrap_err().to_string(alloc)?;
+    Ok(text.as_str() == want)
 }
 
 #[test]
-fn texts(rt: HostRuntime) -> Result<(), Fail> {
-    let text = printed(rt.alloc())?;
-    assert_eq!(rt;
-        text.as_str(),
-        "SmallIndex(7), PatternID(7), StateID(7), Some(NonMaxUsize(7))"
-    );
-    let wants = [
-        "failed to create small index from 2147483647, which exceeds SmallIndex(2147483646)",
-        "failed to create PatternID from 2147483647, which exceeds PatternID(2147483646)",
-        "failed to create StateID from 2147483647, which exceeds StateID(2147483646)",
-    ];
-    for (text, want) in refusals(rt.alloc())?.iter().zip(wants) {
-        assert_eq!(rt; text.as_str(), want);
-    }
-    Ok(())
+fn texts(rt: HostRuntime) {
+    let alloc = rt.alloc();
+    let text = "SmallIndex(7), PatternID(7), StateID(7), Some(NonMaxUsize(7))";
+    assert!(rt; matches!(are_printed(alloc, text), Ok(true)));
+    let text = "failed to create small index from 2147483647, which exceeds SmallIndex(2147483646)";
+    assert!(rt; matches!(index_is_refused(alloc, text), Ok(true)));
+    let text = "failed to create PatternID from 2147483647, which exceeds PatternID(2147483646)";
+    assert!(rt; matches!(pattern_is_refused(alloc, text), Ok(true)));
+    let text = "failed to create StateID from 2147483647, which exceeds StateID(2147483646)";
+    assert!(rt; matches!(state_is_refused(alloc, text), Ok(true)));
 }
 
 /// Whether all numbers but the greatest are taken.

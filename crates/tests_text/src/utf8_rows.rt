@@ -25,21 +25,33 @@ const fn spellings() -> [(&'static [u8], char); 18] {
 }
 
 /// Bytes that spell nothing, and what the last of them read as.
-const fn faults() -> [(&'static [u8], Result<char, u8>); 34] {
+type Fault = (&'static [u8], Result<char, u8>);
+
+/// A continuation byte alone, and leads that are none.
+const fn no_leads() -> [Fault; 6] {
     [
-        // a continuation byte alone, and leads that are none
         (&[0x80], Err(0x80)),
         (&[0xBF], Err(0xBF)),
         (&[0xC0, 0x80], Err(0x80)),
         (&[0xC1, 0xBF], Err(0xBF)),
         (&[0xF5, 0x80, 0x80, 0x80], Err(0x80)),
         (&[0xFF], Err(0xFF)),
-        // two bytes: the second one past each end
+    ]
+}
+
+/// Two bytes: the second one past each end.
+const fn faults_of_two() -> [Fault; 4] {
+    [
         (&[0xC2, 0x7F], Ok('\u{7F}')),
         (&[0xC2, 0xC0], Err(0xC0)),
         (&[0xDF, 0x7F], Ok('\u{7F}')),
         (&[0xDF, 0xC0], Err(0xC0)),
-        // three bytes: overlong, surrogates, and one past each end
+    ]
+}
+
+/// Three bytes: overlong, surrogates, and one past each end.
+const fn faults_of_three() -> [Fault; 11] {
+    [
         (&[0xE0, 0x9F, 0xBF], Err(0xBF)),
         (&[0xE0, 0xC0, 0x80], Err(0x80)),
         (&[0xE1, 0x7F, 0xBF], Err(0xBF)),
@@ -51,7 +63,12 @@ const fn faults() -> [(&'static [u8], Result<char, u8>); 34] {
         (&[0xEF, 0xC0, 0x80], Err(0x80)),
         (&[0xE1, 0x80, 0x7F], Ok('\u{7F}')),
         (&[0xEF, 0xBF, 0xC0], Err(0xC0)),
-        // four bytes: overlong, above the last scalar, and one past each end
+    ]
+}
+
+/// Four bytes: overlong, above the last scalar, and one past each end.
+const fn faults_of_four() -> [Fault; 10] {
+    [
         (&[0xF0, 0x8F, 0xBF, 0xBF], Err(0xBF)),
         (&[0xF0, 0xC0, 0x80, 0x80], Err(0x80)),
         (&[0xF1, 0x7F, 0xBF, 0xBF], Err(0xBF)),
@@ -62,7 +79,12 @@ const fn faults() -> [(&'static [u8], Result<char, u8>); 34] {
         (&[0xF0, 0x90, 0xC0, 0x80], Err(0x80)),
         (&[0xF4, 0x8F, 0xBF, 0x7F], Ok('\u{7F}')),
         (&[0xF4, 0x8F, 0xBF, 0xC0], Err(0xC0)),
-        // cut short
+    ]
+}
+
+/// Spellings that are cut short.
+const fn cut_short() -> [Fault; 3] {
+    [
         (&[0xC3], Err(0xC3)),
         (&[0xE2, 0x82], Err(0x82)),
         (&[0xF0, 0x9F, 0x92], Err(0x92)),
@@ -119,13 +141,13 @@ fn spellings_are_read() -> bool {
 }
 
 /// Whether each fault gives its first byte at the front, and what is expected at the end.
-fn faults_give_a_byte() -> bool {
-    for (bytes, last) in faults() {
+fn give_a_byte(faults: &[Fault]) -> bool {
+    for (bytes, last) in faults {
         let first = match decode(bytes) {
             Some(Err(byte)) => Some(byte),
             _ => None,
         };
-        if first != bytes.first().copied() || decode_last(bytes) != Some(last) {
+        if first != bytes.first().copied() || decode_last(bytes) != Some(*last) {
             return false;
         }
     }
@@ -145,8 +167,16 @@ fn texts_are_read() -> bool {
 #[test]
 fn characters_are_read_from_both_ends(rt: HostRuntime) {
     assert!(rt; spellings_are_read());
-    assert!(rt; faults_give_a_byte());
     assert!(rt; texts_are_read());
+}
+
+#[test]
+fn bytes_that_spell_nothing(rt: HostRuntime) {
+    assert!(rt; give_a_byte(&no_leads()));
+    assert!(rt; give_a_byte(&faults_of_two()));
+    assert!(rt; give_a_byte(&faults_of_three()));
+    assert!(rt; give_a_byte(&faults_of_four()));
+    assert!(rt; give_a_byte(&cut_short()));
 }
 
 /// Whether each byte may be cut off, and is one of words, as is expected.

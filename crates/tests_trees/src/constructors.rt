@@ -2,7 +2,6 @@ use crate::small::{Small, repeated, trees};
 use hir_core::{Hir, HirKind};
 use look_core::Look;
 use std::alloc::{AllocError, Global};
-use std::test::Fail;
 
 /// The bytes of a literal.
 fn literal_bytes(tree: &Hir) -> Option<&[u8]> {
@@ -26,14 +25,16 @@ fn keeps_bytes(alloc: Global, bytes: &[u8]) -> Result<bool, AllocError> {
     Ok(literal_bytes(&literal) == Some(bytes))
 }
 
-/// Whether two classes of bytes have the ranges that they were given, and the one that always fails has none.
-fn keep_ranges(alloc: Global) -> Result<bool, AllocError> {
+/// Whether a class of bytes has the ranges that it was given.
+fn keeps_ranges(alloc: Global) -> Result<bool, AllocError> {
     let letters = Hir::bytes(vec![in alloc; (65, 90), (97, 122)]?);
+    Ok(class_ranges(&letters) == Some([(65, 90), (97, 122)].as_slice()))
+}
+
+/// Whether the class of bytes that always fails has no ranges.
+fn fails(alloc: Global) -> bool {
     let fail = Hir::fail(alloc);
-    Ok(
-        class_ranges(&letters) == Some([(65, 90), (97, 122)].as_slice())
-            && class_ranges(&fail) == Some([].as_slice()),
-    )
+    class_ranges(&fail) == Some([].as_slice())
 }
 
 /// Whether a class of characters has the ranges that it was given.
@@ -45,48 +46,52 @@ fn keeps_chars(alloc: Global) -> Result<bool, AllocError> {
     }
 }
 
+/// Whether the empty tree is one, and a look the one that it was given.
+fn are_empty_and_a_look() -> bool {
+    let (empty, word) = (Hir::empty(), Hir::look(Look::WordUnicode));
+    matches!(empty.kind(), HirKind::Empty)
+        && matches!(word.kind(), HirKind::Look(Look::WordUnicode))
+}
+
 #[test]
-fn leaves_are_kept_as_given(rt: HostRuntime) -> Result<(), Fail> {
+fn leaves_are_kept_as_given(rt: HostRuntime) {
     let alloc = rt.alloc();
-    let literals: [&[u8]; 3] = [b"", b"-", b"samwise"];
-    for bytes in literals {
-        assert!(rt; keeps_bytes(alloc, bytes)?);
-    }
-    assert!(rt; keep_ranges(alloc)?);
-    assert!(rt; keeps_chars(alloc)?);
-    assert!(rt; matches!(Hir::empty().kind(), HirKind::Empty));
-    let word = Hir::look(Look::WordUnicode);
-    assert!(rt; matches!(word.kind(), HirKind::Look(Look::WordUnicode)));
-    Ok(())
+    assert!(rt; matches!(keeps_bytes(alloc, b""), Ok(true)));
+    assert!(rt; matches!(keeps_bytes(alloc, b"-"), Ok(true)));
+    assert!(rt; matches!(keeps_bytes(alloc, b"samwise"), Ok(true)));
+    assert!(rt; matches!(keeps_ranges(alloc), Ok(true)));
+    assert!(rt; matches!(keeps_chars(alloc), Ok(true)));
+    assert!(rt; fails(alloc));
+    assert!(rt; are_empty_and_a_look());
 }
 
 /// The bounds of a repetition, and whether it is greedy.
 type Bounds = (u32, Option<u32>, bool);
 
-/// Whether the repetition of a digit has the bounds that it was given.
-fn keeps_bounds(alloc: Global, row: Bounds) -> Result<bool, AllocError> {
-    let Some(tree) = repeated(alloc, Small::Digit, row.0, row.1, row.2)? else {
-        return Ok(false);
-    };
+/// Whether the tree is a repetition of a digit with these bounds.
+fn is_repeated(tree: &Hir, row: Bounds) -> bool {
     match tree.kind() {
         HirKind::Repetition {
             min,
             max,
             greedy,
             sub,
-        } => Ok(
-            *min == row.0
-                && *max == row.1
-                && *greedy == row.2
-                && class_ranges(sub) == Some([(48, 57)].as_slice()),
-        ),
-        _ => Ok(false),
+        } => (*min, *max, *greedy) == row && class_ranges(sub) == Some([(48, 57)].as_slice()),
+        _ => false,
     }
 }
 
-#[test]
-fn repetitions_are_kept_as_given(rt: HostRuntime) -> Result<(), Fail> {
-    let rows = [
+/// Whether the repetition of a digit has the bounds that it was given.
+fn keeps_bounds(alloc: Global, row: Bounds) -> Result<bool, AllocError> {
+    match repeated(alloc, Small::Digit, row.0, row.1, row.2)? {
+        Some(tree) => Ok(is_repeated(&tree, row)),
+        None => Ok(false),
+    }
+}
+
+/// Whether each repetition has.
+fn keep_bounds(alloc: Global) -> Result<bool, AllocError> {
+    let rows: [Bounds; 10] = [
         (0, None, true),
         (0, None, false),
         (1, None, true),
@@ -99,23 +104,28 @@ fn repetitions_are_kept_as_given(rt: HostRuntime) -> Result<(), Fail> {
         (0, Some(u32::MAX), true),
     ];
     for row in rows {
-        assert!(rt; keeps_bounds(rt.alloc(), row)?, "{row:?}");
+        if !keeps_bounds(alloc, row)? {
+            return Ok(false);
+        }
     }
-    Ok(())
+    Ok(true)
+}
+
+#[test]
+fn repetitions_are_kept_as_given(rt: HostRuntime) {
+    assert!(rt; matches!(keep_bounds(rt.alloc()), Ok(true)));
 }
 
 /// Whether these are the literals `sam`, one of no bytes, and `samwise`.
 fn are_sam_and_samwise(parts: &[Hir]) -> bool {
-    let words: [&[u8]; 3] = [b"sam", b"", b"samwise"];
-    if parts.len() != words.len() {
-        return false;
-    }
-    for (part, word) in parts.iter().zip(words) {
-        if literal_bytes(part) != Some(word) {
-            return false;
+    match parts {
+        [sam, nothing, samwise] => {
+            literal_bytes(sam) == Some(b"sam")
+                && literal_bytes(nothing) == Some(b"")
+                && literal_bytes(samwise) == Some(b"samwise")
         }
+        _ => false,
     }
-    true
 }
 
 /// Whether the parts of a concatenation are those words.
@@ -134,10 +144,25 @@ fn chooses_words(tree: &Hir) -> bool {
     }
 }
 
+/// The words as trees.
+fn words(alloc: Global) -> Result<Vec<Hir>, AllocError> {
+    trees(alloc, &[Small::Sam, Small::NoBytes, Small::Samwise])
+}
+
+/// Whether a concatenation has the parts that it was given.
+fn concat_keeps(alloc: Global) -> Result<bool, AllocError> {
+    let tree = Hir::concat(words(alloc)?);
+    Ok(joins_words(&tree))
+}
+
+/// Likewise an alternation.
+fn alternation_keeps(alloc: Global) -> Result<bool, AllocError> {
+    let tree = Hir::alternation(words(alloc)?);
+    Ok(chooses_words(&tree))
+}
+
 #[test]
-fn parts_are_kept_in_order(rt: HostRuntime) -> Result<(), Fail> {
-    let words = [Small::Sam, Small::NoBytes, Small::Samwise];
-    assert!(rt; joins_words(&Hir::concat(trees(rt.alloc(), &words)?)));
-    assert!(rt; chooses_words(&Hir::alternation(trees(rt.alloc(), &words)?)));
-    Ok(())
+fn parts_are_kept_in_order(rt: HostRuntime) {
+    assert!(rt; matches!(concat_keeps(rt.alloc()), Ok(true)));
+    assert!(rt; matches!(alternation_keeps(rt.alloc()), Ok(true)));
 }

@@ -1,8 +1,8 @@
 use hir_core::{is_ascending, is_ascending_chars};
 
-#[test]
-fn ranges_ascend_and_are_disjoint(rt: HostRuntime) {
-    let rows: [(&[(u8, u8)], bool); 12] = [
+/// Ranges of bytes, and whether they ascend and are disjoint.
+const fn ranges() -> [(&'static [(u8, u8)], bool); 12] {
+    [
         (&[], true),
         (&[(48, 57)], true),
         (&[(7, 7)], true),
@@ -19,15 +19,27 @@ fn ranges_ascend_and_are_disjoint(rt: HostRuntime) {
         (&[(1, 2), (4, 3)], false),
         // the higher range first
         (&[(97, 122), (48, 57)], false),
-    ];
-    for (ranges, want) in rows {
-        assert!(rt; is_ascending(ranges) == want, "ranges {ranges:?}");
+    ]
+}
+
+/// Whether each row is told so.
+fn ascend() -> bool {
+    for (ranges, want) in ranges() {
+        if is_ascending(ranges) != want {
+            return false;
+        }
     }
+    true
 }
 
 #[test]
-fn ranges_of_characters_ascend_and_are_disjoint(rt: HostRuntime) {
-    let rows: [(&[(char, char)], bool); 8] = [
+fn ranges_ascend_and_are_disjoint(rt: HostRuntime) {
+    assert!(rt; ascend());
+}
+
+/// Ranges of characters, and whether they ascend and are disjoint.
+const fn character_ranges() -> [(&'static [(char, char)], bool); 8] {
+    [
         (&[], true),
         (&[('\0', char::MAX)], true),
         (&[('a', 'z'), ('α', 'ω')], true),
@@ -38,8 +50,20 @@ fn ranges_of_characters_ascend_and_are_disjoint(rt: HostRuntime) {
         (&[('a', 'm'), ('m', 'z')], false),
         (&[('z', 'a')], false),
         (&[('α', 'ω'), ('a', 'z')], false),
-    ];
-    for (ranges, want) in rows {
-        assert!(rt; is_ascending_chars(ranges) == want, "ranges {ranges:?}");
+    ]
+}
+
+/// Whether each row is told so.
+fn characters_ascend() -> bool {
+    for (ranges, want) in character_ranges() {
+        if is_ascending_chars(ranges) != want {
+            return false;
+        }
     }
+    true
+}
+
+#[test]
+fn ranges_of_characters_ascend_and_are_disjoint(rt: HostRuntime) {
+    assert!(rt; characters_ascend());
 }

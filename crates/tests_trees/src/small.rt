@@ -139,13 +139,19 @@ fn times(alloc: Global, rounds: u32, sub: Hir) -> Result<Hir, AllocError> {
     Hir::repetition(alloc, rounds, Some(rounds), true, sub)
 }
 
+/// So many digits.
+fn digits(alloc: Global, rounds: u32) -> Result<Hir, AllocError> {
+    let one = digit(alloc)?;
+    times(alloc, rounds, one)
+}
+
 fn date(alloc: Global) -> Result<Hir, AllocError> {
     let mut parts = Vec::new(alloc);
-    parts.push(times(alloc, 4, digit(alloc)?)?)?;
-    parts.push(text(alloc, b"-")?)?;
-    parts.push(times(alloc, 2, digit(alloc)?)?)?;
-    parts.push(text(alloc, b"-")?)?;
-    parts.push(times(alloc, 2, digit(alloc)?)?)?;
+    parts.push(digits(alloc, 4)?)?;
+    for _ in 0..2u8 {
+        parts.push(text(alloc, b"-")?)?;
+        parts.push(digits(alloc, 2)?)?;
+    }
     Ok(Hir::concat(parts))
 }
 
