@@ -148,6 +148,7 @@ module _ (d : Dfa) (q : Search) (down : Bool) (is : down ≡ d.nfa.automaton.rev
         (t.2 ∙ (ap (λ (y : Bool). gave_up_at y q p.at) (sym is)
         ∙ (gave_up_there down q p.at from.at (came down q p.at) within (between.0.place ∙ ap (λ (y : Bool). place_of y from.at (came down q p.at)) (sym is)) refl
         ∙ ap (λ (y : Bool). give_up_place y (span_len q) from.at (came down q p.at)) is))) t.3
+        (λ l. t.4 (λ e. let far = came_last down q p.at (e ∙ ap (λ (y : Bool). last_place y q) (sym is)) in omega (arith, l, far)))
     ends_error NoMemory t = runs_no_memory d q made bytes s from p (came down q p.at) own mine held here none between inside v m n t
     ends_error (HaystackTooLong len) t = absurd t
     ends_error (UnsupportedAnchored mode) t = absurd t

@@ -18,7 +18,7 @@ use Rattle.lazy_dfa.specs.Passes.{index_at, is_empty, is_dead, pass_from}
 use Rattle.lazy_dfa.specs.PassLaws.{units_read, unit_of}
 use Rattle.lazy_dfa.specs.Points.{Point, Follows, IsFree, GoesTo, point}
 use Rattle.lazy_dfa.specs.Readers.{HalfAnswer, found, quit}
-use Rattle.lazy_dfa.specs.SearchAnswers.{half_of, pair_of, told, give_up_place, Told, told_of, pass_distance}
+use Rattle.lazy_dfa.specs.SearchAnswers.{half_of, pair_of, told, give_up_place, Told, told_of, pass_distance, running_at}
 use Rattle.lazy_dfa.specs.Stands.{last_place, came, tells, BeganFirst, told_behind, GoesBetween, EndsWith, RunsOn}
 use Rattle.lazy_dfa.specs.Steps.{most_inserts}
 use Rattle.lazy_dfa.specs.Turns.{Leaves, FailsOn}
@@ -254,9 +254,9 @@ module _ (d : Dfa) (q : Search) (made : IsDfa d) (bytes : AreBytes q.haystack) (
 
     pub runs_gave_up : (y : ℕ) → y ≡ give_up_place d.nfa.automaton.reverse (span_len q) from.at k →
         ((t : StateValue) → HeldAt p.cache p.id t → lacks_room d new (state_behind (reader d) h p.at t 1) ≡ true) →
-        RunsOn d q s from new m n (Err (GaveUp y))
-    runs_gave_up y place lacks = record {
-      answer = inr (inr (y, k, refl, reads_this, place, sym (ap (lacks_room d new) next_is) ∙ lacks state held_here));
+        (k < span_len q → running_at new.progress ≡ Some y) → RunsOn d q s from new m n (Err (GaveUp y))
+    runs_gave_up y place lacks runs = record {
+      answer = inr (inr (y, k, refl, reads_this, place, sym (ap (lacks_room d new) next_is) ∙ lacks state held_here, runs));
       kept = kept_on new m n x.leaves;
       follows = tt;
       free = λ linked. absurd (x.unknown (free_here new m n x.leaves linked).1);

@@ -25,7 +25,7 @@ use Rattle.lazy_dfa.specs.MadePasses.{span_len}
 use Rattle.lazy_dfa.specs.Passes.{index_at, is_dead}
 use Rattle.lazy_dfa.specs.Points.{Point, began, Follows, GoesTo, point}
 use Rattle.lazy_dfa.specs.Readers.{is_quit}
-use Rattle.lazy_dfa.specs.SearchAnswers.{Told, told_of, pass_distance}
+use Rattle.lazy_dfa.specs.SearchAnswers.{Told, told_of, pass_distance, running_at}
 use Rattle.lazy_dfa.specs.Stands.{IsWithinSpan, last_place, came, tells, first_index, BeganFirst, finished, finished_where, told_behind, error_of, EndsWith, gave_up_at, TurnsTo}
 use Rattle.lazy_dfa.specs.Turns.{Leaves, FailsOn, TellsTheSame, GoesOne, IsSeen, IsTurn}
 use Rattle.lazy_dfa.proofs.IsCacheLemmas.{le_of, lt_of}
@@ -140,6 +140,14 @@ moved_some at (Some p) r = refl
 
 pub some_moved : (v w : CacheValue) (at : ℕ) → w ≡ record v { progress = moved_to at v.progress } → IsSome v.progress → IsSome w.progress
 some_moved v w at e r = subst (λ (x : CacheValue). IsSome x.progress) (sym e) (moved_some at v.progress r)
+
+-- and is at that place
+moved_there : (o : Option Progress) (at : ℕ) → IsSome o → running_at (moved_to at o) ≡ Some at
+moved_there None at r = absurd (true≢false (sym r))
+moved_there (Some p) at r = refl
+
+pub runs_there : (v w : CacheValue) (at : ℕ) → w ≡ record v { progress = moved_to at v.progress } → IsSome v.progress → running_at w.progress ≡ Some at
+runs_there v w at e r = ap (λ (x : CacheValue). running_at x.progress) e ∙ moved_there v.progress at r
 
 len_there : (o : Option Progress) (a at : ℕ) → began o ≡ Some a → progress_len (moved_to at o) ≡ distance a at
 len_there None a at e = absurd (true≢false (sym (ap is_some e)))
@@ -311,20 +319,22 @@ module _ (d : Dfa) (q : Search) (down : Bool) (same : down ≡ d.nfa.automaton.r
       (cases_Bool (at == last_place d.nfa.automaton.reverse q))
 
   refused_so : (earliest : Bool) (place : ℕ) (e : CacheError) → IsMoved v0 v1 → u ≡ unit_at d.nfa.automaton.reverse q.haystack at → place ≡ gave_up_at d.nfa.automaton.reverse q at →
+      (at ≢ last_place d.nfa.automaton.reverse q → running_at v1.progress ≡ Some place) →
       IsTurn d earliest q.haystack u before v2 m2 n2 (Err e) → TurnsTo d q from v2 m2 n2 (Err (error_of place e))
-  refused_so earliest place NoMemory moved is there turn = fails_back d v0 v1 moved q.haystack m1 n1 at id best v2 m2 n2 0 turn
-  refused_so earliest place GaveUp moved is there turn = (
+  refused_so earliest place NoMemory moved is there runs turn = fails_back d v0 v1 moved q.haystack m1 n1 at id best v2 m2 n2 0 turn
+  refused_so earliest place GaveUp moved is there runs turn = (
     fails_back d v0 v1 moved q.haystack m1 n1 at id best v2 m2 n2 0 turn.0,
     ap (is_quit d.quits) (sym is) ∙ turn.1,
     there,
     λ s held. turn.2 s (held_moved v0 v1 id s moved held),
+    λ far. ap (λ (v : CacheValue). running_at v.progress) turn.3 ∙ runs far,
   )
 
   -- a turn that was refused
   pub turn_refused : (earliest : Bool) (place : ℕ) (e : CacheError) (err : MatchErrorKind) → IsMoved v0 v1 → u ≡ unit_at d.nfa.automaton.reverse q.haystack at →
-      place ≡ gave_up_at d.nfa.automaton.reverse q at → err ≡ error_of place e → IsTurn d earliest q.haystack u before v2 m2 n2 (Err e) → TurnsTo d q from v2 m2 n2 (Err err)
-  turn_refused earliest place e err moved is there told turn =
-      subst (λ (x : MatchErrorKind). TurnsTo d q from v2 m2 n2 (Err x)) (sym told) (refused_so earliest place e moved is there turn)
+      place ≡ gave_up_at d.nfa.automaton.reverse q at → (at ≢ last_place d.nfa.automaton.reverse q → running_at v1.progress ≡ Some place) → err ≡ error_of place e → IsTurn d earliest q.haystack u before v2 m2 n2 (Err e) → TurnsTo d q from v2 m2 n2 (Err err)
+  turn_refused earliest place e err moved is there runs told turn =
+      subst (λ (x : MatchErrorKind). TurnsTo d q from v2 m2 n2 (Err x)) (sym told) (refused_so earliest place e moved is there runs turn)
 
   module _ (to : ℕ) (best2 : Option (ℕ × ℕ)) (earliest : Bool) (turn : Turn) (asked : earliest ≡ q.earliest) (seen : IsSeen d earliest q.haystack u before v2 m2 n2 to best2 turn) where
     seen_as : (t : Turn) → turn ≡ t → IsSeen d q.earliest q.haystack u before v2 m2 n2 to best2 t

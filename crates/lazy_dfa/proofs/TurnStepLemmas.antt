@@ -253,6 +253,7 @@ module _ (d : Dfa) (h : List ℕ) (old : CacheValue) (at id m1 n1 : ℕ) (u : Op
           g.no_quit,
           λ s held. ap (λ (t : StateValue). lacks_room d new t) (state_behind_one d h at u is s)
               ∙ (ap (λ (v : CacheValue). lacks_room d v (after d s u)) (step.gave_up refl) ∙ g.lacks s held),
+          step.gave_up refl,
         )
 
     -- ---- where it leads

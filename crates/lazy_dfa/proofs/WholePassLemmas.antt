@@ -28,7 +28,7 @@ use Rattle.lazy_dfa.specs.Points.{point}
 use Rattle.lazy_dfa.specs.Readers.{HalfAnswer, found, is_quit}
 use Rattle.lazy_dfa.specs.Scans.{first_place}
 use Rattle.lazy_dfa.specs.ScanLaws.{begins_at}
-use Rattle.lazy_dfa.specs.SearchAnswers.{told, give_up_place, GivesUpIn, at_start, at_unit, Told, told_of, pass_distance, told_by_pass}
+use Rattle.lazy_dfa.specs.SearchAnswers.{told, give_up_place, GivesUpIn, at_start, at_unit, Told, told_of, pass_distance, told_by_pass, running_at}
 use Rattle.lazy_dfa.specs.Stands.{first_index, told_begun, told_behind, RunsOn, pass_start, StartsPass}
 use Rattle.lazy_dfa.specs.StartCalls.{mode_of, quit_refusal, behind_refusal, mode_refusal, start_refusal, start_slot, start_noted, IsStartKnown}
 use Rattle.lazy_dfa.specs.Steps.{Grew, WasCleared, most_inserts}
@@ -312,12 +312,14 @@ module _ (d : Dfa) (q : Search) (old mid : CacheValue) (m1 m n1 n id : ℕ) (mad
     answered = ⊎_elim
         (λ (e : result ≡ told rest). inl (e ∙ ap told (sym is_rest)))
         (λ (e : (result ≡ Err NoMemory) ⊎ ((x k : ℕ) × (result ≡ Err (GaveUp x)) × (k < units) ×
-        (x ≡ give_up_place d.nfa.automaton.reverse (span_len q) from k) × (lacks_room d new (state_behind (reader d) q.haystack from first (suc k)) ≡ true))).
+        (x ≡ give_up_place d.nfa.automaton.reverse (span_len q) from k) × (lacks_room d new (state_behind (reader d) q.haystack from first (suc k)) ≡ true) ×
+        (k < span_len q → running_at new.progress ≡ Some x))).
         inr (⊎_elim
         (λ (f : result ≡ Err NoMemory). inl f)
         (λ (g : (x k : ℕ) × (result ≡ Err (GaveUp x)) × (k < units) ×
-        (x ≡ give_up_place d.nfa.automaton.reverse (span_len q) from k) × (lacks_room d new (state_behind (reader d) q.haystack from first (suc k)) ≡ true)).
-        inr (g.0, g.2, at_unit g.1 (subst (λ (l : ℕ). g.1 < l) same_len g.3) g.4 g.5))
+        (x ≡ give_up_place d.nfa.automaton.reverse (span_len q) from k) × (lacks_room d new (state_behind (reader d) q.haystack from first (suc k)) ≡ true) ×
+        (k < span_len q → running_at new.progress ≡ Some x)).
+        inr (g.0, g.2, at_unit g.1 (subst (λ (l : ℕ). g.1 < l) same_len g.3) g.4 g.5 g.6))
         e))
         runs.answer
 

@@ -44,12 +44,18 @@ told (unsupported mode) = Err (UnsupportedAnchored mode)
 abbrev pub give_up_place : Bool → ℕ → ℕ → ℕ → ℕ
 give_up_place down n i k = if nat_lt k n then index_at down (place_of down i k) else place_of down i k
 
+-- where the search that goes on is
+abbrev pub running_at : Option Progress → Option ℕ
+running_at None = None
+running_at (Some p) = Some p.at
+
 -- A pass over n bytes from place i gave up at x: its first state, or the one behind a unit that it reads, has no room, and no
--- clear is allowed.
+-- clear is allowed. At a byte the search still goes on, and is there.
 pub data GivesUpIn (d : Dfa) (v : CacheValue) (mode : Anchored) (earliest : Bool) (h : List ℕ) (n i x : ℕ) : Type 0 where
   at_start : x ≡ i → lacks_room d v (first_value (reader d) mode h i) ≡ true → GivesUpIn d v mode earliest h n i x
   at_unit : (k : ℕ) → k < pass_len (reader d) mode earliest h n i → x ≡ give_up_place d.nfa.automaton.reverse n i k →
-      lacks_room d v (state_behind (reader d) h i (first_value (reader d) mode h i) (suc k)) ≡ true → GivesUpIn d v mode earliest h n i x
+      lacks_room d v (state_behind (reader d) h i (first_value (reader d) mode h i) (suc k)) ≡ true → (k < n → running_at v.progress ≡ Some x) →
+      GivesUpIn d v mode earliest h n i x
 
 -- of these passes one gave up
 abbrev pub GivesUpAmong : Dfa → CacheValue → Search → ℕ → List (ℕ × ℕ) → Type 0

@@ -25,7 +25,7 @@ use Rattle.lazy_dfa.specs.Points.{Point, GoesTo, began}
 use Rattle.lazy_dfa.specs.Readers.{is_quit}
 use Rattle.lazy_dfa.specs.Scans.{first_place}
 use Rattle.lazy_dfa.specs.ScanLaws.{begins_at}
-use Rattle.lazy_dfa.specs.SearchAnswers.{pair_of, told, give_up_place, Told, told_of, pass_distance}
+use Rattle.lazy_dfa.specs.SearchAnswers.{pair_of, told, give_up_place, Told, told_of, pass_distance, running_at}
 use Rattle.lazy_dfa.specs.StartCalls.{mode_of, start_refusal, start_noted, IsStartKnown}
 use Rattle.lazy_dfa.specs.Steps.{Grew, WasCleared, most_inserts}
 use Rattle.lazy_dfa.specs.Turns.{GoesOne, Leaves, FailsOn}
@@ -127,7 +127,8 @@ TurnsTo d q from new m n (Err (Quit b x)) = Leaves d q.haystack from new m n 0 �
     (unit_at d.nfa.automaton.reverse q.haystack from.at ≡ Some b) × (has d.quits b ≡ true) × (x ≡ index_at d.nfa.automaton.reverse from.at)
 TurnsTo d q from new m n (Err (GaveUp x)) = FailsOn d q.haystack from new m n 0 ×
     (is_quit d.quits (unit_at d.nfa.automaton.reverse q.haystack from.at) ≡ false) × (x ≡ gave_up_at d.nfa.automaton.reverse q from.at) ×
-    ((s : StateValue) → HeldAt from.cache from.id s → lacks_room d new (state_behind (reader d) q.haystack from.at s 1) ≡ true)
+    ((s : StateValue) → HeldAt from.cache from.id s → lacks_room d new (state_behind (reader d) q.haystack from.at s 1) ≡ true) ×
+    (from.at ≢ last_place d.nfa.automaton.reverse q → running_at new.progress ≡ Some x)
 TurnsTo d q from new m n (Err NoMemory) = FailsOn d q.haystack from new m n 0
 TurnsTo d q from new m n (Err (HaystackTooLong len)) = ⊥
 TurnsTo d q from new m n (Err (UnsupportedAnchored mode)) = ⊥
@@ -139,7 +140,8 @@ TurnsTo d q from new m n (Err NotAPair) = ⊥
 pub record RunsOn (d : Dfa) (q : Search) (s : StateValue) (from : Point) (new : CacheValue) (m n : ℕ) (result : Result (Option HalfFound) MatchErrorKind) : Type 0 where
   pub answer : (result ≡ told (pass_from (reader d) q.earliest q.haystack (suc (span_len q)) from.at s None)) ⊎ (result ≡ Err NoMemory) ⊎
       ((x k : ℕ) × (result ≡ Err (GaveUp x)) × (k < units_read (reader d) q.earliest q.haystack (suc (span_len q)) from.at s) ×
-      (x ≡ give_up_place d.nfa.automaton.reverse (span_len q) from.at k) × (lacks_room d new (state_behind (reader d) q.haystack from.at s (suc k)) ≡ true))
+      (x ≡ give_up_place d.nfa.automaton.reverse (span_len q) from.at k) × (lacks_room d new (state_behind (reader d) q.haystack from.at s (suc k)) ≡ true) ×
+      (k < span_len q → running_at new.progress ≡ Some x))
   pub kept : GrowsOrClears d from.cache new
   pub follows : OnOk result ((Grows d from.cache new ×
       IsLinkedOver d new q.haystack from.at from.id (units_read (reader d) q.earliest q.haystack (suc (span_len q)) from.at s) ×

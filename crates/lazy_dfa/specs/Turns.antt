@@ -86,4 +86,4 @@ IsTurn d earliest h u from new m n (Ok seen) = IsSeen d earliest h u from new m 
 IsTurn d earliest h u from new m n (Err NoMemory) = FailsOn d h from new m n 0
 IsTurn d earliest h u from new m n (Err GaveUp) =
     FailsOn d h from new m n 0 × (is_quit d.quits u ≡ false) ×
-    ((s : StateValue) → HeldAt from.cache from.id s → lacks_room d new (state_behind (reader d) h from.at s 1) ≡ true)
+    ((s : StateValue) → HeldAt from.cache from.id s → lacks_room d new (state_behind (reader d) h from.at s 1) ≡ true) × (new ≡ from.cache)

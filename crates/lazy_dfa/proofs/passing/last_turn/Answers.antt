@@ -1,6 +1,7 @@
 use Rattle.std.proofs.Common.{◌∙◌, ap, refl, Bool, ℕ, List, not}
 use Rattle.determinize_core.specs.Steps.{unit_at}
 use Rattle.lazy_dfa.specs.SearchAnswers.{pair_of}
+use Rattle.lazy_dfa.specs.Stands.{last_place}
 use Rattle.lazy_dfa.specs.Stands.{finished_where}
 use Rattle.lazy_dfa.proofs.LinkedLemmas.{is_cache_moved, moved_refl}
 use Rattle.lazy_dfa.proofs.SpanTurnLemmas.{finished_where_moves, gave_up_last, turn_refused, turn_quits, last_ends}
@@ -16,6 +17,7 @@ returns-in-Err-clause-turn g c = turn_refused c.args.dfa.now c.args.input.now c.
     (c.unit_at-unit.ensures ∙ (ap (λ (h : List ℕ). unit_at c.args.is_down h c.args.stand.at) c.haystack.ensures.value ∙ ap (λ (b : Bool). unit_at b c.args.input.now.haystack c.args.stand.at) c.requires.down))
     (gave_up_last c.args.dfa.now c.args.input.now c.args.is_down c.requires.down c.args.cache.now c.finish_where.new.cache c.make_turn.new.cache c.args.work.now.determinized c.args.work.now.inserted
     c.make_turn.new.work.determinized c.make_turn.new.work.inserted c.args.stand.at c.args.stand.id (pair_of c.args.stand.best) c.unit_at-unit.result c.args.stand.at refl c.requires.last)
+    (λ far. absurd (far (c.requires.last ∙ ap (λ (b : Bool). last_place b c.args.input.now) c.requires.down)))
     c.refusal.ensures (c.in-Err.ensures.turn c.args.input.now.haystack (c.unit_at-unit.ensures ∙ (ap (λ (h : List ℕ). unit_at c.args.is_down h c.args.stand.at) c.haystack.ensures.value ∙ ap (λ (b : Bool). unit_at b c.args.input.now.haystack c.args.stand.at) c.requires.down)))
 
 pub returns-in-Quits-clause-turn : goal.returns-in-Quits-clause-turn
