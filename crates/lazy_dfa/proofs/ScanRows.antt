@@ -1,9 +1,10 @@
 -- Half searches of small automata, worked out by hand.
-use Rattle.std.proofs.Common.{◌≡◌, ℕ, ◌-◌, Bool, true, false, List, [], ◌∷◌, ◌++◌, replicate, Some, None, refl}
+use Rattle.std.proofs.Common.{◌≡◌, ℕ, ◌-◌, Bool, true, false, List, [], ◌∷◌, ◌++◌, replicate, Some, None, Ok, Err, refl}
 use Rattle.look_core.specs.declared.look.Look.TheVariants.{Start, End, EndLF, StartLF, WordUnicode}
 use Rattle.look_core.specs.Terminators.{Terminator, one_of}
 use Rattle.search_types.specs.declared.match_kind.MatchKind.TheVariants.{All as AllMatches, LeftmostFirst}
 use Rattle.search_types.specs.declared.anchored.Anchored.TheVariants.{No, Yes, Pattern}
+use Rattle.search_types.specs.declared.match_error.MatchErrorKind.TheVariants.{Quit}
 use Rattle.search_types.specs.Inputs.{Search}
 use Rattle.nfa_core.specs.NfaParts.{never_matching}
 use Rattle.nfa_core.specs.Nfa.{Node, Automaton, fail_node, byte_range, sparse_node, look_node, binary_union, match_node}
@@ -14,6 +15,8 @@ use Rattle.lazy_dfa.specs.Quits.{with_high_bytes, has_high_bytes, quit_bytes, is
 use Rattle.lazy_dfa.specs.Passes.{next_value, pass_from, start_or_dead}
 use Rattle.lazy_dfa.specs.Scans.{scan}
 use Rattle.lazy_dfa.specs.ScanLaws.{scan_len, pass_count}
+use Rattle.lazy_dfa.specs.Linked.{passes_of}
+use Rattle.lazy_dfa.specs.SearchAnswers.{Told, told, told_by, made_by}
 
 -- ---- automata, readers, searches
 
@@ -328,3 +331,48 @@ each_end_counts_without_utf8_mode = refl
 search_begins_anew_downwards : scan (between (backward nothing)) (over beta 0 1) ≡ found (Some (0, 0))
 unfolding families_of known_lines known_words next_value start_or_dead pass_from
 search_begins_anew_downwards = refl
+
+-- ---- what searches make and tell
+
+-- over one byte from 1, and then over none from 2
+passes_over_a_part_of_a_character : passes_of (between (forward nothing)) (over beta 1 2) ≡ (1, 1) ∷ (0, 2) ∷ []
+unfolding families_of known_lines known_words next_value start_or_dead pass_from
+passes_over_a_part_of_a_character = refl
+
+done_search_makes_no_pass : passes_of (between (forward nothing)) (over beta 2 1) ≡ []
+done_search_makes_no_pass = refl
+
+-- `a` on "ab": a start, and a state behind each of two bytes and the end
+states_of_a_search : made_by (reads (forward letter) no_quits) (over (97 ∷ 98 ∷ []) 0 2) (passes_of (reads (forward letter) no_quits) (over (97 ∷ 98 ∷ []) 0 2)) ≡ 4
+unfolding families_of known_lines known_words next_value start_or_dead pass_from
+states_of_a_search = refl
+
+abbrev nothing_told : Told
+nothing_told = record { searched = 0; progress = None }
+
+-- it comes over two bytes, and once more over two
+bytes_of_a_search : told_by (reads (forward letter) no_quits) (over (97 ∷ 98 ∷ []) 0 2) nothing_told ((2, 0) ∷ []) ≡ record { searched = 2; progress = None }
+unfolding families_of known_lines known_words next_value start_or_dead pass_from
+bytes_of_a_search = refl
+
+-- a search that still went on over three bytes ends with it
+bytes_of_two_searches : told_by (reads (forward letter) no_quits) (over (97 ∷ 98 ∷ []) 0 2) (record { searched = 2; progress = Some (record { start = 7; at = 4 }) }) ((2, 0) ∷ [])
+    ≡ record { searched = 7; progress = None }
+unfolding families_of known_lines known_words next_value start_or_dead pass_from
+bytes_of_two_searches = refl
+
+-- downwards through three bytes, the last two of which match: from the last byte to the first
+bytes_of_a_search_downwards : told_by (record (reads (backward letters) no_quits) { kind = AllMatches }) (record (over (98 ∷ 97 ∷ 97 ∷ []) 0 3) { anchored = Yes }) nothing_told ((3, 3) ∷ [])
+    ≡ record { searched = 2; progress = None }
+unfolding families_of known_lines known_words next_value start_or_dead pass_from
+bytes_of_a_search_downwards = refl
+
+-- and over none it tells nothing
+nothing_is_told_downwards : told_by (reads (backward letters) no_quits) (over [] 0 0) nothing_told ((0, 0) ∷ []) ≡ nothing_told
+nothing_is_told_downwards = refl
+
+quit_is_told : told (quit 100 2) ≡ Err (Quit 100 2)
+quit_is_told = refl
+
+end_is_told : told (found (Some (3, 0))) ≡ Ok (Some (record { pattern = 0; offset = 3 }))
+end_is_told = refl
