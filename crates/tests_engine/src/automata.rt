@@ -29,7 +29,11 @@ fn build_counted<L: Ledger>(
 }
 
 /// The automaton that starts in these states; the builder says whether it can be built.
-fn built(builder: &Builder, anchored: StateID, unanchored: StateID) -> Result<NFA, NfaError> {
+pub(crate) fn built(
+    builder: &Builder,
+    anchored: StateID,
+    unanchored: StateID,
+) -> Result<NFA, NfaError> {
     if !builder.can_build(anchored, unanchored) {
         return Err(NfaError::TooManyStates);
     }
@@ -37,7 +41,7 @@ fn built(builder: &Builder, anchored: StateID, unanchored: StateID) -> Result<NF
 }
 
 /// From the bytes of a range to a state.
-fn range(start: u8, end: u8, next: StateID) -> Transition
+pub(crate) fn range(start: u8, end: u8, next: StateID) -> Transition
     ensures first { result.start ≡ start }
     ensures last { result.end ≡ end }
 {
@@ -87,12 +91,21 @@ pub(crate) fn letters(
     builder.set_size_limit(limit)?;
     let starts = patterns(alloc, &mut builder, letters, look)?;
     let anchored = builder.add_union(starts)?;
+    let prefix = any_place(alloc, &mut builder, anchored)?;
+    built(&builder, anchored, prefix)
+}
+
+/// Starts at any place what starts in the state that was added last, the first place preferred.
+pub(crate) fn any_place(
+    alloc: Global,
+    builder: &mut Builder,
+    anchored: StateID,
+) -> Result<StateID, NfaError> {
     let Ok(next) = StateID::new(anchored.as_usize().saturating_add(2)) else {
         return Err(NfaError::TooManyStates);
     };
     let all = builder.add_range(range(0, 255, next))?;
-    let prefix = builder.add_union(vec![in alloc; anchored, all]?)?;
-    built(&builder, anchored, prefix)
+    builder.add_union(vec![in alloc; anchored, all]?)
 }
 
 /// The machine of these patterns.

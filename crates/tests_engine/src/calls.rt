@@ -6,7 +6,7 @@ use determinize_core::Config as StartConfig;
 use lazy_dfa::dfa::Config;
 use lazy_dfa::{CacheError, LazyStateID, StartError};
 use look_core::Look;
-use search_types::{Anchored, Input, MatchErrorKind, Span};
+use search_types::{Anchored, HalfMatch, Input, MatchErrorKind, Span};
 use std::alloc::Global;
 
 /// A call, with what it should answer.
@@ -24,6 +24,9 @@ pub(crate) enum Call {
     Step(usize, Option<u8>, usize),
     /// It gives up.
     NoStep(usize, Option<u8>),
+    /// The half search over these bytes in this span and mode finds this, and the one for the earliest end.
+    Search(Over, Found),
+    Earliest(Over, Found),
     /// The cache is made anew.
     Reset,
     /// A search starts, has come to a place, and ends.
@@ -57,6 +60,15 @@ pub(crate) enum Kind {
     Quit,
 }
 
+/// What a half search finds.
+#[derive(Clone, Copy)]
+pub(crate) enum Found {
+    /// The pattern and the place.
+    At(usize, usize),
+    Nothing,
+    Refused(MatchErrorKind),
+}
+
 /// A haystack.
 #[derive(Clone, Copy)]
 pub(crate) enum Text {
@@ -68,6 +80,22 @@ pub(crate) enum Text {
     BetaFirst,
     /// "123β".
     BetaLast,
+    Empty,
+    Ba,
+    Xx,
+    Aaba,
+    Abcd,
+    Abd,
+    Abcxyz,
+    /// The byte and one that ends a line.
+    ALf,
+    ACrLf,
+    CrLf,
+    /// "β", "ββ", "aβb" and "βb".
+    Beta,
+    BetaTwice,
+    BetaWithin,
+    BetaB,
 }
 
 /// A search.
@@ -116,6 +144,27 @@ fn bytes_of(text: Text) -> &'static [u8] {
         Text::Abx => b"abx",
         Text::BetaFirst => b"\xCE\xB2123",
         Text::BetaLast => b"123\xCE\xB2",
+        _ => more_bytes_of(text),
+    }
+}
+
+/// The bytes of the others.
+fn more_bytes_of(text: Text) -> &'static [u8] {
+    match text {
+        Text::Ba => b"ba",
+        Text::Xx => b"xx",
+        Text::Aaba => b"aaba",
+        Text::Abcd => b"abcd",
+        Text::Abd => b"abd",
+        Text::Abcxyz => b"abcxyz",
+        Text::ALf => b"a\n",
+        Text::ACrLf => b"a\r\n",
+        Text::CrLf => b"\r\n",
+        Text::Beta => b"\xCE\xB2",
+        Text::BetaTwice => b"\xCE\xB2\xCE\xB2",
+        Text::BetaWithin => b"a\xCE\xB2b",
+        Text::BetaB => b"\xCE\xB2b",
+        _ => b"",
     }
 }
 
@@ -139,7 +188,37 @@ fn start_over(
     }
 }
 
-/// Whether the call of a start or a step answers what it should.
+/// Whether a half search finds this.
+fn finds(machine: &mut Machine, over: Over, earliest: bool, wanted: Found) -> bool {
+    let input = Input::new(bytes_of(over.haystack)).anchored(over.mode);
+    let span = Span {
+        start: over.start,
+        end: over.end,
+    };
+    if !input.fits(span) {
+        return false;
+    }
+    match machine.search(&input.span(span).earliest(earliest)) {
+        Ok(Some(half)) => is_at(half, wanted),
+        Ok(None) => matches!(wanted, Found::Nothing),
+        Err(e) => match wanted {
+            Found::Refused(kind) => *e.kind() == kind,
+            _ => false,
+        },
+    }
+}
+
+/// Whether what was found is this.
+fn is_at(half: HalfMatch, wanted: Found) -> bool {
+    match wanted {
+        Found::At(pattern, place) => {
+            half.pattern().as_usize() == pattern && half.offset() == place
+        }
+        _ => false,
+    }
+}
+
+/// Whether the call of a start, a step or a search answers what it should.
 fn is_answered(machine: &mut Machine, ids: &mut [LazyStateID], call: &Call) -> bool {
     match *call {
         Call::Start(behind, mode, number) => match start(machine, behind, mode) {
@@ -160,6 +239,8 @@ fn is_answered(machine: &mut Machine, ids: &mut [LazyStateID], call: &Call) -> b
             machine.step(id_of(ids, from), unit),
             Stepped::Refused(CacheError::GaveUp)
         ),
+        Call::Search(over, wanted) => finds(machine, over, false, wanted),
+        Call::Earliest(over, wanted) => finds(machine, over, true, wanted),
         _ => is_moved(machine, call) && is_told(machine, ids, call),
     }
 }

@@ -10,11 +10,17 @@ mod clears;
 #[cfg(test)]
 mod configs;
 #[cfg(test)]
+mod ends;
+#[cfg(test)]
 mod machine;
 #[cfg(test)]
 mod progress;
 #[cfg(test)]
 mod refusals;
+#[cfg(test)]
+mod searches;
+#[cfg(test)]
+mod shapes;
 #[cfg(test)]
 mod starts;
 #[cfg(test)]

@@ -8,7 +8,7 @@ use lazy_dfa::dfa::{Cache, Config, DFA};
 use lazy_dfa::{BuildError, CacheError, LazyStateID, StartError, Work};
 use nfa_core::NFA;
 use search_core::PatternID;
-use search_types::{Input, MatchError};
+use search_types::{HalfMatch, Input, MatchError};
 use std::alloc::{AllocError, Global};
 use std::marker::{Brand, Model};
 use std::sync::ledger::{Blank, Ledger};
@@ -161,6 +161,16 @@ impl Machine {
     }
 }
 
+/// Searches.
+impl Machine {
+    /// The half search over an input, upwards or downwards as the automaton reads.
+    pub(crate) fn search(&mut self, input: &Input<'_>) -> Result<Option<HalfMatch>, MatchError> {
+        let one = Blank::new(1);
+        let two = Blank::new(1);
+        search_counted::<Brand, Brand>(&self.dfa, &mut self.cache, input, one, two)
+    }
+}
+
 /// Progress.
 impl Machine {
     /// A search starts.
@@ -290,5 +300,30 @@ fn over_counted<L: Ledger, M: Ledger>(
         dfa.start_state_reverse(cache, input, &mut work)
     } else {
         dfa.start_state_forward(cache, input, &mut work)
+    }
+}
+
+/// The half search, counted.
+fn search_counted<L: Ledger, M: Ledger>(
+    dfa: &DFA,
+    cache: &mut Cache,
+    input: &Input<'_>,
+    first: Blank,
+    second: Blank,
+) -> Result<Option<HalfMatch>, MatchError>
+    requires own { IsCacheOf dfa.now cache.old }
+    requires name1 { first.name ≡ L.name }
+    requires parts1 { first.parts ≡ L.parts }
+    requires some1 { 0 < first.parts }
+    requires name2 { second.name ≡ M.name }
+    requires parts2 { second.parts ≡ M.parts }
+    requires some2 { 0 < second.parts }
+    ensures own { IsCacheOf dfa.now cache.new }
+{
+    let mut work = Work::<L, M>::new(first, second);
+    if dfa.get_nfa().is_reverse() {
+        dfa.try_search_rev(cache, input, &mut work)
+    } else {
+        dfa.try_search_fwd(cache, input, &mut work)
     }
 }

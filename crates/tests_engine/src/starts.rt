@@ -8,12 +8,12 @@ use search_types::{Anchored, MatchErrorKind};
 use std::test::Fail;
 
 /// The mode of searches for the pattern with this number.
-fn only(pattern: u8) -> Anchored {
+pub(crate) fn only(pattern: u8) -> Anchored {
     Anchored::Pattern(PatternID::from(pattern))
 }
 
 /// A search over the span.
-fn over(haystack: Text, start: usize, end: usize, mode: Anchored) -> Over {
+pub(crate) fn over(haystack: Text, start: usize, end: usize, mode: Anchored) -> Over {
     Over {
         haystack,
         start,
@@ -23,7 +23,7 @@ fn over(haystack: Text, start: usize, end: usize, mode: Anchored) -> Over {
 }
 
 /// The refusal of a search at this byte, at this place.
-fn quit(byte: u8, offset: usize) -> MatchErrorKind {
+pub(crate) fn quit(byte: u8, offset: usize) -> MatchErrorKind {
     MatchErrorKind::Quit { byte, offset }
 }
 

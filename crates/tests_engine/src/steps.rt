@@ -109,7 +109,7 @@ fn ends(kind: Kind) -> [Call; 3] {
 }
 
 /// Whether the calls are answered over a fresh cache of an automaton.
-fn answers_of(alloc: Global, dfa: DFA, calls: &[Call]) -> bool {
+pub(crate) fn answers_of(alloc: Global, dfa: DFA, calls: &[Call]) -> bool {
     match Machine::of(alloc, dfa) {
         Ok(mut machine) => are_answered(&mut machine, calls),
         Err(_) => false,
