@@ -3,6 +3,7 @@ use Rattle.std.proofs.Common.{◌≡◌, ℕ, suc, ◌+◌, ◌-◌, ◌<◌, �
 use Rattle.search_core.specs.Text.{byte_at}
 use Rattle.search_types.specs.declared.anchored.Anchored.{Anchored}
 use Rattle.search_types.specs.Inputs.{Search}
+use Rattle.nfa_core.specs.Ways.{place_of}
 use Rattle.lazy_dfa.specs.Readers.{Reader, found, is_quit}
 use Rattle.lazy_dfa.specs.Passes.{pass}
 use Rattle.lazy_dfa.specs.Scans.{first_place, scan}
@@ -37,6 +38,14 @@ reached_near : (down : Bool) (s e n x : ℕ) → s ≤ e → n ≤ suc (e - s) �
 reached_near false s e n x fits few there = let to = there.1 in (there.0, omega (arith, fits, few, to))
 reached_near true s e n x fits few there = let from = there.0 in (omega (arith, fits, few, from), there.1)
 
+place_in_span : (down : Bool) (s e n k x : ℕ) → s ≤ e → n ≤ suc (e - s) → k < n → x ≡ place_of down (first_place down s e) k →
+    (s ≤ x) × (x ≤ e)
+place_in_span false s e n k x fits few less is = (omega (arith, is), omega (arith, fits, few, less, is))
+place_in_span true s e n k x fits few less is = (omega (arith, fits, few, less, is), omega (arith, is))
+
+none_found : (e : ℕ × ℕ) (P : Type 0) → found None ≡ found (Some e) → P
+none_found e P never = let no_way : true ≡ false = cc in absurd (grind (arith, no_way))
+
 module _ (r : Reader) (q : Search) where
   abbrev down : Bool
   down = r.automaton.reverse
@@ -61,11 +70,15 @@ module _ (r : Reader) (q : Search) where
   scan_place_is_reached e is = ⊎_elim
       (λ (l : q.start ≤ q.end).
       let read = scan_found_read r q l e is in (l, place_is_reached down (begins_at r q) (scan_len r q) read.0 e.0 read.1 read.2))
-      (λ (past : q.end < q.start). nothing e (IsInReach r q e.0) (sym (scan_done r q past) ∙ is))
+      (λ (past : q.end < q.start). none_found e (IsInReach r q e.0) (sym (scan_done r q past) ∙ is))
       (le_or_done r q q.start q.end)
-    where
-      nothing : (e : ℕ × ℕ) (P : Type 0) → found None ≡ found (Some e) → P
-      nothing e P never = let no_way : true ≡ false = cc in absurd (grind (arith, no_way))
 
   pub reach_is_near : (x : ℕ) → IsInReach r q x → (q.start ≤ x + 1) × (x ≤ q.end)
   reach_is_near x there = reached_near down q.start q.end (scan_len r q) x there.0 (scan_few r q) there.1
+
+  pub scan_in_span : (e : ℕ × ℕ) → scan r q ≡ found (Some e) → (q.start ≤ e.0) × (e.0 ≤ q.end)
+  scan_in_span e is = ⊎_elim
+      (λ (l : q.start ≤ q.end).
+      let read = scan_found_read r q l e is in place_in_span down q.start q.end (scan_len r q) read.0 e.0 l (scan_few r q) read.1 read.2)
+      (λ (past : q.end < q.start). none_found e ((q.start ≤ e.0) × (e.0 ≤ q.end)) (sym (scan_done r q past) ∙ is))
+      (le_or_done r q q.start q.end)

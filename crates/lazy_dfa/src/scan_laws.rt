@@ -83,3 +83,8 @@ pub fn scans_make_few_passes()
     ensures few { (r : Reader) (q : Search) → pass_count r q ≤ suc (q.end - q.start) }
     ensures units { (r : Reader) (q : Search) → unit_count r q ≤ pass_count r q * suc (q.end - q.start) }
 {}
+
+/// What a half search finds lies in its span, which isn't done.
+pub fn scans_find_places_in_their_span()
+    ensures { (r : Reader) (q : Search) (e : ℕ × ℕ) → scan r q ≡ found (Some e) → (q.start ≤ e.0) × (e.0 ≤ q.end) }
+{}
