@@ -1,5 +1,5 @@
 -- What calls of a walk answer, how many units they read, and what they tell a cache of how far they came.
-use Rattle.std.specs.Prelude.{◌≡◌, ◌⊎◌, ℕ, zero, suc, ◌+◌, ◌*◌, ◌<◌, ◌≤◌, ◌==◌, ◌&&◌, ◌||◌, not, nat_le, nat_lt, min, Bool, true, false, List, [], ◌∷◌, length, take, Option, Some, None, Result, Ok, Err, IfErr, OnOk, if◌then◌else◌, ⊤, slice_set}
+use Rattle.std.specs.Prelude.{◌≡◌, ◌≢◌, ◌⊎◌, ℕ, zero, suc, ◌+◌, ◌*◌, ◌<◌, ◌≤◌, ◌==◌, ◌&&◌, ◌||◌, not, nat_le, nat_lt, min, Bool, true, false, List, [], ◌∷◌, length, take, Option, Some, None, Result, Ok, Err, IfOk, IfErr, OnOk, if◌then◌else◌, ⊤, slice_set}
 use Rattle.std.specs.List.{list_all}
 use Rattle.search_types.specs.declared.match_error.MatchErrorKind.{MatchErrorKind}
 use Rattle.search_types.specs.declared.match_error.MatchErrorKind.TheVariants.{GaveUp, NoMemory}
@@ -20,10 +20,11 @@ use Rattle.lazy_dfa.specs.Passes.{is_empty, is_dead, next_value, next_place, fir
 use Rattle.lazy_dfa.specs.PassLaws.{pass_len}
 use Rattle.lazy_dfa.specs.Readers.{Reader}
 use Rattle.lazy_dfa.specs.ScanLaws.{begins_at}
-use Rattle.lazy_dfa.specs.SearchAnswers.{half_of, GivesUpIn, Told, told_of, pass_distance}
-use Rattle.lazy_dfa.specs.Stands.{left_at, last_place, gave_up_at}
+use Rattle.lazy_dfa.specs.SearchAnswers.{half_of, GivesUpIn, Told, told_of, pass_distance, running_at}
+use Rattle.lazy_dfa.specs.Courses.{state_behind}
+use Rattle.lazy_dfa.specs.Stands.{came, left_at, last_place, gave_up_at}
 use Rattle.lazy_dfa.specs.Steps.{most_inserts}
-use Rattle.lazy_dfa.specs.Walks.{whole_rest, rest_of, others, value_past, IsWalk, WalkState}
+use Rattle.lazy_dfa.specs.Walks.{Rest, rest_from, whole_rest, rest_of, others, value_past, IsWalk, WalkState}
 
 -- ---- where a call reads
 
@@ -90,13 +91,14 @@ pub record TellsNext (r : Reader) (q : Search) (w : Walk) (new : WalkState) (res
   pub left : rest_of r q new.walk ≡ others (rest_of r q w)
 
 -- A call gave up at x: the state in which the walk starts, or the one behind a unit that the call reads, has no room, and no
--- clear is allowed.
+-- clear is allowed. At a byte the search still goes on, and is there.
 pub data GivesUpOn (d : Dfa) (v : CacheValue) (q : Search) (w : Walk) (x : ℕ) : Type 0 where
   at_start : w ≡ Fresh → x ≡ begins_at (reader d) q →
       lacks_room d v (first_value (reader d) q.anchored q.haystack (begins_at (reader d) q)) ≡ true → GivesUpOn d v q w x
   at_unit : (k : ℕ) → k < call_units (reader d) q w →
       x ≡ gave_up_at d.nfa.automaton.reverse q (place_of d.nfa.automaton.reverse (call_place (reader d) q w) k) →
       lacks_room d v (value_past (reader d) q (place_of d.nfa.automaton.reverse (call_place (reader d) q w) k)) ≡ true →
+      (place_of d.nfa.automaton.reverse (call_place (reader d) q w) k ≢ last_place d.nfa.automaton.reverse q → running_at v.progress ≡ Some x) →
       GivesUpOn d v q w x
 
 -- What a call of a walk answers over whatever cache. Else memory lacked, or it gave up, and the cache is as it was then.
@@ -119,6 +121,49 @@ told_by_call r q w t =
       progress = None;
     } else t
 
+-- ---- reading on
+
+-- the state before the unit at a place of the span, where all units before it are read
+abbrev pub value_before : Reader → Search → ℕ → StateValue
+value_before r q at =
+    state_behind r q.haystack (begins_at r q) (first_value r q.anchored q.haystack (begins_at r q)) (came r.automaton.reverse q at)
+
+-- what is left of a walk that is to read this unit
+abbrev pub rest_at : Reader → Search → ℕ → Rest
+rest_at r q at = rest_from r q.haystack (suc (left_at r.automaton.reverse q at)) at (value_before r q at)
+
+-- and how many units its next call reads
+abbrev pub units_at : Reader → Search → ℕ → ℕ
+units_at r q at = units_met r q.haystack (suc (left_at r.automaton.reverse q at)) at (value_before r q at)
+
+-- what is told by reading on from there
+abbrev pub told_from : Reader → Search → ℕ → Told → Told
+told_from r q at t = record {
+  searched = min (t.searched + progress_len t.progress + pass_distance r.automaton.reverse (left_at r.automaton.reverse q at) (units_at r q at)) greatest;
+  progress = None;
+}
+
+-- a unit that is read from there lacks a state
+pub record GivesUpFrom (d : Dfa) (v : CacheValue) (q : Search) (at x : ℕ) : Type 0 where
+  pub unit : ℕ
+  pub read : unit < units_at (reader d) q at
+  pub place : x ≡ gave_up_at d.nfa.automaton.reverse q (place_of d.nfa.automaton.reverse at unit)
+  pub lacks : lacks_room d v (value_past (reader d) q (place_of d.nfa.automaton.reverse at unit)) ≡ true
+  pub running : place_of d.nfa.automaton.reverse at unit ≢ last_place d.nfa.automaton.reverse q → running_at v.progress ≡ Some x
+
+-- The rest of a walk from the unit at a place up to the next end that counts: it is told, and what is left is what was left
+-- but for it.
+pub record ReadsOn (d : Dfa) (q : Search) (at : ℕ) (old new : CacheValue) (m1 m2 n1 n2 : ℕ) (result : Result WalkState MatchErrorKind) : Type 0 where
+  pub ok : IfOk result (λ w. (told_left (rest_at (reader d) q at).ends (rest_at (reader d) q at).refusal ≡ Ok tt) ×
+      (w.found ≡ half_of (first (rest_at (reader d) q at).ends)) × (rest_of (reader d) q w.walk ≡ others (rest_at (reader d) q at)) ×
+      IsWalk d new q w.walk × (w.found ≡ None → w.walk ≡ Ended))
+  pub err : IfErr result (λ e. (told_left (rest_at (reader d) q at).ends (rest_at (reader d) q at).refusal ≡ Err e) ⊎ (e ≡ NoMemory) ⊎
+      ((x : ℕ) × (e ≡ GaveUp x) × GivesUpFrom d new q at x))
+  pub kept : GrowsOrClears d old new
+  pub told : OnOk result ((Grows d old new × (told_of new ≡ told_from (reader d) q at (told_of old))) ⊎ HasCleared old new)
+  pub determinized : m2 ≤ m1 + units_at (reader d) q at
+  pub inserted : n2 ≤ n1 + units_at (reader d) q at * most_inserts d
+
 -- ---- calls
 
 -- what a call does from one state of the walk to the next
@@ -128,6 +173,8 @@ pub record MakesCall (d : Dfa) (q : Search) (old new : CacheValue) (m1 m2 n1 n2 
   pub failed : IfErr result (λ e. after ≡ failed_by e)
   pub kept : GrowsOrClears d old new
   pub told : OnOk result ((Grows d old new × (told_of new ≡ told_by_call (reader d) q w (told_of old))) ⊎ HasCleared old new)
+  pub ends : OnOk result (after.found ≡ None → after.walk ≡ Ended)
+  pub still : call_starts q w ≡ 0 → reads_on (reader d) q w ≡ false → TellsNext (reader d) q w after result
   pub quiet : call_starts q w ≡ 0 → reads_on (reader d) q w ≡ false → (new ≡ old) × (m2 ≡ m1) × (n2 ≡ n1)
   pub determinized : m2 ≤ m1 + call_made (reader d) q w
   pub inserted : n2 ≤ n1 + call_made (reader d) q w * most_inserts d

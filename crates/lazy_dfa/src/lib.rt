@@ -46,6 +46,8 @@ mod starting;
 mod stepping;
 mod turns;
 pub mod walk_laws;
+mod walk_reads;
+mod which_patterns;
 mod work;
 
 pub use build_error::BuildError;
