@@ -50,4 +50,7 @@ pub mod SearchEndLemmas
 pub mod HasReachLemmas
 pub mod SearchClauseLemmas
 pub mod PassLoopLemmas
+pub mod RestLemmas
+pub mod WalkGoesOnLemmas
+pub mod WhichLemmas
 pub mod WalkRows
