@@ -51,6 +51,8 @@ pub mod HasReachLemmas
 pub mod SearchClauseLemmas
 pub mod PassLoopLemmas
 pub mod RestLemmas
+pub mod PlaceEndLemmas
+pub mod WalkEndLemmas
 pub mod WalkGoesOnLemmas
 pub mod WhichLemmas
 pub mod WalkRows
