@@ -50,4 +50,9 @@ pub mod SearchEndLemmas
 pub mod HasReachLemmas
 pub mod SearchClauseLemmas
 pub mod PassLoopLemmas
+pub mod WalkLeftLemmas
+pub mod WalkCallLemmas
+pub mod WalkStopLemmas
+pub mod WalkBeginLemmas
+pub mod WalkClauseLemmas
 pub mod WalkRows
