@@ -55,4 +55,9 @@ pub mod PlaceEndLemmas
 pub mod WalkEndLemmas
 pub mod WalkGoesOnLemmas
 pub mod WhichLemmas
+pub mod WalkLeftLemmas
+pub mod WalkCallLemmas
+pub mod WalkStopLemmas
+pub mod WalkBeginLemmas
+pub mod WalkClauseLemmas
 pub mod WalkRows

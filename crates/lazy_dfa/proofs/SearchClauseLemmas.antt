@@ -79,7 +79,7 @@ no_room_lacks o a b c bytes v none =
 
 module _ (d : Dfa) (v : CacheValue) (none : clears_of d.options ≡ None) where
   -- where no least count of clears is set, there is always room
-  has_room : (s : StateValue) → lacks_room d v s ≡ true → ⊥
+  pub has_room : (s : StateValue) → lacks_room d v s ≡ true → ⊥
   has_room s lacks = true≢false (sym lacks
       ∙ no_room_lacks (clears_of d.options) (is_dead s) (is_none (place_of s v.states)) (not (fits d.capacity s v)) (bytes_of d.options) v none)
 
