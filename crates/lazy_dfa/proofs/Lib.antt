@@ -50,4 +50,7 @@ pub mod SearchEndLemmas
 pub mod HasReachLemmas
 pub mod SearchClauseLemmas
 pub mod PassLoopLemmas
+pub mod WhichUnitLemmas
+pub mod WhichBudgetLemmas
+pub mod WhichLoopLemmas
 pub mod WalkRows
