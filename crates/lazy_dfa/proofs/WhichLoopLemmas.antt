@@ -39,11 +39,11 @@ members_of_full (true ∷ set) full zero less = refl
 members_of_full (true ∷ set) full (suc p) less = members_of_full set full p (omega (arith, less))
 
 -- what `is_full` of a set tells
-pub told_full : (b : Bool) (set : List Bool) → (IsTrue b ↔ ((p : ℕ) → p < length set → has set p ≡ true)) → is_full set ≡ b
-told_full true set told = full_by_members set (told.0 refl)
+pub told_full : (b : Bool) (set : List Bool) → (IsTrue b ↔ ((p : ℕ) → p < length set → has set p ≡ true)) → b ≡ is_full set
+told_full true set told = sym (full_by_members set (told.0 refl))
 told_full false set told = ⊎_elim
     (λ (full : is_full set ≡ true). absurd (true≢false (sym (told.1 (members_of_full set full)))))
-    (λ (not_full : is_full set ≡ false). not_full)
+    (λ (not_full : is_full set ≡ false). sym not_full)
     (cases_Bool (is_full set))
 
 with_more : (set : List Bool) (done : List (ℕ × ℕ)) (x : ℕ × ℕ) → with_ends set (done ++ x ∷ []) ≡ with_pattern (with_ends set done) x.1

@@ -1,5 +1,5 @@
 //! Which patterns match: those of all ends of a walk.
-ghost use Rattle.std.specs.Prelude.{◌≡◌, ◌+◌, ◌*◌, ◌≤◌, false, None, IfErr};
+ghost use Rattle.std.specs.Prelude.{◌≡◌, ◌+◌, ◌*◌, ◌≤◌, ◌||◌, false, None, IfErr};
 ghost use Rattle.search_types.specs.declared.match_error.MatchErrorKind.TheVariants.{NoMemory};
 ghost use Rattle.lazy_dfa.specs.Caches.{IsCacheOf};
 ghost use Rattle.lazy_dfa.specs.ConfigValue.{clears_of};
@@ -7,7 +7,7 @@ ghost use Rattle.lazy_dfa.specs.Dfas.{reader};
 ghost use Rattle.lazy_dfa.specs.Linked.{GrowsOrClears};
 ghost use Rattle.lazy_dfa.specs.Steps.{most_inserts};
 ghost use Rattle.lazy_dfa.specs.Walks.{whole_rest};
-ghost use Rattle.lazy_dfa.specs.WalkAnswers.{AnswersWhich, MakesWhich, with_pattern, which_made};
+ghost use Rattle.lazy_dfa.specs.WalkAnswers.{AnswersWhich, MakesWhich, with_pattern, is_full, which_made};
 
 use crate::dfa::{Cache, DFA};
 use crate::overlapping::call;
@@ -21,6 +21,20 @@ fn add(patterns: &mut PatternSet, found: HalfMatch)
     ensures { patterns.new ≡ with_pattern patterns.old found.pattern }
 {
     let _ = patterns.try_insert(found.pattern());
+}
+
+/// Whether a set has each pattern that it has room for.
+fn has_all(patterns: &PatternSet) -> bool
+    ensures { result ≡ is_full patterns.now }
+{
+    patterns.is_full()
+}
+
+/// Whether no more ends are looked for.
+fn is_enough(patterns: &PatternSet, input: &Input<'_>) -> bool
+    ensures { result ≡ (input.now.earliest || is_full patterns.now) }
+{
+    input.get_earliest() || has_all(patterns)
 }
 
 /// A walk over a whole span, end by end.
@@ -46,10 +60,7 @@ fn which<L: Ledger, M: Ledger>(
             return Ok(());
         };
         add(patterns, found);
-        if input.get_earliest() {
-            return Ok(());
-        }
-        if patterns.is_full() {
+        if is_enough(patterns, input) {
             return Ok(());
         }
     }

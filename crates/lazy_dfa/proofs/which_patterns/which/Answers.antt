@@ -1,7 +1,5 @@
 use Rattle.std.proofs.Common.{sym, ◌∙◌}
-use Rattle.std.proofs.lemmas.Bool.{or_left, or_right, or_from}
-use Rattle.lazy_dfa.specs.WalkAnswers.{is_full}
-use Rattle.lazy_dfa.proofs.WhichLoopLemmas.{told_full, begins, begins_well, fails, none_left, stops, goes_on, falls}
+use Rattle.lazy_dfa.proofs.WhichLoopLemmas.{begins, begins_well, fails, none_left, stops, goes_on, falls}
 use Rattle.lazy_dfa.proofs.which_patterns.which.Goals as goal
 
 pub loop-e-init : goal.loop-e-init
@@ -28,24 +26,14 @@ returns-in_default-clause-which g c = none_left c.args.dfa.now c.args.input.now 
     c.loop-e.invariant.walk
     (sym c.get_match.ensures ∙ c.in_default.is) c.in-Ok.ensures.call
 
-pub returns-then-get_earliest-clause-which : goal.returns-then-get_earliest-clause-which
-returns-then-get_earliest-clause-which g c = stops c.args.dfa.now c.args.input.now c.args.cache.now c.loop-e.cache c.call.new.cache
+pub returns-then-is_enough-clause-which : goal.returns-then-is_enough-clause-which
+returns-then-is_enough-clause-which g c = stops c.args.dfa.now c.args.input.now c.args.cache.now c.loop-e.cache c.call.new.cache
     c.args.work.now.determinized
     c.loop-e.work.determinized c.call.new.work.determinized c.args.work.now.inserted c.loop-e.work.inserted c.call.new.work.inserted
     c.args.patterns.now c.loop-e.patterns c.loop-e.state.walk c.call.new.state c.is_made.ensures c.requires c.loop-e.invariant.stands
     c.loop-e.invariant.walk
     c.in-Some.found (sym c.get_match.ensures ∙ c.in-Some.is) c.in-Ok.ensures.call c.add.new.patterns c.add.ensures
-    (or_left c.args.input.now.earliest (is_full c.add.new.patterns) (sym c.get_earliest.ensures ∙ c.if-get_earliest.true))
-
-pub returns-then-is_full-clause-which : goal.returns-then-is_full-clause-which
-returns-then-is_full-clause-which g c = stops c.args.dfa.now c.args.input.now c.args.cache.now c.loop-e.cache c.call.new.cache
-    c.args.work.now.determinized
-    c.loop-e.work.determinized c.call.new.work.determinized c.args.work.now.inserted c.loop-e.work.inserted c.call.new.work.inserted
-    c.args.patterns.now c.loop-e.patterns c.loop-e.state.walk c.call.new.state c.is_made.ensures c.requires c.loop-e.invariant.stands
-    c.loop-e.invariant.walk
-    c.in-Some.found (sym c.get_match.ensures ∙ c.in-Some.is) c.in-Ok.ensures.call c.add.new.patterns c.add.ensures
-    (or_right c.args.input.now.earliest (is_full c.add.new.patterns)
-    (told_full c.is_full.result c.add.new.patterns c.is_full.ensures ∙ c.if-is_full.true))
+    (sym c.is_enough.ensures ∙ c.if-is_enough.true)
 
 pub loop-e-smaller : goal.loop-e-smaller
 loop-e-smaller g c = falls c.args.dfa.now c.args.input.now c.args.cache.now c.loop-e.cache c.call.new.cache c.args.work.now.determinized
@@ -63,6 +51,5 @@ loop-e-preserved g c = record {
       c.args.patterns.now c.loop-e.patterns c.loop-e.state.walk c.call.new.state c.is_made.ensures c.requires c.loop-e.invariant.stands
       c.loop-e.invariant.walk
       c.in-Some.found (sym c.get_match.ensures ∙ c.in-Some.is) c.in-Ok.ensures.call c.add.new.patterns c.add.ensures
-      (or_from c.args.input.now.earliest (is_full c.add.new.patterns) (sym c.get_earliest.ensures ∙ c.if-get_earliest.false)
-      (told_full c.is_full.result c.add.new.patterns c.is_full.ensures ∙ c.if-is_full.false));
+      (sym c.is_enough.ensures ∙ c.if-is_enough.false);
 }
