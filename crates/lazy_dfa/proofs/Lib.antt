@@ -60,4 +60,7 @@ pub mod WalkCallLemmas
 pub mod WalkStopLemmas
 pub mod WalkBeginLemmas
 pub mod WalkClauseLemmas
+pub mod WhichUnitLemmas
+pub mod WhichBudgetLemmas
+pub mod WhichLoopLemmas
 pub mod WalkRows

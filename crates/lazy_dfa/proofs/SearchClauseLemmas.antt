@@ -83,7 +83,7 @@ module _ (d : Dfa) (v : CacheValue) (none : clears_of d.options ≡ None) where
   has_room s lacks = true≢false (sym lacks
       ∙ no_room_lacks (clears_of d.options) (is_dead s) (is_none (place_of s v.states)) (not (fits d.capacity s v)) (bytes_of d.options) v none)
 
-  never_here : (mode : Anchored) (earliest : Bool) (h : List ℕ) (n i x : ℕ) → GivesUpIn d v mode earliest h n i x → ⊥
+  pub never_here : (mode : Anchored) (earliest : Bool) (h : List ℕ) (n i x : ℕ) → GivesUpIn d v mode earliest h n i x → ⊥
   never_here mode earliest h n i x (at_start place lacks) = has_room (first_value (reader d) mode h i) lacks
   never_here mode earliest h n i x (at_unit k less place lacks runs) = has_room (state_behind (reader d) h i (first_value (reader d) mode h i) (suc k)) lacks
 
