@@ -19,6 +19,7 @@ pub mod QuitSetLemmas
 pub mod AccountingLemmas
 mod ScanRows
 mod AccountingRows
+mod LeftToldRows
 pub mod ForCallers
 pub mod ListLemmas
 pub mod CacheLemmas
@@ -43,6 +44,7 @@ pub mod SpanTurnLemmas
 pub mod TurnStepLemmas
 pub mod PassStartLemmas
 pub mod RunLemmas
+pub mod LeftToldLemmas
 pub mod PassListLemmas
 pub mod AnswerLemmas
 pub mod SearchLemmas
