@@ -50,4 +50,7 @@ pub mod SearchEndLemmas
 pub mod HasReachLemmas
 pub mod SearchClauseLemmas
 pub mod PassLoopLemmas
+pub mod WalkRestLemmas
+pub mod WalkTurnLemmas
+pub mod WalkReadLemmas
 pub mod WalkRows

@@ -36,10 +36,10 @@ use Rattle.lazy_dfa.proofs.LinkedLemmas.{moved_trans, names_moved, noted_moved, 
 moved_clears : (v w : CacheValue) → IsMoved v w → w.clears ≡ v.clears
 moved_clears v w e = ap (λ (c : CacheValue). c.clears) e
 
-held_moved : (v w : CacheValue) (id : ℕ) (s : StateValue) → IsMoved v w → HeldAt v id s → HeldAt w id s
+pub held_moved : (v w : CacheValue) (id : ℕ) (s : StateValue) → IsMoved v w → HeldAt v id s → HeldAt w id s
 held_moved v w id s e h = subst (λ (x : CacheValue). HeldAt x id s) (sym e) h
 
-row_moved : (v w : CacheValue) (id : ℕ) → IsMoved v w → IsRow v id → IsRow w id
+pub row_moved : (v w : CacheValue) (id : ℕ) → IsMoved v w → IsRow v id → IsRow w id
 row_moved v w id e r = subst (λ (x : CacheValue). IsRow x id) (sym e) r
 
 pub moved_is : (v w : CacheValue) (at : ℕ) → w ≡ record v { progress = moved_to at v.progress } → IsMoved v w
@@ -86,7 +86,7 @@ module _ (d : Dfa) (v w : CacheValue) (e : IsMoved v w) where
       unknown = λ linked. f.unknown (linked_moved d v w e h at id (suc k) linked);
     }
 
-    goes_back : (to : Point) (k : ℕ) → w.searched ≡ v.searched → began w.progress ≡ began v.progress → (IsSome v.progress → IsSome w.progress) →
+    pub goes_back : (to : Point) (k : ℕ) → w.searched ≡ v.searched → began w.progress ≡ began v.progress → (IsSome v.progress → IsSome w.progress) →
         GoesTo d h (point w m n at id best) to k → GoesTo d h (point v m n at id best) to k
     goes_back to k searched begins runs g = record {
       place = g.place;
@@ -112,7 +112,7 @@ module _ (d : Dfa) (v w : CacheValue) (e : IsMoved v w) where
     }
 
 -- and what was left in the earlier cache is left in the later one
-leaves_forth : (d : Dfa) (h : List ℕ) (from : Point) (v w : CacheValue) (m n k : ℕ) → IsMoved v w → Leaves d h from v m n k → Leaves d h from w m n k
+pub leaves_forth : (d : Dfa) (h : List ℕ) (from : Point) (v w : CacheValue) (m n k : ℕ) → IsMoved v w → Leaves d h from v m n k → Leaves d h from w m n k
 leaves_forth d h from v w m n k e l = record {
   kept = ⊎_elim
       (λ (g : Grows d from.cache v). inl (record {
@@ -130,7 +130,7 @@ leaves_forth d h from v w m n k e l = record {
 
 -- ---- progress
 
-began_moved : (at : ℕ) (o : Option Progress) → began (moved_to at o) ≡ began o
+pub began_moved : (at : ℕ) (o : Option Progress) → began (moved_to at o) ≡ began o
 began_moved at None = refl
 began_moved at (Some p) = refl
 
@@ -153,11 +153,11 @@ len_there : (o : Option Progress) (a at : ℕ) → began o ≡ Some a → progre
 len_there None a at e = absurd (true≢false (sym (ap is_some e)))
 len_there (Some p) a at e = let same : p.start ≡ a = cc in ap (λ (x : ℕ). distance x at) same
 
-abbrev told_end : ℕ → ℕ → Told
+abbrev pub told_end : ℕ → ℕ → Told
 told_end s x = record { searched = min (s + x) greatest; progress = None }
 
 -- what a search tells at its end that began at one index and comes to another
-told_there : (w : CacheValue) (s a at x : ℕ) → w.searched ≡ s → began w.progress ≡ Some a → distance a at ≡ x → told_of (finished at w) ≡ told_end s x
+pub told_there : (w : CacheValue) (s a at x : ℕ) → w.searched ≡ s → began w.progress ≡ Some a → distance a at ≡ x → told_of (finished at w) ≡ told_end s x
 told_there w s a at x e f g =
     ap (λ (n : ℕ). told_end n (progress_len (moved_to at w.progress))) e
     ∙ ap (λ (n : ℕ). told_end s n) (len_there w.progress a at f ∙ g)
@@ -321,7 +321,7 @@ module _ (d : Dfa) (q : Search) (down : Bool) (same : down ≡ d.nfa.automaton.r
   refused_so : (earliest : Bool) (place : ℕ) (e : CacheError) → IsMoved v0 v1 → u ≡ unit_at d.nfa.automaton.reverse q.haystack at → place ≡ gave_up_at d.nfa.automaton.reverse q at →
       (at ≢ last_place d.nfa.automaton.reverse q → running_at v1.progress ≡ Some place) →
       IsTurn d earliest q.haystack u before v2 m2 n2 (Err e) → TurnsTo d q from v2 m2 n2 (Err (error_of place e))
-  refused_so earliest place NoMemory moved is there runs turn = fails_back d v0 v1 moved q.haystack m1 n1 at id best v2 m2 n2 0 turn
+  refused_so earliest place NoMemory moved is there runs turn = fails_back d v0 v1 moved q.haystack m1 n1 at id best v2 m2 n2 0 turn.0
   refused_so earliest place GaveUp moved is there runs turn = (
     fails_back d v0 v1 moved q.haystack m1 n1 at id best v2 m2 n2 0 turn.0,
     ap (is_quit d.quits) (sym is) ∙ turn.1,

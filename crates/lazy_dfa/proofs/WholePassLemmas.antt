@@ -73,7 +73,7 @@ none_left s e = ⊎_elim
     (λ (p : (nat_le e s ≡ false) × (s < e)). let l = p.1 in p.0 ∙ sym (no_zero (e - s) (omega (arith, l))))
     (leb_tells e s)
 
-min_twice : (a k g : ℕ) → min (min a g + k) g ≡ min (a + k) g
+pub min_twice : (a k g : ℕ) → min (min a g + k) g ≡ min (a + k) g
 min_twice a k g = ⊎_elim
     (λ (l : a < g). ap (λ (n : ℕ). min (n + k) g) (min-eq_left (omega (arith, l))))
     (λ (l : g ≤ a).
