@@ -1,24 +1,21 @@
 -- The loop by which a walk reads on: what is left from where it stands is what was left where the call began, and the units that it
 -- read so far are those that the call was to read but for those that it is still to read.
-use Rattle.std.proofs.Common.{◌≡◌, ◌≢◌, ◌⊎◌, inl, inr, ℕ, zero, suc, ◌+◌, ◌-◌, ◌*◌, ◌<◌, ◌≤◌, ◌==◌, ◌&&◌, not, min, Bool, true, false, true≢false, List, length, drop, Option, Some, None, Ok, Err, IsSome, OnOk, IfOk, if◌then◌else◌, refl, sym, ap, ◌∙◌, subst, ⊎_elim, arith}
+use Rattle.std.proofs.Common.{◌≡◌, ◌≢◌, ◌⊎◌, inl, inr, ℕ, zero, suc, ◌+◌, ◌-◌, ◌*◌, ◌<◌, ◌≤◌, ◌&&◌, not, min, Bool, true, false, List, length, drop, Option, Some, None, Ok, Err, IsSome, if◌then◌else◌, refl, sym, ap, ◌∙◌, subst, ⊎_elim, arith}
 use Rattle.std.specs.Option.{option_or}
 use Rattle.std.proofs.lemmas.Bool.{cases_eq, ne_eqb, eq-eqb}
 use Rattle.std.proofs.Math.Nat.{min-eq_left, min-eq_right, mul-le-mul_right, add-mul}
-use Rattle.search_core.specs.ByteSets.{has}
 use Rattle.nfa_core.specs.Ways.{place_of}
 use Rattle.nfa_core.specs.Places.{first}
-use Rattle.determinize_core.specs.States.{StateValue, dead}
+use Rattle.determinize_core.specs.States.{StateValue}
 use Rattle.determinize_core.specs.Steps.{unit_at}
 use Rattle.determinize_core.specs.Walked.{end_at}
 use Rattle.search_types.specs.declared.match_error.MatchErrorKind.{MatchErrorKind}
 use Rattle.search_types.specs.declared.match_error.MatchErrorKind.TheVariants.{Quit, GaveUp, HaystackTooLong, UnsupportedAnchored, NotAPair, NoMemory}
-use Rattle.search_types.specs.Found.{HalfFound}
 use Rattle.search_types.specs.Inputs.{Search}
 use Rattle.search_types.specs.Places.{counts}
 use Rattle.lazy_dfa.specs.Caches.{CacheValue, IsCacheOf, IsRow, HeldAt, Names, names_dead, names_held, greatest, distance, progress_len, lacks_room}
 use Rattle.lazy_dfa.specs.Courses.{state_behind, AreRead}
 use Rattle.lazy_dfa.specs.declared.passing.Stand.{Stand}
-use Rattle.lazy_dfa.specs.declared.progress.Progress.{Progress}
 use Rattle.lazy_dfa.specs.declared.overlapping_state.Walk.TheVariants.{Ended}
 use Rattle.lazy_dfa.specs.Dfas.{Dfa, IsDfa, reader}
 use Rattle.lazy_dfa.specs.Linked.{Grows, HasCleared, GrowsOrClears, IsMoved}
@@ -27,19 +24,19 @@ use Rattle.lazy_dfa.specs.Points.{Point, point, began, Follows, GoesTo}
 use Rattle.lazy_dfa.specs.Readers.{Reader, is_quit}
 use Rattle.lazy_dfa.specs.Scans.{first_place}
 use Rattle.lazy_dfa.specs.ScanLaws.{begins_at}
-use Rattle.lazy_dfa.specs.SearchAnswers.{half_of, pair_of, Told, told_of, pass_distance, running_at}
-use Rattle.lazy_dfa.specs.Stands.{last_place, came, left_at, IsWithinSpan, finished, gave_up_at, GoesBetween, TurnsTo}
+use Rattle.lazy_dfa.specs.SearchAnswers.{half_of, pair_of, told_of, pass_distance}
+use Rattle.lazy_dfa.specs.Stands.{last_place, came, left_at, IsWithinSpan, gave_up_at, GoesBetween, TurnsTo}
 use Rattle.lazy_dfa.specs.Steps.{most_inserts}
 use Rattle.lazy_dfa.specs.Turns.{Leaves}
 use Rattle.lazy_dfa.specs.Walks.{Rest, WalkState, nothing_left, onto, others, listed, rest_from, rest_of, value_past, rest_past, StopsAt, IsWalk}
 use Rattle.lazy_dfa.specs.WalkAnswers.{units_met, told_left, value_before, rest_at, units_at, told_from, GivesUpFrom, ReadsOn}
 use Rattle.lazy_dfa.specs.WalkTurns.{tells_end, TellsNone, stopped, StopsWith, ReadsInto}
 use Rattle.lazy_dfa.proofs.CourseLemmas.{state_there, not_dead}
-use Rattle.lazy_dfa.proofs.LinkedLemmas.{AreBytes, grows_trans, cleared_grows, grows_or_clears_trans, grows_moved}
+use Rattle.lazy_dfa.proofs.LinkedLemmas.{grows_trans, cleared_grows, grows_or_clears_trans, grows_moved}
 use Rattle.lazy_dfa.proofs.PassLoopLemmas.{next_within, next_closer}
 use Rattle.lazy_dfa.proofs.RunLemmas.{row_holds, half_back}
-use Rattle.lazy_dfa.proofs.SpanTurnLemmas.{held_moved, finished_moves, told_end, told_there}
-use Rattle.lazy_dfa.proofs.TurnLemmas.{place_zero, dead_is}
+use Rattle.lazy_dfa.proofs.SpanTurnLemmas.{held_moved, finished_moves, told_there}
+use Rattle.lazy_dfa.proofs.TurnLemmas.{place_zero}
 use Rattle.lazy_dfa.proofs.WalkRestLemmas.{some_listed, none_left, dead_left, step_left, quit_left, pass_left, pass_units, tell_units, some_units, dead_units, goes_left, goes_units}
 use Rattle.lazy_dfa.proofs.WholePassLemmas.{min_twice}
 

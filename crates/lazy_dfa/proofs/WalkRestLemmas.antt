@@ -1,6 +1,6 @@
 -- What is left of a walk, unit by unit: it goes on over units behind which no end counts, and comes to an end, a refusal or
 -- nothing more.
-use Rattle.std.proofs.Common.{◌≡◌, ℕ, zero, suc, ◌+◌, ◌<◌, ◌≤◌, ◌&&◌, not, Bool, true, false, true≢false, List, [], ◌∷◌, length, map, get_or, drop, ◌++◌, is_some, Option, Some, None, Ok, if◌then◌else◌, refl, sym, ap, ◌∙◌, arith}
+use Rattle.std.proofs.Common.{◌≡◌, ℕ, zero, suc, ◌+◌, ◌<◌, ◌≤◌, ◌&&◌, not, Bool, true, false, true≢false, List, [], ◌∷◌, length, map, drop, is_some, Option, Some, None, Ok, if◌then◌else◌, refl, sym, ap, ◌∙◌, arith}
 use Rattle.std.specs.Option.{option_or}
 use Rattle.search_core.specs.ByteSets.{has}
 use Rattle.search_types.specs.declared.match_error.MatchErrorKind.TheVariants.{Quit}

@@ -1,15 +1,15 @@
 -- One unit of a walk in its span: what a step says of it, and what comes of that.
-use Rattle.std.proofs.Common.{◌≡◌, ◌≢◌, ◌⊎◌, inl, inr, ℕ, suc, ◌+◌, ◌*◌, ◌/◌, ◌%◌, ◌<◌, ◌≤◌, ◌==◌, ◌&&◌, ◌||◌, not, nat_le, nat_lt, is_none, min, Bool, true, false, true≢false, List, [], ◌∷◌, length, Option, Some, None, Err, IsSome, refl, sym, ap, ◌∙◌, subst, ⊎_elim, arith}
+use Rattle.std.proofs.Common.{◌≡◌, ◌≢◌, ◌⊎◌, inl, inr, ℕ, ◌+◌, ◌*◌, ◌<◌, ◌≤◌, ◌==◌, ◌&&◌, ◌||◌, not, nat_le, nat_lt, is_none, min, Bool, true, false, true≢false, List, [], ◌∷◌, length, Option, Some, None, Err, IsSome, refl, sym, ap, ◌∙◌, subst, ⊎_elim, arith}
 use Rattle.std.proofs.lemmas.Bool.{cases_lt, le-ltb, eqb-true, eq-eqb, and_parts}
 use Rattle.nfa_core.specs.Ways.{place_of}
-use Rattle.determinize_core.specs.States.{StateValue, dead}
+use Rattle.determinize_core.specs.States.{StateValue}
 use Rattle.determinize_core.specs.StateBytes.{is_match}
 use Rattle.determinize_core.specs.Steps.{unit_at}
 use Rattle.search_types.specs.declared.match_error.MatchErrorKind.{MatchErrorKind}
 use Rattle.search_types.specs.declared.match_error.MatchErrorKind.TheVariants.{Quit}
 use Rattle.search_types.specs.Inputs.{Search}
 use Rattle.search_types.specs.Places.{counts}
-use Rattle.lazy_dfa.specs.Caches.{CacheValue, IsShaped, IsCacheOf, IsRow, HeldAt, Names, names_dead, names_held, greatest, progress_len, moved_to, search_total_len, is_refused, fits, lacks_room, place_of as row_of}
+use Rattle.lazy_dfa.specs.Caches.{CacheValue, IsShaped, IsRow, HeldAt, Names, names_dead, names_held, greatest, progress_len, moved_to, search_total_len, is_refused, fits, lacks_room, place_of as row_of}
 use Rattle.lazy_dfa.specs.ConfigValue.{clears_of, bytes_of}
 use Rattle.lazy_dfa.specs.Courses.{state_behind, stops_behind}
 use Rattle.lazy_dfa.specs.declared.cache_error.CacheError.{CacheError}
@@ -23,7 +23,7 @@ use Rattle.lazy_dfa.specs.Dfas.{Dfa, reader, is_dead as is_lost}
 use Rattle.lazy_dfa.specs.Ids.{has_tag, match_tag}
 use Rattle.lazy_dfa.specs.Linked.{IsMoved}
 use Rattle.lazy_dfa.specs.Passes.{index_at, is_empty, is_dead}
-use Rattle.lazy_dfa.specs.Points.{Point, point, began, GoesTo}
+use Rattle.lazy_dfa.specs.Points.{Point, point, began}
 use Rattle.lazy_dfa.specs.SearchAnswers.{pair_of}
 use Rattle.lazy_dfa.specs.Stands.{last_place, finished, finished_where, error_of, gave_up_at, TurnsTo}
 use Rattle.lazy_dfa.specs.Turns.{FailsOn, GoesOne, IsSeen, IsTurn}
