@@ -51,6 +51,7 @@ pub mod HasReachLemmas
 pub mod SearchClauseLemmas
 pub mod PassLoopLemmas
 pub mod WalkRestLemmas
+pub mod WalkPlaceLemmas
 pub mod WalkTurnLemmas
 pub mod WalkReadLemmas
 pub mod WalkRows

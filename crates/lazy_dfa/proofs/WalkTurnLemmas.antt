@@ -86,6 +86,10 @@ tag_tells d h v id at tells s i e (names_dead f g) =
 
 -- ---- a step
 
+-- the unit at a place, by the direction and the haystack that code goes by
+pub unit_same : (down back : Bool) (q : Search) (h : List ℕ) (at : ℕ) (u : Option ℕ) → u ≡ unit_at down h at → h ≡ q.haystack → down ≡ back → u ≡ unit_at back q.haystack at
+unit_same down back q h at u e f g = e ∙ (ap (λ (x : List ℕ). unit_at down x at) f ∙ ap (λ (b : Bool). unit_at b q.haystack at) g)
+
 module _ (d : Dfa) (q : Search) (down : Bool) (same : down ≡ d.nfa.automaton.reverse) (v0 v1 v2 : CacheValue) (m1 n1 m2 n2 at id : ℕ) (best : Option (ℕ × ℕ)) (u : Option ℕ)
     (place : ℕ) (moves : v1 ≡ record v0 { progress = moved_to place v0.progress }) (runs : IsSome v0.progress) where
   abbrev from : Point

@@ -82,6 +82,7 @@ pub(crate) fn tell(
     ensures found { result.found ≡ half_of (Some (at, slice_index (value_past (reader dfa.now) input.now at).matches index)) }
     ensures walk { result.walk ≡ Stands (record { id = id; index = index + 1; at = at }) }
 {
+    // there are no more patterns than a `usize` counts
     let _len = dfa.match_len(cache, id);
     let pattern = dfa.match_pattern(cache, id, index);
     OverlappingState {
@@ -185,6 +186,7 @@ fn read_at<L: Ledger, M: Ledger>(
     ensures read { ReadsTo dfa.now input.now (point cache.old work.old.determinized work.old.inserted stand.at stand.id (pair_of stand.best)) cache.new work.new.determinized work.new.inserted result }
 {
     let at = stand.at;
+    // a haystack is shorter than the greatest place, so there is a place behind each byte
     let _len = input.haystack().len();
     let is_last = at == last_place(input, is_down);
     let seen = match step_at(dfa, cache, input, is_down, stand, work) {
