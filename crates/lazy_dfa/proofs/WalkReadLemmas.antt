@@ -30,7 +30,7 @@ use Rattle.lazy_dfa.specs.WalkAnswers.{units_met, told_left, value_before, rest_
 use Rattle.lazy_dfa.specs.WalkTurns.{tells_end, TellsNone, stopped, StopsWith, ReadsInto}
 use Rattle.lazy_dfa.proofs.CourseLemmas.{not_dead}
 use Rattle.lazy_dfa.proofs.LinkedLemmas.{grows_trans, cleared_grows, grows_or_clears_trans, grows_moved}
-use Rattle.lazy_dfa.proofs.PassLoopLemmas.{next_within, next_closer}
+use Rattle.lazy_dfa.proofs.PassLoopLemmas.{next_within}
 use Rattle.lazy_dfa.proofs.RunLemmas.{row_holds, half_back}
 use Rattle.lazy_dfa.proofs.SpanTurnLemmas.{held_moved, finished_moves, told_there}
 use Rattle.lazy_dfa.proofs.TurnLemmas.{place_zero}
@@ -117,7 +117,7 @@ module _ (d : Dfa) (q : Search) (made : IsDfa d) (from p : Point) (own : IsCache
       began = f.began ∙ k.began;
     }
 
-    pub kept_on : KeepsOn d from.cache c.cache index ⊎ HasCleared from.cache c.cache
+    kept_on : KeepsOn d from.cache c.cache index ⊎ HasCleared from.cache c.cache
     kept_on = ⊎_elim
         (λ (k : KeepsOn d from.cache p.cache index). ⊎_elim
         (λ (f : Follows d h (record p { best = best }) c l). inl (keeps_on k f))
@@ -130,7 +130,7 @@ module _ (d : Dfa) (q : Search) (made : IsDfa d) (from p : Point) (own : IsCache
         x.kept
 
     -- it stands further on
-    pub stands_further : IsCacheOf d c.cache → IsRow c.cache c.id → IsWithinSpan q c.at → left_at rev q p.at ≡ l + left_at rev q c.at → TellsNone (reader d) h p.at now l →
+    stands_further : IsCacheOf d c.cache → IsRow c.cache c.id → IsWithinSpan q c.at → left_at rev q p.at ≡ l + left_at rev q c.at → TellsNone (reader d) h p.at now l →
         StandsOn d q from c
     stands_further his row there left none =
         let read = g.read now (names_held x.state) in record {
@@ -391,9 +391,3 @@ module _ (d : Dfa) (q : Search) (down : Bool) (is : down ≡ d.nfa.automaton.rev
       tells_none : TellsNone (reader d) q.haystack i (value_before (reader d) q i) (left_at down q i - left_at down q j)
       tells_none k l = no_end (counts (reader d).between_characters q.haystack (place_of d.nfa.automaton.reverse i k))
           (state_behind (reader d) q.haystack i (value_before (reader d) q i) (suc k)).matches (g.1 (value_before (reader d) q i) x.state k l)
-
--- the next stand is closer to the end of the span
-pub closer_on : (d : Dfa) (q : Search) (down : Bool) (p : Point) (v : CacheValue) (m n k : ℕ) (stand : Stand) (tells : Bool) → down ≡ d.nfa.automaton.reverse → IsWithinSpan q p.at →
-    ReadsInto d q p v m n stand tells false → left_at down q k ≤ left_at down q stand.at → left_at down q k < left_at down q p.at
-closer_on d q down p v m n k stand tells is within t l = next_closer down q p.at stand.at k within (λ e. t.2 (e ∙ ap (λ (b : Bool). last_place b q) is))
-    (t.1 ∙ ap (λ (b : Bool). place_of b p.at 1) (sym is)) l

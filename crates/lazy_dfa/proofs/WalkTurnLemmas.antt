@@ -76,7 +76,7 @@ some_listed [] = refl
 some_listed (p ∷ ps) = refl
 
 -- the tag and the place tell whether an end is listed that counts
-pub tag_tells : (d : Dfa) (h : List ℕ) (v : CacheValue) (id at : ℕ) (tells : Bool) (s : StateValue) → IsShaped v → tells ≡ (has_tag match_tag id && counts (reader d).between_characters h at) →
+tag_tells : (d : Dfa) (h : List ℕ) (v : CacheValue) (id at : ℕ) (tells : Bool) (s : StateValue) → IsShaped v → tells ≡ (has_tag match_tag id && counts (reader d).between_characters h at) →
     Names v id s → tells ≡ tells_end (reader d) h at s
 tag_tells d h v id at tells s i e (names_held g) =
     e ∙ both (has_tag match_tag id) (not (is_empty s.matches)) (counts (reader d).between_characters h at) (row_matches v id s i g ∙ some_listed s.matches)
@@ -171,10 +171,6 @@ module _ (d : Dfa) (q : Search) (down : Bool) (same : down ≡ d.nfa.automaton.r
   tells_there : (best : Option (ℕ × ℕ)) → Step best → (s : StateValue) → HeldAt p.cache p.id s → tells ≡ tells_end (reader d) q.haystack p.at (state_behind (reader d) q.haystack p.at s 1)
   tells_there best x s held = tag_tells d q.haystack v id p.at tells (state_behind (reader d) q.haystack p.at s 1) mine listed ((goes_of best turn x).names s (names_held held))
 
-  -- the search goes on behind it
-  pub still_runs : (best : Option (ℕ × ℕ)) → Step best → IsSome p.cache.progress → IsSome v.progress
-  still_runs best x r = (goes_of best turn x).running r
-
   -- the call is over
   pub unit_ends : (w : CacheValue) (place : ℕ) (stand : Stand) → stand.id ≡ id → stand.at ≡ p.at → is_over turn tells last ≡ true → place ≡ gave_up_at down q p.at → w ≡ finished place v →
       Step (pair_of stand.best) → StopsWith d q p w m n stand tells
@@ -197,7 +193,7 @@ module _ (d : Dfa) (q : Search) (down : Bool) (same : down ≡ d.nfa.automaton.r
       by Ends x over none s held = inl (x.1 s held)
       by Quits x over none s held = absurd x
 
-  pub not_last : is_over turn tells last ≡ false → p.at ≢ last_place down q
+  not_last : is_over turn tells last ≡ false → p.at ≢ last_place down q
   not_last over e = by turn over (is_last ∙ eq-eqb p.at (last_place down q) e)
     where
       never : (a : Bool) → (a || true) ≡ false → ⊥
