@@ -1,0 +1,6 @@
+pub mod Pairs
+pub mod Joined
+pub mod PairAnswers
+pub mod Matching
+pub mod Finding
+pub mod PairLaws
