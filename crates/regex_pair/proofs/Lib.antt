@@ -1,1 +1,3 @@
 pub mod BuiltLemmas
+pub mod AnswerLemmas
+pub mod PairLemmas
