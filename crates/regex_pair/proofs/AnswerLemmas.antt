@@ -1,5 +1,5 @@
 -- What answers of code tell of the answers of values that they stand for.
-use Rattle.std.proofs.Common.{◌≡◌, ℕ, ◌≤◌, Bool, true, false, Option, Some, None, refl, sym, ap, subst, ◌∙◌, ◌⊎◌, inl, inr, arith}
+use Rattle.std.proofs.Common.{◌≡◌, ℕ, ◌≤◌, true, false, Option, Some, None, refl, sym, ap, subst, ◌∙◌, inl, inr, arith}
 use Rattle.std.specs.Prelude.{Result, Ok, Err}
 use Rattle.search_types.specs.declared.match_error.MatchErrorKind.{MatchErrorKind}
 use Rattle.search_types.specs.declared.match_error.MatchErrorKind.TheVariants.{Quit, GaveUp, UnsupportedAnchored, NoMemory}
@@ -7,10 +7,9 @@ use Rattle.search_types.specs.Found.{HalfFound}
 use Rattle.search_types.specs.Inputs.{Search}
 use Rattle.lazy_dfa.specs.Caches.{CacheValue}
 use Rattle.lazy_dfa.specs.Dfas.{Dfa, reader}
-use Rattle.lazy_dfa.specs.Linked.{passes_of}
-use Rattle.lazy_dfa.specs.Readers.{Reader, HalfAnswer, found, quit, unsupported}
+use Rattle.lazy_dfa.specs.Readers.{HalfAnswer, found, quit, unsupported}
 use Rattle.lazy_dfa.specs.Scans.{scan}
-use Rattle.lazy_dfa.specs.SearchAnswers.{half_of, told, GivesUpAmong, Answers}
+use Rattle.lazy_dfa.specs.SearchAnswers.{told, Answers}
 use Rattle.regex_pair.specs.Joined.{back_from}
 use Rattle.lazy_dfa.proofs.ForCallers.{scan_in_span}
 

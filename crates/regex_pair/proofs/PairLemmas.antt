@@ -1,16 +1,13 @@
 -- What a search over two automata does, by what its half searches did: where it stops after the first, and where it goes back.
 use Rattle.std.proofs.Common.{◌≡◌, ℕ, ◌+◌, ◌*◌, ◌<◌, ◌≤◌, Bool, true, false, Option, Some, None, refl, sym, ap, ◌∙◌, ◌⊎◌, inl, inr, subst, arith, if◌then◌else◌}
 use Rattle.std.specs.Prelude.{Result, Ok, Err, IfErr, OnOk}
-use Rattle.search_types.specs.declared.anchored.Anchored.TheVariants.{Yes}
 use Rattle.search_types.specs.declared.match_error.MatchErrorKind.{MatchErrorKind}
-use Rattle.search_types.specs.declared.match_error.MatchErrorKind.TheVariants.{Quit, GaveUp, UnsupportedAnchored, NoMemory, NotAPair}
+use Rattle.search_types.specs.declared.match_error.MatchErrorKind.TheVariants.{NoMemory, NotAPair}
 use Rattle.search_types.specs.Found.{Found, HalfFound}
 use Rattle.search_types.specs.Inputs.{Search}
-use Rattle.search_types.specs.Modes.{is_supported}
 use Rattle.lazy_dfa.specs.Caches.{CacheValue, greatest}
-use Rattle.lazy_dfa.specs.ConfigValue.{clears_of}
 use Rattle.lazy_dfa.specs.Dfas.{Dfa, reader}
-use Rattle.lazy_dfa.specs.Linked.{IsLinked, Grows, GrowsOrClears, IsMoved, passes_of}
+use Rattle.lazy_dfa.specs.Linked.{IsLinked, GrowsOrClears, IsMoved, passes_of}
 use Rattle.lazy_dfa.specs.Readers.{Reader, HalfAnswer, found, quit, unsupported}
 use Rattle.lazy_dfa.specs.ScanLaws.{HasNoQuitNear}
 use Rattle.lazy_dfa.specs.Scans.{scan}
@@ -18,8 +15,8 @@ use Rattle.lazy_dfa.specs.SearchAnswers.{Answers, told, told_of, told_by}
 use Rattle.lazy_dfa.specs.Steps.{most_inserts}
 use Rattle.regex_pair.specs.Joined.{is_start_known, back_from, from_start, with_start, join, joined}
 use Rattle.regex_pair.specs.MadeSearches.{MakesHalf, MakesBack, MakesPair, with_half}
-use Rattle.regex_pair.specs.PairAnswers.{GoesBack, GivesUp, PairGivesUp, gives_up_forward, gives_up_back, AnswersPair, IsBackLinked, ArePathsLinked, half_made, back_made_by, back_made}
-use Rattle.regex_pair.specs.Pairs.{Pair, PairCache, PairGrowsOrClears, IsPairMoved}
+use Rattle.regex_pair.specs.PairAnswers.{GoesBack, gives_up_forward, gives_up_back, AnswersPair, IsBackLinked, half_made, back_made_by, back_made}
+use Rattle.regex_pair.specs.Pairs.{Pair, PairCache}
 use Rattle.regex_pair.proofs.AnswerLemmas.{answer, error, pair, ok_is_no_error, some_is_not_none, some_is_found, ok_is_told, finds_in_span}
 
 abbrev Half : Type 0

@@ -1,7 +1,7 @@
 pub mod Pairs
 pub mod Joined
 pub mod PairAnswers
-pub mod MadeSearches
 pub mod Matching
+pub mod MadeSearches
 pub mod Finding
 pub mod PairLaws

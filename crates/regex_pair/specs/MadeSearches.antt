@@ -14,6 +14,7 @@ use Rattle.lazy_dfa.specs.Scans.{scan}
 use Rattle.lazy_dfa.specs.SearchAnswers.{Answers, told, told_of, told_by}
 use Rattle.lazy_dfa.specs.Steps.{most_inserts}
 use Rattle.regex_pair.specs.Joined.{back_from, joined}
+use Rattle.regex_pair.specs.Matching.{AnswersMatch, has_match, match_search}
 use Rattle.regex_pair.specs.PairAnswers.{AnswersPair, ArePathsLinked, GoesBack, IsBackLinked, half_made, back_made}
 use Rattle.regex_pair.specs.Pairs.{Pair, PairCache, PairGrowsOrClears, IsPairMoved}
 
@@ -49,8 +50,8 @@ is_some_half (Ok (Some e)) = Ok true
 is_some_half (Ok None) = Ok false
 is_some_half (Err x) = Err x
 
--- the search that tells whether there is a match
-pub record MakesMatch (d : Dfa) (q : Search) (old new : CacheValue) (m1 m2 n1 n2 : ℕ) (result : Result Bool MatchErrorKind) : Type 0 where
+-- a half search that tells whether there is an end
+pub record FindsEnd (d : Dfa) (q : Search) (old new : CacheValue) (m1 m2 n1 n2 : ℕ) (result : Result Bool MatchErrorKind) : Type 0 where
   pub half : Result (Option HalfFound) MatchErrorKind
   pub made : MakesHalf d q old new m1 m2 n1 n2 half
   pub answer : result ≡ is_some_half half
@@ -75,3 +76,17 @@ pub record MakesPair (p : Pair) (q : Search) (old new : PairCache) (m1 m2 n1 n2 
   pub sure_if_linked : ArePathsLinked p old q → result ≡ joined p q
   pub determinized : m2 ≤ m1 + (half_made (reader p.forward) q + back_made p q)
   pub inserted : n2 ≤ n1 + (half_made (reader p.forward) q * most_inserts p.forward + back_made p q * most_inserts p.reverse)
+
+-- the search that tells whether there is a match
+pub record MakesMatch (p : Pair) (q : Search) (old new : PairCache) (m1 m2 n1 n2 : ℕ) (result : Result Bool MatchErrorKind) : Type 0 where
+  pub answer : AnswersMatch p new q result
+  pub sure : clears_of p.forward.options ≡ None → is_supported (reader p.forward).starts_for_each_pattern q.anchored ≡ true →
+      HasNoQuitNear (reader p.forward) q.haystack q.start q.end → IfErr result (λ e. e ≡ NoMemory)
+  pub kept : GrowsOrClears p.forward old.forward new.forward
+  pub untouched : new.reverse ≡ old.reverse
+  pub linked : OnOk result (new.forward.clears ≡ old.forward.clears → old.forward.clears < greatest → IsLinked p.forward new.forward (match_search (reader p.forward) q))
+  pub moved : IsLinked p.forward old.forward (match_search (reader p.forward) q) → IsMoved old.forward new.forward
+  pub free : IsLinked p.forward old.forward (match_search (reader p.forward) q) → (m2 ≡ m1) × (n2 ≡ n1)
+  pub sure_if_linked : IsLinked p.forward old.forward (match_search (reader p.forward) q) → result ≡ has_match p q
+  pub determinized : m2 ≤ m1 + half_made (reader p.forward) (match_search (reader p.forward) q)
+  pub inserted : n2 ≤ n1 + half_made (reader p.forward) (match_search (reader p.forward) q) * most_inserts p.forward

@@ -10,14 +10,13 @@ ghost use Rattle.lazy_dfa.specs.ScanLaws.{HasNoQuitNear};
 ghost use Rattle.lazy_dfa.specs.SearchAnswers.{told_of, told_by};
 ghost use Rattle.lazy_dfa.specs.Steps.{most_inserts};
 ghost use Rattle.regex_pair.specs.Joined.{back_from, is_start_known, joined};
-ghost use Rattle.regex_pair.specs.MadeSearches.{MakesHalf, MakesBack, MakesMatch, MakesPair};
+ghost use Rattle.regex_pair.specs.MadeSearches.{MakesHalf, MakesBack, FindsEnd, MakesMatch, MakesPair};
 ghost use Rattle.regex_pair.specs.Matching.{AnswersMatch, has_match, match_search};
 ghost use Rattle.regex_pair.specs.PairAnswers.{AnswersPair, ArePathsLinked, GoesBack, IsBackLinked, half_made, back_made};
 ghost use Rattle.regex_pair.specs.Pairs.{AreCachesOf, PairGrowsOrClears, IsPairMoved};
 
 use crate::regex::{Cache, Regex};
-use lazy_dfa::Work;
-use lazy_dfa::dfa;
+use lazy_dfa::{Work, dfa};
 use search_types::{Anchored, HalfMatch, Input, Match, MatchError, MatchErrorKind, Span};
 use std::sync::ledger::Ledger;
 
@@ -157,13 +156,28 @@ fn finds_end<L: Ledger, M: Ledger>(
 ) -> Result<bool, MatchError>
     requires own { IsCacheOf re.now.forward cache.old }
     ensures own { IsCacheOf re.now.forward cache.new }
-    ensures search { MakesMatch re.now.forward input.now cache.old cache.new work.old.determinized work.new.determinized work.old.inserted work.new.inserted result }
+    ensures search { FindsEnd re.now.forward input.now cache.old cache.new work.old.determinized work.new.determinized work.old.inserted work.new.inserted result }
 {
     let end = match search_end(re, cache, input, work) {
         Ok(end) => end,
         Err(e) => return Err(e),
     };
     Ok(end.is_some())
+}
+
+/// A search that tells whether there is a match.
+fn search_match<L: Ledger, M: Ledger>(
+    re: &Regex,
+    cache: &mut Cache,
+    input: &Input<'_>,
+    work: &mut Work<L, M>,
+) -> Result<bool, MatchError>
+    requires own { AreCachesOf re.now cache.old }
+    ensures own { AreCachesOf re.now cache.new }
+    ensures search { MakesMatch re.now input.now cache.old cache.new work.old.determinized work.new.determinized work.old.inserted work.new.inserted result }
+{
+    let search = match_input(re, input);
+    finds_end(re, &mut cache.forward, &search, work)
 }
 
 impl Regex {
@@ -266,7 +280,6 @@ impl Regex {
         ensures determinized { work.new.determinized ≤ work.old.determinized + half_made (reader self.now.forward) (match_search (reader self.now.forward) input.now) }
         ensures inserted { work.new.inserted ≤ work.old.inserted + half_made (reader self.now.forward) (match_search (reader self.now.forward) input.now) * most_inserts self.now.forward }
     {
-        let search = match_input(self, input);
-        finds_end(self, &mut cache.forward, &search, work)
+        search_match(self, cache, input, work)
     }
 }
