@@ -1,4 +1,5 @@
 pub mod Pairs
+pub mod Lending
 pub mod Joined
 pub mod PairAnswers
 pub mod Matching
