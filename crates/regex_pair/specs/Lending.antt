@@ -1,5 +1,5 @@
--- What caches of a pair are once a borrow of one of them, or of both, is over.
-use Rattle.std.specs.Borrow.{Lends, LendsBoth, MutBor, Fml}
+-- What caches of a pair are once a borrow of one of them is over.
+use Rattle.std.specs.Borrow.{Lends, MutBor, Fml}
 use Rattle.lazy_dfa.specs.Caches.{CacheValue}
 use Rattle.lazy_dfa.specs.contracts.cache.Cache.{the_row as half_row}
 use Rattle.regex_pair.specs.contracts.cache.Cache.{the_row}

@@ -90,6 +90,15 @@ impl Cache {
         (&self.forward, &self.reverse)
     }
 
+    /// Both caches, as `Cache::as_parts_mut`: that of the automaton that finds ends first. A caller who has to know what both
+    /// are afterwards takes [`forward_mut`](Cache::forward_mut) and [`reverse_mut`](Cache::reverse_mut), one after the other.
+    pub fn as_parts_mut(&mut self) -> (&mut dfa::Cache, &mut dfa::Cache)
+        ensures forward { result.0.now ≡ self.old.forward }
+        ensures reverse { result.1.now ≡ self.old.reverse }
+    {
+        (&mut self.forward, &mut self.reverse)
+    }
+
     /// The bytes that both are taken to need, as `Cache::memory_usage`: the sum, or the greatest number where that is above it.
     pub fn memory_usage(&self) -> usize
         ensures { result ≡ pair_usage self.now }
