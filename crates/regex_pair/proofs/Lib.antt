@@ -1,0 +1,4 @@
+pub mod BuiltLemmas
+pub mod AnswerLemmas
+pub mod PairLemmas
+pub mod MatchLemmas

@@ -1,0 +1,110 @@
+ghost use Rattle.std.specs.Prelude.{◌≡◌, true, false};
+ghost use Rattle.lazy_dfa.specs.ConfigValue.{no_options, changed_by};
+ghost use Rattle.regex_pair.specs.Pairs.{pair_built, back_options};
+
+use crate::regex::Regex;
+use lazy_dfa::BuildError;
+use lazy_dfa::dfa::{self, Config, DFA};
+use nfa_core::NFA;
+use search_types::MatchKind;
+use std::marker::Model;
+
+/// Builds regexes of two automata, as `regex_automata::hybrid::regex::Builder`. A contract sees the options that are set for
+/// both.
+#[derive(Clone, Copy)]
+pub struct Builder {
+    dfa: dfa::Builder,
+}
+
+impl Model for Builder {
+    ghost use Rattle.lazy_dfa.specs.ConfigValue.{Options};
+
+    ghost Value = { Options };
+
+    ghost view = { λ b. b.dfa };
+
+    ghost inverse = { λ o. record { dfa = o } };
+}
+
+/// The options in which the automaton that finds starts differs.
+fn back_config() -> Config
+    ensures { result ≡ back_options }
+{
+    DFA::config()
+        .match_kind(MatchKind::All)
+        .specialize_start_states(false)
+}
+
+/// The builder of the automaton that finds starts.
+fn back_builder(both: &Builder) -> dfa::Builder
+    ensures { result ≡ changed_by both.now back_options }
+{
+    let mut back = both.dfa;
+    back.configure(back_config());
+    back
+}
+
+impl Builder {
+    /// A builder with no option set, as `Builder::new`.
+    pub fn new() -> Builder
+        ensures { result ≡ no_options }
+    {
+        Builder {
+            dfa: DFA::builder(),
+        }
+    }
+
+    /// Sets each option that the configuration has set, for both automata, as `Builder::dfa`.
+    pub fn dfa(&mut self, config: Config) -> &mut Builder
+        ensures same { result.ghost_name ≡ self.entry.ghost_name }
+        ensures value { result.now ≡ changed_by self.old config }
+    {
+        self.dfa.configure(config);
+        self
+    }
+
+    /// The regex of two automata as they are, as `Builder::build_from_dfas`; no option matters. The first reads upwards and the
+    /// second downwards, as `is_reverse` of their NFAs tells.
+    pub fn build_from_dfas(&self, forward: DFA, reverse: DFA) -> Regex
+        requires up { forward.nfa.automaton.reverse ≡ false }
+        requires down { reverse.nfa.automaton.reverse ≡ true }
+        ensures { result ≡ record { forward = forward; reverse = reverse } }
+    {
+        Regex { forward, reverse }
+    }
+
+    /// The regex of the automata of two NFAs with the options of this builder. The first reads upwards and the second
+    /// downwards, as `is_reverse` tells. The automaton that finds starts has the kind
+    /// [`All`](MatchKind::All) and no tagged starts, whatever is set. It is refused where one of the automata is, the first
+    /// one's refusal first.
+    pub fn build_from_nfas(&self, forward: NFA, reverse: NFA) -> Result<Regex, BuildError>
+        requires up { forward.automaton.reverse ≡ false }
+        requires down { reverse.automaton.reverse ≡ true }
+        ensures { result ≡ pair_built forward reverse self.now }
+    {
+        let ends = match self.dfa.build_from_nfa(forward) {
+            Ok(ends) => ends,
+            Err(e) => return Err(e),
+        };
+        let back = back_builder(self);
+        let starts = match back.build_from_nfa(reverse) {
+            Ok(starts) => starts,
+            Err(e) => return Err(e),
+        };
+        Ok(Regex {
+            forward: ends,
+            reverse: starts,
+        })
+    }
+}
+
+impl Default for Builder {
+    ghost use Rattle.std.specs.Prelude.{◌≡◌};
+    ghost use Rattle.lazy_dfa.specs.ConfigValue.{no_options};
+
+    ghost is_default = { λ b. b ≡ no_options };
+
+    fn default() -> Builder {
+        Builder::new()
+    }
+}

@@ -1,0 +1,132 @@
+ghost use Rattle.std.specs.Prelude.{◌≡◌, IfOk, OnOk, OnErr};
+ghost use Rattle.std.specs.Borrow.{sem};
+ghost use Rattle.regex_pair.specs.Lending.{LendsForward, LendsReverse};
+ghost use Rattle.regex_pair.specs.Pairs.{AreCachesOf, pair_made_for, pair_usage};
+
+use crate::regex::Regex;
+use lazy_dfa::dfa;
+use std::alloc::{AllocError, Global};
+use std::marker::Model;
+
+/// The caches of both automata of a regex, as `regex_automata::hybrid::regex::Cache`. They are of use with the regex for which
+/// they were made, or to which they were [`reset`](Cache::reset), alone.
+#[derive(Drop)]
+pub struct Cache {
+    pub(crate) forward: dfa::Cache,
+    pub(crate) reverse: dfa::Cache,
+    alloc: Global,
+}
+
+impl Model for Cache {
+    ghost use Rattle.regex_pair.specs.Pairs.{PairCache};
+
+    ghost Value = { PairCache };
+
+    ghost view = { λ c. record { forward = c.forward; reverse = c.reverse } };
+}
+
+impl Cache {
+    /// Caches for both automata that hold no states, as `Cache::new`. It is refused where memory lacks.
+    pub fn new(alloc: Global, re: &Regex) -> Result<Cache, AllocError>
+        ensures value { IfOk result (λ c. c ≡ pair_made_for re.now) }
+        ensures own { IfOk result (λ c. AreCachesOf re.now c) }
+    {
+        let forward = re.forward().create_cache(alloc)?;
+        let reverse = re.reverse().create_cache(alloc)?;
+        Ok(Cache {
+            forward,
+            reverse,
+            alloc,
+        })
+    }
+
+    /// Makes both caches such as [`new`](Cache::new) does, as `Cache::reset`. It is refused where memory lacks, and both are
+    /// then left as they were.
+    pub fn reset(&mut self, re: &Regex) -> Result<(), AllocError>
+        ensures value { OnOk result (self.new ≡ pair_made_for re.now) }
+        ensures own { OnOk result (AreCachesOf re.now self.new) }
+        ensures err { OnErr result (self.new ≡ self.old) }
+    {
+        let made = Cache::new(self.alloc, re)?;
+        *self = made;
+        Ok(())
+    }
+
+    /// The cache of the automaton that finds ends, as `Cache::forward`.
+    pub fn forward(&self) -> &dfa::Cache
+        ensures { result.now ≡ self.now.forward }
+    {
+        &self.forward
+    }
+
+    /// The cache of the automaton that finds starts, as `Cache::reverse`.
+    pub fn reverse(&self) -> &dfa::Cache
+        ensures { result.now ≡ self.now.reverse }
+    {
+        &self.reverse
+    }
+
+    /// The cache of the automaton that finds ends, as `Cache::forward_mut`. The other stays as it is.
+    pub fn forward_mut(&mut self) -> &mut dfa::Cache
+        ensures* lends { sem 𝓛 (LendsForward self.entry result) }
+        ensures value { result.now ≡ self.old.forward }
+    {
+        &mut self.forward
+    }
+
+    /// The cache of the automaton that finds starts, as `Cache::reverse_mut`. The other stays as it is.
+    pub fn reverse_mut(&mut self) -> &mut dfa::Cache
+        ensures* lends { sem 𝓛 (LendsReverse self.entry result) }
+        ensures value { result.now ≡ self.old.reverse }
+    {
+        &mut self.reverse
+    }
+
+    /// Both caches, as `Cache::as_parts`: that of the automaton that finds ends first.
+    pub fn as_parts(&self) -> (&dfa::Cache, &dfa::Cache)
+        ensures forward { result.0.now ≡ self.now.forward }
+        ensures reverse { result.1.now ≡ self.now.reverse }
+    {
+        (&self.forward, &self.reverse)
+    }
+
+    /// Both caches, as `Cache::as_parts_mut`: that of the automaton that finds ends first. A caller who has to know what both
+    /// are afterwards takes [`forward_mut`](Cache::forward_mut) and [`reverse_mut`](Cache::reverse_mut), one after the other.
+    pub fn as_parts_mut(&mut self) -> (&mut dfa::Cache, &mut dfa::Cache)
+        ensures forward { result.0.now ≡ self.old.forward }
+        ensures reverse { result.1.now ≡ self.old.reverse }
+    {
+        (&mut self.forward, &mut self.reverse)
+    }
+
+    /// The bytes that both are taken to need, as `Cache::memory_usage`: the sum, or the greatest number where that is above it.
+    pub fn memory_usage(&self) -> usize
+        ensures { result ≡ pair_usage self.now }
+    {
+        self.forward
+            .memory_usage()
+            .saturating_add(self.reverse.memory_usage())
+    }
+}
+
+impl Regex {
+    /// Caches for the regex, as `Regex::create_cache`. It is refused where memory lacks.
+    pub fn create_cache(&self, alloc: Global) -> Result<Cache, AllocError>
+        ensures value { IfOk result (λ c. c ≡ pair_made_for self.now) }
+        ensures own { IfOk result (λ c. AreCachesOf self.now c) }
+    {
+        let cache = Cache::new(alloc, self)?;
+        Ok(cache)
+    }
+
+    /// Makes the caches ones for the regex, as `Regex::reset_cache`. It is refused where memory lacks, and both are then left
+    /// as they were.
+    pub fn reset_cache(&self, cache: &mut Cache) -> Result<(), AllocError>
+        ensures value { OnOk result (cache.new ≡ pair_made_for self.now) }
+        ensures own { OnOk result (AreCachesOf self.now cache.new) }
+        ensures err { OnErr result (cache.new ≡ cache.old) }
+    {
+        cache.reset(self)?;
+        Ok(())
+    }
+}

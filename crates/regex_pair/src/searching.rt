@@ -1,0 +1,285 @@
+//! Searches over two automata.
+ghost use Rattle.std.specs.Prelude.{◌≡◌, ◌⊎◌, ◌+◌, ◌*◌, ◌<◌, ◌≤◌, ℕ, true, false, None, IfErr, OnOk};
+ghost use Rattle.search_types.specs.declared.match_error.MatchErrorKind.TheVariants.{NoMemory, NotAPair};
+ghost use Rattle.search_types.specs.Modes.{is_supported};
+ghost use Rattle.lazy_dfa.specs.Caches.{IsCacheOf, greatest};
+ghost use Rattle.lazy_dfa.specs.ConfigValue.{clears_of};
+ghost use Rattle.lazy_dfa.specs.Dfas.{reader};
+ghost use Rattle.lazy_dfa.specs.Linked.{IsLinked, GrowsOrClears, IsMoved, passes_of};
+ghost use Rattle.lazy_dfa.specs.ScanLaws.{HasNoQuitNear};
+ghost use Rattle.lazy_dfa.specs.SearchAnswers.{told_of, told_by};
+ghost use Rattle.lazy_dfa.specs.Steps.{most_inserts};
+ghost use Rattle.regex_pair.specs.Joined.{back_from, is_start_known, joined};
+ghost use Rattle.regex_pair.specs.MadeSearches.{MakesHalf, MakesBack, FindsEnd, MakesMatch, MakesPair};
+ghost use Rattle.regex_pair.specs.Matching.{AnswersMatch, has_match, match_search};
+ghost use Rattle.regex_pair.specs.PairAnswers.{AnswersPair, ArePathsLinked, GoesBack, IsBackLinked, half_made, back_made};
+ghost use Rattle.regex_pair.specs.Pairs.{AreCachesOf, PairGrowsOrClears, IsPairMoved};
+
+use crate::regex::{Cache, Regex};
+use lazy_dfa::{Work, dfa};
+use search_types::{Anchored, HalfMatch, Input, Match, MatchError, MatchErrorKind, Span};
+use std::sync::ledger::Ledger;
+
+/// Whether the start of a match that ends there is known without a search back.
+fn is_start_known(re: &Regex, input: &Input<'_>, end: usize) -> bool
+    ensures { result ≡ is_start_known (reader re.now.forward) input.now end }
+{
+    if end == input.start() || input.get_anchored().is_anchored() {
+        return true;
+    }
+    re.forward().get_nfa().is_always_start_anchored()
+}
+
+/// The match of the pattern of an end, from a place on.
+fn match_between(start: usize, end: HalfMatch) -> Match
+    requires { start ≤ end.offset }
+    ensures { result ≡ record { pattern = end.pattern; start = start; end = end.offset } }
+{
+    let span = Span {
+        start,
+        end: end.offset(),
+    };
+    Match::new(end.pattern(), span)
+}
+
+/// The search back from an end.
+fn back_input<'h>(input: &Input<'h>, end: usize) -> Input<'h>
+    requires from { input.now.start ≤ end }
+    requires within { end ≤ input.now.end }
+    ensures { result ≡ back_from input.now end }
+{
+    let mut back = Input::new(input.haystack());
+    back.set_span(Span {
+        start: input.start(),
+        end,
+    });
+    back.set_anchored(Anchored::Yes);
+    back
+}
+
+/// The search that tells whether there is a match.
+fn match_input<'h>(re: &Regex, input: &Input<'h>) -> Input<'h>
+    ensures { result ≡ match_search (reader re.now.forward) input.now }
+{
+    let nfa = re.forward().get_nfa();
+    let is_between_characters = nfa.is_utf8() && nfa.has_empty();
+    let mut search = Input::new(input.haystack());
+    search.set_span(input.get_span());
+    search.set_anchored(input.get_anchored());
+    search.set_earliest(!is_between_characters);
+    search
+}
+
+/// A half search for an end.
+fn search_end<L: Ledger, M: Ledger>(
+    re: &Regex,
+    cache: &mut dfa::Cache,
+    input: &Input<'_>,
+    work: &mut Work<L, M>,
+) -> Result<Option<HalfMatch>, MatchError>
+    requires own { IsCacheOf re.now.forward cache.old }
+    ensures own { IsCacheOf re.now.forward cache.new }
+    ensures search { MakesHalf re.now.forward input.now cache.old cache.new work.old.determinized work.new.determinized work.old.inserted work.new.inserted result }
+{
+    re.forward().try_search_fwd(cache, input, work)
+}
+
+/// A half search for a start.
+fn search_start<L: Ledger, M: Ledger>(
+    re: &Regex,
+    cache: &mut dfa::Cache,
+    input: &Input<'_>,
+    work: &mut Work<L, M>,
+) -> Result<Option<HalfMatch>, MatchError>
+    requires own { IsCacheOf re.now.reverse cache.old }
+    ensures own { IsCacheOf re.now.reverse cache.new }
+    ensures search { MakesHalf re.now.reverse input.now cache.old cache.new work.old.determinized work.new.determinized work.old.inserted work.new.inserted result }
+{
+    re.reverse().try_search_rev(cache, input, work)
+}
+
+/// The match with an end, by the search back from there.
+fn search_back<L: Ledger, M: Ledger>(
+    re: &Regex,
+    cache: &mut dfa::Cache,
+    input: &Input<'_>,
+    end: HalfMatch,
+    work: &mut Work<L, M>,
+) -> Result<Option<Match>, MatchError>
+    requires own { IsCacheOf re.now.reverse cache.old }
+    requires from { input.now.start ≤ end.offset }
+    requires within { end.offset ≤ input.now.end }
+    ensures own { IsCacheOf re.now.reverse cache.new }
+    ensures search { MakesBack re.now input.now end cache.old cache.new work.old.determinized work.new.determinized work.old.inserted work.new.inserted result }
+{
+    let back = back_input(input, end.offset());
+    let start = match search_start(re, cache, &back, work) {
+        Ok(start) => start,
+        Err(e) => return Err(e),
+    };
+    let Some(start) = start else {
+        return Err(MatchError::new(MatchErrorKind::NotAPair));
+    };
+    Ok(Some(match_between(start.offset(), end)))
+}
+
+/// A search over both automata.
+fn search<L: Ledger, M: Ledger>(
+    re: &Regex,
+    cache: &mut Cache,
+    input: &Input<'_>,
+    work: &mut Work<L, M>,
+) -> Result<Option<Match>, MatchError>
+    requires own { AreCachesOf re.now cache.old }
+    ensures own { AreCachesOf re.now cache.new }
+    ensures search { MakesPair re.now input.now cache.old cache.new work.old.determinized work.new.determinized work.old.inserted work.new.inserted result }
+{
+    let end = match search_end(re, &mut cache.forward, input, work) {
+        Ok(end) => end,
+        Err(e) => return Err(e),
+    };
+    let Some(end) = end else {
+        return Ok(None);
+    };
+    if is_start_known(re, input, end.offset()) {
+        return Ok(Some(match_between(input.start(), end)));
+    }
+    search_back(re, &mut cache.reverse, input, end, work)
+}
+
+/// Whether a half search finds an end.
+fn finds_end<L: Ledger, M: Ledger>(
+    re: &Regex,
+    cache: &mut dfa::Cache,
+    input: &Input<'_>,
+    work: &mut Work<L, M>,
+) -> Result<bool, MatchError>
+    requires own { IsCacheOf re.now.forward cache.old }
+    ensures own { IsCacheOf re.now.forward cache.new }
+    ensures search { FindsEnd re.now.forward input.now cache.old cache.new work.old.determinized work.new.determinized work.old.inserted work.new.inserted result }
+{
+    let end = match search_end(re, cache, input, work) {
+        Ok(end) => end,
+        Err(e) => return Err(e),
+    };
+    Ok(end.is_some())
+}
+
+/// A search that tells whether there is a match.
+fn search_match<L: Ledger, M: Ledger>(
+    re: &Regex,
+    cache: &mut Cache,
+    input: &Input<'_>,
+    work: &mut Work<L, M>,
+) -> Result<bool, MatchError>
+    requires own { AreCachesOf re.now cache.old }
+    ensures own { AreCachesOf re.now cache.new }
+    ensures search { MakesMatch re.now input.now cache.old cache.new work.old.determinized work.new.determinized work.old.inserted work.new.inserted result }
+{
+    let search = match_input(re, input);
+    finds_end(re, &mut cache.forward, &search, work)
+}
+
+impl Regex {
+    /// The match in a span that leftmost-first prefers, or none, as `Regex::try_search`: the automaton that reads upwards finds
+    /// its end, and the one that reads downwards from there its start, unless that is known.
+    ///
+    /// The answer is that of two half searches, joined, whatever the caches hold and whatever was done with them before. Else
+    /// memory lacked, or one of both gave up. A quit byte is answered where one of both reads it. Where the second finds no
+    /// start for the end that the first found, the automata are no pair. The caches are of use after each answer.
+    ///
+    /// Where no quit byte stands in or beside the span, no least count of clears is set and the mode is supported, it answers,
+    /// if memory suffices and the automata are a pair. Where the caches aren't cleared on the way, all steps of the search are
+    /// known afterwards, and a search whose steps are known makes no states and takes no memory.
+    pub fn try_search<L: Ledger, M: Ledger>(
+        &self,
+        cache: &mut Cache,
+        input: &Input<'_>,
+        work: &mut Work<L, M>,
+    ) -> Result<Option<Match>, MatchError>
+        requires own { AreCachesOf self.now cache.old }
+        ensures own { AreCachesOf self.now cache.new }
+        ensures answer { AnswersPair self.now cache.new input.now result }
+        ensures sure { clears_of self.now.forward.options ≡ None → clears_of self.now.reverse.options ≡ None →
+            is_supported (reader self.now.forward).starts_for_each_pattern input.now.anchored ≡ true →
+            HasNoQuitNear (reader self.now.forward) input.now.haystack input.now.start input.now.end →
+            HasNoQuitNear (reader self.now.reverse) input.now.haystack input.now.start input.now.end →
+            IfErr result (λ e. (e ≡ NoMemory) ⊎ (e ≡ NotAPair)) }
+        ensures kept { PairGrowsOrClears self.now cache.old cache.new }
+        ensures untouched { ((e : ℕ × ℕ) → GoesBack self.now input.now e → ⊥) → cache.new.reverse ≡ cache.old.reverse }
+        ensures linked { OnOk result (cache.new.forward.clears ≡ cache.old.forward.clears → cache.old.forward.clears < greatest →
+            IsLinked self.now.forward cache.new.forward input.now) }
+        ensures back_linked { OnOk result (cache.new.reverse.clears ≡ cache.old.reverse.clears → cache.old.reverse.clears < greatest →
+            IsBackLinked self.now cache.new.reverse input.now) }
+        ensures told { OnOk result (cache.new.forward.clears ≡ cache.old.forward.clears → cache.old.forward.clears < greatest →
+            told_of cache.new.forward ≡ told_by (reader self.now.forward) input.now (told_of cache.old.forward) (passes_of (reader self.now.forward) input.now)) }
+        ensures back_told { OnOk result (cache.new.reverse.clears ≡ cache.old.reverse.clears → cache.old.reverse.clears < greatest →
+            (e : ℕ × ℕ) → GoesBack self.now input.now e → told_of cache.new.reverse ≡
+            told_by (reader self.now.reverse) (back_from input.now e.0) (told_of cache.old.reverse) (passes_of (reader self.now.reverse) (back_from input.now e.0))) }
+        ensures moved { ArePathsLinked self.now cache.old input.now → IsPairMoved cache.old cache.new }
+        ensures free { ArePathsLinked self.now cache.old input.now → work.new ≡ work.old }
+        ensures sure_if_linked { ArePathsLinked self.now cache.old input.now → result ≡ joined self.now input.now }
+        ensures determinized { work.new.determinized ≤ work.old.determinized + (half_made (reader self.now.forward) input.now + back_made self.now input.now) }
+        ensures inserted { work.new.inserted ≤ work.old.inserted + (half_made (reader self.now.forward) input.now * most_inserts self.now.forward +
+            back_made self.now input.now * most_inserts self.now.reverse) }
+    {
+        search(self, cache, input, work)
+    }
+
+    /// The same as [`try_search`](Regex::try_search), as `Regex::find`.
+    pub fn find<L: Ledger, M: Ledger>(
+        &self,
+        cache: &mut Cache,
+        input: &Input<'_>,
+        work: &mut Work<L, M>,
+    ) -> Result<Option<Match>, MatchError>
+        requires own { AreCachesOf self.now cache.old }
+        ensures own { AreCachesOf self.now cache.new }
+        ensures answer { AnswersPair self.now cache.new input.now result }
+        ensures sure { clears_of self.now.forward.options ≡ None → clears_of self.now.reverse.options ≡ None →
+            is_supported (reader self.now.forward).starts_for_each_pattern input.now.anchored ≡ true →
+            HasNoQuitNear (reader self.now.forward) input.now.haystack input.now.start input.now.end →
+            HasNoQuitNear (reader self.now.reverse) input.now.haystack input.now.start input.now.end →
+            IfErr result (λ e. (e ≡ NoMemory) ⊎ (e ≡ NotAPair)) }
+        ensures kept { PairGrowsOrClears self.now cache.old cache.new }
+        ensures linked { OnOk result (cache.new.forward.clears ≡ cache.old.forward.clears → cache.old.forward.clears < greatest →
+            IsLinked self.now.forward cache.new.forward input.now) }
+        ensures back_linked { OnOk result (cache.new.reverse.clears ≡ cache.old.reverse.clears → cache.old.reverse.clears < greatest →
+            IsBackLinked self.now cache.new.reverse input.now) }
+        ensures moved { ArePathsLinked self.now cache.old input.now → IsPairMoved cache.old cache.new }
+        ensures free { ArePathsLinked self.now cache.old input.now → work.new ≡ work.old }
+        ensures sure_if_linked { ArePathsLinked self.now cache.old input.now → result ≡ joined self.now input.now }
+        ensures determinized { work.new.determinized ≤ work.old.determinized + (half_made (reader self.now.forward) input.now + back_made self.now input.now) }
+        ensures inserted { work.new.inserted ≤ work.old.inserted + (half_made (reader self.now.forward) input.now * most_inserts self.now.forward +
+            back_made self.now input.now * most_inserts self.now.reverse) }
+    {
+        self.try_search(cache, input, work)
+    }
+
+    /// Whether there is a match in a span, as `Regex::is_match`: by the automaton that reads upwards alone, so the other's cache
+    /// stays as it is, and no two automata are refused for being no pair. Where an end may split a character, the end
+    /// that leftmost-first prefers is looked for, and else the earliest one, whatever the input asks for.
+    pub fn is_match<L: Ledger, M: Ledger>(
+        &self,
+        cache: &mut Cache,
+        input: &Input<'_>,
+        work: &mut Work<L, M>,
+    ) -> Result<bool, MatchError>
+        requires own { AreCachesOf self.now cache.old }
+        ensures own { AreCachesOf self.now cache.new }
+        ensures answer { AnswersMatch self.now cache.new input.now result }
+        ensures sure { clears_of self.now.forward.options ≡ None → is_supported (reader self.now.forward).starts_for_each_pattern input.now.anchored ≡ true →
+            HasNoQuitNear (reader self.now.forward) input.now.haystack input.now.start input.now.end → IfErr result (λ e. e ≡ NoMemory) }
+        ensures kept { GrowsOrClears self.now.forward cache.old.forward cache.new.forward }
+        ensures untouched { cache.new.reverse ≡ cache.old.reverse }
+        ensures linked { OnOk result (cache.new.forward.clears ≡ cache.old.forward.clears → cache.old.forward.clears < greatest →
+            IsLinked self.now.forward cache.new.forward (match_search (reader self.now.forward) input.now)) }
+        ensures moved { IsLinked self.now.forward cache.old.forward (match_search (reader self.now.forward) input.now) → IsMoved cache.old.forward cache.new.forward }
+        ensures free { IsLinked self.now.forward cache.old.forward (match_search (reader self.now.forward) input.now) → work.new ≡ work.old }
+        ensures sure_if_linked { IsLinked self.now.forward cache.old.forward (match_search (reader self.now.forward) input.now) → result ≡ has_match self.now input.now }
+        ensures determinized { work.new.determinized ≤ work.old.determinized + half_made (reader self.now.forward) (match_search (reader self.now.forward) input.now) }
+        ensures inserted { work.new.inserted ≤ work.old.inserted + half_made (reader self.now.forward) (match_search (reader self.now.forward) input.now) * most_inserts self.now.forward }
+    {
+        search_match(self, cache, input, work)
+    }
+}
