@@ -1,1 +1,3 @@
 pub mod BuiltLemmas
+pub mod JoinedLemmas
+pub mod MatchingLemmas
