@@ -7,7 +7,7 @@ use Rattle.search_types.specs.declared.match_error.MatchErrorKind.TheVariants.{G
 use Rattle.search_types.specs.AllAnswers.{is_repeat}
 use Rattle.search_types.specs.Chains.{IsTaken}
 use Rattle.search_types.specs.Found.{Found}
-use Rattle.search_types.specs.Inputs.{Search, IsSpanOf, with_span}
+use Rattle.search_types.specs.Inputs.{Search, IsSpanOf}
 use Rattle.regex_pair.specs.Finding.{Finding, AnswersAt, IsNextFound, IsNextAnswer, IsBehindLast, IsPlaced, finds_next, fails, behind, most_left, search_at}
 use Rattle.regex_pair.specs.Joined.{joined}
 use Rattle.regex_pair.specs.PairAnswers.{AnswersPair, PairGivesUp}
@@ -102,21 +102,22 @@ behind_placed p at f begun placed next =
     let fits = placed.within in
     record { within = (fits.0, omega (arith, past.high)); behind = (refl, past.high) }
 
-pub next_is : (p : Pair) (at : Finding) (o : Option Found) (f : Found) → o ≡ Some f → IsNextFound p at o → IsNextFound p at (Some f)
-next_is p at o f same next = subst (λ (u : Option Found). IsNextFound p at u) same next
+-- the search that is made is the one that is left
+pub next_is : (p : Pair) (at : Finding) (q : Search) (after : PairCache) (o : Option Found) (f : Found) → q ≡ at.search → o ≡ Some f →
+    IsNextAnswer p (record { search = q; last = at.last; is_over = false }) after (Ok o) → IsNextFound p at (Some f)
+next_is p at q after o f made same next =
+    subst (λ (u : Option Found). IsNextFound p at u) same
+    (subst (λ (s : Search). IsNextAnswer p (record { search = s; last = at.last; is_over = false }) after (Ok o)) made next)
+
+pub refused_is : (p : Pair) (at : Finding) (q : Search) (after : PairCache) (e : MatchErrorKind) → q ≡ at.search →
+    IsNextAnswer p (record { search = q; last = at.last; is_over = false }) after (Err e) → IsNextAnswer p at after (Err e)
+refused_is p at q after e made next =
+    subst (λ (s : Search). IsNextAnswer p (record { search = s; last = at.last; is_over = false }) after (Err e)) made next
 
 -- the parts of an iterator, one by one, are what is left behind a match
-pub stands_behind : (at : Finding) (f : Found) (s : Search) (i j : ℕ) → at.is_over ≡ false → s ≡ with_span i at.search.end at.search → i ≡ f.end →
-    j ≡ f.end → record { search = s; last = Some j; is_over = at.is_over } ≡ behind at f
-stands_behind at f s i j begun span here there =
-    λ k. record { search = (span ∙ ap (search_at at.search) here) k; last = Some (there k); is_over = begun k }
-
-pub end_fits : (p : Pair) (at : Finding) (f : Found) (i : ℕ) → at.is_over ≡ false → IsPlaced at → IsNextFound p at (Some f) → i ≡ f.end →
-    IsSpanOf at.search.haystack i at.search.end
-end_fits p at f i begun placed next here =
-    let past = next_falls p at f begun placed next in
-    let fits = placed.within in
-    (fits.0, omega (arith, past.high, here))
+pub stands_behind : (at : Finding) (f : Found) (i : ℕ) → at.is_over ≡ false → i ≡ f.end →
+    record { search = search_at at.search i; last = Some i; is_over = at.is_over } ≡ behind at f
+stands_behind at f i begun here = λ k. record { search = search_at at.search (here k); last = Some (here k); is_over = begun k }
 
 -- ---- one step of an iterator
 
