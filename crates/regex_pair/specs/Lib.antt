@@ -5,3 +5,4 @@ pub mod Matching
 pub mod Finding
 pub mod FindSteps
 pub mod PairLaws
+pub mod Taken

@@ -191,11 +191,11 @@ impl<'r, 'c, 'h> Iterator for FindMatches<'r, 'c, 'h> {
                 Some(Ok(found))
             }
             Ok(None) => {
-                self.is_over = true;
+                self.is_over = true; // behind the end
                 None
             }
             Err(e) => {
-                self.is_over = true;
+                self.is_over = true; // behind a refusal
                 Some(Err(e))
             }
         }
