@@ -67,7 +67,8 @@ pub record EndsPast (at : Finding) (f : Found) : Type 0 where
   pub later : most_left (behind at f) < most_left at
 
 no_repeat : (last : ℕ) (f : Found) → (nat_eq f.start f.end && nat_eq f.end last) ≡ false → last ≤ f.start → f.start ≤ f.end → last < f.end
-no_repeat last f new low forward = ⊎_elim (λ (past : last < f.end). past) (λ (not_past : f.end ≤ last). absurd (repeated not_past)) (cases_lt last f.end)
+no_repeat last f new low forward = ⊎_elim (λ (past : last < f.end). past) (λ (not_past : f.end ≤ last). absurd (repeated not_past))
+    (cases_lt last f.end)
   where
     repeated : f.end ≤ last → ⊥
     repeated high =
@@ -96,7 +97,8 @@ next_falls p at f begun placed next =
     subst (λ (over : Bool). EndsPast (record { search = at.search; last = at.last; is_over = over }) f) (sym begun)
     (left_falls p at.search at.last f placed.behind placed.within next.0 next.1 (is_repeat at.last next.0) refl next.2)
 
-pub behind_placed : (p : Pair) (at : Finding) (f : Found) → at.is_over ≡ false → IsPlaced at → IsNextFound p at (Some f) → IsPlaced (behind at f)
+pub behind_placed : (p : Pair) (at : Finding) (f : Found) → at.is_over ≡ false → IsPlaced at → IsNextFound p at (Some f) →
+    IsPlaced (behind at f)
 behind_placed p at f begun placed next =
     let past = next_falls p at f begun placed next in
     let fits = placed.within in
@@ -143,7 +145,8 @@ module _ (old new : FindMatches) (ready : MayGoOn old) (begun : old.is_over ≡ 
   fewer_left f next there = subst (λ (at : Finding). most_left at < items_left old) (sym there)
       (next_falls (searches_by old) (finds_from old) f begun ready.placed next).later
 
-  pub progress_of_match : (f : Found) → IsNextFound (searches_by old) (finds_from old) (Some f) → finds_from new ≡ behind (finds_from old) f →
+  pub progress_of_match : (f : Found) → IsNextFound (searches_by old) (finds_from old) (Some f) →
+      finds_from new ≡ behind (finds_from old) f →
       MakesProgress {A = Result Found MatchErrorKind} MayGoOn (λ it. at_most (items_left it)) old (Some (Ok f)) new
   progress_of_match f next there =
       let on : MayGoOn new = (finds_match f next there).goes_on in record {

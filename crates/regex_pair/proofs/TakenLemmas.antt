@@ -49,7 +49,8 @@ match_is_no_end r e = let never : true ≡ false = cc in grind (arith, never)
 match_is_no_refusal : (f : Found) (x : MatchErrorKind) → item_of (answer_of f) ≡ item_of (refusal_of x) → ⊥
 match_is_no_refusal f x e = let never : true ≡ false = cc in grind (arith, never)
 
-pub one_more_taken : (p : Pair) (q : Search) (fs : List Found) (at new : Finding) (before after : PairCache) (f : Found) → AreTaken p q fs at →
+pub one_more_taken : (p : Pair) (q : Search) (fs : List Found) (at new : Finding) (before after : PairCache) (f : Found) →
+    AreTaken p q fs at →
     Finds p at new before after (Some (Ok f)) → AreTaken p q (fs ++ f ∷ []) new
 one_more_taken p q fs at new before after f taken (finds_next g begun next item there) =
     subst (AreTaken p q (fs ++ f ∷ [])) (sym there)
@@ -77,10 +78,12 @@ some_taken p q fs at taken =
 
 pub one_more_by_step : (p : Pair) (q : Search) (fs : List Found) (old new : FindMatches) (f : Found) → searches_by old ≡ p →
     AreTaken p q fs (finds_from old) → FindsNext old (Some (Ok f)) new → AreTaken p q (fs ++ f ∷ []) (finds_from new)
-one_more_by_step p q fs old new f same taken step = one_more_taken p q fs (finds_from old) (finds_from new) (caches_of old) (caches_of new) f taken
+one_more_by_step p q fs old new f same taken step =
+    one_more_taken p q fs (finds_from old) (finds_from new) (caches_of old) (caches_of new) f taken
     (subst (λ (r : Pair). Finds r (finds_from old) (finds_from new) (caches_of old) (caches_of new) (Some (Ok f))) same step.finds)
 
 pub all_by_step : (p : Pair) (q : Search) (fs : List Found) (old new : FindMatches) → searches_by old ≡ p →
     AreTaken p q fs (finds_from old) → FindsNext old None new → IsWholeChain (AnswersAt p q) None q.start fs
-all_by_step p q fs old new same taken step = all_taken p q fs (finds_from old) (finds_from new) (caches_of old) (caches_of new) taken
+all_by_step p q fs old new same taken step =
+    all_taken p q fs (finds_from old) (finds_from new) (caches_of old) (caches_of new) taken
     (subst (λ (r : Pair). Finds r (finds_from old) (finds_from new) (caches_of old) (caches_of new) None) same step.finds)

@@ -118,10 +118,12 @@ fn next_answer(
 
 /// An iterator over the matches of a regex in a span, none of which overlap, as `regex_automata::hybrid::regex::FindMatches`.
 ///
-/// Each item is the next match. An empty one at the end of the last match isn't given. A refusal is the last item; behind it
-/// and behind the end comes nothing for good. The caches are the regex's own after each step, whatever it gave, and those that
-/// were lent are so once this is gone: a loop keeps that the iterator may go on (`MayGoOn`), and that the regex (`searches_by`)
-/// and the name of the reference (`lender_of`) are those with which it began.
+/// Each item is the next match. An empty one at the end of the last match isn't given. A refusal is the last item, where the
+/// iterator of the Rust crate panics; behind it and behind the end comes nothing for good.
+///
+/// The caches are the regex's own after each step, whatever it gave, and those that were lent are so once this is gone: a loop
+/// keeps that the iterator may go on (`MayGoOn`), and that the regex (`searches_by`) and the name of the reference
+/// (`lender_of`) are those with which it began.
 #[derive(Drop)]
 pub struct FindMatches<'r, 'c, 'h> {
     cache: &'c mut Cache,
