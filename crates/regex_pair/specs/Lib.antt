@@ -5,4 +5,6 @@ pub mod PairAnswers
 pub mod Matching
 pub mod MadeSearches
 pub mod Finding
+pub mod FindSteps
 pub mod PairLaws
+pub mod Taken
