@@ -1,9 +1,10 @@
 -- How far searches came that were refused: at a turn, and by that in a pass.
-use Rattle.std.proofs.Common.{◌≡◌, ◌≢◌, ℕ, suc, ◌<◌, ◌≤◌, ◌==◌, ◌&&◌, Bool, true, false, Option, Some, None, if◌then◌else◌, refl, sym, ap, ◌∙◌, ⊎_elim, arith}
+use Rattle.std.proofs.Common.{◌≡◌, ◌≢◌, ℕ, suc, ◌<◌, ◌≤◌, ◌==◌, ◌&&◌, not, Bool, true, false, Option, Some, None, if◌then◌else◌, refl, sym, ap, ◌∙◌, ⊎_elim, arith}
 use Rattle.std.specs.Prelude.{nat_lt}
 use Rattle.std.proofs.lemmas.Bool.{cases_Bool, cases_eq, le-ltb, lt-ltb, ne_eqb, eq-eqb}
 use Rattle.nfa_core.specs.Ways.{place_of}
 use Rattle.search_types.specs.Inputs.{Search}
+use Rattle.lazy_dfa.specs.AnewTold.{anew_if}
 use Rattle.lazy_dfa.specs.Caches.{CacheValue, progress_len, moved_to}
 use Rattle.lazy_dfa.specs.declared.progress.Progress.{Progress}
 use Rattle.lazy_dfa.specs.LeftTold.{told_at, told_finished, has_finished, left_told, LeftAt}
@@ -11,7 +12,7 @@ use Rattle.lazy_dfa.specs.MadePasses.{span_len}
 use Rattle.lazy_dfa.specs.Passes.{index_at}
 use Rattle.lazy_dfa.specs.Points.{began}
 use Rattle.lazy_dfa.specs.SearchAnswers.{Told, told_of, told_behind}
-use Rattle.lazy_dfa.specs.Stands.{IsWithinSpan, last_place, came, tells, BeganFirst, finished, finished_where, turned_told}
+use Rattle.lazy_dfa.specs.Stands.{IsWithinSpan, last_place, came, tells, BeganFirst, finished, finished_where, told_byte, told_last, turned_told}
 use Rattle.lazy_dfa.proofs.RunLemmas.{told_by_searched, tells_some}
 use Rattle.lazy_dfa.proofs.SpanTurnLemmas.{told_end, byte_end_told, last_told_same}
 
@@ -28,39 +29,58 @@ finished_if : (wanted : Bool) (at : ℕ) (v : CacheValue) → told_of (finished_
 finished_if false at v = refl
 finished_if true at v = refl
 
-module _ (q : Search) (down back : Bool) (same : down ≡ back) (v0 v1 : CacheValue) (at : ℕ) where
-  -- by what a turn at a byte, or at the last place, has told
-  by_place : (quits is : Bool) → at == last_place down q ≡ is →
-      (if is then (if down && tells down q then told_finished at (told_of v0) else told_of v0) else
-      if quits then told_finished (index_at down at) (told_of v0) else told_at (index_at down at) (told_of v0)) ≡ turned_told back quits q at (told_of v0)
-  by_place quits is e =
-      sym (ap (λ (b : Bool). if b then (if down && tells down q then told_finished at (told_of v0) else told_of v0) else
-      if quits then told_finished (index_at down at) (told_of v0) else told_at (index_at down at) (told_of v0)) e)
-      ∙ ap (λ (b : Bool). turned_told b quits q at (told_of v0)) same
+module _ (q : Search) (down back : Bool) (same : down ≡ back) (v0 v1 v2 : CacheValue) (at : ℕ) (finishes ends cleared : Bool) where
+  -- what a turn tells, by whether it is the last one
+  by_place : (is : Bool) → at == last_place down q ≡ is →
+      (if is then told_last down ends cleared q at (told_of v0) else told_byte down finishes cleared at (told_of v0)) ≡ turned_told back finishes ends cleared q at (told_of v0)
+  by_place is e =
+      sym (ap (λ (b : Bool). if b then told_last down ends cleared q at (told_of v0) else told_byte down finishes cleared at (told_of v0)) e)
+      ∙ ap (λ (b : Bool). turned_told b finishes ends cleared q at (told_of v0)) same
 
-  module _ (index : ℕ) (here : index ≡ index_at down at) (left : at ≢ last_place down q) (e : v1 ≡ record v0 { progress = moved_to index v0.progress }) where
-    -- before a byte is read
-    pub byte_turned : told_of v1 ≡ turned_told back false q at (told_of v0)
-    byte_turned =
-        ap told_of e
-        ∙ (ap (λ (x : ℕ). told_at x (told_of v0)) here
-        ∙ by_place false false (ne_eqb at (last_place down q) left))
+  module _ (step : told_of v2 ≡ anew_if cleared (told_of v1)) where
+    module _ (index : ℕ) (here : index ≡ index_at down at) (left : at ≢ last_place down q) (e : v1 ≡ record v0 { progress = moved_to index v0.progress }) where
+      stepped : told_of v2 ≡ anew_if cleared (told_at index (told_of v0))
+      stepped = step ∙ ap (anew_if cleared) (ap told_of e)
 
-    -- behind one that is a quit byte
-    pub quit_turned : (v2 v3 : CacheValue) → v3 ≡ finished index v2 → told_of v2 ≡ told_of v1 → told_of v3 ≡ turned_told back true q at (told_of v0)
-    quit_turned v2 v3 f g =
-        ap told_of f
-        ∙ (ap (told_finished index) (g ∙ ap told_of e)
-        ∙ (finished_there index (told_of v0)
-        ∙ (ap (λ (x : ℕ). told_finished x (told_of v0)) here
-        ∙ by_place true false (ne_eqb at (last_place down q) left))))
+      pub byte_turned : finishes ≡ false → told_of v2 ≡ turned_told back finishes ends cleared q at (told_of v0)
+      byte_turned f =
+          stepped
+          ∙ (ap (λ (x : ℕ). anew_if cleared (told_at x (told_of v0))) here
+          ∙ (sym (ap (λ (b : Bool). told_byte down b cleared at (told_of v0)) f)
+          ∙ by_place false (ne_eqb at (last_place down q) left)))
 
-  -- at the last place
-  pub last_turned : (quits : Bool) → at ≡ last_place down q → v1 ≡ finished_where (down && tells down q) at v0 → told_of v1 ≡ turned_told back quits q at (told_of v0)
-  last_turned quits last e =
-      ap told_of e
-      ∙ (finished_if (down && tells down q) at v0
-      ∙ by_place quits true (eq-eqb at (last_place down q) last))
+      pub byte_finished : (v3 : CacheValue) → v3 ≡ finished index v2 → finishes ≡ true → told_of v3 ≡ turned_told back finishes ends cleared q at (told_of v0)
+      byte_finished v3 f g =
+          ap told_of f
+          ∙ (ap (told_finished index) stepped
+          ∙ (ap (λ (x : ℕ). told_finished x (anew_if cleared (told_at x (told_of v0)))) here
+          ∙ (sym (ap (λ (b : Bool). told_byte down b cleared at (told_of v0)) g)
+          ∙ by_place false (ne_eqb at (last_place down q) left))))
+
+    module _ (last : at ≡ last_place down q) (e : v1 ≡ finished_where (down && tells down q) at v0) where
+      pub last_turned : ends ≡ false → told_of v2 ≡ turned_told back finishes ends cleared q at (told_of v0)
+      last_turned f =
+          step
+          ∙ (ap (anew_if cleared) (ap told_of e ∙ finished_if (down && tells down q) at v0)
+          ∙ (so down ∙ (sym (ap (λ (b : Bool). told_last down b cleared q at (told_of v0)) f)
+          ∙ by_place true (eq-eqb at (last_place down q) last))))
+        where
+          so : (b : Bool) → anew_if cleared (if b && tells b q then told_finished at (told_of v0) else told_of v0) ≡ told_last b false cleared q at (told_of v0)
+          so true = refl
+          so false = refl
+
+      pub last_finished : (v3 : CacheValue) → v3 ≡ finished_where (not down) at v2 → ends ≡ true → told_of v3 ≡ turned_told back finishes ends cleared q at (told_of v0)
+      last_finished v3 f g =
+          ap told_of f
+          ∙ (finished_if (not down) at v2
+          ∙ (ap (λ (t : Told). if not down then told_finished at t else t) (step ∙ ap (anew_if cleared) (ap told_of e ∙ finished_if (down && tells down q) at v0))
+          ∙ (so down ∙ (sym (ap (λ (b : Bool). told_last down b cleared q at (told_of v0)) g)
+          ∙ by_place true (eq-eqb at (last_place down q) last)))))
+        where
+          so : (b : Bool) → (if not b then told_finished at (anew_if cleared (if b && tells b q then told_finished at (told_of v0) else told_of v0)) else
+              anew_if cleared (if b && tells b q then told_finished at (told_of v0) else told_of v0)) ≡ told_last b true cleared q at (told_of v0)
+          so true = refl
+          so false = refl
 
 -- ---- passes
 
@@ -100,16 +120,15 @@ module _ (q : Search) (quits : Bool) (v new : CacheValue) (at i : ℕ) (within :
   left_as down is x e =
       sym (ap (λ (b : Bool). if (if b then quits else down) then told_behind down (span_len q) (told_of v) (suc (came down q at)) else told_at x (told_of v)) e)
 
-  left_last : (down : Bool) → at ≡ last_place down q → BeganFirst down q v → told_of new ≡ turned_told down quits q at (told_of v) →
+  left_last : (down : Bool) → at ≡ last_place down q → BeganFirst down q v → told_of new ≡ turned_told down quits false false q at (told_of v) →
       LeftAt down quits (span_len q) i (came down q at) (told_of v) (told_of new)
   left_last down last begun e = record {
     at = (some_running v.progress).0;
     there = λ less. let far = came_last down q at last in absurd (omega (arith, less, far));
-    told = by down last begun (e ∙ ap (λ (b : Bool). if b then (if down && tells down q then told_finished at (told_of v) else told_of v) else
-        if quits then told_finished (index_at down at) (told_of v) else told_at (index_at down at) (told_of v)) (eq-eqb at (last_place down q) last));
+    told = by down last begun (e ∙ ap (λ (b : Bool). if b then told_last down false false q at (told_of v) else told_byte down quits false at (told_of v)) (eq-eqb at (last_place down q) last));
   }
     where
-      by : (down : Bool) → at ≡ last_place down q → BeganFirst down q v → told_of new ≡ (if down && tells down q then told_finished at (told_of v) else told_of v) →
+      by : (down : Bool) → at ≡ last_place down q → BeganFirst down q v → told_of new ≡ told_last down false false q at (told_of v) →
           told_of new ≡ left_told down quits (span_len q) (came down q at) (some_running v.progress).0 (told_of v)
       by false last begun e =
           let far = came_last false q at last in
@@ -120,22 +139,21 @@ module _ (q : Search) (quits : Bool) (v new : CacheValue) (at i : ℕ) (within :
           last_down last begun e
           ∙ left_as true false (some_running v.progress).0 (le-ltb (came true q at) (span_len q) (omega (arith, far)))
 
-  left_byte : (down : Bool) → at ≢ last_place down q → at ≡ place_of down i (came down q at) → BeganFirst down q v → told_of new ≡ turned_told down quits q at (told_of v) →
+  left_byte : (down : Bool) → at ≢ last_place down q → at ≡ place_of down i (came down q at) → BeganFirst down q v → told_of new ≡ turned_told down quits false false q at (told_of v) →
       LeftAt down quits (span_len q) i (came down q at) (told_of v) (told_of new)
   left_byte down left place begun e = record {
     at = index_at down at;
     there = λ less. ap (index_at down) place;
-    told = by quits (e ∙ ap (λ (b : Bool). if b then (if down && tells down q then told_finished at (told_of v) else told_of v) else
-        if quits then told_finished (index_at down at) (told_of v) else told_at (index_at down at) (told_of v)) (ne_eqb at (last_place down q) left))
+    told = by quits (e ∙ ap (λ (b : Bool). if b then told_last down false false q at (told_of v) else told_byte down quits false at (told_of v)) (ne_eqb at (last_place down q) left))
         ∙ left_as down true (index_at down at) (lt-ltb (came down q at) (span_len q) (came_less down q at within left));
   }
     where
-      by : (quits : Bool) → told_of new ≡ (if quits then told_finished (index_at down at) (told_of v) else told_at (index_at down at) (told_of v)) →
+      by : (quits : Bool) → told_of new ≡ told_byte down quits false at (told_of v) →
           told_of new ≡ (if quits then told_behind down (span_len q) (told_of v) (suc (came down q at)) else told_at (index_at down at) (told_of v))
       by false e = e
-      by true e = e ∙ byte_end_told down q v v at within left refl begun
+      by true e = e ∙ (finished_there (index_at down at) (told_of v) ∙ byte_end_told down q v v at within left refl begun)
 
-  pub left_here : (down : Bool) → at ≡ place_of down i (came down q at) → BeganFirst down q v → told_of new ≡ turned_told down quits q at (told_of v) →
+  pub left_here : (down : Bool) → at ≡ place_of down i (came down q at) → BeganFirst down q v → told_of new ≡ turned_told down quits false false q at (told_of v) →
       LeftAt down quits (span_len q) i (came down q at) (told_of v) (told_of new)
   left_here down place begun e = ⊎_elim
       (λ (last : at ≡ last_place down q). left_last down last begun e)

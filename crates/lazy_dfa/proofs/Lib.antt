@@ -20,6 +20,7 @@ pub mod AccountingLemmas
 mod ScanRows
 mod AccountingRows
 mod LeftToldRows
+mod AnewToldRows
 pub mod ForCallers
 pub mod ListLemmas
 pub mod CacheLemmas
@@ -45,6 +46,7 @@ pub mod TurnStepLemmas
 pub mod PassStartLemmas
 pub mod RunLemmas
 pub mod LeftToldLemmas
+pub mod AnewToldLemmas
 pub mod PassListLemmas
 pub mod AnswerLemmas
 pub mod SearchLemmas
