@@ -2,7 +2,7 @@
 use Rattle.std.proofs.Common.{◌≡◌, ◌≢◌, ◌⊎◌, inl, inr, ℕ, suc, ◌+◌, ◌-◌, ◌<◌, ◌≤◌, ◌==◌, Bool, true, false, Option, Some, None, if◌then◌else◌, refl, sym, ap, ◌∙◌, subst, ⊎_elim, arith, true≢false}
 use Rattle.std.specs.Prelude.{min, nat_lt}
 use Rattle.std.proofs.lemmas.Bool.{cases_lt, cases_Bool, cases_eq, le-ltb, lt-ltb, ne_eqb, eq-eqb}
-use Rattle.std.proofs.Math.Nat.{min-eq_left, min-eq_right}
+use Rattle.std.proofs.Math.Nat.{min-le_left, min-eq_left, min-eq_right}
 use Rattle.nfa_core.specs.Ways.{place_of}
 use Rattle.search_types.specs.Inputs.{Search}
 use Rattle.lazy_dfa.specs.AnewTold.{told_anew, anew_if, IsFresh, cut_told, cut_left, CutAt}
@@ -59,6 +59,10 @@ last_distance true n i a l fits =
     let f : min (suc n - 1) (n - 1) ≡ n - 1 = min-eq_right (omega arith) in
     let g = fits refl in
     (omega (arith, l, f, g), omega (arith, l, f))
+
+distance_low : (down : Bool) (n k : ℕ) → pass_distance down n (suc k) ≤ k
+distance_low false n k = omega arith
+distance_low true n k = let l = min-le_left (suc k - 1) (n - 1) in omega (arith, l)
 
 less_byte : (down : Bool) (n a b : ℕ) → a ≤ b → IsByteOf down n b → IsByteOf down n a
 less_byte false n a b l m = omega (arith, l, m)
@@ -202,11 +206,12 @@ none_told true q e = (
       (cases_lt q.start q.end),
 )
 
-came_last : (down : Bool) (q : Search) (at : ℕ) → at ≡ last_place down q → came down q at ≡ span_len q
+-- how many bytes a pass has read at a place of its span
+pub came_last : (down : Bool) (q : Search) (at : ℕ) → at ≡ last_place down q → came down q at ≡ span_len q
 came_last false q at e = omega (arith, e)
 came_last true q at e = omega (arith, e)
 
-came_less : (down : Bool) (q : Search) (at : ℕ) → IsWithinSpan q at → at ≢ last_place down q → came down q at < span_len q
+pub came_less : (down : Bool) (q : Search) (at : ℕ) → IsWithinSpan q at → at ≢ last_place down q → came down q at < span_len q
 came_less false q at w n = omega (arith, w.0, w.1, n)
 came_less true q at w n = omega (arith, w.0, w.1, n)
 
@@ -328,8 +333,8 @@ module _ (q : Search) (down : Bool) (at k i : ℕ) (was now whole clr : Type 0) 
 
     -- ---- where a turn is refused
 
-    abbrev byte : ℕ → ℕ
-    byte b = index_at down (place_of down i b)
+    abbrev index : ℕ → ℕ
+    index b = index_at down (place_of down i b)
 
     abbrev LeftSo : Bool → Type 0
     LeftSo quits = (LeftAt down quits n i k t0 new × whole) ⊎ (clr × RestFails down quits q i k new)
@@ -341,39 +346,41 @@ module _ (q : Search) (down : Bool) (at k i : ℕ) (was now whole clr : Type 0) 
     left_as quits b x u e = sym (ap (λ (y : Bool). if y then told_behind down n u (suc k) else told_at x u) e)
 
     abbrev cut_by : ℕ → ℕ → Bool → Told
-    cut_by a x b = if b then cut_told down n a (suc k) else record { searched = 0; progress = Some (record { start = byte a; at = x }) }
+    cut_by a x b = if b then cut_told down n a (suc k) else record { searched = 0; progress = Some (record { start = index a; at = x }) }
 
     cut_as : (quits b : Bool) (a x : ℕ) → has_finished down quits n k ≡ b → cut_by a x b ≡ cut_left down quits n i a k x
     cut_as quits b a x e = sym (ap (cut_by a x) e)
 
     left_ended : (quits : Bool) → has_finished down quits n k ≡ true → tells down q ≡ true → Ends (suc k) → LeftSo quits
     left_ended quits is tell (inl e) =
-        inl (record { at = byte k; there = λ l. refl; told = e.0 ∙ (behind_is down n (suc k) t0 (some tell) ∙ left_as quits true (byte k) t0 is) }, e.1)
+        inl (record { byte = k; read = omega arith; there = λ l. refl; told = e.0 ∙ (behind_is down n (suc k) t0 (some tell) ∙ left_as quits true (index k) t0 is) }, e.1)
     left_ended quits is tell (inr c) = inr (
       c.0,
       fails_at (record {
         from = c.1.0;
+        byte = k;
         inside = c.1.1;
-        at = byte k;
+        past = let l = c.1.1 in let m = distance_low down n k in omega (arith, l, m);
+        read = omega arith;
         there = λ l. refl;
-        told = c.1.2 ∙ cut_as quits true c.1.0 (byte k) is;
+        told = c.1.2 ∙ cut_as quits true c.1.0 (index k) is;
       }),
     )
 
     module _ (begun : tells down q ≡ true → t0 ≡ going down i t0.searched 0 0) (tell : tells down q ≡ true) (quits : Bool) (is : has_finished down quits n k ≡ false) where
-      left_going : (b : ℕ) → (k < n → byte b ≡ byte k) → new ≡ going down i t0.searched 0 b → LeftAt down quits n i k t0 new
-      left_going b there e = record { at = byte b; there = there; told = e ∙ (sym (ap (told_at (byte b)) (begun tell)) ∙ left_as quits false (byte b) t0 is) }
+      left_going : (b : ℕ) → b ≤ k → (k < n → b ≡ k) → new ≡ going down i t0.searched 0 b → LeftAt down quits n i k t0 new
+      left_going b read there e = record { byte = b; read = read; there = there; told = e ∙ (sym (ap (told_at (index b)) (begun tell)) ∙ left_as quits false (index b) t0 is) }
 
-      cut_going : (a b : ℕ) → a ≤ pass_distance down n (suc k) → (k < n → byte b ≡ byte k) → new ≡ going down i 0 a b → CutAt down quits n i k new
-      cut_going a b l there e = record { from = a; inside = l; at = byte b; there = there; told = e ∙ cut_as quits false a (byte b) is }
+      cut_going : (a b : ℕ) → a ≤ pass_distance down n (suc k) → a ≤ b → b ≤ k → (k < n → b ≡ k) → new ≡ going down i 0 a b → CutAt down quits n i k new
+      cut_going a b l past read there e = record { from = a; byte = b; inside = l; past = past; read = read; there = there; told = e ∙ cut_as quits false a (index b) is }
 
       left_byte : k < n → ((new ≡ going down i t0.searched 0 k) × whole) ⊎ (clr × ((a : ℕ) × (a ≤ k) × (new ≡ going down i 0 a k))) → LeftSo quits
-      left_byte l (inl e) = inl (left_going k (λ x. refl) e.0, e.1)
-      left_byte l (inr c) = inr (c.0, fails_at (cut_going c.1.0 k (byte_distance down n i c.1.0 k c.1.1 l fits).1 (λ x. refl) c.1.2))
+      left_byte l (inl e) = inl (left_going k (omega arith) (λ x. refl) e.0, e.1)
+      left_byte l (inr c) = inr (c.0, fails_at (cut_going c.1.0 k (byte_distance down n i c.1.0 k c.1.1 l fits).1 c.1.1 (omega arith) (λ x. refl) c.1.2))
 
       left_up : down ≡ false → k ≡ n → Under k whole new → LeftSo quits
-      left_up up all (since_first w b l m e) = inl (left_going b (λ x. absurd (omega (arith, x, all))) e, w)
-      left_up up all (since_clear c a b x l m e) = inr (c, fails_at (cut_going a b (far down up (omega (arith, x, l))) (λ y. absurd (omega (arith, y, all))) e))
+      left_up up all (since_first w b l m e) = inl (left_going b l (λ x. absurd (omega (arith, x, all))) e, w)
+      left_up up all (since_clear c a b x l m e) = inr (c, fails_at (cut_going a b (far down up (omega (arith, x, l))) x l (λ y. absurd (omega (arith, y, all))) e))
         where
           far : (b : Bool) → b ≡ false → a ≤ k → a ≤ pass_distance b n (suc k)
           far false is l = omega (arith, l)
@@ -407,17 +414,17 @@ module _ (q : Search) (down : Bool) (at k i : ℕ) (was now whole clr : Type 0) 
             left_byte begun tell false (finishes_by false true false (lt-ltb k n (less left)) refl) (less left)
             (byte_on down n i k t0.searched was now whole clr join t new (under tell) (by_byte false false left turn))
 
-        nothing_left : tells down q ≡ false → (u : Told) → u ≡ left_told down quits n k (byte k) u
+        nothing_left : tells down q ≡ false → (u : Told) → u ≡ left_told down quits n k (index k) u
         nothing_left tell u =
             let none = none_told down q tell in
-            none_behind tell (suc k) u ∙ left_as quits true (byte k) u (finishes_by quits false true (le-ltb k n (nowhere none.1)) none.0)
+            none_behind tell (suc k) u ∙ left_as quits true (index k) u (finishes_by quits false true (le-ltb k n (nowhere none.1)) none.0)
           where
             nowhere : q.end ≤ q.start → span_len q ≤ k
             nowhere l = omega (arith, l)
 
         by_none : tells down q ≡ false → ((new ≡ t0) × whole) ⊎ (clr × IsFresh new) → LeftSo quits
-        by_none tell (inl e) = inl (record { at = byte k; there = λ l. refl; told = e.0 ∙ nothing_left tell t0 }, e.1)
-        by_none tell (inr c) = inr (c.0, fails_untold tell c.1 (record { at = byte k; there = λ l. refl; told = nothing_left tell new }))
+        by_none tell (inl e) = inl (record { byte = k; read = omega arith; there = λ l. refl; told = e.0 ∙ nothing_left tell t0 }, e.1)
+        by_none tell (inr c) = inr (c.0, fails_untold tell c.1 (record { byte = k; read = omega arith; there = λ l. refl; told = nothing_left tell new }))
 
     -- ---- where it goes on
 

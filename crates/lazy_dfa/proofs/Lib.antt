@@ -45,7 +45,7 @@ pub mod SpanTurnLemmas
 pub mod TurnStepLemmas
 pub mod PassStartLemmas
 pub mod RunLemmas
-pub mod LeftToldLemmas
+pub mod TurnToldLemmas
 pub mod AnewToldLemmas
 pub mod PassListLemmas
 pub mod AnswerLemmas

@@ -20,10 +20,9 @@ use Rattle.lazy_dfa.specs.Passes.{index_at}
 use Rattle.lazy_dfa.specs.Points.{Point, Follows, point, began}
 use Rattle.lazy_dfa.specs.Scans.{first_place}
 use Rattle.lazy_dfa.specs.SearchAnswers.{pair_of, give_up_place, told_of, told_behind}
-use Rattle.lazy_dfa.specs.Stands.{last_place, came, left_at, tells, BeganFirst, BeginsFirst, IsWithinSpan, GoesBetween, gave_up_at, turned_told, TellsTurn, TurnsInto, TurnsTo, EndsWith, LeftIn, RestAnew, RestFails, IsRestTold, RunsOn}
+use Rattle.lazy_dfa.specs.Stands.{last_place, came, left_at, tells, BeganFirst, BeginsFirst, IsWithinSpan, GoesBetween, gave_up_at, turned_told, TellsTurn, TurnsInto, TurnsTo, EndsWith, RestAnew, RestFails, IsRestTold, RunsOn}
 use Rattle.lazy_dfa.specs.Turns.{Leaves}
-use Rattle.lazy_dfa.proofs.AnewToldLemmas.{IsGoing, going_by, going_later, begun_so, going_first, going_on, refused_so, ends_told}
-use Rattle.lazy_dfa.proofs.LeftToldLemmas.{left_here, left_begun}
+use Rattle.lazy_dfa.proofs.AnewToldLemmas.{came_last, came_less, IsGoing, going_by, going_later, begun_so, going_first, going_on, refused_so, ends_told}
 use Rattle.lazy_dfa.proofs.LinkedLemmas.{AreBytes, cleared_grows}
 use Rattle.lazy_dfa.proofs.SpanTurnLemmas.{cleared_between}
 use Rattle.lazy_dfa.proofs.RunLemmas.{between_on, reads_this, runs_found, runs_quit, runs_no_memory, runs_gave_up}
@@ -50,15 +49,6 @@ next_closer true q i j k w n e l = omega (arith, w.0, w.1, n, e, l)
 came_inside : (down : Bool) (q : Search) (i : ℕ) → IsWithinSpan q i → came down q i ≤ span_len q
 came_inside false q i w = omega (arith, w.0, w.1)
 came_inside true q i w = omega (arith, w.0, w.1)
-
-came_last : (down : Bool) (q : Search) (i : ℕ) → i ≡ last_place down q → came down q i ≡ span_len q
-came_last false q i e = omega (arith, e)
-came_last true q i e = omega (arith, e)
-
--- before the last place it has come less far
-came_less : (down : Bool) (q : Search) (i : ℕ) → IsWithinSpan q i → i ≢ last_place down q → came down q i < span_len q
-came_less false q i w n = omega (arith, w.0, w.1, n)
-came_less true q i w n = omega (arith, w.0, w.1, n)
 
 -- a pass that tells nothing is at its last place
 pub told_nothing : (down : Bool) (q : Search) (i : ℕ) → IsWithinSpan q i → i ≢ last_place down q → tells down q ≡ false → ⊥
@@ -200,27 +190,6 @@ module _ (d : Dfa) (q : Search) (down : Bool) (is : down ≡ d.nfa.automaton.rev
       place : p.at ≡ place_of back from.at k
       place = between.0.place
 
-      left_so : (quits : Bool) → Follows d q.haystack from p k → told_of v ≡ turned_told back quits false false q p.at (told_of p.cache) →
-          LeftAt back quits (span_len q) from.at k (told_of from.cache) (told_of v)
-      left_so quits f e =
-          left_begun q back quits from.at k from.cache p.cache (told_of v) f.searched f.began (λ t. same (ap (λ (y : Bool). tells y q) is ∙ t))
-          (subst (λ (n : ℕ). LeftAt back quits (span_len q) from.at n (told_of p.cache) (told_of v)) (ap (λ (y : Bool). came y q p.at) (sym is))
-          (left_here q quits p.cache v p.at from.at within back (place ∙ ap (λ (y : Bool). place_of back from.at (came y q p.at)) is)
-          (λ t. f.began ∙ subst (λ (y : Bool). BeganFirst y q from.cache) is begun t) e))
-
-      left_in : (e : MatchErrorKind) → IsRefusedAt back (span_len q) from.at k e → Leaves d q.haystack p v m n 0 → TellsTurn d (is_quit_error e) false q p.at p.cache v →
-          LeftIn d q s from.at e (told_of from.cache) (told_of v) ⊎ HasCleared from.cache v
-      left_in e refused leaves turn = ⊎_elim
-          (λ (f : Follows d q.haystack from p k). ⊎_elim
-          (λ (told : (told_of v ≡ turned_told back (is_quit_error e) false false q p.at (told_of p.cache)) × (v.clears ≡ p.cache.clears)).
-          inl (k, reads_this d q made bytes s from p k own mine held here none between inside, refused, left_so (is_quit_error e) f told.0))
-          (λ (c : HasCleared p.cache v × (told_of v ≡ turned_told back (is_quit_error e) false true q p.at (told_of p.cache))).
-          inr (subst (λ (n : ℕ). min (n + 1) greatest ≤ v.clears) f.grows.clears c.0))
-          turn)
-          (λ (c : HasCleared from.cache p.cache). inr (cleared_grows d from.cache p.cache v c leaves.kept))
-          between.0.kept
-
-      -- and where the cache was cleared
       abbrev clr : Type 0
       clr = HasCleared from.cache v
 
@@ -249,9 +218,9 @@ module _ (d : Dfa) (q : Search) (down : Bool) (is : down ≡ d.nfa.automaton.rev
       untold : tells down q ≡ false → (told_of p.cache ≡ told_of from.cache) × (p.cache.clears ≡ from.cache.clears)
       untold t = (ap told_of (same t), ap (λ (c : CacheValue). c.clears) (same t))
 
-      left_anew : (e : MatchErrorKind) → IsRefusedAt back (span_len q) from.at k e → Leaves d q.haystack p v m n 0 → TellsTurn d (is_quit_error e) false q p.at p.cache v →
+      left : (e : MatchErrorKind) → IsRefusedAt back (span_len q) from.at k e → Leaves d q.haystack p v m n 0 → TellsTurn d (is_quit_error e) false q p.at p.cache v →
           IsRestTold d q s from.at (Err e) from.cache v
-      left_anew e refused leaves turn = (
+      left e refused leaves turn = (
         k,
         reads_this d q made bytes s from p k own mine held here none between inside,
         refused,
@@ -260,10 +229,6 @@ module _ (d : Dfa) (q : Search) (down : Bool) (is : down ≡ d.nfa.automaton.rev
             (under_here (λ c. cleared_grows d from.cache p.cache v c leaves.kept)) (begun_so q down from.at from.cache start begins) (is_quit_error e) untold
             (turn_as (is_quit_error e) false turn)),
       )
-
-      left : (e : MatchErrorKind) → IsRefusedAt back (span_len q) from.at k e → Leaves d q.haystack p v m n 0 → TellsTurn d (is_quit_error e) false q p.at p.cache v →
-          (LeftIn d q s from.at e (told_of from.cache) (told_of v) ⊎ HasCleared from.cache v) × IsRestTold d q s from.at (Err e) from.cache v
-      left e refused leaves turn = (left_in e refused leaves turn, left_anew e refused leaves turn)
 
       gave_up_place : (x : ℕ) → x ≡ gave_up_at back q p.at → x ≡ give_up_place back (span_len q) from.at k
       gave_up_place x e =

@@ -136,18 +136,14 @@ module _ (d : Dfa) (q : Search) (old new : CacheValue) (m1 m2 n1 n2 : ℕ) (resu
       (new.clears ≡ old.clears → old.clears < greatest → told_of new ≡ told_by (reader d) q (told_of old) (passes_of (reader d) q))
       (λ kept same less. (not_forgotten kept same less).2) made.follows
 
-  on_err : (x : Result (Option HalfFound) MatchErrorKind) (A B : MatchErrorKind → Type 0) → ((e : MatchErrorKind) → A e → B e) → IfErr x A → IfErr x B
-  on_err (Ok f) A B g a = tt
-  on_err (Err e) A B g a = g e a
-
   pub is_left_then : IfErr result (λ e. new.clears ≡ old.clears → old.clears < greatest → LeavesTold (reader d) q e (told_of old) (told_of new))
-  is_left_then = on_err result (λ e. LeavesTold (reader d) q e (told_of old) (told_of new) ⊎ HasCleared old new)
-      (λ e. new.clears ≡ old.clears → old.clears < greatest → LeavesTold (reader d) q e (told_of old) (told_of new)) left made.refused
+  is_left_then = left result made.anew
     where
-      left : (e : MatchErrorKind) → LeavesTold (reader d) q e (told_of old) (told_of new) ⊎ HasCleared old new → new.clears ≡ old.clears → old.clears < greatest →
-          LeavesTold (reader d) q e (told_of old) (told_of new)
-      left e (inl l) same less = l
-      left e (inr c) same less = absurd (not_cleared old new c same less)
+      left : (x : Result (Option HalfFound) MatchErrorKind) → IsSearchTold (reader d) q x old new →
+          IfErr x (λ e. new.clears ≡ old.clears → old.clears < greatest → LeavesTold (reader d) q e (told_of old) (told_of new))
+      left (Ok f) t = tt
+      left (Err e) (inl l) = λ same less. l.0
+      left (Err e) (inr c) = λ same less. absurd (not_cleared old new c.0 same less)
 
   pub is_told_since : (new.clears ≡ old.clears → ⊥) → IsToldSince (reader d) q result (told_of new)
   is_told_since other = since result made.anew

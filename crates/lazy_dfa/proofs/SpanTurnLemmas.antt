@@ -229,7 +229,7 @@ TellsEnd down q at old new = (told_of new ≡ told_behind down (span_len q) (tol
 
 -- ---- what a turn by a byte tells
 
-pub byte_end_told : (down : Bool) (q : Search) (v v2 : CacheValue) (at : ℕ) → IsWithinSpan q at → at ≢ last_place down q → v2.searched ≡ v.searched →
+byte_end_told : (down : Bool) (q : Search) (v v2 : CacheValue) (at : ℕ) → IsWithinSpan q at → at ≢ last_place down q → v2.searched ≡ v.searched →
     (tells down q ≡ true → began v2.progress ≡ Some (first_index down q)) →
     told_of (finished (index_at down at) v2) ≡ told_behind down (span_len q) (told_of v) (suc (came down q at))
 byte_end_told false q v v2 at within left searched begins =
@@ -251,7 +251,7 @@ byte_told down q v0 v1 v2 v3 at index here e f within left same begins = ⊎_eli
 
 -- ---- what the last turn tells
 
-pub last_told_same : (down : Bool) (q : Search) (v0 v1 v2 v3 : CacheValue) (at : ℕ) → v1 ≡ finished_where (down && tells down q) at v0 → v3 ≡ finished_where (not down) at v2 →
+last_told_same : (down : Bool) (q : Search) (v0 v1 v2 v3 : CacheValue) (at : ℕ) → v1 ≡ finished_where (down && tells down q) at v0 → v3 ≡ finished_where (not down) at v2 →
     at ≡ last_place down q → q.start ≤ q.end → told_of v2 ≡ told_of v1 → BeganFirst down q v0 →
     told_of v3 ≡ told_behind down (span_len q) (told_of v0) (suc (came down q at))
 last_told_same false q v0 v1 v2 v3 at e f last begun g begins =

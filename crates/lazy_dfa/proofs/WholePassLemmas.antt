@@ -1,6 +1,6 @@
 -- A whole pass: its start, and what comes of it behind that.
 use Rattle.std.proofs.Common.{◌≡◌, ◌≢◌, ◌⊎◌, ℕ, suc, ◌+◌, ◌-◌, ◌*◌, ◌/◌, ◌%◌, ◌<◌, ◌≤◌, ◌==◌, ◌&&◌, not, Bool, true, false, List, Option, Some, None, Result, Ok, Err, if◌then◌else◌, refl, sym, ap, ◌∙◌, subst, inl, inr, ⊎_elim, arith, true≢false}
-use Rattle.std.specs.Prelude.{min, nat_le, OnOk, IfErr}
+use Rattle.std.specs.Prelude.{min, nat_le, OnOk}
 use Rattle.std.proofs.lemmas.Bool.{cases_Bool, cases_lt, eqb-true}
 use Rattle.std.proofs.lemmas.Bool.Decides.{leb_tells}
 use Rattle.std.proofs.Math.Nat.{min-eq_left, min-eq_right, suc-mul}
@@ -32,7 +32,7 @@ use Rattle.lazy_dfa.specs.Scans.{first_place}
 use Rattle.lazy_dfa.specs.ScanLaws.{begins_at}
 use Rattle.lazy_dfa.specs.SearchAnswers.{told, give_up_place, GivesUpIn, at_start, at_unit, Told, told_of, pass_distance, told_by_pass, running_at}
 use Rattle.lazy_dfa.specs.SearchStarts.{error_at}
-use Rattle.lazy_dfa.specs.Stands.{tells, first_index, told_begun, told_behind, LeftIn, RestAnew, rest_inside, rest_untold, RestFails, fails_at, fails_untold, IsRestTold, RunsOn, pass_start, StartsPass}
+use Rattle.lazy_dfa.specs.Stands.{tells, first_index, told_begun, told_behind, RestAnew, rest_inside, rest_untold, RestFails, fails_at, fails_untold, IsRestTold, RunsOn, pass_start, StartsPass}
 use Rattle.lazy_dfa.specs.StartCalls.{mode_of, quit_refusal, behind_refusal, mode_refusal, start_refusal, start_slot, start_noted, IsStartKnown}
 use Rattle.lazy_dfa.specs.Steps.{Grew, WasCleared, most_inserts}
 use Rattle.lazy_dfa.proofs.AnewToldLemmas.{fresh_anew}
@@ -56,10 +56,6 @@ none_or_some (Some p) = inr (p, refl)
 on_ok : {A B X Y : Type 0} (r : Result A B) → (X → Y) → OnOk r X → OnOk r Y
 on_ok (Ok a) f x = f x
 on_ok (Err e) f x = tt
-
-on_err : (r : Result (Option HalfFound) MatchErrorKind) (X Y : MatchErrorKind → Type 0) → ((e : MatchErrorKind) → X e → Y e) → IfErr r X → IfErr r Y
-on_err (Ok a) X Y f x = tt
-on_err (Err e) X Y f x = f e x
 
 abbrev are_same : Result ℕ MatchErrorKind → Result ℕ MatchErrorKind → Type 0
 are_same r s = r ≡ s
@@ -261,10 +257,6 @@ module _ (d : Dfa) (q : Search) (old new : CacheValue) (m1 m2 n1 n2 : ℕ) (e : 
         (moved_same old new same.0, same.1, same.2, start.refused known);
     determinized = let l = start.determinized in omega (arith, l);
     inserted = one_at_most n1 n2 length (most_inserts d) start.inserted;
-    refused = ⊎_elim
-        (λ (g : Grew d old new). inl (left_first refused_first (same_told d old new g)))
-        (λ (w : WasCleared old new 1). inr (has_cleared old new 1 w))
-        start.kept;
     anew = ⊎_elim
         (λ (g : Grew d old new). inl (left_first refused_first (same_told d old new g), g.clears))
         (λ (w : WasCleared old new 1). inr (has_cleared old new 1 w, fails_first (told_of new) (fresh_start old new w) (left_first refused_first refl)))
@@ -349,23 +341,7 @@ module _ (d : Dfa) (q : Search) (old mid : CacheValue) (m1 m n1 n id : ℕ) (mad
         (λ (w : WasCleared old mid 1). inr (clear_first w))
         start.kept
 
-    -- how far it came that was refused
-    left_pass : (e : MatchErrorKind) → LeftIn d q first from e (told_of here) (told_of new) ⊎ HasCleared here new →
-        LeavesPass (reader d) q.anchored q.earliest q.haystack (span_len q, from) e (told_of old) (told_of new) ⊎ HasCleared old new
-    left_pass e left = ⊎_elim
-        (λ (g : Grew d old mid). ⊎_elim
-        (λ (l : LeftIn d q first from e (told_of here) (told_of new)). inl (left_at_unit l.0 (subst (λ (n : ℕ). l.0 < n) same_len l.1) l.2
-        (subst (λ (t : Told). LeftAt d.nfa.automaton.reverse (is_quit_error e) (span_len q) from l.0 t (told_of new)) (begun_here g) l.3)))
-        (λ (x : HasCleared here new). inr (clear_later g x))
-        left)
-        (λ (w : WasCleared old mid 1). inr (clear_first w))
-        start.kept
-      where
-        begun_here : Grew d old mid → told_of here ≡ told_from d.nfa.automaton.reverse (span_len q, from) (told_of old)
-        begun_here g =
-            tells_start ∙ (ap (told_begun d.nfa.automaton.reverse q) (same_told d old mid g) ∙ told_first d.nfa.automaton.reverse q (told_of old))
-
-    -- the same where the cache was cleared
+    -- how far it came, whether the cache was cleared or not
     abbrev p : ℕ × ℕ
     p = (span_len q, from)
 
@@ -482,8 +458,6 @@ module _ (d : Dfa) (q : Search) (old mid : CacheValue) (m1 m n1 n id : ℕ) (mad
       free = free_pass;
       determinized = let a = start.determinized in let b = runs.determinized in let l = same_len in omega (arith, a, b, l);
       inserted = one_more n1 n n2 all (most_inserts d) start.inserted (subst (λ (k : ℕ). n2 ≤ n + k * most_inserts d) same_len runs.inserted);
-      refused = on_err result (λ e. LeftIn d q first from e (told_of here) (told_of new) ⊎ HasCleared here new)
-          (λ e. LeavesPass (reader d) q.anchored q.earliest q.haystack (span_len q, from) e (told_of old) (told_of new) ⊎ HasCleared old new) left_pass runs.refused;
       anew = told_anew_pass result runs.anew;
     }
 
@@ -508,7 +482,6 @@ module _ (d : Dfa) (q : Search) (old mid : CacheValue) (m1 m n1 n id : ℕ) (mad
         free = λ l. (still, refl, refl, is_none);
         determinized = omega arith;
         inserted = omega arith;
-        refused = tt;
         anew = inl (e ∙ ap (told_behind d.nfa.automaton.reverse (span_len q) (told_of here)) (sym nothing.1), (grows_moved d here new still).clears);
       })
     where

@@ -47,13 +47,15 @@ pub data TellsAnew (r : Reader) (mode : Anchored) (earliest : Bool) (h : List �
   cleared_inside : (a : ℕ) → a ≤ pass_distance r.automaton.reverse p.0 (pass_len r mode earliest h p.0 p.1) →
       new ≡ cut_told r.automaton.reverse p.0 a (pass_len r mode earliest h p.0 p.1) → TellsAnew r mode earliest h p new
 
--- a pass over n bytes from place i is refused at unit k, and the search began anew at the byte a behind its first one
+-- a pass over n bytes from place i is refused at unit k, and the search began anew at the byte `from` behind its first one
 pub record CutAt (down quits : Bool) (n i k : ℕ) (new : Told) : Type 0 where
   pub from : ℕ
+  pub byte : ℕ
   pub inside : from ≤ pass_distance down n (suc k)
-  pub at : ℕ
-  pub there : k < n → at ≡ index_at down (place_of down i k)
-  pub told : new ≡ cut_left down quits n i from k at
+  pub past : from ≤ byte
+  pub read : byte ≤ k
+  pub there : k < n → byte ≡ k
+  pub told : new ≡ cut_left down quits n i from k (index_at down (place_of down i byte))
 
 -- one that is refused
 pub data FailsAnew (r : Reader) (mode : Anchored) (earliest : Bool) (h : List ℕ) (p : ℕ × ℕ) (e : MatchErrorKind) (new : Told) : Type 0 where

@@ -1,5 +1,5 @@
 -- What the functions that make passes, one after the other, say of what they did.
-use Rattle.std.specs.Prelude.{◌≡◌, ◌⊎◌, ℕ, suc, ◌+◌, ◌-◌, ◌*◌, ◌≤◌, Bool, List, Option, Result, Ok, Err, IfErr, OnOk}
+use Rattle.std.specs.Prelude.{◌≡◌, ◌⊎◌, ℕ, suc, ◌+◌, ◌-◌, ◌*◌, ◌≤◌, Bool, List, Option, Result, Ok, Err, OnOk}
 use Rattle.search_types.specs.declared.anchored.Anchored.{Anchored}
 use Rattle.search_types.specs.declared.match_error.MatchErrorKind.{MatchErrorKind}
 use Rattle.search_types.specs.declared.match_error.MatchErrorKind.TheVariants.{GaveUp, NoMemory}
@@ -49,7 +49,6 @@ pub record MakesPass (d : Dfa) (q : Search) (old new : CacheValue) (m1 m2 n1 n2 
       IsMoved old new × (m2 ≡ m1) × (n2 ≡ n1) × (result ≡ told (pass (reader d) q.anchored q.earliest q.haystack (span_len q) (begins_at (reader d) q)))
   pub determinized : m2 ≤ m1 + suc (pass_len (reader d) q.anchored q.earliest q.haystack (span_len q) (begins_at (reader d) q))
   pub inserted : n2 ≤ n1 + suc (pass_len (reader d) q.anchored q.earliest q.haystack (span_len q) (begins_at (reader d) q)) * most_inserts d
-  pub refused : IfErr result (λ e. LeavesPass (reader d) q.anchored q.earliest q.haystack (span_len q, begins_at (reader d) q) e (told_of old) (told_of new) ⊎ HasCleared old new)
   pub anew : IsPassTold (reader d) q.anchored q.earliest q.haystack (span_len q, begins_at (reader d) q) result old new
 
 -- a half search with its restarts
@@ -60,5 +59,4 @@ pub record MakesSearch (d : Dfa) (q : Search) (old new : CacheValue) (m1 m2 n1 n
   pub free : IsLinked d old q → IsMoved old new × (m2 ≡ m1) × (n2 ≡ n1) × (result ≡ told (scan (reader d) q))
   pub determinized : m2 ≤ m1 + made_by (reader d) q (passes_of (reader d) q)
   pub inserted : n2 ≤ n1 + made_by (reader d) q (passes_of (reader d) q) * most_inserts d
-  pub refused : IfErr result (λ e. LeavesTold (reader d) q e (told_of old) (told_of new) ⊎ HasCleared old new)
   pub anew : IsSearchTold (reader d) q result old new

@@ -164,13 +164,7 @@ TurnsTo d q from new m n (Err NotAPair) = ⊥
 
 -- ---- the rest of a pass
 
--- how far the rest of a pass came that was refused at one of its units
-abbrev pub LeftIn : Dfa → Search → StateValue → ℕ → MatchErrorKind → Told → Told → Type 0
-LeftIn d q s i e t new =
-    (k : ℕ) × (k < units_read (reader d) q.earliest q.haystack (suc (span_len q)) i s) × IsRefusedAt d.nfa.automaton.reverse (span_len q) i k e ×
-    LeftAt d.nfa.automaton.reverse (is_quit_error e) (span_len q) i k t new
-
--- how far it came where the cache was cleared on the way: the search began anew, or a pass that tells nothing left nothing
+-- how far the rest of a pass came where the cache was cleared on the way: its search began anew, or it tells nothing
 pub data RestAnew (down : Bool) (q : Search) (units : ℕ) (new : Told) : Type 0 where
   rest_inside : (a : ℕ) → a ≤ pass_distance down (span_len q) units → new ≡ cut_told down (span_len q) a units → RestAnew down q units new
   rest_untold : tells down q ≡ false → IsFresh new → RestAnew down q units new
@@ -206,7 +200,6 @@ pub record RunsOn (d : Dfa) (q : Search) (s : StateValue) (from : Point) (new : 
       (result ≡ told (pass_from (reader d) q.earliest q.haystack (suc (span_len q)) from.at s None))
   pub determinized : m ≤ from.determinized + units_read (reader d) q.earliest q.haystack (suc (span_len q)) from.at s
   pub inserted : n ≤ from.inserted + units_read (reader d) q.earliest q.haystack (suc (span_len q)) from.at s * most_inserts d
-  pub refused : IfErr result (λ e. LeftIn d q s from.at e (told_of from.cache) (told_of new) ⊎ HasCleared from.cache new)
   pub anew : IsRestTold d q s from.at result from.cache new
 
 -- ---- the start of a pass

@@ -1,6 +1,6 @@
 use Rattle.std.proofs.Common.{true, false, refl, get_or, Some}
 use Rattle.lazy_dfa.specs.SearchAnswers.{pair_of}
-use Rattle.lazy_dfa.proofs.LeftToldLemmas.{byte_turned, byte_finished}
+use Rattle.lazy_dfa.proofs.TurnToldLemmas.{byte_turned, byte_finished}
 use Rattle.lazy_dfa.proofs.LinkedLemmas.{is_cache_moved}
 use Rattle.lazy_dfa.proofs.SpanTurnLemmas.{byte_unit, moved_is, some_moved, runs_there, finished_moves, gave_up_byte, turn_refused, turn_quits, some_behind, some_kept, byte_goes, byte_ends}
 use Rattle.lazy_dfa.proofs.passing.byte_turn.Goals as goal
