@@ -109,6 +109,27 @@ stand_first d q down v m n id i j b g w =
 module _ (d : Dfa) (q : Search) (down : Bool) (is : down ≡ d.nfa.automaton.reverse) (made : IsDfa d) (bytes : AreBytes q.haystack) (from p : Point) (own : IsCacheOf d from.cache)
     (mine : IsCacheOf d p.cache) (row : IsRow from.cache from.id) (here : IsRow p.cache p.id) (within : IsWithinSpan q p.at)
     (between : GoesBetween d q.earliest q.haystack from p (came down q p.at)) where
+  -- what a turn tells, for one who knows whether the cache was cleared since the pass began
+  module _ (v : CacheValue) where
+    abbrev since : Type 0
+    since = HasCleared from.cache v
+
+    clears_now : HasCleared p.cache v → since
+    clears_now c = ⊎_elim
+        (λ (f : Follows d q.haystack from p (came down q p.at)). subst (λ (n : ℕ). min (n + 1) greatest ≤ v.clears) f.grows.clears c)
+        (λ (x : HasCleared from.cache p.cache). cleared_grows d from.cache p.cache v x (inr c))
+        between.0.kept
+
+    turn_as : (finishes ends : Bool) → TellsTurn d finishes ends q p.at p.cache v →
+        ((told_of v ≡ turned_told down finishes ends false q p.at (told_of p.cache)) × (v.clears ≡ p.cache.clears)) ⊎
+        (since × (told_of v ≡ turned_told down finishes ends true q p.at (told_of p.cache)))
+    turn_as finishes ends t = ⊎_elim
+        (λ (e : (told_of v ≡ turned_told d.nfa.automaton.reverse finishes ends false q p.at (told_of p.cache)) × (v.clears ≡ p.cache.clears)).
+        inl (e.0 ∙ ap (λ (b : Bool). turned_told b finishes ends false q p.at (told_of p.cache)) (sym is), e.1))
+        (λ (c : HasCleared p.cache v × (told_of v ≡ turned_told d.nfa.automaton.reverse finishes ends true q p.at (told_of p.cache))).
+        inr (clears_now c.0, c.1 ∙ ap (λ (b : Bool). turned_told b finishes ends true q p.at (told_of p.cache)) (sym is)))
+        t
+
   module _ (v : CacheValue) (m n : ℕ) (next : Stand) (his : IsCacheOf d v) (t : TurnsInto d q p v m n next false) where
     pub goes_further : p.at ≢ last_place down q
     goes_further e = t.2 (e ∙ ap (λ (x : Bool). last_place x q) is)
@@ -125,16 +146,13 @@ module _ (d : Dfa) (q : Search) (down : Bool) (is : down ≡ d.nfa.automaton.rev
         (between_on d q.earliest q.haystack made bytes from p (point v m n (place_of d.nfa.automaton.reverse p.at 1) next.id (pair_of next.best)) (came down q p.at) 1 own mine row here
         between (t.0, one_stop))
 
-    abbrev since : Type 0
-    since = HasCleared from.cache v
-
     -- the search goes on
     pub under_on : (first : ℕ) → first ≡ first_place down q.start q.end → from.at ≡ first → (at : ℕ) → IsWithinSpan q at → left_at down q at ≤ left_at down q next.at →
         IsUnder down q first from.cache p.cache (came down q p.at) → IsUnder down q first from.cache v (came down q at)
     under_on first start same at w closer under tell =
-        going_later down (span_len q) first from.cache.searched (suc (came down q p.at)) (came down q at) (v.clears ≡ from.cache.clears) since (told_of v) far
-        (going_on q down p.at (came down q p.at) first (p.cache.clears ≡ from.cache.clears) (v.clears ≡ p.cache.clears) (v.clears ≡ from.cache.clears) since (λ a b. b ∙ a) (told_of from.cache) (told_of p.cache) (told_of v) within place_so start refl
-        (λ e. going_by down (span_len q) first from.cache.searched (came down q p.at) (p.cache.clears ≡ from.cache.clears) (HasCleared from.cache p.cache) since (told_of p.cache) clears_on (under e)) tell goes_further turn_so)
+        going_later down (span_len q) first from.cache.searched (suc (came down q p.at)) (came down q at) (v.clears ≡ from.cache.clears) (since v) (told_of v) far
+        (going_on q down p.at (came down q p.at) first (p.cache.clears ≡ from.cache.clears) (v.clears ≡ p.cache.clears) (v.clears ≡ from.cache.clears) (since v) (λ a b. b ∙ a) (told_of from.cache) (told_of p.cache) (told_of v) within place_so start refl
+        (λ e. going_by down (span_len q) first from.cache.searched (came down q p.at) (p.cache.clears ≡ from.cache.clears) (HasCleared from.cache p.cache) (since v) (told_of p.cache) clears_on (under e)) tell goes_further (turn_as v false false t.5))
       where
         far : suc (came down q p.at) ≤ came down q at
         far = let e = came_on down q p.at next.at at within goes_further next_there w closer in omega (arith, e)
@@ -142,25 +160,11 @@ module _ (d : Dfa) (q : Search) (down : Bool) (is : down ≡ d.nfa.automaton.rev
         place_so : p.at ≡ place_of down first (came down q p.at)
         place_so = between.0.place ∙ (ap (λ (x : Bool). place_of x from.at (came down q p.at)) (sym is) ∙ ap (λ (i : ℕ). place_of down i (came down q p.at)) same)
 
-        clears_now : HasCleared p.cache v → since
-        clears_now c = ⊎_elim
-            (λ (f : Follows d q.haystack from p (came down q p.at)). subst (λ (n : ℕ). min (n + 1) greatest ≤ v.clears) f.grows.clears c)
-            (λ (x : HasCleared from.cache p.cache). cleared_grows d from.cache p.cache v x (inr c))
-            between.0.kept
-
-        clears_on : HasCleared from.cache p.cache → since
+        clears_on : HasCleared from.cache p.cache → since v
         clears_on c = ⊎_elim
             (λ (f : Follows d q.haystack p (point v m n (place_of d.nfa.automaton.reverse p.at 1) next.id (pair_of next.best)) 1). cleared_grows d from.cache p.cache v c (inl f.grows))
             (λ (x : HasCleared p.cache v). cleared_grows d from.cache p.cache v c (inr x))
             t.0.kept
-
-        turn_so : ((told_of v ≡ turned_told down false false false q p.at (told_of p.cache)) × (v.clears ≡ p.cache.clears)) ⊎ (since × (told_of v ≡ turned_told down false false true q p.at (told_of p.cache)))
-        turn_so = ⊎_elim
-            (λ (e : (told_of v ≡ turned_told d.nfa.automaton.reverse false false false q p.at (told_of p.cache)) × (v.clears ≡ p.cache.clears)).
-            inl (e.0 ∙ ap (λ (b : Bool). turned_told b false false false q p.at (told_of p.cache)) (sym is), e.1))
-            (λ (c : HasCleared p.cache v × (told_of v ≡ turned_told d.nfa.automaton.reverse false false true q p.at (told_of p.cache))).
-            inr (clears_now c.0, c.1 ∙ ap (λ (b : Bool). turned_told b false false true q p.at (told_of p.cache)) (sym is)))
-            t.5
 
     pub stand_on : (i j : ℕ) (b : Option (ℕ × ℕ)) → IsWithinSpan q i → left_at down q i ≤ left_at down q next.at →
         GoesBetween d q.earliest q.haystack (point v m n next.at next.id (pair_of next.best)) (point v m n i j b) (left_at down q next.at - left_at down q i) →
@@ -193,21 +197,6 @@ module _ (d : Dfa) (q : Search) (down : Bool) (is : down ≡ d.nfa.automaton.rev
       abbrev clr : Type 0
       clr = HasCleared from.cache v
 
-      clears_now : HasCleared p.cache v → clr
-      clears_now c = ⊎_elim
-          (λ (f : Follows d q.haystack from p k). subst (λ (n : ℕ). min (n + 1) greatest ≤ v.clears) f.grows.clears c)
-          (λ (x : HasCleared from.cache p.cache). cleared_grows d from.cache p.cache v x (inr c))
-          between.0.kept
-
-      turn_as : (finishes ends : Bool) → TellsTurn d finishes ends q p.at p.cache v →
-          ((told_of v ≡ turned_told down finishes ends false q p.at (told_of p.cache)) × (v.clears ≡ p.cache.clears)) ⊎ (clr × (told_of v ≡ turned_told down finishes ends true q p.at (told_of p.cache)))
-      turn_as finishes ends t = ⊎_elim
-          (λ (e : (told_of v ≡ turned_told back finishes ends false q p.at (told_of p.cache)) × (v.clears ≡ p.cache.clears)).
-          inl (e.0 ∙ ap (λ (b : Bool). turned_told b finishes ends false q p.at (told_of p.cache)) (sym is), e.1))
-          (λ (c : HasCleared p.cache v × (told_of v ≡ turned_told back finishes ends true q p.at (told_of p.cache))).
-          inr (clears_now c.0, c.1 ∙ ap (λ (b : Bool). turned_told b finishes ends true q p.at (told_of p.cache)) (sym is)))
-          t
-
       place_so : p.at ≡ place_of down from.at k
       place_so = place ∙ ap (λ (b : Bool). place_of b from.at k) (sym is)
 
@@ -227,7 +216,7 @@ module _ (d : Dfa) (q : Search) (down : Bool) (is : down ≡ d.nfa.automaton.rev
         subst (λ (b : Bool). (LeftAt b (is_quit_error e) (span_len q) from.at k (told_of from.cache) (told_of v) × (v.clears ≡ from.cache.clears)) ⊎ (clr × RestFails b (is_quit_error e) q from.at k (told_of v))) is
             (refused_so q down p.at k from.at (p.cache.clears ≡ from.cache.clears) (v.clears ≡ p.cache.clears) (v.clears ≡ from.cache.clears) clr (λ a b. b ∙ a) (told_of from.cache) (told_of p.cache) (told_of v) within place_so start refl
             (under_here (λ c. cleared_grows d from.cache p.cache v c leaves.kept)) (begun_so q down from.at from.cache start begins) (is_quit_error e) untold
-            (turn_as (is_quit_error e) false turn)),
+            (turn_as v (is_quit_error e) false turn)),
       )
 
       gave_up_place : (x : ℕ) → x ≡ gave_up_at back q p.at → x ≡ give_up_place back (span_len q) from.at k
@@ -265,7 +254,7 @@ module _ (d : Dfa) (q : Search) (down : Bool) (is : down ≡ d.nfa.automaton.rev
           (λ e. same (ap (λ (y : Bool). tells y q) is ∙ e))
           (subst (λ (b : Bool). ((told_of v ≡ told_behind b (span_len q) (told_of from.cache) (suc k)) × (v.clears ≡ from.cache.clears)) ⊎ (clr × RestAnew b q (suc k) (told_of v))) is
           (ends_told q down p.at k from.at (p.cache.clears ≡ from.cache.clears) (v.clears ≡ p.cache.clears) (v.clears ≡ from.cache.clears) clr (λ a b. b ∙ a) (told_of from.cache) (told_of p.cache) (told_of v) within place_so start refl
-          (under_here (end_keeps (pair_of b) x)) untold (turn_as true true x.tells)))
+          (under_here (end_keeps (pair_of b) x)) untold (turn_as v true true x.tells)))
 
 -- the next stand is in the span, and closer to its end
 module _ (d : Dfa) (q : Search) (down : Bool) (p : Point) (v : CacheValue) (m n : ℕ) (next : Stand) where

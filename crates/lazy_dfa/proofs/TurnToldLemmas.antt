@@ -65,4 +65,3 @@ module _ (q : Search) (down back : Bool) (same : down ≡ back) (v0 v1 v2 : Cach
               anew_if cleared (if b && tells b q then told_finished at (told_of v0) else told_of v0)) ≡ told_last b true cleared q at (told_of v0)
           so true = refl
           so false = refl
-

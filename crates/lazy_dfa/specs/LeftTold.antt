@@ -39,7 +39,7 @@ abbrev pub left_told : Bool → Bool → ℕ → ℕ → ℕ → Told → Told
 left_told down quits n k at t = if has_finished down quits n k then told_behind down n t (suc k) else told_at at t
 
 -- A pass over n bytes from place i is refused at unit k. At a byte a search that goes on is there; at the unit behind the span
--- it is at one of those that were read.
+-- it is where it was told to be last, so many bytes behind its first one.
 pub record LeftAt (down quits : Bool) (n i k : ℕ) (t new : Told) : Type 0 where
   pub byte : ℕ
   pub read : byte ≤ k
