@@ -104,5 +104,5 @@ second_pass_has_none_at_the_end = record {
   refused = (0, 2);
   behind = [];
   all = refl;
-  left = left_at_unit 0 (omega arith) tt (record { at = 2; there = λ l. absurd (omega (arith, l)); told = refl });
+  left = left_at_unit 0 (omega arith) tt (record { byte = 0; read = omega arith; there = λ l. refl; told = refl });
 }

@@ -20,6 +20,7 @@ pub mod AccountingLemmas
 mod ScanRows
 mod AccountingRows
 mod LeftToldRows
+mod AnewToldRows
 pub mod ForCallers
 pub mod ListLemmas
 pub mod CacheLemmas
@@ -44,7 +45,8 @@ pub mod SpanTurnLemmas
 pub mod TurnStepLemmas
 pub mod PassStartLemmas
 pub mod RunLemmas
-pub mod LeftToldLemmas
+pub mod TurnToldLemmas
+pub mod AnewToldLemmas
 pub mod PassListLemmas
 pub mod AnswerLemmas
 pub mod SearchLemmas

@@ -19,11 +19,12 @@ use Rattle.lazy_dfa.specs.MadePasses.{span_len}
 use Rattle.lazy_dfa.specs.Passes.{index_at}
 use Rattle.lazy_dfa.specs.Points.{Point, Follows, point, began}
 use Rattle.lazy_dfa.specs.Scans.{first_place}
-use Rattle.lazy_dfa.specs.SearchAnswers.{pair_of, give_up_place, told_of}
-use Rattle.lazy_dfa.specs.Stands.{last_place, came, left_at, tells, BeganFirst, IsWithinSpan, GoesBetween, gave_up_at, turned_told, TellsTurn, TurnsInto, TurnsTo, LeftIn, RunsOn}
+use Rattle.lazy_dfa.specs.SearchAnswers.{pair_of, give_up_place, told_of, told_behind}
+use Rattle.lazy_dfa.specs.Stands.{last_place, came, left_at, tells, BeganFirst, BeginsFirst, IsWithinSpan, GoesBetween, gave_up_at, turned_told, TellsTurn, TurnsInto, TurnsTo, EndsWith, RestAnew, RestFails, IsRestTold, RunsOn}
 use Rattle.lazy_dfa.specs.Turns.{Leaves}
-use Rattle.lazy_dfa.proofs.LeftToldLemmas.{left_here, left_begun}
+use Rattle.lazy_dfa.proofs.AnewToldLemmas.{came_last, came_less, IsGoing, going_by, going_later, begun_so, going_first, going_on, refused_so, ends_told}
 use Rattle.lazy_dfa.proofs.LinkedLemmas.{AreBytes, cleared_grows}
+use Rattle.lazy_dfa.proofs.SpanTurnLemmas.{cleared_between}
 use Rattle.lazy_dfa.proofs.RunLemmas.{between_on, reads_this, runs_found, runs_quit, runs_no_memory, runs_gave_up}
 
 -- ---- places
@@ -48,15 +49,6 @@ next_closer true q i j k w n e l = omega (arith, w.0, w.1, n, e, l)
 came_inside : (down : Bool) (q : Search) (i : ℕ) → IsWithinSpan q i → came down q i ≤ span_len q
 came_inside false q i w = omega (arith, w.0, w.1)
 came_inside true q i w = omega (arith, w.0, w.1)
-
-came_last : (down : Bool) (q : Search) (i : ℕ) → i ≡ last_place down q → came down q i ≡ span_len q
-came_last false q i e = omega (arith, e)
-came_last true q i e = omega (arith, e)
-
--- before the last place it has come less far
-came_less : (down : Bool) (q : Search) (i : ℕ) → IsWithinSpan q i → i ≢ last_place down q → came down q i < span_len q
-came_less false q i w n = omega (arith, w.0, w.1, n)
-came_less true q i w n = omega (arith, w.0, w.1, n)
 
 -- a pass that tells nothing is at its last place
 pub told_nothing : (down : Bool) (q : Search) (i : ℕ) → IsWithinSpan q i → i ≢ last_place down q → tells down q ≡ false → ⊥
@@ -93,6 +85,17 @@ pub began_runs : (p : Option Progress) (x : ℕ) → began p ≡ Some x → IsSo
 began_runs None x e = let never : None ≡ Some x = e in cc
 began_runs (Some p) x e = refl
 
+-- ---- how far its search came
+
+-- at a stand: since it began, or since the cache was cleared
+abbrev pub IsUnder : Bool → Search → ℕ → CacheValue → CacheValue → ℕ → Type 0
+IsUnder down q i old now k = tells down q ≡ true → IsGoing down (span_len q) i old.searched k (now.clears ≡ old.clears) (HasCleared old now) (told_of now)
+
+pub under_first : (down : Bool) (q : Search) (v : CacheValue) (at : ℕ) → BeginsFirst down q v → IsUnder down q (first_place down q.start q.end) v v (came down q at)
+under_first down q v at begins t =
+    going_later down (span_len q) (first_place down q.start q.end) v.searched 0 (came down q at) (v.clears ≡ v.clears) (HasCleared v v) (told_of v) (omega arith)
+    (going_first q down (first_place down q.start q.end) (v.clears ≡ v.clears) (HasCleared v v) (told_of v) refl t (begun_so q down (first_place down q.start q.end) v refl begins t))
+
 -- ---- stands
 
 -- where a run may start in a pass
@@ -106,6 +109,27 @@ stand_first d q down v m n id i j b g w =
 module _ (d : Dfa) (q : Search) (down : Bool) (is : down ≡ d.nfa.automaton.reverse) (made : IsDfa d) (bytes : AreBytes q.haystack) (from p : Point) (own : IsCacheOf d from.cache)
     (mine : IsCacheOf d p.cache) (row : IsRow from.cache from.id) (here : IsRow p.cache p.id) (within : IsWithinSpan q p.at)
     (between : GoesBetween d q.earliest q.haystack from p (came down q p.at)) where
+  -- what a turn tells, for one who knows whether the cache was cleared since the pass began
+  module _ (v : CacheValue) where
+    abbrev since : Type 0
+    since = HasCleared from.cache v
+
+    clears_now : HasCleared p.cache v → since
+    clears_now c = ⊎_elim
+        (λ (f : Follows d q.haystack from p (came down q p.at)). subst (λ (n : ℕ). min (n + 1) greatest ≤ v.clears) f.grows.clears c)
+        (λ (x : HasCleared from.cache p.cache). cleared_grows d from.cache p.cache v x (inr c))
+        between.0.kept
+
+    turn_as : (finishes ends : Bool) → TellsTurn d finishes ends q p.at p.cache v →
+        ((told_of v ≡ turned_told down finishes ends false q p.at (told_of p.cache)) × (v.clears ≡ p.cache.clears)) ⊎
+        (since × (told_of v ≡ turned_told down finishes ends true q p.at (told_of p.cache)))
+    turn_as finishes ends t = ⊎_elim
+        (λ (e : (told_of v ≡ turned_told d.nfa.automaton.reverse finishes ends false q p.at (told_of p.cache)) × (v.clears ≡ p.cache.clears)).
+        inl (e.0 ∙ ap (λ (b : Bool). turned_told b finishes ends false q p.at (told_of p.cache)) (sym is), e.1))
+        (λ (c : HasCleared p.cache v × (told_of v ≡ turned_told d.nfa.automaton.reverse finishes ends true q p.at (told_of p.cache))).
+        inr (clears_now c.0, c.1 ∙ ap (λ (b : Bool). turned_told b finishes ends true q p.at (told_of p.cache)) (sym is)))
+        t
+
   module _ (v : CacheValue) (m n : ℕ) (next : Stand) (his : IsCacheOf d v) (t : TurnsInto d q p v m n next false) where
     pub goes_further : p.at ≢ last_place down q
     goes_further e = t.2 (e ∙ ap (λ (x : Bool). last_place x q) is)
@@ -122,6 +146,26 @@ module _ (d : Dfa) (q : Search) (down : Bool) (is : down ≡ d.nfa.automaton.rev
         (between_on d q.earliest q.haystack made bytes from p (point v m n (place_of d.nfa.automaton.reverse p.at 1) next.id (pair_of next.best)) (came down q p.at) 1 own mine row here
         between (t.0, one_stop))
 
+    -- the search goes on
+    pub under_on : (first : ℕ) → first ≡ first_place down q.start q.end → from.at ≡ first → (at : ℕ) → IsWithinSpan q at → left_at down q at ≤ left_at down q next.at →
+        IsUnder down q first from.cache p.cache (came down q p.at) → IsUnder down q first from.cache v (came down q at)
+    under_on first start same at w closer under tell =
+        going_later down (span_len q) first from.cache.searched (suc (came down q p.at)) (came down q at) (v.clears ≡ from.cache.clears) (since v) (told_of v) far
+        (going_on q down p.at (came down q p.at) first (p.cache.clears ≡ from.cache.clears) (v.clears ≡ p.cache.clears) (v.clears ≡ from.cache.clears) (since v) (λ a b. b ∙ a) (told_of from.cache) (told_of p.cache) (told_of v) within place_so start refl
+        (λ e. going_by down (span_len q) first from.cache.searched (came down q p.at) (p.cache.clears ≡ from.cache.clears) (HasCleared from.cache p.cache) (since v) (told_of p.cache) clears_on (under e)) tell goes_further (turn_as v false false t.5))
+      where
+        far : suc (came down q p.at) ≤ came down q at
+        far = let e = came_on down q p.at next.at at within goes_further next_there w closer in omega (arith, e)
+
+        place_so : p.at ≡ place_of down first (came down q p.at)
+        place_so = between.0.place ∙ (ap (λ (x : Bool). place_of x from.at (came down q p.at)) (sym is) ∙ ap (λ (i : ℕ). place_of down i (came down q p.at)) same)
+
+        clears_on : HasCleared from.cache p.cache → since v
+        clears_on c = ⊎_elim
+            (λ (f : Follows d q.haystack p (point v m n (place_of d.nfa.automaton.reverse p.at 1) next.id (pair_of next.best)) 1). cleared_grows d from.cache p.cache v c (inl f.grows))
+            (λ (x : HasCleared p.cache v). cleared_grows d from.cache p.cache v c (inr x))
+            t.0.kept
+
     pub stand_on : (i j : ℕ) (b : Option (ℕ × ℕ)) → IsWithinSpan q i → left_at down q i ≤ left_at down q next.at →
         GoesBetween d q.earliest q.haystack (point v m n next.at next.id (pair_of next.best)) (point v m n i j b) (left_at down q next.at - left_at down q i) →
         GoesBetween d q.earliest q.haystack from (point v m n i j b) (came down q i)
@@ -136,17 +180,11 @@ module _ (d : Dfa) (q : Search) (down : Bool) (is : down ≡ d.nfa.automaton.rev
     inside : came down q p.at ≤ span_len q
     inside = came_inside down q p.at within
 
-    pub ends_found : (b : Option HalfFound) → TurnsInto d q p v m n (record { at = p.at; id = p.id; best = b }) true → BeganFirst down q from.cache →
-        (tells down q ≡ false → p.cache ≡ from.cache) → RunsOn d q s from v m n (Ok b)
-    ends_found b x begun same =
-        runs_found d q made bytes s from p (came down q p.at) own mine held here none between inside v m n b x
-        (λ e. came_last down q p.at (e ∙ ap (λ (y : Bool). last_place y q) (sym is)))
-        (ap (λ (y : Bool). came y q p.at) is)
-        (subst (λ (y : Bool). BeganFirst y q from.cache) is begun)
-        (λ e. same (ap (λ (y : Bool). tells y q) is ∙ e))
+    module _ (begins : BeginsFirst down q from.cache) (same : tells down q ≡ false → p.cache ≡ from.cache) (start : from.at ≡ first_place down q.start q.end)
+        (under : IsUnder down q from.at from.cache p.cache (came down q p.at)) where
+      begun : BeganFirst down q from.cache
+      begun t = ap began (begins t)
 
-    -- how far it came that is refused
-    module _ (begun : BeganFirst down q from.cache) (same : tells down q ≡ false → p.cache ≡ from.cache) where
       abbrev back : Bool
       back = d.nfa.automaton.reverse
 
@@ -156,24 +194,30 @@ module _ (d : Dfa) (q : Search) (down : Bool) (is : down ≡ d.nfa.automaton.rev
       place : p.at ≡ place_of back from.at k
       place = between.0.place
 
-      left_so : (quits : Bool) → Follows d q.haystack from p k → told_of v ≡ turned_told back quits q p.at (told_of p.cache) →
-          LeftAt back quits (span_len q) from.at k (told_of from.cache) (told_of v)
-      left_so quits f e =
-          left_begun q back quits from.at k from.cache p.cache (told_of v) f.searched f.began (λ t. same (ap (λ (y : Bool). tells y q) is ∙ t))
-          (subst (λ (n : ℕ). LeftAt back quits (span_len q) from.at n (told_of p.cache) (told_of v)) (ap (λ (y : Bool). came y q p.at) (sym is))
-          (left_here q quits p.cache v p.at from.at within back (place ∙ ap (λ (y : Bool). place_of back from.at (came y q p.at)) is)
-          (λ t. f.began ∙ subst (λ (y : Bool). BeganFirst y q from.cache) is begun t) e))
+      abbrev clr : Type 0
+      clr = HasCleared from.cache v
 
-      left_in : (e : MatchErrorKind) → IsRefusedAt back (span_len q) from.at k e → Leaves d q.haystack p v m n 0 → TellsTurn d (is_quit_error e) q p.at p.cache v →
-          LeftIn d q s from.at e (told_of from.cache) (told_of v) ⊎ HasCleared from.cache v
-      left_in e refused leaves turn = ⊎_elim
-          (λ (f : Follows d q.haystack from p k). ⊎_elim
-          (λ (told : told_of v ≡ turned_told back (is_quit_error e) q p.at (told_of p.cache)).
-          inl (k, reads_this d q made bytes s from p k own mine held here none between inside, refused, left_so (is_quit_error e) f told))
-          (λ (c : HasCleared p.cache v). inr (subst (λ (n : ℕ). min (n + 1) greatest ≤ v.clears) f.grows.clears c))
-          turn)
-          (λ (c : HasCleared from.cache p.cache). inr (cleared_grows d from.cache p.cache v c leaves.kept))
-          between.0.kept
+      place_so : p.at ≡ place_of down from.at k
+      place_so = place ∙ ap (λ (b : Bool). place_of b from.at k) (sym is)
+
+      under_here : (HasCleared from.cache p.cache → clr) → tells down q ≡ true →
+          IsGoing down (span_len q) from.at from.cache.searched k (p.cache.clears ≡ from.cache.clears) clr (told_of p.cache)
+      under_here on t = going_by down (span_len q) from.at from.cache.searched k (p.cache.clears ≡ from.cache.clears) (HasCleared from.cache p.cache) clr (told_of p.cache) on (under t)
+
+      untold : tells down q ≡ false → (told_of p.cache ≡ told_of from.cache) × (p.cache.clears ≡ from.cache.clears)
+      untold t = (ap told_of (same t), ap (λ (c : CacheValue). c.clears) (same t))
+
+      left : (e : MatchErrorKind) → IsRefusedAt back (span_len q) from.at k e → Leaves d q.haystack p v m n 0 → TellsTurn d (is_quit_error e) false q p.at p.cache v →
+          IsRestTold d q s from.at (Err e) from.cache v
+      left e refused leaves turn = (
+        k,
+        reads_this d q made bytes s from p k own mine held here none between inside,
+        refused,
+        subst (λ (b : Bool). (LeftAt b (is_quit_error e) (span_len q) from.at k (told_of from.cache) (told_of v) × (v.clears ≡ from.cache.clears)) ⊎ (clr × RestFails b (is_quit_error e) q from.at k (told_of v))) is
+            (refused_so q down p.at k from.at (p.cache.clears ≡ from.cache.clears) (v.clears ≡ p.cache.clears) (v.clears ≡ from.cache.clears) clr (λ a b. b ∙ a) (told_of from.cache) (told_of p.cache) (told_of v) within place_so start refl
+            (under_here (λ c. cleared_grows d from.cache p.cache v c leaves.kept)) (begun_so q down from.at from.cache start begins) (is_quit_error e) untold
+            (turn_as v (is_quit_error e) false turn)),
+      )
 
       gave_up_place : (x : ℕ) → x ≡ gave_up_at back q p.at → x ≡ give_up_place back (span_len q) from.at k
       gave_up_place x e =
@@ -183,15 +227,34 @@ module _ (d : Dfa) (q : Search) (down : Bool) (is : down ≡ d.nfa.automaton.rev
 
       pub ends_error : (e : MatchErrorKind) → TurnsTo d q p v m n (Err e) → RunsOn d q s from v m n (Err e)
       ends_error (Quit b x) t = runs_quit d q made bytes s from p k own mine held here none between inside v m n t.0 b x t.1 t.2 t.3
-          (left_in (Quit b x) (t.3 ∙ ap (index_at back) place) t.0 t.4)
+          (left (Quit b x) (t.3 ∙ ap (index_at back) place) t.0 t.4)
       ends_error (GaveUp x) t =
           runs_gave_up d q made bytes s from p k own mine held here none between inside v m n t.0 x (gave_up_place x t.2) t.3
           (λ l. t.4 (λ e. let far = came_last down q p.at (e ∙ ap (λ (y : Bool). last_place y q) (sym is)) in omega (arith, l, far)))
-          (left_in (GaveUp x) (gave_up_place x t.2) t.0.leaves t.5)
-      ends_error NoMemory t = runs_no_memory d q made bytes s from p k own mine held here none between inside v m n t.0 (left_in NoMemory tt t.0.leaves t.1)
+          (left (GaveUp x) (gave_up_place x t.2) t.0.leaves t.5)
+      ends_error NoMemory t = runs_no_memory d q made bytes s from p k own mine held here none between inside v m n t.0 (left NoMemory tt t.0.leaves t.1)
       ends_error (HaystackTooLong len) t = absurd t
       ends_error (UnsupportedAnchored mode) t = absurd t
       ends_error NotAPair t = absurd t
+
+      -- a turn that ended the pass
+      end_keeps : (b : Option (ℕ × ℕ)) → EndsWith d q p v m n b → HasCleared from.cache p.cache → clr
+      end_keeps b x c = ⊎_elim
+          (λ (f : Follows d q.haystack (record p { cache = x.before }) (point x.behind m n (place_of back p.at 1) x.id b) 1).
+          subst (λ (y : ℕ). min (from.cache.clears + 1) greatest ≤ y) (sym (ap (λ (w : CacheValue). w.clears) x.ended ∙ (f.grows.clears ∙ ap (λ (w : CacheValue). w.clears) x.begun))) c)
+          (λ (y : HasCleared x.before x.behind). cleared_grows d from.cache p.cache v c (inr (cleared_between p.cache x.before x.behind v x.begun x.ended y)))
+          x.goes.kept
+
+      pub ends_found : (b : Option HalfFound) → TurnsInto d q p v m n (record { at = p.at; id = p.id; best = b }) true → RunsOn d q s from v m n (Ok b)
+      ends_found b x =
+          runs_found d q made bytes s from p k own mine held here none between inside v m n b x
+          (λ e. came_last down q p.at (e ∙ ap (λ (y : Bool). last_place y q) (sym is)))
+          (ap (λ (y : Bool). came y q p.at) is)
+          (subst (λ (y : Bool). BeganFirst y q from.cache) is begun)
+          (λ e. same (ap (λ (y : Bool). tells y q) is ∙ e))
+          (subst (λ (b : Bool). ((told_of v ≡ told_behind b (span_len q) (told_of from.cache) (suc k)) × (v.clears ≡ from.cache.clears)) ⊎ (clr × RestAnew b q (suc k) (told_of v))) is
+          (ends_told q down p.at k from.at (p.cache.clears ≡ from.cache.clears) (v.clears ≡ p.cache.clears) (v.clears ≡ from.cache.clears) clr (λ a b. b ∙ a) (told_of from.cache) (told_of p.cache) (told_of v) within place_so start refl
+          (under_here (end_keeps (pair_of b) x)) untold (turn_as v true true x.tells)))
 
 -- the next stand is in the span, and closer to its end
 module _ (d : Dfa) (q : Search) (down : Bool) (p : Point) (v : CacheValue) (m n : ℕ) (next : Stand) where

@@ -20,7 +20,7 @@ use Rattle.lazy_dfa.specs.PassLaws.{units_read, unit_of}
 use Rattle.lazy_dfa.specs.Points.{Point, Follows, IsFree, GoesTo, point}
 use Rattle.lazy_dfa.specs.Readers.{HalfAnswer, found, quit}
 use Rattle.lazy_dfa.specs.SearchAnswers.{half_of, pair_of, told, give_up_place, Told, told_of, pass_distance, running_at}
-use Rattle.lazy_dfa.specs.Stands.{last_place, came, tells, BeganFirst, told_behind, GoesBetween, EndsWith, LeftIn, RunsOn}
+use Rattle.lazy_dfa.specs.Stands.{last_place, came, tells, BeganFirst, told_behind, GoesBetween, EndsWith, RestAnew, IsRestTold, RunsOn}
 use Rattle.lazy_dfa.specs.Steps.{most_inserts}
 use Rattle.lazy_dfa.specs.Turns.{Leaves, FailsOn}
 use Rattle.lazy_dfa.proofs.CourseLemmas.{state_there, unit_there, not_dead}
@@ -135,13 +135,13 @@ half_back (Some m) = refl
 abbrev added : Bool → ℕ → ℕ → ℕ → Told
 added down n units searched = record { searched = min (searched + pass_distance down n units) greatest; progress = None }
 
-pub told_by_searched : (down : Bool) (n units : ℕ) (v w : CacheValue) → v.searched ≡ w.searched → (down && n == 0) ≡ false →
+told_by_searched : (down : Bool) (n units : ℕ) (v w : CacheValue) → v.searched ≡ w.searched → (down && n == 0) ≡ false →
     told_behind down n (told_of v) units ≡ told_behind down n (told_of w) units
 told_by_searched down n units v w e none =
     ap (λ (b : Bool). if b then told_of v else added down n units v.searched) none
     ∙ (ap (added down n units) e ∙ sym (ap (λ (b : Bool). if b then told_of w else added down n units w.searched) none))
 
-pub tells_some : (down : Bool) (q : Search) → tells down q ≡ true → (down && span_len q == 0) ≡ false
+tells_some : (down : Bool) (q : Search) → tells down q ≡ true → (down && span_len q == 0) ≡ false
 tells_some false q e = refl
 tells_some true q e = ⊎_elim
     (λ (l : q.end ≤ q.start). let never = sym (ap not (le-leb q.end q.start l)) ∙ e in absurd (true≢false (sym never)))
@@ -207,7 +207,7 @@ module _ (d : Dfa) (q : Search) (made : IsDfa d) (bytes : AreBytes q.haystack) (
 
   -- how far it came then
   abbrev Left : CacheValue → MatchErrorKind → Type 0
-  Left new e = LeftIn d q s from.at e (told_of from.cache) (told_of new) ⊎ HasCleared from.cache new
+  Left new e = IsRestTold d q s from.at (Err e) from.cache new
 
   module _ (new : CacheValue) (m n : ℕ) (x : Leaves d h p new m n 0) where
     pub kept_on : GrowsOrClears d from.cache new
@@ -243,7 +243,7 @@ module _ (d : Dfa) (q : Search) (made : IsDfa d) (bytes : AreBytes q.haystack) (
               (moved_trans from.cache p.cache new f.0.moved g.0, g.1 ∙ f.0.determinized, g.2 ∙ f.0.inserted, sym (ap told answered));
           determinized = few;
           inserted = few_names;
-          refused = left;
+          anew = left;
         }
 
   -- memory lacked, or the state behind the unit has no room
@@ -256,7 +256,7 @@ module _ (d : Dfa) (q : Search) (made : IsDfa d) (bytes : AreBytes q.haystack) (
       free = λ linked. absurd (x.unknown (free_here new m n x.leaves linked).1);
       determinized = few new m n x.leaves;
       inserted = few_names new m n x.leaves;
-      refused = left;
+      anew = left;
     }
 
     pub runs_gave_up : (y : ℕ) → y ≡ give_up_place d.nfa.automaton.reverse (span_len q) from.at k →
@@ -269,7 +269,7 @@ module _ (d : Dfa) (q : Search) (made : IsDfa d) (bytes : AreBytes q.haystack) (
       free = λ linked. absurd (x.unknown (free_here new m n x.leaves linked).1);
       determinized = few new m n x.leaves;
       inserted = few_names new m n x.leaves;
-      refused = left;
+      anew = left;
     }
 
   -- ---- with what was found
@@ -400,8 +400,12 @@ module _ (d : Dfa) (q : Search) (made : IsDfa d) (bytes : AreBytes q.haystack) (
         (λ (y : HasCleared p.cache new). inr (cleared_here y (inl f.grows)))
         (told_here f)
 
-    pub runs_found : RunsOn d q s from new m n (Ok b)
-    runs_found = record {
+    -- what was told at its end, whether the cache was cleared or not
+    abbrev Ended : ℕ → Type 0
+    Ended all = ((told_of new ≡ told_behind down (span_len q) (told_of from.cache) all) × (new.clears ≡ from.cache.clears)) ⊎ (HasCleared from.cache new × RestAnew down q all (told_of new))
+
+    pub runs_found : Ended (suc k) → RunsOn d q s from new m n (Ok b)
+    runs_found told = record {
       answer = inl answered;
       kept = grows_or_clears_trans d from.cache behind new made own kept_behind (inl (grows_moved d behind new moved));
       follows = followed goes.kept whole.kept;
@@ -410,5 +414,5 @@ module _ (d : Dfa) (q : Search) (made : IsDfa d) (bytes : AreBytes q.haystack) (
           (moved_trans from.cache behind new f.moved moved, f.determinized, f.inserted, answered);
       determinized = subst (λ (u : ℕ). m ≤ from.determinized + u) (sym units_are) whole.determinized;
       inserted = subst (λ (u : ℕ). n ≤ from.inserted + u * most_inserts d) (sym units_are) whole.inserted;
-      refused = tt;
+      anew = subst Ended (sym ended.1) told;
     }

@@ -10,13 +10,14 @@ use Rattle.search_types.specs.Inputs.{Search}
 use Rattle.search_types.specs.Modes.{is_anchored, is_supported}
 use Rattle.search_types.specs.Places.{counts}
 use Rattle.determinize_core.specs.States.{StateValue}
+use Rattle.lazy_dfa.specs.AnewTold.{IsToldSince}
 use Rattle.lazy_dfa.specs.Caches.{CacheValue, greatest, place_of, fits, is_refused, lacks_room}
 use Rattle.lazy_dfa.specs.ConfigValue.{clears_of, bytes_of}
 use Rattle.lazy_dfa.specs.Courses.{state_behind}
 use Rattle.lazy_dfa.specs.Dfas.{Dfa, IsDfa, reader, is_dead}
 use Rattle.lazy_dfa.specs.LeftTold.{LeavesTold}
 use Rattle.lazy_dfa.specs.Linked.{Grows, HasCleared, IsLinked, passes_on, passes_of}
-use Rattle.lazy_dfa.specs.MadePasses.{MakesSearch}
+use Rattle.lazy_dfa.specs.MadePasses.{IsSearchTold, MakesSearch}
 use Rattle.lazy_dfa.specs.PassLaws.{pass_len, splits}
 use Rattle.lazy_dfa.specs.Passes.{next_place, pass, first_value}
 use Rattle.lazy_dfa.specs.Readers.{Reader, found}
@@ -135,18 +136,23 @@ module _ (d : Dfa) (q : Search) (old new : CacheValue) (m1 m2 n1 n2 : ℕ) (resu
       (new.clears ≡ old.clears → old.clears < greatest → told_of new ≡ told_by (reader d) q (told_of old) (passes_of (reader d) q))
       (λ kept same less. (not_forgotten kept same less).2) made.follows
 
-  on_err : (x : Result (Option HalfFound) MatchErrorKind) (A B : MatchErrorKind → Type 0) → ((e : MatchErrorKind) → A e → B e) → IfErr x A → IfErr x B
-  on_err (Ok f) A B g a = tt
-  on_err (Err e) A B g a = g e a
-
   pub is_left_then : IfErr result (λ e. new.clears ≡ old.clears → old.clears < greatest → LeavesTold (reader d) q e (told_of old) (told_of new))
-  is_left_then = on_err result (λ e. LeavesTold (reader d) q e (told_of old) (told_of new) ⊎ HasCleared old new)
-      (λ e. new.clears ≡ old.clears → old.clears < greatest → LeavesTold (reader d) q e (told_of old) (told_of new)) left made.refused
+  is_left_then = left result made.anew
     where
-      left : (e : MatchErrorKind) → LeavesTold (reader d) q e (told_of old) (told_of new) ⊎ HasCleared old new → new.clears ≡ old.clears → old.clears < greatest →
-          LeavesTold (reader d) q e (told_of old) (told_of new)
-      left e (inl l) same less = l
-      left e (inr c) same less = absurd (not_cleared old new c same less)
+      left : (x : Result (Option HalfFound) MatchErrorKind) → IsSearchTold (reader d) q x old new →
+          IfErr x (λ e. new.clears ≡ old.clears → old.clears < greatest → LeavesTold (reader d) q e (told_of old) (told_of new))
+      left (Ok f) t = tt
+      left (Err e) (inl l) = λ same less. l.0
+      left (Err e) (inr c) = λ same less. absurd (not_cleared old new c.0 same less)
+
+  pub is_told_since : (new.clears ≡ old.clears → ⊥) → IsToldSince (reader d) q result (told_of new)
+  is_told_since other = since result made.anew
+    where
+      since : (x : Result (Option HalfFound) MatchErrorKind) → IsSearchTold (reader d) q x old new → IsToldSince (reader d) q x (told_of new)
+      since (Ok f) (inl same) = absurd (other same.1)
+      since (Ok f) (inr c) = c.1
+      since (Err e) (inl same) = absurd (other same.1)
+      since (Err e) (inr c) = c.1
 
 half_of_pair : (f : Option HalfFound) → f ≡ half_of (pair_of f)
 half_of_pair None = refl

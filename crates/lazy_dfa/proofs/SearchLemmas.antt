@@ -1,17 +1,19 @@
 -- What a half search has done when it has made so many of its passes.
 use Rattle.std.proofs.Common.{◌≡◌, ℕ, suc, ◌+◌, ◌*◌, ◌≤◌, min, List, [], ◌∷◌, ◌++◌, Option, refl, sym, ap, ◌∙◌, ◌⊎◌, inl, inr, subst, arith}
 use Rattle.std.specs.Prelude.{Result, Ok, Err, All}
+use Rattle.std.proofs.lemmas.List.{append_assoc}
 use Rattle.std.proofs.lemmas.List.Elements.{All-nil, All-cons, All-head, All-tail, All-push}
 use Rattle.search_types.specs.declared.match_error.MatchErrorKind.{MatchErrorKind}
 use Rattle.search_types.specs.declared.match_error.MatchErrorKind.TheVariants.{GaveUp, NoMemory}
 use Rattle.search_types.specs.Found.{HalfFound}
 use Rattle.search_types.specs.Inputs.{Search, with_span}
 use Rattle.search_types.specs.Places.{counts}
+use Rattle.lazy_dfa.specs.AnewTold.{TellsAnew, ToldSince, fails_later, fails_there}
 use Rattle.lazy_dfa.specs.Caches.{CacheValue, IsCacheOf, greatest}
 use Rattle.lazy_dfa.specs.Dfas.{Dfa, IsDfa, reader}
-use Rattle.lazy_dfa.specs.LeftTold.{LeavesPass, LeavesTold}
+use Rattle.lazy_dfa.specs.LeftTold.{LeavesPass}
 use Rattle.lazy_dfa.specs.Linked.{IsLinkedPass, AreLinked, Grows, HasCleared, GrowsOrClears, IsMoved, passes_of}
-use Rattle.lazy_dfa.specs.MadePasses.{MakesPass, MakesSearch}
+use Rattle.lazy_dfa.specs.MadePasses.{IsPassTold, IsSearchTold, MakesPass, MakesSearch}
 use Rattle.lazy_dfa.specs.PassLaws.{pass_len}
 use Rattle.lazy_dfa.specs.Readers.{Reader}
 use Rattle.lazy_dfa.specs.Scans.{scan}
@@ -64,6 +66,7 @@ pub record HasMade (d : Dfa) (q : Search) (old now : CacheValue) (m1 m2 n1 n2 : 
   pub free : AreLinked d old q ps → IsMoved old now × (m2 ≡ m1) × (n2 ≡ n1)
   pub determinized : m2 ≤ m1 + made_by (reader d) q ps
   pub inserted : n2 ≤ n1 + made_by (reader d) q ps * most_inserts d
+  pub anew : ((told_of now ≡ told_by (reader d) q (told_of old) ps) × (now.clears ≡ old.clears)) ⊎ (HasCleared old now × ToldSince (reader d) q ps (told_of now))
 
 -- what is left to search behind these passes
 pub record IsLeft (r : Reader) (q t : Search) (ps : List (ℕ × ℕ)) : Type 0 where
@@ -85,6 +88,7 @@ begins d q t v m n is = record {
     free = λ linked. (moved_refl v, refl, refl);
     determinized = omega arith;
     inserted = omega arith;
+    anew = inl (refl, refl);
   };
   left = record { same = is ∙ ap (λ (x : Search). with_span x.start x.end q) (sym is); scan = ap (scan (reader d)) is; passes = ap (passes_of (reader d)) is };
 }
@@ -151,12 +155,46 @@ module _ (d : Dfa) (q : Search) (old now next : CacheValue) (m1 m2 m3 n1 n2 n3 :
   one_kept (inl b) = inl (b.0, All-cons (IsKnownPass next) p [] b.1 (All-nil (IsKnownPass next)), b.2)
   one_kept (inr c) = inr c
 
+  -- how far the search came where the cache was cleared
+  abbrev IsTold : CacheValue → List (ℕ × ℕ) → Type 0
+  IsTold v os = ((told_of v ≡ told_by r q (told_of old) os) × (v.clears ≡ old.clears)) ⊎ (HasCleared old v × ToldSince r q os (told_of v))
+
+  cleared_before : HasCleared old now → GrowsOrClears d now next → HasCleared old next
+  cleared_before c kept = cleared_grows d old now next c kept
+
+  cleared_now : HasKept old now ps → HasCleared now next → HasCleared old next
+  cleared_now (inl a) c = cleared_later d old now next a.0 c
+  cleared_now (inr a) c = cleared_grows d old now next a (inr c)
+
+  since_before : ToldSince r q ps (told_of now) → told_of next ≡ told_by_pass r q.anchored q.earliest q.haystack (told_of now) p → ToldSince r q (ps ++ p ∷ []) (told_of next)
+  since_before t e = record {
+    done = t.done;
+    cut = t.cut;
+    behind = t.behind ++ p ∷ [];
+    all = ap (λ (os : List (ℕ × ℕ)). os ++ p ∷ []) t.all ∙ append_assoc t.done (t.cut ∷ t.behind) (p ∷ []);
+    first = t.first;
+    anew = t.anew;
+    told = e ∙ (ap (λ (u : Told). told_by_pass r q.anchored q.earliest q.haystack u p) t.told ∙ sym (told_join r q t.first t.behind p));
+  }
+
+  since_now : TellsAnew r q.anchored q.earliest q.haystack p (told_of next) → ToldSince r q (ps ++ p ∷ []) (told_of next)
+  since_now t = record { done = ps; cut = p; behind = []; all = refl; first = told_of next; anew = t; told = refl }
+
+  anew_one : (f : Option HalfFound) → Pass (Ok f) → IsTold now ps → IsPassTold r q.anchored q.earliest q.haystack p (Ok f) now next → IsTold next (ps ++ p ∷ [])
+  anew_one f pass (inl a) (inl b) = inl (
+    b.0 ∙ (ap (λ (t : Told). told_by_pass r q.anchored q.earliest q.haystack t p) a.0 ∙ sym (told_join r q (told_of old) ps p)),
+    b.1 ∙ a.1,
+  )
+  anew_one f pass (inr c) (inl b) = inr (cleared_before c.0 pass.kept, since_before c.1 b.0)
+  anew_one f pass a (inr c) = inr (cleared_now made.kept c.0, since_now c.1)
+
   pub makes_one : (f : Option HalfFound) → Pass (Ok f) → HasMade d q old next m1 m3 n1 n3 (ps ++ p ∷ [])
   makes_one f pass = record {
     kept = kept_one made.kept (one_kept pass.follows);
     free = λ linked. let free = free_one (Ok f) [] pass linked in (free.0, free.1, free.2);
     determinized = few_made (Ok f) [] pass;
     inserted = few_inserted (Ok f) [] pass;
+    anew = anew_one f pass made.anew pass.anew;
   }
 
   module _ (fits : s ≤ e) (tail : List (ℕ × ℕ)) (all : ps ++ p ∷ tail ≡ passes_of r q) (same : scan r rest ≡ scan r q) (x : MatchErrorKind) where
@@ -170,21 +208,19 @@ module _ (d : Dfa) (q : Search) (old now next : CacheValue) (m1 m2 m3 n1 n2 n3 :
     answered (inr (inr g)) =
         inr (inr (g.0, g.1, subst (λ (os : List (ℕ × ℕ)). GivesUpAmong d next q g.0 os) all (gave_up_among d next q g.0 ps tail p g.2)))
 
-    -- how far the search came
-    abbrev Leaves : Type 0
-    Leaves = LeavesTold r q x (told_of old) (told_of next) ⊎ HasCleared old next
-
-    left_here : GrowsOrClears d now next → HasKept old now ps →
-        LeavesPass r q.anchored q.earliest q.haystack p x (told_of now) (told_of next) ⊎ HasCleared now next → Leaves
-    left_here kept (inl a) (inl l) = inl (record {
-      done = ps;
-      refused = p;
-      behind = tail;
-      all = sym all;
-      left = subst (λ (t : Told). LeavesPass r q.anchored q.earliest q.haystack p x t (told_of next)) a.2 l;
-    })
-    left_here kept (inl a) (inr c) = inr (cleared_later d old now next a.0 c)
-    left_here kept (inr c) left = inr (cleared_grows d old now next c kept)
+    fails_anew : Pass (Err x) → IsTold now ps → IsPassTold r q.anchored q.earliest q.haystack p (Err x) now next → IsSearchTold r q (Err x) old next
+    fails_anew pass (inl a) (inl l) = inl (
+      record {
+        done = ps;
+        refused = p;
+        behind = tail;
+        all = sym all;
+        left = subst (λ (t : Told). LeavesPass r q.anchored q.earliest q.haystack p x t (told_of next)) a.0 l.0;
+      },
+      l.1 ∙ a.1,
+    )
+    fails_anew pass (inr c) (inl l) = inr (cleared_before c.0 pass.kept, fails_later ps tail p (told_of now) (sym all) c.1 l.0)
+    fails_anew pass a (inr c) = inr (cleared_now made.kept c.0, fails_there ps tail p (sym all) c.1)
 
     pub fails_here : Pass (Err x) → MakesSearch d q old next m1 m3 n1 n3 (Err x)
     fails_here pass = record {
@@ -195,7 +231,7 @@ module _ (d : Dfa) (q : Search) (old now next : CacheValue) (m1 m2 m3 n1 n2 n3 :
           (free.0, free.1, free.2, told_whole free.3);
       determinized = subst (λ (os : List (ℕ × ℕ)). m3 ≤ m1 + made_by r q os) all (few_made (Err x) tail pass);
       inserted = subst (λ (os : List (ℕ × ℕ)). n3 ≤ n1 + made_by r q os * most_inserts d) all (few_inserted (Err x) tail pass);
-      refused = left_here pass.kept made.kept pass.refused;
+      anew = fails_anew pass made.anew pass.anew;
     }
 
 -- all passes were made
@@ -213,7 +249,7 @@ module _ (d : Dfa) (q : Search) (old now : CacheValue) (m1 m2 n1 n2 : ℕ) (f : 
     free = λ linked. let free = made.free linked in (free.0, free.1, free.2, told_is);
     determinized = made.determinized;
     inserted = made.inserted;
-    refused = tt;
+    anew = made.anew;
   }
 
   pub finishes : (ps : List (ℕ × ℕ)) → ps ≡ passes_of (reader d) q → HasMade d q old now m1 m2 n1 n2 ps → MakesSearch d q old now m1 m2 n1 n2 (Ok f)

@@ -12,6 +12,7 @@ use Rattle.determinize_core.specs.Steps.{unit_at}
 use Rattle.search_types.specs.declared.match_error.MatchErrorKind.{MatchErrorKind}
 use Rattle.search_types.specs.declared.match_error.MatchErrorKind.TheVariants.{Quit}
 use Rattle.search_types.specs.Inputs.{Search}
+use Rattle.lazy_dfa.specs.AnewTold.{told_anew, anew_if}
 use Rattle.lazy_dfa.specs.Caches.{CacheValue, IsRow, HeldAt, greatest, distance, progress_len, moved_to}
 use Rattle.lazy_dfa.specs.Courses.{state_behind, stops_behind}
 use Rattle.lazy_dfa.specs.declared.cache_error.CacheError.{CacheError}
@@ -171,22 +172,22 @@ some_bytes n l = ⊎_elim
 no_bytes : (n : ℕ) → n ≡ 0 → n == 0 ≡ true
 no_bytes n e = ap (λ (k : ℕ). k == 0) e
 
-told_behind_some : (down : Bool) (n units x : ℕ) (t : Told) → 0 < n → x ≡ pass_distance down n units → told_end t.searched x ≡ told_behind down n t units
+pub told_behind_some : (down : Bool) (n units x : ℕ) (t : Told) → 0 < n → x ≡ pass_distance down n units → told_end t.searched x ≡ told_behind down n t units
 told_behind_some false n units x t l e = ap (told_end t.searched) e
 told_behind_some true n units x t l e =
     ap (told_end t.searched) e
     ∙ sym (ap (λ (b : Bool). if b then t else told_end t.searched (pass_distance true n units)) (some_bytes n l))
 
-told_behind_none : (n units : ℕ) (t : Told) → n ≡ 0 → t ≡ told_behind true n t units
+pub told_behind_none : (n units : ℕ) (t : Told) → n ≡ 0 → t ≡ told_behind true n t units
 told_behind_none n units t e = sym (ap (λ (b : Bool). if b then t else told_end t.searched (pass_distance true n units)) (no_bytes n e))
 
-not_le : (a b : ℕ) → b < a → not (nat_le a b) ≡ true
+pub not_le : (a b : ℕ) → b < a → not (nat_le a b) ≡ true
 not_le a b l = ⊎_elim
     (λ (e : nat_le a b ≡ true). let g = le_of a b e in absurd (omega (arith, g, l)))
     (λ (e : nat_le a b ≡ false). ap not e)
     (cases_Bool (nat_le a b))
 
-is_le : (a b : ℕ) → a ≤ b → not (nat_le a b) ≡ false
+pub is_le : (a b : ℕ) → a ≤ b → not (nat_le a b) ≡ false
 is_le a b l = ⊎_elim
     (λ (e : nat_le a b ≡ true). ap not e)
     (λ (e : nat_le a b ≡ false). let g = lt_of a b e in absurd (omega (arith, g, l)))
@@ -212,17 +213,23 @@ above s at l n = ⊎_elim (λ (g : s < at). g) (λ (g : at ≤ s). absurd (n (om
 above_end : (at e : ℕ) → at ≤ e → at ≢ e → at < e
 above_end at e l n = ⊎_elim (λ (g : at < e). g) (λ (g : e ≤ at). absurd (n (omega (arith, l, g)))) (cases_lt at e)
 
-cleared_between : (v0 v1 v2 v3 : CacheValue) → IsMoved v0 v1 → IsMoved v2 v3 → HasCleared v1 v2 → HasCleared v0 v3
+pub cleared_between : (v0 v1 v2 v3 : CacheValue) → IsMoved v0 v1 → IsMoved v2 v3 → HasCleared v1 v2 → HasCleared v0 v3
 cleared_between v0 v1 v2 v3 e f c =
     subst (λ (n : ℕ). min (n + 1) greatest ≤ v3.clears) (moved_clears v0 v1 e)
     (subst (λ (n : ℕ). min (v1.clears + 1) greatest ≤ n) (sym (moved_clears v2 v3 f)) c)
+
+abbrev IsSame : CacheValue → CacheValue → Type 0
+IsSame old new = (told_of new ≡ told_of old) × (new.clears ≡ old.clears)
+
+abbrev IsAnew : CacheValue → CacheValue → Type 0
+IsAnew old new = HasCleared old new × (told_of new ≡ told_anew (told_of old))
 
 abbrev TellsEnd : Bool → Search → ℕ → CacheValue → CacheValue → Type 0
 TellsEnd down q at old new = (told_of new ≡ told_behind down (span_len q) (told_of old) (suc (came down q at))) ⊎ HasCleared old new
 
 -- ---- what a turn by a byte tells
 
-pub byte_end_told : (down : Bool) (q : Search) (v v2 : CacheValue) (at : ℕ) → IsWithinSpan q at → at ≢ last_place down q → v2.searched ≡ v.searched →
+byte_end_told : (down : Bool) (q : Search) (v v2 : CacheValue) (at : ℕ) → IsWithinSpan q at → at ≢ last_place down q → v2.searched ≡ v.searched →
     (tells down q ≡ true → began v2.progress ≡ Some (first_index down q)) →
     told_of (finished (index_at down at) v2) ≡ told_behind down (span_len q) (told_of v) (suc (came down q at))
 byte_end_told false q v v2 at within left searched begins =
@@ -236,15 +243,15 @@ byte_end_told true q v v2 at within left searched begins =
 byte_told : (down : Bool) (q : Search) (v0 v1 v2 v3 : CacheValue) (at index : ℕ) → index ≡ index_at down at → v1 ≡ record v0 { progress = moved_to index v0.progress } →
     v3 ≡ finished index v2 → IsWithinSpan q at → at ≢ last_place down q → TellsTheSame v1 v2 → BeganFirst down q v0 → TellsEnd down q at v0 v3
 byte_told down q v0 v1 v2 v3 at index here e f within left same begins = ⊎_elim
-    (λ (g : told_of v2 ≡ told_of v1). inl (ap told_of f ∙ (ap (λ (x : ℕ). told_of (finished x v2)) here
-    ∙ byte_end_told down q v0 v2 at within left (ap (λ (t : Told). t.searched) g ∙ ap (λ (c : CacheValue). c.searched) e)
-    (λ tells. ap (λ (t : Told). began t.progress) g ∙ (ap (λ (c : CacheValue). began c.progress) e ∙ (began_moved index v0.progress ∙ begins tells))))))
-    (λ (c : HasCleared v1 v2). inr (cleared_between v0 v1 v2 v3 (moved_is v0 v1 index e) (finished_moves v2 v3 index f) c))
+    (λ (g : IsSame v1 v2). inl (ap told_of f ∙ (ap (λ (x : ℕ). told_of (finished x v2)) here
+    ∙ byte_end_told down q v0 v2 at within left (ap (λ (t : Told). t.searched) g.0 ∙ ap (λ (c : CacheValue). c.searched) e)
+    (λ tells. ap (λ (t : Told). began t.progress) g.0 ∙ (ap (λ (c : CacheValue). began c.progress) e ∙ (began_moved index v0.progress ∙ begins tells))))))
+    (λ (c : IsAnew v1 v2). inr (cleared_between v0 v1 v2 v3 (moved_is v0 v1 index e) (finished_moves v2 v3 index f) c.0))
     same
 
 -- ---- what the last turn tells
 
-pub last_told_same : (down : Bool) (q : Search) (v0 v1 v2 v3 : CacheValue) (at : ℕ) → v1 ≡ finished_where (down && tells down q) at v0 → v3 ≡ finished_where (not down) at v2 →
+last_told_same : (down : Bool) (q : Search) (v0 v1 v2 v3 : CacheValue) (at : ℕ) → v1 ≡ finished_where (down && tells down q) at v0 → v3 ≡ finished_where (not down) at v2 →
     at ≡ last_place down q → q.start ≤ q.end → told_of v2 ≡ told_of v1 → BeganFirst down q v0 →
     told_of v3 ≡ told_behind down (span_len q) (told_of v0) (suc (came down q at))
 last_told_same false q v0 v1 v2 v3 at e f last begun g begins =
@@ -267,8 +274,8 @@ last_told_same true q v0 v1 v2 v3 at e f last begun g begins = ap told_of f ∙ 
 last_told : (down : Bool) (q : Search) (v0 v1 v2 v3 : CacheValue) (at : ℕ) → v1 ≡ finished_where (down && tells down q) at v0 → v3 ≡ finished_where (not down) at v2 →
     at ≡ last_place down q → q.start ≤ q.end → TellsTheSame v1 v2 → BeganFirst down q v0 → TellsEnd down q at v0 v3
 last_told down q v0 v1 v2 v3 at e f last begun same begins = ⊎_elim
-    (λ (g : told_of v2 ≡ told_of v1). inl (last_told_same down q v0 v1 v2 v3 at e f last begun g begins))
-    (λ (c : HasCleared v1 v2). inr (cleared_between v0 v1 v2 v3 (finished_where_moves v0 v1 at (down && tells down q) e) (finished_where_moves v2 v3 at (not down) f) c))
+    (λ (g : IsSame v1 v2). inl (last_told_same down q v0 v1 v2 v3 at e f last begun g.0 begins))
+    (λ (c : IsAnew v1 v2). inr (cleared_between v0 v1 v2 v3 (finished_where_moves v0 v1 at (down && tells down q) e) (finished_where_moves v2 v3 at (not down) f) c.0))
     same
 
 -- ---- the unit at a place
@@ -318,30 +325,33 @@ module _ (d : Dfa) (q : Search) (down : Bool) (same : down ≡ d.nfa.automaton.r
       (λ (f : at == last_place d.nfa.automaton.reverse q ≡ false). gave_up false place f (index_there place e))
       (cases_Bool (at == last_place d.nfa.automaton.reverse q))
 
-  tells_turn : (quits : Bool) (v3 : CacheValue) → IsMoved v0 v1 → IsMoved v2 v3 → (told_of v2 ≡ told_of v1 → told_of v3 ≡ turned_told d.nfa.automaton.reverse quits q at (told_of v0)) →
-      TellsTheSame v1 v2 → TellsTurn d quits q at v0 v3
-  tells_turn quits v3 moved after told same = ⊎_elim
-      (λ (g : told_of v2 ≡ told_of v1). inl (told g))
-      (λ (c : HasCleared v1 v2). inr (cleared_between v0 v1 v2 v3 moved after c))
+  -- what a turn tells, by what was told before its step
+  abbrev Turned : Bool → Bool → CacheValue → Type 0
+  Turned finishes ends v3 = (cleared : Bool) → told_of v2 ≡ anew_if cleared (told_of v1) → told_of v3 ≡ turned_told d.nfa.automaton.reverse finishes ends cleared q at (told_of v0)
+
+  tells_turn : (finishes ends : Bool) (v3 : CacheValue) → IsMoved v0 v1 → IsMoved v2 v3 → Turned finishes ends v3 → TellsTheSame v1 v2 → TellsTurn d finishes ends q at v0 v3
+  tells_turn finishes ends v3 moved after told same = ⊎_elim
+      (λ (g : IsSame v1 v2). inl (told false g.0, moved_clears v2 v3 after ∙ (g.1 ∙ moved_clears v0 v1 moved)))
+      (λ (c : IsAnew v1 v2). inr (cleared_between v0 v1 v2 v3 moved after c.0, told true c.1))
       same
 
   refused_so : (earliest : Bool) (place : ℕ) (e : CacheError) → IsMoved v0 v1 → u ≡ unit_at d.nfa.automaton.reverse q.haystack at → place ≡ gave_up_at d.nfa.automaton.reverse q at →
-      (at ≢ last_place d.nfa.automaton.reverse q → running_at v1.progress ≡ Some place) → told_of v1 ≡ turned_told d.nfa.automaton.reverse false q at (told_of v0) →
+      (at ≢ last_place d.nfa.automaton.reverse q → running_at v1.progress ≡ Some place) → Turned false false v2 →
       IsTurn d earliest q.haystack u before v2 m2 n2 (Err e) → TurnsTo d q from v2 m2 n2 (Err (error_of place e))
   refused_so earliest place NoMemory moved is there runs tells turn =
-      (fails_back d v0 v1 moved q.haystack m1 n1 at id best v2 m2 n2 0 turn.0, tells_turn false v2 moved (moved_refl v2) (λ g. g ∙ tells) turn.2)
+      (fails_back d v0 v1 moved q.haystack m1 n1 at id best v2 m2 n2 0 turn.0, tells_turn false false v2 moved (moved_refl v2) tells turn.2)
   refused_so earliest place GaveUp moved is there runs tells turn = (
     fails_back d v0 v1 moved q.haystack m1 n1 at id best v2 m2 n2 0 turn.0,
     ap (is_quit d.quits) (sym is) ∙ turn.1,
     there,
     λ s held. turn.2 s (held_moved v0 v1 id s moved held),
     λ far. ap (λ (v : CacheValue). running_at v.progress) turn.3 ∙ runs far,
-    inl (ap told_of turn.3 ∙ tells),
+    inl (tells false (ap told_of turn.3), ap (λ (v : CacheValue). v.clears) turn.3 ∙ moved_clears v0 v1 moved),
   )
 
   -- a turn that was refused
   pub turn_refused : (earliest : Bool) (place : ℕ) (e : CacheError) (err : MatchErrorKind) → IsMoved v0 v1 → u ≡ unit_at d.nfa.automaton.reverse q.haystack at →
-      place ≡ gave_up_at d.nfa.automaton.reverse q at → (at ≢ last_place d.nfa.automaton.reverse q → running_at v1.progress ≡ Some place) → told_of v1 ≡ turned_told d.nfa.automaton.reverse false q at (told_of v0) →
+      place ≡ gave_up_at d.nfa.automaton.reverse q at → (at ≢ last_place d.nfa.automaton.reverse q → running_at v1.progress ≡ Some place) → Turned false false v2 →
       err ≡ error_of place e → IsTurn d earliest q.haystack u before v2 m2 n2 (Err e) → TurnsTo d q from v2 m2 n2 (Err err)
   turn_refused earliest place e err moved is there runs tells told turn =
       subst (λ (x : MatchErrorKind). TurnsTo d q from v2 m2 n2 (Err x)) (sym told) (refused_so earliest place e moved is there runs tells turn)
@@ -358,7 +368,7 @@ module _ (d : Dfa) (q : Search) (down : Bool) (same : down ≡ d.nfa.automaton.r
 
     -- by a quit byte
     pub turn_quits : (v3 : CacheValue) (b index : ℕ) (err : MatchErrorKind) → IsMoved v0 v1 → IsMoved v2 v3 → u ≡ unit_at d.nfa.automaton.reverse q.haystack at → u ≡ Some b →
-        index ≡ index_at down at → err ≡ Quit b index → (told_of v2 ≡ told_of v1 → told_of v3 ≡ turned_told d.nfa.automaton.reverse true q at (told_of v0)) →
+        index ≡ index_at down at → err ≡ Quit b index → Turned true false v3 →
         turn ≡ Quits → TurnsTo d q from v3 m2 n2 (Err err)
     turn_quits v3 b index err moved after is some here told tells e =
         let x = seen_as Quits e in
@@ -368,7 +378,7 @@ module _ (d : Dfa) (q : Search) (down : Bool) (same : down ≡ d.nfa.automaton.r
           sym is ∙ some,
           ap (has d.quits) (sym byte) ∙ x.2.2,
           index_there index here,
-          tells_turn true v3 moved after tells x.3,
+          tells_turn true false v3 moved after tells x.3,
         )
       where
         one_byte : (a b : ℕ) → Some a ≡ Some b → a ≡ b
@@ -384,10 +394,10 @@ module _ (d : Dfa) (q : Search) (down : Bool) (same : down ≡ d.nfa.automaton.r
     some_unless r never = (goes_unless turn never (seen_as turn refl)).0.running r
 
     -- by a byte, from which it goes on
-    pub byte_goes : (index next : ℕ) → v1 ≡ record v0 { progress = moved_to index v0.progress } → next ≡ place_of down at 1 → at ≢ last_place down q → turn ≡ GoesOn →
+    pub byte_goes : (index next : ℕ) → v1 ≡ record v0 { progress = moved_to index v0.progress } → next ≡ place_of down at 1 → at ≢ last_place down q → Turned false false v2 → turn ≡ GoesOn →
         GoesOne d q.haystack from v2 m2 n2 to best2 × (next ≡ place_of d.nfa.automaton.reverse at 1) × (at ≢ last_place d.nfa.automaton.reverse q) × IsRow v2 to ×
-        ((s : StateValue) → HeldAt v0 id s → stops_behind (reader d) q.earliest q.haystack at s 0 ≡ false)
-    byte_goes index next moved place left e =
+        ((s : StateValue) → HeldAt v0 id s → stops_behind (reader d) q.earliest q.haystack at s 0 ≡ false) × TellsTurn d false false q at v0 v2
+    byte_goes index next moved place left tells e =
         let x = seen_as GoesOn e in
         let m = moved_is v0 v1 index moved in (
           goes_back d v0 v1 m q.haystack m1 n1 at id best (point v2 m2 n2 (place_of d.nfa.automaton.reverse at 1) to best2) 1 (ap (λ (c : CacheValue). c.searched) moved)
@@ -396,12 +406,13 @@ module _ (d : Dfa) (q : Search) (down : Bool) (same : down ≡ d.nfa.automaton.r
           (λ z. left (z ∙ ap (λ (b : Bool). last_place b q) (sym same))),
           x.2,
           λ s held. x.3 s (held_moved v0 v1 id s m held),
+          tells_turn false false v2 m (moved_refl v2) tells x.1,
         )
 
     -- by a byte, with which it ends
     pub byte_ends : (v3 : CacheValue) (index : ℕ) → index ≡ index_at down at → v1 ≡ record v0 { progress = moved_to index v0.progress } → v3 ≡ finished index v2 →
-        IsWithinSpan q at → at ≢ last_place down q → turn ≡ Ends → EndsWith d q from v3 m2 n2 best2
-    byte_ends v3 index here moved f within left e =
+        IsWithinSpan q at → at ≢ last_place down q → Turned true true v3 → turn ≡ Ends → EndsWith d q from v3 m2 n2 best2
+    byte_ends v3 index here moved f within left tells e =
         let x = seen_as Ends e in
         let m = moved_is v0 v1 index moved in
         record {
@@ -414,12 +425,13 @@ module _ (d : Dfa) (q : Search) (down : Bool) (same : down ≡ d.nfa.automaton.r
           told = subst (λ (b : Bool). BeganFirst b q v0 → TellsEnd b q at v0 v3) same (byte_told down q v0 v1 v2 v3 at index here moved f within left x.1);
           why = λ s held. ⊎_elim (λ (y : stops_behind (reader d) q.earliest q.haystack at s 0 ≡ true). inl y)
               (λ (y : is_dead (state_behind (reader d) q.haystack at s 1) ≡ true). inr (inl y)) (x.2 s (held_moved v0 v1 id s m held));
+          tells = tells_turn true true v3 m (finished_moves v2 v3 index f) tells x.1;
         }
 
     -- at the last place
     pub last_ends : (v3 : CacheValue) → v1 ≡ finished_where (down && tells down q) at v0 → v3 ≡ finished_where (not down) at v2 → at ≡ last_place down q → q.start ≤ q.end →
-        (turn ≡ Quits → ⊥) → EndsWith d q from v3 m2 n2 best2
-    last_ends v3 e f last begun never =
+        Turned true true v3 → (turn ≡ Quits → ⊥) → EndsWith d q from v3 m2 n2 best2
+    last_ends v3 e f last begun turned never =
         let x = goes_unless turn never (seen_as turn refl) in
         record {
           before = v1;
@@ -430,4 +442,5 @@ module _ (d : Dfa) (q : Search) (down : Bool) (same : down ≡ d.nfa.automaton.r
           ended = finished_where_moves v2 v3 at (not down) f;
           told = subst (λ (b : Bool). BeganFirst b q v0 → TellsEnd b q at v0 v3) same (last_told down q v0 v1 v2 v3 at e f last begun x.1);
           why = λ s held. inr (inr (last ∙ ap (λ (b : Bool). last_place b q) same));
+          tells = tells_turn true true v3 (finished_where_moves v0 v1 at (down && tells down q) e) (finished_where_moves v2 v3 at (not down) f) turned x.1;
         }

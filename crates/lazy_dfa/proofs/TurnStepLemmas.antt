@@ -212,8 +212,8 @@ module _ (d : Dfa) (h : List ℕ) (old : CacheValue) (at id m1 n1 : ℕ) (u : Op
 
     tells_same : TellsTheSame old new
     tells_same = ⊎_elim
-        (λ (g : Grew d old new). inl (told_same g.searched g.progress))
-        (λ (w : WasCleared old new 2). inr (has_cleared old new 2 w))
+        (λ (g : Grew d old new). inl (told_same g.searched g.progress, g.clears))
+        (λ (w : WasCleared old new 2). inr (has_cleared old new 2 w, λ i. record { searched = w.searched i; progress = w.progress i }))
         step.kept
       where
         told_same : new.searched ≡ old.searched → new.progress ≡ old.progress → told_of new ≡ told_of old

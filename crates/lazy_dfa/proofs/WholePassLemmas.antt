@@ -1,6 +1,6 @@
 -- A whole pass: its start, and what comes of it behind that.
 use Rattle.std.proofs.Common.{◌≡◌, ◌≢◌, ◌⊎◌, ℕ, suc, ◌+◌, ◌-◌, ◌*◌, ◌/◌, ◌%◌, ◌<◌, ◌≤◌, ◌==◌, ◌&&◌, not, Bool, true, false, List, Option, Some, None, Result, Ok, Err, if◌then◌else◌, refl, sym, ap, ◌∙◌, subst, inl, inr, ⊎_elim, arith, true≢false}
-use Rattle.std.specs.Prelude.{min, nat_le, OnOk, IfErr}
+use Rattle.std.specs.Prelude.{min, nat_le, OnOk}
 use Rattle.std.proofs.lemmas.Bool.{cases_Bool, cases_lt, eqb-true}
 use Rattle.std.proofs.lemmas.Bool.Decides.{leb_tells}
 use Rattle.std.proofs.Math.Nat.{min-eq_left, min-eq_right, suc-mul}
@@ -13,6 +13,7 @@ use Rattle.search_types.specs.Modes.{is_supported}
 use Rattle.determinize_core.specs.States.{StateValue, dead}
 use Rattle.determinize_core.specs.Starts.{StartValue}
 use Rattle.determinize_core.specs.Steps.{unit_behind}
+use Rattle.lazy_dfa.specs.AnewTold.{IsFresh, cut_told, TellsAnew, cleared_first, cleared_inside, FailsAnew, fails_first, fails_inside}
 use Rattle.lazy_dfa.specs.Caches.{CacheValue, IsShaped, IsCacheOf, HeldAt, Names, names_dead, names_held, greatest, progress_len, lacks_room}
 use Rattle.lazy_dfa.specs.ConfigValue.{starts_each_of}
 use Rattle.lazy_dfa.specs.Courses.{state_behind}
@@ -20,10 +21,10 @@ use Rattle.lazy_dfa.specs.declared.start_error.StartError.{StartError}
 use Rattle.lazy_dfa.specs.declared.start_error.StartError.TheVariants.{Cache, Quit, UnsupportedAnchored, NoMemory}
 use Rattle.lazy_dfa.specs.Dfas.{Dfa, IsDfa, reader, start_in}
 use Rattle.lazy_dfa.specs.Ids.{unknown_id, dead_id, has_tag, dead_tag}
-use Rattle.lazy_dfa.specs.LeftTold.{told_from, LeftAt, is_quit_error, IsRefusedFirst, LeavesPass, left_first, left_at_unit}
+use Rattle.lazy_dfa.specs.LeftTold.{told_from, LeftAt, is_quit_error, IsRefusedFirst, IsRefusedAt, LeavesPass, left_first, left_at_unit}
 use Rattle.lazy_dfa.specs.Linked.{IsLinkedOver, start_from, IsLinkedPass, Grows, HasCleared, GrowsOrClears, IsMoved}
-use Rattle.lazy_dfa.specs.MadePasses.{span_len, MakesPass}
-use Rattle.lazy_dfa.specs.Passes.{is_dead, index_behind, if_supported, start_name, first_value, pass, pass_from}
+use Rattle.lazy_dfa.specs.MadePasses.{span_len, IsPassTold, MakesPass}
+use Rattle.lazy_dfa.specs.Passes.{is_dead, index_at, index_behind, if_supported, start_name, first_value, pass, pass_from}
 use Rattle.lazy_dfa.specs.PassLaws.{units_read, pass_len}
 use Rattle.lazy_dfa.specs.Points.{point}
 use Rattle.lazy_dfa.specs.Readers.{HalfAnswer, found, is_quit}
@@ -31,9 +32,10 @@ use Rattle.lazy_dfa.specs.Scans.{first_place}
 use Rattle.lazy_dfa.specs.ScanLaws.{begins_at}
 use Rattle.lazy_dfa.specs.SearchAnswers.{told, give_up_place, GivesUpIn, at_start, at_unit, Told, told_of, pass_distance, told_by_pass, running_at}
 use Rattle.lazy_dfa.specs.SearchStarts.{error_at}
-use Rattle.lazy_dfa.specs.Stands.{first_index, told_begun, told_behind, LeftIn, RunsOn, pass_start, StartsPass}
+use Rattle.lazy_dfa.specs.Stands.{tells, first_index, told_begun, told_behind, RestAnew, rest_inside, rest_untold, RestFails, fails_at, fails_untold, IsRestTold, RunsOn, pass_start, StartsPass}
 use Rattle.lazy_dfa.specs.StartCalls.{mode_of, quit_refusal, behind_refusal, mode_refusal, start_refusal, start_slot, start_noted, IsStartKnown}
 use Rattle.lazy_dfa.specs.Steps.{Grew, WasCleared, most_inserts}
+use Rattle.lazy_dfa.proofs.AnewToldLemmas.{fresh_anew}
 use Rattle.lazy_dfa.proofs.IsCacheLemmas.{row_is_plain}
 use Rattle.lazy_dfa.proofs.LinkedLemmas.{grows_trans, grew_grows, has_cleared, start_grows_of, cleared_grows, grows_or_clears_trans, moved_trans, moved_same, names_moved, grows_moved, linked_moved, linked_none, held_named}
 use Rattle.lazy_dfa.proofs.PassEndLemmas.{ends_dead}
@@ -54,10 +56,6 @@ none_or_some (Some p) = inr (p, refl)
 on_ok : {A B X Y : Type 0} (r : Result A B) → (X → Y) → OnOk r X → OnOk r Y
 on_ok (Ok a) f x = f x
 on_ok (Err e) f x = tt
-
-on_err : (r : Result (Option HalfFound) MatchErrorKind) (X Y : MatchErrorKind → Type 0) → ((e : MatchErrorKind) → X e → Y e) → IfErr r X → IfErr r Y
-on_err (Ok a) X Y f x = tt
-on_err (Err e) X Y f x = f e x
 
 abbrev are_same : Result ℕ MatchErrorKind → Result ℕ MatchErrorKind → Type 0
 are_same r s = r ≡ s
@@ -195,6 +193,10 @@ one_at_most a b k m f = let e = suc-mul k m in omega (arith, e, f)
 
 -- ---- a start that is refused
 
+-- a start that clears leaves nothing counted
+fresh_start : (old new : CacheValue) → WasCleared old new 1 → IsFresh (told_of new)
+fresh_start old new w = fresh_anew (told_of old) (told_of new) (λ i. record { searched = w.searched i; progress = w.progress i })
+
 same_told : (d : Dfa) (a b : CacheValue) → Grew d a b → told_of b ≡ told_of a
 same_told d a b g = λ n. record { searched = g.searched n; progress = g.progress n }
 
@@ -255,9 +257,9 @@ module _ (d : Dfa) (q : Search) (old new : CacheValue) (m1 m2 n1 n2 : ℕ) (e : 
         (moved_same old new same.0, same.1, same.2, start.refused known);
     determinized = let l = start.determinized in omega (arith, l);
     inserted = one_at_most n1 n2 length (most_inserts d) start.inserted;
-    refused = ⊎_elim
-        (λ (g : Grew d old new). inl (left_first refused_first (same_told d old new g)))
-        (λ (w : WasCleared old new 1). inr (has_cleared old new 1 w))
+    anew = ⊎_elim
+        (λ (g : Grew d old new). inl (left_first refused_first (same_told d old new g), g.clears))
+        (λ (w : WasCleared old new 1). inr (has_cleared old new 1 w, fails_first (told_of new) (fresh_start old new w) (left_first refused_first refl)))
         start.kept;
   }
 
@@ -300,13 +302,18 @@ module _ (d : Dfa) (q : Search) (old mid : CacheValue) (m1 m n1 n id : ℕ) (mad
         let noted : start_noted d new (pass_start d q) ≡ id = grows.starts (start_slot d (pass_start d q)) (λ z. id_known (sym slot ∙ z)) ∙ slot in
         subst (λ (x : ℕ). IsLinkedOver d new q.haystack from x all) (sym noted) (subst (IsLinkedOver d new q.haystack from id) same_len linked)
 
+    told_behind_mid : told_of new ≡ told_behind d.nfa.automaton.reverse (span_len q) (told_of here) units →
+        told_of new ≡ told_by_pass (reader d) q.anchored q.earliest q.haystack (told_of mid) (span_len q, from)
+    told_behind_mid e =
+        e
+        ∙ (ap (λ (t : Told). told_behind d.nfa.automaton.reverse (span_len q) t units) tells_start
+        ∙ (whole_told d.nfa.automaton.reverse q (told_of mid) units
+        ∙ ap (λ (k : ℕ). if d.nfa.automaton.reverse && span_len q == 0 then told_of mid else ended (mid.searched + progress_len mid.progress) (pass_distance d.nfa.automaton.reverse (span_len q) k)) same_len))
+
     told_behind_all : Grew d old mid → told_of new ≡ told_behind d.nfa.automaton.reverse (span_len q) (told_of here) units →
         told_of new ≡ told_by_pass (reader d) q.anchored q.earliest q.haystack (told_of old) (span_len q, from)
     told_behind_all g e =
-        e
-        ∙ (ap (λ (t : Told). told_behind d.nfa.automaton.reverse (span_len q) t units) (tells_start ∙ ap (told_begun d.nfa.automaton.reverse q) (same_told d old mid g))
-        ∙ (whole_told d.nfa.automaton.reverse q (told_of old) units
-        ∙ ap (λ (k : ℕ). if d.nfa.automaton.reverse && span_len q == 0 then told_of old else ended (old.searched + progress_len old.progress) (pass_distance d.nfa.automaton.reverse (span_len q) k)) same_len))
+        told_behind_mid e ∙ ap (λ (t : Told). told_by_pass (reader d) q.anchored q.earliest q.haystack t (span_len q, from)) (same_told d old mid g)
 
     abbrev Followed : Type 0
     Followed = Grows d here new × IsLinkedOver d new q.haystack from id units × (told_of new ≡ told_behind d.nfa.automaton.reverse (span_len q) (told_of here) units)
@@ -334,21 +341,75 @@ module _ (d : Dfa) (q : Search) (old mid : CacheValue) (m1 m n1 n id : ℕ) (mad
         (λ (w : WasCleared old mid 1). inr (clear_first w))
         start.kept
 
-    -- how far it came that was refused
-    left_pass : (e : MatchErrorKind) → LeftIn d q first from e (told_of here) (told_of new) ⊎ HasCleared here new →
-        LeavesPass (reader d) q.anchored q.earliest q.haystack (span_len q, from) e (told_of old) (told_of new) ⊎ HasCleared old new
-    left_pass e left = ⊎_elim
-        (λ (g : Grew d old mid). ⊎_elim
-        (λ (l : LeftIn d q first from e (told_of here) (told_of new)). inl (left_at_unit l.0 (subst (λ (n : ℕ). l.0 < n) same_len l.1) l.2
-        (subst (λ (t : Told). LeftAt d.nfa.automaton.reverse (is_quit_error e) (span_len q) from l.0 t (told_of new)) (begun_here g) l.3)))
-        (λ (x : HasCleared here new). inr (clear_later g x))
-        left)
-        (λ (w : WasCleared old mid 1). inr (clear_first w))
-        start.kept
+    -- how far it came, whether the cache was cleared or not
+    abbrev p : ℕ × ℕ
+    p = (span_len q, from)
+
+    abbrev Before : Type 0
+    Before = HasCleared old new
+
+    cleared_here : HasCleared here new → Before
+    cleared_here c = ⊎_elim (λ (g : Grew d old mid). clear_later g c) (λ (w : WasCleared old mid 1). clear_first w) start.kept
+
+    clears_here : Grew d old mid → new.clears ≡ here.clears → new.clears ≡ old.clears
+    clears_here g e = e ∙ ((grows_moved d mid here moved).clears ∙ g.clears)
+
+    nothing_told : (t : Told) → tells d.nfa.automaton.reverse q ≡ false → (d.nfa.automaton.reverse && span_len q == 0) ≡ true
+    nothing_told t e = ap (λ (b : Bool). d.nfa.automaton.reverse && b) (sym (none_left q.start q.end)) ∙ not_no (d.nfa.automaton.reverse && nat_le q.end q.start) e
       where
-        begun_here : Grew d old mid → told_of here ≡ told_from d.nfa.automaton.reverse (span_len q, from) (told_of old)
-        begun_here g =
-            tells_start ∙ (ap (told_begun d.nfa.automaton.reverse q) (same_told d old mid g) ∙ told_first d.nfa.automaton.reverse q (told_of old))
+        not_no : (b : Bool) → not b ≡ false → b ≡ true
+        not_no true e = refl
+        not_no false e = absurd (true≢false e)
+
+    pass_anew : RestAnew d.nfa.automaton.reverse q units (told_of new) → TellsAnew (reader d) q.anchored q.earliest q.haystack p (told_of new)
+    pass_anew (rest_inside a l e) =
+        cleared_inside a (subst (λ (k : ℕ). a ≤ pass_distance d.nfa.automaton.reverse (span_len q) k) same_len l)
+        (e ∙ ap (cut_told d.nfa.automaton.reverse (span_len q) a) same_len)
+    pass_anew (rest_untold tell fresh) =
+        cleared_first (told_of new) fresh
+        (sym (ap (λ (b : Bool). if b then told_of new else ended (new.searched + progress_len new.progress) (pass_distance d.nfa.automaton.reverse (span_len q) all)) (nothing_told (told_of new) tell)))
+
+    told_ok : (f : Option HalfFound) → IsRestTold d q first from (Ok f) here new → IsPassTold (reader d) q.anchored q.earliest q.haystack p (Ok f) old new
+    told_ok f (inl e) = ⊎_elim
+        (λ (g : Grew d old mid). inl (told_behind_all g e.0, clears_here g e.1))
+        (λ (w : WasCleared old mid 1). inr (clear_first w, cleared_first (told_of mid) (fresh_start old mid w) (told_behind_mid e.0)))
+        start.kept
+    told_ok f (inr c) = inr (cleared_here c.0, pass_anew c.1)
+
+    module _ (e : MatchErrorKind) (k : ℕ) (less : k < units) (at : IsRefusedAt d.nfa.automaton.reverse (span_len q) from k e) where
+      less_all : k < all
+      less_all = subst (λ (n : ℕ). k < n) same_len less
+
+      left_from : (t : Told) → LeftAt d.nfa.automaton.reverse (is_quit_error e) (span_len q) from k (told_from d.nfa.automaton.reverse p t) (told_of new) →
+          LeavesPass (reader d) q.anchored q.earliest q.haystack p e t (told_of new)
+      left_from t l = left_at_unit k less_all at l
+
+      begun_mid : told_of here ≡ told_from d.nfa.automaton.reverse p (told_of mid)
+      begun_mid = tells_start ∙ told_first d.nfa.automaton.reverse q (told_of mid)
+
+      abbrev Left : Told → Type 0
+      Left t = LeftAt d.nfa.automaton.reverse (is_quit_error e) (span_len q) from k t (told_of new)
+
+      fails_so : RestFails d.nfa.automaton.reverse (is_quit_error e) q from k (told_of new) → FailsAnew (reader d) q.anchored q.earliest q.haystack p e (told_of new)
+      fails_so (fails_at cut) = fails_inside k less_all at cut
+      fails_so (fails_untold tell fresh l) =
+          fails_first (told_of new) fresh (left_from (told_of new) (subst Left
+          (sym (ap (λ (b : Bool). if b then told_of new else begun (index_at d.nfa.automaton.reverse from) (told_of new)) (nothing_told (told_of new) tell))) l))
+
+      told_err : (LeftAt d.nfa.automaton.reverse (is_quit_error e) (span_len q) from k (told_of here) (told_of new) × (new.clears ≡ here.clears)) ⊎
+          (HasCleared here new × RestFails d.nfa.automaton.reverse (is_quit_error e) q from k (told_of new)) → IsPassTold (reader d) q.anchored q.earliest q.haystack p (Err e) old new
+      told_err (inl l) = ⊎_elim
+          (λ (g : Grew d old mid). inl (
+            left_from (told_of old) (subst Left (begun_mid ∙ ap (told_from d.nfa.automaton.reverse p) (same_told d old mid g)) l.0),
+            clears_here g l.1,
+          ))
+          (λ (w : WasCleared old mid 1). inr (clear_first w, fails_first (told_of mid) (fresh_start old mid w) (left_from (told_of mid) (subst Left begun_mid l.0))))
+          start.kept
+      told_err (inr c) = inr (cleared_here c.0, fails_so c.1)
+
+    told_anew_pass : (r : Result (Option HalfFound) MatchErrorKind) → IsRestTold d q first from r here new → IsPassTold (reader d) q.anchored q.earliest q.haystack p r old new
+    told_anew_pass (Ok f) x = told_ok f x
+    told_anew_pass (Err e) x = told_err e x.0 x.1 x.2 x.3
 
     -- where the path was known
     known_path : IsMoved old here → IsLinkedPass d old q.anchored q.earliest q.haystack (span_len q) from → IsLinkedOver d here q.haystack from id units
@@ -397,8 +458,7 @@ module _ (d : Dfa) (q : Search) (old mid : CacheValue) (m1 m n1 n id : ℕ) (mad
       free = free_pass;
       determinized = let a = start.determinized in let b = runs.determinized in let l = same_len in omega (arith, a, b, l);
       inserted = one_more n1 n n2 all (most_inserts d) start.inserted (subst (λ (k : ℕ). n2 ≤ n + k * most_inserts d) same_len runs.inserted);
-      refused = on_err result (λ e. LeftIn d q first from e (told_of here) (told_of new) ⊎ HasCleared here new)
-          (λ e. LeavesPass (reader d) q.anchored q.earliest q.haystack (span_len q, from) e (told_of old) (told_of new) ⊎ HasCleared old new) left_pass runs.refused;
+      anew = told_anew_pass result runs.anew;
     }
 
   abbrev here : CacheValue
@@ -422,7 +482,7 @@ module _ (d : Dfa) (q : Search) (old mid : CacheValue) (m1 m n1 n id : ℕ) (mad
         free = λ l. (still, refl, refl, is_none);
         determinized = omega arith;
         inserted = omega arith;
-        refused = tt;
+        anew = inl (e ∙ ap (told_behind d.nfa.automaton.reverse (span_len q) (told_of here)) (sym nothing.1), (grows_moved d here new still).clears);
       })
     where
       still : IsMoved here new

@@ -1,5 +1,5 @@
 -- How far a half search came that was refused, where nothing was cleared.
-use Rattle.std.specs.Prelude.{◌≡◌, ⊤, ℕ, suc, ◌+◌, ◌<◌, ◌==◌, ◌&&◌, nat_lt, min, Bool, true, false, List, ◌∷◌, ◌++◌, Some, None, if◌then◌else◌}
+use Rattle.std.specs.Prelude.{◌≡◌, ⊤, ℕ, suc, ◌+◌, ◌<◌, ◌≤◌, ◌==◌, ◌&&◌, nat_lt, min, Bool, true, false, List, ◌∷◌, ◌++◌, Some, None, if◌then◌else◌}
 use Rattle.search_types.specs.declared.anchored.Anchored.{Anchored}
 use Rattle.search_types.specs.declared.match_error.MatchErrorKind.{MatchErrorKind}
 use Rattle.search_types.specs.declared.match_error.MatchErrorKind.TheVariants.{Quit, GaveUp, HaystackTooLong, UnsupportedAnchored, NotAPair, NoMemory}
@@ -39,11 +39,12 @@ abbrev pub left_told : Bool → Bool → ℕ → ℕ → ℕ → Told → Told
 left_told down quits n k at t = if has_finished down quits n k then told_behind down n t (suc k) else told_at at t
 
 -- A pass over n bytes from place i is refused at unit k. At a byte a search that goes on is there; at the unit behind the span
--- it is where it was told to be last.
+-- it is where it was told to be last, so many bytes behind its first one.
 pub record LeftAt (down quits : Bool) (n i k : ℕ) (t new : Told) : Type 0 where
-  pub at : ℕ
-  pub there : k < n → at ≡ index_at down (place_of down i k)
-  pub told : new ≡ left_told down quits n k at t
+  pub byte : ℕ
+  pub read : byte ≤ k
+  pub there : k < n → byte ≡ k
+  pub told : new ≡ left_told down quits n k (index_at down (place_of down i byte)) t
 
 -- ---- refusals
 

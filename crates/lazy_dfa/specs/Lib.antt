@@ -17,6 +17,7 @@ pub mod Courses
 pub mod Linked
 pub mod SearchAnswers
 pub mod LeftTold
+pub mod AnewTold
 pub mod Points
 pub mod MadePasses
 pub mod Turns

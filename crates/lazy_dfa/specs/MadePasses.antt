@@ -1,11 +1,14 @@
 -- What the functions that make passes, one after the other, say of what they did.
-use Rattle.std.specs.Prelude.{◌≡◌, ◌⊎◌, ℕ, suc, ◌+◌, ◌-◌, ◌*◌, ◌≤◌, Option, Result, Err, IfErr, OnOk}
+use Rattle.std.specs.Prelude.{◌≡◌, ◌⊎◌, ℕ, suc, ◌+◌, ◌-◌, ◌*◌, ◌≤◌, Bool, List, Option, Result, Ok, Err, OnOk}
+use Rattle.search_types.specs.declared.anchored.Anchored.{Anchored}
 use Rattle.search_types.specs.declared.match_error.MatchErrorKind.{MatchErrorKind}
 use Rattle.search_types.specs.declared.match_error.MatchErrorKind.TheVariants.{GaveUp, NoMemory}
 use Rattle.search_types.specs.Found.{HalfFound}
 use Rattle.search_types.specs.Inputs.{Search}
+use Rattle.lazy_dfa.specs.AnewTold.{TellsAnew, FailsAnew, ToldSince, FailsSince}
 use Rattle.lazy_dfa.specs.Caches.{CacheValue}
 use Rattle.lazy_dfa.specs.Dfas.{Dfa, reader}
+use Rattle.lazy_dfa.specs.Readers.{Reader}
 use Rattle.lazy_dfa.specs.LeftTold.{LeavesPass, LeavesTold}
 use Rattle.lazy_dfa.specs.Linked.{IsLinkedPass, IsLinked, Grows, HasCleared, GrowsOrClears, IsMoved, passes_of}
 use Rattle.lazy_dfa.specs.Passes.{pass}
@@ -19,6 +22,22 @@ use Rattle.lazy_dfa.specs.Steps.{most_inserts}
 abbrev pub span_len : Search → ℕ
 span_len q = q.end - q.start
 
+-- How far a pass came, by its answer: as it does where nothing is cleared, or by where its search began anew.
+abbrev pub IsPassTold : Reader → Anchored → Bool → List ℕ → ℕ × ℕ → Result (Option HalfFound) MatchErrorKind → CacheValue → CacheValue → Type 0
+IsPassTold r mode earliest h p (Ok found) old new =
+    ((told_of new ≡ told_by_pass r mode earliest h (told_of old) p) × (new.clears ≡ old.clears)) ⊎
+    (HasCleared old new × TellsAnew r mode earliest h p (told_of new))
+IsPassTold r mode earliest h p (Err e) old new =
+    (LeavesPass r mode earliest h p e (told_of old) (told_of new) × (new.clears ≡ old.clears)) ⊎
+    (HasCleared old new × FailsAnew r mode earliest h p e (told_of new))
+
+-- and a half search
+abbrev pub IsSearchTold : Reader → Search → Result (Option HalfFound) MatchErrorKind → CacheValue → CacheValue → Type 0
+IsSearchTold r q (Ok found) old new =
+    ((told_of new ≡ told_by r q (told_of old) (passes_of r q)) × (new.clears ≡ old.clears)) ⊎ (HasCleared old new × ToldSince r q (passes_of r q) (told_of new))
+IsSearchTold r q (Err e) old new =
+    (LeavesTold r q e (told_of old) (told_of new) × (new.clears ≡ old.clears)) ⊎ (HasCleared old new × FailsSince r q e (told_of new))
+
 -- one pass of a search over its whole span
 pub record MakesPass (d : Dfa) (q : Search) (old new : CacheValue) (m1 m2 n1 n2 : ℕ) (result : Result (Option HalfFound) MatchErrorKind) : Type 0 where
   pub answer : (result ≡ told (pass (reader d) q.anchored q.earliest q.haystack (span_len q) (begins_at (reader d) q))) ⊎ (result ≡ Err NoMemory) ⊎
@@ -30,7 +49,7 @@ pub record MakesPass (d : Dfa) (q : Search) (old new : CacheValue) (m1 m2 n1 n2 
       IsMoved old new × (m2 ≡ m1) × (n2 ≡ n1) × (result ≡ told (pass (reader d) q.anchored q.earliest q.haystack (span_len q) (begins_at (reader d) q)))
   pub determinized : m2 ≤ m1 + suc (pass_len (reader d) q.anchored q.earliest q.haystack (span_len q) (begins_at (reader d) q))
   pub inserted : n2 ≤ n1 + suc (pass_len (reader d) q.anchored q.earliest q.haystack (span_len q) (begins_at (reader d) q)) * most_inserts d
-  pub refused : IfErr result (λ e. LeavesPass (reader d) q.anchored q.earliest q.haystack (span_len q, begins_at (reader d) q) e (told_of old) (told_of new) ⊎ HasCleared old new)
+  pub anew : IsPassTold (reader d) q.anchored q.earliest q.haystack (span_len q, begins_at (reader d) q) result old new
 
 -- a half search with its restarts
 pub record MakesSearch (d : Dfa) (q : Search) (old new : CacheValue) (m1 m2 n1 n2 : ℕ) (result : Result (Option HalfFound) MatchErrorKind) : Type 0 where
@@ -40,4 +59,4 @@ pub record MakesSearch (d : Dfa) (q : Search) (old new : CacheValue) (m1 m2 n1 n
   pub free : IsLinked d old q → IsMoved old new × (m2 ≡ m1) × (n2 ≡ n1) × (result ≡ told (scan (reader d) q))
   pub determinized : m2 ≤ m1 + made_by (reader d) q (passes_of (reader d) q)
   pub inserted : n2 ≤ n1 + made_by (reader d) q (passes_of (reader d) q) * most_inserts d
-  pub refused : IfErr result (λ e. LeavesTold (reader d) q e (told_of old) (told_of new) ⊎ HasCleared old new)
+  pub anew : IsSearchTold (reader d) q result old new

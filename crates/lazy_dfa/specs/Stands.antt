@@ -9,6 +9,7 @@ use Rattle.search_types.specs.declared.match_error.MatchErrorKind.{MatchErrorKin
 use Rattle.search_types.specs.declared.match_error.MatchErrorKind.TheVariants.{Quit, GaveUp, HaystackTooLong, UnsupportedAnchored, NotAPair, NoMemory}
 use Rattle.search_types.specs.Found.{HalfFound}
 use Rattle.search_types.specs.Inputs.{Search}
+use Rattle.lazy_dfa.specs.AnewTold.{anew_if, cut_told, IsFresh, CutAt}
 use Rattle.lazy_dfa.specs.Caches.{CacheValue, HeldAt, IsRow, Names, greatest, progress_len, moved_to, lacks_room}
 use Rattle.lazy_dfa.specs.Courses.{state_behind, HasNoStop, stops_behind}
 use Rattle.lazy_dfa.specs.declared.cache_error.CacheError.{CacheError}
@@ -27,7 +28,7 @@ use Rattle.lazy_dfa.specs.Readers.{is_quit}
 use Rattle.lazy_dfa.specs.Scans.{first_place}
 use Rattle.lazy_dfa.specs.ScanLaws.{begins_at}
 pub use Rattle.lazy_dfa.specs.SearchAnswers.{told_behind}
-use Rattle.lazy_dfa.specs.SearchAnswers.{pair_of, told, give_up_place, Told, told_of, running_at}
+use Rattle.lazy_dfa.specs.SearchAnswers.{pair_of, told, give_up_place, Told, told_of, pass_distance, running_at}
 use Rattle.lazy_dfa.specs.StartCalls.{mode_of, start_refusal, start_noted, IsStartKnown}
 use Rattle.lazy_dfa.specs.Steps.{Grew, WasCleared, most_inserts}
 use Rattle.lazy_dfa.specs.Turns.{GoesOne, Leaves, FailsOn}
@@ -63,6 +64,10 @@ first_index down q = index_at down (first_place down q.start q.end)
 abbrev pub BeganFirst : Bool → Search → CacheValue → Type 0
 BeganFirst down q v = tells down q ≡ true → began v.progress ≡ Some (first_index down q)
 
+-- it has just begun
+abbrev pub BeginsFirst : Bool → Search → CacheValue → Type 0
+BeginsFirst down q v = tells down q ≡ true → v.progress ≡ Some (record { start = first_index down q; at = first_index down q })
+
 -- what a cache keeps of that when a pass has told it where it begins
 abbrev pub told_begun : Bool → Search → Told → Told
 told_begun down q t =
@@ -89,6 +94,33 @@ abbrev pub GoesBetween : Dfa → Bool → List ℕ → Point → Point → ℕ �
 GoesBetween d earliest h from to k = GoesTo d h from to k ×
     ((s : StateValue) → HeldAt from.cache from.id s → HasNoStop (reader d) earliest h from.at s k)
 
+-- the place at which a pass gives up that stands at another one
+abbrev pub gave_up_at : Bool → Search → ℕ → ℕ
+gave_up_at down q at = if at == last_place down q then at else index_at down at
+
+-- How far searches came behind a turn at a byte, with which the cache may be cleared: the byte is told before it is read, and
+-- the search ends there where that is wanted.
+abbrev pub told_byte : Bool → Bool → Bool → ℕ → Told → Told
+told_byte down finishes cleared at t =
+    if finishes then told_finished (index_at down at) (anew_if cleared (told_at (index_at down at) t))
+    else anew_if cleared (told_at (index_at down at) t)
+
+-- and behind the last one: downwards the search has ended before, and upwards it ends with the pass
+abbrev pub told_last : Bool → Bool → Bool → Search → ℕ → Told → Told
+told_last true ends cleared q at t = anew_if cleared (if tells true q then told_finished at t else t)
+told_last false ends cleared q at t = if ends then told_finished at (anew_if cleared t) else anew_if cleared t
+
+-- both, of a turn that ends the search at a byte, or the pass
+abbrev pub turned_told : Bool → Bool → Bool → Bool → Search → ℕ → Told → Told
+turned_told down finishes ends cleared q at t =
+    if at == last_place down q then told_last down ends cleared q at t else told_byte down finishes cleared at t
+
+-- so a turn tells, whether it cleared the cache or not
+abbrev pub TellsTurn : Dfa → Bool → Bool → Search → ℕ → CacheValue → CacheValue → Type 0
+TellsTurn d finishes ends q at old new =
+    ((told_of new ≡ turned_told d.nfa.automaton.reverse finishes ends false q at (told_of old)) × (new.clears ≡ old.clears)) ⊎
+    (HasCleared old new × (told_of new ≡ turned_told d.nfa.automaton.reverse finishes ends true q at (told_of old)))
+
 -- A pass ends with the turn at a point, and with this match: its cache was told where it came, before the step or behind it.
 pub record EndsWith (d : Dfa) (q : Search) (from : Point) (new : CacheValue) (m n : ℕ) (best : Option (ℕ × ℕ)) : Type 0 where
   pub before : CacheValue
@@ -104,21 +136,7 @@ pub record EndsWith (d : Dfa) (q : Search) (from : Point) (new : CacheValue) (m 
       (stops_behind (reader d) q.earliest q.haystack from.at s 0 ≡ true) ⊎
       (is_dead (state_behind (reader d) q.haystack from.at s 1) ≡ true) ⊎
       (from.at ≡ last_place d.nfa.automaton.reverse q)
-
--- the place at which a pass gives up that stands at another one
-abbrev pub gave_up_at : Bool → Search → ℕ → ℕ
-gave_up_at down q at = if at == last_place down q then at else index_at down at
-
--- How far searches came where the turn at a place is refused, by a quit byte or else. A byte is told before it is read, and
--- a quit byte finishes; at the last place the search was finished before, downwards, or goes on.
-abbrev pub turned_told : Bool → Bool → Search → ℕ → Told → Told
-turned_told down quits q at t =
-    if at == last_place down q then (if down && tells down q then told_finished at t else t) else
-    if quits then told_finished (index_at down at) t else told_at (index_at down at) t
-
--- so it is, or the cache was cleared
-abbrev pub TellsTurn : Dfa → Bool → Search → ℕ → CacheValue → CacheValue → Type 0
-TellsTurn d quits q at old new = (told_of new ≡ turned_told d.nfa.automaton.reverse quits q at (told_of old)) ⊎ HasCleared old new
+  pub tells : TellsTurn d true true q from.at from.cache new
 
 -- what comes of a turn of a pass in its span: it ends, or goes on
 abbrev pub TurnsInto : Dfa → Search → Point → CacheValue → ℕ → ℕ → Stand → Bool → Type 0
@@ -126,30 +144,45 @@ TurnsInto d q from new m n stand true = EndsWith d q from new m n (pair_of stand
 TurnsInto d q from new m n stand false =
     GoesOne d q.haystack from new m n stand.id (pair_of stand.best) × (stand.at ≡ place_of d.nfa.automaton.reverse from.at 1) ×
     (from.at ≢ last_place d.nfa.automaton.reverse q) × IsRow new stand.id ×
-    ((s : StateValue) → HeldAt from.cache from.id s → stops_behind (reader d) q.earliest q.haystack from.at s 0 ≡ false)
+    ((s : StateValue) → HeldAt from.cache from.id s → stops_behind (reader d) q.earliest q.haystack from.at s 0 ≡ false) ×
+    TellsTurn d false false q from.at from.cache new
 
 -- one turn of a pass in its span
 abbrev pub TurnsTo : Dfa → Search → Point → CacheValue → ℕ → ℕ → Result Turned MatchErrorKind → Type 0
 TurnsTo d q from new m n (Ok turned) = TurnsInto d q from new m n turned.stand turned.has_ended
 TurnsTo d q from new m n (Err (Quit b x)) = Leaves d q.haystack from new m n 0 ×
     (unit_at d.nfa.automaton.reverse q.haystack from.at ≡ Some b) × (has d.quits b ≡ true) × (x ≡ index_at d.nfa.automaton.reverse from.at) ×
-    TellsTurn d true q from.at from.cache new
+    TellsTurn d true false q from.at from.cache new
 TurnsTo d q from new m n (Err (GaveUp x)) = FailsOn d q.haystack from new m n 0 ×
     (is_quit d.quits (unit_at d.nfa.automaton.reverse q.haystack from.at) ≡ false) × (x ≡ gave_up_at d.nfa.automaton.reverse q from.at) ×
     ((s : StateValue) → HeldAt from.cache from.id s → lacks_room d new (state_behind (reader d) q.haystack from.at s 1) ≡ true) ×
-    (from.at ≢ last_place d.nfa.automaton.reverse q → running_at new.progress ≡ Some x) × TellsTurn d false q from.at from.cache new
-TurnsTo d q from new m n (Err NoMemory) = FailsOn d q.haystack from new m n 0 × TellsTurn d false q from.at from.cache new
+    (from.at ≢ last_place d.nfa.automaton.reverse q → running_at new.progress ≡ Some x) × TellsTurn d false false q from.at from.cache new
+TurnsTo d q from new m n (Err NoMemory) = FailsOn d q.haystack from new m n 0 × TellsTurn d false false q from.at from.cache new
 TurnsTo d q from new m n (Err (HaystackTooLong len)) = ⊥
 TurnsTo d q from new m n (Err (UnsupportedAnchored mode)) = ⊥
 TurnsTo d q from new m n (Err NotAPair) = ⊥
 
 -- ---- the rest of a pass
 
--- how far the rest of a pass came that was refused at one of its units
-abbrev pub LeftIn : Dfa → Search → StateValue → ℕ → MatchErrorKind → Told → Told → Type 0
-LeftIn d q s i e t new =
+-- how far the rest of a pass came where the cache was cleared on the way: its search began anew, or it tells nothing
+pub data RestAnew (down : Bool) (q : Search) (units : ℕ) (new : Told) : Type 0 where
+  rest_inside : (a : ℕ) → a ≤ pass_distance down (span_len q) units → new ≡ cut_told down (span_len q) a units → RestAnew down q units new
+  rest_untold : tells down q ≡ false → IsFresh new → RestAnew down q units new
+
+-- the same of one that was refused at unit k
+pub data RestFails (down quits : Bool) (q : Search) (i k : ℕ) (new : Told) : Type 0 where
+  fails_at : CutAt down quits (span_len q) i k new → RestFails down quits q i k new
+  fails_untold : tells down q ≡ false → IsFresh new → LeftAt down quits (span_len q) i k new new → RestFails down quits q i k new
+
+-- one or the other, by what the rest of a pass answers
+abbrev pub IsRestTold : Dfa → Search → StateValue → ℕ → Result (Option HalfFound) MatchErrorKind → CacheValue → CacheValue → Type 0
+IsRestTold d q s i (Ok found) old new =
+    ((told_of new ≡ told_behind d.nfa.automaton.reverse (span_len q) (told_of old) (units_read (reader d) q.earliest q.haystack (suc (span_len q)) i s)) ×
+    (new.clears ≡ old.clears)) ⊎ (HasCleared old new × RestAnew d.nfa.automaton.reverse q (units_read (reader d) q.earliest q.haystack (suc (span_len q)) i s) (told_of new))
+IsRestTold d q s i (Err e) old new =
     (k : ℕ) × (k < units_read (reader d) q.earliest q.haystack (suc (span_len q)) i s) × IsRefusedAt d.nfa.automaton.reverse (span_len q) i k e ×
-    LeftAt d.nfa.automaton.reverse (is_quit_error e) (span_len q) i k t new
+    ((LeftAt d.nfa.automaton.reverse (is_quit_error e) (span_len q) i k (told_of old) (told_of new) × (new.clears ≡ old.clears)) ⊎
+    (HasCleared old new × RestFails d.nfa.automaton.reverse (is_quit_error e) q i k (told_of new)))
 
 -- The rest of a pass from its first place in state s, through all units that are left.
 pub record RunsOn (d : Dfa) (q : Search) (s : StateValue) (from : Point) (new : CacheValue) (m n : ℕ) (result : Result (Option HalfFound) MatchErrorKind) : Type 0 where
@@ -167,7 +200,7 @@ pub record RunsOn (d : Dfa) (q : Search) (s : StateValue) (from : Point) (new : 
       (result ≡ told (pass_from (reader d) q.earliest q.haystack (suc (span_len q)) from.at s None))
   pub determinized : m ≤ from.determinized + units_read (reader d) q.earliest q.haystack (suc (span_len q)) from.at s
   pub inserted : n ≤ from.inserted + units_read (reader d) q.earliest q.haystack (suc (span_len q)) from.at s * most_inserts d
-  pub refused : IfErr result (λ e. LeftIn d q s from.at e (told_of from.cache) (told_of new) ⊎ HasCleared from.cache new)
+  pub anew : IsRestTold d q s from.at result from.cache new
 
 -- ---- the start of a pass
 

@@ -3,6 +3,7 @@ use Rattle.std.specs.Prelude.{◌≡◌, ◌≢◌, ◌⊎◌, ℕ, suc, ◌+◌
 use Rattle.search_core.specs.ByteSets.{has}
 use Rattle.nfa_core.specs.Ways.{place_of}
 use Rattle.determinize_core.specs.States.{StateValue}
+use Rattle.lazy_dfa.specs.AnewTold.{told_anew}
 use Rattle.lazy_dfa.specs.Caches.{CacheValue, HeldAt, IsRow, lacks_room}
 use Rattle.lazy_dfa.specs.Courses.{state_behind, stops_behind}
 use Rattle.lazy_dfa.specs.declared.cache_error.CacheError.{CacheError}
@@ -62,7 +63,7 @@ StaysRunning old new = IsSome old.progress → IsSome new.progress
 
 -- how far searches came is as before, or the cache was cleared
 abbrev pub TellsTheSame : CacheValue → CacheValue → Type 0
-TellsTheSame old new = (told_of new ≡ told_of old) ⊎ HasCleared old new
+TellsTheSame old new = ((told_of new ≡ told_of old) × (new.clears ≡ old.clears)) ⊎ (HasCleared old new × (told_of new ≡ told_anew (told_of old)))
 
 -- the pass goes to another point by one unit
 abbrev pub GoesOne : Dfa → List ℕ → Point → CacheValue → ℕ → ℕ → ℕ → Option (ℕ × ℕ) → Type 0

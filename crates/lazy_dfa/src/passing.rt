@@ -10,7 +10,7 @@ ghost use Rattle.lazy_dfa.specs.Passes.{index_at};
 ghost use Rattle.lazy_dfa.specs.Points.{point};
 ghost use Rattle.lazy_dfa.specs.Scans.{first_place};
 ghost use Rattle.lazy_dfa.specs.SearchAnswers.{pair_of, told_of};
-ghost use Rattle.lazy_dfa.specs.Stands.{IsWithinSpan, last_place, left_at, tells, finished_where, error_of, told_begun, told_behind, BeganFirst, GoesBetween, TurnsTo, RunsOn, StartsPass};
+ghost use Rattle.lazy_dfa.specs.Stands.{IsWithinSpan, last_place, left_at, tells, finished_where, error_of, told_begun, told_behind, BeginsFirst, GoesBetween, TurnsTo, RunsOn, StartsPass};
 
 use crate::cache_error::CacheError;
 use crate::dfa::{Cache, DFA};
@@ -291,7 +291,7 @@ fn go_on<L: Ledger, M: Ledger>(
     requires down { is_down ≡ dfa.now.nfa.automaton.reverse }
     requires row { IsRow cache.old id }
     requires begun { input.now.start ≤ input.now.end }
-    requires running { BeganFirst is_down input.now cache.old }
+    requires running { BeginsFirst is_down input.now cache.old }
     ensures own { IsCacheOf dfa.now cache.new }
     ensures runs { (s : StateValue) → HeldAt cache.old id s → RunsOn dfa.now input.now s
         (point cache.old work.old.determinized work.old.inserted (first_place is_down input.now.start input.now.end) id None) cache.new work.new.determinized work.new.inserted result }
@@ -340,7 +340,7 @@ pub(crate) fn start_of_pass<L: Ledger, M: Ledger>(
 fn begin_at_first(cache: &mut Cache, input: &Input<'_>, is_down: bool)
     ensures moved { IsMoved cache.old cache.new }
     ensures told { told_of cache.new ≡ told_begun is_down input.now (told_of cache.old) }
-    ensures running { BeganFirst is_down input.now cache.new }
+    ensures running { BeginsFirst is_down input.now cache.new }
 {
     if !tells(input, is_down) {
         return;

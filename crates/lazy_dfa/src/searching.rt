@@ -3,6 +3,7 @@ ghost use Rattle.std.specs.Prelude.{slice_index_or, ◌≡◌, ◌⊎◌, ◌+�
 ghost use Rattle.search_types.specs.declared.match_error.MatchErrorKind.TheVariants.{NoMemory};
 ghost use Rattle.search_types.specs.Inputs.{IsWithin};
 ghost use Rattle.search_types.specs.Modes.{is_supported};
+ghost use Rattle.lazy_dfa.specs.AnewTold.{IsToldSince};
 ghost use Rattle.lazy_dfa.specs.Caches.{IsCacheOf, greatest};
 ghost use Rattle.lazy_dfa.specs.ConfigValue.{clears_of};
 ghost use Rattle.lazy_dfa.specs.Dfas.{IsDfa, reader};
@@ -110,6 +111,8 @@ impl DFA {
     /// Where nothing was cleared, the cache knows how far the search came, after a refusal too. At a quit byte of the span it
     /// has ended. Where it gave up at a byte, or memory lacked, it still goes on and is at that byte; a pass that can't start
     /// tells nothing. At the unit behind the span a search upwards still goes on, and one downwards ended at the span's start.
+    /// Where the cache was cleared, nothing counts that was searched before the last clear, and the search that goes on began
+    /// at the byte where it was then.
     ///
     /// A match, or none, comes with a place up to which it was looked for: no quit byte stands from the byte before the span
     /// to there, and under leftmost-first what is found is the first end for each reading of looks that agrees with the one
@@ -132,6 +135,7 @@ impl DFA {
             told_of cache.new ≡ told_by (reader self.now) input.now (told_of cache.old) (passes_of (reader self.now) input.now)) }
         ensures left_told { IfErr result (λ e. cache.new.clears ≡ cache.old.clears → cache.old.clears < greatest →
             LeavesTold (reader self.now) input.now e (told_of cache.old) (told_of cache.new)) }
+        ensures told_since { (cache.new.clears ≡ cache.old.clears → ⊥) → IsToldSince (reader self.now) input.now result (told_of cache.new) }
         ensures moved { IsLinked self.now cache.old input.now → IsMoved cache.old cache.new }
         ensures free { IsLinked self.now cache.old input.now → work.new ≡ work.old }
         ensures sure_if_linked { IsLinked self.now cache.old input.now → result ≡ told (scan (reader self.now) input.now) }
@@ -163,6 +167,7 @@ impl DFA {
             told_of cache.new ≡ told_by (reader self.now) input.now (told_of cache.old) (passes_of (reader self.now) input.now)) }
         ensures left_told { IfErr result (λ e. cache.new.clears ≡ cache.old.clears → cache.old.clears < greatest →
             LeavesTold (reader self.now) input.now e (told_of cache.old) (told_of cache.new)) }
+        ensures told_since { (cache.new.clears ≡ cache.old.clears → ⊥) → IsToldSince (reader self.now) input.now result (told_of cache.new) }
         ensures moved { IsLinked self.now cache.old input.now → IsMoved cache.old cache.new }
         ensures free { IsLinked self.now cache.old input.now → work.new ≡ work.old }
         ensures sure_if_linked { IsLinked self.now cache.old input.now → result ≡ told (scan (reader self.now) input.now) }

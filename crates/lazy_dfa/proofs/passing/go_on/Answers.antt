@@ -1,10 +1,10 @@
-use Rattle.std.proofs.Common.{refl, None, subst, ℕ, ◌-◌}
-use Rattle.lazy_dfa.specs.Points.{point, Point}
+use Rattle.std.proofs.Common.{refl, ap, None, subst, ℕ, ◌-◌}
+use Rattle.lazy_dfa.specs.Points.{point, Point, began}
 use Rattle.lazy_dfa.specs.Scans.{first_place}
 use Rattle.lazy_dfa.specs.SearchAnswers.{pair_of}
 use Rattle.lazy_dfa.specs.Stands.{first_index, left_at, GoesBetween, TurnsInto}
 use Rattle.lazy_dfa.proofs.LinkedLemmas.{AreBytes}
-use Rattle.lazy_dfa.proofs.PassLoopLemmas.{began_runs, stand_first, stand_on, goes_further, within_next, told_nothing, ends_found, ends_error}
+use Rattle.lazy_dfa.proofs.PassLoopLemmas.{began_runs, under_first, under_on, stand_first, stand_on, goes_further, within_next, told_nothing, ends_found, ends_error}
 use Rattle.lazy_dfa.proofs.passing.go_on.Goals as goal
 
 pub loop-turned-init : goal.loop-turned-init
@@ -12,13 +12,14 @@ loop-turned-init g c = record {
   own = c.requires.own;
   row = c.run-stand.ensures.row;
   within = c.run-stand.ensures.within;
-  running = λ e. began_runs c.args.cache.now.progress (first_index c.args.is_down c.args.input.now) (c.requires.running e);
+  running = λ e. began_runs c.args.cache.now.progress (first_index c.args.is_down c.args.input.now) (ap began (c.requires.running e));
   same = λ e. refl;
   goes = stand_first c.args.dfa.now c.args.input.now c.args.is_down c.args.cache.now c.args.work.now.determinized c.args.work.now.inserted c.args.id c.run-stand.result.at c.run-stand.result.id (pair_of c.run-stand.result.best)
       (subst (λ (x : ℕ). GoesBetween c.args.dfa.now c.args.input.now.earliest c.args.input.now.haystack (point c.args.cache.now c.args.work.now.determinized c.args.work.now.inserted x c.args.id None)
       (point c.args.cache.now c.args.work.now.determinized c.args.work.now.inserted c.run-stand.result.at c.run-stand.result.id (pair_of c.run-stand.result.best))
       (left_at c.args.is_down c.args.input.now x - left_at c.args.is_down c.args.input.now c.run-stand.result.at)) c.first_place.ensures
       (c.run-stand.ensures.goes c.args.input.now.earliest c.args.work.now.determinized c.args.work.now.inserted)) c.run-stand.ensures.within;
+  under = under_first c.args.is_down c.args.input.now c.args.cache.now c.run-stand.result.at c.requires.running;
 }
 
 pub returns-in-Err-clause-runs : goal.returns-in-Err-clause-runs
@@ -27,7 +28,7 @@ returns-in-Err-clause-runs g c s held =
     (point c.args.cache.now c.args.work.now.determinized c.args.work.now.inserted (first_place c.args.is_down c.args.input.now.start c.args.input.now.end) c.args.id None)
     (point c.loop-turned.cache c.loop-turned.work.determinized c.loop-turned.work.inserted c.loop-turned.stand.at c.loop-turned.stand.id (pair_of c.loop-turned.stand.best))
     c.requires.own c.loop-turned.invariant.own c.requires.row c.loop-turned.invariant.row c.loop-turned.invariant.within c.loop-turned.invariant.goes s held refl
-    c.turn_at.new.cache c.turn_at.new.work.determinized c.turn_at.new.work.inserted c.requires.running c.loop-turned.invariant.same c.in-Err.e c.in-Err.ensures.turn
+    c.turn_at.new.cache c.turn_at.new.work.determinized c.turn_at.new.work.inserted c.requires.running c.loop-turned.invariant.same refl c.loop-turned.invariant.under c.in-Err.e c.in-Err.ensures.turn
 
 pub returns-then-turned-clause-runs : goal.returns-then-turned-clause-runs
 returns-then-turned-clause-runs g c s held =
@@ -35,11 +36,11 @@ returns-then-turned-clause-runs g c s held =
     (point c.args.cache.now c.args.work.now.determinized c.args.work.now.inserted (first_place c.args.is_down c.args.input.now.start c.args.input.now.end) c.args.id None)
     (point c.loop-turned.cache c.loop-turned.work.determinized c.loop-turned.work.inserted c.loop-turned.stand.at c.loop-turned.stand.id (pair_of c.loop-turned.stand.best))
     c.requires.own c.loop-turned.invariant.own c.requires.row c.loop-turned.invariant.row c.loop-turned.invariant.within c.loop-turned.invariant.goes s held refl
-    c.turn_at.new.cache c.turn_at.new.work.determinized c.turn_at.new.work.inserted c.in-Ok.turned.stand.best
+    c.turn_at.new.cache c.turn_at.new.work.determinized c.turn_at.new.work.inserted
+    c.requires.running c.loop-turned.invariant.same refl c.loop-turned.invariant.under c.in-Ok.turned.stand.best
     (subst (TurnsInto c.args.dfa.now c.args.input.now
     (point c.loop-turned.cache c.loop-turned.work.determinized c.loop-turned.work.inserted c.loop-turned.stand.at c.loop-turned.stand.id (pair_of c.loop-turned.stand.best))
     c.turn_at.new.cache c.turn_at.new.work.determinized c.turn_at.new.work.inserted c.in-Ok.turned.stand) c.if-turned.true c.in-Ok.ensures.turn)
-    c.requires.running c.loop-turned.invariant.same
 
 pub loop-turned-preserved : goal.loop-turned-preserved
 loop-turned-preserved g c =
@@ -58,6 +59,9 @@ loop-turned-preserved g c =
           c.loop-turned.invariant.within c.loop-turned.invariant.goes c.turn_at.new.cache c.turn_at.new.work.determinized c.turn_at.new.work.inserted c.in-Ok.turned.stand c.in-Ok.ensures.own on
           c.run-stand-in-loop-turned.result.at c.run-stand-in-loop-turned.result.id (pair_of c.run-stand-in-loop-turned.result.best) c.run-stand-in-loop-turned.ensures.within c.run-stand-in-loop-turned.ensures.closer
           (c.run-stand-in-loop-turned.ensures.goes c.args.input.now.earliest c.turn_at.new.work.determinized c.turn_at.new.work.inserted);
+      under = under_on c.args.dfa.now c.args.input.now c.args.is_down c.requires.down c.is_made.ensures (subst AreBytes c.haystack.ensures.value c.see_bytes.ensures) first here c.requires.own c.loop-turned.invariant.own c.requires.row c.loop-turned.invariant.row
+          c.loop-turned.invariant.within c.loop-turned.invariant.goes c.turn_at.new.cache c.turn_at.new.work.determinized c.turn_at.new.work.inserted c.in-Ok.turned.stand c.in-Ok.ensures.own on
+          (first_place c.args.is_down c.args.input.now.start c.args.input.now.end) refl refl c.run-stand-in-loop-turned.result.at c.run-stand-in-loop-turned.ensures.within c.run-stand-in-loop-turned.ensures.closer c.loop-turned.invariant.under;
     }
 
 pub run-stand-requires-in-loop-turned-clause-within : goal.run-stand-requires-in-loop-turned-clause-within

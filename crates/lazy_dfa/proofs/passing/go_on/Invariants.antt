@@ -4,6 +4,7 @@ use Rattle.lazy_dfa.specs.Points.{point}
 use Rattle.lazy_dfa.specs.Scans.{first_place}
 use Rattle.lazy_dfa.specs.SearchAnswers.{pair_of}
 use Rattle.lazy_dfa.specs.Stands.{IsWithinSpan, tells, came, left_at, GoesBetween}
+use Rattle.lazy_dfa.proofs.PassLoopLemmas.{IsUnder}
 use Rattle.lazy_dfa.proofs.passing.go_on.Given as goal
 
 abbrev pub invariant-loop-turned : goal.invariant-loop-turned
@@ -17,6 +18,7 @@ invariant-loop-turned g l = record {
       (point l.fn.cache l.fn.work.determinized l.fn.work.inserted (first_place l.is_down l.input.start l.input.end) l.fn.id None)
       (point l.cache l.work.determinized l.work.inserted l.stand.at l.stand.id (pair_of l.stand.best))
       (came l.is_down l.input l.stand.at);
+  under : IsUnder l.is_down l.input (first_place l.is_down l.input.start l.input.end) l.fn.cache l.cache (came l.is_down l.input l.stand.at);
 }
 
 abbrev pub decreases-loop-turned : goal.decreases-loop-turned

@@ -1,0 +1,112 @@
+-- How far searches came on whose way the cache was cleared, worked out by hand.
+use Rattle.std.proofs.Common.{◌≡◌, ℕ, true, false, [], ◌∷◌, ◌++◌, replicate, Some, None, refl, arith}
+use Rattle.search_types.specs.declared.match_kind.MatchKind.TheVariants.{LeftmostFirst}
+use Rattle.search_types.specs.declared.match_error.MatchErrorKind.TheVariants.{NoMemory}
+use Rattle.search_types.specs.declared.anchored.Anchored.TheVariants.{No}
+use Rattle.search_types.specs.Inputs.{Search}
+use Rattle.look_core.specs.Terminators.{one_of}
+use Rattle.nfa_core.specs.Nfa.{byte_range, binary_union, match_node}
+use Rattle.determinize_core.specs.LookBehind.{families_of}
+use Rattle.determinize_core.specs.KnownBefore.{known_lines, known_words}
+use Rattle.lazy_dfa.specs.AnewTold.{told_anew, cut_told, cut_left, cleared_first, cleared_inside, ToldSince, FailsSince, fails_later}
+use Rattle.lazy_dfa.specs.LeftTold.{left_first}
+use Rattle.lazy_dfa.specs.Linked.{passes_of}
+use Rattle.lazy_dfa.specs.Passes.{next_value, pass_from, start_or_dead}
+use Rattle.lazy_dfa.specs.Readers.{Reader}
+use Rattle.lazy_dfa.specs.SearchAnswers.{Told}
+
+abbrev so_many : ℕ → Told
+so_many n = record { searched = n; progress = None }
+
+abbrev goes_on : ℕ → ℕ → ℕ → Told
+goes_on n start at = record { searched = n; progress = Some (record { start = start; at = at }) }
+
+begins_anew_where_it_is : told_anew (goes_on 5 3 6) ≡ goes_on 0 6 6
+begins_anew_where_it_is = refl
+
+-- ---- a pass upwards over four bytes from 3
+
+-- the last of three bytes ends it, and at the second one the cache was cleared
+counts_the_way_from_there : cut_told false 4 1 3 ≡ so_many 1
+counts_the_way_from_there = refl
+
+-- the same up to the span's end
+counts_the_way_to_the_end : cut_told false 4 1 5 ≡ so_many 3
+counts_the_way_to_the_end = refl
+
+quit_byte_ends_it : cut_left false true 4 3 1 2 5 ≡ so_many 1
+quit_byte_ends_it = refl
+
+refused_byte_is_where_it_is : cut_left false false 4 3 1 2 5 ≡ goes_on 0 4 5
+refused_byte_is_where_it_is = refl
+
+-- ---- one downwards over three bytes, from 3
+
+counts_the_way_downwards : cut_told true 3 1 4 ≡ so_many 1
+counts_the_way_downwards = refl
+
+refused_byte_is_where_it_is_downwards : cut_left true false 3 3 1 2 0 ≡ goes_on 0 1 0
+refused_byte_is_where_it_is_downwards = refl
+
+ends_before_its_last_unit : cut_left true false 3 3 1 3 0 ≡ so_many 1
+ends_before_its_last_unit = refl
+
+-- ---- the empty pattern in 1..2 of "β" in UTF-8 mode: one pass, and then one over no bytes
+
+abbrev of_nothing : Reader
+of_nothing = record {
+  automaton = record {
+    states = binary_union 2 1 ∷ byte_range 0 255 0 ∷ match_node 0 ∷ [];
+    start_anchored = 2;
+    start_unanchored = 0;
+    start_pattern = 2 ∷ [];
+    reverse = false;
+  };
+  terminator = one_of 10;
+  kind = LeftmostFirst;
+  quits = replicate 255 false ++ true ∷ [];
+  between_characters = true;
+  starts_for_each_pattern = false;
+}
+
+abbrev inside : Search
+inside = record { haystack = 0xCE ∷ 0xB2 ∷ []; start = 1; end = 2; anchored = No; earliest = false }
+
+-- cleared at the start of the first one, which is counted whole
+cleared_before_all : ToldSince of_nothing inside (passes_of of_nothing inside) (so_many 1)
+unfolding families_of known_lines known_words next_value start_or_dead pass_from
+cleared_before_all = record {
+  done = [];
+  cut = (1, 1);
+  behind = (0, 2) ∷ [];
+  all = refl;
+  first = so_many 1;
+  anew = cleared_first (goes_on 0 7 7) (record { searched = refl; progress = refl }) refl;
+  told = refl;
+}
+
+-- cleared at its end, from which nothing is left
+cleared_at_its_end : ToldSince of_nothing inside (passes_of of_nothing inside) (so_many 0)
+unfolding families_of known_lines known_words next_value start_or_dead pass_from
+cleared_at_its_end = record {
+  done = [];
+  cut = (1, 1);
+  behind = (0, 2) ∷ [];
+  all = refl;
+  first = so_many 0;
+  anew = cleared_inside 1 (omega arith) refl;
+  told = refl;
+}
+
+-- cleared in the first pass, and the second one has no memory to start
+refused_behind_it : FailsSince of_nothing inside NoMemory (so_many 1)
+unfolding families_of known_lines known_words next_value start_or_dead pass_from
+refused_behind_it = fails_later ((1, 1) ∷ []) [] (0, 2) (so_many 1) refl (record {
+  done = [];
+  cut = (1, 1);
+  behind = [];
+  all = refl;
+  first = so_many 1;
+  anew = cleared_inside 0 (omega arith) refl;
+  told = refl;
+}) (left_first tt refl)
