@@ -11,7 +11,7 @@ use Rattle.lazy_dfa.specs.declared.overlapping_state.Walk.TheVariants.{Ended, Fa
 use Rattle.lazy_dfa.specs.Dfas.{Dfa, IsDfa, reader}
 use Rattle.lazy_dfa.specs.Linked.{Grows, HasCleared, GrowsOrClears}
 use Rattle.lazy_dfa.specs.Readers.{Reader}
-use Rattle.lazy_dfa.specs.SearchAnswers.{half_of, told, Told, told_of, pass_distance}
+use Rattle.lazy_dfa.specs.SearchAnswers.{half_of, Told, told_of, pass_distance}
 use Rattle.lazy_dfa.specs.Stands.{left_at}
 use Rattle.lazy_dfa.specs.Steps.{most_inserts}
 use Rattle.lazy_dfa.specs.Walks.{Rest, nothing_left, refused, others, rest_of, IsWalk, WalkState}

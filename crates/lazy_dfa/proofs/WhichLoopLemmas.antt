@@ -1,5 +1,5 @@
 -- What a walk over a whole span has done when it has told so many ends, and how it ends.
-use Rattle.std.proofs.Common.{◌≡◌, ◌⊎◌, ℕ, zero, suc, ◌+◌, ◌*◌, ◌<◌, ◌≤◌, ◌||◌, Bool, true, false, List, [], ◌∷◌, ◌++◌, length, drop, take, get_or, Option, Some, None, ◌↔◌, IsTrue, refl, sym, ap, ◌∙◌, inl, inr, ⊎_elim, subst, arith, append_assoc, mul-le-mul_right, if◌then◌else◌, true≢false}
+use Rattle.std.proofs.Common.{◌≡◌, ℕ, zero, suc, ◌+◌, ◌*◌, ◌<◌, ◌≤◌, ◌||◌, Bool, true, false, List, [], ◌∷◌, ◌++◌, length, drop, take, get_or, Option, Some, None, ◌↔◌, IsTrue, refl, sym, ap, ◌∙◌, inl, inr, ⊎_elim, subst, arith, append_assoc, mul-le-mul_right, if◌then◌else◌, true≢false}
 use Rattle.std.specs.Prelude.{Result, Ok, Err, IfErr, ⊤}
 use Rattle.std.proofs.lemmas.Bool.{cases_Bool}
 use Rattle.search_core.specs.ByteSets.{has}
