@@ -59,3 +59,5 @@ pub use Rattle.hir_core.proofs.SequenceTreeLemmas.{sequences_counted}
 pub use Rattle.hir_core.proofs.BackwardLemmas.{behind_more, behind_all}
 -- the set of one look has that look and no other
 pub use Rattle.hir_core.proofs.LookFactLemmas.{one_has, one_held}
+-- what a tree means, and prefers, in a haystack that ends at a place is what it does up to there in the whole one
+pub use Rattle.hir_core.proofs.CutLemmas.{cut_ends, cut_to_whole, whole_to_cut}

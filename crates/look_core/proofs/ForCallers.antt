@@ -15,3 +15,6 @@ pub use Rattle.look_core.proofs.ClassLemmas.{same_class_alike}
 pub use Rattle.look_core.proofs.ClassLemmas.{LieAlike, same_end, same_word, same_byte}
 -- haystacks whose bytes lie alike place by place: what is read beside a place, and the looks there
 pub use Rattle.look_core.proofs.ClassLemmas.{AtEach, same_at, same_before, alike_bytes, same_unicode, word_ranges_told}
+-- a look that asks for no words by characters is read by bytes whatever reads words, and beside ASCII each look is
+pub use Rattle.look_core.proofs.MirrorLemmas.{reads_bytes}
+pub use Rattle.look_core.proofs.SideLemmas.{agree_on_ascii}

@@ -66,3 +66,5 @@ pub use Rattle.nfa_core.proofs.RenamingWalks.{from_mapped}
 pub use Rattle.nfa_core.proofs.RenamingAnswers.{every_of_all}
 -- a chain of what is built that comes to a kept state is one of the table
 pub use Rattle.nfa_core.proofs.RenamingPlaces.{chain_to}
+-- the first of a list is that of the list without repeats
+pub use Rattle.nfa_core.proofs.RunLemmas.{first_distinct}

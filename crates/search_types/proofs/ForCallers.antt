@@ -18,3 +18,6 @@ pub use Rattle.search_types.proofs.FirstLemmas.{first_found}
 pub use Rattle.search_types.proofs.GroupLemmas.{none_first}
 -- slots of groups that break no rule are in range
 pub use Rattle.search_types.proofs.GroupLaws.{slot_in_range}
+-- a search may start up to the last place where its mode lets it, and it has one answer
+pub use Rattle.search_types.proofs.ModeLemmas.{may_start_at}
+pub use Rattle.search_types.proofs.AnswerLemmas.{one_answer}
