@@ -25,3 +25,4 @@ pub mod RunLemmas
 pub mod OneReplyLemmas
 pub mod SomeReplyLemmas
 mod AnswerRows
+pub mod EndLemmas

@@ -18,6 +18,7 @@ mod plain;
 mod program;
 pub mod reading_laws;
 mod reply;
+pub mod search_laws;
 pub mod word_laws;
 mod words;
 
