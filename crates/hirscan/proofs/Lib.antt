@@ -26,3 +26,6 @@ pub mod OneReplyLemmas
 pub mod SomeReplyLemmas
 mod AnswerRows
 pub mod EndLemmas
+pub mod OfferLemmas
+pub mod SpanChoiceLemmas
+pub mod FirstEndLemmas
