@@ -29,3 +29,4 @@ pub mod EndLemmas
 pub mod OfferLemmas
 pub mod SpanChoiceLemmas
 pub mod FirstEndLemmas
+pub mod LooseEndLemmas

@@ -2,7 +2,7 @@
 //! code: its contract is the law.
 ghost use Rattle.std.specs.Prelude.{◌≡◌, ℕ};
 
-#[tactic(auto, using(crate::proofs::FirstEndLemmas::no_start_no_tree))]
+#[tactic(auto, using(crate::proofs::LooseEndLemmas::holds_none))]
 fn scratch()
     ensures { (n : ℕ) → n ≡ n }
 {}
