@@ -30,3 +30,4 @@ pub mod OfferLemmas
 pub mod SpanChoiceLemmas
 pub mod FirstEndLemmas
 pub mod LooseEndLemmas
+pub mod RegexLemmas

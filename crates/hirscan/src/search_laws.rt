@@ -2,7 +2,7 @@
 //! code: its contract is the law.
 ghost use Rattle.std.specs.Prelude.{◌≡◌, ℕ};
 
-#[tactic(auto, using(crate::proofs::LooseEndLemmas::holds_none))]
+#[tactic(auto, using(crate::proofs::RegexLemmas::begins))]
 fn scratch()
     ensures { (n : ℕ) → n ≡ n }
 {}
