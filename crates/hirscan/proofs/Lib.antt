@@ -31,3 +31,4 @@ pub mod SpanChoiceLemmas
 pub mod FirstEndLemmas
 pub mod LooseEndLemmas
 pub mod RegexLemmas
+pub mod ForwardLemmas

@@ -2,7 +2,7 @@
 //! code: its contract is the law.
 ghost use Rattle.std.specs.Prelude.{◌≡◌, ℕ};
 
-#[tactic(auto, using(crate::proofs::RegexLemmas::begins))]
+#[tactic(auto, using(crate::proofs::ForwardLemmas::same_found))]
 fn scratch()
     ensures { (n : ℕ) → n ≡ n }
 {}
