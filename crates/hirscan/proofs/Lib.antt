@@ -32,3 +32,4 @@ pub mod FirstEndLemmas
 pub mod LooseEndLemmas
 pub mod RegexLemmas
 pub mod ForwardLemmas
+pub mod BackLemmas
