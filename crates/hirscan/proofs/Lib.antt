@@ -33,3 +33,4 @@ pub mod LooseEndLemmas
 pub mod RegexLemmas
 pub mod ForwardLemmas
 pub mod BackLemmas
+pub mod JoinLemmas
