@@ -34,3 +34,4 @@ pub mod RegexLemmas
 pub mod ForwardLemmas
 pub mod BackLemmas
 pub mod JoinLemmas
+pub mod SearchLemmas

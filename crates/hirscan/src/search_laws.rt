@@ -2,7 +2,7 @@
 //! code: its contract is the law.
 ghost use Rattle.std.specs.Prelude.{◌≡◌, ℕ};
 
-#[tactic(auto, using(crate::proofs::JoinLemmas::or_anchored))]
+#[tactic(auto, using(crate::proofs::SearchLemmas::byte_words))]
 fn scratch()
     ensures { (n : ℕ) → n ≡ n }
 {}
