@@ -54,7 +54,7 @@ filter_first : (j : ℕ) (x : ℕ × ℕ) (xs : List (ℕ × ℕ)) (b : Bool) �
     best_at (x ∷ xs) j ≡ first (cond b (x ∷ filter (λ (y : ℕ × ℕ). nat_eq y.0 j) xs) (filter (λ (y : ℕ × ℕ). nat_eq y.0 j) xs))
 filter_first j x xs b is = ap (λ c. first (cond c (x ∷ filter (λ (y : ℕ × ℕ). nat_eq y.0 j) xs) (filter (λ (y : ℕ × ℕ). nat_eq y.0 j) xs))) is
 
-best_has : (ends : List (ℕ × ℕ)) (j : ℕ) (e : ℕ × ℕ) → best_at ends j ≡ Some e → Has same_pair e ends
+pub best_has : (ends : List (ℕ × ℕ)) (j : ℕ) (e : ℕ × ℕ) → best_at ends j ≡ Some e → Has same_pair e ends
 best_has [] j e is = cc
 best_has (x ∷ xs) j e is = elim (cases_Bool (nat_eq x.0 j)) [
   | inl here ↦

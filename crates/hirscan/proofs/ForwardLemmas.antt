@@ -95,7 +95,7 @@ module _ (xs : List Tree) (utf8 : Bool) (t : Terminator) (p : Pair) (regex : IsR
       r.1.first name looks l regex.finds_first asked.whole regex.no_captures named
       (reads_alike xs utf8 t p regex q.haystack asked.bytes words set q.start r.0 r.1.quiet q.end)
 
-  all_count : f.between_characters ≡ false → AllCount asks fits_query
+  pub all_count : f.between_characters ≡ false → AllCount asks fits_query
   all_count off = elim (cases_Bool utf8) [
     | inl on ↦ inr (λ k i span.
         let some : has_empty a ≡ true = regex.up.empty.1 (k, span.tree, span.listed, empty_span looks q.haystack span.tree i i refl span.means) in

@@ -35,3 +35,4 @@ pub mod ForwardLemmas
 pub mod BackLemmas
 pub mod JoinLemmas
 pub mod SearchLemmas
+pub mod EarliestLemmas
