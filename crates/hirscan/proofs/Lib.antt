@@ -36,3 +36,4 @@ pub mod BackLemmas
 pub mod JoinLemmas
 pub mod SearchLemmas
 pub mod EarliestLemmas
+pub mod MatchLemmas

@@ -1,6 +1,6 @@
 -- The laws of searches over two automata that are compiled from trees, with their premises in order.
-use Rattle.std.proofs.Common.{◌≡◌, ℕ, ◌+◌, ◌<◌, ◌≤◌, Bool, true, false, List, [], ◌++◌, Option, Some, None, All, refl, sym, ◌∙◌, subst, arith}
-use Rattle.std.specs.Prelude.{Ok, Err}
+use Rattle.std.proofs.Common.{◌≡◌, ℕ, ◌+◌, ◌<◌, ◌≤◌, Bool, true, false, List, [], ◌++◌, Option, Some, None, All, refl, sym, ap, ◌∙◌, subst, arith}
+use Rattle.std.specs.Prelude.{Ok, Err, is_some}
 use Rattle.search_core.specs.Utf8.{is_word_byte}
 use Rattle.look_core.specs.Looks.{holds, IsWordSet}
 use Rattle.look_core.specs.Terminators.{Terminator}
@@ -19,12 +19,13 @@ use Rattle.search_types.proofs.AnswerLemmas.{one_answer}
 use Rattle.nfa_core.specs.Reaches.{read_by}
 use Rattle.thompson_nfa.specs.Compilations.{IsRead}
 use Rattle.lazy_dfa.specs.Dfas.{reader}
-use Rattle.lazy_dfa.specs.Readers.{Reader, quit, unsupported}
+use Rattle.lazy_dfa.specs.Readers.{Reader, found, quit, unsupported}
 use Rattle.lazy_dfa.specs.Scans.{scan}
 use Rattle.lazy_dfa.specs.ScanLaws.{HasNoQuitNear}
 use Rattle.lazy_dfa.proofs.ForCallers.{scan_finds_near}
 use Rattle.regex_pair.specs.Finding.{AnswersAt, search_at}
 use Rattle.regex_pair.specs.Joined.{joined}
+use Rattle.regex_pair.specs.Matching.{is_some_match}
 use Rattle.regex_pair.specs.Pairs.{Pair}
 use Rattle.hirscan.specs.Choices.{Query, choices_at, answer_from, answers_of}
 use Rattle.hirscan.specs.LooseAnswers.{IsLooseAnswer}
@@ -32,7 +33,7 @@ use Rattle.hirscan.specs.Regexes.{IsRegexOf, IsSearchOf, query_of}
 use Rattle.hirscan.proofs.AnswerLemmas.{answers_within}
 use Rattle.hirscan.proofs.EndLemmas.{Tells, HasEnd}
 use Rattle.hirscan.proofs.FirstEndLemmas.{FindsFirsts, trees_firsts}
-use Rattle.hirscan.proofs.ForwardLemmas.{fits_query}
+use Rattle.hirscan.proofs.ForwardLemmas.{fits_query, scan_has_end}
 use Rattle.hirscan.proofs.JoinLemmas.{found_by, joined_answers, joined_finds, is_a_pair, quits_upwards, refused_upwards}
 use Rattle.hirscan.proofs.LooseEndLemmas.{HasNoneCounted, IsOfFirstPattern, loose_offers, loosely_told, loose_firsts}
 use Rattle.hirscan.proofs.SpanChoiceLemmas.{offers, choices_told}
@@ -50,6 +51,11 @@ pub is_answer : (q : Query) (s : ℕ) (o : Option (ℕ × ℕ))
     IsAnswer (choices_at q) q.mode s q.end (found_by q (HasNoChoice q) (IsFirstChoice q) s o e)
 is_answer q s None e = e
 is_answer q s (Some c) e = record { starts = e.starts; first = e.best; none_before = e.none_before }
+
+same_some : (q : Query) (s : ℕ) (o : Option (ℕ × ℕ)) (e : HasEnd q (HasNoChoice q) (IsFirstChoice q) s o) →
+    is_some_match o ≡ is_some (found_by q (HasNoChoice q) (IsFirstChoice q) s o e)
+same_some q s None e = refl
+same_some q s (Some c) e = refl
 
 is_loose_answer : (q : Query) (s : ℕ) (o : Option (ℕ × ℕ)) (e : HasEnd q (HasNoneCounted q) (IsOfFirstPattern q) s o) →
     IsLooseAnswer q s (found_by q (HasNoneCounted q) (IsOfFirstPattern q) s o e)
@@ -105,7 +111,7 @@ module _ (xs : List Tree) (utf8 : Bool) (t : Terminator) (p : Pair) (regex : IsR
 
   -- ---- where they read
   module _ (loops : All LoopsRead xs) where
-    trees_tell : Tells asks (offers asks (fits_query xs utf8 t p regex q asked words set) loops) (HasNoChoice asks)
+    pub trees_tell : Tells asks (offers asks (fits_query xs utf8 t p regex q asked words set) loops) (HasNoChoice asks)
         (IsFirstChoice asks)
     trees_tell = choices_told asks (fits_query xs utf8 t p regex q asked words set) loops
 
@@ -120,6 +126,16 @@ module _ (xs : List Tree) (utf8 : Bool) (t : Terminator) (p : Pair) (regex : IsR
         ∙ one_answer (choices_at asks) q.anchored q.start q.end
         (found_by asks (HasNoChoice asks) (IsFirstChoice asks) q.start j.end j.ends)
         (answer_from asks q.start) (is_answer asks q.start j.end j.ends) (computed_is_answer (choices_at asks) q.anchored q.start q.end)
+
+    -- it has an end exactly where there is an answer
+    pub found_is_answer : (o : Option (ℕ × ℕ)) → scan (reader p.forward) q ≡ found o → is_some_match o ≡ is_some (answer_from asks q.start)
+    found_is_answer o is =
+        let ends = scan_has_end xs utf8 t p regex q asked words set (offers asks (fits_query xs utf8 t p regex q asked words set) loops) (HasNoChoice asks)
+        (IsFirstChoice asks) trees_tell trees_find o is in
+        same_some asks q.start o ends
+        ∙ ap is_some
+        (one_answer (choices_at asks) q.anchored q.start q.end (found_by asks (HasNoChoice asks) (IsFirstChoice asks) q.start o ends)
+        (answer_from asks q.start) (is_answer asks q.start o ends) (computed_is_answer (choices_at asks) q.anchored q.start q.end))
 
 -- ---- one after the other
 module _ (xs : List Tree) (utf8 : Bool) (t : Terminator) (p : Pair) (regex : IsRegexOf xs utf8 t p) (q : Search) (asked : IsSearchOf xs utf8 q)
