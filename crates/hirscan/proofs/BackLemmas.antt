@@ -1,6 +1,6 @@
 -- The search downwards from an end that was found finds the least start of a span that ends there. It meets no quit byte, as the
 -- search upwards met none.
-use Rattle.std.proofs.Common.{◌≡◌, ◌↔◌, ℕ, zero, suc, ◌+◌, ◌-◌, ◌<◌, ◌≤◌, ◌⊎◌, Bool, true, false, not, ◌&&◌, cond, List, [], ◌∷◌, length, slice_get, nat_lt, nat_eq, Option, Some, None, refl, sym, ap, ◌∙◌, subst, inl, inr, ⊎_elim, arith}
+use Rattle.std.proofs.Common.{◌≡◌, ◌↔◌, ℕ, ◌<◌, ◌≤◌, Bool, true, false, ◌&&◌, cond, List, [], ◌∷◌, length, slice_get, nat_eq, Option, Some, None, refl, sym, ap, ◌∙◌, subst, inl, inr, arith}
 use Rattle.std.specs.List.{filter}
 use Rattle.std.proofs.lemmas.Bool.{cases_lt, cases_Bool, lt-ltb}
 use Rattle.search_core.specs.ByteSets.{has}
@@ -8,21 +8,19 @@ use Rattle.search_core.specs.Text.{byte_at}
 use Rattle.look_core.specs.Looks.{holds, holds_ascii, IsWordSet}
 use Rattle.look_core.specs.Terminators.{Terminator}
 use Rattle.hir_core.specs.Tree.{Tree}
-use Rattle.hir_core.specs.Means.{Looks, Means}
+use Rattle.hir_core.specs.Means.{Looks}
 use Rattle.hir_core.specs.Agree.{AgreeFrom}
 use Rattle.hir_core.proofs.ForCallers.{span_forward, same_spans_within}
 use Rattle.search_types.specs.declared.anchored.Anchored.{Anchored}
-use Rattle.search_types.specs.declared.anchored.Anchored.TheVariants.{Yes}
 use Rattle.search_types.specs.declared.match_kind.MatchKind.{MatchKind}
 use Rattle.search_types.specs.declared.match_kind.MatchKind.TheVariants.{All as AllMatches}
 use Rattle.search_types.specs.Inputs.{Search}
-use Rattle.search_types.specs.Modes.{is_supported}
 use Rattle.search_types.specs.Places.{counts}
 use Rattle.nfa_core.specs.Walks.{Has}
 use Rattle.nfa_core.specs.Nfa.{Automaton}
 use Rattle.nfa_core.specs.NfaValue.{has_empty}
 use Rattle.nfa_core.specs.Places.{same_pair, first}
-use Rattle.nfa_core.specs.Ways.{Text, span, place_of, ends_from}
+use Rattle.nfa_core.specs.Ways.{span, place_of, ends_from}
 use Rattle.nfa_core.proofs.ForCallers.{has_same, has_later, pairs_equal}
 use Rattle.thompson_nfa.specs.Compilations.{IsChoice}
 use Rattle.lazy_dfa.specs.Dfas.{reader}
@@ -145,20 +143,26 @@ module _ (xs : List Tree) (utf8 : Bool) (t : Terminator) (p : Pair) (regex : IsR
       let last = f.2.1 in
       let above = low in
       let at : q.start ≤ j = omega arith in
-      let up : j ≤ c.0 = span_forward (holds_ascii t q.haystack) q.haystack f.0 j c.0 f.2.0 in
-      (record {
-        tree = f.0;
-        listed = f.1;
-        means = same_spans_within (holds_ascii t q.haystack) looks q.haystack q.start c.0 inside f.0 (agrees k f.0 f.1) j c.0 at up (omega arith) f.2.0;
-      }, at)
+      let up : j ≤ c.0 = span_forward (holds_ascii t q.haystack) q.haystack f.0 j c.0 f.2.0 in (
+        record {
+          tree = f.0;
+          listed = f.1;
+          means = same_spans_within (holds_ascii t q.haystack) looks q.haystack q.start c.0 inside f.0 (agrees k f.0 f.1) j c.0 at up (omega arith) f.2.0;
+        },
+        at,
+      )
 
   span_has : (k j : ℕ) → q.start ≤ j → IsSpanOf asks k j c.0 → Has same_pair (j, k) ends
   span_has k j at s =
       let up : j ≤ c.0 = span_forward looks q.haystack s.tree j c.0 s.means in
-      (both_ways k j).1
-      (s.tree, s.listed,
-      (same_spans_within looks (holds_ascii t q.haystack) q.haystack q.start c.0 inside s.tree (agrees_back k s.tree s.listed) j c.0 at up (omega arith) s.means,
-      omega arith))
+      (both_ways k j).1 (
+        s.tree,
+        s.listed,
+        (
+          same_spans_within looks (holds_ascii t q.haystack) q.haystack q.start c.0 inside s.tree (agrees_back k s.tree s.listed) j c.0 at up (omega arith) s.means,
+          omega arith,
+        ),
+      )
 
   -- ---- what is found
   last_is_least : (d : ℕ × ℕ) → IsLastEnd true ends (Some d) → d.0 ≡ i

@@ -1,8 +1,8 @@
 -- Whether there is a match is told by a search for the earliest end, where each end counts. It finds none only where the search
 -- for the most preferred end finds none, and what it finds is the end of a span.
-use Rattle.std.proofs.Common.{◌≡◌, ℕ, zero, suc, ◌+◌, ◌-◌, ◌<◌, ◌≤◌, ◌⊎◌, Bool, true, false, not, ◌&&◌, List, [], ◌∷◌, length, take, slice_get, get_or, Option, Some, None, refl, sym, ap, ◌∙◌, subst, inl, inr, arith, if◌then◌else◌}
+use Rattle.std.proofs.Common.{◌≡◌, ℕ, zero, suc, ◌-◌, Bool, true, false, not, ◌&&◌, List, [], ◌∷◌, Option, Some, None, sym, ◌∙◌, inl, inr, if◌then◌else◌}
 use Rattle.std.specs.Option.{option_or}
-use Rattle.std.proofs.lemmas.Bool.{cases_lt, cases_Bool}
+use Rattle.std.proofs.lemmas.Bool.{cases_lt}
 use Rattle.search_core.specs.ByteSets.{has}
 use Rattle.search_types.specs.declared.anchored.Anchored.{Anchored}
 use Rattle.search_types.specs.Inputs.{Search, with_earliest}
@@ -12,7 +12,7 @@ use Rattle.determinize_core.specs.States.{StateValue}
 use Rattle.determinize_core.specs.Steps.{unit_at, unit_behind}
 use Rattle.determinize_core.specs.Walked.{end_at}
 use Rattle.lazy_dfa.specs.Passes.{index_at, index_behind, is_empty, is_dead, unless_quit, if_supported, recorded, next_value, next_place, first_value, pass_from, pass}
-use Rattle.lazy_dfa.specs.Readers.{Reader, HalfAnswer, found, quit, unsupported}
+use Rattle.lazy_dfa.specs.Readers.{Reader, HalfAnswer, found, quit}
 use Rattle.lazy_dfa.specs.Scans.{scan}
 use Rattle.lazy_dfa.specs.ScanLaws.{begins_at}
 use Rattle.lazy_dfa.proofs.ForCallers.{scan_is_pass, scan_done}

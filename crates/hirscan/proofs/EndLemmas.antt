@@ -1,8 +1,8 @@
 -- From the ends that a half search finds to an answer: what it finds is known by what each place offers. It is said for any two
 -- relations that tell when a place has nothing and which span is the best there, so that it serves the answer of trees and the
 -- one but for the preference of ends.
-use Rattle.std.proofs.Common.{◌≡◌, ℕ, zero, suc, ◌+◌, ◌-◌, ◌<◌, ◌≤◌, ◌⊎◌, Bool, true, false, not, List, [], ◌∷◌, length, slice_get, Option, Some, None, All, refl, sym, ap, ◌∙◌, subst, inl, inr, arith, if◌then◌else◌}
-use Rattle.std.proofs.lemmas.Bool.{cases_lt, cases_Bool, lt-ltb}
+use Rattle.std.proofs.Common.{◌≡◌, ℕ, zero, suc, ◌+◌, ◌-◌, ◌<◌, ◌≤◌, ◌⊎◌, Bool, true, false, List, [], ◌∷◌, length, slice_get, Option, Some, None, All, refl, sym, ap, ◌∙◌, subst, inl, inr, arith}
+use Rattle.std.proofs.lemmas.Bool.{cases_lt, lt-ltb}
 use Rattle.std.proofs.lemmas.Option.{slice_get_within, get_or_from_slice_get}
 use Rattle.std.proofs.lemmas.List.Elements.{All-get_or}
 use Rattle.search_core.specs.Utf8.{IsValidText}
@@ -205,8 +205,8 @@ module _ (q : Query) (fits : Fits q) (offers : ℕ → List (ℕ × ℕ)) (Nothi
   sooner s (Some c) m l none a = record {
     place = a.place;
     starts = (let at = starts_at q.mode (s + 1) q.end a.place a.starts in
-    let low = at.from_s in let high = at.to_last in
-    may_start_at q.mode s q.end a.place l (omega arith) (omega (arith, high, same_last q.mode s m)));
+        let low = at.from_s in let high = at.to_last in
+        may_start_at q.mode s q.end a.place l (omega arith) (omega (arith, high, same_last q.mode s m)));
     span = a.span;
     forward = a.forward;
     within = a.within;

@@ -1,6 +1,6 @@
 -- The end that a search upwards finds is that of an answer, for every set of words: the search read words as bytes, and as far as
 -- it read no byte tells words of characters apart from these.
-use Rattle.std.proofs.Common.{◌≡◌, ◌≢◌, ℕ, zero, suc, ◌+◌, ◌-◌, ◌<◌, ◌≤◌, ◌⊎◌, Bool, true, false, not, ◌&&◌, List, [], length, Option, Some, None, refl, sym, ap, ◌∙◌, subst, inl, inr, arith, if◌then◌else◌}
+use Rattle.std.proofs.Common.{◌≡◌, ℕ, zero, suc, ◌+◌, ◌-◌, ◌<◌, ◌≤◌, Bool, true, false, not, ◌&&◌, List, Option, Some, None, refl, sym, ap, ◌∙◌, subst, inl, inr, arith}
 use Rattle.std.specs.List.{flat_map}
 use Rattle.std.proofs.lemmas.Bool.{cases_lt, cases_Bool}
 use Rattle.look_core.specs.Looks.{holds, IsWordSet}
@@ -25,12 +25,11 @@ use Rattle.lazy_dfa.specs.Passes.{start_name}
 use Rattle.lazy_dfa.specs.PassLaws.{splits}
 use Rattle.lazy_dfa.specs.Readers.{Reader, found}
 use Rattle.lazy_dfa.specs.Scans.{first_place, scan}
-use Rattle.lazy_dfa.specs.ScanLaws.{restarts, begins_at, IsSplitBy, IsFoundBy, IsFirstFound, ends_by}
+use Rattle.lazy_dfa.specs.ScanLaws.{restarts, IsSplitBy, IsFirstFound, ends_by}
 use Rattle.lazy_dfa.specs.SearchAnswers.{HasReach}
 use Rattle.lazy_dfa.proofs.ForCallers.{scan_has_reach, scan_done, no_pattern}
 use Rattle.regex_pair.specs.Pairs.{Pair}
 use Rattle.hirscan.specs.Choices.{Query}
-use Rattle.hirscan.specs.LooseAnswers.{IsSpanOf}
 use Rattle.hirscan.specs.Regexes.{IsRegexOf, IsSearchOf, query_of}
 use Rattle.hirscan.proofs.EndLemmas.{Fits, Tells, HasEnd, AllCount, Firsts, IsSplitAt, ends_past, none_past, anchored_split, whole_ends, no_place, unanchored_no, last_within}
 use Rattle.hirscan.proofs.FirstEndLemmas.{FindsFirsts}

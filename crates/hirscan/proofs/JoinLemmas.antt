@@ -1,5 +1,5 @@
 -- The ends and the starts that the two searches find, joined.
-use Rattle.std.proofs.Common.{◌≡◌, ℕ, ◌+◌, ◌<◌, ◌≤◌, ◌⊎◌, Bool, true, false, ◌||◌, ◌==◌, nat_eq, List, [], Option, Some, None, All, refl, sym, ap, ap₂, ◌∙◌, subst, inl, inr, arith, if◌then◌else◌}
+use Rattle.std.proofs.Common.{◌≡◌, ℕ, ◌≤◌, Bool, true, false, ◌||◌, nat_eq, List, Option, Some, None, All, refl, sym, ap, ◌∙◌, subst, inl, inr, arith, if◌then◌else◌}
 use Rattle.std.specs.Prelude.{Result, Ok, Err}
 use Rattle.std.proofs.lemmas.Bool.{cases_Bool}
 use Rattle.std.proofs.lemmas.Bool.Decides.{Decides-eqb}
@@ -22,7 +22,6 @@ use Rattle.search_types.proofs.ForCallers.{starts_at}
 use Rattle.nfa_core.specs.Nfa.{Automaton}
 use Rattle.nfa_core.specs.Reaches.{read_by}
 use Rattle.nfa_core.specs.Ways.{Text}
-use Rattle.thompson_nfa.specs.Configs.{reverse_of}
 use Rattle.thompson_nfa.specs.Compilations.{is_anchored_tree}
 use Rattle.lazy_dfa.specs.Dfas.{reader}
 use Rattle.lazy_dfa.specs.Readers.{Reader, HalfAnswer, found, quit, unsupported}
@@ -147,7 +146,6 @@ module _ (xs : List Tree) (utf8 : Bool) (t : Terminator) (p : Pair) (regex : IsR
       pub found_there : scan f q ≡ found end
       pub ends : Ends end
       pub is : o ≡ found_by asks Nothing Best q.start end ends
-
 
     answered : (x : HalfAnswer) → scan f q ≡ x → (o : Option Found) → joined p q ≡ Ok o → IsFoundEnd o
     answered (found z) is o e =

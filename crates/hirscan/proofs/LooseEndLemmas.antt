@@ -1,6 +1,6 @@
 -- What the runs of an automaton that is compiled from trees offer at each place, whatever the loops of the trees: it tells the
 -- answer but for the preference of ends.
-use Rattle.std.proofs.Common.{◌≡◌, ℕ, suc, ◌+◌, ◌-◌, ◌<◌, ◌≤◌, Bool, true, false, List, [], ◌∷◌, length, take, get_or, slice_get, Option, Some, None, refl, sym, ap, ◌∙◌, subst, arith, nat_lt, ◌==◌, ◌&&◌, eq-eqb}
+use Rattle.std.proofs.Common.{◌≡◌, ℕ, suc, ◌-◌, ◌<◌, ◌≤◌, Bool, true, false, List, [], ◌∷◌, length, take, get_or, slice_get, Option, Some, None, refl, sym, ap, ◌∙◌, subst, arith, nat_lt, ◌==◌, ◌&&◌, eq-eqb}
 use Rattle.std.specs.List.{flat_map}
 use Rattle.std.proofs.lemmas.Bool.{lt-ltb, and_parts}
 use Rattle.std.proofs.lemmas.Bool.Decides.{Decides-eqb}
@@ -11,7 +11,6 @@ use Rattle.hir_core.proofs.CutLemmas.{cut_to_whole, whole_to_cut}
 use Rattle.search_types.specs.declared.anchored.Anchored.{Anchored}
 use Rattle.search_types.specs.declared.anchored.Anchored.TheVariants.{No, Yes, Pattern}
 use Rattle.search_types.specs.Modes.{allowed, last_start}
-use Rattle.search_types.specs.Places.{counts}
 use Rattle.search_types.specs.FirstFound.{first_of, places_from, IsFirstAt, IsFirstOffer}
 use Rattle.search_types.proofs.ForCallers.{first_found}
 use Rattle.nfa_core.specs.Walks.{Has}
@@ -27,7 +26,7 @@ use Rattle.thompson_nfa.specs.Compilations.{places_from as read_places}
 use Rattle.lazy_dfa.specs.Passes.{start_name}
 use Rattle.hirscan.specs.Choices.{Query}
 use Rattle.hirscan.specs.LooseAnswers.{IsFindable, IsCounted}
-use Rattle.hirscan.proofs.EndLemmas.{IsMet, Tells}
+use Rattle.hirscan.proofs.EndLemmas.{Tells}
 use Rattle.hirscan.proofs.FirstEndLemmas.{FindsFirsts, first_of_ends, first_is_of, same_over, one_place, no_start_no_tree, start_has_tree}
 
 -- no span that counts starts at the place

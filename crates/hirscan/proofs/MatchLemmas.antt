@@ -1,12 +1,12 @@
 -- Whether there is a match is told as the trees define it.
-use Rattle.std.proofs.Common.{◌≡◌, ℕ, zero, suc, ◌+◌, ◌-◌, ◌<◌, ◌≤◌, ◌⊎◌, Bool, true, false, not, ◌&&◌, List, [], length, take, slice_get, get_or, nat_lt, ◌==◌, eq-eqb, Option, Some, None, All, refl, sym, ap, ◌∙◌, subst, inl, inr, arith, if◌then◌else◌}
-use Rattle.std.specs.Prelude.{Result, Ok, Err, is_some}
-use Rattle.std.proofs.lemmas.Bool.{cases_lt, cases_Bool, lt-ltb}
+use Rattle.std.proofs.Common.{◌≡◌, ℕ, zero, suc, ◌+◌, ◌<◌, ◌≤◌, Bool, true, false, not, ◌&&◌, List, [], length, take, slice_get, get_or, nat_lt, ◌==◌, eq-eqb, Option, Some, None, All, refl, sym, ap, ◌∙◌, subst, inl, inr, arith}
+use Rattle.std.specs.Prelude.{Result, Ok, is_some}
+use Rattle.std.proofs.lemmas.Bool.{cases_lt, lt-ltb}
 use Rattle.std.proofs.lemmas.Option.{slice_get_within, get_or_from_slice_get}
 use Rattle.look_core.specs.Looks.{holds, holds_ascii, IsWordSet}
 use Rattle.look_core.specs.Terminators.{Terminator}
 use Rattle.hir_core.specs.Tree.{Tree, empty}
-use Rattle.hir_core.specs.Means.{Looks, Means}
+use Rattle.hir_core.specs.Means.{Means}
 use Rattle.hir_core.specs.Facts.{LoopsRead}
 use Rattle.hir_core.proofs.CutLemmas.{cut_to_whole}
 use Rattle.hir_core.proofs.ForCallers.{span_forward, same_spans_within}
@@ -24,10 +24,9 @@ use Rattle.nfa_core.specs.Walks.{Has}
 use Rattle.nfa_core.specs.Nfa.{Automaton}
 use Rattle.nfa_core.specs.Places.{same_pair}
 use Rattle.nfa_core.specs.Ways.{Text, span, place_of, ends_from}
-use Rattle.thompson_nfa.specs.Compilations.{FindsSpans, IsRead, IsChoice, start_of}
+use Rattle.thompson_nfa.specs.Compilations.{FindsSpans, IsRead, start_of}
 use Rattle.lazy_dfa.specs.Dfas.{reader}
 use Rattle.lazy_dfa.specs.Passes.{start_name}
-use Rattle.lazy_dfa.specs.PassLaws.{IsNearestEnd}
 use Rattle.lazy_dfa.specs.Readers.{Reader, HalfAnswer, found, quit, unsupported}
 use Rattle.lazy_dfa.specs.Scans.{first_place, scan}
 use Rattle.lazy_dfa.specs.ScanLaws.{IsWanted, IsSplitBy, IsFound, ends_of}
@@ -37,13 +36,13 @@ use Rattle.lazy_dfa.proofs.HasReachLemmas.{start_is_state}
 use Rattle.regex_pair.specs.Matching.{has_match, match_search, match_told, is_some_match}
 use Rattle.regex_pair.specs.Pairs.{Pair}
 use Rattle.hirscan.specs.Choices.{Query, choices_at, answer_from}
-use Rattle.hirscan.specs.LooseAnswers.{IsSpanOf, IsCounted}
+use Rattle.hirscan.specs.LooseAnswers.{IsSpanOf}
 use Rattle.hirscan.specs.Regexes.{IsRegexOf, IsSearchOf, query_of}
 use Rattle.hirscan.proofs.BackLemmas.{best_has}
 use Rattle.hirscan.proofs.EarliestLemmas.{scan_none}
 use Rattle.hirscan.proofs.EndLemmas.{AllCount, span_counts, last_within}
 use Rattle.hirscan.proofs.FirstEndLemmas.{start_has_tree}
-use Rattle.hirscan.proofs.ForwardLemmas.{fits_query, all_count, same_found}
+use Rattle.hirscan.proofs.ForwardLemmas.{fits_query, all_count}
 use Rattle.hirscan.proofs.RegexLemmas.{goes_up, up_ends_lines, place_up, trees_alike}
 use Rattle.hirscan.proofs.SearchLemmas.{found_is_answer, trees_tell}
 

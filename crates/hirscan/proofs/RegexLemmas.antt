@@ -1,6 +1,6 @@
 -- What the definition of two automata that search as one gives at once: their directions, and that where a search upwards found
 -- something, words of characters are read as those of bytes as far as it read.
-use Rattle.std.proofs.Common.{◌≡◌, ℕ, zero, suc, ◌+◌, ◌-◌, ◌<◌, ◌≤◌, Bool, true, false, ◌&&◌, List, length, slice_get, Option, Some, None, All, refl, sym, ap, ◌∙◌, subst, inl, inr, ⊎_elim, arith}
+use Rattle.std.proofs.Common.{◌≡◌, ℕ, zero, suc, ◌+◌, ◌-◌, ◌<◌, ◌≤◌, Bool, true, false, ◌&&◌, List, slice_get, Option, Some, None, All, refl, sym, ap, ◌∙◌, subst, inl, inr, ⊎_elim, arith}
 use Rattle.std.specs.Prelude.{IfSome}
 use Rattle.std.proofs.lemmas.Bool.{cases_Bool, cases_lt}
 use Rattle.std.proofs.lemmas.Option.{slice_get_within, get_or_from_slice_get}
@@ -29,7 +29,7 @@ use Rattle.thompson_nfa.specs.Compiled.{turned}
 use Rattle.thompson_nfa.proofs.ForCallers.{looks_are_used}
 use Rattle.lazy_dfa.specs.ConfigValue.{by_hand, word_boundary_of}
 use Rattle.lazy_dfa.specs.Dfas.{reader}
-use Rattle.lazy_dfa.specs.Quits.{quit_bytes, has_unicode_word}
+use Rattle.lazy_dfa.specs.Quits.{has_unicode_word}
 use Rattle.lazy_dfa.specs.Readers.{is_quit}
 use Rattle.lazy_dfa.specs.Scans.{first_place}
 use Rattle.lazy_dfa.specs.ScanLaws.{ReadsAlike}

@@ -1,5 +1,5 @@
 -- The laws of searches over two automata that are compiled from trees, with their premises in order.
-use Rattle.std.proofs.Common.{◌≡◌, ℕ, ◌+◌, ◌<◌, ◌≤◌, Bool, true, false, List, [], ◌++◌, Option, Some, None, All, refl, sym, ap, ◌∙◌, subst, arith}
+use Rattle.std.proofs.Common.{◌≡◌, ℕ, ◌+◌, ◌≤◌, Bool, true, List, [], ◌++◌, Option, Some, None, All, refl, sym, ap, ◌∙◌, subst, arith}
 use Rattle.std.specs.Prelude.{Ok, Err, is_some}
 use Rattle.search_core.specs.Utf8.{is_word_byte}
 use Rattle.look_core.specs.Looks.{holds, IsWordSet}
@@ -19,7 +19,7 @@ use Rattle.search_types.proofs.AnswerLemmas.{one_answer}
 use Rattle.nfa_core.specs.Reaches.{read_by}
 use Rattle.thompson_nfa.specs.Compilations.{IsRead}
 use Rattle.lazy_dfa.specs.Dfas.{reader}
-use Rattle.lazy_dfa.specs.Readers.{Reader, found, quit, unsupported}
+use Rattle.lazy_dfa.specs.Readers.{found, quit, unsupported}
 use Rattle.lazy_dfa.specs.Scans.{scan}
 use Rattle.lazy_dfa.specs.ScanLaws.{HasNoQuitNear}
 use Rattle.lazy_dfa.proofs.ForCallers.{scan_finds_near}

@@ -16,7 +16,7 @@ use Rattle.search_types.specs.Modes.{allowed}
 use Rattle.search_types.specs.Places.{counts}
 use Rattle.search_types.specs.LeftmostAnswer.{first_choice}
 use Rattle.hirscan.specs.Choices.{Query, choices, ends_at, may_end, choices_at}
-use Rattle.hirscan.specs.LooseAnswers.{IsSpanOf, IsFindable, IsCounted}
+use Rattle.hirscan.specs.LooseAnswers.{IsSpanOf}
 use Rattle.hirscan.proofs.EndLemmas.{Fits, IsMet, Tells, listed_has}
 use Rattle.hirscan.proofs.OfferLemmas.{offered, pattern_offers, mode_offers, AllRead, none_offered, some_offered, one_alone, alone_none, alone_some, span_is_choice, silent, offer_ends, paired, end_of, number_of}
 

@@ -1,5 +1,5 @@
 -- Two automata that search as one for the trees of a list, and what a search over them is asked.
-use Rattle.std.specs.Prelude.{◌≡◌, ◌<◌, ◌≤◌, ℕ, Bool, true, false, List, All, length}
+use Rattle.std.specs.Prelude.{◌≡◌, ◌<◌, ◌≤◌, Bool, true, false, List, All, length}
 use Rattle.std.specs.List.{list_any}
 use Rattle.search_core.specs.Utf8.{IsValidText}
 use Rattle.look_core.specs.Terminators.{Terminator}

@@ -1,6 +1,6 @@
 //! Laws of searches over two automata that are compiled from trees: they answer what the trees define. Each function has no
 //! code: its contract is the law.
-ghost use Rattle.std.specs.Prelude.{◌≡◌, ◌≤◌, ◌+◌, ◌++◌, ℕ, Bool, true, List, All, Option, None, Ok, Err};
+ghost use Rattle.std.specs.Prelude.{◌≡◌, ◌≤◌, ◌+◌, ◌++◌, ℕ, Bool, true, false, List, All, Option, None, Ok, Err, is_some};
 ghost use Rattle.look_core.specs.Looks.{holds, IsWordSet};
 ghost use Rattle.look_core.specs.Terminators.{Terminator};
 ghost use Rattle.hir_core.specs.Facts.{LoopsRead};
@@ -9,7 +9,7 @@ ghost use Rattle.search_types.specs.declared.anchored.Anchored.{Anchored};
 ghost use Rattle.search_types.specs.declared.match_error.MatchErrorKind.TheVariants.{Quit, UnsupportedAnchored, NotAPair};
 ghost use Rattle.search_types.specs.Chains.{IsChain, IsWholeChain};
 ghost use Rattle.search_types.specs.Found.{Found};
-ghost use Rattle.search_types.specs.Inputs.{Search};
+ghost use Rattle.search_types.specs.Inputs.{Search, with_earliest};
 ghost use Rattle.search_types.specs.Modes.{is_supported};
 ghost use Rattle.lazy_dfa.specs.Dfas.{reader};
 ghost use Rattle.lazy_dfa.specs.Readers.{Reader, quit, unsupported};
@@ -17,6 +17,7 @@ ghost use Rattle.lazy_dfa.specs.ScanLaws.{HasNoQuitNear};
 ghost use Rattle.lazy_dfa.specs.Scans.{scan};
 ghost use Rattle.regex_pair.specs.Finding.{AnswersAt};
 ghost use Rattle.regex_pair.specs.Joined.{joined};
+ghost use Rattle.regex_pair.specs.Matching.{has_match};
 ghost use Rattle.regex_pair.specs.Pairs.{Pair};
 ghost use Rattle.hirscan.specs.Choices.{answer_from, answers_of};
 ghost use Rattle.hirscan.specs.LooseAnswers.{IsLooseAnswer};
@@ -57,6 +58,13 @@ pub fn lists_are_those_of_the_trees()
     ensures begins { (xs : List Tree) (utf8 : Bool) (t : Terminator) (p : Pair) → IsRegexOf xs utf8 t p → (q : Search) → IsSearchOf xs utf8 q →
         (words : ℕ → Bool) → IsWordSet words → All LoopsRead xs → q.start ≤ q.end + 1 → (fs : List Found) → IsChain (AnswersAt p q) None q.start fs →
         (rest : List Found) × (answers_of (query_of xs utf8 (holds words t q.haystack) q) q.start ≡ fs ++ rest) }
+{}
+
+/// What is told of whether there is a match is whether the trees define an answer, also where the earliest end is asked for.
+pub fn matches_are_told()
+    ensures { (xs : List Tree) (utf8 : Bool) (t : Terminator) (p : Pair) → IsRegexOf xs utf8 t p → (q : Search) →
+        IsSearchOf xs utf8 (with_earliest false q) → (words : ℕ → Bool) → IsWordSet words → All LoopsRead xs → (b : Bool) → has_match p q ≡ Ok b →
+        b ≡ is_some (answer_from (query_of xs utf8 (holds words t q.haystack) q) q.start) }
 {}
 
 /// Whatever the loops of the trees read, the answer has the least start of a match, the first pattern that matches there, and an
