@@ -50,7 +50,8 @@ pub record IsLeastStart (q : Query) (s : ℕ) (c : ℕ × ℕ) (i : ℕ) : Type 
 -- ---- the last end
 filter_first : (j : ℕ) (x : ℕ × ℕ) (xs : List (ℕ × ℕ)) (b : Bool) → nat_eq x.0 j ≡ b →
     best_at (x ∷ xs) j ≡ first (cond b (x ∷ filter (λ (y : ℕ × ℕ). nat_eq y.0 j) xs) (filter (λ (y : ℕ × ℕ). nat_eq y.0 j) xs))
-filter_first j x xs b is = ap (λ c. first (cond c (x ∷ filter (λ (y : ℕ × ℕ). nat_eq y.0 j) xs) (filter (λ (y : ℕ × ℕ). nat_eq y.0 j) xs))) is
+filter_first j x xs b is =
+    ap (λ c. first (cond c (x ∷ filter (λ (y : ℕ × ℕ). nat_eq y.0 j) xs) (filter (λ (y : ℕ × ℕ). nat_eq y.0 j) xs))) is
 
 pub best_has : (ends : List (ℕ × ℕ)) (j : ℕ) (e : ℕ × ℕ) → best_at ends j ≡ Some e → Has same_pair e ends
 best_has [] j e is = cc
@@ -82,7 +83,8 @@ wanted_all kind down ends o is_all is_down wanted =
     let R : Bool → Type 0 = λ b. IsLastEnd b ends o in
     subst R is_down (subst P is_all wanted)
 
-module _ (xs : List Tree) (utf8 : Bool) (t : Terminator) (p : Pair) (regex : IsRegexOf xs utf8 t p) (q : Search) (asked : IsSearchOf xs utf8 q)
+module _ (xs : List Tree) (utf8 : Bool) (t : Terminator) (p : Pair) (regex : IsRegexOf xs utf8 t p) (q : Search)
+    (asked : IsSearchOf xs utf8 q)
     (words : ℕ → Bool) (set : IsWordSet words) (c : ℕ × ℕ) (is : scan (reader p.forward) q ≡ found (Some c)) (i : ℕ)
     (start : IsLeastStart (query_of xs utf8 (holds words t q.haystack) q) q.start c i) where
   abbrev r : Reader
@@ -147,7 +149,8 @@ module _ (xs : List Tree) (utf8 : Bool) (t : Terminator) (p : Pair) (regex : IsR
         record {
           tree = f.0;
           listed = f.1;
-          means = same_spans_within (holds_ascii t q.haystack) looks q.haystack q.start c.0 inside f.0 (agrees k f.0 f.1) j c.0 at up (omega arith) f.2.0;
+          means = same_spans_within (holds_ascii t q.haystack) looks q.haystack q.start c.0 inside f.0 (agrees k f.0 f.1) j c.0 at up
+              (omega arith) f.2.0;
         },
         at,
       )
@@ -159,7 +162,8 @@ module _ (xs : List Tree) (utf8 : Bool) (t : Terminator) (p : Pair) (regex : IsR
         s.tree,
         s.listed,
         (
-          same_spans_within looks (holds_ascii t q.haystack) q.haystack q.start c.0 inside s.tree (agrees_back k s.tree s.listed) j c.0 at up (omega arith) s.means,
+          same_spans_within looks (holds_ascii t q.haystack) q.haystack q.start c.0 inside s.tree
+              (agrees_back k s.tree s.listed) j c.0 at up (omega arith) s.means,
           omega arith,
         ),
       )
@@ -175,9 +179,11 @@ module _ (xs : List Tree) (utf8 : Bool) (t : Terminator) (p : Pair) (regex : IsR
   some_last : IsLastEnd true ends None → ⊥
   some_last none = holds_none ends (i, c.1) none (span_has c.1 i start.from start.span)
 
-  last_end : (k : ℕ) (o : Option (ℕ × ℕ)) → k ≡ 0 → IsWanted r.kind false m.reverse (ends_of r back m.start_anchored k) o → IsLastEnd true ends o
+  last_end : (k : ℕ) (o : Option (ℕ × ℕ)) → k ≡ 0 → IsWanted r.kind false m.reverse (ends_of r back m.start_anchored k) o →
+      IsLastEnd true ends o
   last_end k o none wanted =
-      let at : place_of m.reverse (first_place m.reverse q.start c.0) 0 ≡ c.0 = place_down m.reverse q.start c.0 (goes_down xs utf8 t p regex) in
+      let at : place_of m.reverse (first_place m.reverse q.start c.0) 0 ≡ c.0 =
+      place_down m.reverse q.start c.0 (goes_down xs utf8 t p regex) in
       let same : ends_of r back m.start_anchored k ≡ ends =
       ap (ends_of r back m.start_anchored) none
       ∙ ap (λ j. ends_from m (span p.reverse.nfa.terminator q.haystack q.start c.0) (j, m.start_anchored)) at
@@ -187,7 +193,8 @@ module _ (xs : List Tree) (utf8 : Bool) (t : Terminator) (p : Pair) (regex : IsR
 
   start_counts : counts r.between_characters q.haystack i ≡ true
   start_counts =
-      counts_so p.reverse.nfa.utf8 (has_empty m) q.haystack i (ap (λ b. counts b q.haystack i) (down_is_utf8 xs utf8 t p regex) ∙ start.counted)
+      counts_so p.reverse.nfa.utf8 (has_empty m) q.haystack i
+      (ap (λ b. counts b q.haystack i) (down_is_utf8 xs utf8 t p regex) ∙ start.counted)
 
   never_split : IsSplitBy (λ k x. IsWanted r.kind false m.reverse (ends_of r back m.start_anchored k) x) r back 0 → ⊥
   never_split split =
@@ -206,7 +213,8 @@ module _ (xs : List Tree) (utf8 : Bool) (t : Terminator) (p : Pair) (regex : IsR
   starts_by o (inr all) = absurd (never_split (all.0 0 (omega arith)))
 
   back_starts : (o : Option (ℕ × ℕ)) → scan r back ≡ found o → Starts o
-  back_starts o e = starts_by o (scan_finds r back m.start_anchored regex.reverse.sound.named low inside refl regex.reverse.sound.anchored o e)
+  back_starts o e = starts_by o
+      (scan_finds r back m.start_anchored regex.reverse.sound.named low inside refl regex.reverse.sound.anchored o e)
 
   -- the search back finds a start, and it is this one
   by_answer : (x : HalfAnswer) → scan r back ≡ x → (d : ℕ × ℕ) × (scan r back ≡ found (Some d)) × (d.0 ≡ i)

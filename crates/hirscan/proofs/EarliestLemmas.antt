@@ -53,9 +53,11 @@ module _ (r : Reader) (h : List ℕ) where
 
   abbrev turn : Bool → ℕ → ℕ → StateValue → Option (ℕ × ℕ) → HalfAnswer
   turn earliest n i w best =
-      if earliest && not (is_empty w.matches) then found (recorded i w best) else pass_from r earliest h n (next_place r i) w (recorded i w best)
+      if earliest && not (is_empty w.matches) then found (recorded i w best) else pass_from r earliest h n (next_place r i) w
+      (recorded i w best)
 
-  none_from : (n i : ℕ) (v : StateValue) (best : Option (ℕ × ℕ)) → pass_from r true h n i v best ≡ found None → pass_from r false h n i v best ≡ found None
+  none_from : (n i : ℕ) (v : StateValue) (best : Option (ℕ × ℕ)) → pass_from r true h n i v best ≡ found None →
+      pass_from r false h n i v best ≡ found None
   unfolding pass_from
   none_from zero i v best e = e
   none_from (suc n) i v best e =

@@ -1,7 +1,7 @@
 -- From the ends that a half search finds to an answer: what it finds is known by what each place offers. It is said for any two
 -- relations that tell when a place has nothing and which span is the best there, so that it serves the answer of trees and the
 -- one but for the preference of ends.
-use Rattle.std.proofs.Common.{◌≡◌, ℕ, zero, suc, ◌+◌, ◌-◌, ◌<◌, ◌≤◌, ◌⊎◌, Bool, true, false, List, [], ◌∷◌, length, slice_get, Option, Some, None, All, refl, sym, ap, ◌∙◌, subst, inl, inr, arith}
+use Rattle.std.proofs.Common.{◌≡◌, ℕ, zero, suc, ◌+◌, ◌-◌, ◌<◌, ◌≤◌, ◌⊎◌, Bool, true, false, ◌&&◌, List, [], ◌∷◌, length, slice_get, Option, Some, None, All, refl, sym, ap, ◌∙◌, subst, inl, inr, arith}
 use Rattle.std.proofs.lemmas.Bool.{cases_lt, lt-ltb}
 use Rattle.std.proofs.lemmas.Option.{slice_get_within, get_or_from_slice_get}
 use Rattle.std.proofs.lemmas.List.Elements.{All-get_or}
@@ -20,7 +20,12 @@ use Rattle.hirscan.specs.Choices.{Query}
 use Rattle.hirscan.specs.LooseAnswers.{IsSpanOf, IsFindable, IsCounted}
 
 pub listed_has : (P : Tree → Type 0) (xs : List Tree) → All P xs → (p : ℕ) (x : Tree) → slice_get xs p ≡ Some x → P x
-listed_has P xs all p x listed = subst P (get_or_from_slice_get xs p x empty listed) (All-get_or P xs p empty (slice_get_within xs p x listed) all)
+listed_has P xs all p x listed = subst P (get_or_from_slice_get xs p x empty listed)
+    (All-get_or P xs p empty (slice_get_within xs p x listed) all)
+
+pub both_true : (a b : Bool) → a ≡ true → b ≡ true → a && b ≡ true
+both_true true b t u = u
+both_true false b t u = t
 
 -- the premises on the patterns and the haystack
 pub record Fits (q : Query) : Type 0 where
@@ -86,9 +91,12 @@ module _ (q : Query) (fits : Fits q) where
   utf8_counts false e p i j m l within = (refl, refl)
   utf8_counts true e p i j m l within =
       let valid = fits.valid (sym e) in
-      let utf8 : is_utf8_tree m.tree ≡ true = listed_has (λ x. is_utf8_tree x ≡ true) q.patterns (fits.utf8_trees (sym e)) p m.tree m.listed in
-      let inside : j ≤ length q.haystack = omega (arith, within, fits.within) in
-      (span_start_bounded q.looks q.haystack m.tree i j valid utf8 m.means l inside, span_end_bounded q.looks q.haystack m.tree i j valid utf8 m.means l inside)
+      let utf8 : is_utf8_tree m.tree ≡ true = listed_has (λ x. is_utf8_tree x ≡ true) q.patterns
+      (fits.utf8_trees (sym e)) p m.tree m.listed in
+      let inside : j ≤ length q.haystack = omega (arith, within, fits.within) in (
+        span_start_bounded q.looks q.haystack m.tree i j valid utf8 m.means l inside,
+        span_end_bounded q.looks q.haystack m.tree i j valid utf8 m.means l inside,
+      )
 
   pub span_counts : (p i j : ℕ) → IsSpanOf q p i j → i < j → j ≤ q.end →
       (counts q.utf8 q.haystack i ≡ true) × (counts q.utf8 q.haystack j ≡ true)
@@ -98,7 +106,8 @@ module _ (q : Query) (fits : Fits q) where
   abbrev pub AllCount : Type 0
   AllCount = (q.utf8 ≡ false) ⊎ ((p i : ℕ) → IsSpanOf q p i i → ⊥)
 
-module _ (q : Query) (fits : Fits q) (offers : ℕ → List (ℕ × ℕ)) (Nothing : ℕ → Type 0) (Best : ℕ → ℕ → ℕ → Type 0) (tells : Tells q offers Nothing Best) where
+module _ (q : Query) (fits : Fits q) (offers : ℕ → List (ℕ × ℕ)) (Nothing : ℕ → Type 0) (Best : ℕ → ℕ → ℕ → Type 0)
+    (tells : Tells q offers Nothing Best) where
   abbrev counted : ℕ → Bool
   counted j = counts q.utf8 q.haystack j
 
@@ -164,7 +173,8 @@ module _ (q : Query) (fits : Fits q) (offers : ℕ → List (ℕ × ℕ)) (Nothi
     split_none : counted c.0 ≡ false → Nothing s
     split_none f = let from = at.from in elim (cases_lt s at.place) [
       | inl lt ↦ none_before_it s (omega arith) lt
-      | inr ge ↦ let here : c.0 ≡ s = (let e = split_empty f in omega arith) in tells.uncounted s (ap (counts q.utf8 q.haystack) (sym here) ∙ f)
+      | inr ge ↦ let here : c.0 ≡ s = (let e = split_empty f in omega arith) in
+          tells.uncounted s (ap (counts q.utf8 q.haystack) (sym here) ∙ f)
     ]
 
     whole_counts : AllCount q fits → counted c.0 ≡ true
@@ -181,7 +191,8 @@ module _ (q : Query) (fits : Fits q) (offers : ℕ → List (ℕ × ℕ)) (Nothi
   no_place s past = λ i starts. let at = starts_at q.mode s q.end i starts in let f = at.forward in absurd (omega arith)
 
   -- ---- a search from one place further
-  one_further : (mode : Anchored) (s i : ℕ) → mode ≡ No → s ≤ q.end → may_start mode s q.end i ≡ true → (s ≡ i) ⊎ (may_start mode (s + 1) q.end i ≡ true)
+  one_further : (mode : Anchored) (s i : ℕ) → mode ≡ No → s ≤ q.end → may_start mode s q.end i ≡ true →
+      (s ≡ i) ⊎ (may_start mode (s + 1) q.end i ≡ true)
   one_further No s i m l starts =
       let at = starts_at No s q.end i starts in
       let low = at.from_s in let high = at.to_last in
@@ -223,7 +234,8 @@ module _ (q : Query) (fits : Fits q) (offers : ℕ → List (ℕ × ℕ)) (Nothi
   IsSplitAt i = (c : ℕ × ℕ) × Firsts i (Some c) × (counts q.utf8 q.haystack c.0 ≡ false)
 
   -- past places from which an end is found that doesn't count
-  past_splits : (n s at : ℕ) (o : Option (ℕ × ℕ)) → at ≡ s + n → at ≤ q.end + 1 → (0 < n → q.mode ≡ No) → ((i : ℕ) → s ≤ i → i < at → IsSplitAt i) →
+  past_splits : (n s at : ℕ) (o : Option (ℕ × ℕ)) → at ≡ s + n → at ≤ q.end + 1 → (0 < n → q.mode ≡ No) →
+      ((i : ℕ) → s ≤ i → i < at → IsSplitAt i) →
       Ends at o → Ends s o
   past_splits zero s at o is high free split ends =
       let same : at ≡ s = omega arith in
@@ -239,7 +251,8 @@ module _ (q : Query) (fits : Fits q) (offers : ℕ → List (ℕ × ℕ)) (Nothi
   counted_ends s l (Some c) at all = some_ends s l c at (all c refl)
 
   -- the first end that counts of searches each from one place further
-  pub ends_past : (n s at : ℕ) (o : Option (ℕ × ℕ)) → at ≡ s + n → at ≤ q.end → (0 < n → q.mode ≡ No) → ((i : ℕ) → s ≤ i → i < at → IsSplitAt i) →
+  pub ends_past : (n s at : ℕ) (o : Option (ℕ × ℕ)) → at ≡ s + n → at ≤ q.end → (0 < n → q.mode ≡ No) →
+      ((i : ℕ) → s ≤ i → i < at → IsSplitAt i) →
       Firsts at o → ((c : ℕ × ℕ) → o ≡ Some c → counted c.0 ≡ true) → Ends s o
   ends_past n s at o is high free split firsts all =
       past_splits n s at o is (omega arith) free split (counted_ends at high o firsts all)
@@ -266,7 +279,8 @@ module _ (q : Query) (fits : Fits q) (offers : ℕ → List (ℕ × ℕ)) (Nothi
   whole_ends all s l o at = whole all s l o at
 
   -- a search that may start anywhere starts at the least place from which a pattern has a span that ends there
-  pub start_is_least : (s : ℕ) (c : ℕ × ℕ) → q.mode ≡ No → (a : IsBestFrom q Nothing Best s c) → (k p : ℕ) → s ≤ k → IsSpanOf q p k c.0 → a.place ≤ k
+  pub start_is_least : (s : ℕ) (c : ℕ × ℕ) → q.mode ≡ No → (a : IsBestFrom q Nothing Best s c) → (k p : ℕ) → s ≤ k → IsSpanOf q p k c.0 →
+      a.place ≤ k
   start_is_least s c m a k p low span = elim (cases_lt k a.place) [
     | inl lt ↦
         let at = starts_at q.mode s q.end a.place a.starts in
@@ -279,6 +293,7 @@ module _ (q : Query) (fits : Fits q) (offers : ℕ → List (ℕ × ℕ)) (Nothi
         } in
         let ends = span_counts q fits p k c.0 span (omega arith) within in
         let starts : may_start q.mode s q.end k ≡ true = may_start_at q.mode s q.end k at.forward low (omega arith) in
-        absurd (tells.missed k p c.0 (omega arith) (record { findable = findable; start_counts = ends.0; end_counts = ends.1 }) (a.none_before k starts lt))
+        absurd (tells.missed k p c.0 (omega arith) (record { findable = findable; start_counts = ends.0; end_counts = ends.1 })
+        (a.none_before k starts lt))
     | inr ge ↦ ge
   ]

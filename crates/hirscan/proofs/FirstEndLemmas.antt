@@ -46,7 +46,8 @@ first_is_of ends = same_first ends
 same_choices : (t : Text) (xs : List Tree) (p k i : ℕ) → p ≡ k → choices_from p xs t i ≡ offered t.holds (seen t) k xs i
 same_choices t [] p k i e = refl
 same_choices t (x ∷ xs) p k i e =
-    ap₂ (λ (l m : List (ℕ × ℕ)). l ++ m) (ap (λ n. paired n (preferred_ends t.holds (seen t) x i)) e) (same_choices t xs (suc p) (k + 1) i (omega arith))
+    ap₂ (λ (l m : List (ℕ × ℕ)). l ++ m) (ap (λ n. paired n (preferred_ends t.holds (seen t) x i)) e)
+    (same_choices t xs (suc p) (k + 1) i (omega arith))
 
 pub same_over : (b c : ℕ → List (ℕ × ℕ)) (n i : ℕ) → ((k : ℕ) → b k ≡ c k) → flat_map b (read_places i n) ≡ flat_map c (places_from i n)
 same_over b c zero i same = refl
@@ -58,14 +59,16 @@ one_place offers i =
     ap (λ k. flat_map offers (places_from i k)) one ∙ append-nil (offers i)
 
 -- the start of a pattern is there where its tree is
-pub no_start_no_tree : (o : Options) (xs : List Tree) (n : Nfa) → IsCompiled o xs n → (p : ℕ) → slice_get n.automaton.start_pattern p ≡ None → (x : Tree) →
+pub no_start_no_tree : (o : Options) (xs : List Tree) (n : Nfa) → IsCompiled o xs n → (p : ℕ) →
+    slice_get n.automaton.start_pattern p ≡ None → (x : Tree) →
     slice_get xs p ≡ Some x → ⊥
 no_start_no_tree o xs n compiled p none x listed =
     let inside = slice_get_within xs p x listed in
     let some = slice_get-get_or n.automaton.start_pattern p 0 (omega (arith, inside, compiled.patterns)) in
     let differ : None ≡ Some (get_or n.automaton.start_pattern p 0) = sym none ∙ some in cc
 
-pub start_has_tree : (o : Options) (xs : List Tree) (n : Nfa) → IsCompiled o xs n → (p q : ℕ) → slice_get n.automaton.start_pattern p ≡ Some q →
+pub start_has_tree : (o : Options) (xs : List Tree) (n : Nfa) → IsCompiled o xs n → (p q : ℕ) →
+    slice_get n.automaton.start_pattern p ≡ Some q →
     slice_get xs p ≡ Some (get_or xs p empty)
 start_has_tree o xs n compiled p q is =
     let inside = slice_get_within n.automaton.start_pattern p q is in
@@ -84,7 +87,8 @@ module _ (o : Options) (xs : List Tree) (n : Nfa) (compiled : IsCompiled o xs n)
   unanchored i name low high is =
       let same : n.automaton.start_unanchored ≡ name = cc in
       ap (λ k. first (ends_from n.automaton t (i, k))) (sym same)
-      ∙ first_of_ends (ends_from n.automaton t (i, n.automaton.start_unanchored)) (flat_map (choices_from 0 xs t) (read_places i (suc e - i)))
+      ∙ first_of_ends (ends_from n.automaton t (i, n.automaton.start_unanchored))
+      (flat_map (choices_from 0 xs t) (read_places i (suc e - i)))
       (order.unanchored loops t i read low high)
       ∙ ap first_of (same_over (choices_from 0 xs t) (mode_offers looks (take e h) xs No) (suc e - i) i (λ k. same_choices t xs 0 0 k refl))
 
@@ -97,22 +101,27 @@ module _ (o : Options) (xs : List Tree) (n : Nfa) (compiled : IsCompiled o xs n)
       ∙ ap first_of (same_choices t xs 0 0 i refl ∙ sym (one_place (mode_offers looks (take e h) xs Yes) i))
 
   named : (p i name : ℕ) → i ≤ e → slice_get n.automaton.start_pattern p ≡ Some name →
-      first (ends_from n.automaton t (i, name)) ≡ first_of (flat_map (mode_offers looks (take e h) xs (Pattern p)) (places_from i (suc i - i)))
+      first (ends_from n.automaton t (i, name)) ≡ first_of
+      (flat_map (mode_offers looks (take e h) xs (Pattern p)) (places_from i (suc i - i)))
   named p i name high is =
       let here : start_of n.automaton p ≡ name = get_or_from_slice_get n.automaton.start_pattern p name 0 is in
       let listed = start_has_tree o xs n compiled p name is in
       ap (λ k. first (ends_from n.automaton t (i, k))) (sym here)
-      ∙ first_of_ends (ends_from n.automaton t (i, start_of n.automaton p)) (paired p (preferred_ends looks (take e h) (get_or xs p empty) i))
+      ∙ first_of_ends (ends_from n.automaton t (i, start_of n.automaton p))
+      (paired p (preferred_ends looks (take e h) (get_or xs p empty) i))
       (order.patterns p (get_or xs p empty) listed (listed_has LoopsRead xs loops p (get_or xs p empty) listed) t i high)
-      ∙ ap first_of (ap (λ y. pattern_offers looks (take e h) p y i) (sym listed) ∙ sym (one_place (mode_offers looks (take e h) xs (Pattern p)) i))
+      ∙ ap first_of (ap (λ y. pattern_offers looks (take e h) p y i) (sym listed)
+      ∙ sym (one_place (mode_offers looks (take e h) xs (Pattern p)) i))
 
   first_in : (mode : Anchored) (i name : ℕ) → s ≤ i → i ≤ e → start_name n.automaton mode ≡ Some name →
-      first (ends_from n.automaton t (i, name)) ≡ first_of (flat_map (mode_offers looks (take e h) xs mode) (places_from i (suc (last_start mode i e) - i)))
+      first (ends_from n.automaton t (i, name)) ≡ first_of
+      (flat_map (mode_offers looks (take e h) xs mode) (places_from i (suc (last_start mode i e) - i)))
   first_in No i name low high is = unanchored i name low high is
   first_in Yes i name low high is = anchored i name high is
   first_in (Pattern p) i name low high is = named p i name high is
 
-  no_tree : (p i : ℕ) (x : Option Tree) → slice_get xs p ≡ x → slice_get n.automaton.start_pattern p ≡ None → pattern_offers looks (take e h) p x i ≡ []
+  no_tree : (p i : ℕ) (x : Option Tree) → slice_get xs p ≡ x → slice_get n.automaton.start_pattern p ≡ None →
+      pattern_offers looks (take e h) p x i ≡ []
   no_tree p i None is none = refl
   no_tree p i (Some x) is none = absurd (no_start_no_tree o xs n compiled p none x is)
 

@@ -31,7 +31,7 @@ use Rattle.lazy_dfa.proofs.ForCallers.{scan_has_reach, scan_done, no_pattern}
 use Rattle.regex_pair.specs.Pairs.{Pair}
 use Rattle.hirscan.specs.Choices.{Query}
 use Rattle.hirscan.specs.Regexes.{IsRegexOf, IsSearchOf, query_of}
-use Rattle.hirscan.proofs.EndLemmas.{Fits, Tells, HasEnd, AllCount, Firsts, IsSplitAt, ends_past, none_past, anchored_split, whole_ends, no_place, unanchored_no, last_within}
+use Rattle.hirscan.proofs.EndLemmas.{both_true, Fits, Tells, HasEnd, AllCount, Firsts, IsSplitAt, ends_past, none_past, anchored_split, whole_ends, no_place, unanchored_no, last_within}
 use Rattle.hirscan.proofs.FirstEndLemmas.{FindsFirsts}
 use Rattle.hirscan.proofs.RegexLemmas.{goes_up, up_is_utf8, place_up, reads_alike}
 
@@ -60,12 +60,9 @@ not_split counted c e = elim (cases_Bool (counted c.0)) [
   | inr off ↦ let differ : true ≡ false = sym (ap not off) ∙ e in cc
 ]
 
-both_true : (a b : Bool) → a ≡ true → b ≡ true → a && b ≡ true
-both_true true b t u = u
-both_true false b t u = t
-
 -- what tells words apart stands on either side of an answer
-module _ (xs : List Tree) (utf8 : Bool) (t : Terminator) (p : Pair) (regex : IsRegexOf xs utf8 t p) (q : Search) (asked : IsSearchOf xs utf8 q)
+module _ (xs : List Tree) (utf8 : Bool) (t : Terminator) (p : Pair) (regex : IsRegexOf xs utf8 t p) (q : Search)
+    (asked : IsSearchOf xs utf8 q)
     (words : ℕ → Bool) (set : IsWordSet words) where
   abbrev f : Reader
   f = reader p.forward
@@ -88,7 +85,8 @@ module _ (xs : List Tree) (utf8 : Bool) (t : Terminator) (p : Pair) (regex : IsR
   pub reach : (o : Option (ℕ × ℕ)) → scan f q ≡ found o → HasReach f q o
   reach o is = scan_has_reach f q o (goes_up xs utf8 t p regex) regex.forward.sound asked.within is
 
-  first_by_words : (o : Option (ℕ × ℕ)) (name : ℕ) → q.start ≤ q.end → start_name a q.anchored ≡ Some name → scan f q ≡ found o → IsFirstFound f q looks name o
+  first_by_words : (o : Option (ℕ × ℕ)) (name : ℕ) → q.start ≤ q.end → start_name a q.anchored ≡ Some name → scan f q ≡ found o →
+      IsFirstFound f q looks name o
   first_by_words o name l named is =
       let r = reach o is in
       r.1.first name looks l regex.finds_first asked.whole regex.no_captures named
@@ -97,7 +95,8 @@ module _ (xs : List Tree) (utf8 : Bool) (t : Terminator) (p : Pair) (regex : IsR
   pub all_count : f.between_characters ≡ false → AllCount asks fits_query
   all_count off = elim (cases_Bool utf8) [
     | inl on ↦ inr (λ k i span.
-        let some : has_empty a ≡ true = regex.up.empty.1 (k, span.tree, span.listed, empty_span looks q.haystack span.tree i i refl span.means) in
+        let some : has_empty a ≡ true =
+        regex.up.empty.1 (k, span.tree, span.listed, empty_span looks q.haystack span.tree i i refl span.means) in
         let differ : true ≡ false = sym (both_true p.forward.nfa.utf8 (has_empty a) (up_is_utf8 xs utf8 t p regex ∙ on) some) ∙ off in cc)
     | inr plain ↦ inl plain
   ]
@@ -121,7 +120,8 @@ module _ (xs : List Tree) (utf8 : Bool) (t : Terminator) (p : Pair) (regex : IsR
 
       firsts_at : (k : ℕ) (o : Option (ℕ × ℕ)) → q.start + k ≤ q.end → wanted k o → FirstsFrom (q.start + k) o
       firsts_at k o inside is =
-          let at : place_of a.reverse (first_place a.reverse q.start q.end) k ≡ q.start + k = place_up a.reverse q.start q.end k (goes_up xs utf8 t p regex) in
+          let at : place_of a.reverse (first_place a.reverse q.start q.end) k ≡ q.start + k =
+          place_up a.reverse q.start q.end k (goes_up xs utf8 t p regex) in
           let n : ℕ = suc (last_start q.anchored (q.start + k) q.end) - (q.start + k) in
           let same : o ≡ first_of (flat_map offers (places_from (q.start + k) n)) =
           is ∙ ap (λ i. first (ends_from a text (i, name))) at ∙ finds.firsts (q.start + k) name (omega arith) inside named in
@@ -139,20 +139,26 @@ module _ (xs : List Tree) (utf8 : Bool) (t : Terminator) (p : Pair) (regex : IsR
         split_at : (i : ℕ) → q.start ≤ i → i ≤ q.end → IsSplitBy wanted f q (i - q.start) → Splits i
         split_at i low high split =
             let at : q.start + (i - q.start) ≡ i = omega arith in
-            let P : ℕ → Type 0 = λ k. FirstsFrom k (Some split.0) in
-            (split.0, subst P at (firsts_at (i - q.start) (Some split.0) (omega arith) split.1), ap (λ b. counts b q.haystack split.0.0) (sym same) ∙ split.2)
+            let P : ℕ → Type 0 = λ k. FirstsFrom k (Some split.0) in (
+              split.0,
+              subst P at (firsts_at (i - q.start) (Some split.0) (omega arith) split.1),
+              ap (λ b. counts b q.haystack split.0.0) (sym same) ∙ split.2,
+            )
 
         counted_if : (o : Option (ℕ × ℕ)) → splits (counts f.between_characters q.haystack) (found o) ≡ false → (c : ℕ × ℕ) → o ≡ Some c →
             counts utf8 q.haystack c.0 ≡ true
         counted_if o e c is =
             ap (λ b. counts b q.haystack c.0) (sym same)
-            ∙ not_split (counts f.between_characters q.haystack) c (ap (λ r. splits (counts f.between_characters q.haystack) (found r)) (sym is) ∙ e)
+            ∙ not_split (counts f.between_characters q.haystack) c
+            (ap (λ r. splits (counts f.between_characters q.haystack) (found r)) (sym is) ∙ e)
 
-        found_past : (k : ℕ) (o : Option (ℕ × ℕ)) → k ≤ restarts q.anchored (q.end - q.start) → ((m : ℕ) → m < k → IsSplitBy wanted f q m) → wanted k o →
+        found_past : (k : ℕ) (o : Option (ℕ × ℕ)) → k ≤ restarts q.anchored (q.end - q.start) →
+            ((m : ℕ) → m < k → IsSplitBy wanted f q m) → wanted k o →
             splits (counts f.between_characters q.haystack) (found o) ≡ false → HasEnd asks Nothing Best q.start o
         found_past k o few below there counted =
             let inside : k ≤ q.end - q.start = few_places q.anchored (q.end - q.start) k few in
-            ends_past asks fits_query offers Nothing Best tells k q.start (q.start + k) o refl (omega arith) (some_free q.anchored (q.end - q.start) k few)
+            ends_past asks fits_query offers Nothing Best tells k q.start (q.start + k) o refl (omega arith)
+            (some_free q.anchored (q.end - q.start) k few)
             (λ i low high. split_at i low (omega arith) (below (i - q.start) (omega arith)))
             (firsts_at k o (omega arith) there) (counted_if o counted)
 
@@ -161,11 +167,13 @@ module _ (xs : List Tree) (utf8 : Bool) (t : Terminator) (p : Pair) (regex : IsR
           | inl fixed ↦
               let none : q.start - q.start ≡ 0 = omega arith in
               let P : ℕ → Type 0 = λ k. IsSplitBy wanted f q k in
-              anchored_split asks fits_query offers Nothing Best tells q.start l fixed (split_at q.start (omega arith) l (subst P (sym none) (all 0 (omega arith))))
+              anchored_split asks fits_query offers Nothing Best tells q.start l fixed
+              (split_at q.start (omega arith) l (subst P (sym none) (all 0 (omega arith))))
           | inr free ↦
               let no_anchor : q.anchored ≡ No = unanchored_no q.anchored free in
               let many : restarts q.anchored (q.end - q.start) ≡ q.end - q.start = all_places q.anchored (q.end - q.start) no_anchor in
-              none_past asks fits_query offers Nothing Best tells q.start l no_anchor (λ i low high. split_at i low high (all (i - q.start) (omega arith)))
+              none_past asks fits_query offers Nothing Best tells q.start l no_anchor
+              (λ i low high. split_at i low high (all (i - q.start) (omega arith)))
         ]
 
         found_between : (o : Option (ℕ × ℕ)) → IsFirstFound f q looks name o → HasEnd asks Nothing Best q.start o
@@ -180,8 +188,10 @@ module _ (xs : List Tree) (utf8 : Bool) (t : Terminator) (p : Pair) (regex : IsR
         never_split m split =
             let differ : true ≡ false = sym (ap (λ b. counts b q.haystack split.0.0) off) ∙ split.2 in cc
 
-        found_first : (k : ℕ) (o : Option (ℕ × ℕ)) → ((m : ℕ) → m < k → IsSplitBy wanted f q m) → wanted k o → HasEnd asks Nothing Best q.start o
-        found_first zero o below there = whole_ends asks fits_query offers Nothing Best tells (all_count off) q.start l o (firsts_here o there)
+        found_first : (k : ℕ) (o : Option (ℕ × ℕ)) → ((m : ℕ) → m < k → IsSplitBy wanted f q m) → wanted k o →
+            HasEnd asks Nothing Best q.start o
+        found_first zero o below there = whole_ends asks fits_query offers Nothing Best tells (all_count off) q.start l o
+            (firsts_here o there)
         found_first (suc k) o below there = absurd (never_split 0 (below 0 (omega arith)))
 
         found_whole : (o : Option (ℕ × ℕ)) → IsFirstFound f q looks name o → HasEnd asks Nothing Best q.start o
@@ -197,7 +207,8 @@ module _ (xs : List Tree) (utf8 : Bool) (t : Terminator) (p : Pair) (regex : IsR
           ]
 
     -- of a pattern that doesn't exist nothing is found
-    found_nothing : start_name a q.anchored ≡ None → q.start ≤ q.end → (o : Option (ℕ × ℕ)) → scan f q ≡ found o → HasEnd asks Nothing Best q.start o
+    found_nothing : start_name a q.anchored ≡ None → q.start ≤ q.end → (o : Option (ℕ × ℕ)) → scan f q ≡ found o →
+        HasEnd asks Nothing Best q.start o
     found_nothing none l o is =
         let gone : o ≡ None = no_pattern f q o none is in
         let P : Option (ℕ × ℕ) → Type 0 = λ r. HasEnd asks Nothing Best q.start r in
@@ -206,7 +217,8 @@ module _ (xs : List Tree) (utf8 : Bool) (t : Terminator) (p : Pair) (regex : IsR
         let low = at.from_s in let high = at.to_last in let last = (last_within q.anchored q.start q.end l).1 in
         tells.none k (omega arith) (finds.nothing none k))
 
-    by_name : (n : Option ℕ) → start_name a q.anchored ≡ n → q.start ≤ q.end → (o : Option (ℕ × ℕ)) → scan f q ≡ found o → HasEnd asks Nothing Best q.start o
+    by_name : (n : Option ℕ) → start_name a q.anchored ≡ n → q.start ≤ q.end → (o : Option (ℕ × ℕ)) → scan f q ≡ found o →
+        HasEnd asks Nothing Best q.start o
     by_name None none l o is = found_nothing none l o is
     by_name (Some name) named l o is = found_named name named l o is
 

@@ -36,7 +36,8 @@ use Rattle.hirscan.proofs.ForwardLemmas.{fits_query, scan_has_end}
 use Rattle.hirscan.proofs.BackLemmas.{IsLeastStart, back_finds}
 
 -- the answer with this end
-abbrev pub found_by : (q : Query) (Nothing : ℕ → Type 0) (Best : ℕ → ℕ → ℕ → Type 0) (s : ℕ) (o : Option (ℕ × ℕ)) → HasEnd q Nothing Best s o → Option Found
+abbrev pub found_by : (q : Query) (Nothing : ℕ → Type 0) (Best : ℕ → ℕ → ℕ → Type 0) (s : ℕ) (o : Option (ℕ × ℕ)) →
+    HasEnd q Nothing Best s o → Option Found
 found_by q Nothing Best s None e = None
 found_by q Nothing Best s (Some c) e = Some (record { pattern = c.1; start = e.place; end = c.0 })
 
@@ -51,7 +52,8 @@ or_anchored true b c t f = cc
 or_anchored false true c t f = cc
 or_anchored false false c t f = cc
 
-module _ (xs : List Tree) (utf8 : Bool) (t : Terminator) (p : Pair) (regex : IsRegexOf xs utf8 t p) (q : Search) (asked : IsSearchOf xs utf8 q)
+module _ (xs : List Tree) (utf8 : Bool) (t : Terminator) (p : Pair) (regex : IsRegexOf xs utf8 t p) (q : Search)
+    (asked : IsSearchOf xs utf8 q)
     (words : ℕ → Bool) (set : IsWordSet words) where
   abbrev f : Reader
   f = reader p.forward
@@ -93,7 +95,8 @@ module _ (xs : List Tree) (utf8 : Bool) (t : Terminator) (p : Pair) (regex : IsR
           let P : Bool → Type 0 = λ v. All (λ x. is_anchored_tree v x ≡ true) xs in
           let prefix : has_look (look_set_prefix b.span.tree) Start ≡ true =
           listed_has (λ x. is_anchored_tree false x ≡ true) xs (subst P regex.reads_up all) c.1 b.span.tree b.span.listed in
-          let first : b.place ≡ 0 = (Decides-eqb b.place 0).0 (prefix_sound looks q.haystack Start b.span.tree b.place c.0 b.span.means prefix) in
+          let first : b.place ≡ 0 = (Decides-eqb b.place 0).0
+          (prefix_sound looks q.haystack Start b.span.tree b.place c.0 b.span.means prefix) in
           let low = from in omega arith
       known_by false false false is_x is_y is_z e = cc
 
@@ -103,7 +106,8 @@ module _ (xs : List Tree) (utf8 : Bool) (t : Terminator) (p : Pair) (regex : IsR
       -- ---- one that isn't
       free : is_start_known f q c.0 ≡ false → q.anchored ≡ No
       free e = elim (cases_Bool (is_anchored q.anchored)) [
-        | inl fixed ↦ absurd (or_anchored (nat_eq c.0 q.start) (is_anchored q.anchored) (nat_eq a.start_anchored a.start_unanchored) fixed e)
+        | inl fixed ↦ absurd (or_anchored (nat_eq c.0 q.start) (is_anchored q.anchored)
+            (nat_eq a.start_anchored a.start_unanchored) fixed e)
         | inr none ↦ unanchored_no q.anchored none
       ]
 
@@ -114,7 +118,8 @@ module _ (xs : List Tree) (utf8 : Bool) (t : Terminator) (p : Pair) (regex : IsR
         forward = b.forward;
         within = b.within;
         counted = b.start_counts;
-        least = λ k i low span. start_is_least asks (fits_query xs utf8 t p regex q asked words set) offers Nothing Best tells q.start c no_anchor b k i low span;
+        least = λ k i low span. start_is_least asks (fits_query xs utf8 t p regex q asked words set)
+            offers Nothing Best tells q.start c no_anchor b k i low span;
       }
 
       abbrev answer : ℕ → Result (Option Found) MatchErrorKind
@@ -150,7 +155,13 @@ module _ (xs : List Tree) (utf8 : Bool) (t : Terminator) (p : Pair) (regex : IsR
     answered : (x : HalfAnswer) → scan f q ≡ x → (o : Option Found) → joined p q ≡ Ok o → IsFoundEnd o
     answered (found z) is o e =
         let ends = scan_has_end xs utf8 t p regex q asked words set offers Nothing Best tells finds z is in
-        record { end = z; found_there = is; ends = ends; is = ok_same o (found_by asks Nothing Best q.start z ends) (sym e ∙ joined_is z is ends) }
+        record {
+          end = z;
+          found_there = is;
+          ends = ends;
+          is = ok_same o (found_by asks Nothing Best q.start z ends)
+              (sym e ∙ joined_is z is ends);
+        }
     answered (quit b x) is o e = let differ = sym (ap (join f r q) is) ∙ e in cc
     answered (unsupported mode) is o e = let differ = sym (ap (join f r q) is) ∙ e in cc
 
@@ -179,10 +190,12 @@ module _ (xs : List Tree) (utf8 : Bool) (t : Terminator) (p : Pair) (regex : IsR
     pub quits_upwards : (b x : ℕ) → joined p q ≡ Err (Quit b x) → scan f q ≡ quit b x
     quits_upwards b x e = quits_by_scan (scan f q) b x refl e
 
-    refused_by_scan : (v : HalfAnswer) (mode : Anchored) → scan f q ≡ v → joined p q ≡ Err (UnsupportedAnchored mode) → scan f q ≡ unsupported mode
+    refused_by_scan : (v : HalfAnswer) (mode : Anchored) → scan f q ≡ v → joined p q ≡ Err (UnsupportedAnchored mode) →
+        scan f q ≡ unsupported mode
     refused_by_scan (found z) mode is e = let there = joined_finds z is in let differ = sym there.1 ∙ e in cc
     refused_by_scan (quit c y) mode is e = let differ = sym (ap (join f r q) is) ∙ e in cc
-    refused_by_scan (unsupported other) mode is e = let same : Err (UnsupportedAnchored other) ≡ Err (UnsupportedAnchored mode) = sym (ap (join f r q) is) ∙ e in cc
+    refused_by_scan (unsupported other) mode is e = let same : Err (UnsupportedAnchored other) ≡ Err (UnsupportedAnchored mode) =
+        sym (ap (join f r q) is) ∙ e in cc
 
     pub refused_upwards : (mode : Anchored) → joined p q ≡ Err (UnsupportedAnchored mode) → scan f q ≡ unsupported mode
     refused_upwards mode e = refused_by_scan (scan f q) mode refl e

@@ -1,6 +1,6 @@
 -- What the runs of an automaton that is compiled from trees offer at each place, whatever the loops of the trees: it tells the
 -- answer but for the preference of ends.
-use Rattle.std.proofs.Common.{◌≡◌, ℕ, suc, ◌-◌, ◌<◌, ◌≤◌, Bool, true, false, List, [], ◌∷◌, length, take, get_or, slice_get, Option, Some, None, refl, sym, ap, ◌∙◌, subst, arith, nat_lt, ◌==◌, ◌&&◌, eq-eqb}
+use Rattle.std.proofs.Common.{◌≡◌, ℕ, suc, ◌-◌, ◌<◌, ◌≤◌, Bool, true, false, List, [], ◌∷◌, length, take, get_or, slice_get, Option, Some, None, refl, sym, ap, ◌∙◌, subst, arith, nat_lt, ◌==◌, eq-eqb}
 use Rattle.std.specs.List.{flat_map}
 use Rattle.std.proofs.lemmas.Bool.{lt-ltb, and_parts}
 use Rattle.std.proofs.lemmas.Bool.Decides.{Decides-eqb}
@@ -26,7 +26,7 @@ use Rattle.thompson_nfa.specs.Compilations.{places_from as read_places}
 use Rattle.lazy_dfa.specs.Passes.{start_name}
 use Rattle.hirscan.specs.Choices.{Query}
 use Rattle.hirscan.specs.LooseAnswers.{IsFindable, IsCounted}
-use Rattle.hirscan.proofs.EndLemmas.{Tells}
+use Rattle.hirscan.proofs.EndLemmas.{both_true, Tells}
 use Rattle.hirscan.proofs.FirstEndLemmas.{FindsFirsts, first_of_ends, first_is_of, same_over, one_place, no_start_no_tree, start_has_tree}
 
 -- no span that counts starts at the place
@@ -68,10 +68,6 @@ anchored_in a (Pattern p) = slice_get a.start_pattern p
 allowed_named : (p n k : ℕ) → allowed (Pattern p) n k ≡ true → k ≡ p
 allowed_named p n k t = (Decides-eqb k p).0 (and_parts _ _ t).1
 
-both_true : (a b : Bool) → a ≡ true → b ≡ true → a && b ≡ true
-both_true true b t u = u
-both_true false b t u = t
-
 -- what a list of ends has, and what it hasn't
 heads : (l others : List (ℕ × ℕ)) (c : ℕ × ℕ) → l ≡ c ∷ others → Has same_pair c l
 heads l others c e = let P : List (ℕ × ℕ) → Type 0 = λ k. Has same_pair c k in subst P (sym e) (has_first same_pair pairs_equal c others)
@@ -106,30 +102,35 @@ module _ (o : Options) (xs : List Tree) (n : Nfa) (compiled : IsCompiled o xs n)
   all_ends i = ends_from n.automaton t (i, n.automaton.start_anchored)
 
   has_all : (mode : Anchored) (i p j : ℕ) → i ≤ e → IsFindable (query_in mode) i p j → Has same_pair (j, p) (all_ends i)
-  has_all mode i p j l f = (spans.anchored t i (j, p) l).1 (f.span.tree, f.span.listed, whole_to_cut looks h e f.span.tree i j f.within f.span.means)
+  has_all mode i p j l f = (spans.anchored t i (j, p) l).1
+      (f.span.tree, f.span.listed, whole_to_cut looks h e f.span.tree i j f.within f.span.means)
 
   has_one : (mode : Anchored) (i p j : ℕ) → i ≤ e → IsFindable (query_in mode) i p j → Has same_pair (j, p) (by_pattern i p)
   has_one mode i p j l f =
       (spans.patterns p f.span.tree f.span.listed t i (j, p) l).1 (refl, whole_to_cut looks h e f.span.tree i j f.within f.span.means)
 
-  findable : (mode : Anchored) (i p j : ℕ) (x : Tree) → i ≤ e → allowed mode (length xs) p ≡ true → slice_get xs p ≡ Some x → Means looks (take e h) x i j →
+  findable : (mode : Anchored) (i p j : ℕ) (x : Tree) → i ≤ e → allowed mode (length xs) p ≡ true → slice_get xs p ≡ Some x →
+      Means looks (take e h) x i j →
       IsFindable (query_in mode) i p j
   findable mode i p j x l may listed m =
       let whole = cut_to_whole looks h e x i j l m in
       record { may = may; span = record { tree = x; listed = listed; means = whole.0 }; within = whole.1 }
 
   -- of all patterns
-  found_all : (mode : Anchored) (i j p : ℕ) (others : List (ℕ × ℕ)) → ((k : ℕ) → k < length xs → allowed mode (length xs) k ≡ true) → i ≤ e →
+  found_all : (mode : Anchored) (i j p : ℕ) (others : List (ℕ × ℕ)) → ((k : ℕ) → k < length xs → allowed mode (length xs) k ≡ true) →
+      i ≤ e →
       all_ends i ≡ (j, p) ∷ others → IsFindable (query_in mode) i p j
   found_all mode i j p others may l e =
       let c = (spans.anchored t i (j, p) l).0 (heads (all_ends i) others (j, p) e) in
       findable mode i p j c.0 l (may p (slice_get_within xs p c.0 c.1)) c.1 c.2
 
-  first_all_at : (mode : Anchored) (i j p : ℕ) → i ≤ e → IsFirstAt (by_pattern i) 0 (length xs) (j, p) → (k l : ℕ) → k < p → IsFindable (query_in mode) i k l → ⊥
+  first_all_at : (mode : Anchored) (i j p : ℕ) → i ≤ e → IsFirstAt (by_pattern i) 0 (length xs) (j, p) → (k l : ℕ) → k < p →
+      IsFindable (query_in mode) i k l → ⊥
   first_all_at mode i j p low at k l less f =
       let inside = at.below in
       let listed = slice_get-get_or xs at.place empty (omega arith) in
-      let same = ((spans.patterns at.place (get_or xs at.place empty) listed t i (j, p) low).0 (heads (by_pattern i at.place) at.others (j, p) at.here)).0 in
+      let same = ((spans.patterns at.place (get_or xs at.place empty) listed t i (j, p) low).0
+      (heads (by_pattern i at.place) at.others (j, p) at.here)).0 in
       holds_none (by_pattern i k) (l, k) (at.none_before k (omega arith) (omega (arith, same))) (has_one mode i k l low f)
 
   first_all : (mode : Anchored) (i j p : ℕ) (others : List (ℕ × ℕ)) → i ≤ e → all_ends i ≡ (j, p) ∷ others →
@@ -151,7 +152,8 @@ module _ (o : Options) (xs : List Tree) (n : Nfa) (compiled : IsCompiled o xs n)
   }
 
   -- of the named pattern
-  found_named : (p k i j m : ℕ) (others : List (ℕ × ℕ)) → by_pattern i p ≡ ends_from n.automaton t (i, k) → slice_get xs p ≡ Some (get_or xs p empty) → i ≤ e →
+  found_named : (p k i j m : ℕ) (others : List (ℕ × ℕ)) → by_pattern i p ≡ ends_from n.automaton t (i, k) →
+      slice_get xs p ≡ Some (get_or xs p empty) → i ≤ e →
       ends_from n.automaton t (i, k) ≡ (j, m) ∷ others → IsFindable (query_in (Pattern p)) i m j
   found_named p k i j m others at listed l is =
       let both = (spans.patterns p (get_or xs p empty) listed t i (j, m) l).0 (heads (by_pattern i p) others (j, m) (at ∙ is)) in
@@ -160,7 +162,8 @@ module _ (o : Options) (xs : List Tree) (n : Nfa) (compiled : IsCompiled o xs n)
       (both_true (nat_lt m (length xs)) (m == p) (lt-ltb m (length xs) (let same = both.0 in omega arith)) (eq-eqb m p both.0))
       (ap (slice_get xs) both.0 ∙ listed) both.1
 
-  told_named : (p : ℕ) (k : Option ℕ) → slice_get n.automaton.start_pattern p ≡ k → Offers (query_in (Pattern p)) (λ i. ends_in n.automaton t i k)
+  told_named : (p : ℕ) (k : Option ℕ) → slice_get n.automaton.start_pattern p ≡ k →
+      Offers (query_in (Pattern p)) (λ i. ends_in n.automaton t i k)
   told_named p None is = record {
     none = λ i l none m j f.
         let same : m ≡ p = allowed_named p (length xs) m f.may in
@@ -188,7 +191,8 @@ module _ (o : Options) (xs : List Tree) (n : Nfa) (compiled : IsCompiled o xs n)
   offers_told Yes = told_all Yes (λ k less. lt-ltb k (length xs) less)
   offers_told (Pattern p) = told_named p (slice_get n.automaton.start_pattern p) refl
 
-  pub loosely_told : (mode : Anchored) → Tells (query_in mode) (loose_offers mode) (HasNoneCounted (query_in mode)) (IsOfFirstPattern (query_in mode))
+  pub loosely_told : (mode : Anchored) → Tells (query_in mode) (loose_offers mode) (HasNoneCounted (query_in mode))
+      (IsOfFirstPattern (query_in mode))
   loosely_told mode = told_loosely (query_in mode) (loose_offers mode) (offers_told mode)
 
   -- what is found first, from each start

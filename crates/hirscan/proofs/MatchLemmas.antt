@@ -1,5 +1,5 @@
 -- Whether there is a match is told as the trees define it.
-use Rattle.std.proofs.Common.{◌≡◌, ℕ, zero, suc, ◌+◌, ◌<◌, ◌≤◌, Bool, true, false, not, ◌&&◌, List, [], length, take, slice_get, get_or, nat_lt, ◌==◌, eq-eqb, Option, Some, None, All, refl, sym, ap, ◌∙◌, subst, inl, inr, arith}
+use Rattle.std.proofs.Common.{◌≡◌, ℕ, zero, suc, ◌+◌, ◌<◌, ◌≤◌, Bool, true, false, not, List, [], length, take, slice_get, get_or, nat_lt, ◌==◌, eq-eqb, Option, Some, None, All, refl, sym, ap, ◌∙◌, subst, inl, inr, arith}
 use Rattle.std.specs.Prelude.{Result, Ok, is_some}
 use Rattle.std.proofs.lemmas.Bool.{cases_lt, lt-ltb}
 use Rattle.std.proofs.lemmas.Option.{slice_get_within, get_or_from_slice_get}
@@ -40,7 +40,7 @@ use Rattle.hirscan.specs.LooseAnswers.{IsSpanOf}
 use Rattle.hirscan.specs.Regexes.{IsRegexOf, IsSearchOf, query_of}
 use Rattle.hirscan.proofs.BackLemmas.{best_has}
 use Rattle.hirscan.proofs.EarliestLemmas.{scan_none}
-use Rattle.hirscan.proofs.EndLemmas.{AllCount, span_counts, last_within}
+use Rattle.hirscan.proofs.EndLemmas.{both_true, AllCount, span_counts, last_within}
 use Rattle.hirscan.proofs.FirstEndLemmas.{start_has_tree}
 use Rattle.hirscan.proofs.ForwardLemmas.{fits_query, all_count}
 use Rattle.hirscan.proofs.RegexLemmas.{goes_up, up_ends_lines, place_up, trees_alike}
@@ -48,10 +48,6 @@ use Rattle.hirscan.proofs.SearchLemmas.{found_is_answer, trees_tell}
 
 pub all_allowed : (n p : ℕ) → p < n → (allowed No n p ≡ true) × (allowed Yes n p ≡ true)
 all_allowed n p l = (lt-ltb p n l, lt-ltb p n l)
-
-both_true : (a b : Bool) → a ≡ true → b ≡ true → a && b ≡ true
-both_true true b t u = u
-both_true false b t u = t
 
 -- a span that ends where this end is, of a pattern that the search may find, from a place where it may start
 record IsSpanTo (q : Query) (s : ℕ) (c : ℕ × ℕ) : Type 0 where
@@ -92,8 +88,10 @@ module _ (xs : List Tree) (utf8 : Bool) (t : Terminator) (p : Pair) (regex : IsR
   is_read = record { within = asked.within; bytes = asked.bytes; at_start = λ i. refl; at_end = λ i. refl }
 
   module _ (c : ℕ × ℕ) (l : q.start ≤ q.end) where
-    span_of : (mode : Anchored) (k : ℕ) (x : Tree) → q.start ≤ k → k ≤ last_start mode q.start q.end → k ≤ q.end → allowed mode (length xs) c.1 ≡ true →
-        slice_get xs c.1 ≡ Some x → Means (holds_ascii t q.haystack) (take q.end q.haystack) x k c.0 → IsSpanTo (record by_bytes { mode = mode }) q.start c
+    span_of : (mode : Anchored) (k : ℕ) (x : Tree) → q.start ≤ k → k ≤ last_start mode q.start q.end → k ≤ q.end →
+        allowed mode (length xs) c.1 ≡ true →
+        slice_get xs c.1 ≡ Some x → Means (holds_ascii t q.haystack) (take q.end q.haystack) x k c.0 →
+        IsSpanTo (record by_bytes { mode = mode }) q.start c
     span_of mode k x low high inside may listed m =
         let whole = cut_to_whole (holds_ascii t q.haystack) q.haystack q.end x k c.0 inside m in
         record { place = k; from = low; to = high; may = may; tree = x; listed = listed; means = whole.0; within = whole.1 }
@@ -135,9 +133,11 @@ module _ (xs : List Tree) (utf8 : Bool) (t : Terminator) (p : Pair) (regex : IsR
       reach : HasReach f soonest (Some c)
       reach = scan_has_reach f soonest (Some c) (goes_up xs utf8 t p regex) regex.forward.sound asked.within is
 
-      nearest_has : (k name : ℕ) → k ≡ 0 → IsWanted f.kind true a.reverse (ends_of f soonest name k) (Some c) → Has same_pair c (ends_from a text (q.start, name))
+      nearest_has : (k name : ℕ) → k ≡ 0 → IsWanted f.kind true a.reverse (ends_of f soonest name k) (Some c) →
+          Has same_pair c (ends_from a text (q.start, name))
       nearest_has k name none wanted =
-          let at : place_of a.reverse (first_place a.reverse q.start q.end) 0 ≡ q.start + 0 = place_up a.reverse q.start q.end 0 (goes_up xs utf8 t p regex) in
+          let at : place_of a.reverse (first_place a.reverse q.start q.end) 0 ≡ q.start + 0 =
+          place_up a.reverse q.start q.end 0 (goes_up xs utf8 t p regex) in
           let here : q.start + 0 ≡ q.start = omega arith in
           let same : ends_of f soonest name k ≡ ends_from a text (q.start, name) =
           ap (ends_of f soonest name) none
@@ -153,7 +153,8 @@ module _ (xs : List Tree) (utf8 : Bool) (t : Terminator) (p : Pair) (regex : IsR
       found_has : (name : ℕ) → IsFound f soonest name (Some c) → Has same_pair c (ends_from a text (q.start, name))
       found_has name (inl there) =
           nearest_has there.0 name (no_more there.0 (λ k x. IsWanted f.kind true a.reverse (ends_of f soonest name k) x) there.2) there.3
-      found_has name (inr all) = absurd (never_split (λ k x. IsWanted f.kind true a.reverse (ends_of f soonest name k) x) 0 (all.0 0 (omega arith)))
+      found_has name (inr all) =
+          absurd (never_split (λ k x. IsWanted f.kind true a.reverse (ends_of f soonest name k) x) 0 (all.0 0 (omega arith)))
 
       span_to : (name : Option ℕ) → start_name a q.anchored ≡ name → IsSpanTo by_bytes q.start c
       span_to None none = let gone = no_pattern f soonest (Some c) none is in cc
@@ -173,11 +174,13 @@ module _ (xs : List Tree) (utf8 : Bool) (t : Terminator) (p : Pair) (regex : IsR
             tree = s.tree;
             listed = s.listed;
             means = same_spans_within (holds_ascii t q.haystack) (holds words t q.haystack) q.haystack q.start c.0 inside s.tree
-                (trees_alike xs utf8 t p regex q.haystack asked.bytes words set q.start far.0 far.1.quiet c.0 (far.1.past c refl) c.1 s.tree s.listed)
+                (trees_alike xs utf8 t p regex q.haystack asked.bytes words set q.start far.0 far.1.quiet c.0
+                (far.1.past c refl) c.1 s.tree s.listed)
                 s.place c.0 s.from up (omega arith) s.means;
           }
 
-      counted_by : AllCount asks (fits_query xs utf8 t p regex (with_earliest false q) asked words set) → (k : ℕ) → IsSpanOf asks c.1 k c.0 → k ≤ c.0 → c.0 ≤ q.end →
+      counted_by : AllCount asks (fits_query xs utf8 t p regex (with_earliest false q) asked words set) → (k : ℕ) →
+          IsSpanOf asks c.1 k c.0 → k ≤ c.0 → c.0 ≤ q.end →
           (counts utf8 q.haystack k ≡ true) × (counts utf8 q.haystack c.0 ≡ true)
       counted_by (inl plain) k s up within = (ap (λ b. counts b q.haystack k) plain, ap (λ b. counts b q.haystack c.0) plain)
       counted_by (inr none) k s up within = elim (cases_lt k c.0) [
@@ -208,11 +211,13 @@ module _ (xs : List Tree) (utf8 : Bool) (t : Terminator) (p : Pair) (regex : IsR
   told_late : (o : Option (ℕ × ℕ)) → scan f (with_earliest false q) ≡ found o → is_some_match o ≡ is_some (answer_from asks q.start)
   told_late o is = found_is_answer xs utf8 t p regex (with_earliest false q) asked words set loops o is
 
-  told_soon : (off : f.between_characters ≡ false) (o : Option (ℕ × ℕ)) → scan f soonest ≡ found o → is_some_match o ≡ is_some (answer_from asks q.start)
+  told_soon : (off : f.between_characters ≡ false) (o : Option (ℕ × ℕ)) → scan f soonest ≡ found o →
+      is_some_match o ≡ is_some (answer_from asks q.start)
   told_soon off None is = told_late None (scan_none f q off is)
   told_soon off (Some c) is = some_of (answer_from asks q.start) (no_answer off c is)
 
-  told_by : (b : Bool) → f.between_characters ≡ b → (o : Option (ℕ × ℕ)) → scan f (with_earliest (not b) q) ≡ found o → is_some_match o ≡ is_some (answer_from asks q.start)
+  told_by : (b : Bool) → f.between_characters ≡ b → (o : Option (ℕ × ℕ)) → scan f (with_earliest (not b) q) ≡ found o →
+      is_some_match o ≡ is_some (answer_from asks q.start)
   told_by true on o is = told_late o is
   told_by false off o is = told_soon off o is
 

@@ -79,7 +79,8 @@ module _ (may counted : ℕ → Bool) (looks : Looks) (h : List ℕ) (e i : ℕ)
   kept_ends x r = filter_both (λ j. leb j e) counted (all_ends x) ∙ ap (filter counted) (sym (cut_ends looks h e x i r inside))
 
   -- no offer, no choice
-  one_none : (b : Bool) (p : ℕ) (x : Tree) (rest : List (ℕ × ℕ)) → LoopsRead x → cut x ≡ [] → pattern_choices b keeps p (all_ends x) ++ rest ≡ rest
+  one_none : (b : Bool) (p : ℕ) (x : Tree) (rest : List (ℕ × ℕ)) → LoopsRead x → cut x ≡ [] →
+      pattern_choices b keeps p (all_ends x) ++ rest ≡ rest
   one_none false p x rest r none = refl
   one_none true p x rest r none = ap (λ ys. map (λ j. (p, j)) ys ++ rest) (kept_ends x r ∙ ap (filter counted) none)
 
@@ -87,7 +88,8 @@ module _ (may counted : ℕ → Bool) (looks : Looks) (h : List ℕ) (e i : ℕ)
   none_of p [] rest e = (refl, e)
   none_of p (j ∷ js) rest e = cc
 
-  pub none_offered : (xs : List Tree) (p : ℕ) → AllRead xs → offered looks (take e h) p xs i ≡ [] → choices may keeps p (map all_ends xs) ≡ []
+  pub none_offered : (xs : List Tree) (p : ℕ) → AllRead xs → offered looks (take e h) p xs i ≡ [] →
+      choices may keeps p (map all_ends xs) ≡ []
   none_offered [] p r none = refl
   none_offered (x ∷ xs) p r none =
       let parts = none_of p (cut x) (offered looks (take e h) (p + 1) xs i) none in
@@ -116,7 +118,8 @@ module _ (may counted : ℕ → Bool) (looks : Looks) (h : List ℕ) (e i : ℕ)
       ap (λ ys. first_choice i (map (λ m. (p, m)) ys ++ rest)) (kept_ends x r ∙ ap (filter counted) is)
       ∙ kept_first p n j k l rest end number c
 
-  pub some_offered : (xs : List Tree) (p n j : ℕ) (others : List (ℕ × ℕ)) → AllRead xs → ((k : ℕ) → p ≤ k → k < p + length xs → may k ≡ true) →
+  pub some_offered : (xs : List Tree) (p n j : ℕ) (others : List (ℕ × ℕ)) → AllRead xs →
+      ((k : ℕ) → p ≤ k → k < p + length xs → may k ≡ true) →
       counted j ≡ true → offered looks (take e h) p xs i ≡ (j, n) ∷ others → Chosen n j (choices may keeps p (map all_ends xs))
   some_offered [] p n j others r m c e = cc
   some_offered (x ∷ xs) p n j others r m c o =
@@ -175,7 +178,8 @@ module _ (may counted : ℕ → Bool) (looks : Looks) (h : List ℕ) (e i : ℕ)
       ∙ ap (λ m. map (λ j. (m, j)) (filter keeps (all_ends y))) number
       ∙ ap (λ z. map (λ j. (n, j)) (filter keeps (all_ends z))) same
   one_alone (y ∷ xs) x p (suc k) n at is m =
-      ap (λ b. pattern_choices b keeps p (all_ends y) ++ choices may keeps (p + 1) (map all_ends xs)) (m.1 p (omega arith) (omega arith) (λ e. absurd (omega arith)))
+      ap (λ b. pattern_choices b keeps p (all_ends y) ++ choices may keeps (p + 1) (map all_ends xs))
+      (m.1 p (omega arith) (omega arith) (λ e. absurd (omega arith)))
       ∙ one_alone xs x (p + 1) k n at (omega arith) (m.0, λ j low high. m.1 j (omega arith) (omega arith))
 
   -- no end of the pattern alone, or its first one
@@ -192,7 +196,8 @@ module _ (may counted : ℕ → Bool) (looks : Looks) (h : List ℕ) (e i : ℕ)
       ∙ ap (λ ys. first_choice i (map (λ m. (p, m)) ys ++ [])) (kept_ends x r ∙ ap (filter counted) is)
       ∙ kept_first p n j k l [] end number c
 
-  pub span_is_choice : (xs : List Tree) (x : Tree) (p k n j : ℕ) → slice_get xs k ≡ Some x → n ≡ p + k → may n ≡ true → Has (all_ends x) j → keeps j ≡ true →
+  pub span_is_choice : (xs : List Tree) (x : Tree) (p k n j : ℕ) → slice_get xs k ≡ Some x → n ≡ p + k → may n ≡ true →
+      Has (all_ends x) j → keeps j ≡ true →
       choices may keeps p (map all_ends xs) ≡ [] → ⊥
   span_is_choice [] x p k n j at is m g t none = cc
   span_is_choice (y ∷ xs) x p zero n j at is m g t none =
@@ -212,9 +217,17 @@ module _ (may counted : ℕ → Bool) (looks : Looks) (h : List ℕ) (e i : ℕ)
     pub has_end : Has (cut tree) j
 
   offered_later : (x : Tree) (xs : List Tree) (p n j : ℕ) → IsOffered xs (p + 1) n j → IsOffered (x ∷ xs) p n j
-  offered_later x xs p n j r = record { index = suc r.index; tree = r.tree; listed = r.listed; number = (let s = r.number in omega arith); has_end = r.has_end }
+  offered_later x xs p n j r = record {
+    index = suc r.index;
+    tree = r.tree;
+    listed = r.listed;
+    number =
+        (let s = r.number in omega arith);
+    has_end = r.has_end;
+  }
 
-  offered_by : (x : Tree) (xs : List Tree) (p n j : ℕ) (l : List ℕ) (rest others : List (ℕ × ℕ)) → cut x ≡ l → (rest ≡ (j, n) ∷ others → IsOffered xs (p + 1) n j) →
+  offered_by : (x : Tree) (xs : List Tree) (p n j : ℕ) (l : List ℕ) (rest others : List (ℕ × ℕ)) → cut x ≡ l →
+      (rest ≡ (j, n) ∷ others → IsOffered xs (p + 1) n j) →
       map (λ m. (m, p)) l ++ rest ≡ (j, n) ∷ others → IsOffered (x ∷ xs) p n j
   offered_by x xs p n j [] rest others is on o = offered_later x xs p n j (on o)
   offered_by x xs p n j (k ∷ l) rest others is on o =
@@ -228,7 +241,8 @@ module _ (may counted : ℕ → Bool) (looks : Looks) (h : List ℕ) (e i : ℕ)
         has_end = (let P : List ℕ → Type 0 = λ ys. Has ys j in subst P (sym is) (inl place));
       }
 
-  pub offer_ends : (xs : List Tree) (p n j : ℕ) (others : List (ℕ × ℕ)) → offered looks (take e h) p xs i ≡ (j, n) ∷ others → IsOffered xs p n j
+  pub offer_ends : (xs : List Tree) (p n j : ℕ) (others : List (ℕ × ℕ)) → offered looks (take e h) p xs i ≡ (j, n) ∷ others →
+      IsOffered xs p n j
   offer_ends [] p n j others o = cc
   offer_ends (x ∷ xs) p n j others o =
       offered_by x xs p n j (cut x) (offered looks (take e h) (p + 1) xs i) others refl (offer_ends xs (p + 1) n j others) o

@@ -60,7 +60,8 @@ pub place_down : (b : Bool) (s e : ℕ) → b ≡ true → place_of b (first_pla
 place_down true s e down = omega arith
 place_down false s e down = cc
 
-passed_alike : (b : Bool) (t : Terminator) (looks : Looks) (h : List ℕ) (s e : ℕ) (l : Look) (k : ℕ) → b ≡ false → holds_ascii t h l (s + k) ≡ looks l (s + k) →
+passed_alike : (b : Bool) (t : Terminator) (looks : Looks) (h : List ℕ) (s e : ℕ) (l : Look) (k : ℕ) → b ≡ false →
+    holds_ascii t h l (s + k) ≡ looks l (s + k) →
     is_passed b (span t h s e) l (place_of b (first_place b s e) k) ≡ is_passed b (read_by looks h s e) l (place_of b (first_place b s e) k)
 passed_alike false t looks h s e l k up same = same
 passed_alike true t looks h s e l k up same = cc
@@ -96,19 +97,24 @@ module _ (xs : List Tree) (utf8 : Bool) (t : Terminator) (p : Pair) (regex : IsR
       (looks_are_used regex.up_options xs p.forward.nfa regex.up l).1 (k, x, listed, ap (has_look (looks_used x)) same ∙ used)
 
   -- where the automaton has a look of words of characters, a byte above 7F is a quit byte
-  high_quits : (l : Look) → has_look (looks_of p.forward.nfa.automaton.states) l ≡ true → is_word_unicode l ≡ true → (b : ℕ) → 128 ≤ b → b < 256 →
+  high_quits : (l : Look) → has_look (looks_of p.forward.nfa.automaton.states) l ≡ true → is_word_unicode l ≡ true → (b : ℕ) → 128 ≤ b →
+      b < 256 →
       has p.forward.quits b ≡ true
   high_quits l there unicode b low high =
-      let some : has_unicode_word p.forward.nfa.automaton ≡ true = any_by_member is_word_unicode (looks_of p.forward.nfa.automaton.states) l there unicode in
+      let some : has_unicode_word p.forward.nfa.automaton ≡ true = any_by_member is_word_unicode
+      (looks_of p.forward.nfa.automaton.states) l there unicode in
       ap (λ quits. has quits b) regex.forward.quit
-      ∙ supported_quits p.forward.nfa.automaton (word_boundary_of p.forward.options) (by_hand p.forward.options) b regex.forward.supported some low high
+      ∙ supported_quits p.forward.nfa.automaton (word_boundary_of p.forward.options) (by_hand p.forward.options)
+      b regex.forward.supported some low high
 
   -- so one that isn't is ASCII
   module _ (h : List ℕ) (bytes : All (λ byte. byte < 256) h) where
     byte_in : (k b : ℕ) → byte_at h k ≡ Some b → b < 256
-    byte_in k b is = subst (λ (c : ℕ). c < 256) (get_or_from_slice_get h k b 0 is) (All-get_or (λ c. c < 256) h k 0 (slice_get_within h k b is) bytes)
+    byte_in k b is = subst (λ (c : ℕ). c < 256) (get_or_from_slice_get h k b 0 is)
+        (All-get_or (λ c. c < 256) h k 0 (slice_get_within h k b is) bytes)
 
-    quiet_low : (l : Look) → has_look (looks_of p.forward.nfa.automaton.states) l ≡ true → is_word_unicode l ≡ true → (k : ℕ) (o : Option ℕ) → byte_at h k ≡ o →
+    quiet_low : (l : Look) → has_look (looks_of p.forward.nfa.automaton.states) l ≡ true → is_word_unicode l ≡ true →
+        (k : ℕ) (o : Option ℕ) → byte_at h k ≡ o →
         is_quit p.forward.quits o ≡ false → IfSome o (λ c. c < 128)
     quiet_low l there unicode k None is quiet = tt
     quiet_low l there unicode k (Some b) is quiet = elim (cases_lt b 128) [
@@ -116,17 +122,21 @@ module _ (xs : List Tree) (utf8 : Bool) (t : Terminator) (p : Pair) (regex : IsR
       | inr high ↦ let quits = high_quits l there unicode b high (byte_in k b is) in let differ : true ≡ false = sym quits ∙ quiet in cc
     ]
 
-    module _ (words : ℕ → Bool) (set : IsWordSet words) (s end : ℕ) (quiet : (x : ℕ) → s ≤ x + 1 → x < end → is_quit p.forward.quits (byte_at h x) ≡ false) where
-      before_low : (l : Look) → has_look (looks_of p.forward.nfa.automaton.states) l ≡ true → is_word_unicode l ≡ true → (i : ℕ) → s ≤ i → i < end →
+    module _ (words : ℕ → Bool) (set : IsWordSet words) (s end : ℕ)
+        (quiet : (x : ℕ) → s ≤ x + 1 → x < end → is_quit p.forward.quits (byte_at h x) ≡ false) where
+      before_low : (l : Look) → has_look (looks_of p.forward.nfa.automaton.states) l ≡ true → is_word_unicode l ≡ true → (i : ℕ) →
+          s ≤ i → i < end →
           IfSome (byte_before h i) (λ c. c < 128)
       before_low l there unicode zero low high = tt
       before_low l there unicode (suc i) low high = quiet_low l there unicode i (byte_at h i) refl (quiet i (omega arith) (omega arith))
 
       -- up to there words are read alike
-      pub words_alike : (l : Look) → has_look (looks_of p.forward.nfa.automaton.states) l ≡ true → (i : ℕ) → s ≤ i → i < end → holds_ascii t h l i ≡ holds words t h l i
+      pub words_alike : (l : Look) → has_look (looks_of p.forward.nfa.automaton.states) l ≡ true → (i : ℕ) → s ≤ i → i < end →
+          holds_ascii t h l i ≡ holds words t h l i
       words_alike l there i low high = ⊎_elim
           (λ (u : is_word_unicode l ≡ true).
-          sym (agree_on_ascii words t h l i set (before_low l there u i low high) (quiet_low l there u i (byte_at h i) refl (quiet i (omega arith) high))))
+          sym (agree_on_ascii words t h l i set (before_low l there u i low high)
+          (quiet_low l there u i (byte_at h i) refl (quiet i (omega arith) high))))
           (λ (b : is_word_unicode l ≡ false). sym (reads_bytes (by_characters words) t h l i b)) (cases_Bool (is_word_unicode l))
 
       pub reads_alike : (e : ℕ) → ReadsAlike (reader p.forward) (holds words t h) h s e (first_place p.forward.nfa.automaton.reverse s e)
@@ -137,5 +147,6 @@ module _ (xs : List Tree) (utf8 : Bool) (t : Terminator) (p : Pair) (regex : IsR
           (ap (λ ends. holds_ascii ends h l (s + k)) up_ends_lines ∙ words_alike l there (s + k) (omega arith) (omega arith))
 
       -- and the trees' looks are, up to a place before there
-      pub trees_alike : (j : ℕ) → j < end → (k : ℕ) (x : Tree) → slice_get xs k ≡ Some x → AgreeFrom (holds_ascii t h) (holds words t h) s j x
+      pub trees_alike : (j : ℕ) → j < end → (k : ℕ) (x : Tree) → slice_get xs k ≡ Some x →
+          AgreeFrom (holds_ascii t h) (holds words t h) s j x
       trees_alike j inside k x listed l used i low high = words_alike l (used_is_there k x l listed used) i low (omega arith)

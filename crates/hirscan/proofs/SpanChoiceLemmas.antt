@@ -1,6 +1,6 @@
 -- From what the patterns offer in the bytes up to the end to the choices of which those that count are kept: where loops read,
 -- these offers tell the answer of the trees.
-use Rattle.std.proofs.Common.{◌≡◌, ◌≢◌, ℕ, suc, ◌+◌, ◌<◌, ◌≤◌, Bool, true, false, cond, ◌&&◌, ◌==◌, List, [], ◌∷◌, map, length, take, get_or, slice_get, Option, Some, None, All, nat_le, nat_lt, refl, sym, ap, ◌∙◌, inl, inr, arith, le-leb, eq-eqb}
+use Rattle.std.proofs.Common.{◌≡◌, ◌≢◌, ℕ, suc, ◌+◌, ◌<◌, ◌≤◌, Bool, true, false, cond, ◌==◌, List, [], ◌∷◌, map, length, take, get_or, slice_get, Option, Some, None, All, nat_le, nat_lt, refl, sym, ap, ◌∙◌, inl, inr, arith, le-leb, eq-eqb}
 use Rattle.std.specs.List.{filter}
 use Rattle.std.proofs.lemmas.Bool.{and_parts, cases_lt, lt-ltb}
 use Rattle.std.proofs.lemmas.Bool.Decides.{Decides-eqb}
@@ -17,7 +17,7 @@ use Rattle.search_types.specs.Places.{counts}
 use Rattle.search_types.specs.LeftmostAnswer.{first_choice}
 use Rattle.hirscan.specs.Choices.{Query, choices, ends_at, may_end, choices_at}
 use Rattle.hirscan.specs.LooseAnswers.{IsSpanOf}
-use Rattle.hirscan.proofs.EndLemmas.{Fits, IsMet, Tells, listed_has}
+use Rattle.hirscan.proofs.EndLemmas.{both_true, Fits, IsMet, Tells, listed_has}
 use Rattle.hirscan.proofs.OfferLemmas.{offered, pattern_offers, mode_offers, AllRead, none_offered, some_offered, one_alone, alone_none, alone_some, span_is_choice, silent, offer_ends, paired, end_of, number_of}
 
 all_read : (xs : List Tree) → ((p : ℕ) (x : Tree) → slice_get xs p ≡ Some x → LoopsRead x) → AllRead xs
@@ -29,10 +29,6 @@ abbrev is_named : Anchored → Bool
 is_named No = false
 is_named Yes = false
 is_named (Pattern p) = true
-
-pub both_true : (a b : Bool) → a ≡ true → b ≡ true → a && b ≡ true
-both_true true b t u = u
-both_true false b t u = t
 
 none_paired : (p : ℕ) (l : List ℕ) → paired p l ≡ [] → l ≡ []
 none_paired p [] e = refl
@@ -80,17 +76,22 @@ module _ (q : Query) (fits : Fits q) (loops : All LoopsRead q.patterns) where
 
   none_past : (p : ℕ) → slice_get q.patterns p ≡ None → length q.patterns ≤ p
   none_past p e = elim (cases_lt p (length q.patterns)) [
-    | inl lt ↦ let some = slice_get-get_or q.patterns p empty lt in let differ : None ≡ Some (get_or q.patterns p empty) = sym e ∙ some in cc
+    | inl lt ↦ let some = slice_get-get_or q.patterns p empty lt in let differ : None ≡ Some (get_or q.patterns p empty) =
+        sym e ∙ some in cc
     | inr ge ↦ ge
   ]
 
   one_named : (i p : ℕ) (x : Tree) → slice_get q.patterns p ≡ Some x → i ≤ q.end →
-      choices (allowed (Pattern p) (length q.patterns)) (may_end q) 0 (ends_at q i) ≡ map (λ j. (p, j)) (filter (may_end q) (preferred_ends q.looks q.haystack x i))
+      choices (allowed (Pattern p) (length q.patterns)) (may_end q) 0 (ends_at q i) ≡ map (λ j. (p, j))
+      (filter (may_end q) (preferred_ends q.looks q.haystack x i))
   one_named i p x at inside =
-      one_alone (allowed (Pattern p) (length q.patterns)) counted q.looks q.haystack q.end i inside q.patterns x 0 p p at (omega arith)
-      (allowed_named p (length q.patterns) p (slice_get_within q.patterns p x at) refl, λ k low high differ. allowed_other p (length q.patterns) k differ)
+      one_alone (allowed (Pattern p) (length q.patterns)) counted q.looks q.haystack q.end i inside q.patterns x 0 p p at (omega arith) (
+        allowed_named p (length q.patterns) p (slice_get_within q.patterns p x at) refl,
+        λ k low high differ. allowed_other p (length q.patterns) k differ,
+      )
 
-  named_none : (i p : ℕ) (o : Option Tree) → slice_get q.patterns p ≡ o → i ≤ q.end → pattern_offers q.looks (take q.end q.haystack) p o i ≡ [] →
+  named_none : (i p : ℕ) (o : Option Tree) → slice_get q.patterns p ≡ o → i ≤ q.end →
+      pattern_offers q.looks (take q.end q.haystack) p o i ≡ [] →
       choices (allowed (Pattern p) (length q.patterns)) (may_end q) 0 (ends_at q i) ≡ []
   named_none i p None at inside none =
       silent (allowed (Pattern p) (length q.patterns)) counted q.looks q.haystack q.end i inside q.patterns 0
@@ -102,8 +103,10 @@ module _ (q : Query) (fits : Fits q) (loops : All LoopsRead q.patterns) where
 
   mode_none : (mode : Anchored) (i : ℕ) → i ≤ q.end → mode_offers q.looks (take q.end q.haystack) q.patterns mode i ≡ [] →
       choices (allowed mode (length q.patterns)) (may_end q) 0 (ends_at q i) ≡ []
-  mode_none No i inside none = none_offered (allowed No (length q.patterns)) counted q.looks q.haystack q.end i inside q.patterns 0 (all_read q.patterns reads) none
-  mode_none Yes i inside none = none_offered (allowed Yes (length q.patterns)) counted q.looks q.haystack q.end i inside q.patterns 0 (all_read q.patterns reads) none
+  mode_none No i inside none = none_offered (allowed No (length q.patterns)) counted q.looks q.haystack q.end i inside q.patterns 0
+      (all_read q.patterns reads) none
+  mode_none Yes i inside none = none_offered (allowed Yes (length q.patterns)) counted q.looks q.haystack q.end i inside q.patterns 0
+      (all_read q.patterns reads) none
   mode_none (Pattern p) i inside none = named_none i p (slice_get q.patterns p) refl inside none
 
   pub no_offer : (i : ℕ) → i ≤ q.end → offers i ≡ [] → choices_at q i ≡ []
@@ -113,11 +116,13 @@ module _ (q : Query) (fits : Fits q) (loops : All LoopsRead q.patterns) where
   abbrev pub FirstIs : ℕ → ℕ → ℕ → List (ℕ × ℕ) → Type 0
   FirstIs i n j cs = first_choice i cs ≡ Some (record { pattern = n; start = i; end = j })
 
-  every_allowed : (mode : Anchored) → is_named mode ≡ false → (k : ℕ) → 0 ≤ k → k < 0 + length q.patterns → allowed mode (length q.patterns) k ≡ true
+  every_allowed : (mode : Anchored) → is_named mode ≡ false → (k : ℕ) → 0 ≤ k → k < 0 + length q.patterns →
+      allowed mode (length q.patterns) k ≡ true
   every_allowed mode no_name k low high = allowed_all mode (length q.patterns) k no_name (omega arith)
 
   named_some : (i n j p : ℕ) (others : List (ℕ × ℕ)) (o : Option Tree) → slice_get q.patterns p ≡ o → i ≤ q.end → counted j ≡ true →
-      pattern_offers q.looks (take q.end q.haystack) p o i ≡ (j, n) ∷ others → FirstIs i n j (choices (allowed (Pattern p) (length q.patterns)) (may_end q) 0 (ends_at q i))
+      pattern_offers q.looks (take q.end q.haystack) p o i ≡ (j, n) ∷ others →
+      FirstIs i n j (choices (allowed (Pattern p) (length q.patterns)) (may_end q) 0 (ends_at q i))
   named_some i n j p others None at inside c e = cc
   named_some i n j p others (Some x) at inside c e =
       ap (first_choice i) (one_named i p x at inside)
@@ -125,23 +130,30 @@ module _ (q : Query) (fits : Fits q) (loops : All LoopsRead q.patterns) where
       (preferred_ends q.looks (take q.end q.haystack) x i) others (reads p x at) refl c e
 
   mode_some : (mode : Anchored) (i n j : ℕ) (others : List (ℕ × ℕ)) → i ≤ q.end → counted j ≡ true →
-      mode_offers q.looks (take q.end q.haystack) q.patterns mode i ≡ (j, n) ∷ others → FirstIs i n j (choices (allowed mode (length q.patterns)) (may_end q) 0 (ends_at q i))
+      mode_offers q.looks (take q.end q.haystack) q.patterns mode i ≡ (j, n) ∷ others →
+      FirstIs i n j (choices (allowed mode (length q.patterns)) (may_end q) 0 (ends_at q i))
   mode_some No i n j others inside c e =
-      some_offered (allowed No (length q.patterns)) counted q.looks q.haystack q.end i inside q.patterns 0 n j others (all_read q.patterns reads) (every_allowed No refl) c e
+      some_offered (allowed No (length q.patterns)) counted q.looks q.haystack q.end i inside q.patterns 0 n j others
+      (all_read q.patterns reads) (every_allowed No refl) c e
   mode_some Yes i n j others inside c e =
-      some_offered (allowed Yes (length q.patterns)) counted q.looks q.haystack q.end i inside q.patterns 0 n j others (all_read q.patterns reads) (every_allowed Yes refl) c e
+      some_offered (allowed Yes (length q.patterns)) counted q.looks q.haystack q.end i inside q.patterns 0 n j others
+      (all_read q.patterns reads) (every_allowed Yes refl) c e
   mode_some (Pattern p) i n j others inside c e = named_some i n j p others (slice_get q.patterns p) refl inside c e
 
-  pub first_offer : (i n j : ℕ) (others : List (ℕ × ℕ)) → i ≤ q.end → counted i ≡ true → counted j ≡ true → offers i ≡ (j, n) ∷ others → FirstIs i n j (choices_at q i)
-  first_offer i n j others inside start c e = ap (λ b. first_choice i (cond b (at_place i) [])) start ∙ mode_some q.mode i n j others inside c e
+  pub first_offer : (i n j : ℕ) (others : List (ℕ × ℕ)) → i ≤ q.end → counted i ≡ true → counted j ≡ true → offers i ≡ (j, n) ∷ others →
+      FirstIs i n j (choices_at q i)
+  first_offer i n j others inside start c e = ap (λ b. first_choice i (cond b (at_place i) [])) start
+      ∙ mode_some q.mode i n j others inside c e
 
   -- and it is a span
-  met : (i n j : ℕ) (x : Tree) → slice_get q.patterns n ≡ Some x → i ≤ q.end → Has (preferred_ends q.looks (take q.end q.haystack) x i) j → IsMet q i n j
+  met : (i n j : ℕ) (x : Tree) → slice_get q.patterns n ≡ Some x → i ≤ q.end →
+      Has (preferred_ends q.looks (take q.end q.haystack) x i) j → IsMet q i n j
   met i n j x at inside g =
       let m = cut_to_whole q.looks q.haystack q.end x i j inside (preferred_ends_sound q.looks (take q.end q.haystack) x i j g) in
       record { span = record { tree = x; listed = at; means = m.0 }; within = m.1 }
 
-  offered_met : (i n j : ℕ) (others : List (ℕ × ℕ)) → i ≤ q.end → offered q.looks (take q.end q.haystack) 0 q.patterns i ≡ (j, n) ∷ others → IsMet q i n j
+  offered_met : (i n j : ℕ) (others : List (ℕ × ℕ)) → i ≤ q.end →
+      offered q.looks (take q.end q.haystack) 0 q.patterns i ≡ (j, n) ∷ others → IsMet q i n j
   offered_met i n j others inside e =
       let o = offer_ends (λ k. true) counted q.looks q.haystack q.end i inside q.patterns 0 n j others e in
       let same : o.index ≡ n = (let s = o.number in omega arith) in
@@ -154,7 +166,8 @@ module _ (q : Query) (fits : Fits q) (loops : All LoopsRead q.patterns) where
       let has = one_paired p n j (preferred_ends q.looks (take q.end q.haystack) x i) others e in
       met i n j x (ap (slice_get q.patterns) (sym has.0) ∙ at) inside has.1
 
-  mode_met : (mode : Anchored) (i n j : ℕ) (others : List (ℕ × ℕ)) → i ≤ q.end → mode_offers q.looks (take q.end q.haystack) q.patterns mode i ≡ (j, n) ∷ others → IsMet q i n j
+  mode_met : (mode : Anchored) (i n j : ℕ) (others : List (ℕ × ℕ)) → i ≤ q.end →
+      mode_offers q.looks (take q.end q.haystack) q.patterns mode i ≡ (j, n) ∷ others → IsMet q i n j
   mode_met No i n j others inside e = offered_met i n j others inside e
   mode_met Yes i n j others inside e = offered_met i n j others inside e
   mode_met (Pattern p) i n j others inside e = named_met i n j p others (slice_get q.patterns p) refl inside e
@@ -163,10 +176,12 @@ module _ (q : Query) (fits : Fits q) (loops : All LoopsRead q.patterns) where
   offer_met i n j others inside e = mode_met q.mode i n j others inside e
 
   -- a span that counts is a choice
-  pub span_chosen : (p i j : ℕ) → allowed q.mode (length q.patterns) p ≡ true → IsSpanOf q p i j → i ≤ q.end → j ≤ q.end → counted i ≡ true → counted j ≡ true → choices_at q i ≡ [] → ⊥
+  pub span_chosen : (p i j : ℕ) → allowed q.mode (length q.patterns) p ≡ true → IsSpanOf q p i j → i ≤ q.end → j ≤ q.end →
+      counted i ≡ true → counted j ≡ true → choices_at q i ≡ [] → ⊥
   span_chosen p i j may m inside within start c none =
       let all : at_place i ≡ [] = sym (ap (λ b. cond b (at_place i) []) start) ∙ none in
-      span_is_choice (allowed q.mode (length q.patterns)) counted q.looks q.haystack q.end i inside q.patterns m.tree 0 p p j m.listed (omega arith) may
+      span_is_choice (allowed q.mode (length q.patterns)) counted q.looks q.haystack q.end i inside q.patterns m.tree 0 p p j m.listed
+      (omega arith) may
       (preferred_ends_complete q.looks q.haystack m.tree i j m.means) (both_true (nat_le j q.end) (counted j) (le-leb j q.end within) c) all
 
   -- so the offers tell the choices

@@ -26,7 +26,8 @@ ghost use Rattle.hirscan.specs.Regexes.{IsRegexOf, IsSearchOf, query_of};
 /// A search over two automata of the trees that answers Ok answers what the trees define, for every set of words: the leftmost
 /// match, the most preferred one there. The loops of all trees read.
 pub fn answers_are_those_of_the_trees()
-    ensures { (xs : List Tree) (utf8 : Bool) (t : Terminator) (p : Pair) → IsRegexOf xs utf8 t p → (q : Search) → IsSearchOf xs utf8 q →
+    ensures { (xs : List Tree) (utf8 : Bool) (t : Terminator) (p : Pair) → IsRegexOf xs utf8 t p →
+        (q : Search) → IsSearchOf xs utf8 q →
         (words : ℕ → Bool) → IsWordSet words → All LoopsRead xs → (o : Option Found) → joined p q ≡ Ok o →
         o ≡ answer_from (query_of xs utf8 (holds words t q.haystack) q) q.start }
 {}
@@ -34,17 +35,21 @@ pub fn answers_are_those_of_the_trees()
 /// From an end that the search upwards found, the one downwards finds a start: it meets no quit byte, and its mode is supported.
 /// So a search is refused where the search upwards is, and there alone.
 pub fn the_reverse_half_finds_a_start()
-    ensures pair { (xs : List Tree) (utf8 : Bool) (t : Terminator) (p : Pair) → IsRegexOf xs utf8 t p → (q : Search) → IsSearchOf xs utf8 q →
+    ensures pair { (xs : List Tree) (utf8 : Bool) (t : Terminator) (p : Pair) → IsRegexOf xs utf8 t p →
+        (q : Search) → IsSearchOf xs utf8 q →
         joined p q ≡ Err NotAPair → ⊥ }
-    ensures quits { (xs : List Tree) (utf8 : Bool) (t : Terminator) (p : Pair) → IsRegexOf xs utf8 t p → (q : Search) → IsSearchOf xs utf8 q →
+    ensures quits { (xs : List Tree) (utf8 : Bool) (t : Terminator) (p : Pair) → IsRegexOf xs utf8 t p →
+        (q : Search) → IsSearchOf xs utf8 q →
         (b x : ℕ) → joined p q ≡ Err (Quit b x) → scan (reader p.forward) q ≡ quit b x }
-    ensures unsupported { (xs : List Tree) (utf8 : Bool) (t : Terminator) (p : Pair) → IsRegexOf xs utf8 t p → (q : Search) → IsSearchOf xs utf8 q →
+    ensures unsupported { (xs : List Tree) (utf8 : Bool) (t : Terminator) (p : Pair) → IsRegexOf xs utf8 t p →
+        (q : Search) → IsSearchOf xs utf8 q →
         (mode : Anchored) → joined p q ≡ Err (UnsupportedAnchored mode) → scan (reader p.forward) q ≡ unsupported mode }
 {}
 
 /// Where no quit byte stands in or beside the span and the mode is supported, a search answers Ok.
 pub fn searches_answer()
-    ensures { (xs : List Tree) (utf8 : Bool) (t : Terminator) (p : Pair) → IsRegexOf xs utf8 t p → (q : Search) → IsSearchOf xs utf8 q →
+    ensures { (xs : List Tree) (utf8 : Bool) (t : Terminator) (p : Pair) → IsRegexOf xs utf8 t p →
+        (q : Search) → IsSearchOf xs utf8 q →
         is_supported (reader p.forward).starts_for_each_pattern q.anchored ≡ true →
         HasNoQuitNear (reader p.forward) q.haystack q.start q.end → (o : Option Found) × (joined p q ≡ Ok o) }
 {}
@@ -52,25 +57,30 @@ pub fn searches_answer()
 /// Answers one after the other are the list of all answers that the trees define, or a beginning of it, and all of it where
 /// nothing more is answered.
 pub fn lists_are_those_of_the_trees()
-    ensures whole { (xs : List Tree) (utf8 : Bool) (t : Terminator) (p : Pair) → IsRegexOf xs utf8 t p → (q : Search) → IsSearchOf xs utf8 q →
-        (words : ℕ → Bool) → IsWordSet words → All LoopsRead xs → q.start ≤ q.end + 1 → (fs : List Found) → IsWholeChain (AnswersAt p q) None q.start fs →
+    ensures whole { (xs : List Tree) (utf8 : Bool) (t : Terminator) (p : Pair) → IsRegexOf xs utf8 t p →
+        (q : Search) → IsSearchOf xs utf8 q →
+        (words : ℕ → Bool) → IsWordSet words → All LoopsRead xs → q.start ≤ q.end + 1 → (fs : List Found) →
+        IsWholeChain (AnswersAt p q) None q.start fs →
         fs ≡ answers_of (query_of xs utf8 (holds words t q.haystack) q) q.start }
-    ensures begins { (xs : List Tree) (utf8 : Bool) (t : Terminator) (p : Pair) → IsRegexOf xs utf8 t p → (q : Search) → IsSearchOf xs utf8 q →
-        (words : ℕ → Bool) → IsWordSet words → All LoopsRead xs → q.start ≤ q.end + 1 → (fs : List Found) → IsChain (AnswersAt p q) None q.start fs →
+    ensures begins { (xs : List Tree) (utf8 : Bool) (t : Terminator) (p : Pair) → IsRegexOf xs utf8 t p →
+        (q : Search) → IsSearchOf xs utf8 q →
+        (words : ℕ → Bool) → IsWordSet words → All LoopsRead xs → q.start ≤ q.end + 1 → (fs : List Found) →
+        IsChain (AnswersAt p q) None q.start fs →
         (rest : List Found) × (answers_of (query_of xs utf8 (holds words t q.haystack) q) q.start ≡ fs ++ rest) }
 {}
 
 /// What is told of whether there is a match is whether the trees define an answer, also where the earliest end is asked for.
 pub fn matches_are_told()
     ensures { (xs : List Tree) (utf8 : Bool) (t : Terminator) (p : Pair) → IsRegexOf xs utf8 t p → (q : Search) →
-        IsSearchOf xs utf8 (with_earliest false q) → (words : ℕ → Bool) → IsWordSet words → All LoopsRead xs → (b : Bool) → has_match p q ≡ Ok b →
-        b ≡ is_some (answer_from (query_of xs utf8 (holds words t q.haystack) q) q.start) }
+        IsSearchOf xs utf8 (with_earliest false q) → (words : ℕ → Bool) → IsWordSet words → All LoopsRead xs → (b : Bool) →
+        has_match p q ≡ Ok b → b ≡ is_some (answer_from (query_of xs utf8 (holds words t q.haystack) q) q.start) }
 {}
 
 /// Whatever the loops of the trees read, the answer has the least start of a match, the first pattern that matches there, and an
 /// end that it means.
 pub fn answers_are_leftmost_whatever_the_loops()
-    ensures { (xs : List Tree) (utf8 : Bool) (t : Terminator) (p : Pair) → IsRegexOf xs utf8 t p → (q : Search) → IsSearchOf xs utf8 q →
+    ensures { (xs : List Tree) (utf8 : Bool) (t : Terminator) (p : Pair) → IsRegexOf xs utf8 t p →
+        (q : Search) → IsSearchOf xs utf8 q →
         (words : ℕ → Bool) → IsWordSet words → (o : Option Found) → joined p q ≡ Ok o →
         IsLooseAnswer (query_of xs utf8 (holds words t q.haystack) q) q.start o }
 {}
