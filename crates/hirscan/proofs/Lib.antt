@@ -37,3 +37,4 @@ pub mod JoinLemmas
 pub mod SearchLemmas
 pub mod EarliestLemmas
 pub mod MatchLemmas
+pub mod BuiltPairLemmas
