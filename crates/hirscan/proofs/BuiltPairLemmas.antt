@@ -1,6 +1,6 @@
 -- What is built of two automata that are compiled from the same trees, upwards and downwards, is two automata that search as one
 -- for these trees.
-use Rattle.std.proofs.Common.{◌≡◌, ℕ, ◌<◌, Bool, true, false, ◌&&◌, ◌||◌, List, [], ◌∷◌, Option, Some, None, refl, sym, ap, ◌∙◌, subst, ⊎_elim, if◌then◌else◌}
+use Rattle.std.proofs.Common.{◌≡◌, ℕ, Bool, true, false, ◌&&◌, ◌||◌, List, [], ◌∷◌, refl, sym, ap, ◌∙◌, subst, ⊎_elim, if◌then◌else◌}
 use Rattle.std.specs.Prelude.{Result, Ok, Err}
 use Rattle.std.specs.List.{list_any}
 use Rattle.std.proofs.lemmas.Bool.{cases_Bool, and_parts}
@@ -11,7 +11,7 @@ use Rattle.look_core.specs.LookSets.{has_look, has_any}
 use Rattle.look_core.specs.Terminators.{Terminator}
 use Rattle.hir_core.specs.Facts.{looks_used}
 use Rattle.hir_core.specs.Tree.{Tree}
-use Rattle.search_types.specs.declared.match_kind.MatchKind.TheVariants.{All as AllMatches, LeftmostFirst}
+use Rattle.search_types.specs.declared.match_kind.MatchKind.TheVariants.{LeftmostFirst}
 use Rattle.nfa_core.specs.NfaValue.{Nfa, is_capture, looks_of}
 use Rattle.thompson_nfa.specs.Configs.{Options, utf8_of, reverse_of, terminator_of}
 use Rattle.thompson_nfa.specs.Compilations.{IsCompiled}
@@ -45,7 +45,8 @@ same_dfa d v e = cc
 same_pair_ok : (p v : Pair) → pair_ok p ≡ pair_ok v → p ≡ v
 same_pair_ok p v e = cc
 
-if_ok : (unsupported small : Bool) (e v : BuildError) (d w : Dfa) → (if unsupported then Err e else if small then Err v else dfa_ok d) ≡ dfa_ok w → w ≡ d
+if_ok : (unsupported small : Bool) (e v : BuildError) (d w : Dfa) →
+    (if unsupported then Err e else if small then Err v else dfa_ok d) ≡ dfa_ok w → w ≡ d
 if_ok true small e v d w is = cc
 if_ok false true e v d w is = cc
 if_ok false false e v d w is = sym (same_dfa d w is)
@@ -110,7 +111,8 @@ same_truth true b f g = sym (f refl)
 same_truth false true f g = g refl
 same_truth false false f g = refl
 
-module _ (o r : Options) (xs : List Tree) (n m : Nfa) (up : IsCompiled o xs n) (down : IsCompiled r xs m) (reads_up : reverse_of o ≡ false) (reads_down : reverse_of r ≡ true) where
+module _ (o r : Options) (xs : List Tree) (n m : Nfa) (up : IsCompiled o xs n) (down : IsCompiled r xs m)
+    (reads_up : reverse_of o ≡ false) (reads_down : reverse_of r ≡ true) where
   down_words : has_unicode_word n.automaton ≡ true → has_unicode_word m.automaton ≡ true
   down_words e =
       let l = member_of_any is_word_unicode (looks_of n.automaton.states) e in

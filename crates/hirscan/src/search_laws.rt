@@ -1,27 +1,44 @@
 //! Laws of searches over two automata that are compiled from trees: they answer what the trees define. Each function has no
 //! code: its contract is the law.
 ghost use Rattle.std.specs.Prelude.{◌≡◌, ◌≤◌, ◌+◌, ◌++◌, ℕ, Bool, true, false, List, All, Option, None, Ok, Err, is_some};
+ghost use Rattle.std.specs.List.{list_any};
 ghost use Rattle.look_core.specs.Looks.{holds, IsWordSet};
 ghost use Rattle.look_core.specs.Terminators.{Terminator};
 ghost use Rattle.hir_core.specs.Facts.{LoopsRead};
 ghost use Rattle.hir_core.specs.Tree.{Tree};
 ghost use Rattle.search_types.specs.declared.anchored.Anchored.{Anchored};
 ghost use Rattle.search_types.specs.declared.match_error.MatchErrorKind.TheVariants.{Quit, UnsupportedAnchored, NotAPair};
+ghost use Rattle.search_types.specs.declared.match_kind.MatchKind.TheVariants.{LeftmostFirst};
 ghost use Rattle.search_types.specs.Chains.{IsChain, IsWholeChain};
 ghost use Rattle.search_types.specs.Found.{Found};
 ghost use Rattle.search_types.specs.Inputs.{Search, with_earliest};
 ghost use Rattle.search_types.specs.Modes.{is_supported};
-ghost use Rattle.lazy_dfa.specs.Dfas.{reader};
+ghost use Rattle.nfa_core.specs.NfaValue.{Nfa, is_capture};
+ghost use Rattle.thompson_nfa.specs.Compilations.{IsCompiled};
+ghost use Rattle.thompson_nfa.specs.Configs.{Options, utf8_of, reverse_of, terminator_of};
+ghost use Rattle.lazy_dfa.specs.ConfigValue.{Options as DfaOptions};
+ghost use Rattle.lazy_dfa.specs.ConfigValue.{kind_of};
+ghost use Rattle.lazy_dfa.specs.Dfas.{IsDfa, reader};
 ghost use Rattle.lazy_dfa.specs.Readers.{Reader, quit, unsupported};
 ghost use Rattle.lazy_dfa.specs.ScanLaws.{HasNoQuitNear};
 ghost use Rattle.lazy_dfa.specs.Scans.{scan};
 ghost use Rattle.regex_pair.specs.Finding.{AnswersAt};
 ghost use Rattle.regex_pair.specs.Joined.{joined};
 ghost use Rattle.regex_pair.specs.Matching.{has_match};
-ghost use Rattle.regex_pair.specs.Pairs.{Pair};
+ghost use Rattle.regex_pair.specs.Pairs.{Pair, pair_built};
 ghost use Rattle.hirscan.specs.Choices.{answer_from, answers_of};
 ghost use Rattle.hirscan.specs.LooseAnswers.{IsLooseAnswer};
 ghost use Rattle.hirscan.specs.Regexes.{IsRegexOf, IsSearchOf, query_of};
+
+/// What is built of two automata that are compiled from the trees, one upwards and without captures, the other downwards, is
+/// two automata of these trees, where it finds the most preferred match.
+pub fn built_pairs_are_of_the_trees()
+    ensures { (o r : Options) (xs : List Tree) (n m : Nfa) → IsCompiled o xs n → IsCompiled r xs m →
+        reverse_of o ≡ false → reverse_of r ≡ true →
+        (utf8 : Bool) (t : Terminator) → utf8_of o ≡ utf8 → utf8_of r ≡ utf8 → terminator_of o ≡ t → terminator_of r ≡ t →
+        list_any is_capture n.automaton.states ≡ false → (c : DfaOptions) → kind_of c ≡ LeftmostFirst → (p : Pair) →
+        pair_built n m c ≡ Ok p → IsDfa p.forward → IsDfa p.reverse → IsRegexOf xs utf8 t p }
+{}
 
 /// A search over two automata of the trees that answers Ok answers what the trees define, for every set of words: the leftmost
 /// match, the most preferred one there. The loops of all trees read.
