@@ -271,12 +271,9 @@ module _ (q : Query) (fits : Fits q) (offers : ℕ → List (ℕ × ℕ)) (Nothi
       nothing_there s i (split_none s l split.0 split.1 split.2) (omega (arith, one_start q.mode s q.end a))
 
   -- where each end counts there is no need to begin anew
-  whole : AllCount q fits → (s : ℕ) → s ≤ q.end → (o : Option (ℕ × ℕ)) → Firsts s o → Ends s o
-  whole all s l None at = none_ends s l at
-  whole all s l (Some c) at = some_ends s l c at (whole_counts s l c at all)
-
   pub whole_ends : AllCount q fits → (s : ℕ) → s ≤ q.end → (o : Option (ℕ × ℕ)) → Firsts s o → Ends s o
-  whole_ends all s l o at = whole all s l o at
+  whole_ends all s l None at = none_ends s l at
+  whole_ends all s l (Some c) at = some_ends s l c at (whole_counts s l c at all)
 
   -- a search that may start anywhere starts at the least place from which a pattern has a span that ends there
   pub start_is_least : (s : ℕ) (c : ℕ × ℕ) → q.mode ≡ No → (a : IsBestFrom q Nothing Best s c) → (k p : ℕ) → s ≤ k → IsSpanOf q p k c.0 →

@@ -33,15 +33,12 @@ pub record FindsFirsts (a : Automaton) (t : Text) (mode : Anchored) (offers : �
       first (ends_from a t (i, name)) ≡ first_of (flat_map offers (places_from i (suc (last_start mode i t.end) - i)))
   pub nothing : start_name a mode ≡ None → (i : ℕ) → offers i ≡ []
 
-same_first : (l : List (ℕ × ℕ)) → first l ≡ first_of l
-same_first [] = refl
-same_first (c ∷ cs) = refl
+pub first_is_of : (ends : List (ℕ × ℕ)) → first ends ≡ first_of ends
+first_is_of [] = refl
+first_is_of (c ∷ cs) = refl
 
 pub first_of_ends : (ends l : List (ℕ × ℕ)) → ends ≡ distinct same_pair l → first ends ≡ first_of l
-first_of_ends ends l e = ap first e ∙ first_distinct same_pair l ∙ same_first l
-
-pub first_is_of : (ends : List (ℕ × ℕ)) → first ends ≡ first_of ends
-first_is_of ends = same_first ends
+first_of_ends ends l e = ap first e ∙ first_distinct same_pair l ∙ first_is_of l
 
 same_choices : (t : Text) (xs : List Tree) (p k i : ℕ) → p ≡ k → choices_from p xs t i ≡ offered t.holds (seen t) k xs i
 same_choices t [] p k i e = refl

@@ -60,7 +60,7 @@ not_split counted c e = elim (cases_Bool (counted c.0)) [
   | inr off ↦ let differ : true ≡ false = sym (ap not off) ∙ e in cc
 ]
 
--- what tells words apart stands on either side of an answer
+-- ---- a search upwards, of trees whose words are those of a set
 module _ (xs : List Tree) (utf8 : Bool) (t : Terminator) (p : Pair) (regex : IsRegexOf xs utf8 t p) (q : Search)
     (asked : IsSearchOf xs utf8 q)
     (words : ℕ → Bool) (set : IsWordSet words) where

@@ -1,5 +1,5 @@
 -- The laws of searches over two automata that are compiled from trees, with their premises in order.
-use Rattle.std.proofs.Common.{◌≡◌, ℕ, ◌+◌, ◌≤◌, Bool, true, List, [], ◌++◌, Option, Some, None, All, refl, sym, ap, ◌∙◌, subst, arith}
+use Rattle.std.proofs.Common.{◌≡◌, ℕ, ◌+◌, ◌≤◌, Bool, true, List, ◌++◌, Option, Some, None, All, refl, sym, ap, ◌∙◌, subst, arith}
 use Rattle.std.specs.Prelude.{Ok, Err, is_some}
 use Rattle.search_core.specs.Utf8.{is_word_byte}
 use Rattle.look_core.specs.Looks.{holds, IsWordSet}
@@ -12,7 +12,7 @@ use Rattle.search_types.specs.declared.match_error.MatchErrorKind.TheVariants.{Q
 use Rattle.search_types.specs.Chains.{IsChain, IsWholeChain}
 use Rattle.search_types.specs.Found.{Found}
 use Rattle.search_types.specs.Inputs.{Search}
-use Rattle.search_types.specs.LeftmostAnswer.{IsAnswer, first_choice}
+use Rattle.search_types.specs.LeftmostAnswer.{IsAnswer}
 use Rattle.search_types.specs.Modes.{is_supported}
 use Rattle.search_types.proofs.ForCallers.{computed_is_answer, chains_begin_the_list, whole_chains_are_the_list}
 use Rattle.search_types.proofs.AnswerLemmas.{one_answer}
@@ -36,14 +36,7 @@ use Rattle.hirscan.proofs.FirstEndLemmas.{FindsFirsts, trees_firsts}
 use Rattle.hirscan.proofs.ForwardLemmas.{fits_query, scan_has_end}
 use Rattle.hirscan.proofs.JoinLemmas.{found_by, joined_answers, joined_finds, is_a_pair, quits_upwards, refused_upwards}
 use Rattle.hirscan.proofs.LooseEndLemmas.{HasNoneCounted, IsOfFirstPattern, loose_offers, loosely_told, loose_firsts}
-use Rattle.hirscan.proofs.SpanChoiceLemmas.{offers, choices_told}
-
--- a place has no choice, and this is its first one
-abbrev HasNoChoice : Query → ℕ → Type 0
-HasNoChoice q i = choices_at q i ≡ []
-
-abbrev IsFirstChoice : Query → ℕ → ℕ → ℕ → Type 0
-IsFirstChoice q i p j = first_choice i (choices_at q i) ≡ Some (record { pattern = p; start = i; end = j })
+use Rattle.hirscan.proofs.SpanChoiceLemmas.{HasNoChoice, IsFirstChoice, offers, choices_told}
 
 -- the best span of the least place that has one is the answer
 pub is_answer : (q : Query) (s : ℕ) (o : Option (ℕ × ℕ))

@@ -42,6 +42,13 @@ true_or : (b : Bool) → (b ≡ true → ⊥) → b ≡ false
 true_or true no_way = absurd (no_way refl)
 true_or false no_way = refl
 
+-- a place has no choice, and this is its first one
+abbrev pub HasNoChoice : Query → ℕ → Type 0
+HasNoChoice q i = choices_at q i ≡ []
+
+abbrev pub IsFirstChoice : Query → ℕ → ℕ → ℕ → Type 0
+IsFirstChoice q i p j = first_choice i (choices_at q i) ≡ Some (record { pattern = p; start = i; end = j })
+
 module _ (q : Query) (fits : Fits q) (loops : All LoopsRead q.patterns) where
   reads : (p : ℕ) (x : Tree) → slice_get q.patterns p ≡ Some x → LoopsRead x
   reads p x listed = listed_has LoopsRead q.patterns loops p x listed
@@ -185,13 +192,7 @@ module _ (q : Query) (fits : Fits q) (loops : All LoopsRead q.patterns) where
       (preferred_ends_complete q.looks q.haystack m.tree i j m.means) (both_true (nat_le j q.end) (counted j) (le-leb j q.end within) c) all
 
   -- so the offers tell the choices
-  abbrev pub NoChoice : ℕ → Type 0
-  NoChoice i = choices_at q i ≡ []
-
-  abbrev pub IsFirstChoice : ℕ → ℕ → ℕ → Type 0
-  IsFirstChoice i p j = first_choice i (choices_at q i) ≡ Some (record { pattern = p; start = i; end = j })
-
-  pub choices_told : Tells q offers NoChoice IsFirstChoice
+  pub choices_told : Tells q offers (HasNoChoice q) (IsFirstChoice q)
   choices_told = record {
     none = no_offer;
     met = λ i j p others inside is. offer_met i p j others inside is;
