@@ -25,3 +25,16 @@ pub mod RunLemmas
 pub mod OneReplyLemmas
 pub mod SomeReplyLemmas
 mod AnswerRows
+pub mod EndLemmas
+pub mod OfferLemmas
+pub mod SpanChoiceLemmas
+pub mod FirstEndLemmas
+pub mod LooseEndLemmas
+pub mod RegexLemmas
+pub mod ForwardLemmas
+pub mod BackLemmas
+pub mod JoinLemmas
+pub mod SearchLemmas
+pub mod EarliestLemmas
+pub mod MatchLemmas
+pub mod BuiltPairLemmas

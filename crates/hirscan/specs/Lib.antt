@@ -11,3 +11,5 @@ pub mod Tells
 pub mod Refusals
 pub mod Reply
 pub mod Runs
+pub mod Regexes
+pub mod LooseAnswers

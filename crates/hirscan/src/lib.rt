@@ -4,7 +4,7 @@
 //! does, how a head reads and where a text has its first fault is defined in `specs/Takes.antt`,
 //! `Reads.antt` and `LineFault.antt`; what is searched for and the answers in `Choices.antt`; why a head is refused with its haystack in `Refusals.antt`; the reply in
 //! `Reply.antt`. Their laws are in [`laws`], those of the notation in [`reading_laws`], those of its words
-//! in [`word_laws`].
+//! in [`word_laws`]. That two automata compiled from trees answer what these define is in [`search_laws`].
 #![tactic(auto)]
 
 mod causes;
@@ -18,6 +18,7 @@ mod plain;
 mod program;
 pub mod reading_laws;
 mod reply;
+pub mod search_laws;
 pub mod word_laws;
 mod words;
 

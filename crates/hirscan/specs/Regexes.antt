@@ -1,0 +1,52 @@
+-- Two automata that search as one for the trees of a list, and what a search over them is asked.
+use Rattle.std.specs.Prelude.{◌≡◌, ◌<◌, ◌≤◌, Bool, true, false, List, All, length}
+use Rattle.std.specs.List.{list_any}
+use Rattle.search_core.specs.Utf8.{IsValidText}
+use Rattle.look_core.specs.Terminators.{Terminator}
+use Rattle.hir_core.specs.Tree.{Tree}
+use Rattle.hir_core.specs.Means.{Looks}
+use Rattle.hir_core.specs.Facts.{is_utf8_tree}
+use Rattle.search_types.specs.declared.match_kind.MatchKind.TheVariants.{All as AllMatches, LeftmostFirst}
+use Rattle.search_types.specs.Inputs.{Search}
+use Rattle.nfa_core.specs.NfaValue.{is_capture}
+use Rattle.thompson_nfa.specs.Configs.{Options, utf8_of, reverse_of, terminator_of}
+use Rattle.thompson_nfa.specs.Compilations.{IsCompiled}
+use Rattle.lazy_dfa.specs.ConfigValue.{kind_of}
+use Rattle.lazy_dfa.specs.Dfas.{IsDfa}
+use Rattle.regex_pair.specs.Pairs.{Pair}
+use Rattle.hirscan.specs.Choices.{Query}
+
+-- The first is compiled from the trees for one who reads up, and keeps no captures; the second is compiled from the same
+-- trees for one who reads down. Both are in the same mode and have the same terminator and quit bytes. The first finds the
+-- most preferred end, and the second the last start.
+pub record IsRegexOf (xs : List Tree) (utf8 : Bool) (t : Terminator) (p : Pair) : Type 0 where
+  pub up_options : Options
+  pub down_options : Options
+  pub up : IsCompiled up_options xs p.forward.nfa
+  pub down : IsCompiled down_options xs p.reverse.nfa
+  pub reads_up : reverse_of up_options ≡ false
+  pub reads_down : reverse_of down_options ≡ true
+  pub up_utf8 : utf8_of up_options ≡ utf8
+  pub down_utf8 : utf8_of down_options ≡ utf8
+  pub up_terminator : terminator_of up_options ≡ t
+  pub down_terminator : terminator_of down_options ≡ t
+  pub no_captures : list_any is_capture p.forward.nfa.automaton.states ≡ false
+  pub forward : IsDfa p.forward
+  pub reverse : IsDfa p.reverse
+  pub finds_first : kind_of p.forward.options ≡ LeftmostFirst
+  pub finds_all : kind_of p.reverse.options ≡ AllMatches
+  pub same_quits : p.reverse.quits ≡ p.forward.quits
+
+-- A search of a haystack of bytes within it, not for the earliest end; in UTF-8 mode the haystack is valid, and no tree has a
+-- span that isn't.
+pub record IsSearchOf (xs : List Tree) (utf8 : Bool) (q : Search) : Type 0 where
+  pub within : q.end ≤ length q.haystack
+  pub whole : q.earliest ≡ false
+  pub bytes : All (λ byte. byte < 256) q.haystack
+  pub valid : utf8 ≡ true → IsValidText q.haystack
+  pub utf8_trees : utf8 ≡ true → All (λ x. is_utf8_tree x ≡ true) xs
+
+-- what it searches for, where looks are read so
+abbrev pub query_of : List Tree → Bool → Looks → Search → Query
+query_of xs utf8 looks q =
+    record { patterns = xs; looks = looks; haystack = q.haystack; end = q.end; mode = q.anchored; utf8 = utf8 }
