@@ -50,3 +50,4 @@ pub mod SearchEndLemmas
 pub mod HasReachLemmas
 pub mod SearchClauseLemmas
 pub mod PassLoopLemmas
+pub mod WalkRows

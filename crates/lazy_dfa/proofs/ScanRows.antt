@@ -21,7 +21,7 @@ use Rattle.lazy_dfa.specs.SearchAnswers.{Told, told, told_by, made_by}
 -- ---- automata, readers, searches
 
 -- states behind an unanchored prefix, which has the names 0 and 1; an anchored search starts in state 2
-abbrev forward : List Node → Automaton
+abbrev pub forward : List Node → Automaton
 forward states = record {
   states = binary_union 2 1 ∷ byte_range 0 255 0 ∷ states;
   start_anchored = 2;
@@ -31,18 +31,18 @@ forward states = record {
 }
 
 -- the same, read downwards
-abbrev backward : List Node → Automaton
+abbrev pub backward : List Node → Automaton
 backward states = record (forward states) { reverse = true }
 
 -- no byte, or one byte alone, is a quit byte
-abbrev no_quits : List Bool
+abbrev pub no_quits : List Bool
 no_quits = replicate 256 false
 
-abbrev only : ℕ → List Bool
+abbrev pub only : ℕ → List Bool
 only b = replicate b false ++ true ∷ replicate (255 - b) false
 
 -- lines end at line feeds, and each end counts
-abbrev reads : Automaton → List Bool → Reader
+abbrev pub reads : Automaton → List Bool → Reader
 reads a quits = record {
   automaton = a;
   terminator = one_of 10;
@@ -52,7 +52,7 @@ reads a quits = record {
   starts_for_each_pattern = false;
 }
 
-abbrev over : List ℕ → ℕ → ℕ → Search
+abbrev pub over : List ℕ → ℕ → ℕ → Search
 over h s e = record { haystack = h; start = s; end = e; anchored = No; earliest = false }
 
 -- ---- what is found

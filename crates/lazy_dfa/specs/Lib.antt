@@ -20,3 +20,6 @@ pub mod Points
 pub mod MadePasses
 pub mod Turns
 pub mod Stands
+pub mod Walks
+pub mod WalkAnswers
+pub mod WalkLaws

@@ -10,6 +10,7 @@ pub use crate::builder::Builder;
 pub use crate::cache::Cache;
 pub use crate::config::Config;
 use crate::measures::Measures;
+pub use crate::overlapping_state::OverlappingState;
 use determinize_core::{Start, StartByteMap};
 use nfa_core::NFA;
 use search_core::{ByteClasses, ByteSet};

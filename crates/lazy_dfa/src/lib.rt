@@ -8,6 +8,9 @@
 //! laws in [`quit_laws`], and how many bytes a cache is taken to need in `Accounting.antt`, with laws in
 //! [`accounting_laws`].
 //!
+//! An overlapping walk tells all ends one by one. What is left of one is in `Walks.antt`, what its calls answer in
+//! `WalkAnswers.antt`; its laws are in [`walk_laws`], in words of `WalkLaws.antt`.
+//!
 //! Options are in `ConfigValue.antt`, an automaton in `Dfas.antt`, a cache and how it belongs to its automaton in
 //! `Caches.antt`, steps in `Steps.antt`, starts in `StartCalls.antt`, those of searches over an input in
 //! `SearchStarts.antt`. What is built of an NFA, and why it is refused, is in `Building.antt`.
@@ -26,6 +29,8 @@ mod dfa_steps;
 mod lazy_id;
 mod making;
 mod measures;
+mod overlapping;
+mod overlapping_state;
 pub mod pass_laws;
 mod passing;
 mod progress;
@@ -40,6 +45,9 @@ mod start_error;
 mod starting;
 mod stepping;
 mod turns;
+pub mod walk_laws;
+mod walk_reads;
+mod which_patterns;
 mod work;
 
 pub use build_error::BuildError;

@@ -24,9 +24,9 @@ use std::sync::ledger::Ledger;
 /// Where a pass stands: before the unit at a place, in a state that isn't dead, with the match that it recorded last.
 #[derive(Clone, Copy)]
 pub(crate) struct Stand {
-    at: usize,
-    id: LazyStateID,
-    best: Option<HalfMatch>,
+    pub(crate) at: usize,
+    pub(crate) id: LazyStateID,
+    pub(crate) best: Option<HalfMatch>,
 }
 
 /// What comes of a turn in a span: the pass goes on from a stand, or it has ended with the match that was recorded last.
@@ -39,28 +39,28 @@ pub(crate) struct Turned {
 // ---- places
 
 /// Where one who reads up, or down, through the span begins.
-fn first_place(input: &Input<'_>, is_down: bool) -> usize
+pub(crate) fn first_place(input: &Input<'_>, is_down: bool) -> usize
     ensures { result ≡ first_place is_down input.now.start input.now.end }
 {
     if is_down { input.end() } else { input.start() }
 }
 
 /// Where one ends.
-fn last_place(input: &Input<'_>, is_down: bool) -> usize
+pub(crate) fn last_place(input: &Input<'_>, is_down: bool) -> usize
     ensures { result ≡ last_place is_down input.now }
 {
     if is_down { input.start() } else { input.end() }
 }
 
 /// The index of the byte that is read next at a place.
-fn index_at(at: usize, is_down: bool) -> usize
+pub(crate) fn index_at(at: usize, is_down: bool) -> usize
     ensures { result ≡ index_at is_down at }
 {
     if is_down { at.saturating_sub(1) } else { at }
 }
 
 /// The place behind the byte at a place.
-fn next_place(at: usize, is_down: bool) -> usize
+pub(crate) fn next_place(at: usize, is_down: bool) -> usize
     requires { at < 0xFFFF_FFFF_FFFF_FFFF }
     ensures { result ≡ place_of is_down at 1 }
 {
@@ -72,7 +72,7 @@ fn next_place(at: usize, is_down: bool) -> usize
 }
 
 /// The unit at a place: a byte, or none at the end of the input.
-fn unit_at(haystack: &[u8], at: usize, is_down: bool) -> Option<u8>
+pub(crate) fn unit_at(haystack: &[u8], at: usize, is_down: bool) -> Option<u8>
     ensures { result ≡ unit_at is_down haystack.now at }
 {
     if !is_down {
@@ -110,7 +110,7 @@ fn finish_where(cache: &mut Cache, at: usize, wanted: bool)
 }
 
 /// The refusal of a search by that of a step.
-fn refusal(err: CacheError, place: usize) -> MatchError
+pub(crate) fn refusal(err: CacheError, place: usize) -> MatchError
     ensures { result ≡ error_of place err }
 {
     match err {
@@ -123,7 +123,7 @@ fn refusal(err: CacheError, place: usize) -> MatchError
 
 /// Goes on over known steps while no state has a tag, up to the last place of the span.
 #[inline(always)]
-fn run(dfa: &DFA, cache: &Cache, input: &Input<'_>, is_down: bool, stand: Stand) -> Stand
+pub(crate) fn run(dfa: &DFA, cache: &Cache, input: &Input<'_>, is_down: bool, stand: Stand) -> Stand
     requires own { IsCacheOf dfa.now cache.now }
     requires down { is_down ≡ dfa.now.nfa.automaton.reverse }
     requires row { IsRow cache.now stand.id }
@@ -317,7 +317,7 @@ fn go_on<L: Ledger, M: Ledger>(
 }
 
 /// The ID of the state in which a pass starts.
-fn start_of_pass<L: Ledger, M: Ledger>(
+pub(crate) fn start_of_pass<L: Ledger, M: Ledger>(
     dfa: &DFA,
     cache: &mut Cache,
     input: &Input<'_>,

@@ -32,14 +32,14 @@ fn same_input<'h>(input: &Input<'h>) -> Input<'h>
 }
 
 /// Whether it reads downwards.
-fn is_down(dfa: &DFA) -> bool
+pub(crate) fn is_down(dfa: &DFA) -> bool
     ensures { result ≡ (reader dfa.now).automaton.reverse }
 {
     dfa.get_nfa().is_reverse()
 }
 
 /// Whether an end inside a character doesn't count.
-fn is_between_characters(dfa: &DFA) -> bool
+pub(crate) fn is_between_characters(dfa: &DFA) -> bool
     ensures { result ≡ (reader dfa.now).between_characters }
 {
     let nfa = dfa.get_nfa();

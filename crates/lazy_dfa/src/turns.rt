@@ -34,7 +34,7 @@ pub(crate) struct Seen {
 }
 
 /// The step by a unit: a byte, or the end of the input.
-fn step_by<L: Ledger, M: Ledger>(
+pub(crate) fn step_by<L: Ledger, M: Ledger>(
     dfa: &DFA,
     cache: &mut Cache,
     current: LazyStateID,

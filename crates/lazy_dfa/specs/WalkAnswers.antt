@@ -1,0 +1,222 @@
+-- What calls of a walk answer, how many units they read, and what they tell a cache of how far they came.
+use Rattle.std.specs.Prelude.{◌≡◌, ◌≢◌, ◌⊎◌, ℕ, zero, suc, ◌+◌, ◌*◌, ◌<◌, ◌≤◌, ◌==◌, ◌&&◌, ◌||◌, not, nat_le, nat_lt, min, Bool, true, false, List, [], ◌∷◌, length, take, Option, Some, None, Result, Ok, Err, IfOk, IfErr, OnOk, if◌then◌else◌, ⊤, slice_set}
+use Rattle.std.specs.List.{list_all}
+use Rattle.search_types.specs.declared.match_error.MatchErrorKind.{MatchErrorKind}
+use Rattle.search_types.specs.declared.match_error.MatchErrorKind.TheVariants.{GaveUp, NoMemory}
+use Rattle.search_types.specs.Inputs.{Search}
+use Rattle.search_types.specs.Modes.{is_supported}
+use Rattle.search_types.specs.Places.{counts}
+use Rattle.nfa_core.specs.Places.{first}
+use Rattle.nfa_core.specs.Ways.{place_of}
+use Rattle.determinize_core.specs.States.{StateValue}
+use Rattle.lazy_dfa.specs.Caches.{CacheValue, greatest, progress_len, lacks_room}
+use Rattle.lazy_dfa.specs.declared.overlapping_state.Stop.{Stop}
+use Rattle.lazy_dfa.specs.declared.overlapping_state.Walk.{Walk}
+use Rattle.lazy_dfa.specs.declared.overlapping_state.Walk.TheVariants.{Fresh, Ended, Failed, Stands}
+use Rattle.lazy_dfa.specs.Dfas.{Dfa, reader}
+use Rattle.lazy_dfa.specs.Linked.{Grows, HasCleared, GrowsOrClears}
+use Rattle.lazy_dfa.specs.MadePasses.{span_len}
+use Rattle.lazy_dfa.specs.Passes.{is_empty, is_dead, next_value, next_place, first_value}
+use Rattle.lazy_dfa.specs.PassLaws.{pass_len}
+use Rattle.lazy_dfa.specs.Readers.{Reader}
+use Rattle.lazy_dfa.specs.ScanLaws.{begins_at}
+use Rattle.lazy_dfa.specs.SearchAnswers.{half_of, GivesUpIn, Told, told_of, pass_distance, running_at}
+use Rattle.lazy_dfa.specs.Courses.{state_behind}
+use Rattle.lazy_dfa.specs.Stands.{came, left_at, last_place, gave_up_at}
+use Rattle.lazy_dfa.specs.Steps.{most_inserts}
+use Rattle.lazy_dfa.specs.Walks.{Rest, rest_from, whole_rest, rest_of, others, value_past, IsWalk, WalkState}
+
+-- ---- where a call reads
+
+-- How many units a walk reads from a state at a place, of n, where none is a quit byte: until its state is dead, and until its
+-- state lists a match at a place that counts.
+abbrev pub units_met : Reader → List ℕ → ℕ → ℕ → StateValue → ℕ
+units_met r h zero i v = 0
+units_met r h (suc n) i v =
+    if is_dead v then 0 else
+    if counts r.between_characters h i && not (is_empty (next_value r h i v).matches) then 1 else
+    suc (units_met r h n (next_place r i) (next_value r h i v))
+
+-- the state where a walk stopped lists more at its place, so the next call reads nothing
+abbrev pub lists_more : Reader → Search → Stop → Bool
+lists_more r q stop = counts r.between_characters q.haystack stop.at && nat_lt stop.index (length (value_past r q stop.at).matches)
+
+-- whether the next call reads on
+abbrev pub reads_on : Reader → Search → Walk → Bool
+reads_on r q Fresh = nat_le q.start q.end && is_supported r.starts_for_each_pattern q.anchored
+reads_on r q Ended = false
+reads_on r q (Failed e) = false
+reads_on r q (Stands stop) = not (lists_more r q stop || stop.at == last_place r.automaton.reverse q)
+
+-- the place at which it reads on
+abbrev pub call_place : Reader → Search → Walk → ℕ
+call_place r q (Stands stop) = next_place r stop.at
+call_place r q Fresh = begins_at r q
+call_place r q Ended = begins_at r q
+call_place r q (Failed e) = begins_at r q
+
+-- how many units it reads there
+abbrev pub units_there : Reader → Search → Walk → ℕ
+units_there r q Fresh = units_met r q.haystack (suc (span_len q)) (begins_at r q) (first_value r q.anchored q.haystack (begins_at r q))
+units_there r q Ended = 0
+units_there r q (Failed e) = 0
+units_there r q (Stands stop) = units_met r q.haystack (left_at r.automaton.reverse q stop.at) (next_place r stop.at) (value_past r q stop.at)
+
+abbrev pub call_units : Reader → Search → Walk → ℕ
+call_units r q w = if reads_on r q w then units_there r q w else 0
+
+-- how many starts it asks for
+abbrev pub call_starts : Search → Walk → ℕ
+call_starts q Fresh = if nat_le q.start q.end then 1 else 0
+call_starts q Ended = 0
+call_starts q (Failed e) = 0
+call_starts q (Stands stop) = 0
+
+-- and how many states it makes at most
+abbrev pub call_made : Reader → Search → Walk → ℕ
+call_made r q w = call_starts q w + call_units r q w
+
+-- ---- answers
+
+-- what a call answers that has these ends to tell, and then this refusal
+abbrev pub told_left : List (ℕ × ℕ) → Option MatchErrorKind → Result ⊤ MatchErrorKind
+told_left (x ∷ xs) refusal = Ok tt
+told_left [] None = Ok tt
+told_left [] (Some e) = Err e
+
+-- a call tells the next end of what is left, and leaves the others; or none, or the refusal, which it leaves as it is
+pub record TellsNext (r : Reader) (q : Search) (w : Walk) (new : WalkState) (result : Result ⊤ MatchErrorKind) : Type 0 where
+  pub answer : result ≡ told_left (rest_of r q w).ends (rest_of r q w).refusal
+  pub found : new.found ≡ half_of (first (rest_of r q w).ends)
+  pub left : rest_of r q new.walk ≡ others (rest_of r q w)
+
+-- A call gave up at x: the state in which the walk starts, or the one behind a unit that the call reads, has no room, and no
+-- clear is allowed. At a byte the search still goes on, and is there.
+pub data GivesUpOn (d : Dfa) (v : CacheValue) (q : Search) (w : Walk) (x : ℕ) : Type 0 where
+  at_start : w ≡ Fresh → x ≡ begins_at (reader d) q →
+      lacks_room d v (first_value (reader d) q.anchored q.haystack (begins_at (reader d) q)) ≡ true → GivesUpOn d v q w x
+  at_unit : (k : ℕ) → k < call_units (reader d) q w →
+      x ≡ gave_up_at d.nfa.automaton.reverse q (place_of d.nfa.automaton.reverse (call_place (reader d) q w) k) →
+      lacks_room d v (value_past (reader d) q (place_of d.nfa.automaton.reverse (call_place (reader d) q w) k)) ≡ true →
+      (place_of d.nfa.automaton.reverse (call_place (reader d) q w) k ≢ last_place d.nfa.automaton.reverse q → running_at v.progress ≡ Some x) →
+      GivesUpOn d v q w x
+
+-- What a call of a walk answers over whatever cache. Else memory lacked, or it gave up, and the cache is as it was then.
+abbrev pub AnswersWalk : Dfa → CacheValue → Search → Walk → WalkState → Result ⊤ MatchErrorKind → Type 0
+AnswersWalk d v q w new result = TellsNext (reader d) q w new result ⊎ (result ≡ Err NoMemory) ⊎
+    ((x : ℕ) × (result ≡ Err (GaveUp x)) × GivesUpOn d v q w x)
+
+-- a refused call fails the walk for good
+abbrev pub failed_by : MatchErrorKind → WalkState
+failed_by e = record { found = None; walk = Failed e }
+
+-- ---- how far it came
+
+-- A call that reads ends the search that goes on and adds its own length. Another one tells nothing.
+abbrev pub told_by_call : Reader → Search → Walk → Told → Told
+told_by_call r q w t =
+    if reads_on r q w then record {
+      searched = min (t.searched + progress_len t.progress +
+          pass_distance r.automaton.reverse (left_at r.automaton.reverse q (call_place r q w)) (call_units r q w)) greatest;
+      progress = None;
+    } else t
+
+-- ---- reading on
+
+-- the state before the unit at a place of the span, where all units before it are read
+abbrev pub value_before : Reader → Search → ℕ → StateValue
+value_before r q at =
+    state_behind r q.haystack (begins_at r q) (first_value r q.anchored q.haystack (begins_at r q)) (came r.automaton.reverse q at)
+
+-- what is left of a walk that is to read this unit
+abbrev pub rest_at : Reader → Search → ℕ → Rest
+rest_at r q at = rest_from r q.haystack (suc (left_at r.automaton.reverse q at)) at (value_before r q at)
+
+-- and how many units its next call reads
+abbrev pub units_at : Reader → Search → ℕ → ℕ
+units_at r q at = units_met r q.haystack (suc (left_at r.automaton.reverse q at)) at (value_before r q at)
+
+-- what is told by reading on from there
+abbrev pub told_from : Reader → Search → ℕ → Told → Told
+told_from r q at t = record {
+  searched = min (t.searched + progress_len t.progress + pass_distance r.automaton.reverse (left_at r.automaton.reverse q at) (units_at r q at)) greatest;
+  progress = None;
+}
+
+-- a unit that is read from there lacks a state
+pub record GivesUpFrom (d : Dfa) (v : CacheValue) (q : Search) (at x : ℕ) : Type 0 where
+  pub unit : ℕ
+  pub read : unit < units_at (reader d) q at
+  pub place : x ≡ gave_up_at d.nfa.automaton.reverse q (place_of d.nfa.automaton.reverse at unit)
+  pub lacks : lacks_room d v (value_past (reader d) q (place_of d.nfa.automaton.reverse at unit)) ≡ true
+  pub running : place_of d.nfa.automaton.reverse at unit ≢ last_place d.nfa.automaton.reverse q → running_at v.progress ≡ Some x
+
+-- The rest of a walk from the unit at a place up to the next end that counts: it is told, and what is left is what was left
+-- but for it.
+pub record ReadsOn (d : Dfa) (q : Search) (at : ℕ) (old new : CacheValue) (m1 m2 n1 n2 : ℕ) (result : Result WalkState MatchErrorKind) : Type 0 where
+  pub ok : IfOk result (λ w. (told_left (rest_at (reader d) q at).ends (rest_at (reader d) q at).refusal ≡ Ok tt) ×
+      (w.found ≡ half_of (first (rest_at (reader d) q at).ends)) × (rest_of (reader d) q w.walk ≡ others (rest_at (reader d) q at)) ×
+      IsWalk d new q w.walk × (w.found ≡ None → w.walk ≡ Ended))
+  pub err : IfErr result (λ e. (told_left (rest_at (reader d) q at).ends (rest_at (reader d) q at).refusal ≡ Err e) ⊎ (e ≡ NoMemory) ⊎
+      ((x : ℕ) × (e ≡ GaveUp x) × GivesUpFrom d new q at x))
+  pub kept : GrowsOrClears d old new
+  pub told : OnOk result ((Grows d old new × (told_of new ≡ told_from (reader d) q at (told_of old))) ⊎ HasCleared old new)
+  pub determinized : m2 ≤ m1 + units_at (reader d) q at
+  pub inserted : n2 ≤ n1 + units_at (reader d) q at * most_inserts d
+
+-- ---- calls
+
+-- what a call does from one state of the walk to the next
+pub record MakesCall (d : Dfa) (q : Search) (old new : CacheValue) (m1 m2 n1 n2 : ℕ) (w : Walk) (after : WalkState) (result : Result ⊤ MatchErrorKind) : Type 0 where
+  pub answer : AnswersWalk d new q w after result
+  pub walk : IsWalk d new q after.walk
+  pub failed : IfErr result (λ e. after ≡ failed_by e)
+  pub kept : GrowsOrClears d old new
+  pub told : OnOk result ((Grows d old new × (told_of new ≡ told_by_call (reader d) q w (told_of old))) ⊎ HasCleared old new)
+  pub ends : OnOk result (after.found ≡ None → after.walk ≡ Ended)
+  pub still : call_starts q w ≡ 0 → reads_on (reader d) q w ≡ false → TellsNext (reader d) q w after result
+  pub quiet : call_starts q w ≡ 0 → reads_on (reader d) q w ≡ false → (new ≡ old) × (m2 ≡ m1) × (n2 ≡ n1)
+  pub determinized : m2 ≤ m1 + call_made (reader d) q w
+  pub inserted : n2 ≤ n1 + call_made (reader d) q w * most_inserts d
+
+-- ---- which patterns
+
+-- the set with a pattern more, if it has room for it
+abbrev pub with_pattern : List Bool → ℕ → List Bool
+with_pattern set p = if nat_lt p (length set) then slice_set set p true else set
+
+abbrev pub is_full : List Bool → Bool
+is_full set = list_all (λ is_member. is_member) set
+
+-- the set with the patterns of all these ends
+abbrev pub with_ends : List Bool → List (ℕ × ℕ) → List Bool
+with_ends set [] = set
+with_ends set (x ∷ xs) = with_ends (with_pattern set x.1) xs
+
+-- a set of patterns, and the refusal that was met
+pub record Which : Type 0 where
+  pub set : List Bool
+  pub refusal : Option MatchErrorKind
+
+-- The patterns of ends are added one by one, up to the refusal behind them. Where the set is full behind an end, or the
+-- earliest end is enough, no more are looked for.
+abbrev pub which_from : Bool → List Bool → List (ℕ × ℕ) → Option MatchErrorKind → Which
+which_from earliest set [] refusal = record { set = set; refusal = refusal }
+which_from earliest set (x ∷ xs) refusal =
+    if earliest || is_full (with_pattern set x.1)
+    then record { set = with_pattern set x.1; refusal = None }
+    else which_from earliest (with_pattern set x.1) xs refusal
+
+abbrev pub which_of : Reader → Search → List Bool → Which
+which_of r q set = which_from q.earliest set (whole_rest r q).ends (whole_rest r q).refusal
+
+-- What a walk over a whole span adds to a set. Else memory lacked, or it gave up, and the patterns of the first ends were added.
+abbrev pub AnswersWhich : Dfa → CacheValue → Search → List Bool → List Bool → Result ⊤ MatchErrorKind → Type 0
+AnswersWhich d v q old new result =
+    ((result ≡ told_left [] (which_of (reader d) q old).refusal) × (new ≡ (which_of (reader d) q old).set)) ⊎
+    ((k : ℕ) × (new ≡ with_ends old (take k (whole_rest (reader d) q).ends)) ×
+    ((result ≡ Err NoMemory) ⊎ ((x : ℕ) × (result ≡ Err (GaveUp x)) × GivesUpIn d v q.anchored false q.haystack (span_len q) (begins_at (reader d) q) x)))
+
+-- it makes so many states at most: one for its start, and one for each unit of one pass
+abbrev pub which_made : Reader → Search → ℕ
+which_made r q = if nat_le q.start q.end then suc (pass_len r q.anchored false q.haystack (span_len q) (begins_at r q)) else 0

@@ -1,0 +1,188 @@
+//! Overlapping walks: all ends of matches one by one.
+ghost use Rattle.std.specs.Prelude.{◌≡◌, ◌+◌, ◌*◌, ◌<◌, ◌≤◌, false, true, None, Ok, Err, IfOk, IfErr, OnOk};
+ghost use Rattle.search_types.specs.declared.match_error.MatchErrorKind.TheVariants.{NoMemory};
+ghost use Rattle.lazy_dfa.specs.Caches.{IsCacheOf, greatest};
+ghost use Rattle.lazy_dfa.specs.ConfigValue.{clears_of};
+ghost use Rattle.lazy_dfa.specs.Dfas.{reader};
+ghost use Rattle.lazy_dfa.specs.Linked.{GrowsOrClears};
+ghost use Rattle.lazy_dfa.specs.SearchAnswers.{told_of};
+ghost use Rattle.lazy_dfa.specs.Steps.{most_inserts};
+ghost use Rattle.lazy_dfa.specs.Walks.{IsWalk, StopsAt, rest_of};
+ghost use Rattle.lazy_dfa.specs.WalkAnswers.{AnswersWalk, TellsNext, MakesCall, failed_by, told_by_call, reads_on, call_starts, call_made};
+ghost use Rattle.lazy_dfa.specs.declared.overlapping_state.Walk.TheVariants.{Fresh, Ended, Stands};
+
+use crate::dfa::{Cache, DFA};
+use crate::overlapping_state::{OverlappingState, Stop, Walk};
+use crate::passing::{Stand, first_place, last_place, next_place, start_of_pass};
+use crate::searching::is_down;
+use crate::walk_reads::{lists_more, progress_at, read_on, tell};
+use crate::work::Work;
+use search_types::{Input, MatchError};
+use std::sync::ledger::Ledger;
+
+/// The first call of a walk.
+fn begin<L: Ledger, M: Ledger>(
+    dfa: &DFA,
+    cache: &mut Cache,
+    input: &Input<'_>,
+    is_down: bool,
+    work: &mut Work<L, M>,
+) -> Result<OverlappingState, MatchError>
+    requires own { IsCacheOf dfa.now cache.old }
+    requires down { is_down ≡ dfa.now.nfa.automaton.reverse }
+    ensures own { IsCacheOf dfa.now cache.new }
+    ensures call { IfOk result (λ told. MakesCall dfa.now input.now cache.old cache.new work.old.determinized work.new.determinized work.old.inserted work.new.inserted Fresh told (Ok tt)) }
+    ensures err { IfErr result (λ e. MakesCall dfa.now input.now cache.old cache.new work.old.determinized work.new.determinized work.old.inserted work.new.inserted Fresh (failed_by e) (Err e)) }
+{
+    if input.is_done() {
+        return Ok(OverlappingState::ended());
+    }
+    let id = match start_of_pass(dfa, cache, input, is_down, work) {
+        Ok(id) => id,
+        Err(e) => return Err(e),
+    };
+    let at = first_place(input, is_down);
+    if id.is_dead() {
+        let index = progress_at(input, is_down, at);
+        cache.search_start(index);
+        cache.search_finish(index);
+        return Ok(OverlappingState::ended());
+    }
+    let first = Stand { at, id, best: None };
+    read_on(dfa, cache, input, is_down, first, work)
+}
+
+/// A call of a walk that stopped.
+fn resume<L: Ledger, M: Ledger>(
+    dfa: &DFA,
+    cache: &mut Cache,
+    input: &Input<'_>,
+    is_down: bool,
+    stop: Stop,
+    work: &mut Work<L, M>,
+) -> Result<OverlappingState, MatchError>
+    requires own { IsCacheOf dfa.now cache.old }
+    requires down { is_down ≡ dfa.now.nfa.automaton.reverse }
+    requires stops { StopsAt dfa.now cache.old input.now stop }
+    ensures own { IsCacheOf dfa.now cache.new }
+    ensures call { IfOk result (λ told. MakesCall dfa.now input.now cache.old cache.new work.old.determinized work.new.determinized work.old.inserted work.new.inserted (Stands stop) told (Ok tt)) }
+    ensures err { IfErr result (λ e. MakesCall dfa.now input.now cache.old cache.new work.old.determinized work.new.determinized work.old.inserted work.new.inserted (Stands stop) (failed_by e) (Err e)) }
+{
+    if lists_more(dfa, cache, input, stop.id, stop.index, stop.at) {
+        return Ok(tell(dfa, cache, input, stop.id, stop.index, stop.at));
+    }
+    if stop.at == last_place(input, is_down) {
+        return Ok(OverlappingState::ended());
+    }
+    let next = Stand {
+        at: next_place(stop.at, is_down),
+        id: stop.id,
+        best: None,
+    };
+    read_on(dfa, cache, input, is_down, next, work)
+}
+
+/// A call of a walk.
+pub(crate) fn call<L: Ledger, M: Ledger>(
+    dfa: &DFA,
+    cache: &mut Cache,
+    input: &Input<'_>,
+    state: &mut OverlappingState,
+    work: &mut Work<L, M>,
+) -> Result<(), MatchError>
+    requires own { IsCacheOf dfa.now cache.old }
+    requires walk { IsWalk dfa.now cache.old input.now state.old.walk }
+    ensures own { IsCacheOf dfa.now cache.new }
+    ensures call { MakesCall dfa.now input.now cache.old cache.new work.old.determinized work.new.determinized work.old.inserted work.new.inserted state.old.walk state.new result }
+{
+    let is_down = is_down(dfa);
+    let told = match state.walk {
+        Walk::Fresh => begin(dfa, cache, input, is_down, work),
+        Walk::Ended => Ok(OverlappingState::ended()),
+        Walk::Failed(kind) => Err(MatchError::new(kind)),
+        Walk::Stands(stop) => resume(dfa, cache, input, is_down, stop, work),
+    };
+    match told {
+        Ok(next) => {
+            *state = next;
+            Ok(())
+        }
+        Err(e) => {
+            *state = OverlappingState::failed(*e.kind());
+            Err(e)
+        }
+    }
+}
+
+impl DFA {
+    /// The next end of a walk that tells all ends in a span, as `DFA::try_search_overlapping_fwd`. The automaton reads upwards.
+    /// [`OverlappingState::get_match`] has the end, or none where nothing is left.
+    ///
+    /// What a walk tells is what the states on its way list, place by place, those ends left out that split a character in an
+    /// automaton to which this matters. Under [`MatchKind::All`](search_types::MatchKind) these are the ends of all
+    /// runs, each once, as [`walk_laws`](crate::walk_laws) say. Whether the earliest end is enough makes no difference.
+    ///
+    /// The walk is fresh, or it goes on in this cache: calls over it that clear nothing may lie between, and no others. It is
+    /// refused at a quit byte, in a mode in which the automaton can't search, where a state has no room and no clear is allowed,
+    /// and where memory lacks. A refused walk has failed: it answers the same refusal for good. The cache is of use after that.
+    pub fn try_search_overlapping_fwd<L: Ledger, M: Ledger>(
+        &self,
+        cache: &mut Cache,
+        input: &Input<'_>,
+        state: &mut OverlappingState,
+        work: &mut Work<L, M>,
+    ) -> Result<(), MatchError>
+        requires own { IsCacheOf self.now cache.old }
+        requires up { self.now.nfa.automaton.reverse ≡ false }
+        requires walk { IsWalk self.now cache.old input.now state.old.walk }
+        ensures own { IsCacheOf self.now cache.new }
+        ensures answer { AnswersWalk self.now cache.new input.now state.old.walk state.new result }
+        ensures walk { IsWalk self.now cache.new input.now state.new.walk }
+        ensures failed { IfErr result (λ e. state.new ≡ failed_by e) }
+        ensures sure { clears_of self.now.options ≡ None → (rest_of (reader self.now) input.now state.old.walk).refusal ≡ None → IfErr result (λ e. e ≡ NoMemory) }
+        ensures kept { GrowsOrClears self.now cache.old cache.new }
+        ensures told { OnOk result (cache.new.clears ≡ cache.old.clears → cache.old.clears < greatest →
+            told_of cache.new ≡ told_by_call (reader self.now) input.now state.old.walk (told_of cache.old)) }
+        ensures ends { OnOk result (state.new.found ≡ None → state.new.walk ≡ Ended) }
+        ensures still { call_starts input.now state.old.walk ≡ 0 → reads_on (reader self.now) input.now state.old.walk ≡ false →
+            TellsNext (reader self.now) input.now state.old.walk state.new result }
+        ensures same { call_starts input.now state.old.walk ≡ 0 → reads_on (reader self.now) input.now state.old.walk ≡ false → cache.new ≡ cache.old }
+        ensures free { call_starts input.now state.old.walk ≡ 0 → reads_on (reader self.now) input.now state.old.walk ≡ false → work.new ≡ work.old }
+        ensures determinized { work.new.determinized ≤ work.old.determinized + call_made (reader self.now) input.now state.old.walk }
+        ensures inserted { work.new.inserted ≤ work.old.inserted + call_made (reader self.now) input.now state.old.walk * most_inserts self.now }
+    {
+        call(self, cache, input, state, work)
+    }
+
+    /// The next start of a walk that tells all starts in a span, as `DFA::try_search_overlapping_rev`. The automaton reads
+    /// downwards, from the span's end. All patterns at one place are told with this place. All else is as
+    /// [`try_search_overlapping_fwd`](DFA::try_search_overlapping_fwd) has it.
+    pub fn try_search_overlapping_rev<L: Ledger, M: Ledger>(
+        &self,
+        cache: &mut Cache,
+        input: &Input<'_>,
+        state: &mut OverlappingState,
+        work: &mut Work<L, M>,
+    ) -> Result<(), MatchError>
+        requires own { IsCacheOf self.now cache.old }
+        requires down { self.now.nfa.automaton.reverse ≡ true }
+        requires walk { IsWalk self.now cache.old input.now state.old.walk }
+        ensures own { IsCacheOf self.now cache.new }
+        ensures answer { AnswersWalk self.now cache.new input.now state.old.walk state.new result }
+        ensures walk { IsWalk self.now cache.new input.now state.new.walk }
+        ensures failed { IfErr result (λ e. state.new ≡ failed_by e) }
+        ensures sure { clears_of self.now.options ≡ None → (rest_of (reader self.now) input.now state.old.walk).refusal ≡ None → IfErr result (λ e. e ≡ NoMemory) }
+        ensures kept { GrowsOrClears self.now cache.old cache.new }
+        ensures told { OnOk result (cache.new.clears ≡ cache.old.clears → cache.old.clears < greatest →
+            told_of cache.new ≡ told_by_call (reader self.now) input.now state.old.walk (told_of cache.old)) }
+        ensures ends { OnOk result (state.new.found ≡ None → state.new.walk ≡ Ended) }
+        ensures still { call_starts input.now state.old.walk ≡ 0 → reads_on (reader self.now) input.now state.old.walk ≡ false →
+            TellsNext (reader self.now) input.now state.old.walk state.new result }
+        ensures same { call_starts input.now state.old.walk ≡ 0 → reads_on (reader self.now) input.now state.old.walk ≡ false → cache.new ≡ cache.old }
+        ensures free { call_starts input.now state.old.walk ≡ 0 → reads_on (reader self.now) input.now state.old.walk ≡ false → work.new ≡ work.old }
+        ensures determinized { work.new.determinized ≤ work.old.determinized + call_made (reader self.now) input.now state.old.walk }
+        ensures inserted { work.new.inserted ≤ work.old.inserted + call_made (reader self.now) input.now state.old.walk * most_inserts self.now }
+    {
+        call(self, cache, input, state, work)
+    }
+}

@@ -1,0 +1,94 @@
+//! Laws of overlapping walks: which ends they tell, and in which order. Each function has no code: its contract is the law.
+ghost use Rattle.std.specs.Prelude.{◌≡◌, ◌⊎◌, ℕ, suc, ◌-◌, ◌<◌, ◌≤◌, ◌↔◌, Bool, true, false, List, [], length, Some, None};
+ghost use Rattle.std.specs.Bool.{nat_eq};
+ghost use Rattle.std.specs.List.{filter};
+ghost use Rattle.search_core.specs.ByteSets.{has};
+ghost use Rattle.search_types.specs.Inputs.{Search};
+ghost use Rattle.search_types.specs.Modes.{is_supported};
+ghost use Rattle.search_types.specs.Places.{counts};
+ghost use Rattle.search_types.specs.declared.match_error.MatchErrorKind.{MatchErrorKind};
+ghost use Rattle.search_types.specs.declared.match_error.MatchErrorKind.TheVariants.{Quit, UnsupportedAnchored};
+ghost use Rattle.search_types.specs.declared.match_kind.MatchKind.TheVariants.{All as AllMatches};
+ghost use Rattle.nfa_core.specs.Places.{same_pair};
+ghost use Rattle.nfa_core.specs.Walks.{Has, HasNoneTwice};
+ghost use Rattle.lazy_dfa.specs.Caches.{CacheValue, IsCacheOf, greatest};
+ghost use Rattle.lazy_dfa.specs.Dfas.{Dfa};
+ghost use Rattle.lazy_dfa.specs.Linked.{Grows, GrowsOrClears};
+ghost use Rattle.lazy_dfa.specs.Passes.{start_name};
+ghost use Rattle.lazy_dfa.specs.PassLaws.{HasNoQuitBehind, IsQuitBehind};
+ghost use Rattle.lazy_dfa.specs.Readers.{Reader};
+ghost use Rattle.lazy_dfa.specs.ScanLaws.{begins_at, ends_of, IsQuitNear, HasNoQuitNear};
+ghost use Rattle.lazy_dfa.specs.Walks.{whole_rest, nothing_left, refused, IsWalk};
+ghost use Rattle.lazy_dfa.specs.WalkAnswers.{which_from, with_ends};
+ghost use Rattle.lazy_dfa.specs.WalkLaws.{IsBegun, IsInReadingOrder, IsQuitUnit, span_ends};
+ghost use Rattle.lazy_dfa.specs.declared.overlapping_state.Walk.{Walk};
+
+/// Where all matches are asked for, a walk that meets no quit byte tells the ends of all runs, place by place in reading
+/// order, at one place those of the preferred runs first.
+pub fn walks_for_all_tell_the_ends_by_place()
+    ensures { (r : Reader) (q : Search) (name : ℕ) → r.kind ≡ AllMatches → IsBegun r q name → (whole_rest r q).refusal ≡ None →
+        (whole_rest r q).ends ≡ span_ends r q name (suc (q.end - q.start)) }
+{}
+
+/// So it tells exactly the pairs of a place that counts and a pattern such that a run of the pattern ends there, each once,
+/// the places in reading order, and at one place the ends of the preferred runs first.
+pub fn walks_for_all_tell_each_end_once()
+    ensures exactly { (r : Reader) (q : Search) (name : ℕ) (x : ℕ × ℕ) → r.kind ≡ AllMatches → IsBegun r q name → (whole_rest r q).refusal ≡ None →
+        Has same_pair x (whole_rest r q).ends ↔ (Has same_pair x (ends_of r q name 0) × (counts r.between_characters q.haystack x.0 ≡ true)) }
+    ensures once { (r : Reader) (q : Search) (name : ℕ) → r.kind ≡ AllMatches → IsBegun r q name → (whole_rest r q).refusal ≡ None →
+        HasNoneTwice same_pair (whole_rest r q).ends }
+    ensures ordered { (r : Reader) (q : Search) (name : ℕ) → r.kind ≡ AllMatches → IsBegun r q name → (whole_rest r q).refusal ≡ None →
+        IsInReadingOrder r.automaton.reverse (whole_rest r q).ends }
+    ensures best { (r : Reader) (q : Search) (name j : ℕ) → r.kind ≡ AllMatches → IsBegun r q name → (whole_rest r q).refusal ≡ None →
+        counts r.between_characters q.haystack j ≡ true →
+        filter (λ x. nat_eq x.0 j) (whole_rest r q).ends ≡ filter (λ x. nat_eq x.0 j) (ends_of r q name 0) }
+{}
+
+/// A walk that meets a quit byte tells the ends at the places before this byte's unit but for its own place, since a match
+/// shows one unit late, and nothing where the quit byte stands behind its first place.
+pub fn walks_for_all_tell_the_ends_before_a_quit_byte()
+    ensures { (r : Reader) (q : Search) (name b x : ℕ) → r.kind ≡ AllMatches → IsBegun r q name → (whole_rest r q).refusal ≡ Some (Quit b x) →
+        (IsQuitBehind r q.haystack (begins_at r q) b x × ((whole_rest r q).ends ≡ [])) ⊎
+        (HasNoQuitBehind r q.haystack (begins_at r q) × ((m : ℕ) × IsQuitUnit r q m b x × ((whole_rest r q).ends ≡ span_ends r q name m))) }
+{}
+
+/// Of either kind, each end that is told lies in the span and at a place that counts.
+pub fn walks_tell_ends_in_their_span()
+    ensures { (r : Reader) (q : Search) (x : ℕ × ℕ) → q.start ≤ q.end → Has same_pair x (whole_rest r q).ends →
+        (q.start ≤ x.0) × (x.0 ≤ q.end) × (counts r.between_characters q.haystack x.0 ≡ true) }
+{}
+
+/// Nothing is left of a walk over a done span, and of one for a pattern that doesn't exist no end.
+pub fn walks_may_have_nothing_to_tell()
+    ensures done { (r : Reader) (q : Search) → q.end < q.start → whole_rest r q ≡ nothing_left }
+    ensures no_pattern { (r : Reader) (q : Search) → start_name r.automaton q.anchored ≡ None → (whole_rest r q).ends ≡ [] }
+{}
+
+/// A walk is refused at a quit byte in or beside its span, or in a mode in which the automaton can't search, at once. Where no
+/// quit byte stands there and the mode is supported, it isn't.
+pub fn walks_are_refused_by_quit_bytes_and_modes_alone()
+    ensures quits { (r : Reader) (q : Search) (b x : ℕ) → (whole_rest r q).refusal ≡ Some (Quit b x) → IsQuitNear r q.haystack q.start q.end b x }
+    ensures unsupported { (r : Reader) (q : Search) → q.start ≤ q.end → is_supported r.starts_for_each_pattern q.anchored ≡ false →
+        HasNoQuitBehind r q.haystack (begins_at r q) → whole_rest r q ≡ refused (UnsupportedAnchored q.anchored) }
+    ensures alone { (r : Reader) (q : Search) (e : MatchErrorKind) → (whole_rest r q).refusal ≡ Some e →
+        ((b x : ℕ) × (e ≡ Quit b x)) ⊎ ((e ≡ UnsupportedAnchored q.anchored) × (is_supported r.starts_for_each_pattern q.anchored ≡ false)) }
+    ensures none { (r : Reader) (q : Search) → is_supported r.starts_for_each_pattern q.anchored ≡ true → HasNoQuitNear r q.haystack q.start q.end →
+        (whole_rest r q).refusal ≡ None }
+{}
+
+/// A walk goes on over a cache that wasn't cleared since its last call, whatever else was done with it. The
+/// same count of clears tells that it wasn't.
+pub fn walks_go_on_where_nothing_was_cleared()
+    ensures grown { (d : Dfa) (old new : CacheValue) (q : Search) (w : Walk) → IsCacheOf d old → IsCacheOf d new → Grows d old new → IsWalk d old q w → IsWalk d new q w }
+    ensures counted { (d : Dfa) (old new : CacheValue) (q : Search) (w : Walk) → IsCacheOf d old → IsCacheOf d new → GrowsOrClears d old new →
+        new.clears ≡ old.clears → old.clears < greatest → IsWalk d old q w → IsWalk d new q w }
+{}
+
+/// Where the earliest end isn't enough and there is no refusal, the patterns of all ends that a set has room for are added, and
+/// no others.
+pub fn sets_get_the_patterns_of_all_ends()
+    ensures members { (set : List Bool) (ends : List (ℕ × ℕ)) (p : ℕ) →
+        (has (which_from false set ends None).set p ≡ true) ↔ ((has set p ≡ true) ⊎ ((p < length set) × ((j : ℕ) × Has same_pair (j, p) ends))) }
+    ensures refused { (set : List Bool) (ends : List (ℕ × ℕ)) → (which_from false set ends None).refusal ≡ None }
+    ensures room { (set : List Bool) (ends : List (ℕ × ℕ)) → length (with_ends set ends) ≡ length set }
+{}

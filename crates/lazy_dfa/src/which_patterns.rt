@@ -1,0 +1,63 @@
+//! Which patterns match: those of all ends of a walk.
+ghost use Rattle.std.specs.Prelude.{◌≡◌, ◌+◌, ◌*◌, ◌≤◌, false, None, IfErr};
+ghost use Rattle.search_types.specs.declared.match_error.MatchErrorKind.TheVariants.{NoMemory};
+ghost use Rattle.lazy_dfa.specs.Caches.{IsCacheOf};
+ghost use Rattle.lazy_dfa.specs.ConfigValue.{clears_of};
+ghost use Rattle.lazy_dfa.specs.Dfas.{reader};
+ghost use Rattle.lazy_dfa.specs.Linked.{GrowsOrClears};
+ghost use Rattle.lazy_dfa.specs.Steps.{most_inserts};
+ghost use Rattle.lazy_dfa.specs.Walks.{whole_rest};
+ghost use Rattle.lazy_dfa.specs.WalkAnswers.{AnswersWhich, with_pattern, which_made};
+
+use crate::dfa::{Cache, DFA};
+use crate::overlapping::call;
+use crate::overlapping_state::OverlappingState;
+use crate::work::Work;
+use search_types::{HalfMatch, Input, MatchError, PatternSet};
+use std::sync::ledger::Ledger;
+
+/// Adds a pattern to a set that has room for it.
+fn add(patterns: &mut PatternSet, found: HalfMatch)
+    ensures { patterns.new ≡ with_pattern patterns.old found.pattern }
+{
+    let _ = patterns.try_insert(found.pattern());
+}
+
+impl DFA {
+    /// Adds the patterns of all ends in a span to a set, as `DFA::try_which_overlapping_matches`. The automaton reads upwards.
+    ///
+    /// The ends are those that a walk tells. Patterns at or above the set's capacity are skipped. Behind an end at which the set is
+    /// full, and behind the first one where the earliest end is enough, no more are looked for. It is refused as the walk is; the
+    /// patterns that were added by then stay.
+    pub fn try_which_overlapping_matches<L: Ledger, M: Ledger>(
+        &self,
+        cache: &mut Cache,
+        input: &Input<'_>,
+        patterns: &mut PatternSet,
+        work: &mut Work<L, M>,
+    ) -> Result<(), MatchError>
+        requires own { IsCacheOf self.now cache.old }
+        requires up { self.now.nfa.automaton.reverse ≡ false }
+        ensures own { IsCacheOf self.now cache.new }
+        ensures answer { AnswersWhich self.now cache.new input.now patterns.old patterns.new result }
+        ensures sure { clears_of self.now.options ≡ None → (whole_rest (reader self.now) input.now).refusal ≡ None → IfErr result (λ e. e ≡ NoMemory) }
+        ensures kept { GrowsOrClears self.now cache.old cache.new }
+        ensures determinized { work.new.determinized ≤ work.old.determinized + which_made (reader self.now) input.now }
+        ensures inserted { work.new.inserted ≤ work.old.inserted + which_made (reader self.now) input.now * most_inserts self.now }
+    {
+        let mut state = OverlappingState::start();
+        loop {
+            match call(self, cache, input, &mut state, work) {
+                Ok(()) => {}
+                Err(e) => return Err(e),
+            }
+            let Some(found) = state.get_match() else {
+                return Ok(());
+            };
+            add(patterns, found);
+            if patterns.is_full() || input.get_earliest() {
+                return Ok(());
+            }
+        }
+    }
+}
