@@ -27,6 +27,12 @@ pub(crate) enum Call {
     /// The half search over these bytes in this span and mode finds this, and the one for the earliest end.
     Search(Over, Found),
     Earliest(Over, Found),
+    /// The calls of a walk over these bytes tell this, one by one, and so do those where the earliest end is enough.
+    Walk(Over, [Found; 5]),
+    EarliestWalk(Over, [Found; 5]),
+    /// The patterns that match are added to a set, or those of the first end; then it has these, and this was refused.
+    Which(Over, Room, Found),
+    EarliestWhich(Over, Room, Found),
     /// The cache is made anew.
     Reset,
     /// A search starts, has come to a place, and ends.
@@ -69,9 +75,19 @@ pub(crate) enum Found {
     Refused(MatchErrorKind),
 }
 
+/// A set of patterns with room for so many: whether it has the pattern 0 at first, and which ones it has then.
+#[derive(Clone, Copy)]
+pub(crate) struct Room {
+    pub(crate) capacity: u8,
+    pub(crate) first: bool,
+    pub(crate) members: [bool; 3],
+}
+
 /// A haystack.
 #[derive(Clone, Copy)]
 pub(crate) enum Text {
+    Aa,
+    Aab,
     Ab,
     Xa,
     Xab,
@@ -138,6 +154,8 @@ fn start(
 /// The bytes of a haystack.
 fn bytes_of(text: Text) -> &'static [u8] {
     match text {
+        Text::Aa => b"aa",
+        Text::Aab => b"aab",
         Text::Ab => b"ab",
         Text::Xa => b"xa",
         Text::Xab => b"xab",
@@ -209,7 +227,7 @@ fn finds(machine: &mut Machine, over: Over, earliest: bool, wanted: Found) -> bo
 }
 
 /// Whether what was found is this.
-fn is_at(half: HalfMatch, wanted: Found) -> bool {
+pub(crate) fn is_at(half: HalfMatch, wanted: Found) -> bool {
     match wanted {
         Found::At(pattern, place) => {
             half.pattern().as_usize() == pattern && half.offset() == place
@@ -241,7 +259,47 @@ fn is_answered(machine: &mut Machine, ids: &mut [LazyStateID], call: &Call) -> b
         ),
         Call::Search(over, wanted) => finds(machine, over, false, wanted),
         Call::Earliest(over, wanted) => finds(machine, over, true, wanted),
-        _ => is_moved(machine, call) && is_told(machine, ids, call),
+        _ => is_walked(machine, call) && is_moved(machine, call) && is_told(machine, ids, call),
+    }
+}
+
+/// The input that a call asks for, if its span fits the haystack.
+fn input_of(over: Over, earliest: bool) -> Option<Input<'static>> {
+    let input = Input::new(bytes_of(over.haystack)).anchored(over.mode);
+    let span = Span {
+        start: over.start,
+        end: over.end,
+    };
+    if !input.fits(span) {
+        return None;
+    }
+    Some(input.span(span).earliest(earliest))
+}
+
+/// Whether a walk tells this.
+fn walks(machine: &mut Machine, over: Over, earliest: bool, wanted: &[Found]) -> bool {
+    match input_of(over, earliest) {
+        Some(input) => machine.walks(&input, wanted),
+        None => false,
+    }
+}
+
+/// Whether a set of patterns gets these.
+fn adds(machine: &mut Machine, over: Over, earliest: bool, room: Room, wanted: Found) -> bool {
+    match input_of(over, earliest) {
+        Some(input) => machine.adds(&input, room, wanted),
+        None => false,
+    }
+}
+
+/// Whether the call of a walk tells what it should, and true of the others.
+fn is_walked(machine: &mut Machine, call: &Call) -> bool {
+    match *call {
+        Call::Walk(over, wanted) => walks(machine, over, false, &wanted),
+        Call::EarliestWalk(over, wanted) => walks(machine, over, true, &wanted),
+        Call::Which(over, room, wanted) => adds(machine, over, false, room, wanted),
+        Call::EarliestWhich(over, room, wanted) => adds(machine, over, true, room, wanted),
+        _ => true,
     }
 }
 
