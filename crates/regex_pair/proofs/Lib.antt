@@ -1,1 +1,4 @@
 pub mod BuiltLemmas
+pub mod JoinedLemmas
+pub mod MatchingLemmas
+pub mod NextLemmas

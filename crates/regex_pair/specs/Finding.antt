@@ -1,10 +1,10 @@
 -- Matches one after the other: where an iterator over them is, and what it gives.
-use Rattle.std.specs.Prelude.{◌≡◌, ◌⊎◌, ℕ, ◌+◌, Bool, true, false, Option, Some, None, Result, Ok, Err}
+use Rattle.std.specs.Prelude.{◌≡◌, ◌⊎◌, ℕ, suc, ◌+◌, ◌-◌, ◌≤◌, Bool, true, false, Option, Some, None, Result, Ok, Err, if◌then◌else◌}
 use Rattle.search_types.specs.declared.match_error.MatchErrorKind.{MatchErrorKind}
 use Rattle.search_types.specs.AllAnswers.{is_repeat}
 use Rattle.search_types.specs.Chains.{IsNext}
 use Rattle.search_types.specs.Found.{Found}
-use Rattle.search_types.specs.Inputs.{Search, with_span}
+use Rattle.search_types.specs.Inputs.{Search, IsWithin, with_span}
 use Rattle.regex_pair.specs.Joined.{joined}
 use Rattle.regex_pair.specs.Pairs.{Pair, PairCache}
 use Rattle.regex_pair.specs.PairAnswers.{AnswersPair}
@@ -41,6 +41,11 @@ IsAskedAt p at k = (k ≡ at.search.start) ⊎
 abbrev pub behind : Finding → Found → Finding
 behind at f = record { search = search_at at.search f.end; last = Some f.end; is_over = false }
 
+-- what the searches of a step answer: the next match or none, or the refusal of one of them
+abbrev pub IsNextAnswer : Pair → Finding → PairCache → Result (Option Found) MatchErrorKind → Type 0
+IsNextAnswer p at after (Ok o) = IsNextFound p at o
+IsNextAnswer p at after (Err e) = (k : ℕ) × IsAskedAt p at k × AnswersPair p after (search_at at.search k) (Err e)
+
 -- One step: over which caches, what it gives, and where the iterator is then. A match is the next one, and behind the last one
 -- comes none. A refusal is that of one of the two searches. Behind a refusal and behind the end nothing comes for good.
 pub data Finds (p : Pair) (old new : Finding) (before after : PairCache) (item : Option (Result Found MatchErrorKind)) : Type 0 where
@@ -50,3 +55,24 @@ pub data Finds (p : Pair) (old new : Finding) (before after : PairCache) (item :
   fails : (k : ℕ) (e : MatchErrorKind) → old.is_over ≡ false → IsAskedAt p old k → AnswersPair p after (search_at old.search k) (Err e) →
       item ≡ Some (Err e) → new.is_over ≡ true → Finds p old new before after item
   is_over : old.is_over ≡ true → item ≡ None → new ≡ old → after ≡ before → Finds p old new before after item
+
+-- ---- how many items come
+
+-- the search goes on from the end of the last match, if there is one, which isn't past its own end
+abbrev pub IsBehindLast : Option ℕ → Search → Type 0
+IsBehindLast None q = Unit {0}
+IsBehindLast (Some last) q = (q.start ≡ last) × (last ≤ q.end)
+
+-- the iterator may go on: its search is one of its haystack, from behind the last match
+pub record IsPlaced (at : Finding) : Type 0 where
+  pub within : IsWithin at.search
+  pub behind : IsBehindLast at.last at.search
+
+-- So many items come at most, where n places are left behind this one: a match for each place, which may be empty at the first
+-- one only where no match ended there, and a refusal.
+abbrev pub most_behind : Option ℕ → ℕ → ℕ
+most_behind None n = suc n
+most_behind (Some last) n = n
+
+abbrev pub most_left : Finding → ℕ
+most_left at = if at.is_over then 0 else most_behind at.last (at.search.end + 1 - at.search.start)

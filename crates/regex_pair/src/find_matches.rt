@@ -1,16 +1,172 @@
 //! Matches one after the other.
-ghost use Rattle.std.specs.Prelude.{◌≡◌};
+ghost use Rattle.std.specs.Prelude.{◌≡◌, ◌+◌, ◌<◌, ◌≤◌, false};
+ghost use Rattle.std.specs.Iterator.{at_most};
+ghost use Rattle.search_types.specs.AllAnswers.{is_repeat};
+ghost use Rattle.regex_pair.specs.Finding.{finding_all, search_at, IsNextAnswer, IsPlaced};
+ghost use Rattle.regex_pair.specs.FindSteps.{searches_by, finds_from, caches_of, lender_of, items_left, MayGoOn, FindsNext};
+ghost use Rattle.regex_pair.specs.PairAnswers.{AnswersPair};
 ghost use Rattle.regex_pair.specs.Pairs.{AreCachesOf};
-ghost use Rattle.regex_pair.specs.Finding.{finding_all};
 
 use crate::regex::{Cache, Regex};
-use search_types::Input;
+use lazy_dfa::Work;
+use search_types::{Input, Match, MatchError, Span};
+use std::marker::Brand;
+use std::sync::ledger::{Blank, Ledger};
+
+/// A search over a fresh count of work, counted.
+fn search_counted<L: Ledger, M: Ledger>(
+    re: &Regex,
+    cache: &mut Cache,
+    input: &Input<'_>,
+    first: Blank,
+    second: Blank,
+) -> Result<Option<Match>, MatchError>
+    requires own { AreCachesOf re.now cache.old }
+    requires name1 { first.name ≡ L.name }
+    requires parts1 { first.parts ≡ L.parts }
+    requires some1 { 0 < first.parts }
+    requires name2 { second.name ≡ M.name }
+    requires parts2 { second.parts ≡ M.parts }
+    requires some2 { 0 < second.parts }
+    ensures own { AreCachesOf re.now cache.new }
+    ensures answer { AnswersPair re.now cache.new input.now result }
+{
+    let mut work = Work::<L, M>::new(first, second);
+    re.try_search(cache, input, &mut work)
+}
+
+/// A search whose work nobody counts.
+fn search_once(
+    re: &Regex,
+    cache: &mut Cache,
+    input: &Input<'_>,
+) -> Result<Option<Match>, MatchError>
+    requires own { AreCachesOf re.now cache.old }
+    ensures own { AreCachesOf re.now cache.new }
+    ensures answer { AnswersPair re.now cache.new input.now result }
+{
+    let first = Blank::new(1);
+    let second = Blank::new(1);
+    search_counted::<Brand, Brand>(re, cache, input, first, second)
+}
+
+/// Whether an answer is empty at the end of the last match.
+fn is_repeat(last: Option<usize>, found: &Option<Match>) -> bool
+    ensures { result ≡ is_repeat last found.now }
+{
+    let Some(last) = last else {
+        return false;
+    };
+    let Some(found) = found else {
+        return false;
+    };
+    found.start() == found.end() && found.end() == last
+}
+
+/// The same search from one place further on.
+fn one_further<'h>(input: &Input<'h>) -> Input<'h>
+    requires { input.now.start ≤ input.now.end }
+    ensures { result ≡ search_at input.now (input.now.start + 1) }
+{
+    let mut further = Input::new(input.haystack());
+    further.set_span(Span {
+        start: input.start() + 1,
+        end: input.end(),
+    });
+    further.set_anchored(input.get_anchored());
+    further.set_earliest(input.get_earliest());
+    further
+}
+
+/// What comes next: what a search answers, or where that is a repeat what it answers from one place further on.
+fn next_answer(
+    re: &Regex,
+    cache: &mut Cache,
+    input: &Input<'_>,
+    last: Option<usize>,
+) -> Result<Option<Match>, MatchError>
+    requires own { AreCachesOf re.now cache.old }
+    ensures own { AreCachesOf re.now cache.new }
+    ensures answer { IsNextAnswer re.now (record { search = input.now; last = last; is_over = false }) cache.new result }
+{
+    let found = match search_once(re, cache, input) {
+        Ok(found) => found,
+        Err(e) => return Err(e),
+    };
+    if !is_repeat(last, &found) {
+        return Ok(found);
+    }
+    let further = one_further(input);
+    match search_once(re, cache, &further) {
+        Ok(found) => Ok(found),
+        Err(e) => Err(e),
+    }
+}
 
 /// An iterator over the matches of a regex in a span, none of which overlap, as `regex_automata::hybrid::regex::FindMatches`.
+///
+/// Each item is the next match. An empty one at the end of the last match isn't given. A refusal is the last item; behind it
+/// and behind the end comes nothing for good. The caches are of use with the regex after each step.
+#[derive(Drop)]
 pub struct FindMatches<'r, 'c, 'h> {
     re: &'r Regex,
     cache: &'c mut Cache,
     input: Input<'h>,
     last: Option<usize>,
     is_over: bool,
+}
+
+impl Regex {
+    /// The matches in a span one after the other, as `Regex::find_iter`.
+    pub fn find_iter<'r, 'c, 'h>(
+        &'r self,
+        cache: &'c mut Cache,
+        input: Input<'h>,
+    ) -> FindMatches<'r, 'c, 'h>
+        requires own { AreCachesOf self.now cache.old }
+        ensures regex { searches_by result ≡ self.now }
+        ensures from { finds_from result ≡ finding_all input.entry }
+        ensures caches { caches_of result ≡ cache.old }
+        ensures same_reference { lender_of result ≡ cache.entry.ghost_name }
+        ensures goes_on { MayGoOn result }
+    {
+        FindMatches {
+            re: self,
+            cache,
+            input,
+            last: None,
+            is_over: false,
+        }
+    }
+}
+
+impl<'r, 'c, 'h> Iterator for FindMatches<'r, 'c, 'h> {
+    type Item = Result<Match, MatchError>;
+
+    ghost can_next = { λ it. MayGoOn it };
+
+    ghost next_gives = { λ old item new. FindsNext old item new };
+
+    ghost remaining = { λ it. at_most (items_left it) };
+
+    fn next(&mut self) -> Option<Result<Match, MatchError>> {
+        if self.is_over {
+            return None;
+        }
+        match next_answer(self.re, self.cache, &self.input, self.last) {
+            Ok(Some(found)) => {
+                self.input.set_start(found.end());
+                self.last = Some(found.end());
+                Some(Ok(found))
+            }
+            Ok(None) => {
+                self.is_over = true;
+                None
+            }
+            Err(e) => {
+                self.is_over = true;
+                Some(Err(e))
+            }
+        }
+    }
 }

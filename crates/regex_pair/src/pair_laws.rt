@@ -1,16 +1,18 @@
 //! Laws of searches over two automata, as functions of values. Each function has no code: its contract is the law.
-ghost use Rattle.std.specs.Prelude.{◌≡◌, ◌≤◌, ℕ, ◌+◌, ◌++◌, Bool, false, List, length, Option, Some, Ok};
-ghost use Rattle.search_types.specs.AllAnswers.{AnswersWithin, all_answers};
+ghost use Rattle.std.specs.Prelude.{◌≡◌, ◌<◌, ◌≤◌, ℕ, ◌+◌, ◌++◌, Bool, false, List, length, Option, Some, Ok};
+ghost use Rattle.search_types.specs.AllAnswers.{AnswersWithin, EndsRise, all_answers};
 ghost use Rattle.search_types.specs.Chains.{IsChain, IsWholeChain};
 ghost use Rattle.search_types.specs.Found.{Found};
 ghost use Rattle.search_types.specs.Inputs.{Search, with_earliest};
+ghost use Rattle.nfa_core.specs.Nfa.{IsWellFormed};
 ghost use Rattle.lazy_dfa.specs.Dfas.{reader};
+ghost use Rattle.lazy_dfa.specs.Passes.{start_name};
 ghost use Rattle.lazy_dfa.specs.Readers.{Reader, found};
 ghost use Rattle.lazy_dfa.specs.Scans.{scan};
 ghost use Rattle.lazy_dfa.specs.ScanLaws.{Agree, IsInReach};
 ghost use Rattle.regex_pair.specs.Finding.{AnswersAt, search_at};
 ghost use Rattle.regex_pair.specs.Joined.{joined, back_from};
-ghost use Rattle.regex_pair.specs.Matching.{has_match, match_search};
+ghost use Rattle.regex_pair.specs.Matching.{has_match, is_some_match};
 ghost use Rattle.regex_pair.specs.PairAnswers.{GoesBack};
 ghost use Rattle.regex_pair.specs.PairLaws.{answer_at, IsInPairReach};
 ghost use Rattle.regex_pair.specs.Pairs.{Pair, IsPair};
@@ -21,6 +23,7 @@ pub fn matches_lie_in_their_span()
 {}
 
 /// Answers one after the other are the list of all answers, or a beginning of it, and all of it where nothing more is found.
+#[tactic(auto, using(crate::proofs::JoinedLemmas::answers_within, crate::proofs::JoinedLemmas::chain_begins, crate::proofs::JoinedLemmas::chain_is_whole))]
 pub fn matches_one_after_the_other_are_the_list()
     ensures within { (p : Pair) (q : Search) → AnswersWithin (answer_at p q) q.end }
     ensures begins { (p : Pair) (q : Search) (fs : List Found) → q.start ≤ q.end + 1 → IsChain (AnswersAt p q) None q.start fs →
@@ -31,7 +34,23 @@ pub fn matches_one_after_the_other_are_the_list()
 
 /// An answer depends on the bytes in its reach alone: those of the search for an end, and those of the search back where there is
 /// one.
+#[tactic(auto, using(crate::proofs::JoinedLemmas::joined_by_reach))]
 pub fn answers_depend_on_their_reach()
     ensures { (p : Pair) (q : Search) (g : List ℕ) → q.end ≤ length q.haystack → q.end ≤ length g → Agree q.haystack g (IsInPairReach p q) →
         joined p q ≡ joined p (record q { haystack = g }) }
+{}
+
+/// Where one may say whether there is a match, and a half search to the end that is preferred finds one or none, the two
+/// agree: the earliest end of a run is there where another is.
+#[tactic(auto, using(crate::proofs::MatchingLemmas::match_is_told))]
+pub fn a_match_is_told_where_its_end_is_found()
+    ensures { (p : Pair) (q : Search) (b : Bool) (o : Option (ℕ × ℕ)) → IsWellFormed (reader p.forward).automaton → q.end ≤ length q.haystack →
+        ((name : ℕ) → start_name (reader p.forward).automaton q.anchored ≡ Some name → name < length (reader p.forward).automaton.states) →
+        has_match p q ≡ Ok b → scan (reader p.forward) (with_earliest false q) ≡ found o → b ≡ is_some_match o }
+{}
+
+/// In the list of all answers of a pair each end is above the one before.
+#[tactic(auto, using(crate::proofs::JoinedLemmas::ends_of_all_rise))]
+pub fn ends_of_matches_rise()
+    ensures { (p : Pair) (q : Search) → EndsRise None (all_answers (answer_at p q) q.start q.end) }
 {}

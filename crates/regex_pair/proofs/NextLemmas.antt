@@ -1,0 +1,161 @@
+-- What comes next of matches one after the other: what two searches answer, where it lies, and that fewer items are left behind it.
+use Rattle.std.proofs.Common.{◌≡◌, ◌⊎◌, ℕ, ◌+◌, ◌<◌, ◌≤◌, Bool, true, false, ◌&&◌, nat_eq, Option, Some, None, Result, Ok, Err, refl, sym, ap, ◌∙◌, inl, inr, ⊎_elim, subst, arith}
+use Rattle.std.proofs.lemmas.Bool.{cases_lt, eq-eqb}
+use Rattle.std.specs.Iterator.{MakesProgress, at_most}
+use Rattle.search_types.specs.declared.match_error.MatchErrorKind.{MatchErrorKind}
+use Rattle.search_types.specs.declared.match_error.MatchErrorKind.TheVariants.{GaveUp, NoMemory}
+use Rattle.search_types.specs.AllAnswers.{is_repeat}
+use Rattle.search_types.specs.Chains.{IsTaken}
+use Rattle.search_types.specs.Found.{Found}
+use Rattle.search_types.specs.Inputs.{Search, IsSpanOf, with_span}
+use Rattle.regex_pair.specs.Finding.{Finding, AnswersAt, IsNextFound, IsNextAnswer, IsBehindLast, IsPlaced, finds_next, fails, behind, most_left, search_at}
+use Rattle.regex_pair.specs.Joined.{joined}
+use Rattle.regex_pair.specs.PairAnswers.{AnswersPair, PairGivesUp}
+use Rattle.regex_pair.specs.Pairs.{Pair, PairCache, AreCachesOf}
+use Rattle.regex_pair.specs.declared.find_matches.FindMatches.{FindMatches}
+use Rattle.regex_pair.specs.FindSteps.{searches_by, finds_from, caches_of, lender_of, items_left, MayGoOn, FindsNext}
+use Rattle.regex_pair.proofs.JoinedLemmas.{LiesWithin, match_lies}
+
+-- ---- what two searches answer
+
+pub answer_is_joined : (p : Pair) (c : PairCache) (q : Search) (o : Option Found) → AnswersPair p c q (Ok o) → joined p q ≡ Ok o
+answer_is_joined p c q o is = ⊎_elim
+    (λ (told : Ok o ≡ joined p q). sym told)
+    (λ (other : (Ok o ≡ Err NoMemory) ⊎ ((x : ℕ) × (Ok o ≡ Err (GaveUp x)) × PairGivesUp p c q x)). absurd (⊎_elim
+    (λ (lacks : Ok o ≡ Err NoMemory). never NoMemory lacks)
+    (λ (gave : (x : ℕ) × (Ok o ≡ Err (GaveUp x)) × PairGivesUp p c q x). never (GaveUp gave.0) gave.1)
+    other))
+    is
+  where
+    never : (e : MatchErrorKind) → Ok o ≡ Err e → ⊥
+    never e same = let no_way : true ≡ false = cc in grind (arith, no_way)
+
+-- the first of both is refused, it isn't a repeat, or the second is refused, or answers
+pub first_refused : (p : Pair) (after : PairCache) (q : Search) (last : Option ℕ) (e : MatchErrorKind) → AnswersPair p after q (Err e) →
+    IsNextAnswer p (record { search = q; last = last; is_over = false }) after (Err e)
+first_refused p after q last e is = (q.start, inl refl, is)
+
+pub first_taken : (p : Pair) (after : PairCache) (q : Search) (last : Option ℕ) (o : Option Found) → AnswersPair p after q (Ok o) →
+    false ≡ is_repeat last o → IsNextAnswer p (record { search = q; last = last; is_over = false }) after (Ok o)
+first_taken p after q last o is new =
+    (o, answer_is_joined p after q o is, subst (λ (b : Bool). IsTaken (AnswersAt p q) q.start o b o) new refl)
+
+pub second_refused : (p : Pair) (middle after : PairCache) (q further : Search) (last : Option ℕ) (o : Option Found) (e : MatchErrorKind) →
+    AnswersPair p middle q (Ok o) → true ≡ is_repeat last o → further ≡ search_at q (q.start + 1) → AnswersPair p after further (Err e) →
+    IsNextAnswer p (record { search = q; last = last; is_over = false }) after (Err e)
+second_refused p middle after q further last o e first again there is = (
+  q.start + 1,
+  inr (refl, (o, answer_is_joined p middle q o first, sym again)),
+  subst (λ (s : Search). AnswersPair p after s (Err e)) there is,
+)
+
+pub second_taken : (p : Pair) (middle after : PairCache) (q further : Search) (last : Option ℕ) (o u : Option Found) →
+    AnswersPair p middle q (Ok o) → true ≡ is_repeat last o → further ≡ search_at q (q.start + 1) → AnswersPair p after further (Ok u) →
+    IsNextAnswer p (record { search = q; last = last; is_over = false }) after (Ok u)
+second_taken p middle after q further last o u first again there is = (
+  o,
+  answer_is_joined p middle q o first,
+  subst (λ (b : Bool). IsTaken (AnswersAt p q) q.start o b u) again
+      (ap (λ (s : Search). joined p s) (sym there) ∙ answer_is_joined p after further u is),
+)
+
+-- ---- where what comes next lies
+
+-- a match from here on ends in the span, and past the end of the last match
+pub record EndsPast (at : Finding) (f : Found) : Type 0 where
+  pub high : f.end ≤ at.search.end
+  pub later : most_left (behind at f) < most_left at
+
+no_repeat : (last : ℕ) (f : Found) → (nat_eq f.start f.end && nat_eq f.end last) ≡ false → last ≤ f.start → f.start ≤ f.end → last < f.end
+no_repeat last f new low forward = ⊎_elim (λ (past : last < f.end). past) (λ (not_past : f.end ≤ last). absurd (repeated not_past)) (cases_lt last f.end)
+  where
+    repeated : f.end ≤ last → ⊥
+    repeated high =
+        let one : nat_eq f.start f.end ≡ true = eq-eqb f.start f.end (omega (arith, low, forward, high)) in
+        let two : nat_eq f.end last ≡ true = eq-eqb f.end last (omega (arith, low, forward, high)) in
+        let both : (nat_eq f.start f.end && nat_eq f.end last) ≡ true = ap (λ (b : Bool). b && nat_eq f.end last) one ∙ two in
+        let never : true ≡ false = sym both ∙ new in grind (arith, never)
+
+left_falls : (p : Pair) (q : Search) (last : Option ℕ) (f : Found) → IsBehindLast last q → IsSpanOf q.haystack q.start q.end →
+    (o : Option Found) → AnswersAt p q q.start o → (b : Bool) → is_repeat last o ≡ b → IsTaken (AnswersAt p q) q.start o b (Some f) →
+    EndsPast (record { search = q; last = last; is_over = false }) f
+left_falls p q None f place within o is false new taken =
+    let there : LiesWithin q.start q.end f = match_lies p q f (is ∙ ap Ok (sym taken)) in
+    record { high = there.2; later = omega (arith, there.0, there.1, there.2) }
+left_falls p q None f place within o is true new taken = let never : true ≡ false = cc in absurd (grind (arith, never))
+left_falls p q (Some last) f place within o is false new taken =
+    let there : LiesWithin q.start q.end f = match_lies p q f (is ∙ ap Ok (sym taken)) in
+    let past : last < f.end = no_repeat last f (ap (is_repeat (Some last)) taken ∙ new) (omega (arith, there.0, place.0)) there.1 in
+    record { high = there.2; later = omega (arith, there.2, past, place.0) }
+left_falls p q (Some last) f place within o is true new taken =
+    let there : LiesWithin (q.start + 1) q.end f = match_lies p (search_at q (q.start + 1)) f taken in
+    record { high = there.2; later = omega (arith, there.0, there.1, there.2, place.0) }
+
+pub next_falls : (p : Pair) (at : Finding) (f : Found) → at.is_over ≡ false → IsPlaced at → IsNextFound p at (Some f) → EndsPast at f
+next_falls p at f begun placed next =
+    subst (λ (over : Bool). EndsPast (record { search = at.search; last = at.last; is_over = over }) f) (sym begun)
+    (left_falls p at.search at.last f placed.behind placed.within next.0 next.1 (is_repeat at.last next.0) refl next.2)
+
+pub behind_placed : (p : Pair) (at : Finding) (f : Found) → at.is_over ≡ false → IsPlaced at → IsNextFound p at (Some f) → IsPlaced (behind at f)
+behind_placed p at f begun placed next =
+    let past = next_falls p at f begun placed next in
+    let fits = placed.within in
+    record { within = (fits.0, omega (arith, past.high)); behind = (refl, past.high) }
+
+pub next_is : (p : Pair) (at : Finding) (o : Option Found) (f : Found) → o ≡ Some f → IsNextFound p at o → IsNextFound p at (Some f)
+next_is p at o f same next = subst (λ (u : Option Found). IsNextFound p at u) same next
+
+-- the parts of an iterator, one by one, are what is left behind a match
+pub stands_behind : (at : Finding) (f : Found) (s : Search) (i j : ℕ) → at.is_over ≡ false → s ≡ with_span i at.search.end at.search → i ≡ f.end →
+    j ≡ f.end → record { search = s; last = Some j; is_over = at.is_over } ≡ behind at f
+stands_behind at f s i j begun span here there =
+    λ k. record { search = (span ∙ ap (search_at at.search) here) k; last = Some (there k); is_over = begun k }
+
+pub end_fits : (p : Pair) (at : Finding) (f : Found) (i : ℕ) → at.is_over ≡ false → IsPlaced at → IsNextFound p at (Some f) → i ≡ f.end →
+    IsSpanOf at.search.haystack i at.search.end
+end_fits p at f i begun placed next here =
+    let past = next_falls p at f begun placed next in
+    let fits = placed.within in
+    (fits.0, omega (arith, past.high, here))
+
+-- ---- one step of an iterator
+
+module _ (old new : FindMatches) (ready : MayGoOn old) (begun : old.is_over ≡ false) (own : AreCachesOf (searches_by old) (caches_of new))
+    (same_regex : searches_by new ≡ searches_by old) (same_reference : lender_of new ≡ lender_of old) where
+  owned : AreCachesOf (searches_by new) (caches_of new)
+  owned = subst (λ (p : Pair). AreCachesOf p (caches_of new)) (sym same_regex) own
+
+  pub finds_match : (f : Found) → IsNextFound (searches_by old) (finds_from old) (Some f) → finds_from new ≡ behind (finds_from old) f →
+      FindsNext old (Some (Ok f)) new
+  finds_match f next there = record {
+    same_regex = same_regex;
+    same_reference = same_reference;
+    finds = finds_next f begun next refl there;
+    goes_on = record {
+      own = owned;
+      placed = subst IsPlaced (sym there) (behind_placed (searches_by old) (finds_from old) f begun ready.placed next);
+    };
+  }
+
+  fewer_left : (f : Found) → IsNextFound (searches_by old) (finds_from old) (Some f) → finds_from new ≡ behind (finds_from old) f →
+      items_left new < items_left old
+  fewer_left f next there = subst (λ (at : Finding). most_left at < items_left old) (sym there)
+      (next_falls (searches_by old) (finds_from old) f begun ready.placed next).later
+
+  pub progress_of_match : (f : Found) → IsNextFound (searches_by old) (finds_from old) (Some f) → finds_from new ≡ behind (finds_from old) f →
+      MakesProgress {A = Result Found MatchErrorKind} MayGoOn (λ it. at_most (items_left it)) old (Some (Ok f)) new
+  progress_of_match f next there =
+      let on : MayGoOn new = (finds_match f next there).goes_on in record {
+        on = λ finite. (on, finite, fewer_left f next there);
+        keeps = on;
+        rests = λ finite. tt;
+      }
+
+  pub finds_refusal : (e : MatchErrorKind) → IsNextAnswer (searches_by old) (finds_from old) (caches_of new) (Err e) →
+      new.is_over ≡ true → IsPlaced (finds_from new) → FindsNext old (Some (Err e)) new
+  finds_refusal e next over placed = record {
+    same_regex = same_regex;
+    same_reference = same_reference;
+    finds = fails next.0 e begun next.1 next.2 refl over;
+    goes_on = record { own = owned; placed = placed };
+  }

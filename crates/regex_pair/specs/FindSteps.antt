@@ -1,0 +1,40 @@
+-- What a contract sees of an iterator over matches, and its steps.
+use Rattle.std.specs.Prelude.{◌≡◌, ℕ, Option, Result}
+use Rattle.std.specs.Borrow.{GName}
+use Rattle.search_types.specs.declared.match_error.MatchErrorKind.{MatchErrorKind}
+use Rattle.search_types.specs.Found.{Found}
+use Rattle.regex_pair.specs.declared.find_matches.FindMatches.{FindMatches}
+use Rattle.regex_pair.specs.Finding.{Finding, Finds, IsPlaced, most_left}
+use Rattle.regex_pair.specs.Pairs.{Pair, PairCache, AreCachesOf}
+
+-- the automata over which it searches
+abbrev pub searches_by : FindMatches → Pair
+searches_by it = it.re.now
+
+-- what is left
+abbrev pub finds_from : FindMatches → Finding
+finds_from it = record { search = it.input; last = it.last; is_over = it.is_over }
+
+-- the caches behind the reference that it holds
+abbrev pub caches_of : FindMatches → PairCache
+caches_of it = it.cache.now
+
+-- the ghost name of this reference
+abbrev pub lender_of : FindMatches → GName
+lender_of it = it.cache.ghost_name
+
+-- It may go on: the caches are the automata's own, and it stands behind the last match.
+pub record MayGoOn (it : FindMatches) : Type 0 where
+  pub own : AreCachesOf (searches_by it) (caches_of it)
+  pub placed : IsPlaced (finds_from it)
+
+-- One step. It is over the same automata and the same reference, and the iterator may go on, whatever the step gave.
+pub record FindsNext (old : FindMatches) (item : Option (Result Found MatchErrorKind)) (new : FindMatches) : Type 0 where
+  pub same_regex : searches_by new ≡ searches_by old
+  pub same_reference : lender_of new ≡ lender_of old
+  pub finds : Finds (searches_by old) (finds_from old) (finds_from new) (caches_of old) (caches_of new) item
+  pub goes_on : MayGoOn new
+
+-- so many items come at most
+abbrev pub items_left : FindMatches → ℕ
+items_left it = most_left (finds_from it)
