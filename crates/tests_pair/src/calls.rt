@@ -3,7 +3,7 @@ use crate::machine::Machine;
 use lazy_dfa::BuildError;
 use regex_pair::regex::Regex;
 use search_core::PatternID;
-use search_types::{Anchored, Input, Match, MatchErrorKind, Span};
+use search_types::{Anchored, Input, Match, MatchError, MatchErrorKind, Span};
 use std::alloc::Global;
 
 /// A call, with what it should answer.
@@ -13,6 +13,9 @@ pub(crate) enum Call {
     Search(Over, Found),
     /// The one for the earliest end does.
     Earliest(Over, Found),
+    /// The iterator over the matches gives this, one by one, and then nothing for good; and so does the one for earliest ends.
+    Each(Over, [Found; 5]),
+    EarliestEach(Over, [Found; 5]),
     /// There is a match, or none, whether the earliest end is asked for or not.
     IsMatch(Over, bool),
     /// That is refused.
@@ -167,6 +170,23 @@ fn finds(machine: &mut Machine, over: Over, earliest: bool, name: bool, wanted: 
     }
 }
 
+/// Whether an item of an iterator is this.
+pub(crate) fn is_item(item: Option<Result<Match, MatchError>>, wanted: Found) -> bool {
+    match item {
+        Some(Ok(found)) => is_at(found, wanted),
+        Some(Err(e)) => is_refusal(*e.kind(), wanted),
+        None => matches!(wanted, Found::Nothing),
+    }
+}
+
+/// Whether an iterator gives this.
+fn gives(machine: &mut Machine, over: Over, earliest: bool, wanted: &[Found]) -> bool {
+    match input_of(over, earliest) {
+        Some(input) => machine.gives(input, wanted),
+        None => false,
+    }
+}
+
 /// Whether it is told so that there is a match.
 fn tells(machine: &mut Machine, over: Over, earliest: bool, wanted: bool) -> bool {
     let Some(input) = input_of(over, earliest) else {
@@ -202,6 +222,8 @@ fn is_answered(machine: &mut Machine, call: &Call) -> bool {
             finds(machine, over, false, false, wanted) && finds(machine, over, false, true, wanted)
         }
         Call::Earliest(over, wanted) => finds(machine, over, true, false, wanted),
+        Call::Each(over, wanted) => gives(machine, over, false, &wanted),
+        Call::EarliestEach(over, wanted) => gives(machine, over, true, &wanted),
         Call::IsMatch(over, wanted) => {
             tells(machine, over, false, wanted) && tells(machine, over, true, wanted)
         }

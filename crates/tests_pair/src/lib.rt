@@ -10,6 +10,8 @@ mod calls;
 #[cfg(test)]
 mod finds;
 #[cfg(test)]
+mod iterators;
+#[cfg(test)]
 mod machine;
 #[cfg(test)]
 mod matching;

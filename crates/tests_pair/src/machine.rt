@@ -2,6 +2,7 @@
 ghost use Rattle.std.specs.Prelude.{◌≡◌, ◌<◌};
 ghost use Rattle.regex_pair.specs.Pairs.{AreCachesOf};
 
+use crate::calls::{Found, is_item};
 use lazy_dfa::Work;
 use regex_pair::regex::{Cache, Regex};
 use search_types::{Input, Match, MatchError};
@@ -79,6 +80,20 @@ impl Machine {
         let one = Blank::new(1);
         let two = Blank::new(1);
         match_counted::<Brand, Brand>(&self.re, &mut self.cache, input, one, two)
+    }
+}
+
+/// Matches one after the other.
+impl Machine {
+    /// Whether the iterator over the matches gives this, one by one, and then nothing for good.
+    pub(crate) fn gives(&mut self, input: Input<'_>, wanted: &[Found]) -> bool {
+        let mut matches = self.re.find_iter(&mut self.cache, input);
+        for found in wanted {
+            if !is_item(matches.next(), *found) {
+                return false;
+            }
+        }
+        true
     }
 }
 
