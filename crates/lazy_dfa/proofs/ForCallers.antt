@@ -18,6 +18,19 @@ pub use Rattle.lazy_dfa.proofs.IntervalReachLemmas.{scan_by_reach, scan_is_quiet
 pub use Rattle.lazy_dfa.proofs.HasReachLemmas.{scan_has_reach}
 -- each byte above 7F is a quit byte where words by characters are asked for
 pub use Rattle.lazy_dfa.proofs.QuitSetLemmas.{supported_quits}
+-- ---- overlapping walks
+-- where all matches are asked for, what is left of a walk is the ends of runs place by place: each is told once, in reading
+-- order, and at one place the ends of the preferred runs first; before a quit byte, those at the places before its unit
+pub use Rattle.lazy_dfa.proofs.WalkEndLemmas.{rest_by_place, rest_has, rest_exactly, rest_once, rest_ordered, rest_best, rest_before_quit}
+-- each end lies in the span and at a place that counts; nothing is left over a done span, and no end of a pattern that doesn't exist
+pub use Rattle.lazy_dfa.proofs.RestLemmas.{rest_in_span, rest_done, rest_of_no_pattern}
+-- by what a walk is refused, and where it isn't
+pub use Rattle.lazy_dfa.proofs.RestLemmas.{refusal_is, quit_is_near, rest_unfit, quiet_goes}
+-- a walk goes on over a cache that wasn't cleared
+pub use Rattle.lazy_dfa.proofs.WalkGoesOnLemmas.{walk_kept, walk_counted}
+-- the patterns of all ends are added to a set that has room for them, and no others
+pub use Rattle.lazy_dfa.proofs.WhichLemmas.{members_added, added_members, which_goes, room_kept}
+-- ---- caches
 -- an ID names one state, a state has one ID, and an ID of a sentinel is no row's
 pub use Rattle.lazy_dfa.proofs.ChangeLemmas.{one_id, one_state, no_row}
 -- the dead state, and IDs that name states have no tag of a sentinel

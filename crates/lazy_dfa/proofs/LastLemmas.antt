@@ -20,7 +20,7 @@ pattern x = x.1
 abbrev pub is_at : ℕ → ℕ × ℕ → Bool
 is_at j x = nat_eq x.0 j
 
-none_mapped : (xs : List (ℕ × ℕ)) → map pattern xs ≡ [] → xs ≡ []
+pub none_mapped : (xs : List (ℕ × ℕ)) → map pattern xs ≡ [] → xs ≡ []
 none_mapped [] e = refl
 none_mapped (x ∷ xs) e = cc
 
@@ -39,7 +39,7 @@ first_passes test (x ∷ xs) y e =
     if_first (test x) x y (filter test xs) (test y ≡ true) (λ is same. sym (ap test same) ∙ is)
     (λ later. first_passes test xs y later) e
 
-none_there : (xs : List (ℕ × ℕ)) → ((x : ℕ × ℕ) → Has same_pair x xs → ⊥) → xs ≡ []
+pub none_there : (xs : List (ℕ × ℕ)) → ((x : ℕ × ℕ) → Has same_pair x xs → ⊥) → xs ≡ []
 none_there [] f = refl
 none_there (x ∷ xs) f = absurd (f x (has_first same_pair pairs_equal x xs))
 
@@ -50,7 +50,7 @@ no_end xs x j there at none =
     has_filter same_pair pairs_equal (is_at j) x xs ((Decides-eqb x.0 j).1 at) ∙ there in
     none_in same_pair x ⊥ (sym (ap (has same_pair x) none) ∙ kept)
 
-not_past : (down : Bool) (i k m : ℕ) → k ≤ m → is_past down (place_of down i k) (place_of down i m) ≡ false
+pub not_past : (down : Bool) (i k m : ℕ) → k ≤ m → is_past down (place_of down i k) (place_of down i m) ≡ false
 not_past false i k m l = le-ltb (i + m) (i + k) (omega (arith, l))
 not_past true i k m l = le-ltb (i - k) (i - m) (omega (arith, l))
 

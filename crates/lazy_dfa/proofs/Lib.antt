@@ -19,6 +19,7 @@ pub mod QuitSetLemmas
 pub mod AccountingLemmas
 mod ScanRows
 mod AccountingRows
+mod LeftToldRows
 pub mod ForCallers
 pub mod ListLemmas
 pub mod CacheLemmas
@@ -43,6 +44,7 @@ pub mod SpanTurnLemmas
 pub mod TurnStepLemmas
 pub mod PassStartLemmas
 pub mod RunLemmas
+pub mod LeftToldLemmas
 pub mod PassListLemmas
 pub mod AnswerLemmas
 pub mod SearchLemmas
@@ -50,4 +52,17 @@ pub mod SearchEndLemmas
 pub mod HasReachLemmas
 pub mod SearchClauseLemmas
 pub mod PassLoopLemmas
+pub mod RestLemmas
+pub mod PlaceEndLemmas
+pub mod WalkEndLemmas
+pub mod WalkGoesOnLemmas
+pub mod WhichLemmas
+pub mod WalkLeftLemmas
+pub mod WalkCallLemmas
+pub mod WalkStopLemmas
+pub mod WalkBeginLemmas
+pub mod WalkClauseLemmas
+pub mod WhichUnitLemmas
+pub mod WhichBudgetLemmas
+pub mod WhichLoopLemmas
 pub mod WalkRows

@@ -29,7 +29,7 @@ no_byte b P e = let never : true ≡ false = cc in absurd (grind (arith, never))
 
 module _ (r : Reader) (h : List ℕ) (s e : ℕ) where
   -- the unit behind
-  behind_near : (down : Bool) (n i b x : ℕ) → Fits down s e n i → unit_behind down h i ≡ Some b → has r.quits b ≡ true →
+  pub behind_near : (down : Bool) (n i b x : ℕ) → Fits down s e n i → unit_behind down h i ≡ Some b → has r.quits b ≡ true →
       x ≡ index_behind down i → IsQuitNear r h s e b x
   behind_near false n zero b x fit unit quits is = no_byte b _ unit
   behind_near false n (suc i) b x fit unit quits is =
@@ -40,7 +40,7 @@ module _ (r : Reader) (h : List ℕ) (s e : ℕ) where
       one_less i x is = omega (arith, is)
   behind_near true n i b x fit unit quits is = (ap (byte_at h) is ∙ unit, quits, omega (arith, is, fit.0), omega (arith, is, fit.1))
 
-  at_near : (down : Bool) (n i k j b x : ℕ) → Fits down s e n i → k < suc n → j ≡ place_of down i k → unit_at down h j ≡ Some b →
+  pub at_near : (down : Bool) (n i k j b x : ℕ) → Fits down s e n i → k < suc n → j ≡ place_of down i k → unit_at down h j ≡ Some b →
       has r.quits b ≡ true → x ≡ index_at down j → IsQuitNear r h s e b x
   at_near false n i k j b x fit l place unit quits is =
       (ap (byte_at h) is ∙ unit, quits, omega (arith, is, place, fit.1), omega (arith, is, place, fit.0, l))

@@ -46,7 +46,7 @@ module _ (r : Reader) (h : List ℕ) (i : ℕ) (state : ℕ → StateValue)
   abbrev place : ℕ → ℕ
   place k = place_of r.automaton.reverse i k
 
-  dead_next : (k : ℕ) → state k ≡ dead → state (suc k) ≡ dead
+  pub dead_next : (k : ℕ) → state k ≡ dead → state (suc k) ≡ dead
   dead_next k e = steps k ∙ ap (next_value r h (place k)) e ∙ dead_stays r h (place k)
 
   none_of_dead : (d k : ℕ) → state k ≡ dead → latest_listed state place d k ≡ None

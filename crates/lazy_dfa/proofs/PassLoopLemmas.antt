@@ -1,5 +1,5 @@
 -- The loop of a pass: from stand to stand, and out of it.
-use Rattle.std.proofs.Common.{◌≡◌, ◌≢◌, ◌⊎◌, inl, inr, ℕ, zero, suc, ◌+◌, ◌-◌, ◌<◌, ◌≤◌, not, nat_le, Bool, true, false, true≢false, Option, Some, None, Ok, Err, IsSome, if◌then◌else◌, refl, sym, ap, ◌∙◌, subst, ⊎_elim, arith}
+use Rattle.std.proofs.Common.{◌≡◌, ◌≢◌, ◌⊎◌, inl, inr, ℕ, zero, suc, ◌+◌, ◌-◌, ◌<◌, ◌≤◌, not, nat_le, Bool, true, false, true≢false, Option, Some, None, Ok, Err, IsSome, min, if◌then◌else◌, refl, sym, ap, ◌∙◌, subst, ⊎_elim, arith}
 use Rattle.std.proofs.lemmas.Bool.{cases_lt, cases_eq, le-ltb, lt-ltb, ne_eqb, eq-eqb}
 use Rattle.std.proofs.lemmas.Bool.Decides.{leb_tells}
 use Rattle.nfa_core.specs.Ways.{place_of}
@@ -8,19 +8,23 @@ use Rattle.search_types.specs.declared.match_error.MatchErrorKind.{MatchErrorKin
 use Rattle.search_types.specs.declared.match_error.MatchErrorKind.TheVariants.{Quit, GaveUp, HaystackTooLong, UnsupportedAnchored, NotAPair, NoMemory}
 use Rattle.search_types.specs.Found.{HalfFound}
 use Rattle.search_types.specs.Inputs.{Search}
-use Rattle.lazy_dfa.specs.Caches.{CacheValue, IsCacheOf, HeldAt, IsRow}
+use Rattle.lazy_dfa.specs.Caches.{CacheValue, IsCacheOf, HeldAt, IsRow, greatest}
 use Rattle.lazy_dfa.specs.Courses.{HasNoStop}
 use Rattle.lazy_dfa.specs.declared.passing.Stand.{Stand}
 use Rattle.lazy_dfa.specs.declared.progress.Progress.{Progress}
 use Rattle.lazy_dfa.specs.Dfas.{Dfa, IsDfa, reader}
+use Rattle.lazy_dfa.specs.LeftTold.{is_quit_error, IsRefusedAt, LeftAt}
+use Rattle.lazy_dfa.specs.Linked.{HasCleared}
 use Rattle.lazy_dfa.specs.MadePasses.{span_len}
 use Rattle.lazy_dfa.specs.Passes.{index_at}
-use Rattle.lazy_dfa.specs.Points.{Point, point, began}
+use Rattle.lazy_dfa.specs.Points.{Point, Follows, point, began}
 use Rattle.lazy_dfa.specs.Scans.{first_place}
-use Rattle.lazy_dfa.specs.SearchAnswers.{pair_of, give_up_place}
-use Rattle.lazy_dfa.specs.Stands.{last_place, came, left_at, tells, BeganFirst, IsWithinSpan, GoesBetween, gave_up_at, TurnsInto, TurnsTo, RunsOn}
-use Rattle.lazy_dfa.proofs.LinkedLemmas.{AreBytes}
-use Rattle.lazy_dfa.proofs.RunLemmas.{between_on, runs_found, runs_quit, runs_no_memory, runs_gave_up}
+use Rattle.lazy_dfa.specs.SearchAnswers.{pair_of, give_up_place, told_of}
+use Rattle.lazy_dfa.specs.Stands.{last_place, came, left_at, tells, BeganFirst, IsWithinSpan, GoesBetween, gave_up_at, turned_told, TellsTurn, TurnsInto, TurnsTo, LeftIn, RunsOn}
+use Rattle.lazy_dfa.specs.Turns.{Leaves}
+use Rattle.lazy_dfa.proofs.LeftToldLemmas.{left_here, left_begun}
+use Rattle.lazy_dfa.proofs.LinkedLemmas.{AreBytes, cleared_grows}
+use Rattle.lazy_dfa.proofs.RunLemmas.{between_on, reads_this, runs_found, runs_quit, runs_no_memory, runs_gave_up}
 
 -- ---- places
 
@@ -141,18 +145,53 @@ module _ (d : Dfa) (q : Search) (down : Bool) (is : down ≡ d.nfa.automaton.rev
         (subst (λ (y : Bool). BeganFirst y q from.cache) is begun)
         (λ e. same (ap (λ (y : Bool). tells y q) is ∙ e))
 
-    pub ends_error : (e : MatchErrorKind) → TurnsTo d q p v m n (Err e) → RunsOn d q s from v m n (Err e)
-    ends_error (Quit b x) t = runs_quit d q made bytes s from p (came down q p.at) own mine held here none between inside v m n t.0 b x t.1 t.2 t.3
-    ends_error (GaveUp x) t =
-        runs_gave_up d q made bytes s from p (came down q p.at) own mine held here none between inside v m n t.0 x
-        (t.2 ∙ (ap (λ (y : Bool). gave_up_at y q p.at) (sym is)
-        ∙ (gave_up_there down q p.at from.at (came down q p.at) within (between.0.place ∙ ap (λ (y : Bool). place_of y from.at (came down q p.at)) (sym is)) refl
-        ∙ ap (λ (y : Bool). give_up_place y (span_len q) from.at (came down q p.at)) is))) t.3
-        (λ l. t.4 (λ e. let far = came_last down q p.at (e ∙ ap (λ (y : Bool). last_place y q) (sym is)) in omega (arith, l, far)))
-    ends_error NoMemory t = runs_no_memory d q made bytes s from p (came down q p.at) own mine held here none between inside v m n t
-    ends_error (HaystackTooLong len) t = absurd t
-    ends_error (UnsupportedAnchored mode) t = absurd t
-    ends_error NotAPair t = absurd t
+    -- how far it came that is refused
+    module _ (begun : BeganFirst down q from.cache) (same : tells down q ≡ false → p.cache ≡ from.cache) where
+      abbrev back : Bool
+      back = d.nfa.automaton.reverse
+
+      abbrev k : ℕ
+      k = came down q p.at
+
+      place : p.at ≡ place_of back from.at k
+      place = between.0.place
+
+      left_so : (quits : Bool) → Follows d q.haystack from p k → told_of v ≡ turned_told back quits q p.at (told_of p.cache) →
+          LeftAt back quits (span_len q) from.at k (told_of from.cache) (told_of v)
+      left_so quits f e =
+          left_begun q back quits from.at k from.cache p.cache (told_of v) f.searched f.began (λ t. same (ap (λ (y : Bool). tells y q) is ∙ t))
+          (subst (λ (n : ℕ). LeftAt back quits (span_len q) from.at n (told_of p.cache) (told_of v)) (ap (λ (y : Bool). came y q p.at) (sym is))
+          (left_here q quits p.cache v p.at from.at within back (place ∙ ap (λ (y : Bool). place_of back from.at (came y q p.at)) is)
+          (λ t. f.began ∙ subst (λ (y : Bool). BeganFirst y q from.cache) is begun t) e))
+
+      left_in : (e : MatchErrorKind) → IsRefusedAt back (span_len q) from.at k e → Leaves d q.haystack p v m n 0 → TellsTurn d (is_quit_error e) q p.at p.cache v →
+          LeftIn d q s from.at e (told_of from.cache) (told_of v) ⊎ HasCleared from.cache v
+      left_in e refused leaves turn = ⊎_elim
+          (λ (f : Follows d q.haystack from p k). ⊎_elim
+          (λ (told : told_of v ≡ turned_told back (is_quit_error e) q p.at (told_of p.cache)).
+          inl (k, reads_this d q made bytes s from p k own mine held here none between inside, refused, left_so (is_quit_error e) f told))
+          (λ (c : HasCleared p.cache v). inr (subst (λ (n : ℕ). min (n + 1) greatest ≤ v.clears) f.grows.clears c))
+          turn)
+          (λ (c : HasCleared from.cache p.cache). inr (cleared_grows d from.cache p.cache v c leaves.kept))
+          between.0.kept
+
+      gave_up_place : (x : ℕ) → x ≡ gave_up_at back q p.at → x ≡ give_up_place back (span_len q) from.at k
+      gave_up_place x e =
+          e ∙ (ap (λ (y : Bool). gave_up_at y q p.at) (sym is)
+          ∙ (gave_up_there down q p.at from.at k within (place ∙ ap (λ (y : Bool). place_of y from.at k) (sym is)) refl
+          ∙ ap (λ (y : Bool). give_up_place y (span_len q) from.at k) is))
+
+      pub ends_error : (e : MatchErrorKind) → TurnsTo d q p v m n (Err e) → RunsOn d q s from v m n (Err e)
+      ends_error (Quit b x) t = runs_quit d q made bytes s from p k own mine held here none between inside v m n t.0 b x t.1 t.2 t.3
+          (left_in (Quit b x) (t.3 ∙ ap (index_at back) place) t.0 t.4)
+      ends_error (GaveUp x) t =
+          runs_gave_up d q made bytes s from p k own mine held here none between inside v m n t.0 x (gave_up_place x t.2) t.3
+          (λ l. t.4 (λ e. let far = came_last down q p.at (e ∙ ap (λ (y : Bool). last_place y q) (sym is)) in omega (arith, l, far)))
+          (left_in (GaveUp x) (gave_up_place x t.2) t.0.leaves t.5)
+      ends_error NoMemory t = runs_no_memory d q made bytes s from p k own mine held here none between inside v m n t.0 (left_in NoMemory tt t.0.leaves t.1)
+      ends_error (HaystackTooLong len) t = absurd t
+      ends_error (UnsupportedAnchored mode) t = absurd t
+      ends_error NotAPair t = absurd t
 
 -- the next stand is in the span, and closer to its end
 module _ (d : Dfa) (q : Search) (down : Bool) (p : Point) (v : CacheValue) (m n : ℕ) (next : Stand) where

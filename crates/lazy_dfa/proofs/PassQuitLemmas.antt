@@ -56,7 +56,7 @@ module _ (r : Reader) (h : List ℕ) (i : ℕ) where
   pub none_rest : (n : ℕ) → HasNoQuit r h i (suc n) → HasNoQuit r h (next_place r i) n
   none_rest n none k l = ap (is_quit r.quits) (unit_later k) ∙ none (suc k) (omega (arith, l))
 
-  first_here : (n b x : ℕ) → unit_at r.automaton.reverse h i ≡ Some b → has r.quits b ≡ true → x ≡ index_at r.automaton.reverse i →
+  pub first_here : (n b x : ℕ) → unit_at r.automaton.reverse h i ≡ Some b → has r.quits b ≡ true → x ≡ index_at r.automaton.reverse i →
       IsFirstQuit r h i (suc n) b x
   first_here n b x unit quits index = (
     0,
@@ -67,7 +67,7 @@ module _ (r : Reader) (h : List ℕ) (i : ℕ) where
     none_first,
   )
 
-  first_later : (n b x : ℕ) → is_quit r.quits (unit_at r.automaton.reverse h i) ≡ false → IsFirstQuit r h (next_place r i) n b x →
+  pub first_later : (n b x : ℕ) → is_quit r.quits (unit_at r.automaton.reverse h i) ≡ false → IsFirstQuit r h (next_place r i) n b x →
       IsFirstQuit r h i (suc n) b x
   first_later n b x here there = (
     suc there.0,

@@ -6,6 +6,7 @@ use Rattle.search_core.specs.ByteSets.{has}
 use Rattle.nfa_core.specs.Ways.{place_of}
 use Rattle.determinize_core.specs.States.{StateValue}
 use Rattle.determinize_core.specs.Steps.{unit_at}
+use Rattle.search_types.specs.declared.match_error.MatchErrorKind.{MatchErrorKind}
 use Rattle.search_types.specs.declared.match_error.MatchErrorKind.TheVariants.{Quit, GaveUp, NoMemory}
 use Rattle.search_types.specs.Found.{HalfFound}
 use Rattle.search_types.specs.Inputs.{Search}
@@ -19,7 +20,7 @@ use Rattle.lazy_dfa.specs.PassLaws.{units_read, unit_of}
 use Rattle.lazy_dfa.specs.Points.{Point, Follows, IsFree, GoesTo, point}
 use Rattle.lazy_dfa.specs.Readers.{HalfAnswer, found, quit}
 use Rattle.lazy_dfa.specs.SearchAnswers.{half_of, pair_of, told, give_up_place, Told, told_of, pass_distance, running_at}
-use Rattle.lazy_dfa.specs.Stands.{last_place, came, tells, BeganFirst, told_behind, GoesBetween, EndsWith, RunsOn}
+use Rattle.lazy_dfa.specs.Stands.{last_place, came, tells, BeganFirst, told_behind, GoesBetween, EndsWith, LeftIn, RunsOn}
 use Rattle.lazy_dfa.specs.Steps.{most_inserts}
 use Rattle.lazy_dfa.specs.Turns.{Leaves, FailsOn}
 use Rattle.lazy_dfa.proofs.CourseLemmas.{state_there, unit_there, not_dead}
@@ -134,13 +135,13 @@ half_back (Some m) = refl
 abbrev added : Bool → ℕ → ℕ → ℕ → Told
 added down n units searched = record { searched = min (searched + pass_distance down n units) greatest; progress = None }
 
-told_by_searched : (down : Bool) (n units : ℕ) (v w : CacheValue) → v.searched ≡ w.searched → (down && n == 0) ≡ false →
+pub told_by_searched : (down : Bool) (n units : ℕ) (v w : CacheValue) → v.searched ≡ w.searched → (down && n == 0) ≡ false →
     told_behind down n (told_of v) units ≡ told_behind down n (told_of w) units
 told_by_searched down n units v w e none =
     ap (λ (b : Bool). if b then told_of v else added down n units v.searched) none
     ∙ (ap (added down n units) e ∙ sym (ap (λ (b : Bool). if b then told_of w else added down n units w.searched) none))
 
-tells_some : (down : Bool) (q : Search) → tells down q ≡ true → (down && span_len q == 0) ≡ false
+pub tells_some : (down : Bool) (q : Search) → tells down q ≡ true → (down && span_len q == 0) ≡ false
 tells_some false q e = refl
 tells_some true q e = ⊎_elim
     (λ (l : q.end ≤ q.start). let never = sym (ap not (le-leb q.end q.start l)) ∙ e in absurd (true≢false (sym never)))
@@ -195,7 +196,7 @@ module _ (d : Dfa) (q : Search) (made : IsDfa d) (bytes : AreBytes q.haystack) (
   unit_is = let none : k + 0 ≡ k = omega arith in
       unit_there (reader d) h from.at p.at k goes.place 0 ∙ ap (unit_of (reader d) h from.at) none
 
-  reads_this : k < units
+  pub reads_this : k < units
   reads_this = reads_on (reader d) q.earliest h from.at s k total (omega (arith, inside)) read stays alive
 
   -- the cache was kept up to here
@@ -203,6 +204,10 @@ module _ (d : Dfa) (q : Search) (made : IsDfa d) (bytes : AreBytes q.haystack) (
   kept_here = ⊎_elim (λ (f : Follows d h from p k). inl f.grows) (λ (x : HasCleared from.cache p.cache). inr x) goes.kept
 
   -- ---- with a refusal
+
+  -- how far it came then
+  abbrev Left : CacheValue → MatchErrorKind → Type 0
+  Left new e = LeftIn d q s from.at e (told_of from.cache) (told_of new) ⊎ HasCleared from.cache new
 
   module _ (new : CacheValue) (m n : ℕ) (x : Leaves d h p new m n 0) where
     pub kept_on : GrowsOrClears d from.cache new
@@ -222,8 +227,8 @@ module _ (d : Dfa) (q : Search) (made : IsDfa d) (bytes : AreBytes q.haystack) (
 
     -- the unit is a quit byte
     pub runs_quit : (b y : ℕ) → unit_at d.nfa.automaton.reverse h p.at ≡ Some b → has d.quits b ≡ true → y ≡ index_at d.nfa.automaton.reverse p.at →
-        RunsOn d q s from new m n (Err (Quit b y))
-    runs_quit b y unit is place =
+        Left new (Quit b y) → RunsOn d q s from new m n (Err (Quit b y))
+    runs_quit b y unit is place left =
         let answered : answer ≡ quit b y =
         ends_quit (reader d) q.earliest h from.at s k total b None (omega (arith, inside)) read stays alive
         (sym unit_is ∙ (ap (unit_at d.nfa.automaton.reverse h) (place_zero d.nfa.automaton.reverse p.at) ∙ unit)) is
@@ -238,30 +243,33 @@ module _ (d : Dfa) (q : Search) (made : IsDfa d) (bytes : AreBytes q.haystack) (
               (moved_trans from.cache p.cache new f.0.moved g.0, g.1 ∙ f.0.determinized, g.2 ∙ f.0.inserted, sym (ap told answered));
           determinized = few;
           inserted = few_names;
+          refused = left;
         }
 
   -- memory lacked, or the state behind the unit has no room
   module _ (new : CacheValue) (m n : ℕ) (x : FailsOn d h p new m n 0) where
-    pub runs_no_memory : RunsOn d q s from new m n (Err NoMemory)
-    runs_no_memory = record {
+    pub runs_no_memory : Left new NoMemory → RunsOn d q s from new m n (Err NoMemory)
+    runs_no_memory left = record {
       answer = inr (inl refl);
       kept = kept_on new m n x.leaves;
       follows = tt;
       free = λ linked. absurd (x.unknown (free_here new m n x.leaves linked).1);
       determinized = few new m n x.leaves;
       inserted = few_names new m n x.leaves;
+      refused = left;
     }
 
     pub runs_gave_up : (y : ℕ) → y ≡ give_up_place d.nfa.automaton.reverse (span_len q) from.at k →
         ((t : StateValue) → HeldAt p.cache p.id t → lacks_room d new (state_behind (reader d) h p.at t 1) ≡ true) →
-        (k < span_len q → running_at new.progress ≡ Some y) → RunsOn d q s from new m n (Err (GaveUp y))
-    runs_gave_up y place lacks runs = record {
+        (k < span_len q → running_at new.progress ≡ Some y) → Left new (GaveUp y) → RunsOn d q s from new m n (Err (GaveUp y))
+    runs_gave_up y place lacks runs left = record {
       answer = inr (inr (y, k, refl, reads_this, place, sym (ap (lacks_room d new) next_is) ∙ lacks state held_here, runs));
       kept = kept_on new m n x.leaves;
       follows = tt;
       free = λ linked. absurd (x.unknown (free_here new m n x.leaves linked).1);
       determinized = few new m n x.leaves;
       inserted = few_names new m n x.leaves;
+      refused = left;
     }
 
   -- ---- with what was found
@@ -402,4 +410,5 @@ module _ (d : Dfa) (q : Search) (made : IsDfa d) (bytes : AreBytes q.haystack) (
           (moved_trans from.cache behind new f.moved moved, f.determinized, f.inserted, answered);
       determinized = subst (λ (u : ℕ). m ≤ from.determinized + u) (sym units_are) whole.determinized;
       inserted = subst (λ (u : ℕ). n ≤ from.inserted + u * most_inserts d) (sym units_are) whole.inserted;
+      refused = tt;
     }

@@ -14,6 +14,7 @@ use Rattle.lazy_dfa.specs.Caches.{CacheValue, greatest, place_of, fits, is_refus
 use Rattle.lazy_dfa.specs.ConfigValue.{clears_of, bytes_of}
 use Rattle.lazy_dfa.specs.Courses.{state_behind}
 use Rattle.lazy_dfa.specs.Dfas.{Dfa, IsDfa, reader, is_dead}
+use Rattle.lazy_dfa.specs.LeftTold.{LeavesTold}
 use Rattle.lazy_dfa.specs.Linked.{Grows, HasCleared, IsLinked, passes_on, passes_of}
 use Rattle.lazy_dfa.specs.MadePasses.{MakesSearch}
 use Rattle.lazy_dfa.specs.PassLaws.{pass_len, splits}
@@ -79,11 +80,11 @@ no_room_lacks o a b c bytes v none =
 
 module _ (d : Dfa) (v : CacheValue) (none : clears_of d.options ≡ None) where
   -- where no least count of clears is set, there is always room
-  has_room : (s : StateValue) → lacks_room d v s ≡ true → ⊥
+  pub has_room : (s : StateValue) → lacks_room d v s ≡ true → ⊥
   has_room s lacks = true≢false (sym lacks
       ∙ no_room_lacks (clears_of d.options) (is_dead s) (is_none (place_of s v.states)) (not (fits d.capacity s v)) (bytes_of d.options) v none)
 
-  never_here : (mode : Anchored) (earliest : Bool) (h : List ℕ) (n i x : ℕ) → GivesUpIn d v mode earliest h n i x → ⊥
+  pub never_here : (mode : Anchored) (earliest : Bool) (h : List ℕ) (n i x : ℕ) → GivesUpIn d v mode earliest h n i x → ⊥
   never_here mode earliest h n i x (at_start place lacks) = has_room (first_value (reader d) mode h i) lacks
   never_here mode earliest h n i x (at_unit k less place lacks runs) = has_room (state_behind (reader d) h i (first_value (reader d) mode h i) (suc k)) lacks
 
@@ -133,6 +134,19 @@ module _ (d : Dfa) (q : Search) (old new : CacheValue) (m1 m2 n1 n2 : ℕ) (resu
   is_told_then = on_ok result (HasFollowed ⊎ HasCleared old new)
       (new.clears ≡ old.clears → old.clears < greatest → told_of new ≡ told_by (reader d) q (told_of old) (passes_of (reader d) q))
       (λ kept same less. (not_forgotten kept same less).2) made.follows
+
+  on_err : (x : Result (Option HalfFound) MatchErrorKind) (A B : MatchErrorKind → Type 0) → ((e : MatchErrorKind) → A e → B e) → IfErr x A → IfErr x B
+  on_err (Ok f) A B g a = tt
+  on_err (Err e) A B g a = g e a
+
+  pub is_left_then : IfErr result (λ e. new.clears ≡ old.clears → old.clears < greatest → LeavesTold (reader d) q e (told_of old) (told_of new))
+  is_left_then = on_err result (λ e. LeavesTold (reader d) q e (told_of old) (told_of new) ⊎ HasCleared old new)
+      (λ e. new.clears ≡ old.clears → old.clears < greatest → LeavesTold (reader d) q e (told_of old) (told_of new)) left made.refused
+    where
+      left : (e : MatchErrorKind) → LeavesTold (reader d) q e (told_of old) (told_of new) ⊎ HasCleared old new → new.clears ≡ old.clears → old.clears < greatest →
+          LeavesTold (reader d) q e (told_of old) (told_of new)
+      left e (inl l) same less = l
+      left e (inr c) same less = absurd (not_cleared old new c same less)
 
 half_of_pair : (f : Option HalfFound) → f ≡ half_of (pair_of f)
 half_of_pair None = refl

@@ -9,6 +9,7 @@ use Rattle.search_types.specs.Inputs.{Search, with_span}
 use Rattle.search_types.specs.Places.{counts}
 use Rattle.lazy_dfa.specs.Caches.{CacheValue, IsCacheOf, greatest}
 use Rattle.lazy_dfa.specs.Dfas.{Dfa, IsDfa, reader}
+use Rattle.lazy_dfa.specs.LeftTold.{LeavesPass, LeavesTold}
 use Rattle.lazy_dfa.specs.Linked.{IsLinkedPass, AreLinked, Grows, HasCleared, GrowsOrClears, IsMoved, passes_of}
 use Rattle.lazy_dfa.specs.MadePasses.{MakesPass, MakesSearch}
 use Rattle.lazy_dfa.specs.PassLaws.{pass_len}
@@ -169,6 +170,22 @@ module _ (d : Dfa) (q : Search) (old now next : CacheValue) (m1 m2 m3 n1 n2 n3 :
     answered (inr (inr g)) =
         inr (inr (g.0, g.1, subst (λ (os : List (ℕ × ℕ)). GivesUpAmong d next q g.0 os) all (gave_up_among d next q g.0 ps tail p g.2)))
 
+    -- how far the search came
+    abbrev Leaves : Type 0
+    Leaves = LeavesTold r q x (told_of old) (told_of next) ⊎ HasCleared old next
+
+    left_here : GrowsOrClears d now next → HasKept old now ps →
+        LeavesPass r q.anchored q.earliest q.haystack p x (told_of now) (told_of next) ⊎ HasCleared now next → Leaves
+    left_here kept (inl a) (inl l) = inl (record {
+      done = ps;
+      refused = p;
+      behind = tail;
+      all = sym all;
+      left = subst (λ (t : Told). LeavesPass r q.anchored q.earliest q.haystack p x t (told_of next)) a.2 l;
+    })
+    left_here kept (inl a) (inr c) = inr (cleared_later d old now next a.0 c)
+    left_here kept (inr c) left = inr (cleared_grows d old now next c kept)
+
     pub fails_here : Pass (Err x) → MakesSearch d q old next m1 m3 n1 n3 (Err x)
     fails_here pass = record {
       answer = answered pass.answer;
@@ -178,6 +195,7 @@ module _ (d : Dfa) (q : Search) (old now next : CacheValue) (m1 m2 m3 n1 n2 n3 :
           (free.0, free.1, free.2, told_whole free.3);
       determinized = subst (λ (os : List (ℕ × ℕ)). m3 ≤ m1 + made_by r q os) all (few_made (Err x) tail pass);
       inserted = subst (λ (os : List (ℕ × ℕ)). n3 ≤ n1 + made_by r q os * most_inserts d) all (few_inserted (Err x) tail pass);
+      refused = left_here pass.kept made.kept pass.refused;
     }
 
 -- all passes were made
@@ -195,6 +213,7 @@ module _ (d : Dfa) (q : Search) (old now : CacheValue) (m1 m2 n1 n2 : ℕ) (f : 
     free = λ linked. let free = made.free linked in (free.0, free.1, free.2, told_is);
     determinized = made.determinized;
     inserted = made.inserted;
+    refused = tt;
   }
 
   pub finishes : (ps : List (ℕ × ℕ)) → ps ≡ passes_of (reader d) q → HasMade d q old now m1 m2 n1 n2 ps → MakesSearch d q old now m1 m2 n1 n2 (Ok f)

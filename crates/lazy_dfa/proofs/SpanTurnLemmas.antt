@@ -26,10 +26,10 @@ use Rattle.lazy_dfa.specs.Passes.{index_at, is_dead}
 use Rattle.lazy_dfa.specs.Points.{Point, began, Follows, GoesTo, point}
 use Rattle.lazy_dfa.specs.Readers.{is_quit}
 use Rattle.lazy_dfa.specs.SearchAnswers.{Told, told_of, pass_distance, running_at}
-use Rattle.lazy_dfa.specs.Stands.{IsWithinSpan, last_place, came, tells, first_index, BeganFirst, finished, finished_where, told_behind, error_of, EndsWith, gave_up_at, TurnsTo}
+use Rattle.lazy_dfa.specs.Stands.{IsWithinSpan, last_place, came, tells, first_index, BeganFirst, finished, finished_where, told_behind, error_of, EndsWith, gave_up_at, turned_told, TellsTurn, TurnsTo}
 use Rattle.lazy_dfa.specs.Turns.{Leaves, FailsOn, TellsTheSame, GoesOne, IsSeen, IsTurn}
 use Rattle.lazy_dfa.proofs.IsCacheLemmas.{le_of, lt_of}
-use Rattle.lazy_dfa.proofs.LinkedLemmas.{moved_trans, names_moved, noted_moved, moved_starts, id_moved, linked_moved}
+use Rattle.lazy_dfa.proofs.LinkedLemmas.{moved_refl, moved_trans, names_moved, noted_moved, moved_starts, id_moved, linked_moved}
 
 -- ---- caches in which only searches came further
 
@@ -153,7 +153,7 @@ len_there : (o : Option Progress) (a at : ℕ) → began o ≡ Some a → progre
 len_there None a at e = absurd (true≢false (sym (ap is_some e)))
 len_there (Some p) a at e = let same : p.start ≡ a = cc in ap (λ (x : ℕ). distance x at) same
 
-abbrev told_end : ℕ → ℕ → Told
+abbrev pub told_end : ℕ → ℕ → Told
 told_end s x = record { searched = min (s + x) greatest; progress = None }
 
 -- what a search tells at its end that began at one index and comes to another
@@ -222,7 +222,7 @@ TellsEnd down q at old new = (told_of new ≡ told_behind down (span_len q) (tol
 
 -- ---- what a turn by a byte tells
 
-byte_end_told : (down : Bool) (q : Search) (v v2 : CacheValue) (at : ℕ) → IsWithinSpan q at → at ≢ last_place down q → v2.searched ≡ v.searched →
+pub byte_end_told : (down : Bool) (q : Search) (v v2 : CacheValue) (at : ℕ) → IsWithinSpan q at → at ≢ last_place down q → v2.searched ≡ v.searched →
     (tells down q ≡ true → began v2.progress ≡ Some (first_index down q)) →
     told_of (finished (index_at down at) v2) ≡ told_behind down (span_len q) (told_of v) (suc (came down q at))
 byte_end_told false q v v2 at within left searched begins =
@@ -244,7 +244,7 @@ byte_told down q v0 v1 v2 v3 at index here e f within left same begins = ⊎_eli
 
 -- ---- what the last turn tells
 
-last_told_same : (down : Bool) (q : Search) (v0 v1 v2 v3 : CacheValue) (at : ℕ) → v1 ≡ finished_where (down && tells down q) at v0 → v3 ≡ finished_where (not down) at v2 →
+pub last_told_same : (down : Bool) (q : Search) (v0 v1 v2 v3 : CacheValue) (at : ℕ) → v1 ≡ finished_where (down && tells down q) at v0 → v3 ≡ finished_where (not down) at v2 →
     at ≡ last_place down q → q.start ≤ q.end → told_of v2 ≡ told_of v1 → BeganFirst down q v0 →
     told_of v3 ≡ told_behind down (span_len q) (told_of v0) (suc (came down q at))
 last_told_same false q v0 v1 v2 v3 at e f last begun g begins =
@@ -318,23 +318,33 @@ module _ (d : Dfa) (q : Search) (down : Bool) (same : down ≡ d.nfa.automaton.r
       (λ (f : at == last_place d.nfa.automaton.reverse q ≡ false). gave_up false place f (index_there place e))
       (cases_Bool (at == last_place d.nfa.automaton.reverse q))
 
+  tells_turn : (quits : Bool) (v3 : CacheValue) → IsMoved v0 v1 → IsMoved v2 v3 → (told_of v2 ≡ told_of v1 → told_of v3 ≡ turned_told d.nfa.automaton.reverse quits q at (told_of v0)) →
+      TellsTheSame v1 v2 → TellsTurn d quits q at v0 v3
+  tells_turn quits v3 moved after told same = ⊎_elim
+      (λ (g : told_of v2 ≡ told_of v1). inl (told g))
+      (λ (c : HasCleared v1 v2). inr (cleared_between v0 v1 v2 v3 moved after c))
+      same
+
   refused_so : (earliest : Bool) (place : ℕ) (e : CacheError) → IsMoved v0 v1 → u ≡ unit_at d.nfa.automaton.reverse q.haystack at → place ≡ gave_up_at d.nfa.automaton.reverse q at →
-      (at ≢ last_place d.nfa.automaton.reverse q → running_at v1.progress ≡ Some place) →
+      (at ≢ last_place d.nfa.automaton.reverse q → running_at v1.progress ≡ Some place) → told_of v1 ≡ turned_told d.nfa.automaton.reverse false q at (told_of v0) →
       IsTurn d earliest q.haystack u before v2 m2 n2 (Err e) → TurnsTo d q from v2 m2 n2 (Err (error_of place e))
-  refused_so earliest place NoMemory moved is there runs turn = fails_back d v0 v1 moved q.haystack m1 n1 at id best v2 m2 n2 0 turn
-  refused_so earliest place GaveUp moved is there runs turn = (
+  refused_so earliest place NoMemory moved is there runs tells turn =
+      (fails_back d v0 v1 moved q.haystack m1 n1 at id best v2 m2 n2 0 turn.0, tells_turn false v2 moved (moved_refl v2) (λ g. g ∙ tells) turn.1)
+  refused_so earliest place GaveUp moved is there runs tells turn = (
     fails_back d v0 v1 moved q.haystack m1 n1 at id best v2 m2 n2 0 turn.0,
     ap (is_quit d.quits) (sym is) ∙ turn.1,
     there,
     λ s held. turn.2 s (held_moved v0 v1 id s moved held),
     λ far. ap (λ (v : CacheValue). running_at v.progress) turn.3 ∙ runs far,
+    inl (ap told_of turn.3 ∙ tells),
   )
 
   -- a turn that was refused
   pub turn_refused : (earliest : Bool) (place : ℕ) (e : CacheError) (err : MatchErrorKind) → IsMoved v0 v1 → u ≡ unit_at d.nfa.automaton.reverse q.haystack at →
-      place ≡ gave_up_at d.nfa.automaton.reverse q at → (at ≢ last_place d.nfa.automaton.reverse q → running_at v1.progress ≡ Some place) → err ≡ error_of place e → IsTurn d earliest q.haystack u before v2 m2 n2 (Err e) → TurnsTo d q from v2 m2 n2 (Err err)
-  turn_refused earliest place e err moved is there runs told turn =
-      subst (λ (x : MatchErrorKind). TurnsTo d q from v2 m2 n2 (Err x)) (sym told) (refused_so earliest place e moved is there runs turn)
+      place ≡ gave_up_at d.nfa.automaton.reverse q at → (at ≢ last_place d.nfa.automaton.reverse q → running_at v1.progress ≡ Some place) → told_of v1 ≡ turned_told d.nfa.automaton.reverse false q at (told_of v0) →
+      err ≡ error_of place e → IsTurn d earliest q.haystack u before v2 m2 n2 (Err e) → TurnsTo d q from v2 m2 n2 (Err err)
+  turn_refused earliest place e err moved is there runs tells told turn =
+      subst (λ (x : MatchErrorKind). TurnsTo d q from v2 m2 n2 (Err x)) (sym told) (refused_so earliest place e moved is there runs tells turn)
 
   module _ (to : ℕ) (best2 : Option (ℕ × ℕ)) (earliest : Bool) (turn : Turn) (asked : earliest ≡ q.earliest) (seen : IsSeen d earliest q.haystack u before v2 m2 n2 to best2 turn) where
     seen_as : (t : Turn) → turn ≡ t → IsSeen d q.earliest q.haystack u before v2 m2 n2 to best2 t
@@ -348,8 +358,9 @@ module _ (d : Dfa) (q : Search) (down : Bool) (same : down ≡ d.nfa.automaton.r
 
     -- by a quit byte
     pub turn_quits : (v3 : CacheValue) (b index : ℕ) (err : MatchErrorKind) → IsMoved v0 v1 → IsMoved v2 v3 → u ≡ unit_at d.nfa.automaton.reverse q.haystack at → u ≡ Some b →
-        index ≡ index_at down at → err ≡ Quit b index → turn ≡ Quits → TurnsTo d q from v3 m2 n2 (Err err)
-    turn_quits v3 b index err moved after is some here told e =
+        index ≡ index_at down at → err ≡ Quit b index → (told_of v2 ≡ told_of v1 → told_of v3 ≡ turned_told d.nfa.automaton.reverse true q at (told_of v0)) →
+        turn ≡ Quits → TurnsTo d q from v3 m2 n2 (Err err)
+    turn_quits v3 b index err moved after is some here told tells e =
         let x = seen_as Quits e in
         let byte : x.2.0 ≡ b = one_byte x.2.0 b (sym x.2.1 ∙ some) in
         subst (λ (o : MatchErrorKind). TurnsTo d q from v3 m2 n2 (Err o)) (sym told) (
@@ -357,6 +368,7 @@ module _ (d : Dfa) (q : Search) (down : Bool) (same : down ≡ d.nfa.automaton.r
           sym is ∙ some,
           ap (has d.quits) (sym byte) ∙ x.2.2,
           index_there index here,
+          tells_turn true v3 moved after tells x.3,
         )
       where
         one_byte : (a b : ℕ) → Some a ≡ Some b → a ≡ b

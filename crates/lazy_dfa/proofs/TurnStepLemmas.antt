@@ -246,7 +246,7 @@ module _ (d : Dfa) (h : List ℕ) (old : CacheValue) (at id m1 n1 : ℕ) (u : Op
     gives_up (inr g) = g.1
 
     pub turn_refused : (e : CacheError) → IsStep d old new m1 m2 n1 n2 id u (Err e) → IsTurn d earliest h u from new m2 n2 (Err e)
-    turn_refused NoMemory step = fails_on NoMemory step
+    turn_refused NoMemory step = (fails_on NoMemory step, tells_same new m2 n2 (Err NoMemory) step)
     turn_refused GaveUp step =
         let g = gives_up step.err in (
           fails_on GaveUp step,
@@ -306,6 +306,7 @@ module _ (d : Dfa) (h : List ℕ) (old : CacheValue) (at id m1 n1 : ℕ) (u : Op
             (λ (q : is_quit d.quits u ≡ true). q)
             (λ (q : is_quit d.quits u ≡ false). absurd (no_quit_named (after d (state_at old row.0) u) e (leads.goes q)))
             (cases_Bool (is_quit d.quits u))),
+        tells_same new m2 n2 (Ok to) step,
       )
 
       module _ (t : StateValue) (g : HeldAt new to t) (last : Option (ℕ × ℕ)) (b : last ≡ recorded at t best) where

@@ -1,12 +1,12 @@
 -- A whole pass: its start, and what comes of it behind that.
 use Rattle.std.proofs.Common.{◌≡◌, ◌≢◌, ◌⊎◌, ℕ, suc, ◌+◌, ◌-◌, ◌*◌, ◌/◌, ◌%◌, ◌<◌, ◌≤◌, ◌==◌, ◌&&◌, not, Bool, true, false, List, Option, Some, None, Result, Ok, Err, if◌then◌else◌, refl, sym, ap, ◌∙◌, subst, inl, inr, ⊎_elim, arith, true≢false}
-use Rattle.std.specs.Prelude.{min, nat_le, OnOk}
+use Rattle.std.specs.Prelude.{min, nat_le, OnOk, IfErr}
 use Rattle.std.proofs.lemmas.Bool.{cases_Bool, cases_lt, eqb-true}
 use Rattle.std.proofs.lemmas.Bool.Decides.{leb_tells}
 use Rattle.std.proofs.Math.Nat.{min-eq_left, min-eq_right, suc-mul}
 use Rattle.search_types.specs.declared.anchored.Anchored.{Anchored}
 use Rattle.search_types.specs.declared.match_error.MatchErrorKind.{MatchErrorKind}
-use Rattle.search_types.specs.declared.match_error.MatchErrorKind.TheVariants.{GaveUp, NoMemory}
+use Rattle.search_types.specs.declared.match_error.MatchErrorKind.TheVariants.{GaveUp, NoMemory as SearchNoMemory}
 use Rattle.search_types.specs.Found.{HalfFound}
 use Rattle.search_types.specs.Inputs.{Search}
 use Rattle.search_types.specs.Modes.{is_supported}
@@ -17,9 +17,10 @@ use Rattle.lazy_dfa.specs.Caches.{CacheValue, IsShaped, IsCacheOf, HeldAt, Names
 use Rattle.lazy_dfa.specs.ConfigValue.{starts_each_of}
 use Rattle.lazy_dfa.specs.Courses.{state_behind}
 use Rattle.lazy_dfa.specs.declared.start_error.StartError.{StartError}
-use Rattle.lazy_dfa.specs.declared.start_error.StartError.TheVariants.{UnsupportedAnchored}
+use Rattle.lazy_dfa.specs.declared.start_error.StartError.TheVariants.{Cache, Quit, UnsupportedAnchored, NoMemory}
 use Rattle.lazy_dfa.specs.Dfas.{Dfa, IsDfa, reader, start_in}
 use Rattle.lazy_dfa.specs.Ids.{unknown_id, dead_id, has_tag, dead_tag}
+use Rattle.lazy_dfa.specs.LeftTold.{told_from, LeftAt, is_quit_error, IsRefusedFirst, LeavesPass, left_first, left_at_unit}
 use Rattle.lazy_dfa.specs.Linked.{IsLinkedOver, start_from, IsLinkedPass, Grows, HasCleared, GrowsOrClears, IsMoved}
 use Rattle.lazy_dfa.specs.MadePasses.{span_len, MakesPass}
 use Rattle.lazy_dfa.specs.Passes.{is_dead, index_behind, if_supported, start_name, first_value, pass, pass_from}
@@ -29,14 +30,15 @@ use Rattle.lazy_dfa.specs.Readers.{HalfAnswer, found, is_quit}
 use Rattle.lazy_dfa.specs.Scans.{first_place}
 use Rattle.lazy_dfa.specs.ScanLaws.{begins_at}
 use Rattle.lazy_dfa.specs.SearchAnswers.{told, give_up_place, GivesUpIn, at_start, at_unit, Told, told_of, pass_distance, told_by_pass, running_at}
-use Rattle.lazy_dfa.specs.Stands.{first_index, told_begun, told_behind, RunsOn, pass_start, StartsPass}
+use Rattle.lazy_dfa.specs.SearchStarts.{error_at}
+use Rattle.lazy_dfa.specs.Stands.{first_index, told_begun, told_behind, LeftIn, RunsOn, pass_start, StartsPass}
 use Rattle.lazy_dfa.specs.StartCalls.{mode_of, quit_refusal, behind_refusal, mode_refusal, start_refusal, start_slot, start_noted, IsStartKnown}
 use Rattle.lazy_dfa.specs.Steps.{Grew, WasCleared, most_inserts}
 use Rattle.lazy_dfa.proofs.IsCacheLemmas.{row_is_plain}
 use Rattle.lazy_dfa.proofs.LinkedLemmas.{grows_trans, grew_grows, has_cleared, start_grows_of, cleared_grows, grows_or_clears_trans, moved_trans, moved_same, names_moved, grows_moved, linked_moved, linked_none, held_named}
 use Rattle.lazy_dfa.proofs.PassEndLemmas.{ends_dead}
 use Rattle.lazy_dfa.proofs.PassQuitLemmas.{reads_all}
-use Rattle.lazy_dfa.proofs.PassStartLemmas.{named_alike, starts_dead}
+use Rattle.lazy_dfa.proofs.PassStartLemmas.{named_alike, starts_dead, pass_told}
 use Rattle.lazy_dfa.proofs.PointLemmas.{held_known}
 use Rattle.lazy_dfa.proofs.StartCallLemmas.{mode_fine}
 use Rattle.lazy_dfa.proofs.TurnLemmas.{goes_on, goes_in_mode}
@@ -52,6 +54,10 @@ none_or_some (Some p) = inr (p, refl)
 on_ok : {A B X Y : Type 0} (r : Result A B) → (X → Y) → OnOk r X → OnOk r Y
 on_ok (Ok a) f x = f x
 on_ok (Err e) f x = tt
+
+on_err : (r : Result (Option HalfFound) MatchErrorKind) (X Y : MatchErrorKind → Type 0) → ((e : MatchErrorKind) → X e → Y e) → IfErr r X → IfErr r Y
+on_err (Ok a) X Y f x = tt
+on_err (Err e) X Y f x = f e x
 
 abbrev are_same : Result ℕ MatchErrorKind → Result ℕ MatchErrorKind → Type 0
 are_same r s = r ≡ s
@@ -73,7 +79,7 @@ none_left s e = ⊎_elim
     (λ (p : (nat_le e s ≡ false) × (s < e)). let l = p.1 in p.0 ∙ sym (no_zero (e - s) (omega (arith, l))))
     (leb_tells e s)
 
-min_twice : (a k g : ℕ) → min (min a g + k) g ≡ min (a + k) g
+pub min_twice : (a k g : ℕ) → min (min a g + k) g ≡ min (a + k) g
 min_twice a k g = ⊎_elim
     (λ (l : a < g). ap (λ (n : ℕ). min (n + k) g) (min-eq_left (omega (arith, l))))
     (λ (l : g ≤ a).
@@ -98,6 +104,16 @@ whole_told : (down : Bool) (q : Search) (t : Told) (units : ℕ) → told_behind
 whole_told down q t units =
     ap (λ (b : Bool). told_behind down (span_len q) (if not (down && b) then begun (first_index down q) t else t) units) (none_left q.start q.end)
     ∙ parts_told (down && span_len q == 0) t (first_index down q) (pass_distance down (span_len q) units)
+
+-- what it tells at its start, by its bytes and its first place
+told_first : (down : Bool) (q : Search) (t : Told) → told_begun down q t ≡ told_from down (span_len q, first_place down q.start q.end) t
+told_first down q t =
+    ap (λ (b : Bool). if not (down && b) then begun (first_index down q) t else t) (none_left q.start q.end)
+    ∙ turned_round (down && span_len q == 0)
+  where
+    turned_round : (b : Bool) → (if not b then begun (first_index down q) t else t) ≡ (if b then t else begun (first_index down q) t)
+    turned_round true = refl
+    turned_round false = refl
 
 -- ---- dead IDs
 
@@ -179,6 +195,21 @@ one_at_most a b k m f = let e = suc-mul k m in omega (arith, e, f)
 
 -- ---- a start that is refused
 
+same_told : (d : Dfa) (a b : CacheValue) → Grew d a b → told_of b ≡ told_of a
+same_told d a b g = λ n. record { searched = g.searched n; progress = g.progress n }
+
+abbrev failed : MatchErrorKind → Result (Option HalfFound) MatchErrorKind
+failed e = Err e
+
+one_failed : (x y : MatchErrorKind) → failed x ≡ failed y → x ≡ y
+one_failed x y e = cc
+
+first_error : (down : Bool) (i : ℕ) (x : StartError) → IsRefusedFirst down i (error_at (index_behind down i) i x)
+first_error down i (Cache e) = refl
+first_error down i (Quit b) = refl
+first_error down i (UnsupportedAnchored mode) = tt
+first_error down i NoMemory = tt
+
 module _ (d : Dfa) (q : Search) (old new : CacheValue) (m1 m2 n1 n2 : ℕ) (e : MatchErrorKind) (start : StartsPass d q old new m1 m2 n1 n2 (Err e)) where
   abbrev at : ℕ
   at = begins_at (reader d) q
@@ -189,12 +220,30 @@ module _ (d : Dfa) (q : Search) (old new : CacheValue) (m1 m2 n1 n2 : ℕ) (e : 
   abbrev length : ℕ
   length = pass_len (reader d) q.anchored q.earliest q.haystack (span_len q) at
 
+  refused_first : IsRefusedFirst d.nfa.automaton.reverse at e
+  refused_first = ⊎_elim
+      (λ (x : (start_refusal d (pass_start d q) ≢ None) × (Err e ≡ told whole)). by (start_refusal d (pass_start d q)) refl x.0 x.1)
+      (λ (x : (e ≡ SearchNoMemory) ⊎ ((e ≡ GaveUp at) × (lacks_room d new (first_value (reader d) q.anchored q.haystack at) ≡ true))). ⊎_elim
+      (λ (f : e ≡ SearchNoMemory). subst (IsRefusedFirst d.nfa.automaton.reverse at) (sym f) tt)
+      (λ (f : (e ≡ GaveUp at) × (lacks_room d new (first_value (reader d) q.anchored q.haystack at) ≡ true)). subst (IsRefusedFirst d.nfa.automaton.reverse at) (sym f.0) refl)
+      x)
+      start.err
+    where
+      by : (o : Option StartError) → start_refusal d (pass_start d q) ≡ o → start_refusal d (pass_start d q) ≢ None → Err e ≡ told whole → IsRefusedFirst d.nfa.automaton.reverse at e
+      by None f some is = absurd (some f)
+      by (Some x) f some is =
+          let same : e ≡ error_at (index_behind d.nfa.automaton.reverse at) at x =
+          one_failed e (error_at (index_behind d.nfa.automaton.reverse at) at x)
+          (is ∙ sym (pass_told d (unit_behind d.nfa.automaton.reverse q.haystack at) q.anchored (index_behind d.nfa.automaton.reverse at) at
+          (pass_from (reader d) q.earliest q.haystack (suc (span_len q)) at (first_value (reader d) q.anchored q.haystack at) None) x f)) in
+          subst (IsRefusedFirst d.nfa.automaton.reverse at) (sym same) (first_error d.nfa.automaton.reverse at x)
+
   pub refused_pass : MakesPass d q old new m1 m2 n1 n2 (Err e)
   refused_pass = record {
     answer = ⊎_elim
         (λ (x : (start_refusal d (pass_start d q) ≢ None) × (Err e ≡ told whole)). inl x.1)
-        (λ (x : (e ≡ NoMemory) ⊎ ((e ≡ GaveUp at) × (lacks_room d new (first_value (reader d) q.anchored q.haystack at) ≡ true))). inr (⊎_elim
-        (λ (f : e ≡ NoMemory). inl (ap Err f))
+        (λ (x : (e ≡ SearchNoMemory) ⊎ ((e ≡ GaveUp at) × (lacks_room d new (first_value (reader d) q.anchored q.haystack at) ≡ true))). inr (⊎_elim
+        (λ (f : e ≡ SearchNoMemory). inl (ap Err f))
         (λ (f : (e ≡ GaveUp at) × (lacks_room d new (first_value (reader d) q.anchored q.haystack at) ≡ true)). inr (at, ap Err f.0, at_start refl f.1))
         x))
         start.err;
@@ -206,12 +255,13 @@ module _ (d : Dfa) (q : Search) (old new : CacheValue) (m1 m2 n1 n2 : ℕ) (e : 
         (moved_same old new same.0, same.1, same.2, start.refused known);
     determinized = let l = start.determinized in omega (arith, l);
     inserted = one_at_most n1 n2 length (most_inserts d) start.inserted;
+    refused = ⊎_elim
+        (λ (g : Grew d old new). inl (left_first refused_first (same_told d old new g)))
+        (λ (w : WasCleared old new 1). inr (has_cleared old new 1 w))
+        start.kept;
   }
 
 -- ---- a start that is told
-
-same_told : (d : Dfa) (a b : CacheValue) → Grew d a b → told_of b ≡ told_of a
-same_told d a b g = λ n. record { searched = g.searched n; progress = g.progress n }
 
 module _ (d : Dfa) (q : Search) (old mid : CacheValue) (m1 m n1 n id : ℕ) (made : IsDfa d) (own : IsCacheOf d old) (mine : IsCacheOf d mid)
     (start : StartsPass d q old mid m1 m n1 n (Ok id)) where
@@ -284,6 +334,22 @@ module _ (d : Dfa) (q : Search) (old mid : CacheValue) (m1 m n1 n id : ℕ) (mad
         (λ (w : WasCleared old mid 1). inr (clear_first w))
         start.kept
 
+    -- how far it came that was refused
+    left_pass : (e : MatchErrorKind) → LeftIn d q first from e (told_of here) (told_of new) ⊎ HasCleared here new →
+        LeavesPass (reader d) q.anchored q.earliest q.haystack (span_len q, from) e (told_of old) (told_of new) ⊎ HasCleared old new
+    left_pass e left = ⊎_elim
+        (λ (g : Grew d old mid). ⊎_elim
+        (λ (l : LeftIn d q first from e (told_of here) (told_of new)). inl (left_at_unit l.0 (subst (λ (n : ℕ). l.0 < n) same_len l.1) l.2
+        (subst (λ (t : Told). LeftAt d.nfa.automaton.reverse (is_quit_error e) (span_len q) from l.0 t (told_of new)) (begun_here g) l.3)))
+        (λ (x : HasCleared here new). inr (clear_later g x))
+        left)
+        (λ (w : WasCleared old mid 1). inr (clear_first w))
+        start.kept
+      where
+        begun_here : Grew d old mid → told_of here ≡ told_from d.nfa.automaton.reverse (span_len q, from) (told_of old)
+        begun_here g =
+            tells_start ∙ (ap (told_begun d.nfa.automaton.reverse q) (same_told d old mid g) ∙ told_first d.nfa.automaton.reverse q (told_of old))
+
     -- where the path was known
     known_path : IsMoved old here → IsLinkedPass d old q.anchored q.earliest q.haystack (span_len q) from → IsLinkedOver d here q.haystack from id units
     known_path still linked = ⊎_elim
@@ -307,15 +373,15 @@ module _ (d : Dfa) (q : Search) (old mid : CacheValue) (m1 m n1 n id : ℕ) (mad
         let f = runs.free (known_path still linked) in
         (moved_trans old here new still f.0, f.1 ∙ same.1, f.2 ∙ same.2, f.3 ∙ ap told (sym is_rest))
 
-    answered : (result ≡ told (pass (reader d) q.anchored q.earliest q.haystack (span_len q) from)) ⊎ (result ≡ Err NoMemory) ⊎
+    answered : (result ≡ told (pass (reader d) q.anchored q.earliest q.haystack (span_len q) from)) ⊎ (result ≡ Err SearchNoMemory) ⊎
         ((x : ℕ) × (result ≡ Err (GaveUp x)) × GivesUpIn d new q.anchored q.earliest q.haystack (span_len q) from x)
     answered = ⊎_elim
         (λ (e : result ≡ told rest). inl (e ∙ ap told (sym is_rest)))
-        (λ (e : (result ≡ Err NoMemory) ⊎ ((x k : ℕ) × (result ≡ Err (GaveUp x)) × (k < units) ×
+        (λ (e : (result ≡ Err SearchNoMemory) ⊎ ((x k : ℕ) × (result ≡ Err (GaveUp x)) × (k < units) ×
         (x ≡ give_up_place d.nfa.automaton.reverse (span_len q) from k) × (lacks_room d new (state_behind (reader d) q.haystack from first (suc k)) ≡ true) ×
         (k < span_len q → running_at new.progress ≡ Some x))).
         inr (⊎_elim
-        (λ (f : result ≡ Err NoMemory). inl f)
+        (λ (f : result ≡ Err SearchNoMemory). inl f)
         (λ (g : (x k : ℕ) × (result ≡ Err (GaveUp x)) × (k < units) ×
         (x ≡ give_up_place d.nfa.automaton.reverse (span_len q) from k) × (lacks_room d new (state_behind (reader d) q.haystack from first (suc k)) ≡ true) ×
         (k < span_len q → running_at new.progress ≡ Some x)).
@@ -331,6 +397,8 @@ module _ (d : Dfa) (q : Search) (old mid : CacheValue) (m1 m n1 n id : ℕ) (mad
       free = free_pass;
       determinized = let a = start.determinized in let b = runs.determinized in let l = same_len in omega (arith, a, b, l);
       inserted = one_more n1 n n2 all (most_inserts d) start.inserted (subst (λ (k : ℕ). n2 ≤ n + k * most_inserts d) same_len runs.inserted);
+      refused = on_err result (λ e. LeftIn d q first from e (told_of here) (told_of new) ⊎ HasCleared here new)
+          (λ e. LeavesPass (reader d) q.anchored q.earliest q.haystack (span_len q, from) e (told_of old) (told_of new) ⊎ HasCleared old new) left_pass runs.refused;
     }
 
   abbrev here : CacheValue
@@ -354,6 +422,7 @@ module _ (d : Dfa) (q : Search) (old mid : CacheValue) (m1 m n1 n id : ℕ) (mad
         free = λ l. (still, refl, refl, is_none);
         determinized = omega arith;
         inserted = omega arith;
+        refused = tt;
       })
     where
       still : IsMoved here new

@@ -16,6 +16,7 @@ pub mod Building
 pub mod Courses
 pub mod Linked
 pub mod SearchAnswers
+pub mod LeftTold
 pub mod Points
 pub mod MadePasses
 pub mod Turns

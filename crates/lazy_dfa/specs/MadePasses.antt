@@ -1,11 +1,12 @@
 -- What the functions that make passes, one after the other, say of what they did.
-use Rattle.std.specs.Prelude.{◌≡◌, ◌⊎◌, ℕ, suc, ◌+◌, ◌-◌, ◌*◌, ◌≤◌, Option, Result, Err, OnOk}
+use Rattle.std.specs.Prelude.{◌≡◌, ◌⊎◌, ℕ, suc, ◌+◌, ◌-◌, ◌*◌, ◌≤◌, Option, Result, Err, IfErr, OnOk}
 use Rattle.search_types.specs.declared.match_error.MatchErrorKind.{MatchErrorKind}
 use Rattle.search_types.specs.declared.match_error.MatchErrorKind.TheVariants.{GaveUp, NoMemory}
 use Rattle.search_types.specs.Found.{HalfFound}
 use Rattle.search_types.specs.Inputs.{Search}
 use Rattle.lazy_dfa.specs.Caches.{CacheValue}
 use Rattle.lazy_dfa.specs.Dfas.{Dfa, reader}
+use Rattle.lazy_dfa.specs.LeftTold.{LeavesPass, LeavesTold}
 use Rattle.lazy_dfa.specs.Linked.{IsLinkedPass, IsLinked, Grows, HasCleared, GrowsOrClears, IsMoved, passes_of}
 use Rattle.lazy_dfa.specs.Passes.{pass}
 use Rattle.lazy_dfa.specs.PassLaws.{pass_len}
@@ -29,6 +30,7 @@ pub record MakesPass (d : Dfa) (q : Search) (old new : CacheValue) (m1 m2 n1 n2 
       IsMoved old new × (m2 ≡ m1) × (n2 ≡ n1) × (result ≡ told (pass (reader d) q.anchored q.earliest q.haystack (span_len q) (begins_at (reader d) q)))
   pub determinized : m2 ≤ m1 + suc (pass_len (reader d) q.anchored q.earliest q.haystack (span_len q) (begins_at (reader d) q))
   pub inserted : n2 ≤ n1 + suc (pass_len (reader d) q.anchored q.earliest q.haystack (span_len q) (begins_at (reader d) q)) * most_inserts d
+  pub refused : IfErr result (λ e. LeavesPass (reader d) q.anchored q.earliest q.haystack (span_len q, begins_at (reader d) q) e (told_of old) (told_of new) ⊎ HasCleared old new)
 
 -- a half search with its restarts
 pub record MakesSearch (d : Dfa) (q : Search) (old new : CacheValue) (m1 m2 n1 n2 : ℕ) (result : Result (Option HalfFound) MatchErrorKind) : Type 0 where
@@ -38,3 +40,4 @@ pub record MakesSearch (d : Dfa) (q : Search) (old new : CacheValue) (m1 m2 n1 n
   pub free : IsLinked d old q → IsMoved old new × (m2 ≡ m1) × (n2 ≡ n1) × (result ≡ told (scan (reader d) q))
   pub determinized : m2 ≤ m1 + made_by (reader d) q (passes_of (reader d) q)
   pub inserted : n2 ≤ n1 + made_by (reader d) q (passes_of (reader d) q) * most_inserts d
+  pub refused : IfErr result (λ e. LeavesTold (reader d) q e (told_of old) (told_of new) ⊎ HasCleared old new)

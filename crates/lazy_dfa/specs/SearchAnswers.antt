@@ -91,6 +91,11 @@ told_by_pass r mode earliest h t p =
       progress = None;
     }
 
+-- what a pass over n bytes tells at its end that has told where it begins
+abbrev pub told_behind : Bool → ℕ → Told → ℕ → Told
+told_behind down n t units =
+    if down && n == 0 then t else record { searched = min (t.searched + pass_distance down n units) greatest; progress = None }
+
 -- what these passes tell
 abbrev pub told_by : Reader → Search → Told → List (ℕ × ℕ) → Told
 told_by r q t [] = t

@@ -17,6 +17,7 @@ use Rattle.lazy_dfa.specs.declared.passing.Stand.{Stand}
 use Rattle.lazy_dfa.specs.declared.passing.Turned.{Turned}
 use Rattle.lazy_dfa.specs.Dfas.{Dfa, reader, start_in}
 use Rattle.lazy_dfa.specs.Ids.{unknown_id}
+use Rattle.lazy_dfa.specs.LeftTold.{told_at, told_finished, is_quit_error, IsRefusedAt, LeftAt}
 use Rattle.lazy_dfa.specs.Linked.{IsLinkedOver, Grows, HasCleared, GrowsOrClears, IsMoved, start_from}
 use Rattle.lazy_dfa.specs.MadePasses.{span_len}
 use Rattle.lazy_dfa.specs.Passes.{index_at, is_dead, first_value, pass, pass_from}
@@ -25,7 +26,8 @@ use Rattle.lazy_dfa.specs.Points.{Point, GoesTo, began}
 use Rattle.lazy_dfa.specs.Readers.{is_quit}
 use Rattle.lazy_dfa.specs.Scans.{first_place}
 use Rattle.lazy_dfa.specs.ScanLaws.{begins_at}
-use Rattle.lazy_dfa.specs.SearchAnswers.{pair_of, told, give_up_place, Told, told_of, pass_distance, running_at}
+pub use Rattle.lazy_dfa.specs.SearchAnswers.{told_behind}
+use Rattle.lazy_dfa.specs.SearchAnswers.{pair_of, told, give_up_place, Told, told_of, running_at}
 use Rattle.lazy_dfa.specs.StartCalls.{mode_of, start_refusal, start_noted, IsStartKnown}
 use Rattle.lazy_dfa.specs.Steps.{Grew, WasCleared, most_inserts}
 use Rattle.lazy_dfa.specs.Turns.{GoesOne, Leaves, FailsOn}
@@ -75,11 +77,6 @@ finished at v = record v { searched = min (v.searched + progress_len (moved_to a
 abbrev pub finished_where : Bool → ℕ → CacheValue → CacheValue
 finished_where wanted at v = if wanted then finished at v else v
 
--- what a pass over n bytes tells at its end that has told where it begins
-abbrev pub told_behind : Bool → ℕ → Told → ℕ → Told
-told_behind down n t units =
-    if down && n == 0 then t else record { searched = min (t.searched + pass_distance down n units) greatest; progress = None }
-
 -- the refusal of a search by that of a step
 abbrev pub error_of : ℕ → CacheError → MatchErrorKind
 error_of place StepGaveUp = GaveUp place
@@ -112,6 +109,17 @@ pub record EndsWith (d : Dfa) (q : Search) (from : Point) (new : CacheValue) (m 
 abbrev pub gave_up_at : Bool → Search → ℕ → ℕ
 gave_up_at down q at = if at == last_place down q then at else index_at down at
 
+-- How far searches came where the turn at a place is refused, by a quit byte or else. A byte is told before it is read, and
+-- a quit byte finishes; at the last place the search was finished before, downwards, or goes on.
+abbrev pub turned_told : Bool → Bool → Search → ℕ → Told → Told
+turned_told down quits q at t =
+    if at == last_place down q then (if down && tells down q then told_finished at t else t) else
+    if quits then told_finished (index_at down at) t else told_at (index_at down at) t
+
+-- so it is, or the cache was cleared
+abbrev pub TellsTurn : Dfa → Bool → Search → ℕ → CacheValue → CacheValue → Type 0
+TellsTurn d quits q at old new = (told_of new ≡ turned_told d.nfa.automaton.reverse quits q at (told_of old)) ⊎ HasCleared old new
+
 -- what comes of a turn of a pass in its span: it ends, or goes on
 abbrev pub TurnsInto : Dfa → Search → Point → CacheValue → ℕ → ℕ → Stand → Bool → Type 0
 TurnsInto d q from new m n stand true = EndsWith d q from new m n (pair_of stand.best)
@@ -124,17 +132,24 @@ TurnsInto d q from new m n stand false =
 abbrev pub TurnsTo : Dfa → Search → Point → CacheValue → ℕ → ℕ → Result Turned MatchErrorKind → Type 0
 TurnsTo d q from new m n (Ok turned) = TurnsInto d q from new m n turned.stand turned.has_ended
 TurnsTo d q from new m n (Err (Quit b x)) = Leaves d q.haystack from new m n 0 ×
-    (unit_at d.nfa.automaton.reverse q.haystack from.at ≡ Some b) × (has d.quits b ≡ true) × (x ≡ index_at d.nfa.automaton.reverse from.at)
+    (unit_at d.nfa.automaton.reverse q.haystack from.at ≡ Some b) × (has d.quits b ≡ true) × (x ≡ index_at d.nfa.automaton.reverse from.at) ×
+    TellsTurn d true q from.at from.cache new
 TurnsTo d q from new m n (Err (GaveUp x)) = FailsOn d q.haystack from new m n 0 ×
     (is_quit d.quits (unit_at d.nfa.automaton.reverse q.haystack from.at) ≡ false) × (x ≡ gave_up_at d.nfa.automaton.reverse q from.at) ×
     ((s : StateValue) → HeldAt from.cache from.id s → lacks_room d new (state_behind (reader d) q.haystack from.at s 1) ≡ true) ×
-    (from.at ≢ last_place d.nfa.automaton.reverse q → running_at new.progress ≡ Some x)
-TurnsTo d q from new m n (Err NoMemory) = FailsOn d q.haystack from new m n 0
+    (from.at ≢ last_place d.nfa.automaton.reverse q → running_at new.progress ≡ Some x) × TellsTurn d false q from.at from.cache new
+TurnsTo d q from new m n (Err NoMemory) = FailsOn d q.haystack from new m n 0 × TellsTurn d false q from.at from.cache new
 TurnsTo d q from new m n (Err (HaystackTooLong len)) = ⊥
 TurnsTo d q from new m n (Err (UnsupportedAnchored mode)) = ⊥
 TurnsTo d q from new m n (Err NotAPair) = ⊥
 
 -- ---- the rest of a pass
+
+-- how far the rest of a pass came that was refused at one of its units
+abbrev pub LeftIn : Dfa → Search → StateValue → ℕ → MatchErrorKind → Told → Told → Type 0
+LeftIn d q s i e t new =
+    (k : ℕ) × (k < units_read (reader d) q.earliest q.haystack (suc (span_len q)) i s) × IsRefusedAt d.nfa.automaton.reverse (span_len q) i k e ×
+    LeftAt d.nfa.automaton.reverse (is_quit_error e) (span_len q) i k t new
 
 -- The rest of a pass from its first place in state s, through all units that are left.
 pub record RunsOn (d : Dfa) (q : Search) (s : StateValue) (from : Point) (new : CacheValue) (m n : ℕ) (result : Result (Option HalfFound) MatchErrorKind) : Type 0 where
@@ -152,6 +167,7 @@ pub record RunsOn (d : Dfa) (q : Search) (s : StateValue) (from : Point) (new : 
       (result ≡ told (pass_from (reader d) q.earliest q.haystack (suc (span_len q)) from.at s None))
   pub determinized : m ≤ from.determinized + units_read (reader d) q.earliest q.haystack (suc (span_len q)) from.at s
   pub inserted : n ≤ from.inserted + units_read (reader d) q.earliest q.haystack (suc (span_len q)) from.at s * most_inserts d
+  pub refused : IfErr result (λ e. LeftIn d q s from.at e (told_of from.cache) (told_of new) ⊎ HasCleared from.cache new)
 
 -- ---- the start of a pass
 

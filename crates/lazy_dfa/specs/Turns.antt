@@ -78,12 +78,13 @@ IsSeen d earliest h u from new m n id best Ends =
     ((s : StateValue) → HeldAt from.cache from.id s →
     (stops_behind (reader d) earliest h from.at s 0 ≡ true) ⊎ (is_dead (state_behind (reader d) h from.at s 1) ≡ true))
 IsSeen d earliest h u from new m n id best Quits =
-    Leaves d h from new m n 0 × StaysRunning from.cache new × ((b : ℕ) × (u ≡ Some b) × (has d.quits b ≡ true))
+    Leaves d h from new m n 0 × StaysRunning from.cache new × ((b : ℕ) × (u ≡ Some b) × (has d.quits b ≡ true)) ×
+    TellsTheSame from.cache new
 
 -- one turn from a point, by the unit there
 abbrev pub IsTurn : Dfa → Bool → List ℕ → Option ℕ → Point → CacheValue → ℕ → ℕ → Result Seen CacheError → Type 0
 IsTurn d earliest h u from new m n (Ok seen) = IsSeen d earliest h u from new m n seen.id (pair_of seen.best) seen.turn
-IsTurn d earliest h u from new m n (Err NoMemory) = FailsOn d h from new m n 0
+IsTurn d earliest h u from new m n (Err NoMemory) = FailsOn d h from new m n 0 × TellsTheSame from.cache new
 IsTurn d earliest h u from new m n (Err GaveUp) =
     FailsOn d h from new m n 0 × (is_quit d.quits u ≡ false) ×
     ((s : StateValue) → HeldAt from.cache from.id s → lacks_room d new (state_behind (reader d) h from.at s 1) ≡ true) × (new ≡ from.cache)

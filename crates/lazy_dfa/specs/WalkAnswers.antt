@@ -220,3 +220,10 @@ AnswersWhich d v q old new result =
 -- it makes so many states at most: one for its start, and one for each unit of one pass
 abbrev pub which_made : Reader → Search → ℕ
 which_made r q = if nat_le q.start q.end then suc (pass_len r q.anchored false q.haystack (span_len q) (begins_at r q)) else 0
+
+-- what a walk over a whole span does to a set
+pub record MakesWhich (d : Dfa) (q : Search) (old new : CacheValue) (m1 m2 n1 n2 : ℕ) (set after : List Bool) (result : Result ⊤ MatchErrorKind) : Type 0 where
+  pub answer : AnswersWhich d new q set after result
+  pub kept : GrowsOrClears d old new
+  pub determinized : m2 ≤ m1 + which_made (reader d) q
+  pub inserted : n2 ≤ n1 + which_made (reader d) q * most_inserts d

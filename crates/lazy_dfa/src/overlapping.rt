@@ -34,6 +34,7 @@ fn begin<L: Ledger, M: Ledger>(
     ensures call { IfOk result (λ told. MakesCall dfa.now input.now cache.old cache.new work.old.determinized work.new.determinized work.old.inserted work.new.inserted Fresh told (Ok tt)) }
     ensures err { IfErr result (λ e. MakesCall dfa.now input.now cache.old cache.new work.old.determinized work.new.determinized work.old.inserted work.new.inserted Fresh (failed_by e) (Err e)) }
 {
+    dfa.is_made();
     if input.is_done() {
         return Ok(OverlappingState::ended());
     }
@@ -68,6 +69,9 @@ fn resume<L: Ledger, M: Ledger>(
     ensures call { IfOk result (λ told. MakesCall dfa.now input.now cache.old cache.new work.old.determinized work.new.determinized work.old.inserted work.new.inserted (Stands stop) told (Ok tt)) }
     ensures err { IfErr result (λ e. MakesCall dfa.now input.now cache.old cache.new work.old.determinized work.new.determinized work.old.inserted work.new.inserted (Stands stop) (failed_by e) (Err e)) }
 {
+    dfa.is_made();
+    // A place that is not the last one lies before the end of a haystack, whose length has a next number.
+    let _len = input.haystack().len();
     if lists_more(dfa, cache, input, stop.id, stop.index, stop.at) {
         return Ok(tell(dfa, cache, input, stop.id, stop.index, stop.at));
     }
@@ -80,6 +84,29 @@ fn resume<L: Ledger, M: Ledger>(
         best: None,
     };
     read_on(dfa, cache, input, is_down, next, work)
+}
+
+/// What comes of a call: the walk behind it, or a refusal.
+fn go_on<L: Ledger, M: Ledger>(
+    dfa: &DFA,
+    cache: &mut Cache,
+    input: &Input<'_>,
+    walk: Walk,
+    work: &mut Work<L, M>,
+) -> Result<OverlappingState, MatchError>
+    requires own { IsCacheOf dfa.now cache.old }
+    requires walk { IsWalk dfa.now cache.old input.now walk }
+    ensures own { IsCacheOf dfa.now cache.new }
+    ensures call { IfOk result (λ told. MakesCall dfa.now input.now cache.old cache.new work.old.determinized work.new.determinized work.old.inserted work.new.inserted walk told (Ok tt)) }
+    ensures err { IfErr result (λ e. MakesCall dfa.now input.now cache.old cache.new work.old.determinized work.new.determinized work.old.inserted work.new.inserted walk (failed_by e) (Err e)) }
+{
+    let is_down = is_down(dfa);
+    match walk {
+        Walk::Fresh => begin(dfa, cache, input, is_down, work),
+        Walk::Ended => Ok(OverlappingState::ended()),
+        Walk::Failed(kind) => Err(MatchError::new(kind)),
+        Walk::Stands(stop) => resume(dfa, cache, input, is_down, stop, work),
+    }
 }
 
 /// A call of a walk.
@@ -95,23 +122,15 @@ pub(crate) fn call<L: Ledger, M: Ledger>(
     ensures own { IsCacheOf dfa.now cache.new }
     ensures call { MakesCall dfa.now input.now cache.old cache.new work.old.determinized work.new.determinized work.old.inserted work.new.inserted state.old.walk state.new result }
 {
-    let is_down = is_down(dfa);
-    let told = match state.walk {
-        Walk::Fresh => begin(dfa, cache, input, is_down, work),
-        Walk::Ended => Ok(OverlappingState::ended()),
-        Walk::Failed(kind) => Err(MatchError::new(kind)),
-        Walk::Stands(stop) => resume(dfa, cache, input, is_down, stop, work),
-    };
-    match told {
-        Ok(next) => {
-            *state = next;
-            Ok(())
-        }
+    let told = match go_on(dfa, cache, input, state.walk, work) {
+        Ok(told) => told,
         Err(e) => {
             *state = OverlappingState::failed(*e.kind());
-            Err(e)
+            return Err(e);
         }
-    }
+    };
+    *state = told;
+    Ok(())
 }
 
 impl DFA {

@@ -6,6 +6,7 @@ ghost use Rattle.search_types.specs.Modes.{is_supported};
 ghost use Rattle.lazy_dfa.specs.Caches.{IsCacheOf, greatest};
 ghost use Rattle.lazy_dfa.specs.ConfigValue.{clears_of};
 ghost use Rattle.lazy_dfa.specs.Dfas.{IsDfa, reader};
+ghost use Rattle.lazy_dfa.specs.LeftTold.{LeavesTold};
 ghost use Rattle.lazy_dfa.specs.Linked.{IsLinked, GrowsOrClears, IsMoved, passes_of};
 ghost use Rattle.lazy_dfa.specs.MadePasses.{MakesSearch};
 ghost use Rattle.lazy_dfa.specs.ScanLaws.{HasNoQuitNear, pass_count, unit_count};
@@ -106,6 +107,10 @@ impl DFA {
     /// answers, if memory suffices. Where the cache isn't cleared on the way, all steps of the search are known afterwards,
     /// and a search whose steps are known makes no states and takes no memory.
     ///
+    /// Where nothing was cleared, the cache knows how far the search came, after a refusal too. At a quit byte of the span it
+    /// has ended. Where it gave up at a byte, or memory lacked, it still goes on and is at that byte; a pass that can't start
+    /// tells nothing. At the unit behind the span a search upwards still goes on, and one downwards ended at the span's start.
+    ///
     /// A match, or none, comes with a place up to which it was looked for: no quit byte stands from the byte before the span
     /// to there, and under leftmost-first what is found is the first end for each reading of looks that agrees with the one
     /// by ASCII bytes up to there.
@@ -125,6 +130,8 @@ impl DFA {
         ensures linked { OnOk result (cache.new.clears ≡ cache.old.clears → cache.old.clears < greatest → IsLinked self.now cache.new input.now) }
         ensures told { OnOk result (cache.new.clears ≡ cache.old.clears → cache.old.clears < greatest →
             told_of cache.new ≡ told_by (reader self.now) input.now (told_of cache.old) (passes_of (reader self.now) input.now)) }
+        ensures left_told { IfErr result (λ e. cache.new.clears ≡ cache.old.clears → cache.old.clears < greatest →
+            LeavesTold (reader self.now) input.now e (told_of cache.old) (told_of cache.new)) }
         ensures moved { IsLinked self.now cache.old input.now → IsMoved cache.old cache.new }
         ensures free { IsLinked self.now cache.old input.now → work.new ≡ work.old }
         ensures sure_if_linked { IsLinked self.now cache.old input.now → result ≡ told (scan (reader self.now) input.now) }
@@ -154,6 +161,8 @@ impl DFA {
         ensures linked { OnOk result (cache.new.clears ≡ cache.old.clears → cache.old.clears < greatest → IsLinked self.now cache.new input.now) }
         ensures told { OnOk result (cache.new.clears ≡ cache.old.clears → cache.old.clears < greatest →
             told_of cache.new ≡ told_by (reader self.now) input.now (told_of cache.old) (passes_of (reader self.now) input.now)) }
+        ensures left_told { IfErr result (λ e. cache.new.clears ≡ cache.old.clears → cache.old.clears < greatest →
+            LeavesTold (reader self.now) input.now e (told_of cache.old) (told_of cache.new)) }
         ensures moved { IsLinked self.now cache.old input.now → IsMoved cache.old cache.new }
         ensures free { IsLinked self.now cache.old input.now → work.new ≡ work.old }
         ensures sure_if_linked { IsLinked self.now cache.old input.now → result ≡ told (scan (reader self.now) input.now) }

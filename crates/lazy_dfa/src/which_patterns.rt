@@ -1,5 +1,5 @@
 //! Which patterns match: those of all ends of a walk.
-ghost use Rattle.std.specs.Prelude.{◌≡◌, ◌+◌, ◌*◌, ◌≤◌, false, None, IfErr};
+ghost use Rattle.std.specs.Prelude.{◌≡◌, ◌+◌, ◌*◌, ◌≤◌, ◌||◌, false, None, IfErr};
 ghost use Rattle.search_types.specs.declared.match_error.MatchErrorKind.TheVariants.{NoMemory};
 ghost use Rattle.lazy_dfa.specs.Caches.{IsCacheOf};
 ghost use Rattle.lazy_dfa.specs.ConfigValue.{clears_of};
@@ -7,7 +7,7 @@ ghost use Rattle.lazy_dfa.specs.Dfas.{reader};
 ghost use Rattle.lazy_dfa.specs.Linked.{GrowsOrClears};
 ghost use Rattle.lazy_dfa.specs.Steps.{most_inserts};
 ghost use Rattle.lazy_dfa.specs.Walks.{whole_rest};
-ghost use Rattle.lazy_dfa.specs.WalkAnswers.{AnswersWhich, with_pattern, which_made};
+ghost use Rattle.lazy_dfa.specs.WalkAnswers.{AnswersWhich, MakesWhich, with_pattern, is_full, which_made};
 
 use crate::dfa::{Cache, DFA};
 use crate::overlapping::call;
@@ -21,6 +21,49 @@ fn add(patterns: &mut PatternSet, found: HalfMatch)
     ensures { patterns.new ≡ with_pattern patterns.old found.pattern }
 {
     let _ = patterns.try_insert(found.pattern());
+}
+
+/// Whether a set has each pattern that it has room for.
+fn has_all(patterns: &PatternSet) -> bool
+    ensures { result ≡ is_full patterns.now }
+{
+    patterns.is_full()
+}
+
+/// Whether no more ends are looked for.
+fn is_enough(patterns: &PatternSet, input: &Input<'_>) -> bool
+    ensures { result ≡ (input.now.earliest || is_full patterns.now) }
+{
+    input.get_earliest() || has_all(patterns)
+}
+
+/// A walk over a whole span, end by end.
+fn which<L: Ledger, M: Ledger>(
+    dfa: &DFA,
+    cache: &mut Cache,
+    input: &Input<'_>,
+    patterns: &mut PatternSet,
+    work: &mut Work<L, M>,
+) -> Result<(), MatchError>
+    requires { IsCacheOf dfa.now cache.old }
+    ensures own { IsCacheOf dfa.now cache.new }
+    ensures which { MakesWhich dfa.now input.now cache.old cache.new work.old.determinized work.new.determinized work.old.inserted work.new.inserted patterns.old patterns.new result }
+{
+    dfa.is_made();
+    let mut state = OverlappingState::start();
+    loop {
+        match call(dfa, cache, input, &mut state, work) {
+            Ok(()) => {}
+            Err(e) => return Err(e),
+        }
+        let Some(found) = state.get_match() else {
+            return Ok(());
+        };
+        add(patterns, found);
+        if is_enough(patterns, input) {
+            return Ok(());
+        }
+    }
 }
 
 impl DFA {
@@ -45,19 +88,6 @@ impl DFA {
         ensures determinized { work.new.determinized ≤ work.old.determinized + which_made (reader self.now) input.now }
         ensures inserted { work.new.inserted ≤ work.old.inserted + which_made (reader self.now) input.now * most_inserts self.now }
     {
-        let mut state = OverlappingState::start();
-        loop {
-            match call(self, cache, input, &mut state, work) {
-                Ok(()) => {}
-                Err(e) => return Err(e),
-            }
-            let Some(found) = state.get_match() else {
-                return Ok(());
-            };
-            add(patterns, found);
-            if patterns.is_full() || input.get_earliest() {
-                return Ok(());
-            }
-        }
+        which(self, cache, input, patterns, work)
     }
 }

@@ -1,5 +1,6 @@
 use Rattle.std.proofs.Common.{refl, get_or, Some}
 use Rattle.lazy_dfa.specs.SearchAnswers.{pair_of}
+use Rattle.lazy_dfa.proofs.LeftToldLemmas.{byte_turned, quit_turned}
 use Rattle.lazy_dfa.proofs.LinkedLemmas.{is_cache_moved}
 use Rattle.lazy_dfa.proofs.SpanTurnLemmas.{byte_unit, moved_is, some_moved, runs_there, finished_moves, gave_up_byte, turn_refused, turn_quits, some_behind, some_kept, byte_goes, byte_ends}
 use Rattle.lazy_dfa.proofs.passing.byte_turn.Goals as goal
@@ -15,6 +16,7 @@ returns-in-Err-clause-turn g c = turn_refused c.args.dfa.now c.args.input.now c.
     (gave_up_byte c.args.dfa.now c.args.input.now c.args.is_down c.requires.down c.args.cache.now c.search_update.new.self c.make_turn.new.cache c.args.work.now.determinized c.args.work.now.inserted
     c.make_turn.new.work.determinized c.make_turn.new.work.inserted c.args.stand.at c.args.stand.id (pair_of c.args.stand.best) (Some (get_or c.haystack-haystack.result.now c.index_at-index.result 0)) c.index_at-index.result c.index_at-index.ensures c.requires.left)
     (λ far. runs_there c.args.cache.now c.search_update.new.self c.index_at-index.result c.search_update.ensures c.requires.running)
+    (byte_turned c.args.input.now c.args.is_down c.args.dfa.now.nfa.automaton.reverse c.requires.down c.args.cache.now c.search_update.new.self c.args.stand.at c.index_at-index.result c.index_at-index.ensures c.requires.left c.search_update.ensures)
     c.refusal.ensures (c.in-Err.ensures.turn c.args.input.now.haystack (byte_unit c.args.is_down c.args.dfa.now.nfa.automaton.reverse c.args.input.now c.haystack-haystack.result.now c.args.stand.at c.index_at-index.result c.requires.down c.haystack-haystack.ensures.value c.index_at-index.ensures c.requires.within c.requires.left c.haystack-haystack.ensures.within.0))
 
 pub search_finish-requires : goal.search_finish-requires
@@ -57,4 +59,7 @@ returns-in-Quits-clause-turn g c = turn_quits c.args.dfa.now c.args.input.now c.
     c.in-Ok.seen.id (pair_of c.in-Ok.seen.best) c.get_earliest-earliest.result c.in-Ok.seen.turn c.get_earliest-earliest.ensures
     (c.in-Ok.ensures.turn c.args.input.now.haystack (byte_unit c.args.is_down c.args.dfa.now.nfa.automaton.reverse c.args.input.now c.haystack-haystack.result.now c.args.stand.at c.index_at-index.result c.requires.down c.haystack-haystack.ensures.value c.index_at-index.ensures c.requires.within c.requires.left c.haystack-haystack.ensures.within.0))
     c.search_finish-in-Quits.new.self (get_or c.haystack-haystack.result.now c.index_at-index.result 0) c.index_at-index.result c.quit.result (moved_is c.args.cache.now c.search_update.new.self c.index_at-index.result c.search_update.ensures) (finished_moves c.make_turn.new.cache c.search_finish-in-Quits.new.self c.index_at-index.result c.search_finish-in-Quits.ensures)
-    (byte_unit c.args.is_down c.args.dfa.now.nfa.automaton.reverse c.args.input.now c.haystack-haystack.result.now c.args.stand.at c.index_at-index.result c.requires.down c.haystack-haystack.ensures.value c.index_at-index.ensures c.requires.within c.requires.left c.haystack-haystack.ensures.within.0) refl c.index_at-index.ensures c.quit.ensures c.in-Quits.is
+    (byte_unit c.args.is_down c.args.dfa.now.nfa.automaton.reverse c.args.input.now c.haystack-haystack.result.now c.args.stand.at c.index_at-index.result c.requires.down c.haystack-haystack.ensures.value c.index_at-index.ensures c.requires.within c.requires.left c.haystack-haystack.ensures.within.0) refl c.index_at-index.ensures c.quit.ensures
+    (λ same. quit_turned c.args.input.now c.args.is_down c.args.dfa.now.nfa.automaton.reverse c.requires.down c.args.cache.now c.search_update.new.self c.args.stand.at c.index_at-index.result c.index_at-index.ensures c.requires.left c.search_update.ensures
+    c.make_turn.new.cache c.search_finish-in-Quits.new.self c.search_finish-in-Quits.ensures same)
+    c.in-Quits.is

@@ -27,7 +27,7 @@ returns-in-Err-clause-runs g c s held =
     (point c.args.cache.now c.args.work.now.determinized c.args.work.now.inserted (first_place c.args.is_down c.args.input.now.start c.args.input.now.end) c.args.id None)
     (point c.loop-turned.cache c.loop-turned.work.determinized c.loop-turned.work.inserted c.loop-turned.stand.at c.loop-turned.stand.id (pair_of c.loop-turned.stand.best))
     c.requires.own c.loop-turned.invariant.own c.requires.row c.loop-turned.invariant.row c.loop-turned.invariant.within c.loop-turned.invariant.goes s held refl
-    c.turn_at.new.cache c.turn_at.new.work.determinized c.turn_at.new.work.inserted c.in-Err.e c.in-Err.ensures.turn
+    c.turn_at.new.cache c.turn_at.new.work.determinized c.turn_at.new.work.inserted c.requires.running c.loop-turned.invariant.same c.in-Err.e c.in-Err.ensures.turn
 
 pub returns-then-turned-clause-runs : goal.returns-then-turned-clause-runs
 returns-then-turned-clause-runs g c s held =

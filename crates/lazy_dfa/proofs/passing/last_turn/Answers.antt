@@ -1,8 +1,9 @@
-use Rattle.std.proofs.Common.{◌∙◌, ap, refl, Bool, ℕ, List, not}
+use Rattle.std.proofs.Common.{◌∙◌, ap, refl, Bool, true, false, ℕ, List, not}
 use Rattle.determinize_core.specs.Steps.{unit_at}
 use Rattle.lazy_dfa.specs.SearchAnswers.{pair_of}
 use Rattle.lazy_dfa.specs.Stands.{last_place}
 use Rattle.lazy_dfa.specs.Stands.{finished_where}
+use Rattle.lazy_dfa.proofs.LeftToldLemmas.{last_turned}
 use Rattle.lazy_dfa.proofs.LinkedLemmas.{is_cache_moved, moved_refl}
 use Rattle.lazy_dfa.proofs.SpanTurnLemmas.{finished_where_moves, gave_up_last, turn_refused, turn_quits, last_ends}
 use Rattle.lazy_dfa.proofs.passing.last_turn.Goals as goal
@@ -18,6 +19,8 @@ returns-in-Err-clause-turn g c = turn_refused c.args.dfa.now c.args.input.now c.
     (gave_up_last c.args.dfa.now c.args.input.now c.args.is_down c.requires.down c.args.cache.now c.finish_where.new.cache c.make_turn.new.cache c.args.work.now.determinized c.args.work.now.inserted
     c.make_turn.new.work.determinized c.make_turn.new.work.inserted c.args.stand.at c.args.stand.id (pair_of c.args.stand.best) c.unit_at-unit.result c.args.stand.at refl c.requires.last)
     (λ far. absurd (far (c.requires.last ∙ ap (λ (b : Bool). last_place b c.args.input.now) c.requires.down)))
+    (last_turned c.args.input.now c.args.is_down c.args.dfa.now.nfa.automaton.reverse c.requires.down c.args.cache.now c.finish_where.new.cache c.args.stand.at false c.requires.last
+    (c.finish_where.ensures ∙ ap (λ (b : Bool). finished_where b c.args.stand.at c.args.cache.now) c.tells_before.ensures))
     c.refusal.ensures (c.in-Err.ensures.turn c.args.input.now.haystack (c.unit_at-unit.ensures ∙ (ap (λ (h : List ℕ). unit_at c.args.is_down h c.args.stand.at) c.haystack.ensures.value ∙ ap (λ (b : Bool). unit_at b c.args.input.now.haystack c.args.stand.at) c.requires.down)))
 
 pub returns-in-Quits-clause-turn : goal.returns-in-Quits-clause-turn
@@ -26,7 +29,10 @@ returns-in-Quits-clause-turn g c = turn_quits c.args.dfa.now c.args.input.now c.
     c.in-Ok.seen.id (pair_of c.in-Ok.seen.best) c.get_earliest-earliest.result c.in-Ok.seen.turn c.get_earliest-earliest.ensures
     (c.in-Ok.ensures.turn c.args.input.now.haystack (c.unit_at-unit.ensures ∙ (ap (λ (h : List ℕ). unit_at c.args.is_down h c.args.stand.at) c.haystack.ensures.value ∙ ap (λ (b : Bool). unit_at b c.args.input.now.haystack c.args.stand.at) c.requires.down)))
     c.make_turn.new.cache c.in-Some.byte c.index_at.result c.quit.result (finished_where_moves c.args.cache.now c.finish_where.new.cache c.args.stand.at c.tells_before.result c.finish_where.ensures) (moved_refl c.make_turn.new.cache)
-    (c.unit_at-unit.ensures ∙ (ap (λ (h : List ℕ). unit_at c.args.is_down h c.args.stand.at) c.haystack.ensures.value ∙ ap (λ (b : Bool). unit_at b c.args.input.now.haystack c.args.stand.at) c.requires.down)) c.in-Some.is c.index_at.ensures c.quit.ensures c.in-Quits.is
+    (c.unit_at-unit.ensures ∙ (ap (λ (h : List ℕ). unit_at c.args.is_down h c.args.stand.at) c.haystack.ensures.value ∙ ap (λ (b : Bool). unit_at b c.args.input.now.haystack c.args.stand.at) c.requires.down)) c.in-Some.is c.index_at.ensures c.quit.ensures
+    (λ same. same ∙ last_turned c.args.input.now c.args.is_down c.args.dfa.now.nfa.automaton.reverse c.requires.down c.args.cache.now c.finish_where.new.cache c.args.stand.at true c.requires.last
+    (c.finish_where.ensures ∙ ap (λ (b : Bool). finished_where b c.args.stand.at c.args.cache.now) c.tells_before.ensures))
+    c.in-Quits.is
 
 pub returns : goal.returns
 returns g c = record {

@@ -1,4 +1,4 @@
-use Rattle.lazy_dfa.proofs.SearchClauseLemmas.{is_sure, is_linked_then, is_told_then, few_determinized, few_inserted, reaches}
+use Rattle.lazy_dfa.proofs.SearchClauseLemmas.{is_sure, is_linked_then, is_told_then, is_left_then, few_determinized, few_inserted, reaches}
 use Rattle.lazy_dfa.proofs.dfa.DFA.try_search_fwd.Goals as goal
 
 pub returns-clause-answer : goal.returns-clause-answer
@@ -17,6 +17,10 @@ returns-clause-linked g c = is_linked_then c.args.self.now c.args.input.now c.ar
 
 pub returns-clause-told : goal.returns-clause-told
 returns-clause-told g c = is_told_then c.args.self.now c.args.input.now c.args.cache.now c.search.new.cache c.args.work.now.determinized c.search.new.work.determinized
+    c.args.work.now.inserted c.search.new.work.inserted c.search.result c.search.ensures.search
+
+pub returns-clause-left_told : goal.returns-clause-left_told
+returns-clause-left_told g c = is_left_then c.args.self.now c.args.input.now c.args.cache.now c.search.new.cache c.args.work.now.determinized c.search.new.work.determinized
     c.args.work.now.inserted c.search.new.work.inserted c.search.result c.search.ensures.search
 
 pub returns-clause-moved : goal.returns-clause-moved

@@ -1,0 +1,108 @@
+-- How far searches came that were refused, worked out by hand.
+use Rattle.std.proofs.Common.{◌≡◌, ℕ, true, false, [], ◌∷◌, ◌++◌, replicate, Some, None, refl, arith}
+use Rattle.search_types.specs.declared.match_kind.MatchKind.TheVariants.{LeftmostFirst}
+use Rattle.search_types.specs.declared.anchored.Anchored.TheVariants.{No}
+use Rattle.search_types.specs.declared.match_error.MatchErrorKind.TheVariants.{NoMemory}
+use Rattle.search_types.specs.Inputs.{Search}
+use Rattle.look_core.specs.Terminators.{one_of}
+use Rattle.nfa_core.specs.Nfa.{byte_range, binary_union, match_node}
+use Rattle.determinize_core.specs.LookBehind.{families_of}
+use Rattle.determinize_core.specs.KnownBefore.{known_lines, known_words}
+use Rattle.lazy_dfa.specs.LeftTold.{told_from, left_told, LeavesTold, left_first, left_at_unit}
+use Rattle.lazy_dfa.specs.Passes.{next_value, pass_from, start_or_dead}
+use Rattle.lazy_dfa.specs.Readers.{Reader}
+use Rattle.lazy_dfa.specs.SearchAnswers.{Told}
+
+abbrev nothing_told : Told
+nothing_told = record { searched = 0; progress = None }
+
+abbrev so_many : ℕ → Told
+so_many n = record { searched = n; progress = None }
+
+abbrev goes_on : ℕ → ℕ → ℕ → Told
+goes_on n start at = record { searched = n; progress = Some (record { start = start; at = at }) }
+
+-- ---- a pass upwards over four bytes from 3
+
+abbrev up : Told
+up = told_from false (4, 3) nothing_told
+
+begins_at_its_first_byte : up ≡ goes_on 0 3 3
+begins_at_its_first_byte = refl
+
+quit_byte_is_its_end : left_told false true 4 2 5 up ≡ so_many 2
+quit_byte_is_its_end = refl
+
+refused_byte_is_where_it_is : left_told false false 4 2 5 up ≡ goes_on 0 3 5
+refused_byte_is_where_it_is = refl
+
+goes_on_behind_the_span : left_told false true 4 4 6 up ≡ goes_on 0 3 6
+goes_on_behind_the_span = refl
+
+-- ---- one downwards over three bytes, from 3
+
+abbrev down : Told
+down = told_from true (3, 3) nothing_told
+
+begins_at_its_last_byte : down ≡ goes_on 0 2 2
+begins_at_its_last_byte = refl
+
+quit_byte_is_its_end_downwards : left_told true true 3 1 1 down ≡ so_many 1
+quit_byte_is_its_end_downwards = refl
+
+refused_byte_is_where_it_is_downwards : left_told true false 3 1 1 down ≡ goes_on 0 2 1
+refused_byte_is_where_it_is_downwards = refl
+
+-- before the unit behind the span it has ended at the span's start
+ends_before_its_last_unit : left_told true false 3 3 0 down ≡ so_many 2
+ends_before_its_last_unit = refl
+
+tells_nothing_over_no_bytes : left_told true true 0 0 0 (told_from true (0, 0) nothing_told) ≡ nothing_told
+tells_nothing_over_no_bytes = refl
+
+-- ---- a search that still goes on over three bytes
+
+ends_with_the_next_pass : told_from false (4, 3) (goes_on 2 7 4) ≡ goes_on 5 3 3
+ends_with_the_next_pass = refl
+
+-- ---- searches
+
+-- the empty pattern in 1..2 of "β" in UTF-8 mode: one pass, and then one over no bytes
+abbrev of_nothing : Reader
+of_nothing = record {
+  automaton = record {
+    states = binary_union 2 1 ∷ byte_range 0 255 0 ∷ match_node 0 ∷ [];
+    start_anchored = 2;
+    start_unanchored = 0;
+    start_pattern = 2 ∷ [];
+    reverse = false;
+  };
+  terminator = one_of 10;
+  kind = LeftmostFirst;
+  quits = replicate 255 false ++ true ∷ [];
+  between_characters = true;
+  starts_for_each_pattern = false;
+}
+
+abbrev inside : Search
+inside = record { haystack = 0xCE ∷ 0xB2 ∷ []; start = 1; end = 2; anchored = No; earliest = false }
+
+first_pass_has_no_room : LeavesTold of_nothing inside NoMemory nothing_told nothing_told
+unfolding families_of known_lines known_words next_value start_or_dead pass_from
+first_pass_has_no_room = record { done = []; refused = (1, 1); behind = (0, 2) ∷ []; all = refl; left = left_first tt refl }
+
+-- the first pass has read its byte, on from 1, and looked no further
+second_pass_has_no_room : LeavesTold of_nothing inside NoMemory nothing_told (so_many 1)
+unfolding families_of known_lines known_words next_value start_or_dead pass_from
+second_pass_has_no_room = record { done = (1, 1) ∷ []; refused = (0, 2); behind = []; all = refl; left = left_first tt refl }
+
+-- nor at its unit, where it has begun
+second_pass_has_none_at_the_end : LeavesTold of_nothing inside NoMemory nothing_told (goes_on 1 2 2)
+unfolding families_of known_lines known_words next_value start_or_dead pass_from
+second_pass_has_none_at_the_end = record {
+  done = (1, 1) ∷ [];
+  refused = (0, 2);
+  behind = [];
+  all = refl;
+  left = left_at_unit 0 (omega arith) tt (record { at = 2; there = λ l. absurd (omega (arith, l)); told = refl });
+}

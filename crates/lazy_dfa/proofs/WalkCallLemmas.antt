@@ -1,0 +1,217 @@
+-- What a call of an overlapping walk has done: one that reads nothing, and one that reads on.
+use Rattle.std.proofs.Common.{◌≡◌, ◌⊎◌, ℕ, ◌+◌, ◌*◌, ◌<◌, ◌≤◌, Bool, true, false, List, ◌∷◌, Option, Some, None, if◌then◌else◌, refl, sym, ap, ◌∙◌, subst, inl, inr, ⊎_elim, arith, true≢false, []}
+use Rattle.std.specs.Prelude.{Result, Ok, Err, IfOk, IfErr, OnOk, min, ⊤}
+use Rattle.search_types.specs.declared.match_error.MatchErrorKind.{MatchErrorKind}
+use Rattle.search_types.specs.declared.match_error.MatchErrorKind.TheVariants.{GaveUp, NoMemory}
+use Rattle.search_types.specs.Inputs.{Search}
+use Rattle.nfa_core.specs.Places.{first}
+use Rattle.lazy_dfa.specs.Caches.{CacheValue, IsCacheOf, greatest, progress_len}
+use Rattle.lazy_dfa.specs.declared.overlapping_state.Walk.{Walk}
+use Rattle.lazy_dfa.specs.declared.overlapping_state.Walk.TheVariants.{Ended, Failed}
+use Rattle.lazy_dfa.specs.Dfas.{Dfa, IsDfa, reader}
+use Rattle.lazy_dfa.specs.Linked.{Grows, HasCleared, GrowsOrClears}
+use Rattle.lazy_dfa.specs.Readers.{Reader}
+use Rattle.lazy_dfa.specs.SearchAnswers.{half_of, told, Told, told_of, pass_distance}
+use Rattle.lazy_dfa.specs.Stands.{left_at}
+use Rattle.lazy_dfa.specs.Steps.{most_inserts}
+use Rattle.lazy_dfa.specs.Walks.{Rest, nothing_left, refused, others, rest_of, IsWalk, WalkState}
+use Rattle.lazy_dfa.specs.WalkAnswers.{reads_on, call_place, units_there, call_units, call_starts, told_left, TellsNext, GivesUpOn, at_unit, AnswersWalk, failed_by, told_by_call, rest_at, units_at, told_from, GivesUpFrom, ReadsOn, MakesCall}
+use Rattle.lazy_dfa.proofs.LinkedLemmas.{grows_refl, grows_trans, cleared_grows, grows_or_clears_trans}
+
+abbrev pub fine : Result ⊤ MatchErrorKind
+fine = Ok tt
+
+abbrev pub failure : MatchErrorKind → Result ⊤ MatchErrorKind
+failure e = Err e
+
+abbrev pub ended : WalkState
+ended = record { found = None; walk = Ended }
+
+-- ---- what is told
+
+-- where a refusal comes next, nothing else is left
+refusal_alone : (ends : List (ℕ × ℕ)) (refusal : Option MatchErrorKind) (e : MatchErrorKind) → told_left ends refusal ≡ failure e →
+    (ends ≡ []) × (refusal ≡ Some e)
+refusal_alone (x ∷ xs) refusal e is = let never : true ≡ false = cc in absurd (true≢false never)
+refusal_alone [] None e is = let never : true ≡ false = cc in absurd (true≢false never)
+refusal_alone [] (Some y) e is = (refl, cc)
+
+pub tells_refusal : (r : Reader) (q : Search) (w : Walk) (rest : Rest) (e : MatchErrorKind) →
+    rest_of r q w ≡ rest → rest.ends ≡ [] → rest.refusal ≡ Some e → TellsNext r q w (failed_by e) (failure e)
+tells_refusal r q w rest e is none some = let left : rest_of r q w ≡ refused e = is ∙ made rest e none some in record {
+  answer = sym (ap (λ (x : Rest). told_left x.ends x.refusal) left);
+  found = sym (ap (λ (x : Rest). half_of (first x.ends)) left);
+  left = sym (ap others left);
+}
+  where
+    made : (rest : Rest) (e : MatchErrorKind) → rest.ends ≡ [] → rest.refusal ≡ Some e → rest ≡ refused e
+    made rest e none some = λ i. record { ends = none i; refusal = some i }
+
+pub tells_none : (r : Reader) (q : Search) (w : Walk) → rest_of r q w ≡ nothing_left → TellsNext r q w ended fine
+tells_none r q w is = record {
+  answer = sym (ap (λ (x : Rest). told_left x.ends x.refusal) is);
+  found = sym (ap (λ (x : Rest). half_of (first x.ends)) is);
+  left = sym (ap others is);
+}
+
+-- ---- calls that read nothing
+
+on_ok : {A B X : Type 0} (r : Result A B) → X → OnOk r X
+on_ok (Ok a) x = x
+on_ok (Err e) x = tt
+
+not_read : (b : Bool) (k : ℕ) → b ≡ false → (if b then k else 0) ≡ 0
+not_read true k e = absurd (true≢false e)
+not_read false k e = refl
+
+-- a call that leaves the cache as it was
+module _ (d : Dfa) (q : Search) (v : CacheValue) (m n : ℕ) (w : Walk) (after : WalkState) (result : Result ⊤ MatchErrorKind)
+    (tells : TellsNext (reader d) q w after result) (silent : reads_on (reader d) q w ≡ false) where
+  pub still_call : IsWalk d v q after.walk → IfErr result (λ e. after ≡ failed_by e) → OnOk result (after.found ≡ None → after.walk ≡ Ended) →
+      MakesCall d q v v m m n n w after result
+  still_call walk failed ends = record {
+    answer = inl tells;
+    walk = walk;
+    failed = failed;
+    kept = inl (grows_refl d v);
+    told = on_ok result (inl (grows_refl d v, sym same_told));
+    ends = ends;
+    still = λ none quiet. tells;
+    quiet = λ none quiet. (refl, refl, refl);
+    determinized = omega arith;
+    inserted = omega arith;
+  }
+    where
+      same_told : told_by_call (reader d) q w (told_of v) ≡ told_of v
+      same_told = ap (λ (b : Bool). if b then record {
+        searched = min (v.searched + progress_len v.progress +
+            pass_distance d.nfa.automaton.reverse (left_at d.nfa.automaton.reverse q (call_place (reader d) q w))
+            (call_units (reader d) q w)) greatest;
+        progress = None;
+      } else told_of v) silent
+
+pub ended_call : (d : Dfa) (q : Search) (v : CacheValue) (m n : ℕ) → MakesCall d q v v m m n n Ended ended fine
+ended_call d q v m n = still_call d q v m n Ended ended fine (tells_none (reader d) q Ended refl) refl tt tt (λ none. refl)
+
+pub failed_call : (d : Dfa) (q : Search) (v : CacheValue) (m n : ℕ) (e : MatchErrorKind) →
+    MakesCall d q v v m m n n (Failed e) (failed_by e) (failure e)
+failed_call d q v m n e =
+    still_call d q v m n (Failed e) (failed_by e) (failure e) (tells_refusal (reader d) q (Failed e) (refused e) e refl refl refl) refl tt refl tt
+
+-- ---- calls that read on
+
+abbrev pub told_with : ℕ → ℕ → Told
+told_with before k = record { searched = min (before + k) greatest; progress = None }
+
+few_more : (m1 m m2 x y z : ℕ) → z ≡ y → m ≤ m1 + x → m2 ≤ m + y → m2 ≤ m1 + (x + z)
+few_more m1 m m2 x y z is a b = omega (arith, is, a, b)
+
+few_more_put : (n1 n n2 x y z k : ℕ) → z ≡ y → n ≤ n1 + x * k → n2 ≤ n + y * k → n2 ≤ n1 + (x + z) * k
+few_more_put n1 n n2 x y z k is a b = subst (λ (u : ℕ). n2 ≤ n1 + (x + u) * k) (sym is) (omega (arith, a, b))
+
+module _ (d : Dfa) (q : Search) (w : Walk) (old mid new : CacheValue) (m1 m m2 n1 n n2 : ℕ) (made : IsDfa d) (own : IsCacheOf d old)
+    (reads : reads_on (reader d) q w ≡ true)
+    (left : rest_of (reader d) q w ≡ rest_at (reader d) q (call_place (reader d) q w))
+    (units : units_there (reader d) q w ≡ units_at (reader d) q (call_place (reader d) q w))
+    (before : (Grows d old mid × (told_of mid ≡ told_of old)) ⊎ HasCleared old mid)
+    (few : m ≤ m1 + call_starts q w) (few_put : n ≤ n1 + call_starts q w * most_inserts d) where
+  abbrev r : Reader
+  r = reader d
+
+  abbrev at : ℕ
+  at = call_place r q w
+
+  abbrev rest : Rest
+  rest = rest_at r q at
+
+  same_units : call_units r q w ≡ units_at r q at
+  same_units = ap (λ (b : Bool). if b then units_there r q w else 0) reads ∙ units
+
+  gives_up : (x : ℕ) → GivesUpFrom d new q at x → GivesUpOn d new q w x
+  gives_up x g = at_unit g.unit (subst (λ (k : ℕ). g.unit < k) (sym same_units) g.read) g.place g.lacks g.running
+
+  abbrev told_after : ℕ → Told
+  told_after k =
+      told_with (old.searched + progress_len old.progress) (pass_distance d.nfa.automaton.reverse (left_at d.nfa.automaton.reverse q at) k)
+
+  told_so : told_of mid ≡ told_of old → told_of new ≡ told_from r q at (told_of mid) → told_of new ≡ told_by_call r q w (told_of old)
+  told_so e f =
+      f ∙ ap (told_from r q at) e
+      ∙ sym (ap (λ (b : Bool). if b then told_after (call_units r q w) else told_of old) reads ∙ ap told_after same_units)
+
+  abbrev Followed : CacheValue → Told → Type 0
+  Followed v t = (Grows d v new × (told_of new ≡ t)) ⊎ HasCleared v new
+
+  kept_on : GrowsOrClears d mid new → GrowsOrClears d old new
+  kept_on kept = ⊎_elim
+      (λ (g : Grows d old mid × (told_of mid ≡ told_of old)). grows_or_clears_trans d old mid new made own (inl g.0) kept)
+      (λ (c : HasCleared old mid). inr (cleared_grows d old mid new c kept))
+      before
+
+  followed : GrowsOrClears d mid new → Followed mid (told_from r q at (told_of mid)) → Followed old (told_by_call r q w (told_of old))
+  followed kept f = ⊎_elim
+      (λ (g : Grows d old mid × (told_of mid ≡ told_of old)). ⊎_elim
+      (λ (h : Grows d mid new × (told_of new ≡ told_from r q at (told_of mid))).
+      inl (grows_trans d old mid new made own g.0 h.0, told_so g.1 h.1))
+      (λ (c : HasCleared mid new). inr (subst (λ (k : ℕ). min (k + 1) greatest ≤ new.clears) g.0.clears c))
+      f)
+      (λ (c : HasCleared old mid). inr (cleared_grows d old mid new c kept))
+      before
+
+  reads_not : {P : Type 0} → reads_on r q w ≡ false → P
+  reads_not e = absurd (true≢false (sym reads ∙ e))
+
+  pub told_on : (after : WalkState) → ReadsOn d q at mid new m m2 n n2 (Ok after) → MakesCall d q old new m1 m2 n1 n2 w after fine
+  told_on after x = record {
+    answer = inl (record {
+      answer = sym (ap (λ (y : Rest). told_left y.ends y.refusal) left ∙ x.ok.0);
+      found = x.ok.1 ∙ sym (ap (λ (y : Rest). half_of (first y.ends)) left);
+      left = x.ok.2 ∙ sym (ap others left);
+    });
+    walk = x.ok.3;
+    failed = tt;
+    kept = kept_on x.kept;
+    told = followed x.kept x.told;
+    ends = x.ok.4;
+    still = λ none quiet. reads_not quiet;
+    quiet = λ none quiet. reads_not quiet;
+    determinized = few_more m1 m m2 (call_starts q w) (units_at r q at) (call_units r q w) same_units few x.determinized;
+    inserted = few_more_put n1 n n2 (call_starts q w) (units_at r q at) (call_units r q w) (most_inserts d) same_units few_put x.inserted;
+  }
+
+  answered : (e : MatchErrorKind) →
+      (told_left rest.ends rest.refusal ≡ Err e) ⊎ (e ≡ NoMemory) ⊎ ((x : ℕ) × (e ≡ GaveUp x) × GivesUpFrom d new q at x) →
+      AnswersWalk d new q w (failed_by e) (failure e)
+  answered e (inl is) = let alone = refusal_alone rest.ends rest.refusal e is in inl (tells_refusal r q w rest e left alone.0 alone.1)
+  answered e (inr (inl lacks)) = inr (inl (ap failure lacks))
+  answered e (inr (inr g)) = inr (inr (g.0, ap failure g.1, gives_up g.0 g.2))
+
+  pub refused_on : (e : MatchErrorKind) → ReadsOn d q at mid new m m2 n n2 (Err e) →
+      MakesCall d q old new m1 m2 n1 n2 w (failed_by e) (failure e)
+  refused_on e x = record {
+    answer = answered e x.err;
+    walk = tt;
+    failed = refl;
+    kept = kept_on x.kept;
+    told = tt;
+    ends = tt;
+    still = λ none quiet. reads_not quiet;
+    quiet = λ none quiet. reads_not quiet;
+    determinized = few_more m1 m m2 (call_starts q w) (units_at r q at) (call_units r q w) same_units few x.determinized;
+    inserted = few_more_put n1 n n2 (call_starts q w) (units_at r q at) (call_units r q w) (most_inserts d) same_units few_put x.inserted;
+  }
+
+  -- both, by what came of it
+  abbrev Makes : Result WalkState MatchErrorKind → Type 0
+  Makes result =
+      IfOk result (λ after. MakesCall d q old new m1 m2 n1 n2 w after fine) ×
+      IfErr result (λ e. MakesCall d q old new m1 m2 n1 n2 w (failed_by e) (failure e))
+
+  pub makes_on : (result : Result WalkState MatchErrorKind) → ReadsOn d q at mid new m m2 n n2 result → Makes result
+  makes_on (Ok after) x = (told_on after x, tt)
+  makes_on (Err e) x = (tt, refused_on e x)
+
+abbrev pub MakesIts : Dfa → Search → Walk → CacheValue → CacheValue → ℕ → ℕ → ℕ → ℕ → Result WalkState MatchErrorKind → Type 0
+MakesIts d q w old new m1 m2 n1 n2 result =
+    IfOk result (λ after. MakesCall d q old new m1 m2 n1 n2 w after fine) ×
+    IfErr result (λ e. MakesCall d q old new m1 m2 n1 n2 w (failed_by e) (failure e))

@@ -1,0 +1,5 @@
+use Rattle.lazy_dfa.proofs.WhichLoopLemmas.{told_full}
+use Rattle.lazy_dfa.proofs.which_patterns.has_all.Goals as goal
+
+pub returns : goal.returns
+returns c = told_full c.is_full.result c.args.patterns.now c.is_full.ensures
