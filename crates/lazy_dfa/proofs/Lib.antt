@@ -65,4 +65,8 @@ pub mod WalkClauseLemmas
 pub mod WhichUnitLemmas
 pub mod WhichBudgetLemmas
 pub mod WhichLoopLemmas
+pub mod WalkRestLemmas
+pub mod WalkPlaceLemmas
+pub mod WalkTurnLemmas
+pub mod WalkReadLemmas
 pub mod WalkRows

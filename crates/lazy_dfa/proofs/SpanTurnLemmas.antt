@@ -36,10 +36,10 @@ use Rattle.lazy_dfa.proofs.LinkedLemmas.{moved_refl, moved_trans, names_moved, n
 moved_clears : (v w : CacheValue) → IsMoved v w → w.clears ≡ v.clears
 moved_clears v w e = ap (λ (c : CacheValue). c.clears) e
 
-held_moved : (v w : CacheValue) (id : ℕ) (s : StateValue) → IsMoved v w → HeldAt v id s → HeldAt w id s
+pub held_moved : (v w : CacheValue) (id : ℕ) (s : StateValue) → IsMoved v w → HeldAt v id s → HeldAt w id s
 held_moved v w id s e h = subst (λ (x : CacheValue). HeldAt x id s) (sym e) h
 
-row_moved : (v w : CacheValue) (id : ℕ) → IsMoved v w → IsRow v id → IsRow w id
+pub row_moved : (v w : CacheValue) (id : ℕ) → IsMoved v w → IsRow v id → IsRow w id
 row_moved v w id e r = subst (λ (x : CacheValue). IsRow x id) (sym e) r
 
 pub moved_is : (v w : CacheValue) (at : ℕ) → w ≡ record v { progress = moved_to at v.progress } → IsMoved v w
@@ -72,7 +72,7 @@ module _ (d : Dfa) (v w : CacheValue) (e : IsMoved v w) where
   kept_back x k = ⊎_elim (λ (g : Grows d w x). inl (grows_back x g)) (λ (c : HasCleared w x). inr (cleared_back x c)) k
 
   module _ (h : List ℕ) (m n at id : ℕ) (best : Option (ℕ × ℕ)) where
-    leaves_back : (x : CacheValue) (m2 n2 k : ℕ) → Leaves d h (point w m n at id best) x m2 n2 k → Leaves d h (point v m n at id best) x m2 n2 k
+    pub leaves_back : (x : CacheValue) (m2 n2 k : ℕ) → Leaves d h (point w m n at id best) x m2 n2 k → Leaves d h (point v m n at id best) x m2 n2 k
     leaves_back x m2 n2 k l = record {
       kept = kept_back x l.kept;
       free = λ linked. let f = l.free (linked_moved d v w e h at id (suc k) linked) in (moved_trans v w x e f.0, f.1, f.2);
@@ -80,13 +80,13 @@ module _ (d : Dfa) (v w : CacheValue) (e : IsMoved v w) where
       inserted = l.inserted;
     }
 
-    fails_back : (x : CacheValue) (m2 n2 k : ℕ) → FailsOn d h (point w m n at id best) x m2 n2 k → FailsOn d h (point v m n at id best) x m2 n2 k
+    pub fails_back : (x : CacheValue) (m2 n2 k : ℕ) → FailsOn d h (point w m n at id best) x m2 n2 k → FailsOn d h (point v m n at id best) x m2 n2 k
     fails_back x m2 n2 k f = record {
       leaves = leaves_back x m2 n2 k f.leaves;
       unknown = λ linked. f.unknown (linked_moved d v w e h at id (suc k) linked);
     }
 
-    goes_back : (to : Point) (k : ℕ) → w.searched ≡ v.searched → began w.progress ≡ began v.progress → (IsSome v.progress → IsSome w.progress) →
+    pub goes_back : (to : Point) (k : ℕ) → w.searched ≡ v.searched → began w.progress ≡ began v.progress → (IsSome v.progress → IsSome w.progress) →
         GoesTo d h (point w m n at id best) to k → GoesTo d h (point v m n at id best) to k
     goes_back to k searched begins runs g = record {
       place = g.place;
@@ -112,7 +112,7 @@ module _ (d : Dfa) (v w : CacheValue) (e : IsMoved v w) where
     }
 
 -- and what was left in the earlier cache is left in the later one
-leaves_forth : (d : Dfa) (h : List ℕ) (from : Point) (v w : CacheValue) (m n k : ℕ) → IsMoved v w → Leaves d h from v m n k → Leaves d h from w m n k
+pub leaves_forth : (d : Dfa) (h : List ℕ) (from : Point) (v w : CacheValue) (m n k : ℕ) → IsMoved v w → Leaves d h from v m n k → Leaves d h from w m n k
 leaves_forth d h from v w m n k e l = record {
   kept = ⊎_elim
       (λ (g : Grows d from.cache v). inl (record {
@@ -130,7 +130,7 @@ leaves_forth d h from v w m n k e l = record {
 
 -- ---- progress
 
-began_moved : (at : ℕ) (o : Option Progress) → began (moved_to at o) ≡ began o
+pub began_moved : (at : ℕ) (o : Option Progress) → began (moved_to at o) ≡ began o
 began_moved at None = refl
 began_moved at (Some p) = refl
 
@@ -157,7 +157,7 @@ abbrev pub told_end : ℕ → ℕ → Told
 told_end s x = record { searched = min (s + x) greatest; progress = None }
 
 -- what a search tells at its end that began at one index and comes to another
-told_there : (w : CacheValue) (s a at x : ℕ) → w.searched ≡ s → began w.progress ≡ Some a → distance a at ≡ x → told_of (finished at w) ≡ told_end s x
+pub told_there : (w : CacheValue) (s a at x : ℕ) → w.searched ≡ s → began w.progress ≡ Some a → distance a at ≡ x → told_of (finished at w) ≡ told_end s x
 told_there w s a at x e f g =
     ap (λ (n : ℕ). told_end n (progress_len (moved_to at w.progress))) e
     ∙ ap (λ (n : ℕ). told_end s n) (len_there w.progress a at f ∙ g)
@@ -329,7 +329,7 @@ module _ (d : Dfa) (q : Search) (down : Bool) (same : down ≡ d.nfa.automaton.r
       (at ≢ last_place d.nfa.automaton.reverse q → running_at v1.progress ≡ Some place) → told_of v1 ≡ turned_told d.nfa.automaton.reverse false q at (told_of v0) →
       IsTurn d earliest q.haystack u before v2 m2 n2 (Err e) → TurnsTo d q from v2 m2 n2 (Err (error_of place e))
   refused_so earliest place NoMemory moved is there runs tells turn =
-      (fails_back d v0 v1 moved q.haystack m1 n1 at id best v2 m2 n2 0 turn.0, tells_turn false v2 moved (moved_refl v2) (λ g. g ∙ tells) turn.1)
+      (fails_back d v0 v1 moved q.haystack m1 n1 at id best v2 m2 n2 0 turn.0, tells_turn false v2 moved (moved_refl v2) (λ g. g ∙ tells) turn.2)
   refused_so earliest place GaveUp moved is there runs tells turn = (
     fails_back d v0 v1 moved q.haystack m1 n1 at id best v2 m2 n2 0 turn.0,
     ap (is_quit d.quits) (sym is) ∙ turn.1,

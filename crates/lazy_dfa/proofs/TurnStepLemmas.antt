@@ -43,7 +43,7 @@ tag_off bit id e f = true≢false (sym ((Decides-eqb ((id / bit) % 2) 1).1 f) �
 has_it : (bit id : ℕ) → (id / bit) % 2 ≡ 1 → has_tag bit id ≡ true
 has_it bit id e = (Decides-eqb ((id / bit) % 2) 1).1 e
 
-has_not : (bit id : ℕ) → (id / bit) % 2 ≡ 0 → has_tag bit id ≡ false
+pub has_not : (bit id : ℕ) → (id / bit) % 2 ≡ 0 → has_tag bit id ≡ false
 has_not bit id e = ap (λ (n : ℕ). n == 1) e
 
 match_tagged : (start matching : Bool) (p : ℕ) → p < tag → has_tag match_tag (tagged start matching p) ≡ matching
@@ -246,7 +246,7 @@ module _ (d : Dfa) (h : List ℕ) (old : CacheValue) (at id m1 n1 : ℕ) (u : Op
     gives_up (inr g) = g.1
 
     pub turn_refused : (e : CacheError) → IsStep d old new m1 m2 n1 n2 id u (Err e) → IsTurn d earliest h u from new m2 n2 (Err e)
-    turn_refused NoMemory step = (fails_on NoMemory step, tells_same new m2 n2 (Err NoMemory) step)
+    turn_refused NoMemory step = (fails_on NoMemory step, stays_running new m2 n2 (Err NoMemory) step, tells_same new m2 n2 (Err NoMemory) step)
     turn_refused GaveUp step =
         let g = gives_up step.err in (
           fails_on GaveUp step,

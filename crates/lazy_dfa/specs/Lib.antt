@@ -23,4 +23,5 @@ pub mod Turns
 pub mod Stands
 pub mod Walks
 pub mod WalkAnswers
+pub mod WalkTurns
 pub mod WalkLaws

@@ -84,7 +84,7 @@ IsSeen d earliest h u from new m n id best Quits =
 -- one turn from a point, by the unit there
 abbrev pub IsTurn : Dfa → Bool → List ℕ → Option ℕ → Point → CacheValue → ℕ → ℕ → Result Seen CacheError → Type 0
 IsTurn d earliest h u from new m n (Ok seen) = IsSeen d earliest h u from new m n seen.id (pair_of seen.best) seen.turn
-IsTurn d earliest h u from new m n (Err NoMemory) = FailsOn d h from new m n 0 × TellsTheSame from.cache new
+IsTurn d earliest h u from new m n (Err NoMemory) = FailsOn d h from new m n 0 × StaysRunning from.cache new × TellsTheSame from.cache new
 IsTurn d earliest h u from new m n (Err GaveUp) =
     FailsOn d h from new m n 0 × (is_quit d.quits u ≡ false) ×
     ((s : StateValue) → HeldAt from.cache from.id s → lacks_room d new (state_behind (reader d) h from.at s 1) ≡ true) × (new ≡ from.cache)

@@ -100,7 +100,7 @@ fn tells_before(input: &Input<'_>, is_down: bool) -> bool
 }
 
 /// Where it is wanted, ends the search that goes on at this place.
-fn finish_where(cache: &mut Cache, at: usize, wanted: bool)
+pub(crate) fn finish_where(cache: &mut Cache, at: usize, wanted: bool)
     requires { wanted ≡ true → IsSome cache.old.progress }
     ensures { cache.new ≡ finished_where wanted at cache.old }
 {

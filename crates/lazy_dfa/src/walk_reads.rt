@@ -1,30 +1,37 @@
 //! How overlapping walks read on, up to the next end that counts.
-ghost use Rattle.std.specs.Prelude.{◌≡◌, ◌+◌, true, slice_index, Some, IsSome};
+ghost use Rattle.std.specs.Prelude.{◌≡◌, ◌+◌, ◌&&◌, true, slice_index, Some, None, IsSome};
 ghost use Rattle.search_types.specs.Places.{counts};
 ghost use Rattle.lazy_dfa.specs.Caches.{IsCacheOf, IsRow, HeldAt};
 ghost use Rattle.lazy_dfa.specs.Dfas.{reader};
-ghost use Rattle.lazy_dfa.specs.SearchAnswers.{half_of};
+ghost use Rattle.lazy_dfa.specs.Ids.{has_tag, match_tag};
+ghost use Rattle.lazy_dfa.specs.Points.{point};
+ghost use Rattle.lazy_dfa.specs.SearchAnswers.{half_of, pair_of};
 ghost use Rattle.lazy_dfa.specs.Stands.{IsWithinSpan, gave_up_at};
 ghost use Rattle.lazy_dfa.specs.Walks.{StopsAt, value_past};
 ghost use Rattle.lazy_dfa.specs.WalkAnswers.{ReadsOn, value_before, lists_more};
+ghost use Rattle.lazy_dfa.specs.WalkTurns.{is_over, stopped, StepsAt, ReadsTo};
 ghost use Rattle.lazy_dfa.specs.declared.overlapping_state.Walk.TheVariants.{Stands};
 
 use crate::dfa::{Cache, DFA};
 use crate::lazy_id::LazyStateID;
 use crate::overlapping_state::{OverlappingState, Stop, Walk};
-use crate::passing::{Stand, index_at, last_place, next_place, refusal, run, unit_at};
+use crate::passing::{
+    Stand, finish_where, index_at, last_place, next_place, refusal, run, unit_at,
+};
 use crate::runs::see_bytes;
 use crate::searching::is_between_characters;
-use crate::turns::step_by;
+use crate::turns::{Seen, Turn, make_turn};
 use crate::work::Work;
 use search_types::{HalfMatch, Input, MatchError};
 use std::sync::ledger::Ledger;
 
-/// What comes of a unit: the walk reads on from a stand, or the call is over.
+/// What comes of a unit: the walk reads on from a stand, or the call is over there, and tells the end that was recorded or
+/// none.
 #[derive(Clone, Copy)]
-enum Read {
-    On(Stand),
-    Told(OverlappingState),
+pub(crate) struct Read {
+    stand: Stand,
+    is_over: bool,
+    tells: bool,
 }
 
 /// How far a call came that is to read at a place: the index of the next byte, or the last place of the span.
@@ -75,6 +82,8 @@ pub(crate) fn tell(
     ensures found { result.found ≡ half_of (Some (at, slice_index (value_past (reader dfa.now) input.now at).matches index)) }
     ensures walk { result.walk ≡ Stands (record { id = id; index = index + 1; at = at }) }
 {
+    // there are no more patterns than a `usize` counts
+    let _len = dfa.match_len(cache, id);
     let pattern = dfa.match_pattern(cache, id, index);
     OverlappingState {
         found: Some(HalfMatch::new(pattern, at)),
@@ -86,13 +95,81 @@ pub(crate) fn tell(
     }
 }
 
-/// Whether the state behind the unit at a place lists an end that counts.
-fn tells_at(dfa: &DFA, input: &Input<'_>, id: LazyStateID, at: usize) -> bool {
+/// Whether the state of an ID lists an end that counts at a place.
+fn tells_at(dfa: &DFA, input: &Input<'_>, id: LazyStateID, at: usize) -> bool
+    ensures { result ≡ has_tag match_tag id && counts (reader dfa.now).between_characters input.now.haystack at }
+{
     id.is_match() && counts_at(dfa, input, at)
 }
 
-/// Reads a byte of the span.
-fn read_byte<L: Ledger, M: Ledger>(
+/// Whether a call is over behind a unit.
+fn is_over(turn: Turn, tells: bool, is_last: bool) -> bool
+    ensures { result ≡ is_over turn tells is_last }
+{
+    match turn {
+        Turn::GoesOn => tells || is_last,
+        Turn::Ends => true,
+        Turn::Quits => true,
+    }
+}
+
+/// The walk behind the last unit that a call reads.
+fn stopped(stand: Stand, tells: bool) -> OverlappingState
+    ensures { result ≡ stopped tells stand.id stand.at stand.best }
+{
+    if !tells {
+        return OverlappingState::ended();
+    }
+    OverlappingState {
+        found: stand.best,
+        walk: Walk::Stands(Stop {
+            id: stand.id,
+            index: 1,
+            at: stand.at,
+        }),
+    }
+}
+
+// ---- units
+
+/// The step by the unit at a place. Where it is refused the search that goes on ends with the last unit, and not before.
+fn step_at<L: Ledger, M: Ledger>(
+    dfa: &DFA,
+    cache: &mut Cache,
+    input: &Input<'_>,
+    is_down: bool,
+    stand: Stand,
+    work: &mut Work<L, M>,
+) -> Result<Seen, MatchError>
+    requires own { IsCacheOf dfa.now cache.old }
+    requires down { is_down ≡ dfa.now.nfa.automaton.reverse }
+    requires row { IsRow cache.old stand.id }
+    requires running { IsSome cache.old.progress }
+    ensures own { IsCacheOf dfa.now cache.new }
+    ensures step { StepsAt dfa.now input.now (point cache.old work.old.determinized work.old.inserted stand.at stand.id (pair_of stand.best)) cache.new work.new.determinized work.new.inserted result }
+{
+    let place = progress_at(input, is_down, stand.at);
+    let unit = unit_at(input.haystack(), stand.at, is_down);
+    cache.search_update(place);
+    let seen = match make_turn(
+        dfa, cache, stand.id, unit, stand.at, stand.best, false, work,
+    ) {
+        Ok(seen) => seen,
+        Err(e) => {
+            finish_where(cache, place, stand.at == last_place(input, is_down));
+            return Err(refusal(e, place));
+        }
+    };
+    if let Turn::Quits = seen.turn {
+        let Some(byte) = unit else { unreachable!() };
+        cache.search_finish(place);
+        return Err(MatchError::quit(byte, index_at(stand.at, is_down)));
+    }
+    Ok(seen)
+}
+
+/// Reads the unit at a place. Matches at places that don't count are passed over.
+fn read_at<L: Ledger, M: Ledger>(
     dfa: &DFA,
     cache: &mut Cache,
     input: &Input<'_>,
@@ -106,63 +183,42 @@ fn read_byte<L: Ledger, M: Ledger>(
     requires within { IsWithinSpan input.now stand.at }
     requires running { IsSome cache.old.progress }
     ensures own { IsCacheOf dfa.now cache.new }
+    ensures read { ReadsTo dfa.now input.now (point cache.old work.old.determinized work.old.inserted stand.at stand.id (pair_of stand.best)) cache.new work.new.determinized work.new.inserted result }
 {
-    let index = index_at(stand.at, is_down);
-    let haystack = input.haystack();
-    let byte = haystack[index];
-    let id = match step_by(dfa, cache, stand.id, Some(byte), work) {
-        Ok(id) => id,
-        Err(e) => return Err(refusal(e, index)),
+    let at = stand.at;
+    // a haystack is shorter than the greatest place, so there is a place behind each byte
+    let _len = input.haystack().len();
+    let is_last = at == last_place(input, is_down);
+    let seen = match step_at(dfa, cache, input, is_down, stand, work) {
+        Ok(seen) => seen,
+        Err(e) => return Err(e),
     };
-    if id.is_quit() {
-        cache.search_finish(index);
-        return Err(MatchError::quit(byte, index));
-    }
-    if id.is_dead() {
-        cache.search_finish(index);
-        return Ok(Read::Told(OverlappingState::ended()));
-    }
-    if !tells_at(dfa, input, id, stand.at) {
-        return Ok(Read::On(Stand {
-            at: next_place(stand.at, is_down),
+    let id = seen.id;
+    let turn = seen.turn;
+    let tells = tells_at(dfa, input, id, at);
+    if is_over(turn, tells, is_last) {
+        cache.search_finish(progress_at(input, is_down, at));
+        let here = Stand {
+            at,
             id,
-            best: None,
-        }));
+            best: seen.best,
+        };
+        return Ok(Read {
+            stand: here,
+            is_over: true,
+            tells,
+        });
     }
-    cache.search_finish(index);
-    Ok(Read::Told(tell(dfa, cache, input, id, 0, stand.at)))
-}
-
-/// Reads the unit behind the span, and ends the running search there, whatever comes of it.
-fn read_last<L: Ledger, M: Ledger>(
-    dfa: &DFA,
-    cache: &mut Cache,
-    input: &Input<'_>,
-    is_down: bool,
-    stand: Stand,
-    work: &mut Work<L, M>,
-) -> Result<OverlappingState, MatchError>
-    requires own { IsCacheOf dfa.now cache.old }
-    requires down { is_down ≡ dfa.now.nfa.automaton.reverse }
-    requires row { IsRow cache.old stand.id }
-    requires running { IsSome cache.old.progress }
-    ensures own { IsCacheOf dfa.now cache.new }
-{
-    let unit = unit_at(input.haystack(), stand.at, is_down);
-    let stepped = step_by(dfa, cache, stand.id, unit, work);
-    cache.search_finish(stand.at);
-    let id = match stepped {
-        Ok(id) => id,
-        Err(e) => return Err(refusal(e, stand.at)),
+    let next = Stand {
+        at: next_place(at, is_down),
+        id,
+        best: seen.best,
     };
-    if id.is_quit() {
-        let Some(byte) = unit else { unreachable!() };
-        return Err(MatchError::quit(byte, index_at(stand.at, is_down)));
-    }
-    if !tells_at(dfa, input, id, stand.at) {
-        return Ok(OverlappingState::ended());
-    }
-    Ok(tell(dfa, cache, input, id, 0, stand.at))
+    Ok(Read {
+        stand: next,
+        is_over: false,
+        tells,
+    })
 }
 
 /// Reads on from a state that isn't dead, up to the next end that counts.
@@ -184,20 +240,16 @@ pub(crate) fn read_on<L: Ledger, M: Ledger>(
 {
     dfa.is_made();
     see_bytes(input.haystack());
-    let last = last_place(input, is_down);
     cache.search_start(progress_at(input, is_down, first.at));
     let mut stand = run(dfa, cache, input, is_down, first);
-    while stand.at != last {
-        cache.search_update(index_at(stand.at, is_down));
-        let read = match read_byte(dfa, cache, input, is_down, stand, work) {
+    loop {
+        let read = match read_at(dfa, cache, input, is_down, stand, work) {
             Ok(read) => read,
             Err(e) => return Err(e),
         };
-        match read {
-            Read::Told(told) => return Ok(told),
-            Read::On(next) => stand = run(dfa, cache, input, is_down, next),
+        if read.is_over {
+            return Ok(stopped(read.stand, read.tells));
         }
+        stand = run(dfa, cache, input, is_down, read.stand);
     }
-    cache.search_update(last);
-    read_last(dfa, cache, input, is_down, stand, work)
 }

@@ -46,7 +46,8 @@ join_lies f r q (quit b x) lies = tt
 join_lies f r q (unsupported mode) lies = tt
 
 joined_lies : (p : Pair) (q : Search) → LiesIfSome q.start q.end (found_of (joined p q))
-joined_lies p q = join_lies (reader p.forward) (reader p.reverse) q (scan (reader p.forward) q) (λ e is. scan_in_span (reader p.forward) q e is)
+joined_lies p q =
+    join_lies (reader p.forward) (reader p.reverse) q (scan (reader p.forward) q) (λ e is. scan_in_span (reader p.forward) q e is)
 
 pub match_lies : (p : Pair) (q : Search) (f : Found) → joined p q ≡ Ok (Some f) → (q.start ≤ f.start) × (f.start ≤ f.end) × (f.end ≤ q.end)
 match_lies p q f is = subst (λ (o : Option Found). LiesIfSome q.start q.end o) (ap found_of is) (joined_lies p q)
@@ -99,7 +100,8 @@ join_alike f r q g (found None) same = refl
 join_alike f r q g (quit b x) same = refl
 join_alike f r q g (unsupported mode) same = refl
 
-pub joined_by_reach : (p : Pair) (q : Search) (g : List ℕ) → q.end ≤ length q.haystack → q.end ≤ length g → Agree q.haystack g (IsInPairReach p q) →
+pub joined_by_reach : (p : Pair) (q : Search) (g : List ℕ) → q.end ≤ length q.haystack → q.end ≤ length g →
+    Agree q.haystack g (IsInPairReach p q) →
     joined p q ≡ joined p (record q { haystack = g })
 joined_by_reach p q g in_h in_g agree =
     join_alike (reader p.forward) (reader p.reverse) q g (scan (reader p.forward) q)

@@ -1,4 +1,9 @@
 pub mod BuiltLemmas
+pub mod AnswerLemmas
+pub mod PairLemmas
+pub mod MatchLemmas
 pub mod JoinedLemmas
 pub mod MatchingLemmas
 pub mod NextLemmas
+pub mod TakenLemmas
+pub mod ForCallers

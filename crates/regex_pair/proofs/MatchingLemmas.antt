@@ -41,7 +41,8 @@ first_tells : (ends : List (ℕ × ℕ)) (o : Option (ℕ × ℕ)) → o ≡ fir
 first_tells [] o is = ap is_some_match is
 first_tells (x ∷ xs) o is = ap is_some_match is
 
-wanted_tells : (kind : MatchKind) (earliest reverse : Bool) (ends : List (ℕ × ℕ)) (o : Option (ℕ × ℕ)) → IsWanted kind earliest reverse ends o →
+wanted_tells : (kind : MatchKind) (earliest reverse : Bool) (ends : List (ℕ × ℕ)) (o : Option (ℕ × ℕ)) →
+    IsWanted kind earliest reverse ends o →
     is_some_match o ≡ is_filled ends
 wanted_tells kind true reverse ends o is = nearest_tells reverse ends o is
 wanted_tells LeftmostFirst false reverse ends o is = first_tells ends o is
@@ -77,8 +78,10 @@ module _ (r : Reader) (q : Search) (formed : IsWellFormed r.automaton) (within :
   named_tells : (x y : Bool) (name : ℕ) (o u : Option (ℕ × ℕ)) → q.start ≤ q.end → start_name r.automaton q.anchored ≡ Some name →
       scan r (with_earliest x q) ≡ found o → scan r (with_earliest y q) ≡ found u → is_some_match o ≡ is_some_match u
   named_tells x y name o u fits named is too =
-      counted_tells r (with_earliest x q) name o whole (scan_finds r (with_earliest x q) name formed fits within named (low name named) o is)
-      ∙ sym (counted_tells r (with_earliest y q) name u whole (scan_finds r (with_earliest y q) name formed fits within named (low name named) u too))
+      counted_tells r (with_earliest x q) name o whole
+      (scan_finds r (with_earliest x q) name formed fits within named (low name named) o is)
+      ∙ sym (counted_tells r (with_earliest y q) name u whole
+      (scan_finds r (with_earliest y q) name formed fits within named (low name named) u too))
 
   by_name : (x y : Bool) (name : Option ℕ) (o u : Option (ℕ × ℕ)) → q.start ≤ q.end → start_name r.automaton q.anchored ≡ name →
       scan r (with_earliest x q) ≡ found o → scan r (with_earliest y q) ≡ found u → is_some_match o ≡ is_some_match u
@@ -92,7 +95,8 @@ module _ (r : Reader) (q : Search) (formed : IsWellFormed r.automaton) (within :
   both_tell x y o u is too = ⊎_elim
       (λ (fits : q.start ≤ q.end). by_name x y (start_name r.automaton q.anchored) o u fits refl is too)
       (λ (past : q.end < q.start). ap is_some_match
-      (sym (one_found None o (sym (scan_done r (with_earliest x q) past) ∙ is)) ∙ one_found None u (sym (scan_done r (with_earliest y q) past) ∙ too)))
+      (sym (one_found None o (sym (scan_done r (with_earliest x q) past) ∙ is))
+      ∙ one_found None u (sym (scan_done r (with_earliest y q) past) ∙ too)))
       (fits_or_past q.start q.end)
     where
       fits_or_past : (s e : ℕ) → (s ≤ e) ⊎ (e < s)

@@ -7,7 +7,7 @@ use Rattle.search_types.specs.declared.match_error.MatchErrorKind.TheVariants.{G
 use Rattle.search_types.specs.AllAnswers.{is_repeat}
 use Rattle.search_types.specs.Chains.{IsTaken}
 use Rattle.search_types.specs.Found.{Found}
-use Rattle.search_types.specs.Inputs.{Search, IsSpanOf, with_span}
+use Rattle.search_types.specs.Inputs.{Search, IsSpanOf}
 use Rattle.regex_pair.specs.Finding.{Finding, AnswersAt, IsNextFound, IsNextAnswer, IsBehindLast, IsPlaced, finds_next, fails, behind, most_left, search_at}
 use Rattle.regex_pair.specs.Joined.{joined}
 use Rattle.regex_pair.specs.PairAnswers.{AnswersPair, PairGivesUp}
@@ -67,7 +67,8 @@ pub record EndsPast (at : Finding) (f : Found) : Type 0 where
   pub later : most_left (behind at f) < most_left at
 
 no_repeat : (last : ℕ) (f : Found) → (nat_eq f.start f.end && nat_eq f.end last) ≡ false → last ≤ f.start → f.start ≤ f.end → last < f.end
-no_repeat last f new low forward = ⊎_elim (λ (past : last < f.end). past) (λ (not_past : f.end ≤ last). absurd (repeated not_past)) (cases_lt last f.end)
+no_repeat last f new low forward = ⊎_elim (λ (past : last < f.end). past) (λ (not_past : f.end ≤ last). absurd (repeated not_past))
+    (cases_lt last f.end)
   where
     repeated : f.end ≤ last → ⊥
     repeated high =
@@ -96,27 +97,29 @@ next_falls p at f begun placed next =
     subst (λ (over : Bool). EndsPast (record { search = at.search; last = at.last; is_over = over }) f) (sym begun)
     (left_falls p at.search at.last f placed.behind placed.within next.0 next.1 (is_repeat at.last next.0) refl next.2)
 
-pub behind_placed : (p : Pair) (at : Finding) (f : Found) → at.is_over ≡ false → IsPlaced at → IsNextFound p at (Some f) → IsPlaced (behind at f)
+pub behind_placed : (p : Pair) (at : Finding) (f : Found) → at.is_over ≡ false → IsPlaced at → IsNextFound p at (Some f) →
+    IsPlaced (behind at f)
 behind_placed p at f begun placed next =
     let past = next_falls p at f begun placed next in
     let fits = placed.within in
     record { within = (fits.0, omega (arith, past.high)); behind = (refl, past.high) }
 
-pub next_is : (p : Pair) (at : Finding) (o : Option Found) (f : Found) → o ≡ Some f → IsNextFound p at o → IsNextFound p at (Some f)
-next_is p at o f same next = subst (λ (u : Option Found). IsNextFound p at u) same next
+-- the search that is made is the one that is left
+pub next_is : (p : Pair) (at : Finding) (q : Search) (after : PairCache) (o : Option Found) (f : Found) → q ≡ at.search → o ≡ Some f →
+    IsNextAnswer p (record { search = q; last = at.last; is_over = false }) after (Ok o) → IsNextFound p at (Some f)
+next_is p at q after o f made same next =
+    subst (λ (u : Option Found). IsNextFound p at u) same
+    (subst (λ (s : Search). IsNextAnswer p (record { search = s; last = at.last; is_over = false }) after (Ok o)) made next)
+
+pub refused_is : (p : Pair) (at : Finding) (q : Search) (after : PairCache) (e : MatchErrorKind) → q ≡ at.search →
+    IsNextAnswer p (record { search = q; last = at.last; is_over = false }) after (Err e) → IsNextAnswer p at after (Err e)
+refused_is p at q after e made next =
+    subst (λ (s : Search). IsNextAnswer p (record { search = s; last = at.last; is_over = false }) after (Err e)) made next
 
 -- the parts of an iterator, one by one, are what is left behind a match
-pub stands_behind : (at : Finding) (f : Found) (s : Search) (i j : ℕ) → at.is_over ≡ false → s ≡ with_span i at.search.end at.search → i ≡ f.end →
-    j ≡ f.end → record { search = s; last = Some j; is_over = at.is_over } ≡ behind at f
-stands_behind at f s i j begun span here there =
-    λ k. record { search = (span ∙ ap (search_at at.search) here) k; last = Some (there k); is_over = begun k }
-
-pub end_fits : (p : Pair) (at : Finding) (f : Found) (i : ℕ) → at.is_over ≡ false → IsPlaced at → IsNextFound p at (Some f) → i ≡ f.end →
-    IsSpanOf at.search.haystack i at.search.end
-end_fits p at f i begun placed next here =
-    let past = next_falls p at f begun placed next in
-    let fits = placed.within in
-    (fits.0, omega (arith, past.high, here))
+pub stands_behind : (at : Finding) (f : Found) (i : ℕ) → at.is_over ≡ false → i ≡ f.end →
+    record { search = search_at at.search i; last = Some i; is_over = at.is_over } ≡ behind at f
+stands_behind at f i begun here = λ k. record { search = search_at at.search (here k); last = Some (here k); is_over = begun k }
 
 -- ---- one step of an iterator
 
@@ -142,7 +145,8 @@ module _ (old new : FindMatches) (ready : MayGoOn old) (begun : old.is_over ≡ 
   fewer_left f next there = subst (λ (at : Finding). most_left at < items_left old) (sym there)
       (next_falls (searches_by old) (finds_from old) f begun ready.placed next).later
 
-  pub progress_of_match : (f : Found) → IsNextFound (searches_by old) (finds_from old) (Some f) → finds_from new ≡ behind (finds_from old) f →
+  pub progress_of_match : (f : Found) → IsNextFound (searches_by old) (finds_from old) (Some f) →
+      finds_from new ≡ behind (finds_from old) f →
       MakesProgress {A = Result Found MatchErrorKind} MayGoOn (λ it. at_most (items_left it)) old (Some (Ok f)) new
   progress_of_match f next there =
       let on : MayGoOn new = (finds_match f next there).goes_on in record {

@@ -3,6 +3,7 @@ use Rattle.std.specs.Prelude.{◌≡◌, ℕ, Option, Result}
 use Rattle.std.specs.Borrow.{GName}
 use Rattle.search_types.specs.declared.match_error.MatchErrorKind.{MatchErrorKind}
 use Rattle.search_types.specs.Found.{Found}
+use Rattle.search_types.specs.Inputs.{Search}
 use Rattle.regex_pair.specs.declared.find_matches.FindMatches.{FindMatches}
 use Rattle.regex_pair.specs.Finding.{Finding, Finds, IsPlaced, most_left}
 use Rattle.regex_pair.specs.Pairs.{Pair, PairCache, AreCachesOf}
@@ -12,8 +13,11 @@ abbrev pub searches_by : FindMatches → Pair
 searches_by it = it.re.now
 
 -- what is left
+abbrev pub search_of : FindMatches → Search
+search_of it = record { haystack = it.haystack.now; start = it.start; end = it.end; anchored = it.anchored; earliest = it.earliest }
+
 abbrev pub finds_from : FindMatches → Finding
-finds_from it = record { search = it.input; last = it.last; is_over = it.is_over }
+finds_from it = record { search = search_of it; last = it.last; is_over = it.is_over }
 
 -- the caches behind the reference that it holds
 abbrev pub caches_of : FindMatches → PairCache

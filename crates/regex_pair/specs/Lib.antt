@@ -1,7 +1,10 @@
 pub mod Pairs
+pub mod Lending
 pub mod Joined
 pub mod PairAnswers
 pub mod Matching
+pub mod MadeSearches
 pub mod Finding
 pub mod FindSteps
 pub mod PairLaws
+pub mod Taken

@@ -35,6 +35,15 @@ fn back_config() -> Config
         .specialize_start_states(false)
 }
 
+/// The builder of the automaton that finds starts.
+fn back_builder(both: &Builder) -> dfa::Builder
+    ensures { result ≡ changed_by both.now back_options }
+{
+    let mut back = both.dfa;
+    back.configure(back_config());
+    back
+}
+
 impl Builder {
     /// A builder with no option set, as `Builder::new`.
     pub fn new() -> Builder
@@ -77,8 +86,7 @@ impl Builder {
             Ok(ends) => ends,
             Err(e) => return Err(e),
         };
-        let mut back = self.dfa;
-        back.configure(back_config());
+        let back = back_builder(self);
         let starts = match back.build_from_nfa(reverse) {
             Ok(starts) => starts,
             Err(e) => return Err(e),

@@ -1,5 +1,6 @@
 ghost use Rattle.std.specs.Prelude.{◌≡◌, IfOk, OnOk, OnErr};
 ghost use Rattle.std.specs.Borrow.{sem};
+ghost use Rattle.regex_pair.specs.Lending.{LendsForward, LendsReverse};
 ghost use Rattle.regex_pair.specs.Pairs.{AreCachesOf, pair_made_for, pair_usage};
 
 use crate::regex::Regex;
@@ -63,6 +64,39 @@ impl Cache {
         ensures { result.now ≡ self.now.reverse }
     {
         &self.reverse
+    }
+
+    /// The cache of the automaton that finds ends, as `Cache::forward_mut`. The other stays as it is.
+    pub fn forward_mut(&mut self) -> &mut dfa::Cache
+        ensures* lends { sem 𝓛 (LendsForward self.entry result) }
+        ensures value { result.now ≡ self.old.forward }
+    {
+        &mut self.forward
+    }
+
+    /// The cache of the automaton that finds starts, as `Cache::reverse_mut`. The other stays as it is.
+    pub fn reverse_mut(&mut self) -> &mut dfa::Cache
+        ensures* lends { sem 𝓛 (LendsReverse self.entry result) }
+        ensures value { result.now ≡ self.old.reverse }
+    {
+        &mut self.reverse
+    }
+
+    /// Both caches, as `Cache::as_parts`: that of the automaton that finds ends first.
+    pub fn as_parts(&self) -> (&dfa::Cache, &dfa::Cache)
+        ensures forward { result.0.now ≡ self.now.forward }
+        ensures reverse { result.1.now ≡ self.now.reverse }
+    {
+        (&self.forward, &self.reverse)
+    }
+
+    /// Both caches, as `Cache::as_parts_mut`: that of the automaton that finds ends first. A caller who has to know what both
+    /// are afterwards takes [`forward_mut`](Cache::forward_mut) and [`reverse_mut`](Cache::reverse_mut), one after the other.
+    pub fn as_parts_mut(&mut self) -> (&mut dfa::Cache, &mut dfa::Cache)
+        ensures forward { result.0.now ≡ self.old.forward }
+        ensures reverse { result.1.now ≡ self.old.reverse }
+    {
+        (&mut self.forward, &mut self.reverse)
     }
 
     /// The bytes that both are taken to need, as `Cache::memory_usage`: the sum, or the greatest number where that is above it.

@@ -2,6 +2,7 @@
 ghost use Rattle.std.specs.Prelude.{◌≡◌, ◌+◌, ◌<◌, ◌≤◌, false};
 ghost use Rattle.std.specs.Iterator.{at_most};
 ghost use Rattle.search_types.specs.AllAnswers.{is_repeat};
+ghost use Rattle.search_types.specs.Inputs.{IsSpanOf};
 ghost use Rattle.regex_pair.specs.Finding.{finding_all, search_at, IsNextAnswer, IsPlaced};
 ghost use Rattle.regex_pair.specs.FindSteps.{searches_by, finds_from, caches_of, lender_of, items_left, MayGoOn, FindsNext};
 ghost use Rattle.regex_pair.specs.PairAnswers.{AnswersPair};
@@ -9,11 +10,11 @@ ghost use Rattle.regex_pair.specs.Pairs.{AreCachesOf};
 
 use crate::regex::{Cache, Regex};
 use lazy_dfa::Work;
-use search_types::{Input, Match, MatchError, Span};
+use search_types::{Anchored, Input, Match, MatchError, Span};
 use std::marker::Brand;
 use std::sync::ledger::{Blank, Ledger};
 
-/// A search over a fresh count of work, counted.
+/// A search, with a count of its work that is made for it.
 fn search_counted<L: Ledger, M: Ledger>(
     re: &Regex,
     cache: &mut Cache,
@@ -63,6 +64,18 @@ fn is_repeat(last: Option<usize>, found: &Option<Match>) -> bool
     found.start() == found.end() && found.end() == last
 }
 
+/// A search, by its parts.
+fn search_over<'h>(haystack: &'h [u8], span: Span, anchored: Anchored, earliest: bool) -> Input<'h>
+    requires { IsSpanOf haystack.now span.start span.end }
+    ensures { result ≡ record { haystack = haystack.now; start = span.start; end = span.end; anchored = anchored; earliest = earliest } }
+{
+    let mut input = Input::new(haystack);
+    input.set_span(span);
+    input.set_anchored(anchored);
+    input.set_earliest(earliest);
+    input
+}
+
 /// The same search from one place further on.
 fn one_further<'h>(input: &Input<'h>) -> Input<'h>
     requires { input.now.start ≤ input.now.end }
@@ -105,19 +118,29 @@ fn next_answer(
 
 /// An iterator over the matches of a regex in a span, none of which overlap, as `regex_automata::hybrid::regex::FindMatches`.
 ///
-/// Each item is the next match. An empty one at the end of the last match isn't given. A refusal is the last item; behind it
-/// and behind the end comes nothing for good. The caches are of use with the regex after each step.
+/// Each item is the next match. An empty one at the end of the last match isn't given. A refusal is the last item, where the
+/// iterator of the Rust crate panics; behind it and behind the end comes nothing for good.
+///
+/// The caches are the regex's own after each step, whatever it gave, and those that were lent are so once this is gone: a loop
+/// keeps that the iterator may go on (`MayGoOn`), and that the regex (`searches_by`) and the name of the reference
+/// (`lender_of`) are those with which it began.
 #[derive(Drop)]
 pub struct FindMatches<'r, 'c, 'h> {
-    re: &'r Regex,
     cache: &'c mut Cache,
-    input: Input<'h>,
+    re: &'r Regex,
+    // the parts of what is asked: with an `Input` in it, callers wouldn't know the caches once this is gone
+    haystack: &'h [u8],
+    start: usize,
+    end: usize,
+    anchored: Anchored,
+    earliest: bool,
     last: Option<usize>,
     is_over: bool,
 }
 
 impl Regex {
-    /// The matches in a span one after the other, as `Regex::find_iter`.
+    /// The matches in a span one after the other, as `Regex::find_iter`. It has made no search yet. Nobody counts the work of
+    /// its searches.
     pub fn find_iter<'r, 'c, 'h>(
         &'r self,
         cache: &'c mut Cache,
@@ -131,9 +154,13 @@ impl Regex {
         ensures goes_on { MayGoOn result }
     {
         FindMatches {
-            re: self,
             cache,
-            input,
+            re: self,
+            haystack: input.haystack(),
+            start: input.start(),
+            end: input.end(),
+            anchored: input.get_anchored(),
+            earliest: input.get_earliest(),
             last: None,
             is_over: false,
         }
@@ -153,18 +180,24 @@ impl<'r, 'c, 'h> Iterator for FindMatches<'r, 'c, 'h> {
         if self.is_over {
             return None;
         }
-        match next_answer(self.re, self.cache, &self.input, self.last) {
+        let span = Span {
+            start: self.start,
+            end: self.end,
+        };
+        let input = search_over(self.haystack, span, self.anchored, self.earliest);
+        match next_answer(self.re, self.cache, &input, self.last) {
             Ok(Some(found)) => {
-                self.input.set_start(found.end());
-                self.last = Some(found.end());
+                let end = found.end();
+                self.start = end;
+                self.last = Some(end);
                 Some(Ok(found))
             }
             Ok(None) => {
-                self.is_over = true;
+                self.is_over = true; // behind the end
                 None
             }
             Err(e) => {
-                self.is_over = true;
+                self.is_over = true; // behind a refusal
                 Some(Err(e))
             }
         }

@@ -2,8 +2,8 @@
 //!
 //! What a search answers is a function of values that knows no cache: two half searches, joined, in `specs/Joined.antt`. A pair
 //! and its caches are in `Pairs.antt`, what searches over them answer, leave and cost in `PairAnswers.antt`, whether there is a
-//! match in `Matching.antt`, and matches one after the other in `Finding.antt`. Laws are public functions without code in
-//! [`pair_laws`].
+//! match in `Matching.antt`, and matches one after the other in `Finding.antt`; what contracts see of an iterator over them is in
+//! `FindSteps.antt`, and what a loop over it keeps in `Taken.antt`. Laws are public functions without code in [`pair_laws`].
 #![tactic(auto)]
 
 mod builder;

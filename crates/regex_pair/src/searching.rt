@@ -2,7 +2,7 @@
 ghost use Rattle.std.specs.Prelude.{◌≡◌, ◌⊎◌, ◌+◌, ◌*◌, ◌<◌, ◌≤◌, ℕ, true, false, None, IfErr, OnOk};
 ghost use Rattle.search_types.specs.declared.match_error.MatchErrorKind.TheVariants.{NoMemory, NotAPair};
 ghost use Rattle.search_types.specs.Modes.{is_supported};
-ghost use Rattle.lazy_dfa.specs.Caches.{greatest};
+ghost use Rattle.lazy_dfa.specs.Caches.{IsCacheOf, greatest};
 ghost use Rattle.lazy_dfa.specs.ConfigValue.{clears_of};
 ghost use Rattle.lazy_dfa.specs.Dfas.{reader};
 ghost use Rattle.lazy_dfa.specs.Linked.{IsLinked, GrowsOrClears, IsMoved, passes_of};
@@ -10,12 +10,13 @@ ghost use Rattle.lazy_dfa.specs.ScanLaws.{HasNoQuitNear};
 ghost use Rattle.lazy_dfa.specs.SearchAnswers.{told_of, told_by};
 ghost use Rattle.lazy_dfa.specs.Steps.{most_inserts};
 ghost use Rattle.regex_pair.specs.Joined.{back_from, is_start_known, joined};
+ghost use Rattle.regex_pair.specs.MadeSearches.{MakesHalf, MakesBack, FindsEnd, MakesMatch, MakesPair};
 ghost use Rattle.regex_pair.specs.Matching.{AnswersMatch, has_match, match_search};
 ghost use Rattle.regex_pair.specs.PairAnswers.{AnswersPair, ArePathsLinked, GoesBack, IsBackLinked, half_made, back_made};
 ghost use Rattle.regex_pair.specs.Pairs.{AreCachesOf, PairGrowsOrClears, IsPairMoved};
 
 use crate::regex::{Cache, Regex};
-use lazy_dfa::Work;
+use lazy_dfa::{Work, dfa};
 use search_types::{Anchored, HalfMatch, Input, Match, MatchError, MatchErrorKind, Span};
 use std::sync::ledger::Ledger;
 
@@ -69,19 +70,50 @@ fn match_input<'h>(re: &Regex, input: &Input<'h>) -> Input<'h>
     search
 }
 
+/// A half search for an end.
+fn search_end<L: Ledger, M: Ledger>(
+    re: &Regex,
+    cache: &mut dfa::Cache,
+    input: &Input<'_>,
+    work: &mut Work<L, M>,
+) -> Result<Option<HalfMatch>, MatchError>
+    requires own { IsCacheOf re.now.forward cache.old }
+    ensures own { IsCacheOf re.now.forward cache.new }
+    ensures search { MakesHalf re.now.forward input.now cache.old cache.new work.old.determinized work.new.determinized work.old.inserted work.new.inserted result }
+{
+    re.forward().try_search_fwd(cache, input, work)
+}
+
+/// A half search for a start.
+fn search_start<L: Ledger, M: Ledger>(
+    re: &Regex,
+    cache: &mut dfa::Cache,
+    input: &Input<'_>,
+    work: &mut Work<L, M>,
+) -> Result<Option<HalfMatch>, MatchError>
+    requires own { IsCacheOf re.now.reverse cache.old }
+    ensures own { IsCacheOf re.now.reverse cache.new }
+    ensures search { MakesHalf re.now.reverse input.now cache.old cache.new work.old.determinized work.new.determinized work.old.inserted work.new.inserted result }
+{
+    re.reverse().try_search_rev(cache, input, work)
+}
+
 /// The match with an end, by the search back from there.
 fn search_back<L: Ledger, M: Ledger>(
     re: &Regex,
-    cache: &mut Cache,
+    cache: &mut dfa::Cache,
     input: &Input<'_>,
     end: HalfMatch,
     work: &mut Work<L, M>,
 ) -> Result<Option<Match>, MatchError>
-    requires own { AreCachesOf re.now cache.old }
-    ensures own { AreCachesOf re.now cache.new }
+    requires own { IsCacheOf re.now.reverse cache.old }
+    requires from { input.now.start ≤ end.offset }
+    requires within { end.offset ≤ input.now.end }
+    ensures own { IsCacheOf re.now.reverse cache.new }
+    ensures search { MakesBack re.now input.now end cache.old cache.new work.old.determinized work.new.determinized work.old.inserted work.new.inserted result }
 {
     let back = back_input(input, end.offset());
-    let start = match re.reverse.try_search_rev(&mut cache.reverse, &back, work) {
+    let start = match search_start(re, cache, &back, work) {
         Ok(start) => start,
         Err(e) => return Err(e),
     };
@@ -89,6 +121,63 @@ fn search_back<L: Ledger, M: Ledger>(
         return Err(MatchError::new(MatchErrorKind::NotAPair));
     };
     Ok(Some(match_between(start.offset(), end)))
+}
+
+/// A search over both automata.
+fn search<L: Ledger, M: Ledger>(
+    re: &Regex,
+    cache: &mut Cache,
+    input: &Input<'_>,
+    work: &mut Work<L, M>,
+) -> Result<Option<Match>, MatchError>
+    requires own { AreCachesOf re.now cache.old }
+    ensures own { AreCachesOf re.now cache.new }
+    ensures search { MakesPair re.now input.now cache.old cache.new work.old.determinized work.new.determinized work.old.inserted work.new.inserted result }
+{
+    let end = match search_end(re, &mut cache.forward, input, work) {
+        Ok(end) => end,
+        Err(e) => return Err(e),
+    };
+    let Some(end) = end else {
+        return Ok(None);
+    };
+    if is_start_known(re, input, end.offset()) {
+        return Ok(Some(match_between(input.start(), end)));
+    }
+    search_back(re, &mut cache.reverse, input, end, work)
+}
+
+/// Whether a half search finds an end.
+fn finds_end<L: Ledger, M: Ledger>(
+    re: &Regex,
+    cache: &mut dfa::Cache,
+    input: &Input<'_>,
+    work: &mut Work<L, M>,
+) -> Result<bool, MatchError>
+    requires own { IsCacheOf re.now.forward cache.old }
+    ensures own { IsCacheOf re.now.forward cache.new }
+    ensures search { FindsEnd re.now.forward input.now cache.old cache.new work.old.determinized work.new.determinized work.old.inserted work.new.inserted result }
+{
+    let end = match search_end(re, cache, input, work) {
+        Ok(end) => end,
+        Err(e) => return Err(e),
+    };
+    Ok(end.is_some())
+}
+
+/// A search that tells whether there is a match.
+fn search_match<L: Ledger, M: Ledger>(
+    re: &Regex,
+    cache: &mut Cache,
+    input: &Input<'_>,
+    work: &mut Work<L, M>,
+) -> Result<bool, MatchError>
+    requires own { AreCachesOf re.now cache.old }
+    ensures own { AreCachesOf re.now cache.new }
+    ensures search { MakesMatch re.now input.now cache.old cache.new work.old.determinized work.new.determinized work.old.inserted work.new.inserted result }
+{
+    let search = match_input(re, input);
+    finds_end(re, &mut cache.forward, &search, work)
 }
 
 impl Regex {
@@ -134,17 +223,7 @@ impl Regex {
         ensures inserted { work.new.inserted ≤ work.old.inserted + (half_made (reader self.now.forward) input.now * most_inserts self.now.forward +
             back_made self.now input.now * most_inserts self.now.reverse) }
     {
-        let end = match self.forward.try_search_fwd(&mut cache.forward, input, work) {
-            Ok(end) => end,
-            Err(e) => return Err(e),
-        };
-        let Some(end) = end else {
-            return Ok(None);
-        };
-        if is_start_known(self, input, end.offset()) {
-            return Ok(Some(match_between(input.start(), end)));
-        }
-        search_back(self, cache, input, end, work)
+        search(self, cache, input, work)
     }
 
     /// The same as [`try_search`](Regex::try_search), as `Regex::find`.
@@ -201,14 +280,6 @@ impl Regex {
         ensures determinized { work.new.determinized ≤ work.old.determinized + half_made (reader self.now.forward) (match_search (reader self.now.forward) input.now) }
         ensures inserted { work.new.inserted ≤ work.old.inserted + half_made (reader self.now.forward) (match_search (reader self.now.forward) input.now) * most_inserts self.now.forward }
     {
-        let search = match_input(self, input);
-        let end = match self
-            .forward
-            .try_search_fwd(&mut cache.forward, &search, work)
-        {
-            Ok(end) => end,
-            Err(e) => return Err(e),
-        };
-        Ok(end.is_some())
+        search_match(self, cache, input, work)
     }
 }

@@ -1,0 +1,13 @@
+-- What other crates' proofs may cite of this crate's, beside its public functions.
+-- ---- matches one after the other, by steps
+-- nothing is taken at first, one more is by a step that gives it, all are where a step gives nothing, and some at any time
+pub use Rattle.regex_pair.proofs.TakenLemmas.{none_taken, one_more_taken, all_taken, some_taken}
+-- the same by the steps of an iterator
+pub use Rattle.regex_pair.proofs.TakenLemmas.{one_more_by_step, all_by_step}
+-- a chain is a beginning of the list of all answers, and a whole one is all of it
+pub use Rattle.regex_pair.proofs.JoinedLemmas.{chain_begins, chain_is_whole}
+-- ---- what is found
+-- a match lies in its span, and an answer depends on its reach
+pub use Rattle.regex_pair.proofs.JoinedLemmas.{match_lies, joined_by_reach}
+-- an answer that isn't a refusal is the joined one
+pub use Rattle.regex_pair.proofs.NextLemmas.{answer_is_joined}

@@ -1,0 +1,89 @@
+-- Matches that are taken one after the other are a chain of answers, and all of them where the iterator comes to its end: by steps, as
+-- a loop keeps it. Nothing is taken at first, one more is by a step that gives one, and all are where a step gives nothing.
+use Rattle.std.proofs.Common.{◌≡◌, ℕ, Bool, true, false, List, [], ◌∷◌, ◌++◌, Option, Some, None, Result, Ok, Err, refl, sym, ap, ◌∙◌, subst, arith, append-nil, append_assoc}
+use Rattle.search_types.specs.declared.match_error.MatchErrorKind.{MatchErrorKind}
+use Rattle.search_types.specs.Chains.{IsNext, IsChain, IsWholeChain}
+use Rattle.search_types.specs.Found.{Found}
+use Rattle.search_types.specs.Inputs.{Search}
+use Rattle.regex_pair.specs.declared.find_matches.FindMatches.{FindMatches}
+use Rattle.regex_pair.specs.Finding.{Finding, AnswersAt, IsNextFound, Finds, finds_next, finds_none, fails, is_over, finding_all, behind, search_at}
+use Rattle.regex_pair.specs.FindSteps.{FindsNext, searches_by, finds_from, caches_of}
+use Rattle.regex_pair.specs.Pairs.{Pair, PairCache}
+use Rattle.regex_pair.specs.Taken.{AreTaken}
+
+pub none_taken : (p : Pair) (q : Search) → AreTaken p q [] (finding_all q)
+none_taken p q = record { begun = refl; here = refl; chain = λ rest c. c; whole = λ rest c. c }
+
+-- what comes next is the next answer to the search as it was asked
+next_of_search : (p : Pair) (q : Search) (at : Finding) (o : Option Found) → at.search ≡ search_at q at.search.start → IsNextFound p at o →
+    IsNext (AnswersAt p q) at.last at.search.start o
+next_of_search p q at o here next = subst (λ (s : Search). IsNext (AnswersAt p s) at.last at.search.start o) here next
+
+one_behind : (p : Pair) (q : Search) (fs : List Found) (at : Finding) (f : Found) → AreTaken p q fs at → IsNextFound p at (Some f) →
+    AreTaken p q (fs ++ f ∷ []) (behind at f)
+one_behind p q fs at f taken next =
+    let first = next_of_search p q at (Some f) taken.here next in record {
+      begun = refl;
+      here = ap (λ (s : Search). search_at s f.end) taken.here;
+      chain = λ rest c. subst (λ (gs : List Found). IsChain (AnswersAt p q) None q.start gs) (sym (append_assoc fs (f ∷ []) rest))
+          (taken.chain (f ∷ rest) (first, c));
+      whole = λ rest c. subst (λ (gs : List Found). IsWholeChain (AnswersAt p q) None q.start gs) (sym (append_assoc fs (f ∷ []) rest))
+          (taken.whole (f ∷ rest) (first, c));
+    }
+
+abbrev item_of : Result Found MatchErrorKind → Option (Result Found MatchErrorKind)
+item_of r = Some r
+
+abbrev answer_of : Found → Result Found MatchErrorKind
+answer_of f = Ok f
+
+abbrev refusal_of : MatchErrorKind → Result Found MatchErrorKind
+refusal_of e = Err e
+
+same_match : (f g : Found) → item_of (answer_of f) ≡ item_of (answer_of g) → f ≡ g
+same_match f g e = cc
+
+match_is_no_end : (r : Result Found MatchErrorKind) → item_of r ≡ None → ⊥
+match_is_no_end r e = let never : true ≡ false = cc in grind (arith, never)
+
+match_is_no_refusal : (f : Found) (x : MatchErrorKind) → item_of (answer_of f) ≡ item_of (refusal_of x) → ⊥
+match_is_no_refusal f x e = let never : true ≡ false = cc in grind (arith, never)
+
+pub one_more_taken : (p : Pair) (q : Search) (fs : List Found) (at new : Finding) (before after : PairCache) (f : Found) →
+    AreTaken p q fs at →
+    Finds p at new before after (Some (Ok f)) → AreTaken p q (fs ++ f ∷ []) new
+one_more_taken p q fs at new before after f taken (finds_next g begun next item there) =
+    subst (AreTaken p q (fs ++ f ∷ [])) (sym there)
+    (subst (λ (h : Found). AreTaken p q (fs ++ h ∷ []) (behind at g)) (sym (same_match f g item)) (one_behind p q fs at g taken next))
+one_more_taken p q fs at new before after f taken (finds_none begun next item over) = absurd (match_is_no_end (answer_of f) item)
+one_more_taken p q fs at new before after f taken (fails k e begun asked refused item over) = absurd (match_is_no_refusal f e item)
+one_more_taken p q fs at new before after f taken (is_over over item there same) = absurd (match_is_no_end (answer_of f) item)
+
+pub all_taken : (p : Pair) (q : Search) (fs : List Found) (at new : Finding) (before after : PairCache) → AreTaken p q fs at →
+    Finds p at new before after None → IsWholeChain (AnswersAt p q) None q.start fs
+all_taken p q fs at new before after taken (finds_next g begun next item there) = absurd (match_is_no_end (answer_of g) (sym item))
+all_taken p q fs at new before after taken (finds_none begun next item over) =
+    subst (λ (gs : List Found). IsWholeChain (AnswersAt p q) None q.start gs) (append-nil fs)
+    (taken.whole [] (next_of_search p q at None taken.here next))
+all_taken p q fs at new before after taken (fails k e begun asked refused item over) = absurd (match_is_no_end (refusal_of e) (sym item))
+all_taken p q fs at new before after taken (is_over over item there same) =
+    let never : true ≡ false = sym over ∙ taken.begun in absurd (grind (arith, never))
+
+-- whatever comes next, what was taken is a chain
+pub some_taken : (p : Pair) (q : Search) (fs : List Found) (at : Finding) → AreTaken p q fs at → IsChain (AnswersAt p q) None q.start fs
+some_taken p q fs at taken =
+    subst (λ (gs : List Found). IsChain (AnswersAt p q) None q.start gs) (append-nil fs) (taken.chain [] tt)
+
+-- ---- by the steps of an iterator over this pair
+
+pub one_more_by_step : (p : Pair) (q : Search) (fs : List Found) (old new : FindMatches) (f : Found) → searches_by old ≡ p →
+    AreTaken p q fs (finds_from old) → FindsNext old (Some (Ok f)) new → AreTaken p q (fs ++ f ∷ []) (finds_from new)
+one_more_by_step p q fs old new f same taken step =
+    one_more_taken p q fs (finds_from old) (finds_from new) (caches_of old) (caches_of new) f taken
+    (subst (λ (r : Pair). Finds r (finds_from old) (finds_from new) (caches_of old) (caches_of new) (Some (Ok f))) same step.finds)
+
+pub all_by_step : (p : Pair) (q : Search) (fs : List Found) (old new : FindMatches) → searches_by old ≡ p →
+    AreTaken p q fs (finds_from old) → FindsNext old None new → IsWholeChain (AnswersAt p q) None q.start fs
+all_by_step p q fs old new same taken step =
+    all_taken p q fs (finds_from old) (finds_from new) (caches_of old) (caches_of new) taken
+    (subst (λ (r : Pair). Finds r (finds_from old) (finds_from new) (caches_of old) (caches_of new) None) same step.finds)

@@ -1,0 +1,92 @@
+-- What the functions that make the half searches of a pair, one after the other, say of what they did.
+use Rattle.std.specs.Prelude.{◌≡◌, ◌⊎◌, ℕ, ◌+◌, ◌*◌, ◌<◌, ◌≤◌, Bool, true, false, Option, Some, None, Result, Ok, Err, IfErr, OnOk}
+use Rattle.search_types.specs.declared.match_error.MatchErrorKind.{MatchErrorKind}
+use Rattle.search_types.specs.declared.match_error.MatchErrorKind.TheVariants.{NoMemory, NotAPair}
+use Rattle.search_types.specs.Found.{Found, HalfFound}
+use Rattle.search_types.specs.Inputs.{Search}
+use Rattle.search_types.specs.Modes.{is_supported}
+use Rattle.lazy_dfa.specs.Caches.{CacheValue, greatest}
+use Rattle.lazy_dfa.specs.ConfigValue.{clears_of}
+use Rattle.lazy_dfa.specs.Dfas.{Dfa, reader}
+use Rattle.lazy_dfa.specs.Linked.{IsLinked, GrowsOrClears, IsMoved, passes_of}
+use Rattle.lazy_dfa.specs.ScanLaws.{HasNoQuitNear}
+use Rattle.lazy_dfa.specs.Scans.{scan}
+use Rattle.lazy_dfa.specs.SearchAnswers.{Answers, told, told_of, told_by}
+use Rattle.lazy_dfa.specs.Steps.{most_inserts}
+use Rattle.regex_pair.specs.Joined.{back_from, joined}
+use Rattle.regex_pair.specs.Matching.{AnswersMatch, has_match, match_search}
+use Rattle.regex_pair.specs.PairAnswers.{AnswersPair, ArePathsLinked, GoesBack, IsBackLinked, half_made, back_made}
+use Rattle.regex_pair.specs.Pairs.{Pair, PairCache, PairGrowsOrClears, IsPairMoved}
+
+-- one half search: what its contract says, whichever way it goes
+pub record MakesHalf (d : Dfa) (q : Search) (old new : CacheValue) (m1 m2 n1 n2 : ℕ) (result : Result (Option HalfFound) MatchErrorKind) : Type 0 where
+  pub answer : Answers d new q result
+  pub sure : clears_of d.options ≡ None → is_supported (reader d).starts_for_each_pattern q.anchored ≡ true →
+      HasNoQuitNear (reader d) q.haystack q.start q.end → IfErr result (λ e. e ≡ NoMemory)
+  pub kept : GrowsOrClears d old new
+  pub linked : OnOk result (new.clears ≡ old.clears → old.clears < greatest → IsLinked d new q)
+  pub is_told : OnOk result (new.clears ≡ old.clears → old.clears < greatest → told_of new ≡ told_by (reader d) q (told_of old) (passes_of (reader d) q))
+  pub moved : IsLinked d old q → IsMoved old new
+  pub free : IsLinked d old q → (m2 ≡ m1) × (n2 ≡ n1)
+  pub sure_if_linked : IsLinked d old q → result ≡ told (scan (reader d) q)
+  pub determinized : m2 ≤ m1 + half_made (reader d) q
+  pub inserted : n2 ≤ n1 + half_made (reader d) q * most_inserts d
+
+-- the match with an end by what code answers of its start
+abbrev pub with_half : HalfFound → Result (Option HalfFound) MatchErrorKind → Result (Option Found) MatchErrorKind
+with_half e (Ok (Some s)) = Ok (Some (record { pattern = e.pattern; start = s.offset; end = e.offset }))
+with_half e (Ok None) = Err NotAPair
+with_half e (Err x) = Err x
+
+-- the search back from an end
+pub record MakesBack (p : Pair) (q : Search) (e : HalfFound) (old new : CacheValue) (m1 m2 n1 n2 : ℕ) (result : Result (Option Found) MatchErrorKind) : Type 0 where
+  pub half : Result (Option HalfFound) MatchErrorKind
+  pub made : MakesHalf p.reverse (back_from q e.offset) old new m1 m2 n1 n2 half
+  pub answer : result ≡ with_half e half
+
+-- whether code that looks for an end finds one
+abbrev pub is_some_half : Result (Option HalfFound) MatchErrorKind → Result Bool MatchErrorKind
+is_some_half (Ok (Some e)) = Ok true
+is_some_half (Ok None) = Ok false
+is_some_half (Err x) = Err x
+
+-- a half search that tells whether there is an end
+pub record FindsEnd (d : Dfa) (q : Search) (old new : CacheValue) (m1 m2 n1 n2 : ℕ) (result : Result Bool MatchErrorKind) : Type 0 where
+  pub half : Result (Option HalfFound) MatchErrorKind
+  pub made : MakesHalf d q old new m1 m2 n1 n2 half
+  pub answer : result ≡ is_some_half half
+
+-- a search over both
+pub record MakesPair (p : Pair) (q : Search) (old new : PairCache) (m1 m2 n1 n2 : ℕ) (result : Result (Option Found) MatchErrorKind) : Type 0 where
+  pub answer : AnswersPair p new q result
+  pub sure : clears_of p.forward.options ≡ None → clears_of p.reverse.options ≡ None →
+      is_supported (reader p.forward).starts_for_each_pattern q.anchored ≡ true →
+      HasNoQuitNear (reader p.forward) q.haystack q.start q.end → HasNoQuitNear (reader p.reverse) q.haystack q.start q.end →
+      IfErr result (λ e. (e ≡ NoMemory) ⊎ (e ≡ NotAPair))
+  pub kept : PairGrowsOrClears p old new
+  pub untouched : ((e : ℕ × ℕ) → GoesBack p q e → ⊥) → new.reverse ≡ old.reverse
+  pub linked : OnOk result (new.forward.clears ≡ old.forward.clears → old.forward.clears < greatest → IsLinked p.forward new.forward q)
+  pub back_linked : OnOk result (new.reverse.clears ≡ old.reverse.clears → old.reverse.clears < greatest → IsBackLinked p new.reverse q)
+  pub is_told : OnOk result (new.forward.clears ≡ old.forward.clears → old.forward.clears < greatest →
+      told_of new.forward ≡ told_by (reader p.forward) q (told_of old.forward) (passes_of (reader p.forward) q))
+  pub back_told : OnOk result (new.reverse.clears ≡ old.reverse.clears → old.reverse.clears < greatest → (e : ℕ × ℕ) → GoesBack p q e →
+      told_of new.reverse ≡ told_by (reader p.reverse) (back_from q e.0) (told_of old.reverse) (passes_of (reader p.reverse) (back_from q e.0)))
+  pub moved : ArePathsLinked p old q → IsPairMoved old new
+  pub free : ArePathsLinked p old q → (m2 ≡ m1) × (n2 ≡ n1)
+  pub sure_if_linked : ArePathsLinked p old q → result ≡ joined p q
+  pub determinized : m2 ≤ m1 + (half_made (reader p.forward) q + back_made p q)
+  pub inserted : n2 ≤ n1 + (half_made (reader p.forward) q * most_inserts p.forward + back_made p q * most_inserts p.reverse)
+
+-- the search that tells whether there is a match
+pub record MakesMatch (p : Pair) (q : Search) (old new : PairCache) (m1 m2 n1 n2 : ℕ) (result : Result Bool MatchErrorKind) : Type 0 where
+  pub answer : AnswersMatch p new q result
+  pub sure : clears_of p.forward.options ≡ None → is_supported (reader p.forward).starts_for_each_pattern q.anchored ≡ true →
+      HasNoQuitNear (reader p.forward) q.haystack q.start q.end → IfErr result (λ e. e ≡ NoMemory)
+  pub kept : GrowsOrClears p.forward old.forward new.forward
+  pub untouched : new.reverse ≡ old.reverse
+  pub linked : OnOk result (new.forward.clears ≡ old.forward.clears → old.forward.clears < greatest → IsLinked p.forward new.forward (match_search (reader p.forward) q))
+  pub moved : IsLinked p.forward old.forward (match_search (reader p.forward) q) → IsMoved old.forward new.forward
+  pub free : IsLinked p.forward old.forward (match_search (reader p.forward) q) → (m2 ≡ m1) × (n2 ≡ n1)
+  pub sure_if_linked : IsLinked p.forward old.forward (match_search (reader p.forward) q) → result ≡ has_match p q
+  pub determinized : m2 ≤ m1 + half_made (reader p.forward) (match_search (reader p.forward) q)
+  pub inserted : n2 ≤ n1 + half_made (reader p.forward) (match_search (reader p.forward) q) * most_inserts p.forward
