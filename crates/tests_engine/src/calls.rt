@@ -28,11 +28,13 @@ pub(crate) enum Call {
     Search(Over, Found),
     Earliest(Over, Found),
     /// The calls of a walk over these bytes tell this, one by one, and so do those where the earliest end is enough.
-    Walk(Over, [Found; 5]),
-    EarliestWalk(Over, [Found; 5]),
-    /// The patterns that match are added to a set, or those of the first end; then it has these, and this was refused.
-    Which(Over, Room, Found),
-    EarliestWhich(Over, Room, Found),
+    Walk(Over, Ends),
+    EarliestWalk(Over, Ends),
+    /// The patterns that match are added to a set, or that of the first end; then it has these.
+    Which(Over, Room),
+    EarliestWhich(Over, Room),
+    /// What was added by the time that it was refused stays.
+    NoWhich(Over, Room, MatchErrorKind),
     /// The cache is made anew.
     Reset,
     /// A search starts, has come to a place, and ends.
@@ -75,12 +77,25 @@ pub(crate) enum Found {
     Refused(MatchErrorKind),
 }
 
-/// A set of patterns with room for so many: whether it has the pattern 0 at first, and which ones it has then.
+/// What a walk tells: these ends, and then nothing for good, or this refusal for good.
+#[derive(Clone, Copy)]
+pub(crate) enum Ends {
+    Nothing,
+    One(Found),
+    Two(Found, Found),
+    Three(Found, Found, Found),
+    Refused(MatchErrorKind),
+    Then(Found, MatchErrorKind),
+}
+
+/// A set of patterns with room for so many: whether it has the pattern 0 at first, and which of three it has then.
 #[derive(Clone, Copy)]
 pub(crate) struct Room {
     pub(crate) capacity: u8,
     pub(crate) first: bool,
-    pub(crate) members: [bool; 3],
+    pub(crate) zero: bool,
+    pub(crate) one: bool,
+    pub(crate) two: bool,
 }
 
 /// A haystack.
@@ -276,18 +291,64 @@ fn input_of(over: Over, earliest: bool) -> Option<Input<'static>> {
     Some(input.span(span).earliest(earliest))
 }
 
+/// What a call of a walk tells, by the number of calls before it.
+fn told(ends: &Ends, before: usize) -> Found {
+    match *ends {
+        Ends::Nothing => Found::Nothing,
+        Ends::One(first) => told_of_three(first, Found::Nothing, Found::Nothing, before),
+        Ends::Two(first, second) => told_of_three(first, second, Found::Nothing, before),
+        Ends::Three(first, second, third) => told_of_three(first, second, third, before),
+        Ends::Refused(kind) => Found::Refused(kind),
+        Ends::Then(first, kind) => told_before(first, kind, before),
+    }
+}
+
+/// Behind three ends nothing is told.
+fn told_of_three(first: Found, second: Found, third: Found, before: usize) -> Found {
+    match before {
+        0 => first,
+        1 => second,
+        2 => third,
+        _ => Found::Nothing,
+    }
+}
+
+/// Behind one end a walk is refused.
+fn told_before(first: Found, kind: MatchErrorKind, before: usize) -> Found {
+    if before == 0 {
+        first
+    } else {
+        Found::Refused(kind)
+    }
+}
+
 /// Whether a walk tells this.
-fn walks(machine: &mut Machine, over: Over, earliest: bool, wanted: &[Found]) -> bool {
+fn walks(machine: &mut Machine, over: Over, earliest: bool, ends: &Ends) -> bool {
+    let Some(input) = input_of(over, earliest) else {
+        return false;
+    };
+    let wanted = [
+        told(ends, 0),
+        told(ends, 1),
+        told(ends, 2),
+        told(ends, 3),
+        told(ends, 4),
+    ];
+    machine.walks(&input, &wanted)
+}
+
+/// Whether a set of patterns gets these.
+fn adds(machine: &mut Machine, over: Over, earliest: bool, room: Room) -> bool {
     match input_of(over, earliest) {
-        Some(input) => machine.walks(&input, wanted),
+        Some(input) => machine.adds(&input, room, Found::Nothing),
         None => false,
     }
 }
 
-/// Whether a set of patterns gets these.
-fn adds(machine: &mut Machine, over: Over, earliest: bool, room: Room, wanted: Found) -> bool {
-    match input_of(over, earliest) {
-        Some(input) => machine.adds(&input, room, wanted),
+/// Whether it does so up to a refusal.
+fn adds_before(machine: &mut Machine, over: Over, room: Room, kind: MatchErrorKind) -> bool {
+    match input_of(over, false) {
+        Some(input) => machine.adds(&input, room, Found::Refused(kind)),
         None => false,
     }
 }
@@ -297,8 +358,9 @@ fn is_walked(machine: &mut Machine, call: &Call) -> bool {
     match *call {
         Call::Walk(over, wanted) => walks(machine, over, false, &wanted),
         Call::EarliestWalk(over, wanted) => walks(machine, over, true, &wanted),
-        Call::Which(over, room, wanted) => adds(machine, over, false, room, wanted),
-        Call::EarliestWhich(over, room, wanted) => adds(machine, over, true, room, wanted),
+        Call::Which(over, room) => adds(machine, over, false, room),
+        Call::EarliestWhich(over, room) => adds(machine, over, true, room),
+        Call::NoWhich(over, room, kind) => adds_before(machine, over, room, kind),
         _ => true,
     }
 }

@@ -210,12 +210,13 @@ fn set_of(alloc: Global, room: Room) -> Option<PatternSet> {
 
 /// Whether the set has the patterns that it should have.
 fn has_members(patterns: &PatternSet, room: Room) -> bool {
-    for (pattern, wanted) in room.members.iter().enumerate() {
-        if patterns.contains(PatternID::from(pattern as u8)) != *wanted {
-            return false;
-        }
+    if patterns.contains(PatternID::from(0u8)) != room.zero {
+        return false;
     }
-    true
+    if patterns.contains(PatternID::from(1u8)) != room.one {
+        return false;
+    }
+    patterns.contains(PatternID::from(2u8)) == room.two
 }
 
 /// Whether the answer is this refusal, or none.

@@ -14,8 +14,8 @@ pub(crate) enum Call {
     /// The one for the earliest end does.
     Earliest(Over, Found),
     /// The iterator over the matches gives this, one by one, and then nothing for good; and so does the one for earliest ends.
-    Each(Over, [Found; 5]),
-    EarliestEach(Over, [Found; 5]),
+    Each(Over, Items),
+    EarliestEach(Over, Items),
     /// There is a match, or none, whether the earliest end is asked for or not.
     IsMatch(Over, bool),
     /// That is refused.
@@ -24,6 +24,15 @@ pub(crate) enum Call {
     Reset,
     /// So many bytes are needed by each cache, and their sum by both.
     Usage(usize, usize),
+}
+
+/// What an iterator gives, before nothing for good.
+#[derive(Clone, Copy)]
+pub(crate) enum Items {
+    Nothing,
+    One(Found),
+    Two(Found, Found),
+    Three(Found, Found, Found),
 }
 
 /// What a search finds.
@@ -179,12 +188,39 @@ pub(crate) fn is_item(item: Option<Result<Match, MatchError>>, wanted: Found) ->
     }
 }
 
-/// Whether an iterator gives this.
-fn gives(machine: &mut Machine, over: Over, earliest: bool, wanted: &[Found]) -> bool {
-    match input_of(over, earliest) {
-        Some(input) => machine.gives(input, wanted),
-        None => false,
+/// The item behind so many others.
+fn item(items: &Items, before: usize) -> Found {
+    match *items {
+        Items::Nothing => Found::Nothing,
+        Items::One(first) => item_of_three(first, Found::Nothing, Found::Nothing, before),
+        Items::Two(first, second) => item_of_three(first, second, Found::Nothing, before),
+        Items::Three(first, second, third) => item_of_three(first, second, third, before),
     }
+}
+
+/// Behind three there is none.
+fn item_of_three(first: Found, second: Found, third: Found, before: usize) -> Found {
+    match before {
+        0 => first,
+        1 => second,
+        2 => third,
+        _ => Found::Nothing,
+    }
+}
+
+/// Whether an iterator gives this.
+fn gives(machine: &mut Machine, over: Over, earliest: bool, items: &Items) -> bool {
+    let Some(input) = input_of(over, earliest) else {
+        return false;
+    };
+    let wanted = [
+        item(items, 0),
+        item(items, 1),
+        item(items, 2),
+        item(items, 3),
+        item(items, 4),
+    ];
+    machine.gives(input, &wanted)
 }
 
 /// Whether it is told so that there is a match.

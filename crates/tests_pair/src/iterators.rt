@@ -2,45 +2,32 @@
 use crate::automata::{
     Node, any, any_place, by_characters, choice, letter, many, pair, patterns, some,
 };
-use crate::calls::{Call, Found, Text, answers, at, in_mode, on, quit};
+use crate::calls::{Call, Found, Items, Text, answers, at, in_mode, on, quit};
 use lazy_dfa::dfa::Config;
 use search_types::{Anchored, MatchErrorKind};
 use std::test::Fail;
 
-/// Nothing for good behind two items.
-fn two_items(first: Found, second: Found) -> [Found; 5] {
-    let none = Found::Nothing;
-    [first, second, none, none, none]
-}
-
-/// Behind one.
-fn one_item(item: Found) -> [Found; 5] {
-    two_items(item, Found::Nothing)
-}
-
 /// Of `a`. An anchored one goes on where the last match ends.
 fn of_letter() -> [Call; 6] {
     [
-        Call::Each(on(Text::Aa, 0, 2), two_items(at(0, 1), at(1, 2))),
-        Call::Each(on(Text::Xaa, 0, 3), two_items(at(1, 2), at(2, 3))),
-        Call::Each(on(Text::Xaa, 0, 2), one_item(at(1, 2))),
-        Call::Each(on(Text::Xx, 0, 2), [Found::Nothing; 5]),
-        Call::Each(on(Text::Aa, 2, 1), [Found::Nothing; 5]),
+        Call::Each(on(Text::Aa, 0, 2), Items::Two(at(0, 1), at(1, 2))),
+        Call::Each(on(Text::Xaa, 0, 3), Items::Two(at(1, 2), at(2, 3))),
+        Call::Each(on(Text::Xaa, 0, 2), Items::One(at(1, 2))),
+        Call::Each(on(Text::Xx, 0, 2), Items::Nothing),
+        Call::Each(on(Text::Aa, 2, 1), Items::Nothing),
         Call::Each(
             in_mode(Text::Aab, 0, 3, Anchored::Yes),
-            two_items(at(0, 1), at(1, 2)),
+            Items::Two(at(0, 1), at(1, 2)),
         ),
     ]
 }
 
 /// Of any number of `a`: an empty match at the end of the last one isn't given.
 fn of_many() -> [Call; 4] {
-    let none = Found::Nothing;
-    let three = [at(0, 0), at(1, 3), at(4, 4), none, none];
     [
-        Call::Each(on(Text::Baab, 0, 4), three),
-        Call::Each(on(Text::Baab, 1, 3), one_item(at(1, 3))),
-        Call::Each(on(Text::Empty, 0, 0), one_item(at(0, 0))),
+        Call::Each(on(Text::Baab, 0, 4), Items::Three(at(0, 0), at(1, 3), at(4, 4))),
+        Call::Each(on(Text::Baab, 1, 3), Items::One(at(1, 3))),
+        Call::Each(on(Text::Empty, 0, 0), Items::One(at(0, 0))),
         Call::Search(on(Text::Baab, 1, 4), at(1, 3)),
     ]
 }
@@ -48,8 +35,8 @@ fn of_many() -> [Call; 4] {
 /// Of `a` once or more.
 fn of_some() -> [Call; 2] {
     [
-        Call::Each(on(Text::Xaa, 0, 3), one_item(at(1, 3))),
-        Call::EarliestEach(on(Text::Xaa, 0, 3), two_items(at(1, 2), at(2, 3))),
+        Call::Each(on(Text::Xaa, 0, 3), Items::One(at(1, 3))),
+        Call::EarliestEach(on(Text::Xaa, 0, 3), Items::Two(at(1, 2), at(2, 3))),
     ]
 }
 
@@ -57,13 +44,13 @@ fn of_some() -> [Call; 2] {
 fn of_either() -> [Call; 1] {
     [Call::Each(
         on(Text::Abcd, 0, 4),
-        two_items(at(0, 1), Found::At(1, 1, 2)),
+        Items::Two(at(0, 1), Found::At(1, 1, 2)),
     )]
 }
 
 /// Of the empty pattern by characters.
 fn of_nothing() -> [Call; 1] {
-    [Call::Each(on(Text::Beta, 0, 2), two_items(at(0, 0), at(2, 2)))]
+    [Call::Each(on(Text::Beta, 0, 2), Items::Two(at(0, 0), at(2, 2)))]
 }
 
 #[test]
@@ -104,8 +91,8 @@ fn matches(rt: HostRuntime) -> Result<(), Fail> {
 fn up_to_quits() -> [Call; 3] {
     let refused = Found::Refused(quit(b'd', 3));
     [
-        Call::Each(on(Text::Abd, 0, 3), one_item(Found::Refused(quit(b'd', 2)))),
-        Call::Each(on(Text::Abcd, 0, 4), two_items(at(0, 1), refused)),
+        Call::Each(on(Text::Abd, 0, 3), Items::One(Found::Refused(quit(b'd', 2)))),
+        Call::Each(on(Text::Abcd, 0, 4), Items::Two(at(0, 1), refused)),
         Call::Search(on(Text::Aa, 0, 2), at(0, 1)),
     ]
 }
@@ -113,13 +100,13 @@ fn up_to_quits() -> [Call; 3] {
 /// Of any number of `a`: the second search from 1 on is a repeat, and the one from 2 on comes to `d`.
 fn up_to_quits_behind_repeats() -> [Call; 1] {
     let refused = Found::Refused(quit(b'd', 3));
-    [Call::Each(on(Text::Abcd, 0, 4), two_items(at(0, 1), refused))]
+    [Call::Each(on(Text::Abcd, 0, 4), Items::Two(at(0, 1), refused))]
 }
 
 /// The ends of `a` with the starts of `b`.
 fn of_two_kinds() -> [Call; 1] {
     let refused = Found::Refused(MatchErrorKind::NotAPair);
-    [Call::Each(on(Text::Xaa, 0, 3), one_item(refused))]
+    [Call::Each(on(Text::Xaa, 0, 3), Items::One(refused))]
 }
 
 #[test]

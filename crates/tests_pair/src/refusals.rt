@@ -8,12 +8,21 @@ use search_types::{Anchored, MatchErrorKind, MatchKind};
 use std::alloc::Global;
 use std::test::Fail;
 
+/// Two automata that aren't of the same patterns.
+fn no_pair() -> Found {
+    Found::Refused(MatchErrorKind::NotAPair)
+}
+
+/// A search that gives up at this place.
+fn gives_up(offset: usize) -> MatchErrorKind {
+    MatchErrorKind::GaveUp { offset }
+}
+
 /// The ends of `a` with the starts of `b`: no start is found, but where it is known it isn't looked for.
 fn of_two_kinds() -> [Call; 5] {
-    let refused = Found::Refused(MatchErrorKind::NotAPair);
     [
-        Call::Search(on(Text::Xa, 0, 2), refused),
-        Call::Search(on(Text::A, 0, 1), refused),
+        Call::Search(on(Text::Xa, 0, 2), no_pair()),
+        Call::Search(on(Text::A, 0, 1), no_pair()),
         Call::IsMatch(on(Text::Xa, 0, 2), true),
         Call::Search(in_mode(Text::Aa, 0, 2, Anchored::Yes), at(0, 1)),
         Call::Search(on(Text::Xx, 0, 2), Found::Nothing),
@@ -39,11 +48,10 @@ fn in_order() -> [Call; 5] {
 
 /// There is no room for the state behind `b`, and no clear is allowed.
 fn ends_give_up() -> [Call; 4] {
-    let refusal = MatchErrorKind::GaveUp { offset: 1 };
     [
         Call::Search(on(Text::Xx, 0, 2), Found::Nothing),
-        Call::Search(on(Text::Ab, 0, 2), Found::Refused(refusal)),
-        Call::NoAnswer(on(Text::Ab, 0, 2), refusal),
+        Call::Search(on(Text::Ab, 0, 2), Found::Refused(gives_up(1))),
+        Call::NoAnswer(on(Text::Ab, 0, 2), gives_up(1)),
         Call::Usage(445, 316),
     ]
 }
@@ -89,10 +97,9 @@ fn starts_quit() -> [Call; 4] {
 
 /// It has room for two of its three states, of 62, 62 and 61 bytes.
 fn starts_give_up() -> [Call; 4] {
-    let refusal = Found::Refused(MatchErrorKind::GaveUp { offset: 0 });
     [
-        Call::Search(on(Text::Xa, 0, 2), refusal),
-        Call::Search(on(Text::Ab, 0, 2), refusal),
+        Call::Search(on(Text::Xa, 0, 2), Found::Refused(gives_up(0))),
+        Call::Search(on(Text::Ab, 0, 2), Found::Refused(gives_up(0))),
         Call::IsMatch(on(Text::Xa, 0, 2), true),
         Call::Usage(506, 440),
     ]
