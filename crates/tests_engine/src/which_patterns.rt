@@ -65,7 +65,7 @@ fn by_inputs() -> [Call; 7] {
         Call::EarliestWhich(on(Text::Ba, 0, 2), room(3, false, true, false)),
         Call::EarliestWhich(on(Text::Xx, 0, 2), gets_none(3)),
         Call::Which(on(Text::Ab, 2, 1), with_first(3, false)),
-        Call::Which(
+        Call::NoWhich(
             over(Text::Ab, 0, 2, only(1)),
             with_first(3, false),
             no_mode(),
