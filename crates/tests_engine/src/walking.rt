@@ -157,9 +157,18 @@ fn is_kept<L: Ledger, M: Ledger>(
     ensures own { IsCacheOf dfa.now cache.new }
     ensures kept { result ≡ true → (q : Search) (w : Walk) → IsWalk dfa.now cache.old q w → IsWalk dfa.now cache.new q w }
 {
-    let clears = cache.clear_count();
-    let searched = dfa.try_search_fwd(cache, other, work);
-    searched.is_ok() && cache.clear_count() == clears && clears < usize::MAX
+    let before = cache.clear_count();
+    if before == usize::MAX {
+        return false;
+    }
+    if dfa.try_search_fwd(cache, other, work).is_err() {
+        return false;
+    }
+    let behind = cache.clear_count();
+    if behind != before {
+        return false;
+    }
+    true
 }
 
 /// A walk with other searches between its calls, counted.
