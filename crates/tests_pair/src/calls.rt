@@ -254,18 +254,23 @@ fn needs(machine: &Machine, forward: usize, reverse: usize) -> bool {
 /// Whether a call answers what it should.
 fn is_answered(machine: &mut Machine, call: &Call) -> bool {
     match *call {
-        Call::Search(over, wanted) => {
-            finds(machine, over, false, false, wanted) && finds(machine, over, false, true, wanted)
-        }
+        Call::Search(over, wanted) => finds(machine, over, false, false, wanted),
         Call::Earliest(over, wanted) => finds(machine, over, true, false, wanted),
         Call::Each(over, wanted) => gives(machine, over, false, &wanted),
         Call::EarliestEach(over, wanted) => gives(machine, over, true, &wanted),
-        Call::IsMatch(over, wanted) => {
-            tells(machine, over, false, wanted) && tells(machine, over, true, wanted)
-        }
+        Call::IsMatch(over, wanted) => tells(machine, over, false, wanted),
         Call::NoAnswer(over, wanted) => is_refused(machine, over, wanted),
         Call::Reset => machine.reset().is_ok(),
         Call::Usage(forward, reverse) => needs(machine, forward, reverse),
+    }
+}
+
+/// Whether a search does by its other name too, and for the earliest end; true of the other calls.
+fn is_answered_again(machine: &mut Machine, call: &Call) -> bool {
+    match *call {
+        Call::Search(over, wanted) => finds(machine, over, false, true, wanted),
+        Call::IsMatch(over, wanted) => tells(machine, over, true, wanted),
+        _ => true,
     }
 }
 
@@ -273,6 +278,9 @@ fn is_answered(machine: &mut Machine, call: &Call) -> bool {
 pub(crate) fn are_answered(machine: &mut Machine, calls: &[Call]) -> bool {
     for call in calls {
         if !is_answered(machine, call) {
+            return false;
+        }
+        if !is_answered_again(machine, call) {
             return false;
         }
     }

@@ -25,7 +25,10 @@ fn of_letter() -> [Call; 6] {
 /// Of any number of `a`: an empty match at the end of the last one isn't given.
 fn of_many() -> [Call; 4] {
     [
-        Call::Each(on(Text::Baab, 0, 4), Items::Three(at(0, 0), at(1, 3), at(4, 4))),
+        Call::Each(
+            on(Text::Baab, 0, 4),
+            Items::Three(at(0, 0), at(1, 3), at(4, 4)),
+        ),
         Call::Each(on(Text::Baab, 1, 3), Items::One(at(1, 3))),
         Call::Each(on(Text::Empty, 0, 0), Items::One(at(0, 0))),
         Call::Search(on(Text::Baab, 1, 4), at(1, 3)),
@@ -91,7 +94,10 @@ fn matches(rt: HostRuntime) -> Result<(), Fail> {
 fn up_to_quits() -> [Call; 3] {
     let refused = Found::Refused(quit(b'd', 3));
     [
-        Call::Each(on(Text::Abd, 0, 3), Items::One(Found::Refused(quit(b'd', 2)))),
+        Call::Each(
+            on(Text::Abd, 0, 3),
+            Items::One(Found::Refused(quit(b'd', 2))),
+        ),
         Call::Each(on(Text::Abcd, 0, 4), Items::Two(at(0, 1), refused)),
         Call::Search(on(Text::Aa, 0, 2), at(0, 1)),
     ]
