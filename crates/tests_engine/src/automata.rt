@@ -95,6 +95,16 @@ pub(crate) fn letters(
     built(&builder, anchored, prefix)
 }
 
+/// The same read downwards.
+pub(crate) fn letters_down(alloc: Global, letters: &[u8]) -> Result<NFA, NfaError> {
+    let mut builder = Builder::new(alloc);
+    builder.set_reverse(true);
+    let starts = patterns(alloc, &mut builder, letters, None)?;
+    let anchored = builder.add_union(starts)?;
+    let prefix = any_place(alloc, &mut builder, anchored)?;
+    built(&builder, anchored, prefix)
+}
+
 /// Starts at any place what starts in the state that was added last, the first place preferred.
 pub(crate) fn any_place(
     alloc: Global,

@@ -27,6 +27,14 @@ pub(crate) enum Call {
     /// The half search over these bytes in this span and mode finds this, and the one for the earliest end.
     Search(Over, Found),
     Earliest(Over, Found),
+    /// The calls of a walk over these bytes tell this, one by one, and so do those where the earliest end is enough.
+    Walk(Over, Ends),
+    EarliestWalk(Over, Ends),
+    /// The patterns that match are added to a set, or that of the first end; then it has these.
+    Which(Over, Room),
+    EarliestWhich(Over, Room),
+    /// What was added by the time that it was refused stays.
+    NoWhich(Over, Room, MatchErrorKind),
     /// The cache is made anew.
     Reset,
     /// A search starts, has come to a place, and ends.
@@ -69,9 +77,32 @@ pub(crate) enum Found {
     Refused(MatchErrorKind),
 }
 
+/// What a walk tells: these ends, and then nothing for good, or this refusal for good.
+#[derive(Clone, Copy)]
+pub(crate) enum Ends {
+    Nothing,
+    One(Found),
+    Two(Found, Found),
+    Three(Found, Found, Found),
+    Refused(MatchErrorKind),
+    Then(Found, MatchErrorKind),
+}
+
+/// A set of patterns with room for so many: whether it has the pattern 0 at first, and which of three it has then.
+#[derive(Clone, Copy)]
+pub(crate) struct Room {
+    pub(crate) capacity: u8,
+    pub(crate) first: bool,
+    pub(crate) zero: bool,
+    pub(crate) one: bool,
+    pub(crate) two: bool,
+}
+
 /// A haystack.
 #[derive(Clone, Copy)]
 pub(crate) enum Text {
+    Aa,
+    Aab,
     Ab,
     Xa,
     Xab,
@@ -138,6 +169,8 @@ fn start(
 /// The bytes of a haystack.
 fn bytes_of(text: Text) -> &'static [u8] {
     match text {
+        Text::Aa => b"aa",
+        Text::Aab => b"aab",
         Text::Ab => b"ab",
         Text::Xa => b"xa",
         Text::Xab => b"xab",
@@ -209,7 +242,7 @@ fn finds(machine: &mut Machine, over: Over, earliest: bool, wanted: Found) -> bo
 }
 
 /// Whether what was found is this.
-fn is_at(half: HalfMatch, wanted: Found) -> bool {
+pub(crate) fn is_at(half: HalfMatch, wanted: Found) -> bool {
     match wanted {
         Found::At(pattern, place) => {
             half.pattern().as_usize() == pattern && half.offset() == place
@@ -241,7 +274,94 @@ fn is_answered(machine: &mut Machine, ids: &mut [LazyStateID], call: &Call) -> b
         ),
         Call::Search(over, wanted) => finds(machine, over, false, wanted),
         Call::Earliest(over, wanted) => finds(machine, over, true, wanted),
-        _ => is_moved(machine, call) && is_told(machine, ids, call),
+        _ => is_walked(machine, call) && is_moved(machine, call) && is_told(machine, ids, call),
+    }
+}
+
+/// The input that a call asks for, if its span fits the haystack.
+fn input_of(over: Over, earliest: bool) -> Option<Input<'static>> {
+    let input = Input::new(bytes_of(over.haystack)).anchored(over.mode);
+    let span = Span {
+        start: over.start,
+        end: over.end,
+    };
+    if !input.fits(span) {
+        return None;
+    }
+    Some(input.span(span).earliest(earliest))
+}
+
+/// What a call of a walk tells, by the number of calls before it.
+fn told(ends: &Ends, before: usize) -> Found {
+    match *ends {
+        Ends::Nothing => Found::Nothing,
+        Ends::One(first) => told_of_three(first, Found::Nothing, Found::Nothing, before),
+        Ends::Two(first, second) => told_of_three(first, second, Found::Nothing, before),
+        Ends::Three(first, second, third) => told_of_three(first, second, third, before),
+        Ends::Refused(kind) => Found::Refused(kind),
+        Ends::Then(first, kind) => told_before(first, kind, before),
+    }
+}
+
+/// Behind three ends nothing is told.
+fn told_of_three(first: Found, second: Found, third: Found, before: usize) -> Found {
+    match before {
+        0 => first,
+        1 => second,
+        2 => third,
+        _ => Found::Nothing,
+    }
+}
+
+/// Behind one end a walk is refused.
+fn told_before(first: Found, kind: MatchErrorKind, before: usize) -> Found {
+    if before == 0 {
+        first
+    } else {
+        Found::Refused(kind)
+    }
+}
+
+/// Whether a walk tells this.
+fn walks(machine: &mut Machine, over: Over, earliest: bool, ends: &Ends) -> bool {
+    let Some(input) = input_of(over, earliest) else {
+        return false;
+    };
+    let wanted = [
+        told(ends, 0),
+        told(ends, 1),
+        told(ends, 2),
+        told(ends, 3),
+        told(ends, 4),
+    ];
+    machine.walks(&input, &wanted)
+}
+
+/// Whether a set of patterns gets these.
+fn adds(machine: &mut Machine, over: Over, earliest: bool, room: Room) -> bool {
+    match input_of(over, earliest) {
+        Some(input) => machine.adds(&input, room, Found::Nothing),
+        None => false,
+    }
+}
+
+/// Whether it does so up to a refusal.
+fn adds_before(machine: &mut Machine, over: Over, room: Room, kind: MatchErrorKind) -> bool {
+    match input_of(over, false) {
+        Some(input) => machine.adds(&input, room, Found::Refused(kind)),
+        None => false,
+    }
+}
+
+/// Whether the call of a walk tells what it should, and true of the others.
+fn is_walked(machine: &mut Machine, call: &Call) -> bool {
+    match *call {
+        Call::Walk(over, wanted) => walks(machine, over, false, &wanted),
+        Call::EarliestWalk(over, wanted) => walks(machine, over, true, &wanted),
+        Call::Which(over, room) => adds(machine, over, false, room),
+        Call::EarliestWhich(over, room) => adds(machine, over, true, room),
+        Call::NoWhich(over, room, kind) => adds_before(machine, over, room, kind),
+        _ => true,
     }
 }
 

@@ -14,6 +14,8 @@ mod ends;
 #[cfg(test)]
 mod machine;
 #[cfg(test)]
+mod plain;
+#[cfg(test)]
 mod progress;
 #[cfg(test)]
 mod refusals;
@@ -27,3 +29,11 @@ mod starts;
 mod steps;
 #[cfg(test)]
 mod texts;
+#[cfg(test)]
+mod walking;
+#[cfg(test)]
+mod walks;
+#[cfg(test)]
+mod walks_over_texts;
+#[cfg(test)]
+mod which_patterns;

@@ -16,8 +16,9 @@ use std::sync::ledger::{Blank, Ledger};
 /// An automaton with a cache of it.
 #[derive(Drop)]
 pub(crate) struct Machine {
-    dfa: DFA,
-    cache: Cache,
+    pub(crate) dfa: DFA,
+    pub(crate) cache: Cache,
+    pub(crate) alloc: Global,
 }
 
 impl Model for Machine {
@@ -50,7 +51,7 @@ impl Machine {
         builder.configure(config);
         let dfa = builder.build_from_nfa(nfa)?;
         match dfa.create_cache(alloc) {
-            Ok(cache) => Ok(Machine { dfa, cache }),
+            Ok(cache) => Ok(Machine { dfa, cache, alloc }),
             Err(_) => Err(BuildError::NoMemory),
         }
     }
@@ -58,7 +59,7 @@ impl Machine {
     /// An automaton, with a fresh cache.
     pub(crate) fn of(alloc: Global, dfa: DFA) -> Result<Machine, AllocError> {
         let cache = Cache::new(alloc, &dfa)?;
-        Ok(Machine { dfa, cache })
+        Ok(Machine { dfa, cache, alloc })
     }
 
     /// The automaton.
@@ -73,9 +74,10 @@ impl Machine {
 
     /// The cache, made anew for another automaton.
     pub(crate) fn reset_to(self, dfa: DFA) -> Result<Machine, AllocError> {
+        let alloc = self.alloc;
         let mut cache = self.cache;
         dfa.reset_cache(&mut cache)?;
-        Ok(Machine { dfa, cache })
+        Ok(Machine { dfa, cache, alloc })
     }
 }
 

@@ -1,0 +1,87 @@
+//! What caches of two automata need, and caches that are handed on to another regex.
+use crate::automata::{any_place, letter, pair, two};
+use crate::calls::{Call, Found, Text, answers, are_answered, at, on};
+use crate::machine::Machine;
+use lazy_dfa::dfa::Config;
+use std::alloc::Global;
+use std::test::Fail;
+
+/// Of `a`: the start of the ends needs 64 bytes, the state behind `a` 65 and that behind `b` 61, and the three states of the
+/// starts 62, 62 and 61. The same search again adds none.
+fn measured() -> [Call; 8] {
+    [
+        Call::Usage(316, 316),
+        Call::Search(on(Text::Xx, 2, 1), Found::Nothing),
+        Call::Usage(316, 316),
+        Call::Search(on(Text::Ab, 0, 2), at(0, 1)),
+        Call::Usage(506, 501),
+        Call::Search(on(Text::Ab, 0, 2), at(0, 1)),
+        Call::Usage(506, 501),
+        Call::Reset,
+    ]
+}
+
+/// Made anew, and searched with before a clear is needed.
+fn anew() -> [Call; 4] {
+    [
+        Call::Usage(316, 316),
+        Call::Search(on(Text::Ab, 0, 2), at(0, 1)),
+        Call::Usage(506, 501),
+        Call::Search(on(Text::Xaa, 0, 3), at(1, 2)),
+    ]
+}
+
+/// Of `ab`.
+fn behind() -> [Call; 3] {
+    [
+        Call::Usage(389, 389),
+        Call::Search(on(Text::Xab, 0, 3), at(1, 3)),
+        Call::Search(on(Text::Ba, 0, 2), Found::Nothing),
+    ]
+}
+
+/// The caches of `a`, searched with.
+fn used(alloc: Global) -> Option<Machine> {
+    let a = letter(b'a');
+    let Ok(re) = pair(alloc, &a, &a, any_place(), Config::new()) else {
+        return None;
+    };
+    let Ok(mut machine) = Machine::new(alloc, re) else {
+        return None;
+    };
+    if !are_answered(&mut machine, &anew()) {
+        return None;
+    }
+    Some(machine)
+}
+
+/// Whether they are as fresh ones where they are made anew for `ab`.
+fn is_handed_on(alloc: Global, machine: Machine) -> bool {
+    let Ok(re) = pair(
+        alloc,
+        &two(b'a', b'b'),
+        &two(b'b', b'a'),
+        any_place(),
+        Config::new(),
+    ) else {
+        return false;
+    };
+    match machine.reset_to(re) {
+        Ok(mut machine) => are_answered(&mut machine, &behind()),
+        Err(_) => false,
+    }
+}
+
+#[test]
+fn caches(rt: HostRuntime) -> Result<(), Fail> {
+    let alloc = rt.alloc();
+    let a = letter(b'a');
+    let re = pair(alloc, &a, &a, any_place(), Config::new());
+    assert!(rt; answers(alloc, re, &measured()));
+    let Some(used) = used(alloc) else {
+        assert!(rt; false);
+        return Ok(());
+    };
+    assert!(rt; is_handed_on(alloc, used));
+    Ok(())
+}
