@@ -1,6 +1,6 @@
 -- Matches that are taken one after the other are a chain of answers, and all of them where the iterator comes to its end: by steps, as
 -- a loop keeps it. Nothing is taken at first, one more is by a step that gives one, and all are where a step gives nothing.
-use Rattle.std.proofs.Common.{◌≡◌, ℕ, Bool, true, false, List, [], ◌∷◌, ◌++◌, Option, Some, None, Result, Ok, Err, refl, sym, ap, ◌∙◌, subst, arith, append-nil, append_assoc}
+use Rattle.std.proofs.Common.{◌≡◌, true, false, List, [], ◌∷◌, ◌++◌, Option, Some, None, Result, Ok, Err, refl, sym, ap, ◌∙◌, subst, arith, append-nil, append_assoc}
 use Rattle.search_types.specs.declared.match_error.MatchErrorKind.{MatchErrorKind}
 use Rattle.search_types.specs.Chains.{IsNext, IsChain, IsWholeChain}
 use Rattle.search_types.specs.Found.{Found}

@@ -1,5 +1,5 @@
 -- Which matches were taken one after the other, as a loop over an iterator keeps it.
-use Rattle.std.specs.Prelude.{◌≡◌, ℕ, Bool, false, List, ◌++◌, None}
+use Rattle.std.specs.Prelude.{◌≡◌, false, List, ◌++◌, None}
 use Rattle.search_types.specs.Chains.{IsChain, IsWholeChain}
 use Rattle.search_types.specs.Found.{Found}
 use Rattle.search_types.specs.Inputs.{Search}
