@@ -1,8 +1,4 @@
-pub mod RoundLemmas
-pub mod WalkLemmas
-pub mod PartLemmas
 pub mod CharacterLemmas
-pub mod ChoiceLemmas
 pub mod AnswerLemmas
 pub mod LoopLemmas
 pub mod WordLemmas
@@ -24,7 +20,6 @@ pub mod ReplyLemmas
 pub mod RunLemmas
 pub mod OneReplyLemmas
 pub mod SomeReplyLemmas
-mod AnswerRows
 pub mod EndLemmas
 pub mod OfferLemmas
 pub mod SpanChoiceLemmas

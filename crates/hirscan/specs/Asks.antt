@@ -1,28 +1,21 @@
--- What the code searches for, as the definitions have it.
-use Rattle.std.specs.Prelude.{ℕ, false, List}
+-- What a head asks of a haystack.
+use Rattle.std.specs.Prelude.{ℕ, Bool, true, false, List}
+use Rattle.search_types.specs.declared.anchored.Anchored.{Anchored}
+use Rattle.search_types.specs.declared.anchored.Anchored.TheVariants.{No, Yes}
 use Rattle.search_types.specs.Inputs.{Search}
-use Rattle.hirscan.specs.declared.head.Head.{Head}
-use Rattle.hirscan.specs.Refusals.{span_of, mode_of}
-use Rattle.hirscan.specs.declared.find.Asked.{Asked}
-use Rattle.hirscan.specs.PlainEnds.{plain_looks}
-use Rattle.hirscan.specs.Choices.{Query}
+use Rattle.hirscan.specs.declared.line.Setup.{Setup}
+use Rattle.hirscan.specs.Refusals.{span_of}
 
-abbrev pub query : Asked → Query
-query q = record {
-  patterns = q.patterns.now;
-  looks = plain_looks q.input.haystack;
-  haystack = q.input.haystack;
-  end = q.input.end;
-  mode = q.input.anchored;
-  utf8 = q.utf8;
-}
+abbrev pub mode_of : Bool → Anchored
+mode_of true = Yes
+mode_of false = No
 
--- what a head asks of a haystack, where its span fits
-abbrev pub search_of : Head → List ℕ → Search
-search_of head h = record {
+-- the search, where the span fits the haystack
+abbrev pub search_of : Setup → List ℕ → Search
+search_of setup h = record {
   haystack = h;
-  start = (span_of head.span h).0;
-  end = (span_of head.span h).1;
-  anchored = mode_of head.anchored;
+  start = (span_of setup.span h).start;
+  end = (span_of setup.span h).end;
+  anchored = mode_of setup.anchored;
   earliest = false;
 }

@@ -1,14 +1,16 @@
 -- What is wrong with a line: the kinds of faults in their order, each with its test.
-use Rattle.std.specs.Prelude.{ℕ, ◌-◌, ◌==◌, not, ◌&&◌, ◌||◌, Bool, true, false, List, [], ◌∷◌, ◌++◌, length, map, take, drop, slice_index_or, Option, Some, None, nat_lt, nat_le}
-use Rattle.hir_core.specs.Tree.{Tree, empty, literal, byte_class, repetition, concat, alternation}
+use Rattle.std.specs.Prelude.{ℕ, ◌-◌, ◌==◌, not, ◌&&◌, ◌||◌, Bool, true, false, List, [], ◌∷◌, ◌++◌, length, map, take, drop, slice_index_or, Option, Some, None, nat_lt, nat_le, if◌then◌else◌}
+use Rattle.look_core.specs.Terminators.{Terminator, one_of, two_of}
+use Rattle.hir_core.specs.Tree.{Tree, empty, literal, byte_class, char_class, look, repetition, concat, alternation}
 use Rattle.hir_core.specs.Facts.{height}
 use Rattle.hirscan.specs.declared.fault.FaultKind.{FaultKind}
-use Rattle.hirscan.specs.declared.fault.FaultKind.TheVariants.{UnknownWord, SettingAfterNode, WrongWordCount, BadNumber, BadHex, BadRange, BadChoice, MinAboveMax, TooFewTrees, TooDeep, NotOneTree, TreeLeftOver}
+use Rattle.hirscan.specs.declared.fault.FaultKind.TheVariants.{UnknownWord, SettingAfterNode, WrongWordCount, BadNumber, BadHex, BadRange, UnknownLook, BadChoice, MinAboveMax, TooFewTrees, TooDeep, NotOneTree, TreeLeftOver}
+use Rattle.hirscan.specs.declared.line.Setup.{Setup}
 use Rattle.hirscan.specs.declared.words.LineWord.{LineWord}
-use Rattle.hirscan.specs.declared.words.LineWord.TheVariants.{Utf8, Anchored, Span, Empty, Lit, Bytes, Rep, Cat, Alt, Pattern, Find}
-use Rattle.hirscan.specs.Words.{class_ranges}
-use Rattle.hirscan.specs.Takes.{Settings, Standing}
-use Rattle.hirscan.specs.Readers.{line_word, number, the_number, bound, the_bound, order, the_order, switch, the_switch, yes_or_no, the_yes_or_no, hex_bytes, the_bytes, item_ends, the_ends, word_at}
+use Rattle.hirscan.specs.declared.words.LineWord.TheVariants.{Utf8, Line, Capacity, Quit, Classes, Shrink, Anchored, Span, Empty, Lit, Bytes, Chars, Look, Rep, Cat, Alt, Pattern, Find}
+use Rattle.hirscan.specs.Words.{is_scalar, class_ranges, scalar_ranges}
+use Rattle.hirscan.specs.Takes.{Standing, with_utf8, with_terminator, with_capacity, with_quit, with_classes, with_shrink, with_anchored, with_span}
+use Rattle.hirscan.specs.Readers.{line_word, number, the_number, bound, the_bound, order, the_order, switch, the_switch, yes_or_no, the_yes_or_no, hex_bytes, the_bytes, hex_byte, the_byte, item_ends, the_ends, hex_ends, the_hex_ends, look_named, the_look_named, word_at}
 
 -- the first fault of the list
 abbrev pub first_of : List (Option FaultKind) → Option FaultKind
@@ -29,6 +31,11 @@ unless_read (Some x) kind = None
 -- whether the line sets something
 abbrev pub is_setting : LineWord → Bool
 is_setting Utf8 = true
+is_setting Line = true
+is_setting Capacity = true
+is_setting Quit = true
+is_setting Classes = true
+is_setting Shrink = true
 is_setting Anchored = true
 is_setting Span = true
 is_setting _ = false
@@ -40,11 +47,18 @@ is_setting_after_node k at = is_setting k && (nat_lt 0 (length at.stack) || nat_
 -- whether so many words may follow the first
 abbrev pub is_word_count : LineWord → ℕ → Bool
 is_word_count Utf8 n = n == 1
+is_word_count Line n = nat_le 1 n && nat_le n 2
+is_word_count Capacity n = n == 1
+is_word_count Quit n = n == 1
+is_word_count Classes n = n == 1
+is_word_count Shrink n = n == 1
 is_word_count Anchored n = n == 1
 is_word_count Span n = n == 2
 is_word_count Empty n = n == 0
 is_word_count Lit n = n == 1
 is_word_count Bytes n = nat_le 1 n
+is_word_count Chars n = nat_le 1 n
+is_word_count Look n = n == 1
 is_word_count Rep n = n == 3
 is_word_count Cat n = n == 1
 is_word_count Alt n = n == 1
@@ -59,15 +73,34 @@ ends_fault (Some ends) = when (nat_lt ends.1 ends.0) BadRange
 abbrev pub item_fault : List ℕ → Option FaultKind
 item_fault w = ends_fault (item_ends w)
 
+-- what is wrong with an item of a class of scalars that has these ends
+abbrev pub scalar_ends_fault : Option (ℕ × ℕ) → Option FaultKind
+scalar_ends_fault None = Some BadHex
+scalar_ends_fault (Some ends) = when (not (is_scalar ends.0) || not (is_scalar ends.1) || nat_lt ends.1 ends.0) BadRange
+
+abbrev pub scalar_item_fault : List ℕ → Option FaultKind
+scalar_item_fault w = scalar_ends_fault (hex_ends w)
+
+-- what is wrong with a word that has to be a byte
+abbrev pub byte_fault : List ℕ → Option FaultKind
+byte_fault w = unless_read (hex_byte w) BadHex
+
 -- what is wrong with the first faulty word after the line's first
 abbrev pub word_fault : LineWord → List (List ℕ) → Option FaultKind
 word_fault Utf8 args = unless_read (switch (word_at args 0)) BadChoice
+word_fault Line args = first_of (map byte_fault args)
+word_fault Capacity args = unless_read (number (word_at args 0)) BadNumber
+word_fault Quit args = byte_fault (word_at args 0)
+word_fault Classes args = unless_read (switch (word_at args 0)) BadChoice
+word_fault Shrink args = unless_read (switch (word_at args 0)) BadChoice
 word_fault Anchored args = unless_read (yes_or_no (word_at args 0)) BadChoice
 word_fault Span args = first_of (unless_read (number (word_at args 0)) BadNumber
     ∷ unless_read (number (word_at args 1)) BadNumber
     ∷ [])
 word_fault Lit args = unless_read (hex_bytes (word_at args 0)) BadHex
 word_fault Bytes args = first_of (map item_fault args)
+word_fault Chars args = first_of (map scalar_item_fault args)
+word_fault Look args = unless_read (look_named (word_at args 0)) UnknownLook
 word_fault Rep args = first_of (unless_read (number (word_at args 0)) BadNumber
     ∷ unless_read (bound (word_at args 1)) BadNumber
     ∷ unless_read (order (word_at args 2)) BadChoice
@@ -103,6 +136,8 @@ below n stack = take (length stack - n) stack
 abbrev pub new_tree : LineWord → List (List ℕ) → List Tree → Tree
 new_tree Lit args parts = literal (the_bytes (word_at args 0))
 new_tree Bytes args parts = byte_class (class_ranges (map the_ends args))
+new_tree Chars args parts = char_class (scalar_ranges (map the_hex_ends args))
+new_tree Look args parts = look (the_look_named (word_at args 0))
 new_tree Rep args parts =
     repetition (the_number (word_at args 0)) (the_bound (word_at args 1)) (the_order (word_at args 2)) (slice_index_or parts 0 empty)
 new_tree Cat args parts = concat parts
@@ -154,26 +189,44 @@ abbrev pub fault : List (List ℕ) → Standing → Option FaultKind
 fault [] at = Some UnknownWord
 fault (w ∷ args) at = fault_after (line_word w) args at
 
--- the settings after a line of this first word that has no fault
-abbrev pub settings_after : LineWord → List (List ℕ) → Settings → Settings
-settings_after Utf8 args was = record { utf8 = the_switch (word_at args 0); anchored = was.anchored; span = was.span }
-settings_after Anchored args was = record { utf8 = was.utf8; anchored = the_yes_or_no (word_at args 0); span = was.span }
-settings_after Span args was = record { utf8 = was.utf8; anchored = was.anchored; span = Some (the_number (word_at args 0), the_number (word_at args 1)) }
-settings_after _ args was = was
+-- the terminator of these words
+abbrev pub the_terminator : List (List ℕ) → Terminator
+the_terminator args = if length args == 1 then one_of (the_byte (word_at args 0)) else two_of (the_byte (word_at args 0)) (the_byte (word_at args 1))
+
+-- how is searched after a line of this first word that has no fault
+abbrev pub setup_after : LineWord → List (List ℕ) → Setup → Setup
+setup_after Utf8 args was = with_utf8 (the_switch (word_at args 0)) was
+setup_after Line args was = with_terminator (the_terminator args) was
+setup_after Capacity args was = with_capacity (the_number (word_at args 0)) was
+setup_after Quit args was = with_quit (the_byte (word_at args 0)) was
+setup_after Classes args was = with_classes (the_switch (word_at args 0)) was
+setup_after Shrink args was = with_shrink (the_switch (word_at args 0)) was
+setup_after Anchored args was = with_anchored (the_yes_or_no (word_at args 0)) was
+setup_after Span args was = with_span (record { start = the_number (word_at args 0); end = the_number (word_at args 1) }) was
+setup_after _ args was = was
+
+-- what stands after a line that sets something
+abbrev pub after_setting : LineWord → List (List ℕ) → Standing → Standing
+after_setting k args at = record { setup = setup_after k args at.setup; stack = at.stack; patterns = at.patterns }
 
 -- what stands after a line that makes a tree of those on the top
 abbrev pub after_tree : LineWord → List (List ℕ) → Standing → Standing
 after_tree k args at = record {
-  settings = at.settings;
+  setup = at.setup;
   stack = below (needed k args) at.stack ++ new_tree k args (top (needed k args) at.stack) ∷ [];
   patterns = at.patterns;
 }
 
 -- what stands after a line of this first word that has no fault
 abbrev pub after : LineWord → List (List ℕ) → Standing → Standing
-after Utf8 args at = record { settings = settings_after Utf8 args at.settings; stack = at.stack; patterns = at.patterns }
-after Anchored args at = record { settings = settings_after Anchored args at.settings; stack = at.stack; patterns = at.patterns }
-after Span args at = record { settings = settings_after Span args at.settings; stack = at.stack; patterns = at.patterns }
-after Pattern args at = record { settings = at.settings; stack = []; patterns = at.patterns ++ at.stack }
+after Utf8 args at = after_setting Utf8 args at
+after Line args at = after_setting Line args at
+after Capacity args at = after_setting Capacity args at
+after Quit args at = after_setting Quit args at
+after Classes args at = after_setting Classes args at
+after Shrink args at = after_setting Shrink args at
+after Anchored args at = after_setting Anchored args at
+after Span args at = after_setting Span args at
+after Pattern args at = record { setup = at.setup; stack = []; patterns = at.patterns ++ at.stack }
 after Find args at = at
 after k args at = after_tree k args at

@@ -1,13 +1,17 @@
 -- Readers that compute what Words.antt says of a word: None where the word says no such thing. Each
 -- has a reader beside it, `the_..`, that answers any value there. That each reads just what its relation says is a law
 -- (`word_laws`).
-use Rattle.std.specs.Prelude.{◌≡◌, ◌↔◌, ℕ, ◌^◌, ◌==◌, ◌&&◌, ◌||◌, not, Bool, true, false, List, [], ◌∷◌, length, take, drop, slice_index, slice_index_or, Option, Some, None, Result, Ok, Err, nat_lt, codes, if◌then◌else◌, option_map, unwrap_or}
+use Rattle.std.specs.Prelude.{◌≡◌, ◌↔◌, ℕ, ◌+◌, ◌^◌, ◌==◌, ◌&&◌, ◌||◌, not, Bool, true, false, List, [], ◌∷◌, length, take, drop, slice_index, slice_index_or, Option, Some, None, Result, Ok, Err, nat_lt, codes, if◌then◌else◌, option_map, unwrap_or}
+use Rattle.std.specs.List.{list_all, position}
+use Rattle.std.specs.Option.{option_or}
 use Rattle.std.specs.Str.{all_ascii_digits, bytes_eq}
 use Rattle.std.specs.Str.Parse.{digits_value}
-use Rattle.hex.specs.Hex.{decode_of}
+use Rattle.hex.specs.Hex.{decode_of, is_hex_digit}
+use Rattle.look_core.specs.declared.look.Look.{Look as TheLook}
+use Rattle.look_core.specs.declared.look.Look.TheVariants as the_look
 use Rattle.hex.specs.declared.error.FromHexError.{FromHexError}
 use Rattle.hirscan.specs.declared.words.LineWord.{LineWord}
-use Rattle.hirscan.specs.declared.words.LineWord.TheVariants.{Utf8, Anchored, Span, Empty, Lit, Bytes, Rep, Cat, Alt, Pattern, Find}
+use Rattle.hirscan.specs.declared.words.LineWord.TheVariants.{Utf8, Line, Capacity, Quit, Classes, Shrink, Anchored, Span, Empty, Lit, Bytes, Chars, Look, Rep, Cat, Alt, Pattern, Find}
 
 -- the reader answers x just where the relation holds of the text and x, and nothing just where it holds of no x
 pub record IsReader {X : Type 0} (read : List ℕ → Option X) (says : List ℕ → X → Type 0) : Type 0 where
@@ -17,11 +21,18 @@ pub record IsReader {X : Type 0} (read : List ℕ → Option X) (says : List ℕ
 -- the word that begins such a line
 abbrev pub spelling : LineWord → List ℕ
 spelling Utf8 = codes "utf8"
+spelling Line = codes "line"
+spelling Capacity = codes "capacity"
+spelling Quit = codes "quit"
+spelling Classes = codes "classes"
+spelling Shrink = codes "shrink"
 spelling Anchored = codes "anchored"
 spelling Span = codes "span"
 spelling Empty = codes "empty"
 spelling Lit = codes "lit"
 spelling Bytes = codes "bytes"
+spelling Chars = codes "chars"
+spelling Look = codes "look"
 spelling Rep = codes "rep"
 spelling Cat = codes "cat"
 spelling Alt = codes "alt"
@@ -32,21 +43,37 @@ spelling Find = codes "find"
 abbrev pub IsSpelled : List ℕ → LineWord → Type 0
 IsSpelled w k = w ≡ spelling k
 
--- which line the word begins
-abbrev pub line_word : List ℕ → Option LineWord
-line_word w =
+-- which line that sets something the word begins
+abbrev pub setting_word : List ℕ → Option LineWord
+setting_word w =
     if bytes_eq w (codes "utf8") then Some Utf8
+    else if bytes_eq w (codes "line") then Some Line
+    else if bytes_eq w (codes "capacity") then Some Capacity
+    else if bytes_eq w (codes "quit") then Some Quit
+    else if bytes_eq w (codes "classes") then Some Classes
+    else if bytes_eq w (codes "shrink") then Some Shrink
     else if bytes_eq w (codes "anchored") then Some Anchored
     else if bytes_eq w (codes "span") then Some Span
-    else if bytes_eq w (codes "empty") then Some Empty
+    else None
+
+-- which other line it begins
+abbrev pub tree_word : List ℕ → Option LineWord
+tree_word w =
+    if bytes_eq w (codes "empty") then Some Empty
     else if bytes_eq w (codes "lit") then Some Lit
     else if bytes_eq w (codes "bytes") then Some Bytes
+    else if bytes_eq w (codes "chars") then Some Chars
+    else if bytes_eq w (codes "look") then Some Look
     else if bytes_eq w (codes "rep") then Some Rep
     else if bytes_eq w (codes "cat") then Some Cat
     else if bytes_eq w (codes "alt") then Some Alt
     else if bytes_eq w (codes "pattern") then Some Pattern
     else if bytes_eq w (codes "find") then Some Find
     else None
+
+-- which line the word begins
+abbrev pub line_word : List ℕ → Option LineWord
+line_word w = option_or (setting_word w) (tree_word w)
 
 -- whether the word is a number: digits, one or more, without a leading zero, of a value below 2 ^ 32
 abbrev pub is_number : List ℕ → Bool
@@ -109,6 +136,9 @@ only_one (Err e) = None
 abbrev pub hex_byte : List ℕ → Option ℕ
 hex_byte w = only_one (decode_of w)
 
+abbrev pub the_byte : List ℕ → ℕ
+the_byte w = unwrap_or (hex_byte w) 0
+
 -- two values, if both are there
 abbrev pub both : Option ℕ → Option ℕ → Option (ℕ × ℕ)
 both None b = None
@@ -121,6 +151,59 @@ item_ends w = if length w == 5 && slice_index w 2 == 45 then both (hex_byte (tak
 
 abbrev pub the_ends : List ℕ → ℕ × ℕ
 the_ends w = unwrap_or (item_ends w) (0, 0)
+
+-- whether the word is a number of one to six hexadecimal digits
+abbrev pub is_hex_number : List ℕ → Bool
+is_hex_number w = list_all is_hex_digit w && nat_lt 0 (length w) && nat_lt (length w) 7
+
+abbrev pub hex_number : List ℕ → Option ℕ
+hex_number w = if is_hex_number w then Some (digits_value 16 w) else None
+
+-- the numbers before and behind the sign at this place, if there is one
+abbrev pub hex_ends_at : List ℕ → Option ℕ → Option (ℕ × ℕ)
+hex_ends_at w None = None
+hex_ends_at w (Some k) = both (hex_number (take k w)) (hex_number (drop (k + 1) w))
+
+-- the ends of an item of a class of scalars, in whichever order: two numbers, parted by a sign
+abbrev pub hex_ends : List ℕ → Option (ℕ × ℕ)
+hex_ends w = hex_ends_at w (position (λ b. b == 45) w)
+
+abbrev pub the_hex_ends : List ℕ → ℕ × ℕ
+the_hex_ends w = unwrap_or (hex_ends w) (0, 0)
+
+-- the look of an edge of the haystack or of a line with this name
+abbrev pub anchor_named : List ℕ → Option TheLook
+anchor_named w =
+    if bytes_eq w (codes "Start") then Some the_look.Start
+    else if bytes_eq w (codes "End") then Some the_look.End
+    else if bytes_eq w (codes "StartLF") then Some the_look.StartLF
+    else if bytes_eq w (codes "EndLF") then Some the_look.EndLF
+    else if bytes_eq w (codes "StartCRLF") then Some the_look.StartCRLF
+    else if bytes_eq w (codes "EndCRLF") then Some the_look.EndCRLF
+    else None
+
+-- the look of an edge of a word with this name
+abbrev pub word_look_named : List ℕ → Option TheLook
+word_look_named w =
+    if bytes_eq w (codes "WordAscii") then Some the_look.WordAscii
+    else if bytes_eq w (codes "WordAsciiNegate") then Some the_look.WordAsciiNegate
+    else if bytes_eq w (codes "WordUnicode") then Some the_look.WordUnicode
+    else if bytes_eq w (codes "WordUnicodeNegate") then Some the_look.WordUnicodeNegate
+    else if bytes_eq w (codes "WordStartAscii") then Some the_look.WordStartAscii
+    else if bytes_eq w (codes "WordEndAscii") then Some the_look.WordEndAscii
+    else if bytes_eq w (codes "WordStartUnicode") then Some the_look.WordStartUnicode
+    else if bytes_eq w (codes "WordEndUnicode") then Some the_look.WordEndUnicode
+    else if bytes_eq w (codes "WordStartHalfAscii") then Some the_look.WordStartHalfAscii
+    else if bytes_eq w (codes "WordEndHalfAscii") then Some the_look.WordEndHalfAscii
+    else if bytes_eq w (codes "WordStartHalfUnicode") then Some the_look.WordStartHalfUnicode
+    else if bytes_eq w (codes "WordEndHalfUnicode") then Some the_look.WordEndHalfUnicode
+    else None
+
+abbrev pub look_named : List ℕ → Option TheLook
+look_named w = option_or (anchor_named w) (word_look_named w)
+
+abbrev pub the_look_named : List ℕ → TheLook
+the_look_named w = unwrap_or (look_named w) the_look.Start
 
 -- the word at this place, counted from 0
 abbrev pub word_at : List (List ℕ) → ℕ → List ℕ

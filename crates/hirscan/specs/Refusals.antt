@@ -2,14 +2,11 @@
 use Rattle.std.specs.Prelude.{ℕ, ◌+◌, ◌&&◌, Bool, true, false, not, nat_lt, nat_le, List, [], ◌∷◌, ◌++◌, length, Option, Some, None, codes, decimal, option_map, if◌then◌else◌}
 use Rattle.std.specs.List.{position}
 use Rattle.std.specs.Str.Lossy.{utf8_valid_len}
-use Rattle.search_types.specs.declared.anchored.Anchored.{Anchored}
-use Rattle.search_types.specs.declared.anchored.Anchored.TheVariants.{No, Yes}
+use Rattle.search_types.specs.declared.span.Span.{Span}
 use Rattle.hir_core.specs.Tree.{Tree}
-use Rattle.hir_core.specs.Facts.{is_utf8_tree, list_count}
-use Rattle.hirscan.specs.Takes.{Settings}
+use Rattle.hir_core.specs.Facts.{is_utf8_tree}
+use Rattle.hirscan.specs.declared.line.Setup.{Setup}
 use Rattle.hirscan.specs.Loops.{first_empty_loop}
-use Rattle.hirscan.specs.PlainEnds.{plain_looks}
-use Rattle.hirscan.specs.Choices.{Query}
 
 -- the first cause that applies
 abbrev pub first_cause : List (Option (List ℕ)) → Option (List ℕ)
@@ -31,13 +28,13 @@ abbrev pub first_broken : List ℕ → Option ℕ
 first_broken h = if nat_lt (utf8_valid_len h) (length h) then Some (utf8_valid_len h) else None
 
 -- the span that is searched
-abbrev pub span_of : Option (ℕ × ℕ) → List ℕ → ℕ × ℕ
-span_of None h = (0, length h)
+abbrev pub span_of : Option Span → List ℕ → Span
+span_of None h = record { start = 0; end = length h }
 span_of (Some span) h = span
 
 -- whether the span lies in the haystack; its start may be one above its end, and then nothing is searched
-abbrev pub is_span : ℕ × ℕ → List ℕ → Bool
-is_span span h = nat_le span.1 (length h) && nat_le span.0 (span.1 + 1)
+abbrev pub is_span : Span → List ℕ → Bool
+is_span span h = nat_le span.end (length h) && nat_le span.start (span.end + 1)
 
 -- a cause where the test says so
 abbrev pub cause_if : Bool → List ℕ → Option (List ℕ)
@@ -56,31 +53,15 @@ pattern_causes utf8 xs = first_cause
     ∷ [])
 
 -- why the haystack is refused, or the span of it
-abbrev pub haystack_causes : Bool → Option (ℕ × ℕ) → List ℕ → Option (List ℕ)
+abbrev pub haystack_causes : Bool → Option Span → List ℕ → Option (List ℕ)
 haystack_causes utf8 span h = first_cause
     (option_map (λ b. codes "haystack not UTF-8 at " ++ decimal b) (where_utf8 utf8 (first_broken h))
     ∷ cause_if (not (is_span (span_of span h) h)) (codes "span")
     ∷ [])
 
--- why these settings and patterns are refused with this haystack: None where they are searched
-abbrev pub refusal : Settings → List Tree → List ℕ → Option (List ℕ)
-refusal settings xs h = first_cause
-    (pattern_causes settings.utf8 xs
-    ∷ haystack_causes settings.utf8 settings.span h
-    ∷ cause_if (nat_lt 16384 (list_count xs)) (codes "size limit")
+-- why these patterns are refused with this haystack: None where they are searched, if they have room
+abbrev pub refusal : Setup → List Tree → List ℕ → Option (List ℕ)
+refusal setup xs h = first_cause
+    (pattern_causes setup.settings.utf8 xs
+    ∷ haystack_causes setup.settings.utf8 setup.span h
     ∷ [])
-
-abbrev pub mode_of : Bool → Anchored
-mode_of true = Yes
-mode_of false = No
-
--- what is searched for where nothing is refused
-abbrev pub query_of : Settings → List Tree → List ℕ → Query
-query_of settings xs h = record {
-  patterns = xs;
-  looks = plain_looks h;
-  haystack = h;
-  end = (span_of settings.span h).1;
-  mode = mode_of settings.anchored;
-  utf8 = settings.utf8;
-}

@@ -1,16 +1,31 @@
 -- What the program answers to an input, and how it ends.
-use Rattle.std.specs.Prelude.{◌≡◌, ℕ, ◌^◌, ◌<◌, ◌≤◌, List, [], ◌∷◌, ◌++◌, length, drop, Some, None, codes, decimal}
+use Rattle.std.specs.Prelude.{◌≡◌, ℕ, ◌^◌, ◌<◌, ◌≤◌, Bool, false, List, [], ◌∷◌, ◌++◌, length, drop, Option, Some, None, codes, decimal}
 use Rattle.std.specs.List.{flat_map}
-use Rattle.search_types.specs.Found.{Found}
-use Rattle.hirscan.specs.declared.fault.FaultKind.{FaultKind}
-use Rattle.hirscan.specs.declared.program.Ending.{Ending}
-use Rattle.hirscan.specs.declared.program.Ending.TheVariants.{Listed, Refused}
-use Rattle.hirscan.specs.Tells.{kind_text}
+use Rattle.hex.specs.Hex.{encode_upper}
+use Rattle.look_core.specs.Looks.{IsWordSet}
 use Rattle.hir_core.specs.Tree.{Tree}
-use Rattle.hirscan.specs.Takes.{Settings, Standing, at_first}
+use Rattle.search_types.specs.Chains.{IsChain}
+use Rattle.search_types.specs.Found.{Found}
+use Rattle.nfa_core.specs.declared.build_error.BuildError.TheVariants.{ExceededSizeLimit}
+use Rattle.thompson_nfa.specs.RefusedTrees.{RefusesTrees}
+use Rattle.lazy_dfa.specs.Dfas.{reader}
+use Rattle.lazy_dfa.specs.Readers.{quit}
+use Rattle.lazy_dfa.specs.Scans.{scan}
+use Rattle.regex_pair.specs.Finding.{Finding, AnswersAt, IsAskedAt, search_at}
+use Rattle.regex_pair.specs.Pairs.{Pair}
+use Rattle.hirscan.specs.declared.fault.FaultKind.{FaultKind}
+use Rattle.hirscan.specs.declared.line.Setup.{Setup}
+use Rattle.hirscan.specs.declared.program.Ending.{Ending}
+use Rattle.hirscan.specs.declared.program.Ending.TheVariants.{Listed, Quit, Refused}
+use Rattle.hirscan.specs.Asks.{search_of}
+use Rattle.hirscan.specs.Built.{IsBuilt, program_settings, compile_options, quit_bytes_for}
+use Rattle.hirscan.specs.Headline.{answers_to, IsQuitBeside}
 use Rattle.hirscan.specs.Reads.{Reads, IsFaultAt}
-use Rattle.hirscan.specs.Refusals.{refusal, query_of, span_of}
-use Rattle.hirscan.specs.Choices.{answers_of}
+use Rattle.hirscan.specs.Refusals.{refusal}
+use Rattle.hirscan.specs.Takes.{Standing, at_first}
+use Rattle.hirscan.specs.Tells.{kind_text}
+
+-- ---- lines
 
 -- the line of one span: the pattern's number, the start and the end in decimal, parted by spaces, 32, and ended by a line feed, 10
 abbrev pub span_line : Found → List ℕ
@@ -20,22 +35,94 @@ span_line f = decimal f.pattern ++ 32 ∷ (decimal f.start ++ 32 ∷ (decimal f.
 abbrev pub span_lines : List Found → List ℕ
 span_lines fs = flat_map span_line fs
 
+-- the line that ends a list where a search gave up at the byte b, at x
+abbrev pub quit_line : ℕ → ℕ → List ℕ
+quit_line b x = codes "quit: byte " ++ (encode_upper (b ∷ []) ++ (codes " at " ++ (decimal x ++ 10 ∷ [])))
+
 -- the one line of a refusal for this cause
 abbrev pub refusal_line : List ℕ → List ℕ
 refusal_line cause = codes "refused: " ++ (cause ++ 10 ∷ [])
 
--- The reply to a haystack that is searched for these patterns, as the settings say.
-pub data IsSearchReply (settings : Settings) (xs : List Tree) (h : List ℕ) (ending : Ending) (text : List ℕ) : Type 0 where
-  refused : (cause : List ℕ) → refusal settings xs h ≡ Some cause →
-      ending ≡ Refused → text ≡ refusal_line cause → IsSearchReply settings xs h ending text
-  listed : refusal settings xs h ≡ None →
-      ending ≡ Listed → text ≡ span_lines (answers_of (query_of settings xs h) (span_of settings.span h).0) → IsSearchReply settings xs h ending text
+-- ---- what is searched
 
--- The reply to the input is this text, with this ending. Each refusal applies only where none before it does.
-pub data IsReply (input : List ℕ) (ending : Ending) (text : List ℕ) : Type 0 where
-  too_long : 2 ^ 30 < length input →
-      ending ≡ Refused → text ≡ refusal_line (codes "input above 1073741824 bytes") → IsReply input ending text
+-- the input is refused for this cause, which shows in it: each applies only where none before it does
+pub data IsRefused (input cause : List ℕ) : Type 0 where
+  too_long : 2 ^ 30 < length input → cause ≡ codes "input above 1073741824 bytes" → IsRefused input cause
   faulty : (k : ℕ) (kind : FaultKind) → length input ≤ 2 ^ 30 → IsFaultAt input at_first k kind →
-      ending ≡ Refused → text ≡ refusal_line (codes "line " ++ (decimal k ++ (codes ": " ++ kind_text kind))) → IsReply input ending text
-  searched : (at : Standing) (n : ℕ) → length input ≤ 2 ^ 30 → Reads input at_first at n →
-      IsSearchReply at.settings at.patterns (drop n input) ending text → IsReply input ending text
+      cause ≡ codes "line " ++ (decimal k ++ (codes ": " ++ kind_text kind)) → IsRefused input cause
+  unfit : (at : Standing) (n : ℕ) → length input ≤ 2 ^ 30 → Reads input at_first at n →
+      refusal at.setup at.patterns (drop n input) ≡ Some cause → IsRefused input cause
+
+-- the input asks for these patterns, set up so, in this haystack, and none of it is refused
+pub record Asks (input : List ℕ) (setup : Setup) (xs : List Tree) (h : List ℕ) : Type 0 where
+  pub at : Standing
+  pub len : ℕ
+  pub short : length input ≤ 2 ^ 30
+  pub reads : Reads input at_first at len
+  pub setup_is : at.setup ≡ setup
+  pub patterns_are : at.patterns ≡ xs
+  pub haystack_is : drop len input ≡ h
+  pub fits : refusal setup xs h ≡ None
+
+-- one of both automata is refused for its size: what the patterns need at most passes the limit
+abbrev pub AreTooLarge : Setup → List Tree → Type 0
+AreTooLarge setup xs = (reverse : Bool) × RefusesTrees (compile_options reverse (program_settings setup.settings)) xs (ExceededSizeLimit (2 ^ 26))
+
+-- ---- quits
+
+-- where a search for the next match goes on, behind these
+abbrev pub last_end : List Found → Option ℕ
+last_end [] = None
+last_end (f ∷ []) = Some f.end
+last_end (f ∷ g ∷ fs) = last_end (g ∷ fs)
+
+abbrev pub next_start : ℕ → Option ℕ → ℕ
+next_start start None = start
+next_start start (Some end) = end
+
+abbrev pub finding_behind : Setup → List ℕ → List Found → Finding
+finding_behind setup h fs = record {
+  search = search_at (search_of setup h) (next_start (search_of setup h).start (last_end fs));
+  last = last_end fs;
+  is_over = false;
+}
+
+-- The search for the next match behind these gives up at the byte b, at x. The regex is one that is built of the patterns; the
+-- matches are those that it finds from the start on; and b is the first quit byte that it reads upwards, from the end of the last
+-- match, or where what is found there is a repeat, from one place further on. It stands in or beside the span.
+pub record QuitsBehind (setup : Setup) (xs : List Tree) (h : List ℕ) (fs : List Found) (b x : ℕ) : Type 0 where
+  pub regex : Pair
+  pub built : IsBuilt xs (program_settings setup.settings) regex
+  pub found : IsChain (AnswersAt regex (search_of setup h)) None (search_of setup h).start fs
+  pub from : ℕ
+  pub asked : IsAskedAt regex (finding_behind setup h fs) from
+  pub reads : scan (reader regex.forward) (search_at (search_of setup h) from) ≡ quit b x
+  pub beside : IsQuitBeside (quit_bytes_for xs (program_settings setup.settings).dfa) (search_of setup h) b x
+
+-- these are the first of all answers, for each set of words
+abbrev pub BeginsAnswers : Setup → List Tree → List ℕ → List Found → Type 0
+BeginsAnswers setup xs h fs = (words : ℕ → Bool) → IsWordSet words → (rest : List Found) × (answers_to words xs setup.settings (search_of setup h) ≡ fs ++ rest)
+
+-- these are all answers, for each set of words
+abbrev pub AreAnswers : Setup → List Tree → List ℕ → List Found → Type 0
+AreAnswers setup xs h fs = (words : ℕ → Bool) → IsWordSet words → answers_to words xs setup.settings (search_of setup h) ≡ fs
+
+-- ---- the reply
+
+-- the reply where these patterns, set up so, are searched for in the haystack
+pub data IsSearchReply (setup : Setup) (xs : List Tree) (h : List ℕ) (ending : Ending) (text : List ℕ) : Type 0 where
+  too_large : AreTooLarge setup xs → ending ≡ Refused → text ≡ refusal_line (codes "size limit") → IsSearchReply setup xs h ending text
+  listed : (fs : List Found) → AreAnswers setup xs h fs → ending ≡ Listed → text ≡ span_lines fs → IsSearchReply setup xs h ending text
+  quits : (fs : List Found) (b x : ℕ) → BeginsAnswers setup xs h fs → QuitsBehind setup xs h fs b x → ending ≡ Quit →
+      text ≡ span_lines fs ++ quit_line b x → IsSearchReply setup xs h ending text
+
+-- The reply to the input is this text, with this ending.
+pub data IsReply (input : List ℕ) (ending : Ending) (text : List ℕ) : Type 0 where
+  refused : (cause : List ℕ) → IsRefused input cause → ending ≡ Refused → text ≡ refusal_line cause → IsReply input ending text
+  searched : (setup : Setup) (xs : List Tree) (h : List ℕ) → Asks input setup xs h → IsSearchReply setup xs h ending text →
+      IsReply input ending text
+
+-- what is answered where a head was read: a refusal of what shows in it and its haystack, or the reply of a search
+pub data AnswersHead (setup : Setup) (xs : List Tree) (h : List ℕ) (ending : Ending) (text : List ℕ) : Type 0 where
+  refuses : (cause : List ℕ) → refusal setup xs h ≡ Some cause → ending ≡ Refused → text ≡ refusal_line cause → AnswersHead setup xs h ending text
+  searches : refusal setup xs h ≡ None → IsSearchReply setup xs h ending text → AnswersHead setup xs h ending text

@@ -2,7 +2,7 @@
 use Rattle.std.specs.Prelude.{◌≡◌, ℕ, List, [], ◌∷◌, ◌++◌, map, Option, Some, None, codes}
 use denote.Ref.{Bor}
 use Rattle.hirscan.specs.declared.fault.FaultKind.{FaultKind}
-use Rattle.hirscan.specs.declared.fault.FaultKind.TheVariants.{NoFindLine, UnknownWord, SettingAfterNode, WrongWordCount, BadNumber, BadHex, BadRange, BadChoice, MinAboveMax, TooFewTrees, TooDeep, NotOneTree, TreeLeftOver}
+use Rattle.hirscan.specs.declared.fault.FaultKind.TheVariants.{NoFindLine, UnknownWord, SettingAfterNode, WrongWordCount, BadNumber, BadHex, BadRange, UnknownLook, BadChoice, MinAboveMax, TooFewTrees, TooDeep, NotOneTree, TreeLeftOver}
 use Rattle.hirscan.specs.declared.fault.Fault.{Fault}
 use Rattle.hirscan.specs.declared.fault.Fault.TheVariants as of_text
 use Rattle.hirscan.specs.declared.fault.LineFault.{LineFault}
@@ -10,9 +10,8 @@ use Rattle.hirscan.specs.declared.fault.LineFault.TheVariants as of_line
 use Rattle.hirscan.specs.declared.line.Step.{Step}
 use Rattle.hirscan.specs.declared.line.Step.TheVariants.{Next, End}
 use Rattle.hirscan.specs.declared.line.Stands.{Stands}
-use Rattle.hirscan.specs.declared.line.Settings.{Settings as CodeSettings}
 use Rattle.hirscan.specs.declared.head.Head.{Head}
-use Rattle.hirscan.specs.Takes.{Settings, Standing, at_first, Takes, EndsHead}
+use Rattle.hirscan.specs.Takes.{Standing, at_first, Takes, EndsHead}
 use Rattle.hirscan.specs.Reads.{IsOneLine, IsFaultAt}
 use Rattle.hirscan.specs.declared.words.LineWord.{LineWord}
 use Rattle.hirscan.specs.declared.words.LineWord.TheVariants.{Find}
@@ -27,6 +26,7 @@ kind_text WrongWordCount = codes "wrong word count"
 kind_text BadNumber = codes "bad number"
 kind_text BadHex = codes "bad hex"
 kind_text BadRange = codes "bad range"
+kind_text UnknownLook = codes "unknown look"
 kind_text BadChoice = codes "bad choice"
 kind_text MinAboveMax = codes "min above max"
 kind_text TooFewTrees = codes "too few trees"
@@ -38,18 +38,14 @@ kind_text TreeLeftOver = codes "tree left over"
 abbrev pub texts : List (Bor (List ℕ)) → List (List ℕ)
 texts words = map (λ w. w.now) words
 
--- the settings, as the rules see them
-abbrev pub settings : CodeSettings → Settings
-settings s = record { utf8 = s.utf8; anchored = s.anchored; span = s.span }
-
 -- what stands, as the rules see it
 abbrev pub standing : Stands → Standing
-standing stands = record { settings = settings stands.settings; stack = stands.stack.items; patterns = stands.patterns.items }
+standing stands = record { setup = stands.setup; stack = stands.stack.items; patterns = stands.patterns.items }
 
 -- what stands at the end of a head
 abbrev pub head_standing : Head → Standing
 head_standing head = record {
-  settings = record { utf8 = head.utf8; anchored = head.anchored; span = head.span };
+  setup = record { settings = head.settings; anchored = head.anchored; span = head.span };
   stack = [];
   patterns = head.patterns.items;
 }

@@ -1,6 +1,8 @@
 -- The words of a line, and what a word says by itself.
-use Rattle.std.specs.Prelude.{◌≡◌, ℕ, zero, suc, ◌+◌, ◌-◌, ◌*◌, ◌/◌, ◌%◌, ◌^◌, ◌<◌, ◌≤◌, ◌==◌, Bool, true, false, List, [], ◌∷◌, ◌++◌, length, slice_index, Option, Some, None, decimal, codes, if◌then◌else◌}
+use Rattle.std.specs.Prelude.{◌≡◌, ℕ, zero, suc, ◌+◌, ◌-◌, ◌*◌, ◌/◌, ◌%◌, ◌^◌, ◌<◌, ◌≤◌, ◌==◌, Bool, true, false, List, [], ◌∷◌, ◌++◌, length, slice_index, Option, Some, None, decimal, codes, if◌then◌else◌, nat_lt, nat_le, min, max, ◌&&◌, ◌||◌}
 use Rattle.std.specs.List.{slice_split}
+use Rattle.look_core.specs.declared.look.Look.{Look}
+use Rattle.look_core.specs.declared.look.Look.TheVariants.{Start, End, StartLF, EndLF, StartCRLF, EndCRLF, WordAscii, WordAsciiNegate, WordUnicode, WordUnicodeNegate, WordStartAscii, WordEndAscii, WordStartUnicode, WordEndUnicode, WordStartHalfAscii, WordEndHalfAscii, WordStartHalfUnicode, WordEndHalfUnicode}
 use Rattle.hir_core.specs.Means.{is_member}
 
 -- what stands between the spaces of the line: n spaces part n + 1 words, some of which may be empty
@@ -64,6 +66,67 @@ pub record IsItem (w : List ℕ) (range : ℕ × ℕ) : Type 0 where
   pub ends : HasEnds w range
   pub in_order : range.0 ≤ range.1
 
+-- the word is the name of the look
+abbrev pub look_name : Look → List ℕ
+look_name Start = codes "Start"
+look_name End = codes "End"
+look_name StartLF = codes "StartLF"
+look_name EndLF = codes "EndLF"
+look_name StartCRLF = codes "StartCRLF"
+look_name EndCRLF = codes "EndCRLF"
+look_name WordAscii = codes "WordAscii"
+look_name WordAsciiNegate = codes "WordAsciiNegate"
+look_name WordUnicode = codes "WordUnicode"
+look_name WordUnicodeNegate = codes "WordUnicodeNegate"
+look_name WordStartAscii = codes "WordStartAscii"
+look_name WordEndAscii = codes "WordEndAscii"
+look_name WordStartUnicode = codes "WordStartUnicode"
+look_name WordEndUnicode = codes "WordEndUnicode"
+look_name WordStartHalfAscii = codes "WordStartHalfAscii"
+look_name WordEndHalfAscii = codes "WordEndHalfAscii"
+look_name WordStartHalfUnicode = codes "WordStartHalfUnicode"
+look_name WordEndHalfUnicode = codes "WordEndHalfUnicode"
+
+abbrev pub IsLookName : List ℕ → Look → Type 0
+IsLookName w l = w ≡ look_name l
+
+-- the digits, behind others of the value `before`, have this value
+abbrev pub HasHexValue : ℕ → List ℕ → ℕ → Type 0
+HasHexValue before [] n = n ≡ before
+HasHexValue before (c ∷ cs) n = (digit : ℕ) × IsHexDigit c digit × HasHexValue (16 * before + digit) cs n
+
+-- the word is a number of one to six hexadecimal digits
+pub record IsHexNumber (w : List ℕ) (n : ℕ) : Type 0 where
+  pub some : 0 < length w
+  pub six : length w ≤ 6
+  pub value : HasHexValue 0 w n
+
+-- the word has two ends, as `3b1-3C9` has, in whichever order
+pub record HasHexEnds (w : List ℕ) (ends : ℕ × ℕ) : Type 0 where
+  pub low : List ℕ
+  pub high : List ℕ
+  pub parts : w ≡ low ++ 45 ∷ high
+  pub low_is : IsHexNumber low ends.0
+  pub high_is : IsHexNumber high ends.1
+
+-- whether the number is a scalar: one of a character, and so no surrogate
+abbrev pub is_scalar : ℕ → Bool
+is_scalar c = nat_lt c 0xD800 || (nat_le 0xE000 c && nat_le c 0x10FFFF)
+
+-- the word is an item of a class of scalars: both ends are scalars, and the low one stands first and isn't above the high one
+pub record IsScalarItem (w : List ℕ) (range : ℕ × ℕ) : Type 0 where
+  pub ends : HasHexEnds w range
+  pub low_scalar : is_scalar range.0 ≡ true
+  pub high_scalar : is_scalar range.1 ≡ true
+  pub in_order : range.0 ≤ range.1
+
+-- each word is the item at its place in the list
+abbrev pub AreScalarItems : List (List ℕ) → List (ℕ × ℕ) → Type 0
+AreScalarItems [] [] = Unit {0}
+AreScalarItems [] (r ∷ rs) = ⊥
+AreScalarItems (w ∷ ws) [] = ⊥
+AreScalarItems (w ∷ ws) (r ∷ rs) = IsScalarItem w r × AreScalarItems ws rs
+
 -- each word is the item at its place in the list
 abbrev pub AreItems : List (List ℕ) → List (ℕ × ℕ) → Type 0
 AreItems [] [] = Unit {0}
@@ -89,3 +152,17 @@ ranges_from member (suc n) b = with_member (member b) b (ranges_from member n (b
 -- the ranges of a class of these items, which may overlap and come in any order
 unfoldable pub class_ranges : List (ℕ × ℕ) → List (ℕ × ℕ)
 class_ranges items = ranges_from (is_member items) 256 0
+
+-- The ranges with one more. They are ascending, and some number stands between each two of them; so are those that it gives: the
+-- new range takes in the ones that it meets or touches.
+abbrev pub with_range : ℕ × ℕ → List (ℕ × ℕ) → List (ℕ × ℕ)
+with_range r [] = r ∷ []
+with_range r (s ∷ rest) =
+    if nat_lt (r.1 + 1) s.0 then r ∷ s ∷ rest
+    else if nat_lt (s.1 + 1) r.0 then s ∷ with_range r rest
+    else with_range (min r.0 s.0, max r.1 s.1) rest
+
+-- the ranges of a class of these items of scalars, which may overlap and come in any order
+unfoldable pub scalar_ranges : List (ℕ × ℕ) → List (ℕ × ℕ)
+scalar_ranges [] = []
+scalar_ranges (r ∷ items) = with_range r (scalar_ranges items)

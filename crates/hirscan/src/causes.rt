@@ -1,27 +1,13 @@
 // Why a head that was read is refused with the haystack behind it.
 ghost use Rattle.std.specs.Prelude.{◌≡◌, IfOk, option_map, string_bytes};
-ghost use Rattle.hir_core.specs.Facts.{list_count};
 ghost use Rattle.hirscan.specs.Tells.{head_standing};
 ghost use Rattle.hirscan.specs.Refusals.{first_not_utf8, where_utf8, first_broken, span_of, is_span, pattern_causes, haystack_causes, refusal};
 
 use crate::head::Head;
 use crate::loops::first_empty_loop;
 use hir_core::Hir;
+use search_types::Span;
 use std::alloc::{AllocError, Global};
-
-/// The greatest count of the list of patterns.
-const COUNT_LIMIT: usize = 16384;
-
-/// A bound on the states of an automaton for the patterns.
-fn list_count(patterns: &[Hir]) -> usize
-    ensures { result ≡ list_count patterns.now }
-{
-    let mut states = 4usize;
-    for pattern in patterns.iter().rev() {
-        states = states.saturating_add(pattern.count().saturating_add(3));
-    }
-    states
-}
 
 /// The number of the first pattern whose spans aren't seen to be UTF-8.
 fn first_not_utf8(patterns: &[Hir]) -> Option<usize>
@@ -42,24 +28,24 @@ fn first_broken(h: &[u8]) -> Option<usize>
 }
 
 /// What is searched of the haystack fits.
-fn span_fits(span: Option<(usize, usize)>, h: &[u8]) -> bool
+fn span_fits(span: Option<Span>, h: &[u8]) -> bool
     ensures { result ≡ is_span (span_of span h.now) h.now }
 {
     match span {
         None => true,
-        Some((start, end)) => end <= h.len() && start <= end.saturating_add(1),
+        Some(span) => span.end <= h.len() && span.start <= span.end.saturating_add(1),
     }
 }
 
 /// The cause that lies in the patterns.
 fn pattern_cause(alloc: Global, head: &Head) -> Result<Option<String>, AllocError>
-    ensures { IfOk result (λ cause. option_map string_bytes cause ≡ pattern_causes head.now.utf8 head.now.patterns.items) }
+    ensures { IfOk result (λ cause. option_map string_bytes cause ≡ pattern_causes head.now.settings.utf8 head.now.patterns.items) }
 {
     if let Some(pattern) = first_empty_loop(&head.patterns) {
         let cause = format!(in alloc; "pattern {pattern}: unbounded body may be empty")?;
         return Ok(Some(cause));
     }
-    if head.utf8 {
+    if head.settings.utf8 {
         if let Some(pattern) = first_not_utf8(&head.patterns) {
             let cause = format!(in alloc; "pattern {pattern}: not UTF-8")?;
             return Ok(Some(cause));
@@ -70,9 +56,9 @@ fn pattern_cause(alloc: Global, head: &Head) -> Result<Option<String>, AllocErro
 
 /// The cause that lies in the haystack, or in what is searched of it.
 fn haystack_cause(alloc: Global, head: &Head, h: &[u8]) -> Result<Option<String>, AllocError>
-    ensures { IfOk result (λ cause. option_map string_bytes cause ≡ haystack_causes head.now.utf8 head.now.span h.now) }
+    ensures { IfOk result (λ cause. option_map string_bytes cause ≡ haystack_causes head.now.settings.utf8 head.now.span h.now) }
 {
-    if head.utf8 {
+    if head.settings.utf8 {
         if let Some(at) = first_broken(h) {
             let cause = format!(in alloc; "haystack not UTF-8 at {at}")?;
             return Ok(Some(cause));
@@ -84,22 +70,16 @@ fn haystack_cause(alloc: Global, head: &Head, h: &[u8]) -> Result<Option<String>
     Ok(None)
 }
 
-/// The first cause to refuse what the head says with this haystack; `None` where it is searched.
+/// The first cause that shows in the input to refuse what the head says with this haystack; `None` where it is searched for.
 pub(crate) fn refusal_cause(
     alloc: Global,
     head: &Head,
     h: &[u8],
 ) -> Result<Option<String>, AllocError>
-    ensures { IfOk result (λ cause. option_map string_bytes cause ≡ refusal (head_standing head.now).settings head.now.patterns.items h.now) }
+    ensures { IfOk result (λ cause. option_map string_bytes cause ≡ refusal (head_standing head.now).setup head.now.patterns.items h.now) }
 {
     if let Some(cause) = pattern_cause(alloc, head)? {
         return Ok(Some(cause));
     }
-    if let Some(cause) = haystack_cause(alloc, head, h)? {
-        return Ok(Some(cause));
-    }
-    if list_count(&head.patterns) > COUNT_LIMIT {
-        return Ok(Some(String::from_str(alloc, "size limit")?));
-    }
-    Ok(None)
+    haystack_cause(alloc, head, h)
 }

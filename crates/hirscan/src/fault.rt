@@ -20,8 +20,10 @@ pub enum FaultKind {
     BadNumber,
     /// Digits aren't hexadecimal, or not as many as they have to be.
     BadHex,
-    /// The low end of a class's item is above its high end.
+    /// The low end of a class's item is above its high end, or one of both isn't a scalar.
     BadRange,
+    /// No look has the name.
+    UnknownLook,
     /// A word is none of those that may stand there.
     BadChoice,
     /// A repetition's least number of rounds is above its greatest.
@@ -49,6 +51,7 @@ impl FaultKind {
             FaultKind::BadNumber => "bad number",
             FaultKind::BadHex => "bad hex",
             FaultKind::BadRange => "bad range",
+            FaultKind::UnknownLook => "unknown look",
             FaultKind::BadChoice => "bad choice",
             FaultKind::MinAboveMax => "min above max",
             FaultKind::TooFewTrees => "too few trees",

@@ -5,19 +5,21 @@ ghost use Rattle.hirscan.specs.Reads.{IsOneLine, Reads};
 ghost use Rattle.hirscan.specs.Tells.{TellsFault, CutsLine, head_standing};
 
 use crate::fault::{Fault, FaultKind};
-use crate::line::{Settings, Stands, Step, read_line};
+use crate::line::{Setup, Stands, Step, read_line};
+use crate::settings::Settings;
 use hir_core::Hir;
+use search_types::Span;
 use std::alloc::Global;
 
 /// What a text has before its haystack.
-#[derive(Debug, Drop)]
+#[derive(Drop)]
 pub struct Head {
-    /// Whether the patterns are searched in UTF-8 mode.
-    pub utf8: bool,
+    /// How a regex is made of the patterns. An option that no line sets isn't set.
+    pub settings: Settings,
     /// Whether each match has to start where its search does.
     pub anchored: bool,
-    /// The start and the end of the span that is searched; `None` for the whole haystack.
-    pub span: Option<(usize, usize)>,
+    /// The span that is searched; `None` for the whole haystack.
+    pub span: Option<Span>,
     /// The patterns, in the order in which they were taken.
     pub patterns: Vec<Hir>,
     /// How many bytes the head has, with the line feed of its line `find`.
@@ -41,8 +43,8 @@ pub fn read_head(alloc: Global, text: &[u8]) -> Result<Head, Fault>
     ensures notation { IfErr result (λ e. TellsFault text.now e) }
 {
     let mut stands = Stands {
-        settings: Settings {
-            utf8: true,
+        setup: Setup {
+            settings: Settings::new(),
             anchored: false,
             span: None,
         },
@@ -69,14 +71,12 @@ pub fn read_head(alloc: Global, text: &[u8]) -> Result<Head, Fault>
             Step::Next => lines += 1,
             Step::End => {
                 let Stands {
-                    settings,
-                    patterns,
-                    ..
+                    setup, patterns, ..
                 } = stands;
                 return Ok(Head {
-                    utf8: settings.utf8,
-                    anchored: settings.anchored,
-                    span: settings.span,
+                    settings: setup.settings,
+                    anchored: setup.anchored,
+                    span: setup.span,
                     patterns,
                     len: at,
                 });

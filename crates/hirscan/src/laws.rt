@@ -1,15 +1,17 @@
 //! Laws of the answers and of the reply. Each function has no code: its contract is the law.
-ghost use Rattle.std.specs.Prelude.{◌≡◌, ℕ, true, slice_get, List, Some};
+ghost use Rattle.std.specs.Prelude.{◌≡◌, ◌⊎◌, ◌≤◌, ◌+◌, ◌-◌, ℕ, true, All, length, slice_get, List, Some, None};
 ghost use Rattle.hir_core.specs.Tree.{Tree};
 ghost use Rattle.hir_core.specs.Means.{Means};
 ghost use Rattle.hir_core.specs.Facts.{LoopsRead};
-ghost use Rattle.search_types.specs.AllAnswers.{AnswersWithin};
+ghost use Rattle.search_types.specs.AllAnswers.{AnswersWithin, EndsRise};
 ghost use Rattle.search_types.specs.Found.{Found};
 ghost use Rattle.search_types.specs.Places.{counts};
 ghost use Rattle.hirscan.specs.declared.program.Ending.{Ending};
-ghost use Rattle.hirscan.specs.Choices.{Query, answer_from};
+ghost use Rattle.hirscan.specs.Choices.{Query, answer_from, answers_of};
 ghost use Rattle.hirscan.specs.Loops.{loops_read};
-ghost use Rattle.hirscan.specs.Reply.{IsReply};
+ghost use Rattle.hirscan.specs.declared.line.Setup.{Setup};
+ghost use Rattle.hirscan.specs.declared.program.Ending.TheVariants.{Listed, Refused};
+ghost use Rattle.hirscan.specs.Reply.{Asks, IsRefused, IsReply, refusal_line};
 
 /// An answer over trees is a span that the tree of its number means.
 #[tactic(auto, using(crate::proofs::AnswerLemmas::answer_is_meant))]
@@ -31,14 +33,26 @@ pub fn loops_read_tells()
     ensures complete { (x : Tree) → LoopsRead x → loops_read x ≡ true }
 {}
 
-/// An input has a reply, and only one, which ends in one way.
-pub fn an_input_has_one_reply()
-    ensures some { (input : List ℕ) → (e : Ending) × (t : List ℕ) × IsReply input e t }
-    ensures one { (input : List ℕ) (e f : Ending) (s t : List ℕ) → IsReply input e s → IsReply input f t → (e ≡ f) × (s ≡ t) }
+/// An input is refused for what shows in it, or asks for a search. One that is refused has that reply alone, and one whose matches
+/// are all listed has no other list.
+pub fn replies_agree()
+    ensures some { (input : List ℕ) → ((cause : List ℕ) × IsRefused input cause)
+        ⊎ ((setup : Setup) × (xs : List Tree) × (h : List ℕ) × Asks input setup xs h) }
+    ensures refused { (input cause : List ℕ) (e : Ending) (t : List ℕ) → IsRefused input cause → IsReply input e t →
+        (e ≡ Refused) × (t ≡ refusal_line cause) }
+    ensures listed { (input s t : List ℕ) → IsReply input Listed s → IsReply input Listed t → s ≡ t }
+{}
+
+/// The ends of all answers rise, so there is at most one for each place.
+pub fn ends_of_answers_rise()
+    ensures ends { (q : Query) (s : ℕ) → EndsRise None (answers_of q s) }
+    ensures few { (q : Query) (s : ℕ) → length (answers_of q s) ≤ q.end + 1 - s }
 {}
 
 /// In UTF-8 mode no answer starts or ends inside a character.
 pub fn answers_start_and_end_where_it_counts()
-    ensures { (q : Query) (s : ℕ) (f : Found) → answer_from q s ≡ Some f →
+    ensures one { (q : Query) (s : ℕ) (f : Found) → answer_from q s ≡ Some f →
         (counts q.utf8 q.haystack f.start ≡ true) × (counts q.utf8 q.haystack f.end ≡ true) }
+    ensures all { (q : Query) (s : ℕ) →
+        All (λ f. (counts q.utf8 q.haystack f.start ≡ true) × (counts q.utf8 q.haystack f.end ≡ true)) (answers_of q s) }
 {}

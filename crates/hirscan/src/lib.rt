@@ -7,21 +7,24 @@
 //! in [`word_laws`]. That two automata compiled from trees answer what these define is in [`search_laws`].
 #![tactic(auto)]
 
+mod building;
 mod causes;
 mod fault;
-mod find;
 mod head;
+pub mod headline;
 pub mod laws;
 mod line;
 mod loops;
-mod plain;
 mod program;
 pub mod reading_laws;
 mod reply;
 pub mod search_laws;
+mod settings;
 pub mod word_laws;
 mod words;
 
+pub use building::build;
 pub use fault::{Fault, FaultKind};
 pub use head::{Head, read_head};
 pub use program::{Ending, RunError, run};
+pub use settings::Settings;

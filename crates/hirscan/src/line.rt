@@ -1,36 +1,40 @@
 // One line: its words, the stack and the patterns before and after it.
-ghost use Rattle.std.specs.Prelude.{◌≡◌, ◌<◌, ◌≤◌, IfOk, IfErr, OnOk, MatchOption, IsTrue, ℕ, length, Some, None, [], ◌∷◌, ◌++◌, nat_lt, slice_index_or};
+ghost use Rattle.std.specs.Prelude.{◌≡◌, ◌⊎◌, ◌<◌, ◌≤◌, false, IfOk, IfErr, OnOk, MatchOption, IsTrue, ℕ, length, Some, None, [], ◌∷◌, ◌++◌, nat_lt, slice_index_or};
 ghost use Rattle.hir_core.specs.Tree.{empty};
 ghost use Rattle.hir_core.specs.Facts.{height};
 ghost use Rattle.hirscan.specs.Words.{words};
-ghost use Rattle.hirscan.specs.LineFault.{fault, known_fault, after, top, below, when, is_at_most, is_word_count, is_setting, is_setting_after_node, left_fault};
+ghost use Rattle.hirscan.specs.Readers.{hex_byte, word_at};
+ghost use Rattle.hirscan.specs.LineFault.{fault, byte_fault, known_fault, after, top, below, when, is_at_most, is_word_count, is_setting, is_setting_after_node, left_fault};
 ghost use Rattle.hirscan.specs.Tells.{texts, standing, TellsLineFault, TellsStep, IsDone, step_after};
 ghost use Rattle.hirscan.specs.declared.fault.FaultKind.TheVariants.{TooFewTrees, TooDeep};
-ghost use Rattle.hirscan.specs.declared.words.LineWord.TheVariants.{Utf8, Anchored, Span, Empty, Lit, Bytes, Rep, Cat, Alt, Pattern, Find};
+ghost use Rattle.hirscan.specs.declared.words.LineWord.TheVariants.{Utf8, Line, Capacity, Quit, Classes, Shrink, Anchored, Span, Empty, Lit, Bytes, Chars, Look, Rep, Cat, Alt, Pattern, Find};
 
 use crate::fault::{FaultKind, LineFault};
+use crate::settings::Settings;
 use crate::words::{
-    LineWord, bound, class_ranges, hex_bytes, items, line_word, number, order, switch, word_at,
-    yes_or_no,
+    LineWord, bound, class_ranges, hex_byte, hex_bytes, items, line_word, look_named, number,
+    order, scalar_items, scalar_ranges, switch, word_at, yes_or_no,
 };
 use hir_core::Hir;
+use look_core::LineTerm;
+use search_types::Span;
 use std::alloc::{AllocError, Global};
 
 /// A tree may not be higher.
 const MAX_HEIGHT: usize = 250;
 
 /// How the patterns are searched.
-#[derive(Clone, Copy, Debug)]
-pub(crate) struct Settings {
-    pub utf8: bool,
+#[derive(Clone, Copy)]
+pub(crate) struct Setup {
+    pub settings: Settings,
     pub anchored: bool,
-    pub span: Option<(usize, usize)>,
+    pub span: Option<Span>,
 }
 
-/// The settings, the trees on the stack, the last pushed last, and the patterns that were taken.
-#[derive(Debug, Drop)]
+/// How is searched, the trees on the stack, the last pushed last, and the patterns that were taken.
+#[derive(Drop)]
 pub(crate) struct Stands {
-    pub settings: Settings,
+    pub setup: Setup,
     pub stack: Vec<Hir>,
     pub patterns: Vec<Hir>,
 }
@@ -52,7 +56,7 @@ fn split_words(alloc: Global, line: &[u8]) -> Result<Vec<&[u8]>, AllocError>
 /// Pushes a tree, unless it is too high.
 fn push(stands: &mut Stands, tree: Hir) -> Result<(), LineFault>
     ensures ok { OnOk result ((height tree ≤ 250) × (stands.new.stack.items ≡ stands.old.stack.items ++ tree ∷ [])
-        × (stands.new.patterns.items ≡ stands.old.patterns.items) × (stands.new.settings ≡ stands.old.settings)) }
+        × (stands.new.patterns.items ≡ stands.old.patterns.items) × (stands.new.setup ≡ stands.old.setup)) }
     ensures err { IfErr result (λ e. TellsLineFault (when (nat_lt 250 (height tree)) TooDeep) e) }
 {
     if tree.height() > MAX_HEIGHT {
@@ -68,7 +72,7 @@ fn pop(stands: &mut Stands) -> Option<Hir>
         × (slice_index_or (top 1 stands.old.stack.items) 0 empty ≡ x)
         × (stands.new.stack.items ≡ below 1 stands.old.stack.items)) }
     ensures patterns { stands.new.patterns.items ≡ stands.old.patterns.items }
-    ensures settings { stands.new.settings ≡ stands.old.settings }
+    ensures setup { stands.new.setup ≡ stands.old.setup }
 {
     stands.stack.pop()
 }
@@ -80,7 +84,7 @@ fn pop_many(stands: &mut Stands, count: u32) -> Result<Vec<Hir>, LineFault>
         × (stands.new.stack.items ≡ below count stands.old.stack.items)) }
     ensures err { IfErr result (λ e. TellsLineFault (when (nat_lt (length stands.old.stack.items) count) TooFewTrees) e) }
     ensures patterns { stands.new.patterns.items ≡ stands.old.patterns.items }
-    ensures settings { stands.new.settings ≡ stands.old.settings }
+    ensures setup { stands.new.setup ≡ stands.old.setup }
 {
     let len = stands.stack.len();
     if len < count as usize {
@@ -100,7 +104,78 @@ fn utf8_line(args: &[&[u8]], stands: &mut Stands) -> Result<(), LineFault>
     let Some(on) = switch(word_at(args, 0)) else {
         return Err(LineFault::Is(FaultKind::BadChoice));
     };
-    stands.settings.utf8 = on;
+    stands.setup.settings.utf8 = on;
+    Ok(())
+}
+
+fn byte_at(args: &[&[u8]], i: usize) -> Result<u8, LineFault>
+    requires { i < length args.now }
+    ensures ok { IfOk result (λ b. hex_byte (word_at (texts args.now) i) ≡ Some b) }
+    ensures err { IfErr result (λ e. TellsLineFault (byte_fault (word_at (texts args.now) i)) e) }
+{
+    hex_byte(word_at(args, i)).ok_or(LineFault::Is(FaultKind::BadHex))
+}
+
+fn terminator_line(args: &[&[u8]], stands: &mut Stands) -> Result<(), LineFault>
+    requires { (length args.now ≡ 1) ⊎ (length args.now ≡ 2) }
+    ensures ok { OnOk result (IsDone Line (texts args.now) (standing stands.old) (standing stands.new)) }
+    ensures err { IfErr result (λ e. TellsLineFault (left_fault Line (texts args.now) (standing stands.old)) e) }
+{
+    let first = byte_at(args, 0)?;
+    let mut terminator = LineTerm::one(first);
+    if args.len() == 2 {
+        terminator = LineTerm::two(first, byte_at(args, 1)?);
+    }
+    stands.setup.settings.line_terminator = terminator;
+    Ok(())
+}
+
+fn capacity_line(args: &[&[u8]], stands: &mut Stands) -> Result<(), LineFault>
+    requires { length args.now ≡ 1 }
+    ensures ok { OnOk result (IsDone Capacity (texts args.now) (standing stands.old) (standing stands.new)) }
+    ensures err { IfErr result (λ e. TellsLineFault (left_fault Capacity (texts args.now) (standing stands.old)) e) }
+{
+    let Some(bytes) = number(word_at(args, 0)) else {
+        return Err(LineFault::Is(FaultKind::BadNumber));
+    };
+    let dfa = stands.setup.settings.dfa;
+    stands.setup.settings.dfa = dfa.cache_capacity(bytes as usize);
+    Ok(())
+}
+
+fn quit_line(args: &[&[u8]], stands: &mut Stands) -> Result<(), LineFault>
+    requires { length args.now ≡ 1 }
+    ensures ok { OnOk result (IsDone Quit (texts args.now) (standing stands.old) (standing stands.new)) }
+    ensures err { IfErr result (λ e. TellsLineFault (left_fault Quit (texts args.now) (standing stands.old)) e) }
+{
+    let byte = byte_at(args, 0)?;
+    let dfa = stands.setup.settings.dfa;
+    stands.setup.settings.dfa = dfa.quit(byte, true);
+    Ok(())
+}
+
+fn classes_line(args: &[&[u8]], stands: &mut Stands) -> Result<(), LineFault>
+    requires { length args.now ≡ 1 }
+    ensures ok { OnOk result (IsDone Classes (texts args.now) (standing stands.old) (standing stands.new)) }
+    ensures err { IfErr result (λ e. TellsLineFault (left_fault Classes (texts args.now) (standing stands.old)) e) }
+{
+    let Some(on) = switch(word_at(args, 0)) else {
+        return Err(LineFault::Is(FaultKind::BadChoice));
+    };
+    let dfa = stands.setup.settings.dfa;
+    stands.setup.settings.dfa = dfa.byte_classes(on);
+    Ok(())
+}
+
+fn shrink_line(args: &[&[u8]], stands: &mut Stands) -> Result<(), LineFault>
+    requires { length args.now ≡ 1 }
+    ensures ok { OnOk result (IsDone Shrink (texts args.now) (standing stands.old) (standing stands.new)) }
+    ensures err { IfErr result (λ e. TellsLineFault (left_fault Shrink (texts args.now) (standing stands.old)) e) }
+{
+    let Some(on) = switch(word_at(args, 0)) else {
+        return Err(LineFault::Is(FaultKind::BadChoice));
+    };
+    stands.setup.settings.shrink = on;
     Ok(())
 }
 
@@ -112,7 +187,7 @@ fn anchored_line(args: &[&[u8]], stands: &mut Stands) -> Result<(), LineFault>
     let Some(yes) = yes_or_no(word_at(args, 0)) else {
         return Err(LineFault::Is(FaultKind::BadChoice));
     };
-    stands.settings.anchored = yes;
+    stands.setup.anchored = yes;
     Ok(())
 }
 
@@ -127,7 +202,10 @@ fn span_line(args: &[&[u8]], stands: &mut Stands) -> Result<(), LineFault>
     let Some(end) = number(word_at(args, 1)) else {
         return Err(LineFault::Is(FaultKind::BadNumber));
     };
-    stands.settings.span = Some((start as usize, end as usize));
+    stands.setup.span = Some(Span {
+        start: start as usize,
+        end: end as usize,
+    });
     Ok(())
 }
 
@@ -159,6 +237,30 @@ fn bytes_line(alloc: Global, args: &[&[u8]], stands: &mut Stands) -> Result<(), 
         return Err(LineFault::NoMemory);
     };
     push(stands, Hir::bytes(ranges))
+}
+
+#[tactic(auto, using(crate::proofs::StackLemmas::below_none))]
+fn chars_line(alloc: Global, args: &[&[u8]], stands: &mut Stands) -> Result<(), LineFault>
+    ensures ok { OnOk result (IsDone Chars (texts args.now) (standing stands.old) (standing stands.new)) }
+    ensures err { IfErr result (λ e. TellsLineFault (left_fault Chars (texts args.now) (standing stands.old)) e) }
+{
+    let items = scalar_items(alloc, args)?;
+    let Ok(ranges) = scalar_ranges(alloc, &items) else {
+        return Err(LineFault::NoMemory);
+    };
+    push(stands, Hir::chars(ranges))
+}
+
+#[tactic(auto, using(crate::proofs::StackLemmas::below_none))]
+fn look_line(args: &[&[u8]], stands: &mut Stands) -> Result<(), LineFault>
+    requires { length args.now ≡ 1 }
+    ensures ok { OnOk result (IsDone Look (texts args.now) (standing stands.old) (standing stands.new)) }
+    ensures err { IfErr result (λ e. TellsLineFault (left_fault Look (texts args.now) (standing stands.old)) e) }
+{
+    let Some(assertion) = look_named(word_at(args, 0)) else {
+        return Err(LineFault::Is(FaultKind::UnknownLook));
+    };
+    push(stands, Hir::look(assertion))
 }
 
 fn is_at_most(n: u32, most: Option<u32>) -> bool
@@ -249,10 +351,12 @@ fn is_word_count(word: LineWord, count: usize) -> bool
 {
     match word {
         LineWord::Empty | LineWord::Pattern | LineWord::Find => count == 0,
-        LineWord::Utf8 | LineWord::Anchored => count == 1,
-        LineWord::Lit | LineWord::Cat | LineWord::Alt => count == 1,
+        LineWord::Utf8 | LineWord::Capacity | LineWord::Quit => count == 1,
+        LineWord::Classes | LineWord::Shrink | LineWord::Anchored => count == 1,
+        LineWord::Lit | LineWord::Look | LineWord::Cat | LineWord::Alt => count == 1,
+        LineWord::Line => count == 1 || count == 2,
         LineWord::Span => count == 2,
-        LineWord::Bytes => count >= 1,
+        LineWord::Bytes | LineWord::Chars => count >= 1,
         LineWord::Rep => count == 3,
     }
 }
@@ -260,7 +364,17 @@ fn is_word_count(word: LineWord, count: usize) -> bool
 fn is_setting(word: LineWord) -> bool
     ensures { result ≡ is_setting word }
 {
-    matches!(word, LineWord::Utf8 | LineWord::Anchored | LineWord::Span)
+    matches!(
+        word,
+        LineWord::Utf8
+            | LineWord::Line
+            | LineWord::Capacity
+            | LineWord::Quit
+            | LineWord::Classes
+            | LineWord::Shrink
+            | LineWord::Anchored
+            | LineWord::Span
+    )
 }
 
 /// Whether the line sets something where a tree has been pushed: such a tree stands on the stack,
@@ -269,6 +383,63 @@ fn is_setting_after_node(word: LineWord, stands: &Stands) -> bool
     ensures { result ≡ is_setting_after_node word (standing stands.now) }
 {
     is_setting(word) && (stands.stack.len() > 0 || stands.patterns.len() > 0)
+}
+
+/// Follows a line that sets something and has as many words as it has to.
+fn follow_setting(word: LineWord, args: &[&[u8]], stands: &mut Stands) -> Result<(), LineFault>
+    requires setting { IsTrue (is_setting word) }
+    requires counted { IsTrue (is_word_count word (length args.now)) }
+    ensures ok { OnOk result (IsDone word (texts args.now) (standing stands.old) (standing stands.new)) }
+    ensures err { IfErr result (λ e. TellsLineFault (left_fault word (texts args.now) (standing stands.old)) e) }
+{
+    match word {
+        LineWord::Utf8 => utf8_line(args, stands),
+        LineWord::Line => terminator_line(args, stands),
+        LineWord::Capacity => capacity_line(args, stands),
+        LineWord::Quit => quit_line(args, stands),
+        LineWord::Classes => classes_line(args, stands),
+        LineWord::Shrink => shrink_line(args, stands),
+        LineWord::Anchored => anchored_line(args, stands),
+        LineWord::Span => span_line(args, stands),
+        _ => unreachable!(),
+    }
+}
+
+/// Follows another line that has as many words as it has to.
+fn follow_other(
+    alloc: Global,
+    word: LineWord,
+    args: &[&[u8]],
+    stands: &mut Stands,
+) -> Result<(), LineFault>
+    requires other { is_setting word ≡ false }
+    requires counted { IsTrue (is_word_count word (length args.now)) }
+    ensures ok { OnOk result (IsDone word (texts args.now) (standing stands.old) (standing stands.new)) }
+    ensures err { IfErr result (λ e. TellsLineFault (left_fault word (texts args.now) (standing stands.old)) e) }
+{
+    match word {
+        LineWord::Empty => empty_line(args, stands),
+        LineWord::Lit => lit_line(alloc, args, stands),
+        LineWord::Bytes => bytes_line(alloc, args, stands),
+        LineWord::Chars => chars_line(alloc, args, stands),
+        LineWord::Look => look_line(args, stands),
+        LineWord::Rep => rep_line(alloc, args, stands),
+        LineWord::Cat => cat_line(args, stands),
+        LineWord::Alt => alt_line(args, stands),
+        LineWord::Pattern => pattern_line(args, stands),
+        LineWord::Find => find_line(args, stands),
+        _ => unreachable!(),
+    }
+}
+
+/// What comes after a line of this first word.
+fn step_after(word: LineWord) -> Step
+    ensures { result ≡ step_after word }
+{
+    match word {
+        LineWord::Find => Step::End,
+        _ => Step::Next,
+    }
 }
 
 /// Follows a line that has as many words as it has to.
@@ -283,23 +454,12 @@ fn follow_counted(
         × (step ≡ step_after word)) }
     ensures err { IfErr result (λ e. TellsLineFault (left_fault word (texts args.now) (standing stands.old)) e) }
 {
-    match word {
-        LineWord::Utf8 => utf8_line(args, stands)?,
-        LineWord::Anchored => anchored_line(args, stands)?,
-        LineWord::Span => span_line(args, stands)?,
-        LineWord::Empty => empty_line(args, stands)?,
-        LineWord::Lit => lit_line(alloc, args, stands)?,
-        LineWord::Bytes => bytes_line(alloc, args, stands)?,
-        LineWord::Rep => rep_line(alloc, args, stands)?,
-        LineWord::Cat => cat_line(args, stands)?,
-        LineWord::Alt => alt_line(args, stands)?,
-        LineWord::Pattern => pattern_line(args, stands)?,
-        LineWord::Find => {
-            find_line(args, stands)?;
-            return Ok(Step::End);
-        }
+    if is_setting(word) {
+        follow_setting(word, args, stands)?;
+    } else {
+        follow_other(alloc, word, args, stands)?;
     }
-    Ok(Step::Next)
+    Ok(step_after(word))
 }
 
 /// Follows a line of this first word and these words after it.

@@ -12,6 +12,8 @@ use thiserror::Error;
 pub enum Ending {
     /// The spans are listed.
     Listed,
+    /// The spans up to where a search gave up at a quit byte, and then this byte.
+    Quit,
     /// The input is refused, by one line that says why.
     Refused,
 }

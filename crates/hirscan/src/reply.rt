@@ -1,16 +1,21 @@
 // The whole reply to an input, made before anything is written.
-ghost use Rattle.std.specs.Prelude.{◌≡◌, ◌++◌, ◌<◌, ◌^◌, ◌≤◌, length, IfOk, IsTrue, OnOk, string_bytes};
+ghost use Rattle.std.specs.Prelude.{◌≡◌, ◌++◌, ◌+◌, ◌<◌, ◌^◌, ◌≤◌, length, IfOk, IsTrue, MatchOption, OnOk, string_bytes};
 ghost use Rattle.hirscan.specs.Refusals.{span_of, is_span};
 ghost use Rattle.hirscan.specs.Asks.{search_of};
 ghost use Rattle.hirscan.specs.Tells.{head_standing};
-ghost use Rattle.hirscan.specs.Reply.{IsReply, IsSearchReply, span_line, span_lines, refusal_line};
+ghost use Rattle.search_core.specs.Index.{greatest_index};
+ghost use Rattle.hirscan.specs.Built.{IsBuilt, program_settings};
+ghost use Rattle.hirscan.specs.Reply.{IsReply, IsSearchReply, AnswersHead, AreTooLarge, span_line, span_lines, quit_line, refusal_line};
 
 use crate::causes::refusal_cause;
 use crate::fault::Fault;
-use crate::find::{Asked, all_answers};
+use crate::building::build;
 use crate::head::{Head, read_head};
 use crate::program::Ending;
-use search_types::{Anchored, Input, Match};
+use crate::settings::program_settings;
+use lazy_dfa::BuildError;
+use regex_pair::regex::{Cache, Regex};
+use search_types::{Anchored, Input, Match, MatchError, MatchErrorKind};
 use std::alloc::{AllocError, Global};
 
 /// The greatest length of an input, in bytes.
@@ -33,16 +38,6 @@ fn push_span(text: &mut String, found: Match) -> Result<(), AllocError>
     Ok(())
 }
 
-fn span_lines(alloc: Global, spans: &[Match]) -> Result<String, AllocError>
-    ensures { IfOk result (λ text. string_bytes text ≡ span_lines spans.now) }
-{
-    let mut text = String::new(alloc);
-    for span in spans {
-        push_span(&mut text, *span)?;
-    }
-    Ok(text)
-}
-
 /// The reply of one line that refuses the input for this cause.
 fn refusal(alloc: Global, cause: &str) -> Result<Reply, AllocError>
     ensures ending { IfOk result (λ r. r.ending ≡ Ending.Refused) }
@@ -57,7 +52,7 @@ fn refusal(alloc: Global, cause: &str) -> Result<Reply, AllocError>
 /// The span that is searched, as an input.
 fn input_of<'h>(head: &Head, h: &'h [u8]) -> Input<'h>
     requires { IsTrue (is_span (span_of head.now.span h.now) h.now) }
-    ensures { result ≡ search_of head.now h.now }
+    ensures { result ≡ search_of (head_standing head.now).setup h.now }
 {
     let input = Input::new(h).anchored(if head.anchored {
         Anchored::Yes
@@ -66,28 +61,85 @@ fn input_of<'h>(head: &Head, h: &'h [u8]) -> Input<'h>
     });
     match head.span {
         None => input,
-        Some((start, end)) => input.range(start..end),
+        Some(span) => input.span(span),
     }
 }
 
-/// The reply to a haystack that is searched as its head says.
-fn search_reply(alloc: Global, head: &Head, h: &[u8]) -> Result<Reply, AllocError>
-    ensures { IfOk result (λ r. IsSearchReply (head_standing head.now).settings head.now.patterns.items h.now r.ending (string_bytes r.text)) }
+/// The lines of what was found before a search gave up, with the line that says where.
+fn quit_reply(alloc: Global, text: String, byte: u8, offset: usize) -> Result<Reply, AllocError>
+    ensures ending { IfOk result (λ r. r.ending ≡ Ending.Quit) }
+    ensures text { IfOk result (λ r. string_bytes r.text ≡ string_bytes text ++ quit_line byte offset) }
 {
-    if let Some(cause) = refusal_cause(alloc, head, h)? {
-        return refusal(alloc, cause.as_str());
+    let mut text = text;
+    let hex = hex::encode_upper(alloc, &[byte])?;
+    writeln!(text, "quit: byte {hex} at {offset}")?;
+    Ok(Reply {
+        ending: Ending::Quit,
+        text,
+    })
+}
+
+/// The reply of a search behind whose first matches, told in this text, this refusal came.
+fn failed_reply(alloc: Global, text: String, e: MatchError) -> Result<Reply, AllocError>
+{
+    match e.kind() {
+        MatchErrorKind::Quit { byte, offset } => quit_reply(alloc, text, *byte, *offset),
+        MatchErrorKind::NoMemory => Err(AllocError),
+        _ => unreachable!(),
     }
-    let asked = Asked {
-        patterns: &head.patterns,
-        input: input_of(head, h),
-        utf8: head.utf8,
-    };
-    let spans = all_answers(alloc, &asked)?;
-    let text = span_lines(alloc, &spans)?;
+}
+
+/// The reply of a search over a regex: a line for each match.
+fn list_matches(
+    alloc: Global,
+    regex: &Regex,
+    cache: &mut Cache,
+    input: Input<'_>,
+) -> Result<Reply, AllocError>
+{
+    let mut text = String::new(alloc);
+    for item in regex.find_iter(cache, input) {
+        match item {
+            Ok(found) => push_span(&mut text, found)?,
+            Err(e) => return failed_reply(alloc, text, e),
+        }
+    }
     Ok(Reply {
         ending: Ending::Listed,
         text,
     })
+}
+
+/// The regex of the head's patterns; `None` where they are too large.
+fn regex_of(alloc: Global, head: &Head) -> Result<Option<Regex>, AllocError>
+    requires few { length head.now.patterns.items ≤ greatest_index + 1 }
+    ensures { IfOk result (λ r. MatchOption r (AreTooLarge (head_standing head.now).setup head.now.patterns.items)
+        (λ p. IsBuilt head.now.patterns.items (program_settings head.now.settings) p)) }
+{
+    let settings = program_settings(head.settings);
+    match build(alloc, &head.patterns, &settings) {
+        Ok(regex) => Ok(Some(regex)),
+        Err(BuildError::NFA {
+            err: nfa_core::BuildError::ExceededSizeLimit { .. },
+        }) => Ok(None),
+        Err(BuildError::NoMemory) => Err(AllocError),
+        Err(_) => unreachable!(),
+    }
+}
+
+/// The reply where this head was read, with this haystack behind it.
+fn search_reply(alloc: Global, head: &Head, h: &[u8]) -> Result<Reply, AllocError>
+    requires few { length head.now.patterns.items ≤ greatest_index + 1 }
+    ensures { IfOk result (λ r. AnswersHead (head_standing head.now).setup head.now.patterns.items h.now r.ending (string_bytes r.text)) }
+{
+    if let Some(cause) = refusal_cause(alloc, head, h)? {
+        return refusal(alloc, cause.as_str());
+    }
+    let Some(regex) = regex_of(alloc, head)? else {
+        return refusal(alloc, "size limit");
+    };
+    let mut cache = Cache::new(alloc, &regex)?;
+    list_matches(alloc, &regex, &mut cache, input_of(head, h))
 }
 
 /// The reply to an input, where `input` is the whole of it or begins it and is above the limit.

@@ -1,25 +1,33 @@
 // What a word of a line says by itself.
 ghost use Rattle.std.specs.Prelude.{◌≡◌, ◌<◌, ◌≤◌, length, map, reverse, Some, None, IfOk, IfErr, OnOk};
 ghost use Rattle.hir_core.specs.Means.{is_member};
-ghost use Rattle.hirscan.specs.Words.{with_byte, class_ranges};
-ghost use Rattle.hirscan.specs.Readers.{line_word, number, bound, order, switch, yes_or_no, hex_bytes, hex_byte, item_ends, the_ends, word_at};
-ghost use Rattle.hirscan.specs.LineFault.{unless_read, item_fault, first_of};
+ghost use Rattle.hirscan.specs.Words.{is_scalar, with_byte, with_range, class_ranges, scalar_ranges};
+ghost use Rattle.hirscan.specs.Readers.{line_word, setting_word, tree_word, number, bound, order, switch, yes_or_no, hex_bytes, hex_byte, item_ends, the_ends, hex_number, hex_ends, the_hex_ends, anchor_named, word_look_named, look_named, word_at};
+ghost use Rattle.hirscan.specs.LineFault.{unless_read, item_fault, scalar_item_fault, byte_fault, first_of};
 ghost use Rattle.hirscan.specs.Tells.{texts, TellsLineFault};
 ghost use Rattle.hirscan.specs.declared.fault.FaultKind.TheVariants.{BadHex};
 
 use crate::fault::{FaultKind, LineFault};
 use hex::{FromHex, FromHexError};
+use look_core::Look;
 use std::alloc::{AllocError, Global};
 
 /// The lines of the notation, by their first word.
 #[derive(Clone, Copy, Debug)]
 pub(crate) enum LineWord {
     Utf8,
+    Line,
+    Capacity,
+    Quit,
+    Classes,
+    Shrink,
     Anchored,
     Span,
     Empty,
     Lit,
     Bytes,
+    Chars,
+    Look,
     Rep,
     Cat,
     Alt,
@@ -27,21 +35,45 @@ pub(crate) enum LineWord {
     Find,
 }
 
-pub(crate) fn line_word(word: &[u8]) -> Option<LineWord>
-    ensures { result ≡ line_word word.now }
+/// The line that sets something and begins with this word.
+fn setting_word(word: &[u8]) -> Option<LineWord>
+    ensures { result ≡ setting_word word.now }
 {
     if word == b"utf8".as_slice() {
         Some(LineWord::Utf8)
+    } else if word == b"line".as_slice() {
+        Some(LineWord::Line)
+    } else if word == b"capacity".as_slice() {
+        Some(LineWord::Capacity)
+    } else if word == b"quit".as_slice() {
+        Some(LineWord::Quit)
+    } else if word == b"classes".as_slice() {
+        Some(LineWord::Classes)
+    } else if word == b"shrink".as_slice() {
+        Some(LineWord::Shrink)
     } else if word == b"anchored".as_slice() {
         Some(LineWord::Anchored)
     } else if word == b"span".as_slice() {
         Some(LineWord::Span)
-    } else if word == b"empty".as_slice() {
+    } else {
+        None
+    }
+}
+
+/// The line that makes or takes trees, or ends the head, and begins with this word.
+fn tree_word(word: &[u8]) -> Option<LineWord>
+    ensures { result ≡ tree_word word.now }
+{
+    if word == b"empty".as_slice() {
         Some(LineWord::Empty)
     } else if word == b"lit".as_slice() {
         Some(LineWord::Lit)
     } else if word == b"bytes".as_slice() {
         Some(LineWord::Bytes)
+    } else if word == b"chars".as_slice() {
+        Some(LineWord::Chars)
+    } else if word == b"look".as_slice() {
+        Some(LineWord::Look)
     } else if word == b"rep".as_slice() {
         Some(LineWord::Rep)
     } else if word == b"cat".as_slice() {
@@ -55,6 +87,12 @@ pub(crate) fn line_word(word: &[u8]) -> Option<LineWord>
     } else {
         None
     }
+}
+
+pub(crate) fn line_word(word: &[u8]) -> Option<LineWord>
+    ensures { result ≡ line_word word.now }
+{
+    setting_word(word).or(tree_word(word))
 }
 
 /// The word at an index.
@@ -150,7 +188,7 @@ pub(crate) fn hex_bytes(alloc: Global, word: &[u8]) -> Result<Vec<u8>, LineFault
 }
 
 #[tactic(auto, using(crate::proofs::WordLemmas::hex_byte_sized))]
-fn hex_byte(digits: &[u8]) -> Option<u8>
+pub(crate) fn hex_byte(digits: &[u8]) -> Option<u8>
     ensures { result ≡ hex_byte digits.now }
 {
     let bytes = <[u8; 1] as FromHex>::from_hex(digits).ok()?;
@@ -236,4 +274,167 @@ pub(crate) fn class_ranges(alloc: Global, items: &[(u8, u8)]) -> Result<Vec<(u8,
     }
     ranges.reverse();
     Ok(ranges)
+}
+
+/// A number of one to six hexadecimal digits.
+fn hex_number(word: &[u8]) -> Option<u32>
+    ensures { result ≡ hex_number word.now }
+{
+    // `from_str_radix` takes a plus.
+    if word.len() == 0 || word.len() > 6 || word[0] == b'+' {
+        return None;
+    }
+    let Ok(text) = str::from_utf8(word) else {
+        return None;
+    };
+    u32::from_str_radix(text, 16).ok()
+}
+
+/// The two ends of an item of a class of scalars, in whichever order.
+fn hex_ends(word: &[u8]) -> Option<(u32, u32)>
+    ensures { result ≡ hex_ends word.now }
+{
+    let sign = word.iter().position(|b| *b == b'-')?;
+    let low = hex_number(&word[..sign])?;
+    let high = hex_number(&word[sign + 1..])?;
+    Some((low, high))
+}
+
+/// An item of a class of scalars, as its ends in order.
+fn scalar_item(word: &[u8]) -> Result<(char, char), FaultKind>
+    ensures ok { IfOk result (λ ends. (scalar_item_fault word.now ≡ None) × (ends ≡ the_hex_ends word.now)) }
+    ensures err { IfErr result (λ kind. scalar_item_fault word.now ≡ Some kind) }
+{
+    let Some((low, high)) = hex_ends(word) else {
+        return Err(FaultKind::BadHex);
+    };
+    match (char::from_u32(low), char::from_u32(high)) {
+        (Some(low), Some(high)) if low <= high => Ok((low, high)),
+        _ => Err(FaultKind::BadRange),
+    }
+}
+
+/// The items of a class of scalars in the order of the words.
+pub(crate) fn scalar_items(
+    alloc: Global,
+    words: &[&[u8]],
+) -> Result<Vec<(char, char)>, LineFault>
+    ensures ok { IfOk result (λ items. (first_of (map scalar_item_fault (texts words.now)) ≡ None)
+        × (items.items ≡ map the_hex_ends (texts words.now))) }
+    ensures err { IfErr result (λ e. TellsLineFault (first_of (map scalar_item_fault (texts words.now))) e) }
+{
+    let mut items = Vec::new(alloc);
+    for word in words {
+        match scalar_item(word) {
+            Ok(ends) => items.push(ends).map_err(|_| LineFault::NoMemory)?,
+            Err(kind) => return Err(LineFault::Is(kind)),
+        }
+    }
+    Ok(items)
+}
+
+/// Puts a range to the others, which are there from the last to the first.
+fn put_range(
+    alloc: Global,
+    ranges: &mut Vec<(char, char)>,
+    range: (char, char),
+) -> Result<(), AllocError>
+    ensures { OnOk result (reverse ranges.new.items ≡ with_range range (reverse ranges.old.items)) }
+{
+    let mut low = range.0;
+    let mut high = range.1;
+    let mut before = Vec::new(alloc); // the ranges that lie before it, from the first to the last
+    while let Some(next) = ranges.pop() {
+        if u32::from(high) + 1 < u32::from(next.0) {
+            ranges.push(next)?;
+            break;
+        }
+        if u32::from(next.1) + 1 < u32::from(low) {
+            before.push(next)?;
+        } else {
+            low = low.min(next.0);
+            high = high.max(next.1);
+        }
+    }
+    ranges.push((low, high))?;
+    while let Some(last) = before.pop() {
+        ranges.push(last)?;
+    }
+    Ok(())
+}
+
+/// The ranges of the scalars that are in an item, ascending and each as long as it can be.
+pub(crate) fn scalar_ranges(
+    alloc: Global,
+    items: &[(char, char)],
+) -> Result<Vec<(char, char)>, AllocError>
+    ensures { IfOk result (λ ranges. ranges.items ≡ scalar_ranges items.now) }
+{
+    let mut ranges = Vec::new(alloc);
+    for item in items.iter().rev() {
+        put_range(alloc, &mut ranges, *item)?;
+    }
+    ranges.reverse();
+    Ok(ranges)
+}
+
+/// The look of an edge of the haystack or of a line with this name.
+fn anchor_named(word: &[u8]) -> Option<Look>
+    ensures { result ≡ anchor_named word.now }
+{
+    if word == b"Start".as_slice() {
+        Some(Look::Start)
+    } else if word == b"End".as_slice() {
+        Some(Look::End)
+    } else if word == b"StartLF".as_slice() {
+        Some(Look::StartLF)
+    } else if word == b"EndLF".as_slice() {
+        Some(Look::EndLF)
+    } else if word == b"StartCRLF".as_slice() {
+        Some(Look::StartCRLF)
+    } else if word == b"EndCRLF".as_slice() {
+        Some(Look::EndCRLF)
+    } else {
+        None
+    }
+}
+
+/// The look of an edge of a word with this name.
+fn word_look_named(word: &[u8]) -> Option<Look>
+    ensures { result ≡ word_look_named word.now }
+{
+    if word == b"WordAscii".as_slice() {
+        Some(Look::WordAscii)
+    } else if word == b"WordAsciiNegate".as_slice() {
+        Some(Look::WordAsciiNegate)
+    } else if word == b"WordUnicode".as_slice() {
+        Some(Look::WordUnicode)
+    } else if word == b"WordUnicodeNegate".as_slice() {
+        Some(Look::WordUnicodeNegate)
+    } else if word == b"WordStartAscii".as_slice() {
+        Some(Look::WordStartAscii)
+    } else if word == b"WordEndAscii".as_slice() {
+        Some(Look::WordEndAscii)
+    } else if word == b"WordStartUnicode".as_slice() {
+        Some(Look::WordStartUnicode)
+    } else if word == b"WordEndUnicode".as_slice() {
+        Some(Look::WordEndUnicode)
+    } else if word == b"WordStartHalfAscii".as_slice() {
+        Some(Look::WordStartHalfAscii)
+    } else if word == b"WordEndHalfAscii".as_slice() {
+        Some(Look::WordEndHalfAscii)
+    } else if word == b"WordStartHalfUnicode".as_slice() {
+        Some(Look::WordStartHalfUnicode)
+    } else if word == b"WordEndHalfUnicode".as_slice() {
+        Some(Look::WordEndHalfUnicode)
+    } else {
+        None
+    }
+}
+
+/// The look with this name.
+pub(crate) fn look_named(word: &[u8]) -> Option<Look>
+    ensures { result ≡ look_named word.now }
+{
+    anchor_named(word).or(word_look_named(word))
 }

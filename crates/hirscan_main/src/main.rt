@@ -1,10 +1,10 @@
 //! The program `hirscan`: a head and a haystack on standard input, the spans on standard output.
-//! Its status is 0 where the spans are listed, 1 where the input is refused, and 2 after a fault,
-//! which standard error tells in one line. Arguments are ignored.
+//! Its status is 0 where the spans are listed, 1 where the input is refused or a search gave up at a quit byte, and 2 after
+//! a fault, which standard error tells in one line. Arguments are ignored.
 #![tactic(auto)]
 
 ghost use Rattle.std.specs.Prelude.{◌≡◌, Ok, IsErr};
-ghost use Rattle.hirscan.specs.declared.program.Ending.TheVariants.{Listed, Refused};
+ghost use Rattle.hirscan.specs.declared.program.Ending.TheVariants.{Listed, Quit, Refused};
 
 use hirscan::{Ending, RunError, run};
 use std::process::ExitCode;
@@ -12,12 +12,13 @@ use std::process::ExitCode;
 /// The status with which the program ends.
 fn status(ended: Result<Ending, RunError>) -> u8
     ensures listed { ended ≡ Ok Listed → result ≡ 0 }
+    ensures quit { ended ≡ Ok Quit → result ≡ 1 }
     ensures refused { ended ≡ Ok Refused → result ≡ 1 }
     ensures fault { IsErr ended → result ≡ 2 }
 {
     match ended {
         Ok(Ending::Listed) => 0,
-        Ok(Ending::Refused) => 1,
+        Ok(Ending::Quit | Ending::Refused) => 1,
         Err(_) => 2,
     }
 }

@@ -1,0 +1,99 @@
+-- The regex that is built of trees: with which options its automata are compiled and made, what it is, and why it is refused.
+use Rattle.std.specs.Prelude.{◌≡◌, ◌≢◌, ℕ, ◌^◌, ◌<◌, ◌≤◌, ◌&&◌, not, Bool, true, false, List, Option, Some, None, Result, Ok, if◌then◌else◌}
+use Rattle.std.specs.List.{list_any}
+use Rattle.look_core.specs.Codes.{is_word_unicode}
+use Rattle.look_core.specs.LookSets.{has_any}
+use Rattle.look_core.specs.Terminators.{one_of}
+use Rattle.hir_core.specs.Tree.{Tree}
+use Rattle.hir_core.specs.Facts.{looks_used}
+use Rattle.search_types.specs.declared.match_kind.MatchKind.TheVariants.{LeftmostFirst}
+use Rattle.nfa_core.specs.NfaValue.{Nfa}
+use Rattle.nfa_core.specs.declared.build_error.BuildError.{BuildError as NfaBuildError}
+use Rattle.nfa_core.specs.declared.build_error.BuildError.TheVariants.{NoMemory as NfaNoMemory}
+use Rattle.thompson_nfa.specs.Compilations.{IsCompiled}
+use Rattle.thompson_nfa.specs.Configs.{Options}
+use Rattle.thompson_nfa.specs.RefusedTrees.{RefusesTrees}
+use Rattle.thompson_nfa.specs.declared.which_captures.WhichCaptures.TheVariants as which
+use Rattle.lazy_dfa.specs.Accounting.{least_capacity}
+use Rattle.lazy_dfa.specs.Building.{measures_with}
+use Rattle.lazy_dfa.specs.ConfigValue.{Options as DfaOptions}
+use Rattle.lazy_dfa.specs.ConfigValue.{no_options, by_hand, word_boundary_of, capacity_of, skips_check, kind_of}
+use Rattle.lazy_dfa.specs.Dfas.{IsDfa}
+use Rattle.lazy_dfa.specs.Quits.{with_high_bytes, has_high_bytes}
+use Rattle.lazy_dfa.specs.declared.build_error.BuildError.{BuildError}
+use Rattle.lazy_dfa.specs.declared.build_error.BuildError.TheVariants.{NFA, NoMemory, Unsupported, InsufficientCacheCapacity}
+use Rattle.regex_pair.specs.Pairs.{Pair, pair_built}
+use Rattle.hirscan.specs.declared.settings.Settings.{Settings}
+
+-- ---- settings
+
+abbrev pub default_settings : Settings
+default_settings = record { utf8 = true; line_terminator = one_of 0x0A; shrink = false; size_limit = None; dfa = no_options }
+
+-- what the program sets beside what a head does
+abbrev pub program_settings : Settings → Settings
+program_settings said = record said {
+  size_limit = Some (2 ^ 26);
+  dfa = record said.dfa {
+    match_kind = Some LeftmostFirst;
+    unicode_word_boundary = Some true;
+    skip_cache_capacity_check = Some true;
+    minimum_cache_clear_count = Some None;
+  };
+}
+
+-- the options of one of both compiles, upwards or in reverse: no captures are kept
+abbrev pub compile_options : Bool → Settings → Options
+compile_options reverse s = record {
+  utf8 = Some s.utf8;
+  reverse = Some reverse;
+  size_limit = Some s.size_limit;
+  shrink = Some s.shrink;
+  captures = Some which.None;
+  terminator = Some s.line_terminator;
+}
+
+-- the search finds the match that the trees define, as far as options tell
+abbrev pub FindsFirst : Settings → Type 0
+FindsFirst s = kind_of s.dfa ≡ LeftmostFirst
+
+-- ---- quit bytes
+
+-- whether one of the trees looks for words by characters, outside repetitions of no round
+abbrev pub use_unicode_words : List Tree → Bool
+use_unicode_words xs = list_any (λ x. has_any is_word_unicode (looks_used x)) xs
+
+-- The bytes at which searches for these trees give up: those that were set by hand, and where words by characters are asked
+-- for and a search is to do what it can over ASCII, all bytes above 7F.
+abbrev pub quit_bytes_for : List Tree → DfaOptions → List Bool
+quit_bytes_for xs o = if use_unicode_words xs && word_boundary_of o then with_high_bytes (by_hand o) else by_hand o
+
+-- where words by characters are asked for, the bytes above 7F have to be quit bytes one way or the other
+abbrev pub are_unsupported : List Tree → DfaOptions → Bool
+are_unsupported xs o = use_unicode_words xs && not (word_boundary_of o) && not (has_high_bytes (by_hand o))
+
+-- ---- the regex
+
+-- Both automata are compiled from the trees, one upwards and one in reverse, and made with the same options, but that the
+-- second finds all matches and has no tagged starts.
+pub record IsBuilt (xs : List Tree) (s : Settings) (p : Pair) : Type 0 where
+  pub up : IsCompiled (compile_options false s) xs p.forward.nfa
+  pub down : IsCompiled (compile_options true s) xs p.reverse.nfa
+  pub made : pair_built p.forward.nfa p.reverse.nfa s.dfa ≡ Ok p
+  pub forward : IsDfa p.forward
+  pub reverse : IsDfa p.reverse
+
+-- the capacity is enough for the automaton, or isn't looked at
+abbrev pub HasRoom : Nfa → DfaOptions → Type 0
+HasRoom n o = skips_check o ≡ false → least_capacity (measures_with n o) ≤ capacity_of o
+
+-- Why no regex is built: a compile is refused, which is told as it was; words by characters can't be had; the capacity is below
+-- the least one of an automaton; or memory lacked. The first of these three that applies is told.
+pub data RefusesBuild (xs : List Tree) (s : Settings) (e : BuildError) : Type 0 where
+  not_compiled : (reverse : Bool) (x : NfaBuildError) → x ≢ NfaNoMemory → RefusesTrees (compile_options reverse s) xs x →
+      e ≡ NFA x → RefusesBuild xs s e
+  unsupported : are_unsupported xs s.dfa ≡ true → e ≡ Unsupported → RefusesBuild xs s e
+  too_small : (reverse : Bool) (n : Nfa) → are_unsupported xs s.dfa ≡ false → IsCompiled (compile_options reverse s) xs n →
+      skips_check s.dfa ≡ false → capacity_of s.dfa < least_capacity (measures_with n s.dfa) →
+      e ≡ InsufficientCacheCapacity (least_capacity (measures_with n s.dfa)) (capacity_of s.dfa) → RefusesBuild xs s e
+  no_memory : e ≡ NoMemory → RefusesBuild xs s e

@@ -1,0 +1,70 @@
+//! Regexes of trees.
+ghost use Rattle.std.specs.Prelude.{◌≡◌, Bool, Ok, IfOk, IfErr, false};
+ghost use Rattle.thompson_nfa.specs.Compilations.{IsCompiled};
+ghost use Rattle.thompson_nfa.specs.RefusedTrees.{RefusesTrees};
+ghost use Rattle.hirscan.specs.Built.{IsBuilt, RefusesBuild, HasRoom, FindsFirst, compile_options, quit_bytes_for, are_unsupported};
+ghost use Rattle.hirscan.specs.Regexes.{IsRegexOf};
+
+use crate::settings::Settings;
+use hir_core::Hir;
+use lazy_dfa::BuildError;
+use look_core::LookMatcher;
+use nfa_core::NFA;
+use regex_pair::regex::Regex;
+use std::alloc::Global;
+use thompson_nfa::{Compiler, Config, WhichCaptures};
+
+/// The options of one of both compiles.
+fn compile_config(settings: &Settings, reverse: bool) -> Config
+    ensures { result ≡ compile_options reverse settings.now }
+{
+    let mut looks = LookMatcher::default();
+    looks.set_line_terminator(settings.line_terminator);
+    Config::new()
+        .utf8(settings.utf8)
+        .reverse(reverse)
+        .nfa_size_limit(settings.size_limit)
+        .shrink(settings.shrink)
+        .which_captures(WhichCaptures::None)
+        .look_matcher(looks)
+}
+
+/// One of both automata. A refusal for want of memory is told as that, another one as it is.
+fn compile(
+    alloc: Global,
+    exprs: &[Hir],
+    settings: &Settings,
+    reverse: bool,
+) -> Result<NFA, BuildError>
+    ensures compiled { IfOk result (λ n. IsCompiled (compile_options reverse settings.now) exprs.now n) }
+    ensures refused { IfErr result (λ e. RefusesBuild exprs.now settings.now e) }
+{
+    let mut compiler = Compiler::new(alloc);
+    compiler.configure(compile_config(settings, reverse));
+    let nfa = compiler.build_many_from_hir(exprs)?;
+    Ok(nfa)
+}
+
+/// The regex that searches for these trees, each as a pattern of its own, numbered from 0. A tree's captures are left out.
+///
+/// Where its kind is leftmost-first, a search that answers Ok gives the match that the trees define, whatever the settings and
+/// the cache ([`search_laws`](crate::search_laws)).
+///
+/// It is refused where a compile is: where there are more patterns or states than can be numbered, or more bytes of states than
+/// `size_limit`; where a tree looks for words by characters, `unicode_word_boundary` is off and bytes above 7F aren't all quit
+/// bytes; where the capacity is below the least one of an automaton and isn't to be raised; and where memory lacks. The first
+/// one that applies is told.
+pub fn build(alloc: Global, exprs: &[Hir], settings: &Settings) -> Result<Regex, BuildError>
+    ensures built { IfOk result (λ p. IsBuilt exprs.now settings.now p) }
+    ensures regex { IfOk result (λ p. FindsFirst settings.now → IsRegexOf exprs.now settings.now.utf8 settings.now.line_terminator p) }
+    ensures quits { IfOk result (λ p. p.forward.quits ≡ quit_bytes_for exprs.now settings.now.dfa) }
+    ensures supported { IfOk result (λ _. are_unsupported exprs.now settings.now.dfa ≡ false) }
+    ensures roomy { IfOk result (λ p. HasRoom p.forward.nfa settings.now.dfa × HasRoom p.reverse.nfa settings.now.dfa) }
+    ensures refused { IfErr result (λ e. RefusesBuild exprs.now settings.now e) }
+{
+    let forward = compile(alloc, exprs, settings, false)?;
+    let reverse = compile(alloc, exprs, settings, true)?;
+    let mut builder = Regex::builder();
+    builder.dfa(settings.dfa);
+    builder.build_from_nfas(forward, reverse)
+}
