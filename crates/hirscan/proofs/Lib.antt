@@ -3,6 +3,7 @@ pub mod AnswerLemmas
 pub mod LoopLemmas
 pub mod WordLemmas
 pub mod RangeLemmas
+pub mod ScalarRangeLemmas
 pub mod StackLemmas
 pub mod StageLemmas
 pub mod HexLemmas
