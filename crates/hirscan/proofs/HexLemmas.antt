@@ -16,7 +16,7 @@ use Rattle.hirscan.specs.Words.IsHexDigit.{from_zero, from_small_a, from_great_a
 value_of : (c v : ℕ) → Some c ≡ Some v → c ≡ v
 value_of c v e = ap (λ o. unwrap_or o 0) e
 
-digit_says : (c v : ℕ) → hex_digit_value c ≡ Some v → IsHexDigit c v
+pub digit_says : (c v : ℕ) → hex_digit_value c ≡ Some v → IsHexDigit c v
 digit_says c v e = elim (cases_Bool (leb 65 c && leb c 70)) [
   | inl t ↦
       let p = and_parts _ _ t in let low = leb-true 65 c p.0 in let high = leb-true c 70 p.1 in
@@ -37,7 +37,7 @@ digit_says c v e = elim (cases_Bool (leb 65 c && leb c 70)) [
   ]
 ]
 
-digit_said : (c v : ℕ) → IsHexDigit c v → hex_digit_value c ≡ Some v
+pub digit_said : (c v : ℕ) → IsHexDigit c v → hex_digit_value c ≡ Some v
 digit_said c v (from_zero l e) = grind (arith, nat_tests)
 digit_said c v (from_small_a l m e) = grind (arith, nat_tests)
 digit_said c v (from_great_a l m e) = grind (arith, nat_tests)

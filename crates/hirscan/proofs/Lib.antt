@@ -7,6 +7,7 @@ pub mod ScalarRangeLemmas
 pub mod StackLemmas
 pub mod StageLemmas
 pub mod HexLemmas
+pub mod HexNumberLemmas
 pub mod SaysLemmas
 pub mod ReaderLemmas
 pub mod TakesLemmas

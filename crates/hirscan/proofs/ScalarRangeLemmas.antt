@@ -1,7 +1,8 @@
 -- The ranges of a class of scalars, built item by item: ascending, with the members of the items.
-use Rattle.std.proofs.Common.{◌≡◌, ℕ, ◌+◌, ◌<◌, ◌≤◌, Bool, true, false, ◌&&◌, ◌||◌, nat_lt, nat_le, min, max, not, inl, inr, List, [], ◌∷◌, map, Option, Some, None, refl, sym, ◌∙◌, ap, arith}
+use Rattle.std.proofs.Common.{◌≡◌, ℕ, suc, ◌+◌, ◌-◌, ◌<◌, ◌≤◌, Bool, true, false, ◌&&◌, ◌||◌, nat_lt, nat_le, min, max, not, inl, inr, List, [], ◌∷◌, length, get_or, drop, map, reverse, Option, Some, None, refl, sym, ◌∙◌, ap, arith}
 use Rattle.std.specs.List.{list_all}
 use Rattle.std.specs.Option.{unwrap_or}
+use Rattle.std.proofs.Math.Seq.{drop-cons, drop-length}
 use Rattle.std.proofs.lemmas.Bool.{cases_Bool, and_parts, and_from, or_parts, leb-true, le-leb, ltb-true, ltb-false}
 use Rattle.std.proofs.lemmas.Bool.Decides.{nat_tests}
 use Rattle.hir_core.specs.Means.{is_member}
@@ -134,3 +135,16 @@ faultless_in_order (w ∷ ws) h =
 pub faultless_items_ascend : (ws : List (List ℕ)) → first_of (map scalar_item_fault ws) ≡ None
     → is_ascending (scalar_ranges (map the_hex_ends ws)) ≡ true
 faultless_items_ascend ws h = scalar_ranges_ascend (map the_hex_ends ws) (faultless_in_order ws h)
+
+-- the loop over the items, from the last to the first
+pub ranges_of_none : (items ranges : List (ℕ × ℕ)) → ranges ≡ [] → reverse ranges ≡ scalar_ranges (drop (length items) items)
+unfolding scalar_ranges
+ranges_of_none items ranges e = ap reverse e ∙ sym (ap scalar_ranges (drop-length items))
+
+pub ranges_with_item : (items : List (ℕ × ℕ)) (i : ℕ) → 0 < i → i ≤ length items
+    → scalar_ranges (drop (i - 1) items) ≡ with_range (get_or items (i - 1) (0, 0)) (scalar_ranges (drop i items))
+unfolding scalar_ranges
+ranges_with_item items i some l =
+    let e : suc (i - 1) ≡ i = omega arith in
+    ap scalar_ranges (drop-cons items (i - 1) (0, 0) (omega arith))
+    ∙ ap (λ (k : ℕ). with_range (get_or items (i - 1) (0, 0)) (scalar_ranges (drop k items))) e
