@@ -9,6 +9,7 @@ use Rattle.hex.specs.declared.error.FromHexError.{FromHexError}
 use Rattle.hex.proofs.HexLemmas.{decode_of-ok, decode_of-even}
 use Rattle.hex.proofs.Pairs.{cons_byte, decode_pairs-ok_pair}
 use Rattle.hirscan.specs.Words.{IsHexDigit, SpellsByte, IsHex}
+use Rattle.hirscan.specs.Readers.{both}
 use Rattle.hirscan.specs.Words.IsHexDigit.{from_zero, from_small_a, from_great_a}
 
 -- ---- one digit
@@ -137,3 +138,9 @@ hex_says w bytes e l =
 pub hex_said : (w bytes : List ℕ) → IsHex w bytes → decode_of w ≡ Ok bytes
 hex_said w bytes h =
     decode_of-even w (let l = h.two_each in omega arith) ∙ pairs_said 0 w bytes h.two_each h.spelled
+
+-- two ends are read just where both are
+pub ends_of : (a b : Option ℕ) → (r : ℕ × ℕ) → both a b ≡ Some r → (a ≡ Some r.0) × (b ≡ Some r.1)
+ends_of None b r e = absurd cc
+ends_of (Some x) None r e = absurd cc
+ends_of (Some x) (Some y) r e = let f : (x, y) ≡ r = cc in (ap (λ (q : ℕ × ℕ). Some q.0) f, ap (λ (q : ℕ × ℕ). Some q.1) f)

@@ -8,6 +8,8 @@ pub mod StackLemmas
 pub mod StageLemmas
 pub mod HexLemmas
 pub mod HexNumberLemmas
+pub mod NameLemmas
+pub mod ScalarItemLemmas
 pub mod SaysLemmas
 pub mod ReaderLemmas
 pub mod TakesLemmas
