@@ -14,6 +14,7 @@ pub mod SaysLemmas
 pub mod ReaderLemmas
 pub mod TakesLemmas
 pub mod HeadLemmas
+pub mod DoneLemmas
 pub mod EffectLemmas
 pub mod ReadsLemmas
 pub mod SomeReadsLemmas

@@ -239,7 +239,7 @@ fn bytes_line(alloc: Global, args: &[&[u8]], stands: &mut Stands) -> Result<(), 
     push(stands, Hir::bytes(ranges))
 }
 
-#[tactic(auto, using(crate::proofs::StackLemmas::below_none))]
+#[tactic(auto, using(crate::proofs::StackLemmas::below_none, crate::proofs::ScalarRangeLemmas::faultless_items_ascend))]
 fn chars_line(alloc: Global, args: &[&[u8]], stands: &mut Stands) -> Result<(), LineFault>
     ensures ok { OnOk result (IsDone Chars (texts args.now) (standing stands.old) (standing stands.new)) }
     ensures err { IfErr result (λ e. TellsLineFault (left_fault Chars (texts args.now) (standing stands.old)) e) }
