@@ -7,10 +7,11 @@ ghost use Rattle.hirscan.specs.Regexes.{IsRegexOf};
 
 use crate::settings::Settings;
 use hir_core::Hir;
+use lazy_dfa::dfa;
 use lazy_dfa::BuildError;
 use look_core::LookMatcher;
 use nfa_core::NFA;
-use regex_pair::regex::Regex;
+use regex_pair::regex::{Builder, Regex};
 use std::alloc::Global;
 use thompson_nfa::{Compiler, Config, WhichCaptures};
 
@@ -41,8 +42,43 @@ fn compile(
 {
     let mut compiler = Compiler::new(alloc);
     compiler.configure(compile_config(settings, reverse));
-    let nfa = compiler.build_many_from_hir(exprs)?;
-    Ok(nfa)
+    match compiler.build_many_from_hir(exprs) {
+        Ok(nfa) => Ok(nfa),
+        Err(err) => Err(BuildError::from(err)),
+    }
+}
+
+/// What makes a regex of two automata, with these options of both.
+#[tactic(auto, using(crate::proofs::BuiltLemmas::set_once))]
+fn builder_with(options: dfa::Config) -> Builder
+    ensures { result ≡ options }
+{
+    let mut builder = Regex::builder();
+    builder.dfa(options);
+    builder
+}
+
+/// Both automata of the trees, as one regex.
+fn build_pair(alloc: Global, exprs: &[Hir], settings: &Settings) -> Result<Regex, BuildError>
+    ensures built { IfOk result (λ p. IsBuilt exprs.now settings.now p) }
+    ensures refused { IfErr result (λ e. RefusesBuild exprs.now settings.now e) }
+{
+    let forward = match compile(alloc, exprs, settings, false) {
+        Ok(nfa) => nfa,
+        Err(e) => return Err(e),
+    };
+    let reverse = match compile(alloc, exprs, settings, true) {
+        Ok(nfa) => nfa,
+        Err(e) => return Err(e),
+    };
+    let builder = builder_with(settings.dfa);
+    let regex = match builder.build_from_nfas(forward, reverse) {
+        Ok(regex) => regex,
+        Err(e) => return Err(e),
+    };
+    regex.forward().is_made();
+    regex.reverse().is_made();
+    Ok(regex)
 }
 
 /// The regex that searches for these trees, each as a pattern of its own, numbered from 0. A tree's captures are left out.
@@ -62,9 +98,8 @@ pub fn build(alloc: Global, exprs: &[Hir], settings: &Settings) -> Result<Regex,
     ensures roomy { IfOk result (λ p. HasRoom p.forward.nfa settings.now.dfa × HasRoom p.reverse.nfa settings.now.dfa) }
     ensures refused { IfErr result (λ e. RefusesBuild exprs.now settings.now e) }
 {
-    let forward = compile(alloc, exprs, settings, false)?;
-    let reverse = compile(alloc, exprs, settings, true)?;
-    let mut builder = Regex::builder();
-    builder.dfa(settings.dfa);
-    builder.build_from_nfas(forward, reverse)
+    match build_pair(alloc, exprs, settings) {
+        Ok(regex) => Ok(regex),
+        Err(e) => Err(e),
+    }
 }
