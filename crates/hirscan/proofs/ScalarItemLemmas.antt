@@ -1,9 +1,9 @@
 -- Items of a class of scalars: what their readers compute is what the words say.
-use Rattle.std.proofs.Common.{◌≡◌, ℕ, suc, ◌+◌, ◌<◌, Bool, true, false, not, ◌&&◌, ◌||◌, List, [], ◌∷◌, ◌++◌, length, get_or, take, drop, map, Option, Some, None, cond, nat_lt, eqb, refl, sym, ◌∙◌, ap, subst, inl, inr, arith, length-append}
+use Rattle.std.proofs.Common.{◌≡◌, ℕ, suc, ◌+◌, ◌<◌, Bool, true, false, not, ◌||◌, List, [], ◌∷◌, ◌++◌, length, get_or, take, drop, map, Option, Some, None, nat_lt, eqb, refl, sym, ◌∙◌, ap, arith, length-append}
 use Rattle.std.specs.List.{position, position_or_len}
 use Rattle.std.proofs.Math.ListN.{get_or-append}
 use Rattle.std.proofs.Math.Seq.{drop-cons, get_or-append_seam, take-append_seam, drop-append-add}
-use Rattle.std.proofs.lemmas.Bool.{cases_Bool, or_parts, not-false, ltb-false, lt-ltb, le-ltb, eqb-true, eq-eqb, ne_eqb}
+use Rattle.std.proofs.lemmas.Bool.{or_parts, not-false, ltb-false, lt-ltb, le-ltb, eqb-true, eq-eqb, ne_eqb}
 use Rattle.std.proofs.lemmas.List.{take-append-drop}
 use Rattle.std.proofs.lemmas.List.Quantifiers.{position-Some}
 use Rattle.std.proofs.lemmas.List.Sums.{position_or_len_is}
