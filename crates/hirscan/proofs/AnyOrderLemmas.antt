@@ -2,7 +2,7 @@
 use Rattle.std.proofs.Common.{◌≡◌, ℕ, ◌+◌, ◌<◌, ◌≤◌, true, false, ◌&&◌, ◌||◌, nat_le, List, [], ◌∷◌, refl, sym, ◌∙◌, ap, subst, inl, inr, arith}
 use Rattle.std.specs.List.{list_all}
 use Rattle.std.specs.List.Sorted.{IsPermutation}
-use Rattle.std.proofs.lemmas.Bool.{cases_lt, and_parts, and_from, or_cases, or_left, or_right, leb-true, le-leb, false_from_ne_true}
+use Rattle.std.proofs.lemmas.Bool.{cases_lt, and_parts, and_from, or_cases, or_left, leb-true, le-leb, false_from_ne_true}
 use Rattle.std.proofs.lemmas.List.Sorted.{All-permutation, list_any-IsPermutation}
 use Rattle.std.proofs.lemmas.List.Sums.{AllPass-from_list_all, list_all-from_AllPass}
 use Rattle.hir_core.specs.Means.{is_member}
@@ -73,7 +73,8 @@ told_by_members low (r ∷ rs) (s ∷ ss) a b same =
     (others_same r s rs ss ends a.2 b.2 same) in
     λ i. (starts i, ends i) ∷ others i
 
-in_order-permutation : (items others : List (ℕ × ℕ)) → IsPermutation items others → list_all in_order items ≡ true → list_all in_order others ≡ true
+in_order-permutation : (items others : List (ℕ × ℕ)) → IsPermutation items others → list_all in_order items ≡ true
+    → list_all in_order others ≡ true
 in_order-permutation items others p h =
     list_all-from_AllPass in_order others (All-permutation (λ r. in_order r ≡ true) items others p (AllPass-from_list_all in_order items h))
 
@@ -83,4 +84,5 @@ pub any_order : (items others : List (ℕ × ℕ)) → IsPermutation items other
 any_order items others p h =
     told_by_members 0 (scalar_ranges others) (scalar_ranges items)
     (scalar_ranges_apart others (in_order-permutation items others p h)) (scalar_ranges_apart items h)
-    (λ c. scalar_members others c ∙ (sym (list_any-IsPermutation (λ r. nat_le r.0 c && nat_le c r.1) items others p) ∙ sym (scalar_members items c)))
+    (λ c. scalar_members others c
+    ∙ (sym (list_any-IsPermutation (λ r. nat_le r.0 c && nat_le c r.1) items others p) ∙ sym (scalar_members items c)))

@@ -98,7 +98,8 @@ are_in_order (w ∷ ws) [] h = absurd h
 are_in_order (w ∷ ws) (r ∷ items) h =
     let o = h.0.in_order in and_from (in_order r) (list_all in_order items) (le-leb r.0 r.1 o) (are_in_order ws items h.1)
 
-pub scalar_classes_ascend : (ws : List (List ℕ)) (items : List (ℕ × ℕ)) → AreScalarItems ws items → is_ascending (scalar_ranges items) ≡ true
+pub scalar_classes_ascend : (ws : List (List ℕ)) (items : List (ℕ × ℕ)) → AreScalarItems ws items
+    → is_ascending (scalar_ranges items) ≡ true
 scalar_classes_ascend ws items h = scalar_ranges_ascend items (are_in_order ws items h)
 
 -- so have words without a fault

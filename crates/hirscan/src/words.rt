@@ -324,10 +324,7 @@ fn scalar_item(word: &[u8]) -> Result<(char, char), FaultKind>
 }
 
 /// The items of a class of scalars in the order of the words.
-pub(crate) fn scalar_items(
-    alloc: Global,
-    words: &[&[u8]],
-) -> Result<Vec<(char, char)>, LineFault>
+pub(crate) fn scalar_items(alloc: Global, words: &[&[u8]]) -> Result<Vec<(char, char)>, LineFault>
     ensures ok { IfOk result (λ items. (first_of (map scalar_item_fault (texts words.now)) ≡ None)
         × (items.items ≡ map the_hex_ends (texts words.now))) }
     ensures err { IfErr result (λ e. TellsLineFault (first_of (map scalar_item_fault (texts words.now))) e) }
@@ -377,10 +374,7 @@ fn join_ranges(
 
 /// Puts ranges, which are there from the first to the last, before others, which are there from the
 /// last to the first.
-fn put_back(
-    ranges: &mut Vec<(char, char)>,
-    mut before: Vec<(char, char)>,
-) -> Result<(), AllocError>
+fn put_back(ranges: &mut Vec<(char, char)>, mut before: Vec<(char, char)>) -> Result<(), AllocError>
     ensures { OnOk result (reverse ranges.new.items ≡ before.items ++ reverse ranges.old.items) }
 {
     while let Some(last) = before.pop() {
@@ -405,10 +399,7 @@ fn put_range(
 
 /// The ranges of the items, which are put from the last to the first.
 #[tactic(auto, using(crate::proofs::ScalarRangeLemmas::ranges_with_item))]
-fn put_ranges(
-    alloc: Global,
-    items: &[(char, char)],
-) -> Result<Vec<(char, char)>, AllocError>
+fn put_ranges(alloc: Global, items: &[(char, char)]) -> Result<Vec<(char, char)>, AllocError>
     ensures { IfOk result (λ ranges. ranges.items ≡ scalar_ranges items.now) }
 {
     let mut ranges = Vec::new(alloc);
