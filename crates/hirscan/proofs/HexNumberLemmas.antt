@@ -152,9 +152,11 @@ value_spelled : (before : ℕ) (w : List ℕ) → AllDigits 16 w → HasHexValue
 value_spelled before [] h = refl
 value_spelled before (c ∷ w) h =
     let same : before * 16 + digit_value c ≡ 16 * before + digit_value c = omega arith in
-    let more = value_spelled (before * 16 + digit_value c) w h.1 in
-    (digit_value c, value_says c h.0,
-      subst (λ (b : ℕ). HasHexValue b w (digits_value_after 16 (before * 16 + digit_value c) w)) same more)
+    let more = value_spelled (before * 16 + digit_value c) w h.1 in (
+      digit_value c,
+      value_says c h.0,
+      subst (λ (b : ℕ). HasHexValue b w (digits_value_after 16 (before * 16 + digit_value c) w)) same more,
+    )
 
 spelled_value : (before : ℕ) (w : List ℕ) (n : ℕ) → HasHexValue before w n → AllDigits 16 w × (digits_value_after 16 before w ≡ n)
 spelled_value before [] n h = (tt, sym h)
