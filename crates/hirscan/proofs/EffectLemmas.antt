@@ -10,7 +10,7 @@ use Rattle.hirscan.specs.LineFault.{known_fault, fault_after, fault, after}
 use Rattle.hirscan.specs.Tells.{step_after}
 use Rattle.hirscan.proofs.SaysLemmas.{line_word_spelled, line_word-spelling}
 use Rattle.hirscan.proofs.TakesLemmas.{no_fault_parts, no_fault_from_parts, takes_after, ends_head}
-use Rattle.hirscan.proofs.DoneLemmas.{Done, takes_done}
+use Rattle.hirscan.proofs.DoneLemmas.{takes_done}
 
 known_fault_of : (ws args : List (List ℕ)) (k : LineWord) (p : Standing) → ws ≡ spelling k ∷ args → fault ws p ≡ known_fault k args p
 known_fault_of ws args k p e = rw (e, line_word-spelling k) refl

@@ -2,7 +2,7 @@
 use Rattle.std.proofs.Common.{◌≡◌, ℕ, zero, suc, true, false, List, [], ◌∷◌, codes, Some, None, Option, refl}
 use Rattle.hex.proofs.OnLiterals.{hex_on_literals}
 use Rattle.search_core.specs.ByteSets.{has}
-use Rattle.look_core.specs.Terminators.{Terminator, one_of, two_of}
+use Rattle.look_core.specs.Terminators.{one_of, two_of}
 use Rattle.look_core.specs.declared.look.Look.TheVariants.{EndCRLF}
 use Rattle.lazy_dfa.specs.ConfigValue.{no_bytes as no_quits, by_hand, classes_on, capacity_of}
 use Rattle.hir_core.specs.Tree.{Tree, empty, look, repetition}
@@ -98,7 +98,8 @@ unknown = refl
 capital : line (codes "Empty") at_first ≡ Some UnknownWord
 capital = refl
 
-setting_after_pattern : line (codes "utf8 off") (record { setup = at_first.setup; stack = []; patterns = empty ∷ [] }) ≡ Some SettingAfterNode
+setting_after_pattern :
+    line (codes "utf8 off") (record { setup = at_first.setup; stack = []; patterns = empty ∷ [] }) ≡ Some SettingAfterNode
 setting_after_pattern = refl
 
 -- before the count of its words, and before its words

@@ -6,7 +6,7 @@ use Rattle.hir_core.specs.Tree.{Tree, empty, literal, byte_class, char_class, lo
 use Rattle.hir_core.specs.Means.{AtMost}
 use Rattle.hir_core.specs.Facts.{height}
 use Rattle.hirscan.specs.declared.fault.FaultKind.{FaultKind}
-use Rattle.hirscan.specs.declared.fault.FaultKind.TheVariants.{SettingAfterNode, WrongWordCount, BadNumber, BadHex, BadChoice, MinAboveMax, TooFewTrees, TooDeep, NotOneTree, TreeLeftOver}
+use Rattle.hirscan.specs.declared.fault.FaultKind.TheVariants.{SettingAfterNode, WrongWordCount, BadNumber, BadChoice, MinAboveMax, TooFewTrees, TooDeep, NotOneTree, TreeLeftOver}
 use Rattle.hirscan.specs.declared.words.LineWord.{LineWord}
 use Rattle.hirscan.specs.declared.words.LineWord.TheVariants.{Utf8, Line, Capacity, Quit, Classes, Shrink, Anchored, Span, Empty, Lit, Bytes, Chars, Look, Rep, Cat, Alt, Pattern, Find}
 use Rattle.hirscan.specs.declared.line.Step.TheVariants.{Next}
@@ -160,7 +160,8 @@ takes_after Utf8 args at n p =
 takes_after Line args at n p = line_after args at p
 takes_after Capacity args at n p =
     let e = one_alone args [] (eqb-true _ _ p.counted) in
-    capacity_line (word_at args 0) (the_number (word_at args 0)) (ap (λ a. codes "capacity" ∷ a) e) (number_says (word_at args 0) p.words_fit)
+    capacity_line (word_at args 0) (the_number (word_at args 0)) (ap (λ a. codes "capacity" ∷ a) e)
+    (number_says (word_at args 0) p.words_fit)
     (set at (setup_after Capacity args at.setup) (no_node at p.settable))
 takes_after Quit args at n p =
     let e = one_alone args [] (eqb-true _ _ p.counted) in
@@ -168,15 +169,18 @@ takes_after Quit args at n p =
     (set at (setup_after Quit args at.setup) (no_node at p.settable))
 takes_after Classes args at n p =
     let e = one_alone args [] (eqb-true _ _ p.counted) in
-    classes_line (word_at args 0) (the_switch (word_at args 0)) (ap (λ a. codes "classes" ∷ a) e) (switch_says (word_at args 0) p.words_fit)
+    classes_line (word_at args 0) (the_switch (word_at args 0)) (ap (λ a. codes "classes" ∷ a) e)
+    (switch_says (word_at args 0) p.words_fit)
     (set at (setup_after Classes args at.setup) (no_node at p.settable))
 takes_after Shrink args at n p =
     let e = one_alone args [] (eqb-true _ _ p.counted) in
-    shrink_line (word_at args 0) (the_switch (word_at args 0)) (ap (λ a. codes "shrink" ∷ a) e) (switch_says (word_at args 0) p.words_fit)
+    shrink_line (word_at args 0) (the_switch (word_at args 0)) (ap (λ a. codes "shrink" ∷ a) e)
+    (switch_says (word_at args 0) p.words_fit)
     (set at (setup_after Shrink args at.setup) (no_node at p.settable))
 takes_after Anchored args at n p =
     let e = one_alone args [] (eqb-true _ _ p.counted) in
-    anchored_line (word_at args 0) (the_yes_or_no (word_at args 0)) (ap (λ a. codes "anchored" ∷ a) e) (yes_says (word_at args 0) p.words_fit)
+    anchored_line (word_at args 0) (the_yes_or_no (word_at args 0)) (ap (λ a. codes "anchored" ∷ a) e)
+    (yes_says (word_at args 0) p.words_fit)
     (set at (setup_after Anchored args at.setup) (no_node at p.settable))
 takes_after Span args at n p =
     let e = two_alone args (eqb-true _ _ p.counted) in
@@ -208,10 +212,14 @@ takes_after Rep args at n p =
     let b = first_none (unless_read (bound (word_at args 1)) BadNumber) _ a.1 in
     let c = first_none (unless_read (order (word_at args 2)) BadChoice) _ b.1 in
     let enough = ltb-false (length at.stack) 1 p.enough in
-    rep_line (word_at args 0) (word_at args 1) (word_at args 2) (the_number (word_at args 0)) (the_bound (word_at args 1)) (the_order (word_at args 2))
-    (get_or (top 1 at.stack) 0 empty) (ap (λ a. codes "rep" ∷ a) e) (number_says (word_at args 0) a.0) (bound_says (word_at args 1) b.0) (order_says (word_at args 2) c.0)
-    (at_most _ _ p.in_order)
-    (replaced_top at 1 _ _ (one_alone (top 1 at.stack) empty (length-top 1 at.stack enough)) (height_in (repetition (the_number (word_at args 0)) (the_bound (word_at args 1)) (the_order (word_at args 2)) (get_or (top 1 at.stack) 0 empty)) p.flat))
+    let min = the_number (word_at args 0) in
+    let max = the_bound (word_at args 1) in
+    let greedy = the_order (word_at args 2) in
+    let x = get_or (top 1 at.stack) 0 empty in
+    let one = one_alone (top 1 at.stack) empty (length-top 1 at.stack enough) in
+    rep_line (word_at args 0) (word_at args 1) (word_at args 2) min max greedy x (ap (λ a. codes "rep" ∷ a) e)
+    (number_says (word_at args 0) a.0) (bound_says (word_at args 1) b.0) (order_says (word_at args 2) c.0) (at_most _ _ p.in_order)
+    (replaced_top at 1 _ _ one (height_in (repetition min max greedy x) p.flat))
 takes_after Cat args at n p =
     let e = one_alone args [] (eqb-true _ _ p.counted) in
     let enough = ltb-false (length at.stack) (the_number (word_at args 0)) p.enough in
