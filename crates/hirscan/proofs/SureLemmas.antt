@@ -1,5 +1,5 @@
 -- Where searches over a regex that is built of trees answer: what refuses them, and where nothing but want of memory does.
-use Rattle.std.proofs.Common.{◌≡◌, ◌⊎◌, ℕ, ◌+◌, ◌≤◌, Bool, true, false, List, Option, Some, None, inl, inr, true≢false, refl, sym, ap, ◌∙◌, subst, arith}
+use Rattle.std.proofs.Common.{◌≡◌, ℕ, ◌≤◌, Bool, true, false, List, Option, Some, None, inl, inr, true≢false, refl, sym, ap, ◌∙◌, subst, arith}
 use Rattle.std.specs.Prelude.{Result, Ok, Err}
 use Rattle.search_core.specs.ByteSets.{has}
 use Rattle.search_core.specs.Text.{byte_at}
@@ -185,14 +185,15 @@ module _ (xs : List Tree) (s : Settings) (p : Pair) (made : IsBuilt xs s p) wher
     quits_upwards q asked c b x is =
         let reads : scan (reader p.forward) q ≡ quit b x =
         quits_by_first xs s.utf8 s.line_terminator p (built_regex xs s p made first) q asked b x (refusal_is_joined p c q (Quit b x) refl is) in
-        let near = scan_quits_near (reader p.forward) q b x reads in
-        (reads,
-        record {
-          stands = near.0;
-          is_quit = subst (λ (set : List Bool). has set b ≡ true) (forward_quits xs s p made) near.1;
-          behind_start = near.2;
-          before_end = near.3;
-        })
+        let near = scan_quits_near (reader p.forward) q b x reads in (
+          reads,
+          record {
+            stands = near.0;
+            is_quit = subst (λ (set : List Bool). has set b ≡ true) (forward_quits xs s p made) near.1;
+            behind_start = near.2;
+            before_end = near.3;
+          },
+        )
 
     pub never_no_pair : (q : Search) → IsSearchOf xs s.utf8 q → (c : PairCache) → AnswersPair p c q (Err NotAPair) → ⊥
     never_no_pair q asked c is =
