@@ -1,14 +1,12 @@
 //! Regexes of trees.
-ghost use Rattle.std.specs.Prelude.{◌≡◌, Bool, Ok, IfOk, IfErr, false};
+ghost use Rattle.std.specs.Prelude.{◌≡◌, IfOk, IfErr, false};
 ghost use Rattle.thompson_nfa.specs.Compilations.{IsCompiled};
-ghost use Rattle.thompson_nfa.specs.RefusedTrees.{RefusesTrees};
 ghost use Rattle.hirscan.specs.Built.{IsBuilt, RefusesBuild, HasRoom, FindsFirst, compile_options, quit_bytes_for, are_unsupported};
 ghost use Rattle.hirscan.specs.Regexes.{IsRegexOf};
 
 use crate::settings::Settings;
 use hir_core::Hir;
-use lazy_dfa::dfa;
-use lazy_dfa::BuildError;
+use lazy_dfa::{BuildError, dfa};
 use look_core::LookMatcher;
 use nfa_core::NFA;
 use regex_pair::regex::{Builder, Regex};
