@@ -16,6 +16,7 @@ pub mod SomeReadsLemmas
 mod NotationRows
 pub mod SliceLemmas
 pub mod CauseLemmas
+pub mod ListingLemmas
 pub mod ReplyLemmas
 pub mod RunLemmas
 pub mod OneReplyLemmas
