@@ -34,3 +34,7 @@ pub mod SearchLemmas
 pub mod EarliestLemmas
 pub mod MatchLemmas
 pub mod BuiltPairLemmas
+pub mod BuiltLemmas
+pub mod RefusedBuildLemmas
+pub mod SureLemmas
+pub mod HeadlineLemmas

@@ -41,8 +41,10 @@ fn compile(
 {
     let mut compiler = Compiler::new(alloc);
     compiler.configure(compile_config(settings, reverse));
-    let nfa = compiler.build_many_from_hir(exprs)?;
-    Ok(nfa)
+    match compiler.build_many_from_hir(exprs) {
+        Ok(nfa) => Ok(nfa),
+        Err(err) => Err(BuildError::from(err)),
+    }
 }
 
 /// The regex that searches for these trees, each as a pattern of its own, numbered from 0. A tree's captures are left out.
@@ -62,9 +64,21 @@ pub fn build(alloc: Global, exprs: &[Hir], settings: &Settings) -> Result<Regex,
     ensures roomy { IfOk result (λ p. HasRoom p.forward.nfa settings.now.dfa × HasRoom p.reverse.nfa settings.now.dfa) }
     ensures refused { IfErr result (λ e. RefusesBuild exprs.now settings.now e) }
 {
-    let forward = compile(alloc, exprs, settings, false)?;
-    let reverse = compile(alloc, exprs, settings, true)?;
+    let forward = match compile(alloc, exprs, settings, false) {
+        Ok(nfa) => nfa,
+        Err(e) => return Err(e),
+    };
+    let reverse = match compile(alloc, exprs, settings, true) {
+        Ok(nfa) => nfa,
+        Err(e) => return Err(e),
+    };
     let mut builder = Regex::builder();
     builder.dfa(settings.dfa);
-    builder.build_from_nfas(forward, reverse)
+    let regex = match builder.build_from_nfas(forward, reverse) {
+        Ok(regex) => regex,
+        Err(e) => return Err(e),
+    };
+    regex.forward().is_made();
+    regex.reverse().is_made();
+    Ok(regex)
 }

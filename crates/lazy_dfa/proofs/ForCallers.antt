@@ -38,3 +38,5 @@ pub use Rattle.lazy_dfa.proofs.IsCacheLemmas.{dead_of, alive_of, row_is_plain, r
 -- what is known of a step at an untagged ID, and where a known step leads
 pub use Rattle.lazy_dfa.proofs.ChangeLemmas.{plain_place, plain_noted, noted_read}
 pub use Rattle.lazy_dfa.proofs.IsCacheLemmas.{known_leads}
+-- a search gives up nowhere where no least number of clears is set
+pub use Rattle.lazy_dfa.proofs.SearchClauseLemmas.{never_among}

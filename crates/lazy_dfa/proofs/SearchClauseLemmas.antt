@@ -89,7 +89,7 @@ module _ (d : Dfa) (v : CacheValue) (none : clears_of d.options ≡ None) where
   never_here mode earliest h n i x (at_start place lacks) = has_room (first_value (reader d) mode h i) lacks
   never_here mode earliest h n i x (at_unit k less place lacks runs) = has_room (state_behind (reader d) h i (first_value (reader d) mode h i) (suc k)) lacks
 
-  never_among : (q : Search) (x : ℕ) (ps : List (ℕ × ℕ)) → GivesUpAmong d v q x ps → ⊥
+  pub never_among : (q : Search) (x : ℕ) (ps : List (ℕ × ℕ)) → GivesUpAmong d v q x ps → ⊥
   never_among q x [] g = g
   never_among q x (p ∷ ps) (inl g) = never_here q.anchored q.earliest q.haystack p.0 p.1 x g
   never_among q x (p ∷ ps) (inr g) = never_among q x ps g
