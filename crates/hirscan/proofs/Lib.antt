@@ -17,6 +17,7 @@ mod NotationRows
 pub mod SliceLemmas
 pub mod CauseLemmas
 pub mod ListingLemmas
+pub mod ListEndLemmas
 pub mod ReplyLemmas
 pub mod RunLemmas
 pub mod OneReplyLemmas

@@ -41,19 +41,26 @@ last_end_more (g ∷ k ∷ fs) f = last_end_more (k ∷ fs) f
 more_lines : (fs : List Found) (f : Found) → span_lines (fs ++ f ∷ []) ≡ span_lines fs ++ span_line f
 more_lines fs f = flat_map-append span_line fs (f ∷ []) ∙ ap (λ t. span_lines fs ++ t) (append-nil (span_line f))
 
-module _ (p : Pair) (q : Search) (lender : GName) where
-  pub begins_list : (it : FindMatches) → searches_by it ≡ p → finds_from it ≡ finding_all q → lender_of it ≡ lender → MayGoOn it →
-      ListsUpTo p q lender [] it
-  begins_list it regex from reference goes_on = record {
-    found = [];
-    text_is = refl;
-    taken = subst (AreTaken p q []) (sym from) (none_taken p q);
-    stands = from;
-    same_regex = regex;
-    same_reference = reference;
-    goes_on = goes_on;
-  }
+listed_none : (p : Pair) (q : Search) (it : FindMatches) → searches_by it ≡ p → finds_from it ≡ finding_all q → MayGoOn it →
+    ListsUpTo p q (lender_of it) [] it
+listed_none p q it regex from goes_on = record {
+  found = [];
+  text_is = refl;
+  taken = subst (AreTaken p q []) (sym from) (none_taken p q);
+  stands = from;
+  same_regex = regex;
+  same_reference = refl;
+  goes_on = goes_on;
+}
 
+-- before the first step nothing is listed
+pub begins_list : (p : Pair) (asked q : Search) (text : List ℕ) (made it : FindMatches) → text ≡ [] → it ≡ made → asked ≡ q → searches_by made ≡ p →
+    finds_from made ≡ finding_all asked → MayGoOn made → ListsUpTo p q (lender_of it) text it
+begins_list p asked q text made it none same is regex from goes_on =
+    subst (λ (t : List ℕ). ListsUpTo p q (lender_of it) t it) (sym none)
+    (subst (λ (x : FindMatches). ListsUpTo p q (lender_of x) [] x) (sym same) (listed_none p q made regex (from ∙ ap finding_all is) goes_on))
+
+module _ (p : Pair) (q : Search) (lender : GName) where
   -- the line of one more match is written
   pub lists_more : (text more : List ℕ) (old new : FindMatches) (f : Found) → ListsUpTo p q lender text old → FindsNext old (Some (Ok f)) new →
       more ≡ text ++ span_line f → ListsUpTo p q lender more new
