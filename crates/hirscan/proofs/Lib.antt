@@ -18,6 +18,7 @@ pub mod SliceLemmas
 pub mod CauseLemmas
 pub mod ListingLemmas
 pub mod ListEndLemmas
+pub mod RefusedRegexLemmas
 pub mod ReplyLemmas
 pub mod RunLemmas
 pub mod OneReplyLemmas

@@ -134,11 +134,11 @@ fn regex_of(alloc: Global, head: &Head) -> Result<Option<Regex>, AllocError>
     let settings = program_settings(head.settings);
     match build(alloc, &head.patterns, &settings) {
         Ok(regex) => Ok(Some(regex)),
-        Err(BuildError::NFA {
-            err: nfa_core::BuildError::ExceededSizeLimit { .. },
-        }) => Ok(None),
+        Err(BuildError::NFA { .. }) => Ok(None),
         Err(BuildError::NoMemory) => Err(AllocError),
-        Err(_) => unreachable!(),
+        Err(BuildError::InsufficientCacheCapacity { .. }) => unreachable!(),
+        Err(BuildError::InsufficientStateIDCapacity) => unreachable!(),
+        Err(BuildError::Unsupported) => unreachable!(),
     }
 }
 
