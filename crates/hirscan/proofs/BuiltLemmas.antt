@@ -1,6 +1,8 @@
 -- What is built of trees with settings: a regex of these trees, whose quit bytes and room are told by the trees and the settings.
-use Rattle.std.proofs.Common.{◌≡◌, ℕ, ◌≤◌, Bool, true, false, ◌&&◌, not, max, List, map, length, refl, sym, ap, ◌∙◌, subst, if◌then◌else◌}
+use Rattle.std.proofs.Common.{◌≡◌, ℕ, ◌≤◌, Bool, true, false, ◌&&◌, not, max, List, map, length, Option, Some, None, refl, sym, ap, ◌∙◌, subst, if◌then◌else◌}
+use Rattle.std.specs.Prelude.{Ok}
 use Rattle.std.specs.List.{range_with_len}
+use Rattle.std.specs.Option.{option_or}
 use Rattle.std.proofs.lemmas.List.Folds.{list_any_at, Any-from_list_any}
 use Rattle.std.proofs.lemmas.Option.{slice_get_within, slice_get_read, get_or_from_slice_get}
 use Rattle.look_core.specs.declared.look.Look.{Look}
@@ -14,10 +16,10 @@ use Rattle.thompson_nfa.specs.Compiled.{turned}
 use Rattle.thompson_nfa.proofs.ForCallers.{looks_are_used, reversed_twice}
 use Rattle.lazy_dfa.specs.Accounting.{Measures, measures_of, least_capacity, effective_capacity}
 use Rattle.lazy_dfa.specs.Building.{class_in, classes_of, measures_with, dfa_of}
-use Rattle.lazy_dfa.specs.ConfigValue.{Options, changed_by, starts_each_of, word_boundary_of, by_hand, capacity_of, skips_check}
+use Rattle.lazy_dfa.specs.ConfigValue.{Options, no_options, changed_by, starts_each_of, word_boundary_of, by_hand, capacity_of, skips_check}
 use Rattle.lazy_dfa.specs.Dfas.{Dfa, IsDfa}
 use Rattle.lazy_dfa.specs.Quits.{has_unicode_word, with_high_bytes, has_high_bytes, quit_bytes, is_unsupported}
-use Rattle.regex_pair.specs.Pairs.{Pair, back_options}
+use Rattle.regex_pair.specs.Pairs.{Pair, back_options, pair_built}
 use Rattle.hirscan.specs.declared.settings.Settings.{Settings}
 use Rattle.hirscan.specs.Built.{IsBuilt, FindsFirst, HasRoom, compile_options, use_unicode_words, quit_bytes_for, are_unsupported}
 use Rattle.hirscan.specs.Regexes.{IsRegexOf}
@@ -78,6 +80,38 @@ same_measures n o = ap (λ (cs : List ℕ). measures_of n.automaton cs (starts_e
 -- ---- the regex
 room_of : (skips : Bool) (least given : ℕ) → least ≤ (if skips then max least given else given) → skips ≡ false → least ≤ given
 room_of skips least given enough checks = subst (λ (b : Bool). least ≤ (if b then max least given else given)) checks enough
+
+or_none : {A : Type 0} (o : Option A) → option_or o None ≡ o
+or_none (Some x) = refl
+or_none None = refl
+
+pub set_once : (o : Options) → changed_by no_options o ≡ o
+set_once o = λ i. record {
+  match_kind = or_none o.match_kind i;
+  starts_for_each_pattern = or_none o.starts_for_each_pattern i;
+  byte_classes = or_none o.byte_classes i;
+  unicode_word_boundary = or_none o.unicode_word_boundary i;
+  quit_set = or_none o.quit_set i;
+  specialize_start_states = or_none o.specialize_start_states i;
+  cache_capacity = or_none o.cache_capacity i;
+  skip_cache_capacity_check = or_none o.skip_cache_capacity_check i;
+  minimum_cache_clear_count = or_none o.minimum_cache_clear_count i;
+  minimum_bytes_per_state = or_none o.minimum_bytes_per_state i;
+}
+
+pub is_built : (xs : List Tree) (s : Settings) (n m : Nfa) (o : Options) (p : Pair) → IsCompiled (compile_options false s) xs n →
+    IsCompiled (compile_options true s) xs m → Ok p ≡ pair_built n m o → o ≡ s.dfa → IsDfa p.forward → IsDfa p.reverse → IsBuilt xs s p
+is_built xs s n m o p up down is same forward reverse =
+    let made : pair_built n m s.dfa ≡ Ok p = ap (λ (c : Options). pair_built n m c) (sym same) ∙ sym is in
+    let first : p.forward.nfa ≡ n = ap (λ (r : Pair). r.forward.nfa) (pair_is n m s.dfa p made) in
+    let second : p.reverse.nfa ≡ m = ap (λ (r : Pair). r.reverse.nfa) (pair_is n m s.dfa p made) in
+    record {
+      up = subst (λ (k : Nfa). IsCompiled (compile_options false s) xs k) (sym first) up;
+      down = subst (λ (k : Nfa). IsCompiled (compile_options true s) xs k) (sym second) down;
+      made = (λ i. pair_built (first i) (second i) s.dfa) ∙ made;
+      forward = forward;
+      reverse = reverse;
+    }
 
 module _ (xs : List Tree) (s : Settings) (p : Pair) (made : IsBuilt xs s p) where
   pub forward_is : p.forward ≡ dfa_of p.forward.nfa s.dfa

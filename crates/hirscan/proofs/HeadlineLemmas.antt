@@ -1,5 +1,5 @@
 -- The laws of what searches over a regex that is built of trees answer, by what the calls of the regex promise.
-use Rattle.std.proofs.Common.{◌≡◌, ℕ, ◌+◌, ◌≤◌, Bool, false, List, ◌++◌, Option, Some, None, All, refl, sym, ap, ◌∙◌, subst}
+use Rattle.std.proofs.Common.{◌≡◌, ℕ, ◌+◌, ◌≤◌, Bool, false, List, ◌++◌, Option, None, All, sym, ◌∙◌, subst}
 use Rattle.std.specs.Prelude.{Ok, is_some}
 use Rattle.search_core.specs.Utf8.{is_word_byte}
 use Rattle.look_core.specs.Looks.{holds, IsWordSet}
@@ -71,10 +71,11 @@ module _ (xs : List Tree) (s : Settings) (p : Pair) (made : IsBuilt xs s p) wher
       (usage c.forward ≤ effective_capacity (measures_with p.forward.nfa s.dfa) (skips_check s.dfa) (capacity_of s.dfa))
       × (usage c.reverse ≤ effective_capacity (measures_with p.reverse.nfa s.dfa) (skips_check s.dfa) (capacity_of s.dfa))
   caches_fit c own =
-      let Below : Measures → Type 0 = λ m. usage c.reverse ≤ effective_capacity m (skips_check s.dfa) (capacity_of s.dfa) in
-      (subst (λ (d : Dfa). usage c.forward ≤ d.capacity) (forward_is xs s p made) own.forward.within,
-      subst Below (same_measures p.reverse.nfa s.dfa)
-      (subst (λ (d : Dfa). usage c.reverse ≤ d.capacity) (reverse_is xs s p made) own.reverse.within))
+      let Below : Measures → Type 0 = λ m. usage c.reverse ≤ effective_capacity m (skips_check s.dfa) (capacity_of s.dfa) in (
+        subst (λ (d : Dfa). usage c.forward ≤ d.capacity) (forward_is xs s p made) own.forward.within,
+        subst Below (same_measures p.reverse.nfa s.dfa)
+            (subst (λ (d : Dfa). usage c.reverse ≤ d.capacity) (reverse_is xs s p made) own.reverse.within),
+      )
 
 -- ---- settings that don't show
 abbrev answer_by : List Tree → Search → Bool → Terminator → Option Found

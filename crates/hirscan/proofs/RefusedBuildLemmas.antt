@@ -10,7 +10,7 @@ use Rattle.thompson_nfa.specs.Compilations.{IsCompiled}
 use Rattle.thompson_nfa.specs.RefusedTrees.{RefusesTrees}
 use Rattle.lazy_dfa.specs.Accounting.{least_capacity}
 use Rattle.lazy_dfa.specs.Building.{built, dfa_of, is_too_small, measures_with, told_by}
-use Rattle.lazy_dfa.specs.ConfigValue.{changed_by, word_boundary_of, by_hand, capacity_of, skips_check}
+use Rattle.lazy_dfa.specs.ConfigValue.{Options, changed_by, word_boundary_of, by_hand, capacity_of, skips_check}
 use Rattle.lazy_dfa.specs.declared.build_error.BuildError.{BuildError}
 use Rattle.lazy_dfa.specs.declared.build_error.BuildError.TheVariants.{NFA, InsufficientCacheCapacity, Unsupported}
 use Rattle.lazy_dfa.specs.Dfas.{Dfa}
@@ -83,7 +83,7 @@ module _ (xs : List Tree) (s : Settings) where
     by_half (Ok f) (Err v) first second is = second (ap err_dfa (same_pair_refusal v e is))
     by_half (Err v) r first second is = first (ap err_dfa (same_pair_refusal v e is))
 
-    pub pair_refused : pair_built n m s.dfa ≡ err_pair e → RefusesBuild xs s e
+    pair_refused : pair_built n m s.dfa ≡ err_pair e → RefusesBuild xs s e
     pair_refused is =
         by_half (built n s.dfa) (built m (changed_by s.dfa back_options))
         (λ first. by_tests false n up (is_unsupported n.automaton (word_boundary_of s.dfa) (by_hand s.dfa)) (skips_check s.dfa)
@@ -93,3 +93,6 @@ module _ (xs : List Tree) (s : Settings) where
         (capacity_of s.dfa) (least_capacity (measures_with m (changed_by s.dfa back_options))) (dfa_of m (changed_by s.dfa back_options))
         (unsupported_are xs s true m down s.dfa) refl refl (ap least_capacity (same_measures m s.dfa))
         (is_too_small m (changed_by s.dfa back_options)) refl e second) is
+
+    pub build_refused : (o : Options) → err_pair e ≡ pair_built n m o → o ≡ s.dfa → RefusesBuild xs s e
+    build_refused o is same = pair_refused (ap (λ (c : Options). pair_built n m c) (sym same) ∙ sym is)

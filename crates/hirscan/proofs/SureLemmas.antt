@@ -1,5 +1,5 @@
 -- Where searches over a regex that is built of trees answer: what refuses them, and where nothing but want of memory does.
-use Rattle.std.proofs.Common.{◌≡◌, ◌⊎◌, ℕ, ◌+◌, ◌≤◌, Bool, true, false, List, Option, Some, None, inl, inr, true≢false, refl, sym, ap, ◌∙◌, subst, arith}
+use Rattle.std.proofs.Common.{◌≡◌, ℕ, ◌≤◌, Bool, true, false, List, Option, Some, None, inl, inr, true≢false, refl, sym, ap, ◌∙◌, subst, arith}
 use Rattle.std.specs.Prelude.{Result, Ok, Err}
 use Rattle.search_core.specs.ByteSets.{has}
 use Rattle.search_core.specs.Text.{byte_at}
@@ -83,7 +83,7 @@ quiet_on : (quits : List Bool) (q : Search) (k : ℕ) → q.start ≤ k → IsQu
 quiet_on quits q k low quiet x b from to is = quiet x b (omega (arith, low, from)) to is
 
 -- ---- steps
-asked_behind : (p : Pair) (at : Finding) (k : ℕ) → IsAskedAt p at k → at.search.start ≤ k
+pub asked_behind : (p : Pair) (at : Finding) (k : ℕ) → IsAskedAt p at k → at.search.start ≤ k
 asked_behind p at k (inl here) = omega (arith, here)
 asked_behind p at k (inr there) = let one = there.0 in omega (arith, one)
 
@@ -102,10 +102,10 @@ no_end_item e is = let never : true ≡ false = cc in grind (arith, never)
 same_item : (e v : MatchErrorKind) → refused_item v ≡ refused_item e → v ≡ e
 same_item e v is = cc
 
-abbrev RefusesFrom : Pair → Finding → PairCache → MatchErrorKind → Type 0
+abbrev pub RefusesFrom : Pair → Finding → PairCache → MatchErrorKind → Type 0
 RefusesFrom p at after e = (k : ℕ) × IsAskedAt p at k × AnswersPair p after (search_at at.search k) (Err e)
 
-refused_from : (p : Pair) (at new : Finding) (before after : PairCache) (e : MatchErrorKind) → Finds p at new before after (Some (Err e)) →
+pub refused_from : (p : Pair) (at new : Finding) (before after : PairCache) (e : MatchErrorKind) → Finds p at new before after (Some (Err e)) →
     RefusesFrom p at after e
 refused_from p at new before after e (finds_next f begun next item there) = absurd (no_match_item f e item)
 refused_from p at new before after e (finds_none begun next item over) = absurd (no_end_item e item)
@@ -124,18 +124,18 @@ module _ (xs : List Tree) (s : Settings) (p : Pair) (made : IsBuilt xs s p) wher
   never_up : clears_of s.dfa ≡ None → (c : PairCache) (q : Search) (x : ℕ) → GivesUp p.forward c.forward q x → ⊥
   never_up none c q x gave = never_among p.forward c.forward (forward_clears none) q x (passes_of (reader p.forward) q) gave
 
-  never_gives_up : clears_of s.dfa ≡ None → (c : PairCache) (q : Search) (x : ℕ) → PairGivesUp p c q x → ⊥
+  pub never_gives_up : clears_of s.dfa ≡ None → (c : PairCache) (q : Search) (x : ℕ) → PairGivesUp p c q x → ⊥
   never_gives_up none c q x (gives_up_forward gave) = never_up none c q x gave
   never_gives_up none c q x (gives_up_back e goes gave) =
       never_among p.reverse c.reverse (reverse_clears none) (back_from q e.0) x (passes_of (reader p.reverse) (back_from q e.0)) gave
 
   -- ---- where nothing quits
-  quiet_up : (q : Search) → IsQuiet (quit_bytes_for xs s.dfa) q → HasNoQuitNear (reader p.forward) q.haystack q.start q.end
+  pub quiet_up : (q : Search) → IsQuiet (quit_bytes_for xs s.dfa) q → HasNoQuitNear (reader p.forward) q.haystack q.start q.end
   quiet_up q quiet x from to =
       let quits : IsQuiet p.forward.quits q = subst (λ (set : List Bool). IsQuiet set q) (sym (forward_quits xs s p made)) quiet in
       quiet_at p.forward.quits (byte_at q.haystack x) (λ b is. quits x b from to is)
 
-  supported_up : (q : Search) → is_supported (starts_each_of s.dfa) q.anchored ≡ true →
+  pub supported_up : (q : Search) → is_supported (starts_each_of s.dfa) q.anchored ≡ true →
       is_supported (reader p.forward).starts_for_each_pattern q.anchored ≡ true
   supported_up q supported =
       ap (λ (d : Dfa). is_supported (starts_each_of d.options) q.anchored) (forward_is xs s p made) ∙ supported
@@ -185,14 +185,15 @@ module _ (xs : List Tree) (s : Settings) (p : Pair) (made : IsBuilt xs s p) wher
     quits_upwards q asked c b x is =
         let reads : scan (reader p.forward) q ≡ quit b x =
         quits_by_first xs s.utf8 s.line_terminator p (built_regex xs s p made first) q asked b x (refusal_is_joined p c q (Quit b x) refl is) in
-        let near = scan_quits_near (reader p.forward) q b x reads in
-        (reads,
-        record {
-          stands = near.0;
-          is_quit = subst (λ (set : List Bool). has set b ≡ true) (forward_quits xs s p made) near.1;
-          behind_start = near.2;
-          before_end = near.3;
-        })
+        let near = scan_quits_near (reader p.forward) q b x reads in (
+          reads,
+          record {
+            stands = near.0;
+            is_quit = subst (λ (set : List Bool). has set b ≡ true) (forward_quits xs s p made) near.1;
+            behind_start = near.2;
+            before_end = near.3;
+          },
+        )
 
     pub never_no_pair : (q : Search) → IsSearchOf xs s.utf8 q → (c : PairCache) → AnswersPair p c q (Err NotAPair) → ⊥
     never_no_pair q asked c is =
