@@ -22,6 +22,9 @@ pub mod SomeReadsLemmas
 mod NotationRows
 pub mod SliceLemmas
 pub mod CauseLemmas
+pub mod ListingLemmas
+pub mod ListEndLemmas
+pub mod RefusedRegexLemmas
 pub mod ReplyLemmas
 pub mod RunLemmas
 pub mod OneReplyLemmas

@@ -13,4 +13,5 @@ pub mod Regexes
 pub mod Headline
 pub mod LooseAnswers
 pub mod Reply
+pub mod Listing
 pub mod Runs
