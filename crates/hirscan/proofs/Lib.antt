@@ -33,3 +33,9 @@ pub mod SearchLemmas
 pub mod EarliestLemmas
 pub mod MatchLemmas
 pub mod BuiltPairLemmas
+pub mod WalkLookLemmas
+pub mod TreeWalkLemmas
+pub mod TreeToldLemmas
+pub mod WalkMeansLemmas
+pub mod RefusedWalkLemmas
+pub mod WhichTreeLemmas

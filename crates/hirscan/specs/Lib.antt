@@ -12,5 +12,6 @@ pub mod Asks
 pub mod Regexes
 pub mod Headline
 pub mod LooseAnswers
+pub mod TreeWalks
 pub mod Reply
 pub mod Runs

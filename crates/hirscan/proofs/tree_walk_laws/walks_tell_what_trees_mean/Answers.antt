@@ -1,0 +1,8 @@
+use Rattle.hirscan.proofs.WalkMeansLemmas.{tells_ascii, tells_words}
+use Rattle.hirscan.proofs.tree_walk_laws.walks_tell_what_trees_mean.Goals as goal
+
+pub returns-clause-ascii : goal.returns-clause-ascii
+returns-clause-ascii c = tells_ascii
+
+pub returns-clause-words : goal.returns-clause-words
+returns-clause-words c = tells_words
