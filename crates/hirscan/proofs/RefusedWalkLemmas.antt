@@ -1,7 +1,6 @@
 -- Each end that a walk tells is that of a run, also where it is refused behind that.
-use Rattle.std.proofs.Common.{◌≡◌, ℕ, zero, suc, ◌-◌, Bool, true, false, List, [], ◌∷◌, ◌++◌, Option, Some, None, nat_le, nat_eq, refl, sym, ap, ◌∙◌, ◌⊎◌, ⊎_elim, subst, if◌then◌else◌}
+use Rattle.std.proofs.Common.{◌≡◌, ℕ, zero, suc, ◌-◌, Bool, true, false, List, [], ◌∷◌, Option, Some, None, nat_le, nat_eq, refl, ap, ◌∙◌, ⊎_elim, subst, if◌then◌else◌}
 use Rattle.std.specs.List.{filter}
-use Rattle.std.proofs.lemmas.Bool.{cases_Bool}
 use Rattle.search_core.specs.ByteSets.{has}
 use Rattle.search_types.specs.declared.anchored.Anchored.{Anchored}
 use Rattle.search_types.specs.declared.match_error.MatchErrorKind.{MatchErrorKind}

@@ -1,5 +1,5 @@
 -- What runs find is what a walk is to tell of the trees, both ways; and where looks are read alike, it is the same.
-use Rattle.std.proofs.Common.{◌≡◌, ℕ, ◌<◌, ◌≤◌, Bool, true, false, ◌&&◌, List, length, slice_get, Some, refl, ap, ◌∙◌, arith}
+use Rattle.std.proofs.Common.{◌≡◌, ℕ, ◌≤◌, Bool, true, false, ◌&&◌, List, length, slice_get, Some, refl, arith}
 use Rattle.search_core.specs.Utf8.{IsValidText}
 use Rattle.look_core.specs.Looks.{holds_ascii}
 use Rattle.look_core.specs.Terminators.{Terminator}

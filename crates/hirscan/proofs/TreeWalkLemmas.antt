@@ -1,40 +1,31 @@
 -- The ends of the runs of an automaton that is compiled from trees are the spans that the trees mean, for one who reads up or
 -- down, in each mode.
-use Rattle.std.proofs.Common.{◌≡◌, ◌↔◌, ℕ, zero, suc, ◌+◌, ◌-◌, ◌<◌, ◌≤◌, min, Bool, true, false, ◌&&◌, List, length, take, get_or, slice_get, Option, Some, None, All, refl, sym, ap, ◌∙◌, subst, inl, inr, arith, nat_lt, ◌==◌, eq-eqb}
+use Rattle.std.proofs.Common.{◌≡◌, ◌↔◌, ℕ, ◌<◌, ◌≤◌, Bool, true, false, ◌&&◌, List, length, get_or, slice_get, Some, All, refl, sym, ap, ◌∙◌, subst, inl, inr, arith, nat_lt, ◌==◌, eq-eqb}
 use Rattle.std.proofs.lemmas.Bool.{cases_lt, lt-ltb}
 use Rattle.std.proofs.lemmas.Option.{slice_get_within, get_or_from_slice_get}
 use Rattle.search_core.specs.Utf8.{IsValidText}
-use Rattle.look_core.specs.Looks.{holds_ascii}
 use Rattle.look_core.specs.Terminators.{Terminator}
 use Rattle.hir_core.specs.Tree.{Tree, empty}
 use Rattle.hir_core.specs.Means.{Looks, Means}
 use Rattle.hir_core.specs.Facts.{is_utf8_tree}
-use Rattle.hir_core.specs.Agree.{AgreeFrom}
-use Rattle.hir_core.proofs.ForCallers.{span_forward, span_start_bounded, span_end_bounded, empty_span, cut_to_whole, whole_to_cut, same_spans_within}
+use Rattle.hir_core.proofs.ForCallers.{span_forward, span_start_bounded, span_end_bounded}
 use Rattle.search_types.specs.declared.anchored.Anchored.{Anchored}
 use Rattle.search_types.specs.declared.anchored.Anchored.TheVariants.{No, Yes, Pattern}
-use Rattle.search_types.specs.Inputs.{Search, with_earliest}
 use Rattle.search_types.specs.Modes.{allowed, is_anchored, may_start}
 use Rattle.search_types.specs.Places.{counts}
 use Rattle.search_types.proofs.ForCallers.{starts_at, may_start_at}
 use Rattle.nfa_core.specs.Nfa.{Automaton}
-use Rattle.nfa_core.specs.NfaValue.{has_empty}
 use Rattle.nfa_core.specs.Places.{same_pair}
 use Rattle.nfa_core.specs.Walks.{Has}
 use Rattle.nfa_core.specs.Ways.{Text, span, place_of, ends_from}
 use Rattle.thompson_nfa.specs.Compilations.{IsChoice, IsReadTo, FindsSpans, start_of}
 use Rattle.thompson_nfa.specs.Denotes.{IsMeant}
 use Rattle.thompson_nfa.proofs.ForCallers.{span_is_read}
-use Rattle.lazy_dfa.specs.Dfas.{Dfa, reader}
+use Rattle.lazy_dfa.specs.Dfas.{Dfa}
 use Rattle.lazy_dfa.specs.Passes.{start_name}
-use Rattle.lazy_dfa.specs.Readers.{Reader}
 use Rattle.lazy_dfa.specs.Scans.{first_place}
-use Rattle.lazy_dfa.specs.ScanLaws.{ends_of}
-use Rattle.hirscan.specs.Choices.{Query}
-use Rattle.hirscan.specs.LooseAnswers.{IsSpanOf, IsFindable}
-use Rattle.hirscan.specs.Regexes.{IsSearchOf, query_of}
-use Rattle.hirscan.specs.TreeWalks.{IsWalkerOf, IsToldEnd, IsToldStart, IsToldOf}
-use Rattle.hirscan.proofs.EndLemmas.{both_true, listed_has}
+use Rattle.hirscan.specs.TreeWalks.{IsWalkerOf}
+use Rattle.hirscan.proofs.EndLemmas.{both_true}
 use Rattle.hirscan.proofs.FirstEndLemmas.{start_has_tree}
 use Rattle.hirscan.proofs.LooseEndLemmas.{allowed_named}
 

@@ -1,6 +1,6 @@
 -- Where no quit byte stands in or beside the span of a walk, the trees' looks are read there alike by the bytes of ASCII and with
 -- any set of words: a tree that asks for words by characters makes each byte above 7F a quit byte.
-use Rattle.std.proofs.Common.{◌≡◌, ℕ, zero, suc, ◌+◌, ◌<◌, ◌≤◌, Bool, true, false, List, slice_get, Option, Some, None, All, refl, sym, ap, ◌∙◌, subst, inl, inr, ⊎_elim, arith}
+use Rattle.std.proofs.Common.{◌≡◌, ℕ, zero, suc, ◌<◌, ◌≤◌, Bool, true, false, List, slice_get, Option, Some, None, All, refl, sym, ap, ◌∙◌, subst, inl, inr, ⊎_elim, arith}
 use Rattle.std.specs.Prelude.{IfSome}
 use Rattle.std.proofs.lemmas.Bool.{cases_Bool, cases_lt}
 use Rattle.std.proofs.lemmas.Option.{slice_get_within, get_or_from_slice_get}
@@ -9,7 +9,7 @@ use Rattle.search_core.specs.ByteSets.{has}
 use Rattle.search_core.specs.Text.{byte_at, byte_before}
 use Rattle.look_core.specs.declared.look.Look.{Look}
 use Rattle.look_core.specs.declared.look.Look.TheVariants.{Start, End, StartLF, EndLF, StartCRLF, EndCRLF, WordAscii, WordAsciiNegate, WordUnicode, WordUnicodeNegate, WordStartAscii, WordEndAscii, WordStartUnicode, WordEndUnicode, WordStartHalfAscii, WordEndHalfAscii, WordStartHalfUnicode, WordEndHalfUnicode}
-use Rattle.look_core.specs.Codes.{is_word_unicode, reversed}
+use Rattle.look_core.specs.Codes.{is_word_unicode}
 use Rattle.look_core.specs.LookSets.{has_look}
 use Rattle.look_core.specs.Looks.{holds, holds_ascii, by_characters, IsWordSet}
 use Rattle.look_core.specs.Terminators.{Terminator}

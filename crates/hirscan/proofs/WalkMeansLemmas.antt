@@ -1,11 +1,10 @@
 -- A walk over trees tells what is to be told of them and nothing else; where no refusal comes all of it, each once, in reading
 -- order.
-use Rattle.std.proofs.Common.{◌≡◌, ◌↔◌, ℕ, zero, suc, ◌<◌, ◌≤◌, ◌⊎◌, Bool, true, false, ◌&&◌, List, [], ◌∷◌, ◌++◌, length, slice_get, Option, Some, None, refl, sym, ap, ◌∙◌, subst, inl, inr, ⊎_elim, arith}
+use Rattle.std.proofs.Common.{◌≡◌, ◌↔◌, ℕ, ◌<◌, ◌≤◌, Bool, true, false, ◌&&◌, List, [], ◌∷◌, ◌++◌, length, slice_get, Option, Some, None, refl, sym, ap, ◌∙◌, subst, inl, inr, ⊎_elim, arith}
 use Rattle.std.proofs.lemmas.Bool.{cases_lt}
 use Rattle.look_core.specs.Looks.{holds, holds_ascii, IsWordSet}
 use Rattle.look_core.specs.Terminators.{Terminator}
 use Rattle.hir_core.specs.Tree.{Tree}
-use Rattle.hir_core.specs.Means.{Means}
 use Rattle.hir_core.specs.Agree.{AgreeFrom}
 use Rattle.hir_core.specs.Facts.{is_utf8_tree}
 use Rattle.hir_core.proofs.ForCallers.{empty_span}
@@ -17,8 +16,8 @@ use Rattle.search_types.specs.Places.{counts}
 use Rattle.nfa_core.specs.Nfa.{Automaton}
 use Rattle.nfa_core.specs.NfaValue.{has_empty}
 use Rattle.nfa_core.specs.Places.{same_pair}
-use Rattle.nfa_core.specs.Walks.{has as has_in, Has, HasNoneTwice}
-use Rattle.nfa_core.specs.Ways.{Text, span, ends_from}
+use Rattle.nfa_core.specs.Walks.{Has, HasNoneTwice}
+use Rattle.nfa_core.specs.Ways.{span, ends_from}
 use Rattle.nfa_core.proofs.ForCallers.{none_in, option_cases}
 use Rattle.lazy_dfa.specs.Dfas.{Dfa, reader}
 use Rattle.lazy_dfa.specs.Passes.{start_name}

@@ -1,13 +1,11 @@
 -- Which patterns a call adds to a set where it answers Ok: those of all ends that it has room for, also where it stops before a
 -- refusal, since the set is full then.
-use Rattle.std.proofs.Common.{◌≡◌, ◌↔◌, ◌⊎◌, ℕ, zero, suc, ◌<◌, Bool, true, false, List, [], ◌∷◌, length, take, Option, Some, None, Result, Ok, Err, refl, sym, ap, ◌∙◌, inl, inr, ⊎_elim, subst, arith, if◌then◌else◌}
-use Rattle.std.specs.Prelude.{⊤}
+use Rattle.std.proofs.Common.{◌≡◌, ◌↔◌, ◌⊎◌, ℕ, zero, suc, ◌<◌, Bool, true, false, List, [], ◌∷◌, length, Option, Some, None, Ok, refl, sym, ap, ◌∙◌, inl, inr, ⊎_elim, subst, arith, if◌then◌else◌}
 use Rattle.std.proofs.lemmas.Bool.{cases_Bool, and_parts}
 use Rattle.look_core.specs.Looks.{IsWordSet}
 use Rattle.look_core.specs.Terminators.{Terminator}
 use Rattle.search_core.specs.ByteSets.{has}
 use Rattle.search_types.specs.declared.match_error.MatchErrorKind.{MatchErrorKind}
-use Rattle.search_types.specs.declared.match_error.MatchErrorKind.TheVariants.{NoMemory, GaveUp}
 use Rattle.search_types.specs.Inputs.{Search, with_earliest}
 use Rattle.hir_core.specs.Tree.{Tree}
 use Rattle.nfa_core.specs.Places.{same_pair}

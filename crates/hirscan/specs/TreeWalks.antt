@@ -1,9 +1,8 @@
 -- What an overlapping walk over an automaton that is compiled from trees tells, in terms of what the trees mean.
-use Rattle.std.specs.Prelude.{◌≡◌, ℕ, ◌≤◌, Bool, true, false, List, length}
+use Rattle.std.specs.Prelude.{◌≡◌, ℕ, ◌≤◌, Bool, true, false, List}
 use Rattle.look_core.specs.Looks.{holds, holds_ascii}
 use Rattle.look_core.specs.Terminators.{Terminator}
 use Rattle.hir_core.specs.Tree.{Tree}
-use Rattle.hir_core.specs.Means.{Looks}
 use Rattle.search_types.specs.declared.match_kind.MatchKind.TheVariants.{All as AllMatches}
 use Rattle.search_types.specs.Inputs.{Search}
 use Rattle.search_types.specs.Modes.{is_anchored, may_start}
