@@ -39,3 +39,5 @@ pub mod TreeToldLemmas
 pub mod WalkMeansLemmas
 pub mod RefusedWalkLemmas
 pub mod WhichTreeLemmas
+pub mod WalkReadLemmas
+pub mod WalkAnyhowLemmas

@@ -1,17 +1,15 @@
--- What runs find is what a walk is to tell of the trees, both ways; and where looks are read alike, it is the same.
+-- What runs find is what a walk is to tell of the trees, both ways, however looks are read.
 use Rattle.std.proofs.Common.{◌≡◌, ℕ, ◌≤◌, Bool, true, false, ◌&&◌, List, length, slice_get, Some, refl, arith}
 use Rattle.search_core.specs.Utf8.{IsValidText}
-use Rattle.look_core.specs.Looks.{holds_ascii}
-use Rattle.look_core.specs.Terminators.{Terminator}
 use Rattle.hir_core.specs.Tree.{Tree}
 use Rattle.hir_core.specs.Means.{Looks, Means}
-use Rattle.hir_core.specs.Agree.{AgreeFrom}
 use Rattle.hir_core.specs.Facts.{is_utf8_tree}
-use Rattle.hir_core.proofs.ForCallers.{span_forward, cut_to_whole, whole_to_cut, same_spans_within}
+use Rattle.hir_core.proofs.ForCallers.{span_forward, cut_to_whole, whole_to_cut}
 use Rattle.search_types.specs.Inputs.{Search}
 use Rattle.search_types.specs.Places.{counts}
 use Rattle.search_types.proofs.ForCallers.{starts_at}
-use Rattle.nfa_core.specs.Ways.{Text, span}
+use Rattle.nfa_core.specs.Reaches.{read_by}
+use Rattle.nfa_core.specs.Ways.{Text}
 use Rattle.lazy_dfa.specs.Scans.{first_place}
 use Rattle.hirscan.specs.Choices.{Query}
 use Rattle.hirscan.specs.LooseAnswers.{IsFindable}
@@ -38,15 +36,12 @@ told_begun true asks s x told =
 
 -- ---- what runs find
 
-module _ (xs : List Tree) (utf8 : Bool) (t : Terminator) (q : Search) (l : q.start ≤ q.end) (within : q.end ≤ length q.haystack) where
-  abbrev looks : Looks
-  looks = holds_ascii t q.haystack
-
+module _ (xs : List Tree) (utf8 : Bool) (looks : Looks) (q : Search) (l : q.start ≤ q.end) (within : q.end ≤ length q.haystack) where
   abbrev asks : Query
   asks = query_of xs utf8 looks q
 
   abbrev text : Text
-  text = span t q.haystack q.start q.end
+  text = read_by looks q.haystack q.start q.end
 
   abbrev pub Meets : Bool → ℕ × ℕ → Type 0
   Meets b x = IsMet xs b text q.anchored (first_place b q.start q.end) x
@@ -83,8 +78,7 @@ module _ (xs : List Tree) (utf8 : Bool) (t : Terminator) (q : Search) (l : q.sta
       let f = told.findable in
       let above = told.above in
       let up = span_forward looks q.haystack f.span.tree x.0 told.end f.span.means in
-      let low : q.start ≤ told.end = omega (arith, up, above) in
-      (
+      let low : q.start ≤ told.end = omega (arith, up, above) in (
         told.end,
         (
           ends_down q.anchored text q.start q.end told.end refl low f.within told.ends,
@@ -110,30 +104,3 @@ module _ (xs : List Tree) (utf8 : Bool) (t : Terminator) (q : Search) (l : q.sta
       let means = m.1.2.2.0 in
       (counted_alike utf8 v looks q.haystack m.1.2.0 x.0 m.0 means (omega (arith, far, within)) valid (trees x.1 m.1.2.0 m.1.2.1)
       (λ e. some x.1 x.0 m.0 m.1.2.0 m.1.2.1 e means)).0
-
--- ---- looks that are read alike
-
-module _ (xs : List Tree) (utf8 : Bool) (q : Search) (within : q.end ≤ length q.haystack) (f g : Looks)
-    (agree : (k : ℕ) (x : Tree) → slice_get xs k ≡ Some x → AgreeFrom f g q.start q.end x) where
-  findable_alike : (p i j : ℕ) → q.start ≤ i → IsFindable (query_of xs utf8 f q) i p j → IsFindable (query_of xs utf8 g q) i p j
-  findable_alike p i j low c =
-      let up = span_forward f q.haystack c.span.tree i j c.span.means in
-      let last = c.within in
-      let means = same_spans_within f g q.haystack q.start q.end within c.span.tree (agree p c.span.tree c.span.listed) i j low
-      (omega (arith, up, last)) last c.span.means in
-      record { may = c.may; span = record { tree = c.span.tree; listed = c.span.listed; means = means }; within = last }
-
-  pub told_alike : (b : Bool) (x : ℕ × ℕ) → IsToldOf b (query_of xs utf8 f q) q.start x → IsToldOf b (query_of xs utf8 g q) q.start x
-  told_alike false x c = record {
-    start = c.start;
-    starts = c.starts;
-    findable = findable_alike x.1 c.start x.0 (starts_at q.anchored q.start q.end c.start c.starts).from_s c.findable;
-    counted = c.counted;
-  }
-  told_alike true x c = record {
-    end = c.end;
-    ends = c.ends;
-    above = c.above;
-    findable = findable_alike x.1 x.0 c.end c.above c.findable;
-    counted = c.counted;
-  }

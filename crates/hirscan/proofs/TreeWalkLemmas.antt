@@ -1,6 +1,6 @@
 -- The ends of the runs of an automaton that is compiled from trees are the spans that the trees mean, for one who reads up or
 -- down, in each mode.
-use Rattle.std.proofs.Common.{◌≡◌, ◌↔◌, ℕ, ◌<◌, ◌≤◌, Bool, true, false, ◌&&◌, List, length, get_or, slice_get, Some, All, refl, sym, ap, ◌∙◌, subst, inl, inr, arith, nat_lt, ◌==◌, eq-eqb}
+use Rattle.std.proofs.Common.{◌≡◌, ◌↔◌, ℕ, ◌<◌, ◌≤◌, Bool, true, false, ◌&&◌, List, length, get_or, slice_get, Some, refl, sym, ap, ◌∙◌, subst, inl, inr, arith, nat_lt, ◌==◌, eq-eqb}
 use Rattle.std.proofs.lemmas.Bool.{cases_lt, lt-ltb}
 use Rattle.std.proofs.lemmas.Option.{slice_get_within, get_or_from_slice_get}
 use Rattle.search_core.specs.Utf8.{IsValidText}
@@ -17,10 +17,10 @@ use Rattle.search_types.proofs.ForCallers.{starts_at, may_start_at}
 use Rattle.nfa_core.specs.Nfa.{Automaton}
 use Rattle.nfa_core.specs.Places.{same_pair}
 use Rattle.nfa_core.specs.Walks.{Has}
-use Rattle.nfa_core.specs.Ways.{Text, span, place_of, ends_from}
-use Rattle.thompson_nfa.specs.Compilations.{IsChoice, IsReadTo, FindsSpans, start_of}
+use Rattle.nfa_core.specs.Reaches.{read_by}
+use Rattle.nfa_core.specs.Ways.{Text, place_of, ends_from}
+use Rattle.thompson_nfa.specs.Compilations.{IsChoice, IsRead, IsReadTo, FindsSpans, start_of}
 use Rattle.thompson_nfa.specs.Denotes.{IsMeant}
-use Rattle.thompson_nfa.proofs.ForCallers.{span_is_read}
 use Rattle.lazy_dfa.specs.Dfas.{Dfa}
 use Rattle.lazy_dfa.specs.Passes.{start_name}
 use Rattle.lazy_dfa.specs.Scans.{first_place}
@@ -117,9 +117,9 @@ module _ (xs : List Tree) (b utf8 : Bool) (t : Terminator) (d : Dfa) (w : IsWalk
   spans : FindsSpans b xs d.nfa
   spans = let P : Bool → Type 0 = λ c. FindsSpans c xs d.nfa in subst P w.reads w.compiled.spans
 
-  module _ (h : List ℕ) (s e : ℕ) (l : s ≤ e) (within : e ≤ length h) (bytes : All (λ byte. byte < 256) h) where
+  module _ (looks : Looks) (h : List ℕ) (s e : ℕ) (read : IsRead (read_by looks h s e)) where
     abbrev text : Text
-    text = span t h s e
+    text = read_by looks h s e
 
     abbrev Met : Anchored → ℕ → ℕ × ℕ → Type 0
     Met mode i x = IsMet xs b text mode i x
@@ -129,7 +129,7 @@ module _ (xs : List Tree) (b utf8 : Bool) (t : Terminator) (d : Dfa) (w : IsWalk
 
     met_free : (i : ℕ) (x : ℕ × ℕ) → s ≤ i → i ≤ e → Has same_pair x (ends_from a text (i, a.start_unanchored)) ↔ Met No i x
     met_free i x low high =
-        let found = spans.unanchored text i x (span_is_read t h s e within bytes) low high in (
+        let found = spans.unanchored text i x read low high in (
           λ there. let c = found.0 there in (c.0, (c.1, lt-ltb x.1 (length xs) (choice_inside c.0 x c.2), c.2)),
           λ m. found.1 (m.0, m.1.0, m.1.2),
         )

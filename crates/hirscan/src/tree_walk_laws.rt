@@ -10,6 +10,7 @@ ghost use Rattle.look_core.specs.Terminators.{Terminator};
 ghost use Rattle.hir_core.specs.Tree.{Tree};
 ghost use Rattle.search_types.specs.declared.anchored.Anchored.TheVariants.{Pattern};
 ghost use Rattle.search_types.specs.Inputs.{Search, with_earliest};
+ghost use Rattle.search_types.specs.Modes.{is_supported};
 ghost use Rattle.nfa_core.specs.Places.{same_pair};
 ghost use Rattle.nfa_core.specs.Walks.{Has, HasNoneTwice};
 ghost use Rattle.lazy_dfa.specs.Caches.{CacheValue};
@@ -22,15 +23,20 @@ ghost use Rattle.hirscan.specs.Regexes.{IsSearchOf};
 ghost use Rattle.hirscan.specs.TreeWalks.{IsWalkerOf, IsToldAscii, IsToldWith};
 
 /// A walk that comes to no refusal tells exactly the places and patterns of the spans that the trees mean and that the search may
-/// find, where looks for words by characters are read by the bytes of ASCII. Where no quit byte stands in or beside the span,
-/// these are those for every set of words.
+/// find: for every set of words, and also where looks for words by characters are read by the bytes of ASCII. No refusal comes
+/// where no quit byte stands in or beside the span and the mode is supported.
 pub fn walks_tell_what_trees_mean()
     ensures ascii { (xs : List Tree) (reverse utf8 : Bool) (t : Terminator) (d : Dfa) → IsWalkerOf xs reverse utf8 t d →
         (q : Search) → IsSearchOf xs utf8 (with_earliest false q) → (whole_rest (reader d) q).refusal ≡ None → (x : ℕ × ℕ) →
         Has same_pair x (whole_rest (reader d) q).ends ↔ IsToldAscii xs reverse utf8 t q x }
     ensures words { (xs : List Tree) (reverse utf8 : Bool) (t : Terminator) (d : Dfa) → IsWalkerOf xs reverse utf8 t d →
         (q : Search) → IsSearchOf xs utf8 (with_earliest false q) → (whole_rest (reader d) q).refusal ≡ None →
-        HasNoQuitNear (reader d) q.haystack q.start q.end → (words : ℕ → Bool) → IsWordSet words → (x : ℕ × ℕ) →
+        (words : ℕ → Bool) → IsWordSet words → (x : ℕ × ℕ) →
+        Has same_pair x (whole_rest (reader d) q).ends ↔ IsToldWith words xs reverse utf8 t q x }
+    ensures quiet { (xs : List Tree) (reverse utf8 : Bool) (t : Terminator) (d : Dfa) → IsWalkerOf xs reverse utf8 t d →
+        (q : Search) → IsSearchOf xs utf8 (with_earliest false q) →
+        is_supported (reader d).starts_for_each_pattern q.anchored ≡ true → HasNoQuitNear (reader d) q.haystack q.start q.end →
+        (words : ℕ → Bool) → IsWordSet words → (x : ℕ × ℕ) →
         Has same_pair x (whole_rest (reader d) q).ends ↔ IsToldWith words xs reverse utf8 t q x }
 {}
 
@@ -69,6 +75,6 @@ pub fn sets_get_the_patterns_of_spans()
     ensures words { (xs : List Tree) (utf8 : Bool) (t : Terminator) (d : Dfa) → IsWalkerOf xs false utf8 t d →
         (q : Search) → IsSearchOf xs utf8 q →
         (v : CacheValue) (old new : List Bool) → AnswersWhich d v q old new (Ok tt) →
-        HasNoQuitNear (reader d) q.haystack q.start q.end → (words : ℕ → Bool) → IsWordSet words → (p : ℕ) →
+        (whole_rest (reader d) q).refusal ≡ None → (words : ℕ → Bool) → IsWordSet words → (p : ℕ) →
         (has new p ≡ true) ↔ ((has old p ≡ true) ⊎ ((p < length old) × ((j : ℕ) × IsToldWith words xs false utf8 t q (j, p)))) }
 {}
