@@ -46,3 +46,11 @@ pub mod BuiltLemmas
 pub mod RefusedBuildLemmas
 pub mod SureLemmas
 pub mod HeadlineLemmas
+pub mod WalkLookLemmas
+pub mod TreeWalkLemmas
+pub mod TreeToldLemmas
+pub mod WalkMeansLemmas
+pub mod RefusedWalkLemmas
+pub mod WhichTreeLemmas
+pub mod WalkReadLemmas
+pub mod WalkAnyhowLemmas

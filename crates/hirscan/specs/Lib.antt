@@ -12,6 +12,7 @@ pub mod Asks
 pub mod Regexes
 pub mod Headline
 pub mod LooseAnswers
+pub mod TreeWalks
 pub mod Reply
 pub mod Listing
 pub mod Runs

@@ -20,6 +20,7 @@ pub mod reading_laws;
 mod reply;
 pub mod search_laws;
 mod settings;
+pub mod tree_walk_laws;
 pub mod word_laws;
 mod words;
 
