@@ -38,7 +38,7 @@ start_is_state a (Pattern p) name sound e = one_of (λ (x : ℕ). x < length a.s
 -- ---- places
 
 -- for one who reads up
-reached_up : (down : Bool) (s e n x : ℕ) → down ≡ false → s ≤ x + 1 → x < s + n → IsReached down (first_place down s e) n x
+pub reached_up : (down : Bool) (s e n x : ℕ) → down ≡ false → s ≤ x + 1 → x < s + n → IsReached down (first_place down s e) n x
 reached_up false s e n x up from to = (from, to)
 reached_up true s e n x up from to = let never : true ≡ false = up in absurd (grind (arith, never))
 

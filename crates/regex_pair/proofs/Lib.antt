@@ -6,4 +6,5 @@ pub mod JoinedLemmas
 pub mod MatchingLemmas
 pub mod NextLemmas
 pub mod TakenLemmas
+pub mod ReachLemmas
 pub mod ForCallers

@@ -16,6 +16,7 @@ ghost use Rattle.regex_pair.specs.Matching.{has_match, is_some_match};
 ghost use Rattle.regex_pair.specs.PairAnswers.{GoesBack};
 ghost use Rattle.regex_pair.specs.PairLaws.{answer_at, IsInPairReach};
 ghost use Rattle.regex_pair.specs.Pairs.{Pair, IsPair};
+ghost use Rattle.regex_pair.specs.Reach.{HasPairReach};
 
 /// A match that is found starts in the span, and ends there, not before its start.
 pub fn matches_lie_in_their_span()
@@ -54,4 +55,11 @@ pub fn a_match_is_told_where_its_end_is_found()
 #[tactic(auto, using(crate::proofs::JoinedLemmas::ends_of_all_rise))]
 pub fn ends_of_matches_rise()
     ensures { (p : Pair) (q : Search) → EndsRise None (all_answers (answer_at p q) q.start q.end) }
+{}
+
+/// A search that answers has a place up to which it read: behind the end of its match, one past the byte behind the span at
+/// most. From the byte before the span to there stands no quit byte, and over each haystack with the same bytes there the
+/// answer is the same.
+pub fn joins_reach_a_place()
+    ensures { (p : Pair) (q : Search) (o : Option Found) → IsPair p → q.end ≤ length q.haystack → joined p q ≡ Ok o → HasPairReach p q o }
 {}
