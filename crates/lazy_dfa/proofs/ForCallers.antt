@@ -13,6 +13,8 @@ pub use Rattle.lazy_dfa.proofs.AnewLemmas.{again, last_pass}
 pub use Rattle.lazy_dfa.proofs.ScanLemmas.{scan_quits_near, scan_finds_near}
 -- which modes are told that can't be searched in
 pub use Rattle.lazy_dfa.proofs.ScanLemmas.{scan_tells_mode, scan_mode_told}
+-- whether there are starts for each pattern shows by that alone
+pub use Rattle.lazy_dfa.proofs.SupportLemmas.{scan_by_support}
 -- an answer depends on its reach, which has no quit byte, the place that is found, and lies in or beside the span
 pub use Rattle.lazy_dfa.proofs.IntervalReachLemmas.{scan_by_reach, scan_is_quiet, scan_place_is_reached, reach_is_near, scan_in_span}
 pub use Rattle.lazy_dfa.proofs.HasReachLemmas.{scan_has_reach, scan_has_reach_back, start_is_state}
