@@ -7,4 +7,5 @@ pub mod MatchingLemmas
 pub mod NextLemmas
 pub mod TakenLemmas
 pub mod ReachLemmas
+pub mod AlikeLemmas
 pub mod ForCallers

@@ -14,7 +14,7 @@ ghost use Rattle.regex_pair.specs.Finding.{AnswersAt, search_at};
 ghost use Rattle.regex_pair.specs.Joined.{joined, back_from};
 ghost use Rattle.regex_pair.specs.Matching.{has_match, is_some_match};
 ghost use Rattle.regex_pair.specs.PairAnswers.{GoesBack};
-ghost use Rattle.regex_pair.specs.PairLaws.{answer_at, IsInPairReach};
+ghost use Rattle.regex_pair.specs.PairLaws.{answer_at, AreSetAlike, IsInPairReach};
 ghost use Rattle.regex_pair.specs.Pairs.{Pair, IsPair};
 ghost use Rattle.regex_pair.specs.Reach.{HasPairReach};
 
@@ -62,4 +62,13 @@ pub fn ends_of_matches_rise()
 /// answer is the same.
 pub fn joins_reach_a_place()
     ensures { (p : Pair) (q : Search) (o : Option Found) → IsPair p → q.end ≤ length q.haystack → joined p q ≡ Ok o → HasPairReach p q o }
+{}
+
+/// Pairs over the same two NFAs with the same kinds of matches and quit bytes answer alike in each mode in which both can
+/// search: the capacity of their caches, when these are cleared, their classes of bytes and whether starts are tagged don't
+/// show.
+#[tactic(auto, using(crate::proofs::AlikeLemmas::joined_alike, crate::proofs::AlikeLemmas::told_alike))]
+pub fn settings_of_caches_do_not_show()
+    ensures answer { (p r : Pair) (q : Search) → AreSetAlike p r q.anchored → joined p q ≡ joined r q }
+    ensures told { (p r : Pair) (q : Search) → AreSetAlike p r q.anchored → has_match p q ≡ has_match r q }
 {}
