@@ -33,3 +33,4 @@ pub mod SearchLemmas
 pub mod EarliestLemmas
 pub mod MatchLemmas
 pub mod BuiltPairLemmas
+pub mod ReachLemmas

@@ -14,3 +14,4 @@ pub mod Headline
 pub mod LooseAnswers
 pub mod Reply
 pub mod Runs
+pub mod ReachLaws

@@ -1,0 +1,37 @@
+//! Laws of what answers over trees depend on: the bytes in their reach, up to bytes that the automata don't tell apart, and
+//! no setting of a cache. Each function has no code: its contract is the law.
+ghost use Rattle.std.specs.Prelude.{◌≡◌, ℕ, Bool, List, All, Option, Ok};
+ghost use Rattle.look_core.specs.Terminators.{Terminator};
+ghost use Rattle.hir_core.specs.Facts.{LoopsRead};
+ghost use Rattle.hir_core.specs.Tree.{Tree};
+ghost use Rattle.search_types.specs.Found.{Found};
+ghost use Rattle.search_types.specs.Inputs.{Search};
+ghost use Rattle.search_types.specs.Modes.{is_supported};
+ghost use Rattle.lazy_dfa.specs.Dfas.{reader};
+ghost use Rattle.regex_pair.specs.Joined.{joined};
+ghost use Rattle.regex_pair.specs.Matching.{has_match};
+ghost use Rattle.regex_pair.specs.Pairs.{Pair};
+ghost use Rattle.hirscan.specs.ReachLaws.{IsAnswerReach};
+ghost use Rattle.hirscan.specs.Regexes.{IsRegexOf, IsSearchOf};
+
+/// An answer has a place up to which it depends on the haystack: over each haystack of bytes with the same ones from the byte
+/// before the span to there, valid in UTF-8 mode, the trees define the same answer, for every set of words. It lies behind the
+/// end of the match, one past the byte behind the span at most, and no quit byte stands before it. The loops of all trees read.
+pub fn answers_depend_on_their_reach()
+    ensures { (xs : List Tree) (utf8 : Bool) (t : Terminator) (p : Pair) → IsRegexOf xs utf8 t p → (q : Search) → IsSearchOf xs utf8 q →
+        All LoopsRead xs → (o : Option Found) → joined p q ≡ Ok o → (end : ℕ) × IsAnswerReach xs utf8 t p q o end }
+{}
+
+/// Two automata of the trees answer as two others do that are over the same NFAs and give up at the same bytes, in each mode in
+/// which both can search, whatever the loops of the trees read: the capacity of caches, when these are cleared, classes of bytes
+/// and tagged starts don't show.
+pub fn settings_of_caches_do_not_show()
+    ensures answer { (xs : List Tree) (utf8 : Bool) (t : Terminator) (p r : Pair) → IsRegexOf xs utf8 t p → IsRegexOf xs utf8 t r →
+        p.forward.nfa ≡ r.forward.nfa → p.reverse.nfa ≡ r.reverse.nfa → p.forward.quits ≡ r.forward.quits → (q : Search) →
+        is_supported (reader p.forward).starts_for_each_pattern q.anchored ≡ is_supported (reader r.forward).starts_for_each_pattern q.anchored →
+        joined p q ≡ joined r q }
+    ensures told { (xs : List Tree) (utf8 : Bool) (t : Terminator) (p r : Pair) → IsRegexOf xs utf8 t p → IsRegexOf xs utf8 t r →
+        p.forward.nfa ≡ r.forward.nfa → p.reverse.nfa ≡ r.reverse.nfa → p.forward.quits ≡ r.forward.quits → (q : Search) →
+        is_supported (reader p.forward).starts_for_each_pattern q.anchored ≡ is_supported (reader r.forward).starts_for_each_pattern q.anchored →
+        has_match p q ≡ has_match r q }
+{}
