@@ -34,3 +34,4 @@ pub mod EarliestLemmas
 pub mod MatchLemmas
 pub mod BuiltPairLemmas
 pub mod ReachLemmas
+pub mod ClassLemmas

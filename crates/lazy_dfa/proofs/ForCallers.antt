@@ -23,6 +23,8 @@ pub use Rattle.lazy_dfa.proofs.HasReachLemmas.{reached_up, below_reach}
 pub use Rattle.lazy_dfa.proofs.ReachLemmas.{scan_few}
 -- each byte above 7F is a quit byte where words by characters are asked for
 pub use Rattle.lazy_dfa.proofs.QuitSetLemmas.{supported_quits}
+-- bytes of one class have the same marks, and the marks are all of the automaton's
+pub use Rattle.lazy_dfa.proofs.BuiltLemmas.{classes_by_marks}
 -- ---- overlapping walks
 -- where all matches are asked for, what is left of a walk is the ends of runs place by place: each is told once, in reading
 -- order, and at one place the ends of the preferred runs first; before a quit byte, those at the places before its unit
