@@ -54,3 +54,5 @@ pub mod RefusedWalkLemmas
 pub mod WhichTreeLemmas
 pub mod WalkReadLemmas
 pub mod WalkAnyhowLemmas
+pub mod ReachLemmas
+pub mod ClassLemmas

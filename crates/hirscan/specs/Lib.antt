@@ -16,3 +16,4 @@ pub mod TreeWalks
 pub mod Reply
 pub mod Listing
 pub mod Runs
+pub mod ReachLaws

@@ -16,6 +16,7 @@ pub mod laws;
 mod line;
 mod loops;
 mod program;
+pub mod reach_laws;
 pub mod reading_laws;
 mod reply;
 pub mod search_laws;
