@@ -82,7 +82,7 @@ fn build_pair(alloc: Global, exprs: &[Hir], settings: &Settings) -> Result<Regex
 /// The regex that searches for these trees, each as a pattern of its own, numbered from 0. A tree's captures are left out.
 ///
 /// Where its kind is leftmost-first, a search that answers Ok gives the match that the trees define, whatever the settings and
-/// the cache ([`search_laws`](crate::search_laws)).
+/// the cache ([`headline`](crate::headline)).
 ///
 /// It is refused where a compile is: where there are more patterns or states than can be numbered, or more bytes of states than
 /// `size_limit`; where a tree looks for words by characters, `unicode_word_boundary` is off and bytes above 7F aren't all quit
