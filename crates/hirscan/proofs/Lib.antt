@@ -41,3 +41,4 @@ pub mod RefusedWalkLemmas
 pub mod WhichTreeLemmas
 pub mod WalkReadLemmas
 pub mod WalkAnyhowLemmas
+pub mod WalkToldLemmas

@@ -40,7 +40,7 @@ use Rattle.hirscan.proofs.WalkAnyhowLemmas.{AreAlikeAt, ends_same}
 -- ---- looks and units, for one who reads up or down
 
 -- a look that is turned round asks for words by characters where it did
-reversed_unicode : (l : Look) → is_word_unicode (reversed l) ≡ is_word_unicode l
+pub reversed_unicode : (l : Look) → is_word_unicode (reversed l) ≡ is_word_unicode l
 reversed_unicode Start = refl
 reversed_unicode End = refl
 reversed_unicode StartLF = refl
@@ -61,12 +61,12 @@ reversed_unicode WordStartHalfUnicode = refl
 reversed_unicode WordEndHalfUnicode = refl
 
 -- the bytes before and behind a place
-beside : (b : Bool) (quits : List Bool) (h : List ℕ) (j : ℕ) → is_quit quits (unit_at b h j) ≡ false →
+pub beside : (b : Bool) (quits : List Bool) (h : List ℕ) (j : ℕ) → is_quit quits (unit_at b h j) ≡ false →
     is_quit quits (unit_behind b h j) ≡ false → (is_quit quits (byte_before h j) ≡ false) × (is_quit quits (byte_at h j) ≡ false)
 beside false quits h j at behind = (behind, at)
 beside true quits h j at behind = (at, behind)
 
-first_high : (b : Bool) (s e : ℕ) → s ≤ e → first_place b s e ≤ e
+pub first_high : (b : Bool) (s e : ℕ) → s ≤ e → first_place b s e ≤ e
 first_high false s e l = l
 first_high true s e l = omega arith
 
@@ -101,7 +101,7 @@ module _ (d : Dfa) (dfa : IsDfa d) (h : List ℕ) (bytes : All (λ byte. byte < 
 
   module _ (t : Terminator) (words : ℕ → Bool) (set : IsWordSet words) where
     -- beside bytes that are no quit bytes a look is read alike, where it is one that makes bytes above 7F quit bytes
-    read_alike : (j : ℕ) → is_quit d.quits (byte_before h j) ≡ false → is_quit d.quits (byte_at h j) ≡ false → (l : Look) →
+    pub read_alike : (j : ℕ) → is_quit d.quits (byte_before h j) ≡ false → is_quit d.quits (byte_at h j) ≡ false → (l : Look) →
         (is_word_unicode l ≡ true → has_unicode_word d.nfa.automaton ≡ true) → holds_ascii t h l j ≡ holds words t h l j
     read_alike j before after l some = ⊎_elim
         (λ (u : is_word_unicode l ≡ true).
@@ -109,7 +109,7 @@ module _ (d : Dfa) (dfa : IsDfa d) (h : List ℕ) (bytes : All (λ byte. byte < 
         (λ (n : is_word_unicode l ≡ false). sym (reads_bytes (by_characters words) t h l j n))
         (cases_Bool (is_word_unicode l))
 
-    asks_for_words : (l : Look) → has_look (looks_of d.nfa.automaton.states) l ≡ true → is_word_unicode l ≡ true →
+    pub asks_for_words : (l : Look) → has_look (looks_of d.nfa.automaton.states) l ≡ true → is_word_unicode l ≡ true →
         has_unicode_word d.nfa.automaton ≡ true
     asks_for_words l there unicode = any_by_member is_word_unicode (looks_of d.nfa.automaton.states) l there unicode
 

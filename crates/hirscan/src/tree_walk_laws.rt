@@ -42,9 +42,12 @@ pub fn walks_tell_what_trees_mean()
 
 /// What a walk tells before a refusal is meant too.
 pub fn refused_walks_tell_nothing_else()
-    ensures { (xs : List Tree) (reverse utf8 : Bool) (t : Terminator) (d : Dfa) → IsWalkerOf xs reverse utf8 t d →
+    ensures ascii { (xs : List Tree) (reverse utf8 : Bool) (t : Terminator) (d : Dfa) → IsWalkerOf xs reverse utf8 t d →
         (q : Search) → IsSearchOf xs utf8 (with_earliest false q) → (x : ℕ × ℕ) →
         Has same_pair x (whole_rest (reader d) q).ends → IsToldAscii xs reverse utf8 t q x }
+    ensures words { (xs : List Tree) (reverse utf8 : Bool) (t : Terminator) (d : Dfa) → IsWalkerOf xs reverse utf8 t d →
+        (q : Search) → IsSearchOf xs utf8 (with_earliest false q) → (words : ℕ → Bool) → IsWordSet words → (x : ℕ × ℕ) →
+        Has same_pair x (whole_rest (reader d) q).ends → IsToldWith words xs reverse utf8 t q x }
 {}
 
 /// A walk tells each pair once, and its places in reading order.
@@ -75,6 +78,6 @@ pub fn sets_get_the_patterns_of_spans()
     ensures words { (xs : List Tree) (utf8 : Bool) (t : Terminator) (d : Dfa) → IsWalkerOf xs false utf8 t d →
         (q : Search) → IsSearchOf xs utf8 q →
         (v : CacheValue) (old new : List Bool) → AnswersWhich d v q old new (Ok tt) →
-        (whole_rest (reader d) q).refusal ≡ None → (words : ℕ → Bool) → IsWordSet words → (p : ℕ) →
+        (words : ℕ → Bool) → IsWordSet words → (p : ℕ) →
         (has new p ≡ true) ↔ ((has old p ≡ true) ⊎ ((p < length old) × ((j : ℕ) × IsToldWith words xs false utf8 t q (j, p)))) }
 {}
