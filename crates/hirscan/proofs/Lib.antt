@@ -42,3 +42,4 @@ pub mod WhichTreeLemmas
 pub mod WalkReadLemmas
 pub mod WalkAnyhowLemmas
 pub mod WalkToldLemmas
+pub mod BuiltWalkLemmas

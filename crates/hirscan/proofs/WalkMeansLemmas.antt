@@ -51,7 +51,7 @@ nothing_first b ends e [] behind x y at there = let never : [] ≡ x ∷ behind 
 nothing_first b ends e (z ∷ before) behind x y at there = let never : [] ≡ z ∷ (before ++ (x ∷ behind)) = sym e ∙ at in cc
 
 -- a pattern that may be found and has a tree has a start
-pub no_start_no_pattern : (xs : List Tree) (b utf8 : Bool) (t : Terminator) (d : Dfa) → IsWalkerOf xs b utf8 t d → (mode : Anchored) →
+no_start_no_pattern : (xs : List Tree) (b utf8 : Bool) (t : Terminator) (d : Dfa) → IsWalkerOf xs b utf8 t d → (mode : Anchored) →
     start_name d.nfa.automaton mode ≡ None → (p : ℕ) (x : Tree) → allowed mode (length xs) p ≡ true → slice_get xs p ≡ Some x → ⊥
 no_start_no_pattern xs b utf8 t d w No none p x may listed = cc
 no_start_no_pattern xs b utf8 t d w Yes none p x may listed = cc

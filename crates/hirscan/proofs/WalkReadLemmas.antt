@@ -165,7 +165,7 @@ module _ (r : Reader) (h : List ℕ) (i q : ℕ) where
         (λ (none : HasNone m). inr (none_later m none))
         (reads_or_ends (suc n) 0 goes m (omega arith) (omega (arith, l)))
 
-    pub quiet_or_none : (m : ℕ) → m ≤ n → IsQuietBeside m ⊎ HasNone m
+    quiet_or_none : (m : ℕ) → m ≤ n → IsQuietBeside m ⊎ HasNone m
     quiet_or_none m l = ⊎_elim
         (λ (quiet : IsQuiet m). ⊎_elim
         (λ (back : is_quit r.quits (unit_behind r.automaton.reverse h (place m)) ≡ false). inl (quiet, back))

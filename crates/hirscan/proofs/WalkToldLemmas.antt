@@ -35,8 +35,9 @@ use Rattle.lazy_dfa.specs.ScanLaws.{begins_at}
 use Rattle.lazy_dfa.specs.Walks.{Rest, nothing_left, refused, onto, unless_quit_at, where_supported, end_of, listed, rest_from, whole_rest}
 use Rattle.lazy_dfa.specs.WalkLaws.{IsBegun}
 use Rattle.hirscan.specs.TreeWalks.{IsWalkerOf}
+use Rattle.hirscan.proofs.BuiltPairLemmas.{turned_words}
 use Rattle.hirscan.proofs.TreeToldLemmas.{read_low, read_high, AgreeUpTo}
-use Rattle.hirscan.proofs.WalkLookLemmas.{beside, read_alike, asks_for_words, reversed_unicode}
+use Rattle.hirscan.proofs.WalkLookLemmas.{beside, read_alike, asks_for_words}
 use Rattle.hirscan.proofs.WalkReadLemmas.{IsQuiet, more, turn_is, more_is, unit_behind_next, down_inside, IsQuietBeside, whole_is, start_is, behind_there}
 
 -- ---- a unit
@@ -79,14 +80,14 @@ module _ (r : Reader) (h : List ℕ) (i q : ℕ) where
   state k = walk_value r.automaton r.terminator r.kind h i q k
 
   -- an end lies behind so many units, of which none is a quit byte, nor is the one at its place
-  abbrev pub IsToldPast : ℕ → ℕ → ℕ × ℕ → Type 0
+  abbrev IsToldPast : ℕ → ℕ → ℕ × ℕ → Type 0
   IsToldPast n k x = (m : ℕ) × ((k ≤ m) × (m < k + n) × (x.0 ≡ place m) × ((j : ℕ) → k ≤ j → j ≤ m → IsQuiet r h i q j))
 
   rest_zero : (k : ℕ) → rest_from r h 0 (place k) (state k) ≡ nothing_left
   unfolding rest_from
   rest_zero k = refl
 
-  pub told_past : (n k : ℕ) (x : ℕ × ℕ) → Has same_pair x (rest_from r h n (place k) (state k)).ends → IsToldPast n k x
+  told_past : (n k : ℕ) (x : ℕ × ℕ) → Has same_pair x (rest_from r h n (place k) (state k)).ends → IsToldPast n k x
   told_past zero k x there = none_in same_pair x _ (subst (λ (z : Rest). Has same_pair x z.ends) (rest_zero k) there)
   told_past (suc n) k x there =
       let next : List ℕ = (next_value r h (place k) (state k)).matches in
@@ -105,8 +106,7 @@ module _ (r : Reader) (h : List ℕ) (i q : ℕ) where
       ))
       (λ y later.
       let t = told_past n (suc k) y (subst (λ (z : Rest). Has same_pair y z.ends) (more_is r h i q n k) later) in
-      let low = t.1.0 in let high = t.1.1 in
-      (
+      let low = t.1.0 in let high = t.1.1 in (
         t.0,
         (
           omega (arith, low),
@@ -133,7 +133,7 @@ module _ (r : Reader) (q : Search) (name : ℕ) (begun : IsBegun r q name) where
   begin = begins_at r q
 
   -- beside the places of the walk up to its place are no quit bytes
-  abbrev pub IsToldQuietly : ℕ × ℕ → Type 0
+  abbrev IsToldQuietly : ℕ × ℕ → Type 0
   IsToldQuietly x = (m : ℕ) × ((x.0 ≡ place_of r.automaton.reverse begin m) × ((k : ℕ) → k ≤ m → IsQuietBeside r q.haystack begin name k))
 
   module _ (m : ℕ) (few : m < suc (q.end - q.start)) (behind : is_quit r.quits (unit_behind r.automaton.reverse q.haystack begin) ≡ false)
@@ -148,7 +148,7 @@ module _ (r : Reader) (q : Search) (name : ℕ) (begun : IsBegun r q name) where
     quiet_beside : (k : ℕ) → k ≤ m → IsQuietBeside r q.haystack begin name k
     quiet_beside k l = (quiet k (omega arith) l, back_quiet k l)
 
-  pub told_quietly : (x : ℕ × ℕ) → Has same_pair x (whole_rest r q).ends → IsToldQuietly x
+  told_quietly : (x : ℕ × ℕ) → Has same_pair x (whole_rest r q).ends → IsToldQuietly x
   told_quietly x there =
       let mode : Rest = where_supported (is_supported r.starts_for_each_pattern q.anchored) q.anchored
       (rest_from r q.haystack (suc (q.end - q.start)) begin (first_value r q.anchored q.haystack begin)) in
@@ -168,7 +168,7 @@ turned_twice true l = reversed_twice l
 
 turned_unicode : (b : Bool) (l : Look) → is_word_unicode (turned b l) ≡ is_word_unicode l
 turned_unicode false l = refl
-turned_unicode true l = reversed_unicode l
+turned_unicode true l = turned_words l
 
 module _ (xs : List Tree) (b utf8 : Bool) (t : Terminator) (d : Dfa) (w : IsWalkerOf xs b utf8 t d) (q : Search)
     (bytes : All (λ byte. byte < 256) q.haystack) (within : q.end ≤ length q.haystack) (name : ℕ) (begun : IsBegun (reader d) q name)

@@ -9,18 +9,31 @@ ghost use Rattle.look_core.specs.Looks.{IsWordSet};
 ghost use Rattle.look_core.specs.Terminators.{Terminator};
 ghost use Rattle.hir_core.specs.Tree.{Tree};
 ghost use Rattle.search_types.specs.declared.anchored.Anchored.TheVariants.{Pattern};
+ghost use Rattle.search_types.specs.declared.match_kind.MatchKind.TheVariants.{All as AllMatches};
 ghost use Rattle.search_types.specs.Inputs.{Search, with_earliest};
 ghost use Rattle.search_types.specs.Modes.{is_supported};
 ghost use Rattle.nfa_core.specs.Places.{same_pair};
 ghost use Rattle.nfa_core.specs.Walks.{Has, HasNoneTwice};
 ghost use Rattle.lazy_dfa.specs.Caches.{CacheValue};
+ghost use Rattle.lazy_dfa.specs.ConfigValue.{kind_of};
 ghost use Rattle.lazy_dfa.specs.Dfas.{Dfa, reader};
 ghost use Rattle.lazy_dfa.specs.ScanLaws.{HasNoQuitNear};
 ghost use Rattle.lazy_dfa.specs.Walks.{whole_rest};
 ghost use Rattle.lazy_dfa.specs.WalkAnswers.{AnswersWhich};
 ghost use Rattle.lazy_dfa.specs.WalkLaws.{IsInReadingOrder};
+ghost use Rattle.regex_pair.specs.Pairs.{Pair};
+ghost use Rattle.hirscan.specs.declared.settings.Settings.{Settings};
+ghost use Rattle.hirscan.specs.Built.{IsBuilt};
 ghost use Rattle.hirscan.specs.Regexes.{IsSearchOf};
 ghost use Rattle.hirscan.specs.TreeWalks.{IsWalkerOf, IsToldAscii, IsToldWith};
+
+/// The automata of a regex that is built of trees are such ones: the one that reads downwards always, and the one that reads upwards
+/// where it is set to find all matches.
+pub fn built_automata_are_walked()
+    ensures down { (xs : List Tree) (s : Settings) (p : Pair) → IsBuilt xs s p → IsWalkerOf xs true s.utf8 s.line_terminator p.reverse }
+    ensures up { (xs : List Tree) (s : Settings) (p : Pair) → IsBuilt xs s p → kind_of s.dfa ≡ AllMatches →
+        IsWalkerOf xs false s.utf8 s.line_terminator p.forward }
+{}
 
 /// A walk that comes to no refusal tells exactly the places and patterns of the spans that the trees mean and that the search may
 /// find: for every set of words, and also where looks for words by characters are read by the bytes of ASCII. No refusal comes
