@@ -56,3 +56,5 @@ pub mod WalkReadLemmas
 pub mod WalkAnyhowLemmas
 pub mod ReachLemmas
 pub mod ClassLemmas
+pub mod WalkToldLemmas
+pub mod BuiltWalkLemmas

@@ -3,8 +3,9 @@ use Rattle.std.proofs.Common.{◌≡◌, ℕ, ◌≤◌, Bool, true, false, ◌&
 use Rattle.search_core.specs.Utf8.{IsValidText}
 use Rattle.hir_core.specs.Tree.{Tree}
 use Rattle.hir_core.specs.Means.{Looks, Means}
+use Rattle.hir_core.specs.Agree.{AgreeFrom}
 use Rattle.hir_core.specs.Facts.{is_utf8_tree}
-use Rattle.hir_core.proofs.ForCallers.{span_forward, cut_to_whole, whole_to_cut}
+use Rattle.hir_core.proofs.ForCallers.{span_forward, cut_to_whole, whole_to_cut, same_spans_within}
 use Rattle.search_types.specs.Inputs.{Search}
 use Rattle.search_types.specs.Places.{counts}
 use Rattle.search_types.proofs.ForCallers.{starts_at}
@@ -104,3 +105,46 @@ module _ (xs : List Tree) (utf8 : Bool) (looks : Looks) (q : Search) (l : q.star
       let means = m.1.2.2.0 in
       (counted_alike utf8 v looks q.haystack m.1.2.0 x.0 m.0 means (omega (arith, far, within)) valid (trees x.1 m.1.2.0 m.1.2.1)
       (λ e. some x.1 x.0 m.0 m.1.2.0 m.1.2.1 e means)).0
+
+-- ---- where looks are read alike
+
+-- the part of a search's span that is read up to the place, for one who reads up, or down
+abbrev pub read_low : Bool → ℕ → ℕ → ℕ
+read_low false s j = s
+read_low true s j = j
+
+abbrev pub read_high : Bool → ℕ → ℕ → ℕ
+read_high false e j = j
+read_high true e j = e
+
+module _ (xs : List Tree) (utf8 : Bool) (q : Search) (within : q.end ≤ length q.haystack) (f g : Looks) where
+  abbrev pub AgreeUpTo : Bool → ℕ → Type 0
+  AgreeUpTo b j = (k : ℕ) (x : Tree) → slice_get xs k ≡ Some x → AgreeFrom f g (read_low b q.start j) (read_high b q.end j) x
+
+  -- what is told of a place depends on the looks up to there
+  pub told_alike : (b : Bool) (x : ℕ × ℕ) → AgreeUpTo b x.0 → IsToldOf b (query_of xs utf8 f q) q.start x →
+      IsToldOf b (query_of xs utf8 g q) q.start x
+  told_alike false x agree c =
+      let s = c.findable.span in let last = c.findable.within in
+      let up = span_forward f q.haystack s.tree c.start x.0 s.means in
+      let low = (starts_at q.anchored q.start q.end c.start c.starts).from_s in
+      let means = same_spans_within f g q.haystack q.start x.0 (omega (arith, last, within)) s.tree (agree x.1 s.tree s.listed)
+      c.start x.0 low up (omega arith) s.means in
+      record {
+        start = c.start;
+        starts = c.starts;
+        findable = record { may = c.findable.may; span = record { tree = s.tree; listed = s.listed; means = means }; within = last };
+        counted = c.counted;
+      }
+  told_alike true x agree c =
+      let s = c.findable.span in let last = c.findable.within in
+      let up = span_forward f q.haystack s.tree x.0 c.end s.means in
+      let means = same_spans_within f g q.haystack x.0 q.end within s.tree (agree x.1 s.tree s.listed)
+      x.0 c.end (omega arith) (omega (arith, up, last)) last s.means in
+      record {
+        end = c.end;
+        ends = c.ends;
+        above = c.above;
+        findable = record { may = c.findable.may; span = record { tree = s.tree; listed = s.listed; means = means }; within = last };
+        counted = c.counted;
+      }

@@ -8,7 +8,6 @@ use Rattle.std.proofs.lemmas.List.Elements.{All-get_or}
 use Rattle.search_core.specs.ByteSets.{has}
 use Rattle.search_core.specs.Text.{byte_at, byte_before}
 use Rattle.look_core.specs.declared.look.Look.{Look}
-use Rattle.look_core.specs.declared.look.Look.TheVariants.{Start, End, StartLF, EndLF, StartCRLF, EndCRLF, WordAscii, WordAsciiNegate, WordUnicode, WordUnicodeNegate, WordStartAscii, WordEndAscii, WordStartUnicode, WordEndUnicode, WordStartHalfAscii, WordEndHalfAscii, WordStartHalfUnicode, WordEndHalfUnicode}
 use Rattle.look_core.specs.Codes.{is_word_unicode, reversed}
 use Rattle.look_core.specs.LookSets.{has_look}
 use Rattle.look_core.specs.Looks.{holds, holds_ascii, by_characters, IsWordSet}
@@ -33,35 +32,15 @@ use Rattle.lazy_dfa.specs.ScanLaws.{begins_at}
 use Rattle.lazy_dfa.specs.Walks.{whole_rest}
 use Rattle.lazy_dfa.specs.WalkLaws.{IsBegun}
 use Rattle.lazy_dfa.proofs.ForCallers.{supported_quits}
+use Rattle.hirscan.proofs.BuiltPairLemmas.{turned_words}
 use Rattle.hirscan.proofs.RegexLemmas.{any_by_member}
 use Rattle.hirscan.proofs.WalkReadLemmas.{IsQuietBeside, walk_quiet_or_none}
 use Rattle.hirscan.proofs.WalkAnyhowLemmas.{AreAlikeAt, ends_same}
 
 -- ---- looks and units, for one who reads up or down
 
--- a look that is turned round asks for words by characters where it did
-reversed_unicode : (l : Look) → is_word_unicode (reversed l) ≡ is_word_unicode l
-reversed_unicode Start = refl
-reversed_unicode End = refl
-reversed_unicode StartLF = refl
-reversed_unicode EndLF = refl
-reversed_unicode StartCRLF = refl
-reversed_unicode EndCRLF = refl
-reversed_unicode WordAscii = refl
-reversed_unicode WordAsciiNegate = refl
-reversed_unicode WordUnicode = refl
-reversed_unicode WordUnicodeNegate = refl
-reversed_unicode WordStartAscii = refl
-reversed_unicode WordEndAscii = refl
-reversed_unicode WordStartUnicode = refl
-reversed_unicode WordEndUnicode = refl
-reversed_unicode WordStartHalfAscii = refl
-reversed_unicode WordEndHalfAscii = refl
-reversed_unicode WordStartHalfUnicode = refl
-reversed_unicode WordEndHalfUnicode = refl
-
 -- the bytes before and behind a place
-beside : (b : Bool) (quits : List Bool) (h : List ℕ) (j : ℕ) → is_quit quits (unit_at b h j) ≡ false →
+pub beside : (b : Bool) (quits : List Bool) (h : List ℕ) (j : ℕ) → is_quit quits (unit_at b h j) ≡ false →
     is_quit quits (unit_behind b h j) ≡ false → (is_quit quits (byte_before h j) ≡ false) × (is_quit quits (byte_at h j) ≡ false)
 beside false quits h j at behind = (behind, at)
 beside true quits h j at behind = (at, behind)
@@ -101,7 +80,7 @@ module _ (d : Dfa) (dfa : IsDfa d) (h : List ℕ) (bytes : All (λ byte. byte < 
 
   module _ (t : Terminator) (words : ℕ → Bool) (set : IsWordSet words) where
     -- beside bytes that are no quit bytes a look is read alike, where it is one that makes bytes above 7F quit bytes
-    read_alike : (j : ℕ) → is_quit d.quits (byte_before h j) ≡ false → is_quit d.quits (byte_at h j) ≡ false → (l : Look) →
+    pub read_alike : (j : ℕ) → is_quit d.quits (byte_before h j) ≡ false → is_quit d.quits (byte_at h j) ≡ false → (l : Look) →
         (is_word_unicode l ≡ true → has_unicode_word d.nfa.automaton ≡ true) → holds_ascii t h l j ≡ holds words t h l j
     read_alike j before after l some = ⊎_elim
         (λ (u : is_word_unicode l ≡ true).
@@ -109,7 +88,7 @@ module _ (d : Dfa) (dfa : IsDfa d) (h : List ℕ) (bytes : All (λ byte. byte < 
         (λ (n : is_word_unicode l ≡ false). sym (reads_bytes (by_characters words) t h l j n))
         (cases_Bool (is_word_unicode l))
 
-    asks_for_words : (l : Look) → has_look (looks_of d.nfa.automaton.states) l ≡ true → is_word_unicode l ≡ true →
+    pub asks_for_words : (l : Look) → has_look (looks_of d.nfa.automaton.states) l ≡ true → is_word_unicode l ≡ true →
         has_unicode_word d.nfa.automaton ≡ true
     asks_for_words l there unicode = any_by_member is_word_unicode (looks_of d.nfa.automaton.states) l there unicode
 
@@ -118,7 +97,7 @@ module _ (d : Dfa) (dfa : IsDfa d) (h : List ℕ) (bytes : All (λ byte. byte < 
         is_passed b (span t h s e) l j ≡ is_passed b (read_by (holds words t h) h s e) l j
     passed_alike false s e j at behind l there = read_alike j behind at l (asks_for_words l there)
     passed_alike true s e j at behind l there =
-        read_alike j at behind (reversed l) (λ u. asks_for_words l there (sym (reversed_unicode l) ∙ u))
+        read_alike j at behind (reversed l) (λ u. asks_for_words l there (sym (turned_words l) ∙ u))
 
 -- ---- what a walk reads
 

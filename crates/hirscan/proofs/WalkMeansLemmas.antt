@@ -37,9 +37,10 @@ use Rattle.hirscan.proofs.EndLemmas.{listed_has}
 use Rattle.hirscan.proofs.FirstEndLemmas.{no_start_no_tree, start_has_tree}
 use Rattle.hirscan.proofs.LooseEndLemmas.{allowed_named}
 use Rattle.hirscan.proofs.RefusedWalkLemmas.{told_of_runs}
-use Rattle.hirscan.proofs.TreeToldLemmas.{told_counts, told_findable, told_begun, Meets, told_met, met_told, counted_met}
+use Rattle.hirscan.proofs.TreeToldLemmas.{told_counts, told_findable, told_begun, Meets, told_met, met_told, counted_met, told_alike}
 use Rattle.hirscan.proofs.TreeWalkLemmas.{begins_zero, met}
 use Rattle.hirscan.proofs.WalkLookLemmas.{runs_with_words}
+use Rattle.hirscan.proofs.WalkToldLemmas.{told_agree}
 
 first_within : (b : Bool) (s e : ℕ) → s ≤ e → (s ≤ first_place b s e) × (first_place b s e ≤ e)
 first_within false s e l = (omega arith, l)
@@ -50,7 +51,7 @@ nothing_first b ends e [] behind x y at there = let never : [] ≡ x ∷ behind 
 nothing_first b ends e (z ∷ before) behind x y at there = let never : [] ≡ z ∷ (before ++ (x ∷ behind)) = sym e ∙ at in cc
 
 -- a pattern that may be found and has a tree has a start
-pub no_start_no_pattern : (xs : List Tree) (b utf8 : Bool) (t : Terminator) (d : Dfa) → IsWalkerOf xs b utf8 t d → (mode : Anchored) →
+no_start_no_pattern : (xs : List Tree) (b utf8 : Bool) (t : Terminator) (d : Dfa) → IsWalkerOf xs b utf8 t d → (mode : Anchored) →
     start_name d.nfa.automaton mode ≡ None → (p : ℕ) (x : Tree) → allowed mode (length xs) p ≡ true → slice_get xs p ≡ Some x → ⊥
 no_start_no_pattern xs b utf8 t d w No none p x may listed = cc
 no_start_no_pattern xs b utf8 t d w Yes none p x may listed = cc
@@ -166,6 +167,16 @@ module _ (xs : List Tree) (b utf8 : Bool) (t : Terminator) (d : Dfa) (w : IsWalk
 
     pub tells_meant : (x : ℕ × ℕ) → Has same_pair x rest.ends → IsToldAscii xs b utf8 t q x
     tells_meant x there = is_told (holds_ascii t q.haystack) (λ i. refl) (λ i. refl) finds_ascii x courses there
+
+    meant_with : (words : ℕ → Bool) → IsWordSet words → (x : ℕ × ℕ) → Courses → Has same_pair x rest.ends → IsToldWith words xs b utf8 t q x
+    meant_with words set x (is_done past e) there = none_in same_pair x _ (subst (λ (z : List (ℕ × ℕ)). Has same_pair x z) e there)
+    meant_with words set x (has_no_start never e) there = none_in same_pair x _ (subst (λ (z : List (ℕ × ℕ)). Has same_pair x z) e there)
+    meant_with words set x (begins l name named) there =
+        told_alike xs utf8 q asked.within (holds_ascii t q.haystack) (holds words t q.haystack) b x
+        (told_agree xs b utf8 t d w q asked.bytes asked.within name (is_begun name l named) words set x there) (tells_meant x there)
+
+    pub tells_meant_with : (words : ℕ → Bool) → IsWordSet words → (x : ℕ × ℕ) → Has same_pair x rest.ends → IsToldWith words xs b utf8 t q x
+    tells_meant_with words set x there = meant_with words set x courses there
 
     module _ (none : rest.refusal ≡ None) where
       finds_words : (words : ℕ → Bool) → IsWordSet words → FindsWith (holds words t q.haystack)

@@ -83,7 +83,7 @@ place_after false i k = omega arith
 place_after true i k = omega arith
 
 -- the unit behind the next place is the one that was read
-unit_behind_next : (b : Bool) (h : List ℕ) (i k : ℕ) → (b ≡ true → k < i) → unit_behind b h (place_of b i (suc k)) ≡ unit_at b h (place_of b i k)
+pub unit_behind_next : (b : Bool) (h : List ℕ) (i k : ℕ) → (b ≡ true → k < i) → unit_behind b h (place_of b i (suc k)) ≡ unit_at b h (place_of b i k)
 unit_behind_next false h i k inside = let e : i + suc k ≡ suc (i + k) = omega arith in ap (byte_before h) e
 unit_behind_next true h i k inside =
     let l : k < i = inside refl in
@@ -98,7 +98,7 @@ module _ (r : Reader) (h : List ℕ) (i q : ℕ) where
   abbrev state : ℕ → StateValue
   state k = walk_value r.automaton r.terminator r.kind h i q k
 
-  abbrev IsQuiet : ℕ → Type 0
+  abbrev pub IsQuiet : ℕ → Type 0
   IsQuiet k = is_quit r.quits (unit_at r.automaton.reverse h (place k)) ≡ false
 
   abbrev HasNone : ℕ → Type 0
@@ -108,10 +108,10 @@ module _ (r : Reader) (h : List ℕ) (i q : ℕ) where
   abbrev Goes : ℕ → ℕ → Type 0
   Goes n k = ((rest_from r h n (place k) (state k)).refusal ≡ None) ⊎ HasNone k
 
-  abbrev more : ℕ → ℕ → Rest
+  abbrev pub more : ℕ → ℕ → Rest
   more n k = rest_from r h n (next_place r (place k)) (next_value r h (place k) (state k))
 
-  turn_is : (n k : ℕ) → rest_from r h (suc n) (place k) (state k) ≡
+  pub turn_is : (n k : ℕ) → rest_from r h (suc n) (place k) (state k) ≡
       (if is_dead (state k) then nothing_left else
       unless_quit_at r.quits (unit_at r.automaton.reverse h (place k)) (index_at r.automaton.reverse (place k))
       (onto (listed (counts r.between_characters h) (place k) (next_value r h (place k) (state k)).matches) (more n k)))
@@ -122,7 +122,7 @@ module _ (r : Reader) (h : List ℕ) (i q : ℕ) where
   unfolding next_value
   next_is k = refl
 
-  more_is : (n k : ℕ) → more n k ≡ rest_from r h n (place (suc k)) (state (suc k))
+  pub more_is : (n k : ℕ) → more n k ≡ rest_from r h n (place (suc k)) (state (suc k))
   more_is n k =
       ap (λ (j : ℕ). rest_from r h n j (next_value r h (place k) (state k))) (place_after r.automaton.reverse i k)
       ∙ ap (λ (v : StateValue). rest_from r h n (place (suc k)) v) (next_is k)
@@ -165,7 +165,7 @@ module _ (r : Reader) (h : List ℕ) (i q : ℕ) where
         (λ (none : HasNone m). inr (none_later m none))
         (reads_or_ends (suc n) 0 goes m (omega arith) (omega (arith, l)))
 
-    pub quiet_or_none : (m : ℕ) → m ≤ n → IsQuietBeside m ⊎ HasNone m
+    quiet_or_none : (m : ℕ) → m ≤ n → IsQuietBeside m ⊎ HasNone m
     quiet_or_none m l = ⊎_elim
         (λ (quiet : IsQuiet m). ⊎_elim
         (λ (back : is_quit r.quits (unit_behind r.automaton.reverse h (place m)) ≡ false). inl (quiet, back))
@@ -184,11 +184,11 @@ walk_begins : (r : Reader) (behind : Option ℕ) (h : List ℕ) (i q : ℕ) → 
 unfolding start_or_dead
 walk_begins r behind h i q is = ap (λ (o : Option ℕ). start_value r.automaton r.terminator (start_of r.terminator o) q) is
 
-down_inside : (b : Bool) (s e : ℕ) → b ≡ true → e - s ≤ first_place b s e
+pub down_inside : (b : Bool) (s e : ℕ) → b ≡ true → e - s ≤ first_place b s e
 down_inside true s e down = omega arith
 down_inside false s e down = cc
 
-module _ (r : Reader) (q : Search) (name : ℕ) (begun : IsBegun r q name) (none : (whole_rest r q).refusal ≡ None) where
+module _ (r : Reader) (q : Search) (name : ℕ) (begun : IsBegun r q name) where
   abbrev begin : ℕ
   begin = begins_at r q
 
@@ -198,16 +198,15 @@ module _ (r : Reader) (q : Search) (name : ℕ) (begun : IsBegun r q name) (none
   abbrev start : Rest
   start = rest_from r q.haystack (suc (q.end - q.start)) begin (first_value r q.anchored q.haystack begin)
 
-  begins_quiet : (is_quit r.quits behind ≡ false) × (start.refusal ≡ None)
-  begins_quiet =
-      let read = unit_reads r.quits behind (index_behind r.automaton.reverse begin)
-      (where_supported (is_supported r.starts_for_each_pattern q.anchored) q.anchored start)
-      (sym (ap (λ (b : Bool). (if b then unless_quit_at r.quits behind (index_behind r.automaton.reverse begin)
-      (where_supported (is_supported r.starts_for_each_pattern q.anchored) q.anchored start) else nothing_left).refusal)
-      (le-leb q.start q.end begun.begun)) ∙ none) in
-      (read.0, mode_reads (is_supported r.starts_for_each_pattern q.anchored) q.anchored start read.1)
+  abbrev in_mode : Rest
+  in_mode = where_supported (is_supported r.starts_for_each_pattern q.anchored) q.anchored start
 
-  start_is : start ≡ rest_from r q.haystack (suc (q.end - q.start)) (place_of r.automaton.reverse begin 0)
+  pub whole_is : whole_rest r q ≡ unless_quit_at r.quits behind (index_behind r.automaton.reverse begin) in_mode
+  whole_is =
+      ap (λ (b : Bool). if b then unless_quit_at r.quits behind (index_behind r.automaton.reverse begin) in_mode else nothing_left)
+      (le-leb q.start q.end begun.begun)
+
+  pub start_is : start ≡ rest_from r q.haystack (suc (q.end - q.start)) (place_of r.automaton.reverse begin 0)
       (walk_value r.automaton r.terminator r.kind q.haystack begin name 0)
   start_is =
       ap (λ (o : Option ℕ). rest_from r q.haystack (suc (q.end - q.start)) begin (start_or_dead r behind o)) begun.start
@@ -215,10 +214,20 @@ module _ (r : Reader) (q : Search) (name : ℕ) (begun : IsBegun r q name) (none
       ∙ ap (λ (j : ℕ). rest_from r q.haystack (suc (q.end - q.start)) j (walk_value r.automaton r.terminator r.kind q.haystack begin name 0))
       (sym (from_zero r.automaton.reverse begin))
 
-  pub walk_quiet_or_none : (m : ℕ) → m ≤ q.end - q.start → IsQuietBeside r q.haystack begin name m ⊎
-      ((walk_value r.automaton r.terminator r.kind q.haystack begin name m).ids ≡ [])
-  walk_quiet_or_none =
-      quiet_or_none r q.haystack begin name (q.end - q.start) (inl (sym (ap (λ (z : Rest). z.refusal) start_is) ∙ begins_quiet.1))
-      (ap (λ (j : ℕ). is_quit r.quits (unit_behind r.automaton.reverse q.haystack j)) (from_zero r.automaton.reverse begin)
-      ∙ begins_quiet.0)
-      (down_inside r.automaton.reverse q.start q.end)
+  pub behind_there : is_quit r.quits behind ≡ false →
+      is_quit r.quits (unit_behind r.automaton.reverse q.haystack (place_of r.automaton.reverse begin 0)) ≡ false
+  behind_there quiet =
+      ap (λ (j : ℕ). is_quit r.quits (unit_behind r.automaton.reverse q.haystack j)) (from_zero r.automaton.reverse begin) ∙ quiet
+
+  module _ (none : (whole_rest r q).refusal ≡ None) where
+    begins_quiet : (is_quit r.quits behind ≡ false) × (start.refusal ≡ None)
+    begins_quiet =
+        let read = unit_reads r.quits behind (index_behind r.automaton.reverse begin) in_mode
+        (sym (ap (λ (z : Rest). z.refusal) whole_is) ∙ none) in
+        (read.0, mode_reads (is_supported r.starts_for_each_pattern q.anchored) q.anchored start read.1)
+
+    pub walk_quiet_or_none : (m : ℕ) → m ≤ q.end - q.start → IsQuietBeside r q.haystack begin name m ⊎
+        ((walk_value r.automaton r.terminator r.kind q.haystack begin name m).ids ≡ [])
+    walk_quiet_or_none =
+        quiet_or_none r q.haystack begin name (q.end - q.start) (inl (sym (ap (λ (z : Rest). z.refusal) start_is) ∙ begins_quiet.1))
+        (behind_there begins_quiet.0) (down_inside r.automaton.reverse q.start q.end)

@@ -18,7 +18,7 @@ use Rattle.lazy_dfa.specs.WalkAnswers.{Which, with_pattern, is_full, which_from,
 use Rattle.lazy_dfa.proofs.ForCallers.{members_added, added_members, room_kept}
 use Rattle.hirscan.specs.Regexes.{IsSearchOf}
 use Rattle.hirscan.specs.TreeWalks.{IsWalkerOf, IsToldAscii, IsToldWith}
-use Rattle.hirscan.proofs.WalkMeansLemmas.{tells_meant, tells_ascii, tells_words}
+use Rattle.hirscan.proofs.WalkMeansLemmas.{tells_meant, tells_meant_with, tells_ascii, tells_words}
 
 -- a full set has all that it has room for
 all_there : (s : List Bool) (p : ℕ) → is_full s ≡ true → p < length s → has s p ≡ true
@@ -136,8 +136,8 @@ module _ (xs : List Tree) (utf8 : Bool) (t : Terminator) (d : Dfa) (w : IsWalker
       adds (λ x. IsToldAscii xs false utf8 t q x) (tells_meant xs false utf8 t d w q asked_all)
       (λ none x. (tells_ascii xs false utf8 t d w q asked_all none x).1) p
 
-  pub adds_words : (whole_rest (reader d) q).refusal ≡ None → (words : ℕ → Bool) → IsWordSet words → (p : ℕ) →
+  pub adds_words : (words : ℕ → Bool) → IsWordSet words → (p : ℕ) →
       (has new p ≡ true) ↔ ((has old p ≡ true) ⊎ ((p < length old) × ((j : ℕ) × IsToldWith words xs false utf8 t q (j, p))))
-  adds_words goes words set p =
-      adds (λ x. IsToldWith words xs false utf8 t q x) (λ x. (tells_words xs false utf8 t d w q asked_all goes words set x).0)
+  adds_words words set p =
+      adds (λ x. IsToldWith words xs false utf8 t q x) (tells_meant_with xs false utf8 t d w q asked_all words set)
       (λ none x. (tells_words xs false utf8 t d w q asked_all none words set x).1) p
