@@ -8,4 +8,5 @@ pub returns-clause-is_match : goal.returns-clause-is_match
 returns-clause-is_match c = match_is_sure
 
 pub returns-clause-step : goal.returns-clause-step
-returns-clause-step c = λ xs s p made first none q asked supported quiet fs old new e ready same taken step. step_is_sure xs s p made first none q asked supported quiet fs old new e same taken step
+returns-clause-step c = λ xs s p made first none q asked supported quiet fs old new e ready same taken step.
+    step_is_sure xs s p made first none q asked supported quiet fs old new e same taken step
