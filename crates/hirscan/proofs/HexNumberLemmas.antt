@@ -1,11 +1,11 @@
 -- A number of hexadecimal digits: what std parses is what the digits spell.
-use Rattle.std.proofs.Common.{◌≡◌, ◌≢◌, ℕ, zero, suc, ◌+◌, ◌-◌, ◌*◌, ◌^◌, ◌<◌, ◌≤◌, Bool, true, false, ◌&&◌, List, [], ◌∷◌, length, get_or, Option, Some, None, Result, Ok, Err, is_some, nat_lt, refl, sym, ◌∙◌, ap, subst, inl, inr, arith}
+use Rattle.std.proofs.Common.{◌≡◌, ◌≢◌, ℕ, zero, suc, ◌+◌, ◌-◌, ◌*◌, ◌^◌, ◌<◌, ◌≤◌, true, ◌&&◌, List, [], ◌∷◌, length, get_or, Option, Some, None, Result, Ok, Err, is_some, nat_lt, refl, sym, ◌∙◌, ap, subst, inl, inr, arith}
 use Rattle.std.specs.List.{list_all}
 use Rattle.std.specs.Char.{digit_value}
 use Rattle.std.specs.Str.{IsUtf8, IsAscii}
 use Rattle.std.specs.Str.Parse.{AllDigits, IsNumeral, digits_value, digits_value_after, ParsesUnsigned}
 use Rattle.std.specs.Result.{result_ok, OkIff}
-use Rattle.std.proofs.lemmas.Bool.{cases_Bool, and_parts, and_from, ltb-true, ltb-false, lt-ltb, false_from_ne_true}
+use Rattle.std.proofs.lemmas.Bool.{cases_Bool, and_parts, and_from, ltb-true, lt-ltb, false_from_ne_true}
 use Rattle.std.proofs.lemmas.Bool.Decides.{nat_tests}
 use Rattle.std.proofs.lemmas.Int.Digits.{digits_value-lt}
 use Rattle.std.proofs.lemmas.Str.{IsUtf8-from_ascii}
@@ -152,9 +152,11 @@ value_spelled : (before : ℕ) (w : List ℕ) → AllDigits 16 w → HasHexValue
 value_spelled before [] h = refl
 value_spelled before (c ∷ w) h =
     let same : before * 16 + digit_value c ≡ 16 * before + digit_value c = omega arith in
-    let more = value_spelled (before * 16 + digit_value c) w h.1 in
-    (digit_value c, value_says c h.0,
-      subst (λ (b : ℕ). HasHexValue b w (digits_value_after 16 (before * 16 + digit_value c) w)) same more)
+    let more = value_spelled (before * 16 + digit_value c) w h.1 in (
+      digit_value c,
+      value_says c h.0,
+      subst (λ (b : ℕ). HasHexValue b w (digits_value_after 16 (before * 16 + digit_value c) w)) same more,
+    )
 
 spelled_value : (before : ℕ) (w : List ℕ) (n : ℕ) → HasHexValue before w n → AllDigits 16 w × (digits_value_after 16 before w ≡ n)
 spelled_value before [] n h = (tt, sym h)

@@ -4,6 +4,7 @@ pub mod LoopLemmas
 pub mod WordLemmas
 pub mod RangeLemmas
 pub mod ScalarRangeLemmas
+pub mod AnyOrderLemmas
 pub mod StackLemmas
 pub mod StageLemmas
 pub mod HexLemmas

@@ -1,5 +1,5 @@
 -- A word that is one of several names: the first words of lines, and the names of looks.
-use Rattle.std.proofs.Common.{◌≡◌, ◌⊎◌, ℕ, Bool, true, false, List, Option, Some, None, if◌then◌else◌, refl, ◌∙◌, ap, inl, inr}
+use Rattle.std.proofs.Common.{◌≡◌, ◌⊎◌, ℕ, true, false, List, Option, Some, None, if◌then◌else◌, refl, ◌∙◌, ap, inl, inr}
 use Rattle.std.specs.Option.{option_or}
 use Rattle.std.specs.Str.{bytes_eq}
 use Rattle.std.proofs.lemmas.Bool.{cases_Bool}
@@ -135,7 +135,8 @@ look_named-name the_look.WordEndHalfUnicode = refl
 pub look_said : (w : List ℕ) (l : TheLook) → IsLookName w l → look_named w ≡ Some l
 look_said w l e = ap look_named e ∙ look_named-name l
 
-look_of : (w : List ℕ) (o : Option TheLook) → look_named w ≡ o → unless_read o UnknownLook ≡ None → (l : TheLook) × (o ≡ Some l) × IsLookName w l
+look_of : (w : List ℕ) (o : Option TheLook) → look_named w ≡ o → unless_read o UnknownLook ≡ None
+    → (l : TheLook) × (o ≡ Some l) × IsLookName w l
 look_of w None e f = absurd cc
 look_of w (Some l) e f = (l, refl, look_spelled w l e)
 

@@ -1,9 +1,9 @@
 -- Items of a class of scalars: what their readers compute is what the words say.
-use Rattle.std.proofs.Common.{◌≡◌, ℕ, suc, ◌+◌, ◌<◌, Bool, true, false, not, ◌&&◌, ◌||◌, List, [], ◌∷◌, ◌++◌, length, get_or, take, drop, map, Option, Some, None, cond, nat_lt, eqb, refl, sym, ◌∙◌, ap, subst, inl, inr, arith, length-append}
+use Rattle.std.proofs.Common.{◌≡◌, ℕ, suc, ◌+◌, ◌<◌, Bool, true, false, not, ◌||◌, List, [], ◌∷◌, ◌++◌, length, get_or, take, drop, map, Option, Some, None, nat_lt, eqb, refl, sym, ◌∙◌, ap, arith, length-append}
 use Rattle.std.specs.List.{position, position_or_len}
 use Rattle.std.proofs.Math.ListN.{get_or-append}
 use Rattle.std.proofs.Math.Seq.{drop-cons, get_or-append_seam, take-append_seam, drop-append-add}
-use Rattle.std.proofs.lemmas.Bool.{cases_Bool, or_parts, not-false, ltb-false, lt-ltb, le-ltb, eqb-true, eq-eqb, ne_eqb}
+use Rattle.std.proofs.lemmas.Bool.{or_parts, not-false, ltb-false, lt-ltb, le-ltb, eqb-true, eq-eqb, ne_eqb}
 use Rattle.std.proofs.lemmas.List.{take-append-drop}
 use Rattle.std.proofs.lemmas.List.Quantifiers.{position-Some}
 use Rattle.std.proofs.lemmas.List.Sums.{position_or_len_is}
@@ -50,7 +50,8 @@ sign_behind low high n h =
     let before : (k : ℕ) → k < length low → is_sign (get_or w k 0) ≡ false =
     λ k l. ne_eqb _ 45 (λ e. hex_digits_no_sign low n k h l (sym (get_or-append low (45 ∷ high) 0 k l) ∙ e)) in
     let here : get_or w (length low) 0 ≡ 45 = get_or-append_seam low 45 high 0 in
-    let at : position_or_len is_sign w ≡ length low = position_or_len_is is_sign w (length low) 0 (omega arith) before (λ l. eq-eqb _ 45 here) in
+    let at : position_or_len is_sign w ≡ length low =
+    position_or_len_is is_sign w (length low) 0 (omega arith) before (λ l. eq-eqb _ 45 here) in
     let within : nat_lt (length low) (length w) ≡ true = lt-ltb (length low) (length w) (omega arith) in
     rw (at, within) refl
 
@@ -62,17 +63,21 @@ ends_of_parts low high r l h =
 pub hex_ends_said : (w : List ℕ) (r : ℕ × ℕ) → HasHexEnds w r → hex_ends w ≡ Some r
 hex_ends_said w r h = rw h.parts (ends_of_parts h.low h.high r h.low_is h.high_is)
 
-item_of_ends : (w : List ℕ) (o : Option (ℕ × ℕ)) → hex_ends w ≡ o → scalar_ends_fault o ≡ None → (r : ℕ × ℕ) × (o ≡ Some r) × IsScalarItem w r
+item_of_ends : (w : List ℕ) (o : Option (ℕ × ℕ)) → hex_ends w ≡ o → scalar_ends_fault o ≡ None
+    → (r : ℕ × ℕ) × (o ≡ Some r) × IsScalarItem w r
 item_of_ends w None e f = absurd cc
 item_of_ends w (Some r) e f =
     let all = or_parts (not (is_scalar r.0) || not (is_scalar r.1)) (nat_lt r.1 r.0) (when_none _ BadRange f) in
-    let scalars = or_parts (not (is_scalar r.0)) (not (is_scalar r.1)) all.0 in
-    (r, refl, record {
-      ends = hex_ends_say w r e;
-      low_scalar = not-false (is_scalar r.0) scalars.0;
-      high_scalar = not-false (is_scalar r.1) scalars.1;
-      in_order = ltb-false _ _ all.1;
-    })
+    let scalars = or_parts (not (is_scalar r.0)) (not (is_scalar r.1)) all.0 in (
+      r,
+      refl,
+      record {
+        ends = hex_ends_say w r e;
+        low_scalar = not-false (is_scalar r.0) scalars.0;
+        high_scalar = not-false (is_scalar r.1) scalars.1;
+        in_order = ltb-false _ _ all.1;
+      },
+    )
 
 pub scalar_item_says : (w : List ℕ) → scalar_item_fault w ≡ None → IsScalarItem w (the_hex_ends w)
 scalar_item_says w e = let i = item_of_ends w (hex_ends w) refl e in rw i.1 i.2

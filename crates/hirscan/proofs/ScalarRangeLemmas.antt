@@ -13,53 +13,27 @@ use Rattle.hirscan.specs.Readers.{hex_ends, the_hex_ends}
 use Rattle.hirscan.specs.LineFault.{first_of, scalar_ends_fault, scalar_item_fault}
 use Rattle.hirscan.proofs.StageLemmas.{first_none, when_none}
 
--- what ranges that rise from a number tell of the first of them
-pub record RisesPast (low : ℕ) (r : ℕ × ℕ) (rs : List (ℕ × ℕ)) : Type 0 where
-  pub from : low ≤ r.0
-  pub in_order : r.0 ≤ r.1
-  pub others : rises_from (r.1 + 1) rs ≡ true
+-- the ranges begin at this number or above it, and some number stands between each two of them
+abbrev pub AreApart : ℕ → List (ℕ × ℕ) → Type 0
+AreApart low [] = Unit {0}
+AreApart low (r ∷ rs) = (low ≤ r.0) × (r.0 ≤ r.1) × AreApart (r.1 + 2) rs
 
-pub rises_past : (low : ℕ) (r : ℕ × ℕ) (rs : List (ℕ × ℕ)) → rises_from low (r ∷ rs) ≡ true → RisesPast low r rs
-rises_past low r rs h =
-    let p = and_parts (nat_le low r.0 && nat_le r.0 r.1) _ h in
-    let q = and_parts (nat_le low r.0) _ p.0 in
-    record { from = leb-true low r.0 q.0; in_order = leb-true r.0 r.1 q.1; others = p.1 }
+apart_below : (low high : ℕ) (rs : List (ℕ × ℕ)) → low ≤ high → AreApart high rs → AreApart low rs
+apart_below low high [] l h = tt
+apart_below low high (r ∷ rs) l h = let f = h.0 in (omega arith, h.1, h.2)
 
-pub rises_by : (low : ℕ) (r : ℕ × ℕ) (rs : List (ℕ × ℕ)) → RisesPast low r rs → rises_from low (r ∷ rs) ≡ true
-rises_by low r rs h = and_from _ _ (and_from _ _ (le-leb low r.0 h.from) (le-leb r.0 r.1 h.in_order)) h.others
-
-pub rises_from_below : (low high : ℕ) (rs : List (ℕ × ℕ)) → low ≤ high → rises_from high rs ≡ true → rises_from low rs ≡ true
-rises_from_below low high [] l h = refl
-rises_from_below low high (r ∷ rs) l h =
-    let p = rises_past high r rs h in
-    rises_by low r rs (record { from = (let f = p.from in omega arith); in_order = p.in_order; others = p.others })
-
-rises_with_range : (low : ℕ) (r : ℕ × ℕ) (rs : List (ℕ × ℕ)) → low ≤ r.0 → r.0 ≤ r.1 → rises_from low rs ≡ true
-    → rises_from low (with_range r rs) ≡ true
-rises_with_range low r [] l m h = rises_by low r [] (record { from = l; in_order = m; others = refl })
-rises_with_range low r (s ∷ rest) l m h =
-    let p = rises_past low s rest h in
-    let f = p.from in
-    let o = p.in_order in
+apart_with_range : (low : ℕ) (r : ℕ × ℕ) (rs : List (ℕ × ℕ)) → low ≤ r.0 → r.0 ≤ r.1 → AreApart low rs → AreApart low (with_range r rs)
+apart_with_range low r [] l m h = (l, m, tt)
+apart_with_range low r (s ∷ rest) l m h =
+    let f = h.0 in
+    let o = h.1 in
     elim (cases_Bool (nat_lt (r.1 + 1) s.0)) [
-      | inl t ↦
-          let k = ltb-true _ _ t in
-          rw t (rises_by low r (s ∷ rest) (record {
-            from = l;
-            in_order = m;
-            others = rises_by (r.1 + 1) s rest (record { from = (omega arith); in_order = o; others = p.others });
-          }))
+      | inl t ↦ let k = ltb-true _ _ t in rw t (l, m, (omega arith, o, h.2))
       | inr n ↦ elim (cases_Bool (nat_lt (s.1 + 1) r.0)) [
-        | inl t ↦
-            let k = ltb-true _ _ t in
-            rw (n, t) (rises_by low s _ (record {
-              from = f;
-              in_order = o;
-              others = rises_with_range (s.1 + 1) r rest (omega arith) m p.others;
-            }))
+        | inl t ↦ let k = ltb-true _ _ t in rw (n, t) (f, o, apart_with_range (s.1 + 2) r rest (omega arith) m h.2)
         | inr k ↦
-            rw (n, k) (rises_with_range low (min r.0 s.0, max r.1 s.1) rest (omega arith) (omega arith)
-            (rises_from_below low (s.1 + 1) rest (omega arith) p.others))
+            rw (n, k) (apart_with_range low (min r.0 s.0, max r.1 s.1) rest (omega arith) (omega arith)
+            (apart_below low (s.1 + 2) rest (omega arith) h.2))
       ]
     ]
 
@@ -67,12 +41,21 @@ rises_with_range low r (s ∷ rest) l m h =
 abbrev pub in_order : ℕ × ℕ → Bool
 in_order r = nat_le r.0 r.1
 
-pub scalar_ranges_ascend : (items : List (ℕ × ℕ)) → list_all in_order items ≡ true → is_ascending (scalar_ranges items) ≡ true
+pub scalar_ranges_apart : (items : List (ℕ × ℕ)) → list_all in_order items ≡ true → AreApart 0 (scalar_ranges items)
 unfolding scalar_ranges
-scalar_ranges_ascend [] h = refl
-scalar_ranges_ascend (r ∷ items) h =
+scalar_ranges_apart [] h = tt
+scalar_ranges_apart (r ∷ items) h =
     let p = and_parts (in_order r) (list_all in_order items) h in
-    rises_with_range 0 r (scalar_ranges items) (omega arith) (leb-true r.0 r.1 p.0) (scalar_ranges_ascend items p.1)
+    apart_with_range 0 r (scalar_ranges items) (omega arith) (leb-true r.0 r.1 p.0) (scalar_ranges_apart items p.1)
+
+apart_rise : (low : ℕ) (rs : List (ℕ × ℕ)) → AreApart low rs → rises_from low rs ≡ true
+apart_rise low [] h = refl
+apart_rise low (r ∷ rs) h =
+    let more : AreApart (r.1 + 1) rs = apart_below (r.1 + 1) (r.1 + 2) rs (omega arith) h.2 in
+    and_from _ _ (and_from _ _ (le-leb low r.0 h.0) (le-leb r.0 r.1 h.1)) (apart_rise (r.1 + 1) rs more)
+
+pub scalar_ranges_ascend : (items : List (ℕ × ℕ)) → list_all in_order items ≡ true → is_ascending (scalar_ranges items) ≡ true
+scalar_ranges_ascend items h = apart_rise 0 (scalar_ranges items) (scalar_ranges_apart items h)
 
 -- a number is in a range or in one that meets or touches it just where it is in the range that takes in both
 taken_in : (a b c d n : ℕ) (others : Bool) → nat_lt (b + 1) c ≡ false → nat_lt (d + 1) a ≡ false
@@ -115,7 +98,8 @@ are_in_order (w ∷ ws) [] h = absurd h
 are_in_order (w ∷ ws) (r ∷ items) h =
     let o = h.0.in_order in and_from (in_order r) (list_all in_order items) (le-leb r.0 r.1 o) (are_in_order ws items h.1)
 
-pub scalar_classes_ascend : (ws : List (List ℕ)) (items : List (ℕ × ℕ)) → AreScalarItems ws items → is_ascending (scalar_ranges items) ≡ true
+pub scalar_classes_ascend : (ws : List (List ℕ)) (items : List (ℕ × ℕ)) → AreScalarItems ws items
+    → is_ascending (scalar_ranges items) ≡ true
 scalar_classes_ascend ws items h = scalar_ranges_ascend items (are_in_order ws items h)
 
 -- so have words without a fault

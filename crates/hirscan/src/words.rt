@@ -1,6 +1,6 @@
 // What a word of a line says by itself.
-ghost use Rattle.std.specs.Prelude.{◌≡◌, ◌+◌, ◌==◌, ◌<◌, ◌≤◌, ◌∷◌, ◌++◌, length, map, reverse, nat_lt, Some, None, IfOk, IfErr, OnOk};
-ghost use Rattle.std.specs.List.{position};
+ghost use Rattle.std.specs.Prelude.{◌≡◌, ◌+◌, ◌==◌, ◌<◌, ◌≤◌, ◌∷◌, ◌++◌, length, map, reverse, nat_lt, nat_le, Some, None, IfOk, IfErr, OnOk};
+ghost use Rattle.std.specs.List.{list_all, position};
 ghost use Rattle.hir_core.specs.Means.{is_member};
 ghost use Rattle.hirscan.specs.Words.{is_scalar, with_byte, with_range, class_ranges, scalar_ranges};
 ghost use Rattle.hirscan.specs.Readers.{line_word, setting_word, tree_word, number, bound, order, switch, yes_or_no, hex_bytes, hex_byte, item_ends, the_ends, hex_number, hex_ends, the_hex_ends, anchor_named, word_look_named, look_named, word_at};
@@ -324,10 +324,7 @@ fn scalar_item(word: &[u8]) -> Result<(char, char), FaultKind>
 }
 
 /// The items of a class of scalars in the order of the words.
-pub(crate) fn scalar_items(
-    alloc: Global,
-    words: &[&[u8]],
-) -> Result<Vec<(char, char)>, LineFault>
+pub(crate) fn scalar_items(alloc: Global, words: &[&[u8]]) -> Result<Vec<(char, char)>, LineFault>
     ensures ok { IfOk result (λ items. (first_of (map scalar_item_fault (texts words.now)) ≡ None)
         × (items.items ≡ map the_hex_ends (texts words.now))) }
     ensures err { IfErr result (λ e. TellsLineFault (first_of (map scalar_item_fault (texts words.now))) e) }
@@ -377,10 +374,7 @@ fn join_ranges(
 
 /// Puts ranges, which are there from the first to the last, before others, which are there from the
 /// last to the first.
-fn put_back(
-    ranges: &mut Vec<(char, char)>,
-    mut before: Vec<(char, char)>,
-) -> Result<(), AllocError>
+fn put_back(ranges: &mut Vec<(char, char)>, mut before: Vec<(char, char)>) -> Result<(), AllocError>
     ensures { OnOk result (reverse ranges.new.items ≡ before.items ++ reverse ranges.old.items) }
 {
     while let Some(last) = before.pop() {
@@ -403,12 +397,9 @@ fn put_range(
     put_back(ranges, before)
 }
 
-/// The ranges of the scalars that are in an item, ascending and each as long as it can be.
+/// The ranges of the items, which are put from the last to the first.
 #[tactic(auto, using(crate::proofs::ScalarRangeLemmas::ranges_with_item))]
-pub(crate) fn scalar_ranges(
-    alloc: Global,
-    items: &[(char, char)],
-) -> Result<Vec<(char, char)>, AllocError>
+fn put_ranges(alloc: Global, items: &[(char, char)]) -> Result<Vec<(char, char)>, AllocError>
     ensures { IfOk result (λ ranges. ranges.items ≡ scalar_ranges items.now) }
 {
     let mut ranges = Vec::new(alloc);
@@ -416,6 +407,38 @@ pub(crate) fn scalar_ranges(
         put_range(alloc, &mut ranges, items[i])?;
     }
     ranges.reverse();
+    Ok(ranges)
+}
+
+fn are_in_order(items: &[(char, char)]) -> bool
+    ensures { result ≡ list_all (λ item. nat_le item.0 item.1) items.now }
+{
+    items.iter().all(|item| item.0 <= item.1)
+}
+
+/// The items in an order in which each is put before all others. The ranges are the same in any order,
+/// where the items have their low ends first.
+#[tactic(auto, using(crate::proofs::AnyOrderLemmas::any_order))]
+fn sorted(alloc: Global, items: &[(char, char)]) -> Result<Vec<(char, char)>, AllocError>
+    ensures { IfOk result (λ sorted. scalar_ranges sorted.items ≡ scalar_ranges items.now) }
+{
+    let mut sorted: Vec<(char, char)> = items.iter().copied().collect(alloc)?;
+    if !are_in_order(items) {
+        return Ok(sorted);
+    }
+    sorted.sort_unstable();
+    Ok(sorted)
+}
+
+/// The ranges of the scalars that are in an item, ascending and each as long as it can be.
+pub(crate) fn scalar_ranges(
+    alloc: Global,
+    items: &[(char, char)],
+) -> Result<Vec<(char, char)>, AllocError>
+    ensures { IfOk result (λ ranges. ranges.items ≡ scalar_ranges items.now) }
+{
+    let sorted = sorted(alloc, items)?;
+    let ranges = put_ranges(alloc, &sorted)?;
     Ok(ranges)
 }
 
