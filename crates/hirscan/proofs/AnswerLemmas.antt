@@ -1,6 +1,5 @@
 -- What is known of an answer: its pattern means its span, and where it stands.
 use Rattle.std.proofs.Common.{◌≡◌, ℕ, zero, suc, if◌then◌else◌, ◌+◌, ◌-◌, ◌≤◌, Bool, true, false, cond, List, [], ◌∷◌, ◌++◌, map, length, Option, Some, None, slice_get, nat_le, refl, sym, ap, ◌∙◌, subst, inl, inr, arith, leb-true}
-use Rattle.std.specs.Option.{option_or}
 use Rattle.std.specs.List.{All, filter}
 use Rattle.std.proofs.lemmas.List.Elements.{All-cons}
 use Rattle.std.proofs.lemmas.Bool.{and_parts}
@@ -11,7 +10,7 @@ use Rattle.hir_core.proofs.ForCallers.{preferred_ends_sound, span_forward}
 use Rattle.search_types.specs.Found.{Found}
 use Rattle.search_types.specs.Modes.{allowed}
 use Rattle.search_types.specs.Places.{counts}
-use Rattle.search_types.specs.LeftmostAnswer.{first_choice, leftmost, IsLeftmost, IsAnswer}
+use Rattle.search_types.specs.LeftmostAnswer.{first_choice, IsLeftmost, IsAnswer}
 use Rattle.search_types.proofs.ForCallers.{starts_at, computed_is_answer, ends_rise, spans_within}
 use Rattle.hirscan.specs.Choices.{Query, pattern_choices, choices, ends_at, may_end, choices_at, answer_from, answers_of}
 use Rattle.search_types.specs.AllAnswers.{AnswersWithin, EndsRise, and_on, answers_from, is_repeat, next_answer}

@@ -1,5 +1,5 @@
 -- What reading a haystack as UTF-8 says of its longest valid beginning, and what is searched where nothing is refused.
-use Rattle.std.proofs.Common.{◌≡◌, ℕ, zero, suc, ◌+◌, ◌<◌, ◌≤◌, ◌&&◌, Bool, true, false, not, if◌then◌else◌, List, [], ◌∷◌, All, length, take, Option, Some, None, option_map, nat_lt, nat_le, get_or, true≢false, refl, sym, ap, ◌∙◌, subst, arith, codes, decimal, ◌++◌, leb-true}
+use Rattle.std.proofs.Common.{◌≡◌, ℕ, zero, suc, ◌+◌, ◌<◌, ◌≤◌, Bool, true, false, not, if◌then◌else◌, List, [], ◌∷◌, All, length, take, Option, Some, None, option_map, nat_lt, nat_le, get_or, true≢false, refl, sym, subst, arith, codes, decimal, ◌++◌, leb-true}
 use Rattle.std.specs.List.{position, position_or_len}
 use Rattle.std.proofs.lemmas.List.Sums.{fails_before_first}
 use Rattle.std.specs.Str.{IsUtf8, IsValidUpTo, is_utf8}
@@ -11,7 +11,6 @@ use Rattle.search_core.specs.Utf8.{IsValidText}
 use Rattle.search_core.proofs.ForCallers.{valid_of_utf8}
 use Rattle.hir_core.specs.Tree.{Tree}
 use Rattle.hir_core.specs.Facts.{LoopsRead, is_utf8_tree}
-use Rattle.search_types.specs.Inputs.{Search}
 use Rattle.hirscan.specs.declared.line.Setup.{Setup}
 use Rattle.hirscan.specs.Asks.{search_of}
 use Rattle.hirscan.specs.Loops.{loops_read, first_empty_loop}
@@ -73,7 +72,7 @@ asked_utf8 false o none on = absurd (true≢false (sym on))
 none_at : {X : Type 0} (test : X → Bool) (xs : List X) → position (λ x. not (test x)) xs ≡ None → All (λ x. test x ≡ true) xs
 none_at test xs e k d less =
     let none = ltb-false (position_or_len (λ x. not (test x)) xs) (length xs)
-        (none_if (nat_lt (position_or_len (λ x. not (test x)) xs) (length xs)) (position_or_len (λ x. not (test x)) xs) e) in
+    (none_if (nat_lt (position_or_len (λ x. not (test x)) xs) (length xs)) (position_or_len (λ x. not (test x)) xs) e) in
     not-false (test (get_or xs k d)) (fails_before_first (λ x. not (test x)) xs k d (omega (arith, none, less)))
 
 -- what is refused for no cause: the loops of its patterns read, and it is a search of a haystack of bytes within it

@@ -1,5 +1,5 @@
 -- How a list of matches ends: with the last one, at a quit byte that is read upwards, or for want of memory.
-use Rattle.std.proofs.Common.{◌≡◌, ◌⊎◌, inl, inr, ℕ, ◌+◌, ◌≤◌, ◌<◌, Bool, true, false, List, All, Option, Some, None, Result, Ok, Err, string_bytes, ◌++◌, true≢false, refl, sym, ap, ◌∙◌, subst, arith, if◌then◌else◌}
+use Rattle.std.proofs.Common.{◌≡◌, inl, inr, ℕ, ◌≤◌, ◌<◌, Bool, true, false, List, All, Option, Some, None, Result, Ok, Err, string_bytes, ◌++◌, true≢false, refl, sym, ap, ◌∙◌, subst, arith, if◌then◌else◌}
 use Rattle.std.specs.Prelude.{IfOk}
 use Rattle.std.specs.Borrow.{GName}
 use Rattle.std.specs.declared.alloc.AllocError.{AllocError}
@@ -15,7 +15,7 @@ use Rattle.lazy_dfa.specs.Readers.{Reader, HalfAnswer, found, quit, unsupported}
 use Rattle.lazy_dfa.specs.Scans.{scan}
 use Rattle.lazy_dfa.proofs.ForCallers.{scan_mode_told}
 use Rattle.regex_pair.specs.declared.find_matches.FindMatches.{FindMatches}
-use Rattle.regex_pair.specs.Finding.{Finding, IsAskedAt, Finds, search_at}
+use Rattle.regex_pair.specs.Finding.{Finding, Finds, search_at}
 use Rattle.regex_pair.specs.FindSteps.{FindsNext, caches_of, finds_from}
 use Rattle.regex_pair.specs.Joined.{is_start_known, back_from, from_start, with_start, join, joined}
 use Rattle.regex_pair.specs.PairAnswers.{AnswersPair}
@@ -26,7 +26,6 @@ use Rattle.hirscan.specs.declared.program.Ending.TheVariants.{Listed}
 use Rattle.hirscan.specs.declared.reply.Reply.{Reply}
 use Rattle.hirscan.specs.Asks.{mode_of, search_of}
 use Rattle.hirscan.specs.Built.{IsBuilt, program_settings}
-use Rattle.hirscan.specs.Headline.{IsQuitBeside}
 use Rattle.hirscan.specs.Listing.{IsSearched, ListsUpTo, MayEndList, TellsQuit}
 use Rattle.hirscan.specs.Regexes.{IsSearchOf}
 use Rattle.hirscan.specs.Reply.{AreAnswers, BeginsAnswers, IsSearchReply, listed, quits, QuitsBehind, finding_behind, quit_line}
@@ -102,8 +101,8 @@ module _ (setup : Setup) (xs : List Tree) (h : List ℕ) (bytes : All (λ byte. 
   mode_is_unsupported k m is =
       let later = asked_at xs setup.settings.utf8 q asked k in
       let told = scan_mode_told (reader p.forward) (search_at q k) m
-          (refuses_by_first xs setup.settings.utf8 setup.settings.line_terminator p (built_regex xs (program_settings setup.settings) p built refl)
-          (search_at q k) later m is) in
+      (refuses_by_first xs setup.settings.utf8 setup.settings.line_terminator p (built_regex xs (program_settings setup.settings) p built refl)
+      (search_at q k) later m is) in
       true≢false (sym (supported_up xs (program_settings setup.settings) p built (search_at q k)
       (mode_is_supported setup.anchored (starts_each_of (program_settings setup.settings).dfa))) ∙ told.2)
 
@@ -143,7 +142,7 @@ module _ (setup : Setup) (xs : List Tree) (h : List ℕ) (bytes : All (λ byte. 
     quits_there b x is =
         let k = refused.0 in
         let there = quits_upwards xs (program_settings setup.settings) p built refl (search_at q k) (asked_at xs setup.settings.utf8 q asked k)
-            (caches_of new) b x (subst (λ (v : MatchErrorKind). AnswersPair p (caches_of new) (search_at q k) (Err v)) is refused.2) in
+        (caches_of new) b x (subst (λ (v : MatchErrorKind). AnswersPair p (caches_of new) (search_at q k) (Err v)) is refused.2) in
         record {
           regex = p;
           built = built;

@@ -12,7 +12,7 @@ use Rattle.regex_pair.specs.Pairs.{Pair, PairCache}
 use Rattle.regex_pair.specs.Taken.{AreTaken}
 use Rattle.regex_pair.proofs.ForCallers.{none_taken, one_more_by_step}
 use Rattle.hirscan.specs.Listing.{ListsUpTo}
-use Rattle.hirscan.specs.Reply.{finding_behind, finding_from, last_end, span_line, span_lines}
+use Rattle.hirscan.specs.Reply.{finding_from, last_end, span_line, span_lines}
 
 -- ---- steps that give a match
 abbrev item_of : Result Found MatchErrorKind → Option (Result Found MatchErrorKind)

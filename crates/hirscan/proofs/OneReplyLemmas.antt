@@ -1,13 +1,12 @@
 -- What replies to one input agree on: it is refused for one cause and then asks for nothing, and all matches are one list.
-use Rattle.std.proofs.Common.{◌≡◌, ℕ, ◌^◌, ◌≤◌, Bool, true, false, List, ◌++◌, drop, length, Option, Some, None, codes, decimal, true≢false, refl, sym, ap, ◌∙◌, subst, arith}
+use Rattle.std.proofs.Common.{◌≡◌, ℕ, Bool, true, false, List, ◌++◌, drop, Option, Some, None, codes, decimal, true≢false, refl, sym, ap, ◌∙◌, subst, arith}
 use Rattle.look_core.specs.Words.{ascii_words}
 use Rattle.hir_core.specs.Tree.{Tree}
 use Rattle.search_types.specs.Found.{Found}
-use Rattle.hirscan.specs.declared.fault.FaultKind.{FaultKind}
 use Rattle.hirscan.specs.declared.line.Setup.{Setup}
 use Rattle.hirscan.specs.declared.program.Ending.{Ending}
 use Rattle.hirscan.specs.declared.program.Ending.TheVariants.{Listed, Quit, Refused}
-use Rattle.hirscan.specs.Reads.{IsFaultAt, Reads}
+use Rattle.hirscan.specs.Reads.{Reads}
 use Rattle.hirscan.specs.Refusals.{refusal}
 use Rattle.hirscan.specs.Reply.{IsRefused, too_long, faulty, unfit, Asks, AreAnswers, IsSearchReply, too_large, listed, quits, IsReply, refused, searched, refusal_line, span_lines}
 use Rattle.hirscan.specs.Takes.{Standing, at_first}
@@ -93,9 +92,10 @@ list_of input e t is (searched setup xs h asks reply) = list_of_search input set
 asked_once : (input : List ℕ) (s u : Setup) (xs ys : List Tree) (h g : List ℕ) → Asks input s xs h → Asks input u ys g → (s ≡ u) × (xs ≡ ys) × (h ≡ g)
 asked_once input s u xs ys h g a b =
     let same = reads_once input at_first a.at b.at a.len b.len a.reads b.reads in (
-    sym a.setup_is ∙ ap (λ p. p.setup) same.0 ∙ b.setup_is,
-    sym a.patterns_are ∙ ap (λ p. p.patterns) same.0 ∙ b.patterns_are,
-    sym a.haystack_is ∙ ap (λ n. drop n input) same.1 ∙ b.haystack_is)
+      sym a.setup_is ∙ ap (λ p. p.setup) same.0 ∙ b.setup_is,
+      sym a.patterns_are ∙ ap (λ p. p.patterns) same.0 ∙ b.patterns_are,
+      sym a.haystack_is ∙ ap (λ n. drop n input) same.1 ∙ b.haystack_is,
+    )
 
 same_list : (input s t : List ℕ) → HasList input s → HasList input t → s ≡ t
 same_list input s t a b =

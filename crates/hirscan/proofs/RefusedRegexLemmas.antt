@@ -1,5 +1,5 @@
 -- Why the program builds no regex of patterns: for their size, or for want of memory.
-use Rattle.std.proofs.Common.{◌≡◌, ◌⊎◌, inl, inr, ℕ, ◌+◌, ◌*◌, ◌^◌, ◌<◌, ◌≤◌, ◌&&◌, Bool, true, false, not, List, length, true≢false, refl, sym, ap, ◌∙◌, subst, arith, lit<}
+use Rattle.std.proofs.Common.{◌≡◌, ◌⊎◌, inl, inr, ◌+◌, ◌^◌, ◌≤◌, ◌&&◌, Bool, false, not, List, length, true≢false, refl, sym, ap, ◌∙◌, subst, lit<}
 use Rattle.std.proofs.Math.Bool.{and-false}
 use Rattle.search_core.specs.Index.{greatest_index}
 use Rattle.hir_core.specs.Tree.{Tree}

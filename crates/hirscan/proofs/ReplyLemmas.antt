@@ -1,5 +1,5 @@
 -- Replies: of a refusal, and of an input of which so much was read as decides it.
-use Rattle.std.proofs.Common.{◌≡◌, ℕ, ◌+◌, ◌-◌, ◌^◌, ◌≤◌, List, [], ◌∷◌, ◌++◌, length, take, drop, Option, Some, None, Result, Ok, Err, string_bytes, sym, ap, ◌∙◌, subst, arith, append-nil, length-append}
+use Rattle.std.proofs.Common.{◌≡◌, ℕ, ◌+◌, ◌-◌, ◌^◌, ◌≤◌, List, [], ◌∷◌, ◌++◌, length, take, drop, Option, Some, None, Result, Ok, Err, string_bytes, refl, sym, ap, ◌∙◌, subst, arith, append-nil, length-append}
 use Rattle.std.specs.Prelude.{IfOk, IfSome}
 use Rattle.std.specs.declared.alloc.AllocError.{AllocError}
 use Rattle.std.specs.Io.KnownBytes.{Consumes, IsAtEnd}
@@ -8,10 +8,10 @@ use Rattle.hirscan.specs.declared.line.Setup.{Setup}
 use Rattle.hirscan.specs.declared.program.Ending.{Ending}
 use Rattle.hirscan.specs.declared.program.Ending.TheVariants.{Refused}
 use Rattle.hirscan.specs.declared.reply.Reply.{Reply}
-use Rattle.hirscan.specs.Takes.{Standing, Takes, Sets, Replaces, TakesPattern, at_first, utf8_line, line_line, two_bytes_line, capacity_line, quit_line, classes_line, shrink_line, anchored_line, span_line, empty_line, lit_line, bytes_line, chars_line, look_line, rep_line, cat_line, alt_line, pattern_line}
+use Rattle.hirscan.specs.Takes.{Standing, Takes, Sets, Replaces, at_first, utf8_line, line_line, two_bytes_line, capacity_line, quit_line, classes_line, shrink_line, anchored_line, span_line, empty_line, lit_line, bytes_line, chars_line, look_line, rep_line, cat_line, alt_line, pattern_line}
 use Rattle.hirscan.specs.Reads.{Reads, reads_find, reads_line}
 use Rattle.hirscan.specs.Refusals.{refusal}
-use Rattle.hirscan.specs.Reply.{IsRefused, too_long, faulty, unfit, Asks, IsReply, refused, searched, AnswersHead, refuses, searches, IsSearchReply, refusal_line}
+use Rattle.hirscan.specs.Reply.{IsRefused, too_long, faulty, unfit, IsReply, refused, searched, AnswersHead, refuses, searches, IsSearchReply, refusal_line}
 use Rattle.hirscan.proofs.SliceLemmas.{rest_of_slice}
 
 -- ---- heads
@@ -72,7 +72,7 @@ reply_of_answer : (input : List ℕ) (at : Standing) (n : ℕ) (e : Ending) (t :
 reply_of_answer input at n e t short reads (refuses cause found ends is) = refused cause (unfit at n short reads found) ends is
 reply_of_answer input at n e t short reads (searches none reply) =
     searched at.setup at.patterns (drop n input)
-    (record { at = at; len = n; short = short; reads = reads; setup_is = λ i. at.setup; patterns_are = λ i. at.patterns; haystack_is = λ i. drop n input; fits = none }) reply
+    (record { at = at; len = n; short = short; reads = reads; setup_is = refl; patterns_are = refl; haystack_is = refl; fits = none }) reply
 
 -- the reply to a haystack, handed on as that to the whole input
 pub reply_of_search : (r : Result Reply AllocError) (input h : List ℕ) (at : Standing) (n : ℕ) → length input ≤ 2 ^ 30 → Reads input at_first at n →

@@ -17,16 +17,21 @@ module _ (input : List ℕ) where
   by_cause : (at : Standing) (n : ℕ) → length input ≤ 2 ^ 30 → Reads input at_first at n → (o : Option (List ℕ)) →
       refusal at.setup at.patterns (drop n input) ≡ o → IsDecided input
   by_cause at n short read (Some cause) found = inl (cause, unfit at n short read found)
-  by_cause at n short read None none = inr (at.setup, at.patterns, drop n input, record {
-    at = at;
-    len = n;
-    short = short;
-    reads = read;
-    setup_is = refl;
-    patterns_are = refl;
-    haystack_is = refl;
-    fits = none;
-  })
+  by_cause at n short read None none = inr (
+    at.setup,
+    at.patterns,
+    drop n input,
+    record {
+      at = at;
+      len = n;
+      short = short;
+      reads = read;
+      setup_is = refl;
+      patterns_are = refl;
+      haystack_is = refl;
+      fits = none;
+    },
+  )
 
   by_head : length input ≤ 2 ^ 30 →
       ((there : Standing) × (n : ℕ) × Reads input at_first there n) ⊎ ((k : ℕ) × (kind : FaultKind) × IsFaultAt input at_first k kind) →

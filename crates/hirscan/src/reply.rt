@@ -9,9 +9,9 @@ ghost use Rattle.regex_pair.specs.Pairs.{AreCachesOf};
 ghost use Rattle.hirscan.specs.Listing.{IsSearched, MayEndList, TellsQuit};
 ghost use Rattle.hirscan.specs.Reply.{IsReply, IsSearchReply, AnswersHead, AreTooLarge, span_line, span_lines, quit_line, refusal_line};
 
+use crate::building::build;
 use crate::causes::refusal_cause;
 use crate::fault::Fault;
-use crate::building::build;
 use crate::head::{Head, read_head};
 use crate::program::Ending;
 use crate::settings::program_settings;

@@ -23,8 +23,10 @@ loop-item-preserved c =
 
 pub failed_reply-requires : goal.failed_reply-requires
 failed_reply-requires c =
-    record { told = ends_list (head_standing c.args.head.now).setup c.args.head.now.patterns.items c.args.h.now c.see_bytes.ensures c.requires.searched
-    c.args.regex.now c.requires.built _ _ _ c.next.new.self c.in-Err.e c.loop-item.invariant (rw c.in-Err.is at c.in-Some.ensures.steps) }
+    record {
+      told = ends_list (head_standing c.args.head.now).setup c.args.head.now.patterns.items c.args.h.now c.see_bytes.ensures c.requires.searched
+          c.args.regex.now c.requires.built _ _ _ c.next.new.self c.in-Err.e c.loop-item.invariant (rw c.in-Err.is at c.in-Some.ensures.steps);
+    }
 
 pub returns-in-Err : goal.returns-in-Err
 returns-in-Err c =

@@ -1,5 +1,5 @@
 use Rattle.std.proofs.Common.{string_bytes}
-use Rattle.regex_pair.specs.FindSteps.{lender_of, searches_by}
+use Rattle.regex_pair.specs.FindSteps.{lender_of}
 use Rattle.hirscan.specs.Asks.{search_of}
 use Rattle.hirscan.specs.Listing.{ListsUpTo}
 use Rattle.hirscan.specs.Tells.{head_standing}

@@ -1,5 +1,4 @@
-use Rattle.std.proofs.Common.{refl, ◌≡◌, ◌≤◌, ◌^◌, ◌+◌, rules, codes, ◌++◌, decimal, length, arith}
-use Rattle.search_core.specs.Index.{greatest_index}
+use Rattle.std.proofs.Common.{refl, ◌≡◌, ◌≤◌, ◌^◌, rules, codes, ◌++◌, decimal, length, arith}
 use Rattle.hirscan.specs.Tells.{kind_text, head_standing}
 use Rattle.hirscan.specs.Reply.{faulty, too_long}
 use Rattle.hirscan.proofs.ReplyLemmas.{few_patterns, head_len_le, reply_of_refusal, reply_of_search}
