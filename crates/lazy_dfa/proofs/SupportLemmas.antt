@@ -52,10 +52,10 @@ module _ (r : Reader) (b : Bool) where
 
     begun_alike : (n i : ℕ) → begun_at r mode earliest h n i ≡ begun_at other mode earliest h n i
     begun_alike n i =
-        ap (λ (x : HalfAnswer). if is_anchored mode then unless_split (counts r.between_characters h) x (found None) else passes r mode earliest h n i)
-        (one_alike n i)
-        ∙ ap (λ (x : HalfAnswer). if is_anchored mode then unless_split (counts r.between_characters h) (pass other mode earliest h n i) (found None)
-        else x) (each_alike n i)
+        ap (λ (x : HalfAnswer). if is_anchored mode then unless_split (counts r.between_characters h) x (found None)
+        else passes r mode earliest h n i) (one_alike n i)
+        ∙ ap (λ (x : HalfAnswer). if is_anchored mode
+        then unless_split (counts r.between_characters h) (pass other mode earliest h n i) (found None) else x) (each_alike n i)
 
 -- ---- readers that differ in nothing else
 

@@ -82,8 +82,8 @@ module _ (p : Pair) (q : Search) (o : Option Found) (up : (reader p.forward).aut
       (near.0, omega (arith, near.1, last)))
       there
 
-  same_elsewhere : (g : List ℕ) → q.end ≤ length g → ((x : ℕ) → q.start ≤ x + 1 → x < stop → byte_at g x ≡ byte_at q.haystack x) →
-      joined p (record q { haystack = g }) ≡ Ok o
+  same_elsewhere : (g : List ℕ) → q.end ≤ length g →
+      ((x : ℕ) → q.start ≤ x + 1 → x < stop → byte_at g x ≡ byte_at q.haystack x) → joined p (record q { haystack = g }) ≡ Ok o
   same_elsewhere g in_g same =
       sym (joined_by_reach p q g within in_g (λ x there. let at = in_interval x there in sym (same x at.0 at.1))) ∙ is
 
@@ -119,7 +119,7 @@ module _ (p : Pair) (q : Search) (o : Option Found) (up : (reader p.forward).aut
 
 -- ---- code
 
-pub reaches : (p : Pair) (q : Search) (c : PairCache) (result : Result (Option Found) MatchErrorKind) → (reader p.forward).automaton.reverse ≡ false →
-    q.end ≤ length q.haystack → AnswersPair p c q result → IfOk result (λ o. HasPairReach p q o)
+pub reaches : (p : Pair) (q : Search) (c : PairCache) (result : Result (Option Found) MatchErrorKind) →
+    (reader p.forward).automaton.reverse ≡ false → q.end ≤ length q.haystack → AnswersPair p c q result → IfOk result (λ o. HasPairReach p q o)
 reaches p q c (Err e) up within answers = tt
 reaches p q c (Ok o) up within answers = joined_has_reach p q o up within (answer_is_joined p c q o answers)
