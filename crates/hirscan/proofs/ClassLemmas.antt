@@ -1,7 +1,6 @@
 -- Bytes of one class of the automaton are interchangeable in haystacks: the trees define the same answer.
 use Rattle.std.proofs.Common.{◌≡◌, ℕ, zero, suc, ◌+◌, ◌-◌, ◌<◌, ◌≤◌, Bool, true, false, List, [], ◌∷◌, map, length, take, slice_get, get_or, Option, Some, None, All, nat_le, if◌then◌else◌, refl, sym, ap, ap₂, ◌∙◌, subst, ⊎_elim, arith}
 use Rattle.std.specs.Prelude.{Ok}
-use Rattle.std.specs.List.{list_any}
 use Rattle.std.specs.Option.{option_or}
 use Rattle.std.proofs.lemmas.Bool.{cases_Bool, leb-true}
 use Rattle.std.proofs.lemmas.Option.{slice_get_within, get_or_from_slice_get}
@@ -12,12 +11,11 @@ use Rattle.search_core.specs.Marks.{HasMarks, marks_below}
 use Rattle.look_core.specs.Codes.{is_word_unicode}
 use Rattle.look_core.specs.declared.look.Look.{Look}
 use Rattle.look_core.specs.LookSets.{has_look, has_any}
-use Rattle.look_core.specs.Looks.{holds, holds_ascii, by_characters, IsWordSet}
+use Rattle.look_core.specs.Looks.{holds, holds_ascii, by_characters}
 use Rattle.look_core.specs.SameClasses.{HaveSameClasses}
 use Rattle.look_core.specs.Terminators.{Terminator}
 use Rattle.look_core.proofs.ForCallers.{reads_bytes}
 use Rattle.hir_core.specs.Tree.{Tree, empty}
-use Rattle.hir_core.specs.Means.{Looks}
 use Rattle.hir_core.specs.Facts.{LoopsRead, looks_used}
 use Rattle.hir_core.specs.PreferredEnds.{preferred_ends}
 use Rattle.hir_core.proofs.ForCallers.{same_ends_from}
@@ -55,20 +53,22 @@ use Rattle.hirscan.proofs.SpanChoiceLemmas.{no_offer, first_offer}
 
 -- ---- answers by the first choice of each place
 
-same_leftmost : (f g : ℕ → List (ℕ × ℕ)) (n i : ℕ) → ((k : ℕ) → i ≤ k → k < i + n → first_choice k (f k) ≡ first_choice k (g k)) →
-    leftmost f n i ≡ leftmost g n i
+same_leftmost : (f g : ℕ → List (ℕ × ℕ)) (n i : ℕ) →
+    ((k : ℕ) → i ≤ k → k < i + n → first_choice k (f k) ≡ first_choice k (g k)) → leftmost f n i ≡ leftmost g n i
 same_leftmost f g zero i same = refl
 same_leftmost f g (suc n) i same =
-    ap₂ option_or (same i (omega arith) (omega arith)) (same_leftmost f g n (i + 1) (λ k low high. same k (omega (arith, low)) (omega (arith, high))))
+    ap₂ option_or (same i (omega arith) (omega arith))
+    (same_leftmost f g n (i + 1) (λ k low high. same k (omega (arith, low)) (omega (arith, high))))
 
-same_answer : (f g : ℕ → List (ℕ × ℕ)) (mode : Anchored) (s e : ℕ) → ((k : ℕ) → k ≤ e → first_choice k (f k) ≡ first_choice k (g k)) →
-    leftmost_answer f mode s e ≡ leftmost_answer g mode s e
+same_answer : (f g : ℕ → List (ℕ × ℕ)) (mode : Anchored) (s e : ℕ) →
+    ((k : ℕ) → k ≤ e → first_choice k (f k) ≡ first_choice k (g k)) → leftmost_answer f mode s e ≡ leftmost_answer g mode s e
 same_answer f g mode s e same = by_order (nat_le s e) (λ is. leb-true s e is)
   where
     walked : s ≤ e → leftmost f (last_start mode s e + 1 - s) s ≡ leftmost g (last_start mode s e + 1 - s) s
     walked fits =
         let last = last_within mode s e fits in
         same_leftmost f g (last_start mode s e + 1 - s) s (λ k low high. same k (omega (arith, low, high, last.0, last.1)))
+
     by_order : (b : Bool) → (b ≡ true → s ≤ e) →
         (if b then leftmost f (last_start mode s e + 1 - s) s else None) ≡ (if b then leftmost g (last_start mode s e + 1 - s) s else None)
     by_order true fits = walked (fits refl)
@@ -76,12 +76,14 @@ same_answer f g mode s e same = by_order (nat_le s e) (λ is. leb-true s e is)
 
 -- ---- words, where none of characters is asked for
 
-same_map : (f g : Tree → List ℕ) (xs : List Tree) → ((k : ℕ) (x : Tree) → slice_get xs k ≡ Some x → f x ≡ g x) → map f xs ≡ map g xs
+same_map : (f g : Tree → List ℕ) (xs : List Tree) → ((k : ℕ) (x : Tree) → slice_get xs k ≡ Some x → f x ≡ g x) →
+    map f xs ≡ map g xs
 same_map f g [] same = refl
-same_map f g (x ∷ xs) same = ap₂ (λ (y : List ℕ) (ys : List (List ℕ)). y ∷ ys) (same 0 x refl) (same_map f g xs (λ k y at. same (suc k) y at))
+same_map f g (x ∷ xs) same =
+    ap₂ (λ (y : List ℕ) (ys : List (List ℕ)). y ∷ ys) (same 0 x refl) (same_map f g xs (λ k y at. same (suc k) y at))
 
-no_word : (xs : List Tree) → HasNoUnicodeWord xs → (k : ℕ) (x : Tree) (l : Look) → slice_get xs k ≡ Some x → has_look (looks_used x) l ≡ true →
-    is_word_unicode l ≡ false
+no_word : (xs : List Tree) → HasNoUnicodeWord xs → (k : ℕ) (x : Tree) (l : Look) → slice_get xs k ≡ Some x →
+    has_look (looks_used x) l ≡ true → is_word_unicode l ≡ false
 no_word xs none k x l listed used = ⊎_elim
     (λ (word : is_word_unicode l ≡ true).
     let there : has_any is_word_unicode (looks_used (get_or xs k empty)) ≡ true =
@@ -92,7 +94,8 @@ no_word xs none k x l listed used = ⊎_elim
     (λ (plain : is_word_unicode l ≡ false). plain)
     (cases_Bool (is_word_unicode l))
 
-module _ (xs : List Tree) (t : Terminator) (q : Search) (inside : q.end ≤ length q.haystack) (plain : HasNoUnicodeWord xs) (words : ℕ → Bool) where
+module _ (xs : List Tree) (t : Terminator) (q : Search) (inside : q.end ≤ length q.haystack) (plain : HasNoUnicodeWord xs)
+    (words : ℕ → Bool) where
   abbrev by_words : Query
   by_words = query_of xs false (holds words t q.haystack) q
 
@@ -107,7 +110,8 @@ module _ (xs : List Tree) (t : Terminator) (q : Search) (inside : q.end ≤ leng
 
   words_as_bytes : (i : ℕ) → i ≤ q.end → first_choice i (choices_at by_words i) ≡ first_choice i (choices_at by_bytes i)
   words_as_bytes i low =
-      ap (λ (ends : List (List ℕ)). first_choice i (if counts false q.haystack i then choices (allowed q.anchored (length xs)) (may_end by_words) 0 ends else []))
+      ap (λ (ends : List (List ℕ)). first_choice i
+      (if counts false q.haystack i then choices (allowed q.anchored (length xs)) (may_end by_words) 0 ends else []))
       (same_ends i low)
 
 -- ---- the first choice of a place by the first offer there
@@ -153,8 +157,8 @@ module _ (o : Options) (xs : List Tree) (n : Nfa) (compiled : IsCompiled o xs n)
         (firsts_in (Pattern p)).firsts i name (omega arith) low named ∙ ap first_of (one_place (offers_in (Pattern p)) i)
 
   -- ---- two haystacks
-  module _ (sound : IsSound n.automaton) (marks : List Bool) (has : HasMarks marks (marks_of n.terminator n.automaton.states)) (h g : List ℕ) (e : ℕ)
-      (in_h : e ≤ length h) (bytes_h : All (λ b. b < 256) h) (bytes_g : All (λ b. b < 256) g) (same : HaveSameClasses marks h g) where
+  module _ (sound : IsSound n.automaton) (marks : List Bool) (has : HasMarks marks (marks_of n.terminator n.automaton.states))
+      (h g : List ℕ) (e : ℕ) (in_h : e ≤ length h) (bytes_h : All (λ b. b < 256) h) (bytes_g : All (λ b. b < 256) g) (same : HaveSameClasses marks h g) where
     in_g : e ≤ length g
     in_g = let len = same.0 in omega (arith, in_h, len)
 
@@ -162,7 +166,8 @@ module _ (o : Options) (xs : List Tree) (n : Nfa) (compiled : IsCompiled o xs n)
     ends_same p = ends_alike n.automaton n.terminator marks h g sound has bytes_h bytes_g same 0 e p
 
     same_of_all : (i : ℕ) → i ≤ e → first_of (offers_in h e in_h bytes_h Yes i) ≡ first_of (offers_in g e in_g bytes_g Yes i)
-    same_of_all i low = sym (first_of_all h e in_h bytes_h i low) ∙ ap first (ends_same (i, n.automaton.start_anchored)) ∙ first_of_all g e in_g bytes_g i low
+    same_of_all i low =
+        sym (first_of_all h e in_h bytes_h i low) ∙ ap first (ends_same (i, n.automaton.start_anchored)) ∙ first_of_all g e in_g bytes_g i low
 
     same_of_one : (p i : ℕ) → i ≤ e → (name : Option ℕ) → start_name n.automaton (Pattern p) ≡ name →
         first_of (offers_in h e in_h bytes_h (Pattern p) i) ≡ first_of (offers_in g e in_g bytes_g (Pattern p) i)
@@ -171,7 +176,8 @@ module _ (o : Options) (xs : List Tree) (n : Nfa) (compiled : IsCompiled o xs n)
     same_of_one p i low (Some name) is =
         sym (first_of_one h e in_h bytes_h p name i low is) ∙ ap first (ends_same (i, name)) ∙ first_of_one g e in_g bytes_g p name i low is
 
-    same_first : (mode : Anchored) (i : ℕ) → i ≤ e → first_of (offers_in h e in_h bytes_h mode i) ≡ first_of (offers_in g e in_g bytes_g mode i)
+    same_first : (mode : Anchored) (i : ℕ) → i ≤ e →
+        first_of (offers_in h e in_h bytes_h mode i) ≡ first_of (offers_in g e in_g bytes_g mode i)
     same_first No i low = same_of_all i low
     same_first Yes i low = same_of_all i low
     same_first (Pattern p) i low = same_of_one p i low (start_name n.automaton (Pattern p)) refl
@@ -185,8 +191,8 @@ fits_bytes q off inside = record { within = inside; valid = λ on. absurd (never
     never on = let no_way : true ≡ false = sym on ∙ off in grind (arith, no_way)
 
 module _ (o : Options) (xs : List Tree) (n : Nfa) (compiled : IsCompiled o xs n) (up : reverse_of o ≡ false) (loops : All LoopsRead xs)
-    (plain : HasNoUnicodeWord xs) (sound : IsSound n.automaton) (marks : List Bool) (has : HasMarks marks (marks_of n.terminator n.automaton.states))
-    (q : Search) (g : List ℕ) (inside : q.end ≤ length q.haystack) (bytes_h : All (λ b. b < 256) q.haystack) (bytes_g : All (λ b. b < 256) g)
+    (plain : HasNoUnicodeWord xs) (sound : IsSound n.automaton) (marks : List Bool)
+    (has : HasMarks marks (marks_of n.terminator n.automaton.states)) (q : Search) (g : List ℕ) (inside : q.end ≤ length q.haystack) (bytes_h : All (λ b. b < 256) q.haystack) (bytes_g : All (λ b. b < 256) g)
     (same : HaveSameClasses marks q.haystack g) (words : ℕ → Bool) where
   abbrev elsewhere : Search
   elsewhere = record q { haystack = g }
@@ -208,8 +214,9 @@ module _ (o : Options) (xs : List Tree) (n : Nfa) (compiled : IsCompiled o xs n)
 
   pub answer_by_marks : answer_from (query_of xs false (holds words n.terminator q.haystack) q) q.start ≡
       answer_from (query_of xs false (holds words n.terminator g) elsewhere) q.start
-  answer_by_marks = same_answer (choices_at (by_words xs n.terminator q inside plain words)) (choices_at (by_words xs n.terminator elsewhere inside_g plain words))
-      q.anchored q.start q.end
+  answer_by_marks =
+      same_answer (choices_at (by_words xs n.terminator q inside plain words))
+      (choices_at (by_words xs n.terminator elsewhere inside_g plain words)) q.anchored q.start q.end
       (λ k low. words_as_bytes xs n.terminator q inside plain words k low ∙ choices_same k low
       ∙ sym (words_as_bytes xs n.terminator elsewhere inside_g plain words k low))
 
@@ -224,18 +231,20 @@ all_same_classes classes marks h g bytes_h bytes_g by alike = (
       (All-get_or (λ b. b < 256) g k 0 (let len = alike.0 in omega (arith, low, len)) bytes_g) (alike.1 k low),
 )
 
-pub answer_by_classes : (xs : List Tree) (t : Terminator) (p : Pair) → IsRegexOf xs false t p → HasItsClasses p → All LoopsRead xs → HasNoUnicodeWord xs →
-    (q : Search) (g : List ℕ) → q.end ≤ length q.haystack → All (λ byte. byte < 256) q.haystack → All (λ byte. byte < 256) g →
+pub answer_by_classes : (xs : List Tree) (t : Terminator) (p : Pair) → IsRegexOf xs false t p → HasItsClasses p →
+    All LoopsRead xs → HasNoUnicodeWord xs → (q : Search) (g : List ℕ) → q.end ≤ length q.haystack → All (λ byte. byte < 256) q.haystack → All (λ byte. byte < 256) g →
     IsAlike p.forward.classes q.haystack g → (words : ℕ → Bool) →
-    answer_from (query_of xs false (holds words t q.haystack) q) q.start ≡ answer_from (query_of xs false (holds words t g) (record q { haystack = g })) q.start
+    answer_from (query_of xs false (holds words t q.haystack) q) q.start ≡
+    answer_from (query_of xs false (holds words t g) (record q { haystack = g })) q.start
 answer_by_classes xs t p regex own loops plain q g inside bytes_h bytes_g alike words =
     let by = classes_by_marks p.forward.nfa p.forward.options in
     let same = all_same_classes (classes_of p.forward.nfa p.forward.options) by.0 q.haystack g bytes_h bytes_g by.2
-        (subst (λ (classes : List ℕ). IsAlike classes q.haystack g) own alike) in
+    (subst (λ (classes : List ℕ). IsAlike classes q.haystack g) own alike) in
     let lines : p.forward.nfa.terminator ≡ t = up_ends_lines xs false t p regex in
     subst (λ (ends : Terminator). answer_from (query_of xs false (holds words ends q.haystack) q) q.start ≡
     answer_from (query_of xs false (holds words ends g) (record q { haystack = g })) q.start) lines
-    (answer_by_marks regex.up_options xs p.forward.nfa regex.up regex.reads_up loops plain regex.forward.sound by.0 by.1 q g inside bytes_h bytes_g same words)
+    (answer_by_marks regex.up_options xs p.forward.nfa regex.up regex.reads_up loops plain regex.forward.sound by.0 by.1 q g inside
+    bytes_h bytes_g same words)
 
 pub built_has_its_classes : (n m : Nfa) (c : DfaOptions) (p : Pair) → pair_built n m c ≡ Ok p → HasItsClasses p
 built_has_its_classes n m c p is = subst HasItsClasses (sym (pair_is n m c p is)) refl

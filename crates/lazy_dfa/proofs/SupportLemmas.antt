@@ -1,5 +1,5 @@
 -- Whether an automaton has starts for each pattern shows in its searches only by whether it can search in their mode.
-use Rattle.std.proofs.Common.{◌≡◌, ℕ, zero, suc, ◌-◌, Bool, true, false, ◌&&◌, not, List, Option, Some, None, if◌then◌else◌, refl, sym, ap, ◌∙◌}
+use Rattle.std.proofs.Common.{◌≡◌, ℕ, zero, suc, ◌-◌, Bool, ◌&&◌, not, List, Option, Some, None, if◌then◌else◌, refl, ap, ◌∙◌}
 use Rattle.std.specs.Bool.{nat_le}
 use Rattle.search_types.specs.declared.anchored.Anchored.{Anchored}
 use Rattle.search_types.specs.Inputs.{Search}
@@ -52,10 +52,10 @@ module _ (r : Reader) (b : Bool) where
 
     begun_alike : (n i : ℕ) → begun_at r mode earliest h n i ≡ begun_at other mode earliest h n i
     begun_alike n i =
-        ap (λ (x : HalfAnswer). if is_anchored mode then unless_split (counts r.between_characters h) x (found None) else passes r mode earliest h n i)
-        (one_alike n i)
-        ∙ ap (λ (x : HalfAnswer). if is_anchored mode then unless_split (counts r.between_characters h) (pass other mode earliest h n i) (found None)
-        else x) (each_alike n i)
+        ap (λ (x : HalfAnswer). if is_anchored mode then unless_split (counts r.between_characters h) x (found None)
+        else passes r mode earliest h n i) (one_alike n i)
+        ∙ ap (λ (x : HalfAnswer). if is_anchored mode
+        then unless_split (counts r.between_characters h) (pass other mode earliest h n i) (found None) else x) (each_alike n i)
 
 -- ---- readers that differ in nothing else
 

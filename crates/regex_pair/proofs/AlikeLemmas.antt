@@ -1,5 +1,5 @@
 -- Pairs over the same NFAs answer alike, whatever else was set.
-use Rattle.std.proofs.Common.{◌≡◌, ℕ, ◌==◌, ◌||◌, Bool, true, false, ◌&&◌, not, Option, Some, None, if◌then◌else◌, refl, ap, ◌∙◌}
+use Rattle.std.proofs.Common.{◌≡◌, ℕ, ◌==◌, ◌||◌, Bool, ◌&&◌, not, Option, Some, None, if◌then◌else◌, refl, ap, ◌∙◌}
 use Rattle.std.specs.Prelude.{Result, Ok}
 use Rattle.search_types.specs.declared.match_error.MatchErrorKind.{MatchErrorKind}
 use Rattle.search_types.specs.Found.{Found}
@@ -20,7 +20,8 @@ use Rattle.regex_pair.specs.Pairs.{Pair}
 joins_alike : (f g r s : Reader) (q : Search) (a : HalfAnswer) → f.automaton ≡ g.automaton →
     ((e : ℕ) → scan r (back_from q e) ≡ scan s (back_from q e)) → join f r q a ≡ join g s q a
 joins_alike f g r s q (found (Some e)) same back =
-    ap (λ (a : Automaton). known_or (e.0 == q.start || is_anchored q.anchored || a.start_anchored == a.start_unanchored) (scan r (back_from q e.0))) same
+    ap (λ (a : Automaton). known_or (e.0 == q.start || is_anchored q.anchored || a.start_anchored == a.start_unanchored)
+    (scan r (back_from q e.0))) same
     ∙ ap (known_or (is_start_known g q e.0)) (back e.0)
   where
     known_or : Bool → HalfAnswer → Result (Option Found) MatchErrorKind
