@@ -115,8 +115,8 @@ fn write_reply<W: Write>(writer: &mut W, text: &[u8]) -> Result<(), RunError>
 }
 
 /// Reads a head and a haystack to the end, and writes the reply: a line `pattern start end` for each
-/// span of the list of all answers, or one line that begins `refused: `. The whole reply is made
-/// before the first write.
+/// span of the list of all answers, which ends in a line that begins `quit: ` where a search gives up
+/// at a quit byte; or one line that begins `refused: `. The whole reply is made before the first write.
 pub fn run<R: Read, W: Write>(
     alloc: Global,
     reader: &mut R,

@@ -136,9 +136,11 @@ fn regex_of(alloc: Global, head: &Head) -> Result<Option<Regex>, AllocError>
         Ok(regex) => Ok(Some(regex)),
         Err(BuildError::NFA { .. }) => Ok(None),
         Err(BuildError::NoMemory) => Err(AllocError),
-        Err(BuildError::InsufficientCacheCapacity { .. }) => unreachable!(),
-        Err(BuildError::InsufficientStateIDCapacity) => unreachable!(),
-        Err(BuildError::Unsupported) => unreachable!(),
+        Err(
+            BuildError::InsufficientCacheCapacity { .. }
+            | BuildError::InsufficientStateIDCapacity
+            | BuildError::Unsupported,
+        ) => unreachable!(), // the program's settings rule them out
     }
 }
 
