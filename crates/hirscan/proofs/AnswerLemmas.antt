@@ -1,7 +1,7 @@
 -- What is known of an answer: its pattern means its span, and where it stands.
-use Rattle.std.proofs.Common.{◌≡◌, ℕ, suc, ◌+◌, ◌-◌, ◌≤◌, Bool, true, false, cond, List, [], ◌∷◌, ◌++◌, map, length, Option, Some, None, slice_get, nat_le, refl, sym, ap, ◌∙◌, subst, inl, inr, arith, leb-true}
-use Rattle.std.specs.Option.{option_or}
-use Rattle.std.specs.List.{filter}
+use Rattle.std.proofs.Common.{◌≡◌, ℕ, zero, suc, if◌then◌else◌, ◌+◌, ◌-◌, ◌≤◌, Bool, true, false, cond, List, [], ◌∷◌, ◌++◌, map, length, Option, Some, None, slice_get, nat_le, refl, sym, ap, ◌∙◌, subst, inl, inr, arith, leb-true}
+use Rattle.std.specs.List.{All, filter}
+use Rattle.std.proofs.lemmas.List.Elements.{All-cons}
 use Rattle.std.proofs.lemmas.Bool.{and_parts}
 use Rattle.hir_core.specs.Tree.{Tree}
 use Rattle.hir_core.specs.Means.{Means}
@@ -10,28 +10,10 @@ use Rattle.hir_core.proofs.ForCallers.{preferred_ends_sound, span_forward}
 use Rattle.search_types.specs.Found.{Found}
 use Rattle.search_types.specs.Modes.{allowed}
 use Rattle.search_types.specs.Places.{counts}
-use Rattle.search_types.specs.LeftmostAnswer.{first_choice, leftmost, IsLeftmost, IsAnswer}
-use Rattle.search_types.proofs.ForCallers.{starts_at, computed_is_answer}
-use Rattle.hirscan.specs.Choices.{Query, pattern_choices, choices, ends_at, may_end, choices_at, answer_from}
-use Rattle.search_types.specs.AllAnswers.{AnswersWithin}
-
--- a place without a choice is passed
-pub leftmost_step : (cs : ℕ → List (ℕ × ℕ)) (last i : ℕ) → i ≤ last → None ≡ first_choice i (cs i) →
-    leftmost cs (last + 1 - i) i ≡ leftmost cs (last + 1 - (i + 1)) (i + 1)
-leftmost_step cs last i l none =
-    let one : last + 1 - i ≡ suc (last + 1 - (i + 1)) = omega arith in
-    ap (λ n. leftmost cs n i) one ∙ ap (λ o. option_or o (leftmost cs (last + 1 - (i + 1)) (i + 1))) (sym none)
-
--- the place with the first choice is found
-pub leftmost_found : (cs : ℕ → List (ℕ × ℕ)) (last i : ℕ) (f : Found) → i ≤ last → Some f ≡ first_choice i (cs i) →
-    Some f ≡ leftmost cs (last + 1 - i) i
-leftmost_found cs last i f l found =
-    let one : last + 1 - i ≡ suc (last + 1 - (i + 1)) = omega arith in
-    sym (ap (λ n. leftmost cs n i) one ∙ ap (λ o. option_or o (leftmost cs (last + 1 - (i + 1)) (i + 1))) (sym found))
-
--- no place is left
-pub leftmost_none : (cs : ℕ → List (ℕ × ℕ)) (last i : ℕ) → last + 1 - i ≡ 0 → None ≡ leftmost cs (last + 1 - i) i
-leftmost_none cs last i e = ap (λ n. leftmost cs n i) (sym e)
+use Rattle.search_types.specs.LeftmostAnswer.{first_choice, IsLeftmost, IsAnswer}
+use Rattle.search_types.proofs.ForCallers.{starts_at, computed_is_answer, ends_rise, spans_within}
+use Rattle.hirscan.specs.Choices.{Query, pattern_choices, choices, ends_at, may_end, choices_at, answer_from, answers_of}
+use Rattle.search_types.specs.AllAnswers.{AnswersWithin, EndsRise, and_on, answers_from, is_repeat, next_answer}
 
 found_is_leftmost : (q : Query) (s : ℕ) (o : Option Found) (f : Found) → o ≡ Some f → IsAnswer (choices_at q) q.mode s q.end o → IsLeftmost (choices_at q) q.mode s q.end f
 found_is_leftmost q s None f is a = cc
@@ -143,3 +125,49 @@ module _ (q : Query) where
     start_counts f.start f (counts q.utf8 q.haystack f.start) refl (answer_found q s f is).first,
     (and_parts (nat_le f.end q.end) (counts q.utf8 q.haystack f.end) (tree_chosen s f is).end_kept).1,
   )
+
+-- ---- all answers
+abbrev Counts : Query → Found → Type 0
+Counts q f = (counts q.utf8 q.haystack f.start ≡ true) × (counts q.utf8 q.haystack f.end ≡ true)
+
+next_counts : (q : Query) (at : ℕ) (f : Found) (again : Bool) → (if again then answer_from q (at + 1) else answer_from q at) ≡ Some f → Counts q f
+next_counts q at f true is = answer_counts q (at + 1) f is
+next_counts q at f false is = answer_counts q at f is
+
+more_count : (q : Query) (last : Option ℕ) (at : ℕ) (o : Option Found) (rest : Found → List Found) → next_answer (answer_from q) last at ≡ o →
+    ((f : Found) → All (Counts q) (rest f)) → All (Counts q) (and_on o rest)
+more_count q last at None rest is others = λ k f less. absurd (omega (arith, less))
+more_count q last at (Some f) rest is others = All-cons (Counts q) f (rest f) (next_counts q at f (is_repeat last (answer_from q at)) is) (others f)
+
+all_count : (q : Query) (n : ℕ) (last : Option ℕ) (at : ℕ) → All (Counts q) (answers_from (answer_from q) n last at)
+all_count q zero last at = λ k f less. absurd (omega (arith, less))
+all_count q (suc n) last at =
+    more_count q last at (next_answer (answer_from q) last at) (λ f. answers_from (answer_from q) n (Some f.end) f.end) refl
+    (λ f. all_count q n (Some f.end) f.end)
+
+-- in UTF-8 mode they start and end at places that count
+pub answers_count : (q : Query) (s : ℕ) → All (Counts q) (answers_of q s)
+answers_count q s = all_count q (q.end + 2 - s) None s
+
+-- their ends rise
+pub answers_rise : (q : Query) (s : ℕ) → EndsRise None (answers_of q s)
+answers_rise q s = ends_rise (answer_from q) q.end (answers_within q) s
+
+few_behind : (last end : ℕ) (fs : List Found) → last ≤ end → EndsRise (Some last) fs → All (λ f. f.end ≤ end) fs → length fs ≤ end - last
+few_behind last end [] within rises below = omega arith
+few_behind last end (f ∷ fs) within rises below =
+    let high : f.end ≤ end = below 0 f (omega arith) in
+    let rest = few_behind f.end end fs high rises.1 (λ k d less. below (suc k) d (omega (arith, less))) in
+    omega (arith, rises.0, high, rest)
+
+few_within : (s end : ℕ) (fs : List Found) → EndsRise None fs → All (λ f. (s ≤ f.start) × (f.start ≤ f.end) × (f.end ≤ end)) fs →
+    length fs ≤ end + 1 - s
+few_within s end [] rises spans = omega arith
+few_within s end (f ∷ fs) rises spans =
+    let first = spans 0 f (omega arith) in
+    let rest = few_behind f.end end fs first.2 rises (λ k d less. (spans (suc k) d (omega (arith, less))).2) in
+    omega (arith, first.0, first.1, first.2, rest)
+
+-- so there is at most one for each place
+pub few_answers : (q : Query) (s : ℕ) → length (answers_of q s) ≤ q.end + 1 - s
+few_answers q s = few_within s q.end (answers_of q s) (answers_rise q s) (spans_within (answer_from q) q.end (answers_within q) s)

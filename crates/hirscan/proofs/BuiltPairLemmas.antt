@@ -30,7 +30,7 @@ use Rattle.hirscan.specs.Regexes.{IsRegexOf}
 use Rattle.hirscan.proofs.RegexLemmas.{any_by_member}
 
 -- ---- what is built
-abbrev pair_of : Nfa → Nfa → DfaOptions → Pair
+abbrev pub pair_of : Nfa → Nfa → DfaOptions → Pair
 pair_of n m c = record { forward = dfa_of n c; reverse = dfa_of m (changed_by c back_options) }
 
 abbrev dfa_ok : Dfa → Result Dfa BuildError
@@ -63,7 +63,7 @@ dfa_is n c d is =
     if_ok (is_unsupported n.automaton (word_boundary_of c) (by_hand c)) (is_too_small n c) Unsupported
     (InsufficientCacheCapacity (least_capacity (measures_with n c)) (capacity_of c)) (dfa_of n c) d is
 
-pair_is : (n m : Nfa) (c : DfaOptions) (p : Pair) → pair_built n m c ≡ pair_ok p → p ≡ pair_of n m c
+pub pair_is : (n m : Nfa) (c : DfaOptions) (p : Pair) → pair_built n m c ≡ pair_ok p → p ≡ pair_of n m c
 pair_is n m c p is =
     let both = both_built (built n c) (built m (changed_by c back_options)) p is in
     joined_parts (dfa_is n c p.forward both.0) (dfa_is m (changed_by c back_options) p.reverse both.1)
@@ -72,7 +72,7 @@ pair_is n m c p is =
     joined_parts f r = λ i. record { forward = f i; reverse = r i }
 
 -- ---- words in both directions
-turned_words : (l : Look) → is_word_unicode (reversed l) ≡ is_word_unicode l
+pub turned_words : (l : Look) → is_word_unicode (reversed l) ≡ is_word_unicode l
 turned_words Start = refl
 turned_words End = refl
 turned_words StartLF = refl
@@ -103,7 +103,7 @@ module _ (test : Look → Bool) (s : ℕ) where
       (λ (other : passes x ≡ false). any_in ls (sym (ap (λ b. b || list_any passes ls) other) ∙ e))
       (cases_Bool (passes x))
 
-  member_of_any : has_any test s ≡ true → (l : Look) × (has_look s l ≡ true) × (test l ≡ true)
+  pub member_of_any : has_any test s ≡ true → (l : Look) × (has_look s l ≡ true) × (test l ≡ true)
   member_of_any e = any_in all_looks e
 
 pub same_truth : (a b : Bool) → (a ≡ true → b ≡ true) → (b ≡ true → a ≡ true) → a ≡ b

@@ -1,19 +1,58 @@
--- What reading a haystack as UTF-8 says of its longest valid beginning, and what follows where nothing is refused.
-use Rattle.std.proofs.Common.{◌≡◌, ℕ, ◌≤◌, Bool, true, false, not, List, [], ◌∷◌, length, Option, Some, None, nat_lt, refl, arith, codes}
-use Rattle.std.specs.Str.{IsUtf8, IsValidUpTo}
-use Rattle.std.proofs.lemmas.Str.{utf8_valid_len-IsUtf8, utf8_valid_len-IsValidUpTo}
-use Rattle.std.proofs.lemmas.Bool.{le-ltb, lt-ltb, ltb-false, not-false}
+-- What reading a haystack as UTF-8 says of its longest valid beginning, and what is searched where nothing is refused.
+use Rattle.std.proofs.Common.{◌≡◌, ℕ, zero, suc, ◌+◌, ◌<◌, ◌≤◌, Bool, true, false, not, if◌then◌else◌, List, [], ◌∷◌, All, length, take, Option, Some, None, option_map, nat_lt, nat_le, get_or, true≢false, refl, sym, subst, arith, codes, decimal, ◌++◌, leb-true}
+use Rattle.std.specs.List.{position, position_or_len}
+use Rattle.std.proofs.lemmas.List.Sums.{fails_before_first}
+use Rattle.std.specs.Str.{IsUtf8, IsValidUpTo, is_utf8}
+use Rattle.std.specs.Str.Lossy.{utf8_valid_len, valid_len_up_to}
+use Rattle.std.proofs.lemmas.Str.{IsUtf8-nil, IsUtf8-from_is_utf8, utf8_valid_len-IsUtf8, utf8_valid_len-IsValidUpTo, utf8_valid_len_le}
+use Rattle.std.proofs.lemmas.List.{take_all}
+use Rattle.std.proofs.lemmas.Bool.{and_parts, le-ltb, lt-ltb, ltb-false, not-false}
+use Rattle.search_core.specs.Utf8.{IsValidText}
+use Rattle.search_core.proofs.ForCallers.{valid_of_utf8}
 use Rattle.hir_core.specs.Tree.{Tree}
-use Rattle.hir_core.specs.Facts.{list_count}
-use Rattle.hirscan.specs.Takes.{Settings}
-use Rattle.hirscan.specs.Refusals.{first_cause, cause_if, first_broken, span_of, is_span, pattern_causes, haystack_causes, refusal}
+use Rattle.hir_core.specs.Facts.{LoopsRead, is_utf8_tree}
+use Rattle.hirscan.specs.declared.line.Setup.{Setup}
+use Rattle.hirscan.specs.Asks.{search_of}
+use Rattle.hirscan.specs.Loops.{loops_read, first_empty_loop}
+use Rattle.hirscan.specs.Refusals.{first_cause, cause_if, of_pattern, where_utf8, first_not_utf8, first_broken, span_of, is_span, pattern_causes, haystack_causes, refusal}
+use Rattle.hirscan.specs.Regexes.{IsSearchOf}
+use Rattle.hirscan.proofs.LoopLemmas.{loops_read_sound}
 
+-- ---- UTF-8
 pub whole_text : (h : List ℕ) → IsUtf8 h → first_broken h ≡ None
 whole_text h u = rw (utf8_valid_len-IsUtf8 h u, le-ltb (length h) (length h) (omega arith)) refl
 
 pub broken_text : (h : List ℕ) (n : ℕ) → IsValidUpTo h n → first_broken h ≡ Some n
 broken_text h n v = rw (utf8_valid_len-IsValidUpTo h n v, lt-ltb n (length h) v.short) refl
 
+up_to_le : (h : List ℕ) (n : ℕ) → valid_len_up_to h n ≤ n
+up_to_le h zero = omega arith
+up_to_le h (suc n) =
+    elim (is_utf8 (take (suc n) h)) as (λ (b : Bool). (if b then suc n else valid_len_up_to h n) ≤ suc n)
+    [ true ↦ omega arith | false ↦ omega (arith, up_to_le h n) ]
+
+up_to_all : (h : List ℕ) (n : ℕ) → valid_len_up_to h n ≡ n → IsUtf8 (take n h)
+up_to_all h zero e = IsUtf8-nil
+up_to_all h (suc n) e = by_test (is_utf8 (take (suc n) h)) refl e where
+  by_test : (b : Bool) → is_utf8 (take (suc n) h) ≡ b → (if b then suc n else valid_len_up_to h n) ≡ suc n → IsUtf8 (take (suc n) h)
+  by_test true is e = IsUtf8-from_is_utf8 (take (suc n) h) is
+  by_test false is e = absurd (let less = up_to_le h n in omega (arith, less, e))
+
+all_valid : (h : List ℕ) → utf8_valid_len h ≡ length h → IsUtf8 h
+unfolding utf8_valid_len
+all_valid h e = subst (λ (t : List ℕ). IsUtf8 t) (take_all (length h) h (omega arith)) (up_to_all h (length h) e)
+
+none_if : (b : Bool) (n : ℕ) → (if b then Some n else None) ≡ None → b ≡ false
+none_if true n e = absurd cc
+none_if false n e = refl
+
+text_of_none : (h : List ℕ) → first_broken h ≡ None → IsValidText h
+text_of_none h e =
+    let high = ltb-false (utf8_valid_len h) (length h) (none_if (nat_lt (utf8_valid_len h) (length h)) (utf8_valid_len h) e) in
+    let low = utf8_valid_len_le h in
+    valid_of_utf8 h (all_valid h (omega (arith, high, low)))
+
+-- ---- causes that don't apply
 first_none : (a : Option (List ℕ)) (rest : List (Option (List ℕ))) → first_cause (a ∷ rest) ≡ None → (a ≡ None) × (first_cause rest ≡ None)
 first_none None rest e = (refl, e)
 first_none (Some c) rest e = absurd cc
@@ -22,23 +61,71 @@ no_cause : (b : Bool) (c : List ℕ) → cause_if b c ≡ None → b ≡ false
 no_cause true c e = absurd cc
 no_cause false c e = refl
 
--- where nothing is refused, the span lies in the haystack, and the patterns are few
-pub span_fits : (settings : Settings) (xs : List Tree) (h : List ℕ) → refusal settings xs h ≡ None → is_span (span_of settings.span h) h ≡ true
-span_fits settings xs h e =
-    let a = first_none (pattern_causes settings.utf8 xs) _ e in
-    let b = first_none (haystack_causes settings.utf8 settings.span h) _ a.1 in
-    let c = first_none _ (cause_if (not (is_span (span_of settings.span h) h)) (codes "span") ∷ []) b.0 in
-    let d = first_none (cause_if (not (is_span (span_of settings.span h) h)) (codes "span")) [] c.1 in
-    not-false _ (no_cause _ (codes "span") d.0)
+unmapped : (f : ℕ → List ℕ) (o : Option ℕ) → option_map f o ≡ None → o ≡ None
+unmapped f None e = refl
+unmapped f (Some n) e = absurd cc
 
-few_of_count : (xs : List Tree) → list_count xs ≤ 16384 → length xs ≤ list_count xs
-few_of_count [] l = omega arith
-few_of_count (x ∷ xs) l = omega (arith, few_of_count xs (omega arith))
+asked_utf8 : (on : Bool) (o : Option ℕ) → where_utf8 on o ≡ None → on ≡ true → o ≡ None
+asked_utf8 true o none on = none
+asked_utf8 false o none on = absurd (true≢false (sym on))
 
-pub few_patterns : (settings : Settings) (xs : List Tree) (h : List ℕ) → refusal settings xs h ≡ None → length xs ≤ 16384
-few_patterns settings xs h e =
-    let a = first_none (pattern_causes settings.utf8 xs) _ e in
-    let b = first_none (haystack_causes settings.utf8 settings.span h) _ a.1 in
-    let c = first_none (cause_if (nat_lt 16384 (list_count xs)) (codes "size limit")) [] b.1 in
-    let small = ltb-false 16384 (list_count xs) (no_cause _ (codes "size limit") c.0) in
-    omega (arith, few_of_count xs (omega arith))
+none_at : {X : Type 0} (test : X → Bool) (xs : List X) → position (λ x. not (test x)) xs ≡ None → All (λ x. test x ≡ true) xs
+none_at test xs e k d less =
+    let none = ltb-false (position_or_len (λ x. not (test x)) xs) (length xs)
+    (none_if (nat_lt (position_or_len (λ x. not (test x)) xs) (length xs)) (position_or_len (λ x. not (test x)) xs) e) in
+    not-false (test (get_or xs k d)) (fails_before_first (λ x. not (test x)) xs k d (omega (arith, none, less)))
+
+-- what is refused for no cause: the loops of its patterns read, and it is a search of a haystack of bytes within it
+module _ (setup : Setup) (xs : List Tree) (h : List ℕ) (none : refusal setup xs h ≡ None) where
+  patterns_pass : pattern_causes setup.settings.utf8 xs ≡ None
+  patterns_pass = (first_none (pattern_causes setup.settings.utf8 xs) (haystack_causes setup.settings.utf8 setup.span h ∷ []) none).0
+
+  haystack_passes : haystack_causes setup.settings.utf8 setup.span h ≡ None
+  haystack_passes =
+      let rest = (first_none (pattern_causes setup.settings.utf8 xs) (haystack_causes setup.settings.utf8 setup.span h ∷ []) none).1 in
+      (first_none (haystack_causes setup.settings.utf8 setup.span h) [] rest).0
+
+  abbrev loop_cause : Option (List ℕ)
+  loop_cause = option_map (of_pattern (codes ": unbounded body may be empty")) (first_empty_loop xs)
+
+  abbrev tree_cause : Option (List ℕ)
+  tree_cause = option_map (of_pattern (codes ": not UTF-8")) (where_utf8 setup.settings.utf8 (first_not_utf8 xs))
+
+  abbrev text_cause : Option (List ℕ)
+  text_cause = option_map (λ b. codes "haystack not UTF-8 at " ++ decimal b) (where_utf8 setup.settings.utf8 (first_broken h))
+
+  abbrev span_cause : Option (List ℕ)
+  span_cause = cause_if (not (is_span (span_of setup.span h) h)) (codes "span")
+
+  pub loops_all_read : All LoopsRead xs
+  loops_all_read k d less =
+      loops_read_sound (get_or xs k d)
+      (none_at loops_read xs (unmapped _ (first_empty_loop xs) (first_none loop_cause (tree_cause ∷ []) patterns_pass).0) k d less)
+
+  utf8_trees : setup.settings.utf8 ≡ true → All (λ x. is_utf8_tree x ≡ true) xs
+  utf8_trees on =
+      let rest = (first_none loop_cause (tree_cause ∷ []) patterns_pass).1 in
+      let found = unmapped _ (where_utf8 setup.settings.utf8 (first_not_utf8 xs)) (first_none tree_cause [] rest).0 in
+      none_at is_utf8_tree xs (asked_utf8 setup.settings.utf8 (first_not_utf8 xs) found on)
+
+  valid_haystack : setup.settings.utf8 ≡ true → IsValidText h
+  valid_haystack on =
+      let found = unmapped _ (where_utf8 setup.settings.utf8 (first_broken h)) (first_none text_cause (span_cause ∷ []) haystack_passes).0 in
+      text_of_none h (asked_utf8 setup.settings.utf8 (first_broken h) found on)
+
+  -- what is searched fits the haystack
+  pub span_fits : is_span (span_of setup.span h) h ≡ true
+  span_fits =
+      let rest = (first_none text_cause (span_cause ∷ []) haystack_passes).1 in
+      not-false (is_span (span_of setup.span h) h) (no_cause (not (is_span (span_of setup.span h) h)) (codes "span") (first_none span_cause [] rest).0)
+
+  pub span_ends : (span_of setup.span h).end ≤ length h
+  span_ends = leb-true (span_of setup.span h).end (length h)
+      (and_parts (nat_le (span_of setup.span h).end (length h)) (nat_le (span_of setup.span h).start ((span_of setup.span h).end + 1)) span_fits).0
+
+  pub span_starts : (search_of setup h).start ≤ (search_of setup h).end + 1
+  span_starts = leb-true (span_of setup.span h).start ((span_of setup.span h).end + 1)
+      (and_parts (nat_le (span_of setup.span h).end (length h)) (nat_le (span_of setup.span h).start ((span_of setup.span h).end + 1)) span_fits).1
+
+  pub is_search : All (λ byte. byte < 256) h → IsSearchOf xs setup.settings.utf8 (search_of setup h)
+  is_search bytes = record { within = span_ends; whole = refl; bytes = bytes; valid = valid_haystack; utf8_trees = utf8_trees }

@@ -46,7 +46,8 @@ pub fault_at_end : (text rest : List ℕ) (here : Standing) (at lines : ℕ) →
 fault_at_end text rest here at lines b one = b.faults 1 NoFindLine (no_line_feed rest here 1 NoFindLine one refl refl)
 
 -- what stands at the end of a head has no tree left over
-pub standing_at_end : (now here : Standing) → now ≡ here → here.stack ≡ [] → record { settings = now.settings; stack = []; patterns = now.patterns } ≡ here
+pub standing_at_end : (now here : Standing) → now ≡ here → here.stack ≡ []
+    → record { setup = now.setup; stack = []; patterns = now.patterns } ≡ here
 standing_at_end now here e none =
     let left : now.stack ≡ [] = ap (λ (s : Standing). s.stack) e ∙ none in
-    sym (ap (λ (s : List Tree). record { settings = now.settings; stack = s; patterns = now.patterns }) left) ∙ e
+    sym (ap (λ (s : List Tree). record { setup = now.setup; stack = s; patterns = now.patterns }) left) ∙ e

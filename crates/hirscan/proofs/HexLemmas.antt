@@ -9,6 +9,7 @@ use Rattle.hex.specs.declared.error.FromHexError.{FromHexError}
 use Rattle.hex.proofs.HexLemmas.{decode_of-ok, decode_of-even}
 use Rattle.hex.proofs.Pairs.{cons_byte, decode_pairs-ok_pair}
 use Rattle.hirscan.specs.Words.{IsHexDigit, SpellsByte, IsHex}
+use Rattle.hirscan.specs.Readers.{both}
 use Rattle.hirscan.specs.Words.IsHexDigit.{from_zero, from_small_a, from_great_a}
 
 -- ---- one digit
@@ -16,7 +17,7 @@ use Rattle.hirscan.specs.Words.IsHexDigit.{from_zero, from_small_a, from_great_a
 value_of : (c v : ℕ) → Some c ≡ Some v → c ≡ v
 value_of c v e = ap (λ o. unwrap_or o 0) e
 
-digit_says : (c v : ℕ) → hex_digit_value c ≡ Some v → IsHexDigit c v
+pub digit_says : (c v : ℕ) → hex_digit_value c ≡ Some v → IsHexDigit c v
 digit_says c v e = elim (cases_Bool (leb 65 c && leb c 70)) [
   | inl t ↦
       let p = and_parts _ _ t in let low = leb-true 65 c p.0 in let high = leb-true c 70 p.1 in
@@ -37,7 +38,7 @@ digit_says c v e = elim (cases_Bool (leb 65 c && leb c 70)) [
   ]
 ]
 
-digit_said : (c v : ℕ) → IsHexDigit c v → hex_digit_value c ≡ Some v
+pub digit_said : (c v : ℕ) → IsHexDigit c v → hex_digit_value c ≡ Some v
 digit_said c v (from_zero l e) = grind (arith, nat_tests)
 digit_said c v (from_small_a l m e) = grind (arith, nat_tests)
 digit_said c v (from_great_a l m e) = grind (arith, nat_tests)
@@ -137,3 +138,9 @@ hex_says w bytes e l =
 pub hex_said : (w bytes : List ℕ) → IsHex w bytes → decode_of w ≡ Ok bytes
 hex_said w bytes h =
     decode_of-even w (let l = h.two_each in omega arith) ∙ pairs_said 0 w bytes h.two_each h.spelled
+
+-- two ends are read just where both are
+pub ends_of : (a b : Option ℕ) → (r : ℕ × ℕ) → both a b ≡ Some r → (a ≡ Some r.0) × (b ≡ Some r.1)
+ends_of None b r e = absurd cc
+ends_of (Some x) None r e = absurd cc
+ends_of (Some x) (Some y) r e = let f : (x, y) ≡ r = cc in (ap (λ (q : ℕ × ℕ). Some q.0) f, ap (λ (q : ℕ × ℕ). Some q.1) f)

@@ -65,7 +65,7 @@ anchored_in a No = Some a.start_anchored
 anchored_in a Yes = Some a.start_anchored
 anchored_in a (Pattern p) = slice_get a.start_pattern p
 
-allowed_named : (p n k : ℕ) → allowed (Pattern p) n k ≡ true → k ≡ p
+pub allowed_named : (p n k : ℕ) → allowed (Pattern p) n k ≡ true → k ≡ p
 allowed_named p n k t = (Decides-eqb k p).0 (and_parts _ _ t).1
 
 -- what a list of ends has, and what it hasn't

@@ -4,75 +4,19 @@ use Rattle.std.specs.Fmt.{decimal}
 use Rattle.std.specs.Str.{bytes_eq}
 use Rattle.std.specs.Str.Parse.{digits_value}
 use Rattle.std.proofs.lemmas.Bool.{cases_Bool, and_parts, eqb-true, eq-eqb, ltb-false, le-ltb}
-use Rattle.std.proofs.lemmas.Slice.Eq.{bytes_eq-Decides}
 use Rattle.std.proofs.lemmas.Fmt.{digits_decimal, digits_value-decimal, decimal-digits_value, decimal_nonempty, decimal_digit, first_decimal}
 use Rattle.hex.specs.Hex.{decode_of}
 use Rattle.hex.specs.declared.error.FromHexError.{FromHexError}
 use Rattle.hirscan.specs.declared.fault.FaultKind.TheVariants.{BadNumber, BadHex, BadRange, BadChoice}
-use Rattle.hirscan.specs.declared.words.LineWord.{LineWord}
-use Rattle.hirscan.specs.declared.words.LineWord.TheVariants.{Utf8, Anchored, Span, Empty, Lit, Bytes, Rep, Cat, Alt, Pattern, Find}
-use Rattle.hirscan.specs.Words.{IsNumber, IsBound, IsGreedy, IsSwitch, IsYes, IsHex, HasEnds, IsItem, AreItems}
-use Rattle.hirscan.specs.Readers.{spelling, line_word, is_number, number, the_number, bound, the_bound, order, the_order, switch, the_switch, yes_or_no, the_yes_or_no, one_or_more, hex_bytes, the_bytes, only_one, hex_byte, both, item_ends, the_ends}
+use Rattle.hirscan.specs.Words.{IsNumber, IsBound, IsGreedy, IsSwitch, IsYes, IsHex, IsHexByte, HasEnds, IsItem, AreItems}
+use Rattle.hirscan.specs.Readers.{is_number, number, the_number, bound, the_bound, order, the_order, switch, the_switch, yes_or_no, the_yes_or_no, one_or_more, hex_bytes, the_bytes, only_one, hex_byte, the_byte, item_ends, the_ends}
 use Rattle.hirscan.specs.LineFault.{first_of, unless_read, ends_fault, item_fault}
 use Rattle.hirscan.proofs.StageLemmas.{first_none, when_none}
-use Rattle.hirscan.proofs.HexLemmas.{hex_says, hex_said}
+use Rattle.hirscan.proofs.HexLemmas.{hex_says, hex_said, ends_of}
+pub use Rattle.hirscan.proofs.NameLemmas.{line_word_spelled, line_word-spelling, look_says, look_said}
+use Rattle.hirscan.proofs.NameLemmas.{text_cases}
+pub use Rattle.hirscan.proofs.ScalarItemLemmas.{scalar_items_say, scalar_items_said}
 use Rattle.hirscan.proofs.WordLemmas.{NumberParts, number_parts, number_read, digits_model}
-
--- a word is the text, or it isn't
-text_cases : (w t : List ℕ) → ((bytes_eq w t ≡ true) × (w ≡ t)) ⊎ (bytes_eq w t ≡ false)
-text_cases w t =
-    elim (cases_Bool (bytes_eq w t)) [ inl e ↦ inl (e, (bytes_eq-Decides w t).0 e) | inr e ↦ inr e ]
-
--- the first word of a line is how that line is spelled
-pub line_word_spelled : (w : List ℕ) (k : LineWord) → line_word w ≡ Some k → w ≡ spelling k
-line_word_spelled w k e =
-    elim (text_cases w (codes "utf8")) [
-      | inl t ↦ let f : Some Utf8 ≡ Some k = rw t.0 at e in let g : Utf8 ≡ k = cc in t.1 ∙ ap spelling g
-      | inr n0 ↦ elim (text_cases w (codes "anchored")) [
-        | inl t ↦ let f : Some Anchored ≡ Some k = rw (n0, t.0) at e in let g : Anchored ≡ k = cc in t.1 ∙ ap spelling g
-        | inr n1 ↦ elim (text_cases w (codes "span")) [
-          | inl t ↦ let f : Some Span ≡ Some k = rw (n0, n1, t.0) at e in let g : Span ≡ k = cc in t.1 ∙ ap spelling g
-          | inr n2 ↦ elim (text_cases w (codes "empty")) [
-            | inl t ↦ let f : Some Empty ≡ Some k = rw (n0, n1, n2, t.0) at e in let g : Empty ≡ k = cc in t.1 ∙ ap spelling g
-            | inr n3 ↦ elim (text_cases w (codes "lit")) [
-              | inl t ↦ let f : Some Lit ≡ Some k = rw (n0, n1, n2, n3, t.0) at e in let g : Lit ≡ k = cc in t.1 ∙ ap spelling g
-              | inr n4 ↦ elim (text_cases w (codes "bytes")) [
-                | inl t ↦ let f : Some Bytes ≡ Some k = rw (n0, n1, n2, n3, n4, t.0) at e in let g : Bytes ≡ k = cc in t.1 ∙ ap spelling g
-                | inr n5 ↦ elim (text_cases w (codes "rep")) [
-                  | inl t ↦ let f : Some Rep ≡ Some k = rw (n0, n1, n2, n3, n4, n5, t.0) at e in let g : Rep ≡ k = cc in t.1 ∙ ap spelling g
-                  | inr n6 ↦ elim (text_cases w (codes "cat")) [
-                    | inl t ↦ let f : Some Cat ≡ Some k = rw (n0, n1, n2, n3, n4, n5, n6, t.0) at e in let g : Cat ≡ k = cc in t.1 ∙ ap spelling g
-                    | inr n7 ↦ elim (text_cases w (codes "alt")) [
-                      | inl t ↦ let f : Some Alt ≡ Some k = rw (n0, n1, n2, n3, n4, n5, n6, n7, t.0) at e in let g : Alt ≡ k = cc in t.1 ∙ ap spelling g
-                      | inr n8 ↦ elim (text_cases w (codes "pattern")) [
-                        | inl t ↦ let f : Some Pattern ≡ Some k = rw (n0, n1, n2, n3, n4, n5, n6, n7, n8, t.0) at e in let g : Pattern ≡ k = cc in t.1 ∙ ap spelling g
-                        | inr n9 ↦ elim (text_cases w (codes "find")) [
-                          | inl t ↦ let f : Some Find ≡ Some k = rw (n0, n1, n2, n3, n4, n5, n6, n7, n8, n9, t.0) at e in let g : Find ≡ k = cc in t.1 ∙ ap spelling g
-                          | inr n10 ↦ let f : None ≡ Some k = rw (n0, n1, n2, n3, n4, n5, n6, n7, n8, n9, n10) at e in cc
-                        ]
-                      ]
-                    ]
-                  ]
-                ]
-              ]
-            ]
-          ]
-        ]
-      ]
-    ]
-
-pub line_word-spelling : (k : LineWord) → line_word (spelling k) ≡ Some k
-line_word-spelling Utf8 = refl
-line_word-spelling Anchored = refl
-line_word-spelling Span = refl
-line_word-spelling Empty = refl
-line_word-spelling Lit = refl
-line_word-spelling Bytes = refl
-line_word-spelling Rep = refl
-line_word-spelling Cat = refl
-line_word-spelling Alt = refl
-line_word-spelling Pattern = refl
-line_word-spelling Find = refl
 
 number_of_parts : (w : List ℕ) → NumberParts w → IsNumber w (digits_value 10 w)
 number_of_parts w p =
@@ -197,18 +141,23 @@ pub hex_bytes_said : (w bytes : List ℕ) → IsHex w bytes → hex_bytes w ≡ 
 hex_bytes_said w [] h = absurd (let l = h.some in omega arith)
 hex_bytes_said w (b ∷ bs) h = rw (hex_said w (b ∷ bs) h) refl
 
--- the two words at the ends of an item, and what is between them
-ends_of : (a b : Option ℕ) → (r : ℕ × ℕ) → both a b ≡ Some r → (a ≡ Some r.0) × (b ≡ Some r.1)
-ends_of None b r e = absurd cc
-ends_of (Some x) None r e = absurd cc
-ends_of (Some x) (Some y) r e = let f : (x, y) ≡ r = cc in (ap (λ (q : ℕ × ℕ). Some q.0) f, ap (λ (q : ℕ × ℕ). Some q.1) f)
-
 pub byte_of_result : (w : List ℕ) (r : Result (List ℕ) FromHexError) (b : ℕ) → decode_of w ≡ r → only_one r ≡ Some b → IsHex w (b ∷ [])
 byte_of_result w (Ok []) b e f = absurd cc
 byte_of_result w (Ok (c ∷ [])) b e f = let g : c ≡ b = cc in hex_says w (b ∷ []) (e ∙ ap (λ x. Ok (x ∷ [])) g) (omega arith)
 byte_of_result w (Ok (c ∷ d ∷ cs)) b e f = absurd cc
 byte_of_result w (Err x) b e f = absurd cc
 
+byte_of : (w : List ℕ) (o : Option ℕ) → hex_byte w ≡ o → unless_read o BadHex ≡ None → (b : ℕ) × (o ≡ Some b) × IsHexByte w b
+byte_of w None e f = absurd cc
+byte_of w (Some b) e f = (b, refl, byte_of_result w (decode_of w) b refl e)
+
+pub hex_byte_says : (w : List ℕ) → unless_read (hex_byte w) BadHex ≡ None → IsHexByte w (the_byte w)
+hex_byte_says w e = let b = byte_of w (hex_byte w) refl e in rw b.1 b.2
+
+pub hex_byte_said : (w : List ℕ) (b : ℕ) → IsHexByte w b → hex_byte w ≡ Some b
+hex_byte_said w b h = ap only_one (hex_said w (b ∷ []) h)
+
+-- what stands before the sign, and behind it
 five : (w : List ℕ) → length w ≡ 5 → get_or w 2 0 ≡ 45 → w ≡ take 2 w ++ 45 ∷ drop 3 w
 five [] l e = absurd (omega arith)
 five (a ∷ []) l e = absurd (omega arith)

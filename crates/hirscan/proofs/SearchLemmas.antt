@@ -143,24 +143,18 @@ module _ (xs : List Tree) (utf8 : Bool) (t : Terminator) (p : Pair) (regex : IsR
         (answer_from asks q.start) (is_answer asks q.start o ends) (computed_is_answer (choices_at asks) q.anchored q.start q.end))
 
 -- ---- one after the other
+pub asked_at : (xs : List Tree) (utf8 : Bool) (q : Search) → IsSearchOf xs utf8 q → (k : ℕ) → IsSearchOf xs utf8 (search_at q k)
+asked_at xs utf8 q asked k =
+    record { within = asked.within; whole = asked.whole; bytes = asked.bytes; valid = asked.valid; utf8_trees = asked.utf8_trees }
+
 module _ (xs : List Tree) (utf8 : Bool) (t : Terminator) (p : Pair) (regex : IsRegexOf xs utf8 t p) (q : Search)
     (asked : IsSearchOf xs utf8 q)
     (words : ℕ → Bool) (set : IsWordSet words) (loops : All LoopsRead xs) where
   abbrev chain_asks : Query
   chain_asks = query_of xs utf8 (holds words t q.haystack) q
 
-  asked_at : (k : ℕ) → IsSearchOf xs utf8 (search_at q k)
-  asked_at k = record {
-    within = asked.within;
-    whole = asked.whole;
-    bytes = asked.bytes;
-    valid = asked.valid;
-    utf8_trees =
-        asked.utf8_trees;
-  }
-
   one_told : (s : ℕ) (o : Option Found) → q.start ≤ s → s ≤ q.end + 1 → AnswersAt p q s o → o ≡ answer_from chain_asks s
-  one_told s o low high e = answer_is_of_trees xs utf8 t p regex (search_at q s) (asked_at s) words set loops o e
+  one_told s o low high e = answer_is_of_trees xs utf8 t p regex (search_at q s) (asked_at xs utf8 q asked s) words set loops o e
 
   pub chain_is_list : q.start ≤ q.end + 1 → (fs : List Found) → IsWholeChain (AnswersAt p q) None q.start fs →
       fs ≡ answers_of chain_asks q.start

@@ -1,23 +1,26 @@
 -- A line without a fault is taken or ends the head, and a line that is taken has no fault and one effect.
 use Rattle.std.proofs.Common.{◌≡◌, ◌≢◌, ℕ, ◌-◌, ◌≤◌, Bool, true, false, not, ◌||◌, List, [], ◌∷◌, ◌++◌, length, get_or, map, Option, Some, None, Result, Ok, Err, IfOk, nat_lt, nat_le, refl, sym, ◌∙◌, ap, arith, codes, length-drop}
-use Rattle.std.proofs.lemmas.Bool.{or_parts, eqb-true, ltb-false, leb-true, not-false}
+use Rattle.std.proofs.lemmas.Bool.{and_parts, or_parts, eqb-true, ltb-false, leb-true, not-false}
 use Rattle.std.proofs.lemmas.List.{take-append-drop}
-use Rattle.hir_core.specs.Tree.{Tree, empty, literal, byte_class, repetition, concat, alternation}
+use Rattle.hir_core.specs.Tree.{Tree, empty, literal, byte_class, char_class, look, repetition, concat, alternation}
 use Rattle.hir_core.specs.Means.{AtMost}
 use Rattle.hir_core.specs.Facts.{height}
 use Rattle.hirscan.specs.declared.fault.FaultKind.{FaultKind}
 use Rattle.hirscan.specs.declared.fault.FaultKind.TheVariants.{SettingAfterNode, WrongWordCount, BadNumber, BadChoice, MinAboveMax, TooFewTrees, TooDeep, NotOneTree, TreeLeftOver}
 use Rattle.hirscan.specs.declared.words.LineWord.{LineWord}
-use Rattle.hirscan.specs.declared.words.LineWord.TheVariants.{Utf8, Anchored, Span, Empty, Lit, Bytes, Rep, Cat, Alt, Pattern, Find}
+use Rattle.hirscan.specs.declared.words.LineWord.TheVariants.{Utf8, Line, Capacity, Quit, Classes, Shrink, Anchored, Span, Empty, Lit, Bytes, Chars, Look, Rep, Cat, Alt, Pattern, Find}
 use Rattle.hirscan.specs.declared.line.Step.TheVariants.{Next}
-use Rattle.hirscan.specs.Words.{class_ranges}
-use Rattle.hirscan.specs.Readers.{spelling, line_word, number, the_number, bound, the_bound, order, the_order, the_switch, the_yes_or_no, the_bytes, the_ends, word_at}
-use Rattle.hirscan.specs.Takes.{Settings, Standing, HasNoNode, Sets, Replaces, Takes, utf8_line, anchored_line, span_line, empty_line, lit_line, bytes_line, rep_line, cat_line, alt_line, pattern_line, EndsHead}
-use Rattle.hirscan.specs.LineFault.{first_of, when, unless_read, word_fault, is_setting_after_node, is_word_count, is_at_most, is_min_above_max, top, below, has_too_few_trees, is_too_deep, has_not_one_tree, has_tree_left_over, known_fault, settings_after, after}
+use Rattle.hirscan.specs.declared.line.Setup.{Setup}
+use Rattle.hirscan.specs.Words.{class_ranges, scalar_ranges}
+use Rattle.hirscan.specs.Readers.{spelling, line_word, number, the_number, bound, the_bound, order, the_order, the_switch, the_yes_or_no, the_bytes, the_byte, the_ends, the_hex_ends, the_look_named, word_at}
+use Rattle.hirscan.specs.Takes.{Standing, HasNoNode, Sets, Replaces, Takes, EndsHead}
+use Rattle.hirscan.specs.Takes.{utf8_line, line_line, two_bytes_line, capacity_line, quit_line, classes_line, shrink_line, anchored_line, span_line}
+use Rattle.hirscan.specs.Takes.{empty_line, lit_line, bytes_line, chars_line, look_line, rep_line, cat_line, alt_line, pattern_line}
+use Rattle.hirscan.specs.LineFault.{first_of, when, unless_read, byte_fault, word_fault, is_setting_after_node, is_word_count, is_at_most, is_min_above_max, top, below, has_too_few_trees, is_too_deep, has_not_one_tree, has_tree_left_over, known_fault, setup_after, after}
 use Rattle.hirscan.specs.declared.line.Step.{Step}
 use Rattle.hirscan.specs.Tells.{step_after, TellsStep}
 use Rattle.hirscan.proofs.StageLemmas.{first_none, when_none}
-use Rattle.hirscan.proofs.SaysLemmas.{line_word_spelled, number_says, bound_says, order_says, switch_says, yes_says, hex_bytes_says, items_say}
+use Rattle.hirscan.proofs.SaysLemmas.{line_word_spelled, number_says, bound_says, order_says, switch_says, yes_says, hex_bytes_says, hex_byte_says, items_say, scalar_items_say, look_says}
 
 -- what each kind of fault says where there is none
 pub record NoFault (k : LineWord) (args : List (List ℕ)) (at : Standing) : Type 0 where
@@ -96,13 +99,13 @@ some_words xs h e = let l = leb-true 1 (length xs) h in let k = ap length e in o
 
 -- the top trees of the stack become one
 replaced_top : (at : Standing) (n : ℕ) (parts : List Tree) (new : Tree) → top n at.stack ≡ parts → height new ≤ 250
-    → Replaces at (record { settings = at.settings; stack = below n at.stack ++ new ∷ []; patterns = at.patterns }) parts new
+    → Replaces at (record { setup = at.setup; stack = below n at.stack ++ new ∷ []; patterns = at.patterns }) parts new
 replaced_top at n parts new e h = record {
   below = below n at.stack;
   stack_was = sym (take-append-drop (length at.stack - n) at.stack) ∙ ap (λ t. below n at.stack ++ t) e;
   stack_is = refl;
   patterns_stay = refl;
-  settings_stay = refl;
+  setup_stays = refl;
   not_too_deep = h;
 }
 
@@ -128,8 +131,24 @@ no_node at h =
       no_pattern = no_words at.patterns (let l = ltb-false 0 (length at.patterns) parts.1 in omega arith);
     }
 
-set : (at : Standing) (new : Settings) → HasNoNode at → Sets at (record { settings = new; stack = at.stack; patterns = at.patterns }) new
-set at new h = record { no_node = h; settings_are = refl; stack_stays = refl; patterns_stay = refl }
+set : (at : Standing) (new : Setup) → HasNoNode at → Sets at (record { setup = new; stack = at.stack; patterns = at.patterns }) new
+set at new h = record { no_node = h; setup_is = refl; stack_stays = refl; patterns_stay = refl }
+
+-- the terminator is one byte, or two
+line_after : (args : List (List ℕ)) (at : Standing) → NoFault Line args at → Takes (spelling Line ∷ args) at (after Line args at)
+line_after [] at p = absurd (let c = p.counted in cc)
+line_after (w ∷ []) at p =
+    let a = first_none (byte_fault w) [] p.words_fit in
+    line_line w (the_byte w) refl (hex_byte_says w a.0) (set at (setup_after Line (w ∷ []) at.setup) (no_node at p.settable))
+line_after (v ∷ w ∷ []) at p =
+    let a = first_none (byte_fault v) (byte_fault w ∷ []) p.words_fit in
+    let b = first_none (byte_fault w) [] a.1 in
+    two_bytes_line v w (the_byte v) (the_byte w) refl (hex_byte_says v a.0) (hex_byte_says w b.0)
+    (set at (setup_after Line (v ∷ w ∷ []) at.setup) (no_node at p.settable))
+line_after (u ∷ v ∷ w ∷ ws) at p =
+    let c = and_parts (nat_le 1 (length (u ∷ v ∷ w ∷ ws))) (nat_le (length (u ∷ v ∷ w ∷ ws)) 2) p.counted in
+    let l = leb-true (length (u ∷ v ∷ w ∷ ws)) 2 c.1 in
+    absurd (omega arith)
 
 -- a line that isn't `find` and has no fault is taken, and does what its words say
 pub takes_after : (k : LineWord) (args : List (List ℕ)) (at : Standing) → step_after k ≡ Next → NoFault k args at
@@ -137,18 +156,39 @@ pub takes_after : (k : LineWord) (args : List (List ℕ)) (at : Standing) → st
 takes_after Utf8 args at n p =
     let e = one_alone args [] (eqb-true _ _ p.counted) in
     utf8_line (word_at args 0) (the_switch (word_at args 0)) (ap (λ a. codes "utf8" ∷ a) e) (switch_says (word_at args 0) p.words_fit)
-    (set at (settings_after Utf8 args at.settings) (no_node at p.settable))
+    (set at (setup_after Utf8 args at.setup) (no_node at p.settable))
+takes_after Line args at n p = line_after args at p
+takes_after Capacity args at n p =
+    let e = one_alone args [] (eqb-true _ _ p.counted) in
+    capacity_line (word_at args 0) (the_number (word_at args 0)) (ap (λ a. codes "capacity" ∷ a) e)
+    (number_says (word_at args 0) p.words_fit)
+    (set at (setup_after Capacity args at.setup) (no_node at p.settable))
+takes_after Quit args at n p =
+    let e = one_alone args [] (eqb-true _ _ p.counted) in
+    quit_line (word_at args 0) (the_byte (word_at args 0)) (ap (λ a. codes "quit" ∷ a) e) (hex_byte_says (word_at args 0) p.words_fit)
+    (set at (setup_after Quit args at.setup) (no_node at p.settable))
+takes_after Classes args at n p =
+    let e = one_alone args [] (eqb-true _ _ p.counted) in
+    classes_line (word_at args 0) (the_switch (word_at args 0)) (ap (λ a. codes "classes" ∷ a) e)
+    (switch_says (word_at args 0) p.words_fit)
+    (set at (setup_after Classes args at.setup) (no_node at p.settable))
+takes_after Shrink args at n p =
+    let e = one_alone args [] (eqb-true _ _ p.counted) in
+    shrink_line (word_at args 0) (the_switch (word_at args 0)) (ap (λ a. codes "shrink" ∷ a) e)
+    (switch_says (word_at args 0) p.words_fit)
+    (set at (setup_after Shrink args at.setup) (no_node at p.settable))
 takes_after Anchored args at n p =
     let e = one_alone args [] (eqb-true _ _ p.counted) in
-    anchored_line (word_at args 0) (the_yes_or_no (word_at args 0)) (ap (λ a. codes "anchored" ∷ a) e) (yes_says (word_at args 0) p.words_fit)
-    (set at (settings_after Anchored args at.settings) (no_node at p.settable))
+    anchored_line (word_at args 0) (the_yes_or_no (word_at args 0)) (ap (λ a. codes "anchored" ∷ a) e)
+    (yes_says (word_at args 0) p.words_fit)
+    (set at (setup_after Anchored args at.setup) (no_node at p.settable))
 takes_after Span args at n p =
     let e = two_alone args (eqb-true _ _ p.counted) in
     let a = first_none (unless_read (number (word_at args 0)) BadNumber) _ p.words_fit in
     let b = first_none (unless_read (number (word_at args 1)) BadNumber) _ a.1 in
     span_line (word_at args 0) (word_at args 1) (the_number (word_at args 0)) (the_number (word_at args 1)) (ap (λ a. codes "span" ∷ a) e)
     (number_says (word_at args 0) a.0) (number_says (word_at args 1) b.0)
-    (set at (settings_after Span args at.settings) (no_node at p.settable))
+    (set at (setup_after Span args at.setup) (no_node at p.settable))
 takes_after Empty args at n p =
     let e = no_words args (eqb-true _ _ p.counted) in
     empty_line (ap (λ a. codes "empty" ∷ a) e) (replaced_top at 0 [] empty (top_none at.stack) (height_in empty p.flat))
@@ -159,16 +199,27 @@ takes_after Lit args at n p =
 takes_after Bytes args at n p =
     bytes_line args (map the_ends args) refl (some_words args p.counted) (items_say args p.words_fit)
     (replaced_top at 0 [] _ (top_none at.stack) (height_in (byte_class (class_ranges (map the_ends args))) p.flat))
+takes_after Chars args at n p =
+    chars_line args (map the_hex_ends args) refl (some_words args p.counted) (scalar_items_say args p.words_fit)
+    (replaced_top at 0 [] _ (top_none at.stack) (height_in (char_class (scalar_ranges (map the_hex_ends args))) p.flat))
+takes_after Look args at n p =
+    let e = one_alone args [] (eqb-true _ _ p.counted) in
+    look_line (word_at args 0) (the_look_named (word_at args 0)) (ap (λ a. codes "look" ∷ a) e) (look_says (word_at args 0) p.words_fit)
+    (replaced_top at 0 [] _ (top_none at.stack) (height_in (look (the_look_named (word_at args 0))) p.flat))
 takes_after Rep args at n p =
     let e = three_alone args (eqb-true _ _ p.counted) in
     let a = first_none (unless_read (number (word_at args 0)) BadNumber) _ p.words_fit in
     let b = first_none (unless_read (bound (word_at args 1)) BadNumber) _ a.1 in
     let c = first_none (unless_read (order (word_at args 2)) BadChoice) _ b.1 in
     let enough = ltb-false (length at.stack) 1 p.enough in
-    rep_line (word_at args 0) (word_at args 1) (word_at args 2) (the_number (word_at args 0)) (the_bound (word_at args 1)) (the_order (word_at args 2))
-    (get_or (top 1 at.stack) 0 empty) (ap (λ a. codes "rep" ∷ a) e) (number_says (word_at args 0) a.0) (bound_says (word_at args 1) b.0) (order_says (word_at args 2) c.0)
-    (at_most _ _ p.in_order)
-    (replaced_top at 1 _ _ (one_alone (top 1 at.stack) empty (length-top 1 at.stack enough)) (height_in (repetition (the_number (word_at args 0)) (the_bound (word_at args 1)) (the_order (word_at args 2)) (get_or (top 1 at.stack) 0 empty)) p.flat))
+    let min = the_number (word_at args 0) in
+    let max = the_bound (word_at args 1) in
+    let greedy = the_order (word_at args 2) in
+    let x = get_or (top 1 at.stack) 0 empty in
+    let one = one_alone (top 1 at.stack) empty (length-top 1 at.stack enough) in
+    rep_line (word_at args 0) (word_at args 1) (word_at args 2) min max greedy x (ap (λ a. codes "rep" ∷ a) e)
+    (number_says (word_at args 0) a.0) (bound_says (word_at args 1) b.0) (order_says (word_at args 2) c.0) (at_most _ _ p.in_order)
+    (replaced_top at 1 _ _ one (height_in (repetition min max greedy x) p.flat))
 takes_after Cat args at n p =
     let e = one_alone args [] (eqb-true _ _ p.counted) in
     let enough = ltb-false (length at.stack) (the_number (word_at args 0)) p.enough in
@@ -187,7 +238,7 @@ takes_after Pattern args at n p =
     pattern_line (ap (λ a. codes "pattern" ∷ a) e) (record {
       tree = get_or at.stack 0 empty;
       stack_was = one;
-      settings_stay = refl;
+      setup_stays = refl;
       stack_is = refl;
       patterns_are = ap (λ s. at.patterns ++ s) one;
     })
@@ -202,17 +253,8 @@ ends_head args at p = record {
 
 step_told : (k : LineWord) (args : List (List ℕ)) (at : Standing) → NoFault k args at
     → TellsStep (spelling k ∷ args) at (after k args at) (step_after k)
-step_told Utf8 args at p = takes_after Utf8 args at refl p
-step_told Anchored args at p = takes_after Anchored args at refl p
-step_told Span args at p = takes_after Span args at refl p
-step_told Empty args at p = takes_after Empty args at refl p
-step_told Lit args at p = takes_after Lit args at refl p
-step_told Bytes args at p = takes_after Bytes args at refl p
-step_told Rep args at p = takes_after Rep args at refl p
-step_told Cat args at p = takes_after Cat args at refl p
-step_told Alt args at p = takes_after Alt args at refl p
-step_told Pattern args at p = takes_after Pattern args at refl p
 step_told Find args at p = (ends_head args at p, refl)
+step_told k args at p = takes_after k args at refl p
 
 -- what a line that was followed tells
 pub line_done : {E : Type 0} (r : Result Step E) (ws args : List (List ℕ)) (w : List ℕ) (k : LineWord) (at now : Standing)

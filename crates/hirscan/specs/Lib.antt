@@ -12,5 +12,8 @@ pub mod Asks
 pub mod Regexes
 pub mod Headline
 pub mod LooseAnswers
+pub mod TreeWalks
 pub mod Reply
+pub mod Listing
 pub mod Runs
+pub mod ReachLaws

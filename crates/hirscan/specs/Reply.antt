@@ -6,6 +6,7 @@ use Rattle.look_core.specs.Looks.{IsWordSet}
 use Rattle.hir_core.specs.Tree.{Tree}
 use Rattle.search_types.specs.Chains.{IsChain}
 use Rattle.search_types.specs.Found.{Found}
+use Rattle.search_types.specs.Inputs.{Search}
 use Rattle.nfa_core.specs.declared.build_error.BuildError.TheVariants.{ExceededSizeLimit}
 use Rattle.thompson_nfa.specs.RefusedTrees.{RefusesTrees}
 use Rattle.lazy_dfa.specs.Dfas.{reader}
@@ -80,12 +81,11 @@ abbrev pub next_start : ℕ → Option ℕ → ℕ
 next_start start None = start
 next_start start (Some end) = end
 
-abbrev pub finding_behind : Setup → List ℕ → List Found → Finding
-finding_behind setup h fs = record {
-  search = search_at (search_of setup h) (next_start (search_of setup h).start (last_end fs));
-  last = last_end fs;
-  is_over = false;
-}
+abbrev pub finding_from : Search → Option ℕ → Finding
+finding_from q last = record { search = search_at q (next_start q.start last); last = last; is_over = false }
+
+abbrev pub finding_behind : Search → List Found → Finding
+finding_behind q fs = finding_from q (last_end fs)
 
 -- The search for the next match behind these gives up at the byte b, at x. The regex is one that is built of the patterns; the
 -- matches are those that it finds from the start on; and b is the first quit byte that it reads upwards, from the end of the last
@@ -95,7 +95,7 @@ pub record QuitsBehind (setup : Setup) (xs : List Tree) (h : List ℕ) (fs : Lis
   pub built : IsBuilt xs (program_settings setup.settings) regex
   pub found : IsChain (AnswersAt regex (search_of setup h)) None (search_of setup h).start fs
   pub from : ℕ
-  pub asked : IsAskedAt regex (finding_behind setup h fs) from
+  pub asked : IsAskedAt regex (finding_behind (search_of setup h) fs) from
   pub reads : scan (reader regex.forward) (search_at (search_of setup h) from) ≡ quit b x
   pub beside : IsQuitBeside (quit_bytes_for xs (program_settings setup.settings).dfa) (search_of setup h) b x
 

@@ -1,16 +1,15 @@
 //! Regexes of trees.
-ghost use Rattle.std.specs.Prelude.{◌≡◌, Bool, Ok, IfOk, IfErr, false};
+ghost use Rattle.std.specs.Prelude.{◌≡◌, IfOk, IfErr, false};
 ghost use Rattle.thompson_nfa.specs.Compilations.{IsCompiled};
-ghost use Rattle.thompson_nfa.specs.RefusedTrees.{RefusesTrees};
 ghost use Rattle.hirscan.specs.Built.{IsBuilt, RefusesBuild, HasRoom, FindsFirst, compile_options, quit_bytes_for, are_unsupported};
 ghost use Rattle.hirscan.specs.Regexes.{IsRegexOf};
 
 use crate::settings::Settings;
 use hir_core::Hir;
-use lazy_dfa::BuildError;
+use lazy_dfa::{BuildError, dfa};
 use look_core::LookMatcher;
 use nfa_core::NFA;
-use regex_pair::regex::Regex;
+use regex_pair::regex::{Builder, Regex};
 use std::alloc::Global;
 use thompson_nfa::{Compiler, Config, WhichCaptures};
 
@@ -41,14 +40,49 @@ fn compile(
 {
     let mut compiler = Compiler::new(alloc);
     compiler.configure(compile_config(settings, reverse));
-    let nfa = compiler.build_many_from_hir(exprs)?;
-    Ok(nfa)
+    match compiler.build_many_from_hir(exprs) {
+        Ok(nfa) => Ok(nfa),
+        Err(err) => Err(BuildError::from(err)),
+    }
+}
+
+/// What makes a regex of two automata, with these options of both.
+#[tactic(auto, using(crate::proofs::BuiltLemmas::set_once))]
+fn builder_with(options: dfa::Config) -> Builder
+    ensures { result ≡ options }
+{
+    let mut builder = Regex::builder();
+    builder.dfa(options);
+    builder
+}
+
+/// Both automata of the trees, as one regex.
+fn build_pair(alloc: Global, exprs: &[Hir], settings: &Settings) -> Result<Regex, BuildError>
+    ensures built { IfOk result (λ p. IsBuilt exprs.now settings.now p) }
+    ensures refused { IfErr result (λ e. RefusesBuild exprs.now settings.now e) }
+{
+    let forward = match compile(alloc, exprs, settings, false) {
+        Ok(nfa) => nfa,
+        Err(e) => return Err(e),
+    };
+    let reverse = match compile(alloc, exprs, settings, true) {
+        Ok(nfa) => nfa,
+        Err(e) => return Err(e),
+    };
+    let builder = builder_with(settings.dfa);
+    let regex = match builder.build_from_nfas(forward, reverse) {
+        Ok(regex) => regex,
+        Err(e) => return Err(e),
+    };
+    regex.forward().is_made();
+    regex.reverse().is_made();
+    Ok(regex)
 }
 
 /// The regex that searches for these trees, each as a pattern of its own, numbered from 0. A tree's captures are left out.
 ///
 /// Where its kind is leftmost-first, a search that answers Ok gives the match that the trees define, whatever the settings and
-/// the cache ([`search_laws`](crate::search_laws)).
+/// the cache ([`headline`](crate::headline)).
 ///
 /// It is refused where a compile is: where there are more patterns or states than can be numbered, or more bytes of states than
 /// `size_limit`; where a tree looks for words by characters, `unicode_word_boundary` is off and bytes above 7F aren't all quit
@@ -62,9 +96,8 @@ pub fn build(alloc: Global, exprs: &[Hir], settings: &Settings) -> Result<Regex,
     ensures roomy { IfOk result (λ p. HasRoom p.forward.nfa settings.now.dfa × HasRoom p.reverse.nfa settings.now.dfa) }
     ensures refused { IfErr result (λ e. RefusesBuild exprs.now settings.now e) }
 {
-    let forward = compile(alloc, exprs, settings, false)?;
-    let reverse = compile(alloc, exprs, settings, true)?;
-    let mut builder = Regex::builder();
-    builder.dfa(settings.dfa);
-    builder.build_from_nfas(forward, reverse)
+    match build_pair(alloc, exprs, settings) {
+        Ok(regex) => Ok(regex),
+        Err(e) => Err(e),
+    }
 }

@@ -71,7 +71,9 @@ pub fn read_head(alloc: Global, text: &[u8]) -> Result<Head, Fault>
             Step::Next => lines += 1,
             Step::End => {
                 let Stands {
-                    setup, patterns, ..
+                    setup,
+                    patterns,
+                    ..
                 } = stands;
                 return Ok(Head {
                     settings: setup.settings,

@@ -3,7 +3,7 @@
 //!
 //! For every list of trees, every setting, haystack and span, and whatever the caches hold: a search that answers Ok gives the match
 //! that the trees define, an iterator gives the list of them, and they do answer where no quit byte stands in or beside the span.
-ghost use Rattle.std.specs.Prelude.{◌≡◌, ◌≤◌, ◌+◌, ◌++◌, ℕ, Bool, true, false, List, All, Option, Some, None, Result, Ok, Err, IfErr, is_some};
+ghost use Rattle.std.specs.Prelude.{◌≡◌, ◌≤◌, ◌+◌, ◌++◌, ℕ, Bool, true, false, List, All, Option, Some, None, Ok, Err, is_some};
 ghost use Rattle.look_core.specs.Looks.{IsWordSet};
 ghost use Rattle.hir_core.specs.Facts.{LoopsRead};
 ghost use Rattle.hir_core.specs.Tree.{Tree};

@@ -44,6 +44,7 @@ pub fn replies_agree()
 {}
 
 /// The ends of all answers rise, so there is at most one for each place.
+#[tactic(auto, using(crate::proofs::AnswerLemmas::answers_rise, crate::proofs::AnswerLemmas::few_answers))]
 pub fn ends_of_answers_rise()
     ensures ends { (q : Query) (s : ℕ) → EndsRise None (answers_of q s) }
     ensures few { (q : Query) (s : ℕ) → length (answers_of q s) ≤ q.end + 1 - s }

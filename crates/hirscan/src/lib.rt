@@ -1,10 +1,14 @@
-//! Reads trees in a postfix notation and then a haystack, and answers the spans that the trees have.
+//! Regexes of trees, and a program that reads trees in a postfix notation and then a haystack, and answers the spans.
 //!
-//! [`run`] goes from a reader to a writer, [`read_head`] reads the notation alone. What each line
-//! does, how a head reads and where a text has its first fault is defined in `specs/Takes.antt`,
-//! `Reads.antt` and `LineFault.antt`; what is searched for and the answers in `Choices.antt`; why a head is refused with its haystack in `Refusals.antt`; the reply in
-//! `Reply.antt`. Their laws are in [`laws`], those of the notation in [`reading_laws`], those of its words
-//! in [`word_laws`]. That two automata compiled from trees answer what these define is in [`search_laws`].
+//! [`build`] makes a regex of trees; what it is, and why it is refused, is in `specs/Built.antt`. What the trees define is in
+//! `Choices.antt` and `Headline.antt`, and that searches over the regex answer just that is in [`headline`]: the laws over values
+//! behind it are in [`search_laws`], those of overlapping walks in [`tree_walk_laws`], and on which bytes an answer depends is in
+//! [`reach_laws`].
+//!
+//! [`run`] goes from a reader to a writer, [`read_head`] reads the notation alone. What each line does, how a head reads and
+//! where a text has its first fault is defined in `Takes.antt`, `Reads.antt` and `LineFault.antt`; why a head is refused with its
+//! haystack in `Refusals.antt`; the reply in `Reply.antt`. Their laws are in [`laws`], those of the notation in [`reading_laws`],
+//! those of its words in [`word_laws`].
 #![tactic(auto)]
 
 mod building;
@@ -16,10 +20,12 @@ pub mod laws;
 mod line;
 mod loops;
 mod program;
+pub mod reach_laws;
 pub mod reading_laws;
 mod reply;
 pub mod search_laws;
 mod settings;
+pub mod tree_walk_laws;
 pub mod word_laws;
 mod words;
 

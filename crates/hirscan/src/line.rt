@@ -7,7 +7,7 @@ ghost use Rattle.hirscan.specs.Readers.{hex_byte, word_at};
 ghost use Rattle.hirscan.specs.LineFault.{fault, byte_fault, known_fault, after, top, below, when, is_at_most, is_word_count, is_setting, is_setting_after_node, left_fault};
 ghost use Rattle.hirscan.specs.Tells.{texts, standing, TellsLineFault, TellsStep, IsDone, step_after};
 ghost use Rattle.hirscan.specs.declared.fault.FaultKind.TheVariants.{TooFewTrees, TooDeep};
-ghost use Rattle.hirscan.specs.declared.words.LineWord.TheVariants.{Utf8, Line, Capacity, Quit, Classes, Shrink, Anchored, Span, Empty, Lit, Bytes, Chars, Look, Rep, Cat, Alt, Pattern, Find};
+ghost use Rattle.hirscan.specs.declared.words.LineWord.TheVariants.{Utf8, Line, Capacity, Quit, Classes, Shrink, Anchored, Span as SpanWord, Empty, Lit, Bytes, Chars, Look, Rep, Cat, Alt, Pattern, Find};
 
 use crate::fault::{FaultKind, LineFault};
 use crate::settings::Settings;
@@ -193,8 +193,8 @@ fn anchored_line(args: &[&[u8]], stands: &mut Stands) -> Result<(), LineFault>
 
 fn span_line(args: &[&[u8]], stands: &mut Stands) -> Result<(), LineFault>
     requires { length args.now ≡ 2 }
-    ensures ok { OnOk result (IsDone Span (texts args.now) (standing stands.old) (standing stands.new)) }
-    ensures err { IfErr result (λ e. TellsLineFault (left_fault Span (texts args.now) (standing stands.old)) e) }
+    ensures ok { OnOk result (IsDone SpanWord (texts args.now) (standing stands.old) (standing stands.new)) }
+    ensures err { IfErr result (λ e. TellsLineFault (left_fault SpanWord (texts args.now) (standing stands.old)) e) }
 {
     let Some(start) = number(word_at(args, 0)) else {
         return Err(LineFault::Is(FaultKind::BadNumber));
@@ -239,7 +239,7 @@ fn bytes_line(alloc: Global, args: &[&[u8]], stands: &mut Stands) -> Result<(), 
     push(stands, Hir::bytes(ranges))
 }
 
-#[tactic(auto, using(crate::proofs::StackLemmas::below_none))]
+#[tactic(auto, using(crate::proofs::StackLemmas::below_none, crate::proofs::ScalarRangeLemmas::faultless_items_ascend))]
 fn chars_line(alloc: Global, args: &[&[u8]], stands: &mut Stands) -> Result<(), LineFault>
     ensures ok { OnOk result (IsDone Chars (texts args.now) (standing stands.old) (standing stands.new)) }
     ensures err { IfErr result (λ e. TellsLineFault (left_fault Chars (texts args.now) (standing stands.old)) e) }

@@ -1,15 +1,17 @@
 // The whole reply to an input, made before anything is written.
-ghost use Rattle.std.specs.Prelude.{◌≡◌, ◌++◌, ◌+◌, ◌<◌, ◌^◌, ◌≤◌, length, IfOk, IsTrue, MatchOption, OnOk, string_bytes};
+ghost use Rattle.std.specs.Prelude.{◌≡◌, ◌++◌, ◌+◌, ◌<◌, ◌^◌, ◌≤◌, All, length, IfOk, IsTrue, MatchOption, OnOk, string_bytes};
 ghost use Rattle.hirscan.specs.Refusals.{span_of, is_span};
 ghost use Rattle.hirscan.specs.Asks.{search_of};
 ghost use Rattle.hirscan.specs.Tells.{head_standing};
 ghost use Rattle.search_core.specs.Index.{greatest_index};
 ghost use Rattle.hirscan.specs.Built.{IsBuilt, program_settings};
+ghost use Rattle.regex_pair.specs.Pairs.{AreCachesOf};
+ghost use Rattle.hirscan.specs.Listing.{IsSearched, MayEndList, TellsQuit};
 ghost use Rattle.hirscan.specs.Reply.{IsReply, IsSearchReply, AnswersHead, AreTooLarge, span_line, span_lines, quit_line, refusal_line};
 
+use crate::building::build;
 use crate::causes::refusal_cause;
 use crate::fault::Fault;
-use crate::building::build;
 use crate::head::{Head, read_head};
 use crate::program::Ending;
 use crate::settings::program_settings;
@@ -81,6 +83,8 @@ fn quit_reply(alloc: Global, text: String, byte: u8, offset: usize) -> Result<Re
 
 /// The reply of a search behind whose first matches, told in this text, this refusal came.
 fn failed_reply(alloc: Global, text: String, e: MatchError) -> Result<Reply, AllocError>
+    requires told { MayEndList e }
+    ensures { IfOk result (λ r. TellsQuit e (string_bytes text) r.ending (string_bytes r.text)) }
 {
     match e.kind() {
         MatchErrorKind::Quit { byte, offset } => quit_reply(alloc, text, *byte, *offset),
@@ -89,16 +93,27 @@ fn failed_reply(alloc: Global, text: String, e: MatchError) -> Result<Reply, All
     }
 }
 
-/// The reply of a search over a regex: a line for each match.
+/// What a haystack has are bytes.
+fn see_bytes(bytes: &[u8])
+    ensures { All (λ byte. byte < 256) bytes.now }
+{}
+
+/// The reply of a search over the regex of the head's patterns: a line for each match, up to where the search gives up.
 fn list_matches(
     alloc: Global,
     regex: &Regex,
     cache: &mut Cache,
-    input: Input<'_>,
+    head: &Head,
+    h: &[u8],
 ) -> Result<Reply, AllocError>
+    requires own { AreCachesOf regex.now cache.old }
+    requires built { IsBuilt head.now.patterns.items (program_settings head.now.settings) regex.now }
+    requires searched { IsSearched (head_standing head.now).setup head.now.patterns.items h.now }
+    ensures { IfOk result (λ r. IsSearchReply (head_standing head.now).setup head.now.patterns.items h.now r.ending (string_bytes r.text)) }
 {
+    see_bytes(h);
     let mut text = String::new(alloc);
-    for item in regex.find_iter(cache, input) {
+    for item in regex.find_iter(cache, input_of(head, h)) {
         match item {
             Ok(found) => push_span(&mut text, found)?,
             Err(e) => return failed_reply(alloc, text, e),
@@ -119,11 +134,11 @@ fn regex_of(alloc: Global, head: &Head) -> Result<Option<Regex>, AllocError>
     let settings = program_settings(head.settings);
     match build(alloc, &head.patterns, &settings) {
         Ok(regex) => Ok(Some(regex)),
-        Err(BuildError::NFA {
-            err: nfa_core::BuildError::ExceededSizeLimit { .. },
-        }) => Ok(None),
+        Err(BuildError::NFA { .. }) => Ok(None),
         Err(BuildError::NoMemory) => Err(AllocError),
-        Err(_) => unreachable!(),
+        Err(BuildError::InsufficientCacheCapacity { .. }) => unreachable!(),
+        Err(BuildError::InsufficientStateIDCapacity) => unreachable!(),
+        Err(BuildError::Unsupported) => unreachable!(),
     }
 }
 
@@ -139,7 +154,7 @@ fn search_reply(alloc: Global, head: &Head, h: &[u8]) -> Result<Reply, AllocErro
         return refusal(alloc, "size limit");
     };
     let mut cache = Cache::new(alloc, &regex)?;
-    list_matches(alloc, &regex, &mut cache, input_of(head, h))
+    list_matches(alloc, &regex, &mut cache, head, h)
 }
 
 /// The reply to an input, where `input` is the whole of it or begins it and is above the limit.

@@ -19,7 +19,7 @@ ghost use Rattle.thompson_nfa.specs.Configs.{Options, utf8_of, reverse_of, termi
 ghost use Rattle.lazy_dfa.specs.ConfigValue.{Options as DfaOptions};
 ghost use Rattle.lazy_dfa.specs.ConfigValue.{kind_of};
 ghost use Rattle.lazy_dfa.specs.Dfas.{IsDfa, reader};
-ghost use Rattle.lazy_dfa.specs.Readers.{Reader, quit, unsupported};
+ghost use Rattle.lazy_dfa.specs.Readers.{quit, unsupported};
 ghost use Rattle.lazy_dfa.specs.ScanLaws.{HasNoQuitNear};
 ghost use Rattle.lazy_dfa.specs.Scans.{scan};
 ghost use Rattle.regex_pair.specs.Finding.{AnswersAt};

@@ -1,11 +1,13 @@
 //! Laws of words: each reader answers just what its relation says of a word, and nothing just where the relation
 //! says nothing, so that a line's faults are told by what its words spell. Each function has no code: its contract
 //! is the law.
-ghost use Rattle.std.specs.Prelude.{◌≡◌, ◌↔◌, ◌<◌, ℕ, List, Some, None};
+ghost use Rattle.std.specs.Prelude.{◌≡◌, ◌↔◌, ◌⊎◌, ◌<◌, ℕ, true, false, List, Some, None};
 ghost use Rattle.hirscan.specs.declared.fault.FaultKind.TheVariants.{BadHex, BadRange};
-ghost use Rattle.hirscan.specs.Words.{IsNumber, IsBound, IsGreedy, IsSwitch, IsYes, IsHex, IsHexByte, HasEnds, IsItem};
-ghost use Rattle.hirscan.specs.Readers.{IsReader, IsSpelled, line_word, number, bound, order, switch, yes_or_no, hex_bytes, hex_byte, item_ends};
-ghost use Rattle.hirscan.specs.LineFault.{item_fault};
+ghost use Rattle.hir_core.specs.Means.{is_member};
+ghost use Rattle.hir_core.specs.Facts.{is_ascending};
+ghost use Rattle.hirscan.specs.Words.{IsNumber, IsBound, IsGreedy, IsSwitch, IsYes, IsHex, IsHexByte, HasEnds, IsItem, IsLookName, HasHexEnds, is_scalar, IsScalarItem, AreScalarItems, scalar_ranges};
+ghost use Rattle.hirscan.specs.Readers.{IsReader, IsSpelled, line_word, number, bound, order, switch, yes_or_no, hex_bytes, hex_byte, item_ends, hex_ends, look_named};
+ghost use Rattle.hirscan.specs.LineFault.{item_fault, scalar_item_fault};
 
 /// A line's first word says which line it is by being spelled so.
 pub fn first_words_are_read()
@@ -39,4 +41,26 @@ pub fn items_are_read()
     ensures taken { (w : List ℕ) → (item_fault w ≡ None) ↔ ((r : ℕ × ℕ) × IsItem w r) }
     ensures bad_hex { (w : List ℕ) → (item_fault w ≡ Some BadHex) ↔ ((r : ℕ × ℕ) → HasEnds w r → ⊥) }
     ensures bad_range { (w : List ℕ) → (item_fault w ≡ Some BadRange) ↔ ((r : ℕ × ℕ) × HasEnds w r × (r.1 < r.0)) }
+{}
+
+/// A look is read from its name.
+pub fn looks_are_read()
+    ensures { IsReader look_named IsLookName }
+{}
+
+/// An item of a class of scalars is read by its ends. It has no fault just where it is an item, bad hex just
+/// where it has no ends, and a bad range just where an end is no scalar or its low end is above its high end.
+pub fn scalar_items_are_read()
+    ensures ends { IsReader hex_ends HasHexEnds }
+    ensures taken { (w : List ℕ) → (scalar_item_fault w ≡ None) ↔ ((r : ℕ × ℕ) × IsScalarItem w r) }
+    ensures bad_hex { (w : List ℕ) → (scalar_item_fault w ≡ Some BadHex) ↔ ((r : ℕ × ℕ) → HasHexEnds w r → ⊥) }
+    ensures bad_range { (w : List ℕ) → (scalar_item_fault w ≡ Some BadRange)
+        ↔ ((r : ℕ × ℕ) × HasHexEnds w r × ((is_scalar r.0 ≡ false) ⊎ (is_scalar r.1 ≡ false) ⊎ (r.1 < r.0))) }
+{}
+
+/// A class of scalars has those of its items, and its ranges are ascending and disjoint.
+#[tactic(auto, using(crate::proofs::ScalarRangeLemmas::scalar_members, crate::proofs::ScalarRangeLemmas::scalar_classes_ascend))]
+pub fn scalar_classes_have_their_items()
+    ensures members { (items : List (ℕ × ℕ)) (c : ℕ) → is_member (scalar_ranges items) c ≡ is_member items c }
+    ensures ascending { (words : List (List ℕ)) (items : List (ℕ × ℕ)) → AreScalarItems words items → is_ascending (scalar_ranges items) ≡ true }
 {}

@@ -1,5 +1,6 @@
 // What a word of a line says by itself.
-ghost use Rattle.std.specs.Prelude.{◌≡◌, ◌<◌, ◌≤◌, length, map, reverse, Some, None, IfOk, IfErr, OnOk};
+ghost use Rattle.std.specs.Prelude.{◌≡◌, ◌+◌, ◌==◌, ◌<◌, ◌≤◌, ◌∷◌, ◌++◌, length, map, reverse, nat_lt, nat_le, Some, None, IfOk, IfErr, OnOk};
+ghost use Rattle.std.specs.List.{list_all, position};
 ghost use Rattle.hir_core.specs.Means.{is_member};
 ghost use Rattle.hirscan.specs.Words.{is_scalar, with_byte, with_range, class_ranges, scalar_ranges};
 ghost use Rattle.hirscan.specs.Readers.{line_word, setting_word, tree_word, number, bound, order, switch, yes_or_no, hex_bytes, hex_byte, item_ends, the_ends, hex_number, hex_ends, the_hex_ends, anchor_named, word_look_named, look_named, word_at};
@@ -277,6 +278,7 @@ pub(crate) fn class_ranges(alloc: Global, items: &[(u8, u8)]) -> Result<Vec<(u8,
 }
 
 /// A number of one to six hexadecimal digits.
+#[tactic(auto, using(crate::proofs::HexNumberLemmas::hex_number_empty, crate::proofs::HexNumberLemmas::hex_number_long, crate::proofs::HexNumberLemmas::hex_number_plus, crate::proofs::HexNumberLemmas::hex_number_not_utf8))]
 fn hex_number(word: &[u8]) -> Option<u32>
     ensures { result ≡ hex_number word.now }
 {
@@ -290,11 +292,18 @@ fn hex_number(word: &[u8]) -> Option<u32>
     u32::from_str_radix(text, 16).ok()
 }
 
+/// The place of the first sign.
+fn sign_at(word: &[u8]) -> Option<usize>
+    ensures { result ≡ position (λ b. b == 45) word.now }
+{
+    word.iter().position(|b| *b == b'-')
+}
+
 /// The two ends of an item of a class of scalars, in whichever order.
 fn hex_ends(word: &[u8]) -> Option<(u32, u32)>
     ensures { result ≡ hex_ends word.now }
 {
-    let sign = word.iter().position(|b| *b == b'-')?;
+    let sign = sign_at(word)?;
     let low = hex_number(&word[..sign])?;
     let high = hex_number(&word[sign + 1..])?;
     Some((low, high))
@@ -315,10 +324,7 @@ fn scalar_item(word: &[u8]) -> Result<(char, char), FaultKind>
 }
 
 /// The items of a class of scalars in the order of the words.
-pub(crate) fn scalar_items(
-    alloc: Global,
-    words: &[&[u8]],
-) -> Result<Vec<(char, char)>, LineFault>
+pub(crate) fn scalar_items(alloc: Global, words: &[&[u8]]) -> Result<Vec<(char, char)>, LineFault>
     ensures ok { IfOk result (λ items. (first_of (map scalar_item_fault (texts words.now)) ≡ None)
         × (items.items ≡ map the_hex_ends (texts words.now))) }
     ensures err { IfErr result (λ e. TellsLineFault (first_of (map scalar_item_fault (texts words.now))) e) }
@@ -333,6 +339,50 @@ pub(crate) fn scalar_items(
     Ok(items)
 }
 
+/// Whether some number stands between the end of a range and the start of a later one.
+fn is_apart(end: char, start: char) -> bool
+    ensures { result ≡ nat_lt (end + 1) start }
+{
+    u32::from(end) + 1 < u32::from(start)
+}
+
+/// Joins a range with those that it meets or touches, of others which are there from the last to the
+/// first, and takes those off that lie before it.
+fn join_ranges(
+    ranges: &mut Vec<(char, char)>,
+    range: (char, char),
+    before: &mut Vec<(char, char)>,
+) -> Result<(char, char), AllocError>
+    ensures { IfOk result (λ joined. before.old.items ++ with_range range (reverse ranges.old.items)
+        ≡ before.new.items ++ joined ∷ reverse ranges.new.items) }
+{
+    let (mut low, mut high) = range;
+    while let Some(next) = ranges.pop() {
+        if is_apart(high, next.0) {
+            ranges.push(next)?;
+            return Ok((low, high));
+        }
+        if is_apart(next.1, low) {
+            before.push(next)?;
+        } else {
+            low = low.min(next.0);
+            high = high.max(next.1);
+        }
+    }
+    Ok((low, high))
+}
+
+/// Puts ranges, which are there from the first to the last, before others, which are there from the
+/// last to the first.
+fn put_back(ranges: &mut Vec<(char, char)>, mut before: Vec<(char, char)>) -> Result<(), AllocError>
+    ensures { OnOk result (reverse ranges.new.items ≡ before.items ++ reverse ranges.old.items) }
+{
+    while let Some(last) = before.pop() {
+        ranges.push(last)?;
+    }
+    Ok(())
+}
+
 /// Puts a range to the others, which are there from the last to the first.
 fn put_range(
     alloc: Global,
@@ -341,26 +391,43 @@ fn put_range(
 ) -> Result<(), AllocError>
     ensures { OnOk result (reverse ranges.new.items ≡ with_range range (reverse ranges.old.items)) }
 {
-    let mut low = range.0;
-    let mut high = range.1;
     let mut before = Vec::new(alloc); // the ranges that lie before it, from the first to the last
-    while let Some(next) = ranges.pop() {
-        if u32::from(high) + 1 < u32::from(next.0) {
-            ranges.push(next)?;
-            break;
-        }
-        if u32::from(next.1) + 1 < u32::from(low) {
-            before.push(next)?;
-        } else {
-            low = low.min(next.0);
-            high = high.max(next.1);
-        }
+    let joined = join_ranges(ranges, range, &mut before)?;
+    ranges.push(joined)?;
+    put_back(ranges, before)
+}
+
+/// The ranges of the items, which are put from the last to the first.
+#[tactic(auto, using(crate::proofs::ScalarRangeLemmas::ranges_with_item))]
+fn put_ranges(alloc: Global, items: &[(char, char)]) -> Result<Vec<(char, char)>, AllocError>
+    ensures { IfOk result (λ ranges. ranges.items ≡ scalar_ranges items.now) }
+{
+    let mut ranges = Vec::new(alloc);
+    for i in (0..items.len()).rev() {
+        put_range(alloc, &mut ranges, items[i])?;
     }
-    ranges.push((low, high))?;
-    while let Some(last) = before.pop() {
-        ranges.push(last)?;
+    ranges.reverse();
+    Ok(ranges)
+}
+
+fn are_in_order(items: &[(char, char)]) -> bool
+    ensures { result ≡ list_all (λ item. nat_le item.0 item.1) items.now }
+{
+    items.iter().all(|item| item.0 <= item.1)
+}
+
+/// The items in an order in which each is put before all others. The ranges are the same in any order,
+/// where the items have their low ends first.
+#[tactic(auto, using(crate::proofs::AnyOrderLemmas::any_order))]
+fn sorted(alloc: Global, items: &[(char, char)]) -> Result<Vec<(char, char)>, AllocError>
+    ensures { IfOk result (λ sorted. scalar_ranges sorted.items ≡ scalar_ranges items.now) }
+{
+    let mut sorted: Vec<(char, char)> = items.iter().copied().collect(alloc)?;
+    if !are_in_order(items) {
+        return Ok(sorted);
     }
-    Ok(())
+    sorted.sort_unstable();
+    Ok(sorted)
 }
 
 /// The ranges of the scalars that are in an item, ascending and each as long as it can be.
@@ -370,11 +437,8 @@ pub(crate) fn scalar_ranges(
 ) -> Result<Vec<(char, char)>, AllocError>
     ensures { IfOk result (λ ranges. ranges.items ≡ scalar_ranges items.now) }
 {
-    let mut ranges = Vec::new(alloc);
-    for item in items.iter().rev() {
-        put_range(alloc, &mut ranges, *item)?;
-    }
-    ranges.reverse();
+    let sorted = sorted(alloc, items)?;
+    let ranges = put_ranges(alloc, &sorted)?;
     Ok(ranges)
 }
 

@@ -8,7 +8,7 @@ use Rattle.std.proofs.Math.Nat.{le-max_left}
 use Rattle.std.specs.List.{range_with_len, flat_map}
 use Rattle.search_core.specs.ByteSets.{has, ranges_from}
 use Rattle.search_core.specs.Classes.{alphabet_size}
-use Rattle.search_core.specs.Marks.{marks_below, recorded, IsUnmarked}
+use Rattle.search_core.specs.Marks.{marks_below, recorded, IsUnmarked, HasMarks}
 use Rattle.search_core.proofs.ForCallers.{length-recorded, own_marks, marks_stay}
 use Rattle.look_core.specs.Terminators.{Terminator}
 use Rattle.nfa_core.specs.Alike.{marks_of}
@@ -126,6 +126,17 @@ module _ (n : Nfa) (o : Options) where
   )
   alike_bytes b c sound small little (inr e) =
       (ap (has (quits_of n o)) e, λ s stepped. ap (λ (x : ℕ). step_value n.automaton n.terminator (kind_of o) s (Some x)) e)
+
+  -- so marks tell bytes of one class, which have all marks of the automaton
+  pub classes_by_marks : (m : List Bool) × HasMarks m (marks_of n.terminator n.automaton.states) × ((b c : ℕ) → b < 256 → c < 256 →
+      class_of (classes_of n o) (Some b) ≡ class_of (classes_of n o) (Some c) → marks_below m b ≡ marks_below m c)
+  classes_by_marks = (
+    marks,
+    marks_stay (marks_of n.terminator n.automaton.states) (marks_of n.terminator n.automaton.states) (ranges_from (quits_of n o) 0)
+        (own_marks (marks_of n.terminator n.automaton.states)),
+    λ b c l k e. ⊎_elim (λ (same : marks_below marks b ≡ marks_below marks c). same) (λ (one : b ≡ c). ap (marks_below marks) one)
+        (one_class (classes_on o) marks b c (sym (class_there n o b l) ∙ (e ∙ class_there n o c k))),
+  )
 
   alike_ends : Alike (dfa_of n o) None None
   unfolding Alike after

@@ -13,11 +13,18 @@ pub use Rattle.lazy_dfa.proofs.AnewLemmas.{again, last_pass}
 pub use Rattle.lazy_dfa.proofs.ScanLemmas.{scan_quits_near, scan_finds_near}
 -- which modes are told that can't be searched in
 pub use Rattle.lazy_dfa.proofs.ScanLemmas.{scan_tells_mode, scan_mode_told}
+-- whether there are starts for each pattern shows by that alone
+pub use Rattle.lazy_dfa.proofs.SupportLemmas.{scan_by_support}
 -- an answer depends on its reach, which has no quit byte, the place that is found, and lies in or beside the span
 pub use Rattle.lazy_dfa.proofs.IntervalReachLemmas.{scan_by_reach, scan_is_quiet, scan_place_is_reached, reach_is_near, scan_in_span}
-pub use Rattle.lazy_dfa.proofs.HasReachLemmas.{scan_has_reach, start_is_state}
+pub use Rattle.lazy_dfa.proofs.HasReachLemmas.{scan_has_reach, scan_has_reach_back, start_is_state}
+-- one who reads up reads the bytes from the one before the span on, as many as units are read, and one more
+pub use Rattle.lazy_dfa.proofs.HasReachLemmas.{reached_up, below_reach}
+pub use Rattle.lazy_dfa.proofs.ReachLemmas.{scan_few}
 -- each byte above 7F is a quit byte where words by characters are asked for
 pub use Rattle.lazy_dfa.proofs.QuitSetLemmas.{supported_quits}
+-- bytes of one class have the same marks, and the marks are all of the automaton's
+pub use Rattle.lazy_dfa.proofs.BuiltLemmas.{classes_by_marks}
 -- ---- overlapping walks
 -- where all matches are asked for, what is left of a walk is the ends of runs place by place: each is told once, in reading
 -- order, and at one place the ends of the preferred runs first; before a quit byte, those at the places before its unit
@@ -38,3 +45,5 @@ pub use Rattle.lazy_dfa.proofs.IsCacheLemmas.{dead_of, alive_of, row_is_plain, r
 -- what is known of a step at an untagged ID, and where a known step leads
 pub use Rattle.lazy_dfa.proofs.ChangeLemmas.{plain_place, plain_noted, noted_read}
 pub use Rattle.lazy_dfa.proofs.IsCacheLemmas.{known_leads}
+-- a search gives up nowhere where no least number of clears is set
+pub use Rattle.lazy_dfa.proofs.SearchClauseLemmas.{never_among}

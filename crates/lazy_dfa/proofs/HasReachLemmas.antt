@@ -1,19 +1,20 @@
--- How far a half search upwards came when it found a match or none.
+-- How far a half search came when it found a match or none.
 use Rattle.std.proofs.Common.{◌≡◌, ℕ, zero, suc, ◌+◌, ◌-◌, ◌<◌, ◌≤◌, Bool, true, false, List, [], ◌∷◌, length, Option, Some, None, sym, ap, ◌∙◌, ⊎_elim, subst, arith}
 use Rattle.std.specs.Prelude.{All, slice_get}
 use Rattle.std.proofs.lemmas.List.Elements.{All-head, All-tail}
 use Rattle.search_types.specs.declared.anchored.Anchored.{Anchored}
 use Rattle.search_types.specs.declared.anchored.Anchored.TheVariants.{No, Yes, Pattern}
 use Rattle.search_types.specs.Inputs.{Search}
+use Rattle.search_core.specs.Text.{byte_at}
 use Rattle.nfa_core.specs.Nfa.{Automaton}
 use Rattle.nfa_core.specs.NfaValue.{IsSound}
 use Rattle.lazy_dfa.specs.Passes.{start_name}
 use Rattle.lazy_dfa.specs.Readers.{Reader, found}
-use Rattle.lazy_dfa.specs.ScanLaws.{IsReached, begins_at, scan_len, ReadsAlike}
+use Rattle.lazy_dfa.specs.ScanLaws.{IsReached, IsInReach, begins_at, scan_len, ReadsAlike}
 use Rattle.lazy_dfa.specs.Scans.{first_place, scan}
-use Rattle.lazy_dfa.specs.SearchAnswers.{IsReachOf, HasReach}
+use Rattle.lazy_dfa.specs.SearchAnswers.{IsReachOf, HasReach, IsReachBack, HasReachBack}
 use Rattle.lazy_dfa.proofs.FoundLemmas.{scan_finds_first}
-use Rattle.lazy_dfa.proofs.IntervalReachLemmas.{scan_is_quiet, scan_place_is_reached}
+use Rattle.lazy_dfa.proofs.IntervalReachLemmas.{scan_by_reach, scan_is_quiet, scan_place_is_reached, reach_is_near}
 use Rattle.lazy_dfa.proofs.ReachLemmas.{scan_few}
 use Rattle.lazy_dfa.proofs.ScanLemmas.{scan_done, le_or_done}
 use Rattle.lazy_dfa.proofs.TurnLemmas.{one_found}
@@ -36,11 +37,12 @@ start_is_state a (Pattern p) name sound e = one_of (λ (x : ℕ). x < length a.s
 
 -- ---- places
 
-reached_up : (down : Bool) (s e n x : ℕ) → down ≡ false → s ≤ x + 1 → x < s + n → IsReached down (first_place down s e) n x
+-- for one who reads up
+pub reached_up : (down : Bool) (s e n x : ℕ) → down ≡ false → s ≤ x + 1 → x < s + n → IsReached down (first_place down s e) n x
 reached_up false s e n x up from to = (from, to)
 reached_up true s e n x up from to = let never : true ≡ false = up in absurd (grind (arith, never))
 
-below_reach : (down : Bool) (s e n x : ℕ) → down ≡ false → IsReached down (first_place down s e) n x → x < s + n
+pub below_reach : (down : Bool) (s e n x : ℕ) → down ≡ false → IsReached down (first_place down s e) n x → x < s + n
 below_reach false s e n x up there = there.1
 below_reach true s e n x up there = let never : true ≡ false = up in absurd (grind (arith, never))
 
@@ -48,7 +50,34 @@ same_length : (down : Bool) (s e n : ℕ) → down ≡ false → s + n - first_p
 same_length false s e n up = omega arith
 same_length true s e n up = let never : true ≡ false = up in absurd (grind (arith, never))
 
+-- for one who reads down
+reached_down : (down : Bool) (s e n x : ℕ) → down ≡ true → e - n ≤ x → x ≤ e → IsReached down (first_place down s e) n x
+reached_down true s e n x back from to = (omega (arith, from), to)
+reached_down false s e n x back from to = let never : false ≡ true = back in absurd (grind (arith, never))
+
+above_reach : (down : Bool) (s e n x : ℕ) → down ≡ true → IsReached down (first_place down s e) n x → e - n ≤ x
+above_reach true s e n x back there = let from = there.0 in omega (arith, from)
+above_reach false s e n x back there = let never : false ≡ true = back in absurd (grind (arith, never))
+
+-- ---- searches that are done
+
+nothing : (e : ℕ × ℕ) (P : Type 0) → None ≡ Some e → P
+nothing e P never = let no_way : true ≡ false = cc in absurd (grind (arith, no_way))
+
+module _ (r : Reader) (q : Search) (o : Option (ℕ × ℕ)) (is : scan r q ≡ found o) (past : q.end < q.start) where
+  none_is : None ≡ o
+  none_is = one_found None o (sym (scan_done r q past) ∙ is)
+
+  done_anywhere : (g : List ℕ) → scan r (record q { haystack = g }) ≡ found o
+  done_anywhere g = scan_done r (record q { haystack = g }) past ∙ ap found none_is
+
 -- ---- reaches
+
+module _ (r : Reader) (q : Search) (o : Option (ℕ × ℕ)) (within : q.end ≤ length q.haystack) (is : scan r q ≡ found o) where
+  -- the same bytes where it reads, the same answer
+  same_elsewhere : (g : List ℕ) → q.end ≤ length g → ((x : ℕ) → IsInReach r q x → byte_at g x ≡ byte_at q.haystack x) →
+      scan r (record q { haystack = g }) ≡ found o
+  same_elsewhere g in_g same = sym (scan_by_reach r q g within in_g (λ x there. sym (same x there))) ∙ is
 
 module _ (r : Reader) (q : Search) (o : Option (ℕ × ℕ)) (up : r.automaton.reverse ≡ false) (sound : IsSound r.automaton)
     (within : q.end ≤ length q.haystack) (is : scan r q ≡ found o) where
@@ -58,26 +87,55 @@ module _ (r : Reader) (q : Search) (o : Option (ℕ × ℕ)) (up : r.automaton.r
   reach_begun : q.start ≤ q.end → IsReachOf r q o (q.start + len)
   reach_begun fits = record {
     within = let few = scan_few r q in omega (arith, fits, few);
+    done = λ over x from to. absurd (omega (arith, fits, over));
     past = λ e same. below_reach r.automaton.reverse q.start q.end len e.0 up (scan_place_is_reached r q e (is ∙ ap found same)).1;
     quiet = λ x from to. scan_is_quiet r q o within is x (fits, reached_up r.automaton.reverse q.start q.end len x up from to);
+    local = λ g in_g same. same_elsewhere r q o within is g in_g
+        (λ x there. same x (reach_is_near r q x there).0 (below_reach r.automaton.reverse q.start q.end len x up there.1));
     first = λ name holds begun leftmost late plain named alike.
         scan_finds_first r q name sound.named fits within named (start_is_state r.automaton q.anchored name sound named) leftmost late plain holds
         (subst (λ (n : ℕ). ReadsAlike r holds q.haystack q.start q.end (begins_at r q) n) (same_length r.automaton.reverse q.start q.end len up) alike) o is;
   }
 
   reach_done : q.end < q.start → IsReachOf r q o 0
-  reach_done past = record {
+  reach_done over = record {
     within = omega arith;
-    past = λ e same. let never : true ≡ false = nothing e (one_found None o (sym (scan_done r q past) ∙ is) ∙ same) in absurd (grind (arith, never));
+    done = λ past x from to. absurd (omega (arith, to));
+    past = λ e same. nothing e (e.0 < 0) (none_is r q o is over ∙ same);
     quiet = λ x from to. absurd (omega (arith, to));
-    first = λ name holds begun leftmost late plain named alike. absurd (omega (arith, past, begun));
+    local = λ g in_g same. done_anywhere r q o is over g;
+    first = λ name holds begun leftmost late plain named alike. absurd (omega (arith, over, begun));
   }
-    where
-      nothing : (e : ℕ × ℕ) → None ≡ Some e → true ≡ false
-      nothing e never = cc
 
   pub scan_has_reach : HasReach r q o
   scan_has_reach = ⊎_elim
       (λ (fits : q.start ≤ q.end). (q.start + len, reach_begun fits))
       (λ (past : q.end < q.start). (0, reach_done past))
+      (le_or_done r q q.start q.end)
+
+module _ (r : Reader) (q : Search) (o : Option (ℕ × ℕ)) (back : r.automaton.reverse ≡ true)
+    (within : q.end ≤ length q.haystack) (is : scan r q ≡ found o) where
+  back_begun : q.start ≤ q.end → IsReachBack r q o (q.end - scan_len r q)
+  back_begun fits = record {
+    within = let few = scan_few r q in omega (arith, fits, few);
+    done = λ over x from to. absurd (omega (arith, fits, over));
+    past = λ e same. above_reach r.automaton.reverse q.start q.end (scan_len r q) e.0 back (scan_place_is_reached r q e (is ∙ ap found same)).1;
+    quiet = λ x from to. scan_is_quiet r q o within is x (fits, reached_down r.automaton.reverse q.start q.end (scan_len r q) x back from to);
+    local = λ g in_g same. same_elsewhere r q o within is g in_g
+        (λ x there. same x (above_reach r.automaton.reverse q.start q.end (scan_len r q) x back there.1) (reach_is_near r q x there).1);
+  }
+
+  back_done : q.end < q.start → IsReachBack r q o q.start
+  back_done over = record {
+    within = omega arith;
+    done = λ past x from to. absurd (omega (arith, over, from, to));
+    past = λ e same. nothing e (q.start ≤ e.0) (none_is r q o is over ∙ same);
+    quiet = λ x from to. absurd (omega (arith, over, from, to));
+    local = λ g in_g same. done_anywhere r q o is over g;
+  }
+
+  pub scan_has_reach_back : HasReachBack r q o
+  scan_has_reach_back = ⊎_elim
+      (λ (fits : q.start ≤ q.end). (q.end - scan_len r q, back_begun fits))
+      (λ (past : q.end < q.start). (q.start, back_done past))
       (le_or_done r q q.start q.end)

@@ -52,6 +52,7 @@ pub mod AnswerLemmas
 pub mod SearchLemmas
 pub mod SearchEndLemmas
 pub mod HasReachLemmas
+pub mod SupportLemmas
 pub mod SearchClauseLemmas
 pub mod PassLoopLemmas
 pub mod RestLemmas

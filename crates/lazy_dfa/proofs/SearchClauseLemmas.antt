@@ -23,10 +23,10 @@ use Rattle.lazy_dfa.specs.Passes.{next_place, pass, first_value}
 use Rattle.lazy_dfa.specs.Readers.{Reader, found}
 use Rattle.lazy_dfa.specs.ScanLaws.{begins_at, passes_made, units_in_passes, pass_count, unit_count, HasNoQuitNear}
 use Rattle.lazy_dfa.specs.Scans.{scan}
-use Rattle.lazy_dfa.specs.SearchAnswers.{half_of, pair_of, told, GivesUpIn, at_start, at_unit, GivesUpAmong, Answers, told_of, told_by, made_by, HasReach}
+use Rattle.lazy_dfa.specs.SearchAnswers.{half_of, pair_of, told, GivesUpIn, at_start, at_unit, GivesUpAmong, Answers, told_of, told_by, made_by, HasReach, HasReachBack}
 use Rattle.lazy_dfa.specs.Steps.{most_inserts}
 use Rattle.lazy_dfa.proofs.AnswerLemmas.{ok_is_told, ok_is_found}
-use Rattle.lazy_dfa.proofs.HasReachLemmas.{scan_has_reach}
+use Rattle.lazy_dfa.proofs.HasReachLemmas.{scan_has_reach, scan_has_reach_back}
 use Rattle.lazy_dfa.proofs.LinkedLemmas.{not_cleared}
 use Rattle.lazy_dfa.proofs.ScanLemmas.{scan_finds_near}
 
@@ -89,7 +89,7 @@ module _ (d : Dfa) (v : CacheValue) (none : clears_of d.options ≡ None) where
   never_here mode earliest h n i x (at_start place lacks) = has_room (first_value (reader d) mode h i) lacks
   never_here mode earliest h n i x (at_unit k less place lacks runs) = has_room (state_behind (reader d) h i (first_value (reader d) mode h i) (suc k)) lacks
 
-  never_among : (q : Search) (x : ℕ) (ps : List (ℕ × ℕ)) → GivesUpAmong d v q x ps → ⊥
+  pub never_among : (q : Search) (x : ℕ) (ps : List (ℕ × ℕ)) → GivesUpAmong d v q x ps → ⊥
   never_among q x [] g = g
   never_among q x (p ∷ ps) (inl g) = never_here q.anchored q.earliest q.haystack p.0 p.1 x g
   never_among q x (p ∷ ps) (inr g) = never_among q x ps g
@@ -158,11 +158,19 @@ half_of_pair : (f : Option HalfFound) → f ≡ half_of (pair_of f)
 half_of_pair None = refl
 half_of_pair (Some m) = refl
 
--- how far an answer upwards reached
-pub reaches : (d : Dfa) (q : Search) (new : CacheValue) (result : Result (Option HalfFound) MatchErrorKind) → IsDfa d → d.nfa.automaton.reverse ≡ false →
-    q.end ≤ length q.haystack → Answers d new q result → IfOk result (λ f. (o : Option (ℕ × ℕ)) × (f ≡ half_of o) × HasReach (reader d) q o)
-reaches d q new (Err e) made up within answers = tt
-reaches d q new (Ok f) made up within answers =
+-- how far an answer reached, upwards or downwards
+reaches_where : (P : Option (ℕ × ℕ) → Type 0) (d : Dfa) (q : Search) (new : CacheValue) (result : Result (Option HalfFound) MatchErrorKind) →
+    ((o : Option (ℕ × ℕ)) → scan (reader d) q ≡ found o → P o) → Answers d new q result → IfOk result (λ f. (o : Option (ℕ × ℕ)) × (f ≡ half_of o) × P o)
+reaches_where P d q new (Err e) reach answers = tt
+reaches_where P d q new (Ok f) reach answers =
     let is : scan (reader d) q ≡ found (pair_of f) =
     ok_is_found (scan (reader d) q) f (ok_is_told f (told (scan (reader d) q)) (λ (x : ℕ). GivesUpAmong d new q x (passes_of (reader d) q)) answers) in
-    (pair_of f, half_of_pair f, scan_has_reach (reader d) q (pair_of f) up made.sound within is)
+    (pair_of f, half_of_pair f, reach (pair_of f) is)
+
+module _ (d : Dfa) (q : Search) (new : CacheValue) (result : Result (Option HalfFound) MatchErrorKind) (made : IsDfa d) (within : q.end ≤ length q.haystack)
+    (answers : Answers d new q result) where
+  pub reaches : d.nfa.automaton.reverse ≡ false → IfOk result (λ f. (o : Option (ℕ × ℕ)) × (f ≡ half_of o) × HasReach (reader d) q o)
+  reaches up = reaches_where (HasReach (reader d) q) d q new result (λ o is. scan_has_reach (reader d) q o up made.sound within is) answers
+
+  pub reaches_back : d.nfa.automaton.reverse ≡ true → IfOk result (λ f. (o : Option (ℕ × ℕ)) × (f ≡ half_of o) × HasReachBack (reader d) q o)
+  reaches_back back = reaches_where (HasReachBack (reader d) q) d q new result (λ o is. scan_has_reach_back (reader d) q o back within is) answers

@@ -1,5 +1,5 @@
 -- What half searches over a cache answer, and what they tell of how far they came.
-use Rattle.std.specs.Prelude.{◌≡◌, ◌⊎◌, ℕ, suc, ◌+◌, ◌-◌, ◌<◌, ◌≤◌, ◌==◌, ◌&&◌, Bool, true, false, min, List, [], ◌∷◌, Option, Some, None, Result, Ok, Err, if◌then◌else◌, nat_lt}
+use Rattle.std.specs.Prelude.{◌≡◌, ◌⊎◌, ℕ, suc, ◌+◌, ◌-◌, ◌<◌, ◌≤◌, ◌==◌, ◌&&◌, Bool, true, false, min, List, [], ◌∷◌, length, Option, Some, None, Result, Ok, Err, if◌then◌else◌, nat_lt}
 use Rattle.std.specs.List.{list_any}
 use Rattle.search_core.specs.Text.{byte_at}
 use Rattle.look_core.specs.declared.look.Look.{Look}
@@ -110,16 +110,32 @@ made_by r q (p ∷ ps) = suc (pass_len r q.anchored q.earliest q.haystack p.0 p.
 
 -- ---- reach
 
--- The place behind what a half search upwards read. From the byte before the span to there stands no quit byte, and under
--- leftmost-first it found the first end for each reading of looks that agrees with the one by ASCII bytes up to there, if
--- it wasn't done before it began.
+-- The place behind what a half search upwards read. From the byte before the span to there stands no quit byte, a search of
+-- any haystack that has the same bytes there finds the same, and under leftmost-first it found the first end for each reading
+-- of looks that agrees with the one by ASCII bytes up to there, if it wasn't done before it began: then it read nothing.
 pub record IsReachOf (r : Reader) (q : Search) (o : Option (ℕ × ℕ)) (end : ℕ) : Type 0 where
   pub within : end ≤ suc q.end
+  pub done : q.end < q.start → (x : ℕ) → q.start ≤ x + 1 → x < end → ⊥
   pub past : (e : ℕ × ℕ) → o ≡ Some e → e.0 < end
   pub quiet : (x : ℕ) → q.start ≤ x + 1 → x < end → is_quit r.quits (byte_at q.haystack x) ≡ false
+  pub local : (g : List ℕ) → q.end ≤ length g → ((x : ℕ) → q.start ≤ x + 1 → x < end → byte_at g x ≡ byte_at q.haystack x) →
+      scan r (record q { haystack = g }) ≡ found o
   pub first : (name : ℕ) (holds : Look → ℕ → Bool) → q.start ≤ q.end → r.kind ≡ LeftmostFirst → q.earliest ≡ false → list_any is_capture r.automaton.states ≡ false →
       start_name r.automaton q.anchored ≡ Some name → ReadsAlike r holds q.haystack q.start q.end (begins_at r q) (end - begins_at r q) →
       IsFirstFound r q holds name o
 
 abbrev pub HasReach : Reader → Search → Option (ℕ × ℕ) → Type 0
 HasReach r q o = (end : ℕ) × IsReachOf r q o end
+
+-- The first of the places that a half search downwards read. From there to the byte behind the span stands no quit byte, and
+-- a search of any haystack that has the same bytes there finds the same. One that was done before it began read nothing.
+pub record IsReachBack (r : Reader) (q : Search) (o : Option (ℕ × ℕ)) (begin : ℕ) : Type 0 where
+  pub within : q.start ≤ begin + 1
+  pub done : q.end < q.start → (x : ℕ) → begin ≤ x → x ≤ q.end → ⊥
+  pub past : (e : ℕ × ℕ) → o ≡ Some e → begin ≤ e.0
+  pub quiet : (x : ℕ) → begin ≤ x → x ≤ q.end → is_quit r.quits (byte_at q.haystack x) ≡ false
+  pub local : (g : List ℕ) → q.end ≤ length g → ((x : ℕ) → begin ≤ x → x ≤ q.end → byte_at g x ≡ byte_at q.haystack x) →
+      scan r (record q { haystack = g }) ≡ found o
+
+abbrev pub HasReachBack : Reader → Search → Option (ℕ × ℕ) → Type 0
+HasReachBack r q o = (begin : ℕ) × IsReachBack r q o begin

@@ -15,7 +15,7 @@ ghost use Rattle.lazy_dfa.specs.Readers.{Reader, found, is_quit};
 ghost use Rattle.lazy_dfa.specs.Passes.{start_name, pass};
 ghost use Rattle.lazy_dfa.specs.PassLaws.{pass_len};
 ghost use Rattle.lazy_dfa.specs.Scans.{scan};
-ghost use Rattle.lazy_dfa.specs.SearchAnswers.{HasReach};
+ghost use Rattle.lazy_dfa.specs.SearchAnswers.{HasReach, HasReachBack};
 ghost use Rattle.lazy_dfa.specs.ScanLaws.{begins_at, IsFirstFound, ReadsAlike, IsInPass, IsInReach, Agree, scan_len};
 
 /// A pass depends on the bytes in its reach alone: the one behind its first place and those of the units that it reads.
@@ -63,9 +63,18 @@ pub fn scans_depend_on_their_reach()
 {}
 
 /// A half search upwards that finds a match or none has a place up to which it read: behind what it found, one past the
-/// byte behind the span at most. From the byte before the span to there stands no quit byte, and under leftmost-first it
-/// found the first end for each reading of looks that agrees with the one by ASCII bytes up to there.
+/// byte behind the span at most. From the byte before the span to there stands no quit byte, over each haystack with the same
+/// bytes there it finds the same, and under leftmost-first it found the first end for each reading of looks that agrees with
+/// the one by ASCII bytes up to there.
 pub fn scans_reach_a_place()
     ensures { (r : Reader) (q : Search) (o : Option (ℕ × ℕ)) → r.automaton.reverse ≡ false → IsSound r.automaton → q.end ≤ length q.haystack →
         scan r q ≡ found o → HasReach r q o }
+{}
+
+/// One downwards that finds a match or none has a place down to which it read, from the byte behind the span on: not above
+/// what it found, and not below the byte before the span. Between them stands no quit byte, and over each haystack with the
+/// same bytes there it finds the same.
+pub fn scans_back_reach_a_place()
+    ensures { (r : Reader) (q : Search) (o : Option (ℕ × ℕ)) → r.automaton.reverse ≡ true → q.end ≤ length q.haystack →
+        scan r q ≡ found o → HasReachBack r q o }
 {}

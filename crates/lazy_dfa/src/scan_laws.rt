@@ -88,3 +88,11 @@ pub fn scans_make_few_passes()
 pub fn scans_find_places_in_their_span()
     ensures { (r : Reader) (q : Search) (e : ℕ × ℕ) → scan r q ≡ found (Some e) → (q.start ≤ e.0) × (e.0 ≤ q.end) }
 {}
+
+/// What a half search answers goes by the automaton, its terminator, the kind of match, the quit bytes, whether ends that
+/// split characters count, and whether its mode is supported: nothing else of how the automaton is set shows.
+pub fn scans_go_by_their_readers()
+    ensures { (r s : Reader) (q : Search) → r.automaton ≡ s.automaton → r.terminator ≡ s.terminator → r.kind ≡ s.kind → r.quits ≡ s.quits →
+        r.between_characters ≡ s.between_characters →
+        is_supported r.starts_for_each_pattern q.anchored ≡ is_supported s.starts_for_each_pattern q.anchored → scan r q ≡ scan s q }
+{}

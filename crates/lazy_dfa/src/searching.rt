@@ -12,7 +12,7 @@ ghost use Rattle.lazy_dfa.specs.Linked.{IsLinked, GrowsOrClears, IsMoved, passes
 ghost use Rattle.lazy_dfa.specs.MadePasses.{MakesSearch};
 ghost use Rattle.lazy_dfa.specs.ScanLaws.{HasNoQuitNear, pass_count, unit_count};
 ghost use Rattle.lazy_dfa.specs.Scans.{scan};
-ghost use Rattle.lazy_dfa.specs.SearchAnswers.{Answers, told, told_of, told_by, half_of, HasReach};
+ghost use Rattle.lazy_dfa.specs.SearchAnswers.{Answers, told, told_of, told_by, half_of, HasReach, HasReachBack};
 ghost use Rattle.lazy_dfa.specs.Steps.{most_inserts};
 
 use crate::dfa::{Cache, DFA};
@@ -115,8 +115,8 @@ impl DFA {
     /// at the byte where it was then.
     ///
     /// A match, or none, comes with a place up to which it was looked for: no quit byte stands from the byte before the span
-    /// to there, and under leftmost-first what is found is the first end for each reading of looks that agrees with the one
-    /// by ASCII bytes up to there.
+    /// to there, whatever has the same bytes there is answered the same, and under leftmost-first what is found is the first
+    /// end for each reading of looks that agrees with the one by ASCII bytes up to there.
     pub fn try_search_fwd<L: Ledger, M: Ledger>(
         &self,
         cache: &mut Cache,
@@ -147,8 +147,8 @@ impl DFA {
     }
 
     /// The start of the match in a span that the kind of match prefers, or none, as `DFA::try_search_rev`. The automaton
-    /// reads downwards, from the span's end. All else is as [`try_search_fwd`](DFA::try_search_fwd) has it; what is found
-    /// goes by the bytes in and beside the span.
+    /// reads downwards, from the span's end. All else is as [`try_search_fwd`](DFA::try_search_fwd) has it; a match, or none,
+    /// comes with a place down to which it was looked for, from the byte behind the span on.
     pub fn try_search_rev<L: Ledger, M: Ledger>(
         &self,
         cache: &mut Cache,
@@ -171,6 +171,7 @@ impl DFA {
         ensures moved { IsLinked self.now cache.old input.now → IsMoved cache.old cache.new }
         ensures free { IsLinked self.now cache.old input.now → work.new ≡ work.old }
         ensures sure_if_linked { IsLinked self.now cache.old input.now → result ≡ told (scan (reader self.now) input.now) }
+        ensures reach { IfOk result (λ found. (o : Option (ℕ × ℕ)) × (found ≡ half_of o) × HasReachBack (reader self.now) input.now o) }
         ensures determinized { work.new.determinized ≤ work.old.determinized + (pass_count (reader self.now) input.now + unit_count (reader self.now) input.now) }
         ensures inserted { work.new.inserted ≤ work.old.inserted + (pass_count (reader self.now) input.now + unit_count (reader self.now) input.now) * most_inserts self.now }
     {

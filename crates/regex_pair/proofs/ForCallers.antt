@@ -11,3 +11,6 @@ pub use Rattle.regex_pair.proofs.JoinedLemmas.{chain_begins, chain_is_whole}
 pub use Rattle.regex_pair.proofs.JoinedLemmas.{match_lies, joined_by_reach}
 -- an answer that isn't a refusal is the joined one
 pub use Rattle.regex_pair.proofs.NextLemmas.{answer_is_joined}
+-- how far an answer reaches, and that pairs over the same NFAs answer alike
+pub use Rattle.regex_pair.proofs.ReachLemmas.{joined_has_reach}
+pub use Rattle.regex_pair.proofs.AlikeLemmas.{joined_alike, told_alike}

@@ -6,4 +6,6 @@ pub mod JoinedLemmas
 pub mod MatchingLemmas
 pub mod NextLemmas
 pub mod TakenLemmas
+pub mod ReachLemmas
+pub mod AlikeLemmas
 pub mod ForCallers

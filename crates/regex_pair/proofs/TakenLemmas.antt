@@ -1,8 +1,9 @@
 -- Matches that are taken one after the other are a chain of answers, and all of them where the iterator comes to its end: by steps, as
 -- a loop keeps it. Nothing is taken at first, one more is by a step that gives one, and all are where a step gives nothing.
-use Rattle.std.proofs.Common.{◌≡◌, true, false, List, [], ◌∷◌, ◌++◌, Option, Some, None, Result, Ok, Err, refl, sym, ap, ◌∙◌, subst, arith, append-nil, append_assoc}
+use Rattle.std.proofs.Common.{◌≡◌, ℕ, ◌+◌, ◌≤◌, Bool, true, false, List, [], ◌∷◌, ◌++◌, Option, Some, None, Result, Ok, Err, refl, sym, ap, ◌∙◌, subst, arith, append-nil, append_assoc}
 use Rattle.search_types.specs.declared.match_error.MatchErrorKind.{MatchErrorKind}
-use Rattle.search_types.specs.Chains.{IsNext, IsChain, IsWholeChain}
+use Rattle.search_types.specs.AllAnswers.{is_repeat}
+use Rattle.search_types.specs.Chains.{IsTaken, IsNext, IsChain, IsWholeChain}
 use Rattle.search_types.specs.Found.{Found}
 use Rattle.search_types.specs.Inputs.{Search}
 use Rattle.regex_pair.specs.declared.find_matches.FindMatches.{FindMatches}
@@ -10,21 +11,36 @@ use Rattle.regex_pair.specs.Finding.{Finding, AnswersAt, IsNextFound, Finds, fin
 use Rattle.regex_pair.specs.FindSteps.{FindsNext, searches_by, finds_from, caches_of}
 use Rattle.regex_pair.specs.Pairs.{Pair, PairCache}
 use Rattle.regex_pair.specs.Taken.{AreTaken}
+use Rattle.regex_pair.proofs.JoinedLemmas.{match_lies}
 
 pub none_taken : (p : Pair) (q : Search) → AreTaken p q [] (finding_all q)
-none_taken p q = record { begun = refl; here = refl; chain = λ rest c. c; whole = λ rest c. c }
+none_taken p q = record { begun = refl; here = refl; from = omega arith; chain = λ rest c. c; whole = λ rest c. c }
 
 -- what comes next is the next answer to the search as it was asked
 next_of_search : (p : Pair) (q : Search) (at : Finding) (o : Option Found) → at.search ≡ search_at q at.search.start → IsNextFound p at o →
     IsNext (AnswersAt p q) at.last at.search.start o
 next_of_search p q at o here next = subst (λ (s : Search). IsNext (AnswersAt p s) at.last at.search.start o) here next
 
+-- and it ends behind where the search is
+taken_is_behind : (p : Pair) (q : Search) (k : ℕ) (o : Option Found) (b : Bool) (f : Found) → AnswersAt p q k o →
+    IsTaken (AnswersAt p q) k o b (Some f) → k ≤ f.end
+taken_is_behind p q k o false f first taken =
+    let lies = match_lies p (search_at q k) f (first ∙ ap Ok (sym taken)) in let low = lies.0 in let high = lies.1 in omega (arith, low, high)
+taken_is_behind p q k o true f first taken =
+    let lies = match_lies p (search_at q (k + 1)) f taken in let low = lies.0 in let high = lies.1 in omega (arith, low, high)
+
+next_is_behind : (p : Pair) (q : Search) (last : Option ℕ) (k : ℕ) (f : Found) → IsNext (AnswersAt p q) last k (Some f) → k ≤ f.end
+next_is_behind p q last k f next = taken_is_behind p q k next.0 (is_repeat last next.0) f next.1 next.2
+
 one_behind : (p : Pair) (q : Search) (fs : List Found) (at : Finding) (f : Found) → AreTaken p q fs at → IsNextFound p at (Some f) →
     AreTaken p q (fs ++ f ∷ []) (behind at f)
 one_behind p q fs at f taken next =
-    let first = next_of_search p q at (Some f) taken.here next in record {
+    let first = next_of_search p q at (Some f) taken.here next in
+    let behind_it = next_is_behind p q at.last at.search.start f first in
+    let so_far = taken.from in record {
       begun = refl;
       here = ap (λ (s : Search). search_at s f.end) taken.here;
+      from = omega (arith, behind_it, so_far);
       chain = λ rest c. subst (λ (gs : List Found). IsChain (AnswersAt p q) None q.start gs) (sym (append_assoc fs (f ∷ []) rest))
           (taken.chain (f ∷ rest) (first, c));
       whole = λ rest c. subst (λ (gs : List Found). IsWholeChain (AnswersAt p q) None q.start gs) (sym (append_assoc fs (f ∷ []) rest))

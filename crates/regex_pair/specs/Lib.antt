@@ -7,4 +7,5 @@ pub mod MadeSearches
 pub mod Finding
 pub mod FindSteps
 pub mod PairLaws
+pub mod Reach
 pub mod Taken

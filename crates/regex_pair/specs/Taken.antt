@@ -1,5 +1,5 @@
 -- Which matches were taken one after the other, as a loop over an iterator keeps it.
-use Rattle.std.specs.Prelude.{◌≡◌, false, List, ◌++◌, None}
+use Rattle.std.specs.Prelude.{◌≡◌, ◌≤◌, false, List, ◌++◌, None}
 use Rattle.search_types.specs.Chains.{IsChain, IsWholeChain}
 use Rattle.search_types.specs.Found.{Found}
 use Rattle.search_types.specs.Inputs.{Search}
@@ -7,10 +7,12 @@ use Rattle.regex_pair.specs.Finding.{Finding, AnswersAt, search_at}
 use Rattle.regex_pair.specs.Pairs.{Pair}
 
 -- These were taken, and then the iterator is there: whatever is taken from there on, behind these it is a chain of answers to the
--- search, and it is the whole of them where that is the whole of what follows. No refusal and no end came yet.
+-- search, and it is the whole of them where that is the whole of what follows. It isn't before the search's start. No refusal and no end
+-- came yet.
 pub record AreTaken (p : Pair) (q : Search) (fs : List Found) (at : Finding) : Type 0 where
   pub begun : at.is_over ≡ false
   pub here : at.search ≡ search_at q at.search.start
+  pub from : q.start ≤ at.search.start
   pub chain : (rest : List Found) → IsChain (AnswersAt p q) at.last at.search.start rest → IsChain (AnswersAt p q) None q.start (fs ++ rest)
   pub whole : (rest : List Found) → IsWholeChain (AnswersAt p q) at.last at.search.start rest →
       IsWholeChain (AnswersAt p q) None q.start (fs ++ rest)

@@ -14,8 +14,9 @@ ghost use Rattle.regex_pair.specs.Finding.{AnswersAt, search_at};
 ghost use Rattle.regex_pair.specs.Joined.{joined, back_from};
 ghost use Rattle.regex_pair.specs.Matching.{has_match, is_some_match};
 ghost use Rattle.regex_pair.specs.PairAnswers.{GoesBack};
-ghost use Rattle.regex_pair.specs.PairLaws.{answer_at, IsInPairReach};
+ghost use Rattle.regex_pair.specs.PairLaws.{answer_at, AreSetAlike, IsInPairReach};
 ghost use Rattle.regex_pair.specs.Pairs.{Pair, IsPair};
+ghost use Rattle.regex_pair.specs.Reach.{HasPairReach};
 
 /// A match that is found starts in the span, and ends there, not before its start.
 pub fn matches_lie_in_their_span()
@@ -54,4 +55,20 @@ pub fn a_match_is_told_where_its_end_is_found()
 #[tactic(auto, using(crate::proofs::JoinedLemmas::ends_of_all_rise))]
 pub fn ends_of_matches_rise()
     ensures { (p : Pair) (q : Search) → EndsRise None (all_answers (answer_at p q) q.start q.end) }
+{}
+
+/// A search that answers has a place up to which it read: behind the end of its match, one past the byte behind the span at
+/// most. From the byte before the span to there stands no quit byte, and over each haystack with the same bytes there the
+/// answer is the same.
+pub fn joins_reach_a_place()
+    ensures { (p : Pair) (q : Search) (o : Option Found) → IsPair p → q.end ≤ length q.haystack → joined p q ≡ Ok o → HasPairReach p q o }
+{}
+
+/// Pairs over the same two NFAs with the same kinds of matches and quit bytes answer alike in each mode in which both can
+/// search: the capacity of their caches, when these are cleared, their classes of bytes and whether starts are tagged don't
+/// show.
+#[tactic(auto, using(crate::proofs::AlikeLemmas::joined_alike, crate::proofs::AlikeLemmas::told_alike))]
+pub fn settings_of_caches_do_not_show()
+    ensures answer { (p r : Pair) (q : Search) → AreSetAlike p r q.anchored → joined p q ≡ joined r q }
+    ensures told { (p r : Pair) (q : Search) → AreSetAlike p r q.anchored → has_match p q ≡ has_match r q }
 {}

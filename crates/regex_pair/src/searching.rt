@@ -1,6 +1,7 @@
 //! Searches over two automata.
-ghost use Rattle.std.specs.Prelude.{◌≡◌, ◌⊎◌, ◌+◌, ◌*◌, ◌<◌, ◌≤◌, ℕ, true, false, None, IfErr, OnOk};
+ghost use Rattle.std.specs.Prelude.{◌≡◌, ◌⊎◌, ◌+◌, ◌*◌, ◌<◌, ◌≤◌, ℕ, true, false, None, IfOk, IfErr, OnOk};
 ghost use Rattle.search_types.specs.declared.match_error.MatchErrorKind.TheVariants.{NoMemory, NotAPair};
+ghost use Rattle.search_types.specs.Inputs.{IsWithin};
 ghost use Rattle.search_types.specs.Modes.{is_supported};
 ghost use Rattle.lazy_dfa.specs.Caches.{IsCacheOf, greatest};
 ghost use Rattle.lazy_dfa.specs.ConfigValue.{clears_of};
@@ -13,7 +14,8 @@ ghost use Rattle.regex_pair.specs.Joined.{back_from, is_start_known, joined};
 ghost use Rattle.regex_pair.specs.MadeSearches.{MakesHalf, MakesBack, FindsEnd, MakesMatch, MakesPair};
 ghost use Rattle.regex_pair.specs.Matching.{AnswersMatch, has_match, match_search};
 ghost use Rattle.regex_pair.specs.PairAnswers.{AnswersPair, ArePathsLinked, GoesBack, IsBackLinked, half_made, back_made};
-ghost use Rattle.regex_pair.specs.Pairs.{AreCachesOf, PairGrowsOrClears, IsPairMoved};
+ghost use Rattle.regex_pair.specs.Pairs.{AreCachesOf, IsPair, PairGrowsOrClears, IsPairMoved};
+ghost use Rattle.regex_pair.specs.Reach.{HasPairReach};
 
 use crate::regex::{Cache, Regex};
 use lazy_dfa::{Work, dfa};
@@ -123,6 +125,16 @@ fn search_back<L: Ledger, M: Ledger>(
     Ok(Some(match_between(start.offset(), end)))
 }
 
+/// What is known of a regex and of an input: one automaton reads upwards and the other downwards, and the span lies in the
+/// haystack.
+fn see_pair(re: &Regex, input: &Input<'_>)
+    ensures pair { IsPair re.now }
+    ensures within { IsWithin input.now }
+{
+    let _forward = re.forward();
+    let _start = input.start();
+}
+
 /// A search over both automata.
 fn search<L: Ledger, M: Ledger>(
     re: &Regex,
@@ -131,9 +143,12 @@ fn search<L: Ledger, M: Ledger>(
     work: &mut Work<L, M>,
 ) -> Result<Option<Match>, MatchError>
     requires own { AreCachesOf re.now cache.old }
+    ensures pair { IsPair re.now }
+    ensures within { IsWithin input.now }
     ensures own { AreCachesOf re.now cache.new }
     ensures search { MakesPair re.now input.now cache.old cache.new work.old.determinized work.new.determinized work.old.inserted work.new.inserted result }
 {
+    see_pair(re, input);
     let end = match search_end(re, &mut cache.forward, input, work) {
         Ok(end) => end,
         Err(e) => return Err(e),
@@ -191,6 +206,9 @@ impl Regex {
     /// Where no quit byte stands in or beside the span, no least count of clears is set and the mode is supported, it answers,
     /// if memory suffices and the automata are a pair. Where the caches aren't cleared on the way, all steps of the search are
     /// known afterwards, and a search whose steps are known makes no states and takes no memory.
+    ///
+    /// A match, or none, comes with a place up to which the first automaton read: from the byte before the span to there stands
+    /// no quit byte of it, and over each haystack with the same bytes there the answer is the same.
     pub fn try_search<L: Ledger, M: Ledger>(
         &self,
         cache: &mut Cache,
@@ -219,6 +237,7 @@ impl Regex {
         ensures moved { ArePathsLinked self.now cache.old input.now → IsPairMoved cache.old cache.new }
         ensures free { ArePathsLinked self.now cache.old input.now → work.new ≡ work.old }
         ensures sure_if_linked { ArePathsLinked self.now cache.old input.now → result ≡ joined self.now input.now }
+        ensures reach { IfOk result (λ o. HasPairReach self.now input.now o) }
         ensures determinized { work.new.determinized ≤ work.old.determinized + (half_made (reader self.now.forward) input.now + back_made self.now input.now) }
         ensures inserted { work.new.inserted ≤ work.old.inserted + (half_made (reader self.now.forward) input.now * most_inserts self.now.forward +
             back_made self.now input.now * most_inserts self.now.reverse) }
@@ -249,6 +268,7 @@ impl Regex {
         ensures moved { ArePathsLinked self.now cache.old input.now → IsPairMoved cache.old cache.new }
         ensures free { ArePathsLinked self.now cache.old input.now → work.new ≡ work.old }
         ensures sure_if_linked { ArePathsLinked self.now cache.old input.now → result ≡ joined self.now input.now }
+        ensures reach { IfOk result (λ o. HasPairReach self.now input.now o) }
         ensures determinized { work.new.determinized ≤ work.old.determinized + (half_made (reader self.now.forward) input.now + back_made self.now input.now) }
         ensures inserted { work.new.inserted ≤ work.old.inserted + (half_made (reader self.now.forward) input.now * most_inserts self.now.forward +
             back_made self.now input.now * most_inserts self.now.reverse) }

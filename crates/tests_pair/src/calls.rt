@@ -52,6 +52,7 @@ pub(crate) enum Text {
     Aab,
     Ab,
     Abcd,
+    Abcz,
     Abd,
     Ba,
     Baab,
@@ -64,6 +65,12 @@ pub(crate) enum Text {
     /// "β" and "aβb".
     Beta,
     BetaWithin,
+    /// "dxabcd" and "zxabcz".
+    WithinD,
+    WithinZ,
+    /// "a1" and "q#".
+    LetterDigit,
+    LetterSign,
     Empty,
 }
 
@@ -132,6 +139,18 @@ fn more_bytes_of(text: Text) -> &'static [u8] {
         Text::Xx => b"xx",
         Text::Beta => b"\xCE\xB2",
         Text::BetaWithin => b"a\xCE\xB2b",
+        _ => alike_bytes_of(text),
+    }
+}
+
+/// The bytes of those of which two are searched alike.
+fn alike_bytes_of(text: Text) -> &'static [u8] {
+    match text {
+        Text::Abcz => b"abcz",
+        Text::WithinD => b"dxabcd",
+        Text::WithinZ => b"zxabcz",
+        Text::LetterDigit => b"a1",
+        Text::LetterSign => b"q#",
         _ => b"",
     }
 }

@@ -16,4 +16,6 @@ mod machine;
 #[cfg(test)]
 mod matching;
 #[cfg(test)]
+mod reach;
+#[cfg(test)]
 mod refusals;

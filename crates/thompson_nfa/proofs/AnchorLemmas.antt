@@ -9,7 +9,7 @@ use Rattle.look_core.specs.declared.look.Look.TheVariants.{Start, End}
 use Rattle.hir_core.specs.Tree.{Tree}
 use Rattle.hir_core.specs.PreferredEnds.{preferred_ends}
 use Rattle.hir_core.proofs.ForCallers.{nil_from_none, prefix_sound, suffix_sound, preferred_ends_sound}
-use Rattle.nfa_core.specs.Ways.{Text, span}
+use Rattle.nfa_core.specs.Ways.{Text}
 use Rattle.nfa_core.specs.Drafted.{Table}
 use Rattle.nfa_core.specs.BuilderStates.{empty_part}
 use Rattle.thompson_nfa.specs.Denotes.{seen, IsMeant, Reaches, Halts, Orders}

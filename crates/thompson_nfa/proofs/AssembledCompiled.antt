@@ -1,5 +1,5 @@
 -- The automaton that is built of a compile's states is the one that the trees are compiled to.
-use Rattle.std.proofs.Common.{◌≡◌, ◌≢◌, ◌↔◌, ℕ, suc, ◌-◌, ◌*◌, ◌≤◌, min, arith, true, List, [], length, Some, slice_get, sym, ap, ◌∙◌, subst}
+use Rattle.std.proofs.Common.{◌≡◌, ◌≢◌, ◌↔◌, ℕ, suc, ◌-◌, ◌*◌, ◌≤◌, min, arith, true, false, List, [], length, Some, slice_get, sym, ap, ◌∙◌, subst}
 use Rattle.std.specs.Prelude.{MatchOption, ⊤}
 use Rattle.std.specs.Bool.{nat_eq}
 use Rattle.hir_core.specs.Tree.{Tree}
@@ -7,7 +7,7 @@ use Rattle.hir_core.specs.Means.{Means}
 use Rattle.nfa_core.specs.Walks.{Has, distinct}
 use Rattle.nfa_core.specs.Runs.{IsChain, last_or}
 use Rattle.nfa_core.specs.Nfa.{Automaton}
-use Rattle.nfa_core.specs.NfaValue.{Nfa, free_steps, reached_freely, has_empty, memory_of, looks_of}
+use Rattle.nfa_core.specs.NfaValue.{Nfa, free_steps, reached_freely, has_empty, is_capture, memory_of, looks_of}
 use Rattle.nfa_core.specs.BuilderStates.{Assembly}
 use Rattle.nfa_core.specs.Renaming.{past, automaton_of}
 use Rattle.nfa_core.proofs.ForCallers.{smaller}
@@ -31,6 +31,7 @@ use Rattle.thompson_nfa.proofs.AssembledOrders.{assembled_finds_in_order}
 use Rattle.thompson_nfa.proofs.AssembledReturns.{assembled_has_no_return}
 use Rattle.thompson_nfa.proofs.AssembledParts.{assembled_has_one_match, assembled_states, assembled_patterns, assembled_always_anchored}
 use Rattle.thompson_nfa.proofs.AssembledEmpty.{assembled_empty}
+use Rattle.thompson_nfa.proofs.AssembledCaptures.{assembled_no_captures}
 
 -- the states that patterns reach without a byte are those to which chains lead from their starts
 abbrev pub AreLedTo : Automaton → Type 0
@@ -79,6 +80,9 @@ assembled_is_compiled o xs b A U is apart reached n same utf8 terminator groups 
   captures = is.captures;
   patterns = ap (λ (a : Automaton). length a.start_pattern) same ∙ assembled_patterns o xs b A U is;
   groups = groups ∙ is.groups;
+  no_captures = λ none.
+      let P : Automaton → Type 0 = λ a. list_any is_capture a.states ≡ false in
+      subst P (sym same) (assembled_no_captures o xs b A U is none);
   spans = assembled_finds_spans o xs b A U is n same;
   order = λ up. assembled_finds_in_order o xs b A U is up n same;
   no_return = λ reading. assembled_has_no_return o xs b A U is reading n same;

@@ -14,3 +14,6 @@ pub use Rattle.thompson_nfa.proofs.AssembledLooks.{reversed_twice}
 -- the patterns, the anchored ones, and the unanchored one. Each takes what trees mean in a haystack that is cut, which
 -- `hir_core::cut_laws` says.
 pub use Rattle.thompson_nfa.proofs.DirectionLemmas.{same_meant, same_patterns, same_anchored, same_unanchored}
+-- where no group is kept none is refused, and a limit below what all states take leaves no room for them: then, beside
+-- memory that lacks, the limit alone refuses
+pub use Rattle.thompson_nfa.proofs.CallerRefusals.{no_groups_refused, fits_no_limit, limit_alone_refuses}

@@ -50,8 +50,11 @@ pub mod AssembledStarts
 pub mod AssembledTries
 pub mod DirectionLemmas
 pub mod CallerLemmas
+pub mod CallerRefusals
 pub mod CompileRows
 pub mod AssembledEmpty
+pub mod NoGroups
+pub mod AssembledCaptures
 pub mod AssembledCompiled
 pub mod StandLemmas
 pub mod PatternLemmas

@@ -1,17 +1,16 @@
 -- What refuses the patterns, or to build, refuses the trees under their options.
-use Rattle.std.proofs.Common.{◌≡◌, ◌⊎◌, inl, inr, ℕ, zero, suc, ◌+◌, ◌*◌, ◌<◌, ◌≤◌, Bool, true, false, ◌&&◌, List, [], ◌∷◌, length, nat_lt, if◌then◌else◌, Option, Some, None, refl, sym, ap, ◌∙◌, subst, arith, ⊎_elim}
+use Rattle.std.proofs.Common.{◌≡◌, ◌⊎◌, inl, inr, ℕ, ◌+◌, ◌*◌, ◌<◌, ◌≤◌, Bool, true, false, ◌&&◌, List, [], length, nat_lt, if◌then◌else◌, Option, Some, None, refl, sym, ap, ◌∙◌, subst, arith, ⊎_elim}
 use Rattle.std.proofs.lemmas.Bool.{ltb-true, ltb-false}
 use Rattle.search_core.specs.Index.{greatest_index}
-use Rattle.search_types.specs.Groups.{Groups}
 use Rattle.search_types.specs.GroupFaults.{GroupFault, group_fault}
-use Rattle.hir_core.specs.Tree.{Tree, empty, literal, byte_class, char_class, look, repetition, capture, nothing, cat, never, alt}
+use Rattle.hir_core.specs.Tree.{Tree}
 use Rattle.nfa_core.specs.BuilderStates.{Assembly}
 use Rattle.nfa_core.specs.BuilderFaults.{Tells, BuildFault, groups_fault, build_fault, captures_refused, too_many_patterns, too_many_states, exceeded_size_limit, unsupported_captures}
 use Rattle.nfa_core.specs.declared.build_error.BuildError.{BuildError}
 use Rattle.nfa_core.specs.declared.build_error.BuildError.TheVariants as error
 use Rattle.thompson_nfa.specs.Compiled.{sum_of_bytes}
 use Rattle.thompson_nfa.specs.Configs.{Options, reverse_of, limit_of, captures_of, is_any, is_shrunk}
-use Rattle.thompson_nfa.specs.NotedGroups.{noted, noted_from, HasGroup}
+use Rattle.thompson_nfa.specs.NotedGroups.{noted_from, HasGroup}
 use Rattle.thompson_nfa.specs.Patterns.{RefusesPatterns, begun_with, room_for, told_by}
 use Rattle.thompson_nfa.specs.Room.{list_room}
 use Rattle.thompson_nfa.specs.Refusals.{RefusesIndex}
@@ -19,59 +18,23 @@ use Rattle.thompson_nfa.specs.RefusedTrees.{RefusesTrees, FitsStates}
 use Rattle.thompson_nfa.specs.declared.which_captures.WhichCaptures.{WhichCaptures}
 use Rattle.thompson_nfa.specs.declared.which_captures.WhichCaptures.TheVariants as which
 use Rattle.thompson_nfa.proofs.AssembleLemmas.{list_fits}
+use Rattle.thompson_nfa.proofs.NoGroups.{none_is_kept, no_group_kept, no_group_fault}
 
--- ---- no groups where none are kept
-
-no_group : (index : ℕ) (x : Tree) → HasGroup which.None index x → ⊥
-no_group index empty h = h
-no_group index (literal bytes) h = h
-no_group index (byte_class ranges) h = h
-no_group index (char_class ranges) h = h
-no_group index (look l) h = h
-no_group index (repetition least most greedy x) h = no_group index x h
-no_group index (capture other name x) h = ⊎_elim (λ (own : (index ≡ other) × (false ≡ true)). let no = own.1 in cc) (λ (in_x : HasGroup which.None index x). no_group index x in_x) h
-no_group index nothing h = h
-no_group index (cat x y) h = ⊎_elim (λ (in_x : HasGroup which.None index x). no_group index x in_x) (λ (in_y : HasGroup which.None index y). no_group index y in_y) h
-no_group index never h = h
-no_group index (alt x y) h = ⊎_elim (λ (in_x : HasGroup which.None index x). no_group index x in_x) (λ (in_y : HasGroup which.None index y). no_group index y in_y) h
-
-none_noted : (p : ℕ) (x : Tree) (groups : Groups) → noted which.None p x groups ≡ groups
-none_noted p empty groups = refl
-none_noted p (literal bytes) groups = refl
-none_noted p (byte_class ranges) groups = refl
-none_noted p (char_class ranges) groups = refl
-none_noted p (look l) groups = refl
-none_noted p (repetition least None greedy x) groups = none_noted p x groups
-none_noted p (repetition least (Some zero) greedy x) groups = refl
-none_noted p (repetition least (Some (suc most)) greedy x) groups = none_noted p x groups
-none_noted p (capture index name x) groups = none_noted p x groups
-none_noted p nothing groups = refl
-none_noted p (cat x y) groups = none_noted p y (noted which.None p x groups) ∙ none_noted p x groups
-none_noted p never groups = refl
-none_noted p (alt x y) groups = none_noted p y (noted which.None p x groups) ∙ none_noted p x groups
-
-none_noted_from : (p : ℕ) (xs : List Tree) (groups : Groups) → noted_from which.None p xs groups ≡ groups
-none_noted_from p [] groups = refl
-none_noted_from p (x ∷ xs) groups = none_noted_from (suc p) xs (noted which.None p (capture 0 None x) groups) ∙ none_noted p (capture 0 None x) groups
+-- ---- where groups are kept
 
 none_kept : (reverse : Bool) (kept : WhichCaptures) → (reverse && is_any kept) ≡ false → (reverse ≡ false) ⊎ (kept ≡ which.None)
 none_kept false kept e = inl refl
-none_kept true which.All e = absurd (cc)
-none_kept true which.Implicit e = absurd (cc)
-none_kept true which.None e = inr refl
+none_kept true kept e = inr (none_is_kept kept e)
 
 -- a group is kept, or those of trees have a fault: so the automaton reads upwards
 upward_group : (o : Options) (index : ℕ) (x : Tree) → (reverse_of o && is_any (captures_of o)) ≡ false → HasGroup (captures_of o) index x → reverse_of o ≡ false
 upward_group o index x captures h = ⊎_elim (λ (up : reverse_of o ≡ false). up)
-    (λ (none : captures_of o ≡ which.None). let P : WhichCaptures → Type 0 = λ w. HasGroup w index x in absurd (no_group index x (subst P none h)))
+    (λ (none : captures_of o ≡ which.None). absurd (no_group_kept (captures_of o) index x none h))
     (none_kept (reverse_of o) (captures_of o) captures)
 
 upward_fault : (o : Options) (xs : List Tree) (fault : GroupFault) → (reverse_of o && is_any (captures_of o)) ≡ false → group_fault (noted_from (captures_of o) 0 xs []) ≡ Some fault → reverse_of o ≡ false
 upward_fault o xs fault captures e = ⊎_elim (λ (up : reverse_of o ≡ false). up)
-    (λ (none : captures_of o ≡ which.None).
-    let no_groups : noted_from (captures_of o) 0 xs [] ≡ [] = ap (λ w. noted_from w 0 xs []) none ∙ none_noted_from 0 xs [] in
-    let no_fault : group_fault (noted_from (captures_of o) 0 xs []) ≡ None = ap group_fault no_groups in
-    absurd (cc))
+    (λ (none : captures_of o ≡ which.None). absurd (no_group_fault (captures_of o) xs fault none e))
     (none_kept (reverse_of o) (captures_of o) captures)
 
 -- ---- patterns are refused

@@ -12,7 +12,7 @@ use Rattle.nfa_core.specs.Walks.{Has, HasNoneTwice, distinct}
 use Rattle.nfa_core.specs.Runs.{IsChain}
 use Rattle.nfa_core.specs.Places.{same_pair}
 use Rattle.nfa_core.specs.Nfa.{match_node, Automaton, node_at}
-use Rattle.nfa_core.specs.NfaValue.{Nfa, has_empty, memory_of, looks_of}
+use Rattle.nfa_core.specs.NfaValue.{Nfa, has_empty, is_capture, memory_of, looks_of}
 use Rattle.nfa_core.specs.Ways.{Text, ways, ends_from}
 use Rattle.thompson_nfa.specs.Configs.{Options, utf8_of, reverse_of, limit_of, captures_of, terminator_of, is_any, is_shrunk}
 use Rattle.thompson_nfa.specs.Compiled.{turned}
@@ -101,6 +101,8 @@ pub record IsCompiled (o : Options) (xs : List Tree) (n : Nfa) : Type 0 where
   pub captures : (reverse_of o && is_any (captures_of o)) ≡ false
   pub patterns : length n.automaton.start_pattern ≡ length xs
   pub groups : n.groups ≡ noted_from (captures_of o) 0 xs []
+  -- no state is one of a group where none is kept
+  pub no_captures : is_any (captures_of o) ≡ false → list_any is_capture n.automaton.states ≡ false
   pub spans : FindsSpans (reverse_of o) xs n
   pub order : reverse_of o ≡ false → FindsInOrder xs n
   pub no_return : All LoopsRead xs → HasNoReturn n

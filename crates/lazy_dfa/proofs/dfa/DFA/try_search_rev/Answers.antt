@@ -1,4 +1,4 @@
-use Rattle.lazy_dfa.proofs.SearchClauseLemmas.{is_sure, is_linked_then, is_told_then, is_left_then, is_told_since, few_determinized, few_inserted}
+use Rattle.lazy_dfa.proofs.SearchClauseLemmas.{is_sure, is_linked_then, is_told_then, is_left_then, is_told_since, few_determinized, few_inserted, reaches_back}
 use Rattle.lazy_dfa.proofs.dfa.DFA.try_search_rev.Goals as goal
 
 pub returns-clause-answer : goal.returns-clause-answer
@@ -35,6 +35,9 @@ returns-clause-free g c = λ linked i. record { determinized = (c.search.ensures
 
 pub returns-clause-sure_if_linked : goal.returns-clause-sure_if_linked
 returns-clause-sure_if_linked g c = λ linked. (c.search.ensures.search.free linked).3
+
+pub returns-clause-reach : goal.returns-clause-reach
+returns-clause-reach g c = reaches_back c.args.self.now c.args.input.now c.search.new.cache c.search.result c.search.ensures.made c.search.ensures.within.0 c.search.ensures.search.answer c.requires.down
 
 pub returns-clause-determinized : goal.returns-clause-determinized
 returns-clause-determinized g c = few_determinized c.args.self.now c.args.input.now c.args.cache.now c.search.new.cache c.args.work.now.determinized c.search.new.work.determinized

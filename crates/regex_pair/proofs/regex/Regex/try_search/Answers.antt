@@ -1,3 +1,4 @@
+use Rattle.regex_pair.proofs.ReachLemmas.{reaches}
 use Rattle.regex_pair.proofs.regex.Regex.try_search.Goals as goal
 
 pub returns-clause-answer : goal.returns-clause-answer
@@ -32,6 +33,9 @@ returns-clause-free g c = λ linked i. record { determinized = (c.search.ensures
 
 pub returns-clause-sure_if_linked : goal.returns-clause-sure_if_linked
 returns-clause-sure_if_linked g c = c.search.ensures.search.sure_if_linked
+
+pub returns-clause-reach : goal.returns-clause-reach
+returns-clause-reach g c = reaches c.args.self.now c.args.input.now c.search.new.cache c.search.result c.search.ensures.pair.up c.search.ensures.within.0 c.search.ensures.search.answer
 
 pub returns-clause-determinized : goal.returns-clause-determinized
 returns-clause-determinized g c = c.search.ensures.search.determinized

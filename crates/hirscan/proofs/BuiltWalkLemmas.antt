@@ -1,0 +1,36 @@
+-- Over the automata of a regex that is built of trees walks tell what the trees mean.
+use Rattle.std.proofs.Common.{◌≡◌, true, false, List, refl, ap, ◌∙◌}
+use Rattle.hir_core.specs.Tree.{Tree}
+use Rattle.search_types.specs.declared.match_kind.MatchKind.TheVariants.{All as AllMatches}
+use Rattle.lazy_dfa.specs.ConfigValue.{kind_of}
+use Rattle.regex_pair.specs.Pairs.{Pair}
+use Rattle.hirscan.specs.declared.settings.Settings.{Settings}
+use Rattle.hirscan.specs.Built.{IsBuilt, compile_options}
+use Rattle.hirscan.specs.TreeWalks.{IsWalkerOf}
+use Rattle.hirscan.proofs.BuiltPairLemmas.{pair_of, pair_is}
+
+module _ (xs : List Tree) (s : Settings) (p : Pair) (is_built : IsBuilt xs s p) where
+  made : p ≡ pair_of p.forward.nfa p.reverse.nfa s.dfa
+  made = pair_is p.forward.nfa p.reverse.nfa s.dfa p is_built.made
+
+  pub walks_down : IsWalkerOf xs true s.utf8 s.line_terminator p.reverse
+  walks_down = record {
+    options = compile_options true s;
+    compiled = is_built.down;
+    reads = refl;
+    mode = refl;
+    terminator = refl;
+    dfa = is_built.reverse;
+    finds_all = ap (λ (v : Pair). kind_of v.reverse.options) made;
+  }
+
+  pub walks_up : kind_of s.dfa ≡ AllMatches → IsWalkerOf xs false s.utf8 s.line_terminator p.forward
+  walks_up all = record {
+    options = compile_options false s;
+    compiled = is_built.up;
+    reads = refl;
+    mode = refl;
+    terminator = refl;
+    dfa = is_built.forward;
+    finds_all = ap (λ (v : Pair). kind_of v.forward.options) made ∙ all;
+  }

@@ -1,0 +1,150 @@
+-- What runs find is what a walk is to tell of the trees, both ways, however looks are read.
+use Rattle.std.proofs.Common.{◌≡◌, ℕ, ◌≤◌, Bool, true, false, ◌&&◌, List, length, slice_get, Some, refl, arith}
+use Rattle.search_core.specs.Utf8.{IsValidText}
+use Rattle.hir_core.specs.Tree.{Tree}
+use Rattle.hir_core.specs.Means.{Looks, Means}
+use Rattle.hir_core.specs.Agree.{AgreeFrom}
+use Rattle.hir_core.specs.Facts.{is_utf8_tree}
+use Rattle.hir_core.proofs.ForCallers.{span_forward, cut_to_whole, whole_to_cut, same_spans_within}
+use Rattle.search_types.specs.Inputs.{Search}
+use Rattle.search_types.specs.Places.{counts}
+use Rattle.search_types.proofs.ForCallers.{starts_at}
+use Rattle.nfa_core.specs.Reaches.{read_by}
+use Rattle.nfa_core.specs.Ways.{Text}
+use Rattle.lazy_dfa.specs.Scans.{first_place}
+use Rattle.hirscan.specs.Choices.{Query}
+use Rattle.hirscan.specs.LooseAnswers.{IsFindable}
+use Rattle.hirscan.specs.Regexes.{query_of}
+use Rattle.hirscan.specs.TreeWalks.{IsToldOf}
+use Rattle.hirscan.proofs.TreeWalkLemmas.{IsMet, up_starts, starts_up, up_high, down_ends, down_near, ends_down, counted_alike}
+
+-- the place that is told counts
+pub told_counts : (b : Bool) (asks : Query) (s : ℕ) (x : ℕ × ℕ) → IsToldOf b asks s x → counts asks.utf8 asks.haystack x.0 ≡ true
+told_counts false asks s x told = told.counted
+told_counts true asks s x told = told.counted
+
+-- a span that may be found is told, and the search isn't done
+pub told_findable : (b : Bool) (asks : Query) (s : ℕ) (x : ℕ × ℕ) → IsToldOf b asks s x → (i : ℕ) × ((j : ℕ) × IsFindable asks i x.1 j)
+told_findable false asks s x told = (told.start, (x.0, told.findable))
+told_findable true asks s x told = (x.0, (told.end, told.findable))
+
+pub told_begun : (b : Bool) (asks : Query) (s : ℕ) (x : ℕ × ℕ) → IsToldOf b asks s x → s ≤ asks.end
+told_begun false asks s x told = (starts_at asks.mode s asks.end told.start told.starts).forward
+told_begun true asks s x told =
+    let f = told.findable in
+    let up = span_forward asks.looks asks.haystack f.span.tree x.0 told.end f.span.means in
+    let above = told.above in let within = f.within in omega (arith, up, above, within)
+
+-- ---- what runs find
+
+module _ (xs : List Tree) (utf8 : Bool) (looks : Looks) (q : Search) (l : q.start ≤ q.end) (within : q.end ≤ length q.haystack) where
+  abbrev asks : Query
+  asks = query_of xs utf8 looks q
+
+  abbrev text : Text
+  text = read_by looks q.haystack q.start q.end
+
+  abbrev pub Meets : Bool → ℕ × ℕ → Type 0
+  Meets b x = IsMet xs b text q.anchored (first_place b q.start q.end) x
+
+  pub told_met : (b : Bool) (x : ℕ × ℕ) → counts utf8 q.haystack x.0 ≡ true → Meets b x → IsToldOf b asks q.start x
+  told_met false x counted m =
+      let from = m.1.0 in
+      let high : m.0 ≤ q.end = up_high q.anchored text q.start q.end m.0 refl l from in
+      let whole = cut_to_whole looks q.haystack q.end m.1.2.0 m.0 x.0 high m.1.2.2 in
+      record {
+        start = m.0;
+        starts = up_starts q.anchored text q.start q.end m.0 refl l from;
+        findable = record { may = m.1.1; span = record { tree = m.1.2.0; listed = m.1.2.1; means = whole.0 }; within = whole.1 };
+        counted = counted;
+      }
+  told_met true x counted m =
+      let from = m.1.0 in
+      let near = down_near q.anchored text q.start q.end m.0 refl l from in
+      let low = near.0 in let last = m.1.2.2.1 in
+      record {
+        end = m.0;
+        ends = down_ends q.anchored text q.end m.0 from;
+        above = omega (arith, low, last);
+        findable = record { may = m.1.1; span = record { tree = m.1.2.0; listed = m.1.2.1; means = m.1.2.2.0 }; within = near.1 };
+        counted = counted;
+      }
+
+  pub met_told : (b : Bool) (x : ℕ × ℕ) → IsToldOf b asks q.start x → Meets b x
+  met_told false x told =
+      let f = told.findable in
+      let cut = whole_to_cut looks q.haystack q.end f.span.tree told.start x.0 f.within f.span.means in
+      (told.start, (starts_up q.anchored text q.start q.end told.start refl told.starts, f.may, (f.span.tree, f.span.listed, cut)))
+  met_told true x told =
+      let f = told.findable in
+      let above = told.above in
+      let up = span_forward looks q.haystack f.span.tree x.0 told.end f.span.means in
+      let low : q.start ≤ told.end = omega (arith, up, above) in (
+        told.end,
+        (
+          ends_down q.anchored text q.start q.end told.end refl low f.within told.ends,
+          f.may,
+          (f.span.tree, f.span.listed, (f.span.means, omega (arith, above))),
+        ),
+      )
+
+  -- the automaton counts the place as the mode does, where it has an empty match if a tree has one
+  pub counted_met : (v : Bool) → (utf8 ≡ true → IsValidText q.haystack) →
+      ((p : ℕ) (y : Tree) → slice_get xs p ≡ Some y → utf8 ≡ true → is_utf8_tree y ≡ true) →
+      ((p i j : ℕ) (y : Tree) → slice_get xs p ≡ Some y → i ≡ j → Means looks q.haystack y i j → v ≡ true) →
+      (b : Bool) (x : ℕ × ℕ) → Meets b x → counts (utf8 && v) q.haystack x.0 ≡ counts utf8 q.haystack x.0
+  counted_met v valid trees some false x m =
+      let high : m.0 ≤ q.end = up_high q.anchored text q.start q.end m.0 refl l m.1.0 in
+      let whole = cut_to_whole looks q.haystack q.end m.1.2.0 m.0 x.0 high m.1.2.2 in
+      let far : x.0 ≤ q.end = whole.1 in
+      (counted_alike utf8 v looks q.haystack m.1.2.0 m.0 x.0 whole.0 (omega (arith, far, within)) valid (trees x.1 m.1.2.0 m.1.2.1)
+      (λ e. some x.1 m.0 x.0 m.1.2.0 m.1.2.1 e whole.0)).1
+  counted_met v valid trees some true x m =
+      let near = down_near q.anchored text q.start q.end m.0 refl l m.1.0 in
+      let far : m.0 ≤ q.end = near.1 in
+      let means = m.1.2.2.0 in
+      (counted_alike utf8 v looks q.haystack m.1.2.0 x.0 m.0 means (omega (arith, far, within)) valid (trees x.1 m.1.2.0 m.1.2.1)
+      (λ e. some x.1 x.0 m.0 m.1.2.0 m.1.2.1 e means)).0
+
+-- ---- where looks are read alike
+
+-- the part of a search's span that is read up to the place, for one who reads up, or down
+abbrev pub read_low : Bool → ℕ → ℕ → ℕ
+read_low false s j = s
+read_low true s j = j
+
+abbrev pub read_high : Bool → ℕ → ℕ → ℕ
+read_high false e j = j
+read_high true e j = e
+
+module _ (xs : List Tree) (utf8 : Bool) (q : Search) (within : q.end ≤ length q.haystack) (f g : Looks) where
+  abbrev pub AgreeUpTo : Bool → ℕ → Type 0
+  AgreeUpTo b j = (k : ℕ) (x : Tree) → slice_get xs k ≡ Some x → AgreeFrom f g (read_low b q.start j) (read_high b q.end j) x
+
+  -- what is told of a place depends on the looks up to there
+  pub told_alike : (b : Bool) (x : ℕ × ℕ) → AgreeUpTo b x.0 → IsToldOf b (query_of xs utf8 f q) q.start x →
+      IsToldOf b (query_of xs utf8 g q) q.start x
+  told_alike false x agree c =
+      let s = c.findable.span in let last = c.findable.within in
+      let up = span_forward f q.haystack s.tree c.start x.0 s.means in
+      let low = (starts_at q.anchored q.start q.end c.start c.starts).from_s in
+      let means = same_spans_within f g q.haystack q.start x.0 (omega (arith, last, within)) s.tree (agree x.1 s.tree s.listed)
+      c.start x.0 low up (omega arith) s.means in
+      record {
+        start = c.start;
+        starts = c.starts;
+        findable = record { may = c.findable.may; span = record { tree = s.tree; listed = s.listed; means = means }; within = last };
+        counted = c.counted;
+      }
+  told_alike true x agree c =
+      let s = c.findable.span in let last = c.findable.within in
+      let up = span_forward f q.haystack s.tree x.0 c.end s.means in
+      let means = same_spans_within f g q.haystack x.0 q.end within s.tree (agree x.1 s.tree s.listed)
+      x.0 c.end (omega arith) (omega (arith, up, last)) last s.means in
+      record {
+        end = c.end;
+        ends = c.ends;
+        above = c.above;
+        findable = record { may = c.findable.may; span = record { tree = s.tree; listed = s.listed; means = means }; within = last };
+        counted = c.counted;
+      }

@@ -1,0 +1,10 @@
+use Rattle.std.proofs.Common.{rules}
+use Rattle.thompson_nfa.specs.RefusedTrees.{RefusesTrees}
+use Rattle.hirscan.specs.Built.{compile_options}
+use Rattle.hirscan.proofs.RefusedBuildLemmas.{compile_refused}
+use Rattle.hirscan.proofs.building.compile.Goals as goal
+
+pub returns-clause-refused : goal.returns-clause-refused
+returns-clause-refused c =
+    let why : RefusesTrees (compile_options c.args.reverse c.args.settings.now) c.args.exprs.now c.in-Err.err = search rules in
+    compile_refused c.args.exprs.now c.args.settings.now c.args.reverse c.in-Err.err c.from.result why c.from.ensures

@@ -1,0 +1,55 @@
+-- What an overlapping walk over an automaton that is compiled from trees tells, in terms of what the trees mean.
+use Rattle.std.specs.Prelude.{◌≡◌, ℕ, ◌≤◌, Bool, true, false, List}
+use Rattle.look_core.specs.Looks.{holds, holds_ascii}
+use Rattle.look_core.specs.Terminators.{Terminator}
+use Rattle.hir_core.specs.Tree.{Tree}
+use Rattle.search_types.specs.declared.match_kind.MatchKind.TheVariants.{All as AllMatches}
+use Rattle.search_types.specs.Inputs.{Search}
+use Rattle.search_types.specs.Modes.{is_anchored, may_start}
+use Rattle.search_types.specs.Places.{counts}
+use Rattle.thompson_nfa.specs.Configs.{Options, utf8_of, reverse_of, terminator_of}
+use Rattle.thompson_nfa.specs.Compilations.{IsCompiled}
+use Rattle.lazy_dfa.specs.ConfigValue.{kind_of}
+use Rattle.lazy_dfa.specs.Dfas.{Dfa, IsDfa}
+use Rattle.hirscan.specs.Choices.{Query}
+use Rattle.hirscan.specs.LooseAnswers.{IsFindable}
+use Rattle.hirscan.specs.Regexes.{query_of}
+
+-- An automaton that is compiled from the trees, for one who reads up or down, in this mode and with this terminator. It finds
+-- all matches.
+pub record IsWalkerOf (xs : List Tree) (reverse utf8 : Bool) (t : Terminator) (d : Dfa) : Type 0 where
+  pub options : Options
+  pub compiled : IsCompiled options xs d.nfa
+  pub reads : reverse_of options ≡ reverse
+  pub mode : utf8_of options ≡ utf8
+  pub terminator : terminator_of options ≡ t
+  pub dfa : IsDfa d
+  pub finds_all : kind_of d.options ≡ AllMatches
+
+-- Reading up from the place s: a span of the pattern p that may be found ends at j, which counts. It starts where a search may.
+pub record IsToldEnd (q : Query) (s j p : ℕ) : Type 0 where
+  pub start : ℕ
+  pub starts : may_start q.mode s q.end start ≡ true
+  pub findable : IsFindable q start p j
+  pub counted : counts q.utf8 q.haystack j ≡ true
+
+-- Reading down to the place s: a span of the pattern p that may be found starts at i, which counts. It ends where one begins to
+-- read, or below that if it isn't anchored.
+pub record IsToldStart (q : Query) (s i p : ℕ) : Type 0 where
+  pub end : ℕ
+  pub ends : is_anchored q.mode ≡ true → end ≡ q.end
+  pub above : s ≤ i
+  pub findable : IsFindable q i p end
+  pub counted : counts q.utf8 q.haystack i ≡ true
+
+-- what one who reads up, or down, is to tell: pairs of a place and a pattern
+abbrev pub IsToldOf : Bool → Query → ℕ → ℕ × ℕ → Type 0
+IsToldOf false q s x = IsToldEnd q s x.0 x.1
+IsToldOf true q s x = IsToldStart q s x.0 x.1
+
+-- where words by characters are read by the bytes of ASCII, and where they are read with these words
+abbrev pub IsToldAscii : List Tree → Bool → Bool → Terminator → Search → ℕ × ℕ → Type 0
+IsToldAscii xs reverse utf8 t q x = IsToldOf reverse (query_of xs utf8 (holds_ascii t q.haystack) q) q.start x
+
+abbrev pub IsToldWith : (ℕ → Bool) → List Tree → Bool → Bool → Terminator → Search → ℕ × ℕ → Type 0
+IsToldWith words xs reverse utf8 t q x = IsToldOf reverse (query_of xs utf8 (holds words t q.haystack) q) q.start x

@@ -1,0 +1,96 @@
+//! Laws of overlapping walks over an automaton that is compiled from trees: they tell what the trees mean. Each function has no
+//! code: its contract is the law.
+//!
+//! Read upwards, a walk tells the ends of all spans of the trees that a search may find, each with its pattern; read downwards,
+//! their starts. It tells no other places, and each pair once.
+ghost use Rattle.std.specs.Prelude.{◌≡◌, ◌⊎◌, ℕ, ◌<◌, ◌↔◌, Bool, true, false, List, [], length, slice_get, Some, None, Ok};
+ghost use Rattle.search_core.specs.ByteSets.{has};
+ghost use Rattle.look_core.specs.Looks.{IsWordSet};
+ghost use Rattle.look_core.specs.Terminators.{Terminator};
+ghost use Rattle.hir_core.specs.Tree.{Tree};
+ghost use Rattle.search_types.specs.declared.anchored.Anchored.TheVariants.{Pattern};
+ghost use Rattle.search_types.specs.declared.match_kind.MatchKind.TheVariants.{All as AllMatches};
+ghost use Rattle.search_types.specs.Inputs.{Search, with_earliest};
+ghost use Rattle.search_types.specs.Modes.{is_supported};
+ghost use Rattle.nfa_core.specs.Places.{same_pair};
+ghost use Rattle.nfa_core.specs.Walks.{Has, HasNoneTwice};
+ghost use Rattle.lazy_dfa.specs.Caches.{CacheValue};
+ghost use Rattle.lazy_dfa.specs.ConfigValue.{kind_of};
+ghost use Rattle.lazy_dfa.specs.Dfas.{Dfa, reader};
+ghost use Rattle.lazy_dfa.specs.ScanLaws.{HasNoQuitNear};
+ghost use Rattle.lazy_dfa.specs.Walks.{whole_rest};
+ghost use Rattle.lazy_dfa.specs.WalkAnswers.{AnswersWhich};
+ghost use Rattle.lazy_dfa.specs.WalkLaws.{IsInReadingOrder};
+ghost use Rattle.regex_pair.specs.Pairs.{Pair};
+ghost use Rattle.hirscan.specs.declared.settings.Settings.{Settings};
+ghost use Rattle.hirscan.specs.Built.{IsBuilt};
+ghost use Rattle.hirscan.specs.Regexes.{IsSearchOf};
+ghost use Rattle.hirscan.specs.TreeWalks.{IsWalkerOf, IsToldAscii, IsToldWith};
+
+/// The automata of a regex that is built of trees are such ones: the one that reads downwards always, and the one that reads upwards
+/// where it is set to find all matches.
+pub fn built_automata_are_walked()
+    ensures down { (xs : List Tree) (s : Settings) (p : Pair) → IsBuilt xs s p → IsWalkerOf xs true s.utf8 s.line_terminator p.reverse }
+    ensures up { (xs : List Tree) (s : Settings) (p : Pair) → IsBuilt xs s p → kind_of s.dfa ≡ AllMatches →
+        IsWalkerOf xs false s.utf8 s.line_terminator p.forward }
+{}
+
+/// A walk that comes to no refusal tells exactly the places and patterns of the spans that the trees mean and that the search may
+/// find: for every set of words, and also where looks for words by characters are read by the bytes of ASCII. No refusal comes
+/// where no quit byte stands in or beside the span and the mode is supported.
+pub fn walks_tell_what_trees_mean()
+    ensures ascii { (xs : List Tree) (reverse utf8 : Bool) (t : Terminator) (d : Dfa) → IsWalkerOf xs reverse utf8 t d →
+        (q : Search) → IsSearchOf xs utf8 (with_earliest false q) → (whole_rest (reader d) q).refusal ≡ None → (x : ℕ × ℕ) →
+        Has same_pair x (whole_rest (reader d) q).ends ↔ IsToldAscii xs reverse utf8 t q x }
+    ensures words { (xs : List Tree) (reverse utf8 : Bool) (t : Terminator) (d : Dfa) → IsWalkerOf xs reverse utf8 t d →
+        (q : Search) → IsSearchOf xs utf8 (with_earliest false q) → (whole_rest (reader d) q).refusal ≡ None →
+        (words : ℕ → Bool) → IsWordSet words → (x : ℕ × ℕ) →
+        Has same_pair x (whole_rest (reader d) q).ends ↔ IsToldWith words xs reverse utf8 t q x }
+    ensures quiet { (xs : List Tree) (reverse utf8 : Bool) (t : Terminator) (d : Dfa) → IsWalkerOf xs reverse utf8 t d →
+        (q : Search) → IsSearchOf xs utf8 (with_earliest false q) →
+        is_supported (reader d).starts_for_each_pattern q.anchored ≡ true → HasNoQuitNear (reader d) q.haystack q.start q.end →
+        (words : ℕ → Bool) → IsWordSet words → (x : ℕ × ℕ) →
+        Has same_pair x (whole_rest (reader d) q).ends ↔ IsToldWith words xs reverse utf8 t q x }
+{}
+
+/// What a walk tells before a refusal is meant too.
+pub fn refused_walks_tell_nothing_else()
+    ensures ascii { (xs : List Tree) (reverse utf8 : Bool) (t : Terminator) (d : Dfa) → IsWalkerOf xs reverse utf8 t d →
+        (q : Search) → IsSearchOf xs utf8 (with_earliest false q) → (x : ℕ × ℕ) →
+        Has same_pair x (whole_rest (reader d) q).ends → IsToldAscii xs reverse utf8 t q x }
+    ensures words { (xs : List Tree) (reverse utf8 : Bool) (t : Terminator) (d : Dfa) → IsWalkerOf xs reverse utf8 t d →
+        (q : Search) → IsSearchOf xs utf8 (with_earliest false q) → (words : ℕ → Bool) → IsWordSet words → (x : ℕ × ℕ) →
+        Has same_pair x (whole_rest (reader d) q).ends → IsToldWith words xs reverse utf8 t q x }
+{}
+
+/// A walk tells each pair once, and its places in reading order.
+pub fn walks_over_trees_tell_each_once()
+    ensures once { (xs : List Tree) (reverse utf8 : Bool) (t : Terminator) (d : Dfa) → IsWalkerOf xs reverse utf8 t d →
+        (q : Search) → IsSearchOf xs utf8 (with_earliest false q) → (whole_rest (reader d) q).refusal ≡ None →
+        HasNoneTwice same_pair (whole_rest (reader d) q).ends }
+    ensures ordered { (xs : List Tree) (reverse utf8 : Bool) (t : Terminator) (d : Dfa) → IsWalkerOf xs reverse utf8 t d →
+        (q : Search) → IsSearchOf xs utf8 (with_earliest false q) → (whole_rest (reader d) q).refusal ≡ None →
+        IsInReadingOrder reverse (whole_rest (reader d) q).ends }
+{}
+
+/// Over a done span nothing is told, and of a pattern that has no tree neither.
+pub fn walks_over_trees_may_have_nothing_to_tell()
+    ensures done { (xs : List Tree) (reverse utf8 : Bool) (t : Terminator) (d : Dfa) → IsWalkerOf xs reverse utf8 t d →
+        (q : Search) → q.end < q.start → (whole_rest (reader d) q).ends ≡ [] }
+    ensures no_tree { (xs : List Tree) (reverse utf8 : Bool) (t : Terminator) (d : Dfa) → IsWalkerOf xs reverse utf8 t d →
+        (q : Search) (p : ℕ) → q.anchored ≡ Pattern p → slice_get xs p ≡ None → (whole_rest (reader d) q).ends ≡ [] }
+{}
+
+/// A call for the patterns of all ends that answers Ok has added to its set exactly the patterns that it has room for and of which
+/// an end is to be told.
+pub fn sets_get_the_patterns_of_spans()
+    ensures ascii { (xs : List Tree) (utf8 : Bool) (t : Terminator) (d : Dfa) → IsWalkerOf xs false utf8 t d →
+        (q : Search) → IsSearchOf xs utf8 q →
+        (v : CacheValue) (old new : List Bool) → AnswersWhich d v q old new (Ok tt) → (p : ℕ) →
+        (has new p ≡ true) ↔ ((has old p ≡ true) ⊎ ((p < length old) × ((j : ℕ) × IsToldAscii xs false utf8 t q (j, p)))) }
+    ensures words { (xs : List Tree) (utf8 : Bool) (t : Terminator) (d : Dfa) → IsWalkerOf xs false utf8 t d →
+        (q : Search) → IsSearchOf xs utf8 q →
+        (v : CacheValue) (old new : List Bool) → AnswersWhich d v q old new (Ok tt) →
+        (words : ℕ → Bool) → IsWordSet words → (p : ℕ) →
+        (has new p ≡ true) ↔ ((has old p ≡ true) ⊎ ((p < length old) × ((j : ℕ) × IsToldWith words xs false utf8 t q (j, p)))) }
+{}
