@@ -115,33 +115,66 @@ fn only(pattern: u8) -> Input<'static> {
     Input::new(b"ab").anchored(Anchored::Pattern(PatternID::from(pattern)))
 }
 
-#[test]
-fn modes_and_spans(rt: HostRuntime) -> Result<(), Fail> {
-    let alloc = rt.alloc();
-    let mut machine = Machine::new(alloc, two_letters(), plain())?;
-    let mode = only(1).get_anchored();
-    let refused = machine.search(&only(1));
-    assert!(rt; refused.is_err_and(|e| *e.kind() == MatchErrorKind::UnsupportedAnchored { mode }));
-    assert!(rt; finds(&mut machine, b"ab", span(2, 1), Found::Nothing));
-    let mut machine = Machine::new(alloc, two_letters(), plain().starts_for_each_pattern(true))?;
-    assert!(rt; is_found(machine.search(&only(0)), Found::At(0, 0, 1)));
-    assert!(rt; is_found(machine.search(&only(1)), Found::Nothing));
-    assert!(rt; is_found(machine.search(&only(7)), Found::Nothing));
-    let mut machine = Machine::new(alloc, empty().head, plain())?;
-    assert!(rt; finds(&mut machine, b"\xCE\xB2", span(1, 2), Found::At(0, 2, 2)));
-    Ok(())
+/// Whether a search is refused, as there are no starts for each pattern.
+fn lacks_starts(machine: &mut Machine, input: &Input<'_>) -> bool {
+    let mode = input.get_anchored();
+    match machine.search(input) {
+        Ok(_) => false,
+        Err(e) => *e.kind() == MatchErrorKind::UnsupportedAnchored { mode },
+    }
 }
 
 #[test]
-fn quit_bytes(rt: HostRuntime) -> Result<(), Fail> {
+fn one_pattern_alone(rt: HostRuntime) -> Result<(), Fail> {
     let alloc = rt.alloc();
-    let mut machine = Machine::new(alloc, two_letters(), plain().quit(b'x', true))?;
-    assert!(rt; finds(&mut machine, b"xab", span(1, 3), Found::Quit(b'x', 0)));
-    let a = b"lit 61\npattern\nfind\n";
-    let mut machine = Machine::new(alloc, a, plain().quit(b'd', true))?;
-    assert!(rt; finds(&mut machine, b"abcd", span(0, 4), Found::At(0, 0, 1)));
-    assert!(rt; finds(&mut machine, b"abcz", span(0, 4), Found::At(0, 0, 1)));
-    assert!(rt; finds(&mut machine, b"abd", span(0, 3), Found::Quit(b'd', 2)));
+    let mut machine = Machine::new(alloc, two_letters(), plain())?;
+    assert!(rt; lacks_starts(&mut machine, &only(1)));
+    let each = plain().starts_for_each_pattern(true);
+    let mut machine = Machine::new(alloc, two_letters(), each)?;
+    for (pattern, wanted) in [
+        (0, Found::At(0, 0, 1)),
+        (1, Found::Nothing),
+        (7, Found::Nothing),
+    ] {
+        assert!(rt;
+            is_found(machine.search(&only(pattern)), wanted),
+            "of {pattern}"
+        );
+    }
+    Ok(())
+}
+
+/// Where nothing is searched, and where the empty text may not split a character.
+#[test]
+fn spans(rt: HostRuntime) -> Result<(), Fail> {
+    let mut machine = Machine::new(rt.alloc(), empty().head, plain())?;
+    for (start, end, wanted) in [
+        (1, 2, Found::At(0, 2, 2)),
+        (1, 1, Found::Nothing),
+        (2, 1, Found::Nothing),
+    ] {
+        let part = span(start, end);
+        assert!(rt;
+            finds(&mut machine, b"\xCE\xB2", part, wanted),
+            "from {start}"
+        );
+    }
+    Ok(())
+}
+
+/// One stands before the span; and `b` shows that `a` matched, but the next byte is read too.
+#[test]
+fn quit_bytes(rt: HostRuntime) -> Result<(), Fail> {
+    let quits = plain().quit(b'x', true).quit(b'd', true);
+    let mut machine = Machine::new(rt.alloc(), two_letters(), quits)?;
+    for (haystack, part, wanted) in [
+        (b"xab_", span(1, 3), Found::Quit(b'x', 0)),
+        (b"a__d", span(0, 4), Found::At(0, 0, 1)),
+        (b"a__z", span(0, 4), Found::At(0, 0, 1)),
+        (b"a_d_", span(0, 4), Found::Quit(b'd', 2)),
+    ] {
+        assert!(rt; finds(&mut machine, haystack, part, wanted));
+    }
     Ok(())
 }
 
