@@ -22,7 +22,7 @@ fn is_at(found: Match, wanted: Found) -> bool {
 }
 
 /// Whether a refusal is this one.
-fn is_quit(e: &MatchError, wanted: Found) -> bool {
+pub fn is_quit(e: &MatchError, wanted: Found) -> bool {
     match wanted {
         Found::Quit(byte, offset) => *e.kind() == MatchErrorKind::Quit { byte, offset },
         _ => false,

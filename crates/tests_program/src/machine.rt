@@ -1,7 +1,6 @@
 // A regex of trees with its caches, as one value: whoever searches with it has nothing to show.
 ghost use Rattle.std.specs.Prelude.{◌≡◌, ◌<◌};
-ghost use Rattle.lazy_dfa.specs.Caches.{IsCacheOf};
-ghost use Rattle.regex_pair.specs.Pairs.{AreCachesOf, IsPair};
+ghost use Rattle.regex_pair.specs.Pairs.{AreCachesOf};
 
 use crate::found::{Found, is_item};
 use hirscan::{Settings, build, read_head};

@@ -1,7 +1,7 @@
 // Regexes that are built of trees: iterators over any capacity, modes, spans, and searches by halves.
 use crate::found::{
-    Found, Row, dates, empty, empty_by_bytes, is_found, letters, lines, many, whole_or_no_edge,
-    words, words_of_characters,
+    Found, Row, dates, empty, empty_by_bytes, is_found, is_quit, letters, lines, many,
+    whole_or_no_edge, words, words_of_characters,
 };
 use crate::machine::{Machine, built};
 use lazy_dfa::dfa::Config;
@@ -209,34 +209,49 @@ fn quit_bytes(rt: HostRuntime) -> Result<(), Fail> {
     Ok(())
 }
 
-/// Whether the automaton that finds starts gives up at this byte.
-fn quits_back(
-    machine: &Machine,
+/// A number between two edges of words by characters.
+fn number() -> Row {
+    Row {
+        head: b"look WordUnicode\nbytes 30-39\nrep 1 inf greedy\nlook WordUnicode\ncat 3\npattern\nfind\n",
+        ..empty()
+    }
+}
+
+/// An `a` before the end of a line that isn't a line feed.
+fn line() -> Row {
+    Row {
+        head: b"line 00\nlit 61\nlook EndLF\ncat 2\npattern\nfind\n",
+        ..empty()
+    }
+}
+
+/// Whether the automaton that finds starts finds none, or gives up so.
+fn finds_back(
     alloc: Global,
-    input: Option<Input<'_>>,
-    byte: u8,
-    offset: usize,
+    machine: &Machine,
+    haystack: &'static [u8],
+    span: Span,
+    wanted: Found,
 ) -> bool {
-    let Some(input) = input else {
+    let Some(input) = within(haystack, span.start, span.end) else {
         return false;
     };
     match machine.search_back(alloc, &input) {
-        Ok(_) => false,
-        Err(e) => *e.kind() == MatchErrorKind::Quit { byte, offset },
+        Ok(found) => found.is_none() && matches!(wanted, Found::Nothing),
+        Err(e) => is_quit(&e, wanted),
     }
 }
 
 #[test]
 fn searches_for_starts(rt: HostRuntime) -> Result<(), Fail> {
     let alloc = rt.alloc();
-    let number =
-        b"look WordUnicode\nbytes 30-39\nrep 1 inf greedy\nlook WordUnicode\ncat 3\npattern\nfind\n";
-    let machine = Machine::new(alloc, number, plain())?;
-    assert!(rt; quits_back(&machine, alloc, within(b"\xCE\xB2123", 2, 5), 0xB2, 1));
-    assert!(rt; quits_back(&machine, alloc, within(b"123\xCE\xB2", 0, 3), 0xCE, 3));
-    let line = b"line 00\nlit 61\nlook EndLF\ncat 2\npattern\nfind\n";
-    let machine = Machine::new(alloc, line, plain())?;
-    let input = within(b"a\n", 0, 1).ok_or("a part")?;
-    assert_eq!(rt; machine.search_back(alloc, &input)?, None);
+    for (row, haystack, part, wanted) in [
+        (number(), b"\xCE\xB2123", span(2, 5), Found::Quit(0xB2, 1)),
+        (number(), b"123\xCE\xB2", span(0, 3), Found::Quit(0xCE, 3)),
+        (line(), b"a\n123", span(0, 1), Found::Nothing),
+    ] {
+        let machine = Machine::new(alloc, row.head, plain())?;
+        assert!(rt; finds_back(alloc, &machine, haystack, part, wanted));
+    }
     Ok(())
 }
