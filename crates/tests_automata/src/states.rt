@@ -195,3 +195,15 @@ fn facts_of_states(rt: HostRuntime) {
     assert!(rt; leading_on(rt.alloc()));
     assert!(rt; matches!(copied(rt.alloc()), Ok(true)));
 }
+
+/// Whether ranges and a table are their copies.
+fn are_copied(alloc: Global) -> Result<bool, AllocError> {
+    let (sparse, dense) = (sparse(alloc)?, dense(alloc)?);
+    Ok(sparse.clone()? == sparse && dense.clone()? == dense)
+}
+
+/// Calls that no other test makes.
+#[test]
+fn no_call_lacks_ample_memory(rt: HostRuntime) {
+    assert!(rt; matches!(are_copied(rt.alloc()), Ok(true)));
+}

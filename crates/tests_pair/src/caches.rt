@@ -3,6 +3,7 @@ use crate::automata::{any_place, letter, pair, two};
 use crate::calls::{Call, Found, Text, answers, are_answered, at, on};
 use crate::machine::Machine;
 use lazy_dfa::dfa::Config;
+use regex_pair::regex::Cache;
 use std::alloc::Global;
 use std::test::Fail;
 
@@ -83,5 +84,24 @@ fn caches(rt: HostRuntime) -> Result<(), Fail> {
         return Ok(());
     };
     assert!(rt; is_handed_on(alloc, used));
+    Ok(())
+}
+
+/// Whether caches of `a` are made by their own name.
+fn are_made(alloc: Global) -> bool {
+    let a = letter(b'a');
+    let Ok(re) = pair(alloc, &a, &a, any_place(), Config::new()) else {
+        return false;
+    };
+    match Cache::new(alloc, &re) {
+        Ok(cache) => cache.memory_usage() == 632,
+        Err(_) => false,
+    }
+}
+
+/// A call that no other test makes.
+#[test]
+fn no_call_lacks_ample_memory(rt: HostRuntime) -> Result<(), Fail> {
+    assert!(rt; are_made(rt.alloc()));
     Ok(())
 }

@@ -4,9 +4,10 @@ ghost use Rattle.nfa_core.specs.NameSets.{empty_below};
 
 use crate::automata::one_letter;
 use determinize_core::{
-    Start, State, StateBuilderEmpty, Workspace, next, next_in, of_nfa, start_in, start_state, walk,
-    walk_with,
+    Start, State, StateBuilderEmpty, Workspace, add_nfa_states, epsilon_closure, next, next_in,
+    of_nfa, start_in, start_state, walk, walk_with,
 };
+use look_core::LookSet;
 use nfa_core::{BuildError, NFA, PairSet, Sets, Steps};
 use search_core::{StateID, Unit};
 use search_types::MatchKind;
@@ -231,4 +232,40 @@ fn is_foreign(alloc: Global) -> Result<bool, BuildError> {
 fn one_step(rt: HostRuntime) {
     assert!(rt; matches!(letter_steps(rt.alloc()), Ok(true)));
     assert!(rt; matches!(is_foreign(rt.alloc()), Ok(true)));
+}
+
+/// The state that has what is led to from a state without a byte.
+fn closed_from<L: Ledger>(
+    alloc: Global,
+    nfa: &NFA,
+    start: StateID,
+    blank: Blank,
+) -> Result<State, AllocError>
+    requires inside { start < length nfa.now.automaton.states }
+    requires name { blank.name ≡ L.name }
+    requires parts { blank.parts ≡ L.parts }
+    requires some { 0 < blank.parts }
+{
+    let mut steps = Steps::<L>::new(blank);
+    let mut sets = pair_sets(alloc, nfa)?;
+    let mut stack = Vec::new(alloc);
+    let none = LookSet::empty();
+    epsilon_closure(nfa, start, none, &mut stack, &mut sets.set1, &mut steps)?;
+    let mut builder = StateBuilderEmpty::new(alloc).into_matches()?.into_nfa();
+    add_nfa_states(nfa, &sets.set1, &mut builder)?;
+    builder.to_state(alloc)
+}
+
+/// Whether the state of a start without looks is made of what its state leads to.
+fn is_closed(alloc: Global) -> Result<bool, BuildError> {
+    let nfa = one_letter(alloc)?;
+    let start = nfa.start_unanchored();
+    let closed = closed_from::<Brand>(alloc, &nfa, start, Blank::new(1))?;
+    Ok(first_state(alloc, &nfa)?.as_bytes() == closed.as_bytes())
+}
+
+/// Calls that no other test makes.
+#[test]
+fn no_call_lacks_ample_memory(rt: HostRuntime) {
+    assert!(rt; matches!(is_closed(rt.alloc()), Ok(true)));
 }

@@ -114,6 +114,17 @@ pub fn empty() -> Row {
     )
 }
 
+/// The same by bytes.
+pub fn empty_by_bytes() -> Row {
+    row_of(
+        b"utf8 off\nempty\npattern\nfind\n",
+        b"\xCE\xB2",
+        Found::At(0, 0, 0),
+        Found::At(0, 1, 1),
+        Found::At(0, 2, 2),
+    )
+}
+
 /// Words from an edge of one by characters on, before a "β" with two spaces between.
 pub fn words_of_characters() -> Row {
     row_of(

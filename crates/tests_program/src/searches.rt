@@ -1,7 +1,7 @@
 // Regexes that are built of trees: iterators over any capacity, modes, spans, and searches by halves.
 use crate::found::{
-    Found, Row, dates, empty, is_found, is_quit, letters, lines, many, whole_or_no_edge, words,
-    words_of_characters,
+    Found, Row, dates, empty, empty_by_bytes, is_found, is_quit, letters, lines, many,
+    whole_or_no_edge, words, words_of_characters,
 };
 use crate::machine::{Machine, built};
 use lazy_dfa::dfa::Config;
@@ -10,12 +10,13 @@ use search_types::{Anchored, Input, MatchErrorKind, Span};
 use std::alloc::Global;
 use std::test::Fail;
 
-fn rows() -> [Row; 8] {
+fn rows() -> [Row; 9] {
     [
         dates(),
         words(),
         many(),
         empty(),
+        empty_by_bytes(),
         words_of_characters(),
         whole_or_no_edge(),
         letters(),
@@ -92,6 +93,36 @@ fn within(haystack: &'static [u8], start: usize, end: usize) -> Option<Input<'st
         return None;
     }
     Some(input.span(span))
+}
+
+/// Whether searches from each place on find over caches of the least capacity what they find over ample ones, and no search
+/// leaves one of the former with more bytes.
+fn finds_alike(ample: &mut Machine, least: &mut Machine, haystack: &'static [u8]) -> bool {
+    let end = haystack.len();
+    for start in 0..=end {
+        let Some(input) = within(haystack, start, end) else {
+            return false;
+        };
+        if least.search(&input) != ample.search(&input) {
+            return false;
+        }
+        if !least.is_least() {
+            return false;
+        }
+    }
+    true
+}
+
+#[test]
+fn least_caches(rt: HostRuntime) -> Result<(), Fail> {
+    let alloc = rt.alloc();
+    for row in rows() {
+        let mut ample = Machine::new(alloc, row.head, plain())?;
+        let mut small = Machine::new(alloc, row.head, least())?;
+        assert!(rt; finds_alike(&mut ample, &mut small, row.haystack));
+        assert!(rt; finds_alike(&mut ample, &mut small, row.haystack));
+    }
+    Ok(())
 }
 
 /// Whether a search over a part of a haystack finds this.
