@@ -1,4 +1,3 @@
-pub mod CharacterLemmas
 pub mod AnswerLemmas
 pub mod LoopLemmas
 pub mod WordLemmas
