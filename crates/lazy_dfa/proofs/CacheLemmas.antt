@@ -172,8 +172,8 @@ sentinels_sized stride =
     rows_more 2 stride (replicate stride 0x8000_0000 ++ replicate stride (0x4000_0000 + stride)) (0x2000_0000 + 2 * stride)
     (rows_more 1 stride (replicate stride 0x8000_0000) (0x4000_0000 + stride) (length-replicate _ _ ∙ omega arith))
 
-pub IsShaped-empty : (stride fresh starts bound : ℕ) → 0 < stride → stride ≤ 512 → IsShaped (empty_cache stride fresh starts bound)
-IsShaped-empty stride fresh starts bound positive narrow =
+pub IsShaped-empty : (stride fresh starts bound : ℕ) (classes : List ℕ) → 0 < stride → stride ≤ 512 → IsShaped (empty_cache stride fresh starts bound classes)
+IsShaped-empty stride fresh starts bound classes positive narrow =
     let long = sentinels_sized stride in
     record {
       positive = positive;
@@ -186,20 +186,20 @@ IsShaped-empty stride fresh starts bound positive narrow =
       apart = λ j k less l. absurd (omega (arith, l));
     }
 
-pub IsKept-empty : {S : Type 0} (stride fresh starts bound : ℕ) (n : HashMap StateValue ℕ S) → 0 < stride → stride ≤ 512 → n.entries ≡ [] →
-    IsKept (empty_cache stride fresh starts bound) n fresh
-IsKept-empty stride fresh starts bound n positive narrow e = record {
-  shape = IsShaped-empty stride fresh starts bound positive narrow;
+pub IsKept-empty : {S : Type 0} (stride fresh starts bound : ℕ) (classes : List ℕ) (n : HashMap StateValue ℕ S) → 0 < stride → stride ≤ 512 → n.entries ≡ [] →
+    IsKept (empty_cache stride fresh starts bound classes) n fresh
+IsKept-empty stride fresh starts bound classes n positive narrow e = record {
+  shape = IsShaped-empty stride fresh starts bound classes positive narrow;
   agree = Agrees-empty n e;
   counted = omega arith;
 }
 
 -- the same where the parts were just made
-pub IsKept-made : {S : Type 0} (stride fresh starts bound one : ℕ) (states : List StateValue) (ids cells known : List ℕ) (n : HashMap StateValue ℕ S) →
+pub IsKept-made : {S : Type 0} (stride fresh starts bound one : ℕ) (classes : List ℕ) (states : List StateValue) (ids cells known : List ℕ) (n : HashMap StateValue ℕ S) →
     0 < stride → stride ≤ 512 → states ≡ [] → ids ≡ [] → cells ≡ sentinel_rows stride → known ≡ replicate starts unknown_id → n.entries ≡ [] → one ≡ bound →
-    IsKept (record (empty_cache stride fresh starts bound) { states = states; ids = ids; cells = cells; starts = known; bound = one }) n fresh
-IsKept-made stride fresh starts bound one states ids cells known n positive narrow a b c d e f =
-    rw (a, b, c, d, f) (IsKept-empty stride fresh starts bound n positive narrow e)
+    IsKept (record (empty_cache stride fresh starts bound classes) { states = states; ids = ids; cells = cells; starts = known; bound = one }) n fresh
+IsKept-made stride fresh starts bound one classes states ids cells known n positive narrow a b c d e f =
+    rw (a, b, c, d, f) (IsKept-empty stride fresh starts bound classes n positive narrow e)
 
 -- ---- found and not
 

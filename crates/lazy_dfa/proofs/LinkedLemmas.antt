@@ -115,6 +115,7 @@ module _ (v : CacheValue) (n : ℕ) (p : Option Progress) where
     stride = own.stride;
     fresh = own.fresh;
     bound = own.bound;
+    classes = own.classes;
     slots = own.slots;
     within = own.within;
     lives = own.lives;

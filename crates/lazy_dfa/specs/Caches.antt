@@ -27,6 +27,7 @@ pub record CacheValue : Type 0 where
   pub clears : ℕ
   pub searched : ℕ  -- bytes searched since the last clear, without those of the search that goes on
   pub progress : Option Progress
+  pub classes : List ℕ  -- the class of each byte, which is its column
 
 -- the greatest number of 64 bits, at which counts stop
 abbrev pub greatest : ℕ
@@ -121,8 +122,8 @@ abbrev pub sentinel_rows : ℕ → List ℕ
 sentinel_rows stride = replicate stride unknown_id ++ replicate stride (dead_id stride) ++ replicate stride (quit_id stride)
 
 -- a cache that holds no states
-abbrev pub empty_cache : ℕ → ℕ → ℕ → ℕ → CacheValue
-empty_cache stride fresh starts bound = record {
+abbrev pub empty_cache : ℕ → ℕ → ℕ → ℕ → List ℕ → CacheValue
+empty_cache stride fresh starts bound classes = record {
   states = [];
   ids = [];
   cells = sentinel_rows stride;
@@ -133,6 +134,7 @@ empty_cache stride fresh starts bound = record {
   clears = 0;
   searched = 0;
   progress = None;
+  classes = classes;
 }
 
 -- a state more, with a row of which nothing is known
@@ -200,6 +202,7 @@ pub record IsCacheOf (d : Dfa) (v : CacheValue) : Type 0 where
   pub stride : v.stride ≡ d.measures.stride
   pub fresh : v.fresh ≡ fresh_usage d.measures
   pub bound : v.bound ≡ length d.nfa.automaton.states
+  pub classes : v.classes ≡ d.classes
   pub slots : length v.starts ≡ d.measures.starts
   pub within : usage v ≤ d.capacity
   pub lives : (k : ℕ) → k < length v.states → state_at v k ≢ dead
@@ -211,4 +214,4 @@ pub record IsCacheOf (d : Dfa) (v : CacheValue) : Type 0 where
 
 -- a cache as it is made for an automaton
 abbrev pub made_for : Dfa → CacheValue
-made_for d = empty_cache d.measures.stride (fresh_usage d.measures) d.measures.starts d.measures.states
+made_for d = empty_cache d.measures.stride (fresh_usage d.measures) d.measures.starts d.measures.states d.classes

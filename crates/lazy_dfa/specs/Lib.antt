@@ -8,6 +8,8 @@ pub mod Accounting
 pub mod ConfigValue
 pub mod Dfas
 pub mod Ids
+pub mod Leaving
+pub mod Skips
 pub mod Caches
 pub mod Steps
 pub mod StartCalls

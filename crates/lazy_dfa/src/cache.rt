@@ -5,8 +5,10 @@ ghost use Rattle.lazy_dfa.specs.Ids.{tag};
 
 use crate::lazy_id::{LazyStateID, MATCH};
 use crate::progress::Progress;
+use crate::skip::Skip;
 use determinize_core::state_laws::bytes_stand_for_states;
 use determinize_core::{State, Workspace};
+use search_core::ByteClasses;
 use std::collections::HashMap;
 use std::marker::Model;
 
@@ -37,16 +39,21 @@ pub struct Cache {
     /// The bytes that were searched since the last clear, up to the search that goes on.
     pub(crate) searched: usize,
     pub(crate) progress: Option<Progress>,
+    /// The classes of bytes, one for each column.
+    pub(crate) classes: ByteClasses,
+    /// Where searches pass over bytes.
+    pub(crate) skip: Skip,
 }
 
 impl Model for Cache {
     ghost use Rattle.lazy_dfa.specs.Caches.{CacheValue, IsKept};
+    ghost use Rattle.lazy_dfa.specs.Skips.{IsSkip};
 
     ghost Value = { CacheValue };
 
-    ghost view = { λ c. record { states = c.states.items; ids = c.ids.items; cells = c.cells.items; starts = c.starts.items; stride = c.stride; fresh = c.fresh; bound = c.workspace; clears = c.clears; searched = c.searched; progress = c.progress } };
+    ghost view = { λ c. record { states = c.states.items; ids = c.ids.items; cells = c.cells.items; starts = c.starts.items; stride = c.stride; fresh = c.fresh; bound = c.workspace; clears = c.clears; searched = c.searched; progress = c.progress; classes = c.classes } };
 
-    ghost invariant = { λ c. IsKept (record { states = c.states.items; ids = c.ids.items; cells = c.cells.items; starts = c.starts.items; stride = c.stride; fresh = c.fresh; bound = c.workspace; clears = c.clears; searched = c.searched; progress = c.progress }) c.rows c.used };
+    ghost invariant = { λ c. IsKept (record { states = c.states.items; ids = c.ids.items; cells = c.cells.items; starts = c.starts.items; stride = c.stride; fresh = c.fresh; bound = c.workspace; clears = c.clears; searched = c.searched; progress = c.progress; classes = c.classes }) c.rows c.used × IsSkip c.cells.items c.classes c.skip };
 }
 
 impl Cache {

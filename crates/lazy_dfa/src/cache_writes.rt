@@ -12,10 +12,11 @@ ghost use Rattle.lazy_dfa.specs.Ids.{tag, has_tag, start_tag};
 use crate::cache::Cache;
 use crate::lazy_id::{LazyStateID, MATCH, id_of};
 use crate::progress::begun_anew;
+use crate::skip::Skip;
 use crate::work::Work;
 use determinize_core::{Start, State, Workspace, next_in, start_in};
 use nfa_core::NFA;
-use search_core::{StateID, Unit};
+use search_core::{ByteClasses, StateID, Unit};
 use search_types::MatchKind;
 use std::alloc::{AllocError, Global};
 use std::collections::HashMap;
@@ -29,11 +30,12 @@ impl Cache {
         fresh: usize,
         starts: usize,
         names: usize,
+        classes: &ByteClasses,
     ) -> Result<Cache, AllocError>
         requires positive { 0 < stride }
         requires narrow { stride ≤ 512 }
         requires names { names ≤ greatest_index + 1 }
-        ensures { IfOk result (λ c. c ≡ empty_cache stride fresh starts names) }
+        ensures { IfOk result (λ c. c ≡ empty_cache stride fresh starts names classes.now) }
     {
         let workspace = Workspace::new(alloc, names)?;
         let cells = sentinel_rows(alloc, stride)?;
@@ -51,6 +53,8 @@ impl Cache {
             clears: 0,
             searched: 0,
             progress: None,
+            classes: *classes,
+            skip: Skip::new(),
         })
     }
 
@@ -116,6 +120,7 @@ impl Cache {
         requires { id % tag + class < length self.old.cells }
         ensures { self.new ≡ record self.old { cells = slice_set self.old.cells (id % tag + class) to } }
     {
+        self.skip = self.skip.forgotten();
         self.cells[(id.bits() % MATCH) as usize + class] = to;
     }
 
@@ -149,6 +154,7 @@ impl Cache {
         self.clears = self.clears.saturating_add(1);
         self.searched = 0;
         self.progress = begun_anew(self.progress);
+        self.skip = Skip::new();
     }
 
     /// Adds a state that is not there yet, with a row of which nothing is known.
@@ -173,6 +179,7 @@ impl Cache {
         self.states.reserve(1)?;
         self.ids.reserve(1)?;
         self.rows.reserve(1)?;
+        self.skip = self.skip.forgotten();
         self.cells.resize(at + self.stride, LazyStateID::unknown())?;
         self.states.push(copy)?;
         self.ids.push(id)?;

@@ -20,6 +20,7 @@ impl Cache {
             measures.fresh_usage(),
             measures.starts,
             measures.states,
+            dfa.byte_classes(),
         )?;
         Ok(cache)
     }

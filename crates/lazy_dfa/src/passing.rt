@@ -123,16 +123,23 @@ pub(crate) fn refusal(err: CacheError, place: usize) -> MatchError
 
 /// Goes on over known steps while no state has a tag, up to the last place of the span.
 #[inline(always)]
-pub(crate) fn run(dfa: &DFA, cache: &Cache, input: &Input<'_>, is_down: bool, stand: Stand) -> Stand
-    requires own { IsCacheOf dfa.now cache.now }
+pub(crate) fn run(
+    dfa: &DFA,
+    cache: &mut Cache,
+    input: &Input<'_>,
+    is_down: bool,
+    stand: Stand,
+) -> Stand
+    requires own { IsCacheOf dfa.now cache.old }
     requires down { is_down ≡ dfa.now.nfa.automaton.reverse }
-    requires row { IsRow cache.now stand.id }
+    requires row { IsRow cache.old stand.id }
     requires within { IsWithinSpan input.now stand.at }
-    ensures row { IsRow cache.now result.id }
+    ensures same { cache.new ≡ cache.old }
+    ensures row { IsRow cache.old result.id }
     ensures within { IsWithinSpan input.now result.at }
     ensures closer { left_at is_down input.now result.at ≤ left_at is_down input.now stand.at }
     ensures goes { (earliest : Bool) (m n : ℕ) → GoesBetween dfa.now earliest input.now.haystack
-        (point cache.now m n stand.at stand.id (pair_of stand.best)) (point cache.now m n result.at result.id (pair_of result.best))
+        (point cache.old m n stand.at stand.id (pair_of stand.best)) (point cache.old m n result.at result.id (pair_of result.best))
         (left_at is_down input.now stand.at - left_at is_down input.now result.at) }
 {
     if stand.id.is_tagged() {
@@ -147,7 +154,16 @@ pub(crate) fn run(dfa: &DFA, cache: &Cache, input: &Input<'_>, is_down: bool, st
             best: stand.best,
         };
     }
-    let moved = run_up(dfa, cache, haystack, stand.id, stand.at, input.end());
+    let is_anchored = input.get_anchored().is_anchored();
+    let moved = run_up(
+        dfa,
+        cache,
+        haystack,
+        stand.id,
+        stand.at,
+        input.end(),
+        is_anchored,
+    );
     Stand {
         at: moved.at,
         id: moved.id,

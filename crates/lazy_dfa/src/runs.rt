@@ -19,39 +19,138 @@ pub(crate) struct Moved {
     pub(crate) id: LazyStateID,
 }
 
-/// Goes on upwards over known steps while no state has a tag.
-pub(crate) fn run_up(
+/// How far a walk came, to which state, and whether it pauses there: at the state to stop at, or behind a stretch.
+#[derive(Clone, Copy)]
+struct Walked {
+    at: usize,
+    id: LazyStateID,
+    pauses: bool,
+}
+
+/// Goes on upwards byte by byte over known steps while no state has a tag, up to a limit or the state to stop at.
+#[inline(always)]
+fn walk_up(
     dfa: &DFA,
     cache: &Cache,
     haystack: &[u8],
     id: LazyStateID,
     from: usize,
-    end: usize,
-) -> Moved
+    limit: usize,
+    stop: LazyStateID,
+) -> Walked
     requires own { IsCacheOf dfa.now cache.now }
     requires up { dfa.now.nfa.automaton.reverse ≡ false }
     requires row { IsRow cache.now id }
     requires untagged { id < tag }
-    requires fits { from ≤ end }
-    requires within { end ≤ length haystack.now }
+    requires fits { from ≤ limit }
+    requires within { limit ≤ length haystack.now }
     ensures row { IsRow cache.now result.id }
     ensures untagged { result.id < tag }
     ensures past { from ≤ result.at }
-    ensures within { result.at ≤ end }
+    ensures within { result.at ≤ limit }
+    ensures further { result.pauses ≡ true → from < result.at }
     ensures goes { (m n : ℕ) (best : Option (ℕ × ℕ)) → GoesTo dfa.now haystack.now (point cache.now m n from id best) (point cache.now m n result.at result.id best) (result.at - from) }
 {
     dfa.is_made();
     let mut at = from;
     let mut sid = id;
-    while at < end {
+    while at < limit {
         let next = cache.cell_of_untagged(sid, dfa.class(haystack[at]));
         if next.is_tagged() {
-            return Moved { at, id: sid };
+            return Walked {
+                at,
+                id: sid,
+                pauses: false,
+            };
         }
         sid = next;
         at += 1;
+        if sid == stop {
+            return Walked {
+                at,
+                id: sid,
+                pauses: true,
+            };
+        }
     }
-    Moved { at, id: sid }
+    Walked {
+        at,
+        id: sid,
+        pauses: at > from,
+    }
+}
+
+/// Goes on upwards over known steps while no state has a tag, past bytes that leave the state to stop at as it is.
+fn skip_up(
+    dfa: &DFA,
+    cache: &mut Cache,
+    haystack: &[u8],
+    id: LazyStateID,
+    from: usize,
+    end: usize,
+) -> Moved
+    requires own { IsCacheOf dfa.now cache.old }
+    requires up { dfa.now.nfa.automaton.reverse ≡ false }
+    requires row { IsRow cache.old id }
+    requires untagged { id < tag }
+    requires fits { from ≤ end }
+    requires within { end ≤ length haystack.now }
+    ensures same { cache.new ≡ cache.old }
+    ensures row { IsRow cache.old result.id }
+    ensures untagged { result.id < tag }
+    ensures past { from ≤ result.at }
+    ensures within { result.at ≤ end }
+    ensures goes { (m n : ℕ) (best : Option (ℕ × ℕ)) → GoesTo dfa.now haystack.now (point cache.old m n from id best) (point cache.old m n result.at result.id best) (result.at - from) }
+{
+    dfa.is_made();
+    let mut at = from;
+    let mut sid = id;
+    loop {
+        let limit = cache.stretch_end(at, end);
+        let walked = walk_up(dfa, cache, haystack, sid, at, limit, cache.stop());
+        sid = walked.id;
+        if !walked.pauses {
+            return Moved {
+                at: walked.at,
+                id: sid,
+            };
+        }
+        at = cache.pass_over(sid, haystack, walked.at, end);
+    }
+}
+
+/// Goes on upwards over known steps while no state has a tag; a search that isn't anchored passes over bytes.
+#[inline(always)]
+pub(crate) fn run_up(
+    dfa: &DFA,
+    cache: &mut Cache,
+    haystack: &[u8],
+    id: LazyStateID,
+    from: usize,
+    end: usize,
+    is_anchored: bool,
+) -> Moved
+    requires own { IsCacheOf dfa.now cache.old }
+    requires up { dfa.now.nfa.automaton.reverse ≡ false }
+    requires row { IsRow cache.old id }
+    requires untagged { id < tag }
+    requires fits { from ≤ end }
+    requires within { end ≤ length haystack.now }
+    ensures same { cache.new ≡ cache.old }
+    ensures row { IsRow cache.old result.id }
+    ensures untagged { result.id < tag }
+    ensures past { from ≤ result.at }
+    ensures within { result.at ≤ end }
+    ensures goes { (m n : ℕ) (best : Option (ℕ × ℕ)) → GoesTo dfa.now haystack.now (point cache.old m n from id best) (point cache.old m n result.at result.id best) (result.at - from) }
+{
+    if !is_anchored {
+        return skip_up(dfa, cache, haystack, id, from, end);
+    }
+    let walked = walk_up(dfa, cache, haystack, id, from, end, LazyStateID::unknown());
+    Moved {
+        at: walked.at,
+        id: walked.id,
+    }
 }
 
 /// Goes on downwards over known steps while no state has a tag.

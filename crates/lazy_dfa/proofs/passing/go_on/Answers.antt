@@ -8,7 +8,7 @@ use Rattle.lazy_dfa.proofs.PassLoopLemmas.{began_runs, under_first, under_on, st
 use Rattle.lazy_dfa.proofs.passing.go_on.Goals as goal
 
 pub loop-turned-init : goal.loop-turned-init
-loop-turned-init g c = record {
+loop-turned-init g c = rw c.run-stand.ensures.same (record {
   own = c.requires.own;
   row = c.run-stand.ensures.row;
   within = c.run-stand.ensures.within;
@@ -20,7 +20,7 @@ loop-turned-init g c = record {
       (left_at c.args.is_down c.args.input.now x - left_at c.args.is_down c.args.input.now c.run-stand.result.at)) c.first_place.ensures
       (c.run-stand.ensures.goes c.args.input.now.earliest c.args.work.now.determinized c.args.work.now.inserted)) c.run-stand.ensures.within;
   under = under_first c.args.is_down c.args.input.now c.args.cache.now c.run-stand.result.at c.requires.running;
-}
+})
 
 pub returns-in-Err-clause-runs : goal.returns-in-Err-clause-runs
 returns-in-Err-clause-runs g c s held =
@@ -49,7 +49,7 @@ loop-turned-preserved g c =
     let first : Point = point c.args.cache.now c.args.work.now.determinized c.args.work.now.inserted (first_place c.args.is_down c.args.input.now.start c.args.input.now.end) c.args.id None in
     let further = goes_further c.args.dfa.now c.args.input.now c.args.is_down c.requires.down c.is_made.ensures (subst AreBytes c.haystack.ensures.value c.see_bytes.ensures) first here c.requires.own c.loop-turned.invariant.own c.requires.row c.loop-turned.invariant.row
     c.loop-turned.invariant.within c.loop-turned.invariant.goes c.turn_at.new.cache c.turn_at.new.work.determinized c.turn_at.new.work.inserted c.in-Ok.turned.stand c.in-Ok.ensures.own on in
-    record {
+    rw c.run-stand-in-loop-turned.ensures.same (record {
       own = c.in-Ok.ensures.own;
       row = c.run-stand-in-loop-turned.ensures.row;
       within = c.run-stand-in-loop-turned.ensures.within;
@@ -62,7 +62,7 @@ loop-turned-preserved g c =
       under = under_on c.args.dfa.now c.args.input.now c.args.is_down c.requires.down c.is_made.ensures (subst AreBytes c.haystack.ensures.value c.see_bytes.ensures) first here c.requires.own c.loop-turned.invariant.own c.requires.row c.loop-turned.invariant.row
           c.loop-turned.invariant.within c.loop-turned.invariant.goes c.turn_at.new.cache c.turn_at.new.work.determinized c.turn_at.new.work.inserted c.in-Ok.turned.stand c.in-Ok.ensures.own on
           (first_place c.args.is_down c.args.input.now.start c.args.input.now.end) refl refl c.run-stand-in-loop-turned.result.at c.run-stand-in-loop-turned.ensures.within c.run-stand-in-loop-turned.ensures.closer c.loop-turned.invariant.under;
-    }
+    })
 
 pub run-stand-requires-in-loop-turned-clause-within : goal.run-stand-requires-in-loop-turned-clause-within
 run-stand-requires-in-loop-turned-clause-within g c =

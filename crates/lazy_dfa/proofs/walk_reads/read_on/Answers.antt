@@ -18,7 +18,7 @@ run-stand-requires-clause-row g c = row_moved c.args.cache.now c.search_start.ne
 
 pub loop-read-init : goal.loop-read-init
 loop-read-init g c =
-    let mine = is_cache_moved c.args.dfa.now c.args.cache.now c.search_start.new.self (started_moves c.args.cache.now c.search_start.new.self c.progress_at.result c.search_start.ensures) c.requires.own in record {
+    let mine = is_cache_moved c.args.dfa.now c.args.cache.now c.search_start.new.self (started_moves c.args.cache.now c.search_start.new.self c.progress_at.result c.search_start.ensures) c.requires.own in rw c.run-stand.ensures.same (record {
       own = mine;
       row = c.run-stand.ensures.row;
       within = c.run-stand.ensures.within;
@@ -29,7 +29,7 @@ loop-read-init g c =
           (begins_on c.args.dfa.now c.args.input.now c.args.cache.now c.search_start.new.self c.args.work.now.determinized c.args.work.now.inserted c.args.first.at c.args.first.id c.progress_at.result None (pair_of c.args.first.best)
           c.search_start.ensures (c.progress_at.ensures ∙ ap (λ (b : Bool). gave_up_at b c.args.input.now c.args.first.at) c.requires.down) c.requires.state)
           c.run-stand.ensures.row c.run-stand.ensures.within c.run-stand.ensures.closer (c.run-stand.ensures.goes true c.args.work.now.determinized c.args.work.now.inserted);
-    }
+    })
 
 pub returns-in-Err-clause-reads : goal.returns-in-Err-clause-reads
 returns-in-Err-clause-reads g c =
@@ -61,7 +61,7 @@ run-stand-requires-in-loop-read-clause-within g c =
 
 pub loop-read-preserved : goal.loop-read-preserved
 loop-read-preserved g c =
-    let on = subst (ReadsInto c.args.dfa.now c.args.input.now (point c.loop-read.cache c.loop-read.work.determinized c.loop-read.work.inserted c.loop-read.stand.at c.loop-read.stand.id (pair_of c.loop-read.stand.best)) c.read_at.new.cache c.read_at.new.work.determinized c.read_at.new.work.inserted c.in-Ok.read.stand c.in-Ok.read.tells) c.if-read.false c.in-Ok.ensures.read in record {
+    let on = subst (ReadsInto c.args.dfa.now c.args.input.now (point c.loop-read.cache c.loop-read.work.determinized c.loop-read.work.inserted c.loop-read.stand.at c.loop-read.stand.id (pair_of c.loop-read.stand.best)) c.read_at.new.cache c.read_at.new.work.determinized c.read_at.new.work.inserted c.in-Ok.read.stand c.in-Ok.read.tells) c.if-read.false c.in-Ok.ensures.read in rw c.run-stand-in-loop-read.ensures.same (record {
       own = c.in-Ok.ensures.own;
       row = c.run-stand-in-loop-read.ensures.row;
       within = c.run-stand-in-loop-read.ensures.within;
@@ -81,4 +81,4 @@ loop-read-preserved g c =
           c.read_at.new.cache c.read_at.new.work.determinized c.read_at.new.work.inserted c.in-Ok.read.stand c.in-Ok.read.tells c.in-Ok.ensures.own on)
           c.run-stand-in-loop-read.ensures.row c.run-stand-in-loop-read.ensures.within c.run-stand-in-loop-read.ensures.closer
           (c.run-stand-in-loop-read.ensures.goes true c.read_at.new.work.determinized c.read_at.new.work.inserted);
-    }
+    })

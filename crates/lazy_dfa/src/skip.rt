@@ -1,0 +1,234 @@
+//! How searches pass over bytes.
+//!
+//! A search that comes back to a state which most bytes leave as it is, doesn't read these one by one: it looks for the next
+//! byte that leaves the state, many at once. A cache notes one such state, the one to stop at, with the bytes that leave it,
+//! and lasts from search to search. Whatever writes a step forgets it, since the state may be left by fewer bytes from then
+//! on; it is looked for anew in the next stretch of bytes that is read one by one. Bytes whose step isn't known yet, or that
+//! are quit bytes, count as leaving.
+//!
+//! A skip costs about as much as the reading of a few bytes, so each is paid from a credit, to which it adds the bytes that
+//! it passed. Where the credit is used up, a search reads all bytes until the cache is cleared.
+ghost use Rattle.std.specs.Prelude.{◌≡◌, ◌⊎◌, ℕ, ◌<◌, ◌≤◌, true, false, length, IfSome};
+ghost use Rattle.search_core.specs.ByteSets.{has};
+ghost use Rattle.lazy_dfa.specs.Ids.{tag, unknown_id};
+ghost use Rattle.lazy_dfa.specs.Leaving.{leaves};
+ghost use Rattle.lazy_dfa.specs.Skips.{cell_by, StaysOver};
+
+use crate::cache::Cache;
+use crate::lazy_id::LazyStateID;
+use crate::leaving::Leaving;
+use search_core::ByteSet;
+
+/// What a skip costs.
+const SKIP_COST: usize = 4;
+
+/// What it costs to look which bytes leave a state that turns out to be of no use.
+const LOOK_COST: usize = 128;
+
+/// The credit of a cache that holds no states.
+const FIRST_CREDIT: usize = 1024;
+
+/// The greatest credit.
+const MOST_CREDIT: usize = 4096;
+
+/// How many bytes are read one by one before a state to stop at is looked for.
+const STRETCH: usize = 64;
+
+/// How many bytes may leave a state to stop at.
+const MOST_LEAVING: usize = 128;
+
+/// A state to stop at.
+#[derive(Clone, Copy)]
+pub(crate) struct Skip {
+    /// Its ID, or the unknown one where none is noted.
+    pub(crate) stop: LazyStateID,
+    /// The bytes that leave it.
+    leaving: Leaving,
+    credit: usize,
+}
+
+impl Skip {
+    /// Notes no state.
+    pub(crate) fn new() -> Skip
+        ensures { result.stop ≡ unknown_id }
+    {
+        Skip {
+            stop: LazyStateID::unknown(),
+            leaving: Leaving::Never,
+            credit: FIRST_CREDIT,
+        }
+    }
+
+    /// The same without the state.
+    pub(crate) fn forgotten(self) -> Skip
+        ensures { result.stop ≡ unknown_id }
+    {
+        Skip {
+            stop: LazyStateID::unknown(),
+            leaving: self.leaving,
+            credit: self.credit,
+        }
+    }
+
+    /// The same without the state and with no credit.
+    fn given_up(self) -> Skip
+        ensures { result.stop ≡ unknown_id }
+    {
+        Skip {
+            stop: LazyStateID::unknown(),
+            leaving: self.leaving,
+            credit: 0,
+        }
+    }
+
+    /// The same behind a skip over so many bytes, without the state where the credit is used up.
+    #[inline(always)]
+    fn paid(self, passed: usize) -> Skip
+        ensures { (result.stop ≡ unknown_id) ⊎ ((result.leaving ≡ self.leaving) × (result.stop ≡ self.stop)) }
+    {
+        let credit = self.credit.saturating_add(passed).min(MOST_CREDIT);
+        if credit < SKIP_COST {
+            return self.given_up();
+        }
+        self.with_credit(credit - SKIP_COST)
+    }
+
+    #[inline(always)]
+    fn with_credit(self, credit: usize) -> Skip
+        ensures leaving { result.leaving ≡ self.leaving }
+        ensures stop { result.stop ≡ self.stop }
+    {
+        Skip {
+            stop: self.stop,
+            leaving: self.leaving,
+            credit,
+        }
+    }
+
+    /// The same behind a look that was of no use.
+    fn looked_in_vain(self) -> Skip
+        ensures leaving { result.leaving ≡ self.leaving }
+        ensures stop { result.stop ≡ self.stop }
+    {
+        self.with_credit(self.credit.saturating_sub(LOOK_COST))
+    }
+}
+
+impl Cache {
+    /// The ID at which a search stops that may pass over bytes, or the unknown one.
+    #[inline(always)]
+    pub(crate) fn stop(&self) -> LazyStateID {
+        self.skip.stop
+    }
+
+    /// How far bytes are read one by one: to the end, or a stretch in which a state to stop at is looked for.
+    #[inline(always)]
+    pub(crate) fn stretch_end(&self, from: usize, end: usize) -> usize
+        requires { from ≤ end }
+        ensures low { from ≤ result }
+        ensures high { result ≤ end }
+    {
+        if !self.skip.stop.is_tagged() || self.skip.credit < SKIP_COST || end - from <= STRETCH {
+            return end;
+        }
+        from + STRETCH
+    }
+
+    /// Where a search goes on that pauses in a state: behind the bytes that leave it as it is, where it is the one to stop at.
+    pub(crate) fn pass_over(
+        &mut self,
+        id: LazyStateID,
+        haystack: &[u8],
+        from: usize,
+        end: usize,
+    ) -> usize
+        requires untagged { id < tag }
+        requires fits { from ≤ end }
+        requires within { end ≤ length haystack.now }
+        ensures same { self.new ≡ self.old }
+        ensures low { from ≤ result }
+        ensures high { result ≤ end }
+        ensures stays { StaysOver self.old.cells self.old.classes haystack.now id from result }
+    {
+        if from == end {
+            return end;
+        }
+        if id != self.skip.stop {
+            self.look(id, haystack[from]);
+        }
+        if id != self.skip.stop {
+            return from;
+        }
+        let to = self.skip.leaving.find(haystack, from, end);
+        self.skip = self.skip.paid(to - from);
+        to
+    }
+
+    /// Notes a state as the one to stop at, if the next byte and most others leave it as it is.
+    fn look(&mut self, id: LazyStateID, byte: u8)
+        requires { id < tag }
+        ensures { self.new ≡ self.old }
+    {
+        if !self.stays(id, byte) {
+            return;
+        }
+        let set = self.leaving_bytes(id);
+        let Some(leaving) = told(&set) else {
+            self.skip = self.skip.looked_in_vain();
+            return;
+        };
+        self.skip = Skip {
+            stop: id,
+            leaving,
+            credit: self.skip.credit,
+        };
+    }
+
+    /// Whether the step by a byte is known and leaves a state as it is.
+    fn stays(&self, id: LazyStateID, byte: u8) -> bool
+        ensures { result ≡ true → cell_by self.now.cells self.now.classes id byte ≡ id }
+    {
+        let place = id.bits() as usize + usize::from(self.classes.get(byte));
+        let Some(cell) = self.cells.get(place) else {
+            return false;
+        };
+        *cell == id
+    }
+
+    /// The bytes that may leave a state.
+    fn leaving_bytes(&self, id: LazyStateID) -> ByteSet
+        ensures { (byte : ℕ) → byte < 256 → has result byte ≡ false → cell_by self.now.cells self.now.classes id byte ≡ id }
+    {
+        let mut set = ByteSet::empty();
+        for byte in 0..=255 {
+            if !self.stays(id, byte) {
+                set.add(byte);
+            }
+        }
+        set
+    }
+}
+
+/// The bytes of a set in a form by which many are tested at once, where it is of use.
+fn told(set: &ByteSet) -> Option<Leaving>
+    ensures { IfSome result (λ t. (byte : ℕ) → byte < 256 → leaves t byte ≡ has set.now byte) }
+{
+    if !are_few(set) {
+        return None;
+    }
+    Leaving::new(set)
+}
+
+/// Whether at most so many bytes are in a set that it is of use to look for them.
+fn are_few(set: &ByteSet) -> bool {
+    let mut left = MOST_LEAVING;
+    for byte in 0..=255 {
+        if set.contains(byte) {
+            if left == 0 {
+                return false;
+            }
+            left -= 1;
+        }
+    }
+    true
+}
