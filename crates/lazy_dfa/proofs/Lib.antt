@@ -73,3 +73,4 @@ pub mod WalkPlaceLemmas
 pub mod WalkTurnLemmas
 pub mod WalkReadLemmas
 pub mod WalkRows
+pub mod ByteTestLemmas

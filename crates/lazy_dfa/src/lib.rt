@@ -19,6 +19,7 @@
 pub mod accounting_laws;
 mod build_error;
 mod builder;
+mod byte_tests;
 mod cache;
 mod cache_error;
 mod cache_writes;
@@ -27,6 +28,7 @@ pub mod dfa;
 mod dfa_starts;
 mod dfa_steps;
 mod lazy_id;
+mod leaving;
 mod making;
 mod measures;
 mod overlapping;
