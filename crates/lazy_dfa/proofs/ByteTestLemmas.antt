@@ -18,7 +18,7 @@ all_or_none test (x ∷ bytes) zero e = absurd (omega arith)
 all_or_none test (x ∷ bytes) (suc n) e = ap (λ rest. cond (test x) 255 0 ∷ rest) (all_or_none test bytes n (omega arith))
 
 -- the same by a comparison with one byte
-abbrev compared : (ℕ → ℕ → Bool) → List ℕ → ℕ → List ℕ
+abbrev pub compared : (ℕ → ℕ → Bool) → List ℕ → ℕ → List ℕ
 compared compare lanes y =
     sel_l (map (top 7) (zip2 (λ a b. cond (compare a b) 255 0) lanes (replicate 32 y))) (replicate 32 255) (replicate 32 0)
 

@@ -74,3 +74,4 @@ pub mod WalkTurnLemmas
 pub mod WalkReadLemmas
 pub mod WalkRows
 pub mod ByteTestLemmas
+pub mod HalfTableLemmas

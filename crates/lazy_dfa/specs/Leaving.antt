@@ -1,8 +1,8 @@
 -- The bytes by which a state is left, and what a search for one passes over.
 use Rattle.std.specs.Prelude.{◌||◌, ◌==◌, ℕ, Bool, false, List}
-use Rattle.lazy_dfa.specs.ByteTests.{in_range, NonePasses}
+use Rattle.lazy_dfa.specs.ByteTests.{in_range, in_halves, NonePasses}
 use Rattle.lazy_dfa.specs.declared.leaving.Leaving.{Leaving}
-use Rattle.lazy_dfa.specs.declared.leaving.Leaving.TheVariants.{Never, One, Two, Three, Range, Ranges}
+use Rattle.lazy_dfa.specs.declared.leaving.Leaving.TheVariants.{Never, One, Two, Three, Range, Ranges, Halves}
 
 -- whether the byte leaves
 abbrev pub leaves : Leaving → ℕ → Bool
@@ -12,6 +12,7 @@ leaves (Two a b) byte = byte == a || byte == b
 leaves (Three a b c) byte = byte == a || (byte == b || byte == c)
 leaves (Range a) byte = in_range a byte
 leaves (Ranges a b c d) byte = (in_range a byte || in_range b byte) || (in_range c byte || in_range d byte)
+leaves (Halves tables) byte = in_halves tables.low tables.high byte
 
 -- no byte from a place on, and before another one, leaves
 abbrev pub NoneLeaves : Leaving → List ℕ → ℕ → ℕ → Type 0

@@ -4,6 +4,7 @@ ghost use Rattle.search_core.specs.ByteSets.{has};
 ghost use Rattle.lazy_dfa.specs.Leaving.{leaves, NoneLeaves};
 
 use crate::byte_tests::{ByteRange, ByteTest, Either, OneByte, find_by};
+use crate::half_tables::HalfTables;
 use search_core::ByteSet;
 
 /// The bytes by which a state is left, in a form by which many bytes are tested at once.
@@ -19,6 +20,8 @@ pub(crate) enum Leaving {
     Range(ByteRange),
     /// The bytes of up to four ranges leave; the first one stands for those that there aren't.
     Ranges(ByteRange, ByteRange, ByteRange, ByteRange),
+    /// The bytes that pass these tables leave.
+    Halves(HalfTables),
 }
 
 impl Leaving {
@@ -29,7 +32,10 @@ impl Leaving {
         if let Some(few) = few_bytes(set) {
             return few.checked(set);
         }
-        few_ranges(set)?.checked(set)
+        if let Some(ranges) = few_ranges(set) {
+            return ranges.checked(set);
+        }
+        Leaving::Halves(HalfTables::new(set)?).checked(set)
     }
 
     /// Whether a byte leaves.
@@ -43,6 +49,7 @@ impl Leaving {
             Leaving::Three(a, b, c) => byte == *a || byte == *b || byte == *c,
             Leaving::Range(a) => a.passes(byte),
             Leaving::Ranges(a, b, c, d) => { Either(Either(*a, *b), Either(*c, *d)).passes(byte) }
+            Leaving::Halves(tables) => tables.passes(byte),
         }
     }
 
@@ -81,6 +88,7 @@ impl Leaving {
                 let four = Either(Either(*a, *b), Either(*c, *d));
                 find_by(&four, haystack, from, end)
             }
+            Leaving::Halves(tables) => find_by(tables, haystack, from, end),
         }
     }
 }

@@ -27,6 +27,7 @@ mod config;
 pub mod dfa;
 mod dfa_starts;
 mod dfa_steps;
+mod half_tables;
 mod lazy_id;
 mod leaving;
 mod making;
