@@ -1,10 +1,12 @@
 -- Vectors as lists of their lanes: each is what a function makes of the bytes that were read.
-use Rattle.std.proofs.Common.{◌≡◌, ◌||◌, ◌∙◌, ◌+◌, ◌-◌, ◌<◌, ◌≤◌, ℕ, zero, suc, List, [], ◌∷◌, length, map, replicate}
-use Rattle.std.proofs.Common.{Bool, true, false, not, cond, leb, w8, ⊎_elim, bit_or, refl, sym, ap, subst, arith}
+use Rattle.std.proofs.Common.{◌≡◌, ◌||◌, ◌∙◌, ◌+◌, ◌-◌, ◌<◌, ◌≤◌, ℕ, zero, suc, List, [], ◌∷◌, length, get_or, map, replicate}
+use Rattle.std.proofs.Common.{Bool, true, false, not, cond, leb, w8, w64, inl, inr, ⊎_elim, refl, sym, ap, subst, arith}
+use Rattle.std.proofs.Common.{◌^◌, pow_mono, bit_or}
 use Rattle.std.proofs.lemmas.Bool.{cases_lt}
-use Rattle.std.proofs.lemmas.List.{length-map}
-use Rattle.std.proofs.lemmas.Simd.{tops_compared, zip2_splat, map-map, length-chunk, trailing_mask_l}
-use Rattle.std.proofs.lemmas.Simd.{run_in_chunk_le, run_in_chunk_fails, none_from_empty_mask}
+use Rattle.std.proofs.lemmas.List.{get_or_past, length-map}
+use Rattle.std.proofs.lemmas.Nat.Bits.{bit_at-trailing_zeros}
+use Rattle.std.proofs.lemmas.Simd.{tops_compared, zip2_splat, map-map, length-chunk, trailing_mask_l, mask_l-lt, bit_mask_l}
+use Rattle.std.proofs.lemmas.Simd.{run_in_chunk_le, run_in_chunk_stops, run_in_chunk_fails, none_from_empty_mask}
 use Rattle.std.specs.Int.Count.{count_trailing_zeros}
 use Rattle.std.specs.List.{prefix_len}
 use Rattle.std.specs.Simd.Lanes.{chunk, mask_l, sel_l, top, zip2}
@@ -62,6 +64,17 @@ bits_marked : (test : ℕ → Bool) (bytes : List ℕ) → map has_bits (marked 
 bits_marked test [] = refl
 bits_marked test (x ∷ bytes) = λ i. has_marked (test x) i ∷ bits_marked test bytes i
 
+-- the lowest bit stands for one of the lanes
+lowest_lane : (ms : List Bool) → length ms ≤ 32 → 0 < mask_l ms → count_trailing_zeros 64 (mask_l ms) < length ms
+lowest_lane ms few some =
+    let n = count_trailing_zeros 64 (mask_l ms) in
+    let fits : mask_l ms < 2 ^ 64 = omega (arith, mask_l-lt ms, pow_mono few) in
+    let set = (bit_at-trailing_zeros w64 (mask_l ms) some fits).1 in
+    elim (cases_lt n (length ms)) [
+      | inl within ↦ within
+      | inr past ↦ absurd (omega (arith, sym set ∙ bit_mask_l ms n ∙ ap (λ (b : Bool). cond {A = ℕ} b 1 0) (get_or_past ms n false past)))
+    ]
+
 joined : (test : ℕ → Bool) (h : List ℕ) (from at to : ℕ) → NonePasses test h from at → NonePasses test h at to →
     NonePasses test h from to
 joined test h from at to before behind k low high = ⊎_elim (λ l. before k low l) (λ l. behind k l high) (cases_lt k at)
@@ -85,6 +98,17 @@ module _ (test : ℕ → Bool) (h : List ℕ) (from at : ℕ) (lanes : List ℕ)
   found_passes_over some before =
       joined test h from at (at + count_trailing_zeros 64 bits) before
       (run_in_chunk_fails test h at 32 (count_trailing_zeros 64 bits) 0 room (counted some))
+
+  found_in_lanes : 0 < bits → count_trailing_zeros 64 bits < 32
+  found_in_lanes some =
+      let ms = map test (chunk at 32 h) in
+      let long = length-map (chunk at 32 h) test in
+      let whole = length-chunk at 32 h room in
+      let lane = lowest_lane ms (omega arith) (subst (λ n. 0 < n) bits_tell some) in
+      omega (arith, subst (λ n. count_trailing_zeros 64 n < length ms) (sym bits_tell) lane)
+
+  pub found_passes : 0 < bits → test (get_or h (at + count_trailing_zeros 64 bits) 0) ≡ true
+  found_passes some = run_in_chunk_stops test h at 32 (count_trailing_zeros 64 bits) 0 room (counted some) (found_in_lanes some)
 
   -- and with no bit all are passed over
   pub none_passes_over : bits ≡ 0 → NonePasses test h from at → NonePasses test h from (at + 32)

@@ -1,5 +1,5 @@
 //! Tests of bytes, of 32 at once too, and the search for the first byte that passes one.
-ghost use Rattle.std.specs.Prelude.{◌≡◌, ◌≤◌, ◌==◌, ◌||◌, ℕ, Bool, length, map};
+ghost use Rattle.std.specs.Prelude.{◌≡◌, ◌<◌, ◌≤◌, ◌==◌, ◌||◌, ℕ, Bool, true, length, map, slice_index_or};
 ghost use Rattle.std.specs.Simd.Lanes.{mask_l};
 ghost use Rattle.lazy_dfa.specs.ByteTests.{has_bits, in_range, marked, NonePasses};
 
@@ -107,6 +107,7 @@ pub(crate) fn find_by<T: ByteTest>(test: &T, haystack: &[u8], from: usize, end: 
     ensures low { from ≤ result }
     ensures high { result ≤ end }
     ensures passed { NonePasses (T.passes test.now) haystack.now from result }
+    ensures found { result < end → T.passes test.now (slice_index_or haystack.now result 0) ≡ true }
 {
     let mut at = from;
     'wide: while end - at >= LANES {

@@ -1,5 +1,5 @@
 //! The bytes by which a state is left.
-ghost use Rattle.std.specs.Prelude.{◌≡◌, ◌<◌, ◌≤◌, ℕ, IfSome, length};
+ghost use Rattle.std.specs.Prelude.{◌≡◌, ◌<◌, ◌≤◌, ℕ, IfSome, true, length, slice_index_or};
 ghost use Rattle.search_core.specs.ByteSets.{has};
 ghost use Rattle.lazy_dfa.specs.Leaving.{leaves, NoneLeaves};
 
@@ -74,6 +74,7 @@ impl Leaving {
         ensures low { from ≤ result }
         ensures high { result ≤ end }
         ensures passed { NoneLeaves self.now haystack.now from result }
+        ensures found { result < end → leaves self.now (slice_index_or haystack.now result 0) ≡ true }
     {
         match self {
             Leaving::Never => end,

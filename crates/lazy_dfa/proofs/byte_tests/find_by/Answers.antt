@@ -1,5 +1,5 @@
 use Rattle.std.proofs.Common.{◌≤◌, ◌+◌, length, arith}
-use Rattle.lazy_dfa.proofs.ByteTestLemmas.{found_within, found_passes_over, none_passes_over}
+use Rattle.lazy_dfa.proofs.ByteTestLemmas.{found_within, found_passes, found_passes_over, none_passes_over}
 use Rattle.lazy_dfa.proofs.byte_tests.find_by.Goals as goal
 
 pub returns-then-marks-ne0-clause-high : goal.returns-then-marks-ne0-clause-high
@@ -27,3 +27,10 @@ wide-preserved g c =
       none_passes_over test c.args.haystack.now c.args.from c.wide.at _ _ room c.lanes.ensures c.bits_of-marks.ensures
           c.if-marks-ne0.false c.wide.invariant.2,
     )
+
+pub returns-then-marks-ne0-clause-found : goal.returns-then-marks-ne0-clause-found
+returns-then-marks-ne0-clause-found g c =
+    let test = g.T.ByteTest.passes c.args.test.now in
+    let room : c.wide.at + 32 ≤ length c.args.haystack.now = omega arith in
+    λ _. found_passes test c.args.haystack.now c.args.from c.wide.at _ _ room c.lanes.ensures c.bits_of-marks.ensures
+    (omega (arith, c.if-marks-ne0.true))
