@@ -73,4 +73,5 @@ pub mod WalkPlaceLemmas
 pub mod WalkTurnLemmas
 pub mod WalkReadLemmas
 pub mod WalkRows
-pub mod SkipLemmas
+pub mod ByteTestLemmas
+pub mod HalfTableLemmas

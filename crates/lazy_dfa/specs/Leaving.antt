@@ -1,13 +1,19 @@
--- The bytes by which a state is left. (stand-in)
-use Rattle.std.specs.Prelude.{◌≡◌, ℕ, ◌<◌, ◌≤◌, Bool, true, false, List, slice_index_or}
-use Rattle.search_core.specs.ByteSets.{has}
+-- The bytes by which a state is left, and what a search for one passes over.
+use Rattle.std.specs.Prelude.{◌||◌, ◌==◌, ℕ, Bool, false, List}
+use Rattle.lazy_dfa.specs.ByteTests.{in_range, in_halves, NonePasses}
 use Rattle.lazy_dfa.specs.declared.leaving.Leaving.{Leaving}
-use Rattle.lazy_dfa.specs.declared.leaving.Leaving.TheVariants.{Never, Set}
+use Rattle.lazy_dfa.specs.declared.leaving.Leaving.TheVariants.{Never, One, Two, Three, Range, Ranges, Halves}
 
 -- whether the byte leaves
 abbrev pub leaves : Leaving → ℕ → Bool
-leaves Never b = false
-leaves (Set s) b = has s b
+leaves Never byte = false
+leaves (One a) byte = byte == a
+leaves (Two a b) byte = byte == a || byte == b
+leaves (Three a b c) byte = byte == a || (byte == b || byte == c)
+leaves (Range a) byte = in_range a byte
+leaves (Ranges a b c d) byte = (in_range a byte || in_range b byte) || (in_range c byte || in_range d byte)
+leaves (Halves tables) byte = in_halves tables.low tables.high byte
 
+-- no byte from a place on, and before another one, leaves
 abbrev pub NoneLeaves : Leaving → List ℕ → ℕ → ℕ → Type 0
-NoneLeaves t h i j = (k : ℕ) → i ≤ k → k < j → leaves t (slice_index_or h k 0) ≡ false
+NoneLeaves leaving haystack from to = NonePasses (leaves leaving) haystack from to

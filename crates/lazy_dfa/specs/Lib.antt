@@ -28,3 +28,5 @@ pub mod Walks
 pub mod WalkAnswers
 pub mod WalkTurns
 pub mod WalkLaws
+pub mod ByteTests
+pub mod Leaving

@@ -1,44 +1,128 @@
-//! The bytes by which a state is left. (stand-in)
-ghost use Rattle.std.specs.Prelude.{◌≡◌, ℕ, ◌<◌, ◌≤◌, length, IfSome};
+//! The bytes by which a state is left.
+ghost use Rattle.std.specs.Prelude.{◌≡◌, ◌<◌, ◌≤◌, ℕ, IfSome, true, length, slice_index_or};
 ghost use Rattle.search_core.specs.ByteSets.{has};
 ghost use Rattle.lazy_dfa.specs.Leaving.{leaves, NoneLeaves};
 
+use crate::byte_tests::{ByteRange, ByteTest, Either, OneByte, find_by};
+use crate::half_tables::HalfTables;
 use search_core::ByteSet;
 
 /// The bytes by which a state is left, in a form by which many bytes are tested at once.
 #[derive(Clone, Copy)]
 pub(crate) enum Leaving {
+    /// No byte leaves.
     Never,
-    Set(ByteSet),
+    /// These bytes leave.
+    One(u8),
+    Two(u8, u8),
+    Three(u8, u8, u8),
+    /// The bytes of one range leave.
+    Range(ByteRange),
+    /// The bytes of up to four ranges leave; the first one stands for those that there aren't.
+    Ranges(ByteRange, ByteRange, ByteRange, ByteRange),
+    /// The bytes that pass these tables leave.
+    Halves(HalfTables),
 }
 
 impl Leaving {
+    /// The bytes of a set, where one of the forms fits.
     pub(crate) fn new(set: &ByteSet) -> Option<Leaving>
         ensures { IfSome result (λ t. (byte : ℕ) → byte < 256 → leaves t byte ≡ has set.now byte) }
     {
-        Some(Leaving::Set(*set))
+        if let Some(few) = few_bytes(set) {
+            return few.checked(set);
+        }
+        if let Some(ranges) = few_ranges(set) {
+            return ranges.checked(set);
+        }
+        Leaving::Halves(HalfTables::new(set)?).checked(set)
     }
 
+    /// Whether a byte leaves.
+    fn leaves(&self, byte: u8) -> bool
+        ensures { result ≡ leaves self.now byte }
+    {
+        match self {
+            Leaving::Never => false,
+            Leaving::One(a) => byte == *a,
+            Leaving::Two(a, b) => byte == *a || byte == *b,
+            Leaving::Three(a, b, c) => byte == *a || byte == *b || byte == *c,
+            Leaving::Range(a) => a.passes(byte),
+            Leaving::Ranges(a, b, c, d) => { Either(Either(*a, *b), Either(*c, *d)).passes(byte) }
+            Leaving::Halves(tables) => tables.passes(byte),
+        }
+    }
+
+    /// The form, where the bytes that leave by it are those of the set.
+    fn checked(self, set: &ByteSet) -> Option<Leaving>
+        ensures { IfSome result (λ t. (byte : ℕ) → byte < 256 → leaves t byte ≡ has set.now byte) }
+    {
+        for byte in 0..256usize {
+            let byte = byte as u8;
+            if self.leaves(byte) != set.contains(byte) {
+                return None;
+            }
+        }
+        Some(self)
+    }
+
+    /// The first place from `from` on, before `end`, whose byte leaves, or `end`.
+    #[inline]
     pub(crate) fn find(&self, haystack: &[u8], from: usize, end: usize) -> usize
         requires fits { from ≤ end }
         requires within { end ≤ length haystack.now }
         ensures low { from ≤ result }
         ensures high { result ≤ end }
         ensures passed { NoneLeaves self.now haystack.now from result }
-    {
-        let mut at = from;
-        while at < end && !self.has(haystack[at]) {
-            at += 1;
-        }
-        at
-    }
-
-    fn has(&self, byte: u8) -> bool
-        ensures { result ≡ leaves self.now byte }
+        ensures found { result < end → leaves self.now (slice_index_or haystack.now result 0) ≡ true }
     {
         match self {
-            Leaving::Never => false,
-            Leaving::Set(set) => set.contains(byte),
+            Leaving::Never => end,
+            Leaving::One(a) => find_by(&OneByte(*a), haystack, from, end),
+            Leaving::Two(a, b) => find_by(&Either(OneByte(*a), OneByte(*b)), haystack, from, end),
+            Leaving::Three(a, b, c) => {
+                let three = Either(OneByte(*a), Either(OneByte(*b), OneByte(*c)));
+                find_by(&three, haystack, from, end)
+            }
+            Leaving::Range(a) => find_by(a, haystack, from, end),
+            Leaving::Ranges(a, b, c, d) => {
+                let four = Either(Either(*a, *b), Either(*c, *d));
+                find_by(&four, haystack, from, end)
+            }
+            Leaving::Halves(tables) => find_by(tables, haystack, from, end),
         }
     }
+}
+
+/// The bytes of a set of at most three.
+fn few_bytes(set: &ByteSet) -> Option<Leaving> {
+    let mut bytes = set.iter();
+    let Some(a) = bytes.next() else {
+        return Some(Leaving::Never);
+    };
+    let Some(b) = bytes.next() else {
+        return Some(Leaving::One(a));
+    };
+    let Some(c) = bytes.next() else {
+        return Some(Leaving::Two(a, b));
+    };
+    if bytes.next().is_some() {
+        return None;
+    }
+    Some(Leaving::Three(a, b, c))
+}
+
+/// The ranges of a set of at most four.
+fn few_ranges(set: &ByteSet) -> Option<Leaving> {
+    let mut ranges = set.iter_ranges();
+    let first = ByteRange::new(ranges.next()?);
+    let Some(second) = ranges.next() else {
+        return Some(Leaving::Range(first));
+    };
+    let third = ranges.next().map_or(first, ByteRange::new);
+    let fourth = ranges.next().map_or(first, ByteRange::new);
+    if ranges.next().is_some() {
+        return None;
+    }
+    Some(Leaving::Ranges(first, ByteRange::new(second), third, fourth))
 }

@@ -19,6 +19,7 @@
 pub mod accounting_laws;
 mod build_error;
 mod builder;
+mod byte_tests;
 mod cache;
 mod cache_error;
 mod cache_writes;
@@ -26,6 +27,7 @@ mod config;
 pub mod dfa;
 mod dfa_starts;
 mod dfa_steps;
+mod half_tables;
 mod lazy_id;
 mod leaving;
 mod making;

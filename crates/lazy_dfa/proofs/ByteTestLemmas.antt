@@ -1,0 +1,116 @@
+-- Vectors as lists of their lanes: each is what a function makes of the bytes that were read.
+use Rattle.std.proofs.Common.{◌≡◌, ◌||◌, ◌∙◌, ◌+◌, ◌-◌, ◌<◌, ◌≤◌, ℕ, zero, suc, List, [], ◌∷◌, length, get_or, map, replicate}
+use Rattle.std.proofs.Common.{Bool, true, false, not, cond, leb, w8, w64, inl, inr, ⊎_elim, refl, sym, ap, subst, arith}
+use Rattle.std.proofs.Common.{◌^◌, pow_mono, bit_or}
+use Rattle.std.proofs.lemmas.Bool.{cases_lt}
+use Rattle.std.proofs.lemmas.List.{get_or_past, length-map}
+use Rattle.std.proofs.lemmas.Nat.Bits.{bit_at-trailing_zeros}
+use Rattle.std.proofs.lemmas.Simd.{tops_compared, zip2_splat, map-map, length-chunk, trailing_mask_l, mask_l-lt, bit_mask_l}
+use Rattle.std.proofs.lemmas.Simd.{run_in_chunk_le, run_in_chunk_stops, run_in_chunk_fails, none_from_empty_mask}
+use Rattle.std.specs.Int.Count.{count_trailing_zeros}
+use Rattle.std.specs.List.{prefix_len}
+use Rattle.std.specs.Simd.Lanes.{chunk, mask_l, sel_l, top, zip2}
+use Rattle.lazy_dfa.specs.ByteTests.{has_bits, marked, wrapped, NonePasses}
+
+-- all bits where a flag is set, else none
+all_or_none : (test : ℕ → Bool) (bytes : List ℕ) (n : ℕ) → length bytes ≡ n →
+    sel_l (map test bytes) (replicate n 255) (replicate n 0) ≡ marked test bytes
+all_or_none test [] n e = refl
+all_or_none test (x ∷ bytes) zero e = absurd (omega arith)
+all_or_none test (x ∷ bytes) (suc n) e = ap (λ rest. cond (test x) 255 0 ∷ rest) (all_or_none test bytes n (omega arith))
+
+-- the same by a comparison with one byte
+abbrev pub compared : (ℕ → ℕ → Bool) → List ℕ → ℕ → List ℕ
+compared compare lanes y =
+    sel_l (map (top 7) (zip2 (λ a b. cond (compare a b) 255 0) lanes (replicate 32 y))) (replicate 32 255) (replicate 32 0)
+
+pub marked_compared : (compare : ℕ → ℕ → Bool) (lanes : List ℕ) (y : ℕ) → length lanes ≡ 32 →
+    compared compare lanes y ≡ marked (λ x. compare x y) lanes
+marked_compared compare lanes y long =
+    ap (λ ms. sel_l ms (replicate 32 255) (replicate 32 0))
+    (tops_compared w8 compare lanes (replicate 32 y) ∙ zip2_splat compare lanes 32 y long)
+    ∙ all_or_none (λ x. compare x y) lanes 32 long
+
+-- how far each byte stands above the first one of a range, and whether that is within the range
+abbrev far_above : ℕ → ℕ → ℕ
+far_above x first = wrapped (x + (256 - first))
+
+pub marked_range : (bytes : List ℕ) (first behind : ℕ) → length bytes ≡ 32 →
+    compared leb (zip2 far_above bytes (replicate 32 first)) behind ≡ marked (λ x. leb (far_above x first) behind) bytes
+marked_range bytes first behind long =
+    let above = λ (x : ℕ). far_above x first in
+    ap (λ lanes. compared leb lanes behind) (zip2_splat far_above bytes 32 first long)
+    ∙ marked_compared leb (map above bytes) behind (length-map bytes above ∙ long)
+    ∙ map-map (λ x. cond (leb x behind) 255 0) above bytes
+
+-- the lanes of two tests in one
+either_bits : (a b : Bool) → bit_or (cond a 255 0) (cond b 255 0) ≡ cond (a || b) 255 0
+either_bits true true = refl
+either_bits true false = refl
+either_bits false true = refl
+either_bits false false = refl
+
+pub marked_either : (p q : ℕ → Bool) (bytes : List ℕ) →
+    zip2 bit_or (marked p bytes) (marked q bytes) ≡ marked (λ x. p x || q x) bytes
+marked_either p q [] = refl
+marked_either p q (x ∷ bytes) = λ i. either_bits (p x) (q x) i ∷ marked_either p q bytes i
+
+-- a lane has bits where its byte passes
+has_marked : (b : Bool) → has_bits (cond b 255 0) ≡ b
+has_marked true = refl
+has_marked false = refl
+
+bits_marked : (test : ℕ → Bool) (bytes : List ℕ) → map has_bits (marked test bytes) ≡ map test bytes
+bits_marked test [] = refl
+bits_marked test (x ∷ bytes) = λ i. has_marked (test x) i ∷ bits_marked test bytes i
+
+-- the lowest bit stands for one of the lanes
+lowest_lane : (ms : List Bool) → length ms ≤ 32 → 0 < mask_l ms → count_trailing_zeros 64 (mask_l ms) < length ms
+lowest_lane ms few some =
+    let n = count_trailing_zeros 64 (mask_l ms) in
+    let fits : mask_l ms < 2 ^ 64 = omega (arith, mask_l-lt ms, pow_mono few) in
+    let set = (bit_at-trailing_zeros w64 (mask_l ms) some fits).1 in
+    elim (cases_lt n (length ms)) [
+      | inl within ↦ within
+      | inr past ↦ absurd (omega (arith, sym set ∙ bit_mask_l ms n ∙ ap (λ (b : Bool). cond {A = ℕ} b 1 0) (get_or_past ms n false past)))
+    ]
+
+joined : (test : ℕ → Bool) (h : List ℕ) (from at to : ℕ) → NonePasses test h from at → NonePasses test h at to →
+    NonePasses test h from to
+joined test h from at to before behind k low high = ⊎_elim (λ l. before k low l) (λ l. behind k l high) (cases_lt k at)
+
+-- what the 32 bytes from a place on tell, by a bit for each lane
+module _ (test : ℕ → Bool) (h : List ℕ) (from at : ℕ) (lanes : List ℕ) (bits : ℕ)
+    (room : at + 32 ≤ length h) (tested : lanes ≡ marked test (chunk at 32 h)) (told : bits ≡ mask_l (map has_bits lanes)) where
+  bits_tell : bits ≡ mask_l (map test (chunk at 32 h))
+  bits_tell = told ∙ ap (λ ls. mask_l (map has_bits ls)) tested ∙ ap mask_l (bits_marked test (chunk at 32 h))
+
+  counted : 0 < bits → count_trailing_zeros 64 bits ≡ prefix_len (λ x. not (test x)) (chunk at 32 h)
+  counted some =
+      subst (λ n. count_trailing_zeros 64 n ≡ prefix_len (λ x. not (test x)) (chunk at 32 h)) (sym bits_tell)
+      (trailing_mask_l test 64 (chunk at 32 h) (omega (arith, length-chunk at 32 h room)) (subst (λ n. 0 < n) bits_tell some))
+
+  -- the lowest bit stands for the first byte that passes
+  pub found_within : 0 < bits → count_trailing_zeros 64 bits ≤ 32
+  found_within some = run_in_chunk_le test h at 32 (count_trailing_zeros 64 bits) 0 room (counted some)
+
+  pub found_passes_over : 0 < bits → NonePasses test h from at → NonePasses test h from (at + count_trailing_zeros 64 bits)
+  found_passes_over some before =
+      joined test h from at (at + count_trailing_zeros 64 bits) before
+      (run_in_chunk_fails test h at 32 (count_trailing_zeros 64 bits) 0 room (counted some))
+
+  found_in_lanes : 0 < bits → count_trailing_zeros 64 bits < 32
+  found_in_lanes some =
+      let ms = map test (chunk at 32 h) in
+      let long = length-map (chunk at 32 h) test in
+      let whole = length-chunk at 32 h room in
+      let lane = lowest_lane ms (omega arith) (subst (λ n. 0 < n) bits_tell some) in
+      omega (arith, subst (λ n. count_trailing_zeros 64 n < length ms) (sym bits_tell) lane)
+
+  pub found_passes : 0 < bits → test (get_or h (at + count_trailing_zeros 64 bits) 0) ≡ true
+  found_passes some = run_in_chunk_stops test h at 32 (count_trailing_zeros 64 bits) 0 room (counted some) (found_in_lanes some)
+
+  -- and with no bit all are passed over
+  pub none_passes_over : bits ≡ 0 → NonePasses test h from at → NonePasses test h from (at + 32)
+  none_passes_over none before =
+      joined test h from at (at + 32) before (none_from_empty_mask test h at 32 0 room (sym bits_tell ∙ none))

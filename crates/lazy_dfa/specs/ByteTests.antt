@@ -1,0 +1,33 @@
+-- Tests of bytes, by which many bytes are tested at once.
+use Rattle.std.specs.Prelude.{◌≡◌, ◌+◌, ◌-◌, ◌%◌, ◌/◌, ◌<◌, ◌≤◌, ◌==◌, ℕ, List, length, map, slice_index, slice_index_or}
+use Rattle.std.specs.Prelude.{Bool, false, not, nat_le, if◌then◌else◌, bit_and}
+use Rattle.lazy_dfa.specs.declared.byte_tests.ByteRange.{ByteRange}
+
+-- whether a lane has bits
+abbrev pub has_bits : ℕ → Bool
+has_bits lane = not (lane == 0)
+
+-- what eight bits keep of a number
+abbrev pub wrapped : ℕ → ℕ
+wrapped x = x % 256
+
+-- the byte is the first of the range or one of those behind it, where 0 follows 255
+abbrev pub in_range : ByteRange → ℕ → Bool
+in_range r byte = nat_le (wrapped (byte + (256 - r.first))) r.behind
+
+-- the marks of the byte's low half and of its high one have a bit in common
+abbrev pub in_halves : List ℕ → List ℕ → ℕ → Bool
+in_halves low high byte = has_bits (bit_and (slice_index low (byte % 16)) (slice_index high (byte / 16)))
+
+-- a vector that has sixteen items twice
+pub record IsTwice (items : List ℕ) (lanes : List ℕ) : Type 0 where
+  pub long : length lanes ≡ 32
+  pub each : (k : ℕ) → k < 32 → slice_index lanes k ≡ slice_index items (k % 16)
+
+-- a lane for each byte: all bits where it passes the test, else none
+abbrev pub marked : (ℕ → Bool) → List ℕ → List ℕ
+marked test bytes = map (λ x. if test x then 255 else 0) bytes
+
+-- no byte from a place on, and before another one, passes the test
+abbrev pub NonePasses : (ℕ → Bool) → List ℕ → ℕ → ℕ → Type 0
+NonePasses test haystack from to = (k : ℕ) → from ≤ k → k < to → test (slice_index_or haystack k 0) ≡ false
