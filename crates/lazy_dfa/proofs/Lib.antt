@@ -75,3 +75,4 @@ pub mod WalkReadLemmas
 pub mod WalkRows
 pub mod ByteTestLemmas
 pub mod HalfTableLemmas
+pub mod SkipLemmas

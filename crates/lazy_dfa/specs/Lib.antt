@@ -8,6 +8,7 @@ pub mod Accounting
 pub mod ConfigValue
 pub mod Dfas
 pub mod Ids
+pub mod ByteTests
 pub mod Leaving
 pub mod Skips
 pub mod Caches
@@ -28,5 +29,3 @@ pub mod Walks
 pub mod WalkAnswers
 pub mod WalkTurns
 pub mod WalkLaws
-pub mod ByteTests
-pub mod Leaving
