@@ -8,10 +8,9 @@
 //!
 //! A skip costs about as much as the reading of a few bytes, so each is paid from a credit, to which it adds the bytes that
 //! it passed. Where the credit is used up, a search reads all bytes until the cache is cleared.
-ghost use Rattle.std.specs.Prelude.{◌≡◌, ◌⊎◌, ℕ, ◌<◌, ◌≤◌, true, false, length, IfSome};
+ghost use Rattle.std.specs.Prelude.{◌≡◌, ◌⊎◌, ℕ, ◌<◌, ◌≤◌, true, false, length};
 ghost use Rattle.search_core.specs.ByteSets.{has};
 ghost use Rattle.lazy_dfa.specs.Ids.{tag, unknown_id};
-ghost use Rattle.lazy_dfa.specs.Leaving.{leaves};
 ghost use Rattle.lazy_dfa.specs.Skips.{cell_by, StaysOver};
 
 use crate::cache::Cache;
@@ -33,9 +32,6 @@ const MOST_CREDIT: usize = 4096;
 
 /// How many bytes are read one by one before a state to stop at is looked for.
 const STRETCH: usize = 64;
-
-/// How many bytes may leave a state to stop at.
-const MOST_LEAVING: usize = 128;
 
 /// A state to stop at.
 #[derive(Clone, Copy)]
@@ -70,47 +66,26 @@ impl Skip {
         }
     }
 
-    /// The same without the state and with no credit.
-    fn given_up(self) -> Skip
-        ensures { result.stop ≡ unknown_id }
-    {
-        Skip {
-            stop: LazyStateID::unknown(),
-            leaving: self.leaving,
-            credit: 0,
-        }
-    }
-
-    /// The same behind a skip over so many bytes, without the state where the credit is used up.
+    /// Pays for a skip over so many bytes. Where the credit is used up, the state is forgotten.
     #[inline(always)]
-    fn paid(self, passed: usize) -> Skip
-        ensures { (result.stop ≡ unknown_id) ⊎ ((result.leaving ≡ self.leaving) × (result.stop ≡ self.stop)) }
+    fn pay(&mut self, passed: usize)
+        ensures { (self.new.stop ≡ unknown_id) ⊎ ((self.new.leaving ≡ self.old.leaving) × (self.new.stop ≡ self.old.stop)) }
     {
         let credit = self.credit.saturating_add(passed).min(MOST_CREDIT);
-        if credit < SKIP_COST {
-            return self.given_up();
+        if credit >= SKIP_COST {
+            self.credit = credit - SKIP_COST;
+            return;
         }
-        self.with_credit(credit - SKIP_COST)
+        self.credit = 0;
+        self.stop = LazyStateID::unknown();
     }
 
-    #[inline(always)]
-    fn with_credit(self, credit: usize) -> Skip
-        ensures leaving { result.leaving ≡ self.leaving }
-        ensures stop { result.stop ≡ self.stop }
+    /// Pays for a look that was of no use.
+    fn pay_look(&mut self)
+        ensures leaving { self.new.leaving ≡ self.old.leaving }
+        ensures stop { self.new.stop ≡ self.old.stop }
     {
-        Skip {
-            stop: self.stop,
-            leaving: self.leaving,
-            credit,
-        }
-    }
-
-    /// The same behind a look that was of no use.
-    fn looked_in_vain(self) -> Skip
-        ensures leaving { result.leaving ≡ self.leaving }
-        ensures stop { result.stop ≡ self.stop }
-    {
-        self.with_credit(self.credit.saturating_sub(LOOK_COST))
+        self.credit = self.credit.saturating_sub(LOOK_COST);
     }
 }
 
@@ -160,11 +135,12 @@ impl Cache {
             return from;
         }
         let to = self.skip.leaving.find(haystack, from, end);
-        self.skip = self.skip.paid(to - from);
+        self.skip.pay(to - from);
         to
     }
 
-    /// Notes a state as the one to stop at, if the next byte and most others leave it as it is.
+    /// Notes a state as the one to stop at, if the next byte leaves it as it is.
+    #[inline(never)]
     fn look(&mut self, id: LazyStateID, byte: u8)
         requires { id < tag }
         ensures { self.new ≡ self.old }
@@ -173,8 +149,8 @@ impl Cache {
             return;
         }
         let set = self.leaving_bytes(id);
-        let Some(leaving) = told(&set) else {
-            self.skip = self.skip.looked_in_vain();
+        let Some(leaving) = Leaving::new(&set) else {
+            self.skip.pay_look();
             return;
         };
         self.skip = Skip {
@@ -207,28 +183,4 @@ impl Cache {
         }
         set
     }
-}
-
-/// The bytes of a set in a form by which many are tested at once, where it is of use.
-fn told(set: &ByteSet) -> Option<Leaving>
-    ensures { IfSome result (λ t. (byte : ℕ) → byte < 256 → leaves t byte ≡ has set.now byte) }
-{
-    if !are_few(set) {
-        return None;
-    }
-    Leaving::new(set)
-}
-
-/// Whether at most so many bytes are in a set that it is of use to look for them.
-fn are_few(set: &ByteSet) -> bool {
-    let mut left = MOST_LEAVING;
-    for byte in 0..=255 {
-        if set.contains(byte) {
-            if left == 0 {
-                return false;
-            }
-            left -= 1;
-        }
-    }
-    true
 }
