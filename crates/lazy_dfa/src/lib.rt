@@ -27,6 +27,7 @@ pub mod dfa;
 mod dfa_starts;
 mod dfa_steps;
 mod lazy_id;
+mod lingering;
 mod making;
 mod measures;
 mod overlapping;
