@@ -41,6 +41,7 @@ pub mod CourseLemmas
 pub mod PointLemmas
 pub mod WholePassLemmas
 pub mod SpanLemmas
+pub mod LingerLemmas
 pub mod SpanTurnLemmas
 pub mod TurnStepLemmas
 pub mod PassStartLemmas

@@ -106,7 +106,7 @@ some_match : (ms : List ℕ) → is_match ms ≡ true → 0 < length ms
 some_match [] e = absurd (true≢false (sym e))
 some_match (p ∷ ps) e = omega arith
 
-first_recorded : (s : StateValue) (place : ℕ) (best : Option (ℕ × ℕ)) (ms : List ℕ) → s.matches ≡ ms → is_match ms ≡ true →
+pub first_recorded : (s : StateValue) (place : ℕ) (best : Option (ℕ × ℕ)) (ms : List ℕ) → s.matches ≡ ms → is_match ms ≡ true →
     Some (place, get_or ms 0 0) ≡ recorded place s best
 first_recorded s place best [] e f = absurd (true≢false (sym f))
 first_recorded s place best (p ∷ ps) e f = ap (λ (ms : List ℕ). recorded place (record s { matches = ms }) best) (sym e)

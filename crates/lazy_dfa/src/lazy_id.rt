@@ -1,4 +1,4 @@
-ghost use Rattle.std.specs.Prelude.{◌≡◌, ℕ, ◌+◌, ◌*◌, ◌<◌, ◌≤◌, nat_le};
+ghost use Rattle.std.specs.Prelude.{◌≡◌, ◌↔◌, ℕ, ◌+◌, ◌*◌, ◌<◌, ◌≤◌, nat_le, true};
 ghost use Rattle.lazy_dfa.specs.Ids.{tag, has_tag, unknown_tag, dead_tag, quit_tag, start_tag, match_tag, unknown_id, dead_id, quit_id, is_sentinel, tagged};
 
 use std::marker::Model;
@@ -125,6 +125,17 @@ impl LazyStateID {
         ensures { result ≡ is_sentinel self }
     {
         self.0 >= QUIT
+    }
+
+    /// Whether it is that of a row whose state matches, and not that of a start.
+    #[inline(always)]
+    pub(crate) fn is_matching_row(self) -> bool
+        ensures { (result ≡ true) ↔ ((tag ≤ self) × (self < start_tag)) }
+    {
+        if self.0 < MATCH {
+            return false;
+        }
+        self.0 < START
     }
 
     /// Whether it is the unknown sentinel, of an ID that stands in a cache.

@@ -30,6 +30,7 @@ mod dfa_steps;
 mod half_tables;
 mod lazy_id;
 mod leaving;
+mod lingering;
 mod making;
 mod measures;
 mod overlapping;

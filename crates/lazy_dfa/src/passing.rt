@@ -15,6 +15,7 @@ ghost use Rattle.lazy_dfa.specs.Stands.{IsWithinSpan, last_place, left_at, tells
 use crate::cache_error::CacheError;
 use crate::dfa::{Cache, DFA};
 use crate::lazy_id::LazyStateID;
+use crate::lingering::linger;
 use crate::runs::{run_down, run_up, see_bytes};
 use crate::turns::{Turn, make_turn};
 use crate::work::Work;
@@ -169,6 +170,27 @@ pub(crate) fn run(
         id: moved.id,
         best: stand.best,
     }
+}
+
+/// Goes on over known steps, up to the last place of the span: while each state matches, and then while none has a tag.
+#[inline(always)]
+fn run_known(dfa: &DFA, cache: &mut Cache, input: &Input<'_>, is_down: bool, stand: Stand) -> Stand
+    requires own { IsCacheOf dfa.now cache.old }
+    requires down { is_down ≡ dfa.now.nfa.automaton.reverse }
+    requires row { IsRow cache.old stand.id }
+    requires within { IsWithinSpan input.now stand.at }
+    ensures same { cache.new ≡ cache.old }
+    ensures row { IsRow cache.old result.id }
+    ensures within { IsWithinSpan input.now result.at }
+    ensures closer { left_at is_down input.now result.at ≤ left_at is_down input.now stand.at }
+    ensures goes { (m n : ℕ) → GoesBetween dfa.now input.now.earliest input.now.haystack
+        (point cache.old m n stand.at stand.id (pair_of stand.best)) (point cache.old m n result.at result.id (pair_of result.best))
+        (left_at is_down input.now stand.at - left_at is_down input.now result.at) }
+{
+    dfa.is_made();
+    see_bytes(input.haystack());
+    let next = linger(dfa, cache, input, is_down, stand);
+    run(dfa, cache, input, is_down, next)
 }
 
 /// A turn by a byte of the span.
@@ -328,7 +350,7 @@ fn go_on<L: Ledger, M: Ledger>(
         if turned.has_ended {
             return Ok(turned.stand.best);
         }
-        stand = run(dfa, cache, input, is_down, turned.stand);
+        stand = run_known(dfa, cache, input, is_down, turned.stand);
     }
 }
 
