@@ -59,11 +59,9 @@ impl Skip {
     pub(crate) fn forgotten(self) -> Skip
         ensures { result.stop ≡ unknown_id }
     {
-        Skip {
-            stop: LazyStateID::unknown(),
-            leaving: self.leaving,
-            credit: self.credit,
-        }
+        let mut rest = self;
+        rest.stop = LazyStateID::unknown();
+        rest
     }
 
     /// Pays for a skip over so many bytes. Where the credit is used up, the state is forgotten.
