@@ -35,27 +35,49 @@ nowhere p ps b is i none = elim (stands_at ps i p) as (λ t. stands_at ps i p �
   | false ↦ λ e. refl
 ] refl
 
--- where a pattern that is listed stands is noted, or it is the first
-there : (noted ps : List ℕ) (p k : ℕ) → ArePositions noted ps → k < length ps → get_or ps k 0 ≡ p → (stands_at ps 0 p || stands_at ps (slice_index noted p) p) ≡ true
-there noted ps p zero at within is = let first = stands ps 0 p within is in rw first refl
-there noted ps p (suc k) at within is =
-    let where_noted : slice_index noted p ≡ suc k = ap (slice_index noted) (sym is) ∙ at (suc k) (omega arith) within in
-    let stood : stands_at ps (slice_index noted p) p ≡ true = ap (λ (i : ℕ). stands_at ps i p) where_noted ∙ stands ps (suc k) p within is in
-    grind (arith, stood)
+-- whether it stands at the first position or at the one that is noted
+abbrev found : List ℕ → List ℕ → ℕ → Bool
+found noted ps p = stands_at ps 0 p || stands_at ps (slice_index noted p) p
 
-listed_there : (noted ps : List ℕ) (p : ℕ) → ArePositions noted ps → Any (λ x. nat_eq p x ≡ true) ps → (stands_at ps 0 p || stands_at ps (slice_index noted p) p) ≡ true
-listed_there noted ps p at (k, x, within, is, same) = there noted ps p k at within (grind (arith, get_or_default ps k x 0 within, is, same))
+module _ (noted ps : List ℕ) (p : ℕ) (at : ArePositions noted ps) where
+  -- where a pattern that is listed stands is noted, or it is the first
+  there : (k : ℕ) → k < length ps → get_or ps k 0 ≡ p → found noted ps p ≡ true
+  there zero within is = let first = stands ps 0 p within is in rw first refl
+  there (suc k) within is =
+      let place : slice_index noted p ≡ suc k = ap (slice_index noted) (sym is) ∙ at (suc k) (omega arith) within in
+      let stood = ap (λ (i : ℕ). stands_at ps i p) place ∙ stands ps (suc k) p within is in
+      grind (arith, stood)
 
--- the test at both positions tells whether it is listed
-tells_listed : (noted ps : List ℕ) (p : ℕ) → ArePositions noted ps → (stands_at ps 0 p || stands_at ps (slice_index noted p) p) ≡ list_any (nat_eq p) ps
-tells_listed noted ps p at = elim (list_any (nat_eq p) ps) as (λ b. list_any (nat_eq p) ps ≡ b → (stands_at ps 0 p || stands_at ps (slice_index noted p) p) ≡ b) [
-  | true ↦ λ e. listed_there noted ps p at (Any-from_list_any (nat_eq p) ps e)
-  | false ↦ λ e. grind (arith, nowhere p ps false e 0 refl, nowhere p ps false e (slice_index noted p) refl)
-] refl
+  listed_there : Any (λ x. nat_eq p x ≡ true) ps → found noted ps p ≡ true
+  listed_there (k, x, within, is, same) = there k within (grind (arith, get_or_default ps k x 0 within, is, same))
 
--- where it isn't the first, the second test tells it
-pub second_tells : (noted ps : List ℕ) (p : ℕ) → ArePositions noted ps → stands_at ps 0 p ≡ false → stands_at ps (slice_index noted p) p ≡ list_any (nat_eq p) ps
-second_tells noted ps p at other = sym (ap (λ (b : Bool). b || stands_at ps (slice_index noted p) p) other) ∙ tells_listed noted ps p at
+  -- the test at both positions tells whether it is listed
+  tells_listed : found noted ps p ≡ list_any (nat_eq p) ps
+  tells_listed = elim (list_any (nat_eq p) ps) as (λ b. list_any (nat_eq p) ps ≡ b → found noted ps p ≡ b) [
+    | true ↦ λ e. listed_there (Any-from_list_any (nat_eq p) ps e)
+    | false ↦ λ e. grind (arith, nowhere p ps false e 0 refl, nowhere p ps false e (slice_index noted p) refl)
+  ] refl
+
+  -- where it isn't the first, the second test tells it
+  pub second_tells : stands_at ps 0 p ≡ false → stands_at ps (slice_index noted p) p ≡ list_any (nat_eq p) ps
+  second_tells other = sym (ap (λ (b : Bool). b || stands_at ps (slice_index noted p) p) other) ∙ tells_listed
+
+  -- a position is noted for it where the list lacks it
+  module _ (new : List ℕ) (absent : list_any (nat_eq p) ps ≡ false) (others : (q : ℕ) → q ≢ p → slice_index new q ≡ slice_index noted q) where
+    noted_apart : ArePositions new ps
+    noted_apart i past within = others (get_or ps i 0) (differs p ps i absent within) ∙ at i past within
+
+    -- and it is listed there
+    pub noted_last : (0 < length ps → slice_index new p ≡ length ps) → ArePositions new (ps ++ p ∷ [])
+    noted_last last i past within = ⊎_elim
+        (λ (before : i < length ps). ap (slice_index new) (get_or-append ps (p ∷ []) 0 i before) ∙ noted_apart i past before)
+        (λ (behind : length ps ≤ i).
+        let long : length (ps ++ p ∷ []) ≡ length ps + 1 = length-append ps (p ∷ []) in
+        let here : i ≡ length ps = omega (arith, behind, within, long) in
+        let read : slice_index new (get_or (ps ++ p ∷ []) i 0) ≡ slice_index new p =
+        ap (λ (k : ℕ). slice_index new (get_or (ps ++ p ∷ []) k 0)) here ∙ ap (slice_index new) (get_or-append_seam ps p [] 0) in
+        read ∙ (last (omega (arith, here, past)) ∙ sym here))
+        (cases_lt i (length ps))
 
 -- what is read at a position within the list
 pub reads_at : (ps : List ℕ) (i p n m : ℕ) → i < length ps → n ≡ get_or ps i 0 → m ≡ p → nat_eq n m ≡ stands_at ps i p
@@ -66,22 +88,6 @@ reads_at ps i p n m within read is =
 -- one pattern or none
 pub few_noted : (noted ps : List ℕ) → length ps ≤ 1 → ArePositions noted ps
 few_noted noted ps few i past within = absurd (omega (arith, few, past, within))
-
--- a position is noted for a pattern that the list lacks
-pub noted_apart : (noted new ps : List ℕ) (p : ℕ) → ArePositions noted ps → list_any (nat_eq p) ps ≡ false →
-    ((q : ℕ) → q ≢ p → slice_index new q ≡ slice_index noted q) → ArePositions new ps
-noted_apart noted new ps p at absent others i past within = others (get_or ps i 0) (differs p ps i absent within) ∙ at i past within
-
--- and it is listed there
-pub noted_last : (noted new ps : List ℕ) (p : ℕ) → ArePositions noted ps → list_any (nat_eq p) ps ≡ false →
-    ((q : ℕ) → q ≢ p → slice_index new q ≡ slice_index noted q) → (0 < length ps → slice_index new p ≡ length ps) → ArePositions new (ps ++ p ∷ [])
-noted_last noted new ps p at absent others last i past within = ⊎_elim
-    (λ (before : i < length ps). ap (slice_index new) (get_or-append ps (p ∷ []) 0 i before) ∙ noted_apart noted new ps p at absent others i past before)
-    (λ (behind : length ps ≤ i).
-    let long : length (ps ++ p ∷ []) ≡ length ps + 1 = length-append ps (p ∷ []) in
-    let here : i ≡ length ps = omega (arith, behind, within, long) in
-    ap (λ (k : ℕ). slice_index new (get_or (ps ++ p ∷ []) k 0)) here ∙ (ap (slice_index new) (get_or-append_seam ps p [] 0) ∙ (last (omega (arith, here, past)) ∙ sym here)))
-    (cases_lt i (length ps))
 
 -- the same list
 pub noted_same : (noted ps qs : List ℕ) → qs ≡ ps → ArePositions noted ps → ArePositions noted qs

@@ -6,7 +6,9 @@ use Rattle.determinize_core.proofs.state_builder_matches.StateBuilderMatches.lis
 
 pub returns-else-lists_at : goal.returns-else-lists_at
 returns-else-lists_at c =
-    let at = noted_same c.self.inside.positions.noted.items _ c.args.self.now.matches (ap (λ (v : StateValue). v.matches) (sym c.self.view_is)) c.self.invariant.1 in
+    let same = ap (λ (v : StateValue). v.matches) (sym c.self.view_is) in
+    let at = noted_same c.self.inside.positions.noted.items _ c.args.self.now.matches same c.self.invariant.1 in
+    let other = sym c.lists_at.ensures ∙ c.if-lists_at.false in
     c.lists_at-else-lists_at.ensures
     ∙ (ap (λ (i : ℕ). stands_at c.args.self.now.matches i c.args.pid) c.position.ensures
-    ∙ second_tells c.self.inside.positions.noted.items c.args.self.now.matches c.args.pid at (sym c.lists_at.ensures ∙ c.if-lists_at.false))
+    ∙ second_tells c.self.inside.positions.noted.items c.args.self.now.matches c.args.pid at other)
