@@ -1,5 +1,5 @@
 //! Where patterns may stand in a list.
-ghost use Rattle.std.specs.Prelude.{◌≡◌, ◌≢◌, ℕ, ◌<◌, length, slice_index, OnOk};
+ghost use Rattle.std.specs.Prelude.{◌≡◌, ◌≢◌, ℕ, ◌<◌, [], length, slice_index, OnOk};
 
 use search_core::PatternID;
 use std::alloc::{AllocError, Global};
@@ -13,7 +13,9 @@ pub(crate) struct Positions {
 
 impl Positions {
     /// Positions of which none was noted.
-    pub(crate) fn new(alloc: Global) -> Positions {
+    pub(crate) fn new(alloc: Global) -> Positions
+        ensures { result.noted.items ≡ [] }
+    {
         Positions {
             noted: Vec::new(alloc),
         }
@@ -29,7 +31,7 @@ impl Positions {
         }
     }
 
-    /// Notes a position for the pattern, unless it is the first one, or leaves each as it is where there is no memory.
+    /// Notes a position for the pattern; of the first one, 0, nothing is noted. It is refused where memory lacks.
     pub(crate) fn note(&mut self, pid: PatternID, position: u32) -> Result<(), AllocError>
         ensures there { 0 < position → OnOk result (slice_index self.new.noted.items pid ≡ position) }
         ensures others { (p : ℕ) → p ≢ pid → slice_index self.new.noted.items p ≡ slice_index self.old.noted.items p }
@@ -42,7 +44,7 @@ impl Positions {
         Ok(())
     }
 
-    /// Makes room for the position of the pattern.
+    /// Makes room for the position of the pattern. It is refused where memory lacks.
     fn make_room(&mut self, pid: PatternID) -> Result<(), AllocError>
         ensures room { OnOk result (pid < length self.new.noted.items) }
         ensures same { (p : ℕ) → slice_index self.new.noted.items p ≡ slice_index self.old.noted.items p }

@@ -138,7 +138,8 @@ impl StateBuilderMatches {
         if has_flag(&self.bytes, MATCHES) { 1 } else { 0 }
     }
 
-    /// Adds a pattern that matches, behind the others, or leaves all as it is where there is no memory.
+    /// Adds a pattern that matches, behind the others, or leaves all as it is where there is no memory. A second pattern
+    /// and each later one takes four bytes for each number up to its own, once for all states that are built one by one.
     pub fn add_match_pattern_id(&mut self, pid: PatternID) -> Result<(), AllocError>
         requires { list_any (nat_eq pid) self.old.matches ≡ false }
         ensures ok { OnOk result (self.new ≡ record self.old { matches = self.old.matches ++ pid ∷ [] }) }
