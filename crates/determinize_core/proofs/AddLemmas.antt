@@ -6,6 +6,7 @@ use Rattle.std.specs.Int.{w32, from_le_bytes}
 use Rattle.std.specs.Int.Bits.{bit_or}
 use Rattle.search_core.specs.Index.{greatest_index}
 use Rattle.determinize_core.specs.States.{StateValue, IsState}
+use Rattle.determinize_core.specs.Added.{with_match}
 use Rattle.determinize_core.specs.StateBytes.{has_flag, number_at, four_bytes, four_bytes_each, pattern_bytes, flag_byte, is_match, is_listed, unfinished, decoded_unfinished, IsUnfinished}
 use Rattle.determinize_core.proofs.FlagLemmas.{set_match, set_listed, set_both, match_back, listed_back}
 use Rattle.determinize_core.proofs.DecodeLemmas.{nine, past_13, length-four_bytes_each}
@@ -36,10 +37,6 @@ once_more (x ∷ xs) p once absent =
 each_more : (ns : List ℕ) (n : ℕ) → four_bytes_each (ns ++ n ∷ []) ≡ four_bytes_each ns ++ four_bytes n
 each_more [] n = append-nil (four_bytes n)
 each_more (m ∷ ns) n = ap (λ (xs : List ℕ). four_bytes m ++ xs) (each_more ns n) ∙ sym (append_assoc (four_bytes m) (four_bytes_each ns) (four_bytes n))
-
--- the state with one more pattern
-abbrev pub with_match : StateValue → ℕ → StateValue
-with_match v p = record v { matches = v.matches ++ p ∷ [] }
 
 more_state : (v : StateValue) (p : ℕ) → IsState v → p ≤ greatest_index → list_any (nat_eq p) v.matches ≡ false → IsState (with_match v p)
 more_state v p state within absent = record {
@@ -160,20 +157,3 @@ module _ (v : StateValue) (bytes : List ℕ) (is : decoded_unfinished bytes ≡ 
       ap (λ (xs : List ℕ). from_le_bytes w32 (drop (13 + 4 * i) xs)) (as_built ∙ listed_form v listed)
       ∙ (ap (from_le_bytes w32) (past_13 (4 * i) _ _ _ _ _ _ _ _ _ _ _ _ _ (four_bytes_each v.matches))
       ∙ (ap (λ (xs : List ℕ). from_le_bytes w32 (drop (4 * i) xs)) (sym (append-nil (four_bytes_each v.matches))) ∙ number_of i v.matches [] within (small greatest_index v.matches patterns (omega arith))))
-
--- a member is found where it stands, and is none of those before
-pub found : (p : ℕ) (ps : List ℕ) (i : ℕ) → i < length ps → get_or ps i 0 ≡ p → list_any (nat_eq p) (drop i ps) ≡ true
-found p [] i within e = absurd (omega (arith, within))
-found p (q ∷ ps) zero within e = let same : nat_eq p q ≡ true = grind (arith, e) in rw same refl
-found p (q ∷ ps) (suc i) within e = found p ps i (omega arith) e
-
-pub passed : (p : ℕ) (ps : List ℕ) (i : ℕ) → i < length ps → nat_eq (get_or ps i 0) p ≡ false → list_any (nat_eq p) (drop i ps) ≡ list_any (nat_eq p) (drop (suc i) ps)
-passed p [] i within e = absurd (omega (arith, within))
-passed p (q ∷ ps) zero within e = let other : nat_eq p q ≡ false = grind (arith, e) in rw other refl
-passed p (q ∷ ps) (suc i) within e = passed p ps i (omega arith) e
-
-pub none_left : (p : ℕ) (ps : List ℕ) (i : ℕ) → length ps ≤ i → list_any (nat_eq p) (drop i ps) ≡ false
-none_left p [] zero past = refl
-none_left p [] (suc i) past = refl
-none_left p (q ∷ ps) zero past = absurd (omega (arith, past))
-none_left p (q ∷ ps) (suc i) past = none_left p ps i (omega (arith, past))

@@ -40,4 +40,5 @@ pub mod WalkingLemmas
 pub mod HaystackLemmas
 pub mod SteppedLemmas
 pub mod AlikeLemmas
+mod PositionLemmas
 pub mod ForCallers

@@ -12,6 +12,10 @@ use Rattle.determinize_core.specs.Steps.{kept, looks_with}
 abbrev pub with_each : Automaton → List ℕ → StateValue → StateValue
 with_each a qs v = record v { look_need = looks_with a v.look_need qs; ids = v.ids ++ kept a qs }
 
+-- the state with one more pattern
+abbrev pub with_match : StateValue → ℕ → StateValue
+with_match v p = record v { matches = v.matches ++ p ∷ [] }
+
 -- what the pattern that matches in a state, if there is one, adds to those that are listed
 abbrev pub listed_with : Option ℕ → List ℕ → List ℕ
 listed_with None ps = ps

@@ -10,3 +10,4 @@ pub mod Walked
 pub mod WalkLists
 pub mod Stepped
 pub mod Alike
+pub mod Positions

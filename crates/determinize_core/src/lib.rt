@@ -9,6 +9,7 @@ mod known;
 mod lookbehind;
 mod next_state;
 mod nfa_states;
+mod positions;
 mod start;
 mod start_config;
 pub mod start_laws;

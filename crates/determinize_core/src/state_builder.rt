@@ -1,6 +1,7 @@
 ghost use Rattle.std.specs.Prelude.{◌≡◌, IfOk};
 ghost use Rattle.determinize_core.specs.States.{dead};
 
+use crate::positions::Positions;
 use crate::state_builder_matches::StateBuilderMatches;
 use std::alloc::{AllocError, Global};
 
@@ -8,16 +9,17 @@ use std::alloc::{AllocError, Global};
 #[derive(Drop)]
 pub struct StateBuilderEmpty {
     bytes: Vec<u8>,
+    positions: Positions,
 }
 
 impl StateBuilderEmpty {
     /// A builder that has no memory yet.
     pub fn new(alloc: Global) -> StateBuilderEmpty {
-        StateBuilderEmpty::from_bytes(Vec::new(alloc))
+        StateBuilderEmpty::from_bytes(Vec::new(alloc), Positions::new(alloc))
     }
 
-    pub(crate) fn from_bytes(bytes: Vec<u8>) -> StateBuilderEmpty {
-        StateBuilderEmpty { bytes }
+    pub(crate) fn from_bytes(bytes: Vec<u8>, positions: Positions) -> StateBuilderEmpty {
+        StateBuilderEmpty { bytes, positions }
     }
 
     /// Begins a state, which is dead so far.
@@ -27,10 +29,10 @@ impl StateBuilderEmpty {
         let mut bytes = self.bytes;
         bytes.clear();
         bytes.extend_from_slice(&[0; 9])?;
-        Ok(StateBuilderMatches::from_bytes(bytes))
+        Ok(StateBuilderMatches::from_bytes(bytes, self.positions))
     }
 
-    /// How many bytes it has room for.
+    /// How many bytes of a state it has room for.
     pub fn capacity(&self) -> usize {
         self.bytes.capacity()
     }

@@ -1,9 +1,12 @@
-ghost use Rattle.std.specs.Prelude.{◌≡◌, ℕ, true, false, [], ◌∷◌, ◌++◌, OnOk, OnErr};
+ghost use Rattle.std.specs.Prelude.{◌≡◌, ℕ, true, false, [], ◌∷◌, ◌++◌, length, OnOk, OnErr};
 ghost use Rattle.std.specs.Bool.{nat_eq};
 ghost use Rattle.std.specs.List.{list_any};
 ghost use Rattle.determinize_core.specs.States.{StateValue};
 ghost use Rattle.determinize_core.specs.StateBytes.{IsUnfinished, decoded_unfinished, is_listed};
+ghost use Rattle.determinize_core.specs.Positions.{stands_at};
+ghost use Rattle.determinize_core.specs.Added.{with_match};
 
+use crate::positions::Positions;
 use crate::state_builder_nfa::StateBuilderNFA;
 use crate::state_bytes::{FROM_WORD, HALF_CRLF, LISTED, MATCHES, has_flag, number_at};
 use crate::state_edit::{push_behind_eight, push_behind_four, push_number, set_flag, write_number};
@@ -17,26 +20,30 @@ use std::marker::Model;
 #[derive(Drop)]
 pub struct StateBuilderMatches {
     bytes: Vec<u8>,
+    // Where each listed pattern stands, but for the first one.
+    positions: Positions,
 }
 
 impl Model for StateBuilderMatches {
     ghost use Rattle.determinize_core.specs.States.{StateValue};
     ghost use Rattle.determinize_core.specs.StateBytes.{decoded_unfinished, IsUnfinished};
+    ghost use Rattle.determinize_core.specs.Positions.{ArePositions};
 
     ghost Value = { StateValue };
 
     ghost view = { λ b. decoded_unfinished b.bytes.items };
 
-    ghost invariant = { λ b. IsUnfinished b.bytes.items };
+    ghost invariant = { λ b. IsUnfinished b.bytes.items × ArePositions b.positions.noted.items (decoded_unfinished b.bytes.items).matches };
 }
 
 impl StateBuilderMatches {
-    /// A builder of the state that bytes stand for.
-    pub(crate) fn from_bytes(bytes: Vec<u8>) -> StateBuilderMatches
-        requires { IsUnfinished bytes.items }
+    /// A builder of the state that bytes stand for, in which no pattern matches.
+    pub(crate) fn from_bytes(bytes: Vec<u8>, positions: Positions) -> StateBuilderMatches
+        requires form { IsUnfinished bytes.items }
+        requires none { (decoded_unfinished bytes.items).matches ≡ [] }
         ensures { result ≡ decoded_unfinished bytes.items }
     {
-        StateBuilderMatches { bytes }
+        StateBuilderMatches { bytes, positions }
     }
 
     /// Goes on to the states of the NFA.
@@ -47,9 +54,9 @@ impl StateBuilderMatches {
         if has_flag(&bytes, LISTED) {
             let count = (bytes.len() - 13) / 4;
             write_number(&mut bytes, 9, count as u32);
-            return StateBuilderNFA::from_bytes(bytes);
+            return StateBuilderNFA::from_bytes(bytes, self.positions);
         }
-        StateBuilderNFA::from_bytes(bytes)
+        StateBuilderNFA::from_bytes(bytes, self.positions)
     }
 
     /// Notes that the byte before the place is a word byte.
@@ -102,40 +109,70 @@ impl StateBuilderMatches {
         has_flag(&self.bytes, MATCHES) && pid == PatternID::ZERO
     }
 
-    /// Whether the pattern is one of those that are listed.
+    /// Whether the pattern is one of those that are listed: it is the first one, or stands where it was noted.
     fn lists(&self, pid: PatternID) -> bool
         requires { is_listed self.now.matches ≡ true }
         ensures { result ≡ list_any (nat_eq pid) self.now.matches }
     {
-        for index in 0..(self.bytes.len() - 13) / 4 {
-            if number_at(&self.bytes, 13 + 4 * index) == pid.as_u32() {
-                return true;
-            }
-        }
-        false
+        self.lists_at(0, pid) || self.lists_at(self.positions.position(pid), pid)
     }
 
-    /// Adds a pattern that matches, behind the others, or leaves all as it is where there is no memory.
+    /// Whether the pattern is the one at a position of the list.
+    fn lists_at(&self, position: u32, pid: PatternID) -> bool
+        requires { is_listed self.now.matches ≡ true }
+        ensures { result ≡ stands_at self.now.matches position pid }
+    {
+        if position >= self.count() {
+            return false;
+        }
+        number_at(&self.bytes, 13 + 4 * position as usize) == pid.as_u32()
+    }
+
+    /// How many patterns match so far.
+    fn count(&self) -> u32
+        ensures { result ≡ length self.now.matches }
+    {
+        if has_flag(&self.bytes, LISTED) {
+            return ((self.bytes.len() - 13) / 4) as u32;
+        }
+        if has_flag(&self.bytes, MATCHES) { 1 } else { 0 }
+    }
+
+    /// Adds a pattern that matches, behind the others, or leaves all as it is where there is no memory. A second pattern
+    /// and each later one takes four bytes for each number up to its own, once for all states that are built one by one.
     pub fn add_match_pattern_id(&mut self, pid: PatternID) -> Result<(), AllocError>
         requires { list_any (nat_eq pid) self.old.matches ≡ false }
         ensures ok { OnOk result (self.new ≡ record self.old { matches = self.old.matches ++ pid ∷ [] }) }
         ensures err { OnErr result (self.new ≡ self.old) }
     {
-        if has_flag(&self.bytes, LISTED) {
-            push_number(&mut self.bytes, pid.as_u32())?;
-            return Ok(());
-        }
-        if has_flag(&self.bytes, MATCHES) {
-            push_behind_eight(&mut self.bytes, pid.as_u32())?;
-            set_flag(&mut self.bytes, LISTED);
-            return Ok(());
-        }
-        if pid == PatternID::ZERO {
-            set_flag(&mut self.bytes, MATCHES);
-            return Ok(());
-        }
-        push_behind_four(&mut self.bytes, pid.as_u32())?;
-        set_flag(&mut self.bytes, MATCHES | LISTED);
+        let count = self.count();
+        self.positions.note(pid, count)?;
+        add_pattern(&mut self.bytes, pid)?;
         Ok(())
     }
+}
+
+/// Adds a pattern to the bytes of a state, behind the others, or leaves them as they are where there is no memory.
+fn add_pattern(bytes: &mut Vec<u8>, pid: PatternID) -> Result<(), AllocError>
+    requires form { IsUnfinished bytes.old.items }
+    requires absent { list_any (nat_eq pid) (decoded_unfinished bytes.old.items).matches ≡ false }
+    ensures ok { OnOk result (IsUnfinished bytes.new.items × (decoded_unfinished bytes.new.items ≡ with_match (decoded_unfinished bytes.old.items) pid)) }
+    ensures err { OnErr result (bytes.new.items ≡ bytes.old.items) }
+{
+    if has_flag(bytes, LISTED) {
+        push_number(bytes, pid.as_u32())?;
+        return Ok(());
+    }
+    if has_flag(bytes, MATCHES) {
+        push_behind_eight(bytes, pid.as_u32())?;
+        set_flag(bytes, LISTED);
+        return Ok(());
+    }
+    if pid == PatternID::ZERO {
+        set_flag(bytes, MATCHES);
+        return Ok(());
+    }
+    push_behind_four(bytes, pid.as_u32())?;
+    set_flag(bytes, MATCHES | LISTED);
+    Ok(())
 }

@@ -3,6 +3,7 @@ ghost use Rattle.search_core.specs.Index.{greatest_index};
 ghost use Rattle.determinize_core.specs.States.{StateValue, IsState};
 ghost use Rattle.determinize_core.specs.StateBytes.{encoded, IsEncoded, decoded, zigzag};
 
+use crate::positions::Positions;
 use crate::state::State;
 use crate::state_builder::StateBuilderEmpty;
 use crate::state_bytes::number_at;
@@ -19,6 +20,8 @@ pub struct StateBuilderNFA {
     bytes: Vec<u8>,
     // The state that was added last.
     previous: StateID,
+    // Kept for the next state.
+    positions: Positions,
 }
 
 impl Model for StateBuilderNFA {
@@ -35,7 +38,7 @@ impl Model for StateBuilderNFA {
 
 impl StateBuilderNFA {
     /// A builder of the state that bytes stand for, which has no states of the NFA.
-    pub(crate) fn from_bytes(bytes: Vec<u8>) -> StateBuilderNFA
+    pub(crate) fn from_bytes(bytes: Vec<u8>, positions: Positions) -> StateBuilderNFA
         requires encoded { IsEncoded bytes.items }
         requires empty { (decoded bytes.items).ids ≡ [] }
         ensures { result ≡ decoded bytes.items }
@@ -43,6 +46,7 @@ impl StateBuilderNFA {
         StateBuilderNFA {
             bytes,
             previous: StateID::ZERO,
+            positions,
         }
     }
 
@@ -64,7 +68,7 @@ impl StateBuilderNFA {
 
     /// Drops what was built, and keeps the memory.
     pub fn clear(self) -> StateBuilderEmpty {
-        StateBuilderEmpty::from_bytes(self.bytes)
+        StateBuilderEmpty::from_bytes(self.bytes, self.positions)
     }
 
     /// The looks that are known to hold at the place.

@@ -1,81 +1,20 @@
-use Rattle.std.proofs.Common.{◌≡◌, ℕ, ◌≤◌, ◌++◌, List, true, false, arith, ap, sym, ◌∙◌}
-use Rattle.std.specs.Prelude.{slice_index, slice_set, nat_eq}
-use Rattle.std.specs.Int.Bits.{bit_or}
+use Rattle.std.proofs.Common.{◌≡◌, ◌<◌, length, arith, ap, sym, ◌∙◌}
+use Rattle.std.specs.Prelude.{slice_index, nat_eq}
 use Rattle.std.specs.List.{list_any}
-use Rattle.search_core.specs.Index.{greatest_index}
 use Rattle.determinize_core.specs.States.{StateValue}
-use Rattle.determinize_core.specs.StateBytes.{has_flag, four_bytes}
-use Rattle.determinize_core.proofs.AddLemmas.{with_match, keeps_listed, keeps_second, keeps_first, keeps_told}
+use Rattle.determinize_core.specs.StateBytes.{decoded_unfinished}
+use Rattle.determinize_core.proofs.PositionLemmas.{noted_same, noted_last}
 use Rattle.determinize_core.proofs.state_builder_matches.StateBuilderMatches.add_match_pattern_id.Goals as goal
-
-pub invariant_of-self-then-has_flag : goal.invariant_of-self-then-has_flag
-invariant_of-self-then-has_flag c =
-    let listed = sym (ap (λ (xs : List ℕ). has_flag (slice_index xs 0) 2) c.deref.ensures.value) ∙ (sym c.has_flag.ensures ∙ c.if-has_flag.true) in
-    let absent = ap (λ (v : StateValue). list_any (nat_eq c.args.pid) v.matches) c.self.view_is ∙ c.requires in
-    let small : c.args.pid ≤ greatest_index = omega (arith, c.as_u32.ensures.in_range, c.as_u32.ensures.value) in
-    let form = c.in_ok-push_number.ensures.ok ∙ ap (λ (n : ℕ). c.self.inside.bytes.items ++ four_bytes n) c.as_u32.ensures.value in
-    (keeps_listed c.self.inside.bytes.items c.push_number.new.bytes.items c.args.pid c.self.invariant small absent listed form).0
-
-pub returns-then-has_flag-clause-ok : goal.returns-then-has_flag-clause-ok
-returns-then-has_flag-clause-ok c =
-    let listed = sym (ap (λ (xs : List ℕ). has_flag (slice_index xs 0) 2) c.deref.ensures.value) ∙ (sym c.has_flag.ensures ∙ c.if-has_flag.true) in
-    let absent = ap (λ (v : StateValue). list_any (nat_eq c.args.pid) v.matches) c.self.view_is ∙ c.requires in
-    let small : c.args.pid ≤ greatest_index = omega (arith, c.as_u32.ensures.in_range, c.as_u32.ensures.value) in
-    let form = c.in_ok-push_number.ensures.ok ∙ ap (λ (n : ℕ). c.self.inside.bytes.items ++ four_bytes n) c.as_u32.ensures.value in
-    (keeps_listed c.self.inside.bytes.items c.push_number.new.bytes.items c.args.pid c.self.invariant small absent listed form).1 ∙ ap (λ (v : StateValue). with_match v c.args.pid) c.self.view_is
-
-pub invariant_of-self-then-has_flag-2 : goal.invariant_of-self-then-has_flag-2
-invariant_of-self-then-has_flag-2 c =
-    let listed = sym (ap (λ (xs : List ℕ). has_flag (slice_index xs 0) 2) c.deref.ensures.value) ∙ (sym c.has_flag.ensures ∙ c.if-has_flag.false) in
-    let matching = sym (ap (λ (xs : List ℕ). has_flag (slice_index xs 0) 1) c.deref-2.ensures.value) ∙ (sym c.has_flag-2.ensures ∙ c.if-has_flag-2.true) in
-    let absent = ap (λ (v : StateValue). list_any (nat_eq c.args.pid) v.matches) c.self.view_is ∙ c.requires in
-    let small : c.args.pid ≤ greatest_index = omega (arith, c.as_u32-then-has_flag-2.ensures.in_range, c.as_u32-then-has_flag-2.ensures.value) in
-    let added = c.in_ok-push_behind_eight.ensures.ok ∙ ap (λ (n : ℕ). c.self.inside.bytes.items ++ (four_bytes 0 ++ (four_bytes 0 ++ four_bytes n))) c.as_u32-then-has_flag-2.ensures.value in
-    let form = c.set_flag.ensures ∙ ap (λ (xs : List ℕ). slice_set xs 0 (bit_or (slice_index xs 0) 2)) added in
-    (keeps_second c.self.inside.bytes.items c.set_flag.new.bytes.items c.args.pid c.self.invariant small absent listed matching form).0
-
-pub returns-then-has_flag-2-clause-ok : goal.returns-then-has_flag-2-clause-ok
-returns-then-has_flag-2-clause-ok c =
-    let listed = sym (ap (λ (xs : List ℕ). has_flag (slice_index xs 0) 2) c.deref.ensures.value) ∙ (sym c.has_flag.ensures ∙ c.if-has_flag.false) in
-    let matching = sym (ap (λ (xs : List ℕ). has_flag (slice_index xs 0) 1) c.deref-2.ensures.value) ∙ (sym c.has_flag-2.ensures ∙ c.if-has_flag-2.true) in
-    let absent = ap (λ (v : StateValue). list_any (nat_eq c.args.pid) v.matches) c.self.view_is ∙ c.requires in
-    let small : c.args.pid ≤ greatest_index = omega (arith, c.as_u32-then-has_flag-2.ensures.in_range, c.as_u32-then-has_flag-2.ensures.value) in
-    let added = c.in_ok-push_behind_eight.ensures.ok ∙ ap (λ (n : ℕ). c.self.inside.bytes.items ++ (four_bytes 0 ++ (four_bytes 0 ++ four_bytes n))) c.as_u32-then-has_flag-2.ensures.value in
-    let form = c.set_flag.ensures ∙ ap (λ (xs : List ℕ). slice_set xs 0 (bit_or (slice_index xs 0) 2)) added in
-    (keeps_second c.self.inside.bytes.items c.set_flag.new.bytes.items c.args.pid c.self.invariant small absent listed matching form).1 ∙ ap (λ (v : StateValue). with_match v c.args.pid) c.self.view_is
-
-pub invariant_of-self-then-eq : goal.invariant_of-self-then-eq
-invariant_of-self-then-eq c =
-    let matching = sym (ap (λ (xs : List ℕ). has_flag (slice_index xs 0) 1) c.deref-2.ensures.value) ∙ (sym c.has_flag-2.ensures ∙ c.if-has_flag-2.false) in
-    let absent = ap (λ (v : StateValue). list_any (nat_eq c.args.pid) v.matches) c.self.view_is ∙ c.requires in
-    let is : nat_eq c.args.pid 0 ≡ true = sym c.eq.ensures ∙ c.if-eq.true in
-    let small : c.args.pid ≤ greatest_index = grind (arith, is) in
-    (keeps_told c.self.inside.bytes.items c.set_flag-then-eq.new.bytes.items c.args.pid c.self.invariant small absent matching is c.set_flag-then-eq.ensures).0
-
-pub returns-then-eq-clause-ok : goal.returns-then-eq-clause-ok
-returns-then-eq-clause-ok c =
-    let matching = sym (ap (λ (xs : List ℕ). has_flag (slice_index xs 0) 1) c.deref-2.ensures.value) ∙ (sym c.has_flag-2.ensures ∙ c.if-has_flag-2.false) in
-    let absent = ap (λ (v : StateValue). list_any (nat_eq c.args.pid) v.matches) c.self.view_is ∙ c.requires in
-    let is : nat_eq c.args.pid 0 ≡ true = sym c.eq.ensures ∙ c.if-eq.true in
-    let small : c.args.pid ≤ greatest_index = grind (arith, is) in
-    (keeps_told c.self.inside.bytes.items c.set_flag-then-eq.new.bytes.items c.args.pid c.self.invariant small absent matching is c.set_flag-then-eq.ensures).1 ∙ ap (λ (v : StateValue). with_match v c.args.pid) c.self.view_is
 
 pub invariant_of-self-2 : goal.invariant_of-self-2
 invariant_of-self-2 c =
-    let matching = sym (ap (λ (xs : List ℕ). has_flag (slice_index xs 0) 1) c.deref-2.ensures.value) ∙ (sym c.has_flag-2.ensures ∙ c.if-has_flag-2.false) in
+    let kept = c.in_ok-add_pattern.ensures.ok in
+    let before = (decoded_unfinished c.self.inside.bytes.items).matches in
     let absent = ap (λ (v : StateValue). list_any (nat_eq c.args.pid) v.matches) c.self.view_is ∙ c.requires in
-    let other : nat_eq c.args.pid 0 ≡ false = sym c.eq.ensures ∙ c.if-eq.false in
-    let small : c.args.pid ≤ greatest_index = omega (arith, c.as_u32-2.ensures.in_range, c.as_u32-2.ensures.value) in
-    let added = c.in_ok-push_behind_four.ensures.ok ∙ ap (λ (n : ℕ). c.self.inside.bytes.items ++ (four_bytes 0 ++ four_bytes n)) c.as_u32-2.ensures.value in
-    let form = c.set_flag-2.ensures ∙ ap (λ (xs : List ℕ). slice_set xs 0 (bit_or (slice_index xs 0) 3)) added in
-    (keeps_first c.self.inside.bytes.items c.set_flag-2.new.bytes.items c.args.pid c.self.invariant small absent matching other form).0
-
-pub returns-clause-ok : goal.returns-clause-ok
-returns-clause-ok c =
-    let matching = sym (ap (λ (xs : List ℕ). has_flag (slice_index xs 0) 1) c.deref-2.ensures.value) ∙ (sym c.has_flag-2.ensures ∙ c.if-has_flag-2.false) in
-    let absent = ap (λ (v : StateValue). list_any (nat_eq c.args.pid) v.matches) c.self.view_is ∙ c.requires in
-    let other : nat_eq c.args.pid 0 ≡ false = sym c.eq.ensures ∙ c.if-eq.false in
-    let small : c.args.pid ≤ greatest_index = omega (arith, c.as_u32-2.ensures.in_range, c.as_u32-2.ensures.value) in
-    let added = c.in_ok-push_behind_four.ensures.ok ∙ ap (λ (n : ℕ). c.self.inside.bytes.items ++ (four_bytes 0 ++ four_bytes n)) c.as_u32-2.ensures.value in
-    let form = c.set_flag-2.ensures ∙ ap (λ (xs : List ℕ). slice_set xs 0 (bit_or (slice_index xs 0) 3)) added in
-    (keeps_first c.self.inside.bytes.items c.set_flag-2.new.bytes.items c.args.pid c.self.invariant small absent matching other form).1 ∙ ap (λ (v : StateValue). with_match v c.args.pid) c.self.view_is
+    let count : c.count-count.result ≡ length before =
+    c.count-count.ensures ∙ ap (λ (v : StateValue). length v.matches) (sym c.self.view_is) in
+    let last : 0 < length before → slice_index c.note.new.self.noted.items c.args.pid ≡ length before =
+    λ some. c.in_ok-note.ensures.there (omega (arith, some, count)) ∙ count in
+    let at = noted_last c.self.inside.positions.noted.items before c.args.pid c.self.invariant.1 c.note.new.self.noted.items
+    absent c.in_ok-note.ensures.others last in
+    (kept.0, noted_same c.note.new.self.noted.items _ _ (ap (λ (v : StateValue). v.matches) kept.1) at)
