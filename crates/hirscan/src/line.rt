@@ -13,7 +13,7 @@ use crate::fault::{FaultKind, LineFault};
 use crate::settings::Settings;
 use crate::split::WordsLeft;
 use crate::words::{
-    LineWord, bound, class_ranges, hex_byte, hex_bytes, items, line_word, look_named, number,
+    LineWord, bound, class_ranges, hex_byte, hex_bytes, line_word, look_named, low_ends, number,
     order, scalar_items, scalar_ranges, switch, word_at, yes_or_no,
 };
 use hir_core::Hir;
@@ -224,13 +224,13 @@ fn lit_line(alloc: Global, args: &[&[u8]], stands: &mut Stands) -> Result<(), Li
     push(stands, Hir::literal(bytes))
 }
 
-#[tactic(auto, using(crate::proofs::StackLemmas::below_none, crate::proofs::RangeLemmas::class_ranges_ascend))]
+#[tactic(auto, using(crate::proofs::StackLemmas::below_none))]
 fn bytes_line(alloc: Global, args: WordsLeft, stands: &mut Stands) -> Result<(), LineFault>
     ensures ok { OnOk result (IsDone Bytes (words_left args.entry) (standing stands.old) (standing stands.new)) }
     ensures err { IfErr result (λ e. TellsLineFault (left_fault Bytes (words_left args.entry) (standing stands.old)) e) }
 {
-    let lows = items(args)?;
-    let Ok(ranges) = class_ranges(alloc, &lows) else {
+    let ends = low_ends(args)?;
+    let Ok(ranges) = class_ranges(alloc, &ends) else {
         return Err(LineFault::NoMemory);
     };
     push(stands, Hir::bytes(ranges))
@@ -487,7 +487,7 @@ fn follow_counted(
 }
 
 /// Follows a line of this first word and these words after it.
-#[tactic(auto, using(crate::proofs::StageLemmas::known_fault_setting, crate::proofs::StageLemmas::known_fault_count))]
+#[tactic(auto, using(crate::proofs::StageLemmas::known_fault_setting))]
 fn follow(
     alloc: Global,
     word: LineWord,

@@ -225,7 +225,8 @@ fn item(word: &[u8]) -> Result<(u8, u8), FaultKind>
     }
 }
 
-/// For each byte the least low end of the items of a class that end there, and 256 where none does.
+/// For each byte the least low end of the items of a class that end there, and 256 where none does. A byte is in an item where one
+/// of these, its own or that of a greater byte, isn't above it.
 #[derive(Clone, Copy)]
 pub(crate) struct LowEnds {
     lows: [u16; 256],
@@ -250,7 +251,6 @@ impl LowEnds {
     }
 
     /// Adds an item of these ends.
-    #[tactic(auto, using(crate::proofs::LowEndLemmas::covered_more))]
     fn add(&mut self, low: u8, high: u8)
         ensures { (b : ℕ) → is_covered self.new b ≡ (nat_le low b && nat_le b high) || is_covered self.old b }
     {
@@ -260,7 +260,7 @@ impl LowEnds {
 }
 
 /// The ends of the items of a class.
-pub(crate) fn items(words: WordsLeft) -> Result<LowEnds, LineFault>
+pub(crate) fn low_ends(words: WordsLeft) -> Result<LowEnds, LineFault>
     ensures ok { IfOk result (λ ends. (first_of (map item_fault (words_left words.entry)) ≡ None)
         × AreLowEnds (map the_ends (words_left words.entry)) ends) }
     ensures err { IfErr result (λ e. TellsLineFault (first_of (map item_fault (words_left words.entry))) e) }
@@ -296,7 +296,7 @@ pub(crate) fn class_ranges(alloc: Global, ends: &LowEnds) -> Result<Vec<(u8, u8)
     ensures { (items : List (ℕ × ℕ)) → AreLowEnds items ends.now → IfOk result (λ ranges. ranges.items ≡ class_ranges items) }
 {
     let mut ranges = Vec::new(alloc);
-    let mut low = 256u16; // the least low end of the items that end at a byte that was met
+    let mut low = 256u16; // the least of the low ends that were met
     for code in (0..256usize).rev() {
         let b = code as u8;
         low = low.min(ends.lows[code]);

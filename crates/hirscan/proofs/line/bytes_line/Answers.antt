@@ -6,4 +6,4 @@ use Rattle.hirscan.proofs.line.bytes_line.Goals as goal
 
 pub bytes-requires : goal.bytes-requires
 bytes-requires c =
-    let items = map the_ends (words_left c.args.args) in rw (c.in-Ok.ensures items c.in_ok-lows.ensures.ok.1) (class_ranges_ascend items)
+    let items = map the_ends (words_left c.args.args) in rw (c.in-Ok.ensures items c.in_ok-ends.ensures.ok.1) (class_ranges_ascend items)

@@ -4,7 +4,7 @@ use Rattle.hirscan.specs.Words.{is_covered}
 use Rattle.hirscan.specs.Readers.{the_ends}
 use Rattle.hirscan.specs.LineFault.{first_of, item_fault}
 use Rattle.hirscan.specs.Tells.{words_left}
-use Rattle.hirscan.proofs.words.items.Given as goal
+use Rattle.hirscan.proofs.words.low_ends.Given as goal
 
 -- the items so far have no fault, so that the first fault of all is that of the rest
 abbrev pub invariant-loop-word : goal.invariant-loop-word
