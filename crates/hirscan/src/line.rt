@@ -462,7 +462,7 @@ fn follow_class(
         LineWord::Chars => chars_line(alloc, args, stands)?,
         _ => unreachable!(),
     }
-    Ok(step_after(word))
+    Ok(Step::Next)
 }
 
 /// Follows a line that is no class and has as many words as it has to.

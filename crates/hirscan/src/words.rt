@@ -1,6 +1,7 @@
 // What a word of a line says by itself.
-ghost use Rattle.std.specs.Prelude.{◌≡◌, ℕ, List, ◌+◌, ◌==◌, ◌<◌, ◌≤◌, ◌∷◌, ◌++◌, ◌&&◌, ◌||◌, false, length, map, reverse, nat_lt, nat_le, Some, None, IfOk, IfErr, OnOk};
+ghost use Rattle.std.specs.Prelude.{◌≡◌, ℕ, List, ◌+◌, ◌==◌, ◌<◌, ◌≤◌, ◌∷◌, ◌++◌, ◌&&◌, ◌||◌, true, false, [], length, map, reverse, nat_lt, nat_le, Some, None, IfOk, IfErr, OnOk};
 ghost use Rattle.std.specs.List.{list_all, position};
+ghost use Rattle.hir_core.specs.Means.{is_member};
 ghost use Rattle.hirscan.specs.Words.{is_scalar, with_byte, with_range, is_covered, AreLowEnds, class_ranges, scalar_ranges};
 ghost use Rattle.hirscan.specs.Readers.{line_word, setting_word, tree_word, number, bound, order, switch, yes_or_no, hex_bytes, hex_byte, item_ends, the_ends, hex_number, hex_ends, the_hex_ends, anchor_named, word_look_named, look_named, word_at};
 ghost use Rattle.hirscan.specs.LineFault.{unless_read, item_fault, scalar_item_fault, byte_fault, first_of};
@@ -13,6 +14,9 @@ use hex::{FromHex, FromHexError};
 use look_core::Look;
 use std::alloc::{AllocError, Global};
 use std::marker::Model;
+
+/// As many items of a class of scalars are read before their ranges take their place.
+const MANY_ITEMS: usize = 1 << 22;
 
 /// The lines of the notation, by their first word.
 #[derive(Clone, Copy, Debug)]
@@ -354,22 +358,6 @@ fn scalar_item(word: &[u8]) -> Result<(char, char), FaultKind>
     }
 }
 
-/// The items of a class of scalars in the order of the words.
-pub(crate) fn scalar_items(alloc: Global, words: WordsLeft) -> Result<Vec<(char, char)>, LineFault>
-    ensures ok { IfOk result (λ items. (first_of (map scalar_item_fault (words_left words.entry)) ≡ None)
-        × (items.items ≡ map the_hex_ends (words_left words.entry))) }
-    ensures err { IfErr result (λ e. TellsLineFault (first_of (map scalar_item_fault (words_left words.entry))) e) }
-{
-    let mut items = Vec::new(alloc);
-    for word in words {
-        match scalar_item(word) {
-            Ok(ends) => items.push(ends).map_err(|_| LineFault::NoMemory)?,
-            Err(kind) => return Err(LineFault::Is(kind)),
-        }
-    }
-    Ok(items)
-}
-
 /// Whether some number stands between the end of a range and the start of a later one.
 fn is_apart(end: char, start: char) -> bool
     ensures { result ≡ nat_lt (end + 1) start }
@@ -469,6 +457,55 @@ pub(crate) fn scalar_ranges(
     let sorted = sorted(items);
     let ranges = put_ranges(alloc, &sorted)?;
     Ok(ranges)
+}
+
+/// The items, or their ranges where there are many. Scalars have at most half a million ranges, so that most of many go.
+fn compact(alloc: Global, items: Vec<(char, char)>) -> Result<Vec<(char, char)>, AllocError>
+    requires { list_all (λ r. nat_le r.0 r.1) items.items ≡ true }
+    ensures in_order { IfOk result (λ found. list_all (λ r. nat_le r.0 r.1) found.items ≡ true) }
+    ensures members { IfOk result (λ found. (c : ℕ) → is_member found.items c ≡ is_member items.items c) }
+{
+    if items.len() < MANY_ITEMS {
+        return Ok(items);
+    }
+    let ranges = scalar_ranges(alloc, items)?;
+    Ok(ranges)
+}
+
+/// Adds an item, with others made less where they are many.
+fn put_item(
+    alloc: Global,
+    others: Vec<(char, char)>,
+    item: (char, char),
+) -> Result<Vec<(char, char)>, AllocError>
+    requires others { list_all (λ r. nat_le r.0 r.1) others.items ≡ true }
+    requires item { item.0 ≤ item.1 }
+    ensures in_order { IfOk result (λ items. list_all (λ r. nat_le r.0 r.1) items.items ≡ true) }
+    ensures members { IfOk result (λ items. (c : ℕ) → is_member items.items c ≡ is_member others.items c || is_member (item ∷ []) c) }
+{
+    let mut items = compact(alloc, others)?;
+    items.push(item)?;
+    Ok(items)
+}
+
+/// Items with the ranges of those of the words.
+pub(crate) fn scalar_items(alloc: Global, words: WordsLeft) -> Result<Vec<(char, char)>, LineFault>
+    ensures ok { IfOk result (λ items. (first_of (map scalar_item_fault (words_left words.entry)) ≡ None)
+        × (scalar_ranges items.items ≡ scalar_ranges (map the_hex_ends (words_left words.entry)))) }
+    ensures err { IfErr result (λ e. TellsLineFault (first_of (map scalar_item_fault (words_left words.entry))) e) }
+{
+    let mut items = Vec::new(alloc);
+    for word in words {
+        let item = match scalar_item(word) {
+            Ok(item) => item,
+            Err(kind) => return Err(LineFault::Is(kind)),
+        };
+        items = match put_item(alloc, items, item) {
+            Ok(items) => items,
+            Err(_) => return Err(LineFault::NoMemory),
+        };
+    }
+    Ok(items)
 }
 
 /// The look of an edge of the haystack or of a line with this name.
