@@ -1,7 +1,9 @@
 pub mod AnswerLemmas
 pub mod LoopLemmas
 pub mod WordLemmas
+pub mod SplitLemmas
 pub mod RangeLemmas
+pub mod LowEndLemmas
 pub mod ScalarRangeLemmas
 pub mod AnyOrderLemmas
 pub mod StackLemmas

@@ -21,10 +21,17 @@ pub ranges_without_byte : (member : ℕ → Bool) (n : ℕ) (rs : List (ℕ × �
     → rs ≡ ranges_from member (256 - n) n → rs ≡ ranges_from member (256 - (n - 1)) (n - 1)
 ranges_without_byte member n rs h k m was = rw (ranges_from_below member n h k, m) was
 
-pub all_ranges : (items rs new : List (ℕ × ℕ)) (n : ℕ) → n ≡ 0 → reverse rs ≡ ranges_from (is_member items) (256 - n) n
-    → new ≡ reverse rs → new ≡ class_ranges items
+-- the ranges are told by the members below the end
+ranges_from_same : (f g : ℕ → Bool) (n b : ℕ) → ((k : ℕ) → b ≤ k → k < b + n → f k ≡ g k) → ranges_from f n b ≡ ranges_from g n b
+ranges_from_same f g zero b h = refl
+ranges_from_same f g (suc n) b h =
+    rw (h b (omega arith) (omega arith), ranges_from_same f g n (b + 1) (λ k l m. h k (omega arith) (omega arith))) refl
+
+pub all_ranges : (items rs new : List (ℕ × ℕ)) (member : ℕ → Bool) (n : ℕ) → n ≡ 0 → reverse rs ≡ ranges_from member (256 - n) n
+    → new ≡ reverse rs → ((b : ℕ) → b < 256 → member b ≡ is_member items b) → new ≡ class_ranges items
 unfolding class_ranges
-all_ranges items rs new n z was is = is ∙ (was ∙ ap (λ k. ranges_from (is_member items) (256 - k) k) z)
+all_ranges items rs new member n z was is same =
+    is ∙ (was ∙ (ap (λ k. ranges_from member (256 - k) k) z ∙ ranges_from_same member (is_member items) 256 0 (λ k l m. same k (omega arith))))
 
 -- ranges that rise from a byte on rise from any lower one on
 rises_lower : (b : ℕ) (rs : List (ℕ × ℕ)) → rises_from (b + 1) rs ≡ true → rises_from b rs ≡ true

@@ -103,14 +103,14 @@ pub scalar_classes_ascend : (ws : List (List ℕ)) (items : List (ℕ × ℕ)) �
 scalar_classes_ascend ws items h = scalar_ranges_ascend items (are_in_order ws items h)
 
 -- so have words without a fault
-ends_in_order : (o : Option (ℕ × ℕ)) → scalar_ends_fault o ≡ None → in_order (unwrap_or o (0, 0)) ≡ true
+pub ends_in_order : (o : Option (ℕ × ℕ)) → scalar_ends_fault o ≡ None → in_order (unwrap_or o (0, 0)) ≡ true
 ends_in_order None h = absurd cc
 ends_in_order (Some r) h =
     let f = when_none (not (is_scalar r.0) || not (is_scalar r.1) || nat_lt r.1 r.0) BadRange h in
     let k : nat_lt r.1 r.0 ≡ false = (or_parts (not (is_scalar r.0) || not (is_scalar r.1)) _ f).1 in
     le-leb r.0 r.1 (ltb-false r.1 r.0 k)
 
-faultless_in_order : (ws : List (List ℕ)) → first_of (map scalar_item_fault ws) ≡ None → list_all in_order (map the_hex_ends ws) ≡ true
+pub faultless_in_order : (ws : List (List ℕ)) → first_of (map scalar_item_fault ws) ≡ None → list_all in_order (map the_hex_ends ws) ≡ true
 faultless_in_order [] h = refl
 faultless_in_order (w ∷ ws) h =
     let p = first_none (scalar_item_fault w) (map scalar_item_fault ws) h in

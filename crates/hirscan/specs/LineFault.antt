@@ -40,6 +40,12 @@ is_setting Anchored = true
 is_setting Span = true
 is_setting _ = false
 
+-- whether the line is a class, whose items may be any number
+abbrev pub is_class : LineWord → Bool
+is_class Bytes = true
+is_class Chars = true
+is_class _ = false
+
 -- whether the line sets something where a tree has been pushed
 abbrev pub is_setting_after_node : LineWord → Standing → Bool
 is_setting_after_node k at = is_setting k && (nat_lt 0 (length at.stack) || nat_lt 0 (length at.patterns))

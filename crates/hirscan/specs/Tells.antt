@@ -11,6 +11,8 @@ use Rattle.hirscan.specs.declared.line.Step.{Step}
 use Rattle.hirscan.specs.declared.line.Step.TheVariants.{Next, End}
 use Rattle.hirscan.specs.declared.line.Stands.{Stands}
 use Rattle.hirscan.specs.declared.head.Head.{Head}
+use Rattle.hirscan.specs.declared.split.WordsLeft.{WordsLeft}
+use Rattle.hirscan.specs.Words.{words}
 use Rattle.hirscan.specs.Takes.{Standing, at_first, Takes, EndsHead}
 use Rattle.hirscan.specs.Reads.{IsOneLine, IsFaultAt}
 use Rattle.hirscan.specs.declared.words.LineWord.{LineWord}
@@ -37,6 +39,14 @@ kind_text TreeLeftOver = codes "tree left over"
 -- the words behind references to them
 abbrev pub texts : List (Bor (List ℕ)) → List (List ℕ)
 texts words = map (λ w. w.now) words
+
+-- the words that are still to be read of a line
+abbrev pub words_behind : Option (Bor (List ℕ)) → List (List ℕ)
+words_behind None = []
+words_behind (Some left) = words left.now
+
+abbrev pub words_left : WordsLeft → List (List ℕ)
+words_left these = words_behind these.left
 
 -- what stands, as the rules see it
 abbrev pub standing : Stands → Standing

@@ -1,5 +1,5 @@
 -- The words of a line, and what a word says by itself.
-use Rattle.std.specs.Prelude.{◌≡◌, ℕ, zero, suc, ◌+◌, ◌-◌, ◌*◌, ◌/◌, ◌%◌, ◌^◌, ◌<◌, ◌≤◌, ◌==◌, Bool, true, false, List, [], ◌∷◌, ◌++◌, length, slice_index, Option, Some, None, decimal, codes, if◌then◌else◌, nat_lt, nat_le, min, max, ◌&&◌, ◌||◌}
+use Rattle.std.specs.Prelude.{◌≡◌, ℕ, zero, suc, ◌+◌, ◌-◌, ◌*◌, ◌/◌, ◌%◌, ◌^◌, ◌<◌, ◌≤◌, ◌==◌, Bool, true, false, List, [], ◌∷◌, ◌++◌, length, drop, slice_index, Option, Some, None, decimal, codes, if◌then◌else◌, nat_lt, nat_le, min, max, ◌&&◌, ◌||◌}
 use Rattle.std.specs.List.{slice_split}
 use Rattle.look_core.specs.declared.look.Look.{Look}
 use Rattle.look_core.specs.declared.look.Look.TheVariants.{Start, End, StartLF, EndLF, StartCRLF, EndCRLF, WordAscii, WordAsciiNegate, WordUnicode, WordUnicodeNegate, WordStartAscii, WordEndAscii, WordStartUnicode, WordEndUnicode, WordStartHalfAscii, WordEndHalfAscii, WordStartHalfUnicode, WordEndHalfUnicode}
@@ -152,6 +152,19 @@ ranges_from member (suc n) b = with_member (member b) b (ranges_from member n (b
 -- the ranges of a class of these items, which may overlap and come in any order
 unfoldable pub class_ranges : List (ℕ × ℕ) → List (ℕ × ℕ)
 class_ranges items = ranges_from (is_member items) 256 0
+
+-- the least of these numbers, or 256 where none is below that
+abbrev pub least : List ℕ → ℕ
+least [] = 256
+least (n ∷ ns) = min n (least ns)
+
+-- whether the byte b is in an item, where for each byte the least low end of the items that end there is given
+abbrev pub is_covered : List ℕ → ℕ → Bool
+is_covered lows b = nat_le (least (drop b lows)) b
+
+-- the same bytes are in these items
+abbrev pub AreLowEnds : List (ℕ × ℕ) → List ℕ → Type 0
+AreLowEnds items lows = (b : ℕ) → b < 256 → is_covered lows b ≡ is_member items b
 
 -- The ranges with one more. They are ascending, and some number stands between each two of them; so are those that it gives: the
 -- new range takes in the ones that it meets or touches.

@@ -25,6 +25,7 @@ pub mod reading_laws;
 mod reply;
 pub mod search_laws;
 mod settings;
+mod split;
 pub mod tree_walk_laws;
 pub mod word_laws;
 mod words;

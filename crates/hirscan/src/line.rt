@@ -1,27 +1,31 @@
 // One line: its words, the stack and the patterns before and after it.
-ghost use Rattle.std.specs.Prelude.{◌≡◌, ◌⊎◌, ◌<◌, ◌≤◌, false, IfOk, IfErr, OnOk, MatchOption, IsTrue, ℕ, length, Some, None, [], ◌∷◌, ◌++◌, nat_lt, slice_index_or};
+ghost use Rattle.std.specs.Prelude.{◌≡◌, ◌⊎◌, ◌<◌, ◌≤◌, true, false, IfOk, IfErr, OnOk, MatchOption, IsTrue, ℕ, length, Some, None, [], ◌∷◌, ◌++◌, nat_lt, take, slice_index_or};
 ghost use Rattle.hir_core.specs.Tree.{empty};
 ghost use Rattle.hir_core.specs.Facts.{height};
 ghost use Rattle.hirscan.specs.Words.{words};
 ghost use Rattle.hirscan.specs.Readers.{hex_byte, word_at};
-ghost use Rattle.hirscan.specs.LineFault.{fault, byte_fault, known_fault, after, top, below, when, is_at_most, is_word_count, is_setting, is_setting_after_node, left_fault};
-ghost use Rattle.hirscan.specs.Tells.{texts, standing, TellsLineFault, TellsStep, IsDone, step_after};
+ghost use Rattle.hirscan.specs.LineFault.{fault, byte_fault, known_fault, after, top, below, when, is_at_most, is_word_count, is_setting, is_class, is_setting_after_node, left_fault};
+ghost use Rattle.hirscan.specs.Tells.{texts, words_left, standing, TellsLineFault, TellsStep, IsDone, step_after};
 ghost use Rattle.hirscan.specs.declared.fault.FaultKind.TheVariants.{TooFewTrees, TooDeep};
 ghost use Rattle.hirscan.specs.declared.words.LineWord.TheVariants.{Utf8, Line, Capacity, Quit, Classes, Shrink, Anchored, Span as SpanWord, Empty, Lit, Bytes, Chars, Look, Rep, Cat, Alt, Pattern, Find};
 
 use crate::fault::{FaultKind, LineFault};
 use crate::settings::Settings;
+use crate::split::WordsLeft;
 use crate::words::{
-    LineWord, bound, class_ranges, hex_byte, hex_bytes, items, line_word, look_named, number,
+    LineWord, bound, class_ranges, hex_byte, hex_bytes, line_word, look_named, low_ends, number,
     order, scalar_items, scalar_ranges, switch, word_at, yes_or_no,
 };
 use hir_core::Hir;
 use look_core::LineTerm;
 use search_types::Span;
-use std::alloc::{AllocError, Global};
+use std::alloc::Global;
 
 /// A tree may not be higher.
 const MAX_HEIGHT: usize = 250;
+
+/// More words than may follow the first of any line but a class.
+const MORE_THAN_MAY_FOLLOW: usize = 4;
 
 /// How the patterns are searched.
 #[derive(Clone, Copy)]
@@ -44,13 +48,6 @@ pub(crate) struct Stands {
 pub(crate) enum Step {
     Next,
     End,
-}
-
-/// What stands between the spaces of a line.
-fn split_words(alloc: Global, line: &[u8]) -> Result<Vec<&[u8]>, AllocError>
-    ensures { IfOk result (λ found. texts found.items ≡ words line.now) }
-{
-    line.split(|b| *b == b' ').collect(alloc)
 }
 
 /// Pushes a tree, unless it is too high.
@@ -227,25 +224,25 @@ fn lit_line(alloc: Global, args: &[&[u8]], stands: &mut Stands) -> Result<(), Li
     push(stands, Hir::literal(bytes))
 }
 
-#[tactic(auto, using(crate::proofs::StackLemmas::below_none, crate::proofs::RangeLemmas::class_ranges_ascend))]
-fn bytes_line(alloc: Global, args: &[&[u8]], stands: &mut Stands) -> Result<(), LineFault>
-    ensures ok { OnOk result (IsDone Bytes (texts args.now) (standing stands.old) (standing stands.new)) }
-    ensures err { IfErr result (λ e. TellsLineFault (left_fault Bytes (texts args.now) (standing stands.old)) e) }
+#[tactic(auto, using(crate::proofs::StackLemmas::below_none))]
+fn bytes_line(alloc: Global, args: WordsLeft, stands: &mut Stands) -> Result<(), LineFault>
+    ensures ok { OnOk result (IsDone Bytes (words_left args.entry) (standing stands.old) (standing stands.new)) }
+    ensures err { IfErr result (λ e. TellsLineFault (left_fault Bytes (words_left args.entry) (standing stands.old)) e) }
 {
-    let items = items(alloc, args)?;
-    let Ok(ranges) = class_ranges(alloc, &items) else {
+    let ends = low_ends(args)?;
+    let Ok(ranges) = class_ranges(alloc, &ends) else {
         return Err(LineFault::NoMemory);
     };
     push(stands, Hir::bytes(ranges))
 }
 
 #[tactic(auto, using(crate::proofs::StackLemmas::below_none, crate::proofs::ScalarRangeLemmas::faultless_items_ascend))]
-fn chars_line(alloc: Global, args: &[&[u8]], stands: &mut Stands) -> Result<(), LineFault>
-    ensures ok { OnOk result (IsDone Chars (texts args.now) (standing stands.old) (standing stands.new)) }
-    ensures err { IfErr result (λ e. TellsLineFault (left_fault Chars (texts args.now) (standing stands.old)) e) }
+fn chars_line(alloc: Global, args: WordsLeft, stands: &mut Stands) -> Result<(), LineFault>
+    ensures ok { OnOk result (IsDone Chars (words_left args.entry) (standing stands.old) (standing stands.new)) }
+    ensures err { IfErr result (λ e. TellsLineFault (left_fault Chars (words_left args.entry) (standing stands.old)) e) }
 {
     let items = scalar_items(alloc, args)?;
-    let Ok(ranges) = scalar_ranges(alloc, &items) else {
+    let Ok(ranges) = scalar_ranges(alloc, items) else {
         return Err(LineFault::NoMemory);
     };
     push(stands, Hir::chars(ranges))
@@ -377,6 +374,13 @@ fn is_setting(word: LineWord) -> bool
     )
 }
 
+/// Whether the line is a class, whose items may be any number.
+fn is_class(word: LineWord) -> bool
+    ensures { result ≡ is_class word }
+{
+    matches!(word, LineWord::Bytes | LineWord::Chars)
+}
+
 /// Whether the line sets something where a tree has been pushed: such a tree stands on the stack,
 /// itself or within another, or was taken as a pattern.
 fn is_setting_after_node(word: LineWord, stands: &Stands) -> bool
@@ -405,7 +409,7 @@ fn follow_setting(word: LineWord, args: &[&[u8]], stands: &mut Stands) -> Result
     }
 }
 
-/// Follows another line that has as many words as it has to.
+/// Follows another line that is no class and has as many words as it has to.
 fn follow_other(
     alloc: Global,
     word: LineWord,
@@ -413,6 +417,7 @@ fn follow_other(
     stands: &mut Stands,
 ) -> Result<(), LineFault>
     requires other { is_setting word ≡ false }
+    requires no_class { is_class word ≡ false }
     requires counted { IsTrue (is_word_count word (length args.now)) }
     ensures ok { OnOk result (IsDone word (texts args.now) (standing stands.old) (standing stands.new)) }
     ensures err { IfErr result (λ e. TellsLineFault (left_fault word (texts args.now) (standing stands.old)) e) }
@@ -420,8 +425,6 @@ fn follow_other(
     match word {
         LineWord::Empty => empty_line(args, stands),
         LineWord::Lit => lit_line(alloc, args, stands),
-        LineWord::Bytes => bytes_line(alloc, args, stands),
-        LineWord::Chars => chars_line(alloc, args, stands),
         LineWord::Look => look_line(args, stands),
         LineWord::Rep => rep_line(alloc, args, stands),
         LineWord::Cat => cat_line(args, stands),
@@ -442,14 +445,35 @@ fn step_after(word: LineWord) -> Step
     }
 }
 
-/// Follows a line that has as many words as it has to.
+/// Follows a line that is a class of one item or more.
+fn follow_class(
+    alloc: Global,
+    word: LineWord,
+    args: WordsLeft,
+    stands: &mut Stands,
+) -> Result<Step, LineFault>
+    requires { is_class word ≡ true }
+    ensures ok { IfOk result (λ step. IsDone word (words_left args.entry) (standing stands.old) (standing stands.new)
+        × (step ≡ step_after word)) }
+    ensures err { IfErr result (λ e. TellsLineFault (left_fault word (words_left args.entry) (standing stands.old)) e) }
+{
+    match word {
+        LineWord::Bytes => bytes_line(alloc, args, stands)?,
+        LineWord::Chars => chars_line(alloc, args, stands)?,
+        _ => unreachable!(),
+    }
+    Ok(Step::Next)
+}
+
+/// Follows a line that is no class and has as many words as it has to.
 fn follow_counted(
     alloc: Global,
     word: LineWord,
     args: &[&[u8]],
     stands: &mut Stands,
 ) -> Result<Step, LineFault>
-    requires { IsTrue (is_word_count word (length args.now)) }
+    requires no_class { is_class word ≡ false }
+    requires counted { IsTrue (is_word_count word (length args.now)) }
     ensures ok { IfOk result (λ step. IsDone word (texts args.now) (standing stands.old) (standing stands.new)
         × (step ≡ step_after word)) }
     ensures err { IfErr result (λ e. TellsLineFault (left_fault word (texts args.now) (standing stands.old)) e) }
@@ -463,24 +487,30 @@ fn follow_counted(
 }
 
 /// Follows a line of this first word and these words after it.
-#[tactic(auto, using(crate::proofs::StageLemmas::known_fault_left, crate::proofs::StageLemmas::known_fault_setting, crate::proofs::StageLemmas::known_fault_count))]
+#[tactic(auto, using(crate::proofs::StageLemmas::known_fault_setting))]
 fn follow(
     alloc: Global,
     word: LineWord,
-    args: &[&[u8]],
+    args: WordsLeft,
     stands: &mut Stands,
 ) -> Result<Step, LineFault>
-    ensures ok { IfOk result (λ step. (known_fault word (texts args.now) (standing stands.old) ≡ None)
-        × (standing stands.new ≡ after word (texts args.now) (standing stands.old)) × (step ≡ step_after word)) }
-    ensures err { IfErr result (λ e. TellsLineFault (known_fault word (texts args.now) (standing stands.old)) e) }
+    ensures ok { IfOk result (λ step. (known_fault word (words_left args.entry) (standing stands.old) ≡ None)
+        × (standing stands.new ≡ after word (words_left args.entry) (standing stands.old)) × (step ≡ step_after word)) }
+    ensures err { IfErr result (λ e. TellsLineFault (known_fault word (words_left args.entry) (standing stands.old)) e) }
 {
     if is_setting_after_node(word, stands) {
         return Err(LineFault::Is(FaultKind::SettingAfterNode));
     }
-    if !is_word_count(word, args.len()) {
+    let Ok(first) = args.at_most(alloc, MORE_THAN_MAY_FOLLOW) else {
+        return Err(LineFault::NoMemory);
+    };
+    if !is_word_count(word, first.len()) {
         return Err(LineFault::Is(FaultKind::WrongWordCount));
     }
-    follow_counted(alloc, word, args, stands)
+    if is_class(word) {
+        return follow_class(alloc, word, args, stands);
+    }
+    follow_counted(alloc, word, &first, stands)
 }
 
 /// Follows a line, given without its line feed.
@@ -488,10 +518,8 @@ pub(crate) fn read_line(alloc: Global, line: &[u8], stands: &mut Stands) -> Resu
     ensures ok { IfOk result (λ step. TellsStep (words line.now) (standing stands.old) (standing stands.new) step) }
     ensures err { IfErr result (λ e. TellsLineFault (fault (words line.now) (standing stands.old)) e) }
 {
-    let Ok(found) = split_words(alloc, line) else {
-        return Err(LineFault::NoMemory);
-    };
-    let Some((first, args)) = found.split_first() else {
+    let mut args = WordsLeft::of(line);
+    let Some(first) = args.next() else {
         return Err(LineFault::Is(FaultKind::UnknownWord));
     };
     let Some(word) = line_word(first) else {

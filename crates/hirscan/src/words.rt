@@ -1,17 +1,22 @@
 // What a word of a line says by itself.
-ghost use Rattle.std.specs.Prelude.{◌≡◌, ◌+◌, ◌==◌, ◌<◌, ◌≤◌, ◌∷◌, ◌++◌, length, map, reverse, nat_lt, nat_le, Some, None, IfOk, IfErr, OnOk};
+ghost use Rattle.std.specs.Prelude.{◌≡◌, ℕ, List, ◌+◌, ◌==◌, ◌<◌, ◌≤◌, ◌∷◌, ◌++◌, ◌&&◌, ◌||◌, true, false, [], length, map, reverse, nat_lt, nat_le, Some, None, IfOk, IfErr, OnOk};
 ghost use Rattle.std.specs.List.{list_all, position};
 ghost use Rattle.hir_core.specs.Means.{is_member};
-ghost use Rattle.hirscan.specs.Words.{is_scalar, with_byte, with_range, class_ranges, scalar_ranges};
+ghost use Rattle.hirscan.specs.Words.{is_scalar, with_byte, with_range, is_covered, AreLowEnds, class_ranges, scalar_ranges};
 ghost use Rattle.hirscan.specs.Readers.{line_word, setting_word, tree_word, number, bound, order, switch, yes_or_no, hex_bytes, hex_byte, item_ends, the_ends, hex_number, hex_ends, the_hex_ends, anchor_named, word_look_named, look_named, word_at};
 ghost use Rattle.hirscan.specs.LineFault.{unless_read, item_fault, scalar_item_fault, byte_fault, first_of};
-ghost use Rattle.hirscan.specs.Tells.{texts, TellsLineFault};
+ghost use Rattle.hirscan.specs.Tells.{texts, words_left, TellsLineFault};
 ghost use Rattle.hirscan.specs.declared.fault.FaultKind.TheVariants.{BadHex};
 
 use crate::fault::{FaultKind, LineFault};
+use crate::split::WordsLeft;
 use hex::{FromHex, FromHexError};
 use look_core::Look;
 use std::alloc::{AllocError, Global};
+use std::marker::Model;
+
+/// As many items of a class of scalars are read before their ranges take their place.
+const MANY_ITEMS: usize = 1 << 22;
 
 /// The lines of the notation, by their first word.
 #[derive(Clone, Copy, Debug)]
@@ -224,20 +229,54 @@ fn item(word: &[u8]) -> Result<(u8, u8), FaultKind>
     }
 }
 
-/// The items of a class in the order of the words.
-pub(crate) fn items(alloc: Global, words: &[&[u8]]) -> Result<Vec<(u8, u8)>, LineFault>
-    ensures ok { IfOk result (λ items. (first_of (map item_fault (texts words.now)) ≡ None)
-        × (items.items ≡ map the_ends (texts words.now))) }
-    ensures err { IfErr result (λ e. TellsLineFault (first_of (map item_fault (texts words.now))) e) }
+/// For each byte the least low end of the items of a class that end there, and 256 where none does. A byte is in an item where one
+/// of these, its own or that of a greater byte, isn't above it.
+#[derive(Clone, Copy)]
+pub(crate) struct LowEnds {
+    lows: [u16; 256],
+}
+
+impl Model for LowEnds {
+    ghost use Rattle.std.specs.Prelude.{List, ℕ};
+
+    ghost Value = { List ℕ };
+
+    ghost view = { λ s. s.lows };
+
+    ghost inverse = { λ v. record { lows = v } };
+}
+
+impl LowEnds {
+    /// The ends of no item.
+    fn none() -> LowEnds
+        ensures { (b : ℕ) → b < 256 → is_covered result b ≡ false }
+    {
+        LowEnds { lows: [256; 256] }
+    }
+
+    /// Adds an item of these ends.
+    fn add(&mut self, low: u8, high: u8)
+        ensures { (b : ℕ) → is_covered self.new b ≡ (nat_le low b && nat_le b high) || is_covered self.old b }
+    {
+        let end = usize::from(high);
+        self.lows[end] = self.lows[end].min(u16::from(low));
+    }
+}
+
+/// The ends of the items of a class.
+pub(crate) fn low_ends(words: WordsLeft) -> Result<LowEnds, LineFault>
+    ensures ok { IfOk result (λ ends. (first_of (map item_fault (words_left words.entry)) ≡ None)
+        × AreLowEnds (map the_ends (words_left words.entry)) ends) }
+    ensures err { IfErr result (λ e. TellsLineFault (first_of (map item_fault (words_left words.entry))) e) }
 {
-    let mut items = Vec::new(alloc);
+    let mut ends = LowEnds::none();
     for word in words {
         match item(word) {
-            Ok(ends) => items.push(ends).map_err(|_| LineFault::NoMemory)?,
+            Ok((low, high)) => ends.add(low, high),
             Err(kind) => return Err(LineFault::Is(kind)),
         }
     }
-    Ok(items)
+    Ok(ends)
 }
 
 /// Puts a byte before the ranges, which are there from the last to the first.
@@ -256,20 +295,16 @@ fn put_byte(ranges: &mut Vec<(u8, u8)>, b: u8) -> Result<(), AllocError>
     Ok(())
 }
 
-fn is_member(items: &[(u8, u8)], b: u8) -> bool
-    ensures { result ≡ is_member items.now b }
-{
-    items.iter().any(|item| item.0 <= b && b <= item.1)
-}
-
 /// The ranges of the bytes that are in an item, ascending and each as long as it can be.
-pub(crate) fn class_ranges(alloc: Global, items: &[(u8, u8)]) -> Result<Vec<(u8, u8)>, AllocError>
-    ensures { IfOk result (λ ranges. ranges.items ≡ class_ranges items.now) }
+pub(crate) fn class_ranges(alloc: Global, ends: &LowEnds) -> Result<Vec<(u8, u8)>, AllocError>
+    ensures { (items : List (ℕ × ℕ)) → AreLowEnds items ends.now → IfOk result (λ ranges. ranges.items ≡ class_ranges items) }
 {
     let mut ranges = Vec::new(alloc);
+    let mut low = 256u16; // the least of the low ends that were met
     for code in (0..256usize).rev() {
         let b = code as u8;
-        if is_member(items, b) {
+        low = low.min(ends.lows[code]);
+        if low <= u16::from(b) {
             put_byte(&mut ranges, b)?;
         }
     }
@@ -321,22 +356,6 @@ fn scalar_item(word: &[u8]) -> Result<(char, char), FaultKind>
         (Some(low), Some(high)) if low <= high => Ok((low, high)),
         _ => Err(FaultKind::BadRange),
     }
-}
-
-/// The items of a class of scalars in the order of the words.
-pub(crate) fn scalar_items(alloc: Global, words: &[&[u8]]) -> Result<Vec<(char, char)>, LineFault>
-    ensures ok { IfOk result (λ items. (first_of (map scalar_item_fault (texts words.now)) ≡ None)
-        × (items.items ≡ map the_hex_ends (texts words.now))) }
-    ensures err { IfErr result (λ e. TellsLineFault (first_of (map scalar_item_fault (texts words.now))) e) }
-{
-    let mut items = Vec::new(alloc);
-    for word in words {
-        match scalar_item(word) {
-            Ok(ends) => items.push(ends).map_err(|_| LineFault::NoMemory)?,
-            Err(kind) => return Err(LineFault::Is(kind)),
-        }
-    }
-    Ok(items)
 }
 
 /// Whether some number stands between the end of a range and the start of a later one.
@@ -419,27 +438,74 @@ fn are_in_order(items: &[(char, char)]) -> bool
 /// The items in an order in which each is put before all others. The ranges are the same in any order,
 /// where the items have their low ends first.
 #[tactic(auto, using(crate::proofs::AnyOrderLemmas::any_order))]
-fn sorted(alloc: Global, items: &[(char, char)]) -> Result<Vec<(char, char)>, AllocError>
-    ensures { IfOk result (λ sorted. scalar_ranges sorted.items ≡ scalar_ranges items.now) }
+fn sorted(mut items: Vec<(char, char)>) -> Vec<(char, char)>
+    ensures { scalar_ranges result.items ≡ scalar_ranges items.items }
 {
-    let mut sorted: Vec<(char, char)> = items.iter().copied().collect(alloc)?;
-    if !are_in_order(items) {
-        return Ok(sorted);
+    if are_in_order(&items) {
+        items.sort_unstable();
     }
-    sorted.sort_unstable();
-    Ok(sorted)
+    items
 }
 
 /// The ranges of the scalars that are in an item, ascending and each as long as it can be.
 pub(crate) fn scalar_ranges(
     alloc: Global,
-    items: &[(char, char)],
+    items: Vec<(char, char)>,
 ) -> Result<Vec<(char, char)>, AllocError>
-    ensures { IfOk result (λ ranges. ranges.items ≡ scalar_ranges items.now) }
+    ensures { IfOk result (λ ranges. ranges.items ≡ scalar_ranges items.items) }
 {
-    let sorted = sorted(alloc, items)?;
+    let sorted = sorted(items);
     let ranges = put_ranges(alloc, &sorted)?;
     Ok(ranges)
+}
+
+/// The items, or their ranges where there are many. Scalars have at most half a million ranges, so that most of many go.
+fn compact(alloc: Global, items: Vec<(char, char)>) -> Result<Vec<(char, char)>, AllocError>
+    requires { list_all (λ r. nat_le r.0 r.1) items.items ≡ true }
+    ensures in_order { IfOk result (λ found. list_all (λ r. nat_le r.0 r.1) found.items ≡ true) }
+    ensures members { IfOk result (λ found. (c : ℕ) → is_member found.items c ≡ is_member items.items c) }
+{
+    if items.len() < MANY_ITEMS {
+        return Ok(items);
+    }
+    let ranges = scalar_ranges(alloc, items)?;
+    Ok(ranges)
+}
+
+/// Adds an item, with others made less where they are many.
+fn put_item(
+    alloc: Global,
+    others: Vec<(char, char)>,
+    item: (char, char),
+) -> Result<Vec<(char, char)>, AllocError>
+    requires others { list_all (λ r. nat_le r.0 r.1) others.items ≡ true }
+    requires item { item.0 ≤ item.1 }
+    ensures in_order { IfOk result (λ items. list_all (λ r. nat_le r.0 r.1) items.items ≡ true) }
+    ensures members { IfOk result (λ items. (c : ℕ) → is_member items.items c ≡ is_member others.items c || is_member (item ∷ []) c) }
+{
+    let mut items = compact(alloc, others)?;
+    items.push(item)?;
+    Ok(items)
+}
+
+/// Items with the ranges of those of the words.
+pub(crate) fn scalar_items(alloc: Global, words: WordsLeft) -> Result<Vec<(char, char)>, LineFault>
+    ensures ok { IfOk result (λ items. (first_of (map scalar_item_fault (words_left words.entry)) ≡ None)
+        × (scalar_ranges items.items ≡ scalar_ranges (map the_hex_ends (words_left words.entry)))) }
+    ensures err { IfErr result (λ e. TellsLineFault (first_of (map scalar_item_fault (words_left words.entry))) e) }
+{
+    let mut items = Vec::new(alloc);
+    for word in words {
+        let item = match scalar_item(word) {
+            Ok(item) => item,
+            Err(kind) => return Err(LineFault::Is(kind)),
+        };
+        items = match put_item(alloc, items, item) {
+            Ok(items) => items,
+            Err(_) => return Err(LineFault::NoMemory),
+        };
+    }
+    Ok(items)
 }
 
 /// The look of an edge of the haystack or of a line with this name.
