@@ -95,8 +95,11 @@ pub mod TriePathLemmas
 pub mod ShrunkLemmas
 pub mod LiteralGroupLemmas
 pub mod LiteralNodeLemmas
+pub mod LiteralLaidLemmas
 pub mod LiteralPartLemmas
 pub mod LiteralStateLemmas
+pub mod LiteralStemLemmas
+pub mod LiteralTextLemmas
 pub mod LiteralTreeLemmas
 pub mod LiteralTrieLemmas
 mod LookLemmas

@@ -30,6 +30,9 @@ pub mod Utf8Compiles
 pub mod ClassTries
 pub mod LiteralGroups
 pub mod LiteralTries
+pub mod LiteralStems
+pub mod LiteralLaid
 pub mod LiteralStates
+pub mod LiteralTexts
 pub mod LiteralParts
 pub mod Directions

@@ -15,6 +15,8 @@ mod leaves;
 mod literal_groups;
 mod literal_nodes;
 mod literal_states;
+mod literal_stems;
+mod literal_texts;
 mod literal_trie;
 mod literals;
 mod parts;
