@@ -68,6 +68,7 @@ pub mod FinishLemmas
 pub mod CallLemmas
 pub mod CoverLemmas
 pub mod InsertLemmas
+pub mod NodeCopyLemmas
 pub mod NodeLemmas
 pub mod SequenceOrder
 pub mod SlotLemmas

@@ -20,6 +20,7 @@ pub mod RangeWalks
 pub mod TrieNodes
 pub mod RangeCovers
 pub mod TrieSteps
+pub mod NodeCopies
 pub mod ScalarCounts
 pub mod Room
 pub mod AsciiClasses

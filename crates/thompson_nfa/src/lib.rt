@@ -22,6 +22,7 @@ mod literals;
 mod parts;
 mod patterns;
 mod prefix;
+mod range_copy;
 mod range_cover;
 mod range_insert;
 mod range_trie;
