@@ -1,12 +1,12 @@
 -- The nodes of a trie of strings: what one more node adds.
-use Rattle.std.proofs.Common.{◌≡◌, ℕ, zero, suc, ◌+◌, ◌-◌, ◌*◌, ◌<◌, ◌≤◌, List, [], ◌∷◌, ◌++◌, map, length, drop, get_or, nat_eq, refl, sym, ap, ◌∙◌, subst, arith, length-append, ⊎_elim}
+use Rattle.std.proofs.Common.{◌≡◌, ℕ, zero, suc, ◌+◌, ◌-◌, ◌<◌, ◌≤◌, List, [], ◌∷◌, ◌++◌, map, length, drop, get_or, nat_eq, refl, sym, ap, ◌∙◌, subst, arith, length-append, ⊎_elim}
 use Rattle.std.proofs.lemmas.Bool.{cases_lt}
-use Rattle.std.proofs.lemmas.List.{map-append, get_or-map, drop-map, drop-append-le, length-map}
+use Rattle.std.proofs.lemmas.List.{map-append, drop-append-le, length-map}
 use Rattle.std.proofs.Math.Seq.{drop-nil}
 use denote.Ref.{Bor}
 use Rattle.nfa_core.specs.Walks.{distinct}
 use Rattle.thompson_nfa.specs.declared.literal_groups.Edge.{Edge}
-use Rattle.thompson_nfa.specs.LiteralGroups.{texts, groups_of, bytes_in, bytes_in_all, AllSome, AddsGroups}
+use Rattle.thompson_nfa.specs.LiteralGroups.{texts, groups_of, bytes_in, bytes_in_all, AllSome}
 use Rattle.thompson_nfa.specs.LiteralLaid.{NodeValue, no_node, weight, weight_in_all, HasStrings, LaysNode, IsTrie}
 use Rattle.thompson_nfa.specs.LiteralStems.{BeginAll, without, behind_text}
 use Rattle.thompson_nfa.specs.LiteralTries.{ends_of, edges_in, IsNode}

@@ -1,7 +1,6 @@
 -- The nodes of a trie of strings: what one more item adds to a node.
-use Rattle.std.proofs.Common.{◌≡◌, inl, inr, ℕ, zero, suc, ◌+◌, ◌-◌, ◌*◌, ◌<◌, ◌≤◌, max, Bool, true, false, List, [], ◌∷◌, ◌++◌, length, take, drop, get_or, Option, Some, None, nat_eq, ◌&&◌, ◌||◌, ◌==◌, if◌then◌else◌, refl, sym, ap, ◌∙◌, subst, arith, length-append, replicate, append_assoc, append-nil, drop-cons, drop_of_length-le, ⊎_elim}
-use Rattle.std.proofs.lemmas.Bool.{cases_lt}
-use Rattle.std.proofs.lemmas.List.{length-replicate, map-append, get_or-map}
+use Rattle.std.proofs.Common.{◌≡◌, inl, inr, ℕ, zero, suc, ◌+◌, ◌*◌, ◌≤◌, max, Bool, true, false, List, [], ◌∷◌, ◌++◌, length, take, drop, get_or, Option, Some, None, nat_eq, ◌&&◌, ◌||◌, ◌==◌, if◌then◌else◌, refl, sym, ap, ◌∙◌, subst, arith, length-append, replicate, append_assoc, append-nil, drop-cons, drop_of_length-le}
+use Rattle.std.proofs.lemmas.List.{length-replicate}
 use Rattle.std.proofs.lemmas.Grind.{common_steps}
 use Rattle.std.proofs.lemmas.Option.{slice_get_cases}
 use Rattle.std.specs.List.{starts_with}
@@ -9,9 +8,9 @@ use denote.Ref.{Bor}
 use Rattle.hir_core.specs.Means.{stands}
 use Rattle.nfa_core.specs.Walks.{has, join, distinct}
 use Rattle.thompson_nfa.specs.declared.literal_groups.Edge.{Edge}
-use Rattle.thompson_nfa.specs.LiteralGroups.{texts, groups_of, tails, run_of, behind_byte, chunk_strings, Ascends, AreInside, bytes_in, bytes_in_all, AllSome, IsChunk, AddsGroups}
+use Rattle.thompson_nfa.specs.LiteralGroups.{texts, tails, run_of, behind_byte, chunk_strings, Ascends, AreInside, bytes_in, bytes_in_all, AllSome, IsChunk, AddsGroups}
 use Rattle.thompson_nfa.specs.LiteralTries.{ends_of, IsLike, item_strings, node_strings, edges_in, chunks_in, AreChunks}
-use Rattle.thompson_nfa.proofs.LiteralGroupLemmas.{group_count, all_some_append, chunk_kept, inside_wider, all_bytes_append}
+use Rattle.thompson_nfa.proofs.LiteralGroupLemmas.{all_some_append, chunk_kept, inside_wider}
 
 -- ---- ends
 

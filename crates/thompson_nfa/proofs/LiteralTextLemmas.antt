@@ -1,5 +1,5 @@
 -- The states of a text: what one more byte adds before it.
-use Rattle.std.proofs.Common.{◌≡◌, inl, inr, ℕ, ◌+◌, ◌*◌, ◌<◌, ◌≤◌, Bool, List, [], ◌∷◌, length, drop, get_or, ◌-◌, length-drop, None, refl, sym, ap, ◌∙◌, subst, arith, ⊎_elim, true, drop_of_length-le}
+use Rattle.std.proofs.Common.{◌≡◌, inl, inr, ℕ, ◌+◌, ◌<◌, ◌≤◌, List, [], ◌∷◌, length, drop, get_or, ◌-◌, length-drop, None, refl, sym, ap, ◌∙◌, subst, arith, ⊎_elim, true, drop_of_length-le}
 use Rattle.std.proofs.lemmas.Bool.{cases_lt}
 use Rattle.std.proofs.lemmas.List.{drop_more}
 use Rattle.nfa_core.specs.BuilderStates.{Assembly, part_at, range_part}

@@ -15,9 +15,8 @@ use Rattle.thompson_nfa.specs.Denotes.{Denotes}
 use Rattle.thompson_nfa.specs.LiteralGroups.{bytes_in}
 use Rattle.thompson_nfa.specs.LiteralStates.{AddsNode, literals, IsLed, item_trees}
 use Rattle.thompson_nfa.specs.LiteralLaid.{NodeValue, no_node, weight, weight_in_all, HasStrings, IsTrie}
-use Rattle.thompson_nfa.specs.LiteralStems.{behind_text}
 use Rattle.thompson_nfa.specs.LiteralTexts.{AddsText}
-use Rattle.thompson_nfa.specs.LiteralTries.{edges_in, chunks_in, AreChunks, IsNode}
+use Rattle.thompson_nfa.specs.LiteralTries.{edges_in, chunks_in, AreChunks}
 use Rattle.thompson_nfa.specs.Refusals.{Quits}
 use Rattle.thompson_nfa.specs.declared.literal_groups.Edge.{Edge}
 use Rattle.hir_core.specs.Tree.{Tree, alternation}

@@ -1,8 +1,8 @@
 -- The items of a node of a trie of strings, in order of preference: edges by bytes, or a match.
-use Rattle.std.specs.Prelude.{◌≡◌, ℕ, suc, ◌+◌, ◌*◌, ◌<◌, ◌≤◌, List, [], ◌∷◌, ◌++◌, length, get_or, nat_eq, if◌then◌else◌}
+use Rattle.std.specs.Prelude.{◌≡◌, ℕ, suc, ◌+◌, ◌*◌, ◌≤◌, List, [], ◌∷◌, ◌++◌, length, nat_eq, if◌then◌else◌}
 use Rattle.hir_core.specs.Means.{stands}
 use Rattle.nfa_core.specs.Walks.{distinct}
-use Rattle.thompson_nfa.specs.LiteralGroups.{chunk_strings, Ascends, AreInside, bytes_in}
+use Rattle.thompson_nfa.specs.LiteralGroups.{chunk_strings, Ascends, AreInside}
 use Rattle.thompson_nfa.specs.declared.literal_groups.Edge.{Edge}
 
 -- where the strings end that stand at the place, in order

@@ -1,4 +1,4 @@
-use Rattle.std.proofs.Common.{[], get_or, length, arith}
+use Rattle.std.proofs.Common.{[], arith}
 use Rattle.thompson_nfa.proofs.LiteralStemLemmas.{begins_long_at}
 use Rattle.thompson_nfa.proofs.literal_stems.behind_stem.Goals as goal
 

@@ -1,8 +1,7 @@
 -- Each edge leads to an earlier node, and its copy stands next.
-use Rattle.std.proofs.Common.{◌≡◌, ◌<◌, length, get_or, arith, subst, refl, sym, ap, ◌∙◌}
-use Rattle.thompson_nfa.specs.declared.trie_nodes.Edge.{Edge}
+use Rattle.std.proofs.Common.{◌<◌, length, get_or, arith, subst, refl, sym, ap, ◌∙◌}
 use Rattle.thompson_nfa.specs.declared.trie_nodes.Next.{Next}
-use Rattle.thompson_nfa.specs.declared.trie_nodes.Next.TheVariants.{Nothing, Node}
+use Rattle.thompson_nfa.specs.declared.trie_nodes.Next.TheVariants.{Nothing}
 use Rattle.thompson_nfa.specs.TrieNodes.{below, IsInside}
 use Rattle.thompson_nfa.specs.RangeCovers.{edge_of}
 use Rattle.thompson_nfa.specs.RangeWalks.{depth_of}
