@@ -28,7 +28,7 @@ pub struct RangeTrie {
 }
 
 /// How many edges a trie may have in any case.
-const LEAST: usize = 65536;
+const LEAST: usize = 262144;
 
 impl Model for RangeTrie {
     ghost use Rattle.std.specs.Prelude.{ℕ, List, length};
@@ -73,7 +73,7 @@ impl RangeTrie {
         }
         let root = keep_below(&mut self.nodes, self.alloc, self.root)?;
         self.root = root;
-        self.most = self.nodes.size().saturating_mul(2).max(LEAST);
+        self.most = self.nodes.size().saturating_mul(4).max(LEAST);
         Ok(())
     }
 
