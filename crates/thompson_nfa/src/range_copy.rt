@@ -38,8 +38,9 @@ fn copy_below(
     if let Next::Node(made) = names[number] {
         return Ok(Next::Node(made));
     }
-    let mut edges = Vec::new(alloc);
-    for edge in nodes.edges(number) {
+    let old = nodes.edges(number);
+    let mut edges = Vec::with_capacity(alloc, old.len())?;
+    for edge in old {
         let next = copy_below(nodes, alloc, edge.next, copy, names)?;
         edges.push(Edge {
             range: edge.range,

@@ -7,4 +7,4 @@ abbrev pub decreases-copy_below : goal.decreases-copy_below
 decreases-copy_below l = depth_of l.next
 
 abbrev pub invariant-loop-edge : goal.invariant-loop-edge
-invariant-loop-edge l = IsCopying l.nodes l.fn.copy l.copy l.names.items (take l.edge-index l.edge-items) l.edges.items
+invariant-loop-edge l = IsCopying l.nodes l.fn.copy l.copy l.names.items (take l.edge-index l.old) l.edges.items
