@@ -23,7 +23,7 @@ pub struct RangeTrie {
     alloc: Global,
     nodes: Nodes,
     root: Next,
-    /// How many edges there may be before those that the root doesn't come to are given up.
+    /// How many edges there may be before the nodes to which the root doesn't come are given up.
     most: usize,
 }
 
