@@ -68,6 +68,7 @@ pub mod FinishLemmas
 pub mod CallLemmas
 pub mod CoverLemmas
 pub mod InsertLemmas
+pub mod NodeCopyLemmas
 pub mod NodeLemmas
 pub mod SequenceOrder
 pub mod SlotLemmas
@@ -95,8 +96,11 @@ pub mod TriePathLemmas
 pub mod ShrunkLemmas
 pub mod LiteralGroupLemmas
 pub mod LiteralNodeLemmas
+pub mod LiteralLaidLemmas
 pub mod LiteralPartLemmas
 pub mod LiteralStateLemmas
+pub mod LiteralStemLemmas
+pub mod LiteralTextLemmas
 pub mod LiteralTreeLemmas
 pub mod LiteralTrieLemmas
 mod LookLemmas

@@ -1,7 +1,6 @@
 -- The nodes of a trie of strings: what one more item adds to a node.
-use Rattle.std.proofs.Common.{◌≡◌, inl, inr, ℕ, zero, suc, ◌+◌, ◌-◌, ◌*◌, ◌<◌, ◌≤◌, max, Bool, true, false, List, [], ◌∷◌, ◌++◌, length, take, drop, get_or, Option, Some, None, nat_eq, ◌&&◌, ◌||◌, ◌==◌, if◌then◌else◌, refl, sym, ap, ◌∙◌, subst, arith, length-append, replicate, append_assoc, append-nil, drop-cons, drop_of_length-le, ⊎_elim}
-use Rattle.std.proofs.lemmas.Bool.{cases_lt}
-use Rattle.std.proofs.lemmas.List.{length-replicate, map-append, get_or-map}
+use Rattle.std.proofs.Common.{◌≡◌, inl, inr, ℕ, zero, suc, ◌+◌, ◌*◌, ◌≤◌, max, Bool, true, false, List, [], ◌∷◌, ◌++◌, length, take, drop, get_or, Option, Some, None, nat_eq, ◌&&◌, ◌||◌, ◌==◌, if◌then◌else◌, refl, sym, ap, ◌∙◌, subst, arith, length-append, replicate, append_assoc, append-nil, drop-cons, drop_of_length-le}
+use Rattle.std.proofs.lemmas.List.{length-replicate}
 use Rattle.std.proofs.lemmas.Grind.{common_steps}
 use Rattle.std.proofs.lemmas.Option.{slice_get_cases}
 use Rattle.std.specs.List.{starts_with}
@@ -9,9 +8,9 @@ use denote.Ref.{Bor}
 use Rattle.hir_core.specs.Means.{stands}
 use Rattle.nfa_core.specs.Walks.{has, join, distinct}
 use Rattle.thompson_nfa.specs.declared.literal_groups.Edge.{Edge}
-use Rattle.thompson_nfa.specs.LiteralGroups.{texts, groups_of, tails, run_of, behind_byte, chunk_strings, Ascends, AreInside, bytes_in, bytes_in_all, AllSome, IsChunk, AddsGroups}
-use Rattle.thompson_nfa.specs.LiteralTries.{ends_of, IsLike, item_strings, node_strings, edges_in, edges_in_all, chunks_in, AreChunks, IsNode, IsTrie}
-use Rattle.thompson_nfa.proofs.LiteralGroupLemmas.{group_count, all_some_append, chunk_kept, inside_wider, all_bytes_append}
+use Rattle.thompson_nfa.specs.LiteralGroups.{texts, tails, run_of, behind_byte, chunk_strings, Ascends, AreInside, bytes_in, bytes_in_all, AllSome, IsChunk, AddsGroups}
+use Rattle.thompson_nfa.specs.LiteralTries.{ends_of, IsLike, item_strings, node_strings, edges_in, chunks_in, AreChunks}
+use Rattle.thompson_nfa.proofs.LiteralGroupLemmas.{all_some_append, chunk_kept, inside_wider}
 
 -- ---- ends
 
@@ -406,7 +405,7 @@ some_taken [] n a b = absurd (omega arith)
 some_taken (x ∷ xs) zero a b = absurd (omega arith)
 some_taken (x ∷ xs) (suc n) a b = omega arith
 
-texts_long : (xs : List (Bor (List ℕ))) → length (texts xs) ≡ length xs
+pub texts_long : (xs : List (Bor (List ℕ))) → length (texts xs) ≡ length xs
 texts_long [] = refl
 texts_long (x ∷ xs) = ap (λ (n : ℕ). suc n) (texts_long xs)
 
@@ -433,169 +432,3 @@ module _ (first : ℕ) (old new : List (List (List ℕ))) (items : List (List Ed
   chunk_turn more items2 edges ne is adds chunk =
       let w = some_text (get_or (take n rest) 0 d).now (is_some (length (get_or (take n rest) 0 d).now) ne) in
       chunk_next first old new items (texts rest) matched all so_far more items2 edges (texts (take n rest)) (texts (take m (drop n rest))) turn w.0 w.1 (here ∙ w.2) one is adds chunk
-
--- ---- all nodes
-
-got_before : (gs hs : List (List (List ℕ))) (k : ℕ) → k < length gs → get_or (gs ++ hs) k [] ≡ get_or gs k []
-got_before [] hs k l = absurd (omega arith)
-got_before (g ∷ gs) hs zero l = refl
-got_before (g ∷ gs) hs (suc k) l = got_before gs hs k (omega arith)
-
-got_node : (gs hs : List (List (List Edge))) (k : ℕ) → k < length gs → get_or (gs ++ hs) k [] ≡ get_or gs k []
-got_node [] hs k l = absurd (omega arith)
-got_node (g ∷ gs) hs zero l = refl
-got_node (g ∷ gs) hs (suc k) l = got_node gs hs k (omega arith)
-
-last_node : (gs : List (List (List Edge))) (g : List (List Edge)) (k : ℕ) → k ≡ length gs → get_or (gs ++ g ∷ []) k [] ≡ g
-last_node [] g k e = ap (λ (n : ℕ). get_or (g ∷ []) n []) e
-last_node (x ∷ gs) g zero e = absurd (omega arith)
-last_node (x ∷ gs) g (suc k) e = last_node gs g k (omega arith)
-
--- the nodes of the first groups; the other groups wait
-pub record NodesTo (nodes : List (List (List Edge))) (groups : List (List (List ℕ))) (strings : List (List ℕ)) : Type 0 where
-  pub within : length nodes ≤ length groups
-  pub some : 1 ≤ length groups
-  pub filled : AllSome groups
-  pub root : get_or groups 0 [] ≡ strings
-  pub each : (i : ℕ) → i < length nodes → IsNode (i + 1) groups (get_or nodes i []) (get_or groups i [])
-  pub room : edges_in_all nodes + bytes_in_all (drop (length nodes) groups) ≤ bytes_in strings
-
--- groups that are added later don't matter
-node_kept : (first less : ℕ) (groups more : List (List (List ℕ))) (items : List (List Edge)) (strings : List (List ℕ)) → less ≤ first → IsNode first groups items strings → IsNode less (groups ++ more) items strings
-node_kept first less groups more items strings le node = record {
-  like = λ h i. ap (λ (l : List (List ℕ)). distinct nat_eq (ends_of l h i)) (strings_kept groups more first (length groups) items node.chunks (omega arith)) ∙ node.like h i;
-  chunks = are_wider first (length groups) less (length (groups ++ more)) items node.chunks le (omega (arith, length-append groups more));
-  some = node.some;
-  few = node.few;
-}
-
-node_first : (first less : ℕ) (groups : List (List (List ℕ))) (items : List (List Edge)) (strings : List (List ℕ)) → less ≤ first → IsNode first groups items strings → IsNode less groups items strings
-node_first first less groups items strings le node = record { like = node.like; chunks = are_wider first (length groups) less (length groups) items node.chunks le (omega arith); some = node.some; few = node.few }
-
-edges_push : (nodes : List (List (List Edge))) (items : List (List Edge)) → edges_in_all (nodes ++ items ∷ []) ≡ edges_in_all nodes + edges_in items
-edges_push [] items = omega arith
-edges_push (n ∷ nodes) items = omega (arith, edges_push nodes items)
-
-some_at : (groups : List (List (List ℕ))) (k : ℕ) → AllSome groups → k < length groups → 1 ≤ length (get_or groups k [])
-some_at [] k a l = absurd (omega arith)
-some_at (g ∷ groups) zero a l = a.0
-some_at (g ∷ groups) (suc k) a l = some_at groups k a.1 (omega arith)
-
--- a group at a place has a string
-pub some_here : {V : Type 0} (items_of : V → List (Bor (List ℕ))) (nodes : List (List (List Edge))) (groups : List V) (strings : List (List ℕ)) → NodesTo nodes (groups_of items_of groups) strings → (k : ℕ) → k < length groups →
-    (g : V) (row : List (Bor (List ℕ))) → g ≡ get_or groups k g → row ≡ items_of g → 1 ≤ length row
-some_here {V} items_of nodes groups strings so_far k less g row got is_row =
-    let texts_are : texts row ≡ get_or (groups_of items_of groups) k [] =
-    ap texts is_row ∙ ap (λ (v : V). texts (items_of v)) got ∙ sym (get_or-map (λ (v : V). texts (items_of v)) groups k g [] less) in
-    let some = some_at (groups_of items_of groups) k so_far.filled (omega (arith, group_count items_of groups, less)) in
-    omega (arith, ap length texts_are, texts_long row, some)
-
--- the groups that wait, where one of them is taken and others are added
-waiting : (groups fresh : List (List (List ℕ))) (k : ℕ) → k < length groups →
-    bytes_in_all (drop (k + 1) (groups ++ fresh)) + bytes_in (get_or groups k []) ≡ bytes_in_all (drop k groups) + bytes_in_all fresh
-waiting [] fresh k l = absurd (omega arith)
-waiting (g ∷ groups) fresh zero l = omega (arith, all_bytes_append groups fresh)
-waiting (g ∷ groups) fresh (suc k) l =
-    let P : ℕ → Type 0 = λ n. bytes_in_all (drop n (g ∷ groups ++ fresh)) + bytes_in (get_or groups k []) ≡ bytes_in_all (drop k groups) + bytes_in_all fresh in
-    let same : suc (k + 1) ≡ suc k + 1 = omega arith in
-    subst P same (waiting groups fresh k (omega arith))
-
-module _ (nodes : List (List (List Edge))) (groups : List (List (List ℕ))) (strings : List (List ℕ)) (so_far : NodesTo nodes groups strings) (k : ℕ) (at : k ≡ length nodes) (less : k < length groups)
-    (fresh : List (List (List ℕ))) (items : List (List Edge)) (adds : AddsGroups [] fresh (edges_in items) (get_or groups k [])) (node : IsNode (length groups) (groups ++ fresh) items (get_or groups k [])) where
-  fresh_count : length fresh ≡ edges_in items
-  fresh_count = omega (arith, ap length adds.is, adds.one_each)
-
-  -- a node's edges and the bytes of the new groups are paid for by its group's bytes
-  paid : edges_in items + bytes_in_all fresh ≤ bytes_in (get_or groups k [])
-  paid = omega (arith, fresh_count, adds.room)
-
-  wait : bytes_in_all (drop (k + 1) (groups ++ fresh)) + bytes_in (get_or groups k []) ≡ bytes_in_all (drop (length nodes) groups) + bytes_in_all fresh
-  wait = waiting groups fresh k less ∙ ap (λ (n : ℕ). bytes_in_all (drop n groups) + bytes_in_all fresh) at
-
-  long : length (nodes ++ items ∷ []) ≡ k + 1
-  long = omega (arith, length-append nodes (items ∷ []), at)
-
-  pub node_next : NodesTo (nodes ++ items ∷ []) (groups ++ fresh) strings
-  node_next = record {
-    within = omega (arith, long, length-append groups fresh);
-    some = omega (arith, length-append groups fresh);
-    filled = all_some_append groups fresh so_far.filled (let P : List (List (List ℕ)) → Type 0 = AllSome in subst P (sym adds.is) adds.some);
-    root = got_before groups fresh 0 (omega arith) ∙ so_far.root;
-    each = λ i l. ⊎_elim
-        (λ (h : i < length nodes).
-        let P : List (List Edge) → Type 0 = λ x. IsNode (i + 1) (groups ++ fresh) x (get_or (groups ++ fresh) i []) in
-        let Q : List (List ℕ) → Type 0 = λ g. IsNode (i + 1) (groups ++ fresh) (get_or nodes i []) g in
-        subst P (sym (got_node nodes (items ∷ []) i h)) (subst Q (sym (got_before groups fresh i (omega arith)))
-        (node_kept (i + 1) (i + 1) groups fresh (get_or nodes i []) (get_or groups i []) (omega arith) (so_far.each i h))))
-        (λ (h : length nodes ≤ i).
-        let same : k ≡ i = omega (arith, long) in
-        let P : ℕ → Type 0 = λ j. IsNode (j + 1) (groups ++ fresh) (get_or (nodes ++ items ∷ []) j []) (get_or (groups ++ fresh) j []) in
-        let Q : List (List Edge) → Type 0 = λ x. IsNode (k + 1) (groups ++ fresh) x (get_or (groups ++ fresh) k []) in
-        let R : List (List ℕ) → Type 0 = λ g. IsNode (k + 1) (groups ++ fresh) items g in
-        subst P same (subst Q (sym (last_node nodes items k at)) (subst R (sym (got_before groups fresh k less))
-        (node_first (length groups) (k + 1) (groups ++ fresh) items (get_or groups k []) (omega arith) node))))
-        (cases_lt i (length nodes));
-    room =
-        let same : drop (length (nodes ++ items ∷ [])) (groups ++ fresh) ≡ drop (k + 1) (groups ++ fresh) = ap (λ (n : ℕ). drop n (groups ++ fresh)) long in
-        omega (arith, ap bytes_in_all same, wait, paid, so_far.room, edges_push nodes items);
-  }
-
-  -- fewer bytes and groups wait
-  pub waits_less : length (groups ++ fresh) - length (nodes ++ items ∷ []) + bytes_in_all (drop (length (nodes ++ items ∷ [])) (groups ++ fresh)) < length groups - length nodes + bytes_in_all (drop (length nodes) groups)
-  waits_less =
-      let same : drop (length (nodes ++ items ∷ [])) (groups ++ fresh) ≡ drop (k + 1) (groups ++ fresh) = ap (λ (n : ℕ). drop n (groups ++ fresh)) long in
-      omega (arith, ap bytes_in_all same, wait, paid, long, at, fresh_count, length-append groups fresh)
-
-pub all_nodes : (nodes : List (List (List Edge))) (groups : List (List (List ℕ))) (strings : List (List ℕ)) → NodesTo nodes groups strings → length groups ≤ length nodes → IsTrie nodes strings
-all_nodes nodes groups strings all past = let w = all.within in let s = all.some in record {
-  groups = groups;
-  as_many = omega arith;
-  some = omega arith;
-  root = all.root;
-  each = all.each;
-  room = omega (arith, all.room);
-}
-
--- the group at the place is taken, and others are added
-module _ {V : Type 0} (items_of : V → List (Bor (List ℕ))) (nodes nodes2 : List (List (List Edge))) (groups fresh groups2 : List V) (strings : List (List ℕ)) (so_far : NodesTo nodes (groups_of items_of groups) strings)
-    (k n : ℕ) (less : k < length groups) (at : k ≡ length nodes) (is_n : n ≡ length groups) (g : V) (row : List (Bor (List ℕ))) (got : g ≡ get_or groups k g) (is_row : row ≡ items_of g) (none : List V) (is_none : none ≡ []) (items : List (List Edge))
-    (adds : AddsGroups (groups_of items_of none) (groups_of items_of fresh) (edges_in items) (texts row))
-    (node : (before : List (List (List ℕ))) → length before ≡ n → IsNode n (before ++ groups_of items_of fresh) items (texts row)) (e1 : nodes2 ≡ nodes ++ items ∷ []) (e2 : groups2 ≡ groups ++ fresh) where
-  abbrev pub gs : List (List (List ℕ))
-  gs = groups_of items_of groups
-
-  count : length gs ≡ n
-  count = group_count items_of groups ∙ sym is_n
-
-  text_is : texts row ≡ get_or gs k []
-  text_is = ap texts is_row ∙ ap (λ (v : V). texts (items_of v)) got ∙ sym (get_or-map (λ (v : V). texts (items_of v)) groups k g [] less)
-
-  node_here : IsNode (length gs) (gs ++ groups_of items_of fresh) items (get_or gs k [])
-  node_here =
-      let P : ℕ → Type 0 = λ m. IsNode m (gs ++ groups_of items_of fresh) items (get_or gs k []) in
-      let Q : List (List ℕ) → Type 0 = λ ws. IsNode n (gs ++ groups_of items_of fresh) items ws in
-      subst P (sym count) (subst Q text_is (node gs count))
-
-  adds_here : AddsGroups [] (groups_of items_of fresh) (edges_in items) (get_or gs k [])
-  adds_here = record {
-    added = adds.added;
-    is = adds.is ∙ ap (λ (vs : List V). groups_of items_of vs ++ adds.added) is_none;
-    one_each = adds.one_each;
-    some = adds.some;
-    room = omega (arith, adds.room, ap (λ (vs : List V). length (groups_of items_of vs) + bytes_in_all (groups_of items_of vs)) is_none, ap bytes_in text_is);
-  }
-
-  joined_groups : groups_of items_of groups2 ≡ gs ++ groups_of items_of fresh
-  joined_groups = ap (groups_of items_of) e2 ∙ map-append (λ (v : V). texts (items_of v)) groups fresh
-
-  pub taken_next : NodesTo nodes2 (groups_of items_of groups2) strings
-  taken_next =
-      let P : List (List (List Edge)) → Type 0 = λ ns. NodesTo ns (groups_of items_of groups2) strings in
-      let Q : List (List (List ℕ)) → Type 0 = λ hs. NodesTo (nodes ++ items ∷ []) hs strings in
-      subst P (sym e1) (subst Q (sym joined_groups) (node_next nodes gs strings so_far k at (omega (arith, count, is_n, less)) (groups_of items_of fresh) items adds_here node_here))
-
-  pub taken_less : length (groups_of items_of groups2) - length nodes2 + bytes_in_all (drop (length nodes2) (groups_of items_of groups2)) < length gs - length nodes + bytes_in_all (drop (length nodes) gs)
-  taken_less =
-      let P : List (List (List Edge)) → Type 0 = λ ns. length (groups_of items_of groups2) - length ns + bytes_in_all (drop (length ns) (groups_of items_of groups2)) < length gs - length nodes + bytes_in_all (drop (length nodes) gs) in
-      let Q : List (List (List ℕ)) → Type 0 = λ hs. length hs - length (nodes ++ items ∷ []) + bytes_in_all (drop (length (nodes ++ items ∷ [])) hs) < length gs - length nodes + bytes_in_all (drop (length nodes) gs) in
-      subst P (sym e1) (subst Q (sym joined_groups) (waits_less nodes gs strings so_far k at (omega (arith, count, is_n, less)) (groups_of items_of fresh) items adds_here node_here))

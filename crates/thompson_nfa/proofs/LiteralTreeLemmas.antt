@@ -9,6 +9,7 @@ use Rattle.hir_core.specs.Means.{Looks, Means, stands}
 use Rattle.hir_core.specs.PreferredEnds.{preferred_ends, Has as HasEnd}
 use Rattle.hir_core.specs.Tree.{Tree, empty, literal, alternation}
 use Rattle.hir_core.proofs.ForCallers.{Has-left, Has-right, Has-append, Has-if, Has-then, flat_map_same}
+use Rattle.nfa_core.specs.BuilderStates.{range_part}
 use Rattle.nfa_core.specs.Drafted.{Table}
 use Rattle.nfa_core.specs.Walks.{Has, distinct}
 use Rattle.nfa_core.specs.Ways.{Text}
@@ -19,11 +20,12 @@ use Rattle.thompson_nfa.specs.LiteralStates.{spelt_literal, literals, edge_range
 use Rattle.thompson_nfa.specs.LiteralTries.{ends_of, IsLike, item_strings, node_strings}
 use Rattle.thompson_nfa.specs.Shared.{read_then, branch_trees}
 use Rattle.thompson_nfa.specs.declared.literal_groups.Edge.{Edge}
-use Rattle.thompson_nfa.proofs.DenoteLemmas.{denotes_like}
+use Rattle.thompson_nfa.proofs.DenoteLemmas.{denotes_like, denotes_join, denotes_range}
 use Rattle.thompson_nfa.proofs.HaltLemmas.{halts_like}
 use Rattle.thompson_nfa.proofs.MeantLemmas.{meant_map}
 use Rattle.thompson_nfa.proofs.OrderLemmas.{orders_same_firsts}
 use Rattle.thompson_nfa.proofs.ReachLemmas.{reaches_like}
+use Rattle.thompson_nfa.proofs.SharedLemmas.{joins_read}
 use Rattle.thompson_nfa.proofs.SameLemmas.{same_literal_append, same_literal_one, same_literal_none}
 
 -- ---- loops: there are none
@@ -242,3 +244,10 @@ denotes_node back T s e names groups items strings like d =
     denotes_like_strings back T s e (node_strings groups items) strings like
     (denotes_like back T s e (alternation (item_trees back names (node_tree back groups) items)) (literals back (node_strings groups items))
     (λ f. items_read back names (node_tree back groups) items (λ n. literals_read back (get_or groups n []))) (λ looks h i. items_ends looks h back names groups items i) d)
+
+-- a byte, and then what is read behind it
+pub denotes_byte_then : (back : Bool) (T : Table) (s q e b : ℕ) (ws : List (List ℕ)) → T s ≡ range_part b b q → Denotes back T q e (literals back ws) → Denotes back T s e (literals back (behind_byte b ws))
+denotes_byte_then back T s q e b ws is d =
+    let both : Tree = read_then back (b, b) (literals back ws) in
+    denotes_like back T s e both (literals back (behind_byte b ws)) (λ f. read_reads back (b, b) (literals back ws) (literals_read back ws)) (λ looks h i. read_ends looks h back b ws i)
+    (denotes_join back T s q e (range_tree (b, b)) (literals back ws) both (joins_read back (b, b) (literals back ws)) (denotes_range back T s q b b is) d)

@@ -14,7 +14,9 @@ use Rattle.thompson_nfa.specs.Compiled.{Finished, ComesOut, Makes, Does, sum_of_
 use Rattle.thompson_nfa.specs.Denotes.{Denotes}
 use Rattle.thompson_nfa.specs.LiteralGroups.{bytes_in}
 use Rattle.thompson_nfa.specs.LiteralStates.{AddsNode, literals, IsLed, item_trees}
-use Rattle.thompson_nfa.specs.LiteralTries.{edges_in, edges_in_all, chunks_in, AreChunks, IsNode, IsTrie}
+use Rattle.thompson_nfa.specs.LiteralLaid.{NodeValue, no_node, weight, weight_in_all, HasStrings, IsTrie}
+use Rattle.thompson_nfa.specs.LiteralTexts.{AddsText}
+use Rattle.thompson_nfa.specs.LiteralTries.{edges_in, chunks_in, AreChunks}
 use Rattle.thompson_nfa.specs.Refusals.{Quits}
 use Rattle.thompson_nfa.specs.declared.literal_groups.Edge.{Edge}
 use Rattle.hir_core.specs.Tree.{Tree, alternation}
@@ -38,7 +40,7 @@ abbrev pub HasOthers : Assembly → Assembly → Table → Type 0
 HasOthers old mid table = (q : ℕ) → length old.parts < q → q < length mid.parts → table q ≡ part_at mid.parts q
 
 -- the nodes from number k on are compiled
-pub record TrieTo (old mid : Assembly) (end : ℕ) (nodes : List (List (List Edge))) (strings : List (List ℕ)) (names : List ℕ) (k : ℕ) : Type 0 where
+pub record TrieTo (old mid : Assembly) (end : ℕ) (nodes : List NodeValue) (strings : List (List ℕ)) (names : List ℕ) (k : ℕ) : Type 0 where
   pub trie : IsTrie nodes strings
   pub within : k ≤ length nodes
   pub end_is : end ≡ length old.parts
@@ -46,7 +48,7 @@ pub record TrieTo (old mid : Assembly) (end : ℕ) (nodes : List (List (List Edg
   pub groups : mid.groups ≡ old.groups
   pub here : part_at mid.parts end ≡ empty_part 0
   pub longer : length old.parts + 1 ≤ length mid.parts
-  pub states : length mid.parts ≤ length old.parts + 1 + 2 * edges_in_all (drop k nodes)
+  pub states : length mid.parts ≤ length old.parts + 1 + 2 * weight_in_all (drop k nodes)
   pub bytes : sum_of_bytes mid + 8 + 4096 * length old.parts ≤ sum_of_bytes old + 4096 * length mid.parts
   pub numbered : length mid.parts ≤ greatest_index + 1
   pub stands : (q : ℕ) → length old.parts < q → q < length mid.parts → stands_for (part_at mid.parts q) ≡ None
@@ -54,26 +56,20 @@ pub record TrieTo (old mid : Assembly) (end : ℕ) (nodes : List (List (List Edg
   pub names_there : All (IsThere old mid) names
   pub denotes : (table : Table) → HasOthers old mid table → (n : ℕ) → k ≤ n → n < length nodes → Denotes old.reverse table (get_or names n 0) end (literals old.reverse (get_or trie.groups n []))
 
-edges_behind : (nodes : List (List (List Edge))) (k : ℕ) → length nodes ≤ k → edges_in_all (drop k nodes) ≡ 0
-edges_behind [] zero l = refl
-edges_behind [] (suc k) l = refl
-edges_behind (n ∷ nodes) zero l = absurd (omega arith)
-edges_behind (n ∷ nodes) (suc k) l = edges_behind nodes k (omega arith)
-
-edges_from : (nodes : List (List (List Edge))) (k : ℕ) → k < length nodes → edges_in_all (drop k nodes) ≡ edges_in (get_or nodes k []) + edges_in_all (drop (k + 1) nodes)
-edges_from [] k l = absurd (omega arith)
-edges_from (n ∷ nodes) zero l = refl
-edges_from (n ∷ nodes) (suc k) l =
-    let P : ℕ → Type 0 = λ m. edges_in_all (drop k nodes) ≡ edges_in (get_or nodes k []) + edges_in_all (drop m (n ∷ nodes)) in
+weight_from : (nodes : List NodeValue) (k : ℕ) → k < length nodes → weight_in_all (drop k nodes) ≡ weight (get_or nodes k no_node) + weight_in_all (drop (k + 1) nodes)
+weight_from [] k l = absurd (omega arith)
+weight_from (n ∷ nodes) zero l = refl
+weight_from (n ∷ nodes) (suc k) l =
+    let P : ℕ → Type 0 = λ m. weight_in_all (drop k nodes) ≡ weight (get_or nodes k no_node) + weight_in_all (drop m (n ∷ nodes)) in
     let same : suc (k + 1) ≡ suc k + 1 = omega arith in
-    subst P same (edges_from nodes k (omega arith))
+    subst P same (weight_from nodes k (omega arith))
 
-edges_left : (nodes : List (List (List Edge))) (k : ℕ) → edges_in_all (drop k nodes) ≤ edges_in_all nodes
-edges_left nodes zero = omega arith
-edges_left [] (suc k) = omega arith
-edges_left (n ∷ nodes) (suc k) = omega (arith, edges_left nodes k)
+weight_left : (nodes : List NodeValue) (k : ℕ) → weight_in_all (drop k nodes) ≤ weight_in_all nodes
+weight_left nodes zero = omega arith
+weight_left [] (suc k) = omega arith
+weight_left (n ∷ nodes) (suc k) = omega (arith, weight_left nodes k)
 
-pub trie_begun : (old mid : Assembly) (end : ℕ) (nodes : List (List (List Edge))) (strings : List (List ℕ)) (names : List ℕ) (k : ℕ) → IsTrie nodes strings → Added old mid end (empty_part 0) old.groups → length names ≡ length nodes →
+pub trie_begun : (old mid : Assembly) (end : ℕ) (nodes : List NodeValue) (strings : List (List ℕ)) (names : List ℕ) (k : ℕ) → IsTrie nodes strings → Added old mid end (empty_part 0) old.groups → length names ≡ length nodes →
     All (λ q. q ≡ end) names → k ≡ length nodes → TrieTo old mid end nodes strings names k
 trie_begun old mid end nodes strings names k trie added long same past =
     let is = added.is in let size = added.size in
@@ -104,100 +100,135 @@ set_there P names k id all p n d l =
     (λ (ne : n ≡ k → ⊥). subst P (sym (get_or-set_other names k n id d ne)) (all n d m))
     (cases_eq n k)
 
-module _ (old mid new : Assembly) (end : ℕ) (nodes : List (List (List Edge))) (strings : List (List ℕ)) (names : List ℕ) (k : ℕ) (so_far : TrieTo old mid end nodes strings names (k + 1)) (less : k < length nodes) (items : List (List Edge))
-    (items_are : get_or nodes k [] ≡ items) where
+module _ (old mid : Assembly) (end : ℕ) (nodes : List NodeValue) (strings : List (List ℕ)) (names : List ℕ) (k : ℕ) (so_far : TrieTo old mid end nodes strings names (k + 1)) (less : k < length nodes) (node : NodeValue)
+    (node_is : get_or nodes k no_node ≡ node) where
   back_same : mid.reverse ≡ old.reverse
   back_same = ap (λ (b : Assembly). b.reverse) so_far.partly.grows.settings
 
-  node : IsNode (k + 1) so_far.trie.groups items (get_or so_far.trie.groups k [])
-  node = let P : List (List Edge) → Type 0 = λ x. IsNode (k + 1) so_far.trie.groups x (get_or so_far.trie.groups k []) in subst P items_are (so_far.trie.each k less)
+  has_strings : HasStrings (k + 1) so_far.trie.groups node (get_or so_far.trie.groups k [])
+  has_strings = let P : NodeValue → Type 0 = λ n. HasStrings (k + 1) so_far.trie.groups n (get_or so_far.trie.groups k []) in subst P node_is (so_far.trie.each k less)
 
-  pub node_some : 1 ≤ length items
-  node_some = node.some
+  pub node_some : 1 ≤ length node.items
+  node_some = has_strings.holds.some
 
-  pub node_few : length items ≤ 2 * chunks_in items + 1
-  node_few = node.few
+  pub node_few : length node.items ≤ 2 * chunks_in node.items + 1
+  node_few = has_strings.holds.few
 
-  pub node_chunks : AreChunks 0 (length names) items
-  node_chunks = are_wider (k + 1) (length so_far.trie.groups) 0 (length names) items node.chunks (omega arith) (omega (arith, so_far.names_long, so_far.trie.as_many))
+  pub node_chunks : AreChunks 0 (length names) node.items
+  node_chunks = are_wider (k + 1) (length so_far.trie.groups) 0 (length names) node.items has_strings.holds.chunks (omega arith) (omega (arith, so_far.names_long, so_far.trie.as_many))
 
   end_below : end < length mid.parts
   end_below = omega (arith, so_far.end_is, so_far.longer)
 
-  edges_now : edges_in_all (drop k nodes) ≡ edges_in items + edges_in_all (drop (k + 1) nodes)
-  edges_now = edges_from nodes k less ∙ ap (λ (x : List (List Edge)). edges_in x + edges_in_all (drop (k + 1) nodes)) items_are
+  weight_now : weight_in_all (drop k nodes) ≡ weight node + weight_in_all (drop (k + 1) nodes)
+  weight_now = weight_from nodes k less ∙ ap (λ (n : NodeValue). weight n + weight_in_all (drop (k + 1) nodes)) node_is
 
-  pub node_refused : (e : BuildError) → Quits mid new (2 * edges_in items) e → Quits old new (1 + 2 * bytes_in strings) e
-  node_refused e r =
-      let spent : Spent old mid (1 + 2 * edges_in_all (drop (k + 1) nodes)) = record {
+  pub node_refused : (new : Assembly) (e : BuildError) → Quits mid new (2 * edges_in node.items) e → Quits old new (1 + 2 * bytes_in strings) e
+  node_refused new e r =
+      let spent : Spent old mid (1 + 2 * weight_in_all (drop (k + 1) nodes)) = record {
         settings = so_far.partly.grows.settings;
         longer = so_far.partly.grows.longer;
         states = omega (arith, so_far.states);
         bytes = omega (arith, so_far.bytes);
       } in
-      quits_later (1 + 2 * bytes_in strings) spent r (omega (arith, edges_now, edges_left nodes k, so_far.trie.room))
+      quits_later (1 + 2 * bytes_in strings) spent r (omega (arith, weight_now, weight_left nodes k, so_far.trie.room))
 
-  module _ (id : ℕ) (adds : AddsNode mid new names end items id) (names2 : List ℕ) (names_are : names2 ≡ set names k id) where
-    grown : length mid.parts ≤ length new.parts
-    grown = adds.grows.longer
+  module _ (grown : Assembly) (id : ℕ) (adds : AddsNode mid grown names end node.items id) where
+    longer : length mid.parts ≤ length grown.parts
+    longer = adds.grows.longer
 
-    id_there : IsThere old new id
-    id_there = let a = so_far.end_is in let b = so_far.longer in let g = grown in
-        ⊎_elim (λ (e : id ≡ end). (omega arith, omega arith)) (λ (n : (length mid.parts ≤ id) × (id < length new.parts)). let l = n.0 in (omega arith, n.1)) adds.there
+    partly : Partly true old grown
+    partly = partly_joined so_far.partly (record { grows = adds.grows; tame = adds.tame })
 
-    older : (table : Table) → HasOthers old new table → HasOthers old mid table
-    older table has q l h = has q l (omega (arith, grown)) ∙ adds.grows.same q h
+    id_in : IsThere old grown id
+    id_in = let a = so_far.end_is in let b = so_far.longer in let g = longer in
+        ⊎_elim (λ (e : id ≡ end). (omega arith, omega arith)) (λ (n : (length mid.parts ≤ id) × (id < length grown.parts)). let l = n.0 in (omega arith, n.1)) adds.there
 
-    added_have : (table : Table) → HasOthers old new table → (q : ℕ) → length mid.parts ≤ q → q < length new.parts → table q ≡ part_at new.parts q
-    added_have table has q l h = has q (omega (arith, so_far.longer)) h
+    pub stem_there : id < length grown.parts
+    stem_there = id_in.1
 
-    own : (table : Table) → HasOthers old new table → Denotes old.reverse table id end (literals old.reverse (get_or so_far.trie.groups k []))
-    own table has =
-        let P : Bool → Type 0 = λ back. (x : ℕ → Tree) → IsLed back table end (k + 1) names x → Denotes back table id end (alternation (item_trees back names x items)) in
-        let chunks : AreChunks (k + 1) (length names) items = are_wider (k + 1) (length so_far.trie.groups) (k + 1) (length names) items node.chunks (omega arith) (omega (arith, so_far.names_long, so_far.trie.as_many)) in
-        let all = subst P back_same (adds.denotes table (added_have table has) (k + 1) chunks) in
-        denotes_node old.reverse table id end names so_far.trie.groups items (get_or so_far.trie.groups k []) node.like
-        (all (node_tree old.reverse so_far.trie.groups) (λ n l h. so_far.denotes table (older table has) n l (omega (arith, so_far.names_long))))
-
-    pub node_compiled : TrieTo old new end nodes strings names2 k
-    node_compiled =
-        let g = grown in
-        record {
-          trie = so_far.trie;
-          within = omega arith;
-          end_is = so_far.end_is;
-          partly = partly_joined so_far.partly (record { grows = adds.grows; tame = adds.tame });
-          groups = adds.groups ∙ so_far.groups;
-          here = adds.grows.same end end_below ∙ so_far.here;
-          longer = omega (arith, so_far.longer, grown);
-          states = omega (arith, so_far.states, adds.states, edges_now);
+    pub stem_refused : (new : Assembly) (e : BuildError) → Quits grown new (length node.stem) e → Quits old new (1 + 2 * bytes_in strings) e
+    stem_refused new e r =
+        let spent : Spent old grown (1 + 2 * weight_in_all (drop (k + 1) nodes) + 2 * edges_in node.items) = record {
+          settings = partly.grows.settings;
+          longer = partly.grows.longer;
+          states = omega (arith, so_far.states, adds.states);
           bytes = omega (arith, so_far.bytes, adds.bytes);
-          numbered = adds.numbered so_far.numbered;
-          stands = λ q l h. ⊎_elim
-              (λ (b : q < length mid.parts). ap stands_for (adds.grows.same q b) ∙ so_far.stands q l b)
-              (λ (b : length mid.parts ≤ q). adds.stands q b h)
-              (cases_lt q (length mid.parts));
-          names_long = ap length names_are ∙ length-set names k id ∙ so_far.names_long;
-          names_there =
-              let P : List ℕ → Type 0 = All (IsThere old new) in
-              subst P (sym names_are) (set_there (IsThere old new) names k id (All-weaker (IsThere old mid) (IsThere old new) (λ q t. let h = t.1 in (t.0, omega arith)) names so_far.names_there) id_there);
-          denotes = λ table has n l h.
-              let P : List ℕ → Type 0 = λ ns. Denotes old.reverse table (get_or ns n 0) end (literals old.reverse (get_or so_far.trie.groups n [])) in
-              let Q : ℕ → Type 0 = λ q. Denotes old.reverse table q end (literals old.reverse (get_or so_far.trie.groups n [])) in
-              subst P (sym names_are) (⊎_elim
-              (λ (e : n ≡ k).
-              let R : ℕ → Type 0 = λ m. Denotes old.reverse table (get_or (set names k id) m 0) end (literals old.reverse (get_or so_far.trie.groups m [])) in
-              let S : ℕ → Type 0 = λ q. Denotes old.reverse table q end (literals old.reverse (get_or so_far.trie.groups k [])) in
-              subst R (sym e) (subst S (sym (get_or-set_same names k id 0 (omega (arith, so_far.names_long, less)))) (own table has)))
-              (λ (ne : n ≡ k → ⊥). subst Q (sym (get_or-set_other names k n id 0 ne)) (so_far.denotes table (older table has) n (omega arith) h))
-              (cases_eq n k));
-        }
+        } in
+        quits_later (1 + 2 * bytes_in strings) spent r (omega (arith, weight_now, weight_left nodes k, so_far.trie.room))
 
-module _ (old mid : Assembly) (end : ℕ) (nodes : List (List (List Edge))) (strings : List (List ℕ)) (names : List ℕ) (all : TrieTo old mid end nodes strings names 0) (start : ℕ) (start_is : get_or names 0 0 ≡ start) where
+    module _ (new : Assembly) (start : ℕ) (text : AddsText grown new id node.stem start) (names2 : List ℕ) (names_are : names2 ≡ set names k start) where
+      all_longer : length grown.parts ≤ length new.parts
+      all_longer = text.grows.longer
+
+      start_in : IsThere old new start
+      start_in = let i = id_in.0 in let j = id_in.1 in let g = all_longer in let p = partly.grows.longer in
+          ⊎_elim (λ (e : start ≡ id). (omega arith, omega arith)) (λ (n : (length grown.parts ≤ start) × (start < length new.parts)). let l = n.0 in (omega arith, n.1)) text.there
+
+      older : (table : Table) → HasOthers old new table → HasOthers old mid table
+      older table has q l h = has q l (omega (arith, longer, all_longer)) ∙ text.grows.same q (omega (arith, longer)) ∙ adds.grows.same q h
+
+      items_have : (table : Table) → HasOthers old new table → (q : ℕ) → length mid.parts ≤ q → q < length grown.parts → table q ≡ part_at grown.parts q
+      items_have table has q l h = has q (omega (arith, so_far.longer)) (omega (arith, all_longer)) ∙ text.grows.same q h
+
+      text_has : (table : Table) → HasOthers old new table → (q : ℕ) → length grown.parts ≤ q → q < length new.parts → table q ≡ part_at new.parts q
+      text_has table has q l h = has q (omega (arith, so_far.longer, longer)) h
+
+      behind : (table : Table) → HasOthers old new table → Denotes old.reverse table id end (literals old.reverse has_strings.rest)
+      behind table has =
+          let P : Bool → Type 0 = λ back. (x : ℕ → Tree) → IsLed back table end (k + 1) names x → Denotes back table id end (alternation (item_trees back names x node.items)) in
+          let chunks : AreChunks (k + 1) (length names) node.items = are_wider (k + 1) (length so_far.trie.groups) (k + 1) (length names) node.items has_strings.holds.chunks (omega arith) (omega (arith, so_far.names_long, so_far.trie.as_many)) in
+          let all = subst P back_same (adds.denotes table (items_have table has) (k + 1) chunks) in
+          denotes_node old.reverse table id end names so_far.trie.groups node.items has_strings.rest has_strings.holds.like
+          (all (node_tree old.reverse so_far.trie.groups) (λ n l h. so_far.denotes table (older table has) n l (omega (arith, so_far.names_long))))
+
+      own : (table : Table) → HasOthers old new table → Denotes old.reverse table start end (literals old.reverse (get_or so_far.trie.groups k []))
+      own table has =
+          let P : List (List ℕ) → Type 0 = λ ws. Denotes old.reverse table start end (literals old.reverse ws) in
+          subst P has_strings.is (text.denotes old.reverse table (text_has table has) end has_strings.rest (behind table has))
+
+      pub node_compiled : TrieTo old new end nodes strings names2 k
+      node_compiled =
+          let g = longer in let h = all_longer in
+          record {
+            trie = so_far.trie;
+            within = omega arith;
+            end_is = so_far.end_is;
+            partly = partly_joined partly (record { grows = text.grows; tame = text.tame });
+            groups = text.groups ∙ adds.groups ∙ so_far.groups;
+            here = text.grows.same end (omega (arith, end_below)) ∙ adds.grows.same end end_below ∙ so_far.here;
+            longer = omega (arith, so_far.longer);
+            states = omega (arith, so_far.states, adds.states, text.states, weight_now);
+            bytes = omega (arith, so_far.bytes, adds.bytes, text.bytes);
+            numbered = text.numbered (adds.numbered so_far.numbered);
+            stands = λ q l m. ⊎_elim
+                (λ (b : q < length mid.parts). ap stands_for (text.grows.same q (omega arith) ∙ adds.grows.same q b) ∙ so_far.stands q l b)
+                (λ (b : length mid.parts ≤ q). ⊎_elim
+                (λ (c : q < length grown.parts). ap stands_for (text.grows.same q c) ∙ adds.stands q b c)
+                (λ (c : length grown.parts ≤ q). text.stands q c m)
+                (cases_lt q (length grown.parts)))
+                (cases_lt q (length mid.parts));
+            names_long = ap length names_are ∙ length-set names k start ∙ so_far.names_long;
+            names_there =
+                let P : List ℕ → Type 0 = All (IsThere old new) in
+                subst P (sym names_are) (set_there (IsThere old new) names k start (All-weaker (IsThere old mid) (IsThere old new) (λ q t. let n = t.1 in (t.0, omega arith)) names so_far.names_there) start_in);
+            denotes = λ table has n l m.
+                let P : List ℕ → Type 0 = λ ns. Denotes old.reverse table (get_or ns n 0) end (literals old.reverse (get_or so_far.trie.groups n [])) in
+                let Q : ℕ → Type 0 = λ q. Denotes old.reverse table q end (literals old.reverse (get_or so_far.trie.groups n [])) in
+                subst P (sym names_are) (⊎_elim
+                (λ (e : n ≡ k).
+                let R : ℕ → Type 0 = λ j. Denotes old.reverse table (get_or (set names k start) j 0) end (literals old.reverse (get_or so_far.trie.groups j [])) in
+                let S : ℕ → Type 0 = λ q. Denotes old.reverse table q end (literals old.reverse (get_or so_far.trie.groups k [])) in
+                subst R (sym e) (subst S (sym (get_or-set_same names k start 0 (omega (arith, so_far.names_long, less)))) (own table has)))
+                (λ (ne : n ≡ k → ⊥). subst Q (sym (get_or-set_other names k n start 0 ne)) (so_far.denotes table (older table has) n (omega arith) m))
+                (cases_eq n k));
+          }
+
+module _ (old mid : Assembly) (end : ℕ) (nodes : List NodeValue) (strings : List (List ℕ)) (names : List ℕ) (all : TrieTo old mid end nodes strings names 0) (start : ℕ) (start_is : get_or names 0 0 ≡ start) where
   start_there : IsThere old mid start
   start_there = let P : ℕ → Type 0 = IsThere old mid in subst P start_is (all.names_there 0 0 (omega (arith, all.names_long, all.trie.some)))
 
-  progress : Progress true old mid (1 + 2 * edges_in_all nodes) 8
+  progress : Progress true old mid (1 + 2 * weight_in_all nodes) 8
   progress = record { partly = all.partly; states = omega (arith, all.states); bytes = all.bytes; numbered = all.numbered }
 
   ends_on : (table : Table) (target : ℕ) → Finished (length old.parts) mid.parts end target table → table end ≡ empty_part target
@@ -226,39 +257,68 @@ module _ (old mid : Assembly) (end : ℕ) (nodes : List (List (List Edge))) (str
         (λ l. uses_literals old.reverse old.reverse l strings);
   }
 
--- the node whose turn it is, in a list of rows
-module _ {V : Type 0} (items_of : V → List (List Edge)) (rows : List V) (old mid : Assembly) (end : ℕ) (strings : List (List ℕ)) (names now : List ℕ) (m k : ℕ) (so_far : TrieTo old mid end (map items_of rows) strings names m) (some : 1 ≤ m)
-    (turn : k ≡ m - 1) (v : V) (got : v ≡ get_or rows k v) (row : List (List Edge)) (row_is : row ≡ items_of v) (now_is : now ≡ names) where
-  next : TrieTo old mid end (map items_of rows) strings names (k + 1)
-  next = let P : ℕ → Type 0 = λ n. TrieTo old mid end (map items_of rows) strings names n in let e : m ≡ k + 1 = omega arith in subst P e so_far
+same_got : {V : Type 0} (xs : List V) (k : ℕ) (c d : V) → k < length xs → get_or xs k c ≡ get_or xs k d
+same_got [] k c d l = absurd (omega arith)
+same_got (x ∷ xs) zero c d l = refl
+same_got (x ∷ xs) (suc k) c d l = same_got xs k c d (omega arith)
 
-  less : k < length (map items_of rows)
+-- the node whose turn it is, in a list of rows
+module _ {V : Type 0} (value_of : V → NodeValue) (rows : List V) (old mid : Assembly) (end : ℕ) (strings : List (List ℕ)) (names now : List ℕ) (m k : ℕ) (so_far : TrieTo old mid end (map value_of rows) strings names m) (some : 1 ≤ m)
+    (turn : k ≡ m - 1) (v : V) (got : v ≡ get_or rows k v) (row : List (List Edge)) (row_is : row ≡ (value_of v).items) (now_is : now ≡ names) where
+  next : TrieTo old mid end (map value_of rows) strings names (k + 1)
+  next = let P : ℕ → Type 0 = λ n. TrieTo old mid end (map value_of rows) strings names n in let e : m ≡ k + 1 = omega arith in subst P e so_far
+
+  less : k < length (map value_of rows)
   less = let w = so_far.within in omega arith
 
-  here : get_or (map items_of rows) k [] ≡ row
-  here = get_or-map items_of rows k v [] (omega (arith, less, length-map rows items_of)) ∙ ap items_of (sym got) ∙ sym row_is
+  here : get_or (map value_of rows) k no_node ≡ value_of v
+  here = get_or-map value_of rows k v no_node (omega (arith, less, length-map rows value_of)) ∙ ap value_of (sym got)
 
   pub turn_some : 1 ≤ length row
-  turn_some = node_some old mid old end (map items_of rows) strings names k next less row here
+  turn_some = omega (arith, ap length row_is, node_some old mid end (map value_of rows) strings names k next less (value_of v) here)
 
   pub turn_few : length row ≤ 2 * chunks_in row + 1
-  turn_few = node_few old mid old end (map items_of rows) strings names k next less row here
+  turn_few =
+      let P : List (List Edge) → Type 0 = λ is. length is ≤ 2 * chunks_in is + 1 in
+      subst P (sym row_is) (node_few old mid end (map value_of rows) strings names k next less (value_of v) here)
 
   pub turn_chunks : AreChunks 0 (length now) row
   turn_chunks =
       let P : List ℕ → Type 0 = λ ns. AreChunks 0 (length ns) row in
-      subst P (sym now_is) (node_chunks old mid old end (map items_of rows) strings names k next less row here)
+      let Q : List (List Edge) → Type 0 = λ is. AreChunks 0 (length names) is in
+      subst P (sym now_is) (subst Q (sym row_is) (node_chunks old mid end (map value_of rows) strings names k next less (value_of v) here))
 
   pub turn_refused : (new : Assembly) (e : BuildError) → Quits mid new (2 * edges_in row) e → Quits old new (1 + 2 * bytes_in strings) e
-  turn_refused new e r = node_refused old mid new end (map items_of rows) strings names k next less row here e r
+  turn_refused new e r =
+      let P : List (List Edge) → Type 0 = λ is. Quits mid new (2 * edges_in is) e in
+      node_refused old mid end (map value_of rows) strings names k next less (value_of v) here new e (subst P row_is r)
 
-  pub turn_compiled : (new : Assembly) (id : ℕ) → AddsNode mid new now end row id → TrieTo old new end (map items_of rows) strings (set names k id) k
-  turn_compiled new id adds =
-      let P : List ℕ → Type 0 = λ ns. AddsNode mid new ns end row id in
-      node_compiled old mid new end (map items_of rows) strings names k next less row here id (subst P now_is adds) (set names k id) refl
+  module _ (grown : Assembly) (id : ℕ) (adds : AddsNode mid grown now end row id) where
+    adds_here : AddsNode mid grown names end (value_of v).items id
+    adds_here =
+        let P : List ℕ → Type 0 = λ ns. AddsNode mid grown ns end (value_of v).items id in
+        let Q : List (List Edge) → Type 0 = λ is. AddsNode mid grown now end is id in
+        subst P now_is (subst Q row_is adds)
+
+    pub turn_there : id < length grown.parts
+    turn_there = stem_there old mid end (map value_of rows) strings names k next less (value_of v) here grown id adds_here
+
+    module _ (w : V) (got2 : w ≡ get_or rows k w) where
+      stem_is : (value_of w).stem ≡ (value_of v).stem
+      stem_is = ap (λ (x : V). (value_of x).stem) (got2 ∙ same_got rows k w v (omega (arith, less, length-map rows value_of)) ∙ sym got)
+
+      pub turn_stem_refused : (new : Assembly) (e : BuildError) → Quits grown new (length (value_of w).stem) e → Quits old new (1 + 2 * bytes_in strings) e
+      turn_stem_refused new e r =
+          let P : List ℕ → Type 0 = λ t. Quits grown new (length t) e in
+          stem_refused old mid end (map value_of rows) strings names k next less (value_of v) here grown id adds_here new e (subst P stem_is r)
+
+      pub turn_compiled : (new : Assembly) (start : ℕ) → AddsText grown new id (value_of w).stem start → TrieTo old new end (map value_of rows) strings (set names k start) k
+      turn_compiled new start text =
+          let P : List ℕ → Type 0 = λ t. AddsText grown new id t start in
+          node_compiled old mid end (map value_of rows) strings names k next less (value_of v) here grown id adds_here new start (subst P stem_is text) (set names k start) refl
 
 -- all nodes are compiled
-module _ (old mid : Assembly) (end : ℕ) (nodes : List (List (List Edge))) (strings : List (List ℕ)) (names : List ℕ) (k : ℕ) (so_far : TrieTo old mid end nodes strings names k) (none : k ≤ 0) (start : ℕ) (start_is : start ≡ get_or names 0 start) where
+module _ (old mid : Assembly) (end : ℕ) (nodes : List NodeValue) (strings : List (List ℕ)) (names : List ℕ) (k : ℕ) (so_far : TrieTo old mid end nodes strings names k) (none : k ≤ 0) (start : ℕ) (start_is : start ≡ get_or names 0 start) where
   all_nodes : TrieTo old mid end nodes strings names 0
   all_nodes = let P : ℕ → Type 0 = λ n. TrieTo old mid end nodes strings names n in let e : k ≡ 0 = omega arith in subst P e so_far
 

@@ -20,6 +20,7 @@ pub mod RangeWalks
 pub mod TrieNodes
 pub mod RangeCovers
 pub mod TrieSteps
+pub mod NodeCopies
 pub mod ScalarCounts
 pub mod Room
 pub mod AsciiClasses
@@ -30,6 +31,9 @@ pub mod Utf8Compiles
 pub mod ClassTries
 pub mod LiteralGroups
 pub mod LiteralTries
+pub mod LiteralStems
+pub mod LiteralLaid
 pub mod LiteralStates
+pub mod LiteralTexts
 pub mod LiteralParts
 pub mod Directions

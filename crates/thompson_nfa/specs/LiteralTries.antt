@@ -1,8 +1,8 @@
--- Nodes of a trie of strings, each with its items in order of preference: edges by bytes, or a match.
-use Rattle.std.specs.Prelude.{◌≡◌, ℕ, suc, ◌+◌, ◌*◌, ◌<◌, ◌≤◌, List, [], ◌∷◌, ◌++◌, length, get_or, nat_eq, if◌then◌else◌}
+-- The items of a node of a trie of strings, in order of preference: edges by bytes, or a match.
+use Rattle.std.specs.Prelude.{◌≡◌, ℕ, suc, ◌+◌, ◌*◌, ◌≤◌, List, [], ◌∷◌, ◌++◌, length, nat_eq, if◌then◌else◌}
 use Rattle.hir_core.specs.Means.{stands}
 use Rattle.nfa_core.specs.Walks.{distinct}
-use Rattle.thompson_nfa.specs.LiteralGroups.{chunk_strings, Ascends, AreInside, bytes_in}
+use Rattle.thompson_nfa.specs.LiteralGroups.{chunk_strings, Ascends, AreInside}
 use Rattle.thompson_nfa.specs.declared.literal_groups.Edge.{Edge}
 
 -- where the strings end that stand at the place, in order
@@ -28,10 +28,6 @@ abbrev pub edges_in : List (List Edge) → ℕ
 edges_in [] = 0
 edges_in (x ∷ xs) = length x + edges_in xs
 
-abbrev pub edges_in_all : List (List (List Edge)) → ℕ
-edges_in_all [] = 0
-edges_in_all (n ∷ ns) = edges_in n + edges_in_all ns
-
 -- how many items are no match
 abbrev pub chunks_in : List (List Edge) → ℕ
 chunks_in [] = 0
@@ -49,12 +45,3 @@ pub record IsNode (first : ℕ) (groups : List (List (List ℕ))) (items : List 
   pub chunks : AreChunks first (length groups) items
   pub some : 1 ≤ length items
   pub few : length items ≤ 2 * chunks_in items + 1
-
--- The nodes of all groups, of which the first has all strings. Edges lead to later nodes, and there are as many as bytes at most.
-pub record IsTrie (nodes : List (List (List Edge))) (strings : List (List ℕ)) : Type 0 where
-  pub groups : List (List (List ℕ))
-  pub as_many : length groups ≡ length nodes
-  pub some : 1 ≤ length nodes
-  pub root : get_or groups 0 [] ≡ strings
-  pub each : (i : ℕ) → i < length nodes → IsNode (i + 1) groups (get_or nodes i []) (get_or groups i [])
-  pub room : edges_in_all nodes ≤ bytes_in strings

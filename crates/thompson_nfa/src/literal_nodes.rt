@@ -1,10 +1,13 @@
 //! The nodes of a trie of strings.
-ghost use Rattle.std.specs.Prelude.{◌≡◌, ◌≤◌, ◌++◌, length, map, ℕ, List, IfOk, [], ◌∷◌, if◌then◌else◌};
+ghost use Rattle.std.specs.Prelude.{◌≡◌, ◌≤◌, ◌+◌, ◌++◌, ◌<◌, length, map, drop, get_or, ℕ, List, IfOk, [], ◌∷◌, if◌then◌else◌};
 ghost use Rattle.thompson_nfa.specs.LiteralGroups.{texts, groups_of, AddsGroups};
-ghost use Rattle.thompson_nfa.specs.LiteralTries.{edges_in, IsNode, IsTrie};
+ghost use Rattle.thompson_nfa.specs.LiteralLaid.{node_value, LaysNode, IsTrie};
+ghost use Rattle.thompson_nfa.specs.LiteralTries.{edges_in, IsNode};
 
 use crate::literal_groups::{Edge, chunk, turn_len};
+use crate::literal_stems::{behind_stem, stem};
 use std::alloc::{AllocError, Global};
+use std::mem;
 
 /// Adds a match, unless the last item is one.
 fn push_match(alloc: Global, items: &mut Vec<Vec<Edge>>, matched: bool) -> Result<(), AllocError>
@@ -49,20 +52,52 @@ fn items<'a>(
     Ok(items)
 }
 
-/// The items of each node: the first node has all strings, and edges lead to later ones, by their numbers.
-pub(crate) fn nodes<'a>(
+/// A node of a trie: the stem of its strings, and the items of what follows the stem in each.
+#[derive(Drop)]
+pub(crate) struct Node<'a> {
+    pub(crate) stem: &'a [u8],
+    pub(crate) items: Vec<Vec<Edge>>,
+}
+
+/// The node that has the strings. The groups to which edges lead are added; `first` groups stand before these.
+fn lay<'a>(
     alloc: Global,
-    strings: Vec<&'a [u8]>,
-) -> Result<Vec<Vec<Vec<Edge>>>, AllocError>
+    strings: &[&'a [u8]],
+    first: usize,
+    groups: &mut Vec<Vec<&'a [u8]>>,
+) -> Result<Node<'a>, AllocError>
+    requires few { first ≤ 9223372036854775807 }
+    requires some { 1 ≤ length strings.now }
+    ensures { IfOk result (λ n. LaysNode first (groups_of (λ g. g.items) groups.old.items) (groups_of (λ g. g.items) groups.new.items) (node_value n) (texts strings.now)) }
+{
+    let stem = stem(strings);
+    let rest = behind_stem(alloc, strings, stem)?;
+    let items = items(alloc, &rest, first, groups)?;
+    Ok(Node { stem, items })
+}
+
+/// Takes the group at the place, and leaves none there.
+fn take_group<'a>(alloc: Global, groups: &mut Vec<Vec<&'a [u8]>>, at: usize) -> Vec<&'a [u8]>
+    requires { at < length groups.old.items }
+    ensures taken { texts result.items ≡ get_or (groups_of (λ g. g.items) groups.old.items) at [] }
+    ensures as_many { length (groups_of (λ g. g.items) groups.new.items) ≡ length (groups_of (λ g. g.items) groups.old.items) }
+    ensures later { drop (at + 1) (groups_of (λ g. g.items) groups.new.items) ≡ drop (at + 1) (groups_of (λ g. g.items) groups.old.items) }
+{
+    mem::replace(&mut groups[at], Vec::new(alloc))
+}
+
+/// The nodes: the first has all strings, and edges lead to later ones, by their numbers.
+pub(crate) fn nodes<'a>(alloc: Global, strings: Vec<&'a [u8]>) -> Result<Vec<Node<'a>>, AllocError>
     requires { 1 ≤ length strings.items }
-    ensures { IfOk result (λ v. IsTrie (map (λ n. map (λ x. x.items) n.items) v.items) (texts strings.entry.items)) }
+    ensures { IfOk result (λ v. IsTrie (map node_value v.items) (texts strings.entry.items)) }
 {
     let mut groups = Vec::new(alloc);
     groups.push(strings)?;
     let mut nodes = Vec::new(alloc);
     while nodes.len() < groups.len() {
+        let strings = take_group(alloc, &mut groups, nodes.len());
         let mut more = Vec::new(alloc);
-        let node = items(alloc, &groups[nodes.len()], groups.len(), &mut more)?;
+        let node = lay(alloc, &strings, groups.len(), &mut more)?;
         nodes.push(node)?;
         groups.append(&mut more)?;
     }

@@ -8,6 +8,7 @@ ghost use Rattle.thompson_nfa.specs.Refusals.{Quits};
 use crate::fragment::Fragment;
 use crate::literal_nodes::nodes;
 use crate::literal_states::add_node;
+use crate::literal_texts::add_text;
 use crate::parts::add_empty;
 use nfa_core::{BuildError, Builder};
 use search_core::StateID;
@@ -42,8 +43,9 @@ fn compile_strings(
     let end = add_empty(builder)?;
     let mut names = same_names(alloc, end, laid.len())?;
     for i in (0..laid.len()).rev() {
-        let id = add_node(builder, alloc, &laid[i], &names, end)?;
-        names[i] = id;
+        let id = add_node(builder, alloc, &laid[i].items, &names, end)?;
+        let start = add_text(builder, laid[i].stem, id)?;
+        names[i] = start;
     }
     Ok(Fragment {
         start: names[0],

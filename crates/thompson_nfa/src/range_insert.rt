@@ -53,7 +53,7 @@ pub(crate) fn insert_below(
         return Ok(Next::End);
     };
     let pieces = pieces(nodes, alloc, next, *first)?;
-    let mut edges = Vec::new(alloc);
+    let mut edges = Vec::with_capacity(alloc, pieces.len())?;
     for piece in &pieces {
         let next = if is_within(piece, first) {
             insert_below(nodes, alloc, piece.next, rest)?

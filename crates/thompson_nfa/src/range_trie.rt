@@ -5,6 +5,7 @@ ghost use Rattle.hir_core.specs.Sequences.{bytes_of};
 ghost use Rattle.thompson_nfa.specs.RangeTries.{AreRanges, IsApart, IsTrie, IsWith};
 ghost use Rattle.thompson_nfa.specs.RangeWalks.{paths_of};
 
+use crate::range_copy::keep_below;
 use crate::range_insert::insert_below;
 use crate::range_walk::{call_each, emit};
 use crate::trie_nodes::{Next, Nodes};
@@ -22,7 +23,12 @@ pub struct RangeTrie {
     alloc: Global,
     nodes: Nodes,
     root: Next,
+    /// How many edges there may be before the nodes to which the root doesn't come are given up.
+    most: usize,
 }
+
+/// How many edges a trie may have in any case.
+const LEAST: usize = 262144;
 
 impl Model for RangeTrie {
     ghost use Rattle.std.specs.Prelude.{ℕ, List, length};
@@ -45,6 +51,7 @@ impl RangeTrie {
             alloc,
             nodes: Nodes::new(alloc),
             root: Next::Nothing,
+            most: LEAST,
         }
     }
 
@@ -54,6 +61,20 @@ impl RangeTrie {
     {
         self.nodes.clear();
         self.root = Next::Nothing;
+        self.most = LEAST;
+    }
+
+    /// Gives up the nodes to which the root doesn't come, where there are many edges.
+    fn tidy(&mut self) -> Result<(), AllocError>
+        ensures { self.new ≡ self.old }
+    {
+        if self.nodes.size() <= self.most {
+            return Ok(());
+        }
+        let root = keep_below(&mut self.nodes, self.alloc, self.root)?;
+        self.root = root;
+        self.most = self.nodes.size().saturating_mul(4).max(LEAST);
+        Ok(())
     }
 
     /// Adds the strings with a byte of each range, in the order of the ranges. None of them may be a proper
@@ -66,6 +87,9 @@ impl RangeTrie {
         ensures err { OnErr result (self.new ≡ self.old) }
         ensures trie { IsTrie self.new }
     {
+        let tidied = self.tidy();
+        self.see_order();
+        tidied?;
         let root = insert_below(&mut self.nodes, self.alloc, self.root, ranges);
         self.nodes.see_order();
         self.root = root?;

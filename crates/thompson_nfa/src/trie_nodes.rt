@@ -31,6 +31,8 @@ pub(crate) struct Edge {
 #[derive(Drop)]
 pub(crate) struct Nodes {
     rows: Vec<Vec<Edge>>,
+    /// How many edges the nodes have.
+    size: usize,
 }
 
 impl Model for Nodes {
@@ -51,7 +53,20 @@ impl Nodes {
     {
         Nodes {
             rows: Vec::new(alloc),
+            size: 0,
         }
+    }
+
+    /// How many nodes there are.
+    pub(crate) fn len(&self) -> usize
+        ensures { result ≡ length self.now }
+    {
+        self.rows.len()
+    }
+
+    /// How many edges the nodes have.
+    pub(crate) fn size(&self) -> usize {
+        self.size
     }
 
     /// Makes a node.
@@ -63,7 +78,9 @@ impl Nodes {
         ensures err { OnErr result (self.new ≡ self.old) }
     {
         let number = self.rows.len();
+        let size = self.size.saturating_add(edges.len());
         self.rows.push(edges)?;
+        self.size = size;
         Ok(Next::Node(number))
     }
 
@@ -82,6 +99,7 @@ impl Nodes {
         ensures { self.new ≡ [] }
     {
         self.rows.clear();
+        self.size = 0;
     }
 
     /// What each node emits ascends.

@@ -1,0 +1,7 @@
+use Rattle.std.proofs.Common.{◌≡◌, ◌++◌, drop, length}
+use Rattle.thompson_nfa.specs.LiteralGroups.{texts}
+use Rattle.thompson_nfa.specs.LiteralStems.{without}
+use Rattle.thompson_nfa.proofs.literal_stems.behind_stem.Given as goal
+
+abbrev pub invariant-loop-string : goal.invariant-loop-string
+invariant-loop-string l = texts l.all.items ++ without (length l.stem) (texts (drop l.string-index l.strings)) ≡ without (length l.stem) (texts l.strings)

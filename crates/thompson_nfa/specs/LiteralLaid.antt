@@ -1,0 +1,49 @@
+-- A trie of strings as its nodes, each with the stem of its strings.
+use Rattle.std.specs.Prelude.{◌≡◌, ℕ, ◌+◌, ◌<◌, ◌≤◌, List, [], ◌∷◌, ◌++◌, map, length, get_or}
+use Rattle.thompson_nfa.specs.LiteralGroups.{bytes_in, AddsGroups}
+use Rattle.thompson_nfa.specs.LiteralStems.{behind_text}
+use Rattle.thompson_nfa.specs.LiteralTries.{edges_in, IsNode}
+use Rattle.thompson_nfa.specs.declared.literal_groups.Edge.{Edge}
+use Rattle.thompson_nfa.specs.declared.literal_nodes.Node.{Node}
+
+-- what contracts see of a node: the stem of its strings, and the items of what follows it in each
+pub record NodeValue : Type 0 where
+  pub stem : List ℕ
+  pub items : List (List Edge)
+
+abbrev pub node_value : Node → NodeValue
+node_value n = record { stem = n.stem.now; items = map (λ x. x.items) n.items.items }
+
+-- how many bytes stand in the stem and on the edges
+abbrev pub weight : NodeValue → ℕ
+weight n = length n.stem + edges_in n.items
+
+abbrev pub weight_in_all : List NodeValue → ℕ
+weight_in_all [] = 0
+weight_in_all (n ∷ ns) = weight n + weight_in_all ns
+
+-- where there is no node
+abbrev pub no_node : NodeValue
+no_node = record { stem = []; items = [] }
+
+-- The node has the strings: its items have what follows the stem.
+pub record HasStrings (first : ℕ) (groups : List (List (List ℕ))) (node : NodeValue) (strings : List (List ℕ)) : Type 0 where
+  pub rest : List (List ℕ)
+  pub is : behind_text node.stem rest ≡ strings
+  pub holds : IsNode first groups node.items rest
+
+-- A node was made of the strings, and groups were added to which its edges lead.
+pub record LaysNode (first : ℕ) (old new : List (List (List ℕ))) (node : NodeValue) (strings : List (List ℕ)) : Type 0 where
+  pub rest : List (List ℕ)
+  pub is : behind_text node.stem rest ≡ strings
+  pub adds : AddsGroups old new (edges_in node.items) rest
+  pub holds : (before : List (List (List ℕ))) → length before ≡ first → IsNode first (before ++ new) node.items rest
+
+-- The nodes of all groups, of which the first has all strings. Edges lead to later nodes, and bytes of stems and edges are no more than those of the strings.
+pub record IsTrie (nodes : List NodeValue) (strings : List (List ℕ)) : Type 0 where
+  pub groups : List (List (List ℕ))
+  pub as_many : length groups ≡ length nodes
+  pub some : 1 ≤ length nodes
+  pub root : get_or groups 0 [] ≡ strings
+  pub each : (i : ℕ) → i < length nodes → HasStrings (i + 1) groups (get_or nodes i no_node) (get_or groups i [])
+  pub room : weight_in_all nodes ≤ bytes_in strings

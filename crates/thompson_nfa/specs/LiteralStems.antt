@@ -1,0 +1,22 @@
+-- The stem of strings: a text with which each of them begins.
+use Rattle.std.specs.Prelude.{◌≡◌, ℕ, ◌+◌, List, [], ◌∷◌, ◌++◌, drop, length}
+
+-- each of the strings has the byte at the place
+abbrev pub HaveAll : ℕ → ℕ → List (List ℕ) → Type 0
+HaveAll k b [] = Unit {0}
+HaveAll k b (w ∷ ws) = (drop k w ≡ b ∷ drop (k + 1) w) × HaveAll k b ws
+
+-- each of the strings begins with the text
+abbrev pub BeginAll : List ℕ → List (List ℕ) → Type 0
+BeginAll t [] = Unit {0}
+BeginAll t (w ∷ ws) = (w ≡ t ++ drop (length t) w) × BeginAll t ws
+
+-- the strings without so many bytes at their beginning
+abbrev pub without : ℕ → List (List ℕ) → List (List ℕ)
+without n [] = []
+without n (w ∷ ws) = drop n w ∷ without n ws
+
+-- all of them, each behind the text
+abbrev pub behind_text : List ℕ → List (List ℕ) → List (List ℕ)
+behind_text t [] = []
+behind_text t (w ∷ ws) = (t ++ w) ∷ behind_text t ws

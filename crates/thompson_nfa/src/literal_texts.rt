@@ -1,0 +1,37 @@
+//! The states of a text that is read byte by byte.
+ghost use Rattle.std.specs.Prelude.{◌≡◌, ◌<◌, length, MatchResult, IfOk, IfErr};
+ghost use Rattle.nfa_core.specs.BuilderStates.{range_part};
+ghost use Rattle.thompson_nfa.specs.Added.{Added};
+ghost use Rattle.thompson_nfa.specs.LiteralTexts.{AddsText};
+ghost use Rattle.thompson_nfa.specs.Refusals.{Stays, Quits};
+
+use nfa_core::{BuildError, Builder, Transition};
+use search_core::StateID;
+
+/// Adds a state that reads the byte and leads on to the state `next`.
+fn add_byte(builder: &mut Builder, byte: u8, next: StateID) -> Result<StateID, BuildError>
+    ensures { MatchResult result (λ id. Added builder.old builder.new id (range_part byte byte next) builder.old.groups) (λ e. Stays builder.old builder.new 1 24 e) }
+{
+    builder.add_range(Transition {
+        start: byte,
+        end: byte,
+        next,
+    })
+}
+
+/// Adds a state for each byte of the text, which lead one to another and then on to the state `next`.
+pub(crate) fn add_text(
+    builder: &mut Builder,
+    text: &[u8],
+    next: StateID,
+) -> Result<StateID, BuildError>
+    requires { next < length builder.old.parts }
+    ensures added { IfOk result (λ id. AddsText builder.old builder.new next text.now id) }
+    ensures refused { IfErr result (λ e. Quits builder.old builder.new (length text.now) e) }
+{
+    let mut id = next;
+    for i in (0..text.len()).rev() {
+        id = add_byte(builder, text[i], id)?;
+    }
+    Ok(id)
+}

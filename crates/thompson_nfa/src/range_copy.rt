@@ -1,0 +1,67 @@
+//! Copies of the nodes of a trie of ranges: those to which its root comes, and no others.
+ghost use Rattle.std.specs.Prelude.{◌≡◌, ◌≤◌, length, map, IfOk, OnErr};
+ghost use Rattle.thompson_nfa.specs.NodeCopies.{AreCopies, AreNone};
+ghost use Rattle.thompson_nfa.specs.TrieNodes.{below, IsInside, IsLater};
+
+use crate::trie_nodes::{Edge, Next, Nodes};
+use std::alloc::{AllocError, Global};
+
+/// A name for each of so many nodes: none has a copy.
+fn no_copies(alloc: Global, len: usize) -> Result<Vec<Next>, AllocError>
+    ensures { IfOk result (λ v. AreNone len v.items) }
+{
+    let mut names = Vec::new(alloc);
+    for _index in 0..len {
+        names.push(Next::Nothing)?;
+    }
+    Ok(names)
+}
+
+/// Copies what follows an edge, unless it is there. `names` has the copy of each node that has one.
+fn copy_below(
+    nodes: &Nodes,
+    alloc: Global,
+    next: Next,
+    copy: &mut Nodes,
+    names: &mut Vec<Next>,
+) -> Result<Next, AllocError>
+    requires inside { IsInside (length nodes.now) next }
+    requires copies { AreCopies nodes.now copy.old names.old.items }
+    ensures later { IsLater copy.old copy.new }
+    ensures copies { IfOk result (λ _. AreCopies nodes.now copy.new names.new.items) }
+    ensures inside { IfOk result (λ n. IsInside (length copy.new) n) }
+    ensures same { IfOk result (λ n. below copy.new n ≡ below nodes.now next) }
+{
+    let Next::Node(number) = next else {
+        return Ok(next);
+    };
+    if let Next::Node(made) = names[number] {
+        return Ok(Next::Node(made));
+    }
+    let old = nodes.edges(number);
+    let mut edges = Vec::with_capacity(alloc, old.len())?;
+    for edge in old {
+        let next = copy_below(nodes, alloc, edge.next, copy, names)?;
+        edges.push(Edge {
+            range: edge.range,
+            next,
+        })?;
+    }
+    let made = copy.push(edges)?;
+    names[number] = made;
+    Ok(made)
+}
+
+/// Gives up all nodes but those that follow the edge, and answers what follows it then.
+pub(crate) fn keep_below(nodes: &mut Nodes, alloc: Global, next: Next) -> Result<Next, AllocError>
+    requires { IsInside (length nodes.old) next }
+    ensures inside { IfOk result (λ n. IsInside (length nodes.new) n) }
+    ensures same { IfOk result (λ n. below nodes.new n ≡ below nodes.old next) }
+    ensures err { OnErr result (nodes.new ≡ nodes.old) }
+{
+    let mut copy = Nodes::new(alloc);
+    let mut names = no_copies(alloc, nodes.len())?;
+    let kept = copy_below(nodes, alloc, next, &mut copy, &mut names)?;
+    *nodes = copy;
+    Ok(kept)
+}
