@@ -39,7 +39,8 @@ covered_more lows low high b h =
           ∙ neither low b high (is_covered lows b) l
       | inr l ↦
           let e : b + (high - b) ≡ high = omega arith in
-          let at : get_or (drop b lows) (high - b) 0 ≡ get_or lows high 0 = get_or-drop b lows (high - b) 0 ∙ ap (λ k. get_or lows k 0) e in
+          let at : get_or (drop b lows) (high - b) 0 ≡ get_or lows high 0 =
+          get_or-drop b lows (high - b) 0 ∙ ap (λ k. get_or lows k 0) e in
           let dropped = drop-set-add b lows (high - b) (min (get_or lows high 0) low) in
           let is = least_set (drop b lows) (high - b) low (omega (arith, length-drop b lows)) in
           let is2 : least (drop b (set lows high (min (get_or lows high 0) low))) ≡ min low (least (drop b lows)) =

@@ -31,7 +31,8 @@ pub all_ranges : (items rs new : List (ℕ × ℕ)) (member : ℕ → Bool) (n :
     → new ≡ reverse rs → ((b : ℕ) → b < 256 → member b ≡ is_member items b) → new ≡ class_ranges items
 unfolding class_ranges
 all_ranges items rs new member n z was is same =
-    is ∙ (was ∙ (ap (λ k. ranges_from member (256 - k) k) z ∙ ranges_from_same member (is_member items) 256 0 (λ k l m. same k (omega arith))))
+    is ∙ (was ∙ (ap (λ k. ranges_from member (256 - k) k) z
+    ∙ ranges_from_same member (is_member items) 256 0 (λ k l m. same k (omega arith))))
 
 -- ranges that rise from a byte on rise from any lower one on
 rises_lower : (b : ℕ) (rs : List (ℕ × ℕ)) → rises_from (b + 1) rs ≡ true → rises_from b rs ≡ true

@@ -98,12 +98,15 @@ module _ (k : LineWord) (first : List (Bor (List ℕ))) (args : List (List ℕ))
 
   module _ (r : Result Step LineFault) (others : List (Bor (List ℕ))) (same : others ≡ first) (at : Standing)
       (settable : is_setting_after_node k at ≡ false) (many : is_word_count k (length first) ≡ true) (other : is_class k ≡ false) where
-    pub fault_of_first : IfErr r (λ e. TellsLineFault (left_fault k (texts others) at) e) → IfErr r (λ e. TellsLineFault (known_fault k args at) e)
-    fault_of_first h = left_fault_told r k (texts others) args at (ap texts same ∙ all_first other many) (known_fault_left at settable many) h
+    pub fault_of_first : IfErr r (λ e. TellsLineFault (left_fault k (texts others) at) e)
+        → IfErr r (λ e. TellsLineFault (known_fault k args at) e)
+    fault_of_first h =
+        left_fault_told r k (texts others) args at (ap texts same ∙ all_first other many) (known_fault_left at settable many) h
 
     pub done_by_first : (now : Standing) → IfOk r (λ step. IsDone k (texts others) at now × (step ≡ step_after k))
         → IfOk r (λ step. (known_fault k args at ≡ None) × (now ≡ after k args at) × (step ≡ step_after k))
-    done_by_first now h = done_told r k (texts others) args at now (ap texts same ∙ all_first other many) (known_fault_left at settable many) h
+    done_by_first now h =
+        done_told r k (texts others) args at now (ap texts same ∙ all_first other many) (known_fault_left at settable many) h
 
 -- where there is no fault at all, none is the first, and no test says one
 pub first_none : (a : Option FaultKind) (rest : List (Option FaultKind)) → first_of (a ∷ rest) ≡ None → (a ≡ None) × (first_of rest ≡ None)

@@ -1,6 +1,5 @@
-use Rattle.std.proofs.Common.{◌≡◌, ◌∷◌, sym, ◌∙◌}
+use Rattle.std.proofs.Common.{sym, ◌∙◌}
 use Rattle.hirscan.specs.Words.{words}
-use Rattle.hirscan.specs.Tells.{words_left}
 use Rattle.hirscan.proofs.TakesLemmas.{line_done}
 use Rattle.hirscan.proofs.line.read_line.Goals as goal
 

@@ -6,5 +6,5 @@ use Rattle.hirscan.proofs.split.WordsLeft.at_most.Goals as goal
 
 pub returns : goal.returns
 returns c =
-    map_from_collect _ c.collect.ensures.ran
-    (YieldsList-from_take c.args.number (YieldsList-at c.take.ensures.source (YieldsList-from_first (λ w. w.now) words_left (words_left c.args.self) refl)) c.take.ensures.count)
+    let source = YieldsList-at c.take.ensures.source (YieldsList-from_first (λ w. w.now) words_left (words_left c.args.self) refl) in
+    map_from_collect _ c.collect.ensures.ran (YieldsList-from_take c.args.number source c.take.ensures.count)

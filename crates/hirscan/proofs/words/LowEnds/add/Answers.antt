@@ -1,4 +1,4 @@
-use Rattle.std.proofs.Common.{◌≡◌, ◌∙◌, length, sym, ap, arith}
+use Rattle.std.proofs.Common.{sym, arith}
 use Rattle.hirscan.proofs.LowEndLemmas.{covered_more}
 use Rattle.hirscan.proofs.words.LowEnds.add.Goals as goal
 
