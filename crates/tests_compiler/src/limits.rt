@@ -86,8 +86,8 @@ fn repetitions(rt: HostRuntime) {
 fn texts_and_scalars(rt: HostRuntime) {
     let alloc = rt.alloc();
     let words = [Small::Words];
-    assert!(rt; matches!(patterns_take(alloc, plain(false), &words, 432), Ok(true)));
-    assert!(rt; matches!(patterns_take(alloc, plain(true), &words, 304), Ok(true)));
+    assert!(rt; matches!(patterns_take(alloc, plain(false), &words, 368), Ok(true)));
+    assert!(rt; matches!(patterns_take(alloc, plain(true), &words, 272), Ok(true)));
     assert!(rt;
         matches!(
             patterns_take(alloc, plain(false), &[Small::Greek], 200),
