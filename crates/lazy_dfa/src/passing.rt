@@ -156,7 +156,7 @@ pub(crate) fn run(dfa: &DFA, cache: &Cache, input: &Input<'_>, is_down: bool, st
     }
 }
 
-/// Goes on over known steps, up to the last place of the span: while each state matches, and then while none has a tag.
+/// Goes on over known steps, up to the last place of the span: while no state has a tag, and then through those that match too.
 #[inline(always)]
 fn run_known(dfa: &DFA, cache: &Cache, input: &Input<'_>, is_down: bool, stand: Stand) -> Stand
     requires own { IsCacheOf dfa.now cache.now }
@@ -172,8 +172,8 @@ fn run_known(dfa: &DFA, cache: &Cache, input: &Input<'_>, is_down: bool, stand: 
 {
     dfa.is_made();
     see_bytes(input.haystack());
-    let next = linger(dfa, cache, input, is_down, stand);
-    run(dfa, cache, input, is_down, next)
+    let next = run(dfa, cache, input, is_down, stand);
+    linger(dfa, cache, input, is_down, next)
 }
 
 /// A turn by a byte of the span.
@@ -324,7 +324,7 @@ fn go_on<L: Ledger, M: Ledger>(
         id,
         best: None,
     };
-    let mut stand = run(dfa, cache, input, is_down, first);
+    let mut stand = run_known(dfa, cache, input, is_down, first);
     loop {
         let turned = match turn_at(dfa, cache, input, is_down, stand, work) {
             Ok(turned) => turned,
