@@ -1,7 +1,7 @@
--- Runs over known steps on which each state matches: no unit, one unit more, and where they lead a pass.
-use Rattle.std.proofs.Common.{◌≡◌, ◌≢◌, ◌⊎◌, ℕ, suc, ◌+◌, ◌-◌, ◌/◌, ◌%◌, ◌<◌, ◌≤◌, Bool, true, false, List, [], ◌∷◌, Option, refl, sym, ap, ◌∙◌, subst, ⊎_elim, arith, true≢false}
+-- Runs over known steps through states that match and others: no unit, one unit more, and where they lead a pass.
+use Rattle.std.proofs.Common.{◌≡◌, ◌≢◌, ℕ, suc, ◌+◌, ◌-◌, ◌/◌, ◌%◌, ◌<◌, ◌≤◌, Bool, true, false, List, [], ◌∷◌, Option, refl, sym, ap, ◌∙◌, subst, ⊎_elim, arith, true≢false}
 use Rattle.std.specs.Prelude.{◌&&◌, not}
-use Rattle.std.proofs.lemmas.Bool.{cases_Bool}
+use Rattle.std.proofs.lemmas.Bool.{cases_Bool, cases_eq, cases_lt}
 use Rattle.std.proofs.lemmas.Bool.Decides.{Decides-eqb}
 use Rattle.nfa_core.specs.Ways.{place_of}
 use Rattle.determinize_core.specs.States.{StateValue}
@@ -19,12 +19,13 @@ use Rattle.lazy_dfa.specs.Readers.{is_quit}
 use Rattle.lazy_dfa.specs.Stands.{left_at, GoesBetween}
 use Rattle.lazy_dfa.specs.Steps.{noted}
 use Rattle.lazy_dfa.proofs.ChangeLemmas.{grew_refl, one_state}
+use Rattle.lazy_dfa.proofs.IsCacheLemmas.{row_is_plain}
 use Rattle.lazy_dfa.proofs.LinkedLemmas.{AreBytes, row_leads}
-use Rattle.lazy_dfa.proofs.PointLemmas.{held_plain, goes_step, goes_on, goes_none, row_known}
+use Rattle.lazy_dfa.proofs.PointLemmas.{held_plain, goes_step, goes_known, goes_on, goes_none, row_known}
 use Rattle.lazy_dfa.proofs.RunLemmas.{between_on}
 use Rattle.lazy_dfa.proofs.TurnStepLemmas.{row_matches}
 
--- ---- one unit by a step that is known and leads to a state that matches
+-- ---- one unit by a step that is known and leads to a state that isn't dead
 
 match_bit : (id : ℕ) → tag ≤ id → id < start_tag → has_tag match_tag id ≡ true
 match_bit id l m = (Decides-eqb ((id / match_tag) % 2) 1).1 (omega (arith, l, m))
@@ -37,8 +38,7 @@ recorded_last s t i j best e = by_list t.matches e
     by_list [] e = absurd (true≢false (sym e))
     by_list (p ∷ ps) e = refl
 
-module _ (d : Dfa) (v : CacheValue) (id next : ℕ) (u : Option ℕ) (own : IsCacheOf d v) (unit : IsUnit u) (row : IsRow v id) (read : next ≡ noted d v id u)
-    (above : tag ≤ next) (below : next < start_tag) where
+module _ (d : Dfa) (v : CacheValue) (id next : ℕ) (u : Option ℕ) (own : IsCacheOf d v) (unit : IsUnit u) (row : IsRow v id) (read : next ≡ noted d v id u) (below : next < start_tag) where
   known : noted d v id u ≢ unknown_id
   known z = omega (arith, read, below, z)
 
@@ -58,12 +58,12 @@ module _ (d : Dfa) (v : CacheValue) (id next : ℕ) (u : Option ℕ) (own : IsCa
   held_next : (s : StateValue) → HeldAt v id s → HeldAt v next (after d s u)
   held_next s g = held_plain v next (after d s u) (omega (arith, below)) ((leads s g).goes quiet)
 
-  pub matching_row : IsRow v next
-  matching_row = let g = held_next here (row.0, row.1, row.2, refl) in (g.0, g.1, g.2)
+  pub row_next : IsRow v next
+  row_next = let g = held_next here (row.0, row.1, row.2, refl) in (g.0, g.1, g.2)
 
   next_is : (s t : StateValue) → HeldAt v id s → HeldAt v next t → t ≡ after d s u
   next_is s t g h =
-      let r = matching_row in
+      let r = row_next in
       sym (one_state v next r.0 t own.shape r.1 r.2 h) ∙ one_state v next r.0 (after d s u) own.shape r.1 r.2 (held_next s g)
 
   goes_one : (h : List ℕ) (at m n : ℕ) (best : Option (ℕ × ℕ)) (t : StateValue) → HeldAt v next t → u ≡ unit_of (reader d) h at 0 →
@@ -73,49 +73,59 @@ module _ (d : Dfa) (v : CacheValue) (id next : ℕ) (u : Option ℕ) (own : IsCa
       (λ s g. ap (λ (x : StateValue). recorded at x best) (next_is s t g held))
 
   -- a run that came to the ID goes on
-  module _ (h : List ℕ) (made : IsDfa d) (bytes : AreBytes h) (from first at last k : ℕ) (start : IsRow v first) (came : k ≡ 0 → at ≡ from) (so_far : Lingers d h v from first at id last k)
+  module _ (h : List ℕ) (made : IsDfa d) (bytes : AreBytes h) (from first at met last k : ℕ) (start : IsRow v first) (so_far : Lingers d h v from first at id met last k)
       (at2 k2 : ℕ) (is : u ≡ unit_of (reader d) h at 0) (place : place_of d.nfa.automaton.reverse at 1 ≡ at2) (count : k + 1 ≡ k2) where
-    abbrev Goes : ℕ → ℕ → Option (ℕ × ℕ) → ℕ → ℕ → Option (ℕ × ℕ) → ℕ → Type 0
-    Goes m n best i x b j = GoesTo d h (point v m n from first best) (point v m n i x b) j
+    abbrev Goes : ℕ → ℕ → Option (ℕ × ℕ) → Option (ℕ × ℕ) → Type 0
+    Goes m n best b = GoesTo d h (point v m n from first best) (point v m n at2 next b) k2
 
-    by_one : (t : StateValue) → HeldAt v next t → (m n : ℕ) (best : Option (ℕ × ℕ)) → k ≡ 0 → Goes m n best (place_of d.nfa.automaton.reverse at 1) next (recorded at t best) (k + 1)
-    by_one t held m n best z =
-        let one : 1 ≡ k + 1 = omega (arith, z) in
-        subst (λ (x : ℕ). GoesTo d h (point v m n x first best) (point v m n (place_of d.nfa.automaton.reverse at 1) next (recorded at t best)) (k + 1)) (came z)
-        (subst (λ (x : ℕ). GoesTo d h (point v m n at x best) (point v m n (place_of d.nfa.automaton.reverse at 1) next (recorded at t best)) (k + 1)) (so_far.still z)
-        (subst (λ (j : ℕ). GoesTo d h (point v m n at id best) (point v m n (place_of d.nfa.automaton.reverse at 1) next (recorded at t best)) j) one (goes_one h at m n best t held is)))
+    -- one unit more, with what is recorded before it and behind it
+    on : (m n : ℕ) (best b c : Option (ℕ × ℕ)) → GoesTo d h (point v m n from first best) (point v m n at id b) k →
+        GoesTo d h (point v m n at id b) (point v m n (place_of d.nfa.automaton.reverse at 1) next c) 1 → Goes m n best c
+    on m n best b c f g =
+        subst (λ (j : ℕ). GoesTo d h (point v m n from first best) (point v m n at2 next c) j) count
+        (subst (λ (i : ℕ). GoesTo d h (point v m n from first best) (point v m n i next c) (k + 1)) place
+        (goes_on d h made bytes (point v m n from first best) (point v m n at id b) (point v m n (place_of d.nfa.automaton.reverse at 1) next c) k 1 own own start f g))
 
-    by_more : (t : StateValue) → HeldAt v next t → (m n : ℕ) (best : Option (ℕ × ℕ)) → 0 < k → Goes m n best (place_of d.nfa.automaton.reverse at 1) next (recorded at t best) (k + 1)
-    by_more t held m n best l =
-        let s : StateValue = here in
-        let g : HeldAt v id s = (row.0, row.1, row.2, refl) in
-        let does : is_match t.matches ≡ true = sym (row_matches v next t own.shape held) ∙ match_bit next above below in
-        subst (λ (b : Option (ℕ × ℕ)). Goes m n best (place_of d.nfa.automaton.reverse at 1) next b (k + 1)) (recorded_last s t last at best does)
-        (goes_on d h made bytes (point v m n from first best) (point v m n at id (recorded last s best))
-        (point v m n (place_of d.nfa.automaton.reverse at 1) next (recorded at t (recorded last s best))) k 1 own own start (so_far.goes l s g m n best)
-        (goes_one h at m n (recorded last s best) t held is))
-
-    further : (t : StateValue) → HeldAt v next t → (m n : ℕ) (best : Option (ℕ × ℕ)) → Goes m n best at2 next (recorded at t best) k2
-    further t held m n best =
-        subst (λ (j : ℕ). Goes m n best at2 next (recorded at t best) j) count
-        (subst (λ (i : ℕ). Goes m n best i next (recorded at t best) (k + 1)) place
-        (⊎_elim (by_one t held m n best) (by_more t held m n best) (none_or_some k)))
-      where
-        none_or_some : (n : ℕ) → (n ≡ 0) ⊎ (0 < n)
-        none_or_some n = grind arith
-
-    pub lingers_on : Lingers d h v from first at2 next at k2
-    lingers_on = record {
-      still = λ z. absurd (omega (arith, z, count));
-      matches = λ l. match_bit next above below;
-      goes = λ l t held m n best. further t held m n best;
+    lingers_plain : next < tag → Lingers d h v from first at2 next met last k2
+    lingers_plain low = record {
+      row = so_far.row;
+      matches = so_far.matches;
+      plain = λ z m n best. on m n best best best (so_far.plain z m n best) (goes_known d v id next u own unit row read low h at m n best is);
+      goes = λ z s held m n best. on m n best (recorded last s best) (recorded last s best) (so_far.goes z s held m n best)
+          (goes_known d v id next u own unit row read low h at m n (recorded last s best) is);
     }
 
-pub lingers_none : (d : Dfa) (h : List ℕ) (v : CacheValue) (at id last k : ℕ) → k ≡ 0 → Lingers d h v at id at id last k
-lingers_none d h v at id last k z = record {
-  still = λ e. refl;
-  matches = λ l. absurd (omega (arith, z, l));
-  goes = λ l. absurd (omega (arith, z, l));
+    lingers_matching : tag ≤ next → Lingers d h v from first at2 next next at k2
+    lingers_matching high = record {
+      row = λ z. row_next;
+      matches = λ z. match_bit next high below;
+      plain = λ z. absurd (omega (arith, z, below));
+      goes = λ z t held m n best. ⊎_elim
+          (λ (e : met ≡ unknown_id). on m n best best (recorded at t best) (so_far.plain e m n best) (goes_one h at m n best t held is))
+          (λ (e : met ≢ unknown_id).
+          let r = so_far.row e in
+          let s : StateValue = state_at v r.0 in
+          let does : is_match t.matches ≡ true = sym (row_matches v next t own.shape held) ∙ match_bit next high below in
+          subst (λ (b : Option (ℕ × ℕ)). Goes m n best b) (recorded_last s t last at best does)
+          (on m n best (recorded last s best) (recorded at t (recorded last s best)) (so_far.goes e s (r.0, r.1, r.2, refl) m n best) (goes_one h at m n (recorded last s best) t held is)))
+          (cases_eq met unknown_id);
+    }
+
+    pub lingers_on : (met2 last2 : ℕ) → (tag ≤ next → (met2 ≡ next) × (last2 ≡ at)) → (next < tag → (met2 ≡ met) × (last2 ≡ last)) → Lingers d h v from first at2 next met2 last2 k2
+    lingers_on met2 last2 matching plain = ⊎_elim
+        (λ (l : next < tag). let e = plain l in renamed met last met2 last2 e.0 e.1 (lingers_plain l))
+        (λ (l : tag ≤ next). let e = matching l in renamed next at met2 last2 e.0 e.1 (lingers_matching l))
+        (cases_lt next tag)
+      where
+        renamed : (x i y j : ℕ) → y ≡ x → j ≡ i → Lingers d h v from first at2 next x i k2 → Lingers d h v from first at2 next y j k2
+        renamed x i y j e f g = subst (λ (n : ℕ). Lingers d h v from first at2 next n j k2) (sym e) (subst (λ (n : ℕ). Lingers d h v from first at2 next x n k2) (sym f) g)
+
+pub lingers_none : (d : Dfa) (h : List ℕ) (v : CacheValue) (at id met last k : ℕ) → IsCacheOf d v → IsRow v id → met ≡ unknown_id → k ≡ 0 → Lingers d h v at id at id met last k
+lingers_none d h v at id met last k own row e z = record {
+  row = λ n. absurd (n e);
+  matches = λ n. absurd (n e);
+  plain = λ f m n best. subst (λ (j : ℕ). GoesTo d h (point v m n at id best) (point v m n at id best) j) (sym z) (goes_none d h (point v m n at id best) (row_known v id own.shape row));
+  goes = λ n. absurd (n e);
 }
 
 -- ---- where such a run leads a pass
@@ -124,67 +134,51 @@ lingers_none d h v at id last k z = record {
 never_stops : (d : Dfa) (earliest : Bool) (h : List ℕ) (at : ℕ) (s : StateValue) (k : ℕ) → earliest ≡ false → HasNoStop (reader d) earliest h at s k
 never_stops d earliest h at s k e j l = ap (λ (x : Bool). x && not (is_empty (state_behind (reader d) h at s (suc j)).matches)) e
 
-module _ (d : Dfa) (v : CacheValue) (q : Search) (h : List ℕ) (down : Bool) (from first at id last k : ℕ) (own : IsCacheOf d v) (row : IsRow v first) (here : IsRow v id)
-    (same : h ≡ q.haystack) (late : q.earliest ≡ false) (lingers : Lingers d h v from first at id last k) (still : k ≡ 0 → at ≡ from) (moved : 0 < k → at ≢ from)
-    (before behind : Option (ℕ × ℕ)) (stays : at ≡ from → behind ≡ before) (best : at ≢ from → (s : StateValue) → HeldAt v id s → behind ≡ recorded last s before) where
-  abbrev Comes : ℕ → ℕ → ℕ → ℕ → Option (ℕ × ℕ) → ℕ → Type 0
-  Comes m n i x b j = GoesTo d h (point v m n from first before) (point v m n i x b) j
+-- the run was handed the haystack of the input and its last place, and the match behind it is told by the state that it met last
+module _ (d : Dfa) (v : CacheValue) (q : Search) (h : List ℕ) (down : Bool) (from first at id met last end : ℕ) (own : IsCacheOf d v)
+    (same : h ≡ q.haystack) (late : q.earliest ≡ false) (before behind : Option (ℕ × ℕ))
+    (stays : unknown_id ≤ met → behind ≡ before) (best : met < unknown_id → (s : StateValue) → HeldAt v met s → behind ≡ recorded last s before) where
+  abbrev Comes : Option (ℕ × ℕ) → ℕ → ℕ → ℕ → Type 0
+  Comes b k m n = GoesTo d h (point v m n from first before) (point v m n at id b) k
 
-  goes_there : (m n : ℕ) → Comes m n at id behind k
-  goes_there m n = ⊎_elim none some (none_or_some k)
-    where
-      none_or_some : (n : ℕ) → (n ≡ 0) ⊎ (0 < n)
-      none_or_some n = grind arith
+  abbrev Between : ℕ → Type 0
+  Between j = (m n : ℕ) → GoesBetween d q.earliest q.haystack (point v m n from first before) (point v m n at id behind) j
 
-      none : k ≡ 0 → Comes m n at id behind k
-      none z =
-          subst (λ (j : ℕ). Comes m n at id behind j) (sym z)
-          (subst (λ (b : Option (ℕ × ℕ)). Comes m n at id b 0) (sym (stays (still z)))
-          (subst (λ (x : ℕ). Comes m n at x before 0) (sym (lingers.still z))
-          (subst (λ (i : ℕ). Comes m n i first before 0) (sym (still z)) (goes_none d h (point v m n from first before) (row_known v first own.shape row)))))
+  comes : (k : ℕ) → Lingers d h v from first at id met last k → (m n : ℕ) → Comes behind k m n
+  comes k lingers m n = ⊎_elim
+      (λ (e : met ≡ unknown_id). subst (λ (b : Option (ℕ × ℕ)). Comes b k m n) (sym (stays (omega (arith, e)))) (lingers.plain e m n before))
+      (λ (e : met ≢ unknown_id).
+      let r = lingers.row e in
+      let s : StateValue = state_at v r.0 in
+      let g : HeldAt v met s = (r.0, r.1, r.2, refl) in
+      let low = row_is_plain v met r.0 own.shape r.1 r.2 in
+      subst (λ (b : Option (ℕ × ℕ)). Comes b k m n) (sym (best (omega (arith, low)) s g)) (lingers.goes e s g m n before))
+      (cases_eq met unknown_id)
 
-      some : 0 < k → Comes m n at id behind k
-      some l =
-          let s : StateValue = state_at v here.0 in
-          let g : HeldAt v id s = (here.0, here.1, here.2, refl) in
-          subst (λ (b : Option (ℕ × ℕ)). Comes m n at id b k) (sym (best (moved l) s g)) (lingers.goes l s g m n before)
-
-  pub linger_between : (j : ℕ) → k ≡ j → (m n : ℕ) → GoesBetween d q.earliest q.haystack (point v m n from first before) (point v m n at id behind) j
-  linger_between j e m n = (
+  between : (k j : ℕ) → k ≡ j → Lingers d h v from first at id met last k → Between j
+  between k j e lingers m n = (
     subst (λ (x : ℕ). GoesTo d q.haystack (point v m n from first before) (point v m n at id behind) x) e
-        (subst (λ (x : List ℕ). GoesTo d x (point v m n from first before) (point v m n at id behind) k) same (goes_there m n)),
+        (subst (λ (x : List ℕ). GoesTo d x (point v m n from first before) (point v m n at id behind) k) same (comes k lingers m n)),
     λ s held. never_stops d q.earliest q.haystack from s j late,
   )
 
--- the same where the run was handed the haystack of the input and its last place, and told of by what stands behind it
-module _ (d : Dfa) (v : CacheValue) (q : Search) (h : List ℕ) (down : Bool) (from first at id last end at2 id2 : ℕ) (own : IsCacheOf d v) (row : IsRow v first) (here : IsRow v id)
-    (same : h ≡ q.haystack) (late : q.earliest ≡ false) (there : at2 ≡ at) (named : id2 ≡ id)
-    (before behind : Option (ℕ × ℕ)) (stays : at ≡ from → behind ≡ before) (best : at ≢ from → (s : StateValue) → HeldAt v id s → behind ≡ recorded last s before) where
-  abbrev Between : ℕ → ℕ → ℕ → Type 0
-  Between i x j = (m n : ℕ) → GoesBetween d q.earliest q.haystack (point v m n from first before) (point v m n i x behind) j
-
-  renamed : (j : ℕ) → Between at id j → Between at2 id2 j
-  renamed j g = subst (λ (x : ℕ). Between at2 x j) (sym named) (subst (λ (i : ℕ). Between i id j) (sym there) g)
-
-  pub lingers_up : down ≡ false → end ≡ q.end → from ≤ at → at ≤ end → Lingers d h v from first at id last (at - from) → Between at2 id2 (left_at down q from - left_at down q at2)
-  lingers_up e stop past within lingers =
-      renamed (left_at down q from - left_at down q at2)
-      (linger_between d v q h down from first at id last (at - from) own row here same late lingers (λ z. omega (arith, z, past)) (λ l z. absurd (omega (arith, l, z)))
-      before behind stays best (left_at down q from - left_at down q at2) (counted down e))
+  pub lingers_up : down ≡ false → end ≡ q.end → from ≤ at → at ≤ end → Lingers d h v from first at id met last (at - from) → Between (left_at down q from - left_at down q at)
+  lingers_up e stop past within lingers = between (at - from) (left_at down q from - left_at down q at) (counted down e) lingers
     where
-      counted : (b : Bool) → b ≡ false → at - from ≡ left_at b q from - left_at b q at2
+      counted : (b : Bool) → b ≡ false → at - from ≡ left_at b q from - left_at b q at
       counted true e = absurd (true≢false e)
-      counted false e = omega (arith, there, stop, past, within)
+      counted false e = omega (arith, stop, past, within)
 
-  pub lingers_down : down ≡ true → end ≡ q.start → at ≤ from → end ≤ at → Lingers d h v from first at id last (from - at) → Between at2 id2 (left_at down q from - left_at down q at2)
-  lingers_down e stop past within lingers =
-      renamed (left_at down q from - left_at down q at2)
-      (linger_between d v q h down from first at id last (from - at) own row here same late lingers (λ z. omega (arith, z, past)) (λ l z. absurd (omega (arith, l, z)))
-      before behind stays best (left_at down q from - left_at down q at2) (counted down e))
+  pub lingers_down : down ≡ true → end ≡ q.start → at ≤ from → end ≤ at → Lingers d h v from first at id met last (from - at) → Between (left_at down q from - left_at down q at)
+  lingers_down e stop past within lingers = between (from - at) (left_at down q from - left_at down q at) (counted down e) lingers
     where
-      counted : (b : Bool) → b ≡ true → from - at ≡ left_at b q from - left_at b q at2
+      counted : (b : Bool) → b ≡ true → from - at ≡ left_at b q from - left_at b q at
       counted false e = absurd (true≢false (sym e))
-      counted true e = omega (arith, there, stop, past, within)
+      counted true e = omega (arith, stop, past, within)
+
+-- the ID that was met last is known by a run only where it is that of a row
+pub met_below : (d : Dfa) (h : List ℕ) (v : CacheValue) (from first at id met last k : ℕ) → Lingers d h v from first at id met last k → met < unknown_id → IsRow v met × (has_tag match_tag met ≡ true)
+met_below d h v from first at id met last k lingers l = let n : met ≢ unknown_id = λ e. omega (arith, e, l) in (lingers.row n, lingers.matches n)
 
 -- ---- two runs one after the other
 

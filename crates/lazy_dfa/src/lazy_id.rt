@@ -127,14 +127,11 @@ impl LazyStateID {
         self.0 >= QUIT
     }
 
-    /// Whether it is that of a row whose state matches, and not that of a start.
+    /// Whether it is that of a row, with the tag of a match or none.
     #[inline(always)]
-    pub(crate) fn is_matching_row(self) -> bool
-        ensures { (result ≡ true) ↔ ((tag ≤ self) × (self < start_tag)) }
+    pub(crate) fn is_of_row(self) -> bool
+        ensures { (result ≡ true) ↔ (self < start_tag) }
     {
-        if self.0 < MATCH {
-            return false;
-        }
         self.0 < START
     }
 

@@ -1,9 +1,9 @@
-//! Runs over known steps from one state that matches to the next. They only read, and look at the last match alone: so in a
-//! match that goes on for long a search spends no more on a byte than elsewhere.
-ghost use Rattle.std.specs.Prelude.{◌≡◌, ◌≢◌, ℕ, ◌-◌, ◌≤◌, false, true, length};
+//! Runs over known steps through states that match and others. They only read, and of all matches on their way they look at the
+//! last one alone: so in a match that goes on for long a search spends no more on a byte than elsewhere.
+ghost use Rattle.std.specs.Prelude.{◌≡◌, ◌≢◌, ℕ, ◌-◌, ◌<◌, ◌≤◌, false, true, length};
 ghost use Rattle.determinize_core.specs.States.{StateValue};
 ghost use Rattle.lazy_dfa.specs.Caches.{IsCacheOf, IsRow, HeldAt};
-ghost use Rattle.lazy_dfa.specs.Ids.{has_tag, match_tag};
+ghost use Rattle.lazy_dfa.specs.Ids.{tag, has_tag, match_tag, unknown_id};
 ghost use Rattle.lazy_dfa.specs.Lingering.{Lingers};
 ghost use Rattle.lazy_dfa.specs.Passes.{recorded};
 ghost use Rattle.lazy_dfa.specs.Points.{point};
@@ -15,15 +15,35 @@ use crate::lazy_id::LazyStateID;
 use crate::passing::Stand;
 use search_types::{HalfMatch, Input};
 
-/// How far a run came, to which state, and from which place it read the last unit.
+/// The ID of a state that matches, with the place from which its unit was read; the unknown ID where there was none.
 #[derive(Clone, Copy)]
-struct Lingered {
-    at: usize,
+struct Met {
     id: LazyStateID,
     last: usize,
 }
 
-/// Goes on upwards over known steps while each state matches.
+/// How far a run came, to which state, and which one that matches it met last.
+#[derive(Clone, Copy)]
+struct Lingered {
+    at: usize,
+    id: LazyStateID,
+    met: Met,
+}
+
+/// Which state that matches was met last, where the unit at a place leads to this one.
+#[inline(always)]
+fn meet(met: Met, next: LazyStateID, at: usize) -> Met
+    ensures matching { tag ≤ next → (result.id ≡ next) × (result.last ≡ at) }
+    ensures plain { next < tag → (result.id ≡ met.id) × (result.last ≡ met.last) }
+{
+    if next.is_tagged() {
+        Met { id: next, last: at }
+    } else {
+        met
+    }
+}
+
+/// Goes on upwards over known steps while each leads to a state that isn't dead.
 fn linger_up(
     dfa: &DFA,
     cache: &Cache,
@@ -40,25 +60,28 @@ fn linger_up(
     ensures row { IsRow cache.now result.id }
     ensures past { from ≤ result.at }
     ensures within { result.at ≤ end }
-    ensures lingers { Lingers dfa.now haystack.now cache.now from id result.at result.id result.last (result.at - from) }
+    ensures lingers { Lingers dfa.now haystack.now cache.now from id result.at result.id result.met.id result.met.last (result.at - from) }
 {
     dfa.is_made();
     let mut at = from;
     let mut sid = id;
-    let mut last = from;
+    let mut met = Met {
+        id: LazyStateID::unknown(),
+        last: from,
+    };
     while at < end {
         let next = cache.cell(sid, dfa.class(haystack[at]));
-        if !next.is_matching_row() {
-            return Lingered { at, id: sid, last };
+        if !next.is_of_row() {
+            return Lingered { at, id: sid, met };
         }
+        met = meet(met, next, at);
         sid = next;
-        last = at;
         at += 1;
     }
-    Lingered { at, id: sid, last }
+    Lingered { at, id: sid, met }
 }
 
-/// Goes on downwards over known steps while each state matches.
+/// Goes on downwards over known steps while each leads to a state that isn't dead.
 fn linger_down(
     dfa: &DFA,
     cache: &Cache,
@@ -75,52 +98,45 @@ fn linger_down(
     ensures row { IsRow cache.now result.id }
     ensures past { result.at ≤ from }
     ensures within { end ≤ result.at }
-    ensures lingers { Lingers dfa.now haystack.now cache.now from id result.at result.id result.last (from - result.at) }
+    ensures lingers { Lingers dfa.now haystack.now cache.now from id result.at result.id result.met.id result.met.last (from - result.at) }
 {
     dfa.is_made();
     let mut at = from;
     let mut sid = id;
-    let mut last = from;
+    let mut met = Met {
+        id: LazyStateID::unknown(),
+        last: from,
+    };
     while at > end {
         let next = cache.cell(sid, dfa.class(haystack[at - 1]));
-        if !next.is_matching_row() {
-            return Lingered { at, id: sid, last };
+        if !next.is_of_row() {
+            return Lingered { at, id: sid, met };
         }
+        met = meet(met, next, at);
         sid = next;
-        last = at;
         at -= 1;
     }
-    Lingered { at, id: sid, last }
+    Lingered { at, id: sid, met }
 }
 
-/// Where a pass stands behind a run, with the match of the run's last state.
+/// The match that is recorded behind a run, by the state that it met last.
 #[inline(always)]
-fn behind_run(dfa: &DFA, cache: &Cache, stand: Stand, run: Lingered) -> Stand
+fn best_behind(dfa: &DFA, cache: &Cache, best: Option<HalfMatch>, met: Met) -> Option<HalfMatch>
     requires own { IsCacheOf dfa.now cache.now }
-    requires row { IsRow cache.now run.id }
-    requires matches { run.at ≢ stand.at → has_tag match_tag run.id ≡ true }
-    ensures at { result.at ≡ run.at }
-    ensures id { result.id ≡ run.id }
-    ensures still { run.at ≡ stand.at → pair_of result.best ≡ pair_of stand.best }
-    ensures best { run.at ≢ stand.at → (s : StateValue) → HeldAt cache.now run.id s → pair_of result.best ≡ recorded run.last s (pair_of stand.best) }
+    requires row { met.id < unknown_id → IsRow cache.now met.id }
+    requires matches { met.id < unknown_id → has_tag match_tag met.id ≡ true }
+    ensures still { unknown_id ≤ met.id → pair_of result ≡ pair_of best }
+    ensures last { met.id < unknown_id → (s : StateValue) → HeldAt cache.now met.id s → pair_of result ≡ recorded met.last s (pair_of best) }
 {
-    if run.at == stand.at {
-        return Stand {
-            at: run.at,
-            id: run.id,
-            best: stand.best,
-        };
+    if met.id.is_not_known() {
+        return best;
     }
-    let pattern = dfa.match_pattern(cache, run.id, 0);
-    Stand {
-        at: run.at,
-        id: run.id,
-        best: Some(HalfMatch::new(pattern, run.last)),
-    }
+    let pattern = dfa.match_pattern(cache, met.id, 0);
+    Some(HalfMatch::new(pattern, met.last))
 }
 
-/// Goes on over known steps while each state matches, up to the last place of the span, where the pass stands in a state that
-/// matches and doesn't ask for the earliest end.
+/// Goes on over known steps up to the last place of the span, while none leads to the dead state. Where the earliest end is asked
+/// for, the pass stays where it stands.
 #[inline(always)]
 pub(crate) fn linger(
     dfa: &DFA,
@@ -140,17 +156,22 @@ pub(crate) fn linger(
         (point cache.now m n stand.at stand.id (pair_of stand.best)) (point cache.now m n result.at result.id (pair_of result.best))
         (left_at is_down input.now stand.at - left_at is_down input.now result.at) }
 {
-    if !stand.id.is_matching_row() {
-        return stand;
-    }
     if input.get_earliest() {
         return stand;
     }
     let haystack = input.haystack();
     if is_down {
         let run = linger_down(dfa, cache, haystack, stand.id, stand.at, input.start());
-        return behind_run(dfa, cache, stand, run);
+        return Stand {
+            at: run.at,
+            id: run.id,
+            best: best_behind(dfa, cache, stand.best, run.met),
+        };
     }
     let run = linger_up(dfa, cache, haystack, stand.id, stand.at, input.end());
-    behind_run(dfa, cache, stand, run)
+    Stand {
+        at: run.at,
+        id: run.id,
+        best: best_behind(dfa, cache, stand.best, run.met),
+    }
 }

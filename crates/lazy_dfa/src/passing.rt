@@ -172,7 +172,7 @@ pub(crate) fn run(
     }
 }
 
-/// Goes on over known steps, up to the last place of the span: while each state matches, and then while none has a tag.
+/// Goes on over known steps, up to the last place of the span: while no state has a tag, and then through those that match too.
 #[inline(always)]
 fn run_known(dfa: &DFA, cache: &mut Cache, input: &Input<'_>, is_down: bool, stand: Stand) -> Stand
     requires own { IsCacheOf dfa.now cache.old }
@@ -189,8 +189,8 @@ fn run_known(dfa: &DFA, cache: &mut Cache, input: &Input<'_>, is_down: bool, sta
 {
     dfa.is_made();
     see_bytes(input.haystack());
-    let next = linger(dfa, cache, input, is_down, stand);
-    run(dfa, cache, input, is_down, next)
+    let next = run(dfa, cache, input, is_down, stand);
+    linger(dfa, cache, input, is_down, next)
 }
 
 /// A turn by a byte of the span.
@@ -341,7 +341,7 @@ fn go_on<L: Ledger, M: Ledger>(
         id,
         best: None,
     };
-    let mut stand = run(dfa, cache, input, is_down, first);
+    let mut stand = run_known(dfa, cache, input, is_down, first);
     loop {
         let turned = match turn_at(dfa, cache, input, is_down, stand, work) {
             Ok(turned) => turned,

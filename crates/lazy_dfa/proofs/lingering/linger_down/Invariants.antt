@@ -8,7 +8,7 @@ invariant-loop-at l = record {
   row : IsRow l.cache l.sid;
   past : l.at ≤ l.from;
   within : l.end ≤ l.at;
-  lingers : Lingers l.dfa l.haystack l.cache l.from l.fn.id l.at l.sid l.last (l.from - l.at);
+  lingers : Lingers l.dfa l.haystack l.cache l.from l.fn.id l.at l.sid l.met.id l.met.last (l.from - l.at);
 }
 
 abbrev pub decreases-loop-at : goal.decreases-loop-at

@@ -8,7 +8,7 @@ invariant-loop-at l = record {
   row : IsRow l.cache l.sid;
   past : l.from ≤ l.at;
   within : l.at ≤ l.end;
-  lingers : Lingers l.dfa l.haystack l.cache l.from l.fn.id l.at l.sid l.last (l.at - l.from);
+  lingers : Lingers l.dfa l.haystack l.cache l.from l.fn.id l.at l.sid l.met.id l.met.last (l.at - l.from);
 }
 
 abbrev pub decreases-loop-at : goal.decreases-loop-at

@@ -8,18 +8,18 @@ use Rattle.lazy_dfa.proofs.PassLoopLemmas.{began_runs, under_first, under_on, st
 use Rattle.lazy_dfa.proofs.passing.go_on.Goals as goal
 
 pub loop-turned-init : goal.loop-turned-init
-loop-turned-init g c = rw c.run-stand.ensures.same (record {
+loop-turned-init g c = rw c.run_known-stand.ensures.same (record {
   own = c.requires.own;
-  row = c.run-stand.ensures.row;
-  within = c.run-stand.ensures.within;
+  row = c.run_known-stand.ensures.row;
+  within = c.run_known-stand.ensures.within;
   running = λ e. began_runs c.args.cache.now.progress (first_index c.args.is_down c.args.input.now) (ap began (c.requires.running e));
   same = λ e. refl;
-  goes = stand_first c.args.dfa.now c.args.input.now c.args.is_down c.args.cache.now c.args.work.now.determinized c.args.work.now.inserted c.args.id c.run-stand.result.at c.run-stand.result.id (pair_of c.run-stand.result.best)
+  goes = stand_first c.args.dfa.now c.args.input.now c.args.is_down c.args.cache.now c.args.work.now.determinized c.args.work.now.inserted c.args.id c.run_known-stand.result.at c.run_known-stand.result.id (pair_of c.run_known-stand.result.best)
       (subst (λ (x : ℕ). GoesBetween c.args.dfa.now c.args.input.now.earliest c.args.input.now.haystack (point c.args.cache.now c.args.work.now.determinized c.args.work.now.inserted x c.args.id None)
-      (point c.args.cache.now c.args.work.now.determinized c.args.work.now.inserted c.run-stand.result.at c.run-stand.result.id (pair_of c.run-stand.result.best))
-      (left_at c.args.is_down c.args.input.now x - left_at c.args.is_down c.args.input.now c.run-stand.result.at)) c.first_place.ensures
-      (c.run-stand.ensures.goes c.args.input.now.earliest c.args.work.now.determinized c.args.work.now.inserted)) c.run-stand.ensures.within;
-  under = under_first c.args.is_down c.args.input.now c.args.cache.now c.run-stand.result.at c.requires.running;
+      (point c.args.cache.now c.args.work.now.determinized c.args.work.now.inserted c.run_known-stand.result.at c.run_known-stand.result.id (pair_of c.run_known-stand.result.best))
+      (left_at c.args.is_down c.args.input.now x - left_at c.args.is_down c.args.input.now c.run_known-stand.result.at)) c.first_place.ensures
+      (c.run_known-stand.ensures.goes c.args.work.now.determinized c.args.work.now.inserted)) c.run_known-stand.ensures.within;
+  under = under_first c.args.is_down c.args.input.now c.args.cache.now c.run_known-stand.result.at c.requires.running;
 })
 
 pub returns-in-Err-clause-runs : goal.returns-in-Err-clause-runs
@@ -49,23 +49,23 @@ loop-turned-preserved g c =
     let first : Point = point c.args.cache.now c.args.work.now.determinized c.args.work.now.inserted (first_place c.args.is_down c.args.input.now.start c.args.input.now.end) c.args.id None in
     let further = goes_further c.args.dfa.now c.args.input.now c.args.is_down c.requires.down c.is_made.ensures (subst AreBytes c.haystack.ensures.value c.see_bytes.ensures) first here c.requires.own c.loop-turned.invariant.own c.requires.row c.loop-turned.invariant.row
     c.loop-turned.invariant.within c.loop-turned.invariant.goes c.turn_at.new.cache c.turn_at.new.work.determinized c.turn_at.new.work.inserted c.in-Ok.turned.stand c.in-Ok.ensures.own on in
-    rw c.run_known-stand.ensures.same (record {
+    rw c.run_known-stand-in-loop-turned.ensures.same (record {
       own = c.in-Ok.ensures.own;
-      row = c.run_known-stand.ensures.row;
-      within = c.run_known-stand.ensures.within;
+      row = c.run_known-stand-in-loop-turned.ensures.row;
+      within = c.run_known-stand-in-loop-turned.ensures.within;
       running = λ e. on.0.running (c.loop-turned.invariant.running e);
       same = λ e. absurd (told_nothing c.args.is_down c.args.input.now c.loop-turned.stand.at c.loop-turned.invariant.within further e);
       goes = stand_on c.args.dfa.now c.args.input.now c.args.is_down c.requires.down c.is_made.ensures (subst AreBytes c.haystack.ensures.value c.see_bytes.ensures) first here c.requires.own c.loop-turned.invariant.own c.requires.row c.loop-turned.invariant.row
           c.loop-turned.invariant.within c.loop-turned.invariant.goes c.turn_at.new.cache c.turn_at.new.work.determinized c.turn_at.new.work.inserted c.in-Ok.turned.stand c.in-Ok.ensures.own on
-          c.run_known-stand.result.at c.run_known-stand.result.id (pair_of c.run_known-stand.result.best) c.run_known-stand.ensures.within c.run_known-stand.ensures.closer
-          (c.run_known-stand.ensures.goes c.turn_at.new.work.determinized c.turn_at.new.work.inserted);
+          c.run_known-stand-in-loop-turned.result.at c.run_known-stand-in-loop-turned.result.id (pair_of c.run_known-stand-in-loop-turned.result.best) c.run_known-stand-in-loop-turned.ensures.within c.run_known-stand-in-loop-turned.ensures.closer
+          (c.run_known-stand-in-loop-turned.ensures.goes c.turn_at.new.work.determinized c.turn_at.new.work.inserted);
       under = under_on c.args.dfa.now c.args.input.now c.args.is_down c.requires.down c.is_made.ensures (subst AreBytes c.haystack.ensures.value c.see_bytes.ensures) first here c.requires.own c.loop-turned.invariant.own c.requires.row c.loop-turned.invariant.row
           c.loop-turned.invariant.within c.loop-turned.invariant.goes c.turn_at.new.cache c.turn_at.new.work.determinized c.turn_at.new.work.inserted c.in-Ok.turned.stand c.in-Ok.ensures.own on
-          (first_place c.args.is_down c.args.input.now.start c.args.input.now.end) refl refl c.run_known-stand.result.at c.run_known-stand.ensures.within c.run_known-stand.ensures.closer c.loop-turned.invariant.under;
+          (first_place c.args.is_down c.args.input.now.start c.args.input.now.end) refl refl c.run_known-stand-in-loop-turned.result.at c.run_known-stand-in-loop-turned.ensures.within c.run_known-stand-in-loop-turned.ensures.closer c.loop-turned.invariant.under;
     })
 
-pub run_known-stand-requires-clause-within : goal.run_known-stand-requires-clause-within
-run_known-stand-requires-clause-within g c =
+pub run_known-stand-requires-in-loop-turned-clause-within : goal.run_known-stand-requires-in-loop-turned-clause-within
+run_known-stand-requires-in-loop-turned-clause-within g c =
     let here : Point = point c.loop-turned.cache c.loop-turned.work.determinized c.loop-turned.work.inserted c.loop-turned.stand.at c.loop-turned.stand.id (pair_of c.loop-turned.stand.best) in
     let on = subst (TurnsInto c.args.dfa.now c.args.input.now here c.turn_at.new.cache c.turn_at.new.work.determinized c.turn_at.new.work.inserted c.in-Ok.turned.stand) c.if-turned.false c.in-Ok.ensures.turn in
     within_next c.args.dfa.now c.args.input.now c.args.is_down here c.turn_at.new.cache c.turn_at.new.work.determinized c.turn_at.new.work.inserted c.in-Ok.turned.stand c.requires.down c.loop-turned.invariant.within on
