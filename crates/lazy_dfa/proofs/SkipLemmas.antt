@@ -1,5 +1,5 @@
 -- Runs over bytes that are read one by one, and that are passed over.
-use Rattle.std.proofs.Common.{◌≡◌, ℕ, zero, suc, ◌+◌, ◌-◌, ◌<◌, ◌≤◌, Bool, false, List, length, Option, Some, get_or, ap, refl, sym, subst, ◌∙◌, arith}
+use Rattle.std.proofs.Common.{◌≡◌, ℕ, zero, suc, ◌+◌, ◌-◌, ◌<◌, ◌≤◌, false, List, length, Option, Some, get_or, refl, sym, subst, arith}
 use Rattle.lazy_dfa.specs.Caches.{CacheValue, IsCacheOf, IsRow}
 use Rattle.lazy_dfa.specs.Dfas.{Dfa, IsDfa, class_of}
 use Rattle.lazy_dfa.specs.Ids.{tag}
@@ -7,7 +7,7 @@ use Rattle.lazy_dfa.specs.Points.{GoesTo, point}
 use Rattle.lazy_dfa.specs.Skips.{StaysOver}
 use Rattle.lazy_dfa.proofs.ChangeLemmas.{plain_noted}
 use Rattle.lazy_dfa.proofs.LinkedLemmas.{AreBytes}
-use Rattle.lazy_dfa.proofs.PointLemmas.{goes_on, runs_none, runs_on, next_row, up_unit, up_place}
+use Rattle.lazy_dfa.proofs.PointLemmas.{goes_on, runs_on, next_row, up_unit, up_place}
 
 module _ (d : Dfa) (v : CacheValue) (h : List ℕ) (made : IsDfa d) (own : IsCacheOf d v) (bytes : AreBytes h) (up : d.nfa.automaton.reverse ≡ false) where
   -- the way goes on by a byte whose step is known

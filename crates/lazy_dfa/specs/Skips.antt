@@ -1,5 +1,5 @@
 -- What a cache notes so that searches pass over bytes.
-use Rattle.std.specs.Prelude.{◌≡◌, ℕ, ◌+◌, ◌<◌, ◌≤◌, Bool, false, List, Some, slice_index_or}
+use Rattle.std.specs.Prelude.{◌≡◌, ℕ, ◌+◌, ◌<◌, ◌≤◌, false, List, Some, slice_index_or}
 use Rattle.lazy_dfa.specs.declared.skip.Skip.{Skip}
 use Rattle.lazy_dfa.specs.Dfas.{class_of}
 use Rattle.lazy_dfa.specs.Ids.{tag}

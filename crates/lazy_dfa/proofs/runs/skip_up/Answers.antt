@@ -1,4 +1,4 @@
-use Rattle.std.proofs.Common.{refl, sym, ap, subst, ◌∙◌, ◌+◌, ◌-◌, ◌<◌, ◌≤◌, ℕ, Option, get_or, arith}
+use Rattle.std.proofs.Common.{refl, subst, ◌∙◌, ◌-◌, ℕ, Option, arith}
 use Rattle.lazy_dfa.specs.Caches.{CacheValue, IsRow}
 use Rattle.lazy_dfa.specs.Points.{GoesTo, point}
 use Rattle.lazy_dfa.specs.Skips.{StaysOver}

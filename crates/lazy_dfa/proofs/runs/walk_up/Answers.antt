@@ -1,4 +1,4 @@
-use Rattle.std.proofs.Common.{◌∙◌, sym, ◌+◌, ◌-◌, ◌<◌, get_or, arith, Some}
+use Rattle.std.proofs.Common.{◌∙◌, sym, ◌-◌, get_or, arith}
 use Rattle.lazy_dfa.proofs.ChangeLemmas.{plain_place}
 use Rattle.lazy_dfa.proofs.IsCacheLemmas.{lt_of}
 use Rattle.lazy_dfa.proofs.PointLemmas.{runs_none}
