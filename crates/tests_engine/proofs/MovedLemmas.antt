@@ -34,6 +34,7 @@ module _ (v : CacheValue) (n : ℕ) (p : Option Progress) where
     stride = i.stride;
     fresh = i.fresh;
     bound = i.bound;
+    classes = i.classes;
     slots = i.slots;
     within = i.within;
     lives = i.lives;
