@@ -7,8 +7,8 @@ use Rattle.lazy_dfa.specs.Ids.{has_tag, match_tag, unknown_id}
 use Rattle.lazy_dfa.specs.Passes.{recorded}
 use Rattle.lazy_dfa.specs.Points.{GoesTo, point}
 
--- Such a run came from an ID at a place to another one through k units. Of the states behind them the one that it met last and
--- that matches has an ID, or there was none; of its match, which was read from the place `last`, a pass is left with.
+-- Such a run came from an ID at a place to another one through k units. Of the states behind them the last one that matches has the
+-- ID `met`, which is the unknown one where none matches; a pass is left with its match, whose unit was read from the place `last`.
 pub record Lingers (d : Dfa) (h : List ℕ) (v : CacheValue) (from first at id met last k : ℕ) : Type 0 where
   pub row : met ≢ unknown_id → IsRow v met
   pub matches : met ≢ unknown_id → has_tag match_tag met ≡ true
