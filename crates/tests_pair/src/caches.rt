@@ -3,7 +3,7 @@ use crate::automata::{any_place, letter, pair, two};
 use crate::calls::{Call, Found, Text, answers, are_answered, at, on};
 use crate::machine::Machine;
 use lazy_dfa::dfa::Config;
-use regex_pair::regex::Cache;
+use regex_pair::regex::{Cache, Regex};
 use std::alloc::Global;
 use std::test::Fail;
 
@@ -41,34 +41,29 @@ fn behind() -> [Call; 3] {
     ]
 }
 
-/// The caches of `a`, searched with.
-fn used(alloc: Global) -> Option<Machine> {
-    let a = letter(b'a');
-    let Ok(re) = pair(alloc, &a, &a, any_place(), Config::new()) else {
-        return None;
-    };
-    let Ok(mut machine) = Machine::new(alloc, re) else {
-        return None;
-    };
-    if !are_answered(&mut machine, &anew()) {
-        return None;
-    }
-    Some(machine)
-}
-
-/// Whether they are as fresh ones where they are made anew for `ab`.
-fn is_handed_on(alloc: Global, machine: Machine) -> bool {
-    let Ok(re) = pair(
-        alloc,
-        &two(b'a', b'b'),
-        &two(b'b', b'a'),
-        any_place(),
-        Config::new(),
-    ) else {
+/// Whether caches are as fresh ones where they are made anew for `ab`.
+fn are_handed_on(alloc: Global, machine: &mut Machine) -> bool {
+    let forth = two(b'a', b'b');
+    let back = two(b'b', b'a');
+    let Ok(re) = pair(alloc, &forth, &back, any_place(), Config::new()) else {
         return false;
     };
-    match machine.reset_to(re) {
-        Ok(mut machine) => are_answered(&mut machine, &behind()),
+    if machine.reset_to(re).is_err() {
+        return false;
+    }
+    are_answered(machine, &behind())
+}
+
+/// Whether those of `a` are behind searches.
+fn are_used_again(alloc: Global) -> bool {
+    let a = letter(b'a');
+    let Ok(re) = pair(alloc, &a, &a, any_place(), Config::new()) else {
+        return false;
+    };
+    match Machine::new(alloc, re) {
+        Ok(mut machine) => {
+            are_answered(&mut machine, &anew()) && are_handed_on(alloc, &mut machine)
+        }
         Err(_) => false,
     }
 }
@@ -79,22 +74,23 @@ fn caches(rt: HostRuntime) -> Result<(), Fail> {
     let a = letter(b'a');
     let re = pair(alloc, &a, &a, any_place(), Config::new());
     assert!(rt; answers(alloc, re, &measured()));
-    let Some(used) = used(alloc) else {
-        assert!(rt; false);
-        return Ok(());
-    };
-    assert!(rt; is_handed_on(alloc, used));
+    assert!(rt; are_used_again(alloc));
     Ok(())
 }
 
-/// Whether caches of `a` are made by their own name.
+/// Whether caches of a regex are made by their own name.
+fn are_made_for(alloc: Global, re: &Regex) -> bool {
+    match Cache::new(alloc, re) {
+        Ok(cache) => cache.memory_usage() == 632,
+        Err(_) => false,
+    }
+}
+
+/// Whether those of `a` are.
 fn are_made(alloc: Global) -> bool {
     let a = letter(b'a');
-    let Ok(re) = pair(alloc, &a, &a, any_place(), Config::new()) else {
-        return false;
-    };
-    match Cache::new(alloc, &re) {
-        Ok(cache) => cache.memory_usage() == 632,
+    match pair(alloc, &a, &a, any_place(), Config::new()) {
+        Ok(re) => are_made_for(alloc, &re),
         Err(_) => false,
     }
 }

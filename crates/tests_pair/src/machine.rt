@@ -40,16 +40,11 @@ impl Machine {
         self.re.reset_cache(&mut self.cache)
     }
 
-    /// The caches, made anew for another regex.
-    pub(crate) fn reset_to(self, re: Regex) -> Result<Machine, AllocError> {
-        let mut cache = self.cache;
-        cache.reset(&re)?;
-        Ok(Machine { re, cache })
-    }
-
-    /// The regex.
-    pub(crate) fn re(&self) -> &Regex {
-        &self.re
+    /// Makes the caches anew for another regex, which takes the place of this one.
+    pub(crate) fn reset_to(&mut self, re: Regex) -> Result<(), AllocError> {
+        self.cache.reset(&re)?;
+        self.re = re;
+        Ok(())
     }
 
     /// The bytes that the caches are taken to need: that of the ends, that of the starts, and both.

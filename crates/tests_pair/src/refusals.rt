@@ -144,11 +144,7 @@ fn outcome(alloc: Global, capacity: usize) -> Ending {
 }
 
 /// Whether the ends are those that leftmost-first prefers, and the starts all ones, whatever is set.
-fn is_made(alloc: Global) -> bool {
-    let config = Config::new().specialize_start_states(true);
-    let Ok(re) = pair(alloc, &patterns(), &patterns(), any_place(), config) else {
-        return false;
-    };
+fn has_its_options(re: &Regex) -> bool {
     let ends = re.forward().get_config();
     let starts = re.reverse().get_config();
     if ends.get_match_kind() != MatchKind::LeftmostFirst || !ends.get_specialize_start_states() {
@@ -158,6 +154,15 @@ fn is_made(alloc: Global) -> bool {
         return false;
     }
     re.pattern_len() == 2
+}
+
+/// Whether a regex is made with its own options, where others are set.
+fn is_made(alloc: Global) -> bool {
+    let config = Config::new().specialize_start_states(true);
+    match pair(alloc, &patterns(), &patterns(), any_place(), config) {
+        Ok(re) => has_its_options(&re),
+        Err(_) => false,
+    }
 }
 
 /// The ends are refused before the starts. The automaton of `ab` has five states and rows of eight cells.

@@ -1,23 +1,8 @@
-// Which regexes are refused, and searches over trees that the program refuses.
-use crate::found::{Found, dates, is_found};
-use crate::machine::{Machine, built};
-use lazy_dfa::BuildError;
+// Which regexes are refused, and searches over trees whose loops may have empty rounds.
+use crate::calls::{Call, Ending, Found, answers, at, end, on, outcome_of};
+use crate::heads::{Head, Text};
 use lazy_dfa::dfa::Config;
-use search_types::{Input, Match, MatchError};
-use std::alloc::Global;
 use std::test::Fail;
-
-fn edge() -> &'static [u8] {
-    b"look WordUnicode\npattern\nfind\n"
-}
-
-/// Whether the capacity is told to be 0, and too small.
-fn has_no_room(alloc: Global, head: &[u8], dfa: Config) -> bool {
-    match built(alloc, head, dfa) {
-        Err(BuildError::InsufficientCacheCapacity { minimum, given }) => 0 < minimum && given == 0,
-        _ => false,
-    }
-}
 
 /// The options with all bytes above 7F as quit bytes.
 fn with_high_bytes() -> Config {
@@ -32,41 +17,17 @@ fn with_high_bytes() -> Config {
 fn refusals(rt: HostRuntime) -> Result<(), Fail> {
     let alloc = rt.alloc();
     let none = Config::new().cache_capacity(0);
-    assert!(rt; has_no_room(alloc, dates().head, none));
-    assert!(rt; built(alloc, dates().head, none.skip_cache_capacity_check(true)).is_ok());
-    let refused = built(alloc, edge(), Config::new());
-    assert!(rt; matches!(refused, Err(BuildError::Unsupported)));
+    let words = Config::new().unicode_word_boundary(true);
+    assert!(rt; outcome_of(alloc, Head::Dates, none) == Ending::NoRoom);
+    assert!(rt;
+        outcome_of(alloc, Head::Dates, none.skip_cache_capacity_check(true)) == Ending::Built
+    );
+    assert!(rt; outcome_of(alloc, Head::Edge, Config::new()) == Ending::Unsupported);
     // what isn't supported is told before a capacity that is too small
-    assert!(rt; matches!(built(alloc, edge(), none), Err(BuildError::Unsupported)));
-    assert!(rt; built(alloc, edge(), with_high_bytes()).is_ok());
-    assert!(rt; built(alloc, edge(), Config::new().unicode_word_boundary(true)).is_ok());
+    assert!(rt; outcome_of(alloc, Head::Edge, none) == Ending::Unsupported);
+    assert!(rt; outcome_of(alloc, Head::Edge, with_high_bytes()) == Ending::Built);
+    assert!(rt; outcome_of(alloc, Head::Edge, words) == Ending::Built);
     Ok(())
-}
-
-/// Any number of the empty text or `a`; and of the empty text or `b` with a `c` behind them, beside `a`; and two rounds or
-/// more of the first.
-fn empty_or_a() -> &'static [u8] {
-    b"empty\nlit 61\nalt 2\nrep 0 inf greedy\npattern\nfind\n"
-}
-
-fn empty_or_b() -> &'static [u8] {
-    b"empty\nlit 62\nalt 2\nrep 0 inf greedy\nlit 63\ncat 2\npattern\nlit 61\npattern\nfind\n"
-}
-
-fn two_rounds() -> &'static [u8] {
-    b"empty\nlit 61\nalt 2\nrep 2 inf greedy\npattern\nfind\n"
-}
-
-fn found(
-    alloc: Global,
-    head: &[u8],
-    dfa: Config,
-    haystack: &[u8],
-) -> Result<Option<Match>, MatchError> {
-    match Machine::new(alloc, head, dfa) {
-        Ok(mut machine) => machine.search(&Input::new(haystack)),
-        Err(_) => Ok(None),
-    }
 }
 
 /// Rounds that may be empty are no reason to refuse a regex: the least start and its first pattern are found.
@@ -74,20 +35,15 @@ fn found(
 fn rounds_that_may_be_empty(rt: HostRuntime) -> Result<(), Fail> {
     let alloc = rt.alloc();
     let plain = Config::new();
-    assert!(rt; is_found(found(alloc, empty_or_a(), plain, b"ba"), Found::At(0, 0, 0)));
-    assert!(rt;
-        is_found(
-            found(alloc, empty_or_b(), plain, b"abc"),
-            Found::At(1, 0, 1)
-        )
-    );
-    assert!(rt;
-        is_found(
-            found(alloc, empty_or_b(), plain, b"bbc"),
-            Found::At(0, 0, 3)
-        )
-    );
-    assert!(rt; is_found(found(alloc, two_rounds(), plain, b"b"), Found::At(0, 0, 0)));
+    let of_a = [Call::Search(on(Text::Ba, 0, 2), at(0, 0))];
+    let of_b = [
+        Call::Search(on(Text::Abc, 0, 3), Found::At(1, 0, 1)),
+        Call::Search(on(Text::Bbc, 0, 3), at(0, 3)),
+    ];
+    let of_two = [Call::Search(on(Text::B, 0, 1), at(0, 0))];
+    assert!(rt; answers(alloc, Head::EmptyOrA, plain, &of_a));
+    assert!(rt; answers(alloc, Head::EmptyOrB, plain, &of_b));
+    assert!(rt; answers(alloc, Head::TwoRounds, plain, &of_two));
     Ok(())
 }
 
@@ -96,16 +52,21 @@ fn rounds_that_may_be_empty(rt: HostRuntime) -> Result<(), Fail> {
 fn one_end_of_such_rounds(rt: HostRuntime) -> Result<(), Fail> {
     let alloc = rt.alloc();
     let plain = Config::new();
-    let mut machine = Machine::new(alloc, empty_or_a(), plain)?;
-    let end = machine.search(&Input::new(b"aa"))?.ok_or("a match")?.end();
-    let wanted = Found::At(0, 0, end);
-    assert!(rt; is_found(machine.search(&Input::new(b"aa")), wanted));
-    for dfa in [
-        plain.cache_capacity(0).skip_cache_capacity_check(true),
-        plain.byte_classes(false),
-        plain.specialize_start_states(true),
-    ] {
-        assert!(rt; is_found(found(alloc, empty_or_a(), dfa, b"aa"), wanted));
-    }
+    let found = end(alloc, Head::EmptyOrA, plain, Text::Aa);
+    assert!(rt; found.is_some());
+    let end = found.unwrap_or(0);
+    let calls = [Call::Search(on(Text::Aa, 0, 2), at(0, end))];
+    let least = plain.cache_capacity(0).skip_cache_capacity_check(true);
+    assert!(rt; answers(alloc, Head::EmptyOrA, plain, &calls));
+    assert!(rt; answers(alloc, Head::EmptyOrA, least, &calls));
+    assert!(rt; answers(alloc, Head::EmptyOrA, plain.byte_classes(false), &calls));
+    assert!(rt;
+        answers(
+            alloc,
+            Head::EmptyOrA,
+            plain.specialize_start_states(true),
+            &calls
+        )
+    );
     Ok(())
 }

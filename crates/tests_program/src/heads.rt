@@ -1,8 +1,146 @@
-// A head with its haystack and the lines of its spans, and what is read of heads.
-use hirscan::{Head, read_head};
+// Heads and haystacks by their names, and what is read of heads.
+use hirscan::read_head;
 use look_core::LineTerm;
 use search_types::Span;
+use std::alloc::Global;
 use std::test::Fail;
+
+/// A head: settings and patterns.
+#[derive(Clone, Copy)]
+pub enum Head {
+    Dates,
+    /// Words, and what else can be printed.
+    Words,
+    /// Any number of `a`.
+    Many,
+    Empty,
+    EmptyByBytes,
+    /// Words from an edge of one by characters on.
+    WordsOfCharacters,
+    /// "aβb", or a place that is no edge of a word of bytes.
+    WholeOrNoEdge,
+    /// Greek letters, with or without `a` to `z`.
+    Letters,
+    /// Lines of `a` that end in one of two bytes.
+    Lines,
+    /// `a`; and `a` and `b`, a pattern each.
+    Letter,
+    TwoLetters,
+    /// An edge of a word by characters, and a number between two of them.
+    Edge,
+    Number,
+    /// An `a` before the end of a line that isn't a line feed.
+    Line,
+    /// Any number of the empty text or `a`.
+    EmptyOrA,
+    /// Any number of the empty text or `b` with a `c` behind them, beside `a`.
+    EmptyOrB,
+    /// Two rounds or more of the empty text or `a`.
+    TwoRounds,
+}
+
+/// A haystack.
+#[derive(Clone, Copy)]
+pub enum Text {
+    Dates,
+    FooBar,
+    Baab,
+    /// "β", "ab  β", "aβb", "aβ-γ", "β123" and "123β".
+    Beta,
+    AbBeta,
+    BetaWithin,
+    Greek,
+    BetaNumber,
+    NumberBeta,
+    Lines,
+    ALine,
+    Aa,
+    Ab,
+    Ba,
+    B,
+    Abc,
+    Bbc,
+    Xab,
+    /// "a__d", "a__z" and "a_d_".
+    AThenD,
+    AThenZ,
+    ANearD,
+}
+
+/// The text of a head.
+pub fn text_of(head: Head) -> &'static [u8] {
+    match head {
+        Head::Dates => dates(),
+        Head::Words =>
+            b"bytes 30-39 41-5A 5F-5F 61-7A\nrep 1 inf greedy\npattern\nbytes 21-7E\nrep 1 inf greedy\npattern\nfind\n",
+        Head::Many => b"lit 61\nrep 0 inf greedy\npattern\nfind\n",
+        Head::Empty => b"empty\npattern\nfind\n",
+        Head::EmptyByBytes => b"utf8 off\nempty\npattern\nfind\n",
+        Head::WordsOfCharacters =>
+            b"look WordUnicode\nbytes 61-7A\nrep 1 inf greedy\ncat 2\npattern\nfind\n",
+        Head::WholeOrNoEdge => b"lit 61ceb262\nlook WordAsciiNegate\nalt 2\npattern\nfind\n",
+        Head::Letters => b"chars 61-7A 3B1-3C9\nrep 1 inf greedy\npattern\nfind\n",
+        _ => more_text_of(head),
+    }
+}
+
+/// The text of the others.
+fn more_text_of(head: Head) -> &'static [u8] {
+    match head {
+        Head::Lines => b"line 0A 00\nlook StartLF\nlit 61\nlook EndLF\ncat 3\npattern\nfind\n",
+        Head::Letter => b"lit 61\npattern\nfind\n",
+        Head::TwoLetters => b"lit 61\npattern\nlit 62\npattern\nfind\n",
+        Head::Edge => b"look WordUnicode\npattern\nfind\n",
+        Head::Number =>
+            b"look WordUnicode\nbytes 30-39\nrep 1 inf greedy\nlook WordUnicode\ncat 3\npattern\nfind\n",
+        Head::Line => b"line 00\nlit 61\nlook EndLF\ncat 2\npattern\nfind\n",
+        Head::EmptyOrA => b"empty\nlit 61\nalt 2\nrep 0 inf greedy\npattern\nfind\n",
+        Head::EmptyOrB =>
+            b"empty\nlit 62\nalt 2\nrep 0 inf greedy\nlit 63\ncat 2\npattern\nlit 61\npattern\nfind\n",
+        _ => b"empty\nlit 61\nalt 2\nrep 2 inf greedy\npattern\nfind\n",
+    }
+}
+
+/// The bytes of a haystack.
+pub fn bytes_of(text: Text) -> &'static [u8] {
+    match text {
+        Text::Dates => b"2018-12-24 2016-10-08",
+        Text::FooBar => b"@foo bar",
+        Text::Baab => b"baab",
+        Text::Beta => b"\xCE\xB2",
+        Text::AbBeta => b"ab  \xCE\xB2",
+        Text::BetaWithin => b"a\xCE\xB2b",
+        Text::Greek => b"a\xCE\xB2-\xCE\xB3",
+        Text::BetaNumber => b"\xCE\xB2123",
+        Text::NumberBeta => b"123\xCE\xB2",
+        _ => more_bytes_of(text),
+    }
+}
+
+/// The bytes of the others.
+fn more_bytes_of(text: Text) -> &'static [u8] {
+    match text {
+        Text::Lines => b"a\0a\na",
+        Text::ALine => b"a\n123",
+        Text::Aa => b"aa",
+        Text::Ab => b"ab",
+        Text::Ba => b"ba",
+        Text::B => b"b",
+        Text::Abc => b"abc",
+        Text::Bbc => b"bbc",
+        _ => quit_bytes_of(text),
+    }
+}
+
+/// The bytes of those that are searched up to a quit byte.
+fn quit_bytes_of(text: Text) -> &'static [u8] {
+    match text {
+        Text::Xab => b"xab_",
+        Text::AThenD => b"a__d",
+        Text::AThenZ => b"a__z",
+        _ => b"a_d_",
+    }
+}
 
 // Functions rather than constants: the prover then reads the bytes once, and not at each use.
 pub fn dates() -> &'static [u8] {
@@ -14,23 +152,45 @@ pub fn dates_lines() -> &'static [u8] {
 }
 
 /// Whether the options of its automata are those that no line sets.
-fn has_plain_options(head: &Head) -> bool {
+fn has_plain_options(head: &hirscan::Head) -> bool {
     let dfa = &head.settings.dfa;
     dfa.get_cache_capacity() == 2097152 && dfa.get_byte_classes() && !dfa.get_quit(b'-')
 }
 
+/// Whether it has so many patterns, the first of this count and height.
+fn has_patterns(head: &hirscan::Head, len: usize, count: usize, height: usize) -> bool {
+    match head.patterns.get(0) {
+        Some(tree) => {
+            head.patterns.len() == len && tree.count() == count && tree.height() == height
+        }
+        None => false,
+    }
+}
+
+/// Whether it has the settings that no line sets.
+fn has_plain_settings(head: &hirscan::Head) -> bool {
+    if !head.settings.utf8 || head.settings.shrink || head.anchored {
+        return false;
+    }
+    if head.settings.line_terminator != LineTerm::one(b'\n') {
+        return false;
+    }
+    head.settings.size_limit.is_none() && head.span.is_none() && has_plain_options(head)
+}
+
+/// Whether the head of the dates is read as it should be.
+fn is_read(alloc: Global) -> bool {
+    match read_head(alloc, dates()) {
+        Ok(head) => {
+            head.len == 114 && has_patterns(&head, 1, 26, 3) && has_plain_settings(&head)
+        }
+        Err(_) => false,
+    }
+}
+
 #[test]
 fn a_head_as_it_is_read(rt: HostRuntime) -> Result<(), Fail> {
-    let head = read_head(rt.alloc(), dates())?;
-    assert_eq!(rt; head.len, 114);
-    assert_eq!(rt; head.patterns.len(), 1);
-    assert_eq!(rt; head.patterns[0].count(), 26);
-    assert_eq!(rt; head.patterns[0].height(), 3);
-    assert!(rt; head.settings.utf8 && !head.settings.shrink && !head.anchored);
-    assert_eq!(rt; head.settings.line_terminator, LineTerm::one(b'\n'));
-    assert_eq!(rt; head.settings.size_limit, None);
-    assert_eq!(rt; head.span, None);
-    assert!(rt; has_plain_options(&head));
+    assert!(rt; is_read(rt.alloc()));
     Ok(())
 }
 
@@ -40,7 +200,7 @@ fn set_head() -> &'static [u8] {
 }
 
 /// Whether the options of its automata are those that these lines set.
-fn has_set_options(head: &Head) -> bool {
+fn has_set_options(head: &hirscan::Head) -> bool {
     let dfa = &head.settings.dfa;
     dfa.get_cache_capacity() == 7
         && !dfa.get_byte_classes()
@@ -49,16 +209,27 @@ fn has_set_options(head: &Head) -> bool {
         && !dfa.get_quit(b'b')
 }
 
+/// Whether it has the settings that these lines set.
+fn has_set_settings(head: &hirscan::Head) -> bool {
+    if head.settings.utf8 || !head.settings.shrink || !head.anchored {
+        return false;
+    }
+    if head.settings.line_terminator != LineTerm::two(b'\r', b'\n') {
+        return false;
+    }
+    head.span == Some(Span { start: 1, end: 3 }) && has_set_options(head)
+}
+
+/// Whether they are read as they should be.
+fn are_read(alloc: Global) -> bool {
+    match read_head(alloc, set_head()) {
+        Ok(head) => head.len == 178 && has_patterns(&head, 2, 12, 2) && has_set_settings(&head),
+        Err(_) => false,
+    }
+}
+
 #[test]
 fn settings_and_patterns_as_they_are_read(rt: HostRuntime) -> Result<(), Fail> {
-    let head = read_head(rt.alloc(), set_head())?;
-    assert!(rt; !head.settings.utf8 && head.settings.shrink && head.anchored);
-    assert_eq!(rt; head.settings.line_terminator, LineTerm::two(b'\r', b'\n'));
-    assert_eq!(rt; head.span, Some(Span { start: 1, end: 3 }));
-    assert!(rt; has_set_options(&head));
-    assert_eq!(rt; head.patterns.len(), 2);
-    assert_eq!(rt; head.patterns[0].height(), 2);
-    assert_eq!(rt; head.patterns[0].count(), 12);
-    assert_eq!(rt; head.len, 178);
+    assert!(rt; are_read(rt.alloc()));
     Ok(())
 }

@@ -6,9 +6,9 @@
 #[cfg(test)]
 mod building;
 #[cfg(test)]
-mod fakes;
+mod calls;
 #[cfg(test)]
-mod found;
+mod fakes;
 #[cfg(test)]
 mod heads;
 #[cfg(test)]

@@ -2,7 +2,8 @@
 ghost use Rattle.std.specs.Prelude.{◌≡◌, ◌<◌};
 ghost use Rattle.regex_pair.specs.Pairs.{AreCachesOf};
 
-use crate::found::{Found, is_item};
+use crate::calls::{Found, is_item};
+use crate::heads::{Head, text_of};
 use hirscan::{Settings, build, read_head};
 use lazy_dfa::dfa::{Config, DFA};
 use lazy_dfa::{BuildError, Work, dfa};
@@ -30,8 +31,8 @@ impl Model for Machine {
 }
 
 /// The regex of a head's patterns, with these options in the place of the head's.
-pub fn built(alloc: Global, head: &[u8], dfa: Config) -> Result<Regex, BuildError> {
-    let Ok(head) = read_head(alloc, head) else {
+pub fn built(alloc: Global, head: Head, dfa: Config) -> Result<Regex, BuildError> {
+    let Ok(head) = read_head(alloc, text_of(head)) else {
         return Err(BuildError::NoMemory);
     };
     let settings = Settings {
@@ -44,7 +45,7 @@ pub fn built(alloc: Global, head: &[u8], dfa: Config) -> Result<Regex, BuildErro
 /// How it is made.
 impl Machine {
     /// A regex of a head's patterns, with fresh caches.
-    pub fn new(alloc: Global, head: &[u8], dfa: Config) -> Result<Machine, BuildError> {
+    pub fn new(alloc: Global, head: Head, dfa: Config) -> Result<Machine, BuildError> {
         let re = built(alloc, head, dfa)?;
         match re.create_cache(alloc) {
             Ok(cache) => Ok(Machine { re, cache }),
@@ -52,11 +53,11 @@ impl Machine {
         }
     }
 
-    /// The caches, made anew for another regex.
-    pub fn reset_to(self, re: Regex) -> Result<Machine, AllocError> {
-        let mut cache = self.cache;
-        cache.reset(&re)?;
-        Ok(Machine { re, cache })
+    /// Makes the caches anew for another regex, which takes the place of this one.
+    pub fn reset_to(&mut self, re: Regex) -> Result<(), AllocError> {
+        self.cache.reset(&re)?;
+        self.re = re;
+        Ok(())
     }
 
     /// The bytes that the cache of the automaton that finds ends is taken to need.

@@ -1,26 +1,59 @@
 // Regexes that are built of trees: iterators over any capacity, modes, spans, and searches by halves.
-use crate::found::{
-    Found, Row, dates, empty, empty_by_bytes, is_found, is_quit, letters, lines, many,
-    whole_or_no_edge, words, words_of_characters,
-};
+use crate::calls::{Call, Found, Items, answers, are_answered, at, on};
+use crate::heads::{Head, Text, bytes_of};
 use crate::machine::{Machine, built};
 use lazy_dfa::dfa::Config;
-use search_core::PatternID;
-use search_types::{Anchored, Input, MatchErrorKind, Span};
+use search_types::{Input, Span};
 use std::alloc::Global;
 use std::test::Fail;
 
+/// A head with a haystack, and what the iterator over the matches gives.
+#[derive(Clone, Copy)]
+struct Row {
+    head: Head,
+    haystack: Text,
+    items: Items,
+}
+
+fn row_of(head: Head, haystack: Text, items: Items) -> Row {
+    Row {
+        head,
+        haystack,
+        items,
+    }
+}
+
 fn rows() -> [Row; 9] {
     [
-        dates(),
-        words(),
-        many(),
-        empty(),
-        empty_by_bytes(),
-        words_of_characters(),
-        whole_or_no_edge(),
-        letters(),
-        lines(),
+        row_of(Head::Dates, Text::Dates, Items::Two(at(0, 10), at(11, 21))),
+        row_of(
+            Head::Words,
+            Text::FooBar,
+            Items::Two(Found::At(1, 0, 4), at(5, 8)),
+        ),
+        row_of(
+            Head::Many,
+            Text::Baab,
+            Items::Three(at(0, 0), at(1, 3), at(4, 4)),
+        ),
+        row_of(Head::Empty, Text::Beta, Items::Two(at(0, 0), at(2, 2))),
+        row_of(
+            Head::EmptyByBytes,
+            Text::Beta,
+            Items::Three(at(0, 0), at(1, 1), at(2, 2)),
+        ),
+        row_of(
+            Head::WordsOfCharacters,
+            Text::AbBeta,
+            Items::Two(at(0, 2), Found::Quit(0xCE, 4)),
+        ),
+        row_of(Head::WholeOrNoEdge, Text::BetaWithin, Items::One(at(0, 4))),
+        row_of(Head::Letters, Text::Greek, Items::Two(at(0, 3), at(4, 6))),
+        row_of(
+            Head::Lines,
+            Text::Lines,
+            Items::Three(at(0, 1), at(2, 3), at(4, 5)),
+        ),
     ]
 }
 
@@ -34,75 +67,87 @@ fn least() -> Config {
     plain().cache_capacity(0).skip_cache_capacity_check(true)
 }
 
-/// Whether the iterator gives the row, by the machine.
-fn gives(machine: &mut Machine, row: &Row) -> bool {
-    machine.gives(Input::new(row.haystack), &row.items)
+/// The iterator over the matches.
+fn each(row: &Row) -> Call {
+    Call::Each(row.haystack, row.items)
 }
 
+/// Over caches of the least capacity twice, which they keep to.
 #[test]
 fn iterators(rt: HostRuntime) -> Result<(), Fail> {
     let alloc = rt.alloc();
     for row in rows() {
-        let mut machine = Machine::new(alloc, row.head, plain())?;
-        assert!(rt; gives(&mut machine, &row));
-        let mut machine = Machine::new(alloc, row.head, least())?;
-        assert!(rt; gives(&mut machine, &row) && machine.is_least());
-        assert!(rt; gives(&mut machine, &row) && machine.is_least());
+        assert!(rt; answers(alloc, row.head, plain(), &[each(&row)]));
+        let twice = [each(&row), Call::IsLeast, each(&row), Call::IsLeast];
+        assert!(rt; answers(alloc, row.head, least(), &twice));
     }
     Ok(())
 }
 
+/// Whether the caches of one regex after the other are of use for the next one.
+fn are_handed_on(alloc: Global, machine: &mut Machine, rows: &[Row]) -> bool {
+    for row in rows {
+        let Ok(re) = built(alloc, row.head, plain()) else {
+            return false;
+        };
+        if machine.reset_to(re).is_err() {
+            return false;
+        }
+        if !are_answered(alloc, machine, &[each(row)]) {
+            return false;
+        }
+    }
+    true
+}
+
+/// Those of dates first.
+fn caches_are_handed_on(alloc: Global, rows: &[Row]) -> bool {
+    match Machine::new(alloc, Head::Dates, plain()) {
+        Ok(mut machine) => are_handed_on(alloc, &mut machine, rows),
+        Err(_) => false,
+    }
+}
+
 #[test]
 fn caches_that_are_handed_on(rt: HostRuntime) -> Result<(), Fail> {
-    let alloc = rt.alloc();
-    let mut machine = Machine::new(alloc, dates().head, plain())?;
-    for row in [dates(), many(), dates(), words_of_characters()] {
-        machine = machine.reset_to(built(alloc, row.head, plain())?)?;
-        assert!(rt; gives(&mut machine, &row));
-    }
+    assert!(rt; caches_are_handed_on(rt.alloc(), &rows()));
     Ok(())
 }
 
 /// The fresh cache takes 316 bytes, and the states before `a`, behind it and behind the next byte 64, 65 and 61 more.
 #[test]
 fn bytes_of_a_cache(rt: HostRuntime) -> Result<(), Fail> {
-    let alloc = rt.alloc();
-    let mut machine = Machine::new(alloc, b"lit 61\npattern\nfind\n", Config::new())?;
-    assert_eq!(rt; machine.forward_usage(), 316);
-    assert!(rt; is_found(machine.search(&Input::new(b"ab")), Found::At(0, 0, 1)));
-    assert_eq!(rt; machine.forward_usage(), 506);
+    let calls = [
+        Call::Usage(316),
+        Call::Search(on(Text::Ab, 0, 2), at(0, 1)),
+        Call::Usage(506),
+    ];
+    assert!(rt; answers(rt.alloc(), Head::Letter, Config::new(), &calls));
     Ok(())
 }
 
 /// The preferred end splits no character, but the earliest one does.
 #[test]
 fn an_end_between_characters(rt: HostRuntime) -> Result<(), Fail> {
-    let row = whole_or_no_edge();
-    let mut machine = Machine::new(rt.alloc(), row.head, plain())?;
-    let input = Input::new(row.haystack);
-    assert!(rt; is_found(machine.search(&input), Found::At(0, 0, 4)));
-    assert_eq!(rt; machine.is_match(&input), Ok(true));
+    let calls = [
+        Call::Search(on(Text::BetaWithin, 0, 4), at(0, 4)),
+        Call::IsMatch(on(Text::BetaWithin, 0, 4), true),
+    ];
+    assert!(rt; answers(rt.alloc(), Head::WholeOrNoEdge, plain(), &calls));
     Ok(())
-}
-
-/// The input over a part of a haystack, if it fits.
-fn within(haystack: &'static [u8], start: usize, end: usize) -> Option<Input<'static>> {
-    let input = Input::new(haystack);
-    let span = Span { start, end };
-    if !input.fits(span) {
-        return None;
-    }
-    Some(input.span(span))
 }
 
 /// Whether searches from each place on find over caches of the least capacity what they find over ample ones, and no search
 /// leaves one of the former with more bytes.
-fn finds_alike(ample: &mut Machine, least: &mut Machine, haystack: &'static [u8]) -> bool {
+fn finds_alike(ample: &mut Machine, least: &mut Machine, haystack: &[u8]) -> bool {
     let end = haystack.len();
     for start in 0..=end {
-        let Some(input) = within(haystack, start, end) else {
+        let input = Input::new(haystack);
+        let span = Span { start, end };
+        if !input.fits(span) {
             return false;
-        };
+        }
+        let input = input.span(span);
         if least.search(&input) != ample.search(&input) {
             return false;
         }
@@ -113,145 +158,88 @@ fn finds_alike(ample: &mut Machine, least: &mut Machine, haystack: &'static [u8]
     true
 }
 
+/// Whether they do twice, over these caches and fresh ones of the least capacity.
+fn least_finds_alike(alloc: Global, row: &Row, ample: &mut Machine) -> bool {
+    let haystack = bytes_of(row.haystack);
+    match Machine::new(alloc, row.head, least()) {
+        Ok(mut small) => {
+            finds_alike(ample, &mut small, haystack) && finds_alike(ample, &mut small, haystack)
+        }
+        Err(_) => false,
+    }
+}
+
+fn both_find_alike(alloc: Global, row: &Row) -> bool {
+    match Machine::new(alloc, row.head, plain()) {
+        Ok(mut ample) => least_finds_alike(alloc, row, &mut ample),
+        Err(_) => false,
+    }
+}
+
 #[test]
 fn least_caches(rt: HostRuntime) -> Result<(), Fail> {
     let alloc = rt.alloc();
     for row in rows() {
-        let mut ample = Machine::new(alloc, row.head, plain())?;
-        let mut small = Machine::new(alloc, row.head, least())?;
-        assert!(rt; finds_alike(&mut ample, &mut small, row.haystack));
-        assert!(rt; finds_alike(&mut ample, &mut small, row.haystack));
+        assert!(rt; both_find_alike(alloc, &row));
     }
     Ok(())
-}
-
-/// Whether a search over a part of a haystack finds this.
-fn finds(machine: &mut Machine, haystack: &'static [u8], span: Span, wanted: Found) -> bool {
-    match within(haystack, span.start, span.end) {
-        Some(input) => is_found(machine.search(&input), wanted),
-        None => false,
-    }
-}
-
-fn span(start: usize, end: usize) -> Span {
-    Span { start, end }
-}
-
-fn two_letters() -> &'static [u8] {
-    b"lit 61\npattern\nlit 62\npattern\nfind\n"
-}
-
-/// The search for one pattern alone.
-fn only(pattern: u8) -> Input<'static> {
-    Input::new(b"ab").anchored(Anchored::Pattern(PatternID::from(pattern)))
-}
-
-/// Whether a search is refused, as there are no starts for each pattern.
-fn lacks_starts(machine: &mut Machine, input: &Input<'_>) -> bool {
-    let mode = input.get_anchored();
-    match machine.search(input) {
-        Ok(_) => false,
-        Err(e) => *e.kind() == MatchErrorKind::UnsupportedAnchored { mode },
-    }
 }
 
 #[test]
 fn one_pattern_alone(rt: HostRuntime) -> Result<(), Fail> {
     let alloc = rt.alloc();
-    let mut machine = Machine::new(alloc, two_letters(), plain())?;
-    assert!(rt; lacks_starts(&mut machine, &only(1)));
-    let each = plain().starts_for_each_pattern(true);
-    let mut machine = Machine::new(alloc, two_letters(), each)?;
-    for (pattern, wanted) in [
-        (0, Found::At(0, 0, 1)),
-        (1, Found::Nothing),
-        (7, Found::Nothing),
-    ] {
-        assert!(rt;
-            is_found(machine.search(&only(pattern)), wanted),
-            "of {pattern}"
-        );
-    }
+    let refused = [Call::LacksStarts(Text::Ab, 1)];
+    assert!(rt; answers(alloc, Head::TwoLetters, plain(), &refused));
+    let calls = [
+        Call::Only(Text::Ab, 0, at(0, 1)),
+        Call::Only(Text::Ab, 1, Found::Nothing),
+        Call::Only(Text::Ab, 7, Found::Nothing),
+    ];
+    let starts = plain().starts_for_each_pattern(true);
+    assert!(rt; answers(alloc, Head::TwoLetters, starts, &calls));
     Ok(())
 }
 
 /// Where nothing is searched, and where the empty text may not split a character.
 #[test]
 fn spans(rt: HostRuntime) -> Result<(), Fail> {
-    let mut machine = Machine::new(rt.alloc(), empty().head, plain())?;
-    for (start, end, wanted) in [
-        (1, 2, Found::At(0, 2, 2)),
-        (1, 1, Found::Nothing),
-        (2, 1, Found::Nothing),
-    ] {
-        let part = span(start, end);
-        assert!(rt;
-            finds(&mut machine, b"\xCE\xB2", part, wanted),
-            "from {start}"
-        );
-    }
+    let calls = [
+        Call::Search(on(Text::Beta, 1, 2), at(2, 2)),
+        Call::Search(on(Text::Beta, 1, 1), Found::Nothing),
+        Call::Search(on(Text::Beta, 2, 1), Found::Nothing),
+    ];
+    assert!(rt; answers(rt.alloc(), Head::Empty, plain(), &calls));
     Ok(())
 }
 
 /// One stands before the span; and `b` shows that `a` matched, but the next byte is read too.
 #[test]
 fn quit_bytes(rt: HostRuntime) -> Result<(), Fail> {
+    let calls = [
+        Call::Search(on(Text::Xab, 1, 3), Found::Quit(b'x', 0)),
+        Call::Search(on(Text::AThenD, 0, 4), at(0, 1)),
+        Call::Search(on(Text::AThenZ, 0, 4), at(0, 1)),
+        Call::Search(on(Text::ANearD, 0, 4), Found::Quit(b'd', 2)),
+    ];
     let quits = plain().quit(b'x', true).quit(b'd', true);
-    let mut machine = Machine::new(rt.alloc(), two_letters(), quits)?;
-    for (haystack, part, wanted) in [
-        (b"xab_", span(1, 3), Found::Quit(b'x', 0)),
-        (b"a__d", span(0, 4), Found::At(0, 0, 1)),
-        (b"a__z", span(0, 4), Found::At(0, 0, 1)),
-        (b"a_d_", span(0, 4), Found::Quit(b'd', 2)),
-    ] {
-        assert!(rt; finds(&mut machine, haystack, part, wanted));
-    }
+    assert!(rt; answers(rt.alloc(), Head::TwoLetters, quits, &calls));
     Ok(())
 }
 
-/// A number between two edges of words by characters.
-fn number() -> Row {
-    Row {
-        head: b"look WordUnicode\nbytes 30-39\nrep 1 inf greedy\nlook WordUnicode\ncat 3\npattern\nfind\n",
-        ..empty()
-    }
+/// A number between two edges of words by characters: a "β" stands beside it.
+fn beside_numbers() -> [Call; 2] {
+    [
+        Call::Back(on(Text::BetaNumber, 2, 5), Found::Quit(0xB2, 1)),
+        Call::Back(on(Text::NumberBeta, 0, 3), Found::Quit(0xCE, 3)),
+    ]
 }
 
 /// An `a` before the end of a line that isn't a line feed.
-fn line() -> Row {
-    Row {
-        head: b"line 00\nlit 61\nlook EndLF\ncat 2\npattern\nfind\n",
-        ..empty()
-    }
-}
-
-/// Whether the automaton that finds starts finds none, or gives up so.
-fn finds_back(
-    alloc: Global,
-    machine: &Machine,
-    haystack: &'static [u8],
-    span: Span,
-    wanted: Found,
-) -> bool {
-    let Some(input) = within(haystack, span.start, span.end) else {
-        return false;
-    };
-    match machine.search_back(alloc, &input) {
-        Ok(found) => found.is_none() && matches!(wanted, Found::Nothing),
-        Err(e) => is_quit(&e, wanted),
-    }
-}
-
 #[test]
 fn searches_for_starts(rt: HostRuntime) -> Result<(), Fail> {
     let alloc = rt.alloc();
-    for (row, haystack, part, wanted) in [
-        (number(), b"\xCE\xB2123", span(2, 5), Found::Quit(0xB2, 1)),
-        (number(), b"123\xCE\xB2", span(0, 3), Found::Quit(0xCE, 3)),
-        (line(), b"a\n123", span(0, 1), Found::Nothing),
-    ] {
-        let machine = Machine::new(alloc, row.head, plain())?;
-        assert!(rt; finds_back(alloc, &machine, haystack, part, wanted));
-    }
+    assert!(rt; answers(alloc, Head::Number, plain(), &beside_numbers()));
+    let calls = [Call::Back(on(Text::ALine, 0, 1), Found::Nothing)];
+    assert!(rt; answers(alloc, Head::Line, plain(), &calls));
     Ok(())
 }
