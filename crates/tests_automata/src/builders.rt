@@ -1,11 +1,13 @@
-ghost use Rattle.std.specs.Prelude.{◌≡◌, ◌+◌, ◌<◌, ◌≤◌, false, true, length, IfOk};
+ghost use Rattle.std.specs.Prelude.{◌≡◌, ◌+◌, ◌<◌, ◌≤◌, length, IfOk};
 ghost use Rattle.nfa_core.specs.CanBuild.{CanBuild};
 
+use crate::calls::{Step, made, transition};
 use crate::shapes::{Shape, has_states};
+use crate::texts::is_told;
 use look_core::Look;
 use nfa_core::{BuildError, Builder, NFA, Steps, Transition};
 use search_core::{PatternID, StateID};
-use std::alloc::{AllocError, Global};
+use std::alloc::Global;
 use std::marker::Brand;
 use std::sync::ledger::{Blank, Ledger};
 
@@ -25,33 +27,49 @@ fn build_counted<L: Ledger>(
     builder.build(anchored, unanchored, &mut steps)
 }
 
-/// The automaton that starts in this state, or one that never matches where the builder says that it can't be built.
-fn built(alloc: Global, builder: &Builder, start: StateID) -> Result<NFA, BuildError> {
-    if !builder.can_build(start, start) {
-        return Ok(NFA::never_match(alloc)?);
+/// The automaton with these starts; the builder says whether it can be built.
+fn built(builder: &Builder, anchored: u8, unanchored: u8) -> Result<NFA, BuildError> {
+    let (anchored, unanchored) = (StateID::from(anchored), StateID::from(unanchored));
+    if !builder.can_build(anchored, unanchored) {
+        return Err(BuildError::TooManyStates);
     }
-    let nfa = build_counted::<Brand>(builder, start, start, Blank::new(1))?;
-    Ok(nfa)
+    build_counted::<Brand>(builder, anchored, unanchored, Blank::new(1))
 }
 
-fn transition(start: u8, end: u8, next: u8) -> Transition
-    ensures first { result.start ≡ start }
-    ensures last { result.end ≡ end }
-{
-    Transition {
-        start,
-        end,
-        next: StateID::from(next),
+/// The automaton that is expected.
+#[derive(Clone, Copy)]
+enum Wanted {
+    ByteA,
+    Ways,
+    Ranges,
+    /// Of three groups, which reads downwards or not.
+    Groups(bool),
+}
+
+/// Whether it is this one.
+fn is_wanted(nfa: &NFA, wanted: Wanted) -> bool {
+    match wanted {
+        Wanted::ByteA => is_byte_a(nfa),
+        Wanted::Ways => are_ways(nfa),
+        Wanted::Ranges => are_ranges(nfa),
+        Wanted::Groups(reverse) => are_groups(nfa, reverse),
     }
 }
 
-/// The states of these numbers.
-fn names(alloc: Global, numbers: &[u8]) -> Result<Vec<StateID>, AllocError> {
-    let mut names = Vec::new(alloc);
-    for number in numbers {
-        names.push(StateID::from(*number))?;
+/// Whether a builder of so many bytes builds this one, with these starts.
+fn builds(builder: &Builder, bytes: usize, starts: (u8, u8), wanted: Wanted) -> bool {
+    match built(builder, starts.0, starts.1) {
+        Ok(nfa) => is_wanted(&nfa, wanted) && builder.memory_usage() == bytes,
+        Err(_) => false,
     }
-    Ok(names)
+}
+
+/// Whether a builder does behind these steps, where searches start in one state.
+fn is_built(alloc: Global, steps: &[Step], bytes: usize, start: u8, wanted: Wanted) -> bool {
+    match made(alloc, steps) {
+        Ok(builder) => builds(&builder, bytes, (start, start), wanted),
+        Err(_) => false,
+    }
 }
 
 /// Adds an empty state that stands for this one.
@@ -106,16 +124,6 @@ fn finds_byte_a(nfa: &NFA) -> bool {
         && (nfa.memory_usage(), nfa.byte_classes().alphabet_len()) == (96, 4)
 }
 
-/// The automaton that finds `a`.
-fn build_byte_a(builder: &Builder) -> Result<Option<NFA>, BuildError> {
-    let (anchored, unanchored) = (StateID::must(3), StateID::ZERO);
-    if !builder.can_build(anchored, unanchored) {
-        return Ok(None);
-    }
-    let nfa = build_counted::<Brand>(builder, anchored, unanchored, Blank::new(1))?;
-    Ok(Some(nfa))
-}
-
 /// Whether it has its four states and finds the byte.
 fn is_byte_a(nfa: &NFA) -> bool {
     let states = [
@@ -128,51 +136,33 @@ fn is_byte_a(nfa: &NFA) -> bool {
 }
 
 /// Whether the builder takes so many bytes and builds it.
-fn byte_a_is_built(alloc: Global) -> Result<bool, BuildError> {
-    let builder = byte_a(alloc)?;
-    match build_byte_a(&builder)? {
-        Some(nfa) => Ok(is_byte_a(&nfa) && builder.memory_usage() == 136),
-        None => Ok(false),
+fn byte_a_is_built(alloc: Global) -> bool {
+    match byte_a(alloc) {
+        Ok(builder) => builds(&builder, 136, (3, 0), Wanted::ByteA),
+        Err(_) => false,
     }
 }
 
 #[test]
 fn a_byte_behind_any_others(rt: HostRuntime) {
-    assert!(rt; matches!(byte_a_is_built(rt.alloc()), Ok(true)));
+    assert!(rt; byte_a_is_built(rt.alloc()));
 }
 
-/// Unions of a few ways, behind a match. The states 2 and 5 stand for the match.
-fn add_ways(alloc: Global, builder: &mut Builder) -> Result<(), BuildError> {
-    builder.add_union(names(alloc, &[])?)?;
-    builder.add_union(names(alloc, &[0])?)?;
-    builder.add_union(names(alloc, &[2, 1])?)?;
-    builder.add_union(names(alloc, &[1, 2, 0])?)?;
-    Ok(())
-}
-
-/// More of them, whose ways are given in the other order.
-fn add_ways_reverse(alloc: Global, builder: &mut Builder) -> Result<(), BuildError> {
-    builder.add_union_reverse(names(alloc, &[0])?)?;
-    builder.add_union_reverse(names(alloc, &[1, 2])?)?;
-    builder.add_union_reverse(names(alloc, &[1, 2, 3])?)?;
-    Ok(())
-}
-
-/// A builder with one pattern, which is a match.
-fn match_alone(alloc: Global) -> Result<Builder, BuildError> {
-    let mut builder = Builder::new(alloc);
-    builder.start_pattern()?;
-    let last = builder.add_match()?;
-    builder.finish_pattern(last)?;
-    Ok(builder)
-}
-
-/// The match with the unions.
-fn few_ways(alloc: Global) -> Result<Builder, BuildError> {
-    let mut builder = match_alone(alloc)?;
-    add_ways(alloc, &mut builder)?;
-    add_ways_reverse(alloc, &mut builder)?;
-    Ok(builder)
+/// Unions of a few ways, behind a match, and more of them whose ways are given in the other order. The states 2 and 5
+/// stand for the match.
+const fn few_ways() -> [Step; 10] {
+    [
+        Step::Start,
+        Step::Match,
+        Step::Finish(0),
+        Step::Union(&[]),
+        Step::Union(&[0]),
+        Step::Union(&[2, 1]),
+        Step::Union(&[1, 2, 0]),
+        Step::UnionReverse(&[0]),
+        Step::UnionReverse(&[1, 2]),
+        Step::UnionReverse(&[1, 2, 3]),
+    ]
 }
 
 /// Whether the automaton of these has their states, the memory of these and an empty match.
@@ -188,33 +178,21 @@ fn are_ways(nfa: &NFA) -> bool {
     has_states(nfa, &states) && nfa.has_empty() && nfa.memory_usage() == 6 * 24 + 6 * 4
 }
 
-/// Whether they are built so, of so many bytes.
-fn ways_are_built(alloc: Global) -> Result<bool, BuildError> {
-    let builder = few_ways(alloc)?;
-    let nfa = built(alloc, &builder, StateID::must(7))?;
-    Ok(are_ways(&nfa) && builder.memory_usage() == 8 * 24 + 12 * 4)
-}
-
 #[test]
 fn unions(rt: HostRuntime) {
-    assert!(rt; matches!(ways_are_built(rt.alloc()), Ok(true)));
+    assert!(rt; is_built(rt.alloc(), &few_ways(), 8 * 24 + 12 * 4, 7, Wanted::Ways));
 }
 
-/// Sparse states of a few ranges, a look and a state that leads nowhere.
-fn add_ranges(alloc: Global, builder: &mut Builder) -> Result<(), BuildError> {
-    builder.add_sparse(Vec::new(alloc))?;
-    builder.add_sparse(vec![in alloc; transition(7, 8, 0)]?)?;
-    builder.add_sparse(vec![in alloc; transition(0, 0, 1), transition(1, 255, 2)]?)?;
-    builder.add_look(StateID::must(3), Look::StartLF)?;
-    builder.add_fail()?;
-    Ok(())
-}
-
-/// The same behind a match.
-fn few_ranges(alloc: Global) -> Result<Builder, BuildError> {
-    let mut builder = match_alone(alloc)?;
-    add_ranges(alloc, &mut builder)?;
-    Ok(builder)
+/// Sparse states of a few ranges, a look and a state that leads nowhere, behind a match.
+const fn few_ranges() -> [Step; 6] {
+    [
+        Step::Start,
+        Step::Match,
+        Step::Finish(0),
+        Step::Sparse,
+        Step::Look(Look::StartLF, 3),
+        Step::Fail,
+    ]
 }
 
 /// Whether the automaton has their states.
@@ -230,62 +208,24 @@ fn are_ranges(nfa: &NFA) -> bool {
     has_states(nfa, &states)
 }
 
-/// Whether they are built so, of so many bytes.
-fn ranges_are_built(alloc: Global) -> Result<bool, BuildError> {
-    let builder = few_ranges(alloc)?;
-    let nfa = built(alloc, &builder, StateID::must(4))?;
-    Ok(are_ranges(&nfa) && builder.memory_usage() == 6 * 24 + 3 * 8)
-}
-
 #[test]
 fn sparse_states(rt: HostRuntime) {
-    assert!(rt; matches!(ranges_are_built(rt.alloc()), Ok(true)));
-}
-
-/// Begins a group, where a pattern was begun.
-fn begin_group(
-    alloc: Global,
-    builder: &mut Builder,
-    next: u8,
-    group: u32,
-    name: &str,
-) -> Result<(), BuildError> {
-    let name = String::from_str(alloc, name)?;
-    if builder.in_pattern() {
-        builder.add_capture_start(StateID::from(next), group, Some(name))?;
-    }
-    Ok(())
-}
-
-/// Ends a group, where a pattern was begun.
-fn end_group(builder: &mut Builder, next: u8, group: u32) -> Result<(), BuildError> {
-    if builder.in_pattern() {
-        builder.add_capture_end(StateID::from(next), group)?;
-    }
-    Ok(())
-}
-
-/// Ends the pattern that was begun, with a match as its last state.
-fn end_pattern(builder: &mut Builder, start: StateID) -> Result<(), BuildError> {
-    if builder.in_pattern() {
-        builder.add_match()?;
-        builder.finish_pattern(start)?;
-    }
-    Ok(())
+    assert!(rt; is_built(rt.alloc(), &few_ranges(), 6 * 24 + 3 * 8, 4, Wanted::Ranges));
 }
 
 /// A pattern with three groups, of which the last two have the names `a` and this one.
-fn groups(alloc: Global, name: &str, reverse: bool) -> Result<Builder, BuildError> {
-    let mut builder = Builder::new(alloc);
-    builder.set_reverse(reverse);
-    builder.start_pattern()?;
-    let start = builder.add_capture_start(StateID::must(1), 0, None)?;
-    begin_group(alloc, &mut builder, 2, 1, "a")?;
-    begin_group(alloc, &mut builder, 3, 2, name)?;
-    end_group(&mut builder, 4, 2)?;
-    end_group(&mut builder, 5, 0)?;
-    end_pattern(&mut builder, start)?;
-    Ok(builder)
+const fn groups(name: &'static str, reverse: bool) -> [Step; 9] {
+    [
+        Step::Reverse(reverse),
+        Step::Start,
+        Step::Group(1, 0, None),
+        Step::Group(2, 1, Some("a")),
+        Step::Group(3, 2, Some(name)),
+        Step::GroupEnd(4, 2),
+        Step::GroupEnd(5, 0),
+        Step::Match,
+        Step::Finish(0),
+    ]
 }
 
 /// Whether these are the states of three groups.
@@ -309,44 +249,42 @@ fn has_groups(nfa: &NFA) -> bool {
         && info.to_index(first, "b") == Some(2)
 }
 
-/// The automaton of three groups.
-fn build_groups(alloc: Global, name: &str, reverse: bool) -> Result<NFA, BuildError> {
-    let builder = groups(alloc, name, reverse)?;
-    built(alloc, &builder, StateID::ZERO)
+/// Whether the automaton has them, and reads in this direction.
+fn are_groups(nfa: &NFA, reverse: bool) -> bool {
+    nfa.is_reverse() == reverse && nfa.has_capture() && has_groups(nfa) && has_group_states(nfa)
 }
 
 /// Whether it is built of a text that is read in this direction.
-fn groups_are_built(alloc: Global, reverse: bool) -> Result<bool, BuildError> {
-    let nfa = build_groups(alloc, "b", reverse)?;
-    Ok(
-        nfa.is_reverse() == reverse
-            && nfa.has_capture()
-            && has_groups(&nfa)
-            && has_group_states(&nfa),
-    )
+fn groups_are_built(alloc: Global, reverse: bool) -> bool {
+    let groups = groups("b", reverse);
+    is_built(alloc, &groups, 6 * 24, 0, Wanted::Groups(reverse))
 }
 
 #[test]
 fn groups_with_their_slots(rt: HostRuntime) {
-    assert!(rt; matches!(groups_are_built(rt.alloc(), false), Ok(true)));
-    assert!(rt; matches!(groups_are_built(rt.alloc(), true), Ok(true)));
+    assert!(rt; groups_are_built(rt.alloc(), false) && groups_are_built(rt.alloc(), true));
+}
+
+/// Whether a builder is refused in these words.
+fn is_refused(alloc: Global, builder: &Builder, want: &str) -> bool {
+    match built(builder, 0, 0) {
+        Ok(_) => false,
+        Err(error) => is_told(alloc, &error, want),
+    }
 }
 
 /// Whether the second group is refused in these words where both have one name.
-fn is_refused_as(alloc: Global, want: &str) -> Result<bool, AllocError> {
-    match build_groups(alloc, "a", false) {
-        Ok(_) => Ok(false),
-        Err(error) => {
-            let text = format!(in alloc; "{error}")?;
-            Ok(text.as_str() == want)
-        }
+fn is_refused_as(alloc: Global, want: &str) -> bool {
+    match made(alloc, &groups("a", false)) {
+        Ok(builder) => is_refused(alloc, &builder, want),
+        Err(_) => false,
     }
 }
 
 #[test]
 fn two_groups_of_one_name(rt: HostRuntime) {
     let told = "groups can't be taken: two groups of pattern 0 have the name 'a'";
-    assert!(rt; matches!(is_refused_as(rt.alloc(), told), Ok(true)));
+    assert!(rt; is_refused_as(rt.alloc(), told));
 }
 
 /// A chain of empty states to a match, and the last of them.

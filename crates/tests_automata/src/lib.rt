@@ -6,6 +6,8 @@ mod builder_calls;
 #[cfg(test)]
 mod builders;
 #[cfg(test)]
+mod calls;
+#[cfg(test)]
 mod nfas;
 #[cfg(test)]
 mod sets;
@@ -13,3 +15,5 @@ mod sets;
 mod shapes;
 #[cfg(test)]
 mod states;
+#[cfg(test)]
+mod texts;

@@ -52,13 +52,14 @@ fn inserts_quietly<S: NameSet>(set: &mut S) -> bool
     inserts::<S, Brand>(set, Blank::new(1))
 }
 
-/// The numbers that stand in a set, in its order.
-fn names_of<S: NameSet>(alloc: Global, set: &S) -> Result<Vec<usize>, AllocError> {
-    let mut names = Vec::new(alloc);
-    for k in 0..set.len() {
-        names.push(set.name(k).as_usize())?;
+/// Whether a set has the rows' numbers, in their order.
+fn has_names<S: NameSet>(set: &S) -> bool {
+    for (k, name) in NAMES.iter().enumerate() {
+        if k >= set.len() || set.name(k).as_usize() != *name {
+            return false;
+        }
     }
-    Ok(names)
+    set.len() == NAMES.len()
 }
 
 /// Whether the set has each number below its capacity exactly where the list has it.
@@ -74,37 +75,34 @@ fn has_exactly<S: NameSet>(set: &S, names: &[usize]) -> bool
 }
 
 /// Whether the set of either kind takes the rows' numbers, and tells them in their order.
-fn takes_rows<S: NameSet>(alloc: Global, set: &mut S) -> Result<bool, AllocError>
+fn takes_rows<S: NameSet>(set: &mut S) -> bool
     requires { S.bound set.old ≡ 256 }
     ensures { S.bound set.new ≡ 256 }
 {
-    let agrees = inserts_quietly(set) && has_exactly(set, &NAMES);
-    let names = names_of(alloc, set)?;
-    Ok(agrees && names.as_slice() == NAMES.as_slice())
+    inserts_quietly(set) && has_exactly(set, &NAMES) && has_names(set)
 }
 
 /// What holds of a set of either kind that has nothing in it at first, and again when it is cleared.
-fn is_right<S: NameSet>(alloc: Global, set: &mut S) -> Result<bool, AllocError>
+fn is_right<S: NameSet>(set: &mut S) -> bool
     requires { S.bound set.old ≡ 256 }
 {
     let is_empty = set.capacity() == CAPACITY && set.len() == 0;
-    let first = takes_rows(alloc, set)?;
+    let first = takes_rows(set);
     set.clear();
     let is_clear = set.len() == 0 && has_exactly(set, &[]);
-    let second = takes_rows(alloc, set)?;
-    Ok(is_empty && first && is_clear && second)
+    is_empty && first && is_clear && takes_rows(set)
 }
 
 /// Whether that holds of a set in two tables.
 fn sparse_is_right(alloc: Global) -> Result<bool, AllocError> {
     let mut set = SparseSet::new(alloc, CAPACITY)?;
-    is_right(alloc, &mut set)
+    Ok(is_right(&mut set))
 }
 
 /// Whether it holds of a set of pairs.
 fn pairs_are_right(alloc: Global) -> Result<bool, AllocError> {
     let mut set = PairSet::new(alloc, CAPACITY)?;
-    is_right(alloc, &mut set)
+    Ok(is_right(&mut set))
 }
 
 #[test]
@@ -113,22 +111,24 @@ fn both_sets_are_alike(rt: HostRuntime) {
     assert!(rt; matches!(pairs_are_right(rt.alloc()), Ok(true)));
 }
 
-/// The numbers that the set's iterator tells.
-fn told(alloc: Global, set: &SparseSet) -> Result<Vec<usize>, AllocError> {
-    let mut names = Vec::new(alloc);
-    for id in set.iter() {
-        names.push(id.as_usize())?;
+/// Whether the set's iterator tells the rows' numbers.
+fn tells_in_order(set: &SparseSet) -> bool {
+    let mut ids = set.iter();
+    for name in NAMES {
+        match ids.next() {
+            Some(id) if id.as_usize() == name => {}
+            _ => return false,
+        }
     }
-    Ok(names)
+    ids.next().is_none()
 }
 
-/// Whether the set's iterator tells the rows' numbers when they are inserted.
+/// Whether it does when they are inserted.
 fn tells_names(alloc: Global) -> Result<bool, AllocError> {
     let mut set = SparseSet::new(alloc, CAPACITY)?;
     let is_empty = set.is_empty() && set.memory_usage() == 2048;
     let agrees = inserts_quietly(&mut set) && !set.is_empty();
-    let names = told(alloc, &set)?;
-    Ok(is_empty && agrees && names.as_slice() == NAMES.as_slice())
+    Ok(is_empty && agrees && tells_in_order(&set))
 }
 
 /// Whether a set with numbers in it is emptied where it is made smaller and then larger.
@@ -152,8 +152,7 @@ fn are_swapped(alloc: Global) -> Result<bool, AllocError> {
     let mut sets = SparseSets::new(alloc, CAPACITY)?;
     let agrees = sets.memory_usage() == 4096 && inserts_quietly(&mut sets.set1);
     sets.swap();
-    let names = names_of(alloc, &sets.set2)?;
-    Ok(agrees && sets.set1.is_empty() && names.as_slice() == NAMES.as_slice())
+    Ok(agrees && sets.set1.is_empty() && has_names(&sets.set2))
 }
 
 /// Whether both sets are cleared, and resized.

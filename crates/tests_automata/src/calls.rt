@@ -1,0 +1,254 @@
+//! Calls of a builder, one after the other, each with what it should answer.
+ghost use Rattle.std.specs.Prelude.{◌≡◌};
+
+use crate::texts::is_told;
+use look_core::{AsciiWord, LineTerm, Look, LookMatcher};
+use nfa_core::{BuildError, Builder, Transition};
+use search_core::StateID;
+use std::alloc::{AllocError, Global};
+
+/// What is done with a builder. States have their numbers in the order in which they are added.
+#[derive(Clone, Copy)]
+pub(crate) enum Step {
+    /// Begins a pattern, and finishes it with the state in which it starts.
+    Start,
+    Finish(u8),
+    Match,
+    Fail,
+    Empty,
+    /// Two empty states that stand for each other.
+    Loop,
+    /// By the first byte, to this state.
+    Zero(u8),
+    Look(Look, u8),
+    /// Sparse states of no range, of one and of two.
+    Sparse,
+    Union(&'static [u8]),
+    UnionReverse(&'static [u8]),
+    /// Begins or ends a group: where it leads, the group, and its name.
+    Group(u8, u32, Option<&'static str>),
+    GroupEnd(u8, u32),
+    Reverse(bool),
+    Limit(Option<usize>),
+    /// Sets all settings to others than those of a new builder.
+    SetAll,
+    Clear,
+}
+
+/// A step, or what a builder should tell.
+#[derive(Clone, Copy)]
+pub(crate) enum Call {
+    Do(Step),
+    /// The step is refused in these words.
+    Refuses(Step, &'static str),
+    /// The limit, and the bytes of the states.
+    Limit(Option<usize>),
+    Bytes(usize),
+    /// Whether it can build with these starts.
+    CanBuild(u8, u8, bool),
+    /// Whether a pattern was begun, and how many there are.
+    Patterns(bool, usize),
+    /// One more than the number of the pattern that was begun.
+    InPattern(usize),
+    /// The settings are those of a new builder, or all of the others.
+    HasGiven,
+    HasSet,
+}
+
+pub(crate) fn transition(start: u8, end: u8, next: u8) -> Transition
+    ensures first { result.start ≡ start }
+    ensures last { result.end ≡ end }
+{
+    Transition {
+        start,
+        end,
+        next: StateID::from(next),
+    }
+}
+
+/// The states of these numbers.
+fn names(alloc: Global, numbers: &[u8]) -> Result<Vec<StateID>, AllocError> {
+    let mut names = Vec::new(alloc);
+    for number in numbers {
+        names.push(StateID::from(*number))?;
+    }
+    Ok(names)
+}
+
+/// Adds sparse states of a few ranges.
+fn add_sparse(alloc: Global, builder: &mut Builder) -> Result<(), BuildError> {
+    builder.add_sparse(Vec::new(alloc))?;
+    builder.add_sparse(vec![in alloc; transition(7, 8, 0)]?)?;
+    builder.add_sparse(vec![in alloc; transition(0, 0, 1), transition(1, 255, 2)]?)?;
+    Ok(())
+}
+
+/// Adds two empty states that stand for each other.
+fn add_loop(builder: &mut Builder) -> Result<(), BuildError> {
+    let first = builder.add_empty()?;
+    let second = builder.add_empty()?;
+    builder.patch(first, second)?;
+    builder.patch(second, first)
+}
+
+/// Adds a state, or two.
+fn add(alloc: Global, builder: &mut Builder, step: Step) -> Result<(), BuildError> {
+    match step {
+        Step::Fail => builder.add_fail()?,
+        Step::Empty => builder.add_empty()?,
+        Step::Zero(next) => builder.add_range(transition(0, 0, next))?,
+        Step::Look(look, next) => builder.add_look(StateID::from(next), look)?,
+        Step::Union(ways) => builder.add_union(names(alloc, ways)?)?,
+        Step::UnionReverse(ways) => builder.add_union_reverse(names(alloc, ways)?)?,
+        Step::Loop => return add_loop(builder),
+        _ => return add_sparse(alloc, builder),
+    };
+    Ok(())
+}
+
+/// Begins a group, whose name is told.
+fn begin_group(
+    alloc: Global,
+    builder: &mut Builder,
+    next: u8,
+    group: u32,
+    name: &str,
+) -> Result<(), BuildError> {
+    let name = String::from_str(alloc, name)?;
+    if builder.in_pattern() {
+        builder.add_capture_start(StateID::from(next), group, Some(name))?;
+    }
+    Ok(())
+}
+
+/// Does what a pattern that was begun is needed for.
+fn add_in_pattern(alloc: Global, builder: &mut Builder, step: Step) -> Result<(), BuildError> {
+    if !builder.in_pattern() {
+        return Err(BuildError::TooManyPatterns);
+    }
+    match step {
+        Step::Finish(start) => {
+            builder.finish_pattern(StateID::from(start))?;
+        }
+        Step::Group(next, group, None) => {
+            builder.add_capture_start(StateID::from(next), group, None)?;
+        }
+        Step::Group(next, group, Some(name)) => begin_group(alloc, builder, next, group, name)?,
+        Step::GroupEnd(next, group) => {
+            builder.add_capture_end(StateID::from(next), group)?;
+        }
+        _ => {
+            builder.add_match()?;
+        }
+    }
+    Ok(())
+}
+
+/// Begins a pattern.
+fn start(builder: &mut Builder) -> Result<(), BuildError> {
+    if builder.in_pattern() {
+        return Err(BuildError::TooManyPatterns);
+    }
+    builder.start_pattern()?;
+    Ok(())
+}
+
+/// Sets all settings to others than those of a new builder.
+fn set_all(builder: &mut Builder) -> Result<(), BuildError> {
+    let mut look_matcher = LookMatcher::new(AsciiWord);
+    look_matcher.set_line_terminator(LineTerm::one(0));
+    builder.set_look_matcher(look_matcher);
+    builder.set_utf8(false);
+    builder.set_reverse(true);
+    builder.set_size_limit(Some(100))
+}
+
+/// Takes a step.
+pub(crate) fn take(alloc: Global, builder: &mut Builder, step: Step) -> Result<(), BuildError> {
+    match step {
+        Step::Start => start(builder),
+        Step::Finish(_) | Step::Match | Step::Group(..) | Step::GroupEnd(..) => {
+            add_in_pattern(alloc, builder, step)
+        }
+        Step::Limit(limit) => builder.set_size_limit(limit),
+        Step::SetAll => set_all(builder),
+        Step::Reverse(reverse) => {
+            builder.set_reverse(reverse);
+            Ok(())
+        }
+        Step::Clear => {
+            builder.clear();
+            Ok(())
+        }
+        _ => add(alloc, builder, step),
+    }
+}
+
+/// A builder behind these steps.
+pub(crate) fn made(alloc: Global, steps: &[Step]) -> Result<Builder, BuildError> {
+    let mut builder = Builder::new(alloc);
+    for step in steps {
+        take(alloc, &mut builder, *step)?;
+    }
+    Ok(builder)
+}
+
+/// Whether a step is refused in these words.
+fn refuses(alloc: Global, builder: &mut Builder, step: Step, want: &str) -> bool {
+    match take(alloc, builder, step) {
+        Ok(()) => false,
+        Err(error) => is_told(alloc, &error, want),
+    }
+}
+
+/// Whether spans are UTF-8, whether the text is read downwards, the limit, and by what lines end.
+fn settings(builder: &Builder) -> (bool, bool, Option<usize>, LineTerm) {
+    (
+        builder.get_utf8(),
+        builder.get_reverse(),
+        builder.get_size_limit(),
+        builder.get_look_matcher().get_line_terminator(),
+    )
+}
+
+/// Whether the pattern that was begun has this number, and one more.
+fn is_in_pattern(builder: &Builder, one_more: usize) -> bool {
+    builder.in_pattern() && builder.current_pattern_id().one_more() == one_more
+}
+
+/// Whether a builder tells what it should.
+fn tells(builder: &Builder, call: Call) -> bool {
+    match call {
+        Call::Limit(limit) => builder.get_size_limit() == limit,
+        Call::Bytes(bytes) => builder.memory_usage() == bytes,
+        Call::CanBuild(anchored, unanchored, want) => {
+            builder.can_build(StateID::from(anchored), StateID::from(unanchored)) == want
+        }
+        Call::Patterns(is_open, len) => {
+            (builder.in_pattern(), builder.pattern_len()) == (is_open, len)
+        }
+        Call::InPattern(one_more) => is_in_pattern(builder, one_more),
+        Call::HasGiven => settings(builder) == (true, false, None, LineTerm::one(b'\n')),
+        _ => settings(builder) == (false, true, Some(100), LineTerm::one(0)),
+    }
+}
+
+/// Whether a call answers what it should.
+fn is_answered(alloc: Global, builder: &mut Builder, call: Call) -> bool {
+    match call {
+        Call::Do(step) => take(alloc, builder, step).is_ok(),
+        Call::Refuses(step, want) => refuses(alloc, builder, step, want),
+        _ => tells(builder, call),
+    }
+}
+
+/// Whether each of the calls answers what it should.
+pub(crate) fn are_answered(alloc: Global, calls: &[Call]) -> bool {
+    let mut builder = Builder::new(alloc);
+    for call in calls {
+        if !is_answered(alloc, &mut builder, *call) {
+            return false;
+        }
+    }
+    true
+}
