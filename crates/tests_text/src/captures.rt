@@ -1,10 +1,27 @@
-use crate::groups::a_and_none;
+use crate::groups::{A_AND_NONE, groups_of};
 use search_core::{NonMaxUsize, PatternID};
-use search_types::{Captures, GroupInfoError, Match, Span};
-use std::alloc::Global;
+use search_types::{Captures, GroupInfo, GroupInfoError, Match, Span};
+use std::alloc::{AllocError, Global};
+
+/// Which slots are kept.
+#[derive(Clone, Copy)]
+pub(crate) enum Kept {
+    All,
+    Matches,
+    Nothing,
+}
+
+/// Captures that keep these slots, with none set.
+fn unset(alloc: Global, kept: Kept, info: GroupInfo) -> Result<Captures, AllocError> {
+    match kept {
+        Kept::All => Captures::all(alloc, info),
+        Kept::Matches => Captures::matches(alloc, info),
+        Kept::Nothing => Ok(Captures::empty(alloc, info)),
+    }
+}
 
 /// Sets each of these slots that is kept.
-pub(crate) fn set(captures: &mut Captures, values: &[(usize, usize)]) {
+fn set(captures: &mut Captures, values: &[(usize, usize)]) {
     for (index, value) in values {
         if let Some(slot) = captures.slots_mut().get_mut(*index) {
             *slot = NonMaxUsize::new(*value);
@@ -12,17 +29,44 @@ pub(crate) fn set(captures: &mut Captures, values: &[(usize, usize)]) {
     }
 }
 
-/// A match of the first pattern, with its slots as far as they are kept.
-fn matched(captures: &mut Captures) {
+/// A match of the first of these patterns, with its slots as far as they are kept.
+pub(crate) fn matched(
+    alloc: Global,
+    kept: Kept,
+    patterns: &str,
+    slots: &[(usize, usize)],
+) -> Result<Captures, GroupInfoError> {
+    let mut captures = unset(alloc, kept, groups_of(alloc, patterns)?)?;
     captures.set_pattern(Some(PatternID::ZERO));
-    set(captures, &[(0, 0), (1, 2), (4, 1), (5, 2)]);
+    set(&mut captures, slots);
+    Ok(captures)
 }
 
-/// Captures of all slots, with a match of the first pattern.
-fn all_of_a_match(alloc: Global) -> Result<Captures, GroupInfoError> {
-    let mut captures = Captures::all(alloc, a_and_none(alloc)?)?;
-    matched(&mut captures);
-    Ok(captures)
+/// What is asked of a match.
+#[derive(Clone, Copy)]
+enum Asked {
+    Groups,
+    Parts,
+    SlotsOfMatches,
+    NoSlots,
+}
+
+/// Whether it answers.
+fn is_answered(alloc: Global, captures: &mut Captures, asked: Asked) -> bool {
+    match asked {
+        Asked::Groups => tells_groups(captures) && copy_outlives(alloc, captures),
+        Asked::Parts => tells_parts(captures),
+        Asked::SlotsOfMatches => keeps_matches(captures),
+        Asked::NoSlots => captures.is_match() && captures.get_group(0).is_none(),
+    }
+}
+
+/// Whether a match of the first of two patterns does.
+fn answers(alloc: Global, kept: Kept, asked: Asked) -> bool {
+    match matched(alloc, kept, A_AND_NONE, &[(0, 0), (1, 2), (4, 1), (5, 2)]) {
+        Ok(mut captures) => is_answered(alloc, &mut captures, asked),
+        Err(_) => false,
+    }
 }
 
 /// The match, if its span isn't turned round.
@@ -33,31 +77,24 @@ fn match_in_order(captures: &Captures) -> Option<Match> {
     }
 }
 
-/// What a match tells of its groups: its span, how many groups it has, and the spans of the second group, of the third,
-/// and of those with the names `a` and `b`.
-fn groups_of(captures: &Captures) -> (Option<Match>, usize, [Option<Span>; 4]) {
-    let groups = [
+/// The spans of the second group, of the third, and of those with the names `a` and `b`.
+fn groups(captures: &Captures) -> [Option<Span>; 4] {
+    [
         captures.get_group(1),
         captures.get_group(2),
         captures.get_group_by_name("a"),
         captures.get_group_by_name("b"),
-    ];
-    (match_in_order(captures), captures.group_len(), groups)
-}
-
-/// The spans of the first three groups as they are told one after the other.
-fn spans_of(captures: &Captures) -> [Option<Option<Span>>; 3] {
-    let mut spans = captures.iter();
-    [spans.next(), spans.next(), spans.next()]
+    ]
 }
 
 /// Whether a match tells its groups: its own span, and that of the second one, whose name is `a`.
 fn tells_groups(captures: &Captures) -> bool {
-    let whole = Some(Span { start: 0, end: 2 });
+    let whole = Span { start: 0, end: 2 };
     let group = Some(Span { start: 1, end: 2 });
-    let found = Some(Match::must(0, Span { start: 0, end: 2 }));
-    groups_of(captures) == (found, 2, [group, None, group, None])
-        && spans_of(captures) == [Some(whole), Some(group), None]
+    match_in_order(captures) == Some(Match::must(0, whole))
+        && captures.group_len() == 2
+        && groups(captures) == [group, None, group, None]
+        && captures.iter().eq([Some(whole), group])
 }
 
 /// The pattern, the number of slots and of groups, and the match.
@@ -82,18 +119,20 @@ fn tells_match(copy: &Captures) -> bool {
         && copy.group_info().pattern_len() == 2
 }
 
-/// Whether captures tell a match, nothing when they are cleared, and a copy still the match.
-fn tell_a_match(alloc: Global) -> Result<bool, GroupInfoError> {
-    let mut captures = all_of_a_match(alloc)?;
-    let copy = captures.try_clone(alloc)?;
-    let told = tells_groups(&captures);
-    captures.clear();
-    Ok(told && tells_nothing(&captures) && tells_match(&copy))
+/// Whether captures tell nothing when they are cleared, and a copy still the match.
+fn copy_outlives(alloc: Global, captures: &mut Captures) -> bool {
+    match captures.try_clone(alloc) {
+        Ok(copy) => {
+            captures.clear();
+            tells_nothing(captures) && tells_match(&copy)
+        }
+        Err(_) => false,
+    }
 }
 
 #[test]
 fn groups_of_a_match(rt: HostRuntime) {
-    assert!(rt; matches!(tell_a_match(rt.alloc()), Ok(true)));
+    assert!(rt; answers(rt.alloc(), Kept::All, Asked::Groups));
 }
 
 /// Whether these parts are told: of bytes, of a character of two bytes, of a haystack of one, and of a third group.
@@ -107,49 +146,26 @@ fn has_parts(captures: &Captures) -> [bool; 4] {
     ]
 }
 
-/// Whether the parts of a text are told.
+/// Whether the parts of a text are told where they are in a haystack, and else none.
 fn tells_parts(captures: &Captures) -> bool {
     captures.extract::<&str, 1>("ab") == Some(("ab", ["b"]))
-}
-
-/// Whether parts are told where they are in a haystack, and else none.
-fn tell_parts(alloc: Global) -> Result<bool, GroupInfoError> {
-    let captures = all_of_a_match(alloc)?;
-    Ok(tells_parts(&captures) && has_parts(&captures) == [true, false, false, false])
+        && has_parts(captures) == [true, false, false, false]
 }
 
 #[test]
 fn parts_of_a_haystack(rt: HostRuntime) {
-    assert!(rt; matches!(tell_parts(rt.alloc()), Ok(true)));
-}
-
-/// How many slots are kept, and the spans of the first two groups.
-type Kept = (usize, Option<Span>, Option<Span>);
-
-fn kept(captures: &Captures) -> Kept {
-    (
-        captures.slots().len(),
-        captures.get_group(0),
-        captures.get_group(1),
-    )
+    assert!(rt; answers(rt.alloc(), Kept::All, Asked::Parts));
 }
 
 /// Whether slots of whole matches keep those of a match alone.
-fn keep_matches(alloc: Global) -> Result<bool, GroupInfoError> {
-    let mut captures = Captures::matches(alloc, a_and_none(alloc)?)?;
-    matched(&mut captures);
-    Ok(kept(&captures) == (4, Some(Span { start: 0, end: 2 }), None))
-}
-
-/// Whether a match without slots is one, and tells no span.
-fn is_match_alone(alloc: Global) -> Result<bool, GroupInfoError> {
-    let mut captures = Captures::empty(alloc, a_and_none(alloc)?);
-    matched(&mut captures);
-    Ok(captures.is_match() && captures.get_group(0).is_none())
+fn keeps_matches(captures: &Captures) -> bool {
+    captures.slots().len() == 4
+        && captures.get_group(0) == Some(Span { start: 0, end: 2 })
+        && captures.get_group(1).is_none()
 }
 
 #[test]
 fn slots_that_are_not_kept(rt: HostRuntime) {
-    assert!(rt; matches!(keep_matches(rt.alloc()), Ok(true)));
-    assert!(rt; matches!(is_match_alone(rt.alloc()), Ok(true)));
+    assert!(rt; answers(rt.alloc(), Kept::Matches, Asked::SlotsOfMatches));
+    assert!(rt; answers(rt.alloc(), Kept::Nothing, Asked::NoSlots));
 }

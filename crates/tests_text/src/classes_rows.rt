@@ -1,5 +1,4 @@
 use search_core::{ByteClassSet, ByteClasses, ByteSet, Unit};
-use std::alloc::{AllocError, Global};
 
 /// The classes that tell the small letters apart from all other bytes.
 fn letters() -> ByteClasses {
@@ -76,59 +75,43 @@ fn units_are_told() -> bool {
 
 #[test]
 fn classes_and_units(rt: HostRuntime) {
-    assert!(rt; letters_are_told_apart());
-    assert!(rt; kinds_of_classes());
-    assert!(rt; units_are_told());
+    assert!(rt; letters_are_told_apart() && kinds_of_classes() && units_are_told());
 }
 
 /// Whether the iterator over classes gives one of each class.
-fn classes_are_given(
-    alloc: Global,
-    classes: &ByteClasses,
-    want: &[Unit],
-) -> Result<bool, AllocError> {
-    let units = classes.iter().collect::<Vec<_>>(alloc)?;
-    Ok(units.as_slice() == want)
+fn classes_are_given(classes: &ByteClasses) -> bool {
+    let all = [Unit::u8(0), Unit::u8(1), Unit::u8(2), Unit::eoi(3)];
+    classes.iter().eq(all)
 }
 
-/// Whether the first bytes of classes from a byte on, and up to another one, are these.
-fn firsts_are_given(
-    alloc: Global,
-    classes: &ByteClasses,
-    bounds: (u8, Option<u8>),
-    want: &[Unit],
-) -> Result<bool, AllocError> {
-    let units = classes
-        .representatives(bounds.0, bounds.1)
-        .collect::<Vec<_>>(alloc)?;
-    Ok(units.as_slice() == want)
+/// Whether the first bytes of classes from a byte on, and up to another one, are given.
+fn firsts_are_given(classes: &ByteClasses) -> bool {
+    let heads = [Unit::u8(0x41), Unit::u8(0x61), Unit::u8(0x7B), Unit::eoi(3)];
+    let within = [Unit::u8(0x62), Unit::u8(0x7B)];
+    classes.representatives(0x41, None).eq(heads)
+        && classes.representatives(0x62, Some(0x7B)).eq(within)
 }
 
 /// Whether the members of the letters' class, and of the end's, are given.
-fn members_are_given(alloc: Global, classes: &ByteClasses) -> Result<bool, AllocError> {
-    let letters = classes.elements(Unit::u8(1)).collect::<Vec<_>>(alloc)?;
-    let mut ends = classes.elements(classes.eoi());
-    Ok(letters.len() == 26 && [ends.next(), ends.next()] == [Some(Unit::eoi(3)), None])
+fn members_are_given(classes: &ByteClasses) -> bool {
+    let mut letters = classes.elements(Unit::u8(1));
+    for letter in b'a'..=b'z' {
+        if letters.next() != Some(Unit::u8(letter)) {
+            return false;
+        }
+    }
+    letters.next().is_none() && classes.elements(classes.eoi()).eq([Unit::eoi(3)])
 }
 
 /// Whether each iterator over units gives those of the letters' classes.
-fn units_are_given(alloc: Global) -> Result<bool, AllocError> {
+fn units_are_given() -> bool {
     let classes = letters();
-    let last = Unit::eoi(3);
-    let all = [Unit::u8(0), Unit::u8(1), Unit::u8(2), last];
-    let heads = [Unit::u8(0x41), Unit::u8(0x61), Unit::u8(0x7B), last];
-    let within = [Unit::u8(0x62), Unit::u8(0x7B)];
-    Ok(
-        members_are_given(alloc, &classes)?
-            && classes_are_given(alloc, &classes, &all)?
-            && firsts_are_given(alloc, &classes, (0x41, None), &heads)?
-            && firsts_are_given(alloc, &classes, (0x62, Some(0x7B)), &within)?,
-    )
+    members_are_given(&classes) && classes_are_given(&classes) && firsts_are_given(&classes)
 }
 
 #[test]
 fn iterators_over_units(rt: HostRuntime) {
-    assert!(rt; matches!(units_are_given(rt.alloc()), Ok(true)));
+    assert!(rt; units_are_given());
 }
 
 /// Whether the set is empty, has two bytes, and has two ranges.
@@ -159,31 +142,22 @@ fn have_classes(set: &ByteSet) -> bool {
     true
 }
 
-/// Whether the set's iterator tells these bytes.
-fn tells_bytes(alloc: Global, set: &ByteSet, want: &[u8]) -> Result<bool, AllocError> {
-    let bytes = set.iter().collect::<Vec<_>>(alloc)?;
-    Ok(bytes.as_slice() == want)
-}
-
-/// Whether the set's iterator tells these ranges.
-fn tells_ranges(alloc: Global, set: &ByteSet, want: &[(u8, u8)]) -> Result<bool, AllocError> {
-    let ranges = set.iter_ranges().collect::<Vec<_>>(alloc)?;
-    Ok(ranges.as_slice() == want)
-}
-
 /// Whether the iterators of a few bytes tell them, and their ranges.
-fn tells_words(alloc: Global) -> Result<bool, AllocError> {
+fn tells_words(set: &ByteSet) -> bool {
+    set.iter().eq([0, 1, 0x61, 0x62, 0x63, 0xFF])
+        && set.iter_ranges().eq([(0, 1), (0x61, 0x63), (0xFF, 0xFF)])
+}
+
+/// Whether sets of a few bytes, and of none, are told.
+fn words_are_told() -> bool {
     let set = words();
-    Ok(
-        tells_bytes(alloc, &set, &[0, 1, 0x61, 0x62, 0x63, 0xFF])?
-            && tells_ranges(alloc, &set, &[(0, 1), (0x61, 0x63), (0xFF, 0xFF)])?,
-    )
+    ByteSet::default().is_empty()
+        && asked(&set) == [false, true, false, true, false]
+        && have_classes(&set)
+        && tells_words(&set)
 }
 
 #[test]
 fn sets_of_bytes(rt: HostRuntime) {
-    assert!(rt; ByteSet::default().is_empty());
-    assert!(rt; asked(&words()) == [false, true, false, true, false]);
-    assert!(rt; have_classes(&words()));
-    assert!(rt; matches!(tells_words(rt.alloc()), Ok(true)));
+    assert!(rt; words_are_told());
 }

@@ -1,62 +1,44 @@
-use search_types::GroupInfo;
-use std::alloc::{AllocError, Global};
+use crate::groups::groups_of;
+use crate::texts::is_told;
+use std::alloc::Global;
 
-/// The names of a pattern's groups, each of one letter, or a dash where a group has none.
-fn lettered(alloc: Global, letters: &str) -> Result<Vec<Option<String>>, AllocError> {
-    let mut names = Vec::new(alloc);
-    for letter in letters.chars() {
-        if letter == '-' {
-            names.push(None)?;
-        } else {
-            let mut name = String::new(alloc);
-            name.push(letter)?;
-            names.push(Some(name))?;
-        }
-    }
-    Ok(names)
-}
-
-/// What refuses the groups of two patterns, as text.
-fn refusal_of_two(alloc: Global, first: &str, second: &str) -> Result<String, AllocError> {
-    let groups = vec![in alloc; lettered(alloc, first)?, lettered(alloc, second)?]?;
-    match GroupInfo::new(alloc, &groups) {
-        Ok(_) => String::from_str(alloc, "none"),
-        Err(error) => format!(in alloc; "{error}"),
-    }
-}
+/// The names of patterns' groups, and what refuses them.
+pub(crate) type Refusal = (&'static str, &'static str);
 
 /// The groups of two patterns, and what refuses them: a fault of the second one alone, or of two faults
 /// the earlier.
-const fn faults() -> [(&'static str, &'static str, &'static str); 8] {
-    [
-        ("-a", "-a", "none"),
-        ("-", "", "pattern 1 has no groups"),
-        ("-a", "a", "the first group of pattern 1 has a name"),
-        ("-b", "-b-b", "two groups of pattern 1 have the name 'b'"),
-        ("-aa", "", "two groups of pattern 0 have the name 'a'"),
-        ("", "a", "pattern 0 has no groups"),
-        ("a", "", "the first group of pattern 0 has a name"),
-        ("-abba", "", "two groups of pattern 0 have the name 'b'"),
+const fn faults() -> &'static [Refusal] {
+    &[
+        ("-a|-a", "none"),
+        ("-|", "pattern 1 has no groups"),
+        ("-a|a", "the first group of pattern 1 has a name"),
+        ("-b|-b-b", "two groups of pattern 1 have the name 'b'"),
+        ("-aa|", "two groups of pattern 0 have the name 'a'"),
+        ("|a", "pattern 0 has no groups"),
+        ("a|", "the first group of pattern 0 has a name"),
+        ("-abba|", "two groups of pattern 0 have the name 'b'"),
     ]
 }
 
-/// Whether the groups of two patterns are refused in these words.
-fn is_refused(alloc: Global, first: &str, second: &str, told: &str) -> Result<bool, AllocError> {
-    let text = refusal_of_two(alloc, first, second)?;
-    Ok(text.as_str() == told)
+/// Whether the groups of these patterns are refused in these words.
+fn is_refused(alloc: Global, patterns: &str, want: &str) -> bool {
+    match groups_of(alloc, patterns) {
+        Ok(_) => want == "none",
+        Err(error) => is_told(alloc, &error, want),
+    }
 }
 
 /// Whether each row is refused as it says.
-fn are_refused(alloc: Global) -> Result<bool, AllocError> {
-    for (first, second, told) in faults() {
-        if !is_refused(alloc, first, second, told)? {
-            return Ok(false);
+pub(crate) fn are_refused(alloc: Global, rows: &[Refusal]) -> bool {
+    for (patterns, want) in rows {
+        if !is_refused(alloc, patterns, want) {
+            return false;
         }
     }
-    Ok(true)
+    true
 }
 
 #[test]
 fn faults_of_two_patterns(rt: HostRuntime) {
-    assert!(rt; matches!(are_refused(rt.alloc()), Ok(true)));
+    assert!(rt; are_refused(rt.alloc(), faults()));
 }

@@ -1,46 +1,40 @@
+use crate::group_faults::{Refusal, are_refused};
 use search_core::PatternID;
 use search_types::{GroupInfo, GroupInfoError};
 use std::alloc::{AllocError, Global};
 
-/// The names of a pattern's groups.
-pub(crate) fn names(
-    alloc: Global,
-    texts: &[Option<&str>],
-) -> Result<Vec<Option<String>>, AllocError> {
+/// A group's name by its letter, where a dash is none.
+fn name_of(letter: char) -> Option<&'static str> {
+    match letter {
+        'a' => Some("a"),
+        'b' => Some("b"),
+        _ => None,
+    }
+}
+
+/// The names of a pattern's groups, of one letter each.
+fn names(alloc: Global, letters: &str) -> Result<Vec<Option<String>>, AllocError> {
     let mut names = Vec::new(alloc);
-    for text in texts {
-        match text {
-            Some(text) => names.push(Some(String::from_str(alloc, text)?))?,
+    for letter in letters.chars() {
+        match name_of(letter) {
+            Some(name) => names.push(Some(String::from_str(alloc, name)?))?,
             None => names.push(None)?,
         }
     }
     Ok(names)
 }
 
-/// Two patterns: one with a group of its own that is called `a`, and one without.
-pub(crate) fn a_and_none(alloc: Global) -> Result<GroupInfo, GroupInfoError> {
-    let groups = vec![in alloc; names(alloc, &[None, Some("a")])?, names(alloc, &[None])?]?;
+/// The groups of patterns that are parted by bars, each with a letter for each of its groups.
+pub(crate) fn groups_of(alloc: Global, patterns: &str) -> Result<GroupInfo, GroupInfoError> {
+    let mut groups = Vec::new(alloc);
+    for letters in patterns.split('|') {
+        groups.push(names(alloc, letters)?)?;
+    }
     GroupInfo::new(alloc, &groups)
 }
 
-/// All groups as text: the pattern, the group's index, and its name or a dash.
-fn all_names(alloc: Global, info: &GroupInfo) -> Result<String, AllocError> {
-    let mut text = String::new(alloc);
-    for (pattern, group, name) in info.all_names() {
-        let name = name.unwrap_or("-");
-        write!(text, "{} {group} {name};", pattern.as_usize())?;
-    }
-    Ok(text)
-}
-
-/// What refuses the groups of a single pattern, as text.
-fn refusal(alloc: Global, texts: &[Option<&str>]) -> Result<String, AllocError> {
-    let groups = vec![in alloc; names(alloc, texts)?]?;
-    match GroupInfo::new(alloc, &groups) {
-        Ok(_) => String::from_str(alloc, "none"),
-        Err(error) => format!(in alloc; "{error}"),
-    }
-}
+/// Two patterns: one with a group of its own that is called `a`, and one without.
+pub(crate) const A_AND_NONE: &str = "-a|-";
 
 /// The number of patterns, of all groups, and of slots: all, implicit and explicit ones.
 fn sizes(info: &GroupInfo) -> [usize; 5] {
@@ -54,11 +48,9 @@ fn sizes(info: &GroupInfo) -> [usize; 5] {
 }
 
 /// What is told of a group by its pattern and its index: the slots, the first slot and the name.
-fn told(
-    info: &GroupInfo,
-    pattern: PatternID,
-    group: usize,
-) -> (Option<(usize, usize)>, Option<usize>, Option<&str>) {
+type Told<'a> = (Option<(usize, usize)>, Option<usize>, Option<&'a str>);
+
+fn told(info: &GroupInfo, pattern: PatternID, group: usize) -> Told<'_> {
     (
         info.slots(pattern, group),
         info.slot(pattern, group),
@@ -66,30 +58,42 @@ fn told(
     )
 }
 
+/// What is told of each group of two patterns, and of one more of each.
+const fn groups() -> [(u8, usize, Told<'static>); 5] {
+    [
+        (0, 0, (Some((0, 1)), Some(0), None)),
+        (1, 0, (Some((2, 3)), Some(2), None)),
+        (0, 1, (Some((4, 5)), Some(4), Some("a"))),
+        (0, 2, (None, None, None)),
+        (1, 1, (None, None, None)),
+    ]
+}
+
 /// Whether each group of two patterns has its slots and its name.
 fn slots_are_told(info: &GroupInfo) -> bool {
-    let (first, second) = (PatternID::must(0), PatternID::must(1));
+    for (pattern, group, want) in groups() {
+        if told(info, PatternID::from(pattern), group) != want {
+            return false;
+        }
+    }
     sizes(info) == [2, 3, 6, 4, 2]
-        && told(info, first, 0) == (Some((0, 1)), Some(0), None)
-        && told(info, second, 0) == (Some((2, 3)), Some(2), None)
-        && told(info, first, 1) == (Some((4, 5)), Some(4), Some("a"))
-        && told(info, first, 2) == (None, None, None)
-        && told(info, second, 1) == (None, None, None)
 }
 
 /// Whether two patterns that were made have them.
-fn two_are_told(alloc: Global) -> Result<bool, GroupInfoError> {
-    let info = a_and_none(alloc)?;
-    Ok(slots_are_told(&info))
+fn two_are_told(alloc: Global) -> bool {
+    match groups_of(alloc, A_AND_NONE) {
+        Ok(info) => slots_are_told(&info),
+        Err(_) => false,
+    }
 }
 
 #[test]
 fn slots_of_two_patterns(rt: HostRuntime) {
-    assert!(rt; matches!(two_are_told(rt.alloc()), Ok(true)));
+    assert!(rt; two_are_told(rt.alloc()));
 }
 
 /// The number of a pattern's groups, the index of its group `a`, and how many names it tells.
-fn groups_of(info: &GroupInfo, pattern: u8) -> (usize, Option<usize>, usize) {
+fn counts(info: &GroupInfo, pattern: u8) -> (usize, Option<usize>, usize) {
     let pattern = PatternID::from(pattern);
     (
         info.group_len(pattern),
@@ -100,62 +104,64 @@ fn groups_of(info: &GroupInfo, pattern: u8) -> (usize, Option<usize>, usize) {
 
 /// Whether the groups of two patterns, and of one more, are told.
 fn groups_are_told(info: &GroupInfo) -> bool {
-    groups_of(info, 0) == (2, Some(1), 2)
-        && groups_of(info, 1) == (1, None, 1)
-        && groups_of(info, 2) == (0, None, 0)
+    counts(info, 0) == (2, Some(1), 2)
+        && counts(info, 1) == (1, None, 1)
+        && counts(info, 2) == (0, None, 0)
 }
 
-/// Whether the groups' names are printed so.
-fn are_named(alloc: Global, info: &GroupInfo, want: &str) -> Result<bool, AllocError> {
-    Ok(all_names(alloc, info)?.as_str() == want)
+/// Whether these are all groups: the pattern, the group's index, and its name.
+fn are_named(info: &GroupInfo, want: &[(u8, usize, Option<&str>)]) -> bool {
+    let mut names = info.all_names();
+    for (pattern, group, name) in want {
+        if names.next() != Some((PatternID::from(*pattern), *group, *name)) {
+            return false;
+        }
+    }
+    names.next().is_none()
 }
 
 /// Whether a copy of two patterns' groups tells them and their names.
-fn copy_is_told(alloc: Global) -> Result<bool, GroupInfoError> {
-    let info = a_and_none(alloc)?.try_clone(alloc)?;
-    Ok(groups_are_told(&info) && are_named(alloc, &info, "0 0 -;0 1 a;1 0 -;")?)
+fn copy_is_told(alloc: Global, info: &GroupInfo) -> bool {
+    match info.try_clone(alloc) {
+        Ok(copy) => {
+            groups_are_told(&copy)
+                && are_named(&copy, &[(0, 0, None), (0, 1, Some("a")), (1, 0, None)])
+        }
+        Err(_) => false,
+    }
+}
+
+/// Whether a copy of two patterns that were made does.
+fn copy_of_two_is_told(alloc: Global) -> bool {
+    match groups_of(alloc, A_AND_NONE) {
+        Ok(info) => copy_is_told(alloc, &info),
+        Err(_) => false,
+    }
 }
 
 /// Whether no groups have no names and no slots.
-fn nothing_is_told(alloc: Global) -> Result<bool, AllocError> {
+fn nothing_is_told(alloc: Global) -> bool {
     let nothing = GroupInfo::empty(alloc);
-    Ok(nothing.slot_len() == 0 && are_named(alloc, &nothing, "")?)
+    nothing.slot_len() == 0 && are_named(&nothing, &[])
 }
 
 #[test]
 fn names_of_two_patterns(rt: HostRuntime) {
-    assert!(rt; matches!(copy_is_told(rt.alloc()), Ok(true)));
-    assert!(rt; matches!(nothing_is_told(rt.alloc()), Ok(true)));
+    assert!(rt; copy_of_two_is_told(rt.alloc()) && nothing_is_told(rt.alloc()));
 }
 
 /// The names of a pattern's groups, and what refuses them.
-const fn refusals() -> [(&'static [Option<&'static str>], &'static str); 5] {
-    [
-        (&[None, Some("a"), None, Some("b")], "none"),
-        (&[], "pattern 0 has no groups"),
-        (&[Some("a")], "the first group of pattern 0 has a name"),
-        (
-            &[None, Some("a"), None, Some("a")],
-            "two groups of pattern 0 have the name 'a'",
-        ),
-        (
-            &[Some("a"), Some("a")],
-            "the first group of pattern 0 has a name",
-        ),
+const fn refusals() -> &'static [Refusal] {
+    &[
+        ("-a-b", "none"),
+        ("", "pattern 0 has no groups"),
+        ("a", "the first group of pattern 0 has a name"),
+        ("-a-a", "two groups of pattern 0 have the name 'a'"),
+        ("aa", "the first group of pattern 0 has a name"),
     ]
-}
-
-/// Whether each row is refused as it says.
-fn are_refused(alloc: Global) -> Result<bool, AllocError> {
-    for (texts, told) in refusals() {
-        if refusal(alloc, texts)?.as_str() != told {
-            return Ok(false);
-        }
-    }
-    Ok(true)
 }
 
 #[test]
 fn groups_that_break_a_rule(rt: HostRuntime) {
-    assert!(rt; matches!(are_refused(rt.alloc()), Ok(true)));
+    assert!(rt; are_refused(rt.alloc(), refusals()));
 }

@@ -1,8 +1,9 @@
 ghost use Rattle.std.specs.Prelude.{◌≡◌, ◌<◌, ◌≤◌, ◌↔◌, IsTrue};
 ghost use Rattle.std.specs.Ordering.{nat_cmp};
 
+use crate::texts::{is_printed, is_told};
 use search_core::{NonMaxUsize, PatternID, SmallIndex, SmallIndexError, StateID};
-use std::alloc::{AllocError, Global};
+use std::alloc::Global;
 use std::cmp::Ordering;
 
 /// What is read of an index: as each type, and one more.
@@ -106,47 +107,40 @@ fn ways_are_told() -> bool {
     true
 }
 
-/// One index of each type, as it is printed.
-fn printed(alloc: Global) -> Result<String, AllocError> {
-    let (index, pattern, state) = (SmallIndex::must(7), PatternID::must(7), StateID::must(7));
-    let number = NonMaxUsize::new(7);
-    format!(in alloc; "{index:?}, {pattern:?}, {state:?}, {number:?}")
+/// Whether one index of each type is printed so.
+fn are_printed(alloc: Global) -> bool {
+    is_printed(alloc, &SmallIndex::must(7), "SmallIndex(7)")
+        && is_printed(alloc, &PatternID::must(7), "PatternID(7)")
+        && is_printed(alloc, &StateID::must(7), "StateID(7)")
+        && is_printed(alloc, &NonMaxUsize::new(7), "Some(NonMaxUsize(7))")
 }
 
-/// Whether the indices are printed so.
-fn are_printed(alloc: Global, want: &str) -> Result<bool, AllocError> {
-    Ok(printed(alloc)?.as_str() == want)
-}
-
-/// Whether a small index is refused in these words where its number is too great.
-fn index_is_refused(alloc: Global, want: &str) -> Result<bool, AllocError> {
-    let text = SmallIndex::new(2147483647).unwrap_err().to_string(alloc)?;
-    Ok(text.as_str() == want)
+/// Whether a small index whose number is too great is refused in these words.
+fn index_is_refused(alloc: Global) -> bool {
+    let want = "failed to create small index from 2147483647, which exceeds SmallIndex(2147483646)";
+    is_told(alloc, &SmallIndex::new(2147483647).unwrap_err(), want)
 }
 
 /// Likewise a pattern.
-fn pattern_is_refused(alloc: Global, want: &str) -> Result<bool, AllocError> {
-    let text = PatternID::new(2147483647).unwrap_err().to_string(alloc)?;
-    Ok(text.as_str() == want)
+fn pattern_is_refused(alloc: Global) -> bool {
+    let want = "failed to create PatternID from 2147483647, which exceeds PatternID(2147483646)";
+    is_told(alloc, &PatternID::new(2147483647).unwrap_err(), want)
 }
 
 /// Likewise a state.
-fn state_is_refused(alloc: Global, want: &str) -> Result<bool, AllocError> {
-    let text = StateID::new(2147483647).unwrap_err().to_string(alloc)?;
-    Ok(text.as_str() == want)
+fn state_is_refused(alloc: Global) -> bool {
+    let want = "failed to create StateID from 2147483647, which exceeds StateID(2147483646)";
+    is_told(alloc, &StateID::new(2147483647).unwrap_err(), want)
+}
+
+/// Whether each type is.
+fn are_refused(alloc: Global) -> bool {
+    index_is_refused(alloc) && pattern_is_refused(alloc) && state_is_refused(alloc)
 }
 
 #[test]
 fn texts(rt: HostRuntime) {
-    let alloc = rt.alloc();
-    let text = "SmallIndex(7), PatternID(7), StateID(7), Some(NonMaxUsize(7))";
-    assert!(rt; matches!(are_printed(alloc, text), Ok(true)));
-    let text = "failed to create small index from 2147483647, which exceeds SmallIndex(2147483646)";
-    assert!(rt; matches!(index_is_refused(alloc, text), Ok(true)));
-    let text = "failed to create PatternID from 2147483647, which exceeds PatternID(2147483646)";
-    assert!(rt; matches!(pattern_is_refused(alloc, text), Ok(true)));
-    let text = "failed to create StateID from 2147483647, which exceeds StateID(2147483646)";
-    assert!(rt; matches!(state_is_refused(alloc, text), Ok(true)));
+    assert!(rt; are_printed(rt.alloc()) && are_refused(rt.alloc()));
 }
 
 /// Whether all numbers but the greatest are taken.
@@ -206,13 +200,16 @@ fn rises() -> bool {
     }
 }
 
+/// Whether two numbers are compared as they are expected, in each order.
+fn orders_are_told() -> bool {
+    are_compared(3, 3, Ordering::Equal)
+        && are_compared(3, 5, Ordering::Less)
+        && are_compared(5, 3, Ordering::Greater)
+        && rises()
+}
+
 #[test]
 fn indices(rt: HostRuntime) {
-    assert!(rt; indices_are_read());
-    assert!(rt; ways_are_told());
-    assert!(rt; all_but_the_greatest());
-    assert!(rt; are_compared(3, 3, Ordering::Equal));
-    assert!(rt; are_compared(3, 5, Ordering::Less));
-    assert!(rt; are_compared(5, 3, Ordering::Greater));
-    assert!(rt; rises());
+    assert!(rt; indices_are_read() && ways_are_told());
+    assert!(rt; all_but_the_greatest() && orders_are_told());
 }

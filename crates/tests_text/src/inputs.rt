@@ -1,5 +1,6 @@
 ghost use Rattle.std.specs.Prelude.{◌≡◌, ◌↔◌, IsTrue, IfOk};
 
+use crate::texts::is_told;
 use search_core::PatternID;
 use search_types::{
     Anchored, HalfMatch, Input, Match, MatchError, MatchErrorKind, MatchKind, Span,
@@ -7,7 +8,6 @@ use search_types::{
 use std::alloc::{AllocError, Global};
 use std::collections::HashSet;
 use std::ops::Range;
-use std::test::Fail;
 
 /// A span by its two ends.
 fn span(start: usize, end: usize) -> Span
@@ -32,14 +32,19 @@ fn places() -> [bool; 4] {
     ]
 }
 
+/// Whether spans that rise, are empty and are turned round have their lengths, and one its places.
+fn spans_are_told() -> bool {
+    has_length(span(2, 5), 3, false)
+        && has_length(span(4, 4), 0, true)
+        && has_length(span(5, 4), 0, true)
+        && places() == [false, true, true, false]
+        && span(2, 5).offset(7) == span(9, 12)
+        && span(2, 5).range() == (2..5)
+}
+
 #[test]
 fn spans_leave_their_end_out(rt: HostRuntime) {
-    assert!(rt; has_length(span(2, 5), 3, false));
-    assert!(rt; has_length(span(4, 4), 0, true));
-    assert!(rt; has_length(span(5, 4), 0, true));
-    assert!(rt; places() == [false, true, true, false]);
-    assert!(rt; span(2, 5).offset(7) == span(9, 12));
-    assert!(rt; span(2, 5).range() == (2..5));
+    assert!(rt; spans_are_told());
 }
 
 /// Whether each mode tells whether it is anchored, and to which pattern.
@@ -52,11 +57,14 @@ fn modes_are_told() -> bool {
         && (pattern.is_anchored(), pattern.pattern()) == (true, Some(seven))
 }
 
+/// Whether the kind that is set at first is that of leftmost matches, and no other.
+fn kinds_are_told() -> bool {
+    MatchKind::default() == MatchKind::LeftmostFirst && MatchKind::default() != MatchKind::All
+}
+
 #[test]
 fn modes_and_kinds(rt: HostRuntime) {
-    assert!(rt; modes_are_told());
-    assert!(rt; MatchKind::default() == MatchKind::LeftmostFirst);
-    assert!(rt; MatchKind::default() != MatchKind::All);
+    assert!(rt; modes_are_told() && kinds_are_told());
 }
 
 /// Whether a search of two bytes would be done at once, for a span that such a search may have.
@@ -150,12 +158,15 @@ fn has_what_was_set() -> bool {
     search_of(&input) == (span(1, 1), mode, true)
 }
 
+/// Whether the ends that are set one after the other are those of the spans.
+fn ends_are_set() -> bool {
+    spans_as_set() == [span(4, 3), span(4, 4), span(0, 2)]
+}
+
 #[test]
 fn inputs_are_what_was_set(rt: HostRuntime) {
-    assert!(rt; new_searches_all());
-    assert!(rt; has_what_was_given());
-    assert!(rt; has_what_was_set());
-    assert!(rt; spans_as_set() == [span(4, 3), span(4, 4), span(0, 2)]);
+    assert!(rt; new_searches_all() && has_what_was_given());
+    assert!(rt; has_what_was_set() && ends_are_set());
 }
 
 /// The pattern, the two ends, the length, the span as its type and as a range, and whether it is empty.
@@ -180,23 +191,26 @@ fn are_made_alike() -> bool {
         && (half.pattern().as_usize(), half.offset()) == (3, 5)
 }
 
-/// Whether each of three matches is new to a set of them.
-fn new_in_a_set(alloc: Global) -> Result<[bool; 3], AllocError> {
+/// Whether a match tells its parts.
+fn is_told_by_parts() -> bool {
+    told(Match::must(3, span(2, 5))) == (3, 2, 5, 3, span(2, 5), 2..5, false)
+}
+
+/// Whether each of three matches is new to a set of them, or not, as is expected.
+fn are_new_once(alloc: Global) -> Result<bool, AllocError> {
     let mut seen = HashSet::new(alloc);
-    Ok([
-        seen.insert(Match::must(3, span(2, 5)))?,
-        seen.insert(Match::must(2, span(2, 5)))?,
-        seen.insert(Match::must(3, span(2, 5)))?,
-    ])
+    for (pattern, is_new) in [(3, true), (2, true), (3, false)] {
+        if seen.insert(Match::must(pattern, span(2, 5)))? != is_new {
+            return Ok(false);
+        }
+    }
+    Ok(true)
 }
 
 #[test]
-fn matches_tell_their_spans(rt: HostRuntime) -> Result<(), Fail> {
-    let found = Match::must(3, span(2, 5));
-    assert!(rt; told(found) == (3, 2, 5, 3, span(2, 5), 2..5, false));
-    assert!(rt; are_made_alike());
-    assert!(rt; new_in_a_set(rt.alloc())? == [true, true, false]);
-    Ok(())
+fn matches_tell_their_spans(rt: HostRuntime) {
+    assert!(rt; is_told_by_parts() && are_made_alike());
+    assert!(rt; matches!(are_new_once(rt.alloc()), Ok(true)));
 }
 
 /// Each error and its words.
@@ -228,19 +242,19 @@ fn errors() -> [(MatchError, &'static str); 8] {
     ]
 }
 
-/// Whether the error is told in these words, and its kind too.
-fn is_told(alloc: Global, error: &MatchError, want: &str) -> Result<bool, AllocError> {
-    let text = error.to_string(alloc)?;
-    let of_kind = error.kind().to_string(alloc)?;
-    Ok(text.as_str() == want && of_kind.as_str() == want)
+/// Whether each error is told in its words, and its kind too.
+fn errors_are_told(alloc: Global) -> bool {
+    for (error, want) in errors() {
+        if !is_told(alloc, &error, want) || !is_told(alloc, error.kind(), want) {
+            return false;
+        }
+    }
+    true
 }
 
 #[test]
-fn errors_are_told_in_words(rt: HostRuntime) -> Result<(), Fail> {
-    for (error, want) in errors() {
-        assert!(rt; is_told(rt.alloc(), &error, want)?, "{want}");
-    }
-    Ok(())
+fn errors_are_told_in_words(rt: HostRuntime) {
+    assert!(rt; errors_are_told(rt.alloc()));
 }
 
 /// An input's copy is the same search.
@@ -265,9 +279,11 @@ fn is_same_half(a: HalfMatch, b: HalfMatch) -> bool
 }
 
 /// Whether an input's copy has its haystack and is the same search.
-fn is_copied(input: &Input<'_>) -> Result<bool, AllocError> {
-    let copy = copied(input)?;
-    Ok(copy.haystack() == input.haystack() && search_of(&copy) == search_of(input))
+fn is_copied(input: &Input<'_>) -> bool {
+    match copied(input) {
+        Ok(copy) => copy.haystack() == input.haystack() && search_of(&copy) == search_of(input),
+        Err(_) => false,
+    }
 }
 
 /// Whether matches, and ends of matches, are the same just where all their parts are.
@@ -281,9 +297,7 @@ fn are_compared() -> bool {
 }
 
 #[test]
-fn copies_and_comparisons(rt: HostRuntime) -> Result<(), Fail> {
+fn copies_and_comparisons(rt: HostRuntime) {
     let input = Input::new(b"abc").range(1..2).anchored(Anchored::Yes);
-    assert!(rt; is_copied(&input)?);
-    assert!(rt; are_compared());
-    Ok(())
+    assert!(rt; is_copied(&input) && are_compared());
 }

@@ -24,4 +24,6 @@ mod parts;
 #[cfg(test)]
 mod sets;
 #[cfg(test)]
+mod texts;
+#[cfg(test)]
 mod utf8_rows;

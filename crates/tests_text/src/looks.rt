@@ -447,12 +447,20 @@ fn no_edges() -> [bool; 4] {
     ]
 }
 
+/// Whether just those of the rows hold.
+fn rows_hold() -> bool {
+    let matcher = LookMatcher::<AsciiWord>::default();
+    hold(&matcher, &lines()) && hold(&matcher, &words())
+}
+
+/// Likewise of the rows with a Greek letter.
+fn letters_hold() -> bool {
+    hold(&LookMatcher::new(WithBeta), &letters())
+}
+
 #[test]
 fn looks_hold_by_the_neighbours(rt: HostRuntime) {
-    let matcher = LookMatcher::<AsciiWord>::default();
-    assert!(rt; hold(&matcher, &lines()));
-    assert!(rt; hold(&matcher, &words()));
-    assert!(rt; hold(&LookMatcher::new(WithBeta), &letters()));
+    assert!(rt; rows_hold() && letters_hold());
     assert!(rt; no_edges() == [true, true, false, true]);
 }
 
@@ -508,8 +516,7 @@ fn lines_end_by_two() -> bool {
 
 #[test]
 fn line_terminators(rt: HostRuntime) {
-    assert!(rt; terminators_are_told());
-    assert!(rt; lines_end_by_two());
+    assert!(rt; terminators_are_told() && lines_end_by_two());
 }
 
 /// Whether the byte and the next one are told apart by the look, with lines that end at `;` or a zero byte.
@@ -543,9 +550,9 @@ fn tell_apart_as(byte: u8, kinds: Kinds) -> bool {
     true
 }
 
-#[test]
-fn looks_tell_bytes_apart(rt: HostRuntime) {
-    let rows = [
+/// Bytes, and which kinds of looks tell each apart from the next one.
+const fn kinds() -> [(u8, Kinds); 16] {
+    [
         (0, (false, true, false, false)),
         (b'9', (false, false, false, true)),
         (b':', (false, true, false, false)),
@@ -562,10 +569,22 @@ fn looks_tell_bytes_apart(rt: HostRuntime) {
         (b'`', (false, false, false, true)),
         (b'z', (false, false, false, true)),
         (b'm', (false, false, false, false)),
-    ];
-    for (byte, kinds) in rows {
-        assert!(rt; tell_apart_as(byte, kinds), "byte {byte}");
+    ]
+}
+
+/// Whether each byte and the next one are told apart so.
+fn bytes_are_told_apart() -> bool {
+    for (byte, kinds) in kinds() {
+        if !tell_apart_as(byte, kinds) {
+            return false;
+        }
     }
+    true
+}
+
+#[test]
+fn looks_tell_bytes_apart(rt: HostRuntime) {
+    assert!(rt; bytes_are_told_apart());
 }
 
 /// Whether each look of the set holds at the place, which is in the haystack.

@@ -1,16 +1,28 @@
-use crate::captures::set;
-use crate::groups::names;
-use search_core::PatternID;
-use search_types::{Captures, GroupInfo, GroupInfoError};
+use crate::captures::{Kept, matched};
+use search_types::Captures;
 use std::alloc::Global;
 
-/// Captures of one pattern with two groups beside the first, of which these slots are set.
-fn of_two_groups(alloc: Global, slots: &[(usize, usize)]) -> Result<Captures, GroupInfoError> {
-    let groups = vec![in alloc; names(alloc, &[None, Some("a"), None])?]?;
-    let mut captures = Captures::all(alloc, GroupInfo::new(alloc, &groups)?)?;
-    captures.set_pattern(Some(PatternID::ZERO));
-    set(&mut captures, slots);
-    Ok(captures)
+/// One pattern with two groups beside the first.
+const TWO_GROUPS: &str = "-a-";
+
+/// Slots that are set, a haystack, and the first bytes of two groups' parts in it.
+type Row = (&'static [(usize, usize)], &'static [u8], Option<(u8, u8)>);
+
+/// The parts of three bytes, none of two bytes, and none where one group has none.
+const fn rows() -> [Row; 3] {
+    [
+        (
+            &[(0, 0), (1, 3), (2, 1), (3, 2), (4, 2), (5, 3)],
+            &[0x61, 0xFF, 0xC3],
+            Some((0xFF, 0xC3)),
+        ),
+        (
+            &[(0, 0), (1, 3), (2, 1), (3, 2), (4, 2), (5, 3)],
+            &[0x61, 0xFF],
+            None,
+        ),
+        (&[(0, 0), (1, 3), (4, 2), (5, 3)], &[0x61, 0xFF, 0xC3], None),
+    ]
 }
 
 /// The first bytes of two groups' parts.
@@ -19,34 +31,46 @@ fn first_bytes(captures: &Captures, haystack: &[u8]) -> Option<(u8, u8)> {
     Some((*parts[0].first()?, *parts[1].first()?))
 }
 
-/// Whether the parts of three bytes are told, and none of two bytes.
-fn all_are_told(alloc: Global) -> Result<bool, GroupInfoError> {
-    let all = of_two_groups(alloc, &[(0, 0), (1, 3), (2, 1), (3, 2), (4, 2), (5, 3)])?;
-    Ok(
-        first_bytes(&all, &[0x61, 0xFF, 0xC3]) == Some((0xFF, 0xC3))
-            && first_bytes(&all, &[0x61, 0xFF]).is_none(),
-    )
+/// Whether just these parts are told.
+fn are_told(alloc: Global, row: Row) -> bool {
+    let (slots, haystack, want) = row;
+    match matched(alloc, Kept::All, TWO_GROUPS, slots) {
+        Ok(captures) => first_bytes(&captures, haystack) == want,
+        Err(_) => false,
+    }
 }
 
-/// Whether none is told where one group has none.
-fn one_is_absent(alloc: Global) -> Result<bool, GroupInfoError> {
-    let one = of_two_groups(alloc, &[(0, 0), (1, 3), (4, 2), (5, 3)])?;
-    Ok(first_bytes(&one, &[0x61, 0xFF, 0xC3]).is_none())
+/// Whether each row is told.
+fn rows_are_told(alloc: Global) -> bool {
+    for row in rows() {
+        if !are_told(alloc, row) {
+            return false;
+        }
+    }
+    true
 }
 
 #[test]
 fn parts_of_bytes(rt: HostRuntime) {
-    assert!(rt; matches!(all_are_told(rt.alloc()), Ok(true)));
-    assert!(rt; matches!(one_is_absent(rt.alloc()), Ok(true)));
+    assert!(rt; rows_are_told(rt.alloc()));
 }
 
 /// Whether there are no parts of two groups that have spans where the overall one is absent.
-fn groups_alone_have_none(alloc: Global) -> Result<bool, GroupInfoError> {
-    let groups = of_two_groups(alloc, &[(2, 1), (3, 2), (4, 2), (5, 3)])?;
-    Ok(groups.extract::<&str, 0>("abc").is_none() && groups.extract::<&str, 1>("abc").is_none())
+fn groups_alone_have_none(alloc: Global) -> bool {
+    match matched(
+        alloc,
+        Kept::All,
+        TWO_GROUPS,
+        &[(2, 1), (3, 2), (4, 2), (5, 3)],
+    ) {
+        Ok(groups) => {
+            groups.extract::<&str, 0>("abc").is_none() && groups.extract::<&str, 1>("abc").is_none()
+        }
+        Err(_) => false,
+    }
 }
 
 #[test]
 fn no_parts_without_the_overall_span(rt: HostRuntime) {
-    assert!(rt; matches!(groups_alone_have_none(rt.alloc()), Ok(true)));
+    assert!(rt; groups_alone_have_none(rt.alloc()));
 }
