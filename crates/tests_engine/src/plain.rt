@@ -1,7 +1,7 @@
 //! What walks should tell, found out plainly: by the sets of states in which runs may be, place by place. The first state is
 //! the one that matches, the last one the start, and there are no looks.
-use crate::calls::Found;
-use crate::shapes::{Form, Node};
+use tests_machines::calls::Found;
+use tests_machines::shapes::{Form, Node};
 
 /// Whether a state is in a set.
 fn has(states: &[bool; 8], state: usize) -> bool {

@@ -1,20 +1,11 @@
 //! Steps from state to state, and what the states list.
-use crate::calls::{Call, Kind, Over, Text, answers, are_answered};
-use crate::machine::Machine;
-use lazy_dfa::dfa::{Config, DFA};
+use lazy_dfa::dfa::Config;
 use search_types::{Anchored, MatchKind};
-use std::alloc::Global;
 use std::test::Fail;
-
-/// The span of "ab".
-fn both() -> Over {
-    Over {
-        haystack: Text::Ab,
-        start: 0,
-        end: 2,
-        mode: Anchored::No,
-    }
-}
+use tests_machines::answers::{answers, answers_ready};
+use tests_machines::automata::Ready;
+use tests_machines::calls::{Call, Kind, Text};
+use tests_machines::spans::on;
 
 /// The walk over "ab", with 64 bytes for the start, 65 behind `a` and 61 behind `b`. The end adds none, and neither does
 /// what is known; `z` leads back to the start, and with it each byte of its class.
@@ -24,9 +15,9 @@ fn walks() -> [Call; 28] {
         Call::Start(None, Anchored::No, 0),
         Call::Is(0, Kind::Plain),
         Call::Usage(380, 0),
-        Call::Over(false, both(), 5),
+        Call::Over(false, on(Text::Ab, 0, 2), 5),
         Call::Same(5, 0, true),
-        Call::Over(true, both(), 5),
+        Call::Over(true, on(Text::Ab, 0, 2), 5),
         Call::Same(5, 0, true),
         Call::Unknown(0, b'a'),
         Call::Step(0, Some(b'a'), 1),
@@ -108,14 +99,6 @@ fn ends(kind: Kind) -> [Call; 3] {
     ]
 }
 
-/// Whether the calls are answered over a fresh cache of an automaton.
-pub(crate) fn answers_of(alloc: Global, dfa: DFA, calls: &[Call]) -> bool {
-    match Machine::of(alloc, dfa) {
-        Ok(mut machine) => are_answered(&mut machine, calls),
-        Err(_) => false,
-    }
-}
-
 #[test]
 fn steps(rt: HostRuntime) -> Result<(), Fail> {
     let alloc = rt.alloc();
@@ -125,7 +108,7 @@ fn steps(rt: HostRuntime) -> Result<(), Fail> {
     assert!(rt; answers(alloc, b"a", None, quit, &quits()));
     assert!(rt; answers(alloc, b"aba", None, all, &lists()));
     assert!(rt; answers(alloc, b"aba", None, Config::new(), &lists_first()));
-    assert!(rt; answers_of(alloc, DFA::always_match(alloc)?, &ends(Kind::Match)));
-    assert!(rt; answers_of(alloc, DFA::never_match(alloc)?, &ends(Kind::Dead)));
+    assert!(rt; answers_ready(alloc, Ready::Always, &ends(Kind::Match)));
+    assert!(rt; answers_ready(alloc, Ready::Never, &ends(Kind::Dead)));
     Ok(())
 }

@@ -1,15 +1,13 @@
 //! Walks that tell all ends one by one: by kinds, modes, quit bytes and characters, over clears and between other calls.
-use crate::automata::{letters_down, machine_of};
-use crate::calls::{Call, Ends, Found, Text, answers, are_answered};
-use crate::machine::Machine;
-use crate::searches::on;
-use crate::shapes::{Form, Node, answers_by, down, up};
-use crate::starts::{only, over, quit};
-use crate::steps::answers_of;
-use lazy_dfa::dfa::{Config, DFA, OverlappingState};
-use search_types::{Anchored, Input, MatchErrorKind, MatchKind};
+use lazy_dfa::dfa::{Config, OverlappingState};
+use search_types::{Anchored, Input, MatchKind};
 use std::alloc::Global;
 use std::test::Fail;
+use tests_machines::answers::{answers, answers_down, answers_ready};
+use tests_machines::automata::{Ready, machine_of};
+use tests_machines::calls::{Call, Ends, Found, Text};
+use tests_machines::shapes::{Node, answers_by, by_characters, down, up};
+use tests_machines::spans::{gives_up, no_mode, on, only, over, quit};
 
 /// All matches are asked for.
 pub(crate) fn all() -> Config {
@@ -29,16 +27,6 @@ fn one(place: usize) -> Ends {
 /// Two ends.
 fn two(first: usize, second: usize) -> Ends {
     Ends::Two(end(first), end(second))
-}
-
-/// A walk for the pattern 1 where there are no starts for each.
-pub(crate) fn no_mode() -> MatchErrorKind {
-    MatchErrorKind::UnsupportedAnchored { mode: only(1) }
-}
-
-/// A walk that gives up at this place.
-pub(crate) fn gives_up(offset: usize) -> MatchErrorKind {
-    MatchErrorKind::GaveUp { offset }
 }
 
 /// Letters from a to z, once or more.
@@ -167,26 +155,7 @@ fn two_alike() -> [Call; 3] {
     ]
 }
 
-fn answers_down(alloc: Global, letters: &[u8], config: Config, calls: &[Call]) -> bool {
-    let Ok(nfa) = letters_down(alloc, letters) else {
-        return false;
-    };
-    match Machine::new(alloc, nfa, config) {
-        Ok(mut machine) => are_answered(&mut machine, calls),
-        Err(_) => false,
-    }
-}
-
-/// The empty pattern by characters, on "β".
-fn by_characters(reverse: bool) -> Form {
-    Form {
-        reverse,
-        utf8: true,
-        line_end: b'\n',
-    }
-}
-
-/// No place inside a character is told, from wherever a walk begins.
+/// Of the empty pattern by characters, on "β": no place inside a character is told, from wherever a walk begins.
 fn empty_up() -> [Call; 4] {
     [
         Call::Walk(on(Text::Beta, 0, 2), two(0, 2)),
@@ -352,7 +321,7 @@ fn states(rt: HostRuntime) -> Result<(), Fail> {
     let never = [Call::Walk(on(Text::Ab, 0, 2), Ends::Nothing)];
     assert!(rt; is_fresh());
     assert!(rt; goes_on(alloc));
-    assert!(rt; answers_of(alloc, DFA::always_match(alloc)?, &always));
-    assert!(rt; answers_of(alloc, DFA::never_match(alloc)?, &never));
+    assert!(rt; answers_ready(alloc, Ready::Always, &always));
+    assert!(rt; answers_ready(alloc, Ready::Never, &never));
     Ok(())
 }

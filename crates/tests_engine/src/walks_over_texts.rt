@@ -1,14 +1,13 @@
 //! Walks over all short texts, compared with what sets of states tell plainly.
-use crate::automata::{letters, letters_down};
-use crate::calls::Found;
-use crate::machine::Machine;
 use crate::plain::{ends, letter_ends, long_text, text};
-use crate::shapes::{Form, Node, machine_by};
-use lazy_dfa::BuildError;
 use lazy_dfa::dfa::Config;
 use search_types::{Anchored, Input, MatchKind, Span};
 use std::alloc::Global;
 use std::test::Fail;
+use tests_machines::automata::{machine_down, machine_of};
+use tests_machines::calls::Found;
+use tests_machines::machine::Machine;
+use tests_machines::shapes::{Form, Node, machine_by};
 
 /// Whether a walk over a span tells this.
 fn tells(
@@ -85,7 +84,12 @@ fn agree(
     true
 }
 
-/// Whether those of an automaton that reads so do. By characters one letter is a byte within them.
+/// The letters of the texts: by characters one is a byte within them.
+fn letters_of(utf8: bool) -> &'static [u8; 2] {
+    if utf8 { b"a\xB2" } else { b"ab" }
+}
+
+/// Whether those of an automaton that reads so do.
 fn agree_by(
     alloc: Global,
     nodes: &[Node],
@@ -100,13 +104,7 @@ fn agree_by(
         line_end: b'\n',
     };
     match machine_by(alloc, nodes, form, config) {
-        Ok(mut machine) => {
-            if utf8 {
-                agree(&mut machine, nodes, form, b"a\xB2", is_anchored)
-            } else {
-                agree(&mut machine, nodes, form, b"ab", is_anchored)
-            }
-        }
+        Ok(mut machine) => agree(&mut machine, nodes, form, letters_of(utf8), is_anchored),
         Err(_) => false,
     }
 }
@@ -212,14 +210,11 @@ fn of_many_states(rt: HostRuntime) -> Result<(), Fail> {
 }
 
 /// Whether walks for patterns of a letter tell each of them at each place, in their order.
-fn agree_for(machine: Result<Machine, BuildError>, each: &[u8], reverse: bool) -> bool {
-    let Ok(mut machine) = machine else {
-        return false;
-    };
+fn agree_for(machine: &mut Machine, each: &[u8], reverse: bool) -> bool {
     for number in 0..243usize {
         let text = long_text(number);
         let wanted = letter_ends(each, &text, reverse);
-        if !tells(&mut machine, &text, 0, 5, false, &wanted) {
+        if !tells(machine, &text, 0, 5, false, &wanted) {
             return false;
         }
     }
@@ -227,15 +222,15 @@ fn agree_for(machine: Result<Machine, BuildError>, each: &[u8], reverse: bool) -
 }
 
 fn agree_up(alloc: Global, each: &[u8], config: Config) -> bool {
-    match letters(alloc, each, None, None) {
-        Ok(nfa) => agree_for(Machine::new(alloc, nfa, config), each, false),
+    match machine_of(alloc, each, None, config) {
+        Ok(mut machine) => agree_for(&mut machine, each, false),
         Err(_) => false,
     }
 }
 
 fn agree_down(alloc: Global, each: &[u8], config: Config) -> bool {
-    match letters_down(alloc, each) {
-        Ok(nfa) => agree_for(Machine::new(alloc, nfa, config), each, true),
+    match machine_down(alloc, each, config) {
+        Ok(mut machine) => agree_for(&mut machine, each, true),
         Err(_) => false,
     }
 }

@@ -1,11 +1,11 @@
 //! Which patterns match: the patterns of the ends that a walk tells, in sets with more or less room.
-use crate::calls::{Call, Room, Text, answers};
-use crate::searches::on;
-use crate::starts::{only, over, quit};
-use crate::walks::{all, gives_up, least, no_mode};
+use crate::walks::{all, least};
 use lazy_dfa::dfa::Config;
 use search_types::Anchored;
 use std::test::Fail;
+use tests_machines::answers::answers;
+use tests_machines::calls::{Call, Room, Text};
+use tests_machines::spans::{gives_up, no_mode, on, only, over, quit};
 
 /// A set that has nothing at first.
 fn room(capacity: u8, zero: bool, one: bool, two: bool) -> Room {

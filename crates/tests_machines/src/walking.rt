@@ -1,0 +1,266 @@
+//! Walks over a machine, call by call, and sets of the patterns that match.
+ghost use Rattle.std.specs.Prelude.{◌≡◌, ◌<◌, true, false};
+ghost use Rattle.lazy_dfa.specs.Caches.{IsCacheOf};
+ghost use Rattle.search_types.specs.Inputs.{Search};
+ghost use Rattle.lazy_dfa.specs.Walks.{IsWalk};
+ghost use Rattle.lazy_dfa.specs.declared.overlapping_state.Walk.{Walk};
+
+use crate::answers::is_at;
+use crate::calls::{Found, Room};
+use crate::machine::Machine;
+use lazy_dfa::Work;
+use lazy_dfa::dfa::{Cache, DFA, OverlappingState};
+use search_core::PatternID;
+use search_types::{Input, MatchError, MatchErrorKind, PatternSet};
+use std::alloc::Global;
+use std::marker::Brand;
+use std::sync::ledger::{Blank, Ledger};
+
+/// Walks.
+impl Machine {
+    /// Whether the calls of a walk over the input tell this, one by one.
+    pub fn walks(&mut self, input: &Input<'_>, wanted: &[Found]) -> bool {
+        let one = Blank::new(1);
+        let two = Blank::new(1);
+        walk_counted::<Brand, Brand>(&self.dfa, &mut self.cache, input, wanted, one, two)
+    }
+
+    /// The same where a half search over another input follows each call, upwards, and none of them clears the cache.
+    pub fn walks_between(
+        &mut self,
+        input: &Input<'_>,
+        other: &Input<'_>,
+        wanted: &[Found],
+    ) -> bool {
+        let one = Blank::new(1);
+        let two = Blank::new(1);
+        between_counted::<Brand, Brand>(&self.dfa, &mut self.cache, input, other, wanted, one, two)
+    }
+
+    /// Whether a set with this room gets these patterns. The automaton reads upwards.
+    pub fn adds(&mut self, input: &Input<'_>, room: Room, wanted: Found) -> bool {
+        let Some(mut patterns) = set_of(self.alloc, room) else {
+            return false;
+        };
+        let one = Blank::new(1);
+        let two = Blank::new(1);
+        let result = which_counted::<Brand, Brand>(
+            &self.dfa,
+            &mut self.cache,
+            input,
+            &mut patterns,
+            one,
+            two,
+        );
+        is_answer(result, wanted) && has_members(&patterns, room)
+    }
+}
+
+/// A call of a walk, upwards or downwards as the automaton reads.
+fn call<L: Ledger, M: Ledger>(
+    dfa: &DFA,
+    cache: &mut Cache,
+    input: &Input<'_>,
+    state: &mut OverlappingState,
+    work: &mut Work<L, M>,
+) -> Result<(), MatchError>
+    requires own { IsCacheOf dfa.now cache.old }
+    requires walk { IsWalk dfa.now cache.old input.now state.old.walk }
+    ensures own { IsCacheOf dfa.now cache.new }
+    ensures walk { IsWalk dfa.now cache.new input.now state.new.walk }
+{
+    if dfa.get_nfa().is_reverse() {
+        dfa.try_search_overlapping_rev(cache, input, state, work)
+    } else {
+        dfa.try_search_overlapping_fwd(cache, input, state, work)
+    }
+}
+
+/// Whether a walk whose call was answered stands at this end, or at none.
+fn tells(state: &OverlappingState, wanted: Found) -> bool {
+    if state.is_failed() {
+        return false;
+    }
+    match state.get_match() {
+        Some(half) => is_at(half, wanted),
+        None => matches!(wanted, Found::Nothing),
+    }
+}
+
+/// Whether a walk whose call was refused has failed, and no end is told.
+fn fails(state: &OverlappingState, kind: MatchErrorKind, wanted: Found) -> bool {
+    if !state.is_failed() || state.get_match().is_some() {
+        return false;
+    }
+    match wanted {
+        Found::Refused(wanted) => kind == wanted,
+        _ => false,
+    }
+}
+
+/// Whether the next call of a walk tells this.
+fn is_next<L: Ledger, M: Ledger>(
+    dfa: &DFA,
+    cache: &mut Cache,
+    input: &Input<'_>,
+    state: &mut OverlappingState,
+    wanted: Found,
+    work: &mut Work<L, M>,
+) -> bool
+    requires own { IsCacheOf dfa.now cache.old }
+    requires walk { IsWalk dfa.now cache.old input.now state.old.walk }
+    ensures own { IsCacheOf dfa.now cache.new }
+    ensures walk { IsWalk dfa.now cache.new input.now state.new.walk }
+{
+    match call(dfa, cache, input, state, work) {
+        Ok(()) => tells(state, wanted),
+        Err(e) => fails(state, *e.kind(), wanted),
+    }
+}
+
+/// A walk, counted.
+fn walk_counted<L: Ledger, M: Ledger>(
+    dfa: &DFA,
+    cache: &mut Cache,
+    input: &Input<'_>,
+    wanted: &[Found],
+    first: Blank,
+    second: Blank,
+) -> bool
+    requires own { IsCacheOf dfa.now cache.old }
+    requires name1 { first.name ≡ L.name }
+    requires parts1 { first.parts ≡ L.parts }
+    requires some1 { 0 < first.parts }
+    requires name2 { second.name ≡ M.name }
+    requires parts2 { second.parts ≡ M.parts }
+    requires some2 { 0 < second.parts }
+    ensures own { IsCacheOf dfa.now cache.new }
+{
+    let mut work = Work::<L, M>::new(first, second);
+    let mut state = OverlappingState::start();
+    for found in wanted {
+        if !is_next(dfa, cache, input, &mut state, *found, &mut work) {
+            return false;
+        }
+    }
+    true
+}
+
+/// A half search upwards, after which a walk still goes on: whether it cleared nothing.
+fn is_kept<L: Ledger, M: Ledger>(
+    dfa: &DFA,
+    cache: &mut Cache,
+    other: &Input<'_>,
+    work: &mut Work<L, M>,
+) -> bool
+    requires own { IsCacheOf dfa.now cache.old }
+    requires up { dfa.now.nfa.automaton.reverse ≡ false }
+    ensures own { IsCacheOf dfa.now cache.new }
+    ensures kept { result ≡ true → (q : Search) (w : Walk) → IsWalk dfa.now cache.old q w → IsWalk dfa.now cache.new q w }
+{
+    let before = cache.clear_count();
+    if before == usize::MAX {
+        return false;
+    }
+    if dfa.try_search_fwd(cache, other, work).is_err() {
+        return false;
+    }
+    let behind = cache.clear_count();
+    if behind != before {
+        return false;
+    }
+    true
+}
+
+/// A walk with other searches between its calls, counted.
+fn between_counted<L: Ledger, M: Ledger>(
+    dfa: &DFA,
+    cache: &mut Cache,
+    input: &Input<'_>,
+    other: &Input<'_>,
+    wanted: &[Found],
+    first: Blank,
+    second: Blank,
+) -> bool
+    requires own { IsCacheOf dfa.now cache.old }
+    requires name1 { first.name ≡ L.name }
+    requires parts1 { first.parts ≡ L.parts }
+    requires some1 { 0 < first.parts }
+    requires name2 { second.name ≡ M.name }
+    requires parts2 { second.parts ≡ M.parts }
+    requires some2 { 0 < second.parts }
+    ensures own { IsCacheOf dfa.now cache.new }
+{
+    if dfa.get_nfa().is_reverse() {
+        return false;
+    }
+    let mut work = Work::<L, M>::new(first, second);
+    let mut state = OverlappingState::start();
+    for found in wanted {
+        if !is_next(dfa, cache, input, &mut state, *found, &mut work) {
+            return false;
+        }
+        if !is_kept(dfa, cache, other, &mut work) {
+            return false;
+        }
+    }
+    true
+}
+
+/// The set of this room.
+fn set_of(alloc: Global, room: Room) -> Option<PatternSet> {
+    let Ok(mut patterns) = PatternSet::new(alloc, usize::from(room.capacity)) else {
+        return None;
+    };
+    if room.first && patterns.try_insert(PatternID::ZERO).is_err() {
+        return None;
+    }
+    Some(patterns)
+}
+
+/// Whether the set has the patterns that it should have.
+fn has_members(patterns: &PatternSet, room: Room) -> bool {
+    if patterns.contains(PatternID::from(0u8)) != room.zero {
+        return false;
+    }
+    if patterns.contains(PatternID::from(1u8)) != room.one {
+        return false;
+    }
+    patterns.contains(PatternID::from(2u8)) == room.two
+}
+
+/// Whether the answer is this refusal, or none.
+fn is_answer(answer: Result<(), MatchError>, wanted: Found) -> bool {
+    match answer {
+        Ok(()) => matches!(wanted, Found::Nothing),
+        Err(e) => match wanted {
+            Found::Refused(kind) => *e.kind() == kind,
+            _ => false,
+        },
+    }
+}
+
+/// Which patterns match, counted; refused where the automaton reads downwards.
+fn which_counted<L: Ledger, M: Ledger>(
+    dfa: &DFA,
+    cache: &mut Cache,
+    input: &Input<'_>,
+    patterns: &mut PatternSet,
+    first: Blank,
+    second: Blank,
+) -> Result<(), MatchError>
+    requires own { IsCacheOf dfa.now cache.old }
+    requires name1 { first.name ≡ L.name }
+    requires parts1 { first.parts ≡ L.parts }
+    requires some1 { 0 < first.parts }
+    requires name2 { second.name ≡ M.name }
+    requires parts2 { second.parts ≡ M.parts }
+    requires some2 { 0 < second.parts }
+    ensures own { IsCacheOf dfa.now cache.new }
+{
+    if dfa.get_nfa().is_reverse() {
+        return Err(MatchError::new(MatchErrorKind::NotAPair));
+    }
+    let mut work = Work::<L, M>::new(first, second);
+    dfa.try_which_overlapping_matches(cache, input, patterns, &mut work)
+}
