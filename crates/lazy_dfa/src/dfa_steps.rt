@@ -107,12 +107,16 @@ impl DFA {
     }
 
     /// The pattern at a place among those that the state of an ID lists, as `DFA::match_pattern`, in order of preference.
+    /// An automaton of one pattern need not look.
     pub fn match_pattern(&self, cache: &Cache, id: LazyStateID, index: usize) -> PatternID
         requires own { IsCacheOf self.now cache.now }
         requires row { IsRow cache.now id }
         requires inside { (s : StateValue) → HeldAt cache.now id s → index < length s.matches }
         ensures { (s : StateValue) → HeldAt cache.now id s → result ≡ slice_index s.matches index }
     {
+        if self.pattern_len() == 1 {
+            return PatternID::ZERO;
+        }
         let k = cache.row(id);
         cache.state(k).match_pattern(index)
     }
