@@ -18,8 +18,8 @@ use crate::lazy_id::LazyStateID;
 use crate::leaving::Leaving;
 use search_core::ByteSet;
 
-/// What a skip costs.
-const SKIP_COST: usize = 4;
+/// What a skip costs: as much as the reading of so many bytes, about.
+const SKIP_COST: usize = 8;
 
 /// What it costs to look which bytes leave a state that turns out to be of no use.
 const LOOK_COST: usize = 128;
