@@ -28,7 +28,7 @@ use Rattle.determinize_core.specs.Stepped.{IsStepped}
 use Rattle.determinize_core.specs.Steps.{first_half, second_half, known_before, known_behind, known_steps, closed, unit_steps, patterns_in, reading, gains, ids_before, families, states_behind, is_some_kept, with_states, step_value, start_value}
 use Rattle.determinize_core.specs.declared.lookbehind.Families.{Families}
 use Rattle.determinize_core.specs.declared.lookbehind.LookBehind.{LookBehind}
-use Rattle.determinize_core.proofs.ClosesLemmas.{ways_agree}
+use Rattle.determinize_core.proofs.EntriesLemmas.{ways_agree}
 use Rattle.determinize_core.proofs.DecidedLemmas.{has_family}
 use Rattle.determinize_core.proofs.LookBehindLemmas.{start_cases}
 use Rattle.determinize_core.proofs.PassedLemmas.{any_wanted, known_list, known_wanted, lines_is, crlf_is, words_is}

@@ -44,8 +44,8 @@ module _ (a : Automaton) (looks start : ℕ) (seen : List ℕ) (before : ℕ) wh
   pub begins : (stack : List ℕ) → start < length a.states → stack ≡ start ∷ [] → StandsAt a looks start seen before stack seen before
   begins stack inside e = record {
     below = λ q h. of_cons nat_eq names_equal (λ r. r < length a.states) start [] inside (λ r g. none_in nat_eq r _ g) q (rw e at h);
-    walk = λ after v. subst (λ (todo : List ℕ). Visits nat_eq (known_steps a looks) todo seen after) e v;
-    grown = ([], sym (append-nil seen), ap (λ (todo : List ℕ). before + length todo) e ∙ omega arith);
+    walk = λ after v. subst (λ (stack : List ℕ). Visits nat_eq (known_steps a looks) stack seen after) e v;
+    grown = ([], sym (append-nil seen), ap (λ (stack : List ℕ). before + length stack) e ∙ omega arith);
   }
 
   module _ (stack met later new : List ℕ) (now then : ℕ) (stands : StandsAt a looks start seen before stack met now) where
@@ -57,7 +57,7 @@ module _ (a : Automaton) (looks start : ℕ) (seen : List ℕ) (before : ℕ) wh
         let sum : known_ways a looks (stands.grown.0 ++ q ∷ []) ≡ known_ways a looks stands.grown.0 + length (known_steps a looks q) = sum_by_push (λ p. length (known_steps a looks p)) stands.grown.0 q in
         record {
           below = λ r h. of_append nat_eq names_equal (λ p. p < length a.states) (known_steps a looks q) later (λ p way. known_below a looks formed q low p way) below r (rw steps at h);
-          walk = λ after v. stands.walk after (m.1 (known_steps a looks) after (subst (λ (todo : List ℕ). Visits nat_eq (known_steps a looks) todo new after) steps v));
+          walk = λ after v. stands.walk after (m.1 (known_steps a looks) after (subst (λ (stack : List ℕ). Visits nat_eq (known_steps a looks) stack new after) steps v));
           grown = (
             stands.grown.0 ++ q ∷ [],
             m.0 ∙ (ap (λ (l : List ℕ). l ++ q ∷ []) stands.grown.1 ∙ append_assoc seen stands.grown.0 (q ∷ [])),

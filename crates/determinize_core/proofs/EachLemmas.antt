@@ -10,7 +10,7 @@ use Rattle.determinize_core.specs.Added.{listed_with, stops}
 use Rattle.determinize_core.specs.Costs.{known_ways, free_ways}
 use Rattle.determinize_core.specs.Steps.{closed, known_steps, pattern_at, patterns_in, reading, unit_steps}
 use Rattle.determinize_core.proofs.AddedLemmas.{next_left, past_all}
-use Rattle.determinize_core.proofs.CloseLemmas.{Closes, closes_none, closes_more, closes_all, closes_cost, here_cost, cut_cost}
+use Rattle.determinize_core.proofs.CloseAllLemmas.{HasClosed, closes_none, closes_more, closes_all, closes_cost, here_cost, cut_cost}
 use Rattle.determinize_core.proofs.MatchLemmas.{listed_from, listed_in_all, listed_of_none, reading_none, goes_on_listed, goes_on_reading, ends_listed, ends_reading}
 use Rattle.determinize_core.proofs.TargetLemmas.{units_below}
 
@@ -20,7 +20,7 @@ entries kind a u qs = flat_map (unit_steps a u) (reading kind a qs)
 
 -- the walk stands in front of state k of the list: from v it has come to w and to what it met
 pub record StepsAt (kind : MatchKind) (a : Automaton) (u : Option ℕ) (looks : ℕ) (qs : List ℕ) (v : StateValue) (before k : ℕ) (w : StateValue) (met : List ℕ) (now : ℕ) : Type 0 where
-  pub closes : Closes a looks (entries kind a u qs) (entries kind a u (drop k qs)) met before k now
+  pub closes : HasClosed a looks (entries kind a u qs) (entries kind a u (drop k qs)) met before k now
   pub listed : listed_from kind a w.matches (drop k qs) ≡ listed_from kind a v.matches qs
   pub others : w ≡ record v { matches = w.matches }
 

@@ -46,23 +46,23 @@ before_same h g m n p r = λ i. byte_before (p i) (r i)
 turned : (b : ℕ) (bytes more : List ℕ) → reverse (b ∷ bytes) ++ more ≡ reverse bytes ++ b ∷ more
 turned b bytes more = ap (λ (l : List ℕ). l ++ more) (reverse-append (b ∷ []) bytes) ∙ append_assoc (reverse bytes) (b ∷ []) more
 
--- downwards from its end, a list that is turned round reads as the list
-reads_down : (bytes more : List ℕ) (k : ℕ) → byte_before (reverse bytes ++ more) (length bytes - k) ≡ slice_get bytes k
-reads_down [] more k = let none : 0 - k ≡ 0 = omega arith in ap (byte_before more) none
-reads_down (b ∷ bytes) more zero =
+-- in reverse from its end, a list that is turned round reads as the list
+reads_reverse : (bytes more : List ℕ) (k : ℕ) → byte_before (reverse bytes ++ more) (length bytes - k) ≡ slice_get bytes k
+reads_reverse [] more k = let none : 0 - k ≡ 0 = omega arith in ap (byte_before more) none
+reads_reverse (b ∷ bytes) more zero =
     let all : suc (length bytes) - 0 ≡ suc (length bytes) = omega arith in
     before_same _ (reverse bytes ++ b ∷ more) _ (suc (length bytes)) (turned b bytes more) all ∙ next_to_turned bytes b more
-reads_down (b ∷ bytes) more (suc k) =
+reads_reverse (b ∷ bytes) more (suc k) =
     let less : suc (length bytes) - suc k ≡ length bytes - k = omega arith in
-    before_same _ (reverse bytes ++ b ∷ more) _ (length bytes - k) (turned b bytes more) less ∙ reads_down bytes (b ∷ more) k
+    before_same _ (reverse bytes ++ b ∷ more) _ (length bytes - k) (turned b bytes more) less ∙ reads_reverse bytes (b ∷ more) k
 
-reads_up : (behind : Option ℕ) (bytes : List ℕ) (k : ℕ) → byte_at (option_to_list behind ++ bytes) (length (option_to_list behind) + k) ≡ slice_get bytes k
-reads_up None bytes k = let is : 0 + k ≡ k = omega arith in ap (byte_at bytes) is
-reads_up (Some b) bytes k = let is : 1 + k ≡ suc k = omega arith in ap (byte_at (b ∷ bytes)) is
+reads_forward : (behind : Option ℕ) (bytes : List ℕ) (k : ℕ) → byte_at (option_to_list behind ++ bytes) (length (option_to_list behind) + k) ≡ slice_get bytes k
+reads_forward None bytes k = let is : 0 + k ≡ k = omega arith in ap (byte_at bytes) is
+reads_forward (Some b) bytes k = let is : 1 + k ≡ suc k = omega arith in ap (byte_at (b ∷ bytes)) is
 
 reads_bytes : (r : Bool) (behind : Option ℕ) (bytes : List ℕ) (k : ℕ) → unit_at r (haystack_of r behind bytes) (place_of r (first_place r behind bytes) k) ≡ slice_get bytes k
-reads_bytes false behind bytes k = reads_up behind bytes k
-reads_bytes true behind bytes k = reads_down bytes (option_to_list behind) k
+reads_bytes false behind bytes k = reads_forward behind bytes k
+reads_bytes true behind bytes k = reads_reverse bytes (option_to_list behind) k
 
 stands_behind : (r : Bool) (behind : Option ℕ) (bytes : List ℕ) → unit_behind r (haystack_of r behind bytes) (first_place r behind bytes) ≡ behind
 stands_behind false None bytes = refl

@@ -4,7 +4,7 @@ use Rattle.std.specs.Bool.{nat_eq}
 use Rattle.std.specs.List.{list_all, IsDistinct}
 use Rattle.nfa_core.specs.Walks.{has, HasNoneTwice}
 use Rattle.determinize_core.specs.WalkLists.{is_once}
-use Rattle.determinize_core.proofs.CloseLemmas.{distinct_from_once, once_from_distinct}
+use Rattle.determinize_core.proofs.CloseAllLemmas.{distinct_from_once, once_from_distinct}
 
 both_true : (b c : Bool) → (b && c) ≡ true → (b ≡ true) × (c ≡ true)
 both_true true c e = (refl, e)

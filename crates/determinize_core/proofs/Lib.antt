@@ -17,10 +17,10 @@ pub mod DecidedLemmas
 pub mod KnownStateLemmas
 mod StartRows
 mod StepRows
-pub mod TodoLemmas
+pub mod StackLemmas
 pub mod ClosureLemmas
 pub mod TargetLemmas
-pub mod CloseLemmas
+pub mod CloseAllLemmas
 pub mod MatchLemmas
 pub mod EachLemmas
 pub mod NextLemmas
@@ -28,7 +28,7 @@ pub mod MadeLemmas
 pub mod DependLemmas
 pub mod CaptureLemmas
 pub mod PassedLemmas
-pub mod ClosesLemmas
+pub mod EntriesLemmas
 pub mod ReadingLemmas
 pub mod WalkedLemmas
 pub mod ListedLemmas

@@ -22,9 +22,9 @@ once_more seen x absent once = let O : List ℕ → Type 0 = λ l. HasNoneTwice 
 
 module _ (steps : ℕ → List ℕ) (n : ℕ) (below : StaysBelow n steps) where
   -- a walk that was made, to names below the bound and at least as many as before
-  record Made (todo seen : List ℕ) : Type 0 where
+  record Made (stack seen : List ℕ) : Type 0 where
     after : List ℕ
-    visits : Visits nat_eq steps todo seen after
+    visits : Visits nat_eq steps stack seen after
     once : HasNoneTwice nat_eq after
     low : AreBelow n after
     longer : length seen ≤ length after
@@ -34,34 +34,34 @@ module _ (steps : ℕ → List ℕ) (n : ℕ) (below : StaysBelow n steps) where
       let l : length (seen ++ x ∷ []) ≤ n = (finite_names n steps below).room (seen ++ x ∷ []) (of_push nat_eq names_equal (λ q. q < n) seen x low x_low) (once_more seen x absent once) in
       let e = length-pushed seen x in omega (arith, l, e)
 
-  held_there : (x : ℕ) (todo seen : List ℕ) → has nat_eq x seen ≡ true → Made todo seen → Made (x ∷ todo) seen
-  held_there x todo seen e r = record { after = r.after; visits = held x todo seen r.after e r.visits; once = r.once; low = r.low; longer = r.longer }
+  held_there : (x : ℕ) (stack seen : List ℕ) → has nat_eq x seen ≡ true → Made stack seen → Made (x ∷ stack) seen
+  held_there x stack seen e r = record { after = r.after; visits = held x stack seen r.after e r.visits; once = r.once; low = r.low; longer = r.longer }
 
-  make : (f : ℕ) (todo seen : List ℕ) → n ≤ f + length seen → AreBelow n todo → AreBelow n seen → HasNoneTwice nat_eq seen → Made todo seen
+  make : (f : ℕ) (stack seen : List ℕ) → n ≤ f + length seen → AreBelow n stack → AreBelow n seen → HasNoneTwice nat_eq seen → Made stack seen
   make f [] seen fuel inside low once = record { after = seen; visits = done seen seen refl; once = once; low = low; longer = omega arith }
-  make zero (x ∷ todo) seen fuel inside low once = ⊎_elim
-      (λ (e : has nat_eq x seen ≡ true). held_there x todo seen e (make zero todo seen fuel (λ q h. inside q (has_later nat_eq q x todo h)) low once))
-      (λ (e : has nat_eq x seen ≡ false). let l = room x seen (inside x (has_first nat_eq names_equal x todo)) low once e in absurd (omega (arith, l, fuel))) (has_or_not nat_eq x seen)
-  make (suc f) (x ∷ todo) seen fuel inside low once = ⊎_elim
-      (λ (e : has nat_eq x seen ≡ true). held_there x todo seen e (make (suc f) todo seen fuel (λ q h. inside q (has_later nat_eq q x todo h)) low once))
+  make zero (x ∷ stack) seen fuel inside low once = ⊎_elim
+      (λ (e : has nat_eq x seen ≡ true). held_there x stack seen e (make zero stack seen fuel (λ q h. inside q (has_later nat_eq q x stack h)) low once))
+      (λ (e : has nat_eq x seen ≡ false). let l = room x seen (inside x (has_first nat_eq names_equal x stack)) low once e in absurd (omega (arith, l, fuel))) (has_or_not nat_eq x seen)
+  make (suc f) (x ∷ stack) seen fuel inside low once = ⊎_elim
+      (λ (e : has nat_eq x seen ≡ true). held_there x stack seen e (make (suc f) stack seen fuel (λ q h. inside q (has_later nat_eq q x stack h)) low once))
       (λ (absent : has nat_eq x seen ≡ false).
-      let x_low : x < n = inside x (has_first nat_eq names_equal x todo) in
+      let x_low : x < n = inside x (has_first nat_eq names_equal x stack) in
       let e = length-pushed seen x in
       let one = make f (steps x) (seen ++ x ∷ []) (omega (arith, fuel, e)) (below x x_low) (of_push nat_eq names_equal (λ q. q < n) seen x low x_low) (once_more seen x absent once) in
       let l = one.longer in
-      let two = make f todo one.after (omega (arith, fuel, e, l)) (λ q h. inside q (has_later nat_eq q x todo h)) one.low one.once in
+      let two = make f stack one.after (omega (arith, fuel, e, l)) (λ q h. inside q (has_later nat_eq q x stack h)) one.low one.once in
       let m = two.longer in
-      record { after = two.after; visits = fresh x todo seen one.after two.after absent one.visits two.visits; once = two.once; low = two.low; longer = omega (arith, e, l, m) })
+      record { after = two.after; visits = fresh x stack seen one.after two.after absent one.visits two.visits; once = two.once; low = two.low; longer = omega (arith, e, l, m) })
       (has_or_not nat_eq x seen)
 
-  pub walk_made : (todo : List ℕ) → AreBelow n todo → Visits nat_eq steps todo [] (distinct nat_eq (flat_map (chain_ends nat_eq steps n []) todo))
-  walk_made todo inside =
-      let r = make n todo [] (omega arith) inside (λ q h. none_in nat_eq q _ h) tt in
-      let V : List ℕ → Type 0 = λ l. Visits nat_eq steps todo [] l in
-      subst V (chains_met steps n todo [] r.after below inside (λ y h. none_in nat_eq y _ h) r.visits) r.visits
+  pub walk_made : (stack : List ℕ) → AreBelow n stack → Visits nat_eq steps stack [] (distinct nat_eq (flat_map (chain_ends nat_eq steps n []) stack))
+  walk_made stack inside =
+      let r = make n stack [] (omega arith) inside (λ q h. none_in nat_eq q _ h) tt in
+      let V : List ℕ → Type 0 = λ l. Visits nat_eq steps stack [] l in
+      subst V (chains_met steps n stack [] r.after below inside (λ y h. none_in nat_eq y _ h) r.visits) r.visits
 
-  pub made_below : (todo : List ℕ) → AreBelow n todo → AreBelow n (distinct nat_eq (flat_map (chain_ends nat_eq steps n []) todo))
-  made_below todo inside =
-      let r = make n todo [] (omega arith) inside (λ q h. none_in nat_eq q _ h) tt in
+  pub made_below : (stack : List ℕ) → AreBelow n stack → AreBelow n (distinct nat_eq (flat_map (chain_ends nat_eq steps n []) stack))
+  made_below stack inside =
+      let r = make n stack [] (omega arith) inside (λ q h. none_in nat_eq q _ h) tt in
       let V : List ℕ → Type 0 = λ l. AreBelow n l in
-      subst V (chains_met steps n todo [] r.after below inside (λ y h. none_in nat_eq y _ h) r.visits) r.low
+      subst V (chains_met steps n stack [] r.after below inside (λ y h. none_in nat_eq y _ h) r.visits) r.low

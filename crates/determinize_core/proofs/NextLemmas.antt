@@ -13,7 +13,7 @@ use Rattle.nfa_core.specs.Reached.{AreBelow}
 use Rattle.nfa_core.proofs.ForCallers.{has_from_all}
 use Rattle.determinize_core.specs.States.{StateValue, dead}
 use Rattle.determinize_core.specs.Steps.{closed, known_before, gains, ids_before, families, first_half, patterns_in, known_behind, unit_steps, reading, states_behind, begun, is_some_kept, with_states, step_value}
-use Rattle.determinize_core.proofs.CloseLemmas.{distinct_already, once_from_distinct, distinct_from_once, closed_once, closed_below, few_once}
+use Rattle.determinize_core.proofs.CloseAllLemmas.{distinct_already, once_from_distinct, distinct_from_once, closed_once, closed_below, few_once}
 
 module _ (a : Automaton) (t : Terminator) (v : StateValue) (u : Option ℕ) where
   -- the states at the place, where the unit decides a needed look and where it doesn't

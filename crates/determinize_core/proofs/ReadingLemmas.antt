@@ -124,11 +124,11 @@ module _ (t : Terminator) (h : List ℕ) (s e i k : ℕ) (low : i ≤ e) (within
       let f : i - k ≡ suc p = omega (arith, l) in
       let above : s ≤ p = omega (arith, l) in
       let G : ℕ → Type 0 = λ n. reads true (span t h s e) n ≡ with_place p (unit_at true h n) in
-      let at : G (suc p) = down s p (byte_at h p) above in
+      let at : G (suc p) = is_reverse s p (byte_at h p) above in
       (p, subst G (sym f) at)
     where
-      down : (s p : ℕ) (o : Option ℕ) → s ≤ p → (if nat_le s p then with_place p o else None) ≡ with_place p o
-      down s p o above = ⊎_elim (λ told. rw told.0 refl) (λ told. let less = told.1 in absurd (omega (arith, above, less))) (leb_tells s p)
+      is_reverse : (s p : ℕ) (o : Option ℕ) → s ≤ p → (if nat_le s p then with_place p o else None) ≡ with_place p o
+      is_reverse s p o above = ⊎_elim (λ told. rw told.0 refl) (λ told. let less = told.1 in absurd (omega (arith, above, less))) (leb_tells s p)
 
   -- the unit behind the next place is the one ahead of this one
   pub unit_passes : (r : Bool) → Left r → unit_behind r h (place_of r i (suc k)) ≡ unit_at r h (place_of r i k)

@@ -13,7 +13,7 @@ use Rattle.determinize_core.specs.Costs.{known_ways, free_ways}
 use Rattle.determinize_core.specs.Steps.{known_steps, closed, with_states, behind, start_value}
 use Rattle.determinize_core.specs.declared.start.Start.{Start}
 use Rattle.determinize_core.proofs.KnownStateLemmas.{fresh_with_known}
-use Rattle.determinize_core.proofs.CloseLemmas.{closed_is, once_from_distinct, ways_once}
+use Rattle.determinize_core.proofs.CloseAllLemmas.{closed_is, once_from_distinct, ways_once}
 
 pub one_inside : (n q : ℕ) → q < n → AreBelow n (q ∷ [])
 one_inside n q low = of_cons nat_eq names_equal (λ r. r < n) q [] low (λ r h. none_in nat_eq r _ h)

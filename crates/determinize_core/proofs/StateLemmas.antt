@@ -23,8 +23,8 @@ pub moved_zigzag : (from to : ℕ) → moved from (zigzag from to) ≡ to
 moved_zigzag from to = grind arith
 
 -- what groups are worth
-part_of : (q r w part : ℕ) → (part + r * w) + q * (w * 128) ≡ part + (q * 128 + r) * w
-part_of q r w part = omega arith
+draft_of : (q r w part : ℕ) → (part + r * w) + q * (w * 128) ≡ part + (q * 128 + r) * w
+draft_of q r w part = omega arith
 
 split : (z : ℕ) → z / 128 * 128 + z % 128 ≡ z
 split z = omega arith
@@ -71,7 +71,7 @@ room_next w more e =
 sum_back : (part w z : ℕ) → (part + (z % 128 + 128 - 128) * w) + z / 128 * (w * 128) ≡ part + z * w
 sum_back part w z =
     let e : z ≡ z / 128 * 128 + z % 128 = omega arith in
-    let f : (part + (z % 128) * w) + z / 128 * (w * 128) ≡ part + (z / 128 * 128 + z % 128) * w = part_of (z / 128) (z % 128) w part in
+    let f : (part + (z % 128) * w) + z / 128 * (w * 128) ≡ part + (z / 128 * 128 + z % 128) * w = draft_of (z / 128) (z % 128) w part in
     let g : z % 128 + 128 - 128 ≡ z % 128 = omega arith in
     let h : (z / 128 * 128 + z % 128) * w ≡ z * w = ap (λ (n : ℕ). n * w) (sym e) in
     let i : (z % 128 + 128 - 128) * w ≡ (z % 128) * w = ap (λ (n : ℕ). n * w) g in

@@ -19,7 +19,7 @@ use Rattle.nfa_core.proofs.ForCallers.{not_both, has_first, has_later, of_cons, 
 use Rattle.determinize_core.specs.States.{StateValue, dead}
 use Rattle.determinize_core.specs.Steps.{is_kept, kept, looks_with, have_if, is_some_kept, closed, known_before, known_behind, gains, ids_before, families, first_half, pattern_at, patterns_in, reading, unit_steps, states_behind, step_value, behind, start_value}
 use Rattle.determinize_core.specs.declared.start.Start.{Start}
-use Rattle.determinize_core.proofs.CloseLemmas.{closed_once, closed_below, distinct_from_once, all_from_below}
+use Rattle.determinize_core.proofs.CloseAllLemmas.{closed_once, closed_below, distinct_from_once, all_from_below}
 use Rattle.determinize_core.proofs.DecodeLemmas.{same_made}
 use Rattle.determinize_core.proofs.MatchLemmas.{reading_none}
 use Rattle.determinize_core.proofs.StartingLemmas.{one_inside}

@@ -55,7 +55,7 @@ behind_all : (walk_value line_starts (one_of 10) LeftmostFirst (13 ∷ []) 1 0 1
 unfolding families_of known_words known_lines
 behind_all = refl
 
--- the same read downwards, where the look stands for its reverse: a line ends
+-- the same read in reverse, where the look stands for its reverse: a line ends
 abbrev line_ends : Automaton
 line_ends = record line_starts { reverse = true }
 

@@ -20,7 +20,7 @@ use Rattle.determinize_core.specs.LookBehind.{with_look_behind}
 use Rattle.determinize_core.specs.Steps.{looks_with, have_if, closed, known_behind, ids_before, families, second_half, pattern_of, pattern_at, patterns_in, states_behind, step_value, behind, start_value}
 use Rattle.determinize_core.specs.declared.start.Start.{Start}
 use Rattle.determinize_core.specs.declared.lookbehind.Families.{Families}
-use Rattle.determinize_core.proofs.CloseLemmas.{distinct_from_once, all_from_below}
+use Rattle.determinize_core.proofs.CloseAllLemmas.{distinct_from_once, all_from_below}
 use Rattle.determinize_core.proofs.KnownStateLemmas.{known-lt, starts_of-lt, state_with_known}
 use Rattle.determinize_core.proofs.StartingLemmas.{one_inside}
 use Rattle.determinize_core.proofs.StepLawLemmas.{step_below, start_below}

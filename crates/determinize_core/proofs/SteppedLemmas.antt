@@ -17,7 +17,7 @@ use Rattle.determinize_core.specs.StateBytes.{encoded}
 use Rattle.determinize_core.specs.Stepped.{IsStepped, widest}
 use Rattle.determinize_core.specs.Steps.{looks_with, closed, ids_before, patterns_in, states_behind, step_value, behind, start_value}
 use Rattle.determinize_core.specs.declared.start.Start.{Start}
-use Rattle.determinize_core.proofs.CloseLemmas.{all_from_below, few_once}
+use Rattle.determinize_core.proofs.CloseAllLemmas.{all_from_below, few_once}
 use Rattle.determinize_core.proofs.LengthLemmas.{length-encoded}
 use Rattle.determinize_core.proofs.StepLawLemmas.{step_below, step_once, start_below, start_once}
 use Rattle.determinize_core.proofs.StepStateLemmas.{patterns_below, step_state, start_state}

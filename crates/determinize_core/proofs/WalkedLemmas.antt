@@ -21,7 +21,7 @@ use Rattle.determinize_core.specs.declared.lookbehind.Families.{Families}
 use Rattle.determinize_core.proofs.KnownStateLemmas.{known-lt}
 use Rattle.determinize_core.proofs.MadeLemmas.{AreBelow, walk_made, made_below}
 use Rattle.determinize_core.proofs.PassedLemmas.{passed_by, looks_passed, IsTold, start_is_told, start_is_flagged, seen_behind, behind_is_told, behind_is_flagged}
-use Rattle.determinize_core.proofs.ClosesLemmas.{ways_agree, stays_below, Stands, closes}
+use Rattle.determinize_core.proofs.EntriesLemmas.{ways_agree, stays_below, IsStateOf, closes}
 use Rattle.determinize_core.proofs.ReadingLemmas.{kept_match, unit_passes, unit_is, place_inside, first_place, entries_alike, unit_low, bytes_low}
 
 -- ---- the lists of the walk under all looks
@@ -47,7 +47,7 @@ starts-lt : (f : Families) → IsLookSet (starts_of f)
 starts-lt f = known-lt f true (0, None) AtText
 
 start_stands : (a : Automaton) (t : Terminator) (o : Option ℕ) (q : ℕ) → q < length a.states →
-    Stands a t o (behind a t (start_of t o)).look_have (q ∷ []) (start_value a t (start_of t o) q)
+    IsStateOf a t o (behind a t (start_of t o)).look_have (q ∷ []) (start_value a t (start_of t o) q)
 start_stands a t o q low =
     let have : ℕ = (behind a t (start_of t o)).look_have in record {
       ids = refl;
@@ -60,7 +60,7 @@ start_stands a t o q low =
     }
 
 step_stands : (a : Automaton) → IsWellFormed a → (t : Terminator) (kind : MatchKind) (v : StateValue) (u : Option ℕ) (b : ℕ) → u ≡ Some b →
-    Stands a t u (known_behind (families a) a.reverse t u) (flat_map (unit_steps a u) (reading kind a (ids_before a t v u))) (step_value a t kind v u)
+    IsStateOf a t u (known_behind (families a) a.reverse t u) (flat_map (unit_steps a u) (reading kind a (ids_before a t v u))) (step_value a t kind v u)
 step_stands a formed t kind v u b e =
     let T : Option ℕ → Type 0 = λ x. IsTold (looks_of a.states) a.reverse t x (known_behind (families a) a.reverse t x) in record {
       ids = refl;
@@ -101,7 +101,7 @@ module _ (kind : MatchKind) (a : Automaton) (t : Terminator) (h : List ℕ) (s e
       (λ m next is. looks_passed a.reverse t h s e (place k) (place_inside t h s e i k below within a.reverse l) m))
 
   -- a state that stands there has the states that its entries come to
-  comes_to : (k : ℕ) → k ≤ len → (have : ℕ) (entries : List ℕ) → Stands a t (unit_behind a.reverse h (place k)) have entries (state k) →
+  comes_to : (k : ℕ) → k ≤ len → (have : ℕ) (entries : List ℕ) → IsStateOf a t (unit_behind a.reverse h (place k)) have entries (state k) →
       kept a (ids_before a t (state k) (unit k)) ≡ kept a (closed_by a (plain_steps a text (place k)) entries)
   comes_to k l have entries stands =
       closes a formed t (unit_behind a.reverse h (place k)) (unit k) have entries (state k) stands
@@ -110,7 +110,7 @@ module _ (kind : MatchKind) (a : Automaton) (t : Terminator) (h : List ℕ) (s e
 
   pub states_are : (k : ℕ) → k ≤ len → kept a (ids_before a t (state k) (unit k)) ≡ kept a (list k)
   states_are zero l =
-      let S : Option ℕ → Type 0 = λ o. Stands a t o (behind a t (start_of t (unit_behind a.reverse h i))).look_have (q ∷ []) (state zero) in
+      let S : Option ℕ → Type 0 = λ o. IsStateOf a t o (behind a t (start_of t (unit_behind a.reverse h i))).look_have (q ∷ []) (state zero) in
       comes_to zero l (behind a t (start_of t (unit_behind a.reverse h i))).look_have (q ∷ [])
       (subst S (ap (unit_behind a.reverse h) (sym (first_place a.reverse i))) (start_stands a t (unit_behind a.reverse h i) q low))
   states_are (suc k) l =
@@ -119,7 +119,7 @@ module _ (kind : MatchKind) (a : Automaton) (t : Terminator) (h : List ℕ) (s e
       let is = unit_is t h s e i k below within a.reverse less in
       let have : ℕ = known_behind (families a) a.reverse t (unit k) in
       let entries : List ℕ = flat_map (unit_steps a (unit k)) (reading kind a (ids_before a t (state k) (unit k))) in
-      let S : Option ℕ → Type 0 = λ o. Stands a t o have entries (state (suc k)) in
+      let S : Option ℕ → Type 0 = λ o. IsStateOf a t o have entries (state (suc k)) in
       comes_to (suc k) l have entries
       (subst S (sym (unit_passes t h s e i k below within a.reverse less)) (step_stands a formed t kind (state k) (unit k) is.0 is.1))
       ∙ ap (λ x. kept a (closed_by a (plain_steps a text (place (suc k))) x))

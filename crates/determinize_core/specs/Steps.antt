@@ -144,7 +144,7 @@ start_value a t s q = with_states a (closed a (behind a t s).look_have (q ∷ []
 
 -- ---- walks
 
--- the byte of a haystack that one who reads up or down from a place reads next, past any span, and the one just before it
+-- the byte of a haystack that one who reads forward or in reverse from a place reads next, past any span, and the one just before it
 abbrev pub unit_at : Bool → List ℕ → ℕ → Option ℕ
 unit_at false h i = byte_at h i
 unit_at true h i = byte_before h i

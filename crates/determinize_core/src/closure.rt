@@ -9,7 +9,7 @@ ghost use Rattle.nfa_core.specs.Ways.{on_nothing};
 ghost use Rattle.determinize_core.specs.Costs.{known_ways};
 ghost use Rattle.determinize_core.specs.Steps.{known_steps};
 
-use crate::todo::{pop, push, push_all};
+use crate::stack::{pop, push, push_all};
 use look_core::LookSet;
 use nfa_core::{NFA, NameSet, State, Steps};
 use search_core::StateID;

@@ -28,7 +28,7 @@ mod step_each;
 pub mod step_laws;
 pub mod stepped_laws;
 mod target;
-mod todo;
+mod stack;
 pub mod walk_theorem;
 mod walking;
 mod workspace;

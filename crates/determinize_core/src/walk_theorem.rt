@@ -76,7 +76,7 @@ pub fn walks_depend_on_what_they_read()
 {}
 
 /// A walk over bytes behind a byte, or at the edge, is the walk over a haystack that has them there and no more, from
-/// the place where they begin for one who reads upwards, or downwards.
+/// the place where they begin for one who reads forward, or in reverse.
 pub fn walks_go_over_haystacks()
     ensures states { (a : Automaton) (t : Terminator) (kind : MatchKind) (q : ℕ) (behind : Option ℕ) (bytes : List ℕ) (k : ℕ) → k ≤ length bytes + 1 →
         slice_get (walked a t kind (start_value a t (start_of t behind) q) (units_of bytes)) k ≡

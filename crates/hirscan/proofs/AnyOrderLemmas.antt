@@ -70,7 +70,7 @@ told_by_members low (r ∷ rs) (s ∷ ss) a b same =
     let below = start_at_most low s r ss rs b.1 a back in
     let starts : r.0 ≡ s.0 = omega arith in
     let up = end_at_most r s rs ss starts b.1 b.2 same in
-    let down = end_at_most s r ss rs (sym starts) a.1 a.2 back in
+    let is_reverse = end_at_most s r ss rs (sym starts) a.1 a.2 back in
     let ends : r.1 ≡ s.1 = omega arith in
     let others = told_by_members (r.1 + 2) rs ss a.2 (subst (λ (n : ℕ). AreApart (n + 2) ss) (sym ends) b.2)
     (others_same r s rs ss ends a.2 b.2 same) in

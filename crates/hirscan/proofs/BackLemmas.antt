@@ -1,5 +1,5 @@
--- The search downwards from an end that was found finds the least start of a span that ends there. It meets no quit byte, as the
--- search upwards met none.
+-- The search in reverse from an end that was found finds the least start of a span that ends there. It meets no quit byte, as the
+-- search forward met none.
 use Rattle.std.proofs.Common.{◌≡◌, ◌↔◌, ℕ, ◌<◌, ◌≤◌, Bool, true, false, ◌&&◌, cond, List, [], ◌∷◌, length, slice_get, nat_eq, Option, Some, None, refl, sym, ap, ◌∙◌, subst, inl, inr, arith}
 use Rattle.std.specs.List.{filter}
 use Rattle.std.proofs.lemmas.Bool.{cases_lt, cases_Bool, lt-ltb}
@@ -35,7 +35,7 @@ use Rattle.hirscan.specs.Choices.{Query}
 use Rattle.hirscan.specs.LooseAnswers.{IsSpanOf}
 use Rattle.hirscan.specs.Regexes.{IsRegexOf, IsSearchOf, query_of}
 use Rattle.hirscan.proofs.LooseEndLemmas.{holds_none}
-use Rattle.hirscan.proofs.RegexLemmas.{goes_down, down_ends_lines, down_is_utf8, place_down, trees_alike}
+use Rattle.hirscan.proofs.RegexLemmas.{goes_reverse, reverse_ends_lines, reverse_is_utf8, place_reverse, trees_alike}
 use Rattle.hirscan.proofs.ForwardLemmas.{reach}
 
 -- i is the least place, from s on, from which a pattern has a span that ends where this end is, and it counts
@@ -76,12 +76,12 @@ counts_so true true h i t = t
 counts_so true false h i t = refl
 counts_so false v h i t = refl
 
-wanted_all : (kind : MatchKind) (down : Bool) (ends : List (ℕ × ℕ)) (o : Option (ℕ × ℕ)) → kind ≡ AllMatches → down ≡ true →
-    IsWanted kind false down ends o → IsLastEnd true ends o
-wanted_all kind down ends o is_all is_down wanted =
-    let P : MatchKind → Type 0 = λ k. IsWanted k false down ends o in
+wanted_all : (kind : MatchKind) (is_reverse : Bool) (ends : List (ℕ × ℕ)) (o : Option (ℕ × ℕ)) → kind ≡ AllMatches → is_reverse ≡ true →
+    IsWanted kind false is_reverse ends o → IsLastEnd true ends o
+wanted_all kind is_reverse ends o is_all is_reverse wanted =
+    let P : MatchKind → Type 0 = λ k. IsWanted k false is_reverse ends o in
     let R : Bool → Type 0 = λ b. IsLastEnd b ends o in
-    subst R is_down (subst P is_all wanted)
+    subst R is_reverse (subst P is_all wanted)
 
 module _ (xs : List Tree) (utf8 : Bool) (t : Terminator) (p : Pair) (regex : IsRegexOf xs utf8 t p) (q : Search)
     (asked : IsSearchOf xs utf8 q)
@@ -108,7 +108,7 @@ module _ (xs : List Tree) (utf8 : Bool) (t : Terminator) (p : Pair) (regex : IsR
   inside : c.0 ≤ length q.haystack
   inside = let within = start.within in omega (arith, asked.within)
 
-  -- ---- what the search upwards read
+  -- ---- what the search forward read
   agrees : (k : ℕ) (x : Tree) → slice_get xs k ≡ Some x → AgreeFrom (holds_ascii t q.haystack) looks q.start c.0 x
   agrees k x listed =
       let far = reach xs utf8 t p regex q asked words set (Some c) is in
@@ -137,7 +137,7 @@ module _ (xs : List Tree) (utf8 : Bool) (t : Terminator) (p : Pair) (regex : IsR
   both_ways : (k j : ℕ) → Has same_pair (j, k) ends ↔ IsChoice true xs (span t q.haystack q.start c.0) c.0 (j, k)
   both_ways k j =
       let P : Bool → Type 0 = λ b. Has same_pair (j, k) ends ↔ IsChoice b xs (span t q.haystack q.start c.0) c.0 (j, k) in
-      subst P regex.reads_down (regex.down.spans.anchored (span t q.haystack q.start c.0) c.0 (j, k) (omega arith))
+      subst P regex.reads_reverse (regex.is_reverse.spans.anchored (span t q.haystack q.start c.0) c.0 (j, k) (omega arith))
 
   has_span : (k j : ℕ) → Has same_pair (j, k) ends → IsSpanOf asks k j c.0 × (q.start ≤ j)
   has_span k j has =
@@ -183,18 +183,18 @@ module _ (xs : List Tree) (utf8 : Bool) (t : Terminator) (p : Pair) (regex : IsR
       IsLastEnd true ends o
   last_end k o none wanted =
       let at : place_of m.reverse (first_place m.reverse q.start c.0) 0 ≡ c.0 =
-      place_down m.reverse q.start c.0 (goes_down xs utf8 t p regex) in
+      place_reverse m.reverse q.start c.0 (goes_reverse xs utf8 t p regex) in
       let same : ends_of r back m.start_anchored k ≡ ends =
       ap (ends_of r back m.start_anchored) none
       ∙ ap (λ j. ends_from m (span p.reverse.nfa.terminator q.haystack q.start c.0) (j, m.start_anchored)) at
-      ∙ ap (λ z. ends_from m (span z q.haystack q.start c.0) (c.0, m.start_anchored)) (down_ends_lines xs utf8 t p regex) in
+      ∙ ap (λ z. ends_from m (span z q.haystack q.start c.0) (c.0, m.start_anchored)) (reverse_ends_lines xs utf8 t p regex) in
       let P : List (ℕ × ℕ) → Type 0 = λ l. IsWanted r.kind false m.reverse l o in
-      wanted_all r.kind m.reverse ends o regex.finds_all (goes_down xs utf8 t p regex) (subst P same wanted)
+      wanted_all r.kind m.reverse ends o regex.finds_all (goes_reverse xs utf8 t p regex) (subst P same wanted)
 
   start_counts : counts r.between_characters q.haystack i ≡ true
   start_counts =
       counts_so p.reverse.nfa.utf8 (has_empty m) q.haystack i
-      (ap (λ b. counts b q.haystack i) (down_is_utf8 xs utf8 t p regex) ∙ start.counted)
+      (ap (λ b. counts b q.haystack i) (reverse_is_utf8 xs utf8 t p regex) ∙ start.counted)
 
   never_split : IsSplitBy (λ k x. IsWanted r.kind false m.reverse (ends_of r back m.start_anchored k) x) r back 0 → ⊥
   never_split split =

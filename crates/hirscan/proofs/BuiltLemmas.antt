@@ -66,7 +66,7 @@ module _ (xs : List Tree) (s : Settings) (reverse : Bool) (n : Nfa) (made : IsCo
   pub unsupported_are : (o : Options) → is_unsupported n.automaton (word_boundary_of o) (by_hand o) ≡ are_unsupported xs o
   unsupported_are o = ap (λ (b : Bool). b && not (word_boundary_of o) && not (has_high_bytes (by_hand o))) words_are
 
--- ---- the options of the automaton that reads down change no measure
+-- ---- the options of the automaton that reads in reverse change no measure
 same_map : (n : Nfa) (o : Options) (bytes : List ℕ) → map (class_in n (changed_by o back_options)) bytes ≡ map (class_in n o) bytes
 same_map n o bytes = refl
 
@@ -101,13 +101,13 @@ set_once o = λ i. record {
 
 pub is_built : (xs : List Tree) (s : Settings) (n m : Nfa) (o : Options) (p : Pair) → IsCompiled (compile_options false s) xs n →
     IsCompiled (compile_options true s) xs m → Ok p ≡ pair_built n m o → o ≡ s.dfa → IsDfa p.forward → IsDfa p.reverse → IsBuilt xs s p
-is_built xs s n m o p up down is same forward reverse =
+is_built xs s n m o p up is_reverse is same forward reverse =
     let made : pair_built n m s.dfa ≡ Ok p = ap (λ (c : Options). pair_built n m c) (sym same) ∙ sym is in
     let first : p.forward.nfa ≡ n = ap (λ (r : Pair). r.forward.nfa) (pair_is n m s.dfa p made) in
     let second : p.reverse.nfa ≡ m = ap (λ (r : Pair). r.reverse.nfa) (pair_is n m s.dfa p made) in
     record {
-      up = subst (λ (k : Nfa). IsCompiled (compile_options false s) xs k) (sym first) up;
-      down = subst (λ (k : Nfa). IsCompiled (compile_options true s) xs k) (sym second) down;
+      is_forward = subst (λ (k : Nfa). IsCompiled (compile_options false s) xs k) (sym first) up;
+      is_reverse = subst (λ (k : Nfa). IsCompiled (compile_options true s) xs k) (sym second) is_reverse;
       made = (λ i. pair_built (first i) (second i) s.dfa) ∙ made;
       forward = forward;
       reverse = reverse;
@@ -122,18 +122,18 @@ module _ (xs : List Tree) (s : Settings) (p : Pair) (made : IsBuilt xs s p) wher
 
   pub built_regex : FindsFirst s → IsRegexOf xs s.utf8 s.line_terminator p
   built_regex first =
-      built_pair_is (compile_options false s) (compile_options true s) xs p.forward.nfa p.reverse.nfa made.up made.down refl refl s.utf8
-      s.line_terminator refl refl refl refl (made.up.no_captures refl) s.dfa first p made.made made.forward made.reverse
+      built_pair_is (compile_options false s) (compile_options true s) xs p.forward.nfa p.reverse.nfa made.is_forward made.is_reverse refl refl s.utf8
+      s.line_terminator refl refl refl refl (made.is_forward.no_captures refl) s.dfa first p made.made made.forward made.reverse
 
   pub forward_quits : p.forward.quits ≡ quit_bytes_for xs s.dfa
-  forward_quits = ap (λ (d : Dfa). d.quits) forward_is ∙ quits_are xs s false p.forward.nfa made.up s.dfa
+  forward_quits = ap (λ (d : Dfa). d.quits) forward_is ∙ quits_are xs s false p.forward.nfa made.is_forward s.dfa
 
   pub reverse_quits : p.reverse.quits ≡ quit_bytes_for xs s.dfa
-  reverse_quits = ap (λ (d : Dfa). d.quits) reverse_is ∙ quits_are xs s true p.reverse.nfa made.down s.dfa
+  reverse_quits = ap (λ (d : Dfa). d.quits) reverse_is ∙ quits_are xs s true p.reverse.nfa made.is_reverse s.dfa
 
   pub built_supported : are_unsupported xs s.dfa ≡ false
   built_supported =
-      sym (unsupported_are xs s false p.forward.nfa made.up s.dfa)
+      sym (unsupported_are xs s false p.forward.nfa made.is_forward s.dfa)
       ∙ subst (λ (d : Dfa). is_unsupported d.nfa.automaton (word_boundary_of d.options) (by_hand d.options) ≡ false) forward_is
       made.forward.supported
 

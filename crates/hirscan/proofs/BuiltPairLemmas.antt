@@ -1,4 +1,4 @@
--- What is built of two automata that are compiled from the same trees, upwards and downwards, is two automata that search as one
+-- What is built of two automata that are compiled from the same trees, forward and in reverse, is two automata that search as one
 -- for these trees.
 use Rattle.std.proofs.Common.{◌≡◌, ℕ, Bool, true, false, ◌&&◌, ◌||◌, List, [], ◌∷◌, refl, sym, ap, ◌∙◌, subst, ⊎_elim, if◌then◌else◌}
 use Rattle.std.specs.Prelude.{Result, Ok, Err}
@@ -111,30 +111,30 @@ same_truth true b f g = sym (f refl)
 same_truth false true f g = g refl
 same_truth false false f g = refl
 
-module _ (o r : Options) (xs : List Tree) (n m : Nfa) (up : IsCompiled o xs n) (down : IsCompiled r xs m)
-    (reads_up : reverse_of o ≡ false) (reads_down : reverse_of r ≡ true) where
-  down_words : has_unicode_word n.automaton ≡ true → has_unicode_word m.automaton ≡ true
-  down_words e =
+module _ (o r : Options) (xs : List Tree) (n m : Nfa) (up : IsCompiled o xs n) (is_reverse : IsCompiled r xs m)
+    (reads_forward : reverse_of o ≡ false) (reads_reverse : reverse_of r ≡ true) where
+  reverse_words : has_unicode_word n.automaton ≡ true → has_unicode_word m.automaton ≡ true
+  reverse_words e =
       let l = member_of_any is_word_unicode (looks_of n.automaton.states) e in
       let used = (looks_are_used o xs n up l.0).0 l.1 in
       let same : turned (reverse_of r) (reversed l.0) ≡ turned (reverse_of o) l.0 =
-      ap (λ b. turned b (reversed l.0)) reads_down ∙ reversed_twice l.0 ∙ sym (ap (λ b. turned b l.0) reads_up) in
+      ap (λ b. turned b (reversed l.0)) reads_reverse ∙ reversed_twice l.0 ∙ sym (ap (λ b. turned b l.0) reads_forward) in
       any_by_member is_word_unicode (looks_of m.automaton.states) (reversed l.0)
-      ((looks_are_used r xs m down (reversed l.0)).1 (used.0, used.1, used.2, ap (has_look (looks_used used.1)) same ∙ used.3))
+      ((looks_are_used r xs m is_reverse (reversed l.0)).1 (used.0, used.1, used.2, ap (has_look (looks_used used.1)) same ∙ used.3))
       (turned_words l.0 ∙ l.2)
 
-  up_words : has_unicode_word m.automaton ≡ true → has_unicode_word n.automaton ≡ true
-  up_words e =
+  forward_words : has_unicode_word m.automaton ≡ true → has_unicode_word n.automaton ≡ true
+  forward_words e =
       let l = member_of_any is_word_unicode (looks_of m.automaton.states) e in
-      let used = (looks_are_used r xs m down l.0).0 l.1 in
+      let used = (looks_are_used r xs m is_reverse l.0).0 l.1 in
       let same : turned (reverse_of o) (reversed l.0) ≡ turned (reverse_of r) l.0 =
-      ap (λ b. turned b (reversed l.0)) reads_up ∙ sym (ap (λ b. turned b l.0) reads_down) in
+      ap (λ b. turned b (reversed l.0)) reads_forward ∙ sym (ap (λ b. turned b l.0) reads_reverse) in
       any_by_member is_word_unicode (looks_of n.automaton.states) (reversed l.0)
       ((looks_are_used o xs n up (reversed l.0)).1 (used.0, used.1, used.2, ap (has_look (looks_used used.1)) same ∙ used.3))
       (turned_words l.0 ∙ l.2)
 
   same_words : has_unicode_word m.automaton ≡ has_unicode_word n.automaton
-  same_words = same_truth (has_unicode_word m.automaton) (has_unicode_word n.automaton) up_words down_words
+  same_words = same_truth (has_unicode_word m.automaton) (has_unicode_word n.automaton) forward_words reverse_words
 
   same_quit_bytes : (boundaries : Bool) (set : List Bool) → quit_bytes m.automaton boundaries set ≡ quit_bytes n.automaton boundaries set
   same_quit_bytes boundaries set = ap (λ b. if b && boundaries then with_high_bytes set else set) same_words
@@ -142,20 +142,20 @@ module _ (o r : Options) (xs : List Tree) (n m : Nfa) (up : IsCompiled o xs n) (
   pub built_pair_is : (utf8 : Bool) (t : Terminator) → utf8_of o ≡ utf8 → utf8_of r ≡ utf8 → terminator_of o ≡ t → terminator_of r ≡ t →
       list_any is_capture n.automaton.states ≡ false → (c : DfaOptions) → kind_of c ≡ LeftmostFirst → (p : Pair) → pair_built n m c ≡ Ok p →
       IsDfa p.forward → IsDfa p.reverse → IsRegexOf xs utf8 t p
-  built_pair_is utf8 t up_utf8 down_utf8 up_ends down_ends plain c leftmost p is forward reverse =
+  built_pair_is utf8 t forward_utf8 reverse_utf8 forward_ends reverse_ends plain c leftmost p is forward reverse =
       let same : p ≡ pair_of n m c = pair_is n m c p is in
       let P : Pair → Type 0 = λ v. IsDfa v.forward → IsDfa v.reverse → IsRegexOf xs utf8 t v in
       subst P (sym same) (λ f d. record {
-        up_options = o;
-        down_options = r;
-        up = up;
-        down = down;
-        reads_up = reads_up;
-        reads_down = reads_down;
-        up_utf8 = up_utf8;
-        down_utf8 = down_utf8;
-        up_terminator = up_ends;
-        down_terminator = down_ends;
+        forward_options = o;
+        reverse_options = r;
+        is_forward = up;
+        is_reverse = is_reverse;
+        reads_forward = reads_forward;
+        reads_reverse = reads_reverse;
+        forward_utf8 = forward_utf8;
+        reverse_utf8 = reverse_utf8;
+        forward_terminator = forward_ends;
+        reverse_terminator = reverse_ends;
         no_captures = plain;
         forward = f;
         reverse = d;

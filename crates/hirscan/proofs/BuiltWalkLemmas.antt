@@ -13,10 +13,10 @@ module _ (xs : List Tree) (s : Settings) (p : Pair) (is_built : IsBuilt xs s p) 
   made : p ≡ pair_of p.forward.nfa p.reverse.nfa s.dfa
   made = pair_is p.forward.nfa p.reverse.nfa s.dfa p is_built.made
 
-  pub walks_down : IsWalkerOf xs true s.utf8 s.line_terminator p.reverse
-  walks_down = record {
+  pub walks_reverse : IsWalkerOf xs true s.utf8 s.line_terminator p.reverse
+  walks_reverse = record {
     options = compile_options true s;
-    compiled = is_built.down;
+    compiled = is_built.is_reverse;
     reads = refl;
     mode = refl;
     terminator = refl;
@@ -24,10 +24,10 @@ module _ (xs : List Tree) (s : Settings) (p : Pair) (is_built : IsBuilt xs s p) 
     finds_all = ap (λ (v : Pair). kind_of v.reverse.options) made;
   }
 
-  pub walks_up : kind_of s.dfa ≡ AllMatches → IsWalkerOf xs false s.utf8 s.line_terminator p.forward
-  walks_up all = record {
+  pub walks_forward : kind_of s.dfa ≡ AllMatches → IsWalkerOf xs false s.utf8 s.line_terminator p.forward
+  walks_forward all = record {
     options = compile_options false s;
-    compiled = is_built.up;
+    compiled = is_built.is_forward;
     reads = refl;
     mode = refl;
     terminator = refl;

@@ -48,7 +48,7 @@ use Rattle.hirscan.proofs.BuiltPairLemmas.{pair_is}
 use Rattle.hirscan.proofs.EndLemmas.{Fits, last_within}
 use Rattle.hirscan.proofs.FirstEndLemmas.{FindsFirsts, trees_firsts, one_place}
 use Rattle.hirscan.proofs.OfferLemmas.{mode_offers}
-use Rattle.hirscan.proofs.RegexLemmas.{any_by_member, up_ends_lines}
+use Rattle.hirscan.proofs.RegexLemmas.{any_by_member, forward_ends_lines}
 use Rattle.hirscan.proofs.SpanChoiceLemmas.{no_offer, first_offer}
 
 -- ---- answers by the first choice of each place
@@ -240,10 +240,10 @@ answer_by_classes xs t p regex own loops plain q g inside bytes_h bytes_g alike 
     let by = classes_by_marks p.forward.nfa p.forward.options in
     let same = all_same_classes (classes_of p.forward.nfa p.forward.options) by.0 q.haystack g bytes_h bytes_g by.2
     (subst (λ (classes : List ℕ). IsAlike classes q.haystack g) own alike) in
-    let lines : p.forward.nfa.terminator ≡ t = up_ends_lines xs false t p regex in
+    let lines : p.forward.nfa.terminator ≡ t = forward_ends_lines xs false t p regex in
     subst (λ (ends : Terminator). answer_from (query_of xs false (holds words ends q.haystack) q) q.start ≡
     answer_from (query_of xs false (holds words ends g) (record q { haystack = g })) q.start) lines
-    (answer_by_marks regex.up_options xs p.forward.nfa regex.up regex.reads_up loops plain regex.forward.sound by.0 by.1 q g inside
+    (answer_by_marks regex.forward_options xs p.forward.nfa regex.is_forward regex.reads_forward loops plain regex.forward.sound by.0 by.1 q g inside
     bytes_h bytes_g same words)
 
 pub built_has_its_classes : (n m : Nfa) (c : DfaOptions) (p : Pair) → pair_built n m c ≡ Ok p → HasItsClasses p

@@ -17,7 +17,7 @@ use Rattle.hirscan.specs.declared.line.Setup.{Setup}
 use Rattle.hirscan.specs.declared.line.Step.TheVariants.{Next}
 use Rattle.hirscan.specs.Words.{class_ranges, scalar_ranges}
 use Rattle.hirscan.specs.Readers.{spelling, number, the_number, bound, the_bound, order, the_order, switch, yes_or_no, hex_bytes, hex_byte, the_byte, look_named}
-use Rattle.hirscan.specs.Takes.{Standing, HasNoNode, Sets, Replaces, Takes, with_utf8, with_terminator, with_capacity, with_quit, with_classes, with_shrink, with_anchored, with_span}
+use Rattle.hirscan.specs.Takes.{HeadValue, HasNoNode, Sets, Replaces, Takes, with_utf8, with_terminator, with_capacity, with_quit, with_classes, with_shrink, with_anchored, with_span}
 use Rattle.hirscan.specs.Takes.{utf8_line, line_line, two_bytes_line, capacity_line, quit_line, classes_line, shrink_line, anchored_line, span_line}
 use Rattle.hirscan.specs.Takes.{empty_line, lit_line, bytes_line, chars_line, look_line, rep_line, cat_line, alt_line, pattern_line}
 use Rattle.hirscan.specs.LineFault.{first_of, unless_read, word_fault, is_at_most, is_word_count, is_min_above_max, needed, top, below, new_tree, is_setting, is_setting_after_node, has_too_few_trees, is_too_deep, has_not_one_tree, has_tree_left_over, setup_after, after_setting, after_tree, after}
@@ -26,7 +26,7 @@ use Rattle.hirscan.proofs.SaysLemmas.{number_said, bound_said, order_said, switc
 use Rattle.hirscan.proofs.TakesLemmas.{NoFault}
 
 -- a line that was taken, by its first word
-pub record Done (ws : List (List ℕ)) (p q : Standing) : Type 0 where
+pub record Done (ws : List (List ℕ)) (p q : HeadValue) : Type 0 where
   pub word : LineWord
   pub args : List (List ℕ)
   pub says : ws ≡ spelling word ∷ args
@@ -34,17 +34,17 @@ pub record Done (ws : List (List ℕ)) (p q : Standing) : Type 0 where
   pub no_fault : NoFault word args p
   pub is : q ≡ after word args p
 
-abbrev stands : Setup → List Tree → List Tree → Standing
+abbrev stands : Setup → List Tree → List Tree → HeadValue
 stands setup stack patterns = record { setup = setup; stack = stack; patterns = patterns }
 
-same_standing : (p q : Standing) → p.setup ≡ q.setup → p.stack ≡ q.stack → p.patterns ≡ q.patterns → p ≡ q
+same_standing : (p q : HeadValue) → p.setup ≡ q.setup → p.stack ≡ q.stack → p.patterns ≡ q.patterns → p ≡ q
 same_standing p q d e f =
     ap (λ s. stands s p.stack p.patterns) d ∙ (ap (λ s. stands q.setup s p.patterns) e ∙ ap (λ s. stands q.setup q.stack s) f)
 
 -- ---- lines that set something
 
 -- of a line that sets something only its place, the count of its words and its words may be wrong
-record SetsOnly (k : LineWord) (args : List (List ℕ)) (p : Standing) : Type 0 where
+record SetsOnly (k : LineWord) (args : List (List ℕ)) (p : HeadValue) : Type 0 where
   goes_on : step_after k ≡ Next
   in_order : is_min_above_max k args ≡ false
   enough : has_too_few_trees k args p ≡ false
@@ -53,7 +53,7 @@ record SetsOnly (k : LineWord) (args : List (List ℕ)) (p : Standing) : Type 0 
   none_left : has_tree_left_over k p ≡ false
   is : after k args p ≡ after_setting k args p
 
-sets_only : (k : LineWord) (args : List (List ℕ)) (p : Standing) → is_setting k ≡ true → SetsOnly k args p
+sets_only : (k : LineWord) (args : List (List ℕ)) (p : HeadValue) → is_setting k ≡ true → SetsOnly k args p
 sets_only Empty args p s = absurd cc
 sets_only Lit args p s = absurd cc
 sets_only Bytes args p s = absurd cc
@@ -69,10 +69,10 @@ sets_only k args p s =
     record { goes_on = refl; in_order = refl; enough = enough; flat = refl; one_tree = refl; none_left = refl; is = refl }
 
 -- such a line stands before each node
-before_nodes : (p : Standing) (k : LineWord) → HasNoNode p → is_setting_after_node k p ≡ false
+before_nodes : (p : HeadValue) (k : LineWord) → HasNoNode p → is_setting_after_node k p ≡ false
 before_nodes p k n = rw (n.stack_empty, n.no_pattern) (and-false (is_setting k))
 
-set_done : (ws args : List (List ℕ)) (k : LineWord) (p q : Standing) (new : Setup) → is_setting k ≡ true
+set_done : (ws args : List (List ℕ)) (k : LineWord) (p q : HeadValue) (new : Setup) → is_setting k ≡ true
     → ws ≡ spelling k ∷ args → is_word_count k (length args) ≡ true → word_fault k args ≡ None → Sets p q new
     → setup_after k args p.setup ≡ new → Done ws p q
 set_done ws args k p q new sets says counted fits s e =
@@ -98,13 +98,13 @@ set_done ws args k p q new sets says counted fits s e =
 -- ---- lines that make a tree
 
 -- n trees of the stack became one
-record Replaced (p q : Standing) (n : ℕ) (parts : List Tree) (new : Tree) : Type 0 where
+record Replaced (p q : HeadValue) (n : ℕ) (parts : List Tree) (new : Tree) : Type 0 where
   enough : nat_lt (length p.stack) n ≡ false
   top_is : top n p.stack ≡ parts
   flat : nat_lt 250 (height new) ≡ false
   is : q ≡ stands p.setup (below n p.stack ++ new ∷ []) p.patterns
 
-replaced : (p q : Standing) (n : ℕ) (parts : List Tree) (new : Tree) → Replaces p q parts new → length parts ≡ n
+replaced : (p q : HeadValue) (n : ℕ) (parts : List Tree) (new : Tree) → Replaces p q parts new → length parts ≡ n
     → Replaced p q n parts new
 replaced p q n parts new r l =
     let len : length p.stack ≡ length r.below + n = omega (arith, ap length r.stack_was, length-append r.below parts) in
@@ -119,12 +119,12 @@ replaced p q n parts new r l =
     }
 
 -- the new tree, spelled another way
-replaced_by : (p q : Standing) (n : ℕ) (parts : List Tree) (new other : Tree) → Replaced p q n parts new → other ≡ new
+replaced_by : (p q : HeadValue) (n : ℕ) (parts : List Tree) (new other : Tree) → Replaced p q n parts new → other ≡ new
     → (nat_lt 250 (height other) ≡ false) × (q ≡ stands p.setup (below n p.stack ++ other ∷ []) p.patterns)
 replaced_by p q n parts new other r e = rw e (r.flat, r.is)
 
 -- a line that makes a tree may stand anywhere, takes no pattern and doesn't end the head
-record MakesTree (k : LineWord) (args : List (List ℕ)) (p : Standing) : Type 0 where
+record MakesTree (k : LineWord) (args : List (List ℕ)) (p : HeadValue) : Type 0 where
   goes_on : step_after k ≡ Next
   settable : is_setting_after_node k p ≡ false
   one_tree : has_not_one_tree k p ≡ false
@@ -137,7 +137,7 @@ makes_tree Pattern = false
 makes_tree Find = false
 makes_tree k = not (is_setting k)
 
-tree_only : (k : LineWord) (args : List (List ℕ)) (p : Standing) → makes_tree k ≡ true → MakesTree k args p
+tree_only : (k : LineWord) (args : List (List ℕ)) (p : HeadValue) → makes_tree k ≡ true → MakesTree k args p
 tree_only Utf8 args p m = absurd cc
 tree_only Line args p m = absurd cc
 tree_only Capacity args p m = absurd cc
@@ -150,7 +150,7 @@ tree_only Pattern args p m = absurd cc
 tree_only Find args p m = absurd cc
 tree_only k args p m = record { goes_on = refl; settable = refl; one_tree = refl; none_left = refl; is = refl }
 
-tree_done : (ws args : List (List ℕ)) (k : LineWord) (p q : Standing) (parts : List Tree) (new : Tree) → makes_tree k ≡ true
+tree_done : (ws args : List (List ℕ)) (k : LineWord) (p q : HeadValue) (parts : List Tree) (new : Tree) → makes_tree k ≡ true
     → ws ≡ spelling k ∷ args → is_word_count k (length args) ≡ true → word_fault k args ≡ None
     → is_min_above_max k args ≡ false → length parts ≡ needed k args → new_tree k args parts ≡ new → Replaces p q parts new → Done ws p q
 tree_done ws args k p q parts new made says counted fits ordered len e r =
@@ -206,7 +206,7 @@ one_read a e = rw e refl
 
 -- ---- each line
 
-pub takes_done : (ws : List (List ℕ)) (p q : Standing) → Takes ws p q → Done ws p q
+pub takes_done : (ws : List (List ℕ)) (p q : HeadValue) → Takes ws p q → Done ws p q
 takes_done ws p q (utf8_line w on e is s) =
     let a = switch_said w on is in
     set_done ws (w ∷ []) Utf8 p q _ refl e refl (read (switch w) on BadChoice a) s (ap (λ o. with_utf8 (unwrap_or o false) p.setup) a)

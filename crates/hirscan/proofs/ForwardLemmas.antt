@@ -1,4 +1,4 @@
--- The end that a search upwards finds is that of an answer, for every set of words: the search read words as bytes, and as far as
+-- The end that a search forward finds is that of an answer, for every set of words: the search read words as bytes, and as far as
 -- it read no byte tells words of characters apart from these.
 use Rattle.std.proofs.Common.{◌≡◌, ℕ, zero, suc, ◌+◌, ◌-◌, ◌<◌, ◌≤◌, Bool, true, false, not, ◌&&◌, List, Option, Some, None, refl, sym, ap, ◌∙◌, subst, inl, inr, arith}
 use Rattle.std.specs.List.{flat_map}
@@ -33,7 +33,7 @@ use Rattle.hirscan.specs.Choices.{Query}
 use Rattle.hirscan.specs.Regexes.{IsRegexOf, IsSearchOf, query_of}
 use Rattle.hirscan.proofs.EndLemmas.{both_true, Fits, Tells, HasEnd, AllCount, Firsts, IsSplitAt, ends_past, none_past, anchored_split, whole_ends, no_place, unanchored_no, last_within}
 use Rattle.hirscan.proofs.FirstEndLemmas.{FindsFirsts}
-use Rattle.hirscan.proofs.RegexLemmas.{goes_up, up_is_utf8, place_up, reads_alike}
+use Rattle.hirscan.proofs.RegexLemmas.{goes_forward, forward_is_utf8, place_forward, reads_alike}
 
 -- ---- how often a search begins anew
 few_places : (mode : Anchored) (n k : ℕ) → k ≤ restarts mode n → k ≤ n
@@ -60,7 +60,7 @@ not_split counted c e = elim (cases_Bool (counted c.0)) [
   | inr off ↦ let differ : true ≡ false = sym (ap not off) ∙ e in cc
 ]
 
--- ---- a search upwards, of trees whose words are those of a set
+-- ---- a search forward, of trees whose words are those of a set
 module _ (xs : List Tree) (utf8 : Bool) (t : Terminator) (p : Pair) (regex : IsRegexOf xs utf8 t p) (q : Search)
     (asked : IsSearchOf xs utf8 q)
     (words : ℕ → Bool) (set : IsWordSet words) where
@@ -83,7 +83,7 @@ module _ (xs : List Tree) (utf8 : Bool) (t : Terminator) (p : Pair) (regex : IsR
   fits_query = record { within = asked.within; valid = asked.valid; utf8_trees = asked.utf8_trees }
 
   pub reach : (o : Option (ℕ × ℕ)) → scan f q ≡ found o → HasReach f q o
-  reach o is = scan_has_reach f q o (goes_up xs utf8 t p regex) regex.forward.sound asked.within is
+  reach o is = scan_has_reach f q o (goes_forward xs utf8 t p regex) regex.forward.sound asked.within is
 
   first_by_words : (o : Option (ℕ × ℕ)) (name : ℕ) → q.start ≤ q.end → start_name a q.anchored ≡ Some name → scan f q ≡ found o →
       IsFirstFound f q looks name o
@@ -96,8 +96,8 @@ module _ (xs : List Tree) (utf8 : Bool) (t : Terminator) (p : Pair) (regex : IsR
   all_count off = elim (cases_Bool utf8) [
     | inl on ↦ inr (λ k i span.
         let some : has_empty a ≡ true =
-        regex.up.empty.1 (k, span.tree, span.listed, empty_span looks q.haystack span.tree i i refl span.means) in
-        let differ : true ≡ false = sym (both_true p.forward.nfa.utf8 (has_empty a) (up_is_utf8 xs utf8 t p regex ∙ on) some) ∙ off in cc)
+        regex.is_forward.empty.1 (k, span.tree, span.listed, empty_span looks q.haystack span.tree i i refl span.means) in
+        let differ : true ≡ false = sym (both_true p.forward.nfa.utf8 (has_empty a) (forward_is_utf8 xs utf8 t p regex ∙ on) some) ∙ off in cc)
     | inr plain ↦ inl plain
   ]
 
@@ -121,7 +121,7 @@ module _ (xs : List Tree) (utf8 : Bool) (t : Terminator) (p : Pair) (regex : IsR
       firsts_at : (k : ℕ) (o : Option (ℕ × ℕ)) → q.start + k ≤ q.end → wanted k o → FirstsFrom (q.start + k) o
       firsts_at k o inside is =
           let at : place_of a.reverse (first_place a.reverse q.start q.end) k ≡ q.start + k =
-          place_up a.reverse q.start q.end k (goes_up xs utf8 t p regex) in
+          place_forward a.reverse q.start q.end k (goes_forward xs utf8 t p regex) in
           let n : ℕ = suc (last_start q.anchored (q.start + k) q.end) - (q.start + k) in
           let same : o ≡ first_of (flat_map offers (places_from (q.start + k) n)) =
           is ∙ ap (λ i. first (ends_from a text (i, name))) at ∙ finds.firsts (q.start + k) name (omega arith) inside named in
@@ -202,7 +202,7 @@ module _ (xs : List Tree) (utf8 : Bool) (t : Terminator) (p : Pair) (regex : IsR
       found_named o is =
           let first_there = first_by_words o name l named is in
           elim (cases_Bool f.between_characters) [
-            | inl on ↦ found_between (split_mode p.forward.nfa.utf8 (has_empty a) utf8 on (up_is_utf8 xs utf8 t p regex)) o first_there
+            | inl on ↦ found_between (split_mode p.forward.nfa.utf8 (has_empty a) utf8 on (forward_is_utf8 xs utf8 t p regex)) o first_there
             | inr off ↦ found_whole off o first_there
           ]
 

@@ -91,10 +91,10 @@ module _ (xs : List Tree) (utf8 : Bool) (t : Terminator) (p : Pair) (regex : IsR
           let at = starts_at q.anchored q.start q.end b.place b.starts in
           let low = at.from_s in let high = at.to_last in let last = one_start q.anchored q.start q.end is_y in omega arith
       known_by false false true is_x is_y is_z e =
-          let all = regex.up.always_anchored.0 ((Decides-eqb a.start_anchored a.start_unanchored).0 is_z) in
+          let all = regex.is_forward.always_anchored.0 ((Decides-eqb a.start_anchored a.start_unanchored).0 is_z) in
           let P : Bool → Type 0 = λ v. All (λ x. is_anchored_tree v x ≡ true) xs in
           let prefix : has_look (look_set_prefix b.span.tree) Start ≡ true =
-          listed_has (λ x. is_anchored_tree false x ≡ true) xs (subst P regex.reads_up all) c.1 b.span.tree b.span.listed in
+          listed_has (λ x. is_anchored_tree false x ≡ true) xs (subst P regex.reads_forward all) c.1 b.span.tree b.span.listed in
           let first : b.place ≡ 0 = (Decides-eqb b.place 0).0
           (prefix_sound looks q.haystack Start b.span.tree b.place c.0 b.span.means prefix) in
           let low = from in omega arith
@@ -187,8 +187,8 @@ module _ (xs : List Tree) (utf8 : Bool) (t : Terminator) (p : Pair) (regex : IsR
     quits_by_scan (quit c y) b x is e = let same : Err (Quit c y) ≡ Err (Quit b x) = sym (ap (join f r q) is) ∙ e in cc
     quits_by_scan (unsupported mode) b x is e = let differ = sym (ap (join f r q) is) ∙ e in cc
 
-    pub quits_upwards : (b x : ℕ) → joined p q ≡ Err (Quit b x) → scan f q ≡ quit b x
-    quits_upwards b x e = quits_by_scan (scan f q) b x refl e
+    pub quits_forward : (b x : ℕ) → joined p q ≡ Err (Quit b x) → scan f q ≡ quit b x
+    quits_forward b x e = quits_by_scan (scan f q) b x refl e
 
     refused_by_scan : (v : HalfAnswer) (mode : Anchored) → scan f q ≡ v → joined p q ≡ Err (UnsupportedAnchored mode) →
         scan f q ≡ unsupported mode
@@ -197,5 +197,5 @@ module _ (xs : List Tree) (utf8 : Bool) (t : Terminator) (p : Pair) (regex : IsR
     refused_by_scan (unsupported other) mode is e = let same : Err (UnsupportedAnchored other) ≡ Err (UnsupportedAnchored mode) =
         sym (ap (join f r q) is) ∙ e in cc
 
-    pub refused_upwards : (mode : Anchored) → joined p q ≡ Err (UnsupportedAnchored mode) → scan f q ≡ unsupported mode
-    refused_upwards mode e = refused_by_scan (scan f q) mode refl e
+    pub refused_forward : (mode : Anchored) → joined p q ≡ Err (UnsupportedAnchored mode) → scan f q ≡ unsupported mode
+    refused_forward mode e = refused_by_scan (scan f q) mode refl e

@@ -1,4 +1,4 @@
--- How a list of matches ends: with the last one, at a quit byte that is read upwards, or for want of memory.
+-- How a list of matches ends: with the last one, at a quit byte that is read forward, or for want of memory.
 use Rattle.std.proofs.Common.{◌≡◌, inl, inr, ℕ, ◌≤◌, ◌<◌, Bool, true, false, List, All, Option, Some, None, Result, Ok, Err, string_bytes, ◌++◌, true≢false, refl, sym, ap, ◌∙◌, subst, arith, if◌then◌else◌}
 use Rattle.std.specs.Prelude.{IfOk}
 use Rattle.std.specs.Borrow.{GName}
@@ -33,7 +33,7 @@ use Rattle.hirscan.proofs.BuiltLemmas.{built_regex}
 use Rattle.hirscan.proofs.CauseLemmas.{is_search, loops_all_read, span_starts}
 use Rattle.hirscan.proofs.HeadlineLemmas.{taken_are_all, taken_begin}
 use Rattle.hirscan.proofs.SearchLemmas.{asked_at, refuses_by_first}
-use Rattle.hirscan.proofs.SureLemmas.{RefusesFrom, asked_behind, never_gives_up, never_no_pair, quits_upwards, refusal_is_joined, refused_from, supported_up}
+use Rattle.hirscan.proofs.SureLemmas.{RefusesFrom, asked_behind, never_gives_up, never_no_pair, quits_forward, refusal_is_joined, refused_from, supported_forward}
 
 -- ---- what joined answers refuse
 abbrev is_told : MatchErrorKind → Bool
@@ -103,7 +103,7 @@ module _ (setup : Setup) (xs : List Tree) (h : List ℕ) (bytes : All (λ byte. 
       let told = scan_mode_told (reader p.forward) (search_at q k) m
       (refuses_by_first xs setup.settings.utf8 setup.settings.line_terminator p (built_regex xs (program_settings setup.settings) p built refl)
       (search_at q k) later m is) in
-      true≢false (sym (supported_up xs (program_settings setup.settings) p built (search_at q k)
+      true≢false (sym (supported_forward xs (program_settings setup.settings) p built (search_at q k)
       (mode_is_supported setup.anchored (starts_each_of (program_settings setup.settings).dfa))) ∙ told.2)
 
   may_end : (c : PairCache) (k : ℕ) (e : MatchErrorKind) → AnswersPair p c (search_at q k) (Err e) → MayEndList e
@@ -141,7 +141,7 @@ module _ (setup : Setup) (xs : List Tree) (h : List ℕ) (bytes : All (λ byte. 
     quits_there : (b x : ℕ) → e ≡ Quit b x → QuitsBehind setup xs h l.found b x
     quits_there b x is =
         let k = refused.0 in
-        let there = quits_upwards xs (program_settings setup.settings) p built refl (search_at q k) (asked_at xs setup.settings.utf8 q asked k)
+        let there = quits_forward xs (program_settings setup.settings) p built refl (search_at q k) (asked_at xs setup.settings.utf8 q asked k)
         (caches_of new) b x (subst (λ (v : MatchErrorKind). AnswersPair p (caches_of new) (search_at q k) (Err v)) is refused.2) in
         record {
           regex = p;

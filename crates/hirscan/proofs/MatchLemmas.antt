@@ -40,7 +40,7 @@ use Rattle.hirscan.proofs.EarliestLemmas.{scan_none}
 use Rattle.hirscan.proofs.EndLemmas.{both_true, AllCount, span_counts, last_within}
 use Rattle.hirscan.proofs.FirstEndLemmas.{start_has_tree}
 use Rattle.hirscan.proofs.ForwardLemmas.{fits_query, all_count}
-use Rattle.hirscan.proofs.RegexLemmas.{goes_up, up_ends_lines, place_up, trees_alike}
+use Rattle.hirscan.proofs.RegexLemmas.{goes_forward, forward_ends_lines, place_forward, trees_alike}
 use Rattle.hirscan.proofs.SearchLemmas.{found_is_answer, trees_tell}
 
 pub all_allowed : (n p : ℕ) → p < n → (allowed No n p ≡ true) × (allowed Yes n p ≡ true)
@@ -79,7 +79,7 @@ module _ (xs : List Tree) (utf8 : Bool) (t : Terminator) (p : Pair) (regex : IsR
 
   -- ---- the span of the nearest end, with words read as bytes
   spans : FindsSpans false xs p.forward.nfa
-  spans = let P : Bool → Type 0 = λ b. FindsSpans b xs p.forward.nfa in subst P regex.reads_up regex.up.spans
+  spans = let P : Bool → Type 0 = λ b. FindsSpans b xs p.forward.nfa in subst P regex.reads_forward regex.is_forward.spans
 
   is_read : IsRead text
   is_read = record { within = asked.within; bytes = asked.bytes; at_start = λ i. refl; at_end = λ i. refl }
@@ -107,7 +107,7 @@ module _ (xs : List Tree) (utf8 : Bool) (t : Terminator) (p : Pair) (regex : IsR
         span_of Yes q.start u.0 (omega arith) (omega arith) l (all_allowed (length xs) c.1 (slice_get_within xs c.1 u.0 u.1)).1 u.1 u.2
     by_mode (Pattern k) name named has =
         let here : start_of a k ≡ name = get_or_from_slice_get a.start_pattern k name 0 named in
-        let listed = start_has_tree regex.up_options xs p.forward.nfa regex.up k name named in
+        let listed = start_has_tree regex.forward_options xs p.forward.nfa regex.is_forward k name named in
         let P : ℕ → Type 0 = λ n. Has same_pair c (ends_from a text (q.start, n)) in
         let u = (spans.patterns k (get_or xs k empty) listed text q.start c l).0 (subst P (sym here) has) in
         let inside = slice_get_within xs k (get_or xs k empty) listed in
@@ -128,18 +128,18 @@ module _ (xs : List Tree) (utf8 : Bool) (t : Terminator) (p : Pair) (regex : IsR
       begun = let both = place in let low = both.0 in let high = both.1 in omega arith
 
       reach : HasReach f soonest (Some c)
-      reach = scan_has_reach f soonest (Some c) (goes_up xs utf8 t p regex) regex.forward.sound asked.within is
+      reach = scan_has_reach f soonest (Some c) (goes_forward xs utf8 t p regex) regex.forward.sound asked.within is
 
       nearest_has : (k name : ℕ) → k ≡ 0 → IsWanted f.kind true a.reverse (ends_of f soonest name k) (Some c) →
           Has same_pair c (ends_from a text (q.start, name))
       nearest_has k name none wanted =
           let at : place_of a.reverse (first_place a.reverse q.start q.end) 0 ≡ q.start + 0 =
-          place_up a.reverse q.start q.end 0 (goes_up xs utf8 t p regex) in
+          place_forward a.reverse q.start q.end 0 (goes_forward xs utf8 t p regex) in
           let here : q.start + 0 ≡ q.start = omega arith in
           let same : ends_of f soonest name k ≡ ends_from a text (q.start, name) =
           ap (ends_of f soonest name) none
           ∙ ap (λ j. ends_from a (span p.forward.nfa.terminator q.haystack q.start q.end) (j, name)) (at ∙ here)
-          ∙ ap (λ z. ends_from a (span z q.haystack q.start q.end) (q.start, name)) (up_ends_lines xs utf8 t p regex) in
+          ∙ ap (λ z. ends_from a (span z q.haystack q.start q.end) (q.start, name)) (forward_ends_lines xs utf8 t p regex) in
           let P : List (ℕ × ℕ) → Type 0 = λ l. Has same_pair c l in
           subst P same (best_has (ends_of f soonest name k) c.0 c wanted.0)
 

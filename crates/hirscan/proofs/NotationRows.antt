@@ -13,7 +13,7 @@ use Rattle.hirscan.specs.declared.words.LineWord.{LineWord}
 use Rattle.hirscan.specs.declared.words.LineWord.TheVariants.{Line, Capacity, Quit, Classes, Shrink, Look}
 use Rattle.hirscan.specs.Words.{words, class_ranges, scalar_ranges}
 use Rattle.hirscan.specs.Readers.{number, bound, hex_bytes, item_ends, hex_ends}
-use Rattle.hirscan.specs.Takes.{Standing, at_first}
+use Rattle.hirscan.specs.Takes.{HeadValue, at_first}
 use Rattle.hirscan.specs.LineFault.{fault, setup_after, new_tree}
 
 -- numbers: no leading zero, no sign, no more than 32 bits
@@ -86,10 +86,10 @@ unfolding scalar_ranges
 beside_surrogates = refl
 
 -- where these trees are on the stack
-abbrev on_stack : List Tree → Standing
+abbrev on_stack : List Tree → HeadValue
 on_stack trees = record { setup = at_first.setup; stack = trees; patterns = [] }
 
-abbrev line : List ℕ → Standing → Option FaultKind
+abbrev line : List ℕ → HeadValue → Option FaultKind
 line text at = fault (words text) at
 
 unknown : line (codes "star") at_first ≡ Some UnknownWord

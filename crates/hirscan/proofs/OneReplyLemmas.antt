@@ -9,12 +9,12 @@ use Rattle.hirscan.specs.declared.program.Ending.TheVariants.{Listed, Quit, Refu
 use Rattle.hirscan.specs.Reads.{Reads}
 use Rattle.hirscan.specs.Refusals.{refusal}
 use Rattle.hirscan.specs.Reply.{IsRefused, too_long, faulty, unfit, Asks, AreAnswers, IsSearchReply, too_large, listed, quits, IsReply, refused, searched, refusal_line, span_lines}
-use Rattle.hirscan.specs.Takes.{Standing, at_first}
+use Rattle.hirscan.specs.Takes.{HeadValue, at_first}
 use Rattle.hirscan.specs.Tells.{kind_text}
 use Rattle.hirscan.proofs.ReadsLemmas.{reads_once, reads_no_fault, fault_once}
 
 -- ---- refusals
-abbrev cause_at : List ℕ → Standing → ℕ → Option (List ℕ)
+abbrev cause_at : List ℕ → HeadValue → ℕ → Option (List ℕ)
 cause_at input at n = refusal at.setup at.patterns (drop n input)
 
 same_cause : (o : Option (List ℕ)) (c d : List ℕ) → o ≡ Some c → o ≡ Some d → c ≡ d
@@ -23,7 +23,7 @@ same_cause o c d e f = let both : Some c ≡ Some d = sym e ∙ f in cc
 no_cause : (o : Option (List ℕ)) (c : List ℕ) → o ≡ Some c → o ≡ None → ⊥
 no_cause o c e f = let never : true ≡ false = cc in grind (arith, never)
 
-cause_there : (input : List ℕ) (at there : Standing) (n m : ℕ) (o : Option (List ℕ)) → Reads input at_first at n → Reads input at_first there m →
+cause_there : (input : List ℕ) (at there : HeadValue) (n m : ℕ) (o : Option (List ℕ)) → Reads input at_first at n → Reads input at_first there m →
     cause_at input there m ≡ o → cause_at input at n ≡ o
 cause_there input at there n m o read again is =
     let same = reads_once input at_first at there n m read again in

@@ -16,13 +16,13 @@ use Rattle.regex_pair.specs.Pairs.{Pair}
 use Rattle.regex_pair.proofs.ForCallers.{joined_has_reach, joined_alike, told_alike}
 use Rattle.hirscan.specs.Regexes.{IsRegexOf, IsSearchOf}
 use Rattle.hirscan.specs.ReachLaws.{IsAnswerReach}
-use Rattle.hirscan.proofs.RegexLemmas.{goes_up}
+use Rattle.hirscan.proofs.RegexLemmas.{goes_forward}
 use Rattle.hirscan.proofs.SearchLemmas.{answer_is_of_trees}
 
 pub answer_reaches : (xs : List Tree) (utf8 : Bool) (t : Terminator) (p : Pair) → IsRegexOf xs utf8 t p → (q : Search) →
     IsSearchOf xs utf8 q → All LoopsRead xs → (o : Option Found) → joined p q ≡ Ok o → (end : ℕ) × IsAnswerReach xs utf8 t p q o end
 answer_reaches xs utf8 t p regex q asked loops o is =
-    let reach = joined_has_reach p q o (goes_up xs utf8 t p regex) asked.within is in (
+    let reach = joined_has_reach p q o (goes_forward xs utf8 t p regex) asked.within is in (
       reach.0,
       record {
         read = reach.1;

@@ -76,7 +76,7 @@ module _ (xs : List Tree) (s : Settings) where
       (sym (same_refusal (InsufficientCacheCapacity least given) e is) ∙ (λ i. InsufficientCacheCapacity (l i) (g i)))
   by_tests reverse n made false skips given least d w k g l false is_small e is = absurd (no_refusal d e is)
 
-  module _ (n m : Nfa) (up : IsCompiled (compile_options false s) xs n) (down : IsCompiled (compile_options true s) xs m) (e : BuildError) where
+  module _ (n m : Nfa) (up : IsCompiled (compile_options false s) xs n) (is_reverse : IsCompiled (compile_options true s) xs m) (e : BuildError) where
     by_half : (x y : Result Dfa BuildError) → (x ≡ err_dfa e → RefusesBuild xs s e) → (y ≡ err_dfa e → RefusesBuild xs s e) →
         both_of x y ≡ err_pair e → RefusesBuild xs s e
     by_half (Ok f) (Ok r) first second is = absurd (no_pair_refusal (record { forward = f; reverse = r }) e is)
@@ -89,9 +89,9 @@ module _ (xs : List Tree) (s : Settings) where
         (λ first. by_tests false n up (is_unsupported n.automaton (word_boundary_of s.dfa) (by_hand s.dfa)) (skips_check s.dfa)
         (capacity_of s.dfa) (least_capacity (measures_with n s.dfa)) (dfa_of n s.dfa) (unsupported_are xs s false n up s.dfa) refl refl refl
         (is_too_small n s.dfa) refl e first)
-        (λ second. by_tests true m down (is_unsupported m.automaton (word_boundary_of s.dfa) (by_hand s.dfa)) (skips_check s.dfa)
+        (λ second. by_tests true m is_reverse (is_unsupported m.automaton (word_boundary_of s.dfa) (by_hand s.dfa)) (skips_check s.dfa)
         (capacity_of s.dfa) (least_capacity (measures_with m (changed_by s.dfa back_options))) (dfa_of m (changed_by s.dfa back_options))
-        (unsupported_are xs s true m down s.dfa) refl refl (ap least_capacity (same_measures m s.dfa))
+        (unsupported_are xs s true m is_reverse s.dfa) refl refl (ap least_capacity (same_measures m s.dfa))
         (is_too_small m (changed_by s.dfa back_options)) refl e second) is
 
     pub build_refused : (o : Options) → err_pair e ≡ pair_built n m o → o ≡ s.dfa → RefusesBuild xs s e

@@ -42,14 +42,14 @@ if_some : (b : Bool) (x : ℕ × ℕ) (l ends : List (ℕ × ℕ)) → (HasHere 
 if_some true x l ends on there = on there
 if_some false x l ends on there = none_in same_pair x _ there
 
-of_places : (down : Bool) (counted : ℕ → Bool) (ends : List (ℕ × ℕ)) (n i : ℕ) (x : ℕ × ℕ) → HasHere x (ends_by_place down counted ends i n) →
+of_places : (is_reverse : Bool) (counted : ℕ → Bool) (ends : List (ℕ × ℕ)) (n i : ℕ) (x : ℕ × ℕ) → HasHere x (ends_by_place is_reverse counted ends i n) →
     HasHere x ends
-of_places down counted ends zero i x there = none_in same_pair x _ there
-of_places down counted ends (suc n) i x there =
+of_places is_reverse counted ends zero i x there = none_in same_pair x _ there
+of_places is_reverse counted ends (suc n) i x there =
     of_append same_pair pairs_equal (λ y. HasHere y ends) (ends_at counted ends i)
-    (ends_by_place down counted ends (place_of down i 1) n)
+    (ends_by_place is_reverse counted ends (place_of is_reverse i 1) n)
     (λ y here. if_some (counted i) y (filter (λ z. nat_eq z.0 i) ends) ends (of_filter (λ z. nat_eq z.0 i) y ends) here)
-    (λ y on. of_places down counted ends n (place_of down i 1) y on)
+    (λ y on. of_places is_reverse counted ends n (place_of is_reverse i 1) y on)
     x there
 
 -- ---- refused in its mode, a walk tells nothing

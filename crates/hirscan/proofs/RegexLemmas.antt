@@ -1,4 +1,4 @@
--- What the definition of two automata that search as one gives at once: their directions, and that where a search upwards found
+-- What the definition of two automata that search as one gives at once: their directions, and that where a search forward found
 -- something, words of characters are read as those of bytes as far as it read.
 use Rattle.std.proofs.Common.{◌≡◌, ℕ, zero, suc, ◌+◌, ◌-◌, ◌<◌, ◌≤◌, Bool, true, false, ◌&&◌, List, slice_get, Option, Some, None, All, refl, sym, ap, ◌∙◌, subst, inl, inr, ⊎_elim, arith}
 use Rattle.std.specs.Prelude.{IfSome}
@@ -46,17 +46,17 @@ pub begins : (b : Bool) (s e : ℕ) → b ≡ false → first_place b s e ≡ s
 begins false s e up = refl
 begins true s e up = cc
 
-pub begins_down : (b : Bool) (s e : ℕ) → b ≡ true → first_place b s e ≡ e
-begins_down true s e down = refl
-begins_down false s e down = cc
+pub begins_reverse : (b : Bool) (s e : ℕ) → b ≡ true → first_place b s e ≡ e
+begins_reverse true s e is_reverse = refl
+begins_reverse false s e is_reverse = cc
 
-pub place_up : (b : Bool) (s e k : ℕ) → b ≡ false → place_of b (first_place b s e) k ≡ s + k
-place_up false s e k up = refl
-place_up true s e k up = cc
+pub place_forward : (b : Bool) (s e k : ℕ) → b ≡ false → place_of b (first_place b s e) k ≡ s + k
+place_forward false s e k up = refl
+place_forward true s e k up = cc
 
-pub place_down : (b : Bool) (s e : ℕ) → b ≡ true → place_of b (first_place b s e) 0 ≡ e
-place_down true s e down = omega arith
-place_down false s e down = cc
+pub place_reverse : (b : Bool) (s e : ℕ) → b ≡ true → place_of b (first_place b s e) 0 ≡ e
+place_reverse true s e is_reverse = omega arith
+place_reverse false s e is_reverse = cc
 
 passed_alike : (b : Bool) (t : Terminator) (looks : Looks) (h : List ℕ) (s e : ℕ) (l : Look) (k : ℕ) → b ≡ false →
     holds_ascii t h l (s + k) ≡ looks l (s + k) →
@@ -69,30 +69,30 @@ byte_low : (b : ℕ) (o : Option ℕ) → o ≡ Some b → b < 128 → IfSome o 
 byte_low b o is low = let P : Option ℕ → Type 0 = λ x. IfSome x (λ c. c < 128) in subst P (sym is) low
 
 module _ (xs : List Tree) (utf8 : Bool) (t : Terminator) (p : Pair) (regex : IsRegexOf xs utf8 t p) where
-  pub goes_up : p.forward.nfa.automaton.reverse ≡ false
-  goes_up = regex.up.reverse ∙ regex.reads_up
+  pub goes_forward : p.forward.nfa.automaton.reverse ≡ false
+  goes_forward = regex.is_forward.reverse ∙ regex.reads_forward
 
-  pub goes_down : p.reverse.nfa.automaton.reverse ≡ true
-  goes_down = regex.down.reverse ∙ regex.reads_down
+  pub goes_reverse : p.reverse.nfa.automaton.reverse ≡ true
+  goes_reverse = regex.is_reverse.reverse ∙ regex.reads_reverse
 
-  pub up_ends_lines : p.forward.nfa.terminator ≡ t
-  up_ends_lines = regex.up.terminator ∙ regex.up_terminator
+  pub forward_ends_lines : p.forward.nfa.terminator ≡ t
+  forward_ends_lines = regex.is_forward.terminator ∙ regex.forward_terminator
 
-  pub down_ends_lines : p.reverse.nfa.terminator ≡ t
-  down_ends_lines = regex.down.terminator ∙ regex.down_terminator
+  pub reverse_ends_lines : p.reverse.nfa.terminator ≡ t
+  reverse_ends_lines = regex.is_reverse.terminator ∙ regex.reverse_terminator
 
-  pub up_is_utf8 : p.forward.nfa.utf8 ≡ utf8
-  up_is_utf8 = regex.up.utf8 ∙ regex.up_utf8
+  pub forward_is_utf8 : p.forward.nfa.utf8 ≡ utf8
+  forward_is_utf8 = regex.is_forward.utf8 ∙ regex.forward_utf8
 
-  pub down_is_utf8 : p.reverse.nfa.utf8 ≡ utf8
-  down_is_utf8 = regex.down.utf8 ∙ regex.down_utf8
+  pub reverse_is_utf8 : p.reverse.nfa.utf8 ≡ utf8
+  reverse_is_utf8 = regex.is_reverse.utf8 ∙ regex.reverse_utf8
 
   -- a look that a tree uses is one of a state
   pub used_is_there : (k : ℕ) (x : Tree) (l : Look) → slice_get xs k ≡ Some x → has_look (looks_used x) l ≡ true →
       has_look (looks_of p.forward.nfa.automaton.states) l ≡ true
   used_is_there k x l listed used =
-      let same : turned (reverse_of regex.up_options) l ≡ l = ap (λ b. turned b l) regex.reads_up in
-      (looks_are_used regex.up_options xs p.forward.nfa regex.up l).1 (k, x, listed, ap (has_look (looks_used x)) same ∙ used)
+      let same : turned (reverse_of regex.forward_options) l ≡ l = ap (λ b. turned b l) regex.reads_forward in
+      (looks_are_used regex.forward_options xs p.forward.nfa regex.is_forward l).1 (k, x, listed, ap (has_look (looks_used x)) same ∙ used)
 
   -- where the automaton has a look of words of characters, a byte above 7F is a quit byte
   high_quits : (l : Look) → has_look (looks_of p.forward.nfa.automaton.states) l ≡ true → is_word_unicode l ≡ true → (b : ℕ) → 128 ≤ b →
@@ -140,9 +140,9 @@ module _ (xs : List Tree) (utf8 : Bool) (t : Terminator) (p : Pair) (regex : IsR
       pub reads_alike : (e : ℕ) → ReadsAlike (reader p.forward) (holds words t h) h s e (first_place p.forward.nfa.automaton.reverse s e)
           (end - first_place p.forward.nfa.automaton.reverse s e)
       reads_alike e l k there below =
-          let at = begins p.forward.nfa.automaton.reverse s e goes_up in
-          passed_alike p.forward.nfa.automaton.reverse p.forward.nfa.terminator (holds words t h) h s e l k goes_up
-          (ap (λ ends. holds_ascii ends h l (s + k)) up_ends_lines ∙ words_alike l there (s + k) (omega arith) (omega arith))
+          let at = begins p.forward.nfa.automaton.reverse s e goes_forward in
+          passed_alike p.forward.nfa.automaton.reverse p.forward.nfa.terminator (holds words t h) h s e l k goes_forward
+          (ap (λ ends. holds_ascii ends h l (s + k)) forward_ends_lines ∙ words_alike l there (s + k) (omega arith) (omega arith))
 
       -- and the trees' looks are, up to a place before there
       pub trees_alike : (j : ℕ) → j < end → (k : ℕ) (x : Tree) → slice_get xs k ≡ Some x →

@@ -8,7 +8,7 @@ use Rattle.hirscan.specs.declared.line.Setup.{Setup}
 use Rattle.hirscan.specs.declared.program.Ending.{Ending}
 use Rattle.hirscan.specs.declared.program.Ending.TheVariants.{Refused}
 use Rattle.hirscan.specs.declared.reply.Reply.{Reply}
-use Rattle.hirscan.specs.Takes.{Standing, Takes, Sets, Replaces, at_first, utf8_line, line_line, two_bytes_line, capacity_line, quit_line, classes_line, shrink_line, anchored_line, span_line, empty_line, lit_line, bytes_line, chars_line, look_line, rep_line, cat_line, alt_line, pattern_line}
+use Rattle.hirscan.specs.Takes.{HeadValue, Takes, Sets, Replaces, at_first, utf8_line, line_line, two_bytes_line, capacity_line, quit_line, classes_line, shrink_line, anchored_line, span_line, empty_line, lit_line, bytes_line, chars_line, look_line, rep_line, cat_line, alt_line, pattern_line}
 use Rattle.hirscan.specs.Reads.{Reads, reads_find, reads_line}
 use Rattle.hirscan.specs.Refusals.{refusal}
 use Rattle.hirscan.specs.Reply.{IsRefused, too_long, faulty, unfit, IsReply, refused, searched, AnswersHead, refuses, searches, IsSearchReply, refusal_line}
@@ -17,23 +17,23 @@ use Rattle.hirscan.proofs.SliceLemmas.{rest_of_slice}
 -- ---- heads
 
 -- a head is no longer than its text
-pub head_len_le : (text : List ℕ) (at found : Standing) (n : ℕ) → Reads text at found n → n ≤ length text
+pub head_len_le : (text : List ℕ) (at found : HeadValue) (n : ℕ) → Reads text at found n → n ≤ length text
 head_len_le _ _ _ _ (reads_find text line rest at found n parts one ends same len) =
     omega (arith, ap length parts, length-append line (10 ∷ rest))
 head_len_le _ _ _ _ (reads_line text line rest at after found n m parts one takes others len) =
     omega (arith, ap length parts, length-append line (10 ∷ rest), head_len_le rest after found m others)
 
 -- a line takes a pattern at most
-abbrev IsOneMore : Standing → Standing → Type 0
+abbrev IsOneMore : HeadValue → HeadValue → Type 0
 IsOneMore before after = length after.patterns ≤ length before.patterns + 1
 
-sets_none : (before after : Standing) (new : Setup) → Sets before after new → IsOneMore before after
+sets_none : (before after : HeadValue) (new : Setup) → Sets before after new → IsOneMore before after
 sets_none before after new s = omega (arith, ap length s.patterns_stay)
 
-replaces_none : (before after : Standing) (top : List Tree) (new : Tree) → Replaces before after top new → IsOneMore before after
+replaces_none : (before after : HeadValue) (top : List Tree) (new : Tree) → Replaces before after top new → IsOneMore before after
 replaces_none before after top new r = omega (arith, ap length r.patterns_stay)
 
-takes_one : (ws : List (List ℕ)) (before after : Standing) → Takes ws before after → IsOneMore before after
+takes_one : (ws : List (List ℕ)) (before after : HeadValue) → Takes ws before after → IsOneMore before after
 takes_one ws before after (utf8_line w on is says s) = sets_none before after _ s
 takes_one ws before after (line_line w b is says s) = sets_none before after _ s
 takes_one ws before after (two_bytes_line v w b c is first second s) = sets_none before after _ s
@@ -54,7 +54,7 @@ takes_one ws before after (alt_line w n parts is says count r) = replaces_none b
 takes_one ws before after (pattern_line is t) = omega (arith, ap length t.patterns_are, length-append before.patterns (t.tree ∷ []))
 
 -- so a head has no more of them than bytes
-pub few_patterns : (text : List ℕ) (at found : Standing) (n : ℕ) → Reads text at found n → length found.patterns ≤ length at.patterns + n
+pub few_patterns : (text : List ℕ) (at found : HeadValue) (n : ℕ) → Reads text at found n → length found.patterns ≤ length at.patterns + n
 few_patterns _ _ _ _ (reads_find text line rest at found n parts one ends same len) = omega (arith, ap (λ s. length s.patterns) same)
 few_patterns _ _ _ _ (reads_line text line rest at after found n m parts one takes others len) =
     omega (arith, takes_one _ at after takes, few_patterns rest after found m others)
@@ -67,7 +67,7 @@ pub reply_of_refusal : (r : Result Reply AllocError) (input cause : List ℕ) �
 reply_of_refusal (Ok x) input cause p q applies = refused cause applies p q
 reply_of_refusal (Err e) input cause p q applies = tt
 
-reply_of_answer : (input : List ℕ) (at : Standing) (n : ℕ) (e : Ending) (t : List ℕ) → length input ≤ 2 ^ 30 → Reads input at_first at n →
+reply_of_answer : (input : List ℕ) (at : HeadValue) (n : ℕ) (e : Ending) (t : List ℕ) → length input ≤ 2 ^ 30 → Reads input at_first at n →
     AnswersHead at.setup at.patterns (drop n input) e t → IsReply input e t
 reply_of_answer input at n e t short reads (refuses cause found ends is) = refused cause (unfit at n short reads found) ends is
 reply_of_answer input at n e t short reads (searches none reply) =
@@ -75,7 +75,7 @@ reply_of_answer input at n e t short reads (searches none reply) =
     (record { at = at; len = n; short = short; reads = reads; setup_is = refl; patterns_are = refl; haystack_is = refl; fits = none }) reply
 
 -- the reply to a haystack, handed on as that to the whole input
-pub reply_of_search : (r : Result Reply AllocError) (input h : List ℕ) (at : Standing) (n : ℕ) → length input ≤ 2 ^ 30 → Reads input at_first at n →
+pub reply_of_search : (r : Result Reply AllocError) (input h : List ℕ) (at : HeadValue) (n : ℕ) → length input ≤ 2 ^ 30 → Reads input at_first at n →
     h ≡ take (length input - n) (drop n input) → IfOk r (λ x. AnswersHead at.setup at.patterns h x.ending (string_bytes x.text)) →
     IfOk r (λ x. IsReply input x.ending (string_bytes x.text))
 reply_of_search (Ok x) input h at n short reads e answer =

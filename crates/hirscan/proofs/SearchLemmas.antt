@@ -33,7 +33,7 @@ use Rattle.hirscan.proofs.AnswerLemmas.{answers_within}
 use Rattle.hirscan.proofs.EndLemmas.{Tells, HasEnd}
 use Rattle.hirscan.proofs.FirstEndLemmas.{FindsFirsts, trees_firsts}
 use Rattle.hirscan.proofs.ForwardLemmas.{fits_query, scan_has_end}
-use Rattle.hirscan.proofs.JoinLemmas.{found_by, joined_answers, joined_finds, is_a_pair, quits_upwards, refused_upwards}
+use Rattle.hirscan.proofs.JoinLemmas.{found_by, joined_answers, joined_finds, is_a_pair, quits_forward, refused_forward}
 use Rattle.hirscan.proofs.LooseEndLemmas.{HasNoneCounted, IsOfFirstPattern, loose_offers, loosely_told, loose_firsts}
 use Rattle.hirscan.proofs.SpanChoiceLemmas.{HasNoChoice, IsFirstChoice, offers, choices_told}
 
@@ -73,15 +73,15 @@ module _ (xs : List Tree) (utf8 : Bool) (t : Terminator) (p : Pair) (regex : IsR
 
   -- ---- whatever the loops read
   abbrev loosely : ℕ → List (ℕ × ℕ)
-  loosely = loose_offers regex.up_options xs p.forward.nfa regex.up regex.reads_up looks q.haystack q.start q.end is_read utf8 q.anchored
+  loosely = loose_offers regex.forward_options xs p.forward.nfa regex.is_forward regex.reads_forward looks q.haystack q.start q.end is_read utf8 q.anchored
 
   loose_tells : Tells asks loosely (HasNoneCounted asks) (IsOfFirstPattern asks)
   loose_tells =
-      loosely_told regex.up_options xs p.forward.nfa regex.up regex.reads_up looks q.haystack q.start q.end is_read utf8 q.anchored
+      loosely_told regex.forward_options xs p.forward.nfa regex.is_forward regex.reads_forward looks q.haystack q.start q.end is_read utf8 q.anchored
 
   loose_finds : FindsFirsts p.forward.nfa.automaton (read_by looks q.haystack q.start q.end) q.anchored loosely
   loose_finds =
-      loose_firsts regex.up_options xs p.forward.nfa regex.up regex.reads_up looks q.haystack q.start q.end is_read utf8 q.anchored
+      loose_firsts regex.forward_options xs p.forward.nfa regex.is_forward regex.reads_forward looks q.haystack q.start q.end is_read utf8 q.anchored
 
   pub answers_loosely : (o : Option Found) → joined p q ≡ Ok o → IsLooseAnswer asks q.start o
   answers_loosely o e =
@@ -95,11 +95,11 @@ module _ (xs : List Tree) (utf8 : Bool) (t : Terminator) (p : Pair) (regex : IsR
       (IsOfFirstPattern asks) loose_tells loose_finds e
 
   pub quit_by_first : (b x : ℕ) → joined p q ≡ Err (Quit b x) → scan (reader p.forward) q ≡ quit b x
-  quit_by_first b x e = quits_upwards xs utf8 t p regex q asked words set loosely (HasNoneCounted asks)
+  quit_by_first b x e = quits_forward xs utf8 t p regex q asked words set loosely (HasNoneCounted asks)
       (IsOfFirstPattern asks) loose_tells loose_finds b x e
 
   pub refused_by_first : (mode : Anchored) → joined p q ≡ Err (UnsupportedAnchored mode) → scan (reader p.forward) q ≡ unsupported mode
-  refused_by_first mode e = refused_upwards xs utf8 t p regex q asked words set loosely (HasNoneCounted asks)
+  refused_by_first mode e = refused_forward xs utf8 t p regex q asked words set loosely (HasNoneCounted asks)
       (IsOfFirstPattern asks) loose_tells loose_finds mode e
 
   pub answers_near : is_supported (reader p.forward).starts_for_each_pattern q.anchored ≡ true →
@@ -119,7 +119,7 @@ module _ (xs : List Tree) (utf8 : Bool) (t : Terminator) (p : Pair) (regex : IsR
     trees_find : FindsFirsts p.forward.nfa.automaton (read_by looks q.haystack q.start q.end) q.anchored
         (offers asks (fits_query xs utf8 t p regex q asked words set) loops)
     trees_find =
-        trees_firsts regex.up_options xs p.forward.nfa regex.up regex.reads_up loops looks q.haystack q.start q.end is_read q.anchored
+        trees_firsts regex.forward_options xs p.forward.nfa regex.is_forward regex.reads_forward loops looks q.haystack q.start q.end is_read q.anchored
 
     pub answer_is_of_trees : (o : Option Found) → joined p q ≡ Ok o → o ≡ answer_from asks q.start
     answer_is_of_trees o e =

@@ -4,7 +4,7 @@ use Rattle.std.proofs.lemmas.Bool.{cases_lt}
 use Rattle.hir_core.specs.Tree.{Tree}
 use Rattle.hirscan.specs.declared.fault.FaultKind.{FaultKind}
 use Rattle.hirscan.specs.declared.line.Setup.{Setup}
-use Rattle.hirscan.specs.Takes.{Standing, at_first}
+use Rattle.hirscan.specs.Takes.{HeadValue, at_first}
 use Rattle.hirscan.specs.Reads.{Reads, IsFaultAt}
 use Rattle.hirscan.specs.Refusals.{refusal}
 use Rattle.hirscan.specs.Reply.{IsRefused, too_long, faulty, unfit, Asks}
@@ -14,7 +14,7 @@ abbrev IsDecided : List ℕ → Type 0
 IsDecided input = ((cause : List ℕ) × IsRefused input cause) ⊎ ((setup : Setup) × (xs : List Tree) × (h : List ℕ) × Asks input setup xs h)
 
 module _ (input : List ℕ) where
-  by_cause : (at : Standing) (n : ℕ) → length input ≤ 2 ^ 30 → Reads input at_first at n → (o : Option (List ℕ)) →
+  by_cause : (at : HeadValue) (n : ℕ) → length input ≤ 2 ^ 30 → Reads input at_first at n → (o : Option (List ℕ)) →
       refusal at.setup at.patterns (drop n input) ≡ o → IsDecided input
   by_cause at n short read (Some cause) found = inl (cause, unfit at n short read found)
   by_cause at n short read None none = inr (
@@ -34,7 +34,7 @@ module _ (input : List ℕ) where
   )
 
   by_head : length input ≤ 2 ^ 30 →
-      ((there : Standing) × (n : ℕ) × Reads input at_first there n) ⊎ ((k : ℕ) × (kind : FaultKind) × IsFaultAt input at_first k kind) →
+      ((there : HeadValue) × (n : ℕ) × Reads input at_first there n) ⊎ ((k : ℕ) × (kind : FaultKind) × IsFaultAt input at_first k kind) →
       IsDecided input
   by_head short (inl r) = by_cause r.0 r.1 short r.2 (refusal r.0.setup r.0.patterns (drop r.1 input)) refl
   by_head short (inr f) = inl (_, faulty f.0 f.1 short f.2 refl)

@@ -8,13 +8,13 @@ use Rattle.hirscan.specs.declared.fault.FaultKind.{FaultKind}
 use Rattle.hirscan.specs.declared.fault.FaultKind.TheVariants.{SettingAfterNode, WrongWordCount}
 use Rattle.hirscan.specs.declared.words.LineWord.{LineWord}
 use Rattle.hirscan.specs.declared.words.LineWord.TheVariants.{Utf8, Line, Capacity, Quit, Classes, Shrink, Anchored, Span, Empty, Lit, Bytes, Chars, Look, Rep, Cat, Alt, Pattern, Find}
-use Rattle.hirscan.specs.Takes.{Standing}
+use Rattle.hirscan.specs.Takes.{HeadValue}
 use Rattle.hirscan.specs.LineFault.{first_of, when, known_fault, is_setting_after_node, is_word_count, is_class, left_fault, after}
 use Rattle.hirscan.specs.declared.fault.LineFault.{LineFault}
 use Rattle.hirscan.specs.declared.line.Step.{Step}
 use Rattle.hirscan.specs.Tells.{texts, TellsLineFault, IsDone, step_after}
 
-pub known_fault_setting : (k : LineWord) (args : List (List ℕ)) (at : Standing) → is_setting_after_node k at ≡ true
+pub known_fault_setting : (k : LineWord) (args : List (List ℕ)) (at : HeadValue) → is_setting_after_node k at ≡ true
     → known_fault k args at ≡ Some SettingAfterNode
 known_fault_setting k args at e = rw e refl
 
@@ -64,13 +64,13 @@ few Pattern n h c = let e = eqb-true n 0 c in omega arith
 few Find n h c = let e = eqb-true n 0 c in omega arith
 
 -- what is told of a line that may stand there and has as many words as it may
-left_fault_told : (r : Result Step LineFault) (k : LineWord) (told args : List (List ℕ)) (at : Standing) → told ≡ args
+left_fault_told : (r : Result Step LineFault) (k : LineWord) (told args : List (List ℕ)) (at : HeadValue) → told ≡ args
     → left_fault k args at ≡ known_fault k args at → IfErr r (λ e. TellsLineFault (left_fault k told at) e)
     → IfErr r (λ e. TellsLineFault (known_fault k args at) e)
 left_fault_told r k told args at e f h =
     subst (λ (found : Option FaultKind). IfErr r (λ x. TellsLineFault found x)) (ap (λ ws. left_fault k ws at) e ∙ f) h
 
-done_told : (r : Result Step LineFault) (k : LineWord) (told args : List (List ℕ)) (at now : Standing) → told ≡ args
+done_told : (r : Result Step LineFault) (k : LineWord) (told args : List (List ℕ)) (at now : HeadValue) → told ≡ args
     → left_fault k args at ≡ known_fault k args at → IfOk r (λ step. IsDone k told at now × (step ≡ step_after k))
     → IfOk r (λ step. (known_fault k args at ≡ None) × (now ≡ after k args at) × (step ≡ step_after k))
 done_told (Ok step) k told args at now e f h =
@@ -88,22 +88,22 @@ module _ (k : LineWord) (first : List (Bor (List ℕ))) (args : List (List ℕ))
   all_first : is_class k ≡ false → is_word_count k (length first) ≡ true → texts first ≡ args
   all_first h c = are ∙ take_all 4 args (few k (length args) h (sym counted ∙ c))
 
-  pub known_fault_count : (at : Standing) → is_setting_after_node k at ≡ false → is_word_count k (length first) ≡ false
+  pub known_fault_count : (at : HeadValue) → is_setting_after_node k at ≡ false → is_word_count k (length first) ≡ false
       → known_fault k args at ≡ Some WrongWordCount
   known_fault_count at e f = let g = sym counted ∙ f in rw (e, g) refl
 
-  known_fault_left : (at : Standing) → is_setting_after_node k at ≡ false → is_word_count k (length first) ≡ true
+  known_fault_left : (at : HeadValue) → is_setting_after_node k at ≡ false → is_word_count k (length first) ≡ true
       → left_fault k args at ≡ known_fault k args at
   known_fault_left at e f = let g = sym counted ∙ f in rw (e, g) refl
 
-  module _ (r : Result Step LineFault) (others : List (Bor (List ℕ))) (same : others ≡ first) (at : Standing)
+  module _ (r : Result Step LineFault) (others : List (Bor (List ℕ))) (same : others ≡ first) (at : HeadValue)
       (settable : is_setting_after_node k at ≡ false) (many : is_word_count k (length first) ≡ true) (other : is_class k ≡ false) where
     pub fault_of_first : IfErr r (λ e. TellsLineFault (left_fault k (texts others) at) e)
         → IfErr r (λ e. TellsLineFault (known_fault k args at) e)
     fault_of_first h =
         left_fault_told r k (texts others) args at (ap texts same ∙ all_first other many) (known_fault_left at settable many) h
 
-    pub done_by_first : (now : Standing) → IfOk r (λ step. IsDone k (texts others) at now × (step ≡ step_after k))
+    pub done_by_first : (now : HeadValue) → IfOk r (λ step. IsDone k (texts others) at now × (step ≡ step_after k))
         → IfOk r (λ step. (known_fault k args at ≡ None) × (now ≡ after k args at) × (step ≡ step_after k))
     done_by_first now h =
         done_told r k (texts others) args at now (ap texts same ∙ all_first other many) (known_fault_left at settable many) h

@@ -121,40 +121,40 @@ module _ (xs : List Tree) (s : Settings) (p : Pair) (made : IsBuilt xs s p) wher
   reverse_clears : clears_of s.dfa ≡ None → clears_of p.reverse.options ≡ None
   reverse_clears none = ap (λ (d : Dfa). clears_of d.options) (reverse_is xs s p made) ∙ none
 
-  never_up : clears_of s.dfa ≡ None → (c : PairCache) (q : Search) (x : ℕ) → GivesUp p.forward c.forward q x → ⊥
-  never_up none c q x gave = never_among p.forward c.forward (forward_clears none) q x (passes_of (reader p.forward) q) gave
+  never_forward : clears_of s.dfa ≡ None → (c : PairCache) (q : Search) (x : ℕ) → GivesUp p.forward c.forward q x → ⊥
+  never_forward none c q x gave = never_among p.forward c.forward (forward_clears none) q x (passes_of (reader p.forward) q) gave
 
   pub never_gives_up : clears_of s.dfa ≡ None → (c : PairCache) (q : Search) (x : ℕ) → PairGivesUp p c q x → ⊥
-  never_gives_up none c q x (gives_up_forward gave) = never_up none c q x gave
+  never_gives_up none c q x (gives_up_forward gave) = never_forward none c q x gave
   never_gives_up none c q x (gives_up_back e goes gave) =
       never_among p.reverse c.reverse (reverse_clears none) (back_from q e.0) x (passes_of (reader p.reverse) (back_from q e.0)) gave
 
   -- ---- where nothing quits
-  pub quiet_up : (q : Search) → IsQuiet (quit_bytes_for xs s.dfa) q → HasNoQuitNear (reader p.forward) q.haystack q.start q.end
-  quiet_up q quiet x from to =
+  pub quiet_forward : (q : Search) → IsQuiet (quit_bytes_for xs s.dfa) q → HasNoQuitNear (reader p.forward) q.haystack q.start q.end
+  quiet_forward q quiet x from to =
       let quits : IsQuiet p.forward.quits q = subst (λ (set : List Bool). IsQuiet set q) (sym (forward_quits xs s p made)) quiet in
       quiet_at p.forward.quits (byte_at q.haystack x) (λ b is. quits x b from to is)
 
-  pub supported_up : (q : Search) → is_supported (starts_each_of s.dfa) q.anchored ≡ true →
+  pub supported_forward : (q : Search) → is_supported (starts_each_of s.dfa) q.anchored ≡ true →
       is_supported (reader p.forward).starts_for_each_pattern q.anchored ≡ true
-  supported_up q supported =
+  supported_forward q supported =
       ap (λ (d : Dfa). is_supported (starts_each_of d.options) q.anchored) (forward_is xs s p made) ∙ supported
 
   pub match_is_sure : clears_of s.dfa ≡ None → (q : Search) → is_supported (starts_each_of s.dfa) q.anchored ≡ true →
       IsQuiet (quit_bytes_for xs s.dfa) q → (c : PairCache) (e : MatchErrorKind) → AnswersMatch p c q (Err e) → e ≡ NoMemory
   match_is_sure none q supported quiet c e (inl told) =
-      let there = scan_finds_near (reader p.forward) (match_search (reader p.forward) q) (supported_up q supported) (quiet_up q quiet) in
+      let there = scan_finds_near (reader p.forward) (match_search (reader p.forward) q) (supported_forward q supported) (quiet_forward q quiet) in
       absurd (ok_is_no_refusal (is_some_match there.0) e (sym (told ∙ ap match_told there.1)))
   match_is_sure none q supported quiet c e (inr (inl lacks)) = same_bool_error e NoMemory lacks
   match_is_sure none q supported quiet c e (inr (inr gave)) =
-      absurd (never_up none c (match_search (reader p.forward) q) gave.0 gave.2)
+      absurd (never_forward none c (match_search (reader p.forward) q) gave.0 gave.2)
 
   module _ (first : FindsFirst s) where
     pub search_is_sure : clears_of s.dfa ≡ None → (q : Search) → IsSearchOf xs s.utf8 q →
         is_supported (starts_each_of s.dfa) q.anchored ≡ true → IsQuiet (quit_bytes_for xs s.dfa) q →
         (c : PairCache) (e : MatchErrorKind) → AnswersPair p c q (Err e) → e ≡ NoMemory
     search_is_sure none q asked supported quiet c e (inl told) =
-        let there = finds_near xs s.utf8 s.line_terminator p (built_regex xs s p made first) q asked (supported_up q supported) (quiet_up q quiet) in
+        let there = finds_near xs s.utf8 s.line_terminator p (built_regex xs s p made first) q asked (supported_forward q supported) (quiet_forward q quiet) in
         absurd (found_is_no_refusal there.0 e (sym (told ∙ there.1)))
     search_is_sure none q asked supported quiet c e (inr (inl lacks)) = same_error e NoMemory lacks
     search_is_sure none q asked supported quiet c e (inr (inr gave)) = absurd (never_gives_up none c q gave.0 gave.2)
@@ -180,9 +180,9 @@ module _ (xs : List Tree) (s : Settings) (p : Pair) (made : IsBuilt xs s p) wher
         (subst (λ (r : Pair). Finds r (finds_from old) (finds_from new) (caches_of old) (caches_of new) (Some (Err e))) same step.finds))
 
     -- ---- refusals by the automata
-    pub quits_upwards : (q : Search) → IsSearchOf xs s.utf8 q → (c : PairCache) (b x : ℕ) → AnswersPair p c q (Err (Quit b x)) →
+    pub quits_forward : (q : Search) → IsSearchOf xs s.utf8 q → (c : PairCache) (b x : ℕ) → AnswersPair p c q (Err (Quit b x)) →
         (scan (reader p.forward) q ≡ quit b x) × IsQuitBeside (quit_bytes_for xs s.dfa) q b x
-    quits_upwards q asked c b x is =
+    quits_forward q asked c b x is =
         let reads : scan (reader p.forward) q ≡ quit b x =
         quits_by_first xs s.utf8 s.line_terminator p (built_regex xs s p made first) q asked b x (refusal_is_joined p c q (Quit b x) refl is) in
         let near = scan_quits_near (reader p.forward) q b x reads in (

@@ -16,7 +16,7 @@ use Rattle.hirscan.specs.Choices.{Query}
 use Rattle.hirscan.specs.LooseAnswers.{IsFindable}
 use Rattle.hirscan.specs.Regexes.{query_of}
 use Rattle.hirscan.specs.TreeWalks.{IsToldOf}
-use Rattle.hirscan.proofs.TreeWalkLemmas.{IsMet, up_starts, starts_up, up_high, down_ends, down_near, ends_down, counted_alike}
+use Rattle.hirscan.proofs.TreeWalkLemmas.{IsMet, forward_starts, starts_forward, forward_high, reverse_ends, reverse_near, ends_reverse, counted_alike}
 
 -- the place that is told counts
 pub told_counts : (b : Bool) (asks : Query) (s : ℕ) (x : ℕ × ℕ) → IsToldOf b asks s x → counts asks.utf8 asks.haystack x.0 ≡ true
@@ -50,21 +50,21 @@ module _ (xs : List Tree) (utf8 : Bool) (looks : Looks) (q : Search) (l : q.star
   pub told_met : (b : Bool) (x : ℕ × ℕ) → counts utf8 q.haystack x.0 ≡ true → Meets b x → IsToldOf b asks q.start x
   told_met false x counted m =
       let from = m.1.0 in
-      let high : m.0 ≤ q.end = up_high q.anchored text q.start q.end m.0 refl l from in
+      let high : m.0 ≤ q.end = forward_high q.anchored text q.start q.end m.0 refl l from in
       let whole = cut_to_whole looks q.haystack q.end m.1.2.0 m.0 x.0 high m.1.2.2 in
       record {
         start = m.0;
-        starts = up_starts q.anchored text q.start q.end m.0 refl l from;
+        starts = forward_starts q.anchored text q.start q.end m.0 refl l from;
         findable = record { may = m.1.1; span = record { tree = m.1.2.0; listed = m.1.2.1; means = whole.0 }; within = whole.1 };
         counted = counted;
       }
   told_met true x counted m =
       let from = m.1.0 in
-      let near = down_near q.anchored text q.start q.end m.0 refl l from in
+      let near = reverse_near q.anchored text q.start q.end m.0 refl l from in
       let low = near.0 in let last = m.1.2.2.1 in
       record {
         end = m.0;
-        ends = down_ends q.anchored text q.end m.0 from;
+        ends = reverse_ends q.anchored text q.end m.0 from;
         above = omega (arith, low, last);
         findable = record { may = m.1.1; span = record { tree = m.1.2.0; listed = m.1.2.1; means = m.1.2.2.0 }; within = near.1 };
         counted = counted;
@@ -74,7 +74,7 @@ module _ (xs : List Tree) (utf8 : Bool) (looks : Looks) (q : Search) (l : q.star
   met_told false x told =
       let f = told.findable in
       let cut = whole_to_cut looks q.haystack q.end f.span.tree told.start x.0 f.within f.span.means in
-      (told.start, (starts_up q.anchored text q.start q.end told.start refl told.starts, f.may, (f.span.tree, f.span.listed, cut)))
+      (told.start, (starts_forward q.anchored text q.start q.end told.start refl told.starts, f.may, (f.span.tree, f.span.listed, cut)))
   met_told true x told =
       let f = told.findable in
       let above = told.above in
@@ -82,7 +82,7 @@ module _ (xs : List Tree) (utf8 : Bool) (looks : Looks) (q : Search) (l : q.star
       let low : q.start ≤ told.end = omega (arith, up, above) in (
         told.end,
         (
-          ends_down q.anchored text q.start q.end told.end refl low f.within told.ends,
+          ends_reverse q.anchored text q.start q.end told.end refl low f.within told.ends,
           f.may,
           (f.span.tree, f.span.listed, (f.span.means, omega (arith, above))),
         ),
@@ -94,13 +94,13 @@ module _ (xs : List Tree) (utf8 : Bool) (looks : Looks) (q : Search) (l : q.star
       ((p i j : ℕ) (y : Tree) → slice_get xs p ≡ Some y → i ≡ j → Means looks q.haystack y i j → v ≡ true) →
       (b : Bool) (x : ℕ × ℕ) → Meets b x → counts (utf8 && v) q.haystack x.0 ≡ counts utf8 q.haystack x.0
   counted_met v valid trees some false x m =
-      let high : m.0 ≤ q.end = up_high q.anchored text q.start q.end m.0 refl l m.1.0 in
+      let high : m.0 ≤ q.end = forward_high q.anchored text q.start q.end m.0 refl l m.1.0 in
       let whole = cut_to_whole looks q.haystack q.end m.1.2.0 m.0 x.0 high m.1.2.2 in
       let far : x.0 ≤ q.end = whole.1 in
       (counted_alike utf8 v looks q.haystack m.1.2.0 m.0 x.0 whole.0 (omega (arith, far, within)) valid (trees x.1 m.1.2.0 m.1.2.1)
       (λ e. some x.1 m.0 x.0 m.1.2.0 m.1.2.1 e whole.0)).1
   counted_met v valid trees some true x m =
-      let near = down_near q.anchored text q.start q.end m.0 refl l m.1.0 in
+      let near = reverse_near q.anchored text q.start q.end m.0 refl l m.1.0 in
       let far : m.0 ≤ q.end = near.1 in
       let means = m.1.2.2.0 in
       (counted_alike utf8 v looks q.haystack m.1.2.0 x.0 m.0 means (omega (arith, far, within)) valid (trees x.1 m.1.2.0 m.1.2.1)
@@ -108,7 +108,7 @@ module _ (xs : List Tree) (utf8 : Bool) (looks : Looks) (q : Search) (l : q.star
 
 -- ---- where looks are read alike
 
--- the part of a search's span that is read up to the place, for one who reads up, or down
+-- the part of a search's span that is read up to the place, for one who reads forward or in reverse
 abbrev pub read_low : Bool → ℕ → ℕ → ℕ
 read_low false s j = s
 read_low true s j = j

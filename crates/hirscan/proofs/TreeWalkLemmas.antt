@@ -1,4 +1,4 @@
--- The ends of the runs of an automaton that is compiled from trees are the spans that the trees mean, for one who reads up or
+-- The ends of the runs of an automaton that is compiled from trees are the spans that the trees mean, for one who reads forward or
 -- down, in each mode.
 use Rattle.std.proofs.Common.{◌≡◌, ◌↔◌, ℕ, ◌<◌, ◌≤◌, Bool, true, false, ◌&&◌, List, length, get_or, slice_get, Some, refl, sym, ap, ◌∙◌, subst, inl, inr, arith, nat_lt, ◌==◌, eq-eqb}
 use Rattle.std.proofs.lemmas.Bool.{cases_lt, lt-ltb}
@@ -45,40 +45,40 @@ abbrev pub IsMet : List Tree → Bool → Text → Anchored → ℕ → ℕ × �
 IsMet xs b text mode i x = (k : ℕ) × (IsFrom b mode text i k × (allowed mode (length xs) x.1 ≡ true) × IsChoice b xs text k x)
 
 -- reading up
-pub up_starts : (mode : Anchored) (text : Text) (s e k : ℕ) → text.end ≡ e → s ≤ e → IsFrom false mode text s k → may_start mode s e k ≡ true
-up_starts No text s e k at l from = may_start_at No s e k l from.0 (omega (arith, at, from.1))
-up_starts Yes text s e k at l from = may_start_at Yes s e k l (omega (arith, from)) (omega (arith, from))
-up_starts (Pattern p) text s e k at l from = may_start_at (Pattern p) s e k l (omega (arith, from)) (omega (arith, from))
+pub forward_starts : (mode : Anchored) (text : Text) (s e k : ℕ) → text.end ≡ e → s ≤ e → IsFrom false mode text s k → may_start mode s e k ≡ true
+forward_starts No text s e k at l from = may_start_at No s e k l from.0 (omega (arith, at, from.1))
+forward_starts Yes text s e k at l from = may_start_at Yes s e k l (omega (arith, from)) (omega (arith, from))
+forward_starts (Pattern p) text s e k at l from = may_start_at (Pattern p) s e k l (omega (arith, from)) (omega (arith, from))
 
-pub starts_up : (mode : Anchored) (text : Text) (s e k : ℕ) → text.end ≡ e → may_start mode s e k ≡ true → IsFrom false mode text s k
-starts_up No text s e k at starts = let a = starts_at No s e k starts in (a.from_s, let high = a.to_last in omega (arith, at, high))
-starts_up Yes text s e k at starts =
+pub starts_forward : (mode : Anchored) (text : Text) (s e k : ℕ) → text.end ≡ e → may_start mode s e k ≡ true → IsFrom false mode text s k
+starts_forward No text s e k at starts = let a = starts_at No s e k starts in (a.from_s, let high = a.to_last in omega (arith, at, high))
+starts_forward Yes text s e k at starts =
     let a = starts_at Yes s e k starts in let low = a.from_s in let high = a.to_last in omega (arith, low, high)
-starts_up (Pattern p) text s e k at starts =
+starts_forward (Pattern p) text s e k at starts =
     let a = starts_at (Pattern p) s e k starts in let low = a.from_s in let high = a.to_last in omega (arith, low, high)
 
-pub up_high : (mode : Anchored) (text : Text) (s e k : ℕ) → text.end ≡ e → s ≤ e → IsFrom false mode text s k → k ≤ e
-up_high No text s e k at l from = omega (arith, at, from.1)
-up_high Yes text s e k at l from = omega (arith, l, from)
-up_high (Pattern p) text s e k at l from = omega (arith, l, from)
+pub forward_high : (mode : Anchored) (text : Text) (s e k : ℕ) → text.end ≡ e → s ≤ e → IsFrom false mode text s k → k ≤ e
+forward_high No text s e k at l from = omega (arith, at, from.1)
+forward_high Yes text s e k at l from = omega (arith, l, from)
+forward_high (Pattern p) text s e k at l from = omega (arith, l, from)
 
 -- reading down
-pub down_ends : (mode : Anchored) (text : Text) (e k : ℕ) → IsFrom true mode text e k → is_anchored mode ≡ true → k ≡ e
-down_ends No text e k from anchored = cc
-down_ends Yes text e k from anchored = from
-down_ends (Pattern p) text e k from anchored = from
+pub reverse_ends : (mode : Anchored) (text : Text) (e k : ℕ) → IsFrom true mode text e k → is_anchored mode ≡ true → k ≡ e
+reverse_ends No text e k from anchored = cc
+reverse_ends Yes text e k from anchored = from
+reverse_ends (Pattern p) text e k from anchored = from
 
-pub down_near : (mode : Anchored) (text : Text) (s e k : ℕ) → text.start ≡ s → s ≤ e → IsFrom true mode text e k → (s ≤ k) × (k ≤ e)
-down_near No text s e k at l from =
+pub reverse_near : (mode : Anchored) (text : Text) (s e k : ℕ) → text.start ≡ s → s ≤ e → IsFrom true mode text e k → (s ≤ k) × (k ≤ e)
+reverse_near No text s e k at l from =
     let low = from.1 in let high = from.0 in (omega (arith, at, l, low), high)
-down_near Yes text s e k at l from = (omega (arith, l, from), omega (arith, from))
-down_near (Pattern p) text s e k at l from = (omega (arith, l, from), omega (arith, from))
+reverse_near Yes text s e k at l from = (omega (arith, l, from), omega (arith, from))
+reverse_near (Pattern p) text s e k at l from = (omega (arith, l, from), omega (arith, from))
 
-pub ends_down : (mode : Anchored) (text : Text) (s e k : ℕ) → text.start ≡ s → s ≤ k → k ≤ e → (is_anchored mode ≡ true → k ≡ e) →
+pub ends_reverse : (mode : Anchored) (text : Text) (s e k : ℕ) → text.start ≡ s → s ≤ k → k ≤ e → (is_anchored mode ≡ true → k ≡ e) →
     IsFrom true mode text e k
-ends_down No text s e k at low high tied = (high, omega (arith, at, low))
-ends_down Yes text s e k at low high tied = tied refl
-ends_down (Pattern p) text s e k at low high tied = tied refl
+ends_reverse No text s e k at low high tied = (high, omega (arith, at, low))
+ends_reverse Yes text s e k at low high tied = tied refl
+ends_reverse (Pattern p) text s e k at low high tied = tied refl
 
 -- ---- where a search begins
 

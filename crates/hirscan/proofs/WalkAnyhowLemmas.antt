@@ -114,9 +114,9 @@ module _ (a : Automaton) (t : Terminator) (h : List ℕ) (s e i q : ℕ) (formed
     same_left : bytes_left a.reverse text i ≡ bytes_left a.reverse other i
     same_left = left_same a.reverse (holds_ascii t h) looks h s e i
 
-    visits_same : (k : ℕ) → k ≤ bytes_left a.reverse text i → (todo : List ℕ) →
-        Visits nat_eq (plain_steps a text (place k)) todo [] (list k) → Visits nat_eq (plain_steps a other (place k)) todo [] (list k)
-    visits_same k l todo v =
+    visits_same : (k : ℕ) → k ≤ bytes_left a.reverse text i → (stack : List ℕ) →
+        Visits nat_eq (plain_steps a text (place k)) stack [] (list k) → Visits nat_eq (plain_steps a other (place k)) stack [] (list k)
+    visits_same k l stack v =
         stays_closed nat_eq names_equal (plain_steps a text (place k)) (plain_steps a other (place k)) v (steps_same k l)
 
     entries_same : (k : ℕ) → flat_map (byte_steps a text (place k)) (list k) ≡ flat_map (byte_steps a other (place k)) (list k)
@@ -126,7 +126,7 @@ module _ (a : Automaton) (t : Terminator) (h : List ℕ) (s e i q : ℕ) (formed
         Visits nat_eq (plain_steps a other (place (suc k))) (flat_map (byte_steps a other (place k)) (list k)) [] (list (suc k))
     later_same k l =
         let inside : k < bytes_left a.reverse text i = omega (arith, l, same_left) in
-        subst (λ (todo : List ℕ). Visits nat_eq (plain_steps a other (place (suc k))) todo [] (list (suc k))) (entries_same k)
+        subst (λ (stack : List ℕ). Visits nat_eq (plain_steps a other (place (suc k))) stack [] (list (suc k))) (entries_same k)
         (visits_same (suc k) inside (flat_map (byte_steps a text (place k)) (list k)) (lists.later k inside))
 
     other_lists : AreLists a other (i, q) (λ k xs. xs) list

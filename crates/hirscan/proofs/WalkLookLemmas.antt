@@ -37,7 +37,7 @@ use Rattle.hirscan.proofs.RegexLemmas.{any_by_member}
 use Rattle.hirscan.proofs.WalkReadLemmas.{IsQuietBeside, walk_quiet_or_none}
 use Rattle.hirscan.proofs.WalkAnyhowLemmas.{AreAlikeAt, ends_same}
 
--- ---- looks and units, for one who reads up or down
+-- ---- looks and units, for one who reads forward or in reverse
 
 -- the bytes before and behind a place
 pub beside : (b : Bool) (quits : List Bool) (h : List ℕ) (j : ℕ) → is_quit quits (unit_at b h j) ≡ false →

@@ -160,7 +160,7 @@ module _ (r : Reader) (h : List ℕ) (i q : ℕ) where
     behind_quiet zero l = inl behind
     behind_quiet (suc m) l = ⊎_elim
         (λ (quiet : IsQuiet m).
-        inl (ap (is_quit r.quits) (unit_behind_next r.automaton.reverse h i m (λ down. let far = inside down in omega (arith, far, l)))
+        inl (ap (is_quit r.quits) (unit_behind_next r.automaton.reverse h i m (λ is_reverse. let far = inside is_reverse in omega (arith, far, l)))
         ∙ quiet))
         (λ (none : HasNone m). inr (none_later m none))
         (reads_or_ends (suc n) 0 goes m (omega arith) (omega (arith, l)))
@@ -184,9 +184,9 @@ walk_begins : (r : Reader) (behind : Option ℕ) (h : List ℕ) (i q : ℕ) → 
 unfolding start_or_dead
 walk_begins r behind h i q is = ap (λ (o : Option ℕ). start_value r.automaton r.terminator (start_of r.terminator o) q) is
 
-pub down_inside : (b : Bool) (s e : ℕ) → b ≡ true → e - s ≤ first_place b s e
-down_inside true s e down = omega arith
-down_inside false s e down = cc
+pub reverse_inside : (b : Bool) (s e : ℕ) → b ≡ true → e - s ≤ first_place b s e
+reverse_inside true s e is_reverse = omega arith
+reverse_inside false s e is_reverse = cc
 
 module _ (r : Reader) (q : Search) (name : ℕ) (begun : IsBegun r q name) where
   abbrev begin : ℕ
@@ -230,4 +230,4 @@ module _ (r : Reader) (q : Search) (name : ℕ) (begun : IsBegun r q name) where
         ((walk_value r.automaton r.terminator r.kind q.haystack begin name m).ids ≡ [])
     walk_quiet_or_none =
         quiet_or_none r q.haystack begin name (q.end - q.start) (inl (sym (ap (λ (z : Rest). z.refusal) start_is) ∙ begins_quiet.1))
-        (behind_there begins_quiet.0) (down_inside r.automaton.reverse q.start q.end)
+        (behind_there begins_quiet.0) (reverse_inside r.automaton.reverse q.start q.end)

@@ -38,7 +38,7 @@ use Rattle.hirscan.specs.TreeWalks.{IsWalkerOf}
 use Rattle.hirscan.proofs.BuiltPairLemmas.{turned_words}
 use Rattle.hirscan.proofs.TreeToldLemmas.{read_low, read_high, AgreeUpTo}
 use Rattle.hirscan.proofs.WalkLookLemmas.{beside, read_alike, asks_for_words}
-use Rattle.hirscan.proofs.WalkReadLemmas.{IsQuiet, more, turn_is, more_is, unit_behind_next, down_inside, IsQuietBeside, whole_is, start_is, behind_there}
+use Rattle.hirscan.proofs.WalkReadLemmas.{IsQuiet, more, turn_is, more_is, unit_behind_next, reverse_inside, IsQuietBeside, whole_is, start_is, behind_there}
 
 -- ---- a unit
 
@@ -142,7 +142,7 @@ module _ (r : Reader) (q : Search) (name : ℕ) (begun : IsBegun r q name) where
     back_quiet zero l = behind_there r q name begun behind
     back_quiet (suc k) l =
         ap (is_quit r.quits) (unit_behind_next r.automaton.reverse q.haystack begin k
-        (λ down. let far = down_inside r.automaton.reverse q.start q.end down in omega (arith, far, l, few)))
+        (λ is_reverse. let far = reverse_inside r.automaton.reverse q.start q.end is_reverse in omega (arith, far, l, few)))
         ∙ quiet k (omega arith) (omega (arith, l))
 
     quiet_beside : (k : ℕ) → k ≤ m → IsQuietBeside r q.haystack begin name k

@@ -42,7 +42,7 @@ program_settings said = record said {
   };
 }
 
--- the options of one of both compiles, upwards or in reverse: no captures are kept
+-- the options of one of both compiles, forward or in reverse: no captures are kept
 abbrev pub compile_options : Bool → Settings → Options
 compile_options reverse s = record {
   utf8 = Some s.utf8;
@@ -74,11 +74,11 @@ are_unsupported xs o = use_unicode_words xs && not (word_boundary_of o) && not (
 
 -- ---- the regex
 
--- Both automata are compiled from the trees, one upwards and one in reverse, and made with the same options, but that the
+-- Both automata are compiled from the trees, one forward and one in reverse, and made with the same options, but that the
 -- second finds all matches and has no tagged starts.
 pub record IsBuilt (xs : List Tree) (s : Settings) (p : Pair) : Type 0 where
-  pub up : IsCompiled (compile_options false s) xs p.forward.nfa
-  pub down : IsCompiled (compile_options true s) xs p.reverse.nfa
+  pub is_forward : IsCompiled (compile_options false s) xs p.forward.nfa
+  pub is_reverse : IsCompiled (compile_options true s) xs p.reverse.nfa
   pub made : pair_built p.forward.nfa p.reverse.nfa s.dfa ≡ Ok p
   pub forward : IsDfa p.forward
   pub reverse : IsDfa p.reverse

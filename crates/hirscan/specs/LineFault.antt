@@ -9,7 +9,7 @@ use Rattle.hirscan.specs.declared.line.Setup.{Setup}
 use Rattle.hirscan.specs.declared.words.LineWord.{LineWord}
 use Rattle.hirscan.specs.declared.words.LineWord.TheVariants.{Utf8, Line, Capacity, Quit, Classes, Shrink, Anchored, Span, Empty, Lit, Bytes, Chars, Look, Rep, Cat, Alt, Pattern, Find}
 use Rattle.hirscan.specs.Words.{is_scalar, class_ranges, scalar_ranges}
-use Rattle.hirscan.specs.Takes.{Standing, with_utf8, with_terminator, with_capacity, with_quit, with_classes, with_shrink, with_anchored, with_span}
+use Rattle.hirscan.specs.Takes.{HeadValue, with_utf8, with_terminator, with_capacity, with_quit, with_classes, with_shrink, with_anchored, with_span}
 use Rattle.hirscan.specs.Readers.{line_word, number, the_number, bound, the_bound, order, the_order, switch, the_switch, yes_or_no, the_yes_or_no, hex_bytes, the_bytes, hex_byte, the_byte, item_ends, the_ends, hex_ends, the_hex_ends, look_named, the_look_named, word_at}
 
 -- the first fault of the list
@@ -47,7 +47,7 @@ is_class Chars = true
 is_class _ = false
 
 -- whether the line sets something where a tree has been pushed
-abbrev pub is_setting_after_node : LineWord → Standing → Bool
+abbrev pub is_setting_after_node : LineWord → HeadValue → Bool
 is_setting_after_node k at = is_setting k && (nat_lt 0 (length at.stack) || nat_lt 0 (length at.patterns))
 
 -- whether so many words may follow the first
@@ -150,23 +150,23 @@ new_tree Cat args parts = concat parts
 new_tree Alt args parts = alternation parts
 new_tree _ args parts = empty
 
-abbrev pub has_too_few_trees : LineWord → List (List ℕ) → Standing → Bool
+abbrev pub has_too_few_trees : LineWord → List (List ℕ) → HeadValue → Bool
 has_too_few_trees k args at = nat_lt (length at.stack) (needed k args)
 
 -- whether the line's new tree would be higher than 250
-abbrev pub is_too_deep : LineWord → List (List ℕ) → Standing → Bool
+abbrev pub is_too_deep : LineWord → List (List ℕ) → HeadValue → Bool
 is_too_deep k args at = nat_lt 250 (height (new_tree k args (top (needed k args) at.stack)))
 
-abbrev pub has_not_one_tree : LineWord → Standing → Bool
+abbrev pub has_not_one_tree : LineWord → HeadValue → Bool
 has_not_one_tree Pattern at = not (length at.stack == 1)
 has_not_one_tree _ at = false
 
-abbrev pub has_tree_left_over : LineWord → Standing → Bool
+abbrev pub has_tree_left_over : LineWord → HeadValue → Bool
 has_tree_left_over Find at = nat_lt 0 (length at.stack)
 has_tree_left_over _ at = false
 
 -- what may be wrong with a line of this first word that may stand there and has as many words as it may: the kinds in order
-abbrev pub later_faults : LineWord → List (List ℕ) → Standing → List (Option FaultKind)
+abbrev pub later_faults : LineWord → List (List ℕ) → HeadValue → List (Option FaultKind)
 later_faults k args at = word_fault k args
     ∷ when (is_min_above_max k args) MinAboveMax
     ∷ when (has_too_few_trees k args at) TooFewTrees
@@ -176,22 +176,22 @@ later_faults k args at = word_fault k args
     ∷ []
 
 -- the first of these that applies
-abbrev pub left_fault : LineWord → List (List ℕ) → Standing → Option FaultKind
+abbrev pub left_fault : LineWord → List (List ℕ) → HeadValue → Option FaultKind
 left_fault k args at = first_of (later_faults k args at)
 
 -- what is wrong with a line of this first word and these words after it: the first kind that applies
-abbrev pub known_fault : LineWord → List (List ℕ) → Standing → Option FaultKind
+abbrev pub known_fault : LineWord → List (List ℕ) → HeadValue → Option FaultKind
 known_fault k args at = first_of (when (is_setting_after_node k at) SettingAfterNode
     ∷ when (not (is_word_count k (length args))) WrongWordCount
     ∷ later_faults k args at)
 
 -- the same, where the first word may begin no line
-abbrev pub fault_after : Option LineWord → List (List ℕ) → Standing → Option FaultKind
+abbrev pub fault_after : Option LineWord → List (List ℕ) → HeadValue → Option FaultKind
 fault_after None args at = Some UnknownWord
 fault_after (Some k) args at = known_fault k args at
 
 -- what is wrong with the line of these words: None where it is taken, or ends the head
-abbrev pub fault : List (List ℕ) → Standing → Option FaultKind
+abbrev pub fault : List (List ℕ) → HeadValue → Option FaultKind
 fault [] at = Some UnknownWord
 fault (w ∷ args) at = fault_after (line_word w) args at
 
@@ -212,11 +212,11 @@ setup_after Span args was = with_span (record { start = the_number (word_at args
 setup_after _ args was = was
 
 -- what stands after a line that sets something
-abbrev pub after_setting : LineWord → List (List ℕ) → Standing → Standing
+abbrev pub after_setting : LineWord → List (List ℕ) → HeadValue → HeadValue
 after_setting k args at = record { setup = setup_after k args at.setup; stack = at.stack; patterns = at.patterns }
 
 -- what stands after a line that makes a tree of those on the top
-abbrev pub after_tree : LineWord → List (List ℕ) → Standing → Standing
+abbrev pub after_tree : LineWord → List (List ℕ) → HeadValue → HeadValue
 after_tree k args at = record {
   setup = at.setup;
   stack = below (needed k args) at.stack ++ new_tree k args (top (needed k args) at.stack) ∷ [];
@@ -224,7 +224,7 @@ after_tree k args at = record {
 }
 
 -- what stands after a line of this first word that has no fault
-abbrev pub after : LineWord → List (List ℕ) → Standing → Standing
+abbrev pub after : LineWord → List (List ℕ) → HeadValue → HeadValue
 after Utf8 args at = after_setting Utf8 args at
 after Line args at = after_setting Line args at
 after Capacity args at = after_setting Capacity args at

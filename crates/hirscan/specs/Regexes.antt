@@ -16,20 +16,20 @@ use Rattle.lazy_dfa.specs.Dfas.{IsDfa}
 use Rattle.regex_pair.specs.Pairs.{Pair}
 use Rattle.hirscan.specs.Choices.{Query}
 
--- The first is compiled from the trees for one who reads up, and keeps no captures; the second is compiled from the same
--- trees for one who reads down. Both are in the same mode and have the same terminator and quit bytes. The first finds the
+-- The first is compiled from the trees for one who reads forward, and keeps no captures; the second is compiled from the same
+-- trees for one who reads in reverse. Both are in the same mode and have the same terminator and quit bytes. The first finds the
 -- most preferred end, and the second the last start.
 pub record IsRegexOf (xs : List Tree) (utf8 : Bool) (t : Terminator) (p : Pair) : Type 0 where
-  pub up_options : Options
-  pub down_options : Options
-  pub up : IsCompiled up_options xs p.forward.nfa
-  pub down : IsCompiled down_options xs p.reverse.nfa
-  pub reads_up : reverse_of up_options ≡ false
-  pub reads_down : reverse_of down_options ≡ true
-  pub up_utf8 : utf8_of up_options ≡ utf8
-  pub down_utf8 : utf8_of down_options ≡ utf8
-  pub up_terminator : terminator_of up_options ≡ t
-  pub down_terminator : terminator_of down_options ≡ t
+  pub forward_options : Options
+  pub reverse_options : Options
+  pub is_forward : IsCompiled forward_options xs p.forward.nfa
+  pub is_reverse : IsCompiled reverse_options xs p.reverse.nfa
+  pub reads_forward : reverse_of forward_options ≡ false
+  pub reads_reverse : reverse_of reverse_options ≡ true
+  pub forward_utf8 : utf8_of forward_options ≡ utf8
+  pub reverse_utf8 : utf8_of reverse_options ≡ utf8
+  pub forward_terminator : terminator_of forward_options ≡ t
+  pub reverse_terminator : terminator_of reverse_options ≡ t
   pub no_captures : list_any is_capture p.forward.nfa.automaton.states ≡ false
   pub forward : IsDfa p.forward
   pub reverse : IsDfa p.reverse

@@ -23,7 +23,7 @@ use Rattle.hirscan.specs.Built.{IsBuilt, program_settings, compile_options, quit
 use Rattle.hirscan.specs.Headline.{answers_to, IsQuitBeside}
 use Rattle.hirscan.specs.Reads.{Reads, IsFaultAt}
 use Rattle.hirscan.specs.Refusals.{refusal}
-use Rattle.hirscan.specs.Takes.{Standing, at_first}
+use Rattle.hirscan.specs.Takes.{HeadValue, at_first}
 use Rattle.hirscan.specs.Tells.{kind_text}
 
 -- ---- lines
@@ -51,12 +51,12 @@ pub data IsRefused (input cause : List ℕ) : Type 0 where
   too_long : 2 ^ 30 < length input → cause ≡ codes "input above 1073741824 bytes" → IsRefused input cause
   faulty : (k : ℕ) (kind : FaultKind) → length input ≤ 2 ^ 30 → IsFaultAt input at_first k kind →
       cause ≡ codes "line " ++ (decimal k ++ (codes ": " ++ kind_text kind)) → IsRefused input cause
-  unfit : (at : Standing) (n : ℕ) → length input ≤ 2 ^ 30 → Reads input at_first at n →
+  unfit : (at : HeadValue) (n : ℕ) → length input ≤ 2 ^ 30 → Reads input at_first at n →
       refusal at.setup at.patterns (drop n input) ≡ Some cause → IsRefused input cause
 
 -- the input asks for these patterns, set up so, in this haystack, and none of it is refused
 pub record Asks (input : List ℕ) (setup : Setup) (xs : List Tree) (h : List ℕ) : Type 0 where
-  pub at : Standing
+  pub at : HeadValue
   pub len : ℕ
   pub short : length input ≤ 2 ^ 30
   pub reads : Reads input at_first at len
@@ -88,7 +88,7 @@ abbrev pub finding_behind : Search → List Found → Finding
 finding_behind q fs = finding_from q (last_end fs)
 
 -- The search for the next match behind these gives up at the byte b, at x. The regex is one that is built of the patterns; the
--- matches are those that it finds from the start on; and b is the first quit byte that it reads upwards, from the end of the last
+-- matches are those that it finds from the start on; and b is the first quit byte that it reads forward, from the end of the last
 -- match, or where what is found there is a repeat, from one place further on. It stands in or beside the span.
 pub record QuitsBehind (setup : Setup) (xs : List Tree) (h : List ℕ) (fs : List Found) (b x : ℕ) : Type 0 where
   pub regex : Pair

@@ -14,13 +14,13 @@ use Rattle.hirscan.specs.Built.{default_settings}
 use Rattle.hirscan.specs.Words.{IsNumber, IsBound, IsGreedy, IsSwitch, IsYes, IsHex, IsHexByte, IsLookName, AreItems, AreScalarItems, class_ranges, scalar_ranges}
 
 -- what stands before a line: how is searched, the trees on the stack, the last pushed last, and the patterns that were taken
-pub record Standing : Type 0 where
+pub record HeadValue : Type 0 where
   pub setup : Setup
   pub stack : List Tree
   pub patterns : List Tree
 
 -- before the first line
-abbrev pub at_first : Standing
+abbrev pub at_first : HeadValue
 at_first = record { setup = record { settings = default_settings; anchored = false; span = None }; stack = []; patterns = [] }
 
 -- ---- what lines set
@@ -60,19 +60,19 @@ with_quit b was = with_dfa (record was.settings.dfa { quit_set = Some (slice_set
 
 -- No tree was pushed by any line before. A tree that was pushed stands on the stack, itself or within another, or was
 -- taken as a pattern.
-pub record HasNoNode (at : Standing) : Type 0 where
+pub record HasNoNode (at : HeadValue) : Type 0 where
   pub stack_empty : at.stack ≡ []
   pub no_pattern : at.patterns ≡ []
 
 -- from now on it is searched so
-pub record Sets (before after : Standing) (new : Setup) : Type 0 where
+pub record Sets (before after : HeadValue) (new : Setup) : Type 0 where
   pub no_node : HasNoNode before
   pub setup_is : after.setup ≡ new
   pub stack_stays : after.stack ≡ before.stack
   pub patterns_stay : after.patterns ≡ before.patterns
 
 -- the top trees of the stack, lowest first, become one tree, whose height is at most 250
-pub record Replaces (before after : Standing) (top : List Tree) (new : Tree) : Type 0 where
+pub record Replaces (before after : HeadValue) (top : List Tree) (new : Tree) : Type 0 where
   pub below : List Tree
   pub stack_was : before.stack ≡ below ++ top
   pub stack_is : after.stack ≡ below ++ new ∷ []
@@ -81,7 +81,7 @@ pub record Replaces (before after : Standing) (top : List Tree) (new : Tree) : T
   pub not_too_deep : height new ≤ 250
 
 -- the one tree on the stack becomes the next pattern
-pub record TakesPattern (before after : Standing) : Type 0 where
+pub record TakesPattern (before after : HeadValue) : Type 0 where
   pub tree : Tree
   pub stack_was : before.stack ≡ tree ∷ []
   pub setup_stays : after.setup ≡ before.setup
@@ -89,7 +89,7 @@ pub record TakesPattern (before after : Standing) : Type 0 where
   pub patterns_are : after.patterns ≡ before.patterns ++ tree ∷ []
 
 -- a line of these words takes what stood before it to what stands after it
-pub data Takes (ws : List (List ℕ)) (before after : Standing) : Type 0 where
+pub data Takes (ws : List (List ℕ)) (before after : HeadValue) : Type 0 where
   utf8_line : (w : List ℕ) (on : Bool) → ws ≡ codes "utf8" ∷ w ∷ [] → IsSwitch w on →
       Sets before after (with_utf8 on before.setup) → Takes ws before after
   line_line : (w : List ℕ) (b : ℕ) → ws ≡ codes "line" ∷ w ∷ [] → IsHexByte w b →
@@ -125,6 +125,6 @@ pub data Takes (ws : List (List ℕ)) (before after : Standing) : Type 0 where
   pattern_line : ws ≡ codes "pattern" ∷ [] → TakesPattern before after → Takes ws before after
 
 -- a line of these words ends the head
-pub record EndsHead (ws : List (List ℕ)) (before : Standing) : Type 0 where
+pub record EndsHead (ws : List (List ℕ)) (before : HeadValue) : Type 0 where
   pub says_find : ws ≡ codes "find" ∷ []
   pub nothing_left : before.stack ≡ []

@@ -9,11 +9,11 @@ use Rattle.hirscan.specs.declared.fault.LineFault.{LineFault}
 use Rattle.hirscan.specs.declared.fault.LineFault.TheVariants as of_line
 use Rattle.hirscan.specs.declared.line.Step.{Step}
 use Rattle.hirscan.specs.declared.line.Step.TheVariants.{Next, End}
-use Rattle.hirscan.specs.declared.line.Stands.{Stands}
+use Rattle.hirscan.specs.declared.line.HeadState.{HeadState}
 use Rattle.hirscan.specs.declared.head.Head.{Head}
 use Rattle.hirscan.specs.declared.split.WordsLeft.{WordsLeft}
 use Rattle.hirscan.specs.Words.{words}
-use Rattle.hirscan.specs.Takes.{Standing, at_first, Takes, EndsHead}
+use Rattle.hirscan.specs.Takes.{HeadValue, at_first, Takes, EndsHead}
 use Rattle.hirscan.specs.Reads.{IsOneLine, IsFaultAt}
 use Rattle.hirscan.specs.declared.words.LineWord.{LineWord}
 use Rattle.hirscan.specs.declared.words.LineWord.TheVariants.{Find}
@@ -49,12 +49,12 @@ abbrev pub words_left : WordsLeft → List (List ℕ)
 words_left these = words_behind these.left
 
 -- what stands, as the rules see it
-abbrev pub standing : Stands → Standing
-standing stands = record { setup = stands.setup; stack = stands.stack.items; patterns = stands.patterns.items }
+abbrev pub head_value : HeadState → HeadValue
+head_value state = record { setup = state.setup; stack = state.stack.items; patterns = state.patterns.items }
 
 -- what stands at the end of a head
-abbrev pub head_standing : Head → Standing
-head_standing head = record {
+abbrev pub value_of_head : Head → HeadValue
+value_of_head head = record {
   setup = record { settings = head.settings; anchored = head.anchored; span = head.span };
   stack = [];
   patterns = head.patterns.items;
@@ -71,12 +71,12 @@ TellsLineFault found (of_line.Is kind) = found ≡ Some kind
 TellsLineFault found of_line.NoMemory = Unit {0}
 
 -- the line was taken, or it ended the head and all stays
-abbrev pub TellsStep : List (List ℕ) → Standing → Standing → Step → Type 0
+abbrev pub TellsStep : List (List ℕ) → HeadValue → HeadValue → Step → Type 0
 TellsStep ws before after Next = Takes ws before after
 TellsStep ws before after End = EndsHead ws before × (after ≡ before)
 
 -- a line that may stand there and has as many words as it may has no fault, and does what it says
-abbrev pub IsDone : LineWord → List (List ℕ) → Standing → Standing → Type 0
+abbrev pub IsDone : LineWord → List (List ℕ) → HeadValue → HeadValue → Type 0
 IsDone k args before now = (left_fault k args before ≡ None) × (now ≡ after k args before)
 
 -- what comes after a line

@@ -15,7 +15,7 @@ use Rattle.hirscan.specs.Choices.{Query}
 use Rattle.hirscan.specs.LooseAnswers.{IsFindable}
 use Rattle.hirscan.specs.Regexes.{query_of}
 
--- An automaton that is compiled from the trees, for one who reads up or down, in this mode and with this terminator. It finds
+-- An automaton that is compiled from the trees, for one who reads forward or in reverse, in this mode and with this terminator. It finds
 -- all matches.
 pub record IsWalkerOf (xs : List Tree) (reverse utf8 : Bool) (t : Terminator) (d : Dfa) : Type 0 where
   pub options : Options
@@ -42,7 +42,7 @@ pub record IsToldStart (q : Query) (s i p : ℕ) : Type 0 where
   pub findable : IsFindable q i p end
   pub counted : counts q.utf8 q.haystack i ≡ true
 
--- what one who reads up, or down, is to tell: pairs of a place and a pattern
+-- what one who reads forward or in reverse, is to tell: pairs of a place and a pattern
 abbrev pub IsToldOf : Bool → Query → ℕ → ℕ × ℕ → Type 0
 IsToldOf false q s x = IsToldEnd q s x.0 x.1
 IsToldOf true q s x = IsToldStart q s x.0 x.1

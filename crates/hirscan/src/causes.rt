@@ -1,6 +1,6 @@
 // Why a head that was read is refused with the haystack behind it.
 ghost use Rattle.std.specs.Prelude.{◌≡◌, IfOk, option_map, string_bytes};
-ghost use Rattle.hirscan.specs.Tells.{head_standing};
+ghost use Rattle.hirscan.specs.Tells.{value_of_head};
 ghost use Rattle.hirscan.specs.Refusals.{first_not_utf8, where_utf8, first_broken, span_of, is_span, pattern_causes, haystack_causes, refusal};
 
 use crate::head::Head;
@@ -76,7 +76,7 @@ pub(crate) fn refusal_cause(
     head: &Head,
     h: &[u8],
 ) -> Result<Option<String>, AllocError>
-    ensures { IfOk result (λ cause. option_map string_bytes cause ≡ refusal (head_standing head.now).setup head.now.patterns.items h.now) }
+    ensures { IfOk result (λ cause. option_map string_bytes cause ≡ refusal (value_of_head head.now).setup head.now.patterns.items h.now) }
 {
     if let Some(cause) = pattern_cause(alloc, head)? {
         return Ok(Some(cause));

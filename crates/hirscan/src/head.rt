@@ -2,10 +2,10 @@
 ghost use Rattle.std.specs.Prelude.{IfOk, IfErr, MatchOption};
 ghost use Rattle.hirscan.specs.Takes.{at_first};
 ghost use Rattle.hirscan.specs.Reads.{IsOneLine, Reads};
-ghost use Rattle.hirscan.specs.Tells.{TellsFault, CutsLine, head_standing};
+ghost use Rattle.hirscan.specs.Tells.{TellsFault, CutsLine, value_of_head};
 
 use crate::fault::{Fault, FaultKind};
-use crate::line::{Setup, Stands, Step, read_line};
+use crate::line::{Setup, HeadState, Step, read_line};
 use crate::settings::Settings;
 use hir_core::Hir;
 use search_types::Span;
@@ -39,10 +39,10 @@ fn split_line(text: &[u8]) -> Option<(&[u8], &[u8])>
 /// The first line that can't be taken is refused; so is a text that ends before there is a line
 /// `find`, as of its last line, which has no line feed and may be empty.
 pub fn read_head(alloc: Global, text: &[u8]) -> Result<Head, Fault>
-    ensures ok { IfOk result (λ head. Reads text.now at_first (head_standing head) head.len) }
+    ensures ok { IfOk result (λ head. Reads text.now at_first (value_of_head head) head.len) }
     ensures notation { IfErr result (λ e. TellsFault text.now e) }
 {
-    let mut stands = Stands {
+    let mut state = HeadState {
         setup: Setup {
             settings: Settings::new(),
             anchored: false,
@@ -61,7 +61,7 @@ pub fn read_head(alloc: Global, text: &[u8]) -> Result<Head, Fault>
                 kind: FaultKind::NoFindLine,
             });
         };
-        let step = match read_line(alloc, line, &mut stands) {
+        let step = match read_line(alloc, line, &mut state) {
             Ok(step) => step,
             Err(fault) => return Err(fault.on_line(lines + 1)),
         };
@@ -70,11 +70,11 @@ pub fn read_head(alloc: Global, text: &[u8]) -> Result<Head, Fault>
         match step {
             Step::Next => lines += 1,
             Step::End => {
-                let Stands {
+                let HeadState {
                     setup,
                     patterns,
                     ..
-                } = stands;
+                } = state;
                 return Ok(Head {
                     settings: setup.settings,
                     anchored: setup.anchored,

@@ -88,9 +88,9 @@ pub fn searches_answer_where_no_byte_quits()
         AreTaken p q fs (finds_from old) → FindsNext old (Some (Err e)) new → e ≡ NoMemory }
 {}
 
-/// A search quits where its search upwards does, at a quit byte in or beside the span, and there alone. That the automata are no
+/// A search quits where its search forward does, at a quit byte in or beside the span, and there alone. That the automata are no
 /// pair is never told.
-pub fn searches_quit_upwards_alone()
+pub fn searches_quit_forward_alone()
     ensures quits { (xs : List Tree) (s : Settings) (p : Pair) → IsBuilt xs s p → FindsFirst s → (q : Search) → IsSearchOf xs s.utf8 q →
         (c : PairCache) (b x : ℕ) → AnswersPair p c q (Err (Quit b x)) →
         (scan (reader p.forward) q ≡ quit b x) × IsQuitBeside (quit_bytes_for xs s.dfa) q b x }

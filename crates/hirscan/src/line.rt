@@ -5,7 +5,7 @@ ghost use Rattle.hir_core.specs.Facts.{height};
 ghost use Rattle.hirscan.specs.Words.{words};
 ghost use Rattle.hirscan.specs.Readers.{hex_byte, word_at};
 ghost use Rattle.hirscan.specs.LineFault.{fault, byte_fault, known_fault, after, top, below, when, is_at_most, is_word_count, is_setting, is_class, is_setting_after_node, left_fault};
-ghost use Rattle.hirscan.specs.Tells.{texts, words_left, standing, TellsLineFault, TellsStep, IsDone, step_after};
+ghost use Rattle.hirscan.specs.Tells.{texts, words_left, head_value, TellsLineFault, TellsStep, IsDone, step_after};
 ghost use Rattle.hirscan.specs.declared.fault.FaultKind.TheVariants.{TooFewTrees, TooDeep};
 ghost use Rattle.hirscan.specs.declared.words.LineWord.TheVariants.{Utf8, Line, Capacity, Quit, Classes, Shrink, Anchored, Span as SpanWord, Empty, Lit, Bytes, Chars, Look, Rep, Cat, Alt, Pattern, Find};
 
@@ -37,7 +37,7 @@ pub(crate) struct Setup {
 
 /// How is searched, the trees on the stack, the last pushed last, and the patterns that were taken.
 #[derive(Drop)]
-pub(crate) struct Stands {
+pub(crate) struct HeadState {
     pub setup: Setup,
     pub stack: Vec<Hir>,
     pub patterns: Vec<Hir>,
@@ -51,57 +51,57 @@ pub(crate) enum Step {
 }
 
 /// Pushes a tree, unless it is too high.
-fn push(stands: &mut Stands, tree: Hir) -> Result<(), LineFault>
-    ensures ok { OnOk result ((height tree ≤ 250) × (stands.new.stack.items ≡ stands.old.stack.items ++ tree ∷ [])
-        × (stands.new.patterns.items ≡ stands.old.patterns.items) × (stands.new.setup ≡ stands.old.setup)) }
+fn push(state: &mut HeadState, tree: Hir) -> Result<(), LineFault>
+    ensures ok { OnOk result ((height tree ≤ 250) × (state.new.stack.items ≡ state.old.stack.items ++ tree ∷ [])
+        × (state.new.patterns.items ≡ state.old.patterns.items) × (state.new.setup ≡ state.old.setup)) }
     ensures err { IfErr result (λ e. TellsLineFault (when (nat_lt 250 (height tree)) TooDeep) e) }
 {
     if tree.height() > MAX_HEIGHT {
         return Err(LineFault::Is(FaultKind::TooDeep));
     }
-    stands.stack.push(tree).map_err(|_| LineFault::NoMemory)
+    state.stack.push(tree).map_err(|_| LineFault::NoMemory)
 }
 
 /// Takes the top tree off the stack.
 #[tactic(auto, using(crate::proofs::StackLemmas::top_one, crate::proofs::StackLemmas::below_one))]
-fn pop(stands: &mut Stands) -> Option<Hir>
-    ensures found { MatchOption result (length stands.old.stack.items ≡ 0) (λ x. (0 < length stands.old.stack.items)
-        × (slice_index_or (top 1 stands.old.stack.items) 0 empty ≡ x)
-        × (stands.new.stack.items ≡ below 1 stands.old.stack.items)) }
-    ensures patterns { stands.new.patterns.items ≡ stands.old.patterns.items }
-    ensures setup { stands.new.setup ≡ stands.old.setup }
+fn pop(state: &mut HeadState) -> Option<Hir>
+    ensures found { MatchOption result (length state.old.stack.items ≡ 0) (λ x. (0 < length state.old.stack.items)
+        × (slice_index_or (top 1 state.old.stack.items) 0 empty ≡ x)
+        × (state.new.stack.items ≡ below 1 state.old.stack.items)) }
+    ensures patterns { state.new.patterns.items ≡ state.old.patterns.items }
+    ensures setup { state.new.setup ≡ state.old.setup }
 {
-    stands.stack.pop()
+    state.stack.pop()
 }
 
 /// Takes so many trees off the stack, the lowest first.
-fn pop_many(stands: &mut Stands, count: u32) -> Result<Vec<Hir>, LineFault>
-    ensures ok { IfOk result (λ parts. (count ≤ length stands.old.stack.items)
-        × (parts.items ≡ top count stands.old.stack.items)
-        × (stands.new.stack.items ≡ below count stands.old.stack.items)) }
-    ensures err { IfErr result (λ e. TellsLineFault (when (nat_lt (length stands.old.stack.items) count) TooFewTrees) e) }
-    ensures patterns { stands.new.patterns.items ≡ stands.old.patterns.items }
-    ensures setup { stands.new.setup ≡ stands.old.setup }
+fn pop_many(state: &mut HeadState, count: u32) -> Result<Vec<Hir>, LineFault>
+    ensures ok { IfOk result (λ parts. (count ≤ length state.old.stack.items)
+        × (parts.items ≡ top count state.old.stack.items)
+        × (state.new.stack.items ≡ below count state.old.stack.items)) }
+    ensures err { IfErr result (λ e. TellsLineFault (when (nat_lt (length state.old.stack.items) count) TooFewTrees) e) }
+    ensures patterns { state.new.patterns.items ≡ state.old.patterns.items }
+    ensures setup { state.new.setup ≡ state.old.setup }
 {
-    let len = stands.stack.len();
+    let len = state.stack.len();
     if len < count as usize {
         return Err(LineFault::Is(FaultKind::TooFewTrees));
     }
-    stands
+    state
         .stack
         .split_off(len - count as usize)
         .map_err(|_| LineFault::NoMemory)
 }
 
-fn utf8_line(args: &[&[u8]], stands: &mut Stands) -> Result<(), LineFault>
+fn utf8_line(args: &[&[u8]], state: &mut HeadState) -> Result<(), LineFault>
     requires { length args.now ≡ 1 }
-    ensures ok { OnOk result (IsDone Utf8 (texts args.now) (standing stands.old) (standing stands.new)) }
-    ensures err { IfErr result (λ e. TellsLineFault (left_fault Utf8 (texts args.now) (standing stands.old)) e) }
+    ensures ok { OnOk result (IsDone Utf8 (texts args.now) (head_value state.old) (head_value state.new)) }
+    ensures err { IfErr result (λ e. TellsLineFault (left_fault Utf8 (texts args.now) (head_value state.old)) e) }
 {
     let Some(on) = switch(word_at(args, 0)) else {
         return Err(LineFault::Is(FaultKind::BadChoice));
     };
-    stands.setup.settings.utf8 = on;
+    state.setup.settings.utf8 = on;
     Ok(())
 }
 
@@ -113,85 +113,85 @@ fn byte_at(args: &[&[u8]], i: usize) -> Result<u8, LineFault>
     hex_byte(word_at(args, i)).ok_or(LineFault::Is(FaultKind::BadHex))
 }
 
-fn terminator_line(args: &[&[u8]], stands: &mut Stands) -> Result<(), LineFault>
+fn terminator_line(args: &[&[u8]], state: &mut HeadState) -> Result<(), LineFault>
     requires { (length args.now ≡ 1) ⊎ (length args.now ≡ 2) }
-    ensures ok { OnOk result (IsDone Line (texts args.now) (standing stands.old) (standing stands.new)) }
-    ensures err { IfErr result (λ e. TellsLineFault (left_fault Line (texts args.now) (standing stands.old)) e) }
+    ensures ok { OnOk result (IsDone Line (texts args.now) (head_value state.old) (head_value state.new)) }
+    ensures err { IfErr result (λ e. TellsLineFault (left_fault Line (texts args.now) (head_value state.old)) e) }
 {
     let first = byte_at(args, 0)?;
     let mut terminator = LineTerm::one(first);
     if args.len() == 2 {
         terminator = LineTerm::two(first, byte_at(args, 1)?);
     }
-    stands.setup.settings.line_terminator = terminator;
+    state.setup.settings.line_terminator = terminator;
     Ok(())
 }
 
-fn capacity_line(args: &[&[u8]], stands: &mut Stands) -> Result<(), LineFault>
+fn capacity_line(args: &[&[u8]], state: &mut HeadState) -> Result<(), LineFault>
     requires { length args.now ≡ 1 }
-    ensures ok { OnOk result (IsDone Capacity (texts args.now) (standing stands.old) (standing stands.new)) }
-    ensures err { IfErr result (λ e. TellsLineFault (left_fault Capacity (texts args.now) (standing stands.old)) e) }
+    ensures ok { OnOk result (IsDone Capacity (texts args.now) (head_value state.old) (head_value state.new)) }
+    ensures err { IfErr result (λ e. TellsLineFault (left_fault Capacity (texts args.now) (head_value state.old)) e) }
 {
     let Some(bytes) = number(word_at(args, 0)) else {
         return Err(LineFault::Is(FaultKind::BadNumber));
     };
-    let dfa = stands.setup.settings.dfa;
-    stands.setup.settings.dfa = dfa.cache_capacity(bytes as usize);
+    let dfa = state.setup.settings.dfa;
+    state.setup.settings.dfa = dfa.cache_capacity(bytes as usize);
     Ok(())
 }
 
-fn quit_line(args: &[&[u8]], stands: &mut Stands) -> Result<(), LineFault>
+fn quit_line(args: &[&[u8]], state: &mut HeadState) -> Result<(), LineFault>
     requires { length args.now ≡ 1 }
-    ensures ok { OnOk result (IsDone Quit (texts args.now) (standing stands.old) (standing stands.new)) }
-    ensures err { IfErr result (λ e. TellsLineFault (left_fault Quit (texts args.now) (standing stands.old)) e) }
+    ensures ok { OnOk result (IsDone Quit (texts args.now) (head_value state.old) (head_value state.new)) }
+    ensures err { IfErr result (λ e. TellsLineFault (left_fault Quit (texts args.now) (head_value state.old)) e) }
 {
     let byte = byte_at(args, 0)?;
-    let dfa = stands.setup.settings.dfa;
-    stands.setup.settings.dfa = dfa.quit(byte, true);
+    let dfa = state.setup.settings.dfa;
+    state.setup.settings.dfa = dfa.quit(byte, true);
     Ok(())
 }
 
-fn classes_line(args: &[&[u8]], stands: &mut Stands) -> Result<(), LineFault>
+fn classes_line(args: &[&[u8]], state: &mut HeadState) -> Result<(), LineFault>
     requires { length args.now ≡ 1 }
-    ensures ok { OnOk result (IsDone Classes (texts args.now) (standing stands.old) (standing stands.new)) }
-    ensures err { IfErr result (λ e. TellsLineFault (left_fault Classes (texts args.now) (standing stands.old)) e) }
+    ensures ok { OnOk result (IsDone Classes (texts args.now) (head_value state.old) (head_value state.new)) }
+    ensures err { IfErr result (λ e. TellsLineFault (left_fault Classes (texts args.now) (head_value state.old)) e) }
 {
     let Some(on) = switch(word_at(args, 0)) else {
         return Err(LineFault::Is(FaultKind::BadChoice));
     };
-    let dfa = stands.setup.settings.dfa;
-    stands.setup.settings.dfa = dfa.byte_classes(on);
+    let dfa = state.setup.settings.dfa;
+    state.setup.settings.dfa = dfa.byte_classes(on);
     Ok(())
 }
 
-fn shrink_line(args: &[&[u8]], stands: &mut Stands) -> Result<(), LineFault>
+fn shrink_line(args: &[&[u8]], state: &mut HeadState) -> Result<(), LineFault>
     requires { length args.now ≡ 1 }
-    ensures ok { OnOk result (IsDone Shrink (texts args.now) (standing stands.old) (standing stands.new)) }
-    ensures err { IfErr result (λ e. TellsLineFault (left_fault Shrink (texts args.now) (standing stands.old)) e) }
+    ensures ok { OnOk result (IsDone Shrink (texts args.now) (head_value state.old) (head_value state.new)) }
+    ensures err { IfErr result (λ e. TellsLineFault (left_fault Shrink (texts args.now) (head_value state.old)) e) }
 {
     let Some(on) = switch(word_at(args, 0)) else {
         return Err(LineFault::Is(FaultKind::BadChoice));
     };
-    stands.setup.settings.shrink = on;
+    state.setup.settings.shrink = on;
     Ok(())
 }
 
-fn anchored_line(args: &[&[u8]], stands: &mut Stands) -> Result<(), LineFault>
+fn anchored_line(args: &[&[u8]], state: &mut HeadState) -> Result<(), LineFault>
     requires { length args.now ≡ 1 }
-    ensures ok { OnOk result (IsDone Anchored (texts args.now) (standing stands.old) (standing stands.new)) }
-    ensures err { IfErr result (λ e. TellsLineFault (left_fault Anchored (texts args.now) (standing stands.old)) e) }
+    ensures ok { OnOk result (IsDone Anchored (texts args.now) (head_value state.old) (head_value state.new)) }
+    ensures err { IfErr result (λ e. TellsLineFault (left_fault Anchored (texts args.now) (head_value state.old)) e) }
 {
     let Some(yes) = yes_or_no(word_at(args, 0)) else {
         return Err(LineFault::Is(FaultKind::BadChoice));
     };
-    stands.setup.anchored = yes;
+    state.setup.anchored = yes;
     Ok(())
 }
 
-fn span_line(args: &[&[u8]], stands: &mut Stands) -> Result<(), LineFault>
+fn span_line(args: &[&[u8]], state: &mut HeadState) -> Result<(), LineFault>
     requires { length args.now ≡ 2 }
-    ensures ok { OnOk result (IsDone SpanWord (texts args.now) (standing stands.old) (standing stands.new)) }
-    ensures err { IfErr result (λ e. TellsLineFault (left_fault SpanWord (texts args.now) (standing stands.old)) e) }
+    ensures ok { OnOk result (IsDone SpanWord (texts args.now) (head_value state.old) (head_value state.new)) }
+    ensures err { IfErr result (λ e. TellsLineFault (left_fault SpanWord (texts args.now) (head_value state.old)) e) }
 {
     let Some(start) = number(word_at(args, 0)) else {
         return Err(LineFault::Is(FaultKind::BadNumber));
@@ -199,7 +199,7 @@ fn span_line(args: &[&[u8]], stands: &mut Stands) -> Result<(), LineFault>
     let Some(end) = number(word_at(args, 1)) else {
         return Err(LineFault::Is(FaultKind::BadNumber));
     };
-    stands.setup.span = Some(Span {
+    state.setup.span = Some(Span {
         start: start as usize,
         end: end as usize,
     });
@@ -207,57 +207,57 @@ fn span_line(args: &[&[u8]], stands: &mut Stands) -> Result<(), LineFault>
 }
 
 #[tactic(auto, using(crate::proofs::StackLemmas::below_none))]
-fn empty_line(args: &[&[u8]], stands: &mut Stands) -> Result<(), LineFault>
-    ensures ok { OnOk result (IsDone Empty (texts args.now) (standing stands.old) (standing stands.new)) }
-    ensures err { IfErr result (λ e. TellsLineFault (left_fault Empty (texts args.now) (standing stands.old)) e) }
+fn empty_line(args: &[&[u8]], state: &mut HeadState) -> Result<(), LineFault>
+    ensures ok { OnOk result (IsDone Empty (texts args.now) (head_value state.old) (head_value state.new)) }
+    ensures err { IfErr result (λ e. TellsLineFault (left_fault Empty (texts args.now) (head_value state.old)) e) }
 {
-    push(stands, Hir::empty())
+    push(state, Hir::empty())
 }
 
 #[tactic(auto, using(crate::proofs::StackLemmas::below_none))]
-fn lit_line(alloc: Global, args: &[&[u8]], stands: &mut Stands) -> Result<(), LineFault>
+fn lit_line(alloc: Global, args: &[&[u8]], state: &mut HeadState) -> Result<(), LineFault>
     requires { length args.now ≡ 1 }
-    ensures ok { OnOk result (IsDone Lit (texts args.now) (standing stands.old) (standing stands.new)) }
-    ensures err { IfErr result (λ e. TellsLineFault (left_fault Lit (texts args.now) (standing stands.old)) e) }
+    ensures ok { OnOk result (IsDone Lit (texts args.now) (head_value state.old) (head_value state.new)) }
+    ensures err { IfErr result (λ e. TellsLineFault (left_fault Lit (texts args.now) (head_value state.old)) e) }
 {
     let bytes = hex_bytes(alloc, word_at(args, 0))?;
-    push(stands, Hir::literal(bytes))
+    push(state, Hir::literal(bytes))
 }
 
 #[tactic(auto, using(crate::proofs::StackLemmas::below_none))]
-fn bytes_line(alloc: Global, args: WordsLeft, stands: &mut Stands) -> Result<(), LineFault>
-    ensures ok { OnOk result (IsDone Bytes (words_left args.entry) (standing stands.old) (standing stands.new)) }
-    ensures err { IfErr result (λ e. TellsLineFault (left_fault Bytes (words_left args.entry) (standing stands.old)) e) }
+fn bytes_line(alloc: Global, args: WordsLeft, state: &mut HeadState) -> Result<(), LineFault>
+    ensures ok { OnOk result (IsDone Bytes (words_left args.entry) (head_value state.old) (head_value state.new)) }
+    ensures err { IfErr result (λ e. TellsLineFault (left_fault Bytes (words_left args.entry) (head_value state.old)) e) }
 {
     let ends = low_ends(args)?;
     let Ok(ranges) = class_ranges(alloc, &ends) else {
         return Err(LineFault::NoMemory);
     };
-    push(stands, Hir::bytes(ranges))
+    push(state, Hir::bytes(ranges))
 }
 
 #[tactic(auto, using(crate::proofs::StackLemmas::below_none, crate::proofs::ScalarRangeLemmas::faultless_items_ascend))]
-fn chars_line(alloc: Global, args: WordsLeft, stands: &mut Stands) -> Result<(), LineFault>
-    ensures ok { OnOk result (IsDone Chars (words_left args.entry) (standing stands.old) (standing stands.new)) }
-    ensures err { IfErr result (λ e. TellsLineFault (left_fault Chars (words_left args.entry) (standing stands.old)) e) }
+fn chars_line(alloc: Global, args: WordsLeft, state: &mut HeadState) -> Result<(), LineFault>
+    ensures ok { OnOk result (IsDone Chars (words_left args.entry) (head_value state.old) (head_value state.new)) }
+    ensures err { IfErr result (λ e. TellsLineFault (left_fault Chars (words_left args.entry) (head_value state.old)) e) }
 {
     let items = scalar_items(alloc, args)?;
     let Ok(ranges) = scalar_ranges(alloc, items) else {
         return Err(LineFault::NoMemory);
     };
-    push(stands, Hir::chars(ranges))
+    push(state, Hir::chars(ranges))
 }
 
 #[tactic(auto, using(crate::proofs::StackLemmas::below_none))]
-fn look_line(args: &[&[u8]], stands: &mut Stands) -> Result<(), LineFault>
+fn look_line(args: &[&[u8]], state: &mut HeadState) -> Result<(), LineFault>
     requires { length args.now ≡ 1 }
-    ensures ok { OnOk result (IsDone Look (texts args.now) (standing stands.old) (standing stands.new)) }
-    ensures err { IfErr result (λ e. TellsLineFault (left_fault Look (texts args.now) (standing stands.old)) e) }
+    ensures ok { OnOk result (IsDone Look (texts args.now) (head_value state.old) (head_value state.new)) }
+    ensures err { IfErr result (λ e. TellsLineFault (left_fault Look (texts args.now) (head_value state.old)) e) }
 {
     let Some(assertion) = look_named(word_at(args, 0)) else {
         return Err(LineFault::Is(FaultKind::UnknownLook));
     };
-    push(stands, Hir::look(assertion))
+    push(state, Hir::look(assertion))
 }
 
 fn is_at_most(n: u32, most: Option<u32>) -> bool
@@ -269,10 +269,10 @@ fn is_at_most(n: u32, most: Option<u32>) -> bool
     }
 }
 
-fn rep_line(alloc: Global, args: &[&[u8]], stands: &mut Stands) -> Result<(), LineFault>
+fn rep_line(alloc: Global, args: &[&[u8]], state: &mut HeadState) -> Result<(), LineFault>
     requires { length args.now ≡ 3 }
-    ensures ok { OnOk result (IsDone Rep (texts args.now) (standing stands.old) (standing stands.new)) }
-    ensures err { IfErr result (λ e. TellsLineFault (left_fault Rep (texts args.now) (standing stands.old)) e) }
+    ensures ok { OnOk result (IsDone Rep (texts args.now) (head_value state.old) (head_value state.new)) }
+    ensures err { IfErr result (λ e. TellsLineFault (left_fault Rep (texts args.now) (head_value state.old)) e) }
 {
     let Some(min) = number(word_at(args, 0)) else {
         return Err(LineFault::Is(FaultKind::BadNumber));
@@ -286,57 +286,57 @@ fn rep_line(alloc: Global, args: &[&[u8]], stands: &mut Stands) -> Result<(), Li
     if !is_at_most(min, max) {
         return Err(LineFault::Is(FaultKind::MinAboveMax));
     }
-    let Some(sub) = pop(stands) else {
+    let Some(sub) = pop(state) else {
         return Err(LineFault::Is(FaultKind::TooFewTrees));
     };
     let Ok(tree) = Hir::repetition(alloc, min, max, greedy, sub) else {
         return Err(LineFault::NoMemory);
     };
-    push(stands, tree)
+    push(state, tree)
 }
 
-fn cat_line(args: &[&[u8]], stands: &mut Stands) -> Result<(), LineFault>
+fn cat_line(args: &[&[u8]], state: &mut HeadState) -> Result<(), LineFault>
     requires { length args.now ≡ 1 }
-    ensures ok { OnOk result (IsDone Cat (texts args.now) (standing stands.old) (standing stands.new)) }
-    ensures err { IfErr result (λ e. TellsLineFault (left_fault Cat (texts args.now) (standing stands.old)) e) }
+    ensures ok { OnOk result (IsDone Cat (texts args.now) (head_value state.old) (head_value state.new)) }
+    ensures err { IfErr result (λ e. TellsLineFault (left_fault Cat (texts args.now) (head_value state.old)) e) }
 {
     let Some(count) = number(word_at(args, 0)) else {
         return Err(LineFault::Is(FaultKind::BadNumber));
     };
-    let parts = pop_many(stands, count)?;
-    push(stands, Hir::concat(parts))
+    let parts = pop_many(state, count)?;
+    push(state, Hir::concat(parts))
 }
 
-fn alt_line(args: &[&[u8]], stands: &mut Stands) -> Result<(), LineFault>
+fn alt_line(args: &[&[u8]], state: &mut HeadState) -> Result<(), LineFault>
     requires { length args.now ≡ 1 }
-    ensures ok { OnOk result (IsDone Alt (texts args.now) (standing stands.old) (standing stands.new)) }
-    ensures err { IfErr result (λ e. TellsLineFault (left_fault Alt (texts args.now) (standing stands.old)) e) }
+    ensures ok { OnOk result (IsDone Alt (texts args.now) (head_value state.old) (head_value state.new)) }
+    ensures err { IfErr result (λ e. TellsLineFault (left_fault Alt (texts args.now) (head_value state.old)) e) }
 {
     let Some(count) = number(word_at(args, 0)) else {
         return Err(LineFault::Is(FaultKind::BadNumber));
     };
-    let parts = pop_many(stands, count)?;
-    push(stands, Hir::alternation(parts))
+    let parts = pop_many(state, count)?;
+    push(state, Hir::alternation(parts))
 }
 
-fn pattern_line(args: &[&[u8]], stands: &mut Stands) -> Result<(), LineFault>
-    ensures ok { OnOk result (IsDone Pattern (texts args.now) (standing stands.old) (standing stands.new)) }
-    ensures err { IfErr result (λ e. TellsLineFault (left_fault Pattern (texts args.now) (standing stands.old)) e) }
+fn pattern_line(args: &[&[u8]], state: &mut HeadState) -> Result<(), LineFault>
+    ensures ok { OnOk result (IsDone Pattern (texts args.now) (head_value state.old) (head_value state.new)) }
+    ensures err { IfErr result (λ e. TellsLineFault (left_fault Pattern (texts args.now) (head_value state.old)) e) }
 {
-    let Some(tree) = stands.stack.pop() else {
+    let Some(tree) = state.stack.pop() else {
         return Err(LineFault::Is(FaultKind::NotOneTree));
     };
-    if stands.stack.len() != 0 {
+    if state.stack.len() != 0 {
         return Err(LineFault::Is(FaultKind::NotOneTree));
     }
-    stands.patterns.push(tree).map_err(|_| LineFault::NoMemory)
+    state.patterns.push(tree).map_err(|_| LineFault::NoMemory)
 }
 
-fn find_line(args: &[&[u8]], stands: &mut Stands) -> Result<(), LineFault>
-    ensures ok { OnOk result (IsDone Find (texts args.now) (standing stands.old) (standing stands.new)) }
-    ensures err { IfErr result (λ e. TellsLineFault (left_fault Find (texts args.now) (standing stands.old)) e) }
+fn find_line(args: &[&[u8]], state: &mut HeadState) -> Result<(), LineFault>
+    ensures ok { OnOk result (IsDone Find (texts args.now) (head_value state.old) (head_value state.new)) }
+    ensures err { IfErr result (λ e. TellsLineFault (left_fault Find (texts args.now) (head_value state.old)) e) }
 {
-    if stands.stack.len() != 0 {
+    if state.stack.len() != 0 {
         return Err(LineFault::Is(FaultKind::TreeLeftOver));
     }
     Ok(())
@@ -383,28 +383,28 @@ fn is_class(word: LineWord) -> bool
 
 /// Whether the line sets something where a tree has been pushed: such a tree stands on the stack,
 /// itself or within another, or was taken as a pattern.
-fn is_setting_after_node(word: LineWord, stands: &Stands) -> bool
-    ensures { result ≡ is_setting_after_node word (standing stands.now) }
+fn is_setting_after_node(word: LineWord, state: &HeadState) -> bool
+    ensures { result ≡ is_setting_after_node word (head_value state.now) }
 {
-    is_setting(word) && (stands.stack.len() > 0 || stands.patterns.len() > 0)
+    is_setting(word) && (state.stack.len() > 0 || state.patterns.len() > 0)
 }
 
 /// Follows a line that sets something and has as many words as it has to.
-fn follow_setting(word: LineWord, args: &[&[u8]], stands: &mut Stands) -> Result<(), LineFault>
+fn follow_setting(word: LineWord, args: &[&[u8]], state: &mut HeadState) -> Result<(), LineFault>
     requires setting { IsTrue (is_setting word) }
     requires counted { IsTrue (is_word_count word (length args.now)) }
-    ensures ok { OnOk result (IsDone word (texts args.now) (standing stands.old) (standing stands.new)) }
-    ensures err { IfErr result (λ e. TellsLineFault (left_fault word (texts args.now) (standing stands.old)) e) }
+    ensures ok { OnOk result (IsDone word (texts args.now) (head_value state.old) (head_value state.new)) }
+    ensures err { IfErr result (λ e. TellsLineFault (left_fault word (texts args.now) (head_value state.old)) e) }
 {
     match word {
-        LineWord::Utf8 => utf8_line(args, stands),
-        LineWord::Line => terminator_line(args, stands),
-        LineWord::Capacity => capacity_line(args, stands),
-        LineWord::Quit => quit_line(args, stands),
-        LineWord::Classes => classes_line(args, stands),
-        LineWord::Shrink => shrink_line(args, stands),
-        LineWord::Anchored => anchored_line(args, stands),
-        LineWord::Span => span_line(args, stands),
+        LineWord::Utf8 => utf8_line(args, state),
+        LineWord::Line => terminator_line(args, state),
+        LineWord::Capacity => capacity_line(args, state),
+        LineWord::Quit => quit_line(args, state),
+        LineWord::Classes => classes_line(args, state),
+        LineWord::Shrink => shrink_line(args, state),
+        LineWord::Anchored => anchored_line(args, state),
+        LineWord::Span => span_line(args, state),
         _ => unreachable!(),
     }
 }
@@ -414,23 +414,23 @@ fn follow_other(
     alloc: Global,
     word: LineWord,
     args: &[&[u8]],
-    stands: &mut Stands,
+    state: &mut HeadState,
 ) -> Result<(), LineFault>
     requires other { is_setting word ≡ false }
     requires no_class { is_class word ≡ false }
     requires counted { IsTrue (is_word_count word (length args.now)) }
-    ensures ok { OnOk result (IsDone word (texts args.now) (standing stands.old) (standing stands.new)) }
-    ensures err { IfErr result (λ e. TellsLineFault (left_fault word (texts args.now) (standing stands.old)) e) }
+    ensures ok { OnOk result (IsDone word (texts args.now) (head_value state.old) (head_value state.new)) }
+    ensures err { IfErr result (λ e. TellsLineFault (left_fault word (texts args.now) (head_value state.old)) e) }
 {
     match word {
-        LineWord::Empty => empty_line(args, stands),
-        LineWord::Lit => lit_line(alloc, args, stands),
-        LineWord::Look => look_line(args, stands),
-        LineWord::Rep => rep_line(alloc, args, stands),
-        LineWord::Cat => cat_line(args, stands),
-        LineWord::Alt => alt_line(args, stands),
-        LineWord::Pattern => pattern_line(args, stands),
-        LineWord::Find => find_line(args, stands),
+        LineWord::Empty => empty_line(args, state),
+        LineWord::Lit => lit_line(alloc, args, state),
+        LineWord::Look => look_line(args, state),
+        LineWord::Rep => rep_line(alloc, args, state),
+        LineWord::Cat => cat_line(args, state),
+        LineWord::Alt => alt_line(args, state),
+        LineWord::Pattern => pattern_line(args, state),
+        LineWord::Find => find_line(args, state),
         _ => unreachable!(),
     }
 }
@@ -450,16 +450,16 @@ fn follow_class(
     alloc: Global,
     word: LineWord,
     args: WordsLeft,
-    stands: &mut Stands,
+    state: &mut HeadState,
 ) -> Result<Step, LineFault>
     requires { is_class word ≡ true }
-    ensures ok { IfOk result (λ step. IsDone word (words_left args.entry) (standing stands.old) (standing stands.new)
+    ensures ok { IfOk result (λ step. IsDone word (words_left args.entry) (head_value state.old) (head_value state.new)
         × (step ≡ step_after word)) }
-    ensures err { IfErr result (λ e. TellsLineFault (left_fault word (words_left args.entry) (standing stands.old)) e) }
+    ensures err { IfErr result (λ e. TellsLineFault (left_fault word (words_left args.entry) (head_value state.old)) e) }
 {
     match word {
-        LineWord::Bytes => bytes_line(alloc, args, stands)?,
-        LineWord::Chars => chars_line(alloc, args, stands)?,
+        LineWord::Bytes => bytes_line(alloc, args, state)?,
+        LineWord::Chars => chars_line(alloc, args, state)?,
         _ => unreachable!(),
     }
     Ok(Step::Next)
@@ -470,18 +470,18 @@ fn follow_counted(
     alloc: Global,
     word: LineWord,
     args: &[&[u8]],
-    stands: &mut Stands,
+    state: &mut HeadState,
 ) -> Result<Step, LineFault>
     requires no_class { is_class word ≡ false }
     requires counted { IsTrue (is_word_count word (length args.now)) }
-    ensures ok { IfOk result (λ step. IsDone word (texts args.now) (standing stands.old) (standing stands.new)
+    ensures ok { IfOk result (λ step. IsDone word (texts args.now) (head_value state.old) (head_value state.new)
         × (step ≡ step_after word)) }
-    ensures err { IfErr result (λ e. TellsLineFault (left_fault word (texts args.now) (standing stands.old)) e) }
+    ensures err { IfErr result (λ e. TellsLineFault (left_fault word (texts args.now) (head_value state.old)) e) }
 {
     if is_setting(word) {
-        follow_setting(word, args, stands)?;
+        follow_setting(word, args, state)?;
     } else {
-        follow_other(alloc, word, args, stands)?;
+        follow_other(alloc, word, args, state)?;
     }
     Ok(step_after(word))
 }
@@ -492,13 +492,13 @@ fn follow(
     alloc: Global,
     word: LineWord,
     args: WordsLeft,
-    stands: &mut Stands,
+    state: &mut HeadState,
 ) -> Result<Step, LineFault>
-    ensures ok { IfOk result (λ step. (known_fault word (words_left args.entry) (standing stands.old) ≡ None)
-        × (standing stands.new ≡ after word (words_left args.entry) (standing stands.old)) × (step ≡ step_after word)) }
-    ensures err { IfErr result (λ e. TellsLineFault (known_fault word (words_left args.entry) (standing stands.old)) e) }
+    ensures ok { IfOk result (λ step. (known_fault word (words_left args.entry) (head_value state.old) ≡ None)
+        × (head_value state.new ≡ after word (words_left args.entry) (head_value state.old)) × (step ≡ step_after word)) }
+    ensures err { IfErr result (λ e. TellsLineFault (known_fault word (words_left args.entry) (head_value state.old)) e) }
 {
-    if is_setting_after_node(word, stands) {
+    if is_setting_after_node(word, state) {
         return Err(LineFault::Is(FaultKind::SettingAfterNode));
     }
     let Ok(first) = args.at_most(alloc, MORE_THAN_MAY_FOLLOW) else {
@@ -508,15 +508,15 @@ fn follow(
         return Err(LineFault::Is(FaultKind::WrongWordCount));
     }
     if is_class(word) {
-        return follow_class(alloc, word, args, stands);
+        return follow_class(alloc, word, args, state);
     }
-    follow_counted(alloc, word, &first, stands)
+    follow_counted(alloc, word, &first, state)
 }
 
 /// Follows a line, given without its line feed.
-pub(crate) fn read_line(alloc: Global, line: &[u8], stands: &mut Stands) -> Result<Step, LineFault>
-    ensures ok { IfOk result (λ step. TellsStep (words line.now) (standing stands.old) (standing stands.new) step) }
-    ensures err { IfErr result (λ e. TellsLineFault (fault (words line.now) (standing stands.old)) e) }
+pub(crate) fn read_line(alloc: Global, line: &[u8], state: &mut HeadState) -> Result<Step, LineFault>
+    ensures ok { IfOk result (λ step. TellsStep (words line.now) (head_value state.old) (head_value state.new) step) }
+    ensures err { IfErr result (λ e. TellsLineFault (fault (words line.now) (head_value state.old)) e) }
 {
     let mut args = WordsLeft::of(line);
     let Some(first) = args.next() else {
@@ -525,5 +525,5 @@ pub(crate) fn read_line(alloc: Global, line: &[u8], stands: &mut Stands) -> Resu
     let Some(word) = line_word(first) else {
         return Err(LineFault::Is(FaultKind::UnknownWord));
     };
-    follow(alloc, word, args, stands)
+    follow(alloc, word, args, state)
 }

@@ -41,7 +41,7 @@ pub fn settings_of_caches_do_not_show()
 {}
 
 /// Bytes of one class are interchangeable: over two haystacks of bytes of one length that are alike place by place by the classes
-/// of the automaton that reads upwards, with which it is built, the trees define the same answer, for every set of words. They are
+/// of the automaton that reads forward, with which it is built, the trees define the same answer, for every set of words. They are
 /// not in UTF-8 mode, none asks for words of characters, and the loops of all read.
 pub fn bytes_of_one_class_are_interchangeable()
     ensures answer { (xs : List Tree) (t : Terminator) (p : Pair) → IsRegexOf xs false t p → HasItsClasses p → All LoopsRead xs → HasNoUnicodeWord xs →

@@ -2,7 +2,7 @@
 ghost use Rattle.std.specs.Prelude.{◌≡◌, ◌++◌, ◌+◌, ◌<◌, ◌^◌, ◌≤◌, All, length, IfOk, IsTrue, MatchOption, OnOk, string_bytes};
 ghost use Rattle.hirscan.specs.Refusals.{span_of, is_span};
 ghost use Rattle.hirscan.specs.Asks.{search_of};
-ghost use Rattle.hirscan.specs.Tells.{head_standing};
+ghost use Rattle.hirscan.specs.Tells.{value_of_head};
 ghost use Rattle.search_core.specs.Index.{greatest_index};
 ghost use Rattle.hirscan.specs.Built.{IsBuilt, program_settings};
 ghost use Rattle.regex_pair.specs.Pairs.{AreCachesOf};
@@ -54,7 +54,7 @@ fn refusal(alloc: Global, cause: &str) -> Result<Reply, AllocError>
 /// The span that is searched, as an input.
 fn input_of<'h>(head: &Head, h: &'h [u8]) -> Input<'h>
     requires { IsTrue (is_span (span_of head.now.span h.now) h.now) }
-    ensures { result ≡ search_of (head_standing head.now).setup h.now }
+    ensures { result ≡ search_of (value_of_head head.now).setup h.now }
 {
     let input = Input::new(h).anchored(if head.anchored {
         Anchored::Yes
@@ -108,8 +108,8 @@ fn list_matches(
 ) -> Result<Reply, AllocError>
     requires own { AreCachesOf regex.now cache.old }
     requires built { IsBuilt head.now.patterns.items (program_settings head.now.settings) regex.now }
-    requires searched { IsSearched (head_standing head.now).setup head.now.patterns.items h.now }
-    ensures { IfOk result (λ r. IsSearchReply (head_standing head.now).setup head.now.patterns.items h.now r.ending (string_bytes r.text)) }
+    requires searched { IsSearched (value_of_head head.now).setup head.now.patterns.items h.now }
+    ensures { IfOk result (λ r. IsSearchReply (value_of_head head.now).setup head.now.patterns.items h.now r.ending (string_bytes r.text)) }
 {
     see_bytes(h);
     let mut text = String::new(alloc);
@@ -128,7 +128,7 @@ fn list_matches(
 /// The regex of the head's patterns; `None` where they are too large.
 fn regex_of(alloc: Global, head: &Head) -> Result<Option<Regex>, AllocError>
     requires few { length head.now.patterns.items ≤ greatest_index + 1 }
-    ensures { IfOk result (λ r. MatchOption r (AreTooLarge (head_standing head.now).setup head.now.patterns.items)
+    ensures { IfOk result (λ r. MatchOption r (AreTooLarge (value_of_head head.now).setup head.now.patterns.items)
         (λ p. IsBuilt head.now.patterns.items (program_settings head.now.settings) p)) }
 {
     let settings = program_settings(head.settings);
@@ -147,7 +147,7 @@ fn regex_of(alloc: Global, head: &Head) -> Result<Option<Regex>, AllocError>
 /// The reply where this head was read, with this haystack behind it.
 fn search_reply(alloc: Global, head: &Head, h: &[u8]) -> Result<Reply, AllocError>
     requires few { length head.now.patterns.items ≤ greatest_index + 1 }
-    ensures { IfOk result (λ r. AnswersHead (head_standing head.now).setup head.now.patterns.items h.now r.ending (string_bytes r.text)) }
+    ensures { IfOk result (λ r. AnswersHead (value_of_head head.now).setup head.now.patterns.items h.now r.ending (string_bytes r.text)) }
 {
     if let Some(cause) = refusal_cause(alloc, head, h)? {
         return refusal(alloc, cause.as_str());

@@ -30,7 +30,7 @@ ghost use Rattle.hirscan.specs.Choices.{answer_from, answers_of};
 ghost use Rattle.hirscan.specs.LooseAnswers.{IsLooseAnswer};
 ghost use Rattle.hirscan.specs.Regexes.{IsRegexOf, IsSearchOf, query_of};
 
-/// What is built of two automata that are compiled from the trees, one upwards and without captures, the other downwards, is
+/// What is built of two automata that are compiled from the trees, one forward and without captures, the other in reverse, is
 /// two automata of these trees, where it finds the most preferred match.
 pub fn built_pairs_are_of_the_trees()
     ensures { (o r : Options) (xs : List Tree) (n m : Nfa) → IsCompiled o xs n → IsCompiled r xs m →
@@ -49,8 +49,8 @@ pub fn answers_are_those_of_the_trees()
         o ≡ answer_from (query_of xs utf8 (holds words t q.haystack) q) q.start }
 {}
 
-/// From an end that the search upwards found, the one downwards finds a start: it meets no quit byte, and its mode is supported.
-/// So a search is refused where the search upwards is, and there alone.
+/// From an end that the search forward found, the one in reverse finds a start: it meets no quit byte, and its mode is supported.
+/// So a search is refused where the search forward is, and there alone.
 pub fn the_reverse_half_finds_a_start()
     ensures pair { (xs : List Tree) (utf8 : Bool) (t : Terminator) (p : Pair) → IsRegexOf xs utf8 t p →
         (q : Search) → IsSearchOf xs utf8 q →

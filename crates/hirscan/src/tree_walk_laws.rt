@@ -1,7 +1,7 @@
 //! Laws of overlapping walks over an automaton that is compiled from trees: they tell what the trees mean. Each function has no
 //! code: its contract is the law.
 //!
-//! Read upwards, a walk tells the ends of all spans of the trees that a search may find, each with its pattern; read downwards,
+//! Read forward, a walk tells the ends of all spans of the trees that a search may find, each with its pattern; read in reverse,
 //! their starts. It tells no other places, and each pair once.
 ghost use Rattle.std.specs.Prelude.{◌≡◌, ◌⊎◌, ℕ, ◌<◌, ◌↔◌, Bool, true, false, List, [], length, slice_get, Some, None, Ok};
 ghost use Rattle.search_core.specs.ByteSets.{has};
@@ -27,11 +27,11 @@ ghost use Rattle.hirscan.specs.Built.{IsBuilt};
 ghost use Rattle.hirscan.specs.Regexes.{IsSearchOf};
 ghost use Rattle.hirscan.specs.TreeWalks.{IsWalkerOf, IsToldAscii, IsToldWith};
 
-/// The automata of a regex that is built of trees are such ones: the one that reads downwards always, and the one that reads upwards
+/// The automata of a regex that is built of trees are such ones: the one that reads in reverse always, and the one that reads forward
 /// where it is set to find all matches.
 pub fn built_automata_are_walked()
-    ensures down { (xs : List Tree) (s : Settings) (p : Pair) → IsBuilt xs s p → IsWalkerOf xs true s.utf8 s.line_terminator p.reverse }
-    ensures up { (xs : List Tree) (s : Settings) (p : Pair) → IsBuilt xs s p → kind_of s.dfa ≡ AllMatches →
+    ensures is_reverse { (xs : List Tree) (s : Settings) (p : Pair) → IsBuilt xs s p → IsWalkerOf xs true s.utf8 s.line_terminator p.reverse }
+    ensures is_forward { (xs : List Tree) (s : Settings) (p : Pair) → IsBuilt xs s p → kind_of s.dfa ≡ AllMatches →
         IsWalkerOf xs false s.utf8 s.line_terminator p.forward }
 {}
 

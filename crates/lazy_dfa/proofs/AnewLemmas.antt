@@ -10,13 +10,13 @@ use Rattle.lazy_dfa.specs.Scans.{unless_split, passes, first_place, scan}
 use Rattle.lazy_dfa.specs.ScanLaws.{begins_at, shorter}
 use Rattle.lazy_dfa.proofs.ScanLemmas.{scan_unanchored}
 
-pub next_up : (down : Bool) (s e : ℕ) → down ≡ false → first_place down (s + 1) e ≡ place_of down (first_place down s e) 1
-next_up false s e is = refl
-next_up true s e is = let never : true ≡ false = is in absurd (grind (arith, never))
+pub next_forward : (is_reverse : Bool) (s e : ℕ) → is_reverse ≡ false → first_place is_reverse (s + 1) e ≡ place_of is_reverse (first_place is_reverse s e) 1
+next_forward false s e is = refl
+next_forward true s e is = let never : true ≡ false = is in absurd (grind (arith, never))
 
-pub next_down : (down : Bool) (s e : ℕ) → down ≡ true → first_place down s (e - 1) ≡ place_of down (first_place down s e) 1
-next_down true s e is = refl
-next_down false s e is = let never : false ≡ true = is in absurd (grind (arith, never))
+pub next_reverse : (is_reverse : Bool) (s e : ℕ) → is_reverse ≡ true → first_place is_reverse s (e - 1) ≡ place_of is_reverse (first_place is_reverse s e) 1
+next_reverse true s e is = refl
+next_reverse false s e is = let never : false ≡ true = is in absurd (grind (arith, never))
 
 module _ (r : Reader) (q : Search) (free : is_anchored q.anchored ≡ false) where
   abbrev from : ℕ → ℕ → HalfAnswer
@@ -28,19 +28,19 @@ module _ (r : Reader) (q : Search) (free : is_anchored q.anchored ≡ false) whe
   abbrev len : ℕ
   len = q.end - q.start
 
-  shorter_scan : (down : Bool) → r.automaton.reverse ≡ down → q.start < q.end →
-      scan r (shorter down q) ≡ from (len - 1) (next_place r (begins_at r q))
+  shorter_scan : (is_reverse : Bool) → r.automaton.reverse ≡ is_reverse → q.start < q.end →
+      scan r (shorter is_reverse q) ≡ from (len - 1) (next_place r (begins_at r q))
   shorter_scan false is l =
       scan_unanchored r (shorter false q) (omega (arith, l)) free
       ∙ ap (λ (n : ℕ). from n (first_place r.automaton.reverse (q.start + 1) q.end)) (less q.start q.end)
-      ∙ ap (λ (i : ℕ). from (len - 1) i) (next_up r.automaton.reverse q.start q.end is)
+      ∙ ap (λ (i : ℕ). from (len - 1) i) (next_forward r.automaton.reverse q.start q.end is)
     where
       less : (s e : ℕ) → e - (s + 1) ≡ e - s - 1
       less s e = omega arith
   shorter_scan true is l =
       scan_unanchored r (shorter true q) (omega (arith, l)) free
       ∙ ap (λ (n : ℕ). from n (first_place r.automaton.reverse q.start (q.end - 1))) (less q.start q.end)
-      ∙ ap (λ (i : ℕ). from (len - 1) i) (next_down r.automaton.reverse q.start q.end is)
+      ∙ ap (λ (i : ℕ). from (len - 1) i) (next_reverse r.automaton.reverse q.start q.end is)
     where
       less : (s e : ℕ) → e - 1 - s ≡ e - s - 1
       less s e = omega arith

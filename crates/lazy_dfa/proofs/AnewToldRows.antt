@@ -24,7 +24,7 @@ goes_on n start at = record { searched = n; progress = Some (record { start = st
 begins_anew_where_it_is : told_anew (goes_on 5 3 6) ≡ goes_on 0 6 6
 begins_anew_where_it_is = refl
 
--- ---- a pass upwards over four bytes from 3
+-- ---- a pass forward over four bytes from 3
 
 -- the last of three bytes ends it, and at the second one the cache was cleared
 counts_the_way_from_there : cut_told false 4 1 3 ≡ so_many 1
@@ -40,13 +40,13 @@ quit_byte_ends_it = refl
 refused_byte_is_where_it_is : cut_left false false 4 3 1 2 5 ≡ goes_on 0 4 5
 refused_byte_is_where_it_is = refl
 
--- ---- one downwards over three bytes, from 3
+-- ---- one in reverse over three bytes, from 3
 
-counts_the_way_downwards : cut_told true 3 1 4 ≡ so_many 1
-counts_the_way_downwards = refl
+counts_the_way_in_reverse : cut_told true 3 1 4 ≡ so_many 1
+counts_the_way_in_reverse = refl
 
-refused_byte_is_where_it_is_downwards : cut_left true false 3 3 1 2 0 ≡ goes_on 0 1 0
-refused_byte_is_where_it_is_downwards = refl
+refused_byte_is_where_it_is_in_reverse : cut_left true false 3 3 1 2 0 ≡ goes_on 0 1 0
+refused_byte_is_where_it_is_in_reverse = refl
 
 ends_before_its_last_unit : cut_left true false 3 3 1 3 0 ≡ so_many 1
 ends_before_its_last_unit = refl

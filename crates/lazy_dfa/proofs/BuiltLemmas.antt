@@ -58,7 +58,7 @@ same_set : (zeros set : List Bool) (rs : List (ℕ × ℕ)) (b c : ℕ) → IsUn
     marks_below (recorded (recorded zeros rs) (ranges_from set 0)) b ≡ marks_below (recorded (recorded zeros rs) (ranges_from set 0)) c → has set b ≡ has set c
 same_set zeros set rs b c none len small little e = ⊎_elim
     (λ (up : b < c). same_class_same_set set zeros rs b c none len (omega (arith, up)) little e)
-    (λ (down : c ≤ b). sym (same_class_same_set set zeros rs c b none len down small (sym e)))
+    (λ (is_reverse : c ≤ b). sym (same_class_same_set set zeros rs c b none len is_reverse small (sym e)))
     (cases_lt b c)
 
 same_quits : (t : Terminator) (nodes : List Node) (set : List Bool) (b c : ℕ) → b < 256 → c < 256 →

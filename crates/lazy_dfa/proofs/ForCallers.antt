@@ -18,8 +18,8 @@ pub use Rattle.lazy_dfa.proofs.SupportLemmas.{scan_by_support}
 -- an answer depends on its reach, which has no quit byte, the place that is found, and lies in or beside the span
 pub use Rattle.lazy_dfa.proofs.IntervalReachLemmas.{scan_by_reach, scan_is_quiet, scan_place_is_reached, reach_is_near, scan_in_span}
 pub use Rattle.lazy_dfa.proofs.HasReachLemmas.{scan_has_reach, scan_has_reach_back, start_is_state}
--- one who reads up reads the bytes from the one before the span on, as many as units are read, and one more
-pub use Rattle.lazy_dfa.proofs.HasReachLemmas.{reached_up, below_reach}
+-- one who reads forward reads the bytes from the one before the span on, as many as units are read, and one more
+pub use Rattle.lazy_dfa.proofs.HasReachLemmas.{reached_forward, below_reach}
 pub use Rattle.lazy_dfa.proofs.ReachLemmas.{scan_few}
 -- each byte above 7F is a quit byte where words by characters are asked for
 pub use Rattle.lazy_dfa.proofs.QuitSetLemmas.{supported_quits}

@@ -122,12 +122,12 @@ module _ (r : Reader) (q : Search) (fits : q.start ≤ q.end) (wanted : ℕ → 
 
 -- ---- what is wanted of the ends of runs
 
-left_is : (down : Bool) (t : Text) (s e k : ℕ) → t.start ≡ s → t.end ≡ e → s ≤ e → k ≤ e - s →
-    e - s - k ≡ bytes_left down t (place_of down (first_place down s e) k)
+left_is : (is_reverse : Bool) (t : Text) (s e k : ℕ) → t.start ≡ s → t.end ≡ e → s ≤ e → k ≤ e - s →
+    e - s - k ≡ bytes_left is_reverse t (place_of is_reverse (first_place is_reverse s e) k)
 left_is false t s e k a b l up = omega (arith, a, b, l, up)
 left_is true t s e k a b l up = omega (arith, a, b, l, up)
 
-place_low : (down : Bool) (s e k : ℕ) → s ≤ e → k ≤ e - s → place_of down (first_place down s e) k ≤ e
+place_low : (is_reverse : Bool) (s e k : ℕ) → s ≤ e → k ≤ e - s → place_of is_reverse (first_place is_reverse s e) k ≤ e
 place_low false s e k l up = omega (arith, l, up)
 place_low true s e k l up = omega (arith, l, up)
 
@@ -168,7 +168,7 @@ module _ (r : Reader) (q : Search) (name : ℕ) (formed : IsWellFormed r.automat
 
 -- ---- for each reading of looks
 
-place_add : (down : Bool) (i m k : ℕ) → place_of down (place_of down i m) k ≡ place_of down i (m + k)
+place_add : (is_reverse : Bool) (i m k : ℕ) → place_of is_reverse (place_of is_reverse i m) k ≡ place_of is_reverse i (m + k)
 place_add false i m k = omega arith
 place_add true i m k = omega arith
 
@@ -219,17 +219,17 @@ module _ (r : Reader) (q : Search) (name : ℕ) (formed : IsWellFormed r.automat
     (leftmost : r.kind ≡ LeftmostFirst) (late : q.earliest ≡ false) (plain : list_any is_capture r.automaton.states ≡ false)
     (holds : Look → ℕ → Bool)
     (agree : ReadsAlike r holds q.haystack q.start q.end (begins_at r q) (scan_len r q)) where
-  abbrev down : Bool
-  down = r.automaton.reverse
+  abbrev is_reverse : Bool
+  is_reverse = r.automaton.reverse
 
   abbrev all_bytes : ℕ
   all_bytes = q.end - q.start
 
   abbrev there : ℕ → ℕ
-  there k = place_of down (begins_at r q) k
+  there k = place_of is_reverse (begins_at r q) k
 
   abbrev left_there : ℕ → ℕ
-  left_there k = bytes_left down (span r.terminator q.haystack q.start q.end) (there k)
+  left_there k = bytes_left is_reverse (span r.terminator q.haystack q.start q.end) (there k)
 
   abbrev len_there : ℕ → ℕ
   len_there k = pass_len r q.anchored q.earliest q.haystack (all_bytes - k) (there k)
@@ -273,21 +273,21 @@ module _ (r : Reader) (q : Search) (name : ℕ) (formed : IsWellFormed r.automat
       ∙ ap (λ (n : ℕ). pass r q.anchored false q.haystack n (there k)) (same_bytes k few)
 
   abbrev IsReadAlike : Look → ℕ → Type 0
-  IsReadAlike l j = is_passed down (span r.terminator q.haystack q.start q.end) l j ≡ is_passed down
+  IsReadAlike l j = is_passed is_reverse (span r.terminator q.haystack q.start q.end) l j ≡ is_passed is_reverse
       (read_by holds q.haystack q.start q.end) l j
 
   agree_there : (k : ℕ) → k ≤ restarts q.anchored all_bytes → BeforeSplits k → ReadsAlike r holds q.haystack q.start q.end (there k)
       (pass_len r q.anchored false q.haystack (left_there k) (there k))
   agree_there k few before l j has less =
       let same = same_len k few in
-      subst (λ (p : ℕ). IsReadAlike l p) (sym (place_add down (begins_at r q) k j))
+      subst (λ (p : ℕ). IsReadAlike l p) (sym (place_add is_reverse (begins_at r q) k j))
       (agree l (k + j) has (covered k j few before (omega (arith, less, same))))
 
   nth_finds_first : (k : ℕ) (o : Option (ℕ × ℕ)) → k ≤ restarts q.anchored all_bytes → BeforeSplits k →
       pass_of r q.anchored q.earliest q.haystack all_bytes (begins_at r q) k ≡ found o → o ≡ first (ends_by r q holds name k)
   nth_finds_first k o few before is =
       pass_finds_first_anyhow r q.anchored q.haystack q.start q.end (there k) name leftmost formed plain
-      (place_low down q.start q.end k fits (few_restarts q.anchored all_bytes k few)) within named low holds
+      (place_low is_reverse q.start q.end k fits (few_restarts q.anchored all_bytes k few)) within named low holds
       (agree_there k few before) o
       (sym (same_pass k few) ∙ is)
 

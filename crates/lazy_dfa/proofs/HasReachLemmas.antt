@@ -37,25 +37,25 @@ start_is_state a (Pattern p) name sound e = one_of (λ (x : ℕ). x < length a.s
 
 -- ---- places
 
--- for one who reads up
-pub reached_up : (down : Bool) (s e n x : ℕ) → down ≡ false → s ≤ x + 1 → x < s + n → IsReached down (first_place down s e) n x
-reached_up false s e n x up from to = (from, to)
-reached_up true s e n x up from to = let never : true ≡ false = up in absurd (grind (arith, never))
+-- for one who reads forward
+pub reached_forward : (is_reverse : Bool) (s e n x : ℕ) → is_reverse ≡ false → s ≤ x + 1 → x < s + n → IsReached is_reverse (first_place is_reverse s e) n x
+reached_forward false s e n x up from to = (from, to)
+reached_forward true s e n x up from to = let never : true ≡ false = up in absurd (grind (arith, never))
 
-pub below_reach : (down : Bool) (s e n x : ℕ) → down ≡ false → IsReached down (first_place down s e) n x → x < s + n
+pub below_reach : (is_reverse : Bool) (s e n x : ℕ) → is_reverse ≡ false → IsReached is_reverse (first_place is_reverse s e) n x → x < s + n
 below_reach false s e n x up there = there.1
 below_reach true s e n x up there = let never : true ≡ false = up in absurd (grind (arith, never))
 
-same_length : (down : Bool) (s e n : ℕ) → down ≡ false → s + n - first_place down s e ≡ n
+same_length : (is_reverse : Bool) (s e n : ℕ) → is_reverse ≡ false → s + n - first_place is_reverse s e ≡ n
 same_length false s e n up = omega arith
 same_length true s e n up = let never : true ≡ false = up in absurd (grind (arith, never))
 
--- for one who reads down
-reached_down : (down : Bool) (s e n x : ℕ) → down ≡ true → e - n ≤ x → x ≤ e → IsReached down (first_place down s e) n x
-reached_down true s e n x back from to = (omega (arith, from), to)
-reached_down false s e n x back from to = let never : false ≡ true = back in absurd (grind (arith, never))
+-- for one who reads in reverse
+reached_reverse : (is_reverse : Bool) (s e n x : ℕ) → is_reverse ≡ true → e - n ≤ x → x ≤ e → IsReached is_reverse (first_place is_reverse s e) n x
+reached_reverse true s e n x back from to = (omega (arith, from), to)
+reached_reverse false s e n x back from to = let never : false ≡ true = back in absurd (grind (arith, never))
 
-above_reach : (down : Bool) (s e n x : ℕ) → down ≡ true → IsReached down (first_place down s e) n x → e - n ≤ x
+above_reach : (is_reverse : Bool) (s e n x : ℕ) → is_reverse ≡ true → IsReached is_reverse (first_place is_reverse s e) n x → e - n ≤ x
 above_reach true s e n x back there = let from = there.0 in omega (arith, from)
 above_reach false s e n x back there = let never : false ≡ true = back in absurd (grind (arith, never))
 
@@ -89,7 +89,7 @@ module _ (r : Reader) (q : Search) (o : Option (ℕ × ℕ)) (up : r.automaton.r
     within = let few = scan_few r q in omega (arith, fits, few);
     done = λ over x from to. absurd (omega (arith, fits, over));
     past = λ e same. below_reach r.automaton.reverse q.start q.end len e.0 up (scan_place_is_reached r q e (is ∙ ap found same)).1;
-    quiet = λ x from to. scan_is_quiet r q o within is x (fits, reached_up r.automaton.reverse q.start q.end len x up from to);
+    quiet = λ x from to. scan_is_quiet r q o within is x (fits, reached_forward r.automaton.reverse q.start q.end len x up from to);
     local = λ g in_g same. same_elsewhere r q o within is g in_g
         (λ x there. same x (reach_is_near r q x there).0 (below_reach r.automaton.reverse q.start q.end len x up there.1));
     first = λ name holds begun leftmost late plain named alike.
@@ -120,7 +120,7 @@ module _ (r : Reader) (q : Search) (o : Option (ℕ × ℕ)) (back : r.automaton
     within = let few = scan_few r q in omega (arith, fits, few);
     done = λ over x from to. absurd (omega (arith, fits, over));
     past = λ e same. above_reach r.automaton.reverse q.start q.end (scan_len r q) e.0 back (scan_place_is_reached r q e (is ∙ ap found same)).1;
-    quiet = λ x from to. scan_is_quiet r q o within is x (fits, reached_down r.automaton.reverse q.start q.end (scan_len r q) x back from to);
+    quiet = λ x from to. scan_is_quiet r q o within is x (fits, reached_reverse r.automaton.reverse q.start q.end (scan_len r q) x back from to);
     local = λ g in_g same. same_elsewhere r q o within is g in_g
         (λ x there. same x (above_reach r.automaton.reverse q.start q.end (scan_len r q) x back there.1) (reach_is_near r q x there).1);
   }

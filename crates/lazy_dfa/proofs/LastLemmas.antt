@@ -50,15 +50,15 @@ no_end xs x j there at none =
     has_filter same_pair pairs_equal (is_at j) x xs ((Decides-eqb x.0 j).1 at) ∙ there in
     none_in same_pair x ⊥ (sym (ap (has same_pair x) none) ∙ kept)
 
-pub not_past : (down : Bool) (i k m : ℕ) → k ≤ m → is_past down (place_of down i k) (place_of down i m) ≡ false
+pub not_past : (is_reverse : Bool) (i k m : ℕ) → k ≤ m → is_past is_reverse (place_of is_reverse i k) (place_of is_reverse i m) ≡ false
 not_past false i k m l = le-ltb (i + m) (i + k) (omega (arith, l))
 not_past true i k m l = le-ltb (i - k) (i - m) (omega (arith, l))
 
-module _ (down : Bool) (i len : ℕ) (ends : List (ℕ × ℕ)) (states : ℕ → StateValue)
-    (inside : (x : ℕ × ℕ) → Has same_pair x ends → IsInside down i len x.0)
-    (all : (k : ℕ) → k ≤ len → (states (suc k)).matches ≡ map pattern (filter (is_at (place_of down i k)) ends)) where
+module _ (is_reverse : Bool) (i len : ℕ) (ends : List (ℕ × ℕ)) (states : ℕ → StateValue)
+    (inside : (x : ℕ × ℕ) → Has same_pair x ends → IsInside is_reverse i len x.0)
+    (all : (k : ℕ) → k ≤ len → (states (suc k)).matches ≡ map pattern (filter (is_at (place_of is_reverse i k)) ends)) where
   abbrev place : ℕ → ℕ
-  place k = place_of down i k
+  place k = place_of is_reverse i k
 
   none_at : (k : ℕ) → k ≤ len → (states (suc k)).matches ≡ [] → filter (is_at (place k)) ends ≡ []
   none_at k l silent = none_mapped (filter (is_at (place k)) ends) (sym (all k l) ∙ silent)
@@ -81,7 +81,7 @@ module _ (down : Bool) (i len : ℕ) (ends : List (ℕ × ℕ)) (states : ℕ �
   abbrev BestAt : ℕ → ℕ → Type 0
   BestAt j p = first (filter (λ (x : ℕ × ℕ). nat_eq x.0 j) ends) ≡ Some (j, p)
 
-  pub last_end : (o : Option (ℕ × ℕ)) → latest_listed states place len 0 ≡ o → IsLastEnd down ends o
+  pub last_end : (o : Option (ℕ × ℕ)) → latest_listed states place len 0 ≡ o → IsLastEnd is_reverse ends o
   last_end None e = no_ends (λ k l. none_listed states place len 0 e k (omega arith) (omega (arith, l)))
   last_end (Some (j, p)) e =
       let r = last_listed states place len 0 j p e in
@@ -91,21 +91,21 @@ module _ (down : Bool) (i len : ℕ) (ends : List (ℕ × ℕ)) (states : ℕ �
             ⊎_elim
             (λ (past : r.0 < y.0). let up = y.1 in
             absurd (no_end ends x (place y.0) there y.2 (none_at y.0 y.1 (r.5 y.0 past (omega (arith, up))))))
-            (λ (l : y.0 ≤ r.0). ap (λ (m : ℕ). is_past down m j) y.2 ∙ ap (is_past down (place y.0)) r.3
-            ∙ not_past down i y.0 r.0 l)
+            (λ (l : y.0 ≤ r.0). ap (λ (m : ℕ). is_past is_reverse m j) y.2 ∙ ap (is_past is_reverse (place y.0)) r.3
+            ∙ not_past is_reverse i y.0 r.0 l)
             (cases_lt r.0 y.0),
       )
 
   pub nearest_end : (m p : ℕ) → m ≤ len → first (states (suc m)).matches ≡ Some p →
-      ((l : ℕ) → l < m → (states (suc l)).matches ≡ []) → IsNearestEnd down ends (Some (place m, p))
+      ((l : ℕ) → l < m → (states (suc l)).matches ≡ []) → IsNearestEnd is_reverse ends (Some (place m, p))
   nearest_end m p up is silent = (
     best_there m p up is,
     λ x there. let y = inside x there in
         ⊎_elim
         (λ (before : y.0 < m). absurd (no_end ends x (place y.0) there y.2 (none_at y.0 y.1 (silent y.0 before))))
-        (λ (l : m ≤ y.0). ap (is_past down (place m)) y.2 ∙ not_past down i m y.0 l)
+        (λ (l : m ≤ y.0). ap (is_past is_reverse (place m)) y.2 ∙ not_past is_reverse i m y.0 l)
         (cases_lt y.0 m),
   )
 
-  pub no_end_at_all : ((k : ℕ) → k ≤ len → (states (suc k)).matches ≡ []) → IsNearestEnd down ends None
+  pub no_end_at_all : ((k : ℕ) → k ≤ len → (states (suc k)).matches ≡ []) → IsNearestEnd is_reverse ends None
   no_end_at_all silent = no_ends silent

@@ -22,7 +22,7 @@ so_many n = record { searched = n; progress = None }
 abbrev goes_on : ℕ → ℕ → ℕ → Told
 goes_on n start at = record { searched = n; progress = Some (record { start = start; at = at }) }
 
--- ---- a pass upwards over four bytes from 3
+-- ---- a pass forward over four bytes from 3
 
 abbrev up : Told
 up = told_from false (4, 3) nothing_told
@@ -39,22 +39,22 @@ refused_byte_is_where_it_is = refl
 goes_on_behind_the_span : left_told false true 4 4 6 up ≡ goes_on 0 3 6
 goes_on_behind_the_span = refl
 
--- ---- one downwards over three bytes, from 3
+-- ---- one in reverse over three bytes, from 3
 
-abbrev down : Told
-down = told_from true (3, 3) nothing_told
+abbrev is_reverse : Told
+is_reverse = told_from true (3, 3) nothing_told
 
-begins_at_its_last_byte : down ≡ goes_on 0 2 2
+begins_at_its_last_byte : is_reverse ≡ goes_on 0 2 2
 begins_at_its_last_byte = refl
 
-quit_byte_is_its_end_downwards : left_told true true 3 1 1 down ≡ so_many 1
-quit_byte_is_its_end_downwards = refl
+quit_byte_is_its_end_in_reverse : left_told true true 3 1 1 is_reverse ≡ so_many 1
+quit_byte_is_its_end_in_reverse = refl
 
-refused_byte_is_where_it_is_downwards : left_told true false 3 1 1 down ≡ goes_on 0 2 1
-refused_byte_is_where_it_is_downwards = refl
+refused_byte_is_where_it_is_in_reverse : left_told true false 3 1 1 is_reverse ≡ goes_on 0 2 1
+refused_byte_is_where_it_is_in_reverse = refl
 
 -- before the unit behind the span it has ended at the span's start
-ends_before_its_last_unit : left_told true false 3 3 0 down ≡ so_many 2
+ends_before_its_last_unit : left_told true false 3 3 0 is_reverse ≡ so_many 2
 ends_before_its_last_unit = refl
 
 tells_nothing_over_no_bytes : left_told true true 0 0 0 (told_from true (0, 0) nothing_told) ≡ nothing_told

@@ -16,7 +16,7 @@ use Rattle.lazy_dfa.specs.PassLaws.{unit_of}
 use Rattle.lazy_dfa.specs.Passes.{recorded, is_empty}
 use Rattle.lazy_dfa.specs.Points.{GoesTo, point}
 use Rattle.lazy_dfa.specs.Readers.{is_quit}
-use Rattle.lazy_dfa.specs.Stands.{left_at, GoesBetween}
+use Rattle.lazy_dfa.specs.PassPlaces.{left_at, GoesBetween}
 use Rattle.lazy_dfa.specs.Steps.{noted}
 use Rattle.lazy_dfa.proofs.ChangeLemmas.{grew_refl, one_state}
 use Rattle.lazy_dfa.proofs.IsCacheLemmas.{row_is_plain}
@@ -135,7 +135,7 @@ never_stops : (d : Dfa) (earliest : Bool) (h : List ℕ) (at : ℕ) (s : StateVa
 never_stops d earliest h at s k e j l = ap (λ (x : Bool). x && not (is_empty (state_behind (reader d) h at s (suc j)).matches)) e
 
 -- the run was handed the haystack of the input and its last place, and the match behind it is told by the state that it met last
-module _ (d : Dfa) (v : CacheValue) (q : Search) (h : List ℕ) (down : Bool) (from first at id met last end : ℕ) (own : IsCacheOf d v)
+module _ (d : Dfa) (v : CacheValue) (q : Search) (h : List ℕ) (is_reverse : Bool) (from first at id met last end : ℕ) (own : IsCacheOf d v)
     (same : h ≡ q.haystack) (late : q.earliest ≡ false) (before behind : Option (ℕ × ℕ))
     (stays : unknown_id ≤ met → behind ≡ before) (best : met < unknown_id → (s : StateValue) → HeldAt v met s → behind ≡ recorded last s before) where
   abbrev Comes : Option (ℕ × ℕ) → ℕ → ℕ → ℕ → Type 0
@@ -162,15 +162,15 @@ module _ (d : Dfa) (v : CacheValue) (q : Search) (h : List ℕ) (down : Bool) (f
     λ s held. never_stops d q.earliest q.haystack from s j late,
   )
 
-  pub lingers_up : down ≡ false → end ≡ q.end → from ≤ at → at ≤ end → Lingers d h v from first at id met last (at - from) → Between (left_at down q from - left_at down q at)
-  lingers_up e stop past within lingers = between (at - from) (left_at down q from - left_at down q at) (counted down e) lingers
+  pub lingers_forward : is_reverse ≡ false → end ≡ q.end → from ≤ at → at ≤ end → Lingers d h v from first at id met last (at - from) → Between (left_at is_reverse q from - left_at is_reverse q at)
+  lingers_forward e stop past within lingers = between (at - from) (left_at is_reverse q from - left_at is_reverse q at) (counted is_reverse e) lingers
     where
       counted : (b : Bool) → b ≡ false → at - from ≡ left_at b q from - left_at b q at
       counted true e = absurd (true≢false e)
       counted false e = omega (arith, stop, past, within)
 
-  pub lingers_down : down ≡ true → end ≡ q.start → at ≤ from → end ≤ at → Lingers d h v from first at id met last (from - at) → Between (left_at down q from - left_at down q at)
-  lingers_down e stop past within lingers = between (from - at) (left_at down q from - left_at down q at) (counted down e) lingers
+  pub lingers_reverse : is_reverse ≡ true → end ≡ q.start → at ≤ from → end ≤ at → Lingers d h v from first at id met last (from - at) → Between (left_at is_reverse q from - left_at is_reverse q at)
+  lingers_reverse e stop past within lingers = between (from - at) (left_at is_reverse q from - left_at is_reverse q at) (counted is_reverse e) lingers
     where
       counted : (b : Bool) → b ≡ true → from - at ≡ left_at b q from - left_at b q at
       counted false e = absurd (true≢false (sym e))
@@ -182,14 +182,14 @@ met_below d h v from first at id met last k lingers l = let n : met ≢ unknown_
 
 -- ---- two runs one after the other
 
-pub between_both : (d : Dfa) (v : CacheValue) (q : Search) (down : Bool) (i j k x y z : ℕ) (a b c : Option (ℕ × ℕ)) → IsDfa d → AreBytes q.haystack → IsCacheOf d v → IsRow v x → IsRow v y →
-    left_at down q j ≤ left_at down q i → left_at down q k ≤ left_at down q j → (m n : ℕ) →
-    GoesBetween d q.earliest q.haystack (point v m n i x a) (point v m n j y b) (left_at down q i - left_at down q j) →
-    GoesBetween d q.earliest q.haystack (point v m n j y b) (point v m n k z c) (left_at down q j - left_at down q k) →
-    GoesBetween d q.earliest q.haystack (point v m n i x a) (point v m n k z c) (left_at down q i - left_at down q k)
-between_both d v q down i j k x y z a b c made bytes own row here closer nearer m n f g =
-    subst (GoesBetween d q.earliest q.haystack (point v m n i x a) (point v m n k z c)) (both (left_at down q i) (left_at down q j) (left_at down q k) closer nearer)
-    (between_on d q.earliest q.haystack made bytes (point v m n i x a) (point v m n j y b) (point v m n k z c) (left_at down q i - left_at down q j) (left_at down q j - left_at down q k)
+pub between_both : (d : Dfa) (v : CacheValue) (q : Search) (is_reverse : Bool) (i j k x y z : ℕ) (a b c : Option (ℕ × ℕ)) → IsDfa d → AreBytes q.haystack → IsCacheOf d v → IsRow v x → IsRow v y →
+    left_at is_reverse q j ≤ left_at is_reverse q i → left_at is_reverse q k ≤ left_at is_reverse q j → (m n : ℕ) →
+    GoesBetween d q.earliest q.haystack (point v m n i x a) (point v m n j y b) (left_at is_reverse q i - left_at is_reverse q j) →
+    GoesBetween d q.earliest q.haystack (point v m n j y b) (point v m n k z c) (left_at is_reverse q j - left_at is_reverse q k) →
+    GoesBetween d q.earliest q.haystack (point v m n i x a) (point v m n k z c) (left_at is_reverse q i - left_at is_reverse q k)
+between_both d v q is_reverse i j k x y z a b c made bytes own row here closer nearer m n f g =
+    subst (GoesBetween d q.earliest q.haystack (point v m n i x a) (point v m n k z c)) (both (left_at is_reverse q i) (left_at is_reverse q j) (left_at is_reverse q k) closer nearer)
+    (between_on d q.earliest q.haystack made bytes (point v m n i x a) (point v m n j y b) (point v m n k z c) (left_at is_reverse q i - left_at is_reverse q j) (left_at is_reverse q j - left_at is_reverse q k)
     own own row here f g)
   where
     both : (i j k : ℕ) → j ≤ i → k ≤ j → (i - j) + (j - k) ≡ i - k

@@ -188,7 +188,7 @@ byte_is h bytes at = ⊎_elim
     (λ (g : length h ≤ at). subst IsUnit (sym (slice_get_past h at g)) tt)
     (cases_lt at (length h))
 
-pub unit_is : (h : List ℕ) → AreBytes h → (down : Bool) (at : ℕ) → IsUnit (unit_at down h at)
+pub unit_is : (h : List ℕ) → AreBytes h → (is_reverse : Bool) (at : ℕ) → IsUnit (unit_at is_reverse h at)
 unit_is h bytes false at = byte_is h bytes at
 unit_is h bytes true zero = tt
 unit_is h bytes true (suc at) = byte_is h bytes at
@@ -294,7 +294,7 @@ module _ (d : Dfa) (b c : CacheValue) (own : IsCacheOf d b) (grows : Grows d b c
 
 -- ---- parts of paths
 
-pub place_sum : (down : Bool) (i k l : ℕ) → place_of down (place_of down i k) l ≡ place_of down i (k + l)
+pub place_sum : (is_reverse : Bool) (i k l : ℕ) → place_of is_reverse (place_of is_reverse i k) l ≡ place_of is_reverse i (k + l)
 place_sum false i k l = omega arith
 place_sum true i k l = omega arith
 

@@ -10,7 +10,7 @@ use Rattle.lazy_dfa.specs.PassLaws.{splits}
 use Rattle.lazy_dfa.specs.Readers.{Reader, HalfAnswer, found}
 use Rattle.lazy_dfa.specs.ScanLaws.{begins_at, shorter}
 use Rattle.lazy_dfa.specs.Scans.{passes, first_place, scan}
-use Rattle.lazy_dfa.proofs.AnewLemmas.{next_up, next_down, again, last_pass}
+use Rattle.lazy_dfa.proofs.AnewLemmas.{next_forward, next_reverse, again, last_pass}
 use Rattle.lazy_dfa.proofs.RestartLemmas.{whole_stays, split_goes}
 use Rattle.lazy_dfa.proofs.ScanLemmas.{past_le, scan_done, scan_anchored, scan_unanchored}
 
@@ -118,51 +118,51 @@ module _ (r : Reader) (t : Search) (free : is_anchored t.anchored ≡ false) whe
   abbrev bytes : ℕ
   bytes = t.end - t.start
 
-  shorter_passes : (down : Bool) → r.automaton.reverse ≡ down → t.start < t.end →
-      passes_of r (shorter down t) ≡ all (bytes - 1) (next_place r (begins_at r t))
+  shorter_passes : (is_reverse : Bool) → r.automaton.reverse ≡ is_reverse → t.start < t.end →
+      passes_of r (shorter is_reverse t) ≡ all (bytes - 1) (next_place r (begins_at r t))
   shorter_passes false is l =
       free_passes r (shorter false t) (omega (arith, l)) free
       ∙ ap (λ (n : ℕ). all n (first_place r.automaton.reverse (t.start + 1) t.end)) (less t.start t.end)
-      ∙ ap (λ (i : ℕ). all (bytes - 1) i) (next_up r.automaton.reverse t.start t.end is)
+      ∙ ap (λ (i : ℕ). all (bytes - 1) i) (next_forward r.automaton.reverse t.start t.end is)
     where
       less : (s e : ℕ) → e - (s + 1) ≡ e - s - 1
       less s e = omega arith
   shorter_passes true is l =
       free_passes r (shorter true t) (omega (arith, l)) free
       ∙ ap (λ (n : ℕ). all n (first_place r.automaton.reverse t.start (t.end - 1))) (less t.start t.end)
-      ∙ ap (λ (i : ℕ). all (bytes - 1) i) (next_down r.automaton.reverse t.start t.end is)
+      ∙ ap (λ (i : ℕ). all (bytes - 1) i) (next_reverse r.automaton.reverse t.start t.end is)
     where
       less : (s e : ℕ) → e - 1 - s ≡ e - s - 1
       less s e = omega arith
 
-  over : (down : Bool) → t.start ≡ t.end → (down ≡ true → 0 < t.end) → (shorter down t).end < (shorter down t).start
+  over : (is_reverse : Bool) → t.start ≡ t.end → (is_reverse ≡ true → 0 < t.end) → (shorter is_reverse t).end < (shorter is_reverse t).start
   over false same some = omega (arith, same)
   over true same some = let l = some refl in omega (arith, same, l)
 
   module _ (fits : t.start ≤ t.end) (e : first_splits r t ≡ true) where
-    -- where one reads downwards, the span's end isn't the haystack's start
-    passes_anew_by : (down : Bool) → r.automaton.reverse ≡ down → (down ≡ true → 0 < t.end) → (t.start < t.end) ⊎ (t.end ≤ t.start) →
-        passes_of r t ≡ first_pass r t ∷ passes_of r (shorter down t)
-    passes_anew_by down is some (inl l) =
+    -- where one reads in reverse, the span's end isn't the haystack's start
+    passes_anew_by : (is_reverse : Bool) → r.automaton.reverse ≡ is_reverse → (is_reverse ≡ true → 0 < t.end) → (t.start < t.end) ⊎ (t.end ≤ t.start) →
+        passes_of r t ≡ first_pass r t ∷ passes_of r (shorter is_reverse t)
+    passes_anew_by is_reverse is some (inl l) =
         free_passes r t fits free ∙ on_split r t fits bytes (bytes - 1) (begins_at r t) (omega (arith, l)) e
-        ∙ sym (ap (λ (ps : List (ℕ × ℕ)). first_pass r t ∷ ps) (shorter_passes down is l))
-    passes_anew_by down is some (inr l) =
+        ∙ sym (ap (λ (ps : List (ℕ × ℕ)). first_pass r t ∷ ps) (shorter_passes is_reverse is l))
+    passes_anew_by is_reverse is some (inr l) =
         lowest_once r t fits free (omega (arith, fits, l))
-        ∙ sym (ap (λ (ps : List (ℕ × ℕ)). first_pass r t ∷ ps) (done_passes r (shorter down t) (over down (omega (arith, fits, l)) some)))
+        ∙ sym (ap (λ (ps : List (ℕ × ℕ)). first_pass r t ∷ ps) (done_passes r (shorter is_reverse t) (over is_reverse (omega (arith, fits, l)) some)))
 
-    scan_anew_by : (down : Bool) → r.automaton.reverse ≡ down → (down ≡ true → 0 < t.end) → (t.start < t.end) ⊎ (t.end ≤ t.start) →
-        scan r t ≡ scan r (shorter down t)
-    scan_anew_by down is some (inl l) =
+    scan_anew_by : (is_reverse : Bool) → r.automaton.reverse ≡ is_reverse → (is_reverse ≡ true → 0 < t.end) → (t.start < t.end) ⊎ (t.end ≤ t.start) →
+        scan r t ≡ scan r (shorter is_reverse t)
+    scan_anew_by is_reverse is some (inl l) =
         again r t free l
         ∙ split_goes (counts r.between_characters t.haystack) (first_answer r t) (scan r (shorter r.automaton.reverse t)) e
         ∙ ap (λ (d : Bool). scan r (shorter d t)) is
-    scan_anew_by down is some (inr l) =
+    scan_anew_by is_reverse is some (inr l) =
         lowest_scan r t fits free (omega (arith, fits, l)) e
-        ∙ sym (scan_done r (shorter down t) (over down (omega (arith, fits, l)) some))
+        ∙ sym (scan_done r (shorter is_reverse t) (over is_reverse (omega (arith, fits, l)) some))
 
-    pub passes_anew : (down : Bool) → r.automaton.reverse ≡ down → (down ≡ true → 0 < t.end) →
-        passes_of r t ≡ first_pass r t ∷ passes_of r (shorter down t)
-    passes_anew down is some = passes_anew_by down is some (cases_lt t.start t.end)
+    pub passes_anew : (is_reverse : Bool) → r.automaton.reverse ≡ is_reverse → (is_reverse ≡ true → 0 < t.end) →
+        passes_of r t ≡ first_pass r t ∷ passes_of r (shorter is_reverse t)
+    passes_anew is_reverse is some = passes_anew_by is_reverse is some (cases_lt t.start t.end)
 
-    pub scan_anew : (down : Bool) → r.automaton.reverse ≡ down → (down ≡ true → 0 < t.end) → scan r t ≡ scan r (shorter down t)
-    scan_anew down is some = scan_anew_by down is some (cases_lt t.start t.end)
+    pub scan_anew : (is_reverse : Bool) → r.automaton.reverse ≡ is_reverse → (is_reverse ≡ true → 0 < t.end) → scan r t ≡ scan r (shorter is_reverse t)
+    scan_anew is_reverse is some = scan_anew_by is_reverse is some (cases_lt t.start t.end)

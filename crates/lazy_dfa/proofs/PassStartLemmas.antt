@@ -24,13 +24,13 @@ use Rattle.lazy_dfa.specs.Scans.{first_place}
 use Rattle.lazy_dfa.specs.ScanLaws.{begins_at}
 use Rattle.lazy_dfa.specs.SearchAnswers.{told}
 use Rattle.lazy_dfa.specs.SearchStarts.{AnswersStart, error_at}
-use Rattle.lazy_dfa.specs.Stands.{pass_start, StartsPass}
+use Rattle.lazy_dfa.specs.PassPlaces.{pass_start, StartsPass}
 use Rattle.lazy_dfa.specs.StartCalls.{mode_of, quit_refusal, behind_refusal, mode_refusal, start_refusal, start_noted, start_first, IsStartKnown, IsStartCause}
 use Rattle.lazy_dfa.specs.Steps.{Grew, WasCleared, most_inserts}
 
--- what one who reads up, or down, through the span tells of the start
+-- what one who reads forward or in reverse, through the span tells of the start
 abbrev pub start_read : Bool → Search → StartValue
-start_read down q = record { look_behind = unit_behind down q.haystack (first_place down q.start q.end); anchored = q.anchored }
+start_read is_reverse q = record { look_behind = unit_behind is_reverse q.haystack (first_place is_reverse q.start q.end); anchored = q.anchored }
 
 -- what the start of a search answers, and leaves
 pub record ToldStart (d : Dfa) (c : StartValue) (quit_place place : ℕ) (old new : CacheValue) (m1 m2 n1 n2 : ℕ) (r : Result ℕ MatchErrorKind) : Type 0 where
@@ -198,8 +198,8 @@ module _ (d : Dfa) (q : Search) (old new : CacheValue) where
       inserted = t.inserted;
     }
 
-    pub starts_pass : (down : Bool) → down ≡ d.nfa.automaton.reverse →
-        ToldStart d (start_read down q) (index_behind down (first_place down q.start q.end)) (first_place down q.start q.end) old new m1 m2 n1 n2 r →
+    pub starts_pass : (is_reverse : Bool) → is_reverse ≡ d.nfa.automaton.reverse →
+        ToldStart d (start_read is_reverse q) (index_behind is_reverse (first_place is_reverse q.start q.end)) (first_place is_reverse q.start q.end) old new m1 m2 n1 n2 r →
         StartsPass d q old new m1 m2 n1 n2 r
-    starts_pass down e t = starts_so
+    starts_pass is_reverse e t = starts_so
         (subst (λ (b : Bool). ToldStart d (start_read b q) (index_behind b (first_place b q.start q.end)) (first_place b q.start q.end) old new m1 m2 n1 n2 r) e t)

@@ -70,34 +70,34 @@ once_behind (x ∷ xs) ys once later apart = (
 
 -- no end lies beyond one that comes later in the list
 abbrev IsOrdered : Bool → List (ℕ × ℕ) → Type 0
-IsOrdered down [] = ⊤
-IsOrdered down (x ∷ xs) = ((y : ℕ × ℕ) → Has same_pair y xs → is_past down x.0 y.0 ≡ false) × IsOrdered down xs
+IsOrdered is_reverse [] = ⊤
+IsOrdered is_reverse (x ∷ xs) = ((y : ℕ × ℕ) → Has same_pair y xs → is_past is_reverse x.0 y.0 ≡ false) × IsOrdered is_reverse xs
 
-ordered_behind : (down : Bool) (xs ys : List (ℕ × ℕ)) → IsOrdered down xs → IsOrdered down ys →
-    ((x y : ℕ × ℕ) → Has same_pair x xs → Has same_pair y ys → is_past down x.0 y.0 ≡ false) → IsOrdered down (xs ++ ys)
-ordered_behind down [] ys first later between = later
-ordered_behind down (x ∷ xs) ys first later between = (
-  (λ y there. of_append same_pair pairs_equal (λ (z : ℕ × ℕ). is_past down x.0 z.0 ≡ false) xs ys first.0
+ordered_behind : (is_reverse : Bool) (xs ys : List (ℕ × ℕ)) → IsOrdered is_reverse xs → IsOrdered is_reverse ys →
+    ((x y : ℕ × ℕ) → Has same_pair x xs → Has same_pair y ys → is_past is_reverse x.0 y.0 ≡ false) → IsOrdered is_reverse (xs ++ ys)
+ordered_behind is_reverse [] ys first later between = later
+ordered_behind is_reverse (x ∷ xs) ys first later between = (
+  (λ y there. of_append same_pair pairs_equal (λ (z : ℕ × ℕ). is_past is_reverse x.0 z.0 ≡ false) xs ys first.0
       (λ z behind. between x z (has_first same_pair pairs_equal x xs) behind) y there),
-  ordered_behind down xs ys first.1 later (λ a b there behind. between a b (has_later same_pair a x xs there) behind),
+  ordered_behind is_reverse xs ys first.1 later (λ a b there behind. between a b (has_later same_pair a x xs there) behind),
 )
 
-ordered_within : (down : Bool) (xs : List (ℕ × ℕ)) →
-    ((x y : ℕ × ℕ) → Has same_pair x xs → Has same_pair y xs → is_past down x.0 y.0 ≡ false) → IsOrdered down xs
-ordered_within down [] all = tt
-ordered_within down (x ∷ xs) all = (
+ordered_within : (is_reverse : Bool) (xs : List (ℕ × ℕ)) →
+    ((x y : ℕ × ℕ) → Has same_pair x xs → Has same_pair y xs → is_past is_reverse x.0 y.0 ≡ false) → IsOrdered is_reverse xs
+ordered_within is_reverse [] all = tt
+ordered_within is_reverse (x ∷ xs) all = (
   (λ y there. all x y (has_first same_pair pairs_equal x xs) (has_later same_pair y x xs there)),
-  ordered_within down xs (λ a b f g. all a b (has_later same_pair a x xs f) (has_later same_pair b x xs g)),
+  ordered_within is_reverse xs (λ a b f g. all a b (has_later same_pair a x xs f) (has_later same_pair b x xs g)),
 )
 
-order_parts : (down : Bool) (before behind : List (ℕ × ℕ)) (x y : ℕ × ℕ) → IsOrdered down (before ++ (x ∷ behind)) →
-    Has same_pair y behind → is_past down x.0 y.0 ≡ false
-order_parts down [] behind x y ordered there = ordered.0 y there
-order_parts down (b ∷ before) behind x y ordered there = order_parts down before behind x y ordered.1 there
+order_parts : (is_reverse : Bool) (before behind : List (ℕ × ℕ)) (x y : ℕ × ℕ) → IsOrdered is_reverse (before ++ (x ∷ behind)) →
+    Has same_pair y behind → is_past is_reverse x.0 y.0 ≡ false
+order_parts is_reverse [] behind x y ordered there = ordered.0 y there
+order_parts is_reverse (b ∷ before) behind x y ordered there = order_parts is_reverse before behind x y ordered.1 there
 
-pub order_told : (down : Bool) (ends : List (ℕ × ℕ)) → IsOrdered down ends → IsInReadingOrder down ends
-order_told down ends ordered before behind x y e there =
-    order_parts down before behind x y (subst (λ (l : List (ℕ × ℕ)). IsOrdered down l) e ordered) there
+pub order_told : (is_reverse : Bool) (ends : List (ℕ × ℕ)) → IsOrdered is_reverse ends → IsInReadingOrder is_reverse ends
+order_told is_reverse ends ordered before behind x y e there =
+    order_parts is_reverse before behind x y (subst (λ (l : List (ℕ × ℕ)). IsOrdered is_reverse l) e ordered) there
 
 -- ---- places
 
@@ -106,23 +106,23 @@ abbrev pub HasRoom : Bool → ℕ → ℕ → Type 0
 HasRoom false i n = ⊤
 HasRoom true i n = n ≤ suc i
 
-room_next : (down : Bool) (i n : ℕ) → HasRoom down i (suc n) → HasRoom down (place_of down i 1) n
+room_next : (is_reverse : Bool) (i n : ℕ) → HasRoom is_reverse i (suc n) → HasRoom is_reverse (place_of is_reverse i 1) n
 room_next false i n room = tt
 room_next true i n room = omega (arith, room)
 
-not_first : (down : Bool) (i n k : ℕ) → HasRoom down i (suc n) → k < n → place_of down i (suc k) ≢ i
+not_first : (is_reverse : Bool) (i n k : ℕ) → HasRoom is_reverse i (suc n) → k < n → place_of is_reverse i (suc k) ≢ i
 not_first false i n k room l e = omega (arith, e)
 not_first true i n k room l e = omega (arith, room, l, e)
 
-same_place : (down : Bool) (i : ℕ) → is_past down i i ≡ false
-same_place down i =
-    ap (λ (j : ℕ). is_past down i j) (sym (place_zero down i))
-    ∙ ap (λ (j : ℕ). is_past down j (place_of down i 0)) (sym (place_zero down i))
-    ∙ not_past down i 0 0 (omega arith)
+same_place : (is_reverse : Bool) (i : ℕ) → is_past is_reverse i i ≡ false
+same_place is_reverse i =
+    ap (λ (j : ℕ). is_past is_reverse i j) (sym (place_zero is_reverse i))
+    ∙ ap (λ (j : ℕ). is_past is_reverse j (place_of is_reverse i 0)) (sym (place_zero is_reverse i))
+    ∙ not_past is_reverse i 0 0 (omega arith)
 
-module _ (down : Bool) (counted : ℕ → Bool) (ends : List (ℕ × ℕ)) where
+module _ (is_reverse : Bool) (counted : ℕ → Bool) (ends : List (ℕ × ℕ)) where
   abbrev by : ℕ → ℕ → List (ℕ × ℕ)
-  by i n = ends_by_place down counted ends i n
+  by i n = ends_by_place is_reverse counted ends i n
 
   if_there : (b : Bool) (i : ℕ) (x : ℕ × ℕ) → Has same_pair x (if b then filter (is_at i) ends else []) → (x.0 ≡ i) × Has same_pair x ends
   if_there true i x h = let p = passed (is_at i) x ends h in ((Decides-eqb x.0 i).0 p.0, p.1)
@@ -133,22 +133,22 @@ module _ (down : Bool) (counted : ℕ → Bool) (ends : List (ℕ × ℕ)) where
 
   -- each is an end at one of the places
   abbrev IsAmong : ℕ → ℕ → ℕ × ℕ → Type 0
-  IsAmong i n x = (k : ℕ) × (k < n) × (x.0 ≡ place_of down i k) × Has same_pair x ends
+  IsAmong i n x = (k : ℕ) × (k < n) × (x.0 ≡ place_of is_reverse i k) × Has same_pair x ends
 
   pub by_place_there : (n i : ℕ) (x : ℕ × ℕ) → Has same_pair x (by i n) → IsAmong i n x
   by_place_there zero i x h = none_in same_pair x _ h
   by_place_there (suc n) i x h =
-      of_append same_pair pairs_equal (λ (y : ℕ × ℕ). IsAmong i (suc n) y) (ends_at counted ends i) (by (place_of down i 1) n)
-      (λ y here. let at = at_there i y here in (0, omega arith, at.0 ∙ sym (place_zero down i), at.1))
-      (λ y later. let at = by_place_there n (place_of down i 1) y later in let less = at.1 in
-      (suc at.0, omega (arith, less), at.2 ∙ place_later down i at.0, at.3))
+      of_append same_pair pairs_equal (λ (y : ℕ × ℕ). IsAmong i (suc n) y) (ends_at counted ends i) (by (place_of is_reverse i 1) n)
+      (λ y here. let at = at_there i y here in (0, omega arith, at.0 ∙ sym (place_zero is_reverse i), at.1))
+      (λ y later. let at = by_place_there n (place_of is_reverse i 1) y later in let less = at.1 in
+      (suc at.0, omega (arith, less), at.2 ∙ place_later is_reverse i at.0, at.3))
       x h
 
   -- none of the later places is the first
-  later_apart : (n i : ℕ) (x : ℕ × ℕ) → HasRoom down i (suc n) → x.0 ≡ i → Has same_pair x (by (place_of down i 1) n) → ⊥
+  later_apart : (n i : ℕ) (x : ℕ × ℕ) → HasRoom is_reverse i (suc n) → x.0 ≡ i → Has same_pair x (by (place_of is_reverse i 1) n) → ⊥
   later_apart n i x room at h =
-      let there = by_place_there n (place_of down i 1) x h in
-      not_first down i n there.0 room there.1 (sym (place_later down i there.0) ∙ sym there.2 ∙ at)
+      let there = by_place_there n (place_of is_reverse i 1) x h in
+      not_first is_reverse i n there.0 room there.1 (sym (place_later is_reverse i there.0) ∙ sym there.2 ∙ at)
 
   -- ---- at one place
 
@@ -160,33 +160,33 @@ module _ (down : Bool) (counted : ℕ → Bool) (ends : List (ℕ × ℕ)) where
       (λ x h. let p = passed (is_at j) x (ends_at counted ends i) h in
       n (sym ((Decides-eqb x.0 j).0 p.0) ∙ (at_there i x p.1).0))
 
-  later_none : (n i j : ℕ) → HasRoom down i (suc n) → j ≡ i → filter (is_at j) (by (place_of down i 1) n) ≡ []
-  later_none n i j room e = none_there (filter (is_at j) (by (place_of down i 1) n))
-      (λ x h. let p = passed (is_at j) x (by (place_of down i 1) n) h in
+  later_none : (n i j : ℕ) → HasRoom is_reverse i (suc n) → j ≡ i → filter (is_at j) (by (place_of is_reverse i 1) n) ≡ []
+  later_none n i j room e = none_there (filter (is_at j) (by (place_of is_reverse i 1) n))
+      (λ x h. let p = passed (is_at j) x (by (place_of is_reverse i 1) n) h in
       later_apart n i x room ((Decides-eqb x.0 j).0 p.0 ∙ e) p.1)
 
   two_parts : (j i n : ℕ) (first : List (ℕ × ℕ)) → filter (is_at j) (ends_at counted ends i) ≡ first →
-      filter (is_at j) (by i (suc n)) ≡ first ++ filter (is_at j) (by (place_of down i 1) n)
-  two_parts j i n first e = filter-append (is_at j) (ends_at counted ends i) (by (place_of down i 1) n)
-      ∙ ap (λ (l : List (ℕ × ℕ)). l ++ filter (is_at j) (by (place_of down i 1) n)) e
+      filter (is_at j) (by i (suc n)) ≡ first ++ filter (is_at j) (by (place_of is_reverse i 1) n)
+  two_parts j i n first e = filter-append (is_at j) (ends_at counted ends i) (by (place_of is_reverse i 1) n)
+      ∙ ap (λ (l : List (ℕ × ℕ)). l ++ filter (is_at j) (by (place_of is_reverse i 1) n)) e
 
-  best_there : (n i k j : ℕ) → HasRoom down i n → k < n → j ≡ place_of down i k → counted j ≡ true →
+  best_there : (n i k j : ℕ) → HasRoom is_reverse i n → k < n → j ≡ place_of is_reverse i k → counted j ≡ true →
       filter (is_at j) (by i n) ≡ filter (is_at j) ends
   best_there zero i k j room l at e = absurd (omega (arith, l))
   best_there (suc n) i zero j room l at e =
-      let here : j ≡ i = at ∙ place_zero down i in
+      let here : j ≡ i = at ∙ place_zero is_reverse i in
       two_parts j i n (filter (is_at j) ends)
       (ap (λ (p : ℕ). filter (is_at j) (ends_at counted ends p)) (sym here) ∙ head_same j e)
       ∙ ap (λ (l : List (ℕ × ℕ)). filter (is_at j) ends ++ l) (later_none n i j room here)
       ∙ append-nil (filter (is_at j) ends)
   best_there (suc n) i (suc k) j room l at e =
       let less : k < n = omega (arith, l) in
-      two_parts j i n [] (head_none i j (λ same. not_first down i n k room less (sym at ∙ same)))
-      ∙ best_there n (place_of down i 1) k j (room_next down i n room) less (at ∙ sym (place_later down i k)) e
+      two_parts j i n [] (head_none i j (λ same. not_first is_reverse i n k room less (sym at ∙ same)))
+      ∙ best_there n (place_of is_reverse i 1) k j (room_next is_reverse i n room) less (at ∙ sym (place_later is_reverse i k)) e
 
   -- at a place that counts they are the ends there, the preferred ones first
-  module _ (i n : ℕ) (room : HasRoom down i n)
-      (inside : (x : ℕ × ℕ) → Has same_pair x ends → (k : ℕ) × (k < n) × (x.0 ≡ place_of down i k)) where
+  module _ (i n : ℕ) (room : HasRoom is_reverse i n)
+      (inside : (x : ℕ × ℕ) → Has same_pair x ends → (k : ℕ) × (k < n) × (x.0 ≡ place_of is_reverse i k)) where
     none_here : (j : ℕ) → filter (is_at j) ends ≡ [] → filter (is_at j) (by i n) ≡ filter (is_at j) ends
     none_here j none = none_there (filter (is_at j) (by i n))
         (λ x h. let p = passed (is_at j) x (by i n) h in
@@ -220,28 +220,28 @@ module _ (down : Bool) (counted : ℕ → Bool) (ends : List (ℕ × ℕ)) where
   if_kept_once true i once = passed_once (is_at i) ends once
   if_kept_once false i once = tt
 
-  pub once_by_place : (n i : ℕ) → HasRoom down i n → HasNoneTwice same_pair ends → HasNoneTwice same_pair (by i n)
+  pub once_by_place : (n i : ℕ) → HasRoom is_reverse i n → HasNoneTwice same_pair ends → HasNoneTwice same_pair (by i n)
   once_by_place zero i room once = tt
   once_by_place (suc n) i room once =
-      once_behind (ends_at counted ends i) (by (place_of down i 1) n) (if_kept_once (counted i) i once)
-      (once_by_place n (place_of down i 1) (room_next down i n room) once)
+      once_behind (ends_at counted ends i) (by (place_of is_reverse i 1) n) (if_kept_once (counted i) i once)
+      (once_by_place n (place_of is_reverse i 1) (room_next is_reverse i n room) once)
       (λ x here. ⊎_elim
-      (λ (there : Has same_pair x (by (place_of down i 1) n)). absurd (later_apart n i x room (at_there i x here).0 there))
-      (λ (e : has same_pair x (by (place_of down i 1) n) ≡ false). e)
-      (has_or_not same_pair x (by (place_of down i 1) n)))
+      (λ (there : Has same_pair x (by (place_of is_reverse i 1) n)). absurd (later_apart n i x room (at_there i x here).0 there))
+      (λ (e : has same_pair x (by (place_of is_reverse i 1) n) ≡ false). e)
+      (has_or_not same_pair x (by (place_of is_reverse i 1) n)))
 
-  between_places : (i n : ℕ) (x y : ℕ × ℕ) → x.0 ≡ i → IsAmong (place_of down i 1) n y → is_past down x.0 y.0 ≡ false
+  between_places : (i n : ℕ) (x y : ℕ × ℕ) → x.0 ≡ i → IsAmong (place_of is_reverse i 1) n y → is_past is_reverse x.0 y.0 ≡ false
   between_places i n x y at there =
-      ap (λ (j : ℕ). is_past down j y.0) (at ∙ sym (place_zero down i))
-      ∙ ap (λ (j : ℕ). is_past down (place_of down i 0) j) (there.2 ∙ place_later down i there.0)
-      ∙ not_past down i 0 (suc there.0) (omega arith)
+      ap (λ (j : ℕ). is_past is_reverse j y.0) (at ∙ sym (place_zero is_reverse i))
+      ∙ ap (λ (j : ℕ). is_past is_reverse (place_of is_reverse i 0) j) (there.2 ∙ place_later is_reverse i there.0)
+      ∙ not_past is_reverse i 0 (suc there.0) (omega arith)
 
-  pub ordered_by_place : (n i : ℕ) → IsOrdered down (by i n)
+  pub ordered_by_place : (n i : ℕ) → IsOrdered is_reverse (by i n)
   ordered_by_place zero i = tt
   ordered_by_place (suc n) i =
-      ordered_behind down (ends_at counted ends i) (by (place_of down i 1) n)
-      (ordered_within down (ends_at counted ends i)
-      (λ x y f g. ap (λ (j : ℕ). is_past down j y.0) (at_there i x f).0 ∙ ap (λ (j : ℕ). is_past down i j) (at_there i y g).0
-      ∙ same_place down i))
-      (ordered_by_place n (place_of down i 1))
-      (λ x y f g. between_places i n x y (at_there i x f).0 (by_place_there n (place_of down i 1) y g))
+      ordered_behind is_reverse (ends_at counted ends i) (by (place_of is_reverse i 1) n)
+      (ordered_within is_reverse (ends_at counted ends i)
+      (λ x y f g. ap (λ (j : ℕ). is_past is_reverse j y.0) (at_there i x f).0 ∙ ap (λ (j : ℕ). is_past is_reverse i j) (at_there i y g).0
+      ∙ same_place is_reverse i))
+      (ordered_by_place n (place_of is_reverse i 1))
+      (λ x y f g. between_places i n x y (at_there i x f).0 (by_place_there n (place_of is_reverse i 1) y g))

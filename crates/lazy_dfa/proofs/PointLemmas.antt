@@ -310,24 +310,24 @@ runs_none d v h at id k own row e m n best =
     subst (λ (j : ℕ). GoesTo d h (point v m n at id best) (point v m n at id best) j) (sym e) (goes_none d h (point v m n at id best) (row_known v id own.shape row))
 
 -- the unit at a place inside the haystack
-pub up_unit : (d : Dfa) (h : List ℕ) (at : ℕ) → d.nfa.automaton.reverse ≡ false → at < length h → Some (get_or h at 0) ≡ unit_of (reader d) h at 0
-up_unit d h at up l =
+pub forward_unit : (d : Dfa) (h : List ℕ) (at : ℕ) → d.nfa.automaton.reverse ≡ false → at < length h → Some (get_or h at 0) ≡ unit_of (reader d) h at 0
+forward_unit d h at up l =
     sym (slice_get-get_or h at 0 l)
     ∙ (ap (unit_at false h) (sym (place_zero false at))
     ∙ ap (λ (r : Bool). unit_at r h (place_of r at 0)) (sym up))
 
-pub down_unit : (d : Dfa) (h : List ℕ) (at : ℕ) → d.nfa.automaton.reverse ≡ true → 0 < at → at ≤ length h → Some (get_or h (at - 1) 0) ≡ unit_of (reader d) h at 0
-down_unit d h at down some l =
+pub reverse_unit : (d : Dfa) (h : List ℕ) (at : ℕ) → d.nfa.automaton.reverse ≡ true → 0 < at → at ≤ length h → Some (get_or h (at - 1) 0) ≡ unit_of (reader d) h at 0
+reverse_unit d h at is_reverse some l =
     sym (slice_get-get_or h (at - 1) 0 (omega (arith, some, l)))
     ∙ (ap (byte_before h) (back at some)
     ∙ (ap (unit_at true h) (sym (place_zero true at))
-    ∙ ap (λ (r : Bool). unit_at r h (place_of r at 0)) (sym down)))
+    ∙ ap (λ (r : Bool). unit_at r h (place_of r at 0)) (sym is_reverse)))
   where
     back : (n : ℕ) → 0 < n → suc (n - 1) ≡ n
     back n l = omega (arith, l)
 
-pub up_place : (d : Dfa) (at : ℕ) → d.nfa.automaton.reverse ≡ false → place_of d.nfa.automaton.reverse at 1 ≡ at + 1
-up_place d at up = ap (λ (r : Bool). place_of r at 1) up
+pub forward_place : (d : Dfa) (at : ℕ) → d.nfa.automaton.reverse ≡ false → place_of d.nfa.automaton.reverse at 1 ≡ at + 1
+forward_place d at up = ap (λ (r : Bool). place_of r at 1) up
 
-pub down_place : (d : Dfa) (at : ℕ) → d.nfa.automaton.reverse ≡ true → place_of d.nfa.automaton.reverse at 1 ≡ at - 1
-down_place d at down = ap (λ (r : Bool). place_of r at 1) down
+pub reverse_place : (d : Dfa) (at : ℕ) → d.nfa.automaton.reverse ≡ true → place_of d.nfa.automaton.reverse at 1 ≡ at - 1
+reverse_place d at is_reverse = ap (λ (r : Bool). place_of r at 1) is_reverse

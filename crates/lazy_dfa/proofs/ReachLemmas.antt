@@ -158,8 +158,8 @@ larger_cases m n k l = by (nat_le m n) l
     by false l = inl l
 
 -- the byte behind the next place is the one that is read
-behind_next : (down : Bool) (h : List ℕ) (s e n i : ℕ) → Fits down s e (suc n) i →
-    unit_behind down h (place_of down i 1) ≡ unit_at down h i
+behind_next : (is_reverse : Bool) (h : List ℕ) (s e n i : ℕ) → Fits is_reverse s e (suc n) i →
+    unit_behind is_reverse h (place_of is_reverse i 1) ≡ unit_at is_reverse h i
 behind_next false h s e n i fit = ap (byte_before h) (one i)
   where
     one : (i : ℕ) → i + 1 ≡ suc i
@@ -171,9 +171,9 @@ behind_next true h s e n (suc i) fit = ap (byte_at h) (one i)
     one i = omega arith
 
 -- the byte behind a place that was reached is one of those that were read
-byte_alike : (down : Bool) (h g : List ℕ) (i k : ℕ) → (k ≤ i) ⊎ (down ≡ false) → unit_behind down h i ≡ unit_behind down g i →
-    ((m : ℕ) → m ≤ k → unit_at down h (place_of down i m) ≡ unit_at down g (place_of down i m)) →
-    byte_at h (place_of down i k) ≡ byte_at g (place_of down i k)
+byte_alike : (is_reverse : Bool) (h g : List ℕ) (i k : ℕ) → (k ≤ i) ⊎ (is_reverse ≡ false) → unit_behind is_reverse h i ≡ unit_behind is_reverse g i →
+    ((m : ℕ) → m ≤ k → unit_at is_reverse h (place_of is_reverse i m) ≡ unit_at is_reverse g (place_of is_reverse i m)) →
+    byte_at h (place_of is_reverse i k) ≡ byte_at g (place_of is_reverse i k)
 byte_alike false h g i k low back all = all k (omega arith)
 byte_alike true h g i zero low back all = ap (byte_at h) (same i) ∙ back ∙ sym (ap (byte_at g) (same i))
   where
@@ -189,11 +189,11 @@ byte_alike true h g i (suc k) low back all = ⊎_elim
     before : (h : List ℕ) (i k : ℕ) → suc k ≤ i → byte_before h (i - k) ≡ byte_at h (i - suc k)
     before h i k l = before_at h (i - k) (i - suc k) (omega (arith, l))
 
-place_under : (down : Bool) (s e n i k : ℕ) → Fits down s e n i → k ≤ n → place_of down i k ≤ e
+place_under : (is_reverse : Bool) (s e n i k : ℕ) → Fits is_reverse s e n i → k ≤ n → place_of is_reverse i k ≤ e
 place_under false s e n i k fit l = omega (arith, fit.0, l)
 place_under true s e n i k fit l = omega (arith, fit.1)
 
-room_below : (down : Bool) (s e n i k : ℕ) → Fits down s e n i → k ≤ n → (k ≤ i) ⊎ (down ≡ false)
+room_below : (is_reverse : Bool) (s e n i k : ℕ) → Fits is_reverse s e n i → k ≤ n → (k ≤ i) ⊎ (is_reverse ≡ false)
 room_below false s e n i k fit l = inr refl
 room_below true s e n i k fit l = inl (omega (arith, fit.0, l))
 
@@ -215,13 +215,13 @@ in_later true k m n e l = larger_right m n k l
 in_later false k m n e l = let never : false ≡ true = e in absurd (grind (arith, never))
 
 module _ (r : Reader) (mode : Anchored) (earliest : Bool) (h g : List ℕ) (s e : ℕ) (in_h : e ≤ length h) (in_g : e ≤ length g) where
-  abbrev down : Bool
-  down = r.automaton.reverse
+  abbrev is_reverse : Bool
+  is_reverse = r.automaton.reverse
 
   abbrev Same : ℕ → ℕ → Type 0
   Same i n = (k : ℕ) → k < n → unit_of r h i k ≡ unit_of r g i k
 
-  counts_at : (n i : ℕ) (x : ℕ × ℕ) → Fits down s e n i → unit_behind down h i ≡ unit_behind down g i →
+  counts_at : (n i : ℕ) (x : ℕ × ℕ) → Fits is_reverse s e n i → unit_behind is_reverse h i ≡ unit_behind is_reverse g i →
       Same i (pass_len r mode earliest h n i) →
       pass r mode earliest h n i ≡ found (Some x) → counts r.between_characters h x.0 ≡ counts r.between_characters g x.0
   counts_at n i x fit back all is =
@@ -229,21 +229,21 @@ module _ (r : Reader) (mode : Anchored) (earliest : Bool) (h g : List ℕ) (s e 
       let few = pass_units r mode earliest h n i in
       let read = rd.1 in
       let up : rd.0 ≤ n = omega (arith, few, read) in
-      let low : place_of down i rd.0 ≤ e = place_under down s e n i rd.0 fit up in
+      let low : place_of is_reverse i rd.0 ≤ e = place_under is_reverse s e n i rd.0 fit up in
       ap (counts r.between_characters h) rd.2
-      ∙ counts_alike r.between_characters h g (place_of down i rd.0) (omega (arith, low, in_h)) (omega (arith, low, in_g))
-      (byte_alike down h g i rd.0 (room_below down s e n i rd.0 fit up) back (λ m l. all m (omega (arith, l, read))))
+      ∙ counts_alike r.between_characters h g (place_of is_reverse i rd.0) (omega (arith, low, in_h)) (omega (arith, low, in_g))
+      (byte_alike is_reverse h g i rd.0 (room_below is_reverse s e n i rd.0 fit up) back (λ m l. all m (omega (arith, l, read))))
       ∙ ap (counts r.between_characters g) (sym rd.2)
 
-  splits_at : (n i : ℕ) (a : HalfAnswer) → pass r mode earliest h n i ≡ a → Fits down s e n i →
-      unit_behind down h i ≡ unit_behind down g i → Same i (pass_len r mode earliest h n i) →
+  splits_at : (n i : ℕ) (a : HalfAnswer) → pass r mode earliest h n i ≡ a → Fits is_reverse s e n i →
+      unit_behind is_reverse h i ≡ unit_behind is_reverse g i → Same i (pass_len r mode earliest h n i) →
       splits (counts r.between_characters h) a ≡ splits (counts r.between_characters g) a
   splits_at n i (quit b x) is fit back all = refl
   splits_at n i (unsupported m) is fit back all = refl
   splits_at n i (found None) is fit back all = refl
   splits_at n i (found (Some x)) is fit back all = ap not (counts_at n i x fit back all is)
 
-  one_alike : (n i : ℕ) (other rest : HalfAnswer) → Fits down s e n i → unit_behind down h i ≡ unit_behind down g i →
+  one_alike : (n i : ℕ) (other rest : HalfAnswer) → Fits is_reverse s e n i → unit_behind is_reverse h i ≡ unit_behind is_reverse g i →
       Same i (pass_len r mode earliest h n i) →
       (splits (counts r.between_characters h) (pass r mode earliest h n i) ≡ true → other ≡ rest) →
       unless_split (counts r.between_characters h) (pass r mode earliest h n i) other ≡ unless_split (counts r.between_characters g)
@@ -254,7 +254,7 @@ module _ (r : Reader) (mode : Anchored) (earliest : Bool) (h g : List ℕ) (s e 
       (pass r mode earliest g n i) other rest same
       (splits_at n i (pass r mode earliest h n i) refl fit back all ∙ ap (splits (counts r.between_characters g)) same) on
 
-  pub once_alike : (n i : ℕ) → Fits down s e n i → unit_behind down h i ≡ unit_behind down g i →
+  pub once_alike : (n i : ℕ) → Fits is_reverse s e n i → unit_behind is_reverse h i ≡ unit_behind is_reverse g i →
       Same i (pass_len r mode earliest h n i) →
       unless_split (counts r.between_characters h) (pass r mode earliest h n i) (found None) ≡ unless_split
       (counts r.between_characters g) (pass r mode earliest g n i) (found None)
@@ -268,7 +268,7 @@ module _ (r : Reader) (mode : Anchored) (earliest : Bool) (h g : List ℕ) (s e 
       let rd = pass_read r earliest h mode n i x.0 x.1 in
       let l = rd.1 in omega (arith, l)
 
-  pub passes_alike : (n i : ℕ) → Fits down s e n i → unit_behind down h i ≡ unit_behind down g i →
+  pub passes_alike : (n i : ℕ) → Fits is_reverse s e n i → unit_behind is_reverse h i ≡ unit_behind is_reverse g i →
       Same i (passes_len r mode earliest h n i) →
       passes r mode earliest h n i ≡ passes r mode earliest g n i
   passes_alike zero i fit back all = once_alike 0 i fit back all
@@ -277,11 +277,11 @@ module _ (r : Reader) (mode : Anchored) (earliest : Bool) (h g : List ℕ) (s e 
       one_alike (suc n) i (passes r mode earliest h n (next_place r i)) (passes r mode earliest g n (next_place r i)) fit back
       (λ k l. all k (in_first (splits (counts r.between_characters h) (pass r mode earliest h (suc n) i)) k
       (pass_len r mode earliest h (suc n) i) (suc (passes_len r mode earliest h n (next_place r i))) l))
-      (λ split. passes_alike n (next_place r i) (fits_next down s e n i fit)
-      (behind_next down h s e n i fit ∙ sym (unit_first r h i)
+      (λ split. passes_alike n (next_place r i) (fits_next is_reverse s e n i fit)
+      (behind_next is_reverse h s e n i fit ∙ sym (unit_first r h i)
       ∙ all 0 (in_first (splits (counts r.between_characters h) (pass r mode earliest h (suc n) i)) 0
       (pass_len r mode earliest h (suc n) i) (suc (passes_len r mode earliest h n (next_place r i))) (read_one (suc n) i split))
-      ∙ unit_first r g i ∙ sym (behind_next down g s e n i fit))
+      ∙ unit_first r g i ∙ sym (behind_next is_reverse g s e n i fit))
       (λ k l. unit_later r h i k
       ∙ all (suc k) (in_later (splits (counts r.between_characters h) (pass r mode earliest h (suc n) i)) (suc k)
       (pass_len r mode earliest h (suc n) i) (suc (passes_len r mode earliest h n (next_place r i))) split (omega (arith, l)))

@@ -91,9 +91,9 @@ flat_none f (x ∷ xs) none = ap (λ (l : List ℕ). l ++ flat_map f xs) (none x
 not_below : (j e : ℕ) (P : Option (ℕ × ℕ)) → e ≤ j → (if nat_lt j e then P else None) ≡ None
 not_below j e P l = ap (λ (b : Bool). if b then P else None) (le-ltb j e l)
 
-reads_none : (down : Bool) (t : Terminator) (h : List ℕ) (s e i j : ℕ) → i ≤ e →
-    j ≡ place_of down i (bytes_left down (span t h s e) i) →
-    reads down (span t h s e) j ≡ None
+reads_none : (is_reverse : Bool) (t : Terminator) (h : List ℕ) (s e i j : ℕ) → i ≤ e →
+    j ≡ place_of is_reverse i (bytes_left is_reverse (span t h s e) i) →
+    reads is_reverse (span t h s e) j ≡ None
 reads_none false t h s e i j below is = not_below j e _ (omega (arith, is))
 reads_none true t h s e i zero below is = refl
 reads_none true t h s e i (suc j) below is = not_from j s _ (omega (arith, is))

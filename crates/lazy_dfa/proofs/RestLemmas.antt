@@ -228,7 +228,7 @@ module _ (r : Reader) (h : List ℕ) where
 
 -- ---- whole walks
 
-in_span : (down : Bool) (s e k j : ℕ) → s ≤ e → k < suc (e - s) → j ≡ place_of down (first_place down s e) k → (s ≤ j) × (j ≤ e)
+in_span : (is_reverse : Bool) (s e k j : ℕ) → s ≤ e → k < suc (e - s) → j ≡ place_of is_reverse (first_place is_reverse s e) k → (s ≤ j) × (j ≤ e)
 in_span false s e k j fits l at = (omega (arith, fits, l, at), omega (arith, fits, l, at))
 in_span true s e k j fits l at = (omega (arith, fits, l, at), omega (arith, fits, l, at))
 

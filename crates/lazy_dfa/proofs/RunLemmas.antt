@@ -20,7 +20,7 @@ use Rattle.lazy_dfa.specs.PassLaws.{units_read, unit_of}
 use Rattle.lazy_dfa.specs.Points.{Point, Follows, IsFree, GoesTo, point}
 use Rattle.lazy_dfa.specs.Readers.{HalfAnswer, found, quit}
 use Rattle.lazy_dfa.specs.SearchAnswers.{half_of, pair_of, told, give_up_place, Told, told_of, pass_distance, running_at}
-use Rattle.lazy_dfa.specs.Stands.{last_place, came, tells, BeganFirst, told_behind, GoesBetween, EndsWith, RestAnew, IsRestTold, RunsOn}
+use Rattle.lazy_dfa.specs.PassPlaces.{last_place, came, tells, BeganFirst, told_behind, GoesBetween, EndsWith, RestAnew, IsRestTold, RunsOn}
 use Rattle.lazy_dfa.specs.Steps.{most_inserts}
 use Rattle.lazy_dfa.specs.Turns.{Leaves, FailsOn}
 use Rattle.lazy_dfa.proofs.CourseLemmas.{state_there, unit_there, not_dead}
@@ -133,15 +133,15 @@ half_back (Some m) = refl
 
 -- where something is told it is counted from what was searched before
 abbrev added : Bool → ℕ → ℕ → ℕ → Told
-added down n units searched = record { searched = min (searched + pass_distance down n units) greatest; progress = None }
+added is_reverse n units searched = record { searched = min (searched + pass_distance is_reverse n units) greatest; progress = None }
 
-told_by_searched : (down : Bool) (n units : ℕ) (v w : CacheValue) → v.searched ≡ w.searched → (down && n == 0) ≡ false →
-    told_behind down n (told_of v) units ≡ told_behind down n (told_of w) units
-told_by_searched down n units v w e none =
-    ap (λ (b : Bool). if b then told_of v else added down n units v.searched) none
-    ∙ (ap (added down n units) e ∙ sym (ap (λ (b : Bool). if b then told_of w else added down n units w.searched) none))
+told_by_searched : (is_reverse : Bool) (n units : ℕ) (v w : CacheValue) → v.searched ≡ w.searched → (is_reverse && n == 0) ≡ false →
+    told_behind is_reverse n (told_of v) units ≡ told_behind is_reverse n (told_of w) units
+told_by_searched is_reverse n units v w e none =
+    ap (λ (b : Bool). if b then told_of v else added is_reverse n units v.searched) none
+    ∙ (ap (added is_reverse n units) e ∙ sym (ap (λ (b : Bool). if b then told_of w else added is_reverse n units w.searched) none))
 
-tells_some : (down : Bool) (q : Search) → tells down q ≡ true → (down && span_len q == 0) ≡ false
+tells_some : (is_reverse : Bool) (q : Search) → tells is_reverse q ≡ true → (is_reverse && span_len q == 0) ≡ false
 tells_some false q e = refl
 tells_some true q e = ⊎_elim
     (λ (l : q.end ≤ q.start). let never = sym (ap not (le-leb q.end q.start l)) ∙ e in absurd (true≢false (sym never)))
@@ -351,25 +351,25 @@ module _ (d : Dfa) (q : Search) (made : IsDfa d) (bytes : AreBytes q.haystack) (
     units_are : units ≡ k + 1
     units_are = ended.1 ∙ sym one_more
 
-    abbrev down : Bool
-    down = d.nfa.automaton.reverse
+    abbrev is_reverse : Bool
+    is_reverse = d.nfa.automaton.reverse
 
     abbrev ToldBehind : CacheValue → Type 0
-    ToldBehind v = told_of new ≡ told_behind down (span_len q) (told_of v) (suc k)
+    ToldBehind v = told_of new ≡ told_behind is_reverse (span_len q) (told_of v) (suc k)
 
     -- where nothing was cleared, the search that goes on is still the one that began with the pass
     told_here : Follows d h from p k → (ToldBehind from.cache) ⊎ HasCleared p.cache new
     told_here f = ⊎_elim
-        (λ (e : told_of new ≡ told_behind down (span_len q) (told_of p.cache) (suc (came down q p.at))).
-        inl (e ∙ (sym (ap (λ (j : ℕ). told_behind down (span_len q) (told_of p.cache) (suc j)) first) ∙ told_from)))
+        (λ (e : told_of new ≡ told_behind is_reverse (span_len q) (told_of p.cache) (suc (came is_reverse q p.at))).
+        inl (e ∙ (sym (ap (λ (j : ℕ). told_behind is_reverse (span_len q) (told_of p.cache) (suc j)) first) ∙ told_from)))
         (λ (y : HasCleared p.cache new). inr y)
         (x.told (λ t. f.began ∙ begun t))
       where
-        told_from : told_behind down (span_len q) (told_of p.cache) (suc k) ≡ told_behind down (span_len q) (told_of from.cache) (suc k)
+        told_from : told_behind is_reverse (span_len q) (told_of p.cache) (suc k) ≡ told_behind is_reverse (span_len q) (told_of from.cache) (suc k)
         told_from = ⊎_elim
-            (λ (t : tells down q ≡ true). told_by_searched down (span_len q) (suc k) p.cache from.cache f.searched (tells_some down q t))
-            (λ (t : tells down q ≡ false). ap (λ (v : CacheValue). told_behind down (span_len q) (told_of v) (suc k)) (same t))
-            (cases_Bool (tells down q))
+            (λ (t : tells is_reverse q ≡ true). told_by_searched is_reverse (span_len q) (suc k) p.cache from.cache f.searched (tells_some is_reverse q t))
+            (λ (t : tells is_reverse q ≡ false). ap (λ (v : CacheValue). told_behind is_reverse (span_len q) (told_of v) (suc k)) (same t))
+            (cases_Bool (tells is_reverse q))
 
     cleared_here : HasCleared p.cache new → GrowsOrClears d from.cache p.cache → HasCleared from.cache new
     cleared_here y (inl g) = subst (λ (c : ℕ). min (c + 1) greatest ≤ new.clears) g.clears y
@@ -379,15 +379,15 @@ module _ (d : Dfa) (q : Search) (made : IsDfa d) (bytes : AreBytes q.haystack) (
     cleared_behind y = subst (λ (c : ℕ). min (from.cache.clears + 1) greatest ≤ c) (sym (grows_moved d behind new moved).clears) y
 
     follows_new : Follows d h from p k → Follows d h from to (k + 1) → ToldBehind from.cache →
-        Grows d from.cache new × IsLinkedOver d new h from.at from.id units × (told_of new ≡ told_behind down (span_len q) (told_of from.cache) units)
+        Grows d from.cache new × IsLinkedOver d new h from.at from.id units × (told_of new ≡ told_behind is_reverse (span_len q) (told_of from.cache) units)
     follows_new f g t = (
       grows_trans d from.cache behind new made own g.grows (grows_moved d behind new moved),
       subst (IsLinkedOver d new h from.at from.id) (sym units_are) (linked_moved d behind new moved h from.at from.id (k + 1) g.linked),
-      t ∙ sym (ap (told_behind down (span_len q) (told_of from.cache)) ended.1),
+      t ∙ sym (ap (told_behind is_reverse (span_len q) (told_of from.cache)) ended.1),
     )
 
     followed : Follows d h from p k ⊎ HasCleared from.cache p.cache → Follows d h from to (k + 1) ⊎ HasCleared from.cache behind →
-        (Grows d from.cache new × IsLinkedOver d new h from.at from.id units × (told_of new ≡ told_behind down (span_len q) (told_of from.cache) units)) ⊎
+        (Grows d from.cache new × IsLinkedOver d new h from.at from.id units × (told_of new ≡ told_behind is_reverse (span_len q) (told_of from.cache) units)) ⊎
         HasCleared from.cache new
     followed f (inr y) = inr (cleared_behind y)
     followed (inr z) g = inr (cleared_behind (cleared_on z one.kept))
@@ -402,7 +402,7 @@ module _ (d : Dfa) (q : Search) (made : IsDfa d) (bytes : AreBytes q.haystack) (
 
     -- what was told at its end, whether the cache was cleared or not
     abbrev Ended : ℕ → Type 0
-    Ended all = ((told_of new ≡ told_behind down (span_len q) (told_of from.cache) all) × (new.clears ≡ from.cache.clears)) ⊎ (HasCleared from.cache new × RestAnew down q all (told_of new))
+    Ended all = ((told_of new ≡ told_behind is_reverse (span_len q) (told_of from.cache) all) × (new.clears ≡ from.cache.clears)) ⊎ (HasCleared from.cache new × RestAnew is_reverse q all (told_of new))
 
     pub runs_found : Ended (suc k) → RunsOn d q s from new m n (Ok b)
     runs_found told = record {

@@ -156,7 +156,7 @@ module _ (r : Reader) (q : Search) where
           whole_stays (counts r.between_characters q.haystack) (pass r q.anchored q.earliest q.haystack (suc m) i)
           (passes r q.anchored q.earliest q.haystack m (next_place r i)) h
 
-  pub begins_inside : (down : Bool) (s e : ℕ) → s ≤ e → Fits down s e (e - s) (first_place down s e)
+  pub begins_inside : (is_reverse : Bool) (s e : ℕ) → s ≤ e → Fits is_reverse s e (e - s) (first_place is_reverse s e)
   begins_inside false s e l = (omega (arith, l), omega arith)
   begins_inside true s e l = (omega (arith, l), omega arith)
 

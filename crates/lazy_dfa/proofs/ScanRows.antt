@@ -30,7 +30,7 @@ forward states = record {
   reverse = false;
 }
 
--- the same, read downwards
+-- the same, read in reverse
 abbrev pub backward : List Node → Automaton
 backward states = record (forward states) { reverse = true }
 
@@ -75,11 +75,11 @@ anchored_search_looks_at_its_start_alone : scan (reads (forward letters) (only 2
 unfolding families_of known_lines known_words next_value start_or_dead pass_from
 anchored_search_looks_at_its_start_alone = refl
 
--- downwards, under `All`, the last place in reading order
-last_end_is_found_downwards : scan (record (reads (backward letters) (only 255)) { kind = AllMatches })
+-- in reverse, under `All`, the last place in reading order
+last_end_is_found_in_reverse : scan (record (reads (backward letters) (only 255)) { kind = AllMatches })
     (record (over (98 ∷ 97 ∷ 97 ∷ 97 ∷ []) 0 3) { anchored = Yes }) ≡ found (Some (1, 0))
 unfolding families_of known_lines known_words next_value start_or_dead pass_from
-last_end_is_found_downwards = refl
+last_end_is_found_in_reverse = refl
 
 -- ---- dates: four digits, a dash, two digits, a dash, two digits
 
@@ -205,7 +205,7 @@ quit_byte_behind_a_search_that_is_over : scan (reads at_the_start (only 100)) (o
 unfolding families_of known_lines known_words next_value start_or_dead pass_from
 quit_byte_behind_a_search_that_is_over = refl
 
--- the byte past the span is read, even where a match was found, and downwards the one before it
+-- the byte past the span is read, even where a match was found, and in reverse the one before it
 quit_past_the_span : scan (reads (forward letters) (only 255)) (over (97 ∷ 255 ∷ []) 0 1) ≡ quit 255 1
 unfolding families_of known_lines known_words next_value start_or_dead pass_from
 quit_past_the_span = refl
@@ -231,7 +231,7 @@ quit_in_the_span = refl
 abbrev word_b : List Node
 word_b = look_node WordUnicode 3 ∷ byte_range 98 98 4 ∷ match_node 0 ∷ []
 
--- an edge, digits, and an edge, read downwards
+-- an edge, digits, and an edge, read in reverse
 abbrev digits : List Node
 digits = look_node WordUnicode 3 ∷ byte_range 48 57 4 ∷ binary_union 3 5 ∷ look_node WordUnicode 6 ∷ match_node 0 ∷ []
 
@@ -260,9 +260,9 @@ unfolding families_of known_lines known_words next_value start_or_dead pass_from
 words_are_found_in_ascii = refl
 
 -- "β123" from behind "β"
-quit_at_a_high_byte_downwards : scan (with_words (backward digits)) (over (0xCE ∷ 0xB2 ∷ 49 ∷ 50 ∷ 51 ∷ []) 2 5) ≡ quit 0xB2 1
+quit_at_a_high_byte_in_reverse : scan (with_words (backward digits)) (over (0xCE ∷ 0xB2 ∷ 49 ∷ 50 ∷ 51 ∷ []) 2 5) ≡ quit 0xB2 1
 unfolding families_of known_lines known_words next_value start_or_dead pass_from with_high_bytes
-quit_at_a_high_byte_downwards = refl
+quit_at_a_high_byte_in_reverse = refl
 
 -- "123β" up to "β"
 quit_at_a_high_byte_behind : scan (with_words (backward digits)) (over (49 ∷ 50 ∷ 51 ∷ 0xCE ∷ 0xB2 ∷ []) 0 3) ≡ quit 0xCE 3
@@ -284,18 +284,18 @@ line_feed_ends_no_line : scan (ending_at (one_of 0) (forward line_end)) (over (9
 unfolding families_of known_lines known_words next_value start_or_dead pass_from
 line_feed_ends_no_line = refl
 
-line_feed_ends_no_line_downwards : scan (ending_at (one_of 0) (backward line_end_backward)) (over (97 ∷ 10 ∷ []) 0 1) ≡ found None
+line_feed_ends_no_line_in_reverse : scan (ending_at (one_of 0) (backward line_end_backward)) (over (97 ∷ 10 ∷ []) 0 1) ≡ found None
 unfolding families_of known_lines known_words next_value start_or_dead pass_from
-line_feed_ends_no_line_downwards = refl
+line_feed_ends_no_line_in_reverse = refl
 
 line_feed_ends_a_line : scan (ending_at (one_of 10) (forward line_end)) (over (97 ∷ 10 ∷ []) 0 2) ≡ found (Some (1, 0))
 unfolding families_of known_lines known_words next_value start_or_dead pass_from
 line_feed_ends_a_line = refl
 
-line_feed_ends_a_line_downwards : scan (ending_at (one_of 10) (backward line_end_backward)) (over (97 ∷ 10 ∷ []) 0 1) ≡ found
+line_feed_ends_a_line_in_reverse : scan (ending_at (one_of 10) (backward line_end_backward)) (over (97 ∷ 10 ∷ []) 0 1) ≡ found
     (Some (0, 0))
 unfolding families_of known_lines known_words next_value start_or_dead pass_from
-line_feed_ends_a_line_downwards = refl
+line_feed_ends_a_line_in_reverse = refl
 
 -- ---- the empty pattern in UTF-8 mode, over "β"
 
@@ -328,9 +328,9 @@ each_end_counts_without_utf8_mode : scan (reads (forward nothing) (only 255)) (o
 unfolding families_of known_lines known_words next_value start_or_dead pass_from
 each_end_counts_without_utf8_mode = refl
 
-search_begins_anew_downwards : scan (between (backward nothing)) (over beta 0 1) ≡ found (Some (0, 0))
+search_begins_anew_in_reverse : scan (between (backward nothing)) (over beta 0 1) ≡ found (Some (0, 0))
 unfolding families_of known_lines known_words next_value start_or_dead pass_from
-search_begins_anew_downwards = refl
+search_begins_anew_in_reverse = refl
 
 -- ---- what searches make and tell
 
@@ -361,15 +361,15 @@ bytes_of_two_searches : told_by (reads (forward letter) no_quits) (over (97 ∷ 
 unfolding families_of known_lines known_words next_value start_or_dead pass_from
 bytes_of_two_searches = refl
 
--- downwards through three bytes, the last two of which match: from the last byte to the first
-bytes_of_a_search_downwards : told_by (record (reads (backward letters) no_quits) { kind = AllMatches }) (record (over (98 ∷ 97 ∷ 97 ∷ []) 0 3) { anchored = Yes }) nothing_told ((3, 3) ∷ [])
+-- in reverse through three bytes, the last two of which match: from the last byte to the first
+bytes_of_a_search_in_reverse : told_by (record (reads (backward letters) no_quits) { kind = AllMatches }) (record (over (98 ∷ 97 ∷ 97 ∷ []) 0 3) { anchored = Yes }) nothing_told ((3, 3) ∷ [])
     ≡ record { searched = 2; progress = None }
 unfolding families_of known_lines known_words next_value start_or_dead pass_from
-bytes_of_a_search_downwards = refl
+bytes_of_a_search_in_reverse = refl
 
 -- and over none it tells nothing
-nothing_is_told_downwards : told_by (reads (backward letters) no_quits) (over [] 0 0) nothing_told ((0, 0) ∷ []) ≡ nothing_told
-nothing_is_told_downwards = refl
+nothing_is_told_in_reverse : told_by (reads (backward letters) no_quits) (over [] 0 0) nothing_told ((0, 0) ∷ []) ≡ nothing_told
+nothing_is_told_in_reverse = refl
 
 quit_is_told : told (quit 100 2) ≡ Err (Quit 100 2)
 quit_is_told = refl

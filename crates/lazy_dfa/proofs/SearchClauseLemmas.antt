@@ -158,7 +158,7 @@ half_of_pair : (f : Option HalfFound) → f ≡ half_of (pair_of f)
 half_of_pair None = refl
 half_of_pair (Some m) = refl
 
--- how far an answer reached, upwards or downwards
+-- how far an answer reached, forward or in reverse
 reaches_where : (P : Option (ℕ × ℕ) → Type 0) (d : Dfa) (q : Search) (new : CacheValue) (result : Result (Option HalfFound) MatchErrorKind) →
     ((o : Option (ℕ × ℕ)) → scan (reader d) q ≡ found o → P o) → Answers d new q result → IfOk result (λ f. (o : Option (ℕ × ℕ)) × (f ≡ half_of o) × P o)
 reaches_where P d q new (Err e) reach answers = tt

@@ -22,7 +22,7 @@ use Rattle.lazy_dfa.proofs.AnswerLemmas.{answer, ok_is_told, ok_is_found}
 use Rattle.lazy_dfa.proofs.LinkedLemmas.{AreBytes}
 use Rattle.lazy_dfa.proofs.PassListLemmas.{first_pass, first_answer, first_splits, done_passes, whole_once, whole_scan, anchored_once, anchored_scan, lowest_once, lowest_scan, passes_begin, passes_anew, scan_anew}
 use Rattle.lazy_dfa.proofs.ScanLemmas.{scan_done}
-use Rattle.lazy_dfa.proofs.SearchLemmas.{HasMade, Stands, makes_one, fails_here, finishes}
+use Rattle.lazy_dfa.proofs.SearchLemmas.{HasMade, HasCome, makes_one, fails_here, finishes}
 
 -- ---- what tests tell
 
@@ -57,7 +57,7 @@ lower_end t u fits some is = subst (λ (x : Search). x.end + 1 - x.start < t.end
 
 -- ---- what is left
 
-module _ (d : Dfa) (q t : Search) (old now : CacheValue) (m1 m2 n1 n2 : ℕ) (stands : Stands d q t old now m1 m2 n1 n2) where
+module _ (d : Dfa) (q t : Search) (old now : CacheValue) (m1 m2 n1 n2 : ℕ) (stands : HasCome d q t old now m1 m2 n1 n2) where
   pub done_ends : t.end < t.start → MakesSearch d q old now m1 m2 n1 n2 (Ok None)
   done_ends past =
       finishes d q old now m1 m2 n1 n2 None (ap told (sym (scan_done (reader d) t past) ∙ stands.left.scan)) stands.passes
@@ -65,7 +65,7 @@ module _ (d : Dfa) (q t : Search) (old now : CacheValue) (m1 m2 n1 n2 : ℕ) (st
       stands.made
 
 module _ (d : Dfa) (q t : Search) (old now next : CacheValue) (m1 m2 m3 n1 n2 n3 : ℕ) (fit : IsDfa d)
-    (own_old : IsCacheOf d old) (own_now : IsCacheOf d now) (bytes : AreBytes q.haystack) (stands : Stands d q t old now m1 m2 n1 n2) (fits : t.start ≤ t.end) where
+    (own_old : IsCacheOf d old) (own_now : IsCacheOf d now) (bytes : AreBytes q.haystack) (stands : HasCome d q t old now m1 m2 n1 n2) (fits : t.start ≤ t.end) where
   abbrev r : Reader
   r = reader d
 
@@ -127,29 +127,29 @@ module _ (d : Dfa) (q t : Search) (old now next : CacheValue) (m1 m2 m3 n1 n2 n3
         lowest_ends a low =
             split_ends (lowest_once r t fits a (omega (arith, fits, low))) (lowest_scan r t fits a (omega (arith, fits, low)) (splits_by false inside))
 
-        same_but_span : (down : Bool) → shorter down t ≡ with_span (shorter down t).start (shorter down t).end q
+        same_but_span : (is_reverse : Bool) → shorter is_reverse t ≡ with_span (shorter is_reverse t).start (shorter is_reverse t).end q
         same_but_span false = ap (with_span (t.start + 1) t.end) stands.left.same
         same_but_span true = ap (with_span t.start (t.end - 1)) stands.left.same
 
-        goes_on : is_anchored t.anchored ≡ false → (down : Bool) → r.automaton.reverse ≡ down → (down ≡ true → 0 < t.end) → (u : Search) →
-            u ≡ shorter down t → Stands d q u old next m1 m3 n1 n3
-        goes_on a down dir some u same = record {
+        goes_on : is_anchored t.anchored ≡ false → (is_reverse : Bool) → r.automaton.reverse ≡ is_reverse → (is_reverse ≡ true → 0 < t.end) → (u : Search) →
+            u ≡ shorter is_reverse t → HasCome d q u old next m1 m3 n1 n3
+        goes_on a is_reverse dir some u same = record {
           passes = behind;
           made = one_more;
           left = record {
-            same = subst (λ (x : Search). x ≡ with_span x.start x.end q) (sym same) (same_but_span down);
-            scan = ap (scan r) same ∙ sym (scan_anew r t a fits (splits_by false inside) down dir some) ∙ stands.left.scan;
+            same = subst (λ (x : Search). x ≡ with_span x.start x.end q) (sym same) (same_but_span is_reverse);
+            scan = ap (scan r) same ∙ sym (scan_anew r t a fits (splits_by false inside) is_reverse dir some) ∙ stands.left.scan;
             passes = append_assoc stands.passes (first_pass r t ∷ []) (passes_of r u)
                 ∙ ap (λ (x : Search). stands.passes ++ first_pass r t ∷ passes_of r x) same
-                ∙ sym (ap (λ (os : List (ℕ × ℕ)). stands.passes ++ os) (passes_anew r t a fits (splits_by false inside) down dir some))
+                ∙ sym (ap (λ (os : List (ℕ × ℕ)). stands.passes ++ os) (passes_anew r t a fits (splits_by false inside) is_reverse dir some))
                 ∙ stands.left.passes;
           };
         }
 
-        pub goes_up : is_anchored t.anchored ≡ false → r.automaton.reverse ≡ false → (u : Search) → u ≡ with_span (t.start + 1) t.end t →
-            Stands d q u old next m1 m3 n1 n3
-        goes_up a up u same = goes_on a false up (λ never. absurd (true≢false (sym never))) u same
+        pub goes_forward : is_anchored t.anchored ≡ false → r.automaton.reverse ≡ false → (u : Search) → u ≡ with_span (t.start + 1) t.end t →
+            HasCome d q u old next m1 m3 n1 n3
+        goes_forward a up u same = goes_on a false up (λ never. absurd (true≢false (sym never))) u same
 
-        pub goes_down : is_anchored t.anchored ≡ false → r.automaton.reverse ≡ true → 0 < t.end → (u : Search) → u ≡ with_span t.start (t.end - 1) t →
-            Stands d q u old next m1 m3 n1 n3
-        goes_down a down some u same = goes_on a true down (λ is. some) u same
+        pub goes_reverse : is_anchored t.anchored ≡ false → r.automaton.reverse ≡ true → 0 < t.end → (u : Search) → u ≡ with_span t.start (t.end - 1) t →
+            HasCome d q u old next m1 m3 n1 n3
+        goes_reverse a is_reverse some u same = goes_on a true is_reverse (λ is. some) u same

@@ -75,12 +75,12 @@ pub record IsLeft (r : Reader) (q t : Search) (ps : List (ℕ × ℕ)) : Type 0 
   pub passes : ps ++ passes_of r t ≡ passes_of r q
 
 -- both: how far a half search has come
-pub record Stands (d : Dfa) (q t : Search) (old now : CacheValue) (m1 m2 n1 n2 : ℕ) : Type 0 where
+pub record HasCome (d : Dfa) (q t : Search) (old now : CacheValue) (m1 m2 n1 n2 : ℕ) : Type 0 where
   pub passes : List (ℕ × ℕ)
   pub made : HasMade d q old now m1 m2 n1 n2 passes
   pub left : IsLeft (reader d) q t passes
 
-pub begins : (d : Dfa) (q t : Search) (v : CacheValue) (m n : ℕ) → t ≡ q → Stands d q t v v m m n n
+pub begins : (d : Dfa) (q t : Search) (v : CacheValue) (m n : ℕ) → t ≡ q → HasCome d q t v v m m n n
 begins d q t v m n is = record {
   passes = [];
   made = record {

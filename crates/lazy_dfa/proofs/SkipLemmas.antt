@@ -7,7 +7,7 @@ use Rattle.lazy_dfa.specs.Points.{GoesTo, point}
 use Rattle.lazy_dfa.specs.Skips.{StaysOver}
 use Rattle.lazy_dfa.proofs.ChangeLemmas.{plain_noted}
 use Rattle.lazy_dfa.proofs.LinkedLemmas.{AreBytes}
-use Rattle.lazy_dfa.proofs.PointLemmas.{goes_on, runs_on, next_row, up_unit, up_place}
+use Rattle.lazy_dfa.proofs.PointLemmas.{goes_on, runs_on, next_row, forward_unit, forward_place}
 
 module _ (d : Dfa) (v : CacheValue) (h : List ℕ) (made : IsDfa d) (own : IsCacheOf d v) (bytes : AreBytes h) (up : d.nfa.automaton.reverse ≡ false) where
   -- the way goes on by a byte whose step is known
@@ -19,7 +19,7 @@ module _ (d : Dfa) (v : CacheValue) (h : List ℕ) (made : IsDfa d) (own : IsCac
 
     pub way_on : (m n : ℕ) (best : Option (ℕ × ℕ)) → GoesTo d h (point v m n from first best) (point v m n (at + 1) next best) (at + 1 - from)
     way_on m n best = runs_on d v h made own bytes from first at id row here (at - from) m n best (so_far m n best) next (at + 1) (at + 1 - from) (Some (get_or h at 0)) (bytes at)
-        (plain_noted d v id c (get_or h at 0) next class low read) plain (up_unit d h at up inside) (up_place d at up) (omega (arith, past))
+        (plain_noted d v id c (get_or h at 0) next class low read) plain (forward_unit d h at up inside) (forward_place d at up) (omega (arith, past))
 
   -- and behind bytes that leave the state as it is
   module _ (from first at id : ℕ) (row : IsRow v first) (here : IsRow v id) (low : id < tag) (past : from ≤ at)

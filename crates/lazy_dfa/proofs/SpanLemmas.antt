@@ -12,7 +12,7 @@ use Rattle.lazy_dfa.specs.Dfas.{Dfa, reader}
 use Rattle.lazy_dfa.specs.Passes.{is_empty}
 use Rattle.lazy_dfa.specs.Points.{GoesTo, point}
 use Rattle.lazy_dfa.specs.Readers.{Reader}
-use Rattle.lazy_dfa.specs.Stands.{left_at, GoesBetween}
+use Rattle.lazy_dfa.specs.PassPlaces.{left_at, GoesBetween}
 use Rattle.lazy_dfa.proofs.PointLemmas.{runs_none}
 
 -- ---- runs stop nowhere
@@ -55,24 +55,24 @@ between d v h from at id to k j best e goes earliest m n =
     subst (λ (x : ℕ). GoesBetween d earliest h (point v m n from id best) (point v m n at to best) x) (sym e)
     (goes m n best, λ s held. no_stop (reader d) h from s earliest k ((goes m n None).best s (names_held held)))
 
-pub stays_between : (d : Dfa) (v : CacheValue) (q : Search) (down : Bool) (at id : ℕ) (best : Option (ℕ × ℕ)) → IsCacheOf d v → IsRow v id →
-    (earliest : Bool) (m n : ℕ) → GoesBetween d earliest q.haystack (point v m n at id best) (point v m n at id best) (left_at down q at - left_at down q at)
-stays_between d v q down at id best own row =
-    between d v q.haystack at at id id 0 (left_at down q at - left_at down q at) best (omega arith) (runs_none d v q.haystack at id 0 own row refl)
+pub stays_between : (d : Dfa) (v : CacheValue) (q : Search) (is_reverse : Bool) (at id : ℕ) (best : Option (ℕ × ℕ)) → IsCacheOf d v → IsRow v id →
+    (earliest : Bool) (m n : ℕ) → GoesBetween d earliest q.haystack (point v m n at id best) (point v m n at id best) (left_at is_reverse q at - left_at is_reverse q at)
+stays_between d v q is_reverse at id best own row =
+    between d v q.haystack at at id id 0 (left_at is_reverse q at - left_at is_reverse q at) best (omega arith) (runs_none d v q.haystack at id 0 own row refl)
 
--- the haystack that a run was handed, where it ends for one who reads up, and the ways there
-pub up_between : (d : Dfa) (v : CacheValue) (q : Search) (h : List ℕ) (down : Bool) (from at id to end : ℕ) (best : Option (ℕ × ℕ)) → h ≡ q.haystack → end ≡ q.end → down ≡ false → from ≤ at → at ≤ end →
+-- the haystack that a run was handed, where it ends for one who reads forward, and the ways there
+pub forward_between : (d : Dfa) (v : CacheValue) (q : Search) (h : List ℕ) (is_reverse : Bool) (from at id to end : ℕ) (best : Option (ℕ × ℕ)) → h ≡ q.haystack → end ≡ q.end → is_reverse ≡ false → from ≤ at → at ≤ end →
     ((m n : ℕ) (best : Option (ℕ × ℕ)) → GoesTo d h (point v m n from id best) (point v m n at to best) (at - from)) →
-    (earliest : Bool) (m n : ℕ) → GoesBetween d earliest q.haystack (point v m n from id best) (point v m n at to best) (left_at down q from - left_at down q at)
-up_between d v q h true from at id to end best same last up past within goes = absurd cc
-up_between d v q h false from at id to end best same last up past within goes =
+    (earliest : Bool) (m n : ℕ) → GoesBetween d earliest q.haystack (point v m n from id best) (point v m n at to best) (left_at is_reverse q from - left_at is_reverse q at)
+forward_between d v q h true from at id to end best same last up past within goes = absurd cc
+forward_between d v q h false from at id to end best same last up past within goes =
     between d v q.haystack from at id to (at - from) (left_at false q from - left_at false q at) best (omega (arith, past, within, last))
     (λ m n b. subst (λ (x : List ℕ). GoesTo d x (point v m n from id b) (point v m n at to b) (at - from)) same (goes m n b))
 
-pub down_between : (d : Dfa) (v : CacheValue) (q : Search) (h : List ℕ) (down : Bool) (from at id to end : ℕ) (best : Option (ℕ × ℕ)) → h ≡ q.haystack → end ≡ q.start → down ≡ true → at ≤ from → end ≤ at →
+pub reverse_between : (d : Dfa) (v : CacheValue) (q : Search) (h : List ℕ) (is_reverse : Bool) (from at id to end : ℕ) (best : Option (ℕ × ℕ)) → h ≡ q.haystack → end ≡ q.start → is_reverse ≡ true → at ≤ from → end ≤ at →
     ((m n : ℕ) (best : Option (ℕ × ℕ)) → GoesTo d h (point v m n from id best) (point v m n at to best) (from - at)) →
-    (earliest : Bool) (m n : ℕ) → GoesBetween d earliest q.haystack (point v m n from id best) (point v m n at to best) (left_at down q from - left_at down q at)
-down_between d v q h false from at id to end best same last down past within goes = absurd cc
-down_between d v q h true from at id to end best same last down past within goes =
+    (earliest : Bool) (m n : ℕ) → GoesBetween d earliest q.haystack (point v m n from id best) (point v m n at to best) (left_at is_reverse q from - left_at is_reverse q at)
+reverse_between d v q h false from at id to end best same last is_reverse past within goes = absurd cc
+reverse_between d v q h true from at id to end best same last is_reverse past within goes =
     between d v q.haystack from at id to (from - at) (left_at true q from - left_at true q at) best (omega (arith, past, within, last))
     (λ m n b. subst (λ (x : List ℕ). GoesTo d x (point v m n from id b) (point v m n at to b) (from - at)) same (goes m n b))

@@ -27,7 +27,7 @@ use Rattle.lazy_dfa.specs.Passes.{index_at, is_dead}
 use Rattle.lazy_dfa.specs.Points.{Point, began, Follows, GoesTo, point}
 use Rattle.lazy_dfa.specs.Readers.{is_quit}
 use Rattle.lazy_dfa.specs.SearchAnswers.{Told, told_of, pass_distance, running_at}
-use Rattle.lazy_dfa.specs.Stands.{IsWithinSpan, last_place, came, tells, first_index, BeganFirst, finished, finished_where, told_behind, error_of, EndsWith, gave_up_at, turned_told, TellsTurn, TurnsTo}
+use Rattle.lazy_dfa.specs.PassPlaces.{IsWithinSpan, last_place, came, tells, first_index, BeganFirst, finished, finished_where, told_behind, error_of, EndsWith, gave_up_at, turned_told, TellsTurn, TurnsTo}
 use Rattle.lazy_dfa.specs.Turns.{Leaves, FailsOn, TellsTheSame, GoesOne, IsSeen, IsTurn}
 use Rattle.lazy_dfa.proofs.IsCacheLemmas.{le_of, lt_of}
 use Rattle.lazy_dfa.proofs.LinkedLemmas.{moved_refl, moved_trans, names_moved, noted_moved, moved_starts, id_moved, linked_moved}
@@ -172,7 +172,7 @@ some_bytes n l = ⊎_elim
 no_bytes : (n : ℕ) → n ≡ 0 → n == 0 ≡ true
 no_bytes n e = ap (λ (k : ℕ). k == 0) e
 
-pub told_behind_some : (down : Bool) (n units x : ℕ) (t : Told) → 0 < n → x ≡ pass_distance down n units → told_end t.searched x ≡ told_behind down n t units
+pub told_behind_some : (is_reverse : Bool) (n units x : ℕ) (t : Told) → 0 < n → x ≡ pass_distance is_reverse n units → told_end t.searched x ≡ told_behind is_reverse n t units
 told_behind_some false n units x t l e = ap (told_end t.searched) e
 told_behind_some true n units x t l e =
     ap (told_end t.searched) e
@@ -194,11 +194,11 @@ is_le a b l = ⊎_elim
     (cases_Bool (nat_le a b))
 
 -- the length of a pass by its first index and its last one
-up_distance : (s at : ℕ) → s ≤ at → distance s at ≡ suc (at - s) - 1
-up_distance s at l = omega (arith, l)
+forward_distance : (s at : ℕ) → s ≤ at → distance s at ≡ suc (at - s) - 1
+forward_distance s at l = omega (arith, l)
 
-down_distance : (s e at : ℕ) → s < at → at ≤ e → distance (e - 1) (at - 1) ≡ min (suc (e - at) - 1) (e - s - 1)
-down_distance s e at l g =
+reverse_distance : (s e at : ℕ) → s < at → at ≤ e → distance (e - 1) (at - 1) ≡ min (suc (e - at) - 1) (e - s - 1)
+reverse_distance s e at l g =
     let f : min (suc (e - at) - 1) (e - s - 1) ≡ suc (e - at) - 1 = min-eq_left (omega (arith, l, g)) in
     omega (arith, l, g, f)
 
@@ -225,39 +225,39 @@ abbrev IsAnew : CacheValue → CacheValue → Type 0
 IsAnew old new = HasCleared old new × (told_of new ≡ told_anew (told_of old))
 
 abbrev TellsEnd : Bool → Search → ℕ → CacheValue → CacheValue → Type 0
-TellsEnd down q at old new = (told_of new ≡ told_behind down (span_len q) (told_of old) (suc (came down q at))) ⊎ HasCleared old new
+TellsEnd is_reverse q at old new = (told_of new ≡ told_behind is_reverse (span_len q) (told_of old) (suc (came is_reverse q at))) ⊎ HasCleared old new
 
 -- ---- what a turn by a byte tells
 
-byte_end_told : (down : Bool) (q : Search) (v v2 : CacheValue) (at : ℕ) → IsWithinSpan q at → at ≢ last_place down q → v2.searched ≡ v.searched →
-    (tells down q ≡ true → began v2.progress ≡ Some (first_index down q)) →
-    told_of (finished (index_at down at) v2) ≡ told_behind down (span_len q) (told_of v) (suc (came down q at))
+byte_end_told : (is_reverse : Bool) (q : Search) (v v2 : CacheValue) (at : ℕ) → IsWithinSpan q at → at ≢ last_place is_reverse q → v2.searched ≡ v.searched →
+    (tells is_reverse q ≡ true → began v2.progress ≡ Some (first_index is_reverse q)) →
+    told_of (finished (index_at is_reverse at) v2) ≡ told_behind is_reverse (span_len q) (told_of v) (suc (came is_reverse q at))
 byte_end_told false q v v2 at within left searched begins =
-    told_there v2 v.searched q.start at (suc (at - q.start) - 1) searched (begins refl) (up_distance q.start at within.0)
+    told_there v2 v.searched q.start at (suc (at - q.start) - 1) searched (begins refl) (forward_distance q.start at within.0)
 byte_end_told true q v v2 at within left searched begins =
     let l = above q.start at within.0 left in
     let far = within.1 in
-    told_there v2 v.searched (q.end - 1) (at - 1) (min (suc (q.end - at) - 1) (q.end - q.start - 1)) searched (begins (not_le q.end q.start (omega (arith, l, far)))) (down_distance q.start q.end at l far)
+    told_there v2 v.searched (q.end - 1) (at - 1) (min (suc (q.end - at) - 1) (q.end - q.start - 1)) searched (begins (not_le q.end q.start (omega (arith, l, far)))) (reverse_distance q.start q.end at l far)
     ∙ told_behind_some true (q.end - q.start) (suc (q.end - at)) (min (suc (q.end - at) - 1) (q.end - q.start - 1)) (told_of v) (omega (arith, l, far)) refl
 
-byte_told : (down : Bool) (q : Search) (v0 v1 v2 v3 : CacheValue) (at index : ℕ) → index ≡ index_at down at → v1 ≡ record v0 { progress = moved_to index v0.progress } →
-    v3 ≡ finished index v2 → IsWithinSpan q at → at ≢ last_place down q → TellsTheSame v1 v2 → BeganFirst down q v0 → TellsEnd down q at v0 v3
-byte_told down q v0 v1 v2 v3 at index here e f within left same begins = ⊎_elim
+byte_told : (is_reverse : Bool) (q : Search) (v0 v1 v2 v3 : CacheValue) (at index : ℕ) → index ≡ index_at is_reverse at → v1 ≡ record v0 { progress = moved_to index v0.progress } →
+    v3 ≡ finished index v2 → IsWithinSpan q at → at ≢ last_place is_reverse q → TellsTheSame v1 v2 → BeganFirst is_reverse q v0 → TellsEnd is_reverse q at v0 v3
+byte_told is_reverse q v0 v1 v2 v3 at index here e f within left same begins = ⊎_elim
     (λ (g : IsSame v1 v2). inl (ap told_of f ∙ (ap (λ (x : ℕ). told_of (finished x v2)) here
-    ∙ byte_end_told down q v0 v2 at within left (ap (λ (t : Told). t.searched) g.0 ∙ ap (λ (c : CacheValue). c.searched) e)
+    ∙ byte_end_told is_reverse q v0 v2 at within left (ap (λ (t : Told). t.searched) g.0 ∙ ap (λ (c : CacheValue). c.searched) e)
     (λ tells. ap (λ (t : Told). began t.progress) g.0 ∙ (ap (λ (c : CacheValue). began c.progress) e ∙ (began_moved index v0.progress ∙ begins tells))))))
     (λ (c : IsAnew v1 v2). inr (cleared_between v0 v1 v2 v3 (moved_is v0 v1 index e) (finished_moves v2 v3 index f) c.0))
     same
 
 -- ---- what the last turn tells
 
-last_told_same : (down : Bool) (q : Search) (v0 v1 v2 v3 : CacheValue) (at : ℕ) → v1 ≡ finished_where (down && tells down q) at v0 → v3 ≡ finished_where (not down) at v2 →
-    at ≡ last_place down q → q.start ≤ q.end → told_of v2 ≡ told_of v1 → BeganFirst down q v0 →
-    told_of v3 ≡ told_behind down (span_len q) (told_of v0) (suc (came down q at))
+last_told_same : (is_reverse : Bool) (q : Search) (v0 v1 v2 v3 : CacheValue) (at : ℕ) → v1 ≡ finished_where (is_reverse && tells is_reverse q) at v0 → v3 ≡ finished_where (not is_reverse) at v2 →
+    at ≡ last_place is_reverse q → q.start ≤ q.end → told_of v2 ≡ told_of v1 → BeganFirst is_reverse q v0 →
+    told_of v3 ≡ told_behind is_reverse (span_len q) (told_of v0) (suc (came is_reverse q at))
 last_told_same false q v0 v1 v2 v3 at e f last begun g begins =
     ap told_of f
     ∙ told_there v2 v0.searched q.start at (suc (at - q.start) - 1) (ap (λ (t : Told). t.searched) g ∙ ap (λ (c : CacheValue). c.searched) e)
-    (ap (λ (t : Told). began t.progress) g ∙ (ap (λ (c : CacheValue). began c.progress) e ∙ begins refl)) (up_distance q.start at (omega (arith, last, begun)))
+    (ap (λ (t : Told). began t.progress) g ∙ (ap (λ (c : CacheValue). began c.progress) e ∙ begins refl)) (forward_distance q.start at (omega (arith, last, begun)))
 last_told_same true q v0 v1 v2 v3 at e f last begun g begins = ap told_of f ∙ (g ∙ ⊎_elim
     (λ (l : q.start < q.end).
     let yes_tells = not_le q.end q.start l in
@@ -271,26 +271,26 @@ last_told_same true q v0 v1 v2 v3 at e f last begun g begins = ap told_of f ∙ 
     ∙ told_behind_none (q.end - q.start) (suc (q.end - at)) (told_of v0) (omega (arith, l)))
     (cases_lt q.start q.end))
 
-last_told : (down : Bool) (q : Search) (v0 v1 v2 v3 : CacheValue) (at : ℕ) → v1 ≡ finished_where (down && tells down q) at v0 → v3 ≡ finished_where (not down) at v2 →
-    at ≡ last_place down q → q.start ≤ q.end → TellsTheSame v1 v2 → BeganFirst down q v0 → TellsEnd down q at v0 v3
-last_told down q v0 v1 v2 v3 at e f last begun same begins = ⊎_elim
-    (λ (g : IsSame v1 v2). inl (last_told_same down q v0 v1 v2 v3 at e f last begun g.0 begins))
-    (λ (c : IsAnew v1 v2). inr (cleared_between v0 v1 v2 v3 (finished_where_moves v0 v1 at (down && tells down q) e) (finished_where_moves v2 v3 at (not down) f) c.0))
+last_told : (is_reverse : Bool) (q : Search) (v0 v1 v2 v3 : CacheValue) (at : ℕ) → v1 ≡ finished_where (is_reverse && tells is_reverse q) at v0 → v3 ≡ finished_where (not is_reverse) at v2 →
+    at ≡ last_place is_reverse q → q.start ≤ q.end → TellsTheSame v1 v2 → BeganFirst is_reverse q v0 → TellsEnd is_reverse q at v0 v3
+last_told is_reverse q v0 v1 v2 v3 at e f last begun same begins = ⊎_elim
+    (λ (g : IsSame v1 v2). inl (last_told_same is_reverse q v0 v1 v2 v3 at e f last begun g.0 begins))
+    (λ (c : IsAnew v1 v2). inr (cleared_between v0 v1 v2 v3 (finished_where_moves v0 v1 at (is_reverse && tells is_reverse q) e) (finished_where_moves v2 v3 at (not is_reverse) f) c.0))
     same
 
 -- ---- the unit at a place
 
-pub byte_unit : (down back : Bool) (q : Search) (h : List ℕ) (at index : ℕ) → down ≡ back → h ≡ q.haystack → index ≡ index_at down at → IsWithinSpan q at → at ≢ last_place down q →
+pub byte_unit : (is_reverse back : Bool) (q : Search) (h : List ℕ) (at index : ℕ) → is_reverse ≡ back → h ≡ q.haystack → index ≡ index_at is_reverse at → IsWithinSpan q at → at ≢ last_place is_reverse q →
     q.end ≤ length q.haystack → Some (get_or h index 0) ≡ unit_at back q.haystack at
-byte_unit down back q h at index same is here within left inside =
+byte_unit is_reverse back q h at index same is here within left inside =
     ap (λ (x : List ℕ). Some (get_or x index 0)) is
     ∙ (ap (λ (i : ℕ). Some (get_or q.haystack i 0)) here
-    ∙ (there down left ∙ ap (λ (b : Bool). unit_at b q.haystack at) same))
+    ∙ (there is_reverse left ∙ ap (λ (b : Bool). unit_at b q.haystack at) same))
   where
     back_one : (n s : ℕ) → s < n → suc (n - 1) ≡ n
     back_one n s l = omega (arith, l)
 
-    there : (down : Bool) → at ≢ last_place down q → Some (get_or q.haystack (index_at down at) 0) ≡ unit_at down q.haystack at
+    there : (is_reverse : Bool) → at ≢ last_place is_reverse q → Some (get_or q.haystack (index_at is_reverse at) 0) ≡ unit_at is_reverse q.haystack at
     there false left =
         let far = above_end at q.end within.1 left in
         sym (slice_get-get_or q.haystack at 0 (omega (arith, far, inside)))
@@ -302,24 +302,24 @@ byte_unit down back q h at index same is here within left inside =
 
 -- ---- turns in a span
 
-module _ (d : Dfa) (q : Search) (down : Bool) (same : down ≡ d.nfa.automaton.reverse) (v0 v1 v2 : CacheValue) (m1 n1 m2 n2 at id : ℕ) (best : Option (ℕ × ℕ)) (u : Option ℕ) where
+module _ (d : Dfa) (q : Search) (is_reverse : Bool) (same : is_reverse ≡ d.nfa.automaton.reverse) (v0 v1 v2 : CacheValue) (m1 n1 m2 n2 at id : ℕ) (best : Option (ℕ × ℕ)) (u : Option ℕ) where
   abbrev from : Point
   from = point v0 m1 n1 at id best
 
   abbrev before : Point
   before = point v1 m1 n1 at id best
 
-  index_there : (index : ℕ) → index ≡ index_at down at → index ≡ index_at d.nfa.automaton.reverse at
+  index_there : (index : ℕ) → index ≡ index_at is_reverse at → index ≡ index_at d.nfa.automaton.reverse at
   index_there index e = e ∙ ap (λ (b : Bool). index_at b at) same
 
   gave_up : (is : Bool) (place : ℕ) → at == last_place d.nfa.automaton.reverse q ≡ is → place ≡ (if is then at else index_at d.nfa.automaton.reverse at) → place ≡ gave_up_at d.nfa.automaton.reverse q at
   gave_up is place e f = f ∙ sym (ap (λ (b : Bool). if b then at else index_at d.nfa.automaton.reverse at) e)
 
-  pub gave_up_last : (place : ℕ) → place ≡ at → at ≡ last_place down q → place ≡ gave_up_at d.nfa.automaton.reverse q at
+  pub gave_up_last : (place : ℕ) → place ≡ at → at ≡ last_place is_reverse q → place ≡ gave_up_at d.nfa.automaton.reverse q at
   gave_up_last place e last =
       gave_up true place (eq-eqb at (last_place d.nfa.automaton.reverse q) (last ∙ ap (λ (b : Bool). last_place b q) same)) e
 
-  pub gave_up_byte : (place : ℕ) → place ≡ index_at down at → at ≢ last_place down q → place ≡ gave_up_at d.nfa.automaton.reverse q at
+  pub gave_up_byte : (place : ℕ) → place ≡ index_at is_reverse at → at ≢ last_place is_reverse q → place ≡ gave_up_at d.nfa.automaton.reverse q at
   gave_up_byte place e left = ⊎_elim
       (λ (f : at == last_place d.nfa.automaton.reverse q ≡ true). absurd (left (eqb-true at (last_place d.nfa.automaton.reverse q) f ∙ ap (λ (b : Bool). last_place b q) (sym same))))
       (λ (f : at == last_place d.nfa.automaton.reverse q ≡ false). gave_up false place f (index_there place e))
@@ -368,7 +368,7 @@ module _ (d : Dfa) (q : Search) (down : Bool) (same : down ≡ d.nfa.automaton.r
 
     -- by a quit byte
     pub turn_quits : (v3 : CacheValue) (b index : ℕ) (err : MatchErrorKind) → IsMoved v0 v1 → IsMoved v2 v3 → u ≡ unit_at d.nfa.automaton.reverse q.haystack at → u ≡ Some b →
-        index ≡ index_at down at → err ≡ Quit b index → Turned true false v3 →
+        index ≡ index_at is_reverse at → err ≡ Quit b index → Turned true false v3 →
         turn ≡ Quits → TurnsTo d q from v3 m2 n2 (Err err)
     turn_quits v3 b index err moved after is some here told tells e =
         let x = seen_as Quits e in
@@ -394,7 +394,7 @@ module _ (d : Dfa) (q : Search) (down : Bool) (same : down ≡ d.nfa.automaton.r
     some_unless r never = (goes_unless turn never (seen_as turn refl)).0.running r
 
     -- by a byte, from which it goes on
-    pub byte_goes : (index next : ℕ) → v1 ≡ record v0 { progress = moved_to index v0.progress } → next ≡ place_of down at 1 → at ≢ last_place down q → Turned false false v2 → turn ≡ GoesOn →
+    pub byte_goes : (index next : ℕ) → v1 ≡ record v0 { progress = moved_to index v0.progress } → next ≡ place_of is_reverse at 1 → at ≢ last_place is_reverse q → Turned false false v2 → turn ≡ GoesOn →
         GoesOne d q.haystack from v2 m2 n2 to best2 × (next ≡ place_of d.nfa.automaton.reverse at 1) × (at ≢ last_place d.nfa.automaton.reverse q) × IsRow v2 to ×
         ((s : StateValue) → HeldAt v0 id s → stops_behind (reader d) q.earliest q.haystack at s 0 ≡ false) × TellsTurn d false false q at v0 v2
     byte_goes index next moved place left tells e =
@@ -410,8 +410,8 @@ module _ (d : Dfa) (q : Search) (down : Bool) (same : down ≡ d.nfa.automaton.r
         )
 
     -- by a byte, with which it ends
-    pub byte_ends : (v3 : CacheValue) (index : ℕ) → index ≡ index_at down at → v1 ≡ record v0 { progress = moved_to index v0.progress } → v3 ≡ finished index v2 →
-        IsWithinSpan q at → at ≢ last_place down q → Turned true true v3 → turn ≡ Ends → EndsWith d q from v3 m2 n2 best2
+    pub byte_ends : (v3 : CacheValue) (index : ℕ) → index ≡ index_at is_reverse at → v1 ≡ record v0 { progress = moved_to index v0.progress } → v3 ≡ finished index v2 →
+        IsWithinSpan q at → at ≢ last_place is_reverse q → Turned true true v3 → turn ≡ Ends → EndsWith d q from v3 m2 n2 best2
     byte_ends v3 index here moved f within left tells e =
         let x = seen_as Ends e in
         let m = moved_is v0 v1 index moved in
@@ -422,14 +422,14 @@ module _ (d : Dfa) (q : Search) (down : Bool) (same : down ≡ d.nfa.automaton.r
           begun = m;
           goes = x.0;
           ended = finished_moves v2 v3 index f;
-          told = subst (λ (b : Bool). BeganFirst b q v0 → TellsEnd b q at v0 v3) same (byte_told down q v0 v1 v2 v3 at index here moved f within left x.1);
+          told = subst (λ (b : Bool). BeganFirst b q v0 → TellsEnd b q at v0 v3) same (byte_told is_reverse q v0 v1 v2 v3 at index here moved f within left x.1);
           why = λ s held. ⊎_elim (λ (y : stops_behind (reader d) q.earliest q.haystack at s 0 ≡ true). inl y)
               (λ (y : is_dead (state_behind (reader d) q.haystack at s 1) ≡ true). inr (inl y)) (x.2 s (held_moved v0 v1 id s m held));
           tells = tells_turn true true v3 m (finished_moves v2 v3 index f) tells x.1;
         }
 
     -- at the last place
-    pub last_ends : (v3 : CacheValue) → v1 ≡ finished_where (down && tells down q) at v0 → v3 ≡ finished_where (not down) at v2 → at ≡ last_place down q → q.start ≤ q.end →
+    pub last_ends : (v3 : CacheValue) → v1 ≡ finished_where (is_reverse && tells is_reverse q) at v0 → v3 ≡ finished_where (not is_reverse) at v2 → at ≡ last_place is_reverse q → q.start ≤ q.end →
         Turned true true v3 → (turn ≡ Quits → ⊥) → EndsWith d q from v3 m2 n2 best2
     last_ends v3 e f last begun turned never =
         let x = goes_unless turn never (seen_as turn refl) in
@@ -437,10 +437,10 @@ module _ (d : Dfa) (q : Search) (down : Bool) (same : down ≡ d.nfa.automaton.r
           before = v1;
           behind = v2;
           id = to;
-          begun = finished_where_moves v0 v1 at (down && tells down q) e;
+          begun = finished_where_moves v0 v1 at (is_reverse && tells is_reverse q) e;
           goes = x.0;
-          ended = finished_where_moves v2 v3 at (not down) f;
-          told = subst (λ (b : Bool). BeganFirst b q v0 → TellsEnd b q at v0 v3) same (last_told down q v0 v1 v2 v3 at e f last begun x.1);
+          ended = finished_where_moves v2 v3 at (not is_reverse) f;
+          told = subst (λ (b : Bool). BeganFirst b q v0 → TellsEnd b q at v0 v3) same (last_told is_reverse q v0 v1 v2 v3 at e f last begun x.1);
           why = λ s held. inr (inr (last ∙ ap (λ (b : Bool). last_place b q) same));
-          tells = tells_turn true true v3 (finished_where_moves v0 v1 at (down && tells down q) e) (finished_where_moves v2 v3 at (not down) f) turned x.1;
+          tells = tells_turn true true v3 (finished_where_moves v0 v1 at (is_reverse && tells is_reverse q) e) (finished_where_moves v2 v3 at (not is_reverse) f) turned x.1;
         }

@@ -11,15 +11,15 @@ use Rattle.lazy_dfa.specs.PassLaws.{IsQuitAt}
 
 -- ---- places
 
-pub place_zero : (down : Bool) (i : ℕ) → place_of down i 0 ≡ i
+pub place_zero : (is_reverse : Bool) (i : ℕ) → place_of is_reverse i 0 ≡ i
 place_zero false i = omega arith
 place_zero true i = omega arith
 
-pub place_next : (down : Bool) (i k : ℕ) → place_of down (place_of down i k) 1 ≡ place_of down i (suc k)
+pub place_next : (is_reverse : Bool) (i k : ℕ) → place_of is_reverse (place_of is_reverse i k) 1 ≡ place_of is_reverse i (suc k)
 place_next false i k = omega arith
 place_next true i k = omega arith
 
-pub place_later : (down : Bool) (i k : ℕ) → place_of down (place_of down i 1) k ≡ place_of down i (suc k)
+pub place_later : (is_reverse : Bool) (i k : ℕ) → place_of is_reverse (place_of is_reverse i 1) k ≡ place_of is_reverse i (suc k)
 place_later false i k = omega arith
 place_later true i k = omega arith
 

@@ -19,7 +19,7 @@ use Rattle.lazy_dfa.specs.Passes.{is_dead, first_value, pass}
 use Rattle.lazy_dfa.specs.Scans.{first_place}
 use Rattle.lazy_dfa.specs.ScanLaws.{begins_at}
 use Rattle.lazy_dfa.specs.SearchAnswers.{told, Told, told_of, pass_distance}
-use Rattle.lazy_dfa.specs.Stands.{left_at, pass_start, StartsPass}
+use Rattle.lazy_dfa.specs.PassPlaces.{left_at, pass_start, StartsPass}
 use Rattle.lazy_dfa.specs.StartCalls.{start_refusal}
 use Rattle.lazy_dfa.specs.Steps.{Grew, WasCleared, most_inserts}
 use Rattle.lazy_dfa.specs.Walks.{nothing_left, refused, whole_rest, rest_of, WalkState}
@@ -157,7 +157,7 @@ module _ (d : Dfa) (q : Search) (old mid : CacheValue) (m1 m n1 n id : ℕ) (beg
     told_after_start k =
         told_with (old.searched + progress_len old.progress) (pass_distance d.nfa.automaton.reverse (left_at d.nfa.automaton.reverse q from) k)
 
-    no_distance : (down : Bool) (k : ℕ) → pass_distance down k 0 ≡ 0
+    no_distance : (is_reverse : Bool) (k : ℕ) → pass_distance is_reverse k 0 ≡ 0
     no_distance false k = refl
     no_distance true k = min-eq_left (omega arith)
 
@@ -193,13 +193,13 @@ module _ (d : Dfa) (q : Search) (old mid : CacheValue) (m1 m n1 n id : ℕ) (beg
         still_there = grows_moved d mid new moved
 
   -- or it isn't, and the walk reads on
-  module _ (down : Bool) (is : down ≡ d.nfa.automaton.reverse) where
-    pub begins_held : has_tag dead_tag id ≡ false → HeldAt mid id (value_before (reader d) q (first_place down q.start q.end))
+  module _ (is_reverse : Bool) (is : is_reverse ≡ d.nfa.automaton.reverse) where
+    pub begins_held : has_tag dead_tag id ≡ false → HeldAt mid id (value_before (reader d) q (first_place is_reverse q.start q.end))
     begins_held alive = subst (λ (b : Bool). HeldAt mid id (value_before (reader d) q (first_place b q.start q.end))) (sym is)
         (subst (HeldAt mid id) (sym (begun_value (reader d) q)) (row_named d mid mid id first_state mine.shape refl alive start.start.1))
 
     pub begins_walk : (new : CacheValue) (m2 n2 : ℕ) (result : Result WalkState MatchErrorKind) →
-        ReadsOn d q (first_place down q.start q.end) mid new m m2 n n2 result → MakesIts d q Fresh old new m1 m2 n1 n2 result
+        ReadsOn d q (first_place is_reverse q.start q.end) mid new m m2 n n2 result → MakesIts d q Fresh old new m1 m2 n1 n2 result
     begins_walk new m2 n2 result x =
         makes_on d q Fresh old mid new m1 m m2 n1 n n2 made own reads_first (fits.1 ∙ begun_rest (reader d) q) (begun_units (reader d) q)
         so_far few_starts few_starts_put result (subst (λ (b : Bool). ReadsOn d q (first_place b q.start q.end) mid new m m2 n n2 result) is x)

@@ -12,7 +12,7 @@ use Rattle.lazy_dfa.specs.Dfas.{Dfa, IsDfa, reader}
 use Rattle.lazy_dfa.specs.Linked.{Grows, HasCleared, GrowsOrClears}
 use Rattle.lazy_dfa.specs.Readers.{Reader}
 use Rattle.lazy_dfa.specs.SearchAnswers.{half_of, Told, told_of, pass_distance}
-use Rattle.lazy_dfa.specs.Stands.{left_at}
+use Rattle.lazy_dfa.specs.PassPlaces.{left_at}
 use Rattle.lazy_dfa.specs.Steps.{most_inserts}
 use Rattle.lazy_dfa.specs.Walks.{Rest, nothing_left, refused, others, rest_of, IsWalk, WalkState}
 use Rattle.lazy_dfa.specs.WalkAnswers.{reads_on, call_place, units_there, call_units, call_starts, told_left, TellsNext, GivesUpOn, at_unit, AnswersWalk, failed_by, told_by_call, rest_at, units_at, told_from, GivesUpFrom, ReadsOn, MakesCall}

@@ -68,82 +68,82 @@ pub data Tells (r : Reader) (h : List ℕ) (ends : List (ℕ × ℕ)) (j d : ℕ
 module _ (r : Reader) (h : List ℕ) (i len : ℕ) (ends : List (ℕ × ℕ)) (state : ℕ → StateValue)
     (steps : (k : ℕ) → state (suc k) ≡ next_value r h (place_of r.automaton.reverse i k) (state k))
     (all : (k : ℕ) → k ≤ len → (state (suc k)).matches ≡ map pattern (filter (is_at (place_of r.automaton.reverse i k)) ends)) where
-  abbrev down : Bool
-  down = r.automaton.reverse
+  abbrev is_reverse : Bool
+  is_reverse = r.automaton.reverse
 
   abbrev counted : ℕ → Bool
   counted = counts r.between_characters h
 
   abbrev by : ℕ → ℕ → List (ℕ × ℕ)
-  by j d = ends_by_place down counted ends j d
+  by j d = ends_by_place is_reverse counted ends j d
 
-  next_at : (j k : ℕ) → j ≡ place_of down i k → place_of down j 1 ≡ place_of down i (suc k)
-  next_at j k at = ap (λ (p : ℕ). place_of down p 1) at ∙ place_next down i k
+  next_at : (j k : ℕ) → j ≡ place_of is_reverse i k → place_of is_reverse j 1 ≡ place_of is_reverse i (suc k)
+  next_at j k at = ap (λ (p : ℕ). place_of is_reverse p 1) at ∙ place_next is_reverse i k
 
   -- behind the dead state no run ends
-  dead_silent : (k : ℕ) → k ≤ len → state k ≡ dead → ends_at counted ends (place_of down i k) ≡ []
+  dead_silent : (k : ℕ) → k ≤ len → state k ≡ dead → ends_at counted ends (place_of is_reverse i k) ≡ []
   dead_silent k l e =
-      either_nothing (counted (place_of down i k)) (filter (is_at (place_of down i k)) ends)
-      (none_mapped (filter (is_at (place_of down i k)) ends)
+      either_nothing (counted (place_of is_reverse i k)) (filter (is_at (place_of is_reverse i k)) ends)
+      (none_mapped (filter (is_at (place_of is_reverse i k)) ends)
       (sym (all k l) ∙ ap (λ (v : StateValue). v.matches) (dead_next r h i state steps k e)))
 
-  dead_tells : (d k j : ℕ) → j ≡ place_of down i k → k + d ≡ suc len → state k ≡ dead → by j d ≡ []
+  dead_tells : (d k j : ℕ) → j ≡ place_of is_reverse i k → k + d ≡ suc len → state k ≡ dead → by j d ≡ []
   dead_tells zero k j at left e = refl
   dead_tells (suc d) k j at left e =
-      ap (λ (l : List (ℕ × ℕ)). l ++ by (place_of down j 1) d)
+      ap (λ (l : List (ℕ × ℕ)). l ++ by (place_of is_reverse j 1) d)
       (ap (λ (p : ℕ). ends_at counted ends p) at ∙ dead_silent k (omega (arith, left)) e)
-      ∙ dead_tells d (suc k) (place_of down j 1) (next_at j k at) (omega (arith, left)) (dead_next r h i state steps k e)
+      ∙ dead_tells d (suc k) (place_of is_reverse j 1) (next_at j k at) (omega (arith, left)) (dead_next r h i state steps k e)
 
-  listed_next : (d k j : ℕ) → j ≡ place_of down i k → k ≤ len →
+  listed_next : (d k j : ℕ) → j ≡ place_of is_reverse i k → k ≤ len →
       onto (listed counted j (next_value r h j (state k)).matches) (rest_from r h d (next_place r j) (next_value r h j (state k))) ≡
-      onto (ends_at counted ends j) (rest_from r h d (place_of down j 1) (state (suc k)))
+      onto (ends_at counted ends j) (rest_from r h d (place_of is_reverse j 1) (state (suc k)))
   listed_next d k j at l =
-      ap (λ (v : StateValue). onto (listed counted j v.matches) (rest_from r h d (place_of down j 1) v))
+      ap (λ (v : StateValue). onto (listed counted j v.matches) (rest_from r h d (place_of is_reverse j 1) v))
       (ap (λ (p : ℕ). next_value r h p (state k)) at ∙ sym (steps k))
-      ∙ ap (λ (ends : List (ℕ × ℕ)). onto ends (rest_from r h d (place_of down j 1) (state (suc k))))
+      ∙ ap (λ (ends : List (ℕ × ℕ)). onto ends (rest_from r h d (place_of is_reverse j 1) (state (suc k))))
       (listed_is counted j (state (suc k)).matches ends
       (all k l ∙ ap (λ (p : ℕ). map pattern (filter (is_at p) ends)) (sym at)))
 
   tells_later : (j d : ℕ) (rest more : Rest) → more ≡ onto (ends_at counted ends j) rest →
-      is_quit r.quits (unit_at down h j) ≡ false → Tells r h ends (place_of down j 1) d rest → Tells r h ends j (suc d) more
+      is_quit r.quits (unit_at is_reverse h j) ≡ false → Tells r h ends (place_of is_reverse j 1) d rest → Tells r h ends j (suc d) more
   tells_later j d rest more is quiet (tells_all e) = tells_all (is ∙ ap (λ (z : Rest). onto (ends_at counted ends j) z) e)
   tells_later j d rest more is quiet (tells_until m b l u quits none e) =
       tells_until (suc m) b (omega (arith, l)) (sym (unit_later r h j m) ∙ u) quits (none_more r h j m quiet none)
       (is ∙ ap (λ (z : Rest). onto (ends_at counted ends j) z) e
-      ∙ ap (λ (p : ℕ). until (by j (suc m)) b p) (place_later down j m))
+      ∙ ap (λ (p : ℕ). until (by j (suc m)) b p) (place_later is_reverse j m))
     where
       until : List (ℕ × ℕ) → ℕ → ℕ → Rest
-      until ends b p = record { ends = ends; refusal = Some (Quit b (index_at down p)) }
+      until ends b p = record { ends = ends; refusal = Some (Quit b (index_at is_reverse p)) }
 
-  tells_turn : (d k j : ℕ) → j ≡ place_of down i k → k + suc d ≡ suc len → Turn r h d j (state k) →
-      Tells r h ends (place_of down j 1) d (rest_from r h d (place_of down j 1) (state (suc k))) →
+  tells_turn : (d k j : ℕ) → j ≡ place_of is_reverse i k → k + suc d ≡ suc len → Turn r h d j (state k) →
+      Tells r h ends (place_of is_reverse j 1) d (rest_from r h d (place_of is_reverse j 1) (state (suc k))) →
       Tells r h ends j (suc d) (rest_from r h (suc d) j (state k))
   tells_turn d k j at left (turn_ends e is) later =
       tells_all (is ∙ (λ n. record { ends = sym (dead_tells (suc d) k j at left (dead_is (state k) e)) n; refusal = None }))
   tells_turn d k j at left (turn_quits b alive u quits is) later =
       tells_until 0 b (omega arith) (unit_first r h j ∙ u) quits (λ k l. absurd (omega (arith, l)))
-      (is ∙ ap (λ (p : ℕ). refused (Quit b (index_at down p))) (sym (place_zero down j)))
+      (is ∙ ap (λ (p : ℕ). refused (Quit b (index_at is_reverse p))) (sym (place_zero is_reverse j)))
   tells_turn d k j at left (turn_goes alive quiet is) later =
-      tells_later j d (rest_from r h d (place_of down j 1) (state (suc k))) (rest_from r h (suc d) j (state k))
+      tells_later j d (rest_from r h d (place_of is_reverse j 1) (state (suc k))) (rest_from r h (suc d) j (state k))
       (is ∙ listed_next d k j at (omega (arith, left))) quiet later
 
-  pub walk_tells : (d k j : ℕ) → j ≡ place_of down i k → k + d ≡ suc len → Tells r h ends j d (rest_from r h d j (state k))
+  pub walk_tells : (d k j : ℕ) → j ≡ place_of is_reverse i k → k + d ≡ suc len → Tells r h ends j d (rest_from r h d j (state k))
   walk_tells zero k j at left = tells_all (rest_none r h j (state k))
   walk_tells (suc d) k j at left =
       tells_turn d k j at left (turn r h d j (state k))
-      (walk_tells d (suc k) (place_of down j 1) (next_at j k at) (omega (arith, left)))
+      (walk_tells d (suc k) (place_of is_reverse j 1) (next_at j k at) (omega (arith, left)))
 
 -- ---- whole walks
 
-all_left : (down : Bool) (s e : ℕ) (t : Text) → t.start ≡ s → t.end ≡ e → bytes_left down t (first_place down s e) ≡ e - s
+all_left : (is_reverse : Bool) (s e : ℕ) (t : Text) → t.start ≡ s → t.end ≡ e → bytes_left is_reverse t (first_place is_reverse s e) ≡ e - s
 all_left false s e t a b = omega (arith, a, b)
 all_left true s e t a b = omega (arith, a, b)
 
-first_low : (down : Bool) (s e : ℕ) → s ≤ e → first_place down s e ≤ e
+first_low : (is_reverse : Bool) (s e : ℕ) → s ≤ e → first_place is_reverse s e ≤ e
 first_low false s e l = l
 first_low true s e l = omega arith
 
-first_room : (down : Bool) (s e : ℕ) → s ≤ e → HasRoom down (first_place down s e) (suc (e - s))
+first_room : (is_reverse : Bool) (s e : ℕ) → s ≤ e → HasRoom is_reverse (first_place is_reverse s e) (suc (e - s))
 first_room false s e l = tt
 first_room true s e l = omega (arith, l)
 

@@ -5,7 +5,7 @@ use Rattle.search_types.specs.Inputs.{Search}
 use Rattle.lazy_dfa.specs.Caches.{CacheValue, IsShaped, IsCacheOf, HeldAt, Names, names_dead, names_held, greatest}
 use Rattle.lazy_dfa.specs.declared.overlapping_state.Stop.{Stop}
 use Rattle.lazy_dfa.specs.declared.overlapping_state.Walk.{Walk}
-use Rattle.lazy_dfa.specs.declared.overlapping_state.Walk.TheVariants.{Fresh, Ended, Failed, Stands}
+use Rattle.lazy_dfa.specs.declared.overlapping_state.Walk.TheVariants.{Fresh, Ended, Failed, Stopped}
 use Rattle.lazy_dfa.specs.Dfas.{Dfa}
 use Rattle.lazy_dfa.specs.Linked.{Grows, HasCleared, GrowsOrClears}
 use Rattle.lazy_dfa.specs.Walks.{StopsAt, IsWalk}
@@ -37,7 +37,7 @@ pub walk_kept : (d : Dfa) (old new : CacheValue) (q : Search) (w : Walk) → IsC
 walk_kept d old new q Fresh own g at = tt
 walk_kept d old new q Ended own g at = tt
 walk_kept d old new q (Failed e) own g at = tt
-walk_kept d old new q (Stands stop) own g at = stop_kept d old new q stop own g at
+walk_kept d old new q (Stopped stop) own g at = stop_kept d old new q stop own g at
 
 -- short of the greatest count, the same count of clears tells that nothing was cleared
 pub walk_counted : (d : Dfa) (old new : CacheValue) (q : Search) (w : Walk) → IsCacheOf d old → GrowsOrClears d old new →

@@ -23,27 +23,27 @@ use Rattle.lazy_dfa.specs.Readers.{Reader, HalfAnswer, quit, is_quit}
 use Rattle.lazy_dfa.specs.Scans.{first_place}
 use Rattle.lazy_dfa.specs.ScanLaws.{begins_at}
 use Rattle.lazy_dfa.specs.SearchAnswers.{told}
-use Rattle.lazy_dfa.specs.Stands.{came, left_at, last_place, IsWithinSpan, pass_start}
+use Rattle.lazy_dfa.specs.PassPlaces.{came, left_at, last_place, IsWithinSpan, pass_start}
 use Rattle.lazy_dfa.specs.StartCalls.{quit_refusal, behind_refusal, mode_refusal, start_refusal}
 use Rattle.lazy_dfa.specs.Walks.{Rest, nothing_left, refused, unless_quit_at, where_supported, end_of, rest_from, whole_rest, value_past, rest_past}
 use Rattle.lazy_dfa.specs.WalkAnswers.{units_met, value_before, rest_at, units_at}
 
 -- ---- places of a span
 
-left_first : (down : Bool) (q : Search) → left_at down q (first_place down q.start q.end) ≡ span_len q
+left_first : (is_reverse : Bool) (q : Search) → left_at is_reverse q (first_place is_reverse q.start q.end) ≡ span_len q
 left_first false q = refl
 left_first true q = refl
 
-came_first : (down : Bool) (q : Search) → came down q (first_place down q.start q.end) ≡ 0
+came_first : (is_reverse : Bool) (q : Search) → came is_reverse q (first_place is_reverse q.start q.end) ≡ 0
 came_first false q = omega arith
 came_first true q = omega arith
 
-left_last : (down : Bool) (q : Search) (at : ℕ) → at ≡ last_place down q → left_at down q at ≡ 0
+left_last : (is_reverse : Bool) (q : Search) (at : ℕ) → at ≡ last_place is_reverse q → left_at is_reverse q at ≡ 0
 left_last false q at e = omega (arith, e)
 left_last true q at e = omega (arith, e)
 
-left_next : (down : Bool) (q : Search) (at : ℕ) → IsWithinSpan q at → at ≢ last_place down q →
-    suc (left_at down q (place_of down at 1)) ≡ left_at down q at
+left_next : (is_reverse : Bool) (q : Search) (at : ℕ) → IsWithinSpan q at → at ≢ last_place is_reverse q →
+    suc (left_at is_reverse q (place_of is_reverse at 1)) ≡ left_at is_reverse q at
 left_next false q at within apart = let l = within.1 in ⊎_elim
     (λ (less : at < q.end). omega (arith, less))
     (λ (past : q.end ≤ at). absurd (apart (omega (arith, l, past))))
@@ -53,15 +53,15 @@ left_next true q at within apart = let l = within.0 in ⊎_elim
     (λ (past : at ≤ q.start). absurd (apart (omega (arith, l, past))))
     (cases_lt q.start at)
 
-came_next : (down : Bool) (q : Search) (at : ℕ) → IsWithinSpan q at → at ≢ last_place down q →
-    came down q (place_of down at 1) ≡ suc (came down q at)
+came_next : (is_reverse : Bool) (q : Search) (at : ℕ) → IsWithinSpan q at → at ≢ last_place is_reverse q →
+    came is_reverse q (place_of is_reverse at 1) ≡ suc (came is_reverse q at)
 came_next false q at within apart = let l = within.0 in omega (arith, l)
 came_next true q at within apart = let l = within.0 in let k = within.1 in ⊎_elim
     (λ (less : q.start < at). omega (arith, less, k))
     (λ (past : at ≤ q.start). absurd (apart (omega (arith, l, past))))
     (cases_lt q.start at)
 
-pub next_within : (down : Bool) (q : Search) (at : ℕ) → IsWithinSpan q at → at ≢ last_place down q → IsWithinSpan q (place_of down at 1)
+pub next_within : (is_reverse : Bool) (q : Search) (at : ℕ) → IsWithinSpan q at → at ≢ last_place is_reverse q → IsWithinSpan q (place_of is_reverse at 1)
 next_within false q at within apart = let l = within.0 in let k = within.1 in ⊎_elim
     (λ (less : at < q.end). (omega (arith, l), omega (arith, less)))
     (λ (past : q.end ≤ at). absurd (apart (omega (arith, k, past))))
@@ -71,7 +71,7 @@ next_within true q at within apart = let l = within.0 in let k = within.1 in ⊎
     (λ (past : at ≤ q.start). absurd (apart (omega (arith, l, past))))
     (cases_lt q.start at)
 
-pub first_within : (down : Bool) (q : Search) → q.start ≤ q.end → IsWithinSpan q (first_place down q.start q.end)
+pub first_within : (is_reverse : Bool) (q : Search) → q.start ≤ q.end → IsWithinSpan q (first_place is_reverse q.start q.end)
 first_within false q l = (omega arith, l)
 first_within true q l = (l, omega arith)
 
@@ -84,42 +84,42 @@ module _ (r : Reader) (q : Search) where
   abbrev first_state : StateValue
   first_state = first_value r q.anchored q.haystack from
 
-  abbrev down : Bool
-  down = r.automaton.reverse
+  abbrev is_reverse : Bool
+  is_reverse = r.automaton.reverse
 
   -- where it has begun and reads on at its first place
   pub begun_rest : rest_from r q.haystack (suc (span_len q)) from first_state ≡ rest_at r q from
   begun_rest = sym (
-      ap (λ (n : ℕ). rest_from r q.haystack (suc n) from (value_before r q from)) (left_first down q)
-      ∙ ap (λ (k : ℕ). rest_from r q.haystack (suc (span_len q)) from (state_behind r q.haystack from first_state k)) (came_first down q))
+      ap (λ (n : ℕ). rest_from r q.haystack (suc n) from (value_before r q from)) (left_first is_reverse q)
+      ∙ ap (λ (k : ℕ). rest_from r q.haystack (suc (span_len q)) from (state_behind r q.haystack from first_state k)) (came_first is_reverse q))
 
   pub begun_units : units_met r q.haystack (suc (span_len q)) from first_state ≡ units_at r q from
   begun_units = sym (
-      ap (λ (n : ℕ). units_met r q.haystack (suc n) from (value_before r q from)) (left_first down q)
-      ∙ ap (λ (k : ℕ). units_met r q.haystack (suc (span_len q)) from (state_behind r q.haystack from first_state k)) (came_first down q))
+      ap (λ (n : ℕ). units_met r q.haystack (suc n) from (value_before r q from)) (left_first is_reverse q)
+      ∙ ap (λ (k : ℕ). units_met r q.haystack (suc (span_len q)) from (state_behind r q.haystack from first_state k)) (came_first is_reverse q))
 
   pub begun_value : value_before r q from ≡ first_state
-  begun_value = ap (λ (k : ℕ). state_behind r q.haystack from first_state k) (came_first down q)
+  begun_value = ap (λ (k : ℕ). state_behind r q.haystack from first_state k) (came_first is_reverse q)
 
   -- where it stopped behind a unit
   module _ (at : ℕ) (within : IsWithinSpan q at) where
-    pub past_last : at ≡ last_place down q → rest_past r q at ≡ nothing_left
+    pub past_last : at ≡ last_place is_reverse q → rest_past r q at ≡ nothing_left
     unfolding rest_from
-    past_last e = ap (λ (n : ℕ). rest_from r q.haystack n (next_place r at) (value_past r q at)) (left_last down q at e)
+    past_last e = ap (λ (n : ℕ). rest_from r q.haystack n (next_place r at) (value_past r q at)) (left_last is_reverse q at e)
 
-    module _ (apart : at ≢ last_place down q) where
+    module _ (apart : at ≢ last_place is_reverse q) where
       pub past_value : value_past r q at ≡ value_before r q (next_place r at)
-      past_value = sym (ap (λ (k : ℕ). state_behind r q.haystack from first_state k) (came_next down q at within apart))
+      past_value = sym (ap (λ (k : ℕ). state_behind r q.haystack from first_state k) (came_next is_reverse q at within apart))
 
       pub past_rest : rest_past r q at ≡ rest_at r q (next_place r at)
       past_rest =
-          ap (λ (n : ℕ). rest_from r q.haystack n (next_place r at) (value_past r q at)) (sym (left_next down q at within apart))
-          ∙ ap (λ (s : StateValue). rest_from r q.haystack (suc (left_at down q (next_place r at))) (next_place r at) s) past_value
+          ap (λ (n : ℕ). rest_from r q.haystack n (next_place r at) (value_past r q at)) (sym (left_next is_reverse q at within apart))
+          ∙ ap (λ (s : StateValue). rest_from r q.haystack (suc (left_at is_reverse q (next_place r at))) (next_place r at) s) past_value
 
-      pub past_units : units_met r q.haystack (left_at down q at) (next_place r at) (value_past r q at) ≡ units_at r q (next_place r at)
+      pub past_units : units_met r q.haystack (left_at is_reverse q at) (next_place r at) (value_past r q at) ≡ units_at r q (next_place r at)
       past_units =
-          ap (λ (n : ℕ). units_met r q.haystack n (next_place r at) (value_past r q at)) (sym (left_next down q at within apart))
-          ∙ ap (λ (s : StateValue). units_met r q.haystack (suc (left_at down q (next_place r at))) (next_place r at) s) past_value
+          ap (λ (n : ℕ). units_met r q.haystack n (next_place r at) (value_past r q at)) (sym (left_next is_reverse q at within apart))
+          ∙ ap (λ (s : StateValue). units_met r q.haystack (suc (left_at is_reverse q (next_place r at))) (next_place r at) s) past_value
 
 -- a dead state leaves nothing, and reads nothing
 pub dead_rest : (r : Reader) (h : List ℕ) (n i : ℕ) (s : StateValue) → is_dead s ≡ true → rest_from r h n i s ≡ nothing_left

@@ -13,7 +13,7 @@ use Rattle.lazy_dfa.specs.Readers.{Reader}
 use Rattle.lazy_dfa.specs.Scans.{first_place}
 use Rattle.lazy_dfa.specs.ScanLaws.{begins_at}
 use Rattle.lazy_dfa.specs.SearchAnswers.{pass_distance}
-use Rattle.lazy_dfa.specs.Stands.{last_place, came, left_at, IsWithinSpan, gave_up_at}
+use Rattle.lazy_dfa.specs.PassPlaces.{last_place, came, left_at, IsWithinSpan, gave_up_at}
 use Rattle.lazy_dfa.specs.Walks.{rest_from, value_past}
 use Rattle.lazy_dfa.specs.WalkAnswers.{units_met, value_before, rest_at, units_at}
 use Rattle.lazy_dfa.specs.WalkTurns.{TellsNone}
@@ -23,43 +23,43 @@ use Rattle.lazy_dfa.proofs.WalkRestLemmas.{goes_left, goes_units}
 
 -- ---- places
 
-place_came : (down : Bool) (q : Search) (at : ℕ) → IsWithinSpan q at → place_of down (first_place down q.start q.end) (came down q at) ≡ at
+place_came : (is_reverse : Bool) (q : Search) (at : ℕ) → IsWithinSpan q at → place_of is_reverse (first_place is_reverse q.start q.end) (came is_reverse q at) ≡ at
 place_came false q at w = omega (arith, w.0, w.1)
 place_came true q at w = omega (arith, w.0, w.1)
 
-came_later : (down : Bool) (q : Search) (a c l : ℕ) → IsWithinSpan q a → IsWithinSpan q c → left_at down q a ≡ l + left_at down q c → came down q a + l ≡ came down q c
+came_later : (is_reverse : Bool) (q : Search) (a c l : ℕ) → IsWithinSpan q a → IsWithinSpan q c → left_at is_reverse q a ≡ l + left_at is_reverse q c → came is_reverse q a + l ≡ came is_reverse q c
 came_later false q a c l w x e = omega (arith, w.0, w.1, x.0, x.1, e)
 came_later true q a c l w x e = omega (arith, w.0, w.1, x.0, x.1, e)
 
-pub left_next : (down : Bool) (q : Search) (a c : ℕ) → IsWithinSpan q a → a ≢ last_place down q → c ≡ place_of down a 1 → left_at down q a ≡ 1 + left_at down q c
+pub left_next : (is_reverse : Bool) (q : Search) (a c : ℕ) → IsWithinSpan q a → a ≢ last_place is_reverse q → c ≡ place_of is_reverse a 1 → left_at is_reverse q a ≡ 1 + left_at is_reverse q c
 left_next false q a c w n e = omega (arith, w.0, w.1, n, e)
 left_next true q a c w n e = omega (arith, w.0, w.1, n, e)
 
-pub left_last : (down : Bool) (q : Search) (a : ℕ) → a ≡ last_place down q → left_at down q a ≡ 0
+pub left_last : (is_reverse : Bool) (q : Search) (a : ℕ) → a ≡ last_place is_reverse q → left_at is_reverse q a ≡ 0
 left_last false q a e = omega (arith, e)
 left_last true q a e = omega (arith, e)
 
-pub place_sum_one : (down : Bool) (i k l : ℕ) → place_of down (place_of down i k) l ≡ place_of down i (k + l)
+pub place_sum_one : (is_reverse : Bool) (i k l : ℕ) → place_of is_reverse (place_of is_reverse i k) l ≡ place_of is_reverse i (k + l)
 place_sum_one false i k l = omega arith
 place_sum_one true i k l = omega arith
 
 -- how far a call comes that begins at one place and ends with the unit at another one
-pub comes_far : (down : Bool) (q : Search) (a c l : ℕ) → IsWithinSpan q a → IsWithinSpan q c → left_at down q a ≡ l + left_at down q c →
-    distance (gave_up_at down q a) (gave_up_at down q c) ≡ pass_distance down (left_at down q a) (l + 1)
-comes_far down q a c l w x e = by down (cases_eq a (last_place down q)) (cases_eq c (last_place down q)) w x e
+pub comes_far : (is_reverse : Bool) (q : Search) (a c l : ℕ) → IsWithinSpan q a → IsWithinSpan q c → left_at is_reverse q a ≡ l + left_at is_reverse q c →
+    distance (gave_up_at is_reverse q a) (gave_up_at is_reverse q c) ≡ pass_distance is_reverse (left_at is_reverse q a) (l + 1)
+comes_far is_reverse q a c l w x e = by is_reverse (cases_eq a (last_place is_reverse q)) (cases_eq c (last_place is_reverse q)) w x e
   where
-    at_last : (down : Bool) (i : ℕ) → i ≡ last_place down q → gave_up_at down q i ≡ i
-    at_last down i f = ap (λ (b : Bool). if b then i else index_at down i) (eq-eqb i (last_place down q) f)
+    at_last : (is_reverse : Bool) (i : ℕ) → i ≡ last_place is_reverse q → gave_up_at is_reverse q i ≡ i
+    at_last is_reverse i f = ap (λ (b : Bool). if b then i else index_at is_reverse i) (eq-eqb i (last_place is_reverse q) f)
 
-    before : (down : Bool) (i : ℕ) → i ≢ last_place down q → gave_up_at down q i ≡ index_at down i
-    before down i f = ap (λ (b : Bool). if b then i else index_at down i) (ne_eqb i (last_place down q) f)
+    before : (is_reverse : Bool) (i : ℕ) → i ≢ last_place is_reverse q → gave_up_at is_reverse q i ≡ index_at is_reverse i
+    before is_reverse i f = ap (λ (b : Bool). if b then i else index_at is_reverse i) (ne_eqb i (last_place is_reverse q) f)
 
-    joined : (down : Bool) (i j : ℕ) → gave_up_at down q a ≡ i → gave_up_at down q c ≡ j → distance i j ≡ pass_distance down (left_at down q a) (l + 1) →
-        distance (gave_up_at down q a) (gave_up_at down q c) ≡ pass_distance down (left_at down q a) (l + 1)
-    joined down i j f g k = ap (λ (x : ℕ). distance x (gave_up_at down q c)) f ∙ (ap (distance i) g ∙ k)
+    joined : (is_reverse : Bool) (i j : ℕ) → gave_up_at is_reverse q a ≡ i → gave_up_at is_reverse q c ≡ j → distance i j ≡ pass_distance is_reverse (left_at is_reverse q a) (l + 1) →
+        distance (gave_up_at is_reverse q a) (gave_up_at is_reverse q c) ≡ pass_distance is_reverse (left_at is_reverse q a) (l + 1)
+    joined is_reverse i j f g k = ap (λ (x : ℕ). distance x (gave_up_at is_reverse q c)) f ∙ (ap (distance i) g ∙ k)
 
-    up_same : (i j : ℕ) → q.end - i ≡ l + (q.end - j) → IsWithinSpan q i → IsWithinSpan q j → distance i j ≡ l + 1 - 1
-    up_same i j f w x = omega (arith, f, w.0, w.1, x.0, x.1)
+    forward_same : (i j : ℕ) → q.end - i ≡ l + (q.end - j) → IsWithinSpan q i → IsWithinSpan q j → distance i j ≡ l + 1 - 1
+    forward_same i j f w x = omega (arith, f, w.0, w.1, x.0, x.1)
 
     to_byte : (i j : ℕ) → i - q.start ≡ l + (j - q.start) → IsWithinSpan q i → IsWithinSpan q j → j ≢ q.start → distance (i - 1) (j - 1) ≡ min (l + 1 - 1) (i - q.start - 1)
     to_byte i j f w x n =
@@ -79,12 +79,12 @@ comes_far down q a c l w x e = by down (cases_eq a (last_place down q)) (cases_e
     none_left_there : (i j : ℕ) → i ≡ q.start → i - q.start ≡ l + (j - q.start) → IsWithinSpan q j → j ≡ q.start
     none_left_there i j e f x = omega (arith, e, f, x.0)
 
-    by : (down : Bool) → (a ≡ last_place down q) ⊎ (a ≢ last_place down q) → (c ≡ last_place down q) ⊎ (c ≢ last_place down q) → IsWithinSpan q a → IsWithinSpan q c →
-        left_at down q a ≡ l + left_at down q c → distance (gave_up_at down q a) (gave_up_at down q c) ≡ pass_distance down (left_at down q a) (l + 1)
-    by false (inl f) (inl g) w x e = joined false a c (at_last false a f) (at_last false c g) (up_same a c e w x)
-    by false (inl f) (inr g) w x e = joined false a c (at_last false a f) (before false c g) (up_same a c e w x)
-    by false (inr f) (inl g) w x e = joined false a c (before false a f) (at_last false c g) (up_same a c e w x)
-    by false (inr f) (inr g) w x e = joined false a c (before false a f) (before false c g) (up_same a c e w x)
+    by : (is_reverse : Bool) → (a ≡ last_place is_reverse q) ⊎ (a ≢ last_place is_reverse q) → (c ≡ last_place is_reverse q) ⊎ (c ≢ last_place is_reverse q) → IsWithinSpan q a → IsWithinSpan q c →
+        left_at is_reverse q a ≡ l + left_at is_reverse q c → distance (gave_up_at is_reverse q a) (gave_up_at is_reverse q c) ≡ pass_distance is_reverse (left_at is_reverse q a) (l + 1)
+    by false (inl f) (inl g) w x e = joined false a c (at_last false a f) (at_last false c g) (forward_same a c e w x)
+    by false (inl f) (inr g) w x e = joined false a c (at_last false a f) (before false c g) (forward_same a c e w x)
+    by false (inr f) (inl g) w x e = joined false a c (before false a f) (at_last false c g) (forward_same a c e w x)
+    by false (inr f) (inr g) w x e = joined false a c (before false a f) (before false c g) (forward_same a c e w x)
     by true (inl f) (inl g) w x e = joined true a c (at_last true a f) (at_last true c g) (none a c f e w x)
     by true (inl f) (inr g) w x e = absurd (g (none_left_there a c f e x))
     by true (inr f) (inl g) w x e = joined true (a - 1) c (before true a f) (at_last true c g) (to_last a c e w x f g)

@@ -14,7 +14,7 @@ use Rattle.search_types.specs.Inputs.{Search}
 use Rattle.search_types.specs.Places.{counts}
 use Rattle.lazy_dfa.specs.Caches.{CacheValue, IsCacheOf, IsRow, HeldAt, Names, names_dead, names_held, greatest, progress_len, lacks_room}
 use Rattle.lazy_dfa.specs.Courses.{state_behind}
-use Rattle.lazy_dfa.specs.declared.passing.Stand.{Stand}
+use Rattle.lazy_dfa.specs.declared.passing.Position.{Position}
 use Rattle.lazy_dfa.specs.declared.overlapping_state.Walk.TheVariants.{Ended}
 use Rattle.lazy_dfa.specs.Dfas.{Dfa, IsDfa, reader}
 use Rattle.lazy_dfa.specs.Linked.{Grows, HasCleared, GrowsOrClears, IsMoved}
@@ -22,7 +22,7 @@ use Rattle.lazy_dfa.specs.Passes.{is_dead, is_empty, next_value, next_place}
 use Rattle.lazy_dfa.specs.Points.{Point, point, began, Follows, GoesTo}
 use Rattle.lazy_dfa.specs.Readers.{is_quit}
 use Rattle.lazy_dfa.specs.SearchAnswers.{half_of, pair_of, told_of, pass_distance}
-use Rattle.lazy_dfa.specs.Stands.{last_place, left_at, IsWithinSpan, gave_up_at, GoesBetween}
+use Rattle.lazy_dfa.specs.PassPlaces.{last_place, left_at, IsWithinSpan, gave_up_at, GoesBetween}
 use Rattle.lazy_dfa.specs.Steps.{most_inserts}
 use Rattle.lazy_dfa.specs.Turns.{Leaves}
 use Rattle.lazy_dfa.specs.Walks.{Rest, WalkState, nothing_left, onto, others, listed, rest_from, rest_of, value_past, rest_past, StopsAt, IsWalk}
@@ -221,7 +221,7 @@ module _ (d : Dfa) (q : Search) (made : IsDfa d) (from p : Point) (own : IsCache
 
   -- ---- with an end, or with none
 
-  module _ (v : CacheValue) (m n : ℕ) (stand : Stand) (tells : Bool) (t : StopsWith d q p v m n stand tells) where
+  module _ (v : CacheValue) (m n : ℕ) (position : Position) (tells : Bool) (t : StopsWith d q p v m n position tells) where
     abbrev behind : StateValue
     behind = state_behind (reader d) h p.at now 1
 
@@ -244,7 +244,7 @@ module _ (d : Dfa) (q : Search) (made : IsDfa d) (from p : Point) (own : IsCache
         by false e = pass_units (reader d) h (left_at rev q p.at) p.at now alive (sym is_told ∙ e) ∙ ap suc (by_why e (t.why e now x.state))
 
     kept_there : KeepsOn d from.cache t.behind index ⊎ HasCleared from.cache t.behind
-    kept_there = kept_on p.best (point t.behind m n (place_of rev p.at 1) stand.id (pair_of stand.best)) 1 t.goes
+    kept_there = kept_on p.best (point t.behind m n (place_of rev p.at 1) position.id (pair_of position.best)) 1 t.goes
 
     moved : IsMoved t.behind v
     moved = finished_moves t.behind v (gave_up_at rev q p.at) t.ended
@@ -293,7 +293,7 @@ module _ (d : Dfa) (q : Search) (made : IsDfa d) (from p : Point) (own : IsCache
     }
 
     -- with none
-    ends_none : tells ≡ false → IsAnswer (stopped false stand.id stand.at stand.best)
+    ends_none : tells ≡ false → IsAnswer (stopped false position.id position.at position.best)
     ends_none e =
         let passed = pass_left (reader d) h (left_at rev q p.at) p.at now alive quiet (sym is_told ∙ e) in
         let all : rest_at (reader d) q from.at ≡ nothing_left = x.rest ∙ (passed ∙ by_why (t.why e now x.state)) in (
@@ -322,64 +322,64 @@ module _ (d : Dfa) (q : Search) (made : IsDfa d) (from p : Point) (own : IsCache
         ∙ ap (λ (s : StateValue). onto (listed counted p.at s.matches) (rest_from (reader d) h (left_at rev q p.at) (next_place (reader d) p.at) s))
         (sym (past_next (reader d) q p.at within)))
 
-    best_is : pair_of stand.best ≡ option_or (end_at p.at (first past.matches)) p.best
+    best_is : pair_of position.best ≡ option_or (end_at p.at (first past.matches)) p.best
     best_is = t.goes.best now (names_held x.state)
         ∙ (ap (λ (i : ℕ). option_or (end_at i (first behind.matches)) p.best) (place_zero rev p.at)
         ∙ ap (λ (s : StateValue). option_or (end_at p.at (first s.matches)) p.best) (past_one (reader d) q p.at within))
 
-    held_past : 1 ≤ length past.matches → HeldAt v stand.id past
-    held_past l = held_moved t.behind v stand.id past moved (by past (past_one (reader d) q p.at within) l (t.goes.names now (names_held x.state)))
+    held_past : 1 ≤ length past.matches → HeldAt v position.id past
+    held_past l = held_moved t.behind v position.id past moved (by past (past_one (reader d) q p.at within) l (t.goes.names now (names_held x.state)))
       where
-        by : (s : StateValue) → behind ≡ s → 1 ≤ length s.matches → Names t.behind stand.id behind → HeldAt t.behind stand.id s
+        by : (s : StateValue) → behind ≡ s → 1 ≤ length s.matches → Names t.behind position.id behind → HeldAt t.behind position.id s
         by s e l (names_dead f g) =
             let none : length s.matches ≡ 0 = ap (λ (z : StateValue). length z.matches) (sym e ∙ g) in
             absurd (omega (arith, l, none))
-        by s e l (names_held g) = subst (HeldAt t.behind stand.id) e g
+        by s e l (names_held g) = subst (HeldAt t.behind position.id) e g
 
-    ends_some : tells ≡ true → IsAnswer (stopped true stand.id stand.at stand.best)
+    ends_some : tells ≡ true → IsAnswer (stopped true position.id position.at position.best)
     ends_some e =
         let lists : tells_end (reader d) h p.at past ≡ true = ap (tells_end (reader d) h p.at) (past_next (reader d) q p.at within) ∙ (sym is_told ∙ e) in
         let l = some_listed (counted p.at) p.at past.matches p.best (rest_past (reader d) q p.at) lists in (
           ap (λ (rest : Rest). told_left rest.ends rest.refusal) lists_all ∙ l.0,
-          sym (half_back stand.best) ∙ ap half_of (best_is ∙ sym (ap (λ (rest : Rest). first rest.ends) lists_all ∙ l.1)),
+          sym (half_back position.best) ∙ ap half_of (best_is ∙ sym (ap (λ (rest : Rest). first rest.ends) lists_all ∙ l.1)),
           ap (λ (i : ℕ). onto (listed counted i (drop 1 (value_past (reader d) q i).matches)) (rest_past (reader d) q i)) t.place ∙ (l.2 ∙ sym (ap others lists_all)),
-          subst (λ (i : ℕ). StopsAt d v q (record { id = stand.id; index = 1; at = i })) (sym t.place)
+          subst (λ (i : ℕ). StopsAt d v q (record { id = position.id; index = 1; at = i })) (sym t.place)
               (record { within = within; held = held_past l.3; index = l.3 }),
           λ f. absurd (l.4 (sym best_is ∙ ap pair_of f)),
         )
 
-    pub ends_over : ReadsOn d q from.at from.cache v from.determinized m from.inserted n (Ok (stopped tells stand.id stand.at stand.best))
-    ends_over = stops_so (stopped tells stand.id stand.at stand.best) (by tells refl)
+    pub ends_over : ReadsOn d q from.at from.cache v from.determinized m from.inserted n (Ok (stopped tells position.id position.at position.best))
+    ends_over = stops_so (stopped tells position.id position.at position.best) (by tells refl)
       where
-        by : (b : Bool) → tells ≡ b → IsAnswer (stopped tells stand.id stand.at stand.best)
-        by true e = subst (λ (b : Bool). IsAnswer (stopped b stand.id stand.at stand.best)) (sym e) (ends_some e)
-        by false e = subst (λ (b : Bool). IsAnswer (stopped b stand.id stand.at stand.best)) (sym e) (ends_none e)
+        by : (b : Bool) → tells ≡ b → IsAnswer (stopped tells position.id position.at position.best)
+        by true e = subst (λ (b : Bool). IsAnswer (stopped b position.id position.at position.best)) (sym e) (ends_some e)
+        by false e = subst (λ (b : Bool). IsAnswer (stopped b position.id position.at position.best)) (sym e) (ends_none e)
 
   -- ---- and on
 
   -- a unit of the span was read, and a run follows
-  module _ (v : CacheValue) (m n : ℕ) (stand : Stand) (tells : Bool) (his : IsCacheOf d v) (t : ReadsInto d q p v m n stand tells false) where
-    pub next_there : IsWithinSpan q stand.at
-    next_there = next_within rev q p.at stand.at within t.2 t.1
+  module _ (v : CacheValue) (m n : ℕ) (position : Position) (tells : Bool) (his : IsCacheOf d v) (t : ReadsInto d q p v m n position tells false) where
+    pub next_there : IsWithinSpan q position.at
+    next_there = next_within rev q p.at position.at within t.2 t.1
 
-    pub stands_next : StandsOn d q from (point v m n stand.at stand.id (pair_of stand.best))
-    stands_next = stands_further p.best (point v m n stand.at stand.id (pair_of stand.best)) 1
-        (subst (λ (i : ℕ). GoesTo d h p (point v m n i stand.id (pair_of stand.best)) 1) (sym t.1) t.0) his t.3 next_there
-        (left_next rev q p.at stand.at within t.2 t.1) tells_none
+    pub stands_next : StandsOn d q from (point v m n position.at position.id (pair_of position.best))
+    stands_next = stands_further p.best (point v m n position.at position.id (pair_of position.best)) 1
+        (subst (λ (i : ℕ). GoesTo d h p (point v m n i position.id (pair_of position.best)) 1) (sym t.1) t.0) his t.3 next_there
+        (left_next rev q p.at position.at within t.2 t.1) tells_none
       where
         tells_none : TellsNone (reader d) h p.at now 1
         tells_none zero l = ap (λ (i : ℕ). tells_end (reader d) h i (state_behind (reader d) h p.at now 1)) (place_zero rev p.at) ∙ t.4 now x.state
         tells_none (suc k) l = absurd (omega (arith, l))
 
 -- a run goes on
-module _ (d : Dfa) (q : Search) (down : Bool) (is : down ≡ d.nfa.automaton.reverse) (made : IsDfa d) (from : Point) (v : CacheValue) (m n i id j to : ℕ) (best best2 : Option (ℕ × ℕ))
+module _ (d : Dfa) (q : Search) (is_reverse : Bool) (is : is_reverse ≡ d.nfa.automaton.reverse) (made : IsDfa d) (from : Point) (v : CacheValue) (m n i id j to : ℕ) (best best2 : Option (ℕ × ℕ))
     (own : IsCacheOf d from.cache) (mine : IsCacheOf d v) (start : IsWithinSpan q from.at) (within : IsWithinSpan q i) (x : StandsOn d q from (point v m n i id best)) where
-  pub stands_run : IsRow v to → IsWithinSpan q j → left_at down q j ≤ left_at down q i →
-      GoesBetween d true q.haystack (point v m n i id best) (point v m n j to best2) (left_at down q i - left_at down q j) → StandsOn d q from (point v m n j to best2)
+  pub stands_run : IsRow v to → IsWithinSpan q j → left_at is_reverse q j ≤ left_at is_reverse q i →
+      GoesBetween d true q.haystack (point v m n i id best) (point v m n j to best2) (left_at is_reverse q i - left_at is_reverse q j) → StandsOn d q from (point v m n j to best2)
   stands_run row there closer g =
-      stands_further d q made from (point v m n i id best) own mine start within x best (point v m n j to best2) (left_at down q i - left_at down q j) g.0 mine row there
-      (ap (λ (b : Bool). left_at b q i) (sym is) ∙ (apart (left_at down q i) (left_at down q j) closer
-      ∙ ap (λ (b : Bool). (left_at down q i - left_at down q j) + left_at b q j) is)) tells_none
+      stands_further d q made from (point v m n i id best) own mine start within x best (point v m n j to best2) (left_at is_reverse q i - left_at is_reverse q j) g.0 mine row there
+      (ap (λ (b : Bool). left_at b q i) (sym is) ∙ (apart (left_at is_reverse q i) (left_at is_reverse q j) closer
+      ∙ ap (λ (b : Bool). (left_at is_reverse q i - left_at is_reverse q j) + left_at b q j) is)) tells_none
     where
       apart : (a b : ℕ) → b ≤ a → a ≡ (a - b) + b
       apart a b l = omega (arith, l)
@@ -388,6 +388,6 @@ module _ (d : Dfa) (q : Search) (down : Bool) (is : down ≡ d.nfa.automaton.rev
       no_end true ms e = e
       no_end false ms e = refl
 
-      tells_none : TellsNone (reader d) q.haystack i (value_before (reader d) q i) (left_at down q i - left_at down q j)
+      tells_none : TellsNone (reader d) q.haystack i (value_before (reader d) q i) (left_at is_reverse q i - left_at is_reverse q j)
       tells_none k l = no_end (counts (reader d).between_characters q.haystack (place_of d.nfa.automaton.reverse i k))
           (state_behind (reader d) q.haystack i (value_before (reader d) q i) (suc k)).matches (g.1 (value_before (reader d) q i) x.state k l)

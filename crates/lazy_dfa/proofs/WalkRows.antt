@@ -41,7 +41,7 @@ ends_before_a_quit_byte_are_told : whole_rest (for_all (forward word) (only 99))
 unfolding families_of known_lines known_words next_value start_or_dead rest_from
 ends_before_a_quit_byte_are_told = refl
 
--- ---- downwards: the patterns "b" and "b", on "ab"
+-- ---- in reverse: the patterns "b" and "b", on "ab"
 
 abbrev two_alike : List Node
 two_alike = binary_union 3 5 ∷ byte_range 98 98 4 ∷ match_node 0 ∷ byte_range 98 98 6 ∷ match_node 1 ∷ []

@@ -9,10 +9,10 @@ use Rattle.nfa_core.specs.Places.{first}
 use Rattle.nfa_core.specs.Ways.{place_of}
 use Rattle.lazy_dfa.specs.Caches.{CacheValue, IsCacheOf, HeldAt}
 use Rattle.lazy_dfa.specs.declared.overlapping_state.Stop.{Stop}
-use Rattle.lazy_dfa.specs.declared.overlapping_state.Walk.TheVariants.{Ended, Stands}
+use Rattle.lazy_dfa.specs.declared.overlapping_state.Walk.TheVariants.{Ended, Stopped}
 use Rattle.lazy_dfa.specs.Dfas.{Dfa, IsDfa, reader}
 use Rattle.lazy_dfa.specs.SearchAnswers.{half_of}
-use Rattle.lazy_dfa.specs.Stands.{last_place, IsWithinSpan}
+use Rattle.lazy_dfa.specs.PassPlaces.{last_place, IsWithinSpan}
 use Rattle.lazy_dfa.specs.Walks.{Rest, onto, others, end_of, rest_of, rest_past, value_past, StopsAt, IsWalk, WalkState}
 use Rattle.lazy_dfa.specs.WalkAnswers.{lists_more, told_left, TellsNext, value_before, ReadsOn, MakesCall}
 use Rattle.lazy_dfa.proofs.LinkedLemmas.{grows_refl}
@@ -36,9 +36,9 @@ module _ (d : Dfa) (q : Search) (v : CacheValue) (m n : ℕ) (stop : Stop) (stop
 
   -- its state lists more
   pub more_call : (after : WalkState) → more ≡ true → after.found ≡ half_of (Some (stop.at, slice_index listing stop.index)) →
-      after.walk ≡ Stands next → MakesCall d q v v m m n n (Stands stop) after fine
+      after.walk ≡ Stopped next → MakesCall d q v v m m n n (Stopped stop) after fine
   more_call after is found walk =
-      still_call d q v m n (Stands stop) after fine tells (ap (λ (b : Bool). not (b || stop.at == last_place d.nfa.automaton.reverse q)) is)
+      still_call d q v m n (Stopped stop) after fine tells (ap (λ (b : Bool). not (b || stop.at == last_place d.nfa.automaton.reverse q)) is)
       (subst (IsWalk d v q) (sym walk) goes) tt (λ none. never (sym none ∙ found))
     where
       one : ((if counted then map (end_of stop.at) (drop stop.index listing) else []) ≡
@@ -46,33 +46,33 @@ module _ (d : Dfa) (q : Search) (v : CacheValue) (m n : ℕ) (stop : Stop) (stop
           (stop.index < length listing)
       one = lists_one counted stop.at stop.index listing is
 
-      left : rest_of (reader d) q (Stands stop) ≡ onto ((stop.at, slice_index listing stop.index) ∷ []) (rest_of (reader d) q (Stands next))
+      left : rest_of (reader d) q (Stopped stop) ≡ onto ((stop.at, slice_index listing stop.index) ∷ []) (rest_of (reader d) q (Stopped next))
       left = ap (λ (ends : List (ℕ × ℕ)). onto ends (rest_past (reader d) q stop.at)) one.0
 
-      tells : TellsNext (reader d) q (Stands stop) after fine
+      tells : TellsNext (reader d) q (Stopped stop) after fine
       tells = record {
         answer = sym (ap (λ (x : Rest). told_left x.ends x.refusal) left);
         found = found ∙ sym (ap (λ (x : Rest). half_of (first x.ends)) left);
         left = ap (rest_of (reader d) q) walk ∙ sym (ap others left);
       }
 
-      goes : IsWalk d v q (Stands next)
+      goes : IsWalk d v q (Stopped next)
       goes = let l = one.1 in record { within = stops.within; held = stops.held; index = omega (arith, l) }
 
       never : None ≡ half_of (Some (stop.at, slice_index listing stop.index)) → after.walk ≡ Ended
       never e = let no : true ≡ false = cc in absurd (true≢false no)
 
   module _ (no_more : more ≡ false) where
-    behind : rest_of (reader d) q (Stands stop) ≡ rest_past (reader d) q stop.at
+    behind : rest_of (reader d) q (Stopped stop) ≡ rest_past (reader d) q stop.at
     behind = ap (λ (ends : List (ℕ × ℕ)). onto ends (rest_past (reader d) q stop.at))
         (lists_none counted stop.at stop.index listing no_more)
 
     -- nor is there a unit left
-    pub over_call : (down : Bool) → down ≡ d.nfa.automaton.reverse → stop.at ≡ last_place down q →
-        MakesCall d q v v m m n n (Stands stop) ended fine
-    over_call down is here =
-        still_call d q v m n (Stands stop) ended fine
-        (tells_none (reader d) q (Stands stop) (behind ∙ past_last (reader d) q stop.at stops.within last))
+    pub over_call : (is_reverse : Bool) → is_reverse ≡ d.nfa.automaton.reverse → stop.at ≡ last_place is_reverse q →
+        MakesCall d q v v m m n n (Stopped stop) ended fine
+    over_call is_reverse is here =
+        still_call d q v m n (Stopped stop) ended fine
+        (tells_none (reader d) q (Stopped stop) (behind ∙ past_last (reader d) q stop.at stops.within last))
         (ap (λ (b : Bool). not (more || b)) (is_same stop.at (last_place d.nfa.automaton.reverse q) last) ∙ or_true more)
         tt tt (λ none. refl)
       where
@@ -88,23 +88,23 @@ module _ (d : Dfa) (q : Search) (v : CacheValue) (m n : ℕ) (stop : Stop) (stop
 
 -- a walk that stopped reads on
 module _ (d : Dfa) (q : Search) (v : CacheValue) (m n : ℕ) (stop : Stop) (made : IsDfa d) (own : IsCacheOf d v) (stops : StopsAt d v q stop)
-    (no_more : lists_more (reader d) q stop ≡ false) (down : Bool) (is : down ≡ d.nfa.automaton.reverse)
-    (apart : stop.at ≢ last_place down q) where
+    (no_more : lists_more (reader d) q stop ≡ false) (is_reverse : Bool) (is : is_reverse ≡ d.nfa.automaton.reverse)
+    (apart : stop.at ≢ last_place is_reverse q) where
   apart_so : stop.at ≢ last_place d.nfa.automaton.reverse q
   apart_so = subst (λ (b : Bool). stop.at ≢ last_place b q) is apart
 
-  pub resumes_within : IsWithinSpan q (place_of down stop.at 1)
-  resumes_within = next_within down q stop.at stops.within apart
+  pub resumes_within : IsWithinSpan q (place_of is_reverse stop.at 1)
+  resumes_within = next_within is_reverse q stop.at stops.within apart
 
-  pub resumes_held : HeldAt v stop.id (value_before (reader d) q (place_of down stop.at 1))
+  pub resumes_held : HeldAt v stop.id (value_before (reader d) q (place_of is_reverse stop.at 1))
   resumes_held = subst (λ (b : Bool). HeldAt v stop.id (value_before (reader d) q (place_of b stop.at 1))) (sym is)
       (subst (HeldAt v stop.id) (past_value (reader d) q stop.at stops.within apart_so) stops.held)
 
   pub resumes : (new : CacheValue) (m2 n2 : ℕ) (result : Result WalkState MatchErrorKind) →
-      ReadsOn d q (place_of down stop.at 1) v new m m2 n n2 result →
-      MakesIts d q (Stands stop) v new m m2 n n2 result
+      ReadsOn d q (place_of is_reverse stop.at 1) v new m m2 n n2 result →
+      MakesIts d q (Stopped stop) v new m m2 n n2 result
   resumes new m2 n2 result x =
-      makes_on d q (Stands stop) v v new m m m2 n n n2 made own
+      makes_on d q (Stopped stop) v v new m m m2 n n n2 made own
       (ap (λ (b : Bool). not (b || stop.at == last_place d.nfa.automaton.reverse q)) no_more
       ∙ ap not (is_other stop.at (last_place d.nfa.automaton.reverse q) apart_so))
       (behind d q v m n stop stops no_more ∙ past_rest (reader d) q stop.at stops.within apart_so)

@@ -16,7 +16,7 @@ use Rattle.lazy_dfa.specs.Courses.{state_behind, stops_behind}
 use Rattle.lazy_dfa.specs.declared.cache_error.CacheError.{CacheError}
 use Rattle.lazy_dfa.specs.declared.cache_error.CacheError.TheVariants.{GaveUp, NoMemory}
 use Rattle.lazy_dfa.specs.declared.overlapping_state.Stop.{Stop}
-use Rattle.lazy_dfa.specs.declared.passing.Stand.{Stand}
+use Rattle.lazy_dfa.specs.declared.passing.Position.{Position}
 use Rattle.lazy_dfa.specs.declared.progress.Progress.{Progress}
 use Rattle.lazy_dfa.specs.declared.turns.Turn.{Turn}
 use Rattle.lazy_dfa.specs.declared.turns.Turn.TheVariants.{GoesOn, Ends, Quits}
@@ -27,7 +27,7 @@ use Rattle.lazy_dfa.specs.Readers.{is_quit}
 use Rattle.lazy_dfa.specs.Passes.{index_at, is_empty, is_dead}
 use Rattle.lazy_dfa.specs.Points.{Point, point, began}
 use Rattle.lazy_dfa.specs.SearchAnswers.{pair_of, running_at}
-use Rattle.lazy_dfa.specs.Stands.{last_place, finished, finished_where, error_of, gave_up_at}
+use Rattle.lazy_dfa.specs.PassPlaces.{last_place, finished, finished_where, error_of, gave_up_at}
 use Rattle.lazy_dfa.specs.Turns.{FailsOn, GoesOne, IsSeen, IsTurn}
 use Rattle.lazy_dfa.specs.Walks.{value_past, StopsAt}
 use Rattle.lazy_dfa.specs.WalkAnswers.{lists_more}
@@ -89,10 +89,10 @@ tag_tells d h v id at tells s i e (names_dead f g) =
 -- ---- a step
 
 -- the unit at a place, by the direction and the haystack that code goes by
-pub unit_same : (down back : Bool) (q : Search) (h : List ℕ) (at : ℕ) (u : Option ℕ) → u ≡ unit_at down h at → h ≡ q.haystack → down ≡ back → u ≡ unit_at back q.haystack at
-unit_same down back q h at u e f g = e ∙ (ap (λ (x : List ℕ). unit_at down x at) f ∙ ap (λ (b : Bool). unit_at b q.haystack at) g)
+pub unit_same : (is_reverse back : Bool) (q : Search) (h : List ℕ) (at : ℕ) (u : Option ℕ) → u ≡ unit_at is_reverse h at → h ≡ q.haystack → is_reverse ≡ back → u ≡ unit_at back q.haystack at
+unit_same is_reverse back q h at u e f g = e ∙ (ap (λ (x : List ℕ). unit_at is_reverse x at) f ∙ ap (λ (b : Bool). unit_at b q.haystack at) g)
 
-module _ (d : Dfa) (q : Search) (down : Bool) (same : down ≡ d.nfa.automaton.reverse) (v0 v1 v2 : CacheValue) (m1 n1 m2 n2 at id : ℕ) (best : Option (ℕ × ℕ)) (u : Option ℕ)
+module _ (d : Dfa) (q : Search) (is_reverse : Bool) (same : is_reverse ≡ d.nfa.automaton.reverse) (v0 v1 v2 : CacheValue) (m1 n1 m2 n2 at id : ℕ) (best : Option (ℕ × ℕ)) (u : Option ℕ)
     (place : ℕ) (moves : v1 ≡ record v0 { progress = moved_to place v0.progress }) (runs : IsSome v0.progress) where
   abbrev from : Point
   from = point v0 m1 n1 at id best
@@ -151,16 +151,16 @@ module _ (d : Dfa) (q : Search) (down : Bool) (same : down ≡ d.nfa.automaton.r
           λ far. absurd (far last),
         )
 
-    pub step_refused : (e : CacheError) (err : MatchErrorKind) (wanted : Bool) → wanted ≡ (at == last_place down q) → v3 ≡ finished_where wanted place v2 → err ≡ error_of place e →
+    pub step_refused : (e : CacheError) (err : MatchErrorKind) (wanted : Bool) → wanted ≡ (at == last_place is_reverse q) → v3 ≡ finished_where wanted place v2 → err ≡ error_of place e →
         IsTurn d false q.haystack u before v2 m2 n2 (Err e) → Refuses d q from v3 m2 n2 err
     step_refused e err true w f told turn = subst (λ (x : MatchErrorKind). Refuses d q from v3 m2 n2 x) (sym told)
-        (refused_last e (eqb-true at (last_place down q) (sym w) ∙ ap (λ (b : Bool). last_place b q) same) f turn)
+        (refused_last e (eqb-true at (last_place is_reverse q) (sym w) ∙ ap (λ (b : Bool). last_place b q) same) f turn)
     step_refused e err false w f told turn = subst (λ (x : MatchErrorKind). Refuses d q from v3 m2 n2 x) (sym told)
         (subst (λ (c : CacheValue). Refuses d q from c m2 n2 (error_of place e)) (sym f) (refused_before e turn))
 
   -- by a quit byte
   pub step_quits : (to : ℕ) (best2 : Option (ℕ × ℕ)) (turn : Turn) (v3 : CacheValue) (b index : ℕ) (err : MatchErrorKind) → IsMoved v2 v3 → u ≡ unit_at rev q.haystack at → u ≡ Some b →
-      index ≡ index_at down at → err ≡ Quit b index → turn ≡ Quits → IsSeen d false q.haystack u before v2 m2 n2 to best2 turn → Refuses d q from v3 m2 n2 err
+      index ≡ index_at is_reverse at → err ≡ Quit b index → turn ≡ Quits → IsSeen d false q.haystack u before v2 m2 n2 to best2 turn → Refuses d q from v3 m2 n2 err
   step_quits to best2 turn v3 b index err after is some here told e seen =
       let x = subst (λ (t : Turn). IsSeen d false q.haystack u before v2 m2 n2 to best2 t) e seen in
       let byte : x.2.0 ≡ b = one_byte x.2.0 b (sym x.2.1 ∙ some) in
@@ -176,8 +176,8 @@ module _ (d : Dfa) (q : Search) (down : Bool) (same : down ≡ d.nfa.automaton.r
 
 -- ---- a unit
 
-module _ (d : Dfa) (q : Search) (down : Bool) (same : down ≡ d.nfa.automaton.reverse) (p : Point) (v : CacheValue) (m n : ℕ) (id : ℕ) (turn : Turn) (tells last : Bool)
-    (mine : IsShaped v) (listed : tells ≡ (has_tag match_tag id && counts (reader d).between_characters q.haystack p.at)) (is_last : last ≡ (p.at == last_place down q)) where
+module _ (d : Dfa) (q : Search) (is_reverse : Bool) (same : is_reverse ≡ d.nfa.automaton.reverse) (p : Point) (v : CacheValue) (m n : ℕ) (id : ℕ) (turn : Turn) (tells last : Bool)
+    (mine : IsShaped v) (listed : tells ≡ (has_tag match_tag id && counts (reader d).between_characters q.haystack p.at)) (is_last : last ≡ (p.at == last_place is_reverse q)) where
   abbrev Step : Option (ℕ × ℕ) → Type 0
   Step best = IsStepTo d q p v m n id best turn
 
@@ -190,14 +190,14 @@ module _ (d : Dfa) (q : Search) (down : Bool) (same : down ≡ d.nfa.automaton.r
   tells_there best x s held = tag_tells d q.haystack v id p.at tells (state_behind (reader d) q.haystack p.at s 1) mine listed ((goes_of best turn x).names s (names_held held))
 
   -- the call is over
-  pub unit_ends : (w : CacheValue) (place : ℕ) (stand : Stand) → stand.id ≡ id → stand.at ≡ p.at → is_over turn tells last ≡ true → place ≡ gave_up_at down q p.at → w ≡ finished place v →
-      Step (pair_of stand.best) → StopsWith d q p w m n stand tells
-  unit_ends w place stand is at over there ended x = record {
+  pub unit_ends : (w : CacheValue) (place : ℕ) (position : Position) → position.id ≡ id → position.at ≡ p.at → is_over turn tells last ≡ true → place ≡ gave_up_at is_reverse q p.at → w ≡ finished place v →
+      Step (pair_of position.best) → StopsWith d q p w m n position tells
+  unit_ends w place position is at over there ended x = record {
     behind = v;
-    goes = subst (λ (i : ℕ). GoesOne d q.haystack p v m n i (pair_of stand.best)) (sym is) (goes_of (pair_of stand.best) turn x);
+    goes = subst (λ (i : ℕ). GoesOne d q.haystack p v m n i (pair_of position.best)) (sym is) (goes_of (pair_of position.best) turn x);
     place = at;
     ended = ended ∙ ap (λ (i : ℕ). finished i v) (there ∙ ap (λ (b : Bool). gave_up_at b q p.at) same);
-    listed = tells_there (pair_of stand.best) x;
+    listed = tells_there (pair_of position.best) x;
     why = λ none s held. by turn x over none s held;
   }
     where
@@ -205,14 +205,14 @@ module _ (d : Dfa) (q : Search) (down : Bool) (same : down ≡ d.nfa.automaton.r
       at_last false b e f = f
       at_last true b e f = absurd (true≢false e)
 
-      by : (t : Turn) → IsStepTo d q p v m n id (pair_of stand.best) t → is_over t tells last ≡ true → tells ≡ false → (s : StateValue) → HeldAt p.cache p.id s →
+      by : (t : Turn) → IsStepTo d q p v m n id (pair_of position.best) t → is_over t tells last ≡ true → tells ≡ false → (s : StateValue) → HeldAt p.cache p.id s →
           (is_dead (state_behind (reader d) q.haystack p.at s 1) ≡ true) ⊎ (p.at ≡ last_place d.nfa.automaton.reverse q)
-      by GoesOn x over none s held = inr (eqb-true p.at (last_place down q) (sym is_last ∙ at_last tells last none over) ∙ ap (λ (b : Bool). last_place b q) same)
+      by GoesOn x over none s held = inr (eqb-true p.at (last_place is_reverse q) (sym is_last ∙ at_last tells last none over) ∙ ap (λ (b : Bool). last_place b q) same)
       by Ends x over none s held = inl (x.1 s held)
       by Quits x over none s held = absurd x
 
-  not_last : is_over turn tells last ≡ false → p.at ≢ last_place down q
-  not_last over e = by turn over (is_last ∙ eq-eqb p.at (last_place down q) e)
+  not_last : is_over turn tells last ≡ false → p.at ≢ last_place is_reverse q
+  not_last over e = by turn over (is_last ∙ eq-eqb p.at (last_place is_reverse q) e)
     where
       never : (a : Bool) → (a || true) ≡ false → ⊥
       never true e = true≢false e
@@ -224,16 +224,16 @@ module _ (d : Dfa) (q : Search) (down : Bool) (same : down ≡ d.nfa.automaton.r
       by Quits f g = true≢false f
 
   -- it goes on
-  pub unit_goes : (stand : Stand) → stand.id ≡ id → stand.at ≡ place_of down p.at 1 → is_over turn tells last ≡ false → Step (pair_of stand.best) → ReadsInto d q p v m n stand tells false
-  unit_goes stand is at over x = (
-    subst (λ (i : ℕ). GoesOne d q.haystack p v m n i (pair_of stand.best)) (sym is) (goes_of (pair_of stand.best) turn x),
+  pub unit_goes : (position : Position) → position.id ≡ id → position.at ≡ place_of is_reverse p.at 1 → is_over turn tells last ≡ false → Step (pair_of position.best) → ReadsInto d q p v m n position tells false
+  unit_goes position is at over x = (
+    subst (λ (i : ℕ). GoesOne d q.haystack p v m n i (pair_of position.best)) (sym is) (goes_of (pair_of position.best) turn x),
     at ∙ ap (λ (b : Bool). place_of b p.at 1) same,
     (λ e. not_last over (e ∙ ap (λ (b : Bool). last_place b q) (sym same))),
     subst (IsRow v) (sym is) (row_of turn x over),
-    λ s held. sym (tells_there (pair_of stand.best) x s held) ∙ none turn over,
+    λ s held. sym (tells_there (pair_of position.best) x s held) ∙ none turn over,
   )
     where
-      row_of : (t : Turn) → IsStepTo d q p v m n id (pair_of stand.best) t → is_over t tells last ≡ false → IsRow v id
+      row_of : (t : Turn) → IsStepTo d q p v m n id (pair_of position.best) t → is_over t tells last ≡ false → IsRow v id
       row_of GoesOn x over = x.1
       row_of Ends x over = absurd (true≢false over)
       row_of Quits x over = absurd x

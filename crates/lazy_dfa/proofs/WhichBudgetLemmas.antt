@@ -15,7 +15,7 @@ use Rattle.lazy_dfa.specs.Caches.{CacheValue, lacks_room}
 use Rattle.lazy_dfa.specs.Courses.{state_behind}
 use Rattle.lazy_dfa.specs.declared.overlapping_state.Stop.{Stop}
 use Rattle.lazy_dfa.specs.declared.overlapping_state.Walk.{Walk}
-use Rattle.lazy_dfa.specs.declared.overlapping_state.Walk.TheVariants.{Fresh, Ended, Failed, Stands as Stopped}
+use Rattle.lazy_dfa.specs.declared.overlapping_state.Walk.TheVariants.{Fresh, Ended, Failed, Stopped}
 use Rattle.lazy_dfa.specs.Dfas.{Dfa, reader}
 use Rattle.lazy_dfa.specs.MadePasses.{span_len}
 use Rattle.lazy_dfa.specs.Passes.{index_at, index_behind, next_place, first_value}
@@ -24,7 +24,7 @@ use Rattle.lazy_dfa.specs.Readers.{Reader}
 use Rattle.lazy_dfa.specs.Scans.{first_place}
 use Rattle.lazy_dfa.specs.ScanLaws.{begins_at}
 use Rattle.lazy_dfa.specs.SearchAnswers.{give_up_place, running_at, GivesUpIn, at_start, at_unit}
-use Rattle.lazy_dfa.specs.Stands.{came, left_at, last_place, gave_up_at, IsWithinSpan}
+use Rattle.lazy_dfa.specs.PassPlaces.{came, left_at, last_place, gave_up_at, IsWithinSpan}
 use Rattle.lazy_dfa.specs.Walks.{Rest, nothing_left, refused, unless_quit_at, where_supported, end_of, listed, rest_from, whole_rest, value_past, rest_past, rest_of}
 use Rattle.lazy_dfa.specs.WalkAnswers.{units_met, lists_more, reads_on, call_place, units_there, call_units, call_made, GivesUpOn, at_start as on_start, at_unit as on_unit, which_made}
 use Rattle.lazy_dfa.proofs.LinkedLemmas.{place_sum}
@@ -33,61 +33,61 @@ use Rattle.lazy_dfa.proofs.WhichUnitLemmas.{told_at, first_met, read_behind, rea
 
 -- ---- places of a span
 
-came_to : (down : Bool) (q : Search) (at : ℕ) → IsWithinSpan q at → place_of down (first_place down q.start q.end) (came down q at) ≡ at
+came_to : (is_reverse : Bool) (q : Search) (at : ℕ) → IsWithinSpan q at → place_of is_reverse (first_place is_reverse q.start q.end) (came is_reverse q at) ≡ at
 came_to false q at within = let low = within.0 in omega (arith, low)
 came_to true q at within = let high = within.1 in omega (arith, high)
 
-left_and_came : (down : Bool) (q : Search) (at : ℕ) → IsWithinSpan q at → suc (span_len q) ≡ left_at down q at + suc (came down q at)
+left_and_came : (is_reverse : Bool) (q : Search) (at : ℕ) → IsWithinSpan q at → suc (span_len q) ≡ left_at is_reverse q at + suc (came is_reverse q at)
 left_and_came false q at within = let low = within.0 in let high = within.1 in omega (arith, low, high)
 left_and_came true q at within = let low = within.0 in let high = within.1 in omega (arith, low, high)
 
-came_of : (down : Bool) (q : Search) (k : ℕ) → q.start ≤ q.end → k ≤ span_len q →
-    came down q (place_of down (first_place down q.start q.end) k) ≡ k
+came_of : (is_reverse : Bool) (q : Search) (k : ℕ) → q.start ≤ q.end → k ≤ span_len q →
+    came is_reverse q (place_of is_reverse (first_place is_reverse q.start q.end) k) ≡ k
 came_of false q k fits le = omega (arith, fits, le)
 came_of true q k fits le = omega (arith, fits, le)
 
-one_place : (down : Bool) (q : Search) (k l : ℕ) → q.start ≤ q.end → k ≤ span_len q → l ≤ span_len q →
-    place_of down (first_place down q.start q.end) k ≡ place_of down (first_place down q.start q.end) l → k ≡ l
-one_place down q k l fits small_k small_l e = sym (came_of down q k fits small_k) ∙ ap (came down q) e ∙ came_of down q l fits small_l
+one_place : (is_reverse : Bool) (q : Search) (k l : ℕ) → q.start ≤ q.end → k ≤ span_len q → l ≤ span_len q →
+    place_of is_reverse (first_place is_reverse q.start q.end) k ≡ place_of is_reverse (first_place is_reverse q.start q.end) l → k ≡ l
+one_place is_reverse q k l fits small_k small_l e = sym (came_of is_reverse q k fits small_k) ∙ ap (came is_reverse q) e ∙ came_of is_reverse q l fits small_l
 
-is_last : (down : Bool) (q : Search) (k : ℕ) → q.start ≤ q.end → k ≤ span_len q →
-    place_of down (first_place down q.start q.end) k ≡ last_place down q → k ≡ span_len q
+is_last : (is_reverse : Bool) (q : Search) (k : ℕ) → q.start ≤ q.end → k ≤ span_len q →
+    place_of is_reverse (first_place is_reverse q.start q.end) k ≡ last_place is_reverse q → k ≡ span_len q
 is_last false q k fits le e = omega (arith, fits, le, e)
 is_last true q k fits le e = omega (arith, fits, le, e)
 
-at_last : (down : Bool) (q : Search) (k : ℕ) → q.start ≤ q.end → k ≡ span_len q →
-    place_of down (first_place down q.start q.end) k ≡ last_place down q
+at_last : (is_reverse : Bool) (q : Search) (k : ℕ) → q.start ≤ q.end → k ≡ span_len q →
+    place_of is_reverse (first_place is_reverse q.start q.end) k ≡ last_place is_reverse q
 at_last false q k fits e = omega (arith, fits, e)
 at_last true q k fits e = omega (arith, fits, e)
 
 -- a call that gives up at a unit gives up there as a pass does
-module _ (down : Bool) (q : Search) (k : ℕ) (fits : q.start ≤ q.end) (le : k ≤ span_len q) where
+module _ (is_reverse : Bool) (q : Search) (k : ℕ) (fits : q.start ≤ q.end) (le : k ≤ span_len q) where
   abbrev there : ℕ
-  there = place_of down (first_place down q.start q.end) k
+  there = place_of is_reverse (first_place is_reverse q.start q.end) k
 
-  pub same_give_up : gave_up_at down q there ≡ give_up_place down (span_len q) (first_place down q.start q.end) k
+  pub same_give_up : gave_up_at is_reverse q there ≡ give_up_place is_reverse (span_len q) (first_place is_reverse q.start q.end) k
   same_give_up = ⊎_elim
       (λ (less : k < span_len q).
-      ap (λ (b : Bool). if b then there else index_at down there) (not_last less)
-      ∙ sym (ap (λ (b : Bool). if b then index_at down there else there) (lt-ltb k (span_len q) less)))
+      ap (λ (b : Bool). if b then there else index_at is_reverse there) (not_last less)
+      ∙ sym (ap (λ (b : Bool). if b then index_at is_reverse there else there) (lt-ltb k (span_len q) less)))
       (λ (past : span_len q ≤ k).
-      ap (λ (b : Bool). if b then there else index_at down there)
-      (eq-eqb there (last_place down q) (at_last down q k fits (omega (arith, le, past))))
-      ∙ sym (ap (λ (b : Bool). if b then index_at down there else there) (le-ltb k (span_len q) past)))
+      ap (λ (b : Bool). if b then there else index_at is_reverse there)
+      (eq-eqb there (last_place is_reverse q) (at_last is_reverse q k fits (omega (arith, le, past))))
+      ∙ sym (ap (λ (b : Bool). if b then index_at is_reverse there else there) (le-ltb k (span_len q) past)))
       (cases_lt k (span_len q))
     where
-      not_last : k < span_len q → (there == last_place down q) ≡ false
+      not_last : k < span_len q → (there == last_place is_reverse q) ≡ false
       not_last less = ⊎_elim
-          (λ (e : (there == last_place down q) ≡ true).
-          let same = is_last down q k fits le (eqb-true there (last_place down q) e) in absurd (omega (arith, less, same)))
-          (λ (e : (there == last_place down q) ≡ false). e)
-          (cases_Bool (there == last_place down q))
+          (λ (e : (there == last_place is_reverse q) ≡ true).
+          let same = is_last is_reverse q k fits le (eqb-true there (last_place is_reverse q) e) in absurd (omega (arith, less, same)))
+          (λ (e : (there == last_place is_reverse q) ≡ false). e)
+          (cases_Bool (there == last_place is_reverse q))
 
 -- ---- a walk that has begun
 
 module _ (r : Reader) (q : Search) where
-  abbrev down : Bool
-  down = r.automaton.reverse
+  abbrev is_reverse : Bool
+  is_reverse = r.automaton.reverse
 
   abbrev begins : ℕ
   begins = begins_at r q
@@ -99,7 +99,7 @@ module _ (r : Reader) (q : Search) where
   state k = state_behind r q.haystack begins start k
 
   abbrev place : ℕ → ℕ
-  place k = place_of down begins k
+  place k = place_of is_reverse begins k
 
   -- the states follow each other
   abbrev steps : (k : ℕ) → state (suc k) ≡ state (suc k)
@@ -149,10 +149,10 @@ module _ (r : Reader) (q : Search) where
   has_begun some =
       let on = rest_from r q.haystack units begins start in
       let moded = where_supported (is_supported r.starts_for_each_pattern q.anchored) q.anchored on in
-      let read = unless_quit_at r.quits (unit_behind down q.haystack begins) (index_behind down begins) moded in
+      let read = unless_quit_at r.quits (unit_behind is_reverse q.haystack begins) (index_behind is_reverse begins) moded in
       let spanned = by_span (nat_le q.start q.end) read some in
       let read_some : IsSome read = subst IsSome spanned.1 some in
-      let quiet = by_unit (unit_behind down q.haystack begins) (index_behind down begins) moded read_some in
+      let quiet = by_unit (unit_behind is_reverse q.haystack begins) (index_behind is_reverse begins) moded read_some in
       let mode = by_mode (is_supported r.starts_for_each_pattern q.anchored) on (subst IsSome quiet read_some) in
       record { fits = spanned.0; supported = mode.0; whole = spanned.1 ∙ quiet ∙ mode.1 }
 

@@ -11,7 +11,7 @@ use Rattle.nfa_core.specs.Places.{first}
 use Rattle.lazy_dfa.specs.Caches.{CacheValue, IsCacheOf}
 use Rattle.lazy_dfa.specs.ConfigValue.{clears_of}
 use Rattle.lazy_dfa.specs.declared.overlapping_state.Walk.{Walk}
-use Rattle.lazy_dfa.specs.declared.overlapping_state.Walk.TheVariants.{Fresh, Ended, Failed, Stands as Stopped}
+use Rattle.lazy_dfa.specs.declared.overlapping_state.Walk.TheVariants.{Fresh, Ended, Failed, Stopped}
 use Rattle.lazy_dfa.specs.Dfas.{Dfa, IsDfa, reader}
 use Rattle.lazy_dfa.specs.Linked.{GrowsOrClears}
 use Rattle.lazy_dfa.specs.MadePasses.{span_len}
@@ -114,7 +114,7 @@ spent_on n1 n2 n3 made left now all k before call le =
 -- ---- what was done
 
 -- The ends that were told, whose patterns are in the set, and the walk's rest, which is to do what the whole was to do.
-pub record Stands (d : Dfa) (q : Search) (old now : CacheValue) (m1 m2 n1 n2 : ℕ) (set so_far : List Bool) (w : Walk) : Type 0 where
+pub record HasCome (d : Dfa) (q : Search) (old now : CacheValue) (m1 m2 n1 n2 : ℕ) (set so_far : List Bool) (w : Walk) : Type 0 where
   pub done : List (ℕ × ℕ)
   pub ends : (whole_rest (reader d) q).ends ≡ done ++ (rest_of (reader d) q w).ends
   pub on : IsOn (reader d) q w
@@ -125,8 +125,8 @@ pub record Stands (d : Dfa) (q : Search) (old now : CacheValue) (m1 m2 n1 n2 : �
   pub inserted : n2 + left_to_make (reader d) q w * most_inserts d ≤ n1 + which_made (reader d) q * most_inserts d
 
 pub begins : (d : Dfa) (q : Search) (v : CacheValue) (m n : ℕ) (set : List Bool) (s : WalkState) → s ≡ record { found = None; walk = Fresh } →
-    Stands d q v v m m n n set set s.walk
-begins d q v m n set s is = subst (λ (w : Walk). Stands d q v v m m n n set set w) (sym (ap (λ (x : WalkState). x.walk) is)) (record {
+    HasCome d q v v m m n n set set s.walk
+begins d q v m n set s is = subst (λ (w : Walk). HasCome d q v v m m n n set set w) (sym (ap (λ (x : WalkState). x.walk) is)) (record {
   done = [];
   ends = refl;
   on = inl refl;
@@ -141,7 +141,7 @@ pub begins_well : (d : Dfa) (q : Search) (v : CacheValue) (s : WalkState) → s 
 begins_well d q v s is = subst (IsWalk d v q) (sym (ap (λ (x : WalkState). x.walk) is)) tt
 
 module _ (d : Dfa) (q : Search) (old now next : CacheValue) (m1 m2 m3 n1 n2 n3 : ℕ) (set so_far : List Bool) (w : Walk) (after : WalkState)
-    (fit : IsDfa d) (own : IsCacheOf d old) (stands : Stands d q old now m1 m2 n1 n2 set so_far w) (walk : IsWalk d now q w) where
+    (fit : IsDfa d) (own : IsCacheOf d old) (stands : HasCome d q old now m1 m2 n1 n2 set so_far w) (walk : IsWalk d now q w) where
   abbrev r : Reader
   r = reader d
 
@@ -242,7 +242,7 @@ module _ (d : Dfa) (q : Search) (old now next : CacheValue) (m1 m2 m3 n1 n2 n3 :
     few_then = spends r q stands.done left (end_of_half half) all_is w after.walk within (within_walk d next q after.walk call.walk)
         (ap first told_is) (ap (λ (x : Rest). x.ends) left_is)
 
-    pub goes_on : (q.earliest || is_full more) ≡ false → Stands d q old next m1 m3 n1 n3 set more after.walk
+    pub goes_on : (q.earliest || is_full more) ≡ false → HasCome d q old next m1 m3 n1 n3 set more after.walk
     goes_on on = record {
       done = stands.done ++ end_of_half half ∷ [];
       ends = all_is ∙ sym (append_assoc stands.done (end_of_half half ∷ []) left)

@@ -32,7 +32,7 @@ use Rattle.lazy_dfa.specs.Scans.{first_place}
 use Rattle.lazy_dfa.specs.ScanLaws.{begins_at}
 use Rattle.lazy_dfa.specs.SearchAnswers.{told, give_up_place, GivesUpIn, at_start, at_unit, Told, told_of, pass_distance, told_by_pass, running_at}
 use Rattle.lazy_dfa.specs.SearchStarts.{error_at}
-use Rattle.lazy_dfa.specs.Stands.{tells, first_index, told_begun, told_behind, RestAnew, rest_inside, rest_untold, RestFails, fails_at, fails_untold, IsRestTold, RunsOn, pass_start, StartsPass}
+use Rattle.lazy_dfa.specs.PassPlaces.{tells, first_index, told_begun, told_behind, RestAnew, rest_inside, rest_untold, RestFails, fails_at, fails_untold, IsRestTold, RunsOn, pass_start, StartsPass}
 use Rattle.lazy_dfa.specs.StartCalls.{mode_of, quit_refusal, behind_refusal, mode_refusal, start_refusal, start_slot, start_noted, IsStartKnown}
 use Rattle.lazy_dfa.specs.Steps.{Grew, WasCleared, most_inserts}
 use Rattle.lazy_dfa.proofs.AnewToldLemmas.{fresh_anew}
@@ -97,19 +97,19 @@ parts_told true t at k = refl
 parts_told false t at k = ap (λ (n : ℕ). record { searched = n; progress = None }) (min_twice (t.searched + progress_len t.progress) k greatest)
 
 -- what it tells at its start and at its end, together
-whole_told : (down : Bool) (q : Search) (t : Told) (units : ℕ) → told_behind down (span_len q) (told_begun down q t) units ≡
-    (if down && span_len q == 0 then t else ended (t.searched + progress_len t.progress) (pass_distance down (span_len q) units))
-whole_told down q t units =
-    ap (λ (b : Bool). told_behind down (span_len q) (if not (down && b) then begun (first_index down q) t else t) units) (none_left q.start q.end)
-    ∙ parts_told (down && span_len q == 0) t (first_index down q) (pass_distance down (span_len q) units)
+whole_told : (is_reverse : Bool) (q : Search) (t : Told) (units : ℕ) → told_behind is_reverse (span_len q) (told_begun is_reverse q t) units ≡
+    (if is_reverse && span_len q == 0 then t else ended (t.searched + progress_len t.progress) (pass_distance is_reverse (span_len q) units))
+whole_told is_reverse q t units =
+    ap (λ (b : Bool). told_behind is_reverse (span_len q) (if not (is_reverse && b) then begun (first_index is_reverse q) t else t) units) (none_left q.start q.end)
+    ∙ parts_told (is_reverse && span_len q == 0) t (first_index is_reverse q) (pass_distance is_reverse (span_len q) units)
 
 -- what it tells at its start, by its bytes and its first place
-told_first : (down : Bool) (q : Search) (t : Told) → told_begun down q t ≡ told_from down (span_len q, first_place down q.start q.end) t
-told_first down q t =
-    ap (λ (b : Bool). if not (down && b) then begun (first_index down q) t else t) (none_left q.start q.end)
-    ∙ turned_round (down && span_len q == 0)
+told_first : (is_reverse : Bool) (q : Search) (t : Told) → told_begun is_reverse q t ≡ told_from is_reverse (span_len q, first_place is_reverse q.start q.end) t
+told_first is_reverse q t =
+    ap (λ (b : Bool). if not (is_reverse && b) then begun (first_index is_reverse q) t else t) (none_left q.start q.end)
+    ∙ turned_round (is_reverse && span_len q == 0)
   where
-    turned_round : (b : Bool) → (if not b then begun (first_index down q) t else t) ≡ (if b then t else begun (first_index down q) t)
+    turned_round : (b : Bool) → (if not b then begun (first_index is_reverse q) t else t) ≡ (if b then t else begun (first_index is_reverse q) t)
     turned_round true = refl
     turned_round false = refl
 
@@ -206,11 +206,11 @@ failed e = Err e
 one_failed : (x y : MatchErrorKind) → failed x ≡ failed y → x ≡ y
 one_failed x y e = cc
 
-first_error : (down : Bool) (i : ℕ) (x : StartError) → IsRefusedFirst down i (error_at (index_behind down i) i x)
-first_error down i (Cache e) = refl
-first_error down i (Quit b) = refl
-first_error down i (UnsupportedAnchored mode) = tt
-first_error down i NoMemory = tt
+first_error : (is_reverse : Bool) (i : ℕ) (x : StartError) → IsRefusedFirst is_reverse i (error_at (index_behind is_reverse i) i x)
+first_error is_reverse i (Cache e) = refl
+first_error is_reverse i (Quit b) = refl
+first_error is_reverse i (UnsupportedAnchored mode) = tt
+first_error is_reverse i NoMemory = tt
 
 module _ (d : Dfa) (q : Search) (old new : CacheValue) (m1 m2 n1 n2 : ℕ) (e : MatchErrorKind) (start : StartsPass d q old new m1 m2 n1 n2 (Err e)) where
   abbrev at : ℕ
@@ -498,14 +498,14 @@ module _ (d : Dfa) (q : Search) (old mid : CacheValue) (m1 m n1 n id : ℕ) (mad
       is_none = sym (ap told nothing.0)
 
   -- the same in words of code that knows in which direction it reads
-  module _ (down : Bool) (is : down ≡ d.nfa.automaton.reverse) (new : CacheValue) where
-    pub goes_dead : has_tag dead_tag id ≡ true → IsMoved mid new → told_of new ≡ told_behind down (span_len q) (told_begun down q (told_of mid)) 0 → MakesPass d q old new m1 m n1 n (Ok None)
+  module _ (is_reverse : Bool) (is : is_reverse ≡ d.nfa.automaton.reverse) (new : CacheValue) where
+    pub goes_dead : has_tag dead_tag id ≡ true → IsMoved mid new → told_of new ≡ told_behind is_reverse (span_len q) (told_begun is_reverse q (told_of mid)) 0 → MakesPass d q old new m1 m n1 n (Ok None)
     goes_dead tagged moved e =
         makes_dead_pass new tagged moved (subst (λ (b : Bool). told_of new ≡ told_behind b (span_len q) (told_begun b q (told_of mid)) 0) is e)
 
     pub goes_further : (here : CacheValue) (m2 n2 : ℕ) (result : Result (Option HalfFound) MatchErrorKind) → has_tag dead_tag id ≡ false → IsMoved mid here →
-        told_of here ≡ told_begun down q (told_of mid) →
-        ((s : StateValue) → HeldAt here id s → RunsOn d q s (point here m n (first_place down q.start q.end) id None) new m2 n2 result) →
+        told_of here ≡ told_begun is_reverse q (told_of mid) →
+        ((s : StateValue) → HeldAt here id s → RunsOn d q s (point here m n (first_place is_reverse q.start q.end) id None) new m2 n2 result) →
         MakesPass d q old new m1 m2 n1 n2 result
     goes_further here m2 n2 result untagged moved e runs =
         makes_pass here new m2 n2 result moved (subst (λ (b : Bool). told_of here ≡ told_begun b q (told_of mid)) is e)

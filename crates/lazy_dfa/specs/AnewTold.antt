@@ -33,13 +33,13 @@ pub record IsFresh (t : Told) : Type 0 where
 -- What a pass over n bytes tells behind so many units, in which the cache was cleared last when the search was at the byte a
 -- behind its first one: the way from there.
 abbrev pub cut_told : Bool → ℕ → ℕ → ℕ → Told
-cut_told down n a units = record { searched = min (pass_distance down n units - a) greatest; progress = None }
+cut_told is_reverse n a units = record { searched = min (pass_distance is_reverse n units - a) greatest; progress = None }
 
 -- or what it leaves that is refused at unit k, and is at the index x where it goes on
 abbrev pub cut_left : Bool → Bool → ℕ → ℕ → ℕ → ℕ → ℕ → Told
-cut_left down quits n i a k x =
-    if has_finished down quits n k then cut_told down n a (suc k) else
-    record { searched = 0; progress = Some (record { start = index_at down (place_of down i a); at = x }) }
+cut_left is_reverse quits n i a k x =
+    if has_finished is_reverse quits n k then cut_told is_reverse n a (suc k) else
+    record { searched = 0; progress = Some (record { start = index_at is_reverse (place_of is_reverse i a); at = x }) }
 
 -- a pass over so many bytes from a place in which the cache was cleared: at its start, or in its course
 pub data TellsAnew (r : Reader) (mode : Anchored) (earliest : Bool) (h : List ℕ) (p : ℕ × ℕ) (new : Told) : Type 0 where
@@ -48,14 +48,14 @@ pub data TellsAnew (r : Reader) (mode : Anchored) (earliest : Bool) (h : List �
       new ≡ cut_told r.automaton.reverse p.0 a (pass_len r mode earliest h p.0 p.1) → TellsAnew r mode earliest h p new
 
 -- a pass over n bytes from place i is refused at unit k, and the search began anew at the byte `from` behind its first one
-pub record CutAt (down quits : Bool) (n i k : ℕ) (new : Told) : Type 0 where
+pub record CutAt (is_reverse quits : Bool) (n i k : ℕ) (new : Told) : Type 0 where
   pub from : ℕ
   pub byte : ℕ
-  pub inside : from ≤ pass_distance down n (suc k)
+  pub inside : from ≤ pass_distance is_reverse n (suc k)
   pub past : from ≤ byte
   pub read : byte ≤ k
   pub there : k < n → byte ≡ k
-  pub told : new ≡ cut_left down quits n i from k (index_at down (place_of down i byte))
+  pub told : new ≡ cut_left is_reverse quits n i from k (index_at is_reverse (place_of is_reverse i byte))
 
 -- one that is refused
 pub data FailsAnew (r : Reader) (mode : Anchored) (earliest : Bool) (h : List ℕ) (p : ℕ × ℕ) (e : MatchErrorKind) (new : Told) : Type 0 where

@@ -21,30 +21,30 @@ told_at at t = record { searched = t.searched; progress = moved_to at t.progress
 abbrev pub told_finished : ℕ → Told → Told
 told_finished at t = record { searched = min (t.searched + progress_len (moved_to at t.progress)) greatest; progress = None }
 
--- what a pass over so many bytes from a place tells where it begins: downwards one over no bytes tells nothing
+-- what a pass over so many bytes from a place tells where it begins: in reverse one over no bytes tells nothing
 abbrev pub told_from : Bool → ℕ × ℕ → Told → Told
-told_from down p t =
-    if down && p.0 == 0 then t else record {
+told_from is_reverse p t =
+    if is_reverse && p.0 == 0 then t else record {
       searched = min (t.searched + progress_len t.progress) greatest;
-      progress = Some (record { start = index_at down p.1; at = index_at down p.1 });
+      progress = Some (record { start = index_at is_reverse p.1; at = index_at is_reverse p.1 });
     }
 
 -- Whether the search had ended of a pass over n bytes that is refused at unit k: at a byte it has where that is a quit byte,
--- and at the unit behind the span where one reads downwards.
+-- and at the unit behind the span where one reads in reverse.
 abbrev pub has_finished : Bool → Bool → ℕ → ℕ → Bool
-has_finished down quits n k = if nat_lt k n then quits else down
+has_finished is_reverse quits n k = if nat_lt k n then quits else is_reverse
 
 -- what such a pass has told, by what was told where it began, and where the search is that goes on
 abbrev pub left_told : Bool → Bool → ℕ → ℕ → ℕ → Told → Told
-left_told down quits n k at t = if has_finished down quits n k then told_behind down n t (suc k) else told_at at t
+left_told is_reverse quits n k at t = if has_finished is_reverse quits n k then told_behind is_reverse n t (suc k) else told_at at t
 
 -- A pass over n bytes from place i is refused at unit k. At a byte a search that goes on is there; at the unit behind the span
 -- it is where it was told to be last, so many bytes behind its first one.
-pub record LeftAt (down quits : Bool) (n i k : ℕ) (t new : Told) : Type 0 where
+pub record LeftAt (is_reverse quits : Bool) (n i k : ℕ) (t new : Told) : Type 0 where
   pub byte : ℕ
   pub read : byte ≤ k
   pub there : k < n → byte ≡ k
-  pub told : new ≡ left_told down quits n k (index_at down (place_of down i byte)) t
+  pub told : new ≡ left_told is_reverse quits n k (index_at is_reverse (place_of is_reverse i byte)) t
 
 -- ---- refusals
 
@@ -59,21 +59,21 @@ is_quit_error NoMemory = false
 
 -- a pass from place i may be refused so at its start: for the byte behind it, or the mode, or in want of room or memory
 abbrev pub IsRefusedFirst : Bool → ℕ → MatchErrorKind → Type 0
-IsRefusedFirst down i (Quit b x) = x ≡ index_behind down i
-IsRefusedFirst down i (GaveUp x) = x ≡ i
-IsRefusedFirst down i (HaystackTooLong len) = ⊥
-IsRefusedFirst down i (UnsupportedAnchored mode) = ⊤
-IsRefusedFirst down i NotAPair = ⊥
-IsRefusedFirst down i NoMemory = ⊤
+IsRefusedFirst is_reverse i (Quit b x) = x ≡ index_behind is_reverse i
+IsRefusedFirst is_reverse i (GaveUp x) = x ≡ i
+IsRefusedFirst is_reverse i (HaystackTooLong len) = ⊥
+IsRefusedFirst is_reverse i (UnsupportedAnchored mode) = ⊤
+IsRefusedFirst is_reverse i NotAPair = ⊥
+IsRefusedFirst is_reverse i NoMemory = ⊤
 
 -- and one over n bytes at unit k
 abbrev pub IsRefusedAt : Bool → ℕ → ℕ → ℕ → MatchErrorKind → Type 0
-IsRefusedAt down n i k (Quit b x) = x ≡ index_at down (place_of down i k)
-IsRefusedAt down n i k (GaveUp x) = x ≡ give_up_place down n i k
-IsRefusedAt down n i k (HaystackTooLong len) = ⊥
-IsRefusedAt down n i k (UnsupportedAnchored mode) = ⊥
-IsRefusedAt down n i k NotAPair = ⊥
-IsRefusedAt down n i k NoMemory = ⊤
+IsRefusedAt is_reverse n i k (Quit b x) = x ≡ index_at is_reverse (place_of is_reverse i k)
+IsRefusedAt is_reverse n i k (GaveUp x) = x ≡ give_up_place is_reverse n i k
+IsRefusedAt is_reverse n i k (HaystackTooLong len) = ⊥
+IsRefusedAt is_reverse n i k (UnsupportedAnchored mode) = ⊥
+IsRefusedAt is_reverse n i k NotAPair = ⊥
+IsRefusedAt is_reverse n i k NoMemory = ⊤
 
 -- ---- what searches leave
 

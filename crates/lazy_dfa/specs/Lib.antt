@@ -25,7 +25,7 @@ pub mod Points
 pub mod Lingering
 pub mod MadePasses
 pub mod Turns
-pub mod Stands
+pub mod PassPlaces
 pub mod Walks
 pub mod WalkAnswers
 pub mod WalkTurns

@@ -53,7 +53,7 @@ IsFirstQuit r h i n b x =
     (k : ℕ) × (k < n) × (unit_of r h i k ≡ Some b) × (has r.quits b ≡ true) ×
     (x ≡ index_at r.automaton.reverse (place_of r.automaton.reverse i k)) × HasNoQuit r h i k
 
--- place j lies beyond place k for one who reads up, or down
+-- place j lies beyond place k for one who reads forward or in reverse
 abbrev pub is_past : Bool → ℕ → ℕ → Bool
 is_past false j k = nat_lt k j
 is_past true j k = nat_lt j k

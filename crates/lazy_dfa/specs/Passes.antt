@@ -15,7 +15,7 @@ use Rattle.determinize_core.specs.Steps.{unit_at, unit_behind, start_value, step
 use Rattle.determinize_core.specs.Walked.{end_at}
 use Rattle.lazy_dfa.specs.Readers.{Reader, HalfAnswer, found, quit, unsupported}
 
--- the index of the byte that one who reads up, or down, from a place reads next, and that of the one behind the place
+-- the index of the byte that one who reads forward or in reverse, from a place reads next, and that of the one behind the place
 abbrev pub index_at : Bool → ℕ → ℕ
 index_at false i = i
 index_at true i = i - 1

@@ -115,7 +115,7 @@ scan_len r q =
     else passes_len r q.anchored q.earliest q.haystack (q.end - q.start) (begins_at r q))
     else 0
 
--- x is the index of the byte behind place i, or of one of the n units from there for one who reads up, or down
+-- x is the index of the byte behind place i, or of one of the n units from there for one who reads forward or in reverse
 abbrev pub IsReached : Bool → ℕ → ℕ → ℕ → Type 0
 IsReached false i n x = (i ≤ x + 1) × (x < i + n)
 IsReached true i n x = (i ≤ x + n) × (x ≤ i)

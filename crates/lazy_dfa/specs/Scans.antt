@@ -20,7 +20,7 @@ passes r mode earliest h zero i = unless_split (counts r.between_characters h) (
 passes r mode earliest h (suc n) i =
     unless_split (counts r.between_characters h) (pass r mode earliest h (suc n) i) (passes r mode earliest h n (next_place r i))
 
--- where one who reads up, or down, through the bytes from s to e begins
+-- where one who reads forward or in reverse, through the bytes from s to e begins
 abbrev pub first_place : Bool → ℕ → ℕ → ℕ
 first_place false s e = s
 first_place true s e = e

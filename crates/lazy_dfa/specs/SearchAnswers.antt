@@ -42,7 +42,7 @@ told (unsupported mode) = Err (UnsupportedAnchored mode)
 -- where a pass over n bytes from place i that can't make the state behind unit k says that it gave up: at the byte that is
 -- unit k, and for the last unit at the last place of its span
 abbrev pub give_up_place : Bool → ℕ → ℕ → ℕ → ℕ
-give_up_place down n i k = if nat_lt k n then index_at down (place_of down i k) else place_of down i k
+give_up_place is_reverse n i k = if nat_lt k n then index_at is_reverse (place_of is_reverse i k) else place_of is_reverse i k
 
 -- where the search that goes on is
 abbrev pub running_at : Option Progress → Option ℕ
@@ -83,7 +83,7 @@ abbrev pub pass_distance : Bool → ℕ → ℕ → ℕ
 pass_distance false n units = units - 1
 pass_distance true n units = min (units - 1) (n - 1)
 
--- A pass ends the search that goes on and adds its own length. Downwards one over no bytes tells nothing.
+-- A pass ends the search that goes on and adds its own length. In reverse one over no bytes tells nothing.
 abbrev pub told_by_pass : Reader → Anchored → Bool → List ℕ → Told → ℕ × ℕ → Told
 told_by_pass r mode earliest h t p =
     if r.automaton.reverse && p.0 == 0 then t else record {
@@ -93,8 +93,8 @@ told_by_pass r mode earliest h t p =
 
 -- what a pass over n bytes tells at its end that has told where it begins
 abbrev pub told_behind : Bool → ℕ → Told → ℕ → Told
-told_behind down n t units =
-    if down && n == 0 then t else record { searched = min (t.searched + pass_distance down n units) greatest; progress = None }
+told_behind is_reverse n t units =
+    if is_reverse && n == 0 then t else record { searched = min (t.searched + pass_distance is_reverse n units) greatest; progress = None }
 
 -- what these passes tell
 abbrev pub told_by : Reader → Search → Told → List (ℕ × ℕ) → Told
@@ -110,7 +110,7 @@ made_by r q (p ∷ ps) = suc (pass_len r q.anchored q.earliest q.haystack p.0 p.
 
 -- ---- reach
 
--- The place behind what a half search upwards read. From the byte before the span to there stands no quit byte, a search of
+-- The place behind what a half search forward read. From the byte before the span to there stands no quit byte, a search of
 -- any haystack that has the same bytes there finds the same, and under leftmost-first it found the first end for each reading
 -- of looks that agrees with the one by ASCII bytes up to there, if it wasn't done before it began: then it read nothing.
 pub record IsReachOf (r : Reader) (q : Search) (o : Option (ℕ × ℕ)) (end : ℕ) : Type 0 where
@@ -127,7 +127,7 @@ pub record IsReachOf (r : Reader) (q : Search) (o : Option (ℕ × ℕ)) (end : 
 abbrev pub HasReach : Reader → Search → Option (ℕ × ℕ) → Type 0
 HasReach r q o = (end : ℕ) × IsReachOf r q o end
 
--- The first of the places that a half search downwards read. From there to the byte behind the span stands no quit byte, and
+-- The first of the places that a half search in reverse read. From there to the byte behind the span stands no quit byte, and
 -- a search of any haystack that has the same bytes there finds the same. One that was done before it began read nothing.
 pub record IsReachBack (r : Reader) (q : Search) (o : Option (ℕ × ℕ)) (begin : ℕ) : Type 0 where
   pub within : q.start ≤ begin + 1

@@ -12,7 +12,7 @@ use Rattle.determinize_core.specs.States.{StateValue}
 use Rattle.lazy_dfa.specs.Caches.{CacheValue, greatest, progress_len, lacks_room}
 use Rattle.lazy_dfa.specs.declared.overlapping_state.Stop.{Stop}
 use Rattle.lazy_dfa.specs.declared.overlapping_state.Walk.{Walk}
-use Rattle.lazy_dfa.specs.declared.overlapping_state.Walk.TheVariants.{Fresh, Ended, Failed, Stands}
+use Rattle.lazy_dfa.specs.declared.overlapping_state.Walk.TheVariants.{Fresh, Ended, Failed, Stopped}
 use Rattle.lazy_dfa.specs.Dfas.{Dfa, reader}
 use Rattle.lazy_dfa.specs.Linked.{Grows, HasCleared, GrowsOrClears}
 use Rattle.lazy_dfa.specs.MadePasses.{span_len}
@@ -22,7 +22,7 @@ use Rattle.lazy_dfa.specs.Readers.{Reader}
 use Rattle.lazy_dfa.specs.ScanLaws.{begins_at}
 use Rattle.lazy_dfa.specs.SearchAnswers.{half_of, GivesUpIn, Told, told_of, pass_distance, running_at}
 use Rattle.lazy_dfa.specs.Courses.{state_behind}
-use Rattle.lazy_dfa.specs.Stands.{came, left_at, last_place, gave_up_at}
+use Rattle.lazy_dfa.specs.PassPlaces.{came, left_at, last_place, gave_up_at}
 use Rattle.lazy_dfa.specs.Steps.{most_inserts}
 use Rattle.lazy_dfa.specs.Walks.{Rest, rest_from, whole_rest, rest_of, others, value_past, IsWalk, WalkState}
 
@@ -46,11 +46,11 @@ abbrev pub reads_on : Reader → Search → Walk → Bool
 reads_on r q Fresh = nat_le q.start q.end && is_supported r.starts_for_each_pattern q.anchored
 reads_on r q Ended = false
 reads_on r q (Failed e) = false
-reads_on r q (Stands stop) = not (lists_more r q stop || stop.at == last_place r.automaton.reverse q)
+reads_on r q (Stopped stop) = not (lists_more r q stop || stop.at == last_place r.automaton.reverse q)
 
 -- the place at which it reads on
 abbrev pub call_place : Reader → Search → Walk → ℕ
-call_place r q (Stands stop) = next_place r stop.at
+call_place r q (Stopped stop) = next_place r stop.at
 call_place r q Fresh = begins_at r q
 call_place r q Ended = begins_at r q
 call_place r q (Failed e) = begins_at r q
@@ -60,7 +60,7 @@ abbrev pub units_there : Reader → Search → Walk → ℕ
 units_there r q Fresh = units_met r q.haystack (suc (span_len q)) (begins_at r q) (first_value r q.anchored q.haystack (begins_at r q))
 units_there r q Ended = 0
 units_there r q (Failed e) = 0
-units_there r q (Stands stop) = units_met r q.haystack (left_at r.automaton.reverse q stop.at) (next_place r stop.at) (value_past r q stop.at)
+units_there r q (Stopped stop) = units_met r q.haystack (left_at r.automaton.reverse q stop.at) (next_place r stop.at) (value_past r q stop.at)
 
 abbrev pub call_units : Reader → Search → Walk → ℕ
 call_units r q w = if reads_on r q w then units_there r q w else 0
@@ -70,7 +70,7 @@ abbrev pub call_starts : Search → Walk → ℕ
 call_starts q Fresh = if nat_le q.start q.end then 1 else 0
 call_starts q Ended = 0
 call_starts q (Failed e) = 0
-call_starts q (Stands stop) = 0
+call_starts q (Stopped stop) = 0
 
 -- and how many states it makes at most
 abbrev pub call_made : Reader → Search → Walk → ℕ

@@ -18,7 +18,7 @@ use Rattle.lazy_dfa.specs.ScanLaws.{begins_at, ends_of}
 abbrev pub ends_at : (ℕ → Bool) → List (ℕ × ℕ) → ℕ → List (ℕ × ℕ)
 ends_at counted ends j = if counted j then filter (λ x. nat_eq x.0 j) ends else []
 
--- and those at n places from place i on, for one who reads up, or down: place by place, at one place in the order that they had
+-- and those at n places from place i on, for one who reads forward or in reverse: place by place, at one place in the order that they had
 abbrev pub ends_by_place : Bool → (ℕ → Bool) → List (ℕ × ℕ) → ℕ → ℕ → List (ℕ × ℕ)
 ends_by_place reverse counted ends i zero = []
 ends_by_place reverse counted ends i (suc n) = ends_at counted ends i ++ ends_by_place reverse counted ends (place_of reverse i 1) n
@@ -36,7 +36,7 @@ pub record IsBegun (r : Reader) (q : Search) (name : ℕ) : Type 0 where
   pub start : start_name r.automaton q.anchored ≡ Some name
   pub inside : name < length r.automaton.states
 
--- no end lies beyond one that is told later, for one who reads up, or down
+-- no end lies beyond one that is told later, for one who reads forward or in reverse
 abbrev pub IsInReadingOrder : Bool → List (ℕ × ℕ) → Type 0
 IsInReadingOrder reverse ends =
     (before behind : List (ℕ × ℕ)) (x y : ℕ × ℕ) → ends ≡ before ++ (x ∷ behind) → Has same_pair y behind → is_past reverse x.0 y.0 ≡ false

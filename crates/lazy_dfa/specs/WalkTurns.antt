@@ -11,8 +11,8 @@ use Rattle.search_types.specs.Inputs.{Search}
 use Rattle.search_types.specs.Places.{counts}
 use Rattle.lazy_dfa.specs.Caches.{CacheValue, HeldAt, IsRow, lacks_room}
 use Rattle.lazy_dfa.specs.Courses.{state_behind}
-use Rattle.lazy_dfa.specs.declared.overlapping_state.Walk.TheVariants.{Ended, Stands}
-use Rattle.lazy_dfa.specs.declared.passing.Stand.{Stand}
+use Rattle.lazy_dfa.specs.declared.overlapping_state.Walk.TheVariants.{Ended, Stopped}
+use Rattle.lazy_dfa.specs.declared.passing.Position.{Position}
 use Rattle.lazy_dfa.specs.declared.turns.Seen.{Seen}
 use Rattle.lazy_dfa.specs.declared.turns.Turn.{Turn}
 use Rattle.lazy_dfa.specs.declared.turns.Turn.TheVariants.{GoesOn, Ends, Quits}
@@ -22,7 +22,7 @@ use Rattle.lazy_dfa.specs.Passes.{index_at, is_empty, is_dead}
 use Rattle.lazy_dfa.specs.Points.{Point}
 use Rattle.lazy_dfa.specs.Readers.{Reader, is_quit}
 use Rattle.lazy_dfa.specs.SearchAnswers.{pair_of, running_at}
-use Rattle.lazy_dfa.specs.Stands.{last_place, finished, gave_up_at}
+use Rattle.lazy_dfa.specs.PassPlaces.{last_place, finished, gave_up_at}
 use Rattle.lazy_dfa.specs.Turns.{GoesOne, Leaves, FailsOn}
 use Rattle.lazy_dfa.specs.Walks.{WalkState}
 
@@ -42,7 +42,7 @@ is_over Quits tells last = true
 
 -- the walk behind the last unit that a call reads
 abbrev pub stopped : Bool → ℕ → ℕ → Option HalfFound → WalkState
-stopped true id at found = record { found = found; walk = Stands (record { id = id; index = 1; at = at }) }
+stopped true id at found = record { found = found; walk = Stopped (record { id = id; index = 1; at = at }) }
 stopped false id at found = record { found = None; walk = Ended }
 
 -- a unit was read at a point: it leads to a row, or to the dead state
@@ -72,24 +72,24 @@ StepsAt d q from new m n (Err e) = Refuses d q from new m n e
 
 -- A call is over with the unit at a point, and its cache was told where it came. It tells the end that was recorded there, or
 -- none: then the walk has ended.
-pub record StopsWith (d : Dfa) (q : Search) (from : Point) (new : CacheValue) (m n : ℕ) (stand : Stand) (tells : Bool) : Type 0 where
+pub record StopsWith (d : Dfa) (q : Search) (from : Point) (new : CacheValue) (m n : ℕ) (position : Position) (tells : Bool) : Type 0 where
   pub behind : CacheValue
-  pub goes : GoesOne d q.haystack from behind m n stand.id (pair_of stand.best)
-  pub place : stand.at ≡ from.at
+  pub goes : GoesOne d q.haystack from behind m n position.id (pair_of position.best)
+  pub place : position.at ≡ from.at
   pub ended : new ≡ finished (gave_up_at d.nfa.automaton.reverse q from.at) behind
   pub listed : (s : StateValue) → HeldAt from.cache from.id s → tells ≡ tells_end (reader d) q.haystack from.at (state_behind (reader d) q.haystack from.at s 1)
   pub why : tells ≡ false → (s : StateValue) → HeldAt from.cache from.id s →
       (is_dead (state_behind (reader d) q.haystack from.at s 1) ≡ true) ⊎ (from.at ≡ last_place d.nfa.automaton.reverse q)
 
 -- what comes of a unit: the call is over, or it goes on
-abbrev pub ReadsInto : Dfa → Search → Point → CacheValue → ℕ → ℕ → Stand → Bool → Bool → Type 0
-ReadsInto d q from new m n stand tells true = StopsWith d q from new m n stand tells
-ReadsInto d q from new m n stand tells false =
-    GoesOne d q.haystack from new m n stand.id (pair_of stand.best) × (stand.at ≡ place_of d.nfa.automaton.reverse from.at 1) ×
-    (from.at ≢ last_place d.nfa.automaton.reverse q) × IsRow new stand.id ×
+abbrev pub ReadsInto : Dfa → Search → Point → CacheValue → ℕ → ℕ → Position → Bool → Bool → Type 0
+ReadsInto d q from new m n position tells true = StopsWith d q from new m n position tells
+ReadsInto d q from new m n position tells false =
+    GoesOne d q.haystack from new m n position.id (pair_of position.best) × (position.at ≡ place_of d.nfa.automaton.reverse from.at 1) ×
+    (from.at ≢ last_place d.nfa.automaton.reverse q) × IsRow new position.id ×
     ((s : StateValue) → HeldAt from.cache from.id s → tells_end (reader d) q.haystack from.at (state_behind (reader d) q.haystack from.at s 1) ≡ false)
 
 -- one unit of a walk in its span
 abbrev pub ReadsTo : Dfa → Search → Point → CacheValue → ℕ → ℕ → Result Read MatchErrorKind → Type 0
-ReadsTo d q from new m n (Ok read) = ReadsInto d q from new m n read.stand read.tells read.is_over
+ReadsTo d q from new m n (Ok read) = ReadsInto d q from new m n read.position read.tells read.is_over
 ReadsTo d q from new m n (Err e) = Refuses d q from new m n e

@@ -15,12 +15,12 @@ use Rattle.lazy_dfa.specs.Caches.{CacheValue, HeldAt}
 use Rattle.lazy_dfa.specs.Courses.{state_behind}
 use Rattle.lazy_dfa.specs.declared.overlapping_state.Stop.{Stop}
 use Rattle.lazy_dfa.specs.declared.overlapping_state.Walk.{Walk}
-use Rattle.lazy_dfa.specs.declared.overlapping_state.Walk.TheVariants.{Fresh, Ended, Failed, Stands}
+use Rattle.lazy_dfa.specs.declared.overlapping_state.Walk.TheVariants.{Fresh, Ended, Failed, Stopped}
 use Rattle.lazy_dfa.specs.Dfas.{Dfa, reader}
 use Rattle.lazy_dfa.specs.Passes.{index_at, index_behind, is_dead, next_value, next_place, first_value}
 use Rattle.lazy_dfa.specs.Readers.{Reader}
 use Rattle.lazy_dfa.specs.ScanLaws.{begins_at}
-use Rattle.lazy_dfa.specs.Stands.{came, left_at, IsWithinSpan}
+use Rattle.lazy_dfa.specs.PassPlaces.{came, left_at, IsWithinSpan}
 
 -- ---- what is left
 
@@ -97,7 +97,7 @@ abbrev pub rest_of : Reader → Search → Walk → Rest
 rest_of r q Fresh = whole_rest r q
 rest_of r q Ended = nothing_left
 rest_of r q (Failed e) = refused e
-rest_of r q (Stands stop) =
+rest_of r q (Stopped stop) =
     onto (listed (counts r.between_characters q.haystack) stop.at (drop stop.index (value_past r q stop.at).matches)) (rest_past r q stop.at)
 
 -- A walk stopped in this cache: its ID names the state behind the units that it read, and its index is one of this state's list
@@ -113,7 +113,7 @@ abbrev pub IsWalk : Dfa → CacheValue → Search → Walk → Type 0
 IsWalk d v q Fresh = ⊤
 IsWalk d v q Ended = ⊤
 IsWalk d v q (Failed e) = ⊤
-IsWalk d v q (Stands stop) = StopsAt d v q stop
+IsWalk d v q (Stopped stop) = StopsAt d v q stop
 
 -- of an `OverlappingState`: the end that the last call told, and where the walk is
 pub record WalkState : Type 0 where
@@ -124,4 +124,4 @@ abbrev pub is_failed_walk : Walk → Bool
 is_failed_walk Fresh = false
 is_failed_walk Ended = false
 is_failed_walk (Failed e) = true
-is_failed_walk (Stands stop) = false
+is_failed_walk (Stopped stop) = false

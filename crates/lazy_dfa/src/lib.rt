@@ -1,7 +1,7 @@
 //! Byte automata that are determinized while they are searched: a search makes the powerset states that it needs, and keeps
 //! them in a cache of bounded size.
 //!
-//! A half search finds one end of a match: upwards its end, downwards its start. What it answers is a function of values
+//! A half search finds one end of a match: forward its end, in reverse its start. What it answers is a function of values
 //! that knows no cache. By what it goes is in `specs/Readers.antt`, one pass of it in `Passes.antt`, and the search with
 //! its restarts in `Scans.antt`. Their laws are public functions without code in [`pass_laws`], [`scan_laws`] and
 //! [`reach_laws`], in words of `PassLaws.antt` and `ScanLaws.antt`. Which bytes are quit bytes is in `Quits.antt`, with

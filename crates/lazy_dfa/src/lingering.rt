@@ -8,11 +8,11 @@ ghost use Rattle.lazy_dfa.specs.Lingering.{Lingers};
 ghost use Rattle.lazy_dfa.specs.Passes.{recorded};
 ghost use Rattle.lazy_dfa.specs.Points.{point};
 ghost use Rattle.lazy_dfa.specs.SearchAnswers.{pair_of};
-ghost use Rattle.lazy_dfa.specs.Stands.{IsWithinSpan, left_at, GoesBetween};
+ghost use Rattle.lazy_dfa.specs.PassPlaces.{IsWithinSpan, left_at, GoesBetween};
 
 use crate::dfa::{Cache, DFA};
 use crate::lazy_id::LazyStateID;
-use crate::passing::Stand;
+use crate::passing::Position;
 use search_types::{HalfMatch, Input};
 
 /// The ID of a state that matches, with the place from which its unit was read; the unknown ID where there was none.
@@ -43,8 +43,8 @@ fn meet(met: Met, next: LazyStateID, at: usize) -> Met
     }
 }
 
-/// Goes on upwards over known steps while each leads to a state that isn't dead.
-fn linger_up(
+/// Goes on forward over known steps while each leads to a state that isn't dead.
+fn linger_forward(
     dfa: &DFA,
     cache: &Cache,
     haystack: &[u8],
@@ -53,7 +53,7 @@ fn linger_up(
     end: usize,
 ) -> Lingered
     requires own { IsCacheOf dfa.now cache.now }
-    requires up { dfa.now.nfa.automaton.reverse ≡ false }
+    requires is_forward { dfa.now.nfa.automaton.reverse ≡ false }
     requires row { IsRow cache.now id }
     requires fits { from ≤ end }
     requires within { end ≤ length haystack.now }
@@ -81,8 +81,8 @@ fn linger_up(
     Lingered { at, id: sid, met }
 }
 
-/// Goes on downwards over known steps while each leads to a state that isn't dead.
-fn linger_down(
+/// Goes on in reverse over known steps while each leads to a state that isn't dead.
+fn linger_reverse(
     dfa: &DFA,
     cache: &Cache,
     haystack: &[u8],
@@ -91,7 +91,7 @@ fn linger_down(
     end: usize,
 ) -> Lingered
     requires own { IsCacheOf dfa.now cache.now }
-    requires down { dfa.now.nfa.automaton.reverse ≡ true }
+    requires is_reverse { dfa.now.nfa.automaton.reverse ≡ true }
     requires row { IsRow cache.now id }
     requires fits { end ≤ from }
     requires within { from ≤ length haystack.now }
@@ -142,36 +142,36 @@ pub(crate) fn linger(
     dfa: &DFA,
     cache: &Cache,
     input: &Input<'_>,
-    is_down: bool,
-    stand: Stand,
-) -> Stand
+    is_reverse: bool,
+    position: Position,
+) -> Position
     requires own { IsCacheOf dfa.now cache.now }
-    requires down { is_down ≡ dfa.now.nfa.automaton.reverse }
-    requires row { IsRow cache.now stand.id }
-    requires within { IsWithinSpan input.now stand.at }
+    requires is_reverse { is_reverse ≡ dfa.now.nfa.automaton.reverse }
+    requires row { IsRow cache.now position.id }
+    requires within { IsWithinSpan input.now position.at }
     ensures row { IsRow cache.now result.id }
     ensures within { IsWithinSpan input.now result.at }
-    ensures closer { left_at is_down input.now result.at ≤ left_at is_down input.now stand.at }
+    ensures closer { left_at is_reverse input.now result.at ≤ left_at is_reverse input.now position.at }
     ensures goes { (m n : ℕ) → GoesBetween dfa.now input.now.earliest input.now.haystack
-        (point cache.now m n stand.at stand.id (pair_of stand.best)) (point cache.now m n result.at result.id (pair_of result.best))
-        (left_at is_down input.now stand.at - left_at is_down input.now result.at) }
+        (point cache.now m n position.at position.id (pair_of position.best)) (point cache.now m n result.at result.id (pair_of result.best))
+        (left_at is_reverse input.now position.at - left_at is_reverse input.now result.at) }
 {
     if input.get_earliest() {
-        return stand;
+        return position;
     }
     let haystack = input.haystack();
-    if is_down {
-        let run = linger_down(dfa, cache, haystack, stand.id, stand.at, input.start());
-        return Stand {
+    if is_reverse {
+        let run = linger_reverse(dfa, cache, haystack, position.id, position.at, input.start());
+        return Position {
             at: run.at,
             id: run.id,
-            best: best_behind(dfa, cache, stand.best, run.met),
+            best: best_behind(dfa, cache, position.best, run.met),
         };
     }
-    let run = linger_up(dfa, cache, haystack, stand.id, stand.at, input.end());
-    Stand {
+    let run = linger_forward(dfa, cache, haystack, position.id, position.at, input.end());
+    Position {
         at: run.at,
         id: run.id,
-        best: best_behind(dfa, cache, stand.best, run.met),
+        best: best_behind(dfa, cache, position.best, run.met),
     }
 }

@@ -9,12 +9,12 @@ ghost use Rattle.lazy_dfa.specs.SearchAnswers.{told_of};
 ghost use Rattle.lazy_dfa.specs.Steps.{most_inserts};
 ghost use Rattle.lazy_dfa.specs.Walks.{IsWalk, StopsAt, rest_of};
 ghost use Rattle.lazy_dfa.specs.WalkAnswers.{AnswersWalk, TellsNext, MakesCall, failed_by, told_by_call, reads_on, call_starts, call_made};
-ghost use Rattle.lazy_dfa.specs.declared.overlapping_state.Walk.TheVariants.{Fresh, Ended, Stands};
+ghost use Rattle.lazy_dfa.specs.declared.overlapping_state.Walk.TheVariants.{Fresh, Ended, Stopped};
 
 use crate::dfa::{Cache, DFA};
 use crate::overlapping_state::{OverlappingState, Stop, Walk};
-use crate::passing::{Stand, first_place, last_place, next_place, start_of_pass};
-use crate::searching::is_down;
+use crate::passing::{Position, first_place, last_place, next_place, start_of_pass};
+use crate::searching::is_reverse;
 use crate::walk_reads::{lists_more, progress_at, read_on, tell};
 use crate::work::Work;
 use search_types::{Input, MatchError};
@@ -25,11 +25,11 @@ fn begin<L: Ledger, M: Ledger>(
     dfa: &DFA,
     cache: &mut Cache,
     input: &Input<'_>,
-    is_down: bool,
+    is_reverse: bool,
     work: &mut Work<L, M>,
 ) -> Result<OverlappingState, MatchError>
     requires own { IsCacheOf dfa.now cache.old }
-    requires down { is_down ≡ dfa.now.nfa.automaton.reverse }
+    requires is_reverse { is_reverse ≡ dfa.now.nfa.automaton.reverse }
     ensures own { IsCacheOf dfa.now cache.new }
     ensures call { IfOk result (λ told. MakesCall dfa.now input.now cache.old cache.new work.old.determinized work.new.determinized work.old.inserted work.new.inserted Fresh told (Ok tt)) }
     ensures err { IfErr result (λ e. MakesCall dfa.now input.now cache.old cache.new work.old.determinized work.new.determinized work.old.inserted work.new.inserted Fresh (failed_by e) (Err e)) }
@@ -38,19 +38,19 @@ fn begin<L: Ledger, M: Ledger>(
     if input.is_done() {
         return Ok(OverlappingState::ended());
     }
-    let id = match start_of_pass(dfa, cache, input, is_down, work) {
+    let id = match start_of_pass(dfa, cache, input, is_reverse, work) {
         Ok(id) => id,
         Err(e) => return Err(e),
     };
-    let at = first_place(input, is_down);
+    let at = first_place(input, is_reverse);
     if id.is_dead() {
-        let index = progress_at(input, is_down, at);
+        let index = progress_at(input, is_reverse, at);
         cache.search_start(index);
         cache.search_finish(index);
         return Ok(OverlappingState::ended());
     }
-    let first = Stand { at, id, best: None };
-    read_on(dfa, cache, input, is_down, first, work)
+    let first = Position { at, id, best: None };
+    read_on(dfa, cache, input, is_reverse, first, work)
 }
 
 /// A call of a walk that stopped.
@@ -58,16 +58,16 @@ fn resume<L: Ledger, M: Ledger>(
     dfa: &DFA,
     cache: &mut Cache,
     input: &Input<'_>,
-    is_down: bool,
+    is_reverse: bool,
     stop: Stop,
     work: &mut Work<L, M>,
 ) -> Result<OverlappingState, MatchError>
     requires own { IsCacheOf dfa.now cache.old }
-    requires down { is_down ≡ dfa.now.nfa.automaton.reverse }
+    requires is_reverse { is_reverse ≡ dfa.now.nfa.automaton.reverse }
     requires stops { StopsAt dfa.now cache.old input.now stop }
     ensures own { IsCacheOf dfa.now cache.new }
-    ensures call { IfOk result (λ told. MakesCall dfa.now input.now cache.old cache.new work.old.determinized work.new.determinized work.old.inserted work.new.inserted (Stands stop) told (Ok tt)) }
-    ensures err { IfErr result (λ e. MakesCall dfa.now input.now cache.old cache.new work.old.determinized work.new.determinized work.old.inserted work.new.inserted (Stands stop) (failed_by e) (Err e)) }
+    ensures call { IfOk result (λ told. MakesCall dfa.now input.now cache.old cache.new work.old.determinized work.new.determinized work.old.inserted work.new.inserted (Stopped stop) told (Ok tt)) }
+    ensures err { IfErr result (λ e. MakesCall dfa.now input.now cache.old cache.new work.old.determinized work.new.determinized work.old.inserted work.new.inserted (Stopped stop) (failed_by e) (Err e)) }
 {
     dfa.is_made();
     // A place that is not the last one lies before the end of a haystack, whose length has a next number.
@@ -75,15 +75,15 @@ fn resume<L: Ledger, M: Ledger>(
     if lists_more(dfa, cache, input, stop.id, stop.index, stop.at) {
         return Ok(tell(dfa, cache, input, stop.id, stop.index, stop.at));
     }
-    if stop.at == last_place(input, is_down) {
+    if stop.at == last_place(input, is_reverse) {
         return Ok(OverlappingState::ended());
     }
-    let next = Stand {
-        at: next_place(stop.at, is_down),
+    let next = Position {
+        at: next_place(stop.at, is_reverse),
         id: stop.id,
         best: None,
     };
-    read_on(dfa, cache, input, is_down, next, work)
+    read_on(dfa, cache, input, is_reverse, next, work)
 }
 
 /// What comes of a call: the walk behind it, or a refusal.
@@ -100,12 +100,12 @@ fn go_on<L: Ledger, M: Ledger>(
     ensures call { IfOk result (λ told. MakesCall dfa.now input.now cache.old cache.new work.old.determinized work.new.determinized work.old.inserted work.new.inserted walk told (Ok tt)) }
     ensures err { IfErr result (λ e. MakesCall dfa.now input.now cache.old cache.new work.old.determinized work.new.determinized work.old.inserted work.new.inserted walk (failed_by e) (Err e)) }
 {
-    let is_down = is_down(dfa);
+    let is_reverse = is_reverse(dfa);
     match walk {
-        Walk::Fresh => begin(dfa, cache, input, is_down, work),
+        Walk::Fresh => begin(dfa, cache, input, is_reverse, work),
         Walk::Ended => Ok(OverlappingState::ended()),
         Walk::Failed(kind) => Err(MatchError::new(kind)),
-        Walk::Stands(stop) => resume(dfa, cache, input, is_down, stop, work),
+        Walk::Stopped(stop) => resume(dfa, cache, input, is_reverse, stop, work),
     }
 }
 
@@ -134,7 +134,7 @@ pub(crate) fn call<L: Ledger, M: Ledger>(
 }
 
 impl DFA {
-    /// The next end of a walk that tells all ends in a span, as `DFA::try_search_overlapping_fwd`. The automaton reads upwards.
+    /// The next end of a walk that tells all ends in a span, as `DFA::try_search_overlapping_fwd`. The automaton reads forward.
     /// [`OverlappingState::get_match`] has the end, or none where nothing is left.
     ///
     /// What a walk tells is what the states on its way list, place by place, those ends left out that split a character in an
@@ -152,7 +152,7 @@ impl DFA {
         work: &mut Work<L, M>,
     ) -> Result<(), MatchError>
         requires own { IsCacheOf self.now cache.old }
-        requires up { self.now.nfa.automaton.reverse ≡ false }
+        requires is_forward { self.now.nfa.automaton.reverse ≡ false }
         requires walk { IsWalk self.now cache.old input.now state.old.walk }
         ensures own { IsCacheOf self.now cache.new }
         ensures answer { AnswersWalk self.now cache.new input.now state.old.walk state.new result }
@@ -174,7 +174,7 @@ impl DFA {
     }
 
     /// The next start of a walk that tells all starts in a span, as `DFA::try_search_overlapping_rev`. The automaton reads
-    /// downwards, from the span's end. All patterns at one place are told with this place. All else is as
+    /// in reverse, from the span's end. All patterns at one place are told with this place. All else is as
     /// [`try_search_overlapping_fwd`](DFA::try_search_overlapping_fwd) has it.
     pub fn try_search_overlapping_rev<L: Ledger, M: Ledger>(
         &self,
@@ -184,7 +184,7 @@ impl DFA {
         work: &mut Work<L, M>,
     ) -> Result<(), MatchError>
         requires own { IsCacheOf self.now cache.old }
-        requires down { self.now.nfa.automaton.reverse ≡ true }
+        requires is_reverse { self.now.nfa.automaton.reverse ≡ true }
         requires walk { IsWalk self.now cache.old input.now state.old.walk }
         ensures own { IsCacheOf self.now cache.new }
         ensures answer { AnswersWalk self.now cache.new input.now state.old.walk state.new result }

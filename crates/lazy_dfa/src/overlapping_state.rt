@@ -25,7 +25,7 @@ pub(crate) enum Walk {
     /// A call was refused, and so are all later ones.
     Failed(MatchErrorKind),
     /// It stopped at an end that it told.
-    Stands(Stop),
+    Stopped(Stop),
 }
 
 /// An overlapping walk between two calls, as `regex_automata::hybrid::dfa::OverlappingState`: the end that the last call
@@ -74,7 +74,7 @@ impl OverlappingState {
             Walk::Failed(_) => true,
             Walk::Fresh => false,
             Walk::Ended => false,
-            Walk::Stands(_) => false,
+            Walk::Stopped(_) => false,
         }
     }
 

@@ -10,13 +10,13 @@ ghost use Rattle.lazy_dfa.specs.Passes.{index_at};
 ghost use Rattle.lazy_dfa.specs.Points.{point};
 ghost use Rattle.lazy_dfa.specs.Scans.{first_place};
 ghost use Rattle.lazy_dfa.specs.SearchAnswers.{pair_of, told_of};
-ghost use Rattle.lazy_dfa.specs.Stands.{IsWithinSpan, last_place, left_at, tells, finished_where, error_of, told_begun, told_behind, BeginsFirst, GoesBetween, TurnsTo, RunsOn, StartsPass};
+ghost use Rattle.lazy_dfa.specs.PassPlaces.{IsWithinSpan, last_place, left_at, tells, finished_where, error_of, told_begun, told_behind, BeginsFirst, GoesBetween, TurnsTo, RunsOn, StartsPass};
 
 use crate::cache_error::CacheError;
 use crate::dfa::{Cache, DFA};
 use crate::lazy_id::LazyStateID;
 use crate::lingering::linger;
-use crate::runs::{run_down, run_up, see_bytes};
+use crate::runs::{run_reverse, run_forward, see_bytes};
 use crate::turns::{Turn, make_turn};
 use crate::work::Work;
 use search_types::{HalfMatch, Input, MatchError, MatchErrorKind};
@@ -24,7 +24,7 @@ use std::sync::ledger::Ledger;
 
 /// Where a pass stands: before the unit at a place, in a state that isn't dead, with the match that it recorded last.
 #[derive(Clone, Copy)]
-pub(crate) struct Stand {
+pub(crate) struct Position {
     pub(crate) at: usize,
     pub(crate) id: LazyStateID,
     pub(crate) best: Option<HalfMatch>,
@@ -33,39 +33,39 @@ pub(crate) struct Stand {
 /// What comes of a turn in a span: the pass goes on from a stand, or it has ended with the match that was recorded last.
 #[derive(Clone, Copy)]
 pub(crate) struct Turned {
-    stand: Stand,
+    position: Position,
     has_ended: bool,
 }
 
 // ---- places
 
-/// Where one who reads up, or down, through the span begins.
-pub(crate) fn first_place(input: &Input<'_>, is_down: bool) -> usize
-    ensures { result ≡ first_place is_down input.now.start input.now.end }
+/// Where one who reads forward or in reverse, through the span begins.
+pub(crate) fn first_place(input: &Input<'_>, is_reverse: bool) -> usize
+    ensures { result ≡ first_place is_reverse input.now.start input.now.end }
 {
-    if is_down { input.end() } else { input.start() }
+    if is_reverse { input.end() } else { input.start() }
 }
 
 /// Where one ends.
-pub(crate) fn last_place(input: &Input<'_>, is_down: bool) -> usize
-    ensures { result ≡ last_place is_down input.now }
+pub(crate) fn last_place(input: &Input<'_>, is_reverse: bool) -> usize
+    ensures { result ≡ last_place is_reverse input.now }
 {
-    if is_down { input.start() } else { input.end() }
+    if is_reverse { input.start() } else { input.end() }
 }
 
 /// The index of the byte that is read next at a place.
-pub(crate) fn index_at(at: usize, is_down: bool) -> usize
-    ensures { result ≡ index_at is_down at }
+pub(crate) fn index_at(at: usize, is_reverse: bool) -> usize
+    ensures { result ≡ index_at is_reverse at }
 {
-    if is_down { at.saturating_sub(1) } else { at }
+    if is_reverse { at.saturating_sub(1) } else { at }
 }
 
 /// The place behind the byte at a place.
-pub(crate) fn next_place(at: usize, is_down: bool) -> usize
+pub(crate) fn next_place(at: usize, is_reverse: bool) -> usize
     requires { at < 0xFFFF_FFFF_FFFF_FFFF }
-    ensures { result ≡ place_of is_down at 1 }
+    ensures { result ≡ place_of is_reverse at 1 }
 {
-    if is_down {
+    if is_reverse {
         at.saturating_sub(1)
     } else {
         at + 1
@@ -73,10 +73,10 @@ pub(crate) fn next_place(at: usize, is_down: bool) -> usize
 }
 
 /// The unit at a place: a byte, or none at the end of the input.
-pub(crate) fn unit_at(haystack: &[u8], at: usize, is_down: bool) -> Option<u8>
-    ensures { result ≡ unit_at is_down haystack.now at }
+pub(crate) fn unit_at(haystack: &[u8], at: usize, is_reverse: bool) -> Option<u8>
+    ensures { result ≡ unit_at is_reverse haystack.now at }
 {
-    if !is_down {
+    if !is_reverse {
         return haystack.get(at).copied();
     }
     if at == 0 {
@@ -86,18 +86,18 @@ pub(crate) fn unit_at(haystack: &[u8], at: usize, is_down: bool) -> Option<u8>
 }
 
 /// Whether a pass tells its cache how far it comes.
-fn tells(input: &Input<'_>, is_down: bool) -> bool
-    ensures { result ≡ tells is_down input.now }
+fn tells(input: &Input<'_>, is_reverse: bool) -> bool
+    ensures { result ≡ tells is_reverse input.now }
 {
-    !(is_down && input.end() <= input.start())
+    !(is_reverse && input.end() <= input.start())
 }
 
-/// Whether it tells that before its last turn: downwards it does, where it tells anything, since its last byte is read by
+/// Whether it tells that before its last turn: in reverse it does, where it tells anything, since its last byte is read by
 /// then.
-fn tells_before(input: &Input<'_>, is_down: bool) -> bool
-    ensures { result ≡ is_down && tells is_down input.now }
+fn tells_before(input: &Input<'_>, is_reverse: bool) -> bool
+    ensures { result ≡ is_reverse && tells is_reverse input.now }
 {
-    is_down && tells(input, is_down)
+    is_reverse && tells(input, is_reverse)
 }
 
 /// Where it is wanted, ends the search that goes on at this place.
@@ -128,69 +128,69 @@ pub(crate) fn run(
     dfa: &DFA,
     cache: &mut Cache,
     input: &Input<'_>,
-    is_down: bool,
-    stand: Stand,
-) -> Stand
+    is_reverse: bool,
+    position: Position,
+) -> Position
     requires own { IsCacheOf dfa.now cache.old }
-    requires down { is_down ≡ dfa.now.nfa.automaton.reverse }
-    requires row { IsRow cache.old stand.id }
-    requires within { IsWithinSpan input.now stand.at }
+    requires is_reverse { is_reverse ≡ dfa.now.nfa.automaton.reverse }
+    requires row { IsRow cache.old position.id }
+    requires within { IsWithinSpan input.now position.at }
     ensures same { cache.new ≡ cache.old }
     ensures row { IsRow cache.old result.id }
     ensures within { IsWithinSpan input.now result.at }
-    ensures closer { left_at is_down input.now result.at ≤ left_at is_down input.now stand.at }
+    ensures closer { left_at is_reverse input.now result.at ≤ left_at is_reverse input.now position.at }
     ensures goes { (earliest : Bool) (m n : ℕ) → GoesBetween dfa.now earliest input.now.haystack
-        (point cache.old m n stand.at stand.id (pair_of stand.best)) (point cache.old m n result.at result.id (pair_of result.best))
-        (left_at is_down input.now stand.at - left_at is_down input.now result.at) }
+        (point cache.old m n position.at position.id (pair_of position.best)) (point cache.old m n result.at result.id (pair_of result.best))
+        (left_at is_reverse input.now position.at - left_at is_reverse input.now result.at) }
 {
-    if stand.id.is_tagged() {
-        return stand;
+    if position.id.is_tagged() {
+        return position;
     }
     let haystack = input.haystack();
-    if is_down {
-        let moved = run_down(dfa, cache, haystack, stand.id, stand.at, input.start());
-        return Stand {
+    if is_reverse {
+        let moved = run_reverse(dfa, cache, haystack, position.id, position.at, input.start());
+        return Position {
             at: moved.at,
             id: moved.id,
-            best: stand.best,
+            best: position.best,
         };
     }
     let is_anchored = input.get_anchored().is_anchored();
-    let moved = run_up(
+    let moved = run_forward(
         dfa,
         cache,
         haystack,
-        stand.id,
-        stand.at,
+        position.id,
+        position.at,
         input.end(),
         is_anchored,
     );
-    Stand {
+    Position {
         at: moved.at,
         id: moved.id,
-        best: stand.best,
+        best: position.best,
     }
 }
 
 /// Goes on over known steps, up to the last place of the span: while no state has a tag, and then through those that match too.
 #[inline(always)]
-fn run_known(dfa: &DFA, cache: &mut Cache, input: &Input<'_>, is_down: bool, stand: Stand) -> Stand
+fn run_known(dfa: &DFA, cache: &mut Cache, input: &Input<'_>, is_reverse: bool, position: Position) -> Position
     requires own { IsCacheOf dfa.now cache.old }
-    requires down { is_down ≡ dfa.now.nfa.automaton.reverse }
-    requires row { IsRow cache.old stand.id }
-    requires within { IsWithinSpan input.now stand.at }
+    requires is_reverse { is_reverse ≡ dfa.now.nfa.automaton.reverse }
+    requires row { IsRow cache.old position.id }
+    requires within { IsWithinSpan input.now position.at }
     ensures same { cache.new ≡ cache.old }
     ensures row { IsRow cache.old result.id }
     ensures within { IsWithinSpan input.now result.at }
-    ensures closer { left_at is_down input.now result.at ≤ left_at is_down input.now stand.at }
+    ensures closer { left_at is_reverse input.now result.at ≤ left_at is_reverse input.now position.at }
     ensures goes { (m n : ℕ) → GoesBetween dfa.now input.now.earliest input.now.haystack
-        (point cache.old m n stand.at stand.id (pair_of stand.best)) (point cache.old m n result.at result.id (pair_of result.best))
-        (left_at is_down input.now stand.at - left_at is_down input.now result.at) }
+        (point cache.old m n position.at position.id (pair_of position.best)) (point cache.old m n result.at result.id (pair_of result.best))
+        (left_at is_reverse input.now position.at - left_at is_reverse input.now result.at) }
 {
     dfa.is_made();
     see_bytes(input.haystack());
-    let next = run(dfa, cache, input, is_down, stand);
-    linger(dfa, cache, input, is_down, next)
+    let next = run(dfa, cache, input, is_reverse, position);
+    linger(dfa, cache, input, is_reverse, next)
 }
 
 /// A turn by a byte of the span.
@@ -198,45 +198,45 @@ fn byte_turn<L: Ledger, M: Ledger>(
     dfa: &DFA,
     cache: &mut Cache,
     input: &Input<'_>,
-    is_down: bool,
-    stand: Stand,
+    is_reverse: bool,
+    position: Position,
     work: &mut Work<L, M>,
 ) -> Result<Turned, MatchError>
     requires own { IsCacheOf dfa.now cache.old }
-    requires down { is_down ≡ dfa.now.nfa.automaton.reverse }
-    requires row { IsRow cache.old stand.id }
-    requires within { IsWithinSpan input.now stand.at }
-    requires left { stand.at ≢ last_place is_down input.now }
+    requires is_reverse { is_reverse ≡ dfa.now.nfa.automaton.reverse }
+    requires row { IsRow cache.old position.id }
+    requires within { IsWithinSpan input.now position.at }
+    requires left { position.at ≢ last_place is_reverse input.now }
     requires running { IsSome cache.old.progress }
     ensures own { IsCacheOf dfa.now cache.new }
-    ensures turn { TurnsTo dfa.now input.now (point cache.old work.old.determinized work.old.inserted stand.at stand.id (pair_of stand.best)) cache.new work.new.determinized work.new.inserted result }
+    ensures turn { TurnsTo dfa.now input.now (point cache.old work.old.determinized work.old.inserted position.at position.id (pair_of position.best)) cache.new work.new.determinized work.new.inserted result }
 {
     let haystack = input.haystack();
-    let index = index_at(stand.at, is_down);
+    let index = index_at(position.at, is_reverse);
     let byte = haystack[index];
     let unit = Some(byte);
     let earliest = input.get_earliest();
     cache.search_update(index);
     let seen = match make_turn(
-        dfa, cache, stand.id, unit, stand.at, stand.best, earliest, work,
+        dfa, cache, position.id, unit, position.at, position.best, earliest, work,
     ) {
         Ok(seen) => seen,
         Err(e) => return Err(refusal(e, index)),
     };
-    let next = Stand {
-        at: next_place(stand.at, is_down),
+    let next = Position {
+        at: next_place(position.at, is_reverse),
         id: seen.id,
         best: seen.best,
     };
     match seen.turn {
         Turn::GoesOn => Ok(Turned {
-            stand: next,
+            position: next,
             has_ended: false,
         }),
         Turn::Ends => {
             cache.search_finish(index);
             Ok(Turned {
-                stand: next,
+                position: next,
                 has_ended: true,
             })
         }
@@ -252,40 +252,40 @@ fn last_turn<L: Ledger, M: Ledger>(
     dfa: &DFA,
     cache: &mut Cache,
     input: &Input<'_>,
-    is_down: bool,
-    stand: Stand,
+    is_reverse: bool,
+    position: Position,
     work: &mut Work<L, M>,
 ) -> Result<Turned, MatchError>
     requires own { IsCacheOf dfa.now cache.old }
-    requires down { is_down ≡ dfa.now.nfa.automaton.reverse }
-    requires row { IsRow cache.old stand.id }
-    requires last { stand.at ≡ last_place is_down input.now }
+    requires is_reverse { is_reverse ≡ dfa.now.nfa.automaton.reverse }
+    requires row { IsRow cache.old position.id }
+    requires last { position.at ≡ last_place is_reverse input.now }
     requires begun { input.now.start ≤ input.now.end }
-    requires running { tells is_down input.now ≡ true → IsSome cache.old.progress }
+    requires running { tells is_reverse input.now ≡ true → IsSome cache.old.progress }
     ensures own { IsCacheOf dfa.now cache.new }
-    ensures turn { TurnsTo dfa.now input.now (point cache.old work.old.determinized work.old.inserted stand.at stand.id (pair_of stand.best)) cache.new work.new.determinized work.new.inserted result }
+    ensures turn { TurnsTo dfa.now input.now (point cache.old work.old.determinized work.old.inserted position.at position.id (pair_of position.best)) cache.new work.new.determinized work.new.inserted result }
 {
-    let unit = unit_at(input.haystack(), stand.at, is_down);
+    let unit = unit_at(input.haystack(), position.at, is_reverse);
     let earliest = input.get_earliest();
-    finish_where(cache, stand.at, tells_before(input, is_down));
+    finish_where(cache, position.at, tells_before(input, is_reverse));
     let seen = match make_turn(
-        dfa, cache, stand.id, unit, stand.at, stand.best, earliest, work,
+        dfa, cache, position.id, unit, position.at, position.best, earliest, work,
     ) {
         Ok(seen) => seen,
-        Err(e) => return Err(refusal(e, stand.at)),
+        Err(e) => return Err(refusal(e, position.at)),
     };
     if let Turn::Quits = seen.turn {
         let Some(byte) = unit else { unreachable!() };
-        return Err(MatchError::quit(byte, index_at(stand.at, is_down)));
+        return Err(MatchError::quit(byte, index_at(position.at, is_reverse)));
     }
-    finish_where(cache, stand.at, !is_down);
-    let last = Stand {
-        at: stand.at,
+    finish_where(cache, position.at, !is_reverse);
+    let last = Position {
+        at: position.at,
         id: seen.id,
         best: seen.best,
     };
     Ok(Turned {
-        stand: last,
+        position: last,
         has_ended: true,
     })
 }
@@ -295,22 +295,22 @@ fn turn_at<L: Ledger, M: Ledger>(
     dfa: &DFA,
     cache: &mut Cache,
     input: &Input<'_>,
-    is_down: bool,
-    stand: Stand,
+    is_reverse: bool,
+    position: Position,
     work: &mut Work<L, M>,
 ) -> Result<Turned, MatchError>
     requires own { IsCacheOf dfa.now cache.old }
-    requires down { is_down ≡ dfa.now.nfa.automaton.reverse }
-    requires row { IsRow cache.old stand.id }
-    requires within { IsWithinSpan input.now stand.at }
-    requires running { tells is_down input.now ≡ true → IsSome cache.old.progress }
+    requires is_reverse { is_reverse ≡ dfa.now.nfa.automaton.reverse }
+    requires row { IsRow cache.old position.id }
+    requires within { IsWithinSpan input.now position.at }
+    requires running { tells is_reverse input.now ≡ true → IsSome cache.old.progress }
     ensures own { IsCacheOf dfa.now cache.new }
-    ensures turn { TurnsTo dfa.now input.now (point cache.old work.old.determinized work.old.inserted stand.at stand.id (pair_of stand.best)) cache.new work.new.determinized work.new.inserted result }
+    ensures turn { TurnsTo dfa.now input.now (point cache.old work.old.determinized work.old.inserted position.at position.id (pair_of position.best)) cache.new work.new.determinized work.new.inserted result }
 {
-    if stand.at == last_place(input, is_down) {
-        last_turn(dfa, cache, input, is_down, stand, work)
+    if position.at == last_place(input, is_reverse) {
+        last_turn(dfa, cache, input, is_reverse, position, work)
     } else {
-        byte_turn(dfa, cache, input, is_down, stand, work)
+        byte_turn(dfa, cache, input, is_reverse, position, work)
     }
 }
 
@@ -321,36 +321,36 @@ fn go_on<L: Ledger, M: Ledger>(
     dfa: &DFA,
     cache: &mut Cache,
     input: &Input<'_>,
-    is_down: bool,
+    is_reverse: bool,
     id: LazyStateID,
     work: &mut Work<L, M>,
 ) -> Result<Option<HalfMatch>, MatchError>
     requires own { IsCacheOf dfa.now cache.old }
-    requires down { is_down ≡ dfa.now.nfa.automaton.reverse }
+    requires is_reverse { is_reverse ≡ dfa.now.nfa.automaton.reverse }
     requires row { IsRow cache.old id }
     requires begun { input.now.start ≤ input.now.end }
-    requires running { BeginsFirst is_down input.now cache.old }
+    requires running { BeginsFirst is_reverse input.now cache.old }
     ensures own { IsCacheOf dfa.now cache.new }
     ensures runs { (s : StateValue) → HeldAt cache.old id s → RunsOn dfa.now input.now s
-        (point cache.old work.old.determinized work.old.inserted (first_place is_down input.now.start input.now.end) id None) cache.new work.new.determinized work.new.inserted result }
+        (point cache.old work.old.determinized work.old.inserted (first_place is_reverse input.now.start input.now.end) id None) cache.new work.new.determinized work.new.inserted result }
 {
     dfa.is_made();
     see_bytes(input.haystack());
-    let first = Stand {
-        at: first_place(input, is_down),
+    let first = Position {
+        at: first_place(input, is_reverse),
         id,
         best: None,
     };
-    let mut stand = run_known(dfa, cache, input, is_down, first);
+    let mut position = run_known(dfa, cache, input, is_reverse, first);
     loop {
-        let turned = match turn_at(dfa, cache, input, is_down, stand, work) {
+        let turned = match turn_at(dfa, cache, input, is_reverse, position, work) {
             Ok(turned) => turned,
             Err(e) => return Err(e),
         };
         if turned.has_ended {
-            return Ok(turned.stand.best);
+            return Ok(turned.position.best);
         }
-        stand = run_known(dfa, cache, input, is_down, turned.stand);
+        position = run_known(dfa, cache, input, is_reverse, turned.position);
     }
 }
 
@@ -359,15 +359,15 @@ pub(crate) fn start_of_pass<L: Ledger, M: Ledger>(
     dfa: &DFA,
     cache: &mut Cache,
     input: &Input<'_>,
-    is_down: bool,
+    is_reverse: bool,
     work: &mut Work<L, M>,
 ) -> Result<LazyStateID, MatchError>
     requires own { IsCacheOf dfa.now cache.old }
-    requires down { is_down ≡ dfa.now.nfa.automaton.reverse }
+    requires is_reverse { is_reverse ≡ dfa.now.nfa.automaton.reverse }
     ensures own { IsCacheOf dfa.now cache.new }
     ensures start { StartsPass dfa.now input.now cache.old cache.new work.old.determinized work.new.determinized work.old.inserted work.new.inserted result }
 {
-    if is_down {
+    if is_reverse {
         dfa.start_state_reverse(cache, input, work)
     } else {
         dfa.start_state_forward(cache, input, work)
@@ -375,26 +375,26 @@ pub(crate) fn start_of_pass<L: Ledger, M: Ledger>(
 }
 
 /// Tells a cache where a pass begins.
-fn begin_at_first(cache: &mut Cache, input: &Input<'_>, is_down: bool)
+fn begin_at_first(cache: &mut Cache, input: &Input<'_>, is_reverse: bool)
     ensures moved { IsMoved cache.old cache.new }
-    ensures told { told_of cache.new ≡ told_begun is_down input.now (told_of cache.old) }
-    ensures running { BeginsFirst is_down input.now cache.new }
+    ensures told { told_of cache.new ≡ told_begun is_reverse input.now (told_of cache.old) }
+    ensures running { BeginsFirst is_reverse input.now cache.new }
 {
-    if !tells(input, is_down) {
+    if !tells(input, is_reverse) {
         return;
     }
-    cache.search_start(index_at(first_place(input, is_down), is_down));
+    cache.search_start(index_at(first_place(input, is_reverse), is_reverse));
 }
 
 /// Tells it that one begins there and reads nothing.
-fn end_at_first(cache: &mut Cache, input: &Input<'_>, is_down: bool)
+fn end_at_first(cache: &mut Cache, input: &Input<'_>, is_reverse: bool)
     ensures moved { IsMoved cache.old cache.new }
-    ensures told { told_of cache.new ≡ told_behind is_down (span_len input.now) (told_begun is_down input.now (told_of cache.old)) 0 }
+    ensures told { told_of cache.new ≡ told_behind is_reverse (span_len input.now) (told_begun is_reverse input.now (told_of cache.old)) 0 }
 {
-    if !tells(input, is_down) {
+    if !tells(input, is_reverse) {
         return;
     }
-    let index = index_at(first_place(input, is_down), is_down);
+    let index = index_at(first_place(input, is_reverse), is_reverse);
     cache.search_start(index);
     cache.search_finish(index);
 }
@@ -412,15 +412,15 @@ pub(crate) fn pass<L: Ledger, M: Ledger>(
     ensures pass { MakesPass dfa.now input.now cache.old cache.new work.old.determinized work.new.determinized work.old.inserted work.new.inserted result }
 {
     dfa.is_made();
-    let is_down = dfa.get_nfa().is_reverse();
-    let id = match start_of_pass(dfa, cache, input, is_down, work) {
+    let is_reverse = dfa.get_nfa().is_reverse();
+    let id = match start_of_pass(dfa, cache, input, is_reverse, work) {
         Ok(id) => id,
         Err(e) => return Err(e),
     };
     if id.is_dead() {
-        end_at_first(cache, input, is_down);
+        end_at_first(cache, input, is_reverse);
         return Ok(None);
     }
-    begin_at_first(cache, input, is_down);
-    go_on(dfa, cache, input, is_down, id, work)
+    begin_at_first(cache, input, is_reverse);
+    go_on(dfa, cache, input, is_reverse, id, work)
 }

@@ -62,7 +62,7 @@ pub fn scans_depend_on_their_reach()
     ensures few { (r : Reader) (q : Search) → scan_len r q ≤ suc (q.end - q.start) }
 {}
 
-/// A half search upwards that finds a match or none has a place up to which it read: behind what it found, one past the
+/// A half search forward that finds a match or none has a place up to which it read: behind what it found, one past the
 /// byte behind the span at most. From the byte before the span to there stands no quit byte, over each haystack with the same
 /// bytes there it finds the same, and under leftmost-first it found the first end for each reading of looks that agrees with
 /// the one by ASCII bytes up to there.
@@ -71,7 +71,7 @@ pub fn scans_reach_a_place()
         scan r q ≡ found o → HasReach r q o }
 {}
 
-/// One downwards that finds a match or none has a place down to which it read, from the byte behind the span on: not above
+/// One in reverse that finds a match or none has a place down to which it read, from the byte behind the span on: not above
 /// what it found, and not below the byte before the span. Between them stands no quit byte, and over each haystack with the
 /// same bytes there it finds the same.
 pub fn scans_back_reach_a_place()

@@ -27,9 +27,9 @@ struct Walked {
     pauses: bool,
 }
 
-/// Goes on upwards byte by byte over known steps while no state has a tag, up to a limit or the state to stop at.
+/// Goes on forward byte by byte over known steps while no state has a tag, up to a limit or the state to stop at.
 #[inline(always)]
-fn walk_up(
+fn walk_forward(
     dfa: &DFA,
     cache: &Cache,
     haystack: &[u8],
@@ -39,7 +39,7 @@ fn walk_up(
     stop: LazyStateID,
 ) -> Walked
     requires own { IsCacheOf dfa.now cache.now }
-    requires up { dfa.now.nfa.automaton.reverse ≡ false }
+    requires is_forward { dfa.now.nfa.automaton.reverse ≡ false }
     requires row { IsRow cache.now id }
     requires untagged { id < tag }
     requires fits { from ≤ limit }
@@ -80,8 +80,8 @@ fn walk_up(
     }
 }
 
-/// Goes on upwards over known steps while no state has a tag, past bytes that leave the state to stop at as it is.
-fn skip_up(
+/// Goes on forward over known steps while no state has a tag, past bytes that leave the state to stop at as it is.
+fn skip_forward(
     dfa: &DFA,
     cache: &mut Cache,
     haystack: &[u8],
@@ -90,7 +90,7 @@ fn skip_up(
     end: usize,
 ) -> Moved
     requires own { IsCacheOf dfa.now cache.old }
-    requires up { dfa.now.nfa.automaton.reverse ≡ false }
+    requires is_forward { dfa.now.nfa.automaton.reverse ≡ false }
     requires row { IsRow cache.old id }
     requires untagged { id < tag }
     requires fits { from ≤ end }
@@ -107,7 +107,7 @@ fn skip_up(
     let mut sid = id;
     loop {
         let limit = cache.stretch_end(at, end);
-        let walked = walk_up(dfa, cache, haystack, sid, at, limit, cache.stop());
+        let walked = walk_forward(dfa, cache, haystack, sid, at, limit, cache.stop());
         sid = walked.id;
         if !walked.pauses {
             return Moved {
@@ -119,9 +119,9 @@ fn skip_up(
     }
 }
 
-/// Goes on upwards over known steps while no state has a tag; a search that isn't anchored passes over bytes.
+/// Goes on forward over known steps while no state has a tag; a search that isn't anchored passes over bytes.
 #[inline(always)]
-pub(crate) fn run_up(
+pub(crate) fn run_forward(
     dfa: &DFA,
     cache: &mut Cache,
     haystack: &[u8],
@@ -131,7 +131,7 @@ pub(crate) fn run_up(
     is_anchored: bool,
 ) -> Moved
     requires own { IsCacheOf dfa.now cache.old }
-    requires up { dfa.now.nfa.automaton.reverse ≡ false }
+    requires is_forward { dfa.now.nfa.automaton.reverse ≡ false }
     requires row { IsRow cache.old id }
     requires untagged { id < tag }
     requires fits { from ≤ end }
@@ -144,17 +144,17 @@ pub(crate) fn run_up(
     ensures goes { (m n : ℕ) (best : Option (ℕ × ℕ)) → GoesTo dfa.now haystack.now (point cache.old m n from id best) (point cache.old m n result.at result.id best) (result.at - from) }
 {
     if !is_anchored {
-        return skip_up(dfa, cache, haystack, id, from, end);
+        return skip_forward(dfa, cache, haystack, id, from, end);
     }
-    let walked = walk_up(dfa, cache, haystack, id, from, end, LazyStateID::unknown());
+    let walked = walk_forward(dfa, cache, haystack, id, from, end, LazyStateID::unknown());
     Moved {
         at: walked.at,
         id: walked.id,
     }
 }
 
-/// Goes on downwards over known steps while no state has a tag.
-pub(crate) fn run_down(
+/// Goes on in reverse over known steps while no state has a tag.
+pub(crate) fn run_reverse(
     dfa: &DFA,
     cache: &Cache,
     haystack: &[u8],
@@ -163,7 +163,7 @@ pub(crate) fn run_down(
     end: usize,
 ) -> Moved
     requires own { IsCacheOf dfa.now cache.now }
-    requires down { dfa.now.nfa.automaton.reverse ≡ true }
+    requires is_reverse { dfa.now.nfa.automaton.reverse ≡ true }
     requires row { IsRow cache.now id }
     requires untagged { id < tag }
     requires fits { end ≤ from }

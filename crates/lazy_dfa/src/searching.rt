@@ -33,8 +33,8 @@ fn same_input<'h>(input: &Input<'h>) -> Input<'h>
     same
 }
 
-/// Whether it reads downwards.
-pub(crate) fn is_down(dfa: &DFA) -> bool
+/// Whether it reads in reverse.
+pub(crate) fn is_reverse(dfa: &DFA) -> bool
     ensures { result ≡ (reader dfa.now).automaton.reverse }
 {
     dfa.get_nfa().is_reverse()
@@ -63,7 +63,7 @@ fn search<L: Ledger, M: Ledger>(
 {
     dfa.is_made();
     see_bytes(input.haystack());
-    let is_down = is_down(dfa);
+    let is_reverse = is_reverse(dfa);
     let between_characters = is_between_characters(dfa);
     let mut rest = same_input(input);
     while !rest.is_done() {
@@ -83,7 +83,7 @@ fn search<L: Ledger, M: Ledger>(
         if rest.get_anchored().is_anchored() {
             return Ok(None);
         }
-        if is_down {
+        if is_reverse {
             if rest.end() == 0 {
                 return Ok(None);
             }
@@ -98,7 +98,7 @@ fn search<L: Ledger, M: Ledger>(
 
 impl DFA {
     /// The end of the match in a span that the kind of match prefers, or none, as `DFA::try_search_fwd`. The automaton
-    /// reads upwards.
+    /// reads forward.
     ///
     /// The answer is that of [`scan`](crate::scan_laws) over the automaton and the input, whatever the cache holds and
     /// whatever was done with it before. Else the search is refused: it gave up where a state has no room and no clear is
@@ -110,7 +110,7 @@ impl DFA {
     ///
     /// Where nothing was cleared, the cache knows how far the search came, after a refusal too. At a quit byte of the span it
     /// has ended. Where it gave up at a byte, or memory lacked, it still goes on and is at that byte; a pass that can't start
-    /// tells nothing. At the unit behind the span a search upwards still goes on, and one downwards ended at the span's start.
+    /// tells nothing. At the unit behind the span a search forward still goes on, and one in reverse ended at the span's start.
     /// Where the cache was cleared, nothing counts that was searched before the last clear, and the search that goes on began
     /// at the byte where it was then.
     ///
@@ -124,7 +124,7 @@ impl DFA {
         work: &mut Work<L, M>,
     ) -> Result<Option<HalfMatch>, MatchError>
         requires own { IsCacheOf self.now cache.old }
-        requires up { self.now.nfa.automaton.reverse ≡ false }
+        requires is_forward { self.now.nfa.automaton.reverse ≡ false }
         ensures own { IsCacheOf self.now cache.new }
         ensures answer { Answers self.now cache.new input.now result }
         ensures sure { clears_of self.now.options ≡ None → is_supported (reader self.now).starts_for_each_pattern input.now.anchored ≡ true →
@@ -147,7 +147,7 @@ impl DFA {
     }
 
     /// The start of the match in a span that the kind of match prefers, or none, as `DFA::try_search_rev`. The automaton
-    /// reads downwards, from the span's end. All else is as [`try_search_fwd`](DFA::try_search_fwd) has it; a match, or none,
+    /// reads in reverse, from the span's end. All else is as [`try_search_fwd`](DFA::try_search_fwd) has it; a match, or none,
     /// comes with a place down to which it was looked for, from the byte behind the span on.
     pub fn try_search_rev<L: Ledger, M: Ledger>(
         &self,
@@ -156,7 +156,7 @@ impl DFA {
         work: &mut Work<L, M>,
     ) -> Result<Option<HalfMatch>, MatchError>
         requires own { IsCacheOf self.now cache.old }
-        requires down { self.now.nfa.automaton.reverse ≡ true }
+        requires is_reverse { self.now.nfa.automaton.reverse ≡ true }
         ensures own { IsCacheOf self.now cache.new }
         ensures answer { Answers self.now cache.new input.now result }
         ensures sure { clears_of self.now.options ≡ None → is_supported (reader self.now).starts_for_each_pattern input.now.anchored ≡ true →

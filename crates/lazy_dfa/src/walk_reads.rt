@@ -6,17 +6,17 @@ ghost use Rattle.lazy_dfa.specs.Dfas.{reader};
 ghost use Rattle.lazy_dfa.specs.Ids.{has_tag, match_tag};
 ghost use Rattle.lazy_dfa.specs.Points.{point};
 ghost use Rattle.lazy_dfa.specs.SearchAnswers.{half_of, pair_of};
-ghost use Rattle.lazy_dfa.specs.Stands.{IsWithinSpan, gave_up_at};
+ghost use Rattle.lazy_dfa.specs.PassPlaces.{IsWithinSpan, gave_up_at};
 ghost use Rattle.lazy_dfa.specs.Walks.{StopsAt, value_past};
 ghost use Rattle.lazy_dfa.specs.WalkAnswers.{ReadsOn, value_before, lists_more};
 ghost use Rattle.lazy_dfa.specs.WalkTurns.{is_over, stopped, StepsAt, ReadsTo};
-ghost use Rattle.lazy_dfa.specs.declared.overlapping_state.Walk.TheVariants.{Stands};
+ghost use Rattle.lazy_dfa.specs.declared.overlapping_state.Walk.TheVariants.{Stopped};
 
 use crate::dfa::{Cache, DFA};
 use crate::lazy_id::LazyStateID;
 use crate::overlapping_state::{OverlappingState, Stop, Walk};
 use crate::passing::{
-    Stand, finish_where, index_at, last_place, next_place, refusal, run, unit_at,
+    Position, finish_where, index_at, last_place, next_place, refusal, run, unit_at,
 };
 use crate::runs::see_bytes;
 use crate::searching::is_between_characters;
@@ -29,19 +29,19 @@ use std::sync::ledger::Ledger;
 /// none.
 #[derive(Clone, Copy)]
 pub(crate) struct Read {
-    stand: Stand,
+    position: Position,
     is_over: bool,
     tells: bool,
 }
 
 /// How far a call came that is to read at a place: the index of the next byte, or the last place of the span.
-pub(crate) fn progress_at(input: &Input<'_>, is_down: bool, at: usize) -> usize
-    ensures { result ≡ gave_up_at is_down input.now at }
+pub(crate) fn progress_at(input: &Input<'_>, is_reverse: bool, at: usize) -> usize
+    ensures { result ≡ gave_up_at is_reverse input.now at }
 {
-    if at == last_place(input, is_down) {
+    if at == last_place(input, is_reverse) {
         return at;
     }
-    index_at(at, is_down)
+    index_at(at, is_reverse)
 }
 
 /// Whether an end at a place counts.
@@ -80,14 +80,14 @@ pub(crate) fn tell(
     requires stops { StopsAt dfa.now cache.now input.now (record { id = id; index = index; at = at }) }
     requires more { lists_more (reader dfa.now) input.now (record { id = id; index = index; at = at }) ≡ true }
     ensures found { result.found ≡ half_of (Some (at, slice_index (value_past (reader dfa.now) input.now at).matches index)) }
-    ensures walk { result.walk ≡ Stands (record { id = id; index = index + 1; at = at }) }
+    ensures walk { result.walk ≡ Stopped (record { id = id; index = index + 1; at = at }) }
 {
     // there are no more patterns than a `usize` counts
     let _len = dfa.match_len(cache, id);
     let pattern = dfa.match_pattern(cache, id, index);
     OverlappingState {
         found: Some(HalfMatch::new(pattern, at)),
-        walk: Walk::Stands(Stop {
+        walk: Walk::Stopped(Stop {
             id,
             index: index + 1,
             at,
@@ -114,18 +114,18 @@ fn is_over(turn: Turn, tells: bool, is_last: bool) -> bool
 }
 
 /// The walk behind the last unit that a call reads.
-fn stopped(stand: Stand, tells: bool) -> OverlappingState
-    ensures { result ≡ stopped tells stand.id stand.at stand.best }
+fn stopped(position: Position, tells: bool) -> OverlappingState
+    ensures { result ≡ stopped tells position.id position.at position.best }
 {
     if !tells {
         return OverlappingState::ended();
     }
     OverlappingState {
-        found: stand.best,
-        walk: Walk::Stands(Stop {
-            id: stand.id,
+        found: position.best,
+        walk: Walk::Stopped(Stop {
+            id: position.id,
             index: 1,
-            at: stand.at,
+            at: position.at,
         }),
     }
 }
@@ -137,33 +137,33 @@ fn step_at<L: Ledger, M: Ledger>(
     dfa: &DFA,
     cache: &mut Cache,
     input: &Input<'_>,
-    is_down: bool,
-    stand: Stand,
+    is_reverse: bool,
+    position: Position,
     work: &mut Work<L, M>,
 ) -> Result<Seen, MatchError>
     requires own { IsCacheOf dfa.now cache.old }
-    requires down { is_down ≡ dfa.now.nfa.automaton.reverse }
-    requires row { IsRow cache.old stand.id }
+    requires is_reverse { is_reverse ≡ dfa.now.nfa.automaton.reverse }
+    requires row { IsRow cache.old position.id }
     requires running { IsSome cache.old.progress }
     ensures own { IsCacheOf dfa.now cache.new }
-    ensures step { StepsAt dfa.now input.now (point cache.old work.old.determinized work.old.inserted stand.at stand.id (pair_of stand.best)) cache.new work.new.determinized work.new.inserted result }
+    ensures step { StepsAt dfa.now input.now (point cache.old work.old.determinized work.old.inserted position.at position.id (pair_of position.best)) cache.new work.new.determinized work.new.inserted result }
 {
-    let place = progress_at(input, is_down, stand.at);
-    let unit = unit_at(input.haystack(), stand.at, is_down);
+    let place = progress_at(input, is_reverse, position.at);
+    let unit = unit_at(input.haystack(), position.at, is_reverse);
     cache.search_update(place);
     let seen = match make_turn(
-        dfa, cache, stand.id, unit, stand.at, stand.best, false, work,
+        dfa, cache, position.id, unit, position.at, position.best, false, work,
     ) {
         Ok(seen) => seen,
         Err(e) => {
-            finish_where(cache, place, stand.at == last_place(input, is_down));
+            finish_where(cache, place, position.at == last_place(input, is_reverse));
             return Err(refusal(e, place));
         }
     };
     if let Turn::Quits = seen.turn {
         let Some(byte) = unit else { unreachable!() };
         cache.search_finish(place);
-        return Err(MatchError::quit(byte, index_at(stand.at, is_down)));
+        return Err(MatchError::quit(byte, index_at(position.at, is_reverse)));
     }
     Ok(seen)
 }
@@ -173,23 +173,23 @@ fn read_at<L: Ledger, M: Ledger>(
     dfa: &DFA,
     cache: &mut Cache,
     input: &Input<'_>,
-    is_down: bool,
-    stand: Stand,
+    is_reverse: bool,
+    position: Position,
     work: &mut Work<L, M>,
 ) -> Result<Read, MatchError>
     requires own { IsCacheOf dfa.now cache.old }
-    requires down { is_down ≡ dfa.now.nfa.automaton.reverse }
-    requires row { IsRow cache.old stand.id }
-    requires within { IsWithinSpan input.now stand.at }
+    requires is_reverse { is_reverse ≡ dfa.now.nfa.automaton.reverse }
+    requires row { IsRow cache.old position.id }
+    requires within { IsWithinSpan input.now position.at }
     requires running { IsSome cache.old.progress }
     ensures own { IsCacheOf dfa.now cache.new }
-    ensures read { ReadsTo dfa.now input.now (point cache.old work.old.determinized work.old.inserted stand.at stand.id (pair_of stand.best)) cache.new work.new.determinized work.new.inserted result }
+    ensures read { ReadsTo dfa.now input.now (point cache.old work.old.determinized work.old.inserted position.at position.id (pair_of position.best)) cache.new work.new.determinized work.new.inserted result }
 {
-    let at = stand.at;
+    let at = position.at;
     // a haystack is shorter than the greatest place, so there is a place behind each byte
     let _len = input.haystack().len();
-    let is_last = at == last_place(input, is_down);
-    let seen = match step_at(dfa, cache, input, is_down, stand, work) {
+    let is_last = at == last_place(input, is_reverse);
+    let seen = match step_at(dfa, cache, input, is_reverse, position, work) {
         Ok(seen) => seen,
         Err(e) => return Err(e),
     };
@@ -197,25 +197,25 @@ fn read_at<L: Ledger, M: Ledger>(
     let turn = seen.turn;
     let tells = tells_at(dfa, input, id, at);
     if is_over(turn, tells, is_last) {
-        cache.search_finish(progress_at(input, is_down, at));
-        let here = Stand {
+        cache.search_finish(progress_at(input, is_reverse, at));
+        let here = Position {
             at,
             id,
             best: seen.best,
         };
         return Ok(Read {
-            stand: here,
+            position: here,
             is_over: true,
             tells,
         });
     }
-    let next = Stand {
-        at: next_place(at, is_down),
+    let next = Position {
+        at: next_place(at, is_reverse),
         id,
         best: seen.best,
     };
     Ok(Read {
-        stand: next,
+        position: next,
         is_over: false,
         tells,
     })
@@ -226,12 +226,12 @@ pub(crate) fn read_on<L: Ledger, M: Ledger>(
     dfa: &DFA,
     cache: &mut Cache,
     input: &Input<'_>,
-    is_down: bool,
-    first: Stand,
+    is_reverse: bool,
+    first: Position,
     work: &mut Work<L, M>,
 ) -> Result<OverlappingState, MatchError>
     requires own { IsCacheOf dfa.now cache.old }
-    requires down { is_down ≡ dfa.now.nfa.automaton.reverse }
+    requires is_reverse { is_reverse ≡ dfa.now.nfa.automaton.reverse }
     requires row { IsRow cache.old first.id }
     requires within { IsWithinSpan input.now first.at }
     requires state { HeldAt cache.old first.id (value_before (reader dfa.now) input.now first.at) }
@@ -240,16 +240,16 @@ pub(crate) fn read_on<L: Ledger, M: Ledger>(
 {
     dfa.is_made();
     see_bytes(input.haystack());
-    cache.search_start(progress_at(input, is_down, first.at));
-    let mut stand = run(dfa, cache, input, is_down, first);
+    cache.search_start(progress_at(input, is_reverse, first.at));
+    let mut position = run(dfa, cache, input, is_reverse, first);
     loop {
-        let read = match read_at(dfa, cache, input, is_down, stand, work) {
+        let read = match read_at(dfa, cache, input, is_reverse, position, work) {
             Ok(read) => read,
             Err(e) => return Err(e),
         };
         if read.is_over {
-            return Ok(stopped(read.stand, read.tells));
+            return Ok(stopped(read.position, read.tells));
         }
-        stand = run(dfa, cache, input, is_down, read.stand);
+        position = run(dfa, cache, input, is_reverse, read.position);
     }
 }

@@ -67,7 +67,7 @@ fn which<L: Ledger, M: Ledger>(
 }
 
 impl DFA {
-    /// Adds the patterns of all ends in a span to a set, as `DFA::try_which_overlapping_matches`. The automaton reads upwards.
+    /// Adds the patterns of all ends in a span to a set, as `DFA::try_which_overlapping_matches`. The automaton reads forward.
     ///
     /// The ends are those that a walk tells. Patterns at or above the set's capacity are skipped. Behind an end at which the set is
     /// full, and behind the first one where the earliest end is enough, no more are looked for. It is refused as the walk is; the
@@ -80,7 +80,7 @@ impl DFA {
         work: &mut Work<L, M>,
     ) -> Result<(), MatchError>
         requires own { IsCacheOf self.now cache.old }
-        requires up { self.now.nfa.automaton.reverse ≡ false }
+        requires is_forward { self.now.nfa.automaton.reverse ≡ false }
         ensures own { IsCacheOf self.now cache.new }
         ensures answer { AnswersWhich self.now cache.new input.now patterns.old patterns.new result }
         ensures sure { clears_of self.now.options ≡ None → (whole_rest (reader self.now) input.now).refusal ≡ None → IfErr result (λ e. e ≡ NoMemory) }

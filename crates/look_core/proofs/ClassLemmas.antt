@@ -22,9 +22,9 @@ abbrev pub LieAlike : ℕ → ℕ → ℕ × ℕ → Type 0
 LieAlike a b r = IsIn r a ↔ IsIn r b
 
 -- ---- one class, so alike in each range
-alike_up : (a b : ℕ) (r : ℕ × ℕ) → a ≤ b → HoldsAllOrNone a b r → LieAlike a b r
-alike_up a b r l (inl all) = (λ i. all b l (omega arith), λ i. all a (omega arith) l)
-alike_up a b r l (inr none) = (λ i. absurd (none a (omega arith) l i), λ i. absurd (none b l (omega arith) i))
+alike_forward : (a b : ℕ) (r : ℕ × ℕ) → a ≤ b → HoldsAllOrNone a b r → LieAlike a b r
+alike_forward a b r l (inl all) = (λ i. all b l (omega arith), λ i. all a (omega arith) l)
+alike_forward a b r l (inr none) = (λ i. absurd (none a (omega arith) l i), λ i. absurd (none b l (omega arith) i))
 
 alike_turns : (a b : ℕ) (r : ℕ × ℕ) → LieAlike a b r → LieAlike b a r
 alike_turns a b r h = (h.1, h.0)
@@ -32,9 +32,9 @@ alike_turns a b r h = (h.1, h.0)
 pub same_class_alike : (m : List Bool) (rs : List (ℕ × ℕ)) (a b : ℕ) → IsUnmarked m → a < length m → b < length m →
     marks_below (recorded m rs) a ≡ marks_below (recorded m rs) b → All (LieAlike a b) rs
 same_class_alike m rs a b u k l e = elim (cases_lt b a) [
-  | inl p ↦ All-weaker (HoldsAllOrNone b a) (LieAlike a b) (λ r h. alike_turns b a r (alike_up b a r (omega arith) h)) rs
+  | inl p ↦ All-weaker (HoldsAllOrNone b a) (LieAlike a b) (λ r h. alike_turns b a r (alike_forward b a r (omega arith) h)) rs
       (same_class_tells m rs b a u (omega arith) k (sym e))
-  | inr p ↦ All-weaker (HoldsAllOrNone a b) (LieAlike a b) (λ r h. alike_up a b r p h) rs (same_class_tells m rs a b u p l e)
+  | inr p ↦ All-weaker (HoldsAllOrNone a b) (LieAlike a b) (λ r h. alike_forward a b r p h) rs (same_class_tells m rs a b u p l e)
 ]
 
 -- ---- the ranges of one look among those of many

@@ -67,25 +67,25 @@ read_led node (Some (b, j)) r h = byte_led node b r h
 
 -- what is read at a place is followed by the next place, or nothing is read
 abbrev pub IsBeside : Bool → Text → ℕ → Option (ℕ × ℕ) → Type 0
-IsBeside down t i None = Unit {0}
+IsBeside is_reverse t i None = Unit {0}
 IsBeside false t i (Some (b, j)) = (j ≡ suc i) × (i < t.end)
 IsBeside true t i (Some (b, j)) = (i ≡ suc j) × (t.start ≤ j)
 
-beside_up : (t : Text) (i : ℕ) (o : Option ℕ) → i < t.end → IsBeside false t i (with_place (suc i) o)
-beside_up t i None h = tt
-beside_up t i (Some b) h = (refl, h)
+beside_forward : (t : Text) (i : ℕ) (o : Option ℕ) → i < t.end → IsBeside false t i (with_place (suc i) o)
+beside_forward t i None h = tt
+beside_forward t i (Some b) h = (refl, h)
 
-beside_down : (t : Text) (i : ℕ) (o : Option ℕ) → t.start ≤ i → IsBeside true t (suc i) (with_place i o)
-beside_down t i None h = tt
-beside_down t i (Some b) h = (refl, h)
+beside_reverse : (t : Text) (i : ℕ) (o : Option ℕ) → t.start ≤ i → IsBeside true t (suc i) (with_place i o)
+beside_reverse t i None h = tt
+beside_reverse t i (Some b) h = (refl, h)
 
-pub reads_beside : (down : Bool) (t : Text) (i : ℕ) → IsBeside down t i (reads down t i)
-reads_beside false t i = ⊎_elim (λ (e : nat_lt i t.end ≡ true). rw e (beside_up t i (byte_at t.haystack i) ((Decides-ltb i t.end).0 e))) (λ (e : nat_lt i t.end ≡ false). rw e tt) (cases_Bool (nat_lt i t.end))
+pub reads_beside : (is_reverse : Bool) (t : Text) (i : ℕ) → IsBeside is_reverse t i (reads is_reverse t i)
+reads_beside false t i = ⊎_elim (λ (e : nat_lt i t.end ≡ true). rw e (beside_forward t i (byte_at t.haystack i) ((Decides-ltb i t.end).0 e))) (λ (e : nat_lt i t.end ≡ false). rw e tt) (cases_Bool (nat_lt i t.end))
 reads_beside true t zero = tt
-reads_beside true t (suc i) = ⊎_elim (λ told. rw told.0 (beside_down t i (byte_at t.haystack i) told.1)) (λ told. rw told.0 tt) (leb_tells t.start i)
+reads_beside true t (suc i) = ⊎_elim (λ told. rw told.0 (beside_reverse t i (byte_at t.haystack i) told.1)) (λ told. rw told.0 tt) (leb_tells t.start i)
 
-pub behind_inside : (down : Bool) (t : Text) (i : ℕ) (read : Option (ℕ × ℕ)) → IsBeside down t i read → i ≤ t.end → place_behind i read ≤ t.end
-behind_inside down t i None beside h = h
+pub behind_inside : (is_reverse : Bool) (t : Text) (i : ℕ) (read : Option (ℕ × ℕ)) → IsBeside is_reverse t i read → i ≤ t.end → place_behind i read ≤ t.end
+behind_inside is_reverse t i None beside h = h
 behind_inside false t i (Some (b, j)) beside h = omega (arith, beside.0, beside.1)
 behind_inside true t i (Some (b, j)) beside h = omega (arith, beside.0, h)
 

@@ -26,33 +26,33 @@ pairs_more n (suc d) (suc e) h = let l : pairs n d ≤ pairs n e = pairs_more n 
 
 -- ---- places
 
-place_zero : (down : Bool) (i : ℕ) → place_of down i 0 ≡ i
+place_zero : (is_reverse : Bool) (i : ℕ) → place_of is_reverse i 0 ≡ i
 place_zero false i = omega arith
 place_zero true i = omega arith
 
-place_one : (down : Bool) (t : Text) (i k j : ℕ) → k ≤ bytes_left down t i → j ≤ bytes_left down t i → place_of down i k ≡ place_of down i j → k ≡ j
+place_one : (is_reverse : Bool) (t : Text) (i k j : ℕ) → k ≤ bytes_left is_reverse t i → j ≤ bytes_left is_reverse t i → place_of is_reverse i k ≡ place_of is_reverse i j → k ≡ j
 place_one false t i k j a b e = omega (arith, e)
 place_one true t i k j a b e = omega (arith, a, b, e)
 
-left_within : (down : Bool) (t : Text) (i : ℕ) → i ≤ t.end → bytes_left down t i ≤ t.end
+left_within : (is_reverse : Bool) (t : Text) (i : ℕ) → i ≤ t.end → bytes_left is_reverse t i ≤ t.end
 left_within false t i h = omega (arith, h)
 left_within true t i h = omega (arith, h)
 
-down_stops : (t : Text) (j : ℕ) → j ≤ t.start → reads true t j ≡ None
-down_stops t zero h = refl
-down_stops t (suc j) h = ⊎_elim (λ told. absurd (omega (arith, told.1, h))) (λ told. rw told.0 refl) (leb_tells t.start j)
+reverse_stops : (t : Text) (j : ℕ) → j ≤ t.start → reads true t j ≡ None
+reverse_stops t zero h = refl
+reverse_stops t (suc j) h = ⊎_elim (λ told. absurd (omega (arith, told.1, h))) (λ told. rw told.0 refl) (leb_tells t.start j)
 
 -- where no bytes are left nothing is read
-reads_none : (down : Bool) (t : Text) (i k : ℕ) → bytes_left down t i ≤ k → reads down t (place_of down i k) ≡ None
+reads_none : (is_reverse : Bool) (t : Text) (i k : ℕ) → bytes_left is_reverse t i ≤ k → reads is_reverse t (place_of is_reverse i k) ≡ None
 reads_none false t i k h = ⊎_elim
     (λ (e : nat_lt (i + k) t.end ≡ true). let l : i + k < t.end = (Decides-ltb (i + k) t.end).0 e in absurd (omega (arith, l, h)))
     (λ (e : nat_lt (i + k) t.end ≡ false). rw e refl) (cases_Bool (nat_lt (i + k) t.end))
-reads_none true t i k h = down_stops t (i - k) (omega (arith, h))
+reads_none true t i k h = reverse_stops t (i - k) (omega (arith, h))
 
 -- what is read moves to the next place
-byte_moves : (down : Bool) (t : Text) (i k : ℕ) (node : Node) (read : Option (ℕ × ℕ)) → IsBeside down t (place_of down i k) read →
-    map {B = ℕ × ℕ} (λ q. (place_behind (place_of down i k) read, q)) (on_read node read) ≡ map {B = ℕ × ℕ} (λ q. (place_of down i (suc k), q)) (on_read node read)
-byte_moves down t i k node None beside = refl
+byte_moves : (is_reverse : Bool) (t : Text) (i k : ℕ) (node : Node) (read : Option (ℕ × ℕ)) → IsBeside is_reverse t (place_of is_reverse i k) read →
+    map {B = ℕ × ℕ} (λ q. (place_behind (place_of is_reverse i k) read, q)) (on_read node read) ≡ map {B = ℕ × ℕ} (λ q. (place_of is_reverse i (suc k), q)) (on_read node read)
+byte_moves is_reverse t i k node None beside = refl
 byte_moves false t i k node (Some (b, j)) beside = let e : j ≡ i + suc k = omega (arith, beside.0) in ap (λ m. map {B = ℕ × ℕ} (λ q. (m, q)) (on_read node (Some (b, j)))) e
 byte_moves true t i k node (Some (b, j)) beside = let e : j ≡ i - suc k = omega (arith, beside.0) in ap (λ m. map {B = ℕ × ℕ} (λ q. (m, q)) (on_read node (Some (b, j)))) e
 

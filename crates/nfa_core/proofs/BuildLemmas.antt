@@ -12,8 +12,8 @@ use Rattle.nfa_core.specs.Nfa.{Node, byte_range, look_node, fail_node, leads_to}
 use Rattle.nfa_core.specs.NfaValue.{Nfa, IsNodeOf, IsSound}
 use Rattle.nfa_core.specs.NfaOf.{nfa_of}
 use Rattle.look_core.specs.Terminators.{Terminator}
-use Rattle.nfa_core.specs.BuilderStates.{Part, empty_part, range_part, sparse_part, look_part, capture_start_part, capture_end_part, union_part, union_reverse_part, fail_part, match_part, part_at, Assembly, AscendsFrom, pattern_count}
-use Rattle.nfa_core.specs.InOrder.{IsPartOf, IsInOrder}
+use Rattle.nfa_core.specs.BuilderStates.{DraftNode, empty_draft, range_draft, sparse_draft, look_draft, capture_start_draft, capture_end_draft, union_draft, union_reverse_draft, fail_draft, match_draft, draft_at, Assembly, AscendsFrom, pattern_count}
+use Rattle.nfa_core.specs.InOrder.{IsDraftOf, IsInOrder}
 use Rattle.nfa_core.specs.CanBuild.{CanBuild, names_of}
 use Rattle.nfa_core.specs.Renaming.{stands_for, past, kept, new_name, renamed, ways_node, ranges_node, automaton_of}
 use Rattle.nfa_core.specs.Pasts.{IsReached, IsNaming, name_in}
@@ -54,40 +54,40 @@ module _ (f g : ℕ → ℕ) (n : ℕ) (agree : (q : ℕ) → q < n → f q ≡ 
       ∙ ap (λ ys. (r.0, r.1, g r.2) ∷ ys) (ranges_same rs (All-tail (λ q. q < n) r.2 (map range_next rs) all))
 
   -- the state is the same under names that agree
-  renamed_same : (part : Part) → All (λ q. q < n) (names_of part) → renamed f groups part ≡ renamed g groups part
-  renamed_same (empty_part next) all = refl
-  renamed_same (range_part low high next) all = ap (byte_range low high) (agree next (All-head (λ q. q < n) next [] all))
-  renamed_same (sparse_part ranges) all = ap ranges_node (ranges_same ranges all)
-  renamed_same (look_part look next) all = ap (look_node look) (agree next (All-head (λ q. q < n) next [] all))
-  renamed_same (capture_start_part pattern group next) all = ap (λ q. renamed (λ x. q) groups (capture_start_part pattern group next)) (agree next (All-head (λ q. q < n) next [] all))
-  renamed_same (capture_end_part pattern group next) all = ap (λ q. renamed (λ x. q) groups (capture_end_part pattern group next)) (agree next (All-head (λ q. q < n) next [] all))
-  renamed_same (union_part names) all = ap ways_node (names_same names all)
-  renamed_same (union_reverse_part names) all = ap ways_node (map_reversed f names ∙ ap reverse (names_same names all) ∙ sym (map_reversed g names))
-  renamed_same fail_part all = refl
-  renamed_same (match_part pattern) all = refl
+  renamed_same : (draft : DraftNode) → All (λ q. q < n) (names_of draft) → renamed f groups draft ≡ renamed g groups draft
+  renamed_same (empty_draft next) all = refl
+  renamed_same (range_draft low high next) all = ap (byte_range low high) (agree next (All-head (λ q. q < n) next [] all))
+  renamed_same (sparse_draft ranges) all = ap ranges_node (ranges_same ranges all)
+  renamed_same (look_draft look next) all = ap (look_node look) (agree next (All-head (λ q. q < n) next [] all))
+  renamed_same (capture_start_draft pattern group next) all = ap (λ q. renamed (λ x. q) groups (capture_start_draft pattern group next)) (agree next (All-head (λ q. q < n) next [] all))
+  renamed_same (capture_end_draft pattern group next) all = ap (λ q. renamed (λ x. q) groups (capture_end_draft pattern group next)) (agree next (All-head (λ q. q < n) next [] all))
+  renamed_same (union_draft names) all = ap ways_node (names_same names all)
+  renamed_same (union_reverse_draft names) all = ap ways_node (map_reversed f names ∙ ap reverse (names_same names all) ∙ sym (map_reversed g names))
+  renamed_same fail_draft all = refl
+  renamed_same (match_draft pattern) all = refl
 
-  pub states_same : (parts : List Part) → All (λ part. All (λ q. q < n) (names_of part)) parts → map (renamed f groups) (kept parts) ≡ map (renamed g groups) (kept parts)
-  states_same parts named = map_same (λ part. All (λ q. q < n) (names_of part)) (renamed f groups) (renamed g groups) renamed_same (kept parts)
-      (All-filter is_kept (λ part. All (λ q. q < n) (names_of part)) parts named)
+  pub states_same : (drafts : List DraftNode) → All (λ draft. All (λ q. q < n) (names_of draft)) drafts → map (renamed f groups) (kept drafts) ≡ map (renamed g groups) (kept drafts)
+  states_same drafts named = map_same (λ draft. All (λ q. q < n) (names_of draft)) (renamed f groups) (renamed g groups) renamed_same (kept drafts)
+      (All-filter is_kept (λ draft. All (λ q. q < n) (names_of draft)) drafts named)
 
 -- the name of a state is one of the automaton
-kept_up_to : (parts : List Part) (i : ℕ) → length (kept (take i parts)) ≤ length (kept parts)
-kept_up_to parts i =
-    let short = length-filter is_kept (take i parts) in
-    let all = length-filter is_kept parts in
-    let less = sum_by-take-le (λ part. cond (is_kept part) 1 0) parts i in
+kept_up_to : (drafts : List DraftNode) (i : ℕ) → length (kept (take i drafts)) ≤ length (kept drafts)
+kept_up_to drafts i =
+    let short = length-filter is_kept (take i drafts) in
+    let all = length-filter is_kept drafts in
+    let less = sum_by-take-le (λ draft. cond (is_kept draft) 1 0) drafts i in
     omega (arith, short, all, less)
 
 kept_one : (o : Option ℕ) → o ≡ None → is_none o ≡ true
 kept_one o e = ap is_none e
 
-pub name_inside : (parts : List Part) (q : ℕ) → IsReached parts → q < length parts → new_name parts q < length (kept parts)
-name_inside parts q reached inside =
-    let there = past_inside parts q reached inside in
-    let more = kept_more parts (past parts q) fail_part there in
-    let stays : is_kept (part_at parts (past parts q)) ≡ true = kept_one (stands_for (part_at parts (past parts q))) (reached.ends q inside) in
-    let one : length (kept (part_at parts (past parts q) ∷ [])) ≡ 1 = rw stays in
-    let most = kept_up_to parts (past parts q + 1) in
+pub name_inside : (drafts : List DraftNode) (q : ℕ) → IsReached drafts → q < length drafts → new_name drafts q < length (kept drafts)
+name_inside drafts q reached inside =
+    let there = past_inside drafts q reached inside in
+    let more = kept_more drafts (past drafts q) fail_draft there in
+    let stays : is_kept (draft_at drafts (past drafts q)) ≡ true = kept_one (stands_for (draft_at drafts (past drafts q))) (reached.ends q inside) in
+    let one : length (kept (draft_at drafts (past drafts q) ∷ [])) ≡ 1 = rw stays in
+    let most = kept_up_to drafts (past drafts q + 1) in
     omega (arith, more, one, most)
 
 -- where renamed states lead
@@ -119,18 +119,18 @@ module _ (n m : ℕ) (name : ℕ → ℕ) (inside : (q : ℕ) → q < n → name
   reverse_inside : (names : List ℕ) → All (λ q. q < m) names → All (λ q. q < m) (reverse names)
   reverse_inside names all = all_reversed (λ q. q < m) names all
 
-  leads_inside : (part : Part) → All (λ q. q < n) (names_of part) → All (λ q. q < m) (leads_to (renamed name groups part))
-  leads_inside (empty_part next) all = λ k d none. absurd (omega (arith, none))
-  leads_inside (range_part low high next) all = one_inside (name next) (inside next (All-head (λ q. q < n) next [] all))
-  leads_inside (sparse_part ranges) all = subst (λ (names : List ℕ). All (λ q. q < m) names) (sym (leads_ranges (map (range_named name) ranges))) (ranges_inside ranges all)
-  leads_inside (look_part look next) all = one_inside (name next) (inside next (All-head (λ q. q < n) next [] all))
-  leads_inside (capture_start_part pattern group next) all = one_inside (name next) (inside next (All-head (λ q. q < n) next [] all))
-  leads_inside (capture_end_part pattern group next) all = one_inside (name next) (inside next (All-head (λ q. q < n) next [] all))
-  leads_inside (union_part names) all = subst (λ (names : List ℕ). All (λ q. q < m) names) (sym (leads_ways (map name names))) (names_inside names all)
-  leads_inside (union_reverse_part names) all = subst (λ (names : List ℕ). All (λ q. q < m) names) (sym (leads_ways (map name (reverse names)) ∙ map_reversed name names))
+  leads_inside : (draft : DraftNode) → All (λ q. q < n) (names_of draft) → All (λ q. q < m) (leads_to (renamed name groups draft))
+  leads_inside (empty_draft next) all = λ k d none. absurd (omega (arith, none))
+  leads_inside (range_draft low high next) all = one_inside (name next) (inside next (All-head (λ q. q < n) next [] all))
+  leads_inside (sparse_draft ranges) all = subst (λ (names : List ℕ). All (λ q. q < m) names) (sym (leads_ranges (map (range_named name) ranges))) (ranges_inside ranges all)
+  leads_inside (look_draft look next) all = one_inside (name next) (inside next (All-head (λ q. q < n) next [] all))
+  leads_inside (capture_start_draft pattern group next) all = one_inside (name next) (inside next (All-head (λ q. q < n) next [] all))
+  leads_inside (capture_end_draft pattern group next) all = one_inside (name next) (inside next (All-head (λ q. q < n) next [] all))
+  leads_inside (union_draft names) all = subst (λ (names : List ℕ). All (λ q. q < m) names) (sym (leads_ways (map name names))) (names_inside names all)
+  leads_inside (union_reverse_draft names) all = subst (λ (names : List ℕ). All (λ q. q < m) names) (sym (leads_ways (map name (reverse names)) ∙ map_reversed name names))
       (reverse_inside (map name names) (names_inside names all))
-  leads_inside fail_part all = λ k d none. absurd (omega (arith, none))
-  leads_inside (match_part pattern) all = λ k d none. absurd (omega (arith, none))
+  leads_inside fail_draft all = λ k d none. absurd (omega (arith, none))
+  leads_inside (match_draft pattern) all = λ k d none. absurd (omega (arith, none))
 
 has_all : (P : ℕ → Type 0) (xs : List ℕ) → All P xs → (q : ℕ) → Has nat_eq q xs → P q
 has_all P [] all q h = none_in nat_eq q _ h
@@ -155,33 +155,33 @@ ways_of_node patterns (first ∷ []) = tt
 ways_of_node patterns (first ∷ second ∷ []) = tt
 ways_of_node patterns (first ∷ second ∷ third ∷ others) = tt
 
-node_of_part : (name : ℕ → ℕ) (groups : Groups) (patterns : ℕ) (part : Part) → IsPartOf patterns part → IsNodeOf patterns (renamed name groups part)
-node_of_part name groups patterns (empty_part next) good = tt
-node_of_part name groups patterns (range_part low high next) good = good
-node_of_part name groups patterns (sparse_part ranges) good = ranges_of_node patterns (map (range_named name) ranges) (ascends_named name 0 ranges good.0) (bytes_named name ranges good.1)
-node_of_part name groups patterns (look_part look next) good = tt
-node_of_part name groups patterns (capture_start_part pattern group next) good = tt
-node_of_part name groups patterns (capture_end_part pattern group next) good = tt
-node_of_part name groups patterns (union_part names) good = ways_of_node patterns (map name names)
-node_of_part name groups patterns (union_reverse_part names) good = ways_of_node patterns (map name (reverse names))
-node_of_part name groups patterns fail_part good = tt
-node_of_part name groups patterns (match_part pattern) good = good
+node_of_draft : (name : ℕ → ℕ) (groups : Groups) (patterns : ℕ) (draft : DraftNode) → IsDraftOf patterns draft → IsNodeOf patterns (renamed name groups draft)
+node_of_draft name groups patterns (empty_draft next) good = tt
+node_of_draft name groups patterns (range_draft low high next) good = good
+node_of_draft name groups patterns (sparse_draft ranges) good = ranges_of_node patterns (map (range_named name) ranges) (ascends_named name 0 ranges good.0) (bytes_named name ranges good.1)
+node_of_draft name groups patterns (look_draft look next) good = tt
+node_of_draft name groups patterns (capture_start_draft pattern group next) good = tt
+node_of_draft name groups patterns (capture_end_draft pattern group next) good = tt
+node_of_draft name groups patterns (union_draft names) good = ways_of_node patterns (map name names)
+node_of_draft name groups patterns (union_reverse_draft names) good = ways_of_node patterns (map name (reverse names))
+node_of_draft name groups patterns fail_draft good = tt
+node_of_draft name groups patterns (match_draft pattern) good = good
 
 -- what the automaton is, which every NFA is
-pub sound : (b : Assembly) (x y : ℕ) → CanBuild b x y → IsReached b.parts → IsInOrder b.parts (pattern_count b) b.size_limit → IsSound (automaton_of b x y)
+pub sound : (b : Assembly) (x y : ℕ) → CanBuild b x y → IsReached b.drafts → IsInOrder b.drafts (pattern_count b) b.size_limit → IsSound (automaton_of b x y)
 sound b x y can reached order =
-    let name = new_name b.parts in
-    let nodes = map (renamed name b.groups) (kept b.parts) in
-    let len : length nodes ≡ length (kept b.parts) = length-map (kept b.parts) (renamed name b.groups) in
-    let inside : (q : ℕ) → q < length b.parts → name q < length nodes = λ q below. (let h = name_inside b.parts q reached below in omega (arith, h, len)) in
-    let named : All (λ node. All (λ q. q < length nodes) (leads_to node)) nodes = All-map (λ node. All (λ q. q < length nodes) (leads_to node)) (renamed name b.groups) (kept b.parts)
-    (All-weaker (λ part. All (λ q. q < length b.parts) (names_of part)) (λ part. All (λ q. q < length nodes) (leads_to (renamed name b.groups part)))
-    (leads_inside (length b.parts) (length nodes) name inside b.groups) (kept b.parts)
-    (All-filter is_kept (λ part. All (λ q. q < length b.parts) (names_of part)) b.parts can.named)) in
+    let name = new_name b.drafts in
+    let nodes = map (renamed name b.groups) (kept b.drafts) in
+    let len : length nodes ≡ length (kept b.drafts) = length-map (kept b.drafts) (renamed name b.groups) in
+    let inside : (q : ℕ) → q < length b.drafts → name q < length nodes = λ q below. (let h = name_inside b.drafts q reached below in omega (arith, h, len)) in
+    let named : All (λ node. All (λ q. q < length nodes) (leads_to node)) nodes = All-map (λ node. All (λ q. q < length nodes) (leads_to node)) (renamed name b.groups) (kept b.drafts)
+    (All-weaker (λ draft. All (λ q. q < length b.drafts) (names_of draft)) (λ draft. All (λ q. q < length nodes) (leads_to (renamed name b.groups draft)))
+    (leads_inside (length b.drafts) (length nodes) name inside b.groups) (kept b.drafts)
+    (All-filter is_kept (λ draft. All (λ q. q < length b.drafts) (names_of draft)) b.drafts can.named)) in
     let count : pattern_count b ≡ length b.starts = ap (λ is_open. if is_open then length b.starts + 1 else length b.starts) can.closed in
     let starts : length (map name b.starts) ≡ length b.starts = length-map b.starts name in
-    let few : length (kept b.parts) ≤ length b.parts = (let e = length-filter is_kept b.parts in let h = count_by-le-length is_kept b.parts in omega (arith, e, h)) in
-    let good : All (IsPartOf (length (map name b.starts))) b.parts = subst (λ (k : ℕ). All (IsPartOf k) b.parts) (count ∙ sym starts) order.parts_of in
+    let few : length (kept b.drafts) ≤ length b.drafts = (let e = length-filter is_kept b.drafts in let h = count_by-le-length is_kept b.drafts in omega (arith, e, h)) in
+    let good : All (IsDraftOf (length (map name b.starts))) b.drafts = subst (λ (k : ℕ). All (IsDraftOf k) b.drafts) (count ∙ sym starts) order.parts_of in
     record {
       named = λ q r h. ⊎_elim
           (λ told. let none : get_or nodes q fail_node ≡ fail_node = get_or_past nodes q fail_node told.1 in none_in nat_eq r (r < length nodes) (subst (λ (node : Node). Has nat_eq r (leads_to node)) none h))
@@ -189,21 +189,21 @@ sound b x y can reached order =
           (leb_tells (length nodes) q);
       anchored = inside x can.anchored_there;
       unanchored = inside y can.unanchored_there;
-      starts = All-map (λ q. q < length nodes) name b.starts (All-weaker (λ q. q < length b.parts) (λ q. name q < length nodes) inside b.starts can.starts_there);
+      starts = All-map (λ q. q < length nodes) name b.starts (All-weaker (λ q. q < length b.drafts) (λ q. name q < length nodes) inside b.starts can.starts_there);
       states_numbered = omega (arith, len, few, order.states_numbered);
       patterns_numbered = omega (arith, count, starts, order.patterns_numbered);
-      nodes = All-map (IsNodeOf (length (map name b.starts))) (renamed name b.groups) (kept b.parts)
-          (All-weaker (IsPartOf (length (map name b.starts))) (λ part. IsNodeOf (length (map name b.starts)) (renamed name b.groups part))
-          (node_of_part name b.groups (length (map name b.starts))) (kept b.parts) (All-filter is_kept (IsPartOf (length (map name b.starts))) b.parts good));
+      nodes = All-map (IsNodeOf (length (map name b.starts))) (renamed name b.groups) (kept b.drafts)
+          (All-weaker (IsDraftOf (length (map name b.starts))) (λ draft. IsNodeOf (length (map name b.starts)) (renamed name b.groups draft))
+          (node_of_draft name b.groups (length (map name b.starts))) (kept b.drafts) (All-filter is_kept (IsDraftOf (length (map name b.starts))) b.drafts good));
     }
 
 -- a table of the names gives the same states and starts
-pub same_nfa : (b : Assembly) (x y : ℕ) (names : List ℕ) (states : List Node) (starts : List ℕ) → CanBuild b x y → IsNaming b.parts names →
-    states ≡ map (renamed (name_in names) b.groups) (kept b.parts) → starts ≡ map (name_in names) b.starts →
+pub same_nfa : (b : Assembly) (x y : ℕ) (names : List ℕ) (states : List Node) (starts : List ℕ) → CanBuild b x y → IsNaming b.drafts names →
+    states ≡ map (renamed (name_in names) b.groups) (kept b.drafts) → starts ≡ map (name_in names) b.starts →
     (states ≡ (automaton_of b x y).states) × (starts ≡ (automaton_of b x y).start_pattern) × (name_in names x ≡ (automaton_of b x y).start_anchored) × (name_in names y ≡ (automaton_of b x y).start_unanchored)
 same_nfa b x y names states starts can naming all_states all_starts = (
-  all_states ∙ states_same (name_in names) (new_name b.parts) (length b.parts) naming.right b.groups b.parts can.named,
-  all_starts ∙ map_same (λ q. q < length b.parts) (name_in names) (new_name b.parts) naming.right b.starts can.starts_there,
+  all_states ∙ states_same (name_in names) (new_name b.drafts) (length b.drafts) naming.right b.groups b.drafts can.named,
+  all_starts ∙ map_same (λ q. q < length b.drafts) (name_in names) (new_name b.drafts) naming.right b.starts can.starts_there,
   naming.right x can.anchored_there,
   naming.right y can.unanchored_there,
 )
@@ -217,8 +217,8 @@ nfa_with states anchored unanchored starts groups utf8 reverse terminator = reco
   terminator = terminator;
 }
 
-pub nfa_made : (b : Assembly) (x y anchored unanchored : ℕ) (names : List ℕ) (states : List Node) (starts : List ℕ) (groups : Groups) (utf8 reverse : Bool) (t : Terminator) → CanBuild b x y → IsNaming b.parts names →
-    states ≡ map (renamed (name_in names) b.groups) (kept b.parts) → starts ≡ map (name_in names) b.starts → anchored ≡ name_in names x → unanchored ≡ name_in names y →
+pub nfa_made : (b : Assembly) (x y anchored unanchored : ℕ) (names : List ℕ) (states : List Node) (starts : List ℕ) (groups : Groups) (utf8 reverse : Bool) (t : Terminator) → CanBuild b x y → IsNaming b.drafts names →
+    states ≡ map (renamed (name_in names) b.groups) (kept b.drafts) → starts ≡ map (name_in names) b.starts → anchored ≡ name_in names x → unanchored ≡ name_in names y →
     groups ≡ b.groups → utf8 ≡ b.utf8 → reverse ≡ b.reverse → t ≡ b.terminator → nfa_with states anchored unanchored starts groups utf8 reverse t ≡ nfa_of b x y
 nfa_made b x y anchored unanchored names states starts groups utf8 reverse t can naming all_states all_starts a u g f r e =
     let h = same_nfa b x y names states starts can naming all_states all_starts in

@@ -5,15 +5,15 @@ use Rattle.std.proofs.lemmas.List.{map-set, get_or-map, map-append, length-map, 
 use Rattle.std.proofs.Math.Seq.{map-set_same}
 use Rattle.std.proofs.lemmas.List.Sums.{sum_by_push, sum_by-set}
 use Rattle.search_types.specs.Groups.{Name}
-use Rattle.nfa_core.specs.BuilderStates.{filled, with_name, up_to_pattern, with_group, Part, empty_part, range_part, sparse_part, look_part, capture_start_part, capture_end_part, union_part, union_reverse_part, fail_part, match_part, part_bytes, way_bytes, bytes_of, patched, part_at, patched_at}
+use Rattle.nfa_core.specs.BuilderStates.{filled, with_name, up_to_pattern, with_group, DraftNode, empty_draft, range_draft, sparse_draft, look_draft, capture_start_draft, capture_end_draft, union_draft, union_reverse_draft, fail_draft, match_draft, draft_bytes, way_bytes, bytes_of, patched, draft_at, patched_at}
 
 capped_sum : (m a b : ℕ) → min (min a m + min b m) m ≡ min (a + b) m
 capped_sum m a b = grind arith
 
-pub bytes_pushed : (parts : List Part) (part : Part) →
-    min (bytes_of parts + min (part_bytes part) 18446744073709551615) 18446744073709551615 ≡ bytes_of (parts ++ part ∷ [])
-bytes_pushed parts part =
-    capped_sum 18446744073709551615 (sum_by part_bytes parts) (part_bytes part) ∙ ap (λ n. min n 18446744073709551615) (sym (sum_by_push part_bytes parts part))
+pub bytes_pushed : (drafts : List DraftNode) (draft : DraftNode) →
+    min (bytes_of drafts + min (draft_bytes draft) 18446744073709551615) 18446744073709551615 ≡ bytes_of (drafts ++ draft ∷ [])
+bytes_pushed drafts draft =
+    capped_sum 18446744073709551615 (sum_by draft_bytes drafts) (draft_bytes draft) ∙ ap (λ n. min n 18446744073709551615) (sym (sum_by_push draft_bytes drafts draft))
 
 longer : (names : List ℕ) (to : ℕ) → 24 + 4 * length (names ++ to ∷ []) ≡ 24 + 4 * length names + 4
 longer names to =
@@ -21,44 +21,44 @@ longer names to =
     ap (λ n. 24 + 4 * n) len ∙ grind arith
 
 -- one more way takes its bytes
-part_bytes_patched : (to : ℕ) (part : Part) → part_bytes (patched to part) ≡ part_bytes part + way_bytes part
-part_bytes_patched to (empty_part next) = refl
-part_bytes_patched to (range_part low high next) = refl
-part_bytes_patched to (sparse_part ranges) = grind arith
-part_bytes_patched to (look_part look next) = refl
-part_bytes_patched to (capture_start_part pattern group next) = refl
-part_bytes_patched to (capture_end_part pattern group next) = refl
-part_bytes_patched to (union_part names) = longer names to
-part_bytes_patched to (union_reverse_part names) = longer names to
-part_bytes_patched to fail_part = refl
-part_bytes_patched to (match_part pattern) = refl
+draft_bytes_patched : (to : ℕ) (draft : DraftNode) → draft_bytes (patched to draft) ≡ draft_bytes draft + way_bytes draft
+draft_bytes_patched to (empty_draft next) = refl
+draft_bytes_patched to (range_draft low high next) = refl
+draft_bytes_patched to (sparse_draft ranges) = grind arith
+draft_bytes_patched to (look_draft look next) = refl
+draft_bytes_patched to (capture_start_draft pattern group next) = refl
+draft_bytes_patched to (capture_end_draft pattern group next) = refl
+draft_bytes_patched to (union_draft names) = longer names to
+draft_bytes_patched to (union_reverse_draft names) = longer names to
+draft_bytes_patched to fail_draft = refl
+draft_bytes_patched to (match_draft pattern) = refl
 
 capped_change : (m s s' b w : ℕ) → s' + b ≡ s + (b + w) → min (min s m + w) m ≡ min s' m
 capped_change m s s' b w e = grind arith
 
-pub bytes_patched : (parts : List Part) (from to : ℕ) → from < length parts →
-    min (bytes_of parts + way_bytes (part_at parts from)) 18446744073709551615 ≡ bytes_of (patched_at parts from to)
-bytes_patched parts from to inside =
-    let part = part_at parts from in
-    let sums = sum_by-set part_bytes parts from (patched to part) fail_part inside in
-    capped_change 18446744073709551615 (sum_by part_bytes parts) (sum_by part_bytes (patched_at parts from to)) (part_bytes part) (way_bytes part)
-    (sums ∙ ap (λ n. sum_by part_bytes parts + n) (part_bytes_patched to part))
+pub bytes_patched : (drafts : List DraftNode) (from to : ℕ) → from < length drafts →
+    min (bytes_of drafts + way_bytes (draft_at drafts from)) 18446744073709551615 ≡ bytes_of (patched_at drafts from to)
+bytes_patched drafts from to inside =
+    let draft = draft_at drafts from in
+    let sums = sum_by-set draft_bytes drafts from (patched to draft) fail_draft inside in
+    capped_change 18446744073709551615 (sum_by draft_bytes drafts) (sum_by draft_bytes (patched_at drafts from to)) (draft_bytes draft) (way_bytes draft)
+    (sums ∙ ap (λ n. sum_by draft_bytes drafts + n) (draft_bytes_patched to draft))
 
 -- the states as contracts see them, where one was patched
-pub view_patched : {D : Type 0} (view : D → Part) (drafts : List D) (at from to : ℕ) (old new other : D) → at ≡ from → from < length drafts →
+pub view_patched : {D : Type 0} (view : D → DraftNode) (drafts : List D) (at from to : ℕ) (old new other : D) → at ≡ from → from < length drafts →
     old ≡ get_or drafts from other → view new ≡ patched to (view old) → map view (set drafts at new) ≡ patched_at (map view drafts) from to
 view_patched view drafts at from to old new other same inside is_old e =
-    let there = get_or-map view drafts from other fail_part inside in
-    ap (λ k. map view (set drafts k new)) same ∙ map-set view drafts from new ∙ ap (λ part. set (map view drafts) from part)
+    let there = get_or-map view drafts from other fail_draft inside in
+    ap (λ k. map view (set drafts k new)) same ∙ map-set view drafts from new ∙ ap (λ draft. set (map view drafts) from draft)
     (e ∙ ap (λ d. patched to (view d)) is_old ∙ ap (patched to) (sym there))
 
-pub view_kept : {D : Type 0} (view : D → Part) (drafts : List D) (from : ℕ) (new other : D) →
+pub view_kept : {D : Type 0} (view : D → DraftNode) (drafts : List D) (from : ℕ) (new other : D) →
     view new ≡ view (get_or drafts from other) → map view (set drafts from new) ≡ map view drafts
 view_kept view drafts from new other e = map-set_same view drafts from new other e
 
-pub view_at : {D : Type 0} (view : D → Part) (drafts : List D) (from : ℕ) (other : D) → from < length drafts →
-    part_at (map view drafts) from ≡ view (get_or drafts from other)
-view_at view drafts from other inside = get_or-map view drafts from other fail_part inside
+pub view_at : {D : Type 0} (view : D → DraftNode) (drafts : List D) (from : ℕ) (other : D) → from < length drafts →
+    draft_at (map view drafts) from ≡ view (get_or drafts from other)
+view_at view drafts from other inside = get_or-map view drafts from other fail_draft inside
 
 -- a list that is lengthened step by step
 pub filled_more : {A : Type 0} (filler : A) (xs : List A) (n : ℕ) → length xs < n → filled filler (xs ++ filler ∷ []) n ≡ filled filler xs n

@@ -9,7 +9,7 @@ use Rattle.std.proofs.lemmas.Bool.Decides.{Decides-ltb}
 use Rattle.std.proofs.lemmas.List.Sums.{AllPass-from_list_all, list_all-from_AllPass}
 use Rattle.search_types.specs.Groups.{Groups, groups_of}
 use Rattle.search_types.specs.GroupFaults.{groups_in}
-use Rattle.nfa_core.specs.BuilderStates.{Part, Assembly, part_at}
+use Rattle.nfa_core.specs.BuilderStates.{DraftNode, Assembly, draft_at}
 use Rattle.nfa_core.specs.CanBuild.{CanBuild, names_of, is_known}
 use Rattle.nfa_core.specs.Checks.{has_all}
 use Rattle.nfa_core.specs.Renaming.{stands_for, past, past_within, going_on, HasNoLoop}
@@ -25,19 +25,19 @@ decides_all test P xs each = (
 pub decides_below : (n : ℕ) (names : List ℕ) → Decides (list_all (λ q. nat_lt q n) names) (All (λ q. q < n) names)
 decides_below n names = decides_all (λ q. nat_lt q n) (λ q. q < n) names (λ q. Decides-ltb q n)
 
-pub decides_named : (n : ℕ) (parts : List Part) → Decides (list_all (λ part. list_all (λ q. nat_lt q n) (names_of part)) parts) (All (λ part. All (λ q. q < n) (names_of part)) parts)
-decides_named n parts = decides_all (λ part. list_all (λ q. nat_lt q n) (names_of part)) (λ part. All (λ q. q < n) (names_of part)) parts (λ part. decides_below n (names_of part))
+pub decides_named : (n : ℕ) (drafts : List DraftNode) → Decides (list_all (λ draft. list_all (λ q. nat_lt q n) (names_of draft)) drafts) (All (λ draft. All (λ q. q < n) (names_of draft)) drafts)
+decides_named n drafts = decides_all (λ draft. list_all (λ q. nat_lt q n) (names_of draft)) (λ draft. All (λ q. q < n) (names_of draft)) drafts (λ draft. decides_below n (names_of draft))
 
-pub decides_known : (groups : Groups) (parts : List Part) → Decides (list_all (is_known groups) parts) (All (λ part. is_known groups part ≡ true) parts)
-decides_known groups parts = decides_all (is_known groups) (λ part. is_known groups part ≡ true) parts (λ part. (λ e. e, λ e. e))
+pub decides_known : (groups : Groups) (drafts : List DraftNode) → Decides (list_all (is_known groups) drafts) (All (λ draft. is_known groups draft ≡ true) drafts)
+decides_known groups drafts = decides_all (is_known groups) (λ draft. is_known groups draft ≡ true) drafts (λ draft. (λ e. e, λ e. e))
 
 not_true : (b : Bool) → not b ≡ true → b ≡ false
 not_true true e = cc
 not_true false e = refl
 
-pub checked_can : (b : Assembly) (x y : ℕ) → has_all b x y ≡ true → HasNoLoop b.parts → CanBuild b x y
+pub checked_can : (b : Assembly) (x y : ℕ) → has_all b x y ≡ true → HasNoLoop b.drafts → CanBuild b x y
 checked_can b x y e free =
-    let n = length b.parts in
+    let n = length b.drafts in
     let one = and_parts _ _ e in
     let two = and_parts _ _ one.1 in
     let three = and_parts _ _ two.1 in
@@ -48,24 +48,24 @@ checked_can b x y e free =
       anchored_there = (Decides-ltb x n).0 two.0;
       unanchored_there = (Decides-ltb y n).0 three.0;
       starts_there = (decides_below n b.starts).0 four.0;
-      named = (decides_named n b.parts).0 five.0;
-      known = (decides_known b.groups b.parts).0 five.1;
+      named = (decides_named n b.drafts).0 five.0;
+      known = (decides_known b.groups b.drafts).0 five.1;
       no_loop = free;
     }
 
 pub can_checked : (b : Assembly) (x y : ℕ) → CanBuild b x y → has_all b x y ≡ true
 can_checked b x y can =
-    let n = length b.parts in
+    let n = length b.drafts in
     and_from _ _ (ap not can.closed) (and_from _ _ ((Decides-ltb x n).1 can.anchored_there) (and_from _ _ ((Decides-ltb y n).1 can.unanchored_there)
-    (and_from _ _ ((decides_below n b.starts).1 can.starts_there) (and_from _ _ ((decides_named n b.parts).1 can.named) ((decides_known b.groups b.parts).1 can.known)))))
+    (and_from _ _ ((decides_below n b.starts).1 can.starts_there) (and_from _ _ ((decides_named n b.drafts).1 can.named) ((decides_known b.groups b.drafts).1 can.known)))))
 
 -- where each state was followed to one that stands for itself, there is no loop
-pub followed_free : (parts : List Part) (n : ℕ) → length parts ≡ n → ((q : ℕ) → q < n → stands_for (part_at parts (past parts q)) ≡ None) → HasNoLoop parts
-followed_free parts n len all q inside = (length parts, all q (omega (arith, len, inside)))
+pub followed_free : (drafts : List DraftNode) (n : ℕ) → length drafts ≡ n → ((q : ℕ) → q < n → stands_for (draft_at drafts (past drafts q)) ≡ None) → HasNoLoop drafts
+followed_free drafts n len all q inside = (length drafts, all q (omega (arith, len, inside)))
 
 -- where one wasn't, there is
-pub caught : (parts : List Part) (q : ℕ) → q < length parts → is_none (stands_for (part_at parts (past parts q))) ≡ false → HasNoLoop parts → false ≡ true
-caught parts q inside e free = let stands = past_stands parts free q inside in cc
+pub caught : (drafts : List DraftNode) (q : ℕ) → q < length drafts → is_none (stands_for (draft_at drafts (past drafts q))) ≡ false → HasNoLoop drafts → false ≡ true
+caught drafts q inside e free = let stands = past_stands drafts free q inside in cc
 
 -- how many groups a pattern has
 pub len_there : {A B : Type 0} (groups : List (Vec (Option (String A)) B)) (p : ℕ) (d : Vec (Option (String A)) B) → p < length groups →
@@ -80,25 +80,25 @@ len_absent (first ∷ rest) zero h = absurd (omega (arith, h))
 len_absent (first ∷ rest) (suc p) h = len_absent rest p (omega (arith, h))
 
 -- the tests in their order, where all but the last answered true
-pub all_tested : (b : Assembly) (x y n m : ℕ) (starts : List ℕ) (parts later : List Part) (groups : Groups) (first second third : Bool) →
-    n ≡ length b.parts → m ≡ length b.parts → starts ≡ b.starts → parts ≡ b.parts → later ≡ b.parts → groups ≡ b.groups → b.is_open ≡ false → x < n → y < n →
-    first ≡ list_all (λ q. nat_lt q n) starts → second ≡ list_all (λ part. list_all (λ q. nat_lt q m) (names_of part)) parts → third ≡ list_all (is_known groups) later →
+pub all_tested : (b : Assembly) (x y n m : ℕ) (starts : List ℕ) (drafts later : List DraftNode) (groups : Groups) (first second third : Bool) →
+    n ≡ length b.drafts → m ≡ length b.drafts → starts ≡ b.starts → drafts ≡ b.drafts → later ≡ b.drafts → groups ≡ b.groups → b.is_open ≡ false → x < n → y < n →
+    first ≡ list_all (λ q. nat_lt q n) starts → second ≡ list_all (λ draft. list_all (λ q. nat_lt q m) (names_of draft)) drafts → third ≡ list_all (is_known groups) later →
     first ≡ true → second ≡ true → third ≡ has_all b x y
-all_tested b x y n m starts parts later groups first second third same_n same_m same_starts same_parts same_later same_groups closed x_in y_in e f g is_first is_second =
-    let one : nat_lt x (length b.parts) ≡ true = (Decides-ltb x (length b.parts)).1 (omega (arith, x_in, same_n)) in
-    let two : nat_lt y (length b.parts) ≡ true = (Decides-ltb y (length b.parts)).1 (omega (arith, y_in, same_n)) in
-    let three : list_all (λ q. nat_lt q (length b.parts)) b.starts ≡ true =
+all_tested b x y n m starts drafts later groups first second third same_n same_m same_starts same_parts same_later same_groups closed x_in y_in e f g is_first is_second =
+    let one : nat_lt x (length b.drafts) ≡ true = (Decides-ltb x (length b.drafts)).1 (omega (arith, x_in, same_n)) in
+    let two : nat_lt y (length b.drafts) ≡ true = (Decides-ltb y (length b.drafts)).1 (omega (arith, y_in, same_n)) in
+    let three : list_all (λ q. nat_lt q (length b.drafts)) b.starts ≡ true =
     ap (λ (k : ℕ). list_all (λ q. nat_lt q k) b.starts) (sym same_n) ∙ ap (list_all (λ q. nat_lt q n)) (sym same_starts) ∙ sym e ∙ is_first in
-    let four : list_all (λ part. list_all (λ q. nat_lt q (length b.parts)) (names_of part)) b.parts ≡ true =
-    ap (λ (k : ℕ). list_all (λ part. list_all (λ q. nat_lt q k) (names_of part)) b.parts) (sym same_m)
-    ∙ ap (list_all (λ part. list_all (λ q. nat_lt q m) (names_of part))) (sym same_parts) ∙ sym f ∙ is_second in
-    let five : third ≡ list_all (is_known b.groups) b.parts = g ∙ ap (λ (gs : Groups). list_all (is_known gs) later) same_groups ∙ ap (list_all (is_known b.groups)) same_later in
+    let four : list_all (λ draft. list_all (λ q. nat_lt q (length b.drafts)) (names_of draft)) b.drafts ≡ true =
+    ap (λ (k : ℕ). list_all (λ draft. list_all (λ q. nat_lt q k) (names_of draft)) b.drafts) (sym same_m)
+    ∙ ap (list_all (λ draft. list_all (λ q. nat_lt q m) (names_of draft))) (sym same_parts) ∙ sym f ∙ is_second in
+    let five : third ≡ list_all (is_known b.groups) b.drafts = g ∙ ap (λ (gs : Groups). list_all (is_known gs) later) same_groups ∙ ap (list_all (is_known b.groups)) same_later in
     rw (closed, one, two, three, four) five
 
 -- where a state that was followed stands for itself, it is the one past the first
-pub followed : (parts : List Part) (k at q : ℕ) → past_within parts k at ≡ past parts q → stands_for (part_at parts at) ≡ None → true ≡ is_none (stands_for (part_at parts (past parts q)))
-followed parts k at q same e = let there : at ≡ past parts q = sym (past_itself parts k at e) ∙ same in ap is_none (sym (ap (λ (r : ℕ). stands_for (part_at parts r)) (sym there) ∙ e))
+pub followed : (drafts : List DraftNode) (k at q : ℕ) → past_within drafts k at ≡ past drafts q → stands_for (draft_at drafts at) ≡ None → true ≡ is_none (stands_for (draft_at drafts (past drafts q)))
+followed drafts k at q same e = let there : at ≡ past drafts q = sym (past_itself drafts k at e) ∙ same in ap is_none (sym (ap (λ (r : ℕ). stands_for (draft_at drafts r)) (sym there) ∙ e))
 
 -- one way more is followed
-pub follow_next : (parts : List Part) (k r at next q : ℕ) → k ≡ suc r → stands_for (part_at parts at) ≡ Some next → past_within parts k at ≡ past parts q → past_within parts r next ≡ past parts q
-follow_next parts k r at next q more e same = sym (ap (going_on at (past_within parts r)) e) ∙ ap (λ (n : ℕ). past_within parts n at) (sym more) ∙ same
+pub follow_next : (drafts : List DraftNode) (k r at next q : ℕ) → k ≡ suc r → stands_for (draft_at drafts at) ≡ Some next → past_within drafts k at ≡ past drafts q → past_within drafts r next ≡ past drafts q
+follow_next drafts k r at next q more e same = sym (ap (going_on at (past_within drafts r)) e) ∙ ap (λ (n : ℕ). past_within drafts n at) (sym more) ∙ same

@@ -20,21 +20,21 @@ use Rattle.nfa_core.proofs.CutLemmas.{without_rounds}
 use Rattle.nfa_core.proofs.StackLemmas.{stack_ends}
 use Rattle.nfa_core.proofs.AutomatonLemmas.{finite_automaton, match_ends}
 
-pub chains_met : (steps : ℕ → List ℕ) (n : ℕ) (todo seen after : List ℕ) → StaysBelow n steps → ((q : ℕ) → Has nat_eq q todo → q < n) →
-    IsClosed nat_eq steps seen → Visits nat_eq steps todo seen after → after ≡ join nat_eq seen (flat_map (chain_ends nat_eq steps n []) todo)
-chains_met steps n todo seen after below inside shut v = walk_is_join nat_eq names_equal steps (λ q. q < n) n (finite_names n steps below) todo seen after inside shut v
+pub chains_met : (steps : ℕ → List ℕ) (n : ℕ) (stack seen after : List ℕ) → StaysBelow n steps → ((q : ℕ) → Has nat_eq q stack → q < n) →
+    IsClosed nat_eq steps seen → Visits nat_eq steps stack seen after → after ≡ join nat_eq seen (flat_map (chain_ends nat_eq steps n []) stack)
+chains_met steps n stack seen after below inside shut v = walk_is_join nat_eq names_equal steps (λ q. q < n) n (finite_names n steps below) stack seen after inside shut v
 
 below_or_past : (i n : ℕ) → (i < n) ⊎ (n ≤ i)
 below_or_past i n = ⊎_elim (λ told. inr told.1) (λ told. inl told.1) (leb_tells n i)
 
-pub read_up : (t : Terminator) (h : List ℕ) (i : ℕ) → reads false (whole t h) i ≡ with_place (suc i) (byte_at h i)
-read_up t h i = ⊎_elim (λ (e : nat_lt i (length h) ≡ true). rw e refl)
+pub read_forward : (t : Terminator) (h : List ℕ) (i : ℕ) → reads false (whole t h) i ≡ with_place (suc i) (byte_at h i)
+read_forward t h i = ⊎_elim (λ (e : nat_lt i (length h) ≡ true). rw e refl)
     (λ (e : nat_lt i (length h) ≡ false). ⊎_elim
     (λ (less : i < length h). let f : true ≡ false = sym ((Decides-ltb i (length h)).1 less) ∙ e in cc)
     (λ (past : length h ≤ i). let none : byte_at h i ≡ None = slice_get_past h i past in rw (e, none) refl) (below_or_past i (length h))) (cases_Bool (nat_lt i (length h)))
 
-pub read_down : (t : Terminator) (h : List ℕ) (i : ℕ) → reads true (whole t h) (suc i) ≡ with_place i (byte_at h i)
-read_down t h i = ⊎_elim (λ told. rw told.0 refl) (λ told. absurd (omega (arith, told.1))) (leb_tells 0 i)
+pub read_reverse : (t : Terminator) (h : List ℕ) (i : ℕ) → reads true (whole t h) (suc i) ≡ with_place i (byte_at h i)
+read_reverse t h i = ⊎_elim (λ told. rw told.0 refl) (λ told. absurd (omega (arith, told.1))) (leb_tells 0 i)
 
 pub ends_once : (a : Automaton) (t : Text) (p : ℕ × ℕ) → HasNoneTwice same_pair (ends_from a t p)
 ends_once a t p = join_once same_pair pairs_equal [] (answers (matched a) (chain_ends same_pair (ways a t) (suc t.end * length a.states) [] p)) tt

@@ -10,27 +10,27 @@ module _ {A : Type 0} (same : A → A → Bool) (laws : IsEquality same) (ways :
   AreIn xs = (q : A) → Has same q xs → In q
 
   -- what a walk comes to, from what was met before
-  record Walked (todo seen : List A) : Type 0 where
+  record Walked (stack seen : List A) : Type 0 where
     after : List A
-    walk : Visits same ways todo seen after
+    walk : Visits same ways stack seen after
     inside : AreIn after
     once : HasNoneTwice same after
     longer : length seen ≤ length after
 
   abbrev Walks : ℕ → Type 0
-  Walks f = (todo seen : List A) → AreIn todo → AreIn seen → HasNoneTwice same seen → n ≤ f + length seen → Walked todo seen
+  Walks f = (stack seen : List A) → AreIn stack → AreIn seen → HasNoneTwice same seen → n ≤ f + length seen → Walked stack seen
 
   module _ (f : ℕ) (deeper : (g : ℕ) → suc g ≡ f → Walks g) where
-    walk_fresh : (x : A) (todo seen : List A) → ((seen : List A) → AreIn seen → HasNoneTwice same seen → n ≤ f + length seen → Walked todo seen) →
-        In x → AreIn seen → HasNoneTwice same seen → n ≤ f + length seen → has same x seen ≡ false → (g : ℕ) → suc g ≡ f → Walked (x ∷ todo) seen
-    walk_fresh x todo seen others here inside once fuel absent g e =
+    walk_fresh : (x : A) (stack seen : List A) → ((seen : List A) → AreIn seen → HasNoneTwice same seen → n ≤ f + length seen → Walked stack seen) →
+        In x → AreIn seen → HasNoneTwice same seen → n ≤ f + length seen → has same x seen ≡ false → (g : ℕ) → suc g ≡ f → Walked (x ∷ stack) seen
+    walk_fresh x stack seen others here inside once fuel absent g e =
         let len : length (seen ++ x ∷ []) ≡ length seen + 1 = length-append seen (x ∷ []) in
         let first = deeper g e (ways x) (seen ++ x ∷ []) (finite.stays x here) (of_push same laws In seen x inside here) (once_pushed same laws x seen absent once) (omega (arith, len, e, fuel)) in
         let one = first.longer in
         let rest = others first.after first.inside first.once (omega (arith, fuel, one, len)) in
         let two = rest.longer in record {
           after = rest.after;
-          walk = fresh x todo seen first.after rest.after absent first.walk rest.walk;
+          walk = fresh x stack seen first.after rest.after absent first.walk rest.walk;
           inside = rest.inside;
           once = rest.once;
           longer = omega (arith, one, two, len);
@@ -38,15 +38,15 @@ module _ {A : Type 0} (same : A → A → Bool) (laws : IsEquality same) (ways :
 
     walk_list : Walks f
     walk_list [] seen todo_in inside once fuel = record { after = seen; walk = done seen seen refl; inside = inside; once = once; longer = omega arith }
-    walk_list (x ∷ todo) seen todo_in inside once fuel =
-        let here : In x = todo_in x (has_first same laws x todo) in
-        let todo_rest : AreIn todo = λ q h. todo_in q (has_later same q x todo h) in
+    walk_list (x ∷ stack) seen todo_in inside once fuel =
+        let here : In x = todo_in x (has_first same laws x stack) in
+        let todo_rest : AreIn stack = λ q h. todo_in q (has_later same q x stack h) in
         ⊎_elim
-        (λ there. let rest = walk_list todo seen todo_rest inside once fuel in
-        record { after = rest.after; walk = held x todo seen rest.after there rest.walk; inside = rest.inside; once = rest.once; longer = rest.longer })
+        (λ there. let rest = walk_list stack seen todo_rest inside once fuel in
+        record { after = rest.after; walk = held x stack seen rest.after there rest.walk; inside = rest.inside; once = rest.once; longer = rest.longer })
         (λ absent. let short : length seen < n = room_for same laws ways In n finite x seen here inside once absent in
         let one : 0 < f = omega (arith, short, fuel) in
-        walk_fresh x todo seen (λ s. walk_list todo s todo_rest) here inside once fuel absent (f - 1) (omega (arith, one)))
+        walk_fresh x stack seen (λ s. walk_list stack s todo_rest) here inside once fuel absent (f - 1) (omega (arith, one)))
         (has_or_not same x seen)
 
   walk_within : (f : ℕ) → Walks f

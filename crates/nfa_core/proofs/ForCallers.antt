@@ -23,14 +23,14 @@ pub use Rattle.nfa_core.proofs.EndsLemmas.{chains_met, most_preferred, listed_ru
 pub use Rattle.nfa_core.proofs.ExistLemmas.{walk_from}
 -- lists of states by place: the latest match is the first end, and each list has the ends at its place
 pub use Rattle.nfa_core.proofs.BehindLemmas.{latest_is_preferred, list_matches}
--- runs end within the text that there is to read, and what such places are for one who reads up, or down
-pub use Rattle.nfa_core.proofs.InsideLemmas.{ends_inside, inside_up, inside_down}
+-- runs end within the text that there is to read, and what such places are for one who reads forward or in reverse
+pub use Rattle.nfa_core.proofs.InsideLemmas.{ends_inside, inside_forward, inside_reverse}
 -- no run is empty where none may be
 pub use Rattle.nfa_core.proofs.HereLemmas.{none_here}
 -- the lists and the first end are those of each text that is alike up to where the walk is over
 pub use Rattle.nfa_core.proofs.OverLemmas.{other_lists, first_same}
 -- texts are alike where the looks of the states are read alike
-pub use Rattle.nfa_core.proofs.ReadAlikeLemmas.{alike_by_looks, alike_up}
+pub use Rattle.nfa_core.proofs.ReadAlikeLemmas.{alike_by_looks, alike_forward}
 -- ---- states, and the bytes and looks that they have
 -- what a state leads to by what is read, and without a byte, is named by it; what matches is a match
 pub use Rattle.nfa_core.proofs.AutomatonLemmas.{read_led, nothing_led, match_is}

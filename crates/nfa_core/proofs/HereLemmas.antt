@@ -32,28 +32,28 @@ free_way (capture_node next pattern group slot) passed r h = h
 free_way fail_node passed r h = h
 free_way (match_node pattern) passed r h = h
 
--- the place j is i, or one behind it for one who reads up, or down
+-- the place j is i, or one behind it for one who reads forward or in reverse
 abbrev IsBehind : Bool → ℕ → ℕ → Type 0
 IsBehind false i j = i ≤ j
 IsBehind true i j = j ≤ i
 
-itself : (down : Bool) (i : ℕ) → IsBehind down i i
+itself : (is_reverse : Bool) (i : ℕ) → IsBehind is_reverse i i
 itself false i = omega arith
 itself true i = omega arith
 
-along : (down : Bool) (i j k : ℕ) → IsBehind down i j → IsBehind down j k → IsBehind down i k
+along : (is_reverse : Bool) (i j k : ℕ) → IsBehind is_reverse i j → IsBehind is_reverse j k → IsBehind is_reverse i k
 along false i j k a b = omega (arith, a, b)
 along true i j k a b = omega (arith, a, b)
 
-read_behind : (down : Bool) (t : Text) (i : ℕ) (read : Option (ℕ × ℕ)) → IsBeside down t i read → IsBehind down i (place_behind i read)
-read_behind down t i None beside = itself down i
+read_behind : (is_reverse : Bool) (t : Text) (i : ℕ) (read : Option (ℕ × ℕ)) → IsBeside is_reverse t i read → IsBehind is_reverse i (place_behind i read)
+read_behind is_reverse t i None beside = itself is_reverse i
 read_behind false t i (Some (b, j)) beside = omega (arith, beside.0)
 read_behind true t i (Some (b, j)) beside = omega (arith, beside.0)
 
 -- who has read doesn't come back
-read_leaves : (down : Bool) (t : Text) (node : Node) (i r k : ℕ) (read : Option (ℕ × ℕ)) → IsBeside down t i read → Has nat_eq r (on_read node read) →
-    IsBehind down (place_behind i read) k → k ≡ i → ⊥
-read_leaves down t node i r k None beside h behind e = none_in nat_eq r _ h
+read_leaves : (is_reverse : Bool) (t : Text) (node : Node) (i r k : ℕ) (read : Option (ℕ × ℕ)) → IsBeside is_reverse t i read → Has nat_eq r (on_read node read) →
+    IsBehind is_reverse (place_behind i read) k → k ≡ i → ⊥
+read_leaves is_reverse t node i r k None beside h behind e = none_in nat_eq r _ h
 read_leaves false t node i r k (Some (b, j)) beside h behind e = omega (arith, beside.0, behind, e)
 read_leaves true t node i r k (Some (b, j)) beside h behind e = omega (arith, beside.0, behind, e)
 

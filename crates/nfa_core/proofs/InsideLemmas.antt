@@ -11,13 +11,13 @@ use Rattle.nfa_core.proofs.PairLemmas.{from_map}
 use Rattle.nfa_core.proofs.AutomatonLemmas.{IsBeside, reads_beside, match_is}
 use Rattle.nfa_core.proofs.EndsLemmas.{listed_run}
 
-place_zero : (down : Bool) (i : ℕ) → place_of down i 0 ≡ i
+place_zero : (is_reverse : Bool) (i : ℕ) → place_of is_reverse i 0 ≡ i
 place_zero false i = omega arith
 place_zero true i = omega arith
 
-read_inside : (down : Bool) (t : Text) (i k : ℕ) (read : Option (ℕ × ℕ)) → k ≤ bytes_left down t i → IsBeside down t (place_of down i k) read →
-    IsInside down i (bytes_left down t i) (place_behind (place_of down i k) read)
-read_inside down t i k None l beside = (k, l, refl)
+read_inside : (is_reverse : Bool) (t : Text) (i k : ℕ) (read : Option (ℕ × ℕ)) → k ≤ bytes_left is_reverse t i → IsBeside is_reverse t (place_of is_reverse i k) read →
+    IsInside is_reverse i (bytes_left is_reverse t i) (place_behind (place_of is_reverse i k) read)
+read_inside is_reverse t i k None l beside = (k, l, refl)
 read_inside false t i k (Some (b, j)) l beside = (suc k, omega (arith, beside.1), omega (arith, beside.0))
 read_inside true t i k (Some (b, j)) l beside = (suc k, omega (arith, beside.0, beside.1), omega (arith, beside.0))
 
@@ -57,14 +57,14 @@ module _ (a : Automaton) (t : Text) (i : ℕ) where
       subst Inside (sym (match_there (node_at a (last_or (i, q) run.0).1) (last_or (i, q) run.0).0 x run.1.2))
       (chain_inside run.0 (i, q) (0, omega arith, sym (place_zero a.reverse i)) run.1.0)
 
-pub inside_up : (a : Automaton) (t : Text) (i j : ℕ) → a.reverse ≡ false → i ≤ t.end → IsInside a.reverse i (bytes_left a.reverse t i) j → (i ≤ j) × (j ≤ t.end)
-inside_up a t i j up here is =
+pub inside_forward : (a : Automaton) (t : Text) (i j : ℕ) → a.reverse ≡ false → i ≤ t.end → IsInside a.reverse i (bytes_left a.reverse t i) j → (i ≤ j) × (j ≤ t.end)
+inside_forward a t i j up here is =
     let I : Bool → Type 0 = λ b. IsInside b i (bytes_left b t i) j in
     let k : I false = subst I up is in
     (omega (arith, k.1, k.2), omega (arith, k.1, k.2, here))
 
-pub inside_down : (a : Automaton) (t : Text) (i j : ℕ) → a.reverse ≡ true → t.start ≤ i → IsInside a.reverse i (bytes_left a.reverse t i) j → (t.start ≤ j) × (j ≤ i)
-inside_down a t i j down here is =
+pub inside_reverse : (a : Automaton) (t : Text) (i j : ℕ) → a.reverse ≡ true → t.start ≤ i → IsInside a.reverse i (bytes_left a.reverse t i) j → (t.start ≤ j) × (j ≤ i)
+inside_reverse a t i j is_reverse here is =
     let I : Bool → Type 0 = λ b. IsInside b i (bytes_left b t i) j in
-    let k : I true = subst I down is in
+    let k : I true = subst I is_reverse is in
     (omega (arith, k.1, k.2, here), omega (arith, k.1, k.2))

@@ -40,25 +40,25 @@ module _ {A : Type 0} (same : A → A → Bool) (laws : IsEquality same) (keep :
 
     -- what is passed through is settled, but for what waits for the next to be met
     abbrev Waits : List A → List A → Type 0
-    Waits s todo = (d : A) → Has same d s → keep d ≡ false → In d s ⊎ ((z : A) × (to d ≡ to z) × (rank z < rank d) × IsHead z todo)
+    Waits s stack = (d : A) → Has same d s → keep d ≡ false → In d s ⊎ ((z : A) × (to d ≡ to z) × (rank z < rank d) × IsHead z stack)
 
-    head_in : (x : A) (s todo : List A) → Has same x s → Waits s (x ∷ todo) → In x s
-    head_in x s todo there waits = ⊎_elim (λ (k : keep x ≡ true). in_self x s k there)
+    head_in : (x : A) (s stack : List A) → Has same x s → Waits s (x ∷ stack) → In x s
+    head_in x s stack there waits = ⊎_elim (λ (k : keep x ≡ true). in_self x s k there)
         (λ (k : keep x ≡ false). ⊎_elim (λ (all : In x s). all) (λ (z, e, less, is). let l : rank x < rank x = (rw is at less) in absurd (omega (arith, l))) (waits x there k)) (cases_Bool (keep x))
 
-    settle : (x : A) (s todo : List A) → In x s → Waits s (x ∷ todo) → Settled s
-    settle x s todo all waits d there k = ⊎_elim (λ (a : In d s). a) (λ (z, e, less, is). in_as d x s (e ∙ ap to is) all) (waits d there k)
+    settle : (x : A) (s stack : List A) → In x s → Waits s (x ∷ stack) → Settled s
+    settle x s stack all waits d there k = ⊎_elim (λ (a : In d s). a) (λ (z, e, less, is). in_as d x s (e ∙ ap to is) all) (waits d there k)
 
-    kept_walk : {todo s a : List A} → Visits same ways todo s a → Waits s todo → Visits same past (flat_map to todo) (filter keep s) (filter keep a) × Settled a
+    kept_walk : {stack s a : List A} → Visits same ways stack s a → Waits s stack → Visits same past (flat_map to stack) (filter keep s) (filter keep a) × Settled a
     kept_walk (done s a e) waits = (
       done (filter keep s) (filter keep a) (ap (filter keep) e),
       let S : List A → Type 0 = λ l. Settled l in subst S e (λ d there k. ⊎_elim (λ (all : In d s). all) (λ (z, _e, _l, none). absurd none) (waits d there k)),
     )
-    kept_walk (held x todo s a there rest) waits =
-        let all : In x s = head_in x s todo there waits in
-        let r = kept_walk rest (λ d h k. inl (settle x s todo all waits d h k)) in
-        (all_held same laws past (to x) (flat_map to todo) (filter keep s) (filter keep a) (λ q h. has_filter same laws keep q s (to_kept x q h) ∙ all q h) r.0, r.1)
-    kept_walk (fresh x todo s mid a absent first rest) waits =
+    kept_walk (held x stack s a there rest) waits =
+        let all : In x s = head_in x s stack there waits in
+        let r = kept_walk rest (λ d h k. inl (settle x s stack all waits d h k)) in
+        (all_held same laws past (to x) (flat_map to stack) (filter keep s) (filter keep a) (λ q h. has_filter same laws keep q s (to_kept x q h) ∙ all q h) r.0, r.1)
+    kept_walk (fresh x stack s mid a absent first rest) waits =
         let now : List A = s ++ x ∷ [] in
         let x_now : Has same x now = has_pushed same laws x s in
         ⊎_elim
@@ -70,8 +70,8 @@ module _ {A : Type 0} (same : A → A → Bool) (laws : IsEquality same) (keep :
         let two = kept_walk rest (λ d h drop. inl (one.1 d h drop)) in
         let e : filter keep now ≡ filter keep s ++ x ∷ [] = filter-append keep s (x ∷ []) ∙ rw k in
         let V : List A → Type 0 = λ l. Visits same past (past x) l (filter keep mid) in
-        let W : List A → Type 0 = λ l. Visits same past (l ++ flat_map to todo) (filter keep s) (filter keep a) in
-        (subst W (sym (to_self x k)) (fresh x (flat_map to todo) (filter keep s) (filter keep mid) (filter keep a) (has_filter same laws keep x s k ∙ absent) (subst V e one.0) two.0), two.1))
+        let W : List A → Type 0 = λ l. Visits same past (l ++ flat_map to stack) (filter keep s) (filter keep a) in
+        (subst W (sym (to_self x k)) (fresh x (flat_map to stack) (filter keep s) (filter keep mid) (filter keep a) (has_filter same laws keep x s k ∙ absent) (subst V e one.0) two.0), two.1))
         (λ (k : keep x ≡ false).
         let pass = passed x k in
         let on : (d : A) → to d ≡ to x → rank x ≤ rank d → In d now ⊎ ((z : A) × (to d ≡ to z) × (rank z < rank d) × IsHead z (ways x)) =
@@ -85,7 +85,7 @@ module _ {A : Type 0} (same : A → A → Bool) (laws : IsEquality same) (keep :
         let e : filter keep now ≡ filter keep s = filter-append keep s (x ∷ []) ∙ rw k (append-nil (filter keep s)) in
         let V : List A → Type 0 = λ l. Visits same past (flat_map to (ways x)) l (filter keep mid) in
         let W : List A → Type 0 = λ l. Visits same past l (filter keep s) (filter keep mid) in
-        (joined same past (to x) (flat_map to todo) (filter keep s) (filter keep mid) (filter keep a) (subst W (sym pass.0) (subst V e one.0)) two.0, two.1))
+        (joined same past (to x) (flat_map to stack) (filter keep s) (filter keep mid) (filter keep a) (subst W (sym pass.0) (subst V e one.0)) two.0, two.1))
         (cases_Bool (keep x))
 
   kept_alone : (xs : List A) → flat_map to (filter keep xs) ≡ filter keep xs

@@ -16,13 +16,13 @@ use Rattle.nfa_core.proofs.RunLemmas.{first_distinct}
 use Rattle.nfa_core.proofs.PairLemmas.{names_equal, finite_names}
 use Rattle.nfa_core.proofs.PlaceLemmas.{here, beyond, found, ends_by_place}
 
-pub stays : (ways : ℕ → List ℕ) (n : ℕ) → StaysBelow n ways → {todo seen after : List ℕ} → Visits nat_eq ways todo seen after →
-    ((q : ℕ) → Has nat_eq q todo → q < n) → ((q : ℕ) → Has nat_eq q seen → q < n) → (q : ℕ) → Has nat_eq q after → q < n
+pub stays : (ways : ℕ → List ℕ) (n : ℕ) → StaysBelow n ways → {stack seen after : List ℕ} → Visits nat_eq ways stack seen after →
+    ((q : ℕ) → Has nat_eq q stack → q < n) → ((q : ℕ) → Has nat_eq q seen → q < n) → (q : ℕ) → Has nat_eq q after → q < n
 stays ways n below (done seen after e) inside low q h = low q (rw e h)
-stays ways n below (held x todo seen after there rest) inside low q h = stays ways n below rest (λ p g. inside p (has_later nat_eq p x todo g)) low q h
-stays ways n below (fresh x todo seen mid after absent one two) inside low q h =
-    let x_low : x < n = inside x (has_first nat_eq names_equal x todo) in
-    stays ways n below two (λ p g. inside p (has_later nat_eq p x todo g))
+stays ways n below (held x stack seen after there rest) inside low q h = stays ways n below rest (λ p g. inside p (has_later nat_eq p x stack g)) low q h
+stays ways n below (fresh x stack seen mid after absent one two) inside low q h =
+    let x_low : x < n = inside x (has_first nat_eq names_equal x stack) in
+    stays ways n below two (λ p g. inside p (has_later nat_eq p x stack g))
     (stays ways n below one (below x x_low) (of_push nat_eq names_equal (λ p. p < n) seen x low x_low)) q h
 
 or_assoc : {A : Type 0} (a b c : Option A) → option_or (option_or a b) c ≡ option_or a (option_or b c)

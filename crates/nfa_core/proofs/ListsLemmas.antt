@@ -6,7 +6,7 @@ use Rattle.nfa_core.proofs.PreferenceLemmas.{one_value, no_value}
 
 module _ {A B : Type 0} (ways : A → List A) (answer : A → Option B) where
   abbrev Listed : List A → List B → Type 0
-  Listed todo l = Lists ways answer todo l
+  Listed stack l = Lists ways answer stack l
 
   pub lists_append : {xs : List A} {l : List B} → Listed xs l → (ys : List A) (m : List B) → Listed ys m → Listed (xs ++ ys) (l ++ m)
   lists_append lists_none ys m other = other
@@ -19,24 +19,24 @@ module _ {A B : Type 0} (ways : A → List A) (answer : A → Option B) where
   abbrev Parts : List A → List A → List B → Type 0
   Parts xs ys l = (a : List B) × (b : List B) × (l ≡ a ++ b) × Listed xs a × Listed ys b
 
-  parts : {todo : List A} {l : List B} → Listed todo l → (xs ys : List A) → todo ≡ xs ++ ys → Parts xs ys l
-  parts {todo} {l} walk [] ys e = ([], l, refl, lists_none, (let L : List A → Type 0 = λ t. Listed t l in subst L e walk))
-  parts lists_none (x ∷ xs) ys e = cc
-  parts (lists_answer z d rest l is walk) (x ∷ xs) ys e =
+  drafts : {stack : List A} {l : List B} → Listed stack l → (xs ys : List A) → stack ≡ xs ++ ys → Parts xs ys l
+  drafts {stack} {l} walk [] ys e = ([], l, refl, lists_none, (let L : List A → Type 0 = λ t. Listed t l in subst L e walk))
+  drafts lists_none (x ∷ xs) ys e = cc
+  drafts (lists_answer z d rest l is walk) (x ∷ xs) ys e =
       let head : z ≡ x = cc in
       let tail : rest ≡ xs ++ ys = cc in
-      let r = parts walk xs ys tail in
+      let r = drafts walk xs ys tail in
       let H : A → Type 0 = λ w. Listed (w ∷ xs) (d ∷ r.0) in
       (d ∷ r.0, r.1, ap (λ t. d ∷ t) r.2, subst H head (lists_answer z d xs r.0 is r.3), r.4)
-  parts (lists_ways z rest l is walk) (x ∷ xs) ys e =
+  drafts (lists_ways z rest l is walk) (x ∷ xs) ys e =
       let head : z ≡ x = cc in
       let tail : rest ≡ xs ++ ys = cc in
-      let r = parts walk (ways z ++ xs) ys (ap (λ t. ways z ++ t) tail ∙ sym (append_assoc (ways z) xs ys)) in
+      let r = drafts walk (ways z ++ xs) ys (ap (λ t. ways z ++ t) tail ∙ sym (append_assoc (ways z) xs ys)) in
       let H : A → Type 0 = λ w. Listed (w ∷ xs) r.0 in
       (r.0, r.1, r.2, subst H head (lists_ways z xs r.0 is r.3), r.4)
 
   pub lists_split : (xs ys : List A) (l : List B) → Listed (xs ++ ys) l → Parts xs ys l
-  lists_split xs ys l walk = parts walk xs ys refl
+  lists_split xs ys l walk = drafts walk xs ys refl
 
   none_left : {m : List B} → Listed [] m → [] ≡ m
   none_left lists_none = refl
@@ -51,7 +51,7 @@ module _ {A B : Type 0} (ways : A → List A) (answer : A → Option B) where
   after_ways (lists_ways x rest l is walk) none = walk
 
   -- the walk of a stack lists one thing
-  pub one_list : {todo : List A} {l : List B} → Listed todo l → (m : List B) → Listed todo m → l ≡ m
+  pub one_list : {stack : List A} {l : List B} → Listed stack l → (m : List B) → Listed stack m → l ≡ m
   one_list lists_none m other = none_left other
   one_list (lists_answer x e rest l is walk) m other = let r = after_answer other e is in ap (λ t. e ∷ t) (one_list walk r.0 r.2) ∙ sym r.1
   one_list (lists_ways x rest l is walk) m other = one_list walk m (after_ways other is)

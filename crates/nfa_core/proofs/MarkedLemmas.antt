@@ -77,10 +77,10 @@ pushed names words new bound name m h absent len there others = record {
   small = m.small;
   wide = rw len m.wide;
   marks = λ n.
-      let parts : is_in n (names ++ name ∷ []) ≡ (is_in n names || is_in n (name ∷ [])) = list_any-append (nat_eq n) names (name ∷ []) in
+      let drafts : is_in n (names ++ name ∷ []) ≡ (is_in n names || is_in n (name ∷ [])) = list_any-append (nat_eq n) names (name ∷ []) in
       ⊎_elim
-      (λ (e : n ≡ name). let it : nat_eq n name ≡ true = (Decides-eqb n name).1 e in rw (parts, it, e, there, absent) refl)
+      (λ (e : n ≡ name). let it : nat_eq n name ≡ true = (Decides-eqb n name).1 e in rw (drafts, it, e, there, absent) refl)
       (λ (ne : n ≢ name). let other : nat_eq n name ≡ false = false_from_ne_true _ (λ e. ne ((Decides-eqb n name).0 e)) in
-      rw (parts, other, others n ne, m.marks n) (or_false (is_in n names)))
+      rw (drafts, other, others n ne, m.marks n) (or_false (is_in n names)))
       (cases_eq n name);
 }

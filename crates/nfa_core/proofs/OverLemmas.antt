@@ -21,11 +21,11 @@ flat_same f g (x ∷ xs) same = ap₂ (λ (l m : List ℕ). l ++ m) (same x) (fl
 nothing_met : (steps : ℕ → List ℕ) (after : List ℕ) → Visits nat_eq steps [] [] after → after ≡ []
 nothing_met steps after (done seen ids e) = sym e
 
-nothing_todo : (steps : ℕ → List ℕ) (todo after : List ℕ) → todo ≡ [] → Visits nat_eq steps todo [] after → after ≡ []
-nothing_todo steps todo after e v = let P : List ℕ → Type 0 = λ l. Visits nat_eq steps l [] after in nothing_met steps after (subst P e v)
+nothing_todo : (steps : ℕ → List ℕ) (stack after : List ℕ) → stack ≡ [] → Visits nat_eq steps stack [] after → after ≡ []
+nothing_todo steps stack after e v = let P : List ℕ → Type 0 = λ l. Visits nat_eq steps l [] after in nothing_met steps after (subst P e v)
 
-meets_nothing : (steps : ℕ → List ℕ) (todo after : List ℕ) → todo ≡ [] → after ≡ [] → Visits nat_eq steps todo [] after
-meets_nothing steps todo after e f =
+meets_nothing : (steps : ℕ → List ℕ) (stack after : List ℕ) → stack ≡ [] → after ≡ [] → Visits nat_eq steps stack [] after
+meets_nothing steps stack after e f =
     let P : List ℕ → Type 0 = λ l. Visits nat_eq steps l [] after in
     subst P (sym e) (done [] after (sym f))
 
@@ -38,9 +38,9 @@ module _ (a : Automaton) (t u : Text) (i q d : ℕ) (lists : ℕ → List ℕ) w
   cut k xs = before_answer (λ x. matched_behind a i (k, x)) xs
 
   module _ (alike : IsAlike a t u i d) (listed : AreLists a t (i, q) cut lists) (over : IsOver a t i d (cut d (lists d))) where
-    walk_alike : (k : ℕ) → k ≤ d → (todo : List ℕ) → Visits nat_eq (plain_steps a t (place_of a.reverse i k)) todo [] (lists k) →
-        Visits nat_eq (plain_steps a u (place_of a.reverse i k)) todo [] (lists k)
-    walk_alike k l todo v = stays_closed nat_eq names_equal (plain_steps a t (place_of a.reverse i k)) (plain_steps a u (place_of a.reverse i k)) v (λ x has. alike.looks k x l)
+    walk_alike : (k : ℕ) → k ≤ d → (stack : List ℕ) → Visits nat_eq (plain_steps a t (place_of a.reverse i k)) stack [] (lists k) →
+        Visits nat_eq (plain_steps a u (place_of a.reverse i k)) stack [] (lists k)
+    walk_alike k l stack v = stays_closed nat_eq names_equal (plain_steps a t (place_of a.reverse i k)) (plain_steps a u (place_of a.reverse i k)) v (λ x has. alike.looks k x l)
 
     cut_none : (k : ℕ) (xs : List ℕ) → xs ≡ [] → cut k xs ≡ []
     cut_none k xs e = ap (cut k) e

@@ -68,7 +68,7 @@ module _ {A C : Type 0} (same : A → A → Bool) (laws : IsEquality same) (othe
     -- its steps lead to the first thing that is to do
     abbrev IsPending : A → List A → Type 0
     IsPending s [] = ⊥
-    IsPending s (x ∷ todo) = (n : ℕ) × Leads (suc n) s x
+    IsPending s (x ∷ stack) = (n : ℕ) × Leads (suc n) s x
 
     abbrev AreIn : List A → Type 0
     AreIn xs = (q : A) → Has same q xs → In q
@@ -77,10 +77,10 @@ module _ {A C : Type 0} (same : A → A → Bool) (laws : IsEquality same) (othe
     AreMet xs = (s : A) → Has same s xs → IsMet xs s
 
     abbrev AreMetOr : List A → List A → Type 0
-    AreMetOr seen todo = (s : A) → Has same s seen → IsMet seen s ⊎ IsPending s todo
+    AreMetOr seen stack = (s : A) → Has same s seen → IsMet seen s ⊎ IsPending s stack
 
-    record Carried (todo seen after : List A) : Type 0 where
-      walk : Visits other ways_o (map name todo) (names seen) (names after)
+    record Carried (stack seen after : List A) : Type 0 where
+      walk : Visits other ways_o (map name stack) (names seen) (names after)
       inside : AreIn after
       met : AreMet after
 
@@ -91,24 +91,24 @@ module _ {A C : Type 0} (same : A → A → Bool) (laws : IsEquality same) (othe
     more_met seen x s m = (m.0, has_left same m.0 seen (x ∷ []) m.1, m.2, m.3)
 
     -- the first thing to do has its own met where it was met itself
-    first_met : (seen todo : List A) (x : A) → In x → Has same x seen → AreMetOr seen (x ∷ todo) → IsMet seen x
-    first_met seen todo x here there all = let o = out x here in
+    first_met : (seen stack : List A) (x : A) → In x → Has same x seen → AreMetOr seen (x ∷ stack) → IsMet seen x
+    first_met seen stack x here there all = let o = out x here in
         ⊎_elim (λ m. m) (λ pending. absurd (no_round o.0 pending.0 x o.1 pending.1)) (all x there)
 
-    all_met : (seen todo : List A) (x : A) → IsMet seen x → AreMetOr seen (x ∷ todo) → AreMet seen
-    all_met seen todo x m all s h = ⊎_elim (λ own. own)
+    all_met : (seen stack : List A) (x : A) → IsMet seen x → AreMetOr seen (x ∷ stack) → AreMet seen
+    all_met seen stack x m all s h = ⊎_elim (λ own. own)
         (λ pending. (m.0, m.1, m.2, name_led (suc pending.0) s x pending.1 ∙ m.3)) (all s h)
 
     of_more : (P : A → Type 0) (seen : List A) (x : A) → ((s : A) → Has same s seen → P s) → P x → (s : A) → Has same s (seen ++ x ∷ []) → P s
     of_more P seen x all one s h = of_push same laws P seen x all one s h
 
-    kept_met : (seen todo : List A) (x : A) → stands x ≡ None → AreMetOr seen (x ∷ todo) → AreMet (seen ++ x ∷ [])
-    kept_met seen todo x none all = of_more (IsMet (seen ++ x ∷ [])) seen x
+    kept_met : (seen stack : List A) (x : A) → stands x ≡ None → AreMetOr seen (x ∷ stack) → AreMet (seen ++ x ∷ [])
+    kept_met seen stack x none all = of_more (IsMet (seen ++ x ∷ [])) seen x
         (λ s h. ⊎_elim (λ m. more_met seen x s m) (λ pending. (x, has_pushed same laws x seen, none, name_led (suc pending.0) s x pending.1)) (all s h))
         (x, has_pushed same laws x seen, none, refl)
 
-    stand_met : (seen todo : List A) (x r : A) → stands x ≡ Some r → AreMetOr seen (x ∷ todo) → AreMetOr (seen ++ x ∷ []) (ways x)
-    stand_met seen todo x r some all =
+    stand_met : (seen stack : List A) (x r : A) → stands x ≡ Some r → AreMetOr seen (x ∷ stack) → AreMetOr (seen ++ x ∷ []) (ways x)
+    stand_met seen stack x r some all =
         let P : List A → Type 0 = λ next. AreMetOr (seen ++ x ∷ []) next in
         subst P (sym (stand_ways x r some).0) (of_more (λ s. IsMet (seen ++ x ∷ []) s ⊎ IsPending s (r ∷ [])) seen x
         (λ s h. ⊎_elim (λ m. inl (more_met seen x s m)) (λ pending. inr (suc pending.0, led_on (suc pending.0) s x r pending.1 some)) (all s h))
@@ -141,37 +141,37 @@ module _ {A C : Type 0} (same : A → A → Bool) (laws : IsEquality same) (othe
         not_both (has same x seen) _ (subst H (sym one) k.0) absent)
         (λ e. e) (has_or_not other (name x) (names seen))
 
-    carry : {todo seen after : List A} → Visits same ways todo seen after → AreIn todo → AreIn seen → AreMetOr seen todo → Carried todo seen after
+    carry : {stack seen after : List A} → Visits same ways stack seen after → AreIn stack → AreIn seen → AreMetOr seen stack → Carried stack seen after
     carry (done seen after e) todo_in inside all =
         let fine : Fine after = subst Fine e (inside, λ s h. ⊎_elim (λ m. m) (λ pending. absurd pending) (all s h)) in
         record { walk = done (names seen) (names after) (ap names e); inside = fine.0; met = fine.1 }
-    carry (held x todo seen after there rest) todo_in inside all =
-        let m : IsMet seen x = first_met seen todo x (todo_in x (has_first same laws x todo)) there all in
-        let go = carry rest (λ q h. todo_in q (has_later same q x todo h)) inside (λ s h. inl (all_met seen todo x m all s h)) in
-        record { walk = held (name x) (map name todo) (names seen) (names after) (is_there seen x m) go.walk; inside = go.inside; met = go.met }
-    carry (fresh x todo seen mid after absent first rest) todo_in inside all =
-        let here : In x = todo_in x (has_first same laws x todo) in
+    carry (held x stack seen after there rest) todo_in inside all =
+        let m : IsMet seen x = first_met seen stack x (todo_in x (has_first same laws x stack)) there all in
+        let go = carry rest (λ q h. todo_in q (has_later same q x stack h)) inside (λ s h. inl (all_met seen stack x m all s h)) in
+        record { walk = held (name x) (map name stack) (names seen) (names after) (is_there seen x m) go.walk; inside = go.inside; met = go.met }
+    carry (fresh x stack seen mid after absent first rest) todo_in inside all =
+        let here : In x = todo_in x (has_first same laws x stack) in
         let pushed : AreIn (seen ++ x ∷ []) = of_push same laws In seen x inside here in
         ⊎_elim
         (λ (none : stands x ≡ None).
-        let one = carry first (stays x here) pushed (λ s h. inl (kept_met seen todo x none all s h)) in
-        let two = carry rest (λ q h. todo_in q (has_later same q x todo h)) one.inside (λ s h. inl (one.met s h)) in
+        let one = carry first (stays x here) pushed (λ s h. inl (kept_met seen stack x none all s h)) in
+        let two = carry rest (λ q h. todo_in q (has_later same q x stack h)) one.inside (λ s h. inl (one.met s h)) in
         let W : List C → Type 0 = λ next. Visits other ways_o next (names seen ++ name x ∷ []) (names mid) in
         let S : List C → Type 0 = λ s. Visits other ways_o (map name (ways x)) s (names mid) in
         record {
-          walk = fresh (name x) (map name todo) (names seen) (names mid) (names after) (is_absent seen x here inside none absent)
+          walk = fresh (name x) (map name stack) (names seen) (names mid) (names after) (is_absent seen x here inside none absent)
               (subst W (sym (kept_ways x here none)) (subst S (names_kept seen x none) one.walk)) two.walk;
           inside = two.inside;
           met = two.met;
         })
         (λ (some : (r : A) × (stands x ≡ Some r)).
-        let one = carry first (stays x here) pushed (stand_met seen todo x some.0 some.1 all) in
-        let two = carry rest (λ q h. todo_in q (has_later same q x todo h)) one.inside (λ s h. inl (one.met s h)) in
+        let one = carry first (stays x here) pushed (stand_met seen stack x some.0 some.1 all) in
+        let two = carry rest (λ q h. todo_in q (has_later same q x stack h)) one.inside (λ s h. inl (one.met s h)) in
         let W : List C → Type 0 = λ next. Visits other ways_o next (names seen) (names mid) in
         let S : List C → Type 0 = λ s. Visits other ways_o (map name (ways x)) s (names mid) in
         let way = stand_ways x some.0 some.1 in
         record {
-          walk = joined other ways_o (name x ∷ []) (map name todo) (names seen) (names mid) (names after)
+          walk = joined other ways_o (name x ∷ []) (map name stack) (names seen) (names mid) (names after)
               (subst W (ap (map name) way.0 ∙ ap (λ c. c ∷ []) (sym way.1)) (subst S (names_stand seen x some.0 some.1) one.walk)) two.walk;
           inside = two.inside;
           met = two.met;

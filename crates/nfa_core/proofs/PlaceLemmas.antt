@@ -55,8 +55,8 @@ module _ {B : Type 0} (eps step : ℕ → ℕ → List ℕ) (answer : ℕ × ℕ
         let l : length inner < n = room_for nat_eq names_equal (eps k) (λ q. q < n) n (finite_names n (eps k) (graph.eps_below k)) x inner below fits.2 fits.1 e in
         absurd (omega (arith, l, fits.0))) (has_or_not nat_eq x inner)
 
-    parts : (k x : ℕ) (t : ℕ × ℕ → List B) → flat_map t (nexts eps step (k, x)) ≡ flat_map (λ y. t (suc k, y)) (step k x) ++ flat_map (λ y. t (k, y)) (eps k x)
-    parts k x t = flat_map-append t (map (λ y. (suc k, y)) (step k x)) (map (λ y. (k, y)) (eps k x))
+    drafts : (k x : ℕ) (t : ℕ × ℕ → List B) → flat_map t (nexts eps step (k, x)) ≡ flat_map (λ y. t (suc k, y)) (step k x) ++ flat_map (λ y. t (k, y)) (eps k x)
+    drafts k x t = flat_map-append t (map (λ y. (suc k, y)) (step k x)) (map (λ y. (k, y)) (eps k x))
         ∙ ap (λ l. l ++ flat_map t (map (λ y. (k, y)) (eps k x))) (flat_map-map t (λ y. (suc k, y)) (step k x))
         ∙ ap (λ l. flat_map (λ y. t (suc k, y)) (step k x) ++ l) (flat_map-map t (λ y. (k, y)) (eps k x))
 
@@ -90,7 +90,7 @@ module _ {B : Type 0} (eps step : ℕ → ℕ → List ℕ) (answer : ℕ × ℕ
         linked f n b (suc k) y [] (p ∷ path) (omega (arith, m, fuel)) (omega (arith, is, end)) (graph.step_below k x below y way) fits_nil (knows_byte k x inner path knows)) in
         ap (λ l. here k x ++ l)
         (flat_map_twice (λ q. option_to_list (answer q)) ends (nexts eps step p)
-        ∙ parts k x t
+        ∙ drafts k x t
         ∙ ap (λ l. l ++ flat_map (λ y. t (k, y)) (eps k x)) bytes
         ∙ ap (λ l. beyond d k x ++ l) way_part)
         ∙ sym (append_assoc (here k x) (beyond d k x) (flat_map (found d k) inside))))

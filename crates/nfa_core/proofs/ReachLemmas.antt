@@ -5,8 +5,8 @@ use Rattle.nfa_core.specs.CanBuild.{CanBuild}
 use Rattle.nfa_core.specs.Pasts.{IsReached}
 use Rattle.nfa_core.proofs.RenamingLemmas.{past_stands, next_inside}
 
-pub can_reach : (b : Assembly) (x y : ℕ) → CanBuild b x y → IsReached b.parts
+pub can_reach : (b : Assembly) (x y : ℕ) → CanBuild b x y → IsReached b.drafts
 can_reach b x y can = record {
-  ends = λ q inside. past_stands b.parts can.no_loop q inside;
-  stays = λ q next inside e. next_inside b.parts can.named q next e;
+  ends = λ q inside. past_stands b.drafts can.no_loop q inside;
+  stays = λ q next inside e. next_inside b.drafts can.named q next e;
 }

@@ -60,13 +60,13 @@ held_inserted true x old new is tells e = cc
 held_inserted false x old new is tells e = ⊎_elim (λ (h : has nat_eq x old ≡ true). (h, e)) (λ (h : has nat_eq x old ≡ false). let t : false ≡ true = (rw h at tells) in cc) (cases_Bool (has nat_eq x old))
 
 -- a step of the walk: what the set has already is passed over, what it lacks has its ways walked
-module _ (todo seen stack names rest new : List ℕ) (x : ℕ) (b : Bool) (same : names ≡ seen) (taken : stack ≡ x ∷ rest) (walk : GoesOn todo seen stack names)
+module _ (before seen stack names rest new : List ℕ) (x : ℕ) (b : Bool) (same : names ≡ seen) (taken : stack ≡ x ∷ rest) (walk : GoesOn before seen stack names)
     (tells : b ≡ not (has nat_eq x names)) (e : new ≡ (if b then names ++ x ∷ [] else names)) where
-  pub passes : b ≡ false → (new ≡ seen) × GoesOn todo seen rest new
+  pub passes : b ≡ false → (new ≡ seen) × GoesOn before seen rest new
   passes is = let h = held_inserted b x names new is tells e in
       (h.1 ∙ same, λ ways after v. walk ways after (rw taken (held x rest names after h.0 (rw (← h.1) v))))
 
-  pub meets : b ≡ true → Meets todo seen rest new (Some x)
+  pub meets : b ≡ true → Meets before seen rest new (Some x)
   meets is = let h = fresh_inserted b x names new is tells e in
       (h.1 ∙ ap (λ l. l ++ x ∷ []) same, λ ways after v. walk ways after (rw taken (fresh_on_stack nat_eq ways x rest names after h.0 (rw (← h.1) v))))
 

@@ -24,7 +24,7 @@ reads_same false f g h s e i = refl
 reads_same true f g h s e zero = refl
 reads_same true f g h s e (suc i) = refl
 
--- readings that agree on the looks of the states, each turned round for one who reads down
+-- readings that agree on the looks of the states, each turned round for one who reads in reverse
 pub alike_by_looks : (a : Automaton) (f g : Look → ℕ → Bool) (h : List ℕ) (start end i d : ℕ) →
     ((l : Look) (k : ℕ) → has_look (looks_of a.states) l ≡ true → k ≤ d →
     is_passed a.reverse (read_by f h start end) l (place_of a.reverse i k) ≡ is_passed a.reverse (read_by g h start end) l (place_of a.reverse i k)) →
@@ -38,17 +38,17 @@ alike_by_looks a f g h start end i d same = record {
   bytes = λ k q low. ap (on_read (node_at a q)) (reads_same a.reverse f g h start end (place_of a.reverse i k));
 }
 
-passed_up : (b : Bool) (f g : Look → ℕ → Bool) (h : List ℕ) (start end : ℕ) (l : Look) (j : ℕ) → b ≡ false → f l j ≡ g l j →
+passed_forward : (b : Bool) (f g : Look → ℕ → Bool) (h : List ℕ) (start end : ℕ) (l : Look) (j : ℕ) → b ≡ false → f l j ≡ g l j →
     is_passed b (read_by f h start end) l j ≡ is_passed b (read_by g h start end) l j
-passed_up false f g h start end l j up same = same
-passed_up true f g h start end l j up same = cc
+passed_forward false f g h start end l j up same = same
+passed_forward true f g h start end l j up same = cc
 
-place_up : (b : Bool) (i k : ℕ) → b ≡ false → place_of b i k ≡ i + k
-place_up false i k up = refl
-place_up true i k up = cc
+place_forward : (b : Bool) (i k : ℕ) → b ≡ false → place_of b i k ≡ i + k
+place_forward false i k up = refl
+place_forward true i k up = cc
 
-pub alike_up : (a : Automaton) (f g : Look → ℕ → Bool) (h : List ℕ) (start end i d : ℕ) → a.reverse ≡ false →
+pub alike_forward : (a : Automaton) (f g : Look → ℕ → Bool) (h : List ℕ) (start end i d : ℕ) → a.reverse ≡ false →
     ((l : Look) (j : ℕ) → has_look (looks_of a.states) l ≡ true → i ≤ j → j ≤ i + d → f l j ≡ g l j) → IsAlike a (read_by f h start end) (read_by g h start end) i d
-alike_up a f g h start end i d up same = alike_by_looks a f g h start end i d
-    (λ l k there low. let at : place_of a.reverse i k ≡ i + k = place_up a.reverse i k up in
-    passed_up a.reverse f g h start end l (place_of a.reverse i k) up (same l (place_of a.reverse i k) there (omega arith) (omega arith)))
+alike_forward a f g h start end i d up same = alike_by_looks a f g h start end i d
+    (λ l k there low. let at : place_of a.reverse i k ≡ i + k = place_forward a.reverse i k up in
+    passed_forward a.reverse f g h start end l (place_of a.reverse i k) up (same l (place_of a.reverse i k) there (omega arith) (omega arith)))

@@ -6,7 +6,7 @@ use Rattle.std.specs.Bool.{nat_eq}
 use Rattle.std.proofs.lemmas.List.{get_or_past}
 use Rattle.std.proofs.lemmas.List.Elements.{All-get_or}
 use Rattle.std.proofs.lemmas.Bool.Decides.{leb_tells}
-use Rattle.nfa_core.specs.BuilderStates.{Part, empty_part, range_part, sparse_part, look_part, capture_start_part, capture_end_part, union_part, union_reverse_part, fail_part, match_part, part_at}
+use Rattle.nfa_core.specs.BuilderStates.{DraftNode, empty_draft, range_draft, sparse_draft, look_draft, capture_start_draft, capture_end_draft, union_draft, union_reverse_draft, fail_draft, match_draft, draft_at}
 use Rattle.nfa_core.specs.Walks.{Has, HasNoneTwice, IsFinite}
 use Rattle.nfa_core.specs.Renaming.{stands_for, past_within, going_on, past, HasNoLoop}
 use Rattle.nfa_core.specs.CanBuild.{names_of}
@@ -14,46 +14,46 @@ use Rattle.nfa_core.proofs.MemberLemmas.{none_in, has_or_not, of_cons}
 use Rattle.nfa_core.proofs.PairLemmas.{names_equal, finite_names}
 use Rattle.nfa_core.proofs.PreferenceLemmas.{option_cases, one_value, no_value}
 
-pub past_itself : (parts : List Part) (n q : ℕ) → stands_for (part_at parts q) ≡ None → past_within parts n q ≡ q
-past_itself parts zero q e = refl
-past_itself parts (suc n) q e = ap (going_on q (past_within parts n)) e
+pub past_itself : (drafts : List DraftNode) (n q : ℕ) → stands_for (draft_at drafts q) ≡ None → past_within drafts n q ≡ q
+past_itself drafts zero q e = refl
+past_itself drafts (suc n) q e = ap (going_on q (past_within drafts n)) e
 
 -- what a state stands for is a state that it names
-stand_in_named : (n : ℕ) (part : Part) (r : ℕ) → stands_for part ≡ Some r → All (λ x. x < n) (names_of part) → r < n
-stand_in_named n (empty_part next) r e all = let i : next ≡ r = cc in let l : next < n = all 0 next (omega arith) in omega (arith, i, l)
-stand_in_named n (range_part low high next) r e all = cc
-stand_in_named n (sparse_part ranges) r e all = cc
-stand_in_named n (look_part look next) r e all = cc
-stand_in_named n (capture_start_part pattern group next) r e all = cc
-stand_in_named n (capture_end_part pattern group next) r e all = cc
-stand_in_named n (union_part []) r e all = cc
-stand_in_named n (union_part (next ∷ [])) r e all = let i : next ≡ r = cc in let l : next < n = all 0 next (omega arith) in omega (arith, i, l)
-stand_in_named n (union_part (next ∷ other ∷ others)) r e all = cc
-stand_in_named n (union_reverse_part []) r e all = cc
-stand_in_named n (union_reverse_part (next ∷ [])) r e all = let i : next ≡ r = cc in let l : next < n = all 0 next (omega arith) in omega (arith, i, l)
-stand_in_named n (union_reverse_part (next ∷ other ∷ others)) r e all = cc
-stand_in_named n fail_part r e all = cc
-stand_in_named n (match_part pattern) r e all = cc
+stand_in_named : (n : ℕ) (draft : DraftNode) (r : ℕ) → stands_for draft ≡ Some r → All (λ x. x < n) (names_of draft) → r < n
+stand_in_named n (empty_draft next) r e all = let i : next ≡ r = cc in let l : next < n = all 0 next (omega arith) in omega (arith, i, l)
+stand_in_named n (range_draft low high next) r e all = cc
+stand_in_named n (sparse_draft ranges) r e all = cc
+stand_in_named n (look_draft look next) r e all = cc
+stand_in_named n (capture_start_draft pattern group next) r e all = cc
+stand_in_named n (capture_end_draft pattern group next) r e all = cc
+stand_in_named n (union_draft []) r e all = cc
+stand_in_named n (union_draft (next ∷ [])) r e all = let i : next ≡ r = cc in let l : next < n = all 0 next (omega arith) in omega (arith, i, l)
+stand_in_named n (union_draft (next ∷ other ∷ others)) r e all = cc
+stand_in_named n (union_reverse_draft []) r e all = cc
+stand_in_named n (union_reverse_draft (next ∷ [])) r e all = let i : next ≡ r = cc in let l : next < n = all 0 next (omega arith) in omega (arith, i, l)
+stand_in_named n (union_reverse_draft (next ∷ other ∷ others)) r e all = cc
+stand_in_named n fail_draft r e all = cc
+stand_in_named n (match_draft pattern) r e all = cc
 
 -- each name that a state names is a state's
-abbrev pub AreNamed : List Part → Type 0
-AreNamed parts = All (λ part. All (λ q. q < length parts) (names_of part)) parts
+abbrev pub AreNamed : List DraftNode → Type 0
+AreNamed drafts = All (λ draft. All (λ q. q < length drafts) (names_of draft)) drafts
 
-module _ (parts : List Part) where
+module _ (drafts : List DraftNode) where
   abbrev pub standing : ℕ → Option ℕ
-  standing q = stands_for (part_at parts q)
+  standing q = stands_for (draft_at drafts q)
 
   -- after this many steps, and no fewer, one comes to a state that stands for itself
   abbrev pub Comes : ℕ → ℕ → Type 0
   Comes zero q = standing q ≡ None
   Comes (suc m) q = (r : ℕ) × (standing q ≡ Some r) × Comes m r
 
-  comes : (n q : ℕ) → standing (past_within parts n q) ≡ None → (m : ℕ) × Comes m q
+  comes : (n q : ℕ) → standing (past_within drafts n q) ≡ None → (m : ℕ) × Comes m q
   comes zero q e = (0, e)
   comes (suc n) q e = ⊎_elim
       (λ (none : standing q ≡ None). (0, none))
       (λ (some : (r : ℕ) × (standing q ≡ Some r)).
-      let back : standing (past_within parts n some.0) ≡ standing (past_within parts (suc n) q) = ap (λ o. standing (going_on q (past_within parts n) o)) (sym some.1) in
+      let back : standing (past_within drafts n some.0) ≡ standing (past_within drafts (suc n) q) = ap (λ o. standing (going_on q (past_within drafts n) o)) (sym some.1) in
       let more = comes n some.0 (back ∙ e) in (suc more.0, (some.0, some.1, more.1)))
       (option_cases (standing q))
 
@@ -67,10 +67,10 @@ module _ (parts : List Part) where
       ap (λ j. suc j) (one_count m k a.0 a.2 there)
 
   -- what stands for another is there
-  there_if_stands : (q r : ℕ) → standing q ≡ Some r → q < length parts
+  there_if_stands : (q r : ℕ) → standing q ≡ Some r → q < length drafts
   there_if_stands q r e = ⊎_elim
-      (λ told. let past_end : standing q ≡ None = ap stands_for (get_or_past parts q fail_part told.1) in no_value (standing q) r _ past_end e)
-      (λ told. told.1) (leb_tells (length parts) q)
+      (λ told. let past_end : standing q ≡ None = ap stands_for (get_or_past drafts q fail_draft told.1) in no_value (standing q) r _ past_end e)
+      (λ told. told.1) (leb_tells (length drafts) q)
 
   -- the states on the way, without the last
   abbrev trail : (m q : ℕ) → Comes m q → List ℕ
@@ -94,57 +94,57 @@ module _ (parts : List Part) where
     trail_once m c.0 c.2,
   )
 
-  trail_inside : (m q : ℕ) (c : Comes m q) (z : ℕ) → Has nat_eq z (trail m q c) → z < length parts
+  trail_inside : (m q : ℕ) (c : Comes m q) (z : ℕ) → Has nat_eq z (trail m q c) → z < length drafts
   trail_inside zero q c z h = none_in nat_eq z _ h
-  trail_inside (suc m) q c z h = of_cons nat_eq names_equal (λ w. w < length parts) q (trail m c.0 c.2) (there_if_stands q c.0 c.1) (trail_inside m c.0 c.2) z h
+  trail_inside (suc m) q c z h = of_cons nat_eq names_equal (λ w. w < length drafts) q (trail m c.0 c.2) (there_if_stands q c.0 c.1) (trail_inside m c.0 c.2) z h
 
   -- there are no more steps than states
-  few_steps : (m q : ℕ) → Comes m q → m ≤ length parts
+  few_steps : (m q : ℕ) → Comes m q → m ≤ length drafts
   few_steps m q c =
-      let finite : IsFinite nat_eq (λ x. []) (λ x. x < length parts) (length parts) = finite_names (length parts) (λ x. []) (λ x h y g. none_in nat_eq y _ g) in
-      let l : length (trail m q c) ≤ length parts = finite.room (trail m q c) (trail_inside m q c) (trail_once m q c) in
+      let finite : IsFinite nat_eq (λ x. []) (λ x. x < length drafts) (length drafts) = finite_names (length drafts) (λ x. []) (λ x h y g. none_in nat_eq y _ g) in
+      let l : length (trail m q c) ≤ length drafts = finite.room (trail m q c) (trail_inside m q c) (trail_once m q c) in
       let e : length (trail m q c) ≡ m = length_trail m q c in omega (arith, l, e)
 
-  module _ (named : AreNamed parts) where
-    pub next_inside : (q r : ℕ) → standing q ≡ Some r → r < length parts
-    next_inside q r e = stand_in_named (length parts) (part_at parts q) r e (All-get_or (λ part. All (λ x. x < length parts) (names_of part)) parts q fail_part (there_if_stands q r e) named)
+  module _ (named : AreNamed drafts) where
+    pub next_inside : (q r : ℕ) → standing q ≡ Some r → r < length drafts
+    next_inside q r e = stand_in_named (length drafts) (draft_at drafts q) r e (All-get_or (λ draft. All (λ x. x < length drafts) (names_of draft)) drafts q fail_draft (there_if_stands q r e) named)
 
-    within_inside : (n q : ℕ) → q < length parts → past_within parts n q < length parts
+    within_inside : (n q : ℕ) → q < length drafts → past_within drafts n q < length drafts
     within_inside zero q inside = inside
     within_inside (suc n) q inside = ⊎_elim
-        (λ (none : standing q ≡ None). let e : past_within parts (suc n) q ≡ q = past_itself parts (suc n) q none in omega (arith, e, inside))
-        (λ (some : (r : ℕ) × (standing q ≡ Some r)). let e : past_within parts (suc n) q ≡ past_within parts n some.0 = ap (going_on q (past_within parts n)) some.1 in
-        let l : past_within parts n some.0 < length parts = within_inside n some.0 (next_inside q some.0 some.1) in omega (arith, e, l))
+        (λ (none : standing q ≡ None). let e : past_within drafts (suc n) q ≡ q = past_itself drafts (suc n) q none in omega (arith, e, inside))
+        (λ (some : (r : ℕ) × (standing q ≡ Some r)). let e : past_within drafts (suc n) q ≡ past_within drafts n some.0 = ap (going_on q (past_within drafts n)) some.1 in
+        let l : past_within drafts n some.0 < length drafts = within_inside n some.0 (next_inside q some.0 some.1) in omega (arith, e, l))
         (option_cases (standing q))
 
-    pub past_inside : (q : ℕ) → q < length parts → past parts q < length parts
-    past_inside q inside = within_inside (length parts) q inside
+    pub past_inside : (q : ℕ) → q < length drafts → past drafts q < length drafts
+    past_inside q inside = within_inside (length drafts) q inside
 
   -- more steps bring nothing more
-  same_within : (m j k q : ℕ) → Comes m q → m ≤ j → m ≤ k → past_within parts j q ≡ past_within parts k q
-  same_within zero j k q c a b = past_itself parts j q c ∙ sym (past_itself parts k q c)
+  same_within : (m j k q : ℕ) → Comes m q → m ≤ j → m ≤ k → past_within drafts j q ≡ past_within drafts k q
+  same_within zero j k q c a b = past_itself drafts j q c ∙ sym (past_itself drafts k q c)
   same_within (suc m) zero k q c a b = absurd (omega (arith, a))
   same_within (suc m) (suc j) zero q c a b = absurd (omega (arith, b))
   same_within (suc m) (suc j) (suc k) q c a b =
-      ap (going_on q (past_within parts j)) c.1 ∙ same_within m j k c.0 c.2 (omega (arith, a)) (omega (arith, b)) ∙ sym (ap (going_on q (past_within parts k)) c.1)
+      ap (going_on q (past_within drafts j)) c.1 ∙ same_within m j k c.0 c.2 (omega (arith, a)) (omega (arith, b)) ∙ sym (ap (going_on q (past_within drafts k)) c.1)
 
-  stands_at_last : (m q k : ℕ) → Comes m q → m ≤ k → standing (past_within parts k q) ≡ None
-  stands_at_last zero q k c a = ap standing (past_itself parts k q c) ∙ c
+  stands_at_last : (m q k : ℕ) → Comes m q → m ≤ k → standing (past_within drafts k q) ≡ None
+  stands_at_last zero q k c a = ap standing (past_itself drafts k q c) ∙ c
   stands_at_last (suc m) q zero c a = absurd (omega (arith, a))
-  stands_at_last (suc m) q (suc k) c a = ap (λ o. standing (going_on q (past_within parts k) o)) c.1 ∙ stands_at_last m c.0 k c.2 (omega (arith, a))
+  stands_at_last (suc m) q (suc k) c a = ap (λ o. standing (going_on q (past_within drafts k) o)) c.1 ∙ stands_at_last m c.0 k c.2 (omega (arith, a))
 
-  module _ (no_loop : HasNoLoop parts) where
-    pub comes_to : (q : ℕ) → q < length parts → (m : ℕ) × Comes m q
+  module _ (no_loop : HasNoLoop drafts) where
+    pub comes_to : (q : ℕ) → q < length drafts → (m : ℕ) × Comes m q
     comes_to q inside = let n = no_loop q inside in comes n.0 q n.1
 
-    pub past_stands : (q : ℕ) → q < length parts → standing (past parts q) ≡ None
-    past_stands q inside = let c = comes_to q inside in stands_at_last c.0 q (length parts) c.1 (few_steps c.0 q c.1)
+    pub past_stands : (q : ℕ) → q < length drafts → standing (past drafts q) ≡ None
+    past_stands q inside = let c = comes_to q inside in stands_at_last c.0 q (length drafts) c.1 (few_steps c.0 q c.1)
 
-    pub past_twice : (q : ℕ) → q < length parts → past parts (past parts q) ≡ past parts q
-    past_twice q inside = past_itself parts (length parts) (past parts q) (past_stands q inside)
+    pub past_twice : (q : ℕ) → q < length drafts → past drafts (past drafts q) ≡ past drafts q
+    past_twice q inside = past_itself drafts (length drafts) (past drafts q) (past_stands q inside)
 
-    pub past_next : (q r : ℕ) → standing q ≡ Some r → past parts q ≡ past parts r
+    pub past_next : (q r : ℕ) → standing q ≡ Some r → past drafts q ≡ past drafts r
     past_next q r e =
         let c = comes_to q (there_if_stands q r e) in
-        let l : c.0 ≤ length parts = few_steps c.0 q c.1 in
-        same_within c.0 (length parts) (suc (length parts)) q c.1 l (omega (arith, l)) ∙ ap (going_on q (past_within parts (length parts))) e
+        let l : c.0 ≤ length drafts = few_steps c.0 q c.1 in
+        same_within c.0 (length drafts) (suc (length drafts)) q c.1 l (omega (arith, l)) ∙ ap (going_on q (past_within drafts (length drafts))) e

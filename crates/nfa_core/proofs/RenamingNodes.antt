@@ -5,7 +5,7 @@ use Rattle.std.proofs.lemmas.List.{map-append}
 use Rattle.look_core.specs.declared.look.Look.{Look}
 use Rattle.search_types.specs.Groups.{Groups}
 use Rattle.nfa_core.specs.Nfa.{union_node, leads_to}
-use Rattle.nfa_core.specs.BuilderStates.{Part, empty_part, range_part, sparse_part, look_part, capture_start_part, capture_end_part, union_part, union_reverse_part, fail_part, match_part}
+use Rattle.nfa_core.specs.BuilderStates.{DraftNode, empty_draft, range_draft, sparse_draft, look_draft, capture_start_draft, capture_end_draft, union_draft, union_reverse_draft, fail_draft, match_draft}
 use Rattle.nfa_core.specs.Drafted.{drafted}
 use Rattle.nfa_core.specs.Ways.{Text, reads, is_passed, in_ranges, on_byte, on_nothing, on_read, place_behind, node_ways, match_of}
 use Rattle.nfa_core.specs.Renaming.{stands_for, ways_node, ranges_node, renamed}
@@ -82,72 +82,72 @@ ranges_led name (range ∷ others) = ap (λ l. name range.2 ∷ l) (ranges_led n
 
 module _ (name : ℕ → ℕ) (groups : Groups) where
   -- the names that a kept state leads to are the new ones
-  pub leads_renamed : (part : Part) → stands_for part ≡ None → leads_to (renamed name groups part) ≡ map name (leads_to (drafted part))
-  leads_renamed (empty_part next) kept = cc
-  leads_renamed (range_part low high next) kept = refl
-  leads_renamed (sparse_part ranges) kept = ranges_lead (map (under_range name) ranges) ∙ ranges_led name ranges
-  leads_renamed (look_part look next) kept = refl
-  leads_renamed (capture_start_part pattern group next) kept = refl
-  leads_renamed (capture_end_part pattern group next) kept = refl
-  leads_renamed (union_part names) kept = ways_lead (map name names)
-  leads_renamed (union_reverse_part names) kept = ways_lead (map name (reverse names))
-  leads_renamed fail_part kept = refl
-  leads_renamed (match_part pattern) kept = refl
+  pub leads_renamed : (draft : DraftNode) → stands_for draft ≡ None → leads_to (renamed name groups draft) ≡ map name (leads_to (drafted draft))
+  leads_renamed (empty_draft next) kept = cc
+  leads_renamed (range_draft low high next) kept = refl
+  leads_renamed (sparse_draft ranges) kept = ranges_lead (map (under_range name) ranges) ∙ ranges_led name ranges
+  leads_renamed (look_draft look next) kept = refl
+  leads_renamed (capture_start_draft pattern group next) kept = refl
+  leads_renamed (capture_end_draft pattern group next) kept = refl
+  leads_renamed (union_draft names) kept = ways_lead (map name names)
+  leads_renamed (union_reverse_draft names) kept = ways_lead (map name (reverse names))
+  leads_renamed fail_draft kept = refl
+  leads_renamed (match_draft pattern) kept = refl
 
-  byte_renamed : (part : Part) → stands_for part ≡ None → (b : ℕ) → on_byte (renamed name groups part) b ≡ map name (on_byte (drafted part) b)
-  byte_renamed (empty_part next) kept b = refl
-  byte_renamed (range_part low high next) kept b = if_mapped name (nat_le low b && nat_le b high) next
-  byte_renamed (sparse_part ranges) kept b = ranges_on_byte (map (λ r. (r.0, r.1, name r.2)) ranges) b ∙ in_ranges_mapped name ranges b
-  byte_renamed (look_part look next) kept b = refl
-  byte_renamed (capture_start_part pattern group next) kept b = refl
-  byte_renamed (capture_end_part pattern group next) kept b = refl
-  byte_renamed (union_part names) kept b = ways_on_byte (map name names) b
-  byte_renamed (union_reverse_part names) kept b = ways_on_byte (map name (reverse names)) b
-  byte_renamed fail_part kept b = refl
-  byte_renamed (match_part pattern) kept b = refl
+  byte_renamed : (draft : DraftNode) → stands_for draft ≡ None → (b : ℕ) → on_byte (renamed name groups draft) b ≡ map name (on_byte (drafted draft) b)
+  byte_renamed (empty_draft next) kept b = refl
+  byte_renamed (range_draft low high next) kept b = if_mapped name (nat_le low b && nat_le b high) next
+  byte_renamed (sparse_draft ranges) kept b = ranges_on_byte (map (λ r. (r.0, r.1, name r.2)) ranges) b ∙ in_ranges_mapped name ranges b
+  byte_renamed (look_draft look next) kept b = refl
+  byte_renamed (capture_start_draft pattern group next) kept b = refl
+  byte_renamed (capture_end_draft pattern group next) kept b = refl
+  byte_renamed (union_draft names) kept b = ways_on_byte (map name names) b
+  byte_renamed (union_reverse_draft names) kept b = ways_on_byte (map name (reverse names)) b
+  byte_renamed fail_draft kept b = refl
+  byte_renamed (match_draft pattern) kept b = refl
 
-  read_renamed : (part : Part) → stands_for part ≡ None → (read : Option (ℕ × ℕ)) → on_read (renamed name groups part) read ≡ map name (on_read (drafted part) read)
-  read_renamed part kept None = refl
-  read_renamed part kept (Some (b, j)) = byte_renamed part kept b
+  read_renamed : (draft : DraftNode) → stands_for draft ≡ None → (read : Option (ℕ × ℕ)) → on_read (renamed name groups draft) read ≡ map name (on_read (drafted draft) read)
+  read_renamed draft kept None = refl
+  read_renamed draft kept (Some (b, j)) = byte_renamed draft kept b
 
-  nothing_renamed : (part : Part) → stands_for part ≡ None → (passed : Look → Bool) → on_nothing (renamed name groups part) passed ≡ map name (on_nothing (drafted part) passed)
-  nothing_renamed (empty_part next) kept passed = cc
-  nothing_renamed (range_part low high next) kept passed = refl
-  nothing_renamed (sparse_part ranges) kept passed = ranges_on_nothing (map (λ r. (r.0, r.1, name r.2)) ranges) passed
-  nothing_renamed (look_part look next) kept passed = if_mapped name (passed look) next
-  nothing_renamed (capture_start_part pattern group next) kept passed = refl
-  nothing_renamed (capture_end_part pattern group next) kept passed = refl
-  nothing_renamed (union_part names) kept passed = ways_on_nothing (map name names) passed
-  nothing_renamed (union_reverse_part names) kept passed = ways_on_nothing (map name (reverse names)) passed
-  nothing_renamed fail_part kept passed = refl
-  nothing_renamed (match_part pattern) kept passed = refl
+  nothing_renamed : (draft : DraftNode) → stands_for draft ≡ None → (passed : Look → Bool) → on_nothing (renamed name groups draft) passed ≡ map name (on_nothing (drafted draft) passed)
+  nothing_renamed (empty_draft next) kept passed = cc
+  nothing_renamed (range_draft low high next) kept passed = refl
+  nothing_renamed (sparse_draft ranges) kept passed = ranges_on_nothing (map (λ r. (r.0, r.1, name r.2)) ranges) passed
+  nothing_renamed (look_draft look next) kept passed = if_mapped name (passed look) next
+  nothing_renamed (capture_start_draft pattern group next) kept passed = refl
+  nothing_renamed (capture_end_draft pattern group next) kept passed = refl
+  nothing_renamed (union_draft names) kept passed = ways_on_nothing (map name names) passed
+  nothing_renamed (union_reverse_draft names) kept passed = ways_on_nothing (map name (reverse names)) passed
+  nothing_renamed fail_draft kept passed = refl
+  nothing_renamed (match_draft pattern) kept passed = refl
 
-  pub match_renamed : (part : Part) (i : ℕ) → match_of (renamed name groups part) i ≡ match_of (drafted part) i
-  match_renamed (empty_part next) i = refl
-  match_renamed (range_part low high next) i = refl
-  match_renamed (sparse_part ranges) i = ranges_match (map (λ r. (r.0, r.1, name r.2)) ranges) i
-  match_renamed (look_part look next) i = refl
-  match_renamed (capture_start_part pattern group next) i = refl
-  match_renamed (capture_end_part pattern group next) i = refl
-  match_renamed (union_part names) i = ways_match (map name names) i
-  match_renamed (union_reverse_part names) i = ways_match (map name (reverse names)) i
-  match_renamed fail_part i = refl
-  match_renamed (match_part pattern) i = refl
+  pub match_renamed : (draft : DraftNode) (i : ℕ) → match_of (renamed name groups draft) i ≡ match_of (drafted draft) i
+  match_renamed (empty_draft next) i = refl
+  match_renamed (range_draft low high next) i = refl
+  match_renamed (sparse_draft ranges) i = ranges_match (map (λ r. (r.0, r.1, name r.2)) ranges) i
+  match_renamed (look_draft look next) i = refl
+  match_renamed (capture_start_draft pattern group next) i = refl
+  match_renamed (capture_end_draft pattern group next) i = refl
+  match_renamed (union_draft names) i = ways_match (map name names) i
+  match_renamed (union_reverse_draft names) i = ways_match (map name (reverse names)) i
+  match_renamed fail_draft i = refl
+  match_renamed (match_draft pattern) i = refl
 
   placed : (j : ℕ) (names : List ℕ) → map (at_place j) (map name names) ≡ map (under name) (map (at_place j) names)
   placed j [] = refl
   placed j (x ∷ names) = ap (λ l. at_place j (name x) ∷ l) (placed j names)
 
-  pub ways_renamed : (part : Part) → stands_for part ≡ None → (reverse : Bool) (t : Text) (i : ℕ) →
-      node_ways reverse t (renamed name groups part) i ≡ map (λ p. (p.0, name p.1)) (node_ways reverse t (drafted part) i)
-  ways_renamed part kept down t i =
-      let read : Option (ℕ × ℕ) = reads down t i in
+  pub ways_renamed : (draft : DraftNode) → stands_for draft ≡ None → (reverse : Bool) (t : Text) (i : ℕ) →
+      node_ways reverse t (renamed name groups draft) i ≡ map (λ p. (p.0, name p.1)) (node_ways reverse t (drafted draft) i)
+  ways_renamed draft kept is_reverse t i =
+      let read : Option (ℕ × ℕ) = reads is_reverse t i in
       let j : ℕ = place_behind i read in
-      let passed : Look → Bool = λ l. is_passed down t l i in
-      let first : List ℕ = on_read (drafted part) read in
-      let second : List ℕ = on_nothing (drafted part) passed in
-      ap (λ l. map (at_place j) l ++ map (at_place i) (on_nothing (renamed name groups part) passed)) (read_renamed part kept read)
-      ∙ ap (λ l. map (at_place j) (map name first) ++ map (at_place i) l) (nothing_renamed part kept passed)
+      let passed : Look → Bool = λ l. is_passed is_reverse t l i in
+      let first : List ℕ = on_read (drafted draft) read in
+      let second : List ℕ = on_nothing (drafted draft) passed in
+      ap (λ l. map (at_place j) l ++ map (at_place i) (on_nothing (renamed name groups draft) passed)) (read_renamed draft kept read)
+      ∙ ap (λ l. map (at_place j) (map name first) ++ map (at_place i) l) (nothing_renamed draft kept passed)
       ∙ ap (λ l. l ++ map (at_place i) (map name second)) (placed j first)
       ∙ ap (λ l. map (under name) (map (at_place j) first) ++ l) (placed i second)
       ∙ sym (map-append (under name) (map (at_place j) first) (map (at_place i) second))
@@ -158,27 +158,27 @@ one_way_read : (next i : ℕ) (read : Option (ℕ × ℕ)) → map (at_place (pl
 one_way_read next i None = refl
 one_way_read next i (Some (b, j)) = refl
 
-one_way : (down : Bool) (t : Text) (next i : ℕ) → node_ways down t (union_node (next ∷ [])) i ≡ at_place i next ∷ []
-one_way down t next i = one_way_read next i (reads down t i)
+one_way : (is_reverse : Bool) (t : Text) (next i : ℕ) → node_ways is_reverse t (union_node (next ∷ [])) i ≡ at_place i next ∷ []
+one_way is_reverse t next i = one_way_read next i (reads is_reverse t i)
 
-drafted_stand : (part : Part) (r : ℕ) → stands_for part ≡ Some r → drafted part ≡ union_node (r ∷ [])
-drafted_stand (empty_part next) r e = let i : next ≡ r = cc in ap (λ n. union_node (n ∷ [])) i
-drafted_stand (range_part low high next) r e = cc
-drafted_stand (sparse_part ranges) r e = cc
-drafted_stand (look_part look next) r e = cc
-drafted_stand (capture_start_part pattern group next) r e = cc
-drafted_stand (capture_end_part pattern group next) r e = cc
-drafted_stand (union_part []) r e = cc
-drafted_stand (union_part (next ∷ [])) r e = let i : next ≡ r = cc in ap (λ n. union_node (n ∷ [])) i
-drafted_stand (union_part (next ∷ other ∷ others)) r e = cc
-drafted_stand (union_reverse_part []) r e = cc
-drafted_stand (union_reverse_part (next ∷ [])) r e = let i : next ≡ r = cc in ap (λ n. union_node (n ∷ [])) i
-drafted_stand (union_reverse_part (next ∷ other ∷ others)) r e = cc
-drafted_stand fail_part r e = cc
-drafted_stand (match_part pattern) r e = cc
+drafted_stand : (draft : DraftNode) (r : ℕ) → stands_for draft ≡ Some r → drafted draft ≡ union_node (r ∷ [])
+drafted_stand (empty_draft next) r e = let i : next ≡ r = cc in ap (λ n. union_node (n ∷ [])) i
+drafted_stand (range_draft low high next) r e = cc
+drafted_stand (sparse_draft ranges) r e = cc
+drafted_stand (look_draft look next) r e = cc
+drafted_stand (capture_start_draft pattern group next) r e = cc
+drafted_stand (capture_end_draft pattern group next) r e = cc
+drafted_stand (union_draft []) r e = cc
+drafted_stand (union_draft (next ∷ [])) r e = let i : next ≡ r = cc in ap (λ n. union_node (n ∷ [])) i
+drafted_stand (union_draft (next ∷ other ∷ others)) r e = cc
+drafted_stand (union_reverse_draft []) r e = cc
+drafted_stand (union_reverse_draft (next ∷ [])) r e = let i : next ≡ r = cc in ap (λ n. union_node (n ∷ [])) i
+drafted_stand (union_reverse_draft (next ∷ other ∷ others)) r e = cc
+drafted_stand fail_draft r e = cc
+drafted_stand (match_draft pattern) r e = cc
 
-pub ways_of_stand : (part : Part) (r : ℕ) → stands_for part ≡ Some r → (down : Bool) (t : Text) (i : ℕ) → node_ways down t (drafted part) i ≡ at_place i r ∷ []
-ways_of_stand part r e down t i = ap (λ node. node_ways down t node i) (drafted_stand part r e) ∙ one_way down t r i
+pub ways_of_stand : (draft : DraftNode) (r : ℕ) → stands_for draft ≡ Some r → (is_reverse : Bool) (t : Text) (i : ℕ) → node_ways is_reverse t (drafted draft) i ≡ at_place i r ∷ []
+ways_of_stand draft r e is_reverse t i = ap (λ node. node_ways is_reverse t node i) (drafted_stand draft r e) ∙ one_way is_reverse t r i
 
-pub match_of_stand : (part : Part) (r : ℕ) → stands_for part ≡ Some r → (i : ℕ) → match_of (drafted part) i ≡ None
-match_of_stand part r e i = ap (λ node. match_of node i) (drafted_stand part r e)
+pub match_of_stand : (draft : DraftNode) (r : ℕ) → stands_for draft ≡ Some r → (i : ℕ) → match_of (drafted draft) i ≡ None
+match_of_stand draft r e i = ap (λ node. match_of node i) (drafted_stand draft r e)

@@ -45,7 +45,7 @@ module _ {A C : Type 0} (same : A → A → Bool) (laws : IsEquality same) (othe
       pub leads : (e : B) → Finds at e → Finds p e
 
     module _ (In : A → Type 0) (stays : (p : A) → In p → (q : A) → Has same q (ways p) → In q) (either : (p : A) → In p → IsKept p ⊎ StandsIn p) where
-      pub lists_carried : {todo : List A} {l : List B} → Lists ways answer todo l → ((p : A) → Has same p todo → In p) → Lists ways_o answer_o (map name todo) l
+      pub lists_carried : {stack : List A} {l : List B} → Lists ways answer stack l → ((p : A) → Has same p stack → In p) → Lists ways_o answer_o (map name stack) l
       lists_carried lists_none inside = lists_none
       lists_carried (lists_answer x e rest l is walk) inside = ⊎_elim
           (λ (kept : IsKept x). lists_answer (name x) e (map name rest) l (kept.1 ∙ is) (lists_carried walk (λ q h. inside q (has_later same q x rest h))))
@@ -53,7 +53,7 @@ module _ {A C : Type 0} (same : A → A → Bool) (laws : IsEquality same) (othe
           (either x (inside x (has_first same laws x rest)))
       lists_carried (lists_ways x rest l is walk) inside =
           let here : In x = inside x (has_first same laws x rest) in
-          let L : List C → Type 0 = λ todo. Lists ways_o answer_o todo l in
+          let L : List C → Type 0 = λ stack. Lists ways_o answer_o stack l in
           let more : L (map name (ways x ++ rest)) = lists_carried walk (of_append same laws In (ways x) rest (stays x here) (λ q h. inside q (has_later same q x rest h))) in
           ⊎_elim
           (λ (kept : IsKept x). lists_ways (name x) (map name rest) l (kept.1 ∙ is) (subst L (map-append name (ways x) rest ∙ ap (λ w. w ++ map name rest) (sym kept.0)) more))

@@ -62,23 +62,23 @@ module _ (t : Terminator) (h g : List ℕ) (len : length h ≡ length g) where
         (λ (u : is_word_unicode l ≡ false). alike_bytes t h g i len l u at) (cases_Bool (is_word_unicode l))
 
   module _ (start end : ℕ) where
-    passed_alike : (down : Bool) (l : Look) → AtEach (λ b c. All (LieAlike b c) (told_apart t l)) h g → (i : ℕ) →
-        is_passed down (span t h start end) l i ≡ is_passed down (span t g start end) l i
+    passed_alike : (is_reverse : Bool) (l : Look) → AtEach (λ b c. All (LieAlike b c) (told_apart t l)) h g → (i : ℕ) →
+        is_passed is_reverse (span t h start end) l i ≡ is_passed is_reverse (span t g start end) l i
     passed_alike false l at i = same_look l at i
     passed_alike true l at i =
         same_look (reversed l) (λ k low. let P : List (ℕ × ℕ) → Type 0 = All (LieAlike (get_or h k 0) (get_or g k 0)) in let e : told_apart t l ≡ told_apart t (reversed l) = sym (turned_alike t l) in subst P e (at k low)) i
 
-    nothing_alike : (down : Bool) (node : Node) → AtEach (λ b c. All (LieAlike b c) (told_by t node)) h g → (i : ℕ) →
-        on_nothing node (λ l. is_passed down (span t h start end) l i) ≡ on_nothing node (λ l. is_passed down (span t g start end) l i)
-    nothing_alike down (byte_range low high next) at i = refl
-    nothing_alike down (sparse_node ranges) at i = refl
-    nothing_alike down (dense_node names) at i = refl
-    nothing_alike down (look_node l next) at i = ap (λ (c : Bool). if c then next ∷ [] else []) (passed_alike down l at i)
-    nothing_alike down (union_node names) at i = refl
-    nothing_alike down (binary_union first second) at i = refl
-    nothing_alike down (capture_node next pattern group slot) at i = refl
-    nothing_alike down fail_node at i = refl
-    nothing_alike down (match_node pattern) at i = refl
+    nothing_alike : (is_reverse : Bool) (node : Node) → AtEach (λ b c. All (LieAlike b c) (told_by t node)) h g → (i : ℕ) →
+        on_nothing node (λ l. is_passed is_reverse (span t h start end) l i) ≡ on_nothing node (λ l. is_passed is_reverse (span t g start end) l i)
+    nothing_alike is_reverse (byte_range low high next) at i = refl
+    nothing_alike is_reverse (sparse_node ranges) at i = refl
+    nothing_alike is_reverse (dense_node names) at i = refl
+    nothing_alike is_reverse (look_node l next) at i = ap (λ (c : Bool). if c then next ∷ [] else []) (passed_alike is_reverse l at i)
+    nothing_alike is_reverse (union_node names) at i = refl
+    nothing_alike is_reverse (binary_union first second) at i = refl
+    nothing_alike is_reverse (capture_node next pattern group slot) at i = refl
+    nothing_alike is_reverse fail_node at i = refl
+    nothing_alike is_reverse (match_node pattern) at i = refl
 
     module _ (node : Node) (at : AtEach (λ b c. on_byte node b ≡ on_byte node c) h g) where
       one_read : (i j k : ℕ) → by_read node i (with_place j (byte_at h k)) ≡ by_read node i (with_place j (byte_at g k))
@@ -88,7 +88,7 @@ module _ (t : Terminator) (h g : List ℕ) (len : length h ≡ length g) where
       if_read true i j k = one_read i j k
       if_read false i j k = refl
 
-      read_alike : (down : Bool) (i : ℕ) → by_read node i (reads down (span t h start end) i) ≡ by_read node i (reads down (span t g start end) i)
+      read_alike : (is_reverse : Bool) (i : ℕ) → by_read node i (reads is_reverse (span t h start end) i) ≡ by_read node i (reads is_reverse (span t g start end) i)
       read_alike false i = if_read (nat_lt i end) i (suc i) i
       read_alike true zero = refl
       read_alike true (suc i) = if_read (nat_le start i) (suc i) i i

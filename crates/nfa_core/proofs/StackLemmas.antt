@@ -22,8 +22,8 @@ module _ {A : Type 0} (same : A → A → Bool) (laws : IsEquality same) (ways :
 
   -- what falls is not led back to itself
   pub no_descent : (x : A) → ((m : ℕ) → Falls m x → (k : ℕ) × (k < m) × Falls k x) → (bound m : ℕ) → m < bound → Falls m x → ⊥
-  no_descent x down zero m h falls = omega (arith, h)
-  no_descent x down (suc bound) m h falls = let d = down m falls in no_descent x down bound d.0 (omega (arith, h, d.1)) d.2
+  no_descent x is_reverse zero m h falls = omega (arith, h)
+  no_descent x is_reverse (suc bound) m h falls = let d = is_reverse m falls in no_descent x is_reverse bound d.0 (omega (arith, h, d.1)) d.2
 
   -- whatever is on the path leads to x
   abbrev Above : List A → A → Type 0
@@ -78,7 +78,7 @@ module _ {A : Type 0} (same : A → A → Bool) (laws : IsEquality same) (ways :
 
     module _ {B : Type 0} (answer : A → Option B) (ends_there : (x : A) (e : B) → answer x ≡ Some e → ways x ≡ []) where
       -- all on the stack of a walk that ends fall
-      pub all_fall : {todo : List A} {l : List B} → Lists ways answer todo l → (m : ℕ) × ((x : A) → Has same x todo → Falls m x)
+      pub all_fall : {stack : List A} {l : List B} → Lists ways answer stack l → (m : ℕ) × ((x : A) → Has same x stack → Falls m x)
       all_fall lists_none = (0, λ x h. none_in same x _ h)
       all_fall (lists_answer x e rest l is walk) =
           let r = all_fall walk in
@@ -93,9 +93,9 @@ module _ {A : Type 0} (same : A → A → Bool) (laws : IsEquality same) (ways :
           )
 
       abbrev ends_of : List A → List A
-      ends_of todo = flat_map (chain_ends same ways n []) todo
+      ends_of stack = flat_map (chain_ends same ways n []) stack
 
-      pub lists_ends : {todo : List A} {l : List B} → Lists ways answer todo l → ((q : A) → Has same q todo → In q) → l ≡ answers answer (ends_of todo)
+      pub lists_ends : {stack : List A} {l : List B} → Lists ways answer stack l → ((q : A) → Has same q stack → In q) → l ≡ answers answer (ends_of stack)
       lists_ends lists_none inside = refl
       lists_ends (lists_answer x e rest l is walk) inside =
           let r = all_fall (lists_answer x e rest l is walk) in

@@ -7,10 +7,10 @@ use Rattle.nfa_core.proofs.WalkLemmas.{kept, followed, closed}
 
 module _ {A : Type 0} (same : A → A → Bool) (ways : A → List A) where
   -- the two ways in which a walk begins
-  pub begun : {x : A} {todo seen after : List A} → Visits same ways (x ∷ todo) seen after → (Has same x seen × Visits same ways todo seen after)
-      ⊎ ((mid : List A) × (has same x seen ≡ false) × Visits same ways (ways x) (seen ++ x ∷ []) mid × Visits same ways todo mid after)
-  begun (held x todo seen after there rest) = inl (there, rest)
-  begun (fresh x todo seen mid after absent one two) = inr (mid, absent, one, two)
+  pub begun : {x : A} {stack seen after : List A} → Visits same ways (x ∷ stack) seen after → (Has same x seen × Visits same ways stack seen after)
+      ⊎ ((mid : List A) × (has same x seen ≡ false) × Visits same ways (ways x) (seen ++ x ∷ []) mid × Visits same ways stack mid after)
+  begun (held x stack seen after there rest) = inl (there, rest)
+  begun (fresh x stack seen mid after absent one two) = inr (mid, absent, one, two)
 
   pub ended : {seen after : List A} → Visits same ways [] seen after → seen ≡ after
   ended (done seen after e) = e
@@ -32,12 +32,12 @@ module _ {A : Type 0} (same : A → A → Bool) (ways : A → List A) where
   fresh_on_stack x rest seen after absent v = let s = split (ways x) rest (seen ++ x ∷ []) after v in fresh x rest seen s.0 after absent s.1 s.2
 
   -- a walk comes to one list
-  pub one_after : {todo seen a : List A} → Visits same ways todo seen a → (b : List A) → Visits same ways todo seen b → a ≡ b
+  pub one_after : {stack seen a : List A} → Visits same ways stack seen a → (b : List A) → Visits same ways stack seen b → a ≡ b
   one_after (done seen a e) b w = sym e ∙ ended w
-  one_after (held x todo seen a there rest) b w = ⊎_elim (λ (_t, v). one_after rest b v)
+  one_after (held x stack seen a there rest) b w = ⊎_elim (λ (_t, v). one_after rest b v)
       (λ (m, absent, one, two). not_both (has same x seen) _ there absent) (begun w)
-  one_after (fresh x todo seen mid a absent first rest) b w = ⊎_elim (λ (there, v). not_both (has same x seen) _ there absent)
-      (λ (m, _a, one, two). let e : mid ≡ m = one_after first m one in one_after rest b (let V : List A → Type 0 = λ l. Visits same ways todo l b in subst V (sym e) two)) (begun w)
+  one_after (fresh x stack seen mid a absent first rest) b w = ⊎_elim (λ (there, v). not_both (has same x seen) _ there absent)
+      (λ (m, _a, one, two). let e : mid ≡ m = one_after first m one in one_after rest b (let V : List A → Type 0 = λ l. Visits same ways stack l b in subst V (sym e) two)) (begun w)
 
 module _ {A : Type 0} (same : A → A → Bool) (laws : IsEquality same) (ways : A → List A) where
   pub all_held : (xs ys seen after : List A) → ((q : A) → Has same q xs → Has same q seen) → Visits same ways ys seen after → Visits same ways (xs ++ ys) seen after
@@ -45,28 +45,28 @@ module _ {A : Type 0} (same : A → A → Bool) (laws : IsEquality same) (ways :
   all_held (x ∷ xs) ys seen after all v = held x (xs ++ ys) seen after (all x (has_first same laws x xs)) (all_held xs ys seen after (λ q h. all q (has_later same q x xs h)) v)
 
   -- a walk does not leave what is closed under its ways
-  pub within : {todo seen after : List A} → Visits same ways todo seen after → (c : List A) → IsClosed same ways c →
-      ((q : A) → Has same q todo → Has same q c) → ((q : A) → Has same q seen → Has same q c) → (q : A) → Has same q after → Has same q c
+  pub within : {stack seen after : List A} → Visits same ways stack seen after → (c : List A) → IsClosed same ways c →
+      ((q : A) → Has same q stack → Has same q c) → ((q : A) → Has same q seen → Has same q c) → (q : A) → Has same q after → Has same q c
   within (done seen after e) c shut inside low q h = low q (rw e h)
-  within (held x todo seen after there rest) c shut inside low q h = within rest c shut (λ p g. inside p (has_later same p x todo g)) low q h
-  within (fresh x todo seen mid after absent one two) c shut inside low q h =
-      let x_in : Has same x c = inside x (has_first same laws x todo) in
-      within two c shut (λ p g. inside p (has_later same p x todo g))
+  within (held x stack seen after there rest) c shut inside low q h = within rest c shut (λ p g. inside p (has_later same p x stack g)) low q h
+  within (fresh x stack seen mid after absent one two) c shut inside low q h =
+      let x_in : Has same x c = inside x (has_first same laws x stack) in
+      within two c shut (λ p g. inside p (has_later same p x stack g))
       (within one c shut (shut x x_in) (of_push same laws (λ p. Has same p c) seen x low x_in)) q h
 
 module _ {A : Type 0} (same : A → A → Bool) (laws : IsEquality same) (known full : A → List A) where
   -- what a walk under fewer ways adds, under all ways comes to the same as what it had to do
-  anew : ((x z : A) → Has same z (known x) → Has same z (full x)) → {todo seen ids : List A} → Visits same known todo seen ids → (new : List A) × (ids ≡ seen ++ new) ×
-      ((s a : List A) → Visits same full todo s a → ((q : A) → Has same q seen → Has same q s) → IsClosed same full s → Visits same full new s a)
+  anew : ((x z : A) → Has same z (known x) → Has same z (full x)) → {stack seen ids : List A} → Visits same known stack seen ids → (new : List A) × (ids ≡ seen ++ new) ×
+      ((s a : List A) → Visits same full stack s a → ((q : A) → Has same q seen → Has same q s) → IsClosed same full s → Visits same full new s a)
   anew grows (done seen ids e) = ([], sym e ∙ sym (append-nil seen), λ s a v sub shut. v)
-  anew grows (held x todo seen ids there rest) =
+  anew grows (held x stack seen ids there rest) =
       let r = anew grows rest in (
         r.0,
         r.1,
         λ s a v sub shut. ⊎_elim (λ (in_s, w). r.2 s a w sub shut)
             (λ (mid, absent, one, two). not_both (has same x s) _ (sub x there) absent) (begun same full v),
       )
-  anew grows (fresh x todo seen mid ids absent first rest) =
+  anew grows (fresh x stack seen mid ids absent first rest) =
       let a = anew grows first in
       let b = anew grows rest in
       let is_mid : mid ≡ (seen ++ x ∷ []) ++ a.0 = a.1 in
@@ -99,9 +99,9 @@ module _ {A : Type 0} (same : A → A → Bool) (laws : IsEquality same) (known 
       rw r.1 (r.2 [] after w (λ q h. h) (λ y h. none_in same y _ h))
 
   -- and where nothing in it has more ways, it is that already
-  pub stays_closed : {todo seen ids : List A} → Visits same known todo seen ids → ((x : A) → Has same x ids → known x ≡ full x) → Visits same full todo seen ids
+  pub stays_closed : {stack seen ids : List A} → Visits same known stack seen ids → ((x : A) → Has same x ids → known x ≡ full x) → Visits same full stack seen ids
   stays_closed (done seen ids e) alike = done seen ids e
-  stays_closed (held x todo seen ids there rest) alike = held x todo seen ids there (stays_closed rest alike)
-  stays_closed (fresh x todo seen mid ids absent one two) alike =
+  stays_closed (held x stack seen ids there rest) alike = held x stack seen ids there (stays_closed rest alike)
+  stays_closed (fresh x stack seen mid ids absent one two) alike =
       let x_in : Has same x ids = kept same laws known two x (kept same laws known one x (has_pushed same laws x seen)) in
-      fresh x todo seen mid ids absent (rw (← alike x x_in) (stays_closed one (λ y h. alike y (kept same laws known two y h)))) (stays_closed two alike)
+      fresh x stack seen mid ids absent (rw (← alike x x_in) (stays_closed one (λ y h. alike y (kept same laws known two y h)))) (stays_closed two alike)

@@ -2,7 +2,7 @@
 use Rattle.std.specs.Prelude.{◌≡◌, ◌<◌, ◌⊎◌, ℕ, nat_lt, List, [], ◌∷◌, ◌++◌, length, Option, Some, None, if◌then◌else◌, Result, MatchResult}
 use Rattle.std.specs.Option.{option_or}
 use Rattle.search_core.specs.Index.{greatest_index}
-use Rattle.nfa_core.specs.BuilderStates.{Part, Assembly, bytes_of, with_part, with_group, patched_at}
+use Rattle.nfa_core.specs.BuilderStates.{DraftNode, Assembly, bytes_of, with_draft, with_group, patched_at}
 use Rattle.search_types.specs.Groups.{Name}
 use Rattle.search_types.specs.GroupFaults.{GroupFault, TooManyGroups, group_fault}
 use Rattle.search_types.specs.GroupRefusals as group
@@ -32,18 +32,18 @@ limit_fault None bytes = None
 limit_fault (Some limit) bytes = if nat_lt limit bytes then Some (exceeded_size_limit limit) else None
 
 -- whether there is no name for one more state
-abbrev pub name_fault : List Part → Option BuildFault
-name_fault parts = if nat_lt greatest_index (length parts) then Some too_many_states else None
+abbrev pub name_fault : List DraftNode → Option BuildFault
+name_fault drafts = if nat_lt greatest_index (length drafts) then Some too_many_states else None
 
 -- what refuses one more state
-abbrev pub add_fault : Assembly → Part → Option BuildFault
-add_fault b part = option_or (name_fault b.parts) (limit_fault b.size_limit (bytes_of (b.parts ++ part ∷ [])))
+abbrev pub add_fault : Assembly → DraftNode → Option BuildFault
+add_fault b draft = option_or (name_fault b.drafts) (limit_fault b.size_limit (bytes_of (b.drafts ++ draft ∷ [])))
 
 -- The state comes last, and the result is its name; or the builder stays as it was, and the error tells what refuses it.
-abbrev pub Adds : Assembly → Assembly → Result ℕ BuildError → Part → Type 0
-Adds old new result part = MatchResult result
-    (λ id. (id ≡ length old.parts) × (new ≡ with_part old part) × (add_fault old part ≡ None))
-    (λ e. (new ≡ old) × Tells e (add_fault old part))
+abbrev pub Adds : Assembly → Assembly → Result ℕ BuildError → DraftNode → Type 0
+Adds old new result draft = MatchResult result
+    (λ id. (id ≡ length old.drafts) × (new ≡ with_draft old draft) × (add_fault old draft ≡ None))
+    (λ e. (new ≡ old) × Tells e (add_fault old draft))
 
 -- whether there is no number for one more pattern
 abbrev pub pattern_fault : Assembly → Option BuildFault
@@ -51,7 +51,7 @@ pattern_fault b = if nat_lt greatest_index (length b.starts) then Some too_many_
 
 -- what refuses one more way of a state
 abbrev pub patch_fault : Assembly → ℕ → ℕ → Option BuildFault
-patch_fault b from to = limit_fault b.size_limit (bytes_of (patched_at b.parts from to))
+patch_fault b from to = limit_fault b.size_limit (bytes_of (patched_at b.drafts from to))
 
 -- whether there is no index for the group
 abbrev pub index_fault : ℕ → ℕ → Option BuildFault
@@ -62,19 +62,19 @@ abbrev pub TellsIndex : BuildError → ℕ → ℕ → Type 0
 TellsIndex e pattern index = greatest_index < index → e ≡ error.Captures (group_error.TooManyGroups pattern index)
 
 -- The same for a state at the end of a group, whose index may be too great.
-abbrev pub AddsGroupEnd : Assembly → Assembly → Result ℕ BuildError → ℕ → ℕ → Part → Type 0
-AddsGroupEnd old new result pattern index part = MatchResult result
-    (λ id. (id ≡ length old.parts) × (new ≡ with_part old part) × (option_or (index_fault pattern index) (add_fault old part) ≡ None))
-    (λ e. (new ≡ old) × Tells e (option_or (index_fault pattern index) (add_fault old part)) × TellsIndex e pattern index)
+abbrev pub AddsGroupEnd : Assembly → Assembly → Result ℕ BuildError → ℕ → ℕ → DraftNode → Type 0
+AddsGroupEnd old new result pattern index draft = MatchResult result
+    (λ id. (id ≡ length old.drafts) × (new ≡ with_draft old draft) × (option_or (index_fault pattern index) (add_fault old draft) ≡ None))
+    (λ e. (new ≡ old) × Tells e (option_or (index_fault pattern index) (add_fault old draft)) × TellsIndex e pattern index)
 
 -- The same for a state at the start of a group, whose name is noted before. A refusal may leave that noted, or in part
 -- where memory lacks, which is then told before any other fault but that of the index. An index that is too great leaves
 -- nothing noted.
-abbrev pub AddsGroup : Assembly → Assembly → Result ℕ BuildError → ℕ → ℕ → Option Name → Part → Type 0
-AddsGroup old new result pattern index name part = MatchResult result
-    (λ id. (id ≡ length old.parts) × (new ≡ record (with_part old part) { groups = with_group old.groups pattern index name })
-    × (option_or (index_fault pattern index) (add_fault old part) ≡ None))
-    (λ e. (new ≡ record old { groups = new.groups }) × ((e ≡ error.NoMemory) ⊎ Tells e (option_or (index_fault pattern index) (add_fault old part)))
+abbrev pub AddsGroup : Assembly → Assembly → Result ℕ BuildError → ℕ → ℕ → Option Name → DraftNode → Type 0
+AddsGroup old new result pattern index name draft = MatchResult result
+    (λ id. (id ≡ length old.drafts) × (new ≡ record (with_draft old draft) { groups = with_group old.groups pattern index name })
+    × (option_or (index_fault pattern index) (add_fault old draft) ≡ None))
+    (λ e. (new ≡ record old { groups = new.groups }) × ((e ≡ error.NoMemory) ⊎ Tells e (option_or (index_fault pattern index) (add_fault old draft)))
     × TellsIndex e pattern index × (greatest_index < index → new ≡ old))
 
 -- what refuses to build: groups that break a rule

@@ -6,20 +6,20 @@ use Rattle.look_core.specs.declared.look.Look.{Look}
 use Rattle.look_core.specs.Terminators.{Terminator}
 
 -- a state that is being built, with where it leads as far as that is known
-pub data Part : Type 0 where
-  empty_part : ℕ → Part  -- leads on as the state that it names does
-  range_part : ℕ → ℕ → ℕ → Part  -- a byte from the first to the second number leads to the third
-  sparse_part : List (ℕ × ℕ × ℕ) → Part  -- the same by several ranges
-  look_part : Look → ℕ → Part  -- leads on where the look holds
-  capture_start_part : ℕ → ℕ → ℕ → Part  -- pattern and group, whose start the place is, and where it leads
-  capture_end_part : ℕ → ℕ → ℕ → Part  -- pattern and group, whose end the place is, and where it leads
-  union_part : List ℕ → Part  -- leads to each of these, the preferred first
-  union_reverse_part : List ℕ → Part  -- leads to each of these, the preferred last
-  fail_part : Part  -- leads nowhere
-  match_part : ℕ → Part  -- the pattern with this number matches
+pub data DraftNode : Type 0 where
+  empty_draft : ℕ → DraftNode  -- leads on as the state that it names does
+  range_draft : ℕ → ℕ → ℕ → DraftNode  -- a byte from the first to the second number leads to the third
+  sparse_draft : List (ℕ × ℕ × ℕ) → DraftNode  -- the same by several ranges
+  look_draft : Look → ℕ → DraftNode  -- leads on where the look holds
+  capture_start_draft : ℕ → ℕ → ℕ → DraftNode  -- pattern and group, whose start the place is, and where it leads
+  capture_end_draft : ℕ → ℕ → ℕ → DraftNode  -- pattern and group, whose end the place is, and where it leads
+  union_draft : List ℕ → DraftNode  -- leads to each of these, the preferred first
+  union_reverse_draft : List ℕ → DraftNode  -- leads to each of these, the preferred last
+  fail_draft : DraftNode  -- leads nowhere
+  match_draft : ℕ → DraftNode  -- the pattern with this number matches
 
 pub record Assembly : Type 0 where
-  pub parts : List Part
+  pub drafts : List DraftNode
   pub starts : List ℕ  -- for each finished pattern the state in which it starts
   pub groups : Groups  -- for each pattern its groups, as far as they came
   pub is_open : Bool  -- whether a pattern was begun that isn't finished
@@ -30,11 +30,11 @@ pub record Assembly : Type 0 where
 
 -- a builder without states, patterns and a limit
 abbrev pub blank : Terminator → Assembly
-blank terminator = record { parts = []; starts = []; groups = []; is_open = false; utf8 = true; reverse = false; terminator = terminator; size_limit = None }
+blank terminator = record { drafts = []; starts = []; groups = []; is_open = false; utf8 = true; reverse = false; terminator = terminator; size_limit = None }
 
 -- the builder with one more state
-abbrev pub with_part : Assembly → Part → Assembly
-with_part b part = record b { parts = b.parts ++ part ∷ [] }
+abbrev pub with_draft : Assembly → DraftNode → Assembly
+with_draft b draft = record b { drafts = b.drafts ++ draft ∷ [] }
 
 -- the list, lengthened to n by fillers where it is shorter
 abbrev pub filled : {A : Type 0} → A → List A → ℕ → List A
@@ -57,40 +57,40 @@ abbrev pub pattern_count : Assembly → ℕ
 pattern_count b = if b.is_open then length b.starts + 1 else length b.starts
 
 -- the state with one more way: where it leads, or one more state that a union leads to
-abbrev pub patched : ℕ → Part → Part
-patched to (empty_part next) = empty_part to
-patched to (range_part low high next) = range_part low high to
-patched to (sparse_part ranges) = sparse_part ranges
-patched to (look_part look next) = look_part look to
-patched to (capture_start_part pattern group next) = capture_start_part pattern group to
-patched to (capture_end_part pattern group next) = capture_end_part pattern group to
-patched to (union_part names) = union_part (names ++ to ∷ [])
-patched to (union_reverse_part names) = union_reverse_part (names ++ to ∷ [])
-patched to fail_part = fail_part
-patched to (match_part pattern) = match_part pattern
+abbrev pub patched : ℕ → DraftNode → DraftNode
+patched to (empty_draft next) = empty_draft to
+patched to (range_draft low high next) = range_draft low high to
+patched to (sparse_draft ranges) = sparse_draft ranges
+patched to (look_draft look next) = look_draft look to
+patched to (capture_start_draft pattern group next) = capture_start_draft pattern group to
+patched to (capture_end_draft pattern group next) = capture_end_draft pattern group to
+patched to (union_draft names) = union_draft (names ++ to ∷ [])
+patched to (union_reverse_draft names) = union_reverse_draft (names ++ to ∷ [])
+patched to fail_draft = fail_draft
+patched to (match_draft pattern) = match_draft pattern
 
 -- the bytes of a state: 24 for itself, 8 for each range of a sparse one and 4 for each name of a union
-abbrev pub list_bytes : Part → ℕ
-list_bytes (sparse_part ranges) = 8 * length ranges
-list_bytes (union_part names) = 4 * length names
-list_bytes (union_reverse_part names) = 4 * length names
+abbrev pub list_bytes : DraftNode → ℕ
+list_bytes (sparse_draft ranges) = 8 * length ranges
+list_bytes (union_draft names) = 4 * length names
+list_bytes (union_reverse_draft names) = 4 * length names
 list_bytes _ = 0
 
-abbrev pub part_bytes : Part → ℕ
-part_bytes part = 24 + list_bytes part
+abbrev pub draft_bytes : DraftNode → ℕ
+draft_bytes draft = 24 + list_bytes draft
 
 -- the bytes that one more way takes
-abbrev pub way_bytes : Part → ℕ
-way_bytes (union_part names) = 4
-way_bytes (union_reverse_part names) = 4
+abbrev pub way_bytes : DraftNode → ℕ
+way_bytes (union_draft names) = 4
+way_bytes (union_reverse_draft names) = 4
 way_bytes _ = 0
 
 -- the bytes of all states; the count stops at the largest number of 64 bits
-abbrev pub bytes_of : List Part → ℕ
-bytes_of parts = min (sum_by part_bytes parts) 18446744073709551615
+abbrev pub bytes_of : List DraftNode → ℕ
+bytes_of drafts = min (sum_by draft_bytes drafts) 18446744073709551615
 
-abbrev pub is_sparse : Part → Bool
-is_sparse (sparse_part ranges) = true
+abbrev pub is_sparse : DraftNode → Bool
+is_sparse (sparse_draft ranges) = true
 is_sparse _ = false
 
 -- whether each range has a byte, and they ascend and have no byte in common; the first one starts at `low` or above
@@ -99,9 +99,9 @@ AscendsFrom low [] = Unit {0}
 AscendsFrom low ((start, end, next) ∷ others) = (low ≤ start) × (start ≤ end) × AscendsFrom (end + 1) others
 
 -- the state with this name; one that leads nowhere where there is none
-abbrev pub part_at : List Part → ℕ → Part
-part_at parts q = get_or parts q fail_part
+abbrev pub draft_at : List DraftNode → ℕ → DraftNode
+draft_at drafts q = get_or drafts q fail_draft
 
 -- the states where one of them has one more way
-abbrev pub patched_at : List Part → ℕ → ℕ → List Part
-patched_at parts from to = set parts from (patched to (part_at parts from))
+abbrev pub patched_at : List DraftNode → ℕ → ℕ → List DraftNode
+patched_at drafts from to = set drafts from (patched to (draft_at drafts from))

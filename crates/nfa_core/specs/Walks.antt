@@ -29,9 +29,9 @@ chain_ends same ways (suc n) path x = if has same x path then [] else (x ∷ fla
 -- meet `after`. What was met is passed over, what is fresh is met and its ways are walked.
 pub data Visits {A : Type 0} (same : A → A → Bool) (ways : A → List A) : List A → List A → List A → Type 0 where
   done : (seen after : List A) → seen ≡ after → Visits same ways [] seen after
-  held : (x : A) (todo seen after : List A) → Has same x seen → Visits same ways todo seen after → Visits same ways (x ∷ todo) seen after
-  fresh : (x : A) (todo seen mid after : List A) → has same x seen ≡ false → Visits same ways (ways x) (seen ++ x ∷ []) mid →
-      Visits same ways todo mid after → Visits same ways (x ∷ todo) seen after
+  held : (x : A) (stack seen after : List A) → Has same x seen → Visits same ways stack seen after → Visits same ways (x ∷ stack) seen after
+  fresh : (x : A) (stack seen mid after : List A) → has same x seen ≡ false → Visits same ways (ways x) (seen ++ x ∷ []) mid →
+      Visits same ways stack mid after → Visits same ways (x ∷ stack) seen after
 
 -- The depth-first walk of a stack, with no record of what was met: what it answers, in order. What has an answer is an end.
 pub data Lists {A B : Type 0} (ways : A → List A) (answer : A → Option B) : List A → List B → Type 0 where

@@ -35,7 +35,7 @@ reads false t i = if nat_lt i t.end then with_place (suc i) (byte_at t.haystack 
 reads true t zero = None
 reads true t (suc i) = if nat_le t.start i then with_place i (byte_at t.haystack i) else None
 
--- whether the look holds for one who reads up, or down
+-- whether the look holds for one who reads forward or in reverse
 abbrev pub is_passed : Bool → Text → Look → ℕ → Bool
 is_passed false t l i = t.holds l i
 is_passed true t l i = t.holds (reversed l) i
@@ -82,7 +82,7 @@ byte_steps a t i q = on_read (node_at a q) (reads a.reverse t i)
 abbrev pub plain_steps : Automaton → Text → ℕ → ℕ → List ℕ
 plain_steps a t i q = on_nothing (node_at a q) (λ l. is_passed a.reverse t l i)
 
--- where a state leads from place i, for one who reads up, or down: a byte moves by one place
+-- where a state leads from place i, for one who reads forward or in reverse: a byte moves by one place
 abbrev pub node_ways : Bool → Text → Node → ℕ → List (ℕ × ℕ)
 node_ways reverse t node i =
     map (λ q. (place_behind i (reads reverse t i), q)) (on_read node (reads reverse t i)) ++ map (λ q. (i, q)) (on_nothing node (λ l. is_passed reverse t l i))

@@ -20,7 +20,7 @@ pub enum BuildError {
         /// How many bytes are allowed.
         limit: usize,
     },
-    /// Groups were asked for that the automaton can't have, as of one that reads downwards.
+    /// Groups were asked for that the automaton can't have, as of one that reads in reverse.
     #[error("groups are not supported here")]
     UnsupportedCaptures,
     /// The groups break a rule, or have an index that is too great.

@@ -2,8 +2,8 @@ ghost use Rattle.std.specs.Prelude.{◌≡◌, ◌≢◌, ◌<◌, ◌≤◌, tr
 ghost use Rattle.look_core.specs.Terminators.{one_of};
 ghost use Rattle.nfa_core.specs.BuilderStates.{blank, bytes_of, pattern_count};
 ghost use Rattle.nfa_core.specs.BuilderFaults.{Adds, Tells, limit_fault};
-ghost use Rattle.nfa_core.specs.Drafts.{part_of};
-ghost use Rattle.nfa_core.specs.InOrder.{IsPartOf};
+ghost use Rattle.nfa_core.specs.Drafts.{draft_of};
+ghost use Rattle.nfa_core.specs.InOrder.{IsDraftOf};
 
 use crate::build_error::BuildError;
 use crate::draft::Draft;
@@ -37,14 +37,14 @@ impl Model for Builder {
     ghost use Rattle.search_core.specs.Index.{greatest_index};
     ghost use Rattle.search_types.specs.GroupFaults.{groups_in};
     ghost use Rattle.nfa_core.specs.BuilderStates.{Assembly, bytes_of};
-    ghost use Rattle.nfa_core.specs.Drafts.{part_of};
+    ghost use Rattle.nfa_core.specs.Drafts.{draft_of};
     ghost use Rattle.nfa_core.specs.InOrder.{IsInOrder, patterns_of};
 
     ghost Value = { Assembly };
 
-    ghost view = { λ b. record { parts = map part_of b.drafts.items; starts = b.starts.items; groups = groups_in b.groups.items; is_open = b.is_open; utf8 = b.utf8; reverse = b.reverse; terminator = b.look_matcher.terminator; size_limit = b.size_limit } };
+    ghost view = { λ b. record { drafts = map draft_of b.drafts.items; starts = b.starts.items; groups = groups_in b.groups.items; is_open = b.is_open; utf8 = b.utf8; reverse = b.reverse; terminator = b.look_matcher.terminator; size_limit = b.size_limit } };
 
-    ghost invariant = { λ b. (b.memory ≡ bytes_of (map part_of b.drafts.items)) × (b.is_open ≡ true → length b.starts.items ≤ greatest_index) × IsInOrder (map part_of b.drafts.items) (patterns_of b.is_open b.starts.items) b.size_limit };
+    ghost invariant = { λ b. (b.memory ≡ bytes_of (map draft_of b.drafts.items)) × (b.is_open ≡ true → length b.starts.items ≤ greatest_index) × IsInOrder (map draft_of b.drafts.items) (patterns_of b.is_open b.starts.items) b.size_limit };
 }
 
 /// Refuses more bytes than the limit allows.
@@ -58,7 +58,7 @@ pub(crate) fn check_limit(size_limit: Option<usize>, bytes: usize) -> Result<(),
 }
 
 impl Builder {
-    /// A builder without states and patterns, for automata that read upwards, keep to characters of UTF-8
+    /// A builder without states and patterns, for automata that read forward, keep to characters of UTF-8
     /// and have no limit of their size.
     pub fn new(alloc: Global) -> Builder
         ensures { result ≡ blank (one_of 0x0A) }
@@ -78,7 +78,7 @@ impl Builder {
 
     /// Takes all states and patterns away, and keeps the settings.
     pub fn clear(&mut self)
-        ensures { self.new ≡ record self.old { parts = []; starts = []; groups = []; is_open = false } }
+        ensures { self.new ≡ record self.old { drafts = []; starts = []; groups = []; is_open = false } }
     {
         self.drafts.clear();
         self.starts.clear();
@@ -90,7 +90,7 @@ impl Builder {
     /// The bytes that the states are taken to need: 24 for each, 8 for each transition of a sparse one and
     /// 4 for each alternate of a union. A greater number than [`usize::MAX`] is given as that.
     pub fn memory_usage(&self) -> usize
-        ensures value { result ≡ bytes_of self.now.parts }
+        ensures value { result ≡ bytes_of self.now.drafts }
         ensures within { MatchOption self.now.size_limit ⊤ (λ most. result ≤ most) }
     {
         self.memory
@@ -99,8 +99,8 @@ impl Builder {
     /// Puts a state last.
     #[tactic(auto, using(crate::proofs::BuilderLemmas::bytes_pushed, crate::proofs::OrderLemmas::order_added))]
     pub(crate) fn add(&mut self, draft: Draft) -> Result<StateID, BuildError>
-        requires { IsPartOf (pattern_count self.old) (part_of draft) }
-        ensures { Adds self.old self.new result (part_of draft) }
+        requires { IsDraftOf (pattern_count self.old) (draft_of draft) }
+        ensures { Adds self.old self.new result (draft_of draft) }
     {
         let Ok(id) = StateID::new(self.drafts.len()) else {
             return Err(BuildError::TooManyStates);
@@ -159,8 +159,8 @@ impl Builder {
     /// take more already.
     pub fn set_size_limit(&mut self, limit: Option<usize>) -> Result<(), BuildError>
         ensures { MatchResult result
-            (λ _. (self.new ≡ record self.old { size_limit = limit }) × (limit_fault limit (bytes_of self.old.parts) ≡ None))
-            (λ e. (self.new ≡ self.old) × Tells e (limit_fault limit (bytes_of self.old.parts)) × (limit_fault limit (bytes_of self.old.parts) ≢ None)) }
+            (λ _. (self.new ≡ record self.old { size_limit = limit }) × (limit_fault limit (bytes_of self.old.drafts) ≡ None))
+            (λ e. (self.new ≡ self.old) × Tells e (limit_fault limit (bytes_of self.old.drafts)) × (limit_fault limit (bytes_of self.old.drafts) ≢ None)) }
     {
         check_limit(limit, self.memory)?;
         self.size_limit = limit;

@@ -36,7 +36,7 @@ impl Builder {
         ensures value { MatchResult result (λ n. (n ≡ nfa_of self.now start_anchored start_unanchored) × (build_fault self.now ≡ None))
             (λ e. (e ≡ NoMemory) ⊎ Tells e (build_fault self.now)) }
         ensures within { IfOk result (λ n. MatchOption self.now.size_limit ⊤ (λ most. memory_of n.automaton.states ≤ most)) }
-        ensures moves { steps.new ≤ steps.old + 2 * length self.now.parts }
+        ensures moves { steps.new ≤ steps.old + 2 * length self.now.drafts }
     {
         let alloc = *self.drafts.allocator();
         let group_info = take_groups(alloc, &self.groups)?;
@@ -58,7 +58,7 @@ impl Builder {
         requires groups { group_info ≡ self.now.groups }
         ensures value { IfOk result (λ parts. nfa_in parts ≡ nfa_of self.now start_anchored start_unanchored) }
         ensures sound { IfOk result (λ parts. IsSound (automaton_in parts)) }
-        ensures moves { steps.new ≤ steps.old + 2 * length self.now.parts }
+        ensures moves { steps.new ≤ steps.old + 2 * length self.now.drafts }
     {
         let names = name_all(alloc, &self.drafts, steps)?;
         let states = kept_states(alloc, &names, &group_info, &self.drafts)?;

@@ -3,10 +3,10 @@ ghost use Rattle.std.specs.List.{list_all};
 ghost use Rattle.search_core.specs.Index.{greatest_index};
 ghost use Rattle.search_types.specs.GroupFaults.{groups_in};
 ghost use Rattle.search_types.specs.Groups.{groups_of, slot};
-ghost use Rattle.nfa_core.specs.BuilderStates.{part_at};
+ghost use Rattle.nfa_core.specs.BuilderStates.{draft_at};
 ghost use Rattle.nfa_core.specs.CanBuild.{CanBuild, names_of, is_known};
 ghost use Rattle.nfa_core.specs.Checks.{has_all};
-ghost use Rattle.nfa_core.specs.Drafts.{part_of};
+ghost use Rattle.nfa_core.specs.Drafts.{draft_of};
 ghost use Rattle.nfa_core.specs.Renaming.{stands_for, past, HasNoLoop};
 ghost use Rattle.nfa_core.specs.Transitions.{range_of};
 
@@ -77,7 +77,7 @@ fn lead_below(transitions: &[Transition], len: usize) -> bool
 
 /// Whether each number that a state names is below `len`.
 fn names_below(draft: &Draft, len: usize) -> bool
-    ensures { result ≡ list_all (λ q. nat_lt q len) (names_of (part_of draft.now)) }
+    ensures { result ≡ list_all (λ q. nat_lt q len) (names_of (draft_of draft.now)) }
 {
     match draft {
         Draft::Empty { next } => next.as_usize() < len,
@@ -94,7 +94,7 @@ fn names_below(draft: &Draft, len: usize) -> bool
 
 /// Whether all names that states name are of states.
 fn are_named(drafts: &[Draft]) -> bool
-    ensures { result ≡ list_all (λ part. list_all (λ q. nat_lt q (length drafts.now)) (names_of part)) (map part_of drafts.now) }
+    ensures { result ≡ list_all (λ draft. list_all (λ q. nat_lt q (length drafts.now)) (names_of draft)) (map draft_of drafts.now) }
 {
     for draft in drafts {
         if !names_below(draft, drafts.len()) {
@@ -124,7 +124,7 @@ fn has_group(groups: &[Vec<Option<String>>], pattern: PatternID, group: SmallInd
 
 /// Whether the group of a state is there, where it has one.
 fn is_known(groups: &[Vec<Option<String>>], draft: &Draft) -> bool
-    ensures { result ≡ is_known (groups_in groups.now) (part_of draft.now) }
+    ensures { result ≡ is_known (groups_in groups.now) (draft_of draft.now) }
 {
     match draft {
         Draft::CaptureStart {
@@ -143,7 +143,7 @@ fn is_known(groups: &[Vec<Option<String>>], draft: &Draft) -> bool
 
 /// Whether the groups of all states are there.
 fn are_known(groups: &[Vec<Option<String>>], drafts: &[Draft]) -> bool
-    ensures { result ≡ list_all (is_known (groups_in groups.now)) (map part_of drafts.now) }
+    ensures { result ≡ list_all (is_known (groups_in groups.now)) (map draft_of drafts.now) }
 {
     for draft in drafts {
         if !is_known(groups, draft) {
@@ -155,7 +155,7 @@ fn are_known(groups: &[Vec<Option<String>>], drafts: &[Draft]) -> bool
 
 /// The state for which this one stands; none where there is no such state.
 fn next_of(drafts: &[Draft], q: StateID) -> Option<StateID>
-    ensures { result ≡ stands_for (part_at (map part_of drafts.now) q) }
+    ensures { result ≡ stands_for (draft_at (map draft_of drafts.now) q) }
 {
     match drafts.get(q.as_usize()) {
         Some(draft) => draft.stands_for(),
@@ -166,7 +166,7 @@ fn next_of(drafts: &[Draft], q: StateID) -> Option<StateID>
 /// Whether the state past this one stands for itself.
 #[tactic(auto, using(crate::proofs::CheckLemmas::followed))]
 fn is_passed(drafts: &[Draft], q: StateID) -> bool
-    ensures { result ≡ is_none (stands_for (part_at (map part_of drafts.now) (past (map part_of drafts.now) q))) }
+    ensures { result ≡ is_none (stands_for (draft_at (map draft_of drafts.now) (past (map draft_of drafts.now) q))) }
 {
     let mut at = q;
     for _index in 0..drafts.len() {
@@ -181,7 +181,7 @@ fn is_passed(drafts: &[Draft], q: StateID) -> bool
 /// Whether no states that stand for others make a loop.
 fn has_no_loop(drafts: &[Draft]) -> bool
     requires { length drafts.now ≤ greatest_index + 1 }
-    ensures { Decides result (HasNoLoop (map part_of drafts.now)) }
+    ensures { Decides result (HasNoLoop (map draft_of drafts.now)) }
 {
     for index in 0..drafts.len() {
         if !is_passed(drafts, StateID::must(index)) {

@@ -4,7 +4,7 @@ ghost use Rattle.std.specs.String.{string_bytes};
 ghost use Rattle.search_core.specs.Index.{greatest_index};
 ghost use Rattle.search_types.specs.GroupFaults.{names_in, groups_in, TooManyGroups};
 ghost use Rattle.nfa_core.specs.declared.build_error.BuildError.TheVariants.{NoMemory};
-ghost use Rattle.nfa_core.specs.BuilderStates.{with_name, with_group, up_to_pattern, capture_start_part, capture_end_part};
+ghost use Rattle.nfa_core.specs.BuilderStates.{with_name, with_group, up_to_pattern, capture_start_draft, capture_end_draft};
 ghost use Rattle.nfa_core.specs.BuilderFaults.{AddsGroup, AddsGroupEnd, Tells, TellsIndex, index_fault, captures_refused};
 
 use crate::build_error::BuildError;
@@ -24,7 +24,7 @@ impl Builder {
         name: Option<String>,
     ) -> Result<StateID, BuildError>
         requires { self.old.is_open ≡ true }
-        ensures { AddsGroup self.old self.new result (length self.old.starts) group_index (option_map string_bytes name) (capture_start_part (length self.old.starts) group_index next) }
+        ensures { AddsGroup self.old self.new result (length self.old.starts) group_index (option_map string_bytes name) (capture_start_draft (length self.old.starts) group_index next) }
     {
         let pattern_id = self.current_pattern_id();
         let group_index = checked_index(pattern_id, group_index)?;
@@ -44,7 +44,7 @@ impl Builder {
         group_index: u32,
     ) -> Result<StateID, BuildError>
         requires { self.old.is_open ≡ true }
-        ensures { AddsGroupEnd self.old self.new result (length self.old.starts) group_index (capture_end_part (length self.old.starts) group_index next) }
+        ensures { AddsGroupEnd self.old self.new result (length self.old.starts) group_index (capture_end_draft (length self.old.starts) group_index next) }
     {
         let pattern_id = self.current_pattern_id();
         let group_index = checked_index(pattern_id, group_index)?;

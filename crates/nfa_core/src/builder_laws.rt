@@ -1,6 +1,6 @@
 //! Laws of what is built of a builder's states. Each function has no code: its contract is the law.
 ghost use Rattle.std.specs.Prelude.{◌≡◌, ℕ, ◌<◌, ◌≤◌, List, [], ◌∷◌, map, length, None, Some, All};
-ghost use Rattle.nfa_core.specs.BuilderStates.{Part, part_at, Assembly};
+ghost use Rattle.nfa_core.specs.BuilderStates.{DraftNode, draft_at, Assembly};
 ghost use Rattle.nfa_core.specs.CanBuild.{names_of, CanBuild};
 ghost use Rattle.nfa_core.specs.Drafted.{table_ways, table_match, table_ends};
 ghost use Rattle.nfa_core.specs.Nfa.{node_at, IsWellFormed};
@@ -13,84 +13,84 @@ ghost use Rattle.nfa_core.specs.Ways.{Text, ways, matched, ends_from};
 /// A state that stands for itself keeps its place, and past any state there is one that does, where states
 /// that stand for others make no loop. A state that stands for another is passed to where that one is.
 pub fn past_states_stand_for_themselves()
-    ensures itself { (parts : List Part) (q : ℕ) → stands_for (part_at parts q) ≡ None → past parts q ≡ q }
-    ensures stands { (parts : List Part) (q : ℕ) → HasNoLoop parts → q < length parts → stands_for (part_at parts (past parts q)) ≡ None }
-    ensures inside { (parts : List Part) (q : ℕ) → HasNoLoop parts → All (λ part. All (λ r. r < length parts) (names_of part)) parts →
-        q < length parts → past parts q < length parts }
-    ensures twice { (parts : List Part) (q : ℕ) → HasNoLoop parts → q < length parts → past parts (past parts q) ≡ past parts q }
-    ensures next { (parts : List Part) (q r : ℕ) → HasNoLoop parts → stands_for (part_at parts q) ≡ Some r → past parts q ≡ past parts r }
+    ensures itself { (drafts : List DraftNode) (q : ℕ) → stands_for (draft_at drafts q) ≡ None → past drafts q ≡ q }
+    ensures stands { (drafts : List DraftNode) (q : ℕ) → HasNoLoop drafts → q < length drafts → stands_for (draft_at drafts (past drafts q)) ≡ None }
+    ensures inside { (drafts : List DraftNode) (q : ℕ) → HasNoLoop drafts → All (λ draft. All (λ r. r < length drafts) (names_of draft)) drafts →
+        q < length drafts → past drafts q < length drafts }
+    ensures twice { (drafts : List DraftNode) (q : ℕ) → HasNoLoop drafts → q < length drafts → past drafts (past drafts q) ≡ past drafts q }
+    ensures next { (drafts : List DraftNode) (q r : ℕ) → HasNoLoop drafts → stands_for (draft_at drafts q) ≡ Some r → past drafts q ≡ past drafts r }
 {}
 
 /// A kept state is in the automaton under its new name, no two have one name, and each name of the automaton
 /// is that of a kept state.
 pub fn kept_states_are_renamed()
-    ensures inside { (b : Assembly) (x y q : ℕ) → q < length b.parts → stands_for (part_at b.parts q) ≡ None →
-        new_name b.parts q < length (automaton_of b x y).states }
-    ensures state { (b : Assembly) (x y q : ℕ) → q < length b.parts → stands_for (part_at b.parts q) ≡ None →
-        node_at (automaton_of b x y) (new_name b.parts q) ≡ renamed (new_name b.parts) b.groups (part_at b.parts q) }
-    ensures one { (parts : List Part) (p q : ℕ) → p < length parts → q < length parts → stands_for (part_at parts p) ≡ None →
-        stands_for (part_at parts q) ≡ None → new_name parts p ≡ new_name parts q → p ≡ q }
+    ensures inside { (b : Assembly) (x y q : ℕ) → q < length b.drafts → stands_for (draft_at b.drafts q) ≡ None →
+        new_name b.drafts q < length (automaton_of b x y).states }
+    ensures state { (b : Assembly) (x y q : ℕ) → q < length b.drafts → stands_for (draft_at b.drafts q) ≡ None →
+        node_at (automaton_of b x y) (new_name b.drafts q) ≡ renamed (new_name b.drafts) b.groups (draft_at b.drafts q) }
+    ensures one { (drafts : List DraftNode) (p q : ℕ) → p < length drafts → q < length drafts → stands_for (draft_at drafts p) ≡ None →
+        stands_for (draft_at drafts q) ≡ None → new_name drafts p ≡ new_name drafts q → p ≡ q }
     ensures all { (b : Assembly) (x y k : ℕ) → k < length (automaton_of b x y).states →
-        (q : ℕ) × (q < length b.parts) × (stands_for (part_at b.parts q) ≡ None) × (new_name b.parts q ≡ k) }
+        (q : ℕ) × (q < length b.drafts) × (stands_for (draft_at b.drafts q) ≡ None) × (new_name b.drafts q ≡ k) }
 {}
 
 /// A kept state leads in the automaton to where it led in the table, under the new names, and matches what it
 /// matched there.
 pub fn ways_are_renamed()
-    ensures leads { (b : Assembly) (x y q i : ℕ) (t : Text) → q < length b.parts → stands_for (part_at b.parts q) ≡ None →
-        ways (automaton_of b x y) t (i, new_name b.parts q)
-        ≡ map (λ p. (p.0, new_name b.parts p.1)) (table_ways b.reverse t (part_at b.parts) (i, q)) }
-    ensures matches { (b : Assembly) (x y q i : ℕ) → q < length b.parts → stands_for (part_at b.parts q) ≡ None →
-        matched (automaton_of b x y) (i, new_name b.parts q) ≡ table_match (part_at b.parts) (i, q) }
+    ensures leads { (b : Assembly) (x y q i : ℕ) (t : Text) → q < length b.drafts → stands_for (draft_at b.drafts q) ≡ None →
+        ways (automaton_of b x y) t (i, new_name b.drafts q)
+        ≡ map (λ p. (p.0, new_name b.drafts p.1)) (table_ways b.reverse t (draft_at b.drafts) (i, q)) }
+    ensures matches { (b : Assembly) (x y q i : ℕ) → q < length b.drafts → stands_for (draft_at b.drafts q) ≡ None →
+        matched (automaton_of b x y) (i, new_name b.drafts q) ≡ table_match (draft_at b.drafts) (i, q) }
 {}
 
 /// What the walk of a stack lists from a pair of the table, it lists from that pair of the automaton.
 pub fn lists_are_carried_over()
-    ensures { (b : Assembly) (x y : ℕ) (t : Text) (q i : ℕ) (l : List (ℕ × ℕ)) → CanBuild b x y → q < length b.parts →
-        Lists (table_ways b.reverse t (part_at b.parts)) (table_match (part_at b.parts)) ((i, q) ∷ []) l →
-        Lists (ways (automaton_of b x y) t) (matched (automaton_of b x y)) ((i, new_name b.parts q) ∷ []) l }
+    ensures { (b : Assembly) (x y : ℕ) (t : Text) (q i : ℕ) (l : List (ℕ × ℕ)) → CanBuild b x y → q < length b.drafts →
+        Lists (table_ways b.reverse t (draft_at b.drafts)) (table_match (draft_at b.drafts)) ((i, q) ∷ []) l →
+        Lists (ways (automaton_of b x y) t) (matched (automaton_of b x y)) ((i, new_name b.drafts q) ∷ []) l }
 {}
 
 /// What a chain of the table finds, one of the automaton finds, and the other way round.
 pub fn chains_are_carried_over()
-    ensures forth { (b : Assembly) (x y : ℕ) (t : Text) (q i : ℕ) (r : List (ℕ × ℕ)) (e : ℕ × ℕ) → CanBuild b x y → q < length b.parts →
-        IsChain same_pair (table_ways b.reverse t (part_at b.parts)) (i, q) r → table_match (part_at b.parts) (last_or (i, q) r) ≡ Some e →
-        (s : List (ℕ × ℕ)) × IsChain same_pair (ways (automaton_of b x y) t) (i, new_name b.parts q) s
-        × (matched (automaton_of b x y) (last_or (i, new_name b.parts q) s) ≡ Some e) }
-    ensures back { (b : Assembly) (x y : ℕ) (t : Text) (q i : ℕ) (s : List (ℕ × ℕ)) (e : ℕ × ℕ) → CanBuild b x y → q < length b.parts →
-        IsChain same_pair (ways (automaton_of b x y) t) (i, new_name b.parts q) s →
-        matched (automaton_of b x y) (last_or (i, new_name b.parts q) s) ≡ Some e →
-        (r : List (ℕ × ℕ)) × IsChain same_pair (table_ways b.reverse t (part_at b.parts)) (i, q) r
-        × (table_match (part_at b.parts) (last_or (i, q) r) ≡ Some e) }
+    ensures forth { (b : Assembly) (x y : ℕ) (t : Text) (q i : ℕ) (r : List (ℕ × ℕ)) (e : ℕ × ℕ) → CanBuild b x y → q < length b.drafts →
+        IsChain same_pair (table_ways b.reverse t (draft_at b.drafts)) (i, q) r → table_match (draft_at b.drafts) (last_or (i, q) r) ≡ Some e →
+        (s : List (ℕ × ℕ)) × IsChain same_pair (ways (automaton_of b x y) t) (i, new_name b.drafts q) s
+        × (matched (automaton_of b x y) (last_or (i, new_name b.drafts q) s) ≡ Some e) }
+    ensures back { (b : Assembly) (x y : ℕ) (t : Text) (q i : ℕ) (s : List (ℕ × ℕ)) (e : ℕ × ℕ) → CanBuild b x y → q < length b.drafts →
+        IsChain same_pair (ways (automaton_of b x y) t) (i, new_name b.drafts q) s →
+        matched (automaton_of b x y) (last_or (i, new_name b.drafts q) s) ≡ Some e →
+        (r : List (ℕ × ℕ)) × IsChain same_pair (table_ways b.reverse t (draft_at b.drafts)) (i, q) r
+        × (table_match (draft_at b.drafts) (last_or (i, q) r) ≡ Some e) }
 {}
 
 /// All names of the automaton are names of its states.
 pub fn built_automata_are_well_formed()
-    ensures inside { (b : Assembly) (x y q : ℕ) → CanBuild b x y → q < length b.parts → new_name b.parts q < length (automaton_of b x y).states }
+    ensures inside { (b : Assembly) (x y q : ℕ) → CanBuild b x y → q < length b.drafts → new_name b.drafts q < length (automaton_of b x y).states }
     ensures formed { (b : Assembly) (x y : ℕ) → CanBuild b x y → IsWellFormed (automaton_of b x y) }
 {}
 
 /// The ends of the automaton's runs from a pair are those of the table's runs, in the same order of preference,
 /// whatever loops the table has that read nothing.
 pub fn ends_keep_their_order()
-    ensures { (b : Assembly) (x y : ℕ) (t : Text) (q i : ℕ) → CanBuild b x y → q < length b.parts → i ≤ t.end →
-        ends_from (automaton_of b x y) t (i, new_name b.parts q) ≡ table_ends b.reverse t b.parts (i, q) }
+    ensures { (b : Assembly) (x y : ℕ) (t : Text) (q i : ℕ) → CanBuild b x y → q < length b.drafts → i ≤ t.end →
+        ends_from (automaton_of b x y) t (i, new_name b.drafts q) ≡ table_ends b.reverse t b.drafts (i, q) }
 {}
 
 /// The ends of the automaton's runs from a pair are what the table lists from it, repeats dropped, and what
 /// chains of the table find. Where the walk of a stack comes to its end, no chain comes to a pair twice.
 pub fn ends_are_those_of_the_table()
-    ensures listed { (b : Assembly) (x y : ℕ) (t : Text) (q i : ℕ) (l : List (ℕ × ℕ)) → CanBuild b x y → q < length b.parts → i ≤ t.end →
-        Lists (table_ways b.reverse t (part_at b.parts)) (table_match (part_at b.parts)) ((i, q) ∷ []) l →
-        ends_from (automaton_of b x y) t (i, new_name b.parts q) ≡ distinct same_pair l }
-    ensures found { (b : Assembly) (x y : ℕ) (t : Text) (q i : ℕ) (e : ℕ × ℕ) → CanBuild b x y → q < length b.parts → i ≤ t.end →
-        Has same_pair e (ends_from (automaton_of b x y) t (i, new_name b.parts q)) →
-        (r : List (ℕ × ℕ)) × IsChain same_pair (table_ways b.reverse t (part_at b.parts)) (i, q) r
-        × (table_match (part_at b.parts) (last_or (i, q) r) ≡ Some e) }
-    ensures all { (b : Assembly) (x y : ℕ) (t : Text) (q i : ℕ) (e : ℕ × ℕ) (r : List (ℕ × ℕ)) → CanBuild b x y → q < length b.parts → i ≤ t.end →
-        IsChain same_pair (table_ways b.reverse t (part_at b.parts)) (i, q) r → table_match (part_at b.parts) (last_or (i, q) r) ≡ Some e →
-        Has same_pair e (ends_from (automaton_of b x y) t (i, new_name b.parts q)) }
-    ensures once { (b : Assembly) (x y : ℕ) (t : Text) (q i : ℕ) (l r : List (ℕ × ℕ)) → CanBuild b x y → q < length b.parts → i ≤ t.end →
-        Lists (table_ways b.reverse t (part_at b.parts)) (table_match (part_at b.parts)) ((i, q) ∷ []) l →
-        IsChain same_pair (ways (automaton_of b x y) t) (i, new_name b.parts q) r → HasNoneTwice same_pair ((i, new_name b.parts q) ∷ r) }
+    ensures listed { (b : Assembly) (x y : ℕ) (t : Text) (q i : ℕ) (l : List (ℕ × ℕ)) → CanBuild b x y → q < length b.drafts → i ≤ t.end →
+        Lists (table_ways b.reverse t (draft_at b.drafts)) (table_match (draft_at b.drafts)) ((i, q) ∷ []) l →
+        ends_from (automaton_of b x y) t (i, new_name b.drafts q) ≡ distinct same_pair l }
+    ensures found { (b : Assembly) (x y : ℕ) (t : Text) (q i : ℕ) (e : ℕ × ℕ) → CanBuild b x y → q < length b.drafts → i ≤ t.end →
+        Has same_pair e (ends_from (automaton_of b x y) t (i, new_name b.drafts q)) →
+        (r : List (ℕ × ℕ)) × IsChain same_pair (table_ways b.reverse t (draft_at b.drafts)) (i, q) r
+        × (table_match (draft_at b.drafts) (last_or (i, q) r) ≡ Some e) }
+    ensures all { (b : Assembly) (x y : ℕ) (t : Text) (q i : ℕ) (e : ℕ × ℕ) (r : List (ℕ × ℕ)) → CanBuild b x y → q < length b.drafts → i ≤ t.end →
+        IsChain same_pair (table_ways b.reverse t (draft_at b.drafts)) (i, q) r → table_match (draft_at b.drafts) (last_or (i, q) r) ≡ Some e →
+        Has same_pair e (ends_from (automaton_of b x y) t (i, new_name b.drafts q)) }
+    ensures once { (b : Assembly) (x y : ℕ) (t : Text) (q i : ℕ) (l r : List (ℕ × ℕ)) → CanBuild b x y → q < length b.drafts → i ≤ t.end →
+        Lists (table_ways b.reverse t (draft_at b.drafts)) (table_match (draft_at b.drafts)) ((i, q) ∷ []) l →
+        IsChain same_pair (ways (automaton_of b x y) t) (i, new_name b.drafts q) r → HasNoneTwice same_pair ((i, new_name b.drafts q) ∷ r) }
 {}

@@ -1,8 +1,8 @@
 ghost use Rattle.std.specs.Prelude.{◌≡◌, ◌<◌, ◌≤◌, true, false, length, map, None, All, MatchResult};
-ghost use Rattle.nfa_core.specs.BuilderStates.{empty_part, range_part, sparse_part, look_part, union_part, union_reverse_part, fail_part, match_part, AscendsFrom, part_at, patched_at, way_bytes, is_sparse};
+ghost use Rattle.nfa_core.specs.BuilderStates.{empty_draft, range_draft, sparse_draft, look_draft, union_draft, union_reverse_draft, fail_draft, match_draft, AscendsFrom, draft_at, patched_at, way_bytes, is_sparse};
 ghost use Rattle.nfa_core.specs.BuilderFaults.{Adds, Tells, patch_fault};
 ghost use Rattle.nfa_core.specs.declared.build_error.BuildError.TheVariants.{NoMemory};
-ghost use Rattle.nfa_core.specs.Drafts.{part_of};
+ghost use Rattle.nfa_core.specs.Drafts.{draft_of};
 ghost use Rattle.nfa_core.specs.Transitions.{range_of};
 
 use crate::build_error::BuildError;
@@ -16,7 +16,7 @@ impl Builder {
     /// Adds a state that stands for another, which [`patch`](Builder::patch) names later. The automaton
     /// has no such state.
     pub fn add_empty(&mut self) -> Result<StateID, BuildError>
-        ensures { Adds self.old self.new result (empty_part 0) }
+        ensures { Adds self.old self.new result (empty_draft 0) }
     {
         self.add(Draft::Empty {
             next: StateID::ZERO,
@@ -25,14 +25,14 @@ impl Builder {
 
     /// Adds a state that leads to each of these, the preferred first. [`patch`](Builder::patch) adds more.
     pub fn add_union(&mut self, alternates: Vec<StateID>) -> Result<StateID, BuildError>
-        ensures { Adds self.old self.new result (union_part alternates.items) }
+        ensures { Adds self.old self.new result (union_draft alternates.items) }
     {
         self.add(Draft::Union { alternates })
     }
 
     /// Adds a state that leads to each of these, the preferred last. [`patch`](Builder::patch) adds more.
     pub fn add_union_reverse(&mut self, alternates: Vec<StateID>) -> Result<StateID, BuildError>
-        ensures { Adds self.old self.new result (union_reverse_part alternates.items) }
+        ensures { Adds self.old self.new result (union_reverse_draft alternates.items) }
     {
         self.add(Draft::UnionReverse { alternates })
     }
@@ -40,7 +40,7 @@ impl Builder {
     /// Adds a state that leads on by the bytes of a range, of which there is one at least.
     pub fn add_range(&mut self, trans: Transition) -> Result<StateID, BuildError>
         requires { trans.start ≤ trans.end }
-        ensures { Adds self.old self.new result (range_part trans.start trans.end trans.next) }
+        ensures { Adds self.old self.new result (range_draft trans.start trans.end trans.next) }
     {
         self.add(Draft::ByteRange { trans })
     }
@@ -49,7 +49,7 @@ impl Builder {
     /// have a byte in common. It can't be patched.
     pub fn add_sparse(&mut self, transitions: Vec<Transition>) -> Result<StateID, BuildError>
         requires { AscendsFrom 0 (map range_of transitions.items) }
-        ensures { Adds self.old self.new result (sparse_part (map range_of transitions.items)) }
+        ensures { Adds self.old self.new result (sparse_draft (map range_of transitions.items)) }
     {
         see_bytes(&transitions);
         self.add(Draft::Sparse { transitions })
@@ -57,14 +57,14 @@ impl Builder {
 
     /// Adds a state that leads on where the look holds.
     pub fn add_look(&mut self, next: StateID, look: Look) -> Result<StateID, BuildError>
-        ensures { Adds self.old self.new result (look_part look next) }
+        ensures { Adds self.old self.new result (look_draft look next) }
     {
         self.add(Draft::Look { look, next })
     }
 
     /// Adds a state that leads nowhere. Patching it changes nothing.
     pub fn add_fail(&mut self) -> Result<StateID, BuildError>
-        ensures { Adds self.old self.new result fail_part }
+        ensures { Adds self.old self.new result fail_draft }
     {
         self.add(Draft::Fail)
     }
@@ -72,7 +72,7 @@ impl Builder {
     /// Adds a state in which the pattern that was begun matches. Patching it changes nothing.
     pub fn add_match(&mut self) -> Result<StateID, BuildError>
         requires { self.old.is_open ≡ true }
-        ensures { Adds self.old self.new result (match_part (length self.old.starts)) }
+        ensures { Adds self.old self.new result (match_draft (length self.old.starts)) }
     {
         let pattern_id = self.current_pattern_id();
         self.add(Draft::Match { pattern_id })
@@ -82,11 +82,11 @@ impl Builder {
     /// state leads there and no more where it did.
     #[tactic(auto, using(crate::proofs::BuilderLemmas::bytes_patched))]
     pub fn patch(&mut self, from: StateID, to: StateID) -> Result<(), BuildError>
-        requires from { from < length self.old.parts }
-        requires to { to < length self.old.parts }
-        requires kind { is_sparse (part_at self.old.parts from) ≡ false }
+        requires from { from < length self.old.drafts }
+        requires to { to < length self.old.drafts }
+        requires kind { is_sparse (draft_at self.old.drafts from) ≡ false }
         ensures { MatchResult result
-            (λ _. (self.new ≡ record self.old { parts = patched_at self.old.parts from to }) × (patch_fault self.old from to ≡ None))
+            (λ _. (self.new ≡ record self.old { drafts = patched_at self.old.drafts from to }) × (patch_fault self.old from to ≡ None))
             (λ e. (self.new ≡ self.old) × Tells e (patch_fault self.old from to)) }
     {
         let memory = self.memory.saturating_add(way_memory(&self.drafts, from));
@@ -117,7 +117,7 @@ fn see_bytes(transitions: &[Transition])
 #[tactic(auto, using(crate::proofs::BuilderLemmas::view_at))]
 fn way_memory(drafts: &[Draft], from: StateID) -> usize
     requires { from < length drafts.now }
-    ensures { result ≡ way_bytes (part_at (map part_of drafts.now) from) }
+    ensures { result ≡ way_bytes (draft_at (map draft_of drafts.now) from) }
 {
     drafts[from.as_usize()].patch_memory()
 }
@@ -126,8 +126,8 @@ fn way_memory(drafts: &[Draft], from: StateID) -> usize
 #[tactic(auto, using(crate::proofs::BuilderLemmas::view_patched, crate::proofs::BuilderLemmas::view_kept))]
 fn patch(drafts: &mut Vec<Draft>, from: StateID, to: StateID) -> Result<(), BuildError>
     requires { from < length drafts.old.items }
-    ensures { MatchResult result (λ _. map part_of drafts.new.items ≡ patched_at (map part_of drafts.old.items) from to)
-        (λ e. (map part_of drafts.new.items ≡ map part_of drafts.old.items) × (e ≡ NoMemory)) }
+    ensures { MatchResult result (λ _. map draft_of drafts.new.items ≡ patched_at (map draft_of drafts.old.items) from to)
+        (λ e. (map draft_of drafts.new.items ≡ map draft_of drafts.old.items) × (e ≡ NoMemory)) }
 {
     drafts[from.as_usize()].patch(to)?;
     Ok(())

@@ -1,7 +1,7 @@
 ghost use Rattle.std.specs.Prelude.{◌≡◌, ◌≤◌, ◌∷◌, [], length, min, MatchResult};
-ghost use Rattle.nfa_core.specs.BuilderStates.{part_bytes, list_bytes, way_bytes, patched, union_part};
+ghost use Rattle.nfa_core.specs.BuilderStates.{draft_bytes, list_bytes, way_bytes, patched, union_draft};
 ghost use Rattle.nfa_core.specs.Renaming.{stands_for, kept};
-ghost use Rattle.nfa_core.specs.Drafts.{part_of};
+ghost use Rattle.nfa_core.specs.Drafts.{draft_of};
 
 use crate::transition::Transition;
 use look_core::Look;
@@ -57,14 +57,14 @@ pub(crate) enum Draft {
 impl Draft {
     /// The bytes that the state is taken to need, or [`usize::MAX`] where that is less.
     pub(crate) fn memory_usage(&self) -> usize
-        ensures { result ≡ min (part_bytes (part_of self.now)) usize.MAX }
+        ensures { result ≡ min (draft_bytes (draft_of self.now)) usize.MAX }
     {
         STATE_SIZE.saturating_add(self.list_memory())
     }
 
     /// The bytes of the state's list alone.
     fn list_memory(&self) -> usize
-        ensures { result ≡ min (list_bytes (part_of self.now)) usize.MAX }
+        ensures { result ≡ min (list_bytes (draft_of self.now)) usize.MAX }
     {
         match self {
             Draft::Sparse { transitions } => TRANSITION_SIZE.saturating_mul(transitions.len()),
@@ -82,7 +82,7 @@ impl Draft {
 
     /// The bytes that one more way takes.
     pub(crate) fn patch_memory(&self) -> usize
-        ensures { result ≡ way_bytes (part_of self.now) }
+        ensures { result ≡ way_bytes (draft_of self.now) }
     {
         match self {
             Draft::Union { .. } | Draft::UnionReverse { .. } => StateID::SIZE,
@@ -94,7 +94,7 @@ impl Draft {
 
     /// The state for which this one stands, where it is empty or a union of one way.
     pub(crate) fn stands_for(&self) -> Option<StateID>
-        ensures { result ≡ stands_for (part_of self.now) }
+        ensures { result ≡ stands_for (draft_of self.now) }
     {
         match self {
             Draft::Empty { next } => Some(*next),
@@ -108,7 +108,7 @@ impl Draft {
 
     /// How many states of the automaton it becomes: none where it stands for another, and else one.
     pub(crate) fn kept_len(&self) -> usize
-        ensures value { result ≡ length (kept (part_of self.now ∷ [])) }
+        ensures value { result ≡ length (kept (draft_of self.now ∷ [])) }
         ensures most { result ≤ 1 }
     {
         if self.stands_for().is_none() { 1 } else { 0 }
@@ -116,7 +116,7 @@ impl Draft {
 
     /// Lets the state lead to `to`: a union has one more way, and any other state leads there alone.
     pub(crate) fn patch(&mut self, to: StateID) -> Result<(), AllocError>
-        ensures { MatchResult result (λ _. part_of self.new ≡ patched to (part_of self.old)) (λ _. part_of self.new ≡ part_of self.old) }
+        ensures { MatchResult result (λ _. draft_of self.new ≡ patched to (draft_of self.old)) (λ _. draft_of self.new ≡ draft_of self.old) }
     {
         match self {
             Draft::Empty { next } => *next = to,
@@ -134,7 +134,7 @@ impl Draft {
 
 /// The state of a list that has no other.
 fn only(names: &[StateID]) -> Option<StateID>
-    ensures { result ≡ stands_for (union_part names.now) }
+    ensures { result ≡ stands_for (union_draft names.now) }
 {
     match names {
         [next] => Some(*next),

@@ -2,7 +2,7 @@ ghost use Rattle.std.specs.Prelude.{◌≡◌, ℕ, ◌+◌, ◌<◌, ◌≤◌,
 ghost use Rattle.search_core.specs.Index.{greatest_index};
 ghost use Rattle.search_types.specs.Groups.{slot};
 ghost use Rattle.nfa_core.specs.CanBuild.{names_of, is_known};
-ghost use Rattle.nfa_core.specs.Drafts.{part_of};
+ghost use Rattle.nfa_core.specs.Drafts.{draft_of};
 ghost use Rattle.nfa_core.specs.Nfa.{byte_range, look_node, capture_node};
 ghost use Rattle.nfa_core.specs.Pasts.{name_in};
 ghost use Rattle.nfa_core.specs.Renaming.{kept, renamed, ways_node, ranges_node};
@@ -115,9 +115,9 @@ fn kept_state(
     groups: &GroupInfo,
     draft: &Draft,
 ) -> Result<State, AllocError>
-    requires named { All (λ q. q < length names.now) (names_of (part_of draft.now)) }
-    requires known { is_known groups.now (part_of draft.now) ≡ true }
-    ensures { IfOk result (λ state. node_of state ≡ renamed (name_in names.now) groups.now (part_of draft.now)) }
+    requires named { All (λ q. q < length names.now) (names_of (draft_of draft.now)) }
+    requires known { is_known groups.now (draft_of draft.now) ≡ true }
+    ensures { IfOk result (λ state. node_of state ≡ renamed (name_in names.now) groups.now (draft_of draft.now)) }
 {
     match draft {
         Draft::Empty { .. } => Ok(State::Fail),
@@ -175,9 +175,9 @@ pub(crate) fn kept_states(
     groups: &GroupInfo,
     drafts: &[Draft],
 ) -> Result<Vec<State>, AllocError>
-    requires named { All (λ part. All (λ q. q < length names.now) (names_of part)) (map part_of drafts.now) }
-    requires known { All (λ part. is_known groups.now part ≡ true) (map part_of drafts.now) }
-    ensures { IfOk result (λ states. map node_of states.items ≡ map (renamed (name_in names.now) groups.now) (kept (map part_of drafts.now))) }
+    requires named { All (λ draft. All (λ q. q < length names.now) (names_of draft)) (map draft_of drafts.now) }
+    requires known { All (λ draft. is_known groups.now draft ≡ true) (map draft_of drafts.now) }
+    ensures { IfOk result (λ states. map node_of states.items ≡ map (renamed (name_in names.now) groups.now) (kept (map draft_of drafts.now))) }
 {
     let mut states = Vec::new(alloc);
     for draft in drafts {

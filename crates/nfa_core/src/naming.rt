@@ -1,6 +1,6 @@
 ghost use Rattle.std.specs.Prelude.{◌≡◌, ℕ, ◌+◌, ◌*◌, ◌<◌, ◌≤◌, true, length, map, get_or, IfOk, None, unwrap_or};
 ghost use Rattle.search_core.specs.Index.{greatest_index};
-ghost use Rattle.nfa_core.specs.Drafts.{part_of};
+ghost use Rattle.nfa_core.specs.Drafts.{draft_of};
 ghost use Rattle.nfa_core.specs.Pasts.{IsReached, IsNaming, IsRanking, name_in};
 
 use crate::draft::Draft;
@@ -13,7 +13,7 @@ use std::sync::ledger::Ledger;
 /// For each state how many before it are kept.
 fn rank_all(alloc: Global, drafts: &[Draft]) -> Result<Vec<StateID>, AllocError>
     requires { length drafts.now ≤ greatest_index + 1 }
-    ensures { IfOk result (λ ranks. IsRanking (map part_of drafts.now) ranks.items) }
+    ensures { IfOk result (λ ranks. IsRanking (map draft_of drafts.now) ranks.items) }
 {
     let mut ranks = Vec::new(alloc);
     let mut count = 0;
@@ -48,9 +48,9 @@ pub(crate) fn name_all<L: Ledger>(
     drafts: &[Draft],
     steps: &mut Steps<L>,
 ) -> Result<Vec<StateID>, AllocError>
-    requires reached { IsReached (map part_of drafts.now) }
+    requires reached { IsReached (map draft_of drafts.now) }
     requires numbered { length drafts.now ≤ greatest_index + 1 }
-    ensures names { IfOk result (λ names. IsNaming (map part_of drafts.now) names.items) }
+    ensures names { IfOk result (λ names. IsNaming (map draft_of drafts.now) names.items) }
     ensures moves { steps.new ≤ steps.old + 2 * length drafts.now }
 {
     let pasts = settle_all(alloc, drafts, steps)?;

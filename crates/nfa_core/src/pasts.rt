@@ -1,7 +1,7 @@
 ghost use Rattle.std.specs.Prelude.{◌≡◌, ℕ, ◌+◌, ◌*◌, ◌<◌, ◌≤◌, true, false, length, map, set, get_or, IfOk, Some, None, MatchOption, unwrap_or};
 ghost use Rattle.search_core.specs.Index.{greatest_index};
-ghost use Rattle.nfa_core.specs.BuilderStates.{part_at};
-ghost use Rattle.nfa_core.specs.Drafts.{part_of};
+ghost use Rattle.nfa_core.specs.BuilderStates.{draft_at};
+ghost use Rattle.nfa_core.specs.Drafts.{draft_of};
 ghost use Rattle.nfa_core.specs.Renaming.{stands_for, past};
 ghost use Rattle.nfa_core.specs.Pasts.{IsReached, IsPastTable, IsOpen, IsEnd, is_settled, settled_count};
 
@@ -30,7 +30,7 @@ struct Way {
 #[tactic(auto, using(crate::proofs::BuilderLemmas::view_at))]
 fn next_of<L: Ledger>(drafts: &[Draft], q: StateID, steps: &mut Steps<L>) -> Option<StateID>
     requires { q < length drafts.now }
-    ensures value { result ≡ stands_for (part_at (map part_of drafts.now) q) }
+    ensures value { result ≡ stands_for (draft_at (map draft_of drafts.now) q) }
     ensures moves { MatchOption result (steps.new ≡ steps.old) (λ _. steps.new ≡ steps.old + 1) }
 {
     let next = drafts[q.as_usize()].stands_for();
@@ -69,8 +69,8 @@ impl Pasts {
     ) -> Option<StateID>
         requires table { at < length self.now.table.items }
         requires inside { at < length drafts.now }
-        ensures value { MatchOption result (IsEnd (map part_of drafts.now) self.now.table.items at)
-            (λ next. (is_settled self.now.table.items at ≡ false) × (stands_for (part_at (map part_of drafts.now) at) ≡ Some next)) }
+        ensures value { MatchOption result (IsEnd (map draft_of drafts.now) self.now.table.items at)
+            (λ next. (is_settled self.now.table.items at ≡ false) × (stands_for (draft_at (map draft_of drafts.now) at) ≡ Some next)) }
         ensures moves { MatchOption result (steps.new ≡ steps.old) (λ _. steps.new ≡ steps.old + 1) }
     {
         if self.table[at.as_usize()].is_some() {
@@ -90,12 +90,12 @@ impl Pasts {
     /// Follows the states from `q` on to one that stands for itself, or of which the table tells.
     #[tactic(auto, using(crate::proofs::PastLemmas::known_end))]
     fn find_end<L: Ledger>(&self, drafts: &[Draft], q: StateID, steps: &mut Steps<L>) -> Way
-        requires reached { IsReached (map part_of drafts.now) }
+        requires reached { IsReached (map draft_of drafts.now) }
         requires numbered { length drafts.now ≤ greatest_index + 1 }
-        requires table { IsPastTable (map part_of drafts.now) self.now.table.items }
+        requires table { IsPastTable (map draft_of drafts.now) self.now.table.items }
         requires inside { q < length drafts.now }
-        ensures end { result.end ≡ past (map part_of drafts.now) q }
-        ensures opened { IsOpen (map part_of drafts.now) self.now.table.items result.len q }
+        ensures end { result.end ≡ past (map draft_of drafts.now) q }
+        ensures opened { IsOpen (map draft_of drafts.now) self.now.table.items result.len q }
         ensures moves { steps.new ≡ steps.old + result.len }
     {
         let mut at = q;
@@ -119,12 +119,12 @@ impl Pasts {
         len: usize,
         steps: &mut Steps<L>,
     )
-        requires reached { IsReached (map part_of drafts.now) }
-        requires table { IsPastTable (map part_of drafts.now) self.old.table.items }
+        requires reached { IsReached (map draft_of drafts.now) }
+        requires table { IsPastTable (map draft_of drafts.now) self.old.table.items }
         requires inside { q < length drafts.now }
-        requires end { end ≡ past (map part_of drafts.now) q }
-        requires opened { IsOpen (map part_of drafts.now) self.old.table.items len q }
-        ensures table { IsPastTable (map part_of drafts.now) self.new.table.items }
+        requires end { end ≡ past (map draft_of drafts.now) q }
+        requires opened { IsOpen (map draft_of drafts.now) self.old.table.items len q }
+        ensures table { IsPastTable (map draft_of drafts.now) self.new.table.items }
         ensures kept { (r : ℕ) → is_settled self.old.table.items r ≡ true → is_settled self.new.table.items r ≡ true }
         ensures count { settled_count self.new.table.items ≡ settled_count self.old.table.items + len }
         ensures moves { steps.new ≡ steps.old + len }
@@ -142,11 +142,11 @@ impl Pasts {
     /// Notes what `q` leads past to, and with it all states that are met before the table tells more.
     #[tactic(auto, using(crate::proofs::PastLemmas::settled_kept, crate::proofs::PastLemmas::settled_there, crate::proofs::PastLemmas::settled_grows, crate::proofs::PastLemmas::told_more))]
     fn settle_from<L: Ledger>(&mut self, drafts: &[Draft], q: StateID, steps: &mut Steps<L>)
-        requires reached { IsReached (map part_of drafts.now) }
+        requires reached { IsReached (map draft_of drafts.now) }
         requires numbered { length drafts.now ≤ greatest_index + 1 }
-        requires table { IsPastTable (map part_of drafts.now) self.old.table.items }
+        requires table { IsPastTable (map draft_of drafts.now) self.old.table.items }
         requires inside { q < length drafts.now }
-        ensures table { IsPastTable (map part_of drafts.now) self.new.table.items }
+        ensures table { IsPastTable (map draft_of drafts.now) self.new.table.items }
         ensures there { is_settled self.new.table.items q ≡ true }
         ensures kept { (r : ℕ) → is_settled self.old.table.items r ≡ true → is_settled self.new.table.items r ≡ true }
         ensures moves { steps.new + 2 * settled_count self.old.table.items ≤ steps.old + 2 * settled_count self.new.table.items }
@@ -164,9 +164,9 @@ pub(crate) fn settle_all<L: Ledger>(
     drafts: &[Draft],
     steps: &mut Steps<L>,
 ) -> Result<Pasts, AllocError>
-    requires reached { IsReached (map part_of drafts.now) }
+    requires reached { IsReached (map draft_of drafts.now) }
     requires numbered { length drafts.now ≤ greatest_index + 1 }
-    ensures table { IfOk result (λ p. IsPastTable (map part_of drafts.now) p.table.items) }
+    ensures table { IfOk result (λ p. IsPastTable (map draft_of drafts.now) p.table.items) }
     ensures there { IfOk result (λ p. (q : ℕ) → q < length drafts.now → is_settled p.table.items q ≡ true) }
     ensures moves { steps.new ≤ steps.old + 2 * length drafts.now }
 {

@@ -12,8 +12,8 @@ ghost use Rattle.look_core.specs.Terminators.{Terminator};
 
 /// A haystack as a whole is read at each place where it has a byte.
 pub fn whole_texts_are_read()
-    ensures up { (t : Terminator) (h : List ℕ) (i : ℕ) → reads false (whole t h) i ≡ with_place (suc i) (byte_at h i) }
-    ensures down { (t : Terminator) (h : List ℕ) (i : ℕ) → reads true (whole t h) (suc i) ≡ with_place i (byte_at h i) }
+    ensures is_forward { (t : Terminator) (h : List ℕ) (i : ℕ) → reads false (whole t h) i ≡ with_place (suc i) (byte_at h i) }
+    ensures is_reverse { (t : Terminator) (h : List ℕ) (i : ℕ) → reads true (whole t h) (suc i) ≡ with_place i (byte_at h i) }
 {}
 
 /// A match leads nowhere.
@@ -66,8 +66,8 @@ pub fn stacks_are_walked_part_by_part()
     ensures split { (steps : ℕ × ℕ → List (ℕ × ℕ)) (answer : ℕ × ℕ → Option (ℕ × ℕ)) (xs ys l : List (ℕ × ℕ)) →
         Lists steps answer (xs ++ ys) l →
         (a : List (ℕ × ℕ)) × (b : List (ℕ × ℕ)) × (l ≡ a ++ b) × Lists steps answer xs a × Lists steps answer ys b }
-    ensures one { (steps : ℕ × ℕ → List (ℕ × ℕ)) (answer : ℕ × ℕ → Option (ℕ × ℕ)) (todo l m : List (ℕ × ℕ)) →
-        Lists steps answer todo l → Lists steps answer todo m → l ≡ m }
+    ensures one { (steps : ℕ × ℕ → List (ℕ × ℕ)) (answer : ℕ × ℕ → Option (ℕ × ℕ)) (stack l m : List (ℕ × ℕ)) →
+        Lists steps answer stack l → Lists steps answer stack m → l ≡ m }
 {}
 
 /// Where the walk of a stack comes to its end, what it lists are the ends of runs, repeats dropped.

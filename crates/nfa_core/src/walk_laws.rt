@@ -10,14 +10,14 @@ ghost use Rattle.nfa_core.specs.Late.{IsPassedThrough};
 /// Over names below a bound, a depth-first walk with one set for all that was met comes to what it had, and
 /// then the ends of all chains that come to nothing twice, in order of preference, each once.
 pub fn walks_meet_the_ends_of_chains()
-    ensures { (steps : ℕ → List ℕ) (n : ℕ) (todo seen after : List ℕ) → StaysBelow n steps → ((q : ℕ) → Has nat_eq q todo → q < n) →
-        IsClosed nat_eq steps seen → Visits nat_eq steps todo seen after →
-        after ≡ join nat_eq seen (flat_map (chain_ends nat_eq steps n []) todo) }
+    ensures { (steps : ℕ → List ℕ) (n : ℕ) (stack seen after : List ℕ) → StaysBelow n steps → ((q : ℕ) → Has nat_eq q stack → q < n) →
+        IsClosed nat_eq steps seen → Visits nat_eq steps stack seen after →
+        after ≡ join nat_eq seen (flat_map (chain_ends nat_eq steps n []) stack) }
 {}
 
 /// A walk comes to one list.
 pub fn walks_come_to_one_list()
-    ensures { (steps : ℕ → List ℕ) (todo seen a b : List ℕ) → Visits nat_eq steps todo seen a → Visits nat_eq steps todo seen b → a ≡ b }
+    ensures { (steps : ℕ → List ℕ) (stack seen a b : List ℕ) → Visits nat_eq steps stack seen a → Visits nat_eq steps stack seen b → a ≡ b }
 {}
 
 /// A walk may be made with a stack: the ways of a fresh name go before the rest.

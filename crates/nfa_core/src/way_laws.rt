@@ -1,7 +1,7 @@
 //! Laws of where an automaton leads. Each function has no code: its contract is the law.
 ghost use Rattle.std.specs.Prelude.{◌≡◌, ◌<◌, ℕ, List, length, None};
 ghost use Rattle.std.specs.List.{flat_map};
-ghost use Rattle.nfa_core.specs.BuilderStates.{Assembly, part_at};
+ghost use Rattle.nfa_core.specs.BuilderStates.{Assembly, draft_at};
 ghost use Rattle.nfa_core.specs.CanBuild.{CanBuild};
 ghost use Rattle.nfa_core.specs.Drafted.{table_ways};
 ghost use Rattle.nfa_core.specs.Nfa.{Automaton, IsWellFormed};
@@ -22,8 +22,8 @@ pub fn ends_come_by_the_ways()
 /// A chain of what is built that comes to a state which was kept comes from a chain of the builder's own states
 /// that comes there.
 pub fn chains_come_from_the_builders_states()
-    ensures { (b : Assembly) (x y : ℕ) → CanBuild b x y → (t : Text) (c : ℕ) → c < length b.parts → stands_for (part_at b.parts c) ≡ None →
-        (q i : ℕ) (s : List (ℕ × ℕ)) → q < length b.parts → IsChain same_pair (ways (automaton_of b x y) t) (i, new_name b.parts q) s →
-        (last_or (i, new_name b.parts q) s).1 ≡ new_name b.parts c →
-        (r : List (ℕ × ℕ)) × IsChain same_pair (table_ways b.reverse t (part_at b.parts)) (i, q) r × ((last_or (i, q) r).1 ≡ c) }
+    ensures { (b : Assembly) (x y : ℕ) → CanBuild b x y → (t : Text) (c : ℕ) → c < length b.drafts → stands_for (draft_at b.drafts c) ≡ None →
+        (q i : ℕ) (s : List (ℕ × ℕ)) → q < length b.drafts → IsChain same_pair (ways (automaton_of b x y) t) (i, new_name b.drafts q) s →
+        (last_or (i, new_name b.drafts q) s).1 ≡ new_name b.drafts c →
+        (r : List (ℕ × ℕ)) × IsChain same_pair (table_ways b.reverse t (draft_at b.drafts)) (i, q) r × ((last_or (i, q) r).1 ≡ c) }
 {}

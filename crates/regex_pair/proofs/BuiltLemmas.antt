@@ -32,7 +32,7 @@ built_of n o d is = ap (λ (x : Dfa). x.nfa) (kept_by (is_unsupported n.automato
 
 pub built_pair : (n m : Nfa) (o u : Options) (f r : Dfa) → Ok f ≡ built n o → Ok r ≡ built m u → n.automaton.reverse ≡ false → m.automaton.reverse ≡ true →
     IsPair (record { forward = f; reverse = r })
-built_pair n m o u f r is_f is_r up down = record {
-  up = ap (λ (x : Nfa). x.automaton.reverse) (built_of n o f is_f) ∙ up;
-  down = ap (λ (x : Nfa). x.automaton.reverse) (built_of m u r is_r) ∙ down;
+built_pair n m o u f r is_f is_r up is_reverse = record {
+  is_forward = ap (λ (x : Nfa). x.automaton.reverse) (built_of n o f is_f) ∙ up;
+  is_reverse = ap (λ (x : Nfa). x.automaton.reverse) (built_of m u r is_r) ∙ is_reverse;
 }

@@ -183,12 +183,12 @@ module _ (p : Pair) (q : Search) (e : HalfFound) (there : GoesBack p q (pair e))
     told_back t same less x other = subst IsTold (only x other) (t same less)
 
     few_made : m3 ≤ m1 + (half_made (reader p.forward) q + back_made p q)
-    few_made = let up = ends.determinized in let down = made.determinized in
-        subst (λ (k : ℕ). m3 ≤ m1 + (half_made (reader p.forward) q + k)) (sym back_count) (omega (arith, up, down))
+    few_made = let up = ends.determinized in let is_reverse = made.determinized in
+        subst (λ (k : ℕ). m3 ≤ m1 + (half_made (reader p.forward) q + k)) (sym back_count) (omega (arith, up, is_reverse))
 
     few_put : n3 ≤ n1 + (half_made (reader p.forward) q * most_inserts p.forward + back_made p q * most_inserts p.reverse)
-    few_put = let up = ends.inserted in let down = made.inserted in
-        subst (λ (k : ℕ). n3 ≤ n1 + (half_made (reader p.forward) q * most_inserts p.forward + k * most_inserts p.reverse)) (sym back_count) (omega (arith, up, down))
+    few_put = let up = ends.inserted in let is_reverse = made.inserted in
+        subst (λ (k : ℕ). n3 ≤ n1 + (half_made (reader p.forward) q * most_inserts p.forward + k * most_inserts p.reverse)) (sym back_count) (omega (arith, up, is_reverse))
 
     goes : MakesPair p q old new m1 m3 n1 n3 (with_half e b)
     goes = record {
@@ -204,7 +204,7 @@ module _ (p : Pair) (q : Search) (e : HalfFound) (there : GoesBack p q (pair e))
       back_told = on_back e b (new.reverse.clears ≡ old.reverse.clears → old.reverse.clears < greatest → IsTold (pair e))
           (new.reverse.clears ≡ old.reverse.clears → old.reverse.clears < greatest → (x : ℕ × ℕ) → GoesBack p q x → IsTold x) told_back made.is_told;
       moved = λ linked. record { forward = ends.moved linked.forward; reverse = made.moved (linked.back (pair e) there) };
-      free = λ linked. let up = ends.free linked.forward in let down = made.free (linked.back (pair e) there) in (down.0 ∙ up.0, down.1 ∙ up.1);
+      free = λ linked. let up = ends.free linked.forward in let is_reverse = made.free (linked.back (pair e) there) in (is_reverse.0 ∙ up.0, is_reverse.1 ∙ up.1);
       sure_if_linked = λ linked. ap (λ (x : Half). with_half e x) (made.sure_if_linked (linked.back (pair e) there)) ∙ back_joined;
       determinized = few_made;
       inserted = few_put;

@@ -10,7 +10,7 @@ use Rattle.lazy_dfa.specs.Dfas.{reader}
 use Rattle.lazy_dfa.specs.Readers.{Reader, HalfAnswer, found, quit, unsupported}
 use Rattle.lazy_dfa.specs.Scans.{scan}
 use Rattle.lazy_dfa.specs.ScanLaws.{IsInReach, scan_len}
-use Rattle.lazy_dfa.proofs.ForCallers.{scan_done, scan_few, scan_is_quiet, scan_place_is_reached, reach_is_near, reached_up, below_reach}
+use Rattle.lazy_dfa.proofs.ForCallers.{scan_done, scan_few, scan_is_quiet, scan_place_is_reached, reach_is_near, reached_forward, below_reach}
 use Rattle.regex_pair.specs.Joined.{is_start_known, back_from, from_start, with_start, join, joined}
 use Rattle.regex_pair.specs.PairAnswers.{AnswersPair, GoesBack}
 use Rattle.regex_pair.specs.PairLaws.{found_of, IsInPairReach}
@@ -95,7 +95,7 @@ module _ (p : Pair) (q : Search) (o : Option Found) (up : (reader p.forward).aut
         let e = match_end f (reader p.reverse) q (scan f q) m (is ∙ ap Ok same) in
         subst (λ (n : ℕ). n < stop) e.2 (below_stop e.0.0 (scan_place_is_reached f q e.0 e.1));
     quiet = λ x from to.
-        scan_is_quiet f q ended.0 within ended.1 x (fits, reached_up f.automaton.reverse q.start q.end (scan_len f q) x up from to);
+        scan_is_quiet f q ended.0 within ended.1 x (fits, reached_forward f.automaton.reverse q.start q.end (scan_len f q) x up from to);
     local = same_elsewhere;
   }
 

@@ -1,4 +1,4 @@
--- Whether there is a match: a half search upwards alone.
+-- Whether there is a match: a half search forward alone.
 use Rattle.std.specs.Prelude.{◌≡◌, ◌⊎◌, ℕ, not, Bool, true, false, Option, Some, None, Result, Ok, Err}
 use Rattle.search_types.specs.declared.match_error.MatchErrorKind.{MatchErrorKind}
 use Rattle.search_types.specs.declared.match_error.MatchErrorKind.TheVariants.{Quit, GaveUp, UnsupportedAnchored, NoMemory}

@@ -14,14 +14,14 @@ pub record Pair : Type 0 where
   pub forward : Dfa
   pub reverse : Dfa
 
--- the first reads upwards, and the second downwards
+-- the first reads forward, and the second in reverse
 pub record IsPair (p : Pair) : Type 0 where
-  pub up : p.forward.nfa.automaton.reverse ≡ false
-  pub down : p.reverse.nfa.automaton.reverse ≡ true
+  pub is_forward : p.forward.nfa.automaton.reverse ≡ false
+  pub is_reverse : p.reverse.nfa.automaton.reverse ≡ true
 
 -- ---- how a pair is built
 
--- the options of the automaton that reads downwards, beside those of both: it finds the last place, whatever the kind of the
+-- the options of the automaton that reads in reverse, beside those of both: it finds the last place, whatever the kind of the
 -- search is, and nobody asks whether one of its states is a start
 abbrev pub back_options : Options
 back_options = record no_options { match_kind = Some AllMatches; specialize_start_states = Some false }

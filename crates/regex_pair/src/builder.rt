@@ -63,23 +63,23 @@ impl Builder {
         self
     }
 
-    /// The regex of two automata as they are, as `Builder::build_from_dfas`; no option matters. The first reads upwards and the
-    /// second downwards, as `is_reverse` of their NFAs tells.
+    /// The regex of two automata as they are, as `Builder::build_from_dfas`; no option matters. The first reads forward and the
+    /// second in reverse, as `is_reverse` of their NFAs tells.
     pub fn build_from_dfas(&self, forward: DFA, reverse: DFA) -> Regex
-        requires up { forward.nfa.automaton.reverse ≡ false }
-        requires down { reverse.nfa.automaton.reverse ≡ true }
+        requires is_forward { forward.nfa.automaton.reverse ≡ false }
+        requires is_reverse { reverse.nfa.automaton.reverse ≡ true }
         ensures { result ≡ record { forward = forward; reverse = reverse } }
     {
         Regex { forward, reverse }
     }
 
-    /// The regex of the automata of two NFAs with the options of this builder. The first reads upwards and the second
-    /// downwards, as `is_reverse` tells. The automaton that finds starts has the kind
+    /// The regex of the automata of two NFAs with the options of this builder. The first reads forward and the second
+    /// in reverse, as `is_reverse` tells. The automaton that finds starts has the kind
     /// [`All`](MatchKind::All) and no tagged starts, whatever is set. It is refused where one of the automata is, the first
     /// one's refusal first.
     pub fn build_from_nfas(&self, forward: NFA, reverse: NFA) -> Result<Regex, BuildError>
-        requires up { forward.automaton.reverse ≡ false }
-        requires down { reverse.automaton.reverse ≡ true }
+        requires is_forward { forward.automaton.reverse ≡ false }
+        requires is_reverse { reverse.automaton.reverse ≡ true }
         ensures { result ≡ pair_built forward reverse self.now }
     {
         let ends = match self.dfa.build_from_nfa(forward) {

@@ -1,4 +1,4 @@
-//! Two automata that search as one: upwards for the end of a match, and downwards from there for its start.
+//! Two automata that search as one: forward for the end of a match, and in reverse from there for its start.
 //!
 //! What a search answers is a function of values that knows no cache: two half searches, joined, in `specs/Joined.antt`. A pair
 //! and its caches are in `Pairs.antt`, what searches over them answer, leave and cost in `PairAnswers.antt`, whether there is a

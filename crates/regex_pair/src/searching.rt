@@ -125,7 +125,7 @@ fn search_back<L: Ledger, M: Ledger>(
     Ok(Some(match_between(start.offset(), end)))
 }
 
-/// What is known of a regex and of an input: one automaton reads upwards and the other downwards, and the span lies in the
+/// What is known of a regex and of an input: one automaton reads forward and the other in reverse, and the span lies in the
 /// haystack.
 fn see_pair(re: &Regex, input: &Input<'_>)
     ensures pair { IsPair re.now }
@@ -196,8 +196,8 @@ fn search_match<L: Ledger, M: Ledger>(
 }
 
 impl Regex {
-    /// The match in a span that leftmost-first prefers, or none, as `Regex::try_search`: the automaton that reads upwards finds
-    /// its end, and the one that reads downwards from there its start, unless that is known.
+    /// The match in a span that leftmost-first prefers, or none, as `Regex::try_search`: the automaton that reads forward finds
+    /// its end, and the one that reads in reverse from there its start, unless that is known.
     ///
     /// The answer is that of two half searches, joined, whatever the caches hold and whatever was done with them before. Else
     /// memory lacked, or one of both gave up. A quit byte is answered where one of both reads it. Where the second finds no
@@ -276,7 +276,7 @@ impl Regex {
         self.try_search(cache, input, work)
     }
 
-    /// Whether there is a match in a span, as `Regex::is_match`: by the automaton that reads upwards alone, so the other's cache
+    /// Whether there is a match in a span, as `Regex::is_match`: by the automaton that reads forward alone, so the other's cache
     /// stays as it is, and no two automata are refused for being no pair. Where an end may split a character, the end
     /// that leftmost-first prefers is looked for, and else the earliest one, whatever the input asks for.
     pub fn is_match<L: Ledger, M: Ledger>(

@@ -263,11 +263,11 @@ alike_all a b (r ∷ rs) h s =
     (alike_all_or_none a b r h (λ c p q. All-head (λ x. IsIn x a ↔ IsIn x c) r rs (s c p q)))
     (alike_all a b rs h (λ c p q. All-tail (λ x. IsIn x a ↔ IsIn x c) r rs (s c p q)))
 
-pub coarsest_up : (m : List Bool) (rs : List (ℕ × ℕ)) (f : ℕ → ℕ) → IsUnmarked m → All (IsRangeBelow (length m)) rs →
+pub coarsest_forward : (m : List Bool) (rs : List (ℕ × ℕ)) (f : ℕ → ℕ) → IsUnmarked m → All (IsRangeBelow (length m)) rs →
     ((a b : ℕ) → a ≤ b → b < length m → f a ≤ f b) →
     ((a b : ℕ) → a < length m → b < length m → f a ≡ f b → All (λ r. IsIn r a ↔ IsIn r b) rs) →
     (a b : ℕ) → a ≤ b → b < length m → f a ≡ f b → marks_below (recorded m rs) a ≡ marks_below (recorded m rs) b
-coarsest_up m rs f u o rises alike a b h k e =
+coarsest_forward m rs f u o rises alike a b h k e =
     same_class_from_ranges m rs a b u o h k (alike_all a b rs h (λ c p q.
     let x = rises a c p (omega arith) in
     let y = rises c b q k in
@@ -279,8 +279,8 @@ pub coarsest : (m : List Bool) (rs : List (ℕ × ℕ)) (f : ℕ → ℕ) → Is
     ((a b : ℕ) → a < length m → b < length m → f a ≡ f b → All (λ r. IsIn r a ↔ IsIn r b) rs) →
     (a b : ℕ) → a < length m → b < length m → f a ≡ f b → marks_below (recorded m rs) a ≡ marks_below (recorded m rs) b
 coarsest m rs f u o rises alike a b h k e = elim (cases_lt a b) [
-  | inl p ↦ coarsest_up m rs f u o rises alike a b (omega arith) k e
-  | inr p ↦ sym (coarsest_up m rs f u o rises alike b a p h (sym e))
+  | inl p ↦ coarsest_forward m rs f u o rises alike a b (omega arith) k e
+  | inr p ↦ sym (coarsest_forward m rs f u o rises alike b a p h (sym e))
 ]
 
 -- ---- marks among others
@@ -293,8 +293,8 @@ marked_inside [] k t = absurd (not_both false t refl)
 marked_inside (x ∷ xs) zero t = omega arith
 marked_inside (x ∷ xs) (suc k) t = let h = marked_inside xs k t in omega arith
 
-finer_up : (m others : List Bool) (a b : ℕ) → HasMarks m others → a ≤ b → b < length m → marks_below m a ≡ marks_below m b → marks_below others a ≡ marks_below others b
-finer_up m others a b has h l e =
+finer_forward : (m others : List Bool) (a b : ℕ) → HasMarks m others → a ≤ b → b < length m → marks_below m a ≡ marks_below m b → marks_below others a ≡ marks_below others b
+finer_forward m others a b has h l e =
     let clear : IsClear m a b = same_clear m a b (omega arith) e in
     let len = has.len in
     clear_same others a b h (omega arith) (λ k p q. elim (cases_Bool (get_or others k false)) [
@@ -305,8 +305,8 @@ finer_up m others a b has h l e =
 pub same_class_of_finer : (m others : List Bool) (a b : ℕ) → HasMarks m others → a < length m → b < length m →
     marks_below m a ≡ marks_below m b → marks_below others a ≡ marks_below others b
 same_class_of_finer m others a b has k l e = elim (cases_lt a b) [
-  | inl p ↦ finer_up m others a b has (omega arith) l e
-  | inr p ↦ sym (finer_up m others b a has p k (sym e))
+  | inl p ↦ finer_forward m others a b has (omega arith) l e
+  | inr p ↦ sym (finer_forward m others b a has p k (sym e))
 ]
 
 recorded_keeps : (m : List Bool) (rs : List (ℕ × ℕ)) (k : ℕ) → k < length m → get_or m k false ≡ true → get_or (recorded m rs) k false ≡ true

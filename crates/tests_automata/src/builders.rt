@@ -42,7 +42,7 @@ enum Wanted {
     ByteA,
     Ways,
     Ranges,
-    /// Of three groups, which reads downwards or not.
+    /// Of three groups, which reads in reverse or not.
     Groups(bool),
 }
 

@@ -201,7 +201,7 @@ fn refuses(alloc: Global, builder: &mut Builder, step: Step, want: &str) -> bool
     }
 }
 
-/// Whether spans are UTF-8, whether the text is read downwards, the limit, and by what lines end.
+/// Whether spans are UTF-8, whether the text is read in reverse, the limit, and by what lines end.
 fn settings(builder: &Builder) -> (bool, bool, Option<usize>, LineTerm) {
     (
         builder.get_utf8(),

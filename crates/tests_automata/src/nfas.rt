@@ -3,7 +3,7 @@ use nfa_core::NFA;
 use search_core::{PatternID, StateID};
 use std::alloc::{AllocError, Global};
 
-/// Whether an NFA has no looks, reads upwards with matches between characters, and takes all bytes as alike.
+/// Whether an NFA has no looks, reads forward with matches between characters, and takes all bytes as alike.
 fn is_plain(nfa: &NFA) -> bool {
     nfa.look_set_any() == LookSet::empty()
         && nfa.look_set_prefix_any() == LookSet::empty()

@@ -50,7 +50,7 @@ fn groups_have_states(rt: HostRuntime) {
 }
 
 #[test]
-fn groups_are_refused_downwards(rt: HostRuntime) {
+fn groups_are_refused_in_reverse(rt: HostRuntime) {
     let refused = compiled(rt.alloc(), Config::new().reverse(true), &[Small::Empty]);
     assert!(rt; matches!(refused, Err(BuildError::UnsupportedCaptures)));
 }

@@ -1,4 +1,4 @@
-//! One tree of each kind but repetitions and groups, read upwards and downwards.
+//! One tree of each kind but repetitions and groups, read forward and in reverse.
 use crate::shapes::{Shape, becomes, compiled, is_anchored, plain};
 use crate::small::Small;
 use look_core::Look;
@@ -10,18 +10,18 @@ fn literals(rt: HostRuntime) {
     let a = [Shape::Range(b'a', b'a', 3), Shape::Match(0)];
     assert!(rt; becomes(alloc, false, Small::A, 2, &a));
     assert!(rt; becomes(alloc, true, Small::A, 2, &a));
-    let up = [
+    let forward = [
         Shape::Range(b'a', b'a', 3),
         Shape::Range(b'b', b'b', 4),
         Shape::Match(0),
     ];
-    assert!(rt; becomes(alloc, false, Small::Ab, 2, &up));
-    let down = [
+    assert!(rt; becomes(alloc, false, Small::Ab, 2, &forward));
+    let reverse = [
         Shape::Range(b'b', b'b', 3),
         Shape::Range(b'a', b'a', 4),
         Shape::Match(0),
     ];
-    assert!(rt; becomes(alloc, true, Small::Ab, 2, &down));
+    assert!(rt; becomes(alloc, true, Small::Ab, 2, &reverse));
 }
 
 #[test]
@@ -46,22 +46,22 @@ fn classes(rt: HostRuntime) {
     assert!(rt; becomes(alloc, true, Small::Digits, 2, &digits));
 }
 
-/// Upwards the last range's state is made first, downwards the first range's.
+/// Forward the last range's state is made first, in reverse the first range's.
 #[test]
 fn scalar_classes(rt: HostRuntime) {
     let alloc = rt.alloc();
-    let up = [
+    let forward = [
         Shape::Range(0xB1, 0xB2, 4),
         Shape::Range(0xCE, 0xCE, 2),
         Shape::Match(0),
     ];
-    assert!(rt; becomes(alloc, false, Small::Greek, 3, &up));
-    let down = [
+    assert!(rt; becomes(alloc, false, Small::Greek, 3, &forward));
+    let reverse = [
         Shape::Range(0xCE, 0xCE, 4),
         Shape::Range(0xB1, 0xB2, 2),
         Shape::Match(0),
     ];
-    assert!(rt; becomes(alloc, true, Small::Greek, 3, &down));
+    assert!(rt; becomes(alloc, true, Small::Greek, 3, &reverse));
     let edge = [
         Shape::Range(0x80, 0x80, 4),
         Shape::TwoRanges((0x7F, 0x7F, 4), (0xC2, 0xC2, 2)),
@@ -73,33 +73,33 @@ fn scalar_classes(rt: HostRuntime) {
 #[test]
 fn looks(rt: HostRuntime) {
     let alloc = rt.alloc();
-    let up = [Shape::Look(Look::StartLF, 3), Shape::Match(0)];
-    assert!(rt; becomes(alloc, false, Small::Line, 2, &up));
-    let down = [Shape::Look(Look::EndLF, 3), Shape::Match(0)];
-    assert!(rt; becomes(alloc, true, Small::Line, 2, &down));
+    let forward = [Shape::Look(Look::StartLF, 3), Shape::Match(0)];
+    assert!(rt; becomes(alloc, false, Small::Line, 2, &forward));
+    let reverse = [Shape::Look(Look::EndLF, 3), Shape::Match(0)];
+    assert!(rt; becomes(alloc, true, Small::Line, 2, &reverse));
 }
 
-/// Whether each span of `a$` ends at the end of the haystack, so that nothing stands before it downwards.
+/// Whether each span of `a$` ends at the end of the haystack, so that nothing stands before it in reverse.
 fn end_comes_first(alloc: Global) -> bool {
-    let down = [
+    let reverse = [
         Shape::Look(Look::Start, 1),
         Shape::Range(b'a', b'a', 2),
         Shape::Match(0),
     ];
     match compiled(alloc, plain(true), &[Small::AtEnd]) {
-        Ok(nfa) => is_anchored(&nfa, &down),
+        Ok(nfa) => is_anchored(&nfa, &reverse),
         Err(_) => false,
     }
 }
 
 #[test]
 fn concatenations(rt: HostRuntime) {
-    let up = [
+    let forward = [
         Shape::Range(b'a', b'a', 3),
         Shape::Look(Look::End, 4),
         Shape::Match(0),
     ];
-    assert!(rt; becomes(rt.alloc(), false, Small::AtEnd, 2, &up));
+    assert!(rt; becomes(rt.alloc(), false, Small::AtEnd, 2, &forward));
     assert!(rt; end_comes_first(rt.alloc()));
 }
 

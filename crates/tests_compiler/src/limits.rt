@@ -40,7 +40,7 @@ fn patterns_take(
     Ok(take(alloc, config, &trees, bytes))
 }
 
-/// Whether each of the trees takes so many bytes, read upwards and downwards.
+/// Whether each of the trees takes so many bytes, read forward and in reverse.
 fn all_take(alloc: Global, cases: &[(Small, usize)]) -> Result<bool, AllocError> {
     for (small, bytes) in cases {
         if !patterns_take(alloc, plain(false), &[*small], *bytes)?
@@ -80,8 +80,8 @@ fn repetitions(rt: HostRuntime) {
     assert!(rt; matches!(all_take(rt.alloc(), &cases), Ok(true)));
 }
 
-/// Upwards the texts have a first state of two ranges, two chains of four states of one range and an end;
-/// downwards a chain of four, then a state of two ranges. The Greek letters have two states of one range and an end.
+/// Forward the texts have a first state of two ranges, two chains of four states of one range and an end;
+/// in reverse a chain of four, then a state of two ranges. The Greek letters have two states of one range and an end.
 #[test]
 fn texts_and_scalars(rt: HostRuntime) {
     let alloc = rt.alloc();

@@ -6,7 +6,7 @@ use nfa_core::{BuildError, NFA};
 use std::alloc::{AllocError, Global};
 use thompson_nfa::{Compiler, Config, WhichCaptures};
 
-/// Whether spans are UTF-8, whether trees are read downwards, the limit, and whether classes are made smaller.
+/// Whether spans are UTF-8, whether trees are read in reverse, the limit, and whether classes are made smaller.
 fn numbers(config: &Config) -> (bool, bool, Option<usize>, bool) {
     (
         config.get_utf8(),

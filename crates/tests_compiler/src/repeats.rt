@@ -14,7 +14,7 @@ fn rounds_are(alloc: Global, bounds: (u32, Option<u32>), greedy: bool, shapes: &
     becomes(alloc, false, small, 2, shapes)
 }
 
-/// The same of lazy rounds that are read downwards.
+/// The same of lazy rounds that are read in reverse.
 fn lazy_rounds_are(alloc: Global, bounds: (u32, Option<u32>), shapes: &[Shape]) -> bool {
     let small = Small::Rounds(bounds.0, bounds.1, false);
     becomes(alloc, true, small, 2, shapes)

@@ -3,10 +3,10 @@ use lazy_dfa::dfa::{Config, OverlappingState};
 use search_types::{Anchored, Input, MatchKind};
 use std::alloc::Global;
 use std::test::Fail;
-use tests_machines::answers::{answers, answers_down, answers_ready};
+use tests_machines::answers::{answers, answers_reverse, answers_ready};
 use tests_machines::automata::{Ready, machine_of};
 use tests_machines::calls::{Call, Ends, Found, Text};
-use tests_machines::shapes::{Node, answers_by, by_characters, down, up};
+use tests_machines::shapes::{Node, answers_by, by_characters, reverse, forward};
 use tests_machines::spans::{gives_up, no_mode, on, only, over, quit};
 
 /// All matches are asked for.
@@ -47,8 +47,8 @@ fn words() -> [Call; 6] {
     ]
 }
 
-/// Downwards each start, and all lie before the end of an anchored walk.
-fn words_down() -> [Call; 4] {
+/// In reverse each start, and all lie before the end of an anchored walk.
+fn words_reverse() -> [Call; 4] {
     [
         Call::Walk(on(Text::Ab, 0, 2), two(1, 0)),
         Call::EarliestWalk(on(Text::Ab, 0, 2), two(1, 0)),
@@ -70,9 +70,9 @@ fn words_up_to_b() -> [Call; 3] {
 fn of_words(rt: HostRuntime) -> Result<(), Fail> {
     let alloc = rt.alloc();
     let quit = all().quit(b'b', true);
-    assert!(rt; answers_by(alloc, &word(), up(), all(), &words()));
-    assert!(rt; answers_by(alloc, &word(), down(), all(), &words_down()));
-    assert!(rt; answers_by(alloc, &word(), up(), quit, &words_up_to_b()));
+    assert!(rt; answers_by(alloc, &word(), forward(), all(), &words()));
+    assert!(rt; answers_by(alloc, &word(), reverse(), all(), &words_reverse()));
+    assert!(rt; answers_by(alloc, &word(), forward(), quit, &words_up_to_b()));
     Ok(())
 }
 
@@ -140,7 +140,7 @@ fn of_letters(rt: HostRuntime) -> Result<(), Fail> {
     Ok(())
 }
 
-/// Of the patterns `b` and `b`, downwards: both are told with one place.
+/// Of the patterns `b` and `b`, in reverse: both are told with one place.
 fn two_alike() -> [Call; 3] {
     [
         Call::Walk(
@@ -156,7 +156,7 @@ fn two_alike() -> [Call; 3] {
 }
 
 /// Of the empty pattern by characters, on "β": no place inside a character is told, from wherever a walk begins.
-fn empty_up() -> [Call; 4] {
+fn empty_forward() -> [Call; 4] {
     [
         Call::Walk(on(Text::Beta, 0, 2), two(0, 2)),
         Call::Walk(on(Text::Beta, 1, 2), one(2)),
@@ -165,7 +165,7 @@ fn empty_up() -> [Call; 4] {
     ]
 }
 
-fn empty_down() -> [Call; 4] {
+fn empty_reverse() -> [Call; 4] {
     [
         Call::Walk(on(Text::Beta, 0, 2), two(2, 0)),
         Call::Walk(on(Text::Beta, 0, 1), one(0)),
@@ -184,10 +184,10 @@ fn empty_by_bytes() -> [Call; 1] {
 fn by_places(rt: HostRuntime) -> Result<(), Fail> {
     let alloc = rt.alloc();
     let empty = [Node::Match];
-    assert!(rt; answers_down(alloc, b"bb", all(), &two_alike()));
-    assert!(rt; answers_by(alloc, &empty, by_characters(false), all(), &empty_up()));
-    assert!(rt; answers_by(alloc, &empty, by_characters(true), all(), &empty_down()));
-    assert!(rt; answers_by(alloc, &empty, up(), all(), &empty_by_bytes()));
+    assert!(rt; answers_reverse(alloc, b"bb", all(), &two_alike()));
+    assert!(rt; answers_by(alloc, &empty, by_characters(false), all(), &empty_forward()));
+    assert!(rt; answers_by(alloc, &empty, by_characters(true), all(), &empty_reverse()));
+    assert!(rt; answers_by(alloc, &empty, forward(), all(), &empty_by_bytes()));
     Ok(())
 }
 
@@ -243,7 +243,7 @@ fn over_clears(rt: HostRuntime) -> Result<(), Fail> {
 
 /// The first call reads two bytes and stops at the second one, the next call begins behind that; calls behind the end tell
 /// nothing, nor does a walk over a done span, but one that reads ends the search that goes on.
-fn told_up() -> [Call; 10] {
+fn told_forward() -> [Call; 10] {
     [
         Call::Walk(on(Text::Ab, 0, 2), one(1)),
         Call::Usage(509, 0),
@@ -258,8 +258,8 @@ fn told_up() -> [Call; 10] {
     ]
 }
 
-/// Downwards, by the places of the bytes; the step behind the last byte adds nothing.
-fn told_down() -> [Call; 4] {
+/// In reverse, by the places of the bytes; the step behind the last byte adds nothing.
+fn told_reverse() -> [Call; 4] {
     [
         Call::Walk(on(Text::Ab, 0, 2), two(1, 0)),
         Call::Total(1, false),
@@ -284,8 +284,8 @@ fn progress(rt: HostRuntime) -> Result<(), Fail> {
     let each = all().starts_for_each_pattern(true);
     let no_such = told_by_modes(7, Ends::Nothing, false);
     let no_mode = told_by_modes(1, Ends::Refused(no_mode()), true);
-    assert!(rt; answers(alloc, b"a", None, all(), &told_up()));
-    assert!(rt; answers_by(alloc, &word(), down(), all(), &told_down()));
+    assert!(rt; answers(alloc, b"a", None, all(), &told_forward()));
+    assert!(rt; answers_by(alloc, &word(), reverse(), all(), &told_reverse()));
     assert!(rt; answers(alloc, b"ab", None, each, &no_such));
     assert!(rt; answers(alloc, b"ab", None, all(), &no_mode));
     Ok(())

@@ -4,7 +4,7 @@ use lazy_dfa::dfa::Config;
 use search_types::{Anchored, Input, MatchKind, Span};
 use std::alloc::Global;
 use std::test::Fail;
-use tests_machines::automata::{machine_down, machine_of};
+use tests_machines::automata::{machine_reverse, machine_of};
 use tests_machines::calls::Found;
 use tests_machines::machine::Machine;
 use tests_machines::shapes::{Form, Node, machine_by};
@@ -109,7 +109,7 @@ fn agree_by(
     }
 }
 
-/// Upwards and downwards.
+/// Forward and in reverse.
 fn agree_both(
     alloc: Global,
     nodes: &[Node],
@@ -221,15 +221,15 @@ fn agree_for(machine: &mut Machine, each: &[u8], reverse: bool) -> bool {
     true
 }
 
-fn agree_up(alloc: Global, each: &[u8], config: Config) -> bool {
+fn agree_forward(alloc: Global, each: &[u8], config: Config) -> bool {
     match machine_of(alloc, each, None, config) {
         Ok(mut machine) => agree_for(&mut machine, each, false),
         Err(_) => false,
     }
 }
 
-fn agree_down(alloc: Global, each: &[u8], config: Config) -> bool {
-    match machine_down(alloc, each, config) {
+fn agree_reverse(alloc: Global, each: &[u8], config: Config) -> bool {
+    match machine_reverse(alloc, each, config) {
         Ok(mut machine) => agree_for(&mut machine, each, true),
         Err(_) => false,
     }
@@ -240,7 +240,7 @@ fn of_many_patterns(rt: HostRuntime) -> Result<(), Fail> {
     let alloc = rt.alloc();
     let config = Config::new().match_kind(MatchKind::All);
     let least = config.cache_capacity(0).skip_cache_capacity_check(true);
-    assert!(rt; agree_up(alloc, b"aba", config) && agree_up(alloc, b"cab", least));
-    assert!(rt; agree_down(alloc, b"aba", config) && agree_down(alloc, b"ccc", least));
+    assert!(rt; agree_forward(alloc, b"aba", config) && agree_forward(alloc, b"cab", least));
+    assert!(rt; agree_reverse(alloc, b"aba", config) && agree_reverse(alloc, b"ccc", least));
     Ok(())
 }

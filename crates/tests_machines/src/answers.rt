@@ -1,5 +1,5 @@
 //! What a machine answers to calls, one after the other.
-use crate::automata::{Ready, machine_down, machine_of, machine_ready};
+use crate::automata::{Ready, machine_reverse, machine_of, machine_ready};
 use crate::calls::{Call, Ends, Found, Kind, Over, Room, bytes_of};
 use crate::machine::{Machine, Stepped};
 use determinize_core::Config as StartConfig;
@@ -292,9 +292,9 @@ pub fn answers(
     }
 }
 
-/// Whether each of them does over a fresh cache for the patterns of these letters, read downwards.
-pub fn answers_down(alloc: Global, letters: &[u8], config: Config, calls: &[Call]) -> bool {
-    match machine_down(alloc, letters, config) {
+/// Whether each of them does over a fresh cache for the patterns of these letters, read in reverse.
+pub fn answers_reverse(alloc: Global, letters: &[u8], config: Config, calls: &[Call]) -> bool {
+    match machine_reverse(alloc, letters, config) {
         Ok(mut machine) => are_answered(&mut machine, calls),
         Err(_) => false,
     }

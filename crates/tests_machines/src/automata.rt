@@ -91,8 +91,8 @@ pub fn letters(
     built(&builder, anchored, prefix)
 }
 
-/// The same read downwards.
-pub fn letters_down(alloc: Global, letters: &[u8]) -> Result<NFA, NfaError> {
+/// The same read in reverse.
+pub fn letters_reverse(alloc: Global, letters: &[u8]) -> Result<NFA, NfaError> {
     let mut builder = Builder::new(alloc);
     builder.set_reverse(true);
     let starts = patterns(alloc, &mut builder, letters, None)?;
@@ -130,9 +130,9 @@ pub fn machine(alloc: Global, config: Config) -> Result<Machine, BuildError> {
     machine_of(alloc, b"a", None, config)
 }
 
-/// The machine of these patterns, read downwards.
-pub fn machine_down(alloc: Global, each: &[u8], config: Config) -> Result<Machine, BuildError> {
-    let nfa = letters_down(alloc, each)?;
+/// The machine of these patterns, read in reverse.
+pub fn machine_reverse(alloc: Global, each: &[u8], config: Config) -> Result<Machine, BuildError> {
+    let nfa = letters_reverse(alloc, each)?;
     Machine::new(alloc, nfa, config)
 }
 

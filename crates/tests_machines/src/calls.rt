@@ -10,7 +10,7 @@ pub enum Call {
     Start(Option<u8>, Anchored, usize),
     /// It is refused.
     NoStart(Option<u8>, Anchored, StartError),
-    /// The start upwards, or downwards, over these bytes in this span and mode is the ID that gets this number.
+    /// The start forward, or in reverse, over these bytes in this span and mode is the ID that gets this number.
     Over(bool, Over, usize),
     /// It is refused.
     NotOver(bool, Over, MatchErrorKind),

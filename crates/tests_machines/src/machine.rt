@@ -150,7 +150,7 @@ impl Machine {
         start_counted::<Brand, Brand>(&self.dfa, &mut self.cache, config, one, two)
     }
 
-    /// Where a search over an input starts, upwards or downwards.
+    /// Where a search over an input starts, forward or in reverse.
     pub fn start_over(
         &mut self,
         input: &Input<'_>,
@@ -164,7 +164,7 @@ impl Machine {
 
 /// Searches.
 impl Machine {
-    /// The half search over an input, upwards or downwards as the automaton reads.
+    /// The half search over an input, forward or in reverse as the automaton reads.
     pub fn search(&mut self, input: &Input<'_>) -> Result<Option<HalfMatch>, MatchError> {
         let one = Blank::new(1);
         let two = Blank::new(1);

@@ -31,8 +31,8 @@ pub struct Form {
     pub line_end: u8,
 }
 
-/// Upwards and by bytes.
-pub fn up() -> Form {
+/// Forward and by bytes.
+pub fn forward() -> Form {
     Form {
         reverse: false,
         utf8: false,
@@ -40,8 +40,8 @@ pub fn up() -> Form {
     }
 }
 
-/// Downwards and by bytes.
-pub fn down() -> Form {
+/// In reverse and by bytes.
+pub fn reverse() -> Form {
     Form {
         reverse: true,
         utf8: false,

@@ -25,7 +25,7 @@ impl Machine {
         walk_counted::<Brand, Brand>(&self.dfa, &mut self.cache, input, wanted, one, two)
     }
 
-    /// The same where a half search over another input follows each call, upwards, and none of them clears the cache.
+    /// The same where a half search over another input follows each call, forward, and none of them clears the cache.
     pub fn walks_between(
         &mut self,
         input: &Input<'_>,
@@ -37,7 +37,7 @@ impl Machine {
         between_counted::<Brand, Brand>(&self.dfa, &mut self.cache, input, other, wanted, one, two)
     }
 
-    /// Whether a set with this room gets these patterns. The automaton reads upwards.
+    /// Whether a set with this room gets these patterns. The automaton reads forward.
     pub fn adds(&mut self, input: &Input<'_>, room: Room, wanted: Found) -> bool {
         let Some(mut patterns) = set_of(self.alloc, room) else {
             return false;
@@ -56,7 +56,7 @@ impl Machine {
     }
 }
 
-/// A call of a walk, upwards or downwards as the automaton reads.
+/// A call of a walk, forward or in reverse as the automaton reads.
 fn call<L: Ledger, M: Ledger>(
     dfa: &DFA,
     cache: &mut Cache,
@@ -146,7 +146,7 @@ fn walk_counted<L: Ledger, M: Ledger>(
     true
 }
 
-/// A half search upwards, after which a walk still goes on: whether it cleared nothing.
+/// A half search forward, after which a walk still goes on: whether it cleared nothing.
 fn is_kept<L: Ledger, M: Ledger>(
     dfa: &DFA,
     cache: &mut Cache,
@@ -154,7 +154,7 @@ fn is_kept<L: Ledger, M: Ledger>(
     work: &mut Work<L, M>,
 ) -> bool
     requires own { IsCacheOf dfa.now cache.old }
-    requires up { dfa.now.nfa.automaton.reverse ≡ false }
+    requires forward { dfa.now.nfa.automaton.reverse ≡ false }
     ensures own { IsCacheOf dfa.now cache.new }
     ensures kept { result ≡ true → (q : Search) (w : Walk) → IsWalk dfa.now cache.old q w → IsWalk dfa.now cache.new q w }
 {
@@ -240,7 +240,7 @@ fn is_answer(answer: Result<(), MatchError>, wanted: Found) -> bool {
     }
 }
 
-/// Which patterns match, counted; refused where the automaton reads downwards.
+/// Which patterns match, counted; refused where the automaton reads in reverse.
 fn which_counted<L: Ledger, M: Ledger>(
     dfa: &DFA,
     cache: &mut Cache,

@@ -1,4 +1,4 @@
-//! Small automata upwards and downwards, made by hand, and regexes of two of them. No tree stands behind them.
+//! Small automata forward and in reverse, made by hand, and regexes of two of them. No tree stands behind them.
 ghost use Rattle.std.specs.Prelude.{◌≡◌, ◌<◌};
 ghost use Rattle.nfa_core.specs.CanBuild.{CanBuild};
 
@@ -121,7 +121,7 @@ fn nfa_of(alloc: Global, nodes: &[Node], form: Form, reverse: bool) -> Result<NF
     built(&builder, form)
 }
 
-/// The regex of two NFAs, the first upwards and the second downwards.
+/// The regex of two NFAs, the first forward and the second in reverse.
 fn joined(forward: NFA, reverse: NFA, config: Config) -> Result<Regex, BuildError> {
     if forward.is_reverse() || !reverse.is_reverse() {
         return Err(BuildError::Unsupported);
@@ -131,7 +131,7 @@ fn joined(forward: NFA, reverse: NFA, config: Config) -> Result<Regex, BuildErro
     builder.build_from_nfas(forward, reverse)
 }
 
-/// The regex of these states upwards and those downwards.
+/// The regex of these states forward and those in reverse.
 pub(crate) fn pair(
     alloc: Global,
     forward: &[Node],
@@ -151,7 +151,7 @@ fn dfa_of(nfa: NFA, config: Config) -> Result<DFA, BuildError> {
     builder.build_from_nfa(nfa)
 }
 
-/// The regex of two automata as they are, the first upwards and the second downwards.
+/// The regex of two automata as they are, the first forward and the second in reverse.
 fn joined_as_they_are(forward: DFA, reverse: DFA) -> Option<Regex> {
     if forward.get_nfa().is_reverse() || !reverse.get_nfa().is_reverse() {
         return None;
@@ -159,7 +159,7 @@ fn joined_as_they_are(forward: DFA, reverse: DFA) -> Option<Regex> {
     Some(Regex::builder().build_from_dfas(forward, reverse))
 }
 
-/// The regex of these states upwards and downwards, each automaton with options of its own.
+/// The regex of these states forward and in reverse, each automaton with options of its own.
 pub(crate) fn each(
     alloc: Global,
     nodes: &[Node],

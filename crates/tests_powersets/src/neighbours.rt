@@ -1,5 +1,5 @@
 //! Looks between two bytes, over the sixteen pairs of a letter, a dash, a carriage return and a line feed,
-//! read upwards and downwards.
+//! read forward and in reverse.
 use crate::automata::one_look;
 use determinize_core::walk;
 use look_core::Look;
@@ -17,7 +17,7 @@ fn matches_between(alloc: Global, nfa: &NFA, from: u8, read: u8) -> Result<bool,
     }
 }
 
-/// Whether the look is passed between the two bytes, by one who reads up, or down.
+/// Whether the look is passed between the two bytes, by one who reads forward or in reverse.
 fn is_passed(
     alloc: Global,
     look: Look,
@@ -69,41 +69,41 @@ const BEHIND_NO_WORD: [&[u8; 4]; 4] = [b"----", b"++++", b"++++", b"++++"];
 
 const BEFORE_NO_WORD: [&[u8; 4]; 4] = [b"-+++", b"-+++", b"-+++", b"-+++"];
 
-/// Whether the look is passed upwards as the table says.
-fn up(alloc: Global, look: Look, table: &[&[u8; 4]; 4]) -> bool {
+/// Whether the look is passed forward as the table says.
+fn forward(alloc: Global, look: Look, table: &[&[u8; 4]; 4]) -> bool {
     matches!(is_passed_as(alloc, look, false, table), Ok(true))
 }
 
-/// Likewise downwards.
-fn down(alloc: Global, look: Look, table: &[&[u8; 4]; 4]) -> bool {
+/// Likewise in reverse.
+fn reverse(alloc: Global, look: Look, table: &[&[u8; 4]; 4]) -> bool {
     matches!(is_passed_as(alloc, look, true, table), Ok(true))
 }
 
 #[test]
-fn lines_upwards(rt: HostRuntime) {
-    assert!(rt; up(rt.alloc(), Look::StartCRLF, &STARTS_OF_LINES));
-    assert!(rt; up(rt.alloc(), Look::EndCRLF, &ENDS_OF_LINES));
+fn lines_forward(rt: HostRuntime) {
+    assert!(rt; forward(rt.alloc(), Look::StartCRLF, &STARTS_OF_LINES));
+    assert!(rt; forward(rt.alloc(), Look::EndCRLF, &ENDS_OF_LINES));
 }
 
-/// Downwards a look stands for its reverse.
+/// In reverse a look stands for its reverse.
 #[test]
-fn lines_downwards(rt: HostRuntime) {
-    assert!(rt; down(rt.alloc(), Look::StartCRLF, &ENDS_OF_LINES));
-    assert!(rt; down(rt.alloc(), Look::EndCRLF, &STARTS_OF_LINES));
-}
-
-#[test]
-fn words_upwards(rt: HostRuntime) {
-    assert!(rt; up(rt.alloc(), Look::WordAscii, &EDGES_OF_WORDS));
-    assert!(rt; up(rt.alloc(), Look::WordStartAscii, &STARTS_OF_WORDS));
-    assert!(rt; up(rt.alloc(), Look::WordEndUnicode, &ENDS_OF_WORDS));
-    assert!(rt; up(rt.alloc(), Look::WordStartHalfAscii, &BEHIND_NO_WORD));
-    assert!(rt; up(rt.alloc(), Look::WordEndHalfUnicode, &BEFORE_NO_WORD));
+fn lines_in_reverse(rt: HostRuntime) {
+    assert!(rt; reverse(rt.alloc(), Look::StartCRLF, &ENDS_OF_LINES));
+    assert!(rt; reverse(rt.alloc(), Look::EndCRLF, &STARTS_OF_LINES));
 }
 
 #[test]
-fn words_downwards(rt: HostRuntime) {
-    assert!(rt; down(rt.alloc(), Look::WordUnicode, &EDGES_OF_WORDS));
-    assert!(rt; down(rt.alloc(), Look::WordStartAscii, &ENDS_OF_WORDS));
-    assert!(rt; down(rt.alloc(), Look::WordEndHalfAscii, &BEHIND_NO_WORD));
+fn words_forward(rt: HostRuntime) {
+    assert!(rt; forward(rt.alloc(), Look::WordAscii, &EDGES_OF_WORDS));
+    assert!(rt; forward(rt.alloc(), Look::WordStartAscii, &STARTS_OF_WORDS));
+    assert!(rt; forward(rt.alloc(), Look::WordEndUnicode, &ENDS_OF_WORDS));
+    assert!(rt; forward(rt.alloc(), Look::WordStartHalfAscii, &BEHIND_NO_WORD));
+    assert!(rt; forward(rt.alloc(), Look::WordEndHalfUnicode, &BEFORE_NO_WORD));
+}
+
+#[test]
+fn words_in_reverse(rt: HostRuntime) {
+    assert!(rt; reverse(rt.alloc(), Look::WordUnicode, &EDGES_OF_WORDS));
+    assert!(rt; reverse(rt.alloc(), Look::WordStartAscii, &ENDS_OF_WORDS));
+    assert!(rt; reverse(rt.alloc(), Look::WordEndHalfAscii, &BEHIND_NO_WORD));
 }

@@ -64,7 +64,7 @@ fn told(config: &Config) -> (Option<u8>, Anchored) {
     (config.get_look_behind(), config.get_anchored())
 }
 
-/// Whether a span's neighbours stand behind its starts, read upwards and downwards.
+/// Whether a span's neighbours stand behind its starts, read forward and in reverse.
 fn neighbours_are_behind() -> bool {
     let input = Input::new(b"abc").range(1..2).anchored(Anchored::Yes);
     let forward = Config::from_input_forward(&input);
@@ -144,8 +144,8 @@ fn hold_as(alloc: Global, reverse: bool, rows: &[Known]) -> Result<bool, BuildEr
     Ok(true)
 }
 
-/// What is known because of edges, lines and words, read upwards.
-const fn upwards() -> [Known; 5] {
+/// What is known because of edges, lines and words, read forward.
+const fn forward() -> [Known; 5] {
     [
         (Look::End, Look::Start, b"--+----"),
         (Look::EndLF, Look::StartLF, b"--++-++"),
@@ -156,9 +156,9 @@ const fn upwards() -> [Known; 5] {
 }
 
 #[test]
-fn known_upwards(rt: HostRuntime) {
+fn known_forward(rt: HostRuntime) {
     let alloc = rt.alloc();
-    assert!(rt; matches!(hold_as(alloc, false, &upwards()), Ok(true)));
+    assert!(rt; matches!(hold_as(alloc, false, &forward()), Ok(true)));
     assert!(rt;
         matches!(
             flags_as(alloc, Look::WordAscii, false, b"-w----w"),
@@ -168,8 +168,8 @@ fn known_upwards(rt: HostRuntime) {
     assert!(rt; matches!(flags_as(alloc, Look::EndCRLF, false, b"----h--"), Ok(true)));
 }
 
-/// The same, read downwards.
-const fn downwards() -> [Known; 4] {
+/// The same, read in reverse.
+const fn reverse() -> [Known; 4] {
     [
         (Look::End, Look::Start, b"--+----"),
         (Look::EndLF, Look::StartLF, b"--++-++"),
@@ -179,9 +179,9 @@ const fn downwards() -> [Known; 4] {
 }
 
 #[test]
-fn known_downwards(rt: HostRuntime) {
+fn known_in_reverse(rt: HostRuntime) {
     let alloc = rt.alloc();
-    assert!(rt; matches!(hold_as(alloc, true, &downwards()), Ok(true)));
+    assert!(rt; matches!(hold_as(alloc, true, &reverse()), Ok(true)));
     assert!(rt; matches!(flags_as(alloc, Look::WordAscii, true, b"-w----w"), Ok(true)));
     assert!(rt; matches!(flags_as(alloc, Look::EndCRLF, true, b"---h---"), Ok(true)));
 }

@@ -1,11 +1,11 @@
-//! Half searches upwards and downwards: ends that looks tell, ends inside characters, and earliest ends.
+//! Half searches forward and in reverse: ends that looks tell, ends inside characters, and earliest ends.
 use crate::searches::{at, quits};
 use lazy_dfa::dfa::Config;
 use look_core::Look;
 use search_types::{Anchored, MatchKind};
 use std::test::Fail;
 use tests_machines::calls::{Call, Found, Text};
-use tests_machines::shapes::{Form, Node, answers_by, by_characters, down, up};
+use tests_machines::shapes::{Form, Node, answers_by, by_characters, reverse, forward};
 use tests_machines::spans::{on, over};
 
 /// `a` once or more.
@@ -14,7 +14,7 @@ fn some() -> [Node; 3] {
 }
 
 /// On "aaba".
-fn some_up() -> [Call; 7] {
+fn some_forward() -> [Call; 7] {
     [
         Call::Search(on(Text::Aaba, 0, 4), Found::At(0, 2)),
         Call::Earliest(on(Text::Aaba, 0, 4), Found::At(0, 1)),
@@ -26,8 +26,8 @@ fn some_up() -> [Call; 7] {
     ]
 }
 
-/// Downwards the last one is found at its start.
-fn some_down() -> [Call; 7] {
+/// In reverse the last one is found at its start.
+fn some_reverse() -> [Call; 7] {
     [
         Call::Search(over(Text::Aaba, 0, 2, Anchored::Yes), Found::At(0, 0)),
         Call::Search(over(Text::Aaba, 1, 2, Anchored::Yes), Found::At(0, 1)),
@@ -39,7 +39,7 @@ fn some_down() -> [Call; 7] {
     ]
 }
 
-/// Where all matches are asked for, the last end is found, and downwards the first start.
+/// Where all matches are asked for, the last end is found, and in reverse the first start.
 fn all_of_some(last: usize, nearest: usize) -> [Call; 2] {
     [
         Call::Search(on(Text::Aaba, 0, 4), Found::At(0, last)),
@@ -52,15 +52,15 @@ fn repetitions(rt: HostRuntime) -> Result<(), Fail> {
     let alloc = rt.alloc();
     let config = Config::new();
     let all = config.match_kind(MatchKind::All);
-    assert!(rt; answers_by(alloc, &some(), up(), config, &some_up()));
-    assert!(rt; answers_by(alloc, &some(), down(), config, &some_down()));
-    assert!(rt; answers_by(alloc, &some(), up(), all, &all_of_some(4, 1)));
-    assert!(rt; answers_by(alloc, &some(), down(), all, &all_of_some(0, 3)));
+    assert!(rt; answers_by(alloc, &some(), forward(), config, &some_forward()));
+    assert!(rt; answers_by(alloc, &some(), reverse(), config, &some_reverse()));
+    assert!(rt; answers_by(alloc, &some(), forward(), all, &all_of_some(4, 1)));
+    assert!(rt; answers_by(alloc, &some(), reverse(), all, &all_of_some(0, 3)));
     Ok(())
 }
 
 /// The next boundary is found, if it stands in the span; an anchored search doesn't go there.
-fn empty_up() -> [Call; 14] {
+fn empty_forward() -> [Call; 14] {
     [
         Call::Search(on(Text::Beta, 0, 2), Found::At(0, 0)),
         Call::Search(on(Text::Beta, 1, 2), Found::At(0, 2)),
@@ -79,8 +79,8 @@ fn empty_up() -> [Call; 14] {
     ]
 }
 
-/// Downwards the one before it.
-fn empty_down() -> [Call; 11] {
+/// In reverse the one before it.
+fn empty_reverse() -> [Call; 11] {
     [
         Call::Search(on(Text::Beta, 0, 2), Found::At(0, 2)),
         Call::Search(on(Text::Beta, 0, 1), Found::At(0, 0)),
@@ -109,10 +109,10 @@ fn inside_characters(rt: HostRuntime) -> Result<(), Fail> {
     let alloc = rt.alloc();
     let config = Config::new();
     let empty = [Node::Match];
-    assert!(rt; answers_by(alloc, &empty, by_characters(false), config, &empty_up()));
-    assert!(rt; answers_by(alloc, &empty, by_characters(true), config, &empty_down()));
-    assert!(rt; answers_by(alloc, &empty, up(), config, &empty_by_bytes()));
-    assert!(rt; answers_by(alloc, &empty, down(), config, &empty_by_bytes()));
+    assert!(rt; answers_by(alloc, &empty, by_characters(false), config, &empty_forward()));
+    assert!(rt; answers_by(alloc, &empty, by_characters(true), config, &empty_reverse()));
+    assert!(rt; answers_by(alloc, &empty, forward(), config, &empty_by_bytes()));
+    assert!(rt; answers_by(alloc, &empty, reverse(), config, &empty_by_bytes()));
     Ok(())
 }
 
@@ -150,7 +150,7 @@ fn up_to_a_quit_byte() -> [Call; 2] {
     ]
 }
 
-/// Digits between bounds of words, read downwards.
+/// Digits between bounds of words, read in reverse.
 fn digits() -> [Node; 5] {
     [
         Node::Match,
@@ -175,9 +175,9 @@ fn quit_bytes(rt: HostRuntime) -> Result<(), Fail> {
     let config = Config::new();
     let quit = config.quit(b'x', true);
     let words = config.unicode_word_boundary(true);
-    assert!(rt; answers_by(alloc, &word_at_the_end(), up(), config, &up_to_the_end()));
-    assert!(rt; answers_by(alloc, &word_at_the_end(), up(), quit, &up_to_a_quit_byte()));
-    assert!(rt; answers_by(alloc, &digits(), down(), words, &digits_beside_beta()));
+    assert!(rt; answers_by(alloc, &word_at_the_end(), forward(), config, &up_to_the_end()));
+    assert!(rt; answers_by(alloc, &word_at_the_end(), forward(), quit, &up_to_a_quit_byte()));
+    assert!(rt; answers_by(alloc, &digits(), reverse(), words, &digits_beside_beta()));
     Ok(())
 }
 
@@ -201,7 +201,7 @@ fn letter_and_line_end() -> [Call; 3] {
 }
 
 /// A bound of a word on "ab": `a` stands before the span 1..2, and `b` behind 0..1.
-fn bound_up() -> [Call; 3] {
+fn bound_forward() -> [Call; 3] {
     [
         Call::Search(on(Text::Ab, 0, 2), Found::At(0, 0)),
         Call::Search(on(Text::Ab, 1, 2), Found::At(0, 2)),
@@ -209,7 +209,7 @@ fn bound_up() -> [Call; 3] {
     ]
 }
 
-fn bound_down() -> [Call; 4] {
+fn bound_reverse() -> [Call; 4] {
     [
         Call::Search(on(Text::Ab, 0, 2), Found::At(0, 2)),
         Call::Search(on(Text::Ab, 0, 1), Found::At(0, 0)),
@@ -218,7 +218,7 @@ fn bound_down() -> [Call; 4] {
     ]
 }
 
-/// `a` before the end of a line, read downwards from there, on `a` and LF.
+/// `a` before the end of a line, read in reverse from there, on `a` and LF.
 fn before_lf(found: bool) -> [Call; 2] {
     [
         Call::Search(on(Text::ALf, 0, 1), at(found, 0)),
@@ -247,11 +247,11 @@ fn looks(rt: HostRuntime) -> Result<(), Fail> {
         Node::Range(b'a', b'a', 0),
         Node::Look(Look::StartLF, 1),
     ];
-    assert!(rt; answers_by(alloc, &[Node::Match, crlf], up(), config, &line_ends()));
-    assert!(rt; answers_by(alloc, &letter, up(), config, &letter_and_line_end()));
-    assert!(rt; answers_by(alloc, &bound, up(), config, &bound_up()));
-    assert!(rt; answers_by(alloc, &bound, down(), config, &bound_down()));
-    assert!(rt; answers_by(alloc, &line, down(), config, &before_lf(true)));
+    assert!(rt; answers_by(alloc, &[Node::Match, crlf], forward(), config, &line_ends()));
+    assert!(rt; answers_by(alloc, &letter, forward(), config, &letter_and_line_end()));
+    assert!(rt; answers_by(alloc, &bound, forward(), config, &bound_forward()));
+    assert!(rt; answers_by(alloc, &bound, reverse(), config, &bound_reverse()));
+    assert!(rt; answers_by(alloc, &line, reverse(), config, &before_lf(true)));
     assert!(rt; answers_by(alloc, &line, nul_lines(), config, &before_lf(false)));
     Ok(())
 }

@@ -8,7 +8,7 @@ use tests_machines::automata::{Ready, machine, ready_made};
 use tests_machines::calls::{Call, Kind};
 use tests_machines::machine::Machine;
 
-/// A length is the distance from the start to the place, upwards or downwards; a search that starts ends the one before;
+/// A length is the distance from the start to the place, forward or in reverse; a search that starts ends the one before;
 /// sums stop at the greatest number.
 fn adds() -> [Call; 17] {
     [

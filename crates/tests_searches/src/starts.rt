@@ -9,8 +9,8 @@ use tests_machines::calls::{Call, Kind, Text};
 use tests_machines::spans::{no_mode, only, over, quit};
 
 /// Of the patterns `a`, `b` and `a`, without starts for each and with the quit byte `x`: the byte before the place is asked
-/// for before the mode. On "xab" in the span 1..3 only a search upwards looks at `x`, and on "abx" in the span 0..2 only
-/// one downwards.
+/// for before the mode. On "xab" in the span 1..3 only a search forward looks at `x`, and on "abx" in the span 0..2 only
+/// one in reverse.
 fn refused_in_order() -> [Call; 9] {
     [
         Call::NoStart(Some(b'x'), only(1), StartError::Quit { byte: b'x' }),

@@ -20,7 +20,7 @@ fn range(alloc: Global, first: char, last: char) -> Result<Hir, AllocError> {
     Ok(class(vec![in alloc; (first, last)]?))
 }
 
-/// A range, and how many states it takes upwards, downwards, and downwards where classes are made smaller.
+/// A range, and how many states it takes forward, in reverse, and in reverse where classes are made smaller.
 type Sized = (char, char, (usize, usize, usize));
 
 fn has_size(alloc: Global, case: &Sized) -> Result<bool, BuildError> {
@@ -37,8 +37,8 @@ fn have_sizes(alloc: Global, cases: &[Sized]) -> Result<bool, BuildError> {
     Ok(true)
 }
 
-/// Of all scalars: upwards the nodes are the first byte's and seven that share their endings, of the table's
-/// nine rows; downwards no two rows end in the same bytes, and each range is a state behind a choice; made
+/// Of all scalars: forward the nodes are the first byte's and seven that share their endings, of the table's
+/// nine rows; in reverse no two rows end in the same bytes, and each range is a state behind a choice; made
 /// smaller, they are six. Then the edges between spellings of different lengths.
 #[test]
 fn ranges(rt: HostRuntime) {
@@ -64,7 +64,7 @@ fn two_have_sizes(
     Ok(sizes(alloc, &two)? == want)
 }
 
-/// Downwards the two sequences have one state for their common first byte; a class of ASCII is one state.
+/// In reverse the two sequences have one state for their common first byte; a class of ASCII is one state.
 #[test]
 fn two_ranges(rt: HostRuntime) {
     let alloc = rt.alloc();
@@ -91,8 +91,8 @@ fn many(alloc: Global) -> Result<Hir, AllocError> {
 /// plain form that is six hundred states and the choice.
 fn many_are_few_states(alloc: Global) -> Result<bool, BuildError> {
     let ranges = many(alloc)?;
-    let (up, down, shrunk) = sizes(alloc, &ranges)?;
-    Ok(up == 7 && down <= 604 && shrunk <= 604)
+    let (forward, reverse, shrunk) = sizes(alloc, &ranges)?;
+    Ok(forward == 7 && reverse <= 604 && shrunk <= 604)
 }
 
 #[test]
@@ -100,7 +100,7 @@ fn hundreds_of_ranges(rt: HostRuntime) {
     assert!(rt; matches!(many_are_few_states(rt.alloc()), Ok(true)));
 }
 
-/// All scalars, downwards and made smaller, under a limit of so many bytes.
+/// All scalars, in reverse and made smaller, under a limit of so many bytes.
 fn limited(alloc: Global, limit: usize) -> Result<NFA, BuildError> {
     let all = range(alloc, '\u{0}', '\u{10FFFF}')?;
     let config = plain(true, true).nfa_size_limit(Some(limit));
@@ -123,7 +123,7 @@ fn small_classes_keep_to_their_limit(rt: HostRuntime) {
     assert!(rt; matches!(refused, Err(BuildError::ExceededSizeLimit { limit: 431 })));
 }
 
-/// Whether the automaton finds the scalar's spelling, read upwards or downwards.
+/// Whether the automaton finds the scalar's spelling, read forward or in reverse.
 fn finds(alloc: Global, nfa: &NFA, reverse: bool, scalar: char) -> Result<bool, AllocError> {
     let mut room = [0; 4];
     let spelling = scalar.encode_utf8(&mut room).as_bytes();
@@ -165,17 +165,17 @@ fn is_class(
     Ok(within && beyond)
 }
 
-/// The same read upwards, downwards, and where classes are made smaller.
+/// The same read forward, in reverse, and where classes are made smaller.
 fn are_classes(
     alloc: Global,
     class: &Hir,
     inside: &[char],
     outside: &[char],
 ) -> Result<bool, BuildError> {
-    let up = is_class(alloc, class, false, false, inside, outside)?;
-    let down = is_class(alloc, class, true, false, inside, outside)?;
+    let forward = is_class(alloc, class, false, false, inside, outside)?;
+    let reverse = is_class(alloc, class, true, false, inside, outside)?;
     let shrunk = is_class(alloc, class, true, true, inside, outside)?;
-    Ok(up && down && shrunk)
+    Ok(forward && reverse && shrunk)
 }
 
 /// Three ranges of one to four bytes.
@@ -260,21 +260,21 @@ fn tree_finds_as(
 /// A spelling that is cut, or read the other way round, is not found; nor is that of a surrogate.
 fn whole_are_found(alloc: Global) -> Result<bool, BuildError> {
     let all = range(alloc, '\u{0}', '\u{10FFFF}')?;
-    let up: [Found<'_>; 4] = [
+    let forward: [Found<'_>; 4] = [
         (&[0xE2, 0x82, 0xAC], true),
         (&[0xE2, 0x82], false),
         (&[0xAC, 0x82, 0xE2], false),
         (&[0xED, 0xA0, 0x80], false),
     ];
-    let down: [Found<'_>; 4] = [
+    let reverse: [Found<'_>; 4] = [
         (&[0xAC, 0x82, 0xE2], true),
         (&[0x80], false),
         (&[0xE2, 0x82, 0xAC], false),
         (&[0x80, 0xA0, 0xED], false),
     ];
     Ok(
-        tree_finds_as(alloc, &all, plain(false, false), &up)?
-            && tree_finds_as(alloc, &all, plain(true, true), &down)?,
+        tree_finds_as(alloc, &all, plain(false, false), &forward)?
+            && tree_finds_as(alloc, &all, plain(true, true), &reverse)?,
     )
 }
 
@@ -290,35 +290,35 @@ fn two_classes(alloc: Global) -> Result<Hir, AllocError> {
     Ok(Hir::concat(vec![in alloc; first, second]?))
 }
 
-/// Whether they take seven states, upwards, downwards and made smaller.
+/// Whether they take seven states, forward, in reverse and made smaller.
 fn two_take_seven(alloc: Global) -> Result<bool, BuildError> {
     let two = two_classes(alloc)?;
     Ok(sizes(alloc, &two)? == (7, 7, 7))
 }
 
-/// What was kept of one class is not taken for the next, read upwards.
-fn are_apart_upwards(alloc: Global) -> Result<bool, BuildError> {
+/// What was kept of one class is not taken for the next, read forward.
+fn are_apart_forward(alloc: Global) -> Result<bool, BuildError> {
     let two = two_classes(alloc)?;
-    let up: [Found<'_>; 2] = [
+    let forward: [Found<'_>; 2] = [
         (&[0xD0, 0xB0, 0xD0, 0xB2], true),
         (&[0xD0, 0xB2, 0xD0, 0xB0], false),
     ];
-    tree_finds_as(alloc, &two, plain(false, false), &up)
+    tree_finds_as(alloc, &two, plain(false, false), &forward)
 }
 
-/// Likewise downwards.
-fn are_apart_downwards(alloc: Global) -> Result<bool, BuildError> {
+/// Likewise in reverse.
+fn are_apart_in_reverse(alloc: Global) -> Result<bool, BuildError> {
     let two = two_classes(alloc)?;
-    let down: [Found<'_>; 2] = [
+    let reverse: [Found<'_>; 2] = [
         (&[0xB2, 0xD0, 0xB0, 0xD0], true),
         (&[0xB0, 0xD0, 0xB2, 0xD0], false),
     ];
-    tree_finds_as(alloc, &two, plain(true, false), &down)
+    tree_finds_as(alloc, &two, plain(true, false), &reverse)
 }
 
 #[test]
 fn classes_one_after_the_other(rt: HostRuntime) {
     assert!(rt; matches!(two_take_seven(rt.alloc()), Ok(true)));
-    assert!(rt; matches!(are_apart_upwards(rt.alloc()), Ok(true)));
-    assert!(rt; matches!(are_apart_downwards(rt.alloc()), Ok(true)));
+    assert!(rt; matches!(are_apart_forward(rt.alloc()), Ok(true)));
+    assert!(rt; matches!(are_apart_in_reverse(rt.alloc()), Ok(true)));
 }

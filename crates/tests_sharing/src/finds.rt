@@ -35,12 +35,12 @@ fn len(alloc: Global, reverse: bool, shrink: bool, tree: &Hir) -> Result<usize, 
     Ok(nfa.states().len())
 }
 
-/// How many states there are upwards, downwards, and downwards where classes are made smaller.
+/// How many states there are forward, in reverse, and in reverse where classes are made smaller.
 pub(crate) fn sizes(alloc: Global, tree: &Hir) -> Result<(usize, usize, usize), BuildError> {
-    let up = len(alloc, false, false, tree)?;
-    let down = len(alloc, true, false, tree)?;
+    let forward = len(alloc, false, false, tree)?;
+    let reverse = len(alloc, true, false, tree)?;
     let shrunk = len(alloc, true, true, tree)?;
-    Ok((up, down, shrunk))
+    Ok((forward, reverse, shrunk))
 }
 
 /// Whether a match of the automaton ends behind all of these bytes, in the order in which it reads them.

@@ -12,10 +12,10 @@ fn alternation(alloc: Global, texts: &[&[u8]]) -> Result<Hir, AllocError> {
     Ok(Hir::alternation(parts))
 }
 
-/// How many states the literals take, upwards and downwards.
+/// How many states the literals take, forward and in reverse.
 fn states(alloc: Global, texts: &[&[u8]]) -> Result<(usize, usize), BuildError> {
-    let (up, down, _) = sizes(alloc, &alternation(alloc, texts)?)?;
-    Ok((up, down))
+    let (forward, reverse, _) = sizes(alloc, &alternation(alloc, texts)?)?;
+    Ok((forward, reverse))
 }
 
 /// Whether the literals take so many.
@@ -26,9 +26,9 @@ fn take(alloc: Global, texts: &[&[u8]], want: (usize, usize)) -> bool {
     }
 }
 
-/// Three letters that both have, a choice, four letters more; downwards nothing is common: a first state by
+/// Three letters that both have, a choice, four letters more; in reverse nothing is common: a first state by
 /// two letters, two chains of two and six. Three states are around them. Then two words that end alike: a
-/// first state and two chains of four; downwards four letters and a state for the last two.
+/// first state and two chains of four; in reverse four letters and a state for the last two.
 #[test]
 fn states_are_shared(rt: HostRuntime) {
     assert!(rt; take(rt.alloc(), &[b"sam", b"samwise"], (11, 12)));
@@ -65,8 +65,8 @@ fn texts_end_as(
     Ok(ended)
 }
 
-/// Whether the preferred matches of the literals end so, read upwards.
-fn up(alloc: Global, texts: &[&[u8]], cases: &[Ended<'_>]) -> bool {
+/// Whether the preferred matches of the literals end so, read forward.
+fn forward(alloc: Global, texts: &[&[u8]], cases: &[Ended<'_>]) -> bool {
     matches!(texts_end_as(alloc, false, texts, cases), Ok(true))
 }
 
@@ -74,9 +74,9 @@ fn up(alloc: Global, texts: &[&[u8]], cases: &[Ended<'_>]) -> bool {
 #[test]
 fn one_is_the_begin_of_the_other(rt: HostRuntime) {
     let short: [Ended<'_>; 2] = [(b"samwise", Some(3)), (b"saw", None)];
-    assert!(rt; up(rt.alloc(), &[b"sam", b"samwise"], &short));
+    assert!(rt; forward(rt.alloc(), &[b"sam", b"samwise"], &short));
     let long: [Ended<'_>; 3] = [(b"samwise", Some(7)), (b"samwell", Some(3)), (b"saw", None)];
-    assert!(rt; up(rt.alloc(), &[b"samwise", b"sam"], &long));
+    assert!(rt; forward(rt.alloc(), &[b"samwise", b"sam"], &long));
 }
 
 /// A literal behind a shorter one that it begins with isn't preferred to it, though others of its letters
@@ -84,20 +84,20 @@ fn one_is_the_begin_of_the_other(rt: HostRuntime) {
 #[test]
 fn preference_is_kept(rt: HostRuntime) {
     let mixed: [Ended<'_>; 3] = [(b"abc", Some(2)), (b"ac", Some(1)), (b"b", None)];
-    assert!(rt; up(rt.alloc(), &[b"ab", b"a", b"ac", b"abc"], &mixed));
-    assert!(rt; up(rt.alloc(), &[b"", b"a"], &[(b"a", Some(0))]));
+    assert!(rt; forward(rt.alloc(), &[b"ab", b"a", b"ac", b"abc"], &mixed));
+    assert!(rt; forward(rt.alloc(), &[b"", b"a"], &[(b"a", Some(0))]));
     let last: [Ended<'_>; 2] = [(b"a", Some(1)), (b"b", Some(0))];
-    assert!(rt; up(rt.alloc(), &[b"a", b""], &last));
+    assert!(rt; forward(rt.alloc(), &[b"a", b""], &last));
 }
 
-/// Downwards the last letters are read first.
+/// In reverse the last letters are read first.
 fn last_are_first(alloc: Global) -> Result<bool, BuildError> {
     let cases: [Ended<'_>; 3] = [(b"gniog", Some(5)), (b"gniod", Some(5)), (b"going", None)];
     texts_end_as(alloc, true, &[b"going", b"doing"], &cases)
 }
 
 #[test]
-fn literals_are_read_downwards(rt: HostRuntime) {
+fn literals_are_read_in_reverse(rt: HostRuntime) {
     assert!(rt; matches!(last_are_first(rt.alloc()), Ok(true)));
 }
 

@@ -44,7 +44,7 @@ pub(crate) fn matched(
 
 /// What is asked of a match.
 #[derive(Clone, Copy)]
-enum Asked {
+enum Question {
     Groups,
     Parts,
     SlotsOfMatches,
@@ -52,19 +52,19 @@ enum Asked {
 }
 
 /// Whether it answers.
-fn is_answered(alloc: Global, captures: &mut Captures, asked: Asked) -> bool {
-    match asked {
-        Asked::Groups => tells_groups(captures) && copy_outlives(alloc, captures),
-        Asked::Parts => tells_parts(captures),
-        Asked::SlotsOfMatches => keeps_matches(captures),
-        Asked::NoSlots => captures.is_match() && captures.get_group(0).is_none(),
+fn is_answered(alloc: Global, captures: &mut Captures, question: Question) -> bool {
+    match question {
+        Question::Groups => tells_groups(captures) && copy_outlives(alloc, captures),
+        Question::Parts => tells_parts(captures),
+        Question::SlotsOfMatches => keeps_matches(captures),
+        Question::NoSlots => captures.is_match() && captures.get_group(0).is_none(),
     }
 }
 
 /// Whether a match of the first of two patterns does.
-fn answers(alloc: Global, kept: Kept, asked: Asked) -> bool {
+fn answers(alloc: Global, kept: Kept, question: Question) -> bool {
     match matched(alloc, kept, A_AND_NONE, &[(0, 0), (1, 2), (4, 1), (5, 2)]) {
-        Ok(mut captures) => is_answered(alloc, &mut captures, asked),
+        Ok(mut captures) => is_answered(alloc, &mut captures, question),
         Err(_) => false,
     }
 }
@@ -132,7 +132,7 @@ fn copy_outlives(alloc: Global, captures: &mut Captures) -> bool {
 
 #[test]
 fn groups_of_a_match(rt: HostRuntime) {
-    assert!(rt; answers(rt.alloc(), Kept::All, Asked::Groups));
+    assert!(rt; answers(rt.alloc(), Kept::All, Question::Groups));
 }
 
 /// Whether these parts are told: of bytes, of a character of two bytes, of a haystack of one, and of a third group.
@@ -154,7 +154,7 @@ fn tells_parts(captures: &Captures) -> bool {
 
 #[test]
 fn parts_of_a_haystack(rt: HostRuntime) {
-    assert!(rt; answers(rt.alloc(), Kept::All, Asked::Parts));
+    assert!(rt; answers(rt.alloc(), Kept::All, Question::Parts));
 }
 
 /// Whether slots of whole matches keep those of a match alone.
@@ -166,6 +166,6 @@ fn keeps_matches(captures: &Captures) -> bool {
 
 #[test]
 fn slots_that_are_not_kept(rt: HostRuntime) {
-    assert!(rt; answers(rt.alloc(), Kept::Matches, Asked::SlotsOfMatches));
-    assert!(rt; answers(rt.alloc(), Kept::Nothing, Asked::NoSlots));
+    assert!(rt; answers(rt.alloc(), Kept::Matches, Question::SlotsOfMatches));
+    assert!(rt; answers(rt.alloc(), Kept::Nothing, Question::NoSlots));
 }

@@ -115,7 +115,7 @@ fn iterators_over_units(rt: HostRuntime) {
 }
 
 /// Whether the set is empty, has two bytes, and has two ranges.
-fn asked(set: &ByteSet) -> [bool; 5] {
+fn question(set: &ByteSet) -> [bool; 5] {
     [
         set.is_empty(),
         set.contains(0x61),
@@ -152,7 +152,7 @@ fn tells_words(set: &ByteSet) -> bool {
 fn words_are_told() -> bool {
     let set = words();
     ByteSet::default().is_empty()
-        && asked(&set) == [false, true, false, true, false]
+        && question(&set) == [false, true, false, true, false]
         && have_classes(&set)
         && tells_words(&set)
 }

@@ -3,7 +3,7 @@ use Rattle.std.proofs.Common.{◌≡◌, ℕ, Bool, false, List, [], ◌∷◌, 
 use Rattle.hir_core.specs.Tree.{Tree}
 use Rattle.hir_core.specs.PreferredEnds.{preferred_ends}
 use Rattle.hir_core.specs.Facts.{LoopsRead}
-use Rattle.nfa_core.specs.BuilderStates.{Part, match_part}
+use Rattle.nfa_core.specs.BuilderStates.{DraftNode, match_draft}
 use Rattle.nfa_core.specs.Walks.{Has, lists_none, lists_answer}
 use Rattle.nfa_core.specs.Runs.{IsChain, last_or}
 use Rattle.nfa_core.specs.Places.{same_pair}
@@ -27,14 +27,14 @@ pub record FindsTree (back : Bool) (T : Table) (s p : ℕ) (x : Tree) : Type 0 w
   pub complete : (t : Text) (i j : ℕ) → IsMeant back t x i j → Finds back t T (i, s) (j, p)
   pub sound : (t : Text) (i : ℕ) (m : ℕ × ℕ) → Finds back t T (i, s) m → (j : ℕ) × IsMeant back t x i j × (m ≡ (j, p))
 
-is_match_state : (T : Table) (f p j : ℕ) → T f ≡ match_part p → table_match T (j, f) ≡ Some (j, p)
-is_match_state T f p j is = ap (λ (n : Part). match_of (drafted n) j) is
+is_match_state : (T : Table) (f p j : ℕ) → T f ≡ match_draft p → table_match T (j, f) ≡ Some (j, p)
+is_match_state T f p j is = ap (λ (n : DraftNode). match_of (drafted n) j) is
 
-listed_matches : (t : Text) (T : Table) (f p : ℕ) (js : List ℕ) → T f ≡ match_part p → Listed t T (at f js) (at p js)
+listed_matches : (t : Text) (T : Table) (f p : ℕ) (js : List ℕ) → T f ≡ match_draft p → Listed t T (at f js) (at p js)
 listed_matches t T f p [] is = lists_none
 listed_matches t T f p (j ∷ js) is = lists_answer (j, f) (j, p) (at f js) (at p js) (is_match_state T f p j is) (listed_matches t T f p js is)
 
-ends_at_match : (back : Bool) (t : Text) (T : Table) (f p j : ℕ) → T f ≡ match_part p → ComesToEnd back t T (j, f)
+ends_at_match : (back : Bool) (t : Text) (T : Table) (f p j : ℕ) → T f ≡ match_draft p → ComesToEnd back t T (j, f)
 ends_at_match back t T f p j is = ((j, p) ∷ [], lists_answer (j, f) (j, p) [] [] (is_match_state T f p j is) lists_none)
 
 -- a chain from a match stays there
@@ -47,7 +47,7 @@ stays_at_match back t T q m (w ∷ r) is c =
 some_pair : (a b : ℕ × ℕ) → Some a ≡ Some b → a ≡ b
 some_pair a b e = cc
 
-pub finds_tree : (back : Bool) (T : Table) (s f p : ℕ) (x : Tree) → T f ≡ match_part p → Denotes back T s f x → FindsTree back T s p x
+pub finds_tree : (back : Bool) (T : Table) (s f p : ℕ) (x : Tree) → T f ≡ match_draft p → Denotes back T s f x → FindsTree back T s p x
 finds_tree back T s f p x is d = record {
   lists = λ up g t i. (d.orders up g t).lists i (at p (preferred_ends t.holds (seen t) x i)) (listed_matches t T f p (preferred_ends t.holds (seen t) x i) is);
   ends = λ g t i. (d.halts g t).halts i (λ j m. ends_at_match back t T f p j is);

@@ -4,14 +4,14 @@ use Rattle.std.proofs.Common.{◌≡◌, ℕ, suc, ◌+◌, ◌<◌, ◌≤◌, 
 use Rattle.std.proofs.Math.Seq.{take-length}
 use Rattle.std.proofs.lemmas.List.{take_more, map-append}
 use Rattle.hir_core.specs.Tree.{Tree, empty, literal, byte_class, repetition, capture, nothing, cat, concat, alternation}
-use Rattle.nfa_core.specs.BuilderStates.{range_part, capture_start_part, capture_end_part}
+use Rattle.nfa_core.specs.BuilderStates.{range_draft, capture_start_draft, capture_end_draft}
 use Rattle.nfa_core.specs.Drafted.{Table}
 use Rattle.thompson_nfa.specs.Denotes.{choice, IsMeant, Denotes}
 use Rattle.thompson_nfa.proofs.LookLemmas.{or_none}
 use Rattle.thompson_nfa.proofs.MeantLemmas.{empty_meant, meant_empty}
 use Rattle.thompson_nfa.specs.Compiled.{uses}
 use Rattle.thompson_nfa.proofs.DenoteLemmas.{Joins, denotes_join, denotes_empty_here, denotes_nothing_here, denotes_capture_start, denotes_capture_end, denotes_range}
-use Rattle.thompson_nfa.proofs.SameLemmas.{IsSame, denotes_same, joins_same, joins_cat_up, joins_cat_down, flat_map_each, same_concat_one, same_alternation_one, same_concat_append, same_capture, same_literal_none, same_literal_one, same_literal_append}
+use Rattle.thompson_nfa.proofs.SameLemmas.{IsSame, denotes_same, joins_same, joins_cat_forward, joins_cat_reverse, flat_map_each, same_concat_one, same_alternation_one, same_concat_append, same_capture, same_literal_none, same_literal_one, same_literal_append}
 use Rattle.thompson_nfa.proofs.RoundLemmas.{one_more, joins_copy, denotes_stopped_here, denotes_optional}
 
 abbrev pub Before : Bool → Table → ℕ → ℕ → Tree → Tree → Type 0
@@ -44,17 +44,17 @@ joins_then_empty back x = record {
 pub joins_last_part : (x : Tree) (xs : List Tree) → Joins true (concat (x ∷ [])) (concat xs) (concat (xs ++ x ∷ []))
 joins_last_part x xs =
     joins_same true (concat (x ∷ [])) (concat xs) (cat (concat xs) (concat (x ∷ []))) (concat (xs ++ x ∷ [])) (same_concat_append xs (x ∷ []))
-    (joins_cat_down (concat xs) (concat (x ∷ [])))
+    (joins_cat_reverse (concat xs) (concat (x ∷ [])))
 
 pub joins_first_byte : (b : ℕ) (bytes : List ℕ) → Joins false (literal (b ∷ [])) (literal bytes) (literal (b ∷ bytes))
 joins_first_byte b bytes =
     joins_same false (literal (b ∷ [])) (literal bytes) (cat (literal (b ∷ [])) (literal bytes)) (literal (b ∷ bytes)) (same_literal_append (b ∷ []) bytes)
-    (joins_cat_up (literal (b ∷ [])) (literal bytes))
+    (joins_cat_forward (literal (b ∷ [])) (literal bytes))
 
 pub joins_last_byte : (b : ℕ) (bytes : List ℕ) → Joins true (literal (b ∷ [])) (literal bytes) (literal (bytes ++ b ∷ []))
 joins_last_byte b bytes =
     joins_same true (literal (b ∷ [])) (literal bytes) (cat (literal bytes) (literal (b ∷ []))) (literal (bytes ++ b ∷ [])) (same_literal_append bytes (b ∷ []))
-    (joins_cat_down (literal bytes) (literal (b ∷ [])))
+    (joins_cat_reverse (literal bytes) (literal (b ∷ [])))
 
 module _ (back : Bool) (T : Table) where
   pub before_start : (start : ℕ) (whole : Tree) → Before back T start start whole whole
@@ -64,14 +64,14 @@ module _ (back : Bool) (T : Table) where
   before_begin start rest whole e last d = let P : Tree → Type 0 = λ x. Denotes back T start last x in subst P e d
 
   -- all parts, bytes or ranges are still to do, counted from the last
-  pub concat_begin_down : (start : ℕ) (xs : List Tree) → Before back T start start (concat (take (length xs) xs)) (concat xs)
-  concat_begin_down start xs = before_begin start (concat (take (length xs) xs)) (concat xs) (ap concat (take-length xs))
+  pub concat_begin_reverse : (start : ℕ) (xs : List Tree) → Before back T start start (concat (take (length xs) xs)) (concat xs)
+  concat_begin_reverse start xs = before_begin start (concat (take (length xs) xs)) (concat xs) (ap concat (take-length xs))
 
-  pub literal_begin_down : (start : ℕ) (bytes : List ℕ) → Before back T start start (literal (take (length bytes) bytes)) (literal bytes)
-  literal_begin_down start bytes = before_begin start (literal (take (length bytes) bytes)) (literal bytes) (ap (λ (bs : List ℕ). literal bs) (take-length bytes))
+  pub literal_begin_reverse : (start : ℕ) (bytes : List ℕ) → Before back T start start (literal (take (length bytes) bytes)) (literal bytes)
+  literal_begin_reverse start bytes = before_begin start (literal (take (length bytes) bytes)) (literal bytes) (ap (λ (bs : List ℕ). literal bs) (take-length bytes))
 
-  pub ranges_begin_down : (start : ℕ) (ranges : List (ℕ × ℕ)) → Before back T start start (concat (range_parts (take (length ranges) ranges))) (concat (range_parts ranges))
-  ranges_begin_down start ranges =
+  pub ranges_begin_reverse : (start : ℕ) (ranges : List (ℕ × ℕ)) → Before back T start start (concat (range_parts (take (length ranges) ranges))) (concat (range_parts ranges))
+  ranges_begin_reverse start ranges =
       before_begin start (concat (range_parts (take (length ranges) ranges))) (concat (range_parts ranges))
       (ap (λ (rs : List (ℕ × ℕ)). concat (range_parts rs)) (take-length ranges))
 
@@ -105,14 +105,14 @@ module _ (back : Bool) (T : Table) where
   pub denotes_capture_plain : (s e index : ℕ) (name : Option (List ℕ)) (x : Tree) → Denotes back T s e x → Denotes back T s e (capture index name x)
   denotes_capture_plain s e index name x d = denotes_same back T s e x (capture index name x) (same_capture index name x) d
 
-  pub denotes_capture : (s m c e pattern group pattern_end group_end index : ℕ) (name : Option (List ℕ)) (x : Tree) → T s ≡ capture_start_part pattern group m →
-      Denotes back T m c x → T c ≡ capture_end_part pattern_end group_end e → Denotes back T s e (capture index name x)
+  pub denotes_capture : (s m c e pattern group pattern_end group_end index : ℕ) (name : Option (List ℕ)) (x : Tree) → T s ≡ capture_start_draft pattern group m →
+      Denotes back T m c x → T c ≡ capture_end_draft pattern_end group_end e → Denotes back T s e (capture index name x)
   denotes_capture s m c e pattern group pattern_end group_end index name x first d second =
       denotes_capture_plain s e index name x
       (denotes_empty_then s m e x (denotes_capture_start back T s pattern group m first)
       (denotes_then_empty m c e x d (denotes_capture_end back T c pattern_end group_end e second)))
 
-  pub denotes_byte : (s e b : ℕ) → T s ≡ range_part b b e → Denotes back T s e (literal (b ∷ []))
+  pub denotes_byte : (s e b : ℕ) → T s ≡ range_draft b b e → Denotes back T s e (literal (b ∷ []))
   denotes_byte s e b is = denotes_same back T s e (byte_class ((b, b) ∷ [])) (literal (b ∷ [])) (same_literal_one b) (denotes_range back T s e b b is)
 
   -- ---- copies
@@ -149,88 +149,88 @@ dropped : {A : Type 0} (xs : List A) (k : ℕ) (d : A) → k < length xs → dro
 dropped xs k d less = drop-cons xs k d less ∙ ap (λ (n : ℕ). get_or xs k d ∷ drop n xs) (sym (add-one k))
 
 module _ (T : Table) where
-  pub denotes_cat_up : (s m e : ℕ) (x y : Tree) → Denotes false T s m x → Denotes false T m e y → Denotes false T s e (cat x y)
-  denotes_cat_up s m e x y a b = denotes_join false T s m e x y (cat x y) (joins_cat_up x y) a b
+  pub denotes_cat_forward : (s m e : ℕ) (x y : Tree) → Denotes false T s m x → Denotes false T m e y → Denotes false T s e (cat x y)
+  denotes_cat_forward s m e x y a b = denotes_join false T s m e x y (cat x y) (joins_cat_forward x y) a b
 
-  pub denotes_cat_down : (s m e : ℕ) (x y : Tree) → Denotes true T s m y → Denotes true T m e x → Denotes true T s e (cat x y)
-  denotes_cat_down s m e x y a b = denotes_join true T s m e y x (cat x y) (joins_cat_down x y) a b
+  pub denotes_cat_reverse : (s m e : ℕ) (x y : Tree) → Denotes true T s m y → Denotes true T m e x → Denotes true T s e (cat x y)
+  denotes_cat_reverse s m e x y a b = denotes_join true T s m e y x (cat x y) (joins_cat_reverse x y) a b
 
-  pub concat_front_up : (start target m : ℕ) (ys zs : List Tree) (x whole : Tree) → ys ≡ x ∷ zs → Before false T start target (concat ys) whole →
+  pub concat_front_forward : (start target m : ℕ) (ys zs : List Tree) (x whole : Tree) → ys ≡ x ∷ zs → Before false T start target (concat ys) whole →
       Denotes false T target m x → Before false T start m (concat zs) whole
-  concat_front_up start target m ys zs x whole is lead part =
+  concat_front_forward start target m ys zs x whole is lead part =
       let P : List Tree → Type 0 = λ ws. Before false T start target (concat ws) whole in
-      before_step false T start target m x (concat zs) (cat x (concat zs)) whole (joins_cat_up x (concat zs)) (subst P is lead) part
+      before_step false T start target m x (concat zs) (cat x (concat zs)) whole (joins_cat_forward x (concat zs)) (subst P is lead) part
 
-  pub concat_back_down : (start target m : ℕ) (ys zs : List Tree) (x whole : Tree) → ys ≡ zs ++ x ∷ [] → Before true T start target (concat ys) whole →
+  pub concat_back_reverse : (start target m : ℕ) (ys zs : List Tree) (x whole : Tree) → ys ≡ zs ++ x ∷ [] → Before true T start target (concat ys) whole →
       Denotes true T target m x → Before true T start m (concat zs) whole
-  concat_back_down start target m ys zs x whole is lead part =
+  concat_back_reverse start target m ys zs x whole is lead part =
       let P : List Tree → Type 0 = λ ws. Before true T start target (concat ws) whole in
       before_step true T start target m (concat (x ∷ [])) (concat zs) (concat (zs ++ x ∷ [])) whole (joins_last_part x zs) (subst P is lead)
       (denotes_same true T target m x (concat (x ∷ [])) (same_concat_one x) part)
 
-  pub concat_step_up : (start target m k : ℕ) (xs : List Tree) (d whole : Tree) → k < length xs → Before false T start target (concat (drop k xs)) whole →
+  pub concat_step_forward : (start target m k : ℕ) (xs : List Tree) (d whole : Tree) → k < length xs → Before false T start target (concat (drop k xs)) whole →
       Denotes false T target m (get_or xs k d) → Before false T start m (concat (drop (k + 1) xs)) whole
-  concat_step_up start target m k xs d whole less lead part =
-      concat_front_up start target m (drop k xs) (drop (k + 1) xs) (get_or xs k d) whole (dropped xs k d less) lead part
+  concat_step_forward start target m k xs d whole less lead part =
+      concat_front_forward start target m (drop k xs) (drop (k + 1) xs) (get_or xs k d) whole (dropped xs k d less) lead part
 
-  pub concat_done_up : (start target k : ℕ) (xs : List Tree) (whole : Tree) → length xs ≤ k → Before false T start target (concat (drop k xs)) whole → Denotes false T start target whole
-  concat_done_up start target k xs whole past lead =
+  pub concat_done_forward : (start target k : ℕ) (xs : List Tree) (whole : Tree) → length xs ≤ k → Before false T start target (concat (drop k xs)) whole → Denotes false T start target whole
+  concat_done_forward start target k xs whole past lead =
       let P : List Tree → Type 0 = λ ys. Before false T start target (concat ys) whole in
       subst P (drop_of_length-le xs past) lead target (denotes_nothing_here false T target)
 
-  pub concat_step_down : (start target m k : ℕ) (xs : List Tree) (d whole : Tree) → k < length xs → Before true T start target (concat (take (k + 1) xs)) whole →
+  pub concat_step_reverse : (start target m k : ℕ) (xs : List Tree) (d whole : Tree) → k < length xs → Before true T start target (concat (take (k + 1) xs)) whole →
       Denotes true T target m (get_or xs k d) → Before true T start m (concat (take k xs)) whole
-  concat_step_down start target m k xs d whole less lead part =
-      concat_back_down start target m (take (k + 1) xs) (take k xs) (get_or xs k d) whole (take_more xs k d less) lead part
+  concat_step_reverse start target m k xs d whole less lead part =
+      concat_back_reverse start target m (take (k + 1) xs) (take k xs) (get_or xs k d) whole (take_more xs k d less) lead part
 
-  pub concat_done_down : (start target : ℕ) (whole : Tree) → Before true T start target nothing whole → Denotes true T start target whole
-  concat_done_down start target whole lead = lead target (denotes_nothing_here true T target)
+  pub concat_done_reverse : (start target : ℕ) (whole : Tree) → Before true T start target nothing whole → Denotes true T start target whole
+  concat_done_reverse start target whole lead = lead target (denotes_nothing_here true T target)
 
   -- ---- ranges of a sequence, one byte each
 
-  pub ranges_step_up : (start target m k : ℕ) (ranges : List (ℕ × ℕ)) (d : ℕ × ℕ) (whole : Tree) → k < length ranges →
+  pub ranges_step_forward : (start target m k : ℕ) (ranges : List (ℕ × ℕ)) (d : ℕ × ℕ) (whole : Tree) → k < length ranges →
       Before false T start target (concat (range_parts (drop k ranges))) whole → Denotes false T target m (byte_class (get_or ranges k d ∷ [])) →
       Before false T start m (concat (range_parts (drop (k + 1) ranges))) whole
-  ranges_step_up start target m k ranges d whole less lead part =
-      concat_front_up start target m (range_parts (drop k ranges)) (range_parts (drop (k + 1) ranges)) (byte_class (get_or ranges k d ∷ [])) whole
+  ranges_step_forward start target m k ranges d whole less lead part =
+      concat_front_forward start target m (range_parts (drop k ranges)) (range_parts (drop (k + 1) ranges)) (byte_class (get_or ranges k d ∷ [])) whole
       (ap range_parts (dropped ranges k d less)) lead part
 
-  pub ranges_done_up : (start target k : ℕ) (ranges : List (ℕ × ℕ)) (whole : Tree) → length ranges ≤ k →
+  pub ranges_done_forward : (start target k : ℕ) (ranges : List (ℕ × ℕ)) (whole : Tree) → length ranges ≤ k →
       Before false T start target (concat (range_parts (drop k ranges))) whole → Denotes false T start target whole
-  ranges_done_up start target k ranges whole past lead =
+  ranges_done_forward start target k ranges whole past lead =
       let P : List (ℕ × ℕ) → Type 0 = λ rs. Before false T start target (concat (range_parts rs)) whole in
       subst P (drop_of_length-le ranges past) lead target (denotes_nothing_here false T target)
 
-  pub ranges_step_down : (start target m k : ℕ) (ranges : List (ℕ × ℕ)) (d : ℕ × ℕ) (whole : Tree) → k < length ranges →
+  pub ranges_step_reverse : (start target m k : ℕ) (ranges : List (ℕ × ℕ)) (d : ℕ × ℕ) (whole : Tree) → k < length ranges →
       Before true T start target (concat (range_parts (take (k + 1) ranges))) whole → Denotes true T target m (byte_class (get_or ranges k d ∷ [])) →
       Before true T start m (concat (range_parts (take k ranges))) whole
-  ranges_step_down start target m k ranges d whole less lead part =
-      concat_back_down start target m (range_parts (take (k + 1) ranges)) (range_parts (take k ranges)) (byte_class (get_or ranges k d ∷ [])) whole
+  ranges_step_reverse start target m k ranges d whole less lead part =
+      concat_back_reverse start target m (range_parts (take (k + 1) ranges)) (range_parts (take k ranges)) (byte_class (get_or ranges k d ∷ [])) whole
       (ap range_parts (take_more ranges k d less) ∙ map-append (λ (r : ℕ × ℕ). byte_class (r ∷ [])) (take k ranges) (get_or ranges k d ∷ [])) lead part
 
   -- ---- bytes of a literal
 
-  pub literal_step_up : (start target m k : ℕ) (bytes : List ℕ) (d : ℕ) (whole : Tree) → k < length bytes → Before false T start target (literal (drop k bytes)) whole →
+  pub literal_step_forward : (start target m k : ℕ) (bytes : List ℕ) (d : ℕ) (whole : Tree) → k < length bytes → Before false T start target (literal (drop k bytes)) whole →
       Denotes false T target m (literal (get_or bytes k d ∷ [])) → Before false T start m (literal (drop (k + 1) bytes)) whole
-  literal_step_up start target m k bytes d whole less lead part =
+  literal_step_forward start target m k bytes d whole less lead part =
       let b = get_or bytes k d in
       let here : drop k bytes ≡ b ∷ drop (k + 1) bytes = dropped bytes k d less in
       let P : List ℕ → Type 0 = λ ys. Before false T start target (literal ys) whole in
       before_step false T start target m (literal (b ∷ [])) (literal (drop (k + 1) bytes)) (literal (b ∷ drop (k + 1) bytes)) whole (joins_first_byte b (drop (k + 1) bytes)) (subst P here lead) part
 
-  pub literal_done_up : (start target k : ℕ) (bytes : List ℕ) (whole : Tree) → length bytes ≤ k → Before false T start target (literal (drop k bytes)) whole →
+  pub literal_done_forward : (start target k : ℕ) (bytes : List ℕ) (whole : Tree) → length bytes ≤ k → Before false T start target (literal (drop k bytes)) whole →
       Denotes false T start target whole
-  literal_done_up start target k bytes whole past lead =
+  literal_done_forward start target k bytes whole past lead =
       let P : List ℕ → Type 0 = λ ys. Before false T start target (literal ys) whole in
       before_done false T start target (literal []) whole same_literal_none (subst P (drop_of_length-le bytes past) lead)
 
-  pub literal_step_down : (start target m k : ℕ) (bytes : List ℕ) (d : ℕ) (whole : Tree) → k < length bytes → Before true T start target (literal (take (k + 1) bytes)) whole →
+  pub literal_step_reverse : (start target m k : ℕ) (bytes : List ℕ) (d : ℕ) (whole : Tree) → k < length bytes → Before true T start target (literal (take (k + 1) bytes)) whole →
       Denotes true T target m (literal (get_or bytes k d ∷ [])) → Before true T start m (literal (take k bytes)) whole
-  literal_step_down start target m k bytes d whole less lead part =
+  literal_step_reverse start target m k bytes d whole less lead part =
       let b = get_or bytes k d in
       let P : List ℕ → Type 0 = λ ys. Before true T start target (literal ys) whole in
       before_step true T start target m (literal (b ∷ [])) (literal (take k bytes)) (literal (take k bytes ++ b ∷ [])) whole (joins_last_byte b (take k bytes))
       (subst P (take_more bytes k d less) lead) part
 
-  pub literal_done_down : (start target : ℕ) (whole : Tree) → Before true T start target (literal []) whole → Denotes true T start target whole
-  literal_done_down start target whole lead = before_done true T start target (literal []) whole same_literal_none lead
+  pub literal_done_reverse : (start target : ℕ) (whole : Tree) → Before true T start target (literal []) whole → Denotes true T start target whole
+  literal_done_reverse start target whole lead = before_done true T start target (literal []) whole same_literal_none lead

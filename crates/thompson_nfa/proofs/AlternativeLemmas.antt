@@ -3,7 +3,7 @@ use Rattle.std.proofs.Common.{◌≡◌, ℕ, zero, suc, ◌+◌, ◌*◌, ◌<�
 use Rattle.std.proofs.lemmas.List.{take_more, take_all}
 use Rattle.search_types.specs.Groups.{Groups}
 use Rattle.hir_core.specs.Tree.{Tree, alternation}
-use Rattle.nfa_core.specs.BuilderStates.{Assembly, empty_part, union_part}
+use Rattle.nfa_core.specs.BuilderStates.{Assembly, empty_draft, union_draft}
 use Rattle.nfa_core.specs.declared.build_error.BuildError.{BuildError}
 use Rattle.thompson_nfa.specs.Compiled.{Makes, Does}
 use Rattle.thompson_nfa.specs.Added.{Added, Led}
@@ -17,7 +17,7 @@ use Rattle.thompson_nfa.proofs.JoinLemmas.{does_same}
 use Rattle.thompson_nfa.proofs.TurnLemmas.{first_left}
 use Rattle.thompson_nfa.proofs.BranchLemmas.{Branches, branches_open, branches_then, branches_made, branches_does}
 use Rattle.thompson_nfa.proofs.RepeatLemmas.{choice_then, empty_then}
-use Rattle.thompson_nfa.proofs.PartsLemmas.{rooms, room_of_alternation, alternation_includes}
+use Rattle.thompson_nfa.proofs.ConcatLemmas.{rooms, room_of_alternation, alternation_includes}
 use Rattle.thompson_nfa.proofs.ProgressLemmas.{Progress, first_made, then_made, then_led, made_capped, then_quits, refuses, then_refuses, first_refuses}
 
 pub record Cases (how : How) (old mid : Assembly) (u z i : ℕ) (xs : List Tree) : Type 0 where
@@ -57,10 +57,10 @@ module _ (how : How) (t0 t1 t2 : Assembly) (s1 e1 s2 e2 : ℕ) (x y : Tree) (xs 
     pub union_refused : (new : Assembly) (e : BuildError) → Stays t2 new 1 24 e → Refuses how.which t0 new (room how.shrink (alternation xs)) (alternation xs) e
     union_refused new e r = later_refused begun r (omega arith) (omega arith)
 
-    pub end_refused : (t3 new : Assembly) (u : ℕ) (e : BuildError) → Added t2 t3 u (union_part []) t2.groups → Stays t3 new 1 24 e → Refuses how.which t0 new (room how.shrink (alternation xs)) (alternation xs) e
+    pub end_refused : (t3 new : Assembly) (u : ℕ) (e : BuildError) → Added t2 t3 u (union_draft []) t2.groups → Stays t3 new 1 24 e → Refuses how.which t0 new (room how.shrink (alternation xs)) (alternation xs) e
     end_refused t3 new u e union r = later_refused (choice_then true begun union) r (omega arith) (omega arith)
 
-    module _ (t3 t4 : Assembly) (u z : ℕ) (union : Added t2 t3 u (union_part []) t2.groups) (last : Added t3 t4 z (empty_part 0) t3.groups) where
+    module _ (t3 t4 : Assembly) (u z : ℕ) (union : Added t2 t3 u (union_draft []) t2.groups) (last : Added t3 t4 z (empty_draft 0) t3.groups) where
       both : Progress false t0 t4 (room how.shrink x + room how.shrink y + 1 + 1) 4000
       both = empty_then (choice_then true begun union) last
 
@@ -80,7 +80,7 @@ module _ (how : How) (t0 t1 t2 : Assembly) (s1 e1 s2 e2 : ℕ) (x y : Tree) (xs 
           later_refused (then_led 12 (then_led 16 (then_led 20 both p5 (omega arith) (omega arith) (omega arith)) p6 (omega arith) (omega arith) (omega arith)) p7 (omega arith) (omega arith) (omega arith))
           r (omega arith) (omega arith)
 
-    module _ (t3 t4 t5 t6 t7 t8 : Assembly) (u z : ℕ) (union : Added t2 t3 u (union_part []) t2.groups) (last : Added t3 t4 z (empty_part 0) t3.groups) (p5 : Led t4 t5 u s1) (p6 : Led t5 t6 e1 z)
+    module _ (t3 t4 t5 t6 t7 t8 : Assembly) (u z : ℕ) (union : Added t2 t3 u (union_draft []) t2.groups) (last : Added t3 t4 z (empty_draft 0) t3.groups) (p5 : Led t4 t5 u s1) (p6 : Led t5 t6 e1 z)
         (p7 : Led t6 t7 u s2) (p8 : Led t7 t8 e2 z) where
       pub cases_open : Does t0 t1 s1 e1 x → Does t1 t2 s2 e2 y → t1.groups ≡ noted how.which (length t0.starts) x t0.groups → t2.groups ≡ noted how.which (length t1.starts) y t1.groups →
           Cases how t0 t8 u z 2 xs

@@ -11,7 +11,7 @@ use Rattle.hir_core.specs.PreferredEnds.{preferred_ends}
 use Rattle.hir_core.proofs.ForCallers.{nil_from_none, prefix_sound, suffix_sound, preferred_ends_sound}
 use Rattle.nfa_core.specs.Ways.{Text}
 use Rattle.nfa_core.specs.Drafted.{Table}
-use Rattle.nfa_core.specs.BuilderStates.{empty_part}
+use Rattle.nfa_core.specs.BuilderStates.{empty_draft}
 use Rattle.thompson_nfa.specs.Denotes.{seen, IsMeant, Reaches, Halts, Orders}
 use Rattle.thompson_nfa.specs.Compilations.{IsChoice, choices_from, places_from, IsReadTo, IsRead, is_anchored_tree}
 use Rattle.thompson_nfa.specs.Assembled.{AllAnchored}
@@ -24,13 +24,13 @@ pub of_member : {A : Type 0} (P : A → Type 0) (xs : List A) (n : ℕ) (x : A) 
 of_member P xs n x all got = subst P (get_or_from_slice_get xs n x x got) (All-get_or P xs n x (slice_get_within xs n x got) all)
 
 -- the state that stands for the anchored start
-pub reaches_at_once : (back : Bool) (t : Text) (T : Table) (u c : ℕ) → T u ≡ empty_part c → Reaches back t T u c (λ i j. i ≡ j)
+pub reaches_at_once : (back : Bool) (t : Text) (T : Table) (u c : ℕ) → T u ≡ empty_draft c → Reaches back t T u c (λ i j. i ≡ j)
 reaches_at_once back t T u c is = reaches_pass back t T u c (goes_empty back t T u c is)
 
-pub halts_at_once : (back : Bool) (t : Text) (T : Table) (u c : ℕ) → T u ≡ empty_part c → Halts back t T u c (λ i j. i ≡ j)
+pub halts_at_once : (back : Bool) (t : Text) (T : Table) (u c : ℕ) → T u ≡ empty_draft c → Halts back t T u c (λ i j. i ≡ j)
 halts_at_once back t T u c is = halts_pass back t T u c (goes_empty back t T u c is)
 
-pub orders_at_once : (t : Text) (T : Table) (u c : ℕ) → T u ≡ empty_part c → Orders t T u c (λ i. i ∷ [])
+pub orders_at_once : (t : Text) (T : Table) (u c : ℕ) → T u ≡ empty_draft c → Orders t T u c (λ i. i ∷ [])
 orders_at_once t T u c is = orders_leaf t T u c (λ i. i ∷ []) (goes_empty false t T u c is)
 
 module _ (t : Text) (is : IsRead t) where

@@ -4,7 +4,7 @@ use Rattle.std.specs.Bool.{nat_eq}
 use Rattle.std.proofs.lemmas.Bool.{cases_Bool, cond-true, cond-false}
 use Rattle.std.proofs.lemmas.Option.{slice_get_within}
 use Rattle.hir_core.specs.Tree.{Tree}
-use Rattle.nfa_core.specs.BuilderStates.{Part, match_part}
+use Rattle.nfa_core.specs.BuilderStates.{DraftNode, match_draft}
 use Rattle.nfa_core.specs.Walks.{Has}
 use Rattle.nfa_core.specs.Runs.{IsChain, last_or}
 use Rattle.nfa_core.specs.Places.{same_pair}
@@ -17,20 +17,20 @@ use Rattle.thompson_nfa.proofs.ChoiceLemmas.{accept_at, accept_of}
 
 -- the table where each state that is out matches pattern p
 abbrev pub barred : (ℕ → Bool) → ℕ → Table → Table
-barred out p table q = if out q then match_part p else table q
+barred out p table q = if out q then match_draft p else table q
 
 barred_in : (out : ℕ → Bool) (p : ℕ) (table : Table) (q : ℕ) → out q ≡ false → barred out p table q ≡ table q
 barred_in out p table q e = cond-false (out q) _ _ e
 
-barred_out : (out : ℕ → Bool) (p : ℕ) (table : Table) (q : ℕ) → out q ≡ true → barred out p table q ≡ match_part p
+barred_out : (out : ℕ → Bool) (p : ℕ) (table : Table) (q : ℕ) → out q ≡ true → barred out p table q ≡ match_draft p
 barred_out out p table q e = cond-true (out q) _ _ e
 
 module _ (back : Bool) (t : Text) (T : Table) (out : ℕ → Bool) (p : ℕ) where
   same_ways : (w : ℕ × ℕ) → out w.1 ≡ false → table_ways back t T w ≡ table_ways back t (barred out p T) w
-  same_ways w l = ap (λ (part : Part). node_ways back t (drafted part) w.0) (sym (barred_in out p T w.1 l))
+  same_ways w l = ap (λ (draft : DraftNode). node_ways back t (drafted draft) w.0) (sym (barred_in out p T w.1 l))
 
   here : (w : ℕ × ℕ) → out w.1 ≡ true → (j : ℕ) × Finds back t (barred out p T) w (j, p)
-  here w l = (w.0, ([], tt, ap (λ (part : Part). match_of (drafted part) w.0) (barred_out out p T w.1 l)))
+  here w l = (w.0, ([], tt, ap (λ (draft : DraftNode). match_of (drafted draft) w.0) (barred_out out p T w.1 l)))
 
   -- a chain that comes out finds p in that table
   comes_out : (w : ℕ × ℕ) (r : List (ℕ × ℕ)) → IsChain same_pair (table_ways back t T) w r → out (last_or w r).1 ≡ true →

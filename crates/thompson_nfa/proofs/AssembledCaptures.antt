@@ -8,7 +8,7 @@ use Rattle.std.proofs.lemmas.List.Folds.{list_any_none}
 use Rattle.search_types.specs.Groups.{Groups, slot}
 use Rattle.hir_core.specs.Tree.{Tree}
 use Rattle.nfa_core.specs.NfaValue.{is_capture}
-use Rattle.nfa_core.specs.BuilderStates.{Part, empty_part, range_part, sparse_part, look_part, capture_start_part, capture_end_part, union_part, union_reverse_part, fail_part, match_part, Assembly}
+use Rattle.nfa_core.specs.BuilderStates.{DraftNode, empty_draft, range_draft, sparse_draft, look_draft, capture_start_draft, capture_end_draft, union_draft, union_reverse_draft, fail_draft, match_draft, Assembly}
 use Rattle.nfa_core.specs.CanBuild.{is_known}
 use Rattle.nfa_core.specs.Renaming.{stands_for, kept, new_name, ways_node, ranges_node, renamed, automaton_of}
 use Rattle.thompson_nfa.specs.Configs.{Options, captures_of, is_any}
@@ -36,30 +36,30 @@ no_slot pattern group = ⊎_elim
 unknown : (pattern group : ℕ) → is_some (slot [] pattern group) ≡ true → ⊥
 unknown pattern group known = let none : is_some (slot [] pattern group) ≡ false = ap is_some (no_slot pattern group) in absurd (cc)
 
-plain_part : (name : ℕ → ℕ) (part : Part) → is_known [] part ≡ true → is_capture (renamed name [] part) ≡ false
-plain_part name (empty_part next) known = refl
-plain_part name (range_part low high next) known = refl
-plain_part name (sparse_part ranges) known = plain_ranges (map (λ r. (r.0, r.1, name r.2)) ranges)
-plain_part name (look_part look next) known = refl
-plain_part name (capture_start_part pattern group next) known = absurd (unknown pattern group known)
-plain_part name (capture_end_part pattern group next) known = absurd (unknown pattern group known)
-plain_part name (union_part names) known = plain_ways (map name names)
-plain_part name (union_reverse_part names) known = plain_ways (map name (reverse names))
-plain_part name fail_part known = refl
-plain_part name (match_part pattern) known = refl
+plain_draft : (name : ℕ → ℕ) (draft : DraftNode) → is_known [] draft ≡ true → is_capture (renamed name [] draft) ≡ false
+plain_draft name (empty_draft next) known = refl
+plain_draft name (range_draft low high next) known = refl
+plain_draft name (sparse_draft ranges) known = plain_ranges (map (λ r. (r.0, r.1, name r.2)) ranges)
+plain_draft name (look_draft look next) known = refl
+plain_draft name (capture_start_draft pattern group next) known = absurd (unknown pattern group known)
+plain_draft name (capture_end_draft pattern group next) known = absurd (unknown pattern group known)
+plain_draft name (union_draft names) known = plain_ways (map name names)
+plain_draft name (union_reverse_draft names) known = plain_ways (map name (reverse names))
+plain_draft name fail_draft known = refl
+plain_draft name (match_draft pattern) known = refl
 
-plain_states : (name : ℕ → ℕ) (parts : List Part) → All (λ part. is_known [] part ≡ true) parts →
-    list_any is_capture (map (renamed name []) (kept parts)) ≡ false
-plain_states name parts known =
-    let P : Part → Type 0 = λ part. is_capture (renamed name [] part) ≡ false in
-    let all : All P parts = λ k d inside. plain_part name (get_or parts k d) (known k d inside) in
-    list_any_none is_capture (map (renamed name []) (kept parts))
-    (All-map (λ node. is_capture node ≡ false) (renamed name []) (kept parts) (All-filter (λ part. is_none (stands_for part)) P parts all))
+plain_states : (name : ℕ → ℕ) (drafts : List DraftNode) → All (λ draft. is_known [] draft ≡ true) drafts →
+    list_any is_capture (map (renamed name []) (kept drafts)) ≡ false
+plain_states name drafts known =
+    let P : DraftNode → Type 0 = λ draft. is_capture (renamed name [] draft) ≡ false in
+    let all : All P drafts = λ k d inside. plain_draft name (get_or drafts k d) (known k d inside) in
+    list_any_none is_capture (map (renamed name []) (kept drafts))
+    (All-map (λ node. is_capture node ≡ false) (renamed name []) (kept drafts) (All-filter (λ draft. is_none (stands_for draft)) P drafts all))
 
 pub assembled_no_captures : (o : Options) (xs : List Tree) (b : Assembly) (A U : ℕ) → IsAssembled o xs b A U →
     is_any (captures_of o) ≡ false → list_any is_capture (automaton_of b A U).states ≡ false
 assembled_no_captures o xs b A U is none =
     let groups : b.groups ≡ [] = is.groups ∙ no_groups_noted (captures_of o) xs (none_is_kept (captures_of o) none) in
-    let P : Groups → Type 0 = λ gs. All (λ part. is_known gs part ≡ true) b.parts in
-    ap (λ (gs : Groups). list_any is_capture (map (renamed (new_name b.parts) gs) (kept b.parts))) groups
-    ∙ plain_states (new_name b.parts) b.parts (subst P groups is.can_build.known)
+    let P : Groups → Type 0 = λ gs. All (λ draft. is_known gs draft ≡ true) b.drafts in
+    ap (λ (gs : Groups). list_any is_capture (map (renamed (new_name b.drafts) gs) (kept b.drafts))) groups
+    ∙ plain_states (new_name b.drafts) b.drafts (subst P groups is.can_build.known)

@@ -29,7 +29,7 @@ use Rattle.thompson_nfa.proofs.AssembledLooks.{assembled_looks}
 use Rattle.thompson_nfa.proofs.AssembledSpans.{assembled_finds_spans}
 use Rattle.thompson_nfa.proofs.AssembledOrders.{assembled_finds_in_order}
 use Rattle.thompson_nfa.proofs.AssembledReturns.{assembled_has_no_return}
-use Rattle.thompson_nfa.proofs.AssembledParts.{assembled_has_one_match, assembled_states, assembled_patterns, assembled_always_anchored}
+use Rattle.thompson_nfa.proofs.AssembledDrafts.{assembled_has_one_match, assembled_states, assembled_patterns, assembled_always_anchored}
 use Rattle.thompson_nfa.proofs.AssembledEmpty.{assembled_empty}
 use Rattle.thompson_nfa.proofs.AssembledCaptures.{assembled_no_captures}
 
@@ -54,7 +54,7 @@ assembled_bytes : (o : Options) (xs : List Tree) (b : Assembly) (A U : ℕ) → 
 assembled_bytes o xs b A U is = capped_below (sum_of_bytes b) 18446744073709551615 (memory_of (automaton_of b A U).states) (4096 * list_room (is_shrunk o) xs) (smaller b A U) is.bytes
 
 pub assembled_is_compiled : (o : Options) (xs : List Tree) (b : Assembly) (A U : ℕ) → IsAssembled o xs b A U →
-    ((AllAnchored (reverse_of o) xs → ⊥) → past b.parts A ≢ U) → AreLedTo (automaton_of b A U) →
+    ((AllAnchored (reverse_of o) xs → ⊥) → past b.drafts A ≢ U) → AreLedTo (automaton_of b A U) →
     (n : Nfa) → n.automaton ≡ automaton_of b A U → n.utf8 ≡ b.utf8 → n.terminator ≡ b.terminator → n.groups ≡ b.groups →
     MatchOption (limit_of o) ⊤ (λ most. memory_of n.automaton.states ≤ most) → IsCompiled o xs n
 assembled_is_compiled o xs b A U is apart reached n same utf8 terminator groups limit = record {

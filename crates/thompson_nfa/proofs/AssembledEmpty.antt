@@ -12,7 +12,7 @@ use Rattle.nfa_core.specs.Places.{same_pair}
 use Rattle.nfa_core.specs.Nfa.{Node, byte_range, sparse_node, dense_node, look_node, union_node, binary_union, capture_node, fail_node, match_node, Automaton, node_at}
 use Rattle.nfa_core.specs.NfaValue.{is_match, free_steps, reached_freely, has_empty}
 use Rattle.nfa_core.specs.Ways.{Text, node_ways, on_nothing, ways, match_of, matched}
-use Rattle.nfa_core.specs.BuilderStates.{Assembly, part_at}
+use Rattle.nfa_core.specs.BuilderStates.{Assembly, draft_at}
 use Rattle.nfa_core.specs.Renaming.{new_name, automaton_of}
 use Rattle.nfa_core.proofs.ForCallers.{none_in, has_cons, has_same, has_first, has_later, names_equal, pairs_equal, from_map, match_is, listed_run, chain_listed, name_inside, is_well_formed}
 use Rattle.thompson_nfa.specs.Configs.{Options, reverse_of}
@@ -135,15 +135,15 @@ module _ (o : Options) (xs : List Tree) (b : Assembly) (A U : ℕ) (is : IsAssem
   -- each start is that of a tree
   start_of_tree : (s : ℕ) → Has nat_eq s auto.start_pattern → (p : ℕ) × (x : Tree) × (slice_get xs p ≡ Some x) × (start_of auto p ≡ s)
   start_of_tree s h =
-      let m = map_has (new_name b.parts) b.starts s h in
-      let r = accept_of (reverse_of o) (part_at b.parts) 0 b.starts xs is.accept m.0 m.1 in
-      (r.0, r.1, r.2, start_is o xs b A U is r.0 r.1 r.2 ∙ ap (new_name b.parts) r.3 ∙ m.2)
+      let m = map_has (new_name b.drafts) b.starts s h in
+      let r = accept_of (reverse_of o) (draft_at b.drafts) 0 b.starts xs is.accept m.0 m.1 in
+      (r.0, r.1, r.2, start_is o xs b A U is r.0 r.1 r.2 ∙ ap (new_name b.drafts) r.3 ∙ m.2)
 
   start_named : (p : ℕ) (x : Tree) → slice_get xs p ≡ Some x → Has nat_eq (start_of auto p) auto.start_pattern
   start_named p x got =
-      let a = accept_at (reverse_of o) (part_at b.parts) 0 b.starts xs is.accept p p x (omega arith) got in
+      let a = accept_at (reverse_of o) (draft_at b.drafts) 0 b.starts xs is.accept p p x (omega arith) got in
       let P : ℕ → Type 0 = λ q. Has nat_eq q auto.start_pattern in
-      subst P (sym (start_is o xs b A U is p x got)) (has_map (new_name b.parts) b.starts (get_or b.starts p 0) a.there)
+      subst P (sym (start_is o xs b A U is p x got)) (has_map (new_name b.drafts) b.starts (get_or b.starts p 0) a.there)
 
   start_below : (p : ℕ) (x : Tree) → slice_get xs p ≡ Some x → start_of auto p < length auto.states
   start_below p x got =

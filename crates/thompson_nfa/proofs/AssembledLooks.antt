@@ -12,7 +12,7 @@ use Rattle.hir_core.specs.Facts.{looks_used}
 use Rattle.hir_core.proofs.ForCallers.{one_has, one_held}
 use Rattle.nfa_core.specs.Nfa.{Node}
 use Rattle.nfa_core.specs.NfaValue.{look_of, looks_of}
-use Rattle.nfa_core.specs.BuilderStates.{Part, empty_part, range_part, sparse_part, look_part, capture_start_part, capture_end_part, union_part, union_reverse_part, fail_part, match_part, Assembly}
+use Rattle.nfa_core.specs.BuilderStates.{DraftNode, empty_draft, range_draft, sparse_draft, look_draft, capture_start_draft, capture_end_draft, union_draft, union_reverse_draft, fail_draft, match_draft, Assembly}
 use Rattle.nfa_core.specs.Renaming.{kept, new_name, ways_node, ranges_node, renamed, automaton_of}
 use Rattle.nfa_core.proofs.ForCallers.{has_looks}
 use Rattle.thompson_nfa.specs.Configs.{Options, reverse_of}
@@ -39,31 +39,31 @@ none_there : (l : Look) (node : Node) → look_of node ≡ 0 → has_it l node �
 none_there l node e = ap (λ (s : ℕ). has_look s l) e ∙ has_look-none l
 
 module _ (name : ℕ → ℕ) (groups : Groups) (l : Look) where
-  abbrev there : List Part → Bool
-  there parts = list_any (has_it l) (map (renamed name groups) (kept parts))
+  abbrev there : List DraftNode → Bool
+  there drafts = list_any (has_it l) (map (renamed name groups) (kept drafts))
 
-  kept_looks : (parts : List Part) → there parts ≡ looks_in parts l
+  kept_looks : (drafts : List DraftNode) → there drafts ≡ looks_in drafts l
   kept_looks [] = refl
-  kept_looks (empty_part next ∷ parts) = kept_looks parts
-  kept_looks (range_part low high next ∷ parts) = ap₂ (λ (a b : Bool). a || b) (has_look-none l) (kept_looks parts)
-  kept_looks (sparse_part ranges ∷ parts) =
-      ap₂ (λ (a b : Bool). a || b) (none_there l (renamed name groups (sparse_part ranges))
-      (no_look_ranges (map (λ r. (r.0, r.1, name r.2)) ranges))) (kept_looks parts)
-  kept_looks (look_part m next ∷ parts) = ap (λ (b : Bool). has_look (repr m) l || b) (kept_looks parts)
-  kept_looks (capture_start_part pattern group next ∷ parts) = ap₂ (λ (a b : Bool). a || b) (has_look-none l) (kept_looks parts)
-  kept_looks (capture_end_part pattern group next ∷ parts) = ap₂ (λ (a b : Bool). a || b) (has_look-none l) (kept_looks parts)
-  kept_looks (union_part [] ∷ parts) = ap₂ (λ (a b : Bool). a || b) (has_look-none l) (kept_looks parts)
-  kept_looks (union_part (a ∷ []) ∷ parts) = kept_looks parts
-  kept_looks (union_part (a ∷ b ∷ names) ∷ parts) =
-      ap₂ (λ (a b : Bool). a || b) (none_there l (renamed name groups (union_part (a ∷ b ∷ names)))
-      (no_look_ways (map name (a ∷ b ∷ names)))) (kept_looks parts)
-  kept_looks (union_reverse_part [] ∷ parts) = ap₂ (λ (a b : Bool). a || b) (has_look-none l) (kept_looks parts)
-  kept_looks (union_reverse_part (a ∷ []) ∷ parts) = kept_looks parts
-  kept_looks (union_reverse_part (a ∷ b ∷ names) ∷ parts) =
-      ap₂ (λ (a b : Bool). a || b) (none_there l (renamed name groups (union_reverse_part (a ∷ b ∷ names)))
-      (no_look_ways (map name (reverse (a ∷ b ∷ names))))) (kept_looks parts)
-  kept_looks (fail_part ∷ parts) = ap₂ (λ (a b : Bool). a || b) (has_look-none l) (kept_looks parts)
-  kept_looks (match_part pattern ∷ parts) = ap₂ (λ (a b : Bool). a || b) (has_look-none l) (kept_looks parts)
+  kept_looks (empty_draft next ∷ drafts) = kept_looks drafts
+  kept_looks (range_draft low high next ∷ drafts) = ap₂ (λ (a b : Bool). a || b) (has_look-none l) (kept_looks drafts)
+  kept_looks (sparse_draft ranges ∷ drafts) =
+      ap₂ (λ (a b : Bool). a || b) (none_there l (renamed name groups (sparse_draft ranges))
+      (no_look_ranges (map (λ r. (r.0, r.1, name r.2)) ranges))) (kept_looks drafts)
+  kept_looks (look_draft m next ∷ drafts) = ap (λ (b : Bool). has_look (repr m) l || b) (kept_looks drafts)
+  kept_looks (capture_start_draft pattern group next ∷ drafts) = ap₂ (λ (a b : Bool). a || b) (has_look-none l) (kept_looks drafts)
+  kept_looks (capture_end_draft pattern group next ∷ drafts) = ap₂ (λ (a b : Bool). a || b) (has_look-none l) (kept_looks drafts)
+  kept_looks (union_draft [] ∷ drafts) = ap₂ (λ (a b : Bool). a || b) (has_look-none l) (kept_looks drafts)
+  kept_looks (union_draft (a ∷ []) ∷ drafts) = kept_looks drafts
+  kept_looks (union_draft (a ∷ b ∷ names) ∷ drafts) =
+      ap₂ (λ (a b : Bool). a || b) (none_there l (renamed name groups (union_draft (a ∷ b ∷ names)))
+      (no_look_ways (map name (a ∷ b ∷ names)))) (kept_looks drafts)
+  kept_looks (union_reverse_draft [] ∷ drafts) = ap₂ (λ (a b : Bool). a || b) (has_look-none l) (kept_looks drafts)
+  kept_looks (union_reverse_draft (a ∷ []) ∷ drafts) = kept_looks drafts
+  kept_looks (union_reverse_draft (a ∷ b ∷ names) ∷ drafts) =
+      ap₂ (λ (a b : Bool). a || b) (none_there l (renamed name groups (union_reverse_draft (a ∷ b ∷ names)))
+      (no_look_ways (map name (reverse (a ∷ b ∷ names))))) (kept_looks drafts)
+  kept_looks (fail_draft ∷ drafts) = ap₂ (λ (a b : Bool). a || b) (has_look-none l) (kept_looks drafts)
+  kept_looks (match_draft pattern ∷ drafts) = ap₂ (λ (a b : Bool). a || b) (has_look-none l) (kept_looks drafts)
 
 -- ---- looks that are turned round
 
@@ -124,4 +124,4 @@ any_used back (x ∷ xs) l = ap₂ (λ (a b : Bool). a || b) (used_is back x l) 
 pub assembled_looks : (o : Options) (xs : List Tree) (b : Assembly) (A U : ℕ) → IsAssembled o xs b A U → (l : Look) →
     has_look (looks_of (automaton_of b A U).states) l ≡ list_any (λ x. has_look (looks_used x) (turned (reverse_of o) l)) xs
 assembled_looks o xs b A U is l =
-    has_looks (automaton_of b A U).states l ∙ kept_looks (new_name b.parts) b.groups l b.parts ∙ is.looks l ∙ any_used (reverse_of o) xs l
+    has_looks (automaton_of b A U).states l ∙ kept_looks (new_name b.drafts) b.groups l b.drafts ∙ is.looks l ∙ any_used (reverse_of o) xs l

@@ -9,7 +9,7 @@ use Rattle.nfa_core.specs.Places.{same_pair}
 use Rattle.nfa_core.specs.Nfa.{Automaton}
 use Rattle.nfa_core.specs.NfaValue.{Nfa}
 use Rattle.nfa_core.specs.Ways.{Text, ways}
-use Rattle.nfa_core.specs.BuilderStates.{Assembly, part_at}
+use Rattle.nfa_core.specs.BuilderStates.{Assembly, draft_at}
 use Rattle.nfa_core.specs.Renaming.{new_name, automaton_of}
 use Rattle.nfa_core.proofs.ForCallers.{chains_once}
 use Rattle.thompson_nfa.specs.Configs.{Options, reverse_of}
@@ -21,20 +21,20 @@ use Rattle.thompson_nfa.proofs.TriedPlaces.{tries_halt}
 use Rattle.thompson_nfa.proofs.AnchorLemmas.{halts_at_once}
 
 module _ (o : Options) (xs : List Tree) (b : Assembly) (A U : ℕ) (is : IsAssembled o xs b A U) (reading : All LoopsRead xs) where
-  anchored_ends : (t : Text) (i : ℕ) → ComesToEnd (reverse_of o) t (part_at b.parts) (i, A)
-  anchored_ends t i = all_end (reverse_of o) t (part_at b.parts) A b.starts xs i is.leads is.accept reading
+  anchored_ends : (t : Text) (i : ℕ) → ComesToEnd (reverse_of o) t (draft_at b.drafts) (i, A)
+  anchored_ends t i = all_end (reverse_of o) t (draft_at b.drafts) A b.starts xs i is.leads is.accept reading
 
   -- in any text
-  unanchored_ends : (t : Text) (i : ℕ) → ComesToEnd (reverse_of o) t (part_at b.parts) (i, U)
+  unanchored_ends : (t : Text) (i : ℕ) → ComesToEnd (reverse_of o) t (draft_at b.drafts) (i, U)
   unanchored_ends t i = elim is.before [
-    | inl x ↦ (halts_at_once (reverse_of o) t (part_at b.parts) U A x.1).halts i (λ j m. anchored_ends t j)
-    | inr x ↦ (tries_halt (reverse_of o) t (part_at b.parts) U A x.1).halts i (λ j m. anchored_ends t j)
+    | inl x ↦ (halts_at_once (reverse_of o) t (draft_at b.drafts) U A x.1).halts i (λ j m. anchored_ends t j)
+    | inr x ↦ (tries_halt (reverse_of o) t (draft_at b.drafts) U A x.1).halts i (λ j m. anchored_ends t j)
   ]
 
-  returns_never : (t : Text) (i : ℕ) (r : List (ℕ × ℕ)) → i ≤ t.end → IsChain same_pair (ways (automaton_of b A U) t) (i, new_name b.parts U) r →
-      HasNoneTwice same_pair ((i, new_name b.parts U) ∷ r)
+  returns_never : (t : Text) (i : ℕ) (r : List (ℕ × ℕ)) → i ≤ t.end → IsChain same_pair (ways (automaton_of b A U) t) (i, new_name b.drafts U) r →
+      HasNoneTwice same_pair ((i, new_name b.drafts U) ∷ r)
   returns_never t i r place chain =
-      let P : Bool → Type 0 = λ back. ComesToEnd back t (part_at b.parts) (i, U) in
+      let P : Bool → Type 0 = λ back. ComesToEnd back t (draft_at b.drafts) (i, U) in
       let walk = subst P (sym is.reverse) (unanchored_ends t i) in
       chains_once b A U is.can_build t U i is.can_build.unanchored_there place walk.0 walk.1 r chain
 

@@ -10,7 +10,7 @@ use Rattle.nfa_core.specs.Places.{same_pair}
 use Rattle.nfa_core.specs.Nfa.{Automaton}
 use Rattle.nfa_core.specs.NfaValue.{Nfa}
 use Rattle.nfa_core.specs.Ways.{Text, ends_from}
-use Rattle.nfa_core.specs.BuilderStates.{Assembly, part_at}
+use Rattle.nfa_core.specs.BuilderStates.{Assembly, draft_at}
 use Rattle.nfa_core.specs.Renaming.{new_name, automaton_of}
 use Rattle.nfa_core.specs.Drafted.{Table}
 use Rattle.nfa_core.proofs.ForCallers.{ends_found, found_end}
@@ -32,14 +32,14 @@ module _ (o : Options) (xs : List Tree) (b : Assembly) (A U : ℕ) (is : IsAssem
   abbrev pub built : Automaton
   built = automaton_of b A U
 
-  abbrev pub parts : Table
-  parts = part_at b.parts
+  abbrev pub drafts : Table
+  drafts = draft_at b.drafts
 
   -- what chains from a state find are the ends from it
-  ends_are_found : (t : Text) (q : ℕ) (choices : ℕ → ℕ × ℕ → Type 0) → q < length b.parts → FindsChoices (reverse_of o) t parts q choices →
-      (i : ℕ) (e : ℕ × ℕ) → i ≤ t.end → Has same_pair e (ends_from built t (i, new_name b.parts q)) ↔ choices i e
+  ends_are_found : (t : Text) (q : ℕ) (choices : ℕ → ℕ × ℕ → Type 0) → q < length b.drafts → FindsChoices (reverse_of o) t drafts q choices →
+      (i : ℕ) (e : ℕ × ℕ) → i ≤ t.end → Has same_pair e (ends_from built t (i, new_name b.drafts q)) ↔ choices i e
   ends_are_found t q choices inside finds i e place =
-      let F : Bool → Type 0 = λ r. Finds r t parts (i, q) e in (
+      let F : Bool → Type 0 = λ r. Finds r t drafts (i, q) e in (
         λ h. finds.sound i e (subst F is.reverse (ends_found b A U is.can_build t q i inside place e h)),
         λ choice.
             let f = subst F (sym is.reverse) (finds.complete i e choice) in
@@ -47,31 +47,31 @@ module _ (o : Options) (xs : List Tree) (b : Assembly) (A U : ℕ) (is : IsAssem
       )
 
   -- the name of a pattern's start
-  pub start_is : (p : ℕ) (x : Tree) → slice_get xs p ≡ Some x → start_of built p ≡ new_name b.parts (get_or b.starts p 0)
+  pub start_is : (p : ℕ) (x : Tree) → slice_get xs p ≡ Some x → start_of built p ≡ new_name b.drafts (get_or b.starts p 0)
   start_is p x got =
-      let n = accept_count (reverse_of o) parts 0 b.starts xs is.accept in
+      let n = accept_count (reverse_of o) drafts 0 b.starts xs is.accept in
       let inside = slice_get_within xs p x got in
-      get_or-map (new_name b.parts) b.starts p 0 0 (omega arith)
+      get_or-map (new_name b.drafts) b.starts p 0 0 (omega arith)
 
-  pub start_inside : (p : ℕ) (x : Tree) → slice_get xs p ≡ Some x → get_or b.starts p 0 < length b.parts
+  pub start_inside : (p : ℕ) (x : Tree) → slice_get xs p ≡ Some x → get_or b.starts p 0 < length b.drafts
   start_inside p x got =
-      let n = accept_count (reverse_of o) parts 0 b.starts xs is.accept in
+      let n = accept_count (reverse_of o) drafts 0 b.starts xs is.accept in
       let inside = slice_get_within xs p x got in
-      All-get_or (λ q. q < length b.parts) b.starts p 0 (omega arith) is.can_build.starts_there
+      All-get_or (λ q. q < length b.drafts) b.starts p 0 (omega arith) is.can_build.starts_there
 
   pub patterns_found : (p : ℕ) (x : Tree) → slice_get xs p ≡ Some x → (t : Text) (i : ℕ) (e : ℕ × ℕ) → i ≤ t.end →
       Has same_pair e (ends_from built t (i, start_of built p)) ↔ ((e.1 ≡ p) × IsMeant (reverse_of o) t x i e.0)
   patterns_found p x got t i e place =
       let q : ℕ = get_or b.starts p 0 in
       let P : ℕ → Type 0 = λ s. Has same_pair e (ends_from built t (i, s)) ↔ ((e.1 ≡ p) × IsMeant (reverse_of o) t x i e.0) in
-      let a = accept_at (reverse_of o) parts 0 b.starts xs is.accept p p x (omega arith) got in
+      let a = accept_at (reverse_of o) drafts 0 b.starts xs is.accept p p x (omega arith) got in
       subst P (sym (start_is p x got))
-      (ends_are_found t q (λ k c. (c.1 ≡ p) × IsMeant (reverse_of o) t x k c.0) (start_inside p x got) (accepts_finds (reverse_of o) t parts q p x a.accepts) i e place)
+      (ends_are_found t q (λ k c. (c.1 ≡ p) × IsMeant (reverse_of o) t x k c.0) (start_inside p x got) (accepts_finds (reverse_of o) t drafts q p x a.accepts) i e place)
 
-  choices : (t : Text) → FindsChoices (reverse_of o) t parts A (IsChoice (reverse_of o) xs t)
-  choices t = all_find (reverse_of o) t parts A b.starts xs is.leads is.accept
+  choices : (t : Text) → FindsChoices (reverse_of o) t drafts A (IsChoice (reverse_of o) xs t)
+  choices t = all_find (reverse_of o) t drafts A b.starts xs is.leads is.accept
 
-  pub anchored_found : (t : Text) (i : ℕ) (e : ℕ × ℕ) → i ≤ t.end → Has same_pair e (ends_from built t (i, new_name b.parts A))
+  pub anchored_found : (t : Text) (i : ℕ) (e : ℕ × ℕ) → i ≤ t.end → Has same_pair e (ends_from built t (i, new_name b.drafts A))
       ↔ IsChoice (reverse_of o) xs t i e
   anchored_found t i e place = ends_are_found t A (IsChoice (reverse_of o) xs t) is.can_build.anchored_there (choices t) i e place
 
@@ -79,24 +79,24 @@ module _ (o : Options) (xs : List Tree) (b : Assembly) (A U : ℕ) (is : IsAssem
     abbrev Somewhere : Type 0
     Somewhere = (k : ℕ) × IsReadTo (reverse_of o) t i k × IsChoice (reverse_of o) xs t k e
 
-    behind : (meant : ℕ → ℕ → Type 0) → FindsChoices (reverse_of o) t parts U (λ j c. (k : ℕ) × meant j k × IsChoice (reverse_of o) xs t k c) →
+    behind : (meant : ℕ → ℕ → Type 0) → FindsChoices (reverse_of o) t drafts U (λ j c. (k : ℕ) × meant j k × IsChoice (reverse_of o) xs t k c) →
         ((k : ℕ) → meant i k → IsReadTo (reverse_of o) t i k) → ((k : ℕ) → IsReadTo (reverse_of o) t i k → IsChoice (reverse_of o) xs t k e → meant i k) →
-        Has same_pair e (ends_from built t (i, new_name b.parts U)) ↔ Somewhere
+        Has same_pair e (ends_from built t (i, new_name b.drafts U)) ↔ Somewhere
     behind meant finds wide narrow =
         let both = ends_are_found t U (λ j c. (k : ℕ) × meant j k × IsChoice (reverse_of o) xs t k c) is.can_build.unanchored_there finds i e high in (
           λ has. let x = both.0 has in (x.0, wide x.0 x.1, x.2),
           λ x. both.1 (x.0, narrow x.0 x.1 x.2, x.2),
         )
 
-    unanchored_found : Has same_pair e (ends_from built t (i, new_name b.parts U)) ↔ Somewhere
+    unanchored_found : Has same_pair e (ends_from built t (i, new_name b.drafts U)) ↔ Somewhere
     unanchored_found = elim is.before [
       | inl x ↦ behind (λ j k. j ≡ k)
-          (finds_behind (reverse_of o) t parts U A (λ j k. j ≡ k) (IsChoice (reverse_of o) xs t) (reaches_at_once (reverse_of o) t parts U A x.1) (choices t))
+          (finds_behind (reverse_of o) t drafts U A (λ j k. j ≡ k) (IsChoice (reverse_of o) xs t) (reaches_at_once (reverse_of o) t drafts U A x.1) (choices t))
           (λ k same. read_here (reverse_of o) t i k high same)
           (λ k read choice. anchored_place t read_well (reverse_of o) xs i k e x.0 low high read choice)
       | inr x ↦ behind (λ j k. (n : ℕ) × Rounds (Moves (reverse_of o) t) n j k)
-          (finds_behind (reverse_of o) t parts U A (λ j k. (n : ℕ) × Rounds (Moves (reverse_of o) t) n j k) (IsChoice (reverse_of o) xs t)
-          (tries_places (reverse_of o) t parts U A x.1) (choices t))
+          (finds_behind (reverse_of o) t drafts U A (λ j k. (n : ℕ) × Rounds (Moves (reverse_of o) t) n j k) (IsChoice (reverse_of o) xs t)
+          (tries_places (reverse_of o) t drafts U A x.1) (choices t))
           (λ k r. rounds_read (reverse_of o) t r.0 i k high r.1)
           (λ k read choice. read_rounds (reverse_of o) t i k
           (record { within = read_well.within; bytes = read_well.bytes }) low high read)

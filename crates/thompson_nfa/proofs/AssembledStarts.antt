@@ -5,7 +5,7 @@ use Rattle.std.specs.Bool.{nat_eq}
 use Rattle.std.specs.List.{flat_map}
 use Rattle.std.proofs.lemmas.Bool.{cases_Bool, le-ltb, eqb-true, eq-eqb}
 use Rattle.hir_core.specs.Tree.{Tree}
-use Rattle.nfa_core.specs.BuilderStates.{Assembly, part_at, union_part, fail_part}
+use Rattle.nfa_core.specs.BuilderStates.{Assembly, draft_at, union_draft, fail_draft}
 use Rattle.nfa_core.specs.Drafted.{Table, table_ways}
 use Rattle.nfa_core.specs.Nfa.{Automaton}
 use Rattle.nfa_core.specs.Places.{same_pair}
@@ -33,7 +33,7 @@ module _ (o : Options) (xs : List Tree) (b : Assembly) (A U : ℕ) (is : IsAssem
   auto = automaton_of b A U
 
   abbrev T : Table
-  T = part_at b.parts
+  T = draft_at b.drafts
 
   -- the states on which what patterns do doesn't depend
   abbrev out : ℕ → Bool
@@ -51,8 +51,8 @@ module _ (o : Options) (xs : List Tree) (b : Assembly) (A U : ℕ) (is : IsAssem
       IsChain same_pair (table_ways b.reverse t T) (i, s) r → out (last_or (i, s) r).1 ≡ true → ⊥
   stays_in t s i r has c e = kept_off b.reverse t T out b.starts xs accept_free s i r has c e
 
-  start_there : (s : ℕ) → Has nat_eq s b.starts → s < length b.parts
-  start_there s has = every_of_all (λ q. q < length b.parts) b.starts is.can_build.starts_there s has
+  start_there : (s : ℕ) → Has nat_eq s b.starts → s < length b.drafts
+  start_there s has = every_of_all (λ q. q < length b.drafts) b.starts is.can_build.starts_there s has
 
   abbrev pub ends : Text → ℕ × ℕ → List (ℕ × ℕ)
   ends t p = ends_from auto t p
@@ -64,45 +64,45 @@ module _ (o : Options) (xs : List Tree) (b : Assembly) (A U : ℕ) (is : IsAssem
 
   -- ---- a union of the starts
 
-  module _ (kept_a : stands_for (part_at b.parts A) ≡ None) (union : part_at b.parts A ≡ union_part b.starts) (hole : is.free.hole ≡ A)
+  module _ (kept_a : stands_for (draft_at b.drafts A) ≡ None) (union : draft_at b.drafts A ≡ union_draft b.starts) (hole : is.free.hole ≡ A)
       (t : Text) (i : ℕ) (place : i ≤ t.end) where
-    a_ways : ways auto t (i, new_name b.parts A) ≡ map (renamed_pair b.parts) (each_at b.starts i)
+    a_ways : ways auto t (i, new_name b.drafts A) ≡ map (renamed_pair b.drafts) (each_at b.starts i)
     a_ways = state_ways b A U A i t is.can_build.anchored_there kept_a
-        ∙ ap (map (renamed_pair b.parts)) ((goes_union b.reverse t T A b.starts union).ways i)
+        ∙ ap (map (renamed_pair b.drafts)) ((goes_union b.reverse t T A b.starts union).ways i)
 
-    a_open : matched auto (i, new_name b.parts A) ≡ None
+    a_open : matched auto (i, new_name b.drafts A) ≡ None
     a_open = state_match b A U A i is.can_build.anchored_there kept_a ∙ (goes_union b.reverse t T A b.starts union).is_open i
 
     out_a : out A ≡ true
     out_a = ap (λ (k : Bool). nat_lt A is.low || k) (eq-eqb A is.free.hole (sym hole)) ∙ or_right (nat_lt A is.low)
 
-    a_apart : (q : ℕ × ℕ) → Has same_pair q (ways auto t (i, new_name b.parts A)) → (r : List (ℕ × ℕ)) →
+    a_apart : (q : ℕ × ℕ) → Has same_pair q (ways auto t (i, new_name b.drafts A)) → (r : List (ℕ × ℕ)) →
         IsChain same_pair (ways auto t) q r →
-        last_or q r ≡ (i, new_name b.parts A) → ⊥
+        last_or q r ≡ (i, new_name b.drafts A) → ⊥
     a_apart q h r chain last =
         let W : List (ℕ × ℕ) → Type 0 = λ ws. Has same_pair q ws in
         let C : ℕ × ℕ → Type 0 = λ k. IsChain same_pair (ways auto t) k r in
-        let w = from_mapped same_pair pairs_equal same_pair pairs_equal (renamed_pair b.parts) q (each_at b.starts i)
+        let w = from_mapped same_pair pairs_equal same_pair pairs_equal (renamed_pair b.drafts) q (each_at b.starts i)
         (subst W a_ways h) in
         let s = from_map i w.0 b.starts w.1 in
-        let e : q ≡ (i, new_name b.parts s.0) = w.2 ∙ ap (renamed_pair b.parts) s.2 in
-        let end : (last_or (i, new_name b.parts s.0) r).1 ≡ new_name b.parts A = ap (λ (k : ℕ × ℕ). (last_or k r).1) (sym e)
+        let e : q ≡ (i, new_name b.drafts s.0) = w.2 ∙ ap (renamed_pair b.drafts) s.2 in
+        let end : (last_or (i, new_name b.drafts s.0) r).1 ≡ new_name b.drafts A = ap (λ (k : ℕ × ℕ). (last_or k r).1) (sym e)
         ∙ ap (λ (k : ℕ × ℕ). k.1) last in
         let back =
         chain_to b A U is.can_build t A is.can_build.anchored_there kept_a s.0 i r (start_there s.0 s.1) (subst C e chain) end in
         stays_in t s.0 i back.0 s.1 back.1 (ap out back.2 ∙ out_a)
 
-    pub union_ends : ends t (i, new_name b.parts A)
-        ≡ distinct same_pair (flat_map (ends t) (map (renamed_pair b.parts) (each_at b.starts i)))
+    pub union_ends : ends t (i, new_name b.drafts A)
+        ≡ distinct same_pair (flat_map (ends t) (map (renamed_pair b.drafts) (each_at b.starts i)))
     union_ends =
-        ends_by_ways auto t (i, new_name b.parts A) (is_well_formed b A U is.can_build)
+        ends_by_ways auto t (i, new_name b.drafts A) (is_well_formed b A U is.can_build)
         (place, name_inside b A U is.can_build A is.can_build.anchored_there) a_apart a_open
         ∙ ap (λ (ws : List (ℕ × ℕ)). distinct same_pair (flat_map (ends t) ws)) a_ways
 
   -- the ends from starts that follow one another in a list
   starts_listed : (t : Text) (i : ℕ) (all ss : List ℕ) (k : ℕ) →
-      ((n : ℕ) → n < length ss → get_or all (k + n) 0 ≡ get_or (map (new_name b.parts) ss) n 0) →
-      flat_map (ends t) (map (renamed_pair b.parts) (each_at ss i))
+      ((n : ℕ) → n < length ss → get_or all (k + n) 0 ≡ get_or (map (new_name b.drafts) ss) n 0) →
+      flat_map (ends t) (map (renamed_pair b.drafts) (each_at ss i))
       ≡ flat_map (λ p. ends t (i, get_or all p 0)) (places_from k (length ss))
   starts_listed t i all [] k same = refl
   starts_listed t i all (s ∷ ss) k same =
@@ -113,47 +113,47 @@ module _ (o : Options) (xs : List Tree) (b : Assembly) (A U : ℕ) (is : IsAssem
       (λ n l. ap (λ (m : ℕ). get_or all m 0) (let e : suc k + n ≡ k + suc n = omega arith in e) ∙ same (suc n) (omega arith)))
 
   all_listed : (t : Text) (i : ℕ) →
-      flat_map (ends t) (map (renamed_pair b.parts) (each_at b.starts i))
+      flat_map (ends t) (map (renamed_pair b.drafts) (each_at b.starts i))
       ≡ flat_map (λ p. ends t (i, start_of auto p)) (places_from 0 (length xs))
   all_listed t i =
-      starts_listed t i (map (new_name b.parts) b.starts) b.starts 0
-      (λ n l. ap (λ (m : ℕ). get_or (map (new_name b.parts) b.starts) m 0) (let e : 0 + n ≡ n = omega arith in e))
+      starts_listed t i (map (new_name b.drafts) b.starts) b.starts 0
+      (λ n l. ap (λ (m : ℕ). get_or (map (new_name b.drafts) b.starts) m 0) (let e : 0 + n ≡ n = omega arith in e))
       ∙ ap (λ (n : ℕ). flat_map (λ p. ends t (i, start_of auto p)) (places_from 0 n))
       (accept_count b.reverse T 0 b.starts xs (accept_free T (λ q e. refl)))
 
   -- one start alone
-  one_listed : (t : Text) (i s : ℕ) → b.starts ≡ s ∷ [] → new_name b.parts A ≡ new_name b.parts s →
-      ends t (i, new_name b.parts A) ≡ distinct same_pair (flat_map (ends t) (map (renamed_pair b.parts) (each_at b.starts i)))
+  one_listed : (t : Text) (i s : ℕ) → b.starts ≡ s ∷ [] → new_name b.drafts A ≡ new_name b.drafts s →
+      ends t (i, new_name b.drafts A) ≡ distinct same_pair (flat_map (ends t) (map (renamed_pair b.drafts) (each_at b.starts i)))
   one_listed t i s one same =
-      ap (λ (k : ℕ). ends t (i, k)) same ∙ sym (ends_again t (i, new_name b.parts s))
-      ∙ ap (λ (ss : List ℕ). distinct same_pair (flat_map (ends t) (map (renamed_pair b.parts) (each_at ss i)))) (sym one)
+      ap (λ (k : ℕ). ends t (i, k)) same ∙ sym (ends_again t (i, new_name b.drafts s))
+      ∙ ap (λ (ss : List ℕ). distinct same_pair (flat_map (ends t) (map (renamed_pair b.drafts) (each_at ss i)))) (sym one)
 
-  union_listed : (starts : List ℕ) → b.starts ≡ starts → part_at b.parts A ≡ union_part b.starts → is.free.hole ≡ A →
+  union_listed : (starts : List ℕ) → b.starts ≡ starts → draft_at b.drafts A ≡ union_draft b.starts → is.free.hole ≡ A →
       (t : Text) (i : ℕ) → i ≤ t.end →
-      ends t (i, new_name b.parts A) ≡ distinct same_pair (flat_map (ends t) (map (renamed_pair b.parts) (each_at b.starts i)))
-  union_listed [] e union hole t i place = union_ends (ap stands_for (union ∙ ap union_part e)) union hole t i place
+      ends t (i, new_name b.drafts A) ≡ distinct same_pair (flat_map (ends t) (map (renamed_pair b.drafts) (each_at b.starts i)))
+  union_listed [] e union hole t i place = union_ends (ap stands_for (union ∙ ap union_draft e)) union hole t i place
   union_listed (s ∷ []) e union hole t i place =
-      one_listed t i s e (ap (λ k. length (kept (take k b.parts)))
-      (past_next b.parts is.can_build.no_loop A s (ap stands_for (union ∙ ap union_part e))))
-  union_listed (s ∷ r ∷ ss) e union hole t i place = union_ends (ap stands_for (union ∙ ap union_part e)) union hole t i place
+      one_listed t i s e (ap (λ k. length (kept (take k b.drafts)))
+      (past_next b.drafts is.can_build.no_loop A s (ap stands_for (union ∙ ap union_draft e))))
+  union_listed (s ∷ r ∷ ss) e union hole t i place = union_ends (ap stands_for (union ∙ ap union_draft e)) union hole t i place
 
-  fail_listed : (t : Text) (i : ℕ) → i ≤ t.end → b.starts ≡ [] → part_at b.parts A ≡ fail_part →
-      ends t (i, new_name b.parts A) ≡ distinct same_pair (flat_map (ends t) (map (renamed_pair b.parts) (each_at b.starts i)))
+  fail_listed : (t : Text) (i : ℕ) → i ≤ t.end → b.starts ≡ [] → draft_at b.drafts A ≡ fail_draft →
+      ends t (i, new_name b.drafts A) ≡ distinct same_pair (flat_map (ends t) (map (renamed_pair b.drafts) (each_at b.starts i)))
   fail_listed t i place none fails =
-      let stands : stands_for (part_at b.parts A) ≡ None = ap stands_for fails in
+      let stands : stands_for (draft_at b.drafts A) ≡ None = ap stands_for fails in
       let go = goes_fail b.reverse t T A fails in
-      let nowhere : ways auto t (i, new_name b.parts A) ≡ [] = state_ways b A U A i t is.can_build.anchored_there stands
-      ∙ ap (map (renamed_pair b.parts)) (go.ways i) in
+      let nowhere : ways auto t (i, new_name b.drafts A) ≡ [] = state_ways b A U A i t is.can_build.anchored_there stands
+      ∙ ap (map (renamed_pair b.drafts)) (go.ways i) in
       let W : ℕ × ℕ → List (ℕ × ℕ) → Type 0 = λ q ws. Has same_pair q ws in
-      ends_by_ways auto t (i, new_name b.parts A) (is_well_formed b A U is.can_build)
+      ends_by_ways auto t (i, new_name b.drafts A) (is_well_formed b A U is.can_build)
       (place, name_inside b A U is.can_build A is.can_build.anchored_there)
       (λ q h r chain last. none_in same_pair q _ (subst (W q) nowhere h))
       (state_match b A U A i is.can_build.anchored_there stands ∙ go.is_open i)
       ∙ ap (λ (ws : List (ℕ × ℕ)). distinct same_pair (flat_map (ends t) ws))
-      (nowhere ∙ ap (λ (ss : List ℕ). map (renamed_pair b.parts) (each_at ss i)) (sym none))
+      (nowhere ∙ ap (λ (ss : List ℕ). map (renamed_pair b.drafts) (each_at ss i)) (sym none))
 
   pub anchored_starts : (t : Text) (i : ℕ) → i ≤ t.end →
-      ends t (i, new_name b.parts A) ≡ distinct same_pair (flat_map (λ p. ends t (i, start_of auto p)) (places_from 0 (length xs)))
+      ends t (i, new_name b.drafts A) ≡ distinct same_pair (flat_map (λ p. ends t (i, start_of auto p)) (places_from 0 (length xs)))
   anchored_starts t i place =
       (elim is.leads [
         | inl one ↦ one_listed t i A one refl

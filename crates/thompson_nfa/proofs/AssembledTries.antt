@@ -1,4 +1,4 @@
--- The unanchored start of the automaton that is built of a compile's states, for one who reads up: it leads to the anchored
+-- The unanchored start of the automaton that is built of a compile's states, for one who reads forward: it leads to the anchored
 -- one at one place after the other.
 use Rattle.std.proofs.Common.{◌≡◌, ℕ, zero, suc, ◌+◌, ◌-◌, ◌<◌, ◌≤◌, ◌||◌, nat_lt, Bool, true, false, List, [], ◌∷◌, ◌++◌, map, length, take, inl, inr, ⊎_elim, if◌then◌else◌, Option, Some, None, refl, sym, ap, ap₂, ◌∙◌, subst, arith, append-nil}
 use Rattle.std.specs.Prelude.{All}
@@ -8,7 +8,7 @@ use Rattle.std.proofs.lemmas.Bool.{lt-ltb, le-ltb, cases_lt}
 use Rattle.std.proofs.lemmas.List.Elements.{All-get_or, All-head}
 use Rattle.search_core.specs.Text.{byte_at}
 use Rattle.hir_core.specs.Tree.{Tree}
-use Rattle.nfa_core.specs.BuilderStates.{Part, Assembly, part_at, empty_part, sparse_part, union_reverse_part, fail_part}
+use Rattle.nfa_core.specs.BuilderStates.{DraftNode, Assembly, draft_at, empty_draft, sparse_draft, union_reverse_draft, fail_draft}
 use Rattle.nfa_core.specs.CanBuild.{names_of}
 use Rattle.nfa_core.specs.Drafted.{Table, table_ways}
 use Rattle.nfa_core.specs.Nfa.{node_at}
@@ -25,7 +25,7 @@ use Rattle.thompson_nfa.specs.Denotes.{at}
 use Rattle.thompson_nfa.proofs.AnchorLemmas.{anchored_place}
 use Rattle.thompson_nfa.proofs.AssembledSpans.{anchored_found}
 use Rattle.thompson_nfa.proofs.AssembledStarts.{stays_in, ends, ends_again}
-use Rattle.thompson_nfa.proofs.TriedPlaces.{any_range, any_ends, IsText, ends_up}
+use Rattle.thompson_nfa.proofs.TriedPlaces.{any_range, any_ends, IsText, ends_forward}
 use Rattle.thompson_nfa.proofs.WayLemmas.{byte_ends, Goes, goes_union, goes_fail, goes_choice, goes_sparse}
 
 or_left : (a b : Bool) → a ≡ true → (a || b) ≡ true
@@ -52,7 +52,7 @@ nothing_read t i l =
 
 module _ (o : Options) (xs : List Tree) (b : Assembly) (A U : ℕ) (is : IsAssembled o xs b A U) (up : b.reverse ≡ false) (t : Text) where
   abbrev T : Table
-  T = part_at b.parts
+  T = draft_at b.drafts
 
   abbrev go : ℕ × ℕ → List (ℕ × ℕ)
   go p = ways (automaton_of b A U) t p
@@ -62,8 +62,8 @@ module _ (o : Options) (xs : List Tree) (b : Assembly) (A U : ℕ) (is : IsAssem
 
   -- ---- places only go up
 
-  way_up : (p q : ℕ × ℕ) → Has same_pair q (go p) → p.0 ≤ q.0
-  way_up p q h =
+  way_forward : (p q : ℕ × ℕ) → Has same_pair q (go p) → p.0 ≤ q.0
+  way_forward p q h =
       let node = node_at (automaton_of b A U) p.1 in
       let read : Option (ℕ × ℕ) = reads b.reverse t p.0 in
       let R : Bool → Type 0 = λ back. p.0 ≤ place_behind p.0 (reads back t p.0) in
@@ -76,13 +76,13 @@ module _ (o : Options) (xs : List Tree) (b : Assembly) (A U : ℕ) (is : IsAssem
       (λ w g. let m = from_map p.0 w (on_nothing node (λ l. is_passed b.reverse t l p.0)) g in let e : w.0 ≡ p.0 =
       ap (λ (k : ℕ × ℕ). k.0) m.2 in omega (arith, e)) q h
 
-  chain_up : (p : ℕ × ℕ) (r : List (ℕ × ℕ)) → IsChain same_pair go p r → p.0 ≤ (last_or p r).0
-  chain_up p [] c = omega arith
-  chain_up p (q ∷ r) c = let a = way_up p q c.0 in let l = chain_up q r c.1 in omega (arith, a, l)
+  chain_forward : (p : ℕ × ℕ) (r : List (ℕ × ℕ)) → IsChain same_pair go p r → p.0 ≤ (last_or p r).0
+  chain_forward p [] c = omega arith
+  chain_forward p (q ∷ r) c = let a = way_forward p q c.0 in let l = chain_forward q r c.1 in omega (arith, a, l)
 
   -- ---- no chain from the anchored start comes to the other
 
-  module _ (kept_u : stands_for (part_at b.parts U) ≡ None) where
+  module _ (kept_u : stands_for (draft_at b.drafts U) ≡ None) where
     starts_apart : (s i : ℕ) (r : List (ℕ × ℕ)) → Has nat_eq s b.starts → IsChain same_pair (table_ways b.reverse t T) (i, s) r →
         (last_or (i, s) r).1 ≡ U → ⊥
     starts_apart s i r has c last =
@@ -106,8 +106,8 @@ module _ (o : Options) (xs : List Tree) (b : Assembly) (A U : ℕ) (is : IsAssem
           ]
         ]
 
-    anchored_apart : (i : ℕ) (r : List (ℕ × ℕ)) → IsChain same_pair go (i, new_name b.parts A) r →
-        last_or (i, new_name b.parts A) r ≡ (i, new_name b.parts U) → ⊥
+    anchored_apart : (i : ℕ) (r : List (ℕ × ℕ)) → IsChain same_pair go (i, new_name b.drafts A) r →
+        last_or (i, new_name b.drafts A) r ≡ (i, new_name b.drafts U) → ⊥
     anchored_apart i r c last =
         let back =
         chain_to b A U is.can_build t U is.can_build.unanchored_there kept_u A i r is.can_build.anchored_there c
@@ -117,19 +117,19 @@ module _ (o : Options) (xs : List Tree) (b : Assembly) (A U : ℕ) (is : IsAssem
   -- ---- each place is tried
 
   module _ (x : TriesEachPlace T U A) (text : IsText t) where
-    kept_u : stands_for (part_at b.parts U) ≡ None
+    kept_u : stands_for (draft_at b.drafts U) ≡ None
     kept_u = ap stands_for x.loop
 
-    kept_byte : stands_for (part_at b.parts x.byte) ≡ None
+    kept_byte : stands_for (draft_at b.drafts x.byte) ≡ None
     kept_byte = ap stands_for x.any
 
-    byte_there : x.byte < length b.parts
+    byte_there : x.byte < length b.drafts
     byte_there =
-        let named : All (λ r. r < length b.parts) (names_of (part_at b.parts U)) =
-        All-get_or (λ part. All (λ r. r < length b.parts)
-        (names_of part)) b.parts U fail_part is.can_build.unanchored_there is.can_build.named in
-        let N : Part → Type 0 = λ part. All (λ r. r < length b.parts) (names_of part) in
-        All-head (λ r. r < length b.parts) x.byte (A ∷ []) (subst N x.loop named)
+        let named : All (λ r. r < length b.drafts) (names_of (draft_at b.drafts U)) =
+        All-get_or (λ draft. All (λ r. r < length b.drafts)
+        (names_of draft)) b.drafts U fail_draft is.can_build.unanchored_there is.can_build.named in
+        let N : DraftNode → Type 0 = λ draft. All (λ r. r < length b.drafts) (names_of draft) in
+        All-head (λ r. r < length b.drafts) x.byte (A ∷ []) (subst N x.loop named)
 
     u_goes : Goes b.reverse t T U (λ i. (i, A) ∷ (i, x.byte) ∷ [])
     u_goes = goes_choice b.reverse t T U false x.byte A x.loop
@@ -137,25 +137,25 @@ module _ (o : Options) (xs : List Tree) (b : Assembly) (A U : ℕ) (is : IsAssem
     byte_goes : Goes b.reverse t T x.byte (λ i. at x.back (byte_ends any_range (reads b.reverse t i)))
     byte_goes = goes_sparse b.reverse t T x.byte any_range x.back x.any
 
-    u_ways : (i : ℕ) → go (i, new_name b.parts U) ≡ (i, new_name b.parts A) ∷ (i, new_name b.parts x.byte) ∷ []
-    u_ways i = state_ways b A U U i t is.can_build.unanchored_there kept_u ∙ ap (map (renamed_pair b.parts)) (u_goes.ways i)
+    u_ways : (i : ℕ) → go (i, new_name b.drafts U) ≡ (i, new_name b.drafts A) ∷ (i, new_name b.drafts x.byte) ∷ []
+    u_ways i = state_ways b A U U i t is.can_build.unanchored_there kept_u ∙ ap (map (renamed_pair b.drafts)) (u_goes.ways i)
 
     byte_ways : (i : ℕ) (js : List ℕ) → any_ends false t i ≡ js →
-        go (i, new_name b.parts x.byte) ≡ map (renamed_pair b.parts) (at x.back js)
+        go (i, new_name b.drafts x.byte) ≡ map (renamed_pair b.drafts) (at x.back js)
     byte_ways i js e =
         let R : Bool → Type 0 = λ back. any_ends back t i ≡ js in
         let read : any_ends b.reverse t i ≡ js = subst R (sym up) e in
-        state_ways b A U x.byte i t byte_there kept_byte ∙ ap (map (renamed_pair b.parts)) (byte_goes.ways i)
-        ∙ ap (λ (k : List ℕ). map (renamed_pair b.parts) (at x.back k)) read
+        state_ways b A U x.byte i t byte_there kept_byte ∙ ap (map (renamed_pair b.drafts)) (byte_goes.ways i)
+        ∙ ap (λ (k : List ℕ). map (renamed_pair b.drafts) (at x.back k)) read
 
     -- where a byte is read one is a place further on
-    byte_moves : (i : ℕ) (q : ℕ × ℕ) → Has same_pair q (go (i, new_name b.parts x.byte)) → suc i ≤ q.0
+    byte_moves : (i : ℕ) (q : ℕ × ℕ) → Has same_pair q (go (i, new_name b.drafts x.byte)) → suc i ≤ q.0
     byte_moves i q h =
         let W : List (ℕ × ℕ) → Type 0 = λ ws. Has same_pair q ws in
         ⊎_elim
         (λ (less : i < t.end).
-        let m = has_cons same_pair pairs_equal q (suc i, new_name b.parts x.back) []
-        (subst W (byte_ways i (suc i ∷ []) (ends_up t i text less)) h) in
+        let m = has_cons same_pair pairs_equal q (suc i, new_name b.drafts x.back) []
+        (subst W (byte_ways i (suc i ∷ []) (ends_forward t i text less)) h) in
         elim m [
           | inl same ↦ (let e : q.0 ≡ suc i = ap (λ (k : ℕ × ℕ). k.0) same in omega (arith, e))
           | inr none ↦ none_in same_pair q _ none
@@ -163,72 +163,72 @@ module _ (o : Options) (xs : List Tree) (b : Assembly) (A U : ℕ) (is : IsAssem
         (λ (over : t.end ≤ i). none_in same_pair q _ (subst W (byte_ways i [] (nothing_read t i over)) h))
         (cases_lt i t.end)
 
-    byte_apart : (i k : ℕ) (q : ℕ × ℕ) → Has same_pair q (go (i, new_name b.parts x.byte)) → (r : List (ℕ × ℕ)) →
+    byte_apart : (i k : ℕ) (q : ℕ × ℕ) → Has same_pair q (go (i, new_name b.drafts x.byte)) → (r : List (ℕ × ℕ)) →
         IsChain same_pair go q r → last_or q r ≡ (i, k) → ⊥
     byte_apart i k q h r c last =
-        let a = byte_moves i q h in let l = chain_up q r c in let e : (last_or q r).0 ≡ i = ap (λ (w : ℕ × ℕ). w.0) last in
+        let a = byte_moves i q h in let l = chain_forward q r c in let e : (last_or q r).0 ≡ i = ap (λ (w : ℕ × ℕ). w.0) last in
         absurd (omega (arith, a, l, e))
 
     byte_ends_are : (i : ℕ) (js : List ℕ) → i ≤ t.end → any_ends false t i ≡ js →
-        from (i, new_name b.parts x.byte) ≡ distinct same_pair (flat_map from (map (renamed_pair b.parts) (at x.back js)))
+        from (i, new_name b.drafts x.byte) ≡ distinct same_pair (flat_map from (map (renamed_pair b.drafts) (at x.back js)))
     byte_ends_are i js place e =
-        ends_by_ways (automaton_of b A U) t (i, new_name b.parts x.byte) (is_well_formed b A U is.can_build)
+        ends_by_ways (automaton_of b A U) t (i, new_name b.drafts x.byte) (is_well_formed b A U is.can_build)
         (place, name_inside b A U is.can_build x.byte byte_there)
-        (λ q h r c last. byte_apart i (new_name b.parts x.byte) q h r c last)
+        (λ q h r c last. byte_apart i (new_name b.drafts x.byte) q h r c last)
         (state_match b A U x.byte i byte_there kept_byte ∙ byte_goes.is_open i)
         ∙ ap (λ (ws : List (ℕ × ℕ)). distinct same_pair (flat_map from ws)) (byte_ways i js e)
 
-    back_is : new_name b.parts x.back ≡ new_name b.parts U
-    back_is = ap (λ k. length (kept (take k b.parts))) (past_next b.parts is.can_build.no_loop x.back U (ap stands_for x.again))
+    back_is : new_name b.drafts x.back ≡ new_name b.drafts U
+    back_is = ap (λ k. length (kept (take k b.drafts))) (past_next b.drafts is.can_build.no_loop x.back U (ap stands_for x.again))
 
-    further_ends : (i : ℕ) → i < t.end → from (i, new_name b.parts x.byte) ≡ from (suc i, new_name b.parts U)
+    further_ends : (i : ℕ) → i < t.end → from (i, new_name b.drafts x.byte) ≡ from (suc i, new_name b.drafts U)
     further_ends i less =
-        byte_ends_are i (suc i ∷ []) (omega arith) (ends_up t i text less) ∙ ends_again o xs b A U is t (suc i, new_name b.parts x.back)
+        byte_ends_are i (suc i ∷ []) (omega arith) (ends_forward t i text less) ∙ ends_again o xs b A U is t (suc i, new_name b.drafts x.back)
         ∙ ap (λ (k : ℕ). from (suc i, k)) back_is
 
-    last_ends : (i : ℕ) → i ≡ t.end → from (i, new_name b.parts x.byte) ≡ []
+    last_ends : (i : ℕ) → i ≡ t.end → from (i, new_name b.drafts x.byte) ≡ []
     last_ends i e = byte_ends_are i [] (omega (arith, e)) (nothing_read t i (omega (arith, e)))
 
     byte_not_u : x.byte ≡ U → ⊥
-    byte_not_u e = let same : sparse_part ((0, 255, x.back) ∷ []) ≡ union_reverse_part (x.byte ∷ A ∷ []) = sym x.any ∙ ap T e ∙ x.loop in
+    byte_not_u e = let same : sparse_draft ((0, 255, x.back) ∷ []) ≡ union_reverse_draft (x.byte ∷ A ∷ []) = sym x.any ∙ ap T e ∙ x.loop in
         cc
 
     -- from the second way of the start
-    byte_far : (i : ℕ) (r : List (ℕ × ℕ)) → IsChain same_pair go (i, new_name b.parts x.byte) r →
-        last_or (i, new_name b.parts x.byte) r ≡ (i, new_name b.parts U) → ⊥
+    byte_far : (i : ℕ) (r : List (ℕ × ℕ)) → IsChain same_pair go (i, new_name b.drafts x.byte) r →
+        last_or (i, new_name b.drafts x.byte) r ≡ (i, new_name b.drafts U) → ⊥
     byte_far i [] c last =
-        byte_not_u (one_state b.parts x.byte U byte_there is.can_build.unanchored_there kept_byte kept_u (ap (λ (k : ℕ × ℕ). k.1) last))
-    byte_far i (q ∷ r) c last = byte_apart i (new_name b.parts U) q c.0 r c.1 last
+        byte_not_u (one_state b.drafts x.byte U byte_there is.can_build.unanchored_there kept_byte kept_u (ap (λ (k : ℕ × ℕ). k.1) last))
+    byte_far i (q ∷ r) c last = byte_apart i (new_name b.drafts U) q c.0 r c.1 last
 
-    u_apart : (i : ℕ) (q : ℕ × ℕ) → Has same_pair q (go (i, new_name b.parts U)) → (r : List (ℕ × ℕ)) → IsChain same_pair go q r →
-        last_or q r ≡ (i, new_name b.parts U) → ⊥
+    u_apart : (i : ℕ) (q : ℕ × ℕ) → Has same_pair q (go (i, new_name b.drafts U)) → (r : List (ℕ × ℕ)) → IsChain same_pair go q r →
+        last_or q r ≡ (i, new_name b.drafts U) → ⊥
     u_apart i q h r c last =
         let W : List (ℕ × ℕ) → Type 0 = λ ws. Has same_pair q ws in
         let C : ℕ × ℕ → Type 0 = λ k. IsChain same_pair go k r in
-        let E : ℕ × ℕ → Type 0 = λ k. last_or k r ≡ (i, new_name b.parts U) in
-        elim (has_cons same_pair pairs_equal q (i, new_name b.parts A) ((i, new_name b.parts x.byte) ∷ []) (subst W (u_ways i) h)) [
+        let E : ℕ × ℕ → Type 0 = λ k. last_or k r ≡ (i, new_name b.drafts U) in
+        elim (has_cons same_pair pairs_equal q (i, new_name b.drafts A) ((i, new_name b.drafts x.byte) ∷ []) (subst W (u_ways i) h)) [
           | inl first ↦ anchored_apart kept_u i r (subst C first c) (subst E first last)
-          | inr later ↦ elim (has_cons same_pair pairs_equal q (i, new_name b.parts x.byte) [] later) [
+          | inr later ↦ elim (has_cons same_pair pairs_equal q (i, new_name b.drafts x.byte) [] later) [
             | inl second ↦ byte_far i r (subst C second c) (subst E second last)
             | inr none ↦ none_in same_pair q _ none
           ]
         ]
 
     u_ends : (i : ℕ) → i ≤ t.end →
-        from (i, new_name b.parts U) ≡ distinct same_pair (from (i, new_name b.parts A) ++ from (i, new_name b.parts x.byte))
+        from (i, new_name b.drafts U) ≡ distinct same_pair (from (i, new_name b.drafts A) ++ from (i, new_name b.drafts x.byte))
     u_ends i place =
-        ends_by_ways (automaton_of b A U) t (i, new_name b.parts U) (is_well_formed b A U is.can_build)
+        ends_by_ways (automaton_of b A U) t (i, new_name b.drafts U) (is_well_formed b A U is.can_build)
         (place, name_inside b A U is.can_build U is.can_build.unanchored_there)
         (u_apart i) (state_match b A U U i is.can_build.unanchored_there kept_u ∙ u_goes.is_open i)
         ∙ ap (λ (ws : List (ℕ × ℕ)). distinct same_pair (flat_map from ws)) (u_ways i)
-        ∙ ap (λ (l : List (ℕ × ℕ)). distinct same_pair (from (i, new_name b.parts A) ++ l))
-        (append-nil (from (i, new_name b.parts x.byte)))
+        ∙ ap (λ (l : List (ℕ × ℕ)). distinct same_pair (from (i, new_name b.drafts A) ++ l))
+        (append-nil (from (i, new_name b.drafts x.byte)))
 
     abbrev anchored_at : ℕ → List (ℕ × ℕ)
-    anchored_at k = from (k, new_name b.parts A)
+    anchored_at k = from (k, new_name b.drafts A)
 
     pub tried_starts : (n i : ℕ) → i + n ≡ t.end →
-        from (i, new_name b.parts U) ≡ distinct same_pair (flat_map anchored_at (places_from i (suc n)))
+        from (i, new_name b.drafts U) ≡ distinct same_pair (flat_map anchored_at (places_from i (suc n)))
     tried_starts zero i e =
         u_ends i (omega (arith, e)) ∙ ap (λ (l : List (ℕ × ℕ)). distinct same_pair (anchored_at i ++ l)) (last_ends i (omega (arith, e)))
     tried_starts (suc n) i e =
@@ -239,9 +239,9 @@ module _ (o : Options) (xs : List Tree) (b : Assembly) (A U : ℕ) (is : IsAssem
 
   -- ---- all trees are anchored
 
-  module _ (all : AllAnchored (reverse_of o) xs) (at_once : part_at b.parts U ≡ empty_part A) (read : IsRead t) where
+  module _ (all : AllAnchored (reverse_of o) xs) (at_once : draft_at b.drafts U ≡ empty_draft A) (read : IsRead t) where
     abbrev anchored_from : ℕ → List (ℕ × ℕ)
-    anchored_from k = from (k, new_name b.parts A)
+    anchored_from k = from (k, new_name b.drafts A)
 
     none_later : (i k : ℕ) → t.start ≤ i → i < k → k ≤ t.end → anchored_from k ≡ []
     none_later i k low less high =
@@ -260,20 +260,20 @@ module _ (o : Options) (xs : List Tree) (b : Assembly) (A U : ℕ) (is : IsAssem
         (nothing_later i low n (suc k) (omega arith) (omega (arith, high)))
 
     pub starts_at_once : (n i : ℕ) → t.start ≤ i → i + n ≡ t.end →
-        from (i, new_name b.parts U) ≡ distinct same_pair (flat_map anchored_from (places_from i (suc n)))
+        from (i, new_name b.drafts U) ≡ distinct same_pair (flat_map anchored_from (places_from i (suc n)))
     starts_at_once n i low e =
-        ap (λ (k : ℕ). from (i, k)) (ap (λ k. length (kept (take k b.parts)))
-        (past_next b.parts is.can_build.no_loop U A (ap stands_for at_once)))
-        ∙ sym (ends_again o xs b A U is t (i, new_name b.parts A))
+        ap (λ (k : ℕ). from (i, k)) (ap (λ k. length (kept (take k b.drafts)))
+        (past_next b.drafts is.can_build.no_loop U A (ap stands_for at_once)))
+        ∙ sym (ends_again o xs b A U is t (i, new_name b.drafts A))
         ∙ ap (λ (l : List (ℕ × ℕ)). distinct same_pair (anchored_from i ++ l))
         (sym (nothing_later i low n (suc i) (omega arith) (omega (arith, e))))
 
   pub unanchored_starts : (i : ℕ) → IsRead t → t.start ≤ i → i ≤ t.end →
-      from (i, new_name b.parts U) ≡ distinct same_pair (flat_map (λ k. from (k, new_name b.parts A)) (places_from i (suc t.end - i)))
+      from (i, new_name b.drafts U) ≡ distinct same_pair (flat_map (λ k. from (k, new_name b.drafts A)) (places_from i (suc t.end - i)))
   unanchored_starts i read low high =
       let sum : i + (t.end - i) ≡ t.end = omega (arith, high) in
       let count : suc (t.end - i) ≡ suc t.end - i = omega (arith, high) in
       (elim is.before [
         | inl x ↦ starts_at_once x.0 x.1 read (t.end - i) i low sum
         | inr x ↦ tried_starts x.1 (record { within = read.within; bytes = read.bytes }) (t.end - i) i sum
-      ]) ∙ ap (λ (n : ℕ). distinct same_pair (flat_map (λ k. from (k, new_name b.parts A)) (places_from i n))) count
+      ]) ∙ ap (λ (n : ℕ). distinct same_pair (flat_map (λ k. from (k, new_name b.drafts A)) (places_from i n))) count

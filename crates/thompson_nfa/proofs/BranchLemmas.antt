@@ -2,7 +2,7 @@
 use Rattle.std.proofs.Common.{◌≡◌, ◌≢◌, ℕ, ◌+◌, ◌<◌, ◌≤◌, true, List, [], ◌∷◌, ◌++◌, length, None, refl, sym, ap, ◌∙◌, subst, arith, ⊎_elim, length-append, Bool, ◌||◌, false}
 use Rattle.std.proofs.lemmas.Bool.{cases_lt, cases_eq}
 use Rattle.hir_core.specs.Tree.{Tree, alternation}
-use Rattle.nfa_core.specs.BuilderStates.{Part, Assembly, part_at, patched, is_sparse, empty_part, union_part}
+use Rattle.nfa_core.specs.BuilderStates.{DraftNode, Assembly, draft_at, patched, is_sparse, empty_draft, union_draft}
 use Rattle.nfa_core.specs.Renaming.{stands_for}
 use Rattle.nfa_core.specs.Drafted.{Table}
 use Rattle.thompson_nfa.specs.Compiled.{Finished, ComesOut, Makes, Does, uses}
@@ -16,24 +16,24 @@ use Rattle.thompson_nfa.proofs.AheadLemmas.{denotes_then_empty}
 use Rattle.thompson_nfa.proofs.DenoteLemmas.{denotes_empty}
 
 -- the finished table has the states from `low` on as they are, but for two that are led on later
-abbrev pub FinishesBut : ℕ → List Part → ℕ → ℕ → Table → Type 0
-FinishesBut low parts a b table = (q : ℕ) → low ≤ q → q < length parts → q ≢ a → q ≢ b → table q ≡ part_at parts q
+abbrev pub FinishesBut : ℕ → List DraftNode → ℕ → ℕ → Table → Type 0
+FinishesBut low drafts a b table = (q : ℕ) → low ≤ q → q < length drafts → q ≢ a → q ≢ b → table q ≡ draft_at drafts q
 
 pub record Branches (old mid : Assembly) (u z n : ℕ) (done : List Tree) : Type 0 where
   pub progress : Progress false old mid n 8
-  pub u_new : length old.parts ≤ u
+  pub u_new : length old.drafts ≤ u
   pub u_z : u < z
-  pub z_there : z < length mid.parts
+  pub z_there : z < length mid.drafts
   pub entries : List ℕ
   pub two : 2 ≤ length entries
-  pub union_is : part_at mid.parts u ≡ union_part entries
-  pub end_is : part_at mid.parts z ≡ empty_part 0
-  pub outs : (table : Table) → FinishesBut (length old.parts) mid.parts u z table → (q : ℕ) → length old.parts ≤ q → q < length mid.parts → q ≢ u → q ≢ z → ComesOut table z q
-  pub denote : (table : Table) → FinishesBut (length old.parts) mid.parts u z table → AllDenote old.reverse table z entries done
+  pub union_is : draft_at mid.drafts u ≡ union_draft entries
+  pub end_is : draft_at mid.drafts z ≡ empty_draft 0
+  pub outs : (table : Table) → FinishesBut (length old.drafts) mid.drafts u z table → (q : ℕ) → length old.drafts ≤ q → q < length mid.drafts → q ≢ u → q ≢ z → ComesOut table z q
+  pub denote : (table : Table) → FinishesBut (length old.drafts) mid.drafts u z table → AllDenote old.reverse table z entries done
   pub looks : AddsLooks old.reverse old mid (alternation done)
 
-module _ (t0 t1 t2 t3 t4 t5 t6 t7 t8 : Assembly) (s1 e1 n1 s2 e2 n2 u z : ℕ) (x y : Tree) (first : Makes t0 t1 s1 e1 n1) (second : Makes t1 t2 s2 e2 n2) (union : Added t2 t3 u (union_part []) t2.groups)
-    (last : Added t3 t4 z (empty_part 0) t3.groups) (p5 : Led t4 t5 u s1) (p6 : Led t5 t6 e1 z) (p7 : Led t6 t7 u s2) (p8 : Led t7 t8 e2 z) where
+module _ (t0 t1 t2 t3 t4 t5 t6 t7 t8 : Assembly) (s1 e1 n1 s2 e2 n2 u z : ℕ) (x y : Tree) (first : Makes t0 t1 s1 e1 n1) (second : Makes t1 t2 s2 e2 n2) (union : Added t2 t3 u (union_draft []) t2.groups)
+    (last : Added t3 t4 z (empty_draft 0) t3.groups) (p5 : Led t4 t5 u s1) (p6 : Led t5 t6 e1 z) (p7 : Led t6 t7 u s2) (p8 : Led t7 t8 e2 z) where
   open_2 : Progress false t0 t2 (n1 + n2) 8
   open_2 = then_made 8 (first_made first) second (omega arith)
 
@@ -44,17 +44,17 @@ module _ (t0 t1 t2 t3 t4 t5 t6 t7 t8 : Assembly) (s1 e1 n1 s2 e2 n2 u z : ℕ) (
   open_8 = then_led 8 (then_led 12 (then_led 16 (then_led 20 open_4 p5 (omega arith) (omega arith) (omega arith)) p6 (omega arith) (omega arith) (omega arith))
       p7 (omega arith) (omega arith) (omega arith)) p8 (omega arith) (omega arith) (omega arith)
 
-  later : (q : ℕ) → q < length t2.parts → q ≢ e1 → q ≢ e2 → part_at t8.parts q ≡ part_at t2.parts q
+  later : (q : ℕ) → q < length t2.drafts → q ≢ e1 → q ≢ e2 → draft_at t8.drafts q ≡ draft_at t2.drafts q
   later q low ne1 ne2 = p8.same q ne2 ∙ p7.same q (omega arith) ∙ p6.same q ne1 ∙ p5.same q (omega arith) ∙ last.grows.same q (omega arith) ∙ union.grows.same q low
 
-  open_first : (table : Table) → FinishesBut (length t0.parts) t8.parts u z table → Finished (length t0.parts) t1.parts e1 z table
+  open_first : (table : Table) → FinishesBut (length t0.drafts) t8.drafts u z table → Finished (length t0.drafts) t1.drafts e1 z table
   open_first table fin = record {
     states = λ q low high ne. fin q low (omega arith) (omega arith) (omega arith) ∙ later q (omega arith) ne (omega arith) ∙ second.fragment.grows.same q high;
     led = fin e1 (omega arith) (omega arith) (omega arith) (omega arith) ∙ p8.same e1 (omega arith) ∙ p7.same e1 (omega arith) ∙ p6.here
         ∙ ap (patched z) (p5.same e1 (omega arith) ∙ last.grows.same e1 (omega arith) ∙ union.grows.same e1 (omega arith) ∙ second.fragment.grows.same e1 (omega arith));
   }
 
-  open_second : (table : Table) → FinishesBut (length t0.parts) t8.parts u z table → Finished (length t1.parts) t2.parts e2 z table
+  open_second : (table : Table) → FinishesBut (length t0.drafts) t8.drafts u z table → Finished (length t1.drafts) t2.drafts e2 z table
   open_second table fin = record {
     states = λ q low high ne. fin q (omega arith) (omega arith) (omega arith) (omega arith) ∙ later q high (omega arith) ne;
     led = fin e2 (omega arith) (omega arith) (omega arith) (omega arith) ∙ p8.here
@@ -72,12 +72,12 @@ module _ (t0 t1 t2 t3 t4 t5 t6 t7 t8 : Assembly) (s1 e1 n1 s2 e2 n2 u z : ℕ) (
     union_is = p8.same u (omega arith) ∙ p7.here ∙ ap (patched s2) (p6.same u (omega arith) ∙ p5.here ∙ ap (patched s1) (last.grows.same u (omega arith) ∙ union.here));
     end_is = p8.same z (omega arith) ∙ p7.same z (omega arith) ∙ p6.same z (omega arith) ∙ p5.same z (omega arith) ∙ last.here;
     outs = λ table fin q low high not_u not_z. ⊎_elim
-        (λ (l : q < length t1.parts). first.comes_out table z (open_first table fin) q low l)
-        (λ (g : length t1.parts ≤ q). ⊎_elim
-        (λ (l : q < length t2.parts). second.comes_out table z (open_second table fin) q g l)
-        (λ (h : length t2.parts ≤ q). absurd (omega arith))
-        (cases_lt q (length t2.parts)))
-        (cases_lt q (length t1.parts));
+        (λ (l : q < length t1.drafts). first.comes_out table z (open_first table fin) q low l)
+        (λ (g : length t1.drafts ≤ q). ⊎_elim
+        (λ (l : q < length t2.drafts). second.comes_out table z (open_second table fin) q g l)
+        (λ (h : length t2.drafts ≤ q). absurd (omega arith))
+        (cases_lt q (length t2.drafts)))
+        (cases_lt q (length t1.drafts));
     denote = λ table fin. more_denote s1 x (s2 ∷ []) (y ∷ []) (does1.denotes table z (open_first table fin))
         (more_denote s2 y [] [] (reads_as t0 t1 table s2 z y first.fragment.grows (does2.denotes table z (open_second table fin))) none_denote);
     looks = λ l. quiet_led p8 l ∙ quiet_led p7 l ∙ quiet_led p6 l ∙ quiet_led p5 l ∙ quiet_added last (λ k. refl) l
@@ -87,13 +87,13 @@ module _ (t0 t1 t2 t3 t4 t5 t6 t7 t8 : Assembly) (s1 e1 n1 s2 e2 n2 u z : ℕ) (
         (λ k. ap (λ (b : Bool). uses t0.reverse x k || b) (or_none (uses t0.reverse y k))) l;
   }
 
-module _ (old b c d f : Assembly) (u z n s e k : ℕ) (done : List Tree) (x : Tree) (bs : Branches old b u z n done) (part : Makes b c s e k) (p1 : Led c d u s) (p2 : Led d f e z) where
-  more_before : (table : Table) → FinishesBut (length old.parts) f.parts u z table → FinishesBut (length old.parts) b.parts u z table
+module _ (old b c d f : Assembly) (u z n s e k : ℕ) (done : List Tree) (x : Tree) (bs : Branches old b u z n done) (draft : Makes b c s e k) (p1 : Led c d u s) (p2 : Led d f e z) where
+  more_before : (table : Table) → FinishesBut (length old.drafts) f.drafts u z table → FinishesBut (length old.drafts) b.drafts u z table
   more_before table fin q low high not_u not_z =
       let g = bs.u_z in let h = bs.z_there in
-      fin q low (omega arith) not_u not_z ∙ p2.same q (omega arith) ∙ p1.same q not_u ∙ part.fragment.grows.same q high
+      fin q low (omega arith) not_u not_z ∙ p2.same q (omega arith) ∙ p1.same q not_u ∙ draft.fragment.grows.same q high
 
-  more_part : (table : Table) → FinishesBut (length old.parts) f.parts u z table → Finished (length b.parts) c.parts e z table
+  more_part : (table : Table) → FinishesBut (length old.drafts) f.drafts u z table → Finished (length b.drafts) c.drafts e z table
   more_part table fin =
       let g = bs.u_z in let h = bs.z_there in let l = bs.progress.partly.grows.longer in
       record {
@@ -105,18 +105,18 @@ module _ (old b c d f : Assembly) (u z n s e k : ℕ) (done : List Tree) (x : Tr
   branches_then does =
       let g = bs.u_z in let h = bs.z_there in let l = bs.progress.partly.grows.longer in let v = bs.u_new in let w = bs.two in
       record {
-        progress = then_led 8 (then_led 12 (then_made 16 bs.progress part (omega arith)) p1 v (omega arith) (omega arith)) p2 (omega arith) (omega arith) (omega arith);
+        progress = then_led 8 (then_led 12 (then_made 16 bs.progress draft (omega arith)) p1 v (omega arith) (omega arith)) p2 (omega arith) (omega arith) (omega arith);
         u_new = v;
         u_z = g;
         z_there = omega arith;
         entries = bs.entries ++ s ∷ [];
         two = omega (arith, length-append bs.entries (s ∷ []));
-        union_is = p2.same u (omega arith) ∙ p1.here ∙ ap (patched s) (part.fragment.grows.same u (omega arith) ∙ bs.union_is);
-        end_is = p2.same z (omega arith) ∙ p1.same z (omega arith) ∙ part.fragment.grows.same z h ∙ bs.end_is;
+        union_is = p2.same u (omega arith) ∙ p1.here ∙ ap (patched s) (draft.fragment.grows.same u (omega arith) ∙ bs.union_is);
+        end_is = p2.same z (omega arith) ∙ p1.same z (omega arith) ∙ draft.fragment.grows.same z h ∙ bs.end_is;
         outs = λ table fin q low high not_u not_z. ⊎_elim
-            (λ (less : q < length b.parts). bs.outs table (more_before table fin) q low less not_u not_z)
-            (λ (more : length b.parts ≤ q). part.comes_out table z (more_part table fin) q more (omega arith))
-            (cases_lt q (length b.parts));
+            (λ (less : q < length b.drafts). bs.outs table (more_before table fin) q low less not_u not_z)
+            (λ (more : length b.drafts ≤ q). draft.comes_out table z (more_part table fin) q more (omega arith))
+            (cases_lt q (length b.drafts));
         denote = λ table fin. all_denote_push old.reverse table z s x bs.entries done (bs.denote table (more_before table fin))
             (reads_as old b table s z x bs.progress.partly.grows (does.denotes table z (more_part table fin)));
         looks = λ l. quiet_led p2 l ∙ quiet_led p1 l
@@ -125,16 +125,16 @@ module _ (old b c d f : Assembly) (u z n s e k : ℕ) (done : List Tree) (x : Tr
             (λ k. uses_alternation old.reverse done x k) l;
       }
 
-union_stands : (names : List ℕ) → 2 ≤ length names → stands_for (union_part names) ≡ None
+union_stands : (names : List ℕ) → 2 ≤ length names → stands_for (union_draft names) ≡ None
 union_stands [] l = absurd (omega arith)
 union_stands (a ∷ []) l = absurd (omega arith)
 union_stands (a ∷ b ∷ names) l = refl
 
 module _ (old mid : Assembly) (u z n : ℕ) (done : List Tree) (bs : Branches old mid u z n done) where
-  all_but : (target : ℕ) (table : Table) → Finished (length old.parts) mid.parts z target table → FinishesBut (length old.parts) mid.parts u z table
+  all_but : (target : ℕ) (table : Table) → Finished (length old.drafts) mid.drafts z target table → FinishesBut (length old.drafts) mid.drafts u z table
   all_but target table fin q low high not_u not_z = fin.states q low high not_z
 
-  done_u : (target : ℕ) (table : Table) → Finished (length old.parts) mid.parts z target table → table u ≡ union_part bs.entries
+  done_u : (target : ℕ) (table : Table) → Finished (length old.drafts) mid.drafts z target table → table u ≡ union_draft bs.entries
   done_u target table fin = let g = bs.u_z in let h = bs.z_there in let v = bs.u_new in fin.states u v (omega arith) (omega arith) ∙ bs.union_is
 
   pub branches_made : Makes old mid u z n
@@ -142,7 +142,7 @@ module _ (old mid : Assembly) (u z n : ℕ) (done : List Tree) (bs : Branches ol
       let g = bs.u_z in let h = bs.z_there in let v = bs.u_new in
       made n bs.progress (omega arith) (omega arith) v (omega arith) (omega arith) h (ap is_sparse bs.end_is)
       (λ table target fin q low high.
-      let last : table z ≡ empty_part target = fin.led ∙ ap (patched target) bs.end_is in
+      let last : table z ≡ empty_draft target = fin.led ∙ ap (patched target) bs.end_is in
       let out = out_next table target z target (ap stands_for last) (out_at table target) in
       let P : ℕ → Type 0 = λ k. ComesOut table target k in
       ⊎_elim

@@ -39,7 +39,7 @@ module _ (test : Tree → Bool) where
       (λ (other : test y ≡ false). rw other (listed_any ys p x listed e))
       (cases_Bool (test y))
 
--- the automaton has a state with the look exactly where one of the trees uses it, turned round where it reads downwards
+-- the automaton has a state with the look exactly where one of the trees uses it, turned round where it reads in reverse
 pub looks_are_used : (o : Options) (xs : List Tree) (n : Nfa) → IsCompiled o xs n → (l : Look) →
     (has_look (looks_of n.automaton.states) l ≡ true)
     ↔ ((p : ℕ) × (x : Tree) × (slice_get xs p ≡ Some x) × (has_look (looks_used x) (turned (reverse_of o) l) ≡ true))
@@ -62,7 +62,7 @@ module _ (count : ℕ) (n : Nfa) (starts : HasStarts false count n) (t : Text) w
   each_place (suc m) k l =
       ap₂ (λ (xs ys : List (ℕ × ℕ)). xs ++ ys) (starts.anchored t k (omega (arith, l))) (each_place m (suc k) (omega (arith, l)))
 
-  -- read upwards, the unanchored start finds what the patterns find at one place after the other, repeats dropped
+  -- read forward, the unanchored start finds what the patterns find at one place after the other, repeats dropped
   pub unanchored_by_patterns : (i : ℕ) → IsRead t → t.start ≤ i → i ≤ t.end →
       ends_from n.automaton t (i, n.automaton.start_unanchored)
       ≡ distinct same_pair (flat_map by_patterns (places_from i (suc t.end - i)))

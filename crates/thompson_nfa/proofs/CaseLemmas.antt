@@ -3,7 +3,7 @@ use Rattle.std.proofs.Common.{◌≡◌, ℕ, Bool, true, false, List, [], ◌�
 use Rattle.hir_core.specs.Tree.{Tree, alternation}
 use Rattle.hir_core.specs.PreferredEnds.{preferred_ends}
 use Rattle.hir_core.specs.Facts.{LoopsRead}
-use Rattle.nfa_core.specs.BuilderStates.{union_part}
+use Rattle.nfa_core.specs.BuilderStates.{union_draft}
 use Rattle.nfa_core.specs.Walks.{Has}
 use Rattle.nfa_core.specs.Runs.{last_or}
 use Rattle.nfa_core.specs.Places.{same_pair}
@@ -113,7 +113,7 @@ all_orders false T t u e qs xs up all g f = record { lists = λ i l walk. firsts
 all_orders true T t u e qs xs up all g f = cc
 
 -- a union of the branches' states
-pub denotes_alternation : (back : Bool) (T : Table) (u e : ℕ) (qs : List ℕ) (xs : List Tree) → T u ≡ union_part qs → AllDenote back T e qs xs →
+pub denotes_alternation : (back : Bool) (T : Table) (u e : ℕ) (qs : List ℕ) (xs : List Tree) → T u ≡ union_draft qs → AllDenote back T e qs xs →
     Denotes back T u e (alternation xs)
 denotes_alternation back T u e qs xs is all = record {
   reaches = λ t. all_reaches back T t e u qs xs all (goes_union back t T u qs is);

@@ -6,7 +6,7 @@ use Rattle.std.proofs.lemmas.List.Elements.{All-head, All-tail}
 use Rattle.hir_core.specs.Tree.{Tree}
 use Rattle.hir_core.specs.PreferredEnds.{preferred_ends}
 use Rattle.hir_core.specs.Facts.{LoopsRead}
-use Rattle.nfa_core.specs.BuilderStates.{fail_part}
+use Rattle.nfa_core.specs.BuilderStates.{fail_draft}
 use Rattle.nfa_core.specs.Walks.{Has, lists_none}
 use Rattle.nfa_core.specs.Places.{same_pair}
 use Rattle.nfa_core.specs.Ways.{Text}
@@ -93,7 +93,7 @@ module _ (back : Bool) (t : Text) (T : Table) where
         (o.0, o.1, subst P o.2 (b.rest, b.chain, ap (table_match T) b.same_end ∙ f.2));
   }
 
-  enters_none : (c : ℕ) (starts : List ℕ) → starts ≡ [] → T c ≡ fail_part → Enters back t T c starts
+  enters_none : (c : ℕ) (starts : List ℕ) → starts ≡ [] → T c ≡ fail_draft → Enters back t T c starts
   enters_none c starts none is =
       let P : List ℕ → Type 0 = λ l. Enters back t T c l in
       subst P (sym none) (record {

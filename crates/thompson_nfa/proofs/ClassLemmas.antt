@@ -5,7 +5,7 @@ use Rattle.std.proofs.lemmas.Bool.{leb-true}
 use Rattle.std.proofs.lemmas.List.{length-map}
 use Rattle.hir_core.specs.Facts.{rises_from, is_ascending}
 use Rattle.hir_core.specs.Tree.{byte_class}
-use Rattle.nfa_core.specs.BuilderStates.{Part, Assembly, part_at, patched, part_bytes, is_sparse, AscendsFrom, empty_part, sparse_part}
+use Rattle.nfa_core.specs.BuilderStates.{DraftNode, Assembly, draft_at, patched, draft_bytes, is_sparse, AscendsFrom, empty_draft, sparse_draft}
 use Rattle.nfa_core.specs.Renaming.{stands_for}
 use Rattle.nfa_core.specs.CanBuild.{names_of}
 use Rattle.nfa_core.specs.declared.build_error.BuildError.{BuildError}
@@ -52,36 +52,36 @@ pub few_ranges : (ranges : List (ℕ × ℕ)) → IsTrue (is_ascending ranges) �
 few_ranges ranges e all = let few = few_from 0 ranges e all (omega arith) in omega arith
 
 -- the state that reads a byte of the ranges names one state at most
-names_to_one : (n next : ℕ) (ranges : List (ℕ × ℕ)) → next < n → (k d : ℕ) → k < length (names_of (sparse_part (to_one next ranges))) → get_or (names_of (sparse_part (to_one next ranges))) k d < n
+names_to_one : (n next : ℕ) (ranges : List (ℕ × ℕ)) → next < n → (k d : ℕ) → k < length (names_of (sparse_draft (to_one next ranges))) → get_or (names_of (sparse_draft (to_one next ranges))) k d < n
 names_to_one n next [] l k d h = absurd (omega arith)
 names_to_one n next (r ∷ rs) l zero d h = l
 names_to_one n next (r ∷ rs) l (suc k) d h = names_to_one n next rs l k d (omega arith)
 
-pub bytes_to_one : (next : ℕ) (ranges : List (ℕ × ℕ)) → length ranges ≤ 256 → part_bytes (sparse_part (to_one next ranges)) ≤ 2072
+pub bytes_to_one : (next : ℕ) (ranges : List (ℕ × ℕ)) → length ranges ≤ 256 → draft_bytes (sparse_draft (to_one next ranges)) ≤ 2072
 bytes_to_one next ranges few = let e : length (to_one next ranges) ≡ length ranges = length-map ranges (λ r. (r.0, r.1, next)) in omega arith
 
-module _ (a b c : Assembly) (end start : ℕ) (ranges : List (ℕ × ℕ)) (first : Added a b end (empty_part 0) a.groups)
-    (second : Added b c start (sparse_part (to_one end ranges)) b.groups) (few : length ranges ≤ 256) where
-  abbrev class_part : Part
-  class_part = sparse_part (to_one end ranges)
+module _ (a b c : Assembly) (end start : ℕ) (ranges : List (ℕ × ℕ)) (first : Added a b end (empty_draft 0) a.groups)
+    (second : Added b c start (sparse_draft (to_one end ranges)) b.groups) (few : length ranges ≤ 256) where
+  abbrev class_part : DraftNode
+  class_part = sparse_draft (to_one end ranges)
 
-  class_end : part_at c.parts end ≡ empty_part 0
+  class_end : draft_at c.drafts end ≡ empty_draft 0
   class_end = second.grows.same end (omega arith) ∙ first.here
 
   pub class_made : Makes a c start end 2
   class_made =
-      let bytes : part_bytes class_part ≤ 2072 = bytes_to_one end ranges few in
+      let bytes : draft_bytes class_part ≤ 2072 = bytes_to_one end ranges few in
       let tame : IsTame true c class_part =
-      record { named = names_to_one (length c.parts) end ranges (omega arith); known = refl; not_barred = refl } in
-      made 2 (then_added 8 (first_added 8 first (tame_one b (empty_part 0) 0 refl (omega arith) refl refl) (omega arith)) second tame (omega arith)) (omega arith) (omega arith)
+      record { named = names_to_one (length c.drafts) end ranges (omega arith); known = refl; not_barred = refl } in
+      made 2 (then_added 8 (first_added 8 first (tame_one b (empty_draft 0) 0 refl (omega arith) refl refl) (omega arith)) second tame (omega arith)) (omega arith) (omega arith)
       (omega arith) (omega arith) (omega arith) (omega arith) (ap is_sparse class_end)
       (λ table target fin.
-      let last : table end ≡ empty_part target = fin.led ∙ ap (patched target) class_end in
+      let last : table end ≡ empty_draft target = fin.led ∙ ap (patched target) class_end in
       let other : table start ≡ class_part = fin.states start (omega arith) (omega arith) (omega arith) ∙ second.here in
-      let P : ℕ → Type 0 = λ n. AllComeOut table target n (length c.parts) in
-      subst P first.is (all_join table target end start (length c.parts)
+      let P : ℕ → Type 0 = λ n. AllComeOut table target n (length c.drafts) in
+      subst P first.is (all_join table target end start (length c.drafts)
       (all_here table target end start (omega arith) (out_next table target end target (ap stands_for last) (out_at table target)))
-      (all_here table target start (length c.parts) (omega arith) (out_here table target start (ap stands_for other)))))
+      (all_here table target start (length c.drafts) (omega arith) (out_here table target start (ap stands_for other)))))
 
   pub class_does : Does a c start end (byte_class ranges)
   class_does = record {
@@ -93,12 +93,12 @@ module _ (a b c : Assembly) (end start : ℕ) (ranges : List (ℕ × ℕ)) (firs
         (λ l. refl);
   }
 
-pub class_quits : (a b c : Assembly) (end : ℕ) (e : BuildError) → Added a b end (empty_part 0) a.groups → Stays b c 1 2072 e → Quits a c 2 e
+pub class_quits : (a b c : Assembly) (end : ℕ) (e : BuildError) → Added a b end (empty_draft 0) a.groups → Stays b c 1 2072 e → Quits a c 2 e
 class_quits a b c end e first r =
-    then_quits 2 (first_added 8 first (tame_one {plain = true} b (empty_part 0) 0 refl (omega arith) refl refl) (omega arith)) r
+    then_quits 2 (first_added 8 first (tame_one {plain = true} b (empty_draft 0) 0 refl (omega arith) refl refl) (omega arith)) r
     (omega arith) (omega arith)
 
-pub bytes_shown : (next : ℕ) (ranges : List (ℕ × ℕ)) (transitions : List (ℕ × ℕ × ℕ)) → transitions ≡ to_one next ranges → length ranges ≤ 256 → part_bytes (sparse_part transitions) ≤ 2072
+pub bytes_shown : (next : ℕ) (ranges : List (ℕ × ℕ)) (transitions : List (ℕ × ℕ × ℕ)) → transitions ≡ to_one next ranges → length ranges ≤ 256 → draft_bytes (sparse_draft transitions) ≤ 2072
 bytes_shown next ranges transitions same few =
     let e : length transitions ≡ length ranges = ap length same ∙ length-map ranges (λ r. (r.0, r.1, next)) in
     omega arith

@@ -13,20 +13,20 @@ use Rattle.thompson_nfa.specs.Compiled.{turned, uses}
 
 -- ---- looks
 
-turned_down : turned true StartLF ≡ EndLF
-turned_down = refl
+turned_reverse : turned true StartLF ≡ EndLF
+turned_reverse = refl
 
-turned_up : turned false StartLF ≡ StartLF
-turned_up = refl
+turned_forward : turned false StartLF ≡ StartLF
+turned_forward = refl
 
-used_up : uses false (look StartLF) StartLF ≡ true
-used_up = refl
+used_forward : uses false (look StartLF) StartLF ≡ true
+used_forward = refl
 
-used_down : uses true (look StartLF) EndLF ≡ true
-used_down = refl
+used_reverse : uses true (look StartLF) EndLF ≡ true
+used_reverse = refl
 
-not_used_down : uses true (look StartLF) StartLF ≡ false
-not_used_down = refl
+not_used_reverse : uses true (look StartLF) StartLF ≡ false
+not_used_reverse = refl
 
 used_in_no_round : uses false (repetition 0 (Some 0) true (look StartLF)) StartLF ≡ false
 used_in_no_round = refl
@@ -55,10 +55,10 @@ one_pattern_after_the_other : (t : Terminator) →
     distinct same_pair (flat_map (λ p. ends_from a_and_b (whole t (0x61 ∷ 0x62 ∷ [])) (0, start_of a_and_b p)) (places_from 0 2)) ≡ (1, 0) ∷ []
 one_pattern_after_the_other t = refl
 
--- ---- the pattern `ab`, read upwards and downwards
+-- ---- the pattern `ab`, read forward and in reverse
 
-abbrev ab_up : Automaton
-ab_up = record {
+abbrev ab_forward : Automaton
+ab_forward = record {
   states = binary_union 2 1 ∷ byte_range 0x00 0xFF 0 ∷ byte_range 0x61 0x61 3 ∷ byte_range 0x62 0x62 4 ∷ match_node 0 ∷ [];
   start_anchored = 2;
   start_unanchored = 0;
@@ -66,8 +66,8 @@ ab_up = record {
   reverse = false;
 }
 
-abbrev ab_down : Automaton
-ab_down = record {
+abbrev ab_reverse : Automaton
+ab_reverse = record {
   states = binary_union 2 1 ∷ byte_range 0x00 0xFF 0 ∷ byte_range 0x62 0x62 3 ∷ byte_range 0x61 0x61 4 ∷ match_node 0 ∷ [];
   start_anchored = 2;
   start_unanchored = 0;
@@ -75,8 +75,8 @@ ab_down = record {
   reverse = true;
 }
 
-found_upwards : (t : Terminator) → ends_from ab_up (whole t (0x61 ∷ 0x62 ∷ [])) (0, 2) ≡ (2, 0) ∷ []
-found_upwards t = refl
+found_forward : (t : Terminator) → ends_from ab_forward (whole t (0x61 ∷ 0x62 ∷ [])) (0, 2) ≡ (2, 0) ∷ []
+found_forward t = refl
 
-found_downwards : (t : Terminator) → ends_from ab_down (whole t (0x61 ∷ 0x62 ∷ [])) (2, 2) ≡ (0, 0) ∷ []
-found_downwards t = refl
+found_in_reverse : (t : Terminator) → ends_from ab_reverse (whole t (0x61 ∷ 0x62 ∷ [])) (2, 2) ≡ (0, 0) ∷ []
+found_in_reverse t = refl

@@ -2,7 +2,7 @@
 use Rattle.std.proofs.Common.{◌≡◌, ℕ, zero, suc, ◌+◌, ◌-◌, ◌*◌, ◌<◌, ◌≤◌, max, Bool, length, Option, Some, None, refl, sym, ap, ◌∙◌, subst, arith, ◌||◌}
 use Rattle.search_types.specs.Groups.{Groups}
 use Rattle.hir_core.specs.Tree.{Tree, empty, repetition}
-use Rattle.nfa_core.specs.BuilderStates.{Assembly, empty_part}
+use Rattle.nfa_core.specs.BuilderStates.{Assembly, empty_draft}
 use Rattle.nfa_core.specs.declared.build_error.BuildError.{BuildError}
 use Rattle.thompson_nfa.specs.Compiled.{Makes, Does, DoesFirst, DoesCopies, DoesOption, raised, looks_in, uses}
 use Rattle.thompson_nfa.specs.Added.{Added, Led}
@@ -106,7 +106,7 @@ copies_loop a b c d s1 e1 n1 s2 e2 n2 low greedy x first second led some copies 
           lead.before table s2 (join_first a b c d s1 e1 n1 s2 e2 n2 first second led target table fin) target
           (reads_as a b table s2 target (repetition 1 None greedy x) first.fragment.grows (does.denotes table target (join_second a b c d s1 e1 n1 s2 e2 n2 first second led target table fin)));
       looks = λ l. quiet_led led l ∙ does.looks l
-          ∙ ap (λ (r : Bool). looks_in b.parts l || uses r x l) (ap (λ (z : Assembly). z.reverse) first.fragment.grows.settings)
+          ∙ ap (λ (r : Bool). looks_in b.drafts l || uses r x l) (ap (λ (z : Assembly). z.reverse) first.fragment.grows.settings)
           ∙ lead.looks l;
     })
 
@@ -118,7 +118,7 @@ pub record Rounds (how : How) (old mid : Assembly) (start end z i low most total
   pub groups : mid.groups ≡ noted how.which (length old.starts) x old.groups
 
 pub rounds_owed : (how : How) (t0 t1 t2 : Assembly) (s e z low most : ℕ) (greedy : Bool) (x : Tree) → low ≤ most → Makes t0 t1 s e (low * room how.shrink x) → DoesCopies t0 t1 s e low x →
-    t1.groups ≡ noted how.which (length t0.starts) x t0.groups → Added t1 t2 z (empty_part 0) t1.groups → Rounds how t0 t2 s e z low low most (low * room how.shrink x + (most - low) * (room how.shrink x + 1) + 1) greedy x
+    t1.groups ≡ noted how.which (length t0.starts) x t0.groups → Added t1 t2 z (empty_draft 0) t1.groups → Rounds how t0 t2 s e z low low most (low * room how.shrink x + (most - low) * (room how.shrink x + 1) + 1) greedy x
 rounds_owed how t0 t1 t2 s e z low most greedy x le m copies g added = record {
   n = low * room how.shrink x + 1;
   options = options_owed t0 t1 t2 s e (low * room how.shrink x) z (most - low) low most greedy x m copies added (omega arith);
@@ -126,7 +126,7 @@ rounds_owed how t0 t1 t2 s e z low most greedy x le m copies g added = record {
   groups = added.groups_are ∙ g;
 }
 
-pub rounds_first : (how : How) (t0 t1 t2 : Assembly) (u e z most : ℕ) (greedy : Bool) (x : Tree) → 0 < most → Added t0 t1 z (empty_part 0) t0.groups → Makes t1 t2 u e (room how.shrink x + 1) →
+pub rounds_first : (how : How) (t0 t1 t2 : Assembly) (u e z most : ℕ) (greedy : Bool) (x : Tree) → 0 < most → Added t0 t1 z (empty_draft 0) t0.groups → Makes t1 t2 u e (room how.shrink x + 1) →
     DoesOption t1 t2 u e z greedy x → t2.groups ≡ noted how.which (length t1.starts) x t1.groups → Rounds how t0 t2 u e z 1 0 most (most * (room how.shrink x + 1) + 1) greedy x
 rounds_first how t0 t1 t2 u e z zero greedy x some added m does g = absurd (omega arith)
 rounds_first how t0 t1 t2 u e z (suc left) greedy x some added m does g = record {

@@ -7,7 +7,7 @@ use Rattle.hir_core.specs.Means.{Looks, Means}
 use Rattle.hir_core.specs.PreferredEnds.{preferred_ends, Has as HasEnd}
 use Rattle.hir_core.specs.Facts.{LoopsRead}
 use Rattle.hir_core.proofs.ForCallers.{preferred_ends_sound, preferred_ends_complete}
-use Rattle.nfa_core.specs.BuilderStates.{empty_part, range_part, sparse_part, look_part, capture_start_part, capture_end_part, fail_part}
+use Rattle.nfa_core.specs.BuilderStates.{empty_draft, range_draft, sparse_draft, look_draft, capture_start_draft, capture_end_draft, fail_draft}
 use Rattle.nfa_core.specs.Ways.{Text, reads, is_passed}
 use Rattle.nfa_core.specs.Drafted.{Table}
 use Rattle.thompson_nfa.specs.Denotes.{at, seen, IsMeant, Denotes}
@@ -16,11 +16,11 @@ use Rattle.thompson_nfa.proofs.ReachLemmas.{reaches_here, reaches_like, reaches_
 use Rattle.thompson_nfa.proofs.OrderLemmas.{orders_here, orders_like, orders_join, orders_leaf, orders_nowhere}
 use Rattle.thompson_nfa.proofs.HaltLemmas.{halts_here, halts_like, halts_join, halts_leaf, halts_nowhere}
 use Rattle.thompson_nfa.specs.Compiled.{turned, uses}
-use Rattle.thompson_nfa.proofs.MeantLemmas.{meant_map, empty_meant, meant_empty, meant_never, look_meant, meant_look, class_ends_up, class_meant, meant_class}
+use Rattle.thompson_nfa.proofs.MeantLemmas.{meant_map, empty_meant, meant_empty, meant_never, look_meant, meant_look, class_ends_forward, class_meant, meant_class}
 
-goes_up : (back : Bool) (t : Text) (T : Table) (s : ℕ) (to : ℕ → List (ℕ × ℕ)) → back ≡ false → Goes back t T s to → Goes false t T s to
-goes_up false t T s to e g = g
-goes_up true t T s to e g = cc
+goes_forward : (back : Bool) (t : Text) (T : Table) (s : ℕ) (to : ℕ → List (ℕ × ℕ)) → back ≡ false → Goes back t T s to → Goes false t T s to
+goes_forward false t T s to e g = g
+goes_forward true t T s to e g = cc
 
 -- the tree y is x1 and then x2 for one who reads in this direction
 pub record Joins (back : Bool) (x1 x2 y : Tree) : Type 0 where
@@ -76,7 +76,7 @@ module _ (back : Bool) (T : Table) where
     reaches = λ t. reaches_like back t T s e (λ i j. HasEnd (ends t i) j) (IsMeant back t x) (narrow t) (wide t) (reaches_leaf back t T s e (ends t) (g t));
     halts = λ f t. halts_like back t T s e (λ i j. HasEnd (ends t i) j) (IsMeant back t x) (wide t) (halts_leaf back t T s e (ends t) (g t));
     orders = λ up f t. orders_like t T s e (ends t) (preferred_ends t.holds (seen t) x) (same up t)
-        (orders_leaf t T s e (ends t) (goes_up back t T s (λ i. at e (ends t i)) up (g t)));
+        (orders_leaf t T s e (ends t) (goes_forward back t T s (λ i. at e (ends t i)) up (g t)));
   }
 
   -- nothing is between a state and itself
@@ -92,48 +92,48 @@ module _ (back : Bool) (T : Table) where
   denotes_pass s e g = denotes_leaf s e empty (λ t i. i ∷ []) g (λ t i j m. inl (meant_empty back t i j m))
       (λ t i j h. elim h [ inl is ↦ empty_meant back t i j is | inr n ↦ elim n [ ] ]) (λ up t i. refl)
 
-  pub denotes_empty : (s e : ℕ) → T s ≡ empty_part e → Denotes back T s e empty
+  pub denotes_empty : (s e : ℕ) → T s ≡ empty_draft e → Denotes back T s e empty
   denotes_empty s e is = denotes_pass s e (λ t. goes_empty back t T s e is)
 
-  pub denotes_capture_start : (s pattern group e : ℕ) → T s ≡ capture_start_part pattern group e → Denotes back T s e empty
+  pub denotes_capture_start : (s pattern group e : ℕ) → T s ≡ capture_start_draft pattern group e → Denotes back T s e empty
   denotes_capture_start s pattern group e is = denotes_pass s e (λ t. goes_capture_start back t T s pattern group e is)
 
-  pub denotes_capture_end : (s pattern group e : ℕ) → T s ≡ capture_end_part pattern group e → Denotes back T s e empty
+  pub denotes_capture_end : (s pattern group e : ℕ) → T s ≡ capture_end_draft pattern group e → Denotes back T s e empty
   denotes_capture_end s pattern group e is = denotes_pass s e (λ t. goes_capture_end back t T s pattern group e is)
 
   -- the concatenation of no parts
   pub denotes_nothing_as_empty : (s e : ℕ) → Denotes back T s e empty → Denotes back T s e nothing
   denotes_nothing_as_empty s e a = denotes_like s e empty nothing (λ f. f) (λ looks h i. refl) a
 
-  pub denotes_nothing : (s e : ℕ) → T s ≡ empty_part e → Denotes back T s e nothing
+  pub denotes_nothing : (s e : ℕ) → T s ≡ empty_draft e → Denotes back T s e nothing
   denotes_nothing s e is = denotes_nothing_as_empty s e (denotes_empty s e is)
 
   pub denotes_nothing_here : (s : ℕ) → Denotes back T s s nothing
   denotes_nothing_here s = denotes_nothing_as_empty s s (denotes_empty_here s)
 
-  pub denotes_never : (s e : ℕ) → T s ≡ fail_part → Denotes back T s e never
+  pub denotes_never : (s e : ℕ) → T s ≡ fail_draft → Denotes back T s e never
   denotes_never s e is = record {
     reaches = λ t. reaches_like back t T s e (λ i j. ⊥) (IsMeant back t never) (meant_never back t) (λ i j h. absurd h) (reaches_nowhere back t T s e (goes_fail back t T s is));
     halts = λ f t. halts_like back t T s e (λ i j. ⊥) (IsMeant back t never) (λ i j h. absurd h) (halts_nowhere back t T s e (goes_fail back t T s is));
-    orders = λ up f t. orders_nowhere t T s e (goes_up back t T s (λ i. []) up (goes_fail back t T s is));
+    orders = λ up f t. orders_nowhere t T s e (goes_forward back t T s (λ i. []) up (goes_fail back t T s is));
   }
 
   same_look : back ≡ false → (t : Text) (l : Look) (i : ℕ) → (if is_passed back t (turned back l) i then i ∷ [] else []) ≡ preferred_ends t.holds (seen t) (look l) i
   same_look up t l i = ap (λ (b : Bool). if is_passed b t (turned b l) i then i ∷ [] else []) up
 
-  pub denotes_look : (s e : ℕ) (l : Look) → T s ≡ look_part (turned back l) e → Denotes back T s e (look l)
+  pub denotes_look : (s e : ℕ) (l : Look) → T s ≡ look_draft (turned back l) e → Denotes back T s e (look l)
   denotes_look s e l is = denotes_leaf s e (look l) (λ t i. if is_passed back t (turned back l) i then i ∷ [] else []) (λ t. goes_look back t T s (turned back l) e is)
       (λ t i j m. meant_look back t l i j m) (λ t i j h. look_meant back t l i j h) (λ up t i. same_look up t l i)
 
   same_class : back ≡ false → (t : Text) (ranges : List (ℕ × ℕ)) (i : ℕ) → byte_ends ranges (reads back t i) ≡ preferred_ends t.holds (seen t) (byte_class ranges) i
-  same_class up t ranges i = ap (λ (b : Bool). byte_ends ranges (reads b t i)) up ∙ sym (class_ends_up t ranges i)
+  same_class up t ranges i = ap (λ (b : Bool). byte_ends ranges (reads b t i)) up ∙ sym (class_ends_forward t ranges i)
 
   pub denotes_class : (s e : ℕ) (ranges : List (ℕ × ℕ)) → ((t : Text) → Goes back t T s (λ i. at e (byte_ends ranges (reads back t i)))) → Denotes back T s e (byte_class ranges)
   denotes_class s e ranges g = denotes_leaf s e (byte_class ranges) (λ t i. byte_ends ranges (reads back t i)) g
       (λ t i j m. meant_class back t ranges i j m) (λ t i j h. class_meant back t ranges i j h) (λ up t i. same_class up t ranges i)
 
-  pub denotes_range : (s e low high : ℕ) → T s ≡ range_part low high e → Denotes back T s e (byte_class ((low, high) ∷ []))
+  pub denotes_range : (s e low high : ℕ) → T s ≡ range_draft low high e → Denotes back T s e (byte_class ((low, high) ∷ []))
   denotes_range s e low high is = denotes_class s e ((low, high) ∷ []) (λ t. goes_range back t T s low high e is)
 
-  pub denotes_sparse : (s e : ℕ) (ranges : List (ℕ × ℕ)) → T s ≡ sparse_part (to_one e ranges) → Denotes back T s e (byte_class ranges)
+  pub denotes_sparse : (s e : ℕ) (ranges : List (ℕ × ℕ)) → T s ≡ sparse_draft (to_one e ranges) → Denotes back T s e (byte_class ranges)
   denotes_sparse s e ranges is = denotes_class s e ranges (λ t. goes_sparse back t T s ranges e is)

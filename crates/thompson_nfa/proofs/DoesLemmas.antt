@@ -1,7 +1,7 @@
 -- Small steps on the way from what was made to what it does: directions that stay, choices and ends that are led on.
 use Rattle.std.proofs.Common.{◌≡◌, ℕ, Bool, true, false, refl, ap, subst}
 use Rattle.hir_core.specs.Tree.{Tree}
-use Rattle.nfa_core.specs.BuilderStates.{Assembly, patched, empty_part}
+use Rattle.nfa_core.specs.BuilderStates.{Assembly, patched, empty_draft}
 use Rattle.nfa_core.specs.Drafted.{Table}
 use Rattle.thompson_nfa.specs.Added.{Led}
 use Rattle.thompson_nfa.specs.Choice.{no_choice}
@@ -26,5 +26,5 @@ chosen true a e = refl
 chosen false a e = refl
 
 -- an end that stands for its target
-pub ends_at : (r : Bool) (T : Table) (s m target : ℕ) (x : Tree) → Denotes r T s m x → T m ≡ empty_part target → Denotes r T s target x
+pub ends_at : (r : Bool) (T : Table) (s m target : ℕ) (x : Tree) → Denotes r T s m x → T m ≡ empty_draft target → Denotes r T s target x
 ends_at r T s m target x d e = denotes_then_empty r T s m target x d (denotes_empty r T m target e)

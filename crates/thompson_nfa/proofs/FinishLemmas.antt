@@ -15,7 +15,7 @@ use Rattle.thompson_nfa.specs.Compilations.{IsCompiled}
 use Rattle.thompson_nfa.specs.Assembled.{IsAssembled}
 use Rattle.thompson_nfa.proofs.AssembledCompiled.{assembled_is_compiled, led_to}
 
-pub built_is_compiled : (o : Options) (xs : List Tree) (b : Assembly) (A U : ℕ) (n : Nfa) → IsAssembled o xs b A U → past b.parts A ≢ U →
+pub built_is_compiled : (o : Options) (xs : List Tree) (b : Assembly) (A U : ℕ) (n : Nfa) → IsAssembled o xs b A U → past b.drafts A ≢ U →
     n ≡ nfa_of b A U → MatchOption b.size_limit ⊤ (λ most. memory_of n.automaton.states ≤ most) → IsSound n.automaton →
     ((a : Automaton) (q : ℕ) → IsSound a → Has nat_eq q (reached_freely a) → (s : ℕ) × (r : List ℕ) × Has nat_eq s a.start_pattern × IsChain nat_eq (free_steps a) s r × (last_or s r ≡ q)) →
     ((a : Automaton) (q s : ℕ) (r : List ℕ) → IsSound a → Has nat_eq s a.start_pattern → IsChain nat_eq (free_steps a) s r → last_or s r ≡ q → Has nat_eq q (reached_freely a)) →

@@ -2,15 +2,15 @@
 -- a field of `IsCompiled` and of the records that it names, in specs/Compilations.antt: spans, orders, starts, looks, limits.
 -- What those say of lists of trees, and of two automata at once, is here.
 
--- a state has a look exactly where one of the trees uses it, turned round where the automaton reads downwards
+-- a state has a look exactly where one of the trees uses it, turned round where the automaton reads in reverse
 pub use Rattle.thompson_nfa.proofs.CallerLemmas.{looks_are_used}
--- read upwards, the unanchored start finds what the patterns find at one place after the other
+-- read forward, the unanchored start finds what the patterns find at one place after the other
 pub use Rattle.thompson_nfa.proofs.CallerLemmas.{by_patterns, unanchored_by_patterns}
 -- a span of a haystack of bytes, with words read as bytes, is a text whose edges are read as they are
 pub use Rattle.thompson_nfa.proofs.CallerLemmas.{span_is_read}
 -- a look that is turned round twice is the look
 pub use Rattle.thompson_nfa.proofs.AssembledLooks.{reversed_twice}
--- over one text what is meant upwards is meant downwards; and what the automata of both directions find, from the starts of
+-- over one text what is meant forward is meant in reverse; and what the automata of both directions find, from the starts of
 -- the patterns, the anchored ones, and the unanchored one. Each takes what trees mean in a haystack that is cut, which
 -- `hir_core::cut_laws` says.
 pub use Rattle.thompson_nfa.proofs.DirectionLemmas.{same_meant, same_patterns, same_anchored, same_unanchored}

@@ -13,7 +13,7 @@ use Rattle.thompson_nfa.proofs.WayLemmas.{both_at, Goes}
 module _ (back : Bool) (t : Text) (T : Table) where
   -- the walk of the stack comes to its end
   abbrev pub Ended : List (ℕ × ℕ) → Type 0
-  Ended todo = (l : List (ℕ × ℕ)) × Lists (table_ways back t T) (table_match T) todo l
+  Ended stack = (l : List (ℕ × ℕ)) × Lists (table_ways back t T) (table_match T) stack l
 
   pub ended_none : Ended []
   ended_none = ([], lists_none)

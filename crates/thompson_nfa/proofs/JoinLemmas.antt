@@ -14,7 +14,7 @@ use Rattle.thompson_nfa.proofs.ProgressLemmas.{first_made, then_made, then_led, 
 
 module _ (a b c d : Assembly) (s1 e1 n1 s2 e2 n2 : ℕ) (first : Makes a b s1 e1 n1) (second : Makes b c s2 e2 n2) (led : Led c d e1 s2) where
   -- in the finished table both stand, the first led on to the second
-  pub join_first : (target : ℕ) (table : Table) → Finished (length a.parts) d.parts e2 target table → Finished (length a.parts) b.parts e1 s2 table
+  pub join_first : (target : ℕ) (table : Table) → Finished (length a.drafts) d.drafts e2 target table → Finished (length a.drafts) b.drafts e1 s2 table
   join_first target table fin =
       let f = first.fragment in let g = second.fragment in let l = led.size in let m = g.grows.longer in let k = g.end_new in let j = f.end_there in let h = f.end_new in
       record {
@@ -22,7 +22,7 @@ module _ (a b c d : Assembly) (s1 e1 n1 s2 e2 n2 : ℕ) (first : Makes a b s1 e1
         led = fin.states e1 h (omega arith) (omega arith) ∙ led.here ∙ ap (patched s2) (g.grows.same e1 j);
       }
 
-  pub join_second : (target : ℕ) (table : Table) → Finished (length a.parts) d.parts e2 target table → Finished (length b.parts) c.parts e2 target table
+  pub join_second : (target : ℕ) (table : Table) → Finished (length a.drafts) d.drafts e2 target table → Finished (length b.drafts) c.drafts e2 target table
   join_second target table fin =
       let f = first.fragment in let g = second.fragment in let l = led.size in let m = f.grows.longer in let k = g.end_new in let j = f.end_there in
       record {
@@ -39,8 +39,8 @@ module _ (a b c d : Assembly) (s1 e1 n1 s2 e2 n2 : ℕ) (first : Makes a b s1 e1
       (λ table target fin.
       let later = second.comes_out table target (join_second target table fin) in
       let front = first.comes_out table s2 (join_first target table fin) in
-      let P : ℕ → Type 0 = λ n. AllComeOut table target (length a.parts) n in
-      subst P (sym l) (all_join table target (length a.parts) (length b.parts) (length c.parts) (all_on table target s2 (length a.parts) (length b.parts) front (later s2 p o)) later))
+      let P : ℕ → Type 0 = λ n. AllComeOut table target (length a.drafts) n in
+      subst P (sym l) (all_join table target (length a.drafts) (length b.drafts) (length c.drafts) (all_on table target s2 (length a.drafts) (length b.drafts) front (later s2 p o)) later))
 
   -- what the first leaves to do is done by the second and what that leaves
   pub join_does : (x rest owed whole : Tree) → Joins a.reverse x rest owed → DoesFirst a b s1 e1 owed whole → Does b c s2 e2 x → DoesFirst a d s1 e2 rest whole
@@ -53,28 +53,28 @@ module _ (a b c d : Assembly) (s1 e1 n1 s2 e2 n2 : ℕ) (first : Makes a b s1 e1
     looks = λ l.
         let turn : b.reverse ≡ a.reverse = ap (λ (z : Assembly). z.reverse) first.fragment.grows.settings in
         ap (λ (k : Bool). k || uses a.reverse rest l)
-        (quiet_led led l ∙ does.looks l ∙ ap (λ (r : Bool). looks_in b.parts l || uses r x l) turn)
-        ∙ or_grouped (looks_in b.parts l) (uses a.reverse x l) (uses a.reverse rest l)
-        ∙ ap (λ (k : Bool). looks_in b.parts l || k) (sym (j.met l)) ∙ lead.looks l;
+        (quiet_led led l ∙ does.looks l ∙ ap (λ (r : Bool). looks_in b.drafts l || uses r x l) turn)
+        ∙ or_grouped (looks_in b.drafts l) (uses a.reverse x l) (uses a.reverse rest l)
+        ∙ ap (λ (k : Bool). looks_in b.drafts l || k) (sym (j.met l)) ∙ lead.looks l;
   }
 
 pub does_first : (a b : Assembly) (s e : ℕ) (x rest owed : Tree) → Joins a.reverse x rest owed → Does a b s e x → DoesFirst a b s e rest owed
 does_first a b s e x rest owed j does = record {
   before = λ table target fin last done. denotes_join a.reverse table s target last x rest owed j (does.denotes table target fin) done;
   looks = λ l. ap (λ (k : Bool). k || uses a.reverse rest l) (does.looks l)
-      ∙ or_grouped (looks_in a.parts l) (uses a.reverse x l) (uses a.reverse rest l)
-      ∙ ap (λ (k : Bool). looks_in a.parts l || k) (sym (j.met l));
+      ∙ or_grouped (looks_in a.drafts l) (uses a.reverse x l) (uses a.reverse rest l)
+      ∙ ap (λ (k : Bool). looks_in a.drafts l || k) (sym (j.met l));
 }
 
 pub does_all : (a b : Assembly) (s e : ℕ) (rest whole : Tree) → IsSame empty rest → DoesFirst a b s e rest whole → Does a b s e whole
 does_all a b s e rest whole none lead = record {
   denotes = λ table target fin. lead.before table target fin target (denotes_same a.reverse table target target empty rest none (denotes_empty_here a.reverse table target));
-  looks = λ l. sym (or_none (looks_in b.parts l)) ∙ ap (λ (k : Bool). looks_in b.parts l || k) (none.met a.reverse l) ∙ lead.looks l;
+  looks = λ l. sym (or_none (looks_in b.drafts l)) ∙ ap (λ (k : Bool). looks_in b.drafts l || k) (none.met a.reverse l) ∙ lead.looks l;
 }
 
 -- a tree that is the same to a table
 pub does_same : (a b : Assembly) (s e : ℕ) (x y : Tree) → IsSame x y → Does a b s e x → Does a b s e y
 does_same a b s e x y same does = record {
   denotes = λ table target fin. denotes_same a.reverse table s target x y same (does.denotes table target fin);
-  looks = λ l. does.looks l ∙ ap (λ (k : Bool). looks_in a.parts l || k) (same.met a.reverse l);
+  looks = λ l. does.looks l ∙ ap (λ (k : Bool). looks_in a.drafts l || k) (same.met a.reverse l);
 }

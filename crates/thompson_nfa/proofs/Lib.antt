@@ -4,7 +4,7 @@ pub mod ReachLemmas
 pub mod HaltLemmas
 pub mod FirstsLemmas
 pub mod OrderLemmas
-pub mod DownLemmas
+pub mod InReverseLemmas
 pub mod MeantLemmas
 pub mod DenoteLemmas
 pub mod SameLemmas
@@ -26,7 +26,7 @@ pub mod NotedLemmas
 pub mod CaptureLemmas
 pub mod BranchLemmas
 pub mod OptionLemmas
-pub mod PartsLemmas
+pub mod ConcatLemmas
 pub mod CopyLemmas
 pub mod AlternativeLemmas
 pub mod ScalarLemmas
@@ -43,7 +43,7 @@ pub mod AnchorLemmas
 pub mod AssembledSpans
 pub mod AssembledOrders
 pub mod AssembledReturns
-pub mod AssembledParts
+pub mod AssembledDrafts
 pub mod AssembledLooks
 pub mod ApartLemmas
 pub mod AssembledStarts

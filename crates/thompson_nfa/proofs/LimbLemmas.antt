@@ -3,7 +3,7 @@ use Rattle.std.proofs.Common.{◌≡◌, ℕ, zero, suc, ◌+◌, ◌*◌, ◌<�
 use Rattle.std.specs.Prelude.{All}
 use Rattle.std.proofs.lemmas.Bool.{cases_lt}
 use Rattle.hir_core.specs.Tree.{Tree, alternation}
-use Rattle.nfa_core.specs.BuilderStates.{Assembly, part_at, sparse_part}
+use Rattle.nfa_core.specs.BuilderStates.{Assembly, draft_at, sparse_draft}
 use Rattle.nfa_core.specs.CanBuild.{names_of}
 use Rattle.nfa_core.specs.Renaming.{stands_for}
 use Rattle.nfa_core.specs.Drafted.{Table}
@@ -28,11 +28,11 @@ use Rattle.thompson_nfa.proofs.StackLemmas.{rises_ascends, few_bytes}
 pub has_progress : {old b : Assembly} {end most : ℕ} → HasStates old b end most → Progress true old b most 8
 has_progress h = record { partly = record { grows = h.grows; tame = h.tame }; states = h.states; bytes = h.bytes; numbered = h.numbered }
 
-has_added : (old b c : Assembly) (end most id : ℕ) (trans : List (ℕ × ℕ × ℕ)) → HasStates old b end most → Added b c id (sparse_part trans) b.groups → RisesIn 0 trans →
-    All (λ q. q < length c.parts) (names_of (sparse_part trans)) → HasStates old c end (most + 1)
+has_added : (old b c : Assembly) (end most id : ℕ) (trans : List (ℕ × ℕ × ℕ)) → HasStates old b end most → Added b c id (sparse_draft trans) b.groups → RisesIn 0 trans →
+    All (λ q. q < length c.drafts) (names_of (sparse_draft trans)) → HasStates old c end (most + 1)
 has_added old b c end most id trans h x up named =
     let few = few_bytes trans up in
-    let tame : IsTame true c (sparse_part trans) = record { named = named; known = refl; not_barred = refl } in
+    let tame : IsTame true c (sparse_draft trans) = record { named = named; known = refl; not_barred = refl } in
     let p : Progress true old c (most + 1) 8 = then_added 8 (has_progress h) x tame (omega arith) in
     let there = h.there in let size = x.size in let is = x.is in
     record {
@@ -43,11 +43,11 @@ has_added old b c end most id trans h x up named =
       tame = p.partly.tame;
       waits = x.grows.same end h.there ∙ h.waits;
       stands = λ q behind low. ⊎_elim
-          (λ (l : q < length b.parts). ap stands_for (x.grows.same q l) ∙ h.stands q behind l)
-          (λ (l : length b.parts ≤ q).
+          (λ (l : q < length b.drafts). ap stands_for (x.grows.same q l) ∙ h.stands q behind l)
+          (λ (l : length b.drafts ≤ q).
           let same : q ≡ id = omega arith in
-          ap (λ k. stands_for (part_at c.parts k)) same ∙ ap stands_for x.here)
-          (cases_lt q (length b.parts));
+          ap (λ k. stands_for (draft_at c.drafts k)) same ∙ ap stands_for x.here)
+          (cases_lt q (length b.drafts));
       states = p.states;
       bytes = p.bytes;
       numbered = p.numbered;
@@ -60,8 +60,8 @@ pub record More (old b c : Assembly) (end most : ℕ) : Type 0 where
   pub has : HasStates old c end now
   pub grows : Grows b c
 
-pub more_states : (old b c : Assembly) (end most id : ℕ) (trans : List (ℕ × ℕ × ℕ)) → HasStates old b end most → RisesIn 0 trans → All (λ q. q < length c.parts) (names_of (sparse_part trans)) →
-    (c ≡ b) ⊎ Added b c id (sparse_part trans) b.groups → More old b c end most
+pub more_states : (old b c : Assembly) (end most id : ℕ) (trans : List (ℕ × ℕ × ℕ)) → HasStates old b end most → RisesIn 0 trans → All (λ q. q < length c.drafts) (names_of (sparse_draft trans)) →
+    (c ≡ b) ⊎ Added b c id (sparse_draft trans) b.groups → More old b c end most
 more_states old b c end most id trans h up named (inl same) =
     let P : Assembly → Type 0 = λ z. More old b z end most in
     subst P (sym same) (record { now = most; least = omega arith; has = h; grows = grows_refl b })
@@ -69,8 +69,8 @@ more_states old b c end most id trans h up named (inr x) = record { now = most +
 
 -- ---- branches and nodes
 
-pub names_below : (n a b next : ℕ) (bs : List Branch) → BranchesBelow n bs → next < n → (k d : ℕ) → k < length (names_of (sparse_part (map edge bs ++ (a, b, next) ∷ []))) →
-    get_or (names_of (sparse_part (map edge bs ++ (a, b, next) ∷ []))) k d < n
+pub names_below : (n a b next : ℕ) (bs : List Branch) → BranchesBelow n bs → next < n → (k d : ℕ) → k < length (names_of (sparse_draft (map edge bs ++ (a, b, next) ∷ []))) →
+    get_or (names_of (sparse_draft (map edge bs ++ (a, b, next) ∷ []))) k d < n
 names_below n a b next [] below l zero d h = l
 names_below n a b next [] below l (suc k) d h = absurd (omega arith)
 names_below n a b next (x ∷ bs) below l zero d h = below.0
@@ -137,7 +137,7 @@ module _ (back : Bool) (T : Table) (e : ℕ) where
   all_trees (x ∷ bs) a b next y = ap (λ (l : List Tree). branch_tree back x ∷ l) (all_trees bs a b next y)
 
   -- the state of a node, where the states above are made
-  pub node_leads : (id next : ℕ) (l : Limb) (above : List Limb) → T id ≡ sparse_part (frozen_with next (stage_of l)) → RisesIn 0 (frozen_with next (stage_of l)) → BranchesLead back T e l.branches →
+  pub node_leads : (id next : ℕ) (l : Limb) (above : List Limb) → T id ≡ sparse_draft (frozen_with next (stage_of l)) → RisesIn 0 (frozen_with next (stage_of l)) → BranchesLead back T e l.branches →
       Denotes back T next e (limb_tree back above) → Denotes back T id e (limb_tree back (l ∷ above))
   node_leads id next l above is up lead d =
       let P : List Tree → Type 0 = λ ys. Denotes back T id e (alternation ys) in
@@ -173,7 +173,7 @@ last_limb (n ∷ ms) top (l ∷ front) e =
 
 -- ---- states are made from the top down
 
-pub finishes_before : (b c : Assembly) (end : ℕ) (table : Table) → Grows b c → Finishes end c.parts end table → Finishes end b.parts end table
+pub finishes_before : (b c : Assembly) (end : ℕ) (table : Table) → Grows b c → Finishes end c.drafts end table → Finishes end b.drafts end table
 finishes_before b c end table g fin q low high ne = let l = g.longer in fin q low (omega arith) ne ∙ g.same q high
 
 -- from the states on the path to where the last one's last range leads, and from there to the end
@@ -185,11 +185,11 @@ pub record Popped (old b : Assembly) (end : ℕ) (ls0 : List Limb) (ns : List St
   pub rest : List Limb
   pub split : ls0 ≡ front ++ rest
   pub nodes_are : ns ≡ map stage_of front
-  pub below : LimbsBelow (length b.parts) front
+  pub below : LimbsBelow (length b.drafts) front
   pub next_behind : end ≤ next
-  pub next_there : next < length b.parts
-  pub leads : (table : Table) → Finishes end b.parts end table → LimbsLead old.reverse table end front
-  pub next_leads : (table : Table) → Finishes end b.parts end table → Denotes old.reverse table next end (limb_tree old.reverse rest)
+  pub next_there : next < length b.drafts
+  pub leads : (table : Table) → Finishes end b.drafts end table → LimbsLead old.reverse table end front
+  pub next_leads : (table : Table) → Finishes end b.drafts end table → Denotes old.reverse table next end (limb_tree old.reverse rest)
 
 pub popped_none : (old b : Assembly) (end : ℕ) (compiled : SlotTable (List Transition)) (ns : List Stage) (qs : List (List (ℕ × ℕ))) (c : IsCompiling old b end compiled ns qs) →
     Popped old b end c.limbs ns end (1 + 4 * length qs)
@@ -212,21 +212,21 @@ module _ (old b c : Assembly) (end : ℕ) (ls0 : List Limb) (ns ms : List Stage)
   at_top : LastLimb p.front ms top.top
   at_top = last_limb ms top.top p.front (sym p.nodes_are ∙ top.split)
 
-  top_below : LimbsBelow (length b.parts) (at_top.init ++ at_top.last ∷ [])
-  top_below = let P : List Limb → Type 0 = λ l. LimbsBelow (length b.parts) l in subst P at_top.front_is p.below
+  top_below : LimbsBelow (length b.drafts) (at_top.init ++ at_top.last ∷ [])
+  top_below = let P : List Limb → Type 0 = λ l. LimbsBelow (length b.drafts) l in subst P at_top.front_is p.below
 
-  top_leads : (table : Table) → Finishes end b.parts end table → LimbsLead old.reverse table end (at_top.init ++ at_top.last ∷ [])
+  top_leads : (table : Table) → Finishes end b.drafts end table → LimbsLead old.reverse table end (at_top.init ++ at_top.last ∷ [])
   top_leads table fin = let P : List Limb → Type 0 = λ l. LimbsLead old.reverse table end l in subst P at_top.front_is (p.leads table fin)
 
-  top_named : length b.parts ≤ length c.parts → All (λ q. q < length c.parts) (names_of (sparse_part (frozen_with next top.top)))
+  top_named : length b.drafts ≤ length c.drafts → All (λ q. q < length c.drafts) (names_of (sparse_draft (frozen_with next top.top)))
   top_named longer =
       let l = p.next_there in
-      let P : Stage → Type 0 = λ s. All (λ q. q < length c.parts) (names_of (sparse_part (frozen_with next s))) in
-      let branches = (below_back (length b.parts) at_top.init (at_top.last ∷ []) top_below).0 in
-      subst P (sym at_top.top_is) (names_below (length c.parts) at_top.last.last.0 at_top.last.last.1 next at_top.last.branches (branches_wider (length b.parts) (length c.parts) at_top.last.branches longer branches) (omega arith))
+      let P : Stage → Type 0 = λ s. All (λ q. q < length c.drafts) (names_of (sparse_draft (frozen_with next s))) in
+      let branches = (below_back (length b.drafts) at_top.init (at_top.last ∷ []) top_below).0 in
+      subst P (sym at_top.top_is) (names_below (length c.drafts) at_top.last.last.0 at_top.last.last.1 next at_top.last.branches (branches_wider (length b.drafts) (length c.drafts) at_top.last.branches longer branches) (omega arith))
 
-  longer_by : (c ≡ b) ⊎ Added b c id (sparse_part (frozen_with next top.top)) b.groups → length b.parts ≤ length c.parts
-  longer_by (inl same) = let e : length c.parts ≡ length b.parts = ap (λ (z : Assembly). length z.parts) same in omega arith
+  longer_by : (c ≡ b) ⊎ Added b c id (sparse_draft (frozen_with next top.top)) b.groups → length b.drafts ≤ length c.drafts
+  longer_by (inl same) = let e : length c.drafts ≡ length b.drafts = ap (λ (z : Assembly). length z.drafts) same in omega arith
   longer_by (inr x) = x.grows.longer
 
   top_more : More old b c end p.most
@@ -236,7 +236,7 @@ module _ (old b c : Assembly) (end : ℕ) (ls0 : List Limb) (ns ms : List Stage)
   popped_top =
       let more = top_more in let least = more.least in let room = p.room in let behind = top.compiles.behind in
       let shorter : length ns ≡ length ms + 1 = ap length top.split ∙ length-append ms (top.top ∷ []) in
-      let before : (table : Table) → Finishes end c.parts end table → Finishes end b.parts end table = λ table fin. finishes_before b c end table more.grows fin in
+      let before : (table : Table) → Finishes end c.drafts end table → Finishes end b.drafts end table = λ table fin. finishes_before b c end table more.grows fin in
       record {
         most = more.now;
         has = more.has;
@@ -245,12 +245,12 @@ module _ (old b c : Assembly) (end : ℕ) (ls0 : List Limb) (ns ms : List Stage)
         rest = at_top.last ∷ p.rest;
         split = p.split ∙ ap (λ (l : List Limb). l ++ p.rest) at_top.front_is ∙ append_assoc at_top.init (at_top.last ∷ []) p.rest;
         nodes_are = at_top.ms_is;
-        below = limbs_wider (length b.parts) (length c.parts) at_top.init more.grows.longer (below_front (length b.parts) at_top.init (at_top.last ∷ []) top_below);
+        below = limbs_wider (length b.drafts) (length c.drafts) at_top.init more.grows.longer (below_front (length b.drafts) at_top.init (at_top.last ∷ []) top_below);
         next_behind = omega arith;
         next_there = top.compiles.there;
         leads = λ table fin. lead_front old.reverse table end at_top.init (at_top.last ∷ []) (top_leads table (before table fin));
         next_leads = λ table fin.
-            let P : Stage → Type 0 = λ s. table id ≡ sparse_part (frozen_with next s) in
+            let P : Stage → Type 0 = λ s. table id ≡ sparse_draft (frozen_with next s) in
             let Q : Stage → Type 0 = λ s. RisesIn 0 (frozen_with next s) in
             let is = subst P at_top.top_is (fin id (omega arith) top.compiles.there (λ (same : id ≡ end). omega arith) ∙ top.compiles.here) in
             node_leads old.reverse table end id next at_top.last p.rest is (subst Q at_top.top_is top.compiles.rises)

@@ -7,7 +7,7 @@ use Rattle.std.proofs.lemmas.List.Elements.{All-push, All-weaker}
 use Rattle.thompson_nfa.proofs.LiteralNodeLemmas.{chunks_append, edges_append}
 use Rattle.search_core.specs.Index.{greatest_index}
 use Rattle.hir_core.specs.Tree.{Tree, empty, alternation}
-use Rattle.nfa_core.specs.BuilderStates.{Part, Assembly, AscendsFrom, part_at, part_bytes, sparse_part, union_part}
+use Rattle.nfa_core.specs.BuilderStates.{DraftNode, Assembly, AscendsFrom, draft_at, draft_bytes, sparse_draft, union_draft}
 use Rattle.nfa_core.specs.CanBuild.{names_of}
 use Rattle.nfa_core.specs.Drafted.{Table}
 use Rattle.nfa_core.specs.Renaming.{stands_for}
@@ -42,18 +42,18 @@ ranges_long : (names : List ℕ) (es : List Edge) → length (edge_ranges names 
 ranges_long names [] = refl
 ranges_long names (e ∷ es) = ap (λ (n : ℕ). suc n) (ranges_long names es)
 
-pub chunk_bytes : (names : List ℕ) (es : List Edge) → Ascends 0 es 256 → part_bytes (sparse_part (edge_ranges names es)) ≤ 2072
+pub chunk_bytes : (names : List ℕ) (es : List Edge) → Ascends 0 es 256 → draft_bytes (sparse_draft (edge_ranges names es)) ≤ 2072
 chunk_bytes names es a = omega (arith, few_edges 0 256 es a, ranges_long names es)
 
 pub chunk_ascends : (names : List ℕ) (es : List Edge) (ranges : List (ℕ × ℕ × ℕ)) → Ascends 0 es 256 → ranges ≡ edge_ranges names es → AscendsFrom 0 ranges
 chunk_ascends names es ranges a e = let P : List (ℕ × ℕ × ℕ) → Type 0 = λ l. AscendsFrom 0 l in subst P (sym e) (ranges_ascend names 0 256 es a)
 
-pub bytes_of_chunk : (names : List ℕ) (es : List Edge) (ranges : List (ℕ × ℕ × ℕ)) → Ascends 0 es 256 → ranges ≡ edge_ranges names es → part_bytes (sparse_part ranges) ≤ 2072
-bytes_of_chunk names es ranges a e = let P : List (ℕ × ℕ × ℕ) → Type 0 = λ l. part_bytes (sparse_part l) ≤ 2072 in subst P (sym e) (chunk_bytes names es a)
+pub bytes_of_chunk : (names : List ℕ) (es : List Edge) (ranges : List (ℕ × ℕ × ℕ)) → Ascends 0 es 256 → ranges ≡ edge_ranges names es → draft_bytes (sparse_draft ranges) ≤ 2072
+bytes_of_chunk names es ranges a e = let P : List (ℕ × ℕ × ℕ) → Type 0 = λ l. draft_bytes (sparse_draft l) ≤ 2072 in subst P (sym e) (chunk_bytes names es a)
 
 -- the state names states that are there
-chunk_names : (names : List ℕ) (n first : ℕ) (es : List Edge) → All (λ q. q < n) names → AreInside first (length names) es → (k d : ℕ) → k < length (names_of (sparse_part (edge_ranges names es))) →
-    get_or (names_of (sparse_part (edge_ranges names es))) k d < n
+chunk_names : (names : List ℕ) (n first : ℕ) (es : List Edge) → All (λ q. q < n) names → AreInside first (length names) es → (k d : ℕ) → k < length (names_of (sparse_draft (edge_ranges names es))) →
+    get_or (names_of (sparse_draft (edge_ranges names es))) k d < n
 chunk_names names n first [] all a k d l = absurd (omega arith)
 chunk_names names n first (e ∷ es) all a zero d l = all e.next 0 a.1
 chunk_names names n first (e ∷ es) all a (suc k) d l = chunk_names names n first es all a.2 k d (omega arith)
@@ -68,21 +68,21 @@ lead_edges back T end first names x (e ∷ es) led a = (led e.next a.0 a.1, lead
 
 -- the common end, or one of the states that were added
 abbrev pub IsWay : Assembly → Assembly → ℕ → ℕ → Type 0
-IsWay old mid end q = (q ≡ end) ⊎ ((length old.parts ≤ q) × (q < length mid.parts))
+IsWay old mid end q = (q ≡ end) ⊎ ((length old.drafts ≤ q) × (q < length mid.drafts))
 
 -- the table has the states that were added
 abbrev pub HasStates : Assembly → Assembly → Table → Type 0
-HasStates old mid table = (q : ℕ) → length old.parts ≤ q → q < length mid.parts → table q ≡ part_at mid.parts q
+HasStates old mid table = (q : ℕ) → length old.drafts ≤ q → q < length mid.drafts → table q ≡ draft_at mid.drafts q
 
 -- the items so far, each with the state that is the way to it
 pub record ItemsTo (old mid : Assembly) (names : List ℕ) (end : ℕ) (items : List (List Edge)) (ways : List ℕ) : Type 0 where
   pub partly : Partly true old mid
   pub groups : mid.groups ≡ old.groups
   pub ways_long : length ways ≡ length items
-  pub states : length mid.parts ≡ length old.parts + chunks_in items
-  pub bytes : sum_of_bytes mid + 8 * chunks_in items + 4096 * length old.parts ≤ sum_of_bytes old + 4096 * length mid.parts
-  pub numbered : length old.parts ≤ greatest_index + 1 → length mid.parts ≤ greatest_index + 1
-  pub stands : (q : ℕ) → length old.parts ≤ q → q < length mid.parts → stands_for (part_at mid.parts q) ≡ None
+  pub states : length mid.drafts ≡ length old.drafts + chunks_in items
+  pub bytes : sum_of_bytes mid + 8 * chunks_in items + 4096 * length old.drafts ≤ sum_of_bytes old + 4096 * length mid.drafts
+  pub numbered : length old.drafts ≤ greatest_index + 1 → length mid.drafts ≤ greatest_index + 1
+  pub stands : (q : ℕ) → length old.drafts ≤ q → q < length mid.drafts → stands_for (draft_at mid.drafts q) ≡ None
   pub there : All (IsWay old mid end) ways
   pub denotes : (table : Table) → HasStates old mid table → (first : ℕ) → AreChunks first (length names) items → (x : ℕ → Tree) → IsLed old.reverse table end first names x →
       AllDenote old.reverse table end ways (item_trees old.reverse names x items)
@@ -135,17 +135,17 @@ module _ (old mid : Assembly) (names : List ℕ) (end : ℕ) (items : List (List
             (so_far.denotes table has first (chunks_before first (length names) items ([] ∷ []) chunks) x led) (denotes_empty_here old.reverse table end));
       }
 
-  module _ (new : Assembly) (id : ℕ) (e : Edge) (es : List Edge) (added : Added mid new id (sparse_part (edge_ranges names (e ∷ es))) mid.groups) (names_there : All (λ q. q < length old.parts) names)
+  module _ (new : Assembly) (id : ℕ) (e : Edge) (es : List Edge) (added : Added mid new id (sparse_draft (edge_ranges names (e ∷ es))) mid.groups) (names_there : All (λ q. q < length old.drafts) names)
       (inside : AreInside 0 (length names) (e ∷ es)) (ascends : Ascends 0 (e ∷ es) 256) where
-    abbrev part : Part
-    part = sparse_part (edge_ranges names (e ∷ es))
+    abbrev draft : DraftNode
+    draft = sparse_draft (edge_ranges names (e ∷ es))
 
     one : chunks_in (items ++ (e ∷ es) ∷ []) ≡ chunks_in items + 1
     one = chunks_append items ((e ∷ es) ∷ [])
 
-    tame : IsTame true new part
+    tame : IsTame true new draft
     tame = record {
-      named = chunk_names names (length new.parts) 0 (e ∷ es) (All-weaker (λ q. q < length old.parts) (λ q. q < length new.parts) (λ q l. omega (arith, added.size, so_far.states)) names names_there) inside;
+      named = chunk_names names (length new.drafts) 0 (e ∷ es) (All-weaker (λ q. q < length old.drafts) (λ q. q < length new.drafts) (λ q l. omega (arith, added.size, so_far.states)) names names_there) inside;
       known = refl;
       not_barred = refl;
     }
@@ -164,11 +164,11 @@ module _ (old mid : Assembly) (names : List ℕ) (end : ℕ) (items : List (List
           bytes = omega (arith, one, so_far.bytes, added.bytes, chunk_bytes names (e ∷ es) ascends);
           numbered = λ l. added.numbered;
           stands = λ q l h. ⊎_elim
-              (λ (k : q < length mid.parts). ap stands_for (added.grows.same q k) ∙ so_far.stands q l k)
-              (λ (k : length mid.parts ≤ q). let same : id ≡ q = omega arith in let P : ℕ → Type 0 = λ j. stands_for (part_at new.parts j) ≡ None in subst P same (ap stands_for added.here))
-              (cases_lt q (length mid.parts));
+              (λ (k : q < length mid.drafts). ap stands_for (added.grows.same q k) ∙ so_far.stands q l k)
+              (λ (k : length mid.drafts ≤ q). let same : id ≡ q = omega arith in let P : ℕ → Type 0 = λ j. stands_for (draft_at new.drafts j) ≡ None in subst P same (ap stands_for added.here))
+              (cases_lt q (length mid.drafts));
           there = All-push (IsWay old new end) ways id
-              (All-weaker (IsWay old mid end) (IsWay old new end) (λ q w. ⊎_elim (λ (s : q ≡ end). inl s) (λ (n : (length old.parts ≤ q) × (q < length mid.parts)). let a = n.1 in inr (n.0, omega arith)) w) ways so_far.there)
+              (All-weaker (IsWay old mid end) (IsWay old new end) (λ q w. ⊎_elim (λ (s : q ≡ end). inl s) (λ (n : (length old.drafts ≤ q) × (q < length mid.drafts)). let a = n.1 in inr (n.0, omega arith)) w) ways so_far.there)
               (inr (omega arith, omega arith));
           denotes = λ table has first chunks x led.
               let P : List Tree → Type 0 = λ ts. AllDenote old.reverse table end (ways ++ id ∷ []) ts in
@@ -180,7 +180,7 @@ module _ (old mid : Assembly) (names : List ℕ) (end : ℕ) (items : List (List
               (lead_edges old.reverse table end first names x (e ∷ es) led here.1)));
         }
 
-  pub item_added : (new : Assembly) (id : ℕ) (item : List Edge) → AddsItem mid new names end item id → All (λ q. q < length old.parts) names → AreInside 0 (length names) item → Ascends 0 item 256 →
+  pub item_added : (new : Assembly) (id : ℕ) (item : List Edge) → AddsItem mid new names end item id → All (λ q. q < length old.drafts) names → AreInside 0 (length names) item → Ascends 0 item 256 →
       ItemsTo old new names end (items ++ item ∷ []) (ways ++ id ∷ [])
   item_added new id [] a there inside ascends =
       let P : Assembly → Type 0 = λ b. ItemsTo old b names end (items ++ [] ∷ []) (ways ++ id ∷ []) in
@@ -195,7 +195,7 @@ chunks_edges [] = omega arith
 chunks_edges ([] ∷ is) = omega (arith, chunks_edges is)
 chunks_edges ((e ∷ es) ∷ is) = omega (arith, chunks_edges is)
 
-two_stand : (names : List ℕ) → 2 ≤ length names → stands_for (union_part names) ≡ None
+two_stand : (names : List ℕ) → 2 ≤ length names → stands_for (union_draft names) ≡ None
 two_stand [] l = absurd (omega arith)
 two_stand (a ∷ []) l = absurd (omega arith)
 two_stand (a ∷ b ∷ names) l = refl
@@ -220,14 +220,14 @@ module _ (old mid : Assembly) (names : List ℕ) (end : ℕ) (items : List (List
     denotes = λ table has first chunks x led. only_one old.reverse table end ways (item_trees old.reverse names x items) one (so_far.denotes table has first chunks x led);
   }
 
-  module _ (new : Assembly) (id : ℕ) (two : 2 ≤ length ways) (end_there : end < length old.parts) (added : Added mid new id (union_part ways) mid.groups) where
+  module _ (new : Assembly) (id : ℕ) (two : 2 ≤ length ways) (end_there : end < length old.drafts) (added : Added mid new id (union_draft ways) mid.groups) where
     some_chunk : 1 ≤ chunks_in items
     some_chunk = omega (arith, so_far.ways_long)
 
-    union_tame : IsTame true new (union_part ways)
+    union_tame : IsTame true new (union_draft ways)
     union_tame = record {
-      named = All-weaker (IsWay old mid end) (λ q. q < length new.parts)
-          (λ q w. let a = so_far.states in let b = added.size in ⊎_elim (λ (s : q ≡ end). omega arith) (λ (n : (length old.parts ≤ q) × (q < length mid.parts)). let h = n.1 in omega arith) w) ways so_far.there;
+      named = All-weaker (IsWay old mid end) (λ q. q < length new.drafts)
+          (λ q w. let a = so_far.states in let b = added.size in ⊎_elim (λ (s : q ≡ end). omega arith) (λ (n : (length old.drafts ≤ q) × (q < length mid.drafts)). let h = n.1 in omega arith) w) ways so_far.there;
       known = refl;
       not_barred = refl;
     }
@@ -247,9 +247,9 @@ module _ (old mid : Assembly) (names : List ℕ) (end : ℕ) (items : List (List
           numbered = λ l. added.numbered;
           tame = all.tame;
           stands = λ q l h. ⊎_elim
-              (λ (k : q < length mid.parts). ap stands_for (added.grows.same q k) ∙ so_far.stands q l k)
-              (λ (k : length mid.parts ≤ q). let same : id ≡ q = omega arith in let P : ℕ → Type 0 = λ j. stands_for (part_at new.parts j) ≡ None in subst P same (ap stands_for added.here ∙ two_stand ways two))
-              (cases_lt q (length mid.parts));
+              (λ (k : q < length mid.drafts). ap stands_for (added.grows.same q k) ∙ so_far.stands q l k)
+              (λ (k : length mid.drafts ≤ q). let same : id ≡ q = omega arith in let P : ℕ → Type 0 = λ j. stands_for (draft_at new.drafts j) ≡ None in subst P same (ap stands_for added.here ∙ two_stand ways two))
+              (cases_lt q (length mid.drafts));
           there = inr (omega arith, omega arith);
           denotes = λ table has first chunks x led.
               denotes_alternation old.reverse table id end ways (item_trees old.reverse names x items) (has id (omega arith) (omega arith) ∙ added.here)
@@ -313,7 +313,7 @@ module _ {V : Type 0} (items_of : V → List Edge) (rows : List V) (k : ℕ) (v 
   row_chunk end a = chunk_at 0 end (map items_of rows) k row a inside here
 
   pub row_added : (old mid new : Assembly) (names : List ℕ) (end id : ℕ) (ways ways2 : List ℕ) → ItemsTo old mid names end (take k (map items_of rows)) ways → AddsItem mid new names end row id → ways2 ≡ ways ++ id ∷ [] →
-      All (λ q. q < length old.parts) names → AreChunks 0 (length names) (map items_of rows) → ItemsTo old new names end (take (k + 1) (map items_of rows)) ways2
+      All (λ q. q < length old.drafts) names → AreChunks 0 (length names) (map items_of rows) → ItemsTo old new names end (take (k + 1) (map items_of rows)) ways2
   row_added old mid new names end id ways ways2 so_far a e there chunks =
       let c = row_chunk (length names) chunks in
       let P : List (List Edge) → Type 0 = λ is. ItemsTo old new names end is ways2 in
@@ -353,7 +353,7 @@ module _ {V : Type 0} (items_of : V → List Edge) (rows : List V) (k : ℕ) (ol
       let P : ℕ → Type 0 = λ j. AddsNode old mid names end (map items_of rows) j in
       subst P (got_same ways 0 q (omega arith) is) (one_item old mid names end (map items_of rows) ways whole few_rows l)
 
-  pub rows_union : (new : Assembly) (id n : ℕ) → n ≡ length ways → (n ≡ 1 → ⊥) → end < length old.parts → Added mid new id (union_part ways) mid.groups → AddsNode old new names end (map items_of rows) id
+  pub rows_union : (new : Assembly) (id n : ℕ) → n ≡ length ways → (n ≡ 1 → ⊥) → end < length old.drafts → Added mid new id (union_draft ways) mid.groups → AddsNode old new names end (map items_of rows) id
   rows_union new id n e ne there added = more_items old mid names end (map items_of rows) ways whole few_rows new id (two_rows n e ne) there added
 
   pub rows_refused : (new : Assembly) (e : BuildError) (n : ℕ) → n ≡ length ways → (n ≡ 1 → ⊥) → Stays mid new 1 (24 + 4 * length ways) e → Quits old new (2 * edges_in (map items_of rows)) e

@@ -9,7 +9,7 @@ use Rattle.hir_core.specs.Means.{Looks, Means, stands}
 use Rattle.hir_core.specs.PreferredEnds.{preferred_ends, Has as HasEnd}
 use Rattle.hir_core.specs.Tree.{Tree, empty, literal, alternation}
 use Rattle.hir_core.proofs.ForCallers.{Has-left, Has-right, Has-append, Has-if, Has-then, flat_map_same}
-use Rattle.nfa_core.specs.BuilderStates.{range_part}
+use Rattle.nfa_core.specs.BuilderStates.{range_draft}
 use Rattle.nfa_core.specs.Drafted.{Table}
 use Rattle.nfa_core.specs.Walks.{Has, distinct}
 use Rattle.nfa_core.specs.Ways.{Text}
@@ -246,7 +246,7 @@ denotes_node back T s e names groups items strings like d =
     (λ f. items_read back names (node_tree back groups) items (λ n. literals_read back (get_or groups n []))) (λ looks h i. items_ends looks h back names groups items i) d)
 
 -- a byte, and then what is read behind it
-pub denotes_byte_then : (back : Bool) (T : Table) (s q e b : ℕ) (ws : List (List ℕ)) → T s ≡ range_part b b q → Denotes back T q e (literals back ws) → Denotes back T s e (literals back (behind_byte b ws))
+pub denotes_byte_then : (back : Bool) (T : Table) (s q e b : ℕ) (ws : List (List ℕ)) → T s ≡ range_draft b b q → Denotes back T q e (literals back ws) → Denotes back T s e (literals back (behind_byte b ws))
 denotes_byte_then back T s q e b ws is d =
     let both : Tree = read_then back (b, b) (literals back ws) in
     denotes_like back T s e both (literals back (behind_byte b ws)) (λ f. read_reads back (b, b) (literals back ws) (literals_read back ws)) (λ looks h i. read_ends looks h back b ws i)

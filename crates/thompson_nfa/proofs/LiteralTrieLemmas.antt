@@ -5,7 +5,7 @@ use Rattle.std.proofs.lemmas.Bool.{cases_lt, cases_eq}
 use Rattle.std.proofs.lemmas.List.{length-set, get_or-set_same, get_or-set_other, get_or-map, length-map}
 use Rattle.std.proofs.lemmas.List.Elements.{All-weaker}
 use Rattle.search_core.specs.Index.{greatest_index}
-use Rattle.nfa_core.specs.BuilderStates.{Assembly, part_at, patched, is_sparse, empty_part}
+use Rattle.nfa_core.specs.BuilderStates.{Assembly, draft_at, patched, is_sparse, empty_draft}
 use Rattle.nfa_core.specs.Drafted.{Table}
 use Rattle.nfa_core.specs.Renaming.{stands_for}
 use Rattle.nfa_core.specs.declared.build_error.BuildError.{BuildError}
@@ -33,25 +33,25 @@ use Rattle.thompson_nfa.proofs.ScalarLemmas.{Spent, quits_later}
 
 -- one of the states from the common end on
 abbrev pub IsThere : Assembly → Assembly → ℕ → Type 0
-IsThere old mid q = (length old.parts ≤ q) × (q < length mid.parts)
+IsThere old mid q = (length old.drafts ≤ q) × (q < length mid.drafts)
 
 -- the table has the states that were added, but for the common end
 abbrev pub HasOthers : Assembly → Assembly → Table → Type 0
-HasOthers old mid table = (q : ℕ) → length old.parts < q → q < length mid.parts → table q ≡ part_at mid.parts q
+HasOthers old mid table = (q : ℕ) → length old.drafts < q → q < length mid.drafts → table q ≡ draft_at mid.drafts q
 
 -- the nodes from number k on are compiled
 pub record TrieTo (old mid : Assembly) (end : ℕ) (nodes : List NodeValue) (strings : List (List ℕ)) (names : List ℕ) (k : ℕ) : Type 0 where
   pub trie : IsTrie nodes strings
   pub within : k ≤ length nodes
-  pub end_is : end ≡ length old.parts
+  pub end_is : end ≡ length old.drafts
   pub partly : Partly true old mid
   pub groups : mid.groups ≡ old.groups
-  pub here : part_at mid.parts end ≡ empty_part 0
-  pub longer : length old.parts + 1 ≤ length mid.parts
-  pub states : length mid.parts ≤ length old.parts + 1 + 2 * weight_in_all (drop k nodes)
-  pub bytes : sum_of_bytes mid + 8 + 4096 * length old.parts ≤ sum_of_bytes old + 4096 * length mid.parts
-  pub numbered : length mid.parts ≤ greatest_index + 1
-  pub stands : (q : ℕ) → length old.parts < q → q < length mid.parts → stands_for (part_at mid.parts q) ≡ None
+  pub here : draft_at mid.drafts end ≡ empty_draft 0
+  pub longer : length old.drafts + 1 ≤ length mid.drafts
+  pub states : length mid.drafts ≤ length old.drafts + 1 + 2 * weight_in_all (drop k nodes)
+  pub bytes : sum_of_bytes mid + 8 + 4096 * length old.drafts ≤ sum_of_bytes old + 4096 * length mid.drafts
+  pub numbered : length mid.drafts ≤ greatest_index + 1
+  pub stands : (q : ℕ) → length old.drafts < q → q < length mid.drafts → stands_for (draft_at mid.drafts q) ≡ None
   pub names_long : length names ≡ length nodes
   pub names_there : All (IsThere old mid) names
   pub denotes : (table : Table) → HasOthers old mid table → (n : ℕ) → k ≤ n → n < length nodes → Denotes old.reverse table (get_or names n 0) end (literals old.reverse (get_or trie.groups n []))
@@ -69,7 +69,7 @@ weight_left nodes zero = omega arith
 weight_left [] (suc k) = omega arith
 weight_left (n ∷ nodes) (suc k) = omega (arith, weight_left nodes k)
 
-pub trie_begun : (old mid : Assembly) (end : ℕ) (nodes : List NodeValue) (strings : List (List ℕ)) (names : List ℕ) (k : ℕ) → IsTrie nodes strings → Added old mid end (empty_part 0) old.groups → length names ≡ length nodes →
+pub trie_begun : (old mid : Assembly) (end : ℕ) (nodes : List NodeValue) (strings : List (List ℕ)) (names : List ℕ) (k : ℕ) → IsTrie nodes strings → Added old mid end (empty_draft 0) old.groups → length names ≡ length nodes →
     All (λ q. q ≡ end) names → k ≡ length nodes → TrieTo old mid end nodes strings names k
 trie_begun old mid end nodes strings names k trie added long same past =
     let is = added.is in let size = added.size in
@@ -77,7 +77,7 @@ trie_begun old mid end nodes strings names k trie added long same past =
       trie = trie;
       within = omega arith;
       end_is = is;
-      partly = partly_added added (tame_one mid (empty_part 0) 0 refl (omega arith) refl refl);
+      partly = partly_added added (tame_one mid (empty_draft 0) 0 refl (omega arith) refl refl);
       groups = added.groups_are;
       here = added.here;
       longer = omega arith;
@@ -117,7 +117,7 @@ module _ (old mid : Assembly) (end : ℕ) (nodes : List NodeValue) (strings : Li
   pub node_chunks : AreChunks 0 (length names) node.items
   node_chunks = are_wider (k + 1) (length so_far.trie.groups) 0 (length names) node.items has_strings.holds.chunks (omega arith) (omega (arith, so_far.names_long, so_far.trie.as_many))
 
-  end_below : end < length mid.parts
+  end_below : end < length mid.drafts
   end_below = omega (arith, so_far.end_is, so_far.longer)
 
   weight_now : weight_in_all (drop k nodes) ≡ weight node + weight_in_all (drop (k + 1) nodes)
@@ -134,7 +134,7 @@ module _ (old mid : Assembly) (end : ℕ) (nodes : List NodeValue) (strings : Li
       quits_later (1 + 2 * bytes_in strings) spent r (omega (arith, weight_now, weight_left nodes k, so_far.trie.room))
 
   module _ (grown : Assembly) (id : ℕ) (adds : AddsNode mid grown names end node.items id) where
-    longer : length mid.parts ≤ length grown.parts
+    longer : length mid.drafts ≤ length grown.drafts
     longer = adds.grows.longer
 
     partly : Partly true old grown
@@ -142,9 +142,9 @@ module _ (old mid : Assembly) (end : ℕ) (nodes : List NodeValue) (strings : Li
 
     id_in : IsThere old grown id
     id_in = let a = so_far.end_is in let b = so_far.longer in let g = longer in
-        ⊎_elim (λ (e : id ≡ end). (omega arith, omega arith)) (λ (n : (length mid.parts ≤ id) × (id < length grown.parts)). let l = n.0 in (omega arith, n.1)) adds.there
+        ⊎_elim (λ (e : id ≡ end). (omega arith, omega arith)) (λ (n : (length mid.drafts ≤ id) × (id < length grown.drafts)). let l = n.0 in (omega arith, n.1)) adds.there
 
-    pub stem_there : id < length grown.parts
+    pub stem_there : id < length grown.drafts
     stem_there = id_in.1
 
     pub stem_refused : (new : Assembly) (e : BuildError) → Quits grown new (length node.stem) e → Quits old new (1 + 2 * bytes_in strings) e
@@ -158,20 +158,20 @@ module _ (old mid : Assembly) (end : ℕ) (nodes : List NodeValue) (strings : Li
         quits_later (1 + 2 * bytes_in strings) spent r (omega (arith, weight_now, weight_left nodes k, so_far.trie.room))
 
     module _ (new : Assembly) (start : ℕ) (text : AddsText grown new id node.stem start) (names2 : List ℕ) (names_are : names2 ≡ set names k start) where
-      all_longer : length grown.parts ≤ length new.parts
+      all_longer : length grown.drafts ≤ length new.drafts
       all_longer = text.grows.longer
 
       start_in : IsThere old new start
       start_in = let i = id_in.0 in let j = id_in.1 in let g = all_longer in let p = partly.grows.longer in
-          ⊎_elim (λ (e : start ≡ id). (omega arith, omega arith)) (λ (n : (length grown.parts ≤ start) × (start < length new.parts)). let l = n.0 in (omega arith, n.1)) text.there
+          ⊎_elim (λ (e : start ≡ id). (omega arith, omega arith)) (λ (n : (length grown.drafts ≤ start) × (start < length new.drafts)). let l = n.0 in (omega arith, n.1)) text.there
 
       older : (table : Table) → HasOthers old new table → HasOthers old mid table
       older table has q l h = has q l (omega (arith, longer, all_longer)) ∙ text.grows.same q (omega (arith, longer)) ∙ adds.grows.same q h
 
-      items_have : (table : Table) → HasOthers old new table → (q : ℕ) → length mid.parts ≤ q → q < length grown.parts → table q ≡ part_at grown.parts q
+      items_have : (table : Table) → HasOthers old new table → (q : ℕ) → length mid.drafts ≤ q → q < length grown.drafts → table q ≡ draft_at grown.drafts q
       items_have table has q l h = has q (omega (arith, so_far.longer)) (omega (arith, all_longer)) ∙ text.grows.same q h
 
-      text_has : (table : Table) → HasOthers old new table → (q : ℕ) → length grown.parts ≤ q → q < length new.parts → table q ≡ part_at new.parts q
+      text_has : (table : Table) → HasOthers old new table → (q : ℕ) → length grown.drafts ≤ q → q < length new.drafts → table q ≡ draft_at new.drafts q
       text_has table has q l h = has q (omega (arith, so_far.longer, longer)) h
 
       behind : (table : Table) → HasOthers old new table → Denotes old.reverse table id end (literals old.reverse has_strings.rest)
@@ -202,12 +202,12 @@ module _ (old mid : Assembly) (end : ℕ) (nodes : List NodeValue) (strings : Li
             bytes = omega (arith, so_far.bytes, adds.bytes, text.bytes);
             numbered = text.numbered (adds.numbered so_far.numbered);
             stands = λ q l m. ⊎_elim
-                (λ (b : q < length mid.parts). ap stands_for (text.grows.same q (omega arith) ∙ adds.grows.same q b) ∙ so_far.stands q l b)
-                (λ (b : length mid.parts ≤ q). ⊎_elim
-                (λ (c : q < length grown.parts). ap stands_for (text.grows.same q c) ∙ adds.stands q b c)
-                (λ (c : length grown.parts ≤ q). text.stands q c m)
-                (cases_lt q (length grown.parts)))
-                (cases_lt q (length mid.parts));
+                (λ (b : q < length mid.drafts). ap stands_for (text.grows.same q (omega arith) ∙ adds.grows.same q b) ∙ so_far.stands q l b)
+                (λ (b : length mid.drafts ≤ q). ⊎_elim
+                (λ (c : q < length grown.drafts). ap stands_for (text.grows.same q c) ∙ adds.stands q b c)
+                (λ (c : length grown.drafts ≤ q). text.stands q c m)
+                (cases_lt q (length grown.drafts)))
+                (cases_lt q (length mid.drafts));
             names_long = ap length names_are ∙ length-set names k start ∙ so_far.names_long;
             names_there =
                 let P : List ℕ → Type 0 = All (IsThere old new) in
@@ -231,7 +231,7 @@ module _ (old mid : Assembly) (end : ℕ) (nodes : List NodeValue) (strings : Li
   progress : Progress true old mid (1 + 2 * weight_in_all nodes) 8
   progress = record { partly = all.partly; states = omega (arith, all.states); bytes = all.bytes; numbered = all.numbered }
 
-  ends_on : (table : Table) (target : ℕ) → Finished (length old.parts) mid.parts end target table → table end ≡ empty_part target
+  ends_on : (table : Table) (target : ℕ) → Finished (length old.drafts) mid.drafts end target table → table end ≡ empty_draft target
   ends_on table target fin = fin.led ∙ ap (patched target) all.here
 
   pub trie_made : Makes old mid start end (1 + 2 * bytes_in strings)
@@ -300,7 +300,7 @@ module _ {V : Type 0} (value_of : V → NodeValue) (rows : List V) (old mid : As
         let Q : List (List Edge) → Type 0 = λ is. AddsNode mid grown now end is id in
         subst P now_is (subst Q row_is adds)
 
-    pub turn_there : id < length grown.parts
+    pub turn_there : id < length grown.drafts
     turn_there = stem_there old mid end (map value_of rows) strings names k next less (value_of v) here grown id adds_here
 
     module _ (w : V) (got2 : w ≡ get_or rows k w) where

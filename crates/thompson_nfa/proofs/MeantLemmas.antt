@@ -15,7 +15,7 @@ use Rattle.nfa_core.specs.Ways.{Text, with_place, reads, is_passed}
 use Rattle.thompson_nfa.specs.Denotes.{IsMeant, seen}
 use Rattle.thompson_nfa.specs.Compiled.{turned}
 use Rattle.thompson_nfa.proofs.WayLemmas.{byte_ends}
-use Rattle.thompson_nfa.proofs.DownLemmas.{down_rounds, rounds_down, down_join, join_down}
+use Rattle.thompson_nfa.proofs.InReverseLemmas.{reverse_rounds, rounds_reverse, reverse_join, join_reverse}
 
 -- two trees of which one means what the other means
 pub meant_map : (x y : Tree) → ((looks : Looks) (h : List ℕ) (i j : ℕ) → Means looks h x i j → Means looks h y i j) →
@@ -45,14 +45,14 @@ meant_alt false t x y i j m = m
 meant_alt true t x y i j (inl m, low) = inl (m, low)
 meant_alt true t x y i j (inr m, low) = inr (m, low)
 
--- of two parts, one who reads down comes past the second first
-pub meant_cat_down : (t : Text) (x y : Tree) (i j : ℕ) → IsMeant true t (cat x y) i j → (k : ℕ) × IsMeant true t y i k × IsMeant true t x k j
-meant_cat_down t x y i j m =
-    down_join t.start (Means t.holds t.haystack x) (Means t.holds t.haystack y) (span_forward t.holds t.haystack x) (span_forward t.holds t.haystack y) i j m
+-- of two parts, one who reads in reverse comes past the second first
+pub meant_cat_reverse : (t : Text) (x y : Tree) (i j : ℕ) → IsMeant true t (cat x y) i j → (k : ℕ) × IsMeant true t y i k × IsMeant true t x k j
+meant_cat_reverse t x y i j m =
+    reverse_join t.start (Means t.holds t.haystack x) (Means t.holds t.haystack y) (span_forward t.holds t.haystack x) (span_forward t.holds t.haystack y) i j m
 
-pub cat_meant_down : (t : Text) (x y : Tree) (i j k : ℕ) → IsMeant true t y i k → IsMeant true t x k j → IsMeant true t (cat x y) i j
-cat_meant_down t x y i j k m n =
-    join_down t.start (Means t.holds t.haystack x) (Means t.holds t.haystack y) (span_forward t.holds t.haystack x) (span_forward t.holds t.haystack y) i j k m n
+pub cat_meant_reverse : (t : Text) (x y : Tree) (i j k : ℕ) → IsMeant true t y i k → IsMeant true t x k j → IsMeant true t (cat x y) i j
+cat_meant_reverse t x y i j k m n =
+    join_reverse t.start (Means t.holds t.haystack x) (Means t.holds t.haystack y) (span_forward t.holds t.haystack x) (span_forward t.holds t.haystack y) i j k m n
 
 -- rounds of what is meant
 abbrev pub MeantRounds : Bool → Text → ℕ → Option ℕ → Tree → ℕ → ℕ → Type 0
@@ -62,13 +62,13 @@ pub meant_rounds : (back : Bool) (t : Text) (low : ℕ) (most : Option ℕ) (gre
     IsMeant back t (repetition low most greedy x) i j → MeantRounds back t low most x i j
 meant_rounds false t low most greedy x i j m = m
 meant_rounds true t low most greedy x i j m =
-    (m.0.0, m.0.1, m.0.2, down_rounds t.start (Means t.holds t.haystack x) (span_forward t.holds t.haystack x) m.0.0 i j m.0.3 m.1)
+    (m.0.0, m.0.1, m.0.2, reverse_rounds t.start (Means t.holds t.haystack x) (span_forward t.holds t.haystack x) m.0.0 i j m.0.3 m.1)
 
 pub rounds_meant : (back : Bool) (t : Text) (low : ℕ) (most : Option ℕ) (greedy : Bool) (x : Tree) (i j : ℕ) →
     MeantRounds back t low most x i j → IsMeant back t (repetition low most greedy x) i j
 rounds_meant false t low most greedy x i j m = m
 rounds_meant true t low most greedy x i j m =
-    let r = rounds_down t.start (Means t.holds t.haystack x) (span_forward t.holds t.haystack x) m.0 i j m.3 in
+    let r = rounds_reverse t.start (Means t.holds t.haystack x) (span_forward t.holds t.haystack x) m.0 i j m.3 in
     ((m.0, m.1, m.2, r.0), r.1)
 
 -- ---- looks
@@ -107,30 +107,30 @@ class_ends_read ranges true (Some b) i = ap (λ (k : ℕ). if is_member ranges b
 class_ends_read ranges false o i = refl
 
 -- the ends of a class are those of the byte that is read
-pub class_ends_up : (t : Text) (ranges : List (ℕ × ℕ)) (i : ℕ) → preferred_ends t.holds (seen t) (byte_class ranges) i ≡ byte_ends ranges (reads false t i)
-class_ends_up t ranges i =
+pub class_ends_forward : (t : Text) (ranges : List (ℕ × ℕ)) (i : ℕ) → preferred_ends t.holds (seen t) (byte_class ranges) i ≡ byte_ends ranges (reads false t i)
+class_ends_forward t ranges i =
     ap (λ (o : Option ℕ). class_end ranges o i) (taken_get t.haystack t.end i (nat_lt i t.end) refl)
     ∙ class_ends_read ranges (nat_lt i t.end) (byte_at t.haystack i) i
 
-read_down : (ranges : List (ℕ × ℕ)) (c : Bool) (o : Option ℕ) (i j b : ℕ) → c ≡ true → o ≡ Some b → is_member ranges b ≡ true → i ≡ j →
+read_reverse : (ranges : List (ℕ × ℕ)) (c : Bool) (o : Option ℕ) (i j b : ℕ) → c ≡ true → o ≡ Some b → is_member ranges b ≡ true → i ≡ j →
     HasEnd (byte_ends ranges (if c then with_place i o else None)) j
-read_down ranges false o i j b t e m is = cc
-read_down ranges true None i j b t e m is = cc
-read_down ranges true (Some d) i j b t e m is = let same : d ≡ b = cc in Has-then (is_member ranges d) i j (ap (is_member ranges) same ∙ m) is
+read_reverse ranges false o i j b t e m is = cc
+read_reverse ranges true None i j b t e m is = cc
+read_reverse ranges true (Some d) i j b t e m is = let same : d ≡ b = cc in Has-then (is_member ranges d) i j (ap (is_member ranges) same ∙ m) is
 
-down_read : (ranges : List (ℕ × ℕ)) (c : Bool) (o : Option ℕ) (i j : ℕ) → HasEnd (byte_ends ranges (if c then with_place i o else None)) j →
+reverse_read : (ranges : List (ℕ × ℕ)) (c : Bool) (o : Option ℕ) (i j : ℕ) → HasEnd (byte_ends ranges (if c then with_place i o else None)) j →
     (c ≡ true) × (i ≡ j) × (b : ℕ) × (o ≡ Some b) × (is_member ranges b ≡ true)
-down_read ranges false o i j h = elim h [ ]
-down_read ranges true None i j h = elim h [ ]
-down_read ranges true (Some b) i j h = let one = Has-if (is_member ranges b) i j h in (refl, one.1, b, refl, one.0)
+reverse_read ranges false o i j h = elim h [ ]
+reverse_read ranges true None i j h = elim h [ ]
+reverse_read ranges true (Some b) i j h = let one = Has-if (is_member ranges b) i j h in (refl, one.1, b, refl, one.0)
 
 pub class_meant : (back : Bool) (t : Text) (ranges : List (ℕ × ℕ)) (i j : ℕ) → HasEnd (byte_ends ranges (reads back t i)) j → IsMeant back t (byte_class ranges) i j
 class_meant false t ranges i j h =
     let P : List ℕ → Type 0 = λ l. HasEnd l j in
-    preferred_ends_sound t.holds (seen t) (byte_class ranges) i j (subst P (sym (class_ends_up t ranges i)) h)
+    preferred_ends_sound t.holds (seen t) (byte_class ranges) i j (subst P (sym (class_ends_forward t ranges i)) h)
 class_meant true t ranges zero j h = elim h [ ]
 class_meant true t ranges (suc i) j h =
-    let r = down_read ranges (nat_le t.start i) (byte_at t.haystack i) i j h in
+    let r = reverse_read ranges (nat_le t.start i) (byte_at t.haystack i) i j h in
     let above = leb-true t.start i r.0 in
     let same = r.1 in
     let P : ℕ → Type 0 = λ k. slice_get t.haystack k ≡ Some r.2 in
@@ -139,11 +139,11 @@ class_meant true t ranges (suc i) j h =
 pub meant_class : (back : Bool) (t : Text) (ranges : List (ℕ × ℕ)) (i j : ℕ) → IsMeant back t (byte_class ranges) i j → HasEnd (byte_ends ranges (reads back t i)) j
 meant_class false t ranges i j m =
     let P : List ℕ → Type 0 = λ l. HasEnd l j in
-    subst P (class_ends_up t ranges i) (preferred_ends_complete t.holds (seen t) (byte_class ranges) i j m)
+    subst P (class_ends_forward t ranges i) (preferred_ends_complete t.holds (seen t) (byte_class ranges) i j m)
 meant_class true t ranges zero j m = let e = m.0.0 in absurd (omega arith)
 meant_class true t ranges (suc i) j m =
     let e = m.0.0 in
     let low = m.1 in
     let same : j ≡ i = omega arith in
     let P : ℕ → Type 0 = λ k. slice_get t.haystack k ≡ Some m.0.1 in
-    read_down ranges (nat_le t.start i) (byte_at t.haystack i) i j m.0.1 (le-leb t.start i (omega arith)) (subst P same m.0.2) m.0.3 (sym same)
+    read_reverse ranges (nat_le t.start i) (byte_at t.haystack i) i j m.0.1 (le-leb t.start i (omega arith)) (subst P same m.0.2) m.0.3 (sym same)

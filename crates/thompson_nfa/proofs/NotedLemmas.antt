@@ -4,7 +4,7 @@ use Rattle.std.proofs.lemmas.Bool.{cases_lt, cases_eq, cases_Bool, ltb-true}
 use Rattle.std.proofs.lemmas.List.{get_or-set_same, get_or-set_other, set-get_or, get_or_past}
 use Rattle.search_types.specs.Groups.{Name, Groups, groups_of, slot}
 use Rattle.hir_core.specs.Tree.{Tree, empty, literal, byte_class, char_class, look, repetition, capture, nothing, cat, never, alt}
-use Rattle.nfa_core.specs.BuilderStates.{Part, empty_part, range_part, sparse_part, look_part, union_part, union_reverse_part, fail_part, match_part, capture_start_part, capture_end_part, filled, with_name, up_to_pattern, with_group}
+use Rattle.nfa_core.specs.BuilderStates.{DraftNode, empty_draft, range_draft, sparse_draft, look_draft, union_draft, union_reverse_draft, fail_draft, match_draft, capture_start_draft, capture_end_draft, filled, with_name, up_to_pattern, with_group}
 use Rattle.nfa_core.specs.CanBuild.{is_known}
 use Rattle.thompson_nfa.specs.NotedGroups.{keeps_group, noted}
 use Rattle.thompson_nfa.specs.declared.which_captures.WhichCaptures.{WhichCaptures}
@@ -205,16 +205,16 @@ known_of_in groups p index l = slot_known groups p index ∙ lt-ltb index (lengt
 in_of_known : (groups : Groups) (p index : ℕ) → is_some (slot groups p index) ≡ true → IsIn groups p index
 in_of_known groups p index e = ltb-true index (length (get_or groups p [])) (sym (slot_known groups p index) ∙ e)
 
-pub known_group : (groups : Groups) (p index : ℕ) (name : Option Name) (one : Part) → is_known groups one ≡ true → is_known (with_group groups p index name) one ≡ true
-known_group groups p index name (capture_start_part pattern group next) k =
+pub known_group : (groups : Groups) (p index : ℕ) (name : Option Name) (one : DraftNode) → is_known groups one ≡ true → is_known (with_group groups p index name) one ≡ true
+known_group groups p index name (capture_start_draft pattern group next) k =
     known_of_in (with_group groups p index name) pattern group (group_kept groups p index name pattern group (in_of_known groups pattern group k))
-known_group groups p index name (capture_end_part pattern group next) k =
+known_group groups p index name (capture_end_draft pattern group next) k =
     known_of_in (with_group groups p index name) pattern group (group_kept groups p index name pattern group (in_of_known groups pattern group k))
-known_group groups p index name (empty_part next) k = refl
-known_group groups p index name (range_part low high next) k = refl
-known_group groups p index name (sparse_part ranges) k = refl
-known_group groups p index name (look_part l next) k = refl
-known_group groups p index name (union_part names) k = refl
-known_group groups p index name (union_reverse_part names) k = refl
-known_group groups p index name fail_part k = refl
-known_group groups p index name (match_part pattern) k = refl
+known_group groups p index name (empty_draft next) k = refl
+known_group groups p index name (range_draft low high next) k = refl
+known_group groups p index name (sparse_draft ranges) k = refl
+known_group groups p index name (look_draft l next) k = refl
+known_group groups p index name (union_draft names) k = refl
+known_group groups p index name (union_reverse_draft names) k = refl
+known_group groups p index name fail_draft k = refl
+known_group groups p index name (match_draft pattern) k = refl

@@ -3,7 +3,7 @@ use Rattle.std.proofs.Common.{◌≡◌, ◌≢◌, ℕ, suc, ◌+◌, ◌<◌, 
 use Rattle.std.proofs.lemmas.Bool.{cases_lt, cases_eq}
 use Rattle.look_core.specs.declared.look.Look.{Look}
 use Rattle.hir_core.specs.Tree.{Tree, repetition}
-use Rattle.nfa_core.specs.BuilderStates.{Assembly, part_at, patched, is_sparse, empty_part}
+use Rattle.nfa_core.specs.BuilderStates.{Assembly, draft_at, patched, is_sparse, empty_draft}
 use Rattle.nfa_core.specs.Renaming.{stands_for}
 use Rattle.nfa_core.specs.Drafted.{Table}
 use Rattle.thompson_nfa.specs.Choice.{no_choice}
@@ -20,12 +20,12 @@ use Rattle.thompson_nfa.proofs.AheadLemmas.{denotes_then_empty}
 use Rattle.thompson_nfa.proofs.DenoteLemmas.{denotes_empty}
 
 -- one round, which may be passed by
-module _ (t0 t1 t2 t3 t4 : Assembly) (greedy : Bool) (u s e n z : ℕ) (added : Added t0 t1 u (no_choice greedy) t0.groups) (body : Makes t1 t2 s e n) (p3 : Led t2 t3 u s) (p4 : Led t3 t4 u z) (there : z < length t0.parts) where
-  option_u : (target : ℕ) (table : Table) → Finished (length t0.parts) t4.parts e target table → table u ≡ choice greedy s z
+module _ (t0 t1 t2 t3 t4 : Assembly) (greedy : Bool) (u s e n z : ℕ) (added : Added t0 t1 u (no_choice greedy) t0.groups) (body : Makes t1 t2 s e n) (p3 : Led t2 t3 u s) (p4 : Led t3 t4 u z) (there : z < length t0.drafts) where
+  option_u : (target : ℕ) (table : Table) → Finished (length t0.drafts) t4.drafts e target table → table u ≡ choice greedy s z
   option_u target table fin = fin.states u (omega arith) (omega arith) (omega arith) ∙ p4.here ∙ ap (patched z) (p3.here ∙ ap (patched s) (body.fragment.grows.same u (omega arith) ∙ added.here))
       ∙ twice_patched greedy s z
 
-  option_body : (target : ℕ) (table : Table) → Finished (length t0.parts) t4.parts e target table → Finished (length t1.parts) t2.parts e target table
+  option_body : (target : ℕ) (table : Table) → Finished (length t0.drafts) t4.drafts e target table → Finished (length t1.drafts) t2.drafts e target table
   option_body target table fin = record {
     states = λ i low high ne. fin.states i (omega arith) (omega arith) ne ∙ p4.same i (omega arith) ∙ p3.same i (omega arith);
     led = fin.led ∙ ap (patched target) (p4.same e (omega arith) ∙ p3.same e (omega arith));
@@ -38,10 +38,10 @@ module _ (t0 t1 t2 t3 t4 : Assembly) (greedy : Bool) (u s e n z : ℕ) (added : 
       (ap is_sparse (p4.same e (omega arith) ∙ p3.same e (omega arith)) ∙ body.fragment.can_be_led_on)
       (λ table target fin.
       let real_u = out_here table target u (ap stands_for (option_u target table fin) ∙ choice_stands greedy s z) in
-      let P : ℕ → Type 0 = λ k. AllComeOut table target k (length t1.parts) in
-      let Q : ℕ → Type 0 = λ k. AllComeOut table target (length t1.parts) k in
-      let size : length t2.parts ≡ length t4.parts = omega arith in
-      all_join table target (length t0.parts) (length t1.parts) (length t4.parts) (subst P added.is (all_here table target u (length t1.parts) (omega arith) real_u))
+      let P : ℕ → Type 0 = λ k. AllComeOut table target k (length t1.drafts) in
+      let Q : ℕ → Type 0 = λ k. AllComeOut table target (length t1.drafts) k in
+      let size : length t2.drafts ≡ length t4.drafts = omega arith in
+      all_join table target (length t0.drafts) (length t1.drafts) (length t4.drafts) (subst P added.is (all_here table target u (length t1.drafts) (omega arith) real_u))
       (subst Q size (body.comes_out table target (option_body target table fin))))
 
   pub option_does : (x : Tree) → Does t1 t2 s e x → DoesOption t0 t4 u e z greedy x
@@ -53,31 +53,31 @@ module _ (t0 t1 t2 t3 t4 : Assembly) (greedy : Bool) (u s e n z : ℕ) (added : 
         adds_around t0 t1 t2 t4 x (quiet_choice greedy added) (ap (λ (z : Assembly). z.reverse) added.grows.settings) does.looks
         (λ k. quiet_led p4 k ∙ quiet_led p3 k) l in
         ap (λ (b : Bool). b || uses t0.reverse (repetition 0 (Some left) greedy x) l) all
-        ∙ left_used t0.reverse greedy left x l (looks_in t0.parts l);
+        ∙ left_used t0.reverse greedy left x l (looks_in t0.drafts l);
   }
 
 pub record Options (old mid : Assembly) (start end z n left min most : ℕ) (greedy : Bool) (x : Tree) : Type 0 where
   pub progress : Progress false old mid n 12
-  pub start_new : length old.parts ≤ start
-  pub start_there : start < length mid.parts
-  pub end_new : length old.parts ≤ end
-  pub end_there : end < length mid.parts
-  pub z_new : length old.parts ≤ z
-  pub z_there : z < length mid.parts
+  pub start_new : length old.drafts ≤ start
+  pub start_there : start < length mid.drafts
+  pub end_new : length old.drafts ≤ end
+  pub end_there : end < length mid.drafts
+  pub z_new : length old.drafts ≤ z
+  pub z_there : z < length mid.drafts
   pub apart : end ≢ z
-  pub kind : is_sparse (part_at mid.parts end) ≡ false
-  pub exit_is : part_at mid.parts z ≡ empty_part 0
-  pub outs : (table : Table) (target : ℕ) → FinishesBut (length old.parts) mid.parts end z table → table end ≡ patched target (part_at mid.parts end) →
-      (q : ℕ) → length old.parts ≤ q → q < length mid.parts → q ≢ z → ComesOut table target q
-  pub does : (table : Table) (target : ℕ) → FinishesBut (length old.parts) mid.parts end z table → table end ≡ patched target (part_at mid.parts end) →
+  pub kind : is_sparse (draft_at mid.drafts end) ≡ false
+  pub exit_is : draft_at mid.drafts z ≡ empty_draft 0
+  pub outs : (table : Table) (target : ℕ) → FinishesBut (length old.drafts) mid.drafts end z table → table end ≡ patched target (draft_at mid.drafts end) →
+      (q : ℕ) → length old.drafts ≤ q → q < length mid.drafts → q ≢ z → ComesOut table target q
+  pub does : (table : Table) (target : ℕ) → FinishesBut (length old.drafts) mid.drafts end z table → table end ≡ patched target (draft_at mid.drafts end) →
       Denotes old.reverse table target z (repetition 0 (Some left) greedy x) → Denotes old.reverse table start z (repetition min (Some most) greedy x)
-  pub looks : (l : Look) → (looks_in mid.parts l || uses old.reverse (repetition 0 (Some left) greedy x) l)
-      ≡ (looks_in old.parts l || uses old.reverse (repetition min (Some most) greedy x) l)
+  pub looks : (l : Look) → (looks_in mid.drafts l || uses old.reverse (repetition 0 (Some left) greedy x) l)
+      ≡ (looks_in old.drafts l || uses old.reverse (repetition min (Some most) greedy x) l)
 
 -- behind copies that are owed
-module _ (t0 t1 t2 : Assembly) (s e n z left min most : ℕ) (greedy : Bool) (x : Tree) (prefix : Makes t0 t1 s e n) (copies : DoesCopies t0 t1 s e min x) (added : Added t1 t2 z (empty_part 0) t1.groups)
+module _ (t0 t1 t2 : Assembly) (s e n z left min most : ℕ) (greedy : Bool) (x : Tree) (prefix : Makes t0 t1 s e n) (copies : DoesCopies t0 t1 s e min x) (added : Added t1 t2 z (empty_draft 0) t1.groups)
     (sum : min + left ≡ most) where
-  owed_prefix : (target : ℕ) (table : Table) → FinishesBut (length t0.parts) t2.parts e z table → table e ≡ patched target (part_at t2.parts e) → Finished (length t0.parts) t1.parts e target table
+  owed_prefix : (target : ℕ) (table : Table) → FinishesBut (length t0.drafts) t2.drafts e z table → table e ≡ patched target (draft_at t2.drafts e) → Finished (length t0.drafts) t1.drafts e target table
   owed_prefix target table fin here = record {
     states = λ q low high ne. fin q low (omega arith) ne (omega arith) ∙ added.grows.same q high;
     led = here ∙ ap (patched target) (added.grows.same e (omega arith));
@@ -106,13 +106,13 @@ module _ (t0 t1 t2 : Assembly) (s e n z left min most : ℕ) (greedy : Bool) (x 
         let same : min + 0 ≡ min = omega arith in
         ap (λ (b : Bool). b || uses t0.reverse (repetition 0 (Some left) greedy x) l) (quiet_added added (λ k. refl) l)
         ∙ (copies.before 0 (Some left) greedy).looks l
-        ∙ ap (λ (m : ℕ). looks_in t0.parts l || uses t0.reverse (repetition (min + 0) (Some m) greedy x) l) sum
-        ∙ ap (λ (m : ℕ). looks_in t0.parts l || uses t0.reverse (repetition m (Some most) greedy x) l) same;
+        ∙ ap (λ (m : ℕ). looks_in t0.drafts l || uses t0.reverse (repetition (min + 0) (Some m) greedy x) l) sum
+        ∙ ap (λ (m : ℕ). looks_in t0.drafts l || uses t0.reverse (repetition m (Some most) greedy x) l) same;
   }
 
 -- from a first round on
-module _ (t0 t1 t2 : Assembly) (u e n z left most : ℕ) (greedy : Bool) (x : Tree) (added : Added t0 t1 z (empty_part 0) t0.groups) (option : Makes t1 t2 u e n) (does : DoesOption t1 t2 u e z greedy x) (sum : suc left ≡ most) where
-  first_option : (target : ℕ) (table : Table) → FinishesBut (length t0.parts) t2.parts e z table → table e ≡ patched target (part_at t2.parts e) → Finished (length t1.parts) t2.parts e target table
+module _ (t0 t1 t2 : Assembly) (u e n z left most : ℕ) (greedy : Bool) (x : Tree) (added : Added t0 t1 z (empty_draft 0) t0.groups) (option : Makes t1 t2 u e n) (does : DoesOption t1 t2 u e z greedy x) (sum : suc left ≡ most) where
+  first_option : (target : ℕ) (table : Table) → FinishesBut (length t0.drafts) t2.drafts e z table → table e ≡ patched target (draft_at t2.drafts e) → Finished (length t1.drafts) t2.drafts e target table
   first_option target table fin here = record { states = λ q low high ne. fin q (omega arith) high ne (omega arith); led = here }
 
   pub options_first : Options t0 t2 u e z (1 + n) left 0 most greedy x
@@ -137,23 +137,23 @@ module _ (t0 t1 t2 : Assembly) (u e n z left most : ℕ) (greedy : Bool) (x : Tr
     looks = λ l.
         let turn : t1.reverse ≡ t0.reverse = ap (λ (z : Assembly). z.reverse) added.grows.settings in
         let F : Bool → Type 0 =
-        λ back. (looks_in t2.parts l || uses back (repetition 0 (Some left) greedy x) l) ≡ (looks_in t1.parts l || uses back x l) in
+        λ back. (looks_in t2.drafts l || uses back (repetition 0 (Some left) greedy x) l) ≡ (looks_in t1.drafts l || uses back x l) in
         subst F turn (does.looks l left) ∙ ap (λ (b : Bool). b || uses t0.reverse x l) (quiet_added added (λ k. refl) l)
-        ∙ ap (λ (m : ℕ). looks_in t0.parts l || uses t0.reverse (repetition 0 (Some m) greedy x) l) sum;
+        ∙ ap (λ (m : ℕ). looks_in t0.drafts l || uses t0.reverse (repetition 0 (Some m) greedy x) l) sum;
   }
 
 -- one more round
 module _ (old b c d : Assembly) (start end z n left rest min most u e k : ℕ) (greedy : Bool) (x : Tree) (os : Options old b start end z n left min most greedy x) (option : Makes b c u e k) (does : DoesOption b c u e z greedy x)
     (led : Led c d end u) (one : left ≡ suc rest) where
-  more_before : (target : ℕ) (table : Table) → FinishesBut (length old.parts) d.parts e z table → FinishesBut (length old.parts) b.parts end z table
+  more_before : (target : ℕ) (table : Table) → FinishesBut (length old.drafts) d.drafts e z table → FinishesBut (length old.drafts) b.drafts end z table
   more_before target table fin q low high not_end not_z = fin q low (omega arith) (omega arith) not_z ∙ led.same q not_end ∙ option.fragment.grows.same q high
 
-  more_end : (target : ℕ) (table : Table) → FinishesBut (length old.parts) d.parts e z table → table end ≡ patched u (part_at b.parts end)
+  more_end : (target : ℕ) (table : Table) → FinishesBut (length old.drafts) d.drafts e z table → table end ≡ patched u (draft_at b.drafts end)
   more_end target table fin =
       let a = os.end_new in let g = os.end_there in let h = os.apart in
       fin end a (omega arith) (omega arith) h ∙ led.here ∙ ap (patched u) (option.fragment.grows.same end g)
 
-  more_option : (target : ℕ) (table : Table) → FinishesBut (length old.parts) d.parts e z table → table e ≡ patched target (part_at d.parts e) → Finished (length b.parts) c.parts e target table
+  more_option : (target : ℕ) (table : Table) → FinishesBut (length old.drafts) d.drafts e z table → table e ≡ patched target (draft_at d.drafts e) → Finished (length b.drafts) c.drafts e target table
   more_option target table fin here =
       let a = os.end_new in let g = os.end_there in let h = os.z_there in let l = os.progress.partly.grows.longer in
       record {
@@ -178,11 +178,11 @@ module _ (old b c d : Assembly) (start end z n left rest min most u e k : ℕ) (
         outs = λ table target fin here q low high not_z.
             let all = option.comes_out table target (more_option target table fin here) in
             ⊎_elim
-            (λ (less : q < length b.parts).
+            (λ (less : q < length b.drafts).
             let o = os.outs table u (more_before target table fin) (more_end target table fin) q low less not_z in
             out_on table target u o.0 q o.1 (all u (omega arith) (omega arith)))
-            (λ (more : length b.parts ≤ q). all q more (omega arith))
-            (cases_lt q (length b.parts));
+            (λ (more : length b.drafts ≤ q). all q more (omega arith))
+            (cases_lt q (length b.drafts));
         does = λ table target fin here done.
             let turn : b.reverse ≡ old.reverse = ap (λ (z : Assembly). z.reverse) os.progress.partly.grows.settings in
             let R : Bool → Type 0 = λ back. Denotes back table target z (repetition 0 (Some rest) greedy x) in
@@ -193,21 +193,21 @@ module _ (old b c d : Assembly) (start end z n left rest min most u e k : ℕ) (
         looks = λ l.
             let turn : b.reverse ≡ old.reverse = ap (λ (z : Assembly). z.reverse) os.progress.partly.grows.settings in
             let F : Bool → Type 0 =
-            λ back. (looks_in c.parts l || uses back (repetition 0 (Some rest) greedy x) l) ≡ (looks_in b.parts l || uses back x l) in
+            λ back. (looks_in c.drafts l || uses back (repetition 0 (Some rest) greedy x) l) ≡ (looks_in b.drafts l || uses back x l) in
             ap (λ (k : Bool). k || uses old.reverse (repetition 0 (Some rest) greedy x) l) (quiet_led led l)
             ∙ subst F turn (does.looks l rest)
-            ∙ ap (λ (m : ℕ). looks_in b.parts l || uses old.reverse (repetition 0 (Some m) greedy x) l) (sym one) ∙ os.looks l;
+            ∙ ap (λ (m : ℕ). looks_in b.drafts l || uses old.reverse (repetition 0 (Some m) greedy x) l) (sym one) ∙ os.looks l;
       }
 
 -- no round is left
 module _ (old mid new : Assembly) (start end z n left min most : ℕ) (greedy : Bool) (x : Tree) (os : Options old mid start end z n left min most greedy x) (led : Led mid new end z) (none : left ≡ 0) where
-  last_but : (target : ℕ) (table : Table) → Finished (length old.parts) new.parts z target table → FinishesBut (length old.parts) mid.parts end z table
+  last_but : (target : ℕ) (table : Table) → Finished (length old.drafts) new.drafts z target table → FinishesBut (length old.drafts) mid.drafts end z table
   last_but target table fin q low high not_end not_z = fin.states q low (omega arith) not_z ∙ led.same q not_end
 
-  last_end : (target : ℕ) (table : Table) → Finished (length old.parts) new.parts z target table → table end ≡ patched z (part_at mid.parts end)
+  last_end : (target : ℕ) (table : Table) → Finished (length old.drafts) new.drafts z target table → table end ≡ patched z (draft_at mid.drafts end)
   last_end target table fin = let a = os.end_new in let g = os.end_there in fin.states end a (omega arith) os.apart ∙ led.here
 
-  last_z : part_at new.parts z ≡ empty_part 0
+  last_z : draft_at new.drafts z ≡ empty_draft 0
   last_z = let ap1 = os.apart in led.same z (λ (same : z ≡ end). ap1 (sym same)) ∙ os.exit_is
 
   pub options_made : Makes old new start z n
@@ -229,6 +229,6 @@ module _ (old mid new : Assembly) (start end z n left min most : ℕ) (greedy : 
         denotes_then_empty old.reverse table start z target (repetition min (Some most) greedy x)
         (os.does table z (last_but target table fin) (last_end target table fin) (subst Q (sym none) (denotes_stopped_here old.reverse table z greedy x)))
         (denotes_empty old.reverse table z target (fin.led ∙ ap (patched target) last_z));
-    looks = λ l. quiet_led led l ∙ sym (or_none (looks_in mid.parts l))
-        ∙ ap (λ (m : ℕ). looks_in mid.parts l || uses old.reverse (repetition 0 (Some m) greedy x) l) (sym none) ∙ os.looks l;
+    looks = λ l. quiet_led led l ∙ sym (or_none (looks_in mid.drafts l))
+        ∙ ap (λ (m : ℕ). looks_in mid.drafts l || uses old.reverse (repetition 0 (Some m) greedy x) l) (sym none) ∙ os.looks l;
   }

@@ -15,14 +15,14 @@ use Rattle.thompson_nfa.proofs.FirstsLemmas.{same_firsts_trans, same_firsts_appe
 module _ (t : Text) (T : Table) where
   -- what the walk of a stack lists, read up
   abbrev pub Listed : List (ℕ × ℕ) → List (ℕ × ℕ) → Type 0
-  Listed todo l = Lists (table_ways false t T) (table_match T) todo l
+  Listed stack l = Lists (table_ways false t T) (table_match T) stack l
 
   -- the same up to repeats
   abbrev pub ListedFirsts : List (ℕ × ℕ) → List (ℕ × ℕ) → Type 0
-  ListedFirsts todo l = (m : List (ℕ × ℕ)) × Listed todo m × HasSameFirsts m l
+  ListedFirsts stack l = (m : List (ℕ × ℕ)) × Listed stack m × HasSameFirsts m l
 
-  pub firsts_of : (todo l : List (ℕ × ℕ)) → Listed todo l → ListedFirsts todo l
-  firsts_of todo l walk = (l, walk, refl)
+  pub firsts_of : (stack l : List (ℕ × ℕ)) → Listed stack l → ListedFirsts stack l
+  firsts_of stack l walk = (l, walk, refl)
 
   listed_append : (xs ys l m : List (ℕ × ℕ)) → Listed xs l → Listed ys m → Listed (xs ++ ys) (l ++ m)
   listed_append xs ys l m a b = lists_append (table_ways false t T) (table_match T) a ys m b

@@ -6,7 +6,7 @@ use Rattle.hir_core.specs.Sequences.{bytes_of}
 use Rattle.hir_core.specs.declared.utf8_sequences.Utf8Range.{Utf8Range}
 use Rattle.look_core.specs.declared.look.Look.{Look}
 use Rattle.hir_core.specs.Tree.{Tree, never, alt, alternation}
-use Rattle.nfa_core.specs.BuilderStates.{Assembly, patched, is_sparse, sparse_part, empty_part}
+use Rattle.nfa_core.specs.BuilderStates.{Assembly, patched, is_sparse, sparse_draft, empty_draft}
 use Rattle.nfa_core.specs.Renaming.{stands_for}
 use Rattle.nfa_core.specs.Drafted.{Table}
 use Rattle.nfa_core.specs.declared.transition.Transition.{Transition}
@@ -165,10 +165,10 @@ module _ (old b0 b1 : Assembly) (end : ℕ) (compiled table1 : SlotTable (List T
       ∙ ap (λ (xs : List (ℕ × ℕ)). lasts l.init ++ range ∷ xs) (sym (path_lasts (map fresh_limb behind)) ∙ ap path_of (fresh_stages behind) ∙ fresh_path behind) in
       ap path_of new_nodes ∙ last ∙ q_is ∙ sym (last_pushed qs q)
 
-  front_below : LimbsBelow (length b1.parts) (l.init ++ l.last ∷ [])
-  front_below = let P : List Limb → Type 0 = λ ls. LimbsBelow (length b1.parts) ls in subst P l.front_is p.below
+  front_below : LimbsBelow (length b1.drafts) (l.init ++ l.last ∷ [])
+  front_below = let P : List Limb → Type 0 = λ ls. LimbsBelow (length b1.drafts) ls in subst P l.front_is p.below
 
-  front_leads : (table : Table) → Finishes end b1.parts end table → LimbsLead old.reverse table end (l.init ++ l.last ∷ [])
+  front_leads : (table : Table) → Finishes end b1.drafts end table → LimbsLead old.reverse table end (l.init ++ l.last ∷ [])
   front_leads table fin = let P : List Limb → Type 0 = λ ls. LimbsLead old.reverse table end ls in subst P l.front_is (p.leads table fin)
 
   new_room : p.most + length ns2 ≤ 1 + 4 * length (qs ++ q ∷ [])
@@ -200,10 +200,10 @@ module _ (old b0 b1 : Assembly) (end : ℕ) (compiled table1 : SlotTable (List T
     path = new_path;
     limbs = limbs;
     nodes_are = new_nodes;
-    below = below_both (length b1.parts) l.init (node ∷ map fresh_limb behind) (below_front (length b1.parts) l.init (l.last ∷ []) front_below) (
-      branches_push (length b1.parts) l.last.branches (record { low = l.last.last.0; high = l.last.last.1; next = t.next; tree = above })
-          (below_back (length b1.parts) l.init (l.last ∷ []) front_below).0 p.next_there,
-      fresh_below (length b1.parts) behind,
+    below = below_both (length b1.drafts) l.init (node ∷ map fresh_limb behind) (below_front (length b1.drafts) l.init (l.last ∷ []) front_below) (
+      branches_push (length b1.drafts) l.last.branches (record { low = l.last.last.0; high = l.last.last.1; next = t.next; tree = above })
+          (below_back (length b1.drafts) l.init (l.last ∷ []) front_below).0 p.next_there,
+      fresh_below (length b1.drafts) behind,
     );
     leads = λ table fin.
         lead_both old.reverse table end l.init (node ∷ map fresh_limb behind) (lead_front old.reverse table end l.init (l.last ∷ []) (front_leads table fin)) (
@@ -244,7 +244,7 @@ module _ (old b : Assembly) (end : ℕ) (compiled : SlotTable (List Transition))
         path = ap path_of is ∙ fresh_path (r ∷ q) ∙ sym (last_pushed qs (r ∷ q));
         limbs = map fresh_limb (r ∷ q);
         nodes_are = nodes_are;
-        below = fresh_below (length b.parts) (r ∷ q);
+        below = fresh_below (length b.drafts) (r ∷ q);
         leads = λ table fin. fresh_lead back table end (r ∷ q);
         reads = more_reads back (limb_tree back (map fresh_limb (r ∷ q))) never qs (r ∷ q) never_read (first_reads back r q);
       }
@@ -266,17 +266,17 @@ none_held zero at = refl
 none_held (suc n) zero = refl
 none_held (suc n) (suc at) = none_held n at
 
-empty_keeps : (b : Assembly) (end capacity : ℕ) → end < length b.parts → Keeps b end (empty_table capacity)
+empty_keeps : (b : Assembly) (end capacity : ℕ) → end < length b.drafts → Keeps b end (empty_table capacity)
 empty_keeps b end capacity there =
     let P : Option (List Transition × ℕ) → Type 0 = λ o. IsKept b end o in
     record { end_there = there; ready = eq-eqb (length (replicate capacity nothing_held)) capacity (length-replicate capacity nothing_held); kept = λ at. subst P (sym (none_held capacity at)) tt }
 
-pub compile_begun : (a b : Assembly) (end capacity : ℕ) (compiled : SlotTable (List Transition)) (ns : List Stage) → Added a b end (empty_part 0) a.groups → compiled ≡ empty_table capacity → ns ≡ [] →
+pub compile_begun : (a b : Assembly) (end capacity : ℕ) (compiled : SlotTable (List Transition)) (ns : List Stage) → Added a b end (empty_draft 0) a.groups → compiled ≡ empty_table capacity → ns ≡ [] →
     IsCompiling a b end compiled ns []
 compile_begun a b end capacity compiled ns x is none =
-    let p = first_added 8 x (tame_one b (empty_part 0) 0 refl (omega arith) refl refl) (omega arith) in
+    let p = first_added 8 x (tame_one b (empty_draft 0) 0 refl (omega arith) refl refl) (omega arith) in
     let size = x.size in let here = x.is in
-    let there : end < length b.parts = omega arith in
+    let there : end < length b.drafts = omega arith in
     let P : SlotTable (List Transition) → Type 0 = λ t. Keeps b end t in
     let Q : List Stage → Type 0 = λ l. StagesRise l in
     let long : length ns ≡ 0 = ap length none in
@@ -308,20 +308,20 @@ compile_begun a b end capacity compiled ns x is none =
 -- ---- the end
 
 -- all states are made: from the start to the end the table does what the tree means
-pub record Closed (old b : Assembly) (end start : ℕ) (x : Tree) (n : ℕ) : Type 0 where
+pub record IsWholePath (old b : Assembly) (end start : ℕ) (x : Tree) (n : ℕ) : Type 0 where
   pub most : ℕ
   pub has : HasStates old b end most
   pub least : most ≤ n
   pub behind : end ≤ start
-  pub there : start < length b.parts
+  pub there : start < length b.drafts
   pub met : (l : Look) → uses old.reverse x l ≡ false
-  pub denotes : (table : Table) → Finishes end b.parts end table → Denotes old.reverse table start end x
+  pub denotes : (table : Table) → Finishes end b.drafts end table → Denotes old.reverse table start end x
 
-module _ (old b : Assembly) (end start n : ℕ) (x : Tree) (c : Closed old b end start x n) where
-  closed_states : (table : Table) (target : ℕ) → Finished (length old.parts) b.parts end target table → Finishes end b.parts end table
+module _ (old b : Assembly) (end start n : ℕ) (x : Tree) (c : IsWholePath old b end start x n) where
+  closed_states : (table : Table) (target : ℕ) → Finished (length old.drafts) b.drafts end target table → Finishes end b.drafts end table
   closed_states table target fin q low high ne = let e = c.has.end_is in fin.states q (omega arith) high ne
 
-  closed_end : (table : Table) (target : ℕ) → Finished (length old.parts) b.parts end target table → table end ≡ empty_part target
+  closed_end : (table : Table) (target : ℕ) → Finished (length old.drafts) b.drafts end target table → table end ≡ empty_draft target
   closed_end table target fin = fin.led ∙ ap (patched target) c.has.waits
 
   pub closed_made : Makes old b start end n
@@ -361,7 +361,7 @@ module _ (old b0 b : Assembly) (end : ℕ) (compiled : SlotTable (List Transitio
   all_read = alternation (map (read_tree old.reverse) qs)
 
   -- the states of all nodes are made
-  pub path_closed : (ns : List Stage) (start : ℕ) → 0 < length ns0 → Pops end b0 ns0 b ns start → length ns ≡ 0 → Closed old b end start all_read (2 + 4 * length qs)
+  pub path_closed : (ns : List Stage) (start : ℕ) → 0 < length ns0 → Pops end b0 ns0 b ns start → length ns ≡ 0 → IsWholePath old b end start all_read (2 + 4 * length qs)
   path_closed ns start some pops short =
       let back = old.reverse in
       let p = popped_all old b0 end c.limbs ns0 (1 + 4 * length qs) (popped_none old b0 end compiled ns0 qs c) b ns start pops in
@@ -384,7 +384,7 @@ module _ (old b0 b : Assembly) (end : ℕ) (compiled : SlotTable (List Transitio
       }
 
   -- there was no sequence
-  pub none_closed : (start : ℕ) (trans : List (ℕ × ℕ × ℕ)) → ns0 ≡ [] → trans ≡ [] → Compiles b0 b end trans start → Closed old b end start all_read (2 + 4 * length qs)
+  pub none_closed : (start : ℕ) (trans : List (ℕ × ℕ × ℕ)) → ns0 ≡ [] → trans ≡ [] → Compiles b0 b end trans start → IsWholePath old b end start all_read (2 + 4 * length qs)
   none_closed start trans none is x =
       let back = old.reverse in
       let P : List (ℕ × ℕ × ℕ) → Type 0 = λ l. Compiles b0 b end l start in
@@ -398,7 +398,7 @@ module _ (old b0 b : Assembly) (end : ℕ) (compiled : SlotTable (List Transitio
         behind = omega arith;
         there = y.there;
         denotes = λ table fin.
-            let here : table start ≡ sparse_part [] = fin start (omega arith) y.there (λ (same : start ≡ end). omega arith) ∙ y.here in
+            let here : table start ≡ sparse_draft [] = fin start (omega arith) y.there (λ (same : start ≡ end). omega arith) ∙ y.here in
             let reads = never_read old b0 end compiled ns0 ns0 qs c none in
             denotes_like back table start end never all_read reads.reading reads.ends
             (denotes_branches back table start end [] [] here tt tt);

@@ -3,7 +3,7 @@ use Rattle.std.proofs.Common.{◌≡◌, ℕ, ◌+◌, ◌*◌, ◌<◌, ◌≤�
 use Rattle.search_core.specs.Index.{greatest_index}
 use Rattle.search_types.specs.Groups.{Groups}
 use Rattle.hir_core.specs.Tree.{Tree}
-use Rattle.nfa_core.specs.BuilderStates.{Part, Assembly, part_at, part_bytes, is_sparse}
+use Rattle.nfa_core.specs.BuilderStates.{DraftNode, Assembly, draft_at, draft_bytes, is_sparse}
 use Rattle.nfa_core.specs.Drafted.{Table}
 use Rattle.nfa_core.specs.declared.build_error.BuildError.{BuildError}
 use Rattle.nfa_core.specs.declared.build_error.BuildError.TheVariants as error
@@ -17,19 +17,19 @@ use Rattle.thompson_nfa.proofs.GrowLemmas.{grows_refl, grows_trans, Partly, tame
 -- n states were added at most, and `spare` bytes are left of 4096 for each
 pub record Progress (plain : Bool) (old mid : Assembly) (n spare : ℕ) : Type 0 where
   pub partly : Partly plain old mid
-  pub states : length mid.parts ≤ length old.parts + n
-  pub bytes : sum_of_bytes mid + spare + 4096 * length old.parts ≤ sum_of_bytes old + 4096 * length mid.parts
-  pub numbered : length mid.parts ≤ greatest_index + 1
+  pub states : length mid.drafts ≤ length old.drafts + n
+  pub bytes : sum_of_bytes mid + spare + 4096 * length old.drafts ≤ sum_of_bytes old + 4096 * length mid.drafts
+  pub numbered : length mid.drafts ≤ greatest_index + 1
 
-pub first_added : {plain : Bool} {a b : Assembly} {id : ℕ} {part : Part} {groups : Groups} (spare : ℕ) → Added a b id part groups →
-    IsTame plain b part → part_bytes part + spare ≤ 4096 → Progress plain a b 1 spare
+pub first_added : {plain : Bool} {a b : Assembly} {id : ℕ} {draft : DraftNode} {groups : Groups} (spare : ℕ) → Added a b id draft groups →
+    IsTame plain b draft → draft_bytes draft + spare ≤ 4096 → Progress plain a b 1 spare
 first_added spare x tame le = record { partly = partly_added x tame; states = omega arith; bytes = omega arith; numbered = x.numbered }
 
 pub first_made : {a b : Assembly} {start end n : ℕ} → Makes a b start end n → Progress false a b n 8
 first_made m = record { partly = record { grows = m.fragment.grows; tame = m.tame }; states = m.within.states; bytes = m.within.bytes; numbered = m.within.numbered }
 
-pub then_added : {plain : Bool} {a b c : Assembly} {id n s : ℕ} {part : Part} {groups : Groups} (spare : ℕ) → Progress plain a b n s →
-    Added b c id part groups → IsTame plain c part → part_bytes part + spare ≤ s + 4096 →
+pub then_added : {plain : Bool} {a b c : Assembly} {id n s : ℕ} {draft : DraftNode} {groups : Groups} (spare : ℕ) → Progress plain a b n s →
+    Added b c id draft groups → IsTame plain c draft → draft_bytes draft + spare ≤ s + 4096 →
     Progress plain a c (n + 1) spare
 then_added spare p x tame le = record { partly = partly_joined p.partly (partly_added x tame); states = omega arith; bytes = omega arith; numbered = x.numbered }
 
@@ -38,19 +38,19 @@ pub then_made : {a b c : Assembly} {start end n s k : ℕ} (spare : ℕ) → Pro
 then_made spare p m le = record { partly = partly_joined p.partly (record { grows = m.fragment.grows; tame = m.tame }); states = omega arith; bytes = omega arith; numbered = m.within.numbered }
 
 pub then_led : {plain : Bool} {a b c : Assembly} {from to n s : ℕ} (spare : ℕ) → Progress plain a b n s → Led b c from to →
-    length a.parts ≤ from → to < length b.parts → spare + 4 ≤ s → Progress plain a c n spare
+    length a.drafts ≤ from → to < length b.drafts → spare + 4 ≤ s → Progress plain a c n spare
 then_led spare p x new there le = record { partly = partly_led p.partly x new there; states = omega arith; bytes = omega arith; numbered = omega arith }
 
 -- a fragment that is done
 pub made : {plain : Bool} {a b : Assembly} {start end n s : ℕ} (m : ℕ) → Progress plain a b n s → 8 ≤ s → n ≤ m →
-    length a.parts ≤ start → start < length b.parts → length a.parts ≤ end → end < length b.parts →
-    is_sparse (part_at b.parts end) ≡ false →
-    ((table : Table) (target : ℕ) → Finished (length a.parts) b.parts end target table → AllComeOut table target (length a.parts) (length b.parts)) →
+    length a.drafts ≤ start → start < length b.drafts → length a.drafts ≤ end → end < length b.drafts →
+    is_sparse (draft_at b.drafts end) ≡ false →
+    ((table : Table) (target : ℕ) → Finished (length a.drafts) b.drafts end target table → AllComeOut table target (length a.drafts) (length b.drafts)) →
     Makes a b start end m
 made {plain} {a} {b} m p spare le s1 s2 e1 e2 kind out = record {
   fragment = record { grows = p.partly.grows; start_new = s1; start_there = s2; end_new = e1; end_there = e2; can_be_led_on = kind };
   comes_out = out;
-  tame = λ q low high. tame_anyhow b (part_at b.parts q) (p.partly.tame q low high);
+  tame = λ q low high. tame_anyhow b (draft_at b.drafts q) (p.partly.tame q low high);
   within = record { states = omega arith; bytes = omega arith; numbered = p.numbered };
 }
 
@@ -62,7 +62,7 @@ pub size_kept : {old mid : Assembly} → Grows old mid → mid.size_limit ≡ ol
 size_kept g = ap (λ (b : Assembly). b.size_limit) g.settings
 
 -- what refuses a later step refuses the whole
-pub step_later : (old mid : Assembly) (n bytes whole m : ℕ) (e : BuildError) → mid.size_limit ≡ old.size_limit → length mid.parts + n ≤ length old.parts + whole →
+pub step_later : (old mid : Assembly) (n bytes whole m : ℕ) (e : BuildError) → mid.size_limit ≡ old.size_limit → length mid.drafts + n ≤ length old.drafts + whole →
     sum_of_bytes mid + bytes ≤ sum_of_bytes old + 4096 * whole → min whole 18446744073709551615 ≤ m → RefusesStep mid n bytes e → RefusesStates old m e
 step_later old mid n bytes whole m error.TooManyPatterns size states room cap r = r
 step_later old mid n bytes whole m error.TooManyStates size states room cap r = omega arith
@@ -79,7 +79,7 @@ tree_later kept p old m x error.UnsupportedCaptures r = r
 tree_later kept p old m x (error.Captures err) r = absurd r
 tree_later kept p old m x error.NoMemory r = r
 
-call_later : (kept : WhichCaptures) (p : ℕ) (old mid : Assembly) (n whole m : ℕ) (x y : Tree) (e : BuildError) → mid.size_limit ≡ old.size_limit → length mid.parts + n ≤ length old.parts + whole →
+call_later : (kept : WhichCaptures) (p : ℕ) (old mid : Assembly) (n whole m : ℕ) (x y : Tree) (e : BuildError) → mid.size_limit ≡ old.size_limit → length mid.drafts + n ≤ length old.drafts + whole →
     sum_of_bytes mid + 4096 * n ≤ sum_of_bytes old + 4096 * whole → min whole 18446744073709551615 ≤ m → ((index : ℕ) → HasGroup kept index x → HasGroup kept index y) →
     RefusesTree kept p mid n x e → RefusesTree kept p old m y e
 call_later kept p old mid n whole m x y error.TooManyPatterns size states room cap inside r = r
@@ -96,7 +96,7 @@ Includes kept x y = (index : ℕ) → HasGroup kept index x → HasGroup kept in
 -- the first step is refused
 pub first_quits : {old new : Assembly} {n bytes : ℕ} {e : BuildError} (m : ℕ) → Stays old new n bytes e → n ≤ m → bytes ≤ 4096 * m → Quits old new m e
 first_quits {old} {new} {n} {bytes} {e} m r le lb = record {
-  settings = r.same ∙ ap (λ (b : Assembly). record old { parts = b.parts; groups = b.groups }) (sym r.same);
+  settings = r.same ∙ ap (λ (b : Assembly). record old { drafts = b.drafts; groups = b.groups }) (sym r.same);
   cause = step_later old old n bytes m m e refl (omega arith) (omega arith) (omega arith) r.cause;
 }
 
@@ -129,6 +129,6 @@ then_refuses {plain} {old} {mid} {new} {k} {s} {n} {e} {kept} {x} m y p r inside
     let starts : length mid.starts ≡ length old.starts = ap (λ (b : Assembly). length b.starts) p.partly.grows.settings in
     let P : ℕ → Type 0 = λ pattern. RefusesTree kept pattern mid n x e in
     record {
-      settings = r.settings ∙ ap (λ (b : Assembly). record b { parts = new.parts; groups = new.groups }) p.partly.grows.settings;
+      settings = r.settings ∙ ap (λ (b : Assembly). record b { drafts = new.drafts; groups = new.groups }) p.partly.grows.settings;
       cause = call_later kept (length old.starts) old mid n m m x y e (size_kept p.partly.grows) (omega arith) (omega arith) (omega arith) inside (subst P starts r.cause);
     }

@@ -26,14 +26,14 @@ none_kept : (reverse : Bool) (kept : WhichCaptures) → (reverse && is_any kept)
 none_kept false kept e = inl refl
 none_kept true kept e = inr (none_is_kept kept e)
 
--- a group is kept, or those of trees have a fault: so the automaton reads upwards
-upward_group : (o : Options) (index : ℕ) (x : Tree) → (reverse_of o && is_any (captures_of o)) ≡ false → HasGroup (captures_of o) index x → reverse_of o ≡ false
-upward_group o index x captures h = ⊎_elim (λ (up : reverse_of o ≡ false). up)
+-- a group is kept, or those of trees have a fault: so the automaton reads forward
+forward_group : (o : Options) (index : ℕ) (x : Tree) → (reverse_of o && is_any (captures_of o)) ≡ false → HasGroup (captures_of o) index x → reverse_of o ≡ false
+forward_group o index x captures h = ⊎_elim (λ (up : reverse_of o ≡ false). up)
     (λ (none : captures_of o ≡ which.None). absurd (no_group_kept (captures_of o) index x none h))
     (none_kept (reverse_of o) (captures_of o) captures)
 
-upward_fault : (o : Options) (xs : List Tree) (fault : GroupFault) → (reverse_of o && is_any (captures_of o)) ≡ false → group_fault (noted_from (captures_of o) 0 xs []) ≡ Some fault → reverse_of o ≡ false
-upward_fault o xs fault captures e = ⊎_elim (λ (up : reverse_of o ≡ false). up)
+forward_fault : (o : Options) (xs : List Tree) (fault : GroupFault) → (reverse_of o && is_any (captures_of o)) ≡ false → group_fault (noted_from (captures_of o) 0 xs []) ≡ Some fault → reverse_of o ≡ false
+forward_fault o xs fault captures e = ⊎_elim (λ (up : reverse_of o ≡ false). up)
     (λ (none : captures_of o ≡ which.None). absurd (no_group_fault (captures_of o) xs fault none e))
     (none_kept (reverse_of o) (captures_of o) captures)
 
@@ -68,7 +68,7 @@ pub trees_refused : (o : Options) (xs : List Tree) (b : Assembly) (e : BuildErro
     RefusesPatterns (captures_of o) b (room_for (is_shrunk o) xs + 4) xs e → RefusesTrees o xs (told_by (limit_of o) e)
 trees_refused o xs b error.TooManyPatterns begun captures r = absurd r
 trees_refused o xs b error.TooManyStates begun captures r =
-    let none : length b.parts ≡ 0 = ap (λ (z : Assembly). length z.parts) begun in
+    let none : length b.drafts ≡ 0 = ap (λ (z : Assembly). length z.drafts) begun in
     too_many_told o xs (limit_of o) refl (omega (arith, r, none, list_fits (is_shrunk o) xs))
 trees_refused o xs b (error.ExceededSizeLimit limit) begun captures r =
     let none : sum_of_bytes b ≡ 0 = ap (λ (z : Assembly). sum_of_bytes z) begun in
@@ -79,7 +79,7 @@ trees_refused o xs b (error.Captures err) begun captures r =
     let none : length b.starts ≡ 0 = ap (λ (z : Assembly). length z.starts) begun in
     let number : length b.starts + r.0 ≡ r.0 = omega (arith, none) in
     let P : ℕ → Type 0 = λ p. RefusesIndex p r.1 err in
-    as_it_is o xs (error.Captures err) (λ e. cc) (upward_group o r.1 r.2 captures r.4, inr (r.0, r.1, r.2, r.3, r.4, subst P number r.5))
+    as_it_is o xs (error.Captures err) (λ e. cc) (forward_group o r.1 r.2 captures r.4, inr (r.0, r.1, r.2, r.3, r.4, subst P number r.5))
 trees_refused o xs b error.NoMemory begun captures r = as_it_is o xs error.NoMemory (λ e. cc) tt
 
 -- ---- to build is refused
@@ -104,7 +104,7 @@ fault_refuses o xs b (error.ExceededSizeLimit limit) groups captures told = absu
 fault_refuses o xs b error.UnsupportedCaptures groups captures told = absurd (of_groups (group_fault b.groups) unsupported_captures told)
 fault_refuses o xs b (error.Captures err) groups captures told =
     let is : group_fault (noted_from (captures_of o) 0 xs []) ≡ Some told.0 = ap group_fault (sym groups) ∙ same_fault (group_fault b.groups) told.0 told.1 in
-    (upward_fault o xs told.0 captures is, inl (told.0, is, told.2))
+    (forward_fault o xs told.0 captures is, inl (told.0, is, told.2))
 fault_refuses o xs b error.NoMemory groups captures told = tt
 
 pub build_refused : (o : Options) (xs : List Tree) (b : Assembly) (e : BuildError) → b.groups ≡ noted_from (captures_of o) 0 xs [] → (reverse_of o && is_any (captures_of o)) ≡ false →

@@ -11,7 +11,7 @@ use Rattle.search_types.proofs.ForCallers.{none_first}
 use Rattle.hir_core.specs.Tree.{Tree, literal, char_class, repetition, capture, cat, alt, concat, alternation}
 use Rattle.hir_core.specs.Facts.{count, capped, sequence_count, rises_from}
 use Rattle.hir_core.specs.Sequences.{utf8_sequences, byte_ranges, spelling_of}
-use Rattle.nfa_core.specs.BuilderStates.{Part, empty_part, range_part, sparse_part, look_part, capture_start_part, capture_end_part, union_part, union_reverse_part, fail_part, match_part, Assembly, part_at, patched, patched_at, part_bytes, list_bytes}
+use Rattle.nfa_core.specs.BuilderStates.{DraftNode, empty_draft, range_draft, sparse_draft, look_draft, capture_start_draft, capture_end_draft, union_draft, union_reverse_draft, fail_draft, match_draft, Assembly, draft_at, patched, patched_at, draft_bytes, list_bytes}
 use Rattle.nfa_core.specs.BuilderFaults.{too_many_states, add_fault, name_fault}
 use Rattle.thompson_nfa.specs.Compiled.{sum_of_bytes}
 
@@ -109,12 +109,12 @@ module _ (n : ℕ) where
   fits_rounds least most rounds greedy x e h = fits_at_most least most greedy x (rounds_owed n least most rounds (count x) e h)
 
 -- ---- lists of parts, of which some are left
-pub parts_left_up : (xs : List Tree) (i : ℕ) (d : Tree) → i < length xs → sum_by count (drop i xs) ≡ count (get_or xs i d) + sum_by count (drop (i + 1) xs)
-parts_left_up xs i d h = sum_by-drop_more count xs i d h
+pub parts_left_forward : (xs : List Tree) (i : ℕ) (d : Tree) → i < length xs → sum_by count (drop i xs) ≡ count (get_or xs i d) + sum_by count (drop (i + 1) xs)
+parts_left_forward xs i d h = sum_by-drop_more count xs i d h
 
-pub parts_left_down : (xs : List Tree) (i : ℕ) (d : Tree) → i < length xs →
+pub parts_left_reverse : (xs : List Tree) (i : ℕ) (d : Tree) → i < length xs →
     sum_by count (take (length xs - i) xs) ≡ count (get_or xs (length xs - (i + 1)) d) + sum_by count (take (length xs - (i + 1)) xs)
-parts_left_down xs i d h =
+parts_left_reverse xs i d h =
     let k : ℕ = length xs - (i + 1) in
     let one : length xs - i ≡ k + 1 = omega (arith, h) in
     let sum : sum_by count (take (length xs - i) xs) ≡ sum_by count (take k xs) + count (get_or xs k d)
@@ -122,13 +122,13 @@ parts_left_down xs i d h =
     omega (arith, sum)
 
 -- ---- sequences of ranges
-pub sequences_left_up : (ranges : List (ℕ × ℕ)) (i : ℕ) (d : ℕ × ℕ) → i < length ranges →
+pub sequences_left_forward : (ranges : List (ℕ × ℕ)) (i : ℕ) (d : ℕ × ℕ) → i < length ranges →
     sequence_count (drop i ranges) ≡ length (utf8_sequences (get_or ranges i d).0 (get_or ranges i d).1) + sequence_count (drop (i + 1) ranges)
-sequences_left_up [] i d h = absurd (omega (arith, h))
-sequences_left_up (x ∷ xs) zero d h = refl
-sequences_left_up (x ∷ xs) (suc i) d h =
+sequences_left_forward [] i d h = absurd (omega (arith, h))
+sequences_left_forward (x ∷ xs) zero d h = refl
+sequences_left_forward (x ∷ xs) (suc i) d h =
     let e : suc i + 1 ≡ suc (i + 1) = omega arith in
-    sequences_left_up xs i d (omega (arith, h))
+    sequences_left_forward xs i d (omega (arith, h))
     ∙ ap (λ n. length (utf8_sequences (get_or xs i d).0 (get_or xs i d).1) + sequence_count (drop n (x ∷ xs))) (sym e)
 
 pub sequence_count_push : (ranges : List (ℕ × ℕ)) (r : ℕ × ℕ) → sequence_count (ranges ++ r ∷ []) ≡ sequence_count ranges + length (utf8_sequences r.0 r.1)
@@ -176,9 +176,9 @@ few_ranges low (r ∷ rs) le rises small =
 -- No state was added that can't be numbered.
 abbrev pub HasRoom : Assembly → Assembly → ℕ → ℕ → Type 0
 HasRoom old new n k =
-    (length new.parts ≤ length old.parts + n)
-    × (sum_of_bytes new + 4 * k + 4096 * length old.parts ≤ sum_of_bytes old + 4096 * length new.parts)
-    × (length new.parts ≤ max (length old.parts) (greatest_index + 1))
+    (length new.drafts ≤ length old.drafts + n)
+    × (sum_of_bytes new + 4 * k + 4096 * length old.drafts ≤ sum_of_bytes old + 4096 * length new.drafts)
+    × (length new.drafts ≤ max (length old.drafts) (greatest_index + 1))
 
 pub room_none : (old : Assembly) → HasRoom old old 0 0
 room_none old = (omega arith, omega arith, omega arith)
@@ -197,10 +197,10 @@ pub room_counted : (old new : Assembly) (n m k j : ℕ) → HasRoom old new n k 
 room_counted old new n m k j a more less = (omega (arith, a.0, a.2, more), omega (arith, a.1, less), a.2)
 
 -- ---- states are added and led on
-pub room_same : (old mid new : Assembly) (n k : ℕ) → HasRoom old mid n k → new.parts ≡ mid.parts → HasRoom old new n k
+pub room_same : (old mid new : Assembly) (n k : ℕ) → HasRoom old mid n k → new.drafts ≡ mid.drafts → HasRoom old new n k
 room_same old mid new n k a e =
-    let len : length new.parts ≡ length mid.parts = ap length e in
-    let sum : sum_of_bytes new ≡ sum_of_bytes mid = ap (sum_by part_bytes) e in
+    let len : length new.drafts ≡ length mid.drafts = ap length e in
+    let sum : sum_of_bytes new ≡ sum_of_bytes mid = ap (sum_by draft_bytes) e in
     (omega (arith, a.0, len), omega (arith, a.1, len, sum), omega (arith, a.2, len))
 
 refused_and_not : {A : Type 0} (o : Option A) (x : A) → o ≡ None → o ≡ Some x → ⊥
@@ -208,69 +208,69 @@ refused_and_not None x e f = absurd (grind (arith, f))
 refused_and_not (Some y) x e f = absurd (grind (arith, e))
 
 -- a state that was not refused could be numbered
-pub numbered : (b : Assembly) (part : Part) → add_fault b part ≡ None → length b.parts ≤ greatest_index
-numbered b part h = elim (cases_lt greatest_index (length b.parts)) [
-  | inl l ↦ absurd (refused_and_not (name_fault b.parts) too_many_states (none_first (name_fault b.parts) _ h) (cond-true (nat_lt greatest_index (length b.parts)) _ _ (lt-ltb greatest_index (length b.parts) l)))
+pub numbered : (b : Assembly) (draft : DraftNode) → add_fault b draft ≡ None → length b.drafts ≤ greatest_index
+numbered b draft h = elim (cases_lt greatest_index (length b.drafts)) [
+  | inl l ↦ absurd (refused_and_not (name_fault b.drafts) too_many_states (none_first (name_fault b.drafts) _ h) (cond-true (nat_lt greatest_index (length b.drafts)) _ _ (lt-ltb greatest_index (length b.drafts) l)))
   | inr l ↦ l
 ]
 
-pub room_added : (old mid new : Assembly) (part : Part) (n k j : ℕ) → HasRoom old mid n k → new.parts ≡ mid.parts ++ part ∷ [] →
-    length mid.parts ≤ greatest_index → part_bytes part + 4 * j ≤ 4096 → HasRoom old new (n + 1) (k + j)
-room_added old mid new part n k j a e low small =
-    let len : length new.parts ≡ length mid.parts + 1 = ap length e ∙ length-append mid.parts (part ∷ []) in
-    let sum : sum_of_bytes new ≡ sum_of_bytes mid + part_bytes part = ap (sum_by part_bytes) e ∙ sum_by_push part_bytes mid.parts part in
+pub room_added : (old mid new : Assembly) (draft : DraftNode) (n k j : ℕ) → HasRoom old mid n k → new.drafts ≡ mid.drafts ++ draft ∷ [] →
+    length mid.drafts ≤ greatest_index → draft_bytes draft + 4 * j ≤ 4096 → HasRoom old new (n + 1) (k + j)
+room_added old mid new draft n k j a e low small =
+    let len : length new.drafts ≡ length mid.drafts + 1 = ap length e ∙ length-append mid.drafts (draft ∷ []) in
+    let sum : sum_of_bytes new ≡ sum_of_bytes mid + draft_bytes draft = ap (sum_by draft_bytes) e ∙ sum_by_push draft_bytes mid.drafts draft in
     (omega (arith, a.0, len), omega (arith, a.1, len, sum, small), omega (arith, a.2, len, low))
 
-way_at_most : (part : Part) (to : ℕ) → part_bytes (patched to part) ≤ part_bytes part + 4
-way_at_most (empty_part next) to = omega arith
-way_at_most (range_part low high next) to = omega arith
-way_at_most (sparse_part ranges) to = omega arith
-way_at_most (look_part l next) to = omega arith
-way_at_most (capture_start_part pattern group next) to = omega arith
-way_at_most (capture_end_part pattern group next) to = omega arith
-way_at_most (union_part names) to = omega (arith, length-append names (to ∷ []))
-way_at_most (union_reverse_part names) to = omega (arith, length-append names (to ∷ []))
-way_at_most fail_part to = omega arith
-way_at_most (match_part pattern) to = omega arith
+way_at_most : (draft : DraftNode) (to : ℕ) → draft_bytes (patched to draft) ≤ draft_bytes draft + 4
+way_at_most (empty_draft next) to = omega arith
+way_at_most (range_draft low high next) to = omega arith
+way_at_most (sparse_draft ranges) to = omega arith
+way_at_most (look_draft l next) to = omega arith
+way_at_most (capture_start_draft pattern group next) to = omega arith
+way_at_most (capture_end_draft pattern group next) to = omega arith
+way_at_most (union_draft names) to = omega (arith, length-append names (to ∷ []))
+way_at_most (union_reverse_draft names) to = omega (arith, length-append names (to ∷ []))
+way_at_most fail_draft to = omega arith
+way_at_most (match_draft pattern) to = omega arith
 
-pub room_led_on : (old mid new : Assembly) (from to n j k : ℕ) → HasRoom old mid n j → new.parts ≡ patched_at mid.parts from to →
-    from < length mid.parts → k + 1 ≤ j → HasRoom old new n k
+pub room_led_on : (old mid new : Assembly) (from to n j k : ℕ) → HasRoom old mid n j → new.drafts ≡ patched_at mid.drafts from to →
+    from < length mid.drafts → k + 1 ≤ j → HasRoom old new n k
 room_led_on old mid new from to n j k a e inside less =
-    let part : Part = part_at mid.parts from in
-    let len : length new.parts ≡ length mid.parts = ap length e ∙ length-set mid.parts from (patched to part) in
-    let sums : sum_by part_bytes (patched_at mid.parts from to) + part_bytes part ≡ sum_of_bytes mid + part_bytes (patched to part) =
-    sum_by-set part_bytes mid.parts from (patched to part) fail_part inside in
-    let sum : sum_of_bytes new ≡ sum_by part_bytes (patched_at mid.parts from to) = ap (sum_by part_bytes) e in
-    let way = way_at_most part to in
+    let draft : DraftNode = draft_at mid.drafts from in
+    let len : length new.drafts ≡ length mid.drafts = ap length e ∙ length-set mid.drafts from (patched to draft) in
+    let sums : sum_by draft_bytes (patched_at mid.drafts from to) + draft_bytes draft ≡ sum_of_bytes mid + draft_bytes (patched to draft) =
+    sum_by-set draft_bytes mid.drafts from (patched to draft) fail_draft inside in
+    let sum : sum_of_bytes new ≡ sum_by draft_bytes (patched_at mid.drafts from to) = ap (sum_by draft_bytes) e in
+    let way = way_at_most draft to in
     (omega (arith, a.0, len), omega (arith, a.1, len, sum, sums, way, less), omega (arith, a.2, len))
 
 -- a state without lists: 24 bytes
-pub room_plain : (old mid new : Assembly) (part : Part) (n k : ℕ) → HasRoom old mid n k → new.parts ≡ mid.parts ++ part ∷ [] →
-    length mid.parts ≤ greatest_index → list_bytes part ≡ 0 → HasRoom old new (n + 1) (k + 1018)
-room_plain old mid new part n k a e low plain = room_added old mid new part n k 1018 a e low (omega (arith, plain))
+pub room_plain : (old mid new : Assembly) (draft : DraftNode) (n k : ℕ) → HasRoom old mid n k → new.drafts ≡ mid.drafts ++ draft ∷ [] →
+    length mid.drafts ≤ greatest_index → list_bytes draft ≡ 0 → HasRoom old new (n + 1) (k + 1018)
+room_plain old mid new draft n k a e low plain = room_added old mid new draft n k 1018 a e low (omega (arith, plain))
 
 -- a sparse state of no more ranges than there are bytes
-pub room_sparse : (old mid new : Assembly) (ranges : List (ℕ × ℕ × ℕ)) (n k : ℕ) → HasRoom old mid n k → new.parts ≡ mid.parts ++ sparse_part ranges ∷ [] →
-    length mid.parts ≤ greatest_index → length ranges ≤ 256 → HasRoom old new (n + 1) (k + 506)
-room_sparse old mid new ranges n k a e low few = room_added old mid new (sparse_part ranges) n k 506 a e low (omega (arith, few))
+pub room_sparse : (old mid new : Assembly) (ranges : List (ℕ × ℕ × ℕ)) (n k : ℕ) → HasRoom old mid n k → new.drafts ≡ mid.drafts ++ sparse_draft ranges ∷ [] →
+    length mid.drafts ≤ greatest_index → length ranges ≤ 256 → HasRoom old new (n + 1) (k + 506)
+room_sparse old mid new ranges n k a e low few = room_added old mid new (sparse_draft ranges) n k 506 a e low (omega (arith, few))
 
 -- ---- fragments side by side
 -- one more fragment, to which what was there is led on
 pub room_linked : (old mid next new : Assembly) (from to m n j : ℕ) → HasRoom old mid m j → HasRoom mid next n 2 →
-    new.parts ≡ patched_at next.parts from to → from < length next.parts → HasRoom old new (m + n) (j + 1)
+    new.drafts ≡ patched_at next.drafts from to → from < length next.drafts → HasRoom old new (m + n) (j + 1)
 room_linked old mid next new from to m n j a b e inside =
     room_led_on old next new from to (m + n) (j + 2) (j + 1) (room_joined old mid next m n j 2 a b) e inside (omega arith)
 
 -- one more fragment, with a way to its start and a way from its end
 pub room_branched : (old mid next led new : Assembly) (from to from_end to_end m n j : ℕ) → HasRoom old mid m j → HasRoom mid next n 2 →
-    led.parts ≡ patched_at next.parts from to → from < length next.parts →
-    new.parts ≡ patched_at led.parts from_end to_end → from_end < length led.parts → HasRoom old new (m + n) j
+    led.drafts ≡ patched_at next.drafts from to → from < length next.drafts →
+    new.drafts ≡ patched_at led.drafts from_end to_end → from_end < length led.drafts → HasRoom old new (m + n) j
 room_branched old mid next led new from to from_end to_end m n j a b e inside f inside_end =
     room_led_on old led new from_end to_end (m + n) (j + 1) j (room_linked old mid next led from to m n j a b e inside) f inside_end (omega arith)
 
 -- one more copy of a body that has count c
 pub room_copied : (old mid next new : Assembly) (from to i c j : ℕ) → HasRoom old mid (i * c) j → HasRoom mid next c 2 →
-    new.parts ≡ patched_at next.parts from to → from < length next.parts → HasRoom old new ((i + 1) * c) (j + 1)
+    new.drafts ≡ patched_at next.drafts from to → from < length next.drafts → HasRoom old new ((i + 1) * c) (j + 1)
 room_copied old mid next new from to i c j a b e inside =
     subst (λ (n : ℕ). HasRoom old new n (j + 1)) (copied i c) (room_linked old mid next new from to (i * c) c j a b e inside)
 

@@ -12,7 +12,7 @@ use Rattle.hir_core.proofs.ForCallers.{flat_map-flat_map, flat_map_same, preferr
 use Rattle.nfa_core.specs.Drafted.{Table}
 use Rattle.thompson_nfa.specs.Denotes.{Denotes}
 use Rattle.thompson_nfa.proofs.LookLemmas.{or_none, or_turned, uses_concat}
-use Rattle.thompson_nfa.proofs.MeantLemmas.{meant_map, meant_cat_down, cat_meant_down}
+use Rattle.thompson_nfa.proofs.MeantLemmas.{meant_map, meant_cat_reverse, cat_meant_reverse}
 use Rattle.look_core.specs.declared.look.Look.{Look}
 use Rattle.thompson_nfa.specs.Compiled.{uses}
 use Rattle.thompson_nfa.proofs.DenoteLemmas.{Joins, denotes_like}
@@ -46,13 +46,13 @@ joins_same back x1 x2 y z same j = record {
 }
 
 -- two parts: the first is done first reading up, the second reading down
-pub joins_cat_up : (x y : Tree) → Joins false x y (cat x y)
-joins_cat_up x y = record { parts = λ t i j m. m; joined = λ t i j m. m; reading = λ f. f; ends = λ up looks h i. refl; met = λ l. refl }
+pub joins_cat_forward : (x y : Tree) → Joins false x y (cat x y)
+joins_cat_forward x y = record { parts = λ t i j m. m; joined = λ t i j m. m; reading = λ f. f; ends = λ up looks h i. refl; met = λ l. refl }
 
-pub joins_cat_down : (x y : Tree) → Joins true y x (cat x y)
-joins_cat_down x y = record {
-  parts = λ t i j m. meant_cat_down t x y i j m;
-  joined = λ t i j m. cat_meant_down t x y i j m.0 m.1 m.2;
+pub joins_cat_reverse : (x y : Tree) → Joins true y x (cat x y)
+joins_cat_reverse x y = record {
+  parts = λ t i j m. meant_cat_reverse t x y i j m;
+  joined = λ t i j m. cat_meant_reverse t x y i j m.0 m.1 m.2;
   reading = λ f. (f.1, f.0);
   ends = λ up looks h i. cc;
   met = λ l. or_turned (uses true x l) (uses true y l);

@@ -11,7 +11,7 @@ use Rattle.hir_core.specs.Sequences.{bytes_of, utf8_sequences}
 use Rattle.hir_core.specs.Tree.{Tree, concat, char_class}
 use Rattle.hir_core.specs.declared.utf8_sequences.Utf8Range.{Utf8Range}
 use Rattle.hir_core.proofs.ForCallers.{sequence_short}
-use Rattle.nfa_core.specs.BuilderStates.{Part, Assembly, part_at, patched, is_sparse, empty_part, range_part, sparse_part, look_part, capture_start_part, capture_end_part, union_part, union_reverse_part, fail_part, match_part}
+use Rattle.nfa_core.specs.BuilderStates.{DraftNode, Assembly, draft_at, patched, is_sparse, empty_draft, range_draft, sparse_draft, look_draft, capture_start_draft, capture_end_draft, union_draft, union_reverse_draft, fail_draft, match_draft}
 use Rattle.nfa_core.specs.declared.build_error.BuildError.{BuildError}
 use Rattle.thompson_nfa.specs.Added.{Added, Led}
 use Rattle.thompson_nfa.specs.Branches.{AddsBranch, AddsAll, adds_none, adds_more}
@@ -67,14 +67,14 @@ pub next_joined : (a b c b4 : Assembly) (s1 e1 s2 e2 i k : ℕ) (d : ℕ × ℕ)
     Makes b c s2 e2 1 → Does b c s2 e2 (range_tree (get_or rs k d)) → c.groups ≡ b.groups → Led c b4 e1 s2 → JoinedTo a b4 s1 e2 (i + 1) rs
 next_joined a b c b4 s1 e1 s2 e2 i k d rs so_far less is l m does groups led =
     let x : Tree = range_tree (get_or rs k d) in
-    let parts : List Tree = map range_tree rs in
-    let long : length parts ≡ length rs = length-map rs range_tree in
+    let drafts : List Tree = map range_tree rs in
+    let long : length drafts ≡ length rs = length-map rs range_tree in
     record {
       made = join_made a b c b4 s1 e1 i s2 e2 1 so_far.made m led;
       groups = ap (λ (z : Assembly). z.groups) led.settings ∙ groups ∙ so_far.groups;
       within = omega arith;
-      does = join_does a b c b4 s1 e1 i s2 e2 1 so_far.made m led (concat (x ∷ [])) (concat (left_after a.reverse (i + 1) parts)) (concat (left_after a.reverse i parts)) (concat parts)
-          (concat_joins a.reverse parts i x (omega (arith, long)) (tree_at rs a.reverse i k d is l)) so_far.does (does_same b c s2 e2 x (concat (x ∷ [])) (same_concat_one x) does);
+      does = join_does a b c b4 s1 e1 i s2 e2 1 so_far.made m led (concat (x ∷ [])) (concat (left_after a.reverse (i + 1) drafts)) (concat (left_after a.reverse i drafts)) (concat drafts)
+          (concat_joins a.reverse drafts i x (omega (arith, long)) (tree_at rs a.reverse i k d is l)) so_far.does (does_same b c s2 e2 x (concat (x ∷ [])) (same_concat_one x) does);
     }
 
 pub all_joined : (a b : Assembly) (s e i : ℕ) (rs : List (ℕ × ℕ)) → JoinedTo a b s e i rs → length rs ≤ i → Does a b s e (sequence_tree rs)
@@ -86,14 +86,14 @@ all_joined a b s e i rs so_far past =
 
 -- n states were added at most, and states that were there may have been led on
 pub record Spent (old mid : Assembly) (n : ℕ) : Type 0 where
-  pub settings : mid ≡ record old { parts = mid.parts; groups = mid.groups }
-  pub longer : length old.parts ≤ length mid.parts
-  pub states : length mid.parts ≤ length old.parts + n
-  pub bytes : sum_of_bytes mid + 4096 * length old.parts ≤ sum_of_bytes old + 4096 * length mid.parts
+  pub settings : mid ≡ record old { drafts = mid.drafts; groups = mid.groups }
+  pub longer : length old.drafts ≤ length mid.drafts
+  pub states : length mid.drafts ≤ length old.drafts + n
+  pub bytes : sum_of_bytes mid + 4096 * length old.drafts ≤ sum_of_bytes old + 4096 * length mid.drafts
 
 pub quits_later : {old mid new : Assembly} {k n : ℕ} {e : BuildError} (m : ℕ) → Spent old mid k → Quits mid new n e → k + n ≤ m → Quits old new m e
 quits_later {old} {mid} {new} {k} {n} {e} m p r le = record {
-  settings = r.settings ∙ ap (λ (b : Assembly). record b { parts = new.parts; groups = new.groups }) p.settings;
+  settings = r.settings ∙ ap (λ (b : Assembly). record b { drafts = new.drafts; groups = new.groups }) p.settings;
   cause = let a = p.states in let b = p.bytes in let l = p.longer in
       step_later old mid n (4096 * n) m m e (ap (λ (b : Assembly). b.size_limit) p.settings) (omega arith) (omega arith) (omega arith) r.cause;
 }
@@ -112,10 +112,10 @@ spent_more {a} {b} {c} {u} {m} {i} {n} {x} p one =
     let l1 = one.leads.one in let l2 = one.leads.two in
     let a1 = p.states in let a2 = p.bytes in let a3 = p.longer in let b1 = w.states in let b2 = w.bytes in let b3 = g.longer in
     let c1 = l1.size in let c2 = l1.bytes in let d1 = l2.size in let d2 = l2.bytes in
-    let led : c ≡ record one.middle { parts = c.parts; groups = c.groups } =
-    l2.settings ∙ ap (λ (z : Assembly). record z { parts = c.parts }) l1.settings ∙ ap (λ gs. record one.middle { parts = c.parts; groups = gs }) (sym (ap (λ (z : Assembly). z.groups) l1.settings) ∙ sym (ap (λ (z : Assembly). z.groups) l2.settings)) in
+    let led : c ≡ record one.middle { drafts = c.drafts; groups = c.groups } =
+    l2.settings ∙ ap (λ (z : Assembly). record z { drafts = c.drafts }) l1.settings ∙ ap (λ gs. record one.middle { drafts = c.drafts; groups = gs }) (sym (ap (λ (z : Assembly). z.groups) l1.settings) ∙ sym (ap (λ (z : Assembly). z.groups) l2.settings)) in
     record {
-      settings = led ∙ ap (λ (z : Assembly). record z { parts = c.parts; groups = c.groups }) (g.settings ∙ ap (λ (z : Assembly). record z { parts = one.middle.parts; groups = one.middle.groups }) p.settings);
+      settings = led ∙ ap (λ (z : Assembly). record z { drafts = c.drafts; groups = c.groups }) (g.settings ∙ ap (λ (z : Assembly). record z { drafts = one.middle.drafts; groups = one.middle.groups }) p.settings);
       longer = omega arith;
       states = omega arith;
       bytes = omega arith;
@@ -130,26 +130,26 @@ adds_spent u m n a _ _ (adds_more _ b c xs x before one) =
     let P : ℕ → Type 0 = λ k. Spent a c k in
     subst P (one_longer n xs x) (spent_more (adds_spent u m n a b xs before) one)
 
-kind_patched : (to : ℕ) (part : Part) → is_sparse (patched to part) ≡ is_sparse part
-kind_patched to (empty_part next) = refl
-kind_patched to (range_part low high next) = refl
-kind_patched to (sparse_part ranges) = refl
-kind_patched to (look_part look next) = refl
-kind_patched to (capture_start_part pattern group next) = refl
-kind_patched to (capture_end_part pattern group next) = refl
-kind_patched to (union_part names) = refl
-kind_patched to (union_reverse_part names) = refl
-kind_patched to fail_part = refl
-kind_patched to (match_part pattern) = refl
+kind_patched : (to : ℕ) (draft : DraftNode) → is_sparse (patched to draft) ≡ is_sparse draft
+kind_patched to (empty_draft next) = refl
+kind_patched to (range_draft low high next) = refl
+kind_patched to (sparse_draft ranges) = refl
+kind_patched to (look_draft look next) = refl
+kind_patched to (capture_start_draft pattern group next) = refl
+kind_patched to (capture_end_draft pattern group next) = refl
+kind_patched to (union_draft names) = refl
+kind_patched to (union_reverse_draft names) = refl
+kind_patched to fail_draft = refl
+kind_patched to (match_draft pattern) = refl
 
 -- the choice can be led on still
-pub adds_kind : (u m n : ℕ) (a b : Assembly) (xs : List Tree) → AddsAll u m n a b xs → u < length a.parts → is_sparse (part_at a.parts u) ≡ false → is_sparse (part_at b.parts u) ≡ false
+pub adds_kind : (u m n : ℕ) (a b : Assembly) (xs : List Tree) → AddsAll u m n a b xs → u < length a.drafts → is_sparse (draft_at a.drafts u) ≡ false → is_sparse (draft_at b.drafts u) ≡ false
 adds_kind u m n a _ _ (adds_none _) l k = k
 adds_kind u m n a _ _ (adds_more _ b c xs x before one) l k =
     let p = adds_spent u m n a b xs before in let long = p.longer in
     let f = one.made.fragment in let en = f.end_new in
     ap is_sparse (one.leads.two.same u (λ (same : u ≡ one.last). omega arith) ∙ one.leads.one.here ∙ ap (patched one.first) (f.grows.same u (omega arith)))
-    ∙ kind_patched one.first (part_at b.parts u) ∙ adds_kind u m n a b xs before l k
+    ∙ kind_patched one.first (draft_at b.drafts u) ∙ adds_kind u m n a b xs before l k
 
 pub branched_all : (b0 : Assembly) (u m n k : ℕ) (xs : List Tree) (b1 b2 : Assembly) (ys : List Tree) → Branched b0 b1 u m n xs → AddsAll u m k b1 b2 ys → Branched b0 b2 u m (n + k * length ys) (xs ++ ys)
 branched_all b0 u m n k xs b1 _ _ so_far (adds_none _) =
@@ -178,11 +178,11 @@ pub no_sequence : (a : Assembly) (u m : ℕ) (left all : List (List (ℕ × ℕ)
 no_sequence a u m left all e = record { met = []; split = e; added = adds_none a; groups = refl }
 
 -- the choice and the common end are there still, and the choice can be led on
-pub there_still : (a b : Assembly) (u m q : ℕ) (left all : List (List (ℕ × ℕ))) → SequencesTo a b u m left all → q < length a.parts → q < length b.parts
+pub there_still : (a b : Assembly) (u m q : ℕ) (left all : List (List (ℕ × ℕ))) → SequencesTo a b u m left all → q < length a.drafts → q < length b.drafts
 there_still a b u m q left all so_far l = let p = adds_spent u m 4 a b (map sequence_tree so_far.met) so_far.added in let long = p.longer in omega arith
 
-pub choice_still : (a b : Assembly) (u m : ℕ) (left all : List (List (ℕ × ℕ))) → SequencesTo a b u m left all → u < length a.parts → is_sparse (part_at a.parts u) ≡ false →
-    is_sparse (part_at b.parts u) ≡ false
+pub choice_still : (a b : Assembly) (u m : ℕ) (left all : List (List (ℕ × ℕ))) → SequencesTo a b u m left all → u < length a.drafts → is_sparse (draft_at a.drafts u) ≡ false →
+    is_sparse (draft_at b.drafts u) ≡ false
 choice_still a b u m left all so_far l kind = adds_kind u m 4 a b (map sequence_tree so_far.met) so_far.added l kind
 
 pub next_sequence : (a b c : Assembly) (u m : ℕ) (left rest all : List (List (ℕ × ℕ))) (rs : List (ℕ × ℕ)) → SequencesTo a b u m left all → left ≡ rs ∷ rest → AddsBranch b c u m 4 (sequence_tree rs) →
@@ -235,7 +235,7 @@ pub record RangesTo (a b : Assembly) (u m i : ℕ) (ranges : List (ℕ × ℕ)) 
   pub groups : b.groups ≡ a.groups
   pub within : i ≤ length ranges
 
-pub no_range : (a b c : Assembly) (u m : ℕ) (ranges : List (ℕ × ℕ)) → Added a b u (no_choice true) a.groups → Added b c m (empty_part 0) b.groups → RangesTo a c u m 0 ranges
+pub no_range : (a b c : Assembly) (u m : ℕ) (ranges : List (ℕ × ℕ)) → Added a b u (no_choice true) a.groups → Added b c m (empty_draft 0) b.groups → RangesTo a c u m 0 ranges
 no_range a b c u m ranges x y = record { branched = branched_begun x y; groups = y.groups_are ∙ x.groups_are; within = omega arith }
 
 counted : (rs : List (ℕ × ℕ)) → length (map sequence_tree (sequences_of rs)) ≡ sequence_count rs
@@ -270,8 +270,8 @@ module _ (a b : Assembly) (u m i : ℕ) (ranges : List (ℕ × ℕ)) (d : ℕ ×
   pub range_refused : (c : Assembly) (e : BuildError) → Quits b c (4 * length (utf8_sequences here.0 here.1)) e → Quits a c (count (char_class ranges)) e
   range_refused c e r =
       let sum = sequence_count_take ranges i d less in
-      let part = sequence_count_some ranges (i + 1) in
-      quits_capped (count (char_class ranges)) (quits_later (2 + 4 * sequence_count ranges) (spent_of so_far.branched.progress) r (omega (arith, sum, part)))
+      let draft = sequence_count_some ranges (i + 1) in
+      quits_capped (count (char_class ranges)) (quits_later (2 + 4 * sequence_count ranges) (spent_of so_far.branched.progress) r (omega (arith, sum, draft)))
       (fits_char_class (2 + 4 * sequence_count ranges) ranges (omega arith))
 
 module _ (a b : Assembly) (u m i : ℕ) (ranges : List (ℕ × ℕ)) (so_far : RangesTo a b u m i ranges) (past : length ranges ≤ i) where

@@ -7,7 +7,7 @@ use Rattle.hir_core.specs.Tree.{Tree, alternation}
 use Rattle.hir_core.specs.PreferredEnds.{preferred_ends, Has as HasEnd}
 use Rattle.hir_core.specs.Facts.{LoopsRead}
 use Rattle.hir_core.proofs.ForCallers.{Has-if, Has-then}
-use Rattle.nfa_core.specs.BuilderStates.{Part, sparse_part, AscendsFrom}
+use Rattle.nfa_core.specs.BuilderStates.{DraftNode, sparse_draft, AscendsFrom}
 use Rattle.nfa_core.specs.Nfa.{sparse_node}
 use Rattle.nfa_core.specs.Walks.{Has}
 use Rattle.nfa_core.specs.Runs.{last_or}
@@ -21,14 +21,14 @@ use Rattle.thompson_nfa.proofs.WayLemmas.{each_at, byte_ends, Goes}
 use Rattle.thompson_nfa.proofs.LeadLemmas.{Chain, goes_begins, goes_leads, passes_later}
 use Rattle.thompson_nfa.proofs.HaltLemmas.{Ended, ended_none, ended_on}
 use Rattle.thompson_nfa.proofs.OrderLemmas.{Listed, ListedFirsts, firsts_of, firsts_on}
-use Rattle.thompson_nfa.proofs.MeantLemmas.{meant_never, alt_meant, meant_alt, class_ends_up, class_meant, meant_class}
+use Rattle.thompson_nfa.proofs.MeantLemmas.{meant_never, alt_meant, meant_alt, class_ends_forward, class_meant, meant_class}
 use Rattle.thompson_nfa.proofs.DenoteLemmas.{Joins}
-use Rattle.thompson_nfa.proofs.SameLemmas.{joins_cat_up, joins_cat_down}
+use Rattle.thompson_nfa.proofs.SameLemmas.{joins_cat_forward, joins_cat_reverse}
 
 -- the range is read first
 pub joins_read : (back : Bool) (r : ℕ × ℕ) (y : Tree) → Joins back (range_tree r) y (read_then back r y)
-joins_read false r y = joins_cat_up (range_tree r) y
-joins_read true r y = joins_cat_down y (range_tree r)
+joins_read false r y = joins_cat_forward (range_tree r) y
+joins_read true r y = joins_cat_reverse y (range_tree r)
 
 -- where the ranges lead by what is read
 abbrev sparse_to : List (ℕ × ℕ × ℕ) → Option (ℕ × ℕ) → List (ℕ × ℕ)
@@ -39,10 +39,10 @@ sparse_ways : (trans : List (ℕ × ℕ × ℕ)) (i : ℕ) (o : Option (ℕ × �
 sparse_ways trans i None = refl
 sparse_ways trans i (Some (b, j)) = append-nil (each_at (in_ranges trans b) j)
 
-goes_sparse : (back : Bool) (t : Text) (T : Table) (s : ℕ) (trans : List (ℕ × ℕ × ℕ)) → T s ≡ sparse_part trans → Goes back t T s (λ i. sparse_to trans (reads back t i))
+goes_sparse : (back : Bool) (t : Text) (T : Table) (s : ℕ) (trans : List (ℕ × ℕ × ℕ)) → T s ≡ sparse_draft trans → Goes back t T s (λ i. sparse_to trans (reads back t i))
 goes_sparse back t T s trans is = record {
-  ways = λ i. ap (λ (p : Part). node_ways back t (drafted p) i) is ∙ sparse_ways trans i (reads back t i);
-  is_open = λ i. ap (λ (p : Part). match_of (drafted p) i) is;
+  ways = λ i. ap (λ (p : DraftNode). node_ways back t (drafted p) i) is ∙ sparse_ways trans i (reads back t i);
+  is_open = λ i. ap (λ (p : DraftNode). match_of (drafted p) i) is;
 }
 
 -- ---- the range with the byte
@@ -219,7 +219,7 @@ module _ (back : Bool) (t : Text) (T : Table) (e : ℕ) where
             }
       ]
 
-  branch_reaches : (s : ℕ) (trans : List (ℕ × ℕ × ℕ)) (ys : List Tree) → T s ≡ sparse_part trans → AscendsFrom 0 trans → LeadAll back T e trans ys →
+  branch_reaches : (s : ℕ) (trans : List (ℕ × ℕ × ℕ)) (ys : List Tree) → T s ≡ sparse_draft trans → AscendsFrom 0 trans → LeadAll back T e trans ys →
       Reaches back t T s e (IsMeant back t (alternation (branch_trees back trans ys)))
   branch_reaches s trans ys is up all =
       let meant : ℕ → ℕ → Type 0 = IsMeant back t (alternation (branch_trees back trans ys)) in
@@ -261,7 +261,7 @@ module _ (back : Bool) (t : Text) (T : Table) (e : ℕ) where
       (λ k m. ends k (alt_meant back t (read_then back r y) later i k (inl ((joins_read back r y).joined t i k (j, here, m))))))
       (branch_ended trans ys all.1 f.1 i (Some (b, j)) is (λ k m. ends k (alt_meant back t (read_then back r y) later i k (inr m))))
 
-  branch_halts : (s : ℕ) (trans : List (ℕ × ℕ × ℕ)) (ys : List Tree) → T s ≡ sparse_part trans → LeadAll back T e trans ys → LoopsRead (alternation (branch_trees back trans ys)) →
+  branch_halts : (s : ℕ) (trans : List (ℕ × ℕ × ℕ)) (ys : List Tree) → T s ≡ sparse_draft trans → LeadAll back T e trans ys → LoopsRead (alternation (branch_trees back trans ys)) →
       Halts back t T s e (IsMeant back t (alternation (branch_trees back trans ys)))
   branch_halts s trans ys is all f = record {
     halts = λ i ends. ended_on back t T s (λ k. sparse_to trans (reads back t k)) i (goes_sparse back t T s trans is) (branch_ended trans ys all f i (reads back t i) refl ends);
@@ -274,7 +274,7 @@ module _ (t : Text) (T : Table) (e : ℕ) where
   ends x i = preferred_ends t.holds (seen t) x i
 
   range_ends : (low high i : ℕ) (o : Option (ℕ × ℕ)) → reads false t i ≡ o → ends (range_tree (low, high)) i ≡ byte_ends ((low, high) ∷ []) o
-  range_ends low high i o is = class_ends_up t ((low, high) ∷ []) i ∙ ap (byte_ends ((low, high) ∷ [])) is
+  range_ends low high i o is = class_ends_forward t ((low, high) ∷ []) i ∙ ap (byte_ends ((low, high) ∷ [])) is
 
   no_end : (low high i b j : ℕ) → reads false t i ≡ Some (b, j) → within low high b ≡ false → ends (range_tree (low, high)) i ≡ []
   no_end low high i b j is out = range_ends low high i (Some (b, j)) is ∙ or_none (within low high b) j out
@@ -327,7 +327,7 @@ module _ (t : Text) (T : Table) (e : ℕ) where
       (λ less. none_later (high + 1) b j i trans ys up.2 less is) is all.0 f.0.1
       (λ v. branch_lists (high + 1) trans ys up.2 all.1 f.1 i (Some (b, j)) is l v) walk
 
-branch_orders : (back : Bool) (t : Text) (T : Table) (e s : ℕ) (trans : List (ℕ × ℕ × ℕ)) (ys : List Tree) → back ≡ false → T s ≡ sparse_part trans → AscendsFrom 0 trans → LeadAll back T e trans ys →
+branch_orders : (back : Bool) (t : Text) (T : Table) (e s : ℕ) (trans : List (ℕ × ℕ × ℕ)) (ys : List Tree) → back ≡ false → T s ≡ sparse_draft trans → AscendsFrom 0 trans → LeadAll back T e trans ys →
     LoopsRead (alternation (branch_trees back trans ys)) → Orders t T s e (preferred_ends t.holds (seen t) (alternation (branch_trees back trans ys)))
 branch_orders false t T e s trans ys up is rising all f = record {
   lists = λ i l walk. firsts_on t T s (λ k. sparse_to trans (reads false t k)) i l (goes_sparse false t T s trans is)
@@ -336,7 +336,7 @@ branch_orders false t T e s trans ys up is rising all f = record {
 branch_orders true t T e s trans ys up is rising all f = cc
 
 -- at a byte the range that has it leads on, and no other has it
-pub denotes_branches : (back : Bool) (T : Table) (s e : ℕ) (trans : List (ℕ × ℕ × ℕ)) (ys : List Tree) → T s ≡ sparse_part trans → AscendsFrom 0 trans → LeadAll back T e trans ys →
+pub denotes_branches : (back : Bool) (T : Table) (s e : ℕ) (trans : List (ℕ × ℕ × ℕ)) (ys : List Tree) → T s ≡ sparse_draft trans → AscendsFrom 0 trans → LeadAll back T e trans ys →
     Denotes back T s e (alternation (branch_trees back trans ys))
 denotes_branches back T s e trans ys is rising all = record {
   reaches = λ t. branch_reaches back t T e s trans ys is rising all;

@@ -46,9 +46,9 @@ module _ (ranges : List (ℕ × ℕ)) (trie : List (List (ℕ × ℕ))) (ascends
   shrunk_made m = let l = few in made_capped (2 + 4 * scalars_in ranges) m (omega (arith, l))
 
   pub shrunk_does : {old new : Assembly} {start end : ℕ} → old.reverse ≡ true → Does old new start end (alternation (map (read_tree old.reverse) (paths_of paths))) → Does old new start end (char_class ranges)
-  shrunk_does {old} {new} {start} {end} down d = record {
-    denotes = λ table target fin. denotes_turned old.reverse table start target (paths_of paths) ranges down paths_have (d.denotes table target fin);
-    looks = λ l. d.looks l ∙ ap (λ (k : Bool). looks_in old.parts l || k) (uses_reads old.reverse old.reverse l (paths_of paths));
+  shrunk_does {old} {new} {start} {end} is_reverse d = record {
+    denotes = λ table target fin. denotes_turned old.reverse table start target (paths_of paths) ranges is_reverse paths_have (d.denotes table target fin);
+    looks = λ l. d.looks l ∙ ap (λ (k : Bool). looks_in old.drafts l || k) (uses_reads old.reverse old.reverse l (paths_of paths));
   }
 
   pub shrunk_quits : {old new : Assembly} {e : BuildError} → Quits old new (2 + 4 * length paths) e → Quits old new (2 + 4 * scalars_in ranges) e

@@ -3,7 +3,7 @@ use Rattle.std.proofs.Common.{◌≡◌, ℕ, zero, suc, ◌+◌, ◌<◌, ◌�
 use Rattle.std.proofs.lemmas.List.{length-map, get_or-map}
 use Rattle.hir_core.specs.Sequences.{bytes_of}
 use Rattle.hir_core.specs.declared.utf8_sequences.Utf8Range.{Utf8Range}
-use Rattle.nfa_core.specs.BuilderStates.{Assembly, part_bytes, sparse_part, AscendsFrom}
+use Rattle.nfa_core.specs.BuilderStates.{Assembly, draft_bytes, sparse_draft, AscendsFrom}
 use Rattle.nfa_core.specs.declared.transition.Transition.{Transition}
 use Rattle.nfa_core.specs.declared.build_error.BuildError.{BuildError}
 use Rattle.thompson_nfa.specs.RangeTries.{IsBefore}
@@ -28,7 +28,7 @@ few_from low ((start, end, next) ∷ others) up l =
     let more = few_from (end + 1) others up.3 (omega arith) in
     omega arith
 
-pub few_bytes : (trans : List (ℕ × ℕ × ℕ)) → RisesIn 0 trans → part_bytes (sparse_part trans) ≤ 2072
+pub few_bytes : (trans : List (ℕ × ℕ × ℕ)) → RisesIn 0 trans → draft_bytes (sparse_draft trans) ≤ 2072
 few_bytes trans up = let few = few_from 0 trans up (omega arith) in omega arith
 
 -- where the last range leads makes no difference

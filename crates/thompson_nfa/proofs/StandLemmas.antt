@@ -1,26 +1,26 @@
 -- How one comes out of the states of a pattern without coming below them.
 use Rattle.std.proofs.Common.{◌≡◌, ℕ, zero, suc, ◌<◌, ◌≤◌, nat_lt, Option, Some, None, if◌then◌else◌, refl, sym, ap, ◌∙◌, arith, ⊎_elim}
 use Rattle.std.proofs.lemmas.Bool.{cases_lt, cond-true, cond-false, lt-ltb, le-ltb}
-use Rattle.nfa_core.specs.BuilderStates.{Part, empty_part}
+use Rattle.nfa_core.specs.BuilderStates.{DraftNode, empty_draft}
 use Rattle.nfa_core.specs.Renaming.{stands_for, going_on}
 use Rattle.nfa_core.specs.Drafted.{Table}
 use Rattle.thompson_nfa.specs.Compiled.{ComesOut, past_in}
-use Rattle.thompson_nfa.specs.Patterns.{Stands}
+use Rattle.thompson_nfa.specs.Patterns.{ComesToKept}
 
 -- the table where each state below `low` stands for itself, so that a walk that comes there stays there
 abbrev pub fenced : ℕ → Table → Table
-fenced low table q = if nat_lt q low then empty_part q else table q
+fenced low table q = if nat_lt q low then empty_draft q else table q
 
 pub fenced_above : (low : ℕ) (table : Table) (q : ℕ) → low ≤ q → fenced low table q ≡ table q
 fenced_above low table q l = cond-false (nat_lt q low) _ _ (le-ltb q low l)
 
-fenced_below : (low : ℕ) (table : Table) (q : ℕ) → q < low → fenced low table q ≡ empty_part q
+fenced_below : (low : ℕ) (table : Table) (q : ℕ) → q < low → fenced low table q ≡ empty_draft q
 fenced_below low table q l = cond-true (nat_lt q low) _ _ (lt-ltb q low l)
 
 stays_below : (low : ℕ) (table : Table) (n q : ℕ) → q < low → past_in (fenced low table) n q ≡ q
 stays_below low table zero q l = refl
 stays_below low table (suc n) q l =
-    ap (λ (part : Part). going_on q (past_in (fenced low table) n) (stands_for part)) (fenced_below low table q l) ∙ stays_below low table n q l
+    ap (λ (draft : DraftNode). going_on q (past_in (fenced low table) n) (stands_for draft)) (fenced_below low table q l) ∙ stays_below low table n q l
 
 on_alike : (low : ℕ) (table : Table) (n q : ℕ) (next : Option ℕ) → ((r : ℕ) → low ≤ past_in (fenced low table) n r → past_in table n r ≡ past_in (fenced low table) n r) →
     low ≤ going_on q (past_in (fenced low table) n) next → going_on q (past_in table n) next ≡ going_on q (past_in (fenced low table) n) next
@@ -33,11 +33,11 @@ walks_alike low table (suc n) q l = ⊎_elim
     (λ (below : q < low). absurd (omega (arith, stays_below low table (suc n) q below)))
     (λ (above : low ≤ q).
     let same : past_in (fenced low table) (suc n) q ≡ going_on q (past_in (fenced low table) n) (stands_for (table q)) =
-    ap (λ (part : Part). going_on q (past_in (fenced low table) n) (stands_for part)) (fenced_above low table q above) in
+    ap (λ (draft : DraftNode). going_on q (past_in (fenced low table) n) (stands_for draft)) (fenced_above low table q above) in
     on_alike low table n q (stands_for (table q)) (walks_alike low table n) (omega (arith, l, same)) ∙ sym same)
     (cases_lt q low)
 
-stands_at : (low : ℕ) (table : Table) (n q : ℕ) → low ≤ past_in (fenced low table) n q → stands_for (table (past_in (fenced low table) n q)) ≡ None → Stands low table q
+stands_at : (low : ℕ) (table : Table) (n q : ℕ) → low ≤ past_in (fenced low table) n q → stands_for (table (past_in (fenced low table) n q)) ≡ None → ComesToKept low table q
 stands_at low table n q above none =
     let same = walks_alike low table n q above in
     (n, ap (λ (k : ℕ). stands_for (table k)) same ∙ none, omega (arith, same, above))
@@ -49,7 +49,7 @@ not_below low table q none = ⊎_elim
     (cases_lt q low)
 
 -- the walk of the fenced table ends at a state that stands for itself, or at one that does so in the table
-pub stands_from : (low : ℕ) (table : Table) (m q : ℕ) → low ≤ m → stands_for (table m) ≡ None → ComesOut (fenced low table) m q → Stands low table q
+pub stands_from : (low : ℕ) (table : Table) (m q : ℕ) → low ≤ m → stands_for (table m) ≡ None → ComesOut (fenced low table) m q → ComesToKept low table q
 stands_from low table m q above none o =
     let end = past_in (fenced low table) o.0 q in
     ⊎_elim

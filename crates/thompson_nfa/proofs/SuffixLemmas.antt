@@ -5,7 +5,7 @@ use Rattle.std.proofs.lemmas.List.{map-append}
 use Rattle.hir_core.specs.BySequences.{range_tree, sequence_tree}
 use Rattle.look_core.specs.declared.look.Look.{Look}
 use Rattle.hir_core.specs.Tree.{Tree, concat, alternation}
-use Rattle.nfa_core.specs.BuilderStates.{Assembly, part_at, patched, range_part}
+use Rattle.nfa_core.specs.BuilderStates.{Assembly, draft_at, patched, range_draft}
 use Rattle.nfa_core.specs.Drafted.{Table}
 use Rattle.nfa_core.specs.Renaming.{stands_for}
 use Rattle.thompson_nfa.specs.Added.{Added, Led}
@@ -29,10 +29,10 @@ use Rattle.thompson_nfa.proofs.ScalarBranches.{Branched, Others}
 -- the state reads a byte of the key's range and leads to the key's state
 pub record IsKept (low : ℕ) (b : Assembly) (u m : ℕ) (key : Utf8SuffixKey) (id : ℕ) : Type 0 where
   pub new : low ≤ id
-  pub there : id < length b.parts
+  pub there : id < length b.drafts
   pub not_choice : id ≢ u
   pub not_end : id ≢ m
-  pub is : part_at b.parts id ≡ range_part key.start key.end key.from
+  pub is : draft_at b.drafts id ≡ range_draft key.start key.end key.from
 
 abbrev pub Keeps : ℕ → Assembly → ℕ → ℕ → SlotTable Utf8SuffixKey → Type 0
 Keeps low b u m table = (place id : ℕ) (key : Utf8SuffixKey) → held_at table place ≡ Some (key, id) → IsKept low b u m key id
@@ -59,8 +59,8 @@ keeps_more {low} {u} {m} {b} table place id key keeps one at other k e =
     ⊎_elim (λ (same : (key, id) ≡ (k, other)). subst P same one) (λ h. keeps at other k h) (held_cases table.places place at (key, id) (k, other) e)
 
 -- the state is as it was
-pub keeps_later : {low u m : ℕ} {b c : Assembly} (table : SlotTable Utf8SuffixKey) → length b.parts ≤ length c.parts →
-    ((q : ℕ) → q < length b.parts → q ≢ u → part_at c.parts q ≡ part_at b.parts q) → Keeps low b u m table → Keeps low c u m table
+pub keeps_later : {low u m : ℕ} {b c : Assembly} (table : SlotTable Utf8SuffixKey) → length b.drafts ≤ length c.drafts →
+    ((q : ℕ) → q < length b.drafts → q ≢ u → draft_at c.drafts q ≡ draft_at b.drafts q) → Keeps low b u m table → Keeps low c u m table
 keeps_later table longer same keeps place id key e =
     let k = keeps place id key e in
     let l = k.there in
@@ -68,7 +68,7 @@ keeps_later table longer same keeps place id key e =
 
 -- ---- a range read down, and then what was read before it
 
-range_then : (back : Bool) (T : Table) (id s m : ℕ) (r : ℕ × ℕ) (rs : List (ℕ × ℕ)) → back ≡ true → T id ≡ range_part r.0 r.1 s →
+range_then : (back : Bool) (T : Table) (id s m : ℕ) (r : ℕ × ℕ) (rs : List (ℕ × ℕ)) → back ≡ true → T id ≡ range_draft r.0 r.1 s →
     Denotes back T s m (sequence_tree rs) → Denotes back T id m (sequence_tree (rs ++ r ∷ []))
 range_then false T id s m r rs e is d = absurd (cc)
 range_then true T id s m r rs e is d =
@@ -81,24 +81,24 @@ range_then true T id s m r rs e is d =
 -- ---- a state that is added to branches
 
 module _ (b0 b c : Assembly) (u m n id lo hi q : ℕ) (xs : List Tree) (so_far : Branched b0 b u m n xs)
-    (x : Added b c id (range_part lo hi q) b.groups) (named : q < length b.parts) where
+    (x : Added b c id (range_draft lo hi q) b.groups) (named : q < length b.drafts) where
   older : (T : Table) → Agrees b0 c u m T → Agrees b0 b u m T
   older T agrees p l h not_u not_m = let s = x.size in agrees p l (omega arith) not_u not_m ∙ x.grows.same p h
 
   others_added : Others b0 c u m
   others_added T target agrees out p l h not_u =
       let s = x.size in let is = x.is in let mt = so_far.end_there in let g = so_far.progress.partly.grows.longer in
-      ⊎_elim (λ (less : p < length b.parts). so_far.others T target (older T agrees) out p l less not_u)
-      (λ (more : length b.parts ≤ p).
+      ⊎_elim (λ (less : p < length b.drafts). so_far.others T target (older T agrees) out p l less not_u)
+      (λ (more : length b.drafts ≤ p).
       let same : id ≡ p = omega arith in
-      let here : T p ≡ range_part lo hi q = agrees p l h not_u (λ (e : p ≡ m). omega arith) ∙ ap (λ k. part_at c.parts k) (sym same) ∙ x.here in
+      let here : T p ≡ range_draft lo hi q = agrees p l h not_u (λ (e : p ≡ m). omega arith) ∙ ap (λ k. draft_at c.drafts k) (sym same) ∙ x.here in
       out_here T target p (ap stands_for here))
-      (cases_lt p (length b.parts))
+      (cases_lt p (length b.drafts))
 
   pub added_progress : (spare : ℕ) → spare ≤ 4000 → Progress false b0 c (n + 1) spare
   added_progress spare le =
       let s = x.size in
-      then_added spare so_far.progress x (tame_one c (range_part lo hi q) q refl (omega arith) refl refl) (omega arith)
+      then_added spare so_far.progress x (tame_one c (range_draft lo hi q) q refl (omega arith) refl refl) (omega arith)
 
   pub branched_added : Branched b0 c u m (n + 1) xs
   branched_added =
@@ -130,7 +130,7 @@ only_way (a ∷ []) s to low high u one l h ne e = cc
 only_way (a ∷ b ∷ names) s to low high u one l h ne e = cc
 
 module _ (b0 b c d : Assembly) (u m n id lo hi q : ℕ) (xs : List Tree) (so_far : Branched b0 b u m n xs)
-    (x : Added b c id (range_part lo hi q) b.groups) (named : q < length b.parts) (led : Led c d u id) where
+    (x : Added b c id (range_draft lo hi q) b.groups) (named : q < length b.drafts) (led : Led c d u id) where
   -- the choice leads to the new state, too
   pub branched_way : (y : Tree) → ((l : Look) → uses b0.reverse y l ≡ false) →
       ((T : Table) → Agrees b0 c u m T → Denotes b0.reverse T id m y) → Branched b0 d u m (n + 1) (xs ++ y ∷ [])
@@ -151,12 +151,12 @@ module _ (b0 b c d : Assembly) (u m n id lo hi q : ℕ) (xs : List Tree) (so_far
         is_choice = led.here ∙ ap (patched id) w.is_choice;
         is_end = led.same m (λ (e : m ≡ u). so_far.apart (sym e)) ∙ w.is_end;
         looks = λ l. quiet_led led l ∙ w.looks l
-            ∙ ap (λ (k : Bool). looks_in b0.parts l || k)
+            ∙ ap (λ (k : Bool). looks_in b0.drafts l || k)
             (sym (uses_alternation b0.reverse xs y l ∙ ap (λ (k : Bool). uses b0.reverse (alternation xs) l || k) (none l)
             ∙ or_none (uses b0.reverse (alternation xs) l)));
         branches = record { all = λ T agrees. all_denote_push b0.reverse T m id y so_far.ways xs (w.branches.all T (old T agrees)) (denotes T (old T agrees)) };
         others = λ T target agrees out p l h not_u. w.others T target (old T agrees) out p l (omega arith) not_u;
-        one_way = λ to same. only_way so_far.ways id to (length b0.parts) (length d.parts) u
+        one_way = λ to same. only_way so_far.ways id to (length b0.drafts) (length d.drafts) u
             (λ k e. let o = w.one_way k e in let h = o.1 in (o.0, omega arith, o.2)) (omega arith) (omega arith) (λ (at_u : id ≡ u). omega arith) same;
       }
 
@@ -184,11 +184,11 @@ branched_wider k le s =
 -- from the state s one reads the ranges down to the end
 pub record Chained (b0 b : Assembly) (table : SlotTable Utf8SuffixKey) (u m n s : ℕ) (xs : List Tree) (rs : List (ℕ × ℕ)) : Type 0 where
   pub branched : Branched b0 b u m n xs
-  pub keeps : Keeps (length b0.parts) b u m table
-  pub there : s < length b.parts
+  pub keeps : Keeps (length b0.drafts) b u m table
+  pub there : s < length b.drafts
   pub denotes : (T : Table) → Agrees b0 b u m T → Denotes b0.reverse T s m (sequence_tree rs)
 
-chained_none : (b0 b : Assembly) (table : SlotTable Utf8SuffixKey) (u m n : ℕ) (xs : List Tree) → Branched b0 b u m n xs → Keeps (length b0.parts) b u m table →
+chained_none : (b0 b : Assembly) (table : SlotTable Utf8SuffixKey) (u m n : ℕ) (xs : List Tree) → Branched b0 b u m n xs → Keeps (length b0.drafts) b u m table →
     Chained b0 b table u m n m xs []
 chained_none b0 b table u m n xs branched keeps = record {
   branched = branched;
@@ -198,7 +198,7 @@ chained_none b0 b table u m n xs branched keeps = record {
 }
 
 module _ (b0 b : Assembly) (table : SlotTable Utf8SuffixKey) (u m n s : ℕ) (xs : List Tree) (rs : List (ℕ × ℕ))
-    (down : b0.reverse ≡ true) (so_far : Chained b0 b table u m n s xs rs) where
+    (is_reverse : b0.reverse ≡ true) (so_far : Chained b0 b table u m n s xs rs) where
   chained_found : (place id : ℕ) (r : ℕ × ℕ) → held_at table place ≡ Some (key_of s r, id) → Chained b0 b table u m (n + 1) id xs (rs ++ r ∷ [])
   chained_found place id r at =
       let k = so_far.keeps place id (key_of s r) at in
@@ -206,24 +206,24 @@ module _ (b0 b : Assembly) (table : SlotTable Utf8SuffixKey) (u m n s : ℕ) (xs
         branched = branched_wider (n + 1) (omega arith) so_far.branched;
         keeps = so_far.keeps;
         there = k.there;
-        denotes = λ T agrees. range_then b0.reverse T id s m r rs down (agrees id k.new k.there k.not_choice k.not_end ∙ k.is) (so_far.denotes T agrees);
+        denotes = λ T agrees. range_then b0.reverse T id s m r rs is_reverse (agrees id k.new k.there k.not_choice k.not_end ∙ k.is) (so_far.denotes T agrees);
       }
 
   module _ (c : Assembly) (changed : SlotTable Utf8SuffixKey) (id : ℕ) (r : ℕ × ℕ) (x : AddsRange b c table changed s r id) where
-    new_kept : IsKept (length b0.parts) c u m (key_of s r) id
+    new_kept : IsKept (length b0.drafts) c u m (key_of s r) id
     new_kept =
         let w = so_far.branched in let g = w.progress.partly.grows.longer in let ut = w.choice_there in let mt = w.end_there in let l = x.added.is in let t = x.added.size in
         record { new = omega arith; there = omega arith; not_choice = λ (e : id ≡ u). omega arith; not_end = λ (e : id ≡ m). omega arith; is = x.added.here }
 
-    pub kept_added : Keeps (length b0.parts) c u m changed
+    pub kept_added : Keeps (length b0.drafts) c u m changed
     kept_added =
-        let P : SlotTable Utf8SuffixKey → Type 0 = λ t. Keeps (length b0.parts) c u m t in
+        let P : SlotTable Utf8SuffixKey → Type 0 = λ t. Keeps (length b0.drafts) c u m t in
         subst P (sym x.kept) (keeps_more table x.place id (key_of s r) (keeps_later table x.added.grows.longer (λ q h not_u. x.added.grows.same q h) so_far.keeps) new_kept)
 
     pub denotes_added : (T : Table) → Agrees b0 c u m T → Denotes b0.reverse T id m (sequence_tree (rs ++ r ∷ []))
     denotes_added T agrees =
         let k = new_kept in
-        range_then b0.reverse T id s m r rs down (agrees id k.new k.there k.not_choice k.not_end ∙ k.is)
+        range_then b0.reverse T id s m r rs is_reverse (agrees id k.new k.there k.not_choice k.not_end ∙ k.is)
         (so_far.denotes T (older b0 b c u m n id r.0 r.1 s xs so_far.branched x.added so_far.there T agrees))
 
     chained_added : Chained b0 c changed u m (n + 1) id xs (rs ++ r ∷ [])
@@ -236,35 +236,35 @@ module _ (b0 b : Assembly) (table : SlotTable Utf8SuffixKey) (u m n s : ℕ) (xs
 
 chained_more : (b0 b c : Assembly) (table changed : SlotTable Utf8SuffixKey) (u m n s id : ℕ) (xs : List Tree) (rs : List (ℕ × ℕ)) (r : ℕ × ℕ) → b0.reverse ≡ true → Chained b0 b table u m n s xs rs →
     SharesRange b c table changed s r id → Chained b0 c changed u m (n + 1) id xs (rs ++ r ∷ [])
-chained_more b0 b c table changed u m n s id xs rs r down so_far (finds_state place at same kept) =
+chained_more b0 b c table changed u m n s id xs rs r is_reverse so_far (finds_state place at same kept) =
     let P : Assembly → Type 0 = λ z. Chained b0 z changed u m (n + 1) id xs (rs ++ r ∷ []) in
     let Q : SlotTable Utf8SuffixKey → Type 0 = λ t. Chained b0 b t u m (n + 1) id xs (rs ++ r ∷ []) in
-    subst P (sym same) (subst Q (sym kept) (chained_found b0 b table u m n s xs rs down so_far place id r at))
-chained_more b0 b c table changed u m n s id xs rs r down so_far (adds_state x) = chained_added b0 b table u m n s xs rs down so_far c changed id r x
+    subst P (sym same) (subst Q (sym kept) (chained_found b0 b table u m n s xs rs is_reverse so_far place id r at))
+chained_more b0 b c table changed u m n s id xs rs r is_reverse so_far (adds_state x) = chained_added b0 b table u m n s xs rs is_reverse so_far c changed id r x
 
-chained_all : (b0 a : Assembly) (table : SlotTable Utf8SuffixKey) (u m n : ℕ) (xs : List Tree) → b0.reverse ≡ true → Branched b0 a u m n xs → Keeps (length b0.parts) a u m table →
+chained_all : (b0 a : Assembly) (table : SlotTable Utf8SuffixKey) (u m n : ℕ) (xs : List Tree) → b0.reverse ≡ true → Branched b0 a u m n xs → Keeps (length b0.drafts) a u m table →
     (b : Assembly) (changed : SlotTable Utf8SuffixKey) (id : ℕ) (rs : List (ℕ × ℕ)) → SharesRanges m a table b changed id rs → Chained b0 b changed u m (n + length rs) id xs rs
-chained_all b0 a table u m n xs down branched keeps _ _ _ _ shares_none =
+chained_all b0 a table u m n xs is_reverse branched keeps _ _ _ _ shares_none =
     let P : ℕ → Type 0 = λ k. Chained b0 a table u m k m xs [] in
     let none : n ≡ n + 0 = omega arith in
     subst P none (chained_none b0 a table u m n xs branched keeps)
-chained_all b0 a table u m n xs down branched keeps _ _ _ _ (shares_more mid new kept changed next id rs r before step) =
+chained_all b0 a table u m n xs is_reverse branched keeps _ _ _ _ (shares_more mid new kept changed next id rs r before step) =
     let P : ℕ → Type 0 = λ k. Chained b0 new changed u m k id xs (rs ++ r ∷ []) in
     let sum : n + length rs + 1 ≡ n + length (rs ++ r ∷ []) = omega (arith, length-append rs (r ∷ [])) in
-    subst P sum (chained_more b0 mid new kept changed u m (n + length rs) next id xs rs r down (chained_all b0 a table u m n xs down branched keeps mid kept next rs before) step)
+    subst P sum (chained_more b0 mid new kept changed u m (n + length rs) next id xs rs r is_reverse (chained_all b0 a table u m n xs is_reverse branched keeps mid kept next rs before) step)
 
 -- ---- sequences
 
 -- branches for the trees, and what the map keeps
 pub record Suffixed (b0 b : Assembly) (table : SlotTable Utf8SuffixKey) (u m n : ℕ) (xs : List Tree) : Type 0 where
   pub branched : Branched b0 b u m n xs
-  pub keeps : Keeps (length b0.parts) b u m table
+  pub keeps : Keeps (length b0.drafts) b u m table
 
-module _ (b0 : Assembly) (u m : ℕ) (down : b0.reverse ≡ true) where
+module _ (b0 : Assembly) (u m : ℕ) (is_reverse : b0.reverse ≡ true) where
   suffixed_one : (a b : Assembly) (table changed : SlotTable Utf8SuffixKey) (n : ℕ) (xs : List Tree) (rs : List (ℕ × ℕ)) → Suffixed b0 a table u m n xs →
       AddsSequence a b table changed u m rs → Suffixed b0 b changed u m (n + 4) (xs ++ sequence_tree rs ∷ [])
   suffixed_one a b table changed n xs rs so_far one =
-      let chain = chained_all b0 a table u m n xs down so_far.branched so_far.keeps one.shared one.kept one.next one.others one.shares in
+      let chain = chained_all b0 a table u m n xs is_reverse so_far.branched so_far.keeps one.shared one.kept one.next one.others one.shares in
       let k : ℕ = n + length one.others in
       let r = one.last in
       let x = one.adds in
@@ -276,10 +276,10 @@ module _ (b0 : Assembly) (u m : ℕ) (down : b0.reverse ≡ true) where
       let way =
       branched_way b0 one.shared one.whole b u m k one.first r.0 r.1 one.next xs chain.branched x.added chain.there led
       (sequence_tree (one.others ++ r ∷ [])) (λ l. uses_sequence b0.reverse l (one.others ++ r ∷ []))
-      (denotes_added b0 one.shared one.kept u m k one.next xs one.others down chain one.whole changed one.first r x) in
+      (denotes_added b0 one.shared one.kept u m k one.next xs one.others is_reverse chain one.whole changed one.first r x) in
       record {
         branched = branched_wider (n + 4) (omega (arith, sum, few)) (subst P one.split way);
-        keeps = keeps_later changed (omega arith) (λ q h not_u. led.same q not_u) (kept_added b0 one.shared one.kept u m k one.next xs one.others down chain one.whole changed one.first r x);
+        keeps = keeps_later changed (omega arith) (λ q h not_u. led.same q not_u) (kept_added b0 one.shared one.kept u m k one.next xs one.others is_reverse chain one.whole changed one.first r x);
       }
 
   pub suffixed_all : (a : Assembly) (table : SlotTable Utf8SuffixKey) (n : ℕ) (xs : List Tree) → Suffixed b0 a table u m n xs →

@@ -8,7 +8,7 @@ use Rattle.search_types.specs.Groups.{Groups}
 use Rattle.hir_core.specs.Sequences.{bytes_of, utf8_sequences}
 use Rattle.hir_core.specs.declared.utf8_sequences.Utf8Range.{Utf8Range}
 use Rattle.hir_core.proofs.ForCallers.{sequence_short}
-use Rattle.nfa_core.specs.BuilderStates.{Part, Assembly, part_at, patched, part_bytes, is_sparse, empty_part, range_part, sparse_part, look_part, capture_start_part, capture_end_part, union_part, union_reverse_part, fail_part, match_part}
+use Rattle.nfa_core.specs.BuilderStates.{DraftNode, Assembly, draft_at, patched, draft_bytes, is_sparse, empty_draft, range_draft, sparse_draft, look_draft, capture_start_draft, capture_end_draft, union_draft, union_reverse_draft, fail_draft, match_draft}
 use Rattle.nfa_core.specs.declared.build_error.BuildError.{BuildError}
 use Rattle.thompson_nfa.specs.Added.{Added, Led}
 use Rattle.thompson_nfa.specs.Compiled.{Grows}
@@ -41,25 +41,25 @@ pub spent_then : {a b c : Assembly} {n k : ℕ} → Spent a b n → Spent b c k 
 spent_then {a} {b} {c} {n} {k} x y =
     let a1 = x.longer in let a2 = x.states in let a3 = x.bytes in let b1 = y.longer in let b2 = y.states in let b3 = y.bytes in
     record {
-      settings = y.settings ∙ ap (λ (z : Assembly). record z { parts = c.parts; groups = c.groups }) x.settings;
+      settings = y.settings ∙ ap (λ (z : Assembly). record z { drafts = c.drafts; groups = c.groups }) x.settings;
       longer = omega arith;
       states = omega arith;
       bytes = omega arith;
     }
 
-spent_added : {a b : Assembly} {id : ℕ} {part : Part} {groups : Groups} → Added a b id part groups → part_bytes part ≤ 4096 → Spent a b 1
+spent_added : {a b : Assembly} {id : ℕ} {draft : DraftNode} {groups : Groups} → Added a b id draft groups → draft_bytes draft ≤ 4096 → Spent a b 1
 spent_added x le =
     let n = x.size in let s = x.bytes in
     record { settings = x.grows.settings; longer = x.grows.longer; states = omega arith; bytes = omega arith }
 
 -- a state was added, and one has one more way
-spent_led : {a b c : Assembly} {id from to : ℕ} {part : Part} {groups : Groups} → Added a b id part groups → Led b c from to → part_bytes part ≤ 4000 → Spent a c 1
+spent_led : {a b c : Assembly} {id from to : ℕ} {draft : DraftNode} {groups : Groups} → Added a b id draft groups → Led b c from to → draft_bytes draft ≤ 4000 → Spent a c 1
 spent_led {a} {b} {c} x l le =
     let n = x.size in let s = x.bytes in let m = l.size in let t = l.bytes in
-    let led : c ≡ record b { parts = c.parts; groups = c.groups } =
-    l.settings ∙ ap (λ gs. record b { parts = c.parts; groups = gs }) (sym (ap (λ (z : Assembly). z.groups) l.settings)) in
+    let led : c ≡ record b { drafts = c.drafts; groups = c.groups } =
+    l.settings ∙ ap (λ gs. record b { drafts = c.drafts; groups = gs }) (sym (ap (λ (z : Assembly). z.groups) l.settings)) in
     record {
-      settings = led ∙ ap (λ (z : Assembly). record z { parts = c.parts; groups = c.groups }) x.grows.settings;
+      settings = led ∙ ap (λ (z : Assembly). record z { drafts = c.drafts; groups = c.groups }) x.grows.settings;
       longer = omega arith;
       states = omega arith;
       bytes = omega arith;
@@ -149,27 +149,27 @@ next_shared a b table changed end id i ranges so_far c last state d less step =
 
 -- ---- a sequence
 
-sparse_still : (to : ℕ) (part : Part) → is_sparse (patched to part) ≡ is_sparse part
-sparse_still to (empty_part next) = refl
-sparse_still to (range_part low high next) = refl
-sparse_still to (sparse_part ranges) = refl
-sparse_still to (look_part look next) = refl
-sparse_still to (capture_start_part pattern group next) = refl
-sparse_still to (capture_end_part pattern group next) = refl
-sparse_still to (union_part names) = refl
-sparse_still to (union_reverse_part names) = refl
-sparse_still to fail_part = refl
-sparse_still to (match_part pattern) = refl
+sparse_still : (to : ℕ) (draft : DraftNode) → is_sparse (patched to draft) ≡ is_sparse draft
+sparse_still to (empty_draft next) = refl
+sparse_still to (range_draft low high next) = refl
+sparse_still to (sparse_draft ranges) = refl
+sparse_still to (look_draft look next) = refl
+sparse_still to (capture_start_draft pattern group next) = refl
+sparse_still to (capture_end_draft pattern group next) = refl
+sparse_still to (union_draft names) = refl
+sparse_still to (union_reverse_draft names) = refl
+sparse_still to fail_draft = refl
+sparse_still to (match_draft pattern) = refl
 
 module _ (a b c : Assembly) (table kept changed : SlotTable Utf8SuffixKey) (m next first : ℕ) (rs : List (ℕ × ℕ)) (r : ℕ × ℕ)
     (shares : SharesRanges m a table b kept next rs) (adds : AddsRange b c kept changed next r first) where
-  pub still_there : (u : ℕ) → u < length a.parts → u < length c.parts
+  pub still_there : (u : ℕ) → u < length a.drafts → u < length c.drafts
   still_there u l = let x = (ranges_share shares).grows.longer in let y = adds.added.grows.longer in omega arith
 
-  still_part : (u : ℕ) → u < length a.parts → part_at c.parts u ≡ part_at a.parts u
+  still_part : (u : ℕ) → u < length a.drafts → draft_at c.drafts u ≡ draft_at a.drafts u
   still_part u l = let g = (ranges_share shares).grows in let x = g.longer in adds.added.grows.same u (omega arith) ∙ g.same u l
 
-  pub still_kind : (u : ℕ) → u < length a.parts → is_sparse (part_at a.parts u) ≡ false → is_sparse (part_at c.parts u) ≡ false
+  pub still_kind : (u : ℕ) → u < length a.drafts → is_sparse (draft_at a.drafts u) ≡ false → is_sparse (draft_at c.drafts u) ≡ false
   still_kind u l kind = ap is_sparse (still_part u l) ∙ kind
 
   -- the choice is refused its way
@@ -179,7 +179,7 @@ module _ (a b c : Assembly) (table kept changed : SlotTable Utf8SuffixKey) (m ne
       let x = adds.added in
       let longer = s.longer in let states = s.states in let bytes = s.bytes in let size = x.size in let more = x.bytes in
       let both = spent_then s (spent_added x (omega arith)) in
-      let P : Assembly → Type 0 = λ z. z ≡ record a { parts = z.parts; groups = z.groups } in
+      let P : Assembly → Type 0 = λ z. z ≡ record a { drafts = z.drafts; groups = z.groups } in
       record {
         settings = subst P (sym r.same) both.settings;
         cause = step_later a c 0 4 4 4 e (ap (λ (z : Assembly). z.size_limit) both.settings) (omega arith) (omega arith) (omega arith) r.cause;
@@ -224,11 +224,11 @@ sequences_steps {u} {m} {a} {table} (sequences_more mid new kept last qs rs befo
 
 -- the choice can be led on still
 pub sequences_kind : (u m : ℕ) (a : Assembly) (table : SlotTable Utf8SuffixKey) (b : Assembly) (changed : SlotTable Utf8SuffixKey) (qs : List (List (ℕ × ℕ))) →
-    AddsSequences u m a table b changed qs → u < length a.parts → is_sparse (part_at a.parts u) ≡ false → is_sparse (part_at b.parts u) ≡ false
+    AddsSequences u m a table b changed qs → u < length a.drafts → is_sparse (draft_at a.drafts u) ≡ false → is_sparse (draft_at b.drafts u) ≡ false
 sequences_kind u m a table _ _ _ sequences_none l kind = kind
 sequences_kind u m a table _ _ _ (sequences_more mid new kept last qs rs before one) l kind =
     let longer = (sequences_steps before).spent.longer in
-    ap is_sparse one.leads.here ∙ sparse_still one.first (part_at one.whole.parts u)
+    ap is_sparse one.leads.here ∙ sparse_still one.first (draft_at one.whole.drafts u)
     ∙ still_kind mid one.shared one.whole kept one.kept last m one.next one.first one.others one.last one.shares one.adds u (omega arith) (sequences_kind u m a table mid kept qs before l kind)
 
 -- ---- the sequences of a range
@@ -254,10 +254,10 @@ module _ (a b : Assembly) (table changed : SlotTable Utf8SuffixKey) (u m lo hi :
   pub met_capacity : changed.capacity ≡ table.capacity
   met_capacity = (sequences_steps so_far.added).capacity
 
-  pub met_there : u < length a.parts → u < length b.parts
+  pub met_there : u < length a.drafts → u < length b.drafts
   met_there l = let longer = (sequences_steps so_far.added).spent.longer in omega arith
 
-  pub met_kind : u < length a.parts → is_sparse (part_at a.parts u) ≡ false → is_sparse (part_at b.parts u) ≡ false
+  pub met_kind : u < length a.drafts → is_sparse (draft_at a.drafts u) ≡ false → is_sparse (draft_at b.drafts u) ≡ false
   met_kind l kind = sequences_kind u m a table b changed so_far.met so_far.added l kind
 
   module _ (rest : List (List (ℕ × ℕ))) (rs : List (ℕ × ℕ)) (e : left ≡ rs ∷ rest) where

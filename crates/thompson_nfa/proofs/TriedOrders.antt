@@ -12,7 +12,7 @@ use Rattle.thompson_nfa.specs.Compilations.{places_from}
 use Rattle.thompson_nfa.specs.Assembled.{TriesEachPlace}
 use Rattle.thompson_nfa.proofs.WayLemmas.{byte_ends, goes_empty}
 use Rattle.thompson_nfa.proofs.OrderLemmas.{ListedFirsts, firsts_of, firsts_append, firsts_behind, orders_like, orders_join, orders_leaf, orders_rounds}
-use Rattle.thompson_nfa.proofs.TriedPlaces.{any_range, any_ends, IsText, ends_up, moves_up, goes_on, goes_any}
+use Rattle.thompson_nfa.proofs.TriedPlaces.{any_range, any_ends, IsText, ends_forward, moves_forward, goes_on, goes_any}
 
 -- the place, and those that are come to from it by so many bytes at most
 abbrev pub tried_from : Text → ℕ → ℕ → List ℕ
@@ -32,7 +32,7 @@ ends_behind t i past =
 tried_step : (t : Text) (n i : ℕ) → t.end - i ≡ n → tried_from t n i ≡ i ∷ flat_map (tried t) (any_ends false t i)
 tried_step t zero i e = ap (λ (l : List ℕ). i ∷ flat_map (tried t) l) (sym (ends_behind t i (omega arith)))
 tried_step t (suc n) i e = ap (λ (l : List ℕ). i ∷ l) (flat_map_same (tried_from t n) (tried t) (any_ends false t i)
-    (λ k h. let m = moves_up t i k h in
+    (λ k h. let m = moves_forward t i k h in
     let is = m.0 in
     ap (λ (d : ℕ). tried_from t d k) (let f : n ≡ t.end - k = omega arith in f)))
 
@@ -43,7 +43,7 @@ single_ends (j ∷ js) = ap (λ (l : List ℕ). j ∷ l) (single_ends js)
 module _ (t : Text) (T : Table) (u c : ℕ) (w : TriesEachPlace T u c) where
   pub tries_in_order : Orders t T u c (tried t)
   tries_in_order = orders_rounds t T false w.byte u c (any_ends false t) (tried t) t.end
-      (λ i k h. let m = moves_up t i k h in let is = m.0 in let less = m.1 in (omega arith, omega arith))
+      (λ i k h. let m = moves_forward t i k h in let is = m.0 in let less = m.1 in (omega arith, omega arith))
       (λ i. tried_step t (t.end - i) i refl) (goes_on false t T u c w)
       (orders_like t T w.byte u (λ i. flat_map (λ (k : ℕ). k ∷ []) (any_ends false t i)) (any_ends false t) (λ i. single_ends (any_ends false t i))
       (orders_join t T w.byte w.back u (any_ends false t) (λ i. i ∷ [])
@@ -64,7 +64,7 @@ module _ (t : Text) (T : Table) (s c : ℕ) (lists : ℕ → List (ℕ × ℕ)) 
 tried_places : (t : Text) → IsText t → (n i : ℕ) → i + n ≡ t.end → tried_from t n i ≡ places_from i (suc n)
 tried_places t is zero i e = refl
 tried_places t is (suc n) i e = ap (λ (l : List ℕ). i ∷ l)
-    (ap (flat_map (tried_from t n)) (ends_up t i is (omega arith)) ∙ append-nil (tried_from t n (suc i)) ∙ tried_places t is n (suc i) (omega arith))
+    (ap (flat_map (tried_from t n)) (ends_forward t i is (omega arith)) ∙ append-nil (tried_from t n (suc i)) ∙ tried_places t is n (suc i) (omega arith))
 
 pub all_tried : (t : Text) (i : ℕ) → IsText t → i ≤ t.end → tried t i ≡ places_from i (suc t.end - i)
 all_tried t i is h = tried_places t is (t.end - i) i (omega arith) ∙ ap (places_from i) (let e : suc (t.end - i) ≡ suc t.end - i = omega arith in e)

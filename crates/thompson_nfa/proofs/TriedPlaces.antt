@@ -46,16 +46,16 @@ pub record IsText (t : Text) : Type 0 where
   pub within : t.end ≤ length t.haystack
   pub bytes : All (λ byte. byte < 256) t.haystack
 
-pub ends_up : (t : Text) (i : ℕ) → IsText t → i < t.end → any_ends false t i ≡ suc i ∷ []
-ends_up t i is less =
+pub ends_forward : (t : Text) (i : ℕ) → IsText t → i < t.end → any_ends false t i ≡ suc i ∷ []
+ends_forward t i is less =
     let within = is.within in
     let there : i < length t.haystack = omega arith in
     ends_of_read (reads false t i) (get_or t.haystack i 0) (suc i)
     (read_as (nat_lt i t.end) (byte_at t.haystack i) (suc i) (get_or t.haystack i 0) (lt-ltb i t.end less) (slice_get-get_or t.haystack i 0 there))
     (All-get_or (λ byte. byte < 256) t.haystack i 0 there is.bytes)
 
-pub ends_down : (t : Text) (i : ℕ) → IsText t → t.start ≤ i → suc i ≤ t.end → any_ends true t (suc i) ≡ i ∷ []
-ends_down t i is above below =
+pub ends_reverse : (t : Text) (i : ℕ) → IsText t → t.start ≤ i → suc i ≤ t.end → any_ends true t (suc i) ≡ i ∷ []
+ends_reverse t i is above below =
     let within = is.within in
     let there : i < length t.haystack = omega arith in
     ends_of_read (reads true t (suc i)) (get_or t.haystack i 0) i
@@ -67,15 +67,15 @@ ends_read false o j k h = elim h [ ]
 ends_read true None j k h = elim h [ ]
 ends_read true (Some b) j k h = let one = Has-if (is_member any_range b) j k h in (refl, one.1)
 
-pub moves_up : (t : Text) (i j : ℕ) → Moves false t i j → (j ≡ suc i) × (suc i ≤ t.end)
-moves_up t i j m =
+pub moves_forward : (t : Text) (i j : ℕ) → Moves false t i j → (j ≡ suc i) × (suc i ≤ t.end)
+moves_forward t i j m =
     let r = ends_read (nat_lt i t.end) (byte_at t.haystack i) (suc i) j m in
     let less = ltb-true i t.end r.0 in
     (sym r.1, omega arith)
 
-pub moves_down : (t : Text) (i j : ℕ) → Moves true t i j → (i ≡ suc j) × (t.start ≤ j)
-moves_down t zero j m = elim m [ ]
-moves_down t (suc i) j m =
+pub moves_reverse : (t : Text) (i j : ℕ) → Moves true t i j → (i ≡ suc j) × (t.start ≤ j)
+moves_reverse t zero j m = elim m [ ]
+moves_reverse t (suc i) j m =
     let r = ends_read (nat_le t.start i) (byte_at t.haystack i) i j m in
     let above = leb-true t.start i r.0 in
     let same = r.1 in
@@ -83,47 +83,47 @@ moves_down t (suc i) j m =
 
 -- ---- places that are read to
 
-rounds_up : (t : Text) (n i k : ℕ) → i ≤ t.end → Rounds (Moves false t) n i k → IsReadTo false t i k
-rounds_up t zero i k h r = (omega arith, omega arith)
-rounds_up t (suc n) i k h r =
-    let m = moves_up t i r.0 r.1 in
+rounds_are_forward : (t : Text) (n i k : ℕ) → i ≤ t.end → Rounds (Moves false t) n i k → IsReadTo false t i k
+rounds_are_forward t zero i k h r = (omega arith, omega arith)
+rounds_are_forward t (suc n) i k h r =
+    let m = moves_forward t i r.0 r.1 in
     let is = m.0 in
     let less = m.1 in
-    let z = rounds_up t n r.0 k (omega arith) r.2 in
+    let z = rounds_are_forward t n r.0 k (omega arith) r.2 in
     let low = z.0 in
     (omega arith, z.1)
 
-rounds_down : (t : Text) (n i k : ℕ) → Rounds (Moves true t) n i k → IsReadTo true t i k
-rounds_down t zero i k r = (omega arith, omega arith)
-rounds_down t (suc n) i k r =
-    let m = moves_down t i r.0 r.1 in
+rounds_reverse : (t : Text) (n i k : ℕ) → Rounds (Moves true t) n i k → IsReadTo true t i k
+rounds_reverse t zero i k r = (omega arith, omega arith)
+rounds_reverse t (suc n) i k r =
+    let m = moves_reverse t i r.0 r.1 in
     let is = m.0 in
     let above = m.1 in
-    let z = rounds_down t n r.0 k r.2 in
+    let z = rounds_reverse t n r.0 k r.2 in
     let low = z.0 in
     let high = z.1 in
     (omega arith, omega arith)
 
 pub rounds_read : (back : Bool) (t : Text) (n i k : ℕ) → i ≤ t.end → Rounds (Moves back t) n i k → IsReadTo back t i k
-rounds_read false t n i k h r = rounds_up t n i k h r
-rounds_read true t n i k h r = rounds_down t n i k r
+rounds_read false t n i k h r = rounds_are_forward t n i k h r
+rounds_read true t n i k h r = rounds_reverse t n i k r
 
-up_rounds : (t : Text) → IsText t → (n i k : ℕ) → i + n ≡ k → k ≤ t.end → Rounds (Moves false t) n i k
-up_rounds t is zero i k e h = omega arith
-up_rounds t is (suc n) i k e h =
+forward_rounds : (t : Text) → IsText t → (n i k : ℕ) → i + n ≡ k → k ≤ t.end → Rounds (Moves false t) n i k
+forward_rounds t is zero i k e h = omega arith
+forward_rounds t is (suc n) i k e h =
     let P : List ℕ → Type 0 = λ l. HasEnd l (suc i) in
-    (suc i, subst P (sym (ends_up t i is (omega arith))) (inl refl), up_rounds t is n (suc i) k (omega arith) h)
+    (suc i, subst P (sym (ends_forward t i is (omega arith))) (inl refl), forward_rounds t is n (suc i) k (omega arith) h)
 
-down_rounds : (t : Text) → IsText t → (n i k : ℕ) → k + n ≡ i → i ≤ t.end → t.start ≤ k → Rounds (Moves true t) n i k
-down_rounds t is zero i k e h low = omega arith
-down_rounds t is (suc n) zero k e h low = absurd (omega arith)
-down_rounds t is (suc n) (suc i) k e h low =
+reverse_rounds : (t : Text) → IsText t → (n i k : ℕ) → k + n ≡ i → i ≤ t.end → t.start ≤ k → Rounds (Moves true t) n i k
+reverse_rounds t is zero i k e h low = omega arith
+reverse_rounds t is (suc n) zero k e h low = absurd (omega arith)
+reverse_rounds t is (suc n) (suc i) k e h low =
     let P : List ℕ → Type 0 = λ l. HasEnd l i in
-    (i, subst P (sym (ends_down t i is (omega arith) h)) (inl refl), down_rounds t is n i k (omega arith) (omega arith) low)
+    (i, subst P (sym (ends_reverse t i is (omega arith) h)) (inl refl), reverse_rounds t is n i k (omega arith) (omega arith) low)
 
 pub read_rounds : (back : Bool) (t : Text) (i k : ℕ) → IsText t → t.start ≤ i → i ≤ t.end → IsReadTo back t i k → (n : ℕ) × Rounds (Moves back t) n i k
-read_rounds false t i k is low high r = let a = r.0 in let b = r.1 in (k - i, up_rounds t is (k - i) i k (omega arith) b)
-read_rounds true t i k is low high r = let a = r.0 in let b = r.1 in (i - k, down_rounds t is (i - k) i k (omega arith) high (omega arith))
+read_rounds false t i k is low high r = let a = r.0 in let b = r.1 in (k - i, forward_rounds t is (k - i) i k (omega arith) b)
+read_rounds true t i k is low high r = let a = r.0 in let b = r.1 in (i - k, reverse_rounds t is (i - k) i k (omega arith) high (omega arith))
 
 -- what is left to read
 abbrev left : Bool → Text → ℕ → ℕ
@@ -131,8 +131,8 @@ left false t i = t.end - i
 left true t i = i
 
 moves_leave_less : (back : Bool) (t : Text) (i k : ℕ) → Moves back t i k → left back t k < left back t i
-moves_leave_less false t i k m = let r = moves_up t i k m in let is = r.0 in let within = r.1 in omega arith
-moves_leave_less true t i k m = let r = moves_down t i k m in let is = r.0 in omega arith
+moves_leave_less false t i k m = let r = moves_forward t i k m in let is = r.0 in let within = r.1 in omega arith
+moves_leave_less true t i k m = let r = moves_reverse t i k m in let is = r.0 in omega arith
 
 -- ---- the state that tries each place
 

@@ -1,11 +1,11 @@
--- Parts that are met from the first on, or from the last where the automaton reads downwards.
+-- Parts that are met from the first on, or from the last where the automaton reads in reverse.
 use Rattle.std.proofs.Common.{◌≡◌, ℕ, suc, ◌+◌, ◌-◌, ◌<◌, ◌≤◌, Bool, true, false, List, [], ◌∷◌, ◌++◌, length, take, drop, get_or, refl, sym, ap, ◌∙◌, subst, arith, drop-cons, add-one, drop_of_length-le}
 use Rattle.std.proofs.lemmas.List.{take_more}
 use Rattle.std.proofs.Math.Seq.{take-length}
 use Rattle.hir_core.specs.Tree.{Tree, empty, literal, cat, concat}
 use Rattle.thompson_nfa.specs.Turned.{turned_place, left_after}
 use Rattle.thompson_nfa.proofs.DenoteLemmas.{Joins}
-use Rattle.thompson_nfa.proofs.SameLemmas.{IsSame, joins_same, joins_cat_up, same_concat_none, same_concat_append, same_literal_none}
+use Rattle.thompson_nfa.proofs.SameLemmas.{IsSame, joins_same, joins_cat_forward, same_concat_none, same_concat_append, same_literal_none}
 use Rattle.thompson_nfa.proofs.AheadLemmas.{joins_last_part, joins_first_byte, joins_last_byte}
 
 -- the part at i stands before the others from there on
@@ -35,7 +35,7 @@ concat_joins false xs i x l e =
     let P : List Tree → Type 0 = λ ys. Joins false (concat (x ∷ [])) (concat (drop (i + 1) xs)) (concat ys) in
     subst P (sym (first_left xs i x x l e))
     (joins_same false (concat (x ∷ [])) (concat (drop (i + 1) xs)) (cat (concat (x ∷ [])) (concat (drop (i + 1) xs))) (concat (x ∷ drop (i + 1) xs))
-    (same_concat_append (x ∷ []) (drop (i + 1) xs)) (joins_cat_up (concat (x ∷ [])) (concat (drop (i + 1) xs))))
+    (same_concat_append (x ∷ []) (drop (i + 1) xs)) (joins_cat_forward (concat (x ∷ [])) (concat (drop (i + 1) xs))))
 concat_joins true xs i x l e =
     let P : List Tree → Type 0 = λ ys. Joins true (concat (x ∷ [])) (concat (take (length xs - (i + 1)) xs)) (concat ys) in
     subst P (sym (last_left xs i x x l e)) (joins_last_part x (take (length xs - (i + 1)) xs))

@@ -159,11 +159,11 @@ all_loops : (qs : List (List (ℕ × ℕ))) → LoopsRead (alternation (map (rea
 all_loops [] = tt
 all_loops (q ∷ qs) = (tree_loops q, all_loops qs)
 
--- read downwards, a table does for the sequences turned round what it does for the class
+-- read in reverse, a table does for the sequences turned round what it does for the class
 pub denotes_turned : (back : Bool) (T : Table) (s e : ℕ) (qs : List (List (ℕ × ℕ))) (ranges : List (ℕ × ℕ)) → back ≡ true → HasTurned qs (sequences_of ranges) →
     Denotes back T s e (alternation (map (read_tree back) qs)) → Denotes back T s e (char_class ranges)
-denotes_turned false T s e qs ranges down has d = absurd (false≢true down)
-denotes_turned true T s e qs ranges down has d =
+denotes_turned false T s e qs ranges is_reverse has d = absurd (false≢true is_reverse)
+denotes_turned true T s e qs ranges is_reverse has d =
     denotes_like_meaning true T s e (alternation (map (read_tree true) qs)) (char_class ranges)
     (λ looks h i j. class_to_turned looks h qs ranges has i j) (λ looks h i j. turned_to_class looks h qs ranges has i j)
     (λ f. all_loops qs) (λ up. absurd (true≢false up)) d

@@ -3,7 +3,7 @@ use Rattle.std.proofs.Common.{◌≡◌, ℕ, zero, suc, ◌+◌, ◌*◌, ◌<�
 use Rattle.std.proofs.lemmas.List.{append_assoc, append-nil, take_more, length-take-le}
 use Rattle.std.proofs.lemmas.Option.{slice_get-get_or}
 use Rattle.hir_core.specs.Tree.{Tree}
-use Rattle.nfa_core.specs.BuilderStates.{Part, Assembly, empty_part, range_part, sparse_part, look_part, capture_start_part, capture_end_part, union_part, union_reverse_part, fail_part, match_part, part_at, patched, is_sparse}
+use Rattle.nfa_core.specs.BuilderStates.{DraftNode, Assembly, empty_draft, range_draft, sparse_draft, look_draft, capture_start_draft, capture_end_draft, union_draft, union_reverse_draft, fail_draft, match_draft, draft_at, patched, is_sparse}
 use Rattle.nfa_core.specs.declared.build_error.BuildError.{BuildError}
 use Rattle.nfa_core.specs.declared.build_error.BuildError.TheVariants as error
 use Rattle.thompson_nfa.specs.Added.{Led}
@@ -18,7 +18,7 @@ use Rattle.thompson_nfa.proofs.FurtherLemmas.{patterns_none, hole_moved, pattern
 -- ---- refusals
 
 -- what refuses a step refuses the patterns
-pub step_refuses : (which : WhichCaptures) (a b : Assembly) (n bytes whole : ℕ) (xs : List Tree) (e : BuildError) → b.size_limit ≡ a.size_limit → length b.parts + n ≤ length a.parts + whole →
+pub step_refuses : (which : WhichCaptures) (a b : Assembly) (n bytes whole : ℕ) (xs : List Tree) (e : BuildError) → b.size_limit ≡ a.size_limit → length b.drafts + n ≤ length a.drafts + whole →
     sum_of_bytes b + bytes ≤ sum_of_bytes a + 4096 * whole → RefusesStep b n bytes e → RefusesPatterns which a whole xs e
 step_refuses which a b n bytes whole xs error.TooManyPatterns size states room r = r
 step_refuses which a b n bytes whole xs error.TooManyStates size states room r = omega arith
@@ -29,7 +29,7 @@ step_refuses which a b n bytes whole xs error.NoMemory size states room r = r
 
 -- so does what refuses the patterns from number k on
 pub patterns_refuse : (which : WhichCaptures) (a b : Assembly) (k n whole : ℕ) (xs ys : List Tree) (e : BuildError) → b.size_limit ≡ a.size_limit → length b.starts ≡ length a.starts + k →
-    length b.parts + n ≤ length a.parts + whole → sum_of_bytes b + 4096 * n ≤ sum_of_bytes a + 4096 * whole →
+    length b.drafts + n ≤ length a.drafts + whole → sum_of_bytes b + 4096 * n ≤ sum_of_bytes a + 4096 * whole →
     ((i : ℕ) (x : Tree) → slice_get xs i ≡ Some x → slice_get ys (k + i) ≡ Some x) → RefusesPatterns which b n xs e → RefusesPatterns which a whole ys e
 patterns_refuse which a b k n whole xs ys error.TooManyPatterns size starts states room inside r = r
 patterns_refuse which a b k n whole xs ys error.TooManyStates size starts states room inside r = step_refuses which a b n (4096 * n) whole ys error.TooManyStates size states room r
@@ -62,39 +62,39 @@ later_stays {which} {hole} {a} {b} {c} {ss} {xs} {n} {spare} more bytes whole zs
 
 -- ---- the union
 
-sparse_patched : (to : ℕ) (part : Part) → is_sparse (patched to part) ≡ is_sparse part
-sparse_patched to (empty_part next) = refl
-sparse_patched to (range_part low high next) = refl
-sparse_patched to (sparse_part ranges) = refl
-sparse_patched to (look_part look next) = refl
-sparse_patched to (capture_start_part pattern group next) = refl
-sparse_patched to (capture_end_part pattern group next) = refl
-sparse_patched to (union_part names) = refl
-sparse_patched to (union_reverse_part names) = refl
-sparse_patched to fail_part = refl
-sparse_patched to (match_part pattern) = refl
+sparse_patched : (to : ℕ) (draft : DraftNode) → is_sparse (patched to draft) ≡ is_sparse draft
+sparse_patched to (empty_draft next) = refl
+sparse_patched to (range_draft low high next) = refl
+sparse_patched to (sparse_draft ranges) = refl
+sparse_patched to (look_draft look next) = refl
+sparse_patched to (capture_start_draft pattern group next) = refl
+sparse_patched to (capture_end_draft pattern group next) = refl
+sparse_patched to (union_draft names) = refl
+sparse_patched to (union_reverse_draft names) = refl
+sparse_patched to fail_draft = refl
+sparse_patched to (match_draft pattern) = refl
 
 -- some of the further patterns were compiled
 pub record IsFurther (how : How) (union : ℕ) (a b : Assembly) (xs : List Tree) : Type 0 where
   pub ways : List ℕ
   pub has : HasPatterns how.which union a b ways xs (room_for how.shrink xs) 0
-  pub leads : (first : List ℕ) → part_at a.parts union ≡ union_part first → part_at b.parts union ≡ union_part (first ++ ways)
-  pub kind : is_sparse (part_at b.parts union) ≡ false
+  pub leads : (first : List ℕ) → draft_at a.drafts union ≡ union_draft first → draft_at b.drafts union ≡ union_draft (first ++ ways)
+  pub kind : is_sparse (draft_at b.drafts union) ≡ false
 
-pub further_none : (how : How) (union : ℕ) (a : Assembly) → is_sparse (part_at a.parts union) ≡ false → IsFurther how union a a []
+pub further_none : (how : How) (union : ℕ) (a : Assembly) → is_sparse (draft_at a.drafts union) ≡ false → IsFurther how union a a []
 further_none how union a kind = record {
   ways = [];
   has = patterns_none how.which union a;
-  leads = λ first e. e ∙ ap union_part (sym (append-nil first));
+  leads = λ first e. e ∙ ap union_draft (sym (append-nil first));
   kind = kind;
 }
 
-module _ (how : How) (union : ℕ) (a b c : Assembly) (xs : List Tree) (x : Tree) (s : ℕ) (there : union < length a.parts) (so_far : IsFurther how union a b xs)
+module _ (how : How) (union : ℕ) (a b c : Assembly) (xs : List Tree) (x : Tree) (s : ℕ) (there : union < length a.drafts) (so_far : IsFurther how union a b xs)
     (next : HasAll how.which b c (s ∷ []) (x ∷ []) (room how.shrink x + 3) 4) where
-  kept_union : part_at c.parts union ≡ part_at b.parts union
+  kept_union : draft_at c.drafts union ≡ draft_at b.drafts union
   kept_union = let l = so_far.has.longer in let m = next.longer in next.same union (omega arith) (λ e. omega arith)
 
-  pub union_kind : is_sparse (part_at c.parts union) ≡ false
+  pub union_kind : is_sparse (draft_at c.drafts union) ≡ false
   union_kind = ap is_sparse kept_union ∙ so_far.kind
 
   both : HasPatterns how.which union a c (so_far.ways ++ s ∷ []) (xs ++ x ∷ []) (room_for how.shrink xs + (room how.shrink x + 3)) 4
@@ -109,8 +109,8 @@ module _ (how : How) (union : ℕ) (a b c : Assembly) (xs : List Tree) (x : Tree
       record {
         ways = so_far.ways ++ s ∷ [];
         has = subst P fits (patterns_led how.which a c d (so_far.ways ++ s ∷ []) (xs ++ x ∷ []) (room_for how.shrink xs + (room how.shrink x + 3)) 4 0 union s both led (omega arith));
-        leads = λ first e. led.here ∙ ap (patched s) (kept_union ∙ so_far.leads first e) ∙ ap union_part (append_assoc first so_far.ways (s ∷ []));
-        kind = ap is_sparse led.here ∙ sparse_patched s (part_at c.parts union) ∙ union_kind;
+        leads = λ first e. led.here ∙ ap (patched s) (kept_union ∙ so_far.leads first e) ∙ ap union_draft (append_assoc first so_far.ways (s ∷ []));
+        kind = ap is_sparse led.here ∙ sparse_patched s (draft_at c.drafts union) ∙ union_kind;
       }
 
   -- the way to it is refused
@@ -138,7 +138,7 @@ room_at shrink [] i d l = absurd (omega arith)
 room_at shrink (z ∷ zs) zero d l = omega arith
 room_at shrink (z ∷ zs) (suc i) d l = omega (arith, room_at shrink zs i d (omega arith))
 
-module _ (how : How) (union : ℕ) (a b c : Assembly) (zs : List Tree) (i : ℕ) (x : Tree) (inside : i < length zs) (is : x ≡ get_or zs i x) (there : union < length a.parts)
+module _ (how : How) (union : ℕ) (a b c : Assembly) (zs : List Tree) (i : ℕ) (x : Tree) (inside : i < length zs) (is : x ≡ get_or zs i x) (there : union < length a.drafts)
     (so_far : IsFurther how union a b (take i zs)) where
   taken : length (take i zs) ≡ i
   taken = length-take-le i zs (omega arith)

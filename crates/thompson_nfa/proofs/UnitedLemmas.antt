@@ -1,7 +1,7 @@
 -- All patterns, and the state that leads to them.
 use Rattle.std.proofs.Common.{◌≡◌, inl, inr, ℕ, zero, suc, ◌+◌, ◌≤◌, true, List, [], ◌∷◌, length, slice_get, Some, refl, sym, ap, ◌∙◌, subst, arith}
 use Rattle.hir_core.specs.Tree.{Tree}
-use Rattle.nfa_core.specs.BuilderStates.{Part, Assembly, union_part, fail_part, part_at, patched}
+use Rattle.nfa_core.specs.BuilderStates.{DraftNode, Assembly, union_draft, fail_draft, draft_at, patched}
 use Rattle.nfa_core.specs.Renaming.{stands_for}
 use Rattle.nfa_core.specs.declared.build_error.BuildError.{BuildError}
 use Rattle.thompson_nfa.specs.Added.{Added, Led}
@@ -41,15 +41,15 @@ patterns_wider which hole a b ss xs n m spare less more fewer h = record {
 
 -- ---- no pattern, and one
 
-pub none_compiled : (how : How) (a b : Assembly) (xs : List Tree) (id : ℕ) → length xs ≡ 0 → Added a b id fail_part a.groups → LeadsToPatterns how.which a b id xs (room_for how.shrink xs + 1)
+pub none_compiled : (how : How) (a b : Assembly) (xs : List Tree) (id : ℕ) → length xs ≡ 0 → Added a b id fail_draft a.groups → LeadsToPatterns how.which a b id xs (room_for how.shrink xs + 1)
 none_compiled how a b [] id none x =
     let is = x.is in let size = x.size in (
       [],
       hole_closed how.which a b [] [] 1 0 id
-          (patterns_added how.which a a b [] [] 0 0 0 id fail_part (patterns_none how.which (length a.parts) a) x (omega arith)
+          (patterns_added how.which a a b [] [] 0 0 0 id fail_draft (patterns_none how.which (length a.drafts) a) x (omega arith)
           (λ l. refl)) (omega arith)
           (λ table e. ap stands_for (e ∙ x.here))
-          (let P : Part → Type 0 = λ part. IsTame true b part in subst P (sym x.here) (tame_none b fail_part refl refl refl)),
+          (let P : DraftNode → Type 0 = λ draft. IsTame true b draft in subst P (sym x.here) (tame_none b fail_draft refl refl refl)),
       inr (inr (refl, x.here)),
       omega arith,
       omega arith,
@@ -63,11 +63,11 @@ one_compiled how a b xs [] x s is none h =
     let P : List Tree → Type 0 = λ zs. LeadsToPatterns how.which a b s zs (room_for how.shrink zs + 1) in
     subst P (sym is) (
       s ∷ [],
-      patterns_wider how.which (length b.parts) a b (s ∷ []) (x ∷ []) (room how.shrink x + 3) (room_for how.shrink (x ∷ []) + 1) 4 0 (omega arith) (omega arith) h,
+      patterns_wider how.which (length b.drafts) a b (s ∷ []) (x ∷ []) (room how.shrink x + 3) (room_for how.shrink (x ∷ []) + 1) 4 0 (omega arith) (omega arith) h,
       inl refl,
       h.starts_there 0 0 (omega arith),
       h.starts_new 0 0 (omega arith),
-      record { hole = length b.parts; hole_is = inr refl; accept = λ table hold. h.accept table hold },
+      record { hole = length b.drafts; hole_is = inr refl; accept = λ table hold. h.accept table hold },
     )
 one_compiled how a b xs (y ∷ ys) x s is none h = absurd (omega arith)
 
@@ -86,8 +86,8 @@ module _ (how : How) (a b c d e f : Assembly) (x y : Tree) (s t u : ℕ) (first 
     (added : Added c d u (no_choice true) c.groups) (led : Led d e u s) (led_2 : Led e f u t) where
   two : HasAll how.which a c (s ∷ t ∷ []) (x ∷ y ∷ []) ((room how.shrink x + 3) + (room how.shrink y + 3)) (4 + 4)
   two = let l = first.longer in let m = second.longer in
-      patterns_joined how.which (length c.parts) a b c (s ∷ []) (t ∷ []) (x ∷ []) (y ∷ []) (room how.shrink x + 3) (room how.shrink y + 3) 4 4
-      (hole_moved how.which a b (s ∷ []) (x ∷ []) (room how.shrink x + 3) 4 (length c.parts) (λ q low high same. omega arith) first) second
+      patterns_joined how.which (length c.drafts) a b c (s ∷ []) (t ∷ []) (x ∷ []) (y ∷ []) (room how.shrink x + 3) (room how.shrink y + 3) 4 4
+      (hole_moved how.which a b (s ∷ []) (x ∷ []) (room how.shrink x + 3) 4 (length c.drafts) (λ q low high same. omega arith) first) second
 
   pub united : HasPatterns how.which u a f (s ∷ t ∷ []) (x ∷ y ∷ []) ((room how.shrink x + 3) + (room how.shrink y + 3) + 1) 0
   united =
@@ -97,7 +97,7 @@ module _ (how : How) (a b c d e f : Assembly) (x y : Tree) (s t u : ℕ) (first 
       (patterns_added how.which a c d (s ∷ t ∷ []) (x ∷ y ∷ []) n 8 8 u (no_choice true) two added (omega arith) (λ l. refl)) led
       (omega arith)) led_2 (omega arith)
 
-  union_here : part_at f.parts u ≡ union_part (s ∷ t ∷ [])
+  union_here : draft_at f.drafts u ≡ union_draft (s ∷ t ∷ [])
   union_here = led_2.here ∙ ap (patched t) (led.here ∙ ap (patched s) added.here)
 
   pub further_refused : (xs ys rest : List Tree) (err : BuildError) → xs ≡ x ∷ ys → ys ≡ y ∷ rest → RefusesPatterns how.which f (room_for how.shrink rest) rest err → RefusesPatterns how.which a (room_for how.shrink xs + 1) xs err
@@ -108,14 +108,14 @@ module _ (how : How) (a b c d e f : Assembly) (x y : Tree) (s t u : ℕ) (first 
       (λ i z here. let two_more : 2 + i ≡ suc (suc i) = omega arith in ap (slice_get (x ∷ y ∷ rest)) two_more ∙ here) r)
 
   module _ (g : Assembly) (rest : List Tree) (more : LeadsToFurther how.which u f g rest (room_for how.shrink rest)) where
-    union_at : part_at g.parts u ≡ union_part (s ∷ t ∷ more.0)
+    union_at : draft_at g.drafts u ≡ union_draft (s ∷ t ∷ more.0)
     union_at = more.2 (s ∷ t ∷ []) union_here
 
     all_patterns : HasPatterns how.which u a g (s ∷ t ∷ more.0) (x ∷ y ∷ rest) ((room how.shrink x + 3) + (room how.shrink y + 3) + 1 + room_for how.shrink rest) 0
     all_patterns = patterns_joined how.which u a f g (s ∷ t ∷ []) more.0 (x ∷ y ∷ []) rest ((room how.shrink x + 3) + (room how.shrink y + 3) + 1) (room_for how.shrink rest) 0 0 united more.1
 
-    union_tame : IsTame true g (part_at g.parts u)
-    union_tame = let P : Part → Type 0 = λ part. IsTame true g part in
+    union_tame : IsTame true g (draft_at g.drafts u)
+    union_tame = let P : DraftNode → Type 0 = λ draft. IsTame true g draft in
         subst P (sym union_at) (record { named = all_patterns.starts_there; known = refl; not_barred = refl })
 
     pub several_compiled : (xs ys : List Tree) → xs ≡ x ∷ ys → ys ≡ y ∷ rest → LeadsToPatterns how.which a g u xs (room_for how.shrink xs + 1)
@@ -127,7 +127,7 @@ module _ (how : How) (a b c d e f : Assembly) (x y : Tree) (s t u : ℕ) (first 
         (λ table there. ap stands_for (there ∙ union_at)) union_tame in
         subst P (sym all) (
           s ∷ t ∷ more.0,
-          patterns_wider how.which (length g.parts) a g (s ∷ t ∷ more.0) (x ∷ y ∷ rest) ((room how.shrink x + 3) + (room how.shrink y + 3) + 1 + room_for how.shrink rest) (room_for how.shrink (x ∷ y ∷ rest) + 1) 0 0 (omega arith) (omega arith) closed,
+          patterns_wider how.which (length g.drafts) a g (s ∷ t ∷ more.0) (x ∷ y ∷ rest) ((room how.shrink x + 3) + (room how.shrink y + 3) + 1 + room_for how.shrink rest) (room_for how.shrink (x ∷ y ∷ rest) + 1) 0 0 (omega arith) (omega arith) closed,
           inr (inl union_at),
           omega arith,
           omega arith,

@@ -4,7 +4,7 @@ use Rattle.look_core.specs.declared.look.Look.{Look}
 use Rattle.hir_core.specs.Means.{is_member}
 use Rattle.hir_core.specs.PreferredEnds.{Has as HasEnd}
 use Rattle.nfa_core.specs.Nfa.{Node, byte_range, sparse_node, look_node, union_node, capture_node, fail_node, match_node}
-use Rattle.nfa_core.specs.BuilderStates.{Part, empty_part, range_part, sparse_part, look_part, capture_start_part, capture_end_part, union_part, fail_part}
+use Rattle.nfa_core.specs.BuilderStates.{DraftNode, empty_draft, range_draft, sparse_draft, look_draft, capture_start_draft, capture_end_draft, union_draft, fail_draft}
 use Rattle.nfa_core.specs.Walks.{Has}
 use Rattle.nfa_core.specs.Places.{same_pair}
 use Rattle.nfa_core.specs.Ways.{Text, reads, is_passed, in_ranges, on_byte, on_nothing, on_read, place_behind, node_ways, match_of}
@@ -121,41 +121,41 @@ match_has_no_ways back t T p m h =
     ap (λ (n : Node). node_ways back t n p.0) is.1 ∙ plain_node back t (match_node is.0) p.0 (λ b. refl)
 
 module _ (back : Bool) (t : Text) (T : Table) (s : ℕ) where
-  goes_as : (n : Part) (to : ℕ → List (ℕ × ℕ)) → T s ≡ n → ((i : ℕ) → match_of (drafted n) i ≡ None) → ((i : ℕ) → node_ways back t (drafted n) i ≡ to i) → Goes back t T s to
+  goes_as : (n : DraftNode) (to : ℕ → List (ℕ × ℕ)) → T s ≡ n → ((i : ℕ) → match_of (drafted n) i ≡ None) → ((i : ℕ) → node_ways back t (drafted n) i ≡ to i) → Goes back t T s to
   goes_as n to is none same = record {
-    ways = λ i. ap (λ (p : Part). node_ways back t (drafted p) i) is ∙ same i;
-    is_open = λ i. ap (λ (p : Part). match_of (drafted p) i) is ∙ none i;
+    ways = λ i. ap (λ (p : DraftNode). node_ways back t (drafted p) i) is ∙ same i;
+    is_open = λ i. ap (λ (p : DraftNode). match_of (drafted p) i) is ∙ none i;
   }
 
-  pub goes_empty : (e : ℕ) → T s ≡ empty_part e → Goes back t T s (λ i. at e (i ∷ []))
-  goes_empty e is = goes_as (empty_part e) (λ i. at e (i ∷ [])) is (λ i. refl) (λ i. plain_node back t (union_node (e ∷ [])) i (λ b. refl))
+  pub goes_empty : (e : ℕ) → T s ≡ empty_draft e → Goes back t T s (λ i. at e (i ∷ []))
+  goes_empty e is = goes_as (empty_draft e) (λ i. at e (i ∷ [])) is (λ i. refl) (λ i. plain_node back t (union_node (e ∷ [])) i (λ b. refl))
 
-  pub goes_capture_start : (pattern group e : ℕ) → T s ≡ capture_start_part pattern group e → Goes back t T s (λ i. at e (i ∷ []))
+  pub goes_capture_start : (pattern group e : ℕ) → T s ≡ capture_start_draft pattern group e → Goes back t T s (λ i. at e (i ∷ []))
   goes_capture_start pattern group e is =
-      goes_as (capture_start_part pattern group e) (λ i. at e (i ∷ [])) is (λ i. refl) (λ i. plain_node back t (capture_node e pattern group 0) i (λ b. refl))
+      goes_as (capture_start_draft pattern group e) (λ i. at e (i ∷ [])) is (λ i. refl) (λ i. plain_node back t (capture_node e pattern group 0) i (λ b. refl))
 
-  pub goes_capture_end : (pattern group e : ℕ) → T s ≡ capture_end_part pattern group e → Goes back t T s (λ i. at e (i ∷ []))
+  pub goes_capture_end : (pattern group e : ℕ) → T s ≡ capture_end_draft pattern group e → Goes back t T s (λ i. at e (i ∷ []))
   goes_capture_end pattern group e is =
-      goes_as (capture_end_part pattern group e) (λ i. at e (i ∷ [])) is (λ i. refl) (λ i. plain_node back t (capture_node e pattern group 0) i (λ b. refl))
+      goes_as (capture_end_draft pattern group e) (λ i. at e (i ∷ [])) is (λ i. refl) (λ i. plain_node back t (capture_node e pattern group 0) i (λ b. refl))
 
-  pub goes_fail : T s ≡ fail_part → Goes back t T s (λ i. [])
-  goes_fail is = goes_as fail_part (λ i. []) is (λ i. refl) (λ i. plain_node back t fail_node i (λ b. refl))
+  pub goes_fail : T s ≡ fail_draft → Goes back t T s (λ i. [])
+  goes_fail is = goes_as fail_draft (λ i. []) is (λ i. refl) (λ i. plain_node back t fail_node i (λ b. refl))
 
-  pub goes_union : (qs : List ℕ) → T s ≡ union_part qs → Goes back t T s (each_at qs)
-  goes_union qs is = goes_as (union_part qs) (each_at qs) is (λ i. refl) (λ i. plain_node back t (union_node qs) i (λ b. refl))
+  pub goes_union : (qs : List ℕ) → T s ≡ union_draft qs → Goes back t T s (each_at qs)
+  goes_union qs is = goes_as (union_draft qs) (each_at qs) is (λ i. refl) (λ i. plain_node back t (union_node qs) i (λ b. refl))
 
   pub goes_choice : (greedy : Bool) (a e : ℕ) → T s ≡ choice greedy a e → Goes back t T s (both_at greedy a e)
   goes_choice true a e is = goes_as (choice true a e) (both_at true a e) is (λ i. refl) (λ i. plain_node back t (union_node (a ∷ e ∷ [])) i (λ b. refl))
   goes_choice false a e is = goes_as (choice false a e) (both_at false a e) is (λ i. refl) (λ i. plain_node back t (union_node (e ∷ a ∷ [])) i (λ b. refl))
 
-  pub goes_look : (l : Look) (e : ℕ) → T s ≡ look_part l e → Goes back t T s (λ i. at e (if is_passed back t l i then i ∷ [] else []))
-  goes_look l e is = goes_as (look_part l e) (λ i. at e (if is_passed back t l i then i ∷ [] else [])) is (λ i. refl)
+  pub goes_look : (l : Look) (e : ℕ) → T s ≡ look_draft l e → Goes back t T s (λ i. at e (if is_passed back t l i then i ∷ [] else []))
+  goes_look l e is = goes_as (look_draft l e) (λ i. at e (if is_passed back t l i then i ∷ [] else [])) is (λ i. refl)
       (λ i. plain_node back t (look_node l e) i (λ b. refl) ∙ passed_or_not (is_passed back t l i) i e)
 
-  pub goes_range : (low high e : ℕ) → T s ≡ range_part low high e → Goes back t T s (λ i. at e (byte_ends ((low, high) ∷ []) (reads back t i)))
-  goes_range low high e is = goes_as (range_part low high e) (λ i. at e (byte_ends ((low, high) ∷ []) (reads back t i))) is (λ i. refl)
+  pub goes_range : (low high e : ℕ) → T s ≡ range_draft low high e → Goes back t T s (λ i. at e (byte_ends ((low, high) ∷ []) (reads back t i)))
+  goes_range low high e is = goes_as (range_draft low high e) (λ i. at e (byte_ends ((low, high) ∷ []) (reads back t i))) is (λ i. refl)
       (λ i. range_ways low high e i (reads back t i))
 
-  pub goes_sparse : (ranges : List (ℕ × ℕ)) (e : ℕ) → T s ≡ sparse_part (to_one e ranges) → Goes back t T s (λ i. at e (byte_ends ranges (reads back t i)))
-  goes_sparse ranges e is = goes_as (sparse_part (to_one e ranges)) (λ i. at e (byte_ends ranges (reads back t i))) is (λ i. refl)
+  pub goes_sparse : (ranges : List (ℕ × ℕ)) (e : ℕ) → T s ≡ sparse_draft (to_one e ranges) → Goes back t T s (λ i. at e (byte_ends ranges (reads back t i)))
+  goes_sparse ranges e is = goes_as (sparse_draft (to_one e ranges)) (λ i. at e (byte_ends ranges (reads back t i))) is (λ i. refl)
       (λ i. sparse_ways ranges e i (reads back t i))

@@ -2,7 +2,7 @@
 use Rattle.std.specs.Prelude.{◌≡◌, ◌≢◌, ◌⊎◌, ℕ, suc, ◌*◌, ◌<◌, ◌≤◌, Bool, true, false, ◌&&◌, List, [], ◌∷◌, length, All}
 use Rattle.look_core.specs.declared.look.Look.{Look}
 use Rattle.hir_core.specs.Tree.{Tree}
-use Rattle.nfa_core.specs.BuilderStates.{Part, Assembly, empty_part, sparse_part, union_part, union_reverse_part, fail_part, match_part, part_at}
+use Rattle.nfa_core.specs.BuilderStates.{DraftNode, Assembly, empty_draft, sparse_draft, union_draft, union_reverse_draft, fail_draft, match_draft, draft_at}
 use Rattle.nfa_core.specs.CanBuild.{CanBuild}
 use Rattle.nfa_core.specs.Drafted.{Table}
 use Rattle.thompson_nfa.specs.Configs.{Options, utf8_of, reverse_of, limit_of, captures_of, terminator_of, is_any, is_shrunk}
@@ -15,7 +15,7 @@ use Rattle.thompson_nfa.specs.Room.{list_room}
 -- from state s the table does what the tree means on the way to a state in which pattern p matches
 pub record Accepts (reverse : Bool) (table : Table) (s p : ℕ) (x : Tree) : Type 0 where
   pub end : ℕ
-  pub matches : table end ≡ match_part p
+  pub matches : table end ≡ match_draft p
   pub denotes : Denotes reverse table s end x
 
 -- each tree from pattern p on has its start
@@ -27,15 +27,15 @@ AcceptAll reverse table p (s ∷ starts) [] = ⊥
 
 -- the state leads to all these starts, the first ones preferred: it is the only one, a union of them, or leads nowhere
 abbrev pub LeadsToAll : Table → ℕ → List ℕ → Type 0
-LeadsToAll table c starts = (starts ≡ c ∷ []) ⊎ ((table c ≡ union_part starts) ⊎ ((starts ≡ []) × (table c ≡ fail_part)))
+LeadsToAll table c starts = (starts ≡ c ∷ []) ⊎ ((table c ≡ union_draft starts) ⊎ ((starts ≡ []) × (table c ≡ fail_draft)))
 
 -- the state u goes on to c at once, or else reads a byte, whichever it is, and comes back to itself
 pub record TriesEachPlace (table : Table) (u c : ℕ) : Type 0 where
   pub byte : ℕ
   pub back : ℕ
-  pub loop : table u ≡ union_reverse_part (byte ∷ c ∷ [])
-  pub any : table byte ≡ sparse_part ((0, 255, back) ∷ [])
-  pub again : table back ≡ empty_part u
+  pub loop : table u ≡ union_reverse_draft (byte ∷ c ∷ [])
+  pub any : table byte ≡ sparse_draft ((0, 255, back) ∷ [])
+  pub again : table back ≡ empty_draft u
 
 -- whether all trees are anchored
 abbrev pub AllAnchored : Bool → List Tree → Type 0
@@ -44,14 +44,14 @@ AllAnchored reverse xs = All (λ x. is_anchored_tree reverse x ≡ true) xs
 -- the unanchored start comes to the anchored one as the state that stands for it, where all trees are anchored, and else at
 -- each place
 abbrev pub ComesBefore : Bool → List Tree → Table → ℕ → ℕ → Type 0
-ComesBefore reverse xs table u c = (AllAnchored reverse xs × (table u ≡ empty_part c)) ⊎ ((AllAnchored reverse xs → ⊥) × TriesEachPlace table u c)
+ComesBefore reverse xs table u c = (AllAnchored reverse xs × (table u ≡ empty_draft c)) ⊎ ((AllAnchored reverse xs → ⊥) × TriesEachPlace table u c)
 
 -- what the patterns do depends neither on states below `low` nor on one hole: the state that leads to them, where it isn't
 -- the start of the only one
-pub record IsFree (reverse : Bool) (low first : ℕ) (parts : List Part) (c : ℕ) (starts : List ℕ) (xs : List Tree) : Type 0 where
+pub record IsFree (reverse : Bool) (low first : ℕ) (drafts : List DraftNode) (c : ℕ) (starts : List ℕ) (xs : List Tree) : Type 0 where
   pub hole : ℕ
   pub hole_is : (hole ≡ c) ⊎ (starts ≡ c ∷ [])
-  pub accept : (table : Table) → ((q : ℕ) → low ≤ q → q < length parts → q ≢ hole → table q ≡ part_at parts q) →
+  pub accept : (table : Table) → ((q : ℕ) → low ≤ q → q < length drafts → q ≢ hole → table q ≡ draft_at drafts q) →
       AcceptAll reverse table first starts xs
 
 pub record IsAssembled (o : Options) (xs : List Tree) (b : Assembly) (anchored unanchored : ℕ) : Type 0 where
@@ -61,16 +61,16 @@ pub record IsAssembled (o : Options) (xs : List Tree) (b : Assembly) (anchored u
   pub size_limit : b.size_limit ≡ limit_of o
   pub captures : (reverse_of o && is_any (captures_of o)) ≡ false
   pub can_build : CanBuild b anchored unanchored
-  pub accept : AcceptAll (reverse_of o) (part_at b.parts) 0 b.starts xs
-  pub leads : LeadsToAll (part_at b.parts) anchored b.starts
-  pub before : ComesBefore (reverse_of o) xs (part_at b.parts) unanchored anchored
+  pub accept : AcceptAll (reverse_of o) (draft_at b.drafts) 0 b.starts xs
+  pub leads : LeadsToAll (draft_at b.drafts) anchored b.starts
+  pub before : ComesBefore (reverse_of o) xs (draft_at b.drafts) unanchored anchored
   -- what stands before the patterns is below `low`, and what leads to them isn't
   pub low : ℕ
   pub below : unanchored < low
   pub above : low ≤ anchored
-  pub free : IsFree (reverse_of o) low 0 b.parts anchored b.starts xs
-  pub one_match : (q r p : ℕ) → part_at b.parts q ≡ match_part p → part_at b.parts r ≡ match_part p → q ≡ r
+  pub free : IsFree (reverse_of o) low 0 b.drafts anchored b.starts xs
+  pub one_match : (q r p : ℕ) → draft_at b.drafts q ≡ match_draft p → draft_at b.drafts r ≡ match_draft p → q ≡ r
   pub groups : b.groups ≡ noted_from (captures_of o) 0 xs []
-  pub looks : (l : Look) → looks_in b.parts l ≡ any_uses (reverse_of o) xs l
-  pub states : length b.parts ≤ list_room (is_shrunk o) xs
+  pub looks : (l : Look) → looks_in b.drafts l ≡ any_uses (reverse_of o) xs l
+  pub states : length b.drafts ≤ list_room (is_shrunk o) xs
   pub bytes : sum_of_bytes b ≤ 4096 * list_room (is_shrunk o) xs

@@ -15,7 +15,7 @@ pub record LeadsBranch (old new : Assembly) (choice end first last : ℕ) : Type
 
 -- one of these two steps is refused, and the builder has its settings
 pub record FailsToLead (old new : Assembly) (e : BuildError) : Type 0 where
-  pub settings : new ≡ record old { parts = new.parts; groups = new.groups }
+  pub settings : new ≡ record old { drafts = new.drafts; groups = new.groups }
   pub cause : RefusesStep old 0 8 e
 
 -- a fragment of n states at most that does what the tree means was added, as one more branch

@@ -24,7 +24,7 @@ use Rattle.thompson_nfa.specs.Room.{list_room}
 abbrev pub IsChoice : Bool → List Tree → Text → ℕ → ℕ × ℕ → Type 0
 IsChoice reverse xs t i e = (x : Tree) × (slice_get xs e.1 ≡ Some x) × IsMeant reverse t x i e.0
 
--- the choices at place i, for one who reads up: patterns in order, from pattern p on, each one's ends in order
+-- the choices at place i, for one who reads forward: patterns in order, from pattern p on, each one's ends in order
 abbrev pub choices_from : ℕ → List Tree → Text → ℕ → List (ℕ × ℕ)
 choices_from p [] t i = []
 choices_from p (x ∷ xs) t i = map (λ j. (j, p)) (preferred_ends t.holds (seen t) x i) ++ choices_from (suc p) xs t i
@@ -65,7 +65,7 @@ pub record FindsSpans (reverse : Bool) (xs : List Tree) (n : Nfa) : Type 0 where
       Has same_pair e (ends_from n.automaton t (i, n.automaton.start_unanchored))
       ↔ ((k : ℕ) × IsReadTo reverse t i k × IsChoice reverse xs t k e)
 
--- In which order they find them, for one who reads up, where the loops of all trees read.
+-- In which order they find them, for one who reads forward, where the loops of all trees read.
 pub record FindsInOrder (xs : List Tree) (n : Nfa) : Type 0 where
   pub patterns : (p : ℕ) (x : Tree) → slice_get xs p ≡ Some x → LoopsRead x → (t : Text) (i : ℕ) → i ≤ t.end →
       ends_from n.automaton t (i, start_of n.automaton p) ≡ distinct same_pair (map (λ j. (j, p)) (preferred_ends t.holds (seen t) x i))
@@ -81,7 +81,7 @@ HasNoReturn n = (t : Text) (i : ℕ) (r : List (ℕ × ℕ)) → i ≤ t.end →
     HasNoneTwice same_pair ((i, n.automaton.start_unanchored) ∷ r)
 
 -- Whatever the loops, the anchored start leads to those of the patterns, one after the other; the unanchored one leads, for
--- one who reads up, to the anchored one at one place after the other.
+-- one who reads forward, to the anchored one at one place after the other.
 pub record HasStarts (reverse : Bool) (count : ℕ) (n : Nfa) : Type 0 where
   pub anchored : (t : Text) (i : ℕ) → i ≤ t.end → ends_from n.automaton t (i, n.automaton.start_anchored)
       ≡ distinct same_pair (flat_map (λ p. ends_from n.automaton t (i, start_of n.automaton p)) (places_from 0 count))

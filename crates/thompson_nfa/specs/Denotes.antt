@@ -1,4 +1,4 @@
--- What a table of states does for a tree on the way from one state to another, in every text and for one who reads up or
+-- What a table of states does for a tree on the way from one state to another, in every text and for one who reads forward or
 -- down.
 use Rattle.std.specs.Prelude.{◌≡◌, ℕ, ◌≤◌, min, Bool, true, false, List, [], ◌∷◌, map, length, take, Some}
 use Rattle.hir_core.specs.Tree.{Tree}
@@ -9,7 +9,7 @@ use Rattle.nfa_core.specs.Walks.{Lists, distinct}
 use Rattle.nfa_core.specs.Runs.{IsChain, last_or}
 use Rattle.nfa_core.specs.Places.{same_pair}
 use Rattle.nfa_core.specs.Ways.{Text}
-use Rattle.nfa_core.specs.BuilderStates.{Part, union_part, union_reverse_part}
+use Rattle.nfa_core.specs.BuilderStates.{DraftNode, union_draft, union_reverse_draft}
 use Rattle.nfa_core.specs.Drafted.{Table, table_ways, table_match}
 
 -- the state at each of the places
@@ -17,11 +17,11 @@ abbrev pub at : ℕ → List ℕ → List (ℕ × ℕ)
 at q places = map (λ j. (j, q)) places
 
 -- the state that leads to the first and to the second: it prefers the first, or the second where it is lazy
-abbrev pub choice : Bool → ℕ → ℕ → Part
-choice true a e = union_part (a ∷ e ∷ [])
-choice false a e = union_reverse_part (a ∷ e ∷ [])
+abbrev pub choice : Bool → ℕ → ℕ → DraftNode
+choice true a e = union_draft (a ∷ e ∷ [])
+choice false a e = union_reverse_draft (a ∷ e ∷ [])
 
--- the bytes up to the text's end: what one who reads up may come to see
+-- the bytes up to the text's end: what one who reads forward may come to see
 abbrev pub seen : Text → List ℕ
 seen t = take t.end t.haystack
 

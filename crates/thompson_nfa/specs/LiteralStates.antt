@@ -2,7 +2,7 @@
 use Rattle.std.specs.Prelude.{◌≡◌, ◌⊎◌, ℕ, ◌+◌, ◌*◌, ◌≤◌, ◌<◌, Bool, true, false, List, [], ◌∷◌, map, get_or, length, reverse, None}
 use Rattle.search_core.specs.Index.{greatest_index}
 use Rattle.hir_core.specs.Tree.{Tree, empty, literal, alternation}
-use Rattle.nfa_core.specs.BuilderStates.{Assembly, part_at, sparse_part}
+use Rattle.nfa_core.specs.BuilderStates.{Assembly, draft_at, sparse_draft}
 use Rattle.nfa_core.specs.Drafted.{Table}
 use Rattle.nfa_core.specs.Renaming.{stands_for}
 use Rattle.thompson_nfa.specs.Added.{Added}
@@ -20,7 +20,7 @@ edge_ranges names (e ∷ es) = (e.byte, e.byte, get_or names e.next 0) ∷ edge_
 -- an item is a state of its own, or, where it is a match, the common end
 abbrev pub AddsItem : Assembly → Assembly → List ℕ → ℕ → List Edge → ℕ → Type 0
 AddsItem old new names end [] id = (new ≡ old) × (id ≡ end)
-AddsItem old new names end (e ∷ es) id = Added old new id (sparse_part (edge_ranges names (e ∷ es))) old.groups
+AddsItem old new names end (e ∷ es) id = Added old new id (sparse_draft (edge_ranges names (e ∷ es))) old.groups
 
 -- a string that was read forward, or from its last byte on
 abbrev pub spelt : Bool → List ℕ → List ℕ
@@ -56,13 +56,13 @@ IsLed back table end first names x = (n : ℕ) → first ≤ n → n < length na
 pub record AddsNode (old new : Assembly) (names : List ℕ) (end : ℕ) (items : List (List Edge)) (id : ℕ) : Type 0 where
   pub grows : Grows old new
   pub groups : new.groups ≡ old.groups
-  pub states : length new.parts ≤ length old.parts + 2 * edges_in items
-  pub bytes : sum_of_bytes new + 4096 * length old.parts ≤ sum_of_bytes old + 4096 * length new.parts
-  pub numbered : length old.parts ≤ greatest_index + 1 → length new.parts ≤ greatest_index + 1
-  pub tame : AllTame true (length old.parts) new
-  pub stands : (q : ℕ) → length old.parts ≤ q → q < length new.parts → stands_for (part_at new.parts q) ≡ None
-  pub there : (id ≡ end) ⊎ ((length old.parts ≤ id) × (id < length new.parts))
-  pub denotes : (table : Table) → ((q : ℕ) → length old.parts ≤ q → q < length new.parts → table q ≡ part_at new.parts q) → (first : ℕ) → AreChunks first (length names) items → (x : ℕ → Tree) →
+  pub states : length new.drafts ≤ length old.drafts + 2 * edges_in items
+  pub bytes : sum_of_bytes new + 4096 * length old.drafts ≤ sum_of_bytes old + 4096 * length new.drafts
+  pub numbered : length old.drafts ≤ greatest_index + 1 → length new.drafts ≤ greatest_index + 1
+  pub tame : AllTame true (length old.drafts) new
+  pub stands : (q : ℕ) → length old.drafts ≤ q → q < length new.drafts → stands_for (draft_at new.drafts q) ≡ None
+  pub there : (id ≡ end) ⊎ ((length old.drafts ≤ id) × (id < length new.drafts))
+  pub denotes : (table : Table) → ((q : ℕ) → length old.drafts ≤ q → q < length new.drafts → table q ≡ draft_at new.drafts q) → (first : ℕ) → AreChunks first (length names) items → (x : ℕ → Tree) →
       IsLed old.reverse table end first names x → Denotes old.reverse table id end (alternation (item_trees old.reverse names x items))
 
 -- what contracts see of a trie of literals: the strings in which they are read, in order of preference

@@ -15,7 +15,7 @@ use Rattle.thompson_nfa.specs.declared.which_captures.WhichCaptures.{WhichCaptur
 -- n more states with so many bytes are refused: more states are wanted than can be numbered, the limit is passed by their
 -- bytes, or memory lacks. The count of bytes stops at the largest number of 64 bits, which no limit is below.
 abbrev pub RefusesStep : Assembly → ℕ → ℕ → BuildError → Type 0
-RefusesStep b n bytes error.TooManyStates = greatest_index + 1 < length b.parts + n
+RefusesStep b n bytes error.TooManyStates = greatest_index + 1 < length b.drafts + n
 RefusesStep b n bytes (error.ExceededSizeLimit limit) = (b.size_limit ≡ Some limit) × (limit < sum_of_bytes b + bytes) × (limit < 18446744073709551615)
 RefusesStep b n bytes error.NoMemory = Unit {0}
 RefusesStep b n bytes _ = ⊥
@@ -40,12 +40,12 @@ pub record Stays (old new : Assembly) (n bytes : ℕ) (e : BuildError) : Type 0 
 
 -- a fragment of n states for the tree is refused, and the builder has its settings
 pub record Refuses (kept : WhichCaptures) (old new : Assembly) (n : ℕ) (x : Tree) (e : BuildError) : Type 0 where
-  pub settings : new ≡ record old { parts = new.parts; groups = new.groups }
+  pub settings : new ≡ record old { drafts = new.drafts; groups = new.groups }
   pub cause : RefusesTree kept (length old.starts) old n x e
 
 -- the same for a fragment without groups
 pub record Quits (old new : Assembly) (n : ℕ) (e : BuildError) : Type 0 where
-  pub settings : new ≡ record old { parts = new.parts; groups = new.groups }
+  pub settings : new ≡ record old { drafts = new.drafts; groups = new.groups }
   pub cause : RefusesStates old n e
 
 -- a state at an end of a group of pattern p is refused
@@ -55,5 +55,5 @@ RefusesGroup p index b e = RefusesStep b 1 24 e
 
 -- the same, where groups may have been noted before
 pub record QuitsGroup (old new : Assembly) (index : ℕ) (e : BuildError) : Type 0 where
-  pub settings : new ≡ record old { parts = new.parts; groups = new.groups }
+  pub settings : new ≡ record old { drafts = new.drafts; groups = new.groups }
   pub cause : RefusesGroup (length old.starts) index old e

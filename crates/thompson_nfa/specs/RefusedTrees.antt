@@ -15,7 +15,7 @@ use Rattle.thompson_nfa.specs.Room.{list_room}
 
 -- n states are refused, some of which may have been added
 pub record Breaks (old new : Assembly) (n : ℕ) (e : BuildError) : Type 0 where
-  pub settings : new ≡ record old { parts = new.parts }
+  pub settings : new ≡ record old { drafts = new.drafts }
   pub cause : RefusesStates old n e
 
 -- the limit, if there is one, has room for as many states as can be numbered

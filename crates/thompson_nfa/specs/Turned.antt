@@ -1,4 +1,4 @@
--- In which order parts are met: from the first, or from the last where the automaton reads downwards.
+-- In which order parts are met: from the first, or from the last where the automaton reads in reverse.
 use Rattle.std.specs.Prelude.{ℕ, ◌+◌, ◌-◌, Bool, true, false, List, length, take, drop}
 
 -- the place of the part that is met after so many

@@ -4,7 +4,7 @@ use Rattle.hir_core.specs.Tree.{Tree, empty, never, alternation}
 use Rattle.hir_core.specs.Means.{Looks}
 use Rattle.hir_core.specs.PreferredEnds.{preferred_ends}
 use Rattle.hir_core.specs.Facts.{LoopsRead}
-use Rattle.nfa_core.specs.BuilderStates.{Assembly, part_at, empty_part}
+use Rattle.nfa_core.specs.BuilderStates.{Assembly, draft_at, empty_draft}
 use Rattle.nfa_core.specs.Renaming.{stands_for}
 use Rattle.nfa_core.specs.Drafted.{Table}
 use Rattle.thompson_nfa.specs.Compiled.{Grows, Finishes, AllTame, sum_of_bytes}
@@ -87,16 +87,16 @@ last_of (q ∷ r ∷ qs) = last_of (r ∷ qs)
 -- At most so many states were added since `old`, with 4096 bytes for each and eight less for all: the end, and behind it states
 -- that are never led on.
 pub record HasStates (old new : Assembly) (end : ℕ) (most : ℕ) : Type 0 where
-  pub end_is : end ≡ length old.parts
-  pub there : end < length new.parts
+  pub end_is : end ≡ length old.drafts
+  pub there : end < length new.drafts
   pub grows : Grows old new
   pub groups_are : new.groups ≡ old.groups
-  pub tame : AllTame true (length old.parts) new
-  pub waits : part_at new.parts end ≡ empty_part 0
-  pub stands : (q : ℕ) → end < q → q < length new.parts → stands_for (part_at new.parts q) ≡ None
-  pub states : length new.parts ≤ length old.parts + most
-  pub bytes : sum_of_bytes new + 8 + 4096 * length old.parts ≤ sum_of_bytes old + 4096 * length new.parts
-  pub numbered : length new.parts ≤ greatest_index + 1
+  pub tame : AllTame true (length old.drafts) new
+  pub waits : draft_at new.drafts end ≡ empty_draft 0
+  pub stands : (q : ℕ) → end < q → q < length new.drafts → stands_for (draft_at new.drafts q) ≡ None
+  pub states : length new.drafts ≤ length old.drafts + most
+  pub bytes : sum_of_bytes new + 8 + 4096 * length old.drafts ≤ sum_of_bytes old + 4096 * length new.drafts
+  pub numbered : length new.drafts ≤ greatest_index + 1
 
 -- What is read along the path, once its last ranges lead on, is what is read by the sequences. One state is for the end, and
 -- four for each sequence, of which the path's nodes are still to be made.
@@ -109,8 +109,8 @@ pub record IsCompiling (old new : Assembly) (end : ℕ) (compiled : SlotTable (L
   pub path : path_of nodes ≡ last_of qs
   pub limbs : List Limb
   pub nodes_are : nodes ≡ map stage_of limbs
-  pub below : LimbsBelow (length new.parts) limbs
-  pub leads : (table : Table) → Finishes end new.parts end table → LimbsLead old.reverse table end limbs
+  pub below : LimbsBelow (length new.drafts) limbs
+  pub leads : (table : Table) → Finishes end new.drafts end table → LimbsLead old.reverse table end limbs
   pub reads : ReadsAs (whole_tree old.reverse limbs) (alternation (map (read_tree old.reverse) qs))
 
 -- a class is being compiled: some sequences were added since some builder

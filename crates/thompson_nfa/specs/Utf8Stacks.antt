@@ -1,7 +1,7 @@
 -- A compiler of sequences of byte ranges: the path of the last sequence, whose states aren't made yet, and the states that
 -- were made.
 use Rattle.std.specs.Prelude.{◌≡◌, ◌⊎◌, ℕ, ◌+◌, ◌<◌, ◌≤◌, List, [], ◌∷◌, ◌++◌, length, map, Option, Some, None, IsTrue}
-use Rattle.nfa_core.specs.BuilderStates.{Assembly, part_at, sparse_part}
+use Rattle.nfa_core.specs.BuilderStates.{Assembly, draft_at, sparse_draft}
 use Rattle.nfa_core.specs.Transitions.{range_of}
 use Rattle.nfa_core.specs.declared.transition.Transition.{Transition}
 use Rattle.nfa_core.specs.declared.build_error.BuildError.{BuildError}
@@ -54,11 +54,11 @@ ComesAfter (r ∷ p) q = IsBefore (r ∷ p) q
 -- what a place holds is a state behind the end, with this content
 abbrev pub IsKept : Assembly → ℕ → Option (List Transition × ℕ) → Type 0
 IsKept b end None = Unit {0}
-IsKept b end (Some (key, id)) = (end < id) × (id < length b.parts) × (part_at b.parts id ≡ sparse_part (map range_of key))
+IsKept b end (Some (key, id)) = (end < id) × (id < length b.drafts) × (draft_at b.drafts id ≡ sparse_draft (map range_of key))
 
 -- the end is there, and all that the table keeps is too
 pub record Keeps (b : Assembly) (end : ℕ) (table : SlotTable (List Transition)) : Type 0 where
-  pub end_there : end < length b.parts
+  pub end_there : end < length b.drafts
   pub ready : IsTrue (is_ready table)
   pub kept : (at : ℕ) → IsKept b end (held_at table at)
 
@@ -66,9 +66,9 @@ pub record Keeps (b : Assembly) (end : ℕ) (table : SlotTable (List Transition)
 pub record Compiles (old new : Assembly) (end : ℕ) (trans : List (ℕ × ℕ × ℕ)) (id : ℕ) : Type 0 where
   pub rises : RisesIn 0 trans
   pub behind : end < id
-  pub there : id < length new.parts
-  pub here : part_at new.parts id ≡ sparse_part trans
-  pub how : (new ≡ old) ⊎ Added old new id (sparse_part trans) old.groups
+  pub there : id < length new.drafts
+  pub here : draft_at new.drafts id ≡ sparse_draft trans
+  pub how : (new ≡ old) ⊎ Added old new id (sparse_draft trans) old.groups
 
 -- the state of the path's top node was made, whose last range leads to the next state
 pub record MakesTop (old new : Assembly) (end : ℕ) (ns0 ns1 : List Stage) (next id : ℕ) : Type 0 where

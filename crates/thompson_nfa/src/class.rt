@@ -2,14 +2,14 @@
 ghost use Rattle.std.specs.Prelude.{◌≡◌, ◌<◌, ◌≤◌, ◌*◌, length, map, take, All, IfOk, IfErr, MatchResult, IsTrue};
 ghost use Rattle.hir_core.specs.Facts.{is_ascending};
 ghost use Rattle.hir_core.specs.Tree.{byte_class};
-ghost use Rattle.nfa_core.specs.BuilderStates.{sparse_part, AscendsFrom};
+ghost use Rattle.nfa_core.specs.BuilderStates.{sparse_draft, AscendsFrom};
 ghost use Rattle.nfa_core.specs.Transitions.{range_of};
 ghost use Rattle.thompson_nfa.specs.Added.{Added};
 ghost use Rattle.thompson_nfa.specs.Compiled.{Makes, Does};
 ghost use Rattle.thompson_nfa.specs.Refusals.{Quits, Stays};
 
 use crate::fragment::Fragment;
-use crate::parts::add_empty;
+use crate::drafts::add_empty;
 use nfa_core::{BuildError, Builder, Transition};
 use search_core::StateID;
 use std::alloc::{AllocError, Global};
@@ -58,7 +58,7 @@ fn add_ranges(
     next: StateID,
 ) -> Result<StateID, BuildError>
     requires { IsTrue (is_ascending ranges.now) }
-    ensures added { IfOk result (λ id. Added builder.old builder.new id (sparse_part (map (λ r. (r.0, r.1, next)) ranges.now)) builder.old.groups) }
+    ensures added { IfOk result (λ id. Added builder.old builder.new id (sparse_draft (map (λ r. (r.0, r.1, next)) ranges.now)) builder.old.groups) }
     ensures few { IfOk result (λ _. length ranges.now ≤ 256) }
     ensures refused { IfErr result (λ e. Stays builder.old builder.new 1 2072 e) }
 {

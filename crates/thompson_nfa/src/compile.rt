@@ -12,7 +12,7 @@ use crate::fragment::Fragment;
 use crate::how::How;
 use crate::leaves::{empty, fail, literal, look, turned_place};
 use crate::literals::{all_literals, compile_literals};
-use crate::parts::{add_choice, add_empty, end_group, lead, start_group};
+use crate::drafts::{add_choice, add_empty, end_group, lead, start_group};
 use crate::scalar_class::compile_scalars;
 use crate::shared::Shared;
 use crate::which_captures::WhichCaptures;
@@ -321,7 +321,7 @@ fn option(
     exit: StateID,
 ) -> Result<Fragment, BuildError>
     requires ready { IsReady how.which builder.old }
-    requires there { exit < length builder.old.parts }
+    requires there { exit < length builder.old.drafts }
     ensures made { IfOk result (λ f. Makes builder.old builder.new f.start f.end (room how.shrink x.now + 1)) }
     ensures denotes { IfOk result (λ f. DoesOption builder.old builder.new f.start f.end exit greedy x.now) }
     ensures groups { IfOk result (λ _. builder.new.groups ≡ noted how.which (length builder.old.starts) (x.now) builder.old.groups) }

@@ -22,7 +22,7 @@ pub fn spans_have_edges_that_are_read_as_they_are()
     ensures { (t : Terminator) (h : List ℕ) (s e : ℕ) → e ≤ length h → All (λ byte. byte < 256) h → IsRead (span t h s e) }
 {}
 
-/// A state has a look exactly where one of the trees uses it; where the automaton reads downwards, the look that
+/// A state has a look exactly where one of the trees uses it; where the automaton reads in reverse, the look that
 /// the tree uses is the reverse of the state's.
 pub fn states_have_the_looks_that_trees_use()
     ensures { (o : Options) (xs : List Tree) (n : Nfa) → IsCompiled o xs n → (l : Look) →
@@ -30,7 +30,7 @@ pub fn states_have_the_looks_that_trees_use()
         ↔ ((p : ℕ) × (x : Tree) × (slice_get xs p ≡ Some x) × (has_look (looks_used x) (turned (reverse_of o) l) ≡ true)) }
 {}
 
-/// Read upwards, the ends from the unanchored start are those from the patterns' starts, pattern after pattern at
+/// Read forward, the ends from the unanchored start are those from the patterns' starts, pattern after pattern at
 /// one place after the other, repeats dropped, whatever the loops read. So what is said of the orders of the
 /// patterns' ends alone tells all orders.
 pub fn unanchored_ends_are_those_of_the_patterns()
@@ -40,9 +40,9 @@ pub fn unanchored_ends_are_those_of_the_patterns()
         (places_from i (suc t.end - i))) }
 {}
 
-/// Over one text, from places of it, upwards pattern p is found from i to j exactly where it is found downwards
+/// Over one text, from places of it, forward pattern p is found from i to j exactly where it is found in reverse
 /// from j to i: from the pattern's own starts, and from those that lead to all patterns. From the unanchored
-/// start an end is found upwards exactly where downwards, from there, a start is found that isn't before the
+/// start an end is found forward exactly where in reverse, from there, a start is found that isn't before the
 /// search's. It holds for every tree, whatever its loops read.
 pub fn both_directions_find_the_same_spans()
     ensures patterns { (o r : Options) (xs : List Tree) (n m : Nfa) → AreBothWays o r xs n m →

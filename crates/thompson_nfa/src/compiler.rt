@@ -67,7 +67,7 @@ impl Compiler {
 
     /// The automaton of these trees, each as a pattern of its own, numbered from 0.
     ///
-    /// It is refused where groups are asked for in an automaton that reads downwards, or break a rule, where
+    /// It is refused where groups are asked for in an automaton that reads in reverse, or break a rule, where
     /// there are more patterns or states than can be numbered, where the states take more bytes than they may,
     /// and where memory lacks.
     pub fn build_many_from_hir(&mut self, exprs: &[Hir]) -> Result<NFA, BuildError>

@@ -75,7 +75,7 @@ impl Config {
         }
     }
 
-    /// Whether an automaton that reads downwards is made smaller, at the cost of the time that this takes.
+    /// Whether an automaton that reads in reverse is made smaller, at the cost of the time that this takes.
     /// Off where it isn't set.
     pub fn shrink(self, yes: bool) -> Config
         ensures { result ≡ record self { shrink = Some yes } }

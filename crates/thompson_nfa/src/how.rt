@@ -5,6 +5,6 @@ use crate::which_captures::WhichCaptures;
 pub(crate) struct How {
     /// For which groups there are states.
     pub(crate) which: WhichCaptures,
-    /// Whether the automaton reads downwards and classes of characters are made smaller.
+    /// Whether the automaton reads in reverse and classes of characters are made smaller.
     pub(crate) shrink: bool,
 }

@@ -6,7 +6,7 @@ ghost use Rattle.thompson_nfa.specs.Refusals.{Quits};
 ghost use Rattle.thompson_nfa.specs.Turned.{turned_place};
 
 use crate::fragment::Fragment;
-use crate::parts::{add_empty, add_fail, add_look, add_range, lead};
+use crate::drafts::{add_empty, add_fail, add_look, add_range, lead};
 use look_core::Look;
 use nfa_core::{BuildError, Builder};
 
@@ -47,7 +47,7 @@ pub(crate) fn byte_range(builder: &mut Builder, start: u8, end: u8) -> Result<Fr
     Ok(Fragment { start: id, end: id })
 }
 
-/// One state that leads on where the look holds; where the automaton reads downwards, it has the look that
+/// One state that leads on where the look holds; where the automaton reads in reverse, it has the look that
 /// holds there.
 #[tactic(auto, using(crate::proofs::LeafLemmas::look_does, crate::proofs::LeafLemmas::look_made, crate::proofs::ProgressLemmas::first_quits))]
 pub(crate) fn look(builder: &mut Builder, assertion: Look) -> Result<Fragment, BuildError>

@@ -19,7 +19,7 @@ mod literal_stems;
 mod literal_texts;
 mod literal_trie;
 mod literals;
-mod parts;
+mod drafts;
 mod patterns;
 mod prefix;
 mod range_copy;

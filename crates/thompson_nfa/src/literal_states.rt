@@ -1,6 +1,6 @@
 //! The states of a trie's nodes.
 ghost use Rattle.std.specs.Prelude.{◌≡◌, ◌≤◌, ◌<◌, ◌+◌, ◌*◌, ◌++◌, [], ◌∷◌, length, map, All, IfOk, IfErr, MatchResult};
-ghost use Rattle.nfa_core.specs.BuilderStates.{sparse_part, union_part};
+ghost use Rattle.nfa_core.specs.BuilderStates.{sparse_draft, union_draft};
 ghost use Rattle.nfa_core.specs.Transitions.{range_of};
 ghost use Rattle.thompson_nfa.specs.Added.{Added};
 ghost use Rattle.thompson_nfa.specs.LiteralGroups.{Ascends, AreInside};
@@ -42,7 +42,7 @@ fn add_chunk(
 ) -> Result<StateID, BuildError>
     requires inside { AreInside 0 (length names.now) edges.now }
     requires ascending { Ascends 0 edges.now 256 }
-    ensures added { IfOk result (λ id. Added builder.old builder.new id (sparse_part (edge_ranges names.now edges.now)) builder.old.groups) }
+    ensures added { IfOk result (λ id. Added builder.old builder.new id (sparse_draft (edge_ranges names.now edges.now)) builder.old.groups) }
     ensures refused { IfErr result (λ e. Stays builder.old builder.new 1 2072 e) }
 {
     let all = transitions(alloc, edges, names)?;
@@ -72,7 +72,7 @@ fn add_item(
 
 /// Adds a state that leads to each of these, the preferred first.
 fn add_ways(builder: &mut Builder, ways: Vec<StateID>) -> Result<StateID, BuildError>
-    ensures { MatchResult result (λ id. Added builder.old builder.new id (union_part ways.items) builder.old.groups) (λ e. Stays builder.old builder.new 1 (24 + 4 * length ways.items) e) }
+    ensures { MatchResult result (λ id. Added builder.old builder.new id (union_draft ways.items) builder.old.groups) (λ e. Stays builder.old builder.new 1 (24 + 4 * length ways.items) e) }
 {
     builder.add_union(ways)
 }
@@ -92,8 +92,8 @@ pub(crate) fn add_node(
     names: &[StateID],
     end: StateID,
 ) -> Result<StateID, BuildError>
-    requires end { end < length builder.old.parts }
-    requires names { All (λ q. q < length builder.old.parts) names.now }
+    requires end { end < length builder.old.drafts }
+    requires names { All (λ q. q < length builder.old.drafts) names.now }
     requires chunks { AreChunks 0 (length names.now) (map (λ x. x.items) items.now) }
     requires some { 1 ≤ length items.now }
     requires few { length items.now ≤ 2 * chunks_in (map (λ x. x.items) items.now) + 1 }

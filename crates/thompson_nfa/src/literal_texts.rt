@@ -1,6 +1,6 @@
 //! The states of a text that is read byte by byte.
 ghost use Rattle.std.specs.Prelude.{◌≡◌, ◌<◌, length, MatchResult, IfOk, IfErr};
-ghost use Rattle.nfa_core.specs.BuilderStates.{range_part};
+ghost use Rattle.nfa_core.specs.BuilderStates.{range_draft};
 ghost use Rattle.thompson_nfa.specs.Added.{Added};
 ghost use Rattle.thompson_nfa.specs.LiteralTexts.{AddsText};
 ghost use Rattle.thompson_nfa.specs.Refusals.{Stays, Quits};
@@ -10,7 +10,7 @@ use search_core::StateID;
 
 /// Adds a state that reads the byte and leads on to the state `next`.
 fn add_byte(builder: &mut Builder, byte: u8, next: StateID) -> Result<StateID, BuildError>
-    ensures { MatchResult result (λ id. Added builder.old builder.new id (range_part byte byte next) builder.old.groups) (λ e. Stays builder.old builder.new 1 24 e) }
+    ensures { MatchResult result (λ id. Added builder.old builder.new id (range_draft byte byte next) builder.old.groups) (λ e. Stays builder.old builder.new 1 24 e) }
 {
     builder.add_range(Transition {
         start: byte,
@@ -25,7 +25,7 @@ pub(crate) fn add_text(
     text: &[u8],
     next: StateID,
 ) -> Result<StateID, BuildError>
-    requires { next < length builder.old.parts }
+    requires { next < length builder.old.drafts }
     ensures added { IfOk result (λ id. AddsText builder.old builder.new next text.now id) }
     ensures refused { IfErr result (λ e. Quits builder.old builder.new (length text.now) e) }
 {

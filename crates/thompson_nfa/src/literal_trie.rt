@@ -9,7 +9,7 @@ use crate::fragment::Fragment;
 use crate::literal_nodes::nodes;
 use crate::literal_states::add_node;
 use crate::literal_texts::add_text;
-use crate::parts::add_empty;
+use crate::drafts::add_empty;
 use nfa_core::{BuildError, Builder};
 use search_core::StateID;
 use std::alloc::{AllocError, Global};
@@ -26,7 +26,7 @@ fn same_names(alloc: Global, id: StateID, len: usize) -> Result<Vec<StateID>, Al
     Ok(names)
 }
 
-/// One of the strings, an earlier one preferred, by the nodes of a trie. Where the automaton reads downwards, the
+/// One of the strings, an earlier one preferred, by the nodes of a trie. Where the automaton reads in reverse, the
 /// strings are those that are read, from the last byte of what they stand for.
 fn compile_strings(
     builder: &mut Builder,

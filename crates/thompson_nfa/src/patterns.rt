@@ -2,7 +2,7 @@
 ghost use Rattle.std.specs.Prelude.{◌≡◌, ◌≢◌, ◌<◌, ◌≤◌, ◌+◌, ◌&&◌, true, false, [], ◌∷◌, length, IfOk, IfErr, MatchResult};
 ghost use Rattle.std.specs.List.{list_all};
 ghost use Rattle.search_core.specs.Index.{greatest_index};
-ghost use Rattle.nfa_core.specs.BuilderStates.{match_part, union_part, part_at, is_sparse};
+ghost use Rattle.nfa_core.specs.BuilderStates.{match_draft, union_draft, draft_at, is_sparse};
 ghost use Rattle.thompson_nfa.specs.declared.which_captures.WhichCaptures.TheVariants as which_captures;
 ghost use Rattle.nfa_core.specs.Renaming.{past};
 ghost use Rattle.thompson_nfa.specs.Added.{Added};
@@ -16,7 +16,7 @@ ghost use Rattle.thompson_nfa.specs.Room.{room};
 use crate::compile::captured;
 use crate::config::Config;
 use crate::how::How;
-use crate::parts::{add_choice, add_empty, add_fail, lead};
+use crate::drafts::{add_choice, add_empty, add_fail, lead};
 use crate::prefix::{add_prefix, all_anchored};
 use crate::shared::Shared;
 use hir_core::Hir;
@@ -34,7 +34,7 @@ pub(crate) struct Starts {
 /// Adds a state in which the pattern that was begun matches.
 fn add_match(builder: &mut Builder) -> Result<StateID, BuildError>
     requires { builder.old.is_open ≡ true }
-    ensures { MatchResult result (λ id. Added builder.old builder.new id (match_part (length builder.old.starts)) builder.old.groups) (λ e. Stays builder.old builder.new 1 24 e) }
+    ensures { MatchResult result (λ id. Added builder.old builder.new id (match_draft (length builder.old.starts)) builder.old.groups) (λ e. Stays builder.old builder.new 1 24 e) }
 {
     builder.add_match()
 }
@@ -49,7 +49,7 @@ fn compile_pattern(
     expr: &Hir,
 ) -> Result<StateID, BuildError>
     requires closed { builder.old.is_open ≡ false }
-    requires upward { builder.old.reverse ≡ true → how.which ≡ which_captures.None }
+    requires forward { builder.old.reverse ≡ true → how.which ≡ which_captures.None }
     requires numbered { length builder.old.starts ≤ greatest_index }
     ensures has { IfOk result (λ start. HasAll how.which builder.old builder.new (start ∷ []) (expr.now ∷ []) (room how.shrink expr.now + 3) 4) }
     ensures refused { IfErr result (λ e. RefusesPatterns how.which builder.old (room how.shrink expr.now + 3) (expr.now ∷ []) e) }
@@ -73,10 +73,10 @@ fn compile_further(
     exprs: &[Hir],
 ) -> Result<(), BuildError>
     requires closed { builder.old.is_open ≡ false }
-    requires upward { builder.old.reverse ≡ true → how.which ≡ which_captures.None }
+    requires forward { builder.old.reverse ≡ true → how.which ≡ which_captures.None }
     requires numbered { length builder.old.starts + length exprs.now ≤ greatest_index + 1 }
-    requires there { union < length builder.old.parts }
-    requires kind { is_sparse (part_at builder.old.parts union) ≡ false }
+    requires there { union < length builder.old.drafts }
+    requires kind { is_sparse (draft_at builder.old.drafts union) ≡ false }
     ensures has { IfOk result (λ _. LeadsToFurther how.which union builder.old builder.new exprs.now (room_for how.shrink exprs.now)) }
     ensures refused { IfErr result (λ e. RefusesPatterns how.which builder.old (room_for how.shrink exprs.now) exprs.now e) }
 {
@@ -97,7 +97,7 @@ fn compile_patterns(
     exprs: &[Hir],
 ) -> Result<StateID, BuildError>
     requires closed { builder.old.is_open ≡ false }
-    requires upward { builder.old.reverse ≡ true → how.which ≡ which_captures.None }
+    requires forward { builder.old.reverse ≡ true → how.which ≡ which_captures.None }
     requires numbered { length builder.old.starts + length exprs.now ≤ greatest_index + 1 }
     ensures has { IfOk result (λ c. LeadsToPatterns how.which builder.old builder.new c exprs.now (room_for how.shrink exprs.now + 1)) }
     ensures refused { IfErr result (λ e. RefusesPatterns how.which builder.old (room_for how.shrink exprs.now + 1) exprs.now e) }
@@ -142,7 +142,7 @@ pub(crate) fn compile_all(
     requires captures { (reverse_of config.now && is_any (captures_of config.now)) ≡ false }
     requires numbered { length exprs.now ≤ greatest_index + 1 }
     ensures assembled { IfOk result (λ s. IsAssembled config.now exprs.now builder.new s.anchored s.unanchored) }
-    ensures apart { IfOk result (λ s. past builder.new.parts s.anchored ≢ s.unanchored) }
+    ensures apart { IfOk result (λ s. past builder.new.drafts s.anchored ≢ s.unanchored) }
     ensures refused { IfErr result (λ e. RefusesPatterns (captures_of config.now) builder.old (room_for (is_shrunk config.now) exprs.now + 4) exprs.now e) }
 {
     let which = config.get_which_captures();

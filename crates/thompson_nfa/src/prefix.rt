@@ -1,21 +1,21 @@
 //! What stands before the patterns, where a search may begin at each place.
 ghost use Rattle.std.specs.Prelude.{◌≡◌, ◌≤◌, ◌<◌, ◌+◌, [], ◌∷◌, length, MatchResult};
 ghost use Rattle.std.specs.List.{list_all};
-ghost use Rattle.nfa_core.specs.BuilderStates.{sparse_part};
+ghost use Rattle.nfa_core.specs.BuilderStates.{sparse_draft};
 ghost use Rattle.thompson_nfa.specs.Added.{Added};
 ghost use Rattle.thompson_nfa.specs.Compilations.{is_anchored_tree};
 ghost use Rattle.thompson_nfa.specs.Prefix.{HasPrefix};
 ghost use Rattle.thompson_nfa.specs.Refusals.{Stays};
 ghost use Rattle.thompson_nfa.specs.RefusedTrees.{Breaks};
 
-use crate::parts::{add_choice, add_empty, lead};
+use crate::drafts::{add_choice, add_empty, lead};
 use hir_core::Hir;
 use look_core::Look;
 use nfa_core::{BuildError, Builder, Transition};
 use search_core::StateID;
 use std::alloc::Global;
 
-/// Whether each tree's spans begin, or end where the automaton reads downwards, at the haystack's edge.
+/// Whether each tree's spans begin, or end where the automaton reads in reverse, at the haystack's edge.
 pub(crate) fn all_anchored(exprs: &[Hir], reverse: bool) -> bool
     ensures { result ≡ list_all (is_anchored_tree reverse) exprs.now }
 {
@@ -40,7 +40,7 @@ fn is_anchored(expr: &Hir, reverse: bool) -> bool
 
 /// Adds a state that reads any byte.
 fn add_any_byte(builder: &mut Builder, alloc: Global, next: StateID) -> Result<StateID, BuildError>
-    ensures { MatchResult result (λ id. Added builder.old builder.new id (sparse_part ((0, 255, next) ∷ [])) builder.old.groups) (λ e. Stays builder.old builder.new 1 32 e) }
+    ensures { MatchResult result (λ id. Added builder.old builder.new id (sparse_draft ((0, 255, next) ∷ [])) builder.old.groups) (λ e. Stays builder.old builder.new 1 32 e) }
 {
     let mut transitions = Vec::new(alloc);
     transitions.push(Transition {

@@ -12,12 +12,12 @@ use crate::how::How;
 use crate::scalar_forward::compile_scalars_forward;
 use crate::shared::Shared;
 use crate::shrunk_class::compile_scalars_shrunk;
-use crate::utf8_suffix::compile_scalars_down;
+use crate::utf8_suffix::compile_scalars_reverse;
 use nfa_core::{BuildError, Builder};
 use std::alloc::Global;
 
 /// A class of scalars: one state where it is ASCII, and else states for the sequences of byte ranges that
-/// spell its scalars, which share endings upwards and beginnings downwards, or both where classes are made
+/// spell its scalars, which share endings forward and beginnings in reverse, or both where classes are made
 /// smaller.
 ///
 /// As `regex_automata::nfa::thompson::compiler::Compiler::c_unicode_class`.
@@ -47,6 +47,6 @@ pub(crate) fn compile_scalars(
         let shrunk = compile_scalars_shrunk(builder, alloc, trie, utf8, ranges)?;
         return Ok(shrunk);
     }
-    let down = compile_scalars_down(builder, alloc, &mut shared.suffixes, ranges)?;
-    Ok(down)
+    let is_reverse = compile_scalars_reverse(builder, alloc, &mut shared.suffixes, ranges)?;
+    Ok(is_reverse)
 }

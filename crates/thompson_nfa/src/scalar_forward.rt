@@ -1,4 +1,4 @@
-//! Fragments of classes of scalars for automata that read upwards: their sequences share states.
+//! Fragments of classes of scalars for automata that read forward: their sequences share states.
 ghost use Rattle.std.specs.Prelude.{◌≡◌, ◌≤◌, ◌+◌, ◌*◌, ◌++◌, ◌∷◌, [], ℕ, List, true, false, length, IfOk, IfErr};
 ghost use Rattle.hir_core.specs.Facts.{count, is_ascending};
 ghost use Rattle.hir_core.specs.Sequences.{ranges_of, utf8_sequences};
@@ -70,7 +70,7 @@ pub(crate) fn compile_scalars_forward(
     ranges: &[(char, char)],
 ) -> Result<Fragment, BuildError>
     requires ascending { is_ascending ranges.now ≡ true }
-    requires upward { builder.old.reverse ≡ false }
+    requires forward { builder.old.reverse ≡ false }
     ensures made { IfOk result (λ f. Makes builder.old builder.new f.start f.end (count (char_class ranges.now))) }
     ensures does { IfOk result (λ f. Does builder.old builder.new f.start f.end (char_class ranges.now)) }
     ensures groups { IfOk result (λ _. builder.new.groups ≡ builder.old.groups) }

@@ -37,7 +37,7 @@ fn check_patterns(len: usize) -> Result<(), BuildError>
     Ok(())
 }
 
-/// Refuses groups in an automaton that reads downwards.
+/// Refuses groups in an automaton that reads in reverse.
 fn check_captures(config: &Config) -> Result<(), BuildError>
     ensures { MatchResult result (λ _. (reverse_of config.now && is_any (captures_of config.now)) ≡ false)
         (λ e. (e ≡ UnsupportedCaptures) × ((reverse_of config.now && is_any (captures_of config.now)) ≡ true)) }
@@ -107,7 +107,7 @@ fn finish(
     starts: Starts,
 ) -> Result<NFA, BuildError>
     requires assembled { IsAssembled config.now exprs.now builder.now starts.anchored starts.unanchored }
-    requires apart { past builder.now.parts starts.anchored ≢ starts.unanchored }
+    requires apart { past builder.now.drafts starts.anchored ≢ starts.unanchored }
     ensures compiled { IfOk result (λ n. IsCompiled config.now exprs.now n) }
     ensures refused { IfErr result (λ e. RefusesTrees config.now exprs.now e) }
 {

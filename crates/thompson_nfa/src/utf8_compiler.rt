@@ -1,7 +1,7 @@
 //! Classes as sequences of byte ranges, compiled one after the other to states that are shared.
 ghost use Rattle.std.specs.Prelude.{◌≡◌, ◌<◌, ◌≤◌, ◌+◌, ◌*◌, ◌++◌, [], ◌∷◌, ℕ, List, length, map, drop, IfOk, IfErr, IsTrue};
 ghost use Rattle.hir_core.specs.Sequences.{bytes_of};
-ghost use Rattle.nfa_core.specs.BuilderStates.{Assembly, sparse_part};
+ghost use Rattle.nfa_core.specs.BuilderStates.{Assembly, sparse_draft};
 ghost use Rattle.nfa_core.specs.Transitions.{range_of};
 ghost use Rattle.nfa_core.specs.declared.build_error.BuildError.TheVariants.{NoMemory};
 ghost use Rattle.thompson_nfa.specs.Added.{Added};
@@ -14,7 +14,7 @@ ghost use Rattle.thompson_nfa.specs.RangeTries.{IsBefore};
 ghost use Rattle.thompson_nfa.specs.Utf8Stacks.{fresh, path_of, RisesIn, StagesRise, AreBytes, ComesAfter, Keeps, Compiles, MakesTop, Pops, PopsUntil, Turns, PartsAt};
 
 use crate::fragment::Fragment;
-use crate::parts::add_empty;
+use crate::drafts::add_empty;
 use crate::utf8_state::{Utf8Node, Utf8State};
 use hir_core::Utf8Range;
 use nfa_core::{BuildError, Builder, Transition};
@@ -25,7 +25,7 @@ use std::alloc::Global;
 #[tactic(auto, using(crate::proofs::StackLemmas::rises_ascends, crate::proofs::StackLemmas::few_bytes, crate::proofs::StepLemmas::added_of, crate::proofs::StepLemmas::add_refused))]
 fn add_state(builder: &mut Builder, trans: Vec<Transition>) -> Result<StateID, BuildError>
     requires { RisesIn 0 (map range_of trans.items) }
-    ensures added { IfOk result (λ id. Added builder.old builder.new id (sparse_part (map range_of trans.items)) builder.old.groups) }
+    ensures added { IfOk result (λ id. Added builder.old builder.new id (sparse_draft (map range_of trans.items)) builder.old.groups) }
     ensures refused { IfErr result (λ e. Stays builder.old builder.new 1 2072 e) }
 {
     let id = builder.add_sparse(trans)?;

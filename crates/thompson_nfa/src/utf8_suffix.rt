@@ -1,17 +1,17 @@
-//! Fragments of classes of scalars for one who reads down: sequences of byte ranges that begin alike share
+//! Fragments of classes of scalars for one who reads in reverse: sequences of byte ranges that begin alike share
 //! states.
 ghost use Rattle.std.specs.Prelude.{◌≡◌, ◌<◌, ◌≤◌, ◌*◌, true, false, length, map, take, All, IfOk, IfErr, IsTrue};
 ghost use Rattle.hir_core.specs.Facts.{count, is_ascending};
 ghost use Rattle.hir_core.specs.Sequences.{bytes_of, ranges_of, utf8_sequences};
 ghost use Rattle.hir_core.specs.Tree.{char_class};
-ghost use Rattle.nfa_core.specs.BuilderStates.{part_at, is_sparse};
+ghost use Rattle.nfa_core.specs.BuilderStates.{draft_at, is_sparse};
 ghost use Rattle.thompson_nfa.specs.Compiled.{Makes, Does};
 ghost use Rattle.thompson_nfa.specs.Refusals.{Stays, Quits};
 ghost use Rattle.thompson_nfa.specs.SharedSuffixes.{key_of, AddsRange, SharesRange, SharesRanges, AddsSequence, AddsSequences};
 ghost use Rattle.thompson_nfa.specs.SlotTables.{is_ready};
 
 use crate::fragment::Fragment;
-use crate::parts::{add_choice, add_empty, lead};
+use crate::drafts::{add_choice, add_empty, lead};
 use crate::utf8_suffix_map::{Utf8SuffixKey, Utf8SuffixMap};
 use hir_core::{Utf8Range, Utf8Sequence, Utf8Sequences};
 use nfa_core::{BuildError, Builder, Transition};
@@ -121,7 +121,7 @@ fn share_ranges(
 }
 
 /// Adds a way of the choice to the states of the sequence, which lead to the end.
-fn add_sequence_down(
+fn add_sequence_reverse(
     builder: &mut Builder,
     suffixes: &mut Utf8SuffixMap,
     sequence: &Utf8Sequence,
@@ -130,8 +130,8 @@ fn add_sequence_down(
 ) -> Result<(), BuildError>
     requires ready { IsTrue (is_ready suffixes.old) }
     requires places { 0 < suffixes.old.capacity }
-    requires choice { choice < length builder.old.parts }
-    requires kind { is_sparse (part_at builder.old.parts choice) ≡ false }
+    requires choice { choice < length builder.old.drafts }
+    requires kind { is_sparse (draft_at builder.old.drafts choice) ≡ false }
     requires some { 1 ≤ length (ranges_of sequence.now) }
     requires few { length (ranges_of sequence.now) ≤ 4 }
     requires rising { All (λ r. r.0 ≤ r.1) (ranges_of sequence.now) }
@@ -148,7 +148,7 @@ fn add_sequence_down(
 }
 
 /// Adds a way of the choice for each sequence of the characters from `first` to `last`.
-fn add_sequences_down(
+fn add_sequences_reverse(
     builder: &mut Builder,
     suffixes: &mut Utf8SuffixMap,
     first: char,
@@ -158,23 +158,23 @@ fn add_sequences_down(
 ) -> Result<(), BuildError>
     requires ready { IsTrue (is_ready suffixes.old) }
     requires places { 0 < suffixes.old.capacity }
-    requires choice { choice < length builder.old.parts }
-    requires kind { is_sparse (part_at builder.old.parts choice) ≡ false }
+    requires choice { choice < length builder.old.drafts }
+    requires kind { is_sparse (draft_at builder.old.drafts choice) ≡ false }
     ensures added { IfOk result (λ _. AddsSequences choice end builder.old suffixes.old builder.new suffixes.new (utf8_sequences first last)) }
     ensures capacity { suffixes.new.capacity ≡ suffixes.old.capacity }
     ensures refused { IfErr result (λ e. Quits builder.old builder.new (4 * length (utf8_sequences first last)) e) }
 {
     for sequence in Utf8Sequences::new(first, last) {
-        add_sequence_down(builder, suffixes, &sequence, choice, end)?;
+        add_sequence_reverse(builder, suffixes, &sequence, choice, end)?;
     }
     Ok(())
 }
 
-/// A choice of the sequences of all ranges, which all lead to one common end, for a builder that reads down.
+/// A choice of the sequences of all ranges, which all lead to one common end, for a builder that reads in reverse.
 /// Sequences that begin alike share the states of their begin, as far as the map keeps them.
 ///
 /// As `regex_automata::nfa::thompson::compiler::Compiler::c_unicode_class_reverse_with_suffix`.
-pub(crate) fn compile_scalars_down(
+pub(crate) fn compile_scalars_reverse(
     builder: &mut Builder,
     alloc: Global,
     suffixes: &mut Utf8SuffixMap,
@@ -193,7 +193,7 @@ pub(crate) fn compile_scalars_down(
     let choice = add_choice(builder, alloc, true)?;
     let end = add_empty(builder)?;
     for range in ranges {
-        add_sequences_down(builder, suffixes, range.0, range.1, choice, end)?;
+        add_sequences_reverse(builder, suffixes, range.0, range.1, choice, end)?;
     }
     Ok(Fragment { start: choice, end })
 }

@@ -2,7 +2,7 @@ use Rattle.std.proofs.Common.{◌+◌, ◌<◌, ◌≤◌, length, drop, ◌∷�
 use Rattle.nfa_core.specs.Reached.{AreBelow}
 use Rattle.nfa_core.proofs.ForCallers.{has_from_all}
 use Rattle.determinize_core.proofs.AddedLemmas.{next_left, past_all}
-use Rattle.determinize_core.proofs.CloseLemmas.{closes_none, closes_more, closes_all, closes_cost, cut_cost}
+use Rattle.determinize_core.proofs.CloseAllLemmas.{closes_none, closes_more, closes_all, closes_cost, cut_cost}
 use Rattle.determinize_core.proofs.close_all.close_all.Goals as goal
 
 pub loop-k-init : goal.loop-k-init

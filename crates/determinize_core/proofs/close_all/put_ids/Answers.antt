@@ -3,7 +3,7 @@ use Rattle.std.specs.Bool.{nat_eq}
 use Rattle.nfa_core.specs.Reached.{AreBelow}
 use Rattle.nfa_core.specs.Walks.{join}
 use Rattle.nfa_core.proofs.ForCallers.{has_from_all, taken_below, left_below}
-use Rattle.determinize_core.proofs.CloseLemmas.{joins_one}
+use Rattle.determinize_core.proofs.CloseAllLemmas.{joins_one}
 use Rattle.determinize_core.proofs.close_all.put_ids.Goals as goal
 
 pub loop-id-init : goal.loop-id-init

@@ -1,6 +1,6 @@
 use Rattle.std.proofs.Common.{◌≡◌, ◌<◌, ◌∙◌, ap, refl, sym, subst, ◌∷◌, [], List, ℕ, All, length, reverse, append-nil}
 use Rattle.determinize_core.proofs.ClosureLemmas.{begins, goes_on, ends, counts, has_grown, cut_grown, cut_counts}
-use Rattle.determinize_core.proofs.TodoLemmas.{none_left}
+use Rattle.determinize_core.proofs.StackLemmas.{none_left}
 use Rattle.determinize_core.proofs.closure.epsilon_closure.Goals as goal
 
 pub loop-id-init : goal.loop-id-init

@@ -1,7 +1,7 @@
 use Rattle.std.proofs.Common.{refl, ap, ◌∙◌, ◌≤◌, length, arith}
 use Rattle.search_core.specs.Units.{unit_byte}
 use Rattle.nfa_core.proofs.ForCallers.{has_from_all}
-use Rattle.determinize_core.proofs.CloseLemmas.{few_once}
+use Rattle.determinize_core.proofs.CloseAllLemmas.{few_once}
 use Rattle.determinize_core.proofs.NextLemmas.{before_without_looks, before_same, before_gained, put_few}
 use Rattle.determinize_core.proofs.next_state.states_before.Goals as goal
 

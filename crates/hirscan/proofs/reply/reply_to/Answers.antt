@@ -1,5 +1,5 @@
 use Rattle.std.proofs.Common.{refl, ◌≡◌, ◌≤◌, ◌^◌, rules, codes, ◌++◌, decimal, length, arith}
-use Rattle.hirscan.specs.Tells.{kind_text, head_standing}
+use Rattle.hirscan.specs.Tells.{kind_text, value_of_head}
 use Rattle.hirscan.specs.Reply.{faulty, too_long}
 use Rattle.hirscan.proofs.ReplyLemmas.{few_patterns, head_len_le, reply_of_refusal, reply_of_search}
 use Rattle.hirscan.proofs.reply.reply_to.Goals as goal
@@ -21,7 +21,7 @@ slice_bounds-search_reply-start c = head_len_le _ _ _ _ c.in-Ok.ensures.ok
 
 pub returns-in-Ok : goal.returns-in-Ok
 returns-in-Ok c =
-    reply_of_search c.search_reply.result c.args.input.now _ (head_standing c.in-Ok.head) c.in-Ok.head.len c.if-input-gt-INPUT_LIMIT.false c.in-Ok.ensures.ok
+    reply_of_search c.search_reply.result c.args.input.now _ (value_of_head c.in-Ok.head) c.in-Ok.head.len c.if-input-gt-INPUT_LIMIT.false c.in-Ok.ensures.ok
     refl c.search_reply.ensures
 
 pub returns-then-input-gt-INPUT_LIMIT : goal.returns-then-input-gt-INPUT_LIMIT

@@ -2,7 +2,7 @@ use Rattle.std.proofs.Common.{ℕ, sym, ◌∙◌, subst}
 use Rattle.std.specs.Prelude.{Ok}
 use Rattle.lazy_dfa.specs.Caches.{HeldAt}
 use Rattle.lazy_dfa.specs.Dfas.{reader}
-use Rattle.lazy_dfa.specs.Stands.{IsWithinSpan}
+use Rattle.lazy_dfa.specs.PassPlaces.{IsWithinSpan}
 use Rattle.lazy_dfa.specs.declared.overlapping_state.Walk.TheVariants.{Fresh}
 use Rattle.lazy_dfa.specs.Walks.{WalkState}
 use Rattle.lazy_dfa.specs.WalkAnswers.{MakesCall, ReadsOn, value_before}
@@ -44,11 +44,11 @@ read_on-requires-clause-row g c =
     let h = begins_held c.args.dfa.now c.args.input.now c.args.cache.now c.start_of_pass.new.cache c.args.work.now.determinized
     c.start_of_pass.new.work.determinized c.args.work.now.inserted c.start_of_pass.new.work.inserted c.in-Ok.id
     (is_begun c.is_done.result c.args.input.now.start c.args.input.now.end c.is_done.ensures c.if-is_done.false) c.is_made.ensures
-    c.requires.own c.in-Ok.ensures.own c.in-Ok.ensures.start c.args.is_down c.requires.down (sym c.is_dead.ensures ∙ c.if-is_dead.false) in
+    c.requires.own c.in-Ok.ensures.own c.in-Ok.ensures.start c.args.is_reverse c.requires.is_reverse (sym c.is_dead.ensures ∙ c.if-is_dead.false) in
     (h.0, h.1, h.2)
 
 pub read_on-requires-clause-within : goal.read_on-requires-clause-within
-read_on-requires-clause-within g c = subst (IsWithinSpan c.args.input.now) (sym c.first_place-at.ensures) (first_within c.args.is_down c.args.input.now
+read_on-requires-clause-within g c = subst (IsWithinSpan c.args.input.now) (sym c.first_place-at.ensures) (first_within c.args.is_reverse c.args.input.now
     (not_done c.is_done.result c.args.input.now.start c.args.input.now.end c.is_done.ensures c.if-is_done.false))
 
 pub read_on-requires-clause-state : goal.read_on-requires-clause-state
@@ -57,13 +57,13 @@ read_on-requires-clause-state g c =
     (begins_held c.args.dfa.now c.args.input.now c.args.cache.now c.start_of_pass.new.cache c.args.work.now.determinized
     c.start_of_pass.new.work.determinized c.args.work.now.inserted c.start_of_pass.new.work.inserted c.in-Ok.id
     (is_begun c.is_done.result c.args.input.now.start c.args.input.now.end c.is_done.ensures c.if-is_done.false) c.is_made.ensures
-    c.requires.own c.in-Ok.ensures.own c.in-Ok.ensures.start c.args.is_down c.requires.down (sym c.is_dead.ensures ∙ c.if-is_dead.false))
+    c.requires.own c.in-Ok.ensures.own c.in-Ok.ensures.start c.args.is_reverse c.requires.is_reverse (sym c.is_dead.ensures ∙ c.if-is_dead.false))
 
 pub returns-clause-call : goal.returns-clause-call
 returns-clause-call g c = (begins_walk c.args.dfa.now c.args.input.now c.args.cache.now c.start_of_pass.new.cache c.args.work.now.determinized
     c.start_of_pass.new.work.determinized c.args.work.now.inserted c.start_of_pass.new.work.inserted c.in-Ok.id
     (is_begun c.is_done.result c.args.input.now.start c.args.input.now.end c.is_done.ensures c.if-is_done.false) c.is_made.ensures
-    c.requires.own c.in-Ok.ensures.own c.in-Ok.ensures.start c.args.is_down c.requires.down c.read_on.new.cache c.read_on.new.work.determinized
+    c.requires.own c.in-Ok.ensures.own c.in-Ok.ensures.start c.args.is_reverse c.requires.is_reverse c.read_on.new.cache c.read_on.new.work.determinized
     c.read_on.new.work.inserted c.read_on.result
     (subst (λ (at : ℕ). ReadsOn c.args.dfa.now c.args.input.now at c.start_of_pass.new.cache c.read_on.new.cache c.start_of_pass.new.work.determinized
     c.read_on.new.work.determinized c.start_of_pass.new.work.inserted c.read_on.new.work.inserted c.read_on.result) c.first_place-at.ensures c.read_on.ensures.reads)).0
@@ -72,7 +72,7 @@ pub returns-clause-err : goal.returns-clause-err
 returns-clause-err g c = (begins_walk c.args.dfa.now c.args.input.now c.args.cache.now c.start_of_pass.new.cache c.args.work.now.determinized
     c.start_of_pass.new.work.determinized c.args.work.now.inserted c.start_of_pass.new.work.inserted c.in-Ok.id
     (is_begun c.is_done.result c.args.input.now.start c.args.input.now.end c.is_done.ensures c.if-is_done.false) c.is_made.ensures
-    c.requires.own c.in-Ok.ensures.own c.in-Ok.ensures.start c.args.is_down c.requires.down c.read_on.new.cache c.read_on.new.work.determinized
+    c.requires.own c.in-Ok.ensures.own c.in-Ok.ensures.start c.args.is_reverse c.requires.is_reverse c.read_on.new.cache c.read_on.new.work.determinized
     c.read_on.new.work.inserted c.read_on.result
     (subst (λ (at : ℕ). ReadsOn c.args.dfa.now c.args.input.now at c.start_of_pass.new.cache c.read_on.new.cache c.start_of_pass.new.work.determinized
     c.read_on.new.work.determinized c.start_of_pass.new.work.inserted c.read_on.new.work.inserted c.read_on.result) c.first_place-at.ensures c.read_on.ensures.reads)).1

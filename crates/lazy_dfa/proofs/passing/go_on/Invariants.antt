@@ -3,23 +3,23 @@ use Rattle.lazy_dfa.specs.Caches.{IsCacheOf, IsRow}
 use Rattle.lazy_dfa.specs.Points.{point}
 use Rattle.lazy_dfa.specs.Scans.{first_place}
 use Rattle.lazy_dfa.specs.SearchAnswers.{pair_of}
-use Rattle.lazy_dfa.specs.Stands.{IsWithinSpan, tells, came, left_at, GoesBetween}
+use Rattle.lazy_dfa.specs.PassPlaces.{IsWithinSpan, tells, came, left_at, GoesBetween}
 use Rattle.lazy_dfa.proofs.PassLoopLemmas.{IsUnder}
 use Rattle.lazy_dfa.proofs.passing.go_on.Given as goal
 
 abbrev pub invariant-loop-turned : goal.invariant-loop-turned
 invariant-loop-turned g l = record {
   own : IsCacheOf l.dfa l.cache;
-  row : IsRow l.cache l.stand.id;
-  within : IsWithinSpan l.input l.stand.at;
-  running : tells l.is_down l.input ≡ true → IsSome l.cache.progress;
-  same : tells l.is_down l.input ≡ false → l.cache ≡ l.fn.cache;
+  row : IsRow l.cache l.position.id;
+  within : IsWithinSpan l.input l.position.at;
+  running : tells l.is_reverse l.input ≡ true → IsSome l.cache.progress;
+  same : tells l.is_reverse l.input ≡ false → l.cache ≡ l.fn.cache;
   goes : GoesBetween l.dfa l.input.earliest l.input.haystack
-      (point l.fn.cache l.fn.work.determinized l.fn.work.inserted (first_place l.is_down l.input.start l.input.end) l.fn.id None)
-      (point l.cache l.work.determinized l.work.inserted l.stand.at l.stand.id (pair_of l.stand.best))
-      (came l.is_down l.input l.stand.at);
-  under : IsUnder l.is_down l.input (first_place l.is_down l.input.start l.input.end) l.fn.cache l.cache (came l.is_down l.input l.stand.at);
+      (point l.fn.cache l.fn.work.determinized l.fn.work.inserted (first_place l.is_reverse l.input.start l.input.end) l.fn.id None)
+      (point l.cache l.work.determinized l.work.inserted l.position.at l.position.id (pair_of l.position.best))
+      (came l.is_reverse l.input l.position.at);
+  under : IsUnder l.is_reverse l.input (first_place l.is_reverse l.input.start l.input.end) l.fn.cache l.cache (came l.is_reverse l.input l.position.at);
 }
 
 abbrev pub decreases-loop-turned : goal.decreases-loop-turned
-decreases-loop-turned g l = left_at l.is_down l.input l.stand.at
+decreases-loop-turned g l = left_at l.is_reverse l.input l.position.at

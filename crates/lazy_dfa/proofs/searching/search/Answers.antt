@@ -5,7 +5,7 @@ use Rattle.search_types.specs.Modes.{is_anchored}
 use Rattle.lazy_dfa.specs.Dfas.{reader}
 use Rattle.lazy_dfa.proofs.LinkedLemmas.{AreBytes}
 use Rattle.lazy_dfa.proofs.SearchLemmas.{begins}
-use Rattle.lazy_dfa.proofs.SearchEndLemmas.{not_done, is_over, each_counts, boundary_counts, inside_counts, above_none, lower_end, done_ends, fails, none_ends, counted_ends, anchored_ends, lowest_ends, goes_up, goes_down}
+use Rattle.lazy_dfa.proofs.SearchEndLemmas.{not_done, is_over, each_counts, boundary_counts, inside_counts, above_none, lower_end, done_ends, fails, none_ends, counted_ends, anchored_ends, lowest_ends, goes_forward, goes_reverse}
 use Rattle.lazy_dfa.proofs.searching.search.Goals as goal
 
 pub loop-rest-init : goal.loop-rest-init
@@ -67,15 +67,15 @@ returns-then-end-eq0-clause-search g c = lowest_ends c.args.dfa.now c.args.input
     (ap is_anchored (sym c.get_anchored.ensures) ∙ sym c.is_anchored.ensures ∙ c.if-is_anchored.false)
     (sym c.end.ensures.value ∙ c.if-end-eq0.true)
 
-pub loop-rest-smaller-then-is_down : goal.loop-rest-smaller-then-is_down
-loop-rest-smaller-then-is_down g c = lower_end c.loop-rest.rest c.set_end.new.self (not_done c.is_done.result c.loop-rest.rest.start c.loop-rest.rest.end c.is_done.ensures c.loop-rest-test.true)
+pub loop-rest-smaller-then-is_reverse : goal.loop-rest-smaller-then-is_reverse
+loop-rest-smaller-then-is_reverse g c = lower_end c.loop-rest.rest c.set_end.new.self (not_done c.is_done.result c.loop-rest.rest.start c.loop-rest.rest.end c.is_done.ensures c.loop-rest-test.true)
     (above_none c.end.result c.loop-rest.rest.end c.end.ensures.value c.if-end-eq0.false)
-    (c.set_end.ensures ∙ ap (λ (e : ℕ). with_span c.loop-rest.rest.start (e - 1) c.loop-rest.rest) c.end-then-is_down.ensures.value)
+    (c.set_end.ensures ∙ ap (λ (e : ℕ). with_span c.loop-rest.rest.start (e - 1) c.loop-rest.rest) c.end-then-is_reverse.ensures.value)
 
-pub loop-rest-preserved-then-is_down : goal.loop-rest-preserved-then-is_down
-loop-rest-preserved-then-is_down g c = record {
+pub loop-rest-preserved-then-is_reverse : goal.loop-rest-preserved-then-is_reverse
+loop-rest-preserved-then-is_reverse g c = record {
   own = c.in-Ok.ensures.own;
-  stands = goes_down c.args.dfa.now c.args.input.now c.loop-rest.rest c.args.cache.now c.loop-rest.cache c.pass.new.cache c.args.work.now.determinized
+  stands = goes_reverse c.args.dfa.now c.args.input.now c.loop-rest.rest c.args.cache.now c.loop-rest.cache c.pass.new.cache c.args.work.now.determinized
       c.loop-rest.work.determinized c.pass.new.work.determinized c.args.work.now.inserted c.loop-rest.work.inserted
       c.pass.new.work.inserted c.is_made.ensures c.requires c.loop-rest.invariant.own (subst AreBytes c.haystack.ensures.value c.see_bytes.ensures)
       c.loop-rest.invariant.stands (not_done c.is_done.result c.loop-rest.rest.start c.loop-rest.rest.end c.is_done.ensures c.loop-rest-test.true) c.in-Ok.found c.in-Ok.ensures.pass
@@ -83,15 +83,15 @@ loop-rest-preserved-then-is_down g c = record {
       (inside_counts (reader c.args.dfa.now).between_characters c.loop-rest.rest.haystack c.in-Some.half.offset
       (sym c.is_between_characters-between_characters.ensures ∙ c.if-not-between_characters.false)
       (ap (is_boundary c.loop-rest.rest.haystack) (sym c.offset.ensures) ∙ sym c.is_char_boundary.ensures ∙ c.if-is_char_boundary.false))
-      (ap is_anchored (sym c.get_anchored.ensures) ∙ sym c.is_anchored.ensures ∙ c.if-is_anchored.false) (sym c.is_down-is_down.ensures ∙ c.if-is_down.true)
+      (ap is_anchored (sym c.get_anchored.ensures) ∙ sym c.is_anchored.ensures ∙ c.if-is_anchored.false) (sym c.is_reverse-is_reverse.ensures ∙ c.if-is_reverse.true)
       (above_none c.end.result c.loop-rest.rest.end c.end.ensures.value c.if-end-eq0.false) c.set_end.new.self
-      (c.set_end.ensures ∙ ap (λ (e : ℕ). with_span c.loop-rest.rest.start (e - 1) c.loop-rest.rest) c.end-then-is_down.ensures.value);
+      (c.set_end.ensures ∙ ap (λ (e : ℕ). with_span c.loop-rest.rest.start (e - 1) c.loop-rest.rest) c.end-then-is_reverse.ensures.value);
 }
 
 pub loop-rest-preserved : goal.loop-rest-preserved
 loop-rest-preserved g c = record {
   own = c.in-Ok.ensures.own;
-  stands = goes_up c.args.dfa.now c.args.input.now c.loop-rest.rest c.args.cache.now c.loop-rest.cache c.pass.new.cache c.args.work.now.determinized
+  stands = goes_forward c.args.dfa.now c.args.input.now c.loop-rest.rest c.args.cache.now c.loop-rest.cache c.pass.new.cache c.args.work.now.determinized
       c.loop-rest.work.determinized c.pass.new.work.determinized c.args.work.now.inserted c.loop-rest.work.inserted
       c.pass.new.work.inserted c.is_made.ensures c.requires c.loop-rest.invariant.own (subst AreBytes c.haystack.ensures.value c.see_bytes.ensures)
       c.loop-rest.invariant.stands (not_done c.is_done.result c.loop-rest.rest.start c.loop-rest.rest.end c.is_done.ensures c.loop-rest-test.true) c.in-Ok.found c.in-Ok.ensures.pass
@@ -99,7 +99,7 @@ loop-rest-preserved g c = record {
       (inside_counts (reader c.args.dfa.now).between_characters c.loop-rest.rest.haystack c.in-Some.half.offset
       (sym c.is_between_characters-between_characters.ensures ∙ c.if-not-between_characters.false)
       (ap (is_boundary c.loop-rest.rest.haystack) (sym c.offset.ensures) ∙ sym c.is_char_boundary.ensures ∙ c.if-is_char_boundary.false))
-      (ap is_anchored (sym c.get_anchored.ensures) ∙ sym c.is_anchored.ensures ∙ c.if-is_anchored.false) (sym c.is_down-is_down.ensures ∙ c.if-is_down.false) c.set_start.new.self
+      (ap is_anchored (sym c.get_anchored.ensures) ∙ sym c.is_anchored.ensures ∙ c.if-is_anchored.false) (sym c.is_reverse-is_reverse.ensures ∙ c.if-is_reverse.false) c.set_start.new.self
       (c.set_start.ensures ∙ ap (λ (b : ℕ). with_span (b + 1) c.loop-rest.rest.end c.loop-rest.rest) c.start.ensures.value);
 }
 

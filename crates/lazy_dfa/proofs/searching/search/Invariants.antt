@@ -1,12 +1,12 @@
 use Rattle.std.proofs.Common.{◌+◌, ◌-◌}
 use Rattle.lazy_dfa.specs.Caches.{IsCacheOf}
-use Rattle.lazy_dfa.proofs.SearchLemmas.{Stands}
+use Rattle.lazy_dfa.proofs.SearchLemmas.{HasCome}
 use Rattle.lazy_dfa.proofs.searching.search.Given as goal
 
 abbrev pub invariant-loop-rest : goal.invariant-loop-rest
 invariant-loop-rest g l = record {
   own : IsCacheOf l.dfa l.cache;
-  stands : Stands l.dfa l.input l.rest l.fn.cache l.cache l.fn.work.determinized l.work.determinized l.fn.work.inserted l.work.inserted;
+  stands : HasCome l.dfa l.input l.rest l.fn.cache l.cache l.fn.work.determinized l.work.determinized l.fn.work.inserted l.work.inserted;
 }
 
 abbrev pub decreases-loop-rest : goal.decreases-loop-rest

@@ -8,9 +8,9 @@ use Rattle.nfa_core.proofs.builder_laws.past_states_stand_for_themselves.Goals a
 
 pub returns : goal.returns
 returns c = record {
-  itself = λ parts q e. past_itself parts (length parts) q e;
-  stands = λ parts q no_loop inside. past_stands parts no_loop q inside;
-  inside = λ parts q no_loop named inside. past_inside parts named q inside;
-  twice = λ parts q no_loop inside. past_twice parts no_loop q inside;
-  next = λ parts q r no_loop e. past_next parts no_loop q r e;
+  itself = λ drafts q e. past_itself drafts (length drafts) q e;
+  stands = λ drafts q no_loop inside. past_stands drafts no_loop q inside;
+  inside = λ drafts q no_loop named inside. past_inside drafts named q inside;
+  twice = λ drafts q no_loop inside. past_twice drafts no_loop q inside;
+  next = λ drafts q r no_loop e. past_next drafts no_loop q r e;
 }

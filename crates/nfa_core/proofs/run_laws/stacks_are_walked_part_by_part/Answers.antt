@@ -7,5 +7,5 @@ pub returns : goal.returns
 returns c = record {
   joined = λ steps answer xs ys l m walk other. lists_append steps answer walk ys m other;
   split = λ steps answer xs ys l walk. lists_split steps answer xs ys l walk;
-  one = λ steps answer todo l m walk other. one_list steps answer walk m other;
+  one = λ steps answer stack l m walk other. one_list steps answer walk m other;
 }

@@ -1,5 +1,5 @@
 use Rattle.std.proofs.Common.{ap}
-use Rattle.nfa_core.specs.BuilderStates.{sparse_part}
+use Rattle.nfa_core.specs.BuilderStates.{sparse_draft}
 use Rattle.thompson_nfa.proofs.ClassLemmas.{ascends, few_ranges, bytes_shown}
 use Rattle.thompson_nfa.proofs.StepLemmas.{added_of, add_refused}
 use Rattle.thompson_nfa.proofs.ErrorLemmas.{handed}
@@ -9,7 +9,7 @@ pub add_sparse-requires : goal.add_sparse-requires
 add_sparse-requires c = ascends c.args.next c.args.ranges.now _ c.requires c.in_ok-all.ensures
 
 pub returns-clause-added : goal.returns-clause-added
-returns-clause-added c = added_of _ _ _ _ _ c.in_ok-id.ensures.0 c.in_ok-id.ensures.1 c.in_ok-id.ensures.2 (ap sparse_part c.in_ok-all.ensures)
+returns-clause-added c = added_of _ _ _ _ _ c.in_ok-id.ensures.0 c.in_ok-id.ensures.1 c.in_ok-id.ensures.2 (ap sparse_draft c.in_ok-all.ensures)
 
 pub returns-in_err-id-clause-refused : goal.returns-in_err-id-clause-refused
 returns-in_err-id-clause-refused c = handed _ _ c.in_err-id.field-0.0 c.from_residual-in_err-id.ensures.1

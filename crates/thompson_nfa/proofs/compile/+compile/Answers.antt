@@ -10,7 +10,7 @@ use Rattle.thompson_nfa.proofs.RepeatLemmas.{star_made, star_does, plus_made, pl
 use Rattle.thompson_nfa.proofs.OptionLemmas.{option_made, option_does}
 use Rattle.thompson_nfa.proofs.CopyLemmas.{copies_first, copies_then, copies_exact, copies_loop, rounds_owed, rounds_first, rounds_then, rounds_made, rounds_does, copies_done, at_least_made, stopped_does, bounds_does, groups_again}
 use Rattle.thompson_nfa.proofs.CaptureLemmas.{capture_made, capture_does, plain_does}
-use Rattle.thompson_nfa.proofs.PartsLemmas.{weight_in_concat, weight_in_alternation, parts_first, parts_then, parts_made, parts_does, parts_refused, parts_lead_refused, first_part_refused}
+use Rattle.thompson_nfa.proofs.ConcatLemmas.{weight_in_concat, weight_in_alternation, parts_first, parts_then, parts_made, parts_does, parts_refused, parts_lead_refused, first_part_refused}
 use Rattle.thompson_nfa.proofs.TurnLemmas.{none_is_concat}
 use Rattle.thompson_nfa.proofs.JoinLemmas.{does_same}
 use Rattle.thompson_nfa.proofs.AlternativeLemmas.{cases_open, union_refused, end_refused, first_lead_refused, second_lead_refused, third_lead_refused, fourth_lead_refused, cases_then, cases_refused, cases_lead_refused, cases_end_refused, cases_made, cases_does, single_does}

@@ -2,7 +2,7 @@ use Rattle.std.proofs.Common.{◌+◌, ◌-◌, ◌*◌, ◌≤◌}
 use Rattle.hir_core.specs.Tree.{concat, alternation}
 use Rattle.hir_core.specs.Weight.{weight}
 use Rattle.thompson_nfa.specs.Room.{room}
-use Rattle.thompson_nfa.proofs.PartsLemmas.{Parts}
+use Rattle.thompson_nfa.proofs.ConcatLemmas.{Parts}
 use Rattle.thompson_nfa.proofs.CopyLemmas.{Copies, Rounds}
 use Rattle.thompson_nfa.proofs.AlternativeLemmas.{Cases}
 use Rattle.thompson_nfa.proofs.compile.+compile.Given as goal

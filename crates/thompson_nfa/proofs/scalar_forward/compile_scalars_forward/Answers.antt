@@ -29,7 +29,7 @@ returns-clause-made c =
 pub returns-clause-does : goal.returns-clause-does
 returns-clause-does c =
     let whole = all_compiled _ _ _ _ _ c.loop-range.range-index c.args.ranges.now c.loop-range.invariant c.loop-range-test.false in
-    class_does _ _ c.args.ranges.now _ _ c.requires.ascending c.requires.upward (c.in_ok-whole.ensures.closed _ _ whole).1
+    class_does _ _ c.args.ranges.now _ _ c.requires.ascending c.requires.forward (c.in_ok-whole.ensures.closed _ _ whole).1
 
 pub returns-clause-groups : goal.returns-clause-groups
 returns-clause-groups c =

@@ -37,7 +37,7 @@ pub returns-clause-sure_if_linked : goal.returns-clause-sure_if_linked
 returns-clause-sure_if_linked g c = λ linked. (c.search.ensures.search.free linked).3
 
 pub returns-clause-reach : goal.returns-clause-reach
-returns-clause-reach g c = reaches_back c.args.self.now c.args.input.now c.search.new.cache c.search.result c.search.ensures.made c.search.ensures.within.0 c.search.ensures.search.answer c.requires.down
+returns-clause-reach g c = reaches_back c.args.self.now c.args.input.now c.search.new.cache c.search.result c.search.ensures.made c.search.ensures.within.0 c.search.ensures.search.answer c.requires.is_reverse
 
 pub returns-clause-determinized : goal.returns-clause-determinized
 returns-clause-determinized g c = few_determinized c.args.self.now c.args.input.now c.args.cache.now c.search.new.cache c.args.work.now.determinized c.search.new.work.determinized

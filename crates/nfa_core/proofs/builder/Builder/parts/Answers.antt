@@ -1,7 +1,7 @@
 use Rattle.std.proofs.Common.{◌≡◌, List, ℕ, map, subst, sym, ap, ◌∙◌, rules}
 use Rattle.search_types.specs.Groups.{Groups}
-use Rattle.nfa_core.specs.BuilderStates.{Assembly, Part, pattern_count}
-use Rattle.nfa_core.specs.Drafts.{part_of}
+use Rattle.nfa_core.specs.BuilderStates.{Assembly, DraftNode, pattern_count}
+use Rattle.nfa_core.specs.Drafts.{draft_of}
 use Rattle.nfa_core.specs.InOrder.{IsInOrder}
 use Rattle.nfa_core.specs.Nfa.{Automaton}
 use Rattle.nfa_core.specs.NfaValue.{Nfa, IsSound}
@@ -15,20 +15,20 @@ use Rattle.nfa_core.proofs.builder.Builder.parts.Goals as goal
 
 pub name_all-requires-clause-reached : goal.name_all-requires-clause-reached
 name_all-requires-clause-reached g c =
-    let seen = ap (map part_of) c.deref.ensures.value ∙ ap (λ (b : Assembly). b.parts) c.self.view_is in
-    subst (λ (parts : List Part). IsReached parts) (sym seen) (can_reach c.args.self.now c.args.start_anchored c.args.start_unanchored c.requires.can)
+    let seen = ap (map draft_of) c.deref.ensures.value ∙ ap (λ (b : Assembly). b.drafts) c.self.view_is in
+    subst (λ (parts : List DraftNode). IsReached parts) (sym seen) (can_reach c.args.self.now c.args.start_anchored c.args.start_unanchored c.requires.can)
 
 pub returns-clause-value : goal.returns-clause-value
 returns-clause-value g c =
     let b = c.args.self.now in
     let names = c.in_ok-names.names.items in
-    let seen : map part_of c.self.inside.drafts.items ≡ b.parts = ap (λ (b : Assembly). b.parts) c.self.view_is in
-    let naming : IsNaming b.parts names = subst (λ (parts : List Part). IsNaming parts names) (ap (map part_of) c.deref.ensures.value ∙ seen) c.in_ok-names.ensures.names in
-    let states : map node_of c.in_ok-states.states.items ≡ map (renamed (name_in names) b.groups) (kept b.parts) =
-    c.in_ok-states.ensures ∙ ap (λ (ns : List ℕ). map (renamed (name_in ns) c.args.group_info) (kept (map part_of c.deref-3.result.now))) c.deref-2.ensures.value
-    ∙ ap (λ (ds : List Draft). map (renamed (name_in names) c.args.group_info) (kept (map part_of ds))) c.deref-3.ensures.value
-    ∙ ap (λ (parts : List Part). map (renamed (name_in names) c.args.group_info) (kept parts)) seen
-    ∙ ap (λ (gs : Groups). map (renamed (name_in names) gs) (kept b.parts)) c.requires.groups in
+    let seen : map draft_of c.self.inside.drafts.items ≡ b.drafts = ap (λ (b : Assembly). b.drafts) c.self.view_is in
+    let naming : IsNaming b.drafts names = subst (λ (parts : List DraftNode). IsNaming parts names) (ap (map draft_of) c.deref.ensures.value ∙ seen) c.in_ok-names.ensures.names in
+    let states : map node_of c.in_ok-states.states.items ≡ map (renamed (name_in names) b.groups) (kept b.drafts) =
+    c.in_ok-states.ensures ∙ ap (λ (ns : List ℕ). map (renamed (name_in ns) c.args.group_info) (kept (map draft_of c.deref-3.result.now))) c.deref-2.ensures.value
+    ∙ ap (λ (ds : List Draft). map (renamed (name_in names) c.args.group_info) (kept (map draft_of ds))) c.deref-3.ensures.value
+    ∙ ap (λ (parts : List DraftNode). map (renamed (name_in names) c.args.group_info) (kept parts)) seen
+    ∙ ap (λ (gs : Groups). map (renamed (name_in names) gs) (kept b.drafts)) c.requires.groups in
     let starts : c.in_ok-start_pattern.start_pattern.items ≡ map (name_in names) b.starts =
     c.in_ok-start_pattern.ensures ∙ ap (λ (ns : List ℕ). map (name_in ns) c.deref-5.result.now) c.deref-4.ensures.value
     ∙ ap (map (name_in names)) (c.deref-5.ensures.value ∙ ap (λ (b : Assembly). b.starts) c.self.view_is) in
@@ -41,6 +41,6 @@ returns-clause-value g c =
 pub returns-clause-sound : goal.returns-clause-sound
 returns-clause-sound g c =
     let b = c.args.self.now in
-    let order : IsInOrder b.parts (pattern_count b) b.size_limit = subst (λ (b : Assembly). IsInOrder b.parts (pattern_count b) b.size_limit) c.self.view_is c.self.invariant.2 in
+    let order : IsInOrder b.drafts (pattern_count b) b.size_limit = subst (λ (b : Assembly). IsInOrder b.drafts (pattern_count b) b.size_limit) c.self.view_is c.self.invariant.2 in
     let all = sound b c.args.start_anchored c.args.start_unanchored c.requires.can (can_reach b c.args.start_anchored c.args.start_unanchored c.requires.can) order in
     subst (λ (a : Automaton). IsSound a) (sym (ap (λ (n : Nfa). n.automaton) (returns-clause-value g c))) all

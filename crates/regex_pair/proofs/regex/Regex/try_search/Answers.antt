@@ -35,7 +35,7 @@ pub returns-clause-sure_if_linked : goal.returns-clause-sure_if_linked
 returns-clause-sure_if_linked g c = c.search.ensures.search.sure_if_linked
 
 pub returns-clause-reach : goal.returns-clause-reach
-returns-clause-reach g c = reaches c.args.self.now c.args.input.now c.search.new.cache c.search.result c.search.ensures.pair.up c.search.ensures.within.0 c.search.ensures.search.answer
+returns-clause-reach g c = reaches c.args.self.now c.args.input.now c.search.new.cache c.search.result c.search.ensures.pair.is_forward c.search.ensures.within.0 c.search.ensures.search.answer
 
 pub returns-clause-determinized : goal.returns-clause-determinized
 returns-clause-determinized g c = c.search.ensures.search.determinized
