@@ -2,7 +2,6 @@
 #![tactic(auto)]
 
 pub mod alike_laws;
-mod close_all;
 mod closure;
 mod ids_of;
 mod known;
@@ -10,6 +9,7 @@ mod lookbehind;
 mod next_state;
 mod nfa_states;
 mod positions;
+mod stack;
 mod start;
 mod start_config;
 pub mod start_laws;
@@ -20,15 +20,10 @@ mod state_builder;
 mod state_builder_matches;
 mod state_builder_nfa;
 mod state_bytes;
-mod state_edit;
-mod state_eq;
 mod state_ids;
 pub mod state_laws;
-mod step_each;
 pub mod step_laws;
 pub mod stepped_laws;
-mod target;
-mod stack;
 pub mod walk_theorem;
 mod walking;
 mod workspace;

@@ -1,22 +1,26 @@
-ghost use Rattle.std.specs.Prelude.{◌≡◌, ◌+◌, ◌*◌, ◌<◌, ◌≤◌, ◌&&◌, ◌||◌, [], length, All, OnOk, IfOk};
+ghost use Rattle.std.specs.Prelude.{◌≡◌, ◌+◌, ◌*◌, ◌<◌, ◌≤◌, ◌&&◌, ◌||◌, [], length, All, OnOk, IfOk, ℕ, List, ◌++◌, drop, IfSome, option_to_list};
 ghost use Rattle.std.specs.Bool.{nat_eq};
-ghost use Rattle.std.specs.List.{IsDistinct};
+ghost use Rattle.std.specs.List.{IsDistinct, flat_map};
 ghost use Rattle.search_core.specs.Units.{unit_byte};
 ghost use Rattle.look_core.specs.Looks.{byte_side, is_word, is_byte};
-ghost use Rattle.determinize_core.specs.Costs.{free_ways};
-ghost use Rattle.determinize_core.specs.Steps.{families, first_half, ids_before, states_behind, begun, step_value};
+ghost use Rattle.determinize_core.specs.Costs.{free_ways, known_ways};
+ghost use Rattle.determinize_core.specs.Steps.{families, first_half, ids_before, states_behind, begun, step_value, closed, is_some_kept, known_steps, pattern_at, patterns_in, reading, unit_steps};
+ghost use Rattle.nfa_core.specs.Walks.{distinct, Visits};
+ghost use Rattle.determinize_core.specs.Added.{listed_with, stops};
+ghost use Rattle.nfa_core.specs.States.{node_of};
+ghost use Rattle.nfa_core.specs.Ways.{on_byte};
 
-use crate::close_all::{close_all, put_ids, some_kept};
+use crate::closure::epsilon_closure;
 use crate::known::{first_half, gains, is_byte, known_before, known_behind};
 use crate::lookbehind::{Families, set_flags};
-use crate::nfa_states::add_nfa_states;
+use crate::nfa_states::{add_nfa_states, is_capture};
 use crate::state::State;
 use crate::state_builder::StateBuilderEmpty;
 use crate::state_builder_matches::StateBuilderMatches;
 use crate::state_builder_nfa::StateBuilderNFA;
-use crate::step_each::step_each;
-use nfa_core::{NFA, NameSet, Sets, Steps};
-use search_core::{StateID, Unit};
+use look_core::LookSet;
+use nfa_core::{NFA, NameSet, Sets, State as NfaState, Steps};
+use search_core::{PatternID, StateID, Unit};
 use search_types::MatchKind;
 use std::alloc::AllocError;
 use std::sync::ledger::Ledger;
@@ -113,4 +117,189 @@ fn tell_unit(nfa: &NFA, unit: Unit, is_some: bool, builder: &mut StateBuilderMat
     let is_word = families.words && (unit.is_word_byte() && is_some);
     let is_half = families.crlf && (is_byte(unit, first_half(nfa.is_reverse())) && is_some);
     set_flags(is_word, is_half, builder);
+}
+
+/// Puts the states of a powerset state into an empty set.
+pub(crate) fn put_ids<S: NameSet, L: Ledger>(state: &State, set: &mut S, steps: &mut Steps<L>)
+    requires below { All (λ q. q < S.bound set.old) state.now.ids }
+    requires empty { S.names set.old ≡ [] }
+    ensures names { S.names set.new ≡ distinct nat_eq state.now.ids }
+    ensures bound { S.bound set.new ≡ S.bound set.old }
+    ensures cost { steps.new ≡ steps.old + length state.now.ids }
+{
+    for id in state.iter_nfa_state_ids() {
+        set.insert(id, steps);
+    }
+}
+
+/// Puts the states into an empty set to which those of another lead with no byte where these looks are known to
+/// hold.
+pub(crate) fn close_all<S: NameSet, L: Ledger>(
+    nfa: &NFA,
+    from: &S,
+    looks: LookSet,
+    stack: &mut Vec<StateID>,
+    set: &mut S,
+    steps: &mut Steps<L>,
+) -> Result<(), AllocError>
+    requires from { S.bound from.now ≡ length nfa.now.automaton.states }
+    requires bound { S.bound set.old ≡ length nfa.now.automaton.states }
+    requires none { S.names set.old ≡ [] }
+    requires empty { stack.old.items ≡ [] }
+    ensures closed { OnOk result (S.names set.new ≡ closed nfa.now.automaton looks (S.names from.now)) }
+    ensures stack { OnOk result (stack.new.items ≡ []) }
+    ensures bound { S.bound set.new ≡ S.bound set.old }
+    ensures cost { steps.new ≤ steps.old + length (S.names from.now) + free_ways nfa.now.automaton }
+{
+    nfa.is_sound();
+    for k in 0..from.len() {
+        epsilon_closure(nfa, from.name(k), looks, stack, set, steps)?;
+    }
+    Ok(())
+}
+
+/// Whether a state of the set is one that a powerset state keeps.
+pub(crate) fn some_kept<S: NameSet>(nfa: &NFA, set: &S) -> bool
+    requires { S.bound set.now ≡ length nfa.now.automaton.states }
+    ensures { result ≡ is_some_kept nfa.now.automaton (S.names set.now) }
+{
+    for k in 0..set.len() {
+        if !is_capture(nfa.state(set.name(k))) {
+            return true;
+        }
+    }
+    false
+}
+
+/// Lists the patterns that match in the states of a set, and puts the states into an empty set to which its states lead
+/// by the unit, closed where these looks are known to hold. Under leftmost-first the first match is the last
+/// state that is looked at.
+pub(crate) fn step_each<S: NameSet, L: Ledger>(
+    nfa: &NFA,
+    kind: MatchKind,
+    from: &S,
+    unit: Unit,
+    looks: LookSet,
+    stack: &mut Vec<StateID>,
+    set: &mut S,
+    builder: &mut StateBuilderMatches,
+    steps: &mut Steps<L>,
+) -> Result<(), AllocError>
+    requires from { S.bound from.now ≡ length nfa.now.automaton.states }
+    requires bound { S.bound set.old ≡ length nfa.now.automaton.states }
+    requires none { S.names set.old ≡ [] }
+    requires empty { stack.old.items ≡ [] }
+    requires matches { builder.old.matches ≡ [] }
+    ensures matches { OnOk result (builder.new ≡ record builder.old { matches = patterns_in kind nfa.now.automaton (S.names from.now) }) }
+    ensures closed { OnOk result (S.names set.new ≡ closed nfa.now.automaton looks (flat_map (unit_steps nfa.now.automaton (unit_byte unit)) (reading kind nfa.now.automaton (S.names from.now)))) }
+    ensures stack { OnOk result (stack.new.items ≡ []) }
+    ensures bound { S.bound set.new ≡ S.bound set.old }
+    ensures cost { steps.new ≤ steps.old + length nfa.now.automaton.states + free_ways nfa.now.automaton }
+{
+    nfa.is_sound();
+    for k in 0..from.len() {
+        let id = from.name(k);
+        // What a set has is there once, and below its bound.
+        let _ = set.len();
+        let last = list_match(nfa, kind, id, builder)?;
+        if last {
+            return Ok(());
+        }
+        close_target(nfa, id, unit, looks, stack, set, steps)?;
+    }
+    Ok(())
+}
+
+/// Lists the pattern that matches in a state, if there is one and it isn't listed yet, and tells whether no state
+/// behind it reads the unit.
+fn list_match(
+    nfa: &NFA,
+    kind: MatchKind,
+    id: StateID,
+    builder: &mut StateBuilderMatches,
+) -> Result<bool, AllocError>
+    requires { id < length nfa.now.automaton.states }
+    ensures listed { OnOk result (builder.new ≡ record builder.old { matches = listed_with (pattern_at nfa.now.automaton id) builder.old.matches }) }
+    ensures stops { IfOk result (λ last. last ≡ stops kind (pattern_at nfa.now.automaton id)) }
+{
+    let Some(pattern) = pattern_at(nfa, id) else {
+        return Ok(false);
+    };
+    if !builder.has_match_pattern_id(pattern) {
+        builder.add_match_pattern_id(pattern)?;
+    }
+    Ok(kind == MatchKind::LeftmostFirst)
+}
+
+/// Puts the states into a set to which a state leads by the unit, closed where these looks are known to hold.
+fn close_target<S: NameSet, L: Ledger>(
+    nfa: &NFA,
+    id: StateID,
+    unit: Unit,
+    looks: LookSet,
+    stack: &mut Vec<StateID>,
+    set: &mut S,
+    steps: &mut Steps<L>,
+) -> Result<(), AllocError>
+    requires inside { id < length nfa.now.automaton.states }
+    requires bound { S.bound set.old ≡ length nfa.now.automaton.states }
+    requires empty { stack.old.items ≡ [] }
+    ensures visits { OnOk result (Visits nat_eq (known_steps nfa.now.automaton looks) (unit_steps nfa.now.automaton (unit_byte unit) id) (S.names set.old) (S.names set.new)) }
+    ensures stack { OnOk result (stack.new.items ≡ []) }
+    ensures bound { S.bound set.new ≡ S.bound set.old }
+    ensures grows { (more : List ℕ) × (S.names set.new ≡ S.names set.old ++ more) }
+    ensures once { IsDistinct nat_eq (S.names set.new) }
+    ensures below { All (λ q. q < length nfa.now.automaton.states) (S.names set.new) }
+    ensures cost { steps.new ≤ steps.old + 1 + known_ways nfa.now.automaton looks (drop (length (S.names set.old)) (S.names set.new)) }
+{
+    let _ = set.len();
+    let Some(next) = target(nfa, id, unit) else {
+        return Ok(());
+    };
+    epsilon_closure(nfa, next, looks, stack, set, steps)
+}
+
+// ---- Where a state of an automaton leads by a unit, and the pattern that matches in it.
+
+/// The state to which one leads by the unit. The end of the input leads nowhere.
+pub(crate) fn target(nfa: &NFA, id: StateID, unit: Unit) -> Option<StateID>
+    requires { id < length nfa.now.automaton.states }
+    ensures ways { option_to_list result ≡ unit_steps nfa.now.automaton (unit_byte unit) id }
+    ensures inside { IfSome result (λ q. q < length nfa.now.automaton.states) }
+{
+    nfa.is_sound();
+    match unit {
+        Unit::Byte(byte) => target_by(nfa.state(id), byte),
+        Unit::End(_) => None,
+    }
+}
+
+/// The state to which one leads by the byte.
+fn target_by(state: &NfaState, byte: u8) -> Option<StateID>
+    ensures { option_to_list result ≡ on_byte (node_of state.now) byte }
+{
+    match state {
+        NfaState::ByteRange { trans } => {
+            if trans.matches_byte(byte) {
+                return Some(trans.next);
+            }
+            None
+        }
+        NfaState::Sparse(sparse) => sparse.matches_byte(byte),
+        NfaState::Dense(dense) => dense.matches_byte(byte),
+        NfaState::Look { .. } | NfaState::Capture { .. } => None,
+        NfaState::Union { .. } | NfaState::BinaryUnion { .. } => None,
+        NfaState::Fail | NfaState::Match { .. } => None,
+    }
+}
+
+/// The pattern that matches in a state.
+pub(crate) fn pattern_at(nfa: &NFA, id: StateID) -> Option<PatternID>
+    requires { id < length nfa.now.automaton.states }
+    ensures { result ≡ pattern_at nfa.now.automaton id }
+{
+    match nfa.state(id) {
+        NfaState::Match { pattern_id } => Some(*pattern_id),
+        _ => None,
+    }
 }

@@ -6,8 +6,7 @@ ghost use Rattle.determinize_core.specs.StateBytes.{encoded, IsEncoded, decoded,
 use crate::positions::Positions;
 use crate::state::State;
 use crate::state_builder::StateBuilderEmpty;
-use crate::state_bytes::number_at;
-use crate::state_edit::{push_groups, write_number};
+use crate::state_bytes::{number_at, push_groups, write_number};
 use look_core::LookSet;
 use search_core::StateID;
 use std::alloc::{AllocError, Global};

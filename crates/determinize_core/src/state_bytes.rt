@@ -1,6 +1,10 @@
 //! What the bytes of a state say at a place.
-ghost use Rattle.std.specs.Prelude.{◌≡◌, ◌<◌, ◌≤◌, ◌+◌, length, slice_index};
-ghost use Rattle.determinize_core.specs.StateBytes.{has_flag, number_at, ids_start, IsEncoded};
+
+ghost use Rattle.std.specs.Prelude.{◌≡◌, ◌<◌, ◌≤◌, ◌+◌, length, slice_index, ◌++◌, ◌%◌, take, drop, slice_set, OnOk, OnErr};
+ghost use Rattle.determinize_core.specs.StateBytes.{has_flag, number_at, ids_start, IsEncoded, four_bytes, groups};
+ghost use Rattle.std.specs.Int.Bits.{bit_or};
+
+use std::alloc::AllocError;
 
 /// Set where a pattern matches.
 pub(crate) const MATCHES: u8 = 1;
@@ -38,4 +42,79 @@ pub(crate) fn ids_start(bytes: &[u8]) -> usize
     } else {
         9
     }
+}
+
+// ---- What is written into the bytes of a state.
+
+/// Sets a flag of the first byte.
+pub(crate) fn set_flag(bytes: &mut Vec<u8>, flag: u8)
+    requires { 0 < length bytes.old.items }
+    ensures { bytes.new.items ≡ slice_set bytes.old.items 0 (bit_or (slice_index bytes.old.items 0) flag) }
+{
+    bytes[0] |= flag;
+}
+
+/// Writes a number over four bytes.
+pub(crate) fn write_number(bytes: &mut Vec<u8>, at: usize, number: u32)
+    requires { at + 4 ≤ length bytes.old.items }
+    ensures { bytes.new.items ≡ take at bytes.old.items ++ (four_bytes number ++ drop (at + 4) bytes.old.items) }
+{
+    bytes[at..at + 4].copy_from_slice(&number.to_le_bytes());
+}
+
+/// Adds a number in four bytes, or leaves the bytes as they are where there is no memory.
+pub(crate) fn push_number(bytes: &mut Vec<u8>, number: u32) -> Result<(), AllocError>
+    ensures ok { OnOk result (bytes.new.items ≡ bytes.old.items ++ four_bytes number) }
+    ensures err { OnErr result (bytes.new.items ≡ bytes.old.items) }
+{
+    bytes.extend_from_slice(&number.to_le_bytes())
+}
+
+/// The same with a 0 in four bytes in front of it.
+pub(crate) fn push_behind_four(bytes: &mut Vec<u8>, number: u32) -> Result<(), AllocError>
+    ensures ok { OnOk result (bytes.new.items ≡ bytes.old.items ++ (four_bytes 0 ++ four_bytes number)) }
+    ensures err { OnErr result (bytes.new.items ≡ bytes.old.items) }
+{
+    let [a, b, c, d] = number.to_le_bytes();
+    bytes.extend_from_slice(&[0, 0, 0, 0, a, b, c, d])
+}
+
+/// The same with two of them.
+pub(crate) fn push_behind_eight(bytes: &mut Vec<u8>, number: u32) -> Result<(), AllocError>
+    ensures ok { OnOk result (bytes.new.items ≡ bytes.old.items ++ (four_bytes 0 ++ (four_bytes 0 ++ four_bytes number))) }
+    ensures err { OnErr result (bytes.new.items ≡ bytes.old.items) }
+{
+    let [a, b, c, d] = number.to_le_bytes();
+    bytes.extend_from_slice(&[0, 0, 0, 0, 0, 0, 0, 0, a, b, c, d])
+}
+
+/// Adds a number in groups of seven bits, or leaves the bytes as they are where there is no memory.
+pub(crate) fn push_groups(bytes: &mut Vec<u8>, number: u32) -> Result<(), AllocError>
+    ensures ok { OnOk result (bytes.new.items ≡ bytes.old.items ++ groups 4 number) }
+    ensures err { OnErr result (bytes.new.items ≡ bytes.old.items) }
+{
+    if number < 128 {
+        return bytes.extend_from_slice(&[number as u8]);
+    }
+    let second = number / 128;
+    if second < 128 {
+        return bytes.extend_from_slice(&[open(number), second as u8]);
+    }
+    let third = second / 128;
+    if third < 128 {
+        return bytes.extend_from_slice(&[open(number), open(second), third as u8]);
+    }
+    let fourth = third / 128;
+    if fourth < 128 {
+        return bytes.extend_from_slice(&[open(number), open(second), open(third), fourth as u8]);
+    }
+    let last = (fourth / 128) as u8;
+    bytes.extend_from_slice(&[open(number), open(second), open(third), open(fourth), last])
+}
+
+/// A group that others follow.
+fn open(number: u32) -> u8
+    ensures { result ≡ number % 128 + 128 }
+{
+    (number % 128 + 128) as u8
 }

@@ -1,13 +1,14 @@
-ghost use Rattle.std.specs.Prelude.{◌≡◌, ◌≤◌, [], length, replicate, None, is_some, IfOk};
-ghost use Rattle.std.specs.Option.{ForSome};
+ghost use Rattle.std.specs.Prelude.{◌≡◌, ◌≤◌, [], length, replicate, None, is_some, IfOk, ◌+◌, ◌∷◌, map};
+ghost use Rattle.std.specs.Option.{ForSome, option_map};
 ghost use Rattle.std.specs.Borrow.{sem};
 ghost use Rattle.search_core.specs.Index.{greatest_index};
 ghost use Rattle.search_types.specs.Groups.{slot_len, implicit_slot_len};
-ghost use Rattle.search_types.specs.CapturesValue.{group_span, named_span, whole_match, matched_group_len, group_spans, slot_value, span_at};
+ghost use Rattle.search_types.specs.CapturesValue.{group_span, named_span, whole_match, matched_group_len, group_spans, slot_value, span_at, cut_spans, match_spans};
 ghost use Rattle.search_types.specs.CapturesLends.{lends_slots};
 
 use crate::captures_iter::CapturesPatternIter;
 use crate::group_info::GroupInfo;
+use crate::haystack::{Bytes, Haystack, Text};
 use crate::matches::Match;
 use crate::span::Span;
 use search_core::{NonMaxUsize, PatternID};
@@ -210,4 +211,38 @@ fn span_at(slots: &[Option<NonMaxUsize>], first: usize) -> Option<Span>
     let start = slot_value(slots, first)?;
     let end = slot_value(slots, first.checked_add(1)?)?;
     Some(Span { start, end })
+}
+
+impl Captures {
+    /// The parts of a text in the overall span of the match and in those of the next `N` groups that took
+    /// part in it. There are none where no pattern matched, the overall span isn't there, fewer groups
+    /// took part, or one of the spans cuts no part out of the text.
+    pub fn extract<H: Text, const N: usize>(&self, haystack: H) -> Option<(H, [H; N])>
+        ensures { option_map (λ parts. H.bytes parts.0 ∷ map H.bytes parts.1) result
+            ≡ cut_spans (H.cuts (H.bytes haystack)) (H.bytes haystack) (N + 1) (match_spans (group_spans self.now)) }
+    {
+        self.parts(haystack)
+    }
+
+    /// The same of bytes, of which a span may cut out any.
+    pub fn extract_bytes<H: Bytes, const N: usize>(&self, haystack: H) -> Option<(H, [H; N])>
+        ensures { option_map (λ parts. H.bytes parts.0 ∷ map H.bytes parts.1) result
+            ≡ cut_spans (H.cuts (H.bytes haystack)) (H.bytes haystack) (N + 1) (match_spans (group_spans self.now)) }
+    {
+        self.parts(haystack)
+    }
+
+    /// The same of any haystack.
+    fn parts<H: Haystack, const N: usize>(&self, haystack: H) -> Option<(H, [H; N])>
+        ensures { option_map (λ parts. H.bytes parts.0 ∷ map H.bytes parts.1) result
+            ≡ cut_spans (H.cuts (H.bytes haystack)) (H.bytes haystack) (N + 1) (match_spans (group_spans self.now)) }
+    {
+        let mut spans = self.iter();
+        let whole = haystack.cut(spans.next_overall()?)?;
+        let mut parts = [whole; N];
+        for index in 0..N {
+            parts[index] = haystack.cut(spans.next_known()?)?;
+        }
+        Some((whole, parts))
+    }
 }

@@ -11,7 +11,6 @@ mod broken_rules;
 mod captures;
 mod captures_iter;
 pub mod captures_laws;
-mod captures_parts;
 mod group_info;
 mod group_info_error;
 pub mod group_laws;

@@ -10,7 +10,7 @@ use Rattle.thompson_nfa.specs.Added.{Added, Led}
 use Rattle.thompson_nfa.specs.NotedGroups.{noted}
 use Rattle.thompson_nfa.specs.Refusals.{Refuses, Stays}
 use Rattle.thompson_nfa.specs.Room.{room}
-use Rattle.thompson_nfa.specs.declared.how.How.{How}
+use Rattle.thompson_nfa.specs.declared.compiling.How.{How}
 use Rattle.thompson_nfa.specs.declared.which_captures.WhichCaptures.{WhichCaptures}
 use Rattle.thompson_nfa.proofs.SameLemmas.{same_alternation_one}
 use Rattle.thompson_nfa.proofs.JoinLemmas.{does_same}

@@ -19,7 +19,7 @@ use Rattle.thompson_nfa.specs.Configs.{Options, reverse_of, captures_of, is_shru
 use Rattle.thompson_nfa.specs.NotedGroups.{noted_from}
 use Rattle.thompson_nfa.specs.Patterns.{Holds, ComesToKept, HasAll, HasStart, LeadsToPatterns, room_for, begun_with}
 use Rattle.thompson_nfa.specs.Room.{list_room}
-use Rattle.thompson_nfa.specs.declared.how.How.{How}
+use Rattle.thompson_nfa.specs.declared.compiling.How.{How}
 use Rattle.thompson_nfa.specs.declared.which_captures.WhichCaptures.{WhichCaptures}
 use Rattle.look_core.specs.declared.look.Look.{Look}
 use Rattle.thompson_nfa.specs.Compiled.{is_look, looks_in, any_uses}

@@ -14,7 +14,7 @@ use Rattle.thompson_nfa.specs.Compiled.{Finished, Makes, Does, IsTame, is_match_
 use Rattle.thompson_nfa.specs.NotedGroups.{noted}
 use Rattle.thompson_nfa.specs.Patterns.{Holds, ComesToKept, HasAll}
 use Rattle.thompson_nfa.specs.Room.{room}
-use Rattle.thompson_nfa.specs.declared.how.How.{How}
+use Rattle.thompson_nfa.specs.declared.compiling.How.{How}
 use Rattle.thompson_nfa.specs.Compiled.{looks_in, uses}
 use Rattle.thompson_nfa.proofs.LookLemmas.{quiet_led, quiet_added, or_none}
 use Rattle.thompson_nfa.proofs.DoesLemmas.{turned_to}

@@ -11,7 +11,7 @@ use Rattle.thompson_nfa.specs.Compiled.{sum_of_bytes}
 use Rattle.thompson_nfa.specs.Patterns.{HasPatterns, HasAll, RefusesPatterns, LeadsToFurther, room_for}
 use Rattle.thompson_nfa.specs.Refusals.{RefusesStep, RefusesIndex, Stays}
 use Rattle.thompson_nfa.specs.Room.{room}
-use Rattle.thompson_nfa.specs.declared.how.How.{How}
+use Rattle.thompson_nfa.specs.declared.compiling.How.{How}
 use Rattle.thompson_nfa.specs.declared.which_captures.WhichCaptures.{WhichCaptures}
 use Rattle.thompson_nfa.proofs.FurtherLemmas.{patterns_none, hole_moved, patterns_led, patterns_joined, room_joined}
 

@@ -9,7 +9,7 @@ use Rattle.thompson_nfa.specs.Choice.{no_choice}
 use Rattle.thompson_nfa.specs.Compiled.{IsTame}
 use Rattle.thompson_nfa.specs.Patterns.{HasPatterns, HasAll, LeadsToPatterns, LeadsToFurther, RefusesPatterns, room_for}
 use Rattle.thompson_nfa.specs.Room.{room}
-use Rattle.thompson_nfa.specs.declared.how.How.{How}
+use Rattle.thompson_nfa.specs.declared.compiling.How.{How}
 use Rattle.thompson_nfa.specs.declared.which_captures.WhichCaptures.{WhichCaptures}
 use Rattle.thompson_nfa.proofs.LeafLemmas.{tame_none}
 use Rattle.thompson_nfa.proofs.FurtherLemmas.{patterns_none, hole_moved, hole_closed, patterns_added, patterns_led, patterns_joined}

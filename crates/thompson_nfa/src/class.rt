@@ -8,7 +8,7 @@ ghost use Rattle.thompson_nfa.specs.Added.{Added};
 ghost use Rattle.thompson_nfa.specs.Compiled.{Makes, Does};
 ghost use Rattle.thompson_nfa.specs.Refusals.{Quits, Stays};
 
-use crate::fragment::Fragment;
+use crate::compiling::Fragment;
 use crate::drafts::add_empty;
 use nfa_core::{BuildError, Builder, Transition};
 use search_core::StateID;

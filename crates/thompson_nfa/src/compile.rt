@@ -8,13 +8,11 @@ ghost use Rattle.thompson_nfa.specs.Refusals.{Refuses};
 ghost use Rattle.thompson_nfa.specs.Room.{room};
 
 use crate::class::byte_class;
-use crate::fragment::Fragment;
-use crate::how::How;
+use crate::compiling::{Fragment, How, Shared};
 use crate::leaves::{empty, fail, literal, look, turned_place};
 use crate::literals::{all_literals, compile_literals};
 use crate::drafts::{add_choice, add_empty, end_group, lead, start_group};
 use crate::scalar_class::compile_scalars;
-use crate::shared::Shared;
 use crate::which_captures::WhichCaptures;
 use hir_core::{Hir, HirKind};
 use nfa_core::{BuildError, Builder};

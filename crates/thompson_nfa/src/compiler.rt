@@ -4,7 +4,7 @@ ghost use Rattle.thompson_nfa.specs.Compilations.{IsCompiled};
 ghost use Rattle.thompson_nfa.specs.RefusedTrees.{RefusesTrees};
 
 use crate::config::Config;
-use crate::shared::Shared;
+use crate::compiling::Shared;
 use crate::trees::compile_trees;
 use hir_core::Hir;
 use nfa_core::{BuildError, Builder, NFA};

@@ -5,7 +5,7 @@ ghost use Rattle.thompson_nfa.specs.Compiled.{Makes, Does};
 ghost use Rattle.thompson_nfa.specs.Refusals.{Quits};
 ghost use Rattle.thompson_nfa.specs.Turned.{turned_place};
 
-use crate::fragment::Fragment;
+use crate::compiling::Fragment;
 use crate::drafts::{add_empty, add_fail, add_look, add_range, lead};
 use look_core::Look;
 use nfa_core::{BuildError, Builder};

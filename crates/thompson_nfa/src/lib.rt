@@ -1,16 +1,15 @@
 //! Compiles trees to byte automata.
 #![tactic(auto)]
 
-mod ascii_class;
 mod class;
 mod class_trie;
 mod compile;
 pub mod compile_laws;
 mod compiler;
+mod compiling;
 mod config;
+mod drafts;
 mod fnv;
-mod fragment;
-mod how;
 mod leaves;
 mod literal_groups;
 mod literal_nodes;
@@ -19,26 +18,24 @@ mod literal_stems;
 mod literal_texts;
 mod literal_trie;
 mod literals;
-mod drafts;
 mod patterns;
-mod prefix;
 mod range_copy;
 mod range_cover;
 mod range_insert;
 mod range_trie;
 mod range_walk;
 pub mod room_laws;
+mod scalar_ascii;
 mod scalar_class;
 mod scalar_forward;
-mod shared;
-mod shrunk_class;
+mod scalar_reverse;
+mod scalar_shrunk;
 mod slots;
 mod trees;
 mod trie_nodes;
 mod utf8_bounded_map;
 mod utf8_compiler;
 mod utf8_state;
-mod utf8_suffix;
 mod utf8_suffix_map;
 mod which_captures;
 

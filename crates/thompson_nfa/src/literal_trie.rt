@@ -5,7 +5,7 @@ ghost use Rattle.thompson_nfa.specs.LiteralGroups.{texts, bytes_in};
 ghost use Rattle.thompson_nfa.specs.LiteralStates.{literals, spelt};
 ghost use Rattle.thompson_nfa.specs.Refusals.{Quits};
 
-use crate::fragment::Fragment;
+use crate::compiling::Fragment;
 use crate::literal_nodes::nodes;
 use crate::literal_states::add_node;
 use crate::literal_texts::add_text;

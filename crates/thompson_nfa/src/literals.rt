@@ -6,7 +6,7 @@ ghost use Rattle.thompson_nfa.specs.Compiled.{Makes, Does};
 ghost use Rattle.thompson_nfa.specs.LiteralParts.{is_literal, are_literals, bytes_of_literal};
 ghost use Rattle.thompson_nfa.specs.Refusals.{Quits};
 
-use crate::fragment::Fragment;
+use crate::compiling::Fragment;
 use crate::literal_trie::LiteralTrie;
 use hir_core::{Hir, HirKind};
 use nfa_core::{BuildError, Builder};

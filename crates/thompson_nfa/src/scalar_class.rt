@@ -6,13 +6,11 @@ ghost use Rattle.thompson_nfa.specs.Compiled.{Makes, Does};
 ghost use Rattle.thompson_nfa.specs.Refusals.{Quits};
 ghost use Rattle.thompson_nfa.specs.Room.{room};
 
-use crate::ascii_class::{compile_ascii, is_ascii};
-use crate::fragment::Fragment;
-use crate::how::How;
+use crate::scalar_ascii::{compile_ascii, is_ascii};
+use crate::compiling::{Fragment, How, Shared};
 use crate::scalar_forward::compile_scalars_forward;
-use crate::shared::Shared;
-use crate::shrunk_class::compile_scalars_shrunk;
-use crate::utf8_suffix::compile_scalars_reverse;
+use crate::scalar_shrunk::compile_scalars_shrunk;
+use crate::scalar_reverse::compile_scalars_reverse;
 use nfa_core::{BuildError, Builder};
 use std::alloc::Global;
 

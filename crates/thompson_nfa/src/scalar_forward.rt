@@ -9,7 +9,7 @@ ghost use Rattle.thompson_nfa.specs.Refusals.{Quits};
 ghost use Rattle.thompson_nfa.specs.Utf8Stacks.{path_of, StagesRise, AreBytes, ComesAfter, Keeps};
 ghost use Rattle.thompson_nfa.specs.Utf8Compiles.{IsCompiling, IsOpen, CanFollow};
 
-use crate::fragment::Fragment;
+use crate::compiling::Fragment;
 use crate::utf8_compiler::{add, begin, finish};
 use crate::utf8_state::Utf8State;
 use hir_core::{Utf8Sequence, Utf8Sequences};

@@ -15,7 +15,7 @@ ghost use Rattle.thompson_nfa.specs.RefusedTrees.{RefusesTrees};
 
 use crate::config::Config;
 use crate::patterns::{Starts, compile_all};
-use crate::shared::Shared;
+use crate::compiling::Shared;
 use hir_core::Hir;
 use nfa_core::nfa_laws::reached_states_are_led_to;
 use nfa_core::{BuildError, Builder, NFA, Steps};

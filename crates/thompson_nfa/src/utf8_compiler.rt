@@ -13,7 +13,7 @@ ghost use Rattle.hir_core.specs.Tree.{alternation};
 ghost use Rattle.thompson_nfa.specs.RangeTries.{IsBefore};
 ghost use Rattle.thompson_nfa.specs.Utf8Stacks.{fresh, path_of, RisesIn, StagesRise, AreBytes, ComesAfter, Keeps, Compiles, MakesTop, Pops, PopsUntil, Turns, PartsAt};
 
-use crate::fragment::Fragment;
+use crate::compiling::Fragment;
 use crate::drafts::add_empty;
 use crate::utf8_state::{Utf8Node, Utf8State};
 use hir_core::Utf8Range;

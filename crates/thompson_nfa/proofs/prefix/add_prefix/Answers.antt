@@ -1,5 +1,0 @@
-use Rattle.thompson_nfa.proofs.AnyByteLemmas.{prefix_of}
-use Rattle.thompson_nfa.proofs.prefix.add_prefix.Goals as goal
-
-pub returns : goal.returns
-returns c = prefix_of _ _ _ _ _ _ _ _ _ c.in_ok-union.ensures c.in_ok-end.ensures c.in_ok-any.ensures c.in_ok-lead.ensures c.in_ok-lead-2.ensures

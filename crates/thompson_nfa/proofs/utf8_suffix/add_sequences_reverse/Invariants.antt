@@ -1,5 +1,0 @@
-use Rattle.thompson_nfa.proofs.SuffixSteps.{MetSequences}
-use Rattle.thompson_nfa.proofs.utf8_suffix.add_sequences_reverse.Given as goal
-
-abbrev pub invariant-loop-sequence : goal.invariant-loop-sequence
-invariant-loop-sequence l = MetSequences l.fn.builder l.builder l.fn.suffixes l.suffixes l.fn.choice l.fn.end l.fn.first l.fn.last l.sequence-iterator
