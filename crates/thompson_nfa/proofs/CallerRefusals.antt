@@ -10,7 +10,7 @@ use Rattle.thompson_nfa.specs.Configs.{Options, reverse_of, limit_of, captures_o
 use Rattle.thompson_nfa.specs.Room.{list_room}
 use Rattle.thompson_nfa.specs.RefusedTrees.{FitsStates, RefusesGroups, RefusesTrees}
 use Rattle.thompson_nfa.specs.declared.which_captures.WhichCaptures.TheVariants as which
-use Rattle.thompson_nfa.proofs.NoGroups.{no_group_kept, no_group_fault}
+use Rattle.thompson_nfa.proofs.Steps.NoGroups.{no_group_kept, no_group_fault}
 
 -- no groups are refused
 pub no_groups_refused : (o : Options) (xs : List Tree) (err : GroupInfoError) → captures_of o ≡ which.None → RefusesGroups o xs err → ⊥

@@ -9,11 +9,11 @@ pub use Rattle.thompson_nfa.proofs.CallerLemmas.{by_patterns, unanchored_by_patt
 -- a span of a haystack of bytes, with words read as bytes, is a text whose edges are read as they are
 pub use Rattle.thompson_nfa.proofs.CallerLemmas.{span_is_read}
 -- a look that is turned round twice is the look
-pub use Rattle.thompson_nfa.proofs.AssembledLooks.{reversed_twice}
+pub use Rattle.thompson_nfa.proofs.Assembled.AssembledLooks.{reversed_twice}
 -- over one text what is meant forward is meant in reverse; and what the automata of both directions find, from the starts of
 -- the patterns, the anchored ones, and the unanchored one. Each takes what trees mean in a haystack that is cut, which
 -- `hir_core::cut_laws` says.
-pub use Rattle.thompson_nfa.proofs.DirectionLemmas.{same_meant, same_patterns, same_anchored, same_unanchored}
+pub use Rattle.thompson_nfa.proofs.Walks.DirectionLemmas.{same_meant, same_patterns, same_anchored, same_unanchored}
 -- where no group is kept none is refused, and a limit below what all states take leaves no room for them: then, beside
 -- memory that lacks, the limit alone refuses
 pub use Rattle.thompson_nfa.proofs.CallerRefusals.{no_groups_refused, fits_no_limit, limit_alone_refuses}

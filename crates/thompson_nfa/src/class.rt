@@ -50,7 +50,7 @@ fn transitions(
 }
 
 /// Adds a state that leads on by the bytes of the ranges, all to the same state. It can't be led on.
-#[tactic(auto, using(crate::proofs::ClassLemmas::ascends, crate::proofs::ClassLemmas::few_ranges, crate::proofs::ClassLemmas::bytes_shown, crate::proofs::StepLemmas::added_of, crate::proofs::StepLemmas::add_refused))]
+#[tactic(auto, using(crate::proofs::Fragments::ClassLemmas::ascends, crate::proofs::Fragments::ClassLemmas::few_ranges, crate::proofs::Fragments::ClassLemmas::bytes_shown, crate::proofs::Steps::StepLemmas::added_of, crate::proofs::Steps::StepLemmas::add_refused))]
 fn add_ranges(
     builder: &mut Builder,
     alloc: Global,
@@ -70,7 +70,7 @@ fn add_ranges(
 
 /// One state that reads a byte of the ranges, before one that stands for what follows. Read down it is the
 /// same.
-#[tactic(auto, using(crate::proofs::ClassLemmas::class_made, crate::proofs::ClassLemmas::class_does, crate::proofs::ProgressLemmas::first_quits, crate::proofs::ClassLemmas::class_quits))]
+#[tactic(auto, using(crate::proofs::Fragments::ClassLemmas::class_made, crate::proofs::Fragments::ClassLemmas::class_does, crate::proofs::Steps::ProgressLemmas::first_quits, crate::proofs::Fragments::ClassLemmas::class_quits))]
 pub(crate) fn byte_class(
     builder: &mut Builder,
     alloc: Global,

@@ -58,7 +58,7 @@ pub(crate) fn add_choice(
 }
 
 /// Lets the state `from` lead to `to`, after where it leads already where it is a choice.
-#[tactic(auto, using(crate::proofs::StepLemmas::led_of, crate::proofs::StepLemmas::lead_refused))]
+#[tactic(auto, using(crate::proofs::Steps::StepLemmas::led_of, crate::proofs::Steps::StepLemmas::lead_refused))]
 pub(crate) fn lead(builder: &mut Builder, from: StateID, to: StateID) -> Result<(), BuildError>
     requires from { from < length builder.old.drafts }
     requires to { to < length builder.old.drafts }
@@ -70,7 +70,7 @@ pub(crate) fn lead(builder: &mut Builder, from: StateID, to: StateID) -> Result<
 }
 
 /// Adds a state that notes where a group starts, and notes the group.
-#[tactic(auto, using(crate::proofs::CaptureLemmas::start_added, crate::proofs::CaptureLemmas::start_refused))]
+#[tactic(auto, using(crate::proofs::Fragments::CaptureLemmas::start_added, crate::proofs::Fragments::CaptureLemmas::start_refused))]
 pub(crate) fn start_group(
     builder: &mut Builder,
     index: u32,
@@ -85,7 +85,7 @@ pub(crate) fn start_group(
 }
 
 /// Adds a state that notes where a group ends.
-#[tactic(auto, using(crate::proofs::CaptureLemmas::end_added, crate::proofs::CaptureLemmas::end_refused))]
+#[tactic(auto, using(crate::proofs::Fragments::CaptureLemmas::end_added, crate::proofs::Fragments::CaptureLemmas::end_refused))]
 pub(crate) fn end_group(builder: &mut Builder, index: u32) -> Result<StateID, BuildError>
     requires { builder.old.is_open ≡ true }
     ensures added { IfOk result (λ id. Added builder.old builder.new id (capture_end_draft (length builder.old.starts) index 0) builder.old.groups) }

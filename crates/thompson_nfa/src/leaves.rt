@@ -11,7 +11,7 @@ use look_core::Look;
 use nfa_core::{BuildError, Builder};
 
 /// One state that stands for what follows.
-#[tactic(auto, using(crate::proofs::LeafLemmas::empty_does, crate::proofs::LeafLemmas::empty_made, crate::proofs::ProgressLemmas::first_quits))]
+#[tactic(auto, using(crate::proofs::Fragments::LeafLemmas::empty_does, crate::proofs::Fragments::LeafLemmas::empty_made, crate::proofs::Steps::ProgressLemmas::first_quits))]
 pub(crate) fn empty(builder: &mut Builder) -> Result<Fragment, BuildError>
     ensures made { IfOk result (λ f. Makes builder.old builder.new f.start f.end 1) }
     ensures denotes { IfOk result (λ f. Does builder.old builder.new f.start f.end empty) }
@@ -23,7 +23,7 @@ pub(crate) fn empty(builder: &mut Builder) -> Result<Fragment, BuildError>
 }
 
 /// One state that leads nowhere.
-#[tactic(auto, using(crate::proofs::LeafLemmas::fail_does, crate::proofs::LeafLemmas::fail_made, crate::proofs::ProgressLemmas::first_quits))]
+#[tactic(auto, using(crate::proofs::Fragments::LeafLemmas::fail_does, crate::proofs::Fragments::LeafLemmas::fail_made, crate::proofs::Steps::ProgressLemmas::first_quits))]
 pub(crate) fn fail(builder: &mut Builder) -> Result<Fragment, BuildError>
     ensures made { IfOk result (λ f. Makes builder.old builder.new f.start f.end 1) }
     ensures denotes { IfOk result (λ f. Does builder.old builder.new f.start f.end never) }
@@ -35,7 +35,7 @@ pub(crate) fn fail(builder: &mut Builder) -> Result<Fragment, BuildError>
 }
 
 /// One state that reads a byte from the first to the last.
-#[tactic(auto, using(crate::proofs::LeafLemmas::range_does, crate::proofs::LeafLemmas::range_made, crate::proofs::ProgressLemmas::first_quits))]
+#[tactic(auto, using(crate::proofs::Fragments::LeafLemmas::range_does, crate::proofs::Fragments::LeafLemmas::range_made, crate::proofs::Steps::ProgressLemmas::first_quits))]
 pub(crate) fn byte_range(builder: &mut Builder, start: u8, end: u8) -> Result<Fragment, BuildError>
     requires { start ≤ end }
     ensures made { IfOk result (λ f. Makes builder.old builder.new f.start f.end 1) }
@@ -49,7 +49,7 @@ pub(crate) fn byte_range(builder: &mut Builder, start: u8, end: u8) -> Result<Fr
 
 /// One state that leads on where the look holds; where the automaton reads in reverse, it has the look that
 /// holds there.
-#[tactic(auto, using(crate::proofs::LeafLemmas::look_does, crate::proofs::LeafLemmas::look_made, crate::proofs::ProgressLemmas::first_quits))]
+#[tactic(auto, using(crate::proofs::Fragments::LeafLemmas::look_does, crate::proofs::Fragments::LeafLemmas::look_made, crate::proofs::Steps::ProgressLemmas::first_quits))]
 pub(crate) fn look(builder: &mut Builder, assertion: Look) -> Result<Fragment, BuildError>
     ensures made { IfOk result (λ f. Makes builder.old builder.new f.start f.end 1) }
     ensures denotes { IfOk result (λ f. Does builder.old builder.new f.start f.end (look assertion)) }
@@ -75,7 +75,7 @@ pub(crate) fn turned_place(reverse: bool, i: usize, len: usize) -> usize
 }
 
 /// One state that reads the byte.
-#[tactic(auto, using(crate::proofs::LeafLemmas::byte_does, crate::proofs::LeafLemmas::range_made, crate::proofs::ProgressLemmas::first_quits))]
+#[tactic(auto, using(crate::proofs::Fragments::LeafLemmas::byte_does, crate::proofs::Fragments::LeafLemmas::range_made, crate::proofs::Steps::ProgressLemmas::first_quits))]
 fn byte(builder: &mut Builder, byte: u8) -> Result<Fragment, BuildError>
     ensures made { IfOk result (λ f. Makes builder.old builder.new f.start f.end 1) }
     ensures denotes { IfOk result (λ f. Does builder.old builder.new f.start f.end (literal (byte ∷ []))) }

@@ -97,7 +97,7 @@ impl RangeTrie {
     }
 
     /// Adds the string without a byte. It is a proper prefix of every other string, so none may be there.
-    #[tactic(auto, using(crate::proofs::EmptyString::empty_alone))]
+    #[tactic(auto, using(crate::proofs::Tries::EmptyString::empty_alone))]
     pub fn add_empty(&mut self)
         requires { IsApart self.old [] }
         ensures { IsWith self.old [] self.new }

@@ -20,7 +20,7 @@ use search_core::StateID;
 use std::alloc::Global;
 
 /// Adds the state of the key, and keeps it at the place.
-#[tactic(auto, using(crate::proofs::StepLemmas::add_refused))]
+#[tactic(auto, using(crate::proofs::Steps::StepLemmas::add_refused))]
 fn add_key(
     builder: &mut Builder,
     suffixes: &mut Utf8SuffixMap,

@@ -103,7 +103,7 @@ impl Nodes {
     }
 
     /// What each node emits ascends.
-    #[tactic(auto, using(crate::proofs::SequenceOrder::tries_of))]
+    #[tactic(auto, using(crate::proofs::Tries::SequenceOrder::tries_of))]
     pub(crate) fn see_order(&self)
         ensures { (i : ℕ) → IsTrie (get_or self.now i []) }
     {

@@ -22,7 +22,7 @@ use search_core::StateID;
 use std::alloc::Global;
 
 /// Adds a state with these transitions. It can't be led on.
-#[tactic(auto, using(crate::proofs::StackLemmas::rises_ascends, crate::proofs::StackLemmas::few_bytes, crate::proofs::StepLemmas::added_of, crate::proofs::StepLemmas::add_refused))]
+#[tactic(auto, using(crate::proofs::Classes::StackLemmas::rises_ascends, crate::proofs::Classes::StackLemmas::few_bytes, crate::proofs::Steps::StepLemmas::added_of, crate::proofs::Steps::StepLemmas::add_refused))]
 fn add_state(builder: &mut Builder, trans: Vec<Transition>) -> Result<StateID, BuildError>
     requires { RisesIn 0 (map range_of trans.items) }
     ensures added { IfOk result (λ id. Added builder.old builder.new id (sparse_draft (map range_of trans.items)) builder.old.groups) }
@@ -57,7 +57,7 @@ fn compile(
 }
 
 /// Makes the state of the path's top node, whose last range leads to the next state.
-#[tactic(auto, using(crate::proofs::StackLemmas::top_rises, crate::proofs::StackLemmas::rest_rises, crate::proofs::StackLemmas::top_made))]
+#[tactic(auto, using(crate::proofs::Classes::StackLemmas::top_rises, crate::proofs::Classes::StackLemmas::rest_rises, crate::proofs::Classes::StackLemmas::top_made))]
 fn compile_top(
     builder: &mut Builder,
     state: &mut Utf8State,
@@ -106,7 +106,7 @@ fn compile_from(
 
 /// Lets the node at the place lead on by its last range, once the states above it are made, and puts the new
 /// range behind that.
-#[tactic(auto, using(crate::proofs::StackLemmas::turned, crate::proofs::StackLemmas::one_shorter))]
+#[tactic(auto, using(crate::proofs::Classes::StackLemmas::turned, crate::proofs::Classes::StackLemmas::one_shorter))]
 fn turn(
     builder: &mut Builder,
     state: &mut Utf8State,
@@ -170,7 +170,7 @@ fn first_difference(state: &Utf8State, ranges: &[Utf8Range]) -> usize
 /// Begins a class: adds the state that is its end, to which all its sequences lead.
 ///
 /// As `regex_automata::nfa::thompson::compiler::Utf8Compiler::new`.
-#[tactic(auto, using(crate::proofs::PathLemmas::compile_begun, crate::proofs::ProgressLemmas::first_quits))]
+#[tactic(auto, using(crate::proofs::Classes::PathLemmas::compile_begun, crate::proofs::Steps::ProgressLemmas::first_quits))]
 pub(crate) fn begin(builder: &mut Builder, state: &mut Utf8State) -> Result<(), BuildError>
     ensures begun { IfOk result (λ _. IsCompiling builder.old builder.new state.new.end state.new.compiled state.new.nodes.items []) }
     ensures refused { IfErr result (λ e. Quits builder.old builder.new 1 e) }

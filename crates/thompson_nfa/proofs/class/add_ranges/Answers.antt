@@ -1,8 +1,8 @@
 use Rattle.std.proofs.Common.{ap}
 use Rattle.nfa_core.specs.BuilderStates.{sparse_draft}
-use Rattle.thompson_nfa.proofs.ClassLemmas.{ascends, few_ranges, bytes_shown}
-use Rattle.thompson_nfa.proofs.StepLemmas.{added_of, add_refused}
-use Rattle.thompson_nfa.proofs.ErrorLemmas.{handed}
+use Rattle.thompson_nfa.proofs.Fragments.ClassLemmas.{ascends, few_ranges, bytes_shown}
+use Rattle.thompson_nfa.proofs.Steps.StepLemmas.{added_of, add_refused}
+use Rattle.thompson_nfa.proofs.Steps.ErrorLemmas.{handed}
 use Rattle.thompson_nfa.proofs.class.add_ranges.Goals as goal
 
 pub add_sparse-requires : goal.add_sparse-requires

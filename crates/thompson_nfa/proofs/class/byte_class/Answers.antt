@@ -1,4 +1,4 @@
-use Rattle.thompson_nfa.proofs.ClassLemmas.{class_made}
+use Rattle.thompson_nfa.proofs.Fragments.ClassLemmas.{class_made}
 use Rattle.thompson_nfa.proofs.class.byte_class.Goals as goal
 
 pub returns-clause-made : goal.returns-clause-made

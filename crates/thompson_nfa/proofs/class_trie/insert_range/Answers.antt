@@ -1,6 +1,6 @@
 -- Each sequence stands next in what is left.
 use Rattle.std.proofs.Common.{◌∙◌}
-use Rattle.thompson_nfa.proofs.ClassTrieLemmas.{none_gained, next_ranges, next_turned, met_turned, next_gained, all_gained}
+use Rattle.thompson_nfa.proofs.Classes.ClassTrieLemmas.{none_gained, next_ranges, next_turned, met_turned, next_gained, all_gained}
 use Rattle.thompson_nfa.proofs.class_trie.insert_range.Goals as goal
 
 pub loop-sequence-init : goal.loop-sequence-init

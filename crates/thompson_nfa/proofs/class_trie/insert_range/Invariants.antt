@@ -1,5 +1,5 @@
 use Rattle.hir_core.specs.Sequences.{utf8_sequences}
-use Rattle.thompson_nfa.proofs.ClassTrieLemmas.{GainsTo}
+use Rattle.thompson_nfa.proofs.Classes.ClassTrieLemmas.{GainsTo}
 use Rattle.thompson_nfa.proofs.class_trie.insert_range.Given as goal
 
 abbrev pub invariant-loop-sequence : goal.invariant-loop-sequence

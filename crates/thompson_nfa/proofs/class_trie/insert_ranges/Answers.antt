@@ -1,6 +1,6 @@
 -- The ranges that were met are in the trie.
 use Rattle.std.proofs.Common.{take}
-use Rattle.thompson_nfa.proofs.ClassTrieLemmas.{class_begun, class_spelled, class_next, class_whole}
+use Rattle.thompson_nfa.proofs.Classes.ClassTrieLemmas.{class_begun, class_spelled, class_next, class_whole}
 use Rattle.thompson_nfa.proofs.class_trie.insert_ranges.Goals as goal
 
 pub loop-range-init : goal.loop-range-init

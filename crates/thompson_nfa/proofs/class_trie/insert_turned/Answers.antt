@@ -2,8 +2,8 @@
 use Rattle.std.proofs.Common.{map, sym, ap, ◌∙◌, subst}
 use Rattle.hir_core.specs.Sequences.{bytes_of}
 use Rattle.thompson_nfa.specs.RangeTries.{AreRanges, IsApart}
-use Rattle.thompson_nfa.proofs.ClassTrieLemmas.{ranges_turned}
-use Rattle.thompson_nfa.proofs.TurnedStrings.{turned_apart}
+use Rattle.thompson_nfa.proofs.Classes.ClassTrieLemmas.{ranges_turned}
+use Rattle.thompson_nfa.proofs.Classes.TurnedStrings.{turned_apart}
 use Rattle.thompson_nfa.proofs.class_trie.insert_turned.Goals as goal
 
 pub insert-requires-clause-ordered : goal.insert-requires-clause-ordered

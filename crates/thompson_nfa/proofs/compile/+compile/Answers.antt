@@ -3,18 +3,18 @@ use Rattle.hir_core.specs.Facts.{minimum_len}
 use Rattle.hir_core.specs.Weight.{weight}
 use Rattle.nfa_core.specs.BuilderStates.{Assembly}
 use Rattle.thompson_nfa.specs.Turned.{turned_place}
-use Rattle.thompson_nfa.proofs.ErrorLemmas.{handed}
-use Rattle.thompson_nfa.proofs.GrowLemmas.{ready_later}
-use Rattle.thompson_nfa.proofs.ProgressLemmas.{made_capped}
-use Rattle.thompson_nfa.proofs.RepeatLemmas.{star_made, star_does, plus_made, plus_does, loop_made, loop_does, loop_form, loops_apart, other_form}
-use Rattle.thompson_nfa.proofs.OptionLemmas.{option_made, option_does}
-use Rattle.thompson_nfa.proofs.CopyLemmas.{copies_first, copies_then, copies_exact, copies_loop, rounds_owed, rounds_first, rounds_then, rounds_made, rounds_does, copies_done, at_least_made, stopped_does, bounds_does, groups_again}
-use Rattle.thompson_nfa.proofs.CaptureLemmas.{capture_made, capture_does, plain_does}
-use Rattle.thompson_nfa.proofs.ConcatLemmas.{weight_in_concat, weight_in_alternation, parts_first, parts_then, parts_made, parts_does, parts_refused, parts_lead_refused, first_part_refused}
-use Rattle.thompson_nfa.proofs.TurnLemmas.{none_is_concat}
-use Rattle.thompson_nfa.proofs.JoinLemmas.{does_same}
-use Rattle.thompson_nfa.proofs.AlternativeLemmas.{cases_open, union_refused, end_refused, first_lead_refused, second_lead_refused, third_lead_refused, fourth_lead_refused, cases_then, cases_refused, cases_lead_refused, cases_end_refused, cases_made, cases_does, single_does}
-use Rattle.thompson_nfa.proofs.LiteralLemmas.{literals_made, literals_noted, literals_refused}
+use Rattle.thompson_nfa.proofs.Steps.ErrorLemmas.{handed}
+use Rattle.thompson_nfa.proofs.Steps.GrowLemmas.{ready_later}
+use Rattle.thompson_nfa.proofs.Steps.ProgressLemmas.{made_capped}
+use Rattle.thompson_nfa.proofs.Fragments.RepeatLemmas.{star_made, star_does, plus_made, plus_does, loop_made, loop_does, loop_form, loops_apart, other_form}
+use Rattle.thompson_nfa.proofs.Fragments.OptionLemmas.{option_made, option_does}
+use Rattle.thompson_nfa.proofs.Fragments.CopyLemmas.{copies_first, copies_then, copies_exact, copies_loop, rounds_owed, rounds_first, rounds_then, rounds_made, rounds_does, copies_done, at_least_made, stopped_does, bounds_does, groups_again}
+use Rattle.thompson_nfa.proofs.Fragments.CaptureLemmas.{capture_made, capture_does, plain_does}
+use Rattle.thompson_nfa.proofs.Fragments.ConcatLemmas.{weight_in_concat, weight_in_alternation, parts_first, parts_then, parts_made, parts_does, parts_refused, parts_lead_refused, first_part_refused}
+use Rattle.thompson_nfa.proofs.Fragments.TurnLemmas.{none_is_concat}
+use Rattle.thompson_nfa.proofs.Fragments.JoinLemmas.{does_same}
+use Rattle.thompson_nfa.proofs.Fragments.AlternativeLemmas.{cases_open, union_refused, end_refused, first_lead_refused, second_lead_refused, third_lead_refused, fourth_lead_refused, cases_then, cases_refused, cases_lead_refused, cases_end_refused, cases_made, cases_does, single_does}
+use Rattle.thompson_nfa.proofs.LiteralTries.LiteralLemmas.{literals_made, literals_noted, literals_refused}
 use Rattle.thompson_nfa.proofs.compile.+compile.Goals as goal
 
 pub zero_or_more-returns-clause-made : goal.zero_or_more-returns-clause-made

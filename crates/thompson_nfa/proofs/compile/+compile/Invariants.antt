@@ -2,9 +2,9 @@ use Rattle.std.proofs.Common.{◌+◌, ◌-◌, ◌*◌, ◌≤◌}
 use Rattle.hir_core.specs.Tree.{concat, alternation}
 use Rattle.hir_core.specs.Weight.{weight}
 use Rattle.thompson_nfa.specs.Room.{room}
-use Rattle.thompson_nfa.proofs.ConcatLemmas.{Parts}
-use Rattle.thompson_nfa.proofs.CopyLemmas.{Copies, Rounds}
-use Rattle.thompson_nfa.proofs.AlternativeLemmas.{Cases}
+use Rattle.thompson_nfa.proofs.Fragments.ConcatLemmas.{Parts}
+use Rattle.thompson_nfa.proofs.Fragments.CopyLemmas.{Copies, Rounds}
+use Rattle.thompson_nfa.proofs.Fragments.AlternativeLemmas.{Cases}
 use Rattle.thompson_nfa.proofs.compile.+compile.Given as goal
 
 abbrev pub decreases-compile : goal.decreases-compile

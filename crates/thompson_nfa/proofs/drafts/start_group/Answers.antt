@@ -1,4 +1,4 @@
-use Rattle.thompson_nfa.proofs.CaptureLemmas.{start_added}
+use Rattle.thompson_nfa.proofs.Fragments.CaptureLemmas.{start_added}
 use Rattle.thompson_nfa.proofs.drafts.start_group.Goals as goal
 
 pub returns-clause-added : goal.returns-clause-added

@@ -1,8 +1,8 @@
 use Rattle.std.proofs.Common.{◌∙◌, length, get_or, arith, ap}
 use Rattle.nfa_core.specs.BuilderStates.{Assembly}
 use Rattle.thompson_nfa.specs.Turned.{turned_place}
-use Rattle.thompson_nfa.proofs.JoinLemmas.{join_made, join_does, does_first, does_all, does_same}
-use Rattle.thompson_nfa.proofs.TurnLemmas.{literal_joins, literal_begun, literal_ended, none_is_literal}
+use Rattle.thompson_nfa.proofs.Fragments.JoinLemmas.{join_made, join_does, does_first, does_all, does_same}
+use Rattle.thompson_nfa.proofs.Fragments.TurnLemmas.{literal_joins, literal_begun, literal_ended, none_is_literal}
 use Rattle.thompson_nfa.proofs.leaves.literal.Goals as goal
 
 pub loop-i-init : goal.loop-i-init

@@ -1,6 +1,6 @@
 use Rattle.std.proofs.Common.{◌++◌, ◌+◌, [], ◌∷◌, sym, ap, ◌∙◌, arith}
 use Rattle.thompson_nfa.specs.LiteralGroups.{texts, tails, groups_of}
-use Rattle.thompson_nfa.proofs.LiteralGroupLemmas.{chunk_begun, chunk_next, chunk_done, next_above, group_pushed, group_count}
+use Rattle.thompson_nfa.proofs.LiteralTries.LiteralGroupLemmas.{chunk_begun, chunk_next, chunk_done, next_above, group_pushed, group_count}
 use Rattle.thompson_nfa.proofs.literal_groups.chunk.Goals as goal
 
 pub loop-byte-init : goal.loop-byte-init

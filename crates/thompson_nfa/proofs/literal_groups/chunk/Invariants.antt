@@ -1,6 +1,6 @@
 use Rattle.std.proofs.Common.{◌-◌}
 use Rattle.thompson_nfa.specs.LiteralGroups.{texts, groups_of}
-use Rattle.thompson_nfa.proofs.LiteralGroupLemmas.{Chunking}
+use Rattle.thompson_nfa.proofs.LiteralTries.LiteralGroupLemmas.{Chunking}
 use Rattle.thompson_nfa.proofs.literal_groups.chunk.Given as goal
 
 abbrev pub invariant-loop-byte : goal.invariant-loop-byte

@@ -1,7 +1,7 @@
 use Rattle.std.proofs.Common.{arith, ap, ◌∙◌, map, refl}
 use Rattle.std.proofs.lemmas.List.{map-append}
 use Rattle.thompson_nfa.specs.LiteralGroups.{texts}
-use Rattle.thompson_nfa.proofs.LiteralNodeLemmas.{no_item, match_turn, chunk_turn}
+use Rattle.thompson_nfa.proofs.LiteralTries.LiteralNodeLemmas.{no_item, match_turn, chunk_turn}
 use Rattle.thompson_nfa.proofs.literal_nodes.items.Goals as goal
 
 pub loop-rest-init : goal.loop-rest-init

@@ -1,6 +1,6 @@
 use Rattle.std.proofs.Common.{length, map}
 use Rattle.thompson_nfa.specs.LiteralGroups.{texts, groups_of}
-use Rattle.thompson_nfa.proofs.LiteralNodeLemmas.{Listing}
+use Rattle.thompson_nfa.proofs.LiteralTries.LiteralNodeLemmas.{Listing}
 use Rattle.thompson_nfa.proofs.literal_nodes.items.Given as goal
 
 abbrev pub invariant-loop-rest : goal.invariant-loop-rest

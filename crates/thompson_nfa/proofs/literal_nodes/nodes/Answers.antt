@@ -1,7 +1,7 @@
 use Rattle.std.proofs.Common.{arith}
 use Rattle.thompson_nfa.specs.LiteralGroups.{texts}
 use Rattle.thompson_nfa.specs.LiteralLaid.{node_value}
-use Rattle.thompson_nfa.proofs.LiteralLaidLemmas.{row_some, node_laid}
+use Rattle.thompson_nfa.proofs.LiteralTries.LiteralLaidLemmas.{row_some, node_laid}
 use Rattle.thompson_nfa.proofs.literal_nodes.nodes.Goals as goal
 
 pub lay-requires-clause-some : goal.lay-requires-clause-some

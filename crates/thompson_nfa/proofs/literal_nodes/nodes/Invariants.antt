@@ -1,7 +1,7 @@
 use Rattle.std.proofs.Common.{map}
 use Rattle.thompson_nfa.specs.LiteralGroups.{texts, groups_of}
 use Rattle.thompson_nfa.specs.LiteralLaid.{node_value}
-use Rattle.thompson_nfa.proofs.LiteralLaidLemmas.{NodesHeld, left_of}
+use Rattle.thompson_nfa.proofs.LiteralTries.LiteralLaidLemmas.{NodesHeld, left_of}
 use Rattle.thompson_nfa.proofs.literal_nodes.nodes.Given as goal
 
 abbrev pub invariant-loop-alloc : goal.invariant-loop-alloc

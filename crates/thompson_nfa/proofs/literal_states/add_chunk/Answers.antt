@@ -1,6 +1,6 @@
-use Rattle.thompson_nfa.proofs.ErrorLemmas.{handed}
-use Rattle.thompson_nfa.proofs.LiteralStateLemmas.{chunk_ascends, bytes_of_chunk}
-use Rattle.thompson_nfa.proofs.StepLemmas.{add_refused}
+use Rattle.thompson_nfa.proofs.Steps.ErrorLemmas.{handed}
+use Rattle.thompson_nfa.proofs.LiteralTries.LiteralStateLemmas.{chunk_ascends, bytes_of_chunk}
+use Rattle.thompson_nfa.proofs.Steps.StepLemmas.{add_refused}
 use Rattle.thompson_nfa.proofs.literal_states.add_chunk.Goals as goal
 
 pub add_sparse-requires : goal.add_sparse-requires

@@ -1,6 +1,6 @@
 use Rattle.std.proofs.Common.{refl, length, arith}
-use Rattle.thompson_nfa.proofs.ErrorLemmas.{handed}
-use Rattle.thompson_nfa.proofs.LiteralStateLemmas.{no_items, row_chunk, row_added, row_refused, rows_one, rows_union, rows_refused}
+use Rattle.thompson_nfa.proofs.Steps.ErrorLemmas.{handed}
+use Rattle.thompson_nfa.proofs.LiteralTries.LiteralStateLemmas.{no_items, row_chunk, row_added, row_refused, rows_one, rows_union, rows_refused}
 use Rattle.thompson_nfa.proofs.literal_states.add_node.Goals as goal
 
 pub loop-item-init : goal.loop-item-init

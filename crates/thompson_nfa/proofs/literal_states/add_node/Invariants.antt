@@ -1,5 +1,5 @@
 use Rattle.std.proofs.Common.{◌≤◌, map, take, length}
-use Rattle.thompson_nfa.proofs.LiteralStateLemmas.{ItemsTo}
+use Rattle.thompson_nfa.proofs.LiteralTries.LiteralStateLemmas.{ItemsTo}
 use Rattle.thompson_nfa.proofs.literal_states.add_node.Given as goal
 
 abbrev pub invariant-loop-item : goal.invariant-loop-item

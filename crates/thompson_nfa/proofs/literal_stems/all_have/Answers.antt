@@ -1,5 +1,5 @@
 use Rattle.std.proofs.Common.{[], refl}
-use Rattle.thompson_nfa.proofs.LiteralStemLemmas.{have_next}
+use Rattle.thompson_nfa.proofs.LiteralTries.LiteralStemLemmas.{have_next}
 use Rattle.thompson_nfa.proofs.literal_stems.all_have.Goals as goal
 
 pub loop-string-preserved : goal.loop-string-preserved

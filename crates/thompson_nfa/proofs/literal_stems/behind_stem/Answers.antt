@@ -1,5 +1,5 @@
 use Rattle.std.proofs.Common.{[], arith}
-use Rattle.thompson_nfa.proofs.LiteralStemLemmas.{begins_long_at}
+use Rattle.thompson_nfa.proofs.LiteralTries.LiteralStemLemmas.{begins_long_at}
 use Rattle.thompson_nfa.proofs.literal_stems.behind_stem.Goals as goal
 
 pub slice_bounds-push-count : goal.slice_bounds-push-count

@@ -1,6 +1,6 @@
 use Rattle.std.proofs.Common.{refl, arith}
 use Rattle.thompson_nfa.specs.LiteralGroups.{texts}
-use Rattle.thompson_nfa.proofs.LiteralStemLemmas.{begin_none, stem_more}
+use Rattle.thompson_nfa.proofs.LiteralTries.LiteralStemLemmas.{begin_none, stem_more}
 use Rattle.thompson_nfa.proofs.literal_stems.stem_len.Goals as goal
 
 pub loop-len-init : goal.loop-len-init

@@ -1,5 +1,5 @@
 use Rattle.std.proofs.Common.{refl, arith, length}
-use Rattle.thompson_nfa.proofs.LiteralTextLemmas.{text_begun, text_more}
+use Rattle.thompson_nfa.proofs.LiteralTries.LiteralTextLemmas.{text_begun, text_more}
 use Rattle.thompson_nfa.proofs.literal_texts.add_text.Goals as goal
 
 pub loop-i-init : goal.loop-i-init

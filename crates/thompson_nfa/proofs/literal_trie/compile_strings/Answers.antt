@@ -2,8 +2,8 @@ use Rattle.std.proofs.Common.{ap, refl, map, arith}
 use Rattle.std.proofs.lemmas.List.{length-map}
 use Rattle.thompson_nfa.specs.LiteralGroups.{texts}
 use Rattle.thompson_nfa.specs.LiteralLaid.{node_value}
-use Rattle.thompson_nfa.proofs.ErrorLemmas.{handed}
-use Rattle.thompson_nfa.proofs.LiteralTrieLemmas.{trie_begun, turn_some, turn_few, turn_chunks, turn_refused, turn_there, turn_stem_refused, turn_compiled, all_made, all_does}
+use Rattle.thompson_nfa.proofs.Steps.ErrorLemmas.{handed}
+use Rattle.thompson_nfa.proofs.LiteralTries.LiteralTrieLemmas.{trie_begun, turn_some, turn_few, turn_chunks, turn_refused, turn_there, turn_stem_refused, turn_compiled, all_made, all_does}
 use Rattle.thompson_nfa.proofs.literal_trie.compile_strings.Goals as goal
 
 pub loop-i-init : goal.loop-i-init

@@ -1,7 +1,7 @@
 use Rattle.std.proofs.Common.{map}
 use Rattle.thompson_nfa.specs.LiteralGroups.{texts}
 use Rattle.thompson_nfa.specs.LiteralLaid.{node_value}
-use Rattle.thompson_nfa.proofs.LiteralTrieLemmas.{TrieTo}
+use Rattle.thompson_nfa.proofs.LiteralTries.LiteralTrieLemmas.{TrieTo}
 use Rattle.thompson_nfa.proofs.literal_trie.compile_strings.Given as goal
 
 abbrev pub invariant-loop-i : goal.invariant-loop-i

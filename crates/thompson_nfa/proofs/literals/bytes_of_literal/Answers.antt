@@ -1,5 +1,5 @@
 use Rattle.std.proofs.Common.{sym}
-use Rattle.thompson_nfa.proofs.LiteralPartLemmas.{other_node_bytes}
+use Rattle.thompson_nfa.proofs.LiteralTries.LiteralPartLemmas.{other_node_bytes}
 use Rattle.thompson_nfa.proofs.literals.bytes_of_literal.Goals as goal
 
 pub returns-in_default : goal.returns-in_default

@@ -1,5 +1,5 @@
-use Rattle.thompson_nfa.proofs.ErrorLemmas.{handed}
-use Rattle.thompson_nfa.proofs.LiteralPartLemmas.{read_next, literals_made, literals_do, literals_quit}
+use Rattle.thompson_nfa.proofs.Steps.ErrorLemmas.{handed}
+use Rattle.thompson_nfa.proofs.LiteralTries.LiteralPartLemmas.{read_next, literals_made, literals_do, literals_quit}
 use Rattle.thompson_nfa.proofs.literals.compile_literals.Goals as goal
 
 pub loop-sub-preserved : goal.loop-sub-preserved

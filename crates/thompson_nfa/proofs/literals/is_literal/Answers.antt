@@ -1,5 +1,5 @@
 use Rattle.std.proofs.Common.{sym}
-use Rattle.thompson_nfa.proofs.LiteralPartLemmas.{other_node}
+use Rattle.thompson_nfa.proofs.LiteralTries.LiteralPartLemmas.{other_node}
 use Rattle.thompson_nfa.proofs.literals.is_literal.Goals as goal
 
 pub returns-in_default : goal.returns-in_default

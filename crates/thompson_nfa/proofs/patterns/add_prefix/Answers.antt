@@ -1,4 +1,4 @@
-use Rattle.thompson_nfa.proofs.AnyByteLemmas.{prefix_of}
+use Rattle.thompson_nfa.proofs.WholePatterns.AnyByteLemmas.{prefix_of}
 use Rattle.thompson_nfa.proofs.patterns.add_prefix.Goals as goal
 
 pub returns : goal.returns

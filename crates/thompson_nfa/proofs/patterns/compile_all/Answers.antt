@@ -1,4 +1,4 @@
-use Rattle.thompson_nfa.proofs.AssembleLemmas.{compiled_assembled, compiled_apart}
+use Rattle.thompson_nfa.proofs.WholePatterns.AssembleLemmas.{compiled_assembled, compiled_apart}
 use Rattle.thompson_nfa.proofs.patterns.compile_all.Goals as goal
 
 pub returns-clause-assembled : goal.returns-clause-assembled

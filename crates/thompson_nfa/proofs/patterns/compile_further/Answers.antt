@@ -1,6 +1,6 @@
 use Rattle.std.proofs.Common.{arith}
-use Rattle.thompson_nfa.proofs.ErrorLemmas.{handed}
-use Rattle.thompson_nfa.proofs.UnionLemmas.{further_none, pattern_refused, union_refused, further_next}
+use Rattle.thompson_nfa.proofs.Steps.ErrorLemmas.{handed}
+use Rattle.thompson_nfa.proofs.WholePatterns.UnionLemmas.{further_none, pattern_refused, union_refused, further_next}
 use Rattle.thompson_nfa.proofs.patterns.compile_further.Goals as goal
 
 pub loop-expr-init : goal.loop-expr-init

@@ -1,5 +1,5 @@
 use Rattle.std.proofs.Common.{take}
-use Rattle.thompson_nfa.proofs.UnionLemmas.{IsFurther}
+use Rattle.thompson_nfa.proofs.WholePatterns.UnionLemmas.{IsFurther}
 use Rattle.thompson_nfa.proofs.patterns.compile_further.Given as goal
 
 abbrev pub invariant-loop-expr : goal.invariant-loop-expr

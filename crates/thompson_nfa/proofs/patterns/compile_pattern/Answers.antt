@@ -1,4 +1,4 @@
-use Rattle.thompson_nfa.proofs.PatternLemmas.{pattern_compiled}
+use Rattle.thompson_nfa.proofs.WholePatterns.PatternLemmas.{pattern_compiled}
 use Rattle.thompson_nfa.proofs.patterns.compile_pattern.Goals as goal
 
 pub returns-clause-has : goal.returns-clause-has

@@ -1,6 +1,6 @@
 use Rattle.std.proofs.Common.{arith}
-use Rattle.thompson_nfa.proofs.ErrorLemmas.{handed}
-use Rattle.thompson_nfa.proofs.UnitedLemmas.{none_compiled, one_compiled, second_refused, further_refused, several_compiled}
+use Rattle.thompson_nfa.proofs.Steps.ErrorLemmas.{handed}
+use Rattle.thompson_nfa.proofs.WholePatterns.UnitedLemmas.{none_compiled, one_compiled, second_refused, further_refused, several_compiled}
 use Rattle.thompson_nfa.proofs.patterns.compile_patterns.Goals as goal
 
 pub returns-in_default-clause-has : goal.returns-in_default-clause-has

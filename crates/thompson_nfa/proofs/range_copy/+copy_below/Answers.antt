@@ -5,9 +5,9 @@ use Rattle.thompson_nfa.specs.declared.trie_nodes.Next.TheVariants.{Nothing}
 use Rattle.thompson_nfa.specs.TrieNodes.{below, IsInside}
 use Rattle.thompson_nfa.specs.RangeCovers.{edge_of}
 use Rattle.thompson_nfa.specs.RangeWalks.{depth_of}
-use Rattle.thompson_nfa.proofs.NodeLemmas.{inside_more}
-use Rattle.thompson_nfa.proofs.WalkLemmas.{edge_inside, depth_falls}
-use Rattle.thompson_nfa.proofs.NodeCopyLemmas.{copy_found, copying_next, copied_rise, copied_later, copied_inside, copied_same, copied_names}
+use Rattle.thompson_nfa.proofs.Tries.NodeLemmas.{inside_more}
+use Rattle.thompson_nfa.proofs.Tries.WalkLemmas.{edge_inside, depth_falls}
+use Rattle.thompson_nfa.proofs.Tries.NodeCopyLemmas.{copy_found, copying_next, copied_rise, copied_later, copied_inside, copied_same, copied_names}
 use Rattle.thompson_nfa.proofs.range_copy.+copy_below.Goals as goal
 
 pub returns-in-Node-index-clause-inside : goal.returns-in-Node-index-clause-inside

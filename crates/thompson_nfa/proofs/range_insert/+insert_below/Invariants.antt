@@ -1,6 +1,6 @@
 use Rattle.std.proofs.Common.{length, ◌+◌, map, take}
 use Rattle.hir_core.specs.Sequences.{bytes_of}
-use Rattle.thompson_nfa.proofs.InsertLemmas.{IsInserting}
+use Rattle.thompson_nfa.proofs.Tries.InsertLemmas.{IsInserting}
 use Rattle.thompson_nfa.proofs.range_insert.+insert_below.Given as goal
 
 abbrev pub decreases-insert_below : goal.decreases-insert_below

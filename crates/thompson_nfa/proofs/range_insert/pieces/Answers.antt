@@ -4,7 +4,7 @@ use Rattle.thompson_nfa.specs.declared.trie_nodes.Next.{Next}
 use Rattle.thompson_nfa.specs.TrieNodes.{IsInside}
 use Rattle.thompson_nfa.specs.TrieSteps.{IsCover}
 use Rattle.std.proofs.lemmas.Result.{IfOk-weaker}
-use Rattle.thompson_nfa.proofs.InsertLemmas.{cover_of_node}
+use Rattle.thompson_nfa.proofs.Tries.InsertLemmas.{cover_of_node}
 use Rattle.thompson_nfa.proofs.range_insert.pieces.Goals as goal
 
 pub returns-in-Node : goal.returns-in-Node

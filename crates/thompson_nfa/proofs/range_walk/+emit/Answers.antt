@@ -5,8 +5,8 @@ use Rattle.thompson_nfa.specs.declared.trie_nodes.Next.TheVariants.{Nothing}
 use Rattle.thompson_nfa.specs.TrieNodes.{IsInside}
 use Rattle.thompson_nfa.specs.RangeCovers.{edge_of}
 use Rattle.thompson_nfa.specs.RangeWalks.{paths_of, depth_of}
-use Rattle.thompson_nfa.proofs.NodeLemmas.{inside_more}
-use Rattle.thompson_nfa.proofs.WalkLemmas.{walk_step, edge_inside, depth_falls}
+use Rattle.thompson_nfa.proofs.Tries.NodeLemmas.{inside_more}
+use Rattle.thompson_nfa.proofs.Tries.WalkLemmas.{walk_step, edge_inside, depth_falls}
 use Rattle.thompson_nfa.proofs.range_walk.+emit.Goals as goal
 
 pub emit-requires : goal.emit-requires

@@ -1,5 +1,5 @@
 use Rattle.std.proofs.Common.{arith}
-use Rattle.thompson_nfa.proofs.AsciiLemmas.{ascii_range_at}
+use Rattle.thompson_nfa.proofs.Classes.AsciiLemmas.{ascii_range_at}
 use Rattle.thompson_nfa.proofs.scalar_ascii.bytes_of.Goals as goal
 
 pub overflow_cast-range : goal.overflow_cast-range

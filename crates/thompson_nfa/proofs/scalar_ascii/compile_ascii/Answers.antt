@@ -1,5 +1,5 @@
 use Rattle.std.proofs.Common.{◌∙◌}
-use Rattle.thompson_nfa.proofs.AsciiLemmas.{ascii_does}
+use Rattle.thompson_nfa.proofs.Classes.AsciiLemmas.{ascii_does}
 use Rattle.thompson_nfa.proofs.scalar_ascii.compile_ascii.Goals as goal
 
 pub returns-clause-does : goal.returns-clause-does

@@ -1,5 +1,5 @@
-use Rattle.thompson_nfa.proofs.ErrorLemmas.{handed}
-use Rattle.thompson_nfa.proofs.PlainRoom.{plain_made, plain_quits}
+use Rattle.thompson_nfa.proofs.Steps.ErrorLemmas.{handed}
+use Rattle.thompson_nfa.proofs.Steps.PlainRoom.{plain_made, plain_quits}
 use Rattle.thompson_nfa.proofs.scalar_class.compile_scalars.Goals as goal
 
 pub returns-in_err-ascii-clause-refused : goal.returns-in_err-ascii-clause-refused

@@ -1,6 +1,6 @@
 use Rattle.std.proofs.Common.{◌∙◌}
-use Rattle.thompson_nfa.proofs.ErrorLemmas.{handed}
-use Rattle.thompson_nfa.proofs.FollowLemmas.{none_added, still_rising, still_keeps, some_ranges, few_ranges, byte_bounds, after_last, one_added, all_added, one_refused}
+use Rattle.thompson_nfa.proofs.Steps.ErrorLemmas.{handed}
+use Rattle.thompson_nfa.proofs.Classes.FollowLemmas.{none_added, still_rising, still_keeps, some_ranges, few_ranges, byte_bounds, after_last, one_added, all_added, one_refused}
 use Rattle.thompson_nfa.proofs.scalar_forward.add_sequences.Goals as goal
 
 pub loop-sequence-init : goal.loop-sequence-init

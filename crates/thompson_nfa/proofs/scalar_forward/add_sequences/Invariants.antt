@@ -1,5 +1,5 @@
 use Rattle.hir_core.specs.Sequences.{utf8_sequences}
-use Rattle.thompson_nfa.proofs.FollowLemmas.{AddsTo}
+use Rattle.thompson_nfa.proofs.Classes.FollowLemmas.{AddsTo}
 use Rattle.thompson_nfa.proofs.scalar_forward.add_sequences.Given as goal
 
 abbrev pub invariant-loop-sequence : goal.invariant-loop-sequence

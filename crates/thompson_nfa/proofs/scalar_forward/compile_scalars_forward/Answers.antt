@@ -1,5 +1,5 @@
-use Rattle.thompson_nfa.proofs.ErrorLemmas.{handed}
-use Rattle.thompson_nfa.proofs.FollowLemmas.{no_range, range_follows, next_range, range_refused, all_compiled, class_made, class_does, class_refused}
+use Rattle.thompson_nfa.proofs.Steps.ErrorLemmas.{handed}
+use Rattle.thompson_nfa.proofs.Classes.FollowLemmas.{no_range, range_follows, next_range, range_refused, all_compiled, class_made, class_does, class_refused}
 use Rattle.thompson_nfa.proofs.scalar_forward.compile_scalars_forward.Goals as goal
 
 pub loop-range-init : goal.loop-range-init

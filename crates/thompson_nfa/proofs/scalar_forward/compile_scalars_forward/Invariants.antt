@@ -1,4 +1,4 @@
-use Rattle.thompson_nfa.proofs.FollowLemmas.{RangesTo}
+use Rattle.thompson_nfa.proofs.Classes.FollowLemmas.{RangesTo}
 use Rattle.thompson_nfa.proofs.scalar_forward.compile_scalars_forward.Given as goal
 
 abbrev pub invariant-loop-range : goal.invariant-loop-range

@@ -1,5 +1,5 @@
 use Rattle.std.proofs.Common.{refl}
-use Rattle.thompson_nfa.proofs.StepLemmas.{added_of}
+use Rattle.thompson_nfa.proofs.Steps.StepLemmas.{added_of}
 use Rattle.thompson_nfa.proofs.scalar_reverse.add_key.Goals as goal
 
 pub returns-clause-added : goal.returns-clause-added

@@ -1,5 +1,5 @@
-use Rattle.thompson_nfa.proofs.ErrorLemmas.{handed}
-use Rattle.thompson_nfa.proofs.SuffixSteps.{ranges_share, last_refused, others_few, last_rising, still_there, still_kind, way_refused}
+use Rattle.thompson_nfa.proofs.Steps.ErrorLemmas.{handed}
+use Rattle.thompson_nfa.proofs.Classes.SuffixSteps.{ranges_share, last_refused, others_few, last_rising, still_there, still_kind, way_refused}
 use Rattle.thompson_nfa.proofs.scalar_reverse.add_sequence_reverse.Goals as goal
 
 pub last_range-requires-clause-ready : goal.last_range-requires-clause-ready

@@ -1,6 +1,6 @@
 use Rattle.std.proofs.Common.{◌∙◌}
-use Rattle.thompson_nfa.proofs.ErrorLemmas.{handed}
-use Rattle.thompson_nfa.proofs.SuffixSteps.{none_met, met_ready, met_capacity, met_there, met_kind, met_rising, met_next, met_refused}
+use Rattle.thompson_nfa.proofs.Steps.ErrorLemmas.{handed}
+use Rattle.thompson_nfa.proofs.Classes.SuffixSteps.{none_met, met_ready, met_capacity, met_there, met_kind, met_rising, met_next, met_refused}
 use Rattle.thompson_nfa.proofs.scalar_reverse.add_sequences_reverse.Goals as goal
 
 pub loop-sequence-init : goal.loop-sequence-init

@@ -1,4 +1,4 @@
-use Rattle.thompson_nfa.proofs.SuffixSteps.{MetSequences}
+use Rattle.thompson_nfa.proofs.Classes.SuffixSteps.{MetSequences}
 use Rattle.thompson_nfa.proofs.scalar_reverse.add_sequences_reverse.Given as goal
 
 abbrev pub invariant-loop-sequence : goal.invariant-loop-sequence

@@ -1,6 +1,6 @@
-use Rattle.thompson_nfa.proofs.ErrorLemmas.{handed}
-use Rattle.thompson_nfa.proofs.ScalarLemmas.{range_refused, ranges_made, ranges_do}
-use Rattle.thompson_nfa.proofs.SuffixRanges.{reverse_begun, reverse_next}
+use Rattle.thompson_nfa.proofs.Steps.ErrorLemmas.{handed}
+use Rattle.thompson_nfa.proofs.Classes.ScalarLemmas.{range_refused, ranges_made, ranges_do}
+use Rattle.thompson_nfa.proofs.Classes.SuffixRanges.{reverse_begun, reverse_next}
 use Rattle.thompson_nfa.proofs.scalar_reverse.compile_scalars_reverse.Goals as goal
 
 pub loop-range-init : goal.loop-range-init

@@ -1,4 +1,4 @@
-use Rattle.thompson_nfa.proofs.SuffixRanges.{RangesReverse}
+use Rattle.thompson_nfa.proofs.Classes.SuffixRanges.{RangesReverse}
 use Rattle.thompson_nfa.proofs.scalar_reverse.compile_scalars_reverse.Given as goal
 
 abbrev pub invariant-loop-range : goal.invariant-loop-range

@@ -1,8 +1,8 @@
 use Rattle.std.proofs.Common.{map, ◌∙◌, arith}
 use Rattle.hir_core.specs.Sequences.{bytes_of}
-use Rattle.thompson_nfa.proofs.ErrorLemmas.{handed}
-use Rattle.thompson_nfa.proofs.ScalarLemmas.{rising_at}
-use Rattle.thompson_nfa.proofs.SuffixSteps.{none_shared, ready_up_to, capacity_up_to, range_refused, next_shared, places_up_to}
+use Rattle.thompson_nfa.proofs.Steps.ErrorLemmas.{handed}
+use Rattle.thompson_nfa.proofs.Classes.ScalarLemmas.{rising_at}
+use Rattle.thompson_nfa.proofs.Classes.SuffixSteps.{none_shared, ready_up_to, capacity_up_to, range_refused, next_shared, places_up_to}
 use Rattle.thompson_nfa.proofs.scalar_reverse.share_ranges.Goals as goal
 
 pub loop-place-init : goal.loop-place-init

@@ -1,6 +1,6 @@
 use Rattle.std.proofs.Common.{map}
 use Rattle.hir_core.specs.Sequences.{bytes_of}
-use Rattle.thompson_nfa.proofs.SuffixSteps.{SharesUpTo}
+use Rattle.thompson_nfa.proofs.Classes.SuffixSteps.{SharesUpTo}
 use Rattle.thompson_nfa.proofs.scalar_reverse.share_ranges.Given as goal
 
 abbrev pub invariant-loop-place : goal.invariant-loop-place

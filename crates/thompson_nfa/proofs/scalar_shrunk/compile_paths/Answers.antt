@@ -7,9 +7,9 @@ use Rattle.thompson_nfa.specs.Compiled.{Makes, Does}
 use Rattle.thompson_nfa.specs.Shared.{read_tree}
 use Rattle.thompson_nfa.specs.Utf8Compiles.{IsCompiling}
 use Rattle.thompson_nfa.specs.Utf8Stacks.{ComesAfter}
-use Rattle.thompson_nfa.proofs.ErrorLemmas.{handed}
-use Rattle.thompson_nfa.proofs.TriePathLemmas.{path_some, path_few, path_bytes, path_after, paths_more, next_fits, paths_whole, paths_counted}
-use Rattle.thompson_nfa.proofs.ShrunkLemmas.{quits_more}
+use Rattle.thompson_nfa.proofs.Steps.ErrorLemmas.{handed}
+use Rattle.thompson_nfa.proofs.Classes.TriePathLemmas.{path_some, path_few, path_bytes, path_after, paths_more, next_fits, paths_whole, paths_counted}
+use Rattle.thompson_nfa.proofs.Classes.ShrunkLemmas.{quits_more}
 use Rattle.thompson_nfa.proofs.scalar_shrunk.compile_paths.Goals as goal
 
 pub add-requires-clause-some : goal.add-requires-clause-some

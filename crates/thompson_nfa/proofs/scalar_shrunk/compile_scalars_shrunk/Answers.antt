@@ -1,8 +1,8 @@
 -- The sequences are those of the trie, which has the spellings of the class.
 use Rattle.std.proofs.Common.{ap, ◌∙◌}
 use Rattle.thompson_nfa.specs.RangeWalks.{paths_of}
-use Rattle.thompson_nfa.proofs.ErrorLemmas.{handed}
-use Rattle.thompson_nfa.proofs.ShrunkLemmas.{paths_short, shrunk_made, shrunk_does, shrunk_quits}
+use Rattle.thompson_nfa.proofs.Steps.ErrorLemmas.{handed}
+use Rattle.thompson_nfa.proofs.Classes.ShrunkLemmas.{paths_short, shrunk_made, shrunk_does, shrunk_quits}
 use Rattle.thompson_nfa.proofs.scalar_shrunk.compile_scalars_shrunk.Goals as goal
 
 pub compile_paths-requires-clause-short : goal.compile_paths-requires-clause-short

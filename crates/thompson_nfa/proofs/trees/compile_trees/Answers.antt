@@ -1,4 +1,4 @@
-use Rattle.thompson_nfa.proofs.RefusalLemmas.{told_refused}
+use Rattle.thompson_nfa.proofs.WholePatterns.RefusalLemmas.{told_refused}
 use Rattle.thompson_nfa.proofs.trees.compile_trees.Goals as goal
 
 pub returns-in-Err-clause-refused : goal.returns-in-Err-clause-refused

@@ -1,6 +1,6 @@
-use Rattle.thompson_nfa.proofs.ErrorLemmas.{handed}
-use Rattle.thompson_nfa.proofs.FinishLemmas.{built_is_compiled}
-use Rattle.thompson_nfa.proofs.RefusalLemmas.{build_refused}
+use Rattle.thompson_nfa.proofs.Steps.ErrorLemmas.{handed}
+use Rattle.thompson_nfa.proofs.WholePatterns.FinishLemmas.{built_is_compiled}
+use Rattle.thompson_nfa.proofs.WholePatterns.RefusalLemmas.{build_refused}
 use Rattle.thompson_nfa.proofs.trees.finish.Goals as goal
 
 pub returns-in_err-nfa-clause-refused : goal.returns-in_err-nfa-clause-refused

@@ -1,8 +1,8 @@
 use Rattle.std.proofs.Common.{◌≡◌, ◌≤◌, refl, ◌∙◌, arith, map, length}
 use Rattle.std.proofs.lemmas.List.{length-map}
 use Rattle.hir_core.specs.Sequences.{bytes_of}
-use Rattle.thompson_nfa.proofs.ErrorLemmas.{handed}
-use Rattle.thompson_nfa.proofs.PathLemmas.{sequence_turned, sequence_first, compiling_as, parts_range, empty_by, all_quit, first_quit, turned_quit}
+use Rattle.thompson_nfa.proofs.Steps.ErrorLemmas.{handed}
+use Rattle.thompson_nfa.proofs.Classes.PathLemmas.{sequence_turned, sequence_first, compiling_as, parts_range, empty_by, all_quit, first_quit, turned_quit}
 use Rattle.thompson_nfa.proofs.utf8_compiler.add.Goals as goal
 
 pub returns-then-is_empty-clause-added : goal.returns-then-is_empty-clause-added

@@ -1,6 +1,6 @@
 use Rattle.std.proofs.Common.{refl, ◌∙◌}
-use Rattle.thompson_nfa.proofs.ErrorLemmas.{handed}
-use Rattle.thompson_nfa.proofs.StackLemmas.{none_popped, one_popped, pops_refused}
+use Rattle.thompson_nfa.proofs.Steps.ErrorLemmas.{handed}
+use Rattle.thompson_nfa.proofs.Classes.StackLemmas.{none_popped, one_popped, pops_refused}
 use Rattle.thompson_nfa.proofs.utf8_compiler.compile_from.Goals as goal
 
 pub loop-count-init : goal.loop-count-init

@@ -1,5 +1,5 @@
 use Rattle.std.proofs.Common.{◌≡◌}
-use Rattle.thompson_nfa.proofs.StackLemmas.{PopsTo}
+use Rattle.thompson_nfa.proofs.Classes.StackLemmas.{PopsTo}
 use Rattle.thompson_nfa.proofs.utf8_compiler.compile_from.Given as goal
 
 abbrev pub invariant-loop-count : goal.invariant-loop-count

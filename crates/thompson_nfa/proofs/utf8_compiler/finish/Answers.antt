@@ -1,7 +1,7 @@
 use Rattle.std.proofs.Common.{◌≡◌, ◌<◌, ap, map, length, arith}
 use Rattle.nfa_core.specs.Transitions.{range_of}
-use Rattle.thompson_nfa.proofs.ErrorLemmas.{handed}
-use Rattle.thompson_nfa.proofs.PathLemmas.{path_closed, none_closed, closed_made, closed_does, closed_groups, empty_by, all_quit}
+use Rattle.thompson_nfa.proofs.Steps.ErrorLemmas.{handed}
+use Rattle.thompson_nfa.proofs.Classes.PathLemmas.{path_closed, none_closed, closed_made, closed_does, closed_groups, empty_by, all_quit}
 use Rattle.thompson_nfa.proofs.utf8_compiler.finish.Goals as goal
 
 pub returns-then-is_empty-clause-closed : goal.returns-then-is_empty-clause-closed

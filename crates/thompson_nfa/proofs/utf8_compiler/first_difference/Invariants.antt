@@ -1,7 +1,7 @@
 use Rattle.std.proofs.Common.{map}
 use Rattle.hir_core.specs.Sequences.{bytes_of}
 use Rattle.thompson_nfa.specs.Utf8Stacks.{path_of}
-use Rattle.thompson_nfa.proofs.StackLemmas.{Agree}
+use Rattle.thompson_nfa.proofs.Classes.StackLemmas.{Agree}
 use Rattle.thompson_nfa.proofs.utf8_compiler.first_difference.Given as goal
 
 abbrev pub invariant-loop-i : goal.invariant-loop-i

@@ -1,5 +1,5 @@
 use Rattle.std.proofs.Common.{refl, ◌<◌, length}
-use Rattle.thompson_nfa.proofs.StackLemmas.{push_more}
+use Rattle.thompson_nfa.proofs.Classes.StackLemmas.{push_more}
 use Rattle.thompson_nfa.proofs.utf8_compiler.push_nodes.Goals as goal
 
 pub loop-i-preserved : goal.loop-i-preserved

@@ -1,7 +1,7 @@
 -- The calls are made at the sequences.
 use Rattle.std.proofs.Common.{ap, ◌∙◌, alloc_error}
 use Rattle.thompson_nfa.specs.RangeWalks.{paths_of}
-use Rattle.thompson_nfa.proofs.CallLemmas.{calls_all_if, calls_up_to_if}
+use Rattle.thompson_nfa.proofs.Tries.CallLemmas.{calls_all_if, calls_up_to_if}
 use Rattle.thompson_nfa.proofs.range_trie.RangeTrie.iter.Goals as goal
 
 pub returns-clause-ok : goal.returns-clause-ok

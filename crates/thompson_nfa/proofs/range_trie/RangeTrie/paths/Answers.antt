@@ -1,6 +1,6 @@
 -- All that follows no path is emitted.
 use Rattle.std.proofs.Common.{refl}
-use Rattle.thompson_nfa.proofs.CallLemmas.{paths_whole}
+use Rattle.thompson_nfa.proofs.Tries.CallLemmas.{paths_whole}
 use Rattle.thompson_nfa.proofs.range_trie.RangeTrie.paths.Goals as goal
 
 pub returns-clause-paths : goal.returns-clause-paths

@@ -1,5 +1,5 @@
 -- A slot of the table's own version holds what is put into it.
-use Rattle.thompson_nfa.proofs.SlotLemmas.{slots_set}
+use Rattle.thompson_nfa.proofs.Classes.SlotLemmas.{slots_set}
 use Rattle.thompson_nfa.proofs.slots.Slots.set.Goals as goal
 
 pub returns : goal.returns

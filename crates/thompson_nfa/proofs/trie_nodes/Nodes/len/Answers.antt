@@ -1,6 +1,6 @@
 use Rattle.std.proofs.Common.{arith}
 use Rattle.std.proofs.lemmas.Grind.{common_steps}
-use Rattle.thompson_nfa.proofs.NodeLemmas.{node_count}
+use Rattle.thompson_nfa.proofs.Tries.NodeLemmas.{node_count}
 use Rattle.thompson_nfa.proofs.trie_nodes.Nodes.len.Goals as goal
 
 pub returns : goal.returns

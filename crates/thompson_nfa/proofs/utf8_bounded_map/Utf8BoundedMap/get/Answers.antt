@@ -1,7 +1,7 @@
 -- The slot that is found is what the place holds, its key seen as a list.
 use Rattle.std.proofs.Common.{◌≡◌, Some, refl, ap, ◌∙◌, sym}
 use Rattle.std.proofs.lemmas.Bool.{false≢true}
-use Rattle.thompson_nfa.proofs.SlotViews.{viewed_at, viewed_nothing, viewed_value}
+use Rattle.thompson_nfa.proofs.Classes.SlotViews.{viewed_at, viewed_nothing, viewed_value}
 use Rattle.thompson_nfa.proofs.utf8_bounded_map.Utf8BoundedMap.get.Goals as goal
 use Rattle.thompson_nfa.proofs.utf8_bounded_map.Utf8BoundedMap.get.Goals.{in_default-via-in-Some+else-is_same, in_default-via-in_default}
 

@@ -1,5 +1,5 @@
 -- The view of what is put into a place.
-use Rattle.thompson_nfa.proofs.SlotViews.{viewed_set}
+use Rattle.thompson_nfa.proofs.Classes.SlotViews.{viewed_set}
 use Rattle.thompson_nfa.proofs.utf8_bounded_map.Utf8BoundedMap.set.Goals as goal
 
 pub returns : goal.returns

@@ -1,0 +1,17 @@
+-- Fragments of each kind of tree.
+
+pub mod CaseLemmas
+pub mod RoundLemmas
+pub mod LeafLemmas
+pub mod JoinLemmas
+pub mod TurnLemmas
+pub mod ClassLemmas
+pub mod RepeatLemmas
+pub mod CaptureLemmas
+pub mod BranchLemmas
+pub mod OptionLemmas
+pub mod ConcatLemmas
+pub mod CopyLemmas
+pub mod AlternativeLemmas
+pub mod DoesLemmas
+pub mod DoesCases

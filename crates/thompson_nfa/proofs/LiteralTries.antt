@@ -1,0 +1,12 @@
+-- Tries of literals, and the states that an alternation of literals becomes.
+
+pub mod LiteralLemmas
+pub mod LiteralGroupLemmas
+pub mod LiteralNodeLemmas
+pub mod LiteralLaidLemmas
+pub mod LiteralPartLemmas
+pub mod LiteralStateLemmas
+pub mod LiteralStemLemmas
+pub mod LiteralTextLemmas
+pub mod LiteralTreeLemmas
+pub mod LiteralTrieLemmas
