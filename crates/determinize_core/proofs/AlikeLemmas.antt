@@ -19,7 +19,7 @@ use Rattle.nfa_core.specs.Alike.{AreAlike}
 use Rattle.nfa_core.specs.Walks.{chain_ends, distinct}
 use Rattle.nfa_core.specs.Nfa.{Automaton, node_at}
 use Rattle.nfa_core.specs.NfaValue.{looks_of}
-use Rattle.nfa_core.proofs.ForCallers.{looks_any}
+use Rattle.nfa_core.proofs.ForCallers.{looks_any, nothing_same}
 use Rattle.determinize_core.specs.Alike.{AreUnitsAlike}
 use Rattle.determinize_core.specs.LookBehind.{starts_of, families_of, behind_start, behind_line, with_look_behind}
 use Rattle.determinize_core.specs.Starts.{start_of}
@@ -28,7 +28,6 @@ use Rattle.determinize_core.specs.Stepped.{IsStepped}
 use Rattle.determinize_core.specs.Steps.{first_half, second_half, known_before, known_behind, known_steps, closed, unit_steps, patterns_in, reading, gains, ids_before, families, states_behind, is_some_kept, with_states, step_value, start_value}
 use Rattle.determinize_core.specs.declared.lookbehind.Families.{Families}
 use Rattle.determinize_core.specs.declared.lookbehind.LookBehind.{LookBehind}
-use Rattle.determinize_core.proofs.EntriesLemmas.{ways_agree}
 use Rattle.determinize_core.proofs.DecidedLemmas.{has_family}
 use Rattle.determinize_core.proofs.LookBehindLemmas.{start_cases}
 use Rattle.determinize_core.proofs.PassedLemmas.{any_wanted, known_list, known_wanted, lines_is, crlf_is, words_is}
@@ -88,7 +87,7 @@ module _ (looks : ℕ) (t : Terminator) (b c : ℕ) (asked : AskedAlike looks t 
 module _ (a : Automaton) (k n : ℕ) (same : (l : Look) → has_look (looks_of a.states) l ≡ true → has_look k l ≡ has_look n l) where
   pub closed_alike : (qs : List ℕ) → closed a k qs ≡ closed a n qs
   closed_alike qs =
-      let ways : (q : ℕ) → known_steps a k q ≡ known_steps a n q = λ q. ways_agree (node_at a q) (has_look k) (has_look n) (λ l next e. same l ((looks_any l a).1 (q, next, e))) in
+      let ways : (q : ℕ) → known_steps a k q ≡ known_steps a n q = λ q. nothing_same (node_at a q) (has_look k) (has_look n) (λ l next e. same l ((looks_any l a).1 (q, next, e))) in
       λ i. distinct nat_eq (flat_map (chain_ends nat_eq (λ q. ways q i) (length a.states) []) qs)
 
   module _ (v : StateValue) (stepped : IsStepped a v) where

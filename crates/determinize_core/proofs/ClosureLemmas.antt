@@ -10,7 +10,7 @@ use Rattle.nfa_core.specs.Places.{StaysBelow}
 use Rattle.nfa_core.specs.Nfa.{Node, byte_range, sparse_node, dense_node, look_node, union_node, binary_union, capture_node, fail_node, match_node, Automaton, node_at, leads_to, IsWellFormed}
 use Rattle.nfa_core.specs.Ways.{on_nothing}
 use Rattle.nfa_core.specs.Reached.{AreBelow, Meets}
-use Rattle.nfa_core.proofs.ForCallers.{none_in, of_cons, of_append, names_equal}
+use Rattle.nfa_core.proofs.ForCallers.{none_in, of_cons, of_append, names_equal, nothing_led}
 use Rattle.determinize_core.specs.Steps.{known_steps}
 use Rattle.determinize_core.specs.Costs.{known_ways}
 
@@ -19,19 +19,8 @@ look_in_names : (b : Bool) (next r : ℕ) → Has nat_eq r (cond b (next ∷ [])
 look_in_names true next r h = h
 look_in_names false next r h = none_in nat_eq r _ h
 
-pub known_in_names : (node : Node) (passed : Look → Bool) (r : ℕ) → Has nat_eq r (on_nothing node passed) → Has nat_eq r (leads_to node)
-known_in_names (byte_range low high next) passed r h = none_in nat_eq r _ h
-known_in_names (sparse_node ranges) passed r h = none_in nat_eq r _ h
-known_in_names (dense_node names) passed r h = none_in nat_eq r _ h
-known_in_names (look_node l next) passed r h = look_in_names (passed l) next r h
-known_in_names (union_node names) passed r h = h
-known_in_names (binary_union first second) passed r h = h
-known_in_names (capture_node next pattern group slot) passed r h = h
-known_in_names fail_node passed r h = h
-known_in_names (match_node pattern) passed r h = h
-
 pub known_below : (a : Automaton) (looks : ℕ) → IsWellFormed a → StaysBelow (length a.states) (known_steps a looks)
-known_below a looks formed = λ q low r way. formed q r (known_in_names (node_at a q) (has_look looks) r way)
+known_below a looks formed = λ q low r way. formed q r (nothing_led (node_at a q) (has_look looks) r way)
 
 -- The walk stands at a stack and what was met: going on from there goes on from its start, and what is on the stack was
 -- counted.

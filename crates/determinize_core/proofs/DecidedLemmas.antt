@@ -26,7 +26,7 @@ has_family test s l m e =
     both true b p q = q
     both false b p q = p
 
-with_family : (a b : Bool) → b ≡ true → (a && b) ≡ a
+pub with_family : (a b : Bool) → b ≡ true → (a && b) ≡ a
 with_family true b e = e
 with_family false b e = refl
 

@@ -1,7 +1,7 @@
 -- A powerset state's states, closed anew by what the unit ahead decides, are those that closing its entries under all looks
 -- would have given, but for captures.
 use Rattle.std.proofs.Common.{◌≡◌, ℕ, ◌==◌, ◌&&◌, ◌||◌, true, false, Bool, not, List, [], ◌∷◌, length, Option, refl, sym, ap, ◌∙◌, ⊎_elim, subst, if◌then◌else◌}
-use Rattle.std.proofs.lemmas.Bool.{cases_Bool, eqb-true, eq-eqb}
+use Rattle.std.proofs.lemmas.Bool.{cases_Bool, eqb-true, eq-eqb, or_left, or_right, not-false}
 use Rattle.std.specs.Int.Bits.{and_zero_r, or_zero_r}
 use Rattle.std.specs.List.{filter}
 use Rattle.std.specs.Bool.{nat_eq}
@@ -14,7 +14,7 @@ use Rattle.nfa_core.specs.Places.{StaysBelow}
 use Rattle.nfa_core.specs.Nfa.{Node, byte_range, sparse_node, dense_node, look_node, union_node, binary_union, capture_node, fail_node, match_node, Automaton, node_at, IsWellFormed}
 use Rattle.nfa_core.specs.NfaValue.{look_of, looks_of, is_capture}
 use Rattle.nfa_core.specs.Ways.{on_nothing}
-use Rattle.nfa_core.proofs.ForCallers.{none_in, not_both, has_cons, has_first, has_later, of_cons, names_equal, nothing_led, looks_any, one_after, stays_closed, kept_close_anew}
+use Rattle.nfa_core.proofs.ForCallers.{none_in, not_both, has_cons, has_first, has_later, of_cons, names_equal, nothing_led, looks_any, one_after, stays_closed, kept_close_anew, nothing_same}
 use Rattle.determinize_core.specs.States.{StateValue}
 use Rattle.determinize_core.specs.Steps.{known_before, known_steps, closed, is_kept, kept, looks_with, have_if, gains, ids_before, is_some_kept}
 use Rattle.determinize_core.proofs.MadeLemmas.{AreBelow, walk_made}
@@ -22,17 +22,6 @@ use Rattle.determinize_core.proofs.CaptureLemmas.{to, rank, to_self, to_kept, pa
 use Rattle.determinize_core.proofs.PassedLemmas.{passed_by, told_holds, IsTold, IsFlagged, known_passed}
 
 -- ---- ways by the looks that hold
-
-pub ways_agree : (node : Node) (p r : Look → Bool) → ((l : Look) (next : ℕ) → node ≡ look_node l next → p l ≡ r l) → on_nothing node p ≡ on_nothing node r
-ways_agree (byte_range low high next) p r all = refl
-ways_agree (sparse_node ranges) p r all = refl
-ways_agree (dense_node names) p r all = refl
-ways_agree (look_node l next) p r all = ap (λ (b : Bool). if b then next ∷ [] else []) (all l next refl)
-ways_agree (union_node names) p r all = refl
-ways_agree (binary_union first second) p r all = refl
-ways_agree (capture_node next pattern group slot) p r all = refl
-ways_agree fail_node p r all = refl
-ways_agree (match_node pattern) p r all = refl
 
 way_grows : (p r : Bool) (next z : ℕ) → (p ≡ true → r ≡ true) → Has nat_eq z (if p then next ∷ [] else []) → Has nat_eq z (if r then next ∷ [] else [])
 way_grows true r next z all h = let e : r ≡ true = all refl in rw e h
@@ -58,14 +47,6 @@ stays_below a formed passed x low y h = formed x y (nothing_led (node_at a x) pa
 look_has : (l : Look) (next : ℕ) (node : Node) → node ≡ look_node l next → has_look (look_of node) l ≡ true
 look_has l next node e = ap (λ m. has_look (look_of m) l) e ∙ has_look-repr l l ∙ eq-eqb _ _ refl
 
-or_left : (a b : Bool) → a ≡ true → (a || b) ≡ true
-or_left true b e = refl
-or_left false b e = let f : false ≡ true = e in cc
-
-or_right : (a b : Bool) → b ≡ true → (a || b) ≡ true
-or_right true b e = refl
-or_right false b e = e
-
 module _ (a : Automaton) (l : Look) where
   -- looks stay
   has_old : (qs : List ℕ) (s : ℕ) → has_look s l ≡ true → has_look (looks_with a s qs) l ≡ true
@@ -78,7 +59,7 @@ module _ (a : Automaton) (l : Look) where
       (λ (e : x ≡ q). has_old qs (union_of s (look_of (node_at a q))) (has_look-union s (look_of (node_at a q)) l ∙ or_right _ _ (ap (λ y. has_look (look_of (node_at a y)) l) (sym e) ∙ h)))
       (λ later. has_its_look qs (union_of s (look_of (node_at a q))) x later h) (has_cons nat_eq names_equal x q qs there)
 
-capture_looks : (node : Node) → not (is_capture node) ≡ false → look_of node ≡ 0
+pub capture_looks : (node : Node) → not (is_capture node) ≡ false → look_of node ≡ 0
 capture_looks (capture_node next pattern group slot) k = refl
 capture_looks (byte_range low high next) k = cc
 capture_looks (sparse_node ranges) k = cc
@@ -107,10 +88,6 @@ no_zero x n e h =
     let z : (shared_by x 0 == 0) ≡ true = eq-eqb (shared_by x 0) 0 (and_zero_r x) in
     let f : false ≡ true = ap not (sym z) ∙ g in cc
 
-unnot : (b : Bool) → not b ≡ false → b ≡ true
-unnot true e = refl
-unnot false e = sym e
-
 not_gained : (p q n : Bool) → ((p && not q) && n) ≡ false → n ≡ true → q ≡ false → p ≡ false
 not_gained true true n e m f = f
 not_gained true false n e m f = sym m ∙ e
@@ -120,7 +97,7 @@ not_gained false q n e m f = refl
 nothing_gained : (known have need : ℕ) (l : Look) → IsLookSet have → not (shared_by (without known have) need == 0) ≡ false → has_look need l ≡ true →
     has_look have l ≡ false → has_look known l ≡ false
 nothing_gained known have need l small none m f =
-    let z : shared_by (without known have) need ≡ 0 = eqb-true (shared_by (without known have) need) 0 (unnot _ none) in
+    let z : shared_by (without known have) need ≡ 0 = eqb-true (shared_by (without known have) need) 0 (not-false _ none) in
     let e : ((has_look known l && not (has_look have l)) && has_look need l) ≡ false =
     ap (λ b. b && has_look need l) (sym (has_look-without known have l small)) ∙ sym (has_look-shared (without known have) need l) ∙ ap (λ s. has_look s l) z ∙ has_look-none l in
     not_gained (has_look known l) (has_look have l) (has_look need l) e m f
@@ -204,7 +181,7 @@ module _ (a : Automaton) (formed : IsWellFormed a) (t : Terminator) (o u : Optio
 
   -- where nothing is gained, what was closed is closed under all looks
   alike_there : gains v known ≡ false → (x : ℕ) → Has nat_eq x states → known_steps a have x ≡ full x
-  alike_there none x there = ways_agree (node_at a x) (has_look have) passed
+  alike_there none x there = nothing_same (node_at a x) (has_look have) passed
       (λ l next e.
       let m = is_asked x l next e in
       let n = need_has x l next there e in
@@ -230,7 +207,7 @@ module _ (a : Automaton) (formed : IsWellFormed a) (t : Terminator) (o u : Optio
       walk_made (known_steps a known) (length a.states) (stays_below a formed (has_look known)) (kept a states) (kept_low low) in
       let by_full : Visits nat_eq full (kept a states) [] again =
       stays_closed nat_eq names_equal (known_steps a known) full by_known
-      (λ x h. ways_agree (node_at a x) (has_look known) passed (λ l next e. knows some l (is_asked x l next e))) in
+      (λ x h. nothing_same (node_at a x) (has_look known) passed (λ l next e. knows some l (is_asked x l next e))) in
       let e : ids_before a t v u ≡ again = rw g (ap (closed a known) s.ids) in
       ap (kept a) e
       ∙ kept_close_anew nat_eq names_equal (is_kept a) (to a formed) (rank a formed) (to_self a formed) (to_kept a formed) (known_steps a have) full grows

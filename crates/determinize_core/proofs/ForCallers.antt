@@ -27,3 +27,5 @@ pub use Rattle.determinize_core.proofs.ListedLemmas.{one_listed, some_listed, ne
 pub use Rattle.determinize_core.proofs.DependLemmas.{walks_alike}
 -- walks over bytes are walks over a haystack that has them, and what their states tell
 pub use Rattle.determinize_core.proofs.HaystackLemmas.{state_there, states_len, all_are_listed, one_is_listed, end_is_told, none_is_told}
+pub use Rattle.determinize_core.proofs.DecidedLemmas.{has_family}
+pub use Rattle.determinize_core.proofs.MatchLemmas.{reading_none}

@@ -5,15 +5,12 @@ use Rattle.std.specs.List.{list_all, IsDistinct}
 use Rattle.nfa_core.specs.Walks.{has, HasNoneTwice}
 use Rattle.determinize_core.specs.WalkLists.{is_once}
 use Rattle.determinize_core.proofs.CloseAllLemmas.{distinct_from_once, once_from_distinct}
-
-both_true : (b c : Bool) → (b && c) ≡ true → (b ≡ true) × (c ≡ true)
-both_true true c e = (refl, e)
-both_true false c e = let never : false ≡ true = e in cc
+use Rattle.std.proofs.lemmas.Bool.{and_parts, not-true}
 
 all_told : (n : ℕ) (xs : List ℕ) → list_all (λ q. nat_lt q n) xs ≡ true → All (λ q. q < n) xs
 all_told n [] e k d p = absurd (omega (arith, p))
-all_told n (x ∷ xs) e zero d p = let parts = both_true (nat_lt x n) (list_all (λ q. nat_lt q n) xs) e in grind (arith, parts.0)
-all_told n (x ∷ xs) e (suc k) d p = let parts = both_true (nat_lt x n) (list_all (λ q. nat_lt q n) xs) e in all_told n xs parts.1 k d (omega (arith, p))
+all_told n (x ∷ xs) e zero d p = let parts = and_parts (nat_lt x n) (list_all (λ q. nat_lt q n) xs) e in grind (arith, parts.0)
+all_told n (x ∷ xs) e (suc k) d p = let parts = and_parts (nat_lt x n) (list_all (λ q. nat_lt q n) xs) e in all_told n xs parts.1 k d (omega (arith, p))
 
 all_back : (n : ℕ) (xs : List ℕ) → All (λ q. q < n) xs → list_all (λ q. nat_lt q n) xs ≡ true
 all_back n [] all = refl
@@ -22,13 +19,9 @@ all_back n (x ∷ xs) all =
     let first : nat_lt x n ≡ true = grind (arith, less) in
     rw first (all_back n xs (λ k d p. all (suc k) d (omega (arith, p))))
 
-not_told : (b : Bool) → not b ≡ true → b ≡ false
-not_told true e = sym e
-not_told false e = refl
-
 once_told : (xs : List ℕ) → is_once xs ≡ true → HasNoneTwice nat_eq xs
 once_told [] e = tt
-once_told (x ∷ xs) e = let parts = both_true (not (has nat_eq x xs)) (is_once xs) e in (not_told (has nat_eq x xs) parts.0, once_told xs parts.1)
+once_told (x ∷ xs) e = let parts = and_parts (not (has nat_eq x xs)) (is_once xs) e in (not-true (has nat_eq x xs) parts.0, once_told xs parts.1)
 
 once_back : (xs : List ℕ) → HasNoneTwice nat_eq xs → is_once xs ≡ true
 once_back [] once = refl

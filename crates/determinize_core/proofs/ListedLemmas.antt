@@ -11,7 +11,7 @@ use Rattle.nfa_core.specs.Runs.{answers, IsMostPreferred}
 use Rattle.nfa_core.specs.Places.{same_pair, answers_at, first, latest}
 use Rattle.nfa_core.specs.Nfa.{Node, byte_range, sparse_node, dense_node, look_node, union_node, binary_union, capture_node, fail_node, match_node, Automaton, node_at, IsWellFormed}
 use Rattle.nfa_core.specs.Ways.{Text, span, match_of, ways, matched, matched_behind, place_of, bytes_left, ends_from}
-use Rattle.nfa_core.proofs.ForCallers.{has_or_not, same_here, option_cases, one_value, no_value, most_preferred, list_matches, latest_is_preferred}
+use Rattle.nfa_core.proofs.ForCallers.{has_or_not, same_here, option_cases, one_value, no_value, most_preferred, list_matches, latest_is_preferred, first_of_option, map_appended}
 use Rattle.determinize_core.specs.States.{StateValue}
 use Rattle.determinize_core.specs.Steps.{pattern_of, pattern_at, walk_value}
 use Rattle.determinize_core.specs.Walked.{walked_lists, end_at, latest_listed}
@@ -36,17 +36,13 @@ one_end (capture_node next pattern group slot) j = refl
 one_end fail_node j = refl
 one_end (match_node pattern) j = refl
 
-map_append : {A B : Type 0} (f : A → B) (xs ys : List A) → map f (xs ++ ys) ≡ map f xs ++ map f ys
-map_append f [] ys = refl
-map_append f (x ∷ xs) ys = ap (λ l. f x ∷ l) (map_append f xs ys)
-
 ends_there : (a : Automaton) (i k : ℕ) (xs : List ℕ) → answers_at (matched_behind a i) k xs ≡ map (at (place_of a.reverse i k)) (answers (pattern_at a) xs)
 ends_there a i k [] = refl
 ends_there a i k (x ∷ xs) =
     let j : ℕ = place_of a.reverse i k in
     ap (λ l. l ++ answers_at (matched_behind a i) k xs) (one_end (node_at a x) j)
     ∙ ap (λ l. map (at j) (option_to_list (pattern_at a x)) ++ l) (ends_there a i k xs)
-    ∙ sym (map_append (at j) (option_to_list (pattern_at a x)) (answers (pattern_at a) xs))
+    ∙ sym (map_appended (at j) (option_to_list (pattern_at a x)) (answers (pattern_at a) xs))
 
 has_at : (j x : ℕ) (xs : List ℕ) → has same_pair (j, x) (map (at j) xs) ≡ has nat_eq x xs
 has_at j x [] = refl
@@ -57,17 +53,13 @@ join_at j seen [] = refl
 join_at j seen (x ∷ xs) = ⊎_elim
     (λ (e : has nat_eq x seen ≡ true). let f : has same_pair (j, x) (map (at j) seen) ≡ true = has_at j x seen ∙ e in rw (e, f) (join_at j seen xs))
     (λ (e : has nat_eq x seen ≡ false). let f : has same_pair (j, x) (map (at j) seen) ≡ false = has_at j x seen ∙ e in
-    rw (e, f) (join_at j (seen ++ x ∷ []) xs ∙ ap (λ l. join same_pair l (map (at j) xs)) (map_append (at j) seen (x ∷ [])))) (has_or_not nat_eq x seen)
+    rw (e, f) (join_at j (seen ++ x ∷ []) xs ∙ ap (λ l. join same_pair l (map (at j) xs)) (map_appended (at j) seen (x ∷ [])))) (has_or_not nat_eq x seen)
 
 patterns_of : (j : ℕ) (xs : List ℕ) → map pattern (map (at j) xs) ≡ xs
 patterns_of j [] = refl
 patterns_of j (x ∷ xs) = ap (λ l. x ∷ l) (patterns_of j xs)
 
 -- ---- the last of states that lists a match
-
-first_of : {A : Type 0} (o : Option A) → first (option_to_list o) ≡ o
-first_of None = refl
-first_of (Some x) = refl
 
 first_at : (j : ℕ) (ps : List ℕ) → end_at j (first ps) ≡ first (map (at j) ps)
 first_at j [] = refl
@@ -165,7 +157,7 @@ module _ (a : Automaton) (t : Terminator) (h : List ℕ) (s e i q : ℕ) (formed
   told_at : (k : ℕ) → k ≤ len → end_at (place k) (first (state (suc k)).matches) ≡ first (answers_at (matched_behind a i) k (lists k))
   told_at k l =
       ap (λ ms. end_at (place k) (first ms)) (matches_are LeftmostFirst a t h s e i q formed below within low k l)
-      ∙ ap (end_at (place k)) (first_of (first (answers (pattern_at a) (lists k))))
+      ∙ ap (end_at (place k)) (first_of_option (first (answers (pattern_at a) (lists k))))
       ∙ first_at (place k) (answers (pattern_at a) (lists k))
       ∙ ap first (sym (ends_there a i k (lists k)))
 

@@ -1,6 +1,6 @@
 -- What is known by a start is true of what stands there.
 use Rattle.std.proofs.Common.{◌≡◌, ◌≢◌, ℕ, ◌==◌, ◌&&◌, ◌||◌, Bool, true, false, not, Option, Some, None, refl, sym, ap, ◌∙◌, subst, cond}
-use Rattle.std.proofs.lemmas.Bool.{eqb-true, eqb-false}
+use Rattle.std.proofs.lemmas.Bool.{eqb-true, eqb-false, not-false}
 use Rattle.search_core.specs.Utf8.{is_word_byte}
 use Rattle.look_core.specs.LookSets.{has_look, with_look}
 use Rattle.look_core.specs.Looks.{byte_side, is_no_word, is_line_end}
@@ -14,6 +14,7 @@ use Rattle.determinize_core.specs.LookBehind.{with_if, starts_of, behind_nothing
 use Rattle.determinize_core.specs.declared.start.Start.TheVariants.{LineLF, LineCR}
 use Rattle.determinize_core.specs.declared.lookbehind.Families.{Families}
 use Rattle.determinize_core.specs.declared.lookbehind.LookBehind.{LookBehind}
+use Rattle.search_types.proofs.ForCallers.{both_left}
 
 -- What holds of the look-behind of each kind of byte holds of that of the byte b.
 module _ (f : Families) (reverse : Bool) (t : Terminator) (b : ℕ) (G : LookBehind → Type 0) where
@@ -53,20 +54,12 @@ if_hold : (P : Look → Type 0) (b : Bool) (k : Look) (s : ℕ) → (b ≡ true 
 if_hold P true k s p h = with_hold P k s (p refl) h
 if_hold P false k s p h = h
 
-both : (a b : Bool) → (a && b) ≡ true → a ≡ true
-both true b e = refl
-both false b e = e
-
 both_not : (a b : Bool) → (not a && b) ≡ true → a ≡ false
 both_not true b e = sym e
 both_not false b e = refl
 
 never : (A : Type 0) → false ≡ true → A
 never A e = let none : ⊥ = cc in absurd none
-
-unnot : (b : Bool) → not b ≡ false → b ≡ true
-unnot true e = refl
-unnot false e = sym e
 
 -- What P holds of, for the byte o that stands before the place, if there is one: what a start tells of looks.
 pub record Allows (reverse : Bool) (t : Terminator) (o : Option ℕ) (P : Look → Type 0) : Type 0 where
@@ -95,13 +88,13 @@ module _ (f : Families) (reverse : Bool) (t : Terminator) (P : Look → Type 0) 
       Each P (behind_line f first ends).look_have
   line_holds b first ends a w e p =
       let none : is_no_word (byte_side (Some b)) ≡ true = rw w refl in
-      starts_hold P _ (never (P AtStart)) (λ u. a.line (e (both ends f.lines u))) (λ u. p (both_not first f.crlf u)) (λ _. a.ascii none) (λ _. a.unicode none)
+      starts_hold P _ (never (P AtStart)) (λ u. a.line (e (both_left ends f.lines u))) (λ u. p (both_not first f.crlf u)) (λ _. a.ascii none) (λ _. a.unicode none)
 
   byte_holds : (b : ℕ) (ends word : Bool) → Allows reverse t (Some b) P → ends ≡ ends_line t b → word ≡ is_word_byte b →
       Each P (behind_byte f ends word).look_have
   byte_holds b ends word a e w =
       let none : word ≡ false → is_no_word (byte_side (Some b)) ≡ true = λ n. rw (sym w ∙ n) refl in
-      starts_hold P _ (never (P AtStart)) (λ u. a.line (sym e ∙ both ends f.lines u)) (never (P StartCRLF))
+      starts_hold P _ (never (P AtStart)) (λ u. a.line (sym e ∙ both_left ends f.lines u)) (never (P StartCRLF))
       (λ u. a.ascii (none (both_not word f.words u))) (λ u. a.unicode (none (both_not word f.words u)))
 
   pub known_holds : (o : Option ℕ) → Allows reverse t o P → Each P (behind_start f reverse t (start_of t o)).look_have
@@ -109,5 +102,5 @@ module _ (f : Families) (reverse : Bool) (t : Terminator) (P : Look → Type 0) 
   known_holds (Some b) a =
       start_cases f reverse t b (λ x. Each P x.look_have)
       (λ is. line_holds b reverse (ends_line t 0x0A) a (ap is_word_byte is) (λ u. ap (ends_line t) is ∙ u) (λ r. a.line_feed r (ap Some is)))
-      (λ is. line_holds b (not reverse) (ends_line t 0x0D) a (ap is_word_byte is) (λ u. ap (ends_line t) is ∙ u) (λ r. a.carriage_return (unnot reverse r) (ap Some is)))
+      (λ is. line_holds b (not reverse) (ends_line t 0x0D) a (ap is_word_byte is) (λ u. ap (ends_line t) is ∙ u) (λ r. a.carriage_return (not-false reverse r) (ap Some is)))
       (λ _ _. byte_holds b (ends_line t b) (is_word_byte b) a refl refl)

@@ -9,7 +9,7 @@ use Rattle.look_core.specs.Looks.{Side, holds_ascii, byte_side, is_byte, is_word
 use Rattle.look_core.specs.Terminators.{Terminator, ends_line}
 use Rattle.look_core.specs.declared.look.Look.{Look}
 use Rattle.look_core.specs.declared.look.Look.TheVariants.{Start as AtStart, End, StartLF, EndLF, StartCRLF, EndCRLF, WordAscii, WordAsciiNegate, WordUnicode, WordUnicodeNegate, WordStartAscii, WordEndAscii, WordStartUnicode, WordEndUnicode, WordStartHalfAscii, WordEndHalfAscii, WordStartHalfUnicode, WordEndHalfUnicode}
-use Rattle.look_core.proofs.ForCallers.{has_look-none, has_look-with}
+use Rattle.look_core.proofs.ForCallers.{has_look-none, has_look-with, edge_turns, no_edge_turns}
 use Rattle.nfa_core.specs.Ways.{span, is_passed}
 use Rattle.determinize_core.specs.States.{StateValue}
 use Rattle.determinize_core.specs.Starts.{start_of}
@@ -18,7 +18,7 @@ use Rattle.determinize_core.specs.KnownBefore.{known_words, known_lines}
 use Rattle.determinize_core.specs.Steps.{first_half, second_half, is_end, known_before, known_behind, unit_at, unit_behind}
 use Rattle.determinize_core.specs.declared.lookbehind.Families.{Families}
 use Rattle.determinize_core.proofs.EdgeLemmas.{none_before, none_at}
-use Rattle.determinize_core.proofs.DecidedLemmas.{has_family}
+use Rattle.determinize_core.proofs.DecidedLemmas.{has_family, with_family}
 use Rattle.determinize_core.proofs.LookBehindLemmas.{start_cases}
 use Rattle.determinize_core.proofs.ExactLemmas.{first_half as exact_first, second_half as exact_second, edge_exact, lines_exact, crlf_exact, half_exact, ascii_exact, unicode_exact, word_exact}
 
@@ -60,13 +60,6 @@ or_turned false false = refl
 or_both : (a b c d : Bool) → a ≡ b → c ≡ d → (a || c) ≡ (b || d)
 or_both a b c d p q = λ i. p i || q i
 
-edge_turned : (x y : Side) → is_edge_of_word x y ≡ is_edge_of_word y x
-edge_turned x y = or_turned (is_word x && not (is_word y)) (not (is_word x) && is_word y)
-    ∙ or_both _ _ _ _ (and_turned (not (is_word x)) (is_word y)) (and_turned (is_word x) (not (is_word y)))
-
-no_edge_turned : (x y : Side) → is_no_edge_of_word x y ≡ is_no_edge_of_word y x
-no_edge_turned x y = or_both _ _ _ _ (and_turned (is_word x) (is_word y)) (and_turned (is_no_word x) (is_no_word y))
-
 or_first : (a b c : Bool) → a ≡ b → (a || c) ≡ (b || c)
 or_first a b c p = ap (λ x. x || c) p
 
@@ -97,10 +90,10 @@ reverse_passed t h i within StartLF = or_first _ _ _ (sym (none_at h i within))
 reverse_passed t h i within EndLF = or_first _ _ _ (sym (none_before h i within))
 reverse_passed t h i within StartCRLF = or_first _ _ _ (or_first _ _ _ (sym (none_at h i within)))
 reverse_passed t h i within EndCRLF = or_first _ _ _ (or_first _ _ _ (sym (none_before h i within)))
-reverse_passed t h i within WordAscii = edge_turned (byte_side (byte_before h i)) (byte_side (byte_at h i))
-reverse_passed t h i within WordAsciiNegate = no_edge_turned (byte_side (byte_before h i)) (byte_side (byte_at h i))
-reverse_passed t h i within WordUnicode = edge_turned (byte_side (byte_before h i)) (byte_side (byte_at h i))
-reverse_passed t h i within WordUnicodeNegate = no_edge_turned (byte_side (byte_before h i)) (byte_side (byte_at h i))
+reverse_passed t h i within WordAscii = edge_turns (byte_side (byte_before h i)) (byte_side (byte_at h i))
+reverse_passed t h i within WordAsciiNegate = no_edge_turns (byte_side (byte_before h i)) (byte_side (byte_at h i))
+reverse_passed t h i within WordUnicode = edge_turns (byte_side (byte_before h i)) (byte_side (byte_at h i))
+reverse_passed t h i within WordUnicodeNegate = no_edge_turns (byte_side (byte_before h i)) (byte_side (byte_at h i))
 reverse_passed t h i within WordStartAscii = and_turned (is_word (byte_side (byte_before h i))) (not (is_word (byte_side (byte_at h i))))
 reverse_passed t h i within WordEndAscii = and_turned (not (is_word (byte_side (byte_before h i)))) (is_word (byte_side (byte_at h i)))
 reverse_passed t h i within WordStartUnicode = and_turned (is_word (byte_side (byte_before h i))) (not (is_word (byte_side (byte_at h i))))
@@ -342,10 +335,6 @@ same_second : (r : Bool) → exact_second r ≡ second_half r
 same_second false = refl
 same_second true = refl
 
-with_true : (a b : Bool) → b ≡ true → (a && b) ≡ a
-with_true true b e = e
-with_true false b e = refl
-
 true_with : (a b : Bool) → a ≡ true → (a && b) ≡ b
 true_with true b e = refl
 true_with false b e = let f : false ≡ true = e in cc
@@ -374,11 +363,11 @@ module _ (looks : ℕ) (r : Bool) (t : Terminator) where
       (λ n m. none (known_at_byte asked (ends_line t b) (is_word_byte b)))
 
   start_has : (o : Option ℕ) (l : Look) → has_look looks l ≡ true → has_look (behind_start asked r t (start_of t o)).look_have l ≡ told_by r t o l
-  start_has o AtStart m = edge_exact asked r t o ∙ with_true _ _ (haystack_asked AtStart refl m)
-  start_has o StartLF m = lines_exact asked r t o ∙ with_true _ _ (lines_asked StartLF refl m)
-  start_has o StartCRLF m = crlf_exact asked r t o ∙ with_true _ _ (crlf_asked StartCRLF refl m) ∙ ap (λ b. is_none o || is_byte b o) (same_second r)
-  start_has o WordStartHalfAscii m = ascii_exact asked r t o ∙ with_true _ _ (words_asked WordStartHalfAscii refl m)
-  start_has o WordStartHalfUnicode m = unicode_exact asked r t o ∙ with_true _ _ (words_asked WordStartHalfUnicode refl m)
+  start_has o AtStart m = edge_exact asked r t o ∙ with_family _ _ (haystack_asked AtStart refl m)
+  start_has o StartLF m = lines_exact asked r t o ∙ with_family _ _ (lines_asked StartLF refl m)
+  start_has o StartCRLF m = crlf_exact asked r t o ∙ with_family _ _ (crlf_asked StartCRLF refl m) ∙ ap (λ b. is_none o || is_byte b o) (same_second r)
+  start_has o WordStartHalfAscii m = ascii_exact asked r t o ∙ with_family _ _ (words_asked WordStartHalfAscii refl m)
+  start_has o WordStartHalfUnicode m = unicode_exact asked r t o ∙ with_family _ _ (words_asked WordStartHalfUnicode refl m)
   start_has o End m = not_known End (λ f. starts_told f End) o
   start_has o EndLF m = not_known EndLF (λ f. starts_told f EndLF) o
   start_has o EndCRLF m = not_known EndCRLF (λ f. starts_told f EndCRLF) o
@@ -399,8 +388,8 @@ module _ (looks : ℕ) (r : Bool) (t : Terminator) where
   pub start_is_flagged : (o : Option ℕ) →
       IsFlagged looks r o (look_behind looks r t (start_of t o)).is_from_word (look_behind looks r t (start_of t o)).is_half_crlf
   start_is_flagged o = record {
-    word = λ m. word_exact asked r t o ∙ with_true _ _ (words_is looks ∙ m);
-    half = λ m. half_exact asked r t o ∙ with_true _ _ (crlf_is looks ∙ m) ∙ ap (λ b. is_byte b o) (same_first r);
+    word = λ m. word_exact asked r t o ∙ with_family _ _ (words_is looks ∙ m);
+    half = λ m. half_exact asked r t o ∙ with_family _ _ (crlf_is looks ∙ m) ∙ ap (λ b. is_byte b o) (same_first r);
   }
 
   abbrev pub seen_behind : Option ℕ → Families
@@ -438,6 +427,6 @@ module _ (looks : ℕ) (r : Bool) (t : Terminator) where
   pub behind_is_flagged : (u : Option ℕ) (some : Bool) → some ≡ true →
       IsFlagged looks r u (asked.words && (is_word (byte_side u) && some)) (asked.crlf && (is_byte (first_half r) u && some))
   behind_is_flagged u some e = record {
-    word = λ m. true_with _ _ (words_is looks ∙ m) ∙ with_true _ _ e;
-    half = λ m. true_with _ _ (crlf_is looks ∙ m) ∙ with_true _ _ e;
+    word = λ m. true_with _ _ (words_is looks ∙ m) ∙ with_family _ _ e;
+    half = λ m. true_with _ _ (crlf_is looks ∙ m) ∙ with_family _ _ e;
   }

@@ -146,10 +146,6 @@ module _ (t : Terminator) (h : List ℕ) (s e i k : ℕ) (low : i ≤ e) (within
   place_inside false l = omega (arith, l)
   place_inside true l = omega (arith, l)
 
-pub first_place : (r : Bool) (i : ℕ) → place_of r i 0 ≡ i
-first_place false i = omega arith
-first_place true i = omega arith
-
 module _ (a : Automaton) (kind : MatchKind) (t : Terminator) (h : List ℕ) (s e i k : ℕ) (low : i ≤ e) (within : e ≤ length h)
     (left : k < bytes_left a.reverse (span t h s e) i) where
   abbrev unit : Option ℕ

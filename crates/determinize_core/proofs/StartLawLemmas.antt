@@ -10,22 +10,15 @@ use Rattle.determinize_core.specs.Starts.{start_of}
 use Rattle.determinize_core.specs.LookBehind.{families_of, look_behind}
 use Rattle.determinize_core.proofs.EdgeLemmas.{none_before, none_at}
 use Rattle.determinize_core.proofs.LookBehindLemmas.{Allows, known_holds}
-
-or_first : (a b : Bool) → a ≡ true → (a || b) ≡ true
-or_first true b e = refl
-or_first false b e = cc
-
-or_second : (a b : Bool) → b ≡ true → (a || b) ≡ true
-or_second true b e = refl
-or_second false b e = e
+use Rattle.std.proofs.lemmas.Bool.{or_left, or_right}
 
 forward : (t : Terminator) (h : List ℕ) (i : ℕ) → i ≤ length h → Allows false t (byte_before h i) (λ l. holds_ascii t h l i ≡ true)
 forward t h i l = record {
   edge = λ e. sym (none_before h i l) ∙ ap is_none e;
-  edge_of_line = λ e. or_first (i == 0) _ (sym (none_before h i l) ∙ ap is_none e);
-  edge_of_crlf = λ e. or_first _ _ (or_first (i == 0) _ (sym (none_before h i l) ∙ ap is_none e));
-  line = λ e. or_second (i == 0) _ e;
-  line_feed = λ r e. or_first _ _ (or_second (i == 0) _ (ap (is_byte 0x0A) e));
+  edge_of_line = λ e. or_left (i == 0) _ (sym (none_before h i l) ∙ ap is_none e);
+  edge_of_crlf = λ e. or_left _ _ (or_left (i == 0) _ (sym (none_before h i l) ∙ ap is_none e));
+  line = λ e. or_right (i == 0) _ e;
+  line_feed = λ r e. or_left _ _ (or_right (i == 0) _ (ap (is_byte 0x0A) e));
   carriage_return = λ r e. cc;
   ascii = λ e. e;
   unicode = λ e. e;
@@ -34,11 +27,11 @@ forward t h i l = record {
 reverse_of : (t : Terminator) (h : List ℕ) (i : ℕ) → i ≤ length h → Allows true t (byte_at h i) (λ l. holds_ascii t h (reversed l) i ≡ true)
 reverse_of t h i l = record {
   edge = λ e. sym (none_at h i l) ∙ ap is_none e;
-  edge_of_line = λ e. or_first (i == length h) _ (sym (none_at h i l) ∙ ap is_none e);
-  edge_of_crlf = λ e. or_first _ _ (or_first (i == length h) _ (sym (none_at h i l) ∙ ap is_none e));
-  line = λ e. or_second (i == length h) _ e;
+  edge_of_line = λ e. or_left (i == length h) _ (sym (none_at h i l) ∙ ap is_none e);
+  edge_of_crlf = λ e. or_left _ _ (or_left (i == length h) _ (sym (none_at h i l) ∙ ap is_none e));
+  line = λ e. or_right (i == length h) _ e;
   line_feed = λ r e. cc;
-  carriage_return = λ r e. or_first _ _ (or_second (i == length h) _ (ap (is_byte 0x0D) e));
+  carriage_return = λ r e. or_left _ _ (or_right (i == length h) _ (ap (is_byte 0x0D) e));
   ascii = λ e. e;
   unicode = λ e. e;
 }

@@ -24,6 +24,7 @@ use Rattle.determinize_core.proofs.DecodeLemmas.{same_made}
 use Rattle.determinize_core.proofs.MatchLemmas.{reading_none}
 use Rattle.determinize_core.proofs.StartingLemmas.{one_inside}
 use Rattle.determinize_core.proofs.TargetLemmas.{units_below}
+use Rattle.determinize_core.proofs.EntriesLemmas.{capture_looks}
 
 -- ---- what is kept of a list
 
@@ -82,17 +83,6 @@ none_matches : (kind : MatchKind) (a : Automaton) → patterns_in kind a [] ≡ 
 none_matches AllMatches a = refl
 none_matches LeftmostFirst a = refl
 
-capture_has_no_look : (node : Node) → not (is_capture node) ≡ false → look_of node ≡ 0
-capture_has_no_look (look_node l next) e = let never : true ≡ false = e in cc
-capture_has_no_look (byte_range low high next) e = refl
-capture_has_no_look (sparse_node ranges) e = refl
-capture_has_no_look (dense_node names) e = refl
-capture_has_no_look (union_node names) e = refl
-capture_has_no_look (binary_union left right) e = refl
-capture_has_no_look (capture_node next pattern group slot) e = refl
-capture_has_no_look fail_node e = refl
-capture_has_no_look (match_node pattern) e = refl
-
 module _ (a : Automaton) where
   first_not_kept : (q : ℕ) (qs : List ℕ) → kept a (q ∷ qs) ≡ [] → (is_kept a q ≡ false) × (kept a qs ≡ [])
   first_not_kept q qs none = ⊎_elim
@@ -107,7 +97,7 @@ module _ (a : Automaton) where
   none_looks looks [] none = refl
   none_looks looks (q ∷ qs) none =
       let parts = first_not_kept q qs none in
-      let same : union_of looks (look_of (node_at a q)) ≡ looks = ap (union_of looks) (capture_has_no_look (node_at a q) parts.0) ∙ or_zero_r looks in
+      let same : union_of looks (look_of (node_at a q)) ≡ looks = ap (union_of looks) (capture_looks (node_at a q) parts.0) ∙ or_zero_r looks in
       ap (λ (l : ℕ). looks_with a l qs) same ∙ none_looks looks qs parts.1
 
   module _ (t : Terminator) (kind : MatchKind) (v : StateValue) (u : Option ℕ) where

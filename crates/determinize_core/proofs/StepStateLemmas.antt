@@ -14,7 +14,7 @@ use Rattle.nfa_core.specs.Runs.{answers}
 use Rattle.nfa_core.specs.Nfa.{Node, byte_range, sparse_node, dense_node, look_node, union_node, binary_union, capture_node, fail_node, match_node, Automaton, node_at}
 use Rattle.nfa_core.specs.NfaValue.{IsSound, IsNodeOf, look_of}
 use Rattle.nfa_core.specs.Reached.{AreBelow}
-use Rattle.nfa_core.proofs.ForCallers.{none_in, has_first, of_flat_map, join_once, of_join, names_equal}
+use Rattle.nfa_core.proofs.ForCallers.{none_in, has_first, of_flat_map, join_once, of_join, names_equal, sound_at}
 use Rattle.determinize_core.specs.States.{StateValue, IsState, dead}
 use Rattle.determinize_core.specs.LookBehind.{with_look_behind}
 use Rattle.determinize_core.specs.Steps.{looks_with, have_if, closed, known_behind, ids_before, families, second_half, pattern_of, pattern_at, patterns_in, states_behind, step_value, behind, start_value}
@@ -72,12 +72,6 @@ pattern_below patterns (binary_union left right) of = λ p h. none_in nat_eq p _
 pattern_below patterns (capture_node next pattern group slot) of = λ p h. none_in nat_eq p _ h
 pattern_below patterns fail_node of = λ p h. none_in nat_eq p _ h
 
-node_of_all : (patterns : ℕ) (nodes : List Node) (q : ℕ) → All (IsNodeOf patterns) nodes → IsNodeOf patterns (get_or nodes q fail_node)
-node_of_all patterns [] zero all = tt
-node_of_all patterns [] (suc q) all = tt
-node_of_all patterns (x ∷ nodes) zero all = all 0 fail_node (omega arith)
-node_of_all patterns (x ∷ nodes) (suc q) all = node_of_all patterns nodes q (λ k d p. all (suc k) d (omega (arith, p)))
-
 first_below : (n : ℕ) (xs : List ℕ) → AreBelow n xs → AreBelow n (option_to_list (first xs))
 first_below n [] below = below
 first_below n (x ∷ xs) below = one_inside n x (below x (has_first nat_eq names_equal x xs))
@@ -90,7 +84,7 @@ module _ (a : Automaton) where
   answers_below : IsSound a → (qs : List ℕ) → AreBelow (length a.start_pattern) (answers (pattern_at a) qs)
   answers_below sound qs =
       of_flat_map nat_eq names_equal nat_eq (λ q. option_to_list (pattern_at a q)) (λ p. p < length a.start_pattern) qs
-      (λ q _h. pattern_below (length a.start_pattern) (node_at a q) (node_of_all (length a.start_pattern) a.states q sound.nodes))
+      (λ q _h. pattern_below (length a.start_pattern) (node_at a q) (sound_at (length a.start_pattern) a.states q sound.nodes))
 
   pub patterns_below : IsSound a → (kind : MatchKind) (qs : List ℕ) → AreBelow (length a.start_pattern) (patterns_in kind a qs)
   patterns_below sound AllMatches qs = of_join nat_eq names_equal (λ p. p < length a.start_pattern) [] (answers (pattern_at a) qs) (λ p h. none_in nat_eq p _ h) (answers_below sound qs)

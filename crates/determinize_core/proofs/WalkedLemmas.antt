@@ -10,7 +10,7 @@ use Rattle.nfa_core.specs.Walks.{Visits}
 use Rattle.nfa_core.specs.Nfa.{Automaton, node_at, IsWellFormed}
 use Rattle.nfa_core.specs.NfaValue.{looks_of}
 use Rattle.nfa_core.specs.Ways.{Text, span, is_passed, on_nothing, plain_steps, byte_steps, place_of, bytes_left, AreLists}
-use Rattle.nfa_core.proofs.ForCallers.{none_in, of_cons, names_equal, stays_closed}
+use Rattle.nfa_core.proofs.ForCallers.{none_in, of_cons, names_equal, stays_closed, place_zero, nothing_same}
 use Rattle.determinize_core.specs.States.{StateValue}
 use Rattle.determinize_core.specs.Starts.{start_of}
 use Rattle.determinize_core.specs.LookBehind.{starts_of}
@@ -18,11 +18,11 @@ use Rattle.determinize_core.specs.Steps.{known_behind, closed, unit_steps, readi
 use Rattle.determinize_core.specs.Walked.{closed_by, cut_of, walked_lists}
 use Rattle.determinize_core.specs.declared.start.Start.TheVariants.{Text as AtText}
 use Rattle.determinize_core.specs.declared.lookbehind.Families.{Families}
-use Rattle.determinize_core.proofs.KnownStateLemmas.{known-lt}
+use Rattle.determinize_core.proofs.KnownStateLemmas.{known-lt, starts_of-lt}
 use Rattle.determinize_core.proofs.MadeLemmas.{AreBelow, walk_made, made_below}
 use Rattle.determinize_core.proofs.PassedLemmas.{passed_by, looks_passed, IsTold, start_is_told, start_is_flagged, seen_behind, behind_is_told, behind_is_flagged}
-use Rattle.determinize_core.proofs.EntriesLemmas.{ways_agree, stays_below, IsStateOf, closes}
-use Rattle.determinize_core.proofs.ReadingLemmas.{kept_match, unit_passes, unit_is, place_inside, first_place, entries_alike, unit_low, bytes_low}
+use Rattle.determinize_core.proofs.EntriesLemmas.{stays_below, IsStateOf, closes}
+use Rattle.determinize_core.proofs.ReadingLemmas.{kept_match, unit_passes, unit_is, place_inside, entries_alike, unit_low, bytes_low}
 
 -- ---- the lists of the walk under all looks
 
@@ -42,9 +42,6 @@ lists_are_lists kind a text i q formed low = record {
 }
 
 -- ---- states of walks
-
-starts-lt : (f : Families) → IsLookSet (starts_of f)
-starts-lt f = known-lt f true (0, None) AtText
 
 start_stands : (a : Automaton) (t : Terminator) (o : Option ℕ) (q : ℕ) → q < length a.states →
     IsStateOf a t o (behind a t (start_of t o)).look_have (q ∷ []) (start_value a t (start_of t o) q)
@@ -66,7 +63,7 @@ step_stands a formed t kind v u b e =
       ids = refl;
       need = refl;
       has = refl;
-      small = starts-lt (seen_behind (looks_of a.states) a.reverse t u);
+      small = starts_of-lt (seen_behind (looks_of a.states) a.reverse t u);
       told = subst T (sym e) (behind_is_told (looks_of a.states) a.reverse t b);
       flagged = λ some. behind_is_flagged (looks_of a.states) a.reverse t u (is_some_kept a (states_behind a t kind v u)) some;
       low = unit_low a formed u (reading kind a (ids_before a t v u));
@@ -97,7 +94,7 @@ module _ (kind : MatchKind) (a : Automaton) (t : Terminator) (h : List ℕ) (s e
   visits_by k l entries under =
       stays_closed nat_eq names_equal (plain_steps a text (place k)) (λ x. on_nothing (node_at a x) (passed_by a.reverse t (unit_behind a.reverse h (place k)) (unit k)))
       (closed_visits a formed text (place k) entries under)
-      (λ x there. ways_agree (node_at a x) (λ m. is_passed a.reverse text m (place k)) (passed_by a.reverse t (unit_behind a.reverse h (place k)) (unit k))
+      (λ x there. nothing_same (node_at a x) (λ m. is_passed a.reverse text m (place k)) (passed_by a.reverse t (unit_behind a.reverse h (place k)) (unit k))
       (λ m next is. looks_passed a.reverse t h s e (place k) (place_inside t h s e i k below within a.reverse l) m))
 
   -- a state that stands there has the states that its entries come to
@@ -112,7 +109,7 @@ module _ (kind : MatchKind) (a : Automaton) (t : Terminator) (h : List ℕ) (s e
   states_are zero l =
       let S : Option ℕ → Type 0 = λ o. IsStateOf a t o (behind a t (start_of t (unit_behind a.reverse h i))).look_have (q ∷ []) (state zero) in
       comes_to zero l (behind a t (start_of t (unit_behind a.reverse h i))).look_have (q ∷ [])
-      (subst S (ap (unit_behind a.reverse h) (sym (first_place a.reverse i))) (start_stands a t (unit_behind a.reverse h i) q low))
+      (subst S (ap (unit_behind a.reverse h) (sym (place_zero a.reverse i))) (start_stands a t (unit_behind a.reverse h i) q low))
   states_are (suc k) l =
       let less : k < len = omega (arith, l) in
       let before = states_are k (omega (arith, l)) in

@@ -61,3 +61,8 @@ pub use Rattle.hir_core.proofs.BackwardLemmas.{behind_more, behind_all}
 pub use Rattle.hir_core.proofs.LookFactLemmas.{one_has, one_held}
 -- what a tree means, and prefers, in a haystack that ends at a place is what it does up to there in the whole one
 pub use Rattle.hir_core.proofs.CutLemmas.{cut_ends, cut_to_whole, whole_to_cut}
+pub use Rattle.hir_core.proofs.LooksUsedLemmas.{rounds_map}
+pub use Rattle.hir_core.proofs.SequenceCountLemmas.{few_pieces}
+pub use Rattle.hir_core.proofs.SequenceLemmas.{spelled_one}
+pub use Rattle.hir_core.proofs.SequenceTreeLemmas.{member_of_one}
+pub use Rattle.hir_core.proofs.SequenceTreeLemmas.{same_test}

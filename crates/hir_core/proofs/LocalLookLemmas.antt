@@ -37,7 +37,7 @@ module _ (In : ℕ → Type 0) (greedy : Bool) (b c : Ends) (same : (i : ℕ) �
   repeated_same h min None i here = at_least_same h min i here
   repeated_same h min (Some most) i here = between_same min most i here
 
-no_round_same : (greedy : Bool) (b c : Ends) (min i : ℕ) → between greedy b min 0 i ≡ between greedy c min 0 i
+pub no_round_same : (greedy : Bool) (b c : Ends) (min i : ℕ) → between greedy b min 0 i ≡ between greedy c min 0 i
 no_round_same greedy b c zero i = refl
 no_round_same greedy b c (suc min) i = refl
 

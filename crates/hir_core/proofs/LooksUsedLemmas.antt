@@ -9,12 +9,13 @@ use Rattle.hir_core.specs.PreferredEnds.{Ends, in_order, up_to, at_least, betwee
 use Rattle.hir_core.specs.Facts.{looks_used}
 use Rattle.hir_core.proofs.HasLemmas.{flat_map_same}
 use Rattle.hir_core.proofs.LookFactLemmas.{one_held, union_left, union_right}
+use Rattle.hir_core.proofs.LocalLookLemmas.{no_round_same}
 
 -- two readings agree on the looks that the tree uses
 abbrev pub Agree : Looks → Looks → Tree → Type 0
 Agree f g x = (l : Look) → has_look (looks_used x) l ≡ true → (i : ℕ) → f l i ≡ g l i
 
-rounds_map : (R S : ℕ → ℕ → Type 0) → ((i j : ℕ) → R i j → S i j) → (n i j : ℕ) → Rounds R n i j → Rounds S n i j
+pub rounds_map : (R S : ℕ → ℕ → Type 0) → ((i j : ℕ) → R i j → S i j) → (n i j : ℕ) → Rounds R n i j → Rounds S n i j
 rounds_map R S each zero i j r = r
 rounds_map R S each (suc n) i j r = (r.0, each i r.0 r.1, rounds_map R S each n r.0 j r.2)
 
@@ -64,10 +65,6 @@ module _ (greedy : Bool) (b c : Ends) (same : (i : ℕ) → b i ≡ c i) where
   repeated_same : (h : List ℕ) (min : ℕ) (most : Option ℕ) (i : ℕ) → repeated h min most greedy b i ≡ repeated h min most greedy c i
   repeated_same h min None i = at_least_same h min i
   repeated_same h min (Some most) i = between_same min most i
-
-no_round_same : (greedy : Bool) (b c : Ends) (min i : ℕ) → between greedy b min 0 i ≡ between greedy c min 0 i
-no_round_same greedy b c zero i = refl
-no_round_same greedy b c (suc min) i = refl
 
 module _ (f g : Looks) (h : List ℕ) where
   pub same_ends : (x : Tree) → Agree f g x → (i : ℕ) → preferred_ends f h x i ≡ preferred_ends g h x i

@@ -3,7 +3,7 @@ use Rattle.std.proofs.Common.{ℕ, zero, suc, ◌+◌, ◌-◌, ◌<◌, ◌≤�
 use Rattle.std.proofs.lemmas.List.{length-map}
 use Rattle.hir_core.specs.Sequences.{scalar_from, piece_end, pieces_of, pieces, byte_ranges, utf8_sequences}
 
-few_pieces : (most lo hi : ℕ) → length (pieces_of most lo hi) ≤ most
+pub few_pieces : (most lo hi : ℕ) → length (pieces_of most lo hi) ≤ most
 few_pieces zero lo hi = omega arith
 few_pieces (suc most) lo hi = by_test (nat_le (scalar_from lo) (min hi 0x10FFFF)) (few_pieces most (piece_end (scalar_from lo) hi + 1) hi)
   where

@@ -124,7 +124,7 @@ three c = (224 + c / 4096) ∷ (128 + (c / 64) % 64) ∷ (128 + c % 64) ∷ []
 abbrev four : ℕ → List ℕ
 four c = (240 + c / 262144) ∷ (128 + (c / 4096) % 64) ∷ (128 + (c / 64) % 64) ∷ (128 + c % 64) ∷ []
 
-spelled_one : (c : ℕ) → c ≤ 0x7F → spelling_of c ≡ c ∷ []
+pub spelled_one : (c : ℕ) → c ≤ 0x7F → spelling_of c ≡ c ∷ []
 spelled_one c h = cond-true _ _ _ (le-leb c 0x7F h)
 
 spelled_two : (c : ℕ) → 0x80 ≤ c → c ≤ 0x7FF → spelling_of c ≡ two c

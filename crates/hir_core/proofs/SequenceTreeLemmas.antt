@@ -3,7 +3,7 @@
 use Rattle.std.proofs.Common.{◌≡◌, ℕ, zero, suc, ◌+◌, ◌-◌, ◌≤◌, ◌⊎◌, inl, inr, Bool, true, false, cond, ◌&&◌, ◌||◌, leb, List, [], ◌∷◌, ◌++◌, map, length, take, drop, slice_get, Option, Some, None, refl, sym, ap, ap₂, subst, ◌∙◌, ⊎_elim, arith, length-append}
 use Rattle.std.specs.Char.{InScalarRange}
 use Rattle.std.specs.List.{flat_map}
-use Rattle.std.proofs.lemmas.Bool.{and_parts, and_from, le-leb, leb-true, cases_Bool, false_from_ne_true, cond-true, cond-false}
+use Rattle.std.proofs.lemmas.Bool.{and_parts, and_from, le-leb, leb-true, cases_Bool, false_from_ne_true, cond-true, cond-false, or_right}
 use Rattle.std.proofs.lemmas.List.{take-append-drop}
 use Rattle.std.proofs.lemmas.List.Concat.{flat_map-append}
 use Rattle.search_core.specs.Utf8.{SpellsFirst}
@@ -98,7 +98,7 @@ in_begins (r ∷ rs) (b ∷ bs) rest e = let p = and_parts _ _ e in and_from _ _
 one_member : (p : ℕ × ℕ) (c : ℕ) → p.0 ≤ c → c ≤ p.1 → is_member (p ∷ []) c ≡ true
 one_member p c l m = ap (λ t. t || false) (and_from _ _ (le-leb p.0 c l) (le-leb c p.1 m))
 
-member_of_one : (p : ℕ × ℕ) (c : ℕ) → is_member (p ∷ []) c ≡ true → (p.0 ≤ c) × (c ≤ p.1)
+pub member_of_one : (p : ℕ × ℕ) (c : ℕ) → is_member (p ∷ []) c ≡ true → (p.0 ≤ c) × (c ≤ p.1)
 member_of_one p c e = elim (member_cases p [] c e) [ inl a ↦ a | inr b ↦ absurd (never b) ]
 
 -- where the bytes are begun so, the character is of the piece
@@ -170,18 +170,15 @@ pieces_ends h i low hi (p ∷ ps) r =
     ∙ sym (class_parts p ps (character_at h i) i (λ c l m e. let q = rising_members (p.1 + 1) hi ps c r.3 e in absurd (omega (arith, m, q.0))))
 
 -- ---- the pieces of a range have its scalars
-or_later : (t u : Bool) → u ≡ true → (t || u) ≡ true
-or_later true u e = refl
-or_later false u e = e
 
 member_there : (c k : ℕ) (ps : List (ℕ × ℕ)) (p : ℕ × ℕ) → slice_get ps k ≡ Some p → p.0 ≤ c → c ≤ p.1 → is_member ps c ≡ true
 member_there c k [] p e l m = cc
 member_there c zero (x ∷ ps) p e l m =
     let same : x ≡ p = cc in
     subst (λ (y : ℕ × ℕ). is_member (y ∷ ps) c ≡ true) (sym same) (ap (λ t. t || is_member ps c) (and_from _ _ (le-leb p.0 c l) (le-leb c p.1 m)))
-member_there c (suc k) (x ∷ ps) p e l m = or_later (leb x.0 c && leb c x.1) (is_member ps c) (member_there c k ps p e l m)
+member_there c (suc k) (x ∷ ps) p e l m = or_right (leb x.0 c && leb c x.1) (is_member ps c) (member_there c k ps p e l m)
 
-same_test : (t u : Bool) → (t ≡ true → u ≡ true) → (u ≡ true → t ≡ true) → t ≡ u
+pub same_test : (t u : Bool) → (t ≡ true → u ≡ true) → (u ≡ true → t ≡ true) → t ≡ u
 same_test true u f g = sym (f refl)
 same_test false true f g = g refl
 same_test false false f g = refl
@@ -255,7 +252,7 @@ later_part : (r : ℕ × ℕ) (rs : List (ℕ × ℕ)) (o : Option ℕ) (i j : �
 later_part r rs None i j g = elim g [ ]
 later_part r rs (Some c) i j g =
     let one = Has-if (is_member rs c) (i + spelling_len c) j g in
-    Has-then (is_member (r ∷ rs) c) _ j (or_later (leb r.0 c && leb c r.1) (is_member rs c) one.0) one.1
+    Has-then (is_member (r ∷ rs) c) _ j (or_right (leb r.0 c && leb c r.1) (is_member rs c) one.0) one.1
 
 abbrev SequenceHas : List ℕ → ℕ → ℕ → List (ℕ × ℕ) → Type 0
 SequenceHas h i j ranges = Has (flat_map (sequence_end h i) (sequences_of ranges)) j

@@ -23,15 +23,17 @@ use Rattle.regex_pair.specs.Pairs.{Pair, back_options, pair_built}
 use Rattle.hirscan.specs.declared.settings.Settings.{Settings}
 use Rattle.hirscan.specs.Built.{IsBuilt, FindsFirst, HasRoom, compile_options, use_unicode_words, quit_bytes_for, are_unsupported}
 use Rattle.hirscan.specs.Regexes.{IsRegexOf}
-use Rattle.hirscan.proofs.BuiltPairLemmas.{pair_is, turned_words, member_of_any, same_truth, built_pair_is}
-use Rattle.hirscan.proofs.RegexLemmas.{any_by_member}
+use Rattle.hirscan.proofs.BuiltPairLemmas.{pair_is, turned_words, member_of_any, built_pair_is}
+use Rattle.search_types.proofs.ForCallers.{option_or-None}
+use Rattle.hir_core.proofs.ForCallers.{same_test}
+use Rattle.determinize_core.proofs.ForCallers.{has_family}
 
 -- ---- words by characters, of trees and of an automaton
-words_either_way : (reverse : Bool) (l : Look) → is_word_unicode (turned reverse l) ≡ is_word_unicode l
+pub words_either_way : (reverse : Bool) (l : Look) → is_word_unicode (turned reverse l) ≡ is_word_unicode l
 words_either_way false l = refl
 words_either_way true l = turned_words l
 
-turned_twice : (reverse : Bool) (l : Look) → turned reverse (turned reverse l) ≡ l
+pub turned_twice : (reverse : Bool) (l : Look) → turned reverse (turned reverse l) ≡ l
 turned_twice false l = refl
 turned_twice true l = reversed_twice l
 
@@ -44,7 +46,7 @@ module _ (xs : List Tree) (s : Settings) (reverse : Bool) (n : Nfa) (made : IsCo
       let l = member_of_any is_word_unicode (looks_of n.automaton.states) e in
       let used = (looks_are_used (compile_options reverse s) xs n made l.0).0 l.1 in
       let here : asks_for_words used.1 ≡ true =
-      any_by_member is_word_unicode (looks_used used.1) (turned reverse l.0) used.3 (words_either_way reverse l.0 ∙ l.2) in
+      has_family is_word_unicode (looks_used used.1) (turned reverse l.0) used.3 (words_either_way reverse l.0 ∙ l.2) in
       list_any_at asks_for_words xs used.0 used.1 (slice_get_within xs used.0 used.1 used.2)
       (ap asks_for_words (get_or_from_slice_get xs used.0 used.1 used.1 used.2) ∙ here)
 
@@ -55,10 +57,10 @@ module _ (xs : List Tree) (s : Settings) (reverse : Bool) (n : Nfa) (made : IsCo
       let listed = slice_get_read xs (length xs) at.0 at.1 refl at.2 (sym at.3) in
       let there = (looks_are_used (compile_options reverse s) xs n made (turned reverse l.0)).1
       (at.0, at.1, listed, ap (has_look (looks_used at.1)) (turned_twice reverse l.0) ∙ l.1) in
-      any_by_member is_word_unicode (looks_of n.automaton.states) (turned reverse l.0) there (words_either_way reverse l.0 ∙ l.2)
+      has_family is_word_unicode (looks_of n.automaton.states) (turned reverse l.0) there (words_either_way reverse l.0 ∙ l.2)
 
   words_are : has_unicode_word n.automaton ≡ use_unicode_words xs
-  words_are = same_truth (has_unicode_word n.automaton) (use_unicode_words xs) of_a_tree of_a_state
+  words_are = same_test (has_unicode_word n.automaton) (use_unicode_words xs) of_a_tree of_a_state
 
   pub quits_are : (o : Options) → quit_bytes n.automaton (word_boundary_of o) (by_hand o) ≡ quit_bytes_for xs o
   quits_are o = ap (λ (b : Bool). if b && word_boundary_of o then with_high_bytes (by_hand o) else by_hand o) words_are
@@ -81,22 +83,18 @@ same_measures n o = ap (λ (cs : List ℕ). measures_of n.automaton cs (starts_e
 room_of : (skips : Bool) (least given : ℕ) → least ≤ (if skips then max least given else given) → skips ≡ false → least ≤ given
 room_of skips least given enough checks = subst (λ (b : Bool). least ≤ (if b then max least given else given)) checks enough
 
-or_none : {A : Type 0} (o : Option A) → option_or o None ≡ o
-or_none (Some x) = refl
-or_none None = refl
-
 pub set_once : (o : Options) → changed_by no_options o ≡ o
 set_once o = λ i. record {
-  match_kind = or_none o.match_kind i;
-  starts_for_each_pattern = or_none o.starts_for_each_pattern i;
-  byte_classes = or_none o.byte_classes i;
-  unicode_word_boundary = or_none o.unicode_word_boundary i;
-  quit_set = or_none o.quit_set i;
-  specialize_start_states = or_none o.specialize_start_states i;
-  cache_capacity = or_none o.cache_capacity i;
-  skip_cache_capacity_check = or_none o.skip_cache_capacity_check i;
-  minimum_cache_clear_count = or_none o.minimum_cache_clear_count i;
-  minimum_bytes_per_state = or_none o.minimum_bytes_per_state i;
+  match_kind = option_or-None o.match_kind i;
+  starts_for_each_pattern = option_or-None o.starts_for_each_pattern i;
+  byte_classes = option_or-None o.byte_classes i;
+  unicode_word_boundary = option_or-None o.unicode_word_boundary i;
+  quit_set = option_or-None o.quit_set i;
+  specialize_start_states = option_or-None o.specialize_start_states i;
+  cache_capacity = option_or-None o.cache_capacity i;
+  skip_cache_capacity_check = option_or-None o.skip_cache_capacity_check i;
+  minimum_cache_clear_count = option_or-None o.minimum_cache_clear_count i;
+  minimum_bytes_per_state = option_or-None o.minimum_bytes_per_state i;
 }
 
 pub is_built : (xs : List Tree) (s : Settings) (n m : Nfa) (o : Options) (p : Pair) → IsCompiled (compile_options false s) xs n →

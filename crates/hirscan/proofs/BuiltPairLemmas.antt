@@ -27,7 +27,8 @@ use Rattle.lazy_dfa.specs.Dfas.{Dfa, IsDfa}
 use Rattle.lazy_dfa.specs.Quits.{quit_bytes, has_unicode_word, with_high_bytes, is_unsupported}
 use Rattle.regex_pair.specs.Pairs.{Pair, back_options, both_of, pair_built}
 use Rattle.hirscan.specs.Regexes.{IsRegexOf}
-use Rattle.hirscan.proofs.RegexLemmas.{any_by_member}
+use Rattle.hir_core.proofs.ForCallers.{same_test}
+use Rattle.determinize_core.proofs.ForCallers.{has_family}
 
 -- ---- what is built
 abbrev pub pair_of : Nfa → Nfa → DfaOptions → Pair
@@ -106,11 +107,6 @@ module _ (test : Look → Bool) (s : ℕ) where
   pub member_of_any : has_any test s ≡ true → (l : Look) × (has_look s l ≡ true) × (test l ≡ true)
   member_of_any e = any_in all_looks e
 
-pub same_truth : (a b : Bool) → (a ≡ true → b ≡ true) → (b ≡ true → a ≡ true) → a ≡ b
-same_truth true b f g = sym (f refl)
-same_truth false true f g = g refl
-same_truth false false f g = refl
-
 module _ (o r : Options) (xs : List Tree) (n m : Nfa) (up : IsCompiled o xs n) (is_reverse : IsCompiled r xs m)
     (reads_forward : reverse_of o ≡ false) (reads_reverse : reverse_of r ≡ true) where
   reverse_words : has_unicode_word n.automaton ≡ true → has_unicode_word m.automaton ≡ true
@@ -119,7 +115,7 @@ module _ (o r : Options) (xs : List Tree) (n m : Nfa) (up : IsCompiled o xs n) (
       let used = (looks_are_used o xs n up l.0).0 l.1 in
       let same : turned (reverse_of r) (reversed l.0) ≡ turned (reverse_of o) l.0 =
       ap (λ b. turned b (reversed l.0)) reads_reverse ∙ reversed_twice l.0 ∙ sym (ap (λ b. turned b l.0) reads_forward) in
-      any_by_member is_word_unicode (looks_of m.automaton.states) (reversed l.0)
+      has_family is_word_unicode (looks_of m.automaton.states) (reversed l.0)
       ((looks_are_used r xs m is_reverse (reversed l.0)).1 (used.0, used.1, used.2, ap (has_look (looks_used used.1)) same ∙ used.3))
       (turned_words l.0 ∙ l.2)
 
@@ -129,12 +125,12 @@ module _ (o r : Options) (xs : List Tree) (n m : Nfa) (up : IsCompiled o xs n) (
       let used = (looks_are_used r xs m is_reverse l.0).0 l.1 in
       let same : turned (reverse_of o) (reversed l.0) ≡ turned (reverse_of r) l.0 =
       ap (λ b. turned b (reversed l.0)) reads_forward ∙ sym (ap (λ b. turned b l.0) reads_reverse) in
-      any_by_member is_word_unicode (looks_of n.automaton.states) (reversed l.0)
+      has_family is_word_unicode (looks_of n.automaton.states) (reversed l.0)
       ((looks_are_used o xs n up (reversed l.0)).1 (used.0, used.1, used.2, ap (has_look (looks_used used.1)) same ∙ used.3))
       (turned_words l.0 ∙ l.2)
 
   same_words : has_unicode_word m.automaton ≡ has_unicode_word n.automaton
-  same_words = same_truth (has_unicode_word m.automaton) (has_unicode_word n.automaton) forward_words reverse_words
+  same_words = same_test (has_unicode_word m.automaton) (has_unicode_word n.automaton) forward_words reverse_words
 
   same_quit_bytes : (boundaries : Bool) (set : List Bool) → quit_bytes m.automaton boundaries set ≡ quit_bytes n.automaton boundaries set
   same_quit_bytes boundaries set = ap (λ b. if b && boundaries then with_high_bytes set else set) same_words

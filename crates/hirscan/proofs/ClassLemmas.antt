@@ -48,8 +48,9 @@ use Rattle.hirscan.proofs.BuiltPairLemmas.{pair_is}
 use Rattle.hirscan.proofs.EndLemmas.{Fits, last_within}
 use Rattle.hirscan.proofs.FirstEndLemmas.{FindsFirsts, trees_firsts, one_place}
 use Rattle.hirscan.proofs.OfferLemmas.{mode_offers}
-use Rattle.hirscan.proofs.RegexLemmas.{any_by_member, forward_ends_lines}
+use Rattle.hirscan.proofs.RegexLemmas.{forward_ends_lines}
 use Rattle.hirscan.proofs.SpanChoiceLemmas.{no_offer, first_offer}
+use Rattle.determinize_core.proofs.ForCallers.{has_family}
 
 -- ---- answers by the first choice of each place
 
@@ -88,7 +89,7 @@ no_word xs none k x l listed used = ⊎_elim
     (λ (word : is_word_unicode l ≡ true).
     let there : has_any is_word_unicode (looks_used (get_or xs k empty)) ≡ true =
     ap (λ (y : Tree). has_any is_word_unicode (looks_used y)) (get_or_from_slice_get xs k x empty listed)
-    ∙ any_by_member is_word_unicode (looks_used x) l used word in
+    ∙ has_family is_word_unicode (looks_used x) l used word in
     let some = list_any_at (λ y. has_any is_word_unicode (looks_used y)) xs k empty (slice_get_within xs k x listed) there in
     let never : true ≡ false = sym some ∙ none in absurd (grind (arith, never)))
     (λ (plain : is_word_unicode l ≡ false). plain)

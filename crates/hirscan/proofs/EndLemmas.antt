@@ -22,10 +22,6 @@ pub listed_has : (P : Tree → Type 0) (xs : List Tree) → All P xs → (p : �
 listed_has P xs all p x listed = subst P (get_or_from_slice_get xs p x empty listed)
     (All-get_or P xs p empty (slice_get_within xs p x listed) all)
 
-pub both_true : (a b : Bool) → a ≡ true → b ≡ true → a && b ≡ true
-both_true true b t u = u
-both_true false b t u = t
-
 -- the premises on the patterns and the haystack
 pub record Fits (q : Query) : Type 0 where
   pub within : q.end ≤ length q.haystack

@@ -2,7 +2,7 @@
 -- it read no byte tells words of characters apart from these.
 use Rattle.std.proofs.Common.{◌≡◌, ℕ, zero, suc, ◌+◌, ◌-◌, ◌<◌, ◌≤◌, Bool, true, false, not, ◌&&◌, List, Option, Some, None, refl, sym, ap, ◌∙◌, subst, inl, inr, arith}
 use Rattle.std.specs.List.{flat_map}
-use Rattle.std.proofs.lemmas.Bool.{cases_lt, cases_Bool}
+use Rattle.std.proofs.lemmas.Bool.{cases_lt, cases_Bool, and_from}
 use Rattle.look_core.specs.Looks.{holds, IsWordSet}
 use Rattle.look_core.specs.Terminators.{Terminator}
 use Rattle.hir_core.specs.Tree.{Tree}
@@ -27,19 +27,15 @@ use Rattle.lazy_dfa.specs.Readers.{Reader, found}
 use Rattle.lazy_dfa.specs.Scans.{first_place, scan}
 use Rattle.lazy_dfa.specs.ScanLaws.{restarts, IsSplitBy, IsFirstFound, ends_by}
 use Rattle.lazy_dfa.specs.SearchAnswers.{HasReach}
-use Rattle.lazy_dfa.proofs.ForCallers.{scan_has_reach, scan_done, no_pattern}
+use Rattle.lazy_dfa.proofs.ForCallers.{scan_has_reach, scan_done, no_pattern, few_restarts, one_found}
 use Rattle.regex_pair.specs.Pairs.{Pair}
 use Rattle.hirscan.specs.Choices.{Query}
 use Rattle.hirscan.specs.Regexes.{IsRegexOf, IsSearchOf, query_of}
-use Rattle.hirscan.proofs.EndLemmas.{both_true, Fits, Tells, HasEnd, AllCount, Firsts, IsSplitAt, ends_past, none_past, anchored_split, whole_ends, no_place, unanchored_no, last_within}
+use Rattle.hirscan.proofs.EndLemmas.{Fits, Tells, HasEnd, AllCount, Firsts, IsSplitAt, ends_past, none_past, anchored_split, whole_ends, no_place, unanchored_no, last_within}
 use Rattle.hirscan.proofs.FirstEndLemmas.{FindsFirsts}
 use Rattle.hirscan.proofs.RegexLemmas.{goes_forward, forward_is_utf8, place_forward, reads_alike}
 
 -- ---- how often a search begins anew
-few_places : (mode : Anchored) (n k : ℕ) → k ≤ restarts mode n → k ≤ n
-few_places No n k l = l
-few_places Yes n k l = omega arith
-few_places (Pattern p) n k l = omega arith
 
 some_free : (mode : Anchored) (n k : ℕ) → k ≤ restarts mode n → 0 < k → mode ≡ No
 some_free No n k l some = refl
@@ -50,9 +46,6 @@ all_places : (mode : Anchored) (n : ℕ) → mode ≡ No → restarts mode n ≡
 all_places No n free = refl
 all_places Yes n free = cc
 all_places (Pattern p) n free = cc
-
-pub same_found : (o r : Option (ℕ × ℕ)) → found o ≡ found r → o ≡ r
-same_found o r e = cc
 
 not_split : (counted : ℕ → Bool) (c : ℕ × ℕ) → splits counted (found (Some c)) ≡ false → counted c.0 ≡ true
 not_split counted c e = elim (cases_Bool (counted c.0)) [
@@ -97,7 +90,7 @@ module _ (xs : List Tree) (utf8 : Bool) (t : Terminator) (p : Pair) (regex : IsR
     | inl on ↦ inr (λ k i span.
         let some : has_empty a ≡ true =
         regex.is_forward.empty.1 (k, span.tree, span.listed, empty_span looks q.haystack span.tree i i refl span.means) in
-        let differ : true ≡ false = sym (both_true p.forward.nfa.utf8 (has_empty a) (forward_is_utf8 xs utf8 t p regex ∙ on) some) ∙ off in cc)
+        let differ : true ≡ false = sym (and_from p.forward.nfa.utf8 (has_empty a) (forward_is_utf8 xs utf8 t p regex ∙ on) some) ∙ off in cc)
     | inr plain ↦ inl plain
   ]
 
@@ -156,7 +149,7 @@ module _ (xs : List Tree) (utf8 : Bool) (t : Terminator) (p : Pair) (regex : IsR
             ((m : ℕ) → m < k → IsSplitBy wanted f q m) → wanted k o →
             splits (counts f.between_characters q.haystack) (found o) ≡ false → HasEnd asks Nothing Best q.start o
         found_past k o few below there counted =
-            let inside : k ≤ q.end - q.start = few_places q.anchored (q.end - q.start) k few in
+            let inside : k ≤ q.end - q.start = few_restarts q.anchored (q.end - q.start) k few in
             ends_past asks fits_query offers Nothing Best tells k q.start (q.start + k) o refl (omega arith)
             (some_free q.anchored (q.end - q.start) k few)
             (λ i low high. split_at i low (omega arith) (below (i - q.start) (omega arith)))
@@ -226,7 +219,7 @@ module _ (xs : List Tree) (utf8 : Bool) (t : Terminator) (p : Pair) (regex : IsR
     scan_has_end o is = elim (cases_lt q.end q.start) [
       | inl past ↦
           let P : Option (ℕ × ℕ) → Type 0 = λ r. HasEnd asks Nothing Best q.start r in
-          let gone : o ≡ None = same_found o None (sym is ∙ scan_done f q past) in
+          let gone : o ≡ None = one_found o None (sym is ∙ scan_done f q past) in
           subst P (sym gone) (no_place asks fits_query offers Nothing Best tells q.start past)
       | inr l ↦ by_name (start_name a q.anchored) refl l o is
     ]

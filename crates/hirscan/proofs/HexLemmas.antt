@@ -11,27 +11,25 @@ use Rattle.hex.proofs.Pairs.{cons_byte, decode_pairs-ok_pair}
 use Rattle.hirscan.specs.Words.{IsHexDigit, SpellsByte, IsHex}
 use Rattle.hirscan.specs.Readers.{both}
 use Rattle.hirscan.specs.Words.IsHexDigit.{from_zero, from_small_a, from_great_a}
+use Rattle.nfa_core.proofs.ForCallers.{some_same}
 
 -- ---- one digit
-
-value_of : (c v : ℕ) → Some c ≡ Some v → c ≡ v
-value_of c v e = ap (λ o. unwrap_or o 0) e
 
 pub digit_says : (c v : ℕ) → hex_digit_value c ≡ Some v → IsHexDigit c v
 digit_says c v e = elim (cases_Bool (leb 65 c && leb c 70)) [
   | inl t ↦
       let p = and_parts _ _ t in let low = leb-true 65 c p.0 in let high = leb-true c 70 p.1 in
-      let is : c - 55 ≡ v = value_of (c - 55) v (rw t at e) in
+      let is : c - 55 ≡ v = some_same (c - 55) v (rw t at e) in
       from_great_a (omega arith) (omega arith) (omega arith)
   | inr f ↦ elim (cases_Bool (leb 97 c && leb c 102)) [
     | inl t ↦
         let p = and_parts _ _ t in let low = leb-true 97 c p.0 in let high = leb-true c 102 p.1 in
-        let is : c - 87 ≡ v = value_of (c - 87) v (rw (f, t) at e) in
+        let is : c - 87 ≡ v = some_same (c - 87) v (rw (f, t) at e) in
         from_small_a (omega arith) (omega arith) (omega arith)
     | inr g ↦ elim (cases_Bool (leb 48 c && leb c 57)) [
       | inl t ↦
           let p = and_parts _ _ t in let low = leb-true 48 c p.0 in let high = leb-true c 57 p.1 in
-          let is : c - 48 ≡ v = value_of (c - 48) v (rw (f, g, t) at e) in
+          let is : c - 48 ≡ v = some_same (c - 48) v (rw (f, g, t) at e) in
           from_zero (omega arith) (omega arith)
       | inr n ↦ absurd (let none : None ≡ Some v = rw (f, g, n) at e in cc)
     ]

@@ -3,13 +3,7 @@ use Rattle.std.proofs.Common.{◌≡◌, ℕ, ◌&&◌, Bool, true, false, Optio
 use Rattle.hir_core.specs.Tree.{Tree, empty, literal, byte_class, char_class, look, repetition, capture, nothing, cat, never, alt}
 use Rattle.hir_core.specs.Facts.{minimum_len, IsAboveZero, LoopsRead}
 use Rattle.hirscan.specs.Loops.{is_above_zero, loops_read}
-
-both_true : (a b : Bool) → a && b ≡ true → (a ≡ true) × (b ≡ true)
-both_true true b e = (refl, e)
-both_true false b e = cc
-
-and_true : (a b : Bool) → a ≡ true → b ≡ true → a && b ≡ true
-and_true a b x y = ap (λ c. c && b) x ∙ y
+use Rattle.std.proofs.lemmas.Bool.{and_parts, and_from}
 
 is_above_zero_sound : (n : Option ℕ) → is_above_zero n ≡ true → IsAboveZero n
 is_above_zero_sound None e = cc
@@ -26,14 +20,14 @@ loops_read_sound (byte_class ranges) e = tt
 loops_read_sound (char_class ranges) e = tt
 loops_read_sound (look k) e = tt
 loops_read_sound (repetition min None greedy x) e =
-    let b = both_true (is_above_zero (minimum_len x)) (loops_read x) e in
+    let b = and_parts (is_above_zero (minimum_len x)) (loops_read x) e in
     (is_above_zero_sound (minimum_len x) b.0, loops_read_sound x b.1)
 loops_read_sound (repetition min (Some most) greedy x) e = loops_read_sound x e
 loops_read_sound (capture index name x) e = loops_read_sound x e
 loops_read_sound nothing e = tt
-loops_read_sound (cat x y) e = let b = both_true (loops_read x) (loops_read y) e in (loops_read_sound x b.0, loops_read_sound y b.1)
+loops_read_sound (cat x y) e = let b = and_parts (loops_read x) (loops_read y) e in (loops_read_sound x b.0, loops_read_sound y b.1)
 loops_read_sound never e = tt
-loops_read_sound (alt x y) e = let b = both_true (loops_read x) (loops_read y) e in (loops_read_sound x b.0, loops_read_sound y b.1)
+loops_read_sound (alt x y) e = let b = and_parts (loops_read x) (loops_read y) e in (loops_read_sound x b.0, loops_read_sound y b.1)
 
 pub loops_read_complete : (x : Tree) → LoopsRead x → loops_read x ≡ true
 loops_read_complete empty l = refl
@@ -42,10 +36,10 @@ loops_read_complete (byte_class ranges) l = refl
 loops_read_complete (char_class ranges) l = refl
 loops_read_complete (look k) l = refl
 loops_read_complete (repetition min None greedy x) l =
-    and_true (is_above_zero (minimum_len x)) (loops_read x) (is_above_zero_complete (minimum_len x) l.0) (loops_read_complete x l.1)
+    and_from (is_above_zero (minimum_len x)) (loops_read x) (is_above_zero_complete (minimum_len x) l.0) (loops_read_complete x l.1)
 loops_read_complete (repetition min (Some most) greedy x) l = loops_read_complete x l
 loops_read_complete (capture index name x) l = loops_read_complete x l
 loops_read_complete nothing l = refl
-loops_read_complete (cat x y) l = and_true (loops_read x) (loops_read y) (loops_read_complete x l.0) (loops_read_complete y l.1)
+loops_read_complete (cat x y) l = and_from (loops_read x) (loops_read y) (loops_read_complete x l.0) (loops_read_complete y l.1)
 loops_read_complete never l = refl
-loops_read_complete (alt x y) l = and_true (loops_read x) (loops_read y) (loops_read_complete x l.0) (loops_read_complete y l.1)
+loops_read_complete (alt x y) l = and_from (loops_read x) (loops_read y) (loops_read_complete x l.0) (loops_read_complete y l.1)

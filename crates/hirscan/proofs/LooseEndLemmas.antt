@@ -2,7 +2,7 @@
 -- answer but for the preference of ends.
 use Rattle.std.proofs.Common.{◌≡◌, ℕ, suc, ◌-◌, ◌<◌, ◌≤◌, Bool, true, false, List, [], ◌∷◌, length, take, get_or, slice_get, Option, Some, None, refl, sym, ap, ◌∙◌, subst, arith, nat_lt, ◌==◌, eq-eqb}
 use Rattle.std.specs.List.{flat_map}
-use Rattle.std.proofs.lemmas.Bool.{lt-ltb, and_parts}
+use Rattle.std.proofs.lemmas.Bool.{lt-ltb, and_parts, and_from}
 use Rattle.std.proofs.lemmas.Bool.Decides.{Decides-eqb}
 use Rattle.std.proofs.lemmas.Option.{slice_get_within, slice_get-get_or, get_or_from_slice_get}
 use Rattle.hir_core.specs.Tree.{Tree, empty}
@@ -26,7 +26,7 @@ use Rattle.thompson_nfa.specs.Compilations.{places_from as read_places}
 use Rattle.lazy_dfa.specs.Passes.{start_name}
 use Rattle.hirscan.specs.Choices.{Query}
 use Rattle.hirscan.specs.LooseAnswers.{IsFindable, IsCounted}
-use Rattle.hirscan.proofs.EndLemmas.{both_true, Tells}
+use Rattle.hirscan.proofs.EndLemmas.{Tells}
 use Rattle.hirscan.proofs.FirstEndLemmas.{FindsFirsts, first_of_ends, first_is_of, same_over, one_place, no_start_no_tree, start_has_tree}
 
 -- no span that counts starts at the place
@@ -159,7 +159,7 @@ module _ (o : Options) (xs : List Tree) (n : Nfa) (compiled : IsCompiled o xs n)
       let both = (spans.patterns p (get_or xs p empty) listed t i (j, m) l).0 (heads (by_pattern i p) others (j, m) (at ∙ is)) in
       let inside = slice_get_within xs p (get_or xs p empty) listed in
       findable (Pattern p) i m j (get_or xs p empty) l
-      (both_true (nat_lt m (length xs)) (m == p) (lt-ltb m (length xs) (let same = both.0 in omega arith)) (eq-eqb m p both.0))
+      (and_from (nat_lt m (length xs)) (m == p) (lt-ltb m (length xs) (let same = both.0 in omega arith)) (eq-eqb m p both.0))
       (ap (slice_get xs) both.0 ∙ listed) both.1
 
   told_named : (p : ℕ) (k : Option ℕ) → slice_get n.automaton.start_pattern p ≡ k →

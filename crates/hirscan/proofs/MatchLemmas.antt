@@ -1,7 +1,7 @@
 -- Whether there is a match is told as the trees define it.
 use Rattle.std.proofs.Common.{◌≡◌, ℕ, zero, suc, ◌+◌, ◌<◌, ◌≤◌, Bool, true, false, not, List, [], length, take, slice_get, get_or, nat_lt, ◌==◌, eq-eqb, Option, Some, None, All, refl, sym, ap, ◌∙◌, subst, inl, inr, arith}
 use Rattle.std.specs.Prelude.{Result, Ok, is_some}
-use Rattle.std.proofs.lemmas.Bool.{cases_lt, lt-ltb}
+use Rattle.std.proofs.lemmas.Bool.{cases_lt, lt-ltb, and_from}
 use Rattle.std.proofs.lemmas.Option.{slice_get_within, get_or_from_slice_get}
 use Rattle.look_core.specs.Looks.{holds, holds_ascii, IsWordSet}
 use Rattle.look_core.specs.Terminators.{Terminator}
@@ -37,7 +37,7 @@ use Rattle.hirscan.specs.LooseAnswers.{IsSpanOf}
 use Rattle.hirscan.specs.Regexes.{IsRegexOf, IsSearchOf, query_of}
 use Rattle.hirscan.proofs.BackLemmas.{best_has}
 use Rattle.hirscan.proofs.EarliestLemmas.{scan_none}
-use Rattle.hirscan.proofs.EndLemmas.{both_true, AllCount, span_counts, last_within}
+use Rattle.hirscan.proofs.EndLemmas.{AllCount, span_counts, last_within}
 use Rattle.hirscan.proofs.FirstEndLemmas.{start_has_tree}
 use Rattle.hirscan.proofs.ForwardLemmas.{fits_query, all_count}
 use Rattle.hirscan.proofs.RegexLemmas.{goes_forward, forward_ends_lines, place_forward, trees_alike}
@@ -113,7 +113,7 @@ module _ (xs : List Tree) (utf8 : Bool) (t : Terminator) (p : Pair) (regex : IsR
         let inside = slice_get_within xs k (get_or xs k empty) listed in
         let same : c.1 ≡ k = u.0 in
         span_of (Pattern k) q.start (get_or xs k empty) (omega arith) (omega arith) l
-        (both_true (nat_lt c.1 (length xs)) (c.1 == k) (lt-ltb c.1 (length xs) (omega arith)) (eq-eqb c.1 k same))
+        (and_from (nat_lt c.1 (length xs)) (c.1 == k) (lt-ltb c.1 (length xs) (omega arith)) (eq-eqb c.1 k same))
         (ap (slice_get xs) same ∙ listed) u.1
 
   module _ (off : f.between_characters ≡ false) where

@@ -34,12 +34,9 @@ use Rattle.lazy_dfa.specs.ScanLaws.{ReadsAlike}
 use Rattle.lazy_dfa.proofs.ForCallers.{supported_quits}
 use Rattle.regex_pair.specs.Pairs.{Pair}
 use Rattle.hirscan.specs.Regexes.{IsRegexOf}
+use Rattle.determinize_core.proofs.ForCallers.{has_family}
 
 -- ---- sets of looks
-pub any_by_member : (test : Look → Bool) (s : ℕ) (l : Look) → has_look s l ≡ true → test l ≡ true → has_any test s ≡ true
-any_by_member test s l there passes =
-    list_any_at (λ k. has_look s k && test k) all_looks (bit_of l) Start (bit_of-lt l)
-    (ap (λ k. has_look s k && test k) (look_at-bit_of l) ∙ ap (λ b. b && test l) there ∙ passes)
 
 -- ---- directions
 pub begins : (b : Bool) (s e : ℕ) → b ≡ false → first_place b s e ≡ s
@@ -99,7 +96,7 @@ module _ (xs : List Tree) (utf8 : Bool) (t : Terminator) (p : Pair) (regex : IsR
       b < 256 →
       has p.forward.quits b ≡ true
   high_quits l there unicode b low high =
-      let some : has_unicode_word p.forward.nfa.automaton ≡ true = any_by_member is_word_unicode
+      let some : has_unicode_word p.forward.nfa.automaton ≡ true = has_family is_word_unicode
       (looks_of p.forward.nfa.automaton.states) l there unicode in
       ap (λ quits. has quits b) regex.forward.quit
       ∙ supported_quits p.forward.nfa.automaton (word_boundary_of p.forward.options) (by_hand p.forward.options)

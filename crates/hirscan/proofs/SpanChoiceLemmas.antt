@@ -2,7 +2,7 @@
 -- these offers tell the answer of the trees.
 use Rattle.std.proofs.Common.{◌≡◌, ◌≢◌, ℕ, suc, ◌+◌, ◌<◌, ◌≤◌, Bool, true, false, cond, ◌==◌, List, [], ◌∷◌, map, length, take, get_or, slice_get, Option, Some, None, All, nat_le, nat_lt, refl, sym, ap, ◌∙◌, inl, inr, arith, le-leb, eq-eqb}
 use Rattle.std.specs.List.{filter}
-use Rattle.std.proofs.lemmas.Bool.{and_parts, cases_lt, lt-ltb}
+use Rattle.std.proofs.lemmas.Bool.{and_parts, cases_lt, lt-ltb, and_from}
 use Rattle.std.proofs.lemmas.Bool.Decides.{Decides-eqb}
 use Rattle.std.proofs.lemmas.Option.{slice_get_within, slice_get-get_or}
 use Rattle.hir_core.specs.Tree.{Tree, empty}
@@ -16,7 +16,7 @@ use Rattle.search_types.specs.Places.{counts}
 use Rattle.search_types.specs.LeftmostAnswer.{first_choice}
 use Rattle.hirscan.specs.Choices.{Query, choices, ends_at, may_end, choices_at}
 use Rattle.hirscan.specs.LooseAnswers.{IsSpanOf}
-use Rattle.hirscan.proofs.EndLemmas.{both_true, Fits, IsMet, Tells, listed_has}
+use Rattle.hirscan.proofs.EndLemmas.{Fits, IsMet, Tells, listed_has}
 use Rattle.hirscan.proofs.OfferLemmas.{offered, pattern_offers, mode_offers, AllRead, none_offered, some_offered, one_alone, alone_none, alone_some, span_is_choice, silent, offer_ends, paired, end_of, number_of}
 
 all_read : (xs : List Tree) → ((p : ℕ) (x : Tree) → slice_get xs p ≡ Some x → LoopsRead x) → AllRead xs
@@ -75,7 +75,7 @@ module _ (q : Query) (fits : Fits q) (loops : All LoopsRead q.patterns) where
   allowed_all (Pattern p) n k a l = cc
 
   allowed_named : (p n k : ℕ) → p < n → k ≡ p → allowed (Pattern p) n k ≡ true
-  allowed_named p n k l e = both_true (nat_lt k n) (k == p) (lt-ltb k n (omega arith)) (eq-eqb k p e)
+  allowed_named p n k l e = and_from (nat_lt k n) (k == p) (lt-ltb k n (omega arith)) (eq-eqb k p e)
 
   allowed_other : (p n k : ℕ) → k ≢ p → allowed (Pattern p) n k ≡ false
   allowed_other p n k differ = true_or (allowed (Pattern p) n k) (λ t. differ ((Decides-eqb k p).0 (and_parts (nat_lt k n) (k == p) t).1))
@@ -188,7 +188,7 @@ module _ (q : Query) (fits : Fits q) (loops : All LoopsRead q.patterns) where
       let all : at_place i ≡ [] = sym (ap (λ b. cond b (at_place i) []) start) ∙ none in
       span_is_choice (allowed q.mode (length q.patterns)) counted q.looks q.haystack q.end i inside q.patterns m.tree 0 p p j m.listed
       (omega arith) may
-      (preferred_ends_complete q.looks q.haystack m.tree i j m.means) (both_true (nat_le j q.end) (counted j) (le-leb j q.end within) c) all
+      (preferred_ends_complete q.looks q.haystack m.tree i j m.means) (and_from (nat_le j q.end) (counted j) (le-leb j q.end within) c) all
 
   -- so the offers tell the choices
   pub choices_told : Tells q offers (HasNoChoice q) (IsFirstChoice q)

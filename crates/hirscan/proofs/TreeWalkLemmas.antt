@@ -1,7 +1,7 @@
 -- The ends of the runs of an automaton that is compiled from trees are the spans that the trees mean, for one who reads forward or
 -- down, in each mode.
 use Rattle.std.proofs.Common.{◌≡◌, ◌↔◌, ℕ, ◌<◌, ◌≤◌, Bool, true, false, ◌&&◌, List, length, get_or, slice_get, Some, refl, sym, ap, ◌∙◌, subst, inl, inr, arith, nat_lt, ◌==◌, eq-eqb}
-use Rattle.std.proofs.lemmas.Bool.{cases_lt, lt-ltb}
+use Rattle.std.proofs.lemmas.Bool.{cases_lt, lt-ltb, and_from}
 use Rattle.std.proofs.lemmas.Option.{slice_get_within, get_or_from_slice_get}
 use Rattle.search_core.specs.Utf8.{IsValidText}
 use Rattle.look_core.specs.Terminators.{Terminator}
@@ -25,14 +25,13 @@ use Rattle.lazy_dfa.specs.Dfas.{Dfa}
 use Rattle.lazy_dfa.specs.Passes.{start_name}
 use Rattle.lazy_dfa.specs.Scans.{first_place}
 use Rattle.hirscan.specs.TreeWalks.{IsWalkerOf}
-use Rattle.hirscan.proofs.EndLemmas.{both_true}
 use Rattle.hirscan.proofs.FirstEndLemmas.{start_has_tree}
 use Rattle.hirscan.proofs.LooseEndLemmas.{allowed_named}
 
 -- ---- modes
 
 named_allowed : (p n k : ℕ) → k < n → k ≡ p → allowed (Pattern p) n k ≡ true
-named_allowed p n k inside same = both_true (nat_lt k n) (k == p) (lt-ltb k n inside) (eq-eqb k p same)
+named_allowed p n k inside same = and_from (nat_lt k n) (k == p) (lt-ltb k n inside) (eq-eqb k p same)
 
 -- in a search that reads from place i a span may begin to be read at place k
 abbrev IsFrom : Bool → Anchored → Text → ℕ → ℕ → Type 0

@@ -17,7 +17,7 @@ use Rattle.nfa_core.specs.Places.{same_pair}
 use Rattle.nfa_core.specs.Reaches.{read_by}
 use Rattle.nfa_core.specs.Walks.{Has, Visits}
 use Rattle.nfa_core.specs.Ways.{Text, span, reads, is_passed, on_read, on_nothing, plain_steps, byte_steps, place_of, bytes_left, AreLists, ends_from}
-use Rattle.nfa_core.proofs.ForCallers.{none_in, has_filter, names_equal, pairs_equal, stays_closed, list_matches, ends_inside, looks_any}
+use Rattle.nfa_core.proofs.ForCallers.{none_in, has_filter, names_equal, pairs_equal, stays_closed, list_matches, ends_inside, looks_any, nothing_same}
 use Rattle.determinize_core.specs.States.{StateValue}
 use Rattle.determinize_core.specs.Steps.{is_kept, kept, walk_value, unit_at}
 use Rattle.determinize_core.specs.Walked.{walked_lists}
@@ -25,18 +25,6 @@ use Rattle.determinize_core.proofs.ForCallers.{lists_are_lists, states_are}
 use Rattle.hirscan.proofs.WalkReadLemmas.{none_before}
 
 -- ---- where states lead
-
-nothing_same : (node : Node) (f g : Look → Bool) → ((l : Look) (next : ℕ) → node ≡ look_node l next → f l ≡ g l) →
-    on_nothing node f ≡ on_nothing node g
-nothing_same (byte_range low high next) f g same = refl
-nothing_same (sparse_node ranges) f g same = refl
-nothing_same (dense_node names) f g same = refl
-nothing_same (look_node l next) f g same = ap (λ (b : Bool). cond b (next ∷ []) []) (same l next refl)
-nothing_same (union_node names) f g same = refl
-nothing_same (binary_union first second) f g same = refl
-nothing_same (capture_node next pattern group slot) f g same = refl
-nothing_same fail_node f g same = refl
-nothing_same (match_node pattern) f g same = refl
 
 -- a capture is passed however looks are read
 capture_same : (node : Node) (f g : Look → Bool) → not (is_capture node) ≡ false → on_nothing node f ≡ on_nothing node g

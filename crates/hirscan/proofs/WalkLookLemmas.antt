@@ -31,11 +31,11 @@ use Rattle.lazy_dfa.specs.Scans.{first_place}
 use Rattle.lazy_dfa.specs.ScanLaws.{begins_at}
 use Rattle.lazy_dfa.specs.Walks.{whole_rest}
 use Rattle.lazy_dfa.specs.WalkLaws.{IsBegun}
-use Rattle.lazy_dfa.proofs.ForCallers.{supported_quits}
+use Rattle.lazy_dfa.proofs.ForCallers.{supported_quits, first_low}
 use Rattle.hirscan.proofs.BuiltPairLemmas.{turned_words}
-use Rattle.hirscan.proofs.RegexLemmas.{any_by_member}
 use Rattle.hirscan.proofs.WalkReadLemmas.{IsQuietBeside, walk_quiet_or_none}
 use Rattle.hirscan.proofs.WalkAnyhowLemmas.{AreAlikeAt, ends_same}
+use Rattle.determinize_core.proofs.ForCallers.{has_family}
 
 -- ---- looks and units, for one who reads forward or in reverse
 
@@ -44,10 +44,6 @@ pub beside : (b : Bool) (quits : List Bool) (h : List ℕ) (j : ℕ) → is_quit
     is_quit quits (unit_behind b h j) ≡ false → (is_quit quits (byte_before h j) ≡ false) × (is_quit quits (byte_at h j) ≡ false)
 beside false quits h j at behind = (behind, at)
 beside true quits h j at behind = (at, behind)
-
-first_high : (b : Bool) (s e : ℕ) → s ≤ e → first_place b s e ≤ e
-first_high false s e l = l
-first_high true s e l = omega arith
 
 left_few : (b : Bool) (t : Terminator) (h : List ℕ) (s e k : ℕ) → k ≤ bytes_left b (span t h s e) (first_place b s e) → k ≤ e - s
 left_few false t h s e k l = l
@@ -90,7 +86,7 @@ module _ (d : Dfa) (dfa : IsDfa d) (h : List ℕ) (bytes : All (λ byte. byte < 
 
     pub asks_for_words : (l : Look) → has_look (looks_of d.nfa.automaton.states) l ≡ true → is_word_unicode l ≡ true →
         has_unicode_word d.nfa.automaton ≡ true
-    asks_for_words l there unicode = any_by_member is_word_unicode (looks_of d.nfa.automaton.states) l there unicode
+    asks_for_words l there unicode = has_family is_word_unicode (looks_of d.nfa.automaton.states) l there unicode
 
     passed_alike : (b : Bool) (s e j : ℕ) → is_quit d.quits (unit_at b h j) ≡ false → is_quit d.quits (unit_behind b h j) ≡ false →
         (l : Look) → has_look (looks_of d.nfa.automaton.states) l ≡ true →
@@ -114,7 +110,7 @@ module _ (d : Dfa) (dfa : IsDfa d) (all : (reader d).kind ≡ AllMatches) (q : S
   begin = begins_at (reader d) q
 
   high : begin ≤ q.end
-  high = first_high a.reverse q.start q.end begun.begun
+  high = first_low a.reverse q.start q.end begun.begun
 
   abbrev Alike : ℕ → Type 0
   Alike k = AreAlikeAt a t q.haystack q.start q.end begin name begun.formed high begun.within begun.inside (holds words t q.haystack) k

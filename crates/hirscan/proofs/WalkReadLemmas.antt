@@ -24,6 +24,9 @@ use Rattle.lazy_dfa.specs.Scans.{first_place}
 use Rattle.lazy_dfa.specs.ScanLaws.{begins_at}
 use Rattle.lazy_dfa.specs.Walks.{Rest, nothing_left, refused, onto, unless_quit_at, where_supported, listed, rest_from, whole_rest}
 use Rattle.lazy_dfa.specs.WalkLaws.{IsBegun}
+use Rattle.nfa_core.proofs.ForCallers.{place_zero}
+use Rattle.determinize_core.proofs.ForCallers.{reading_none}
+use Rattle.lazy_dfa.proofs.ForCallers.{place_next, empty_is}
 
 -- ---- states that are left
 
@@ -31,22 +34,14 @@ first_true : (a b c d e f : Bool) → a && b && c && d && e && f ≡ true → a 
 first_true true b c d e f is = refl
 first_true false b c d e f is = is
 
-nothing_is : (l : List ℕ) → is_empty l ≡ true → l ≡ []
-nothing_is [] e = refl
-nothing_is (x ∷ l) e = cc
-
 dead_ids : (v : StateValue) → is_dead v ≡ true → v.ids ≡ []
 dead_ids v dead =
-    nothing_is v.ids (first_true (is_empty v.ids) (is_empty v.matches) (v.look_have == 0) (v.look_need == 0) (not v.is_from_word)
+    empty_is v.ids (first_true (is_empty v.ids) (is_empty v.matches) (v.look_have == 0) (v.look_need == 0) (not v.is_from_word)
     (not v.is_half_crlf) dead)
 
 none_closed : (a : Automaton) (b : Bool) (looks : ℕ) (ids : List ℕ) → ids ≡ [] → (if b then closed a looks ids else ids) ≡ []
 none_closed a true looks ids e = ap (closed a looks) e
 none_closed a false looks ids e = e
-
-none_read : (kind : MatchKind) (a : Automaton) → reading kind a [] ≡ []
-none_read AllMatches a = refl
-none_read LeftmostFirst a = refl
 
 pub none_before : (a : Automaton) (t : Terminator) (v : StateValue) (u : Option ℕ) → v.ids ≡ [] → ids_before a t v u ≡ []
 none_before a t v u e = none_closed a (gains v (known_before a.reverse t v u)) (known_before a.reverse t v u) v.ids e
@@ -56,7 +51,7 @@ none_next : (a : Automaton) (t : Terminator) (kind : MatchKind) (v : StateValue)
     (step_value a t kind v u).ids ≡ []
 none_next a t kind v u e =
     ap (λ (l : List ℕ). kept a (closed a (known_behind (families a) a.reverse t u) (flat_map (unit_steps a u) l)))
-    (ap (reading kind a) (none_before a t v u e) ∙ none_read kind a)
+    (ap (reading kind a) (none_before a t v u e) ∙ reading_none kind a)
 
 -- ---- a unit
 
@@ -77,10 +72,6 @@ mode_reads false mode more none = cc
 alive_reads : (dead : Bool) (rest : Rest) → dead ≡ false → (if dead then nothing_left else rest).refusal ≡ None → rest.refusal ≡ None
 alive_reads true rest alive none = cc
 alive_reads false rest alive none = none
-
-place_after : (b : Bool) (i k : ℕ) → place_of b (place_of b i k) 1 ≡ place_of b i (suc k)
-place_after false i k = omega arith
-place_after true i k = omega arith
 
 -- the unit behind the next place is the one that was read
 pub unit_behind_next : (b : Bool) (h : List ℕ) (i k : ℕ) → (b ≡ true → k < i) → unit_behind b h (place_of b i (suc k)) ≡ unit_at b h (place_of b i k)
@@ -124,7 +115,7 @@ module _ (r : Reader) (h : List ℕ) (i q : ℕ) where
 
   pub more_is : (n k : ℕ) → more n k ≡ rest_from r h n (place (suc k)) (state (suc k))
   more_is n k =
-      ap (λ (j : ℕ). rest_from r h n j (next_value r h (place k) (state k))) (place_after r.automaton.reverse i k)
+      ap (λ (j : ℕ). rest_from r h n j (next_value r h (place k) (state k))) (place_next r.automaton.reverse i k)
       ∙ ap (λ (v : StateValue). rest_from r h n (place (suc k)) v) (next_is k)
 
   none_later : (k : ℕ) → HasNone k → HasNone (suc k)
@@ -175,10 +166,6 @@ module _ (r : Reader) (h : List ℕ) (i q : ℕ) where
 
 -- ---- whole walks
 
-from_zero : (b : Bool) (i : ℕ) → place_of b i 0 ≡ i
-from_zero false i = omega arith
-from_zero true i = omega arith
-
 walk_begins : (r : Reader) (behind : Option ℕ) (h : List ℕ) (i q : ℕ) → behind ≡ unit_behind r.automaton.reverse h i →
     start_or_dead r behind (Some q) ≡ walk_value r.automaton r.terminator r.kind h i q 0
 unfolding start_or_dead
@@ -212,12 +199,12 @@ module _ (r : Reader) (q : Search) (name : ℕ) (begun : IsBegun r q name) where
       ap (λ (o : Option ℕ). rest_from r q.haystack (suc (q.end - q.start)) begin (start_or_dead r behind o)) begun.start
       ∙ ap (λ (v : StateValue). rest_from r q.haystack (suc (q.end - q.start)) begin v) (walk_begins r behind q.haystack begin name refl)
       ∙ ap (λ (j : ℕ). rest_from r q.haystack (suc (q.end - q.start)) j (walk_value r.automaton r.terminator r.kind q.haystack begin name 0))
-      (sym (from_zero r.automaton.reverse begin))
+      (sym (place_zero r.automaton.reverse begin))
 
   pub behind_there : is_quit r.quits behind ≡ false →
       is_quit r.quits (unit_behind r.automaton.reverse q.haystack (place_of r.automaton.reverse begin 0)) ≡ false
   behind_there quiet =
-      ap (λ (j : ℕ). is_quit r.quits (unit_behind r.automaton.reverse q.haystack j)) (from_zero r.automaton.reverse begin) ∙ quiet
+      ap (λ (j : ℕ). is_quit r.quits (unit_behind r.automaton.reverse q.haystack j)) (place_zero r.automaton.reverse begin) ∙ quiet
 
   module _ (none : (whole_rest r q).refusal ≡ None) where
     begins_quiet : (is_quit r.quits behind ≡ false) × (start.refusal ≡ None)

@@ -39,6 +39,8 @@ use Rattle.hirscan.proofs.BuiltPairLemmas.{turned_words}
 use Rattle.hirscan.proofs.TreeToldLemmas.{read_low, read_high, AgreeUpTo}
 use Rattle.hirscan.proofs.WalkLookLemmas.{beside, read_alike, asks_for_words}
 use Rattle.hirscan.proofs.WalkReadLemmas.{IsQuiet, more, turn_is, more_is, unit_behind_next, reverse_inside, IsQuietBeside, whole_is, start_is, behind_there}
+use Rattle.lazy_dfa.proofs.ForCallers.{mapped_there}
+use Rattle.hirscan.proofs.BuiltLemmas.{words_either_way, turned_twice}
 
 -- ---- a unit
 
@@ -59,15 +61,8 @@ mode_tells : (fit : Bool) (mode : Anchored) (rest : Rest) (x : ℕ × ℕ) → H
 mode_tells true mode rest x there = there
 mode_tells false mode rest x there = none_in same_pair x _ there
 
-mapped_at : (i : ℕ) (ms : List ℕ) (x : ℕ × ℕ) → Has same_pair x (map (end_of i) ms) → x.0 ≡ i
-mapped_at i [] x there = none_in same_pair x _ there
-mapped_at i (m ∷ ms) x there = ⊎_elim
-    (λ (e : x ≡ (i, m)). ap (λ (y : ℕ × ℕ). y.0) e)
-    (λ (later : Has same_pair x (map (end_of i) ms)). mapped_at i ms x later)
-    (has_cons same_pair pairs_equal x (i, m) (map (end_of i) ms) there)
-
 listed_at : (c : Bool) (i : ℕ) (ms : List ℕ) (x : ℕ × ℕ) → Has same_pair x (if c then map (end_of i) ms else []) → x.0 ≡ i
-listed_at true i ms x there = mapped_at i ms x there
+listed_at true i ms x there = mapped_there i ms x there
 listed_at false i ms x there = none_in same_pair x _ there
 
 -- ---- a walk from a place
@@ -162,14 +157,6 @@ module _ (r : Reader) (q : Search) (name : ℕ) (begun : IsBegun r q name) where
 
 -- ---- looks of trees
 
-turned_twice : (b : Bool) (l : Look) → turned b (turned b l) ≡ l
-turned_twice false l = refl
-turned_twice true l = reversed_twice l
-
-turned_unicode : (b : Bool) (l : Look) → is_word_unicode (turned b l) ≡ is_word_unicode l
-turned_unicode false l = refl
-turned_unicode true l = turned_words l
-
 module _ (xs : List Tree) (b utf8 : Bool) (t : Terminator) (d : Dfa) (w : IsWalkerOf xs b utf8 t d) (q : Search)
     (bytes : All (λ byte. byte < 256) q.haystack) (within : q.end ≤ length q.haystack) (name : ℕ) (begun : IsBegun (reader d) q name)
     (words : ℕ → Bool) (set : IsWordSet words) where
@@ -179,7 +166,7 @@ module _ (xs : List Tree) (b utf8 : Bool) (t : Terminator) (d : Dfa) (w : IsWalk
       asks_for_words d w.dfa q.haystack bytes t words set (turned (reverse_of w.options) l)
       ((looks_are_used w.options xs d.nfa w.compiled (turned (reverse_of w.options) l)).1
       (k, y, listed, ap (has_look (looks_used y)) (turned_twice (reverse_of w.options) l) ∙ used))
-      (turned_unicode (reverse_of w.options) l ∙ unicode)
+      (words_either_way (reverse_of w.options) l ∙ unicode)
 
   -- up to the place of an end that is told the looks of trees are read alike
   agree_up_to : (x : ℕ × ℕ) → IsToldQuietly (reader d) q name begun x →

@@ -15,16 +15,10 @@ use Rattle.lazy_dfa.specs.Caches.{CacheValue}
 use Rattle.lazy_dfa.specs.Dfas.{Dfa, reader}
 use Rattle.lazy_dfa.specs.Walks.{whole_rest}
 use Rattle.lazy_dfa.specs.WalkAnswers.{Which, with_pattern, is_full, which_from, which_of, told_left, AnswersWhich}
-use Rattle.lazy_dfa.proofs.ForCallers.{members_added, added_members, room_kept}
+use Rattle.lazy_dfa.proofs.ForCallers.{members_added, added_members, room_kept, all_there}
 use Rattle.hirscan.specs.Regexes.{IsSearchOf}
 use Rattle.hirscan.specs.TreeWalks.{IsWalkerOf, IsToldAscii, IsToldWith}
 use Rattle.hirscan.proofs.WalkMeansLemmas.{tells_meant, tells_meant_with, tells_ascii, tells_words}
-
--- a full set has all that it has room for
-all_there : (s : List Bool) (p : ℕ) → is_full s ≡ true → p < length s → has s p ≡ true
-all_there [] p full l = absurd (omega (arith, l))
-all_there (b ∷ s) zero full l = (and_parts b (is_full s) full).0
-all_there (b ∷ s) (suc p) full l = all_there s p (and_parts b (is_full s) full).1 (omega (arith, l))
 
 module _ (s : List Bool) (x : ℕ × ℕ) (xs : List (ℕ × ℕ)) (refusal : Option MatchErrorKind) where
   abbrev then_set : List Bool

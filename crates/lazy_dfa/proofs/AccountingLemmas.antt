@@ -10,7 +10,7 @@ use Rattle.lazy_dfa.specs.Accounting.{Measures, power_from, longest_state, state
 
 -- ---- powers of two
 
-twice : (j : ℕ) → 2 * 2 ^ j ≡ 2 ^ suc j
+pub twice : (j : ℕ) → 2 * 2 ^ j ≡ 2 ^ suc j
 twice j = sym (pow-succ' 2 j)
 
 if_more : (b : Bool) (s later top : ℕ) → (b ≡ true → s ≡ top) → (b ≡ false → later ≡ top) → (if b then s else later) ≡ top

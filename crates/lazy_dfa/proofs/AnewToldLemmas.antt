@@ -14,8 +14,8 @@ use Rattle.lazy_dfa.specs.Passes.{index_at}
 use Rattle.lazy_dfa.specs.Scans.{first_place}
 use Rattle.lazy_dfa.specs.SearchAnswers.{Told, told_of, told_behind, pass_distance}
 use Rattle.lazy_dfa.specs.PassPlaces.{IsWithinSpan, last_place, came, tells, BeginsFirst, told_byte, told_last, turned_told, RestAnew, rest_inside, rest_untold, RestFails, fails_at, fails_untold}
-use Rattle.lazy_dfa.proofs.TurnLemmas.{place_zero}
 use Rattle.lazy_dfa.proofs.SpanTurnLemmas.{told_end, told_behind_some, told_behind_none, not_le, is_le}
+use Rattle.nfa_core.proofs.ForCallers.{place_zero}
 
 -- ---- a search that goes on
 

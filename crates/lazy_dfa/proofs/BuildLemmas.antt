@@ -4,10 +4,7 @@ use Rattle.std.proofs.lemmas.Bool.Decides.{leb_tells}
 use Rattle.std.proofs.Math.Nat.{pow-succ', mul-le-mul_left}
 use Rattle.search_core.specs.Classes.{IsLeastExponent}
 use Rattle.lazy_dfa.specs.Accounting.{power_from}
-use Rattle.lazy_dfa.proofs.AccountingLemmas.{power_is}
-
-twice : (j : ℕ) → 2 * 2 ^ j ≡ 2 ^ suc j
-twice j = sym (pow-succ' 2 j)
+use Rattle.lazy_dfa.proofs.AccountingLemmas.{power_is, twice}
 
 some_power : (j : ℕ) → 1 ≤ 2 ^ j
 some_power zero = omega arith

@@ -14,7 +14,7 @@ use Rattle.look_core.specs.Terminators.{Terminator}
 use Rattle.nfa_core.specs.Alike.{marks_of}
 use Rattle.nfa_core.specs.Nfa.{Node}
 use Rattle.nfa_core.specs.NfaValue.{Nfa, IsSound, told_by}
-use Rattle.nfa_core.proofs.ForCallers.{bytes_alike}
+use Rattle.nfa_core.proofs.ForCallers.{bytes_alike, all_unmarked}
 use Rattle.determinize_core.specs.Steps.{step_value}
 use Rattle.determinize_core.proofs.ForCallers.{units_step_alike}
 use Rattle.lazy_dfa.specs.Accounting.{Measures, stride_of, start_count, least_capacity, effective_capacity}
@@ -27,11 +27,6 @@ use Rattle.lazy_dfa.proofs.BuildLemmas.{power_small, power_enough}
 use Rattle.lazy_dfa.proofs.QuitClassLemmas.{same_class_same_set}
 
 -- ---- classes by marks
-
-all_unmarked : (n : ℕ) → IsUnmarked (replicate n false)
-all_unmarked zero b h = absurd (omega (arith, h))
-all_unmarked (suc n) zero h = refl
-all_unmarked (suc n) (suc b) h = all_unmarked n b (omega (arith, h))
 
 marks_next : (m : List Bool) (b : ℕ) → b < length m → marks_below m b ≤ marks_below m (b + 1)
 marks_next m b l = ⊎_elim

@@ -10,14 +10,15 @@ use Rattle.lazy_dfa.specs.Dfas.{Dfa, after, reader}
 use Rattle.lazy_dfa.specs.Passes.{is_dead, next_value, recorded}
 use Rattle.lazy_dfa.specs.PassLaws.{unit_of}
 use Rattle.lazy_dfa.specs.Readers.{Reader, is_quit}
-use Rattle.lazy_dfa.proofs.LinkedLemmas.{place_sum}
-use Rattle.lazy_dfa.proofs.TurnLemmas.{place_zero, dead_is}
+use Rattle.lazy_dfa.proofs.TurnLemmas.{dead_is}
+use Rattle.nfa_core.proofs.ForCallers.{place_zero}
+use Rattle.lazy_dfa.proofs.FoundLemmas.{place_add}
 
 -- ---- units behind others
 
 module _ (r : Reader) (h : List ℕ) (i j k : ℕ) (there : j ≡ place_of r.automaton.reverse i k) where
   place_there : (l : ℕ) → place_of r.automaton.reverse j l ≡ place_of r.automaton.reverse i (k + l)
-  place_there l = ap (λ (x : ℕ). place_of r.automaton.reverse x l) there ∙ place_sum r.automaton.reverse i k l
+  place_there l = ap (λ (x : ℕ). place_of r.automaton.reverse x l) there ∙ place_add r.automaton.reverse i k l
 
   pub unit_there : (l : ℕ) → unit_of r h j l ≡ unit_of r h i (k + l)
   unit_there l = ap (unit_at r.automaton.reverse h) (place_there l)

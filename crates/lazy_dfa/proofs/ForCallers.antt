@@ -47,3 +47,10 @@ pub use Rattle.lazy_dfa.proofs.ChangeLemmas.{plain_place, plain_noted, noted_rea
 pub use Rattle.lazy_dfa.proofs.IsCacheLemmas.{known_leads}
 -- a search gives up nowhere where no least number of clears is set
 pub use Rattle.lazy_dfa.proofs.SearchClauseLemmas.{never_among}
+pub use Rattle.lazy_dfa.proofs.FoundLemmas.{few_restarts}
+pub use Rattle.lazy_dfa.proofs.RestLemmas.{mapped_there}
+pub use Rattle.lazy_dfa.proofs.TurnLemmas.{place_next}
+pub use Rattle.lazy_dfa.proofs.TurnLemmas.{empty_is}
+pub use Rattle.lazy_dfa.proofs.TurnLemmas.{one_found}
+pub use Rattle.lazy_dfa.proofs.WalkEndLemmas.{first_low}
+pub use Rattle.lazy_dfa.proofs.WhichLemmas.{all_there}

@@ -18,11 +18,12 @@ use Rattle.lazy_dfa.specs.Passes.{next_place, start_name, pass}
 use Rattle.lazy_dfa.specs.Scans.{unless_split, passes, first_place, scan}
 use Rattle.lazy_dfa.specs.PassLaws.{pass_len, splits, pass_of}
 use Rattle.lazy_dfa.specs.ScanLaws.{IsWanted, begins_at, ends_of, restarts, IsSplitBy, IsFoundBy, IsFound, ends_by, IsFirstFound, Splits, passes_len, scan_len, ReadsAlike}
-use Rattle.lazy_dfa.proofs.TurnLemmas.{one_found, place_zero, place_later}
+use Rattle.lazy_dfa.proofs.TurnLemmas.{one_found, place_later}
 use Rattle.lazy_dfa.proofs.RestartLemmas.{whole_stays, split_goes, later_first, later_next}
 use Rattle.lazy_dfa.proofs.ScanLemmas.{pass_finds, passes_are, scan_anchored, scan_unanchored, split_found}
 use Rattle.lazy_dfa.proofs.ReachLemmas.{in_first, in_later, len_anchored, len_unanchored}
 use Rattle.lazy_dfa.proofs.ReadingLemmas.{pass_finds_first_anyhow}
+use Rattle.nfa_core.proofs.ForCallers.{place_zero}
 
 -- ---- whatever is wanted at each place
 
@@ -131,7 +132,7 @@ place_low : (is_reverse : Bool) (s e k : ℕ) → s ≤ e → k ≤ e - s → pl
 place_low false s e k l up = omega (arith, l, up)
 place_low true s e k l up = omega (arith, l, up)
 
-few_restarts : (mode : Anchored) (n k : ℕ) → k ≤ restarts mode n → k ≤ n
+pub few_restarts : (mode : Anchored) (n k : ℕ) → k ≤ restarts mode n → k ≤ n
 few_restarts mode n k l = either (is_anchored mode) n k l
   where
     either : (b : Bool) (n k : ℕ) → k ≤ (if b then 0 else n) → k ≤ n
@@ -168,7 +169,7 @@ module _ (r : Reader) (q : Search) (name : ℕ) (formed : IsWellFormed r.automat
 
 -- ---- for each reading of looks
 
-place_add : (is_reverse : Bool) (i m k : ℕ) → place_of is_reverse (place_of is_reverse i m) k ≡ place_of is_reverse i (m + k)
+pub place_add : (is_reverse : Bool) (i m k : ℕ) → place_of is_reverse (place_of is_reverse i m) k ≡ place_of is_reverse i (m + k)
 place_add false i m k = omega arith
 place_add true i m k = omega arith
 

@@ -18,6 +18,7 @@ use Rattle.lazy_dfa.proofs.IntervalReachLemmas.{scan_by_reach, scan_is_quiet, sc
 use Rattle.lazy_dfa.proofs.ReachLemmas.{scan_few}
 use Rattle.lazy_dfa.proofs.ScanLemmas.{scan_done, le_or_done}
 use Rattle.lazy_dfa.proofs.TurnLemmas.{one_found}
+use Rattle.nfa_core.proofs.ForCallers.{some_same}
 
 -- ---- where a search starts
 
@@ -26,13 +27,10 @@ one_of P [] k x all e = let never : true ≡ false = cc in absurd (grind (arith,
 one_of P (y ∷ ys) zero x all e = let same : y ≡ x = cc in subst P same (All-head P y ys all)
 one_of P (y ∷ ys) (suc k) x all e = one_of P ys k x (All-tail P y ys all) e
 
-some_is : (x y : ℕ) → Some x ≡ Some y → x ≡ y
-some_is x y e = cc
-
 -- a state in which a search starts is one of the automaton's
 pub start_is_state : (a : Automaton) (mode : Anchored) (name : ℕ) → IsSound a → start_name a mode ≡ Some name → name < length a.states
-start_is_state a No name sound e = subst (λ (x : ℕ). x < length a.states) (some_is a.start_unanchored name e) sound.unanchored
-start_is_state a Yes name sound e = subst (λ (x : ℕ). x < length a.states) (some_is a.start_anchored name e) sound.anchored
+start_is_state a No name sound e = subst (λ (x : ℕ). x < length a.states) (some_same a.start_unanchored name e) sound.unanchored
+start_is_state a Yes name sound e = subst (λ (x : ℕ). x < length a.states) (some_same a.start_anchored name e) sound.anchored
 start_is_state a (Pattern p) name sound e = one_of (λ (x : ℕ). x < length a.states) a.start_pattern p name sound.starts e
 
 -- ---- places

@@ -1,6 +1,6 @@
 -- How a cache stays its automaton's.
 use Rattle.std.proofs.Common.{◌≡◌, ◌≢◌, ℕ, zero, suc, ◌+◌, ◌*◌, ◌%◌, ◌/◌, ◌<◌, ◌≤◌, Bool, true, false, ◌⊎◌, List, [], ◌∷◌, ◌++◌, length, get_or, set, replicate, refl, sym, ap, ◌∙◌, subst, inl, inr, ⊎_elim, arith, true≢false, Option, Some, None, length-set, get_or-set_same, get_or-set_other}
-use Rattle.std.proofs.lemmas.Bool.{cases_lt, cases_eq}
+use Rattle.std.proofs.lemmas.Bool.{cases_lt, cases_eq, and_parts, not-true}
 use Rattle.std.proofs.lemmas.Slice.Eq.{bytes_eq-Decides}
 use Rattle.std.proofs.Math.Nat.{mul-le-mul_left, mul-div_cancel}
 use lib.ListN.{get_or-append, get_or-replicate, length-replicate}
@@ -27,6 +27,7 @@ use Rattle.look_core.specs.Terminators.{Terminator}
 use Rattle.search_types.specs.declared.match_kind.MatchKind.{MatchKind}
 use Rattle.nfa_core.specs.Nfa.{Automaton}
 use Rattle.lazy_dfa.specs.Steps.{IsHeld, StepsTo}
+use Rattle.nfa_core.proofs.ForCallers.{some_same}
 
 -- ---- places
 
@@ -229,13 +230,6 @@ same_slot m n s t e =
     let numbers : number_of s ≡ number_of t = omega (arith, e, f, g) in
     (modes, sym (numbered_back s).0 ∙ (ap numbered numbers ∙ (numbered_back t).0))
 
-pub names_starts : (v : CacheValue) (starts : List ℕ) (id : ℕ) (s : StateValue) → Names v id s → Names (record v { starts = starts }) id s
-names_starts v starts id s (names_dead e f) = names_dead e f
-names_starts v starts id s (names_held h) = names_held h
-
-leads_starts : (d : Dfa) (v : CacheValue) (starts : List ℕ) (s : StateValue) (u : Option ℕ) (id : ℕ) → Leads d v s u id → Leads d (record v { starts = starts }) s u id
-leads_starts d v starts s u id x = record { quits = x.quits; goes = λ e. names_starts v starts id (after d s u) (x.goes e) }
-
 shape_starts : (v : CacheValue) (starts : List ℕ) → IsShaped v → IsShaped (record v { starts = starts })
 shape_starts v starts i = record { positive = i.positive; narrow = i.narrow; sized = i.sized; small = i.small; named = i.named; tags = i.tags; real = i.real; apart = i.apart }
 
@@ -253,31 +247,23 @@ is_cache_started d v m s to own inside there =
       within = own.within;
       lives = own.lives;
       states = own.states;
-      steps = λ k u l unit known. leads_starts d v starts (state_at v k) u (cell_at v k (class_of d.classes u)) (own.steps k u l unit known);
+      steps = λ k u l unit known. leads_cells d v starts (state_at v k) u (cell_at v k (class_of d.classes u)) (own.steps k u l unit known);
       starts = λ n t l known q e. ⊎_elim
           (λ (is : slot n t ≡ slot m s).
           let both = same_slot n m t s is in
           let read : get_or starts (slot n t) 0 ≡ to = ap (λ (i : ℕ). get_or starts i 0) is ∙ get_or-set_same v.starts (slot m s) to 0 inside in
           let f : start_in d m ≡ Some q = ap (start_in d) (sym both.0) ∙ e in
           subst (λ (x : ℕ). Names (record v { starts = starts }) x (first_state d t q)) (sym read)
-          (subst (λ (x : Start). Names (record v { starts = starts }) to (first_state d x q)) (sym both.1) (names_starts v starts to (first_state d s q) (there q f))))
+          (subst (λ (x : Start). Names (record v { starts = starts }) to (first_state d x q)) (sym both.1) (names_cells v starts to (first_state d s q) (there q f))))
           (λ (ne : slot n t ≢ slot m s).
           let read : get_or starts (slot n t) 0 ≡ get_or v.starts (slot n t) 0 = get_or-set_other v.starts (slot m s) (slot n t) to 0 ne in
           subst (λ (x : ℕ). Names (record v { starts = starts }) x (first_state d t q)) (sym read)
-          (names_starts v starts (get_or v.starts (slot n t) 0) (first_state d t q)
+          (names_cells v starts (get_or v.starts (slot n t) 0) (first_state d t q)
           (own.starts n t (rw length-set at l) (λ z. known (read ∙ z)) q e)))
           (cases_eq (slot n t) (slot m s));
     }
 
 -- ---- what calls do
-
-and_both : (x y : Bool) → (x && y) ≡ true → (x ≡ true) × (y ≡ true)
-and_both true y e = (refl, e)
-and_both false y e = absurd (true≢false (sym e))
-
-pub not_false : (x : Bool) → not x ≡ true → x ≡ false
-not_false true e = absurd (true≢false (sym e))
-not_false false e = refl
 
 none_of : (xs : List ℕ) → is_empty xs ≡ true → xs ≡ []
 none_of [] e = refl
@@ -294,12 +280,12 @@ dead_parts v a b c d e f =
 
 pub dead_of : (v : StateValue) → is_dead v ≡ true → v ≡ dead
 dead_of v e =
-    let a = and_both (is_empty v.ids && is_empty v.matches && v.look_have == 0 && v.look_need == 0 && not v.is_from_word) (not v.is_half_crlf) e in
-    let b = and_both (is_empty v.ids && is_empty v.matches && v.look_have == 0 && v.look_need == 0) (not v.is_from_word) a.0 in
-    let c = and_both (is_empty v.ids && is_empty v.matches && v.look_have == 0) (v.look_need == 0) b.0 in
-    let d = and_both (is_empty v.ids && is_empty v.matches) (v.look_have == 0) c.0 in
-    let f = and_both (is_empty v.ids) (is_empty v.matches) d.0 in
-    dead_parts v (none_of v.ids f.0) (none_of v.matches f.1) ((Decides-eqb v.look_have 0).0 d.1) ((Decides-eqb v.look_need 0).0 c.1) (not_false v.is_from_word b.1) (not_false v.is_half_crlf a.1)
+    let a = and_parts (is_empty v.ids && is_empty v.matches && v.look_have == 0 && v.look_need == 0 && not v.is_from_word) (not v.is_half_crlf) e in
+    let b = and_parts (is_empty v.ids && is_empty v.matches && v.look_have == 0 && v.look_need == 0) (not v.is_from_word) a.0 in
+    let c = and_parts (is_empty v.ids && is_empty v.matches && v.look_have == 0) (v.look_need == 0) b.0 in
+    let d = and_parts (is_empty v.ids && is_empty v.matches) (v.look_have == 0) c.0 in
+    let f = and_parts (is_empty v.ids) (is_empty v.matches) d.0 in
+    dead_parts v (none_of v.ids f.0) (none_of v.matches f.1) ((Decides-eqb v.look_have 0).0 d.1) ((Decides-eqb v.look_need 0).0 c.1) (not-true v.is_from_word b.1) (not-true v.is_half_crlf a.1)
 
 pub alive_of : (v : StateValue) → is_dead v ≡ false → v ≢ dead
 alive_of v e f = true≢false (ap is_dead (sym f) ∙ e)
@@ -474,15 +460,12 @@ known_begins d v m i q id s own at inside named e known =
     subst (λ (n : ℕ). Names v n (first_state d s q)) (sym read)
     (own.starts m s inside (λ z. let l = lt_of unknown_id id known in absurd (omega (arith, l, read, z))) q named)
 
-some_one : (x y : ℕ) → Some x ≡ Some y → x ≡ y
-some_one x y e = cc
-
 module _ (d : Dfa) (v w : CacheValue) (m i q to : ℕ) (s : Start) (state : StateValue) (at : i ≡ slot m s) (is : state ≡ first_state d s q)
     (names : Names v to state) (e : w ≡ record v { starts = set v.starts i to }) where
   pub started : IsCacheOf d v → slot m s < length v.starts → start_in d m ≡ Some q → IsCacheOf d w
   started own inside named =
-      let there : Begins d v m s to = λ p f. subst (Names v to) (is ∙ ap (first_state d s) (some_one q p (sym named ∙ f))) names in
+      let there : Begins d v m s to = λ p f. subst (Names v to) (is ∙ ap (first_state d s) (some_same q p (sym named ∙ f))) names in
       subst (IsCacheOf d) (sym (e ∙ ap (λ (n : ℕ). record v { starts = set v.starts n to }) at)) (is_cache_started d v m s to own inside there)
 
   pub names_started : Names w to (first_state d s q)
-  names_started = subst (λ (x : CacheValue). Names x to (first_state d s q)) (sym e) (names_starts v (set v.starts i to) to (first_state d s q) (subst (Names v to) is names))
+  names_started = subst (λ (x : CacheValue). Names x to (first_state d s q)) (sym e) (names_cells v (set v.starts i to) to (first_state d s q) (subst (Names v to) is names))

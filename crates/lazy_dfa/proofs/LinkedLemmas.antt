@@ -23,6 +23,7 @@ use Rattle.lazy_dfa.specs.Steps.{IsHeld, Grew, WasCleared, KeepsOrClears, noted,
 use Rattle.lazy_dfa.proofs.ChangeLemmas.{row_kept}
 use Rattle.lazy_dfa.proofs.IsCacheLemmas.{row_of_held, cell_read}
 use Rattle.lazy_dfa.proofs.StartCallLemmas.{mode_fine, slot_inside}
+use Rattle.lazy_dfa.proofs.FoundLemmas.{place_add}
 
 -- ---- what calls leave
 
@@ -294,10 +295,6 @@ module _ (d : Dfa) (b c : CacheValue) (own : IsCacheOf d b) (grows : Grows d b c
 
 -- ---- parts of paths
 
-pub place_sum : (is_reverse : Bool) (i k l : ℕ) → place_of is_reverse (place_of is_reverse i k) l ≡ place_of is_reverse i (k + l)
-place_sum false i k l = omega arith
-place_sum true i k l = omega arith
-
 module _ (d : Dfa) (v : CacheValue) (h : List ℕ) (i id : ℕ) where
   pub linked_none : id ≢ unknown_id → IsLinkedOver d v h i id 0
   linked_none n = record { start = n; steps = λ k lt. absurd (omega (arith, lt)) }
@@ -318,7 +315,7 @@ module _ (d : Dfa) (v : CacheValue) (h : List ℕ) (i id : ℕ) where
     id_there = id_behind d v h i id k
 
     pub unit_split : (j : ℕ) → unit_of (reader d) h i (k + j) ≡ unit_of (reader d) h there j
-    unit_split j = ap (unit_at d.nfa.automaton.reverse h) (sym (place_sum d.nfa.automaton.reverse i k j))
+    unit_split j = ap (unit_at d.nfa.automaton.reverse h) (sym (place_add d.nfa.automaton.reverse i k j))
 
     pub id_split : (j : ℕ) → id_behind d v h i id (k + j) ≡ id_behind d v h there id_there j
     id_split zero = let e : k + 0 ≡ k = omega arith in ap (id_behind d v h i id) e

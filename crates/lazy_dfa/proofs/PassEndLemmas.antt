@@ -8,7 +8,8 @@ use Rattle.lazy_dfa.specs.Courses.{state_behind, best_behind, IsRead, AreRead, s
 use Rattle.lazy_dfa.specs.Passes.{index_at, is_dead, unless_quit, recorded, next_place, pass_from}
 use Rattle.lazy_dfa.specs.PassLaws.{units_read, unit_of}
 use Rattle.lazy_dfa.specs.Readers.{Reader, HalfAnswer, found, quit}
-use Rattle.lazy_dfa.proofs.TurnLemmas.{place_zero, place_next, goes_on}
+use Rattle.lazy_dfa.proofs.TurnLemmas.{place_next, goes_on}
+use Rattle.nfa_core.proofs.ForCallers.{place_zero}
 
 quits_here : (quits : List Bool) (u : Option ℕ) (index b : ℕ) (rest : HalfAnswer) → u ≡ Some b → has quits b ≡ true → unless_quit quits u index rest ≡ quit b index
 quits_here quits u index b rest e f =

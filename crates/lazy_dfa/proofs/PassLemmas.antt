@@ -14,10 +14,10 @@ use Rattle.determinize_core.proofs.ForCallers.{stays_dead, latest_is_first, all_
 use Rattle.lazy_dfa.specs.Readers.{Reader, is_quit, HalfAnswer, found}
 use Rattle.lazy_dfa.specs.Passes.{index_at, is_dead, unless_quit, recorded, next_value, next_place, pass_from, start_name, start_or_dead, first_value, pass}
 use Rattle.lazy_dfa.specs.PassLaws.{IsLastEnd}
-use Rattle.nfa_core.proofs.ForCallers.{ends_inside}
+use Rattle.nfa_core.proofs.ForCallers.{ends_inside, place_zero}
 use Rattle.lazy_dfa.proofs.LastLemmas.{last_end}
 use Rattle.lazy_dfa.proofs.PassQuitLemmas.{found_in_mode}
-use Rattle.lazy_dfa.proofs.TurnLemmas.{place_zero, place_next, dead_is, one_found, turn_found}
+use Rattle.lazy_dfa.proofs.TurnLemmas.{place_next, dead_is, one_found, turn_found}
 
 or_or : (x y z : Option (ℕ × ℕ)) → option_or x (option_or y z) ≡ option_or (option_or x y) z
 or_or None y z = refl

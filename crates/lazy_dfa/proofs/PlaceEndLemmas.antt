@@ -9,10 +9,10 @@ use Rattle.std.specs.List.{filter}
 use Rattle.nfa_core.specs.Places.{same_pair}
 use Rattle.nfa_core.specs.Walks.{has, Has, HasNoneTwice}
 use Rattle.nfa_core.specs.Ways.{place_of}
-use Rattle.nfa_core.proofs.ForCallers.{none_in, has_or_not, has_cons, has_first, has_later, of_append, has_filter, pairs_equal}
+use Rattle.nfa_core.proofs.ForCallers.{none_in, has_or_not, has_cons, has_first, has_later, of_append, has_filter, pairs_equal, place_zero}
 use Rattle.lazy_dfa.specs.PassLaws.{is_past}
 use Rattle.lazy_dfa.specs.WalkLaws.{ends_at, ends_by_place, IsInReadingOrder}
-use Rattle.lazy_dfa.proofs.TurnLemmas.{place_zero, place_later}
+use Rattle.lazy_dfa.proofs.TurnLemmas.{place_later}
 use Rattle.lazy_dfa.proofs.LastLemmas.{is_at, none_there, not_past}
 
 -- ---- the part of a list that passes a test

@@ -23,8 +23,9 @@ use Rattle.lazy_dfa.specs.Steps.{IsHeld, StepsTo, Grew, WasCleared, KeepsOrClear
 use Rattle.lazy_dfa.proofs.ChangeLemmas.{grew_refl, one_state}
 use Rattle.lazy_dfa.proofs.CourseLemmas.{state_there, best_there, read_there, state_behind_one, best_behind_one, read_one, not_dead, unmatched}
 use Rattle.lazy_dfa.proofs.IsCacheLemmas.{row_is_plain, le_of}
-use Rattle.lazy_dfa.proofs.LinkedLemmas.{AreBytes, row_grows, grows_refl, grows_trans, grew_grows, has_cleared, cleared_grows, moved_refl, moved_trans, moved_same, names_moved, noted_moved, moved_starts, grows_moved, id_moved, linked_moved, id_grows, linked_grows, linked_none, linked_less, id_split, linked_split, linked_join, place_sum, led_row, held_named, row_leads}
-use Rattle.lazy_dfa.proofs.TurnLemmas.{place_zero}
+use Rattle.lazy_dfa.proofs.LinkedLemmas.{AreBytes, row_grows, grows_refl, grows_trans, grew_grows, has_cleared, cleared_grows, moved_refl, moved_trans, moved_same, names_moved, noted_moved, moved_starts, grows_moved, id_moved, linked_moved, id_grows, linked_grows, linked_none, linked_less, id_split, linked_split, linked_join, led_row, held_named, row_leads}
+use Rattle.nfa_core.proofs.ForCallers.{place_zero}
+use Rattle.lazy_dfa.proofs.FoundLemmas.{place_add}
 
 -- ---- IDs that are held
 
@@ -114,7 +115,7 @@ module _ (d : Dfa) (v : CacheValue) (h : List ℕ) (i id j x k : ℕ) (there : j
       (subst (λ (y : ℕ). IsLinkedOver d v h (place_of d.nfa.automaton.reverse i k) y l) (sym leads)
       (subst (λ (p : ℕ). IsLinkedOver d v h p x l) there behind))
 
-sum_of : (a b c k l m : ℕ) → b ≤ a + k * m → c ≤ b + l * m → c ≤ a + (k + l) * m
+pub sum_of : (a b c k l m : ℕ) → b ≤ a + k * m → c ≤ b + l * m → c ≤ a + (k + l) * m
 sum_of a b c k l m f g = let e = add-mul k l m in omega (arith, e, f, g)
 
 module _ (d : Dfa) (h : List ℕ) (made : IsDfa d) (bytes : AreBytes h) (a b c : Point) (k l : ℕ) (own : IsCacheOf d a.cache) (mine : IsCacheOf d b.cache) (row : IsRow a.cache a.id)
@@ -156,7 +157,7 @@ module _ (d : Dfa) (h : List ℕ) (made : IsDfa d) (bytes : AreBytes h) (a b c :
 
   pub goes_on : GoesTo d h a c (k + l)
   goes_on = record {
-    place = g.place ∙ (ap (λ (p : ℕ). place_of d.nfa.automaton.reverse p l) f.place ∙ place_sum d.nfa.automaton.reverse a.at k l);
+    place = g.place ∙ (ap (λ (p : ℕ). place_of d.nfa.automaton.reverse p l) f.place ∙ place_add d.nfa.automaton.reverse a.at k l);
     names = λ s named. subst (Names c.cache c.id) (state_there (reader d) h a.at b.at k f.place s l) (g.names (state_behind (reader d) h a.at s k) (f.names s named));
     read = λ s named. read_there (reader d) h a.at b.at k f.place s l (f.read s named) (g.read (state_behind (reader d) h a.at s k) (f.names s named));
     best = λ s named.
@@ -172,11 +173,11 @@ module _ (d : Dfa) (h : List ℕ) (made : IsDfa d) (bytes : AreBytes h) (a b c :
 
 -- ---- one unit
 
-runs_anew : (p : Option Progress) → IsSome p → IsSome (begun_anew p)
+pub runs_anew : (p : Option Progress) → IsSome p → IsSome (begun_anew p)
 runs_anew None r = r
 runs_anew (Some p) r = refl
 
-one_time : (a b m : ℕ) → b ≤ a + m → b ≤ a + 1 * m
+pub one_time : (a b m : ℕ) → b ≤ a + m → b ≤ a + 1 * m
 one_time a b m l = omega (arith, l)
 
 module _ (d : Dfa) (h : List ℕ) (old : CacheValue) (at id : ℕ) (u : Option ℕ) (own : IsCacheOf d old) (row : IsRow old id)

@@ -1,6 +1,6 @@
 -- Sets of bytes that are made or read byte by byte.
 use Rattle.std.proofs.Common.{◌≡◌, ◌≢◌, ℕ, zero, suc, ◌+◌, ◌-◌, ◌<◌, ◌≤◌, Bool, true, false, ◌||◌, ◌&&◌, List, [], ◌∷◌, length, get_or, set, map, nat_le, refl, sym, ap, ◌∙◌, ⊎_elim, arith, length-set, get_or-set_same, get_or-set_other}
-use Rattle.std.proofs.lemmas.Bool.{cases_eq, le-leb}
+use Rattle.std.proofs.lemmas.Bool.{cases_eq, le-leb, or_right}
 use Rattle.std.proofs.lemmas.Bool.Decides.{leb_tells}
 use Rattle.std.specs.List.{range_with_len, list_all}
 use Rattle.search_core.specs.ByteSets.{has}
@@ -25,12 +25,8 @@ is_wanted set b = has set b || nat_le 0x80 b
 pub wanted_by_set : (set : List Bool) (b : ℕ) → has set b ≡ true → is_wanted set b ≡ true
 wanted_by_set set b e = ap (λ (x : Bool). x || nat_le 0x80 b) e
 
-or_true : (x y : Bool) → y ≡ true → (x || y) ≡ true
-or_true true y e = refl
-or_true false y e = e
-
 pub wanted_high : (set : List Bool) (b : ℕ) → 0x80 ≤ b → is_wanted set b ≡ true
-wanted_high set b l = or_true (has set b) (nat_le 0x80 b) (le-leb 0x80 b l)
+wanted_high set b l = or_right (has set b) (nat_le 0x80 b) (le-leb 0x80 b l)
 
 pub unwanted : (set : List Bool) (b : ℕ) → has set b ≡ false → b < 0x80 → is_wanted set b ≡ false
 unwanted set b e l = ap (λ (x : Bool). x || nat_le 0x80 b) e ∙ ⊎_elim (λ told. let up = told.1 in absurd (omega (arith, l, up))) (λ told. told.0) (leb_tells 0x80 b)

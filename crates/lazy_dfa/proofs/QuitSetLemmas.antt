@@ -1,6 +1,6 @@
 -- Which bytes are quit bytes. All is stated of ranges of any length, since a list of 256 would be unfolded.
 use Rattle.std.proofs.Common.{◌≡◌, ℕ, zero, suc, ◌+◌, ◌<◌, ◌≤◌, Bool, true, false, ◌&&◌, ◌||◌, not, List, map, length, get_or, refl, sym, ap, ◌∙◌, ⊎_elim, arith, if◌then◌else◌}
-use Rattle.std.proofs.lemmas.Bool.{cases_Bool, cases_lt, and_parts, le-leb}
+use Rattle.std.proofs.lemmas.Bool.{cases_Bool, cases_lt, and_parts, le-leb, and_from, or_left, or_right, not-true}
 use Rattle.std.proofs.lemmas.Bool.Decides.{leb_tells}
 use Rattle.std.proofs.lemmas.List.FromFn.{get_or-map-range_with_len, length-map-range_with_len}
 use Rattle.std.specs.Bool.{nat_le}
@@ -29,14 +29,6 @@ some_of_range p a (suc n) none = ⊎_elim
     (cases_Bool (p a))
 
 -- ---- high bytes
-
-or_true : (x y : Bool) → y ≡ true → (x || y) ≡ true
-or_true true y e = refl
-or_true false y e = e
-
-true_or : (x y : Bool) → x ≡ true → (x || y) ≡ true
-true_or true y e = refl
-true_or false y e = let never : false ≡ true = e in absurd (grind (arith, never))
 
 or_false : (x y : Bool) → y ≡ false → (x || y) ≡ x
 or_false true y e = refl
@@ -81,7 +73,7 @@ module _ (a : Automaton) (boundaries : Bool) (set : List Bool) where
 
   pub quits_by_hand : (b : ℕ) → b < 256 → has set b ≡ true → has (quit_bytes a boundaries set) b ≡ true
   quits_by_hand b l e = either is_wide (with_high_bytes set) set (λ (s : List Bool). has s b ≡ true)
-      (λ wide. high_at set b l ∙ true_or (has set b) (nat_le 0x80 b) e) (λ plain. e)
+      (λ wide. high_at set b l ∙ or_left (has set b) (nat_le 0x80 b) e) (λ plain. e)
 
   pub quits_of_ascii : (b : ℕ) → b < 0x80 → has (quit_bytes a boundaries set) b ≡ has set b
   quits_of_ascii b l = either is_wide (with_high_bytes set) set (λ (s : List Bool). has s b ≡ has set b)
@@ -90,17 +82,13 @@ module _ (a : Automaton) (boundaries : Bool) (set : List Bool) where
   pub quits_of_wide : (b : ℕ) → is_wide ≡ true → 0x80 ≤ b → b < 256 → has (quit_bytes a boundaries set) b ≡ true
   quits_of_wide b wide from to =
       ap (λ (w : Bool). has (if w then with_high_bytes set else set) b) wide ∙ high_at set b to
-      ∙ or_true (has set b) (nat_le 0x80 b) (le-leb 0x80 b from)
+      ∙ or_right (has set b) (nat_le 0x80 b) (le-leb 0x80 b from)
 
   pub quits_plain : is_wide ≡ false → quit_bytes a boundaries set ≡ set
   quits_plain plain = ap (λ (w : Bool). if w then with_high_bytes set else set) plain
 
   pub quits_len : length set ≡ 256 → length (quit_bytes a boundaries set) ≡ 256
   quits_len e = either is_wide (with_high_bytes set) set (λ (s : List Bool). length s ≡ 256) (λ wide. high_len set) (λ plain. e)
-
-both_true : (x y : Bool) → x ≡ true → y ≡ true → (x && y) ≡ true
-both_true true y e f = f
-both_true false y e f = let never : false ≡ true = e in absurd (grind (arith, never))
 
 not_both : (x y : Bool) → x ≡ false → (x && y) ≡ false
 not_both false y e = refl
@@ -110,13 +98,9 @@ and_off : (x : Bool) → (x && false) ≡ false
 and_off true = refl
 and_off false = refl
 
-not_is : (b : Bool) → not b ≡ true → b ≡ false
-not_is false e = refl
-not_is true e = let never : false ≡ true = e in absurd (grind (arith, never))
-
 pub quits_of_high : (a : Automaton) (set : List Bool) (b : ℕ) → has_unicode_word a ≡ true → 0x80 ≤ b → b < 256 →
     has (quit_bytes a true set) b ≡ true
-quits_of_high a set b unicode from to = quits_of_wide a true set b (both_true (has_unicode_word a) true unicode refl) from to
+quits_of_high a set b unicode from to = quits_of_wide a true set b (and_from (has_unicode_word a) true unicode refl) from to
 
 pub quits_without_words : (a : Automaton) (boundaries : Bool) (set : List Bool) → has_unicode_word a ≡ false →
     quit_bytes a boundaries set ≡ set
@@ -132,7 +116,7 @@ pub some_high_is_missing : (a : Automaton) (boundaries : Bool) (set : List Bool)
 some_high_is_missing a boundaries set e =
     let both = and_parts (has_unicode_word a && not boundaries) (not (has_high_bytes set)) e in
     let first = and_parts (has_unicode_word a) (not boundaries) both.0 in
-    (first.0, not_is boundaries first.1, not_all_high set (not_is (has_high_bytes set) both.1))
+    (first.0, not-true boundaries first.1, not_all_high set (not-true (has_high_bytes set) both.1))
 
 false_behind : (x y : Bool) → y ≡ false → (x && y) ≡ false
 false_behind true y e = e
@@ -156,7 +140,7 @@ pub missing_high_is_refused : (a : Automaton) (set : List Bool) (b : ℕ) → ha
     has set b ≡ false →
     is_unsupported a false set ≡ true
 missing_high_is_refused a set b unicode from to e =
-    both_true (has_unicode_word a && true) (not (has_high_bytes set)) (both_true (has_unicode_word a) true unicode refl)
+    and_from (has_unicode_word a && true) (not (has_high_bytes set)) (and_from (has_unicode_word a) true unicode refl)
     (ap not (not_high set b from to e))
 
 -- where an automaton isn't refused, each high byte is a quit byte one way or the other

@@ -21,7 +21,7 @@ use Rattle.lazy_dfa.specs.PassLaws.{units_read, pass_len, unit_of, HasNoQuit, sp
 use Rattle.lazy_dfa.specs.ScanLaws.{begins_at, larger, passes_len, scan_len}
 use Rattle.search_types.specs.Inputs.{Search}
 use Rattle.search_types.specs.Modes.{is_anchored}
-use Rattle.lazy_dfa.proofs.TurnLemmas.{place_zero, place_later, one_found, turn_found, found_no_quit, found_no_mode}
+use Rattle.lazy_dfa.proofs.TurnLemmas.{place_later, one_found, turn_found, found_no_quit, found_no_mode}
 use Rattle.lazy_dfa.proofs.PassQuitLemmas.{unit_first, unit_later, reads_all, found_in_mode, found_without_quit, pass_units, dead_pass}
 use Rattle.lazy_dfa.proofs.AlikeLemmas.{within, first_within, pass_alike}
 use Rattle.lazy_dfa.proofs.RestartLemmas.{whole_stays, split_goes}
@@ -29,6 +29,7 @@ use Rattle.lazy_dfa.proofs.NearbyLemmas.{Fits, fits_next}
 use Rattle.lazy_dfa.proofs.ScanLemmas.{split_found, scan_anchored, scan_unanchored, scan_done, begins_inside, le_or_done}
 use Rattle.search_types.specs.declared.anchored.Anchored.TheVariants.{No, Yes, Pattern}
 use Rattle.nfa_core.specs.Nfa.{Automaton}
+use Rattle.nfa_core.proofs.ForCallers.{place_zero}
 
 -- ---- a place that is found was read behind
 

@@ -18,7 +18,7 @@ use Rattle.nfa_core.specs.Nfa.{Node, Automaton, fail_node, node_at, IsWellFormed
 use Rattle.nfa_core.specs.NfaValue.{looks_of, is_capture}
 use Rattle.nfa_core.specs.Reaches.{read_by}
 use Rattle.nfa_core.specs.Ways.{Text, span, reads, is_passed, on_read, byte_steps, place_of, bytes_left, ends_from}
-use Rattle.nfa_core.proofs.ForCallers.{first_same, alike_by_looks}
+use Rattle.nfa_core.proofs.ForCallers.{first_same, alike_by_looks, place_zero}
 use Rattle.determinize_core.specs.States.{StateValue}
 use Rattle.determinize_core.specs.Starts.{start_of}
 use Rattle.determinize_core.specs.Steps.{closed, known_steps, kept, unit_steps, reading, ids_before, behind, start_value, step_value, unit_at, unit_behind}
@@ -27,7 +27,7 @@ use Rattle.determinize_core.proofs.ForCallers.{lists_are_lists, states_are, entr
 use Rattle.lazy_dfa.specs.Readers.{Reader, found}
 use Rattle.lazy_dfa.specs.Passes.{is_dead, next_value, next_place, start_name, start_or_dead, pass}
 use Rattle.lazy_dfa.specs.PassLaws.{units_read, pass_len}
-use Rattle.lazy_dfa.proofs.TurnLemmas.{place_zero, place_next, dead_is}
+use Rattle.lazy_dfa.proofs.TurnLemmas.{place_next, dead_is}
 use Rattle.lazy_dfa.proofs.PassQuitLemmas.{found_in_mode, reads_all}
 use Rattle.lazy_dfa.proofs.BothKindsLemmas.{first_joined}
 use Rattle.lazy_dfa.proofs.PassLemmas.{walk, walk_steps, walk_starts, pass_finds_first}

@@ -12,7 +12,7 @@ use Rattle.search_types.specs.Places.{counts}
 use Rattle.nfa_core.specs.Places.{same_pair}
 use Rattle.nfa_core.specs.Walks.{Has}
 use Rattle.nfa_core.specs.Ways.{place_of}
-use Rattle.nfa_core.proofs.ForCallers.{none_in, has_cons, of_append, option_cases, one_value, no_value, pairs_equal}
+use Rattle.nfa_core.proofs.ForCallers.{none_in, has_cons, of_append, option_cases, one_value, no_value, pairs_equal, place_zero}
 use Rattle.determinize_core.specs.States.{StateValue, dead}
 use Rattle.determinize_core.specs.Steps.{unit_at, unit_behind}
 use Rattle.lazy_dfa.specs.Readers.{Reader, is_quit}
@@ -21,7 +21,7 @@ use Rattle.lazy_dfa.specs.PassLaws.{IsFirstQuit, HasNoQuitBehind}
 use Rattle.lazy_dfa.specs.Scans.{first_place}
 use Rattle.lazy_dfa.specs.ScanLaws.{begins_at, IsQuitNear, HasNoQuitNear}
 use Rattle.lazy_dfa.specs.Walks.{Rest, nothing_left, refused, onto, unless_quit_at, where_supported, end_of, listed, rest_from, whole_rest}
-use Rattle.lazy_dfa.proofs.TurnLemmas.{place_zero, place_later}
+use Rattle.lazy_dfa.proofs.TurnLemmas.{place_later}
 use Rattle.lazy_dfa.proofs.PassQuitLemmas.{first_here, first_later}
 use Rattle.lazy_dfa.proofs.NearbyLemmas.{behind_near, at_near}
 use Rattle.lazy_dfa.proofs.ScanLemmas.{past_le, begins_inside, le_or_done}
@@ -153,7 +153,7 @@ module _ (r : Reader) (q : Search) where
 
 -- ---- where ends lie
 
-mapped_there : (i : ℕ) (ms : List ℕ) (x : ℕ × ℕ) → Has same_pair x (map (end_of i) ms) → x.0 ≡ i
+pub mapped_there : (i : ℕ) (ms : List ℕ) (x : ℕ × ℕ) → Has same_pair x (map (end_of i) ms) → x.0 ≡ i
 mapped_there i [] x there = none_in same_pair x _ there
 mapped_there i (m ∷ ms) x there = ⊎_elim
     (λ (e : x ≡ (i, m)). ap (λ (p : ℕ × ℕ). p.0) e)

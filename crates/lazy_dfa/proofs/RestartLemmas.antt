@@ -7,7 +7,8 @@ use Rattle.lazy_dfa.specs.Readers.{Reader, HalfAnswer, found, quit, unsupported}
 use Rattle.lazy_dfa.specs.Passes.{next_place, pass}
 use Rattle.lazy_dfa.specs.Scans.{unless_split, passes}
 use Rattle.lazy_dfa.specs.PassLaws.{splits, pass_of}
-use Rattle.lazy_dfa.proofs.TurnLemmas.{place_zero, place_later}
+use Rattle.lazy_dfa.proofs.TurnLemmas.{place_later}
+use Rattle.nfa_core.proofs.ForCallers.{place_zero}
 
 if_counts : (b : Bool) (e : ℕ × ℕ) (other : HalfAnswer) → not b ≡ false → (if b then found (Some e) else other) ≡ found (Some e)
 if_counts true e other is = refl

@@ -28,7 +28,8 @@ use Rattle.lazy_dfa.proofs.IsCacheLemmas.{row_is_plain}
 use Rattle.lazy_dfa.proofs.LinkedLemmas.{AreBytes, grows_trans, grows_or_clears_trans, cleared_grows, moved_trans, names_moved, noted_moved, moved_starts, grows_moved, id_moved, linked_moved, linked_less}
 use Rattle.lazy_dfa.proofs.PassEndLemmas.{ends_dead, ends_stop, ends_last, ends_quit, reads_on}
 use Rattle.lazy_dfa.proofs.PointLemmas.{goes_on, held_plain, linked_from}
-use Rattle.lazy_dfa.proofs.TurnLemmas.{place_zero, dead_is}
+use Rattle.lazy_dfa.proofs.TurnLemmas.{dead_is}
+use Rattle.nfa_core.proofs.ForCallers.{place_zero}
 
 -- ---- joins
 

@@ -22,6 +22,7 @@ use Rattle.lazy_dfa.specs.Steps.{most_inserts}
 use Rattle.lazy_dfa.proofs.AnswerLemmas.{error, error_is_whole, gave_up_among}
 use Rattle.lazy_dfa.proofs.LinkedLemmas.{AreBytes, grows_refl, grows_trans, cleared_grows, moved_refl, moved_trans, linked_pass_moved, are_linked_grows}
 use Rattle.lazy_dfa.proofs.PassListLemmas.{first_pass, first_answer, whole_scan}
+use Rattle.look_core.proofs.ForCallers.{All-left, All-right}
 
 -- ---- clears
 
@@ -29,14 +30,6 @@ cleared_later : (d : Dfa) (a b c : CacheValue) → Grows d a b → HasCleared b 
 cleared_later d a b c g m = subst (λ (n : ℕ). min (n + 1) greatest ≤ c.clears) g.clears m
 
 -- ---- lists of passes
-
-All-left : {X : Type 0} (P : X → Type 0) (xs ys : List X) → All P (xs ++ ys) → All P xs
-All-left P [] ys h = All-nil P
-All-left P (x ∷ xs) ys h = All-cons P x xs (All-head P x (xs ++ ys) h) (All-left P xs ys (All-tail P x (xs ++ ys) h))
-
-All-right : {X : Type 0} (P : X → Type 0) (xs ys : List X) → All P (xs ++ ys) → All P ys
-All-right P [] ys h = h
-All-right P (x ∷ xs) ys h = All-right P xs ys (All-tail P x (xs ++ ys) h)
 
 abbrev len_of : Reader → Search → ℕ × ℕ → ℕ
 len_of r q p = pass_len r q.anchored q.earliest q.haystack p.0 p.1

@@ -15,7 +15,7 @@ use Rattle.lazy_dfa.specs.Steps.{IsHeld, Added, Grew, WasCleared}
 use Rattle.lazy_dfa.specs.StartCalls.{TagsStart, ClearedFor, PlacesStart, start_found, start_added}
 use Rattle.lazy_dfa.proofs.CacheLemmas.{IsShaped-cleared, fresh_at}
 use Rattle.lazy_dfa.proofs.ChangeLemmas.{added_refl, added_state, column, row_kept, cleared_few, same_grew}
-use Rattle.lazy_dfa.proofs.IsCacheLemmas.{alive_of, row_is_plain, names_starts, le_of}
+use Rattle.lazy_dfa.proofs.IsCacheLemmas.{alive_of, row_is_plain, le_of, names_cells}
 
 -- ---- tags
 
@@ -34,11 +34,6 @@ pub not_fresh : (d : Dfa) (v : CacheValue) (id : ℕ) (s : StateValue) → Names
 not_fresh d v id s (names_dead e f) alive fresh = alive_of s alive f
 not_fresh d v id s (names_held h) alive fresh =
     true≢false (sym ((bytes_eq-Decides (encoded s) (encoded s)).1 refl) ∙ (ap (same s) h.3 ∙ fresh_at s v.states h.0 fresh h.1))
-
--- what names a state is held, and has no tag of an unknown step
-pub held_name : (v : CacheValue) (id : ℕ) (s : StateValue) → Names v id s → IsHeld v id
-held_name v id s (names_dead e f) = inl e
-held_name v id s (names_held h) = inr (inr (h.0, h.1, h.2))
 
 known_name : (v : CacheValue) (id : ℕ) (s : StateValue) → IsShaped v → Names v id s → id < unknown_id
 known_name v id s i (names_dead e f) = omega (arith, e, i.narrow)
@@ -76,8 +71,8 @@ module _ (d : Dfa) (v mid new : CacheValue) (i id : ℕ) (s : StateValue) (made 
 
   grew_start : Added v mid → Grew d v new
   grew_start a = subst (Grew d v) (sym e) (record {
-    names = λ j t n. names_starts mid (set mid.starts i id) j t (a.names j t n);
-    rows = λ j r. row_kept v (record mid { starts = set mid.starts i id }) own.shape (λ j t n. names_starts mid (set mid.starts i id) j t (a.names j t n)) j r;
+    names = λ j t n. names_cells mid (set mid.starts i id) j t (a.names j t n);
+    rows = λ j r. row_kept v (record mid { starts = set mid.starts i id }) own.shape (λ j t n. names_cells mid (set mid.starts i id) j t (a.names j t n)) j r;
     known = λ j w r unit n. a.cells j (class_of d.classes w) r (column d v made own w unit);
     starts = λ j n. starts_on a j n;
     clears = a.clears;

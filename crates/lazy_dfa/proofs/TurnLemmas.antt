@@ -1,6 +1,6 @@
 -- One turn of a pass, by what it answers.
 use Rattle.std.proofs.Common.{◌≡◌, ℕ, suc, Bool, true, false, ◌&&◌, not, ◌==◌, List, [], ◌∷◌, Option, Some, None, if◌then◌else◌, refl, sym, ap, ◌∙◌, ◌⊎◌, inl, inr, arith}
-use Rattle.std.proofs.lemmas.Bool.{and_parts, eqb-true}
+use Rattle.std.proofs.lemmas.Bool.{and_parts, eqb-true, not-true}
 use Rattle.search_core.specs.ByteSets.{has}
 use Rattle.search_types.specs.declared.anchored.Anchored.{Anchored}
 use Rattle.nfa_core.specs.Ways.{place_of}
@@ -10,10 +10,6 @@ use Rattle.lazy_dfa.specs.Passes.{is_empty, is_dead, unless_quit, if_supported}
 use Rattle.lazy_dfa.specs.PassLaws.{IsQuitAt}
 
 -- ---- places
-
-pub place_zero : (is_reverse : Bool) (i : ℕ) → place_of is_reverse i 0 ≡ i
-place_zero false i = omega arith
-place_zero true i = omega arith
 
 pub place_next : (is_reverse : Bool) (i k : ℕ) → place_of is_reverse (place_of is_reverse i k) 1 ≡ place_of is_reverse i (suc k)
 place_next false i k = omega arith
@@ -29,10 +25,6 @@ pub empty_is : (xs : List ℕ) → is_empty xs ≡ true → xs ≡ []
 empty_is [] e = refl
 empty_is (x ∷ xs) e = let never : false ≡ true = e in cc
 
-not_true : (b : Bool) → not b ≡ true → b ≡ false
-not_true false e = refl
-not_true true e = let never : false ≡ true = e in cc
-
 pub dead_is : (v : StateValue) → is_dead v ≡ true → v ≡ dead
 dead_is v e =
     let a = and_parts (is_empty v.ids && is_empty v.matches && v.look_have == 0 && v.look_need == 0 && not v.is_from_word)
@@ -41,7 +33,7 @@ dead_is v e =
     let c = and_parts (is_empty v.ids && is_empty v.matches && v.look_have == 0) (v.look_need == 0) b.0 in
     let d = and_parts (is_empty v.ids && is_empty v.matches) (v.look_have == 0) c.0 in
     let f = and_parts (is_empty v.ids) (is_empty v.matches) d.0 in
-    same_parts v dead (not_true v.is_from_word b.1) (not_true v.is_half_crlf a.1) (eqb-true v.look_have 0 d.1)
+    same_parts v dead (not-true v.is_from_word b.1) (not-true v.is_half_crlf a.1) (eqb-true v.look_have 0 d.1)
     (eqb-true v.look_need 0 c.1) (empty_is v.matches f.1) (empty_is v.ids f.0)
   where
     same_parts : (v w : StateValue) → v.is_from_word ≡ w.is_from_word → v.is_half_crlf ≡ w.is_half_crlf →

@@ -28,8 +28,8 @@ use Rattle.lazy_dfa.proofs.ChangeLemmas.{one_state}
 use Rattle.lazy_dfa.proofs.CourseLemmas.{state_behind_one, unmatched}
 use Rattle.lazy_dfa.proofs.IsCacheLemmas.{row_is_low, row_is_plain, lt_of}
 use Rattle.lazy_dfa.proofs.LinkedLemmas.{grows_of, has_cleared, moved_same}
-use Rattle.lazy_dfa.proofs.PointLemmas.{goes_step, plain_row}
-use Rattle.lazy_dfa.proofs.TurnLemmas.{place_zero}
+use Rattle.lazy_dfa.proofs.PointLemmas.{goes_step, plain_row, runs_anew, one_time}
+use Rattle.nfa_core.proofs.ForCallers.{place_zero}
 
 -- ---- tags
 
@@ -167,13 +167,6 @@ module _ (v : CacheValue) (id place : ℕ) (best : Option (ℕ × ℕ)) (earlies
 pub step_renamed : (d : Dfa) (old new : CacheValue) (m1 m2 n1 n2 id : ℕ) (u w : Option ℕ) (r : Result ℕ CacheError) → w ≡ u →
     IsStep d old new m1 m2 n1 n2 id u r → IsStep d old new m1 m2 n1 n2 id w r
 step_renamed d old new m1 m2 n1 n2 id u w r e x = subst (λ (y : Option ℕ). IsStep d old new m1 m2 n1 n2 id y r) (sym e) x
-
-one_time : (a b m : ℕ) → b ≤ a + m → b ≤ a + 1 * m
-one_time a b m l = omega (arith, l)
-
-runs_anew : (p : Option Progress) → IsSome p → IsSome (begun_anew p)
-runs_anew None r = r
-runs_anew (Some p) r = refl
 
 -- a quit byte
 quit_byte : (quits : List Bool) (u : Option ℕ) → is_quit quits u ≡ true → (b : ℕ) × (u ≡ Some b) × (get_or quits b false ≡ true)

@@ -13,7 +13,7 @@ use Rattle.nfa_core.specs.Places.{same_pair}
 use Rattle.nfa_core.specs.Walks.{has as has_in, Has, HasNoneTwice, chain_ends}
 use Rattle.nfa_core.specs.Runs.{answers}
 use Rattle.nfa_core.specs.Ways.{Text, span, place_of, bytes_left, ways, matched, ends_from}
-use Rattle.nfa_core.proofs.ForCallers.{ends_inside, one_value, no_value, join_once, pairs_equal}
+use Rattle.nfa_core.proofs.ForCallers.{ends_inside, one_value, no_value, join_once, pairs_equal, place_zero}
 use Rattle.determinize_core.specs.States.{StateValue, dead}
 use Rattle.determinize_core.specs.Steps.{unit_at, unit_behind, walk_value}
 use Rattle.determinize_core.proofs.ForCallers.{all_listed}
@@ -24,7 +24,7 @@ use Rattle.lazy_dfa.specs.Scans.{first_place}
 use Rattle.lazy_dfa.specs.ScanLaws.{begins_at, ends_of}
 use Rattle.lazy_dfa.specs.Walks.{Rest, refused, onto, end_of, listed, rest_from, whole_rest}
 use Rattle.lazy_dfa.specs.WalkLaws.{ends_at, ends_by_place, span_ends, IsBegun, IsInReadingOrder, IsQuitUnit}
-use Rattle.lazy_dfa.proofs.TurnLemmas.{place_zero, place_next, place_later, dead_is}
+use Rattle.lazy_dfa.proofs.TurnLemmas.{place_next, place_later, dead_is}
 use Rattle.lazy_dfa.proofs.LastLemmas.{pattern, is_at, none_mapped}
 use Rattle.lazy_dfa.proofs.PassQuitLemmas.{unit_first, unit_later, none_more}
 use Rattle.lazy_dfa.proofs.PassLemmas.{dead_next, walk, walk_steps, walk_starts}
@@ -139,7 +139,7 @@ all_left : (is_reverse : Bool) (s e : ℕ) (t : Text) → t.start ≡ s → t.en
 all_left false s e t a b = omega (arith, a, b)
 all_left true s e t a b = omega (arith, a, b)
 
-first_low : (is_reverse : Bool) (s e : ℕ) → s ≤ e → first_place is_reverse s e ≤ e
+pub first_low : (is_reverse : Bool) (s e : ℕ) → s ≤ e → first_place is_reverse s e ≤ e
 first_low false s e l = l
 first_low true s e l = omega arith
 

@@ -38,7 +38,7 @@ came_first : (is_reverse : Bool) (q : Search) → came is_reverse q (first_place
 came_first false q = omega arith
 came_first true q = omega arith
 
-left_last : (is_reverse : Bool) (q : Search) (at : ℕ) → at ≡ last_place is_reverse q → left_at is_reverse q at ≡ 0
+pub left_last : (is_reverse : Bool) (q : Search) (at : ℕ) → at ≡ last_place is_reverse q → left_at is_reverse q at ≡ 0
 left_last false q at e = omega (arith, e)
 left_last true q at e = omega (arith, e)
 

@@ -18,12 +18,12 @@ use Rattle.lazy_dfa.specs.Walks.{rest_from, value_past}
 use Rattle.lazy_dfa.specs.WalkAnswers.{units_met, value_before, rest_at, units_at}
 use Rattle.lazy_dfa.specs.WalkTurns.{TellsNone}
 use Rattle.lazy_dfa.proofs.CourseLemmas.{state_there}
-use Rattle.lazy_dfa.proofs.TurnLemmas.{place_zero}
 use Rattle.lazy_dfa.proofs.WalkRestLemmas.{goes_left, goes_units}
+use Rattle.nfa_core.proofs.ForCallers.{place_zero}
 
 -- ---- places
 
-place_came : (is_reverse : Bool) (q : Search) (at : ℕ) → IsWithinSpan q at → place_of is_reverse (first_place is_reverse q.start q.end) (came is_reverse q at) ≡ at
+pub place_came : (is_reverse : Bool) (q : Search) (at : ℕ) → IsWithinSpan q at → place_of is_reverse (first_place is_reverse q.start q.end) (came is_reverse q at) ≡ at
 place_came false q at w = omega (arith, w.0, w.1)
 place_came true q at w = omega (arith, w.0, w.1)
 
@@ -34,14 +34,6 @@ came_later true q a c l w x e = omega (arith, w.0, w.1, x.0, x.1, e)
 pub left_next : (is_reverse : Bool) (q : Search) (a c : ℕ) → IsWithinSpan q a → a ≢ last_place is_reverse q → c ≡ place_of is_reverse a 1 → left_at is_reverse q a ≡ 1 + left_at is_reverse q c
 left_next false q a c w n e = omega (arith, w.0, w.1, n, e)
 left_next true q a c w n e = omega (arith, w.0, w.1, n, e)
-
-pub left_last : (is_reverse : Bool) (q : Search) (a : ℕ) → a ≡ last_place is_reverse q → left_at is_reverse q a ≡ 0
-left_last false q a e = omega (arith, e)
-left_last true q a e = omega (arith, e)
-
-pub place_sum_one : (is_reverse : Bool) (i k l : ℕ) → place_of is_reverse (place_of is_reverse i k) l ≡ place_of is_reverse i (k + l)
-place_sum_one false i k l = omega arith
-place_sum_one true i k l = omega arith
 
 -- how far a call comes that begins at one place and ends with the unit at another one
 pub comes_far : (is_reverse : Bool) (q : Search) (a c l : ℕ) → IsWithinSpan q a → IsWithinSpan q c → left_at is_reverse q a ≡ l + left_at is_reverse q c →

@@ -33,10 +33,13 @@ use Rattle.lazy_dfa.proofs.LinkedLemmas.{grows_trans, cleared_grows, grows_or_cl
 use Rattle.lazy_dfa.proofs.PassLoopLemmas.{next_within}
 use Rattle.lazy_dfa.proofs.RunLemmas.{row_holds, half_back}
 use Rattle.lazy_dfa.proofs.SpanTurnLemmas.{held_moved, finished_moves, told_there}
-use Rattle.lazy_dfa.proofs.TurnLemmas.{place_zero}
-use Rattle.lazy_dfa.proofs.WalkPlaceLemmas.{left_next, left_last, place_sum_one, comes_far, past_next, past_one, value_later, rest_later, units_later}
-use Rattle.lazy_dfa.proofs.WalkRestLemmas.{some_listed, none_left, dead_left, step_left, quit_left, pass_left, pass_units, tell_units, some_units, dead_units}
+use Rattle.lazy_dfa.proofs.WalkPlaceLemmas.{left_next, comes_far, past_next, past_one, value_later, rest_later, units_later}
+use Rattle.lazy_dfa.proofs.WalkRestLemmas.{some_listed, none_left, dead_left, step_left, quit_left, pass_left, pass_units, tell_units, some_units}
 use Rattle.lazy_dfa.proofs.WholePassLemmas.{min_twice}
+use Rattle.nfa_core.proofs.ForCallers.{place_zero}
+use Rattle.lazy_dfa.proofs.FoundLemmas.{place_add}
+use Rattle.lazy_dfa.proofs.PointLemmas.{sum_of}
+use Rattle.lazy_dfa.proofs.WalkLeftLemmas.{left_last, dead_units}
 
 -- ---- stands
 
@@ -58,9 +61,6 @@ pub record StandsOn (d : Dfa) (q : Search) (from p : Point) : Type 0 where
   pub running : IsSome p.cache.progress
   pub determinized : p.determinized ≤ from.determinized + steps
   pub inserted : p.inserted ≤ from.inserted + steps * most_inserts d
-
-sum_of : (a b c k l m : ℕ) → b ≤ a + k * m → c ≤ b + l * m → c ≤ a + (k + l) * m
-sum_of a b c k l m f g = let e = add-mul k l m in omega (arith, e, f, g)
 
 -- nothing else of the cache changes where it begins
 pub started_moves : (v w : CacheValue) (index : ℕ) → w ≡ record v { searched = min (v.searched + progress_len v.progress) greatest; progress = Some (record { start = index; at = index }) } → IsMoved v w
@@ -135,7 +135,7 @@ module _ (d : Dfa) (q : Search) (made : IsDfa d) (from p : Point) (own : IsCache
     stands_further his row there left none =
         let read = g.read now (names_held x.state) in record {
           steps = x.steps + l;
-          place = g.place ∙ (ap (λ (i : ℕ). place_of rev i l) x.place ∙ place_sum_one rev from.at x.steps l);
+          place = g.place ∙ (ap (λ (i : ℕ). place_of rev i l) x.place ∙ place_add rev from.at x.steps l);
           left = sum_left (left_at rev q from.at) (left_at rev q p.at) (left_at rev q c.at) x.left left;
           state = subst (HeldAt c.cache c.id) (value_later (reader d) q p.at within c.at l there left)
               (row_holds c.cache c.id (state_behind (reader d) h p.at now l) d his row (g.names now (names_held x.state)));

@@ -16,13 +16,11 @@ use Rattle.lazy_dfa.specs.Readers.{Reader, is_quit}
 use Rattle.lazy_dfa.specs.Walks.{Rest, nothing_left, refused, onto, others, unless_quit_at, end_of, listed, rest_from}
 use Rattle.lazy_dfa.specs.WalkAnswers.{units_met, told_left}
 use Rattle.lazy_dfa.specs.WalkTurns.{tells_end, TellsNone}
-use Rattle.lazy_dfa.proofs.TurnLemmas.{place_zero, place_next}
+use Rattle.lazy_dfa.proofs.TurnLemmas.{place_next}
+use Rattle.nfa_core.proofs.ForCallers.{place_zero}
+use Rattle.lazy_dfa.proofs.RestLemmas.{past_other}
 
 -- ---- quit bytes
-
-quiet_unit : (quits : List Bool) (u : Option ℕ) (index : ℕ) (rest : Rest) → is_quit quits u ≡ false → unless_quit_at quits u index rest ≡ rest
-quiet_unit quits None index rest e = refl
-quiet_unit quits (Some b) index rest e = rw e refl
 
 quit_unit : (quits : List Bool) (u : Option ℕ) (index b : ℕ) (rest : Rest) → u ≡ Some b → has quits b ≡ true → unless_quit_at quits u index rest ≡ refused (Quit b index)
 quit_unit quits u index b rest e f =
@@ -30,7 +28,7 @@ quit_unit quits u index b rest e f =
 
 -- ---- listed ends
 
-none_listed : (counted : Bool) (at : ℕ) (ms : List ℕ) → (counted && not (is_empty ms)) ≡ false → (if counted then map (end_of at) ms else []) ≡ []
+pub none_listed : (counted : Bool) (at : ℕ) (ms : List ℕ) → (counted && not (is_empty ms)) ≡ false → (if counted then map (end_of at) ms else []) ≡ []
 none_listed false at ms e = refl
 none_listed true at [] e = refl
 none_listed true at (m ∷ ms) e = absurd (true≢false e)
@@ -75,7 +73,7 @@ module _ (r : Reader) (h : List ℕ) (n i : ℕ) (v : StateValue) where
       unless_quit_at r.quits (unit_at r.automaton.reverse h i) (index_at r.automaton.reverse i) (onto here later)) e
 
   pub step_left : is_dead v ≡ false → is_quit r.quits (unit_at r.automaton.reverse h i) ≡ false → rest_from r h (suc n) i v ≡ onto here later
-  step_left e f = alive_left e ∙ quiet_unit r.quits (unit_at r.automaton.reverse h i) (index_at r.automaton.reverse i) (onto here later) f
+  step_left e f = alive_left e ∙ past_other r.quits (unit_at r.automaton.reverse h i) (index_at r.automaton.reverse i) (onto here later) f
 
   pub quit_left : (b : ℕ) → is_dead v ≡ false → unit_at r.automaton.reverse h i ≡ Some b → has r.quits b ≡ true →
       rest_from r h (suc n) i v ≡ refused (Quit b (index_at r.automaton.reverse i))
@@ -105,10 +103,6 @@ module _ (r : Reader) (h : List ℕ) (n i : ℕ) (v : StateValue) where
       by : (tells : Bool) → units_met r h (suc n) i v ≡ more tells → 0 < units_met r h (suc n) i v
       by true f = omega (arith, f)
       by false f = omega (arith, f)
-
-pub dead_units : (r : Reader) (h : List ℕ) (n i : ℕ) (v : StateValue) → is_dead v ≡ true → units_met r h n i v ≡ 0
-dead_units r h zero i v e = refl
-dead_units r h (suc n) i v e = ap (λ (d : Bool). if d then 0 else more r h n i v (tells_end r h i (next_value r h i v))) e
 
 -- ---- many units
 

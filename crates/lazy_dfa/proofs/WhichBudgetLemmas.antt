@@ -27,15 +27,13 @@ use Rattle.lazy_dfa.specs.SearchAnswers.{give_up_place, running_at, GivesUpIn, a
 use Rattle.lazy_dfa.specs.PassPlaces.{came, left_at, last_place, gave_up_at, IsWithinSpan}
 use Rattle.lazy_dfa.specs.Walks.{Rest, nothing_left, refused, unless_quit_at, where_supported, end_of, listed, rest_from, whole_rest, value_past, rest_past, rest_of}
 use Rattle.lazy_dfa.specs.WalkAnswers.{units_met, lists_more, reads_on, call_place, units_there, call_units, call_made, GivesUpOn, at_start as on_start, at_unit as on_unit, which_made}
-use Rattle.lazy_dfa.proofs.LinkedLemmas.{place_sum}
-use Rattle.lazy_dfa.proofs.TurnLemmas.{place_zero, place_next}
+use Rattle.lazy_dfa.proofs.TurnLemmas.{place_next}
 use Rattle.lazy_dfa.proofs.WhichUnitLemmas.{told_at, first_met, read_behind, read_few, met_is_read, listed_place, no_first, no_head}
+use Rattle.nfa_core.proofs.ForCallers.{place_zero}
+use Rattle.lazy_dfa.proofs.FoundLemmas.{place_add}
+use Rattle.lazy_dfa.proofs.WalkPlaceLemmas.{place_came}
 
 -- ---- places of a span
-
-came_to : (is_reverse : Bool) (q : Search) (at : ℕ) → IsWithinSpan q at → place_of is_reverse (first_place is_reverse q.start q.end) (came is_reverse q at) ≡ at
-came_to false q at within = let low = within.0 in omega (arith, low)
-came_to true q at within = let high = within.1 in omega (arith, high)
 
 left_and_came : (is_reverse : Bool) (q : Search) (at : ℕ) → IsWithinSpan q at → suc (span_len q) ≡ left_at is_reverse q at + suc (came is_reverse q at)
 left_and_came false q at within = let low = within.0 in let high = within.1 in omega (arith, low, high)
@@ -224,7 +222,7 @@ module _ (r : Reader) (q : Search) where
     more = left_at r.automaton.reverse q stop.at
 
     next_is : next_place r stop.at ≡ place r q behind
-    next_is = ap (next_place r) (sym (came_to r.automaton.reverse q stop.at within))
+    next_is = ap (next_place r) (sym (place_came r.automaton.reverse q stop.at within))
         ∙ place_next r.automaton.reverse (begins r q) (came r.automaton.reverse q stop.at)
 
     past_is : rest_past r q stop.at ≡ rest r q more behind
@@ -419,7 +417,7 @@ module _ (r : Reader) (q : Search) (done left : List (ℕ × ℕ)) (x : ℕ × �
         let sum = all_units r q here near in
         let t = not_before stop within same in
         let u = same_unit t.0 (came r.automaton.reverse q here.at) t.1
-        (omega (arith, sum), place_is ∙ sym (came_to r.automaton.reverse q here.at near)) in
+        (omega (arith, sum), place_is ∙ sym (place_came r.automaton.reverse q here.at near)) in
         let late = t.2 in
         let le = goes_further stop within (more r q here near) (behind r q here near) 0 sum (omega (arith, late, u)) (omega arith) in
         let left_there_is = left_behind r q here near in
@@ -512,7 +510,7 @@ module _ (d : Dfa) (v : CacheValue) (q : Search) (x : ℕ) where
       (all_units r q stop within) (omega arith) (omega (arith, here, few, left)) in
       let place_is : place_of r.automaton.reverse (call_place r q (Stopped stop)) k ≡ place r q (behind r q stop within + k) =
       ap (λ (i : ℕ). place_of r.automaton.reverse i k) (next_is r q stop within)
-      ∙ place_sum r.automaton.reverse (begins r q) (behind r q stop within) k in
+      ∙ place_add r.automaton.reverse (begins r q) (behind r q stop within) k in
       gives_up_at (behind r q stop within + k) (leb-true q.start q.end begun.fits) begun.supported later (subst GivesUpThere place_is there)
 
   by_walk : (w : Walk) (k : ℕ) → IsOn r q w → IsWithinWalk q w → k < call_units r q w →

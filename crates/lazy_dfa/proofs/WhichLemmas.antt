@@ -63,7 +63,7 @@ module _ (s : List Bool) (p : ℕ) where
       (cases_eq q p)
 
 -- a full set has all that it has room for
-all_there : (s : List Bool) (q : ℕ) → is_full s ≡ true → q < length s → has s q ≡ true
+pub all_there : (s : List Bool) (q : ℕ) → is_full s ≡ true → q < length s → has s q ≡ true
 all_there [] q full l = absurd (omega (arith, l))
 all_there (b ∷ s) zero full l = (and_parts b (is_full s) full).0
 all_there (b ∷ s) (suc q) full l = all_there s q (and_parts b (is_full s) full).1 (omega (arith, l))

@@ -15,6 +15,7 @@ use Rattle.lazy_dfa.specs.Walks.{Rest, nothing_left, refused, onto, unless_quit_
 use Rattle.lazy_dfa.specs.WalkAnswers.{units_met}
 use Rattle.lazy_dfa.proofs.PassLemmas.{dead_stays}
 use Rattle.lazy_dfa.proofs.TurnLemmas.{place_next, dead_is}
+use Rattle.lazy_dfa.proofs.WalkRestLemmas.{none_listed}
 
 -- ---- lists
 
@@ -57,12 +58,6 @@ listed_if false i ps x a = absurd (no_middle a.0 a.1 x a.2)
 
 pub listed_place : (counted : ℕ → Bool) (i : ℕ) (ps : List ℕ) (x : ℕ × ℕ) → IsAmong x (listed counted i ps) → x.0 ≡ i
 listed_place counted i ps x a = listed_if (counted i) i ps x a
-
--- nothing is listed where the place doesn't count or there is no pattern
-none_if : (b : Bool) (i : ℕ) (ps : List ℕ) → (b && not (is_empty ps)) ≡ false → (if b then map (end_of i) ps else []) ≡ []
-none_if false i ps e = refl
-none_if true i [] e = refl
-none_if true i (p ∷ ps) e = absurd (true≢false e)
 
 some_if : (b : Bool) (i : ℕ) (ps : List ℕ) (back : List (ℕ × ℕ)) (x : ℕ × ℕ) → (b && not (is_empty ps)) ≡ true →
     first ((if b then map (end_of i) ps else []) ++ back) ≡ Some x → x.0 ≡ i
@@ -227,7 +222,7 @@ module _ (r : Reader) (h : List ℕ) (i : ℕ) (state : ℕ → StateValue)
             ∙ ap place same,
       ))
       (λ (goes : stops k ≡ false).
-      let none : here k ≡ [] = none_if (counts r.between_characters h (place k)) (place k) (state (suc k)).matches goes in
+      let none : here k ≡ [] = none_listed (counts r.between_characters h (place k)) (place k) (state (suc k)).matches goes in
       let t = first_met n (suc k) x (sym (ap (λ (l : List (ℕ × ℕ)). first (l ++ (rest n (suc k)).ends)) none) ∙ split) in
       let same : suc k + t.0 ≡ k + suc t.0 = omega arith in
       let less = t.1 in

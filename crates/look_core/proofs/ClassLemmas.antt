@@ -38,11 +38,11 @@ same_class_alike m rs a b u k l e = elim (cases_lt b a) [
 ]
 
 -- ---- the ranges of one look among those of many
-All-left : {X : Type 0} (P : X → Type 0) (xs ys : List X) → All P (xs ++ ys) → All P xs
+pub All-left : {X : Type 0} (P : X → Type 0) (xs ys : List X) → All P (xs ++ ys) → All P xs
 All-left P [] ys h = All-nil P
 All-left P (x ∷ xs) ys h = All-cons P x xs (All-head P x (xs ++ ys) h) (All-left P xs ys (All-tail P x (xs ++ ys) h))
 
-All-right : {X : Type 0} (P : X → Type 0) (xs ys : List X) → All P (xs ++ ys) → All P ys
+pub All-right : {X : Type 0} (P : X → Type 0) (xs ys : List X) → All P (xs ++ ys) → All P ys
 All-right P [] ys h = h
 All-right P (x ∷ xs) ys h = All-right P xs ys (All-tail P x (xs ++ ys) h)
 
@@ -107,7 +107,7 @@ module _ (R : ℕ → ℕ → Type 0) (h g : List ℕ) (len : length h ≡ lengt
 abbrev Alike : Terminator → Look → ℕ → ℕ → Type 0
 Alike t l a b = All (LieAlike a b) (told_apart t l)
 
-same_line : (s s2 a a2 b b2 c c2 : Bool) → s ≡ s2 → a ≡ a2 → b ≡ b2 → c ≡ c2 → (s || a || (b && not c)) ≡ (s2 || a2 || (b2 && not c2))
+pub same_line : (s s2 a a2 b b2 c c2 : Bool) → s ≡ s2 → a ≡ a2 → b ≡ b2 → c ≡ c2 → (s || a || (b && not c)) ≡ (s2 || a2 || (b2 && not c2))
 same_line s s2 a a2 b b2 c c2 p q r t = rw (p, q, r, t)
 
 module _ (t : Terminator) (h g : List ℕ) (i : ℕ) (len : length h ≡ length g) where

@@ -18,3 +18,7 @@ pub use Rattle.look_core.proofs.ClassLemmas.{AtEach, same_at, same_before, alike
 -- a look that asks for no words by characters is read by bytes whatever reads words, and beside ASCII each look is
 pub use Rattle.look_core.proofs.MirrorLemmas.{reads_bytes}
 pub use Rattle.look_core.proofs.SideLemmas.{agree_on_ascii}
+pub use Rattle.look_core.proofs.ClassLemmas.{All-left}
+pub use Rattle.look_core.proofs.ClassLemmas.{All-right}
+pub use Rattle.look_core.proofs.MirrorLemmas.{edge_turns}
+pub use Rattle.look_core.proofs.MirrorLemmas.{no_edge_turns}

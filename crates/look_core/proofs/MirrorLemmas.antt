@@ -11,6 +11,7 @@ use Rattle.look_core.specs.Terminators.{Terminator}
 use Rattle.look_core.specs.Codes.{reversed, is_anchor_crlf, is_word_unicode}
 use Rattle.look_core.specs.declared.look.Look.{Look}
 use Rattle.look_core.specs.declared.look.Look.TheVariants.{Start, End, StartLF, EndLF, StartCRLF, EndCRLF, WordAscii, WordAsciiNegate, WordUnicode, WordUnicodeNegate, WordStartAscii, WordEndAscii, WordStartUnicode, WordEndUnicode, WordStartHalfAscii, WordEndHalfAscii, WordStartHalfUnicode, WordEndHalfUnicode}
+use Rattle.look_core.proofs.ClassLemmas.{same_line}
 
 -- ---- the bytes beside the mirror place
 mirror_at : (h : List ℕ) (i : ℕ) → i ≤ length h → byte_at (reverse h) (length h - i) ≡ byte_before h i
@@ -32,7 +33,7 @@ same_test : (a b c d : ℕ) → (a ≡ b → c ≡ d) → (c ≡ d → a ≡ b) 
 same_test a b c d f g = grind (arith, nat_tests)
 
 -- ---- both sides turned
-edge_turns : (b a : Side) → is_edge_of_word b a ≡ is_edge_of_word a b
+pub edge_turns : (b a : Side) → is_edge_of_word b a ≡ is_edge_of_word a b
 edge_turns word word = refl
 edge_turns word no_word = refl
 edge_turns word broken = refl
@@ -43,7 +44,7 @@ edge_turns broken word = refl
 edge_turns broken no_word = refl
 edge_turns broken broken = refl
 
-no_edge_turns : (b a : Side) → is_no_edge_of_word b a ≡ is_no_edge_of_word a b
+pub no_edge_turns : (b a : Side) → is_no_edge_of_word b a ≡ is_no_edge_of_word a b
 no_edge_turns word word = refl
 no_edge_turns word no_word = refl
 no_edge_turns word broken = refl
@@ -146,9 +147,6 @@ before-map f h (suc i) = slice_get-map f h i
 
 exchanged_before : (h : List ℕ) (i : ℕ) → i ≤ length h → byte_before (exchanged h) (length h - i) ≡ option_map exchanged_byte (byte_at h i)
 exchanged_before h i l = before-map exchanged_byte (reverse h) (length h - i) ∙ ap (option_map exchanged_byte) (mirror_before h i l)
-
-same_line : (s s2 a a2 b b2 c c2 : Bool) → s ≡ s2 → a ≡ a2 → b ≡ b2 → c ≡ c2 → (s || a || (b && not c)) ≡ (s2 || a2 || (b2 && not c2))
-same_line s s2 a a2 b b2 c c2 p q r t = rw (p, q, r, t)
 
 module _ (t : Terminator) (h g : List ℕ) (i j : ℕ)
     (before : byte_at g j ≡ option_map exchanged_byte (byte_before h i)) (after : byte_before g j ≡ option_map exchanged_byte (byte_at h i))

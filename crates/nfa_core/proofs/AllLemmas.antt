@@ -18,7 +18,7 @@ flat_map_nil : {A B : Type 0} (f : A → List B) (xs : List A) → ((x : A) → 
 flat_map_nil f [] none = refl
 flat_map_nil f (x ∷ xs) none = rw (none x) (flat_map_nil f xs none)
 
-unequal : (j k : ℕ) → j ≢ k → nat_eq j k ≡ false
+pub unequal : (j k : ℕ) → j ≢ k → nat_eq j k ≡ false
 unequal j k differ = ⊎_elim (λ (e : nat_eq j k ≡ true). absurd (differ ((Decides-eqb j k).0 e))) (λ e. e) (cases_Bool (nat_eq j k))
 
 module _ {B : Type 0} (eps step : ℕ → ℕ → List ℕ) (n len : ℕ) (graph : IsGraph eps step n len) (answer : ℕ × ℕ → Option B) (k : ℕ) where

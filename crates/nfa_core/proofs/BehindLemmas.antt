@@ -26,7 +26,7 @@ pairs_more n (suc d) (suc e) h = let l : pairs n d ≤ pairs n e = pairs_more n 
 
 -- ---- places
 
-place_zero : (is_reverse : Bool) (i : ℕ) → place_of is_reverse i 0 ≡ i
+pub place_zero : (is_reverse : Bool) (i : ℕ) → place_of is_reverse i 0 ≡ i
 place_zero false i = omega arith
 place_zero true i = omega arith
 
@@ -58,7 +58,7 @@ byte_moves true t i k node (Some (b, j)) beside = let e : j ≡ i - suc k = omeg
 
 -- ---- matches at a place
 
-match_place : (node : Node) (j : ℕ) (e : ℕ × ℕ) → match_of node j ≡ Some e → e.0 ≡ j
+pub match_place : (node : Node) (j : ℕ) (e : ℕ × ℕ) → match_of node j ≡ Some e → e.0 ≡ j
 match_place node j e h =
     let is = match_is node j e h in
     let M : Node → Type 0 = λ m. match_of m j ≡ Some e in

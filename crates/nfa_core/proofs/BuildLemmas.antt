@@ -91,7 +91,7 @@ name_inside drafts q reached inside =
     omega (arith, more, one, most)
 
 -- where renamed states lead
-leads_ways : (names : List ℕ) → leads_to (ways_node names) ≡ names
+pub leads_ways : (names : List ℕ) → leads_to (ways_node names) ≡ names
 leads_ways [] = refl
 leads_ways (first ∷ []) = refl
 leads_ways (first ∷ second ∷ []) = refl

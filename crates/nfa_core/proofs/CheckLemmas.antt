@@ -4,7 +4,7 @@ use Rattle.std.specs.Prelude.{All, nat_lt, not, is_none, Decides, String, string
 use Rattle.std.specs.Option.{option_map}
 use Rattle.std.proofs.lemmas.List.{length-map}
 use Rattle.std.specs.List.{list_all}
-use Rattle.std.proofs.lemmas.Bool.{and_parts, and_from}
+use Rattle.std.proofs.lemmas.Bool.{and_parts, and_from, not-true}
 use Rattle.std.proofs.lemmas.Bool.Decides.{Decides-ltb}
 use Rattle.std.proofs.lemmas.List.Sums.{AllPass-from_list_all, list_all-from_AllPass}
 use Rattle.search_types.specs.Groups.{Groups, groups_of}
@@ -31,10 +31,6 @@ decides_named n drafts = decides_all (λ draft. list_all (λ q. nat_lt q n) (nam
 pub decides_known : (groups : Groups) (drafts : List DraftNode) → Decides (list_all (is_known groups) drafts) (All (λ draft. is_known groups draft ≡ true) drafts)
 decides_known groups drafts = decides_all (is_known groups) (λ draft. is_known groups draft ≡ true) drafts (λ draft. (λ e. e, λ e. e))
 
-not_true : (b : Bool) → not b ≡ true → b ≡ false
-not_true true e = cc
-not_true false e = refl
-
 pub checked_can : (b : Assembly) (x y : ℕ) → has_all b x y ≡ true → HasNoLoop b.drafts → CanBuild b x y
 checked_can b x y e free =
     let n = length b.drafts in
@@ -44,7 +40,7 @@ checked_can b x y e free =
     let four = and_parts _ _ three.1 in
     let five = and_parts _ _ four.1 in
     record {
-      closed = not_true b.is_open one.0;
+      closed = not-true b.is_open one.0;
       anchored_there = (Decides-ltb x n).0 two.0;
       unanchored_there = (Decides-ltb y n).0 three.0;
       starts_there = (decides_below n b.starts).0 four.0;

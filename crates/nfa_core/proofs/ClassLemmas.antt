@@ -12,7 +12,7 @@ use Rattle.look_core.specs.Terminators.{Terminator}
 use Rattle.look_core.specs.ToldApart.{told_apart, line_ends, crlf_ranges, word_ranges}
 use Rattle.look_core.specs.declared.look.Look.{Look}
 use Rattle.look_core.specs.declared.look.Look.TheVariants.{Start, End, StartLF, EndLF, StartCRLF, EndCRLF, WordAscii, WordAsciiNegate, WordUnicode, WordUnicodeNegate, WordStartAscii, WordEndAscii, WordStartUnicode, WordEndUnicode, WordStartHalfAscii, WordEndHalfAscii, WordStartHalfUnicode, WordEndHalfUnicode}
-use Rattle.look_core.proofs.ForCallers.{LieAlike, same_class_alike, same_end, same_word, same_byte}
+use Rattle.look_core.proofs.ForCallers.{LieAlike, same_class_alike, same_end, same_word, same_byte, All-left, All-right}
 use Rattle.nfa_core.specs.Alike.{marks_of, AreReadAlike, AreAlike}
 use Rattle.nfa_core.specs.Nfa.{Node, byte_range, sparse_node, dense_node, look_node, union_node, binary_union, capture_node, fail_node, match_node, Automaton, node_at}
 use Rattle.nfa_core.specs.NfaValue.{IsSound, IsNodeOf, told_by}
@@ -21,21 +21,12 @@ use Rattle.nfa_core.proofs.LookedLemmas.{looks_any}
 
 -- ---- what holds of all of a joined list
 
-all_left : {A : Type 0} (P : A → Type 0) (xs ys : List A) → All P (xs ++ ys) → All P xs
-all_left P [] ys all k d h = absurd (omega (arith, h))
-all_left P (x ∷ xs) ys all zero d h = all zero d (omega arith)
-all_left P (x ∷ xs) ys all (suc k) d h = all_left P xs ys (λ j e g. all (suc j) e (omega (arith, g))) k d (omega (arith, h))
-
-all_right : {A : Type 0} (P : A → Type 0) (xs ys : List A) → All P (xs ++ ys) → All P ys
-all_right P [] ys all = all
-all_right P (x ∷ xs) ys all = all_right P xs ys (λ j e g. all (suc j) e (omega (arith, g)))
-
 told_at : (t : Terminator) (P : ℕ × ℕ → Type 0) (nodes : List Node) (q : ℕ) → All P (flat_map (told_by t) nodes) → All P (told_by t (get_or nodes q fail_node))
 told_at t P [] q all = λ k d h. absurd (omega (arith, h))
-told_at t P (node ∷ nodes) zero all = all_left P (told_by t node) (flat_map (told_by t) nodes) all
-told_at t P (node ∷ nodes) (suc q) all = told_at t P nodes q (all_right P (told_by t node) (flat_map (told_by t) nodes) all)
+told_at t P (node ∷ nodes) zero all = All-left P (told_by t node) (flat_map (told_by t) nodes) all
+told_at t P (node ∷ nodes) (suc q) all = told_at t P nodes q (All-right P (told_by t node) (flat_map (told_by t) nodes) all)
 
-sound_at : (p : ℕ) (nodes : List Node) (q : ℕ) → All (IsNodeOf p) nodes → IsNodeOf p (get_or nodes q fail_node)
+pub sound_at : (p : ℕ) (nodes : List Node) (q : ℕ) → All (IsNodeOf p) nodes → IsNodeOf p (get_or nodes q fail_node)
 sound_at p [] q all = tt
 sound_at p (node ∷ nodes) zero all = all zero node (omega arith)
 sound_at p (node ∷ nodes) (suc q) all = sound_at p nodes q (λ j e g. all (suc j) e (omega (arith, g)))
@@ -140,7 +131,7 @@ read_alike t l b c all =
 
 -- ---- the marks of the states
 
-all_unmarked : (n : ℕ) → IsUnmarked (replicate n false)
+pub all_unmarked : (n : ℕ) → IsUnmarked (replicate n false)
 all_unmarked zero b h = absurd (omega (arith, h))
 all_unmarked (suc n) zero h = refl
 all_unmarked (suc n) (suc b) h = all_unmarked n b (omega (arith, h))

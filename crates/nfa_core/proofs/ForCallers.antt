@@ -68,3 +68,11 @@ pub use Rattle.nfa_core.proofs.RenamingAnswers.{every_of_all}
 pub use Rattle.nfa_core.proofs.RenamingPlaces.{chain_to}
 -- the first of a list is that of the list without repeats
 pub use Rattle.nfa_core.proofs.RunLemmas.{first_distinct}
+pub use Rattle.nfa_core.proofs.AllLemmas.{unequal}
+pub use Rattle.nfa_core.proofs.BehindLemmas.{place_zero}
+pub use Rattle.nfa_core.proofs.ClassLemmas.{sound_at}
+pub use Rattle.nfa_core.proofs.ClassLemmas.{all_unmarked}
+pub use Rattle.nfa_core.proofs.PreferenceLemmas.{first_of_option}
+pub use Rattle.nfa_core.proofs.ReachLawLemmas.{some_same}
+pub use Rattle.nfa_core.proofs.ReadAlikeLemmas.{nothing_same}
+pub use Rattle.nfa_core.proofs.RelabelLemmas.{map_appended}

@@ -12,9 +12,9 @@ use Rattle.nfa_core.proofs.MemberLemmas.{none_in, not_both, has_append}
 use Rattle.nfa_core.proofs.PairLemmas.{names_equal, from_map}
 use Rattle.nfa_core.proofs.AutomatonLemmas.{IsBeside, reads_beside, match_is}
 use Rattle.nfa_core.proofs.EndsLemmas.{listed_run}
-use Rattle.nfa_core.proofs.InsideLemmas.{match_there}
 use Rattle.nfa_core.proofs.MetLemmas.{any_has}
 use Rattle.nfa_core.proofs.ReachLawLemmas.{comes}
+use Rattle.nfa_core.proofs.BehindLemmas.{match_place}
 
 of_test : (c : Bool) (next r : ℕ) → Has nat_eq r (if c then next ∷ [] else []) → Has nat_eq r (next ∷ [])
 of_test true next r h = h
@@ -105,7 +105,7 @@ module _ (a : Automaton) (t : Text) where
   none_here sound none i q start pair e h here =
       let run = listed_run a t (i, q) sound.named pair e h in
       let end : ℕ × ℕ = last_or (i, q) run.0 in
-      let at : e.0 ≡ end.0 = match_there (node_at a end.1) end.0 e run.1.2 in
+      let at : e.0 ≡ end.0 = match_place (node_at a end.1) end.0 e run.1.2 in
       let free = stays_free run.0 (i, q) run.1.0 (sym at ∙ here) in
       let there : Has nat_eq end.1 (reached_freely a) = comes a sound end.1 q free.0 start free.1 free.2 in
       let is = match_is (node_at a end.1) end.0 e run.1.2 in

@@ -10,23 +10,13 @@ use Rattle.nfa_core.proofs.MemberLemmas.{has_append}
 use Rattle.nfa_core.proofs.PairLemmas.{from_map}
 use Rattle.nfa_core.proofs.AutomatonLemmas.{IsBeside, reads_beside, match_is}
 use Rattle.nfa_core.proofs.EndsLemmas.{listed_run}
-
-place_zero : (is_reverse : Bool) (i : ℕ) → place_of is_reverse i 0 ≡ i
-place_zero false i = omega arith
-place_zero true i = omega arith
+use Rattle.nfa_core.proofs.BehindLemmas.{place_zero, match_place}
 
 read_inside : (is_reverse : Bool) (t : Text) (i k : ℕ) (read : Option (ℕ × ℕ)) → k ≤ bytes_left is_reverse t i → IsBeside is_reverse t (place_of is_reverse i k) read →
     IsInside is_reverse i (bytes_left is_reverse t i) (place_behind (place_of is_reverse i k) read)
 read_inside is_reverse t i k None l beside = (k, l, refl)
 read_inside false t i k (Some (b, j)) l beside = (suc k, omega (arith, beside.1), omega (arith, beside.0))
 read_inside true t i k (Some (b, j)) l beside = (suc k, omega (arith, beside.0, beside.1), omega (arith, beside.0))
-
-pub match_there : (node : Node) (j : ℕ) (e : ℕ × ℕ) → match_of node j ≡ Some e → e.0 ≡ j
-match_there node j e h =
-    let is = match_is node j e h in
-    let g : Some (j, is.0) ≡ Some e = subst (λ (m : Node). match_of m j ≡ Some e) is.1 h in
-    let f : (j, is.0) ≡ e = cc in
-    sym (ap (λ (p : ℕ × ℕ). p.0) f)
 
 module _ (a : Automaton) (t : Text) (i : ℕ) where
   abbrev Inside : ℕ → Type 0
@@ -54,7 +44,7 @@ module _ (a : Automaton) (t : Text) (i : ℕ) where
   ends_inside q formed pair x h =
       let run = listed_run a t (i, q) formed pair x h in
       let end = last_or (i, q) run.0 in
-      subst Inside (sym (match_there (node_at a (last_or (i, q) run.0).1) (last_or (i, q) run.0).0 x run.1.2))
+      subst Inside (sym (match_place (node_at a (last_or (i, q) run.0).1) (last_or (i, q) run.0).0 x run.1.2))
       (chain_inside run.0 (i, q) (0, omega arith, sym (place_zero a.reverse i)) run.1.0)
 
 pub inside_forward : (a : Automaton) (t : Text) (i j : ℕ) → a.reverse ≡ false → i ≤ t.end → IsInside a.reverse i (bytes_left a.reverse t i) j → (i ≤ j) × (j ≤ t.end)

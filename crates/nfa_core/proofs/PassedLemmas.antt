@@ -22,7 +22,7 @@ in_filter same laws p (x ∷ xs) q h = ⊎_elim
     (λ later. let r = in_filter same laws p xs q later in (has_later same q x xs r.0, r.1)) (has_cons same laws q x (filter p xs) g))
     (λ (e : p x ≡ false). let g : Has same q (filter p xs) = (rw e at h) in let r = in_filter same laws p xs q g in (has_later same q x xs r.0, r.1)) (cases_Bool (p x))
 
-is_none_of : {A : Type 0} (o : Option A) → is_none o ≡ true → o ≡ None
+pub is_none_of : {A : Type 0} (o : Option A) → is_none o ≡ true → o ≡ None
 is_none_of None e = refl
 is_none_of (Some a) e = cc
 

@@ -23,7 +23,7 @@ one_value o a b e f = let g : Some a ≡ Some b = sym e ∙ f in cc
 pub no_value : {A : Type 0} (o : Option A) (a : A) (P : Type 0) → o ≡ None → o ≡ Some a → P
 no_value o a P e f = let g : None ≡ Some a = sym e ∙ f in cc
 
-first_of_option : {A : Type 0} (o : Option A) → first (option_to_list o) ≡ o
+pub first_of_option : {A : Type 0} (o : Option A) → first (option_to_list o) ≡ o
 first_of_option None = refl
 first_of_option (Some a) = refl
 

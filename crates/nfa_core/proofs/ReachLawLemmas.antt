@@ -18,7 +18,7 @@ itself_answers : (xs : List ℕ) → answers (λ q. Some q) xs ≡ xs
 itself_answers [] = refl
 itself_answers (x ∷ xs) = ap (λ l. x ∷ l) (itself_answers xs)
 
-some_same : (p q : ℕ) → Some p ≡ Some q → p ≡ q
+pub some_same : (p q : ℕ) → Some p ≡ Some q → p ≡ q
 some_same p q e = cc
 
 module _ (a : Automaton) (sound : IsSound a) where

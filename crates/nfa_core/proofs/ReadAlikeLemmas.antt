@@ -8,7 +8,7 @@ use Rattle.nfa_core.specs.Ways.{reads, is_passed, on_nothing, on_read, place_of}
 use Rattle.nfa_core.proofs.LookedLemmas.{looks_any}
 use Rattle.nfa_core.specs.Reaches.{IsAlike, read_by}
 
-nothing_same : (node : Node) (f g : Look → Bool) → ((l : Look) (next : ℕ) → node ≡ look_node l next → f l ≡ g l) → on_nothing node f ≡ on_nothing node g
+pub nothing_same : (node : Node) (f g : Look → Bool) → ((l : Look) (next : ℕ) → node ≡ look_node l next → f l ≡ g l) → on_nothing node f ≡ on_nothing node g
 nothing_same (byte_range low high next) f g same = refl
 nothing_same (sparse_node ranges) f g same = refl
 nothing_same (dense_node names) f g same = refl

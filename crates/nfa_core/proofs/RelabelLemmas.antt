@@ -9,7 +9,7 @@ use Rattle.nfa_core.proofs.MemberLemmas.{none_in, has_or_not, has_first, has_lat
 use Rattle.nfa_core.proofs.WalkLemmas.{room_for}
 use Rattle.nfa_core.proofs.PairLemmas.{same_cases}
 
-map_appended : {A B : Type 0} (f : A → B) (xs ys : List A) → map f (xs ++ ys) ≡ map f xs ++ map f ys
+pub map_appended : {A B : Type 0} (f : A → B) (xs ys : List A) → map f (xs ++ ys) ≡ map f xs ++ map f ys
 map_appended f [] ys = refl
 map_appended f (x ∷ xs) ys = ap (λ l. f x ∷ l) (map_appended f xs ys)
 

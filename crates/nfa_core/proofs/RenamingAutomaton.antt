@@ -10,14 +10,11 @@ use Rattle.nfa_core.specs.Renaming.{stands_for, kept, new_name, renamed, automat
 use Rattle.nfa_core.proofs.RenamingLemmas.{past_itself}
 use Rattle.nfa_core.proofs.RenamingRanks.{rank, rank_inside, at_rank, one_rank, ranked}
 use Rattle.nfa_core.proofs.RenamingNodes.{ways_renamed, match_renamed}
+use Rattle.nfa_core.proofs.PassedLemmas.{is_none_of}
 
 -- whether a state stands for itself
 abbrev is_kept : DraftNode → Bool
 is_kept draft = is_none (stands_for draft)
-
-none_if : {A : Type 0} (o : Option A) → is_none o ≡ true → o ≡ None
-none_if None e = refl
-none_if (Some a) e = cc
 
 name_of_kept : (drafts : List DraftNode) (q : ℕ) → stands_for (draft_at drafts q) ≡ None → new_name drafts q ≡ rank is_kept drafts q
 name_of_kept drafts q e = ap (λ p. length (kept (take p drafts))) (past_itself drafts (length drafts) q e)
@@ -53,7 +50,7 @@ state_named b x y k inside =
     let len : length (map (renamed (new_name b.drafts) b.groups) (kept b.drafts)) ≡ length (kept b.drafts) = length-map (kept b.drafts) (renamed (new_name b.drafts) b.groups) in
     let l : k < length (kept b.drafts) = omega (arith, inside, len) in
     let r = ranked is_kept b.drafts fail_draft k l in
-    let none : stands_for (draft_at b.drafts r.0) ≡ None = none_if (stands_for (draft_at b.drafts r.0)) r.2 in
+    let none : stands_for (draft_at b.drafts r.0) ≡ None = is_none_of (stands_for (draft_at b.drafts r.0)) r.2 in
     (r.0, r.1, none, name_of_kept b.drafts r.0 none ∙ r.3)
 
 -- the pair under the new name

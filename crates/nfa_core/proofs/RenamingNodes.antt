@@ -9,6 +9,7 @@ use Rattle.nfa_core.specs.BuilderStates.{DraftNode, empty_draft, range_draft, sp
 use Rattle.nfa_core.specs.Drafted.{drafted}
 use Rattle.nfa_core.specs.Ways.{Text, reads, is_passed, in_ranges, on_byte, on_nothing, on_read, place_behind, node_ways, match_of}
 use Rattle.nfa_core.specs.Renaming.{stands_for, ways_node, ranges_node, renamed}
+use Rattle.nfa_core.proofs.BuildLemmas.{leads_ways}
 
 abbrev at_place : ℕ → ℕ → ℕ × ℕ
 at_place i q = (i, q)
@@ -70,12 +71,6 @@ ranges_lead [] = refl
 ranges_lead ((low, high, next) ∷ []) = refl
 ranges_lead ((low, high, next) ∷ other ∷ others) = refl
 
-ways_lead : (names : List ℕ) → leads_to (ways_node names) ≡ names
-ways_lead [] = refl
-ways_lead (x ∷ []) = refl
-ways_lead (x ∷ y ∷ []) = refl
-ways_lead (x ∷ y ∷ z ∷ names) = refl
-
 ranges_led : (name : ℕ → ℕ) (ranges : List (ℕ × ℕ × ℕ)) → map (λ r. r.2) (map (under_range name) ranges) ≡ map name (map (λ r. r.2) ranges)
 ranges_led name [] = refl
 ranges_led name (range ∷ others) = ap (λ l. name range.2 ∷ l) (ranges_led name others)
@@ -89,8 +84,8 @@ module _ (name : ℕ → ℕ) (groups : Groups) where
   leads_renamed (look_draft look next) kept = refl
   leads_renamed (capture_start_draft pattern group next) kept = refl
   leads_renamed (capture_end_draft pattern group next) kept = refl
-  leads_renamed (union_draft names) kept = ways_lead (map name names)
-  leads_renamed (union_reverse_draft names) kept = ways_lead (map name (reverse names))
+  leads_renamed (union_draft names) kept = leads_ways (map name names)
+  leads_renamed (union_reverse_draft names) kept = leads_ways (map name (reverse names))
   leads_renamed fail_draft kept = refl
   leads_renamed (match_draft pattern) kept = refl
 

@@ -15,7 +15,7 @@ use Rattle.lazy_dfa.specs.PassLaws.{IsLastEnd, IsNearestEnd, best_at}
 use Rattle.lazy_dfa.specs.Readers.{Reader, HalfAnswer, found, quit, unsupported}
 use Rattle.lazy_dfa.specs.ScanLaws.{IsWanted, IsFound, ends_of, IsSplitBy}
 use Rattle.lazy_dfa.specs.Scans.{scan}
-use Rattle.lazy_dfa.proofs.ForCallers.{scan_finds, scan_done, no_pattern}
+use Rattle.lazy_dfa.proofs.ForCallers.{scan_finds, scan_done, no_pattern, one_found}
 use Rattle.regex_pair.specs.Matching.{match_search, is_some_match, match_told, has_match}
 use Rattle.regex_pair.specs.Pairs.{Pair}
 
@@ -49,9 +49,6 @@ wanted_tells LeftmostFirst false reverse ends o is = first_tells ends o is
 wanted_tells AllMatches false reverse ends o is = last_tells reverse ends o is
 
 -- ---- of what a half search finds
-
-one_found : (o u : Option (ℕ × ℕ)) → found o ≡ found u → o ≡ u
-one_found o u e = cc
 
 never_split : (r : Reader) (h : List ℕ) (j : ℕ) → r.between_characters ≡ false → counts r.between_characters h j ≡ false → true ≡ false
 never_split r h j whole never = cc

@@ -21,3 +21,5 @@ pub use Rattle.search_types.proofs.GroupLaws.{slot_in_range}
 -- a search may start up to the last place where its mode lets it, and it has one answer
 pub use Rattle.search_types.proofs.ModeLemmas.{may_start_at}
 pub use Rattle.search_types.proofs.AnswerLemmas.{one_answer}
+pub use Rattle.search_types.proofs.IndexLemmas.{option_or-None}
+pub use Rattle.search_types.proofs.ModeLemmas.{both_left}

@@ -53,7 +53,7 @@ bytes_ne name text key e f = elim (cases_Bool (bytes_eq name text)) [
   | inr g ↦ g
 ]
 
-option_or-None : {A : Type 0} (o : Option A) → option_or o None ≡ o
+pub option_or-None : {A : Type 0} (o : Option A) → option_or o None ≡ o
 option_or-None None = refl
 option_or-None (Some x) = refl
 

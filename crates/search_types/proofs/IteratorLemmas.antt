@@ -9,10 +9,3 @@ step_from_back {A} x s t e =
     let l = ap length e in
     let h : length t < length s = omega (arith, length_push t x) in
     record { on = λ f. search (rules, h); keeps = search rules; rests = search rules }
-
--- it gives the first of them and leaves those behind it
-pub step_from_front : {A : Type 0} (x : A) (s t : List A) → s ≡ x ∷ t → MakesProgress {S = List A} {A = A} (λ _. Unit {0}) (item_count {S = List A} {A = A} (λ rest. rest)) s (Some x) t
-step_from_front {A} x s t e =
-    let l = ap length e in
-    let h : length t < length s = omega arith in
-    record { on = λ f. search (rules, h); keeps = search rules; rests = search rules }

@@ -6,6 +6,7 @@ use Rattle.search_types.specs.declared.anchored.Anchored.{Anchored}
 use Rattle.search_types.specs.declared.anchored.Anchored.TheVariants.{No, Yes, Pattern}
 use Rattle.search_types.specs.Modes.{may_start, last_start}
 use Rattle.search_types.specs.Places.{counts}
+use Rattle.std.proofs.lemmas.Bool.{and_from}
 
 -- the three tests of a place, one by one
 pub record StartsAt (mode : Anchored) (s e i : ℕ) : Type 0 where
@@ -13,7 +14,7 @@ pub record StartsAt (mode : Anchored) (s e i : ℕ) : Type 0 where
   pub from_s : s ≤ i
   pub to_last : i ≤ last_start mode s e
 
-both_left : (a b : Bool) → a && b ≡ true → a ≡ true
+pub both_left : (a b : Bool) → a && b ≡ true → a ≡ true
 both_left true b is = refl
 both_left false b is = is
 
@@ -30,14 +31,10 @@ starts_at mode s e i is =
       to_last = leb-true i (last_start mode s e) (both_right (nat_le s e && nat_le s i) (nat_le i (last_start mode s e)) is);
     }
 
-both : (a b : Bool) → a ≡ true → b ≡ true → a && b ≡ true
-both true b is other = other
-both false b is other = is
-
 pub may_start_at : (mode : Anchored) (s e i : ℕ) → s ≤ e → s ≤ i → i ≤ last_start mode s e → may_start mode s e i ≡ true
 may_start_at mode s e i forward from_s to_last =
-    both (nat_le s e && nat_le s i) (nat_le i (last_start mode s e))
-    (both (nat_le s e) (nat_le s i) (le-leb s e forward) (le-leb s i from_s))
+    and_from (nat_le s e && nat_le s i) (nat_le i (last_start mode s e))
+    (and_from (nat_le s e) (nat_le s i) (le-leb s e forward) (le-leb s i from_s))
     (le-leb i (last_start mode s e) to_last)
 
 pub no_start : (mode : Anchored) (s e i : ℕ) → nat_le s e ≡ false → may_start mode s e i ≡ true → ⊥

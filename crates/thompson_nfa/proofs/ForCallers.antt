@@ -17,3 +17,4 @@ pub use Rattle.thompson_nfa.proofs.Walks.DirectionLemmas.{same_meant, same_patte
 -- where no group is kept none is refused, and a limit below what all states take leaves no room for them: then, beside
 -- memory that lacks, the limit alone refuses
 pub use Rattle.thompson_nfa.proofs.CallerRefusals.{no_groups_refused, fits_no_limit, limit_alone_refuses}
+pub use Rattle.thompson_nfa.proofs.Steps.LookLemmas.{or_none}

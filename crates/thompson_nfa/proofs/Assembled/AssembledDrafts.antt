@@ -39,7 +39,7 @@ node_of_match node i p h =
     m.1 ∙ ap (λ (w : ℕ × ℕ). match_node w.1) pair
 
 -- a match is there
-match_inside : (drafts : List DraftNode) (q p : ℕ) → draft_at drafts q ≡ match_draft p → q < length drafts
+pub match_inside : (drafts : List DraftNode) (q p : ℕ) → draft_at drafts q ≡ match_draft p → q < length drafts
 match_inside drafts q p is = ⊎_elim
     (λ told. let none : draft_at drafts q ≡ fail_draft = get_or_past drafts q fail_draft told.1 in cc)
     (λ told. told.1) (leb_tells (length drafts) q)

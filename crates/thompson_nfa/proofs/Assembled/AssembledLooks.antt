@@ -9,7 +9,7 @@ use Rattle.look_core.proofs.ForCallers.{has_look-union, has_look-none}
 use Rattle.search_types.specs.Groups.{Groups}
 use Rattle.hir_core.specs.Tree.{Tree, empty, literal, byte_class, char_class, look, repetition, capture, nothing, cat, never, alt}
 use Rattle.hir_core.specs.Facts.{looks_used}
-use Rattle.hir_core.proofs.ForCallers.{one_has, one_held}
+use Rattle.hir_core.proofs.ForCallers.{one_has, one_held, same_test}
 use Rattle.nfa_core.specs.Nfa.{Node}
 use Rattle.nfa_core.specs.NfaValue.{look_of, looks_of}
 use Rattle.nfa_core.specs.BuilderStates.{DraftNode, empty_draft, range_draft, sparse_draft, look_draft, capture_start_draft, capture_end_draft, union_draft, union_reverse_draft, fail_draft, match_draft, Assembly}
@@ -87,14 +87,9 @@ reversed_twice WordEndHalfAscii = refl
 reversed_twice WordStartHalfUnicode = refl
 reversed_twice WordEndHalfUnicode = refl
 
-one_truth : (a b : Bool) → (a ≡ true → b ≡ true) → (b ≡ true → a ≡ true) → a ≡ b
-one_truth true b f g = sym (f refl)
-one_truth false true f g = g refl
-one_truth false false f g = refl
-
 turned_look : (back : Bool) (m l : Look) → has_look (repr (turned back m)) l ≡ has_look (repr m) (turned back l)
 turned_look false m l = refl
-turned_look true m l = one_truth (has_look (repr (reversed m)) l) (has_look (repr m) (reversed l))
+turned_look true m l = same_test (has_look (repr (reversed m)) l) (has_look (repr m) (reversed l))
     (λ h. one_held m (reversed l) (ap reversed (one_has (reversed m) l h) ∙ reversed_twice m))
     (λ h. one_held (reversed m) l (sym (reversed_twice l) ∙ ap reversed (one_has m (reversed l) h)))
 

@@ -13,7 +13,7 @@ use Rattle.nfa_core.specs.Renaming.{stands_for, kept, new_name, automaton_of}
 use Rattle.nfa_core.specs.Runs.{IsChain, last_or, answers}
 use Rattle.nfa_core.specs.Walks.{Has, distinct, chain_ends}
 use Rattle.nfa_core.specs.Ways.{Text, ways, matched, ends_from}
-use Rattle.nfa_core.proofs.ForCallers.{none_in, pairs_equal, from_map, state_match, name_inside, is_well_formed, past_next, join_once_more, ends_by_ways, renamed_pair, state_ways, from_mapped, every_of_all, chain_to}
+use Rattle.nfa_core.proofs.ForCallers.{none_in, pairs_equal, from_map, state_match, name_inside, is_well_formed, past_next, join_once_more, ends_by_ways, renamed_pair, state_ways, from_mapped, every_of_all, chain_to, unequal}
 use Rattle.thompson_nfa.specs.Assembled.{AcceptAll, IsAssembled}
 use Rattle.thompson_nfa.specs.Compilations.{places_from, start_of}
 use Rattle.thompson_nfa.specs.Configs.{Options}
@@ -24,9 +24,6 @@ use Rattle.thompson_nfa.proofs.Walks.WayLemmas.{each_at, goes_union, goes_fail}
 or_right : (a : Bool) → (a || true) ≡ true
 or_right true = refl
 or_right false = refl
-
-differ : (q h : ℕ) → q ≢ h → nat_eq q h ≡ false
-differ q h ne = ⊎_elim (λ (e : nat_eq q h ≡ true). absurd (ne (eqb-true q h e))) (λ e. e) (cases_Bool (nat_eq q h))
 
 module _ (o : Options) (xs : List Tree) (b : Assembly) (A U : ℕ) (is : IsAssembled o xs b A U) where
   abbrev pub auto : Automaton
@@ -40,7 +37,7 @@ module _ (o : Options) (xs : List Tree) (b : Assembly) (A U : ℕ) (is : IsAssem
   out q = nat_lt q is.low || nat_eq q is.free.hole
 
   is_in : (q : ℕ) → is.low ≤ q → q ≢ is.free.hole → out q ≡ false
-  is_in q l ne = ap₂ (λ (p k : Bool). p || k) (le-ltb q is.low l) (differ q is.free.hole ne)
+  is_in q l ne = ap₂ (λ (p k : Bool). p || k) (le-ltb q is.low l) (unequal q is.free.hole ne)
 
   accept_free : (table : Table) → ((q : ℕ) → out q ≡ false → table q ≡ T q) → AcceptAll b.reverse table 0 b.starts xs
   accept_free table agree =

@@ -4,7 +4,7 @@ use Rattle.std.proofs.Common.{◌≡◌, ℕ, zero, suc, ◌+◌, ◌-◌, ◌<�
 use Rattle.std.specs.Prelude.{All}
 use Rattle.std.specs.Bool.{nat_eq}
 use Rattle.std.specs.List.{flat_map}
-use Rattle.std.proofs.lemmas.Bool.{lt-ltb, le-ltb, cases_lt}
+use Rattle.std.proofs.lemmas.Bool.{lt-ltb, le-ltb, cases_lt, or_left}
 use Rattle.std.proofs.lemmas.List.Elements.{All-get_or, All-head}
 use Rattle.search_core.specs.Text.{byte_at}
 use Rattle.hir_core.specs.Tree.{Tree}
@@ -28,10 +28,6 @@ use Rattle.thompson_nfa.proofs.Assembled.AssembledStarts.{stays_in, ends, ends_a
 use Rattle.thompson_nfa.proofs.Walks.TriedPlaces.{any_range, any_ends, IsText, ends_forward}
 use Rattle.thompson_nfa.proofs.Walks.WayLemmas.{byte_ends, Goes, goes_union, goes_fail, goes_choice, goes_sparse}
 
-or_left : (a b : Bool) → a ≡ true → (a || b) ≡ true
-or_left true b e = refl
-or_left false b e = cc
-
 behind_or_here : (i : ℕ) (c : Bool) (o : Option ℕ) → i ≤ place_behind i (if c then with_place (suc i) o else None)
 behind_or_here i true None = omega arith
 behind_or_here i true (Some b) = omega arith
@@ -46,7 +42,7 @@ distinct_behind xs ys =
     join-append same_pair [] xs (distinct same_pair ys) ∙ join_once_more same_pair pairs_equal (distinct same_pair xs) ys
     ∙ sym (join-append same_pair [] xs ys)
 
-nothing_read : (t : Text) (i : ℕ) → t.end ≤ i → any_ends false t i ≡ []
+pub nothing_read : (t : Text) (i : ℕ) → t.end ≤ i → any_ends false t i ≡ []
 nothing_read t i l =
     ap (λ (c : Bool). byte_ends any_range (if c then with_place (suc i) (byte_at t.haystack i) else None)) (le-ltb i t.end l)
 

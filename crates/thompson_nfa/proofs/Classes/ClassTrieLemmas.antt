@@ -73,7 +73,7 @@ pub record GainsTo (old new left all : List (List (ℕ × ℕ))) : Type 0 where
 pub none_gained : (old left all : List (List (ℕ × ℕ))) → left ≡ all → GainsTo old old left all
 none_gained old left all e = record { met = []; split = e; gained = gained_none old }
 
-got_behind : (xs : List (List (ℕ × ℕ))) (x : List (ℕ × ℕ)) (rest : List (List (ℕ × ℕ))) → slice_get (xs ++ x ∷ rest) (length xs) ≡ Some x
+pub got_behind : (xs : List (List (ℕ × ℕ))) (x : List (ℕ × ℕ)) (rest : List (List (ℕ × ℕ))) → slice_get (xs ++ x ∷ rest) (length xs) ≡ Some x
 got_behind [] x rest = refl
 got_behind (y ∷ xs) x rest = got_behind xs x rest
 

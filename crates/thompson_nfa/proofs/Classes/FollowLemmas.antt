@@ -1,6 +1,6 @@
 -- Classes of scalars that ascend: their sequences, one after the other.
 use Rattle.std.proofs.Common.{◌≡◌, ℕ, suc, ◌+◌, ◌-◌, ◌*◌, ◌<◌, ◌≤◌, ◌⊎◌, inl, inr, Bool, true, false, List, [], ◌∷◌, ◌++◌, map, length, take, drop, get_or, slice_get, Some, nat_le, ◌&&◌, refl, sym, ap, subst, ◌∙◌, arith, append_assoc, append-nil, length-append}
-use Rattle.std.proofs.lemmas.Bool.{leb-true}
+use Rattle.std.proofs.lemmas.Bool.{leb-true, and_parts}
 use Rattle.std.proofs.lemmas.Grind.{flat_map-append}
 use Rattle.std.proofs.lemmas.List.{take_more, take_all}
 use Rattle.hir_core.specs.BySequences.{sequence_tree, sequences_of, by_sequences}
@@ -28,7 +28,6 @@ use Rattle.thompson_nfa.proofs.Steps.ProgressLemmas.{made_capped}
 use Rattle.thompson_nfa.proofs.Classes.ReadLemmas.{as_itself, as_alt, as_then}
 use Rattle.thompson_nfa.proofs.Steps.RoomLemmas.{sequence_count_some, fits_char_class}
 use Rattle.thompson_nfa.proofs.Classes.ScalarLemmas.{quits_capped}
-use Rattle.thompson_nfa.proofs.Classes.SharedLemmas.{both_hold}
 use Rattle.thompson_nfa.proofs.Fragments.TurnLemmas.{first_left}
 
 -- ---- sequences that follow one another
@@ -65,7 +64,7 @@ below_more : (p : List (ℕ × ℕ)) (low high : ℕ) → low ≤ high → IsBel
 below_more p low high l (inl none) = inl none
 below_more p low high l (inr x) = let less = x.4 in inr (x.0, x.1, x.2, x.3, omega arith)
 
-as_after : (p q : List (ℕ × ℕ)) → IsBefore p q → ComesAfter p q
+pub as_after : (p q : List (ℕ × ℕ)) → IsBefore p q → ComesAfter p q
 as_after [] q b = tt
 as_after (r ∷ p) q b = b
 
@@ -95,10 +94,10 @@ follow_pieces low hi (x ∷ ps) p l below up short =
     let later = follow_pieces (x.1 + 1) hi ps (byte_ranges x) (omega arith) (inr (x.0, x.1, refl, up.2, omega arith)) up.3 (λ i rs e. short (suc i) rs e) in
     ((s.0, s.1, bytes_by (byte_ranges x) s.2, comes_after p low x.0 x.1 below up.2 up.0, later.0), later.1)
 
-rising : (low : ℕ) (r : ℕ × ℕ) (rs : List (ℕ × ℕ)) → rises_from low (r ∷ rs) ≡ true → (low ≤ r.0) × (r.0 ≤ r.1) × (rises_from (r.1 + 1) rs ≡ true)
+pub rising : (low : ℕ) (r : ℕ × ℕ) (rs : List (ℕ × ℕ)) → rises_from low (r ∷ rs) ≡ true → (low ≤ r.0) × (r.0 ≤ r.1) × (rises_from (r.1 + 1) rs ≡ true)
 rising low r rs e =
-    let x = both_hold (nat_le low r.0 && nat_le r.0 r.1) (rises_from (r.1 + 1) rs) e in
-    let y = both_hold (nat_le low r.0) (nat_le r.0 r.1) x.0 in
+    let x = and_parts (nat_le low r.0 && nat_le r.0 r.1) (rises_from (r.1 + 1) rs) e in
+    let y = and_parts (nat_le low r.0) (nat_le r.0 r.1) x.0 in
     (leb-true low r.0 y.0, leb-true r.0 r.1 y.1, x.1)
 
 follow_ranges : (low : ℕ) (ranges : List (ℕ × ℕ)) (p : List (ℕ × ℕ)) → IsBelow p low → rises_from low ranges ≡ true → CanFollow p (sequences_of ranges)

@@ -5,6 +5,7 @@ use Rattle.std.proofs.lemmas.Bool.{cond-true, cond-false, le-leb, lt-leb, cases_
 use Rattle.hir_core.specs.Sequences.{spelling_of, byte_ranges}
 use Rattle.hir_core.specs.Pieces.{Aligned, Blocks, IsPiece}
 use Rattle.thompson_nfa.specs.RangeTries.{IsBefore}
+use Rattle.hir_core.proofs.ForCallers.{spelled_one}
 
 -- ---- spellings by their length
 
@@ -16,9 +17,6 @@ three c = (224 + c / 4096) ∷ (128 + (c / 64) % 64) ∷ (128 + c % 64) ∷ []
 
 abbrev four : ℕ → List ℕ
 four c = (240 + c / 262144) ∷ (128 + (c / 4096) % 64) ∷ (128 + (c / 64) % 64) ∷ (128 + c % 64) ∷ []
-
-spelled_one : (c : ℕ) → c ≤ 0x7F → spelling_of c ≡ c ∷ []
-spelled_one c h = cond-true _ _ _ (le-leb c 0x7F h)
 
 spelled_two : (c : ℕ) → 0x80 ≤ c → c ≤ 0x7FF → spelling_of c ≡ two c
 spelled_two c l h = cond-false _ _ _ (lt-leb c 0x7F (omega arith)) ∙ cond-true _ _ _ (le-leb c 0x7FF h)

@@ -37,7 +37,7 @@ pub record Branched (b0 bk : Assembly) (u m n : ℕ) (xs : List Tree) : Type 0 w
 -- ---- one branch more
 
 -- the steps' parts that lie before them are as they were
-one_more_way : (names : List ℕ) (s to : ℕ) (low high u : ℕ) → ((q : ℕ) → names ≡ q ∷ [] → (low ≤ q) × (q < high) × (q ≢ u)) → low ≤ s → s < high → s ≢ u → names ++ s ∷ [] ≡ to ∷ [] →
+pub one_more_way : (names : List ℕ) (s to : ℕ) (low high u : ℕ) → ((q : ℕ) → names ≡ q ∷ [] → (low ≤ q) × (q < high) × (q ≢ u)) → low ≤ s → s < high → s ≢ u → names ++ s ∷ [] ≡ to ∷ [] →
     (low ≤ to) × (to < high) × (to ≢ u)
 one_more_way [] s to low high u one l h ne e =
     let same : s ≡ to = cc in

@@ -26,6 +26,7 @@ use Rattle.thompson_nfa.proofs.Steps.ProgressLemmas.{Progress, step_later, made_
 use Rattle.thompson_nfa.proofs.Steps.RoomLemmas.{sequence_count_take, sequence_count_some, fits_char_class}
 use Rattle.thompson_nfa.proofs.Walks.SameLemmas.{same_concat_one}
 use Rattle.thompson_nfa.proofs.Fragments.TurnLemmas.{concat_begun, concat_joins, concat_ended}
+use Rattle.thompson_nfa.proofs.Classes.ClassTrieLemmas.{got_behind}
 
 -- ---- the ranges of one sequence
 
@@ -130,7 +131,7 @@ adds_spent u m n a _ _ (adds_more _ b c xs x before one) =
     let P : ℕ → Type 0 = λ k. Spent a c k in
     subst P (one_longer n xs x) (spent_more (adds_spent u m n a b xs before) one)
 
-kind_patched : (to : ℕ) (draft : DraftNode) → is_sparse (patched to draft) ≡ is_sparse draft
+pub kind_patched : (to : ℕ) (draft : DraftNode) → is_sparse (patched to draft) ≡ is_sparse draft
 kind_patched to (empty_draft next) = refl
 kind_patched to (range_draft low high next) = refl
 kind_patched to (sparse_draft ranges) = refl
@@ -202,10 +203,6 @@ all_sequences a b u m left all so_far none =
     let P : List (List (ℕ × ℕ)) → Type 0 = λ l. AddsAll u m 4 a b (map sequence_tree l) in
     let whole : so_far.met ≡ all = sym (append-nil so_far.met) ∙ ap (λ (l : List (List (ℕ × ℕ))). so_far.met ++ l) (sym none) ∙ so_far.split in
     subst P whole so_far.added
-
-got_behind : (xs : List (List (ℕ × ℕ))) (x : List (ℕ × ℕ)) (rest : List (List (ℕ × ℕ))) → slice_get (xs ++ x ∷ rest) (length xs) ≡ Some x
-got_behind [] x rest = refl
-got_behind (y ∷ xs) x rest = got_behind xs x rest
 
 module _ (a b : Assembly) (u m lo hi : ℕ) (left rest : List (List (ℕ × ℕ))) (rs : List (ℕ × ℕ)) (so_far : SequencesTo a b u m left (utf8_sequences lo hi)) (e : left ≡ rs ∷ rest) where
   place : slice_get (utf8_sequences lo hi) (length so_far.met) ≡ Some rs

@@ -1,7 +1,7 @@
 -- A sparse state: of its ranges the one that has the byte which is read leads on.
 use Rattle.std.proofs.Common.{◌≡◌, ℕ, ◌+◌, ◌<◌, ◌≤◌, Bool, true, false, List, [], ◌∷◌, ◌++◌, map, Option, Some, None, if◌then◌else◌, ◌&&◌, ◌||◌, nat_le, ◌⊎◌, inl, inr, refl, sym, ap, ◌∙◌, subst, arith, append-nil}
 use Rattle.std.specs.List.{flat_map}
-use Rattle.std.proofs.lemmas.Bool.{leb-true}
+use Rattle.std.proofs.lemmas.Bool.{leb-true, and_parts}
 use Rattle.hir_core.specs.BySequences.{range_tree}
 use Rattle.hir_core.specs.Tree.{Tree, alternation}
 use Rattle.hir_core.specs.PreferredEnds.{preferred_ends, Has as HasEnd}
@@ -51,10 +51,6 @@ goes_sparse back t T s trans is = record {
 abbrev within : ℕ → ℕ → ℕ → Bool
 within low high b = nat_le low b && nat_le b high
 
-pub both_hold : (c d : Bool) → (c && d) ≡ true → (c ≡ true) × (d ≡ true)
-both_hold true d e = (refl, e)
-both_hold false d e = absurd (cc)
-
 or_false : (c : Bool) → (c || false) ≡ true → c ≡ true
 or_false true e = refl
 or_false false e = e
@@ -72,7 +68,7 @@ or_one true j e = refl
 or_one false j e = cc
 
 is_within : (low high b : ℕ) → within low high b ≡ true → (low ≤ b) × (b ≤ high)
-is_within low high b e = let x = both_hold (nat_le low b) (nat_le b high) e in (leb-true low b x.0, leb-true b high x.1)
+is_within low high b e = let x = and_parts (nat_le low b) (nat_le b high) e in (leb-true low b x.0, leb-true b high x.1)
 
 -- a byte below the range, or above it, isn't in it
 not_within : (low high b : ℕ) (c : Bool) → within low high b ≡ c → (low ≤ b → b ≤ high → ⊥) → c ≡ false

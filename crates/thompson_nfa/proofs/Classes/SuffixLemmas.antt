@@ -22,7 +22,7 @@ use Rattle.thompson_nfa.proofs.Fragments.DoesCases.{Agrees}
 use Rattle.thompson_nfa.proofs.Fragments.LeafLemmas.{tame_one}
 use Rattle.thompson_nfa.proofs.Steps.OutLemmas.{out_here}
 use Rattle.thompson_nfa.proofs.Steps.ProgressLemmas.{Progress, then_added, then_led}
-use Rattle.thompson_nfa.proofs.Classes.ScalarBranches.{Branched, Others}
+use Rattle.thompson_nfa.proofs.Classes.ScalarBranches.{Branched, Others, one_more_way}
 
 -- ---- what the map keeps
 
@@ -119,16 +119,6 @@ module _ (b0 b c : Assembly) (u m n id lo hi q : ℕ) (xs : List Tree) (so_far :
         one_way = λ k e. let o = so_far.one_way k e in let h = o.1 in (o.0, omega arith, o.2);
       }
 
--- the only way of a choice that has one more way than these
-only_way : (names : List ℕ) (s to : ℕ) (low high u : ℕ) → ((q : ℕ) → names ≡ q ∷ [] → (low ≤ q) × (q < high) × (q ≢ u)) → low ≤ s → s < high → s ≢ u → names ++ s ∷ [] ≡ to ∷ [] →
-    (low ≤ to) × (to < high) × (to ≢ u)
-only_way [] s to low high u one l h ne e =
-    let same : s ≡ to = cc in
-    let P : ℕ → Type 0 = λ k. (low ≤ k) × (k < high) × (k ≢ u) in
-    subst P same (l, h, ne)
-only_way (a ∷ []) s to low high u one l h ne e = cc
-only_way (a ∷ b ∷ names) s to low high u one l h ne e = cc
-
 module _ (b0 b c d : Assembly) (u m n id lo hi q : ℕ) (xs : List Tree) (so_far : Branched b0 b u m n xs)
     (x : Added b c id (range_draft lo hi q) b.groups) (named : q < length b.drafts) (led : Led c d u id) where
   -- the choice leads to the new state, too
@@ -156,7 +146,7 @@ module _ (b0 b c d : Assembly) (u m n id lo hi q : ℕ) (xs : List Tree) (so_far
             ∙ or_none (uses b0.reverse (alternation xs) l)));
         branches = record { all = λ T agrees. all_denote_push b0.reverse T m id y so_far.ways xs (w.branches.all T (old T agrees)) (denotes T (old T agrees)) };
         others = λ T target agrees out p l h not_u. w.others T target (old T agrees) out p l (omega arith) not_u;
-        one_way = λ to same. only_way so_far.ways id to (length b0.drafts) (length d.drafts) u
+        one_way = λ to same. one_more_way so_far.ways id to (length b0.drafts) (length d.drafts) u
             (λ k e. let o = w.one_way k e in let h = o.1 in (o.0, omega arith, o.2)) (omega arith) (omega arith) (λ (at_u : id ≡ u). omega arith) same;
       }
 

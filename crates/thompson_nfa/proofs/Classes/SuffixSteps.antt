@@ -18,7 +18,8 @@ use Rattle.thompson_nfa.specs.SlotTables.{SlotTable, is_ready, with_held}
 use Rattle.thompson_nfa.specs.declared.utf8_suffix_map.Utf8SuffixKey.{Utf8SuffixKey}
 use Rattle.thompson_nfa.proofs.Steps.GrowLemmas.{grows_refl, grows_trans}
 use Rattle.thompson_nfa.proofs.Steps.ProgressLemmas.{first_quits, step_later}
-use Rattle.thompson_nfa.proofs.Classes.ScalarLemmas.{Spent, quits_later, rising_at}
+use Rattle.thompson_nfa.proofs.Classes.ScalarLemmas.{Spent, quits_later, rising_at, kind_patched}
+use Rattle.thompson_nfa.proofs.Classes.ClassTrieLemmas.{got_behind}
 
 -- ---- the map
 
@@ -149,18 +150,6 @@ next_shared a b table changed end id i ranges so_far c last state d less step =
 
 -- ---- a sequence
 
-sparse_still : (to : ℕ) (draft : DraftNode) → is_sparse (patched to draft) ≡ is_sparse draft
-sparse_still to (empty_draft next) = refl
-sparse_still to (range_draft low high next) = refl
-sparse_still to (sparse_draft ranges) = refl
-sparse_still to (look_draft look next) = refl
-sparse_still to (capture_start_draft pattern group next) = refl
-sparse_still to (capture_end_draft pattern group next) = refl
-sparse_still to (union_draft names) = refl
-sparse_still to (union_reverse_draft names) = refl
-sparse_still to fail_draft = refl
-sparse_still to (match_draft pattern) = refl
-
 module _ (a b c : Assembly) (table kept changed : SlotTable Utf8SuffixKey) (m next first : ℕ) (rs : List (ℕ × ℕ)) (r : ℕ × ℕ)
     (shares : SharesRanges m a table b kept next rs) (adds : AddsRange b c kept changed next r first) where
   pub still_there : (u : ℕ) → u < length a.drafts → u < length c.drafts
@@ -228,7 +217,7 @@ pub sequences_kind : (u m : ℕ) (a : Assembly) (table : SlotTable Utf8SuffixKey
 sequences_kind u m a table _ _ _ sequences_none l kind = kind
 sequences_kind u m a table _ _ _ (sequences_more mid new kept last qs rs before one) l kind =
     let longer = (sequences_steps before).spent.longer in
-    ap is_sparse one.leads.here ∙ sparse_still one.first (draft_at one.whole.drafts u)
+    ap is_sparse one.leads.here ∙ kind_patched one.first (draft_at one.whole.drafts u)
     ∙ still_kind mid one.shared one.whole kept one.kept last m one.next one.first one.others one.last one.shares one.adds u (omega arith) (sequences_kind u m a table mid kept qs before l kind)
 
 -- ---- the sequences of a range
@@ -241,10 +230,6 @@ pub record MetSequences (a b : Assembly) (table changed : SlotTable Utf8SuffixKe
 
 pub none_met : (a : Assembly) (table : SlotTable Utf8SuffixKey) (u m lo hi : ℕ) (left : List (List (ℕ × ℕ))) → left ≡ utf8_sequences lo hi → MetSequences a a table table u m lo hi left
 none_met a table u m lo hi left e = record { met = []; split = e; added = sequences_none }
-
-got_behind : (xs : List (List (ℕ × ℕ))) (x : List (ℕ × ℕ)) (rest : List (List (ℕ × ℕ))) → slice_get (xs ++ x ∷ rest) (length xs) ≡ Some x
-got_behind [] x rest = refl
-got_behind (y ∷ xs) x rest = got_behind xs x rest
 
 module _ (a b : Assembly) (table changed : SlotTable Utf8SuffixKey) (u m lo hi : ℕ) (left : List (List (ℕ × ℕ)))
     (so_far : MetSequences a b table changed u m lo hi left) where

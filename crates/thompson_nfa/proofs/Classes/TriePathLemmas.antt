@@ -10,16 +10,13 @@ use Rattle.thompson_nfa.specs.RangeTries.{IsBefore, AreRanges, IsTrie}
 use Rattle.thompson_nfa.specs.RangeWalks.{paths_of}
 use Rattle.thompson_nfa.specs.Utf8Compiles.{last_of}
 use Rattle.thompson_nfa.specs.Utf8Stacks.{AreBytes, ComesAfter}
-
-after_one : (q r : List (ℕ × ℕ)) → IsBefore q r → ComesAfter q r
-after_one [] r b = absurd b
-after_one (x ∷ q) r b = b
+use Rattle.thompson_nfa.proofs.Classes.FollowLemmas.{as_after}
 
 after_last : (qs : List (List (ℕ × ℕ))) (i : ℕ) → IsTrie qs → i < length qs → ComesAfter (last_of (take i qs)) (get_or qs i [])
 after_last qs zero t l = tt
 after_last [] (suc i) t l = absurd (omega (arith, l))
 after_last (q ∷ []) (suc i) t l = absurd (omega (arith, l))
-after_last (q ∷ r ∷ qs) (suc zero) t l = after_one q r t.1.0
+after_last (q ∷ r ∷ qs) (suc zero) t l = as_after q r t.1.0
 after_last (q ∷ r ∷ qs) (suc (suc i)) t l = after_last (r ∷ qs) (suc i) t.2 (omega (arith, l))
 
 ranges_at : (qs : List (List (ℕ × ℕ))) (i : ℕ) → IsTrie qs → i < length qs → AreRanges (get_or qs i [])

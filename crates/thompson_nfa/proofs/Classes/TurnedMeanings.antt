@@ -8,7 +8,7 @@ use Rattle.hir_core.specs.Facts.{LoopsRead}
 use Rattle.hir_core.specs.Means.{Looks, Means, is_member}
 use Rattle.hir_core.specs.Sequences.{is_in_ranges}
 use Rattle.hir_core.specs.BySequences.{sequence_tree, range_tree, sequences_of}
-use Rattle.hir_core.proofs.ForCallers.{class_to_sequences, sequences_to_class, member_cases}
+use Rattle.hir_core.proofs.ForCallers.{class_to_sequences, sequences_to_class, member_cases, member_of_one}
 use Rattle.nfa_core.specs.Drafted.{Table}
 use Rattle.thompson_nfa.specs.Denotes.{Denotes}
 use Rattle.thompson_nfa.specs.RangeTries.{IsIn}
@@ -37,10 +37,6 @@ stands_parts h i b (x ∷ s) f =
     let same : i + 1 + length s ≡ i + length (x ∷ s) = omega arith in
     ((f.0, p.0), ap (slice_get h) (sym same) ∙ p.1)
 
--- a byte of one range
-in_range : (r : ℕ × ℕ) (b : ℕ) → is_member (r ∷ []) b ≡ true → (r.0 ≤ b) × (b ≤ r.1)
-in_range r b m = elim (member_cases r [] b m) [ inl a ↦ a | inr n ↦ absurd (false≢true n) ]
-
 one_range : (r : ℕ × ℕ) (b : ℕ) → is_in_ranges (r ∷ []) (b ∷ []) ≡ true → is_member (r ∷ []) b ≡ true
 one_range r b e = same (leb r.0 b && leb b r.1) e
   where
@@ -50,7 +46,7 @@ one_range r b e = same (leb r.0 b && leb b r.1) e
 
 module _ (looks : Looks) (h : List ℕ) where
   range_read : (r : ℕ × ℕ) (i j : ℕ) → Means looks h (range_tree r) i j → (b : ℕ) × (r.0 ≤ b) × (b ≤ r.1) × (slice_get h i ≡ Some b) × (j ≡ i + 1)
-  range_read r i j m = let g = in_range r m.1 m.3 in (m.1, g.0, g.1, m.2, m.0)
+  range_read r i j m = let g = member_of_one r m.1 m.3 in (m.1, g.0, g.1, m.2, m.0)
 
   read_range : (r : ℕ × ℕ) (i b : ℕ) → r.0 ≤ b → b ≤ r.1 → slice_get h i ≡ Some b → Means looks h (range_tree r) i (i + 1)
   read_range r i b l m e = (refl, b, e, one_range r b (spells r [] b [] l m refl))

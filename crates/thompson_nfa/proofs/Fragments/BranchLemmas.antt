@@ -125,7 +125,7 @@ module _ (old b c d f : Assembly) (u z n s e k : ℕ) (done : List Tree) (x : Tr
             (λ k. uses_alternation old.reverse done x k) l;
       }
 
-union_stands : (names : List ℕ) → 2 ≤ length names → stands_for (union_draft names) ≡ None
+pub union_stands : (names : List ℕ) → 2 ≤ length names → stands_for (union_draft names) ≡ None
 union_stands [] l = absurd (omega arith)
 union_stands (a ∷ []) l = absurd (omega arith)
 union_stands (a ∷ b ∷ names) l = refl

@@ -22,11 +22,12 @@ use Rattle.thompson_nfa.specs.declared.which_captures.WhichCaptures.{WhichCaptur
 use Rattle.thompson_nfa.proofs.Steps.LookLemmas.{quiet_led, quiet_added, adds_around}
 use Rattle.thompson_nfa.proofs.Steps.OutLemmas.{out_here, all_here, all_join, all_on}
 use Rattle.thompson_nfa.proofs.Fragments.LeafLemmas.{tame_one}
-use Rattle.thompson_nfa.proofs.Steps.StepLemmas.{added_of, added_group, room_for, refused_name}
+use Rattle.thompson_nfa.proofs.Steps.StepLemmas.{added_of, added_group, refused_name}
 use Rattle.thompson_nfa.proofs.Steps.NotedLemmas.{group_in, known_of_in, known_group}
 use Rattle.thompson_nfa.proofs.Steps.ProgressLemmas.{Progress, first_added, then_added, then_made, then_led, made, step_later, size_kept}
 use Rattle.thompson_nfa.proofs.Fragments.RepeatLemmas.{reads_as}
 use Rattle.thompson_nfa.proofs.Walks.AheadLemmas.{denotes_capture, denotes_capture_plain}
+use Rattle.thompson_nfa.proofs.Steps.RoomLemmas.{numbered}
 
 -- what the builder says where both tests pass
 both_none : (a b : Option BuildFault) → option_or a b ≡ None → b ≡ None
@@ -40,7 +41,7 @@ pub start_added : (old new : Assembly) (id index : ℕ) (name : Option Name) →
 start_added old new id index name is e none =
     let draft = capture_start_draft (length old.starts) index 0 in
     added_group old new id draft (with_group old.groups (length old.starts) index name) is e
-    (room_for old draft (both_none (index_fault (length old.starts) index) (add_fault old draft) none)) (known_group old.groups (length old.starts) index name)
+    (numbered old draft (both_none (index_fault (length old.starts) index) (add_fault old draft) none)) (known_group old.groups (length old.starts) index name)
 
 pub end_added : (old new : Assembly) (id index : ℕ) → id ≡ length old.drafts → new ≡ with_draft old (capture_end_draft (length old.starts) index 0) →
     option_or (index_fault (length old.starts) index) (add_fault old (capture_end_draft (length old.starts) index 0)) ≡ None →

@@ -1,7 +1,7 @@
 -- Fragments of byte classes.
 use Rattle.std.proofs.Common.{◌≡◌, ℕ, zero, suc, ◌+◌, ◌<◌, ◌≤◌, Bool, true, false, List, [], ◌∷◌, length, get_or, refl, sym, ap, ◌∙◌, subst, arith, IsTrue, nat_le, ◌&&◌}
 use Rattle.std.specs.Prelude.{All}
-use Rattle.std.proofs.lemmas.Bool.{leb-true}
+use Rattle.std.proofs.lemmas.Bool.{leb-true, and_parts}
 use Rattle.std.proofs.lemmas.List.{length-map}
 use Rattle.hir_core.specs.Facts.{rises_from, is_ascending}
 use Rattle.hir_core.specs.Tree.{byte_class}
@@ -19,26 +19,16 @@ use Rattle.thompson_nfa.proofs.Walks.AheadLemmas.{denotes_then_empty}
 use Rattle.thompson_nfa.proofs.Steps.OutLemmas.{out_here, out_next, out_at, all_here, all_join}
 use Rattle.thompson_nfa.proofs.Steps.ProgressLemmas.{first_added, then_added, made, then_quits}
 use Rattle.thompson_nfa.proofs.Fragments.LeafLemmas.{tame_one}
-
--- two tests that hold
-both_true : (a b : Bool) → (a && b) ≡ true → (a ≡ true) × (b ≡ true)
-both_true true b e = (refl, e)
-both_true false b e = absurd (cc)
-
-rises : (low : ℕ) (r : ℕ × ℕ) (rs : List (ℕ × ℕ)) → rises_from low (r ∷ rs) ≡ true → (low ≤ r.0) × (r.0 ≤ r.1) × (rises_from (r.1 + 1) rs ≡ true)
-rises low r rs e =
-    let x = both_true (nat_le low r.0 && nat_le r.0 r.1) (rises_from (r.1 + 1) rs) e in
-    let y = both_true (nat_le low r.0) (nat_le r.0 r.1) x.0 in
-    (leb-true low r.0 y.0, leb-true r.0 r.1 y.1, x.1)
+use Rattle.thompson_nfa.proofs.Classes.FollowLemmas.{rising}
 
 ascends_from : (low next : ℕ) (ranges : List (ℕ × ℕ)) → rises_from low ranges ≡ true → AscendsFrom low (to_one next ranges)
 ascends_from low next [] e = tt
-ascends_from low next (r ∷ rs) e = let x = rises low r rs e in (x.0, x.1, ascends_from (r.1 + 1) next rs x.2)
+ascends_from low next (r ∷ rs) e = let x = rising low r rs e in (x.0, x.1, ascends_from (r.1 + 1) next rs x.2)
 
 few_from : (low : ℕ) (ranges : List (ℕ × ℕ)) → rises_from low ranges ≡ true → All (λ r. r.1 < 256) ranges → low ≤ 256 → length ranges + low ≤ 256
 few_from low [] e all l = omega arith
 few_from low (r ∷ rs) e all l =
-    let x = rises low r rs e in
+    let x = rising low r rs e in
     let end : r.1 < 256 = all 0 r (omega arith) in
     let later : All (λ (s : ℕ × ℕ). s.1 < 256) rs = λ k d h. all (suc k) d (omega arith) in
     let more = few_from (r.1 + 1) rs x.2 later (omega arith) in

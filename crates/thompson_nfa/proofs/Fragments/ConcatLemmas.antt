@@ -17,17 +17,12 @@ use Rattle.thompson_nfa.specs.declared.which_captures.WhichCaptures.TheVariants 
 use Rattle.thompson_nfa.proofs.Walks.SameLemmas.{same_concat_one}
 use Rattle.thompson_nfa.proofs.Fragments.TurnLemmas.{first_left, last_left, left_all, left_none, concat_joins, concat_begun, concat_ended}
 use Rattle.thompson_nfa.proofs.Fragments.JoinLemmas.{join_made, join_does, does_first, does_all, does_same}
-use Rattle.thompson_nfa.proofs.Steps.NotedLemmas.{noted_none}
 use Rattle.thompson_nfa.proofs.Steps.ProgressLemmas.{Includes, first_made, then_made, made_capped, then_quits, refuses, then_refuses, first_refuses}
+use Rattle.thompson_nfa.proofs.Steps.NoGroups.{none_noted}
 
 turned_below : (back : Bool) (i len : ℕ) → i < len → turned_place back i len < len
 turned_below false i len l = l
 turned_below true i len l = omega arith
-
-pub weight_in_concat : (xs : List Tree) (i : ℕ) (d : Tree) → i < length xs → weight (get_or xs i d) < weight (concat xs)
-weight_in_concat [] i d l = absurd (omega arith)
-weight_in_concat (x ∷ xs) zero d l = omega arith
-weight_in_concat (x ∷ xs) (suc i) d l = omega (arith, weight_in_concat xs i d (omega arith))
 
 pub weight_in_alternation : (xs : List Tree) (i : ℕ) (d : Tree) → i < length xs → weight (get_or xs i d) < weight (alternation xs)
 weight_in_alternation [] i d l = absurd (omega arith)
@@ -82,8 +77,8 @@ left_groups kept p true xs i x was now whole none l e is so_far =
     let no : kept ≡ which.None = none refl in
     let rest = concat (take (length xs - (i + 1)) xs) in
     let all = concat (take (length xs - i) xs) in
-    ap (λ k. noted k p rest now) no ∙ noted_none p rest now ∙ is ∙ ap (λ k. noted k p x was) no ∙ noted_none p x was
-    ∙ sym (noted_none p all was) ∙ sym (ap (λ k. noted k p all was) no) ∙ so_far
+    ap (λ k. noted k p rest now) no ∙ none_noted p rest now ∙ is ∙ ap (λ k. noted k p x was) no ∙ none_noted p x was
+    ∙ sym (none_noted p all was) ∙ sym (ap (λ k. noted k p all was) no) ∙ so_far
 
 pub record Parts (how : How) (old mid : Assembly) (start end i : ℕ) (xs : List Tree) : Type 0 where
   pub n : ℕ

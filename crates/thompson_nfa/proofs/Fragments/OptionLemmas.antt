@@ -13,17 +13,18 @@ use Rattle.thompson_nfa.specs.Added.{Added, Led}
 use Rattle.thompson_nfa.proofs.Steps.LookLemmas.{quiet_led, quiet_added, quiet_choice, adds_around, left_used, or_none}
 use Rattle.thompson_nfa.proofs.Steps.OutLemmas.{out_here, out_next, out_at, out_on, all_here, all_join}
 use Rattle.thompson_nfa.proofs.Steps.ProgressLemmas.{Progress, first_added, first_made, then_made, then_led, made}
-use Rattle.thompson_nfa.proofs.Fragments.RepeatLemmas.{reads_as, choice_first, empty_then, empty_tame, twice_patched, choice_stands}
+use Rattle.thompson_nfa.proofs.Fragments.RepeatLemmas.{reads_as, choice_first, empty_then, empty_tame, choice_stands}
 use Rattle.thompson_nfa.proofs.Fragments.BranchLemmas.{FinishesBut}
 use Rattle.thompson_nfa.proofs.Fragments.RoundLemmas.{denotes_optional, denotes_stopped_here}
 use Rattle.thompson_nfa.proofs.Walks.AheadLemmas.{denotes_then_empty}
 use Rattle.thompson_nfa.proofs.Walks.DenoteLemmas.{denotes_empty}
+use Rattle.thompson_nfa.proofs.Fragments.DoesLemmas.{chosen}
 
 -- one round, which may be passed by
 module _ (t0 t1 t2 t3 t4 : Assembly) (greedy : Bool) (u s e n z : ℕ) (added : Added t0 t1 u (no_choice greedy) t0.groups) (body : Makes t1 t2 s e n) (p3 : Led t2 t3 u s) (p4 : Led t3 t4 u z) (there : z < length t0.drafts) where
   option_u : (target : ℕ) (table : Table) → Finished (length t0.drafts) t4.drafts e target table → table u ≡ choice greedy s z
   option_u target table fin = fin.states u (omega arith) (omega arith) (omega arith) ∙ p4.here ∙ ap (patched z) (p3.here ∙ ap (patched s) (body.fragment.grows.same u (omega arith) ∙ added.here))
-      ∙ twice_patched greedy s z
+      ∙ chosen greedy s z
 
   option_body : (target : ℕ) (table : Table) → Finished (length t0.drafts) t4.drafts e target table → Finished (length t1.drafts) t2.drafts e target table
   option_body target table fin = record {

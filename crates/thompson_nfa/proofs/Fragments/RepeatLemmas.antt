@@ -17,10 +17,7 @@ use Rattle.thompson_nfa.proofs.Steps.ProgressLemmas.{Progress, first_added, firs
 use Rattle.thompson_nfa.proofs.Fragments.RoundLemmas.{denotes_star, denotes_plus}
 use Rattle.thompson_nfa.proofs.Walks.AheadLemmas.{denotes_then_empty}
 use Rattle.thompson_nfa.proofs.Walks.DenoteLemmas.{denotes_empty}
-
-pub twice_patched : (greedy : Bool) (a b : ℕ) → patched b (patched a (no_choice greedy)) ≡ choice greedy a b
-twice_patched true a b = refl
-twice_patched false a b = refl
+use Rattle.thompson_nfa.proofs.Fragments.DoesLemmas.{chosen}
 
 pub choice_stands : (greedy : Bool) (a b : ℕ) → stands_for (choice greedy a b) ≡ None
 choice_stands true a b = refl
@@ -72,7 +69,7 @@ module _ (t0 t1 t2 t3 t4 : Assembly) (greedy : Bool) (u s e n : ℕ) (added : Ad
   star_u = back.same u (omega arith) ∙ led.here ∙ ap (patched s) (body.fragment.grows.same u (omega arith) ∙ added.here)
 
   star_choice : (target : ℕ) (table : Table) → Finished (length t0.drafts) t4.drafts u target table → table u ≡ choice greedy s target
-  star_choice target table fin = fin.led ∙ ap (patched target) star_u ∙ twice_patched greedy s target
+  star_choice target table fin = fin.led ∙ ap (patched target) star_u ∙ chosen greedy s target
 
   star_body : (target : ℕ) (table : Table) → Finished (length t0.drafts) t4.drafts u target table → Finished (length t1.drafts) t2.drafts e u table
   star_body target table fin = record {
@@ -113,7 +110,7 @@ module _ (t0 t1 t2 t3 t4 : Assembly) (greedy : Bool) (u s e n : ℕ) (body : Mak
   plus_u = led.here ∙ ap (patched s) (back.same u (omega arith) ∙ added.here)
 
   plus_choice : (target : ℕ) (table : Table) → Finished (length t0.drafts) t4.drafts u target table → table u ≡ choice greedy s target
-  plus_choice target table fin = fin.led ∙ ap (patched target) plus_u ∙ twice_patched greedy s target
+  plus_choice target table fin = fin.led ∙ ap (patched target) plus_u ∙ chosen greedy s target
 
   plus_body : (target : ℕ) (table : Table) → Finished (length t0.drafts) t4.drafts u target table → Finished (length t0.drafts) t1.drafts e u table
   plus_body target table fin = record {
@@ -172,11 +169,11 @@ module _ (t0 t1 t2 t3 t4 t5 t6 t7 t8 t9 : Assembly) (greedy : Bool) (s e u q z n
   loop_u : (target : ℕ) (table : Table) → Finished (length t0.drafts) t9.drafts z target table → table u ≡ choice greedy s z
   loop_u target table fin = fin.states u (omega arith) (omega arith) (omega arith) ∙ p8.here
       ∙ ap (patched z) (p7.same u (omega arith) ∙ p6.same u (omega arith) ∙ p5.grows.same u (omega arith) ∙ p4.grows.same u (omega arith)
-      ∙ p3.here ∙ ap (patched s) (p2.same u (omega arith) ∙ p1.here)) ∙ twice_patched greedy s z
+      ∙ p3.here ∙ ap (patched s) (p2.same u (omega arith) ∙ p1.here)) ∙ chosen greedy s z
 
   loop_q : (target : ℕ) (table : Table) → Finished (length t0.drafts) t9.drafts z target table → table q ≡ choice greedy s z
   loop_q target table fin = fin.states q (omega arith) (omega arith) (omega arith) ∙ p8.same q (omega arith) ∙ p7.here
-      ∙ ap (patched z) (p6.here ∙ ap (patched s) (p5.grows.same q (omega arith) ∙ p4.here)) ∙ twice_patched greedy s z
+      ∙ ap (patched z) (p6.here ∙ ap (patched s) (p5.grows.same q (omega arith) ∙ p4.here)) ∙ chosen greedy s z
 
   loop_body : (target : ℕ) (table : Table) → Finished (length t0.drafts) t9.drafts z target table → Finished (length t0.drafts) t1.drafts e u table
   loop_body target table fin = record {

@@ -20,6 +20,7 @@ use Rattle.thompson_nfa.specs.Refusals.{Quits}
 use Rattle.thompson_nfa.proofs.Steps.ProgressLemmas.{made_capped}
 use Rattle.thompson_nfa.proofs.Steps.RoomLemmas.{alternation_count}
 use Rattle.thompson_nfa.proofs.Classes.ScalarLemmas.{quits_capped}
+use Rattle.std.proofs.lemmas.Bool.{and_parts}
 
 -- ---- nodes of other kinds
 
@@ -85,14 +86,10 @@ literal_is (cat x y) e = absurd (cc)
 literal_is never e = absurd (cc)
 literal_is (alt x y) e = absurd (cc)
 
-both_hold : (a b : Bool) → (a && b) ≡ true → (a ≡ true) × (b ≡ true)
-both_hold true b e = (refl, e)
-both_hold false b e = absurd (cc)
-
 literals_are : (back : Bool) (xs : List Tree) → list_all is_literal xs ≡ true → literals back (read_strings back xs) ≡ alternation xs
 literals_are back [] e = refl
 literals_are back (x ∷ xs) e =
-    let b = both_hold (is_literal x) (list_all is_literal xs) e in
+    let b = and_parts (is_literal x) (list_all is_literal xs) e in
     ap (λ (w : List ℕ). alt (literal w) (literals back (read_strings back xs))) (spelt_twice back (bytes_of_literal x))
     ∙ ap (λ (y : Tree). alt y (literals back (read_strings back xs))) (literal_is x b.0) ∙ ap (λ (y : Tree). alt x y) (literals_are back xs b.1)
 
@@ -100,7 +97,7 @@ literals_are back (x ∷ xs) e =
 room : (back : Bool) (xs : List Tree) → list_all is_literal xs ≡ true → min (2 * bytes_in (read_strings back xs)) 18446744073709551615 ≤ sum_by count xs
 room back [] e = omega arith
 room back (x ∷ xs) e =
-    let b = both_hold (is_literal x) (list_all is_literal xs) e in
+    let b = and_parts (is_literal x) (list_all is_literal xs) e in
     let here : count x ≡ capped (2 * length (bytes_of_literal x) + 1) = ap count (sym (literal_is x b.0)) in
     omega (arith, room back xs b.1, sum_by-cons count x xs, here, length_spelt back (bytes_of_literal x))
 
@@ -130,7 +127,7 @@ module _ (trie : Strings) (xs : List Tree) (k : ℕ) (old new : Assembly) (is : 
   strings_are = ap (λ (t : Strings). t.strings) is ∙ ap (read_strings old.reverse) (take_all k xs past)
 
   all : list_all is_literal xs ≡ true
-  all = (both_hold (nat_le 2 (length xs)) (list_all is_literal xs) wanted).1
+  all = (and_parts (nat_le 2 (length xs)) (list_all is_literal xs) wanted).1
 
   pub literals_made : (start end : ℕ) → Makes old new start end (1 + 2 * bytes_in trie.strings) → Makes old new start end (count (alternation xs))
   literals_made start end m =

@@ -27,6 +27,7 @@ use Rattle.thompson_nfa.proofs.Walks.DenoteLemmas.{denotes_empty_here}
 use Rattle.thompson_nfa.proofs.Steps.GrowLemmas.{Partly, partly_joined, partly_added, grows_refl, grows_trans}
 use Rattle.thompson_nfa.proofs.Steps.ProgressLemmas.{step_later}
 use Rattle.thompson_nfa.proofs.Classes.SharedLemmas.{denotes_branches}
+use Rattle.thompson_nfa.proofs.Fragments.BranchLemmas.{union_stands}
 
 -- ---- one chunk
 
@@ -195,11 +196,6 @@ chunks_edges [] = omega arith
 chunks_edges ([] ∷ is) = omega (arith, chunks_edges is)
 chunks_edges ((e ∷ es) ∷ is) = omega (arith, chunks_edges is)
 
-two_stand : (names : List ℕ) → 2 ≤ length names → stands_for (union_draft names) ≡ None
-two_stand [] l = absurd (omega arith)
-two_stand (a ∷ []) l = absurd (omega arith)
-two_stand (a ∷ b ∷ names) l = refl
-
 only_one : (back : Bool) (T : Table) (end : ℕ) (ways : List ℕ) (ts : List Tree) → length ways ≡ 1 → AllDenote back T end ways ts → Denotes back T (get_or ways 0 0) end (alternation ts)
 only_one back T end _ _ l none_denote = absurd (omega arith)
 only_one back T end _ _ l (more_denote q x [] [] d none_denote) = denotes_alternation_one back T q end x d
@@ -248,7 +244,7 @@ module _ (old mid : Assembly) (names : List ℕ) (end : ℕ) (items : List (List
           tame = all.tame;
           stands = λ q l h. ⊎_elim
               (λ (k : q < length mid.drafts). ap stands_for (added.grows.same q k) ∙ so_far.stands q l k)
-              (λ (k : length mid.drafts ≤ q). let same : id ≡ q = omega arith in let P : ℕ → Type 0 = λ j. stands_for (draft_at new.drafts j) ≡ None in subst P same (ap stands_for added.here ∙ two_stand ways two))
+              (λ (k : length mid.drafts ≤ q). let same : id ≡ q = omega arith in let P : ℕ → Type 0 = λ j. stands_for (draft_at new.drafts j) ≡ None in subst P same (ap stands_for added.here ∙ union_stands ways two))
               (cases_lt q (length mid.drafts));
           there = inr (omega arith, omega arith);
           denotes = λ table has first chunks x led.

@@ -27,6 +27,7 @@ use Rattle.thompson_nfa.proofs.Walks.OrderLemmas.{orders_same_firsts}
 use Rattle.thompson_nfa.proofs.Walks.ReachLemmas.{reaches_like}
 use Rattle.thompson_nfa.proofs.Classes.SharedLemmas.{joins_read}
 use Rattle.thompson_nfa.proofs.Walks.SameLemmas.{same_literal_append, same_literal_one, same_literal_none}
+use Rattle.std.proofs.lemmas.Bool.{and_parts}
 
 -- ---- loops: there are none
 
@@ -151,16 +152,12 @@ all_same (a ∷ w) =
     let same : nat_eq a a ≡ true = grind (arith, common_steps) in
     ap (λ (t : Bool). t && stands w 0 w) same ∙ all_same w
 
-both_true : (a b : Bool) → (a && b) ≡ true → (a ≡ true) × (b ≡ true)
-both_true true b e = (refl, e)
-both_true false b e = absurd (cc)
-
 equal_stands : (v w : List ℕ) → stands w 0 v ≡ true → length v ≡ length w → v ≡ w
 equal_stands [] [] s l = refl
 equal_stands [] (b ∷ w) s l = absurd (omega arith)
 equal_stands (a ∷ v) [] s l = absurd (omega arith)
 equal_stands (a ∷ v) (b ∷ w) s l =
-    let x = both_true (nat_eq a b) (stands w 0 v) s in
+    let x = and_parts (nat_eq a b) (stands w 0 v) s in
     let same : a ≡ b = (names_equal a b).0 x.0 in
     ap (λ (c : ℕ). c ∷ v) same ∙ ap (λ (u : List ℕ). b ∷ u) (equal_stands v w x.1 (omega arith))
 

@@ -32,7 +32,7 @@ no_group index (alt x y) h = ⊎_elim
     (λ (in_x : HasGroup which.None index x). no_group index x in_x)
     (λ (in_y : HasGroup which.None index y). no_group index y in_y) h
 
-none_noted : (p : ℕ) (x : Tree) (groups : Groups) → noted which.None p x groups ≡ groups
+pub none_noted : (p : ℕ) (x : Tree) (groups : Groups) → noted which.None p x groups ≡ groups
 none_noted p empty groups = refl
 none_noted p (literal bytes) groups = refl
 none_noted p (byte_class ranges) groups = refl

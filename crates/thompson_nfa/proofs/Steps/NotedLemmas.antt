@@ -170,22 +170,6 @@ module _ (kept : WhichCaptures) (p : ℕ) where
   noted_bounded x groups min zero greedy l = absurd (omega arith)
   noted_bounded x groups min (suc most) greedy l = refl
 
--- where no groups are kept none are noted
-pub noted_none : (p : ℕ) (x : Tree) (groups : Groups) → noted which.None p x groups ≡ groups
-noted_none p empty groups = refl
-noted_none p (literal bytes) groups = refl
-noted_none p (byte_class ranges) groups = refl
-noted_none p (char_class ranges) groups = refl
-noted_none p (look a) groups = refl
-noted_none p (repetition min None greedy x) groups = noted_none p x groups
-noted_none p (repetition min (Some zero) greedy x) groups = refl
-noted_none p (repetition min (Some (suc most)) greedy x) groups = noted_none p x groups
-noted_none p (capture index name x) groups = noted_none p x groups
-noted_none p nothing groups = refl
-noted_none p (cat x y) groups = ap (noted which.None p y) (noted_none p x groups) ∙ noted_none p y groups
-noted_none p never groups = refl
-noted_none p (alt x y) groups = ap (noted which.None p y) (noted_none p x groups) ∙ noted_none p y groups
-
 -- a group that is there is known to the states at its ends
 groups_at : (groups : Groups) (p : ℕ) → groups_of groups p ≡ get_or groups p []
 groups_at [] p = refl

@@ -12,6 +12,7 @@ use Rattle.thompson_nfa.specs.Room.{room, list_room}
 use Rattle.thompson_nfa.specs.ScalarCounts.{scalars_in}
 use Rattle.thompson_nfa.proofs.Steps.ProgressLemmas.{made_capped}
 use Rattle.thompson_nfa.proofs.Classes.ScalarLemmas.{quits_capped}
+use Rattle.hir_core.proofs.ForCallers.{few_pieces}
 
 -- where nothing is shrunk
 pub room_is_count : (x : Tree) → room false x ≡ count x
@@ -40,11 +41,6 @@ few_pieces_by : (most lo hi : ℕ) (more : Bool) (rest : List (ℕ × ℕ)) → 
     length (elim more as (λ _. List (ℕ × ℕ)) [ true ↦ (scalar_from lo, piece_end (scalar_from lo) hi) ∷ rest | false ↦ [] ]) ≤ suc most
 few_pieces_by most lo hi true rest l = omega (arith, l)
 few_pieces_by most lo hi false rest l = omega arith
-
-few_pieces : (most lo hi : ℕ) → length (pieces_of most lo hi) ≤ most
-few_pieces zero lo hi = omega arith
-few_pieces (suc most) lo hi =
-    few_pieces_by most lo hi (nat_le (scalar_from lo) (min hi 0x10FFFF)) (pieces_of most (piece_end (scalar_from lo) hi + 1) hi) (few_pieces most (piece_end (scalar_from lo) hi + 1) hi)
 
 few_sequences : (first last : ℕ) → length (utf8_sequences first last) ≤ suc (last - first)
 few_sequences first last = omega (arith, length-map (pieces first last) byte_ranges, few_pieces (last + 1 - first) first last)

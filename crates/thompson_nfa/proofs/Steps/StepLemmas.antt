@@ -15,6 +15,7 @@ use Rattle.nfa_core.specs.declared.build_error.BuildError.TheVariants as error
 use Rattle.thompson_nfa.specs.Compiled.{sum_of_bytes}
 use Rattle.thompson_nfa.specs.Added.{Added, Led}
 use Rattle.thompson_nfa.specs.Refusals.{RefusesStep, Stays}
+use Rattle.thompson_nfa.proofs.Steps.RoomLemmas.{numbered as room_for}
 
 longer : (names : List ℕ) (to : ℕ) → 24 + 4 * length (names ++ to ∷ []) ≤ 24 + 4 * length names + 4
 longer names to = omega (arith, length-append names (to ∷ []))
@@ -122,9 +123,6 @@ added_group old new id draft groups is e room known =
       numbered = omega arith;
       groups_are = groups_are;
     }
-
-pub room_for : (old : Assembly) (draft : DraftNode) → add_fault old draft ≡ None → length old.drafts ≤ greatest_index
-room_for old draft none = name_there (nat_lt greatest_index (length old.drafts)) (length old.drafts) too_many_states (limit_fault old.size_limit (bytes_of (old.drafts ++ draft ∷ []))) refl none
 
 pub added_of : (old new : Assembly) (id : ℕ) (draft shown : DraftNode) → id ≡ length old.drafts → new ≡ with_draft old draft → add_fault old draft ≡ None → draft ≡ shown → Added old new id shown old.groups
 added_of old new id draft shown is e none same =

@@ -18,6 +18,7 @@ use Rattle.thompson_nfa.proofs.Tries.TrieLemmas.{steps_rise, spells, spelled, in
 use Rattle.std.proofs.lemmas.List.Elements.{all_zip_more}
 use Rattle.std.proofs.lemmas.List.{get_or_append_left, take_all}
 use Rattle.std.proofs.Math.Seq.{get_or-append_seam}
+use Rattle.thompson_nfa.proofs.Tries.EmptyString.{empty_alone}
 
 -- ---- the pieces of what follows
 module _ (v : List (List (List (ℕ × ℕ)))) (start end : ℕ) (ordered : start ≤ end) (pieces : List Edge) where
@@ -47,11 +48,6 @@ module _ (v : List (List (List (ℕ × ℕ)))) (start end : ℕ) (ordered : star
   cover_of_end e = cover_of_edges End [] e tt tt (λ b t h. absurd h) (λ b t h. elim h [ inl here ↦ absurd (false≢true here) | inr none ↦ none ])
 
 -- ---- where the ranges end
-pub with_end : (qs : List (List (ℕ × ℕ))) → IsApart qs [] → IsWith qs [] ([] ∷ [])
-with_end qs apart = record {
-  only = λ s h. elim h [ inl here ↦ inr here | inr none ↦ absurd none ];
-  kept = λ s h. rw (apart.long [] s refl h) (inl refl);
-  added = λ s h. inl h;
 }
 
 -- ---- a string of the ranges
@@ -185,7 +181,7 @@ module _ (v w x : List (List (List (ℕ × ℕ)))) (start stop : ℕ) (rest : Li
 -- ---- what the code does at its end
 pub with_none : (qs : List (List (ℕ × ℕ))) (rs : List Utf8Range) → rs ≡ [] → IsApart qs (map bytes_of rs) → IsWith qs (map bytes_of rs) ([] ∷ [])
 with_none qs rs e apart =
-    subst (λ (x : List Utf8Range). IsWith qs (map bytes_of x) ([] ∷ [])) (sym e) (with_end qs (subst (λ (x : List Utf8Range). IsApart qs (map bytes_of x)) e apart))
+    subst (λ (x : List Utf8Range). IsWith qs (map bytes_of x) ([] ∷ [])) (sym e) (empty_alone qs (subst (λ (x : List Utf8Range). IsApart qs (map bytes_of x)) e apart))
 
 module _ (v w x : List (List (List (ℕ × ℕ)))) (next made : Next) (rs rest : List Utf8Range) (first : Utf8Range) (e : rs ≡ first ∷ rest) (pieces edges : List Edge)
     (cover : IsCover v next first.start (first.end + 1) pieces) (apart : IsApart (below v next) (map bytes_of rs)) (ok : AreRanges (map bytes_of rs)) where

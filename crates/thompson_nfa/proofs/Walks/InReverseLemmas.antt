@@ -19,10 +19,6 @@ pub rounds_last : (R : ℕ → ℕ → Type 0) (n i j : ℕ) → Rounds R (suc n
 rounds_last R zero i j r = let P : ℕ → Type 0 = λ m. R i m in (i, refl, subst P r.2 r.1)
 rounds_last R (suc n) i j r = let z = rounds_last R n r.0 j r.2 in (z.0, (r.0, r.1, z.1), z.2)
 
-pub rounds_map : (R S : ℕ → ℕ → Type 0) → ((i j : ℕ) → R i j → S i j) → (n i j : ℕ) → Rounds R n i j → Rounds S n i j
-rounds_map R S each zero i j r = r
-rounds_map R S each (suc n) i j r = (r.0, each i r.0 r.1, rounds_map R S each n r.0 j r.2)
-
 pub rounds_forward : (R : ℕ → ℕ → Type 0) → IsForward R → (n : ℕ) → IsForward (Rounds R n)
 rounds_forward R f zero i j r = omega arith
 rounds_forward R f (suc n) i j r = let a = f i r.0 r.1 in let b = rounds_forward R f n r.0 j r.2 in omega arith

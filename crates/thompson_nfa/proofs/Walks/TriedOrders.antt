@@ -13,6 +13,7 @@ use Rattle.thompson_nfa.specs.Assembled.{TriesEachPlace}
 use Rattle.thompson_nfa.proofs.Walks.WayLemmas.{byte_ends, goes_empty}
 use Rattle.thompson_nfa.proofs.Walks.OrderLemmas.{ListedFirsts, firsts_of, firsts_append, firsts_behind, orders_like, orders_join, orders_leaf, orders_rounds}
 use Rattle.thompson_nfa.proofs.Walks.TriedPlaces.{any_range, any_ends, IsText, ends_forward, moves_forward, goes_on, goes_any}
+use Rattle.thompson_nfa.proofs.Assembled.AssembledTries.{nothing_read}
 
 -- the place, and those that are come to from it by so many bytes at most
 abbrev pub tried_from : Text → ℕ → ℕ → List ℕ
@@ -23,14 +24,8 @@ tried_from t (suc n) i = i ∷ flat_map (tried_from t n) (any_ends false t i)
 abbrev pub tried : Text → ℕ → List ℕ
 tried t i = tried_from t (t.end - i) i
 
-ends_behind : (t : Text) (i : ℕ) → t.end ≤ i → any_ends false t i ≡ []
-ends_behind t i past =
-    ⊎_elim (λ (e : nat_lt i t.end ≡ true). let less = ltb-true i t.end e in absurd (omega arith))
-    (λ (e : nat_lt i t.end ≡ false). ap (λ (c : Bool). byte_ends any_range (if c then with_place (suc i) (byte_at t.haystack i) else None)) e)
-    (cases_Bool (nat_lt i t.end))
-
 tried_step : (t : Text) (n i : ℕ) → t.end - i ≡ n → tried_from t n i ≡ i ∷ flat_map (tried t) (any_ends false t i)
-tried_step t zero i e = ap (λ (l : List ℕ). i ∷ flat_map (tried t) l) (sym (ends_behind t i (omega arith)))
+tried_step t zero i e = ap (λ (l : List ℕ). i ∷ flat_map (tried t) l) (sym (nothing_read t i (omega arith)))
 tried_step t (suc n) i e = ap (λ (l : List ℕ). i ∷ l) (flat_map_same (tried_from t n) (tried t) (any_ends false t i)
     (λ k h. let m = moves_forward t i k h in
     let is = m.0 in

@@ -27,6 +27,7 @@ use Rattle.thompson_nfa.proofs.Steps.LookLemmas.{any_more, look_patched, plain_l
 use Rattle.thompson_nfa.proofs.Steps.GrowLemmas.{unmatched}
 use Rattle.thompson_nfa.proofs.WholePatterns.PatternLemmas.{no_match_is}
 use Rattle.thompson_nfa.proofs.WholePatterns.StartLemmas.{Out, IsBefore, before_all, past_in_list, past_found}
+use Rattle.thompson_nfa.proofs.Assembled.AssembledDrafts.{match_inside}
 
 pub list_fits : (shrink : Bool) (xs : List Tree) → min (room_for shrink xs + 4) 18446744073709551615 ≤ list_room shrink xs
 list_fits shrink [] = omega arith
@@ -35,11 +36,6 @@ list_fits shrink (x ∷ xs) = let l = list_fits shrink xs in omega arith
 -- every state of the list, at any default
 each_part : (P : DraftNode → Type 0) (drafts : List DraftNode) → ((q : ℕ) → q < length drafts → P (draft_at drafts q)) → All P drafts
 each_part P drafts at k d l = subst P (get_or_default drafts k fail_draft d l) (at k l)
-
-match_there : (drafts : List DraftNode) (q p : ℕ) → draft_at drafts q ≡ match_draft p → q < length drafts
-match_there drafts q p is = ⊎_elim
-    (λ told. let none : draft_at drafts q ≡ fail_draft = get_or_past drafts q fail_draft told.1 in absurd (cc))
-    (λ told. told.1) (leb_tells (length drafts) q)
 
 leads_same : (table other : Table) (c : ℕ) (starts : List ℕ) → table c ≡ other c → LeadsToAll table c starts → LeadsToAll other c starts
 leads_same table other c starts same l = ⊎_elim
@@ -192,7 +188,7 @@ module _ (o : Options) (xs : List Tree) (b0 b1 b2 b3 : Assembly) (u c : ℕ) (be
   one_match : (q r p : ℕ) → draft_at b3.drafts q ≡ match_draft p → draft_at b3.drafts r ≡ match_draft p → q ≡ r
   one_match q r p f g =
       let z = size in
-      let i = match_there b3.drafts q p f in let j = match_there b3.drafts r p g in
+      let i = match_inside b3.drafts q p f in let j = match_inside b3.drafts r p g in
       let k = match_late q p f in let l = match_late r p g in
       has.one_match q r p k (omega arith) (λ e. omega arith) l (omega arith) (λ e. omega arith) (sym (later_same q k) ∙ f) (sym (later_same r l) ∙ g)
 

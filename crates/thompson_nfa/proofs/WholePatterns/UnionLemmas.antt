@@ -14,6 +14,7 @@ use Rattle.thompson_nfa.specs.Room.{room}
 use Rattle.thompson_nfa.specs.declared.compiling.How.{How}
 use Rattle.thompson_nfa.specs.declared.which_captures.WhichCaptures.{WhichCaptures}
 use Rattle.thompson_nfa.proofs.WholePatterns.FurtherLemmas.{patterns_none, hole_moved, patterns_led, patterns_joined, room_joined}
+use Rattle.thompson_nfa.proofs.Classes.ScalarLemmas.{kind_patched}
 
 -- ---- refusals
 
@@ -62,18 +63,6 @@ later_stays {which} {hole} {a} {b} {c} {ss} {xs} {n} {spare} more bytes whole zs
 
 -- ---- the union
 
-sparse_patched : (to : ℕ) (draft : DraftNode) → is_sparse (patched to draft) ≡ is_sparse draft
-sparse_patched to (empty_draft next) = refl
-sparse_patched to (range_draft low high next) = refl
-sparse_patched to (sparse_draft ranges) = refl
-sparse_patched to (look_draft look next) = refl
-sparse_patched to (capture_start_draft pattern group next) = refl
-sparse_patched to (capture_end_draft pattern group next) = refl
-sparse_patched to (union_draft names) = refl
-sparse_patched to (union_reverse_draft names) = refl
-sparse_patched to fail_draft = refl
-sparse_patched to (match_draft pattern) = refl
-
 -- some of the further patterns were compiled
 pub record IsFurther (how : How) (union : ℕ) (a b : Assembly) (xs : List Tree) : Type 0 where
   pub ways : List ℕ
@@ -110,7 +99,7 @@ module _ (how : How) (union : ℕ) (a b c : Assembly) (xs : List Tree) (x : Tree
         ways = so_far.ways ++ s ∷ [];
         has = subst P fits (patterns_led how.which a c d (so_far.ways ++ s ∷ []) (xs ++ x ∷ []) (room_for how.shrink xs + (room how.shrink x + 3)) 4 0 union s both led (omega arith));
         leads = λ first e. led.here ∙ ap (patched s) (kept_union ∙ so_far.leads first e) ∙ ap union_draft (append_assoc first so_far.ways (s ∷ []));
-        kind = ap is_sparse led.here ∙ sparse_patched s (draft_at c.drafts union) ∙ union_kind;
+        kind = ap is_sparse led.here ∙ kind_patched s (draft_at c.drafts union) ∙ union_kind;
       }
 
   -- the way to it is refused

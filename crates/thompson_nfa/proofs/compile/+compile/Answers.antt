@@ -10,12 +10,13 @@ use Rattle.thompson_nfa.proofs.Fragments.RepeatLemmas.{star_made, star_does, plu
 use Rattle.thompson_nfa.proofs.Fragments.OptionLemmas.{option_made, option_does}
 use Rattle.thompson_nfa.proofs.Fragments.CopyLemmas.{copies_first, copies_then, copies_exact, copies_loop, rounds_owed, rounds_first, rounds_then, rounds_made, rounds_does, copies_done, at_least_made, stopped_does, bounds_does, groups_again}
 use Rattle.thompson_nfa.proofs.Fragments.CaptureLemmas.{capture_made, capture_does, plain_does}
-use Rattle.thompson_nfa.proofs.Fragments.ConcatLemmas.{weight_in_concat, weight_in_alternation, parts_first, parts_then, parts_made, parts_does, parts_refused, parts_lead_refused, first_part_refused}
+use Rattle.thompson_nfa.proofs.Fragments.ConcatLemmas.{weight_in_alternation, parts_first, parts_then, parts_made, parts_does, parts_refused, parts_lead_refused, first_part_refused}
 use Rattle.thompson_nfa.proofs.Fragments.TurnLemmas.{none_is_concat}
 use Rattle.thompson_nfa.proofs.Fragments.JoinLemmas.{does_same}
 use Rattle.thompson_nfa.proofs.Fragments.AlternativeLemmas.{cases_open, union_refused, end_refused, first_lead_refused, second_lead_refused, third_lead_refused, fourth_lead_refused, cases_then, cases_refused, cases_lead_refused, cases_end_refused, cases_made, cases_does, single_does}
 use Rattle.thompson_nfa.proofs.LiteralTries.LiteralLemmas.{literals_made, literals_noted, literals_refused}
 use Rattle.thompson_nfa.proofs.compile.+compile.Goals as goal
+use Rattle.hir_core.proofs.ForCallers.{weight_in_concat}
 
 pub zero_or_more-returns-clause-made : goal.zero_or_more-returns-clause-made
 zero_or_more-returns-clause-made t c =

@@ -4,8 +4,8 @@ use Rattle.determinize_core.specs.Starts.{start_of}
 use Rattle.lazy_dfa.specs.Dfas.{start_in, first_state}
 use Rattle.lazy_dfa.specs.StartCalls.{mode_of}
 use Rattle.lazy_dfa.proofs.StartCallLemmas.{slot_inside, fine_of, allowed_of, known_here, start_left}
-use Rattle.lazy_dfa.proofs.StartChangeLemmas.{held_name}
 use Rattle.lazy_dfa.proofs.dfa.DFA.start_state.Goals as goal
+use Rattle.lazy_dfa.proofs.LinkedLemmas.{held_named}
 
 pub start_in_mode-requires-clause-inside : goal.start_in_mode-requires-clause-inside
 start_in_mode-requires-clause-inside g c =
@@ -17,7 +17,7 @@ start_in_mode-requires-clause-inside g c =
     (ap (start_in c.args.self.now) (number ∙ sym (ap mode_of c.get_anchored-2.ensures)) ∙ sym c.in-Some-name_of.ensures.name)
 
 pub returns-in-Ok-clause-held : goal.returns-in-Ok-clause-held
-returns-in-Ok-clause-held g c = held_name c.start_in_mode.new.cache c.in-Ok.id (first_state c.args.self.now c.start_behind-start.result c.in-Some-name_of.name) c.in-Ok.ensures.start
+returns-in-Ok-clause-held g c = held_named c.start_in_mode.new.cache c.in-Ok.id (first_state c.args.self.now c.start_behind-start.result c.in-Some-name_of.name) c.in-Ok.ensures.start
 
 pub returns-in-Ok-clause-same : goal.returns-in-Ok-clause-same
 returns-in-Ok-clause-same g c known = c.in-Ok.ensures.same (known_here c.args.self.now c.args.config.now c.mode_number-number.result c.in-Some-name_of.name c.start_behind-start.result

@@ -1,7 +1,7 @@
 use Rattle.std.proofs.Common.{◌<◌, arith}
 use Rattle.search_types.proofs.CapturesLemmas.{spans_first}
-use Rattle.search_types.proofs.IteratorLemmas.{step_from_front}
 use Rattle.search_types.proofs.captures_iter.CapturesPatternIterIterator.next.Goals as goal
+use Rattle.search_core.proofs.ForCallers.{step_goes}
 
 pub returns-clause-steps : goal.returns-clause-steps
 returns-clause-steps c =
@@ -13,4 +13,4 @@ pub returns-clause-goes : goal.returns-clause-goes
 returns-clause-goes c =
     let below : c.self.inside.next < c.self.inside.end = omega arith in
     let e = spans_first c.self.inside.captures.now c.self.inside.next c.self.inside.end below in
-    step_from_front _ _ _ (cc)
+    step_goes _ _ _ (cc)
