@@ -1,4 +1,4 @@
--- An automaton's runs from a place of a text, by how many bytes they have read: up or down.
+-- An automaton's runs from a place of a text, by how many bytes they have read: forward or in reverse.
 use Rattle.std.proofs.Common.{◌≡◌, ℕ, zero, suc, ◌+◌, ◌-◌, ◌*◌, ◌<◌, ◌≤◌, true, false, Bool, List, [], ◌∷◌, ◌++◌, length, map, if◌then◌else◌, refl, sym, ap, ◌∙◌, arith, ⊎_elim, Option, Some, None, subst}
 use Rattle.std.proofs.lemmas.Bool.{cases_Bool}
 use Rattle.std.proofs.lemmas.Bool.Decides.{Decides-ltb, leb_tells}

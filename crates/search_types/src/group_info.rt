@@ -205,7 +205,7 @@ impl GroupInfo {
     }
 
     /// The groups break no rule.
-    pub fn without_fault(&self)
+    pub(crate) fn without_fault(&self)
         ensures { group_fault self.now ≡ None }
     {
         let _ = &self.slot_len;

@@ -67,7 +67,7 @@ ComesToEnd reverse t table p = (l : List (ℕ × ℕ)) × Lists (table_ways reve
 pub record Halts (reverse : Bool) (t : Text) (table : Table) (s e : ℕ) (meant : ℕ → ℕ → Type 0) : Type 0 where
   pub halts : (i : ℕ) → ((j : ℕ) → meant i j → ComesToEnd reverse t table (j, e)) → ComesToEnd reverse t table (i, s)
 
--- From s to e the table does what the tree means. Where loops read, walks come to their end, and read up they list in the
+-- From s to e the table does what the tree means. Where loops read, walks come to their end, and read forward they list in the
 -- order that the tree prefers, up to repeats.
 pub record Denotes (reverse : Bool) (table : Table) (s e : ℕ) (x : Tree) : Type 0 where
   pub reaches : (t : Text) → Reaches reverse t table s e (IsMeant reverse t x)

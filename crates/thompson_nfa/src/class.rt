@@ -16,33 +16,26 @@ use std::alloc::{AllocError, Global};
 
 /// The last byte of a range.
 fn last_byte(range: &(u8, u8)) -> u8
-    ensures { range.now.1 < 256 }
+    ensures value { result ≡ range.now.1 }
+    ensures byte { range.now.1 < 256 }
 {
     range.1
 }
 
-/// The ranges end in bytes, as their type says. The loop does nothing.
-fn see_bytes(ranges: &[(u8, u8)])
-    ensures { All (λ r. r.1 < 256) ranges.now }
-{
-    for range in ranges {
-        let _end = last_byte(range);
-    }
-}
-
-/// A transition by each of the ranges, all to the same state.
+/// A transition by each of the ranges, which end in bytes, all to the same state.
 fn transitions(
     alloc: Global,
     ranges: &[(u8, u8)],
     next: StateID,
 ) -> Result<Vec<Transition>, AllocError>
-    ensures { IfOk result (λ v. map range_of v.items ≡ map (λ r. (r.0, r.1, next)) ranges.now) }
+    ensures each { IfOk result (λ v. map range_of v.items ≡ map (λ r. (r.0, r.1, next)) ranges.now) }
+    ensures bytes { IfOk result (λ _. All (λ r. r.1 < 256) ranges.now) }
 {
     let mut all = Vec::new(alloc);
     for range in ranges {
         all.push(Transition {
             start: range.0,
-            end: range.1,
+            end: last_byte(range),
             next,
         })?;
     }
@@ -62,14 +55,13 @@ fn add_ranges(
     ensures few { IfOk result (λ _. length ranges.now ≤ 256) }
     ensures refused { IfErr result (λ e. Stays builder.old builder.new 1 2072 e) }
 {
-    see_bytes(ranges);
     let all = transitions(alloc, ranges, next)?;
     let id = builder.add_sparse(all)?;
     Ok(id)
 }
 
-/// One state that reads a byte of the ranges, before one that stands for what follows. Read down it is the
-/// same.
+/// One state that reads a byte of the ranges, before one that stands for what follows. Read in reverse it is
+/// the same.
 #[tactic(auto, using(crate::proofs::Fragments::ClassLemmas::class_made, crate::proofs::Fragments::ClassLemmas::class_does, crate::proofs::Steps::ProgressLemmas::first_quits, crate::proofs::Fragments::ClassLemmas::class_quits))]
 pub(crate) fn byte_class(
     builder: &mut Builder,

@@ -32,8 +32,8 @@ fn bytes_of(alloc: Global, ranges: &[(char, char)]) -> Result<Vec<(u8, u8)>, All
     Ok(all)
 }
 
-/// One state that reads the byte of a scalar of the ranges, before one that stands for what follows. Read down
-/// it is the same.
+/// One state that reads the byte of a scalar of the ranges, before one that stands for what follows. Read in
+/// reverse it is the same.
 pub(crate) fn compile_ascii(
     builder: &mut Builder,
     alloc: Global,

@@ -45,6 +45,6 @@ pub(crate) fn compile_scalars(
         let shrunk = compile_scalars_shrunk(builder, alloc, trie, utf8, ranges)?;
         return Ok(shrunk);
     }
-    let is_reverse = compile_scalars_reverse(builder, alloc, &mut shared.suffixes, ranges)?;
-    Ok(is_reverse)
+    let reverse = compile_scalars_reverse(builder, alloc, &mut shared.suffixes, ranges)?;
+    Ok(reverse)
 }

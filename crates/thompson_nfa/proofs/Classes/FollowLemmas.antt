@@ -236,7 +236,7 @@ module _ (a b : Assembly) (e : ℕ) (c : SlotTable (List Transition)) (n : List 
 
 -- ---- the whole class
 
--- read up, a sequence is read as it is spelt
+-- read forward, a sequence is read as it is spelt
 spelt : (q : List (ℕ × ℕ)) → ReadsAs (read_tree false q) (sequence_tree q)
 spelt [] = record { reading = λ f. tt; ends = λ looks h i. refl }
 spelt (r ∷ q) = as_then false r (read_tree false q) (sequence_tree q) (spelt q)

@@ -263,7 +263,7 @@ module _ (back : Bool) (t : Text) (T : Table) (e : ℕ) where
     halts = λ i ends. ended_on back t T s (λ k. sparse_to trans (reads back t k)) i (goes_sparse back t T s trans is) (branch_ended trans ys all f i (reads back t i) refl ends);
   }
 
--- ---- in order, read up
+-- ---- in order, read forward
 
 module _ (t : Text) (T : Table) (e : ℕ) where
   abbrev ends : Tree → ℕ → List ℕ

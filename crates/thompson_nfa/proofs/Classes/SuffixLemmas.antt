@@ -66,7 +66,7 @@ keeps_later table longer same keeps place id key e =
     let l = k.there in
     record { new = k.new; there = omega arith; not_choice = k.not_choice; not_end = k.not_end; is = same id l k.not_choice ∙ k.is }
 
--- ---- a range read down, and then what was read before it
+-- ---- a range read in reverse, and then what was read before it
 
 range_then : (back : Bool) (T : Table) (id s m : ℕ) (r : ℕ × ℕ) (rs : List (ℕ × ℕ)) → back ≡ true → T id ≡ range_draft r.0 r.1 s →
     Denotes back T s m (sequence_tree rs) → Denotes back T id m (sequence_tree (rs ++ r ∷ []))

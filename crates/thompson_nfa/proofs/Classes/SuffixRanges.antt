@@ -1,4 +1,4 @@
--- Classes of scalars read down: the branches of the ranges that were met, and what the map keeps.
+-- Classes of scalars read in reverse: the branches of the ranges that were met, and what the map keeps.
 use Rattle.std.proofs.Common.{◌≡◌, ℕ, ◌+◌, ◌*◌, ◌<◌, true, List, [], ◌∷◌, ◌++◌, length, map, take, get_or, None, refl, sym, ap, ◌∙◌, subst, arith, append-nil, eq-eqb}
 use Rattle.std.proofs.lemmas.Grind.{flat_map-append}
 use Rattle.std.proofs.lemmas.List.{length-replicate, map-append, take_more}

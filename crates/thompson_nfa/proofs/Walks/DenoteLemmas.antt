@@ -47,7 +47,7 @@ module _ (back : Bool) (T : Table) where
         (orders_join t T s m e p q (a.orders up r.0 t) (b.orders up r.1 t));
   }
 
-  -- a tree that means the same, where read up it prefers the same ends
+  -- a tree that means the same, where read forward it prefers the same ends
   pub denotes_like_meaning : (s e : ℕ) (x y : Tree) → ((looks : Looks) (h : List ℕ) (i j : ℕ) → Means looks h y i j → Means looks h x i j) →
       ((looks : Looks) (h : List ℕ) (i j : ℕ) → Means looks h x i j → Means looks h y i j) → (LoopsRead y → LoopsRead x) →
       (back ≡ false → (looks : Looks) (h : List ℕ) (i : ℕ) → preferred_ends looks h x i ≡ preferred_ends looks h y i) → Denotes back T s e x → Denotes back T s e y

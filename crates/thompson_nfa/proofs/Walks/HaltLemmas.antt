@@ -1,4 +1,4 @@
--- Where the walk of a stack comes to its end, reading up or down: from states that are joined, where it does from their
+-- Where the walk of a stack comes to its end, reading forward or in reverse: from states that are joined, where it does from their
 -- parts.
 use Rattle.std.proofs.Common.{◌≡◌, ℕ, zero, suc, ◌<◌, ◌≤◌, Bool, true, false, List, [], ◌∷◌, ◌++◌, ◌⊎◌, inl, inr, refl, sym, subst, arith, append-nil}
 use Rattle.hir_core.specs.Means.{Rounds}

@@ -1,4 +1,4 @@
--- Relations between places read down: what leads from j to i, for one who comes from i to j above the text's start.
+-- Relations between places read in reverse: what leads from j to i, for one who comes from i to j above the text's start.
 use Rattle.std.proofs.Common.{ℕ, zero, suc, ◌≤◌, min, refl, sym, subst, arith}
 use Rattle.hir_core.specs.Means.{Rounds}
 

@@ -13,7 +13,7 @@ use Rattle.thompson_nfa.proofs.Walks.WayLemmas.{at_append, both_at, Goes}
 use Rattle.thompson_nfa.proofs.Walks.FirstsLemmas.{same_firsts_trans, same_firsts_append, same_firsts_each}
 
 module _ (t : Text) (T : Table) where
-  -- what the walk of a stack lists, read up
+  -- what the walk of a stack lists, read forward
   abbrev pub Listed : List (ℕ × ℕ) → List (ℕ × ℕ) → Type 0
   Listed stack l = Lists (table_ways false t T) (table_match T) stack l
 
