@@ -1,5 +1,6 @@
 -- States of an automaton are added one after another.
-use Rattle.std.proofs.Common.{◌≡◌, ℕ, zero, suc, ◌+◌, ◌<◌, ◌≤◌, Bool, true, false, List, [], ◌∷◌, ◌++◌, length, drop, get_or, refl, sym, ap, ◌∙◌, arith, append_assoc, append-nil, cond}
+use Rattle.std.proofs.Common.{◌≡◌, ℕ, zero, suc, ◌+◌, ◌<◌, ◌≤◌, Bool, true, false, List, [], ◌∷◌, ◌++◌, length, drop, get_or, refl, sym, ap}
+use Rattle.std.proofs.Common.{◌∙◌, arith, append_assoc, append-nil, cond}
 use Rattle.nfa_core.specs.Nfa.{Automaton}
 use Rattle.determinize_core.specs.States.{StateValue}
 use Rattle.determinize_core.specs.Steps.{is_kept, kept, looks_with}
@@ -28,17 +29,21 @@ kept_by true q xs ys zs e = ap (λ l. l) (sym (append_assoc xs (q ∷ []) ys)) �
 kept_by false q xs ys zs e = ap (λ (l : List ℕ). l ++ ys) (sym (append-nil xs)) ∙ ap (λ (l : List ℕ). (xs ++ l) ++ ys) (sym e)
 
 with_first : (a : Automaton) (q : ℕ) (qs : List ℕ) (v : StateValue) → with_each a (q ∷ qs) v ≡ with_each a qs (with_each a (q ∷ []) v)
-with_first a q qs v = ap (λ (ids : List ℕ). record v { look_need = looks_with a v.look_need (q ∷ qs); ids = ids }) (kept_by (is_kept a q) q v.ids (kept a qs) (kept a (q ∷ [])) refl)
+with_first a q qs v = ap (λ (ids : List ℕ). record v { look_need = looks_with a v.look_need (q ∷ qs); ids = ids })
+    (kept_by (is_kept a q) q v.ids (kept a qs) (kept a (q ∷ [])) refl)
 
 -- a state more was added, and in the end all were
-pub one_more : (a : Automaton) (qs : List ℕ) (k : ℕ) (v w x : StateValue) → k < length qs → with_each a (drop k qs) v ≡ w → x ≡ with_each a (get_or qs k 0 ∷ []) v →
+pub one_more : (a : Automaton) (qs : List ℕ) (k : ℕ) (v w x : StateValue) → k < length qs → with_each a (drop k qs) v ≡ w →
+    x ≡ with_each a (get_or qs k 0 ∷ []) v →
     with_each a (drop (k + 1) qs) x ≡ w
 one_more a qs k v w x within all e =
     let next : k + 1 ≡ suc k = omega arith in
     ap (λ (i : ℕ). with_each a (drop i qs) x) next
     ∙ (ap (with_each a (drop (suc k) qs)) e
-    ∙ (sym (with_first a (get_or qs k 0) (drop (suc k) qs) v) ∙ (ap (λ (l : List ℕ). with_each a l v) (sym (from_member qs k within)) ∙ all)))
+    ∙ (sym (with_first a (get_or qs k 0) (drop (suc k) qs) v) ∙ (ap (λ (l : List ℕ). with_each a l v) (sym (from_member qs k within))
+        ∙ all)))
 
 pub all_added : (a : Automaton) (qs : List ℕ) (k : ℕ) (v w : StateValue) → length qs ≤ k → with_each a (drop k qs) v ≡ w → v ≡ w
 all_added a qs k v w past all =
-    ap (λ (ids : List ℕ). record v { ids = ids }) (sym (append-nil v.ids)) ∙ (ap (λ (l : List ℕ). with_each a l v) (sym (past_all qs k past)) ∙ all)
+    ap (λ (ids : List ℕ). record v { ids = ids }) (sym (append-nil v.ids))
+        ∙ (ap (λ (l : List ℕ). with_each a l v) (sym (past_all qs k past)) ∙ all)

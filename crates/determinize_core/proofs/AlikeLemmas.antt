@@ -1,6 +1,7 @@
 -- Bytes that an automaton does not tell apart lead from a state to the same state, and a search starts in the same state behind
 -- them.
-use Rattle.std.proofs.Common.{◌≡◌, ◌≢◌, ℕ, ◌==◌, ◌&&◌, ◌||◌, true, false, Bool, not, List, [], ◌∷◌, length, Option, Some, None, refl, sym, ap, ◌∙◌, subst, arith}
+use Rattle.std.proofs.Common.{◌≡◌, ◌≢◌, ℕ, ◌==◌, ◌&&◌, ◌||◌, true, false, Bool, not, List, [], ◌∷◌, length, Option, Some, None, refl, sym}
+use Rattle.std.proofs.Common.{ap, ◌∙◌, subst, arith}
 use Rattle.std.proofs.lemmas.Bool.{ne_eqb}
 use Rattle.std.proofs.lemmas.Nat.{and_le_r}
 use Rattle.std.specs.Bool.{nat_eq}
@@ -9,10 +10,14 @@ use Rattle.std.specs.Prelude.{if◌then◌else◌}
 use Rattle.search_core.specs.Utf8.{is_word_byte}
 use Rattle.look_core.specs.Codes.{all_looks, is_anchor_lf, is_anchor_crlf, is_word_look}
 use Rattle.look_core.specs.LookSets.{IsLookSet, has_look, has_any, shared_by, without}
-use Rattle.look_core.specs.Looks.{byte_side, is_byte, is_word, is_no_word, word_if, is_edge_of_word, is_no_edge_of_word, is_start_of_word, is_end_of_word}
+use Rattle.look_core.specs.Looks.{byte_side, is_byte, is_word, is_no_word, word_if, is_edge_of_word, is_no_edge_of_word, is_start_of_word}
+use Rattle.look_core.specs.Looks.{is_end_of_word}
 use Rattle.look_core.specs.Terminators.{Terminator, ends_line}
 use Rattle.look_core.specs.declared.look.Look.{Look}
-use Rattle.look_core.specs.declared.look.Look.TheVariants.{Start as AtStart, End, StartLF, EndLF, StartCRLF, EndCRLF, WordAscii, WordAsciiNegate, WordUnicode, WordUnicodeNegate, WordStartAscii, WordEndAscii, WordStartUnicode, WordEndUnicode, WordStartHalfAscii, WordEndHalfAscii, WordStartHalfUnicode, WordEndHalfUnicode}
+use Rattle.look_core.specs.declared.look.Look.TheVariants.{Start as AtStart, End, StartLF, EndLF, StartCRLF, EndCRLF, WordAscii}
+use Rattle.look_core.specs.declared.look.Look.TheVariants.{WordAsciiNegate, WordUnicode, WordUnicodeNegate, WordStartAscii, WordEndAscii}
+use Rattle.look_core.specs.declared.look.Look.TheVariants.{WordStartUnicode, WordEndUnicode, WordStartHalfAscii, WordEndHalfAscii}
+use Rattle.look_core.specs.declared.look.Look.TheVariants.{WordStartHalfUnicode, WordEndHalfUnicode}
 use Rattle.look_core.proofs.ForCallers.{has_look-shared, has_look-without, same_members}
 use Rattle.search_types.specs.declared.match_kind.MatchKind.{MatchKind}
 use Rattle.nfa_core.specs.Alike.{AreAlike}
@@ -25,7 +30,9 @@ use Rattle.determinize_core.specs.LookBehind.{starts_of, families_of, behind_sta
 use Rattle.determinize_core.specs.Starts.{start_of}
 use Rattle.determinize_core.specs.States.{StateValue, dead}
 use Rattle.determinize_core.specs.Stepped.{IsStepped}
-use Rattle.determinize_core.specs.Steps.{first_half, second_half, known_before, known_behind, known_steps, closed, unit_steps, patterns_in, reading, gains, ids_before, families, states_behind, is_some_kept, with_states, step_value, start_value}
+use Rattle.determinize_core.specs.Steps.{first_half, second_half, known_before, known_behind, known_steps, closed, unit_steps, patterns_in}
+use Rattle.determinize_core.specs.Steps.{reading, gains, ids_before, families, states_behind, is_some_kept, with_states, step_value}
+use Rattle.determinize_core.specs.Steps.{start_value}
 use Rattle.determinize_core.specs.declared.lookbehind.Families.{Families}
 use Rattle.determinize_core.specs.declared.lookbehind.LookBehind.{LookBehind}
 use Rattle.determinize_core.proofs.DecidedLemmas.{has_family}
@@ -47,7 +54,8 @@ with_right false x y same = none x ∙ sym (none y)
     none false = refl
 
 -- a set of which a member passes a test has such a member
-passing : (s : ℕ) (test : Look → Bool) (ls : List Look) → list_any (λ l. has_look s l && test l) ls ≡ true → (l : Look) × (has_look s l ≡ true) × (test l ≡ true)
+passing : (s : ℕ) (test : Look → Bool) (ls : List Look) → list_any (λ l. has_look s l && test l) ls ≡ true → (l : Look) ×
+    (has_look s l ≡ true) × (test l ≡ true)
 passing s test [] h = let f : false ≡ true = h in cc
 passing s test (l ∷ ls) h = by_tests (has_look s l) (test l) refl refl (passing s test ls) h
   where
@@ -87,15 +95,18 @@ module _ (looks : ℕ) (t : Terminator) (b c : ℕ) (asked : AskedAlike looks t 
 module _ (a : Automaton) (k n : ℕ) (same : (l : Look) → has_look (looks_of a.states) l ≡ true → has_look k l ≡ has_look n l) where
   pub closed_alike : (qs : List ℕ) → closed a k qs ≡ closed a n qs
   closed_alike qs =
-      let ways : (q : ℕ) → known_steps a k q ≡ known_steps a n q = λ q. nothing_same (node_at a q) (has_look k) (has_look n) (λ l next e. same l ((looks_any l a).1 (q, next, e))) in
+      let ways : (q : ℕ) → known_steps a k q ≡ known_steps a n q = λ q. nothing_same (node_at a q) (has_look k) (has_look n)
+          (λ l next e. same l ((looks_any l a).1 (q, next, e))) in
       λ i. distinct nat_eq (flat_map (chain_ends nat_eq (λ q. ways q i) (length a.states) []) qs)
 
   module _ (v : StateValue) (stepped : IsStepped a v) where
     new_small : (looks : ℕ) → IsLookSet (shared_by (without looks v.look_have) v.look_need)
     new_small looks = omega (arith, and_le_r (without looks v.look_have) v.look_need, stepped.state.need)
 
-    new_has : (looks : ℕ) (l : Look) → has_look (shared_by (without looks v.look_have) v.look_need) l ≡ ((has_look looks l && not (has_look v.look_have l)) && has_look v.look_need l)
-    new_has looks l = has_look-shared (without looks v.look_have) v.look_need l ∙ ap (λ (b : Bool). b && has_look v.look_need l) (has_look-without looks v.look_have l stepped.state.have)
+    new_has : (looks : ℕ) (l : Look) → has_look (shared_by (without looks v.look_have) v.look_need) l ≡
+        ((has_look looks l && not (has_look v.look_have l)) && has_look v.look_need l)
+    new_has looks l = has_look-shared (without looks v.look_have) v.look_need l
+        ∙ ap (λ (b : Bool). b && has_look v.look_need l) (has_look-without looks v.look_have l stepped.state.have)
 
     new_alike : shared_by (without k v.look_have) v.look_need ≡ shared_by (without n v.look_have) v.look_need
     new_alike = same_members _ _ (new_small k) (new_small n)
@@ -119,10 +130,12 @@ module _ (looks : ℕ) (r : Bool) (t : Terminator) (b c : ℕ) (asked : AskedAli
   second : (l : Look) → is_anchor_crlf l ≡ true → has_look looks l ≡ true → (second_half r == b) ≡ (second_half r == c)
   second l k m = same_second looks t b c asked (has_family is_anchor_crlf looks l m k) r
 
-  word : (test : Bool → Bool) (l : Look) → is_word_look l ≡ true → has_look looks l ≡ true → (test (is_word_byte b) || there) ≡ (test (is_word_byte c) || there)
+  word : (test : Bool → Bool) (l : Look) → is_word_look l ≡ true → has_look looks l ≡ true →
+      (test (is_word_byte b) || there) ≡ (test (is_word_byte c) || there)
   word test l k m = ap (λ (x : Bool). test x || there) (asked.word (has_family is_word_look looks l m k))
 
-  decided_alike : (l : Look) → has_look looks l ≡ true → any_wanted (known_list r t w h (Some b)) l there ≡ any_wanted (known_list r t w h (Some c)) l there
+  decided_alike : (l : Look) → has_look looks l ≡ true → any_wanted (known_list r t w h (Some b)) l there ≡ any_wanted
+      (known_list r t w h (Some c)) l there
   decided_alike AtStart m = refl
   decided_alike End m = refl
   decided_alike StartLF m = refl
@@ -145,10 +158,12 @@ module _ (looks : ℕ) (r : Bool) (t : Terminator) (b c : ℕ) (asked : AskedAli
   decided_alike WordStartHalfUnicode m = refl
   decided_alike WordEndHalfUnicode m = word (λ x. is_no_word (word_if x)) WordEndHalfUnicode refl m
 
-before_alike : (looks : ℕ) (r : Bool) (t : Terminator) (b c : ℕ) → AskedAlike looks t b c → (v : StateValue) (l : Look) → has_look looks l ≡ true →
+before_alike : (looks : ℕ) (r : Bool) (t : Terminator) (b c : ℕ) → AskedAlike looks t b c → (v : StateValue) (l : Look) →
+    has_look looks l ≡ true →
     has_look (known_before r t v (Some b)) l ≡ has_look (known_before r t v (Some c)) l
 before_alike looks r t b c asked v l m =
-    known_wanted r t v (Some b) l ∙ decided_alike looks r t b c asked v.is_from_word v.is_half_crlf (has_look v.look_have l) l m ∙ sym (known_wanted r t v (Some c) l)
+    known_wanted r t v (Some b) l ∙ decided_alike looks r t b c asked v.is_from_word v.is_half_crlf (has_look v.look_have l) l m
+        ∙ sym (known_wanted r t v (Some c) l)
 
 module _ (looks : ℕ) (r : Bool) (t : Terminator) (b c : ℕ) (asked : AskedAlike looks t b c) where
   abbrev asks : Families
@@ -170,7 +185,8 @@ module _ (looks : ℕ) (r : Bool) (t : Terminator) (b c : ℕ) (asked : AskedAli
   behind_alike =
       let p = with_left asks.lines (ends_line t b) (ends_line t c) behind_line_alike in
       let q = with_left asks.crlf (second_half r == b) (second_half r == c) behind_second_alike in
-      let s = with_left asks.words (is_no_word (word_if (is_word_byte b))) (is_no_word (word_if (is_word_byte c))) (λ e. ap (λ (x : Bool). is_no_word (word_if x)) (behind_word_alike e)) in
+      let s = with_left asks.words (is_no_word (word_if (is_word_byte b))) (is_no_word (word_if (is_word_byte c)))
+          (λ e. ap (λ (x : Bool). is_no_word (word_if x)) (behind_word_alike e)) in
       λ i. starts_of (record { haystack = false; lines = p i; crlf = q i; words = s i })
 
 -- ---- steps
@@ -178,13 +194,16 @@ module _ (looks : ℕ) (r : Bool) (t : Terminator) (b c : ℕ) (asked : AskedAli
 -- a step by its parts
 abbrev made : Automaton → MatchKind → Bool → Bool → ℕ → List ℕ → List ℕ → StateValue
 made a kind word half known before after =
-    with_states a after (record { is_from_word = word; is_half_crlf = half; look_have = known; look_need = 0; matches = patterns_in kind a before; ids = [] })
+    with_states a after (record { is_from_word = word; is_half_crlf = half; look_have = known; look_need = 0;
+        matches = patterns_in kind a before; ids = [] })
 
-module _ (a : Automaton) (t : Terminator) (kind : MatchKind) (v : StateValue) (b c : ℕ) (stepped : IsStepped a v) (alike : AreAlike t a b c) where
+module _ (a : Automaton) (t : Terminator) (kind : MatchKind) (v : StateValue) (b c : ℕ) (stepped : IsStepped a v)
+    (alike : AreAlike t a b c) where
   asked : AskedAlike (looks_of a.states) t b c
   asked = asked_alike a t b c alike
 
-  known_alike : (l : Look) → has_look (looks_of a.states) l ≡ true → has_look (known_before a.reverse t v (Some b)) l ≡ has_look (known_before a.reverse t v (Some c)) l
+  known_alike : (l : Look) → has_look (looks_of a.states) l ≡ true → has_look (known_before a.reverse t v (Some b)) l ≡ has_look
+      (known_before a.reverse t v (Some c)) l
   known_alike l m = before_alike (looks_of a.states) a.reverse t b c asked v l m
 
   ids_alike : ids_before a t v (Some b) ≡ ids_before a t v (Some c)
@@ -205,7 +224,8 @@ module _ (a : Automaton) (t : Terminator) (kind : MatchKind) (v : StateValue) (b
   from_word_alike : ((families a).words && (is_word (byte_side (Some b)) && is_some_kept a (states_behind a t kind v (Some b))))
       ≡ ((families a).words && (is_word (byte_side (Some c)) && is_some_kept a (states_behind a t kind v (Some c))))
   from_word_alike = with_left (families a).words _ _
-      (λ e. let p = behind_word_alike (looks_of a.states) a.reverse t b c asked e in λ i. is_word (word_if (p i)) && is_some_kept a (states_alike i))
+      (λ e. let p = behind_word_alike (looks_of a.states) a.reverse t b c asked e in
+          λ i. is_word (word_if (p i)) && is_some_kept a (states_alike i))
 
   half_alike : ((families a).crlf && (is_byte (first_half a.reverse) (Some b) && is_some_kept a (states_behind a t kind v (Some b))))
       ≡ ((families a).crlf && (is_byte (first_half a.reverse) (Some c) && is_some_kept a (states_behind a t kind v (Some c))))
@@ -215,7 +235,8 @@ module _ (a : Automaton) (t : Terminator) (kind : MatchKind) (v : StateValue) (b
   pub step_alike : step_value a t kind v (Some b) ≡ step_value a t kind v (Some c)
   step_alike = λ i. made a kind (from_word_alike i) (half_alike i) (led_alike i) (ids_alike i) (states_alike i)
 
-pub units_step_alike : (a : Automaton) (t : Terminator) (kind : MatchKind) (v : StateValue) (u w : Option ℕ) → IsStepped a v → AreUnitsAlike a t u w →
+pub units_step_alike : (a : Automaton) (t : Terminator) (kind : MatchKind) (v : StateValue) (u w : Option ℕ) → IsStepped a v →
+    AreUnitsAlike a t u w →
     step_value a t kind v u ≡ step_value a t kind v w
 units_step_alike a t kind v None None stepped alike = refl
 units_step_alike a t kind v (Some b) (Some c) stepped alike = step_alike a t kind v b c stepped alike
@@ -259,9 +280,11 @@ by_answers f line word first second = record {
 start_is : (f : Families) (r : Bool) (t : Terminator) (b : ℕ) →
     behind_start f r t (start_of t (Some b)) ≡ by_answers f (ends_line t b) (is_word_byte b) (first_half r == b) (second_half r == b)
 start_is f r t b = start_cases f r t b (λ x. x ≡ by_answers f (ends_line t b) (is_word_byte b) (first_half r == b) (second_half r == b))
-    (λ is. subst (λ (d : ℕ). behind_line f r (ends_line t 0x0A) ≡ by_answers f (ends_line t d) (is_word_byte d) (first_half r == d) (second_half r == d)) (sym is)
+    (λ is. subst (λ (d : ℕ). behind_line f r (ends_line t 0x0A) ≡ by_answers f (ends_line t d) (is_word_byte d) (first_half r == d)
+        (second_half r == d)) (sym is)
     (λ i. by_answers f (ends_line t 0x0A) false (line_feed_first r i) (line_feed_second r i)))
-    (λ is. subst (λ (d : ℕ). behind_line f (not r) (ends_line t 0x0D) ≡ by_answers f (ends_line t d) (is_word_byte d) (first_half r == d) (second_half r == d)) (sym is)
+    (λ is. subst (λ (d : ℕ). behind_line f (not r) (ends_line t 0x0D) ≡ by_answers f (ends_line t d) (is_word_byte d) (first_half r == d)
+        (second_half r == d)) (sym is)
     (λ i. by_answers f (ends_line t 0x0D) false (carriage_first r i) (carriage_second r i)))
     (λ n m i. by_answers f (ends_line t b) (is_word_byte b) (other_first r b n m i) (other_second r b n m i))
 
@@ -275,14 +298,17 @@ module _ (looks : ℕ) (r : Bool) (t : Terminator) (b c : ℕ) (asked : AskedAli
       let l = with_right f.lines (ends_line t b) (ends_line t c) (behind_line_alike looks r t b c asked) in
       let h = with_right f.crlf (first_half r == b) (first_half r == c) (behind_first_alike looks r t b c asked) in
       let s = with_right f.crlf (second_half r == b) (second_half r == c) (behind_second_alike looks r t b c asked) in
-      λ i. record { is_from_word = p i; is_half_crlf = h i; look_have = starts_of (record { haystack = false; lines = l i; crlf = s i; words = n i }) }
+      λ i. record { is_from_word = p i; is_half_crlf = h i; look_have =
+          starts_of (record { haystack = false; lines = l i; crlf = s i; words = n i }) }
 
   start_alike : behind_start (families_of looks) r t (start_of t (Some b)) ≡ behind_start (families_of looks) r t (start_of t (Some c))
   start_alike = start_is (families_of looks) r t b ∙ answers_alike ∙ sym (start_is (families_of looks) r t c)
 
-pub units_start_alike : (a : Automaton) (t : Terminator) (q : ℕ) (u w : Option ℕ) → AreUnitsAlike a t u w → start_value a t (start_of t u) q ≡ start_value a t (start_of t w) q
+pub units_start_alike : (a : Automaton) (t : Terminator) (q : ℕ) (u w : Option ℕ) → AreUnitsAlike a t u w →
+    start_value a t (start_of t u) q ≡ start_value a t (start_of t w) q
 units_start_alike a t q None None alike = refl
 units_start_alike a t q (Some b) (Some c) alike =
-    ap (λ (k : LookBehind). with_states a (closed a k.look_have (q ∷ [])) (with_look_behind k dead)) (start_alike (looks_of a.states) a.reverse t b c (asked_alike a t b c alike))
+    ap (λ (k : LookBehind). with_states a (closed a k.look_have (q ∷ [])) (with_look_behind k dead))
+        (start_alike (looks_of a.states) a.reverse t b c (asked_alike a t b c alike))
 units_start_alike a t q None (Some c) alike = absurd alike
 units_start_alike a t q (Some b) None alike = absurd alike

@@ -1,5 +1,6 @@
 -- Captures are passed through: each leads to the state that stands for it, or goes round.
-use Rattle.std.proofs.Common.{◌≡◌, ℕ, zero, suc, ◌<◌, ◌≤◌, true, false, Bool, not, List, [], ◌∷◌, length, refl, sym, ap, ◌∙◌, arith, ◌⊎◌, inl, inr, ⊎_elim, subst, if◌then◌else◌}
+use Rattle.std.proofs.Common.{◌≡◌, ℕ, zero, suc, ◌<◌, ◌≤◌, true, false, Bool, not, List, [], ◌∷◌, length, refl, sym, ap, ◌∙◌, arith, ◌⊎◌}
+use Rattle.std.proofs.Common.{inl, inr, ⊎_elim, subst, if◌then◌else◌}
 use Rattle.std.proofs.lemmas.Bool.{cases_Bool}
 use Rattle.std.proofs.lemmas.List.{append-nil}
 use Rattle.std.specs.List.{flat_map}
@@ -7,7 +8,8 @@ use Rattle.std.specs.Bool.{nat_eq}
 use Rattle.look_core.specs.declared.look.Look.{Look}
 use Rattle.nfa_core.specs.Walks.{Has, HasNoneTwice}
 use Rattle.nfa_core.specs.Late.{IsHead, IsPassedThrough}
-use Rattle.nfa_core.specs.Nfa.{Node, byte_range, sparse_node, dense_node, look_node, union_node, binary_union, capture_node, fail_node, match_node, Automaton, node_at, leads_to, IsWellFormed}
+use Rattle.nfa_core.specs.Nfa.{Node, byte_range, sparse_node, dense_node, look_node, union_node, binary_union, capture_node, fail_node}
+use Rattle.nfa_core.specs.Nfa.{match_node, Automaton, node_at, leads_to, IsWellFormed}
 use Rattle.nfa_core.specs.NfaValue.{is_capture}
 use Rattle.nfa_core.specs.Ways.{on_nothing}
 use Rattle.nfa_core.proofs.ForCallers.{none_in, not_both, has_or_not, has_first, has_one, of_cons, names_equal, finite_names}
@@ -70,7 +72,8 @@ module _ (a : Automaton) where
   trail_once : (m x : ℕ) → EndsIn m x → HasNoneTwice nat_eq (trail m x)
   trail_once zero x d = (refl, tt)
   trail_once (suc m) x d = (
-    ⊎_elim (λ (back : Has nat_eq x (trail m (next x))). let r = on_trail m (next x) d.1 x back in let l = r.1 in let e : r.0 ≡ suc m = one_length r.0 (suc m) x r.2 d in absurd (omega (arith, l, e)))
+    ⊎_elim (λ (back : Has nat_eq x (trail m (next x))). let r = on_trail m (next x) d.1 x back in let l = r.1 in
+        let e : r.0 ≡ suc m = one_length r.0 (suc m) x r.2 d in absurd (omega (arith, l, e)))
         (λ e. e) (has_or_not nat_eq x (trail m (next x))),
     trail_once m (next x) d.1,
   )
@@ -110,7 +113,8 @@ module _ (a : Automaton) where
   to_is_kept : (f x q : ℕ) → Has nat_eq q (to_within f x) → is_kept a q ≡ true
   to_is_kept zero x q h = none_in nat_eq q _ h
   to_is_kept (suc f) x q h = ⊎_elim
-      (λ (e : is_kept a x ≡ true). let g : Has nat_eq q (x ∷ []) = (rw e at h) in let i : q ≡ x = has_one nat_eq names_equal q x g in ap (is_kept a) i ∙ e)
+      (λ (e : is_kept a x ≡ true). let g : Has nat_eq q (x ∷ []) = (rw e at h) in let i : q ≡ x = has_one nat_eq names_equal q x g in
+          ap (is_kept a) i ∙ e)
       (λ (e : is_kept a x ≡ false). to_is_kept f (next x) q (rw e at h)) (cases_Bool (is_kept a x))
 
   search_end : (f x : ℕ) → ((m : ℕ) × (m < f) × EndsIn m x) ⊎ ((m : ℕ) → m < f → EndsIn m x → ⊥)
@@ -134,7 +138,8 @@ module _ (a : Automaton) where
 
     near : (m x : ℕ) → x < length a.states → EndsIn m x → m < length a.states
     near m x low d =
-        let l : length (trail m x) ≤ length a.states = (finite_names (length a.states) (λ q. []) (λ q g y h. none_in nat_eq y _ h)).room (trail m x) (trail_below m x low d) (trail_once m x d) in
+        let l : length (trail m x) ≤ length a.states = (finite_names (length a.states) (λ q. []) (λ q g y h. none_in nat_eq y _ h)).room
+            (trail m x) (trail_below m x low d) (trail_once m x d) in
         let e = trail_length m x in omega (arith, l, e)
 
     -- what stands for a state, and how many captures stand before it
@@ -174,9 +179,11 @@ module _ (a : Automaton) where
         (here ∙ sym there, inl here))
         (search_end (length a.states) (next x))
 
-    pub passed_through : (passed : Look → Bool) (x : ℕ) → is_kept a x ≡ false → IsPassedThrough (λ q. on_nothing (node_at a q) passed) to rank x
+    pub passed_through : (passed : Look → Bool) (x : ℕ) → is_kept a x ≡ false →
+        IsPassedThrough (λ q. on_nothing (node_at a q) passed) to rank x
     passed_through passed x k =
         let leads : on_nothing (node_at a x) passed ≡ next x ∷ [] = capture_leads (node_at a x) passed k in
         let f = follows x k in
-        let P : List ℕ → Type 0 = λ l. (to x ≡ flat_map to l) × ((to x ≡ []) ⊎ ((z : ℕ) × (to x ≡ to z) × (rank z < rank x) × IsHead z l)) in
+        let P : List ℕ → Type 0 = λ l. (to x ≡ flat_map to l) × ((to x ≡ []) ⊎
+            ((z : ℕ) × (to x ≡ to z) × (rank z < rank x) × IsHead z l)) in
         subst P (sym leads) (f.0 ∙ sym (append-nil (to (next x))), ⊎_elim (λ none. inl none) (λ less. inr (next x, f.0, less, refl)) f.1)

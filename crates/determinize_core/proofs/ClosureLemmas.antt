@@ -1,5 +1,6 @@
 -- The walk with a stack over the states of an automaton, where some looks are known to hold.
-use Rattle.std.proofs.Common.{◌≡◌, ℕ, ◌+◌, ◌<◌, ◌≤◌, true, false, Bool, List, [], ◌∷◌, ◌++◌, length, drop, refl, sym, ap, ◌∙◌, arith, subst, cond, Some, None, append_assoc, append-nil, length-append}
+use Rattle.std.proofs.Common.{◌≡◌, ℕ, ◌+◌, ◌<◌, ◌≤◌, true, false, Bool, List, [], ◌∷◌, ◌++◌, length, drop, refl, sym, ap, ◌∙◌, arith, subst}
+use Rattle.std.proofs.Common.{cond, Some, None, append_assoc, append-nil, length-append}
 use Rattle.std.proofs.lemmas.List.Sums.{sum_by_push}
 use Rattle.std.proofs.Math.Seq.{drop-append_seam}
 use Rattle.std.specs.Bool.{nat_eq}
@@ -7,7 +8,8 @@ use Rattle.look_core.specs.declared.look.Look.{Look}
 use Rattle.look_core.specs.LookSets.{has_look}
 use Rattle.nfa_core.specs.Walks.{Has, Visits, done}
 use Rattle.nfa_core.specs.Places.{StaysBelow}
-use Rattle.nfa_core.specs.Nfa.{Node, byte_range, sparse_node, dense_node, look_node, union_node, binary_union, capture_node, fail_node, match_node, Automaton, node_at, leads_to, IsWellFormed}
+use Rattle.nfa_core.specs.Nfa.{Node, byte_range, sparse_node, dense_node, look_node, union_node, binary_union, capture_node, fail_node}
+use Rattle.nfa_core.specs.Nfa.{match_node, Automaton, node_at, leads_to, IsWellFormed}
 use Rattle.nfa_core.specs.Ways.{on_nothing}
 use Rattle.nfa_core.specs.Reached.{AreBelow, Meets}
 use Rattle.nfa_core.proofs.ForCallers.{none_in, of_cons, of_append, names_equal, nothing_led}
@@ -26,7 +28,8 @@ known_below a looks formed = λ q low r way. formed q r (nothing_led (node_at a 
 -- counted.
 pub record StandsAt (a : Automaton) (looks start : ℕ) (seen : List ℕ) (before : ℕ) (stack met : List ℕ) (now : ℕ) : Type 0 where
   pub below : AreBelow (length a.states) stack
-  pub walk : (after : List ℕ) → Visits nat_eq (known_steps a looks) stack met after → Visits nat_eq (known_steps a looks) (start ∷ []) seen after
+  pub walk : (after : List ℕ) → Visits nat_eq (known_steps a looks) stack met after →
+      Visits nat_eq (known_steps a looks) (start ∷ []) seen after
   pub grown : (more : List ℕ) × (met ≡ seen ++ more) × (now + length stack ≡ before + 1 + known_ways a looks more)
 
 module _ (a : Automaton) (looks start : ℕ) (seen : List ℕ) (before : ℕ) where
@@ -38,15 +41,21 @@ module _ (a : Automaton) (looks start : ℕ) (seen : List ℕ) (before : ℕ) wh
   }
 
   module _ (stack met later new : List ℕ) (now then : ℕ) (stands : StandsAt a looks start seen before stack met now) where
-    pub goes_on : (next : List ℕ) (q : ℕ) (node : Node) → IsWellFormed a → q < length a.states → AreBelow (length a.states) later → Meets stack met later new (Some q) →
-        then + length later ≡ now + length stack → node ≡ node_at a q → next ≡ on_nothing node (has_look looks) ++ later → StandsAt a looks start seen before next new then
+    pub goes_on : (next : List ℕ) (q : ℕ) (node : Node) → IsWellFormed a → q < length a.states → AreBelow (length a.states) later →
+        Meets stack met later new (Some q) →
+        then + length later ≡ now + length stack → node ≡ node_at a q → next ≡ on_nothing node (has_look looks) ++ later →
+            StandsAt a looks start seen before next new then
     goes_on next q node formed low below m cost is e =
         let steps : next ≡ known_steps a looks q ++ later = e ∙ ap (λ w. on_nothing w (has_look looks) ++ later) is in
-        let len : length next ≡ length (known_steps a looks q) + length later = ap length steps ∙ length-append (known_steps a looks q) later in
-        let sum : known_ways a looks (stands.grown.0 ++ q ∷ []) ≡ known_ways a looks stands.grown.0 + length (known_steps a looks q) = sum_by_push (λ p. length (known_steps a looks p)) stands.grown.0 q in
+        let len : length next ≡ length (known_steps a looks q) + length later =
+            ap length steps ∙ length-append (known_steps a looks q) later in
+        let sum : known_ways a looks (stands.grown.0 ++ q ∷ []) ≡ known_ways a looks stands.grown.0 + length (known_steps a looks q) =
+            sum_by_push (λ p. length (known_steps a looks p)) stands.grown.0 q in
         record {
-          below = λ r h. of_append nat_eq names_equal (λ p. p < length a.states) (known_steps a looks q) later (λ p way. known_below a looks formed q low p way) below r (rw steps at h);
-          walk = λ after v. stands.walk after (m.1 (known_steps a looks) after (subst (λ (stack : List ℕ). Visits nat_eq (known_steps a looks) stack new after) steps v));
+          below = λ r h. of_append nat_eq names_equal (λ p. p < length a.states) (known_steps a looks q) later
+              (λ p way. known_below a looks formed q low p way) below r (rw steps at h);
+          walk = λ after v. stands.walk after (m.1 (known_steps a looks) after
+              (subst (λ (stack : List ℕ). Visits nat_eq (known_steps a looks) stack new after) steps v));
           grown = (
             stands.grown.0 ++ q ∷ [],
             m.0 ∙ (ap (λ (l : List ℕ). l ++ q ∷ []) stands.grown.1 ∙ append_assoc seen stands.grown.0 (q ∷ [])),
@@ -55,9 +64,11 @@ module _ (a : Automaton) (looks start : ℕ) (seen : List ℕ) (before : ℕ) wh
         }
 
     pub ends : Meets stack met later new None → Visits nat_eq (known_steps a looks) (start ∷ []) seen new
-    ends m = stands.walk new (m.2 (known_steps a looks) new (subst (λ (l : List ℕ). Visits nat_eq (known_steps a looks) l new new) (sym m.0) (done new new refl)))
+    ends m = stands.walk new (m.2 (known_steps a looks) new (subst (λ (l : List ℕ). Visits nat_eq (known_steps a looks) l new new) (sym m.0)
+        (done new new refl)))
 
-    pub counts : Meets stack met later new None → then + length later ≡ now + length stack → then ≤ before + 1 + known_ways a looks (drop (length seen) new)
+    pub counts : Meets stack met later new None → then + length later ≡ now + length stack →
+        then ≤ before + 1 + known_ways a looks (drop (length seen) new)
     counts m cost =
         let all : new ≡ seen ++ stands.grown.0 = m.1 ∙ stands.grown.1 in
         let rest : drop (length seen) new ≡ stands.grown.0 = ap (drop (length seen)) all ∙ drop-append_seam seen stands.grown.0 in
@@ -72,13 +83,16 @@ module _ (a : Automaton) (looks start : ℕ) (seen : List ℕ) (before : ℕ) wh
     -- the same where the walk is cut off behind a state that was met
     module _ (q : ℕ) (m : Meets stack met later new (Some q)) where
       pub cut_grown : (more : List ℕ) × (new ≡ seen ++ more)
-      cut_grown = (stands.grown.0 ++ q ∷ [], m.0 ∙ (ap (λ (l : List ℕ). l ++ q ∷ []) stands.grown.1 ∙ append_assoc seen stands.grown.0 (q ∷ [])))
+      cut_grown = (stands.grown.0 ++ q ∷ [], m.0 ∙ (ap (λ (l : List ℕ). l ++ q ∷ []) stands.grown.1
+          ∙ append_assoc seen stands.grown.0 (q ∷ [])))
 
       pub cut_counts : then + length later ≡ now + length stack → then ≤ before + 1 + known_ways a looks (drop (length seen) new)
       unfolding cut_grown
       cut_counts cost =
-          let rest : drop (length seen) new ≡ stands.grown.0 ++ q ∷ [] = ap (drop (length seen)) cut_grown.1 ∙ drop-append_seam seen (stands.grown.0 ++ q ∷ []) in
-          let ways : known_ways a looks (drop (length seen) new) ≡ known_ways a looks (stands.grown.0 ++ q ∷ []) = ap (known_ways a looks) rest in
+          let rest : drop (length seen) new ≡ stands.grown.0 ++ q ∷ [] =
+              ap (drop (length seen)) cut_grown.1 ∙ drop-append_seam seen (stands.grown.0 ++ q ∷ []) in
+          let ways : known_ways a looks (drop (length seen) new) ≡ known_ways a looks (stands.grown.0 ++ q ∷ []) =
+              ap (known_ways a looks) rest in
           let sum : known_ways a looks (stands.grown.0 ++ q ∷ []) ≡ known_ways a looks stands.grown.0 + length (known_steps a looks q) =
           sum_by_push (λ p. length (known_steps a looks p)) stands.grown.0 q in
           omega (arith, cost, ways, sum, stands.grown.2)

@@ -13,7 +13,8 @@ use Rattle.determinize_core.specs.Starts.{start_of}
 use Rattle.determinize_core.specs.LookBehind.{families_of, look_behind, is_decided}
 use Rattle.determinize_core.specs.declared.lookbehind.LookBehind.{LookBehind}
 use Rattle.determinize_core.proofs.EdgeLemmas.{none_before, none_at}
-use Rattle.determinize_core.proofs.ExactLemmas.{first_half, second_half, edge_exact, lines_exact, crlf_exact, half_exact, ascii_exact, unicode_exact, word_exact}
+use Rattle.determinize_core.proofs.ExactLemmas.{first_half, second_half, edge_exact, lines_exact, crlf_exact, half_exact, ascii_exact}
+use Rattle.determinize_core.proofs.ExactLemmas.{unicode_exact, word_exact}
 
 -- ---- a family of which there is a member
 
@@ -62,15 +63,20 @@ module _ (looks : ℕ) (reverse : Bool) (t : Terminator) (o : Option ℕ) where
   decided edge WordStartHalfUnicode = is_no_word (byte_side o)
   decided edge _ = false
 
-  pub known_looks : (edge : Bool) → is_none o ≡ edge → (l : Look) → is_decided l ≡ true → has_look looks l ≡ true → has_look known.look_have l ≡ decided edge l
+  pub known_looks : (edge : Bool) → is_none o ≡ edge → (l : Look) → is_decided l ≡ true → has_look looks l ≡ true →
+      has_look known.look_have l ≡ decided edge l
   known_looks edge n AtStart d m =
-      edge_exact (families_of looks) reverse t o ∙ with_family _ _ (haystack_is looks ∙ has_family is_anchor_haystack looks AtStart m refl) ∙ n
+      edge_exact (families_of looks) reverse t o ∙ with_family _ _ (haystack_is looks ∙ has_family is_anchor_haystack looks AtStart m refl)
+          ∙ n
   known_looks edge n StartLF d m =
-      lines_exact (families_of looks) reverse t o ∙ with_family _ _ (lines_is looks ∙ has_family is_anchor_lf looks StartLF m refl) ∙ ap (λ b. b || is_line_end t o) n
+      lines_exact (families_of looks) reverse t o ∙ with_family _ _ (lines_is looks ∙ has_family is_anchor_lf looks StartLF m refl)
+          ∙ ap (λ b. b || is_line_end t o) n
   known_looks edge n WordStartHalfAscii d m =
-      ascii_exact (families_of looks) reverse t o ∙ with_family _ _ (words_is looks ∙ has_family is_word_look looks WordStartHalfAscii m refl)
+      ascii_exact (families_of looks) reverse t o ∙ with_family _ _ (words_is looks
+          ∙ has_family is_word_look looks WordStartHalfAscii m refl)
   known_looks edge n WordStartHalfUnicode d m =
-      unicode_exact (families_of looks) reverse t o ∙ with_family _ _ (words_is looks ∙ has_family is_word_look looks WordStartHalfUnicode m refl)
+      unicode_exact (families_of looks) reverse t o ∙ with_family _ _ (words_is looks
+          ∙ has_family is_word_look looks WordStartHalfUnicode m refl)
   known_looks edge n _ d m = let none : ⊥ = cc in absurd none
 
   pub known_crlf : (edge : Bool) → is_none o ≡ edge → has_any is_anchor_crlf looks ≡ true →
@@ -102,7 +108,8 @@ decided_in_reverse looks t h WordStartHalfAscii i d = refl
 decided_in_reverse looks t h WordStartHalfUnicode i d = refl
 decided_in_reverse looks t h _ i d = let none : ⊥ = cc in absurd none
 
-pub looks_forward : (looks : ℕ) (t : Terminator) (h : List ℕ) (l : Look) (i : ℕ) → i ≤ length h → is_decided l ≡ true → has_look looks l ≡ true →
+pub looks_forward : (looks : ℕ) (t : Terminator) (h : List ℕ) (l : Look) (i : ℕ) → i ≤ length h → is_decided l ≡ true →
+    has_look looks l ≡ true →
     has_look (look_behind looks false t (start_of t (byte_before h i))).look_have l ≡ holds_ascii t h l i
 looks_forward looks t h l i within d m =
     known_looks looks false t (byte_before h i) (i == 0) (none_before h i within) l d m ∙ decided_forward looks t h l i d
@@ -111,7 +118,8 @@ pub crlf_forward : (looks : ℕ) (t : Terminator) (h : List ℕ) (i : ℕ) → i
     has_look (look_behind looks false t (start_of t (byte_before h i))).look_have StartCRLF ≡ ((i == 0) || is_byte 0x0A (byte_before h i))
 crlf_forward looks t h i within m = known_crlf looks false t (byte_before h i) (i == 0) (none_before h i within) m
 
-pub looks_in_reverse : (looks : ℕ) (t : Terminator) (h : List ℕ) (l : Look) (i : ℕ) → i ≤ length h → is_decided l ≡ true → has_look looks l ≡ true →
+pub looks_in_reverse : (looks : ℕ) (t : Terminator) (h : List ℕ) (l : Look) (i : ℕ) → i ≤ length h → is_decided l ≡ true →
+    has_look looks l ≡ true →
     has_look (look_behind looks true t (start_of t (byte_at h i))).look_have l ≡ holds_ascii t h (reversed l) i
 looks_in_reverse looks t h l i within d m =
     known_looks looks true t (byte_at h i) (i == length h) (none_at h i within) l d m ∙ decided_in_reverse looks t h l i d

@@ -1,6 +1,7 @@
 -- A powerset state's states, closed anew by what the unit ahead decides, are those that closing its entries under all looks
 -- would have given, but for captures.
-use Rattle.std.proofs.Common.{◌≡◌, ℕ, ◌==◌, ◌&&◌, ◌||◌, true, false, Bool, not, List, [], ◌∷◌, length, Option, refl, sym, ap, ◌∙◌, ⊎_elim, subst, if◌then◌else◌}
+use Rattle.std.proofs.Common.{◌≡◌, ℕ, ◌==◌, ◌&&◌, ◌||◌, true, false, Bool, not, List, [], ◌∷◌, length, Option, refl, sym, ap, ◌∙◌, ⊎_elim}
+use Rattle.std.proofs.Common.{subst, if◌then◌else◌}
 use Rattle.std.proofs.lemmas.Bool.{cases_Bool, eqb-true, eq-eqb, or_left, or_right, not-false}
 use Rattle.std.specs.Int.Bits.{and_zero_r, or_zero_r}
 use Rattle.std.specs.List.{filter}
@@ -11,19 +12,23 @@ use Rattle.look_core.specs.LookSets.{IsLookSet, has_look, union_of, shared_by, w
 use Rattle.look_core.proofs.ForCallers.{has_look-none, has_look-union, has_look-shared, has_look-without, has_look-repr}
 use Rattle.nfa_core.specs.Walks.{Has, Visits}
 use Rattle.nfa_core.specs.Places.{StaysBelow}
-use Rattle.nfa_core.specs.Nfa.{Node, byte_range, sparse_node, dense_node, look_node, union_node, binary_union, capture_node, fail_node, match_node, Automaton, node_at, IsWellFormed}
+use Rattle.nfa_core.specs.Nfa.{Node, byte_range, sparse_node, dense_node, look_node, union_node, binary_union, capture_node, fail_node}
+use Rattle.nfa_core.specs.Nfa.{match_node, Automaton, node_at, IsWellFormed}
 use Rattle.nfa_core.specs.NfaValue.{look_of, looks_of, is_capture}
 use Rattle.nfa_core.specs.Ways.{on_nothing}
-use Rattle.nfa_core.proofs.ForCallers.{none_in, not_both, has_cons, has_first, has_later, of_cons, names_equal, nothing_led, looks_any, one_after, stays_closed, kept_close_anew, nothing_same}
+use Rattle.nfa_core.proofs.ForCallers.{none_in, not_both, has_cons, has_first, has_later, of_cons, names_equal, nothing_led, looks_any}
+use Rattle.nfa_core.proofs.ForCallers.{one_after, stays_closed, kept_close_anew, nothing_same}
 use Rattle.determinize_core.specs.States.{StateValue}
-use Rattle.determinize_core.specs.Steps.{known_before, known_steps, closed, is_kept, kept, looks_with, have_if, gains, ids_before, is_some_kept}
+use Rattle.determinize_core.specs.Steps.{known_before, known_steps, closed, is_kept, kept, looks_with, have_if, gains, ids_before}
+use Rattle.determinize_core.specs.Steps.{is_some_kept}
 use Rattle.determinize_core.proofs.MadeLemmas.{AreBelow, walk_made}
 use Rattle.determinize_core.proofs.CaptureLemmas.{to, rank, to_self, to_kept, passed_through}
 use Rattle.determinize_core.proofs.PassedLemmas.{passed_by, told_holds, IsTold, IsFlagged, known_passed}
 
 -- ---- ways by the looks that hold
 
-way_grows : (p r : Bool) (next z : ℕ) → (p ≡ true → r ≡ true) → Has nat_eq z (if p then next ∷ [] else []) → Has nat_eq z (if r then next ∷ [] else [])
+way_grows : (p r : Bool) (next z : ℕ) → (p ≡ true → r ≡ true) → Has nat_eq z (if p then next ∷ [] else []) →
+    Has nat_eq z (if r then next ∷ [] else [])
 way_grows true r next z all h = let e : r ≡ true = all refl in rw e h
 way_grows false r next z all h = none_in nat_eq z _ h
 
@@ -39,7 +44,8 @@ ways_grow (capture_node next pattern group slot) p r all z h = h
 ways_grow fail_node p r all z h = h
 ways_grow (match_node pattern) p r all z h = h
 
-pub stays_below : (a : Automaton) → IsWellFormed a → (passed : Look → Bool) → StaysBelow (length a.states) (λ q. on_nothing (node_at a q) passed)
+pub stays_below : (a : Automaton) → IsWellFormed a → (passed : Look → Bool) →
+    StaysBelow (length a.states) (λ q. on_nothing (node_at a q) passed)
 stays_below a formed passed x low y h = formed x y (nothing_led (node_at a x) passed y h)
 
 -- ---- the looks of states
@@ -53,10 +59,12 @@ module _ (a : Automaton) (l : Look) where
   has_old [] s h = h
   has_old (q ∷ qs) s h = has_old qs (union_of s (look_of (node_at a q))) (has_look-union s (look_of (node_at a q)) l ∙ or_left _ _ h)
 
-  pub has_its_look : (qs : List ℕ) (s x : ℕ) → Has nat_eq x qs → has_look (look_of (node_at a x)) l ≡ true → has_look (looks_with a s qs) l ≡ true
+  pub has_its_look : (qs : List ℕ) (s x : ℕ) → Has nat_eq x qs → has_look (look_of (node_at a x)) l ≡ true →
+      has_look (looks_with a s qs) l ≡ true
   has_its_look [] s x there h = none_in nat_eq x _ there
   has_its_look (q ∷ qs) s x there h = ⊎_elim
-      (λ (e : x ≡ q). has_old qs (union_of s (look_of (node_at a q))) (has_look-union s (look_of (node_at a q)) l ∙ or_right _ _ (ap (λ y. has_look (look_of (node_at a y)) l) (sym e) ∙ h)))
+      (λ (e : x ≡ q). has_old qs (union_of s (look_of (node_at a q))) (has_look-union s (look_of (node_at a q)) l
+          ∙ or_right _ _ (ap (λ y. has_look (look_of (node_at a y)) l) (sym e) ∙ h)))
       (λ later. has_its_look qs (union_of s (look_of (node_at a q))) x later h) (has_cons nat_eq names_equal x q qs there)
 
 pub capture_looks : (node : Node) → not (is_capture node) ≡ false → look_of node ≡ 0
@@ -77,7 +85,8 @@ captures_alone a (q ∷ qs) s none = ⊎_elim
     (λ (e : is_kept a q ≡ true). not_both (is_some_kept a (q ∷ qs)) _ (or_left _ _ e) none)
     (λ (e : is_kept a q ≡ false).
     let rest : is_some_kept a qs ≡ false = (rw e at none) in
-    ap (λ w. looks_with a (union_of s w) qs) (capture_looks (node_at a q) e) ∙ ap (λ w. looks_with a w qs) (or_zero_r s) ∙ captures_alone a qs s rest)
+    ap (λ w. looks_with a (union_of s w) qs) (capture_looks (node_at a q) e) ∙ ap (λ w. looks_with a w qs) (or_zero_r s)
+        ∙ captures_alone a qs s rest)
     (cases_Bool (is_kept a q))
 
 -- ---- what is gained
@@ -94,12 +103,14 @@ not_gained true false n e m f = sym m ∙ e
 not_gained false q n e m f = refl
 
 -- where nothing is gained, a needed look that becomes known was known
-nothing_gained : (known have need : ℕ) (l : Look) → IsLookSet have → not (shared_by (without known have) need == 0) ≡ false → has_look need l ≡ true →
+nothing_gained : (known have need : ℕ) (l : Look) → IsLookSet have → not (shared_by (without known have) need == 0) ≡ false →
+    has_look need l ≡ true →
     has_look have l ≡ false → has_look known l ≡ false
 nothing_gained known have need l small none m f =
     let z : shared_by (without known have) need ≡ 0 = eqb-true (shared_by (without known have) need) 0 (not-false _ none) in
     let e : ((has_look known l && not (has_look have l)) && has_look need l) ≡ false =
-    ap (λ b. b && has_look need l) (sym (has_look-without known have l small)) ∙ sym (has_look-shared (without known have) need l) ∙ ap (λ s. has_look s l) z ∙ has_look-none l in
+    ap (λ b. b && has_look need l) (sym (has_look-without known have l small)) ∙ sym (has_look-shared (without known have) need l)
+        ∙ ap (λ s. has_look s l) z ∙ has_look-none l in
     not_gained (has_look known l) (has_look have l) (has_look need l) e m f
 
 -- ---- a state and what it was made of
@@ -127,7 +138,8 @@ has_kept keep (x ∷ xs) q h = ⊎_elim
     (λ y g. has_later nat_eq y x xs (has_kept keep xs y g)) q (rw e at h))
     (λ (e : keep x ≡ false). has_later nat_eq q x xs (has_kept keep xs q (rw e at h))) (cases_Bool (keep x))
 
-module _ (a : Automaton) (formed : IsWellFormed a) (t : Terminator) (o u : Option ℕ) (have : ℕ) (entries : List ℕ) (v : StateValue) (s : IsStateOf a t o have entries v) where
+module _ (a : Automaton) (formed : IsWellFormed a) (t : Terminator) (o u : Option ℕ) (have : ℕ) (entries : List ℕ) (v : StateValue)
+    (s : IsStateOf a t o have entries v) where
   abbrev asked : ℕ
   asked = looks_of a.states
 
@@ -151,12 +163,14 @@ module _ (a : Automaton) (formed : IsWellFormed a) (t : Terminator) (o u : Optio
 
   needs : (l : Look) → has_look v.look_need l ≡ true → (v.look_need == 0) ≡ false
   needs l h = ⊎_elim
-      (λ (z : (v.look_need == 0) ≡ true). not_both (has_look v.look_need l) _ h (ap (λ n. has_look n l) (eqb-true v.look_need 0 z) ∙ has_look-none l))
+      (λ (z : (v.look_need == 0) ≡ true). not_both (has_look v.look_need l) _ h (ap (λ n. has_look n l) (eqb-true v.look_need 0 z)
+          ∙ has_look-none l))
       (λ z. z) (cases_Bool (v.look_need == 0))
 
   some_kept : (v.look_need == 0) ≡ false → is_some_kept a states ≡ true
   some_kept some = ⊎_elim (λ e. e)
-      (λ (none : is_some_kept a states ≡ false). not_both (v.look_need == 0) _ (eq-eqb v.look_need 0 (s.need ∙ captures_alone a states 0 none)) some) (cases_Bool (is_some_kept a states))
+      (λ (none : is_some_kept a states ≡ false). not_both (v.look_need == 0) _
+          (eq-eqb v.look_need 0 (s.need ∙ captures_alone a states 0 none)) some) (cases_Bool (is_some_kept a states))
 
   has_is : (v.look_need == 0) ≡ false → v.look_have ≡ have
   has_is some = s.has ∙ chosen (v.look_need == 0) some
@@ -193,12 +207,14 @@ module _ (a : Automaton) (formed : IsWellFormed a) (t : Terminator) (o u : Optio
       (cases_Bool (has_look have l)))
 
   gained_needs : gains v known ≡ true → (v.look_need == 0) ≡ false
-  gained_needs g = ⊎_elim (λ (z : (v.look_need == 0) ≡ true). absurd (no_zero (without known v.look_have) v.look_need (eqb-true v.look_need 0 z) g)) (λ z. z) (cases_Bool (v.look_need == 0))
+  gained_needs g = ⊎_elim (λ (z : (v.look_need == 0) ≡ true). absurd (no_zero (without known v.look_have) v.look_need
+      (eqb-true v.look_need 0 z) g)) (λ z. z) (cases_Bool (v.look_need == 0))
 
   kept_low : AreBelow (length a.states) states → AreBelow (length a.states) (kept a states)
   kept_low low q h = low q (has_kept (is_kept a) states q h)
 
-  pub closes : AreBelow (length a.states) states → (after : List ℕ) → Visits nat_eq full entries [] after → kept a (ids_before a t v u) ≡ kept a after
+  pub closes : AreBelow (length a.states) states → (after : List ℕ) → Visits nat_eq full entries [] after →
+      kept a (ids_before a t v u) ≡ kept a after
   closes low after w = ⊎_elim
       (λ (g : gains v known ≡ true).
       let some = gained_needs g in
@@ -210,10 +226,12 @@ module _ (a : Automaton) (formed : IsWellFormed a) (t : Terminator) (o u : Optio
       (λ x h. nothing_same (node_at a x) (has_look known) passed (λ l next e. knows some l (is_asked x l next e))) in
       let e : ids_before a t v u ≡ again = rw g (ap (closed a known) s.ids) in
       ap (kept a) e
-      ∙ kept_close_anew nat_eq names_equal (is_kept a) (to a formed) (rank a formed) (to_self a formed) (to_kept a formed) (known_steps a have) full grows
+      ∙ kept_close_anew nat_eq names_equal (is_kept a) (to a formed) (rank a formed) (to_self a formed) (to_kept a formed)
+          (known_steps a have) full grows
       (passed_through a formed (has_look have)) (passed_through a formed passed) entries states after again first_visits w by_full)
       (λ (none : gains v known ≡ false).
-      let by_full : Visits nat_eq full entries [] states = stays_closed nat_eq names_equal (known_steps a have) full first_visits (alike_there none) in
+      let by_full : Visits nat_eq full entries [] states = stays_closed nat_eq names_equal (known_steps a have) full first_visits
+          (alike_there none) in
       let same : states ≡ after = one_after nat_eq full by_full after w in
       let e : ids_before a t v u ≡ kept a states = rw none s.ids in
       ap (kept a) e ∙ kept_twice (is_kept a) states ∙ ap (kept a) same)

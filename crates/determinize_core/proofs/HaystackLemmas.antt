@@ -1,5 +1,6 @@
 -- A walk over bytes is a walk over a haystack that has them.
-use Rattle.std.proofs.Common.{◌≡◌, ℕ, zero, suc, ◌+◌, ◌-◌, ◌<◌, ◌≤◌, Bool, true, false, List, [], ◌∷◌, ◌++◌, map, reverse, length, Option, Some, None, refl, sym, ap, ◌∙◌, arith, append_assoc, append-nil}
+use Rattle.std.proofs.Common.{◌≡◌, ℕ, zero, suc, ◌+◌, ◌-◌, ◌<◌, ◌≤◌, Bool, true, false, List, [], ◌∷◌, ◌++◌, map, reverse, length, Option}
+use Rattle.std.proofs.Common.{Some, None, refl, sym, ap, ◌∙◌, arith, append_assoc, append-nil}
 use Rattle.std.specs.Bool.{nat_eq}
 use Rattle.std.specs.List.{slice_get, filter}
 use Rattle.std.specs.Option.{option_to_list}
@@ -56,15 +57,18 @@ reads_reverse (b ∷ bytes) more (suc k) =
     let less : suc (length bytes) - suc k ≡ length bytes - k = omega arith in
     before_same _ (reverse bytes ++ b ∷ more) _ (length bytes - k) (turned b bytes more) less ∙ reads_reverse bytes (b ∷ more) k
 
-reads_forward : (behind : Option ℕ) (bytes : List ℕ) (k : ℕ) → byte_at (option_to_list behind ++ bytes) (length (option_to_list behind) + k) ≡ slice_get bytes k
+reads_forward : (behind : Option ℕ) (bytes : List ℕ) (k : ℕ) → byte_at (option_to_list behind
+    ++ bytes) (length (option_to_list behind) + k) ≡ slice_get bytes k
 reads_forward None bytes k = let is : 0 + k ≡ k = omega arith in ap (byte_at bytes) is
 reads_forward (Some b) bytes k = let is : 1 + k ≡ suc k = omega arith in ap (byte_at (b ∷ bytes)) is
 
-reads_bytes : (r : Bool) (behind : Option ℕ) (bytes : List ℕ) (k : ℕ) → unit_at r (haystack_of r behind bytes) (place_of r (first_place r behind bytes) k) ≡ slice_get bytes k
+reads_bytes : (r : Bool) (behind : Option ℕ) (bytes : List ℕ) (k : ℕ) →
+    unit_at r (haystack_of r behind bytes) (place_of r (first_place r behind bytes) k) ≡ slice_get bytes k
 reads_bytes false behind bytes k = reads_forward behind bytes k
 reads_bytes true behind bytes k = reads_reverse bytes (option_to_list behind) k
 
-stands_behind : (r : Bool) (behind : Option ℕ) (bytes : List ℕ) → unit_behind r (haystack_of r behind bytes) (first_place r behind bytes) ≡ behind
+stands_behind : (r : Bool) (behind : Option ℕ) (bytes : List ℕ) → unit_behind r (haystack_of r behind bytes)
+    (first_place r behind bytes) ≡ behind
 stands_behind false None bytes = refl
 stands_behind false (Some b) bytes = refl
 stands_behind true None bytes =
@@ -84,14 +88,16 @@ edge_is_inside true behind bytes =
     let e = length-append (reverse bytes) (option_to_list behind) in
     let f = length-reverse bytes in omega (arith, e, f)
 
-all_are_left : (r : Bool) (t : Terminator) (behind : Option ℕ) (bytes : List ℕ) → bytes_left r (text_of r t behind bytes) (first_place r behind bytes) ≡ length bytes
+all_are_left : (r : Bool) (t : Terminator) (behind : Option ℕ) (bytes : List ℕ) →
+    bytes_left r (text_of r t behind bytes) (first_place r behind bytes) ≡ length bytes
 all_are_left false t behind bytes = let e = length-append (option_to_list behind) bytes in omega (arith, e)
 all_are_left true t behind bytes = omega arith
 
 -- ---- states
 
 module _ (a : Automaton) (t : Terminator) (kind : MatchKind) where
-  walked_there : (us : List (Option ℕ)) (states : ℕ → StateValue) → ((k : ℕ) (u : Option ℕ) → slice_get us k ≡ Some u → states (suc k) ≡ step_value a t kind (states k) u) →
+  walked_there : (us : List (Option ℕ)) (states : ℕ → StateValue) → ((k : ℕ) (u : Option ℕ) → slice_get us k ≡ Some u →
+      states (suc k) ≡ step_value a t kind (states k) u) →
       (k : ℕ) → k ≤ length us → slice_get (walked a t kind (states zero) us) k ≡ Some (states k)
   walked_there [] states steps zero l = refl
   walked_there [] states steps (suc k) l = absurd (omega (arith, l))
@@ -108,11 +114,14 @@ module _ (a : Automaton) (t : Terminator) (kind : MatchKind) where
     abbrev state : ℕ → StateValue
     state k = walk_value a t kind (haystack_of a.reverse behind bytes) (first_place a.reverse behind bytes) q k
 
-    pub state_there : (k : ℕ) → k ≤ length bytes + 1 → slice_get (walked a t kind (start_value a t (start_of t behind) q) (units_of bytes)) k ≡ Some (state k)
+    pub state_there : (k : ℕ) → k ≤ length bytes + 1 → slice_get (walked a t kind (start_value a t (start_of t behind) q) (units_of bytes))
+        k ≡ Some (state k)
     state_there k l =
         let len = units_len bytes in
-        ap (λ (o : Option ℕ). slice_get (walked a t kind (start_value a t (start_of t o) q) (units_of bytes)) k) (sym (stands_behind a.reverse behind bytes))
-        ∙ walked_there (units_of bytes) state (λ m u e. ap (step_value a t kind (state m)) (reads_bytes a.reverse behind bytes m ∙ unit_there bytes m u e)) k (omega (arith, l, len))
+        ap (λ (o : Option ℕ). slice_get (walked a t kind (start_value a t (start_of t o) q) (units_of bytes)) k)
+            (sym (stands_behind a.reverse behind bytes))
+        ∙ walked_there (units_of bytes) state (λ m u e. ap (step_value a t kind (state m)) (reads_bytes a.reverse behind bytes m
+            ∙ unit_there bytes m u e)) k (omega (arith, l, len))
 
     pub states_len : length (walked a t kind (start_value a t (start_of t behind) q) (units_of bytes)) ≡ length bytes + 2
     states_len =
@@ -131,7 +140,8 @@ module _ (a : Automaton) (t : Terminator) (kind : MatchKind) where
       pub is_state : (k : ℕ) (v : StateValue) → slice_get states k ≡ Some v → v ≡ state k
       is_state k v there = one_value (slice_get states k) v (state k) there (found k (is_within k v there))
 
-      pub is_left : (k : ℕ) (v : StateValue) → slice_get states (suc k) ≡ Some v → k ≤ bytes_left a.reverse (text_of a.reverse t behind bytes) (first_place a.reverse behind bytes)
+      pub is_left : (k : ℕ) (v : StateValue) → slice_get states (suc k) ≡ Some v →
+          k ≤ bytes_left a.reverse (text_of a.reverse t behind bytes) (first_place a.reverse behind bytes)
       is_left k v there =
           let within = is_within (suc k) v there in
           let left = all_are_left a.reverse t behind bytes in omega (arith, within, left)
@@ -160,7 +170,8 @@ module _ (a : Automaton) (t : Terminator) (q : ℕ) (behind : Option ℕ) (bytes
   abbrev within : e ≤ length h
   within = edge_is_inside a.reverse behind bytes
 
-  pub all_are_listed : IsWellFormed a → q < length a.states → states ≡ walked a t AllMatches (start_value a t (start_of t behind) q) (units_of bytes) →
+  pub all_are_listed : IsWellFormed a → q < length a.states → states ≡ walked a t AllMatches (start_value a t (start_of t behind) q)
+      (units_of bytes) →
       (k : ℕ) (v : StateValue) → slice_get states (suc k) ≡ Some v →
       v.matches ≡ map (λ (x : ℕ × ℕ). x.1) (filter (λ x. nat_eq x.0 (place_of a.reverse i k)) (ends_from a text (i, q)))
   all_are_listed formed low are k v there =
@@ -181,8 +192,10 @@ module _ (a : Automaton) (t : Terminator) (q : ℕ) (behind : Option ℕ) (bytes
 
     module _ (formed : IsWellFormed a) (low : q < length a.states) where
       -- a list of no matches is read off the state with the number
-      silent : (k : ℕ) (v : StateValue) → slice_get states (suc k) ≡ Some v → (k ≤ bytes_left a.reverse text i → (state_at (suc k)).matches ≡ []) → v.matches ≡ []
-      silent k v there none = ap (λ (w : StateValue). w.matches) (same_state (suc k) v there) ∙ none (is_left a t LeftmostFirst q behind bytes states are k v there)
+      silent : (k : ℕ) (v : StateValue) → slice_get states (suc k) ≡ Some v →
+          (k ≤ bytes_left a.reverse text i → (state_at (suc k)).matches ≡ []) → v.matches ≡ []
+      silent k v there none = ap (λ (w : StateValue). w.matches) (same_state (suc k) v there)
+          ∙ none (is_left a t LeftmostFirst q behind bytes states are k v there)
 
       pub end_is_told : (j p : ℕ) → first (ends_from a text (i, q)) ≡ Some (j, p) →
           (k : ℕ) × (v : StateValue) × (j ≡ place_of a.reverse i k) × (slice_get states (suc k) ≡ Some v) × (v.matches ≡ p ∷ []) ×
@@ -199,5 +212,6 @@ module _ (a : Automaton) (t : Terminator) (q : ℕ) (behind : Option ℕ) (bytes
             (λ m w past there. silent m w there (r.4 m past)),
           )
 
-      pub none_is_told : first (ends_from a text (i, q)) ≡ None → (k : ℕ) (v : StateValue) → slice_get states (suc k) ≡ Some v → v.matches ≡ []
+      pub none_is_told : first (ends_from a text (i, q)) ≡ None → (k : ℕ) (v : StateValue) → slice_get states (suc k) ≡ Some v →
+          v.matches ≡ []
       none_is_told none k v there = silent k v there (never_listed a t h s e i q formed inside within low none k)

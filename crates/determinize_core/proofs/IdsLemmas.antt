@@ -10,7 +10,8 @@ use Rattle.std.proofs.lemmas.Bool.{and_parts, not-true}
 all_told : (n : ℕ) (xs : List ℕ) → list_all (λ q. nat_lt q n) xs ≡ true → All (λ q. q < n) xs
 all_told n [] e k d p = absurd (omega (arith, p))
 all_told n (x ∷ xs) e zero d p = let parts = and_parts (nat_lt x n) (list_all (λ q. nat_lt q n) xs) e in grind (arith, parts.0)
-all_told n (x ∷ xs) e (suc k) d p = let parts = and_parts (nat_lt x n) (list_all (λ q. nat_lt q n) xs) e in all_told n xs parts.1 k d (omega (arith, p))
+all_told n (x ∷ xs) e (suc k) d p = let parts = and_parts (nat_lt x n) (list_all (λ q. nat_lt q n) xs) e in
+    all_told n xs parts.1 k d (omega (arith, p))
 
 all_back : (n : ℕ) (xs : List ℕ) → All (λ q. q < n) xs → list_all (λ q. nat_lt q n) xs ≡ true
 all_back n [] all = refl
@@ -21,13 +22,15 @@ all_back n (x ∷ xs) all =
 
 once_told : (xs : List ℕ) → is_once xs ≡ true → HasNoneTwice nat_eq xs
 once_told [] e = tt
-once_told (x ∷ xs) e = let parts = and_parts (not (has nat_eq x xs)) (is_once xs) e in (not-true (has nat_eq x xs) parts.0, once_told xs parts.1)
+once_told (x ∷ xs) e = let parts = and_parts (not (has nat_eq x xs)) (is_once xs) e in
+    (not-true (has nat_eq x xs) parts.0, once_told xs parts.1)
 
 once_back : (xs : List ℕ) → HasNoneTwice nat_eq xs → is_once xs ≡ true
 once_back [] once = refl
 once_back (x ∷ xs) once = rw once.0 (once_back xs once.1)
 
-module _ (n m : ℕ) (ids xs ys : List ℕ) (b c : Bool) (same : m ≡ n) (first : xs ≡ ids) (second : ys ≡ ids) (below : b ≡ list_all (λ q. nat_lt q m) xs) (once : c ≡ is_once ys) where
+module _ (n m : ℕ) (ids xs ys : List ℕ) (b c : Bool) (same : m ≡ n) (first : xs ≡ ids) (second : ys ≡ ids)
+    (below : b ≡ list_all (λ q. nat_lt q m) xs) (once : c ≡ is_once ys) where
   abbrev Both : Type 0
   Both = All (λ q. q < n) ids × IsDistinct nat_eq ids
 

@@ -10,7 +10,8 @@ use Rattle.look_core.proofs.ForCallers.{union-lt, repr-lt}
 use Rattle.determinize_core.specs.States.{StateValue, IsState, dead}
 use Rattle.determinize_core.specs.LookBehind.{with_if, starts_of, known_at_line, known_at_byte, behind_start, with_look_behind}
 use Rattle.determinize_core.specs.declared.start.Start.{Start}
-use Rattle.determinize_core.specs.declared.start.Start.TheVariants.{NonWordByte, WordByte, Text, LineLF, LineCR, CustomLineTerminator, CustomWordLineTerminator}
+use Rattle.determinize_core.specs.declared.start.Start.TheVariants.{NonWordByte, WordByte, Text, LineLF, LineCR, CustomLineTerminator}
+use Rattle.determinize_core.specs.declared.start.Start.TheVariants.{CustomWordLineTerminator}
 use Rattle.determinize_core.specs.declared.lookbehind.Families.{Families}
 use Rattle.determinize_core.specs.declared.lookbehind.LookBehind.{LookBehind}
 
@@ -44,4 +45,5 @@ state_with_known b v known state = record {
 
 pub fresh_with_known : (b : LookBehind) →
     with_look_behind b dead ≡ record dead { is_from_word = b.is_from_word; is_half_crlf = b.is_half_crlf; look_have = b.look_have }
-fresh_with_known b = λ i. record { is_from_word = b.is_from_word; is_half_crlf = b.is_half_crlf; look_have = or_zero_l b.look_have i; look_need = 0; matches = []; ids = [] }
+fresh_with_known b = λ i. record { is_from_word = b.is_from_word; is_half_crlf = b.is_half_crlf; look_have = or_zero_l b.look_have i;
+    look_need = 0; matches = []; ids = [] }

@@ -1,5 +1,6 @@
 -- How long the bytes of a state are.
-use Rattle.std.proofs.Common.{◌≡◌, ℕ, zero, suc, ◌+◌, ◌*◌, ◌≤◌, ◌/◌, Bool, true, false, nat_lt, List, [], ◌∷◌, ◌++◌, length, arith, length-append, refl, ap, ◌∙◌}
+use Rattle.std.proofs.Common.{◌≡◌, ℕ, zero, suc, ◌+◌, ◌*◌, ◌≤◌, ◌/◌, Bool, true, false, nat_lt, List, [], ◌∷◌, ◌++◌, length, arith}
+use Rattle.std.proofs.Common.{length-append, refl, ap, ◌∙◌}
 use Rattle.determinize_core.specs.States.{StateValue}
 use Rattle.determinize_core.specs.StateBytes.{groups, zigzag, id_bytes, pattern_bytes, is_listed, encoded, first_bytes}
 use Rattle.determinize_core.proofs.StateLemmas.{groups_one, groups_more}
@@ -9,9 +10,11 @@ pub length-groups : (more n : ℕ) → length (groups more n) ≤ more + 1
 length-groups zero n = omega arith
 length-groups (suc more) n = by_size (nat_lt n 128) more n refl (length-groups more (n / 128))
   where
-    by_size : (t : Bool) (more n : ℕ) → nat_lt n 128 ≡ t → length (groups more (n / 128)) ≤ more + 1 → length (groups (suc more) n) ≤ suc more + 1
+    by_size : (t : Bool) (more n : ℕ) → nat_lt n 128 ≡ t → length (groups more (n / 128)) ≤ more + 1 →
+        length (groups (suc more) n) ≤ suc more + 1
     by_size true more n e rest = let h : length (groups (suc more) n) ≡ 1 = ap length (groups_one more n e) in omega (arith, h)
-    by_size false more n e rest = let h : length (groups (suc more) n) ≡ 1 + length (groups more (n / 128)) = ap length (groups_more more n e) ∙ omega arith in omega (arith, h, rest)
+    by_size false more n e rest = let h : length (groups (suc more) n) ≡ 1 + length (groups more (n / 128)) =
+        ap length (groups_more more n e) ∙ omega arith in omega (arith, h, rest)
 
 pub length-id_bytes : (before : ℕ) (ids : List ℕ) → length (id_bytes before ids) ≤ 5 * length ids
 length-id_bytes before [] = omega arith

@@ -1,5 +1,6 @@
 -- What the states of a walk list: the ends of runs at each place, and under leftmost-first the end of the most preferred one.
-use Rattle.std.proofs.Common.{◌≡◌, ℕ, zero, suc, ◌+◌, ◌<◌, ◌≤◌, true, false, List, [], ◌∷◌, ◌++◌, map, length, Option, Some, None, refl, sym, ap, ◌∙◌, ◌⊎◌, inl, inr, ⊎_elim, subst, arith}
+use Rattle.std.proofs.Common.{◌≡◌, ℕ, zero, suc, ◌+◌, ◌<◌, ◌≤◌, true, false, List, [], ◌∷◌, ◌++◌, map, length, Option, Some, None, refl}
+use Rattle.std.proofs.Common.{sym, ap, ◌∙◌, ◌⊎◌, inl, inr, ⊎_elim, subst, arith}
 use Rattle.std.proofs.lemmas.Bool.{cases_lt}
 use Rattle.std.specs.List.{filter}
 use Rattle.std.specs.Option.{option_or, option_to_list}
@@ -9,9 +10,11 @@ use Rattle.search_types.specs.declared.match_kind.MatchKind.TheVariants.{All as 
 use Rattle.nfa_core.specs.Walks.{has, join, distinct}
 use Rattle.nfa_core.specs.Runs.{answers, IsMostPreferred}
 use Rattle.nfa_core.specs.Places.{same_pair, answers_at, first, latest}
-use Rattle.nfa_core.specs.Nfa.{Node, byte_range, sparse_node, dense_node, look_node, union_node, binary_union, capture_node, fail_node, match_node, Automaton, node_at, IsWellFormed}
+use Rattle.nfa_core.specs.Nfa.{Node, byte_range, sparse_node, dense_node, look_node, union_node, binary_union, capture_node, fail_node}
+use Rattle.nfa_core.specs.Nfa.{match_node, Automaton, node_at, IsWellFormed}
 use Rattle.nfa_core.specs.Ways.{Text, span, match_of, ways, matched, matched_behind, place_of, bytes_left, ends_from}
-use Rattle.nfa_core.proofs.ForCallers.{has_or_not, same_here, option_cases, one_value, no_value, most_preferred, list_matches, latest_is_preferred, first_of_option, map_appended}
+use Rattle.nfa_core.proofs.ForCallers.{has_or_not, same_here, option_cases, one_value, no_value, most_preferred, list_matches}
+use Rattle.nfa_core.proofs.ForCallers.{latest_is_preferred, first_of_option, map_appended}
 use Rattle.determinize_core.specs.States.{StateValue}
 use Rattle.determinize_core.specs.Steps.{pattern_of, pattern_at, walk_value}
 use Rattle.determinize_core.specs.Walked.{walked_lists, end_at, latest_listed}
@@ -36,7 +39,8 @@ one_end (capture_node next pattern group slot) j = refl
 one_end fail_node j = refl
 one_end (match_node pattern) j = refl
 
-ends_there : (a : Automaton) (i k : ℕ) (xs : List ℕ) → answers_at (matched_behind a i) k xs ≡ map (at (place_of a.reverse i k)) (answers (pattern_at a) xs)
+ends_there : (a : Automaton) (i k : ℕ) (xs : List ℕ) → answers_at (matched_behind a i) k xs ≡ map (at (place_of a.reverse i k))
+    (answers (pattern_at a) xs)
 ends_there a i k [] = refl
 ends_there a i k (x ∷ xs) =
     let j : ℕ = place_of a.reverse i k in
@@ -51,9 +55,11 @@ has_at j x (y ∷ ys) = rw (same_here j x y, has_at j x ys) refl
 join_at : (j : ℕ) (seen xs : List ℕ) → map (at j) (join nat_eq seen xs) ≡ join same_pair (map (at j) seen) (map (at j) xs)
 join_at j seen [] = refl
 join_at j seen (x ∷ xs) = ⊎_elim
-    (λ (e : has nat_eq x seen ≡ true). let f : has same_pair (j, x) (map (at j) seen) ≡ true = has_at j x seen ∙ e in rw (e, f) (join_at j seen xs))
+    (λ (e : has nat_eq x seen ≡ true). let f : has same_pair (j, x) (map (at j) seen) ≡ true = has_at j x seen ∙ e in
+        rw (e, f) (join_at j seen xs))
     (λ (e : has nat_eq x seen ≡ false). let f : has same_pair (j, x) (map (at j) seen) ≡ false = has_at j x seen ∙ e in
-    rw (e, f) (join_at j (seen ++ x ∷ []) xs ∙ ap (λ l. join same_pair l (map (at j) xs)) (map_appended (at j) seen (x ∷ [])))) (has_or_not nat_eq x seen)
+    rw (e, f) (join_at j (seen ++ x ∷ []) xs ∙ ap (λ l. join same_pair l (map (at j) xs)) (map_appended (at j) seen (x ∷ []))))
+        (has_or_not nat_eq x seen)
 
 patterns_of : (j : ℕ) (xs : List ℕ) → map pattern (map (at j) xs) ≡ xs
 patterns_of j [] = refl
@@ -128,7 +134,8 @@ module _ (states : ℕ → StateValue) (place : ℕ → ℕ) where
 
 -- ---- walks
 
-module _ (a : Automaton) (t : Terminator) (h : List ℕ) (s e i q : ℕ) (formed : IsWellFormed a) (below : i ≤ e) (within : e ≤ length h) (low : q < length a.states) where
+module _ (a : Automaton) (t : Terminator) (h : List ℕ) (s e i q : ℕ) (formed : IsWellFormed a) (below : i ≤ e) (within : e ≤ length h)
+    (low : q < length a.states) where
   abbrev text : Text
   text = span t h s e
 
@@ -136,14 +143,16 @@ module _ (a : Automaton) (t : Terminator) (h : List ℕ) (s e i q : ℕ) (formed
   len = bytes_left a.reverse text i
 
   pub all_listed : (k : ℕ) → k ≤ len →
-      (walk_value a t AllMatches h i q (suc k)).matches ≡ map pattern (filter (λ x. nat_eq x.0 (place_of a.reverse i k)) (ends_from a text (i, q)))
+      (walk_value a t AllMatches h i q (suc k)).matches ≡ map pattern (filter (λ x. nat_eq x.0 (place_of a.reverse i k))
+          (ends_from a text (i, q)))
   all_listed k l =
       let j : ℕ = place_of a.reverse i k in
       let ps : List ℕ = answers (pattern_at a) (walked_lists AllMatches a text i q k) in
       matches_are AllMatches a t h s e i q formed below within low k l
       ∙ sym (patterns_of j (distinct nat_eq ps))
       ∙ ap (map pattern) (join_at j [] ps ∙ ap (distinct same_pair) (sym (ends_there a i k (walked_lists AllMatches a text i q k)))
-      ∙ list_matches a text i formed below q low (walked_lists AllMatches a text i q) (lists_are_lists AllMatches a text i q formed low) k l)
+      ∙ list_matches a text i formed below q low (walked_lists AllMatches a text i q)
+          (lists_are_lists AllMatches a text i q formed low) k l)
 
   abbrev state : ℕ → StateValue
   state k = walk_value a t LeftmostFirst h i q k
@@ -168,7 +177,8 @@ module _ (a : Automaton) (t : Terminator) (h : List ℕ) (s e i q : ℕ) (formed
       ∙ ap (option_or (latest (matched_behind a i) lists d (suc k))) (told_at k (omega (arith, l)))
 
   pub latest_is_first : latest_listed state place len 0 ≡ first (ends_from a text (i, q))
-  latest_is_first = latest_is len 0 (omega arith) ∙ latest_is_preferred a text i formed below q low lists (lists_are_lists LeftmostFirst a text i q formed low)
+  latest_is_first = latest_is len 0 (omega arith) ∙ latest_is_preferred a text i formed below q low lists
+      (lists_are_lists LeftmostFirst a text i q formed low)
 
   pub latest_is_preferred_run : IsMostPreferred same_pair (ways a text) (matched a) (i, q) (latest_listed state place len 0)
   latest_is_preferred_run =
@@ -179,7 +189,8 @@ pub one_listed : (a : Automaton) (t : Terminator) (h : List ℕ) (i q k : ℕ) �
 one_listed a t h i q zero = omega arith
 one_listed a t h i q (suc k) = at_most_one _
 
-module _ (a : Automaton) (t : Terminator) (h : List ℕ) (s e i q : ℕ) (formed : IsWellFormed a) (below : i ≤ e) (within : e ≤ length h) (low : q < length a.states) where
+module _ (a : Automaton) (t : Terminator) (h : List ℕ) (s e i q : ℕ) (formed : IsWellFormed a) (below : i ≤ e) (within : e ≤ length h)
+    (low : q < length a.states) where
   abbrev listed : ℕ → List ℕ
   listed k = (walk_value a t LeftmostFirst h i q (suc k)).matches
 
@@ -189,7 +200,8 @@ module _ (a : Automaton) (t : Terminator) (h : List ℕ) (s e i q : ℕ) (formed
   pub some_listed : (j p : ℕ) → first (ends_from a (span t h s e) (i, q)) ≡ Some (j, p) →
       (k : ℕ) × (k ≤ left) × (j ≡ place_of a.reverse i k) × (listed k ≡ p ∷ []) × ((m : ℕ) → k < m → m ≤ left → listed m ≡ [])
   some_listed j p is =
-      let r = last_listed (walk_value a t LeftmostFirst h i q) (place_of a.reverse i) left 0 j p (latest_is_first a t h s e i q formed below within low ∙ is) in
+      let r = last_listed (walk_value a t LeftmostFirst h i q) (place_of a.reverse i) left 0 j p
+          (latest_is_first a t h s e i q formed below within low ∙ is) in
       let to = r.2 in (
         r.0,
         omega (arith, to),

@@ -28,7 +28,8 @@ module _ (f : Families) (reverse : Bool) (t : Terminator) (b : ℕ) (G : LookBeh
   by_tests false false false true p' q' line_feed carriage_return byte = byte (eqb-false b 0x0A (sym p')) (eqb-false b 0x0D (sym q'))
   by_tests false false false false p' q' line_feed carriage_return byte = byte (eqb-false b 0x0A (sym p')) (eqb-false b 0x0D (sym q'))
 
-  pub start_cases : (b ≡ 0x0A → G (behind_line f reverse (ends_line t 0x0A))) → (b ≡ 0x0D → G (behind_line f (not reverse) (ends_line t 0x0D))) →
+  pub start_cases : (b ≡ 0x0A → G (behind_line f reverse (ends_line t 0x0A))) →
+      (b ≡ 0x0D → G (behind_line f (not reverse) (ends_line t 0x0D))) →
       (b ≢ 0x0A → b ≢ 0x0D → G (behind_byte f (ends_line t b) (is_word_byte b))) → G (behind_start f reverse t (start_of t (Some b)))
   start_cases = by_tests _ _ _ _ refl refl
 
@@ -42,7 +43,8 @@ none_hold P l m = cc (has_look-none l)
 same : (k l : Look) → same_look l k ≡ true → k ≡ l
 same k l e = same_from_bit k l (sym (eqb-true (bit_of l) (bit_of k) e))
 
-member_of_either : (P : Look → Type 0) (s : ℕ) (k l : Look) (a b : Bool) → has_look s l ≡ a → same_look l k ≡ b → P k → Each P s → (a || b) ≡ true → P l
+member_of_either : (P : Look → Type 0) (s : ℕ) (k l : Look) (a b : Bool) → has_look s l ≡ a → same_look l k ≡ b → P k → Each P s →
+    (a || b) ≡ true → P l
 member_of_either P s k l true b e f p h m = h l e
 member_of_either P s k l false true e f p h m = subst P (same k l f) p
 member_of_either P s k l false false e f p h m = cc
@@ -82,13 +84,16 @@ module _ (P : Look → Type 0) where
 
 module _ (f : Families) (reverse : Bool) (t : Terminator) (P : Look → Type 0) where
   nothing_holds : Allows reverse t None P → Each P (behind_nothing f).look_have
-  nothing_holds a = starts_hold P f (λ _. a.edge refl) (λ _. a.edge_of_line refl) (λ _. a.edge_of_crlf refl) (λ _. a.ascii refl) (λ _. a.unicode refl)
+  nothing_holds a = starts_hold P f (λ _. a.edge refl) (λ _. a.edge_of_line refl) (λ _. a.edge_of_crlf refl) (λ _. a.ascii refl)
+      (λ _. a.unicode refl)
 
-  line_holds : (b : ℕ) (first ends : Bool) → Allows reverse t (Some b) P → is_word_byte b ≡ false → (ends ≡ true → ends_line t b ≡ true) → (first ≡ false → P StartCRLF) →
+  line_holds : (b : ℕ) (first ends : Bool) → Allows reverse t (Some b) P → is_word_byte b ≡ false → (ends ≡ true → ends_line t b ≡ true) →
+      (first ≡ false → P StartCRLF) →
       Each P (behind_line f first ends).look_have
   line_holds b first ends a w e p =
       let none : is_no_word (byte_side (Some b)) ≡ true = rw w refl in
-      starts_hold P _ (never (P AtStart)) (λ u. a.line (e (both_left ends f.lines u))) (λ u. p (both_not first f.crlf u)) (λ _. a.ascii none) (λ _. a.unicode none)
+      starts_hold P _ (never (P AtStart)) (λ u. a.line (e (both_left ends f.lines u))) (λ u. p (both_not first f.crlf u))
+          (λ _. a.ascii none) (λ _. a.unicode none)
 
   byte_holds : (b : ℕ) (ends word : Bool) → Allows reverse t (Some b) P → ends ≡ ends_line t b → word ≡ is_word_byte b →
       Each P (behind_byte f ends word).look_have
@@ -101,6 +106,8 @@ module _ (f : Families) (reverse : Bool) (t : Terminator) (P : Look → Type 0) 
   known_holds None a = nothing_holds a
   known_holds (Some b) a =
       start_cases f reverse t b (λ x. Each P x.look_have)
-      (λ is. line_holds b reverse (ends_line t 0x0A) a (ap is_word_byte is) (λ u. ap (ends_line t) is ∙ u) (λ r. a.line_feed r (ap Some is)))
-      (λ is. line_holds b (not reverse) (ends_line t 0x0D) a (ap is_word_byte is) (λ u. ap (ends_line t) is ∙ u) (λ r. a.carriage_return (not-false reverse r) (ap Some is)))
+      (λ is. line_holds b reverse (ends_line t 0x0A) a (ap is_word_byte is) (λ u. ap (ends_line t) is
+          ∙ u) (λ r. a.line_feed r (ap Some is)))
+      (λ is. line_holds b (not reverse) (ends_line t 0x0D) a (ap is_word_byte is) (λ u. ap (ends_line t) is
+          ∙ u) (λ r. a.carriage_return (not-false reverse r) (ap Some is)))
       (λ _ _. byte_holds b (ends_line t b) (is_word_byte b) a refl refl)

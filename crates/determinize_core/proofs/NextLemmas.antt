@@ -1,5 +1,6 @@
 -- What a step of powerset states puts together.
-use Rattle.std.proofs.Common.{◌≡◌, ℕ, ◌≤◌, ◌==◌, true, false, not, Bool, List, length, Option, ◌&&◌, ◌||◌, [], refl, sym, ap, ◌∙◌, cond, All, ◌<◌, subst}
+use Rattle.std.proofs.Common.{◌≡◌, ℕ, ◌≤◌, ◌==◌, true, false, not, Bool, List, length, Option, ◌&&◌, ◌||◌, [], refl, sym, ap, ◌∙◌, cond}
+use Rattle.std.proofs.Common.{All, ◌<◌, subst}
 use Rattle.std.specs.Bool.{nat_eq}
 use Rattle.std.specs.Int.Bits.{and_zero_r}
 use Rattle.std.specs.List.{IsDistinct, flat_map}
@@ -12,12 +13,15 @@ use Rattle.nfa_core.specs.Nfa.{Automaton, IsWellFormed}
 use Rattle.nfa_core.specs.Reached.{AreBelow}
 use Rattle.nfa_core.proofs.ForCallers.{has_from_all}
 use Rattle.determinize_core.specs.States.{StateValue, dead}
-use Rattle.determinize_core.specs.Steps.{closed, known_before, gains, ids_before, families, first_half, patterns_in, known_behind, unit_steps, reading, states_behind, begun, is_some_kept, with_states, step_value}
-use Rattle.determinize_core.proofs.CloseAllLemmas.{distinct_already, once_from_distinct, distinct_from_once, closed_once, closed_below, few_once}
+use Rattle.determinize_core.specs.Steps.{closed, known_before, gains, ids_before, families, first_half, patterns_in, known_behind}
+use Rattle.determinize_core.specs.Steps.{unit_steps, reading, states_behind, begun, is_some_kept, with_states, step_value}
+use Rattle.determinize_core.proofs.CloseAllLemmas.{distinct_already, once_from_distinct, distinct_from_once, closed_once, closed_below}
+use Rattle.determinize_core.proofs.CloseAllLemmas.{few_once}
 
 module _ (a : Automaton) (t : Terminator) (v : StateValue) (u : Option ℕ) where
   -- the states at the place, where the unit decides a needed look and where it doesn't
-  by_gain : (b : Bool) → gains v (known_before a.reverse t v u) ≡ b → ids_before a t v u ≡ cond b (closed a (known_before a.reverse t v u) v.ids) v.ids
+  by_gain : (b : Bool) → gains v (known_before a.reverse t v u) ≡ b → ids_before a t v u ≡ cond b
+      (closed a (known_before a.reverse t v u) v.ids) v.ids
   by_gain b e = ap (λ (g : Bool). cond g (closed a (known_before a.reverse t v u) v.ids) v.ids) e
 
   -- a state that needs no looks gains none
@@ -26,10 +30,13 @@ module _ (a : Automaton) (t : Terminator) (v : StateValue) (u : Option ℕ) wher
       let new : ℕ = without (known_before a.reverse t v u) v.look_have in
       ap (λ (s : ℕ). not (s == 0)) (ap (shared_by new) none ∙ and_zero_r new)
 
-  pub before_without_looks : IsDistinct nat_eq v.ids → (put : List ℕ) → put ≡ distinct nat_eq v.ids → (need : ℕ) → need ≡ v.look_need → need ≡ 0 → put ≡ ids_before a t v u
-  before_without_looks once put is need needed none = is ∙ (distinct_already v.ids once ∙ sym (by_gain false (nothing_gained (sym needed ∙ none))))
+  pub before_without_looks : IsDistinct nat_eq v.ids → (put : List ℕ) → put ≡ distinct nat_eq v.ids → (need : ℕ) → need ≡ v.look_need →
+      need ≡ 0 → put ≡ ids_before a t v u
+  before_without_looks once put is need needed none = is ∙ (distinct_already v.ids once
+      ∙ sym (by_gain false (nothing_gained (sym needed ∙ none))))
 
-  module _ (once : IsDistinct nat_eq v.ids) (looks : ℕ) (known : looks ≡ known_before a.reverse t v u) (put : List ℕ) (is : put ≡ distinct nat_eq v.ids) (b : Bool) (told : b ≡ gains v looks) where
+  module _ (once : IsDistinct nat_eq v.ids) (looks : ℕ) (known : looks ≡ known_before a.reverse t v u) (put : List ℕ)
+      (is : put ≡ distinct nat_eq v.ids) (b : Bool) (told : b ≡ gains v looks) where
     put_is : put ≡ v.ids
     put_is = is ∙ distinct_already v.ids once
 
@@ -40,18 +47,22 @@ module _ (a : Automaton) (t : Terminator) (v : StateValue) (u : Option ℕ) wher
     before_same none = put_is ∙ sym (by_gain false (told_before ∙ none))
 
     pub before_gained : b ≡ true → (new : List ℕ) → new ≡ closed a looks put → new ≡ ids_before a t v u
-    before_gained some new e = e ∙ (ap (λ (l : ℕ). closed a l put) known ∙ (ap (closed a (known_before a.reverse t v u)) put_is ∙ sym (by_gain true (told_before ∙ some))))
+    before_gained some new e = e ∙ (ap (λ (l : ℕ). closed a l put) known
+        ∙ (ap (closed a (known_before a.reverse t v u)) put_is ∙ sym (by_gain true (told_before ∙ some))))
 
     pub put_few : All (λ q. q < length a.states) v.ids → length put ≤ length a.states
-    put_few below = subst (λ (qs : List ℕ). length qs ≤ length a.states) (sym put_is) (few_once (length a.states) v.ids once (has_from_all (length a.states) v.ids below))
+    put_few below = subst (λ (qs : List ℕ). length qs ≤ length a.states) (sym put_is)
+        (few_once (length a.states) v.ids once (has_from_all (length a.states) v.ids below))
 
   module _ (formed : IsWellFormed a) (once : IsDistinct nat_eq v.ids) (below : AreBelow (length a.states) v.ids) where
     before_once_by : (b : Bool) → gains v (known_before a.reverse t v u) ≡ b → HasNoneTwice nat_eq (ids_before a t v u)
-    before_once_by true e = subst (λ (qs : List ℕ). HasNoneTwice nat_eq qs) (sym (by_gain true e)) (closed_once a (known_before a.reverse t v u) v.ids)
+    before_once_by true e = subst (λ (qs : List ℕ). HasNoneTwice nat_eq qs) (sym (by_gain true e))
+        (closed_once a (known_before a.reverse t v u) v.ids)
     before_once_by false e = subst (λ (qs : List ℕ). HasNoneTwice nat_eq qs) (sym (by_gain false e)) (once_from_distinct v.ids once)
 
     before_below_by : (b : Bool) → gains v (known_before a.reverse t v u) ≡ b → AreBelow (length a.states) (ids_before a t v u)
-    before_below_by true e = subst (λ (qs : List ℕ). AreBelow (length a.states) qs) (sym (by_gain true e)) (closed_below a (known_before a.reverse t v u) formed v.ids below)
+    before_below_by true e = subst (λ (qs : List ℕ). AreBelow (length a.states) qs) (sym (by_gain true e))
+        (closed_below a (known_before a.reverse t v u) formed v.ids below)
     before_below_by false e = subst (λ (qs : List ℕ). AreBelow (length a.states) qs) (sym (by_gain false e)) below
 
     pub before_once : HasNoneTwice nat_eq (ids_before a t v u)
@@ -89,11 +100,13 @@ module _ (a : Automaton) (t : Terminator) (kind : MatchKind) (v : StateValue) (u
     set_is = closure ∙ (ap (λ (l : ℕ). closed a l (flat_map (unit_steps a u) (reading kind a ids))) known
         ∙ ap (λ (qs : List ℕ). closed a (known_behind (families a) a.reverse t u) (flat_map (unit_steps a u) (reading kind a qs))) here)
 
-    pub builds : (w x y z b : StateValue) (some : Bool) → w ≡ dead → x ≡ record w { look_have = looks } → y ≡ record x { matches = patterns_in kind a ids } →
+    pub builds : (w x y z b : StateValue) (some : Bool) → w ≡ dead → x ≡ record w { look_have = looks } →
+        y ≡ record x { matches = patterns_in kind a ids } →
         some ≡ is_some_kept a set → z ≡ with_flags y some → (m : StateValue) → m ≡ z → b ≡ with_states a set m → b ≡ step_value a t kind v u
     builds w x y z b some none told listed kept_some flags m same built =
         let first : y ≡ record dead { look_have = looks; matches = patterns_in kind a ids } =
-        listed ∙ (ap (λ (s : StateValue). record s { matches = patterns_in kind a ids }) told ∙ ap (λ (s : StateValue). record s { look_have = looks; matches = patterns_in kind a ids }) none) in
+        listed ∙ (ap (λ (s : StateValue). record s { matches = patterns_in kind a ids }) told
+            ∙ ap (λ (s : StateValue). record s { look_have = looks; matches = patterns_in kind a ids }) none) in
         let second : z ≡ begun_by looks ids some = flags ∙ ap (λ (s : StateValue). with_flags s some) first in
         let third : begun_by looks ids some ≡ begun a t kind v u =
         ap (λ (l : ℕ). begun_by l ids some) known

@@ -1,14 +1,19 @@
 -- Where looks hold, by the byte behind a place and the unit ahead of it, in the order of reading; and what a powerset state
 -- knows of them before its unit.
-use Rattle.std.proofs.Common.{◌≡◌, ℕ, ◌≤◌, ◌&&◌, ◌||◌, Bool, true, false, not, List, [], ◌∷◌, length, Option, Some, None, is_none, refl, sym, ap, ◌∙◌}
+use Rattle.std.proofs.Common.{◌≡◌, ℕ, ◌≤◌, ◌&&◌, ◌||◌, Bool, true, false, not, List, [], ◌∷◌, length, Option, Some, None, is_none, refl}
+use Rattle.std.proofs.Common.{sym, ap, ◌∙◌}
 use Rattle.search_core.specs.Text.{byte_at, byte_before}
 use Rattle.search_core.specs.Utf8.{is_word_byte}
 use Rattle.look_core.specs.Codes.{same_look, reversed, is_anchor_haystack, is_anchor_lf, is_anchor_crlf, is_word_look}
 use Rattle.look_core.specs.LookSets.{has_look, has_any}
-use Rattle.look_core.specs.Looks.{Side, holds_ascii, byte_side, is_byte, is_word, is_no_word, is_line_end, word_if, is_edge_of_word, is_no_edge_of_word, is_start_of_word, is_end_of_word}
+use Rattle.look_core.specs.Looks.{Side, holds_ascii, byte_side, is_byte, is_word, is_no_word, is_line_end, word_if, is_edge_of_word}
+use Rattle.look_core.specs.Looks.{is_no_edge_of_word, is_start_of_word, is_end_of_word}
 use Rattle.look_core.specs.Terminators.{Terminator, ends_line}
 use Rattle.look_core.specs.declared.look.Look.{Look}
-use Rattle.look_core.specs.declared.look.Look.TheVariants.{Start as AtStart, End, StartLF, EndLF, StartCRLF, EndCRLF, WordAscii, WordAsciiNegate, WordUnicode, WordUnicodeNegate, WordStartAscii, WordEndAscii, WordStartUnicode, WordEndUnicode, WordStartHalfAscii, WordEndHalfAscii, WordStartHalfUnicode, WordEndHalfUnicode}
+use Rattle.look_core.specs.declared.look.Look.TheVariants.{Start as AtStart, End, StartLF, EndLF, StartCRLF, EndCRLF, WordAscii}
+use Rattle.look_core.specs.declared.look.Look.TheVariants.{WordAsciiNegate, WordUnicode, WordUnicodeNegate, WordStartAscii, WordEndAscii}
+use Rattle.look_core.specs.declared.look.Look.TheVariants.{WordStartUnicode, WordEndUnicode, WordStartHalfAscii, WordEndHalfAscii}
+use Rattle.look_core.specs.declared.look.Look.TheVariants.{WordStartHalfUnicode, WordEndHalfUnicode}
 use Rattle.look_core.proofs.ForCallers.{has_look-none, has_look-with, edge_turns, no_edge_turns}
 use Rattle.nfa_core.specs.Ways.{span, is_passed}
 use Rattle.determinize_core.specs.States.{StateValue}
@@ -20,7 +25,8 @@ use Rattle.determinize_core.specs.declared.lookbehind.Families.{Families}
 use Rattle.determinize_core.proofs.EdgeLemmas.{none_before, none_at}
 use Rattle.determinize_core.proofs.DecidedLemmas.{has_family, with_family}
 use Rattle.determinize_core.proofs.LookBehindLemmas.{start_cases}
-use Rattle.determinize_core.proofs.ExactLemmas.{first_half as exact_first, second_half as exact_second, edge_exact, lines_exact, crlf_exact, half_exact, ascii_exact, unicode_exact, word_exact}
+use Rattle.determinize_core.proofs.ExactLemmas.{first_half as exact_first, second_half as exact_second, edge_exact, lines_exact, crlf_exact}
+use Rattle.determinize_core.proofs.ExactLemmas.{half_exact, ascii_exact, unicode_exact, word_exact}
 
 -- ---- where looks hold, in the order of reading
 
@@ -63,7 +69,8 @@ or_both a b c d p q = λ i. p i || q i
 or_first : (a b c : Bool) → a ≡ b → (a || c) ≡ (b || c)
 or_first a b c p = ap (λ x. x || c) p
 
-forward_passed : (t : Terminator) (h : List ℕ) (i : ℕ) → i ≤ length h → (l : Look) → holds_ascii t h l i ≡ passed_by false t (byte_before h i) (byte_at h i) l
+forward_passed : (t : Terminator) (h : List ℕ) (i : ℕ) → i ≤ length h → (l : Look) →
+    holds_ascii t h l i ≡ passed_by false t (byte_before h i) (byte_at h i) l
 forward_passed t h i within AtStart = sym (none_before h i within)
 forward_passed t h i within End = sym (none_at h i within)
 forward_passed t h i within StartLF = or_first _ _ _ (sym (none_before h i within))
@@ -83,7 +90,8 @@ forward_passed t h i within WordEndHalfAscii = refl
 forward_passed t h i within WordStartHalfUnicode = refl
 forward_passed t h i within WordEndHalfUnicode = refl
 
-reverse_passed : (t : Terminator) (h : List ℕ) (i : ℕ) → i ≤ length h → (l : Look) → holds_ascii t h (reversed l) i ≡ passed_by true t (byte_at h i) (byte_before h i) l
+reverse_passed : (t : Terminator) (h : List ℕ) (i : ℕ) → i ≤ length h → (l : Look) →
+    holds_ascii t h (reversed l) i ≡ passed_by true t (byte_at h i) (byte_before h i) l
 reverse_passed t h i within AtStart = sym (none_at h i within)
 reverse_passed t h i within End = sym (none_before h i within)
 reverse_passed t h i within StartLF = or_first _ _ _ (sym (none_at h i within))
@@ -148,7 +156,8 @@ or-false true = refl
 or-false false = refl
 
 abbrev starts_list : Families → List Wanted
-starts_list f = (f.words, WordStartHalfUnicode) ∷ (f.words, WordStartHalfAscii) ∷ (f.crlf, StartCRLF) ∷ (f.lines, StartLF) ∷ (f.haystack, AtStart) ∷ []
+starts_list f = (f.words, WordStartHalfUnicode) ∷ (f.words, WordStartHalfAscii) ∷ (f.crlf, StartCRLF) ∷ (f.lines, StartLF) ∷ (f.haystack,
+    AtStart) ∷ []
 
 starts_wanted : (f : Families) (l : Look) → has_look (starts_of f) l ≡ any_wanted (starts_list f) l false
 starts_wanted f l = has_all_wanted (starts_list f) 0 l ∙ ap (any_wanted (starts_list f) l) (has_look-none l)
@@ -205,7 +214,8 @@ pub record IsFlagged (looks : ℕ) (r : Bool) (o : Option ℕ) (from_word half_c
 pub told_holds : (r : Bool) (t : Terminator) (o u : Option ℕ) (l : Look) → told_by r t o l ≡ true → passed_by r t o u l ≡ true
 told_holds r t o u AtStart e = e
 told_holds r t o u StartLF e = e
-told_holds r t o u StartCRLF e = told_or (is_none o) (is_byte (second_half r) o) (is_byte (first_half r) o && not (is_byte (second_half r) u)) e
+told_holds r t o u StartCRLF e = told_or (is_none o) (is_byte (second_half r) o) (is_byte (first_half r) o
+    && not (is_byte (second_half r) u)) e
   where
     told_or : (a b c : Bool) → (a || b) ≡ true → (a || b || c) ≡ true
     told_or true b c e = refl
@@ -258,7 +268,8 @@ module _ (looks : ℕ) (r : Bool) (t : Terminator) (o u : Option ℕ) (w c : Boo
   half_is : (l : Look) → is_anchor_crlf l ≡ true → has_look looks l ≡ true → c ≡ is_byte (first_half r) o
   half_is l k m = flagged.half (has_family is_anchor_crlf looks l m k)
 
-  by_word : (test : Side → Side → Bool) (l : Look) → is_word_look l ≡ true → has_look looks l ≡ true → (test (word_if w) (byte_side u) || false) ≡ test (byte_side o) (byte_side u)
+  by_word : (test : Side → Side → Bool) (l : Look) → is_word_look l ≡ true → has_look looks l ≡ true →
+      (test (word_if w) (byte_side u) || false) ≡ test (byte_side o) (byte_side u)
   by_word test l k m = or-false (test (word_if w) (byte_side u)) ∙ ap (λ x. test x (byte_side u)) (side_is l k m)
 
   -- what the unit decides, with what the byte behind told, is all that holds
@@ -302,7 +313,8 @@ module _ (looks : ℕ) (r : Bool) (t : Terminator) (o u : Option ℕ) (w c : Boo
   decided_passed WordEndHalfUnicode m = or-false (is_no_word (byte_side u))
 
 -- all that holds at a place of an automaton's looks is known before its unit
-pub known_passed : (looks : ℕ) (r : Bool) (t : Terminator) (o u : Option ℕ) (v : StateValue) → IsFlagged looks r o v.is_from_word v.is_half_crlf →
+pub known_passed : (looks : ℕ) (r : Bool) (t : Terminator) (o u : Option ℕ) (v : StateValue) →
+    IsFlagged looks r o v.is_from_word v.is_half_crlf →
     IsTold looks r t o v.look_have → (l : Look) → has_look looks l ≡ true → has_look (known_before r t v u) l ≡ passed_by r t o u l
 known_passed looks r t o u v flagged is l m =
     known_wanted r t v u l
@@ -356,16 +368,19 @@ module _ (looks : ℕ) (r : Bool) (t : Terminator) where
   words_asked l k m = words_is looks ∙ has_family is_word_look looks l m k
 
   -- no other look than the five of a start
-  not_known : (l : Look) → ((f : Families) → has_look (starts_of f) l ≡ false) → (o : Option ℕ) → has_look (behind_start asked r t (start_of t o)).look_have l ≡ false
+  not_known : (l : Look) → ((f : Families) → has_look (starts_of f) l ≡ false) → (o : Option ℕ) →
+      has_look (behind_start asked r t (start_of t o)).look_have l ≡ false
   not_known l none None = none asked
   not_known l none (Some b) = start_cases asked r t b (λ x. has_look x.look_have l ≡ false)
       (λ is. none (known_at_line asked r (ends_line t 0x0A))) (λ is. none (known_at_line asked (not r) (ends_line t 0x0D)))
       (λ n m. none (known_at_byte asked (ends_line t b) (is_word_byte b)))
 
-  start_has : (o : Option ℕ) (l : Look) → has_look looks l ≡ true → has_look (behind_start asked r t (start_of t o)).look_have l ≡ told_by r t o l
+  start_has : (o : Option ℕ) (l : Look) → has_look looks l ≡ true → has_look
+      (behind_start asked r t (start_of t o)).look_have l ≡ told_by r t o l
   start_has o AtStart m = edge_exact asked r t o ∙ with_family _ _ (haystack_asked AtStart refl m)
   start_has o StartLF m = lines_exact asked r t o ∙ with_family _ _ (lines_asked StartLF refl m)
-  start_has o StartCRLF m = crlf_exact asked r t o ∙ with_family _ _ (crlf_asked StartCRLF refl m) ∙ ap (λ b. is_none o || is_byte b o) (same_second r)
+  start_has o StartCRLF m = crlf_exact asked r t o ∙ with_family _ _ (crlf_asked StartCRLF refl m)
+      ∙ ap (λ b. is_none o || is_byte b o) (same_second r)
   start_has o WordStartHalfAscii m = ascii_exact asked r t o ∙ with_family _ _ (words_asked WordStartHalfAscii refl m)
   start_has o WordStartHalfUnicode m = unicode_exact asked r t o ∙ with_family _ _ (words_asked WordStartHalfUnicode refl m)
   start_has o End m = not_known End (λ f. starts_told f End) o
@@ -404,8 +419,10 @@ module _ (looks : ℕ) (r : Bool) (t : Terminator) where
   behind_has b AtStart m = starts_told (seen_behind (Some b)) AtStart
   behind_has b StartLF m = starts_told (seen_behind (Some b)) StartLF ∙ true_with _ _ (lines_asked StartLF refl m)
   behind_has b StartCRLF m = starts_told (seen_behind (Some b)) StartCRLF ∙ true_with _ _ (crlf_asked StartCRLF refl m)
-  behind_has b WordStartHalfAscii m = starts_told (seen_behind (Some b)) WordStartHalfAscii ∙ true_with _ _ (words_asked WordStartHalfAscii refl m)
-  behind_has b WordStartHalfUnicode m = starts_told (seen_behind (Some b)) WordStartHalfUnicode ∙ true_with _ _ (words_asked WordStartHalfUnicode refl m)
+  behind_has b WordStartHalfAscii m = starts_told (seen_behind (Some b)) WordStartHalfAscii
+      ∙ true_with _ _ (words_asked WordStartHalfAscii refl m)
+  behind_has b WordStartHalfUnicode m = starts_told (seen_behind (Some b)) WordStartHalfUnicode
+      ∙ true_with _ _ (words_asked WordStartHalfUnicode refl m)
   behind_has b End m = starts_told (seen_behind (Some b)) End
   behind_has b EndLF m = starts_told (seen_behind (Some b)) EndLF
   behind_has b EndCRLF m = starts_told (seen_behind (Some b)) EndCRLF

@@ -1,5 +1,6 @@
 -- Where the patterns of a list are noted, a pattern that is listed is found, and others aren't.
-use Rattle.std.proofs.Common.{◌≡◌, ◌≢◌, ℕ, zero, suc, ◌+◌, ◌<◌, ◌≤◌, ◌||◌, Bool, true, false, List, [], ◌∷◌, ◌++◌, length, get_or, refl, sym, ap, ◌∙◌, ⊎_elim, arith, subst, length-append}
+use Rattle.std.proofs.Common.{◌≡◌, ◌≢◌, ℕ, zero, suc, ◌+◌, ◌<◌, ◌≤◌, ◌||◌, Bool, true, false, List, [], ◌∷◌, ◌++◌, length, get_or, refl}
+use Rattle.std.proofs.Common.{sym, ap, ◌∙◌, ⊎_elim, arith, subst, length-append}
 use Rattle.std.specs.Prelude.{slice_index, nat_eq, nat_lt}
 use Rattle.std.specs.List.{list_any, Any}
 use Rattle.std.proofs.lemmas.Bool.{cases_lt}
@@ -63,7 +64,8 @@ module _ (noted ps : List ℕ) (p : ℕ) (at : ArePositions noted ps) where
   second_tells other = sym (ap (λ (b : Bool). b || stands_at ps (slice_index noted p) p) other) ∙ tells_listed
 
   -- a position is noted for it where the list lacks it
-  module _ (new : List ℕ) (absent : list_any (nat_eq p) ps ≡ false) (others : (q : ℕ) → q ≢ p → slice_index new q ≡ slice_index noted q) where
+  module _ (new : List ℕ) (absent : list_any (nat_eq p) ps ≡ false) (others : (q : ℕ) → q ≢ p →
+      slice_index new q ≡ slice_index noted q) where
     noted_apart : ArePositions new ps
     noted_apart i past within = others (get_or ps i 0) (differs p ps i absent within) ∙ at i past within
 

@@ -1,6 +1,7 @@
 -- Captures read no unit and match nothing, so lists without them read and match the same; and the unit at a place is what a
 -- walk over the text reads there.
-use Rattle.std.proofs.Common.{◌≡◌, ℕ, suc, ◌+◌, ◌-◌, ◌<◌, ◌≤◌, true, false, Bool, not, List, [], ◌∷◌, ◌++◌, length, get_or, Option, Some, None, refl, sym, ap, ◌∙◌, ⊎_elim, subst, arith, if◌then◌else◌}
+use Rattle.std.proofs.Common.{◌≡◌, ℕ, suc, ◌+◌, ◌-◌, ◌<◌, ◌≤◌, true, false, Bool, not, List, [], ◌∷◌, ◌++◌, length, get_or, Option, Some}
+use Rattle.std.proofs.Common.{None, refl, sym, ap, ◌∙◌, ⊎_elim, subst, arith, if◌then◌else◌}
 use Rattle.std.proofs.lemmas.Bool.{cases_Bool}
 use Rattle.std.proofs.lemmas.Bool.Decides.{Decides-ltb, leb_tells}
 use Rattle.std.proofs.lemmas.Option.{slice_get-get_or}
@@ -14,7 +15,8 @@ use Rattle.look_core.specs.Terminators.{Terminator}
 use Rattle.nfa_core.specs.Walks.{Has, distinct}
 use Rattle.nfa_core.specs.Runs.{answers}
 use Rattle.nfa_core.specs.Places.{before_answer, unless_answered, first}
-use Rattle.nfa_core.specs.Nfa.{Node, byte_range, sparse_node, dense_node, look_node, union_node, binary_union, capture_node, fail_node, match_node, Automaton, node_at, IsWellFormed}
+use Rattle.nfa_core.specs.Nfa.{Node, byte_range, sparse_node, dense_node, look_node, union_node, binary_union, capture_node, fail_node}
+use Rattle.nfa_core.specs.Nfa.{match_node, Automaton, node_at, IsWellFormed}
 use Rattle.nfa_core.specs.NfaValue.{is_capture}
 use Rattle.nfa_core.specs.Ways.{Text, span, reads, with_place, on_byte, on_read, byte_steps, match_of, matched_behind, place_of, bytes_left}
 use Rattle.nfa_core.proofs.ForCallers.{none_in, of_flat_map, names_equal, read_led, option_cases}
@@ -24,20 +26,23 @@ use Rattle.determinize_core.proofs.MadeLemmas.{AreBelow}
 
 -- ---- lists without captures
 
-flat_map_kept : {B : Type 0} (keep : ℕ → Bool) (f : ℕ → List B) → ((x : ℕ) → keep x ≡ false → f x ≡ []) → (xs : List ℕ) → flat_map f (filter keep xs) ≡ flat_map f xs
+flat_map_kept : {B : Type 0} (keep : ℕ → Bool) (f : ℕ → List B) → ((x : ℕ) → keep x ≡ false → f x ≡ []) → (xs : List ℕ) →
+    flat_map f (filter keep xs) ≡ flat_map f xs
 flat_map_kept keep f none [] = refl
 flat_map_kept keep f none (x ∷ xs) = ⊎_elim
     (λ (e : keep x ≡ true). rw e (ap (λ l. f x ++ l) (flat_map_kept keep f none xs)))
     (λ (e : keep x ≡ false). let n : f x ≡ [] = none x e in rw (e, n) (flat_map_kept keep f none xs)) (cases_Bool (keep x))
 
-before_kept : {B : Type 0} (keep : ℕ → Bool) (f : ℕ → List ℕ) (answer : ℕ → Option B) → ((x : ℕ) → keep x ≡ false → f x ≡ []) → ((x : ℕ) → keep x ≡ false → answer x ≡ None) →
+before_kept : {B : Type 0} (keep : ℕ → Bool) (f : ℕ → List ℕ) (answer : ℕ → Option B) → ((x : ℕ) → keep x ≡ false → f x ≡ []) →
+    ((x : ℕ) → keep x ≡ false → answer x ≡ None) →
     (xs : List ℕ) → flat_map f (before_answer answer (filter keep xs)) ≡ flat_map f (before_answer answer xs)
 before_kept keep f answer none silent [] = refl
 before_kept {B} keep f answer none silent (x ∷ xs) = ⊎_elim
     (λ (e : keep x ≡ true). ⊎_elim
     (λ (n : answer x ≡ None). rw (e, n) (ap (λ l. f x ++ l) (before_kept keep f answer none silent xs)))
     (λ (some : (d : B) × (answer x ≡ Some d)). let n = some.1 in rw (e, n) refl) (option_cases (answer x)))
-    (λ (e : keep x ≡ false). let n : f x ≡ [] = none x e in let m : answer x ≡ None = silent x e in rw (e, m, n) (before_kept keep f answer none silent xs)) (cases_Bool (keep x))
+    (λ (e : keep x ≡ false). let n : f x ≡ [] = none x e in let m : answer x ≡ None = silent x e in
+        rw (e, m, n) (before_kept keep f answer none silent xs)) (cases_Bool (keep x))
 
 capture_reads : (node : Node) (b : ℕ) → not (is_capture node) ≡ false → on_byte node b ≡ []
 capture_reads (capture_node next pattern group slot) b k = refl
@@ -69,7 +74,8 @@ module _ (a : Automaton) where
   no_match : (x : ℕ) → is_kept a x ≡ false → pattern_at a x ≡ None
   no_match x k = capture_matches (node_at a x) k
 
-  pub kept_read : (kind : MatchKind) (u : Option ℕ) (xs : List ℕ) → flat_map (unit_steps a u) (reading kind a (kept a xs)) ≡ flat_map (unit_steps a u) (reading kind a xs)
+  pub kept_read : (kind : MatchKind) (u : Option ℕ) (xs : List ℕ) → flat_map (unit_steps a u) (reading kind a (kept a xs)) ≡ flat_map
+      (unit_steps a u) (reading kind a xs)
   kept_read AllMatches u xs = flat_map_kept (is_kept a) (unit_steps a u) (no_unit u) xs
   kept_read LeftmostFirst u xs = before_kept (is_kept a) (unit_steps a u) (pattern_at a) (no_unit u) no_match xs
 
@@ -97,7 +103,8 @@ flat_map_alike : (f g : ℕ → List ℕ) → ((x : ℕ) → f x ≡ g x) → (x
 flat_map_alike f g all [] = refl
 flat_map_alike f g all (x ∷ xs) = rw (all x) (ap (λ l. g x ++ l) (flat_map_alike f g all xs))
 
-read_unit : (node : Node) (j : ℕ) (u : Option ℕ) (a : Automaton) (x : ℕ) → node ≡ node_at a x → on_read node (with_place j u) ≡ unit_steps a u x
+read_unit : (node : Node) (j : ℕ) (u : Option ℕ) (a : Automaton) (x : ℕ) → node ≡ node_at a x →
+    on_read node (with_place j u) ≡ unit_steps a u x
 read_unit node j None a x e = refl
 read_unit node j (Some b) a x e = ap (λ m. on_byte m b) e
 
@@ -128,7 +135,8 @@ module _ (t : Terminator) (h : List ℕ) (s e i k : ℕ) (low : i ≤ e) (within
       (p, subst G (sym f) at)
     where
       is_reverse : (s p : ℕ) (o : Option ℕ) → s ≤ p → (if nat_le s p then with_place p o else None) ≡ with_place p o
-      is_reverse s p o above = ⊎_elim (λ told. rw told.0 refl) (λ told. let less = told.1 in absurd (omega (arith, above, less))) (leb_tells s p)
+      is_reverse s p o above = ⊎_elim (λ told. rw told.0 refl) (λ told. let less = told.1 in
+          absurd (omega (arith, above, less))) (leb_tells s p)
 
   -- the unit behind the next place is the one ahead of this one
   pub unit_passes : (r : Bool) → Left r → unit_behind r h (place_of r i (suc k)) ≡ unit_at r h (place_of r i k)
@@ -157,13 +165,15 @@ module _ (a : Automaton) (kind : MatchKind) (t : Terminator) (h : List ℕ) (s e
 
   -- where two lists are the same but for captures, the next entries are
   pub entries_alike : (ids list : List ℕ) → kept a ids ≡ kept a list →
-      flat_map (unit_steps a unit) (reading kind a ids) ≡ flat_map (byte_steps a (span t h s e) (place_of a.reverse i k)) (cut_of kind a i k list)
+      flat_map (unit_steps a unit) (reading kind a ids) ≡ flat_map (byte_steps a (span t h s e) (place_of a.reverse i k))
+          (cut_of kind a i k list)
   entries_alike ids list alike =
       sym (kept_read a kind unit ids)
       ∙ ap (λ l. flat_map (unit_steps a unit) (reading kind a l)) alike
       ∙ kept_read a kind unit list
       ∙ ap (flat_map (unit_steps a unit)) (sym (cut_reads a i k kind list))
-      ∙ sym (flat_map_alike (byte_steps a (span t h s e) (place_of a.reverse i k)) (unit_steps a unit) byte_steps_are (cut_of kind a i k list))
+      ∙ sym (flat_map_alike (byte_steps a (span t h s e) (place_of a.reverse i k)) (unit_steps a unit) byte_steps_are
+          (cut_of kind a i k list))
 
 pub unit_low : (a : Automaton) → IsWellFormed a → (u : Option ℕ) (xs : List ℕ) → AreBelow (length a.states) (flat_map (unit_steps a u) xs)
 unit_low a formed u xs = of_flat_map nat_eq names_equal nat_eq (unit_steps a u) (λ q. q < length a.states) xs (λ x there q h. led u x q h)
@@ -172,6 +182,7 @@ unit_low a formed u xs = of_flat_map nat_eq names_equal nat_eq (unit_steps a u) 
     led None x q h = none_in nat_eq q _ h
     led (Some b) x q h = formed x q (read_led (node_at a x) (Some (b, 0)) q h)
 
-pub bytes_low : (a : Automaton) → IsWellFormed a → (text : Text) (j : ℕ) (xs : List ℕ) → AreBelow (length a.states) (flat_map (byte_steps a text j) xs)
+pub bytes_low : (a : Automaton) → IsWellFormed a → (text : Text) (j : ℕ) (xs : List ℕ) →
+    AreBelow (length a.states) (flat_map (byte_steps a text j) xs)
 bytes_low a formed text j xs = of_flat_map nat_eq names_equal nat_eq (byte_steps a text j) (λ q. q < length a.states) xs
     (λ x there q h. formed x q (read_led (node_at a x) (reads a.reverse text j) q h))

@@ -38,7 +38,8 @@ reverse_of t h i l = record {
 
 pub known_forward : (looks : ℕ) (t : Terminator) (h : List ℕ) (l : Look) (i : ℕ) → i ≤ length h →
     has_look (look_behind looks false t (start_of t (byte_before h i))).look_have l ≡ true → holds_ascii t h l i ≡ true
-known_forward looks t h l i within = known_holds (families_of looks) false t (λ l. holds_ascii t h l i ≡ true) (byte_before h i) (forward t h i within) l
+known_forward looks t h l i within = known_holds (families_of looks) false t (λ l. holds_ascii t h l i ≡ true) (byte_before h i)
+    (forward t h i within) l
 
 pub known_in_reverse : (looks : ℕ) (t : Terminator) (h : List ℕ) (l : Look) (i : ℕ) → i ≤ length h →
     has_look (look_behind looks true t (start_of t (byte_at h i))).look_have l ≡ true → holds_ascii t h (reversed l) i ≡ true

@@ -6,7 +6,8 @@ use Rattle.determinize_core.specs.Starts.{start_of}
 use Rattle.determinize_core.specs.LookBehind.{families_of, look_behind}
 use Rattle.determinize_core.specs.declared.lookbehind.LookBehind.{LookBehind}
 use Rattle.determinize_core.specs.declared.start.Start.{Start}
-use Rattle.determinize_core.specs.declared.start.Start.TheVariants.{NonWordByte, WordByte, Text, LineLF, LineCR, CustomLineTerminator, CustomWordLineTerminator}
+use Rattle.determinize_core.specs.declared.start.Start.TheVariants.{NonWordByte, WordByte, Text, LineLF, LineCR, CustomLineTerminator}
+use Rattle.determinize_core.specs.declared.start.Start.TheVariants.{CustomWordLineTerminator}
 
 -- no byte, and those of the line feed, the carriage return, `;`, `a` and the blank
 abbrev starts : Terminator → List Start
@@ -21,13 +22,15 @@ starts_at_semicolons = refl
 starts_at_two_bytes : starts (two_of 0x61 0x0D) ≡ Text ∷ LineLF ∷ LineCR ∷ NonWordByte ∷ CustomWordLineTerminator ∷ NonWordByte ∷ []
 starts_at_two_bytes = refl
 
-starts_at_words_and_others : starts (two_of 0x61 0x3B) ≡ Text ∷ LineLF ∷ LineCR ∷ CustomLineTerminator ∷ CustomWordLineTerminator ∷ NonWordByte ∷ []
+starts_at_words_and_others : starts (two_of 0x61 0x3B) ≡ Text ∷ LineLF ∷ LineCR ∷ CustomLineTerminator ∷ CustomWordLineTerminator ∷
+    NonWordByte ∷ []
 starts_at_words_and_others = refl
 
 -- what is known by each start, by the order of their numbers
 abbrev known : ℕ → Bool → Terminator → List LookBehind
 known looks reverse t =
-    map (look_behind looks reverse t) (NonWordByte ∷ WordByte ∷ Text ∷ LineLF ∷ LineCR ∷ CustomLineTerminator ∷ CustomWordLineTerminator ∷ [])
+    map (look_behind looks reverse t) (NonWordByte ∷ WordByte ∷ Text ∷ LineLF ∷ LineCR ∷ CustomLineTerminator ∷ CustomWordLineTerminator ∷
+        [])
 
 -- looks alone, those beside a word byte, and those beside the first half of a carriage return and a line feed
 abbrev have : ℕ → LookBehind

@@ -18,22 +18,28 @@ use Rattle.determinize_core.proofs.CloseAllLemmas.{closed_is, once_from_distinct
 pub one_inside : (n q : ℕ) → q < n → AreBelow n (q ∷ [])
 one_inside n q low = of_cons nat_eq names_equal (λ r. r < n) q [] low (λ r h. none_in nat_eq r _ h)
 
-module _ (a : Automaton) (formed : IsWellFormed a) (q : ℕ) (low : q < length a.states) (looks : ℕ) (old set : List ℕ) (none : old ≡ []) (v : Visits nat_eq (known_steps a looks) (q ∷ []) old set) where
+module _ (a : Automaton) (formed : IsWellFormed a) (q : ℕ) (low : q < length a.states) (looks : ℕ) (old set : List ℕ) (none : old ≡ [])
+    (v : Visits nat_eq (known_steps a looks) (q ∷ []) old set) where
   one_closed : set ≡ closed a looks (q ∷ [])
-  one_closed = closed_is a looks formed (q ∷ []) set (one_inside (length a.states) q low) (subst (λ (l : List ℕ). Visits nat_eq (known_steps a looks) (q ∷ []) l set) none v)
+  one_closed = closed_is a looks formed (q ∷ []) set (one_inside (length a.states) q low)
+      (subst (λ (l : List ℕ). Visits nat_eq (known_steps a looks) (q ∷ []) l set) none v)
 
-  pub start_builds : (t : Terminator) (s : Start) (w x m b : StateValue) → w ≡ dead → x ≡ with_look_behind (behind a t s) w → looks ≡ x.look_have → m ≡ x → b ≡ with_states a set m →
+  pub start_builds : (t : Terminator) (s : Start) (w x m b : StateValue) → w ≡ dead → x ≡ with_look_behind (behind a t s) w →
+      looks ≡ x.look_have → m ≡ x → b ≡ with_states a set m →
       b ≡ start_value a t s q
   start_builds t s w x m b begun told known same built =
       let first : x ≡ with_look_behind (behind a t s) dead = told ∙ ap (with_look_behind (behind a t s)) begun in
-      let looks_are : looks ≡ (behind a t s).look_have = known ∙ ap (λ (y : StateValue). y.look_have) (first ∙ fresh_with_known (behind a t s)) in
+      let looks_are : looks ≡ (behind a t s).look_have = known ∙ ap (λ (y : StateValue). y.look_have) (first
+          ∙ fresh_with_known (behind a t s)) in
       built ∙ (ap (with_states a set) (same ∙ first)
       ∙ (ap (λ (qs : List ℕ). with_states a qs (with_look_behind (behind a t s) dead)) one_closed
       ∙ ap (λ (l : ℕ). with_states a (closed a l (q ∷ [])) (with_look_behind (behind a t s) dead)) looks_are))
 
 -- what the walk from a start has cost, wherever it was cut off
-pub start_costs : (a : Automaton) (looks : ℕ) (old set : List ℕ) → old ≡ [] → IsDistinct nat_eq set → All (λ q. q < length a.states) set → (before now : ℕ) →
+pub start_costs : (a : Automaton) (looks : ℕ) (old set : List ℕ) → old ≡ [] → IsDistinct nat_eq set → All (λ q. q < length a.states) set →
+    (before now : ℕ) →
     now ≤ before + 1 + known_ways a looks (drop (length old) set) → now ≤ before + 1 + free_ways a
 start_costs a looks old set none once below before now cost =
-    let whole : known_ways a looks (drop (length old) set) ≡ known_ways a looks set = ap (λ (l : List ℕ). known_ways a looks (drop (length l) set)) none in
+    let whole : known_ways a looks (drop (length old) set) ≡ known_ways a looks set =
+        ap (λ (l : List ℕ). known_ways a looks (drop (length l) set)) none in
     omega (arith, cost, whole, ways_once a looks set (once_from_distinct set once) (has_from_all (length a.states) set below))

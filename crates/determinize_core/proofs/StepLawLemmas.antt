@@ -1,5 +1,6 @@
 -- Laws of steps.
-use Rattle.std.proofs.Common.{◌≡◌, ℕ, ◌<◌, ◌≤◌, true, false, Bool, not, ◌&&◌, List, [], ◌∷◌, length, Option, Some, None, refl, ap, ◌∙◌, arith, cond, All, ⊎_elim, option_to_list}
+use Rattle.std.proofs.Common.{◌≡◌, ℕ, ◌<◌, ◌≤◌, true, false, Bool, not, ◌&&◌, List, [], ◌∷◌, length, Option, Some, None, refl, ap, ◌∙◌}
+use Rattle.std.proofs.Common.{arith, cond, All, ⊎_elim, option_to_list}
 use Rattle.std.proofs.lemmas.Bool.{cases_Bool}
 use Rattle.std.specs.Bool.{nat_eq}
 use lib.Bits.{or_zero_r}
@@ -12,12 +13,15 @@ use Rattle.search_types.specs.declared.match_kind.MatchKind.TheVariants.{All as 
 use Rattle.nfa_core.specs.Walks.{has, Has, HasNoneTwice}
 use Rattle.nfa_core.specs.Places.{first}
 use Rattle.nfa_core.specs.Runs.{answers}
-use Rattle.nfa_core.specs.Nfa.{Node, byte_range, sparse_node, dense_node, look_node, union_node, binary_union, capture_node, fail_node, match_node, Automaton, node_at, IsWellFormed}
+use Rattle.nfa_core.specs.Nfa.{Node, byte_range, sparse_node, dense_node, look_node, union_node, binary_union, capture_node, fail_node}
+use Rattle.nfa_core.specs.Nfa.{match_node, Automaton, node_at, IsWellFormed}
 use Rattle.nfa_core.specs.NfaValue.{look_of, is_capture}
 use Rattle.nfa_core.specs.Reached.{AreBelow}
 use Rattle.nfa_core.proofs.ForCallers.{not_both, has_first, has_later, of_cons, names_equal}
 use Rattle.determinize_core.specs.States.{StateValue, dead}
-use Rattle.determinize_core.specs.Steps.{is_kept, kept, looks_with, have_if, is_some_kept, closed, known_before, known_behind, gains, ids_before, families, first_half, pattern_at, patterns_in, reading, unit_steps, states_behind, step_value, behind, start_value}
+use Rattle.determinize_core.specs.Steps.{is_kept, kept, looks_with, have_if, is_some_kept, closed, known_before, known_behind, gains}
+use Rattle.determinize_core.specs.Steps.{ids_before, families, first_half, pattern_at, patterns_in, reading, unit_steps, states_behind}
+use Rattle.determinize_core.specs.Steps.{step_value, behind, start_value}
 use Rattle.determinize_core.specs.declared.start.Start.{Start}
 use Rattle.determinize_core.proofs.CloseAllLemmas.{closed_once, closed_below, distinct_from_once, all_from_below}
 use Rattle.determinize_core.proofs.DecodeLemmas.{same_made}
@@ -32,11 +36,14 @@ kept_has : (a : Automaton) (q : ℕ) (xs : List ℕ) → Has nat_eq q (kept a xs
 kept_has a q [] h = h
 kept_has a q (x ∷ xs) h = ⊎_elim
     (λ (e : is_kept a x ≡ true). let g : Has nat_eq q (x ∷ kept a xs) = (rw e at h) in
-    of_cons nat_eq names_equal (λ p. Has nat_eq p (x ∷ xs)) x (kept a xs) (has_first nat_eq names_equal x xs) (λ p i. has_later nat_eq p x xs (kept_has a p xs i)) q g)
-    (λ (e : is_kept a x ≡ false). let g : Has nat_eq q (kept a xs) = (rw e at h) in has_later nat_eq q x xs (kept_has a q xs g)) (cases_Bool (is_kept a x))
+    of_cons nat_eq names_equal (λ p. Has nat_eq p (x ∷ xs)) x (kept a xs) (has_first nat_eq names_equal x xs)
+        (λ p i. has_later nat_eq p x xs (kept_has a p xs i)) q g)
+    (λ (e : is_kept a x ≡ false). let g : Has nat_eq q (kept a xs) = (rw e at h) in
+        has_later nat_eq q x xs (kept_has a q xs g)) (cases_Bool (is_kept a x))
 
 kept_lacks : (a : Automaton) (q : ℕ) (xs : List ℕ) → has nat_eq q xs ≡ false → has nat_eq q (kept a xs) ≡ false
-kept_lacks a q xs absent = ⊎_elim (λ (h : Has nat_eq q (kept a xs)). not_both (has nat_eq q xs) _ (kept_has a q xs h) absent) (λ e. e) (cases_Bool (has nat_eq q (kept a xs)))
+kept_lacks a q xs absent = ⊎_elim (λ (h : Has nat_eq q (kept a xs)). not_both (has nat_eq q xs) _ (kept_has a q xs h) absent) (λ e. e)
+    (cases_Bool (has nat_eq q (kept a xs)))
 
 kept_once : (a : Automaton) (xs : List ℕ) → HasNoneTwice nat_eq xs → HasNoneTwice nat_eq (kept a xs)
 kept_once a [] once = tt
@@ -47,20 +54,25 @@ kept_once a (x ∷ xs) once = ⊎_elim
 pub kept_distinct : (a : Automaton) (looks : ℕ) (qs : List ℕ) → IsDistinct nat_eq (kept a (closed a looks qs))
 kept_distinct a looks qs = distinct_from_once (kept a (closed a looks qs)) (kept_once a (closed a looks qs) (closed_once a looks qs))
 
-pub kept_below : (a : Automaton) (looks : ℕ) (qs : List ℕ) → IsWellFormed a → AreBelow (length a.states) qs → All (λ q. q < length a.states) (kept a (closed a looks qs))
+pub kept_below : (a : Automaton) (looks : ℕ) (qs : List ℕ) → IsWellFormed a → AreBelow (length a.states) qs →
+    All (λ q. q < length a.states) (kept a (closed a looks qs))
 kept_below a looks qs formed below =
-    all_from_below (length a.states) (kept a (closed a looks qs)) (λ q h. closed_below a looks formed qs below q (kept_has a q (closed a looks qs) h))
+    all_from_below (length a.states) (kept a (closed a looks qs)) (λ q h. closed_below a looks formed qs below q
+        (kept_has a q (closed a looks qs) h))
 
 -- ---- laws
 
 module _ (a : Automaton) (t : Terminator) (kind : MatchKind) (v : StateValue) (u : Option ℕ) where
   pub step_below : IsWellFormed a → All (λ q. q < length a.states) (step_value a t kind v u).ids
-  step_below formed = kept_below a (known_behind (families a) a.reverse t u) (flat_map (unit_steps a u) (reading kind a (ids_before a t v u))) formed (units_below a formed u (reading kind a (ids_before a t v u)))
+  step_below formed = kept_below a (known_behind (families a) a.reverse t u)
+      (flat_map (unit_steps a u) (reading kind a (ids_before a t v u))) formed
+      (units_below a formed u (reading kind a (ids_before a t v u)))
 
   pub step_once : IsDistinct nat_eq (step_value a t kind v u).ids
   step_once = kept_distinct a (known_behind (families a) a.reverse t u) (flat_map (unit_steps a u) (reading kind a (ids_before a t v u)))
 
-pub start_below : (a : Automaton) (t : Terminator) (s : Start) (q : ℕ) → IsWellFormed a → q < length a.states → All (λ r. r < length a.states) (start_value a t s q).ids
+pub start_below : (a : Automaton) (t : Terminator) (s : Start) (q : ℕ) → IsWellFormed a → q < length a.states →
+    All (λ r. r < length a.states) (start_value a t s q).ids
 start_below a t s q formed low = kept_below a (behind a t s).look_have (q ∷ []) formed (one_inside (length a.states) q low)
 
 pub start_once : (a : Automaton) (t : Terminator) (s : Start) (q : ℕ) → IsDistinct nat_eq (start_value a t s q).ids
@@ -97,7 +109,8 @@ module _ (a : Automaton) where
   none_looks looks [] none = refl
   none_looks looks (q ∷ qs) none =
       let parts = first_not_kept q qs none in
-      let same : union_of looks (look_of (node_at a q)) ≡ looks = ap (union_of looks) (capture_looks (node_at a q) parts.0) ∙ or_zero_r looks in
+      let same : union_of looks (look_of (node_at a q)) ≡ looks = ap (union_of looks) (capture_looks (node_at a q) parts.0)
+          ∙ or_zero_r looks in
       ap (λ (l : ℕ). looks_with a l qs) same ∙ none_looks looks qs parts.1
 
   module _ (t : Terminator) (kind : MatchKind) (v : StateValue) (u : Option ℕ) where
@@ -107,10 +120,12 @@ module _ (a : Automaton) where
         let looks : looks_with a 0 (states_behind a t kind v u) ≡ 0 = none_looks 0 (states_behind a t kind v u) no_state in
         same_made
         (ap (λ (b : Bool). (families a).words && (is_word (byte_side u) && b)) some ∙ never_both (families a).words (is_word (byte_side u)))
-        (ap (λ (b : Bool). (families a).crlf && (is_byte (first_half a.reverse) u && b)) some ∙ never_both (families a).crlf (is_byte (first_half a.reverse) u))
+        (ap (λ (b : Bool). (families a).crlf && (is_byte (first_half a.reverse) u && b)) some
+            ∙ never_both (families a).crlf (is_byte (first_half a.reverse) u))
         (ap (λ (n : ℕ). have_if n (known_behind (families a) a.reverse t u)) looks) looks no_match no_state
 
-  dead_before_by : (t : Terminator) (u : Option ℕ) (b : Bool) → gains dead (known_before a.reverse t dead u) ≡ b → ids_before a t dead u ≡ []
+  dead_before_by : (t : Terminator) (u : Option ℕ) (b : Bool) → gains dead (known_before a.reverse t dead u) ≡ b →
+      ids_before a t dead u ≡ []
   dead_before_by t u true e = ap (λ (g : Bool). cond g (closed a (known_before a.reverse t dead u) []) []) e
   dead_before_by t u false e = ap (λ (g : Bool). cond g (closed a (known_before a.reverse t dead u) []) []) e
 

@@ -19,11 +19,13 @@ one_letter = record {
   reverse = false;
 }
 
-at_start : encoded (walk_value one_letter (one_of 10) LeftmostFirst (97 ∷ 98 ∷ []) 0 0 0) ≡ 0 ∷ 0 ∷ 0 ∷ 0 ∷ 0 ∷ 0 ∷ 0 ∷ 0 ∷ 0 ∷ 0 ∷ 4 ∷ 1 ∷ []
+at_start : encoded (walk_value one_letter (one_of 10) LeftmostFirst (97 ∷ 98 ∷ []) 0 0 0) ≡ 0 ∷ 0 ∷ 0 ∷ 0 ∷ 0 ∷ 0 ∷ 0 ∷ 0 ∷ 0 ∷ 0 ∷ 4 ∷ 1 ∷
+    []
 unfolding families_of known_words known_lines
 at_start = refl
 
-behind_letter : encoded (walk_value one_letter (one_of 10) LeftmostFirst (97 ∷ 98 ∷ []) 0 0 1) ≡ 0 ∷ 0 ∷ 0 ∷ 0 ∷ 0 ∷ 0 ∷ 0 ∷ 0 ∷ 0 ∷ 6 ∷ 5 ∷ 4 ∷ 1 ∷ []
+behind_letter : encoded (walk_value one_letter (one_of 10) LeftmostFirst (97 ∷ 98 ∷ []) 0 0 1) ≡ 0 ∷ 0 ∷ 0 ∷ 0 ∷ 0 ∷ 0 ∷ 0 ∷ 0 ∷ 0 ∷ 6 ∷ 5 ∷
+    4 ∷ 1 ∷ []
 unfolding families_of known_words known_lines
 behind_letter = refl
 
@@ -37,7 +39,8 @@ behind_end = refl
 
 -- matches where a line begins, lines ended by CRLF, by a line feed or by a carriage return
 abbrev line_starts : Automaton
-line_starts = record { states = look_node StartCRLF 1 ∷ match_node 0 ∷ []; start_anchored = 0; start_unanchored = 0; start_pattern = 0 ∷ []; reverse = false }
+line_starts = record { states = look_node StartCRLF 1 ∷ match_node 0 ∷ []; start_anchored = 0; start_unanchored = 0; start_pattern = 0 ∷ [];
+    reverse = false }
 
 inside_crlf : (walk_value line_starts (one_of 10) LeftmostFirst (13 ∷ 10 ∷ []) 1 0 1).matches ≡ []
 unfolding families_of known_words known_lines
@@ -73,7 +76,8 @@ before_feed = refl
 
 -- a word begins, and then its first letter and the place behind its last one
 abbrev words : Automaton
-words = record { states = look_node WordAscii 1 ∷ byte_range 97 122 2 ∷ look_node WordEndAscii 3 ∷ match_node 7 ∷ []; start_anchored = 0; start_unanchored = 0; start_pattern = 0 ∷ []; reverse = false }
+words = record { states = look_node WordAscii 1 ∷ byte_range 97 122 2 ∷ look_node WordEndAscii 3 ∷ match_node 7 ∷ []; start_anchored = 0;
+    start_unanchored = 0; start_pattern = 0 ∷ []; reverse = false }
 
 one_letter_word : (walk_value words (one_of 10) LeftmostFirst (45 ∷ 97 ∷ 45 ∷ []) 1 0 2).matches ≡ 7 ∷ []
 unfolding families_of known_words known_lines

@@ -1,5 +1,6 @@
 -- What steps come to keeps to what every state keeps to.
-use Rattle.std.proofs.Common.{ℕ, zero, suc, ◌<◌, ◌≤◌, ◌+◌, ◌==◌, ◌&&◌, true, false, Bool, List, [], ◌∷◌, length, get_or, Option, Some, None, refl, arith, cond, All, option_to_list}
+use Rattle.std.proofs.Common.{ℕ, zero, suc, ◌<◌, ◌≤◌, ◌+◌, ◌==◌, ◌&&◌, true, false, Bool, List, [], ◌∷◌, length, get_or, Option, Some, None}
+use Rattle.std.proofs.Common.{refl, arith, cond, All, option_to_list}
 use Rattle.std.specs.Bool.{nat_eq}
 use Rattle.search_core.specs.Index.{greatest_index}
 use Rattle.look_core.specs.LookSets.{IsLookSet, union_of}
@@ -11,13 +12,15 @@ use Rattle.search_types.specs.declared.match_kind.MatchKind.TheVariants.{All as 
 use Rattle.nfa_core.specs.Walks.{HasNoneTwice}
 use Rattle.nfa_core.specs.Places.{first}
 use Rattle.nfa_core.specs.Runs.{answers}
-use Rattle.nfa_core.specs.Nfa.{Node, byte_range, sparse_node, dense_node, look_node, union_node, binary_union, capture_node, fail_node, match_node, Automaton, node_at}
+use Rattle.nfa_core.specs.Nfa.{Node, byte_range, sparse_node, dense_node, look_node, union_node, binary_union, capture_node, fail_node}
+use Rattle.nfa_core.specs.Nfa.{match_node, Automaton, node_at}
 use Rattle.nfa_core.specs.NfaValue.{IsSound, IsNodeOf, look_of}
 use Rattle.nfa_core.specs.Reached.{AreBelow}
 use Rattle.nfa_core.proofs.ForCallers.{none_in, has_first, of_flat_map, join_once, of_join, names_equal, sound_at}
 use Rattle.determinize_core.specs.States.{StateValue, IsState, dead}
 use Rattle.determinize_core.specs.LookBehind.{with_look_behind}
-use Rattle.determinize_core.specs.Steps.{looks_with, have_if, closed, known_behind, ids_before, families, second_half, pattern_of, pattern_at, patterns_in, states_behind, step_value, behind, start_value}
+use Rattle.determinize_core.specs.Steps.{looks_with, have_if, closed, known_behind, ids_before, families, second_half, pattern_of}
+use Rattle.determinize_core.specs.Steps.{pattern_at, patterns_in, states_behind, step_value, behind, start_value}
 use Rattle.determinize_core.specs.declared.start.Start.{Start}
 use Rattle.determinize_core.specs.declared.lookbehind.Families.{Families}
 use Rattle.determinize_core.proofs.CloseAllLemmas.{distinct_from_once, all_from_below}
@@ -41,7 +44,8 @@ look_of-lt (match_node pattern) = omega arith
 
 looks_with-lt : (a : Automaton) (looks : ℕ) (qs : List ℕ) → IsLookSet looks → IsLookSet (looks_with a looks qs)
 looks_with-lt a looks [] within = within
-looks_with-lt a looks (q ∷ qs) within = looks_with-lt a (union_of looks (look_of (node_at a q))) qs (union-lt looks (look_of (node_at a q)) within (look_of-lt (node_at a q)))
+looks_with-lt a looks (q ∷ qs) within = looks_with-lt a (union_of looks (look_of (node_at a q))) qs
+    (union-lt looks (look_of (node_at a q)) within (look_of-lt (node_at a q)))
 
 -- the families whose starts are known behind a unit
 abbrev known_at : Families → Bool → Terminator → Option ℕ → Families
@@ -87,7 +91,8 @@ module _ (a : Automaton) where
       (λ q _h. pattern_below (length a.start_pattern) (node_at a q) (sound_at (length a.start_pattern) a.states q sound.nodes))
 
   pub patterns_below : IsSound a → (kind : MatchKind) (qs : List ℕ) → AreBelow (length a.start_pattern) (patterns_in kind a qs)
-  patterns_below sound AllMatches qs = of_join nat_eq names_equal (λ p. p < length a.start_pattern) [] (answers (pattern_at a) qs) (λ p h. none_in nat_eq p _ h) (answers_below sound qs)
+  patterns_below sound AllMatches qs = of_join nat_eq names_equal (λ p. p < length a.start_pattern) [] (answers (pattern_at a) qs)
+      (λ p h. none_in nat_eq p _ h) (answers_below sound qs)
   patterns_below sound LeftmostFirst qs = first_below (length a.start_pattern) (answers (pattern_at a) qs) (answers_below sound qs)
 
   patterns_once : (kind : MatchKind) (qs : List ℕ) → HasNoneTwice nat_eq (patterns_in kind a qs)
@@ -99,21 +104,26 @@ module _ (a : Automaton) where
 at_most : (n : ℕ) (xs : List ℕ) → n ≤ greatest_index + 1 → All (λ q. q < n) xs → All (λ q. q ≤ greatest_index) xs
 at_most n xs few all k d p = let less = all k d p in omega (arith, few, less)
 
-pub step_state : (a : Automaton) (t : Terminator) (kind : MatchKind) (v : StateValue) (u : Option ℕ) → IsSound a → IsState (step_value a t kind v u)
+pub step_state : (a : Automaton) (t : Terminator) (kind : MatchKind) (v : StateValue) (u : Option ℕ) → IsSound a →
+    IsState (step_value a t kind v u)
 step_state a t kind v u sound = record {
-  have = have_if-lt (looks_with a 0 (states_behind a t kind v u)) (known_behind (families a) a.reverse t u) (starts_of-lt (known_at (families a) a.reverse t u));
+  have = have_if-lt (looks_with a 0 (states_behind a t kind v u)) (known_behind (families a) a.reverse t u)
+      (starts_of-lt (known_at (families a) a.reverse t u));
   need = looks_with-lt a 0 (states_behind a t kind v u) (omega arith);
   patterns = at_most (length a.start_pattern) (patterns_in kind a (ids_before a t v u)) sound.patterns_numbered
-      (all_from_below (length a.start_pattern) (patterns_in kind a (ids_before a t v u)) (patterns_below a sound kind (ids_before a t v u)));
+      (all_from_below (length a.start_pattern) (patterns_in kind a (ids_before a t v u))
+          (patterns_below a sound kind (ids_before a t v u)));
   once = distinct_from_once (patterns_in kind a (ids_before a t v u)) (patterns_once a kind (ids_before a t v u));
   states = at_most (length a.states) (step_value a t kind v u).ids sound.states_numbered (step_below a t kind v u sound.named);
 }
 
 pub start_state : (a : Automaton) (t : Terminator) (s : Start) (q : ℕ) → IsSound a → q < length a.states → IsState (start_value a t s q)
 start_state a t s q sound low =
-    let begun : IsState (with_look_behind (behind a t s) dead) = state_with_known (behind a t s) dead (known-lt (families a) a.reverse t s) dead_state in
+    let begun : IsState (with_look_behind (behind a t s) dead) = state_with_known (behind a t s) dead
+        (known-lt (families a) a.reverse t s) dead_state in
     record {
-      have = have_if-lt (looks_with a 0 (closed a (behind a t s).look_have (q ∷ []))) (with_look_behind (behind a t s) dead).look_have begun.have;
+      have = have_if-lt (looks_with a 0 (closed a (behind a t s).look_have (q ∷ [])))
+          (with_look_behind (behind a t s) dead).look_have begun.have;
       need = looks_with-lt a 0 (closed a (behind a t s).look_have (q ∷ [])) (omega arith);
       patterns = begun.patterns;
       once = begun.once;

@@ -9,7 +9,8 @@ use Rattle.look_core.specs.LookSets.{has_look, union_of}
 use Rattle.look_core.specs.Terminators.{Terminator}
 use Rattle.look_core.proofs.ForCallers.{has_look-none, has_look-repr, has_look-union, same_from_bit}
 use Rattle.search_types.specs.declared.match_kind.MatchKind.{MatchKind}
-use Rattle.nfa_core.specs.Nfa.{Node, byte_range, sparse_node, dense_node, look_node, union_node, binary_union, capture_node, fail_node, match_node, Automaton, node_at}
+use Rattle.nfa_core.specs.Nfa.{Node, byte_range, sparse_node, dense_node, look_node, union_node, binary_union, capture_node, fail_node}
+use Rattle.nfa_core.specs.Nfa.{match_node, Automaton, node_at}
 use Rattle.nfa_core.specs.NfaValue.{IsSound, look_of, looks_of}
 use Rattle.nfa_core.proofs.ForCallers.{looks_any, not_both, has_from_all}
 use Rattle.determinize_core.specs.States.{StateValue, dead}
@@ -34,7 +35,8 @@ has_its_state l (byte_range low high next) h = no_look l _ h
 has_its_state l (sparse_node ranges) h = no_look l _ h
 has_its_state l (dense_node names) h = no_look l _ h
 has_its_state l (look_node k next) h =
-    let e : l ≡ k = same_from_bit l k (eqb-true (bit_of l) (bit_of k) (sym (has_look-repr k l) ∙ h)) in (next, ap (λ m. look_node m next) (sym e))
+    let e : l ≡ k = same_from_bit l k (eqb-true (bit_of l) (bit_of k) (sym (has_look-repr k l) ∙ h)) in
+        (next, ap (λ m. look_node m next) (sym e))
 has_its_state l (union_node names) h = no_look l _ h
 has_its_state l (binary_union first second) h = no_look l _ h
 has_its_state l (capture_node next pattern group slot) h = no_look l _ h
@@ -50,28 +52,33 @@ module _ (a : Automaton) (l : Look) where
   of_either false y Answer e left right = right e
 
   -- looks that states add to those of a set are the automaton's
-  looks_of_states : (qs : List ℕ) (s : ℕ) → (has_look s l ≡ true → has_look (looks_of a.states) l ≡ true) → has_look (looks_with a s qs) l ≡ true →
+  looks_of_states : (qs : List ℕ) (s : ℕ) → (has_look s l ≡ true → has_look (looks_of a.states) l ≡ true) →
+      has_look (looks_with a s qs) l ≡ true →
       has_look (looks_of a.states) l ≡ true
   looks_of_states [] s old h = old h
   looks_of_states (q ∷ qs) s old h =
       looks_of_states qs (union_of s (look_of (node_at a q)))
-      (λ g. of_either (has_look s l) (has_look (look_of (node_at a q)) l) (has_look (looks_of a.states) l ≡ true) (sym (has_look-union s (look_of (node_at a q)) l) ∙ g) old (of_state q)) h
+      (λ g. of_either (has_look s l) (has_look (look_of (node_at a q)) l) (has_look (looks_of a.states) l ≡ true)
+          (sym (has_look-union s (look_of (node_at a q)) l) ∙ g) old (of_state q)) h
 
 looks_from_none : (a : Automaton) (qs : List ℕ) (l : Look) → has_look (looks_with a 0 qs) l ≡ true → has_look (looks_of a.states) l ≡ true
 looks_from_none a qs l h = looks_of_states a l qs 0 (λ g. not_both (has_look 0 l) _ g (has_look-none l)) h
 
 -- ---- states
 
-pub step_stepped : (a : Automaton) (t : Terminator) (kind : MatchKind) (v : StateValue) (u : Option ℕ) → IsSound a → IsStepped a (step_value a t kind v u)
+pub step_stepped : (a : Automaton) (t : Terminator) (kind : MatchKind) (v : StateValue) (u : Option ℕ) → IsSound a →
+    IsStepped a (step_value a t kind v u)
 step_stepped a t kind v u sound = record {
   state = step_state a t kind v u sound;
   below = step_below a t kind v u sound.named;
   once = step_once a t kind v u;
   looks = looks_from_none a (states_behind a t kind v u);
-  patterns = all_from_below (length a.start_pattern) (patterns_in kind a (ids_before a t v u)) (patterns_below a sound kind (ids_before a t v u));
+  patterns = all_from_below (length a.start_pattern) (patterns_in kind a (ids_before a t v u))
+      (patterns_below a sound kind (ids_before a t v u));
 }
 
-pub start_stepped : (a : Automaton) (t : Terminator) (s : Start) (q : ℕ) → IsSound a → q < length a.states → IsStepped a (start_value a t s q)
+pub start_stepped : (a : Automaton) (t : Terminator) (s : Start) (q : ℕ) → IsSound a → q < length a.states →
+    IsStepped a (start_value a t s q)
 start_stepped a t s q sound low = record {
   state = start_state a t s q sound low;
   below = start_below a t s q sound.named low;
@@ -94,4 +101,5 @@ few n xs once all = few_once n xs once (has_from_all n xs all)
 
 pub stepped_short : (a : Automaton) (v : StateValue) → IsStepped a v → length (encoded v) ≤ widest a
 stepped_short a v stepped =
-    omega (arith, length-encoded v, few (length a.states) v.ids stepped.once stepped.below, few (length a.start_pattern) v.matches stepped.state.once stepped.patterns)
+    omega (arith, length-encoded v, few (length a.states) v.ids stepped.once stepped.below,
+        few (length a.start_pattern) v.matches stepped.state.once stepped.patterns)

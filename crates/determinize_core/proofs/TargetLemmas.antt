@@ -16,10 +16,14 @@ pub unit_below : (a : Automaton) → IsWellFormed a → (u : Option ℕ) (q : �
 unit_below a formed None q = λ r h. none_in nat_eq r _ h
 unit_below a formed (Some b) q = λ r h. byte_below a formed b q r h
 
-pub units_below : (a : Automaton) → IsWellFormed a → (u : Option ℕ) (qs : List ℕ) → AreBelow (length a.states) (flat_map (unit_steps a u) qs)
-units_below a formed u qs = of_flat_map nat_eq names_equal nat_eq (unit_steps a u) (λ r. r < length a.states) qs (λ q _h. unit_below a formed u q)
+pub units_below : (a : Automaton) → IsWellFormed a → (u : Option ℕ) (qs : List ℕ) →
+    AreBelow (length a.states) (flat_map (unit_steps a u) qs)
+units_below a formed u qs = of_flat_map nat_eq names_equal nat_eq (unit_steps a u) (λ r. r < length a.states) qs
+    (λ q _h. unit_below a formed u q)
 
-pub one_below : (a : Automaton) → IsWellFormed a → (b q : ℕ) (node : Node) (o : Option ℕ) → node ≡ node_at a q → option_to_list o ≡ on_byte node b → IfSome o (λ r. r < length a.states)
+pub one_below : (a : Automaton) → IsWellFormed a → (b q : ℕ) (node : Node) (o : Option ℕ) → node ≡ node_at a q →
+    option_to_list o ≡ on_byte node b → IfSome o (λ r. r < length a.states)
 one_below a formed b q node None is e = tt
 one_below a formed b q node (Some r) is e =
-    byte_below a formed b q r (subst (λ (w : Node). Has nat_eq r (on_byte w b)) is (subst (λ (xs : List ℕ). Has nat_eq r xs) e (has_first nat_eq names_equal r [])))
+    byte_below a formed b q r (subst (λ (w : Node). Has nat_eq r (on_byte w b)) is
+        (subst (λ (xs : List ℕ). Has nat_eq r xs) e (has_first nat_eq names_equal r [])))

@@ -1,5 +1,6 @@
 -- The states of a walk from powerset state to powerset state are those of the walk under all looks, but for captures.
-use Rattle.std.proofs.Common.{◌≡◌, ℕ, zero, suc, ◌<◌, ◌≤◌, true, List, [], ◌∷◌, length, Option, Some, None, refl, sym, ap, ◌∙◌, subst, arith}
+use Rattle.std.proofs.Common.{◌≡◌, ℕ, zero, suc, ◌<◌, ◌≤◌, true, List, [], ◌∷◌, length, Option, Some, None, refl, sym, ap, ◌∙◌, subst}
+use Rattle.std.proofs.Common.{arith}
 use Rattle.std.specs.Int.Bits.{or_zero_l}
 use Rattle.std.specs.List.{flat_map}
 use Rattle.std.specs.Bool.{nat_eq}
@@ -14,13 +15,16 @@ use Rattle.nfa_core.proofs.ForCallers.{none_in, of_cons, names_equal, stays_clos
 use Rattle.determinize_core.specs.States.{StateValue}
 use Rattle.determinize_core.specs.Starts.{start_of}
 use Rattle.determinize_core.specs.LookBehind.{starts_of}
-use Rattle.determinize_core.specs.Steps.{known_behind, closed, unit_steps, reading, patterns_in, kept, have_if, looks_with, ids_before, families, states_behind, is_some_kept, behind, start_value, step_value, unit_at, unit_behind, walk_value}
+use Rattle.determinize_core.specs.Steps.{known_behind, closed, unit_steps, reading, patterns_in, kept, have_if, looks_with, ids_before}
+use Rattle.determinize_core.specs.Steps.{families, states_behind, is_some_kept, behind, start_value, step_value, unit_at, unit_behind}
+use Rattle.determinize_core.specs.Steps.{walk_value}
 use Rattle.determinize_core.specs.Walked.{closed_by, cut_of, walked_lists}
 use Rattle.determinize_core.specs.declared.start.Start.TheVariants.{Text as AtText}
 use Rattle.determinize_core.specs.declared.lookbehind.Families.{Families}
 use Rattle.determinize_core.proofs.KnownStateLemmas.{known-lt, starts_of-lt}
 use Rattle.determinize_core.proofs.MadeLemmas.{AreBelow, walk_made, made_below}
-use Rattle.determinize_core.proofs.PassedLemmas.{passed_by, looks_passed, IsTold, start_is_told, start_is_flagged, seen_behind, behind_is_told, behind_is_flagged}
+use Rattle.determinize_core.proofs.PassedLemmas.{passed_by, looks_passed, IsTold, start_is_told, start_is_flagged, seen_behind}
+use Rattle.determinize_core.proofs.PassedLemmas.{behind_is_told, behind_is_flagged}
 use Rattle.determinize_core.proofs.EntriesLemmas.{stays_below, IsStateOf, closes}
 use Rattle.determinize_core.proofs.ReadingLemmas.{kept_match, unit_passes, unit_is, place_inside, entries_alike, unit_low, bytes_low}
 
@@ -31,13 +35,15 @@ one_below n q low = of_cons nat_eq names_equal (λ x. x < n) q [] low (λ x h. n
 
 pub closed_visits : (a : Automaton) → IsWellFormed a → (text : Text) (j : ℕ) (xs : List ℕ) → AreBelow (length a.states) xs →
     Visits nat_eq (plain_steps a text j) xs [] (closed_by a (plain_steps a text j) xs)
-closed_visits a formed text j xs low = walk_made (plain_steps a text j) (length a.states) (stays_below a formed (λ l. is_passed a.reverse text l j)) xs low
+closed_visits a formed text j xs low = walk_made (plain_steps a text j) (length a.states)
+    (stays_below a formed (λ l. is_passed a.reverse text l j)) xs low
 
 pub lists_are_lists : (kind : MatchKind) (a : Automaton) (text : Text) (i q : ℕ) → IsWellFormed a → q < length a.states →
     AreLists a text (i, q) (cut_of kind a i) (walked_lists kind a text i q)
 lists_are_lists kind a text i q formed low = record {
   first = closed_visits a formed text (place_of a.reverse i 0) (q ∷ []) (one_below (length a.states) q low);
-  later = λ k less. closed_visits a formed text (place_of a.reverse i (suc k)) (flat_map (byte_steps a text (place_of a.reverse i k)) (cut_of kind a i k (walked_lists kind a text i q k)))
+  later = λ k less. closed_visits a formed text (place_of a.reverse i (suc k))
+      (flat_map (byte_steps a text (place_of a.reverse i k)) (cut_of kind a i k (walked_lists kind a text i q k)))
       (bytes_low a formed text (place_of a.reverse i k) (cut_of kind a i k (walked_lists kind a text i q k)));
 }
 
@@ -57,7 +63,8 @@ start_stands a t o q low =
     }
 
 step_stands : (a : Automaton) → IsWellFormed a → (t : Terminator) (kind : MatchKind) (v : StateValue) (u : Option ℕ) (b : ℕ) → u ≡ Some b →
-    IsStateOf a t u (known_behind (families a) a.reverse t u) (flat_map (unit_steps a u) (reading kind a (ids_before a t v u))) (step_value a t kind v u)
+    IsStateOf a t u (known_behind (families a) a.reverse t u) (flat_map (unit_steps a u) (reading kind a (ids_before a t v u)))
+        (step_value a t kind v u)
 step_stands a formed t kind v u b e =
     let T : Option ℕ → Type 0 = λ x. IsTold (looks_of a.states) a.reverse t x (known_behind (families a) a.reverse t x) in record {
       ids = refl;
@@ -69,7 +76,8 @@ step_stands a formed t kind v u b e =
       low = unit_low a formed u (reading kind a (ids_before a t v u));
     }
 
-module _ (kind : MatchKind) (a : Automaton) (t : Terminator) (h : List ℕ) (s e i q : ℕ) (formed : IsWellFormed a) (below : i ≤ e) (within : e ≤ length h) (low : q < length a.states) where
+module _ (kind : MatchKind) (a : Automaton) (t : Terminator) (h : List ℕ) (s e i q : ℕ) (formed : IsWellFormed a) (below : i ≤ e)
+    (within : e ≤ length h) (low : q < length a.states) where
   abbrev text : Text
   text = span t h s e
 
@@ -90,11 +98,14 @@ module _ (kind : MatchKind) (a : Automaton) (t : Terminator) (h : List ℕ) (s e
 
   -- closed under all looks that hold, in the order of reading
   visits_by : (k : ℕ) → k ≤ len → (entries : List ℕ) → AreBelow (length a.states) entries →
-      Visits nat_eq (λ x. on_nothing (node_at a x) (passed_by a.reverse t (unit_behind a.reverse h (place k)) (unit k))) entries [] (closed_by a (plain_steps a text (place k)) entries)
+      Visits nat_eq (λ x. on_nothing (node_at a x) (passed_by a.reverse t (unit_behind a.reverse h (place k)) (unit k))) entries []
+          (closed_by a (plain_steps a text (place k)) entries)
   visits_by k l entries under =
-      stays_closed nat_eq names_equal (plain_steps a text (place k)) (λ x. on_nothing (node_at a x) (passed_by a.reverse t (unit_behind a.reverse h (place k)) (unit k)))
+      stays_closed nat_eq names_equal (plain_steps a text (place k)) (λ x. on_nothing (node_at a x)
+          (passed_by a.reverse t (unit_behind a.reverse h (place k)) (unit k)))
       (closed_visits a formed text (place k) entries under)
-      (λ x there. nothing_same (node_at a x) (λ m. is_passed a.reverse text m (place k)) (passed_by a.reverse t (unit_behind a.reverse h (place k)) (unit k))
+      (λ x there. nothing_same (node_at a x) (λ m. is_passed a.reverse text m (place k))
+          (passed_by a.reverse t (unit_behind a.reverse h (place k)) (unit k))
       (λ m next is. looks_passed a.reverse t h s e (place k) (place_inside t h s e i k below within a.reverse l) m))
 
   -- a state that stands there has the states that its entries come to
@@ -102,12 +113,14 @@ module _ (kind : MatchKind) (a : Automaton) (t : Terminator) (h : List ℕ) (s e
       kept a (ids_before a t (state k) (unit k)) ≡ kept a (closed_by a (plain_steps a text (place k)) entries)
   comes_to k l have entries stands =
       closes a formed t (unit_behind a.reverse h (place k)) (unit k) have entries (state k) stands
-      (made_below (λ x. on_nothing (node_at a x) (has_look have)) (length a.states) (stays_below a formed (has_look have)) entries stands.low)
+      (made_below (λ x. on_nothing (node_at a x) (has_look have)) (length a.states)
+          (stays_below a formed (has_look have)) entries stands.low)
       (closed_by a (plain_steps a text (place k)) entries) (visits_by k l entries stands.low)
 
   pub states_are : (k : ℕ) → k ≤ len → kept a (ids_before a t (state k) (unit k)) ≡ kept a (list k)
   states_are zero l =
-      let S : Option ℕ → Type 0 = λ o. IsStateOf a t o (behind a t (start_of t (unit_behind a.reverse h i))).look_have (q ∷ []) (state zero) in
+      let S : Option ℕ → Type 0 = λ o. IsStateOf a t o (behind a t (start_of t (unit_behind a.reverse h i))).look_have (q ∷ [])
+          (state zero) in
       comes_to zero l (behind a t (start_of t (unit_behind a.reverse h i))).look_have (q ∷ [])
       (subst S (ap (unit_behind a.reverse h) (sym (place_zero a.reverse i))) (start_stands a t (unit_behind a.reverse h i) q low))
   states_are (suc k) l =
@@ -123,4 +136,5 @@ module _ (kind : MatchKind) (a : Automaton) (t : Terminator) (h : List ℕ) (s e
       (entries_alike a kind t h s e i k below within less (ids_before a t (state k) (unit k)) (list k) before)
 
   pub matches_are : (k : ℕ) → k ≤ len → (state (suc k)).matches ≡ patterns_in kind a (list k)
-  matches_are k l = sym (kept_match a kind (ids_before a t (state k) (unit k))) ∙ ap (patterns_in kind a) (states_are k l) ∙ kept_match a kind (list k)
+  matches_are k l = sym (kept_match a kind (ids_before a t (state k) (unit k))) ∙ ap (patterns_in kind a) (states_are k l)
+      ∙ kept_match a kind (list k)

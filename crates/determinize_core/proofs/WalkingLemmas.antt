@@ -1,5 +1,6 @@
 -- A walk from state to state, one unit after another.
-use Rattle.std.proofs.Common.{◌≡◌, ℕ, ◌+◌, ◌<◌, ◌≤◌, List, [], ◌∷◌, ◌++◌, length, drop, get_or, Option, Some, None, sym, ap, ◌∙◌, append_assoc, All, subst}
+use Rattle.std.proofs.Common.{◌≡◌, ℕ, ◌+◌, ◌<◌, ◌≤◌, List, [], ◌∷◌, ◌++◌, length, drop, get_or, Option, Some, None, sym, ap, ◌∙◌}
+use Rattle.std.proofs.Common.{append_assoc, All, subst}
 use Rattle.std.specs.Bool.{nat_eq}
 use Rattle.std.specs.List.{IsDistinct}
 use Rattle.look_core.specs.Terminators.{Terminator}
@@ -14,7 +15,8 @@ use Rattle.determinize_core.proofs.StepLawLemmas.{step_below, step_once, start_b
 
 module _ (a : Automaton) (t : Terminator) (kind : MatchKind) (bytes : List ℕ) (whole items : List StateValue) (v : StateValue) (k : ℕ)
     (so_far : items ++ walked a t kind v (units_of (drop k bytes)) ≡ whole) where
-  pub walks_on : (b : ℕ) (u : Option ℕ) (behind : StateValue) (new : List StateValue) → k < length bytes → b ≡ get_or bytes k 0 → u ≡ Some b → behind ≡ step_value a t kind v u → new ≡ items ++ v ∷ [] →
+  pub walks_on : (b : ℕ) (u : Option ℕ) (behind : StateValue) (new : List StateValue) → k < length bytes → b ≡ get_or bytes k 0 →
+      u ≡ Some b → behind ≡ step_value a t kind v u → new ≡ items ++ v ∷ [] →
       new ++ walked a t kind behind (units_of (drop (k + 1) bytes)) ≡ whole
   walks_on b u behind new within is unit e pushed =
       ap (λ (l : List StateValue). l ++ walked a t kind behind (units_of (drop (k + 1) bytes))) pushed
@@ -22,7 +24,8 @@ module _ (a : Automaton) (t : Terminator) (kind : MatchKind) (bytes : List ℕ) 
       ∙ (ap (λ (w : StateValue). items ++ v ∷ walked a t kind w (units_of (drop (k + 1) bytes))) (e ∙ ap (step_value a t kind v) unit)
       ∙ (ap (λ (l : List ℕ). items ++ walked a t kind v (units_of l)) (sym (next_left bytes k b within is)) ∙ so_far)))
 
-  pub walk_ends : (end : StateValue) (new last : List StateValue) → length bytes ≤ k → end ≡ step_value a t kind v None → new ≡ items ++ v ∷ [] → last ≡ new ++ end ∷ [] → last ≡ whole
+  pub walk_ends : (end : StateValue) (new last : List StateValue) → length bytes ≤ k → end ≡ step_value a t kind v None →
+      new ≡ items ++ v ∷ [] → last ≡ new ++ end ∷ [] → last ≡ whole
   walk_ends end new last past e pushed again =
       again ∙ (ap (λ (l : List StateValue). l ++ end ∷ []) pushed
       ∙ (append_assoc items (v ∷ []) (end ∷ [])
@@ -30,7 +33,8 @@ module _ (a : Automaton) (t : Terminator) (kind : MatchKind) (bytes : List ℕ) 
       ∙ (ap (λ (l : List ℕ). items ++ walked a t kind v (units_of l)) (sym (past_all bytes k past)) ∙ so_far))))
 
 -- what a step comes to may be stepped from
-module _ (a : Automaton) (t : Terminator) (kind : MatchKind) (v : StateValue) (u : Option ℕ) (w : StateValue) (is : w ≡ step_value a t kind v u) where
+module _ (a : Automaton) (t : Terminator) (kind : MatchKind) (v : StateValue) (u : Option ℕ) (w : StateValue)
+    (is : w ≡ step_value a t kind v u) where
   pub behind_below : IsWellFormed a → All (λ q. q < length a.states) w.ids
   behind_below formed = subst (λ (x : StateValue). All (λ q. q < length a.states) x.ids) (sym is) (step_below a t kind v u formed)
 
@@ -40,7 +44,8 @@ module _ (a : Automaton) (t : Terminator) (kind : MatchKind) (v : StateValue) (u
 -- and what a start comes to
 module _ (a : Automaton) (t : Terminator) (s : Start) (q : ℕ) (v w : StateValue) (built : v ≡ start_value a t s q) (is : w ≡ v) where
   pub first_below : IsWellFormed a → q < length a.states → All (λ r. r < length a.states) w.ids
-  first_below formed low = subst (λ (x : StateValue). All (λ r. r < length a.states) x.ids) (sym (is ∙ built)) (start_below a t s q formed low)
+  first_below formed low = subst (λ (x : StateValue). All (λ r. r < length a.states) x.ids) (sym (is ∙ built))
+      (start_below a t s q formed low)
 
   pub first_once : IsDistinct nat_eq w.ids
   first_once = subst (λ (x : StateValue). IsDistinct nat_eq x.ids) (sym (is ∙ built)) (start_once a t s q)

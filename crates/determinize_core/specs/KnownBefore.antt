@@ -1,8 +1,11 @@
 -- The looks that a unit decides at the place in front of it, in two parts.
 use Rattle.std.specs.Prelude.{ℕ, Bool, true, false, not, ◌&&◌, ◌||◌, Option, Some, None}
-use Rattle.look_core.specs.Looks.{Side, is_no_word, is_edge_of_word, is_no_edge_of_word, is_start_of_word, is_end_of_word, is_byte, is_line_end}
+use Rattle.look_core.specs.Looks.{Side, is_no_word, is_edge_of_word, is_no_edge_of_word, is_start_of_word, is_end_of_word, is_byte}
+use Rattle.look_core.specs.Looks.{is_line_end}
 use Rattle.look_core.specs.Terminators.{Terminator}
-use Rattle.look_core.specs.declared.look.Look.TheVariants.{End, EndLF, StartCRLF, EndCRLF, WordAscii, WordAsciiNegate, WordUnicode, WordUnicodeNegate, WordStartAscii, WordEndAscii, WordStartUnicode, WordEndUnicode, WordEndHalfAscii, WordEndHalfUnicode}
+use Rattle.look_core.specs.declared.look.Look.TheVariants.{End, EndLF, StartCRLF, EndCRLF, WordAscii, WordAsciiNegate, WordUnicode}
+use Rattle.look_core.specs.declared.look.Look.TheVariants.{WordUnicodeNegate, WordStartAscii, WordEndAscii, WordStartUnicode}
+use Rattle.look_core.specs.declared.look.Look.TheVariants.{WordEndUnicode, WordEndHalfAscii, WordEndHalfUnicode}
 use Rattle.determinize_core.specs.LookBehind.{with_if}
 
 -- the half of a CRLF that is read first, and the other

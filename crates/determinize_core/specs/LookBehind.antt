@@ -8,7 +8,8 @@ use Rattle.look_core.specs.declared.look.Look.{Look}
 use Rattle.look_core.specs.declared.look.Look.TheVariants.{Start as AtStart, StartLF, StartCRLF, WordStartHalfAscii, WordStartHalfUnicode}
 use Rattle.determinize_core.specs.States.{StateValue}
 use Rattle.determinize_core.specs.declared.start.Start.{Start}
-use Rattle.determinize_core.specs.declared.start.Start.TheVariants.{NonWordByte, WordByte, Text, LineLF, LineCR, CustomLineTerminator, CustomWordLineTerminator}
+use Rattle.determinize_core.specs.declared.start.Start.TheVariants.{NonWordByte, WordByte, Text, LineLF, LineCR, CustomLineTerminator}
+use Rattle.determinize_core.specs.declared.start.Start.TheVariants.{CustomWordLineTerminator}
 use Rattle.determinize_core.specs.declared.lookbehind.LookBehind.{LookBehind}
 use Rattle.determinize_core.specs.declared.lookbehind.Families.{Families}
 
@@ -28,7 +29,8 @@ with_if wanted l s = if wanted then with_look s l else s
 
 -- the looks of families that ask for nothing but what stands before a place
 abbrev pub starts_of : Families → ℕ
-starts_of f = with_if f.words WordStartHalfUnicode (with_if f.words WordStartHalfAscii (with_if f.crlf StartCRLF (with_if f.lines StartLF (with_if f.haystack AtStart 0))))
+starts_of f = with_if f.words WordStartHalfUnicode (with_if f.words WordStartHalfAscii
+    (with_if f.crlf StartCRLF (with_if f.lines StartLF (with_if f.haystack AtStart 0))))
 
 -- no byte before the place
 abbrev pub behind_nothing : Families → LookBehind
@@ -36,7 +38,8 @@ behind_nothing f = record { is_from_word = false; is_half_crlf = false; look_hav
 
 -- the families whose looks hold behind a line feed or a carriage return, and behind another byte
 abbrev pub known_at_line : Families → Bool → Bool → Families
-known_at_line f is_first_half ends_line = record { haystack = false; lines = ends_line && f.lines; crlf = not is_first_half && f.crlf; words = f.words }
+known_at_line f is_first_half ends_line = record { haystack = false; lines = ends_line && f.lines; crlf = not is_first_half && f.crlf;
+    words = f.words }
 
 abbrev pub known_at_byte : Families → Bool → Bool → Families
 known_at_byte f ends_line is_word = record { haystack = false; lines = ends_line && f.lines; crlf = false; words = not is_word && f.words }

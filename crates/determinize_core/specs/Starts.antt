@@ -5,7 +5,8 @@ use Rattle.search_core.specs.Utf8.{is_word_byte}
 use Rattle.look_core.specs.Terminators.{Terminator, ends_line}
 use Rattle.search_types.specs.declared.anchored.Anchored.{Anchored}
 use Rattle.determinize_core.specs.declared.start.Start.{Start}
-use Rattle.determinize_core.specs.declared.start.Start.TheVariants.{NonWordByte, WordByte, Text, LineLF, LineCR, CustomLineTerminator, CustomWordLineTerminator}
+use Rattle.determinize_core.specs.declared.start.Start.TheVariants.{NonWordByte, WordByte, Text, LineLF, LineCR, CustomLineTerminator}
+use Rattle.determinize_core.specs.declared.start.Start.TheVariants.{CustomWordLineTerminator}
 
 -- the number of a start
 abbrev pub number_of : Start → ℕ

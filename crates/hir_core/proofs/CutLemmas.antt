@@ -1,5 +1,6 @@
 -- What a tree means in a haystack that is cut at e, and which ends it prefers there.
-use Rattle.std.proofs.Common.{◌≡◌, ℕ, zero, suc, ◌+◌, ◌-◌, ◌<◌, ◌≤◌, leb, Bool, true, false, cond, List, [], ◌∷◌, ◌++◌, length, take, drop, slice_get, slice_range, Option, Some, None, inl, inr, refl, sym, ap, ap₂, ◌∙◌, subst, arith, append_assoc}
+use Rattle.std.proofs.Common.{◌≡◌, ℕ, zero, suc, ◌+◌, ◌-◌, ◌<◌, ◌≤◌, leb, Bool, true, false, cond, List, [], ◌∷◌, ◌++◌, length, take, drop}
+use Rattle.std.proofs.Common.{slice_get, slice_range, Option, Some, None, inl, inr, refl, sym, ap, ap₂, ◌∙◌, subst, arith, append_assoc}
 use Rattle.std.specs.List.{flat_map}
 use Rattle.std.proofs.Math.Seq.{take-add}
 use Rattle.std.proofs.lemmas.List.{length-take, take_at, drop-take}
@@ -144,7 +145,8 @@ module _ (looks : Looks) (h : List ℕ) (e : ℕ) where
   means_cut (alt x y) i j p (inl m) = inl (means_cut x i j p m)
   means_cut (alt x y) i j p (inr m) = inr (means_cut y i j p m)
 
-pub cut_to_whole : (looks : Looks) (h : List ℕ) (e : ℕ) (x : Tree) (i j : ℕ) → i ≤ e → Means looks (take e h) x i j → Means looks h x i j × (j ≤ e)
+pub cut_to_whole : (looks : Looks) (h : List ℕ) (e : ℕ) (x : Tree) (i j : ℕ) → i ≤ e → Means looks (take e h) x i j → Means looks h x i j ×
+    (j ≤ e)
 cut_to_whole looks h e x i j p m = (means_whole looks h e x i j p m, within_cut looks h e x i j p m)
 
 pub whole_to_cut : (looks : Looks) (h : List ℕ) (e : ℕ) (x : Tree) (i j : ℕ) → j ≤ e → Means looks h x i j → Means looks (take e h) x i j
@@ -189,7 +191,8 @@ module _ (looks : Looks) (h : List ℕ) (e : ℕ) where
   then_cuts x cuts f g same forward i p = ap (flat_map f) (cuts i p) ∙ flat_map_kept e f g same forward (preferred_ends looks h x i)
 
   module _ (greedy : Bool) (x : Tree) (cuts : Cuts x) where
-    up_to_cuts : (n i : ℕ) → i ≤ e → up_to greedy (preferred_ends looks (take e h) x) n i ≡ kept e (up_to greedy (preferred_ends looks h x) n i)
+    up_to_cuts : (n i : ℕ) → i ≤ e → up_to greedy (preferred_ends looks (take e h) x) n i ≡ kept e
+        (up_to greedy (preferred_ends looks h x) n i)
     up_to_cuts zero i p = in_order-kept e false [] i p
     up_to_cuts (suc n) i p =
         ap (λ more. in_order greedy more i)
@@ -210,11 +213,13 @@ module _ (looks : Looks) (h : List ℕ) (e : ℕ) where
         at_least (take e h) greedy (preferred_ends looks (take e h) x) low i ≡ kept e (at_least h greedy (preferred_ends looks h x) low i)
     at_least_cuts a zero i p =
         let cut = cut_length e h in
-        up_to_enough (take e h) greedy (preferred_ends looks (take e h) x) (rounds_read looks (take e h) x a) (length (take e h) - i) (length h - i) i
+        up_to_enough (take e h) greedy (preferred_ends looks (take e h) x) (rounds_read looks (take e h) x a) (length (take e h) - i)
+            (length h - i) i
         (omega arith) (omega (arith, cut.1))
         ∙ up_to_cuts (length h - i) i p
     at_least_cuts a (suc low) i p =
-        then_cuts x cuts (at_least (take e h) greedy (preferred_ends looks (take e h) x) low) (at_least h greedy (preferred_ends looks h x) low)
+        then_cuts x cuts (at_least (take e h) greedy (preferred_ends looks (take e h) x) low)
+            (at_least h greedy (preferred_ends looks h x) low)
         (at_least_cuts a low) (ends_forward looks h (repetition low None greedy x)) i p
 
   ends_cut : (x : Tree) → LoopsRead x → Cuts x
@@ -228,7 +233,8 @@ module _ (looks : Looks) (h : List ℕ) (e : ℕ) where
   ends_cut (capture index name x) r i p = ends_cut x r i p
   ends_cut nothing r i p = leaf_cuts nothing i p (λ g. omega arith)
   ends_cut (cat x y) r i p =
-      then_cuts x (ends_cut x r.0) (preferred_ends looks (take e h) y) (preferred_ends looks h y) (ends_cut y r.1) (ends_forward looks h y) i p
+      then_cuts x (ends_cut x r.0) (preferred_ends looks (take e h) y) (preferred_ends looks h y) (ends_cut y r.1)
+          (ends_forward looks h y) i p
   ends_cut never r i p = refl
   ends_cut (alt x y) r i p =
       ap₂ (λ (a b : List ℕ). a ++ b) (ends_cut x r.0 i p) (ends_cut y r.1 i p)

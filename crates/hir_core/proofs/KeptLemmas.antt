@@ -1,5 +1,6 @@
 -- Lists of ends of which those above a place are left out.
-use Rattle.std.proofs.Common.{◌≡◌, ℕ, ◌<◌, ◌≤◌, leb, Bool, true, false, List, [], ◌∷◌, ◌++◌, length, inl, inr, refl, sym, ap, ap₂, ◌∙◌, subst, arith}
+use Rattle.std.proofs.Common.{◌≡◌, ℕ, ◌<◌, ◌≤◌, leb, Bool, true, false, List, [], ◌∷◌, ◌++◌, length, inl, inr, refl, sym, ap, ap₂, ◌∙◌}
+use Rattle.std.proofs.Common.{subst, arith}
 use Rattle.std.specs.List.{flat_map, filter}
 use Rattle.std.proofs.lemmas.Bool.{cond-true, cond-false, le-leb, lt-leb, cases_lt}
 use Rattle.std.proofs.lemmas.List.Elements.{filter-append}
@@ -70,7 +71,8 @@ module _ (e : ℕ) where
   in_order-kept false more i l = sym (keeps_first i more l)
 
 -- lists of one end at most that have the same
-pub same_one : (xs ys : List ℕ) → length xs ≤ 1 → length ys ≤ 1 → ((j : ℕ) → Has xs j → Has ys j) → ((j : ℕ) → Has ys j → Has xs j) → xs ≡ ys
+pub same_one : (xs ys : List ℕ) → length xs ≤ 1 → length ys ≤ 1 → ((j : ℕ) → Has xs j → Has ys j) → ((j : ℕ) → Has ys j → Has xs j) →
+    xs ≡ ys
 same_one [] [] l m f g = refl
 same_one [] (y ∷ ys) l m f g = absurd (g y (inl refl))
 same_one (x ∷ xs) [] l m f g = absurd (f x (inl refl))

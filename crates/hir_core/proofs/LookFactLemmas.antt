@@ -1,5 +1,6 @@
 -- The sets of looks of a tree: those that hold at the start and the end of each span, and all that stand in it.
-use Rattle.std.proofs.Common.{◌≡◌, ℕ, zero, suc, ◌≤◌, ◌⊎◌, ⊎_elim, true, List, Option, Some, None, refl, sym, ap, subst, ◌∙◌, inl, inr, arith}
+use Rattle.std.proofs.Common.{◌≡◌, ℕ, zero, suc, ◌≤◌, ◌⊎◌, ⊎_elim, true, List, Option, Some, None, refl, sym, ap, subst, ◌∙◌, inl, inr}
+use Rattle.std.proofs.Common.{arith}
 use Rattle.std.proofs.Math.Bool.{or-true}
 use Rattle.std.proofs.lemmas.Bool.{cases_Bool, and_parts, or_cases, eqb-true, eq-eqb}
 use Rattle.look_core.specs.declared.look.Look.{Look}
@@ -72,14 +73,17 @@ module _ (looks : Looks) (h : List ℕ) (l : Look) where
   prefix_sound (cat x y) i j m e = elim (cases_Bool (reads_nothing (maximum_len x))) [
     | inl t ↦
         let same = empty_sound looks h x i m.0 (nothing_read (maximum_len x) t) m.1 in
-        ⊎_elim (prefix_sound x i m.0 m.1) (λ f. let P : ℕ → Type 0 = λ k. looks l k ≡ true in subst P (sym same) (prefix_sound y m.0 j m.2 f))
+        ⊎_elim (prefix_sound x i m.0 m.1) (λ f. let P : ℕ → Type 0 = λ k. looks l k ≡ true in
+            subst P (sym same) (prefix_sound y m.0 j m.2 f))
         (union_has (look_set_prefix x) (look_set_prefix y) l (rw t at e))
     | inr f ↦ prefix_sound x i m.0 m.1 (rw f at e)
   ]
   prefix_sound never i j m e = elim m [ ]
   prefix_sound (alt x y) i j m e = elim (cases_Bool (is_never y)) [
-    | inl t ↦ (let only : has_look (look_set_prefix x) l ≡ true = rw t at e in ⊎_elim (λ a. prefix_sound x i j a only) (λ b. absurd (no_never looks h y i j t b)) m)
-    | inr f ↦ (let both = shared_has (look_set_prefix x) (look_set_prefix y) l (rw f at e) in ⊎_elim (λ a. prefix_sound x i j a both.0) (λ b. prefix_sound y i j b both.1) m)
+    | inl t ↦ (let only : has_look (look_set_prefix x) l ≡ true = rw t at e in
+        ⊎_elim (λ a. prefix_sound x i j a only) (λ b. absurd (no_never looks h y i j t b)) m)
+    | inr f ↦ (let both = shared_has (look_set_prefix x) (look_set_prefix y) l (rw f at e) in
+        ⊎_elim (λ a. prefix_sound x i j a both.0) (λ b. prefix_sound y i j b both.1) m)
   ]
 
   pub suffix_sound : (x : Tree) (i j : ℕ) → Means looks h x i j → has_look (look_set_suffix x) l ≡ true → looks l j ≡ true
@@ -105,8 +109,10 @@ module _ (looks : Looks) (h : List ℕ) (l : Look) where
   ]
   suffix_sound never i j m e = elim m [ ]
   suffix_sound (alt x y) i j m e = elim (cases_Bool (is_never y)) [
-    | inl t ↦ (let only : has_look (look_set_suffix x) l ≡ true = rw t at e in ⊎_elim (λ a. suffix_sound x i j a only) (λ b. absurd (no_never looks h y i j t b)) m)
-    | inr f ↦ (let both = shared_has (look_set_suffix x) (look_set_suffix y) l (rw f at e) in ⊎_elim (λ a. suffix_sound x i j a both.0) (λ b. suffix_sound y i j b both.1) m)
+    | inl t ↦ (let only : has_look (look_set_suffix x) l ≡ true = rw t at e in
+        ⊎_elim (λ a. suffix_sound x i j a only) (λ b. absurd (no_never looks h y i j t b)) m)
+    | inr f ↦ (let both = shared_has (look_set_suffix x) (look_set_suffix y) l (rw f at e) in
+        ⊎_elim (λ a. suffix_sound x i j a both.0) (λ b. suffix_sound y i j b both.1) m)
   ]
 
 -- ---- all looks of a tree
@@ -134,6 +140,8 @@ look_set_exact l (look k) e = one_has k l e
 look_set_exact l (repetition min most greedy x) e = look_set_exact l x e
 look_set_exact l (capture index name x) e = look_set_exact l x e
 look_set_exact l nothing e = none_has l e
-look_set_exact l (cat x y) e = ⊎_elim (λ a. inl (look_set_exact l x a)) (λ b. inr (look_set_exact l y b)) (union_has (look_set x) (look_set y) l e)
+look_set_exact l (cat x y) e = ⊎_elim (λ a. inl (look_set_exact l x a)) (λ b. inr (look_set_exact l y b))
+    (union_has (look_set x) (look_set y) l e)
 look_set_exact l never e = none_has l e
-look_set_exact l (alt x y) e = ⊎_elim (λ a. inl (look_set_exact l x a)) (λ b. inr (look_set_exact l y b)) (union_has (look_set x) (look_set y) l e)
+look_set_exact l (alt x y) e = ⊎_elim (λ a. inl (look_set_exact l x a)) (λ b. inr (look_set_exact l y b))
+    (union_has (look_set x) (look_set y) l e)

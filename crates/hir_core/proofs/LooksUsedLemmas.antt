@@ -1,5 +1,6 @@
 -- What a tree means depends on how the looks that it uses are read, and on no other look.
-use Rattle.std.proofs.Common.{◌≡◌, ℕ, zero, suc, ◌-◌, ◌≤◌, Bool, true, cond, List, [], ◌∷◌, ◌++◌, length, Option, Some, None, refl, sym, ap, ◌∙◌, inl, inr, arith}
+use Rattle.std.proofs.Common.{◌≡◌, ℕ, zero, suc, ◌-◌, ◌≤◌, Bool, true, cond, List, [], ◌∷◌, ◌++◌, length, Option, Some, None, refl, sym, ap}
+use Rattle.std.proofs.Common.{◌∙◌, inl, inr, arith}
 use Rattle.std.specs.List.{flat_map}
 use Rattle.look_core.specs.declared.look.Look.{Look}
 use Rattle.look_core.specs.LookSets.{has_look}
@@ -30,9 +31,11 @@ module _ (f g : Looks) (h : List ℕ) where
   same_meaning (byte_class ranges) a i j m = m
   same_meaning (char_class ranges) a i j m = m
   same_meaning (look l) a i j m = (m.0, sym (a l (one_held l l refl) i) ∙ m.1)
-  same_meaning (repetition min None greedy x) a i j m = (m.0, m.1, tt, rounds_map (Means f h x) (Means g h x) (same_meaning x a) m.0 i j m.3)
+  same_meaning (repetition min None greedy x) a i j m = (m.0, m.1, tt,
+      rounds_map (Means f h x) (Means g h x) (same_meaning x a) m.0 i j m.3)
   same_meaning (repetition min (Some zero) greedy x) a i j m = (m.0, m.1, m.2, no_round (Means f h x) (Means g h x) m.0 i j m.2 m.3)
-  same_meaning (repetition min (Some (suc most)) greedy x) a i j m = (m.0, m.1, m.2, rounds_map (Means f h x) (Means g h x) (same_meaning x a) m.0 i j m.3)
+  same_meaning (repetition min (Some (suc most)) greedy x) a i j m = (m.0, m.1, m.2,
+      rounds_map (Means f h x) (Means g h x) (same_meaning x a) m.0 i j m.3)
   same_meaning (capture index name x) a i j m = same_meaning x a i j m
   same_meaning nothing a i j m = m
   same_meaning (cat x y) a i j m = (
@@ -73,9 +76,11 @@ module _ (f g : Looks) (h : List ℕ) where
   same_ends (byte_class ranges) a i = refl
   same_ends (char_class ranges) a i = refl
   same_ends (look l) a i = ap (λ b. cond b (i ∷ []) []) (a l (one_held l l refl) i)
-  same_ends (repetition min None greedy x) a i = repeated_same greedy (preferred_ends f h x) (preferred_ends g h x) (same_ends x a) h min None i
+  same_ends (repetition min None greedy x) a i = repeated_same greedy (preferred_ends f h x) (preferred_ends g h x)
+      (same_ends x a) h min None i
   same_ends (repetition min (Some zero) greedy x) a i = no_round_same greedy (preferred_ends f h x) (preferred_ends g h x) min i
-  same_ends (repetition min (Some (suc most)) greedy x) a i = repeated_same greedy (preferred_ends f h x) (preferred_ends g h x) (same_ends x a) h min (Some (suc most)) i
+  same_ends (repetition min (Some (suc most)) greedy x) a i = repeated_same greedy (preferred_ends f h x) (preferred_ends g h x)
+      (same_ends x a) h min (Some (suc most)) i
   same_ends (capture index name x) a i = same_ends x a i
   same_ends nothing a i = refl
   same_ends (cat x y) a i =

@@ -1,11 +1,13 @@
 -- No span is longer than `maximum_len`.
-use Rattle.std.proofs.Common.{◌≡◌, ℕ, zero, suc, ◌+◌, ◌*◌, ◌^◌, ◌≤◌, ◌<◌, ◌⊎◌, ⊎_elim, max, true, List, [], ◌∷◌, length, Option, Some, None, refl, ap, subst, ◌∙◌, inl, inr, arith}
+use Rattle.std.proofs.Common.{◌≡◌, ℕ, zero, suc, ◌+◌, ◌*◌, ◌^◌, ◌≤◌, ◌<◌, ◌⊎◌, ⊎_elim, max, true, List, [], ◌∷◌, length, Option, Some, None}
+use Rattle.std.proofs.Common.{refl, ap, subst, ◌∙◌, inl, inr, arith}
 use Rattle.std.proofs.Math.Nat.{mul-le-mul_left}
 use Rattle.std.proofs.lemmas.Bool.{cases_Bool}
 use Rattle.search_core.specs.Characters.{spelling_len}
 use Rattle.hir_core.specs.Tree.{Tree, empty, literal, byte_class, char_class, look, repetition, capture, nothing, cat, never, alt}
 use Rattle.hir_core.specs.Means.{Looks, AtMost, Means, Rounds, is_member}
-use Rattle.hir_core.specs.Facts.{capped, sum_of_both, greatest_of_both, times_most, longest_of, longest_spelling, is_never, maximum_len, IsAtMost}
+use Rattle.hir_core.specs.Facts.{capped, sum_of_both, greatest_of_both, times_most, longest_of, longest_spelling, is_never, maximum_len}
+use Rattle.hir_core.specs.Facts.{IsAtMost}
 use Rattle.hir_core.proofs.SpanLemmas.{span_within}
 use Rattle.hir_core.proofs.SpellingLemmas.{member_len, spelling_len-mono, member_cases}
 
@@ -29,7 +31,8 @@ longest_member n (r ∷ rs) c m = elim (member_cases r rs c m) [
   | inr q ↦ longest_member (max n (spelling_len r.1)) rs c q
 ]
 
-longest_sound : (ranges : List (ℕ × ℕ)) (c i j : ℕ) → is_member ranges c ≡ true → i + spelling_len c ≡ j → IsAtMost (longest_spelling ranges) i j
+longest_sound : (ranges : List (ℕ × ℕ)) (c i j : ℕ) → is_member ranges c ≡ true → i + spelling_len c ≡ j →
+    IsAtMost (longest_spelling ranges) i j
 longest_sound [] c i j m e = tt
 longest_sound (r ∷ rs) c i j m e = omega (arith, longest_member 0 (r ∷ rs) c m)
 
@@ -89,18 +92,22 @@ module _ (looks : Looks) (h : List ℕ) where
       empty_sound x i m.0 parts.0 m.1 ∙ empty_sound y m.0 j parts.1 m.2
   empty_sound never i j e m = elim m [ ]
   empty_sound (alt x y) i j e m = elim (cases_Bool (is_never y)) [
-    | inl t ↦ (let only : maximum_len x ≡ Some 0 = rw t at e in ⊎_elim (empty_sound x i j only) (λ n. absurd (no_never looks h y i j t n)) m)
-    | inr f ↦ (let parts = greatest_zero (maximum_len x) (maximum_len y) (rw f at e) in ⊎_elim (empty_sound x i j parts.0) (empty_sound y i j parts.1) m)
+    | inl t ↦ (let only : maximum_len x ≡ Some 0 = rw t at e in ⊎_elim (empty_sound x i j only)
+        (λ n. absurd (no_never looks h y i j t n)) m)
+    | inr f ↦ (let parts = greatest_zero (maximum_len x) (maximum_len y) (rw f at e) in
+        ⊎_elim (empty_sound x i j parts.0) (empty_sound y i j parts.1) m)
   ]
 
 -- ---- the bound
-rounds_short : (R : ℕ → ℕ → Type 0) (b end : ℕ) → ((i j : ℕ) → i ≤ end → R i j → (j ≤ end) × (j ≤ i + b)) → (n i j : ℕ) → i ≤ end → Rounds R n i j → j ≤ i + b * n
+rounds_short : (R : ℕ → ℕ → Type 0) (b end : ℕ) → ((i j : ℕ) → i ≤ end → R i j → (j ≤ end) × (j ≤ i + b)) → (n i j : ℕ) → i ≤ end →
+    Rounds R n i j → j ≤ i + b * n
 rounds_short R b end each zero i j p r = omega arith
 rounds_short R b end each (suc n) i j p r =
     let one = each i r.0 p r.1 in
     omega (arith, one.1, rounds_short R b end each n r.0 j one.0 r.2)
 
-rounds_bound : (R : ℕ → ℕ → Type 0) (most o : Option ℕ) (end : ℕ) → end < 2 ^ 64 → ((i j : ℕ) → i ≤ end → R i j → (j ≤ end) × IsAtMost o i j) →
+rounds_bound : (R : ℕ → ℕ → Type 0) (most o : Option ℕ) (end : ℕ) → end < 2 ^ 64 →
+    ((i j : ℕ) → i ≤ end → R i j → (j ≤ end) × IsAtMost o i j) →
     (n i j : ℕ) → i ≤ end → j ≤ end → AtMost n most → Rounds R n i j → IsAtMost (times_most most o) i j
 rounds_bound R None o end wide each n i j p q bound r = tt
 rounds_bound R (Some m) None end wide each n i j p q bound r = tt
@@ -133,7 +140,8 @@ module _ (looks : Looks) (h : List ℕ) (wide : length h < 2 ^ 64) where
   maximum_len_sound (char_class ranges) i j p m = longest_sound ranges m.scalar i j m.member (member_len h ranges i j m)
   maximum_len_sound (look l) i j p m = omega (arith, m.0)
   maximum_len_sound (repetition low most greedy x) i j p m =
-      rounds_bound (Means looks h x) most (maximum_len x) (length h) wide (λ a b q s. (span_within looks h x a b q s, maximum_len_sound x a b q s))
+      rounds_bound (Means looks h x) most (maximum_len x) (length h) wide (λ a b q s. (span_within looks h x a b q s,
+          maximum_len_sound x a b q s))
       m.0 i j p (span_within looks h (repetition low most greedy x) i j p m) m.2 m.3
   maximum_len_sound (capture index name x) i j p m = maximum_len_sound x i j p m
   maximum_len_sound nothing i j p m = omega (arith, m)
@@ -144,5 +152,6 @@ module _ (looks : Looks) (h : List ℕ) (wide : length h < 2 ^ 64) where
   maximum_len_sound never i j p m = elim m [ ]
   maximum_len_sound (alt x y) i j p m = elim (cases_Bool (is_never y)) [
     | inl t ↦ rw t (⊎_elim (maximum_len_sound x i j p) (λ n. absurd (no_never looks h y i j t n)) m)
-    | inr f ↦ rw f (⊎_elim (λ n. greatest_left (maximum_len x) (maximum_len y) i j (maximum_len_sound x i j p n)) (λ n. greatest_right (maximum_len x) (maximum_len y) i j (maximum_len_sound y i j p n)) m)
+    | inr f ↦ rw f (⊎_elim (λ n. greatest_left (maximum_len x) (maximum_len y) i j (maximum_len_sound x i j p n))
+        (λ n. greatest_right (maximum_len x) (maximum_len y) i j (maximum_len_sound y i j p n)) m)
   ]

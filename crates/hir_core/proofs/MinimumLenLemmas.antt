@@ -1,5 +1,6 @@
 -- No span is shorter than `minimum_len`.
-use Rattle.std.proofs.Common.{◌≡◌, true, ℕ, zero, suc, ◌+◌, ◌*◌, ◌≤◌, ◌<◌, List, [], ◌∷◌, Option, Some, None, sym, inl, inr, arith, true≢false}
+use Rattle.std.proofs.Common.{◌≡◌, true, ℕ, zero, suc, ◌+◌, ◌*◌, ◌≤◌, ◌<◌, List, [], ◌∷◌, Option, Some, None, sym, inl, inr, arith}
+use Rattle.std.proofs.Common.{true≢false}
 use Rattle.std.proofs.Math.Nat.{mul-le-mul_left}
 use Rattle.hir_core.specs.Tree.{Tree, empty, literal, byte_class, char_class, look, repetition, capture, nothing, cat, never, alt}
 use Rattle.hir_core.specs.Means.{Looks, Means, Rounds, is_member}
@@ -56,7 +57,8 @@ module _ (looks : Looks) (h : List ℕ) where
   minimum_len_sound (char_class ranges) i j m = shortest ranges m.scalar i j m.member (member_len h ranges i j m)
   minimum_len_sound (look l) i j m = let e = m.0 in omega arith
   minimum_len_sound (repetition low most greedy x) i j m =
-      IsAtLeast-times (Means looks h x) (minimum_len x) (minimum_len_sound x) (λ a b s. (IsSpan-Means looks h x a b s).forward) low m.0 i j m.1 m.3
+      IsAtLeast-times (Means looks h x) (minimum_len x) (minimum_len_sound x)
+          (λ a b s. (IsSpan-Means looks h x a b s).forward) low m.0 i j m.1 m.3
   minimum_len_sound (capture index name x) i j m = minimum_len_sound x i j m
   minimum_len_sound nothing i j m = omega arith
   minimum_len_sound (cat x y) i j m =

@@ -1,11 +1,13 @@
 -- The preferred ends are the ends of the spans that the tree means: no others, and all of them.
-use Rattle.std.proofs.Common.{◌≡◌, ℕ, zero, suc, ◌+◌, ◌-◌, ◌≤◌, Bool, true, List, length, Option, Some, None, slice_get, refl, sym, ap, ◌∙◌, subst, inl, inr, arith}
+use Rattle.std.proofs.Common.{◌≡◌, ℕ, zero, suc, ◌+◌, ◌-◌, ◌≤◌, Bool, true, List, length, Option, Some, None, slice_get, refl, sym, ap, ◌∙◌}
+use Rattle.std.proofs.Common.{subst, inl, inr, arith}
 use Rattle.hir_core.specs.Tree.{Tree, empty, literal, byte_class, char_class, look, repetition, capture, nothing, cat, never, alt}
 use Rattle.hir_core.specs.Means.{Looks, Means, Rounds, AtMost, is_member}
 use Rattle.hir_core.specs.Spans.{IsSpan}
 use Rattle.hir_core.specs.PreferredEnds.{Ends, up_to, at_least, between, repeated, class_end, preferred_ends, Has}
 use Rattle.std.proofs.Math.Nat.{eq-or-lt_of_le}
-use Rattle.hir_core.proofs.HasLemmas.{Has-left, Has-right, Has-append, Has-flat_map, Has-into-flat_map, Has-in_order, Has-more, Has-stop, Has-if, Has-then}
+use Rattle.hir_core.proofs.HasLemmas.{Has-left, Has-right, Has-append, Has-flat_map, Has-into-flat_map, Has-in_order, Has-more, Has-stop}
+use Rattle.hir_core.proofs.HasLemmas.{Has-if, Has-then}
 use Rattle.hir_core.proofs.SpanLemmas.{IsSpan-Means}
 use Rattle.hir_core.proofs.SpellingLemmas.{character_end_sound, character_end_complete}
 
@@ -133,5 +135,7 @@ preferred_ends_complete looks h (cat x y) i j m =
     Has-into-flat_map (preferred_ends looks h y) (preferred_ends looks h x i) m.0 j
     (preferred_ends_complete looks h x i m.0 m.1) (preferred_ends_complete looks h y m.0 j m.2)
 preferred_ends_complete looks h never i j m = elim m [ ]
-preferred_ends_complete looks h (alt x y) i j (inl m) = Has-left (preferred_ends looks h x i) (preferred_ends looks h y i) j (preferred_ends_complete looks h x i j m)
-preferred_ends_complete looks h (alt x y) i j (inr m) = Has-right (preferred_ends looks h x i) (preferred_ends looks h y i) j (preferred_ends_complete looks h y i j m)
+preferred_ends_complete looks h (alt x y) i j (inl m) = Has-left (preferred_ends looks h x i) (preferred_ends looks h y i) j
+    (preferred_ends_complete looks h x i j m)
+preferred_ends_complete looks h (alt x y) i j (inr m) = Has-right (preferred_ends looks h x i) (preferred_ends looks h y i) j
+    (preferred_ends_complete looks h y i j m)

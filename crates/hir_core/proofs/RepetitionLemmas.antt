@@ -1,5 +1,6 @@
 -- The equations of a repetition. That the count of rounds of an unbounded one cuts nothing short is the third.
-use Rattle.std.proofs.Common.{◌≡◌, ℕ, zero, suc, ◌+◌, ◌-◌, ◌<◌, ◌≤◌, Bool, true, false, List, [], ◌∷◌, length, Some, None, refl, sym, ap, ◌∙◌, arith}
+use Rattle.std.proofs.Common.{◌≡◌, ℕ, zero, suc, ◌+◌, ◌-◌, ◌<◌, ◌≤◌, Bool, true, false, List, [], ◌∷◌, length, Some, None, refl, sym, ap}
+use Rattle.std.proofs.Common.{◌∙◌, arith}
 use Rattle.std.specs.List.{flat_map}
 use Rattle.hir_core.specs.Tree.{Tree, repetition}
 use Rattle.hir_core.specs.Means.{Looks}
@@ -70,7 +71,8 @@ pub repetition_more_bounded : (looks : Looks) (h : List ℕ) (greedy : Bool) (x 
 repetition_more_bounded looks h greedy x most i = refl
 
 -- each round of a body whose minimum length is above 0 reads
-pub rounds_read : (looks : Looks) (h : List ℕ) (x : Tree) → IsAboveZero (minimum_len x) → (i k : ℕ) → Has (preferred_ends looks h x i) k → (i < k) × (k ≤ length h)
+pub rounds_read : (looks : Looks) (h : List ℕ) (x : Tree) → IsAboveZero (minimum_len x) → (i k : ℕ) → Has (preferred_ends looks h x i) k →
+    (i < k) × (k ≤ length h)
 rounds_read looks h x a i k r =
     let m = preferred_ends_sound looks h x i k r in
     let longer = reads_a_byte looks h x a i k m in

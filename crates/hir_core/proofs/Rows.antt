@@ -5,7 +5,8 @@ use Rattle.look_core.specs.Terminators.{one_of}
 use Rattle.look_core.specs.Looks.{holds_ascii}
 use Rattle.hir_core.specs.Tree.{Tree, empty, literal, byte_class, char_class, look, repetition, capture, concat, alternation}
 use Rattle.hir_core.specs.PreferredEnds.{Ends, preferred_ends}
-use Rattle.hir_core.specs.Facts.{minimum_len, maximum_len, is_utf8_tree, look_set, look_set_prefix, look_set_suffix, looks_used, height, count, list_count, is_ascending}
+use Rattle.hir_core.specs.Facts.{minimum_len, maximum_len, is_utf8_tree, look_set, look_set_prefix, look_set_suffix, looks_used, height}
+use Rattle.hir_core.specs.Facts.{count, list_count, is_ascending}
 
 -- with words as bytes of ASCII, and lines that end at a line feed
 abbrev ends : List ℕ → Tree → Ends

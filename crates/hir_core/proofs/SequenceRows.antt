@@ -30,7 +30,8 @@ all_scalars_count : count (char_class ((0, 0x10FFFF) ∷ [])) ≡ 38
 all_scalars_count = refl
 
 -- α and β are CE, and then B1 or B2
-alpha_to_beta : by_sequences ((0x3B1, 0x3B2) ∷ []) ≡ alt (cat (byte_class ((0xCE, 0xCE) ∷ [])) (cat (byte_class ((0xB1, 0xB2) ∷ [])) nothing)) never
+alpha_to_beta : by_sequences ((0x3B1, 0x3B2) ∷ []) ≡ alt (cat (byte_class ((0xCE, 0xCE) ∷ []))
+    (cat (byte_class ((0xB1, 0xB2) ∷ [])) nothing)) never
 alpha_to_beta = refl
 
 -- ranges that share a scalar give a sequence each

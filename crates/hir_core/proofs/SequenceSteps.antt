@@ -1,5 +1,6 @@
 -- What the code of the sequences does at each step.
-use Rattle.std.proofs.Common.{◌≡◌, ℕ, zero, suc, ◌+◌, ◌-◌, ◌*◌, ◌/◌, ◌%◌, ◌<◌, ◌≤◌, inl, inr, Bool, true, false, ◌&&◌, min, get_or, List, [], ◌∷◌, ◌++◌, length, map, reverse, drop, refl, sym, ap, ◌∙◌, arith, lit<, length-drop}
+use Rattle.std.proofs.Common.{◌≡◌, ℕ, zero, suc, ◌+◌, ◌-◌, ◌*◌, ◌/◌, ◌%◌, ◌<◌, ◌≤◌, inl, inr, Bool, true, false, ◌&&◌, min, get_or, List}
+use Rattle.std.proofs.Common.{[], ◌∷◌, ◌++◌, length, map, reverse, drop, refl, sym, ap, ◌∙◌, arith, lit<, length-drop}
 use Rattle.std.specs.Int.{is_in_range}
 use Rattle.std.proofs.lemmas.Bool.{cond-true, cond-false, le-leb, lt-leb, cases_lt}
 use Rattle.std.proofs.lemmas.Bool.Decides.{eqb_tells, nat_tests}
@@ -7,21 +8,25 @@ use Rattle.std.proofs.lemmas.List.{drop_more, nil_from_length, reverse-append}
 use Rattle.std.proofs.lemmas.Nat.{mul-le}
 use Rattle.std.proofs.Math.Nat.{div-add-mod, mod-lt}
 use Rattle.hir_core.specs.declared.utf8_sequences.Utf8Range.{Utf8Range}
-use Rattle.hir_core.specs.Sequences.{scalar_from, row_end, block_end, piece_end, pieces_of, pieces, byte_ranges, utf8_sequences, bytes_of, begins_in_ranges}
+use Rattle.hir_core.specs.Sequences.{scalar_from, row_end, block_end, piece_end, pieces_of, pieces, byte_ranges, utf8_sequences, bytes_of}
+use Rattle.hir_core.specs.Sequences.{begins_in_ranges}
 
 -- ---- whether bytes begin in the ranges, from index i on
 module _ (rs : List Utf8Range) (bs : List ℕ) (i : ℕ) (all : Bool) (e : all ≡ begins_in_ranges (map bytes_of (drop i rs)) (drop i bs)) where
   pub begins_past : length rs ≤ i → all ≡ true
-  begins_past l = e ∙ ap (λ x. begins_in_ranges (map bytes_of x) (drop i bs)) (nil_from_length (drop i rs) (omega (arith, length-drop i rs)))
+  begins_past l = e ∙ ap (λ x. begins_in_ranges (map bytes_of x) (drop i bs))
+      (nil_from_length (drop i rs) (omega (arith, length-drop i rs)))
 
   module _ (d : Utf8Range) (l : i < length rs) where
     pub begins_ended : length bs ≤ i → all ≡ false
     begins_ended p =
         e ∙ ap (λ x. begins_in_ranges (map bytes_of x) (drop i bs)) (drop_more rs i d l)
-        ∙ ap (begins_in_ranges (map bytes_of (get_or rs i d ∷ drop (i + 1) rs))) (nil_from_length (drop i bs) (omega (arith, length-drop i bs)))
+        ∙ ap (begins_in_ranges (map bytes_of (get_or rs i d ∷ drop (i + 1) rs)))
+            (nil_from_length (drop i bs) (omega (arith, length-drop i bs)))
 
     pub begins_more : i < length bs →
-        all ≡ (is_in_range (get_or rs i d).start (get_or rs i d).end (get_or bs i 0) && begins_in_ranges (map bytes_of (drop (i + 1) rs)) (drop (i + 1) bs))
+        all ≡ (is_in_range (get_or rs i d).start (get_or rs i d).end (get_or bs i 0)
+            && begins_in_ranges (map bytes_of (drop (i + 1) rs)) (drop (i + 1) bs))
     begins_more p =
         e ∙ ap (λ x. begins_in_ranges (map bytes_of x) (drop i bs)) (drop_more rs i d l)
         ∙ ap (begins_in_ranges (map bytes_of (get_or rs i d ∷ drop (i + 1) rs))) (drop_more bs i 0 p)
@@ -68,9 +73,11 @@ between size lo hi some ordered = elim (eqb_tells (lo / size) (hi / size)) [
   | inl same ↦ let e : block_end size lo hi ≡ hi = cond-true _ hi _ same.0 in (omega (arith, e), omega (arith, e))
   | inr other ↦ elim (eqb_tells (lo % size) 0) [
     | inl whole ↦ elim (eqb_tells (hi % size) (size - 1)) [
-      | inl last ↦ let e : block_end size lo hi ≡ hi = cond-false _ _ _ other.0 ∙ cond-true _ _ _ whole.0 ∙ cond-true _ hi _ last.0 in (omega (arith, e), omega (arith, e))
+      | inl last ↦ let e : block_end size lo hi ≡ hi = cond-false _ _ _ other.0 ∙ cond-true _ _ _ whole.0 ∙ cond-true _ hi _ last.0 in
+          (omega (arith, e), omega (arith, e))
       | inr not_last ↦
-          let e : block_end size lo hi ≡ hi - hi % size - 1 = cond-false _ _ _ other.0 ∙ cond-true _ _ _ whole.0 ∙ cond-false _ hi _ not_last.0 in
+          let e : block_end size lo hi ≡ hi - hi % size - 1 = cond-false _ _ _ other.0 ∙ cond-true _ _ _ whole.0
+              ∙ cond-false _ hi _ not_last.0 in
           (omega (arith, e, block_below size lo hi some ordered other.1), omega (arith, e))
     ]
     | inr part ↦
@@ -84,14 +91,16 @@ row_holds c high = grind (arith, nat_tests)
 
 pub piece_between : (lo hi : ℕ) → lo ≤ hi → lo ≤ 0x10FFFF → (lo ≤ piece_end lo hi) × (piece_end lo hi ≤ hi)
 piece_between lo hi ordered high = elim (cases_lt lo 0x80) [
-  | inl ascii ↦ let e : piece_end lo hi ≡ min hi 0x7F = cond-true _ (min hi 0x7F) _ (le-leb lo 0x7F (omega arith)) in (omega (arith, e), omega (arith, e))
+  | inl ascii ↦ let e : piece_end lo hi ≡ min hi 0x7F = cond-true _ (min hi 0x7F) _ (le-leb lo 0x7F (omega arith)) in
+      (omega (arith, e), omega (arith, e))
   | inr more ↦
       let last = min hi (row_end lo) in
       let r = row_holds lo high in
       let a = between 64 lo last (lit< tt) (omega arith) in
       let b = between 4096 lo (block_end 64 lo last) (lit< tt) a.0 in
       let d = between 262144 lo (block_end 4096 lo (block_end 64 lo last)) (lit< tt) b.0 in
-      let e : piece_end lo hi ≡ block_end 262144 lo (block_end 4096 lo (block_end 64 lo last)) = cond-false _ (min hi 0x7F) _ (lt-leb lo 0x7F (omega arith)) in
+      let e : piece_end lo hi ≡ block_end 262144 lo (block_end 4096 lo (block_end 64 lo last)) =
+          cond-false _ (min hi 0x7F) _ (lt-leb lo 0x7F (omega arith)) in
       (omega (arith, e, d.0), omega (arith, e, d.1, b.1, a.1))
 ]
 
@@ -128,7 +137,8 @@ enough (suc f) (suc g) lo hi a b = elim (cases_lt (min hi 0x10FFFF) (scalar_from
       let p = piece_between (scalar_from lo) hi (omega arith) (omega arith) in
       let s = scalar_above lo in
       pieces_first f lo hi l
-      ∙ ap (λ ps. (scalar_from lo, piece_end (scalar_from lo) hi) ∷ ps) (enough f g (piece_end (scalar_from lo) hi + 1) hi (omega arith) (omega arith))
+      ∙ ap (λ ps. (scalar_from lo, piece_end (scalar_from lo) hi) ∷ ps)
+          (enough f g (piece_end (scalar_from lo) hi + 1) hi (omega arith) (omega arith))
       ∙ sym (pieces_first g lo hi l)
 ]
 
@@ -139,10 +149,12 @@ pieces_step lo hi l high =
     let s = scalar_above lo in
     enough (hi + 1 - lo) (suc (hi + 1 - lo)) lo hi (omega arith) (omega arith)
     ∙ pieces_first (hi + 1 - lo) lo hi (omega arith)
-    ∙ ap (λ ps. (scalar_from lo, piece_end (scalar_from lo) hi) ∷ ps) (enough (hi + 1 - lo) _ (piece_end (scalar_from lo) hi + 1) hi (omega arith) (omega arith))
+    ∙ ap (λ ps. (scalar_from lo, piece_end (scalar_from lo) hi) ∷ ps) (enough (hi + 1 - lo) _ (piece_end (scalar_from lo) hi + 1) hi
+        (omega arith) (omega arith))
 
 pub sequences_step : (lo hi : ℕ) → scalar_from lo ≤ hi → hi ≤ 0x10FFFF →
-    utf8_sequences lo hi ≡ byte_ranges (scalar_from lo, piece_end (scalar_from lo) hi) ∷ utf8_sequences (piece_end (scalar_from lo) hi + 1) hi
+    utf8_sequences lo hi ≡ byte_ranges (scalar_from lo, piece_end (scalar_from lo) hi) ∷ utf8_sequences
+        (piece_end (scalar_from lo) hi + 1) hi
 sequences_step lo hi l high = ap (map byte_ranges) (pieces_step lo hi l high)
 
 pub sequences_none : (lo hi : ℕ) → hi < scalar_from lo → utf8_sequences lo hi ≡ []

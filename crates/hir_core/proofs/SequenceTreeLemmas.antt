@@ -1,6 +1,8 @@
 -- The ends of a class of scalars are those of its sequences. A sequence ends where its bytes begin the rest of the haystack;
 -- a piece's sequence ends where the character there is of the piece; pieces, and ranges that ascend, share no character.
-use Rattle.std.proofs.Common.{◌≡◌, ℕ, zero, suc, ◌+◌, ◌-◌, ◌≤◌, ◌⊎◌, inl, inr, Bool, true, false, cond, ◌&&◌, ◌||◌, leb, List, [], ◌∷◌, ◌++◌, map, length, take, drop, slice_get, Option, Some, None, refl, sym, ap, ap₂, subst, ◌∙◌, ⊎_elim, arith, length-append}
+use Rattle.std.proofs.Common.{◌≡◌, ℕ, zero, suc, ◌+◌, ◌-◌, ◌≤◌, ◌⊎◌, inl, inr, Bool, true, false, cond, ◌&&◌, ◌||◌, leb, List, [], ◌∷◌}
+use Rattle.std.proofs.Common.{◌++◌, map, length, take, drop, slice_get, Option, Some, None, refl, sym, ap, ap₂, subst, ◌∙◌, ⊎_elim, arith}
+use Rattle.std.proofs.Common.{length-append}
 use Rattle.std.specs.Char.{InScalarRange}
 use Rattle.std.specs.List.{flat_map}
 use Rattle.std.proofs.lemmas.Bool.{and_parts, and_from, le-leb, leb-true, cases_Bool, false_from_ne_true, cond-true, cond-false, or_right}
@@ -46,7 +48,8 @@ sequence_end h i s = cond (begins_in_ranges s (drop i h)) ((i + length s) ∷ []
 abbrev ByteAt : List ℕ → ℕ → Type 0
 ByteAt h i = ((drop i h ≡ []) × (slice_get h i ≡ None)) ⊎ ((b : ℕ) × (drop i h ≡ b ∷ drop (i + 1) h) × (slice_get h i ≡ Some b))
 
-bytes_there : (h : List ℕ) (i : ℕ) → ((drop i h ≡ []) × (slice_get h i ≡ None)) ⊎ ((b : ℕ) × (drop i h ≡ b ∷ drop (suc i) h) × (slice_get h i ≡ Some b))
+bytes_there : (h : List ℕ) (i : ℕ) → ((drop i h ≡ []) × (slice_get h i ≡ None)) ⊎
+    ((b : ℕ) × (drop i h ≡ b ∷ drop (suc i) h) × (slice_get h i ≡ Some b))
 bytes_there [] zero = inl (refl, refl)
 bytes_there [] (suc i) = inl (refl, refl)
 bytes_there (b ∷ h) zero = inr (b, refl, refl)
@@ -75,11 +78,13 @@ module _ (looks : Looks) (h : List ℕ) where
         ∙ sym (ap (λ d. cond (begins_in_ranges (r ∷ rs) d) ((i + length (r ∷ rs)) ∷ []) []) a.0)
     | inr a ↦
         ap (λ o. flat_map (preferred_ends looks h (sequence_tree rs)) (class_end (r ∷ []) o i)) a.2
-        ∙ after_one (preferred_ends looks h (sequence_tree rs)) (leb r.0 a.0 && leb a.0 r.1) (begins_in_ranges rs (drop (i + 1) h)) i (length rs) (sequence_ends rs (i + 1))
+        ∙ after_one (preferred_ends looks h (sequence_tree rs)) (leb r.0 a.0
+            && leb a.0 r.1) (begins_in_ranges rs (drop (i + 1) h)) i (length rs) (sequence_ends rs (i + 1))
         ∙ sym (ap (λ d. cond (begins_in_ranges (r ∷ rs) d) ((i + length (r ∷ rs)) ∷ []) []) a.1)
   ]
 
-  part_ends : (ss : List (List (ℕ × ℕ))) (i : ℕ) → preferred_ends looks h (alternation (map sequence_tree ss)) i ≡ flat_map (sequence_end h i) ss
+  part_ends : (ss : List (List (ℕ × ℕ))) (i : ℕ) → preferred_ends looks h (alternation (map sequence_tree ss)) i ≡ flat_map
+      (sequence_end h i) ss
   part_ends [] i = refl
   part_ends (s ∷ ss) i = ap₂ (λ (a b : List ℕ). a ++ b) (sequence_ends s i) (part_ends ss i)
 
@@ -122,14 +127,17 @@ piece_begins : (h : List ℕ) (i c : ℕ) (p : ℕ × ℕ) → IsPiece p.0 p.1 �
 piece_begins h i c p k e m =
     let first = character_begins h i c e in
     let bounds = member_of_one p c m in
-    let inside = ap (is_in_ranges (byte_ranges p)) (sym (spelled_by c first.spelling first.spells)) ∙ spelling_in p.0 c p.1 k bounds.0 bounds.1 in
+    let inside = ap (is_in_ranges (byte_ranges p)) (sym (spelled_by c first.spelling first.spells))
+        ∙ spelling_in p.0 c p.1 k bounds.0 bounds.1 in
     ap (begins_in_ranges (byte_ranges p)) first.joined ∙ in_begins (byte_ranges p) first.spelling first.rest inside
 
-no_end : (h : List ℕ) (i : ℕ) (ranges : List (ℕ × ℕ)) (o : Option ℕ) → ((c : ℕ) → o ≡ Some c → is_member ranges c ≡ false) → character_end ranges o i ≡ []
+no_end : (h : List ℕ) (i : ℕ) (ranges : List (ℕ × ℕ)) (o : Option ℕ) → ((c : ℕ) → o ≡ Some c → is_member ranges c ≡ false) →
+    character_end ranges o i ≡ []
 no_end h i ranges None none = refl
 no_end h i ranges (Some c) none = cond-false _ _ _ (none c refl)
 
-piece_end_is : (h : List ℕ) (i : ℕ) (p : ℕ × ℕ) → IsPiece p.0 p.1 → sequence_end h i (byte_ranges p) ≡ character_end (p ∷ []) (character_at h i) i
+piece_end_is : (h : List ℕ) (i : ℕ) (p : ℕ × ℕ) → IsPiece p.0 p.1 → sequence_end h i (byte_ranges p) ≡ character_end (p ∷ [])
+    (character_at h i) i
 piece_end_is h i p k = elim (cases_Bool (begins_in_ranges (byte_ranges p) (drop i h))) [
   | inl begun ↦
       let c = piece_begun h i p k begun in
@@ -167,7 +175,8 @@ pieces_ends : (h : List ℕ) (i low hi : ℕ) (ps : List (ℕ × ℕ)) → Rises
 pieces_ends h i low hi [] r = sym (no_end h i [] (character_at h i) (λ c e. refl))
 pieces_ends h i low hi (p ∷ ps) r =
     ap₂ (λ (a b : List ℕ). a ++ b) (piece_end_is h i p r.2) (pieces_ends h i (p.1 + 1) hi ps r.3)
-    ∙ sym (class_parts p ps (character_at h i) i (λ c l m e. let q = rising_members (p.1 + 1) hi ps c r.3 e in absurd (omega (arith, m, q.0))))
+    ∙ sym (class_parts p ps (character_at h i) i (λ c l m e. let q = rising_members (p.1 + 1) hi ps c r.3 e in
+        absurd (omega (arith, m, q.0))))
 
 -- ---- the pieces of a range have its scalars
 
@@ -175,7 +184,8 @@ member_there : (c k : ℕ) (ps : List (ℕ × ℕ)) (p : ℕ × ℕ) → slice_g
 member_there c k [] p e l m = cc
 member_there c zero (x ∷ ps) p e l m =
     let same : x ≡ p = cc in
-    subst (λ (y : ℕ × ℕ). is_member (y ∷ ps) c ≡ true) (sym same) (ap (λ t. t || is_member ps c) (and_from _ _ (le-leb p.0 c l) (le-leb c p.1 m)))
+    subst (λ (y : ℕ × ℕ). is_member (y ∷ ps) c ≡ true) (sym same) (ap (λ t. t
+        || is_member ps c) (and_from _ _ (le-leb p.0 c l) (le-leb c p.1 m)))
 member_there c (suc k) (x ∷ ps) p e l m = or_right (leb x.0 c && leb c x.1) (is_member ps c) (member_there c k ps p e l m)
 
 pub same_test : (t u : Bool) → (t ≡ true → u ≡ true) → (u ≡ true → t ≡ true) → t ≡ u
@@ -192,11 +202,13 @@ same_member lo hi c s =
     let found = covers (hi + 1 - lo) lo hi c (omega arith) s q.0 q.1 in
     member_there c found.0 (pieces lo hi) found.1 found.2 found.3 found.4)
 
-same_class : (ps qs : List (ℕ × ℕ)) (o : Option ℕ) (i : ℕ) → ((c : ℕ) → o ≡ Some c → is_member ps c ≡ is_member qs c) → character_end ps o i ≡ character_end qs o i
+same_class : (ps qs : List (ℕ × ℕ)) (o : Option ℕ) (i : ℕ) → ((c : ℕ) → o ≡ Some c → is_member ps c ≡ is_member qs c) →
+    character_end ps o i ≡ character_end qs o i
 same_class ps qs None i e = refl
 same_class ps qs (Some c) i e = ap (λ t. cond t ((i + spelling_len c) ∷ []) []) (e c refl)
 
-range_ends : (h : List ℕ) (i : ℕ) (r : ℕ × ℕ) → flat_map (sequence_end h i) (utf8_sequences r.0 r.1) ≡ character_end (r ∷ []) (character_at h i) i
+range_ends : (h : List ℕ) (i : ℕ) (r : ℕ × ℕ) → flat_map (sequence_end h i) (utf8_sequences r.0 r.1) ≡ character_end (r ∷ [])
+    (character_at h i) i
 range_ends h i r =
     pieces_ends h i r.0 r.1 (pieces r.0 r.1) (rises (r.1 + 1 - r.0) r.0 r.1)
     ∙ same_class (pieces r.0 r.1) (r ∷ []) (character_at h i) i
@@ -204,7 +216,8 @@ range_ends h i r =
 
 -- ---- all ranges
 ranges_ends : (h : List ℕ) (i : ℕ) (r : ℕ × ℕ) (rs : List (ℕ × ℕ)) →
-    flat_map (sequence_end h i) (sequences_of (r ∷ rs)) ≡ character_end (r ∷ []) (character_at h i) i ++ flat_map (sequence_end h i) (sequences_of rs)
+    flat_map (sequence_end h i) (sequences_of (r ∷ rs)) ≡ character_end (r ∷ []) (character_at h i) i
+        ++ flat_map (sequence_end h i) (sequences_of rs)
 ranges_ends h i r rs =
     flat_map-append (sequence_end h i) (utf8_sequences r.0 r.1) (sequences_of rs)
     ∙ ap (λ l. l ++ flat_map (sequence_end h i) (sequences_of rs)) (range_ends h i r)
@@ -232,7 +245,8 @@ pub class_ends : (looks : Looks) (h : List ℕ) (ranges : List (ℕ × ℕ)) (i 
 class_ends looks h ranges i r = rising_ends h i 0 ranges r ∙ sym (part_ends looks h (sequences_of ranges) i)
 
 -- ---- the spans, whatever the ranges are
-either_part : (r : ℕ × ℕ) (rs : List (ℕ × ℕ)) (o : Option ℕ) (i j : ℕ) → Has (character_end (r ∷ rs) o i) j → Has (character_end (r ∷ []) o i) j ⊎ Has (character_end rs o i) j
+either_part : (r : ℕ × ℕ) (rs : List (ℕ × ℕ)) (o : Option ℕ) (i j : ℕ) → Has (character_end (r ∷ rs) o i) j →
+    Has (character_end (r ∷ []) o i) j ⊎ Has (character_end rs o i) j
 either_part r rs None i j g = elim g [ ]
 either_part r rs (Some c) i j g =
     let one = Has-if (is_member (r ∷ rs) c) (i + spelling_len c) j g in
@@ -241,7 +255,8 @@ either_part r rs (Some c) i j g =
       | inr b ↦ inr (Has-then (is_member rs c) _ j b one.1)
     ]
 
-first_part : (r : ℕ × ℕ) (rs : List (ℕ × ℕ)) (o : Option ℕ) (i j : ℕ) → Has (character_end (r ∷ []) o i) j → Has (character_end (r ∷ rs) o i) j
+first_part : (r : ℕ × ℕ) (rs : List (ℕ × ℕ)) (o : Option ℕ) (i j : ℕ) → Has (character_end (r ∷ []) o i) j →
+    Has (character_end (r ∷ rs) o i) j
 first_part r rs None i j g = elim g [ ]
 first_part r rs (Some c) i j g =
     let one = Has-if (is_member (r ∷ []) c) (i + spelling_len c) j g in
@@ -261,7 +276,8 @@ has_sequence : (h : List ℕ) (i j : ℕ) (rs : List (ℕ × ℕ)) → Has (char
 has_sequence h i j [] g = absurd (subst (λ (l : List ℕ). Has l j) (no_end h i [] (character_at h i) (λ c e. refl)) g)
 has_sequence h i j (r ∷ rs) g =
     subst (λ (l : List ℕ). Has l j) (sym (ranges_ends h i r rs))
-    (⊎_elim (Has-left _ _ j) (λ b. Has-right (character_end (r ∷ []) (character_at h i) i) _ j (has_sequence h i j rs b)) (either_part r rs (character_at h i) i j g))
+    (⊎_elim (Has-left _ _ j) (λ b. Has-right (character_end (r ∷ []) (character_at h i) i) _ j (has_sequence h i j rs b))
+        (either_part r rs (character_at h i) i j g))
 
 has_class : (h : List ℕ) (i j : ℕ) (rs : List (ℕ × ℕ)) → SequenceHas h i j rs → Has (character_end rs (character_at h i) i) j
 has_class h i j [] g = elim g [ ]
@@ -280,4 +296,5 @@ module _ (looks : Looks) (h : List ℕ) (ranges : List (ℕ × ℕ)) (i j : ℕ)
   sequences_to_class m =
       preferred_ends_sound looks h (char_class ranges) i j
       (has_class h i j ranges
-      (subst (λ (l : List ℕ). Has l j) (part_ends looks h (sequences_of ranges) i) (preferred_ends_complete looks h (by_sequences ranges) i j m)))
+      (subst (λ (l : List ℕ). Has l j) (part_ends looks h (sequences_of ranges) i)
+          (preferred_ends_complete looks h (by_sequences ranges) i j m)))

@@ -1,5 +1,6 @@
 -- The spans that a tree means go forward, and stay within the haystack if they move.
-use Rattle.std.proofs.Common.{◌≡◌, ℕ, zero, suc, ◌+◌, ◌≤◌, max, true, List, ◌++◌, length, drop, refl, sym, ap, ◌∙◌, ⊎_elim, arith, length-append, length-drop, drop-drop}
+use Rattle.std.proofs.Common.{◌≡◌, ℕ, zero, suc, ◌+◌, ◌≤◌, max, true, List, ◌++◌, length, drop, refl, sym, ap, ◌∙◌, ⊎_elim, arith}
+use Rattle.std.proofs.Common.{length-append, length-drop, drop-drop}
 use Rattle.std.proofs.lemmas.Option.{slice_get_within}
 use Rattle.std.proofs.lemmas.Slice.Eq.{starts_is}
 use Rattle.std.proofs.lemmas.Bool.Decides.{Decides-eqb}

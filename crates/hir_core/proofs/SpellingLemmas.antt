@@ -1,5 +1,6 @@
 -- Spans that spell a character of a class: what the character at a place says, and the lengths of spellings.
-use Rattle.std.proofs.Common.{◌≡◌, ℕ, ◌+◌, ◌-◌, ◌≤◌, ◌⊎◌, inl, inr, true, ◌&&◌, List, ◌∷◌, length, take, drop, slice_range, Option, Some, None, leb, refl, sym, ap, ◌∙◌, subst, arith, length-append, length-drop}
+use Rattle.std.proofs.Common.{◌≡◌, ℕ, ◌+◌, ◌-◌, ◌≤◌, ◌⊎◌, inl, inr, true, ◌&&◌, List, ◌∷◌, length, take, drop, slice_range, Option, Some}
+use Rattle.std.proofs.Common.{None, leb, refl, sym, ap, ◌∙◌, subst, arith, length-append, length-drop}
 use Rattle.std.proofs.lemmas.Bool.{leb-true, and_parts, or_cases}
 use Rattle.std.proofs.lemmas.List.{take-append-drop, take_at}
 use Rattle.search_core.specs.Utf8.{Spells, SpellsFirst}
@@ -10,7 +11,8 @@ use Rattle.hir_core.specs.PreferredEnds.{character_end, Has}
 use Rattle.hir_core.proofs.HasLemmas.{Has-if, Has-then}
 
 -- a spelling at a place is the span of so many bytes from there
-span_of_spelling : (h : List ℕ) (i c j : ℕ) (f : SpellsFirst c (drop i h)) → i + spelling_len c ≡ j → (j ≤ length h) × (slice_range h i j ≡ f.spelling)
+span_of_spelling : (h : List ℕ) (i c j : ℕ) (f : SpellsFirst c (drop i h)) → i + spelling_len c ≡ j → (j ≤ length h) ×
+    (slice_range h i j ≡ f.spelling)
 span_of_spelling h i c j f e =
     let len = spelling_has_len c f.spelling f.spells in
     let some = spelling_some c f.spelling f.spells in
@@ -19,7 +21,8 @@ span_of_spelling h i c j f e =
       ap (λ t. take (j - i) t) f.joined ∙ take_at f.spelling f.rest (j - i) count,
     )
 
-member_found : (h : List ℕ) (ranges : List (ℕ × ℕ)) (o : Option ℕ) (i j : ℕ) → character_at h i ≡ o → Has (character_end ranges o i) j → SpellsMember h ranges i j
+member_found : (h : List ℕ) (ranges : List (ℕ × ℕ)) (o : Option ℕ) (i j : ℕ) → character_at h i ≡ o → Has (character_end ranges o i) j →
+    SpellsMember h ranges i j
 member_found h ranges None i j e g = elim g [ ]
 member_found h ranges (Some c) i j e g =
     let one = Has-if (is_member ranges c) (i + spelling_len c) j g in
@@ -33,7 +36,8 @@ member_found h ranges (Some c) i j e g =
       member = one.0;
     }
 
-pub character_end_sound : (h : List ℕ) (ranges : List (ℕ × ℕ)) (i j : ℕ) → Has (character_end ranges (character_at h i) i) j → SpellsMember h ranges i j
+pub character_end_sound : (h : List ℕ) (ranges : List (ℕ × ℕ)) (i j : ℕ) → Has (character_end ranges (character_at h i) i) j →
+    SpellsMember h ranges i j
 character_end_sound h ranges i j g = member_found h ranges (character_at h i) i j refl g
 
 -- the spelling of a span begins the bytes from its start on
@@ -47,13 +51,15 @@ begins_with_span h ranges i j m = record {
 
 span_len : (h : List ℕ) (i j : ℕ) → i ≤ j → j ≤ length h → length (slice_range h i j) ≡ j - i
 span_len h i j f w =
-    omega (arith, f, w, length-drop i h, length-drop (j - i) (drop i h), ap length (take-append-drop (j - i) (drop i h)), length-append (slice_range h i j) (drop (j - i) (drop i h)))
+    omega (arith, f, w, length-drop i h, length-drop (j - i) (drop i h), ap length (take-append-drop (j - i) (drop i h)),
+        length-append (slice_range h i j) (drop (j - i) (drop i h)))
 
 pub member_len : (h : List ℕ) (ranges : List (ℕ × ℕ)) (i j : ℕ) (m : SpellsMember h ranges i j) → i + spelling_len m.scalar ≡ j
 member_len h ranges i j m =
     omega (arith, m.forward, span_len h i j m.forward m.within, spelling_has_len m.scalar (slice_range h i j) m.spells)
 
-pub character_end_complete : (h : List ℕ) (ranges : List (ℕ × ℕ)) (i j : ℕ) → SpellsMember h ranges i j → Has (character_end ranges (character_at h i) i) j
+pub character_end_complete : (h : List ℕ) (ranges : List (ℕ × ℕ)) (i j : ℕ) → SpellsMember h ranges i j →
+    Has (character_end ranges (character_at h i) i) j
 character_end_complete h ranges i j m =
     let found = begun_character h i m.scalar (begins_with_span h ranges i j m) in
     rw found (Has-then (is_member ranges m.scalar) (i + spelling_len m.scalar) j m.member (member_len h ranges i j m))

@@ -1,5 +1,6 @@
 -- What a tree means from i to j depends on the bytes from i to j and on how its looks are read there.
-use Rattle.std.proofs.Common.{◌≡◌, ℕ, zero, suc, ◌+◌, ◌-◌, ◌≤◌, List, [], ◌∷◌, length, take, drop, slice_get, Some, None, inl, inr, refl, sym, ap, ◌∙◌, subst, arith, drop-drop}
+use Rattle.std.proofs.Common.{◌≡◌, ℕ, zero, suc, ◌+◌, ◌-◌, ◌≤◌, List, [], ◌∷◌, length, take, drop, slice_get, Some, None, inl, inr, refl}
+use Rattle.std.proofs.Common.{sym, ap, ◌∙◌, subst, arith, drop-drop}
 use Rattle.std.specs.List.{starts_with}
 use Rattle.std.specs.Bool.{nat_eq}
 use Rattle.std.proofs.lemmas.List.{length-take}

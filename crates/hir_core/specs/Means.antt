@@ -1,6 +1,7 @@
 -- Which spans of a haystack a tree means. A place is a number from 0 to the haystack's length: the definitions do not
 -- ask it of a start, and a span from a place leads to a place.
-use Rattle.std.specs.Prelude.{◌≡◌, ℕ, zero, suc, ◌+◌, ◌≤◌, Bool, List, length, Option, Some, None, ◌⊎◌, IsTrue, ◌&&◌, nat_le, nat_eq, slice_get, slice_range, drop}
+use Rattle.std.specs.Prelude.{◌≡◌, ℕ, zero, suc, ◌+◌, ◌≤◌, Bool, List, length, Option, Some, None, ◌⊎◌, IsTrue, ◌&&◌, nat_le, nat_eq}
+use Rattle.std.specs.Prelude.{slice_get, slice_range, drop}
 use Rattle.std.specs.List.{starts_with, list_any}
 use Rattle.search_core.specs.Utf8.{Spells}
 use Rattle.look_core.specs.declared.look.Look.{Look}

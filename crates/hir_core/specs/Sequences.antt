@@ -2,7 +2,8 @@
 -- strings whose bytes lie, one by one, between those of the spellings of its first and last scalar. This says how they are
 -- cut; what they mean is said by the laws (`utf8_sequences_laws`): each spelling of a scalar of the range is a string of
 -- exactly one sequence, each string spells one of its scalars, and the sequences ascend.
-use Rattle.std.specs.Prelude.{ℕ, zero, suc, ◌+◌, ◌-◌, ◌/◌, ◌%◌, min, Bool, true, false, ◌&&◌, ◌==◌, nat_le, List, [], ◌∷◌, map, if◌then◌else◌}
+use Rattle.std.specs.Prelude.{ℕ, zero, suc, ◌+◌, ◌-◌, ◌/◌, ◌%◌, min, Bool, true, false, ◌&&◌, ◌==◌, nat_le, List, [], ◌∷◌, map}
+use Rattle.std.specs.Prelude.{if◌then◌else◌}
 use Rattle.std.specs.List.{zip}
 use Rattle.hir_core.specs.declared.utf8_sequences.Utf8Range.{Utf8Range}
 use Rattle.hir_core.specs.declared.utf8_sequences.Utf8Sequence.{Utf8Sequence}
@@ -15,7 +16,8 @@ scalar_from n = if nat_le 0xD800 n && nat_le n 0xDFFF then 0xE000 else n
 -- the last scalar of the row that c is in: the scalars of one spelling's length, parted at the surrogates
 abbrev pub row_end : ℕ → ℕ
 row_end c =
-    if nat_le c 0x7F then 0x7F else if nat_le c 0x7FF then 0x7FF else if nat_le c 0xD7FF then 0xD7FF else if nat_le c 0xFFFF then 0xFFFF else 0x10FFFF
+    if nat_le c 0x7F then 0x7F else if nat_le c 0x7FF then 0x7FF else if nat_le c 0xD7FF then 0xD7FF else if nat_le c 0xFFFF then 0xFFFF
+        else 0x10FFFF
 
 -- where the first piece of the numbers from lo to hi ends by the blocks of so many numbers: where lo and hi lie in different
 -- blocks, a first block that isn't whole is a piece of its own, and so is a last one

@@ -1,5 +1,6 @@
 -- What is known of an answer: its pattern means its span, and where it stands.
-use Rattle.std.proofs.Common.{◌≡◌, ℕ, zero, suc, if◌then◌else◌, ◌+◌, ◌-◌, ◌≤◌, Bool, true, false, cond, List, [], ◌∷◌, ◌++◌, map, length, Option, Some, None, slice_get, nat_le, refl, sym, ap, ◌∙◌, subst, inl, inr, arith, leb-true}
+use Rattle.std.proofs.Common.{◌≡◌, ℕ, zero, suc, if◌then◌else◌, ◌+◌, ◌-◌, ◌≤◌, Bool, true, false, cond, List, [], ◌∷◌, ◌++◌, map, length}
+use Rattle.std.proofs.Common.{Option, Some, None, slice_get, nat_le, refl, sym, ap, ◌∙◌, subst, inl, inr, arith, leb-true}
 use Rattle.std.specs.List.{All, filter}
 use Rattle.std.proofs.lemmas.List.Elements.{All-cons}
 use Rattle.std.proofs.lemmas.Bool.{and_parts}
@@ -15,7 +16,8 @@ use Rattle.search_types.proofs.ForCallers.{starts_at, computed_is_answer, ends_r
 use Rattle.hirscan.specs.Choices.{Query, pattern_choices, choices, ends_at, may_end, choices_at, answer_from, answers_of}
 use Rattle.search_types.specs.AllAnswers.{AnswersWithin, EndsRise, and_on, answers_from, is_repeat, next_answer}
 
-found_is_leftmost : (q : Query) (s : ℕ) (o : Option Found) (f : Found) → o ≡ Some f → IsAnswer (choices_at q) q.mode s q.end o → IsLeftmost (choices_at q) q.mode s q.end f
+found_is_leftmost : (q : Query) (s : ℕ) (o : Option Found) (f : Found) → o ≡ Some f → IsAnswer (choices_at q) q.mode s q.end o →
+    IsLeftmost (choices_at q) q.mode s q.end f
 found_is_leftmost q s None f is a = cc
 found_is_leftmost q s (Some g) f is a =
     let same : g ≡ f = cc in let P : Found → Type 0 = λ x. IsLeftmost (choices_at q) q.mode s q.end x in subst P same a
@@ -44,7 +46,8 @@ Has-filter kept [] j has = elim has [ ]
 Has-filter kept (x ∷ xs) j has = Has-cond kept x j xs (filter kept xs) (kept x) refl (Has-filter kept xs j) has
 
 module _ (may_find kept : ℕ → Bool) (ends_of : Tree → List ℕ) where
-  chosen_later : (x : Tree) (xs : List Tree) (p i : ℕ) (f : Found) → IsChosen kept ends_of xs (p + 1) i f → IsChosen kept ends_of (x ∷ xs) p i f
+  chosen_later : (x : Tree) (xs : List Tree) (p i : ℕ) (f : Found) → IsChosen kept ends_of xs (p + 1) i f →
+      IsChosen kept ends_of (x ∷ xs) p i f
   chosen_later x xs p i f r = record {
     number = suc r.number;
     tree = r.tree;
@@ -57,7 +60,8 @@ module _ (may_find kept : ℕ → Bool) (ends_of : Tree → List ℕ) where
 
   chosen_in : (x : Tree) (xs : List Tree) (p i : ℕ) (f : Found) (ends : List ℕ) → filter kept (ends_of x) ≡ ends →
       (first_choice i (choices may_find kept (p + 1) (map ends_of xs)) ≡ Some f → IsChosen kept ends_of xs (p + 1) i f) →
-      first_choice i (map (λ j. (p, j)) ends ++ choices may_find kept (p + 1) (map ends_of xs)) ≡ Some f → IsChosen kept ends_of (x ∷ xs) p i f
+      first_choice i (map (λ j. (p, j)) ends ++ choices may_find kept (p + 1) (map ends_of xs)) ≡ Some f →
+          IsChosen kept ends_of (x ∷ xs) p i f
   chosen_in x xs p i f [] is others e = chosen_later x xs p i f (others e)
   chosen_in x xs p i f (j ∷ js) is others e =
       let pattern : p ≡ f.pattern = cc in
@@ -77,11 +81,13 @@ module _ (may_find kept : ℕ → Bool) (ends_of : Tree → List ℕ) where
 
   chosen_of : (x : Tree) (xs : List Tree) (p i : ℕ) (f : Found) (b : Bool) →
       (first_choice i (choices may_find kept (p + 1) (map ends_of xs)) ≡ Some f → IsChosen kept ends_of xs (p + 1) i f) →
-      first_choice i (pattern_choices b kept p (ends_of x) ++ choices may_find kept (p + 1) (map ends_of xs)) ≡ Some f → IsChosen kept ends_of (x ∷ xs) p i f
+      first_choice i (pattern_choices b kept p (ends_of x) ++ choices may_find kept (p + 1) (map ends_of xs)) ≡ Some f →
+          IsChosen kept ends_of (x ∷ xs) p i f
   chosen_of x xs p i f true others e = chosen_in x xs p i f (filter kept (ends_of x)) refl others e
   chosen_of x xs p i f false others e = chosen_later x xs p i f (others e)
 
-  chosen_first : (xs : List Tree) (p i : ℕ) (f : Found) → first_choice i (choices may_find kept p (map ends_of xs)) ≡ Some f → IsChosen kept ends_of xs p i f
+  chosen_first : (xs : List Tree) (p i : ℕ) (f : Found) → first_choice i (choices may_find kept p (map ends_of xs)) ≡ Some f →
+      IsChosen kept ends_of xs p i f
   chosen_first [] p i f e = cc
   chosen_first (x ∷ xs) p i f e = chosen_of x xs p i f (may_find p) (chosen_first xs (p + 1) i f) e
 
@@ -89,7 +95,8 @@ module _ (q : Query) where
   counted : (i : ℕ) (f : Found) (b : Bool) →
       first_choice i (cond b (choices (allowed q.mode (length q.patterns)) (may_end q) 0 (ends_at q i)) []) ≡ Some f →
       IsChosen (may_end q) (λ x. preferred_ends q.looks q.haystack x i) q.patterns 0 i f
-  counted i f true e = chosen_first (allowed q.mode (length q.patterns)) (may_end q) (λ x. preferred_ends q.looks q.haystack x i) q.patterns 0 i f e
+  counted i f true e = chosen_first (allowed q.mode (length q.patterns)) (may_end q)
+      (λ x. preferred_ends q.looks q.haystack x i) q.patterns 0 i f e
   counted i f false e = cc
 
   tree_chosen : (s : ℕ) (f : Found) → answer_from q s ≡ Some f →
@@ -111,16 +118,19 @@ module _ (q : Query) where
     ends = λ s f is.
         let c = tree_chosen s f is in
         span_forward q.looks q.haystack c.tree f.start f.end (preferred_ends_sound q.looks q.haystack c.tree f.start f.end c.has_end);
-    within = λ s f is. leb-true f.end q.end (and_parts (nat_le f.end q.end) (counts q.utf8 q.haystack f.end) (tree_chosen s f is).end_kept).0;
+    within = λ s f is. leb-true f.end q.end (and_parts (nat_le f.end q.end) (counts q.utf8 q.haystack f.end)
+        (tree_chosen s f is).end_kept).0;
   }
 
   start_counts : (i : ℕ) (f : Found) (b : Bool) → counts q.utf8 q.haystack i ≡ b →
-      first_choice i (cond b (choices (allowed q.mode (length q.patterns)) (may_end q) 0 (ends_at q i)) []) ≡ Some f → counts q.utf8 q.haystack i ≡ true
+      first_choice i (cond b (choices (allowed q.mode (length q.patterns)) (may_end q) 0 (ends_at q i)) []) ≡ Some f →
+          counts q.utf8 q.haystack i ≡ true
   start_counts i f true is e = is
   start_counts i f false is e = cc
 
   -- in UTF-8 mode an answer starts and ends at places that count
-  pub answer_counts : (s : ℕ) (f : Found) → answer_from q s ≡ Some f → (counts q.utf8 q.haystack f.start ≡ true) × (counts q.utf8 q.haystack f.end ≡ true)
+  pub answer_counts : (s : ℕ) (f : Found) → answer_from q s ≡ Some f → (counts q.utf8 q.haystack f.start ≡ true) ×
+      (counts q.utf8 q.haystack f.end ≡ true)
   answer_counts s f is = (
     start_counts f.start f (counts q.utf8 q.haystack f.start) refl (answer_found q s f is).first,
     (and_parts (nat_le f.end q.end) (counts q.utf8 q.haystack f.end) (tree_chosen s f is).end_kept).1,
@@ -130,14 +140,17 @@ module _ (q : Query) where
 abbrev Counts : Query → Found → Type 0
 Counts q f = (counts q.utf8 q.haystack f.start ≡ true) × (counts q.utf8 q.haystack f.end ≡ true)
 
-next_counts : (q : Query) (at : ℕ) (f : Found) (again : Bool) → (if again then answer_from q (at + 1) else answer_from q at) ≡ Some f → Counts q f
+next_counts : (q : Query) (at : ℕ) (f : Found) (again : Bool) → (if again then answer_from q (at + 1) else answer_from q at) ≡ Some f →
+    Counts q f
 next_counts q at f true is = answer_counts q (at + 1) f is
 next_counts q at f false is = answer_counts q at f is
 
-more_count : (q : Query) (last : Option ℕ) (at : ℕ) (o : Option Found) (rest : Found → List Found) → next_answer (answer_from q) last at ≡ o →
+more_count : (q : Query) (last : Option ℕ) (at : ℕ) (o : Option Found) (rest : Found → List Found) →
+    next_answer (answer_from q) last at ≡ o →
     ((f : Found) → All (Counts q) (rest f)) → All (Counts q) (and_on o rest)
 more_count q last at None rest is others = λ k f less. absurd (omega (arith, less))
-more_count q last at (Some f) rest is others = All-cons (Counts q) f (rest f) (next_counts q at f (is_repeat last (answer_from q at)) is) (others f)
+more_count q last at (Some f) rest is others = All-cons (Counts q) f (rest f) (next_counts q at f (is_repeat last (answer_from q at)) is)
+    (others f)
 
 all_count : (q : Query) (n : ℕ) (last : Option ℕ) (at : ℕ) → All (Counts q) (answers_from (answer_from q) n last at)
 all_count q zero last at = λ k f less. absurd (omega (arith, less))

@@ -1,5 +1,7 @@
 -- What reading a haystack as UTF-8 says of its longest valid beginning, and what is searched where nothing is refused.
-use Rattle.std.proofs.Common.{◌≡◌, ℕ, zero, suc, ◌+◌, ◌<◌, ◌≤◌, Bool, true, false, not, if◌then◌else◌, List, [], ◌∷◌, All, length, take, Option, Some, None, option_map, nat_lt, nat_le, get_or, true≢false, refl, sym, subst, arith, codes, decimal, ◌++◌, leb-true}
+use Rattle.std.proofs.Common.{◌≡◌, ℕ, zero, suc, ◌+◌, ◌<◌, ◌≤◌, Bool, true, false, not, if◌then◌else◌, List, [], ◌∷◌, All, length, take}
+use Rattle.std.proofs.Common.{Option, Some, None, option_map, nat_lt, nat_le, get_or, true≢false, refl, sym, subst, arith, codes, decimal}
+use Rattle.std.proofs.Common.{◌++◌, leb-true}
 use Rattle.std.specs.List.{position, position_or_len}
 use Rattle.std.proofs.lemmas.List.Sums.{fails_before_first}
 use Rattle.std.specs.Str.{IsUtf8, IsValidUpTo, is_utf8}
@@ -14,7 +16,8 @@ use Rattle.hir_core.specs.Facts.{LoopsRead, is_utf8_tree}
 use Rattle.hirscan.specs.declared.line.Setup.{Setup}
 use Rattle.hirscan.specs.Asks.{search_of}
 use Rattle.hirscan.specs.Loops.{loops_read, first_empty_loop}
-use Rattle.hirscan.specs.Refusals.{first_cause, cause_if, of_pattern, where_utf8, first_not_utf8, first_broken, span_of, is_span, pattern_causes, haystack_causes, refusal}
+use Rattle.hirscan.specs.Refusals.{first_cause, cause_if, of_pattern, where_utf8, first_not_utf8, first_broken, span_of, is_span}
+use Rattle.hirscan.specs.Refusals.{pattern_causes, haystack_causes, refusal}
 use Rattle.hirscan.specs.Regexes.{IsSearchOf}
 use Rattle.hirscan.proofs.LoopLemmas.{loops_read_sound}
 
@@ -110,22 +113,26 @@ module _ (setup : Setup) (xs : List Tree) (h : List ℕ) (none : refusal setup x
 
   valid_haystack : setup.settings.utf8 ≡ true → IsValidText h
   valid_haystack on =
-      let found = unmapped _ (where_utf8 setup.settings.utf8 (first_broken h)) (first_none text_cause (span_cause ∷ []) haystack_passes).0 in
+      let found = unmapped _ (where_utf8 setup.settings.utf8 (first_broken h))
+          (first_none text_cause (span_cause ∷ []) haystack_passes).0 in
       text_of_none h (asked_utf8 setup.settings.utf8 (first_broken h) found on)
 
   -- what is searched fits the haystack
   pub span_fits : is_span (span_of setup.span h) h ≡ true
   span_fits =
       let rest = (first_none text_cause (span_cause ∷ []) haystack_passes).1 in
-      not-false (is_span (span_of setup.span h) h) (no_cause (not (is_span (span_of setup.span h) h)) (codes "span") (first_none span_cause [] rest).0)
+      not-false (is_span (span_of setup.span h) h) (no_cause (not (is_span (span_of setup.span h) h)) (codes "span")
+          (first_none span_cause [] rest).0)
 
   pub span_ends : (span_of setup.span h).end ≤ length h
   span_ends = leb-true (span_of setup.span h).end (length h)
-      (and_parts (nat_le (span_of setup.span h).end (length h)) (nat_le (span_of setup.span h).start ((span_of setup.span h).end + 1)) span_fits).0
+      (and_parts (nat_le (span_of setup.span h).end (length h)) (nat_le (span_of setup.span h).start ((span_of setup.span h).end + 1))
+          span_fits).0
 
   pub span_starts : (search_of setup h).start ≤ (search_of setup h).end + 1
   span_starts = leb-true (span_of setup.span h).start ((span_of setup.span h).end + 1)
-      (and_parts (nat_le (span_of setup.span h).end (length h)) (nat_le (span_of setup.span h).start ((span_of setup.span h).end + 1)) span_fits).1
+      (and_parts (nat_le (span_of setup.span h).end (length h)) (nat_le (span_of setup.span h).start ((span_of setup.span h).end + 1))
+          span_fits).1
 
   pub is_search : All (λ byte. byte < 256) h → IsSearchOf xs setup.settings.utf8 (search_of setup h)
   is_search bytes = record { within = span_ends; whole = refl; bytes = bytes; valid = valid_haystack; utf8_trees = utf8_trees }

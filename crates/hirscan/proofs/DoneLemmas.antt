@@ -1,5 +1,6 @@
 -- What a line that is taken does is what is read of its words.
-use Rattle.std.proofs.Common.{◌≡◌, ◌≢◌, ℕ, suc, ◌+◌, ◌-◌, Bool, true, false, not, List, [], ◌∷◌, ◌++◌, length, take, drop, Option, Some, None, nat_lt, nat_le, eqb, refl, sym, ◌∙◌, ap, arith, length-append}
+use Rattle.std.proofs.Common.{◌≡◌, ◌≢◌, ℕ, suc, ◌+◌, ◌-◌, Bool, true, false, not, List, [], ◌∷◌, ◌++◌, length, take, drop, Option, Some}
+use Rattle.std.proofs.Common.{None, nat_lt, nat_le, eqb, refl, sym, ◌∙◌, ap, arith, length-append}
 use Rattle.std.specs.Prelude.{unwrap_or}
 use Rattle.std.proofs.Math.Bool.{and-false}
 use Rattle.std.proofs.lemmas.Bool.{le-ltb, le-leb}
@@ -12,17 +13,24 @@ use Rattle.hir_core.specs.Facts.{height}
 use Rattle.hirscan.specs.declared.fault.FaultKind.{FaultKind}
 use Rattle.hirscan.specs.declared.fault.FaultKind.TheVariants.{BadNumber, BadHex, UnknownLook, BadChoice}
 use Rattle.hirscan.specs.declared.words.LineWord.{LineWord}
-use Rattle.hirscan.specs.declared.words.LineWord.TheVariants.{Utf8, Line, Capacity, Quit, Classes, Shrink, Anchored, Span, Empty, Lit, Bytes, Chars, Look, Rep, Cat, Alt, Pattern, Find}
+use Rattle.hirscan.specs.declared.words.LineWord.TheVariants.{Utf8, Line, Capacity, Quit, Classes, Shrink, Anchored, Span, Empty, Lit}
+use Rattle.hirscan.specs.declared.words.LineWord.TheVariants.{Bytes, Chars, Look, Rep, Cat, Alt, Pattern, Find}
 use Rattle.hirscan.specs.declared.line.Setup.{Setup}
 use Rattle.hirscan.specs.declared.line.Step.TheVariants.{Next}
 use Rattle.hirscan.specs.Words.{class_ranges, scalar_ranges}
-use Rattle.hirscan.specs.Readers.{spelling, number, the_number, bound, the_bound, order, the_order, switch, yes_or_no, hex_bytes, hex_byte, the_byte, look_named}
-use Rattle.hirscan.specs.Takes.{HeadValue, HasNoNode, Sets, Replaces, Takes, with_utf8, with_terminator, with_capacity, with_quit, with_classes, with_shrink, with_anchored, with_span}
-use Rattle.hirscan.specs.Takes.{utf8_line, line_line, two_bytes_line, capacity_line, quit_line, classes_line, shrink_line, anchored_line, span_line}
+use Rattle.hirscan.specs.Readers.{spelling, number, the_number, bound, the_bound, order, the_order, switch, yes_or_no, hex_bytes, hex_byte}
+use Rattle.hirscan.specs.Readers.{the_byte, look_named}
+use Rattle.hirscan.specs.Takes.{HeadValue, HasNoNode, Sets, Replaces, Takes, with_utf8, with_terminator, with_capacity, with_quit}
+use Rattle.hirscan.specs.Takes.{with_classes, with_shrink, with_anchored, with_span}
+use Rattle.hirscan.specs.Takes.{utf8_line, line_line, two_bytes_line, capacity_line, quit_line, classes_line, shrink_line, anchored_line}
+use Rattle.hirscan.specs.Takes.{span_line}
 use Rattle.hirscan.specs.Takes.{empty_line, lit_line, bytes_line, chars_line, look_line, rep_line, cat_line, alt_line, pattern_line}
-use Rattle.hirscan.specs.LineFault.{first_of, unless_read, word_fault, is_at_most, is_word_count, is_min_above_max, needed, top, below, new_tree, is_setting, is_setting_after_node, has_too_few_trees, is_too_deep, has_not_one_tree, has_tree_left_over, setup_after, after_setting, after_tree, after}
+use Rattle.hirscan.specs.LineFault.{first_of, unless_read, word_fault, is_at_most, is_word_count, is_min_above_max, needed, top, below}
+use Rattle.hirscan.specs.LineFault.{new_tree, is_setting, is_setting_after_node, has_too_few_trees, is_too_deep, has_not_one_tree}
+use Rattle.hirscan.specs.LineFault.{has_tree_left_over, setup_after, after_setting, after_tree, after}
 use Rattle.hirscan.specs.Tells.{step_after}
-use Rattle.hirscan.proofs.SaysLemmas.{number_said, bound_said, order_said, switch_said, yes_said, hex_bytes_said, hex_byte_said, items_said, scalar_items_said, look_said}
+use Rattle.hirscan.proofs.SaysLemmas.{number_said, bound_said, order_said, switch_said, yes_said, hex_bytes_said, hex_byte_said, items_said}
+use Rattle.hirscan.proofs.SaysLemmas.{scalar_items_said, look_said}
 use Rattle.hirscan.proofs.TakesLemmas.{NoFault}
 
 -- a line that was taken, by its first word

@@ -1,6 +1,7 @@
 -- The first end of the runs of an automaton that is compiled from trees for one who reads forward is the first that the trees offer,
 -- at one place after the other, where their loops read.
-use Rattle.std.proofs.Common.{◌≡◌, ℕ, zero, suc, ◌+◌, ◌-◌, ◌≤◌, false, List, [], ◌∷◌, ◌++◌, take, get_or, slice_get, Option, Some, None, All, refl, sym, ap, ap₂, ◌∙◌, arith, append-nil}
+use Rattle.std.proofs.Common.{◌≡◌, ℕ, zero, suc, ◌+◌, ◌-◌, ◌≤◌, false, List, [], ◌∷◌, ◌++◌, take, get_or, slice_get, Option, Some, None}
+use Rattle.std.proofs.Common.{All, refl, sym, ap, ap₂, ◌∙◌, arith, append-nil}
 use Rattle.std.specs.List.{flat_map}
 use Rattle.std.proofs.lemmas.Option.{slice_get_within, slice_get-get_or, get_or_from_slice_get}
 use Rattle.hir_core.specs.Tree.{Tree, empty}

@@ -1,6 +1,7 @@
 -- The end that a search forward finds is that of an answer, for every set of words: the search read words as bytes, and as far as
 -- it read no byte tells words of characters apart from these.
-use Rattle.std.proofs.Common.{◌≡◌, ℕ, zero, suc, ◌+◌, ◌-◌, ◌<◌, ◌≤◌, Bool, true, false, not, ◌&&◌, List, Option, Some, None, refl, sym, ap, ◌∙◌, subst, inl, inr, arith}
+use Rattle.std.proofs.Common.{◌≡◌, ℕ, zero, suc, ◌+◌, ◌-◌, ◌<◌, ◌≤◌, Bool, true, false, not, ◌&&◌, List, Option, Some, None, refl, sym, ap}
+use Rattle.std.proofs.Common.{◌∙◌, subst, inl, inr, arith}
 use Rattle.std.specs.List.{flat_map}
 use Rattle.std.proofs.lemmas.Bool.{cases_lt, cases_Bool, and_from}
 use Rattle.look_core.specs.Looks.{holds, IsWordSet}
@@ -31,7 +32,8 @@ use Rattle.lazy_dfa.proofs.ForCallers.{scan_has_reach, scan_done, no_pattern, fe
 use Rattle.regex_pair.specs.Pairs.{Pair}
 use Rattle.hirscan.specs.Choices.{Query}
 use Rattle.hirscan.specs.Regexes.{IsRegexOf, IsSearchOf, query_of}
-use Rattle.hirscan.proofs.EndLemmas.{Fits, Tells, HasEnd, AllCount, Firsts, IsSplitAt, ends_past, none_past, anchored_split, whole_ends, no_place, unanchored_no, last_within}
+use Rattle.hirscan.proofs.EndLemmas.{Fits, Tells, HasEnd, AllCount, Firsts, IsSplitAt, ends_past, none_past, anchored_split, whole_ends}
+use Rattle.hirscan.proofs.EndLemmas.{no_place, unanchored_no, last_within}
 use Rattle.hirscan.proofs.FirstEndLemmas.{FindsFirsts}
 use Rattle.hirscan.proofs.RegexLemmas.{goes_forward, forward_is_utf8, place_forward, reads_alike}
 
@@ -90,7 +92,8 @@ module _ (xs : List Tree) (utf8 : Bool) (t : Terminator) (p : Pair) (regex : IsR
     | inl on ↦ inr (λ k i span.
         let some : has_empty a ≡ true =
         regex.is_forward.empty.1 (k, span.tree, span.listed, empty_span looks q.haystack span.tree i i refl span.means) in
-        let differ : true ≡ false = sym (and_from p.forward.nfa.utf8 (has_empty a) (forward_is_utf8 xs utf8 t p regex ∙ on) some) ∙ off in cc)
+        let differ : true ≡ false = sym (and_from p.forward.nfa.utf8 (has_empty a) (forward_is_utf8 xs utf8 t p regex ∙ on) some) ∙ off in
+            cc)
     | inr plain ↦ inl plain
   ]
 

@@ -19,7 +19,8 @@ pub record Behind (text rest : List ℕ) (here : HeadValue) (at lines : ℕ) : T
 pub length-cut : (text line rest : List ℕ) → CutsLine text line rest → length text ≡ length line + (length rest + 1)
 length-cut text line rest cut = omega (arith, ap length cut.parts, length-append line (10 ∷ rest))
 
-pub behind_more : (text rest line next : List ℕ) (here there : HeadValue) (at lines : ℕ) → Behind text rest here at lines → CutsLine rest line next
+pub behind_more : (text rest line next : List ℕ) (here there : HeadValue) (at lines : ℕ) → Behind text rest here at lines →
+    CutsLine rest line next
     → Takes (words line) here there → Behind text next there (at + (length line + 1)) (lines + 1)
 behind_more text rest line next here there at lines b cut taken = record {
   reads = λ found m h.

@@ -1,11 +1,13 @@
 -- How a list of matches ends: with the last one, at a quit byte that is read forward, or for want of memory.
-use Rattle.std.proofs.Common.{◌≡◌, inl, inr, ℕ, ◌≤◌, ◌<◌, Bool, true, false, List, All, Option, Some, None, Result, Ok, Err, string_bytes, ◌++◌, true≢false, refl, sym, ap, ◌∙◌, subst, arith, if◌then◌else◌}
+use Rattle.std.proofs.Common.{◌≡◌, inl, inr, ℕ, ◌≤◌, ◌<◌, Bool, true, false, List, All, Option, Some, None, Result, Ok, Err, string_bytes}
+use Rattle.std.proofs.Common.{◌++◌, true≢false, refl, sym, ap, ◌∙◌, subst, arith, if◌then◌else◌}
 use Rattle.std.specs.Prelude.{IfOk}
 use Rattle.std.specs.Borrow.{GName}
 use Rattle.std.specs.declared.alloc.AllocError.{AllocError}
 use Rattle.hir_core.specs.Tree.{Tree}
 use Rattle.search_types.specs.declared.match_error.MatchErrorKind.{MatchErrorKind}
-use Rattle.search_types.specs.declared.match_error.MatchErrorKind.TheVariants.{GaveUp, HaystackTooLong, NoMemory, NotAPair, Quit, UnsupportedAnchored}
+use Rattle.search_types.specs.declared.match_error.MatchErrorKind.TheVariants.{GaveUp, HaystackTooLong, NoMemory, NotAPair, Quit}
+use Rattle.search_types.specs.declared.match_error.MatchErrorKind.TheVariants.{UnsupportedAnchored}
 use Rattle.search_types.specs.Found.{Found}
 use Rattle.search_types.specs.Inputs.{Search}
 use Rattle.search_types.specs.Modes.{is_supported}
@@ -33,7 +35,8 @@ use Rattle.hirscan.proofs.BuiltLemmas.{built_regex}
 use Rattle.hirscan.proofs.CauseLemmas.{is_search, loops_all_read, span_starts}
 use Rattle.hirscan.proofs.HeadlineLemmas.{taken_are_all, taken_begin}
 use Rattle.hirscan.proofs.SearchLemmas.{asked_at, refuses_by_first}
-use Rattle.hirscan.proofs.SureLemmas.{RefusesFrom, asked_behind, never_gives_up, never_no_pair, quits_forward, refusal_is_joined, refused_from, supported_forward}
+use Rattle.hirscan.proofs.SureLemmas.{RefusesFrom, asked_behind, never_gives_up, never_no_pair, quits_forward, refusal_is_joined}
+use Rattle.hirscan.proofs.SureLemmas.{refused_from, supported_forward}
 
 -- ---- what joined answers refuse
 abbrev is_told : MatchErrorKind → Bool
@@ -91,7 +94,8 @@ module _ (setup : Setup) (xs : List Tree) (h : List ℕ) (bytes : All (λ byte. 
       IsSearchReply setup xs h Listed text
   reply_of_all lender text old new l step = listed l.found (all_are_listed lender text old new l step) refl l.text_is
 
-  some_are_listed : (lender : GName) (text : List ℕ) (it : FindMatches) (l : ListsUpTo p q lender text it) → BeginsAnswers setup xs h l.found
+  some_are_listed : (lender : GName) (text : List ℕ) (it : FindMatches) (l : ListsUpTo p q lender text it) →
+      BeginsAnswers setup xs h l.found
   some_are_listed lender text it l words set =
       taken_begin xs (program_settings setup.settings) p built refl q asked (loops_all_read setup xs h none) (span_starts setup xs h none)
       l.found (finds_from it) l.taken words set
@@ -101,7 +105,8 @@ module _ (setup : Setup) (xs : List Tree) (h : List ℕ) (bytes : All (λ byte. 
   mode_is_unsupported k m is =
       let later = asked_at xs setup.settings.utf8 q asked k in
       let told = scan_mode_told (reader p.forward) (search_at q k) m
-      (refuses_by_first xs setup.settings.utf8 setup.settings.line_terminator p (built_regex xs (program_settings setup.settings) p built refl)
+      (refuses_by_first xs setup.settings.utf8 setup.settings.line_terminator p
+          (built_regex xs (program_settings setup.settings) p built refl)
       (search_at q k) later m is) in
       true≢false (sym (supported_forward xs (program_settings setup.settings) p built (search_at q k)
       (mode_is_supported setup.anchored (starts_each_of (program_settings setup.settings).dfa))) ∙ told.2)
@@ -110,7 +115,8 @@ module _ (setup : Setup) (xs : List Tree) (h : List ℕ) (bytes : All (λ byte. 
   may_end c k NoMemory is = inl refl
   may_end c k (Quit b x) is = inr (b, x, refl)
   may_end c k NotAPair is =
-      absurd (never_no_pair xs (program_settings setup.settings) p built refl (search_at q k) (asked_at xs setup.settings.utf8 q asked k) c is)
+      absurd (never_no_pair xs (program_settings setup.settings) p built refl (search_at q k)
+          (asked_at xs setup.settings.utf8 q asked k) c is)
   may_end c k (UnsupportedAnchored m) is =
       absurd (mode_is_unsupported k m (refusal_is_joined p c (search_at q k) (UnsupportedAnchored m) refl is))
   may_end c k (HaystackTooLong n) is =
@@ -126,7 +132,8 @@ module _ (setup : Setup) (xs : List Tree) (h : List ℕ) (bytes : All (λ byte. 
     refused : RefusesFrom p (finding_behind q l.found) (caches_of new) e
     refused =
         let finds : Finds p (finds_from old) (finds_from new) (caches_of old) (caches_of new) (Some (Err e)) =
-        subst (λ (r : Pair). Finds r (finds_from old) (finds_from new) (caches_of old) (caches_of new) (Some (Err e))) l.same_regex step.finds in
+        subst (λ (r : Pair). Finds r (finds_from old) (finds_from new) (caches_of old) (caches_of new) (Some (Err e))) l.same_regex
+            step.finds in
         subst (λ (at : Finding). RefusesFrom p at (caches_of new) e) l.stands
         (refused_from p (finds_from old) (finds_from new) (caches_of old) (caches_of new) e finds)
 
@@ -135,13 +142,15 @@ module _ (setup : Setup) (xs : List Tree) (h : List ℕ) (bytes : All (λ byte. 
 
     from_is_later : q.start ≤ refused.0
     from_is_later =
-        let low : q.start ≤ (finding_behind q l.found).search.start = subst (λ (at : Finding). q.start ≤ at.search.start) l.stands l.taken.from in
+        let low : q.start ≤ (finding_behind q l.found).search.start = subst
+            (λ (at : Finding). q.start ≤ at.search.start) l.stands l.taken.from in
         omega (arith, low, asked_behind p (finding_behind q l.found) refused.0 refused.1)
 
     quits_there : (b x : ℕ) → e ≡ Quit b x → QuitsBehind setup xs h l.found b x
     quits_there b x is =
         let k = refused.0 in
-        let there = quits_forward xs (program_settings setup.settings) p built refl (search_at q k) (asked_at xs setup.settings.utf8 q asked k)
+        let there = quits_forward xs (program_settings setup.settings) p built refl (search_at q k)
+            (asked_at xs setup.settings.utf8 q asked k)
         (caches_of new) b x (subst (λ (v : MatchErrorKind). AnswersPair p (caches_of new) (search_at q k) (Err v)) is refused.2) in
         record {
           regex = p;
@@ -162,6 +171,7 @@ module _ (setup : Setup) (xs : List Tree) (h : List ℕ) (bytes : All (λ byte. 
     pub reply_of_quit : (r : Result Reply AllocError) → IfOk r (λ x. TellsQuit e text x.ending (string_bytes x.text)) →
         IfOk r (λ x. IsSearchReply setup xs h x.ending (string_bytes x.text))
     reply_of_quit (Ok x) told =
-        quits l.found told.byte told.offset (some_are_listed lender text old l) (quits_there told.byte told.offset told.quits) told.ending_is
+        quits l.found told.byte told.offset (some_are_listed lender text old l)
+            (quits_there told.byte told.offset told.quits) told.ending_is
         (told.text_is ∙ ap (λ t. t ++ quit_line told.byte told.offset) l.text_is)
     reply_of_quit (Err v) told = tt

@@ -1,5 +1,6 @@
 -- What a loop over the matches of a regex has listed: by its steps, and at its end.
-use Rattle.std.proofs.Common.{◌≡◌, ℕ, false, List, [], ◌∷◌, ◌++◌, Option, Some, None, Result, Ok, Err, true, refl, sym, ap, ◌∙◌, subst, arith, append-nil}
+use Rattle.std.proofs.Common.{◌≡◌, ℕ, false, List, [], ◌∷◌, ◌++◌, Option, Some, None, Result, Ok, Err, true, refl, sym, ap, ◌∙◌, subst}
+use Rattle.std.proofs.Common.{arith, append-nil}
 use Rattle.std.specs.Borrow.{GName}
 use Rattle.std.proofs.lemmas.List.Concat.{flat_map-append}
 use Rattle.search_types.specs.declared.match_error.MatchErrorKind.{MatchErrorKind}
@@ -27,7 +28,8 @@ match_is_no_refusal f x e = let never : true ≡ false = cc in grind (arith, nev
 same_match : (f g : Found) → item_of (Ok f) ≡ item_of (Ok g) → f ≡ g
 same_match f g e = cc
 
-stands_behind : (p : Pair) (at new : Finding) (before after : PairCache) (f : Found) → Finds p at new before after (Some (Ok f)) → new ≡ behind at f
+stands_behind : (p : Pair) (at new : Finding) (before after : PairCache) (f : Found) → Finds p at new before after (Some (Ok f)) →
+    new ≡ behind at f
 stands_behind p at new before after f (finds_next g begun next item there) = there ∙ ap (behind at) (sym (same_match f g item))
 stands_behind p at new before after f (finds_none begun next item over) = absurd (match_is_no_end f item)
 stands_behind p at new before after f (fails k e begun asked refused item over) = absurd (match_is_no_refusal f e item)
@@ -54,15 +56,18 @@ listed_none p q it regex from goes_on = record {
 }
 
 -- before the first step nothing is listed
-pub begins_list : (p : Pair) (asked q : Search) (text : List ℕ) (made it : FindMatches) → text ≡ [] → it ≡ made → asked ≡ q → searches_by made ≡ p →
+pub begins_list : (p : Pair) (asked q : Search) (text : List ℕ) (made it : FindMatches) → text ≡ [] → it ≡ made → asked ≡ q →
+    searches_by made ≡ p →
     finds_from made ≡ finding_all asked → MayGoOn made → ListsUpTo p q (lender_of it) text it
 begins_list p asked q text made it none same is regex from goes_on =
     subst (λ (t : List ℕ). ListsUpTo p q (lender_of it) t it) (sym none)
-    (subst (λ (x : FindMatches). ListsUpTo p q (lender_of x) [] x) (sym same) (listed_none p q made regex (from ∙ ap finding_all is) goes_on))
+    (subst (λ (x : FindMatches). ListsUpTo p q (lender_of x) [] x) (sym same)
+        (listed_none p q made regex (from ∙ ap finding_all is) goes_on))
 
 module _ (p : Pair) (q : Search) (lender : GName) where
   -- the line of one more match is written
-  pub lists_more : (text more : List ℕ) (old new : FindMatches) (f : Found) → ListsUpTo p q lender text old → FindsNext old (Some (Ok f)) new →
+  pub lists_more : (text more : List ℕ) (old new : FindMatches) (f : Found) → ListsUpTo p q lender text old →
+      FindsNext old (Some (Ok f)) new →
       more ≡ text ++ span_line f → ListsUpTo p q lender more new
   lists_more text more old new f listed step line = record {
     found = listed.found ++ f ∷ [];

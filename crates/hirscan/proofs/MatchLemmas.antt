@@ -1,5 +1,6 @@
 -- Whether there is a match is told as the trees define it.
-use Rattle.std.proofs.Common.{◌≡◌, ℕ, zero, suc, ◌+◌, ◌<◌, ◌≤◌, Bool, true, false, not, List, [], length, take, slice_get, get_or, nat_lt, ◌==◌, eq-eqb, Option, Some, None, All, refl, sym, ap, ◌∙◌, subst, inl, inr, arith}
+use Rattle.std.proofs.Common.{◌≡◌, ℕ, zero, suc, ◌+◌, ◌<◌, ◌≤◌, Bool, true, false, not, List, [], length, take, slice_get, get_or, nat_lt}
+use Rattle.std.proofs.Common.{◌==◌, eq-eqb, Option, Some, None, All, refl, sym, ap, ◌∙◌, subst, inl, inr, arith}
 use Rattle.std.specs.Prelude.{Result, Ok, is_some}
 use Rattle.std.proofs.lemmas.Bool.{cases_lt, lt-ltb, and_from}
 use Rattle.std.proofs.lemmas.Option.{slice_get_within, get_or_from_slice_get}

@@ -8,7 +8,8 @@ use Rattle.look_core.specs.declared.look.Look.{Look as TheLook}
 use Rattle.look_core.specs.declared.look.Look.TheVariants as the_look
 use Rattle.hirscan.specs.declared.fault.FaultKind.TheVariants.{UnknownLook}
 use Rattle.hirscan.specs.declared.words.LineWord.{LineWord}
-use Rattle.hirscan.specs.declared.words.LineWord.TheVariants.{Utf8, Line, Capacity, Quit, Classes, Shrink, Anchored, Span, Empty, Lit, Bytes, Chars, Look, Rep, Cat, Alt, Pattern, Find}
+use Rattle.hirscan.specs.declared.words.LineWord.TheVariants.{Utf8, Line, Capacity, Quit, Classes, Shrink, Anchored, Span, Empty, Lit}
+use Rattle.hirscan.specs.declared.words.LineWord.TheVariants.{Bytes, Chars, Look, Rep, Cat, Alt, Pattern, Find}
 use Rattle.hirscan.specs.Words.{look_name, IsLookName}
 use Rattle.hirscan.specs.Readers.{spelling, setting_word, tree_word, line_word, anchor_named, word_look_named, look_named, the_look_named}
 use Rattle.hirscan.specs.LineFault.{unless_read}

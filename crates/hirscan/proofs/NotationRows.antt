@@ -7,7 +7,9 @@ use Rattle.look_core.specs.declared.look.Look.TheVariants.{EndCRLF}
 use Rattle.lazy_dfa.specs.ConfigValue.{no_bytes as no_quits, by_hand, classes_on, capacity_of}
 use Rattle.hir_core.specs.Tree.{Tree, empty, look, repetition}
 use Rattle.hirscan.specs.declared.fault.FaultKind.{FaultKind}
-use Rattle.hirscan.specs.declared.fault.FaultKind.TheVariants.{UnknownWord, SettingAfterNode, WrongWordCount, BadNumber, BadHex, BadRange, UnknownLook, BadChoice, MinAboveMax, TooFewTrees, TooDeep, NotOneTree, TreeLeftOver}
+use Rattle.hirscan.specs.declared.fault.FaultKind.TheVariants.{UnknownWord, SettingAfterNode, WrongWordCount, BadNumber, BadHex, BadRange}
+use Rattle.hirscan.specs.declared.fault.FaultKind.TheVariants.{UnknownLook, BadChoice, MinAboveMax, TooFewTrees, TooDeep, NotOneTree}
+use Rattle.hirscan.specs.declared.fault.FaultKind.TheVariants.{TreeLeftOver}
 use Rattle.hirscan.specs.declared.settings.Settings.{Settings}
 use Rattle.hirscan.specs.declared.words.LineWord.{LineWord}
 use Rattle.hirscan.specs.declared.words.LineWord.TheVariants.{Line, Capacity, Quit, Classes, Shrink, Look}

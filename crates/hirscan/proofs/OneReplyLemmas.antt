@@ -1,5 +1,6 @@
 -- What replies to one input agree on: it is refused for one cause and then asks for nothing, and all matches are one list.
-use Rattle.std.proofs.Common.{◌≡◌, ℕ, Bool, true, false, List, ◌++◌, drop, Option, Some, None, codes, decimal, true≢false, refl, sym, ap, ◌∙◌, subst, arith}
+use Rattle.std.proofs.Common.{◌≡◌, ℕ, Bool, true, false, List, ◌++◌, drop, Option, Some, None, codes, decimal, true≢false, refl, sym, ap}
+use Rattle.std.proofs.Common.{◌∙◌, subst, arith}
 use Rattle.look_core.specs.Words.{ascii_words}
 use Rattle.hir_core.specs.Tree.{Tree}
 use Rattle.search_types.specs.Found.{Found}
@@ -8,7 +9,8 @@ use Rattle.hirscan.specs.declared.program.Ending.{Ending}
 use Rattle.hirscan.specs.declared.program.Ending.TheVariants.{Listed, Quit, Refused}
 use Rattle.hirscan.specs.Reads.{Reads}
 use Rattle.hirscan.specs.Refusals.{refusal}
-use Rattle.hirscan.specs.Reply.{IsRefused, too_long, faulty, unfit, Asks, AreAnswers, IsSearchReply, too_large, listed, quits, IsReply, refused, searched, refusal_line, span_lines}
+use Rattle.hirscan.specs.Reply.{IsRefused, too_long, faulty, unfit, Asks, AreAnswers, IsSearchReply, too_large, listed, quits, IsReply}
+use Rattle.hirscan.specs.Reply.{refused, searched, refusal_line, span_lines}
 use Rattle.hirscan.specs.Takes.{HeadValue, at_first}
 use Rattle.hirscan.specs.Tells.{kind_text}
 use Rattle.hirscan.proofs.ReadsLemmas.{reads_once, reads_no_fault, fault_once}
@@ -23,7 +25,8 @@ same_cause o c d e f = let both : Some c ≡ Some d = sym e ∙ f in cc
 no_cause : (o : Option (List ℕ)) (c : List ℕ) → o ≡ Some c → o ≡ None → ⊥
 no_cause o c e f = let never : true ≡ false = cc in grind (arith, never)
 
-cause_there : (input : List ℕ) (at there : HeadValue) (n m : ℕ) (o : Option (List ℕ)) → Reads input at_first at n → Reads input at_first there m →
+cause_there : (input : List ℕ) (at there : HeadValue) (n m : ℕ) (o : Option (List ℕ)) → Reads input at_first at n →
+    Reads input at_first there m →
     cause_at input there m ≡ o → cause_at input at n ≡ o
 cause_there input at there n m o read again is =
     let same = reads_once input at_first at there n m read again in
@@ -58,7 +61,8 @@ module _ (input cause : List ℕ) (setup : Setup) (xs : List Tree) (h : List ℕ
       no_cause (cause_at input at n) cause found (cause_there input at asks.at n asks.len None read asks.reads none_there)
 
 -- one that is refused has that reply alone
-pub refused_alone : (input cause : List ℕ) (e : Ending) (t : List ℕ) → IsRefused input cause → IsReply input e t → (e ≡ Refused) × (t ≡ refusal_line cause)
+pub refused_alone : (input cause : List ℕ) (e : Ending) (t : List ℕ) → IsRefused input cause → IsReply input e t → (e ≡ Refused) ×
+    (t ≡ refusal_line cause)
 refused_alone input cause e t is (refused other again ends text) = (ends, text ∙ ap refusal_line (one_cause input other cause again is))
 refused_alone input cause e t is (searched setup xs h asks reply) = absurd (never_refused input cause setup xs h asks is)
 
@@ -78,18 +82,21 @@ record HasList (input : List ℕ) (t : List ℕ) : Type 0 where
   pub all : AreAnswers setup patterns haystack found
   pub text_is : t ≡ span_lines found
 
-list_of_search : (input : List ℕ) (setup : Setup) (xs : List Tree) (h : List ℕ) (e : Ending) (t : List ℕ) → Asks input setup xs h → e ≡ Listed →
+list_of_search : (input : List ℕ) (setup : Setup) (xs : List Tree) (h : List ℕ) (e : Ending) (t : List ℕ) → Asks input setup xs h →
+    e ≡ Listed →
     IsSearchReply setup xs h e t → HasList input t
 list_of_search input setup xs h e t asks is (too_large large ends text) = absurd (true≢false (sym (ap is_listed is) ∙ ap is_listed ends))
 list_of_search input setup xs h e t asks is (listed fs all ends text) =
     record { setup = setup; patterns = xs; haystack = h; asks = asks; found = fs; all = all; text_is = text }
-list_of_search input setup xs h e t asks is (quits fs b x begins behind ends text) = absurd (true≢false (sym (ap is_listed is) ∙ ap is_listed ends))
+list_of_search input setup xs h e t asks is (quits fs b x begins behind ends text) =
+    absurd (true≢false (sym (ap is_listed is) ∙ ap is_listed ends))
 
 list_of : (input : List ℕ) (e : Ending) (t : List ℕ) → e ≡ Listed → IsReply input e t → HasList input t
 list_of input e t is (refused cause found ends text) = absurd (true≢false (sym (ap is_listed is) ∙ ap is_listed ends))
 list_of input e t is (searched setup xs h asks reply) = list_of_search input setup xs h e t asks is reply
 
-asked_once : (input : List ℕ) (s u : Setup) (xs ys : List Tree) (h g : List ℕ) → Asks input s xs h → Asks input u ys g → (s ≡ u) × (xs ≡ ys) × (h ≡ g)
+asked_once : (input : List ℕ) (s u : Setup) (xs ys : List Tree) (h g : List ℕ) → Asks input s xs h → Asks input u ys g → (s ≡ u) ×
+    (xs ≡ ys) × (h ≡ g)
 asked_once input s u xs ys h g a b =
     let same = reads_once input at_first a.at b.at a.len b.len a.reads b.reads in (
       sym a.setup_is ∙ ap (λ p. p.setup) same.0 ∙ b.setup_is,

@@ -1,14 +1,19 @@
 -- Each reader answers just what its relation says of the word, and nothing just where that says nothing.
-use Rattle.std.proofs.Common.{◌≡◌, ◌⊎◌, ℕ, ◌<◌, Bool, true, false, not, ◌||◌, List, [], Option, Some, None, nat_lt, refl, sym, ap, subst, ◌∙◌, inl, inr}
+use Rattle.std.proofs.Common.{◌≡◌, ◌⊎◌, ℕ, ◌<◌, Bool, true, false, not, ◌||◌, List, [], Option, Some, None, nat_lt, refl, sym, ap, subst}
+use Rattle.std.proofs.Common.{◌∙◌, inl, inr}
 use Rattle.std.specs.Prelude.{◌↔◌}
 use Rattle.std.specs.Option.{unwrap_or}
 use Rattle.std.proofs.lemmas.Bool.{ltb-true, lt-ltb, not-true, not_from_false, or_cases, or_left, or_right}
 use Rattle.hex.specs.Hex.{decode_of}
 use Rattle.hirscan.specs.declared.fault.FaultKind.TheVariants.{BadNumber, BadHex, BadRange, BadChoice}
-use Rattle.hirscan.specs.Words.{IsNumber, IsBound, IsGreedy, IsSwitch, IsYes, IsHex, IsHexByte, HasEnds, IsItem, IsLookName, HasHexEnds, is_scalar, IsScalarItem}
-use Rattle.hirscan.specs.Readers.{IsReader, IsSpelled, line_word, number, bound, order, switch, yes_or_no, hex_bytes, hex_byte, item_ends, the_ends, hex_ends, the_hex_ends, look_named}
+use Rattle.hirscan.specs.Words.{IsNumber, IsBound, IsGreedy, IsSwitch, IsYes, IsHex, IsHexByte, HasEnds, IsItem, IsLookName, HasHexEnds}
+use Rattle.hirscan.specs.Words.{is_scalar, IsScalarItem}
+use Rattle.hirscan.specs.Readers.{IsReader, IsSpelled, line_word, number, bound, order, switch, yes_or_no, hex_bytes, hex_byte, item_ends}
+use Rattle.hirscan.specs.Readers.{the_ends, hex_ends, the_hex_ends, look_named}
 use Rattle.hirscan.specs.LineFault.{when, unless_read, ends_fault, item_fault, scalar_ends_fault, scalar_item_fault}
-use Rattle.hirscan.proofs.SaysLemmas.{number_says, number_said, bound_says, bound_said, order_says, order_said, switch_says, switch_said, yes_says, yes_said, hex_bytes_says, hex_bytes_said, byte_of_result, hex_byte_said, ends_say, ends_said, item_says, item_said}
+use Rattle.hirscan.proofs.SaysLemmas.{number_says, number_said, bound_says, bound_said, order_says, order_said, switch_says, switch_said}
+use Rattle.hirscan.proofs.SaysLemmas.{yes_says, yes_said, hex_bytes_says, hex_bytes_said, byte_of_result, hex_byte_said, ends_say}
+use Rattle.hirscan.proofs.SaysLemmas.{ends_said, item_says, item_said}
 use Rattle.hirscan.proofs.NameLemmas.{line_word_spelled, line_word-spelling, look_spelled, look_said}
 use Rattle.hirscan.proofs.ScalarItemLemmas.{hex_ends_say, hex_ends_said, scalar_item_says, scalar_item_said}
 

@@ -50,7 +50,8 @@ lacks_memory x = false
 
 module _ (xs : List Tree) (s : Settings) where
   -- ---- the refusal of a compile
-  by_cause : (reverse : Bool) (x : NfaBuildError) (e : BuildError) → lacks_memory x ≡ false → RefusesTrees (compile_options reverse s) xs x →
+  by_cause : (reverse : Bool) (x : NfaBuildError) (e : BuildError) → lacks_memory x ≡ false →
+      RefusesTrees (compile_options reverse s) xs x →
       e ≡ NFA x → RefusesBuild xs s e
   by_cause reverse x e other why is = not_compiled reverse x (λ no. true≢false (sym (ap lacks_memory no) ∙ other)) why is
 
@@ -67,7 +68,8 @@ module _ (xs : List Tree) (s : Settings) where
   by_tests : (reverse : Bool) (n : Nfa) → IsCompiled (compile_options reverse s) xs n → (words skips : Bool) (given least : ℕ) (d : Dfa) →
       words ≡ are_unsupported xs s.dfa → skips ≡ skips_check s.dfa → given ≡ capacity_of s.dfa →
       least ≡ least_capacity (measures_with n s.dfa) → (small : Bool) → (not skips && nat_lt given least) ≡ small → (e : BuildError) →
-      (if words then Err Unsupported else if small then Err (InsufficientCacheCapacity least given) else ok_dfa d) ≡ err_dfa e → RefusesBuild xs s e
+      (if words then Err Unsupported else if small then Err (InsufficientCacheCapacity least given) else ok_dfa d) ≡ err_dfa e →
+          RefusesBuild xs s e
   by_tests reverse n made true skips given least d w k g l small is_small e is = unsupported (sym w) (sym (same_refusal Unsupported e is))
   by_tests reverse n made false skips given least d w k g l true is_small e is =
       let both = and_parts (not skips) (nat_lt given least) is_small in
@@ -76,7 +78,8 @@ module _ (xs : List Tree) (s : Settings) where
       (sym (same_refusal (InsufficientCacheCapacity least given) e is) ∙ (λ i. InsufficientCacheCapacity (l i) (g i)))
   by_tests reverse n made false skips given least d w k g l false is_small e is = absurd (no_refusal d e is)
 
-  module _ (n m : Nfa) (up : IsCompiled (compile_options false s) xs n) (is_reverse : IsCompiled (compile_options true s) xs m) (e : BuildError) where
+  module _ (n m : Nfa) (up : IsCompiled (compile_options false s) xs n) (is_reverse : IsCompiled (compile_options true s) xs m)
+      (e : BuildError) where
     by_half : (x y : Result Dfa BuildError) → (x ≡ err_dfa e → RefusesBuild xs s e) → (y ≡ err_dfa e → RefusesBuild xs s e) →
         both_of x y ≡ err_pair e → RefusesBuild xs s e
     by_half (Ok f) (Ok r) first second is = absurd (no_pair_refusal (record { forward = f; reverse = r }) e is)

@@ -1,5 +1,6 @@
 -- Why the program builds no regex of patterns: for their size, or for want of memory.
-use Rattle.std.proofs.Common.{◌≡◌, ◌⊎◌, inl, inr, ◌+◌, ◌^◌, ◌≤◌, ◌&&◌, Bool, false, not, List, length, true≢false, refl, sym, ap, ◌∙◌, subst, lit<}
+use Rattle.std.proofs.Common.{◌≡◌, ◌⊎◌, inl, inr, ◌+◌, ◌^◌, ◌≤◌, ◌&&◌, Bool, false, not, List, length, true≢false, refl, sym, ap, ◌∙◌}
+use Rattle.std.proofs.Common.{subst, lit<}
 use Rattle.std.proofs.Math.Bool.{and-false}
 use Rattle.search_core.specs.Index.{greatest_index}
 use Rattle.hir_core.specs.Tree.{Tree}
@@ -13,7 +14,8 @@ use Rattle.lazy_dfa.specs.declared.build_error.BuildError.{BuildError}
 use Rattle.lazy_dfa.specs.declared.build_error.BuildError.TheVariants.{NFA, NoMemory}
 use Rattle.hirscan.specs.declared.line.Setup.{Setup}
 use Rattle.hirscan.specs.declared.settings.Settings.{Settings}
-use Rattle.hirscan.specs.Built.{RefusesBuild, not_compiled, unsupported, too_small, no_memory, are_unsupported, compile_options, program_settings, use_unicode_words}
+use Rattle.hirscan.specs.Built.{RefusesBuild, not_compiled, unsupported, too_small, no_memory, are_unsupported, compile_options}
+use Rattle.hirscan.specs.Built.{program_settings, use_unicode_words}
 use Rattle.hirscan.specs.Reply.{AreTooLarge}
 
 -- words by characters are searched for as far as a search comes
@@ -32,7 +34,8 @@ module _ (setup : Setup) (xs : List Tree) (few : length xs ≤ greatest_index + 
 
   refused_for : (e : BuildError) → RefusesBuild xs (program_settings setup.settings) e → IsRefusedFor setup xs e
   refused_for e (not_compiled reverse x other refused is) =
-      let limit = limit_alone_refuses (compile_options reverse (program_settings setup.settings)) xs x (2 ^ 26) refl refl (lit< tt) few refused other in
+      let limit = limit_alone_refuses (compile_options reverse (program_settings setup.settings)) xs x (2 ^ 26) refl refl
+          (lit< tt) few refused other in
       inr (is ∙ ap NFA limit.0, for_size reverse x limit.0 refused)
   refused_for e (unsupported are is) = absurd (true≢false (sym are ∙ never_unsupported xs setup.settings))
   refused_for e (too_small reverse n can made checks less is) = absurd (true≢false checks)
@@ -43,7 +46,8 @@ module _ (setup : Setup) (xs : List Tree) (few : length xs ≤ greatest_index + 
   by_cause x (inr large) = large.1
 
   -- where no automaton is compiled of these patterns, they are too large
-  pub too_large : (ys : List Tree) (s : Settings) (e : BuildError) (x : NfaBuildError) → ys ≡ xs → s ≡ program_settings setup.settings → e ≡ NFA x →
+  pub too_large : (ys : List Tree) (s : Settings) (e : BuildError) (x : NfaBuildError) → ys ≡ xs → s ≡ program_settings setup.settings →
+      e ≡ NFA x →
       RefusesBuild ys s e → AreTooLarge setup xs
   too_large ys s e x patterns settings is refused =
       by_cause x (refused_for (NFA x)

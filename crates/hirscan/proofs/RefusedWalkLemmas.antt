@@ -1,5 +1,6 @@
 -- Each end that a walk tells is that of a run, also where it is refused behind that.
-use Rattle.std.proofs.Common.{◌≡◌, ℕ, zero, suc, ◌-◌, Bool, true, false, List, [], ◌∷◌, Option, Some, None, nat_le, nat_eq, refl, ap, ◌∙◌, ⊎_elim, subst, if◌then◌else◌}
+use Rattle.std.proofs.Common.{◌≡◌, ℕ, zero, suc, ◌-◌, Bool, true, false, List, [], ◌∷◌, Option, Some, None, nat_le, nat_eq, refl, ap, ◌∙◌}
+use Rattle.std.proofs.Common.{⊎_elim, subst, if◌then◌else◌}
 use Rattle.std.specs.List.{filter}
 use Rattle.search_core.specs.ByteSets.{has}
 use Rattle.search_types.specs.declared.anchored.Anchored.{Anchored}
@@ -42,7 +43,8 @@ if_some : (b : Bool) (x : ℕ × ℕ) (l ends : List (ℕ × ℕ)) → (HasHere 
 if_some true x l ends on there = on there
 if_some false x l ends on there = none_in same_pair x _ there
 
-of_places : (is_reverse : Bool) (counted : ℕ → Bool) (ends : List (ℕ × ℕ)) (n i : ℕ) (x : ℕ × ℕ) → HasHere x (ends_by_place is_reverse counted ends i n) →
+of_places : (is_reverse : Bool) (counted : ℕ → Bool) (ends : List (ℕ × ℕ)) (n i : ℕ) (x : ℕ × ℕ) →
+    HasHere x (ends_by_place is_reverse counted ends i n) →
     HasHere x ends
 of_places is_reverse counted ends zero i x there = none_in same_pair x _ there
 of_places is_reverse counted ends (suc n) i x there =

@@ -1,5 +1,6 @@
 -- Replies: of a refusal, and of an input of which so much was read as decides it.
-use Rattle.std.proofs.Common.{◌≡◌, ℕ, ◌+◌, ◌-◌, ◌^◌, ◌≤◌, List, [], ◌∷◌, ◌++◌, length, take, drop, Option, Some, None, Result, Ok, Err, string_bytes, refl, sym, ap, ◌∙◌, subst, arith, append-nil, length-append}
+use Rattle.std.proofs.Common.{◌≡◌, ℕ, ◌+◌, ◌-◌, ◌^◌, ◌≤◌, List, [], ◌∷◌, ◌++◌, length, take, drop, Option, Some, None, Result, Ok, Err}
+use Rattle.std.proofs.Common.{string_bytes, refl, sym, ap, ◌∙◌, subst, arith, append-nil, length-append}
 use Rattle.std.specs.Prelude.{IfOk, IfSome}
 use Rattle.std.specs.declared.alloc.AllocError.{AllocError}
 use Rattle.std.specs.Io.KnownBytes.{Consumes, IsAtEnd}
@@ -8,10 +9,13 @@ use Rattle.hirscan.specs.declared.line.Setup.{Setup}
 use Rattle.hirscan.specs.declared.program.Ending.{Ending}
 use Rattle.hirscan.specs.declared.program.Ending.TheVariants.{Refused}
 use Rattle.hirscan.specs.declared.reply.Reply.{Reply}
-use Rattle.hirscan.specs.Takes.{HeadValue, Takes, Sets, Replaces, at_first, utf8_line, line_line, two_bytes_line, capacity_line, quit_line, classes_line, shrink_line, anchored_line, span_line, empty_line, lit_line, bytes_line, chars_line, look_line, rep_line, cat_line, alt_line, pattern_line}
+use Rattle.hirscan.specs.Takes.{HeadValue, Takes, Sets, Replaces, at_first, utf8_line, line_line, two_bytes_line, capacity_line, quit_line}
+use Rattle.hirscan.specs.Takes.{classes_line, shrink_line, anchored_line, span_line, empty_line, lit_line, bytes_line, chars_line}
+use Rattle.hirscan.specs.Takes.{look_line, rep_line, cat_line, alt_line, pattern_line}
 use Rattle.hirscan.specs.Reads.{Reads, reads_find, reads_line}
 use Rattle.hirscan.specs.Refusals.{refusal}
-use Rattle.hirscan.specs.Reply.{IsRefused, too_long, faulty, unfit, IsReply, refused, searched, AnswersHead, refuses, searches, IsSearchReply, refusal_line}
+use Rattle.hirscan.specs.Reply.{IsRefused, too_long, faulty, unfit, IsReply, refused, searched, AnswersHead, refuses, searches}
+use Rattle.hirscan.specs.Reply.{IsSearchReply, refusal_line}
 use Rattle.hirscan.proofs.SliceLemmas.{rest_of_slice}
 
 -- ---- heads
@@ -63,7 +67,8 @@ few_patterns _ _ _ _ (reads_line text line rest at after found n m parts one tak
 
 -- a reply of one line for a cause that applies
 pub reply_of_refusal : (r : Result Reply AllocError) (input cause : List ℕ) → IfOk r (λ x. x.ending ≡ Refused) →
-    IfOk r (λ x. string_bytes x.text ≡ refusal_line cause) → IsRefused input cause → IfOk r (λ x. IsReply input x.ending (string_bytes x.text))
+    IfOk r (λ x. string_bytes x.text ≡ refusal_line cause) → IsRefused input cause →
+        IfOk r (λ x. IsReply input x.ending (string_bytes x.text))
 reply_of_refusal (Ok x) input cause p q applies = refused cause applies p q
 reply_of_refusal (Err e) input cause p q applies = tt
 
@@ -75,7 +80,8 @@ reply_of_answer input at n e t short reads (searches none reply) =
     (record { at = at; len = n; short = short; reads = reads; setup_is = refl; patterns_are = refl; haystack_is = refl; fits = none }) reply
 
 -- the reply to a haystack, handed on as that to the whole input
-pub reply_of_search : (r : Result Reply AllocError) (input h : List ℕ) (at : HeadValue) (n : ℕ) → length input ≤ 2 ^ 30 → Reads input at_first at n →
+pub reply_of_search : (r : Result Reply AllocError) (input h : List ℕ) (at : HeadValue) (n : ℕ) → length input ≤ 2 ^ 30 →
+    Reads input at_first at n →
     h ≡ take (length input - n) (drop n input) → IfOk r (λ x. AnswersHead at.setup at.patterns h x.ending (string_bytes x.text)) →
     IfOk r (λ x. IsReply input x.ending (string_bytes x.text))
 reply_of_search (Ok x) input h at n short reads e answer =
@@ -84,7 +90,8 @@ reply_of_search (Ok x) input h at n short reads e answer =
 reply_of_search (Err e) input h at n short reads same answer = tt
 
 -- the same for a haystack with which the head is refused
-pub answer_of_refusal : (r : Result Reply AllocError) (setup : Setup) (xs : List Tree) (h cause : List ℕ) → IfOk r (λ x. x.ending ≡ Refused) →
+pub answer_of_refusal : (r : Result Reply AllocError) (setup : Setup) (xs : List Tree) (h cause : List ℕ) →
+    IfOk r (λ x. x.ending ≡ Refused) →
     IfOk r (λ x. string_bytes x.text ≡ refusal_line cause) → refusal setup xs h ≡ Some cause →
     IfOk r (λ x. AnswersHead setup xs h x.ending (string_bytes x.text))
 answer_of_refusal (Ok x) setup xs h cause p q applies = refuses cause applies p q
@@ -92,7 +99,8 @@ answer_of_refusal (Err e) setup xs h cause p q applies = tt
 
 -- and where it is searched
 pub answer_of_search : (r : Result Reply AllocError) (setup : Setup) (xs : List Tree) (h : List ℕ) → refusal setup xs h ≡ None →
-    IfOk r (λ x. IsSearchReply setup xs h x.ending (string_bytes x.text)) → IfOk r (λ x. AnswersHead setup xs h x.ending (string_bytes x.text))
+    IfOk r (λ x. IsSearchReply setup xs h x.ending (string_bytes x.text)) →
+        IfOk r (λ x. AnswersHead setup xs h x.ending (string_bytes x.text))
 answer_of_search (Ok x) setup xs h none reply = searches none reply
 answer_of_search (Err e) setup xs h none reply = tt
 

@@ -13,7 +13,8 @@ use Rattle.hirscan.specs.Reply.{IsReply}
 use Rattle.hirscan.specs.Runs.{WritesReply, WritesAtFault}
 
 -- what is written of the text, where n bytes of its rest were taken
-pub more_in_text : (text : List ℕ) (done n : ℕ) → done ≤ length text → n ≤ length (take (length text - done) (drop done text)) → done + n ≤ length text
+pub more_in_text : (text : List ℕ) (done n : ℕ) → done ≤ length text → n ≤ length (take (length text - done) (drop done text)) →
+    done + n ≤ length text
 more_in_text text done n p q = omega (arith, length-take (length text - done) (drop done text))
 
 pub appends_more : (a b c : Option (List ℕ)) (text : List ℕ) (done n : ℕ) → Appends a b (take done text) →
@@ -29,7 +30,8 @@ appends_kept (Some x) None c bytes p q = absurd p
 appends_kept (Some x) (Some y) None bytes p q = absurd q
 appends_kept (Some x) (Some y) (Some z) bytes p q = q ∙ p
 
-if_some_reply : (input before after : Option (List ℕ)) (ending : Ending) (text : List ℕ) → IfSome input (λ bytes. IsReply bytes ending text) →
+if_some_reply : (input before after : Option (List ℕ)) (ending : Ending) (text : List ℕ) →
+    IfSome input (λ bytes. IsReply bytes ending text) →
     Appends before after text → WritesReply input before after ending
 if_some_reply None before after ending text reply written = tt
 if_some_reply (Some bytes) before after ending text reply written = (text, reply, written)
@@ -43,7 +45,8 @@ if_some_prefix input before after ending text n NoMemory is reply written = cc
 
 -- The bytes that were read, the reply to them and what was written of it, each as code hands it on, say what a run leaves.
 module _ (input left before after : Option (List ℕ)) (bytes items text written : List ℕ) (ending : Ending) (same : bytes ≡ items)
-    (read : Consumes input left items) (whole : length items ≤ 2 ^ 30 → IsAtEnd left) (reply : IsReply bytes ending text) (all : written ≡ text) where
+    (read : Consumes input left items) (whole : length items ≤ 2 ^ 30 →
+        IsAtEnd left) (reply : IsReply bytes ending text) (all : written ≡ text) where
   reply_known : IfSome input (λ known. IsReply known ending text)
   reply_known = reply_of_whole input left items ending text read whole (subst (λ (xs : List ℕ). IsReply xs ending text) same reply)
 
@@ -52,4 +55,5 @@ module _ (input left before after : Option (List ℕ)) (bytes items text written
 
   pub writes_prefix : (e : RunError) → (e ≡ Write) × (n : ℕ) × Appends before after (take n written) → WritesAtFault input before after e
   writes_prefix e part =
-      if_some_prefix input before after ending text part.1 e part.0 reply_known (subst (λ (xs : List ℕ). Appends before after (take part.1 xs)) all part.2)
+      if_some_prefix input before after ending text part.1 e part.0 reply_known
+          (subst (λ (xs : List ℕ). Appends before after (take part.1 xs)) all part.2)

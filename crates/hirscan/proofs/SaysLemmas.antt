@@ -1,15 +1,19 @@
 -- What the readers compute is what the words say.
-use Rattle.std.proofs.Common.{◌≡◌, ◌≢◌, ◌⊎◌, ℕ, zero, suc, ◌^◌, ◌<◌, Bool, true, false, ◌&&◌, List, [], ◌∷◌, ◌++◌, length, get_or, take, drop, map, Option, Some, None, Result, Ok, Err, nat_lt, eqb, refl, sym, ◌∙◌, ap, inl, inr, arith, codes, option_map}
+use Rattle.std.proofs.Common.{◌≡◌, ◌≢◌, ◌⊎◌, ℕ, zero, suc, ◌^◌, ◌<◌, Bool, true, false, ◌&&◌, List, [], ◌∷◌, ◌++◌, length, get_or, take}
+use Rattle.std.proofs.Common.{drop, map, Option, Some, None, Result, Ok, Err, nat_lt, eqb, refl, sym, ◌∙◌, ap, inl, inr, arith, codes}
+use Rattle.std.proofs.Common.{option_map}
 use Rattle.std.specs.Fmt.{decimal}
 use Rattle.std.specs.Str.{bytes_eq}
 use Rattle.std.specs.Str.Parse.{digits_value}
 use Rattle.std.proofs.lemmas.Bool.{cases_Bool, and_parts, eqb-true, eq-eqb, ltb-false, le-ltb}
-use Rattle.std.proofs.lemmas.Fmt.{digits_decimal, digits_value-decimal, decimal-digits_value, decimal_nonempty, decimal_digit, first_decimal}
+use Rattle.std.proofs.lemmas.Fmt.{digits_decimal, digits_value-decimal, decimal-digits_value, decimal_nonempty, decimal_digit}
+use Rattle.std.proofs.lemmas.Fmt.{first_decimal}
 use Rattle.hex.specs.Hex.{decode_of}
 use Rattle.hex.specs.declared.error.FromHexError.{FromHexError}
 use Rattle.hirscan.specs.declared.fault.FaultKind.TheVariants.{BadNumber, BadHex, BadRange, BadChoice}
 use Rattle.hirscan.specs.Words.{IsNumber, IsBound, IsGreedy, IsSwitch, IsYes, IsHex, IsHexByte, HasEnds, IsItem, AreItems}
-use Rattle.hirscan.specs.Readers.{is_number, number, the_number, bound, the_bound, order, the_order, switch, the_switch, yes_or_no, the_yes_or_no, one_or_more, hex_bytes, the_bytes, only_one, hex_byte, the_byte, item_ends, the_ends}
+use Rattle.hirscan.specs.Readers.{is_number, number, the_number, bound, the_bound, order, the_order, switch, the_switch, yes_or_no}
+use Rattle.hirscan.specs.Readers.{the_yes_or_no, one_or_more, hex_bytes, the_bytes, only_one, hex_byte, the_byte, item_ends, the_ends}
 use Rattle.hirscan.specs.LineFault.{first_of, unless_read, ends_fault, item_fault}
 use Rattle.hirscan.proofs.StageLemmas.{first_none, when_none}
 use Rattle.hirscan.proofs.HexLemmas.{hex_says, hex_said, ends_of}

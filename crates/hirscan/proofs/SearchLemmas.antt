@@ -73,15 +73,18 @@ module _ (xs : List Tree) (utf8 : Bool) (t : Terminator) (p : Pair) (regex : IsR
 
   -- ---- whatever the loops read
   abbrev loosely : ℕ → List (ℕ × ℕ)
-  loosely = loose_offers regex.forward_options xs p.forward.nfa regex.is_forward regex.reads_forward looks q.haystack q.start q.end is_read utf8 q.anchored
+  loosely = loose_offers regex.forward_options xs p.forward.nfa regex.is_forward regex.reads_forward looks q.haystack q.start q.end is_read
+      utf8 q.anchored
 
   loose_tells : Tells asks loosely (HasNoneCounted asks) (IsOfFirstPattern asks)
   loose_tells =
-      loosely_told regex.forward_options xs p.forward.nfa regex.is_forward regex.reads_forward looks q.haystack q.start q.end is_read utf8 q.anchored
+      loosely_told regex.forward_options xs p.forward.nfa regex.is_forward regex.reads_forward looks q.haystack q.start q.end is_read utf8
+          q.anchored
 
   loose_finds : FindsFirsts p.forward.nfa.automaton (read_by looks q.haystack q.start q.end) q.anchored loosely
   loose_finds =
-      loose_firsts regex.forward_options xs p.forward.nfa regex.is_forward regex.reads_forward looks q.haystack q.start q.end is_read utf8 q.anchored
+      loose_firsts regex.forward_options xs p.forward.nfa regex.is_forward regex.reads_forward looks q.haystack q.start q.end is_read utf8
+          q.anchored
 
   pub answers_loosely : (o : Option Found) → joined p q ≡ Ok o → IsLooseAnswer asks q.start o
   answers_loosely o e =
@@ -119,7 +122,8 @@ module _ (xs : List Tree) (utf8 : Bool) (t : Terminator) (p : Pair) (regex : IsR
     trees_find : FindsFirsts p.forward.nfa.automaton (read_by looks q.haystack q.start q.end) q.anchored
         (offers asks (fits_query xs utf8 t p regex q asked words set) loops)
     trees_find =
-        trees_firsts regex.forward_options xs p.forward.nfa regex.is_forward regex.reads_forward loops looks q.haystack q.start q.end is_read q.anchored
+        trees_firsts regex.forward_options xs p.forward.nfa regex.is_forward regex.reads_forward loops looks q.haystack q.start q.end
+            is_read q.anchored
 
     pub answer_is_of_trees : (o : Option Found) → joined p q ≡ Ok o → o ≡ answer_from asks q.start
     answer_is_of_trees o e =

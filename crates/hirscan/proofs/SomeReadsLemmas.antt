@@ -1,5 +1,6 @@
 -- Each text reads or has a first fault.
-use Rattle.std.proofs.Common.{◌≡◌, ◌≢◌, ℕ, zero, suc, ◌+◌, ◌<◌, ◌≤◌, ◌⊎◌, inl, inr, List, [], ◌∷◌, ◌++◌, length, Option, Some, None, refl, ap, arith, length-append}
+use Rattle.std.proofs.Common.{◌≡◌, ◌≢◌, ℕ, zero, suc, ◌+◌, ◌<◌, ◌≤◌, ◌⊎◌, inl, inr, List, [], ◌∷◌, ◌++◌, length, Option, Some, None, refl}
+use Rattle.std.proofs.Common.{ap, arith, length-append}
 use Rattle.std.proofs.lemmas.Bool.{cases_eq}
 use Rattle.std.proofs.lemmas.List.Elements.{All-cons, All-nil}
 use Rattle.hirscan.specs.declared.fault.FaultKind.{FaultKind}
@@ -39,8 +40,10 @@ Outcome text p = ((there : HeadValue) × (n : ℕ) × Reads text p there n) ⊎ 
 
 -- the outcome of what follows a line, as that of the text from the line on
 outcome_later : (text : List ℕ) (p q : HeadValue) (cut : Cut text) → Takes (words cut.line) p q → Outcome cut.rest q → Outcome text p
-outcome_later text p q cut takes (inl r) = inl (r.0, length cut.line + 1 + r.1, reads_line text cut.line cut.rest p q r.0 _ r.1 cut.parts cut.one_line takes r.2 refl)
-outcome_later text p q cut takes (inr f) = inr (f.0 + 1, f.1, faulty_later text cut.line cut.rest p q (f.0 + 1) f.0 f.1 cut.parts cut.one_line takes f.2 refl)
+outcome_later text p q cut takes (inl r) = inl (r.0, length cut.line + 1 + r.1,
+    reads_line text cut.line cut.rest p q r.0 _ r.1 cut.parts cut.one_line takes r.2 refl)
+outcome_later text p q cut takes (inr f) = inr (f.0 + 1, f.1, faulty_later text cut.line cut.rest p q
+    (f.0 + 1) f.0 f.1 cut.parts cut.one_line takes f.2 refl)
 
 outcome_of_line : (text : List ℕ) (p : HeadValue) (cut : Cut text) (found : Option FaultKind) → fault (words cut.line) p ≡ found →
     ((q : HeadValue) → Outcome cut.rest q) → Outcome text p
@@ -50,7 +53,8 @@ outcome_of_line text p cut None is later = elim (taken_or_ends (words cut.line) 
   | inr ends ↦ inl (p, length cut.line + 1, reads_find text cut.line cut.rest p p _ cut.parts cut.one_line ends refl refl)
 ]
 
-outcome_by : (text : List ℕ) (p : HeadValue) → IsOneLine text ⊎ Cut text → ((cut : Cut text) (q : HeadValue) → Outcome cut.rest q) → Outcome text p
+outcome_by : (text : List ℕ) (p : HeadValue) → IsOneLine text ⊎ Cut text → ((cut : Cut text) (q : HeadValue) → Outcome cut.rest q) →
+    Outcome text p
 outcome_by text p (inl one) later = inr (1, NoFindLine, no_line_feed text p 1 NoFindLine one refl refl)
 outcome_by text p (inr cut) later = outcome_of_line text p cut (fault (words cut.line) p) refl (later cut)
 

@@ -1,6 +1,7 @@
 -- From what the patterns offer in the bytes up to the end to the choices of which those that count are kept: where loops read,
 -- these offers tell the answer of the trees.
-use Rattle.std.proofs.Common.{◌≡◌, ◌≢◌, ℕ, suc, ◌+◌, ◌<◌, ◌≤◌, Bool, true, false, cond, ◌==◌, List, [], ◌∷◌, map, length, take, get_or, slice_get, Option, Some, None, All, nat_le, nat_lt, refl, sym, ap, ◌∙◌, inl, inr, arith, le-leb, eq-eqb}
+use Rattle.std.proofs.Common.{◌≡◌, ◌≢◌, ℕ, suc, ◌+◌, ◌<◌, ◌≤◌, Bool, true, false, cond, ◌==◌, List, [], ◌∷◌, map, length, take, get_or}
+use Rattle.std.proofs.Common.{slice_get, Option, Some, None, All, nat_le, nat_lt, refl, sym, ap, ◌∙◌, inl, inr, arith, le-leb, eq-eqb}
 use Rattle.std.specs.List.{filter}
 use Rattle.std.proofs.lemmas.Bool.{and_parts, cases_lt, lt-ltb, and_from}
 use Rattle.std.proofs.lemmas.Bool.Decides.{Decides-eqb}
@@ -17,7 +18,8 @@ use Rattle.search_types.specs.LeftmostAnswer.{first_choice}
 use Rattle.hirscan.specs.Choices.{Query, choices, ends_at, may_end, choices_at}
 use Rattle.hirscan.specs.LooseAnswers.{IsSpanOf}
 use Rattle.hirscan.proofs.EndLemmas.{Fits, IsMet, Tells, listed_has}
-use Rattle.hirscan.proofs.OfferLemmas.{offered, pattern_offers, mode_offers, AllRead, none_offered, some_offered, one_alone, alone_none, alone_some, span_is_choice, silent, offer_ends, paired, end_of, number_of}
+use Rattle.hirscan.proofs.OfferLemmas.{offered, pattern_offers, mode_offers, AllRead, none_offered, some_offered, one_alone, alone_none}
+use Rattle.hirscan.proofs.OfferLemmas.{alone_some, span_is_choice, silent, offer_ends, paired, end_of, number_of}
 
 all_read : (xs : List Tree) → ((p : ℕ) (x : Tree) → slice_get xs p ≡ Some x → LoopsRead x) → AllRead xs
 all_read [] r = tt

@@ -1,5 +1,6 @@
 -- The kinds of faults of a line, stage by stage.
-use Rattle.std.proofs.Common.{◌≡◌, ℕ, ◌<◌, ◌≤◌, eqb, nat_le, min, true, false, List, length, take, Some, refl, sym, subst, ◌∙◌, ap, ◌∷◌, Option, None, Bool, Result, Ok, Err, IfOk, IfErr, arith}
+use Rattle.std.proofs.Common.{◌≡◌, ℕ, ◌<◌, ◌≤◌, eqb, nat_le, min, true, false, List, length, take, Some, refl, sym, subst, ◌∙◌, ap, ◌∷◌}
+use Rattle.std.proofs.Common.{Option, None, Bool, Result, Ok, Err, IfOk, IfErr, arith}
 use Rattle.std.proofs.lemmas.Bool.{and_parts, eqb-true, leb-true}
 use Rattle.std.proofs.lemmas.Bool.Decides.{nat_tests}
 use Rattle.std.proofs.lemmas.List.{length-map, length-take, take_all}
@@ -7,7 +8,8 @@ use denote.Ref.{Bor}
 use Rattle.hirscan.specs.declared.fault.FaultKind.{FaultKind}
 use Rattle.hirscan.specs.declared.fault.FaultKind.TheVariants.{SettingAfterNode, WrongWordCount}
 use Rattle.hirscan.specs.declared.words.LineWord.{LineWord}
-use Rattle.hirscan.specs.declared.words.LineWord.TheVariants.{Utf8, Line, Capacity, Quit, Classes, Shrink, Anchored, Span, Empty, Lit, Bytes, Chars, Look, Rep, Cat, Alt, Pattern, Find}
+use Rattle.hirscan.specs.declared.words.LineWord.TheVariants.{Utf8, Line, Capacity, Quit, Classes, Shrink, Anchored, Span, Empty, Lit}
+use Rattle.hirscan.specs.declared.words.LineWord.TheVariants.{Bytes, Chars, Look, Rep, Cat, Alt, Pattern, Find}
 use Rattle.hirscan.specs.Takes.{HeadValue}
 use Rattle.hirscan.specs.LineFault.{first_of, when, known_fault, is_setting_after_node, is_word_count, is_class, left_fault, after}
 use Rattle.hirscan.specs.declared.fault.LineFault.{LineFault}

@@ -1,5 +1,6 @@
 -- Where searches over a regex that is built of trees answer: what refuses them, and where nothing but want of memory does.
-use Rattle.std.proofs.Common.{◌≡◌, ℕ, ◌≤◌, Bool, true, false, List, Option, Some, None, inl, inr, true≢false, refl, sym, ap, ◌∙◌, subst, arith}
+use Rattle.std.proofs.Common.{◌≡◌, ℕ, ◌≤◌, Bool, true, false, List, Option, Some, None, inl, inr, true≢false, refl, sym, ap, ◌∙◌, subst}
+use Rattle.std.proofs.Common.{arith}
 use Rattle.std.specs.Prelude.{Result, Ok, Err}
 use Rattle.search_core.specs.ByteSets.{has}
 use Rattle.search_core.specs.Text.{byte_at}
@@ -105,7 +106,8 @@ same_item e v is = cc
 abbrev pub RefusesFrom : Pair → Finding → PairCache → MatchErrorKind → Type 0
 RefusesFrom p at after e = (k : ℕ) × IsAskedAt p at k × AnswersPair p after (search_at at.search k) (Err e)
 
-pub refused_from : (p : Pair) (at new : Finding) (before after : PairCache) (e : MatchErrorKind) → Finds p at new before after (Some (Err e)) →
+pub refused_from : (p : Pair) (at new : Finding) (before after : PairCache) (e : MatchErrorKind) →
+    Finds p at new before after (Some (Err e)) →
     RefusesFrom p at after e
 refused_from p at new before after e (finds_next f begun next item there) = absurd (no_match_item f e item)
 refused_from p at new before after e (finds_none begun next item over) = absurd (no_end_item e item)
@@ -143,7 +145,8 @@ module _ (xs : List Tree) (s : Settings) (p : Pair) (made : IsBuilt xs s p) wher
   pub match_is_sure : clears_of s.dfa ≡ None → (q : Search) → is_supported (starts_each_of s.dfa) q.anchored ≡ true →
       IsQuiet (quit_bytes_for xs s.dfa) q → (c : PairCache) (e : MatchErrorKind) → AnswersMatch p c q (Err e) → e ≡ NoMemory
   match_is_sure none q supported quiet c e (inl told) =
-      let there = scan_finds_near (reader p.forward) (match_search (reader p.forward) q) (supported_forward q supported) (quiet_forward q quiet) in
+      let there = scan_finds_near (reader p.forward) (match_search (reader p.forward) q) (supported_forward q supported)
+          (quiet_forward q quiet) in
       absurd (ok_is_no_refusal (is_some_match there.0) e (sym (told ∙ ap match_told there.1)))
   match_is_sure none q supported quiet c e (inr (inl lacks)) = same_bool_error e NoMemory lacks
   match_is_sure none q supported quiet c e (inr (inr gave)) =
@@ -154,7 +157,8 @@ module _ (xs : List Tree) (s : Settings) (p : Pair) (made : IsBuilt xs s p) wher
         is_supported (starts_each_of s.dfa) q.anchored ≡ true → IsQuiet (quit_bytes_for xs s.dfa) q →
         (c : PairCache) (e : MatchErrorKind) → AnswersPair p c q (Err e) → e ≡ NoMemory
     search_is_sure none q asked supported quiet c e (inl told) =
-        let there = finds_near xs s.utf8 s.line_terminator p (built_regex xs s p made first) q asked (supported_forward q supported) (quiet_forward q quiet) in
+        let there = finds_near xs s.utf8 s.line_terminator p (built_regex xs s p made first) q asked (supported_forward q supported)
+            (quiet_forward q quiet) in
         absurd (found_is_no_refusal there.0 e (sym (told ∙ there.1)))
     search_is_sure none q asked supported quiet c e (inr (inl lacks)) = same_error e NoMemory lacks
     search_is_sure none q asked supported quiet c e (inr (inr gave)) = absurd (never_gives_up none c q gave.0 gave.2)
@@ -184,7 +188,8 @@ module _ (xs : List Tree) (s : Settings) (p : Pair) (made : IsBuilt xs s p) wher
         (scan (reader p.forward) q ≡ quit b x) × IsQuitBeside (quit_bytes_for xs s.dfa) q b x
     quits_forward q asked c b x is =
         let reads : scan (reader p.forward) q ≡ quit b x =
-        quits_by_first xs s.utf8 s.line_terminator p (built_regex xs s p made first) q asked b x (refusal_is_joined p c q (Quit b x) refl is) in
+        quits_by_first xs s.utf8 s.line_terminator p (built_regex xs s p made first) q asked b x
+            (refusal_is_joined p c q (Quit b x) refl is) in
         let near = scan_quits_near (reader p.forward) q b x reads in (
           reads,
           record {

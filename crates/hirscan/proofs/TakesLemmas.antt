@@ -1,26 +1,34 @@
 -- A line without a fault is taken or ends the head, and a line that is taken has no fault and one effect.
-use Rattle.std.proofs.Common.{◌≡◌, ◌≢◌, ℕ, ◌-◌, ◌≤◌, Bool, true, false, not, ◌||◌, List, [], ◌∷◌, ◌++◌, length, get_or, map, Option, Some, None, Result, Ok, Err, IfOk, nat_lt, nat_le, refl, sym, ◌∙◌, ap, arith, codes, length-drop}
+use Rattle.std.proofs.Common.{◌≡◌, ◌≢◌, ℕ, ◌-◌, ◌≤◌, Bool, true, false, not, ◌||◌, List, [], ◌∷◌, ◌++◌, length, get_or, map, Option, Some}
+use Rattle.std.proofs.Common.{None, Result, Ok, Err, IfOk, nat_lt, nat_le, refl, sym, ◌∙◌, ap, arith, codes, length-drop}
 use Rattle.std.proofs.lemmas.Bool.{and_parts, or_parts, eqb-true, ltb-false, leb-true, not-false}
 use Rattle.std.proofs.lemmas.List.{take-append-drop}
 use Rattle.hir_core.specs.Tree.{Tree, empty, literal, byte_class, char_class, look, repetition, concat, alternation}
 use Rattle.hir_core.specs.Means.{AtMost}
 use Rattle.hir_core.specs.Facts.{height}
 use Rattle.hirscan.specs.declared.fault.FaultKind.{FaultKind}
-use Rattle.hirscan.specs.declared.fault.FaultKind.TheVariants.{SettingAfterNode, WrongWordCount, BadNumber, BadChoice, MinAboveMax, TooFewTrees, TooDeep, NotOneTree, TreeLeftOver}
+use Rattle.hirscan.specs.declared.fault.FaultKind.TheVariants.{SettingAfterNode, WrongWordCount, BadNumber, BadChoice, MinAboveMax}
+use Rattle.hirscan.specs.declared.fault.FaultKind.TheVariants.{TooFewTrees, TooDeep, NotOneTree, TreeLeftOver}
 use Rattle.hirscan.specs.declared.words.LineWord.{LineWord}
-use Rattle.hirscan.specs.declared.words.LineWord.TheVariants.{Utf8, Line, Capacity, Quit, Classes, Shrink, Anchored, Span, Empty, Lit, Bytes, Chars, Look, Rep, Cat, Alt, Pattern, Find}
+use Rattle.hirscan.specs.declared.words.LineWord.TheVariants.{Utf8, Line, Capacity, Quit, Classes, Shrink, Anchored, Span, Empty, Lit}
+use Rattle.hirscan.specs.declared.words.LineWord.TheVariants.{Bytes, Chars, Look, Rep, Cat, Alt, Pattern, Find}
 use Rattle.hirscan.specs.declared.line.Step.TheVariants.{Next}
 use Rattle.hirscan.specs.declared.line.Setup.{Setup}
 use Rattle.hirscan.specs.Words.{class_ranges, scalar_ranges}
-use Rattle.hirscan.specs.Readers.{spelling, line_word, number, the_number, bound, the_bound, order, the_order, the_switch, the_yes_or_no, the_bytes, the_byte, the_ends, the_hex_ends, the_look_named, word_at}
+use Rattle.hirscan.specs.Readers.{spelling, line_word, number, the_number, bound, the_bound, order, the_order, the_switch, the_yes_or_no}
+use Rattle.hirscan.specs.Readers.{the_bytes, the_byte, the_ends, the_hex_ends, the_look_named, word_at}
 use Rattle.hirscan.specs.Takes.{HeadValue, HasNoNode, Sets, Replaces, Takes, EndsHead}
-use Rattle.hirscan.specs.Takes.{utf8_line, line_line, two_bytes_line, capacity_line, quit_line, classes_line, shrink_line, anchored_line, span_line}
+use Rattle.hirscan.specs.Takes.{utf8_line, line_line, two_bytes_line, capacity_line, quit_line, classes_line, shrink_line, anchored_line}
+use Rattle.hirscan.specs.Takes.{span_line}
 use Rattle.hirscan.specs.Takes.{empty_line, lit_line, bytes_line, chars_line, look_line, rep_line, cat_line, alt_line, pattern_line}
-use Rattle.hirscan.specs.LineFault.{first_of, when, unless_read, byte_fault, word_fault, is_setting_after_node, is_word_count, is_at_most, is_min_above_max, top, below, has_too_few_trees, is_too_deep, has_not_one_tree, has_tree_left_over, known_fault, setup_after, after}
+use Rattle.hirscan.specs.LineFault.{first_of, when, unless_read, byte_fault, word_fault, is_setting_after_node, is_word_count, is_at_most}
+use Rattle.hirscan.specs.LineFault.{is_min_above_max, top, below, has_too_few_trees, is_too_deep, has_not_one_tree, has_tree_left_over}
+use Rattle.hirscan.specs.LineFault.{known_fault, setup_after, after}
 use Rattle.hirscan.specs.declared.line.Step.{Step}
 use Rattle.hirscan.specs.Tells.{step_after, TellsStep}
 use Rattle.hirscan.proofs.StageLemmas.{first_none, when_none}
-use Rattle.hirscan.proofs.SaysLemmas.{line_word_spelled, number_says, bound_says, order_says, switch_says, yes_says, hex_bytes_says, hex_byte_says, items_say, scalar_items_say, look_says}
+use Rattle.hirscan.proofs.SaysLemmas.{line_word_spelled, number_says, bound_says, order_says, switch_says, yes_says, hex_bytes_says}
+use Rattle.hirscan.proofs.SaysLemmas.{hex_byte_says, items_say, scalar_items_say, look_says}
 
 -- what each kind of fault says where there is none
 pub record NoFault (k : LineWord) (args : List (List ℕ)) (at : HeadValue) : Type 0 where

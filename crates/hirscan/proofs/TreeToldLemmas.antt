@@ -16,7 +16,8 @@ use Rattle.hirscan.specs.Choices.{Query}
 use Rattle.hirscan.specs.LooseAnswers.{IsFindable}
 use Rattle.hirscan.specs.Regexes.{query_of}
 use Rattle.hirscan.specs.TreeWalks.{IsToldOf}
-use Rattle.hirscan.proofs.TreeWalkLemmas.{IsMet, forward_starts, starts_forward, forward_high, reverse_ends, reverse_near, ends_reverse, counted_alike}
+use Rattle.hirscan.proofs.TreeWalkLemmas.{IsMet, forward_starts, starts_forward, forward_high, reverse_ends, reverse_near, ends_reverse}
+use Rattle.hirscan.proofs.TreeWalkLemmas.{counted_alike}
 
 -- the place that is told counts
 pub told_counts : (b : Bool) (asks : Query) (s : ℕ) (x : ℕ × ℕ) → IsToldOf b asks s x → counts asks.utf8 asks.haystack x.0 ≡ true

@@ -1,6 +1,7 @@
 -- The ends of the runs of an automaton that is compiled from trees are the spans that the trees mean, for one who reads forward or
 -- down, in each mode.
-use Rattle.std.proofs.Common.{◌≡◌, ◌↔◌, ℕ, ◌<◌, ◌≤◌, Bool, true, false, ◌&&◌, List, length, get_or, slice_get, Some, refl, sym, ap, ◌∙◌, subst, inl, inr, arith, nat_lt, ◌==◌, eq-eqb}
+use Rattle.std.proofs.Common.{◌≡◌, ◌↔◌, ℕ, ◌<◌, ◌≤◌, Bool, true, false, ◌&&◌, List, length, get_or, slice_get, Some, refl, sym, ap, ◌∙◌}
+use Rattle.std.proofs.Common.{subst, inl, inr, arith, nat_lt, ◌==◌, eq-eqb}
 use Rattle.std.proofs.lemmas.Bool.{cases_lt, lt-ltb, and_from}
 use Rattle.std.proofs.lemmas.Option.{slice_get_within, get_or_from_slice_get}
 use Rattle.search_core.specs.Utf8.{IsValidText}
@@ -44,7 +45,8 @@ abbrev pub IsMet : List Tree → Bool → Text → Anchored → ℕ → ℕ × �
 IsMet xs b text mode i x = (k : ℕ) × (IsFrom b mode text i k × (allowed mode (length xs) x.1 ≡ true) × IsChoice b xs text k x)
 
 -- reading up
-pub forward_starts : (mode : Anchored) (text : Text) (s e k : ℕ) → text.end ≡ e → s ≤ e → IsFrom false mode text s k → may_start mode s e k ≡ true
+pub forward_starts : (mode : Anchored) (text : Text) (s e k : ℕ) → text.end ≡ e → s ≤ e → IsFrom false mode text s k →
+    may_start mode s e k ≡ true
 forward_starts No text s e k at l from = may_start_at No s e k l from.0 (omega (arith, at, from.1))
 forward_starts Yes text s e k at l from = may_start_at Yes s e k l (omega (arith, from)) (omega (arith, from))
 forward_starts (Pattern p) text s e k at l from = may_start_at (Pattern p) s e k l (omega (arith, from)) (omega (arith, from))
@@ -148,7 +150,8 @@ module _ (xs : List Tree) (b utf8 : Bool) (t : Terminator) (d : Dfa) (w : IsWalk
           λ there.
               let c = (spans.patterns p (get_or xs p empty) listed text i x high).0 there in
               let same : x.1 ≡ p = c.0 in
-              (i, (refl, named_allowed p (length xs) x.1 (omega (arith, inside, same)) same, (get_or xs p empty, ap (slice_get xs) same ∙ listed, c.1))),
+              (i, (refl, named_allowed p (length xs) x.1 (omega (arith, inside, same)) same,
+                  (get_or xs p empty, ap (slice_get xs) same ∙ listed, c.1))),
           λ m.
               let same : x.1 ≡ p = allowed_named p (length xs) x.1 m.1.1 in
               let P : ℕ → Type 0 = λ k. IsMeant b text m.1.2.0 k x.0 in

@@ -1,6 +1,7 @@
 -- The ends of runs are the same where looks are read otherwise, if they are read alike wherever a walk over all of them has
 -- states left: the lists of states that the walk comes to are those of both.
-use Rattle.std.proofs.Common.{◌≡◌, ◌⊎◌, ◌↔◌, ℕ, zero, suc, ◌<◌, ◌≤◌, Bool, true, false, cond, not, List, [], ◌∷◌, length, refl, sym, ap, ◌∙◌, ⊎_elim, subst, arith}
+use Rattle.std.proofs.Common.{◌≡◌, ◌⊎◌, ◌↔◌, ℕ, zero, suc, ◌<◌, ◌≤◌, Bool, true, false, cond, not, List, [], ◌∷◌, length, refl, sym, ap}
+use Rattle.std.proofs.Common.{◌∙◌, ⊎_elim, subst, arith}
 use Rattle.std.proofs.lemmas.Bool.{cases_Bool}
 use Rattle.std.proofs.lemmas.Bool.Decides.{Decides-eqb}
 use Rattle.std.specs.Bool.{nat_eq}
@@ -11,13 +12,16 @@ use Rattle.look_core.specs.Looks.{holds_ascii}
 use Rattle.look_core.specs.Terminators.{Terminator}
 use Rattle.hir_core.specs.Means.{Looks}
 use Rattle.search_types.specs.declared.match_kind.MatchKind.TheVariants.{All as AllMatches}
-use Rattle.nfa_core.specs.Nfa.{Node, byte_range, sparse_node, dense_node, look_node, union_node, binary_union, capture_node, fail_node, match_node, Automaton, node_at, IsWellFormed}
+use Rattle.nfa_core.specs.Nfa.{Node, byte_range, sparse_node, dense_node, look_node, union_node, binary_union, capture_node, fail_node}
+use Rattle.nfa_core.specs.Nfa.{match_node, Automaton, node_at, IsWellFormed}
 use Rattle.nfa_core.specs.NfaValue.{is_capture, looks_of}
 use Rattle.nfa_core.specs.Places.{same_pair}
 use Rattle.nfa_core.specs.Reaches.{read_by}
 use Rattle.nfa_core.specs.Walks.{Has, Visits}
-use Rattle.nfa_core.specs.Ways.{Text, span, reads, is_passed, on_read, on_nothing, plain_steps, byte_steps, place_of, bytes_left, AreLists, ends_from}
-use Rattle.nfa_core.proofs.ForCallers.{none_in, has_filter, names_equal, pairs_equal, stays_closed, list_matches, ends_inside, looks_any, nothing_same}
+use Rattle.nfa_core.specs.Ways.{Text, span, reads, is_passed, on_read, on_nothing, plain_steps, byte_steps, place_of, bytes_left, AreLists}
+use Rattle.nfa_core.specs.Ways.{ends_from}
+use Rattle.nfa_core.proofs.ForCallers.{none_in, has_filter, names_equal, pairs_equal, stays_closed, list_matches, ends_inside, looks_any}
+use Rattle.nfa_core.proofs.ForCallers.{nothing_same}
 use Rattle.determinize_core.specs.States.{StateValue}
 use Rattle.determinize_core.specs.Steps.{is_kept, kept, walk_value, unit_at}
 use Rattle.determinize_core.specs.Walked.{walked_lists}
@@ -74,7 +78,8 @@ module _ (a : Automaton) (t : Terminator) (h : List ℕ) (s e i q : ℕ) (formed
 
   -- at the place behind k bytes the looks of the automaton are read alike
   abbrev pub AreAlikeAt : ℕ → Type 0
-  AreAlikeAt k = (l : Look) → has_look (looks_of a.states) l ≡ true → is_passed a.reverse text l (place k) ≡ is_passed a.reverse other l (place k)
+  AreAlikeAt k = (l : Look) → has_look (looks_of a.states) l ≡ true → is_passed a.reverse text l (place k) ≡ is_passed a.reverse other l
+      (place k)
 
   lists : AreLists a text (i, q) (λ k xs. xs) list
   lists = lists_are_lists AllMatches a text i q formed low
@@ -87,7 +92,8 @@ module _ (a : Automaton) (t : Terminator) (h : List ℕ) (s e i q : ℕ) (formed
   bytes_same : (k x : ℕ) → byte_steps a text (place k) x ≡ byte_steps a other (place k) x
   bytes_same k x = ap (on_read (node_at a x)) (reads_same a.reverse (holds_ascii t h) looks h s e (place k))
 
-  module _ (alike : (k : ℕ) → k ≤ bytes_left a.reverse (span t h s e) i → AreAlikeAt k ⊎ ((walk_value a t AllMatches h i q k).ids ≡ [])) where
+  module _ (alike : (k : ℕ) → k ≤ bytes_left a.reverse (span t h s e) i → AreAlikeAt k ⊎
+      ((walk_value a t AllMatches h i q k).ids ≡ [])) where
     steps_same : (k : ℕ) → k ≤ bytes_left a.reverse text i → (x : ℕ) → Has nat_eq x (list k) →
         plain_steps a text (place k) x ≡ plain_steps a other (place k) x
     steps_same k l x there = ⊎_elim
@@ -138,7 +144,8 @@ module _ (a : Automaton) (t : Terminator) (h : List ℕ) (s e i q : ℕ) (formed
         ∙ subst (λ (z : List (ℕ × ℕ)). Has same_pair x z) same
         (has_filter same_pair pairs_equal (λ y. nat_eq y.0 (place k)) x l here ∙ there)
 
-    pub ends_same : (x : ℕ × ℕ) → Has same_pair x (ends_from a (span t h s e) (i, q)) ↔ Has same_pair x (ends_from a (read_by looks h s e) (i, q))
+    pub ends_same : (x : ℕ × ℕ) → Has same_pair x (ends_from a (span t h s e) (i, q)) ↔
+        Has same_pair x (ends_from a (read_by looks h s e) (i, q))
     ends_same x = (
       λ there.
           let at = ends_inside a text i q formed (below, low) x there in

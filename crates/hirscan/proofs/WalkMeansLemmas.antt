@@ -1,6 +1,7 @@
 -- A walk over trees tells what is to be told of them and nothing else; where no refusal comes all of it, each once, in reading
 -- order.
-use Rattle.std.proofs.Common.{◌≡◌, ◌↔◌, ℕ, ◌<◌, ◌≤◌, Bool, true, false, ◌&&◌, ◌==◌, List, [], ◌∷◌, ◌++◌, length, slice_get, Option, Some, None, refl, sym, ap, ◌∙◌, subst, inl, inr, ⊎_elim, arith}
+use Rattle.std.proofs.Common.{◌≡◌, ◌↔◌, ℕ, ◌<◌, ◌≤◌, Bool, true, false, ◌&&◌, ◌==◌, List, [], ◌∷◌, ◌++◌, length, slice_get, Option, Some}
+use Rattle.std.proofs.Common.{None, refl, sym, ap, ◌∙◌, subst, inl, inr, ⊎_elim, arith}
 use Rattle.std.proofs.lemmas.Bool.{cases_lt}
 use Rattle.look_core.specs.declared.look.Look.TheVariants.{Start, End}
 use Rattle.look_core.specs.Looks.{holds, holds_ascii, IsWordSet}
@@ -29,7 +30,8 @@ use Rattle.lazy_dfa.specs.Scans.{first_place}
 use Rattle.lazy_dfa.specs.ScanLaws.{ends_of, HasNoQuitNear}
 use Rattle.lazy_dfa.specs.Walks.{Rest, whole_rest}
 use Rattle.lazy_dfa.specs.WalkLaws.{IsBegun, IsInReadingOrder}
-use Rattle.lazy_dfa.proofs.ForCallers.{rest_in_span, rest_exactly, rest_once, rest_ordered, rest_done, rest_of_no_pattern, quiet_goes, start_is_state}
+use Rattle.lazy_dfa.proofs.ForCallers.{rest_in_span, rest_exactly, rest_once, rest_ordered, rest_done, rest_of_no_pattern, quiet_goes}
+use Rattle.lazy_dfa.proofs.ForCallers.{start_is_state}
 use Rattle.hirscan.specs.Choices.{Query}
 use Rattle.hirscan.specs.Regexes.{IsSearchOf, query_of}
 use Rattle.hirscan.specs.TreeWalks.{IsWalkerOf, IsToldOf, IsToldAscii, IsToldWith}
@@ -192,7 +194,8 @@ module _ (xs : List Tree) (b utf8 : Bool) (t : Terminator) (d : Dfa) (w : IsWalk
           ∙ ap (λ (z : Terminator). ends_from a (read_by (holds words z q.haystack) q.haystack q.start q.end)
           (first_place b q.start q.end, name)) ends_lines in
           let runs = runs_with_words d w.dfa w.finds_all q asked.bytes name (is_begun name l named) none words set x in (
-            λ there. subst (λ (z : List (ℕ × ℕ)). Has same_pair x z) to (runs.0 (subst (λ (z : List (ℕ × ℕ)). Has same_pair x z) from there)),
+            λ there. subst (λ (z : List (ℕ × ℕ)). Has same_pair x z) to
+                (runs.0 (subst (λ (z : List (ℕ × ℕ)). Has same_pair x z) from there)),
             λ there. subst (λ (z : List (ℕ × ℕ)). Has same_pair x z) (sym from)
                 (runs.1 (subst (λ (z : List (ℕ × ℕ)). Has same_pair x z) (sym to) there)),
           )

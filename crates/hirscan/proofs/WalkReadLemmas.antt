@@ -1,6 +1,7 @@
 -- What a walk that comes to no refusal reads: at each place of its span neither byte beside the place is a quit byte, or no state
 -- is left there.
-use Rattle.std.proofs.Common.{◌≡◌, ◌⊎◌, ℕ, zero, suc, ◌+◌, ◌-◌, ◌<◌, ◌≤◌, Bool, true, false, ◌&&◌, ◌==◌, not, List, [], ◌∷◌, Option, Some, None, refl, sym, ap, ◌∙◌, inl, inr, ⊎_elim, subst, arith, if◌then◌else◌}
+use Rattle.std.proofs.Common.{◌≡◌, ◌⊎◌, ℕ, zero, suc, ◌+◌, ◌-◌, ◌<◌, ◌≤◌, Bool, true, false, ◌&&◌, ◌==◌, not, List, [], ◌∷◌, Option, Some}
+use Rattle.std.proofs.Common.{None, refl, sym, ap, ◌∙◌, inl, inr, ⊎_elim, subst, arith, if◌then◌else◌}
 use Rattle.std.proofs.lemmas.Bool.{cases_Bool, cases_lt, le-leb}
 use Rattle.std.specs.List.{flat_map}
 use Rattle.search_core.specs.ByteSets.{has}
@@ -17,7 +18,8 @@ use Rattle.nfa_core.specs.Nfa.{Automaton}
 use Rattle.nfa_core.specs.Ways.{place_of}
 use Rattle.determinize_core.specs.States.{StateValue}
 use Rattle.determinize_core.specs.Starts.{start_of}
-use Rattle.determinize_core.specs.Steps.{closed, kept, unit_steps, reading, ids_before, gains, known_before, known_behind, families, step_value, start_value, walk_value, unit_at, unit_behind}
+use Rattle.determinize_core.specs.Steps.{closed, kept, unit_steps, reading, ids_before, gains, known_before, known_behind, families}
+use Rattle.determinize_core.specs.Steps.{step_value, start_value, walk_value, unit_at, unit_behind}
 use Rattle.lazy_dfa.specs.Passes.{is_empty, is_dead, index_at, index_behind, next_value, next_place, start_or_dead, first_value}
 use Rattle.lazy_dfa.specs.Readers.{Reader, is_quit}
 use Rattle.lazy_dfa.specs.Scans.{first_place}
@@ -74,7 +76,8 @@ alive_reads true rest alive none = cc
 alive_reads false rest alive none = none
 
 -- the unit behind the next place is the one that was read
-pub unit_behind_next : (b : Bool) (h : List ℕ) (i k : ℕ) → (b ≡ true → k < i) → unit_behind b h (place_of b i (suc k)) ≡ unit_at b h (place_of b i k)
+pub unit_behind_next : (b : Bool) (h : List ℕ) (i k : ℕ) → (b ≡ true → k < i) →
+    unit_behind b h (place_of b i (suc k)) ≡ unit_at b h (place_of b i k)
 unit_behind_next false h i k inside = let e : i + suc k ≡ suc (i + k) = omega arith in ap (byte_before h) e
 unit_behind_next true h i k inside =
     let l : k < i = inside refl in
@@ -151,7 +154,8 @@ module _ (r : Reader) (h : List ℕ) (i q : ℕ) where
     behind_quiet zero l = inl behind
     behind_quiet (suc m) l = ⊎_elim
         (λ (quiet : IsQuiet m).
-        inl (ap (is_quit r.quits) (unit_behind_next r.automaton.reverse h i m (λ is_reverse. let far = inside is_reverse in omega (arith, far, l)))
+        inl (ap (is_quit r.quits) (unit_behind_next r.automaton.reverse h i m (λ is_reverse. let far = inside is_reverse in
+            omega (arith, far, l)))
         ∙ quiet))
         (λ (none : HasNone m). inr (none_later m none))
         (reads_or_ends (suc n) 0 goes m (omega arith) (omega (arith, l)))
@@ -198,7 +202,8 @@ module _ (r : Reader) (q : Search) (name : ℕ) (begun : IsBegun r q name) where
   start_is =
       ap (λ (o : Option ℕ). rest_from r q.haystack (suc (q.end - q.start)) begin (start_or_dead r behind o)) begun.start
       ∙ ap (λ (v : StateValue). rest_from r q.haystack (suc (q.end - q.start)) begin v) (walk_begins r behind q.haystack begin name refl)
-      ∙ ap (λ (j : ℕ). rest_from r q.haystack (suc (q.end - q.start)) j (walk_value r.automaton r.terminator r.kind q.haystack begin name 0))
+      ∙ ap (λ (j : ℕ). rest_from r q.haystack (suc (q.end - q.start)) j
+          (walk_value r.automaton r.terminator r.kind q.haystack begin name 0))
       (sym (place_zero r.automaton.reverse begin))
 
   pub behind_there : is_quit r.quits behind ≡ false →

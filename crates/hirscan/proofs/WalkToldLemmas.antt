@@ -1,6 +1,7 @@
 -- Each end that a walk tells lies at a place up to which it read no quit byte, refused behind that or not. So it is meant with
 -- any set of words, where it is by the bytes of ASCII.
-use Rattle.std.proofs.Common.{◌≡◌, ℕ, zero, suc, ◌+◌, ◌-◌, ◌<◌, ◌≤◌, Bool, true, false, List, [], ◌∷◌, map, length, slice_get, Option, Some, None, All, refl, sym, ap, ◌∙◌, inl, inr, ⊎_elim, subst, arith, if◌then◌else◌}
+use Rattle.std.proofs.Common.{◌≡◌, ℕ, zero, suc, ◌+◌, ◌-◌, ◌<◌, ◌≤◌, Bool, true, false, List, [], ◌∷◌, map, length, slice_get, Option, Some}
+use Rattle.std.proofs.Common.{None, All, refl, sym, ap, ◌∙◌, inl, inr, ⊎_elim, subst, arith, if◌then◌else◌}
 use Rattle.std.proofs.lemmas.Bool.{cases_Bool, cases_lt}
 use Rattle.search_core.specs.ByteSets.{has}
 use Rattle.search_core.specs.Text.{byte_at, byte_before}
@@ -38,13 +39,15 @@ use Rattle.hirscan.specs.TreeWalks.{IsWalkerOf}
 use Rattle.hirscan.proofs.BuiltPairLemmas.{turned_words}
 use Rattle.hirscan.proofs.TreeToldLemmas.{read_low, read_high, AgreeUpTo}
 use Rattle.hirscan.proofs.WalkLookLemmas.{beside, read_alike, asks_for_words}
-use Rattle.hirscan.proofs.WalkReadLemmas.{IsQuiet, more, turn_is, more_is, unit_behind_next, reverse_inside, IsQuietBeside, whole_is, start_is, behind_there}
+use Rattle.hirscan.proofs.WalkReadLemmas.{IsQuiet, more, turn_is, more_is, unit_behind_next, reverse_inside, IsQuietBeside, whole_is}
+use Rattle.hirscan.proofs.WalkReadLemmas.{start_is, behind_there}
 use Rattle.lazy_dfa.proofs.ForCallers.{mapped_there}
 use Rattle.hirscan.proofs.BuiltLemmas.{words_either_way, turned_twice}
 
 -- ---- a unit
 
-unit_tells : (quits : List Bool) (u : Option ℕ) (index : ℕ) (rest : Rest) (x : ℕ × ℕ) → Has same_pair x (unless_quit_at quits u index rest).ends →
+unit_tells : (quits : List Bool) (u : Option ℕ) (index : ℕ) (rest : Rest) (x : ℕ × ℕ) →
+    Has same_pair x (unless_quit_at quits u index rest).ends →
     (is_quit quits u ≡ false) × Has same_pair x rest.ends
 unit_tells quits None index rest x there = (refl, there)
 unit_tells quits (Some b) index rest x there = ⊎_elim
@@ -53,11 +56,13 @@ unit_tells quits (Some b) index rest x there = ⊎_elim
     (λ (e : has quits b ≡ false). (e, subst (λ (c : Bool). Has same_pair x (if c then refused (Quit b index) else rest).ends) e there))
     (cases_Bool (has quits b))
 
-goes_tells : (stops : Bool) (rest : Rest) (x : ℕ × ℕ) → Has same_pair x (if stops then nothing_left else rest).ends → Has same_pair x rest.ends
+goes_tells : (stops : Bool) (rest : Rest) (x : ℕ × ℕ) → Has same_pair x (if stops then nothing_left else rest).ends →
+    Has same_pair x rest.ends
 goes_tells true rest x there = none_in same_pair x _ there
 goes_tells false rest x there = there
 
-mode_tells : (fit : Bool) (mode : Anchored) (rest : Rest) (x : ℕ × ℕ) → Has same_pair x (where_supported fit mode rest).ends → Has same_pair x rest.ends
+mode_tells : (fit : Bool) (mode : Anchored) (rest : Rest) (x : ℕ × ℕ) → Has same_pair x (where_supported fit mode rest).ends →
+    Has same_pair x rest.ends
 mode_tells true mode rest x there = there
 mode_tells false mode rest x there = none_in same_pair x _ there
 
@@ -133,7 +138,8 @@ module _ (r : Reader) (q : Search) (name : ℕ) (begun : IsBegun r q name) where
 
   module _ (m : ℕ) (few : m < suc (q.end - q.start)) (behind : is_quit r.quits (unit_behind r.automaton.reverse q.haystack begin) ≡ false)
       (quiet : (j : ℕ) → 0 ≤ j → j ≤ m → IsQuiet r q.haystack begin name j) where
-    back_quiet : (k : ℕ) → k ≤ m → is_quit r.quits (unit_behind r.automaton.reverse q.haystack (place_of r.automaton.reverse begin k)) ≡ false
+    back_quiet : (k : ℕ) → k ≤ m → is_quit r.quits (unit_behind r.automaton.reverse q.haystack (place_of r.automaton.reverse begin k)) ≡
+        false
     back_quiet zero l = behind_there r q name begun behind
     back_quiet (suc k) l =
         ap (is_quit r.quits) (unit_behind_next r.automaton.reverse q.haystack begin k

@@ -1,6 +1,7 @@
 -- Which patterns a call adds to a set where it answers Ok: those of all ends that it has room for, also where it stops before a
 -- refusal, since the set is full then.
-use Rattle.std.proofs.Common.{◌≡◌, ◌↔◌, ◌⊎◌, ℕ, zero, suc, ◌<◌, Bool, true, false, List, [], ◌∷◌, length, Option, Some, None, Ok, refl, sym, ap, ◌∙◌, inl, inr, ⊎_elim, subst, arith, if◌then◌else◌}
+use Rattle.std.proofs.Common.{◌≡◌, ◌↔◌, ◌⊎◌, ℕ, zero, suc, ◌<◌, Bool, true, false, List, [], ◌∷◌, length, Option, Some, None, Ok, refl, sym}
+use Rattle.std.proofs.Common.{ap, ◌∙◌, inl, inr, ⊎_elim, subst, arith, if◌then◌else◌}
 use Rattle.std.proofs.lemmas.Bool.{cases_Bool, and_parts}
 use Rattle.look_core.specs.Looks.{IsWordSet}
 use Rattle.look_core.specs.Terminators.{Terminator}
@@ -107,7 +108,8 @@ module _ (xs : List Tree) (utf8 : Bool) (t : Terminator) (d : Dfa) (w : IsWalker
         (sym (ap (λ (s : List Bool). has s p) (new_is ∙ same_set old ends (whole_rest (reader d) q).refusal)) ∙ there))
 
     by_ends : (has old p ≡ true) ⊎ ((p < length old) × ((j : ℕ) × Has same_pair (j, p) ends)) → has new p ≡ true
-    by_ends of = ap (λ (s : List Bool). has s p) (new_is ∙ same_set old ends (whole_rest (reader d) q).refusal) ∙ added_members old ends p of
+    by_ends of = ap (λ (s : List Bool). has s p) (new_is ∙ same_set old ends (whole_rest (reader d) q).refusal)
+        ∙ added_members old ends p of
 
     there_is : p < length old → (j : ℕ) → Told (j, p) → has new p ≡ true
     there_is l j told = ⊎_elim
@@ -125,7 +127,8 @@ module _ (xs : List Tree) (utf8 : Bool) (t : Terminator) (d : Dfa) (w : IsWalker
           (λ (come : (p < length old) × ((j : ℕ) × Told (j, p))). there_is come.0 come.1.0 come.1.1) of,
     )
 
-  pub adds_ascii : (p : ℕ) → (has new p ≡ true) ↔ ((has old p ≡ true) ⊎ ((p < length old) × ((j : ℕ) × IsToldAscii xs false utf8 t q (j, p))))
+  pub adds_ascii : (p : ℕ) → (has new p ≡ true) ↔ ((has old p ≡ true) ⊎
+      ((p < length old) × ((j : ℕ) × IsToldAscii xs false utf8 t q (j, p))))
   adds_ascii p =
       adds (λ x. IsToldAscii xs false utf8 t q x) (tells_meant xs false utf8 t d w q asked_all)
       (λ none x. (tells_ascii xs false utf8 t d w q asked_all none x).1) p

@@ -1,9 +1,11 @@
 -- What the readers of words compute, against what std and `hex` say of the calls that the code makes.
-use Rattle.std.proofs.Common.{◌≡◌, ◌≢◌, ◌⊎◌, ℕ, ◌^◌, ◌<◌, true, ◌||◌, not, List, [], ◌∷◌, length, get_or, Some, None, Result, Ok, Err, nat_lt, eqb, refl, sym, ◌∙◌, ap, inl, inr, arith}
+use Rattle.std.proofs.Common.{◌≡◌, ◌≢◌, ◌⊎◌, ℕ, ◌^◌, ◌<◌, true, ◌||◌, not, List, [], ◌∷◌, length, get_or, Some, None, Result, Ok, Err}
+use Rattle.std.proofs.Common.{nat_lt, eqb, refl, sym, ◌∙◌, ap, inl, inr, arith}
 use Rattle.std.specs.Str.{all_ascii_digits, IsUtf8}
 use Rattle.std.specs.Str.Parse.{digits_value, ParsesUnsigned}
 use Rattle.std.specs.Result.{result_ok, OkIff}
-use Rattle.std.proofs.lemmas.Bool.{and_parts, and_from, or_cases, or_left, or_right, eqb-true, eq-eqb, ltb-true, lt-ltb, not-true, not_from_false, ne_eqb, false_from_ne_true}
+use Rattle.std.proofs.lemmas.Bool.{and_parts, and_from, or_cases, or_left, or_right, eqb-true, eq-eqb, ltb-true, lt-ltb, not-true}
+use Rattle.std.proofs.lemmas.Bool.{not_from_false, ne_eqb, false_from_ne_true}
 use Rattle.std.proofs.lemmas.Str.{IsUtf8-from_ascii}
 use Rattle.std.proofs.lemmas.Fmt.{IsAscii-from_digits}
 use Rattle.std.proofs.lemmas.Str.Parse.{IsNumeralModel, numerals_by_value, tells_all_ascii_digits, parse_plain}
@@ -44,7 +46,8 @@ alone_or_zero w (inr h) = or_right _ _ (eq-eqb _ _ h)
 
 pub is_number_from_parts : (w : List ℕ) → NumberParts w → is_number w ≡ true
 is_number_from_parts w p =
-    and_from _ _ (and_from _ _ (and_from _ _ p.digits (lt-ltb 0 (length w) p.some)) (alone_or_zero w p.no_leading_zero)) (lt-ltb _ _ p.small)
+    and_from _ _ (and_from _ _ (and_from _ _ p.digits (lt-ltb 0 (length w) p.some)) (alone_or_zero w p.no_leading_zero))
+        (lt-ltb _ _ p.small)
 
 pub number_read : (w : List ℕ) → NumberParts w → number w ≡ Some (digits_value 10 w)
 number_read w p = rw (is_number_from_parts w p) refl

@@ -1,16 +1,23 @@
 -- What is wrong with a line: the kinds of faults in their order, each with its test.
-use Rattle.std.specs.Prelude.{ℕ, ◌-◌, ◌==◌, not, ◌&&◌, ◌||◌, Bool, true, false, List, [], ◌∷◌, ◌++◌, length, map, take, drop, slice_index_or, Option, Some, None, nat_lt, nat_le, if◌then◌else◌}
+use Rattle.std.specs.Prelude.{ℕ, ◌-◌, ◌==◌, not, ◌&&◌, ◌||◌, Bool, true, false, List, [], ◌∷◌, ◌++◌, length, map, take, drop}
+use Rattle.std.specs.Prelude.{slice_index_or, Option, Some, None, nat_lt, nat_le, if◌then◌else◌}
 use Rattle.look_core.specs.Terminators.{Terminator, one_of, two_of}
 use Rattle.hir_core.specs.Tree.{Tree, empty, literal, byte_class, char_class, look, repetition, concat, alternation}
 use Rattle.hir_core.specs.Facts.{height}
 use Rattle.hirscan.specs.declared.fault.FaultKind.{FaultKind}
-use Rattle.hirscan.specs.declared.fault.FaultKind.TheVariants.{UnknownWord, SettingAfterNode, WrongWordCount, BadNumber, BadHex, BadRange, UnknownLook, BadChoice, MinAboveMax, TooFewTrees, TooDeep, NotOneTree, TreeLeftOver}
+use Rattle.hirscan.specs.declared.fault.FaultKind.TheVariants.{UnknownWord, SettingAfterNode, WrongWordCount, BadNumber, BadHex, BadRange}
+use Rattle.hirscan.specs.declared.fault.FaultKind.TheVariants.{UnknownLook, BadChoice, MinAboveMax, TooFewTrees, TooDeep, NotOneTree}
+use Rattle.hirscan.specs.declared.fault.FaultKind.TheVariants.{TreeLeftOver}
 use Rattle.hirscan.specs.declared.line.Setup.{Setup}
 use Rattle.hirscan.specs.declared.words.LineWord.{LineWord}
-use Rattle.hirscan.specs.declared.words.LineWord.TheVariants.{Utf8, Line, Capacity, Quit, Classes, Shrink, Anchored, Span, Empty, Lit, Bytes, Chars, Look, Rep, Cat, Alt, Pattern, Find}
+use Rattle.hirscan.specs.declared.words.LineWord.TheVariants.{Utf8, Line, Capacity, Quit, Classes, Shrink, Anchored, Span, Empty, Lit}
+use Rattle.hirscan.specs.declared.words.LineWord.TheVariants.{Bytes, Chars, Look, Rep, Cat, Alt, Pattern, Find}
 use Rattle.hirscan.specs.Words.{is_scalar, class_ranges, scalar_ranges}
-use Rattle.hirscan.specs.Takes.{HeadValue, with_utf8, with_terminator, with_capacity, with_quit, with_classes, with_shrink, with_anchored, with_span}
-use Rattle.hirscan.specs.Readers.{line_word, number, the_number, bound, the_bound, order, the_order, switch, the_switch, yes_or_no, the_yes_or_no, hex_bytes, the_bytes, hex_byte, the_byte, item_ends, the_ends, hex_ends, the_hex_ends, look_named, the_look_named, word_at}
+use Rattle.hirscan.specs.Takes.{HeadValue, with_utf8, with_terminator, with_capacity, with_quit, with_classes, with_shrink, with_anchored}
+use Rattle.hirscan.specs.Takes.{with_span}
+use Rattle.hirscan.specs.Readers.{line_word, number, the_number, bound, the_bound, order, the_order, switch, the_switch, yes_or_no}
+use Rattle.hirscan.specs.Readers.{the_yes_or_no, hex_bytes, the_bytes, hex_byte, the_byte, item_ends, the_ends, hex_ends, the_hex_ends}
+use Rattle.hirscan.specs.Readers.{look_named, the_look_named, word_at}
 
 -- the first fault of the list
 abbrev pub first_of : List (Option FaultKind) → Option FaultKind
@@ -197,7 +204,8 @@ fault (w ∷ args) at = fault_after (line_word w) args at
 
 -- the terminator of these words
 abbrev pub the_terminator : List (List ℕ) → Terminator
-the_terminator args = if length args == 1 then one_of (the_byte (word_at args 0)) else two_of (the_byte (word_at args 0)) (the_byte (word_at args 1))
+the_terminator args = if length args == 1 then one_of (the_byte (word_at args 0))
+    else two_of (the_byte (word_at args 0)) (the_byte (word_at args 1))
 
 -- how is searched after a line of this first word that has no fault
 abbrev pub setup_after : LineWord → List (List ℕ) → Setup → Setup

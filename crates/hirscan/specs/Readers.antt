@@ -1,7 +1,9 @@
 -- Readers that compute what Words.antt says of a word: None where the word says no such thing. Each
 -- has a reader beside it, `the_..`, that answers any value there. That each reads just what its relation says is a law
 -- (`word_laws`).
-use Rattle.std.specs.Prelude.{◌≡◌, ◌↔◌, ℕ, ◌+◌, ◌^◌, ◌==◌, ◌&&◌, ◌||◌, not, Bool, true, false, List, [], ◌∷◌, length, take, drop, slice_index, slice_index_or, Option, Some, None, Result, Ok, Err, nat_lt, codes, if◌then◌else◌, option_map, unwrap_or}
+use Rattle.std.specs.Prelude.{◌≡◌, ◌↔◌, ℕ, ◌+◌, ◌^◌, ◌==◌, ◌&&◌, ◌||◌, not, Bool, true, false, List, [], ◌∷◌, length, take, drop}
+use Rattle.std.specs.Prelude.{slice_index, slice_index_or, Option, Some, None, Result, Ok, Err, nat_lt, codes, if◌then◌else◌, option_map}
+use Rattle.std.specs.Prelude.{unwrap_or}
 use Rattle.std.specs.List.{list_all, position}
 use Rattle.std.specs.Option.{option_or}
 use Rattle.std.specs.Str.{all_ascii_digits, bytes_eq}
@@ -11,7 +13,8 @@ use Rattle.look_core.specs.declared.look.Look.{Look as TheLook}
 use Rattle.look_core.specs.declared.look.Look.TheVariants as the_look
 use Rattle.hex.specs.declared.error.FromHexError.{FromHexError}
 use Rattle.hirscan.specs.declared.words.LineWord.{LineWord}
-use Rattle.hirscan.specs.declared.words.LineWord.TheVariants.{Utf8, Line, Capacity, Quit, Classes, Shrink, Anchored, Span, Empty, Lit, Bytes, Chars, Look, Rep, Cat, Alt, Pattern, Find}
+use Rattle.hirscan.specs.declared.words.LineWord.TheVariants.{Utf8, Line, Capacity, Quit, Classes, Shrink, Anchored, Span, Empty, Lit}
+use Rattle.hirscan.specs.declared.words.LineWord.TheVariants.{Bytes, Chars, Look, Rep, Cat, Alt, Pattern, Find}
 
 -- the reader answers x just where the relation holds of the text and x, and nothing just where it holds of no x
 pub record IsReader {X : Type 0} (read : List ℕ → Option X) (says : List ℕ → X → Type 0) : Type 0 where

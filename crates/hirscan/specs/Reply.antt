@@ -67,7 +67,8 @@ pub record Asks (input : List ℕ) (setup : Setup) (xs : List Tree) (h : List �
 
 -- one of both automata is refused for its size: what the patterns need at most passes the limit
 abbrev pub AreTooLarge : Setup → List Tree → Type 0
-AreTooLarge setup xs = (reverse : Bool) × RefusesTrees (compile_options reverse (program_settings setup.settings)) xs (ExceededSizeLimit (2 ^ 26))
+AreTooLarge setup xs = (reverse : Bool) × RefusesTrees (compile_options reverse (program_settings setup.settings)) xs
+    (ExceededSizeLimit (2 ^ 26))
 
 -- ---- quits
 
@@ -101,7 +102,8 @@ pub record QuitsBehind (setup : Setup) (xs : List Tree) (h : List ℕ) (fs : Lis
 
 -- these are the first of all answers, for each set of words
 abbrev pub BeginsAnswers : Setup → List Tree → List ℕ → List Found → Type 0
-BeginsAnswers setup xs h fs = (words : ℕ → Bool) → IsWordSet words → (rest : List Found) × (answers_to words xs setup.settings (search_of setup h) ≡ fs ++ rest)
+BeginsAnswers setup xs h fs = (words : ℕ → Bool) → IsWordSet words → (rest : List Found) ×
+    (answers_to words xs setup.settings (search_of setup h) ≡ fs ++ rest)
 
 -- these are all answers, for each set of words
 abbrev pub AreAnswers : Setup → List Tree → List ℕ → List Found → Type 0
@@ -124,5 +126,6 @@ pub data IsReply (input : List ℕ) (ending : Ending) (text : List ℕ) : Type 0
 
 -- what is answered where a head was read: a refusal of what shows in it and its haystack, or the reply of a search
 pub data AnswersHead (setup : Setup) (xs : List Tree) (h : List ℕ) (ending : Ending) (text : List ℕ) : Type 0 where
-  refuses : (cause : List ℕ) → refusal setup xs h ≡ Some cause → ending ≡ Refused → text ≡ refusal_line cause → AnswersHead setup xs h ending text
+  refuses : (cause : List ℕ) → refusal setup xs h ≡ Some cause → ending ≡ Refused → text ≡ refusal_line cause →
+      AnswersHead setup xs h ending text
   searches : refusal setup xs h ≡ None → IsSearchReply setup xs h ending text → AnswersHead setup xs h ending text

@@ -11,7 +11,8 @@ use Rattle.lazy_dfa.specs.ConfigValue.{by_hand}
 use Rattle.hirscan.specs.declared.line.Setup.{Setup}
 use Rattle.hirscan.specs.declared.settings.Settings.{Settings}
 use Rattle.hirscan.specs.Built.{default_settings}
-use Rattle.hirscan.specs.Words.{IsNumber, IsBound, IsGreedy, IsSwitch, IsYes, IsHex, IsHexByte, IsLookName, AreItems, AreScalarItems, class_ranges, scalar_ranges}
+use Rattle.hirscan.specs.Words.{IsNumber, IsBound, IsGreedy, IsSwitch, IsYes, IsHex, IsHexByte, IsLookName, AreItems, AreScalarItems}
+use Rattle.hirscan.specs.Words.{class_ranges, scalar_ranges}
 
 -- what stands before a line: how is searched, the trees on the stack, the last pushed last, and the patterns that were taken
 pub record HeadValue : Type 0 where
@@ -109,12 +110,14 @@ pub data Takes (ws : List (List ℕ)) (before after : HeadValue) : Type 0 where
   span_line : (low high : List ℕ) (s e : ℕ) → ws ≡ codes "span" ∷ low ∷ high ∷ [] → IsNumber low s → IsNumber high e →
       Sets before after (with_span (record { start = s; end = e }) before.setup) → Takes ws before after
   empty_line : ws ≡ codes "empty" ∷ [] → Replaces before after [] empty → Takes ws before after
-  lit_line : (w bytes : List ℕ) → ws ≡ codes "lit" ∷ w ∷ [] → IsHex w bytes → Replaces before after [] (literal bytes) → Takes ws before after
+  lit_line : (w bytes : List ℕ) → ws ≡ codes "lit" ∷ w ∷ [] → IsHex w bytes → Replaces before after [] (literal bytes) →
+      Takes ws before after
   bytes_line : (items : List (List ℕ)) (ranges : List (ℕ × ℕ)) → ws ≡ codes "bytes" ∷ items → items ≢ [] → AreItems items ranges →
       Replaces before after [] (byte_class (class_ranges ranges)) → Takes ws before after
   chars_line : (items : List (List ℕ)) (ranges : List (ℕ × ℕ)) → ws ≡ codes "chars" ∷ items → items ≢ [] → AreScalarItems items ranges →
       Replaces before after [] (char_class (scalar_ranges ranges)) → Takes ws before after
-  look_line : (w : List ℕ) (l : Look) → ws ≡ codes "look" ∷ w ∷ [] → IsLookName w l → Replaces before after [] (look l) → Takes ws before after
+  look_line : (w : List ℕ) (l : Look) → ws ≡ codes "look" ∷ w ∷ [] → IsLookName w l → Replaces before after [] (look l) →
+      Takes ws before after
   rep_line : (low high order : List ℕ) (min : ℕ) (max : Option ℕ) (greedy : Bool) (x : Tree) →
       ws ≡ codes "rep" ∷ low ∷ high ∷ order ∷ [] → IsNumber low min → IsBound high max → IsGreedy order greedy → AtMost min max →
       Replaces before after (x ∷ []) (repetition min max greedy x) → Takes ws before after

@@ -2,7 +2,9 @@
 use Rattle.std.specs.Prelude.{◌≡◌, ℕ, List, [], ◌∷◌, ◌++◌, map, Option, Some, None, codes}
 use denote.Ref.{Bor}
 use Rattle.hirscan.specs.declared.fault.FaultKind.{FaultKind}
-use Rattle.hirscan.specs.declared.fault.FaultKind.TheVariants.{NoFindLine, UnknownWord, SettingAfterNode, WrongWordCount, BadNumber, BadHex, BadRange, UnknownLook, BadChoice, MinAboveMax, TooFewTrees, TooDeep, NotOneTree, TreeLeftOver}
+use Rattle.hirscan.specs.declared.fault.FaultKind.TheVariants.{NoFindLine, UnknownWord, SettingAfterNode, WrongWordCount, BadNumber, BadHex}
+use Rattle.hirscan.specs.declared.fault.FaultKind.TheVariants.{BadRange, UnknownLook, BadChoice, MinAboveMax, TooFewTrees, TooDeep}
+use Rattle.hirscan.specs.declared.fault.FaultKind.TheVariants.{NotOneTree, TreeLeftOver}
 use Rattle.hirscan.specs.declared.fault.Fault.{Fault}
 use Rattle.hirscan.specs.declared.fault.Fault.TheVariants as of_text
 use Rattle.hirscan.specs.declared.fault.LineFault.{LineFault}

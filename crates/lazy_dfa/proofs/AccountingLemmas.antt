@@ -1,12 +1,14 @@
 -- How many bytes caches are taken to need.
-use Rattle.std.proofs.Common.{◌≡◌, ℕ, zero, suc, ◌+◌, ◌*◌, ◌^◌, ◌<◌, ◌≤◌, max, Bool, true, false, List, [], ◌∷◌, ◌++◌, length, refl, sym, ap, ◌∙◌, ⊎_elim, arith, if◌then◌else◌}
+use Rattle.std.proofs.Common.{◌≡◌, ℕ, zero, suc, ◌+◌, ◌*◌, ◌^◌, ◌<◌, ◌≤◌, max, Bool, true, false, List, [], ◌∷◌, ◌++◌, length, refl, sym}
+use Rattle.std.proofs.Common.{ap, ◌∙◌, ⊎_elim, arith, if◌then◌else◌}
 use Rattle.std.proofs.lemmas.Bool.{cases_lt}
 use Rattle.std.proofs.lemmas.Bool.Decides.{leb_tells}
 use Rattle.std.proofs.Math.Nat.{pow-succ', le-max_left, le-max_right, max-le}
 use Rattle.search_core.specs.Classes.{IsLeastExponent}
 use Rattle.determinize_core.specs.States.{StateValue}
 use Rattle.determinize_core.specs.StateBytes.{encoded}
-use Rattle.lazy_dfa.specs.Accounting.{Measures, power_from, longest_state, state_cost, states_cost, fresh_usage, usage, least_capacity, effective_capacity}
+use Rattle.lazy_dfa.specs.Accounting.{Measures, power_from, longest_state, state_cost, states_cost, fresh_usage, usage, least_capacity}
+use Rattle.lazy_dfa.specs.Accounting.{effective_capacity}
 
 -- ---- powers of two
 

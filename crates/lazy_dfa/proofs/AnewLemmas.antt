@@ -10,11 +10,13 @@ use Rattle.lazy_dfa.specs.Scans.{unless_split, passes, first_place, scan}
 use Rattle.lazy_dfa.specs.ScanLaws.{begins_at, shorter}
 use Rattle.lazy_dfa.proofs.ScanLemmas.{scan_unanchored}
 
-pub next_forward : (is_reverse : Bool) (s e : ℕ) → is_reverse ≡ false → first_place is_reverse (s + 1) e ≡ place_of is_reverse (first_place is_reverse s e) 1
+pub next_forward : (is_reverse : Bool) (s e : ℕ) → is_reverse ≡ false →
+    first_place is_reverse (s + 1) e ≡ place_of is_reverse (first_place is_reverse s e) 1
 next_forward false s e is = refl
 next_forward true s e is = let never : true ≡ false = is in absurd (grind (arith, never))
 
-pub next_reverse : (is_reverse : Bool) (s e : ℕ) → is_reverse ≡ true → first_place is_reverse s (e - 1) ≡ place_of is_reverse (first_place is_reverse s e) 1
+pub next_reverse : (is_reverse : Bool) (s e : ℕ) → is_reverse ≡ true →
+    first_place is_reverse s (e - 1) ≡ place_of is_reverse (first_place is_reverse s e) 1
 next_reverse true s e is = refl
 next_reverse false s e is = let never : false ≡ true = is in absurd (grind (arith, never))
 

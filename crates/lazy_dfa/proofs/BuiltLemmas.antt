@@ -1,5 +1,7 @@
 -- That what is built of a sound NFA keeps to IsDfa.
-use Rattle.std.proofs.Common.{◌≡◌, ℕ, zero, suc, ◌+◌, ◌-◌, ◌<◌, ◌≤◌, Bool, true, false, ◌&&◌, not, ◌⊎◌, nat_lt, max, List, length, get_or, map, take, Option, Some, None, Ok, Err, if◌then◌else◌, replicate, inl, inr, refl, sym, ap, ◌∙◌, subst, ⊎_elim, arith}
+use Rattle.std.proofs.Common.{◌≡◌, ℕ, zero, suc, ◌+◌, ◌-◌, ◌<◌, ◌≤◌, Bool, true, false, ◌&&◌, not, ◌⊎◌, nat_lt, max, List, length, get_or}
+use Rattle.std.proofs.Common.{map, take, Option, Some, None, Ok, Err, if◌then◌else◌, replicate, inl, inr, refl, sym, ap, ◌∙◌, subst, ⊎_elim}
+use Rattle.std.proofs.Common.{arith}
 use Rattle.std.proofs.lemmas.Bool.{cases_Bool, cases_lt, lt-ltb}
 use Rattle.std.proofs.lemmas.List.{length-take, length-replicate}
 use Rattle.std.proofs.lemmas.List.FromFn.{get_or-map-range_with_len, fill_by_all}
@@ -50,14 +52,16 @@ unfolding marks_of
 length-marks_of t nodes = length-recorded (replicate 256 false) (flat_map (told_by t) nodes) ∙ length-replicate 256 false
 
 same_set : (zeros set : List Bool) (rs : List (ℕ × ℕ)) (b c : ℕ) → IsUnmarked zeros → length zeros ≡ 256 → b < 256 → c < 256 →
-    marks_below (recorded (recorded zeros rs) (ranges_from set 0)) b ≡ marks_below (recorded (recorded zeros rs) (ranges_from set 0)) c → has set b ≡ has set c
+    marks_below (recorded (recorded zeros rs) (ranges_from set 0)) b ≡ marks_below (recorded (recorded zeros rs) (ranges_from set 0)) c →
+        has set b ≡ has set c
 same_set zeros set rs b c none len small little e = ⊎_elim
     (λ (up : b < c). same_class_same_set set zeros rs b c none len (omega (arith, up)) little e)
     (λ (is_reverse : c ≤ b). sym (same_class_same_set set zeros rs c b none len is_reverse small (sym e)))
     (cases_lt b c)
 
 same_quits : (t : Terminator) (nodes : List Node) (set : List Bool) (b c : ℕ) → b < 256 → c < 256 →
-    marks_below (recorded (marks_of t nodes) (ranges_from set 0)) b ≡ marks_below (recorded (marks_of t nodes) (ranges_from set 0)) c → has set b ≡ has set c
+    marks_below (recorded (marks_of t nodes) (ranges_from set 0)) b ≡ marks_below (recorded (marks_of t nodes) (ranges_from set 0)) c →
+        has set b ≡ has set c
 unfolding marks_of
 same_quits t nodes set b c small little e =
     same_set (replicate 256 false) set (flat_map (told_by t) nodes) b c (all_unmarked 256) (length-replicate 256 false) small little e
@@ -71,7 +75,8 @@ pub class_there : (n : Nfa) (o : Options) (b : ℕ) → b < 256 → get_or (clas
 unfolding classes_of
 class_there n o b l = at_range (class_in n o) 256 b l
 
-one_rises : (t : Bool) (m : List Bool) (b : ℕ) → b ≤ 255 → length m ≡ 256 → (if t then marks_below m b else b) ≤ (if t then marks_below m 255 else 255)
+one_rises : (t : Bool) (m : List Bool) (b : ℕ) → b ≤ 255 → length m ≡ 256 →
+    (if t then marks_below m b else b) ≤ (if t then marks_below m 255 else 255)
 one_rises true m b l len = let rise = marks_rise m b (255 - b) 255 (omega (arith, l)) (omega (arith, len)) in rise
 one_rises false m b l len = l
 
@@ -79,7 +84,8 @@ one_few : (t : Bool) (m : List Bool) (b : ℕ) → (if t then marks_below m b el
 one_few true m b = marks_few m b
 one_few false m b = omega arith
 
-one_class : (t : Bool) (m : List Bool) (b c : ℕ) → (if t then marks_below m b else b) ≡ (if t then marks_below m c else c) → (marks_below m b ≡ marks_below m c) ⊎ (b ≡ c)
+one_class : (t : Bool) (m : List Bool) (b c : ℕ) → (if t then marks_below m b else b) ≡ (if t then marks_below m c else c) →
+    (marks_below m b ≡ marks_below m c) ⊎ (b ≡ c)
 one_class true m b c e = inl e
 one_class false m b c e = inr e
 
@@ -88,7 +94,8 @@ module _ (n : Nfa) (o : Options) where
   marks = recorded (marks_of n.terminator n.automaton.states) (ranges_from (quits_of n o) 0)
 
   length-marks : length marks ≡ 256
-  length-marks = length-recorded (marks_of n.terminator n.automaton.states) (ranges_from (quits_of n o) 0) ∙ length-marks_of n.terminator n.automaton.states
+  length-marks = length-recorded (marks_of n.terminator n.automaton.states) (ranges_from (quits_of n o) 0)
+      ∙ length-marks_of n.terminator n.automaton.states
 
   class_rises : (b : ℕ) → b < 256 → get_or (classes_of n o) b 0 ≤ get_or (classes_of n o) 255 0
   class_rises b l =
@@ -109,7 +116,8 @@ module _ (n : Nfa) (o : Options) where
   pub is_narrow : stride_of (classes_of n o) ≤ 512
   is_narrow = power_small 9 1 (alphabet_size (classes_of n o)) 512 (omega arith)
 
-  alike_bytes : (b c : ℕ) → IsSound n.automaton → b < 256 → c < 256 → (marks_below marks b ≡ marks_below marks c) ⊎ (b ≡ c) → Alike (dfa_of n o) (Some b) (Some c)
+  alike_bytes : (b c : ℕ) → IsSound n.automaton → b < 256 → c < 256 → (marks_below marks b ≡ marks_below marks c) ⊎ (b ≡ c) →
+      Alike (dfa_of n o) (Some b) (Some c)
   unfolding Alike after
   alike_bytes b c sound small little (inl e) = (
     same_quits n.terminator n.automaton.states (quits_of n o) b c small little e,
@@ -137,7 +145,8 @@ module _ (n : Nfa) (o : Options) where
   unfolding Alike after
   alike_ends = (refl, λ s stepped. refl)
 
-  alike : IsSound n.automaton → (u w : Option ℕ) → IsUnit u → IsUnit w → class_of (classes_of n o) u ≡ class_of (classes_of n o) w → Alike (dfa_of n o) u w
+  alike : IsSound n.automaton → (u w : Option ℕ) → IsUnit u → IsUnit w → class_of (classes_of n o) u ≡ class_of (classes_of n o) w →
+      Alike (dfa_of n o) u w
   alike sound None None l k e = alike_ends
   alike sound None (Some c) l k e = let rise = class_rises c k in absurd (omega (arith, rise, e))
   alike sound (Some b) None l k e = let rise = class_rises b l in absurd (omega (arith, rise, e))
@@ -153,7 +162,8 @@ room_for false least given e = ⊎_elim
     (λ (most : least ≤ given). most)
     (cases_lt given least)
 
-pub is_dfa : (n : Nfa) (o : Options) → IsSound n.automaton → is_unsupported n.automaton (word_boundary_of o) (by_hand o) ≡ false → is_too_small n o ≡ false → IsDfa (dfa_of n o)
+pub is_dfa : (n : Nfa) (o : Options) → IsSound n.automaton → is_unsupported n.automaton (word_boundary_of o) (by_hand o) ≡ false →
+    is_too_small n o ≡ false → IsDfa (dfa_of n o)
 is_dfa n o sound fine large = record {
   sound = sound;
   quit = refl;
@@ -177,37 +187,45 @@ made_dfa n o cs qs m cap = record { nfa = n; options = o; classes = cs; quits = 
 by_range : (f : ℕ → ℕ) (n : ℕ) (xs : List ℕ) → length xs ≡ n → ((k : ℕ) → k < n → get_or xs k 0 ≡ f k) → xs ≡ map f (range_with_len 0 n)
 by_range f n xs len h = fill_by_all f xs n 0 len h
 
-pub plain_classes : (n : Nfa) (o : Options) (cs : List ℕ) → length cs ≡ 256 → ((b : ℕ) → b < 256 → get_or cs b 0 ≡ b) → classes_on o ≡ false → cs ≡ classes_of n o
+pub plain_classes : (n : Nfa) (o : Options) (cs : List ℕ) → length cs ≡ 256 → ((b : ℕ) → b < 256 → get_or cs b 0 ≡ b) →
+    classes_on o ≡ false → cs ≡ classes_of n o
 unfolding classes_of
 plain_classes n o cs len own off =
     by_range (class_in n o) 256 cs len (λ b l. own b l ∙ sym (ap (λ (t : Bool). if t then marks_below (marks n o) b else b) off))
 
-pub marked_classes : (n : Nfa) (o : Options) (cs : List ℕ) (m : List Bool) → length cs ≡ 256 → ((b : ℕ) → b < 256 → get_or cs b 0 ≡ marks_below m b) →
+pub marked_classes : (n : Nfa) (o : Options) (cs : List ℕ) (m : List Bool) → length cs ≡ 256 →
+    ((b : ℕ) → b < 256 → get_or cs b 0 ≡ marks_below m b) →
     m ≡ recorded (marks_of n.terminator n.automaton.states) (ranges_from (quits_of n o) 0) → classes_on o ≡ true → cs ≡ classes_of n o
 unfolding classes_of
 marked_classes n o cs m len numbered is on =
     by_range (class_in n o) 256 cs len (λ b l. numbered b l
     ∙ (ap (λ (w : List Bool). marks_below w b) is ∙ sym (ap (λ (t : Bool). if t then marks_below (marks n o) b else b) on)))
 
-pub measures_are : (n : Nfa) (o : Options) (states patterns stride starts : ℕ) → states ≡ length n.automaton.states → patterns ≡ length n.automaton.start_pattern →
+pub measures_are : (n : Nfa) (o : Options) (states patterns stride starts : ℕ) → states ≡ length n.automaton.states →
+    patterns ≡ length n.automaton.start_pattern →
     stride ≡ stride_of (classes_of n o) → starts ≡ start_count (starts_each_of o) (length n.automaton.start_pattern) →
     made_measures states patterns stride starts ≡ measures_with n o
 measures_are n o states patterns stride starts p q r s = λ i. made_measures (p i) (q i) (r i) (s i)
 
-pub dfa_is : (n : Nfa) (o : Options) (cs : List ℕ) (qs : List Bool) (m : Measures) (cap : ℕ) → cs ≡ classes_of n o → qs ≡ quits_of n o → m ≡ measures_with n o →
+pub dfa_is : (n : Nfa) (o : Options) (cs : List ℕ) (qs : List Bool) (m : Measures) (cap : ℕ) → cs ≡ classes_of n o → qs ≡ quits_of n o →
+    m ≡ measures_with n o →
     cap ≡ effective_capacity (measures_with n o) (skips_check o) (capacity_of o) → made_dfa n o cs qs m cap ≡ dfa_of n o
 dfa_is n o cs qs m cap p q r s = λ i. made_dfa n o (p i) (q i) (r i) (s i)
 
 pub made_is_dfa : (n : Nfa) (o : Options) (cs : List ℕ) (qs : List Bool) (m : Measures) (cap : ℕ) → made_dfa n o cs qs m cap ≡ dfa_of n o →
-    IsSound n.automaton → is_unsupported n.automaton (word_boundary_of o) (by_hand o) ≡ false → is_too_small n o ≡ false → IsDfa (made_dfa n o cs qs m cap)
+    IsSound n.automaton → is_unsupported n.automaton (word_boundary_of o) (by_hand o) ≡ false → is_too_small n o ≡ false →
+        IsDfa (made_dfa n o cs qs m cap)
 made_is_dfa n o cs qs m cap e sound fine large = subst IsDfa (sym e) (is_dfa n o sound fine large)
 
-pub built_dfa : (n : Nfa) (o : Options) (d : Dfa) → is_unsupported n.automaton (word_boundary_of o) (by_hand o) ≡ false → is_too_small n o ≡ false →
+pub built_dfa : (n : Nfa) (o : Options) (d : Dfa) → is_unsupported n.automaton (word_boundary_of o) (by_hand o) ≡ false →
+    is_too_small n o ≡ false →
     d ≡ dfa_of n o → Ok d ≡ built n o
 built_dfa n o d e f is =
     ap (λ (x : Dfa). Ok x) is
-    ∙ sym (ap (λ (t : Bool). if t then Err Unsupported else if is_too_small n o then Err (InsufficientCacheCapacity (least_capacity (measures_with n o)) (capacity_of o)) else Ok (dfa_of n o)) e
-    ∙ ap (λ (t : Bool). if t then Err (InsufficientCacheCapacity (least_capacity (measures_with n o)) (capacity_of o)) else Ok (dfa_of n o)) f)
+    ∙ sym (ap (λ (t : Bool). if t then Err Unsupported else if is_too_small n o
+        then Err (InsufficientCacheCapacity (least_capacity (measures_with n o)) (capacity_of o)) else Ok (dfa_of n o)) e
+    ∙ ap (λ (t : Bool). if t then Err (InsufficientCacheCapacity (least_capacity (measures_with n o)) (capacity_of o))
+        else Ok (dfa_of n o)) f)
 
 -- what the test of the code says of the capacity
 pub too_small_is : (n : Nfa) (o : Options) (skips : Bool) (given least : ℕ) (t : Bool) → skips ≡ skips_check o → given ≡ capacity_of o →

@@ -1,5 +1,7 @@
 -- What calls change of a cache: nothing, a state more, a step more, or all but two states.
-use Rattle.std.proofs.Common.{◌≡◌, ◌≢◌, ℕ, ◌+◌, ◌%◌, ◌/◌, ◌-◌, ◌<◌, ◌≤◌, Bool, true, false, ◌⊎◌, List, [], ◌∷◌, ◌*◌, length, get_or, set, replicate, refl, sym, ap, ◌∙◌, subst, inl, inr, ⊎_elim, arith, true≢false, Option, Some, None, get_or-set_same, get_or-set_other}
+use Rattle.std.proofs.Common.{◌≡◌, ◌≢◌, ℕ, ◌+◌, ◌%◌, ◌/◌, ◌-◌, ◌<◌, ◌≤◌, Bool, true, false, ◌⊎◌, List, [], ◌∷◌, ◌*◌, length, get_or, set}
+use Rattle.std.proofs.Common.{replicate, refl, sym, ap, ◌∙◌, subst, inl, inr, ⊎_elim, arith, true≢false, Option, Some, None}
+use Rattle.std.proofs.Common.{get_or-set_same, get_or-set_other}
 use Rattle.std.proofs.lemmas.Bool.{cases_lt, cases_eq, cases_Bool}
 use Rattle.std.proofs.lemmas.Bool.Decides.{leb_tells}
 use Rattle.std.specs.Prelude.{nat_le, not, ◌&&◌, is_none}
@@ -13,18 +15,22 @@ use Rattle.lazy_dfa.specs.ConfigValue.{clears_of, bytes_of}
 use Rattle.lazy_dfa.specs.Readers.{is_quit}
 use Rattle.lazy_dfa.specs.Dfas.{Dfa, IsDfa, IsUnit, after, class_of, is_dead, cost}
 use Rattle.lazy_dfa.specs.Ids.{tag, unknown_id, is_sentinel, tagged, has_tag, start_tag}
-use Rattle.lazy_dfa.specs.Caches.{CacheValue, IsShaped, IsCacheOf, Leads, Names, names_dead, names_held, HeldAt, IsRow, same, place_of, state_at, id_at, cell_at, with_state, cleared, usage, fits, Fits, is_refused, lacks_room}
-use Rattle.lazy_dfa.specs.Steps.{IsHeld, StepsTo, Added, Grew, WasCleared, ClearedFrom, kept_alone, MadeRoom, AddsOrClears, KeepsOrClears, noted, IsKnown, IsNoted, GivesUp, IsCause, IsStepCause}
+use Rattle.lazy_dfa.specs.Caches.{CacheValue, IsShaped, IsCacheOf, Leads, Names, names_dead, names_held, HeldAt, IsRow, same, place_of}
+use Rattle.lazy_dfa.specs.Caches.{state_at, id_at, cell_at, with_state, cleared, usage, fits, Fits, is_refused, lacks_room}
+use Rattle.lazy_dfa.specs.Steps.{IsHeld, StepsTo, Added, Grew, WasCleared, ClearedFrom, kept_alone, MadeRoom, AddsOrClears, KeepsOrClears}
+use Rattle.lazy_dfa.specs.Steps.{noted, IsKnown, IsNoted, GivesUp, IsCause, IsStepCause}
 use Rattle.lazy_dfa.specs.declared.cache_error.CacheError.{CacheError}
 use Rattle.lazy_dfa.specs.declared.cache_error.CacheError.TheVariants.{GaveUp, NoMemory}
 use Rattle.lazy_dfa.proofs.ListLemmas.{one_longer}
 use Rattle.lazy_dfa.proofs.CacheLemmas.{IsShaped-cleared}
-use Rattle.lazy_dfa.proofs.IsCacheLemmas.{names_added, names_cells, place_inside, untagged, row_place, row_is_plain, same_row, row_of_held, row_quotient, le_of, lt_of}
+use Rattle.lazy_dfa.proofs.IsCacheLemmas.{names_added, names_cells, place_inside, untagged, row_place, row_is_plain, same_row, row_of_held}
+use Rattle.lazy_dfa.proofs.IsCacheLemmas.{row_quotient, le_of, lt_of}
 
 -- ---- a state more
 
 pub added_refl : (v : CacheValue) → IsShaped v → Added v v
-added_refl v i = record { shape = i; stride = refl; names = λ id s n. n; cells = λ id c r l. refl; starts = λ j n. refl; clears = refl; searched = refl; progress = refl }
+added_refl v i = record { shape = i; stride = refl; names = λ id s n. n; cells = λ id c r l. refl; starts = λ j n. refl; clears = refl;
+    searched = refl; progress = refl }
 
 pub added_state : (v : CacheValue) (b : Bool) (s : StateValue) → IsShaped v → Added v (with_state b s v)
 added_state v b s i = record {
@@ -32,7 +38,8 @@ added_state v b s i = record {
   stride = refl;
   names = λ id t n. names_added v b s id t i n;
   cells = λ id c r l.
-      let inside : id % tag + c < length v.cells = subst (λ (n : ℕ). n % tag + c < length v.cells) (sym r.2) (place_inside v i r.0 r.1 c l) in
+      let inside : id % tag + c < length v.cells = subst (λ (n : ℕ). n % tag + c < length v.cells) (sym r.2)
+          (place_inside v i r.0 r.1 c l) in
       get_or-append v.cells (replicate v.stride unknown_id) 0 (id % tag + c) inside;
   starts = λ j n. refl;
   clears = refl;
@@ -41,32 +48,38 @@ added_state v b s i = record {
 }
 
 pub cleared_few : (v w : CacheValue) → w ≡ cleared v → WasCleared v w 1
-cleared_few v w e = subst (λ (x : CacheValue). WasCleared v x 1) (sym e) (record { clears = refl; searched = refl; progress = refl; few = omega arith })
+cleared_few v w e = subst (λ (x : CacheValue). WasCleared v x 1) (sym e) (record { clears = refl; searched = refl; progress = refl;
+    few = omega arith })
 
 pub cleared_one : (v w : CacheValue) (b : Bool) (s : StateValue) → w ≡ with_state b s (cleared v) → WasCleared v w 1
-cleared_one v w b s e = subst (λ (x : CacheValue). WasCleared v x 1) (sym e) (record { clears = refl; searched = refl; progress = refl; few = omega arith })
+cleared_one v w b s e = subst (λ (x : CacheValue). WasCleared v x 1) (sym e) (record { clears = refl; searched = refl; progress = refl;
+    few = omega arith })
 
 -- a clear that was refused by memory
 pub room_refused : (v w : CacheValue) → (w ≡ v) ⊎ (w ≡ cleared v) → MadeRoom v w
 room_refused v w e = ⊎_elim (λ (f : w ≡ v). inl f) (λ (f : w ≡ cleared v). inr (cleared_few v w f)) e
 
 -- and one of a state behind the room that was made
-pub adds_after : (v mid new : CacheValue) (b : Bool) (s : StateValue) → IsShaped v → MadeRoom v mid → new ≡ with_state b s mid → AddsOrClears v new
+pub adds_after : (v mid new : CacheValue) (b : Bool) (s : StateValue) → IsShaped v → MadeRoom v mid → new ≡ with_state b s mid →
+    AddsOrClears v new
 adds_after v mid new b s i room e = ⊎_elim
     (λ (f : mid ≡ v). inl (subst (Added v) (sym (e ∙ ap (with_state b s) f)) (added_state v b s i)))
     (λ (f : WasCleared v mid 1).
     let long = one_longer mid.states s in
-    inr (subst (λ (x : CacheValue). WasCleared v x 2) (sym e) (record { clears = f.clears; searched = f.searched; progress = f.progress; few = omega (arith, long, f.few) })))
+    inr (subst (λ (x : CacheValue). WasCleared v x 2) (sym e) (record { clears = f.clears; searched = f.searched; progress = f.progress;
+        few = omega (arith, long, f.few) })))
     room
 
 pub adds_nothing : (v mid new : CacheValue) → IsShaped v → MadeRoom v mid → new ≡ mid → AddsOrClears v new
 adds_nothing v mid new i room e = ⊎_elim
     (λ (f : mid ≡ v). inl (subst (Added v) (sym (e ∙ f)) (added_refl v i)))
-    (λ (f : WasCleared v mid 1). inr (subst (λ (x : CacheValue). WasCleared v x 2) (sym e) (record { clears = f.clears; searched = f.searched; progress = f.progress; few = omega (arith, f.few) })))
+    (λ (f : WasCleared v mid 1). inr (subst (λ (x : CacheValue). WasCleared v x 2) (sym e) (record { clears = f.clears;
+        searched = f.searched; progress = f.progress; few = omega (arith, f.few) })))
     room
 
 -- the state of a row is kept, and another one added
-pub made_after : (v mid new : CacheValue) (k : ℕ) (s : StateValue) → IsShaped v → (mid ≡ v) ⊎ (mid ≡ kept_alone v k) → new ≡ with_state false s mid →
+pub made_after : (v mid new : CacheValue) (k : ℕ) (s : StateValue) → IsShaped v → (mid ≡ v) ⊎ (mid ≡ kept_alone v k) →
+    new ≡ with_state false s mid →
     Added v new ⊎ (new ≡ with_state false s (kept_alone v k))
 made_after v mid new k s i made e = ⊎_elim
     (λ (f : mid ≡ v). inl (subst (Added v) (sym (e ∙ ap (with_state false s) f)) (added_state v false s i)))
@@ -74,7 +87,8 @@ made_after v mid new k s i made e = ⊎_elim
     made
 
 -- an ID of a row stays one where it names what it named
-pub row_kept : (v w : CacheValue) → IsShaped v → ((id : ℕ) (s : StateValue) → Names v id s → Names w id s) → (id : ℕ) → IsRow v id → IsRow w id
+pub row_kept : (v w : CacheValue) → IsShaped v → ((id : ℕ) (s : StateValue) → Names v id s → Names w id s) → (id : ℕ) → IsRow v id →
+    IsRow w id
 row_kept v w i names id r = row_of (state_at v r.0) (names id (state_at v r.0) (names_held (r.0, r.1, r.2, refl)))
   where
     low : id < 0x2000_0000
@@ -131,7 +145,8 @@ one_id v i j s shape g h = g.2 ∙ (ap (id_at v) (same_at g.0 h.0 g.1 h.1 (sym g
     same_at : (j k : ℕ) → j < length v.states → k < length v.states → state_at v j ≡ state_at v k → j ≡ k
     same_at j k l m e = ⊎_elim
         (λ (f : j ≡ k). f)
-        (λ (n : j ≢ k). ⊎_elim (λ (f : j < k). absurd (clash j k f m e)) (λ (f : k ≤ j). absurd (clash k j (omega (arith, f, n)) l (sym e))) (cases_lt j k))
+        (λ (n : j ≢ k). ⊎_elim (λ (f : j < k). absurd (clash j k f m e)) (λ (f : k ≤ j). absurd (clash k j (omega (arith, f, n)) l (sym e)))
+            (cases_lt j k))
         (cases_eq j k)
 
 -- an ID that names a state in a row before
@@ -141,7 +156,8 @@ held_of d v id s i low (names_held h) = h
 
 -- ---- a step more
 
-module _ (d : Dfa) (v mid new : CacheValue) (id from c k to : ℕ) (u : Option ℕ) (made : IsDfa d) (own : IsCacheOf d v) (mine : IsCacheOf d mid)
+module _ (d : Dfa) (v mid new : CacheValue) (id from c k to : ℕ) (u : Option ℕ) (made : IsDfa d) (own : IsCacheOf d v)
+    (mine : IsCacheOf d mid)
     (unit : IsUnit u) (class : c ≡ class_of d.classes u) (inside : k < length v.states) (row : id ≡ id_at v k)
     (from_held : HeldAt mid from (state_at v k)) (e : new ≡ record mid { cells = set mid.cells (from % tag + c) to }) where
   abbrev cells : List ℕ
@@ -153,18 +169,23 @@ module _ (d : Dfa) (v mid new : CacheValue) (id from c k to : ℕ) (u : Option �
   same_name : Added v mid → id ≡ from
   same_name a =
       let low = row_is_plain v id k own.shape inside row in
-      one_id mid id from (state_at v k) mine.shape (held_of d mid id (state_at v k) mine.shape low (a.names id (state_at v k) (names_held (k, inside, row, refl)))) from_held
+      one_id mid id from (state_at v k) mine.shape (held_of d mid id (state_at v k) mine.shape low
+          (a.names id (state_at v k) (names_held (k, inside, row, refl)))) from_held
 
   known_on : Added v mid → noted d v id u ≡ unknown_id → (i : ℕ) (w : Option ℕ) → IsRow v i → IsUnit w → noted d v i w ≢ unknown_id →
       get_or cells (i % tag + class_of d.classes w) 0 ≡ noted d v i w
   known_on a unknown i w r unitw n = ⊎_elim
       (λ (f : i % tag + class_of d.classes w ≡ from % tag + c).
-      let here : noted d v i w ≡ get_or mid.cells (i % tag + class_of d.classes w) 0 = sym (a.cells i (class_of d.classes w) r (column d v made own w unitw)) in
+      let here : noted d v i w ≡ get_or mid.cells (i % tag + class_of d.classes w) 0 =
+          sym (a.cells i (class_of d.classes w) r (column d v made own w unitw)) in
       let there : get_or mid.cells (from % tag + c) 0 ≡ get_or v.cells (id % tag + c) 0 =
-      ap (λ (m : ℕ). get_or mid.cells (m % tag + c) 0) (sym (same_name a)) ∙ a.cells id c (k, inside, row) (rw class (column d v made own u unit)) in
-      absurd (n (here ∙ (ap (λ (m : ℕ). get_or mid.cells m 0) f ∙ (there ∙ (ap (λ (m : ℕ). get_or v.cells (id % tag + m) 0) class ∙ unknown))))))
+      ap (λ (m : ℕ). get_or mid.cells (m % tag + c) 0) (sym (same_name a))
+          ∙ a.cells id c (k, inside, row) (rw class (column d v made own u unit)) in
+      absurd (n (here ∙ (ap (λ (m : ℕ). get_or mid.cells m 0) f ∙ (there
+          ∙ (ap (λ (m : ℕ). get_or v.cells (id % tag + m) 0) class ∙ unknown))))))
       (λ (n : i % tag + class_of d.classes w ≢ from % tag + c).
-      get_or-set_other mid.cells (from % tag + c) (i % tag + class_of d.classes w) to 0 n ∙ a.cells i (class_of d.classes w) r (column d v made own w unitw))
+      get_or-set_other mid.cells (from % tag + c) (i % tag + class_of d.classes w) to 0 n
+          ∙ a.cells i (class_of d.classes w) r (column d v made own w unitw))
       (cases_eq (i % tag + class_of d.classes w) (from % tag + c))
 
   pub grew_cell : noted d v id u ≡ unknown_id → Added v mid → Grew d v new
@@ -181,11 +202,13 @@ module _ (d : Dfa) (v mid new : CacheValue) (id from c k to : ℕ) (u : Option �
   pub grew_set : noted d v id u ≡ unknown_id → AddsOrClears v mid → KeepsOrClears d v new
   grew_set unknown changes = ⊎_elim
       (λ (a : Added v mid). inl (grew_cell unknown a))
-      (λ (x : WasCleared v mid 2). inr (subst (λ (w : CacheValue). WasCleared v w 2) (sym e) (record { clears = x.clears; searched = x.searched; progress = x.progress; few = x.few })))
+      (λ (x : WasCleared v mid 2). inr (subst (λ (w : CacheValue). WasCleared v w 2) (sym e) (record { clears = x.clears;
+          searched = x.searched; progress = x.progress; few = x.few })))
       changes
 
   -- after a clear the state stepped from and the one stepped to are left
-  pub remains_set : (s : StateValue) → noted d v id u ≡ unknown_id → s ≡ after d (state_at v k) u → Added v mid ⊎ (mid ≡ with_state false s (kept_alone v k)) →
+  pub remains_set : (s : StateValue) → noted d v id u ≡ unknown_id → s ≡ after d (state_at v k) u → Added v mid ⊎
+      (mid ≡ with_state false s (kept_alone v k)) →
       Grew d v new ⊎ ClearedFrom d v new id u
   remains_set s unknown value changes = ⊎_elim
       (λ (a : Added v mid). inl (grew_cell unknown a))
@@ -198,7 +221,8 @@ module _ (d : Dfa) (v mid new : CacheValue) (id from c k to : ℕ) (u : Option �
       one : (t : StateValue) → HeldAt v id t → state_at v k ≡ t
       one t h = ap (state_at v) (same_row v k h.0 own.shape inside h.1 (sym row ∙ h.2)) ∙ sym h.3
 
-      there : ClearedFrom d v (record (with_state false s (kept_alone v k)) { cells = set (with_state false s (kept_alone v k)).cells (from % tag + c) to }) id u
+      there : ClearedFrom d v (record (with_state false s (kept_alone v k)) { cells =
+          set (with_state false s (kept_alone v k)).cells (from % tag + c) to }) id u
       there = record {
         cleared = record { clears = refl; searched = refl; progress = refl; few = omega arith };
         from = λ t h.
@@ -211,7 +235,8 @@ module _ (d : Dfa) (v mid new : CacheValue) (id from c k to : ℕ) (u : Option �
       }
 
       left : mid ≡ with_state false s (kept_alone v k) → ClearedFrom d v new id u
-      left f = subst (λ (w : CacheValue). ClearedFrom d v w id u) (sym (e ∙ ap (λ (m : CacheValue). record m { cells = set m.cells (from % tag + c) to }) f)) there
+      left f = subst (λ (w : CacheValue). ClearedFrom d v w id u) (sym (e
+          ∙ ap (λ (m : CacheValue). record m { cells = set m.cells (from % tag + c) to }) f)) there
 
   pub set_is_noted : IsNoted d v new id u to
   set_is_noted = subst (λ (w : CacheValue). IsNoted d v w id u to) (sym e) there
@@ -224,7 +249,8 @@ module _ (d : Dfa) (v mid new : CacheValue) (id from c k to : ℕ) (u : Option �
           ∙ (ap (λ (m : ℕ). get_or cells (from % tag + m) 0) (sym class) ∙ get_or-set_same mid.cells (from % tag + c) to 0 fits_row)
 
 pub same_grew : (d : Dfa) (v : CacheValue) → Grew d v v
-same_grew d v = record { names = λ id s n. n; rows = λ id r. r; known = λ id u r unit n. refl; starts = λ i n. refl; clears = refl; searched = refl; progress = refl }
+same_grew d v = record { names = λ id s n. n; rows = λ id r. r; known = λ id u r unit n. refl; starts = λ i n. refl; clears = refl;
+    searched = refl; progress = refl }
 
 pub grew_refl : (d : Dfa) (v : CacheValue) → KeepsOrClears d v v
 grew_refl d v = inl (same_grew d v)
@@ -298,7 +324,8 @@ module _ (d : Dfa) (v : CacheValue) (s : StateValue) where
   pub lacks_not_allowed : is_refused (clears_of d.options) (bytes_of d.options) v ≡ false → lacks_room d v s ≡ false
   lacks_not_allowed e = no_refusal dead_one new_one fitting refused e
 
-  pub lacks_all : is_dead s ≡ false → place_of s v.states ≡ None → fits d.capacity s v ≡ false → is_refused (clears_of d.options) (bytes_of d.options) v ≡ true → lacks_room d v s ≡ true
+  pub lacks_all : is_dead s ≡ false → place_of s v.states ≡ None → fits d.capacity s v ≡ false →
+      is_refused (clears_of d.options) (bytes_of d.options) v ≡ true → lacks_room d v s ≡ true
   lacks_all a b c e = all_refuse dead_one new_one fitting refused a (ap is_none b) c e
 
   pub fits_is : fits d.capacity s v ≡ true → Fits d.capacity s v
@@ -324,7 +351,8 @@ module _ (d : Dfa) (v mid : CacheValue) (id k : ℕ) (u : Option ℕ) (s : State
           no_quit = no_quit;
           lacks = λ t h.
               let one : state_at v k ≡ t = ap (state_at v) (same_row v k h.0 shape inside h.1 (sym row ∙ h.2)) ∙ sym h.3 in
-              ap (λ (x : StateValue). lacks_room d v (after d x u)) (sym one) ∙ (ap (lacks_room d v) (sym value) ∙ (ap (λ (w : CacheValue). lacks_room d w s) (sym same_cache) ∙ g.1));
+              ap (λ (x : StateValue). lacks_room d v (after d x u)) (sym one)
+                  ∙ (ap (lacks_room d v) (sym value) ∙ (ap (λ (w : CacheValue). lacks_room d w s) (sym same_cache) ∙ g.1));
         },
       ))
       cause
@@ -342,7 +370,8 @@ known_sentinel id e f = true≢false (sym e ∙ f)
 pub no_row : (v : CacheValue) (id : ℕ) → IsShaped v → is_sentinel id ≡ true → IsRow v id → ⊥
 no_row v id i e x = let l = row_is_plain v id x.0 i x.1 x.2 in let g = le_of 0x2000_0000 id e in omega (arith, l, g)
 
-module _ (d : Dfa) (v : CacheValue) (id c cell : ℕ) (u : Option ℕ) (made : IsDfa d) (own : IsCacheOf d v) (unit : IsUnit u) (class : c ≡ class_of d.classes u)
+module _ (d : Dfa) (v : CacheValue) (id c cell : ℕ) (u : Option ℕ) (made : IsDfa d) (own : IsCacheOf d v) (unit : IsUnit u)
+    (class : c ≡ class_of d.classes u)
     (read : cell ≡ get_or v.cells (id % tag + c) 0) where
   pub noted_read : cell ≡ noted d v id u
   noted_read = read ∙ ap (λ (m : ℕ). get_or v.cells (id % tag + m) 0) class
@@ -358,9 +387,11 @@ module _ (d : Dfa) (v : CacheValue) (id c cell : ℕ) (u : Option ℕ) (made : I
   known_cell e f = let l = lt_of unknown_id cell e in let g = noted_read in omega (arith, l, f, g)
 
 -- what a step answers is held
-pub held_from : (d : Dfa) (v w : CacheValue) (id to : ℕ) (u : Option ℕ) → IsHeld v id → (is_sentinel id ≡ true → (to ≡ id) × (w ≡ v)) → StepsTo d v w id u to → IsHeld w to
+pub held_from : (d : Dfa) (v w : CacheValue) (id to : ℕ) (u : Option ℕ) → IsHeld v id → (is_sentinel id ≡ true → (to ≡ id) × (w ≡ v)) →
+    StepsTo d v w id u to → IsHeld w to
 held_from d v w id to u held loops steps = ⊎_elim
-    (λ (e : is_sentinel id ≡ true). subst (λ (n : ℕ). IsHeld w n) (sym (loops e).0) (subst (λ (x : CacheValue). IsHeld x id) (sym (loops e).1) held))
+    (λ (e : is_sentinel id ≡ true). subst (λ (n : ℕ). IsHeld w n) (sym (loops e).0)
+        (subst (λ (x : CacheValue). IsHeld x id) (sym (loops e).1) held))
     (λ (e : is_sentinel id ≡ false).
     let x = row_of_held v id held e in
     led (state_at v x.0) (steps (state_at v x.0) (x.0, x.1, x.2, refl)))
@@ -385,22 +416,26 @@ answer_of (Ok to) = to
 answer_of (Err e) = 0
 
 -- the same by what a step ensures
-pub step_held : (d : Dfa) (v w : CacheValue) (id to : ℕ) (u : Option ℕ) → IsHeld v id → (is_sentinel id ≡ true → answered to ≡ answered id) →
+pub step_held : (d : Dfa) (v w : CacheValue) (id to : ℕ) (u : Option ℕ) → IsHeld v id →
+    (is_sentinel id ≡ true → answered to ≡ answered id) →
     (IsKnown d v id u → w ≡ v) → StepsTo d v w id u to → IsHeld w to
 step_held d v w id to u held loops unchanged steps =
     held_from d v w id to u held (λ s. (ap (λ (r : Result ℕ CacheError). answer_of r) (loops s), unchanged (inl s))) steps
 
 -- what is read at an untagged ID
-pub plain_place : (d : Dfa) (v : CacheValue) (id c b : ℕ) → IsDfa d → IsCacheOf d v → b < 256 → c ≡ class_of d.classes (Some b) → id < tag → IsRow v id → id + c < length v.cells
+pub plain_place : (d : Dfa) (v : CacheValue) (id c b : ℕ) → IsDfa d → IsCacheOf d v → b < 256 → c ≡ class_of d.classes (Some b) → id < tag →
+    IsRow v id → id + c < length v.cells
 plain_place d v id c b made own small class low x =
     subst (λ (n : ℕ). n + c < length v.cells) (mod-eq_of_lt low) (row_place d v id c (Some b) made own small class x)
 
-pub plain_noted : (d : Dfa) (v : CacheValue) (id c b cell : ℕ) → c ≡ class_of d.classes (Some b) → id < tag → cell ≡ get_or v.cells (id + c) 0 → cell ≡ noted d v id (Some b)
+pub plain_noted : (d : Dfa) (v : CacheValue) (id c b cell : ℕ) → c ≡ class_of d.classes (Some b) → id < tag →
+    cell ≡ get_or v.cells (id + c) 0 → cell ≡ noted d v id (Some b)
 plain_noted d v id c b cell class low read =
     read ∙ (ap (λ (n : ℕ). get_or v.cells (n + c) 0) (sym (mod-eq_of_lt low)) ∙ ap (λ (n : ℕ). get_or v.cells (id % tag + n) 0) class)
 
 -- the state of an ID is that of its row
-pub one_state : (v : CacheValue) (id k : ℕ) (s : StateValue) → IsShaped v → k < length v.states → id ≡ id_at v k → HeldAt v id s → state_at v k ≡ s
+pub one_state : (v : CacheValue) (id k : ℕ) (s : StateValue) → IsShaped v → k < length v.states → id ≡ id_at v k → HeldAt v id s →
+    state_at v k ≡ s
 one_state v id k s i l e h = ap (state_at v) (same_row v k h.0 i l h.1 (sym e ∙ h.2)) ∙ sym h.3
 
 -- where a row is sought by the place of an ID

@@ -1,5 +1,6 @@
 -- The course of a pass through some units and then more, and through one unit over a cache.
-use Rattle.std.proofs.Common.{◌≡◌, ℕ, zero, suc, ◌+◌, ◌-◌, ◌<◌, ◌≤◌, true, false, List, [], ◌∷◌, Option, refl, sym, ap, ◌∙◌, ⊎_elim, arith, true≢false}
+use Rattle.std.proofs.Common.{◌≡◌, ℕ, zero, suc, ◌+◌, ◌-◌, ◌<◌, ◌≤◌, true, false, List, [], ◌∷◌, Option, refl, sym, ap, ◌∙◌, ⊎_elim, arith}
+use Rattle.std.proofs.Common.{true≢false}
 use Rattle.std.proofs.lemmas.Bool.{cases_lt, cases_Bool}
 use Rattle.nfa_core.specs.Ways.{place_of}
 use Rattle.determinize_core.specs.States.{StateValue, dead}
@@ -37,12 +38,14 @@ module _ (r : Reader) (h : List ℕ) (i j k : ℕ) (there : j ≡ place_of r.aut
         ∙ (ap (λ (x : ℕ). next_value r h x (state_behind r h i s (k + l))) (place_there l)
         ∙ ap (state_behind r h i s) (one_more l))
 
-    pub best_there : (best : Option (ℕ × ℕ)) (l : ℕ) → best_behind r h j behind (best_behind r h i s best k) l ≡ best_behind r h i s best (k + l)
+    pub best_there : (best : Option (ℕ × ℕ)) (l : ℕ) → best_behind r h j behind (best_behind r h i s best k) l ≡ best_behind r h i s best
+        (k + l)
     best_there best zero = let e : k ≡ k + 0 = omega arith in ap (best_behind r h i s best) e
     best_there best (suc l) =
         let was = best_behind r h j behind (best_behind r h i s best k) l in
         ap (λ (x : ℕ). recorded x (state_behind r h j behind (suc l)) was) (place_there l)
-        ∙ (ap (λ (t : StateValue). recorded (place_of r.automaton.reverse i (k + l)) t was) (state_there (suc l) ∙ sym (ap (state_behind r h i s) (one_more l)))
+        ∙ (ap (λ (t : StateValue). recorded (place_of r.automaton.reverse i (k + l)) t was) (state_there (suc l)
+            ∙ sym (ap (state_behind r h i s) (one_more l)))
         ∙ (ap (recorded (place_of r.automaton.reverse i (k + l)) (state_behind r h i s (suc (k + l)))) (best_there best l)
         ∙ ap (best_behind r h i s best) (one_more l)))
 
@@ -60,7 +63,8 @@ module _ (r : Reader) (h : List ℕ) (i j k : ℕ) (there : j ≡ place_of r.aut
 
 -- ---- one unit
 
-step_from : (d : Dfa) (h : List ℕ) (at : ℕ) (s : StateValue) → next_value (reader d) h at s ≡ after d s (unit_at d.nfa.automaton.reverse h at)
+step_from : (d : Dfa) (h : List ℕ) (at : ℕ) (s : StateValue) → next_value (reader d) h at s ≡ after d s
+    (unit_at d.nfa.automaton.reverse h at)
 unfolding next_value after
 step_from d h at s = refl
 

@@ -1,5 +1,6 @@
 -- What half searches find: what their passes find, at the first place where they begin at which the end counts.
-use Rattle.std.proofs.Common.{◌≡◌, ℕ, zero, suc, ◌+◌, ◌-◌, ◌<◌, ◌≤◌, Bool, true, false, List, length, Option, Some, None, refl, sym, ap, ◌∙◌, inl, inr, ⊎_elim, subst, arith, if◌then◌else◌}
+use Rattle.std.proofs.Common.{◌≡◌, ℕ, zero, suc, ◌+◌, ◌-◌, ◌<◌, ◌≤◌, Bool, true, false, List, length, Option, Some, None, refl, sym, ap}
+use Rattle.std.proofs.Common.{◌∙◌, inl, inr, ⊎_elim, subst, arith, if◌then◌else◌}
 use Rattle.std.proofs.lemmas.Bool.{cases_Bool}
 use Rattle.std.specs.List.{list_any}
 use Rattle.look_core.specs.declared.look.Look.{Look}
@@ -17,7 +18,8 @@ use Rattle.lazy_dfa.specs.Readers.{Reader, HalfAnswer, found}
 use Rattle.lazy_dfa.specs.Passes.{next_place, start_name, pass}
 use Rattle.lazy_dfa.specs.Scans.{unless_split, passes, first_place, scan}
 use Rattle.lazy_dfa.specs.PassLaws.{pass_len, splits, pass_of}
-use Rattle.lazy_dfa.specs.ScanLaws.{IsWanted, begins_at, ends_of, restarts, IsSplitBy, IsFoundBy, IsFound, ends_by, IsFirstFound, Splits, passes_len, scan_len, ReadsAlike}
+use Rattle.lazy_dfa.specs.ScanLaws.{IsWanted, begins_at, ends_of, restarts, IsSplitBy, IsFoundBy, IsFound, ends_by, IsFirstFound, Splits}
+use Rattle.lazy_dfa.specs.ScanLaws.{passes_len, scan_len, ReadsAlike}
 use Rattle.lazy_dfa.proofs.TurnLemmas.{one_found, place_later}
 use Rattle.lazy_dfa.proofs.RestartLemmas.{whole_stays, split_goes, later_first, later_next}
 use Rattle.lazy_dfa.proofs.ScanLemmas.{pass_finds, passes_are, scan_anchored, scan_unanchored, split_found}

@@ -1,5 +1,6 @@
 -- How far a half search came when it found a match or none.
-use Rattle.std.proofs.Common.{◌≡◌, ℕ, zero, suc, ◌+◌, ◌-◌, ◌<◌, ◌≤◌, Bool, true, false, List, [], ◌∷◌, length, Option, Some, None, sym, ap, ◌∙◌, ⊎_elim, subst, arith}
+use Rattle.std.proofs.Common.{◌≡◌, ℕ, zero, suc, ◌+◌, ◌-◌, ◌<◌, ◌≤◌, Bool, true, false, List, [], ◌∷◌, length, Option, Some, None, sym, ap}
+use Rattle.std.proofs.Common.{◌∙◌, ⊎_elim, subst, arith}
 use Rattle.std.specs.Prelude.{All, slice_get}
 use Rattle.std.proofs.lemmas.List.Elements.{All-head, All-tail}
 use Rattle.search_types.specs.declared.anchored.Anchored.{Anchored}
@@ -36,7 +37,8 @@ start_is_state a (Pattern p) name sound e = one_of (λ (x : ℕ). x < length a.s
 -- ---- places
 
 -- for one who reads forward
-pub reached_forward : (is_reverse : Bool) (s e n x : ℕ) → is_reverse ≡ false → s ≤ x + 1 → x < s + n → IsReached is_reverse (first_place is_reverse s e) n x
+pub reached_forward : (is_reverse : Bool) (s e n x : ℕ) → is_reverse ≡ false → s ≤ x + 1 → x < s + n →
+    IsReached is_reverse (first_place is_reverse s e) n x
 reached_forward false s e n x up from to = (from, to)
 reached_forward true s e n x up from to = let never : true ≡ false = up in absurd (grind (arith, never))
 
@@ -49,7 +51,8 @@ same_length false s e n up = omega arith
 same_length true s e n up = let never : true ≡ false = up in absurd (grind (arith, never))
 
 -- for one who reads in reverse
-reached_reverse : (is_reverse : Bool) (s e n x : ℕ) → is_reverse ≡ true → e - n ≤ x → x ≤ e → IsReached is_reverse (first_place is_reverse s e) n x
+reached_reverse : (is_reverse : Bool) (s e n x : ℕ) → is_reverse ≡ true → e - n ≤ x → x ≤ e →
+    IsReached is_reverse (first_place is_reverse s e) n x
 reached_reverse true s e n x back from to = (omega (arith, from), to)
 reached_reverse false s e n x back from to = let never : false ≡ true = back in absurd (grind (arith, never))
 
@@ -91,8 +94,10 @@ module _ (r : Reader) (q : Search) (o : Option (ℕ × ℕ)) (up : r.automaton.r
     local = λ g in_g same. same_elsewhere r q o within is g in_g
         (λ x there. same x (reach_is_near r q x there).0 (below_reach r.automaton.reverse q.start q.end len x up there.1));
     first = λ name holds begun leftmost late plain named alike.
-        scan_finds_first r q name sound.named fits within named (start_is_state r.automaton q.anchored name sound named) leftmost late plain holds
-        (subst (λ (n : ℕ). ReadsAlike r holds q.haystack q.start q.end (begins_at r q) n) (same_length r.automaton.reverse q.start q.end len up) alike) o is;
+        scan_finds_first r q name sound.named fits within named (start_is_state r.automaton q.anchored name sound named) leftmost late plain
+            holds
+        (subst (λ (n : ℕ). ReadsAlike r holds q.haystack q.start q.end (begins_at r q) n)
+            (same_length r.automaton.reverse q.start q.end len up) alike) o is;
   }
 
   reach_done : q.end < q.start → IsReachOf r q o 0
@@ -117,8 +122,10 @@ module _ (r : Reader) (q : Search) (o : Option (ℕ × ℕ)) (back : r.automaton
   back_begun fits = record {
     within = let few = scan_few r q in omega (arith, fits, few);
     done = λ over x from to. absurd (omega (arith, fits, over));
-    past = λ e same. above_reach r.automaton.reverse q.start q.end (scan_len r q) e.0 back (scan_place_is_reached r q e (is ∙ ap found same)).1;
-    quiet = λ x from to. scan_is_quiet r q o within is x (fits, reached_reverse r.automaton.reverse q.start q.end (scan_len r q) x back from to);
+    past = λ e same. above_reach r.automaton.reverse q.start q.end (scan_len r q) e.0 back
+        (scan_place_is_reached r q e (is ∙ ap found same)).1;
+    quiet = λ x from to. scan_is_quiet r q o within is x (fits, reached_reverse r.automaton.reverse q.start q.end
+        (scan_len r q) x back from to);
     local = λ g in_g same. same_elsewhere r q o within is g in_g
         (λ x there. same x (above_reach r.automaton.reverse q.start q.end (scan_len r q) x back there.1) (reach_is_near r q x there).1);
   }

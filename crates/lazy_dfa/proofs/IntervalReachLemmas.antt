@@ -38,7 +38,8 @@ reached_near : (is_reverse : Bool) (s e n x : ℕ) → s ≤ e → n ≤ suc (e 
 reached_near false s e n x fits few there = let to = there.1 in (there.0, omega (arith, fits, few, to))
 reached_near true s e n x fits few there = let from = there.0 in (omega (arith, fits, few, from), there.1)
 
-place_in_span : (is_reverse : Bool) (s e n k x : ℕ) → s ≤ e → n ≤ suc (e - s) → k < n → x ≡ place_of is_reverse (first_place is_reverse s e) k →
+place_in_span : (is_reverse : Bool) (s e n k x : ℕ) → s ≤ e → n ≤ suc (e - s) → k < n →
+    x ≡ place_of is_reverse (first_place is_reverse s e) k →
     (s ≤ x) × (x ≤ e)
 place_in_span false s e n k x fits few less is = (omega (arith, is), omega (arith, fits, few, less, is))
 place_in_span true s e n k x fits few less is = (omega (arith, fits, few, less, is), omega (arith, is))
@@ -79,6 +80,7 @@ module _ (r : Reader) (q : Search) where
   pub scan_in_span : (e : ℕ × ℕ) → scan r q ≡ found (Some e) → (q.start ≤ e.0) × (e.0 ≤ q.end)
   scan_in_span e is = ⊎_elim
       (λ (l : q.start ≤ q.end).
-      let read = scan_found_read r q l e is in place_in_span is_reverse q.start q.end (scan_len r q) read.0 e.0 l (scan_few r q) read.1 read.2)
+      let read = scan_found_read r q l e is in place_in_span is_reverse q.start q.end (scan_len r q) read.0 e.0 l
+          (scan_few r q) read.1 read.2)
       (λ (past : q.end < q.start). none_found e ((q.start ≤ e.0) × (e.0 ≤ q.end)) (sym (scan_done r q past) ∙ is))
       (le_or_done r q q.start q.end)

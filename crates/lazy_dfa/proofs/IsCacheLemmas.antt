@@ -1,5 +1,7 @@
 -- How a cache stays its automaton's.
-use Rattle.std.proofs.Common.{◌≡◌, ◌≢◌, ℕ, zero, suc, ◌+◌, ◌*◌, ◌%◌, ◌/◌, ◌<◌, ◌≤◌, Bool, true, false, ◌⊎◌, List, [], ◌∷◌, ◌++◌, length, get_or, set, replicate, refl, sym, ap, ◌∙◌, subst, inl, inr, ⊎_elim, arith, true≢false, Option, Some, None, length-set, get_or-set_same, get_or-set_other}
+use Rattle.std.proofs.Common.{◌≡◌, ◌≢◌, ℕ, zero, suc, ◌+◌, ◌*◌, ◌%◌, ◌/◌, ◌<◌, ◌≤◌, Bool, true, false, ◌⊎◌, List, [], ◌∷◌, ◌++◌, length}
+use Rattle.std.proofs.Common.{get_or, set, replicate, refl, sym, ap, ◌∙◌, subst, inl, inr, ⊎_elim, arith, true≢false, Option, Some, None}
+use Rattle.std.proofs.Common.{length-set, get_or-set_same, get_or-set_other}
 use Rattle.std.proofs.lemmas.Bool.{cases_lt, cases_eq, and_parts, not-true}
 use Rattle.std.proofs.lemmas.Slice.Eq.{bytes_eq-Decides}
 use Rattle.std.proofs.Math.Nat.{mul-le-mul_left, mul-div_cancel}
@@ -9,12 +11,14 @@ use Rattle.determinize_core.specs.States.{StateValue, dead, IsState}
 use Rattle.determinize_core.specs.StateBytes.{encoded, is_match}
 use Rattle.determinize_core.specs.Starts.{number_of}
 use Rattle.determinize_core.specs.declared.start.Start.{Start}
-use Rattle.determinize_core.specs.declared.start.Start.TheVariants.{NonWordByte, WordByte, Text, LineLF, LineCR, CustomLineTerminator, CustomWordLineTerminator}
+use Rattle.determinize_core.specs.declared.start.Start.TheVariants.{NonWordByte, WordByte, Text, LineLF, LineCR, CustomLineTerminator}
+use Rattle.determinize_core.specs.declared.start.Start.TheVariants.{CustomWordLineTerminator}
 use Rattle.lazy_dfa.specs.ConfigValue.{kind_of}
 use Rattle.lazy_dfa.specs.Readers.{is_quit}
 use Rattle.lazy_dfa.specs.Dfas.{Dfa, IsDfa, IsStateOf, IsUnit, Alike, after, first_state, start_in, class_of, is_dead, is_empty}
 use Rattle.lazy_dfa.specs.Ids.{tag, tagged, unknown_id, quit_id}
-use Rattle.lazy_dfa.specs.Caches.{CacheValue, IsShaped, IsCacheOf, Leads, Names, names_dead, names_held, HeldAt, IsRow, same, place_of, state_at, id_at, cell_at, slot, Begins, new_id, with_state, cleared, Fits}
+use Rattle.lazy_dfa.specs.Caches.{CacheValue, IsShaped, IsCacheOf, Leads, Names, names_dead, names_held, HeldAt, IsRow, same, place_of}
+use Rattle.lazy_dfa.specs.Caches.{state_at, id_at, cell_at, slot, Begins, new_id, with_state, cleared, Fits}
 use Rattle.lazy_dfa.proofs.ListLemmas.{found_at, one_longer, below_or_last, at_old, at_last}
 use Rattle.lazy_dfa.proofs.CacheLemmas.{IsShaped-added, IsShaped-cleared, states_cost-append, grown, place_in_none, place_in_one, fresh_at}
 use Rattle.std.proofs.lemmas.Bool.Decides.{leb_tells, Decides-eqb}
@@ -70,13 +74,15 @@ module _ (v : CacheValue) (i : IsShaped v) (k : ℕ) (l : k < length v.states) w
 
 -- ---- what IDs name
 
-pub held_added : (v : CacheValue) (b : Bool) (t : StateValue) (id : ℕ) (s : StateValue) → IsShaped v → HeldAt v id s → HeldAt (with_state b t v) id s
+pub held_added : (v : CacheValue) (b : Bool) (t : StateValue) (id : ℕ) (s : StateValue) → IsShaped v → HeldAt v id s →
+    HeldAt (with_state b t v) id s
 held_added v b t id s i h =
     let k = h.0 in
     let l : length (v.states ++ t ∷ []) ≡ length v.states + 1 = one_longer v.states t in
     (k, omega (arith, l, h.1), h.2 ∙ sym (at_old v.ids (new_id v b t) 0 k (rw i.named h.1)), h.3 ∙ sym (at_old v.states t dead k h.1))
 
-pub names_added : (v : CacheValue) (b : Bool) (t : StateValue) (id : ℕ) (s : StateValue) → IsShaped v → Names v id s → Names (with_state b t v) id s
+pub names_added : (v : CacheValue) (b : Bool) (t : StateValue) (id : ℕ) (s : StateValue) → IsShaped v → Names v id s →
+    Names (with_state b t v) id s
 names_added v b t id s i (names_dead e f) = names_dead e f
 names_added v b t id s i (names_held h) = names_held (held_added v b t id s i h)
 
@@ -88,15 +94,19 @@ names_cells v cells id s (names_held h) = names_held h
 pub new_held : (v : CacheValue) (b : Bool) (s : StateValue) → IsShaped v → HeldAt (with_state b s v) (new_id v b s) s
 new_held v b s i =
     let l : length (v.states ++ s ∷ []) ≡ length v.states + 1 = one_longer v.states s in
-    (length v.states, omega (arith, l), sym (at_last v.ids (new_id v b s) 0 (length v.states) (sym i.named)), sym (at_last v.states s dead (length v.states) refl))
+    (length v.states, omega (arith, l), sym (at_last v.ids (new_id v b s) 0 (length v.states) (sym i.named)),
+        sym (at_last v.states s dead (length v.states) refl))
 
-pub leads_added : (d : Dfa) (v : CacheValue) (b : Bool) (t s : StateValue) (u : Option ℕ) (id : ℕ) → IsShaped v → Leads d v s u id → Leads d (with_state b t v) s u id
+pub leads_added : (d : Dfa) (v : CacheValue) (b : Bool) (t s : StateValue) (u : Option ℕ) (id : ℕ) → IsShaped v → Leads d v s u id →
+    Leads d (with_state b t v) s u id
 leads_added d v b t s u id i x = record { quits = x.quits; goes = λ e. names_added v b t id (after d s u) i (x.goes e) }
 
-pub leads_cells : (d : Dfa) (v : CacheValue) (cells : List ℕ) (s : StateValue) (u : Option ℕ) (id : ℕ) → Leads d v s u id → Leads d (record v { cells = cells }) s u id
+pub leads_cells : (d : Dfa) (v : CacheValue) (cells : List ℕ) (s : StateValue) (u : Option ℕ) (id : ℕ) → Leads d v s u id →
+    Leads d (record v { cells = cells }) s u id
 leads_cells d v cells s u id x = record { quits = x.quits; goes = λ e. names_cells v cells id (after d s u) (x.goes e) }
 
-pub leads_alike : (d : Dfa) (v : CacheValue) (s : StateValue) (u w : Option ℕ) (id : ℕ) → IsStepped d.nfa.automaton s → Alike d u w → Leads d v s u id → Leads d v s w id
+pub leads_alike : (d : Dfa) (v : CacheValue) (s : StateValue) (u w : Option ℕ) (id : ℕ) → IsStepped d.nfa.automaton s → Alike d u w →
+    Leads d v s u id → Leads d v s w id
 unfolding Alike
 leads_alike d v s u w id looks a x = record {
   quits = λ e. x.quits (a.0 ∙ e);
@@ -105,13 +115,16 @@ leads_alike d v s u w id looks a x = record {
 
 -- ---- the whole
 
-blank : (v : CacheValue) (k c : ℕ) → IsShaped v → k ≡ length v.states → c < v.stride → get_or (v.cells ++ replicate v.stride unknown_id) ((k + 3) * v.stride + c) 0 ≡ unknown_id
+blank : (v : CacheValue) (k c : ℕ) → IsShaped v → k ≡ length v.states → c < v.stride →
+    get_or (v.cells ++ replicate v.stride unknown_id) ((k + 3) * v.stride + c) 0 ≡ unknown_id
 blank v k c i e l =
-    let place : (k + 3) * v.stride + c ≡ length v.cells + c = ap (λ (n : ℕ). (n + 3) * v.stride + c) e ∙ ap (λ (n : ℕ). n + c) (sym i.sized) in
+    let place : (k + 3) * v.stride + c ≡ length v.cells + c = ap (λ (n : ℕ). (n + 3) * v.stride + c) e
+        ∙ ap (λ (n : ℕ). n + c) (sym i.sized) in
     ap (λ (n : ℕ). get_or (v.cells ++ replicate v.stride unknown_id) n 0) place
     ∙ (get_or-append-add v.cells (replicate v.stride unknown_id) c 0 ∙ get_or-replicate v.stride c unknown_id 0 l)
 
-pub is_cache_added : (d : Dfa) (v : CacheValue) (b : Bool) (s : StateValue) → IsDfa d → IsCacheOf d v → IsState s → place_of s v.states ≡ None → Fits d.capacity s v →
+pub is_cache_added : (d : Dfa) (v : CacheValue) (b : Bool) (s : StateValue) → IsDfa d → IsCacheOf d v → IsState s →
+    place_of s v.states ≡ None → Fits d.capacity s v →
     s ≢ dead → IsStateOf d s → IsCacheOf d (with_state b s v)
 is_cache_added d v b s made own real fresh fits alive is =
     let n = length v.states in
@@ -138,12 +151,14 @@ is_cache_added d v b s made own real fresh fits alive is =
           let low : c < v.stride = rw own.stride (made.classed u unit) in
           let read : get_or (v.cells ++ replicate v.stride unknown_id) ((k + 3) * v.stride + c) 0 ≡ cell_at v k c =
           get_or-append v.cells (replicate v.stride unknown_id) 0 ((k + 3) * v.stride + c) (cell_inside v own.shape k o c low) in
-          rw (read, at_old v.states s dead k o) (leads_added d v b s (state_at v k) u (cell_at v k c) own.shape (own.steps k u o unit (λ z. known (read ∙ z)))))
+          rw (read, at_old v.states s dead k o) (leads_added d v b s (state_at v k) u (cell_at v k c) own.shape
+              (own.steps k u o unit (λ z. known (read ∙ z)))))
           (λ (e : k ≡ n).
           let low : class_of d.classes u < v.stride = rw own.stride (made.classed u unit) in
           absurd (known (blank v k (class_of d.classes u) own.shape e low)))
           (below_or_last k n (rw long at l));
-      starts = λ m t l known q e. names_added v b s (get_or v.starts (slot m t) 0) (first_state d t q) own.shape (own.starts m t l known q e);
+      starts = λ m t l known q e. names_added v b s (get_or v.starts (slot m t) 0) (first_state d t q) own.shape
+          (own.starts m t l known q e);
     }
 
 pub is_cache_cleared : (d : Dfa) (v : CacheValue) → IsCacheOf d v → IsCacheOf d (cleared v)
@@ -162,9 +177,11 @@ is_cache_cleared d v own = record {
 }
 
 shape_cells : (v : CacheValue) (cells : List ℕ) → length cells ≡ length v.cells → IsShaped v → IsShaped (record v { cells = cells })
-shape_cells v cells e i = record { positive = i.positive; narrow = i.narrow; sized = e ∙ i.sized; small = rw e i.small; named = i.named; tags = i.tags; real = i.real; apart = i.apart }
+shape_cells v cells e i = record { positive = i.positive; narrow = i.narrow; sized = e ∙ i.sized; small = rw e i.small; named = i.named;
+    tags = i.tags; real = i.real; apart = i.apart }
 
-pub is_cache_set : (d : Dfa) (v : CacheValue) (k to : ℕ) (u : Option ℕ) → IsDfa d → IsCacheOf d v → k < length v.states → IsUnit u → Leads d v (state_at v k) u to →
+pub is_cache_set : (d : Dfa) (v : CacheValue) (k to : ℕ) (u : Option ℕ) → IsDfa d → IsCacheOf d v → k < length v.states → IsUnit u →
+    Leads d v (state_at v k) u to →
     IsCacheOf d (record v { cells = set v.cells (id_at v k % tag + class_of d.classes u) to })
 is_cache_set d v k to u made own l unit there =
     let i = own.shape in
@@ -189,12 +206,15 @@ is_cache_set d v k to u made own l unit there =
           ⊎_elim
           (λ (is : (j + 3) * v.stride + e ≡ at).
           let both = same_place v.stride j e k c lower low (is ∙ place) in
-          let read : get_or cells ((j + 3) * v.stride + e) 0 ≡ to = ap (λ (n : ℕ). get_or cells n 0) is ∙ get_or-set_same v.cells at to 0 (place_inside v i k l c low) in
+          let read : get_or cells ((j + 3) * v.stride + e) 0 ≡ to = ap (λ (n : ℕ). get_or cells n 0) is
+              ∙ get_or-set_same v.cells at to 0 (place_inside v i k l c low) in
           let led = leads_alike d v (state_at v k) u w to (own.states k l).stepped (made.alike u w unit unit2 (sym both.1)) there in
           subst (λ (x : ℕ). Leads d (record v { cells = cells }) (state_at v j) w x) (sym read)
-          (subst (λ (n : ℕ). Leads d (record v { cells = cells }) (state_at v n) w to) (sym both.0) (leads_cells d v cells (state_at v k) w to led)))
+          (subst (λ (n : ℕ). Leads d (record v { cells = cells }) (state_at v n) w to) (sym both.0)
+              (leads_cells d v cells (state_at v k) w to led)))
           (λ (ne : (j + 3) * v.stride + e ≢ at).
-          let read : get_or cells ((j + 3) * v.stride + e) 0 ≡ cell_at v j e = get_or-set_other v.cells at ((j + 3) * v.stride + e) to 0 ne in
+          let read : get_or cells ((j + 3) * v.stride + e) 0 ≡ cell_at v j e =
+              get_or-set_other v.cells at ((j + 3) * v.stride + e) to 0 ne in
           subst (λ (x : ℕ). Leads d (record v { cells = cells }) (state_at v j) w x) (sym read)
           (leads_cells d v cells (state_at v j) w (cell_at v j e) (own.steps j w below unit2 (λ z. known (read ∙ z)))))
           (cases_eq ((j + 3) * v.stride + e) at);
@@ -231,9 +251,11 @@ same_slot m n s t e =
     (modes, sym (numbered_back s).0 ∙ (ap numbered numbers ∙ (numbered_back t).0))
 
 shape_starts : (v : CacheValue) (starts : List ℕ) → IsShaped v → IsShaped (record v { starts = starts })
-shape_starts v starts i = record { positive = i.positive; narrow = i.narrow; sized = i.sized; small = i.small; named = i.named; tags = i.tags; real = i.real; apart = i.apart }
+shape_starts v starts i = record { positive = i.positive; narrow = i.narrow; sized = i.sized; small = i.small; named = i.named;
+    tags = i.tags; real = i.real; apart = i.apart }
 
-pub is_cache_started : (d : Dfa) (v : CacheValue) (m : ℕ) (s : Start) (to : ℕ) → IsCacheOf d v → slot m s < length v.starts → Begins d v m s to →
+pub is_cache_started : (d : Dfa) (v : CacheValue) (m : ℕ) (s : Start) (to : ℕ) → IsCacheOf d v → slot m s < length v.starts →
+    Begins d v m s to →
     IsCacheOf d (record v { starts = set v.starts (slot m s) to })
 is_cache_started d v m s to own inside there =
     let starts = set v.starts (slot m s) to in
@@ -251,10 +273,12 @@ is_cache_started d v m s to own inside there =
       starts = λ n t l known q e. ⊎_elim
           (λ (is : slot n t ≡ slot m s).
           let both = same_slot n m t s is in
-          let read : get_or starts (slot n t) 0 ≡ to = ap (λ (i : ℕ). get_or starts i 0) is ∙ get_or-set_same v.starts (slot m s) to 0 inside in
+          let read : get_or starts (slot n t) 0 ≡ to = ap (λ (i : ℕ). get_or starts i 0) is
+              ∙ get_or-set_same v.starts (slot m s) to 0 inside in
           let f : start_in d m ≡ Some q = ap (start_in d) (sym both.0) ∙ e in
           subst (λ (x : ℕ). Names (record v { starts = starts }) x (first_state d t q)) (sym read)
-          (subst (λ (x : Start). Names (record v { starts = starts }) to (first_state d x q)) (sym both.1) (names_cells v starts to (first_state d s q) (there q f))))
+          (subst (λ (x : Start). Names (record v { starts = starts }) to (first_state d x q)) (sym both.1)
+              (names_cells v starts to (first_state d s q) (there q f))))
           (λ (ne : slot n t ≢ slot m s).
           let read : get_or starts (slot n t) 0 ≡ get_or v.starts (slot n t) 0 = get_or-set_other v.starts (slot m s) (slot n t) to 0 ne in
           subst (λ (x : ℕ). Names (record v { starts = starts }) x (first_state d t q)) (sym read)
@@ -269,7 +293,8 @@ none_of : (xs : List ℕ) → is_empty xs ≡ true → xs ≡ []
 none_of [] e = refl
 none_of (x ∷ xs) e = absurd (true≢false (sym e))
 
-dead_parts : (v : StateValue) → v.ids ≡ [] → v.matches ≡ [] → v.look_have ≡ 0 → v.look_need ≡ 0 → v.is_from_word ≡ false → v.is_half_crlf ≡ false → v ≡ dead
+dead_parts : (v : StateValue) → v.ids ≡ [] → v.matches ≡ [] → v.look_have ≡ 0 → v.look_need ≡ 0 → v.is_from_word ≡ false →
+    v.is_half_crlf ≡ false → v ≡ dead
 dead_parts v a b c d e f =
     ap (λ (x : List ℕ). record v { ids = x }) a
     ∙ (ap (λ (x : List ℕ). record v { ids = []; matches = x }) b
@@ -280,17 +305,20 @@ dead_parts v a b c d e f =
 
 pub dead_of : (v : StateValue) → is_dead v ≡ true → v ≡ dead
 dead_of v e =
-    let a = and_parts (is_empty v.ids && is_empty v.matches && v.look_have == 0 && v.look_need == 0 && not v.is_from_word) (not v.is_half_crlf) e in
+    let a = and_parts (is_empty v.ids && is_empty v.matches && v.look_have == 0 && v.look_need == 0
+        && not v.is_from_word) (not v.is_half_crlf) e in
     let b = and_parts (is_empty v.ids && is_empty v.matches && v.look_have == 0 && v.look_need == 0) (not v.is_from_word) a.0 in
     let c = and_parts (is_empty v.ids && is_empty v.matches && v.look_have == 0) (v.look_need == 0) b.0 in
     let d = and_parts (is_empty v.ids && is_empty v.matches) (v.look_have == 0) c.0 in
     let f = and_parts (is_empty v.ids) (is_empty v.matches) d.0 in
-    dead_parts v (none_of v.ids f.0) (none_of v.matches f.1) ((Decides-eqb v.look_have 0).0 d.1) ((Decides-eqb v.look_need 0).0 c.1) (not-true v.is_from_word b.1) (not-true v.is_half_crlf a.1)
+    dead_parts v (none_of v.ids f.0) (none_of v.matches f.1) ((Decides-eqb v.look_have 0).0 d.1) ((Decides-eqb v.look_need 0).0 c.1)
+        (not-true v.is_from_word b.1) (not-true v.is_half_crlf a.1)
 
 pub alive_of : (v : StateValue) → is_dead v ≡ false → v ≢ dead
 alive_of v e f = true≢false (ap is_dead (sym f) ∙ e)
 
-module _ (v : CacheValue) (s : StateValue) (i : IsShaped v) (real : IsState s) (tells : (v w : StateValue) → IsState v → IsState w → encoded v ≡ encoded w → v ≡ w) where
+module _ (v : CacheValue) (s : StateValue) (i : IsShaped v) (real : IsState s) (tells : (v w : StateValue) → IsState v → IsState w →
+    encoded v ≡ encoded w → v ≡ w) where
   found_held : (k : ℕ) → place_of s v.states ≡ Some k → (k < length v.states) × HeldAt v (id_at v k) s
   unfolding place_of
   found_held k e =
@@ -321,7 +349,8 @@ module _ (d : Dfa) (v : CacheValue) (k : ℕ) (made : IsDfa d) (own : IsCacheOf 
       (omega (arith, made.enough, short, own.stride, own.fresh), omega (arith, few, own.shape.narrow))
 
   pub is_cache_kept : (b : Bool) → IsCacheOf d (with_state b x (cleared v))
-  is_cache_kept b = is_cache_added d (cleared v) b x made (is_cache_cleared d v own) (own.shape.real k l) (place_in_none x [] refl) fits_alone (own.lives k l) (own.states k l)
+  is_cache_kept b = is_cache_added d (cleared v) b x made (is_cache_cleared d v own) (own.shape.real k l)
+      (place_in_none x [] refl) fits_alone (own.lives k l) (own.states k l)
 
   pub kept_held : (b : Bool) → HeldAt (with_state b x (cleared v)) (new_id (cleared v) b x) x
   kept_held b = new_held (cleared v) b x (IsShaped-cleared v (cleared v).clears own.shape)
@@ -337,7 +366,8 @@ module _ (d : Dfa) (v : CacheValue) (k : ℕ) (made : IsDfa d) (own : IsCacheOf 
   fresh_beside b s none = place_in_one s x (fresh_at s v.states k none l)
 
   pub is_cache_refused : (w : CacheValue) → (w ≡ v) ⊎ (w ≡ cleared v) → IsCacheOf d w
-  is_cache_refused w e = ⊎_elim (λ (f : w ≡ v). subst (IsCacheOf d) (sym f) own) (λ (f : w ≡ cleared v). subst (IsCacheOf d) (sym f) (is_cache_cleared d v own)) e
+  is_cache_refused w e = ⊎_elim (λ (f : w ≡ v). subst (IsCacheOf d) (sym f) own)
+      (λ (f : w ≡ cleared v). subst (IsCacheOf d) (sym f) (is_cache_cleared d v own)) e
 
 -- ---- steps
 
@@ -345,14 +375,16 @@ pub after_of : (d : Dfa) (a : Automaton) (t : Terminator) (kind : MatchKind) (s 
     a ≡ d.nfa.automaton → t ≡ d.nfa.terminator → kind ≡ kind_of d.options → r ≡ step_value a t kind s u → r ≡ after d s u
 unfolding after
 after_of d a t kind s u r e f g h =
-    h ∙ (ap (λ (x : Automaton). step_value x t kind s u) e ∙ (ap (λ (x : Terminator). step_value d.nfa.automaton x kind s u) f ∙ ap (λ (x : MatchKind). step_value d.nfa.automaton d.nfa.terminator x s u) g))
+    h ∙ (ap (λ (x : Automaton). step_value x t kind s u) e ∙ (ap (λ (x : Terminator). step_value d.nfa.automaton x kind s u) f
+        ∙ ap (λ (x : MatchKind). step_value d.nfa.automaton d.nfa.terminator x s u) g))
 
 as_long : (d : Dfa) → IsDfa d → widest d.nfa.automaton ≡ longest_state d.measures
 as_long d made = ap (λ (m : Measures). longest_state m) (sym made.measured)
 
 -- what starts and steps come to is the automaton's
 is_state : (d : Dfa) (s : StateValue) → IsDfa d → IsStepped d.nfa.automaton s → IsStateOf d s
-is_state d s made i = record { stepped = i; short = subst (λ (n : ℕ). length (encoded s) ≤ n) (as_long d made) (stepped_short d.nfa.automaton s i) }
+is_state d s made i = record { stepped = i; short = subst (λ (n : ℕ). length (encoded s) ≤ n) (as_long d made)
+    (stepped_short d.nfa.automaton s i) }
 
 after_below : (d : Dfa) (s : StateValue) (u : Option ℕ) → IsDfa d → IsStateOf d (after d s u)
 unfolding after
@@ -395,7 +427,8 @@ same_row v j k i l m e =
     let p : (j + 3) * v.stride ≡ (k + 3) * v.stride = sym (untagged v i j l) ∙ (ap (λ (n : ℕ). n % tag) e ∙ untagged v i k m) in
     (same_place v.stride j 0 k 0 i.positive i.positive (omega (arith, p))).0
 
-module _ (d : Dfa) (v : CacheValue) (id c : ℕ) (u : Option ℕ) (made : IsDfa d) (own : IsCacheOf d v) (unit : IsUnit u) (class : c ≡ class_of d.classes u) where
+module _ (d : Dfa) (v : CacheValue) (id c : ℕ) (u : Option ℕ) (made : IsDfa d) (own : IsCacheOf d v) (unit : IsUnit u)
+    (class : c ≡ class_of d.classes u) where
   low : c < v.stride
   low = rw (class, own.stride) (made.classed u unit)
 
@@ -409,27 +442,34 @@ module _ (d : Dfa) (v : CacheValue) (id c : ℕ) (u : Option ℕ) (made : IsDfa 
       let led = own.steps h.0 u h.1 unit (λ z. let l = lt_of unknown_id cell known in absurd (omega (arith, l, read, z))) in
       subst (λ (t : StateValue). Leads d v t u cell) (sym h.3) (subst (Leads d v (state_at v h.0) u) (sym read) led)
 
-  pub is_cache_stepped : (s : StateValue) (to : ℕ) (w : CacheValue) → HeldAt v id s → Leads d v s u to → w ≡ record v { cells = set v.cells (id % tag + c) to } → IsCacheOf d w
+  pub is_cache_stepped : (s : StateValue) (to : ℕ) (w : CacheValue) → HeldAt v id s → Leads d v s u to →
+      w ≡ record v { cells = set v.cells (id % tag + c) to } → IsCacheOf d w
   is_cache_stepped s to w h there e =
       let led = subst (λ (t : StateValue). Leads d v t u to) h.3 there in
       let set_at = is_cache_set d v h.0 to u made own h.1 unit led in
-      let same_at : id_at v h.0 % tag + class_of d.classes u ≡ id % tag + c = ap (λ (n : ℕ). n % tag + class_of d.classes u) (sym h.2) ∙ ap (λ (n : ℕ). id % tag + n) (sym class) in
+      let same_at : id_at v h.0 % tag + class_of d.classes u ≡ id % tag + c =
+          ap (λ (n : ℕ). n % tag + class_of d.classes u) (sym h.2) ∙ ap (λ (n : ℕ). id % tag + n) (sym class) in
       subst (IsCacheOf d) (sym e) (subst (λ (n : ℕ). IsCacheOf d (record v { cells = set v.cells n to })) same_at set_at)
 
-  pub leads_stepped : (s : StateValue) (to : ℕ) (w : CacheValue) → Leads d v s u to → w ≡ record v { cells = set v.cells (id % tag + c) to } → Leads d w s u to
-  leads_stepped s to w there e = subst (λ (x : CacheValue). Leads d x s u to) (sym e) (leads_cells d v (set v.cells (id % tag + c) to) s u to there)
+  pub leads_stepped : (s : StateValue) (to : ℕ) (w : CacheValue) → Leads d v s u to →
+      w ≡ record v { cells = set v.cells (id % tag + c) to } → Leads d w s u to
+  leads_stepped s to w there e = subst (λ (x : CacheValue). Leads d x s u to) (sym e)
+      (leads_cells d v (set v.cells (id % tag + c) to) s u to there)
 
-pub leads_to : (d : Dfa) (v : CacheValue) (s t : StateValue) (u : Option ℕ) (to : ℕ) → is_quit d.quits u ≡ false → t ≡ after d s u → Names v to t → Leads d v s u to
+pub leads_to : (d : Dfa) (v : CacheValue) (s t : StateValue) (u : Option ℕ) (to : ℕ) → is_quit d.quits u ≡ false → t ≡ after d s u →
+    Names v to t → Leads d v s u to
 leads_to d v s t u to no_quit is n = record {
   quits = λ e. absurd (true≢false (sym e ∙ no_quit));
   goes = λ _. subst (Names v to) is n;
 }
 
-pub leads_quit : (d : Dfa) (v : CacheValue) (s : StateValue) (u : Option ℕ) (to : ℕ) → is_quit d.quits u ≡ true → to ≡ quit_id v.stride → Leads d v s u to
+pub leads_quit : (d : Dfa) (v : CacheValue) (s : StateValue) (u : Option ℕ) (to : ℕ) → is_quit d.quits u ≡ true → to ≡ quit_id v.stride →
+    Leads d v s u to
 leads_quit d v s u to quits e = record { quits = λ _. e; goes = λ f. absurd (true≢false (sym quits ∙ f)) }
 
 -- each state that an ID named is that of its row
-pub steps_of_row : (d : Dfa) (old new : CacheValue) (id k : ℕ) (u : Option ℕ) (to : ℕ) → IsShaped old → k < length old.states → id ≡ id_at old k →
+pub steps_of_row : (d : Dfa) (old new : CacheValue) (id k : ℕ) (u : Option ℕ) (to : ℕ) → IsShaped old → k < length old.states →
+    id ≡ id_at old k →
     Leads d new (state_at old k) u to → StepsTo d old new id u to
 steps_of_row d old new id k u to i l e led s h =
     let same = same_row old k h.0 i l h.1 (sym e ∙ h.2) in
@@ -442,18 +482,22 @@ fits_in_cleared d v s made own is =
     let few = (IsShaped-cleared v (cleared v).clears own.shape).sized in
     (omega (arith, made.enough, is.short, own.stride, own.fresh), omega (arith, few, own.shape.narrow))
 
-pub first_of : (d : Dfa) (a : Automaton) (t : Terminator) (s : Start) (q : ℕ) (r : StateValue) → a ≡ d.nfa.automaton → t ≡ d.nfa.terminator → r ≡ start_value a t s q → r ≡ first_state d s q
+pub first_of : (d : Dfa) (a : Automaton) (t : Terminator) (s : Start) (q : ℕ) (r : StateValue) → a ≡ d.nfa.automaton →
+    t ≡ d.nfa.terminator → r ≡ start_value a t s q → r ≡ first_state d s q
 unfolding first_state
-first_of d a t s q r e f h = h ∙ (ap (λ (x : Automaton). start_value x t s q) e ∙ ap (λ (x : Terminator). start_value d.nfa.automaton x s q) f)
+first_of d a t s q r e f h = h ∙ (ap (λ (x : Automaton). start_value x t s q) e
+    ∙ ap (λ (x : Terminator). start_value d.nfa.automaton x s q) f)
 
 first_below : (d : Dfa) (s : Start) (q : ℕ) → IsDfa d → q < length d.nfa.automaton.states → IsStateOf d (first_state d s q)
 unfolding first_state
 first_below d s q made l = is_state d (first_state d s q) made (start_stepped d.nfa.automaton d.nfa.terminator s q made.sound l)
 
-pub first_is : (d : Dfa) (s : Start) (q : ℕ) (r : StateValue) → IsDfa d → q < length d.nfa.automaton.states → r ≡ first_state d s q → IsStateOf d r
+pub first_is : (d : Dfa) (s : Start) (q : ℕ) (r : StateValue) → IsDfa d → q < length d.nfa.automaton.states → r ≡ first_state d s q →
+    IsStateOf d r
 first_is d s q r made l e = subst (IsStateOf d) (sym e) (first_below d s q made l)
 
-pub known_begins : (d : Dfa) (v : CacheValue) (m i q id : ℕ) (s : Start) → IsCacheOf d v → i ≡ slot m s → slot m s < length v.starts → start_in d m ≡ Some q →
+pub known_begins : (d : Dfa) (v : CacheValue) (m i q id : ℕ) (s : Start) → IsCacheOf d v → i ≡ slot m s → slot m s < length v.starts →
+    start_in d m ≡ Some q →
     id ≡ get_or v.starts i 0 → nat_le unknown_id id ≡ false → Names v id (first_state d s q)
 known_begins d v m i q id s own at inside named e known =
     let read : id ≡ get_or v.starts (slot m s) 0 = e ∙ ap (λ (n : ℕ). get_or v.starts n 0) at in
@@ -465,7 +509,9 @@ module _ (d : Dfa) (v w : CacheValue) (m i q to : ℕ) (s : Start) (state : Stat
   pub started : IsCacheOf d v → slot m s < length v.starts → start_in d m ≡ Some q → IsCacheOf d w
   started own inside named =
       let there : Begins d v m s to = λ p f. subst (Names v to) (is ∙ ap (first_state d s) (some_same q p (sym named ∙ f))) names in
-      subst (IsCacheOf d) (sym (e ∙ ap (λ (n : ℕ). record v { starts = set v.starts n to }) at)) (is_cache_started d v m s to own inside there)
+      subst (IsCacheOf d) (sym (e ∙ ap (λ (n : ℕ). record v { starts = set v.starts n to }) at))
+          (is_cache_started d v m s to own inside there)
 
   pub names_started : Names w to (first_state d s q)
-  names_started = subst (λ (x : CacheValue). Names x to (first_state d s q)) (sym e) (names_cells v (set v.starts i to) to (first_state d s q) (subst (Names v to) is names))
+  names_started = subst (λ (x : CacheValue). Names x to (first_state d s q)) (sym e)
+      (names_cells v (set v.starts i to) to (first_state d s q) (subst (Names v to) is names))

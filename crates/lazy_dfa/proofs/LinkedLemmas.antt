@@ -1,5 +1,6 @@
 -- What calls leave of known paths: a cache that only grows keeps them, and one in which only searches came further is the same.
-use Rattle.std.proofs.Common.{◌≡◌, ◌≢◌, ◌⊎◌, ℕ, zero, suc, ◌+◌, ◌-◌, ◌*◌, ◌%◌, ◌<◌, ◌≤◌, Bool, true, false, List, length, Option, if◌then◌else◌, get_or, refl, sym, ap, ◌∙◌, subst, inl, inr, ⊎_elim, arith, true≢false}
+use Rattle.std.proofs.Common.{◌≡◌, ◌≢◌, ◌⊎◌, ℕ, zero, suc, ◌+◌, ◌-◌, ◌*◌, ◌%◌, ◌<◌, ◌≤◌, Bool, true, false, List, length, Option}
+use Rattle.std.proofs.Common.{if◌then◌else◌, get_or, refl, sym, ap, ◌∙◌, subst, inl, inr, ⊎_elim, arith, true≢false}
 use Rattle.std.specs.Prelude.{min}
 use Rattle.std.proofs.lemmas.Bool.{cases_lt, cases_Bool}
 use Rattle.std.proofs.lemmas.Option.{slice_get-get_or, slice_get_past}
@@ -15,7 +16,8 @@ use Rattle.lazy_dfa.specs.Caches.{CacheValue, IsShaped, IsCacheOf, IsRow, Names,
 use Rattle.lazy_dfa.specs.declared.progress.Progress.{Progress}
 use Rattle.lazy_dfa.specs.Dfas.{Dfa, IsDfa, IsUnit, after, first_state, class_of, reader}
 use Rattle.lazy_dfa.specs.Ids.{tag, unknown_id, is_sentinel}
-use Rattle.lazy_dfa.specs.Linked.{led, id_behind, IsLinkedOver, start_from, IsLinkedPass, AreLinked, Grows, HasCleared, GrowsOrClears, IsMoved}
+use Rattle.lazy_dfa.specs.Linked.{led, id_behind, IsLinkedOver, start_from, IsLinkedPass, AreLinked, Grows, HasCleared, GrowsOrClears}
+use Rattle.lazy_dfa.specs.Linked.{IsMoved}
 use Rattle.lazy_dfa.specs.PassLaws.{unit_of, pass_len}
 use Rattle.lazy_dfa.specs.Readers.{is_quit}
 use Rattle.lazy_dfa.specs.StartCalls.{mode_of, start_slot, start_noted}
@@ -72,7 +74,8 @@ cleared_grows d a b c x kept = ⊎_elim
     (λ (y : HasCleared b c). more_clears a.clears b.clears c.clears greatest x y)
     kept
 
-pub grows_or_clears_trans : (d : Dfa) (a b c : CacheValue) → IsDfa d → IsCacheOf d a → GrowsOrClears d a b → GrowsOrClears d b c → GrowsOrClears d a c
+pub grows_or_clears_trans : (d : Dfa) (a b c : CacheValue) → IsDfa d → IsCacheOf d a → GrowsOrClears d a b → GrowsOrClears d b c →
+    GrowsOrClears d a c
 grows_or_clears_trans d a b c made own before behind = ⊎_elim
     (λ (g : Grows d a b). ⊎_elim
     (λ (h : Grows d b c). inl (grows_trans d a b c made own g h))
@@ -108,7 +111,8 @@ module _ (v : CacheValue) (n : ℕ) (p : Option Progress) where
   leads_further d s u id x = record { quits = x.quits; goes = λ e. names_further id (after d s u) (x.goes e) }
 
   shape_further : IsShaped v → IsShaped (moved v n p)
-  shape_further i = record { positive = i.positive; narrow = i.narrow; sized = i.sized; small = i.small; named = i.named; tags = i.tags; real = i.real; apart = i.apart }
+  shape_further i = record { positive = i.positive; narrow = i.narrow; sized = i.sized; small = i.small; named = i.named; tags = i.tags;
+      real = i.real; apart = i.apart }
 
   is_cache_further : (d : Dfa) → IsCacheOf d v → IsCacheOf d (moved v n p)
   is_cache_further d own = record {
@@ -154,7 +158,8 @@ module _ (d : Dfa) (v w : CacheValue) (e : IsMoved v w) where
     id_moved zero = refl
     id_moved (suc k) =
         ap (λ (x : ℕ). led d w x (unit_of (reader d) h i k)) (id_moved k)
-        ∙ ap (λ (n : ℕ). if is_sentinel (id_behind d v h i id k) then id_behind d v h i id k else n) (noted_moved (id_behind d v h i id k) (unit_of (reader d) h i k))
+        ∙ ap (λ (n : ℕ). if is_sentinel (id_behind d v h i id k) then id_behind d v h i id k
+            else n) (noted_moved (id_behind d v h i id k) (unit_of (reader d) h i k))
 
     known_moved : (x y : ℕ) (u : Option ℕ) → y ≡ x → IsKnown d v x u → IsKnown d w y u
     known_moved x y u f known = subst (λ (n : ℕ). IsKnown d w n u) (sym f) (⊎_elim
@@ -168,7 +173,8 @@ module _ (d : Dfa) (v w : CacheValue) (e : IsMoved v w) where
       steps = λ k lt. known_moved (id_behind d v h i id k) (id_behind d w h i id k) (unit_of (reader d) h i k) (id_moved k) (l.steps k lt);
     }
 
-  pub linked_pass_moved : (mode : Anchored) (earliest : Bool) (h : List ℕ) (n i : ℕ) → IsLinkedPass d v mode earliest h n i → IsLinkedPass d w mode earliest h n i
+  pub linked_pass_moved : (mode : Anchored) (earliest : Bool) (h : List ℕ) (n i : ℕ) → IsLinkedPass d v mode earliest h n i →
+      IsLinkedPass d w mode earliest h n i
   linked_pass_moved mode earliest h n i linked q none named =
       let c = start_from (reader d) mode h i in
       let same : start_noted d w c ≡ start_noted d v c = ap (λ (s : List ℕ). get_or s (start_slot d c) 0) moved_starts in
@@ -224,25 +230,29 @@ held_leads d v s u id x = ⊎_elim
     (cases_Bool (is_quit d.quits u))
 
 -- a known step from a row leads where the state of the row does
-pub row_leads : (d : Dfa) (v : CacheValue) (id : ℕ) (u : Option ℕ) → IsCacheOf d v → IsUnit u → (r : IsRow v id) → noted d v id u ≢ unknown_id →
+pub row_leads : (d : Dfa) (v : CacheValue) (id : ℕ) (u : Option ℕ) → IsCacheOf d v → IsUnit u → (r : IsRow v id) →
+    noted d v id u ≢ unknown_id →
     Leads d v (state_at v r.0) u (noted d v id u)
 row_leads d v id u own unit r n =
     let read : noted d v id u ≡ cell_at v r.0 (class_of d.classes u) =
     ap (λ (m : ℕ). get_or v.cells (m % tag + class_of d.classes u) 0) r.2 ∙ cell_read v own.shape r.0 r.1 (class_of d.classes u) in
     subst (λ (m : ℕ). Leads d v (state_at v r.0) u m) (sym read) (own.steps r.0 u r.1 unit (λ z. n (read ∙ z)))
 
-pub held_led : (d : Dfa) (v : CacheValue) (id : ℕ) (u : Option ℕ) → IsCacheOf d v → IsUnit u → IsHeld v id → IsKnown d v id u → IsHeld v (led d v id u)
+pub held_led : (d : Dfa) (v : CacheValue) (id : ℕ) (u : Option ℕ) → IsCacheOf d v → IsUnit u → IsHeld v id → IsKnown d v id u →
+    IsHeld v (led d v id u)
 held_led d v id u own unit held known = ⊎_elim
     (λ (s : is_sentinel id ≡ true). subst (IsHeld v) (sym (led_sentinel d v id u s)) held)
     (λ (s : is_sentinel id ≡ false).
     let r = row_of_held v id held s in
-    subst (IsHeld v) (sym (led_row d v id u s)) (held_leads d v (state_at v r.0) u (noted d v id u) (row_leads d v id u own unit r (known_row d v id u s known))))
+    subst (IsHeld v) (sym (led_row d v id u s)) (held_leads d v (state_at v r.0) u (noted d v id u)
+        (row_leads d v id u own unit r (known_row d v id u s known))))
     (cases_Bool (is_sentinel id))
 
 -- ---- known paths in a cache that grows
 
 module _ (d : Dfa) (b c : CacheValue) (own : IsCacheOf d b) (grows : Grows d b c) where
-  noted_grows : (id : ℕ) (u : Option ℕ) → IsUnit u → IsHeld b id → IsKnown d b id u → is_sentinel id ≡ false → noted d c id u ≡ noted d b id u
+  noted_grows : (id : ℕ) (u : Option ℕ) → IsUnit u → IsHeld b id → IsKnown d b id u → is_sentinel id ≡ false →
+      noted d c id u ≡ noted d b id u
   noted_grows id u unit held known s = grows.known id u (row_of_held b id held s) unit (known_row d b id u s known)
 
   led_grows : (id : ℕ) (u : Option ℕ) → IsUnit u → IsHeld b id → IsKnown d b id u → led d c id u ≡ led d b id u
@@ -265,22 +275,26 @@ module _ (d : Dfa) (b c : CacheValue) (own : IsCacheOf d b) (grows : Grows d b c
     pub held_on : (id n : ℕ) → IsHeld b id → IsLinkedOver d b h i id n → (k : ℕ) → k ≤ n → IsHeld b (id_behind d b h i id k)
     held_on id n held l zero le = held
     held_on id n held l (suc k) le =
-        held_led d b (id_behind d b h i id k) (unit_of (reader d) h i k) own (unit_is_one k) (held_on id n held l k (omega (arith, le))) (l.steps k (omega (arith, le)))
+        held_led d b (id_behind d b h i id k) (unit_of (reader d) h i k) own (unit_is_one k) (held_on id n held l k (omega (arith, le)))
+            (l.steps k (omega (arith, le)))
 
     pub id_grows : (id n : ℕ) → IsHeld b id → IsLinkedOver d b h i id n → (k : ℕ) → k ≤ n → id_behind d c h i id k ≡ id_behind d b h i id k
     id_grows id n held l zero le = refl
     id_grows id n held l (suc k) le =
         ap (λ (x : ℕ). led d c x (unit_of (reader d) h i k)) (id_grows id n held l k (omega (arith, le)))
-        ∙ led_grows (id_behind d b h i id k) (unit_of (reader d) h i k) (unit_is_one k) (held_on id n held l k (omega (arith, le))) (l.steps k (omega (arith, le)))
+        ∙ led_grows (id_behind d b h i id k) (unit_of (reader d) h i k) (unit_is_one k) (held_on id n held l k (omega (arith, le)))
+            (l.steps k (omega (arith, le)))
 
     pub linked_grows : (id n : ℕ) → IsHeld b id → IsLinkedOver d b h i id n → IsLinkedOver d c h i id n
     linked_grows id n held l = record {
       start = l.start;
       steps = λ k lt. subst (λ (x : ℕ). IsKnown d c x (unit_of (reader d) h i k)) (sym (id_grows id n held l k (omega (arith, lt))))
-          (known_grows (id_behind d b h i id k) (unit_of (reader d) h i k) (unit_is_one k) (held_on id n held l k (omega (arith, lt))) (l.steps k lt));
+          (known_grows (id_behind d b h i id k) (unit_of (reader d) h i k) (unit_is_one k) (held_on id n held l k (omega (arith, lt)))
+              (l.steps k lt));
     }
 
-  pub linked_pass_grows : (mode : Anchored) (earliest : Bool) (h : List ℕ) (n i : ℕ) → IsDfa d → AreBytes h → IsLinkedPass d b mode earliest h n i → IsLinkedPass d c mode earliest h n i
+  pub linked_pass_grows : (mode : Anchored) (earliest : Bool) (h : List ℕ) (n i : ℕ) → IsDfa d → AreBytes h →
+      IsLinkedPass d b mode earliest h n i → IsLinkedPass d c mode earliest h n i
   linked_pass_grows mode earliest h n i made bytes linked q none named =
       let s = start_from (reader d) mode h i in
       let t = start_of d.nfa.terminator s.look_behind in
@@ -291,7 +305,8 @@ module _ (d : Dfa) (b c : CacheValue) (own : IsCacheOf d b) (grows : Grows d b c
       (linked_grows h bytes i (start_noted d b s) (pass_len (reader d) mode earliest h n i) held l)
 
   pub are_linked_grows : (q : Search) (ps : List (ℕ × ℕ)) → IsDfa d → AreBytes q.haystack → AreLinked d b q ps → AreLinked d c q ps
-  are_linked_grows q ps made bytes all k p l = linked_pass_grows q.anchored q.earliest q.haystack (get_or ps k p).0 (get_or ps k p).1 made bytes (all k p l)
+  are_linked_grows q ps made bytes all k p l = linked_pass_grows q.anchored q.earliest q.haystack (get_or ps k p).0
+      (get_or ps k p).1 made bytes (all k p l)
 
 -- ---- parts of paths
 
@@ -305,7 +320,8 @@ module _ (d : Dfa) (v : CacheValue) (h : List ℕ) (i id : ℕ) where
   -- a known path comes to no unknown ID
   pub id_is_known : (n : ℕ) → IsLinkedOver d v h i id n → (k : ℕ) → k ≤ n → id_behind d v h i id k ≢ unknown_id
   id_is_known n l zero le = l.start
-  id_is_known n l (suc k) le = led_known d v (id_behind d v h i id k) (unit_of (reader d) h i k) (id_is_known n l k (omega (arith, le))) (l.steps k (omega (arith, le)))
+  id_is_known n l (suc k) le = led_known d v (id_behind d v h i id k) (unit_of (reader d) h i k) (id_is_known n l k (omega (arith, le)))
+      (l.steps k (omega (arith, le)))
 
   module _ (k : ℕ) where
     abbrev there : ℕ
@@ -329,10 +345,12 @@ module _ (d : Dfa) (v : CacheValue) (h : List ℕ) (i id : ℕ) where
     linked_split l linked = record {
       start = id_is_known (k + l) linked k (omega arith);
       steps = λ j lt. subst (λ (x : ℕ). IsKnown d v x (unit_of (reader d) h there j)) (id_split j)
-          (subst (λ (u : Option ℕ). IsKnown d v (id_behind d v h i id (k + j)) u) (unit_split j) (linked.steps (k + j) (omega (arith, lt))));
+          (subst (λ (u : Option ℕ). IsKnown d v (id_behind d v h i id (k + j)) u) (unit_split j)
+              (linked.steps (k + j) (omega (arith, lt))));
     }
 
-    step_there : (j m : ℕ) → m ≡ k + j → IsKnown d v (id_behind d v h there id_there j) (unit_of (reader d) h there j) → IsKnown d v (id_behind d v h i id m) (unit_of (reader d) h i m)
+    step_there : (j m : ℕ) → m ≡ k + j → IsKnown d v (id_behind d v h there id_there j) (unit_of (reader d) h there j) →
+        IsKnown d v (id_behind d v h i id m) (unit_of (reader d) h i m)
     step_there j m e known = subst (λ (n : ℕ). IsKnown d v (id_behind d v h i id n) (unit_of (reader d) h i n)) (sym e)
         (subst (λ (x : ℕ). IsKnown d v x (unit_of (reader d) h i (k + j))) (sym (id_split j))
         (subst (λ (u : Option ℕ). IsKnown d v (id_behind d v h there id_there j) u) (sym (unit_split j)) known))

@@ -1,5 +1,6 @@
 -- Where a list has the first element that passes a test, and lists that are one longer.
-use Rattle.std.proofs.Common.{◌≡◌, ℕ, zero, suc, ◌+◌, ◌-◌, ◌<◌, ◌≤◌, Bool, true, false, cond, ◌⊎◌, List, [], ◌∷◌, ◌++◌, length, get_or, take, drop, replicate, refl, sym, ap, ◌∙◌, inl, inr, ⊎_elim, arith, length-append, Option, Some, None}
+use Rattle.std.proofs.Common.{◌≡◌, ℕ, zero, suc, ◌+◌, ◌-◌, ◌<◌, ◌≤◌, Bool, true, false, cond, ◌⊎◌, List, [], ◌∷◌, ◌++◌, length, get_or}
+use Rattle.std.proofs.Common.{take, drop, replicate, refl, sym, ap, ◌∙◌, inl, inr, ⊎_elim, arith, length-append, Option, Some, None}
 use Rattle.std.proofs.lemmas.List.{get_or-drop, get_or-take}
 use Rattle.std.proofs.lemmas.Bool.{cases_lt, cases_Bool}
 use Rattle.std.proofs.Math.Seq.{get_or-append_seam}
@@ -32,7 +33,8 @@ none_head true i o e = absurd cc
 none_head false i o e = (refl, e)
 
 -- where none passes, none does at any place
-pub none_at : {X : Type 0} (p : X → Bool) (d : X) (i : ℕ) (xs : List X) (j : ℕ) → position_from p i xs ≡ None → j < length xs → p (get_or xs j d) ≡ false
+pub none_at : {X : Type 0} (p : X → Bool) (d : X) (i : ℕ) (xs : List X) (j : ℕ) → position_from p i xs ≡ None → j < length xs →
+    p (get_or xs j d) ≡ false
 none_at p d i [] j e l = absurd (omega (arith, l))
 none_at p d i (x ∷ xs) zero e l = (none_head (p x) i (position_from p (i + 1) xs) e).0
 none_at p d i (x ∷ xs) (suc j) e l = none_at p d (i + 1) xs j (none_head (p x) i (position_from p (i + 1) xs) e).1 (omega (arith, l))
@@ -55,7 +57,8 @@ found_from p d i (x ∷ xs) k e =
     (omega (arith, r.0), omega (arith, r.0, r.1), rw after r.2))
     (cases_Bool (p x))
 
-pub found_at : {X : Type 0} (p : X → Bool) (d : X) (xs : List X) (k : ℕ) → position_from p 0 xs ≡ Some k → (k < length xs) × (p (get_or xs k d) ≡ true)
+pub found_at : {X : Type 0} (p : X → Bool) (d : X) (xs : List X) (k : ℕ) → position_from p 0 xs ≡ Some k → (k < length xs) ×
+    (p (get_or xs k d) ≡ true)
 found_at p d xs k e =
     let r = found_from p d 0 xs k e in
     let same : k - 0 ≡ k = omega arith in

@@ -23,11 +23,13 @@ module _ (d : Dfa) (made : IsDfa d) where
   few_names = let e = states_are in let l = made.sound.states_numbered in omega (arith, e, l)
 
   pub few_patterns : d.measures.patterns < 0x1_0000_0000
-  few_patterns = let e : d.measures.patterns ≡ length d.nfa.automaton.start_pattern = ap (λ (m : Measures). m.patterns) made.measured in let l = made.sound.patterns_numbered in omega (arith, e, l)
+  few_patterns = let e : d.measures.patterns ≡ length d.nfa.automaton.start_pattern = ap (λ (m : Measures). m.patterns) made.measured in
+      let l = made.sound.patterns_numbered in omega (arith, e, l)
 
   pub few_starts : d.measures.starts < 0x10_0000_0000
   few_starts =
-      let e : d.measures.starts ≡ start_count (starts_each_of d.options) (length d.nfa.automaton.start_pattern) = ap (λ (m : Measures). m.starts) made.measured in
+      let e : d.measures.starts ≡ start_count (starts_each_of d.options) (length d.nfa.automaton.start_pattern) =
+          ap (λ (m : Measures). m.starts) made.measured in
       let l = made.sound.patterns_numbered in
       subst (λ (n : ℕ). n < 0x10_0000_0000) (sym e) (counted (starts_each_of d.options) (length d.nfa.automaton.start_pattern) l)
     where

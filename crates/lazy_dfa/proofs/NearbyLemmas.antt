@@ -1,5 +1,6 @@
 -- Quit bytes by their indices.
-use Rattle.std.proofs.Common.{◌≡◌, ℕ, zero, suc, ◌+◌, ◌-◌, ◌<◌, ◌≤◌, Bool, true, false, List, Option, Some, None, if◌then◌else◌, refl, ap, ◌∙◌, ◌⊎◌, inl, inr, ⊎_elim, arith}
+use Rattle.std.proofs.Common.{◌≡◌, ℕ, zero, suc, ◌+◌, ◌-◌, ◌<◌, ◌≤◌, Bool, true, false, List, Option, Some, None, if◌then◌else◌, refl, ap}
+use Rattle.std.proofs.Common.{◌∙◌, ◌⊎◌, inl, inr, ⊎_elim, arith}
 use Rattle.search_core.specs.Text.{byte_at}
 use Rattle.search_types.specs.declared.anchored.Anchored.{Anchored}
 use Rattle.search_types.specs.Places.{counts}
@@ -29,7 +30,8 @@ no_byte b P e = let never : true ≡ false = cc in absurd (grind (arith, never))
 
 module _ (r : Reader) (h : List ℕ) (s e : ℕ) where
   -- the unit behind
-  pub behind_near : (is_reverse : Bool) (n i b x : ℕ) → Fits is_reverse s e n i → unit_behind is_reverse h i ≡ Some b → has r.quits b ≡ true →
+  pub behind_near : (is_reverse : Bool) (n i b x : ℕ) → Fits is_reverse s e n i → unit_behind is_reverse h i ≡ Some b →
+      has r.quits b ≡ true →
       x ≡ index_behind is_reverse i → IsQuitNear r h s e b x
   behind_near false n zero b x fit unit quits is = no_byte b _ unit
   behind_near false n (suc i) b x fit unit quits is =
@@ -40,7 +42,8 @@ module _ (r : Reader) (h : List ℕ) (s e : ℕ) where
       one_less i x is = omega (arith, is)
   behind_near true n i b x fit unit quits is = (ap (byte_at h) is ∙ unit, quits, omega (arith, is, fit.0), omega (arith, is, fit.1))
 
-  pub at_near : (is_reverse : Bool) (n i k j b x : ℕ) → Fits is_reverse s e n i → k < suc n → j ≡ place_of is_reverse i k → unit_at is_reverse h j ≡ Some b →
+  pub at_near : (is_reverse : Bool) (n i k j b x : ℕ) → Fits is_reverse s e n i → k < suc n → j ≡ place_of is_reverse i k →
+      unit_at is_reverse h j ≡ Some b →
       has r.quits b ≡ true → x ≡ index_at is_reverse j → IsQuitNear r h s e b x
   at_near false n i k j b x fit l place unit quits is =
       (ap (byte_at h) is ∙ unit, quits, omega (arith, is, place, fit.1), omega (arith, is, place, fit.0, l))
@@ -52,7 +55,8 @@ module _ (r : Reader) (h : List ℕ) (s e : ℕ) where
       one_less : (i x : ℕ) → x ≡ suc i - 1 → x ≡ i
       one_less i x is = omega (arith, is)
 
-  none_behind : (is_reverse : Bool) (n i : ℕ) → HasNoQuitNear r h s e → Fits is_reverse s e n i → is_quit r.quits (unit_behind is_reverse h i) ≡ false
+  none_behind : (is_reverse : Bool) (n i : ℕ) → HasNoQuitNear r h s e → Fits is_reverse s e n i →
+      is_quit r.quits (unit_behind is_reverse h i) ≡ false
   none_behind false n zero none fit = refl
   none_behind false n (suc i) none fit = none i (omega (arith, fit.1)) (omega (arith, fit.0))
   none_behind true n i none fit = none i (omega (arith, fit.0)) (omega (arith, fit.1))

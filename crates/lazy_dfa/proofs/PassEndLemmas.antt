@@ -1,5 +1,6 @@
 -- How a pass goes on through the units that it reads, and how it ends.
-use Rattle.std.proofs.Common.{◌≡◌, ℕ, zero, suc, ◌+◌, ◌-◌, ◌<◌, ◌≤◌, Bool, true, false, List, Option, Some, if◌then◌else◌, refl, sym, ap, ◌∙◌, arith, ◌⊎◌, ⊎_elim}
+use Rattle.std.proofs.Common.{◌≡◌, ℕ, zero, suc, ◌+◌, ◌-◌, ◌<◌, ◌≤◌, Bool, true, false, List, Option, Some, if◌then◌else◌, refl, sym, ap}
+use Rattle.std.proofs.Common.{◌∙◌, arith, ◌⊎◌, ⊎_elim}
 use Rattle.std.proofs.lemmas.Bool.{cases_Bool}
 use Rattle.search_core.specs.ByteSets.{has}
 use Rattle.nfa_core.specs.Ways.{place_of}
@@ -11,7 +12,8 @@ use Rattle.lazy_dfa.specs.Readers.{Reader, HalfAnswer, found, quit}
 use Rattle.lazy_dfa.proofs.TurnLemmas.{place_next, goes_on}
 use Rattle.nfa_core.proofs.ForCallers.{place_zero}
 
-quits_here : (quits : List Bool) (u : Option ℕ) (index b : ℕ) (rest : HalfAnswer) → u ≡ Some b → has quits b ≡ true → unless_quit quits u index rest ≡ quit b index
+quits_here : (quits : List Bool) (u : Option ℕ) (index b : ℕ) (rest : HalfAnswer) → u ≡ Some b → has quits b ≡ true →
+    unless_quit quits u index rest ≡ quit b index
 quits_here quits u index b rest e f =
     ap (λ (x : Option ℕ). unless_quit quits x index rest) e ∙ ap (λ (q : Bool). if q then quit b index else rest) f
 
@@ -42,19 +44,22 @@ module _ (r : Reader) (earliest : Bool) (h : List ℕ) (i : ℕ) (v : StateValue
   alive : (n k : ℕ) (best : Option (ℕ × ℕ)) → is_dead (state k) ≡ false →
       pass_at (suc n) k best ≡ unless_quit r.quits (unit_of r h i k) (index_at r.automaton.reverse (place k)) (behind n k best (stops k))
   unfolding pass_from
-  alive n k best e = ap (λ (d : Bool). if d then found best else unless_quit r.quits (unit_of r h i k) (index_at r.automaton.reverse (place k)) (behind n k best (stops k))) e
+  alive n k best e = ap (λ (d : Bool). if d then found best else unless_quit r.quits (unit_of r h i k)
+      (index_at r.automaton.reverse (place k)) (behind n k best (stops k))) e
 
   dead_at : (n k : ℕ) (best : Option (ℕ × ℕ)) → is_dead (state k) ≡ true → pass_at n k best ≡ found best
   unfolding pass_from
   dead_at zero k best e = refl
-  dead_at (suc n) k best e = ap (λ (d : Bool). if d then found best else unless_quit r.quits (unit_of r h i k) (index_at r.automaton.reverse (place k)) (behind n k best (stops k))) e
+  dead_at (suc n) k best e = ap (λ (d : Bool). if d then found best else unless_quit r.quits (unit_of r h i k)
+      (index_at r.automaton.reverse (place k)) (behind n k best (stops k))) e
 
   none_left : (k : ℕ) (best : Option (ℕ × ℕ)) → pass_at 0 k best ≡ found best
   unfolding pass_from
   none_left k best = refl
 
   quiet : (n k : ℕ) (best : Option (ℕ × ℕ)) → IsRead r h i v k → pass_at (suc n) k best ≡ behind n k best (stops k)
-  quiet n k best x = alive n k best x.alive ∙ goes_on r.quits (unit_of r h i k) (index_at r.automaton.reverse (place k)) (behind n k best (stops k)) x.quiet
+  quiet n k best x = alive n k best x.alive ∙ goes_on r.quits (unit_of r h i k) (index_at r.automaton.reverse (place k))
+      (behind n k best (stops k)) x.quiet
 
   one_on : (n k : ℕ) (best : Option (ℕ × ℕ)) → IsRead r h i v k → stops k ≡ false →
       pass_at (suc n) k best ≡ pass_at n (suc k) (recorded (place k) (state (suc k)) best)
@@ -66,7 +71,8 @@ module _ (r : Reader) (earliest : Bool) (h : List ℕ) (i : ℕ) (v : StateValue
 
   one_quit : (n k b : ℕ) (best : Option (ℕ × ℕ)) → is_dead (state k) ≡ false → unit_of r h i k ≡ Some b → has r.quits b ≡ true →
       pass_at (suc n) k best ≡ quit b (index_at r.automaton.reverse (place k))
-  one_quit n k b best e f g = alive n k best e ∙ quits_here r.quits (unit_of r h i k) (index_at r.automaton.reverse (place k)) b (behind n k best (stops k)) f g
+  one_quit n k b best e f g = alive n k best e ∙ quits_here r.quits (unit_of r h i k) (index_at r.automaton.reverse (place k)) b
+      (behind n k best (stops k)) f g
 
   -- ---- how many units are read
 
@@ -81,7 +87,8 @@ module _ (r : Reader) (earliest : Bool) (h : List ℕ) (i : ℕ) (v : StateValue
   dead_units (suc n) k e = ap (λ (d : Bool). if d then 0 else more n k (stops k)) e
 
   on_units : (n k : ℕ) → is_dead (state k) ≡ false → stops k ≡ false → units_at (suc n) k ≡ suc (units_at n (suc k))
-  on_units n k e f = alive_units n k e ∙ ap (more n k) f ∙ ap (λ (j : ℕ). suc (units_read r earliest h n j (state (suc k)))) (place_next r.automaton.reverse i k)
+  on_units n k e f = alive_units n k e ∙ ap (more n k) f ∙ ap (λ (j : ℕ). suc (units_read r earliest h n j (state (suc k))))
+      (place_next r.automaton.reverse i k)
 
   stop_units : (n k : ℕ) → is_dead (state k) ≡ false → stops k ≡ true → units_at (suc n) k ≡ 1
   stop_units n k e f = alive_units n k e ∙ ap (more n k) f
@@ -105,7 +112,8 @@ module _ (r : Reader) (earliest : Bool) (h : List ℕ) (i : ℕ) (v : StateValue
 
   pub goes : (m n : ℕ) (best : Option (ℕ × ℕ)) → AreRead r h i v m → HasNoStop r earliest h i v m →
       pass_from r earliest h (m + n) i v best ≡ pass_at n m (best_behind r h i v best m)
-  goes zero n best read free = ap (λ (k : ℕ). pass_from r earliest h k i v best) (none_more n) ∙ ap (λ (j : ℕ). pass_from r earliest h n j v best) (sym (place_zero r.automaton.reverse i))
+  goes zero n best read free = ap (λ (k : ℕ). pass_from r earliest h k i v best) (none_more n)
+      ∙ ap (λ (j : ℕ). pass_from r earliest h n j v best) (sym (place_zero r.automaton.reverse i))
   goes (suc m) n best read free =
       let same : suc m + n ≡ m + suc n = omega arith in
       ap (λ (k : ℕ). pass_from r earliest h k i v best) same
@@ -115,7 +123,8 @@ module _ (r : Reader) (earliest : Bool) (h : List ℕ) (i : ℕ) (v : StateValue
   pub goes_units : (m n : ℕ) → AreRead r h i v m → HasNoStop r earliest h i v m →
       units_read r earliest h (m + n) i v ≡ m + units_at n m
   goes_units zero n read free =
-      ap (λ (k : ℕ). units_read r earliest h k i v) (none_more n) ∙ (ap (λ (j : ℕ). units_read r earliest h n j v) (sym (place_zero r.automaton.reverse i)) ∙ sym (none_more (units_at n 0)))
+      ap (λ (k : ℕ). units_read r earliest h k i v) (none_more n) ∙ (ap (λ (j : ℕ). units_read r earliest h n j v)
+          (sym (place_zero r.automaton.reverse i)) ∙ sym (none_more (units_at n 0)))
   goes_units (suc m) n read free =
       let same : suc m + n ≡ m + suc n = omega arith in
       let before = goes_units m (suc n) (fewer m read) (fewer_stops m free) in
@@ -139,8 +148,10 @@ module _ (r : Reader) (earliest : Bool) (h : List ℕ) (i : ℕ) (v : StateValue
   pub ends_dead : (m n : ℕ) (best : Option (ℕ × ℕ)) → m ≤ n → AreRead r h i v m → HasNoStop r earliest h i v m → is_dead (state m) ≡ true →
       (pass_from r earliest h n i v best ≡ found (best_at best m)) × (units_read r earliest h n i v ≡ m)
   ends_dead m n best l read free e = (
-    ap (λ (k : ℕ). pass_from r earliest h k i v best) (split m n l) ∙ (goes m (n - m) best read free ∙ dead_at (n - m) m (best_at best m) e),
-    ap (λ (k : ℕ). units_read r earliest h k i v) (split m n l) ∙ (goes_units m (n - m) read free ∙ (ap (λ (k : ℕ). m + k) (dead_units (n - m) m e) ∙ none m)),
+    ap (λ (k : ℕ). pass_from r earliest h k i v best) (split m n l) ∙ (goes m (n - m) best read free
+        ∙ dead_at (n - m) m (best_at best m) e),
+    ap (λ (k : ℕ). units_read r earliest h k i v) (split m n l) ∙ (goes_units m (n - m) read free
+        ∙ (ap (λ (k : ℕ). m + k) (dead_units (n - m) m e) ∙ none m)),
   )
     where
       none : (m : ℕ) → m + 0 ≡ m
@@ -185,13 +196,15 @@ module _ (r : Reader) (earliest : Bool) (h : List ℕ) (i : ℕ) (v : StateValue
           below : (k m : ℕ) → k < suc m → (k < m) ⊎ (k ≡ m)
           below k m l = grind (arith, l)
 
-  pub ends_quit : (m n b : ℕ) (best : Option (ℕ × ℕ)) → m < n → AreRead r h i v m → HasNoStop r earliest h i v m → is_dead (state m) ≡ false →
+  pub ends_quit : (m n b : ℕ) (best : Option (ℕ × ℕ)) → m < n → AreRead r h i v m → HasNoStop r earliest h i v m →
+      is_dead (state m) ≡ false →
       unit_of r h i m ≡ Some b → has r.quits b ≡ true → pass_from r earliest h n i v best ≡ quit b (index_at r.automaton.reverse (place m))
   ends_quit m n b best l read free e f g =
       ap (λ (k : ℕ). pass_from r earliest h k i v best) (one_less m n l) ∙ (goes m (suc (n - m - 1)) best read free
       ∙ one_quit (n - m - 1) m b (best_at best m) e f g)
 
-  pub reads_on : (m n : ℕ) → m < n → AreRead r h i v m → HasNoStop r earliest h i v m → is_dead (state m) ≡ false → m < units_read r earliest h n i v
+  pub reads_on : (m n : ℕ) → m < n → AreRead r h i v m → HasNoStop r earliest h i v m → is_dead (state m) ≡ false →
+      m < units_read r earliest h n i v
   reads_on m n l read free e =
       let some = some_units (n - m - 1) m e in
       let all = ap (λ (k : ℕ). units_read r earliest h k i v) (one_less m n l) ∙ goes_units m (suc (n - m - 1)) read free in

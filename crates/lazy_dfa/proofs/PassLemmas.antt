@@ -1,5 +1,6 @@
 -- What a pass finds, by the matches that the states of a walk list.
-use Rattle.std.proofs.Common.{◌≡◌, ℕ, zero, suc, ◌<◌, ◌≤◌, Bool, true, false, List, length, Option, Some, None, if◌then◌else◌, refl, sym, ap, ◌∙◌, ⊎_elim, subst}
+use Rattle.std.proofs.Common.{◌≡◌, ℕ, zero, suc, ◌<◌, ◌≤◌, Bool, true, false, List, length, Option, Some, None, if◌then◌else◌, refl, sym}
+use Rattle.std.proofs.Common.{ap, ◌∙◌, ⊎_elim, subst}
 use Rattle.std.specs.Option.{option_or}
 use Rattle.search_types.specs.declared.match_kind.MatchKind.{MatchKind}
 use Rattle.search_types.specs.declared.match_kind.MatchKind.TheVariants.{All as AllMatches, LeftmostFirst}
@@ -12,7 +13,8 @@ use Rattle.determinize_core.specs.Steps.{unit_at, unit_behind, walk_value}
 use Rattle.determinize_core.specs.Walked.{end_at, latest_listed}
 use Rattle.determinize_core.proofs.ForCallers.{stays_dead, latest_is_first, all_listed}
 use Rattle.lazy_dfa.specs.Readers.{Reader, is_quit, HalfAnswer, found}
-use Rattle.lazy_dfa.specs.Passes.{index_at, is_dead, unless_quit, recorded, next_value, next_place, pass_from, start_name, start_or_dead, first_value, pass}
+use Rattle.lazy_dfa.specs.Passes.{index_at, is_dead, unless_quit, recorded, next_value, next_place, pass_from, start_name, start_or_dead}
+use Rattle.lazy_dfa.specs.Passes.{first_value, pass}
 use Rattle.lazy_dfa.specs.PassLaws.{IsLastEnd}
 use Rattle.nfa_core.proofs.ForCallers.{ends_inside, place_zero}
 use Rattle.lazy_dfa.proofs.LastLemmas.{last_end}

@@ -1,5 +1,6 @@
 -- The passes of a half search, one after the other, and what it answers by them.
-use Rattle.std.proofs.Common.{◌≡◌, ℕ, zero, suc, ◌+◌, ◌-◌, ◌<◌, ◌≤◌, Bool, true, false, List, [], ◌∷◌, None, refl, sym, ap, ◌∙◌, ◌⊎◌, inl, inr, ⊎_elim, subst, arith, if◌then◌else◌}
+use Rattle.std.proofs.Common.{◌≡◌, ℕ, zero, suc, ◌+◌, ◌-◌, ◌<◌, ◌≤◌, Bool, true, false, List, [], ◌∷◌, None, refl, sym, ap, ◌∙◌, ◌⊎◌, inl}
+use Rattle.std.proofs.Common.{inr, ⊎_elim, subst, arith, if◌then◌else◌}
 use Rattle.std.proofs.lemmas.Bool.{cases_Bool, cases_lt, le-leb}
 use Rattle.search_types.specs.Inputs.{Search}
 use Rattle.search_types.specs.Modes.{is_anchored}
@@ -141,16 +142,19 @@ module _ (r : Reader) (t : Search) (free : is_anchored t.anchored ≡ false) whe
 
   module _ (fits : t.start ≤ t.end) (e : first_splits r t ≡ true) where
     -- where one reads in reverse, the span's end isn't the haystack's start
-    passes_anew_by : (is_reverse : Bool) → r.automaton.reverse ≡ is_reverse → (is_reverse ≡ true → 0 < t.end) → (t.start < t.end) ⊎ (t.end ≤ t.start) →
+    passes_anew_by : (is_reverse : Bool) → r.automaton.reverse ≡ is_reverse → (is_reverse ≡ true → 0 < t.end) → (t.start < t.end) ⊎
+        (t.end ≤ t.start) →
         passes_of r t ≡ first_pass r t ∷ passes_of r (shorter is_reverse t)
     passes_anew_by is_reverse is some (inl l) =
         free_passes r t fits free ∙ on_split r t fits bytes (bytes - 1) (begins_at r t) (omega (arith, l)) e
         ∙ sym (ap (λ (ps : List (ℕ × ℕ)). first_pass r t ∷ ps) (shorter_passes is_reverse is l))
     passes_anew_by is_reverse is some (inr l) =
         lowest_once r t fits free (omega (arith, fits, l))
-        ∙ sym (ap (λ (ps : List (ℕ × ℕ)). first_pass r t ∷ ps) (done_passes r (shorter is_reverse t) (over is_reverse (omega (arith, fits, l)) some)))
+        ∙ sym (ap (λ (ps : List (ℕ × ℕ)). first_pass r t ∷ ps) (done_passes r (shorter is_reverse t)
+            (over is_reverse (omega (arith, fits, l)) some)))
 
-    scan_anew_by : (is_reverse : Bool) → r.automaton.reverse ≡ is_reverse → (is_reverse ≡ true → 0 < t.end) → (t.start < t.end) ⊎ (t.end ≤ t.start) →
+    scan_anew_by : (is_reverse : Bool) → r.automaton.reverse ≡ is_reverse → (is_reverse ≡ true → 0 < t.end) → (t.start < t.end) ⊎
+        (t.end ≤ t.start) →
         scan r t ≡ scan r (shorter is_reverse t)
     scan_anew_by is_reverse is some (inl l) =
         again r t free l
@@ -164,5 +168,6 @@ module _ (r : Reader) (t : Search) (free : is_anchored t.anchored ≡ false) whe
         passes_of r t ≡ first_pass r t ∷ passes_of r (shorter is_reverse t)
     passes_anew is_reverse is some = passes_anew_by is_reverse is some (cases_lt t.start t.end)
 
-    pub scan_anew : (is_reverse : Bool) → r.automaton.reverse ≡ is_reverse → (is_reverse ≡ true → 0 < t.end) → scan r t ≡ scan r (shorter is_reverse t)
+    pub scan_anew : (is_reverse : Bool) → r.automaton.reverse ≡ is_reverse → (is_reverse ≡ true → 0 < t.end) →
+        scan r t ≡ scan r (shorter is_reverse t)
     scan_anew is_reverse is some = scan_anew_by is_reverse is some (cases_lt t.start t.end)

@@ -1,5 +1,6 @@
 -- The start of a pass, by what start calls answer.
-use Rattle.std.proofs.Common.{◌≡◌, ◌≢◌, ◌⊎◌, ℕ, suc, ◌+◌, ◌≤◌, Bool, true, false, Option, Some, None, refl, sym, ap, ◌∙◌, subst, inl, inr, ⊎_elim}
+use Rattle.std.proofs.Common.{◌≡◌, ◌≢◌, ◌⊎◌, ℕ, suc, ◌+◌, ◌≤◌, Bool, true, false, Option, Some, None, refl, sym, ap, ◌∙◌, subst, inl, inr}
+use Rattle.std.proofs.Common.{⊎_elim}
 use Rattle.std.specs.Prelude.{Result, Ok, Err, IfOk, IfErr, MatchOption, ⊤, if◌then◌else◌}
 use Rattle.search_types.specs.declared.anchored.Anchored.{Anchored}
 use Rattle.search_types.specs.declared.anchored.Anchored.TheVariants.{No, Yes, Pattern}
@@ -25,18 +26,22 @@ use Rattle.lazy_dfa.specs.ScanLaws.{begins_at}
 use Rattle.lazy_dfa.specs.SearchAnswers.{told}
 use Rattle.lazy_dfa.specs.SearchStarts.{AnswersStart, error_at}
 use Rattle.lazy_dfa.specs.PassPlaces.{pass_start, StartsPass}
-use Rattle.lazy_dfa.specs.StartCalls.{mode_of, quit_refusal, behind_refusal, mode_refusal, start_refusal, start_noted, start_first, IsStartKnown, IsStartCause}
+use Rattle.lazy_dfa.specs.StartCalls.{mode_of, quit_refusal, behind_refusal, mode_refusal, start_refusal, start_noted, start_first}
+use Rattle.lazy_dfa.specs.StartCalls.{IsStartKnown, IsStartCause}
 use Rattle.lazy_dfa.specs.Steps.{Grew, WasCleared, most_inserts}
 
 -- what one who reads forward or in reverse, through the span tells of the start
 abbrev pub start_read : Bool → Search → StartValue
-start_read is_reverse q = record { look_behind = unit_behind is_reverse q.haystack (first_place is_reverse q.start q.end); anchored = q.anchored }
+start_read is_reverse q = record { look_behind = unit_behind is_reverse q.haystack (first_place is_reverse q.start q.end);
+    anchored = q.anchored }
 
 -- what the start of a search answers, and leaves
-pub record ToldStart (d : Dfa) (c : StartValue) (quit_place place : ℕ) (old new : CacheValue) (m1 m2 n1 n2 : ℕ) (r : Result ℕ MatchErrorKind) : Type 0 where
+pub record ToldStart (d : Dfa) (c : StartValue) (quit_place place : ℕ) (old new : CacheValue) (m1 m2 n1 n2 : ℕ)
+    (r : Result ℕ MatchErrorKind) : Type 0 where
   pub answer : AnswersStart d old new c quit_place place r
   pub noted : IfOk r (λ id. (p : ℕ) → start_in d (mode_of c.anchored) ≡ Some p → start_noted d new c ≡ id)
-  pub known : start_refusal d c ≡ None → (p : ℕ) → start_in d (mode_of c.anchored) ≡ Some p → start_noted d old c ≢ unknown_id → r ≡ Ok (start_noted d old c)
+  pub known : start_refusal d c ≡ None → (p : ℕ) → start_in d (mode_of c.anchored) ≡ Some p → start_noted d old c ≢ unknown_id →
+      r ≡ Ok (start_noted d old c)
   pub none : start_refusal d c ≡ None → start_in d (mode_of c.anchored) ≡ None → r ≡ Ok (dead_id new.stride)
   pub same : IsStartKnown d old c → new ≡ old
   pub free : IsStartKnown d old c → (m2 ≡ m1) × (n2 ≡ n1)
@@ -53,7 +58,8 @@ named_alike d Yes = refl
 named_alike d (Pattern p) = refl
 
 -- the state in which a pass starts, by its name in the NFA
-starts_from : (d : Dfa) (behind o : Option ℕ) (p : ℕ) → o ≡ Some p → start_or_dead (reader d) behind o ≡ first_state d (start_of d.nfa.terminator behind) p
+starts_from : (d : Dfa) (behind o : Option ℕ) (p : ℕ) → o ≡ Some p → start_or_dead (reader d) behind o ≡ first_state d
+    (start_of d.nfa.terminator behind) p
 unfolding start_or_dead first_state
 starts_from d behind o p e = ap (start_or_dead (reader d) behind) e
 
@@ -66,22 +72,28 @@ starts_dead d behind o e = ap (start_or_dead (reader d) behind) e
 abbrev failed : MatchErrorKind → Result (Option HalfFound) MatchErrorKind
 failed e = Err e
 
-mode_told : (is : Bool) (mode : Anchored) (index place : ℕ) (rest : HalfAnswer) (e : StartError) → (if is then None else Some (UnsupportedAnchored mode)) ≡ Some e →
+mode_told : (is : Bool) (mode : Anchored) (index place : ℕ) (rest : HalfAnswer) (e : StartError) →
+    (if is then None else Some (UnsupportedAnchored mode)) ≡ Some e →
     failed (error_at index place e) ≡ told (if_supported is mode rest)
 mode_told true mode index place rest e f = absurd cc
-mode_told false mode index place rest e f = let same : e ≡ UnsupportedAnchored mode = cc in ap (λ (x : StartError). failed (error_at index place x)) same
+mode_told false mode index place rest e f = let same : e ≡ UnsupportedAnchored mode = cc in
+    ap (λ (x : StartError). failed (error_at index place x)) same
 
 quit_told : (is : Bool) (b : ℕ) (mode : Anchored) (fine : Bool) (index place : ℕ) (rest : HalfAnswer) (e : StartError) →
     quit_refusal is b (if fine then None else Some (UnsupportedAnchored mode)) ≡ Some e →
     failed (error_at index place e) ≡ told (if is then quit b index else if_supported fine mode rest)
-quit_told true b mode fine index place rest e f = let same : e ≡ Quit b = cc in ap (λ (x : StartError). failed (error_at index place x)) same
+quit_told true b mode fine index place rest e f = let same : e ≡ Quit b = cc in
+    ap (λ (x : StartError). failed (error_at index place x)) same
 quit_told false b mode fine index place rest e f = mode_told fine mode index place rest e f
 
 -- a start that is refused whatever the cache holds is what the pass answers
-pub pass_told : (d : Dfa) (behind : Option ℕ) (mode : Anchored) (index place : ℕ) (rest : HalfAnswer) (e : StartError) → behind_refusal d behind (mode_refusal d mode) ≡ Some e →
-    failed (error_at index place e) ≡ told (unless_quit d.quits behind index (if_supported (is_supported (starts_each_of d.options) mode) mode rest))
+pub pass_told : (d : Dfa) (behind : Option ℕ) (mode : Anchored) (index place : ℕ) (rest : HalfAnswer) (e : StartError) →
+    behind_refusal d behind (mode_refusal d mode) ≡ Some e →
+    failed (error_at index place e) ≡ told (unless_quit d.quits behind index
+        (if_supported (is_supported (starts_each_of d.options) mode) mode rest))
 pass_told d None mode index place rest e f = mode_told (is_supported (starts_each_of d.options) mode) mode index place rest e f
-pass_told d (Some b) mode index place rest e f = quit_told (is_quit d.quits (Some b)) b mode (is_supported (starts_each_of d.options) mode) index place rest e f
+pass_told d (Some b) mode index place rest e f = quit_told (is_quit d.quits (Some b)) b mode
+    (is_supported (starts_each_of d.options) mode) index place rest e f
 
 abbrev answered : ℕ → Result ℕ MatchErrorKind
 answered id = Ok id
@@ -89,7 +101,8 @@ answered id = Ok id
 abbrev refused : MatchErrorKind → Result ℕ MatchErrorKind
 refused e = Err e
 
-none_refused : (o : Option StartError) (id : ℕ) (f : StartError → MatchErrorKind) → MatchOption o ⊤ (λ e. answered id ≡ Err (f e)) → o ≡ None
+none_refused : (o : Option StartError) (id : ℕ) (f : StartError → MatchErrorKind) → MatchOption o ⊤ (λ e. answered id ≡ Err (f e)) →
+    o ≡ None
 none_refused None id f x = refl
 none_refused (Some e) id f x = absurd cc
 
@@ -118,36 +131,46 @@ module _ (d : Dfa) (q : Search) (old new : CacheValue) where
   is_first p e = starts_from d told_of_it.look_behind (start_name d.nfa.automaton q.anchored) p (sym (named_alike d q.anchored) ∙ e)
 
   -- the state that the ID names
-  names_first : (id : ℕ) (o : Option ℕ) → o ≡ start_in d (mode_of q.anchored) → MatchOption o (id ≡ dead_id new.stride) (λ p. Names new id (start_first d told_of_it p)) → Names new id first
-  names_first id None e x = names_dead x (starts_dead d told_of_it.look_behind (start_name d.nfa.automaton q.anchored) (sym (named_alike d q.anchored) ∙ sym e))
+  names_first : (id : ℕ) (o : Option ℕ) → o ≡ start_in d (mode_of q.anchored) →
+      MatchOption o (id ≡ dead_id new.stride) (λ p. Names new id (start_first d told_of_it p)) → Names new id first
+  names_first id None e x = names_dead x (starts_dead d told_of_it.look_behind (start_name d.nfa.automaton q.anchored)
+      (sym (named_alike d q.anchored) ∙ sym e))
   names_first id (Some p) e x = subst (Names new id) (sym (is_first p (sym e))) x
 
-  lacks_first : (o : Option ℕ) → o ≡ start_in d (mode_of q.anchored) → new ≡ old → MatchOption o ⊥ (λ p. lacks_room d old (start_first d told_of_it p) ≡ true) → lacks_room d new first ≡ true
+  lacks_first : (o : Option ℕ) → o ≡ start_in d (mode_of q.anchored) → new ≡ old →
+      MatchOption o ⊥ (λ p. lacks_room d old (start_first d told_of_it p) ≡ true) → lacks_room d new first ≡ true
   lacks_first None e f x = absurd x
   lacks_first (Some p) e f x = ap (λ (v : CacheValue). lacks_room d v first) f ∙ (ap (lacks_room d old) (is_first p (sym e)) ∙ x)
 
-  start_told : (r : Result ℕ MatchErrorKind) → AnswersStart d old new told_of_it quits_at begins r → IfOk r (λ id. (start_refusal d told_of_it ≡ None) × Names new id first)
+  start_told : (r : Result ℕ MatchErrorKind) → AnswersStart d old new told_of_it quits_at begins r →
+      IfOk r (λ id. (start_refusal d told_of_it ≡ None) × Names new id first)
   start_told (Err e) a = tt
   start_told (Ok id) a =
       let none = none_refused (start_refusal d told_of_it) id (error_at quits_at begins) a.refused in
       (none, names_first id (start_in d (mode_of q.anchored)) refl (a.start none))
 
   abbrev FailsAt : MatchErrorKind → Type 0
-  FailsAt e = ((start_refusal d told_of_it ≢ None) × (failed e ≡ told whole)) ⊎ (e ≡ NoMemory) ⊎ ((e ≡ GaveUp begins) × (lacks_room d new first ≡ true))
+  FailsAt e = ((start_refusal d told_of_it ≢ None) × (failed e ≡ told whole)) ⊎ (e ≡ NoMemory) ⊎
+      ((e ≡ GaveUp begins) × (lacks_room d new first ≡ true))
 
-  caused : (k : MatchErrorKind) (e : StartError) → IsStartCause d old told_of_it e → k ≡ error_at quits_at begins e → (refused k ≡ Err (GaveUp begins) → new ≡ old) → FailsAt k
+  caused : (k : MatchErrorKind) (e : StartError) → IsStartCause d old told_of_it e → k ≡ error_at quits_at begins e →
+      (refused k ≡ Err (GaveUp begins) → new ≡ old) → FailsAt k
   caused k e (inl f) is same = inr (inl (is ∙ ap (error_at quits_at begins) f))
   caused k e (inr g) is same =
       let gave : k ≡ GaveUp begins = is ∙ ap (error_at quits_at begins) g.0 in
       inr (inr (gave, lacks_first (start_in d (mode_of q.anchored)) refl (same (ap refused gave)) g.1.lacks))
 
-  pass_refused : (k : MatchErrorKind) (x : StartError) → start_refusal d told_of_it ≡ Some x → AnswersStart d old new told_of_it quits_at begins (Err k) → failed k ≡ told whole
+  pass_refused : (k : MatchErrorKind) (x : StartError) → start_refusal d told_of_it ≡ Some x →
+      AnswersStart d old new told_of_it quits_at begins (Err k) → failed k ≡ told whole
   pass_refused k x e a =
-      let is : refused k ≡ Err (error_at quits_at begins x) = subst (λ (o : Option StartError). MatchOption o ⊤ (λ y. refused k ≡ Err (error_at quits_at begins y))) e a.refused in
+      let is : refused k ≡ Err (error_at quits_at begins x) = subst (λ (o : Option StartError). MatchOption o ⊤
+          (λ y. refused k ≡ Err (error_at quits_at begins y))) e a.refused in
       ap failed (one_refused k (error_at quits_at begins x) is)
-      ∙ pass_told d told_of_it.look_behind q.anchored quits_at begins (pass_from (reader d) q.earliest q.haystack (suc (span_len q)) begins first None) x e
+      ∙ pass_told d told_of_it.look_behind q.anchored quits_at begins (pass_from (reader d) q.earliest q.haystack
+          (suc (span_len q)) begins first None) x e
 
-  refusal_told : (k : MatchErrorKind) (o : Option StartError) → start_refusal d told_of_it ≡ o → AnswersStart d old new told_of_it quits_at begins (Err k) →
+  refusal_told : (k : MatchErrorKind) (o : Option StartError) → start_refusal d told_of_it ≡ o →
+      AnswersStart d old new told_of_it quits_at begins (Err k) →
       (refused k ≡ Err (GaveUp begins) → new ≡ old) → FailsAt k
   refusal_told k None e a same = let x = a.err e in caused k x.0 x.1 x.2 same
   refusal_told k (Some x) e a same = inl (λ n. some_none x (sym e ∙ n), pass_refused k x e a)
@@ -155,13 +178,15 @@ module _ (d : Dfa) (q : Search) (old new : CacheValue) where
       some_none : (x : StartError) → Some x ≡ None → ⊥
       some_none x e = absurd cc
 
-  err_told : (r : Result ℕ MatchErrorKind) → AnswersStart d old new told_of_it quits_at begins r → (r ≡ Err (GaveUp begins) → new ≡ old) → IfErr r FailsAt
+  err_told : (r : Result ℕ MatchErrorKind) → AnswersStart d old new told_of_it quits_at begins r → (r ≡ Err (GaveUp begins) → new ≡ old) →
+      IfErr r FailsAt
   err_told (Ok id) a same = tt
   err_told (Err k) a same = refusal_told k (start_refusal d told_of_it) refl a same
 
   -- a start of which nothing is to be made is told, but for the refusal of the pass
   known_refused : (r : Result ℕ MatchErrorKind) → AnswersStart d old new told_of_it quits_at begins r →
-      ((p : ℕ) → start_refusal d told_of_it ≡ None → start_in d (mode_of q.anchored) ≡ Some p → start_noted d old told_of_it ≢ unknown_id → r ≡ Ok (start_noted d old told_of_it)) →
+      ((p : ℕ) → start_refusal d told_of_it ≡ None → start_in d (mode_of q.anchored) ≡ Some p → start_noted d old told_of_it ≢ unknown_id →
+          r ≡ Ok (start_noted d old told_of_it)) →
       (start_refusal d told_of_it ≡ None → start_in d (mode_of q.anchored) ≡ None → r ≡ Ok (dead_id new.stride)) →
       IsStartKnown d old told_of_it → IfErr r (λ e. failed e ≡ told whole)
   known_refused (Ok id) a known none x = tt
@@ -170,7 +195,8 @@ module _ (d : Dfa) (q : Search) (old new : CacheValue) where
       no_ok : (id : ℕ) → refused k ≡ Ok id → failed k ≡ told whole
       no_ok id e = absurd cc
 
-      named : start_refusal d told_of_it ≡ None → start_noted d old told_of_it ≢ unknown_id → (o : Option ℕ) → start_in d (mode_of q.anchored) ≡ o → failed k ≡ told whole
+      named : start_refusal d told_of_it ≡ None → start_noted d old told_of_it ≢ unknown_id → (o : Option ℕ) →
+          start_in d (mode_of q.anchored) ≡ o → failed k ≡ told whole
       named e n None f = no_ok (dead_id new.stride) (none e f)
       named e n (Some p) f = no_ok (start_noted d old told_of_it) (known p e f n)
 
@@ -199,7 +225,9 @@ module _ (d : Dfa) (q : Search) (old new : CacheValue) where
     }
 
     pub starts_pass : (is_reverse : Bool) → is_reverse ≡ d.nfa.automaton.reverse →
-        ToldStart d (start_read is_reverse q) (index_behind is_reverse (first_place is_reverse q.start q.end)) (first_place is_reverse q.start q.end) old new m1 m2 n1 n2 r →
+        ToldStart d (start_read is_reverse q) (index_behind is_reverse (first_place is_reverse q.start q.end))
+            (first_place is_reverse q.start q.end) old new m1 m2 n1 n2 r →
         StartsPass d q old new m1 m2 n1 n2 r
     starts_pass is_reverse e t = starts_so
-        (subst (λ (b : Bool). ToldStart d (start_read b q) (index_behind b (first_place b q.start q.end)) (first_place b q.start q.end) old new m1 m2 n1 n2 r) e t)
+        (subst (λ (b : Bool). ToldStart d (start_read b q) (index_behind b (first_place b q.start q.end))
+            (first_place b q.start q.end) old new m1 m2 n1 n2 r) e t)

@@ -1,5 +1,6 @@
 -- How a pass comes from point to point: not at all, further, and through one unit.
-use Rattle.std.proofs.Common.{◌≡◌, ◌≢◌, ◌⊎◌, ℕ, zero, suc, ◌+◌, ◌-◌, ◌*◌, ◌<◌, ◌≤◌, Bool, true, false, List, length, Option, Some, None, get_or, refl, sym, ap, ◌∙◌, subst, inl, inr, ⊎_elim, arith}
+use Rattle.std.proofs.Common.{◌≡◌, ◌≢◌, ◌⊎◌, ℕ, zero, suc, ◌+◌, ◌-◌, ◌*◌, ◌<◌, ◌≤◌, Bool, true, false, List, length, Option, Some, None}
+use Rattle.std.proofs.Common.{get_or, refl, sym, ap, ◌∙◌, subst, inl, inr, ⊎_elim, arith}
 use Rattle.std.specs.Prelude.{min, IsSome}
 use Rattle.std.proofs.lemmas.Bool.{cases_Bool}
 use Rattle.std.proofs.lemmas.Option.{slice_get-get_or}
@@ -9,7 +10,8 @@ use Rattle.nfa_core.specs.Ways.{place_of}
 use Rattle.determinize_core.specs.States.{StateValue}
 use Rattle.determinize_core.specs.StateBytes.{is_match}
 use Rattle.determinize_core.specs.Steps.{unit_at}
-use Rattle.lazy_dfa.specs.Caches.{CacheValue, IsShaped, IsCacheOf, IsRow, HeldAt, Names, names_dead, names_held, Leads, begun_anew, state_at, greatest}
+use Rattle.lazy_dfa.specs.Caches.{CacheValue, IsShaped, IsCacheOf, IsRow, HeldAt, Names, names_dead, names_held, Leads, begun_anew}
+use Rattle.lazy_dfa.specs.Caches.{state_at, greatest}
 use Rattle.lazy_dfa.specs.Courses.{state_behind, best_behind}
 use Rattle.lazy_dfa.specs.declared.progress.Progress.{Progress}
 use Rattle.lazy_dfa.specs.Dfas.{Dfa, IsDfa, IsUnit, after, reader}
@@ -21,9 +23,13 @@ use Rattle.lazy_dfa.specs.Points.{Point, began, Follows, IsFree, GoesTo, point}
 use Rattle.lazy_dfa.specs.Readers.{is_quit}
 use Rattle.lazy_dfa.specs.Steps.{IsHeld, StepsTo, Grew, WasCleared, KeepsOrClears, noted, IsKnown, IsNoted, most_inserts}
 use Rattle.lazy_dfa.proofs.ChangeLemmas.{grew_refl, one_state}
-use Rattle.lazy_dfa.proofs.CourseLemmas.{state_there, best_there, read_there, state_behind_one, best_behind_one, read_one, not_dead, unmatched}
+use Rattle.lazy_dfa.proofs.CourseLemmas.{state_there, best_there, read_there, state_behind_one, best_behind_one, read_one, not_dead}
+use Rattle.lazy_dfa.proofs.CourseLemmas.{unmatched}
 use Rattle.lazy_dfa.proofs.IsCacheLemmas.{row_is_plain, le_of}
-use Rattle.lazy_dfa.proofs.LinkedLemmas.{AreBytes, row_grows, grows_refl, grows_trans, grew_grows, has_cleared, cleared_grows, moved_refl, moved_trans, moved_same, names_moved, noted_moved, moved_starts, grows_moved, id_moved, linked_moved, id_grows, linked_grows, linked_none, linked_less, id_split, linked_split, linked_join, led_row, held_named, row_leads}
+use Rattle.lazy_dfa.proofs.LinkedLemmas.{AreBytes, row_grows, grows_refl, grows_trans, grew_grows, has_cleared, cleared_grows, moved_refl}
+use Rattle.lazy_dfa.proofs.LinkedLemmas.{moved_trans, moved_same, names_moved, noted_moved, moved_starts, grows_moved, id_moved}
+use Rattle.lazy_dfa.proofs.LinkedLemmas.{linked_moved, id_grows, linked_grows, linked_none, linked_less, id_split, linked_split}
+use Rattle.lazy_dfa.proofs.LinkedLemmas.{linked_join, led_row, held_named, row_leads}
 use Rattle.nfa_core.proofs.ForCallers.{place_zero}
 use Rattle.lazy_dfa.proofs.FoundLemmas.{place_add}
 
@@ -57,7 +63,8 @@ module _ (d : Dfa) (h : List ℕ) where
     names = λ s named. named;
     read = λ s named k lt. absurd (omega (arith, lt));
     best = λ s named. refl;
-    kept = inl (record { grows = grows_refl d p.cache; leads = refl; linked = linked_none d p.cache h p.at p.id n; searched = refl; began = refl });
+    kept = inl (record { grows = grows_refl d p.cache; leads = refl; linked = linked_none d p.cache h p.at p.id n; searched = refl;
+        began = refl });
     free = λ l. record { moved = moved_refl p.cache; leads = refl; determinized = refl; inserted = refl };
     running = λ r. r;
     determinized = omega arith;
@@ -65,7 +72,8 @@ module _ (d : Dfa) (h : List ℕ) where
   }
 
   -- the same to a cache in which only the place of the search is another one
-  pub goes_moved : (a : Point) (v w : CacheValue) (m n at id k : ℕ) (best : Option (ℕ × ℕ)) → IsMoved v w → w.searched ≡ v.searched → began w.progress ≡ began v.progress →
+  pub goes_moved : (a : Point) (v w : CacheValue) (m n at id k : ℕ) (best : Option (ℕ × ℕ)) → IsMoved v w → w.searched ≡ v.searched →
+      began w.progress ≡ began v.progress →
       (IsSome v.progress → IsSome w.progress) → GoesTo d h a (point v m n at id best) k → GoesTo d h a (point w m n at id best) k
   goes_moved a v w m n at id k best e searched begins runs g = record {
     place = g.place;
@@ -82,7 +90,8 @@ module _ (d : Dfa) (h : List ℕ) where
         }))
         (λ (x : HasCleared a.cache v). inr (subst (λ (n : ℕ). min (a.cache.clears + 1) greatest ≤ n) (sym (grows_moved d v w e).clears) x))
         g.kept;
-    free = λ l. let f = g.free l in record { moved = moved_trans a.cache v w f.moved e; leads = f.leads; determinized = f.determinized; inserted = f.inserted };
+    free = λ l. let f = g.free l in record { moved = moved_trans a.cache v w f.moved e; leads = f.leads; determinized = f.determinized;
+        inserted = f.inserted };
     running = λ r. runs (g.running r);
     determinized = g.determinized;
     inserted = g.inserted;
@@ -99,7 +108,8 @@ module _ (d : Dfa) (h : List ℕ) where
 -- ---- further
 
 -- a path to a place and an ID, and on from there
-module _ (d : Dfa) (v : CacheValue) (h : List ℕ) (i id j x k : ℕ) (there : j ≡ place_of d.nfa.automaton.reverse i k) (leads : id_behind d v h i id k ≡ x) where
+module _ (d : Dfa) (v : CacheValue) (h : List ℕ) (i id j x k : ℕ) (there : j ≡ place_of d.nfa.automaton.reverse i k)
+    (leads : id_behind d v h i id k ≡ x) where
   pub id_on : (l : ℕ) → id_behind d v h i id (k + l) ≡ id_behind d v h j x l
   id_on l = id_split d v h i id k l
       ∙ (ap (λ (y : ℕ). id_behind d v h (place_of d.nfa.automaton.reverse i k) y l) leads
@@ -118,7 +128,8 @@ module _ (d : Dfa) (v : CacheValue) (h : List ℕ) (i id j x k : ℕ) (there : j
 pub sum_of : (a b c k l m : ℕ) → b ≤ a + k * m → c ≤ b + l * m → c ≤ a + (k + l) * m
 sum_of a b c k l m f g = let e = add-mul k l m in omega (arith, e, f, g)
 
-module _ (d : Dfa) (h : List ℕ) (made : IsDfa d) (bytes : AreBytes h) (a b c : Point) (k l : ℕ) (own : IsCacheOf d a.cache) (mine : IsCacheOf d b.cache) (row : IsRow a.cache a.id)
+module _ (d : Dfa) (h : List ℕ) (made : IsDfa d) (bytes : AreBytes h) (a b c : Point) (k l : ℕ) (own : IsCacheOf d a.cache)
+    (mine : IsCacheOf d b.cache) (row : IsRow a.cache a.id)
     (f : GoesTo d h a b k) (g : GoesTo d h b c l) where
   follows_on : Follows d h a b k → Follows d h b c l → Follows d h a c (k + l)
   follows_on x y =
@@ -127,7 +138,8 @@ module _ (d : Dfa) (h : List ℕ) (made : IsDfa d) (bytes : AreBytes h) (a b c :
       record {
         grows = grows_trans d a.cache b.cache c.cache made own x.grows y.grows;
         leads = id_on d c.cache h a.at a.id b.at b.id k f.place leads l ∙ y.leads;
-        linked = linked_on d c.cache h a.at a.id b.at b.id k f.place leads l (linked_grows d b.cache c.cache mine y.grows h bytes a.at a.id k held x.linked) y.linked;
+        linked = linked_on d c.cache h a.at a.id b.at b.id k f.place leads l
+            (linked_grows d b.cache c.cache mine y.grows h bytes a.at a.id k held x.linked) y.linked;
         searched = y.searched ∙ x.searched;
         began = y.began ∙ x.began;
       }
@@ -147,10 +159,12 @@ module _ (d : Dfa) (h : List ℕ) (made : IsDfa d) (bytes : AreBytes h) (a b c :
   free_on : IsLinkedOver d a.cache h a.at a.id (k + l) → IsFree d h a c (k + l)
   free_on linked =
       let x = f.free (linked_less d a.cache h a.at a.id (k + l) k linked (omega arith)) in
-      let y = g.free (linked_moved d a.cache b.cache x.moved h b.at b.id l (linked_from d a.cache h a.at a.id b.at b.id k f.place x.leads l linked)) in
+      let y = g.free (linked_moved d a.cache b.cache x.moved h b.at b.id l
+          (linked_from d a.cache h a.at a.id b.at b.id k f.place x.leads l linked)) in
       record {
         moved = moved_trans a.cache b.cache c.cache x.moved y.moved;
-        leads = id_on d a.cache h a.at a.id b.at b.id k f.place x.leads l ∙ (sym (id_moved d a.cache b.cache x.moved h b.at b.id l) ∙ y.leads);
+        leads = id_on d a.cache h a.at a.id b.at b.id k f.place x.leads l
+            ∙ (sym (id_moved d a.cache b.cache x.moved h b.at b.id l) ∙ y.leads);
         determinized = y.determinized ∙ x.determinized;
         inserted = y.inserted ∙ x.inserted;
       }
@@ -158,8 +172,10 @@ module _ (d : Dfa) (h : List ℕ) (made : IsDfa d) (bytes : AreBytes h) (a b c :
   pub goes_on : GoesTo d h a c (k + l)
   goes_on = record {
     place = g.place ∙ (ap (λ (p : ℕ). place_of d.nfa.automaton.reverse p l) f.place ∙ place_add d.nfa.automaton.reverse a.at k l);
-    names = λ s named. subst (Names c.cache c.id) (state_there (reader d) h a.at b.at k f.place s l) (g.names (state_behind (reader d) h a.at s k) (f.names s named));
-    read = λ s named. read_there (reader d) h a.at b.at k f.place s l (f.read s named) (g.read (state_behind (reader d) h a.at s k) (f.names s named));
+    names = λ s named. subst (Names c.cache c.id) (state_there (reader d) h a.at b.at k f.place s l)
+        (g.names (state_behind (reader d) h a.at s k) (f.names s named));
+    read = λ s named. read_there (reader d) h a.at b.at k f.place s l (f.read s named)
+        (g.read (state_behind (reader d) h a.at s k) (f.names s named));
     best = λ s named.
         g.best (state_behind (reader d) h a.at s k) (f.names s named)
         ∙ (ap (λ (o : Option (ℕ × ℕ)). best_behind (reader d) h b.at (state_behind (reader d) h a.at s k) o l) (f.best s named)
@@ -198,7 +214,8 @@ module _ (d : Dfa) (h : List ℕ) (old : CacheValue) (at id : ℕ) (u : Option �
   id_one v = ap (led d v id) (sym is) ∙ led_row d v id u (plain_row id low)
 
   module _ (new : CacheValue) (to m1 m2 n1 n2 : ℕ) (best1 best2 : Option (ℕ × ℕ)) (mine : IsCacheOf d new) (kept : KeepsOrClears d old new)
-      (step : StepsTo d old new id u to) (there : IsNoted d old new id u to) (same : IsKnown d old id u → new ≡ old) (free : IsKnown d old id u → (m2 ≡ m1) × (n2 ≡ n1))
+      (step : StepsTo d old new id u to) (there : IsNoted d old new id u to) (same : IsKnown d old id u →
+          new ≡ old) (free : IsKnown d old id u → (m2 ≡ m1) × (n2 ≡ n1))
       (determinized : m2 ≤ m1 + 1) (inserted : n2 ≤ n1 + most_inserts d)
       (best : (s : StateValue) → HeldAt old id s → best2 ≡ recorded at (after d s u) best1) where
     abbrev here : Point
@@ -266,19 +283,23 @@ no_match false true p l = absurd (omega (arith, l))
 pub untagged_match : (v : CacheValue) (id : ℕ) (s : StateValue) → IsShaped v → id < tag → HeldAt v id s → is_match s.matches ≡ false
 untagged_match v id s i low g =
     let t = i.tags g.0 g.1 in
-    ap (λ (x : StateValue). is_match x.matches) g.3 ∙ no_match t.0 (is_match (state_at v g.0).matches) ((g.0 + 3) * v.stride) (subst (λ (n : ℕ). n < tag) (g.2 ∙ t.1) low)
+    ap (λ (x : StateValue). is_match x.matches) g.3 ∙ no_match t.0 (is_match (state_at v g.0).matches) ((g.0 + 3) * v.stride)
+        (subst (λ (n : ℕ). n < tag) (g.2 ∙ t.1) low)
 
-module _ (d : Dfa) (v : CacheValue) (id next : ℕ) (u : Option ℕ) (own : IsCacheOf d v) (unit : IsUnit u) (row : IsRow v id) (read : next ≡ noted d v id u) (plain : next < tag) where
+module _ (d : Dfa) (v : CacheValue) (id next : ℕ) (u : Option ℕ) (own : IsCacheOf d v) (unit : IsUnit u) (row : IsRow v id)
+    (read : next ≡ noted d v id u) (plain : next < tag) where
   noted_known : noted d v id u ≢ unknown_id
   noted_known z = omega (arith, read, plain, z)
 
   next_leads : (s : StateValue) → HeldAt v id s → Leads d v s u next
   next_leads s g = subst (λ (n : ℕ). Leads d v s u n) (sym read)
-      (subst (λ (t : StateValue). Leads d v t u (noted d v id u)) (one_state v id row.0 s own.shape row.1 row.2 g) (row_leads d v id u own unit row noted_known))
+      (subst (λ (t : StateValue). Leads d v t u (noted d v id u)) (one_state v id row.0 s own.shape row.1 row.2 g)
+          (row_leads d v id u own unit row noted_known))
 
   pub next_quiet : is_quit d.quits u ≡ false
   next_quiet = ⊎_elim
-      (λ (e : is_quit d.quits u ≡ true). let q = (next_leads (state_at v row.0) (row.0, row.1, row.2, refl)).quits e in absurd (omega (arith, q, plain)))
+      (λ (e : is_quit d.quits u ≡ true). let q = (next_leads (state_at v row.0) (row.0, row.1, row.2, refl)).quits e in
+          absurd (omega (arith, q, plain)))
       (λ (e : is_quit d.quits u ≡ false). e)
       (cases_Bool (is_quit d.quits u))
 
@@ -295,29 +316,35 @@ module _ (d : Dfa) (v : CacheValue) (id next : ℕ) (u : Option ℕ) (own : IsCa
       (λ s g. unmatched (after d s u) at best (untagged_match v next (after d s u) own.shape plain (next_held s g)))
 
 -- a run over known steps goes on
-module _ (d : Dfa) (v : CacheValue) (h : List ℕ) (made : IsDfa d) (own : IsCacheOf d v) (bytes : AreBytes h) (from first at id : ℕ) (row : IsRow v first) (here : IsRow v id)
+module _ (d : Dfa) (v : CacheValue) (h : List ℕ) (made : IsDfa d) (own : IsCacheOf d v) (bytes : AreBytes h) (from first at id : ℕ)
+    (row : IsRow v first) (here : IsRow v id)
     (k m n : ℕ) (best : Option (ℕ × ℕ)) (so_far : GoesTo d h (point v m n from first best) (point v m n at id best) k) where
   pub runs_on : (next at2 k2 : ℕ) (u : Option ℕ) → IsUnit u → next ≡ noted d v id u → next < tag → u ≡ unit_of (reader d) h at 0 →
       place_of d.nfa.automaton.reverse at 1 ≡ at2 → k + 1 ≡ k2 → GoesTo d h (point v m n from first best) (point v m n at2 next best) k2
   runs_on next at2 k2 u unit read plain is place count =
       subst (λ (j : ℕ). GoesTo d h (point v m n from first best) (point v m n at2 next best) j) count
       (subst (λ (p : ℕ). GoesTo d h (point v m n from first best) (point v m n p next best) (k + 1)) place
-      (goes_on d h made bytes (point v m n from first best) (point v m n at id best) (point v m n (place_of d.nfa.automaton.reverse at 1) next best) k 1 own own row so_far
+      (goes_on d h made bytes (point v m n from first best) (point v m n at id best)
+          (point v m n (place_of d.nfa.automaton.reverse at 1) next best) k 1 own own row so_far
       (goes_known d v id next u own unit here read plain h at m n best is)))
 
-pub runs_none : (d : Dfa) (v : CacheValue) (h : List ℕ) (at id k : ℕ) → IsCacheOf d v → IsRow v id → k ≡ 0 → (m n : ℕ) (best : Option (ℕ × ℕ)) →
+pub runs_none : (d : Dfa) (v : CacheValue) (h : List ℕ) (at id k : ℕ) → IsCacheOf d v → IsRow v id → k ≡ 0 →
+    (m n : ℕ) (best : Option (ℕ × ℕ)) →
     GoesTo d h (point v m n at id best) (point v m n at id best) k
 runs_none d v h at id k own row e m n best =
-    subst (λ (j : ℕ). GoesTo d h (point v m n at id best) (point v m n at id best) j) (sym e) (goes_none d h (point v m n at id best) (row_known v id own.shape row))
+    subst (λ (j : ℕ). GoesTo d h (point v m n at id best) (point v m n at id best) j) (sym e)
+        (goes_none d h (point v m n at id best) (row_known v id own.shape row))
 
 -- the unit at a place inside the haystack
-pub forward_unit : (d : Dfa) (h : List ℕ) (at : ℕ) → d.nfa.automaton.reverse ≡ false → at < length h → Some (get_or h at 0) ≡ unit_of (reader d) h at 0
+pub forward_unit : (d : Dfa) (h : List ℕ) (at : ℕ) → d.nfa.automaton.reverse ≡ false → at < length h →
+    Some (get_or h at 0) ≡ unit_of (reader d) h at 0
 forward_unit d h at up l =
     sym (slice_get-get_or h at 0 l)
     ∙ (ap (unit_at false h) (sym (place_zero false at))
     ∙ ap (λ (r : Bool). unit_at r h (place_of r at 0)) (sym up))
 
-pub reverse_unit : (d : Dfa) (h : List ℕ) (at : ℕ) → d.nfa.automaton.reverse ≡ true → 0 < at → at ≤ length h → Some (get_or h (at - 1) 0) ≡ unit_of (reader d) h at 0
+pub reverse_unit : (d : Dfa) (h : List ℕ) (at : ℕ) → d.nfa.automaton.reverse ≡ true → 0 < at → at ≤ length h →
+    Some (get_or h (at - 1) 0) ≡ unit_of (reader d) h at 0
 reverse_unit d h at is_reverse some l =
     sym (slice_get-get_or h (at - 1) 0 (omega (arith, some, l)))
     ∙ (ap (byte_before h) (back at some)

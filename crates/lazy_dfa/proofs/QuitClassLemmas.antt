@@ -1,5 +1,6 @@
 -- Bytes of one class of the marks of an automaton and of a set's ranges are both in the set or neither is.
-use Rattle.std.proofs.Common.{◌≡◌, ℕ, zero, suc, ◌+◌, ◌-◌, ◌<◌, ◌≤◌, Bool, true, false, ◌&&◌, not, nat_lt, List, [], ◌∷◌, ◌++◌, length, get_or, drop, map, cond, refl, sym, ap, ◌∙◌, subst, ⊎_elim, arith}
+use Rattle.std.proofs.Common.{◌≡◌, ℕ, zero, suc, ◌+◌, ◌-◌, ◌<◌, ◌≤◌, Bool, true, false, ◌&&◌, not, nat_lt, List, [], ◌∷◌, ◌++◌, length}
+use Rattle.std.proofs.Common.{get_or, drop, map, cond, refl, sym, ap, ◌∙◌, subst, ⊎_elim, arith}
 use Rattle.std.proofs.lemmas.Bool.{cases_Bool, cases_lt, and_parts}
 use Rattle.std.proofs.lemmas.List.{get_or-drop}
 use Rattle.std.proofs.lemmas.List.Elements.{All-head, All-tail}
@@ -44,14 +45,16 @@ start_below set (suc b) e = ⊎_elim
           (λ (up : c ≤ b). r.3 c l up)
           (cases_lt b c),
     ))
-    (λ (f : has set b ≡ false). (suc b, omega arith, starts_next set b (suc b) refl e f, λ c l k. let is : c ≡ suc b = omega (arith, l, k) in ap (has set) is ∙ e))
+    (λ (f : has set b ≡ false). (suc b, omega arith, starts_next set b (suc b) refl e f,
+        λ c l k. let is : c ≡ suc b = omega (arith, l, k) in ap (has set) is ∙ e))
     (cases_Bool (has set b))
 
 reaches : (xs : List Bool) (n : ℕ) → ((k : ℕ) → k < n → get_or xs k false ≡ true) → n ≤ prefix_len (λ m. m) xs
 reaches xs zero h = omega arith
 reaches [] (suc n) h = let never : false ≡ true = h 0 (omega arith) in absurd (grind (arith, never))
 reaches (x ∷ xs) (suc n) h =
-    let e : prefix_len (λ m. m) (x ∷ xs) ≡ 1 + prefix_len (λ m. m) xs = ap (λ (t : Bool). cond t (1 + prefix_len (λ m. m) xs) 0) (h 0 (omega arith)) in
+    let e : prefix_len (λ m. m) (x ∷ xs) ≡ 1 + prefix_len (λ m. m) xs =
+        ap (λ (t : Bool). cond t (1 + prefix_len (λ m. m) xs) 0) (h 0 (omega arith)) in
     let later : n ≤ prefix_len (λ m. m) xs = reaches xs n (λ k l. h (suc k) (omega (arith, l))) in
     omega (arith, e, later)
 
@@ -72,11 +75,13 @@ in_range set s c starts low high = ⊎_elim
 
 -- ---- what holds of each range
 
-kept_here : (P : ℕ × ℕ → Type 0) (f : ℕ → ℕ × ℕ) (x : ℕ) (later : List ℕ) (t : Bool) → t ≡ true → All P (map f (cond t (x ∷ later) later)) → P (f x)
+kept_here : (P : ℕ × ℕ → Type 0) (f : ℕ → ℕ × ℕ) (x : ℕ) (later : List ℕ) (t : Bool) → t ≡ true → All P (map f (cond t (x ∷ later) later)) →
+    P (f x)
 kept_here P f x later true e all = All-head P (f x) (map f later) all
 kept_here P f x later false e all = let never : false ≡ true = e in absurd (grind (arith, never))
 
-kept_later : (P : ℕ × ℕ → Type 0) (f : ℕ → ℕ × ℕ) (x : ℕ) (later : List ℕ) (t : Bool) → All P (map f (cond t (x ∷ later) later)) → All P (map f later)
+kept_later : (P : ℕ × ℕ → Type 0) (f : ℕ → ℕ × ℕ) (x : ℕ) (later : List ℕ) (t : Bool) → All P (map f (cond t (x ∷ later) later)) →
+    All P (map f later)
 kept_later P f x later true all = All-tail P (f x) (map f later) all
 kept_later P f x later false all = all
 
@@ -84,13 +89,15 @@ each_kept : (P : ℕ × ℕ → Type 0) (f : ℕ → ℕ × ℕ) (test : ℕ →
     (s : ℕ) → from ≤ s → s < from + n → test s ≡ true → P (f s)
 each_kept P f test from zero all s low high e = absurd (omega (arith, low, high))
 each_kept P f test from (suc n) all s low high e = ⊎_elim
-    (λ (past : from < s). each_kept P f test (from + 1) n (kept_later P f from (filter test (range_with_len (from + 1) n)) (test from) all) s (omega (arith, past)) (omega (arith, high)) e)
+    (λ (past : from < s). each_kept P f test (from + 1) n (kept_later P f from (filter test (range_with_len (from + 1) n)) (test from) all)
+        s (omega (arith, past)) (omega (arith, high)) e)
     (λ (up : s ≤ from).
     let is : from ≡ s = omega (arith, up, low) in
     subst (λ (x : ℕ). P (f x)) is (kept_here P f from (filter test (range_with_len (from + 1) n)) (test from) (ap test is ∙ e) all))
     (cases_lt from s)
 
-each_range : (P : ℕ × ℕ → Type 0) (set : List Bool) → All P (ranges_from set 0) → (s : ℕ) → s < 256 → starts_range set s ≡ true → P (s, range_end set s)
+each_range : (P : ℕ × ℕ → Type 0) (set : List Bool) → All P (ranges_from set 0) → (s : ℕ) → s < 256 → starts_range set s ≡ true →
+    P (s, range_end set s)
 unfolding bytes_where
 each_range P set all s l e = each_kept P (λ b. (b, range_end set b)) (starts_range set) 0 256 all s (omega arith) (omega (arith, l)) e
 
@@ -133,9 +140,11 @@ all_behind P (r ∷ rs) qs all = all_behind P rs qs (All-tail P r (rs ++ qs) all
 
 -- where marks of other ranges are there already
 pub same_class_same_set : (set m : List Bool) (rs : List (ℕ × ℕ)) (b c : ℕ) → IsUnmarked m → length m ≡ 256 → b ≤ c → c < 256 →
-    marks_below (recorded (recorded m rs) (ranges_from set 0)) b ≡ marks_below (recorded (recorded m rs) (ranges_from set 0)) c → has set b ≡ has set c
+    marks_below (recorded (recorded m rs) (ranges_from set 0)) b ≡ marks_below (recorded (recorded m rs) (ranges_from set 0)) c →
+        has set b ≡ has set c
 same_class_same_set set m rs b c none len up small e =
-    let twice : recorded m (rs ++ ranges_from set 0) ≡ recorded (recorded m rs) (ranges_from set 0) = recorded_twice m rs (ranges_from set 0) in
+    let twice : recorded m (rs ++ ranges_from set 0) ≡ recorded (recorded m rs) (ranges_from set 0) =
+        recorded_twice m rs (ranges_from set 0) in
     both_or_none set b c up small
     (all_behind (HoldsAllOrNone b c) rs (ranges_from set 0)
     (same_class_tells m (rs ++ ranges_from set 0) b c none up (omega (arith, len, small))

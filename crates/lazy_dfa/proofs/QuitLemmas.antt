@@ -1,5 +1,6 @@
 -- Sets of bytes that are made or read byte by byte.
-use Rattle.std.proofs.Common.{◌≡◌, ◌≢◌, ℕ, zero, suc, ◌+◌, ◌-◌, ◌<◌, ◌≤◌, Bool, true, false, ◌||◌, ◌&&◌, List, [], ◌∷◌, length, get_or, set, map, nat_le, refl, sym, ap, ◌∙◌, ⊎_elim, arith, length-set, get_or-set_same, get_or-set_other}
+use Rattle.std.proofs.Common.{◌≡◌, ◌≢◌, ℕ, zero, suc, ◌+◌, ◌-◌, ◌<◌, ◌≤◌, Bool, true, false, ◌||◌, ◌&&◌, List, [], ◌∷◌, length, get_or, set}
+use Rattle.std.proofs.Common.{map, nat_le, refl, sym, ap, ◌∙◌, ⊎_elim, arith, length-set, get_or-set_same, get_or-set_other}
 use Rattle.std.proofs.lemmas.Bool.{cases_eq, le-leb, or_right}
 use Rattle.std.proofs.lemmas.Bool.Decides.{leb_tells}
 use Rattle.std.specs.List.{range_with_len, list_all}
@@ -7,7 +8,8 @@ use Rattle.search_core.specs.ByteSets.{has}
 use Rattle.lazy_dfa.specs.Quits.{with_high_bytes, has_high_bytes}
 
 -- a list by its elements
-by_elements : (f : ℕ → Bool) (a n : ℕ) (xs : List Bool) → length xs ≡ n → ((k : ℕ) → k < n → get_or xs k false ≡ f (a + k)) → xs ≡ map f (range_with_len a n)
+by_elements : (f : ℕ → Bool) (a n : ℕ) (xs : List Bool) → length xs ≡ n → ((k : ℕ) → k < n → get_or xs k false ≡ f (a + k)) →
+    xs ≡ map f (range_with_len a n)
 by_elements f a zero [] e g = refl
 by_elements f a zero (x ∷ xs) e g = absurd (omega (arith, e))
 by_elements f a (suc n) [] e g = absurd (omega (arith, e))
@@ -15,7 +17,8 @@ by_elements f a (suc n) (x ∷ xs) e g =
     let here : a + 0 ≡ a = omega arith in
     let head : x ≡ f a = g 0 (omega arith) ∙ ap f here in
     let rest : xs ≡ map f (range_with_len (a + 1) n) =
-    by_elements f (a + 1) n xs (omega (arith, e)) (λ k l. let there : a + suc k ≡ a + 1 + k = omega arith in g (suc k) (omega (arith, l)) ∙ ap f there) in
+    by_elements f (a + 1) n xs (omega (arith, e)) (λ k l. let there : a + suc k ≡ a + 1 + k = omega arith in
+        g (suc k) (omega (arith, l)) ∙ ap f there) in
     ap (λ (y : Bool). y ∷ xs) head ∙ ap (λ (ys : List Bool). f a ∷ ys) rest
 
 -- whether the byte is to be in the set
@@ -29,7 +32,8 @@ pub wanted_high : (set : List Bool) (b : ℕ) → 0x80 ≤ b → is_wanted set b
 wanted_high set b l = or_right (has set b) (nat_le 0x80 b) (le-leb 0x80 b l)
 
 pub unwanted : (set : List Bool) (b : ℕ) → has set b ≡ false → b < 0x80 → is_wanted set b ≡ false
-unwanted set b e l = ap (λ (x : Bool). x || nat_le 0x80 b) e ∙ ⊎_elim (λ told. let up = told.1 in absurd (omega (arith, l, up))) (λ told. told.0) (leb_tells 0x80 b)
+unwanted set b e l = ap (λ (x : Bool). x || nat_le 0x80 b) e ∙ ⊎_elim (λ told. let up = told.1 in
+    absurd (omega (arith, l, up))) (λ told. told.0) (leb_tells 0x80 b)
 
 -- so many bytes are settled, and the others aren't in the set
 pub record IsSettled (set : List Bool) (made : List Bool) (n : ℕ) : Type 0 where
@@ -39,16 +43,19 @@ pub record IsSettled (set : List Bool) (made : List Bool) (n : ℕ) : Type 0 whe
 
 pub settled_all : (set made : List Bool) → IsSettled set made 256 → made ≡ with_high_bytes set
 unfolding with_high_bytes
-settled_all set made i = by_elements (is_wanted set) 0 256 made i.len (λ k l. let e : k ≡ 0 + k = omega arith in i.done k l ∙ ap (is_wanted set) e)
+settled_all set made i = by_elements (is_wanted set) 0 256 made i.len (λ k l. let e : k ≡ 0 + k = omega arith in
+    i.done k l ∙ ap (is_wanted set) e)
 
 pub settled_none : (set made : List Bool) → length made ≡ 256 → ((b : ℕ) → b < 256 → has made b ≡ false) → IsSettled set made 0
 settled_none set made e f = record { len = e; done = λ k l. absurd (omega (arith, l)); rest = λ k l m. f k m }
 
-pub settled_in : (xs made : List Bool) (n : ℕ) → n < 256 → is_wanted xs n ≡ true → IsSettled xs made n → IsSettled xs (set made n true) (n + 1)
+pub settled_in : (xs made : List Bool) (n : ℕ) → n < 256 → is_wanted xs n ≡ true → IsSettled xs made n →
+    IsSettled xs (set made n true) (n + 1)
 settled_in xs made n small want i = record {
   len = length-set made n true ∙ i.len;
   done = λ k l. ⊎_elim
-      (λ (e : k ≡ n). ap (λ (m : ℕ). get_or (set made n true) m false) e ∙ (get_or-set_same made n true false (rw i.len small) ∙ (sym want ∙ ap (is_wanted xs) (sym e))))
+      (λ (e : k ≡ n). ap (λ (m : ℕ). get_or (set made n true) m false) e
+          ∙ (get_or-set_same made n true false (rw i.len small) ∙ (sym want ∙ ap (is_wanted xs) (sym e))))
       (λ (ne : k ≢ n). get_or-set_other made n k true false ne ∙ i.done k (omega (arith, l, ne)))
       (cases_eq k n);
   rest = λ k l m. get_or-set_other made n k true false (λ e. omega (arith, e, l)) ∙ i.rest k (omega (arith, l)) m;

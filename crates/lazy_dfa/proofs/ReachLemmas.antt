@@ -1,5 +1,6 @@
 -- What half searches depend on, those included that begin anew.
-use Rattle.std.proofs.Common.{◌≡◌, ℕ, zero, suc, ◌+◌, ◌-◌, ◌<◌, ◌≤◌, Bool, true, false, ◌&&◌, ◌||◌, not, List, length, get_or, Option, Some, None, if◌then◌else◌, refl, sym, ap, ◌∙◌, ◌⊎◌, inl, inr, ⊎_elim, subst, arith}
+use Rattle.std.proofs.Common.{◌≡◌, ℕ, zero, suc, ◌+◌, ◌-◌, ◌<◌, ◌≤◌, Bool, true, false, ◌&&◌, ◌||◌, not, List, length, get_or, Option, Some}
+use Rattle.std.proofs.Common.{None, if◌then◌else◌, refl, sym, ap, ◌∙◌, ◌⊎◌, inl, inr, ⊎_elim, subst, arith}
 use Rattle.std.proofs.lemmas.Bool.{cases_Bool, cases_lt, eq-eqb, ne_eqb, lt-ltb, le-leb}
 use Rattle.std.proofs.lemmas.Bool.Decides.{leb_tells}
 use Rattle.std.proofs.lemmas.Option.{slice_get-get_or, slice_get_past}
@@ -172,7 +173,8 @@ behind_next true h s e n (suc i) fit = ap (byte_at h) (one i)
     one i = omega arith
 
 -- the byte behind a place that was reached is one of those that were read
-byte_alike : (is_reverse : Bool) (h g : List ℕ) (i k : ℕ) → (k ≤ i) ⊎ (is_reverse ≡ false) → unit_behind is_reverse h i ≡ unit_behind is_reverse g i →
+byte_alike : (is_reverse : Bool) (h g : List ℕ) (i k : ℕ) → (k ≤ i) ⊎ (is_reverse ≡ false) →
+    unit_behind is_reverse h i ≡ unit_behind is_reverse g i →
     ((m : ℕ) → m ≤ k → unit_at is_reverse h (place_of is_reverse i m) ≡ unit_at is_reverse g (place_of is_reverse i m)) →
     byte_at h (place_of is_reverse i k) ≡ byte_at g (place_of is_reverse i k)
 byte_alike false h g i k low back all = all k (omega arith)

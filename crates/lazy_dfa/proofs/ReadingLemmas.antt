@@ -1,5 +1,6 @@
 -- Beyond what a pass reads looks may hold anyhow: what it finds is the first end all the same.
-use Rattle.std.proofs.Common.{◌≡◌, ℕ, zero, suc, ◌+◌, ◌<◌, ◌≤◌, Bool, true, false, ◌||◌, not, List, [], ◌∷◌, ◌++◌, length, get_or, Option, Some, None, refl, sym, ap, ◌∙◌, ◌⊎◌, inl, inr, ⊎_elim, subst, arith, if◌then◌else◌}
+use Rattle.std.proofs.Common.{◌≡◌, ℕ, zero, suc, ◌+◌, ◌<◌, ◌≤◌, Bool, true, false, ◌||◌, not, List, [], ◌∷◌, ◌++◌, length, get_or, Option}
+use Rattle.std.proofs.Common.{Some, None, refl, sym, ap, ◌∙◌, ◌⊎◌, inl, inr, ⊎_elim, subst, arith, if◌then◌else◌}
 use Rattle.std.proofs.lemmas.Bool.{cases_Bool, le-ltb}
 use Rattle.std.proofs.lemmas.Bool.Decides.{leb_tells}
 use Rattle.std.specs.Bool.{nat_eq, nat_lt, nat_le}
@@ -21,7 +22,8 @@ use Rattle.nfa_core.specs.Ways.{Text, span, reads, is_passed, on_read, byte_step
 use Rattle.nfa_core.proofs.ForCallers.{first_same, alike_by_looks, place_zero}
 use Rattle.determinize_core.specs.States.{StateValue}
 use Rattle.determinize_core.specs.Starts.{start_of}
-use Rattle.determinize_core.specs.Steps.{closed, known_steps, kept, unit_steps, reading, ids_before, behind, start_value, step_value, unit_at, unit_behind}
+use Rattle.determinize_core.specs.Steps.{closed, known_steps, kept, unit_steps, reading, ids_before, behind, start_value, step_value}
+use Rattle.determinize_core.specs.Steps.{unit_at, unit_behind}
 use Rattle.determinize_core.specs.Walked.{cut_of, walked_lists}
 use Rattle.determinize_core.proofs.ForCallers.{lists_are_lists, states_are, entries_alike}
 use Rattle.lazy_dfa.specs.Readers.{Reader, found}

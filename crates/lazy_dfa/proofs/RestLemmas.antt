@@ -1,5 +1,6 @@
 -- What is left of a walk, turn by turn: how it begins and reads on, by what it is refused, and where the ends lie that it tells.
-use Rattle.std.proofs.Common.{◌≡◌, ℕ, zero, suc, ◌-◌, ◌<◌, ◌≤◌, Bool, true, false, List, [], ◌∷◌, map, Option, Some, None, if◌then◌else◌, refl, sym, ap, ◌∙◌, ◌⊎◌, inl, inr, ⊎_elim, subst, arith}
+use Rattle.std.proofs.Common.{◌≡◌, ℕ, zero, suc, ◌-◌, ◌<◌, ◌≤◌, Bool, true, false, List, [], ◌∷◌, map, Option, Some, None, if◌then◌else◌}
+use Rattle.std.proofs.Common.{refl, sym, ap, ◌∙◌, ◌⊎◌, inl, inr, ⊎_elim, subst, arith}
 use Rattle.std.proofs.lemmas.Bool.{cases_Bool, le-leb}
 use Rattle.search_core.specs.ByteSets.{has}
 use Rattle.search_core.specs.Text.{byte_at}
@@ -228,7 +229,8 @@ module _ (r : Reader) (h : List ℕ) where
 
 -- ---- whole walks
 
-in_span : (is_reverse : Bool) (s e k j : ℕ) → s ≤ e → k < suc (e - s) → j ≡ place_of is_reverse (first_place is_reverse s e) k → (s ≤ j) × (j ≤ e)
+in_span : (is_reverse : Bool) (s e k j : ℕ) → s ≤ e → k < suc (e - s) → j ≡ place_of is_reverse (first_place is_reverse s e) k → (s ≤ j) ×
+    (j ≤ e)
 in_span false s e k j fits l at = (omega (arith, fits, l, at), omega (arith, fits, l, at))
 in_span true s e k j fits l at = (omega (arith, fits, l, at), omega (arith, fits, l, at))
 

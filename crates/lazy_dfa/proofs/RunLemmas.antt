@@ -1,5 +1,6 @@
 -- The rest of a pass, by the turns that it makes one after the other.
-use Rattle.std.proofs.Common.{◌≡◌, ◌⊎◌, inl, inr, ℕ, suc, ◌+◌, ◌-◌, ◌*◌, ◌<◌, ◌≤◌, ◌==◌, ◌&&◌, not, min, Bool, true, false, List, Option, Some, None, Ok, Err, get_or, if◌then◌else◌, refl, sym, ap, ◌∙◌, subst, ⊎_elim, arith, true≢false}
+use Rattle.std.proofs.Common.{◌≡◌, ◌⊎◌, inl, inr, ℕ, suc, ◌+◌, ◌-◌, ◌*◌, ◌<◌, ◌≤◌, ◌==◌, ◌&&◌, not, min, Bool, true, false, List, Option}
+use Rattle.std.proofs.Common.{Some, None, Ok, Err, get_or, if◌then◌else◌, refl, sym, ap, ◌∙◌, subst, ⊎_elim, arith, true≢false}
 use Rattle.std.proofs.lemmas.Bool.{cases_Bool, cases_lt, le-leb, ne_eqb}
 use Rattle.std.proofs.Math.Nat.{mul-le-mul_right, suc-mul}
 use Rattle.search_core.specs.ByteSets.{has}
@@ -25,7 +26,8 @@ use Rattle.lazy_dfa.specs.Steps.{most_inserts}
 use Rattle.lazy_dfa.specs.Turns.{Leaves, FailsOn}
 use Rattle.lazy_dfa.proofs.CourseLemmas.{state_there, unit_there, not_dead}
 use Rattle.lazy_dfa.proofs.IsCacheLemmas.{row_is_plain}
-use Rattle.lazy_dfa.proofs.LinkedLemmas.{AreBytes, grows_trans, grows_or_clears_trans, cleared_grows, moved_trans, names_moved, noted_moved, moved_starts, grows_moved, id_moved, linked_moved, linked_less}
+use Rattle.lazy_dfa.proofs.LinkedLemmas.{AreBytes, grows_trans, grows_or_clears_trans, cleared_grows, moved_trans, names_moved, noted_moved}
+use Rattle.lazy_dfa.proofs.LinkedLemmas.{moved_starts, grows_moved, id_moved, linked_moved, linked_less}
 use Rattle.lazy_dfa.proofs.PassEndLemmas.{ends_dead, ends_stop, ends_last, ends_quit, reads_on}
 use Rattle.lazy_dfa.proofs.PointLemmas.{goes_on, held_plain, linked_from}
 use Rattle.lazy_dfa.proofs.TurnLemmas.{dead_is}
@@ -37,7 +39,8 @@ use Rattle.nfa_core.proofs.ForCallers.{place_zero}
 pub row_holds : (v : CacheValue) (id : ℕ) (s : StateValue) (d : Dfa) → IsCacheOf d v → IsRow v id → Names v id s → HeldAt v id s
 row_holds v id s d own row named = held_plain v id s (row_is_plain v id row.0 own.shape row.1 row.2) named
 
-module _ (d : Dfa) (earliest : Bool) (h : List ℕ) (made : IsDfa d) (bytes : AreBytes h) (a b c : Point) (k l : ℕ) (own : IsCacheOf d a.cache) (mine : IsCacheOf d b.cache)
+module _ (d : Dfa) (earliest : Bool) (h : List ℕ) (made : IsDfa d) (bytes : AreBytes h) (a b c : Point) (k l : ℕ)
+    (own : IsCacheOf d a.cache) (mine : IsCacheOf d b.cache)
     (row : IsRow a.cache a.id) (here : IsRow b.cache b.id) (f : GoesBetween d earliest h a b k) (g : GoesBetween d earliest h b c l) where
   abbrev stop_at : StateValue → Bool
   stop_at s = earliest && not (is_empty s.matches)
@@ -49,7 +52,8 @@ module _ (d : Dfa) (earliest : Bool) (h : List ℕ) (made : IsDfa d) (bytes : Ar
       let there = row_holds b.cache b.id (state_behind (reader d) h a.at s k) d mine here (f.0.names s (names_held held)) in
       let same : k + suc (m - k) ≡ suc m = omega (arith, e) in
       let is = sym (ap (state_behind (reader d) h a.at s) same) ∙ sym (state_there (reader d) h a.at b.at k f.0.place s (suc (m - k))) in
-      stop_of (state_behind (reader d) h a.at s (suc m)) (state_behind (reader d) h b.at (state_behind (reader d) h a.at s k) (suc (m - k))) is
+      stop_of (state_behind (reader d) h a.at s (suc m)) (state_behind (reader d) h b.at (state_behind (reader d) h a.at s k) (suc (m - k)))
+          is
       (g.1 (state_behind (reader d) h a.at s k) there (m - k) (omega (arith, e, lt))))
       (cases_lt m k)
     where
@@ -71,7 +75,8 @@ as_told_moves v w = refl
 pub as_told_back : (v w : CacheValue) → IsMoved (as_told v w) w
 as_told_back v w = refl
 
-module _ (d : Dfa) (h : List ℕ) (a : Point) (w : CacheValue) (c : Point) (k : ℕ) (e : IsMoved a.cache w) (g : GoesTo d h (record a { cache = w }) c k) where
+module _ (d : Dfa) (h : List ℕ) (a : Point) (w : CacheValue) (c : Point) (k : ℕ) (e : IsMoved a.cache w)
+    (g : GoesTo d h (record a { cache = w }) c k) where
   abbrev kept_as : CacheValue
   kept_as = as_told a.cache c.cache
 
@@ -81,7 +86,8 @@ module _ (d : Dfa) (h : List ℕ) (a : Point) (w : CacheValue) (c : Point) (k : 
   grows_as : Grows d w c.cache → Grows d a.cache kept_as
   grows_as f = record {
     names = λ i s n. names_moved d c.cache kept_as refl i s (f.names i s (names_moved d a.cache w e i s n));
-    known = λ i u r unit n. f.known i u (row_moved i r) unit (λ z. n (sym (noted_moved d a.cache w e i u) ∙ z)) ∙ noted_moved d a.cache w e i u;
+    known = λ i u r unit n. f.known i u (row_moved i r) unit (λ z. n (sym (noted_moved d a.cache w e i u) ∙ z))
+        ∙ noted_moved d a.cache w e i u;
     starts = λ i n. f.starts i (λ z. n (sym (starts_same i) ∙ z)) ∙ starts_same i;
     clears = f.clears ∙ (grows_moved d a.cache w e).clears;
   }
@@ -95,7 +101,8 @@ module _ (d : Dfa) (h : List ℕ) (a : Point) (w : CacheValue) (c : Point) (k : 
   pub goes_as_told : GoesTo d h a (record c { cache = kept_as }) k
   goes_as_told = record {
     place = g.place;
-    names = λ s named. names_moved d c.cache kept_as refl c.id (state_behind (reader d) h a.at s k) (g.names s (names_moved d a.cache w e a.id s named));
+    names = λ s named. names_moved d c.cache kept_as refl c.id (state_behind (reader d) h a.at s k)
+        (g.names s (names_moved d a.cache w e a.id s named));
     read = λ s named. g.read s (names_moved d a.cache w e a.id s named);
     best = λ s named. g.best s (names_moved d a.cache w e a.id s named);
     kept = ⊎_elim
@@ -154,8 +161,10 @@ tells_some true q e = ⊎_elim
 
 -- ---- ends
 
-module _ (d : Dfa) (q : Search) (made : IsDfa d) (bytes : AreBytes q.haystack) (s : StateValue) (from p : Point) (k : ℕ) (own : IsCacheOf d from.cache) (mine : IsCacheOf d p.cache)
-    (held : HeldAt from.cache from.id s) (here : IsRow p.cache p.id) (none : from.best ≡ None) (between : GoesBetween d q.earliest q.haystack from p k) (inside : k ≤ span_len q) where
+module _ (d : Dfa) (q : Search) (made : IsDfa d) (bytes : AreBytes q.haystack) (s : StateValue) (from p : Point) (k : ℕ)
+    (own : IsCacheOf d from.cache) (mine : IsCacheOf d p.cache)
+    (held : HeldAt from.cache from.id s) (here : IsRow p.cache p.id) (none : from.best ≡ None)
+        (between : GoesBetween d q.earliest q.haystack from p k) (inside : k ≤ span_len q) where
   abbrev h : List ℕ
   h = q.haystack
 
@@ -218,7 +227,8 @@ module _ (d : Dfa) (q : Search) (made : IsDfa d) (bytes : AreBytes q.haystack) (
     free_here linked =
         let more = linked_less d from.cache h from.at from.id units (k + 1) linked (let l = reads_this in omega (arith, l)) in
         let f = goes.free (linked_less d from.cache h from.at from.id (k + 1) k more (omega arith)) in
-        (f, linked_moved d from.cache p.cache f.moved h p.at p.id 1 (linked_from d from.cache h from.at from.id p.at p.id k goes.place f.leads 1 more))
+        (f, linked_moved d from.cache p.cache f.moved h p.at p.id 1 (linked_from d from.cache h from.at from.id p.at p.id k goes.place
+            f.leads 1 more))
 
     few : m ≤ from.determinized + units
     few = let l = reads_this in let a = goes.determinized in let b = x.determinized in omega (arith, l, a, b)
@@ -227,7 +237,8 @@ module _ (d : Dfa) (q : Search) (made : IsDfa d) (bytes : AreBytes q.haystack) (
     few_names = sum_to from.inserted p.inserted n k units (most_inserts d) reads_this goes.inserted x.inserted
 
     -- the unit is a quit byte
-    pub runs_quit : (b y : ℕ) → unit_at d.nfa.automaton.reverse h p.at ≡ Some b → has d.quits b ≡ true → y ≡ index_at d.nfa.automaton.reverse p.at →
+    pub runs_quit : (b y : ℕ) → unit_at d.nfa.automaton.reverse h p.at ≡ Some b → has d.quits b ≡ true →
+        y ≡ index_at d.nfa.automaton.reverse p.at →
         Left new (Quit b y) → RunsOn d q s from new m n (Err (Quit b y))
     runs_quit b y unit is place left =
         let answered : answer ≡ quit b y =
@@ -275,7 +286,8 @@ module _ (d : Dfa) (q : Search) (made : IsDfa d) (bytes : AreBytes q.haystack) (
 
   -- ---- with what was found
 
-  module _ (new : CacheValue) (m n : ℕ) (b : Option HalfFound) (x : EndsWith d q p new m n (pair_of b)) (last : p.at ≡ last_place d.nfa.automaton.reverse q → k ≡ span_len q)
+  module _ (new : CacheValue) (m n : ℕ) (b : Option HalfFound) (x : EndsWith d q p new m n (pair_of b))
+      (last : p.at ≡ last_place d.nfa.automaton.reverse q → k ≡ span_len q)
       (first : k ≡ came d.nfa.automaton.reverse q p.at) (begun : BeganFirst d.nfa.automaton.reverse q from.cache)
       (same : tells d.nfa.automaton.reverse q ≡ false → p.cache ≡ from.cache) where
     abbrev behind : CacheValue
@@ -297,7 +309,8 @@ module _ (d : Dfa) (q : Search) (made : IsDfa d) (bytes : AreBytes q.haystack) (
     all_read = subst (AreRead (reader d) h from.at s) one_more (whole.read s (names_held held))
 
     best_is : pair_of b ≡ best_behind (reader d) h from.at s None (suc k)
-    best_is = whole.best s (names_held held) ∙ (ap (λ (o : Option (ℕ × ℕ)). best_behind (reader d) h from.at s o (k + 1)) none ∙ ap (best_behind (reader d) h from.at s None) one_more)
+    best_is = whole.best s (names_held held) ∙ (ap (λ (o : Option (ℕ × ℕ)). best_behind (reader d) h from.at s o (k + 1)) none
+        ∙ ap (best_behind (reader d) h from.at s None) one_more)
 
     moved : IsMoved behind new
     moved = moved_trans behind x.behind new (as_told_back p.cache x.behind) x.ended
@@ -366,9 +379,11 @@ module _ (d : Dfa) (q : Search) (made : IsDfa d) (bytes : AreBytes q.haystack) (
         (λ (y : HasCleared p.cache new). inr y)
         (x.told (λ t. f.began ∙ begun t))
       where
-        told_from : told_behind is_reverse (span_len q) (told_of p.cache) (suc k) ≡ told_behind is_reverse (span_len q) (told_of from.cache) (suc k)
+        told_from : told_behind is_reverse (span_len q) (told_of p.cache) (suc k) ≡ told_behind is_reverse (span_len q) (told_of from.cache)
+            (suc k)
         told_from = ⊎_elim
-            (λ (t : tells is_reverse q ≡ true). told_by_searched is_reverse (span_len q) (suc k) p.cache from.cache f.searched (tells_some is_reverse q t))
+            (λ (t : tells is_reverse q ≡ true). told_by_searched is_reverse (span_len q) (suc k) p.cache from.cache f.searched
+                (tells_some is_reverse q t))
             (λ (t : tells is_reverse q ≡ false). ap (λ (v : CacheValue). told_behind is_reverse (span_len q) (told_of v) (suc k)) (same t))
             (cases_Bool (tells is_reverse q))
 
@@ -380,7 +395,8 @@ module _ (d : Dfa) (q : Search) (made : IsDfa d) (bytes : AreBytes q.haystack) (
     cleared_behind y = subst (λ (c : ℕ). min (from.cache.clears + 1) greatest ≤ c) (sym (grows_moved d behind new moved).clears) y
 
     follows_new : Follows d h from p k → Follows d h from to (k + 1) → ToldBehind from.cache →
-        Grows d from.cache new × IsLinkedOver d new h from.at from.id units × (told_of new ≡ told_behind is_reverse (span_len q) (told_of from.cache) units)
+        Grows d from.cache new × IsLinkedOver d new h from.at from.id units ×
+            (told_of new ≡ told_behind is_reverse (span_len q) (told_of from.cache) units)
     follows_new f g t = (
       grows_trans d from.cache behind new made own g.grows (grows_moved d behind new moved),
       subst (IsLinkedOver d new h from.at from.id) (sym units_are) (linked_moved d behind new moved h from.at from.id (k + 1) g.linked),
@@ -388,7 +404,8 @@ module _ (d : Dfa) (q : Search) (made : IsDfa d) (bytes : AreBytes q.haystack) (
     )
 
     followed : Follows d h from p k ⊎ HasCleared from.cache p.cache → Follows d h from to (k + 1) ⊎ HasCleared from.cache behind →
-        (Grows d from.cache new × IsLinkedOver d new h from.at from.id units × (told_of new ≡ told_behind is_reverse (span_len q) (told_of from.cache) units)) ⊎
+        (Grows d from.cache new × IsLinkedOver d new h from.at from.id units ×
+            (told_of new ≡ told_behind is_reverse (span_len q) (told_of from.cache) units)) ⊎
         HasCleared from.cache new
     followed f (inr y) = inr (cleared_behind y)
     followed (inr z) g = inr (cleared_behind (cleared_on z one.kept))
@@ -403,7 +420,8 @@ module _ (d : Dfa) (q : Search) (made : IsDfa d) (bytes : AreBytes q.haystack) (
 
     -- what was told at its end, whether the cache was cleared or not
     abbrev Ended : ℕ → Type 0
-    Ended all = ((told_of new ≡ told_behind is_reverse (span_len q) (told_of from.cache) all) × (new.clears ≡ from.cache.clears)) ⊎ (HasCleared from.cache new × RestAnew is_reverse q all (told_of new))
+    Ended all = ((told_of new ≡ told_behind is_reverse (span_len q) (told_of from.cache) all) × (new.clears ≡ from.cache.clears)) ⊎
+        (HasCleared from.cache new × RestAnew is_reverse q all (told_of new))
 
     pub runs_found : Ended (suc k) → RunsOn d q s from new m n (Ok b)
     runs_found told = record {

@@ -343,7 +343,8 @@ done_search_makes_no_pass : passes_of (between (forward nothing)) (over beta 2 1
 done_search_makes_no_pass = refl
 
 -- `a` on "ab": a start, and a state behind each of two bytes and the end
-states_of_a_search : made_by (reads (forward letter) no_quits) (over (97 ∷ 98 ∷ []) 0 2) (passes_of (reads (forward letter) no_quits) (over (97 ∷ 98 ∷ []) 0 2)) ≡ 4
+states_of_a_search : made_by (reads (forward letter) no_quits) (over (97 ∷ 98 ∷ []) 0 2)
+    (passes_of (reads (forward letter) no_quits) (over (97 ∷ 98 ∷ []) 0 2)) ≡ 4
 unfolding families_of known_lines known_words next_value start_or_dead pass_from
 states_of_a_search = refl
 
@@ -351,18 +352,21 @@ abbrev nothing_told : Told
 nothing_told = record { searched = 0; progress = None }
 
 -- it comes over two bytes, and once more over two
-bytes_of_a_search : told_by (reads (forward letter) no_quits) (over (97 ∷ 98 ∷ []) 0 2) nothing_told ((2, 0) ∷ []) ≡ record { searched = 2; progress = None }
+bytes_of_a_search : told_by (reads (forward letter) no_quits) (over (97 ∷ 98 ∷ []) 0 2) nothing_told ((2, 0) ∷ []) ≡ record { searched = 2;
+    progress = None }
 unfolding families_of known_lines known_words next_value start_or_dead pass_from
 bytes_of_a_search = refl
 
 -- a search that still went on over three bytes ends with it
-bytes_of_two_searches : told_by (reads (forward letter) no_quits) (over (97 ∷ 98 ∷ []) 0 2) (record { searched = 2; progress = Some (record { start = 7; at = 4 }) }) ((2, 0) ∷ [])
+bytes_of_two_searches : told_by (reads (forward letter) no_quits) (over (97 ∷ 98 ∷ []) 0 2) (record { searched = 2;
+    progress = Some (record { start = 7; at = 4 }) }) ((2, 0) ∷ [])
     ≡ record { searched = 7; progress = None }
 unfolding families_of known_lines known_words next_value start_or_dead pass_from
 bytes_of_two_searches = refl
 
 -- in reverse through three bytes, the last two of which match: from the last byte to the first
-bytes_of_a_search_in_reverse : told_by (record (reads (backward letters) no_quits) { kind = AllMatches }) (record (over (98 ∷ 97 ∷ 97 ∷ []) 0 3) { anchored = Yes }) nothing_told ((3, 3) ∷ [])
+bytes_of_a_search_in_reverse : told_by (record (reads (backward letters) no_quits) { kind = AllMatches })
+    (record (over (98 ∷ 97 ∷ 97 ∷ []) 0 3) { anchored = Yes }) nothing_told ((3, 3) ∷ [])
     ≡ record { searched = 2; progress = None }
 unfolding families_of known_lines known_words next_value start_or_dead pass_from
 bytes_of_a_search_in_reverse = refl

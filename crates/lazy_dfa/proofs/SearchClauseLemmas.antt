@@ -1,5 +1,6 @@
 -- What a half search tells its callers.
-use Rattle.std.proofs.Common.{◌≡◌, ℕ, zero, suc, ◌+◌, ◌-◌, ◌*◌, ◌<◌, ◌≤◌, Bool, true, false, not, ◌&&◌, List, [], ◌∷◌, length, Option, Some, None, refl, sym, ap, ◌∙◌, ◌⊎◌, inl, inr, subst, arith, if◌then◌else◌, true≢false}
+use Rattle.std.proofs.Common.{◌≡◌, ℕ, zero, suc, ◌+◌, ◌-◌, ◌*◌, ◌<◌, ◌≤◌, Bool, true, false, not, ◌&&◌, List, [], ◌∷◌, length, Option, Some}
+use Rattle.std.proofs.Common.{None, refl, sym, ap, ◌∙◌, ◌⊎◌, inl, inr, subst, arith, if◌then◌else◌, true≢false}
 use Rattle.std.specs.Bool.{nat_le}
 use Rattle.std.specs.Prelude.{Result, Ok, Err, OnOk, IfOk, IfErr, is_none}
 use Rattle.search_types.specs.declared.anchored.Anchored.{Anchored}
@@ -23,7 +24,8 @@ use Rattle.lazy_dfa.specs.Passes.{next_place, pass, first_value}
 use Rattle.lazy_dfa.specs.Readers.{Reader, found}
 use Rattle.lazy_dfa.specs.ScanLaws.{begins_at, passes_made, units_in_passes, pass_count, unit_count, HasNoQuitNear}
 use Rattle.lazy_dfa.specs.Scans.{scan}
-use Rattle.lazy_dfa.specs.SearchAnswers.{half_of, pair_of, told, GivesUpIn, at_start, at_unit, GivesUpAmong, Answers, told_of, told_by, made_by, HasReach, HasReachBack}
+use Rattle.lazy_dfa.specs.SearchAnswers.{half_of, pair_of, told, GivesUpIn, at_start, at_unit, GivesUpAmong, Answers, told_of, told_by}
+use Rattle.lazy_dfa.specs.SearchAnswers.{made_by, HasReach, HasReachBack}
 use Rattle.lazy_dfa.specs.Steps.{most_inserts}
 use Rattle.lazy_dfa.proofs.AnswerLemmas.{ok_is_told, ok_is_found}
 use Rattle.lazy_dfa.proofs.HasReachLemmas.{scan_has_reach, scan_has_reach_back}
@@ -47,13 +49,15 @@ module _ (r : Reader) (q : Search) where
   one_more true len made units ps is = omega (arith, is)
   one_more false len made units ps is = omega arith
 
-  on_counted : (n i : ℕ) → made_by r q (on n i) ≡ passes_made r q.anchored q.earliest q.haystack n i + units_in_passes r q.anchored q.earliest q.haystack n i
+  on_counted : (n i : ℕ) → made_by r q (on n i) ≡ passes_made r q.anchored q.earliest q.haystack n i + units_in_passes r q.anchored
+      q.earliest q.haystack n i
   on_counted zero i = omega arith
   on_counted (suc n) i =
       one_more (split (suc n) i) (len_of (suc n) i) (passes_made r q.anchored q.earliest q.haystack n (next_place r i))
       (units_in_passes r q.anchored q.earliest q.haystack n (next_place r i)) (on n (next_place r i)) (on_counted n (next_place r i))
 
-  by_mode : (begun once : Bool) (p : ℕ × ℕ) (len made units : ℕ) (ps : List (ℕ × ℕ)) → made_by r q (p ∷ []) ≡ 1 + len → made_by r q ps ≡ made + units →
+  by_mode : (begun once : Bool) (p : ℕ × ℕ) (len made units : ℕ) (ps : List (ℕ × ℕ)) → made_by r q (p ∷ []) ≡ 1 + len →
+      made_by r q ps ≡ made + units →
       made_by r q (if begun then (if once then p ∷ [] else ps) else []) ≡
       (if begun then (if once then 1 else made) else 0) + (if begun then (if once then len else units) else 0)
   by_mode true true p len made units ps one all = one
@@ -69,7 +73,8 @@ module _ (r : Reader) (q : Search) where
 
 -- ---- room
 
-no_room_lacks : (o : Option ℕ) (a b c : Bool) (bytes : Option ℕ) (v : CacheValue) → o ≡ None → not a && (b && (c && is_refused o bytes v)) ≡ false
+no_room_lacks : (o : Option ℕ) (a b c : Bool) (bytes : Option ℕ) (v : CacheValue) → o ≡ None →
+    not a && (b && (c && is_refused o bytes v)) ≡ false
 no_room_lacks o a b c bytes v none =
     ap (λ (x : Option ℕ). not a && (b && (c && is_refused x bytes v))) none ∙ none_of a b c
   where
@@ -83,11 +88,13 @@ module _ (d : Dfa) (v : CacheValue) (none : clears_of d.options ≡ None) where
   -- where no least count of clears is set, there is always room
   pub has_room : (s : StateValue) → lacks_room d v s ≡ true → ⊥
   has_room s lacks = true≢false (sym lacks
-      ∙ no_room_lacks (clears_of d.options) (is_dead s) (is_none (place_of s v.states)) (not (fits d.capacity s v)) (bytes_of d.options) v none)
+      ∙ no_room_lacks (clears_of d.options) (is_dead s) (is_none (place_of s v.states)) (not (fits d.capacity s v))
+          (bytes_of d.options) v none)
 
   pub never_here : (mode : Anchored) (earliest : Bool) (h : List ℕ) (n i x : ℕ) → GivesUpIn d v mode earliest h n i x → ⊥
   never_here mode earliest h n i x (at_start place lacks) = has_room (first_value (reader d) mode h i) lacks
-  never_here mode earliest h n i x (at_unit k less place lacks runs) = has_room (state_behind (reader d) h i (first_value (reader d) mode h i) (suc k)) lacks
+  never_here mode earliest h n i x (at_unit k less place lacks runs) =
+      has_room (state_behind (reader d) h i (first_value (reader d) mode h i) (suc k)) lacks
 
   pub never_among : (q : Search) (x : ℕ) (ps : List (ℕ × ℕ)) → GivesUpAmong d v q x ps → ⊥
   never_among q x [] g = g
@@ -131,12 +138,14 @@ module _ (d : Dfa) (q : Search) (old new : CacheValue) (m1 m2 n1 n2 : ℕ) (resu
   is_linked_then = on_ok result (HasFollowed ⊎ HasCleared old new) (new.clears ≡ old.clears → old.clears < greatest → IsLinked d new q)
       (λ kept same less. (not_forgotten kept same less).1) made.follows
 
-  pub is_told_then : OnOk result (new.clears ≡ old.clears → old.clears < greatest → told_of new ≡ told_by (reader d) q (told_of old) (passes_of (reader d) q))
+  pub is_told_then : OnOk result (new.clears ≡ old.clears → old.clears < greatest →
+      told_of new ≡ told_by (reader d) q (told_of old) (passes_of (reader d) q))
   is_told_then = on_ok result (HasFollowed ⊎ HasCleared old new)
       (new.clears ≡ old.clears → old.clears < greatest → told_of new ≡ told_by (reader d) q (told_of old) (passes_of (reader d) q))
       (λ kept same less. (not_forgotten kept same less).2) made.follows
 
-  pub is_left_then : IfErr result (λ e. new.clears ≡ old.clears → old.clears < greatest → LeavesTold (reader d) q e (told_of old) (told_of new))
+  pub is_left_then : IfErr result (λ e. new.clears ≡ old.clears → old.clears < greatest →
+      LeavesTold (reader d) q e (told_of old) (told_of new))
   is_left_then = left result made.anew
     where
       left : (x : Result (Option HalfFound) MatchErrorKind) → IsSearchTold (reader d) q x old new →
@@ -148,7 +157,8 @@ module _ (d : Dfa) (q : Search) (old new : CacheValue) (m1 m2 n1 n2 : ℕ) (resu
   pub is_told_since : (new.clears ≡ old.clears → ⊥) → IsToldSince (reader d) q result (told_of new)
   is_told_since other = since result made.anew
     where
-      since : (x : Result (Option HalfFound) MatchErrorKind) → IsSearchTold (reader d) q x old new → IsToldSince (reader d) q x (told_of new)
+      since : (x : Result (Option HalfFound) MatchErrorKind) → IsSearchTold (reader d) q x old new →
+          IsToldSince (reader d) q x (told_of new)
       since (Ok f) (inl same) = absurd (other same.1)
       since (Ok f) (inr c) = c.1
       since (Err e) (inl same) = absurd (other same.1)
@@ -159,18 +169,24 @@ half_of_pair None = refl
 half_of_pair (Some m) = refl
 
 -- how far an answer reached, forward or in reverse
-reaches_where : (P : Option (ℕ × ℕ) → Type 0) (d : Dfa) (q : Search) (new : CacheValue) (result : Result (Option HalfFound) MatchErrorKind) →
-    ((o : Option (ℕ × ℕ)) → scan (reader d) q ≡ found o → P o) → Answers d new q result → IfOk result (λ f. (o : Option (ℕ × ℕ)) × (f ≡ half_of o) × P o)
+reaches_where : (P : Option (ℕ × ℕ) → Type 0) (d : Dfa) (q : Search) (new : CacheValue)
+    (result : Result (Option HalfFound) MatchErrorKind) →
+    ((o : Option (ℕ × ℕ)) → scan (reader d) q ≡ found o → P o) → Answers d new q result →
+        IfOk result (λ f. (o : Option (ℕ × ℕ)) × (f ≡ half_of o) × P o)
 reaches_where P d q new (Err e) reach answers = tt
 reaches_where P d q new (Ok f) reach answers =
     let is : scan (reader d) q ≡ found (pair_of f) =
-    ok_is_found (scan (reader d) q) f (ok_is_told f (told (scan (reader d) q)) (λ (x : ℕ). GivesUpAmong d new q x (passes_of (reader d) q)) answers) in
+    ok_is_found (scan (reader d) q) f (ok_is_told f (told (scan (reader d) q))
+        (λ (x : ℕ). GivesUpAmong d new q x (passes_of (reader d) q)) answers) in
     (pair_of f, half_of_pair f, reach (pair_of f) is)
 
-module _ (d : Dfa) (q : Search) (new : CacheValue) (result : Result (Option HalfFound) MatchErrorKind) (made : IsDfa d) (within : q.end ≤ length q.haystack)
+module _ (d : Dfa) (q : Search) (new : CacheValue) (result : Result (Option HalfFound) MatchErrorKind) (made : IsDfa d)
+    (within : q.end ≤ length q.haystack)
     (answers : Answers d new q result) where
   pub reaches : d.nfa.automaton.reverse ≡ false → IfOk result (λ f. (o : Option (ℕ × ℕ)) × (f ≡ half_of o) × HasReach (reader d) q o)
   reaches up = reaches_where (HasReach (reader d) q) d q new result (λ o is. scan_has_reach (reader d) q o up made.sound within is) answers
 
-  pub reaches_back : d.nfa.automaton.reverse ≡ true → IfOk result (λ f. (o : Option (ℕ × ℕ)) × (f ≡ half_of o) × HasReachBack (reader d) q o)
-  reaches_back back = reaches_where (HasReachBack (reader d) q) d q new result (λ o is. scan_has_reach_back (reader d) q o back within is) answers
+  pub reaches_back : d.nfa.automaton.reverse ≡ true → IfOk result (λ f. (o : Option (ℕ × ℕ)) × (f ≡ half_of o) ×
+      HasReachBack (reader d) q o)
+  reaches_back back = reaches_where (HasReachBack (reader d) q) d q new result
+      (λ o is. scan_has_reach_back (reader d) q o back within is) answers

@@ -1,5 +1,6 @@
 -- How a half search goes on, and how it ends, by what its next pass answers.
-use Rattle.std.proofs.Common.{◌≡◌, ℕ, ◌+◌, ◌-◌, ◌<◌, ◌≤◌, Bool, true, false, not, List, [], ◌∷◌, ◌++◌, Option, Some, None, refl, sym, ap, ◌∙◌, ⊎_elim, subst, arith, true≢false}
+use Rattle.std.proofs.Common.{◌≡◌, ℕ, ◌+◌, ◌-◌, ◌<◌, ◌≤◌, Bool, true, false, not, List, [], ◌∷◌, ◌++◌, Option, Some, None, refl, sym, ap}
+use Rattle.std.proofs.Common.{◌∙◌, ⊎_elim, subst, arith, true≢false}
 use Rattle.std.specs.Prelude.{Ok, Err, IsTrue, ◌↔◌}
 use Rattle.std.proofs.lemmas.Bool.{cases_lt}
 use Rattle.std.proofs.lemmas.List.{append_assoc, append-nil}
@@ -20,7 +21,8 @@ use Rattle.lazy_dfa.specs.Scans.{scan}
 use Rattle.lazy_dfa.specs.SearchAnswers.{pair_of, told, GivesUpIn}
 use Rattle.lazy_dfa.proofs.AnswerLemmas.{answer, ok_is_told, ok_is_found}
 use Rattle.lazy_dfa.proofs.LinkedLemmas.{AreBytes}
-use Rattle.lazy_dfa.proofs.PassListLemmas.{first_pass, first_answer, first_splits, done_passes, whole_once, whole_scan, anchored_once, anchored_scan, lowest_once, lowest_scan, passes_begin, passes_anew, scan_anew}
+use Rattle.lazy_dfa.proofs.PassListLemmas.{first_pass, first_answer, first_splits, done_passes, whole_once, whole_scan, anchored_once}
+use Rattle.lazy_dfa.proofs.PassListLemmas.{anchored_scan, lowest_once, lowest_scan, passes_begin, passes_anew, scan_anew}
 use Rattle.lazy_dfa.proofs.ScanLemmas.{scan_done}
 use Rattle.lazy_dfa.proofs.SearchLemmas.{HasMade, HasCome, makes_one, fails_here, finishes}
 
@@ -61,11 +63,13 @@ module _ (d : Dfa) (q t : Search) (old now : CacheValue) (m1 m2 n1 n2 : ℕ) (st
   pub done_ends : t.end < t.start → MakesSearch d q old now m1 m2 n1 n2 (Ok None)
   done_ends past =
       finishes d q old now m1 m2 n1 n2 None (ap told (sym (scan_done (reader d) t past) ∙ stands.left.scan)) stands.passes
-      (sym (append-nil stands.passes) ∙ sym (ap (λ (os : List (ℕ × ℕ)). stands.passes ++ os) (done_passes (reader d) t past)) ∙ stands.left.passes)
+      (sym (append-nil stands.passes) ∙ sym (ap (λ (os : List (ℕ × ℕ)). stands.passes ++ os) (done_passes (reader d) t past))
+          ∙ stands.left.passes)
       stands.made
 
 module _ (d : Dfa) (q t : Search) (old now next : CacheValue) (m1 m2 m3 n1 n2 n3 : ℕ) (fit : IsDfa d)
-    (own_old : IsCacheOf d old) (own_now : IsCacheOf d now) (bytes : AreBytes q.haystack) (stands : HasCome d q t old now m1 m2 n1 n2) (fits : t.start ≤ t.end) where
+    (own_old : IsCacheOf d old) (own_now : IsCacheOf d now) (bytes : AreBytes q.haystack) (stands : HasCome d q t old now m1 m2 n1 n2)
+        (fits : t.start ≤ t.end) where
   abbrev r : Reader
   r = reader d
 
@@ -125,13 +129,15 @@ module _ (d : Dfa) (q t : Search) (old now next : CacheValue) (m1 m2 m3 n1 n2 n3
 
         pub lowest_ends : is_anchored t.anchored ≡ false → t.end ≡ 0 → MakesSearch d q old next m1 m3 n1 n3 (Ok None)
         lowest_ends a low =
-            split_ends (lowest_once r t fits a (omega (arith, fits, low))) (lowest_scan r t fits a (omega (arith, fits, low)) (splits_by false inside))
+            split_ends (lowest_once r t fits a (omega (arith, fits, low)))
+                (lowest_scan r t fits a (omega (arith, fits, low)) (splits_by false inside))
 
         same_but_span : (is_reverse : Bool) → shorter is_reverse t ≡ with_span (shorter is_reverse t).start (shorter is_reverse t).end q
         same_but_span false = ap (with_span (t.start + 1) t.end) stands.left.same
         same_but_span true = ap (with_span t.start (t.end - 1)) stands.left.same
 
-        goes_on : is_anchored t.anchored ≡ false → (is_reverse : Bool) → r.automaton.reverse ≡ is_reverse → (is_reverse ≡ true → 0 < t.end) → (u : Search) →
+        goes_on : is_anchored t.anchored ≡ false → (is_reverse : Bool) → r.automaton.reverse ≡ is_reverse →
+            (is_reverse ≡ true → 0 < t.end) → (u : Search) →
             u ≡ shorter is_reverse t → HasCome d q u old next m1 m3 n1 n3
         goes_on a is_reverse dir some u same = record {
           passes = behind;
@@ -141,15 +147,18 @@ module _ (d : Dfa) (q t : Search) (old now next : CacheValue) (m1 m2 m3 n1 n2 n3
             scan = ap (scan r) same ∙ sym (scan_anew r t a fits (splits_by false inside) is_reverse dir some) ∙ stands.left.scan;
             passes = append_assoc stands.passes (first_pass r t ∷ []) (passes_of r u)
                 ∙ ap (λ (x : Search). stands.passes ++ first_pass r t ∷ passes_of r x) same
-                ∙ sym (ap (λ (os : List (ℕ × ℕ)). stands.passes ++ os) (passes_anew r t a fits (splits_by false inside) is_reverse dir some))
+                ∙ sym (ap (λ (os : List (ℕ × ℕ)). stands.passes ++ os)
+                    (passes_anew r t a fits (splits_by false inside) is_reverse dir some))
                 ∙ stands.left.passes;
           };
         }
 
-        pub goes_forward : is_anchored t.anchored ≡ false → r.automaton.reverse ≡ false → (u : Search) → u ≡ with_span (t.start + 1) t.end t →
+        pub goes_forward : is_anchored t.anchored ≡ false → r.automaton.reverse ≡ false → (u : Search) →
+            u ≡ with_span (t.start + 1) t.end t →
             HasCome d q u old next m1 m3 n1 n3
         goes_forward a up u same = goes_on a false up (λ never. absurd (true≢false (sym never))) u same
 
-        pub goes_reverse : is_anchored t.anchored ≡ false → r.automaton.reverse ≡ true → 0 < t.end → (u : Search) → u ≡ with_span t.start (t.end - 1) t →
+        pub goes_reverse : is_anchored t.anchored ≡ false → r.automaton.reverse ≡ true → 0 < t.end → (u : Search) →
+            u ≡ with_span t.start (t.end - 1) t →
             HasCome d q u old next m1 m3 n1 n3
         goes_reverse a is_reverse some u same = goes_on a true is_reverse (λ is. some) u same

@@ -20,7 +20,8 @@ use Rattle.lazy_dfa.specs.Scans.{scan}
 use Rattle.lazy_dfa.specs.SearchAnswers.{told, GivesUpIn, GivesUpAmong, Answers, Told, told_of, told_by_pass, told_by, made_by}
 use Rattle.lazy_dfa.specs.Steps.{most_inserts}
 use Rattle.lazy_dfa.proofs.AnswerLemmas.{error, error_is_whole, gave_up_among}
-use Rattle.lazy_dfa.proofs.LinkedLemmas.{AreBytes, grows_refl, grows_trans, cleared_grows, moved_refl, moved_trans, linked_pass_moved, are_linked_grows}
+use Rattle.lazy_dfa.proofs.LinkedLemmas.{AreBytes, grows_refl, grows_trans, cleared_grows, moved_refl, moved_trans, linked_pass_moved}
+use Rattle.lazy_dfa.proofs.LinkedLemmas.{are_linked_grows}
 use Rattle.lazy_dfa.proofs.PassListLemmas.{first_pass, first_answer, whole_scan}
 use Rattle.look_core.proofs.ForCallers.{All-left, All-right}
 
@@ -59,7 +60,8 @@ pub record HasMade (d : Dfa) (q : Search) (old now : CacheValue) (m1 m2 n1 n2 : 
   pub free : AreLinked d old q ps → IsMoved old now × (m2 ≡ m1) × (n2 ≡ n1)
   pub determinized : m2 ≤ m1 + made_by (reader d) q ps
   pub inserted : n2 ≤ n1 + made_by (reader d) q ps * most_inserts d
-  pub anew : ((told_of now ≡ told_by (reader d) q (told_of old) ps) × (now.clears ≡ old.clears)) ⊎ (HasCleared old now × ToldSince (reader d) q ps (told_of now))
+  pub anew : ((told_of now ≡ told_by (reader d) q (told_of old) ps) × (now.clears ≡ old.clears)) ⊎
+      (HasCleared old now × ToldSince (reader d) q ps (told_of now))
 
 -- what is left to search behind these passes
 pub record IsLeft (r : Reader) (q t : Search) (ps : List (ℕ × ℕ)) : Type 0 where
@@ -83,11 +85,13 @@ begins d q t v m n is = record {
     inserted = omega arith;
     anew = inl (refl, refl);
   };
-  left = record { same = is ∙ ap (λ (x : Search). with_span x.start x.end q) (sym is); scan = ap (scan (reader d)) is; passes = ap (passes_of (reader d)) is };
+  left = record { same = is ∙ ap (λ (x : Search). with_span x.start x.end q) (sym is); scan = ap (scan (reader d)) is;
+      passes = ap (passes_of (reader d)) is };
 }
 
 module _ (d : Dfa) (q : Search) (old now next : CacheValue) (m1 m2 m3 n1 n2 n3 : ℕ) (ps : List (ℕ × ℕ)) (fit : IsDfa d)
-    (own_old : IsCacheOf d old) (own_now : IsCacheOf d now) (bytes : AreBytes q.haystack) (made : HasMade d q old now m1 m2 n1 n2 ps) (s e : ℕ) where
+    (own_old : IsCacheOf d old) (own_now : IsCacheOf d now) (bytes : AreBytes q.haystack) (made : HasMade d q old now m1 m2 n1 n2 ps)
+        (s e : ℕ) where
   abbrev r : Reader
   r = reader d
 
@@ -125,14 +129,16 @@ module _ (d : Dfa) (q : Search) (old now next : CacheValue) (m1 m2 m3 n1 n2 n3 :
   abbrev IsFree : Result (Option HalfFound) MatchErrorKind → Type 0
   IsFree result = IsMoved old next × (m3 ≡ m1) × (n3 ≡ n1) × (result ≡ told (first_answer r rest))
 
-  free_one : (result : Result (Option HalfFound) MatchErrorKind) (tail : List (ℕ × ℕ)) → Pass result → AreLinked d old q (ps ++ p ∷ tail) → IsFree result
+  free_one : (result : Result (Option HalfFound) MatchErrorKind) (tail : List (ℕ × ℕ)) → Pass result → AreLinked d old q (ps ++ p ∷ tail) →
+      IsFree result
   free_one result tail pass linked =
       let a = made.free (All-left (IsKnownPass old) ps (p ∷ tail) linked) in
       let here : IsKnownPass old p = All-head (IsKnownPass old) p tail (All-right (IsKnownPass old) ps (p ∷ tail) linked) in
       let b = pass.free (linked_pass_moved d old now a.0 q.anchored q.earliest q.haystack p.0 p.1 here) in
       (moved_trans old now next a.0 b.0, b.1 ∙ a.1, b.2 ∙ a.2, b.3)
 
-  few_made : (result : Result (Option HalfFound) MatchErrorKind) (tail : List (ℕ × ℕ)) → Pass result → m3 ≤ m1 + made_by r q (ps ++ p ∷ tail)
+  few_made : (result : Result (Option HalfFound) MatchErrorKind) (tail : List (ℕ × ℕ)) → Pass result →
+      m3 ≤ m1 + made_by r q (ps ++ p ∷ tail)
   few_made result tail pass =
       more_made m1 m2 m3 (made_by r q ps) (suc (len_of r q p)) (made_by r q tail) (made_by r q (ps ++ p ∷ tail))
       (made_join r q ps tail p) made.determinized pass.determinized
@@ -143,7 +149,8 @@ module _ (d : Dfa) (q : Search) (old now next : CacheValue) (m1 m2 m3 n1 n2 n3 :
       more_inserted n1 n2 n3 (made_by r q ps) (suc (len_of r q p)) (made_by r q tail) (made_by r q (ps ++ p ∷ tail)) (most_inserts d)
       (made_join r q ps tail p) made.inserted pass.inserted
 
-  one_kept : (Grows d now next × IsKnownPass next p × (told_of next ≡ told_by_pass r q.anchored q.earliest q.haystack (told_of now) p)) ⊎ HasCleared now next →
+  one_kept : (Grows d now next × IsKnownPass next p × (told_of next ≡ told_by_pass r q.anchored q.earliest q.haystack (told_of now) p)) ⊎
+      HasCleared now next →
       HasKept now next (p ∷ [])
   one_kept (inl b) = inl (b.0, All-cons (IsKnownPass next) p [] b.1 (All-nil (IsKnownPass next)), b.2)
   one_kept (inr c) = inr c
@@ -159,7 +166,8 @@ module _ (d : Dfa) (q : Search) (old now next : CacheValue) (m1 m2 m3 n1 n2 n3 :
   cleared_now (inl a) c = cleared_later d old now next a.0 c
   cleared_now (inr a) c = cleared_grows d old now next a (inr c)
 
-  since_before : ToldSince r q ps (told_of now) → told_of next ≡ told_by_pass r q.anchored q.earliest q.haystack (told_of now) p → ToldSince r q (ps ++ p ∷ []) (told_of next)
+  since_before : ToldSince r q ps (told_of now) → told_of next ≡ told_by_pass r q.anchored q.earliest q.haystack (told_of now) p →
+      ToldSince r q (ps ++ p ∷ []) (told_of next)
   since_before t e = record {
     done = t.done;
     cut = t.cut;
@@ -173,7 +181,8 @@ module _ (d : Dfa) (q : Search) (old now next : CacheValue) (m1 m2 m3 n1 n2 n3 :
   since_now : TellsAnew r q.anchored q.earliest q.haystack p (told_of next) → ToldSince r q (ps ++ p ∷ []) (told_of next)
   since_now t = record { done = ps; cut = p; behind = []; all = refl; first = told_of next; anew = t; told = refl }
 
-  anew_one : (f : Option HalfFound) → Pass (Ok f) → IsTold now ps → IsPassTold r q.anchored q.earliest q.haystack p (Ok f) now next → IsTold next (ps ++ p ∷ [])
+  anew_one : (f : Option HalfFound) → Pass (Ok f) → IsTold now ps → IsPassTold r q.anchored q.earliest q.haystack p (Ok f) now next →
+      IsTold next (ps ++ p ∷ [])
   anew_one f pass (inl a) (inl b) = inl (
     b.0 ∙ (ap (λ (t : Told). told_by_pass r q.anchored q.earliest q.haystack t p) a.0 ∙ sym (told_join r q (told_of old) ps p)),
     b.1 ∙ a.1,
@@ -190,18 +199,22 @@ module _ (d : Dfa) (q : Search) (old now next : CacheValue) (m1 m2 m3 n1 n2 n3 :
     anew = anew_one f pass made.anew pass.anew;
   }
 
-  module _ (fits : s ≤ e) (tail : List (ℕ × ℕ)) (all : ps ++ p ∷ tail ≡ passes_of r q) (same : scan r rest ≡ scan r q) (x : MatchErrorKind) where
+  module _ (fits : s ≤ e) (tail : List (ℕ × ℕ)) (all : ps ++ p ∷ tail ≡ passes_of r q) (same : scan r rest ≡ scan r q)
+      (x : MatchErrorKind) where
     told_whole : Err x ≡ told (first_answer r rest) → Err x ≡ told (scan r q)
     told_whole is =
-        is ∙ ap told (sym (whole_scan r rest fits (error_is_whole (counts r.between_characters q.haystack) (first_answer r rest) x is)) ∙ same)
+        is ∙ ap told (sym (whole_scan r rest fits (error_is_whole (counts r.between_characters q.haystack) (first_answer r rest) x is))
+            ∙ same)
 
-    answered : (Err x ≡ told (first_answer r rest)) ⊎ (error x ≡ error NoMemory) ⊎ ((i : ℕ) × (error x ≡ error (GaveUp i)) × GivesUpIn d next q.anchored q.earliest q.haystack p.0 p.1 i) → Answers d next q (Err x)
+    answered : (Err x ≡ told (first_answer r rest)) ⊎ (error x ≡ error NoMemory) ⊎
+        ((i : ℕ) × (error x ≡ error (GaveUp i)) × GivesUpIn d next q.anchored q.earliest q.haystack p.0 p.1 i) → Answers d next q (Err x)
     answered (inl is) = inl (told_whole is)
     answered (inr (inl lacks)) = inr (inl lacks)
     answered (inr (inr g)) =
         inr (inr (g.0, g.1, subst (λ (os : List (ℕ × ℕ)). GivesUpAmong d next q g.0 os) all (gave_up_among d next q g.0 ps tail p g.2)))
 
-    fails_anew : Pass (Err x) → IsTold now ps → IsPassTold r q.anchored q.earliest q.haystack p (Err x) now next → IsSearchTold r q (Err x) old next
+    fails_anew : Pass (Err x) → IsTold now ps → IsPassTold r q.anchored q.earliest q.haystack p (Err x) now next →
+        IsSearchTold r q (Err x) old next
     fails_anew pass (inl a) (inl l) = inl (
       record {
         done = ps;
@@ -228,8 +241,10 @@ module _ (d : Dfa) (q : Search) (old now next : CacheValue) (m1 m2 m3 n1 n2 n3 :
     }
 
 -- all passes were made
-module _ (d : Dfa) (q : Search) (old now : CacheValue) (m1 m2 n1 n2 : ℕ) (f : Option HalfFound) (told_is : Ok f ≡ told (scan (reader d) q)) where
-  whole_kept : (ps : List (ℕ × ℕ)) → (Grows d old now × AreLinked d now q ps × (told_of now ≡ told_by (reader d) q (told_of old) ps)) ⊎ HasCleared old now →
+module _ (d : Dfa) (q : Search) (old now : CacheValue) (m1 m2 n1 n2 : ℕ) (f : Option HalfFound)
+    (told_is : Ok f ≡ told (scan (reader d) q)) where
+  whole_kept : (ps : List (ℕ × ℕ)) → (Grows d old now × AreLinked d now q ps × (told_of now ≡ told_by (reader d) q (told_of old) ps)) ⊎
+      HasCleared old now →
       GrowsOrClears d old now
   whole_kept ps (inl a) = inl a.0
   whole_kept ps (inr c) = inr c
@@ -245,5 +260,6 @@ module _ (d : Dfa) (q : Search) (old now : CacheValue) (m1 m2 n1 n2 : ℕ) (f : 
     anew = made.anew;
   }
 
-  pub finishes : (ps : List (ℕ × ℕ)) → ps ≡ passes_of (reader d) q → HasMade d q old now m1 m2 n1 n2 ps → MakesSearch d q old now m1 m2 n1 n2 (Ok f)
+  pub finishes : (ps : List (ℕ × ℕ)) → ps ≡ passes_of (reader d) q → HasMade d q old now m1 m2 n1 n2 ps →
+      MakesSearch d q old now m1 m2 n1 n2 (Ok f)
   finishes ps all made = finished (subst (λ (os : List (ℕ × ℕ)). HasMade d q old now m1 m2 n1 n2 os) all made)

@@ -1,5 +1,7 @@
 -- Turns of a pass in its span: what is carried over to a cache in which only searches came further, and what they tell it.
-use Rattle.std.proofs.Common.{◌≡◌, ◌≢◌, ◌⊎◌, ℕ, suc, ◌+◌, ◌-◌, ◌<◌, ◌≤◌, ◌==◌, Bool, true, false, ◌&&◌, not, if◌then◌else◌, nat_le, List, length, get_or, is_some, Option, Some, None, Err, refl, sym, ap, ◌∙◌, subst, inl, inr, ⊎_elim, arith, true≢false}
+use Rattle.std.proofs.Common.{◌≡◌, ◌≢◌, ◌⊎◌, ℕ, suc, ◌+◌, ◌-◌, ◌<◌, ◌≤◌, ◌==◌, Bool, true, false, ◌&&◌, not, if◌then◌else◌, nat_le, List}
+use Rattle.std.proofs.Common.{length, get_or, is_some, Option, Some, None, Err, refl, sym, ap, ◌∙◌, subst, inl, inr, ⊎_elim, arith}
+use Rattle.std.proofs.Common.{true≢false}
 use Rattle.std.specs.Prelude.{min, IsSome}
 use Rattle.std.proofs.lemmas.Bool.{cases_lt, cases_Bool, eqb-true, eq-eqb}
 use Rattle.std.proofs.lemmas.Option.{slice_get-get_or}
@@ -27,7 +29,8 @@ use Rattle.lazy_dfa.specs.Passes.{index_at, is_dead}
 use Rattle.lazy_dfa.specs.Points.{Point, began, Follows, GoesTo, point}
 use Rattle.lazy_dfa.specs.Readers.{is_quit}
 use Rattle.lazy_dfa.specs.SearchAnswers.{Told, told_of, pass_distance, running_at}
-use Rattle.lazy_dfa.specs.PassPlaces.{IsWithinSpan, last_place, came, tells, first_index, BeganFirst, finished, finished_where, told_behind, error_of, EndsWith, gave_up_at, turned_told, TellsTurn, TurnsTo}
+use Rattle.lazy_dfa.specs.PassPlaces.{IsWithinSpan, last_place, came, tells, first_index, BeganFirst, finished, finished_where, told_behind}
+use Rattle.lazy_dfa.specs.PassPlaces.{error_of, EndsWith, gave_up_at, turned_told, TellsTurn, TurnsTo}
 use Rattle.lazy_dfa.specs.Turns.{Leaves, FailsOn, TellsTheSame, GoesOne, IsSeen, IsTurn}
 use Rattle.lazy_dfa.proofs.IsCacheLemmas.{le_of, lt_of}
 use Rattle.lazy_dfa.proofs.LinkedLemmas.{moved_refl, moved_trans, names_moved, noted_moved, moved_starts, id_moved, linked_moved}
@@ -73,7 +76,8 @@ module _ (d : Dfa) (v w : CacheValue) (e : IsMoved v w) where
   kept_back x k = ⊎_elim (λ (g : Grows d w x). inl (grows_back x g)) (λ (c : HasCleared w x). inr (cleared_back x c)) k
 
   module _ (h : List ℕ) (m n at id : ℕ) (best : Option (ℕ × ℕ)) where
-    pub leaves_back : (x : CacheValue) (m2 n2 k : ℕ) → Leaves d h (point w m n at id best) x m2 n2 k → Leaves d h (point v m n at id best) x m2 n2 k
+    pub leaves_back : (x : CacheValue) (m2 n2 k : ℕ) → Leaves d h (point w m n at id best) x m2 n2 k →
+        Leaves d h (point v m n at id best) x m2 n2 k
     leaves_back x m2 n2 k l = record {
       kept = kept_back x l.kept;
       free = λ linked. let f = l.free (linked_moved d v w e h at id (suc k) linked) in (moved_trans v w x e f.0, f.1, f.2);
@@ -81,13 +85,15 @@ module _ (d : Dfa) (v w : CacheValue) (e : IsMoved v w) where
       inserted = l.inserted;
     }
 
-    pub fails_back : (x : CacheValue) (m2 n2 k : ℕ) → FailsOn d h (point w m n at id best) x m2 n2 k → FailsOn d h (point v m n at id best) x m2 n2 k
+    pub fails_back : (x : CacheValue) (m2 n2 k : ℕ) → FailsOn d h (point w m n at id best) x m2 n2 k →
+        FailsOn d h (point v m n at id best) x m2 n2 k
     fails_back x m2 n2 k f = record {
       leaves = leaves_back x m2 n2 k f.leaves;
       unknown = λ linked. f.unknown (linked_moved d v w e h at id (suc k) linked);
     }
 
-    pub goes_back : (to : Point) (k : ℕ) → w.searched ≡ v.searched → began w.progress ≡ began v.progress → (IsSome v.progress → IsSome w.progress) →
+    pub goes_back : (to : Point) (k : ℕ) → w.searched ≡ v.searched → began w.progress ≡ began v.progress →
+        (IsSome v.progress → IsSome w.progress) →
         GoesTo d h (point w m n at id best) to k → GoesTo d h (point v m n at id best) to k
     goes_back to k searched begins runs g = record {
       place = g.place;
@@ -106,14 +112,16 @@ module _ (d : Dfa) (v w : CacheValue) (e : IsMoved v w) where
           g.kept;
       free = λ l.
           let f = g.free (linked_moved d v w e h at id k l) in
-          record { moved = moved_trans v w to.cache e f.moved; leads = sym (id_moved d v w e h at id k) ∙ f.leads; determinized = f.determinized; inserted = f.inserted };
+          record { moved = moved_trans v w to.cache e f.moved; leads = sym (id_moved d v w e h at id k) ∙ f.leads;
+              determinized = f.determinized; inserted = f.inserted };
       running = λ r. g.running (runs r);
       determinized = g.determinized;
       inserted = g.inserted;
     }
 
 -- and what was left in the earlier cache is left in the later one
-pub leaves_forth : (d : Dfa) (h : List ℕ) (from : Point) (v w : CacheValue) (m n k : ℕ) → IsMoved v w → Leaves d h from v m n k → Leaves d h from w m n k
+pub leaves_forth : (d : Dfa) (h : List ℕ) (from : Point) (v w : CacheValue) (m n k : ℕ) → IsMoved v w → Leaves d h from v m n k →
+    Leaves d h from w m n k
 leaves_forth d h from v w m n k e l = record {
   kept = ⊎_elim
       (λ (g : Grows d from.cache v). inl (record {
@@ -147,7 +155,8 @@ moved_there : (o : Option Progress) (at : ℕ) → IsSome o → running_at (move
 moved_there None at r = absurd (true≢false (sym r))
 moved_there (Some p) at r = refl
 
-pub runs_there : (v w : CacheValue) (at : ℕ) → w ≡ record v { progress = moved_to at v.progress } → IsSome v.progress → running_at w.progress ≡ Some at
+pub runs_there : (v w : CacheValue) (at : ℕ) → w ≡ record v { progress = moved_to at v.progress } → IsSome v.progress →
+    running_at w.progress ≡ Some at
 runs_there v w at e r = ap (λ (x : CacheValue). running_at x.progress) e ∙ moved_there v.progress at r
 
 len_there : (o : Option Progress) (a at : ℕ) → began o ≡ Some a → progress_len (moved_to at o) ≡ distance a at
@@ -158,7 +167,8 @@ abbrev pub told_end : ℕ → ℕ → Told
 told_end s x = record { searched = min (s + x) greatest; progress = None }
 
 -- what a search tells at its end that began at one index and comes to another
-pub told_there : (w : CacheValue) (s a at x : ℕ) → w.searched ≡ s → began w.progress ≡ Some a → distance a at ≡ x → told_of (finished at w) ≡ told_end s x
+pub told_there : (w : CacheValue) (s a at x : ℕ) → w.searched ≡ s → began w.progress ≡ Some a → distance a at ≡ x →
+    told_of (finished at w) ≡ told_end s x
 told_there w s a at x e f g =
     ap (λ (n : ℕ). told_end n (progress_len (moved_to at w.progress))) e
     ∙ ap (λ (n : ℕ). told_end s n) (len_there w.progress a at f ∙ g)
@@ -172,7 +182,8 @@ some_bytes n l = ⊎_elim
 no_bytes : (n : ℕ) → n ≡ 0 → n == 0 ≡ true
 no_bytes n e = ap (λ (k : ℕ). k == 0) e
 
-pub told_behind_some : (is_reverse : Bool) (n units x : ℕ) (t : Told) → 0 < n → x ≡ pass_distance is_reverse n units → told_end t.searched x ≡ told_behind is_reverse n t units
+pub told_behind_some : (is_reverse : Bool) (n units x : ℕ) (t : Told) → 0 < n → x ≡ pass_distance is_reverse n units →
+    told_end t.searched x ≡ told_behind is_reverse n t units
 told_behind_some false n units x t l e = ap (told_end t.searched) e
 told_behind_some true n units x t l e =
     ap (told_end t.searched) e
@@ -225,11 +236,13 @@ abbrev IsAnew : CacheValue → CacheValue → Type 0
 IsAnew old new = HasCleared old new × (told_of new ≡ told_anew (told_of old))
 
 abbrev TellsEnd : Bool → Search → ℕ → CacheValue → CacheValue → Type 0
-TellsEnd is_reverse q at old new = (told_of new ≡ told_behind is_reverse (span_len q) (told_of old) (suc (came is_reverse q at))) ⊎ HasCleared old new
+TellsEnd is_reverse q at old new = (told_of new ≡ told_behind is_reverse (span_len q) (told_of old) (suc (came is_reverse q at))) ⊎
+    HasCleared old new
 
 -- ---- what a turn by a byte tells
 
-byte_end_told : (is_reverse : Bool) (q : Search) (v v2 : CacheValue) (at : ℕ) → IsWithinSpan q at → at ≢ last_place is_reverse q → v2.searched ≡ v.searched →
+byte_end_told : (is_reverse : Bool) (q : Search) (v v2 : CacheValue) (at : ℕ) → IsWithinSpan q at → at ≢ last_place is_reverse q →
+    v2.searched ≡ v.searched →
     (tells is_reverse q ≡ true → began v2.progress ≡ Some (first_index is_reverse q)) →
     told_of (finished (index_at is_reverse at) v2) ≡ told_behind is_reverse (span_len q) (told_of v) (suc (came is_reverse q at))
 byte_end_told false q v v2 at within left searched begins =
@@ -237,50 +250,62 @@ byte_end_told false q v v2 at within left searched begins =
 byte_end_told true q v v2 at within left searched begins =
     let l = above q.start at within.0 left in
     let far = within.1 in
-    told_there v2 v.searched (q.end - 1) (at - 1) (min (suc (q.end - at) - 1) (q.end - q.start - 1)) searched (begins (not_le q.end q.start (omega (arith, l, far)))) (reverse_distance q.start q.end at l far)
-    ∙ told_behind_some true (q.end - q.start) (suc (q.end - at)) (min (suc (q.end - at) - 1) (q.end - q.start - 1)) (told_of v) (omega (arith, l, far)) refl
+    told_there v2 v.searched (q.end - 1) (at - 1) (min (suc (q.end - at) - 1) (q.end - q.start - 1)) searched
+        (begins (not_le q.end q.start (omega (arith, l, far)))) (reverse_distance q.start q.end at l far)
+    ∙ told_behind_some true (q.end - q.start) (suc (q.end - at)) (min (suc (q.end - at) - 1) (q.end - q.start - 1)) (told_of v)
+        (omega (arith, l, far)) refl
 
-byte_told : (is_reverse : Bool) (q : Search) (v0 v1 v2 v3 : CacheValue) (at index : ℕ) → index ≡ index_at is_reverse at → v1 ≡ record v0 { progress = moved_to index v0.progress } →
-    v3 ≡ finished index v2 → IsWithinSpan q at → at ≢ last_place is_reverse q → TellsTheSame v1 v2 → BeganFirst is_reverse q v0 → TellsEnd is_reverse q at v0 v3
+byte_told : (is_reverse : Bool) (q : Search) (v0 v1 v2 v3 : CacheValue) (at index : ℕ) → index ≡ index_at is_reverse at →
+    v1 ≡ record v0 { progress = moved_to index v0.progress } →
+    v3 ≡ finished index v2 → IsWithinSpan q at → at ≢ last_place is_reverse q → TellsTheSame v1 v2 → BeganFirst is_reverse q v0 →
+        TellsEnd is_reverse q at v0 v3
 byte_told is_reverse q v0 v1 v2 v3 at index here e f within left same begins = ⊎_elim
     (λ (g : IsSame v1 v2). inl (ap told_of f ∙ (ap (λ (x : ℕ). told_of (finished x v2)) here
     ∙ byte_end_told is_reverse q v0 v2 at within left (ap (λ (t : Told). t.searched) g.0 ∙ ap (λ (c : CacheValue). c.searched) e)
-    (λ tells. ap (λ (t : Told). began t.progress) g.0 ∙ (ap (λ (c : CacheValue). began c.progress) e ∙ (began_moved index v0.progress ∙ begins tells))))))
+    (λ tells. ap (λ (t : Told). began t.progress) g.0 ∙ (ap (λ (c : CacheValue). began c.progress) e
+        ∙ (began_moved index v0.progress ∙ begins tells))))))
     (λ (c : IsAnew v1 v2). inr (cleared_between v0 v1 v2 v3 (moved_is v0 v1 index e) (finished_moves v2 v3 index f) c.0))
     same
 
 -- ---- what the last turn tells
 
-last_told_same : (is_reverse : Bool) (q : Search) (v0 v1 v2 v3 : CacheValue) (at : ℕ) → v1 ≡ finished_where (is_reverse && tells is_reverse q) at v0 → v3 ≡ finished_where (not is_reverse) at v2 →
+last_told_same : (is_reverse : Bool) (q : Search) (v0 v1 v2 v3 : CacheValue) (at : ℕ) →
+    v1 ≡ finished_where (is_reverse && tells is_reverse q) at v0 → v3 ≡ finished_where (not is_reverse) at v2 →
     at ≡ last_place is_reverse q → q.start ≤ q.end → told_of v2 ≡ told_of v1 → BeganFirst is_reverse q v0 →
     told_of v3 ≡ told_behind is_reverse (span_len q) (told_of v0) (suc (came is_reverse q at))
 last_told_same false q v0 v1 v2 v3 at e f last begun g begins =
     ap told_of f
-    ∙ told_there v2 v0.searched q.start at (suc (at - q.start) - 1) (ap (λ (t : Told). t.searched) g ∙ ap (λ (c : CacheValue). c.searched) e)
-    (ap (λ (t : Told). began t.progress) g ∙ (ap (λ (c : CacheValue). began c.progress) e ∙ begins refl)) (forward_distance q.start at (omega (arith, last, begun)))
+    ∙ told_there v2 v0.searched q.start at (suc (at - q.start) - 1) (ap (λ (t : Told). t.searched) g
+        ∙ ap (λ (c : CacheValue). c.searched) e)
+    (ap (λ (t : Told). began t.progress) g ∙ (ap (λ (c : CacheValue). began c.progress) e ∙ begins refl))
+        (forward_distance q.start at (omega (arith, last, begun)))
 last_told_same true q v0 v1 v2 v3 at e f last begun g begins = ap told_of f ∙ (g ∙ ⊎_elim
     (λ (l : q.start < q.end).
     let yes_tells = not_le q.end q.start l in
     ap told_of (e ∙ ap (λ (b : Bool). finished_where b at v0) yes_tells)
     ∙ (told_there v0 v0.searched (q.end - 1) at (min (suc (q.end - q.start) - 1) (q.end - q.start - 1)) refl (begins yes_tells)
     (ap (distance (q.end - 1)) last ∙ whole_distance q.start q.end l)
-    ∙ told_behind_some true (q.end - q.start) (suc (q.end - at)) (min (suc (q.end - q.start) - 1) (q.end - q.start - 1)) (told_of v0) (omega (arith, l))
+    ∙ told_behind_some true (q.end - q.start) (suc (q.end - at)) (min (suc (q.end - q.start) - 1) (q.end - q.start - 1)) (told_of v0)
+        (omega (arith, l))
     (sym (ap (λ (x : ℕ). min (suc (q.end - x) - 1) (q.end - q.start - 1)) last))))
     (λ (l : q.end ≤ q.start).
     ap told_of (e ∙ ap (λ (b : Bool). finished_where b at v0) (is_le q.end q.start l))
     ∙ told_behind_none (q.end - q.start) (suc (q.end - at)) (told_of v0) (omega (arith, l)))
     (cases_lt q.start q.end))
 
-last_told : (is_reverse : Bool) (q : Search) (v0 v1 v2 v3 : CacheValue) (at : ℕ) → v1 ≡ finished_where (is_reverse && tells is_reverse q) at v0 → v3 ≡ finished_where (not is_reverse) at v2 →
+last_told : (is_reverse : Bool) (q : Search) (v0 v1 v2 v3 : CacheValue) (at : ℕ) →
+    v1 ≡ finished_where (is_reverse && tells is_reverse q) at v0 → v3 ≡ finished_where (not is_reverse) at v2 →
     at ≡ last_place is_reverse q → q.start ≤ q.end → TellsTheSame v1 v2 → BeganFirst is_reverse q v0 → TellsEnd is_reverse q at v0 v3
 last_told is_reverse q v0 v1 v2 v3 at e f last begun same begins = ⊎_elim
     (λ (g : IsSame v1 v2). inl (last_told_same is_reverse q v0 v1 v2 v3 at e f last begun g.0 begins))
-    (λ (c : IsAnew v1 v2). inr (cleared_between v0 v1 v2 v3 (finished_where_moves v0 v1 at (is_reverse && tells is_reverse q) e) (finished_where_moves v2 v3 at (not is_reverse) f) c.0))
+    (λ (c : IsAnew v1 v2). inr (cleared_between v0 v1 v2 v3 (finished_where_moves v0 v1 at (is_reverse && tells is_reverse q) e)
+        (finished_where_moves v2 v3 at (not is_reverse) f) c.0))
     same
 
 -- ---- the unit at a place
 
-pub byte_unit : (is_reverse back : Bool) (q : Search) (h : List ℕ) (at index : ℕ) → is_reverse ≡ back → h ≡ q.haystack → index ≡ index_at is_reverse at → IsWithinSpan q at → at ≢ last_place is_reverse q →
+pub byte_unit : (is_reverse back : Bool) (q : Search) (h : List ℕ) (at index : ℕ) → is_reverse ≡ back → h ≡ q.haystack →
+    index ≡ index_at is_reverse at → IsWithinSpan q at → at ≢ last_place is_reverse q →
     q.end ≤ length q.haystack → Some (get_or h index 0) ≡ unit_at back q.haystack at
 byte_unit is_reverse back q h at index same is here within left inside =
     ap (λ (x : List ℕ). Some (get_or x index 0)) is
@@ -290,7 +315,8 @@ byte_unit is_reverse back q h at index same is here within left inside =
     back_one : (n s : ℕ) → s < n → suc (n - 1) ≡ n
     back_one n s l = omega (arith, l)
 
-    there : (is_reverse : Bool) → at ≢ last_place is_reverse q → Some (get_or q.haystack (index_at is_reverse at) 0) ≡ unit_at is_reverse q.haystack at
+    there : (is_reverse : Bool) → at ≢ last_place is_reverse q → Some (get_or q.haystack (index_at is_reverse at) 0) ≡ unit_at is_reverse
+        q.haystack at
     there false left =
         let far = above_end at q.end within.1 left in
         sym (slice_get-get_or q.haystack at 0 (omega (arith, far, inside)))
@@ -302,7 +328,8 @@ byte_unit is_reverse back q h at index same is here within left inside =
 
 -- ---- turns in a span
 
-module _ (d : Dfa) (q : Search) (is_reverse : Bool) (same : is_reverse ≡ d.nfa.automaton.reverse) (v0 v1 v2 : CacheValue) (m1 n1 m2 n2 at id : ℕ) (best : Option (ℕ × ℕ)) (u : Option ℕ) where
+module _ (d : Dfa) (q : Search) (is_reverse : Bool) (same : is_reverse ≡ d.nfa.automaton.reverse) (v0 v1 v2 : CacheValue)
+    (m1 n1 m2 n2 at id : ℕ) (best : Option (ℕ × ℕ)) (u : Option ℕ) where
   abbrev from : Point
   from = point v0 m1 n1 at id best
 
@@ -312,30 +339,36 @@ module _ (d : Dfa) (q : Search) (is_reverse : Bool) (same : is_reverse ≡ d.nfa
   index_there : (index : ℕ) → index ≡ index_at is_reverse at → index ≡ index_at d.nfa.automaton.reverse at
   index_there index e = e ∙ ap (λ (b : Bool). index_at b at) same
 
-  gave_up : (is : Bool) (place : ℕ) → at == last_place d.nfa.automaton.reverse q ≡ is → place ≡ (if is then at else index_at d.nfa.automaton.reverse at) → place ≡ gave_up_at d.nfa.automaton.reverse q at
+  gave_up : (is : Bool) (place : ℕ) → at == last_place d.nfa.automaton.reverse q ≡ is →
+      place ≡ (if is then at else index_at d.nfa.automaton.reverse at) → place ≡ gave_up_at d.nfa.automaton.reverse q at
   gave_up is place e f = f ∙ sym (ap (λ (b : Bool). if b then at else index_at d.nfa.automaton.reverse at) e)
 
   pub gave_up_last : (place : ℕ) → place ≡ at → at ≡ last_place is_reverse q → place ≡ gave_up_at d.nfa.automaton.reverse q at
   gave_up_last place e last =
       gave_up true place (eq-eqb at (last_place d.nfa.automaton.reverse q) (last ∙ ap (λ (b : Bool). last_place b q) same)) e
 
-  pub gave_up_byte : (place : ℕ) → place ≡ index_at is_reverse at → at ≢ last_place is_reverse q → place ≡ gave_up_at d.nfa.automaton.reverse q at
+  pub gave_up_byte : (place : ℕ) → place ≡ index_at is_reverse at → at ≢ last_place is_reverse q →
+      place ≡ gave_up_at d.nfa.automaton.reverse q at
   gave_up_byte place e left = ⊎_elim
-      (λ (f : at == last_place d.nfa.automaton.reverse q ≡ true). absurd (left (eqb-true at (last_place d.nfa.automaton.reverse q) f ∙ ap (λ (b : Bool). last_place b q) (sym same))))
+      (λ (f : at == last_place d.nfa.automaton.reverse q ≡ true). absurd
+          (left (eqb-true at (last_place d.nfa.automaton.reverse q) f ∙ ap (λ (b : Bool). last_place b q) (sym same))))
       (λ (f : at == last_place d.nfa.automaton.reverse q ≡ false). gave_up false place f (index_there place e))
       (cases_Bool (at == last_place d.nfa.automaton.reverse q))
 
   -- what a turn tells, by what was told before its step
   abbrev Turned : Bool → Bool → CacheValue → Type 0
-  Turned finishes ends v3 = (cleared : Bool) → told_of v2 ≡ anew_if cleared (told_of v1) → told_of v3 ≡ turned_told d.nfa.automaton.reverse finishes ends cleared q at (told_of v0)
+  Turned finishes ends v3 = (cleared : Bool) → told_of v2 ≡ anew_if cleared (told_of v1) →
+      told_of v3 ≡ turned_told d.nfa.automaton.reverse finishes ends cleared q at (told_of v0)
 
-  tells_turn : (finishes ends : Bool) (v3 : CacheValue) → IsMoved v0 v1 → IsMoved v2 v3 → Turned finishes ends v3 → TellsTheSame v1 v2 → TellsTurn d finishes ends q at v0 v3
+  tells_turn : (finishes ends : Bool) (v3 : CacheValue) → IsMoved v0 v1 → IsMoved v2 v3 → Turned finishes ends v3 → TellsTheSame v1 v2 →
+      TellsTurn d finishes ends q at v0 v3
   tells_turn finishes ends v3 moved after told same = ⊎_elim
       (λ (g : IsSame v1 v2). inl (told false g.0, moved_clears v2 v3 after ∙ (g.1 ∙ moved_clears v0 v1 moved)))
       (λ (c : IsAnew v1 v2). inr (cleared_between v0 v1 v2 v3 moved after c.0, told true c.1))
       same
 
-  refused_so : (earliest : Bool) (place : ℕ) (e : CacheError) → IsMoved v0 v1 → u ≡ unit_at d.nfa.automaton.reverse q.haystack at → place ≡ gave_up_at d.nfa.automaton.reverse q at →
+  refused_so : (earliest : Bool) (place : ℕ) (e : CacheError) → IsMoved v0 v1 → u ≡ unit_at d.nfa.automaton.reverse q.haystack at →
+      place ≡ gave_up_at d.nfa.automaton.reverse q at →
       (at ≢ last_place d.nfa.automaton.reverse q → running_at v1.progress ≡ Some place) → Turned false false v2 →
       IsTurn d earliest q.haystack u before v2 m2 n2 (Err e) → TurnsTo d q from v2 m2 n2 (Err (error_of place e))
   refused_so earliest place NoMemory moved is there runs tells turn =
@@ -350,24 +383,30 @@ module _ (d : Dfa) (q : Search) (is_reverse : Bool) (same : is_reverse ≡ d.nfa
   )
 
   -- a turn that was refused
-  pub turn_refused : (earliest : Bool) (place : ℕ) (e : CacheError) (err : MatchErrorKind) → IsMoved v0 v1 → u ≡ unit_at d.nfa.automaton.reverse q.haystack at →
-      place ≡ gave_up_at d.nfa.automaton.reverse q at → (at ≢ last_place d.nfa.automaton.reverse q → running_at v1.progress ≡ Some place) → Turned false false v2 →
+  pub turn_refused : (earliest : Bool) (place : ℕ) (e : CacheError) (err : MatchErrorKind) → IsMoved v0 v1 →
+      u ≡ unit_at d.nfa.automaton.reverse q.haystack at →
+      place ≡ gave_up_at d.nfa.automaton.reverse q at → (at ≢ last_place d.nfa.automaton.reverse q → running_at v1.progress ≡ Some place) →
+          Turned false false v2 →
       err ≡ error_of place e → IsTurn d earliest q.haystack u before v2 m2 n2 (Err e) → TurnsTo d q from v2 m2 n2 (Err err)
   turn_refused earliest place e err moved is there runs tells told turn =
-      subst (λ (x : MatchErrorKind). TurnsTo d q from v2 m2 n2 (Err x)) (sym told) (refused_so earliest place e moved is there runs tells turn)
+      subst (λ (x : MatchErrorKind). TurnsTo d q from v2 m2 n2 (Err x)) (sym told)
+          (refused_so earliest place e moved is there runs tells turn)
 
-  module _ (to : ℕ) (best2 : Option (ℕ × ℕ)) (earliest : Bool) (turn : Turn) (asked : earliest ≡ q.earliest) (seen : IsSeen d earliest q.haystack u before v2 m2 n2 to best2 turn) where
+  module _ (to : ℕ) (best2 : Option (ℕ × ℕ)) (earliest : Bool) (turn : Turn) (asked : earliest ≡ q.earliest)
+      (seen : IsSeen d earliest q.haystack u before v2 m2 n2 to best2 turn) where
     seen_as : (t : Turn) → turn ≡ t → IsSeen d q.earliest q.haystack u before v2 m2 n2 to best2 t
     seen_as t e = subst (λ (x : Turn). IsSeen d q.earliest q.haystack u before v2 m2 n2 to best2 x) e
         (subst (λ (b : Bool). IsSeen d b q.haystack u before v2 m2 n2 to best2 turn) asked seen)
 
-    goes_unless : (t : Turn) → (t ≡ Quits → ⊥) → IsSeen d q.earliest q.haystack u before v2 m2 n2 to best2 t → GoesOne d q.haystack before v2 m2 n2 to best2 × TellsTheSame v1 v2
+    goes_unless : (t : Turn) → (t ≡ Quits → ⊥) → IsSeen d q.earliest q.haystack u before v2 m2 n2 to best2 t →
+        GoesOne d q.haystack before v2 m2 n2 to best2 × TellsTheSame v1 v2
     goes_unless GoesOn never x = (x.0, x.1)
     goes_unless Ends never x = (x.0, x.1)
     goes_unless Quits never x = absurd (never refl)
 
     -- by a quit byte
-    pub turn_quits : (v3 : CacheValue) (b index : ℕ) (err : MatchErrorKind) → IsMoved v0 v1 → IsMoved v2 v3 → u ≡ unit_at d.nfa.automaton.reverse q.haystack at → u ≡ Some b →
+    pub turn_quits : (v3 : CacheValue) (b index : ℕ) (err : MatchErrorKind) → IsMoved v0 v1 → IsMoved v2 v3 →
+        u ≡ unit_at d.nfa.automaton.reverse q.haystack at → u ≡ Some b →
         index ≡ index_at is_reverse at → err ≡ Quit b index → Turned true false v3 →
         turn ≡ Quits → TurnsTo d q from v3 m2 n2 (Err err)
     turn_quits v3 b index err moved after is some here told tells e =
@@ -394,13 +433,17 @@ module _ (d : Dfa) (q : Search) (is_reverse : Bool) (same : is_reverse ≡ d.nfa
     some_unless r never = (goes_unless turn never (seen_as turn refl)).0.running r
 
     -- by a byte, from which it goes on
-    pub byte_goes : (index next : ℕ) → v1 ≡ record v0 { progress = moved_to index v0.progress } → next ≡ place_of is_reverse at 1 → at ≢ last_place is_reverse q → Turned false false v2 → turn ≡ GoesOn →
-        GoesOne d q.haystack from v2 m2 n2 to best2 × (next ≡ place_of d.nfa.automaton.reverse at 1) × (at ≢ last_place d.nfa.automaton.reverse q) × IsRow v2 to ×
-        ((s : StateValue) → HeldAt v0 id s → stops_behind (reader d) q.earliest q.haystack at s 0 ≡ false) × TellsTurn d false false q at v0 v2
+    pub byte_goes : (index next : ℕ) → v1 ≡ record v0 { progress = moved_to index v0.progress } → next ≡ place_of is_reverse at 1 →
+        at ≢ last_place is_reverse q → Turned false false v2 → turn ≡ GoesOn →
+        GoesOne d q.haystack from v2 m2 n2 to best2 × (next ≡ place_of d.nfa.automaton.reverse at 1) ×
+            (at ≢ last_place d.nfa.automaton.reverse q) × IsRow v2 to ×
+        ((s : StateValue) → HeldAt v0 id s → stops_behind (reader d) q.earliest q.haystack at s 0 ≡ false) ×
+            TellsTurn d false false q at v0 v2
     byte_goes index next moved place left tells e =
         let x = seen_as GoesOn e in
         let m = moved_is v0 v1 index moved in (
-          goes_back d v0 v1 m q.haystack m1 n1 at id best (point v2 m2 n2 (place_of d.nfa.automaton.reverse at 1) to best2) 1 (ap (λ (c : CacheValue). c.searched) moved)
+          goes_back d v0 v1 m q.haystack m1 n1 at id best (point v2 m2 n2 (place_of d.nfa.automaton.reverse at 1) to best2) 1
+              (ap (λ (c : CacheValue). c.searched) moved)
               (ap (λ (c : CacheValue). began c.progress) moved ∙ began_moved index v0.progress) (some_moved v0 v1 index moved) x.0,
           place ∙ ap (λ (b : Bool). place_of b at 1) same,
           (λ z. left (z ∙ ap (λ (b : Bool). last_place b q) (sym same))),
@@ -410,7 +453,8 @@ module _ (d : Dfa) (q : Search) (is_reverse : Bool) (same : is_reverse ≡ d.nfa
         )
 
     -- by a byte, with which it ends
-    pub byte_ends : (v3 : CacheValue) (index : ℕ) → index ≡ index_at is_reverse at → v1 ≡ record v0 { progress = moved_to index v0.progress } → v3 ≡ finished index v2 →
+    pub byte_ends : (v3 : CacheValue) (index : ℕ) → index ≡ index_at is_reverse at →
+        v1 ≡ record v0 { progress = moved_to index v0.progress } → v3 ≡ finished index v2 →
         IsWithinSpan q at → at ≢ last_place is_reverse q → Turned true true v3 → turn ≡ Ends → EndsWith d q from v3 m2 n2 best2
     byte_ends v3 index here moved f within left tells e =
         let x = seen_as Ends e in
@@ -422,14 +466,16 @@ module _ (d : Dfa) (q : Search) (is_reverse : Bool) (same : is_reverse ≡ d.nfa
           begun = m;
           goes = x.0;
           ended = finished_moves v2 v3 index f;
-          told = subst (λ (b : Bool). BeganFirst b q v0 → TellsEnd b q at v0 v3) same (byte_told is_reverse q v0 v1 v2 v3 at index here moved f within left x.1);
+          told = subst (λ (b : Bool). BeganFirst b q v0 → TellsEnd b q at v0 v3) same
+              (byte_told is_reverse q v0 v1 v2 v3 at index here moved f within left x.1);
           why = λ s held. ⊎_elim (λ (y : stops_behind (reader d) q.earliest q.haystack at s 0 ≡ true). inl y)
               (λ (y : is_dead (state_behind (reader d) q.haystack at s 1) ≡ true). inr (inl y)) (x.2 s (held_moved v0 v1 id s m held));
           tells = tells_turn true true v3 m (finished_moves v2 v3 index f) tells x.1;
         }
 
     -- at the last place
-    pub last_ends : (v3 : CacheValue) → v1 ≡ finished_where (is_reverse && tells is_reverse q) at v0 → v3 ≡ finished_where (not is_reverse) at v2 → at ≡ last_place is_reverse q → q.start ≤ q.end →
+    pub last_ends : (v3 : CacheValue) → v1 ≡ finished_where (is_reverse && tells is_reverse q) at v0 →
+        v3 ≡ finished_where (not is_reverse) at v2 → at ≡ last_place is_reverse q → q.start ≤ q.end →
         Turned true true v3 → (turn ≡ Quits → ⊥) → EndsWith d q from v3 m2 n2 best2
     last_ends v3 e f last begun turned never =
         let x = goes_unless turn never (seen_as turn refl) in
@@ -440,7 +486,9 @@ module _ (d : Dfa) (q : Search) (is_reverse : Bool) (same : is_reverse ≡ d.nfa
           begun = finished_where_moves v0 v1 at (is_reverse && tells is_reverse q) e;
           goes = x.0;
           ended = finished_where_moves v2 v3 at (not is_reverse) f;
-          told = subst (λ (b : Bool). BeganFirst b q v0 → TellsEnd b q at v0 v3) same (last_told is_reverse q v0 v1 v2 v3 at e f last begun x.1);
+          told = subst (λ (b : Bool). BeganFirst b q v0 → TellsEnd b q at v0 v3) same
+              (last_told is_reverse q v0 v1 v2 v3 at e f last begun x.1);
           why = λ s held. inr (inr (last ∙ ap (λ (b : Bool). last_place b q) same));
-          tells = tells_turn true true v3 (finished_where_moves v0 v1 at (is_reverse && tells is_reverse q) e) (finished_where_moves v2 v3 at (not is_reverse) f) turned x.1;
+          tells = tells_turn true true v3 (finished_where_moves v0 v1 at (is_reverse && tells is_reverse q) e)
+              (finished_where_moves v2 v3 at (not is_reverse) f) turned x.1;
         }

@@ -1,5 +1,6 @@
 -- What start calls answer, by modes.
-use Rattle.std.proofs.Common.{◌≡◌, ℕ, zero, suc, ◌+◌, ◌*◌, ◌<◌, ◌≤◌, ◌≢◌, ◌⊎◌, Bool, true, false, List, [], ◌∷◌, length, get_or, refl, sym, ap, ◌∙◌, subst, inl, inr, ⊎_elim, arith, Option, Some, None}
+use Rattle.std.proofs.Common.{◌≡◌, ℕ, zero, suc, ◌+◌, ◌*◌, ◌<◌, ◌≤◌, ◌≢◌, ◌⊎◌, Bool, true, false, List, [], ◌∷◌, length, get_or, refl, sym}
+use Rattle.std.proofs.Common.{ap, ◌∙◌, subst, inl, inr, ⊎_elim, arith, Option, Some, None}
 use Rattle.std.specs.Prelude.{slice_get, if◌then◌else◌}
 use Rattle.search_types.specs.declared.anchored.Anchored.{Anchored}
 use Rattle.search_types.specs.declared.anchored.Anchored.TheVariants.{No, Yes, Pattern}
@@ -12,7 +13,8 @@ use Rattle.lazy_dfa.specs.Ids.{unknown_id}
 use Rattle.lazy_dfa.specs.Caches.{CacheValue, IsCacheOf, slot}
 use Rattle.lazy_dfa.specs.Readers.{is_quit}
 use Rattle.lazy_dfa.specs.Steps.{Grew}
-use Rattle.lazy_dfa.specs.StartCalls.{mode_of, quit_refusal, behind_refusal, mode_refusal, start_refusal, start_slot, start_first, IsStartKnown, ClearedFor, StartCleared}
+use Rattle.lazy_dfa.specs.StartCalls.{mode_of, quit_refusal, behind_refusal, mode_refusal, start_refusal, start_slot, start_first}
+use Rattle.lazy_dfa.specs.StartCalls.{IsStartKnown, ClearedFor, StartCleared}
 use Rattle.lazy_dfa.specs.declared.start_error.StartError.{StartError}
 use Rattle.lazy_dfa.specs.declared.start_error.StartError.TheVariants.{UnsupportedAnchored}
 use Rattle.lazy_dfa.proofs.IsCacheLemmas.{numbered_back}
@@ -22,7 +24,8 @@ inside_of [] k x e = absurd cc
 inside_of (y ∷ ys) zero x e = omega arith
 inside_of (y ∷ ys) (suc k) x e = let l = inside_of ys k x e in omega (arith, l)
 
-starts_are : (d : Dfa) (v : CacheValue) → IsDfa d → IsCacheOf d v → length v.starts ≡ start_count (starts_each_of d.options) (length d.nfa.automaton.start_pattern)
+starts_are : (d : Dfa) (v : CacheValue) → IsDfa d → IsCacheOf d v → length v.starts ≡ start_count (starts_each_of d.options)
+    (length d.nfa.automaton.start_pattern)
 starts_are d v made own = own.slots ∙ ap (λ (m : Measures). m.starts) made.measured
 
 at_least : (each : Bool) (p : ℕ) → 14 ≤ start_count each p
@@ -30,19 +33,23 @@ at_least true p = omega arith
 at_least false p = omega arith
 
 -- each mode that is supported, and has a state to start in, has its slots
-pub slot_inside : (d : Dfa) (v : CacheValue) (mode : Anchored) (s : Start) (q n : ℕ) → IsDfa d → IsCacheOf d v → mode_refusal d mode ≡ None → n ≡ mode_of mode →
+pub slot_inside : (d : Dfa) (v : CacheValue) (mode : Anchored) (s : Start) (q n : ℕ) → IsDfa d → IsCacheOf d v →
+    mode_refusal d mode ≡ None → n ≡ mode_of mode →
     start_in d n ≡ Some q → slot n s < length v.starts
 slot_inside d v No s q n made own fine e f =
-    let few = (numbered_back s).1 in let long = starts_are d v made own in let least = at_least (starts_each_of d.options) (length d.nfa.automaton.start_pattern) in
+    let few = (numbered_back s).1 in let long = starts_are d v made own in let least =
+        at_least (starts_each_of d.options) (length d.nfa.automaton.start_pattern) in
     omega (arith, few, long, least, e)
 slot_inside d v Yes s q n made own fine e f =
-    let few = (numbered_back s).1 in let long = starts_are d v made own in let least = at_least (starts_each_of d.options) (length d.nfa.automaton.start_pattern) in
+    let few = (numbered_back s).1 in let long = starts_are d v made own in let least =
+        at_least (starts_each_of d.options) (length d.nfa.automaton.start_pattern) in
     omega (arith, few, long, least, e)
 slot_inside d v (Pattern p) s q n made own fine e f =
     let l : p < length d.nfa.automaton.start_pattern = inside_of d.nfa.automaton.start_pattern p q (ap (start_in d) (sym e) ∙ f) in
     let few = (numbered_back s).1 in
     let long : length v.starts ≡ 14 + 7 * length d.nfa.automaton.start_pattern =
-    starts_are d v made own ∙ ap (λ (b : Bool). start_count b (length d.nfa.automaton.start_pattern)) (on (starts_each_of d.options) fine) in
+    starts_are d v made own ∙ ap (λ (b : Bool). start_count b (length d.nfa.automaton.start_pattern))
+        (on (starts_each_of d.options) fine) in
     omega (arith, few, long, l, e)
   where
     on : (b : Bool) → (if b then None else Some (UnsupportedAnchored (Pattern p))) ≡ None → b ≡ true
@@ -65,16 +72,20 @@ mode_fine d c e = by_behind c.look_behind e
 -- ---- answers
 
 -- where nothing was refused there is no refusal, and the mode is supported
-pub allowed_of : (d : Dfa) (c : StartValue) (r : Option StartError) (o : Option ℕ) (m : Anchored) → r ≡ None → r ≡ behind_refusal d o (mode_refusal d m) → o ≡ c.look_behind → m ≡ c.anchored →
+pub allowed_of : (d : Dfa) (c : StartValue) (r : Option StartError) (o : Option ℕ) (m : Anchored) → r ≡ None →
+    r ≡ behind_refusal d o (mode_refusal d m) → o ≡ c.look_behind → m ≡ c.anchored →
     start_refusal d c ≡ None
 allowed_of d c r o m none e f g =
-    ap (λ (o : Option ℕ). behind_refusal d o (mode_refusal d c.anchored)) (sym f) ∙ (ap (λ (m : Anchored). behind_refusal d o (mode_refusal d m)) (sym g) ∙ (sym e ∙ none))
+    ap (λ (o : Option ℕ). behind_refusal d o (mode_refusal d c.anchored)) (sym f)
+        ∙ (ap (λ (m : Anchored). behind_refusal d o (mode_refusal d m)) (sym g) ∙ (sym e ∙ none))
 
-pub fine_of : (d : Dfa) (c : StartValue) (r : Option StartError) (o : Option ℕ) (m : Anchored) → r ≡ None → r ≡ behind_refusal d o (mode_refusal d m) → o ≡ c.look_behind → m ≡ c.anchored →
+pub fine_of : (d : Dfa) (c : StartValue) (r : Option StartError) (o : Option ℕ) (m : Anchored) → r ≡ None →
+    r ≡ behind_refusal d o (mode_refusal d m) → o ≡ c.look_behind → m ≡ c.anchored →
     mode_refusal d c.anchored ≡ None
 fine_of d c r o m none e f g = mode_fine d c (allowed_of d c r o m none e f g)
 
-module _ (d : Dfa) (c : StartValue) (n q : ℕ) (s : Start) (named : Some q ≡ start_in d (mode_of c.anchored)) (number : n ≡ mode_of c.anchored)
+module _ (d : Dfa) (c : StartValue) (n q : ℕ) (s : Start) (named : Some q ≡ start_in d (mode_of c.anchored))
+    (number : n ≡ mode_of c.anchored)
     (is : s ≡ start_of d.nfa.terminator c.look_behind) where
   same_slot : slot n s ≡ start_slot d c
   same_slot = ap (λ (m : ℕ). slot m s) number ∙ ap (λ (t : Start). slot (mode_of c.anchored) t) is
@@ -91,6 +102,7 @@ module _ (d : Dfa) (c : StartValue) (n q : ℕ) (s : Start) (named : Some q ≡ 
       (λ (x : ClearedFor d v w (slot n s) (first_state d s q)). inr (record {
         name = q;
         named = sym named;
-        clears = subst (λ (i : ℕ). ClearedFor d v w i (start_first d c q)) same_slot (subst (λ (t : Start). ClearedFor d v w (slot n s) (first_state d t q)) is x);
+        clears = subst (λ (i : ℕ). ClearedFor d v w i (start_first d c q)) same_slot
+            (subst (λ (t : Start). ClearedFor d v w (slot n s) (first_state d t q)) is x);
       }))
       e

@@ -1,5 +1,6 @@
 -- What start calls change of a cache, and which tag a start gets.
-use Rattle.std.proofs.Common.{◌≡◌, ◌≢◌, ℕ, ◌*◌, ◌%◌, ◌/◌, ◌<◌, Bool, true, false, ◌⊎◌, length, get_or, set, refl, sym, ap, ◌∙◌, subst, inl, inr, ⊎_elim, arith, true≢false, Some, None, get_or-set_other}
+use Rattle.std.proofs.Common.{◌≡◌, ◌≢◌, ℕ, ◌*◌, ◌%◌, ◌/◌, ◌<◌, Bool, true, false, ◌⊎◌, length, get_or, set, refl, sym, ap, ◌∙◌, subst, inl}
+use Rattle.std.proofs.Common.{inr, ⊎_elim, arith, true≢false, Some, None, get_or-set_other}
 use Rattle.std.proofs.lemmas.Bool.{cases_eq}
 use Rattle.std.proofs.lemmas.Bool.Decides.{Decides-eqb}
 use Rattle.std.proofs.lemmas.Slice.Eq.{bytes_eq-Decides}
@@ -10,7 +11,8 @@ use Rattle.determinize_core.specs.declared.start.Start.{Start}
 use Rattle.lazy_dfa.specs.ConfigValue.{specializes}
 use Rattle.lazy_dfa.specs.Dfas.{Dfa, IsDfa, class_of, first_state, start_in, is_dead}
 use Rattle.lazy_dfa.specs.Ids.{tag, unknown_id, tagged, has_tag, start_tag}
-use Rattle.lazy_dfa.specs.Caches.{CacheValue, IsShaped, IsCacheOf, Names, names_dead, names_held, same, place_of, slot, new_id, with_state, cleared}
+use Rattle.lazy_dfa.specs.Caches.{CacheValue, IsShaped, IsCacheOf, Names, names_dead, names_held, same, place_of, slot, new_id, with_state}
+use Rattle.lazy_dfa.specs.Caches.{cleared}
 use Rattle.lazy_dfa.specs.Steps.{IsHeld, Added, Grew, WasCleared}
 use Rattle.lazy_dfa.specs.StartCalls.{TagsStart, ClearedFor, PlacesStart, start_found, start_added}
 use Rattle.lazy_dfa.proofs.CacheLemmas.{IsShaped-cleared, fresh_at}
@@ -41,7 +43,8 @@ known_name v id s i (names_held h) = let l = row_is_plain v id h.0 i h.1 h.2 in 
 
 -- ---- a start that isn't known
 
-pub unknown_start : (d : Dfa) (v : CacheValue) (m i q id : ℕ) (s : Start) → IsCacheOf d v → i ≡ slot m s → slot m s < length v.starts → start_in d m ≡ Some q →
+pub unknown_start : (d : Dfa) (v : CacheValue) (m i q id : ℕ) (s : Start) → IsCacheOf d v → i ≡ slot m s → slot m s < length v.starts →
+    start_in d m ≡ Some q →
     id ≡ get_or v.starts i 0 → nat_le unknown_id id ≡ true → get_or v.starts (slot m s) 0 ≡ unknown_id
 unknown_start d v m i q id s own at inside named e high = ⊎_elim
     (λ (f : get_or v.starts (slot m s) 0 ≡ unknown_id). f)
@@ -59,10 +62,12 @@ on_err (Err e) x = x
 
 -- where memory lacks or no room is made
 pub unmade_start : (d : Dfa) (v w : CacheValue) → (w ≡ v) ⊎ (w ≡ cleared v) → Grew d v w ⊎ WasCleared v w 1
-unmade_start d v w e = ⊎_elim (λ (f : w ≡ v). inl (subst (Grew d v) (sym f) (same_grew d v))) (λ (f : w ≡ cleared v). inr (cleared_few v w f)) e
+unmade_start d v w e = ⊎_elim (λ (f : w ≡ v). inl (subst (Grew d v) (sym f) (same_grew d v)))
+    (λ (f : w ≡ cleared v). inr (cleared_few v w f)) e
 
 module _ (d : Dfa) (v mid new : CacheValue) (i id : ℕ) (s : StateValue) (made : IsDfa d) (own : IsCacheOf d v)
-    (unknown : get_or v.starts i 0 ≡ unknown_id) (placed : PlacesStart d v mid s id) (e : new ≡ record mid { starts = set mid.starts i id }) where
+    (unknown : get_or v.starts i 0 ≡ unknown_id) (placed : PlacesStart d v mid s id)
+        (e : new ≡ record mid { starts = set mid.starts i id }) where
   starts_on : Added v mid → (j : ℕ) → get_or v.starts j 0 ≢ unknown_id → get_or (set mid.starts i id) j 0 ≡ get_or v.starts j 0
   starts_on a j n = ⊎_elim
       (λ (f : j ≡ i). absurd (n (ap (λ (k : ℕ). get_or v.starts k 0) f ∙ unknown)))
@@ -72,7 +77,8 @@ module _ (d : Dfa) (v mid new : CacheValue) (i id : ℕ) (s : StateValue) (made 
   grew_start : Added v mid → Grew d v new
   grew_start a = subst (Grew d v) (sym e) (record {
     names = λ j t n. names_cells mid (set mid.starts i id) j t (a.names j t n);
-    rows = λ j r. row_kept v (record mid { starts = set mid.starts i id }) own.shape (λ j t n. names_cells mid (set mid.starts i id) j t (a.names j t n)) j r;
+    rows = λ j r. row_kept v (record mid { starts = set mid.starts i id }) own.shape
+        (λ j t n. names_cells mid (set mid.starts i id) j t (a.names j t n)) j r;
     known = λ j w r unit n. a.cells j (class_of d.classes w) r (column d v made own w unit);
     starts = λ j n. starts_on a j n;
     clears = a.clears;
@@ -101,13 +107,15 @@ module _ (d : Dfa) (v mid new : CacheValue) (i id : ℕ) (s : StateValue) (made 
       by : PlacesStart d v mid s id → Grew d v new ⊎ ClearedFor d v new i s
       by (start_found f g) = inl (grew_start (subst (Added v) (sym f) (added_refl v own.shape)))
       by (start_added m room l f g) = ⊎_elim
-          (λ (h : m ≡ v). inl (grew_start (subst (Added v) (sym (f ∙ ap (with_state (specializes d.options) s) h)) (added_state v (specializes d.options) s own.shape))))
+          (λ (h : m ≡ v). inl (grew_start (subst (Added v) (sym (f ∙ ap (with_state (specializes d.options) s) h))
+              (added_state v (specializes d.options) s own.shape))))
           (λ (h : m ≡ cleared v).
           let is : mid ≡ with_state (specializes d.options) s (cleared v) = f ∙ ap (with_state (specializes d.options) s) h in
           let named : id ≡ fresh_id = g ∙ ap (λ (x : CacheValue). new_id x (specializes d.options) s) h in
           inr (subst (λ (w : CacheValue). ClearedFor d v w i s)
           (sym (e ∙ (ap (λ (x : CacheValue). record x { starts = set x.starts i id }) is
-          ∙ ap (λ (n : ℕ). record (with_state (specializes d.options) s (cleared v)) { starts = set (cleared v).starts i n }) named))) alone))
+          ∙ ap (λ (n : ℕ). record (with_state (specializes d.options) s (cleared v)) { starts = set (cleared v).starts i n }) named)))
+              alone))
           room
 
   pub start_kept : Grew d v new ⊎ WasCleared v new 1

@@ -7,7 +7,8 @@ use Rattle.search_types.specs.Modes.{is_anchored, is_supported}
 use Rattle.search_types.specs.Places.{counts}
 use Rattle.determinize_core.specs.States.{StateValue}
 use Rattle.determinize_core.specs.Steps.{unit_at, unit_behind}
-use Rattle.lazy_dfa.specs.Passes.{index_at, index_behind, is_dead, is_empty, unless_quit, if_supported, recorded, next_value, next_place, pass_from, start_name, start_or_dead, first_value, pass}
+use Rattle.lazy_dfa.specs.Passes.{index_at, index_behind, is_dead, is_empty, unless_quit, if_supported, recorded, next_value, next_place}
+use Rattle.lazy_dfa.specs.Passes.{pass_from, start_name, start_or_dead, first_value, pass}
 use Rattle.lazy_dfa.specs.Readers.{Reader, HalfAnswer, found}
 use Rattle.lazy_dfa.specs.Scans.{unless_split, passes, first_place, begun_at, scan}
 
@@ -46,7 +47,8 @@ module _ (r : Reader) (b : Bool) where
     each_alike : (n i : ℕ) → passes r mode earliest h n i ≡ passes other mode earliest h n i
     each_alike zero i = ap (λ (x : HalfAnswer). unless_split (counts r.between_characters h) x (found None)) (one_alike zero i)
     each_alike (suc n) i =
-        ap (λ (x : HalfAnswer). unless_split (counts r.between_characters h) x (passes r mode earliest h n (next_place r i))) (one_alike (suc n) i)
+        ap (λ (x : HalfAnswer). unless_split (counts r.between_characters h) x (passes r mode earliest h n (next_place r i)))
+            (one_alike (suc n) i)
         ∙ ap (λ (x : HalfAnswer). unless_split (counts r.between_characters h) (pass other mode earliest h (suc n) i) x)
         (each_alike n (next_place r i))
 
@@ -70,10 +72,12 @@ same_but_starts r s automaton terminator kind quits between = λ k. record {
   starts_for_each_pattern = s.starts_for_each_pattern;
 }
 
-pub scan_by_support : (r s : Reader) (q : Search) → r.automaton ≡ s.automaton → r.terminator ≡ s.terminator → r.kind ≡ s.kind → r.quits ≡ s.quits →
+pub scan_by_support : (r s : Reader) (q : Search) → r.automaton ≡ s.automaton → r.terminator ≡ s.terminator → r.kind ≡ s.kind →
+    r.quits ≡ s.quits →
     r.between_characters ≡ s.between_characters →
     is_supported r.starts_for_each_pattern q.anchored ≡ is_supported s.starts_for_each_pattern q.anchored → scan r q ≡ scan s q
 scan_by_support r s q automaton terminator kind quits between same =
     ap (λ (x : HalfAnswer). if nat_le q.start q.end then x else found None)
-    (begun_alike r s.starts_for_each_pattern q.anchored q.earliest q.haystack same (q.end - q.start) (first_place r.automaton.reverse q.start q.end))
+    (begun_alike r s.starts_for_each_pattern q.anchored q.earliest q.haystack same (q.end - q.start)
+        (first_place r.automaton.reverse q.start q.end))
     ∙ ap (λ (x : Reader). scan x q) (same_but_starts r s automaton terminator kind quits between)

@@ -1,12 +1,14 @@
 -- One turn of a pass over a cache: what an ID says by its tags, and what a step by one unit makes of the pass.
-use Rattle.std.proofs.Common.{◌≡◌, ◌≢◌, ℕ, ◌+◌, ◌*◌, ◌/◌, ◌%◌, ◌<◌, ◌≤◌, Bool, true, false, List, [], ◌∷◌, length, get_or, Option, Some, None, refl, sym, ap, ◌∙◌, subst, inl, inr, ⊎_elim, arith, true≢false}
+use Rattle.std.proofs.Common.{◌≡◌, ◌≢◌, ℕ, ◌+◌, ◌*◌, ◌/◌, ◌%◌, ◌<◌, ◌≤◌, Bool, true, false, List, [], ◌∷◌, length, get_or, Option, Some}
+use Rattle.std.proofs.Common.{None, refl, sym, ap, ◌∙◌, subst, inl, inr, ⊎_elim, arith, true≢false}
 use Rattle.std.specs.Prelude.{◌&&◌, ◌==◌, not, nat_le, Result, Ok, Err, IsSome}
 use Rattle.std.proofs.lemmas.Bool.{cases_Bool}
 use Rattle.std.proofs.lemmas.Bool.Decides.{Decides-eqb}
 use Rattle.determinize_core.specs.States.{StateValue, dead}
 use Rattle.determinize_core.specs.StateBytes.{is_match}
 use Rattle.determinize_core.specs.Steps.{unit_at}
-use Rattle.lazy_dfa.specs.Caches.{CacheValue, IsShaped, IsCacheOf, IsRow, HeldAt, Names, names_dead, names_held, Leads, begun_anew, state_at, lacks_room}
+use Rattle.lazy_dfa.specs.Caches.{CacheValue, IsShaped, IsCacheOf, IsRow, HeldAt, Names, names_dead, names_held, Leads, begun_anew}
+use Rattle.lazy_dfa.specs.Caches.{state_at, lacks_room}
 use Rattle.lazy_dfa.specs.Courses.{stops_behind}
 use Rattle.lazy_dfa.specs.declared.cache_error.CacheError.{CacheError}
 use Rattle.lazy_dfa.specs.declared.cache_error.CacheError.TheVariants.{GaveUp, NoMemory}
@@ -23,7 +25,8 @@ use Rattle.lazy_dfa.specs.Points.{Point, point}
 use Rattle.lazy_dfa.specs.Readers.{is_quit}
 use Rattle.lazy_dfa.specs.SearchAnswers.{pair_of, told_of}
 use Rattle.lazy_dfa.specs.Steps.{IsHeld, Grew, WasCleared, noted, IsKnown, GivesUp, IsStepCause, most_inserts}
-use Rattle.lazy_dfa.specs.Turns.{Sees, sees_dead, sees_quit, sees_end, sees_on, IsStep, Leaves, FailsOn, StaysRunning, TellsTheSame, GoesOne, IsSeen, IsTurn}
+use Rattle.lazy_dfa.specs.Turns.{Sees, sees_dead, sees_quit, sees_end, sees_on, IsStep, Leaves, FailsOn, StaysRunning, TellsTheSame}
+use Rattle.lazy_dfa.specs.Turns.{GoesOne, IsSeen, IsTurn}
 use Rattle.lazy_dfa.proofs.ChangeLemmas.{one_state}
 use Rattle.lazy_dfa.proofs.CourseLemmas.{state_behind_one, unmatched}
 use Rattle.lazy_dfa.proofs.IsCacheLemmas.{row_is_low, row_is_plain, lt_of}
@@ -111,12 +114,14 @@ pub first_recorded : (s : StateValue) (place : ℕ) (best : Option (ℕ × ℕ))
 first_recorded s place best [] e f = absurd (true≢false (sym f))
 first_recorded s place best (p ∷ ps) e f = ap (λ (ms : List ℕ). recorded place (record s { matches = ms }) best) (sym e)
 
-pub matches_there : (v : CacheValue) (id : ℕ) → IsShaped v → has_tag match_tag id ≡ true → (s : StateValue) → HeldAt v id s → 0 < length s.matches
+pub matches_there : (v : CacheValue) (id : ℕ) → IsShaped v → has_tag match_tag id ≡ true → (s : StateValue) → HeldAt v id s →
+    0 < length s.matches
 matches_there v id i t s g = some_match s.matches (sym (row_matches v id s i g) ∙ t)
 
 -- ---- what an ID says
 
-module _ (v : CacheValue) (id place : ℕ) (best : Option (ℕ × ℕ)) (earliest : Bool) (seen : Seen) (i : IsShaped v) (held : IsHeld v id) (same : seen.id ≡ id) where
+module _ (v : CacheValue) (id place : ℕ) (best : Option (ℕ × ℕ)) (earliest : Bool) (seen : Seen) (i : IsShaped v) (held : IsHeld v id)
+    (same : seen.id ≡ id) where
   pub see_dead : has_tag dead_tag id ≡ true → seen.turn ≡ Ends → pair_of seen.best ≡ best → Sees v id place best earliest seen
   see_dead t ends b = sees_dead (dead_tagged v id i held t) same ends b
 
@@ -153,7 +158,8 @@ module _ (v : CacheValue) (id place : ℕ) (best : Option (ℕ × ℕ)) (earlies
       does_match = sym (row_matches v id matched i matched_held) ∙ matches
 
       last_recorded : pair_of seen.best ≡ recorded place matched best
-      last_recorded = b ∙ (ap (λ (n : ℕ). Some (place, n)) (listed matched matched_held) ∙ first_recorded matched place best matched.matches refl does_match)
+      last_recorded = b ∙ (ap (λ (n : ℕ). Some (place, n)) (listed matched matched_held)
+          ∙ first_recorded matched place best matched.matches refl does_match)
 
       pub see_end : earliest ≡ true → seen.turn ≡ Ends → Sees v id place best earliest seen
       see_end e ends = sees_end matched matched_held same ends last_recorded (loud_end earliest matched.matches does_match ∙ e)
@@ -239,7 +245,8 @@ module _ (d : Dfa) (h : List ℕ) (old : CacheValue) (at id m1 n1 : ℕ) (u : Op
     gives_up (inr g) = g.1
 
     pub turn_refused : (e : CacheError) → IsStep d old new m1 m2 n1 n2 id u (Err e) → IsTurn d earliest h u from new m2 n2 (Err e)
-    turn_refused NoMemory step = (fails_on NoMemory step, stays_running new m2 n2 (Err NoMemory) step, tells_same new m2 n2 (Err NoMemory) step)
+    turn_refused NoMemory step = (fails_on NoMemory step, stays_running new m2 n2 (Err NoMemory) step,
+        tells_same new m2 n2 (Err NoMemory) step)
     turn_refused GaveUp step =
         let g = gives_up step.err in (
           fails_on GaveUp step,
@@ -257,7 +264,8 @@ module _ (d : Dfa) (h : List ℕ) (old : CacheValue) (at id m1 n1 : ℕ) (u : Op
 
       -- not by a quit byte, where it doesn't lead to that sentinel
       quiet_if : to ≢ quit_id new.stride → is_quit d.quits u ≡ false
-      quiet_if n = ⊎_elim (λ (q : is_quit d.quits u ≡ true). absurd (n (leads.quits q))) (λ (q : is_quit d.quits u ≡ false). q) (cases_Bool (is_quit d.quits u))
+      quiet_if n = ⊎_elim (λ (q : is_quit d.quits u ≡ true). absurd (n (leads.quits q))) (λ (q : is_quit d.quits u ≡ false). q)
+          (cases_Bool (is_quit d.quits u))
 
       to_dead : (s : StateValue) → to ≡ dead_id new.stride → Names new to s → s ≡ dead
       to_dead s e (names_dead f g) = g
@@ -271,12 +279,15 @@ module _ (d : Dfa) (h : List ℕ) (old : CacheValue) (at id m1 n1 : ℕ) (u : Op
       to_row s t g (names_dead e f) = let l = row_is_plain new to g.0 mine.shape g.1 g.2 in absurd (omega (arith, e, l))
       to_row s t g (names_held k) = sym (one_state new to g.0 s mine.shape g.1 g.2 k) ∙ sym g.3
 
-      goes_one : (last : Option (ℕ × ℕ)) → is_quit d.quits u ≡ false → ((s : StateValue) → HeldAt old id s → last ≡ recorded at (after d s u) best) →
+      goes_one : (last : Option (ℕ × ℕ)) → is_quit d.quits u ≡ false →
+          ((s : StateValue) → HeldAt old id s → last ≡ recorded at (after d s u) best) →
           GoesOne d h from new m2 n2 to last
-      goes_one last quiet recs = goes_step d h old at id u own row is quiet new to m1 m2 n1 n2 best last mine step.kept step.step step.notes step.same step.free
+      goes_one last quiet recs = goes_step d h old at id u own row is quiet new to m1 m2 n1 n2 best last mine step.kept step.step step.notes
+          step.same step.free
           step.determinized step.inserted recs
 
-      stops_one : (s t : StateValue) (b : Bool) → after d s u ≡ t → (earliest && not (is_empty t.matches)) ≡ b → stops_behind (reader d) earliest h at s 0 ≡ b
+      stops_one : (s t : StateValue) (b : Bool) → after d s u ≡ t → (earliest && not (is_empty t.matches)) ≡ b →
+          stops_behind (reader d) earliest h at s 0 ≡ b
       stops_one s t b e f = ap (λ (x : StateValue). earliest && not (is_empty x.matches)) (state_behind_one d h at u is s ∙ e) ∙ f
 
       abbrev Seeing : ℕ → Option (ℕ × ℕ) → Turn → Type 0
@@ -285,7 +296,8 @@ module _ (d : Dfa) (h : List ℕ) (old : CacheValue) (at id m1 n1 : ℕ) (u : Op
       seen_dead : (last : Option (ℕ × ℕ)) → to ≡ dead_id new.stride → last ≡ best → Seeing to last Ends
       seen_dead last e b =
           let quiet = quiet_if (λ q. omega (arith, e, q, mine.shape.narrow)) in
-          let dies : (s : StateValue) → HeldAt old id s → after d s u ≡ dead = λ s g. to_dead (after d s u) e ((step.step s g).goes quiet) in (
+          let dies : (s : StateValue) → HeldAt old id s → after d s u ≡ dead =
+              λ s g. to_dead (after d s u) e ((step.step s g).goes quiet) in (
             goes_one last quiet (λ s g. b ∙ (unmatched dead at best refl ∙ ap (λ (x : StateValue). recorded at x best) (sym (dies s g)))),
             tells_same new m2 n2 (Ok to) step,
             λ s g. inr (ap is_dead (state_behind_one d h at u is s ∙ dies s g)),
@@ -319,7 +331,8 @@ module _ (d : Dfa) (h : List ℕ) (old : CacheValue) (at id m1 n1 : ℕ) (u : Op
         seen_on e = (goes_there, tells_same new m2 n2 (Ok to) step, (g.0, g.1, g.2), λ s k. stops_one s t false (becomes s k) e)
 
       -- what was seen, by its own names
-      named_so : (seen : Seen) (t : Turn) → seen.id ≡ to → seen.turn ≡ t → Seeing to (pair_of seen.best) t → Seeing seen.id (pair_of seen.best) seen.turn
+      named_so : (seen : Seen) (t : Turn) → seen.id ≡ to → seen.turn ≡ t → Seeing to (pair_of seen.best) t →
+          Seeing seen.id (pair_of seen.best) seen.turn
       named_so seen t e f x =
           subst (λ (y : Turn). Seeing seen.id (pair_of seen.best) y) (sym f) (subst (λ (y : ℕ). Seeing y (pair_of seen.best) t) (sym e) x)
 

@@ -1,5 +1,6 @@
 -- The first call of an overlapping walk: over a done input, where its start is refused or leaves nothing, and where it reads on.
-use Rattle.std.proofs.Common.{◌≡◌, ◌≢◌, ◌⊎◌, ℕ, suc, ◌+◌, ◌*◌, ◌<◌, ◌≤◌, ◌&&◌, Bool, true, false, Option, Some, None, if◌then◌else◌, refl, sym, ap, ◌∙◌, subst, inl, inr, ⊎_elim, arith}
+use Rattle.std.proofs.Common.{◌≡◌, ◌≢◌, ◌⊎◌, ℕ, suc, ◌+◌, ◌*◌, ◌<◌, ◌≤◌, ◌&&◌, Bool, true, false, Option, Some, None, if◌then◌else◌, refl}
+use Rattle.std.proofs.Common.{sym, ap, ◌∙◌, subst, inl, inr, ⊎_elim, arith}
 use Rattle.std.specs.Prelude.{Result, Ok, Err, min, nat_le, IsTrue, ◌↔◌}
 use Rattle.std.proofs.lemmas.Bool.{le-leb, lt-leb}
 use Rattle.std.proofs.Math.Nat.{min-eq_left}
@@ -23,10 +24,13 @@ use Rattle.lazy_dfa.specs.PassPlaces.{left_at, pass_start, StartsPass}
 use Rattle.lazy_dfa.specs.StartCalls.{start_refusal}
 use Rattle.lazy_dfa.specs.Steps.{Grew, WasCleared, most_inserts}
 use Rattle.lazy_dfa.specs.Walks.{nothing_left, refused, whole_rest, rest_of, WalkState}
-use Rattle.lazy_dfa.specs.WalkAnswers.{reads_on, units_there, call_units, call_starts, TellsNext, at_start, AnswersWalk, failed_by, told_by_call, value_before, ReadsOn, MakesCall}
-use Rattle.lazy_dfa.proofs.LinkedLemmas.{grows_trans, grew_grows, has_cleared, start_grows_of, cleared_grows, grows_or_clears_trans, grows_moved}
+use Rattle.lazy_dfa.specs.WalkAnswers.{reads_on, units_there, call_units, call_starts, TellsNext, at_start, AnswersWalk, failed_by}
+use Rattle.lazy_dfa.specs.WalkAnswers.{told_by_call, value_before, ReadsOn, MakesCall}
+use Rattle.lazy_dfa.proofs.LinkedLemmas.{grows_trans, grew_grows, has_cleared, start_grows_of, cleared_grows, grows_or_clears_trans}
+use Rattle.lazy_dfa.proofs.LinkedLemmas.{grows_moved}
 use Rattle.lazy_dfa.proofs.SearchEndLemmas.{not_done, is_over}
-use Rattle.lazy_dfa.proofs.WalkLeftLemmas.{begun_rest, begun_units, begun_value, dead_rest, dead_units, whole_from, done_left, refused_whole, fit_whole}
+use Rattle.lazy_dfa.proofs.WalkLeftLemmas.{begun_rest, begun_units, begun_value, dead_rest, dead_units, whole_from, done_left}
+use Rattle.lazy_dfa.proofs.WalkLeftLemmas.{refused_whole, fit_whole}
 use Rattle.lazy_dfa.proofs.WholePassLemmas.{min_twice, dead_named, row_named}
 use Rattle.lazy_dfa.proofs.WalkCallLemmas.{fine, failure, ended, tells_refusal, tells_none, still_call, told_with, makes_on, MakesIts}
 
@@ -91,7 +95,8 @@ module _ (d : Dfa) (q : Search) (old new : CacheValue) (m1 m2 n1 n2 : ℕ) (begu
     still = λ none quiet. no_start q begun none;
     quiet = λ none quiet. no_start q begun none;
     determinized = few_at_start m1 m2 (call_units (reader d) q Fresh) (call_starts q Fresh) (one_start q begun) start.determinized;
-    inserted = few_put_at_start n1 n2 (call_units (reader d) q Fresh) (call_starts q Fresh) (most_inserts d) (one_start q begun) start.inserted;
+    inserted = few_put_at_start n1 n2 (call_units (reader d) q Fresh) (call_starts q Fresh) (most_inserts d)
+        (one_start q begun) start.inserted;
   }
 
 abbrev told_short : ℕ → Told
@@ -99,11 +104,13 @@ told_short n = record { searched = n; progress = None }
 
 -- a search that begins somewhere and ends there
 pub dead_moved : (mid begun new : CacheValue) (at : ℕ) →
-    begun ≡ record mid { searched = min (mid.searched + progress_len mid.progress) greatest; progress = Some (record { start = at; at = at }) } →
+    begun ≡ record mid { searched = min (mid.searched + progress_len mid.progress) greatest;
+        progress = Some (record { start = at; at = at }) } →
     new ≡ record begun { searched = min (begun.searched + progress_len (moved_to at begun.progress)) greatest; progress = None } →
     IsMoved mid new × (told_of new ≡ told_with (mid.searched + progress_len mid.progress) 0)
 dead_moved mid begun new at e f =
-    let is = f ∙ ap (λ (x : CacheValue). record x { searched = min (x.searched + progress_len (moved_to at x.progress)) greatest; progress = None }) e in (
+    let is = f ∙ ap (λ (x : CacheValue). record x { searched = min (x.searched + progress_len (moved_to at x.progress)) greatest;
+        progress = None }) e in (
       subst (λ (x : CacheValue). IsMoved mid x) (sym is) refl,
       ap told_of is ∙ ap told_short (nowhere (mid.searched + progress_len mid.progress) at),
     )
@@ -155,7 +162,8 @@ module _ (d : Dfa) (q : Search) (old mid : CacheValue) (m1 m n1 n id : ℕ) (beg
 
     abbrev told_after_start : ℕ → Told
     told_after_start k =
-        told_with (old.searched + progress_len old.progress) (pass_distance d.nfa.automaton.reverse (left_at d.nfa.automaton.reverse q from) k)
+        told_with (old.searched + progress_len old.progress) (pass_distance d.nfa.automaton.reverse
+            (left_at d.nfa.automaton.reverse q from) k)
 
     no_distance : (is_reverse : Bool) (k : ℕ) → pass_distance is_reverse k 0 ≡ 0
     no_distance false k = refl
@@ -165,7 +173,8 @@ module _ (d : Dfa) (q : Search) (old mid : CacheValue) (m1 m n1 n id : ℕ) (beg
     told_dead =
         ap (λ (b : Bool). if b then told_after_start (call_units (reader d) q Fresh) else told_of old) reads_first
         ∙ (ap told_after_start none_read
-        ∙ ap (told_with (old.searched + progress_len old.progress)) (no_distance d.nfa.automaton.reverse (left_at d.nfa.automaton.reverse q from)))
+        ∙ ap (told_with (old.searched + progress_len old.progress)) (no_distance d.nfa.automaton.reverse
+            (left_at d.nfa.automaton.reverse q from)))
 
     pub dead_call : (new : CacheValue) → IsMoved mid new → told_of new ≡ told_with (mid.searched + progress_len mid.progress) 0 →
         MakesCall d q old new m1 m n1 n Fresh ended fine
@@ -186,7 +195,8 @@ module _ (d : Dfa) (q : Search) (old mid : CacheValue) (m1 m n1 n id : ℕ) (beg
       still = λ none quiet. no_start q begun none;
       quiet = λ none quiet. no_start q begun none;
       determinized = few_at_start m1 m (call_units (reader d) q Fresh) (call_starts q Fresh) (one_start q begun) start.determinized;
-      inserted = few_put_at_start n1 n (call_units (reader d) q Fresh) (call_starts q Fresh) (most_inserts d) (one_start q begun) start.inserted;
+      inserted = few_put_at_start n1 n (call_units (reader d) q Fresh) (call_starts q Fresh) (most_inserts d)
+          (one_start q begun) start.inserted;
     }
       where
         still_there : Grows d mid new
@@ -202,4 +212,5 @@ module _ (d : Dfa) (q : Search) (old mid : CacheValue) (m1 m n1 n id : ℕ) (beg
         ReadsOn d q (first_place is_reverse q.start q.end) mid new m m2 n n2 result → MakesIts d q Fresh old new m1 m2 n1 n2 result
     begins_walk new m2 n2 result x =
         makes_on d q Fresh old mid new m1 m m2 n1 n n2 made own reads_first (fits.1 ∙ begun_rest (reader d) q) (begun_units (reader d) q)
-        so_far few_starts few_starts_put result (subst (λ (b : Bool). ReadsOn d q (first_place b q.start q.end) mid new m m2 n n2 result) is x)
+        so_far few_starts few_starts_put result (subst (λ (b : Bool). ReadsOn d q (first_place b q.start q.end) mid new m m2 n n2 result) is
+            x)

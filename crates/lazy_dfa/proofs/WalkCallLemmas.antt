@@ -1,5 +1,6 @@
 -- What a call of an overlapping walk has done: one that reads nothing, and one that reads on.
-use Rattle.std.proofs.Common.{◌≡◌, ◌⊎◌, ℕ, ◌+◌, ◌*◌, ◌<◌, ◌≤◌, Bool, true, false, List, ◌∷◌, Option, Some, None, if◌then◌else◌, refl, sym, ap, ◌∙◌, subst, inl, inr, ⊎_elim, arith, true≢false, []}
+use Rattle.std.proofs.Common.{◌≡◌, ◌⊎◌, ℕ, ◌+◌, ◌*◌, ◌<◌, ◌≤◌, Bool, true, false, List, ◌∷◌, Option, Some, None, if◌then◌else◌, refl, sym}
+use Rattle.std.proofs.Common.{ap, ◌∙◌, subst, inl, inr, ⊎_elim, arith, true≢false, []}
 use Rattle.std.specs.Prelude.{Result, Ok, Err, IfOk, IfErr, OnOk, min, ⊤}
 use Rattle.search_types.specs.declared.match_error.MatchErrorKind.{MatchErrorKind}
 use Rattle.search_types.specs.declared.match_error.MatchErrorKind.TheVariants.{GaveUp, NoMemory}
@@ -15,7 +16,8 @@ use Rattle.lazy_dfa.specs.SearchAnswers.{half_of, Told, told_of, pass_distance}
 use Rattle.lazy_dfa.specs.PassPlaces.{left_at}
 use Rattle.lazy_dfa.specs.Steps.{most_inserts}
 use Rattle.lazy_dfa.specs.Walks.{Rest, nothing_left, refused, others, rest_of, IsWalk, WalkState}
-use Rattle.lazy_dfa.specs.WalkAnswers.{reads_on, call_place, units_there, call_units, call_starts, told_left, TellsNext, GivesUpOn, at_unit, AnswersWalk, failed_by, told_by_call, rest_at, units_at, told_from, GivesUpFrom, ReadsOn, MakesCall}
+use Rattle.lazy_dfa.specs.WalkAnswers.{reads_on, call_place, units_there, call_units, call_starts, told_left, TellsNext, GivesUpOn, at_unit}
+use Rattle.lazy_dfa.specs.WalkAnswers.{AnswersWalk, failed_by, told_by_call, rest_at, units_at, told_from, GivesUpFrom, ReadsOn, MakesCall}
 use Rattle.lazy_dfa.proofs.LinkedLemmas.{grows_refl, grows_trans, cleared_grows, grows_or_clears_trans}
 
 abbrev pub fine : Result ⊤ MatchErrorKind
@@ -67,7 +69,8 @@ not_read false k e = refl
 -- a call that leaves the cache as it was
 module _ (d : Dfa) (q : Search) (v : CacheValue) (m n : ℕ) (w : Walk) (after : WalkState) (result : Result ⊤ MatchErrorKind)
     (tells : TellsNext (reader d) q w after result) (silent : reads_on (reader d) q w ≡ false) where
-  pub still_call : IsWalk d v q after.walk → IfErr result (λ e. after ≡ failed_by e) → OnOk result (after.found ≡ None → after.walk ≡ Ended) →
+  pub still_call : IsWalk d v q after.walk → IfErr result (λ e. after ≡ failed_by e) →
+      OnOk result (after.found ≡ None → after.walk ≡ Ended) →
       MakesCall d q v v m m n n w after result
   still_call walk failed ends = record {
     answer = inl tells;
@@ -96,7 +99,8 @@ ended_call d q v m n = still_call d q v m n Ended ended fine (tells_none (reader
 pub failed_call : (d : Dfa) (q : Search) (v : CacheValue) (m n : ℕ) (e : MatchErrorKind) →
     MakesCall d q v v m m n n (Failed e) (failed_by e) (failure e)
 failed_call d q v m n e =
-    still_call d q v m n (Failed e) (failed_by e) (failure e) (tells_refusal (reader d) q (Failed e) (refused e) e refl refl refl) refl tt refl tt
+    still_call d q v m n (Failed e) (failed_by e) (failure e) (tells_refusal (reader d) q (Failed e) (refused e) e refl refl refl) refl tt
+        refl tt
 
 -- ---- calls that read on
 

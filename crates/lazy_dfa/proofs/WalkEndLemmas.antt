@@ -1,5 +1,6 @@
 -- What a walk lists of runs where all matches are asked for: the ends at each place that it reads, up to a quit byte.
-use Rattle.std.proofs.Common.{◌≡◌, ℕ, zero, suc, ◌+◌, ◌-◌, ◌*◌, ◌<◌, ◌≤◌, Bool, true, false, List, [], ◌∷◌, ◌++◌, length, map, Option, Some, None, if◌then◌else◌, refl, sym, ap, ◌∙◌, ◌⊎◌, inl, inr, subst, arith}
+use Rattle.std.proofs.Common.{◌≡◌, ℕ, zero, suc, ◌+◌, ◌-◌, ◌*◌, ◌<◌, ◌≤◌, Bool, true, false, List, [], ◌∷◌, ◌++◌, length, map, Option, Some}
+use Rattle.std.proofs.Common.{None, if◌then◌else◌, refl, sym, ap, ◌∙◌, ◌⊎◌, inl, inr, subst, arith}
 use Rattle.std.proofs.lemmas.Bool.Decides.{Decides-eqb}
 use Rattle.std.specs.List.{filter}
 use Rattle.search_core.specs.ByteSets.{has}
@@ -29,7 +30,8 @@ use Rattle.lazy_dfa.proofs.LastLemmas.{pattern, is_at, none_mapped}
 use Rattle.lazy_dfa.proofs.PassQuitLemmas.{unit_first, unit_later, none_more}
 use Rattle.lazy_dfa.proofs.PassLemmas.{dead_next, walk, walk_steps, walk_starts}
 use Rattle.lazy_dfa.proofs.PlaceEndLemmas.{HasRoom, order_told, best_by_place, has_by_place, once_by_place, ordered_by_place}
-use Rattle.lazy_dfa.proofs.RestLemmas.{Turn, turn_ends, turn_quits, turn_goes, turn, rest_none, Begins, begins_done, begins_quit, begins_unfit, begins_there, begins, rest_in_span, no_quit_mode, quit_parts}
+use Rattle.lazy_dfa.proofs.RestLemmas.{Turn, turn_ends, turn_quits, turn_goes, turn, rest_none, Begins, begins_done, begins_quit}
+use Rattle.lazy_dfa.proofs.RestLemmas.{begins_unfit, begins_there, begins, rest_in_span, no_quit_mode, quit_parts}
 
 -- ---- one place
 

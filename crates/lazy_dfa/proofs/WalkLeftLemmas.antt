@@ -1,5 +1,6 @@
 -- What is left of an overlapping walk: at its start, where it stopped, and where it reads on.
-use Rattle.std.proofs.Common.{◌≡◌, ◌≢◌, ℕ, zero, suc, ◌+◌, ◌<◌, ◌≤◌, ◌&&◌, Bool, true, false, List, ◌∷◌, length, drop, map, Option, Some, None, if◌then◌else◌, refl, sym, ap, ◌∙◌, ⊎_elim, arith, true≢false, []}
+use Rattle.std.proofs.Common.{◌≡◌, ◌≢◌, ℕ, zero, suc, ◌+◌, ◌<◌, ◌≤◌, ◌&&◌, Bool, true, false, List, ◌∷◌, length, drop, map, Option, Some}
+use Rattle.std.proofs.Common.{None, if◌then◌else◌, refl, sym, ap, ◌∙◌, ⊎_elim, arith, true≢false, []}
 use Rattle.std.specs.Prelude.{Result, Err, slice_index, nat_lt, nat_le}
 use Rattle.std.proofs.lemmas.List.{drop_more, drop_all}
 use Rattle.std.proofs.lemmas.Bool.{ltb-true, cases_lt, lt-ltb}
@@ -25,7 +26,8 @@ use Rattle.lazy_dfa.specs.ScanLaws.{begins_at}
 use Rattle.lazy_dfa.specs.SearchAnswers.{told}
 use Rattle.lazy_dfa.specs.PassPlaces.{came, left_at, last_place, IsWithinSpan, pass_start}
 use Rattle.lazy_dfa.specs.StartCalls.{quit_refusal, behind_refusal, mode_refusal, start_refusal}
-use Rattle.lazy_dfa.specs.Walks.{Rest, nothing_left, refused, unless_quit_at, where_supported, end_of, rest_from, whole_rest, value_past, rest_past}
+use Rattle.lazy_dfa.specs.Walks.{Rest, nothing_left, refused, unless_quit_at, where_supported, end_of, rest_from, whole_rest, value_past}
+use Rattle.lazy_dfa.specs.Walks.{rest_past}
 use Rattle.lazy_dfa.specs.WalkAnswers.{units_met, value_before, rest_at, units_at}
 
 -- ---- places of a span
@@ -61,7 +63,8 @@ came_next true q at within apart = let l = within.0 in let k = within.1 in ⊎_e
     (λ (past : at ≤ q.start). absurd (apart (omega (arith, l, past))))
     (cases_lt q.start at)
 
-pub next_within : (is_reverse : Bool) (q : Search) (at : ℕ) → IsWithinSpan q at → at ≢ last_place is_reverse q → IsWithinSpan q (place_of is_reverse at 1)
+pub next_within : (is_reverse : Bool) (q : Search) (at : ℕ) → IsWithinSpan q at → at ≢ last_place is_reverse q →
+    IsWithinSpan q (place_of is_reverse at 1)
 next_within false q at within apart = let l = within.0 in let k = within.1 in ⊎_elim
     (λ (less : at < q.end). (omega (arith, l), omega (arith, less)))
     (λ (past : q.end ≤ at). absurd (apart (omega (arith, k, past))))
@@ -91,12 +94,14 @@ module _ (r : Reader) (q : Search) where
   pub begun_rest : rest_from r q.haystack (suc (span_len q)) from first_state ≡ rest_at r q from
   begun_rest = sym (
       ap (λ (n : ℕ). rest_from r q.haystack (suc n) from (value_before r q from)) (left_first is_reverse q)
-      ∙ ap (λ (k : ℕ). rest_from r q.haystack (suc (span_len q)) from (state_behind r q.haystack from first_state k)) (came_first is_reverse q))
+      ∙ ap (λ (k : ℕ). rest_from r q.haystack (suc (span_len q)) from (state_behind r q.haystack from first_state k))
+          (came_first is_reverse q))
 
   pub begun_units : units_met r q.haystack (suc (span_len q)) from first_state ≡ units_at r q from
   begun_units = sym (
       ap (λ (n : ℕ). units_met r q.haystack (suc n) from (value_before r q from)) (left_first is_reverse q)
-      ∙ ap (λ (k : ℕ). units_met r q.haystack (suc (span_len q)) from (state_behind r q.haystack from first_state k)) (came_first is_reverse q))
+      ∙ ap (λ (k : ℕ). units_met r q.haystack (suc (span_len q)) from (state_behind r q.haystack from first_state k))
+          (came_first is_reverse q))
 
   pub begun_value : value_before r q from ≡ first_state
   begun_value = ap (λ (k : ℕ). state_behind r q.haystack from first_state k) (came_first is_reverse q)
@@ -116,7 +121,8 @@ module _ (r : Reader) (q : Search) where
           ap (λ (n : ℕ). rest_from r q.haystack n (next_place r at) (value_past r q at)) (sym (left_next is_reverse q at within apart))
           ∙ ap (λ (s : StateValue). rest_from r q.haystack (suc (left_at is_reverse q (next_place r at))) (next_place r at) s) past_value
 
-      pub past_units : units_met r q.haystack (left_at is_reverse q at) (next_place r at) (value_past r q at) ≡ units_at r q (next_place r at)
+      pub past_units : units_met r q.haystack (left_at is_reverse q at) (next_place r at) (value_past r q at) ≡ units_at r q
+          (next_place r at)
       past_units =
           ap (λ (n : ℕ). units_met r q.haystack n (next_place r at) (value_past r q at)) (sym (left_next is_reverse q at within apart))
           ∙ ap (λ (s : StateValue). units_met r q.haystack (suc (left_at is_reverse q (next_place r at))) (next_place r at) s) past_value
@@ -140,7 +146,8 @@ one_error : (x y : MatchErrorKind) → failed x ≡ failed y → x ≡ y
 one_error x y e = cc
 
 mode_left : (is : Bool) (mode : Anchored) (e : MatchErrorKind) (all : HalfAnswer) (rest : Rest) (x : StartError) →
-    (if is then None else Some (StartUnsupported mode)) ≡ Some x → failed e ≡ told (if_supported is mode all) → where_supported is mode rest ≡ refused e
+    (if is then None else Some (StartUnsupported mode)) ≡ Some x → failed e ≡ told (if_supported is mode all) →
+        where_supported is mode rest ≡ refused e
 mode_left true mode e all rest x some is = absurd cc
 mode_left false mode e all rest x some is = ap refused (sym (one_error e (UnsupportedAnchored mode) is))
 
@@ -182,7 +189,8 @@ fit_left d None index mode rest none =
 fit_left d (Some b) index mode rest none =
     let fit = fits_quit (is_quit d.quits (Some b)) b (is_supported (starts_each_of d.options) mode) mode none in (
       fit.1,
-      ap (λ (x : Bool). if x then refused (Quit b index) else where_supported (is_supported (starts_each_of d.options) mode) mode rest) fit.0
+      ap (λ (x : Bool). if x then refused (Quit b index) else where_supported (is_supported (starts_each_of d.options) mode) mode rest)
+          fit.0
           ∙ ap (λ (x : Bool). where_supported x mode rest) fit.1,
     )
 

@@ -1,6 +1,7 @@
 -- The loop by which a walk reads on: what is left from where it stands is what was left where the call began, and the units that it
 -- read so far are those that the call was to read but for those that it is still to read.
-use Rattle.std.proofs.Common.{◌≡◌, ◌⊎◌, inl, inr, ℕ, zero, suc, ◌+◌, ◌-◌, ◌*◌, ◌<◌, ◌≤◌, ◌&&◌, not, min, Bool, true, false, List, length, drop, Option, Some, None, Ok, Err, IsSome, refl, sym, ap, ◌∙◌, subst, ⊎_elim, arith}
+use Rattle.std.proofs.Common.{◌≡◌, ◌⊎◌, inl, inr, ℕ, zero, suc, ◌+◌, ◌-◌, ◌*◌, ◌<◌, ◌≤◌, ◌&&◌, not, min, Bool, true, false, List, length}
+use Rattle.std.proofs.Common.{drop, Option, Some, None, Ok, Err, IsSome, refl, sym, ap, ◌∙◌, subst, ⊎_elim, arith}
 use Rattle.std.specs.Option.{option_or}
 use Rattle.std.proofs.Math.Nat.{mul-le-mul_right, add-mul}
 use Rattle.nfa_core.specs.Ways.{place_of}
@@ -9,7 +10,8 @@ use Rattle.determinize_core.specs.States.{StateValue}
 use Rattle.determinize_core.specs.Steps.{unit_at}
 use Rattle.determinize_core.specs.Walked.{end_at}
 use Rattle.search_types.specs.declared.match_error.MatchErrorKind.{MatchErrorKind}
-use Rattle.search_types.specs.declared.match_error.MatchErrorKind.TheVariants.{Quit, GaveUp, HaystackTooLong, UnsupportedAnchored, NotAPair, NoMemory}
+use Rattle.search_types.specs.declared.match_error.MatchErrorKind.TheVariants.{Quit, GaveUp, HaystackTooLong, UnsupportedAnchored, NotAPair}
+use Rattle.search_types.specs.declared.match_error.MatchErrorKind.TheVariants.{NoMemory}
 use Rattle.search_types.specs.Inputs.{Search}
 use Rattle.search_types.specs.Places.{counts}
 use Rattle.lazy_dfa.specs.Caches.{CacheValue, IsCacheOf, IsRow, HeldAt, Names, names_dead, names_held, greatest, progress_len, lacks_room}
@@ -25,7 +27,8 @@ use Rattle.lazy_dfa.specs.SearchAnswers.{half_of, pair_of, told_of, pass_distanc
 use Rattle.lazy_dfa.specs.PassPlaces.{last_place, left_at, IsWithinSpan, gave_up_at, GoesBetween}
 use Rattle.lazy_dfa.specs.Steps.{most_inserts}
 use Rattle.lazy_dfa.specs.Turns.{Leaves}
-use Rattle.lazy_dfa.specs.Walks.{Rest, WalkState, nothing_left, onto, others, listed, rest_from, rest_of, value_past, rest_past, StopsAt, IsWalk}
+use Rattle.lazy_dfa.specs.Walks.{Rest, WalkState, nothing_left, onto, others, listed, rest_from, rest_of, value_past, rest_past, StopsAt}
+use Rattle.lazy_dfa.specs.Walks.{IsWalk}
 use Rattle.lazy_dfa.specs.WalkAnswers.{units_met, told_left, value_before, rest_at, units_at, told_from, GivesUpFrom, ReadsOn}
 use Rattle.lazy_dfa.specs.WalkTurns.{tells_end, TellsNone, stopped, Refuses, StopsWith, ReadsInto}
 use Rattle.lazy_dfa.proofs.CourseLemmas.{not_dead}
@@ -34,7 +37,8 @@ use Rattle.lazy_dfa.proofs.PassLoopLemmas.{next_within}
 use Rattle.lazy_dfa.proofs.RunLemmas.{row_holds, half_back}
 use Rattle.lazy_dfa.proofs.SpanTurnLemmas.{held_moved, finished_moves, told_there}
 use Rattle.lazy_dfa.proofs.WalkPlaceLemmas.{left_next, comes_far, past_next, past_one, value_later, rest_later, units_later}
-use Rattle.lazy_dfa.proofs.WalkRestLemmas.{some_listed, none_left, dead_left, step_left, quit_left, pass_left, pass_units, tell_units, some_units}
+use Rattle.lazy_dfa.proofs.WalkRestLemmas.{some_listed, none_left, dead_left, step_left, quit_left, pass_left, pass_units, tell_units}
+use Rattle.lazy_dfa.proofs.WalkRestLemmas.{some_units}
 use Rattle.lazy_dfa.proofs.WholePassLemmas.{min_twice}
 use Rattle.nfa_core.proofs.ForCallers.{place_zero}
 use Rattle.lazy_dfa.proofs.FoundLemmas.{place_add}
@@ -63,12 +67,14 @@ pub record StandsOn (d : Dfa) (q : Search) (from p : Point) : Type 0 where
   pub inserted : p.inserted ≤ from.inserted + steps * most_inserts d
 
 -- nothing else of the cache changes where it begins
-pub started_moves : (v w : CacheValue) (index : ℕ) → w ≡ record v { searched = min (v.searched + progress_len v.progress) greatest; progress = Some (record { start = index; at = index }) } → IsMoved v w
+pub started_moves : (v w : CacheValue) (index : ℕ) → w ≡ record v { searched = min (v.searched + progress_len v.progress) greatest;
+    progress = Some (record { start = index; at = index }) } → IsMoved v w
 started_moves v w index e = subst (λ (c : CacheValue). IsMoved v c) (sym e) refl
 
 -- a call begins
 pub begins_on : (d : Dfa) (q : Search) (v w : CacheValue) (m n at id index : ℕ) (best best2 : Option (ℕ × ℕ)) →
-    w ≡ record v { searched = min (v.searched + progress_len v.progress) greatest; progress = Some (record { start = index; at = index }) } →
+    w ≡ record v { searched = min (v.searched + progress_len v.progress) greatest;
+        progress = Some (record { start = index; at = index }) } →
     index ≡ gave_up_at d.nfa.automaton.reverse q at → HeldAt v id (value_before (reader d) q at) →
     StandsOn d q (point v m n at id best) (point w m n at id best2)
 begins_on d q v w m n at id index best best2 e there held = record {
@@ -94,7 +100,8 @@ begins_on d q v w m n at id index best best2 e there held = record {
     none_more : (n : ℕ) → n ≡ 0 + n
     none_more n = omega arith
 
-module _ (d : Dfa) (q : Search) (made : IsDfa d) (from p : Point) (own : IsCacheOf d from.cache) (mine : IsCacheOf d p.cache) (start : IsWithinSpan q from.at)
+module _ (d : Dfa) (q : Search) (made : IsDfa d) (from p : Point) (own : IsCacheOf d from.cache) (mine : IsCacheOf d p.cache)
+    (start : IsWithinSpan q from.at)
     (within : IsWithinSpan q p.at) (x : StandsOn d q from p) where
   abbrev rev : Bool
   rev = d.nfa.automaton.reverse
@@ -130,7 +137,8 @@ module _ (d : Dfa) (q : Search) (made : IsDfa d) (from p : Point) (own : IsCache
         x.kept
 
     -- it stands further on
-    stands_further : IsCacheOf d c.cache → IsRow c.cache c.id → IsWithinSpan q c.at → left_at rev q p.at ≡ l + left_at rev q c.at → TellsNone (reader d) h p.at now l →
+    stands_further : IsCacheOf d c.cache → IsRow c.cache c.id → IsWithinSpan q c.at → left_at rev q p.at ≡ l + left_at rev q c.at →
+        TellsNone (reader d) h p.at now l →
         StandsOn d q from c
     stands_further his row there left none =
         let read = g.read now (names_held x.state) in record {
@@ -171,7 +179,8 @@ module _ (d : Dfa) (q : Search) (made : IsDfa d) (from p : Point) (own : IsCache
   kept_here = ⊎_elim (λ (k : KeepsOn d from.cache p.cache index). inl k.grows) (λ (k : HasCleared from.cache p.cache). inr k) x.kept
 
   module _ (v : CacheValue) (m n : ℕ) where
-    many : (k : ℕ) → 0 < k → units_at (reader d) q from.at ≡ x.steps + k → m ≤ p.determinized + 1 → m ≤ from.determinized + units_at (reader d) q from.at
+    many : (k : ℕ) → 0 < k → units_at (reader d) q from.at ≡ x.steps + k → m ≤ p.determinized + 1 →
+        m ≤ from.determinized + units_at (reader d) q from.at
     many k l e f = let a = x.determinized in omega (arith, l, e, f, a)
 
     few : m ≤ p.determinized + 1 → m ≤ from.determinized + units_at (reader d) q from.at
@@ -187,7 +196,8 @@ module _ (d : Dfa) (q : Search) (made : IsDfa d) (from p : Point) (own : IsCache
     few_names f = many_names (units_at (reader d) q from.at) (let a = some_here in let e = x.units in omega (arith, a, e)) f
 
     refuses : (e : MatchErrorKind) → Leaves d h p v m n 0 →
-        ((told_left (rest_at (reader d) q from.at).ends (rest_at (reader d) q from.at).refusal ≡ Err e) ⊎ (e ≡ NoMemory) ⊎ ((y : ℕ) × (e ≡ GaveUp y) × GivesUpFrom d v q from.at y)) →
+        ((told_left (rest_at (reader d) q from.at).ends (rest_at (reader d) q from.at).refusal ≡ Err e) ⊎ (e ≡ NoMemory) ⊎
+            ((y : ℕ) × (e ≡ GaveUp y) × GivesUpFrom d v q from.at y)) →
         ReadsOn d q from.at from.cache v from.determinized m from.inserted n (Err e)
     refuses e leaves why = record {
       ok = tt;
@@ -198,10 +208,12 @@ module _ (d : Dfa) (q : Search) (made : IsDfa d) (from p : Point) (own : IsCache
       inserted = few_names leaves.inserted;
     }
 
-    pub ends_refused : (e : MatchErrorKind) → Refuses d q p v m n e → ReadsOn d q from.at from.cache v from.determinized m from.inserted n (Err e)
+    pub ends_refused : (e : MatchErrorKind) → Refuses d q p v m n e → ReadsOn d q from.at from.cache v from.determinized m from.inserted n
+        (Err e)
     ends_refused (Quit b y) t =
         let left = x.rest ∙ quit_left (reader d) h (left_at rev q p.at) p.at now b alive t.1 t.2 in
-        refuses (Quit b y) t.0 (inl (ap (λ (rest : Rest). told_left rest.ends rest.refusal) left ∙ ap (λ (i : ℕ). Err (Quit b i)) (sym t.3)))
+        refuses (Quit b y) t.0 (inl (ap (λ (rest : Rest). told_left rest.ends rest.refusal) left
+            ∙ ap (λ (i : ℕ). Err (Quit b i)) (sym t.3)))
     ends_refused (GaveUp y) t = refuses (GaveUp y) t.0.leaves (inr (inr (
       y,
       refl,
@@ -229,15 +241,19 @@ module _ (d : Dfa) (q : Search) (made : IsDfa d) (from p : Point) (own : IsCache
     is_told = t.listed now x.state ∙ ap (tells_end (reader d) h p.at) (sym next_is)
 
     quiet : is_quit (reader d).quits (unit_at rev h p.at) ≡ false
-    quiet = ap (λ (i : ℕ). is_quit (reader d).quits (unit_at rev h i)) (sym (place_zero rev p.at)) ∙ (t.goes.read now (names_held x.state) 0 (omega arith)).quiet
+    quiet = ap (λ (i : ℕ). is_quit (reader d).quits (unit_at rev h i)) (sym (place_zero rev p.at))
+        ∙ (t.goes.read now (names_held x.state) 0 (omega arith)).quiet
 
     -- one unit more was read
     one_unit : units_at (reader d) q p.at ≡ 1
     one_unit = by tells refl
       where
-        by_why : tells ≡ false → (is_dead behind ≡ true) ⊎ (p.at ≡ last_place rev q) → units_met (reader d) h (left_at rev q p.at) (place_of rev p.at 1) (next_value (reader d) h p.at now) ≡ 0
-        by_why none (inl e) = dead_units (reader d) h (left_at rev q p.at) (place_of rev p.at 1) (next_value (reader d) h p.at now) (ap is_dead next_is ∙ e)
-        by_why none (inr e) = ap (λ (k : ℕ). units_met (reader d) h k (place_of rev p.at 1) (next_value (reader d) h p.at now)) (left_last rev q p.at e)
+        by_why : tells ≡ false → (is_dead behind ≡ true) ⊎ (p.at ≡ last_place rev q) →
+            units_met (reader d) h (left_at rev q p.at) (place_of rev p.at 1) (next_value (reader d) h p.at now) ≡ 0
+        by_why none (inl e) = dead_units (reader d) h (left_at rev q p.at) (place_of rev p.at 1) (next_value (reader d) h p.at now)
+            (ap is_dead next_is ∙ e)
+        by_why none (inr e) = ap (λ (k : ℕ). units_met (reader d) h k (place_of rev p.at 1) (next_value (reader d) h p.at now))
+            (left_last rev q p.at e)
 
         by : (b : Bool) → tells ≡ b → units_at (reader d) q p.at ≡ 1
         by true e = tell_units (reader d) h (left_at rev q p.at) p.at now alive (sym is_told ∙ e)
@@ -262,9 +278,11 @@ module _ (d : Dfa) (q : Search) (made : IsDfa d) (from p : Point) (own : IsCache
     tells_so k =
         ap told_of t.ended
         ∙ (told_there t.behind (min (from.cache.searched + progress_len from.cache.progress) greatest) index (gave_up_at rev q p.at)
-        (pass_distance rev (left_at rev q from.at) (x.steps + 1)) k.searched k.began (comes_far rev q from.at p.at x.steps start within x.left)
+        (pass_distance rev (left_at rev q from.at) (x.steps + 1)) k.searched k.began
+            (comes_far rev q from.at p.at x.steps start within x.left)
         ∙ (ap (λ (s : ℕ). record { searched = s; progress = None })
-        (min_twice (from.cache.searched + progress_len from.cache.progress) (pass_distance rev (left_at rev q from.at) (x.steps + 1)) greatest)
+        (min_twice (from.cache.searched + progress_len from.cache.progress)
+            (pass_distance rev (left_at rev q from.at) (x.steps + 1)) greatest)
         ∙ ap (λ (u : ℕ). record {
           searched = min (from.cache.searched + progress_len from.cache.progress + pass_distance rev (left_at rev q from.at) u) greatest;
           progress = None;
@@ -273,7 +291,8 @@ module _ (d : Dfa) (q : Search) (made : IsDfa d) (from p : Point) (own : IsCache
     -- what such an answer says of the walk
     abbrev IsAnswer : WalkState → Type 0
     IsAnswer w = (told_left (rest_at (reader d) q from.at).ends (rest_at (reader d) q from.at).refusal ≡ Ok tt) ×
-        (w.found ≡ half_of (first (rest_at (reader d) q from.at).ends)) × (rest_of (reader d) q w.walk ≡ others (rest_at (reader d) q from.at)) ×
+        (w.found ≡ half_of (first (rest_at (reader d) q from.at).ends)) ×
+            (rest_of (reader d) q w.walk ≡ others (rest_at (reader d) q from.at)) ×
         IsWalk d v q w.walk × (w.found ≡ None → w.walk ≡ Ended)
 
     stops_so : (w : WalkState) → IsAnswer w → ReadsOn d q from.at from.cache v from.determinized m from.inserted n (Ok w)
@@ -281,11 +300,13 @@ module _ (d : Dfa) (q : Search) (made : IsDfa d) (from p : Point) (own : IsCache
       ok = ok;
       err = tt;
       kept = ⊎_elim
-          (λ (k : KeepsOn d from.cache t.behind index). inl (grows_trans d from.cache t.behind v made own k.grows (grows_moved d t.behind v moved)))
+          (λ (k : KeepsOn d from.cache t.behind index). inl (grows_trans d from.cache t.behind v made own k.grows
+              (grows_moved d t.behind v moved)))
           (λ (y : HasCleared from.cache t.behind). inr (cleared_there y))
           kept_there;
       told = ⊎_elim
-          (λ (k : KeepsOn d from.cache t.behind index). inl (grows_trans d from.cache t.behind v made own k.grows (grows_moved d t.behind v moved), tells_so k))
+          (λ (k : KeepsOn d from.cache t.behind index). inl (grows_trans d from.cache t.behind v made own k.grows
+              (grows_moved d t.behind v moved), tells_so k))
           (λ (y : HasCleared from.cache t.behind). inr (cleared_there y))
           kept_there;
       determinized = many v m n 1 (omega arith) all_units t.goes.determinized;
@@ -306,8 +327,10 @@ module _ (d : Dfa) (q : Search) (made : IsDfa d) (from p : Point) (own : IsCache
       where
         by_why : (is_dead behind ≡ true) ⊎ (p.at ≡ last_place rev q) →
             rest_from (reader d) h (left_at rev q p.at) (next_place (reader d) p.at) (next_value (reader d) h p.at now) ≡ nothing_left
-        by_why (inl f) = dead_left (reader d) h 0 (next_place (reader d) p.at) (next_value (reader d) h p.at now) (left_at rev q p.at) (ap is_dead next_is ∙ f)
-        by_why (inr f) = ap (λ (k : ℕ). rest_from (reader d) h k (next_place (reader d) p.at) (next_value (reader d) h p.at now)) (left_last rev q p.at f)
+        by_why (inl f) = dead_left (reader d) h 0 (next_place (reader d) p.at) (next_value (reader d) h p.at now) (left_at rev q p.at)
+            (ap is_dead next_is ∙ f)
+        by_why (inr f) = ap (λ (k : ℕ). rest_from (reader d) h k (next_place (reader d) p.at) (next_value (reader d) h p.at now))
+            (left_last rev q p.at f)
             ∙ none_left (reader d) h 0 (next_place (reader d) p.at) (next_value (reader d) h p.at now)
 
     -- with an end
@@ -319,7 +342,8 @@ module _ (d : Dfa) (q : Search) (made : IsDfa d) (from p : Point) (own : IsCache
 
     lists_all : rest_at (reader d) q from.at ≡ onto (listed counted p.at past.matches) (rest_past (reader d) q p.at)
     lists_all = x.rest ∙ (step_left (reader d) h (left_at rev q p.at) p.at now alive quiet
-        ∙ ap (λ (s : StateValue). onto (listed counted p.at s.matches) (rest_from (reader d) h (left_at rev q p.at) (next_place (reader d) p.at) s))
+        ∙ ap (λ (s : StateValue). onto (listed counted p.at s.matches)
+            (rest_from (reader d) h (left_at rev q p.at) (next_place (reader d) p.at) s))
         (sym (past_next (reader d) q p.at within)))
 
     best_is : pair_of position.best ≡ option_or (end_at p.at (first past.matches)) p.best
@@ -328,7 +352,8 @@ module _ (d : Dfa) (q : Search) (made : IsDfa d) (from p : Point) (own : IsCache
         ∙ ap (λ (s : StateValue). option_or (end_at p.at (first s.matches)) p.best) (past_one (reader d) q p.at within))
 
     held_past : 1 ≤ length past.matches → HeldAt v position.id past
-    held_past l = held_moved t.behind v position.id past moved (by past (past_one (reader d) q p.at within) l (t.goes.names now (names_held x.state)))
+    held_past l = held_moved t.behind v position.id past moved (by past (past_one (reader d) q p.at within) l
+        (t.goes.names now (names_held x.state)))
       where
         by : (s : StateValue) → behind ≡ s → 1 ≤ length s.matches → Names t.behind position.id behind → HeldAt t.behind position.id s
         by s e l (names_dead f g) =
@@ -338,17 +363,20 @@ module _ (d : Dfa) (q : Search) (made : IsDfa d) (from p : Point) (own : IsCache
 
     ends_some : tells ≡ true → IsAnswer (stopped true position.id position.at position.best)
     ends_some e =
-        let lists : tells_end (reader d) h p.at past ≡ true = ap (tells_end (reader d) h p.at) (past_next (reader d) q p.at within) ∙ (sym is_told ∙ e) in
+        let lists : tells_end (reader d) h p.at past ≡ true = ap (tells_end (reader d) h p.at) (past_next (reader d) q p.at within)
+            ∙ (sym is_told ∙ e) in
         let l = some_listed (counted p.at) p.at past.matches p.best (rest_past (reader d) q p.at) lists in (
           ap (λ (rest : Rest). told_left rest.ends rest.refusal) lists_all ∙ l.0,
           sym (half_back position.best) ∙ ap half_of (best_is ∙ sym (ap (λ (rest : Rest). first rest.ends) lists_all ∙ l.1)),
-          ap (λ (i : ℕ). onto (listed counted i (drop 1 (value_past (reader d) q i).matches)) (rest_past (reader d) q i)) t.place ∙ (l.2 ∙ sym (ap others lists_all)),
+          ap (λ (i : ℕ). onto (listed counted i (drop 1 (value_past (reader d) q i).matches)) (rest_past (reader d) q i)) t.place
+              ∙ (l.2 ∙ sym (ap others lists_all)),
           subst (λ (i : ℕ). StopsAt d v q (record { id = position.id; index = 1; at = i })) (sym t.place)
               (record { within = within; held = held_past l.3; index = l.3 }),
           λ f. absurd (l.4 (sym best_is ∙ ap pair_of f)),
         )
 
-    pub ends_over : ReadsOn d q from.at from.cache v from.determinized m from.inserted n (Ok (stopped tells position.id position.at position.best))
+    pub ends_over : ReadsOn d q from.at from.cache v from.determinized m from.inserted n
+        (Ok (stopped tells position.id position.at position.best))
     ends_over = stops_so (stopped tells position.id position.at position.best) (by tells refl)
       where
         by : (b : Bool) → tells ≡ b → IsAnswer (stopped tells position.id position.at position.best)
@@ -358,7 +386,8 @@ module _ (d : Dfa) (q : Search) (made : IsDfa d) (from p : Point) (own : IsCache
   -- ---- and on
 
   -- a unit of the span was read, and a run follows
-  module _ (v : CacheValue) (m n : ℕ) (position : Position) (tells : Bool) (his : IsCacheOf d v) (t : ReadsInto d q p v m n position tells false) where
+  module _ (v : CacheValue) (m n : ℕ) (position : Position) (tells : Bool) (his : IsCacheOf d v)
+      (t : ReadsInto d q p v m n position tells false) where
     pub next_there : IsWithinSpan q position.at
     next_there = next_within rev q p.at position.at within t.2 t.1
 
@@ -368,16 +397,21 @@ module _ (d : Dfa) (q : Search) (made : IsDfa d) (from p : Point) (own : IsCache
         (left_next rev q p.at position.at within t.2 t.1) tells_none
       where
         tells_none : TellsNone (reader d) h p.at now 1
-        tells_none zero l = ap (λ (i : ℕ). tells_end (reader d) h i (state_behind (reader d) h p.at now 1)) (place_zero rev p.at) ∙ t.4 now x.state
+        tells_none zero l = ap (λ (i : ℕ). tells_end (reader d) h i (state_behind (reader d) h p.at now 1)) (place_zero rev p.at)
+            ∙ t.4 now x.state
         tells_none (suc k) l = absurd (omega (arith, l))
 
 -- a run goes on
-module _ (d : Dfa) (q : Search) (is_reverse : Bool) (is : is_reverse ≡ d.nfa.automaton.reverse) (made : IsDfa d) (from : Point) (v : CacheValue) (m n i id j to : ℕ) (best best2 : Option (ℕ × ℕ))
-    (own : IsCacheOf d from.cache) (mine : IsCacheOf d v) (start : IsWithinSpan q from.at) (within : IsWithinSpan q i) (x : StandsOn d q from (point v m n i id best)) where
+module _ (d : Dfa) (q : Search) (is_reverse : Bool) (is : is_reverse ≡ d.nfa.automaton.reverse) (made : IsDfa d) (from : Point)
+    (v : CacheValue) (m n i id j to : ℕ) (best best2 : Option (ℕ × ℕ))
+    (own : IsCacheOf d from.cache) (mine : IsCacheOf d v) (start : IsWithinSpan q from.at) (within : IsWithinSpan q i)
+        (x : StandsOn d q from (point v m n i id best)) where
   pub stands_run : IsRow v to → IsWithinSpan q j → left_at is_reverse q j ≤ left_at is_reverse q i →
-      GoesBetween d true q.haystack (point v m n i id best) (point v m n j to best2) (left_at is_reverse q i - left_at is_reverse q j) → StandsOn d q from (point v m n j to best2)
+      GoesBetween d true q.haystack (point v m n i id best) (point v m n j to best2) (left_at is_reverse q i - left_at is_reverse q j) →
+          StandsOn d q from (point v m n j to best2)
   stands_run row there closer g =
-      stands_further d q made from (point v m n i id best) own mine start within x best (point v m n j to best2) (left_at is_reverse q i - left_at is_reverse q j) g.0 mine row there
+      stands_further d q made from (point v m n i id best) own mine start within x best (point v m n j to best2)
+          (left_at is_reverse q i - left_at is_reverse q j) g.0 mine row there
       (ap (λ (b : Bool). left_at b q i) (sym is) ∙ (apart (left_at is_reverse q i) (left_at is_reverse q j) closer
       ∙ ap (λ (b : Bool). (left_at is_reverse q i - left_at is_reverse q j) + left_at b q j) is)) tells_none
     where
@@ -390,4 +424,5 @@ module _ (d : Dfa) (q : Search) (is_reverse : Bool) (is : is_reverse ≡ d.nfa.a
 
       tells_none : TellsNone (reader d) q.haystack i (value_before (reader d) q i) (left_at is_reverse q i - left_at is_reverse q j)
       tells_none k l = no_end (counts (reader d).between_characters q.haystack (place_of d.nfa.automaton.reverse i k))
-          (state_behind (reader d) q.haystack i (value_before (reader d) q i) (suc k)).matches (g.1 (value_before (reader d) q i) x.state k l)
+          (state_behind (reader d) q.haystack i (value_before (reader d) q i) (suc k)).matches
+              (g.1 (value_before (reader d) q i) x.state k l)

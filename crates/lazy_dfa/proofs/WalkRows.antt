@@ -54,7 +54,8 @@ both_patterns_start_at_one_place = refl
 -- ---- which patterns: "a", "b" and "a", on "ab"
 
 abbrev three : Reader
-three = for_all (forward (union_node (3 ∷ 5 ∷ 7 ∷ []) ∷ byte_range 97 97 4 ∷ match_node 0 ∷ byte_range 98 98 6 ∷ match_node 1 ∷ byte_range 97 97 8 ∷ match_node 2 ∷ [])) no_quits
+three = for_all (forward (union_node (3 ∷ 5 ∷ 7 ∷ []) ∷ byte_range 97 97 4 ∷ match_node 0 ∷ byte_range 98 98 6 ∷ match_node 1 ∷ byte_range
+    97 97 8 ∷ match_node 2 ∷ [])) no_quits
 
 all_three_patterns_are_added : which_of three (over (97 ∷ 98 ∷ []) 0 2) (false ∷ false ∷ false ∷ [])
     ≡ record { set = true ∷ true ∷ true ∷ []; refusal = None }

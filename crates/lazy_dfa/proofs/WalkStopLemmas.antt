@@ -1,5 +1,6 @@
 -- Calls of an overlapping walk that stopped at an end: it tells one more there, nothing is left, or it reads on.
-use Rattle.std.proofs.Common.{◌≡◌, ◌≢◌, ℕ, ◌+◌, ◌<◌, ◌==◌, ◌||◌, not, Bool, true, false, List, ◌∷◌, length, drop, map, Some, None, if◌then◌else◌, refl, sym, ap, ◌∙◌, subst, inl, ⊎_elim, arith, true≢false, []}
+use Rattle.std.proofs.Common.{◌≡◌, ◌≢◌, ℕ, ◌+◌, ◌<◌, ◌==◌, ◌||◌, not, Bool, true, false, List, ◌∷◌, length, drop, map, Some, None}
+use Rattle.std.proofs.Common.{if◌then◌else◌, refl, sym, ap, ◌∙◌, subst, inl, ⊎_elim, arith, true≢false, []}
 use Rattle.std.specs.Prelude.{Result, slice_index}
 use Rattle.std.proofs.lemmas.Bool.{cases_Bool, eqb-true}
 use Rattle.search_types.specs.declared.match_error.MatchErrorKind.{MatchErrorKind}
@@ -38,7 +39,8 @@ module _ (d : Dfa) (q : Search) (v : CacheValue) (m n : ℕ) (stop : Stop) (stop
   pub more_call : (after : WalkState) → more ≡ true → after.found ≡ half_of (Some (stop.at, slice_index listing stop.index)) →
       after.walk ≡ Stopped next → MakesCall d q v v m m n n (Stopped stop) after fine
   more_call after is found walk =
-      still_call d q v m n (Stopped stop) after fine tells (ap (λ (b : Bool). not (b || stop.at == last_place d.nfa.automaton.reverse q)) is)
+      still_call d q v m n (Stopped stop) after fine tells (ap (λ (b : Bool). not (b
+          || stop.at == last_place d.nfa.automaton.reverse q)) is)
       (subst (IsWalk d v q) (sym walk) goes) tt (λ none. never (sym none ∙ found))
     where
       one : ((if counted then map (end_of stop.at) (drop stop.index listing) else []) ≡
@@ -46,7 +48,8 @@ module _ (d : Dfa) (q : Search) (v : CacheValue) (m n : ℕ) (stop : Stop) (stop
           (stop.index < length listing)
       one = lists_one counted stop.at stop.index listing is
 
-      left : rest_of (reader d) q (Stopped stop) ≡ onto ((stop.at, slice_index listing stop.index) ∷ []) (rest_of (reader d) q (Stopped next))
+      left : rest_of (reader d) q (Stopped stop) ≡ onto ((stop.at, slice_index listing stop.index) ∷ [])
+          (rest_of (reader d) q (Stopped next))
       left = ap (λ (ends : List (ℕ × ℕ)). onto ends (rest_past (reader d) q stop.at)) one.0
 
       tells : TellsNext (reader d) q (Stopped stop) after fine

@@ -1,5 +1,7 @@
 -- One unit of a walk in its span: what a step says of it, and what comes of that.
-use Rattle.std.proofs.Common.{◌≡◌, ◌≢◌, ◌⊎◌, inl, inr, ℕ, ◌+◌, ◌*◌, ◌<◌, ◌≤◌, ◌==◌, ◌&&◌, ◌||◌, not, nat_le, nat_lt, is_none, min, Bool, true, false, true≢false, List, [], ◌∷◌, length, Option, Some, None, Err, IsSome, refl, sym, ap, ◌∙◌, subst, ⊎_elim, arith}
+use Rattle.std.proofs.Common.{◌≡◌, ◌≢◌, ◌⊎◌, inl, inr, ℕ, ◌+◌, ◌*◌, ◌<◌, ◌≤◌, ◌==◌, ◌&&◌, ◌||◌, not, nat_le, nat_lt, is_none, min, Bool}
+use Rattle.std.proofs.Common.{true, false, true≢false, List, [], ◌∷◌, length, Option, Some, None, Err, IsSome, refl, sym, ap, ◌∙◌, subst}
+use Rattle.std.proofs.Common.{⊎_elim, arith}
 use Rattle.std.proofs.lemmas.Bool.{cases_lt, le-ltb, eqb-true, eq-eqb, and_parts}
 use Rattle.search_core.specs.ByteSets.{has}
 use Rattle.nfa_core.specs.Ways.{place_of}
@@ -10,7 +12,8 @@ use Rattle.search_types.specs.declared.match_error.MatchErrorKind.{MatchErrorKin
 use Rattle.search_types.specs.declared.match_error.MatchErrorKind.TheVariants.{Quit}
 use Rattle.search_types.specs.Inputs.{Search}
 use Rattle.search_types.specs.Places.{counts}
-use Rattle.lazy_dfa.specs.Caches.{CacheValue, IsShaped, IsRow, HeldAt, Names, names_dead, names_held, greatest, progress_len, moved_to, search_total_len, is_refused, fits, lacks_room, place_of as row_of}
+use Rattle.lazy_dfa.specs.Caches.{CacheValue, IsShaped, IsRow, HeldAt, Names, names_dead, names_held, greatest, progress_len, moved_to}
+use Rattle.lazy_dfa.specs.Caches.{search_total_len, is_refused, fits, lacks_room, place_of as row_of}
 use Rattle.lazy_dfa.specs.ConfigValue.{clears_of, bytes_of}
 use Rattle.lazy_dfa.specs.Courses.{state_behind, stops_behind}
 use Rattle.lazy_dfa.specs.declared.cache_error.CacheError.{CacheError}
@@ -33,14 +36,16 @@ use Rattle.lazy_dfa.specs.Walks.{value_past, StopsAt}
 use Rattle.lazy_dfa.specs.WalkAnswers.{lists_more}
 use Rattle.lazy_dfa.specs.WalkTurns.{tells_end, is_over, IsStepTo, Refuses, StopsWith, ReadsInto}
 use Rattle.lazy_dfa.proofs.ChangeLemmas.{one_state}
-use Rattle.lazy_dfa.proofs.SpanTurnLemmas.{held_moved, leaves_forth, goes_back, began_moved, moved_is, some_moved, runs_there, finished_moves, fails_back, leaves_back}
+use Rattle.lazy_dfa.proofs.SpanTurnLemmas.{held_moved, leaves_forth, goes_back, began_moved, moved_is, some_moved, runs_there}
+use Rattle.lazy_dfa.proofs.SpanTurnLemmas.{finished_moves, fails_back, leaves_back}
 use Rattle.lazy_dfa.proofs.TurnStepLemmas.{row_matches, has_not}
 use Rattle.lazy_dfa.proofs.WholePassLemmas.{min_twice}
 
 -- ---- room
 
 -- a search that ends where it is leaves the sum of all searches, and so whether a clear pays off
-still_refused : (clears bytes : Option ℕ) (v : CacheValue) (at : ℕ) → moved_to at v.progress ≡ v.progress → is_refused clears bytes (finished at v) ≡ is_refused clears bytes v
+still_refused : (clears bytes : Option ℕ) (v : CacheValue) (at : ℕ) → moved_to at v.progress ≡ v.progress →
+    is_refused clears bytes (finished at v) ≡ is_refused clears bytes v
 still_refused None bytes v at e = refl
 still_refused (Some least) None v at e = refl
 still_refused (Some least) (Some bytes) v at e =
@@ -54,9 +59,11 @@ still_refused (Some least) (Some bytes) v at e =
         ∙ (ap (λ (n : ℕ). min n greatest) (sym (no_more (v.searched + progress_len (moved_to at v.progress))))
         ∙ ap (λ (p : Option Progress). min (v.searched + progress_len p) greatest) e)
 
-still_lacks : (d : Dfa) (v : CacheValue) (at : ℕ) (s : StateValue) → moved_to at v.progress ≡ v.progress → lacks_room d (finished at v) s ≡ lacks_room d v s
+still_lacks : (d : Dfa) (v : CacheValue) (at : ℕ) (s : StateValue) → moved_to at v.progress ≡ v.progress →
+    lacks_room d (finished at v) s ≡ lacks_room d v s
 still_lacks d v at s e =
-    ap (λ (b : Bool). not (is_lost s) && (is_none (row_of s v.states) && (not (fits d.capacity s v) && b))) (still_refused (clears_of d.options) (bytes_of d.options) v at e)
+    ap (λ (b : Bool). not (is_lost s) && (is_none (row_of s v.states) && (not (fits d.capacity s v) && b)))
+        (still_refused (clears_of d.options) (bytes_of d.options) v at e)
 
 moved_twice : (at : ℕ) (o : Option Progress) → moved_to at (moved_to at o) ≡ moved_to at o
 moved_twice at None = refl
@@ -78,10 +85,12 @@ some_listed [] = refl
 some_listed (p ∷ ps) = refl
 
 -- the tag and the place tell whether an end is listed that counts
-tag_tells : (d : Dfa) (h : List ℕ) (v : CacheValue) (id at : ℕ) (tells : Bool) (s : StateValue) → IsShaped v → tells ≡ (has_tag match_tag id && counts (reader d).between_characters h at) →
+tag_tells : (d : Dfa) (h : List ℕ) (v : CacheValue) (id at : ℕ) (tells : Bool) (s : StateValue) → IsShaped v →
+    tells ≡ (has_tag match_tag id && counts (reader d).between_characters h at) →
     Names v id s → tells ≡ tells_end (reader d) h at s
 tag_tells d h v id at tells s i e (names_held g) =
-    e ∙ both (has_tag match_tag id) (not (is_empty s.matches)) (counts (reader d).between_characters h at) (row_matches v id s i g ∙ some_listed s.matches)
+    e ∙ both (has_tag match_tag id) (not (is_empty s.matches)) (counts (reader d).between_characters h at) (row_matches v id s i g
+        ∙ some_listed s.matches)
 tag_tells d h v id at tells s i e (names_dead f g) =
     e ∙ both (has_tag match_tag id) (not (is_empty s.matches)) (counts (reader d).between_characters h at)
     (has_not match_tag id (omega (arith, f, i.narrow)) ∙ sym (ap (λ (t : StateValue). not (is_empty t.matches)) g))
@@ -89,10 +98,13 @@ tag_tells d h v id at tells s i e (names_dead f g) =
 -- ---- a step
 
 -- the unit at a place, by the direction and the haystack that code goes by
-pub unit_same : (is_reverse back : Bool) (q : Search) (h : List ℕ) (at : ℕ) (u : Option ℕ) → u ≡ unit_at is_reverse h at → h ≡ q.haystack → is_reverse ≡ back → u ≡ unit_at back q.haystack at
-unit_same is_reverse back q h at u e f g = e ∙ (ap (λ (x : List ℕ). unit_at is_reverse x at) f ∙ ap (λ (b : Bool). unit_at b q.haystack at) g)
+pub unit_same : (is_reverse back : Bool) (q : Search) (h : List ℕ) (at : ℕ) (u : Option ℕ) → u ≡ unit_at is_reverse h at → h ≡ q.haystack →
+    is_reverse ≡ back → u ≡ unit_at back q.haystack at
+unit_same is_reverse back q h at u e f g = e ∙ (ap (λ (x : List ℕ). unit_at is_reverse x at) f
+    ∙ ap (λ (b : Bool). unit_at b q.haystack at) g)
 
-module _ (d : Dfa) (q : Search) (is_reverse : Bool) (same : is_reverse ≡ d.nfa.automaton.reverse) (v0 v1 v2 : CacheValue) (m1 n1 m2 n2 at id : ℕ) (best : Option (ℕ × ℕ)) (u : Option ℕ)
+module _ (d : Dfa) (q : Search) (is_reverse : Bool) (same : is_reverse ≡ d.nfa.automaton.reverse) (v0 v1 v2 : CacheValue)
+    (m1 n1 m2 n2 at id : ℕ) (best : Option (ℕ × ℕ)) (u : Option ℕ)
     (place : ℕ) (moves : v1 ≡ record v0 { progress = moved_to place v0.progress }) (runs : IsSome v0.progress) where
   abbrev from : Point
   from = point v0 m1 n1 at id best
@@ -106,12 +118,15 @@ module _ (d : Dfa) (q : Search) (is_reverse : Bool) (same : is_reverse ≡ d.nfa
   moved : IsMoved v0 v1
   moved = moved_is v0 v1 place moves
 
-  goes_from : (to : ℕ) (best2 : Option (ℕ × ℕ)) → GoesOne d q.haystack before v2 m2 n2 to best2 → GoesOne d q.haystack from v2 m2 n2 to best2
+  goes_from : (to : ℕ) (best2 : Option (ℕ × ℕ)) → GoesOne d q.haystack before v2 m2 n2 to best2 →
+      GoesOne d q.haystack from v2 m2 n2 to best2
   goes_from to best2 g = goes_back d v0 v1 moved q.haystack m1 n1 at id best (point v2 m2 n2 (place_of rev at 1) to best2) 1
-      (ap (λ (c : CacheValue). c.searched) moves) (ap (λ (c : CacheValue). began c.progress) moves ∙ began_moved place v0.progress) (some_moved v0 v1 place moves) g
+      (ap (λ (c : CacheValue). c.searched) moves) (ap (λ (c : CacheValue). began c.progress) moves
+          ∙ began_moved place v0.progress) (some_moved v0 v1 place moves) g
 
   -- where a step leads, if not to a quit byte
-  pub step_leads : (to : ℕ) (best2 : Option (ℕ × ℕ)) (turn : Turn) → (turn ≡ Quits → ⊥) → IsSeen d false q.haystack u before v2 m2 n2 to best2 turn → IsStepTo d q from v2 m2 n2 to best2 turn
+  pub step_leads : (to : ℕ) (best2 : Option (ℕ × ℕ)) (turn : Turn) → (turn ≡ Quits → ⊥) →
+      IsSeen d false q.haystack u before v2 m2 n2 to best2 turn → IsStepTo d q from v2 m2 n2 to best2 turn
   step_leads to best2 GoesOn never x = (goes_from to best2 x.0, x.2)
   step_leads to best2 Ends never x = (
     goes_from to best2 x.0,
@@ -137,12 +152,14 @@ module _ (d : Dfa) (q : Search) (is_reverse : Bool) (same : is_reverse ≡ d.nfa
       λ far. ap (λ (v : CacheValue). running_at v.progress) turn.3 ∙ runs_there v0 v1 place moves runs,
     )
 
-    refused_last : (e : CacheError) → at ≡ last_place rev q → v3 ≡ finished place v2 → IsTurn d false q.haystack u before v2 m2 n2 (Err e) → Refuses d q from v3 m2 n2 (error_of place e)
+    refused_last : (e : CacheError) → at ≡ last_place rev q → v3 ≡ finished place v2 → IsTurn d false q.haystack u before v2 m2 n2 (Err e) →
+        Refuses d q from v3 m2 n2 (error_of place e)
     refused_last NoMemory last f turn = fails_forth (finished_moves v2 v3 place f) (refused_before NoMemory turn)
     refused_last GaveUp last f turn =
         let t = refused_before GaveUp turn in
         let at_place : moved_to place v2.progress ≡ v2.progress =
-        ap (λ (c : CacheValue). moved_to place c.progress) (turn.3 ∙ moves) ∙ (moved_twice place v0.progress ∙ sym (ap (λ (c : CacheValue). c.progress) (turn.3 ∙ moves))) in (
+        ap (λ (c : CacheValue). moved_to place c.progress) (turn.3 ∙ moves)
+            ∙ (moved_twice place v0.progress ∙ sym (ap (λ (c : CacheValue). c.progress) (turn.3 ∙ moves))) in (
           fails_forth (finished_moves v2 v3 place f) t.0,
           t.1,
           t.2,
@@ -151,7 +168,8 @@ module _ (d : Dfa) (q : Search) (is_reverse : Bool) (same : is_reverse ≡ d.nfa
           λ far. absurd (far last),
         )
 
-    pub step_refused : (e : CacheError) (err : MatchErrorKind) (wanted : Bool) → wanted ≡ (at == last_place is_reverse q) → v3 ≡ finished_where wanted place v2 → err ≡ error_of place e →
+    pub step_refused : (e : CacheError) (err : MatchErrorKind) (wanted : Bool) → wanted ≡ (at == last_place is_reverse q) →
+        v3 ≡ finished_where wanted place v2 → err ≡ error_of place e →
         IsTurn d false q.haystack u before v2 m2 n2 (Err e) → Refuses d q from v3 m2 n2 err
     step_refused e err true w f told turn = subst (λ (x : MatchErrorKind). Refuses d q from v3 m2 n2 x) (sym told)
         (refused_last e (eqb-true at (last_place is_reverse q) (sym w) ∙ ap (λ (b : Bool). last_place b q) same) f turn)
@@ -159,8 +177,10 @@ module _ (d : Dfa) (q : Search) (is_reverse : Bool) (same : is_reverse ≡ d.nfa
         (subst (λ (c : CacheValue). Refuses d q from c m2 n2 (error_of place e)) (sym f) (refused_before e turn))
 
   -- by a quit byte
-  pub step_quits : (to : ℕ) (best2 : Option (ℕ × ℕ)) (turn : Turn) (v3 : CacheValue) (b index : ℕ) (err : MatchErrorKind) → IsMoved v2 v3 → u ≡ unit_at rev q.haystack at → u ≡ Some b →
-      index ≡ index_at is_reverse at → err ≡ Quit b index → turn ≡ Quits → IsSeen d false q.haystack u before v2 m2 n2 to best2 turn → Refuses d q from v3 m2 n2 err
+  pub step_quits : (to : ℕ) (best2 : Option (ℕ × ℕ)) (turn : Turn) (v3 : CacheValue) (b index : ℕ) (err : MatchErrorKind) → IsMoved v2 v3 →
+      u ≡ unit_at rev q.haystack at → u ≡ Some b →
+      index ≡ index_at is_reverse at → err ≡ Quit b index → turn ≡ Quits → IsSeen d false q.haystack u before v2 m2 n2 to best2 turn →
+          Refuses d q from v3 m2 n2 err
   step_quits to best2 turn v3 b index err after is some here told e seen =
       let x = subst (λ (t : Turn). IsSeen d false q.haystack u before v2 m2 n2 to best2 t) e seen in
       let byte : x.2.0 ≡ b = one_byte x.2.0 b (sym x.2.1 ∙ some) in
@@ -176,8 +196,10 @@ module _ (d : Dfa) (q : Search) (is_reverse : Bool) (same : is_reverse ≡ d.nfa
 
 -- ---- a unit
 
-module _ (d : Dfa) (q : Search) (is_reverse : Bool) (same : is_reverse ≡ d.nfa.automaton.reverse) (p : Point) (v : CacheValue) (m n : ℕ) (id : ℕ) (turn : Turn) (tells last : Bool)
-    (mine : IsShaped v) (listed : tells ≡ (has_tag match_tag id && counts (reader d).between_characters q.haystack p.at)) (is_last : last ≡ (p.at == last_place is_reverse q)) where
+module _ (d : Dfa) (q : Search) (is_reverse : Bool) (same : is_reverse ≡ d.nfa.automaton.reverse) (p : Point) (v : CacheValue) (m n : ℕ)
+    (id : ℕ) (turn : Turn) (tells last : Bool)
+    (mine : IsShaped v) (listed : tells ≡ (has_tag match_tag id && counts (reader d).between_characters q.haystack p.at))
+        (is_last : last ≡ (p.at == last_place is_reverse q)) where
   abbrev Step : Option (ℕ × ℕ) → Type 0
   Step best = IsStepTo d q p v m n id best turn
 
@@ -186,11 +208,14 @@ module _ (d : Dfa) (q : Search) (is_reverse : Bool) (same : is_reverse ≡ d.nfa
   goes_of best Ends x = x.0
   goes_of best Quits x = absurd x
 
-  tells_there : (best : Option (ℕ × ℕ)) → Step best → (s : StateValue) → HeldAt p.cache p.id s → tells ≡ tells_end (reader d) q.haystack p.at (state_behind (reader d) q.haystack p.at s 1)
-  tells_there best x s held = tag_tells d q.haystack v id p.at tells (state_behind (reader d) q.haystack p.at s 1) mine listed ((goes_of best turn x).names s (names_held held))
+  tells_there : (best : Option (ℕ × ℕ)) → Step best → (s : StateValue) → HeldAt p.cache p.id s →
+      tells ≡ tells_end (reader d) q.haystack p.at (state_behind (reader d) q.haystack p.at s 1)
+  tells_there best x s held = tag_tells d q.haystack v id p.at tells (state_behind (reader d) q.haystack p.at s 1) mine listed
+      ((goes_of best turn x).names s (names_held held))
 
   -- the call is over
-  pub unit_ends : (w : CacheValue) (place : ℕ) (position : Position) → position.id ≡ id → position.at ≡ p.at → is_over turn tells last ≡ true → place ≡ gave_up_at is_reverse q p.at → w ≡ finished place v →
+  pub unit_ends : (w : CacheValue) (place : ℕ) (position : Position) → position.id ≡ id → position.at ≡ p.at →
+      is_over turn tells last ≡ true → place ≡ gave_up_at is_reverse q p.at → w ≡ finished place v →
       Step (pair_of position.best) → StopsWith d q p w m n position tells
   unit_ends w place position is at over there ended x = record {
     behind = v;
@@ -205,9 +230,11 @@ module _ (d : Dfa) (q : Search) (is_reverse : Bool) (same : is_reverse ≡ d.nfa
       at_last false b e f = f
       at_last true b e f = absurd (true≢false e)
 
-      by : (t : Turn) → IsStepTo d q p v m n id (pair_of position.best) t → is_over t tells last ≡ true → tells ≡ false → (s : StateValue) → HeldAt p.cache p.id s →
+      by : (t : Turn) → IsStepTo d q p v m n id (pair_of position.best) t → is_over t tells last ≡ true → tells ≡ false → (s : StateValue) →
+          HeldAt p.cache p.id s →
           (is_dead (state_behind (reader d) q.haystack p.at s 1) ≡ true) ⊎ (p.at ≡ last_place d.nfa.automaton.reverse q)
-      by GoesOn x over none s held = inr (eqb-true p.at (last_place is_reverse q) (sym is_last ∙ at_last tells last none over) ∙ ap (λ (b : Bool). last_place b q) same)
+      by GoesOn x over none s held = inr (eqb-true p.at (last_place is_reverse q) (sym is_last ∙ at_last tells last none over)
+          ∙ ap (λ (b : Bool). last_place b q) same)
       by Ends x over none s held = inl (x.1 s held)
       by Quits x over none s held = absurd x
 
@@ -224,7 +251,8 @@ module _ (d : Dfa) (q : Search) (is_reverse : Bool) (same : is_reverse ≡ d.nfa
       by Quits f g = true≢false f
 
   -- it goes on
-  pub unit_goes : (position : Position) → position.id ≡ id → position.at ≡ place_of is_reverse p.at 1 → is_over turn tells last ≡ false → Step (pair_of position.best) → ReadsInto d q p v m n position tells false
+  pub unit_goes : (position : Position) → position.id ≡ id → position.at ≡ place_of is_reverse p.at 1 → is_over turn tells last ≡ false →
+      Step (pair_of position.best) → ReadsInto d q p v m n position tells false
   unit_goes position is at over x = (
     subst (λ (i : ℕ). GoesOne d q.haystack p v m n i (pair_of position.best)) (sym is) (goes_of (pair_of position.best) turn x),
     at ∙ ap (λ (b : Bool). place_of b p.at 1) same,
@@ -250,12 +278,15 @@ module _ (d : Dfa) (q : Search) (is_reverse : Bool) (same : is_reverse ≡ d.nfa
 -- ---- where a walk stopped
 
 -- the state where a walk stopped lists an end at its index
-pub lists_there : (d : Dfa) (v : CacheValue) (q : Search) (stop : Stop) → IsShaped v → StopsAt d v q stop → lists_more (reader d) q stop ≡ true →
+pub lists_there : (d : Dfa) (v : CacheValue) (q : Search) (stop : Stop) → IsShaped v → StopsAt d v q stop →
+    lists_more (reader d) q stop ≡ true →
     (s : StateValue) → HeldAt v stop.id s → stop.index < length s.matches
 lists_there d v q stop i x more s held =
     let same : s ≡ value_past (reader d) q stop.at = sym (one_state v stop.id x.held.0 s i x.held.1 x.held.2 held) ∙ sym x.held.3 in
-    subst (λ (t : StateValue). stop.index < length t.matches) (sym same) (below stop.index (length (value_past (reader d) q stop.at).matches)
-    (and_parts (counts (reader d).between_characters q.haystack stop.at) (nat_lt stop.index (length (value_past (reader d) q stop.at).matches)) more).1)
+    subst (λ (t : StateValue). stop.index < length t.matches) (sym same)
+        (below stop.index (length (value_past (reader d) q stop.at).matches)
+    (and_parts (counts (reader d).between_characters q.haystack stop.at)
+        (nat_lt stop.index (length (value_past (reader d) q stop.at).matches)) more).1)
   where
     below : (a b : ℕ) → nat_lt a b ≡ true → a < b
     below a b e = ⊎_elim (λ (l : a < b). l) (λ (l : b ≤ a). absurd (true≢false (sym e ∙ le-ltb a b l))) (cases_lt a b)

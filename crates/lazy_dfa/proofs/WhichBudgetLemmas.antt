@@ -1,5 +1,7 @@
 -- How many states a walk over a whole span may still make between two calls, and that its calls give up where a pass would.
-use Rattle.std.proofs.Common.{◌≡◌, ◌⊎◌, ℕ, zero, suc, ◌+◌, ◌-◌, ◌<◌, ◌≤◌, ◌==◌, ◌&&◌, ◌||◌, Bool, true, false, not, List, [], ◌∷◌, ◌++◌, length, map, drop, Option, Some, None, ◌≢◌, refl, sym, ap, ◌∙◌, inl, inr, ⊎_elim, subst, arith, length-append, drop_of_length-le, if◌then◌else◌, true≢false, nat_lt, nat_le}
+use Rattle.std.proofs.Common.{◌≡◌, ◌⊎◌, ℕ, zero, suc, ◌+◌, ◌-◌, ◌<◌, ◌≤◌, ◌==◌, ◌&&◌, ◌||◌, Bool, true, false, not, List, [], ◌∷◌, ◌++◌}
+use Rattle.std.proofs.Common.{length, map, drop, Option, Some, None, ◌≢◌, refl, sym, ap, ◌∙◌, inl, inr, ⊎_elim, subst, arith, length-append}
+use Rattle.std.proofs.Common.{drop_of_length-le, if◌then◌else◌, true≢false, nat_lt, nat_le}
 use Rattle.std.specs.Prelude.{⊤}
 use Rattle.std.proofs.lemmas.Bool.{cases_lt, cases_Bool, le-ltb, lt-ltb, eqb-true, eq-eqb, ltb-false, leb-true}
 use Rattle.search_core.specs.ByteSets.{has}
@@ -25,8 +27,10 @@ use Rattle.lazy_dfa.specs.Scans.{first_place}
 use Rattle.lazy_dfa.specs.ScanLaws.{begins_at}
 use Rattle.lazy_dfa.specs.SearchAnswers.{give_up_place, running_at, GivesUpIn, at_start, at_unit}
 use Rattle.lazy_dfa.specs.PassPlaces.{came, left_at, last_place, gave_up_at, IsWithinSpan}
-use Rattle.lazy_dfa.specs.Walks.{Rest, nothing_left, refused, unless_quit_at, where_supported, end_of, listed, rest_from, whole_rest, value_past, rest_past, rest_of}
-use Rattle.lazy_dfa.specs.WalkAnswers.{units_met, lists_more, reads_on, call_place, units_there, call_units, call_made, GivesUpOn, at_start as on_start, at_unit as on_unit, which_made}
+use Rattle.lazy_dfa.specs.Walks.{Rest, nothing_left, refused, unless_quit_at, where_supported, end_of, listed, rest_from, whole_rest}
+use Rattle.lazy_dfa.specs.Walks.{value_past, rest_past, rest_of}
+use Rattle.lazy_dfa.specs.WalkAnswers.{units_met, lists_more, reads_on, call_place, units_there, call_units, call_made, GivesUpOn}
+use Rattle.lazy_dfa.specs.WalkAnswers.{at_start as on_start, at_unit as on_unit, which_made}
 use Rattle.lazy_dfa.proofs.TurnLemmas.{place_next}
 use Rattle.lazy_dfa.proofs.WhichUnitLemmas.{told_at, first_met, read_behind, read_few, met_is_read, listed_place, no_first, no_head}
 use Rattle.nfa_core.proofs.ForCallers.{place_zero}
@@ -35,7 +39,8 @@ use Rattle.lazy_dfa.proofs.WalkPlaceLemmas.{place_came}
 
 -- ---- places of a span
 
-left_and_came : (is_reverse : Bool) (q : Search) (at : ℕ) → IsWithinSpan q at → suc (span_len q) ≡ left_at is_reverse q at + suc (came is_reverse q at)
+left_and_came : (is_reverse : Bool) (q : Search) (at : ℕ) → IsWithinSpan q at →
+    suc (span_len q) ≡ left_at is_reverse q at + suc (came is_reverse q at)
 left_and_came false q at within = let low = within.0 in let high = within.1 in omega (arith, low, high)
 left_and_came true q at within = let low = within.0 in let high = within.1 in omega (arith, low, high)
 
@@ -46,7 +51,8 @@ came_of true q k fits le = omega (arith, fits, le)
 
 one_place : (is_reverse : Bool) (q : Search) (k l : ℕ) → q.start ≤ q.end → k ≤ span_len q → l ≤ span_len q →
     place_of is_reverse (first_place is_reverse q.start q.end) k ≡ place_of is_reverse (first_place is_reverse q.start q.end) l → k ≡ l
-one_place is_reverse q k l fits small_k small_l e = sym (came_of is_reverse q k fits small_k) ∙ ap (came is_reverse q) e ∙ came_of is_reverse q l fits small_l
+one_place is_reverse q k l fits small_k small_l e = sym (came_of is_reverse q k fits small_k) ∙ ap (came is_reverse q) e
+    ∙ came_of is_reverse q l fits small_l
 
 is_last : (is_reverse : Bool) (q : Search) (k : ℕ) → q.start ≤ q.end → k ≤ span_len q →
     place_of is_reverse (first_place is_reverse q.start q.end) k ≡ last_place is_reverse q → k ≡ span_len q
@@ -203,7 +209,8 @@ advance met here (suc later) gap le few on = let last = on later (omega arith) i
 
 module _ (r : Reader) (q : Search) where
   read_at_first : units_read r false q.haystack (units r q) (begins r q) (start r q) ≡ read r q (units r q) 0
-  read_at_first = ap (λ (i : ℕ). units_read r false q.haystack (units r q) i (start r q)) (sym (place_zero r.automaton.reverse (begins r q)))
+  read_at_first = ap (λ (i : ℕ). units_read r false q.haystack (units r q) i (start r q))
+      (sym (place_zero r.automaton.reverse (begins r q)))
 
   met_at_first : units_met r q.haystack (units r q) (begins r q) (start r q) ≡ met r q (units r q) 0
   met_at_first = ap (λ (i : ℕ). units_met r q.haystack (units r q) i (start r q)) (sym (place_zero r.automaton.reverse (begins r q)))
@@ -484,7 +491,8 @@ module _ (d : Dfa) (v : CacheValue) (q : Search) (x : ℕ) where
       let few = read_few r q.haystack (begins r q) (state r q) (steps r q) (units r q) 0 in
       let small : m ≤ span_len q = omega (arith, less, few) in
       let all : pass_len r q.anchored false q.haystack (span_len q) (begins r q) ≡ read r q (units r q) 0 =
-      ap (λ (b : Bool). if b then units_read r false q.haystack (units r q) (begins r q) (start r q) else 0) supported ∙ read_at_first r q in
+      ap (λ (b : Bool). if b then units_read r false q.haystack (units r q) (begins r q) (start r q) else 0) supported
+          ∙ read_at_first r q in
       at_unit m (omega (arith, less, all)) (there.0 ∙ same_give_up r.automaton.reverse q m fits small)
       (sym (ap (λ (k : ℕ). lacks_room d v (state r q (suc k))) (came_of r.automaton.reverse q m fits small)) ∙ there.1)
       (λ before. there.2 (λ last. let end = is_last r.automaton.reverse q m fits small last in absurd (omega (arith, before, end))))

@@ -1,5 +1,7 @@
 -- What a walk over a whole span has done when it has told so many ends, and how it ends.
-use Rattle.std.proofs.Common.{◌≡◌, ℕ, zero, suc, ◌+◌, ◌*◌, ◌<◌, ◌≤◌, ◌||◌, Bool, true, false, List, [], ◌∷◌, ◌++◌, length, drop, take, get_or, Option, Some, None, ◌↔◌, IsTrue, refl, sym, ap, ◌∙◌, inl, inr, ⊎_elim, subst, arith, append_assoc, mul-le-mul_right, if◌then◌else◌, true≢false}
+use Rattle.std.proofs.Common.{◌≡◌, ℕ, zero, suc, ◌+◌, ◌*◌, ◌<◌, ◌≤◌, ◌||◌, Bool, true, false, List, [], ◌∷◌, ◌++◌, length, drop, take}
+use Rattle.std.proofs.Common.{get_or, Option, Some, None, ◌↔◌, IsTrue, refl, sym, ap, ◌∙◌, inl, inr, ⊎_elim, subst, arith, append_assoc}
+use Rattle.std.proofs.Common.{mul-le-mul_right, if◌then◌else◌, true≢false}
 use Rattle.std.specs.Prelude.{Result, Ok, Err, IfErr, ⊤}
 use Rattle.std.proofs.lemmas.Bool.{cases_Bool}
 use Rattle.search_core.specs.ByteSets.{has}
@@ -20,7 +22,8 @@ use Rattle.lazy_dfa.specs.ScanLaws.{begins_at}
 use Rattle.lazy_dfa.specs.SearchAnswers.{half_of}
 use Rattle.lazy_dfa.specs.Steps.{most_inserts}
 use Rattle.lazy_dfa.specs.Walks.{Rest, whole_rest, rest_of, IsWalk, WalkState}
-use Rattle.lazy_dfa.specs.WalkAnswers.{call_made, told_left, TellsNext, AnswersWalk, MakesCall, with_pattern, is_full, with_ends, Which, which_from, which_of, AnswersWhich, MakesWhich, which_made}
+use Rattle.lazy_dfa.specs.WalkAnswers.{call_made, told_left, TellsNext, AnswersWalk, MakesCall, with_pattern, is_full, with_ends, Which}
+use Rattle.lazy_dfa.specs.WalkAnswers.{which_from, which_of, AnswersWhich, MakesWhich, which_made}
 use Rattle.lazy_dfa.proofs.LinkedLemmas.{grows_refl, grows_or_clears_trans}
 use Rattle.lazy_dfa.proofs.SearchClauseLemmas.{never_here}
 use Rattle.lazy_dfa.proofs.WhichBudgetLemmas.{left_to_make, IsWithinWalk, IsOn, some_told, few_made, spends, gives_up}
@@ -124,7 +127,8 @@ pub record HasCome (d : Dfa) (q : Search) (old now : CacheValue) (m1 m2 n1 n2 : 
   pub determinized : m2 + left_to_make (reader d) q w ≤ m1 + which_made (reader d) q
   pub inserted : n2 + left_to_make (reader d) q w * most_inserts d ≤ n1 + which_made (reader d) q * most_inserts d
 
-pub begins : (d : Dfa) (q : Search) (v : CacheValue) (m n : ℕ) (set : List Bool) (s : WalkState) → s ≡ record { found = None; walk = Fresh } →
+pub begins : (d : Dfa) (q : Search) (v : CacheValue) (m n : ℕ) (set : List Bool) (s : WalkState) →
+    s ≡ record { found = None; walk = Fresh } →
     HasCome d q v v m m n n set set s.walk
 begins d q v m n set s is = subst (λ (w : Walk). HasCome d q v v m m n n set set w) (sym (ap (λ (x : WalkState). x.walk) is)) (record {
   done = [];
@@ -248,7 +252,8 @@ module _ (d : Dfa) (q : Search) (old now next : CacheValue) (m1 m2 m3 n1 n2 n3 :
       ends = all_is ∙ sym (append_assoc stands.done (end_of_half half ∷ []) left)
           ∙ ap (λ (x : Rest). (stands.done ++ end_of_half half ∷ []) ++ x.ends) (sym left_is);
       on = inr (some_told (whole_rest r q).ends stands.done left (end_of_half half) all_is);
-      added = more_is ∙ ap (λ (s : List Bool). with_pattern s half.pattern) stands.added ∙ sym (with_more set stands.done (end_of_half half));
+      added = more_is ∙ ap (λ (s : List Bool). with_pattern s half.pattern) stands.added
+          ∙ sym (with_more set stands.done (end_of_half half));
       which = ap (λ (x : Rest). which_from q.earliest more x.ends x.refusal) left_is
           ∙ sym (ap (λ (b : Bool). if b then record { set = more; refusal = None } else which_from q.earliest more left rest.refusal) on)
           ∙ step_is;

@@ -1,5 +1,6 @@
 -- At which unit a walk tells an end, what is left from there, and how many units one pass would still read.
-use Rattle.std.proofs.Common.{◌≡◌, ◌⊎◌, ℕ, zero, suc, ◌+◌, ◌<◌, ◌≤◌, Bool, true, false, ◌&&◌, not, List, [], ◌∷◌, ◌++◌, length, map, Option, Some, None, refl, sym, ap, ◌∙◌, inl, inr, ⊎_elim, subst, arith, length-append, if◌then◌else◌, true≢false}
+use Rattle.std.proofs.Common.{◌≡◌, ◌⊎◌, ℕ, zero, suc, ◌+◌, ◌<◌, ◌≤◌, Bool, true, false, ◌&&◌, not, List, [], ◌∷◌, ◌++◌, length, map, Option}
+use Rattle.std.proofs.Common.{Some, None, refl, sym, ap, ◌∙◌, inl, inr, ⊎_elim, subst, arith, length-append, if◌then◌else◌, true≢false}
 use Rattle.std.proofs.lemmas.Bool.{cases_Bool}
 use Rattle.search_core.specs.ByteSets.{has}
 use Rattle.search_types.specs.declared.match_error.MatchErrorKind.TheVariants.{Quit}
@@ -268,7 +269,8 @@ module _ (r : Reader) (h : List ℕ) (i : ℕ) (state : ℕ → StateValue)
   read_few zero k = omega arith
   read_few (suc n) k = ⊎_elim
       (λ (dies : is_dead (state k) ≡ true). let none = read_dead (suc n) k dies in omega (arith, none))
-      (λ (lives : is_dead (state k) ≡ false). let more = read_lives n k lives in let later = read_few n (suc k) in omega (arith, more, later))
+      (λ (lives : is_dead (state k) ≡ false). let more = read_lives n k lives in let later = read_few n (suc k) in
+          omega (arith, more, later))
       (cases_Bool (is_dead (state k)))
 
   pub met_is_read : (n k : ℕ) → met n k ≤ read n k

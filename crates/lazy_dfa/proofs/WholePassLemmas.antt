@@ -1,5 +1,6 @@
 -- A whole pass: its start, and what comes of it behind that.
-use Rattle.std.proofs.Common.{◌≡◌, ◌≢◌, ◌⊎◌, ℕ, suc, ◌+◌, ◌-◌, ◌*◌, ◌/◌, ◌%◌, ◌<◌, ◌≤◌, ◌==◌, ◌&&◌, not, Bool, true, false, List, Option, Some, None, Result, Ok, Err, if◌then◌else◌, refl, sym, ap, ◌∙◌, subst, inl, inr, ⊎_elim, arith, true≢false}
+use Rattle.std.proofs.Common.{◌≡◌, ◌≢◌, ◌⊎◌, ℕ, suc, ◌+◌, ◌-◌, ◌*◌, ◌/◌, ◌%◌, ◌<◌, ◌≤◌, ◌==◌, ◌&&◌, not, Bool, true, false, List, Option}
+use Rattle.std.proofs.Common.{Some, None, Result, Ok, Err, if◌then◌else◌, refl, sym, ap, ◌∙◌, subst, inl, inr, ⊎_elim, arith, true≢false}
 use Rattle.std.specs.Prelude.{min, nat_le, OnOk}
 use Rattle.std.proofs.lemmas.Bool.{cases_Bool, cases_lt, eqb-true}
 use Rattle.std.proofs.lemmas.Bool.Decides.{leb_tells}
@@ -14,7 +15,8 @@ use Rattle.determinize_core.specs.States.{StateValue, dead}
 use Rattle.determinize_core.specs.Starts.{StartValue}
 use Rattle.determinize_core.specs.Steps.{unit_behind}
 use Rattle.lazy_dfa.specs.AnewTold.{IsFresh, cut_told, TellsAnew, cleared_first, cleared_inside, FailsAnew, fails_first, fails_inside}
-use Rattle.lazy_dfa.specs.Caches.{CacheValue, IsShaped, IsCacheOf, HeldAt, Names, names_dead, names_held, greatest, progress_len, lacks_room}
+use Rattle.lazy_dfa.specs.Caches.{CacheValue, IsShaped, IsCacheOf, HeldAt, Names, names_dead, names_held, greatest, progress_len}
+use Rattle.lazy_dfa.specs.Caches.{lacks_room}
 use Rattle.lazy_dfa.specs.ConfigValue.{starts_each_of}
 use Rattle.lazy_dfa.specs.Courses.{state_behind}
 use Rattle.lazy_dfa.specs.declared.start_error.StartError.{StartError}
@@ -30,14 +32,18 @@ use Rattle.lazy_dfa.specs.Points.{point}
 use Rattle.lazy_dfa.specs.Readers.{HalfAnswer, found, is_quit}
 use Rattle.lazy_dfa.specs.Scans.{first_place}
 use Rattle.lazy_dfa.specs.ScanLaws.{begins_at}
-use Rattle.lazy_dfa.specs.SearchAnswers.{told, give_up_place, GivesUpIn, at_start, at_unit, Told, told_of, pass_distance, told_by_pass, running_at}
+use Rattle.lazy_dfa.specs.SearchAnswers.{told, give_up_place, GivesUpIn, at_start, at_unit, Told, told_of, pass_distance, told_by_pass}
+use Rattle.lazy_dfa.specs.SearchAnswers.{running_at}
 use Rattle.lazy_dfa.specs.SearchStarts.{error_at}
-use Rattle.lazy_dfa.specs.PassPlaces.{tells, first_index, told_begun, told_behind, RestAnew, rest_inside, rest_untold, RestFails, fails_at, fails_untold, IsRestTold, RunsOn, pass_start, StartsPass}
-use Rattle.lazy_dfa.specs.StartCalls.{mode_of, quit_refusal, behind_refusal, mode_refusal, start_refusal, start_slot, start_noted, IsStartKnown}
+use Rattle.lazy_dfa.specs.PassPlaces.{tells, first_index, told_begun, told_behind, RestAnew, rest_inside, rest_untold, RestFails, fails_at}
+use Rattle.lazy_dfa.specs.PassPlaces.{fails_untold, IsRestTold, RunsOn, pass_start, StartsPass}
+use Rattle.lazy_dfa.specs.StartCalls.{mode_of, quit_refusal, behind_refusal, mode_refusal, start_refusal, start_slot, start_noted}
+use Rattle.lazy_dfa.specs.StartCalls.{IsStartKnown}
 use Rattle.lazy_dfa.specs.Steps.{Grew, WasCleared, most_inserts}
 use Rattle.lazy_dfa.proofs.AnewToldLemmas.{fresh_anew}
 use Rattle.lazy_dfa.proofs.IsCacheLemmas.{row_is_plain}
-use Rattle.lazy_dfa.proofs.LinkedLemmas.{grows_trans, grew_grows, has_cleared, start_grows_of, cleared_grows, grows_or_clears_trans, moved_trans, moved_same, names_moved, grows_moved, linked_moved, linked_none, held_named}
+use Rattle.lazy_dfa.proofs.LinkedLemmas.{grows_trans, grew_grows, has_cleared, start_grows_of, cleared_grows, grows_or_clears_trans}
+use Rattle.lazy_dfa.proofs.LinkedLemmas.{moved_trans, moved_same, names_moved, grows_moved, linked_moved, linked_none, held_named}
 use Rattle.lazy_dfa.proofs.PassEndLemmas.{ends_dead}
 use Rattle.lazy_dfa.proofs.PassQuitLemmas.{reads_all}
 use Rattle.lazy_dfa.proofs.PassStartLemmas.{named_alike, starts_dead, pass_told}
@@ -94,22 +100,28 @@ parts_told : (none : Bool) (t : Told) (at k : ℕ) →
     (if none then (if not none then begun at t else t) else ended (if not none then begun at t else t).searched k) ≡
     (if none then t else ended (t.searched + progress_len t.progress) k)
 parts_told true t at k = refl
-parts_told false t at k = ap (λ (n : ℕ). record { searched = n; progress = None }) (min_twice (t.searched + progress_len t.progress) k greatest)
+parts_told false t at k = ap (λ (n : ℕ). record { searched = n; progress = None })
+    (min_twice (t.searched + progress_len t.progress) k greatest)
 
 -- what it tells at its start and at its end, together
-whole_told : (is_reverse : Bool) (q : Search) (t : Told) (units : ℕ) → told_behind is_reverse (span_len q) (told_begun is_reverse q t) units ≡
-    (if is_reverse && span_len q == 0 then t else ended (t.searched + progress_len t.progress) (pass_distance is_reverse (span_len q) units))
+whole_told : (is_reverse : Bool) (q : Search) (t : Told) (units : ℕ) →
+    told_behind is_reverse (span_len q) (told_begun is_reverse q t) units ≡
+    (if is_reverse && span_len q == 0 then t else ended (t.searched + progress_len t.progress)
+        (pass_distance is_reverse (span_len q) units))
 whole_told is_reverse q t units =
-    ap (λ (b : Bool). told_behind is_reverse (span_len q) (if not (is_reverse && b) then begun (first_index is_reverse q) t else t) units) (none_left q.start q.end)
+    ap (λ (b : Bool). told_behind is_reverse (span_len q) (if not (is_reverse && b) then begun (first_index is_reverse q) t else t) units)
+        (none_left q.start q.end)
     ∙ parts_told (is_reverse && span_len q == 0) t (first_index is_reverse q) (pass_distance is_reverse (span_len q) units)
 
 -- what it tells at its start, by its bytes and its first place
-told_first : (is_reverse : Bool) (q : Search) (t : Told) → told_begun is_reverse q t ≡ told_from is_reverse (span_len q, first_place is_reverse q.start q.end) t
+told_first : (is_reverse : Bool) (q : Search) (t : Told) → told_begun is_reverse q t ≡ told_from is_reverse (span_len q,
+    first_place is_reverse q.start q.end) t
 told_first is_reverse q t =
     ap (λ (b : Bool). if not (is_reverse && b) then begun (first_index is_reverse q) t else t) (none_left q.start q.end)
     ∙ turned_round (is_reverse && span_len q == 0)
   where
-    turned_round : (b : Bool) → (if not b then begun (first_index is_reverse q) t else t) ≡ (if b then t else begun (first_index is_reverse q) t)
+    turned_round : (b : Bool) → (if not b then begun (first_index is_reverse q) t else t) ≡ (if b then t
+        else begun (first_index is_reverse q) t)
     turned_round true = refl
     turned_round false = refl
 
@@ -127,7 +139,8 @@ dead_named v id s i e (names_dead f g) = ap is_dead g
 dead_named v id s i e (names_held h) = absurd (no_tag id (row_is_plain v id h.0 i h.1 h.2) e)
 
 -- and one without it a row
-pub row_named : (d : Dfa) (v w : CacheValue) (id : ℕ) (s : StateValue) → IsShaped v → IsMoved v w → has_tag dead_tag id ≡ false → Names v id s → HeldAt w id s
+pub row_named : (d : Dfa) (v w : CacheValue) (id : ℕ) (s : StateValue) → IsShaped v → IsMoved v w → has_tag dead_tag id ≡ false →
+    Names v id s → HeldAt w id s
 row_named d v w id s i moved e n = by (names_moved d v w moved id s n)
   where
     untagged : id ≡ dead_id v.stride → has_tag dead_tag id ≡ true
@@ -163,9 +176,11 @@ module _ (d : Dfa) (mode : Anchored) (h : List ℕ) (i : ℕ) where
       pass (reader d) mode earliest h n i ≡ pass_from (reader d) earliest h (suc n) i (first_value (reader d) mode h i) None
   plain_pass earliest n none =
       goes_on d.quits (unit_behind d.nfa.automaton.reverse h i) (index_behind d.nfa.automaton.reverse i)
-      (if_supported (is_supported (starts_each_of d.options) mode) mode (pass_from (reader d) earliest h (suc n) i (first_value (reader d) mode h i) None))
+      (if_supported (is_supported (starts_each_of d.options) mode) mode
+          (pass_from (reader d) earliest h (suc n) i (first_value (reader d) mode h i) None))
       (quiet_behind (unit_behind d.nfa.automaton.reverse h i) (mode_refusal d mode) none)
-      ∙ goes_in_mode (is_supported (starts_each_of d.options) mode) mode (pass_from (reader d) earliest h (suc n) i (first_value (reader d) mode h i) None) (is_fit none)
+      ∙ goes_in_mode (is_supported (starts_each_of d.options) mode) mode
+          (pass_from (reader d) earliest h (suc n) i (first_value (reader d) mode h i) None) (is_fit none)
 
   plain_len : (earliest : Bool) (n : ℕ) → start_refusal d told_start ≡ None →
       units_read (reader d) earliest h (suc n) i (first_value (reader d) mode h i) ≡ pass_len (reader d) mode earliest h n i
@@ -212,7 +227,8 @@ first_error is_reverse i (Quit b) = refl
 first_error is_reverse i (UnsupportedAnchored mode) = tt
 first_error is_reverse i NoMemory = tt
 
-module _ (d : Dfa) (q : Search) (old new : CacheValue) (m1 m2 n1 n2 : ℕ) (e : MatchErrorKind) (start : StartsPass d q old new m1 m2 n1 n2 (Err e)) where
+module _ (d : Dfa) (q : Search) (old new : CacheValue) (m1 m2 n1 n2 : ℕ) (e : MatchErrorKind)
+    (start : StartsPass d q old new m1 m2 n1 n2 (Err e)) where
   abbrev at : ℕ
   at = begins_at (reader d) q
 
@@ -225,13 +241,16 @@ module _ (d : Dfa) (q : Search) (old new : CacheValue) (m1 m2 n1 n2 : ℕ) (e : 
   refused_first : IsRefusedFirst d.nfa.automaton.reverse at e
   refused_first = ⊎_elim
       (λ (x : (start_refusal d (pass_start d q) ≢ None) × (Err e ≡ told whole)). by (start_refusal d (pass_start d q)) refl x.0 x.1)
-      (λ (x : (e ≡ SearchNoMemory) ⊎ ((e ≡ GaveUp at) × (lacks_room d new (first_value (reader d) q.anchored q.haystack at) ≡ true))). ⊎_elim
+      (λ (x : (e ≡ SearchNoMemory) ⊎ ((e ≡ GaveUp at) × (lacks_room d new (first_value (reader d) q.anchored q.haystack at) ≡ true))).
+          ⊎_elim
       (λ (f : e ≡ SearchNoMemory). subst (IsRefusedFirst d.nfa.automaton.reverse at) (sym f) tt)
-      (λ (f : (e ≡ GaveUp at) × (lacks_room d new (first_value (reader d) q.anchored q.haystack at) ≡ true)). subst (IsRefusedFirst d.nfa.automaton.reverse at) (sym f.0) refl)
+      (λ (f : (e ≡ GaveUp at) × (lacks_room d new (first_value (reader d) q.anchored q.haystack at) ≡ true)). subst
+          (IsRefusedFirst d.nfa.automaton.reverse at) (sym f.0) refl)
       x)
       start.err
     where
-      by : (o : Option StartError) → start_refusal d (pass_start d q) ≡ o → start_refusal d (pass_start d q) ≢ None → Err e ≡ told whole → IsRefusedFirst d.nfa.automaton.reverse at e
+      by : (o : Option StartError) → start_refusal d (pass_start d q) ≡ o → start_refusal d (pass_start d q) ≢ None → Err e ≡ told whole →
+          IsRefusedFirst d.nfa.automaton.reverse at e
       by None f some is = absurd (some f)
       by (Some x) f some is =
           let same : e ≡ error_at (index_behind d.nfa.automaton.reverse at) at x =
@@ -244,9 +263,11 @@ module _ (d : Dfa) (q : Search) (old new : CacheValue) (m1 m2 n1 n2 : ℕ) (e : 
   refused_pass = record {
     answer = ⊎_elim
         (λ (x : (start_refusal d (pass_start d q) ≢ None) × (Err e ≡ told whole)). inl x.1)
-        (λ (x : (e ≡ SearchNoMemory) ⊎ ((e ≡ GaveUp at) × (lacks_room d new (first_value (reader d) q.anchored q.haystack at) ≡ true))). inr (⊎_elim
+        (λ (x : (e ≡ SearchNoMemory) ⊎ ((e ≡ GaveUp at) × (lacks_room d new (first_value (reader d) q.anchored q.haystack at) ≡ true))). inr
+            (⊎_elim
         (λ (f : e ≡ SearchNoMemory). inl (ap Err f))
-        (λ (f : (e ≡ GaveUp at) × (lacks_room d new (first_value (reader d) q.anchored q.haystack at) ≡ true)). inr (at, ap Err f.0, at_start refl f.1))
+        (λ (f : (e ≡ GaveUp at) × (lacks_room d new (first_value (reader d) q.anchored q.haystack at) ≡ true)). inr (at, ap Err f.0,
+            at_start refl f.1))
         x))
         start.err;
     kept = start_grows_of d old new start.kept;
@@ -259,7 +280,8 @@ module _ (d : Dfa) (q : Search) (old new : CacheValue) (m1 m2 n1 n2 : ℕ) (e : 
     inserted = one_at_most n1 n2 length (most_inserts d) start.inserted;
     anew = ⊎_elim
         (λ (g : Grew d old new). inl (left_first refused_first (same_told d old new g), g.clears))
-        (λ (w : WasCleared old new 1). inr (has_cleared old new 1 w, fails_first (told_of new) (fresh_start old new w) (left_first refused_first refl)))
+        (λ (w : WasCleared old new 1). inr (has_cleared old new 1 w, fails_first (told_of new) (fresh_start old new w)
+            (left_first refused_first refl)))
         start.kept;
   }
 
@@ -292,15 +314,19 @@ module _ (d : Dfa) (q : Search) (old mid : CacheValue) (m1 m n1 n id : ℕ) (mad
   id_known = held_known mid id mine.shape (held_named mid id first start.start.1)
 
   module _ (here new : CacheValue) (m2 n2 : ℕ) (result : Result (Option HalfFound) MatchErrorKind) (moved : IsMoved mid here)
-      (tells_start : told_of here ≡ told_begun d.nfa.automaton.reverse q (told_of mid)) (runs : RunsOn d q first (point here m n from id None) new m2 n2 result) where
+      (tells_start : told_of here ≡ told_begun d.nfa.automaton.reverse q (told_of mid))
+          (runs : RunsOn d q first (point here m n from id None) new m2 n2 result) where
     from_mid : GrowsOrClears d mid new
     from_mid = grows_or_clears_trans d mid here new made mine (inl (grows_moved d mid here moved)) runs.kept
 
-    linked_behind : Grows d mid new → IsLinkedOver d new q.haystack from id units → IsLinkedPass d new q.anchored q.earliest q.haystack (span_len q) from
+    linked_behind : Grows d mid new → IsLinkedOver d new q.haystack from id units →
+        IsLinkedPass d new q.anchored q.earliest q.haystack (span_len q) from
     linked_behind grows linked p none named =
         let slot : start_noted d mid (pass_start d q) ≡ id = start.noted p named in
-        let noted : start_noted d new (pass_start d q) ≡ id = grows.starts (start_slot d (pass_start d q)) (λ z. id_known (sym slot ∙ z)) ∙ slot in
-        subst (λ (x : ℕ). IsLinkedOver d new q.haystack from x all) (sym noted) (subst (IsLinkedOver d new q.haystack from id) same_len linked)
+        let noted : start_noted d new (pass_start d q) ≡ id = grows.starts (start_slot d (pass_start d q)) (λ z. id_known (sym slot ∙ z))
+            ∙ slot in
+        subst (λ (x : ℕ). IsLinkedOver d new q.haystack from x all) (sym noted)
+            (subst (IsLinkedOver d new q.haystack from id) same_len linked)
 
     told_behind_mid : told_of new ≡ told_behind d.nfa.automaton.reverse (span_len q) (told_of here) units →
         told_of new ≡ told_by_pass (reader d) q.anchored q.earliest q.haystack (told_of mid) (span_len q, from)
@@ -308,15 +334,18 @@ module _ (d : Dfa) (q : Search) (old mid : CacheValue) (m1 m n1 n id : ℕ) (mad
         e
         ∙ (ap (λ (t : Told). told_behind d.nfa.automaton.reverse (span_len q) t units) tells_start
         ∙ (whole_told d.nfa.automaton.reverse q (told_of mid) units
-        ∙ ap (λ (k : ℕ). if d.nfa.automaton.reverse && span_len q == 0 then told_of mid else ended (mid.searched + progress_len mid.progress) (pass_distance d.nfa.automaton.reverse (span_len q) k)) same_len))
+        ∙ ap (λ (k : ℕ). if d.nfa.automaton.reverse && span_len q == 0 then told_of mid
+            else ended (mid.searched + progress_len mid.progress) (pass_distance d.nfa.automaton.reverse (span_len q) k)) same_len))
 
     told_behind_all : Grew d old mid → told_of new ≡ told_behind d.nfa.automaton.reverse (span_len q) (told_of here) units →
         told_of new ≡ told_by_pass (reader d) q.anchored q.earliest q.haystack (told_of old) (span_len q, from)
     told_behind_all g e =
-        told_behind_mid e ∙ ap (λ (t : Told). told_by_pass (reader d) q.anchored q.earliest q.haystack t (span_len q, from)) (same_told d old mid g)
+        told_behind_mid e ∙ ap (λ (t : Told). told_by_pass (reader d) q.anchored q.earliest q.haystack t (span_len q, from))
+            (same_told d old mid g)
 
     abbrev Followed : Type 0
-    Followed = Grows d here new × IsLinkedOver d new q.haystack from id units × (told_of new ≡ told_behind d.nfa.automaton.reverse (span_len q) (told_of here) units)
+    Followed = Grows d here new × IsLinkedOver d new q.haystack from id units ×
+        (told_of new ≡ told_behind d.nfa.automaton.reverse (span_len q) (told_of here) units)
 
     abbrev FollowedPass : Type 0
     FollowedPass = Grows d old new × IsLinkedPass d new q.anchored q.earliest q.haystack (span_len q) from ×
@@ -355,21 +384,25 @@ module _ (d : Dfa) (q : Search) (old mid : CacheValue) (m1 m n1 n id : ℕ) (mad
     clears_here g e = e ∙ ((grows_moved d mid here moved).clears ∙ g.clears)
 
     nothing_told : (t : Told) → tells d.nfa.automaton.reverse q ≡ false → (d.nfa.automaton.reverse && span_len q == 0) ≡ true
-    nothing_told t e = ap (λ (b : Bool). d.nfa.automaton.reverse && b) (sym (none_left q.start q.end)) ∙ not_no (d.nfa.automaton.reverse && nat_le q.end q.start) e
+    nothing_told t e = ap (λ (b : Bool). d.nfa.automaton.reverse && b) (sym (none_left q.start q.end))
+        ∙ not_no (d.nfa.automaton.reverse && nat_le q.end q.start) e
       where
         not_no : (b : Bool) → not b ≡ false → b ≡ true
         not_no true e = refl
         not_no false e = absurd (true≢false e)
 
-    pass_anew : RestAnew d.nfa.automaton.reverse q units (told_of new) → TellsAnew (reader d) q.anchored q.earliest q.haystack p (told_of new)
+    pass_anew : RestAnew d.nfa.automaton.reverse q units (told_of new) →
+        TellsAnew (reader d) q.anchored q.earliest q.haystack p (told_of new)
     pass_anew (rest_inside a l e) =
         cleared_inside a (subst (λ (k : ℕ). a ≤ pass_distance d.nfa.automaton.reverse (span_len q) k) same_len l)
         (e ∙ ap (cut_told d.nfa.automaton.reverse (span_len q) a) same_len)
     pass_anew (rest_untold tell fresh) =
         cleared_first (told_of new) fresh
-        (sym (ap (λ (b : Bool). if b then told_of new else ended (new.searched + progress_len new.progress) (pass_distance d.nfa.automaton.reverse (span_len q) all)) (nothing_told (told_of new) tell)))
+        (sym (ap (λ (b : Bool). if b then told_of new else ended (new.searched + progress_len new.progress)
+            (pass_distance d.nfa.automaton.reverse (span_len q) all)) (nothing_told (told_of new) tell)))
 
-    told_ok : (f : Option HalfFound) → IsRestTold d q first from (Ok f) here new → IsPassTold (reader d) q.anchored q.earliest q.haystack p (Ok f) old new
+    told_ok : (f : Option HalfFound) → IsRestTold d q first from (Ok f) here new →
+        IsPassTold (reader d) q.anchored q.earliest q.haystack p (Ok f) old new
     told_ok f (inl e) = ⊎_elim
         (λ (g : Grew d old mid). inl (told_behind_all g e.0, clears_here g e.1))
         (λ (w : WasCleared old mid 1). inr (clear_first w, cleared_first (told_of mid) (fresh_start old mid w) (told_behind_mid e.0)))
@@ -380,7 +413,8 @@ module _ (d : Dfa) (q : Search) (old mid : CacheValue) (m1 m n1 n id : ℕ) (mad
       less_all : k < all
       less_all = subst (λ (n : ℕ). k < n) same_len less
 
-      left_from : (t : Told) → LeftAt d.nfa.automaton.reverse (is_quit_error e) (span_len q) from k (told_from d.nfa.automaton.reverse p t) (told_of new) →
+      left_from : (t : Told) → LeftAt d.nfa.automaton.reverse (is_quit_error e) (span_len q) from k (told_from d.nfa.automaton.reverse p t)
+          (told_of new) →
           LeavesPass (reader d) q.anchored q.earliest q.haystack p e t (told_of new)
       left_from t l = left_at_unit k less_all at l
 
@@ -390,37 +424,46 @@ module _ (d : Dfa) (q : Search) (old mid : CacheValue) (m1 m n1 n id : ℕ) (mad
       abbrev Left : Told → Type 0
       Left t = LeftAt d.nfa.automaton.reverse (is_quit_error e) (span_len q) from k t (told_of new)
 
-      fails_so : RestFails d.nfa.automaton.reverse (is_quit_error e) q from k (told_of new) → FailsAnew (reader d) q.anchored q.earliest q.haystack p e (told_of new)
+      fails_so : RestFails d.nfa.automaton.reverse (is_quit_error e) q from k (told_of new) →
+          FailsAnew (reader d) q.anchored q.earliest q.haystack p e (told_of new)
       fails_so (fails_at cut) = fails_inside k less_all at cut
       fails_so (fails_untold tell fresh l) =
           fails_first (told_of new) fresh (left_from (told_of new) (subst Left
-          (sym (ap (λ (b : Bool). if b then told_of new else begun (index_at d.nfa.automaton.reverse from) (told_of new)) (nothing_told (told_of new) tell))) l))
+          (sym (ap (λ (b : Bool). if b then told_of new else begun (index_at d.nfa.automaton.reverse from) (told_of new))
+              (nothing_told (told_of new) tell))) l))
 
-      told_err : (LeftAt d.nfa.automaton.reverse (is_quit_error e) (span_len q) from k (told_of here) (told_of new) × (new.clears ≡ here.clears)) ⊎
-          (HasCleared here new × RestFails d.nfa.automaton.reverse (is_quit_error e) q from k (told_of new)) → IsPassTold (reader d) q.anchored q.earliest q.haystack p (Err e) old new
+      told_err : (LeftAt d.nfa.automaton.reverse (is_quit_error e) (span_len q) from k (told_of here) (told_of new) ×
+          (new.clears ≡ here.clears)) ⊎
+          (HasCleared here new × RestFails d.nfa.automaton.reverse (is_quit_error e) q from k (told_of new)) →
+              IsPassTold (reader d) q.anchored q.earliest q.haystack p (Err e) old new
       told_err (inl l) = ⊎_elim
           (λ (g : Grew d old mid). inl (
             left_from (told_of old) (subst Left (begun_mid ∙ ap (told_from d.nfa.automaton.reverse p) (same_told d old mid g)) l.0),
             clears_here g l.1,
           ))
-          (λ (w : WasCleared old mid 1). inr (clear_first w, fails_first (told_of mid) (fresh_start old mid w) (left_from (told_of mid) (subst Left begun_mid l.0))))
+          (λ (w : WasCleared old mid 1). inr (clear_first w, fails_first (told_of mid) (fresh_start old mid w)
+              (left_from (told_of mid) (subst Left begun_mid l.0))))
           start.kept
       told_err (inr c) = inr (cleared_here c.0, fails_so c.1)
 
-    told_anew_pass : (r : Result (Option HalfFound) MatchErrorKind) → IsRestTold d q first from r here new → IsPassTold (reader d) q.anchored q.earliest q.haystack p r old new
+    told_anew_pass : (r : Result (Option HalfFound) MatchErrorKind) → IsRestTold d q first from r here new →
+        IsPassTold (reader d) q.anchored q.earliest q.haystack p r old new
     told_anew_pass (Ok f) x = told_ok f x
     told_anew_pass (Err e) x = told_err e x.0 x.1 x.2 x.3
 
     -- where the path was known
-    known_path : IsMoved old here → IsLinkedPass d old q.anchored q.earliest q.haystack (span_len q) from → IsLinkedOver d here q.haystack from id units
+    known_path : IsMoved old here → IsLinkedPass d old q.anchored q.earliest q.haystack (span_len q) from →
+        IsLinkedOver d here q.haystack from id units
     known_path still linked = ⊎_elim
         (λ (e : start_in d (mode_of q.anchored) ≡ None).
         let gone = ap is_dead (dead_first d q.anchored q.haystack from e) in
-        let nothing = ends_dead (reader d) q.earliest q.haystack from first 0 (suc (span_len q)) None (omega arith) (λ k l. absurd (omega (arith, l))) (λ k l. absurd (omega (arith, l))) gone in
+        let nothing = ends_dead (reader d) q.earliest q.haystack from first 0 (suc (span_len q)) None (omega arith)
+            (λ k l. absurd (omega (arith, l))) (λ k l. absurd (omega (arith, l))) gone in
         subst (IsLinkedOver d here q.haystack from id) (sym nothing.1) (linked_none d here q.haystack from id id_known))
         (λ (s : (p : ℕ) × (start_in d (mode_of q.anchored) ≡ Some p)).
         let path = linked s.0 start.start.0 s.1 in
-        let same : id ≡ start_noted d old (pass_start d q) = one_ok id (start_noted d old (pass_start d q)) (start.known s.0 start.start.0 s.1 path.start) in
+        let same : id ≡ start_noted d old (pass_start d q) = one_ok id (start_noted d old (pass_start d q))
+            (start.known s.0 start.start.0 s.1 path.start) in
         linked_moved d old here still q.haystack from id units
         (subst (λ (x : ℕ). IsLinkedOver d old q.haystack from x units) (sym same)
         (subst (IsLinkedOver d old q.haystack from (start_noted d old (pass_start d q))) (sym same_len) path)))
@@ -439,12 +482,14 @@ module _ (d : Dfa) (q : Search) (old mid : CacheValue) (m1 m n1 n id : ℕ) (mad
     answered = ⊎_elim
         (λ (e : result ≡ told rest). inl (e ∙ ap told (sym is_rest)))
         (λ (e : (result ≡ Err SearchNoMemory) ⊎ ((x k : ℕ) × (result ≡ Err (GaveUp x)) × (k < units) ×
-        (x ≡ give_up_place d.nfa.automaton.reverse (span_len q) from k) × (lacks_room d new (state_behind (reader d) q.haystack from first (suc k)) ≡ true) ×
+        (x ≡ give_up_place d.nfa.automaton.reverse (span_len q) from k) ×
+            (lacks_room d new (state_behind (reader d) q.haystack from first (suc k)) ≡ true) ×
         (k < span_len q → running_at new.progress ≡ Some x))).
         inr (⊎_elim
         (λ (f : result ≡ Err SearchNoMemory). inl f)
         (λ (g : (x k : ℕ) × (result ≡ Err (GaveUp x)) × (k < units) ×
-        (x ≡ give_up_place d.nfa.automaton.reverse (span_len q) from k) × (lacks_room d new (state_behind (reader d) q.haystack from first (suc k)) ≡ true) ×
+        (x ≡ give_up_place d.nfa.automaton.reverse (span_len q) from k) ×
+            (lacks_room d new (state_behind (reader d) q.haystack from first (suc k)) ≡ true) ×
         (k < span_len q → running_at new.progress ≡ Some x)).
         inr (g.0, g.2, at_unit g.1 (subst (λ (l : ℕ). g.1 < l) same_len g.3) g.4 g.5 g.6))
         e))
@@ -457,7 +502,8 @@ module _ (d : Dfa) (q : Search) (old mid : CacheValue) (m1 m n1 n id : ℕ) (mad
       follows = on_ok result followed_or_cleared runs.follows;
       free = free_pass;
       determinized = let a = start.determinized in let b = runs.determinized in let l = same_len in omega (arith, a, b, l);
-      inserted = one_more n1 n n2 all (most_inserts d) start.inserted (subst (λ (k : ℕ). n2 ≤ n + k * most_inserts d) same_len runs.inserted);
+      inserted = one_more n1 n n2 all (most_inserts d) start.inserted (subst
+          (λ (k : ℕ). n2 ≤ n + k * most_inserts d) same_len runs.inserted);
       anew = told_anew_pass result runs.anew;
     }
 
@@ -469,7 +515,8 @@ module _ (d : Dfa) (q : Search) (old mid : CacheValue) (m1 m n1 n id : ℕ) (mad
 
   -- the first state is dead: nothing is read
   pub makes_dead_pass : (new : CacheValue) → has_tag dead_tag id ≡ true → IsMoved mid new →
-      told_of new ≡ told_behind d.nfa.automaton.reverse (span_len q) (told_begun d.nfa.automaton.reverse q (told_of mid)) 0 → MakesPass d q old new m1 m n1 n (Ok None)
+      told_of new ≡ told_behind d.nfa.automaton.reverse (span_len q) (told_begun d.nfa.automaton.reverse q (told_of mid)) 0 →
+          MakesPass d q old new m1 m n1 n (Ok None)
   makes_dead_pass new tagged moved e =
       makes_pass here new m n (Ok None) refl refl (record {
         answer = inl is_none;
@@ -482,7 +529,8 @@ module _ (d : Dfa) (q : Search) (old mid : CacheValue) (m1 m n1 n id : ℕ) (mad
         free = λ l. (still, refl, refl, is_none);
         determinized = omega arith;
         inserted = omega arith;
-        anew = inl (e ∙ ap (told_behind d.nfa.automaton.reverse (span_len q) (told_of here)) (sym nothing.1), (grows_moved d here new still).clears);
+        anew = inl (e ∙ ap (told_behind d.nfa.automaton.reverse (span_len q) (told_of here)) (sym nothing.1),
+            (grows_moved d here new still).clears);
       })
     where
       still : IsMoved here new
@@ -492,20 +540,25 @@ module _ (d : Dfa) (q : Search) (old mid : CacheValue) (m1 m n1 n id : ℕ) (mad
       gone = dead_named mid id first mine.shape tagged start.start.1
 
       nothing : (rest ≡ found None) × (units ≡ 0)
-      nothing = ends_dead (reader d) q.earliest q.haystack from first 0 (suc (span_len q)) None (omega arith) (λ k l. absurd (omega (arith, l))) (λ k l. absurd (omega (arith, l))) gone
+      nothing = ends_dead (reader d) q.earliest q.haystack from first 0 (suc (span_len q)) None (omega arith)
+          (λ k l. absurd (omega (arith, l))) (λ k l. absurd (omega (arith, l))) gone
 
       is_none : Ok None ≡ told rest
       is_none = sym (ap told nothing.0)
 
   -- the same in words of code that knows in which direction it reads
   module _ (is_reverse : Bool) (is : is_reverse ≡ d.nfa.automaton.reverse) (new : CacheValue) where
-    pub goes_dead : has_tag dead_tag id ≡ true → IsMoved mid new → told_of new ≡ told_behind is_reverse (span_len q) (told_begun is_reverse q (told_of mid)) 0 → MakesPass d q old new m1 m n1 n (Ok None)
+    pub goes_dead : has_tag dead_tag id ≡ true → IsMoved mid new → told_of new ≡ told_behind is_reverse (span_len q)
+        (told_begun is_reverse q (told_of mid)) 0 → MakesPass d q old new m1 m n1 n (Ok None)
     goes_dead tagged moved e =
-        makes_dead_pass new tagged moved (subst (λ (b : Bool). told_of new ≡ told_behind b (span_len q) (told_begun b q (told_of mid)) 0) is e)
+        makes_dead_pass new tagged moved (subst (λ (b : Bool). told_of new ≡ told_behind b (span_len q) (told_begun b q (told_of mid)) 0) is
+            e)
 
-    pub goes_further : (here : CacheValue) (m2 n2 : ℕ) (result : Result (Option HalfFound) MatchErrorKind) → has_tag dead_tag id ≡ false → IsMoved mid here →
+    pub goes_further : (here : CacheValue) (m2 n2 : ℕ) (result : Result (Option HalfFound) MatchErrorKind) → has_tag dead_tag id ≡ false →
+        IsMoved mid here →
         told_of here ≡ told_begun is_reverse q (told_of mid) →
-        ((s : StateValue) → HeldAt here id s → RunsOn d q s (point here m n (first_place is_reverse q.start q.end) id None) new m2 n2 result) →
+        ((s : StateValue) → HeldAt here id s → RunsOn d q s (point here m n (first_place is_reverse q.start q.end) id None) new m2 n2
+            result) →
         MakesPass d q old new m1 m2 n1 n2 result
     goes_further here m2 n2 result untagged moved e runs =
         makes_pass here new m2 n2 result moved (subst (λ (b : Bool). told_of here ≡ told_begun b q (told_of mid)) is e)

@@ -58,7 +58,8 @@ pub record CutAt (is_reverse quits : Bool) (n i k : ℕ) (new : Told) : Type 0 w
   pub told : new ≡ cut_left is_reverse quits n i from k (index_at is_reverse (place_of is_reverse i byte))
 
 -- one that is refused
-pub data FailsAnew (r : Reader) (mode : Anchored) (earliest : Bool) (h : List ℕ) (p : ℕ × ℕ) (e : MatchErrorKind) (new : Told) : Type 0 where
+pub data FailsAnew (r : Reader) (mode : Anchored) (earliest : Bool) (h : List ℕ) (p : ℕ ×
+    ℕ) (e : MatchErrorKind) (new : Told) : Type 0 where
   fails_first : (s : Told) → IsFresh s → LeavesPass r mode earliest h p e s new → FailsAnew r mode earliest h p e new
   fails_inside : (k : ℕ) → k < pass_len r mode earliest h p.0 p.1 → IsRefusedAt r.automaton.reverse p.0 p.1 k e →
       CutAt r.automaton.reverse (is_quit_error e) p.0 p.1 k new → FailsAnew r mode earliest h p e new
@@ -77,7 +78,8 @@ pub record ToldSince (r : Reader) (q : Search) (ps : List (ℕ × ℕ)) (new : T
 
 -- a half search is refused in a pass behind that one, or in the pass in which the cache was cleared last
 pub data FailsSince (r : Reader) (q : Search) (e : MatchErrorKind) (new : Told) : Type 0 where
-  fails_later : (done behind : List (ℕ × ℕ)) (refused : ℕ × ℕ) (t : Told) → passes_of r q ≡ done ++ refused ∷ behind → ToldSince r q done t →
+  fails_later : (done behind : List (ℕ × ℕ)) (refused : ℕ × ℕ) (t : Told) → passes_of r q ≡ done ++ refused ∷ behind →
+      ToldSince r q done t →
       LeavesPass r q.anchored q.earliest q.haystack refused e t new → FailsSince r q e new
   fails_there : (done behind : List (ℕ × ℕ)) (refused : ℕ × ℕ) → passes_of r q ≡ done ++ refused ∷ behind →
       FailsAnew r q.anchored q.earliest q.haystack refused e new → FailsSince r q e new

@@ -20,7 +20,8 @@ quits_of n o = quit_bytes n.automaton (word_boundary_of o) (by_hand o)
 
 -- the class of a byte: by the marks of the NFA and of the quit bytes, or a class of its own
 abbrev pub class_in : Nfa → Options → ℕ → ℕ
-class_in n o b = if classes_on o then marks_below (recorded (marks_of n.terminator n.automaton.states) (ranges_from (quits_of n o) 0)) b else b
+class_in n o b = if classes_on o then marks_below (recorded (marks_of n.terminator n.automaton.states) (ranges_from (quits_of n o) 0)) b
+    else b
 
 unfoldable pub classes_of : Nfa → Options → List ℕ
 classes_of n o = map (class_in n o) (range_with_len 0 256)

@@ -1,5 +1,6 @@
 -- What contracts see of a cache, and how it belongs to an automaton.
-use Rattle.std.specs.Prelude.{◌≡◌, ◌≢◌, ◌<◌, ◌≤◌, ◌+◌, ◌-◌, ◌*◌, ℕ, Bool, true, false, List, [], ◌∷◌, ◌++◌, length, Option, Some, None, slice_index_or, take, replicate, min, not, nat_le, ◌&&◌, is_none}
+use Rattle.std.specs.Prelude.{◌≡◌, ◌≢◌, ◌<◌, ◌≤◌, ◌+◌, ◌-◌, ◌*◌, ℕ, Bool, true, false, List, [], ◌∷◌, ◌++◌, length, Option, Some, None}
+use Rattle.std.specs.Prelude.{slice_index_or, take, replicate, min, not, nat_le, ◌&&◌, is_none}
 use Rattle.std.specs.List.{position_from}
 use Rattle.std.specs.Str.{bytes_eq}
 use Rattle.std.specs.HashMap.{HashMap, get_by}
@@ -179,7 +180,8 @@ is_refused (Some least) bytes v = nat_le least v.clears && not (pays_off bytes v
 
 -- whether a state isn't held, doesn't fit, and no room may be made for it
 abbrev pub lacks_room : Dfa → CacheValue → StateValue → Bool
-lacks_room d v s = not (is_dead s) && (is_none (place_of s v.states) && (not (fits d.capacity s v) && is_refused (clears_of d.options) (bytes_of d.options) v))
+lacks_room d v s = not (is_dead s) && (is_none (place_of s v.states) && (not (fits d.capacity s v)
+    && is_refused (clears_of d.options) (bytes_of d.options) v))
 
 -- ---- the cache of an automaton
 

@@ -1,5 +1,6 @@
 -- What contracts see of an automaton that is determinized as it is used, and what each such automaton keeps to.
-use Rattle.std.specs.Prelude.{◌≡◌, ◌<◌, ◌≤◌, ◌+◌, ℕ, Bool, true, false, List, length, Option, Some, None, slice_index, slice_get, zero, suc, ⊤, [], ◌∷◌, ◌&&◌, ◌==◌, not}
+use Rattle.std.specs.Prelude.{◌≡◌, ◌<◌, ◌≤◌, ◌+◌, ℕ, Bool, true, false, List, length, Option, Some, None, slice_index, slice_get, zero, suc}
+use Rattle.std.specs.Prelude.{⊤, [], ◌∷◌, ◌&&◌, ◌==◌, not}
 use Rattle.nfa_core.specs.NfaValue.{Nfa, IsSound}
 use Rattle.determinize_core.specs.States.{StateValue}
 use Rattle.determinize_core.specs.StateBytes.{encoded}

@@ -1,8 +1,10 @@
 -- How far a half search came that was refused, where nothing was cleared.
-use Rattle.std.specs.Prelude.{◌≡◌, ⊤, ℕ, suc, ◌+◌, ◌<◌, ◌≤◌, ◌==◌, ◌&&◌, nat_lt, min, Bool, true, false, List, ◌∷◌, ◌++◌, Some, None, if◌then◌else◌}
+use Rattle.std.specs.Prelude.{◌≡◌, ⊤, ℕ, suc, ◌+◌, ◌<◌, ◌≤◌, ◌==◌, ◌&&◌, nat_lt, min, Bool, true, false, List, ◌∷◌, ◌++◌, Some, None}
+use Rattle.std.specs.Prelude.{if◌then◌else◌}
 use Rattle.search_types.specs.declared.anchored.Anchored.{Anchored}
 use Rattle.search_types.specs.declared.match_error.MatchErrorKind.{MatchErrorKind}
-use Rattle.search_types.specs.declared.match_error.MatchErrorKind.TheVariants.{Quit, GaveUp, HaystackTooLong, UnsupportedAnchored, NotAPair, NoMemory}
+use Rattle.search_types.specs.declared.match_error.MatchErrorKind.TheVariants.{Quit, GaveUp, HaystackTooLong, UnsupportedAnchored, NotAPair}
+use Rattle.search_types.specs.declared.match_error.MatchErrorKind.TheVariants.{NoMemory}
 use Rattle.search_types.specs.Inputs.{Search}
 use Rattle.nfa_core.specs.Ways.{place_of}
 use Rattle.lazy_dfa.specs.Caches.{greatest, progress_len, moved_to}
@@ -78,10 +80,12 @@ IsRefusedAt is_reverse n i k NoMemory = ⊤
 -- ---- what searches leave
 
 -- a pass over so many bytes from a place is refused at its start, where it has told nothing, or at a unit that it reads
-pub data LeavesPass (r : Reader) (mode : Anchored) (earliest : Bool) (h : List ℕ) (p : ℕ × ℕ) (e : MatchErrorKind) (t new : Told) : Type 0 where
+pub data LeavesPass (r : Reader) (mode : Anchored) (earliest : Bool) (h : List ℕ) (p : ℕ ×
+    ℕ) (e : MatchErrorKind) (t new : Told) : Type 0 where
   left_first : IsRefusedFirst r.automaton.reverse p.1 e → new ≡ t → LeavesPass r mode earliest h p e t new
   left_at_unit : (k : ℕ) → k < pass_len r mode earliest h p.0 p.1 → IsRefusedAt r.automaton.reverse p.0 p.1 k e →
-      LeftAt r.automaton.reverse (is_quit_error e) p.0 p.1 k (told_from r.automaton.reverse p t) new → LeavesPass r mode earliest h p e t new
+      LeftAt r.automaton.reverse (is_quit_error e) p.0 p.1 k (told_from r.automaton.reverse p t) new →
+          LeavesPass r mode earliest h p e t new
 
 -- of the passes of a half search one is refused, and those before it have told all that they do
 pub record LeavesTold (r : Reader) (q : Search) (e : MatchErrorKind) (t new : Told) : Type 0 where

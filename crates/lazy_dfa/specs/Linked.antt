@@ -1,5 +1,6 @@
 -- What is known of the steps of a search before it begins, and what calls leave of that.
-use Rattle.std.specs.Prelude.{◌≡◌, ◌≢◌, ◌⊎◌, ℕ, zero, suc, ◌+◌, ◌-◌, ◌<◌, ◌≤◌, Bool, min, List, [], ◌∷◌, Option, Some, None, if◌then◌else◌, nat_le, All, slice_index_or}
+use Rattle.std.specs.Prelude.{◌≡◌, ◌≢◌, ◌⊎◌, ℕ, zero, suc, ◌+◌, ◌-◌, ◌<◌, ◌≤◌, Bool, min, List, [], ◌∷◌, Option, Some, None, if◌then◌else◌}
+use Rattle.std.specs.Prelude.{nat_le, All, slice_index_or}
 use Rattle.determinize_core.specs.States.{StateValue}
 use Rattle.determinize_core.specs.Starts.{StartValue}
 use Rattle.determinize_core.specs.Steps.{unit_behind}
@@ -40,7 +41,8 @@ start_from r mode h i = record { look_behind = unit_behind r.automaton.reverse h
 -- The path of a pass from place i over n bytes is known: its start, and each step on the units that it reads. It has none
 -- where its start is refused, and where there is no such pattern.
 abbrev pub IsLinkedPass : Dfa → CacheValue → Anchored → Bool → List ℕ → ℕ → ℕ → Type 0
-IsLinkedPass d v mode earliest h n i = (q : ℕ) → start_refusal d (start_from (reader d) mode h i) ≡ None → start_in d (mode_of mode) ≡ Some q →
+IsLinkedPass d v mode earliest h n i = (q : ℕ) → start_refusal d (start_from (reader d) mode h i) ≡ None →
+    start_in d (mode_of mode) ≡ Some q →
     IsLinkedOver d v h i (start_noted d v (start_from (reader d) mode h i)) (pass_len (reader d) mode earliest h n i)
 
 -- ---- the passes of a search
@@ -49,7 +51,8 @@ IsLinkedPass d v mode earliest h n i = (q : ℕ) → start_refusal d (start_from
 abbrev pub passes_on : Reader → Anchored → Bool → List ℕ → ℕ → ℕ → List (ℕ × ℕ)
 passes_on r mode earliest h zero i = (zero, i) ∷ []
 passes_on r mode earliest h (suc n) i = (suc n, i) ∷
-    (if splits (counts r.between_characters h) (pass r mode earliest h (suc n) i) then passes_on r mode earliest h n (next_place r i) else [])
+    (if splits (counts r.between_characters h) (pass r mode earliest h (suc n) i) then passes_on r mode earliest h n (next_place r i)
+        else [])
 
 -- those of a half search
 abbrev pub passes_of : Reader → Search → List (ℕ × ℕ)

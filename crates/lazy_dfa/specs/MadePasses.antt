@@ -23,7 +23,8 @@ abbrev pub span_len : Search → ℕ
 span_len q = q.end - q.start
 
 -- How far a pass came, by its answer: as it does where nothing is cleared, or by where its search began anew.
-abbrev pub IsPassTold : Reader → Anchored → Bool → List ℕ → ℕ × ℕ → Result (Option HalfFound) MatchErrorKind → CacheValue → CacheValue → Type 0
+abbrev pub IsPassTold : Reader → Anchored → Bool → List ℕ → ℕ × ℕ → Result (Option HalfFound) MatchErrorKind → CacheValue → CacheValue →
+    Type 0
 IsPassTold r mode earliest h p (Ok found) old new =
     ((told_of new ≡ told_by_pass r mode earliest h (told_of old) p) × (new.clears ≡ old.clears)) ⊎
     (HasCleared old new × TellsAnew r mode earliest h p (told_of new))
@@ -34,28 +35,35 @@ IsPassTold r mode earliest h p (Err e) old new =
 -- and a half search
 abbrev pub IsSearchTold : Reader → Search → Result (Option HalfFound) MatchErrorKind → CacheValue → CacheValue → Type 0
 IsSearchTold r q (Ok found) old new =
-    ((told_of new ≡ told_by r q (told_of old) (passes_of r q)) × (new.clears ≡ old.clears)) ⊎ (HasCleared old new × ToldSince r q (passes_of r q) (told_of new))
+    ((told_of new ≡ told_by r q (told_of old) (passes_of r q)) × (new.clears ≡ old.clears)) ⊎
+        (HasCleared old new × ToldSince r q (passes_of r q) (told_of new))
 IsSearchTold r q (Err e) old new =
     (LeavesTold r q e (told_of old) (told_of new) × (new.clears ≡ old.clears)) ⊎ (HasCleared old new × FailsSince r q e (told_of new))
 
 -- one pass of a search over its whole span
-pub record MakesPass (d : Dfa) (q : Search) (old new : CacheValue) (m1 m2 n1 n2 : ℕ) (result : Result (Option HalfFound) MatchErrorKind) : Type 0 where
-  pub answer : (result ≡ told (pass (reader d) q.anchored q.earliest q.haystack (span_len q) (begins_at (reader d) q))) ⊎ (result ≡ Err NoMemory) ⊎
+pub record MakesPass (d : Dfa) (q : Search) (old new : CacheValue) (m1 m2 n1 n2 : ℕ)
+    (result : Result (Option HalfFound) MatchErrorKind) : Type 0 where
+  pub answer : (result ≡ told (pass (reader d) q.anchored q.earliest q.haystack (span_len q) (begins_at (reader d) q))) ⊎
+      (result ≡ Err NoMemory) ⊎
       ((x : ℕ) × (result ≡ Err (GaveUp x)) × GivesUpIn d new q.anchored q.earliest q.haystack (span_len q) (begins_at (reader d) q) x)
   pub kept : GrowsOrClears d old new
   pub follows : OnOk result ((Grows d old new × IsLinkedPass d new q.anchored q.earliest q.haystack (span_len q) (begins_at (reader d) q) ×
-      (told_of new ≡ told_by_pass (reader d) q.anchored q.earliest q.haystack (told_of old) (span_len q, begins_at (reader d) q))) ⊎ HasCleared old new)
+      (told_of new ≡ told_by_pass (reader d) q.anchored q.earliest q.haystack (told_of old) (span_len q, begins_at (reader d) q))) ⊎
+          HasCleared old new)
   pub free : IsLinkedPass d old q.anchored q.earliest q.haystack (span_len q) (begins_at (reader d) q) →
-      IsMoved old new × (m2 ≡ m1) × (n2 ≡ n1) × (result ≡ told (pass (reader d) q.anchored q.earliest q.haystack (span_len q) (begins_at (reader d) q)))
+      IsMoved old new × (m2 ≡ m1) × (n2 ≡ n1) × (result ≡ told (pass (reader d) q.anchored q.earliest q.haystack (span_len q)
+          (begins_at (reader d) q)))
   pub determinized : m2 ≤ m1 + suc (pass_len (reader d) q.anchored q.earliest q.haystack (span_len q) (begins_at (reader d) q))
   pub inserted : n2 ≤ n1 + suc (pass_len (reader d) q.anchored q.earliest q.haystack (span_len q) (begins_at (reader d) q)) * most_inserts d
   pub anew : IsPassTold (reader d) q.anchored q.earliest q.haystack (span_len q, begins_at (reader d) q) result old new
 
 -- a half search with its restarts
-pub record MakesSearch (d : Dfa) (q : Search) (old new : CacheValue) (m1 m2 n1 n2 : ℕ) (result : Result (Option HalfFound) MatchErrorKind) : Type 0 where
+pub record MakesSearch (d : Dfa) (q : Search) (old new : CacheValue) (m1 m2 n1 n2 : ℕ)
+    (result : Result (Option HalfFound) MatchErrorKind) : Type 0 where
   pub answer : Answers d new q result
   pub kept : GrowsOrClears d old new
-  pub follows : OnOk result ((Grows d old new × IsLinked d new q × (told_of new ≡ told_by (reader d) q (told_of old) (passes_of (reader d) q))) ⊎ HasCleared old new)
+  pub follows : OnOk result ((Grows d old new × IsLinked d new q × (told_of new ≡ told_by (reader d) q (told_of old)
+      (passes_of (reader d) q))) ⊎ HasCleared old new)
   pub free : IsLinked d old q → IsMoved old new × (m2 ≡ m1) × (n2 ≡ n1) × (result ≡ told (scan (reader d) q))
   pub determinized : m2 ≤ m1 + made_by (reader d) q (passes_of (reader d) q)
   pub inserted : n2 ≤ n1 + made_by (reader d) q (passes_of (reader d) q) * most_inserts d

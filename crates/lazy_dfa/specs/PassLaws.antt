@@ -1,5 +1,6 @@
 -- What the laws of passes speak of: the units that a pass reads, quit bytes among them, and the last and the nearest end.
-use Rattle.std.specs.Prelude.{◌≡◌, ℕ, zero, suc, ◌-◌, ◌<◌, ◌&&◌, not, nat_lt, Bool, true, false, List, [], Option, Some, None, if◌then◌else◌}
+use Rattle.std.specs.Prelude.{◌≡◌, ℕ, zero, suc, ◌-◌, ◌<◌, ◌&&◌, not, nat_lt, Bool, true, false, List, [], Option, Some, None}
+use Rattle.std.specs.Prelude.{if◌then◌else◌}
 use Rattle.std.specs.List.{filter}
 use Rattle.std.specs.Bool.{nat_eq}
 use Rattle.search_core.specs.ByteSets.{has}

@@ -1,12 +1,14 @@
 -- Where a pass stands in its span, turn by turn, and how it ends.
-use Rattle.std.specs.Prelude.{◌≡◌, ◌≢◌, ◌⊎◌, ℕ, suc, ◌+◌, ◌-◌, ◌*◌, ◌<◌, ◌≤◌, ◌==◌, ◌&&◌, not, nat_le, min, Bool, true, false, List, Option, Some, None, Result, Ok, Err, IfOk, IfErr, OnOk, if◌then◌else◌}
+use Rattle.std.specs.Prelude.{◌≡◌, ◌≢◌, ◌⊎◌, ℕ, suc, ◌+◌, ◌-◌, ◌*◌, ◌<◌, ◌≤◌, ◌==◌, ◌&&◌, not, nat_le, min, Bool, true, false, List, Option}
+use Rattle.std.specs.Prelude.{Some, None, Result, Ok, Err, IfOk, IfErr, OnOk, if◌then◌else◌}
 use Rattle.search_core.specs.ByteSets.{has}
 use Rattle.nfa_core.specs.Ways.{place_of}
 use Rattle.determinize_core.specs.States.{StateValue}
 use Rattle.determinize_core.specs.Starts.{StartValue}
 use Rattle.determinize_core.specs.Steps.{unit_at}
 use Rattle.search_types.specs.declared.match_error.MatchErrorKind.{MatchErrorKind}
-use Rattle.search_types.specs.declared.match_error.MatchErrorKind.TheVariants.{Quit, GaveUp, HaystackTooLong, UnsupportedAnchored, NotAPair, NoMemory}
+use Rattle.search_types.specs.declared.match_error.MatchErrorKind.TheVariants.{Quit, GaveUp, HaystackTooLong, UnsupportedAnchored, NotAPair}
+use Rattle.search_types.specs.declared.match_error.MatchErrorKind.TheVariants.{NoMemory}
 use Rattle.search_types.specs.Found.{HalfFound}
 use Rattle.search_types.specs.Inputs.{Search}
 use Rattle.lazy_dfa.specs.AnewTold.{anew_if, cut_told, IsFresh, CutAt}
@@ -66,13 +68,15 @@ BeganFirst is_reverse q v = tells is_reverse q ≡ true → began v.progress ≡
 
 -- it has just begun
 abbrev pub BeginsFirst : Bool → Search → CacheValue → Type 0
-BeginsFirst is_reverse q v = tells is_reverse q ≡ true → v.progress ≡ Some (record { start = first_index is_reverse q; at = first_index is_reverse q })
+BeginsFirst is_reverse q v = tells is_reverse q ≡ true → v.progress ≡ Some (record { start = first_index is_reverse q;
+    at = first_index is_reverse q })
 
 -- what a cache keeps of that when a pass has told it where it begins
 abbrev pub told_begun : Bool → Search → Told → Told
 told_begun is_reverse q t =
     if tells is_reverse q
-    then record { searched = min (t.searched + progress_len t.progress) greatest; progress = Some (record { start = first_index is_reverse q; at = first_index is_reverse q }) }
+    then record { searched = min (t.searched + progress_len t.progress) greatest;
+        progress = Some (record { start = first_index is_reverse q; at = first_index is_reverse q }) }
     else t
 
 -- the search that goes on ends at this place, and its length is added; or only where that is wanted
@@ -151,7 +155,8 @@ TurnsInto d q from new m n position false =
 abbrev pub TurnsTo : Dfa → Search → Point → CacheValue → ℕ → ℕ → Result Turned MatchErrorKind → Type 0
 TurnsTo d q from new m n (Ok turned) = TurnsInto d q from new m n turned.position turned.has_ended
 TurnsTo d q from new m n (Err (Quit b x)) = Leaves d q.haystack from new m n 0 ×
-    (unit_at d.nfa.automaton.reverse q.haystack from.at ≡ Some b) × (has d.quits b ≡ true) × (x ≡ index_at d.nfa.automaton.reverse from.at) ×
+    (unit_at d.nfa.automaton.reverse q.haystack from.at ≡ Some b) × (has d.quits b ≡ true) ×
+        (x ≡ index_at d.nfa.automaton.reverse from.at) ×
     TellsTurn d true false q from.at from.cache new
 TurnsTo d q from new m n (Err (GaveUp x)) = FailsOn d q.haystack from new m n 0 ×
     (is_quit d.quits (unit_at d.nfa.automaton.reverse q.haystack from.at) ≡ false) × (x ≡ gave_up_at d.nfa.automaton.reverse q from.at) ×
@@ -166,36 +171,45 @@ TurnsTo d q from new m n (Err NotAPair) = ⊥
 
 -- how far the rest of a pass came where the cache was cleared on the way: its search began anew, or it tells nothing
 pub data RestAnew (is_reverse : Bool) (q : Search) (units : ℕ) (new : Told) : Type 0 where
-  rest_inside : (a : ℕ) → a ≤ pass_distance is_reverse (span_len q) units → new ≡ cut_told is_reverse (span_len q) a units → RestAnew is_reverse q units new
+  rest_inside : (a : ℕ) → a ≤ pass_distance is_reverse (span_len q) units → new ≡ cut_told is_reverse (span_len q) a units →
+      RestAnew is_reverse q units new
   rest_untold : tells is_reverse q ≡ false → IsFresh new → RestAnew is_reverse q units new
 
 -- the same of one that was refused at unit k
 pub data RestFails (is_reverse quits : Bool) (q : Search) (i k : ℕ) (new : Told) : Type 0 where
   fails_at : CutAt is_reverse quits (span_len q) i k new → RestFails is_reverse quits q i k new
-  fails_untold : tells is_reverse q ≡ false → IsFresh new → LeftAt is_reverse quits (span_len q) i k new new → RestFails is_reverse quits q i k new
+  fails_untold : tells is_reverse q ≡ false → IsFresh new → LeftAt is_reverse quits (span_len q) i k new new →
+      RestFails is_reverse quits q i k new
 
 -- one or the other, by what the rest of a pass answers
 abbrev pub IsRestTold : Dfa → Search → StateValue → ℕ → Result (Option HalfFound) MatchErrorKind → CacheValue → CacheValue → Type 0
 IsRestTold d q s i (Ok found) old new =
-    ((told_of new ≡ told_behind d.nfa.automaton.reverse (span_len q) (told_of old) (units_read (reader d) q.earliest q.haystack (suc (span_len q)) i s)) ×
-    (new.clears ≡ old.clears)) ⊎ (HasCleared old new × RestAnew d.nfa.automaton.reverse q (units_read (reader d) q.earliest q.haystack (suc (span_len q)) i s) (told_of new))
+    ((told_of new ≡ told_behind d.nfa.automaton.reverse (span_len q) (told_of old)
+        (units_read (reader d) q.earliest q.haystack (suc (span_len q)) i s)) ×
+    (new.clears ≡ old.clears)) ⊎ (HasCleared old new × RestAnew d.nfa.automaton.reverse q
+        (units_read (reader d) q.earliest q.haystack (suc (span_len q)) i s) (told_of new))
 IsRestTold d q s i (Err e) old new =
-    (k : ℕ) × (k < units_read (reader d) q.earliest q.haystack (suc (span_len q)) i s) × IsRefusedAt d.nfa.automaton.reverse (span_len q) i k e ×
+    (k : ℕ) × (k < units_read (reader d) q.earliest q.haystack (suc (span_len q)) i s) ×
+        IsRefusedAt d.nfa.automaton.reverse (span_len q) i k e ×
     ((LeftAt d.nfa.automaton.reverse (is_quit_error e) (span_len q) i k (told_of old) (told_of new) × (new.clears ≡ old.clears)) ⊎
     (HasCleared old new × RestFails d.nfa.automaton.reverse (is_quit_error e) q i k (told_of new)))
 
 -- The rest of a pass from its first place in state s, through all units that are left.
-pub record RunsOn (d : Dfa) (q : Search) (s : StateValue) (from : Point) (new : CacheValue) (m n : ℕ) (result : Result (Option HalfFound) MatchErrorKind) : Type 0 where
+pub record RunsOn (d : Dfa) (q : Search) (s : StateValue) (from : Point) (new : CacheValue) (m n : ℕ)
+    (result : Result (Option HalfFound) MatchErrorKind) : Type 0 where
   pub answer : (result ≡ told (pass_from (reader d) q.earliest q.haystack (suc (span_len q)) from.at s None)) ⊎ (result ≡ Err NoMemory) ⊎
       ((x k : ℕ) × (result ≡ Err (GaveUp x)) × (k < units_read (reader d) q.earliest q.haystack (suc (span_len q)) from.at s) ×
-      (x ≡ give_up_place d.nfa.automaton.reverse (span_len q) from.at k) × (lacks_room d new (state_behind (reader d) q.haystack from.at s (suc k)) ≡ true) ×
+      (x ≡ give_up_place d.nfa.automaton.reverse (span_len q) from.at k) ×
+          (lacks_room d new (state_behind (reader d) q.haystack from.at s (suc k)) ≡ true) ×
       (k < span_len q → running_at new.progress ≡ Some x))
   pub kept : GrowsOrClears d from.cache new
   pub follows : OnOk result ((Grows d from.cache new ×
       IsLinkedOver d new q.haystack from.at from.id (units_read (reader d) q.earliest q.haystack (suc (span_len q)) from.at s) ×
-      (told_of new ≡ told_behind d.nfa.automaton.reverse (span_len q) (told_of from.cache) (units_read (reader d) q.earliest q.haystack (suc (span_len q)) from.at s))) ⊎
+      (told_of new ≡ told_behind d.nfa.automaton.reverse (span_len q) (told_of from.cache)
+          (units_read (reader d) q.earliest q.haystack (suc (span_len q)) from.at s))) ⊎
       HasCleared from.cache new)
-  pub free : IsLinkedOver d from.cache q.haystack from.at from.id (units_read (reader d) q.earliest q.haystack (suc (span_len q)) from.at s) →
+  pub free : IsLinkedOver d from.cache q.haystack from.at from.id (units_read (reader d) q.earliest q.haystack
+      (suc (span_len q)) from.at s) →
       IsMoved from.cache new × (m ≡ from.determinized) × (n ≡ from.inserted) ×
       (result ≡ told (pass_from (reader d) q.earliest q.haystack (suc (span_len q)) from.at s None))
   pub determinized : m ≤ from.determinized + units_read (reader d) q.earliest q.haystack (suc (span_len q)) from.at s
@@ -210,10 +224,12 @@ pass_start d q = start_from (reader d) q.anchored q.haystack (begins_at (reader 
 
 -- what it is told of its start: the ID of its first state, or why there is none
 pub record StartsPass (d : Dfa) (q : Search) (old new : CacheValue) (m1 m2 n1 n2 : ℕ) (r : Result ℕ MatchErrorKind) : Type 0 where
-  pub start : IfOk r (λ id. (start_refusal d (pass_start d q) ≡ None) × Names new id (first_value (reader d) q.anchored q.haystack (begins_at (reader d) q)))
+  pub start : IfOk r (λ id. (start_refusal d (pass_start d q) ≡ None) ×
+      Names new id (first_value (reader d) q.anchored q.haystack (begins_at (reader d) q)))
   pub err : IfErr r (λ e. ((start_refusal d (pass_start d q) ≢ None) ×
       (Err e ≡ told (pass (reader d) q.anchored q.earliest q.haystack (span_len q) (begins_at (reader d) q)))) ⊎ (e ≡ NoMemory) ⊎
-      ((e ≡ GaveUp (begins_at (reader d) q)) × (lacks_room d new (first_value (reader d) q.anchored q.haystack (begins_at (reader d) q)) ≡ true)))
+      ((e ≡ GaveUp (begins_at (reader d) q)) × (lacks_room d new (first_value (reader d) q.anchored q.haystack (begins_at (reader d) q)) ≡
+          true)))
   pub kept : Grew d old new ⊎ WasCleared old new 1
   pub noted : IfOk r (λ id. (p : ℕ) → start_in d (mode_of q.anchored) ≡ Some p → start_noted d new (pass_start d q) ≡ id)
   pub known : (p : ℕ) → start_refusal d (pass_start d q) ≡ None → start_in d (mode_of q.anchored) ≡ Some p →

@@ -1,5 +1,6 @@
 -- What half searches over a cache answer, and what they tell of how far they came.
-use Rattle.std.specs.Prelude.{◌≡◌, ◌⊎◌, ℕ, suc, ◌+◌, ◌-◌, ◌<◌, ◌≤◌, ◌==◌, ◌&&◌, Bool, true, false, min, List, [], ◌∷◌, length, Option, Some, None, Result, Ok, Err, if◌then◌else◌, nat_lt}
+use Rattle.std.specs.Prelude.{◌≡◌, ◌⊎◌, ℕ, suc, ◌+◌, ◌-◌, ◌<◌, ◌≤◌, ◌==◌, ◌&&◌, Bool, true, false, min, List, [], ◌∷◌, length, Option, Some}
+use Rattle.std.specs.Prelude.{None, Result, Ok, Err, if◌then◌else◌, nat_lt}
 use Rattle.std.specs.List.{list_any}
 use Rattle.search_core.specs.Text.{byte_at}
 use Rattle.look_core.specs.declared.look.Look.{Look}
@@ -54,7 +55,8 @@ running_at (Some p) = Some p.at
 pub data GivesUpIn (d : Dfa) (v : CacheValue) (mode : Anchored) (earliest : Bool) (h : List ℕ) (n i x : ℕ) : Type 0 where
   at_start : x ≡ i → lacks_room d v (first_value (reader d) mode h i) ≡ true → GivesUpIn d v mode earliest h n i x
   at_unit : (k : ℕ) → k < pass_len (reader d) mode earliest h n i → x ≡ give_up_place d.nfa.automaton.reverse n i k →
-      lacks_room d v (state_behind (reader d) h i (first_value (reader d) mode h i) (suc k)) ≡ true → (k < n → running_at v.progress ≡ Some x) →
+      lacks_room d v (state_behind (reader d) h i (first_value (reader d) mode h i) (suc k)) ≡ true →
+          (k < n → running_at v.progress ≡ Some x) →
       GivesUpIn d v mode earliest h n i x
 
 -- of these passes one gave up
@@ -87,7 +89,8 @@ pass_distance true n units = min (units - 1) (n - 1)
 abbrev pub told_by_pass : Reader → Anchored → Bool → List ℕ → Told → ℕ × ℕ → Told
 told_by_pass r mode earliest h t p =
     if r.automaton.reverse && p.0 == 0 then t else record {
-      searched = min (t.searched + progress_len t.progress + pass_distance r.automaton.reverse p.0 (pass_len r mode earliest h p.0 p.1)) greatest;
+      searched = min (t.searched + progress_len t.progress + pass_distance r.automaton.reverse p.0 (pass_len r mode earliest h p.0 p.1))
+          greatest;
       progress = None;
     }
 
@@ -120,7 +123,8 @@ pub record IsReachOf (r : Reader) (q : Search) (o : Option (ℕ × ℕ)) (end : 
   pub quiet : (x : ℕ) → q.start ≤ x + 1 → x < end → is_quit r.quits (byte_at q.haystack x) ≡ false
   pub local : (g : List ℕ) → q.end ≤ length g → ((x : ℕ) → q.start ≤ x + 1 → x < end → byte_at g x ≡ byte_at q.haystack x) →
       scan r (record q { haystack = g }) ≡ found o
-  pub first : (name : ℕ) (holds : Look → ℕ → Bool) → q.start ≤ q.end → r.kind ≡ LeftmostFirst → q.earliest ≡ false → list_any is_capture r.automaton.states ≡ false →
+  pub first : (name : ℕ) (holds : Look → ℕ → Bool) → q.start ≤ q.end → r.kind ≡ LeftmostFirst → q.earliest ≡ false →
+      list_any is_capture r.automaton.states ≡ false →
       start_name r.automaton q.anchored ≡ Some name → ReadsAlike r holds q.haystack q.start q.end (begins_at r q) (end - begins_at r q) →
       IsFirstFound r q holds name o
 

@@ -3,7 +3,9 @@ use Rattle.std.specs.Prelude.{◌≡◌, ℕ, MatchOption, None, Result, Err, If
 use Rattle.search_core.specs.Text.{byte_at, byte_before}
 use Rattle.search_types.specs.Inputs.{Search}
 use Rattle.search_types.specs.declared.match_error.MatchErrorKind.{MatchErrorKind}
-use Rattle.search_types.specs.declared.match_error.MatchErrorKind.TheVariants.{Quit as SearchQuit, GaveUp as SearchGaveUp, UnsupportedAnchored as SearchUnsupportedAnchored, NoMemory as SearchNoMemory}
+use Rattle.search_types.specs.declared.match_error.MatchErrorKind.TheVariants.{Quit as SearchQuit, GaveUp as SearchGaveUp}
+use Rattle.search_types.specs.declared.match_error.MatchErrorKind.TheVariants.{UnsupportedAnchored as SearchUnsupportedAnchored}
+use Rattle.search_types.specs.declared.match_error.MatchErrorKind.TheVariants.{NoMemory as SearchNoMemory}
 use Rattle.determinize_core.specs.Starts.{StartValue}
 use Rattle.lazy_dfa.specs.Caches.{CacheValue}
 use Rattle.lazy_dfa.specs.Dfas.{Dfa}
@@ -26,7 +28,8 @@ error_at quit_place place (UnsupportedAnchored mode) = SearchUnsupportedAnchored
 error_at quit_place place NoMemory = SearchNoMemory
 
 -- what a start answers: the refusal that it has whatever the cache holds, or the state, or why that isn't told
-pub record AnswersStart (d : Dfa) (old new : CacheValue) (c : StartValue) (quit_place place : ℕ) (r : Result ℕ MatchErrorKind) : Type 0 where
+pub record AnswersStart (d : Dfa) (old new : CacheValue) (c : StartValue) (quit_place place : ℕ)
+    (r : Result ℕ MatchErrorKind) : Type 0 where
   pub refused : MatchOption (start_refusal d c) ⊤ (λ e. r ≡ Err (error_at quit_place place e))
   pub start : start_refusal d c ≡ None → IfOk r (λ id. IsStart d new c id)
   pub err : start_refusal d c ≡ None → IfErr r (λ k. (e : StartError) × IsStartCause d old c e × (k ≡ error_at quit_place place e))

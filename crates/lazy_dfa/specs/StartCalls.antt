@@ -1,5 +1,6 @@
 -- What start calls are told, and what they answer.
-use Rattle.std.specs.Prelude.{◌≡◌, ◌≢◌, ◌⊎◌, ◌≤◌, ◌+◌, ◌*◌, ℕ, suc, Bool, true, false, [], ◌∷◌, length, replicate, slice_index_or, slice_set, MatchOption, Option, Some, None, if◌then◌else◌}
+use Rattle.std.specs.Prelude.{◌≡◌, ◌≢◌, ◌⊎◌, ◌≤◌, ◌+◌, ◌*◌, ℕ, suc, Bool, true, false, [], ◌∷◌, length, replicate, slice_index_or}
+use Rattle.std.specs.Prelude.{slice_set, MatchOption, Option, Some, None, if◌then◌else◌}
 use Rattle.search_types.specs.Modes.{is_supported}
 use Rattle.search_types.specs.declared.anchored.Anchored.{Anchored}
 use Rattle.search_types.specs.declared.anchored.Anchored.TheVariants.{No, Yes, Pattern}
@@ -44,7 +45,8 @@ start_error_of CacheNoMemory = NoMemory
 
 -- the ID is that of the state in which the search starts: the dead one for a pattern that there isn't
 abbrev pub IsStart : Dfa → CacheValue → StartValue → ℕ → Type 0
-IsStart d v c id = MatchOption (start_in d (mode_of c.anchored)) (id ≡ dead_id v.stride) (λ q. Names v id (first_state d (start_of d.nfa.terminator c.look_behind) q))
+IsStart d v c id = MatchOption (start_in d (mode_of c.anchored)) (id ≡ dead_id v.stride)
+    (λ q. Names v id (first_state d (start_of d.nfa.terminator c.look_behind) q))
 
 -- ---- what is known of a start
 

@@ -1,11 +1,13 @@
 -- What steps over a cache are told of, what they answer, and what they change.
-use Rattle.std.specs.Prelude.{◌≡◌, ◌≢◌, ◌⊎◌, ◌<◌, ◌≤◌, ◌+◌, ◌*◌, ◌%◌, ℕ, true, false, min, [], ◌∷◌, length, Option, slice_index_or, replicate}
+use Rattle.std.specs.Prelude.{◌≡◌, ◌≢◌, ◌⊎◌, ◌<◌, ◌≤◌, ◌+◌, ◌*◌, ◌%◌, ℕ, true, false, min, [], ◌∷◌, length, Option, slice_index_or}
+use Rattle.std.specs.Prelude.{replicate}
 use Rattle.determinize_core.specs.Costs.{free_ways}
 use Rattle.determinize_core.specs.StateBytes.{is_match}
 use Rattle.determinize_core.specs.States.{StateValue}
 use Rattle.lazy_dfa.specs.Dfas.{Dfa, class_of, after, IsUnit}
 use Rattle.lazy_dfa.specs.Ids.{tag, has_tag, start_tag, tagged, unknown_id, dead_id, quit_id, is_sentinel}
-use Rattle.lazy_dfa.specs.Caches.{CacheValue, IsShaped, IsRow, HeldAt, Names, Leads, id_at, state_at, with_state, cleared, greatest, begun_anew, lacks_room}
+use Rattle.lazy_dfa.specs.Caches.{CacheValue, IsShaped, IsRow, HeldAt, Names, Leads, id_at, state_at, with_state, cleared, greatest}
+use Rattle.lazy_dfa.specs.Caches.{begun_anew, lacks_room}
 use Rattle.lazy_dfa.specs.Readers.{is_quit}
 use Rattle.lazy_dfa.specs.declared.cache_error.CacheError.{CacheError}
 use Rattle.lazy_dfa.specs.declared.cache_error.CacheError.TheVariants.{GaveUp, NoMemory}
@@ -53,7 +55,8 @@ pub record Added (old new : CacheValue) : Type 0 where
   pub shape : IsShaped old
   pub stride : new.stride ≡ old.stride
   pub names : (id : ℕ) (s : StateValue) → Names old id s → Names new id s
-  pub cells : (id c : ℕ) → IsRow old id → c < old.stride → slice_index_or new.cells (id % tag + c) 0 ≡ slice_index_or old.cells (id % tag + c) 0
+  pub cells : (id c : ℕ) → IsRow old id → c < old.stride → slice_index_or new.cells (id % tag + c) 0 ≡ slice_index_or old.cells
+      (id % tag + c) 0
   pub starts : (i : ℕ) → slice_index_or old.starts i 0 ≢ unknown_id → slice_index_or new.starts i 0 ≡ slice_index_or old.starts i 0
   pub clears : new.clears ≡ old.clears
   pub searched : new.searched ≡ old.searched

@@ -1,5 +1,6 @@
 -- One turn of a pass: a step of its cache by a unit, and what the new state says.
-use Rattle.std.specs.Prelude.{◌≡◌, ◌≢◌, ◌⊎◌, ℕ, suc, ◌+◌, ◌*◌, ◌≤◌, ◌&&◌, not, Bool, true, false, List, Option, Some, Result, Ok, Err, IfOk, IfErr, IsSome}
+use Rattle.std.specs.Prelude.{◌≡◌, ◌≢◌, ◌⊎◌, ℕ, suc, ◌+◌, ◌*◌, ◌≤◌, ◌&&◌, not, Bool, true, false, List, Option, Some, Result, Ok, Err, IfOk}
+use Rattle.std.specs.Prelude.{IfErr, IsSome}
 use Rattle.search_core.specs.ByteSets.{has}
 use Rattle.nfa_core.specs.Ways.{place_of}
 use Rattle.determinize_core.specs.States.{StateValue}
@@ -63,7 +64,8 @@ StaysRunning old new = IsSome old.progress → IsSome new.progress
 
 -- how far searches came is as before, or the cache was cleared
 abbrev pub TellsTheSame : CacheValue → CacheValue → Type 0
-TellsTheSame old new = ((told_of new ≡ told_of old) × (new.clears ≡ old.clears)) ⊎ (HasCleared old new × (told_of new ≡ told_anew (told_of old)))
+TellsTheSame old new = ((told_of new ≡ told_of old) × (new.clears ≡ old.clears)) ⊎
+    (HasCleared old new × (told_of new ≡ told_anew (told_of old)))
 
 -- the pass goes to another point by one unit
 abbrev pub GoesOne : Dfa → List ℕ → Point → CacheValue → ℕ → ℕ → ℕ → Option (ℕ × ℕ) → Type 0

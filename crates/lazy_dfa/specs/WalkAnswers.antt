@@ -1,5 +1,7 @@
 -- What calls of a walk answer, how many units they read, and what they tell a cache of how far they came.
-use Rattle.std.specs.Prelude.{◌≡◌, ◌≢◌, ◌⊎◌, ℕ, zero, suc, ◌+◌, ◌*◌, ◌<◌, ◌≤◌, ◌==◌, ◌&&◌, ◌||◌, not, nat_le, nat_lt, min, Bool, true, false, List, [], ◌∷◌, length, take, Option, Some, None, Result, Ok, Err, IfOk, IfErr, OnOk, if◌then◌else◌, ⊤, slice_set}
+use Rattle.std.specs.Prelude.{◌≡◌, ◌≢◌, ◌⊎◌, ℕ, zero, suc, ◌+◌, ◌*◌, ◌<◌, ◌≤◌, ◌==◌, ◌&&◌, ◌||◌, not, nat_le, nat_lt, min, Bool, true}
+use Rattle.std.specs.Prelude.{false, List, [], ◌∷◌, length, take, Option, Some, None, Result, Ok, Err, IfOk, IfErr, OnOk, if◌then◌else◌, ⊤}
+use Rattle.std.specs.Prelude.{slice_set}
 use Rattle.std.specs.List.{list_all}
 use Rattle.search_types.specs.declared.match_error.MatchErrorKind.{MatchErrorKind}
 use Rattle.search_types.specs.declared.match_error.MatchErrorKind.TheVariants.{GaveUp, NoMemory}
@@ -60,7 +62,8 @@ abbrev pub units_there : Reader → Search → Walk → ℕ
 units_there r q Fresh = units_met r q.haystack (suc (span_len q)) (begins_at r q) (first_value r q.anchored q.haystack (begins_at r q))
 units_there r q Ended = 0
 units_there r q (Failed e) = 0
-units_there r q (Stopped stop) = units_met r q.haystack (left_at r.automaton.reverse q stop.at) (next_place r stop.at) (value_past r q stop.at)
+units_there r q (Stopped stop) = units_met r q.haystack (left_at r.automaton.reverse q stop.at) (next_place r stop.at)
+    (value_past r q stop.at)
 
 abbrev pub call_units : Reader → Search → Walk → ℕ
 call_units r q w = if reads_on r q w then units_there r q w else 0
@@ -98,7 +101,8 @@ pub data GivesUpOn (d : Dfa) (v : CacheValue) (q : Search) (w : Walk) (x : ℕ) 
   at_unit : (k : ℕ) → k < call_units (reader d) q w →
       x ≡ gave_up_at d.nfa.automaton.reverse q (place_of d.nfa.automaton.reverse (call_place (reader d) q w) k) →
       lacks_room d v (value_past (reader d) q (place_of d.nfa.automaton.reverse (call_place (reader d) q w) k)) ≡ true →
-      (place_of d.nfa.automaton.reverse (call_place (reader d) q w) k ≢ last_place d.nfa.automaton.reverse q → running_at v.progress ≡ Some x) →
+      (place_of d.nfa.automaton.reverse (call_place (reader d) q w) k ≢ last_place d.nfa.automaton.reverse q →
+          running_at v.progress ≡ Some x) →
       GivesUpOn d v q w x
 
 -- What a call of a walk answers over whatever cache. Else memory lacked, or it gave up, and the cache is as it was then.
@@ -139,7 +143,8 @@ units_at r q at = units_met r q.haystack (suc (left_at r.automaton.reverse q at)
 -- what is told by reading on from there
 abbrev pub told_from : Reader → Search → ℕ → Told → Told
 told_from r q at t = record {
-  searched = min (t.searched + progress_len t.progress + pass_distance r.automaton.reverse (left_at r.automaton.reverse q at) (units_at r q at)) greatest;
+  searched = min (t.searched + progress_len t.progress + pass_distance r.automaton.reverse (left_at r.automaton.reverse q at)
+      (units_at r q at)) greatest;
   progress = None;
 }
 
@@ -153,7 +158,8 @@ pub record GivesUpFrom (d : Dfa) (v : CacheValue) (q : Search) (at x : ℕ) : Ty
 
 -- The rest of a walk from the unit at a place up to the next end that counts: it is told, and what is left is what was left
 -- but for it.
-pub record ReadsOn (d : Dfa) (q : Search) (at : ℕ) (old new : CacheValue) (m1 m2 n1 n2 : ℕ) (result : Result WalkState MatchErrorKind) : Type 0 where
+pub record ReadsOn (d : Dfa) (q : Search) (at : ℕ) (old new : CacheValue) (m1 m2 n1 n2 : ℕ)
+    (result : Result WalkState MatchErrorKind) : Type 0 where
   pub ok : IfOk result (λ w. (told_left (rest_at (reader d) q at).ends (rest_at (reader d) q at).refusal ≡ Ok tt) ×
       (w.found ≡ half_of (first (rest_at (reader d) q at).ends)) × (rest_of (reader d) q w.walk ≡ others (rest_at (reader d) q at)) ×
       IsWalk d new q w.walk × (w.found ≡ None → w.walk ≡ Ended))
@@ -167,7 +173,8 @@ pub record ReadsOn (d : Dfa) (q : Search) (at : ℕ) (old new : CacheValue) (m1 
 -- ---- calls
 
 -- what a call does from one state of the walk to the next
-pub record MakesCall (d : Dfa) (q : Search) (old new : CacheValue) (m1 m2 n1 n2 : ℕ) (w : Walk) (after : WalkState) (result : Result ⊤ MatchErrorKind) : Type 0 where
+pub record MakesCall (d : Dfa) (q : Search) (old new : CacheValue) (m1 m2 n1 n2 : ℕ) (w : Walk) (after : WalkState)
+    (result : Result ⊤ MatchErrorKind) : Type 0 where
   pub answer : AnswersWalk d new q w after result
   pub walk : IsWalk d new q after.walk
   pub failed : IfErr result (λ e. after ≡ failed_by e)
@@ -215,14 +222,16 @@ abbrev pub AnswersWhich : Dfa → CacheValue → Search → List Bool → List B
 AnswersWhich d v q old new result =
     ((result ≡ told_left [] (which_of (reader d) q old).refusal) × (new ≡ (which_of (reader d) q old).set)) ⊎
     ((k : ℕ) × (new ≡ with_ends old (take k (whole_rest (reader d) q).ends)) ×
-    ((result ≡ Err NoMemory) ⊎ ((x : ℕ) × (result ≡ Err (GaveUp x)) × GivesUpIn d v q.anchored false q.haystack (span_len q) (begins_at (reader d) q) x)))
+    ((result ≡ Err NoMemory) ⊎ ((x : ℕ) × (result ≡ Err (GaveUp x)) × GivesUpIn d v q.anchored false q.haystack (span_len q)
+        (begins_at (reader d) q) x)))
 
 -- it makes so many states at most: one for its start, and one for each unit of one pass
 abbrev pub which_made : Reader → Search → ℕ
 which_made r q = if nat_le q.start q.end then suc (pass_len r q.anchored false q.haystack (span_len q) (begins_at r q)) else 0
 
 -- what a walk over a whole span does to a set
-pub record MakesWhich (d : Dfa) (q : Search) (old new : CacheValue) (m1 m2 n1 n2 : ℕ) (set after : List Bool) (result : Result ⊤ MatchErrorKind) : Type 0 where
+pub record MakesWhich (d : Dfa) (q : Search) (old new : CacheValue) (m1 m2 n1 n2 : ℕ) (set after : List Bool)
+    (result : Result ⊤ MatchErrorKind) : Type 0 where
   pub answer : AnswersWhich d new q set after result
   pub kept : GrowsOrClears d old new
   pub determinized : m2 ≤ m1 + which_made (reader d) q

@@ -5,7 +5,8 @@ use Rattle.nfa_core.specs.Ways.{place_of}
 use Rattle.determinize_core.specs.States.{StateValue}
 use Rattle.determinize_core.specs.Steps.{unit_at}
 use Rattle.search_types.specs.declared.match_error.MatchErrorKind.{MatchErrorKind}
-use Rattle.search_types.specs.declared.match_error.MatchErrorKind.TheVariants.{Quit, GaveUp, HaystackTooLong, UnsupportedAnchored, NotAPair, NoMemory}
+use Rattle.search_types.specs.declared.match_error.MatchErrorKind.TheVariants.{Quit, GaveUp, HaystackTooLong, UnsupportedAnchored, NotAPair}
+use Rattle.search_types.specs.declared.match_error.MatchErrorKind.TheVariants.{NoMemory}
 use Rattle.search_types.specs.Found.{HalfFound}
 use Rattle.search_types.specs.Inputs.{Search}
 use Rattle.search_types.specs.Places.{counts}
@@ -77,7 +78,8 @@ pub record StopsWith (d : Dfa) (q : Search) (from : Point) (new : CacheValue) (m
   pub goes : GoesOne d q.haystack from behind m n position.id (pair_of position.best)
   pub place : position.at ≡ from.at
   pub ended : new ≡ finished (gave_up_at d.nfa.automaton.reverse q from.at) behind
-  pub listed : (s : StateValue) → HeldAt from.cache from.id s → tells ≡ tells_end (reader d) q.haystack from.at (state_behind (reader d) q.haystack from.at s 1)
+  pub listed : (s : StateValue) → HeldAt from.cache from.id s → tells ≡ tells_end (reader d) q.haystack from.at
+      (state_behind (reader d) q.haystack from.at s 1)
   pub why : tells ≡ false → (s : StateValue) → HeldAt from.cache from.id s →
       (is_dead (state_behind (reader d) q.haystack from.at s 1) ≡ true) ⊎ (from.at ≡ last_place d.nfa.automaton.reverse q)
 
@@ -87,7 +89,8 @@ ReadsInto d q from new m n position tells true = StopsWith d q from new m n posi
 ReadsInto d q from new m n position tells false =
     GoesOne d q.haystack from new m n position.id (pair_of position.best) × (position.at ≡ place_of d.nfa.automaton.reverse from.at 1) ×
     (from.at ≢ last_place d.nfa.automaton.reverse q) × IsRow new position.id ×
-    ((s : StateValue) → HeldAt from.cache from.id s → tells_end (reader d) q.haystack from.at (state_behind (reader d) q.haystack from.at s 1) ≡ false)
+    ((s : StateValue) → HeldAt from.cache from.id s → tells_end (reader d) q.haystack from.at
+        (state_behind (reader d) q.haystack from.at s 1) ≡ false)
 
 -- one unit of a walk in its span
 abbrev pub ReadsTo : Dfa → Search → Point → CacheValue → ℕ → ℕ → Result Read MatchErrorKind → Type 0

@@ -1,5 +1,6 @@
 -- What bytes of one class have in common for the looks whose ranges the classes were made from.
-use Rattle.std.proofs.Common.{◌≡◌, ℕ, zero, suc, ◌<◌, ◌≤◌, ◌↔◌, inl, inr, true, false, Bool, List, [], ◌∷◌, ◌++◌, length, get_or, Option, Some, None, refl, sym, ap, ap₂, ◌∙◌, arith, eqb, ◌&&◌, ◌||◌, not}
+use Rattle.std.proofs.Common.{◌≡◌, ℕ, zero, suc, ◌<◌, ◌≤◌, ◌↔◌, inl, inr, true, false, Bool, List, [], ◌∷◌, ◌++◌, length, get_or, Option}
+use Rattle.std.proofs.Common.{Some, None, refl, sym, ap, ap₂, ◌∙◌, arith, eqb, ◌&&◌, ◌||◌, not}
 use Rattle.std.proofs.lemmas.Bool.{cases_lt}
 use Rattle.std.proofs.lemmas.Bool.Decides.{nat_tests}
 use Rattle.std.proofs.lemmas.List.Elements.{All-nil, All-cons, All-head, All-tail, All-weaker, All-contains}
@@ -10,12 +11,16 @@ use Rattle.search_core.specs.Text.{byte_at, byte_before}
 use Rattle.search_core.specs.Utf8.{is_word_byte}
 use Rattle.search_core.specs.Marks.{marks_below, recorded, IsUnmarked, IsIn, HoldsAllOrNone}
 use Rattle.search_core.proofs.ForCallers.{same_class_tells}
-use Rattle.look_core.specs.Looks.{Reading, byte_side, word_if, is_byte, is_line_end, is_no_word, is_edge_of_word, is_no_edge_of_word, is_start_of_word, is_end_of_word, holds_by, holds_ascii}
+use Rattle.look_core.specs.Looks.{Reading, byte_side, word_if, is_byte, is_line_end, is_no_word, is_edge_of_word, is_no_edge_of_word}
+use Rattle.look_core.specs.Looks.{is_start_of_word, is_end_of_word, holds_by, holds_ascii}
 use Rattle.look_core.specs.Terminators.{Terminator, ends_line}
 use Rattle.look_core.specs.ToldApart.{line_ends, crlf_ranges, word_ranges, told_apart}
 use Rattle.look_core.specs.Codes.{is_word_unicode}
 use Rattle.look_core.specs.declared.look.Look.{Look}
-use Rattle.look_core.specs.declared.look.Look.TheVariants.{Start, End, StartLF, EndLF, StartCRLF, EndCRLF, WordAscii, WordAsciiNegate, WordUnicode, WordUnicodeNegate, WordStartAscii, WordEndAscii, WordStartUnicode, WordEndUnicode, WordStartHalfAscii, WordEndHalfAscii, WordStartHalfUnicode, WordEndHalfUnicode}
+use Rattle.look_core.specs.declared.look.Look.TheVariants.{Start, End, StartLF, EndLF, StartCRLF, EndCRLF, WordAscii, WordAsciiNegate}
+use Rattle.look_core.specs.declared.look.Look.TheVariants.{WordUnicode, WordUnicodeNegate, WordStartAscii, WordEndAscii, WordStartUnicode}
+use Rattle.look_core.specs.declared.look.Look.TheVariants.{WordEndUnicode, WordStartHalfAscii, WordEndHalfAscii, WordStartHalfUnicode}
+use Rattle.look_core.specs.declared.look.Look.TheVariants.{WordEndHalfUnicode}
 
 -- two bytes lie alike in a range
 abbrev pub LieAlike : ℕ → ℕ → ℕ × ℕ → Type 0
@@ -53,7 +58,8 @@ All-parts P f (y ∷ ys) h =
 
 pub alike_for : (t : Terminator) (looks : List Look) (l : Look) (a b : ℕ) → Contains looks l →
     All (LieAlike a b) (flat_map (told_apart t) looks) → All (LieAlike a b) (told_apart t l)
-alike_for t looks l a b c h = All-contains (λ k. All (LieAlike a b) (told_apart t k)) looks l (All-parts (LieAlike a b) (told_apart t) looks h) c
+alike_for t looks l a b c h = All-contains (λ k. All (LieAlike a b) (told_apart t k)) looks l
+    (All-parts (LieAlike a b) (told_apart t) looks h) c
 
 -- ---- each question on a byte is answered by the ranges
 same_in_range : (lo hi a b : ℕ) → LieAlike a b (lo, hi) → is_in_range lo hi a ≡ is_in_range lo hi b
@@ -80,7 +86,8 @@ same_word a b h =
     let h1 = All-tail P (0x30, 0x39) capital h in
     let h2 = All-tail P (0x41, 0x5A) score h1 in
     let h3 = All-tail P (0x5F, 0x5F) small h2 in
-    or_of_four _ _ _ _ _ _ _ _ (same_in_range 0x30 0x39 a b (All-head P (0x30, 0x39) capital h)) (same_in_range 0x41 0x5A a b (All-head P (0x41, 0x5A) score h1))
+    or_of_four _ _ _ _ _ _ _ _ (same_in_range 0x30 0x39 a b (All-head P (0x30, 0x39) capital h))
+        (same_in_range 0x41 0x5A a b (All-head P (0x41, 0x5A) score h1))
     (same_byte_turned 0x5F a b (All-head P (0x5F, 0x5F) small h2)) (same_in_range 0x61 0x7A a b (All-head P (0x61, 0x7A) [] h3))
 
 pub same_end : (t : Terminator) (a b : ℕ) → All (LieAlike a b) (line_ends t) → ends_line t a ≡ ends_line t b

@@ -1,5 +1,6 @@
 -- Haystacks that differ in bytes of ASCII alone: the characters of more bytes are the same.
-use Rattle.std.proofs.Common.{◌≡◌, ℕ, zero, suc, ◌+◌, ◌-◌, ◌<◌, ◌⊎◌, inl, inr, false, Bool, List, length, get_or, Option, Some, None, refl, sym, ap, ap₂, ◌∙◌, arith, cond, ◌&&◌, leb, ltb}
+use Rattle.std.proofs.Common.{◌≡◌, ℕ, zero, suc, ◌+◌, ◌-◌, ◌<◌, ◌⊎◌, inl, inr, false, Bool, List, length, get_or, Option, Some, None, refl}
+use Rattle.std.proofs.Common.{sym, ap, ap₂, ◌∙◌, arith, cond, ◌&&◌, leb, ltb}
 use Rattle.std.proofs.lemmas.Bool.{cond-false, cond-true, cases_lt, le-leb, and_from, lt-ltb}
 use Rattle.std.proofs.lemmas.List.{get_or_past}
 use Rattle.std.proofs.lemmas.Option.{slice_get-get_or, slice_get_past}
@@ -43,7 +44,8 @@ same_four : (a b d e x y z w : ℕ) → AreClose a x → AreClose b y → AreClo
 same_four a b d e x y z w (inr low) q r s = neither _ _ _ _ (four_lead a b d e (inl (omega arith))) (four_lead x y z w (inl (omega arith)))
 same_four a b d e x y z w (inl f) (inr low) r s = neither _ _ _ _ (four_next a b d e (inl low.0)) (four_next x y z w (inl low.1))
 same_four a b d e x y z w (inl f) (inl g) (inr low) s = neither _ _ _ _ (four_third a b d e (inl low.0)) (four_third x y z w (inl low.1))
-same_four a b d e x y z w (inl f) (inl g) (inl h) (inr low) = neither _ _ _ _ (four_last a b d e (inl low.0)) (four_last x y z w (inl low.1))
+same_four a b d e x y z w (inl f) (inl g) (inl h) (inr low) = neither _ _ _ _ (four_last a b d e (inl low.0))
+    (four_last x y z w (inl low.1))
 same_four a b d e x y z w (inl f) (inl g) (inl h) (inl i) = ap₂ (λ (p q : ℕ). of_four p q d e) f g ∙ ap₂ (λ (p q : ℕ). of_four x y p q) h i
 
 -- ---- one byte
@@ -63,7 +65,8 @@ low_side : (words : ℕ → Bool) (o : Option ℕ) (one rest : Option ℕ) (a : 
     character_side words o (option_or one rest) ≡ word_if (words a)
 low_side words o one rest a p q = rw (p, q)
 
-pub close_each : (h g : List ℕ) → length h ≡ length g → ((k : ℕ) → k < length h → AreClose (get_or h k 0) (get_or g k 0)) → (k : ℕ) → AreClose (get_or h k 0) (get_or g k 0)
+pub close_each : (h g : List ℕ) → length h ≡ length g → ((k : ℕ) → k < length h → AreClose (get_or h k 0) (get_or g k 0)) → (k : ℕ) →
+    AreClose (get_or h k 0) (get_or g k 0)
 close_each h g len at k = elim (cases_lt k (length h)) [
   | inl l ↦ at k l
   | inr l ↦ inl (get_or_past h k 0 l ∙ sym (get_or_past g k 0 (omega arith)))
@@ -80,10 +83,12 @@ module _ (h g : List ℕ) (len : length h ≡ length g) (close : (k : ℕ) → A
 
   four_close : (k : ℕ) → four_bytes h k ≡ four_bytes g k
   four_close k =
-      same_four (get_or h k 0) (get_or h (k + 1) 0) (get_or h (k + 2) 0) (get_or h (k + 3) 0) (get_or g k 0) (get_or g (k + 1) 0) (get_or g (k + 2) 0) (get_or g (k + 3) 0)
+      same_four (get_or h k 0) (get_or h (k + 1) 0) (get_or h (k + 2) 0) (get_or h (k + 3) 0) (get_or g k 0) (get_or g (k + 1) 0)
+          (get_or g (k + 2) 0) (get_or g (k + 3) 0)
       (close k) (close (k + 1)) (close (k + 2)) (close (k + 3))
 
-  rest_at : (k : ℕ) → option_or (two_bytes h k) (option_or (three_bytes h k) (four_bytes h k)) ≡ option_or (two_bytes g k) (option_or (three_bytes g k) (four_bytes g k))
+  rest_at : (k : ℕ) → option_or (two_bytes h k) (option_or (three_bytes h k) (four_bytes h k)) ≡ option_or (two_bytes g k)
+      (option_or (three_bytes g k) (four_bytes g k))
   rest_at k = ap₂ option_or (two_close k) (ap₂ option_or (three_close k) (four_close k))
 
   rest_before : (i : ℕ) → option_or (ending_at 2 two_bytes h i) (option_or (ending_at 3 three_bytes h i) (ending_at 4 four_bytes h i))
@@ -117,4 +122,5 @@ module _ (h g : List ℕ) (len : length h ≡ length g) (close : (k : ℕ) → A
 
     pub close_before : (i : ℕ) → (by_characters words).before h i ≡ (by_characters words).before g i
     close_before zero = refl
-    close_before (suc k) = side_by k (ending_at 1 one_byte h (suc k)) (ending_at 1 one_byte g (suc k)) _ _ (ends_one h k) (ends_one g k) (rest_before (suc k))
+    close_before (suc k) = side_by k (ending_at 1 one_byte h (suc k)) (ending_at 1 one_byte g (suc k)) _ _ (ends_one h k) (ends_one g k)
+        (rest_before (suc k))

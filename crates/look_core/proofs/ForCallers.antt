@@ -4,7 +4,8 @@ pub use Rattle.look_core.proofs.LookRows.{same_from_bit, look_at-bit_of, bit_of-
 -- a look that is turned round twice is as it was
 pub use Rattle.look_core.proofs.LookRows.{reversed_twice}
 -- the members of the empty set, of a set of one look, and of sets that are made of others
-pub use Rattle.look_core.proofs.LookSetLemmas.{has_look-none, has_look-repr, has_look-with, has_look-union, has_look-shared, has_look-without}
+pub use Rattle.look_core.proofs.LookSetLemmas.{has_look-none, has_look-repr, has_look-with, has_look-union, has_look-shared}
+pub use Rattle.look_core.proofs.LookSetLemmas.{has_look-without}
 -- sets that are made so have no bits but those of looks
 pub use Rattle.look_core.proofs.LookSetLemmas.{repr-lt, union-lt}
 -- sets with the same members are equal

@@ -4,7 +4,10 @@ use Rattle.std.specs.List.{range_with_len}
 use Rattle.std.proofs.lemmas.List.{get_or-map}
 use Rattle.std.proofs.lemmas.List.FromFn.{get_or-range_with_len}
 use Rattle.look_core.specs.declared.look.Look.{Look}
-use Rattle.look_core.specs.declared.look.Look.TheVariants.{Start, End, StartLF, EndLF, StartCRLF, EndCRLF, WordAscii, WordAsciiNegate, WordUnicode, WordUnicodeNegate, WordStartAscii, WordEndAscii, WordStartUnicode, WordEndUnicode, WordStartHalfAscii, WordEndHalfAscii, WordStartHalfUnicode, WordEndHalfUnicode}
+use Rattle.look_core.specs.declared.look.Look.TheVariants.{Start, End, StartLF, EndLF, StartCRLF, EndCRLF, WordAscii, WordAsciiNegate}
+use Rattle.look_core.specs.declared.look.Look.TheVariants.{WordUnicode, WordUnicodeNegate, WordStartAscii, WordEndAscii, WordStartUnicode}
+use Rattle.look_core.specs.declared.look.Look.TheVariants.{WordEndUnicode, WordStartHalfAscii, WordEndHalfAscii, WordStartHalfUnicode}
+use Rattle.look_core.specs.declared.look.Look.TheVariants.{WordEndHalfUnicode}
 use Rattle.look_core.specs.Codes.{bit_of, repr, char_of, reversed, all_looks}
 
 -- the look of a number below 18
@@ -55,7 +58,8 @@ numbered : map bit_of all_looks ≡ range_with_len 0 18
 numbered = refl
 
 pub bit_of-look_at : (i : ℕ) → i < 18 → bit_of (look_at i) ≡ i
-bit_of-look_at i h = sym (get_or-map bit_of all_looks i Start 0 h) ∙ ap (λ ns. get_or ns i 0) numbered ∙ get_or-range_with_len 0 18 i 0 h ∙ omega arith
+bit_of-look_at i h = sym (get_or-map bit_of all_looks i Start 0 h) ∙ ap (λ ns. get_or ns i 0) numbered ∙ get_or-range_with_len 0 18 i 0 h
+    ∙ omega arith
 
 -- the first look of the list that f gives this number
 abbrev first_with : (Look → ℕ) → ℕ → List Look → Look

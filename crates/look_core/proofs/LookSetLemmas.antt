@@ -1,5 +1,6 @@
 -- The members of a set by its bits, and the bits by the members.
-use Rattle.std.proofs.Common.{◌≡◌, ℕ, zero, suc, ◌-◌, ◌<◌, ◌^◌, ◌==◌, ◌&&◌, ◌||◌, not, Bool, true, false, cond, List, [], ◌∷◌, length, map, get_or, Option, Some, refl, sym, ap, ◌∙◌, subst, arith}
+use Rattle.std.proofs.Common.{◌≡◌, ℕ, zero, suc, ◌-◌, ◌<◌, ◌^◌, ◌==◌, ◌&&◌, ◌||◌, not, Bool, true, false, cond, List, [], ◌∷◌, length, map}
+use Rattle.std.proofs.Common.{get_or, Option, Some, refl, sym, ap, ◌∙◌, subst, arith}
 use Rattle.std.specs.List.{filter, list_any}
 use Rattle.std.specs.Int.{bit_at, bit_not, w32, trailing_zeros}
 use Rattle.std.specs.Int.Bits.{bit_and}
@@ -11,12 +12,17 @@ use Rattle.std.specs.Simd.Lanes.{mask_l}
 use Rattle.std.proofs.lemmas.List.{get_or-map}
 use Rattle.std.proofs.lemmas.List.Sums.{length-filter}
 use Rattle.std.proofs.lemmas.Nat.{one_shl, or_lt, pow_pos}
-use Rattle.std.proofs.lemmas.Nat.Bits.{bit_at_or, bit_at_and, bit_at_not, bit_at-lt, bit_at-pow_same, bit_at-pow_other, bit_at_above, and_pow, same_from_bits_below, bit_at-trailing_zeros}
+use Rattle.std.proofs.lemmas.Nat.Bits.{bit_at_or, bit_at_and, bit_at_not, bit_at-lt, bit_at-pow_same, bit_at-pow_other, bit_at_above}
+use Rattle.std.proofs.lemmas.Nat.Bits.{and_pow, same_from_bits_below, bit_at-trailing_zeros}
 use Rattle.std.proofs.lemmas.Simd.{mask_l-lt, bit_mask_l, ones-mask_l}
 use Rattle.look_core.specs.declared.look.Look.{Look}
-use Rattle.look_core.specs.declared.look.Look.TheVariants.{Start, End, StartLF, EndLF, StartCRLF, EndCRLF, WordAscii, WordAsciiNegate, WordUnicode, WordUnicodeNegate, WordStartAscii, WordEndAscii, WordStartUnicode, WordEndUnicode, WordStartHalfAscii, WordEndHalfAscii, WordStartHalfUnicode, WordEndHalfUnicode}
+use Rattle.look_core.specs.declared.look.Look.TheVariants.{Start, End, StartLF, EndLF, StartCRLF, EndCRLF, WordAscii, WordAsciiNegate}
+use Rattle.look_core.specs.declared.look.Look.TheVariants.{WordUnicode, WordUnicodeNegate, WordStartAscii, WordEndAscii, WordStartUnicode}
+use Rattle.look_core.specs.declared.look.Look.TheVariants.{WordEndUnicode, WordStartHalfAscii, WordEndHalfAscii, WordStartHalfUnicode}
+use Rattle.look_core.specs.declared.look.Look.TheVariants.{WordEndHalfUnicode}
 use Rattle.look_core.specs.Codes.{bit_of, repr, same_look, all_looks}
-use Rattle.look_core.specs.LookSets.{IsLookSet, has_look, full_set, union_of, shared_by, without, with_look, without_look, members, has_any, IsFirstLook}
+use Rattle.look_core.specs.LookSets.{IsLookSet, has_look, full_set, union_of, shared_by, without, with_look, without_look, members, has_any}
+use Rattle.look_core.specs.LookSets.{IsFirstLook}
 use Rattle.look_core.proofs.LookRows.{look_at, look_at-bit_of, bit_of-lt, bit_of-look_at}
 
 -- ---- a bit as a test
@@ -64,7 +70,8 @@ pub has_look-without : (s t : ℕ) (l : Look) → IsLookSet t → has_look (with
 has_look-without s t l h =
     ap (λ n. n == 1) (bit_at_and s (bit_not w32 t) (bit_of l))
     ∙ both_bits _ _ (bit_at-lt s (bit_of l)) (bit_at-lt (bit_not w32 t) (bit_of l))
-    ∙ ap (λ b. has_look s l && b) (ap (λ n. n == 1) (bit_at_not w32 t (bit_of l) (omega arith) (omega (arith, bit_of-lt l))) ∙ other_bit _ (bit_at-lt t (bit_of l)))
+    ∙ ap (λ b. has_look s l && b) (ap (λ n. n == 1) (bit_at_not w32 t (bit_of l) (omega arith) (omega (arith, bit_of-lt l)))
+        ∙ other_bit _ (bit_at-lt t (bit_of l)))
 
 power_bit : (k i : ℕ) → (bit_at (2 ^ k) i == 1) ≡ (i == k)
 power_bit k i =
@@ -152,13 +159,15 @@ same_members s t p q h = same_from_bits_below 18 s t p q (λ i b. at i b (bit_of
   where
     at : (i : ℕ) → i < 18 → bit_of (look_at i) ≡ i → bit_at s i ≡ bit_at t i
     at i b e =
-        let same : bit_at s (bit_of (look_at i)) ≡ bit_at t (bit_of (look_at i)) = same_test _ _ (bit_at-lt s _) (bit_at-lt t _) (h (look_at i)) in
+        let same : bit_at s (bit_of (look_at i)) ≡ bit_at t (bit_of (look_at i)) =
+            same_test _ _ (bit_at-lt s _) (bit_at-lt t _) (h (look_at i)) in
         subst (λ (j : ℕ). bit_at s j ≡ bit_at t j) e same
 
 -- ---- a member by its number's bit in the set
 
 pub contains_is : (s : ℕ) (l : Look) → not (bit_and s (repr l) == 0) ≡ has_look s l
-contains_is s l = ap (λ n. not (n == 0)) (and_pow s (bit_of l)) ∙ bit_tells (bit_at s (bit_of l)) (2 ^ bit_of l) (bit_at-lt s (bit_of l)) (pow_pos (bit_of l))
+contains_is s l = ap (λ n. not (n == 0)) (and_pow s (bit_of l)) ∙ bit_tells (bit_at s (bit_of l)) (2 ^ bit_of l) (bit_at-lt s (bit_of l))
+    (pow_pos (bit_of l))
   where
     bit_tells : (d p : ℕ) → d < 2 → 0 < p → not ((d * p) == 0) ≡ (d == 1)
     bit_tells zero p h q = ap not (eq-eqb (0 * p) 0 (omega arith))
@@ -184,7 +193,8 @@ count-members s h =
 
 -- ---- the least member
 
-filter_same : (f g : Look → Bool) (xs : List Look) → ((i : ℕ) → i < length xs → f (get_or xs i Start) ≡ g (get_or xs i Start)) → filter f xs ≡ filter g xs
+filter_same : (f g : Look → Bool) (xs : List Look) → ((i : ℕ) → i < length xs → f (get_or xs i Start) ≡ g (get_or xs i Start)) →
+    filter f xs ≡ filter g xs
 filter_same f g [] h = refl
 filter_same f g (x ∷ xs) h =
     ap (λ b. cond b (x ∷ filter f xs) (filter f xs)) (h 0 (omega arith))
@@ -202,7 +212,8 @@ filter_first f g (x ∷ xs) zero l fb gb fh gh above =
     ∙ sym (ap (λ b. x ∷ cond b (x ∷ filter g xs) (filter g xs)) gh)
 filter_first f g (x ∷ xs) (suc n) l fb gb fh gh above =
     ap (λ b. cond b (x ∷ filter f xs) (filter f xs)) (fb 0 (omega arith))
-    ∙ filter_first f g xs n (omega arith) (λ i h. fb (suc i) (omega arith)) (λ i h. gb (suc i) (omega arith)) fh gh (λ i h k. above (suc i) (omega arith) (omega arith))
+    ∙ filter_first f g xs n (omega arith) (λ i h. fb (suc i) (omega arith)) (λ i h. gb (suc i) (omega arith)) fh gh
+        (λ i h k. above (suc i) (omega arith) (omega arith))
     ∙ sym (ap (λ b. get_or xs n Start ∷ cond b (x ∷ filter g xs) (filter g xs)) (gb 0 (omega arith)))
 
 pub members-first : (s : ℕ) (l : Look) → has_look s l ≡ true → ((i : ℕ) → i < bit_of l → bit_at s i ≡ 0)
@@ -211,7 +222,8 @@ members-first s l here below =
     filter_first (has_look s) (has_look (without_look s l)) all_looks (bit_of l) (bit_of-lt l)
     lower (λ i h. has_look-without_look s l (look_at i) ∙ ap (λ b. b && not (same_look (look_at i) l)) (lower i h))
     (ap (has_look s) (look_at-bit_of l) ∙ here)
-    (ap (has_look (without_look s l)) (look_at-bit_of l) ∙ has_look-without_look s l l ∙ (λ i. here i && not (eq-eqb (bit_of l) (bit_of l) refl i)))
+    (ap (has_look (without_look s l)) (look_at-bit_of l) ∙ has_look-without_look s l l
+        ∙ (λ i. here i && not (eq-eqb (bit_of l) (bit_of l) refl i)))
     (λ i h b. sym (has_look-without_look s l (look_at i)
     ∙ ap (λ t. has_look s (look_at i) && not t) (ne_eqb (bit_of (look_at i)) (bit_of l) (λ e. omega (arith, e, bit_of-look_at i b)))
     ∙ and-true (has_look s (look_at i))))

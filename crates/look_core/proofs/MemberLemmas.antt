@@ -4,7 +4,10 @@ use Rattle.std.specs.List.{filter, list_all}
 use Rattle.look_core.specs.Codes.{all_looks}
 use Rattle.look_core.specs.LookSets.{has_look, members}
 use Rattle.look_core.specs.declared.look.Look.{Look}
-use Rattle.look_core.specs.declared.look.Look.TheVariants.{Start, End, StartLF, EndLF, StartCRLF, EndCRLF, WordAscii, WordAsciiNegate, WordUnicode, WordUnicodeNegate, WordStartAscii, WordEndAscii, WordStartUnicode, WordEndUnicode, WordStartHalfAscii, WordEndHalfAscii, WordStartHalfUnicode, WordEndHalfUnicode}
+use Rattle.look_core.specs.declared.look.Look.TheVariants.{Start, End, StartLF, EndLF, StartCRLF, EndCRLF, WordAscii, WordAsciiNegate}
+use Rattle.look_core.specs.declared.look.Look.TheVariants.{WordUnicode, WordUnicodeNegate, WordStartAscii, WordEndAscii, WordStartUnicode}
+use Rattle.look_core.specs.declared.look.Look.TheVariants.{WordEndUnicode, WordStartHalfAscii, WordEndHalfAscii, WordStartHalfUnicode}
+use Rattle.look_core.specs.declared.look.Look.TheVariants.{WordEndHalfUnicode}
 
 -- P holds of each look of the list
 abbrev Each : (Look → Type 0) → List Look → Type 0
@@ -36,7 +39,8 @@ every_look P a WordEndHalfUnicode = a.1.1.1.1.1.1.1.1.1.1.1.1.1.1.1.1.1.0
 abbrev Implies : (Look → Bool) → (Look → Bool) → Look → Type 0
 Implies q p l = q l ≡ true → p l ≡ true
 
-kept_step : (p q : Look → Bool) (x : Look) (xs : List Look) (b : Bool) → q x ≡ b → (list_all p (filter q xs) ≡ true → Each (Implies q p) xs) →
+kept_step : (p q : Look → Bool) (x : Look) (xs : List Look) (b : Bool) → q x ≡ b →
+    (list_all p (filter q xs) ≡ true → Each (Implies q p) xs) →
     list_all p (filter q (x ∷ xs)) ≡ true → Each (Implies q p) (x ∷ xs)
 kept_step p q x xs true e ih h = grind arith
 kept_step p q x xs false e ih h = grind arith
@@ -45,7 +49,8 @@ kept : (p q : Look → Bool) (xs : List Look) → list_all p (filter q xs) ≡ t
 kept p q [] h = tt
 kept p q (x ∷ xs) h = kept_step p q x xs (q x) refl (kept p q xs) h
 
-keeps_step : (p q : Look → Bool) (x : Look) (xs : List Look) (b : Bool) → q x ≡ b → list_all p (filter q xs) ≡ true → ((l : Look) → Implies q p l) →
+keeps_step : (p q : Look → Bool) (x : Look) (xs : List Look) (b : Bool) → q x ≡ b → list_all p (filter q xs) ≡ true →
+    ((l : Look) → Implies q p l) →
     list_all p (filter q (x ∷ xs)) ≡ true
 keeps_step p q x xs true e ih h = grind (arith, h x)
 keeps_step p q x xs false e ih h = grind arith

@@ -1,16 +1,21 @@
 -- Looks in a reversed haystack: what stood before a place stands behind its mirror place.
-use Rattle.std.proofs.Common.{◌≡◌, ℕ, zero, suc, ◌-◌, ◌≤◌, true, false, Bool, List, length, get_or, Option, Some, None, refl, sym, ap, ap₂, ◌∙◌, arith, eqb, map, reverse, ◌&&◌, ◌||◌, not}
+use Rattle.std.proofs.Common.{◌≡◌, ℕ, zero, suc, ◌-◌, ◌≤◌, true, false, Bool, List, length, get_or, Option, Some, None, refl, sym, ap, ap₂}
+use Rattle.std.proofs.Common.{◌∙◌, arith, eqb, map, reverse, ◌&&◌, ◌||◌, not}
 use Rattle.std.proofs.lemmas.Bool.Decides.{nat_tests}
 use Rattle.std.proofs.lemmas.List.{get_or-reverse, length-reverse, reverse-reverse, length-map}
 use Rattle.std.proofs.lemmas.Option.{slice_get-get_or, slice_get_past, slice_get-map}
 use Rattle.std.specs.Option.{option_map}
 use Rattle.search_core.specs.Text.{byte_at, byte_before}
-use Rattle.look_core.specs.Looks.{Side, word, no_word, broken, Reading, byte_side, by_bytes, is_no_word, is_edge_of_word, is_no_edge_of_word, is_start_of_word, is_end_of_word, is_byte, is_line_end, holds_by, holds_ascii}
+use Rattle.look_core.specs.Looks.{Side, word, no_word, broken, Reading, byte_side, by_bytes, is_no_word, is_edge_of_word}
+use Rattle.look_core.specs.Looks.{is_no_edge_of_word, is_start_of_word, is_end_of_word, is_byte, is_line_end, holds_by, holds_ascii}
 use Rattle.look_core.specs.Mirror.{exchanged_byte, exchanged}
 use Rattle.look_core.specs.Terminators.{Terminator}
 use Rattle.look_core.specs.Codes.{reversed, is_anchor_crlf, is_word_unicode}
 use Rattle.look_core.specs.declared.look.Look.{Look}
-use Rattle.look_core.specs.declared.look.Look.TheVariants.{Start, End, StartLF, EndLF, StartCRLF, EndCRLF, WordAscii, WordAsciiNegate, WordUnicode, WordUnicodeNegate, WordStartAscii, WordEndAscii, WordStartUnicode, WordEndUnicode, WordStartHalfAscii, WordEndHalfAscii, WordStartHalfUnicode, WordEndHalfUnicode}
+use Rattle.look_core.specs.declared.look.Look.TheVariants.{Start, End, StartLF, EndLF, StartCRLF, EndCRLF, WordAscii, WordAsciiNegate}
+use Rattle.look_core.specs.declared.look.Look.TheVariants.{WordUnicode, WordUnicodeNegate, WordStartAscii, WordEndAscii, WordStartUnicode}
+use Rattle.look_core.specs.declared.look.Look.TheVariants.{WordEndUnicode, WordStartHalfAscii, WordEndHalfAscii, WordStartHalfUnicode}
+use Rattle.look_core.specs.declared.look.Look.TheVariants.{WordEndHalfUnicode}
 use Rattle.look_core.proofs.ClassLemmas.{same_line}
 
 -- ---- the bytes beside the mirror place
@@ -108,12 +113,16 @@ module _ (t : Terminator) (h g : List ℕ) (i j : ℕ)
   bytes_turn EndLF u = ap₂ ◌||◌ end (ap (is_line_end t) after)
   bytes_turn StartCRLF u = cc
   bytes_turn EndCRLF u = cc
-  bytes_turn WordAscii u = same_sides is_edge_of_word _ _ _ _ side_before side_after ∙ edge_turns (byte_side (byte_at g j)) (byte_side (byte_before g j))
-  bytes_turn WordAsciiNegate u = same_sides is_no_edge_of_word _ _ _ _ side_before side_after ∙ no_edge_turns (byte_side (byte_at g j)) (byte_side (byte_before g j))
+  bytes_turn WordAscii u = same_sides is_edge_of_word _ _ _ _ side_before side_after
+      ∙ edge_turns (byte_side (byte_at g j)) (byte_side (byte_before g j))
+  bytes_turn WordAsciiNegate u = same_sides is_no_edge_of_word _ _ _ _ side_before side_after
+      ∙ no_edge_turns (byte_side (byte_at g j)) (byte_side (byte_before g j))
   bytes_turn WordUnicode u = unicode_turns by_bytes t h g i j side_before side_after WordUnicode refl
   bytes_turn WordUnicodeNegate u = unicode_turns by_bytes t h g i j side_before side_after WordUnicodeNegate refl
-  bytes_turn WordStartAscii u = same_sides is_start_of_word _ _ _ _ side_before side_after ∙ start_turns (byte_side (byte_at g j)) (byte_side (byte_before g j))
-  bytes_turn WordEndAscii u = same_sides is_end_of_word _ _ _ _ side_before side_after ∙ sym (start_turns (byte_side (byte_before g j)) (byte_side (byte_at g j)))
+  bytes_turn WordStartAscii u = same_sides is_start_of_word _ _ _ _ side_before side_after
+      ∙ start_turns (byte_side (byte_at g j)) (byte_side (byte_before g j))
+  bytes_turn WordEndAscii u = same_sides is_end_of_word _ _ _ _ side_before side_after
+      ∙ sym (start_turns (byte_side (byte_before g j)) (byte_side (byte_at g j)))
   bytes_turn WordStartUnicode u = unicode_turns by_bytes t h g i j side_before side_after WordStartUnicode refl
   bytes_turn WordEndUnicode u = unicode_turns by_bytes t h g i j side_before side_after WordEndUnicode refl
   bytes_turn WordStartHalfAscii u = ap is_no_word side_before
@@ -184,7 +193,8 @@ mirror_lines t h l i k u =
     (same_test i (length h) (length h - i) 0 (λ e. omega arith) (λ e. omega arith)) l u
 
 -- only the six Unicode looks depend on how words are read
-pub reads_bytes : (r : Reading) (t : Terminator) (h : List ℕ) (l : Look) (i : ℕ) → is_word_unicode l ≡ false → holds_by r t h l i ≡ holds_ascii t h l i
+pub reads_bytes : (r : Reading) (t : Terminator) (h : List ℕ) (l : Look) (i : ℕ) → is_word_unicode l ≡ false →
+    holds_by r t h l i ≡ holds_ascii t h l i
 reads_bytes r t h Start i u = refl
 reads_bytes r t h End i u = refl
 reads_bytes r t h StartLF i u = refl

@@ -1,5 +1,6 @@
 -- What stands beside a place, read as a byte and as a character.
-use Rattle.std.proofs.Common.{◌≡◌, ℕ, zero, suc, ◌<◌, ◌≤◌, Bool, List, length, slice_index_or, Option, Some, None, IfSome, Result, refl, ap, ◌∙◌, arith, take, drop, ◌-◌}
+use Rattle.std.proofs.Common.{◌≡◌, ℕ, zero, suc, ◌<◌, ◌≤◌, Bool, List, length, slice_index_or, Option, Some, None, IfSome, Result, refl, ap}
+use Rattle.std.proofs.Common.{◌∙◌, arith, take, drop, ◌-◌}
 use Rattle.std.specs.Option.{option_map, ok_or}
 use Rattle.std.proofs.lemmas.List.{take_all, length-drop}
 use Rattle.std.proofs.lemmas.Bool.{le-leb}
@@ -10,13 +11,18 @@ use Rattle.search_core.specs.Utf8.{Decodes, DecodesLast}
 use Rattle.search_core.proofs.ForCallers.{read_at_once, read_before_once}
 use Rattle.search_core.specs.Characters.{one_byte, character_at, character_before}
 use Rattle.look_core.specs.Terminators.{Terminator}
-use Rattle.look_core.specs.Looks.{word_if, byte_side, character_side, IsWordSet, by_bytes, by_characters, holds_by, holds, holds_ascii, Reading}
+use Rattle.look_core.specs.Looks.{word_if, byte_side, character_side, IsWordSet, by_bytes, by_characters, holds_by, holds, holds_ascii}
+use Rattle.look_core.specs.Looks.{Reading}
 use Rattle.look_core.specs.Sides.{decoded_side}
 use Rattle.look_core.specs.declared.look.Look.{Look}
-use Rattle.look_core.specs.declared.look.Look.TheVariants.{Start, End, StartLF, EndLF, StartCRLF, EndCRLF, WordAscii, WordAsciiNegate, WordUnicode, WordUnicodeNegate, WordStartAscii, WordEndAscii, WordStartUnicode, WordEndUnicode, WordStartHalfAscii, WordEndHalfAscii, WordStartHalfUnicode, WordEndHalfUnicode}
+use Rattle.look_core.specs.declared.look.Look.TheVariants.{Start, End, StartLF, EndLF, StartCRLF, EndCRLF, WordAscii, WordAsciiNegate}
+use Rattle.look_core.specs.declared.look.Look.TheVariants.{WordUnicode, WordUnicodeNegate, WordStartAscii, WordEndAscii, WordStartUnicode}
+use Rattle.look_core.specs.declared.look.Look.TheVariants.{WordEndUnicode, WordStartHalfAscii, WordEndHalfAscii, WordStartHalfUnicode}
+use Rattle.look_core.specs.declared.look.Look.TheVariants.{WordEndHalfUnicode}
 
 -- what was decoded is a character of the byte's, or the byte alone
-pub decoded_is_character : (words : ℕ → Bool) (b c : Option ℕ) → decoded_side words (option_map (λ x. ok_or c x) b) ≡ character_side words b c
+pub decoded_is_character : (words : ℕ → Bool) (b c : Option ℕ) → decoded_side words
+    (option_map (λ x. ok_or c x) b) ≡ character_side words b c
 decoded_is_character words None c = refl
 decoded_is_character words (Some b) None = refl
 decoded_is_character words (Some b) (Some c) = refl

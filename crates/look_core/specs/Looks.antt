@@ -6,7 +6,10 @@ use Rattle.search_core.specs.Utf8.{is_word_byte}
 use Rattle.search_core.specs.Characters.{character_at, character_before}
 use Rattle.look_core.specs.Terminators.{Terminator, ends_line}
 use Rattle.look_core.specs.declared.look.Look.{Look}
-use Rattle.look_core.specs.declared.look.Look.TheVariants.{Start, End, StartLF, EndLF, StartCRLF, EndCRLF, WordAscii, WordAsciiNegate, WordUnicode, WordUnicodeNegate, WordStartAscii, WordEndAscii, WordStartUnicode, WordEndUnicode, WordStartHalfAscii, WordEndHalfAscii, WordStartHalfUnicode, WordEndHalfUnicode}
+use Rattle.look_core.specs.declared.look.Look.TheVariants.{Start, End, StartLF, EndLF, StartCRLF, EndCRLF, WordAscii, WordAsciiNegate}
+use Rattle.look_core.specs.declared.look.Look.TheVariants.{WordUnicode, WordUnicodeNegate, WordStartAscii, WordEndAscii, WordStartUnicode}
+use Rattle.look_core.specs.declared.look.Look.TheVariants.{WordEndUnicode, WordStartHalfAscii, WordEndHalfAscii, WordStartHalfUnicode}
+use Rattle.look_core.specs.declared.look.Look.TheVariants.{WordEndHalfUnicode}
 
 -- What one side of a place reads as: a word; no word, as the edge of the haystack is; or a byte of no character that
 -- ends or begins at the place.
@@ -91,8 +94,10 @@ holds_by r t h Start i = i == 0
 holds_by r t h End i = i == length h
 holds_by r t h StartLF i = (i == 0) || is_line_end t (byte_before h i)
 holds_by r t h EndLF i = (i == length h) || is_line_end t (byte_at h i)
-holds_by r t h StartCRLF i = (i == 0) || is_byte 0x0A (byte_before h i) || (is_byte 0x0D (byte_before h i) && not (is_byte 0x0A (byte_at h i)))
-holds_by r t h EndCRLF i = (i == length h) || is_byte 0x0D (byte_at h i) || (is_byte 0x0A (byte_at h i) && not (is_byte 0x0D (byte_before h i)))
+holds_by r t h StartCRLF i = (i == 0) || is_byte 0x0A (byte_before h i)
+    || (is_byte 0x0D (byte_before h i) && not (is_byte 0x0A (byte_at h i)))
+holds_by r t h EndCRLF i = (i == length h) || is_byte 0x0D (byte_at h i)
+    || (is_byte 0x0A (byte_at h i) && not (is_byte 0x0D (byte_before h i)))
 holds_by r t h WordAscii i = is_edge_of_word (by_bytes.before h i) (by_bytes.after h i)
 holds_by r t h WordAsciiNegate i = is_no_edge_of_word (by_bytes.before h i) (by_bytes.after h i)
 holds_by r t h WordUnicode i = is_edge_of_word (r.before h i) (r.after h i)

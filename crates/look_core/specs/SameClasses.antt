@@ -5,7 +5,8 @@ use Rattle.search_core.specs.Marks.{marks_below}
 
 -- of one length, with bytes of the same class at each place
 abbrev pub HaveSameClasses : List Bool → List ℕ → List ℕ → Type 0
-HaveSameClasses marks h g = (length h ≡ length g) × ((k : ℕ) → k < length h → marks_below marks (byte_or_zero h k) ≡ marks_below marks (byte_or_zero g k))
+HaveSameClasses marks h g = (length h ≡ length g) × ((k : ℕ) → k < length h →
+    marks_below marks (byte_or_zero h k) ≡ marks_below marks (byte_or_zero g k))
 
 -- different at most where both have a byte of ASCII
 abbrev pub DifferInAscii : List ℕ → List ℕ → Type 0

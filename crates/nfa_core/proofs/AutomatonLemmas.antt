@@ -1,5 +1,6 @@
 -- The ways of an automaton over a text: they stay in it, and a match has none.
-use Rattle.std.proofs.Common.{◌≡◌, ℕ, zero, suc, ◌*◌, ◌<◌, ◌≤◌, true, false, Bool, ◌&&◌, List, [], ◌∷◌, length, map, get_or, if◌then◌else◌, refl, arith, ⊎_elim, Option, Some, None}
+use Rattle.std.proofs.Common.{◌≡◌, ℕ, zero, suc, ◌*◌, ◌<◌, ◌≤◌, true, false, Bool, ◌&&◌, List, [], ◌∷◌, length, map, get_or, if◌then◌else◌}
+use Rattle.std.proofs.Common.{refl, arith, ⊎_elim, Option, Some, None}
 use Rattle.std.proofs.lemmas.Bool.{cases_Bool}
 use Rattle.std.proofs.lemmas.Bool.Decides.{Decides-ltb, leb_tells}
 use Rattle.std.specs.Bool.{nat_eq, nat_le, nat_lt}
@@ -7,8 +8,10 @@ use Rattle.search_core.specs.Text.{byte_at}
 use Rattle.look_core.specs.declared.look.Look.{Look}
 use Rattle.nfa_core.specs.Walks.{Has, IsFinite}
 use Rattle.nfa_core.specs.Places.{same_pair}
-use Rattle.nfa_core.specs.Nfa.{Node, byte_range, sparse_node, dense_node, look_node, union_node, binary_union, capture_node, fail_node, match_node, Automaton, node_at, leads_to, IsWellFormed}
-use Rattle.nfa_core.specs.Ways.{Text, reads, with_place, is_passed, in_ranges, named, on_byte, on_nothing, on_read, place_behind, byte_steps, plain_steps, ways, match_of, matched, IsPairOf}
+use Rattle.nfa_core.specs.Nfa.{Node, byte_range, sparse_node, dense_node, look_node, union_node, binary_union, capture_node, fail_node}
+use Rattle.nfa_core.specs.Nfa.{match_node, Automaton, node_at, leads_to, IsWellFormed}
+use Rattle.nfa_core.specs.Ways.{Text, reads, with_place, is_passed, in_ranges, named, on_byte, on_nothing, on_read, place_behind}
+use Rattle.nfa_core.specs.Ways.{byte_steps, plain_steps, ways, match_of, matched, IsPairOf}
 use Rattle.nfa_core.proofs.MemberLemmas.{none_in, has_later, has_first, has_one, has_same, of_cons, of_append}
 use Rattle.nfa_core.proofs.PairLemmas.{pairs_equal, names_equal, from_map, pairs_room}
 
@@ -17,7 +20,8 @@ of_if : (t : Bool) (xs : List ℕ) (r : ℕ) → Has nat_eq r (if t then xs else
 of_if true xs r h = h
 of_if false xs r h = none_in nat_eq r _ h
 
-of_either : (t : Bool) (xs ys zs : List ℕ) (r : ℕ) → (Has nat_eq r xs → Has nat_eq r zs) → (Has nat_eq r ys → Has nat_eq r zs) → Has nat_eq r (if t then xs else ys) → Has nat_eq r zs
+of_either : (t : Bool) (xs ys zs : List ℕ) (r : ℕ) → (Has nat_eq r xs → Has nat_eq r zs) → (Has nat_eq r ys → Has nat_eq r zs) →
+    Has nat_eq r (if t then xs else ys) → Has nat_eq r zs
 of_either true xs ys zs r left right h = left h
 of_either false xs ys zs r left right h = right h
 
@@ -25,7 +29,8 @@ in_ranges_led : (ranges : List (ℕ × ℕ × ℕ)) (b r : ℕ) → Has nat_eq r
 in_ranges_led [] b r h = h
 in_ranges_led ((low, high, next) ∷ others) b r h =
     of_either (nat_le low b && nat_le b high) (next ∷ []) (in_ranges others b) (next ∷ map (λ r. r.2) others) r
-    (of_cons nat_eq names_equal (λ q. Has nat_eq q (next ∷ map (λ r. r.2) others)) next [] (has_first nat_eq names_equal next (map (λ r. r.2) others)) (λ q g. none_in nat_eq q _ g) r)
+    (of_cons nat_eq names_equal (λ q. Has nat_eq q (next ∷ map (λ r. r.2) others)) next []
+        (has_first nat_eq names_equal next (map (λ r. r.2) others)) (λ q g. none_in nat_eq q _ g) r)
     (λ g. has_later nat_eq r next (map (λ r. r.2) others) (in_ranges_led others b r g)) h
 
 named_is : (m r : ℕ) → Has nat_eq r (named m) → r ≡ m
@@ -80,25 +85,32 @@ beside_reverse t i None h = tt
 beside_reverse t i (Some b) h = (refl, h)
 
 pub reads_beside : (is_reverse : Bool) (t : Text) (i : ℕ) → IsBeside is_reverse t i (reads is_reverse t i)
-reads_beside false t i = ⊎_elim (λ (e : nat_lt i t.end ≡ true). rw e (beside_forward t i (byte_at t.haystack i) ((Decides-ltb i t.end).0 e))) (λ (e : nat_lt i t.end ≡ false). rw e tt) (cases_Bool (nat_lt i t.end))
+reads_beside false t i = ⊎_elim (λ (e : nat_lt i t.end ≡ true). rw e (beside_forward t i (byte_at t.haystack i)
+    ((Decides-ltb i t.end).0 e))) (λ (e : nat_lt i t.end ≡ false). rw e tt) (cases_Bool (nat_lt i t.end))
 reads_beside true t zero = tt
-reads_beside true t (suc i) = ⊎_elim (λ told. rw told.0 (beside_reverse t i (byte_at t.haystack i) told.1)) (λ told. rw told.0 tt) (leb_tells t.start i)
+reads_beside true t (suc i) = ⊎_elim (λ told. rw told.0 (beside_reverse t i (byte_at t.haystack i) told.1)) (λ told. rw told.0 tt)
+    (leb_tells t.start i)
 
-pub behind_inside : (is_reverse : Bool) (t : Text) (i : ℕ) (read : Option (ℕ × ℕ)) → IsBeside is_reverse t i read → i ≤ t.end → place_behind i read ≤ t.end
+pub behind_inside : (is_reverse : Bool) (t : Text) (i : ℕ) (read : Option (ℕ × ℕ)) → IsBeside is_reverse t i read → i ≤ t.end →
+    place_behind i read ≤ t.end
 behind_inside is_reverse t i None beside h = h
 behind_inside false t i (Some (b, j)) beside h = omega (arith, beside.0, beside.1)
 behind_inside true t i (Some (b, j)) beside h = omega (arith, beside.0, h)
 
-pub finite_automaton : (a : Automaton) (t : Text) → IsWellFormed a → IsFinite same_pair (ways a t) (IsPairOf a t) (suc t.end * length a.states)
+pub finite_automaton : (a : Automaton) (t : Text) → IsWellFormed a → IsFinite same_pair (ways a t) (IsPairOf a t)
+    (suc t.end * length a.states)
 finite_automaton a t formed = record {
   stays = λ p here.
       let j : ℕ = place_behind p.0 (reads a.reverse t p.0) in
       let inside : j ≤ t.end = behind_inside a.reverse t p.0 (reads a.reverse t p.0) (reads_beside a.reverse t p.0) here.0 in
-      of_append same_pair pairs_equal (IsPairOf a t) (map (λ q. (j, q)) (byte_steps a t p.0 p.1)) (map (λ q. (p.0, q)) (plain_steps a t p.0 p.1))
+      of_append same_pair pairs_equal (IsPairOf a t) (map (λ q. (j, q)) (byte_steps a t p.0 p.1))
+          (map (λ q. (p.0, q)) (plain_steps a t p.0 p.1))
       (λ q h. let o = from_map j q (byte_steps a t p.0 p.1) h in
-      let below : o.0 < length a.states = formed p.1 o.0 (read_led (node_at a p.1) (reads a.reverse t p.0) o.0 o.1) in rw o.2 (inside, below))
+      let below : o.0 < length a.states = formed p.1 o.0 (read_led (node_at a p.1) (reads a.reverse t p.0) o.0 o.1) in
+          rw o.2 (inside, below))
       (λ q h. let o = from_map p.0 q (plain_steps a t p.0 p.1) h in
-      let below : o.0 < length a.states = formed p.1 o.0 (nothing_led (node_at a p.1) (λ l. is_passed a.reverse t l p.0) o.0 o.1) in rw o.2 (here.0, below));
+      let below : o.0 < length a.states = formed p.1 o.0 (nothing_led (node_at a p.1) (λ l. is_passed a.reverse t l p.0) o.0 o.1) in
+          rw o.2 (here.0, below));
   room = pairs_room (length a.states) t.end;
 }
 

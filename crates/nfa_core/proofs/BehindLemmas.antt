@@ -1,5 +1,6 @@
 -- An automaton's runs from a place of a text, by how many bytes they have read: forward or in reverse.
-use Rattle.std.proofs.Common.{◌≡◌, ℕ, zero, suc, ◌+◌, ◌-◌, ◌*◌, ◌<◌, ◌≤◌, true, false, Bool, List, [], ◌∷◌, ◌++◌, length, map, if◌then◌else◌, refl, sym, ap, ◌∙◌, arith, ⊎_elim, Option, Some, None, subst}
+use Rattle.std.proofs.Common.{◌≡◌, ℕ, zero, suc, ◌+◌, ◌-◌, ◌*◌, ◌<◌, ◌≤◌, true, false, Bool, List, [], ◌∷◌, ◌++◌, length, map}
+use Rattle.std.proofs.Common.{if◌then◌else◌, refl, sym, ap, ◌∙◌, arith, ⊎_elim, Option, Some, None, subst}
 use Rattle.std.proofs.lemmas.Bool.{cases_Bool}
 use Rattle.std.proofs.lemmas.Bool.Decides.{Decides-ltb, leb_tells}
 use Rattle.std.proofs.lemmas.List.{map-append}
@@ -10,7 +11,8 @@ use Rattle.nfa_core.specs.Walks.{distinct, chain_ends, IsFinite}
 use Rattle.nfa_core.specs.Runs.{answers, run_ends, wanted_answer}
 use Rattle.nfa_core.specs.Places.{same_pair, nexts, IsGraph, before_answer, answers_at, first, latest, only_at}
 use Rattle.nfa_core.specs.Nfa.{Node, Automaton, node_at, IsWellFormed}
-use Rattle.nfa_core.specs.Ways.{Text, reads, is_passed, on_read, place_behind, byte_steps, plain_steps, ways, match_of, matched, ends_from, place_of, bytes_left, AreLists, matched_behind}
+use Rattle.nfa_core.specs.Ways.{Text, reads, is_passed, on_read, place_behind, byte_steps, plain_steps, ways, match_of, matched, ends_from}
+use Rattle.nfa_core.specs.Ways.{place_of, bytes_left, AreLists, matched_behind}
 use Rattle.nfa_core.proofs.MemberLemmas.{none_in, flat_map_same}
 use Rattle.nfa_core.proofs.PairLemmas.{pairs_equal, names_equal, same_cases, pairs, pairs_is, InText, finite_pairs}
 use Rattle.nfa_core.proofs.RunLemmas.{wanted_ends}
@@ -30,7 +32,8 @@ pub place_zero : (is_reverse : Bool) (i : ℕ) → place_of is_reverse i 0 ≡ i
 place_zero false i = omega arith
 place_zero true i = omega arith
 
-place_one : (is_reverse : Bool) (t : Text) (i k j : ℕ) → k ≤ bytes_left is_reverse t i → j ≤ bytes_left is_reverse t i → place_of is_reverse i k ≡ place_of is_reverse i j → k ≡ j
+place_one : (is_reverse : Bool) (t : Text) (i k j : ℕ) → k ≤ bytes_left is_reverse t i → j ≤ bytes_left is_reverse t i →
+    place_of is_reverse i k ≡ place_of is_reverse i j → k ≡ j
 place_one false t i k j a b e = omega (arith, e)
 place_one true t i k j a b e = omega (arith, a, b, e)
 
@@ -50,11 +53,15 @@ reads_none false t i k h = ⊎_elim
 reads_none true t i k h = reverse_stops t (i - k) (omega (arith, h))
 
 -- what is read moves to the next place
-byte_moves : (is_reverse : Bool) (t : Text) (i k : ℕ) (node : Node) (read : Option (ℕ × ℕ)) → IsBeside is_reverse t (place_of is_reverse i k) read →
-    map {B = ℕ × ℕ} (λ q. (place_behind (place_of is_reverse i k) read, q)) (on_read node read) ≡ map {B = ℕ × ℕ} (λ q. (place_of is_reverse i (suc k), q)) (on_read node read)
+byte_moves : (is_reverse : Bool) (t : Text) (i k : ℕ) (node : Node) (read : Option (ℕ × ℕ)) →
+    IsBeside is_reverse t (place_of is_reverse i k) read →
+    map {B = ℕ × ℕ} (λ q. (place_behind (place_of is_reverse i k) read, q)) (on_read node read) ≡ map {B = ℕ ×
+        ℕ} (λ q. (place_of is_reverse i (suc k), q)) (on_read node read)
 byte_moves is_reverse t i k node None beside = refl
-byte_moves false t i k node (Some (b, j)) beside = let e : j ≡ i + suc k = omega (arith, beside.0) in ap (λ m. map {B = ℕ × ℕ} (λ q. (m, q)) (on_read node (Some (b, j)))) e
-byte_moves true t i k node (Some (b, j)) beside = let e : j ≡ i - suc k = omega (arith, beside.0) in ap (λ m. map {B = ℕ × ℕ} (λ q. (m, q)) (on_read node (Some (b, j)))) e
+byte_moves false t i k node (Some (b, j)) beside = let e : j ≡ i + suc k = omega (arith, beside.0) in
+    ap (λ m. map {B = ℕ × ℕ} (λ q. (m, q)) (on_read node (Some (b, j)))) e
+byte_moves true t i k node (Some (b, j)) beside = let e : j ≡ i - suc k = omega (arith, beside.0) in
+    ap (λ m. map {B = ℕ × ℕ} (λ q. (m, q)) (on_read node (Some (b, j)))) e
 
 -- ---- matches at a place
 
@@ -66,11 +73,13 @@ match_place node j e h =
     let f : (j, is.0) ≡ e = cc in
     sym (ap (λ (p : ℕ × ℕ). p.0) f)
 
-wanted_at : (o : Option (ℕ × ℕ)) (j m : ℕ) → ((e : ℕ × ℕ) → o ≡ Some e → e.0 ≡ j) → wanted_answer (λ e. nat_eq e.0 m) o ≡ (if nat_eq j m then o else None)
+wanted_at : (o : Option (ℕ × ℕ)) (j m : ℕ) → ((e : ℕ × ℕ) → o ≡ Some e → e.0 ≡ j) →
+    wanted_answer (λ e. nat_eq e.0 m) o ≡ (if nat_eq j m then o else None)
 wanted_at None j m all = ⊎_elim (λ (e : nat_eq j m ≡ true). rw e refl) (λ (e : nat_eq j m ≡ false). rw e refl) (cases_Bool (nat_eq j m))
 wanted_at (Some e) j m all = let is : e.0 ≡ j = all e refl in rw is refl
 
-map_pairs : (place : ℕ → ℕ) (k : ℕ) (ys : List ℕ) → map {B = ℕ × ℕ} (λ (p : ℕ × ℕ). (place p.0, p.1)) (map {B = ℕ × ℕ} (λ y. (k, y)) ys) ≡ map {B = ℕ × ℕ} (λ y. (place k, y)) ys
+map_pairs : (place : ℕ → ℕ) (k : ℕ) (ys : List ℕ) → map {B = ℕ × ℕ} (λ (p : ℕ × ℕ). (place p.0, p.1)) (map {B = ℕ ×
+    ℕ} (λ y. (k, y)) ys) ≡ map {B = ℕ × ℕ} (λ y. (place k, y)) ys
 map_pairs place k [] = refl
 map_pairs place k (y ∷ ys) = ap (λ l. (place k, y) ∷ l) (map_pairs place k ys)
 
@@ -105,7 +114,8 @@ module _ (a : Automaton) (t : Text) (i : ℕ) (formed : IsWellFormed a) where
       (map-append name (map {B = ℕ × ℕ} (λ y. (suc p.0, y)) (step p.0 p.1)) (map {B = ℕ × ℕ} (λ y. (p.0, y)) (eps p.0 p.1))
       ∙ ap (λ l. l ++ map name (map {B = ℕ × ℕ} (λ y. (p.0, y)) (eps p.0 p.1))) (map_pairs place (suc p.0) (step p.0 p.1)
       ∙ sym (byte_moves a.reverse t i p.0 (node_at a p.1) (reads a.reverse t (place p.0)) (reads_beside a.reverse t (place p.0))))
-      ∙ ap (λ l. map {B = ℕ × ℕ} (λ q. (place_behind (place p.0) (reads a.reverse t (place p.0)), q)) (step p.0 p.1) ++ l) (map_pairs place p.0 (eps p.0 p.1)))
+      ∙ ap (λ l. map {B = ℕ × ℕ} (λ q. (place_behind (place p.0) (reads a.reverse t (place p.0)), q)) (step p.0 p.1)
+          ++ l) (map_pairs place p.0 (eps p.0 p.1)))
 
   name_one : (p q : ℕ × ℕ) → InText n len p → InText n len q → name p ≡ name q → p ≡ q
   name_one (k, x) (j, y) hp hq e =
@@ -121,7 +131,8 @@ module _ (a : Automaton) (t : Text) (i : ℕ) (formed : IsWellFormed a) where
 
     enough : suc len * n ≤ suc t.end * n
     enough =
-        let l : pairs n (suc len) ≤ pairs n (suc t.end) = pairs_more n (suc len) (suc t.end) (let w : len ≤ t.end = left_within a.reverse t i inside in omega (arith, w)) in
+        let l : pairs n (suc len) ≤ pairs n (suc t.end) = pairs_more n (suc len) (suc t.end)
+            (let w : len ≤ t.end = left_within a.reverse t i inside in omega (arith, w)) in
         let e : pairs n (suc len) ≡ suc len * n = pairs_is n (suc len) in
         let g : pairs n (suc t.end) ≡ suc t.end * n = pairs_is n (suc t.end) in omega (arith, l, e, g)
 
@@ -129,9 +140,11 @@ module _ (a : Automaton) (t : Text) (i : ℕ) (formed : IsWellFormed a) where
     ends_behind : ends_from a t (i, q) ≡ run_ends same_pair same_pair (nexts eps step) (matched_behind a i) (suc len * n) (0, q)
     ends_behind =
         ap (λ j. ends_from a t (j, q)) (sym (place_zero a.reverse i))
-        ∙ run_ends_named same_pair pairs_equal same_pair pairs_equal (nexts eps step) (ways a t) name (InText n len) pairs_finite.stays name_one (λ p h. alike p) same_pair (matched a) (suc t.end * n) (0, q) start_in
+        ∙ run_ends_named same_pair pairs_equal same_pair pairs_equal (nexts eps step) (ways a t) name
+            (InText n len) pairs_finite.stays name_one (λ p h. alike p) same_pair (matched a) (suc t.end * n) (0, q) start_in
         ∙ ap (λ l. distinct same_pair (answers (matched_behind a i) l))
-        (same_bound same_pair pairs_equal (nexts eps step) (InText n len) (suc len * n) pairs_finite (suc t.end * n) (suc len * n) [] (0, q) start_in
+        (same_bound same_pair pairs_equal (nexts eps step) (InText n len) (suc len * n) pairs_finite (suc t.end * n) (suc len * n) [] (0,
+            q) start_in
         (λ p h. none_in same_pair p _ h) tt (omega (arith, enough)) (omega arith))
 
     -- leftmost-first
@@ -140,9 +153,11 @@ module _ (a : Automaton) (t : Text) (i : ℕ) (formed : IsWellFormed a) where
     latest_is_preferred lists listed =
         latest_is_first eps step n len graph same_pair pairs_equal (matched_behind a i) q lists listed below ∙ ap first (sym ends_behind)
 
-    only_is_wanted : (k : ℕ) → k ≤ len → (p : ℕ × ℕ) → InText n len p → only_at k (matched_behind a i) p ≡ wanted_answer (λ e. nat_eq e.0 (place k)) (matched_behind a i p)
+    only_is_wanted : (k : ℕ) → k ≤ len → (p : ℕ × ℕ) → InText n len p →
+        only_at k (matched_behind a i) p ≡ wanted_answer (λ e. nat_eq e.0 (place k)) (matched_behind a i p)
     only_is_wanted k h p hp =
-        let e : nat_eq (place p.0) (place k) ≡ nat_eq p.0 k = same_cases nat_eq nat_eq names_equal names_equal (place p.0) (place k) p.0 k (place_one a.reverse t i p.0 k hp.0 h) (ap place) in
+        let e : nat_eq (place p.0) (place k) ≡ nat_eq p.0 k = same_cases nat_eq nat_eq names_equal names_equal (place p.0) (place k) p.0 k
+            (place_one a.reverse t i p.0 k hp.0 h) (ap place) in
         ap (λ (b : Bool). if b then matched_behind a i p else None) (sym e)
         ∙ sym (wanted_at (matched_behind a i p) (place p.0) (place k) (match_place (node_at a p.1) (place p.0)))
 
@@ -153,7 +168,10 @@ module _ (a : Automaton) (t : Text) (i : ℕ) (formed : IsWellFormed a) where
         let ends : List (ℕ × ℕ) = chain_ends same_pair (nexts eps step) (suc len * n) [] (0, q) in
         let wanted : ℕ × ℕ → Bool = λ e. nat_eq e.0 (place k) in
         list_has_ends eps step n len graph (matched_behind a i) k same_pair pairs_equal q below lists listed h
-        ∙ ap (distinct same_pair) (flat_map_same same_pair pairs_equal (λ p. option_to_list (only_at k (matched_behind a i) p)) (λ p. option_to_list (wanted_answer wanted (matched_behind a i p))) ends
-        (λ p there. ap option_to_list (only_is_wanted k h p (ends_in same_pair pairs_equal (nexts eps step) (InText n len) pairs_finite.stays (suc len * n) [] (0, q) start_in p there))))
-        ∙ wanted_ends same_pair pairs_equal same_pair pairs_equal (nexts eps step) (InText n len) (suc len * n) pairs_finite (0, q) start_in (matched_behind a i) wanted
+        ∙ ap (distinct same_pair) (flat_map_same same_pair pairs_equal (λ p. option_to_list (only_at k (matched_behind a i) p))
+            (λ p. option_to_list (wanted_answer wanted (matched_behind a i p))) ends
+        (λ p there. ap option_to_list (only_is_wanted k h p (ends_in same_pair pairs_equal (nexts eps step)
+            (InText n len) pairs_finite.stays (suc len * n) [] (0, q) start_in p there))))
+        ∙ wanted_ends same_pair pairs_equal same_pair pairs_equal (nexts eps step) (InText n len) (suc len * n) pairs_finite (0,
+            q) start_in (matched_behind a i) wanted
         ∙ ap (filter wanted) (sym ends_behind)

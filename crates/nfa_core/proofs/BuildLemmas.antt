@@ -1,5 +1,6 @@
 -- The automaton that is built keeps to what every NFA keeps to, and it makes no difference which table gives its names.
-use Rattle.std.proofs.Common.{◌≡◌, ℕ, ◌+◌, ◌<◌, ◌≤◌, true, Bool, List, [], ◌∷◌, length, map, take, get_or, Option, None, refl, sym, ap, ◌∙◌, arith, subst, ⊎_elim, if◌then◌else◌}
+use Rattle.std.proofs.Common.{◌≡◌, ℕ, ◌+◌, ◌<◌, ◌≤◌, true, Bool, List, [], ◌∷◌, length, map, take, get_or, Option, None, refl, sym, ap, ◌∙◌}
+use Rattle.std.proofs.Common.{arith, subst, ⊎_elim, if◌then◌else◌}
 use Rattle.std.specs.Prelude.{is_none, All, reverse, cond}
 use Rattle.std.specs.Bool.{nat_eq}
 use Rattle.std.proofs.lemmas.List.{length-map, get_or_past, reverse-append}
@@ -12,7 +13,9 @@ use Rattle.nfa_core.specs.Nfa.{Node, byte_range, look_node, fail_node, leads_to}
 use Rattle.nfa_core.specs.NfaValue.{Nfa, IsNodeOf, IsSound}
 use Rattle.nfa_core.specs.NfaOf.{nfa_of}
 use Rattle.look_core.specs.Terminators.{Terminator}
-use Rattle.nfa_core.specs.BuilderStates.{DraftNode, empty_draft, range_draft, sparse_draft, look_draft, capture_start_draft, capture_end_draft, union_draft, union_reverse_draft, fail_draft, match_draft, draft_at, Assembly, AscendsFrom, pattern_count}
+use Rattle.nfa_core.specs.BuilderStates.{DraftNode, empty_draft, range_draft, sparse_draft, look_draft, capture_start_draft}
+use Rattle.nfa_core.specs.BuilderStates.{capture_end_draft, union_draft, union_reverse_draft, fail_draft, match_draft, draft_at, Assembly}
+use Rattle.nfa_core.specs.BuilderStates.{AscendsFrom, pattern_count}
 use Rattle.nfa_core.specs.InOrder.{IsDraftOf, IsInOrder}
 use Rattle.nfa_core.specs.CanBuild.{CanBuild, names_of}
 use Rattle.nfa_core.specs.Renaming.{stands_for, past, kept, new_name, renamed, ways_node, ranges_node, automaton_of}
@@ -33,7 +36,8 @@ ends_in_byte r = r.1 < 256
 
 all_reversed : {A : Type 0} (P : A → Type 0) (xs : List A) → All P xs → All P (reverse xs)
 all_reversed P [] all = all
-all_reversed {A} P (x ∷ xs) all = subst (λ (ys : List A). All P ys) (sym (reverse-append (x ∷ []) xs)) (All-push P (reverse xs) x (all_reversed P xs (All-tail P x xs all)) (All-head P x xs all))
+all_reversed {A} P (x ∷ xs) all = subst (λ (ys : List A). All P ys) (sym (reverse-append (x ∷ []) xs))
+    (All-push P (reverse xs) x (all_reversed P xs (All-tail P x xs all)) (All-head P x xs all))
 
 -- functions that agree on all of a list
 pub map_same : {A B : Type 0} (P : A → Type 0) (f g : A → B) → ((x : A) → P x → f x ≡ g x) → (xs : List A) → All P xs → map f xs ≡ map g xs
@@ -46,7 +50,8 @@ module _ (f g : ℕ → ℕ) (n : ℕ) (agree : (q : ℕ) → q < n → f q ≡ 
   names_same : (names : List ℕ) → All (λ q. q < n) names → map f names ≡ map g names
   names_same names all = map_same (λ q. q < n) f g agree names all
 
-  ranges_same : (ranges : List (ℕ × ℕ × ℕ)) → All (λ q. q < n) (map range_next ranges) → map (range_named f) ranges ≡ map (range_named g) ranges
+  ranges_same : (ranges : List (ℕ × ℕ × ℕ)) → All (λ q. q < n) (map range_next ranges) →
+      map (range_named f) ranges ≡ map (range_named g) ranges
   ranges_same [] all = refl
   ranges_same (r ∷ rs) all =
       let head = agree r.2 (All-head (λ q. q < n) r.2 (map range_next rs) all) in
@@ -59,15 +64,20 @@ module _ (f g : ℕ → ℕ) (n : ℕ) (agree : (q : ℕ) → q < n → f q ≡ 
   renamed_same (range_draft low high next) all = ap (byte_range low high) (agree next (All-head (λ q. q < n) next [] all))
   renamed_same (sparse_draft ranges) all = ap ranges_node (ranges_same ranges all)
   renamed_same (look_draft look next) all = ap (look_node look) (agree next (All-head (λ q. q < n) next [] all))
-  renamed_same (capture_start_draft pattern group next) all = ap (λ q. renamed (λ x. q) groups (capture_start_draft pattern group next)) (agree next (All-head (λ q. q < n) next [] all))
-  renamed_same (capture_end_draft pattern group next) all = ap (λ q. renamed (λ x. q) groups (capture_end_draft pattern group next)) (agree next (All-head (λ q. q < n) next [] all))
+  renamed_same (capture_start_draft pattern group next) all = ap (λ q. renamed (λ x. q) groups (capture_start_draft pattern group next))
+      (agree next (All-head (λ q. q < n) next [] all))
+  renamed_same (capture_end_draft pattern group next) all = ap (λ q. renamed (λ x. q) groups (capture_end_draft pattern group next))
+      (agree next (All-head (λ q. q < n) next [] all))
   renamed_same (union_draft names) all = ap ways_node (names_same names all)
-  renamed_same (union_reverse_draft names) all = ap ways_node (map_reversed f names ∙ ap reverse (names_same names all) ∙ sym (map_reversed g names))
+  renamed_same (union_reverse_draft names) all = ap ways_node (map_reversed f names ∙ ap reverse (names_same names all)
+      ∙ sym (map_reversed g names))
   renamed_same fail_draft all = refl
   renamed_same (match_draft pattern) all = refl
 
-  pub states_same : (drafts : List DraftNode) → All (λ draft. All (λ q. q < n) (names_of draft)) drafts → map (renamed f groups) (kept drafts) ≡ map (renamed g groups) (kept drafts)
-  states_same drafts named = map_same (λ draft. All (λ q. q < n) (names_of draft)) (renamed f groups) (renamed g groups) renamed_same (kept drafts)
+  pub states_same : (drafts : List DraftNode) → All (λ draft. All (λ q. q < n) (names_of draft)) drafts →
+      map (renamed f groups) (kept drafts) ≡ map (renamed g groups) (kept drafts)
+  states_same drafts named = map_same (λ draft. All (λ q. q < n) (names_of draft)) (renamed f groups) (renamed g groups) renamed_same
+      (kept drafts)
       (All-filter is_kept (λ draft. All (λ q. q < n) (names_of draft)) drafts named)
 
 -- the name of a state is one of the automaton
@@ -85,7 +95,8 @@ pub name_inside : (drafts : List DraftNode) (q : ℕ) → IsReached drafts → q
 name_inside drafts q reached inside =
     let there = past_inside drafts q reached inside in
     let more = kept_more drafts (past drafts q) fail_draft there in
-    let stays : is_kept (draft_at drafts (past drafts q)) ≡ true = kept_one (stands_for (draft_at drafts (past drafts q))) (reached.ends q inside) in
+    let stays : is_kept (draft_at drafts (past drafts q)) ≡ true = kept_one (stands_for (draft_at drafts (past drafts q)))
+        (reached.ends q inside) in
     let one : length (kept (draft_at drafts (past drafts q) ∷ [])) ≡ 1 = rw stays in
     let most = kept_up_to drafts (past drafts q + 1) in
     omega (arith, more, one, most)
@@ -105,11 +116,14 @@ leads_ranges (range ∷ other ∷ others) = refl
 module _ (n m : ℕ) (name : ℕ → ℕ) (inside : (q : ℕ) → q < n → name q < m) (groups : Groups) where
   names_inside : (names : List ℕ) → All (λ q. q < n) names → All (λ q. q < m) (map name names)
   names_inside [] all = λ k d below. absurd (omega (arith, below))
-  names_inside (q ∷ qs) all = All-cons (λ q. q < m) (name q) (map name qs) (inside q (All-head (λ q. q < n) q qs all)) (names_inside qs (All-tail (λ q. q < n) q qs all))
+  names_inside (q ∷ qs) all = All-cons (λ q. q < m) (name q) (map name qs) (inside q (All-head (λ q. q < n) q qs all))
+      (names_inside qs (All-tail (λ q. q < n) q qs all))
 
-  ranges_inside : (ranges : List (ℕ × ℕ × ℕ)) → All (λ q. q < n) (map range_next ranges) → All (λ q. q < m) (map range_next (map (range_named name) ranges))
+  ranges_inside : (ranges : List (ℕ × ℕ × ℕ)) → All (λ q. q < n) (map range_next ranges) →
+      All (λ q. q < m) (map range_next (map (range_named name) ranges))
   ranges_inside [] all = λ k d below. absurd (omega (arith, below))
-  ranges_inside (r ∷ rs) all = All-cons (λ q. q < m) (name r.2) (map range_next (map (range_named name) rs)) (inside r.2 (All-head (λ q. q < n) r.2 (map range_next rs) all))
+  ranges_inside (r ∷ rs) all = All-cons (λ q. q < m) (name r.2) (map range_next (map (range_named name) rs))
+      (inside r.2 (All-head (λ q. q < n) r.2 (map range_next rs) all))
       (ranges_inside rs (All-tail (λ q. q < n) r.2 (map range_next rs) all))
 
   -- a list of one name, or of none
@@ -122,12 +136,15 @@ module _ (n m : ℕ) (name : ℕ → ℕ) (inside : (q : ℕ) → q < n → name
   leads_inside : (draft : DraftNode) → All (λ q. q < n) (names_of draft) → All (λ q. q < m) (leads_to (renamed name groups draft))
   leads_inside (empty_draft next) all = λ k d none. absurd (omega (arith, none))
   leads_inside (range_draft low high next) all = one_inside (name next) (inside next (All-head (λ q. q < n) next [] all))
-  leads_inside (sparse_draft ranges) all = subst (λ (names : List ℕ). All (λ q. q < m) names) (sym (leads_ranges (map (range_named name) ranges))) (ranges_inside ranges all)
+  leads_inside (sparse_draft ranges) all = subst (λ (names : List ℕ). All (λ q. q < m) names)
+      (sym (leads_ranges (map (range_named name) ranges))) (ranges_inside ranges all)
   leads_inside (look_draft look next) all = one_inside (name next) (inside next (All-head (λ q. q < n) next [] all))
   leads_inside (capture_start_draft pattern group next) all = one_inside (name next) (inside next (All-head (λ q. q < n) next [] all))
   leads_inside (capture_end_draft pattern group next) all = one_inside (name next) (inside next (All-head (λ q. q < n) next [] all))
-  leads_inside (union_draft names) all = subst (λ (names : List ℕ). All (λ q. q < m) names) (sym (leads_ways (map name names))) (names_inside names all)
-  leads_inside (union_reverse_draft names) all = subst (λ (names : List ℕ). All (λ q. q < m) names) (sym (leads_ways (map name (reverse names)) ∙ map_reversed name names))
+  leads_inside (union_draft names) all = subst (λ (names : List ℕ). All (λ q. q < m) names) (sym (leads_ways (map name names)))
+      (names_inside names all)
+  leads_inside (union_reverse_draft names) all = subst (λ (names : List ℕ). All (λ q. q < m) names)
+      (sym (leads_ways (map name (reverse names)) ∙ map_reversed name names))
       (reverse_inside (map name names) (names_inside names all))
   leads_inside fail_draft all = λ k d none. absurd (omega (arith, none))
   leads_inside (match_draft pattern) all = λ k d none. absurd (omega (arith, none))
@@ -137,14 +154,16 @@ has_all P [] all q h = none_in nat_eq q _ h
 has_all P (x ∷ xs) all q h = of_cons nat_eq names_equal P x xs (All-head P x xs all) (has_all P xs (All-tail P x xs all)) q h
 
 -- the ranges stay in order
-ascends_named : (name : ℕ → ℕ) (low : ℕ) (ranges : List (ℕ × ℕ × ℕ)) → AscendsFrom low ranges → AscendsFrom low (map (range_named name) ranges)
+ascends_named : (name : ℕ → ℕ) (low : ℕ) (ranges : List (ℕ × ℕ × ℕ)) → AscendsFrom low ranges →
+    AscendsFrom low (map (range_named name) ranges)
 ascends_named name low [] rises = tt
 ascends_named name low ((start, end, next) ∷ others) rises = (rises.0, rises.1, ascends_named name (end + 1) others rises.2)
 
 bytes_named : (name : ℕ → ℕ) (ranges : List (ℕ × ℕ × ℕ)) → All ends_in_byte ranges → All ends_in_byte (map (range_named name) ranges)
 bytes_named name ranges all = All-map ends_in_byte (range_named name) ranges all
 
-ranges_of_node : (patterns : ℕ) (ranges : List (ℕ × ℕ × ℕ)) → AscendsFrom 0 ranges → All ends_in_byte ranges → IsNodeOf patterns (ranges_node ranges)
+ranges_of_node : (patterns : ℕ) (ranges : List (ℕ × ℕ × ℕ)) → AscendsFrom 0 ranges → All ends_in_byte ranges →
+    IsNodeOf patterns (ranges_node ranges)
 ranges_of_node patterns [] rises bytes = tt
 ranges_of_node patterns (range ∷ []) rises bytes = (rises.1, All-head ends_in_byte range [] bytes)
 ranges_of_node patterns (range ∷ other ∷ others) rises bytes = (rises, bytes)
@@ -155,10 +174,12 @@ ways_of_node patterns (first ∷ []) = tt
 ways_of_node patterns (first ∷ second ∷ []) = tt
 ways_of_node patterns (first ∷ second ∷ third ∷ others) = tt
 
-node_of_draft : (name : ℕ → ℕ) (groups : Groups) (patterns : ℕ) (draft : DraftNode) → IsDraftOf patterns draft → IsNodeOf patterns (renamed name groups draft)
+node_of_draft : (name : ℕ → ℕ) (groups : Groups) (patterns : ℕ) (draft : DraftNode) → IsDraftOf patterns draft →
+    IsNodeOf patterns (renamed name groups draft)
 node_of_draft name groups patterns (empty_draft next) good = tt
 node_of_draft name groups patterns (range_draft low high next) good = good
-node_of_draft name groups patterns (sparse_draft ranges) good = ranges_of_node patterns (map (range_named name) ranges) (ascends_named name 0 ranges good.0) (bytes_named name ranges good.1)
+node_of_draft name groups patterns (sparse_draft ranges) good = ranges_of_node patterns (map (range_named name) ranges)
+    (ascends_named name 0 ranges good.0) (bytes_named name ranges good.1)
 node_of_draft name groups patterns (look_draft look next) good = tt
 node_of_draft name groups patterns (capture_start_draft pattern group next) good = tt
 node_of_draft name groups patterns (capture_end_draft pattern group next) good = tt
@@ -168,39 +189,51 @@ node_of_draft name groups patterns fail_draft good = tt
 node_of_draft name groups patterns (match_draft pattern) good = good
 
 -- what the automaton is, which every NFA is
-pub sound : (b : Assembly) (x y : ℕ) → CanBuild b x y → IsReached b.drafts → IsInOrder b.drafts (pattern_count b) b.size_limit → IsSound (automaton_of b x y)
+pub sound : (b : Assembly) (x y : ℕ) → CanBuild b x y → IsReached b.drafts → IsInOrder b.drafts (pattern_count b) b.size_limit →
+    IsSound (automaton_of b x y)
 sound b x y can reached order =
     let name = new_name b.drafts in
     let nodes = map (renamed name b.groups) (kept b.drafts) in
     let len : length nodes ≡ length (kept b.drafts) = length-map (kept b.drafts) (renamed name b.groups) in
-    let inside : (q : ℕ) → q < length b.drafts → name q < length nodes = λ q below. (let h = name_inside b.drafts q reached below in omega (arith, h, len)) in
-    let named : All (λ node. All (λ q. q < length nodes) (leads_to node)) nodes = All-map (λ node. All (λ q. q < length nodes) (leads_to node)) (renamed name b.groups) (kept b.drafts)
-    (All-weaker (λ draft. All (λ q. q < length b.drafts) (names_of draft)) (λ draft. All (λ q. q < length nodes) (leads_to (renamed name b.groups draft)))
+    let inside : (q : ℕ) → q < length b.drafts → name q < length nodes =
+        λ q below. (let h = name_inside b.drafts q reached below in omega (arith, h, len)) in
+    let named : All (λ node. All (λ q. q < length nodes) (leads_to node)) nodes =
+        All-map (λ node. All (λ q. q < length nodes) (leads_to node)) (renamed name b.groups) (kept b.drafts)
+    (All-weaker (λ draft. All (λ q. q < length b.drafts) (names_of draft))
+        (λ draft. All (λ q. q < length nodes) (leads_to (renamed name b.groups draft)))
     (leads_inside (length b.drafts) (length nodes) name inside b.groups) (kept b.drafts)
     (All-filter is_kept (λ draft. All (λ q. q < length b.drafts) (names_of draft)) b.drafts can.named)) in
     let count : pattern_count b ≡ length b.starts = ap (λ is_open. if is_open then length b.starts + 1 else length b.starts) can.closed in
     let starts : length (map name b.starts) ≡ length b.starts = length-map b.starts name in
-    let few : length (kept b.drafts) ≤ length b.drafts = (let e = length-filter is_kept b.drafts in let h = count_by-le-length is_kept b.drafts in omega (arith, e, h)) in
-    let good : All (IsDraftOf (length (map name b.starts))) b.drafts = subst (λ (k : ℕ). All (IsDraftOf k) b.drafts) (count ∙ sym starts) order.parts_of in
+    let few : length (kept b.drafts) ≤ length b.drafts = (let e = length-filter is_kept b.drafts in
+        let h = count_by-le-length is_kept b.drafts in omega (arith, e, h)) in
+    let good : All (IsDraftOf (length (map name b.starts))) b.drafts =
+        subst (λ (k : ℕ). All (IsDraftOf k) b.drafts) (count ∙ sym starts) order.parts_of in
     record {
       named = λ q r h. ⊎_elim
-          (λ told. let none : get_or nodes q fail_node ≡ fail_node = get_or_past nodes q fail_node told.1 in none_in nat_eq r (r < length nodes) (subst (λ (node : Node). Has nat_eq r (leads_to node)) none h))
-          (λ told. has_all (λ q. q < length nodes) (leads_to (get_or nodes q fail_node)) (All-get_or (λ node. All (λ q. q < length nodes) (leads_to node)) nodes q fail_node told.1 named) r h)
+          (λ told. let none : get_or nodes q fail_node ≡ fail_node = get_or_past nodes q fail_node told.1 in
+              none_in nat_eq r (r < length nodes) (subst (λ (node : Node). Has nat_eq r (leads_to node)) none h))
+          (λ told. has_all (λ q. q < length nodes) (leads_to (get_or nodes q fail_node))
+              (All-get_or (λ node. All (λ q. q < length nodes) (leads_to node)) nodes q fail_node told.1 named) r h)
           (leb_tells (length nodes) q);
       anchored = inside x can.anchored_there;
       unanchored = inside y can.unanchored_there;
-      starts = All-map (λ q. q < length nodes) name b.starts (All-weaker (λ q. q < length b.drafts) (λ q. name q < length nodes) inside b.starts can.starts_there);
+      starts = All-map (λ q. q < length nodes) name b.starts (All-weaker (λ q. q < length b.drafts)
+          (λ q. name q < length nodes) inside b.starts can.starts_there);
       states_numbered = omega (arith, len, few, order.states_numbered);
       patterns_numbered = omega (arith, count, starts, order.patterns_numbered);
       nodes = All-map (IsNodeOf (length (map name b.starts))) (renamed name b.groups) (kept b.drafts)
-          (All-weaker (IsDraftOf (length (map name b.starts))) (λ draft. IsNodeOf (length (map name b.starts)) (renamed name b.groups draft))
-          (node_of_draft name b.groups (length (map name b.starts))) (kept b.drafts) (All-filter is_kept (IsDraftOf (length (map name b.starts))) b.drafts good));
+          (All-weaker (IsDraftOf (length (map name b.starts))) (λ draft. IsNodeOf (length (map name b.starts))
+              (renamed name b.groups draft))
+          (node_of_draft name b.groups (length (map name b.starts))) (kept b.drafts)
+              (All-filter is_kept (IsDraftOf (length (map name b.starts))) b.drafts good));
     }
 
 -- a table of the names gives the same states and starts
 pub same_nfa : (b : Assembly) (x y : ℕ) (names : List ℕ) (states : List Node) (starts : List ℕ) → CanBuild b x y → IsNaming b.drafts names →
     states ≡ map (renamed (name_in names) b.groups) (kept b.drafts) → starts ≡ map (name_in names) b.starts →
-    (states ≡ (automaton_of b x y).states) × (starts ≡ (automaton_of b x y).start_pattern) × (name_in names x ≡ (automaton_of b x y).start_anchored) × (name_in names y ≡ (automaton_of b x y).start_unanchored)
+    (states ≡ (automaton_of b x y).states) × (starts ≡ (automaton_of b x y).start_pattern) ×
+        (name_in names x ≡ (automaton_of b x y).start_anchored) × (name_in names y ≡ (automaton_of b x y).start_unanchored)
 same_nfa b x y names states starts can naming all_states all_starts = (
   all_states ∙ states_same (name_in names) (new_name b.drafts) (length b.drafts) naming.right b.groups b.drafts can.named,
   all_starts ∙ map_same (λ q. q < length b.drafts) (name_in names) (new_name b.drafts) naming.right b.starts can.starts_there,
@@ -211,15 +244,19 @@ same_nfa b x y names states starts can naming all_states all_starts = (
 -- the NFA of these parts
 abbrev pub nfa_with : List Node → ℕ → ℕ → List ℕ → Groups → Bool → Bool → Terminator → Nfa
 nfa_with states anchored unanchored starts groups utf8 reverse terminator = record {
-  automaton = record { states = states; start_anchored = anchored; start_unanchored = unanchored; start_pattern = starts; reverse = reverse };
+  automaton = record { states = states; start_anchored = anchored; start_unanchored = unanchored; start_pattern = starts;
+      reverse = reverse };
   groups = groups;
   utf8 = utf8;
   terminator = terminator;
 }
 
-pub nfa_made : (b : Assembly) (x y anchored unanchored : ℕ) (names : List ℕ) (states : List Node) (starts : List ℕ) (groups : Groups) (utf8 reverse : Bool) (t : Terminator) → CanBuild b x y → IsNaming b.drafts names →
-    states ≡ map (renamed (name_in names) b.groups) (kept b.drafts) → starts ≡ map (name_in names) b.starts → anchored ≡ name_in names x → unanchored ≡ name_in names y →
-    groups ≡ b.groups → utf8 ≡ b.utf8 → reverse ≡ b.reverse → t ≡ b.terminator → nfa_with states anchored unanchored starts groups utf8 reverse t ≡ nfa_of b x y
+pub nfa_made : (b : Assembly) (x y anchored unanchored : ℕ) (names : List ℕ) (states : List Node) (starts : List ℕ) (groups : Groups)
+    (utf8 reverse : Bool) (t : Terminator) → CanBuild b x y → IsNaming b.drafts names →
+    states ≡ map (renamed (name_in names) b.groups) (kept b.drafts) → starts ≡ map (name_in names) b.starts → anchored ≡ name_in names x →
+        unanchored ≡ name_in names y →
+    groups ≡ b.groups → utf8 ≡ b.utf8 → reverse ≡ b.reverse → t ≡ b.terminator →
+        nfa_with states anchored unanchored starts groups utf8 reverse t ≡ nfa_of b x y
 nfa_made b x y anchored unanchored names states starts groups utf8 reverse t can naming all_states all_starts a u g f r e =
     let h = same_nfa b x y names states starts can naming all_states all_starts in
     let target = automaton_of b x y in

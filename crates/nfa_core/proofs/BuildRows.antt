@@ -1,7 +1,8 @@
 -- What is built of the states of the byte `a` behind any other bytes, by computation.
 use Rattle.std.proofs.Common.{◌≡◌, List, [], ◌∷◌, refl, false, true, Some, None}
 use Rattle.look_core.specs.Terminators.{one_of}
-use Rattle.nfa_core.specs.BuilderStates.{Assembly, DraftNode, empty_draft, range_draft, sparse_draft, union_draft, union_reverse_draft, match_draft, blank, with_group, patched, bytes_of, draft_at}
+use Rattle.nfa_core.specs.BuilderStates.{Assembly, DraftNode, empty_draft, range_draft, sparse_draft, union_draft, union_reverse_draft}
+use Rattle.nfa_core.specs.BuilderStates.{match_draft, blank, with_group, patched, bytes_of, draft_at}
 use Rattle.nfa_core.specs.BuilderFaults.{limit_fault, exceeded_size_limit}
 use Rattle.nfa_core.specs.Drafted.{table_match}
 use Rattle.nfa_core.specs.Nfa.{Automaton, byte_range, binary_union, match_node}
@@ -11,7 +12,8 @@ use Rattle.nfa_core.specs.Renaming.{past, new_name, automaton_of}
 
 -- a union that prefers its last way, an empty state that stands for it, all bytes, the byte 61, and a match
 abbrev byte_a : List DraftNode
-byte_a = union_reverse_draft (2 ∷ 3 ∷ []) ∷ empty_draft 0 ∷ sparse_draft ((0x00, 0xFF, 1) ∷ []) ∷ range_draft 0x61 0x61 4 ∷ match_draft 0 ∷ []
+byte_a = union_reverse_draft (2 ∷ 3 ∷ []) ∷ empty_draft 0 ∷ sparse_draft ((0x00, 0xFF,
+    1) ∷ []) ∷ range_draft 0x61 0x61 4 ∷ match_draft 0 ∷ []
 
 abbrev byte_a_builder : Assembly
 byte_a_builder = record (blank (one_of 0x0A)) { drafts = byte_a; starts = 3 ∷ [] }
@@ -61,5 +63,6 @@ one_way_more = refl
 another_way : patched 5 (range_draft 0x61 0x61 0) ≡ range_draft 0x61 0x61 5
 another_way = refl
 
-fourth_state : limit_fault (Some 72) (bytes_of (match_draft 0 ∷ match_draft 0 ∷ match_draft 0 ∷ match_draft 0 ∷ [])) ≡ Some (exceeded_size_limit 72)
+fourth_state : limit_fault (Some 72) (bytes_of (match_draft 0 ∷ match_draft 0 ∷ match_draft 0 ∷ match_draft 0 ∷ [])) ≡ Some
+    (exceeded_size_limit 72)
 fourth_state = refl

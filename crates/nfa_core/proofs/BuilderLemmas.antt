@@ -1,11 +1,14 @@
 -- The bytes of a builder's states as states are added and changed.
-use Rattle.std.proofs.Common.{◌≡◌, ℕ, suc, ◌+◌, ◌-◌, ◌*◌, ◌<◌, ◌≤◌, min, List, [], ◌∷◌, ◌++◌, map, length, set, get_or, refl, sym, ap, nat_lt, Option, None, if◌then◌else◌, le-ltb, false, ◌∙◌, arith, length-append, replicate}
+use Rattle.std.proofs.Common.{◌≡◌, ℕ, suc, ◌+◌, ◌-◌, ◌*◌, ◌<◌, ◌≤◌, min, List, [], ◌∷◌, ◌++◌, map, length, set, get_or, refl, sym, ap}
+use Rattle.std.proofs.Common.{nat_lt, Option, None, if◌then◌else◌, le-ltb, false, ◌∙◌, arith, length-append, replicate}
 use Rattle.std.specs.List.{sum_by}
 use Rattle.std.proofs.lemmas.List.{map-set, get_or-map, map-append, length-map, append_assoc, append-nil}
 use Rattle.std.proofs.Math.Seq.{map-set_same}
 use Rattle.std.proofs.lemmas.List.Sums.{sum_by_push, sum_by-set}
 use Rattle.search_types.specs.Groups.{Name}
-use Rattle.nfa_core.specs.BuilderStates.{filled, with_name, up_to_pattern, with_group, DraftNode, empty_draft, range_draft, sparse_draft, look_draft, capture_start_draft, capture_end_draft, union_draft, union_reverse_draft, fail_draft, match_draft, draft_bytes, way_bytes, bytes_of, patched, draft_at, patched_at}
+use Rattle.nfa_core.specs.BuilderStates.{filled, with_name, up_to_pattern, with_group, DraftNode, empty_draft, range_draft, sparse_draft}
+use Rattle.nfa_core.specs.BuilderStates.{look_draft, capture_start_draft, capture_end_draft, union_draft, union_reverse_draft, fail_draft}
+use Rattle.nfa_core.specs.BuilderStates.{match_draft, draft_bytes, way_bytes, bytes_of, patched, draft_at, patched_at}
 
 capped_sum : (m a b : ℕ) → min (min a m + min b m) m ≡ min (a + b) m
 capped_sum m a b = grind arith
@@ -13,7 +16,8 @@ capped_sum m a b = grind arith
 pub bytes_pushed : (drafts : List DraftNode) (draft : DraftNode) →
     min (bytes_of drafts + min (draft_bytes draft) 18446744073709551615) 18446744073709551615 ≡ bytes_of (drafts ++ draft ∷ [])
 bytes_pushed drafts draft =
-    capped_sum 18446744073709551615 (sum_by draft_bytes drafts) (draft_bytes draft) ∙ ap (λ n. min n 18446744073709551615) (sym (sum_by_push draft_bytes drafts draft))
+    capped_sum 18446744073709551615 (sum_by draft_bytes drafts) (draft_bytes draft)
+        ∙ ap (λ n. min n 18446744073709551615) (sym (sum_by_push draft_bytes drafts draft))
 
 longer : (names : List ℕ) (to : ℕ) → 24 + 4 * length (names ++ to ∷ []) ≡ 24 + 4 * length names + 4
 longer names to =
@@ -41,11 +45,13 @@ pub bytes_patched : (drafts : List DraftNode) (from to : ℕ) → from < length 
 bytes_patched drafts from to inside =
     let draft = draft_at drafts from in
     let sums = sum_by-set draft_bytes drafts from (patched to draft) fail_draft inside in
-    capped_change 18446744073709551615 (sum_by draft_bytes drafts) (sum_by draft_bytes (patched_at drafts from to)) (draft_bytes draft) (way_bytes draft)
+    capped_change 18446744073709551615 (sum_by draft_bytes drafts) (sum_by draft_bytes (patched_at drafts from to)) (draft_bytes draft)
+        (way_bytes draft)
     (sums ∙ ap (λ n. sum_by draft_bytes drafts + n) (draft_bytes_patched to draft))
 
 -- the states as contracts see them, where one was patched
-pub view_patched : {D : Type 0} (view : D → DraftNode) (drafts : List D) (at from to : ℕ) (old new other : D) → at ≡ from → from < length drafts →
+pub view_patched : {D : Type 0} (view : D → DraftNode) (drafts : List D) (at from to : ℕ) (old new other : D) → at ≡ from →
+    from < length drafts →
     old ≡ get_or drafts from other → view new ≡ patched to (view old) → map view (set drafts at new) ≡ patched_at (map view drafts) from to
 view_patched view drafts at from to old new other same inside is_old e =
     let there = get_or-map view drafts from other fail_draft inside in
@@ -74,7 +80,8 @@ filled_enough filler xs n long =
     ap (λ k. xs ++ replicate k filler) gap ∙ append-nil xs
 
 -- the same of things that are seen as others
-pub view_filled_more : {D A : Type 0} (view : D → A) (filler : A) (old new : List D) (one : D) (n : ℕ) (goal : List A) → new ≡ old ++ one ∷ [] →
+pub view_filled_more : {D A : Type 0} (view : D → A) (filler : A) (old new : List D) (one : D) (n : ℕ) (goal : List A) →
+    new ≡ old ++ one ∷ [] →
     view one ≡ filler → length old < n → filled filler (map view old) n ≡ goal → filled filler (map view new) n ≡ goal
 view_filled_more view filler old new one n goal pushed is_filler short so_far =
     let seen = ap (map view) pushed ∙ map-append view old (one ∷ []) ∙ ap (λ a. map view old ++ a ∷ []) is_filler in
@@ -83,7 +90,8 @@ view_filled_more view filler old new one n goal pushed is_filler short so_far =
     ap (λ xs. filled filler xs n) seen ∙ filled_more filler (map view old) n room ∙ so_far
 
 -- the name that comes behind the fillers
-pub view_named : {D : Type 0} (view : D → Option Name) (old mid new : List D) (one : D) (index : ℕ) (name : Option Name) → new ≡ mid ++ one ∷ [] →
+pub view_named : {D : Type 0} (view : D → Option Name) (old mid new : List D) (one : D) (index : ℕ) (name : Option Name) →
+    new ≡ mid ++ one ∷ [] →
     view one ≡ name → index ≤ length mid → length old ≤ index →
     filled None (map view mid) index ≡ filled None (map view old) index → map view new ≡ with_name (map view old) index name
 view_named view old mid new one index name pushed is_name enough absent so_far =
@@ -94,10 +102,12 @@ view_named view old mid new one index name pushed is_name enough absent so_far =
     let none : length (map view old) ≤ index = omega arith in
     let test : nat_lt index (length (map view old)) ≡ false = le-ltb _ _ none in
     let filled_up = sym (filled_enough None (map view mid) index full) ∙ so_far in
-    seen ∙ ap (λ xs. xs ++ name ∷ []) filled_up ∙ sym (ap (λ b. if b then map view old else (filled None (map view old) index ++ name ∷ [])) test)
+    seen ∙ ap (λ xs. xs ++ name ∷ []) filled_up ∙ sym (ap (λ b. if b then map view old
+        else (filled None (map view old) index ++ name ∷ [])) test)
 
 -- the groups where those of one pattern were changed
-pub view_group : {D : Type 0} (view : D → List (Option Name)) (old mid : List D) (at pattern index : ℕ) (name : Option Name) (was now other : D) → at ≡ pattern →
+pub view_group : {D : Type 0} (view : D → List (Option Name)) (old mid : List D) (at pattern index : ℕ) (name : Option Name)
+    (was now other : D) → at ≡ pattern →
     map view mid ≡ up_to_pattern (map view old) pattern → pattern < length mid → was ≡ get_or mid pattern other →
     view now ≡ with_name (view was) index name → map view (set mid at now) ≡ with_group (map view old) pattern index name
 view_group view old mid at pattern index name was now other same filled_up inside is_was named =

@@ -27,23 +27,28 @@ module _ {A : Type 0} (same : A → A → Bool) (laws : IsEquality same) (ways :
   pub once_of : (path : List A) (p : A) (r : List A) → KeepsOff same ways path p r → HasNoneTwice same (p ∷ r)
   once_of path p [] off = (refl, tt)
   once_of path p (q ∷ r) off = (
-    ⊎_elim (λ (h : Has same p (q ∷ r)). not_both (has same p (p ∷ path)) _ (has_first same laws p path) (all_off (p ∷ path) q r off.2 p h)) (λ e. e) (has_or_not same p (q ∷ r)),
+    ⊎_elim (λ (h : Has same p (q ∷ r)). not_both (has same p (p ∷ path)) _ (has_first same laws p path) (all_off (p ∷ path) q r off.2 p h))
+        (λ e. e) (has_or_not same p (q ∷ r)),
     once_of (p ∷ path) q r off.2,
   )
 
-  pub keeps_off : (path : List A) (p : A) (r : List A) → IsChain same ways p r → HasNoneTwice same (p ∷ r) → ((z : A) → Has same z (p ∷ r) → has same z path ≡ false) → KeepsOff same ways path p r
+  pub keeps_off : (path : List A) (p : A) (r : List A) → IsChain same ways p r → HasNoneTwice same (p ∷ r) →
+      ((z : A) → Has same z (p ∷ r) → has same z path ≡ false) → KeepsOff same ways path p r
   keeps_off path p [] chain once off = off p (has_first same laws p [])
   keeps_off path p (q ∷ r) chain once off = (
     off p (has_first same laws p (q ∷ r)),
     chain.0,
     keeps_off (p ∷ path) q r chain.1 once.1 (λ z h. ⊎_elim
         (λ (there : Has same z (p ∷ path)). ⊎_elim
-        (λ (e : z ≡ p). let g : Has same p (q ∷ r) = (let P : A → Type 0 = λ w. Has same w (q ∷ r) in subst P e h) in not_both (has same p (q ∷ r)) _ g once.0)
+        (λ (e : z ≡ p). let g : Has same p (q ∷ r) = (let P : A → Type 0 = λ w. Has same w (q ∷ r) in subst P e h) in
+            not_both (has same p (q ∷ r)) _ g once.0)
         (λ on. not_both (has same z path) _ on (off z (has_later same z p (q ∷ r) h))) (has_cons same laws z p path there))
         (λ e. e) (has_or_not same z (p ∷ path))),
   )
 
   -- all of a chain from the set are in the set
-  pub stays_in : (In : A → Type 0) (n : ℕ) → IsFinite same ways In n → (p : A) (r : List A) → In p → IsChain same ways p r → (z : A) → Has same z (p ∷ r) → In z
+  pub stays_in : (In : A → Type 0) (n : ℕ) → IsFinite same ways In n → (p : A) (r : List A) → In p → IsChain same ways p r → (z : A) →
+      Has same z (p ∷ r) → In z
   stays_in In n finite p [] here chain z h = of_cons same laws In p [] here (λ y g. none_in same y _ g) z h
-  stays_in In n finite p (q ∷ r) here chain z h = of_cons same laws In p (q ∷ r) here (stays_in In n finite q r (finite.stays p here q chain.0) chain.1) z h
+  stays_in In n finite p (q ∷ r) here chain z h = of_cons same laws In p (q ∷ r) here
+      (stays_in In n finite q r (finite.stays p here q chain.0) chain.1) z h

@@ -1,5 +1,6 @@
 -- Bytes of one class, state by state: they lie alike in the ranges that states and their looks tell apart.
-use Rattle.std.proofs.Common.{◌≡◌, ℕ, zero, suc, ◌<◌, true, false, Bool, List, [], ◌∷◌, ◌++◌, length, map, replicate, All, get_or, refl, ap, ap₂, ◌∙◌, subst, arith, ⊎_elim, ◌&&◌}
+use Rattle.std.proofs.Common.{◌≡◌, ℕ, zero, suc, ◌<◌, true, false, Bool, List, [], ◌∷◌, ◌++◌, length, map, replicate, All, get_or, refl, ap}
+use Rattle.std.proofs.Common.{ap₂, ◌∙◌, subst, arith, ⊎_elim, ◌&&◌}
 use Rattle.std.proofs.lemmas.Bool.{cases_Bool}
 use Rattle.std.proofs.lemmas.Bool.Decides.{nat_tests}
 use Rattle.std.proofs.lemmas.List.{length-replicate}
@@ -11,17 +12,22 @@ use Rattle.look_core.specs.Codes.{is_anchor_lf, is_anchor_crlf, is_word_look}
 use Rattle.look_core.specs.Terminators.{Terminator}
 use Rattle.look_core.specs.ToldApart.{told_apart, line_ends, crlf_ranges, word_ranges}
 use Rattle.look_core.specs.declared.look.Look.{Look}
-use Rattle.look_core.specs.declared.look.Look.TheVariants.{Start, End, StartLF, EndLF, StartCRLF, EndCRLF, WordAscii, WordAsciiNegate, WordUnicode, WordUnicodeNegate, WordStartAscii, WordEndAscii, WordStartUnicode, WordEndUnicode, WordStartHalfAscii, WordEndHalfAscii, WordStartHalfUnicode, WordEndHalfUnicode}
+use Rattle.look_core.specs.declared.look.Look.TheVariants.{Start, End, StartLF, EndLF, StartCRLF, EndCRLF, WordAscii, WordAsciiNegate}
+use Rattle.look_core.specs.declared.look.Look.TheVariants.{WordUnicode, WordUnicodeNegate, WordStartAscii, WordEndAscii, WordStartUnicode}
+use Rattle.look_core.specs.declared.look.Look.TheVariants.{WordEndUnicode, WordStartHalfAscii, WordEndHalfAscii, WordStartHalfUnicode}
+use Rattle.look_core.specs.declared.look.Look.TheVariants.{WordEndHalfUnicode}
 use Rattle.look_core.proofs.ForCallers.{LieAlike, same_class_alike, same_end, same_word, same_byte, All-left, All-right}
 use Rattle.nfa_core.specs.Alike.{marks_of, AreReadAlike, AreAlike}
-use Rattle.nfa_core.specs.Nfa.{Node, byte_range, sparse_node, dense_node, look_node, union_node, binary_union, capture_node, fail_node, match_node, Automaton, node_at}
+use Rattle.nfa_core.specs.Nfa.{Node, byte_range, sparse_node, dense_node, look_node, union_node, binary_union, capture_node, fail_node}
+use Rattle.nfa_core.specs.Nfa.{match_node, Automaton, node_at}
 use Rattle.nfa_core.specs.NfaValue.{IsSound, IsNodeOf, told_by}
 use Rattle.nfa_core.specs.Ways.{on_byte, in_ranges}
 use Rattle.nfa_core.proofs.LookedLemmas.{looks_any}
 
 -- ---- what holds of all of a joined list
 
-told_at : (t : Terminator) (P : ℕ × ℕ → Type 0) (nodes : List Node) (q : ℕ) → All P (flat_map (told_by t) nodes) → All P (told_by t (get_or nodes q fail_node))
+told_at : (t : Terminator) (P : ℕ × ℕ → Type 0) (nodes : List Node) (q : ℕ) → All P (flat_map (told_by t) nodes) →
+    All P (told_by t (get_or nodes q fail_node))
 told_at t P [] q all = λ k d h. absurd (omega (arith, h))
 told_at t P (node ∷ nodes) zero all = All-left P (told_by t node) (flat_map (told_by t) nodes) all
 told_at t P (node ∷ nodes) (suc q) all = told_at t P nodes q (All-right P (told_by t node) (flat_map (told_by t) nodes) all)
@@ -45,10 +51,13 @@ module _ (b c : ℕ) where
   alike_ranges ((low, high, next) ∷ others) all =
       let e : lies low high b ≡ lies low high c = same_side b c low high (all zero (low, high) (omega arith)) in
       ⊎_elim (λ (t : lies low high c ≡ true). rw (e, t) refl)
-      (λ (f : lies low high c ≡ false). rw (e, f) (alike_ranges others (λ j d g. all (suc j) d (omega (arith, g))))) (cases_Bool (lies low high c))
+      (λ (f : lies low high c ≡ false). rw (e, f) (alike_ranges others (λ j d g. all (suc j) d (omega (arith, g)))))
+          (cases_Bool (lies low high c))
 
-  alike_node : (t : Terminator) (p : ℕ) (node : Node) → IsNodeOf p node → All (LieAlike b c) (told_by t node) → on_byte node b ≡ on_byte node c
-  alike_node t p (byte_range low high next) sound all = let e : lies low high b ≡ lies low high c = same_side b c low high (all zero (low, high) (omega arith)) in rw e refl
+  alike_node : (t : Terminator) (p : ℕ) (node : Node) → IsNodeOf p node → All (LieAlike b c) (told_by t node) →
+      on_byte node b ≡ on_byte node c
+  alike_node t p (byte_range low high next) sound all = let e : lies low high b ≡ lies low high c =
+      same_side b c low high (all zero (low, high) (omega arith)) in rw e refl
   alike_node t p (sparse_node ranges) sound all = alike_ranges ranges all
   alike_node t p (dense_node names) sound all = absurd sound
   alike_node t p (look_node l next) sound all = refl
@@ -145,13 +154,16 @@ unmarked_is (suc n) (x ∷ xs) len none =
     ap₂ ◌∷◌ (none zero (omega arith)) (unmarked_is n xs len_xs (λ k h. none (suc k) (omega (arith, h))))
 
 -- what is marked from no marks on are the marks of the states
-pub marks_are : (t : Terminator) (nodes : List Node) (none : List Bool) → length none ≡ 256 → ((b : ℕ) → b < 256 → get_or none b false ≡ false) →
+pub marks_are : (t : Terminator) (nodes : List Node) (none : List Bool) → length none ≡ 256 →
+    ((b : ℕ) → b < 256 → get_or none b false ≡ false) →
     recorded none (flat_map (told_by t) nodes) ≡ marks_of t nodes
 unfolding marks_of
-marks_are t nodes none len is = ap (λ m. recorded m (flat_map (told_by t) nodes)) (unmarked_is 256 none len (λ b h. is b (omega (arith, h, len))))
+marks_are t nodes none len is = ap (λ m. recorded m (flat_map (told_by t) nodes))
+    (unmarked_is 256 none len (λ b h. is b (omega (arith, h, len))))
 
 -- bytes of one class lie alike in all ranges that states tell apart, for any number of bytes
-lie_alike_among : (n : ℕ) (ranges : List (ℕ × ℕ)) (marks : List Bool) (b c : ℕ) → HasMarks marks (recorded (replicate n false) ranges) → b < n → c < n →
+lie_alike_among : (n : ℕ) (ranges : List (ℕ × ℕ)) (marks : List Bool) (b c : ℕ) → HasMarks marks (recorded (replicate n false) ranges) →
+    b < n → c < n →
     marks_below marks b ≡ marks_below marks c → All (LieAlike b c) ranges
 lie_alike_among n ranges marks b c has low_b low_c same =
     let none : length (replicate n false) ≡ n = length-replicate n false in
@@ -167,10 +179,12 @@ lie_alike a t marks b c has low_b low_c same q =
 
 -- ---- bytes of one class are alike for the automaton
 
-look_at : (t : Terminator) (b c q : ℕ) (a : Automaton) (l : Look) (next : ℕ) → node_at a q ≡ look_node l next → All (LieAlike b c) (told_by t (node_at a q)) → All (LieAlike b c) (told_apart t l)
+look_at : (t : Terminator) (b c q : ℕ) (a : Automaton) (l : Look) (next : ℕ) → node_at a q ≡ look_node l next →
+    All (LieAlike b c) (told_by t (node_at a q)) → All (LieAlike b c) (told_apart t l)
 look_at t b c q a l next e all = let P : Node → Type 0 = λ node. All (LieAlike b c) (told_by t node) in subst P e all
 
-pub bytes_alike : (a : Automaton) (t : Terminator) (marks : List Bool) (b c : ℕ) → IsSound a → HasMarks marks (marks_of t a.states) → b < 256 → c < 256 →
+pub bytes_alike : (a : Automaton) (t : Terminator) (marks : List Bool) (b c : ℕ) → IsSound a → HasMarks marks (marks_of t a.states) →
+    b < 256 → c < 256 →
     marks_below marks b ≡ marks_below marks c → AreAlike t a b c
 bytes_alike a t marks b c sound has low_b low_c same =
     let all : (q : ℕ) → All (LieAlike b c) (told_by t (node_at a q)) = lie_alike a t marks b c has low_b low_c same in record {

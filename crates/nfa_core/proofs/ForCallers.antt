@@ -3,7 +3,8 @@
 -- names are equal, and pairs are, where the test says so; the names below a bound are finitely many
 pub use Rattle.nfa_core.proofs.PairLemmas.{names_equal, pairs_equal, same_here, from_map, finite_names}
 -- nothing is in an empty list; a thing is in a list or not; what is in a longer list, and what holds of all in it
-pub use Rattle.nfa_core.proofs.MemberLemmas.{none_in, not_both, has_or_not, has_cons, has_first, has_same, has_one, has_later, of_cons, of_append, of_push, of_flat_map}
+pub use Rattle.nfa_core.proofs.MemberLemmas.{none_in, not_both, has_or_not, has_cons, has_first, has_same, has_one, has_later, of_cons}
+pub use Rattle.nfa_core.proofs.MemberLemmas.{of_append, of_push, of_flat_map}
 -- a list joined to what was there: in two parts, without repeats, all that comes, and no more; repeats below a flat_map
 pub use Rattle.nfa_core.proofs.JoinLemmas.{join-append, join_once, join_brings, of_join, join_flat_map}
 -- an optional value is there or not, and is one value

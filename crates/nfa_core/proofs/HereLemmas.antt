@@ -1,11 +1,13 @@
 -- Where no match is reached without a byte, no run ends at the place where it begins.
-use Rattle.std.proofs.Common.{◌≡◌, ℕ, ◌≤◌, true, false, Bool, if◌then◌else◌, List, [], ◌∷◌, map, refl, sym, ap, ◌∙◌, ⊎_elim, Option, Some, None, subst, arith}
+use Rattle.std.proofs.Common.{◌≡◌, ℕ, ◌≤◌, true, false, Bool, if◌then◌else◌, List, [], ◌∷◌, map, refl, sym, ap, ◌∙◌, ⊎_elim, Option, Some}
+use Rattle.std.proofs.Common.{None, subst, arith}
 use Rattle.std.specs.Bool.{nat_eq}
 use Rattle.look_core.specs.declared.look.Look.{Look}
 use Rattle.nfa_core.specs.Walks.{Has}
 use Rattle.nfa_core.specs.Runs.{IsChain, last_or}
 use Rattle.nfa_core.specs.Places.{same_pair}
-use Rattle.nfa_core.specs.Nfa.{Node, byte_range, sparse_node, dense_node, look_node, union_node, binary_union, capture_node, fail_node, match_node, Automaton, node_at}
+use Rattle.nfa_core.specs.Nfa.{Node, byte_range, sparse_node, dense_node, look_node, union_node, binary_union, capture_node, fail_node}
+use Rattle.nfa_core.specs.Nfa.{match_node, Automaton, node_at}
 use Rattle.nfa_core.specs.NfaValue.{IsSound, free_steps, reached_freely, is_match, has_empty}
 use Rattle.nfa_core.specs.Ways.{Text, reads, is_passed, on_read, on_nothing, place_behind, ways, IsPairOf, ends_from}
 use Rattle.nfa_core.proofs.MemberLemmas.{none_in, not_both, has_append}
@@ -45,13 +47,15 @@ along : (is_reverse : Bool) (i j k : ℕ) → IsBehind is_reverse i j → IsBehi
 along false i j k a b = omega (arith, a, b)
 along true i j k a b = omega (arith, a, b)
 
-read_behind : (is_reverse : Bool) (t : Text) (i : ℕ) (read : Option (ℕ × ℕ)) → IsBeside is_reverse t i read → IsBehind is_reverse i (place_behind i read)
+read_behind : (is_reverse : Bool) (t : Text) (i : ℕ) (read : Option (ℕ × ℕ)) → IsBeside is_reverse t i read →
+    IsBehind is_reverse i (place_behind i read)
 read_behind is_reverse t i None beside = itself is_reverse i
 read_behind false t i (Some (b, j)) beside = omega (arith, beside.0)
 read_behind true t i (Some (b, j)) beside = omega (arith, beside.0)
 
 -- who has read doesn't come back
-read_leaves : (is_reverse : Bool) (t : Text) (node : Node) (i r k : ℕ) (read : Option (ℕ × ℕ)) → IsBeside is_reverse t i read → Has nat_eq r (on_read node read) →
+read_leaves : (is_reverse : Bool) (t : Text) (node : Node) (i r k : ℕ) (read : Option (ℕ × ℕ)) → IsBeside is_reverse t i read →
+    Has nat_eq r (on_read node read) →
     IsBehind is_reverse (place_behind i read) k → k ≡ i → ⊥
 read_leaves is_reverse t node i r k None beside h behind e = none_in nat_eq r _ h
 read_leaves false t node i r k (Some (b, j)) beside h behind e = omega (arith, beside.0, behind, e)
@@ -70,7 +74,8 @@ module _ (a : Automaton) (t : Text) where
       (λ h. let o = from_map j y (on_read node (reads a.reverse t p.0)) h in by_read o.0 o.1 o.2)
       (λ h. let o = from_map p.0 y (on_nothing node (λ l. is_passed a.reverse t l p.0)) h in
       by_nothing o.0 (free_way node (λ l. is_passed a.reverse t l p.0) o.0 o.1) o.2)
-      (has_append same_pair y (map (λ q. (j, q)) (on_read node (reads a.reverse t p.0))) (map (λ q. (p.0, q)) (on_nothing node (λ l. is_passed a.reverse t l p.0))) way)
+      (has_append same_pair y (map (λ q. (j, q)) (on_read node (reads a.reverse t p.0)))
+          (map (λ q. (p.0, q)) (on_nothing node (λ l. is_passed a.reverse t l p.0))) way)
 
   way_behind : (p y : ℕ × ℕ) → Way p y → IsBehind a.reverse p.0 y.0
   way_behind p y way =
@@ -93,7 +98,8 @@ module _ (a : Automaton) (t : Text) where
       let behind : IsBehind a.reverse y.0 (last_or y r).0 = chain_behind r y chain.1 in
       way_parts p y chain.0 (IsFree p.1 (last_or y r).1)
       (λ q h is. let B : ℕ × ℕ → Type 0 = λ z. IsBehind a.reverse z.0 (last_or y r).0 in
-      absurd (read_leaves a.reverse t (node_at a p.1) p.0 q (last_or y r).0 (reads a.reverse t p.0) (reads_beside a.reverse t p.0) h (subst B is behind) e))
+      absurd (read_leaves a.reverse t (node_at a p.1) p.0 q (last_or y r).0 (reads a.reverse t p.0) (reads_beside a.reverse t p.0) h
+          (subst B is behind) e))
       (λ q h is. let place : p.0 ≡ y.0 = sym (ap (λ z. z.0) is) in
       let name : y.1 ≡ q = ap (λ z. z.1) is in
       let more = stays_free r y chain.1 (e ∙ place) in

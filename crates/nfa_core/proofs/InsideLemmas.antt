@@ -1,18 +1,21 @@
 -- Where the ends of runs lie: at places that are reached by reading bytes of the text.
-use Rattle.std.proofs.Common.{◌≡◌, ℕ, suc, ◌≤◌, true, false, Bool, List, [], ◌∷◌, map, refl, sym, ap, ⊎_elim, Option, Some, None, subst, arith}
+use Rattle.std.proofs.Common.{◌≡◌, ℕ, suc, ◌≤◌, true, false, Bool, List, [], ◌∷◌, map, refl, sym, ap, ⊎_elim, Option, Some, None, subst}
+use Rattle.std.proofs.Common.{arith}
 use Rattle.nfa_core.specs.Walks.{Has}
 use Rattle.nfa_core.specs.Runs.{IsChain, last_or}
 use Rattle.nfa_core.specs.Places.{same_pair}
 use Rattle.nfa_core.specs.Nfa.{Node, Automaton, node_at, IsWellFormed}
 use Rattle.nfa_core.specs.Reaches.{IsInside}
-use Rattle.nfa_core.specs.Ways.{Text, reads, is_passed, on_read, on_nothing, place_behind, ways, match_of, place_of, bytes_left, IsPairOf, ends_from}
+use Rattle.nfa_core.specs.Ways.{Text, reads, is_passed, on_read, on_nothing, place_behind, ways, match_of, place_of, bytes_left, IsPairOf}
+use Rattle.nfa_core.specs.Ways.{ends_from}
 use Rattle.nfa_core.proofs.MemberLemmas.{has_append}
 use Rattle.nfa_core.proofs.PairLemmas.{from_map}
 use Rattle.nfa_core.proofs.AutomatonLemmas.{IsBeside, reads_beside, match_is}
 use Rattle.nfa_core.proofs.EndsLemmas.{listed_run}
 use Rattle.nfa_core.proofs.BehindLemmas.{place_zero, match_place}
 
-read_inside : (is_reverse : Bool) (t : Text) (i k : ℕ) (read : Option (ℕ × ℕ)) → k ≤ bytes_left is_reverse t i → IsBeside is_reverse t (place_of is_reverse i k) read →
+read_inside : (is_reverse : Bool) (t : Text) (i k : ℕ) (read : Option (ℕ × ℕ)) → k ≤ bytes_left is_reverse t i →
+    IsBeside is_reverse t (place_of is_reverse i k) read →
     IsInside is_reverse i (bytes_left is_reverse t i) (place_behind (place_of is_reverse i k) read)
 read_inside is_reverse t i k None l beside = (k, l, refl)
 read_inside false t i k (Some (b, j)) l beside = (suc k, omega (arith, beside.1), omega (arith, beside.0))
@@ -25,7 +28,8 @@ module _ (a : Automaton) (t : Text) (i : ℕ) where
   moved : (j x : ℕ) → Inside j → Inside (place_behind j (reads a.reverse t j))
   moved j x there =
       subst (λ (m : ℕ). Inside (place_behind m (reads a.reverse t m))) (sym there.2)
-      (read_inside a.reverse t i there.0 (reads a.reverse t (place_of a.reverse i there.0)) there.1 (reads_beside a.reverse t (place_of a.reverse i there.0)))
+      (read_inside a.reverse t i there.0 (reads a.reverse t (place_of a.reverse i there.0)) there.1
+          (reads_beside a.reverse t (place_of a.reverse i there.0)))
 
   way_inside : (p y : ℕ × ℕ) → Inside p.0 → Has same_pair y (ways a t p) → Inside y.0
   way_inside p y there way = ⊎_elim
@@ -47,13 +51,15 @@ module _ (a : Automaton) (t : Text) (i : ℕ) where
       subst Inside (sym (match_place (node_at a (last_or (i, q) run.0).1) (last_or (i, q) run.0).0 x run.1.2))
       (chain_inside run.0 (i, q) (0, omega arith, sym (place_zero a.reverse i)) run.1.0)
 
-pub inside_forward : (a : Automaton) (t : Text) (i j : ℕ) → a.reverse ≡ false → i ≤ t.end → IsInside a.reverse i (bytes_left a.reverse t i) j → (i ≤ j) × (j ≤ t.end)
+pub inside_forward : (a : Automaton) (t : Text) (i j : ℕ) → a.reverse ≡ false → i ≤ t.end →
+    IsInside a.reverse i (bytes_left a.reverse t i) j → (i ≤ j) × (j ≤ t.end)
 inside_forward a t i j up here is =
     let I : Bool → Type 0 = λ b. IsInside b i (bytes_left b t i) j in
     let k : I false = subst I up is in
     (omega (arith, k.1, k.2), omega (arith, k.1, k.2, here))
 
-pub inside_reverse : (a : Automaton) (t : Text) (i j : ℕ) → a.reverse ≡ true → t.start ≤ i → IsInside a.reverse i (bytes_left a.reverse t i) j → (t.start ≤ j) × (j ≤ i)
+pub inside_reverse : (a : Automaton) (t : Text) (i j : ℕ) → a.reverse ≡ true → t.start ≤ i →
+    IsInside a.reverse i (bytes_left a.reverse t i) j → (t.start ≤ j) × (j ≤ i)
 inside_reverse a t i j is_reverse here is =
     let I : Bool → Type 0 = λ b. IsInside b i (bytes_left b t i) j in
     let k : I true = subst I is_reverse is in

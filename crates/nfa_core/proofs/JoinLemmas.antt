@@ -4,7 +4,8 @@ use Rattle.std.proofs.lemmas.List.{append_assoc, append-nil}
 use Rattle.std.proofs.lemmas.Grind.{flat_map-append}
 use Rattle.std.specs.List.{flat_map}
 use Rattle.nfa_core.specs.Walks.{has, Has, IsEquality, HasNoneTwice, join}
-use Rattle.nfa_core.proofs.MemberLemmas.{none_in, not_both, has_append, has_one, has_same, lacks_later, has_or_not, has_left, has_later, has_first, has_pushed, of_cons, of_push, into_flat_map}
+use Rattle.nfa_core.proofs.MemberLemmas.{none_in, not_both, has_append, has_one, has_same, lacks_later, has_or_not, has_left, has_later}
+use Rattle.nfa_core.proofs.MemberLemmas.{has_first, has_pushed, of_cons, of_push, into_flat_map}
 
 pub join-append : {A : Type 0} (same : A → A → Bool) (seen xs ys : List A) → join same seen (xs ++ ys) ≡ join same (join same seen xs) ys
 join-append same seen [] ys = refl
@@ -16,7 +17,8 @@ pub join_keeps : {A : Type 0} (same : A → A → Bool) (seen xs : List A) (q : 
 join_keeps same seen [] q h = h
 join_keeps same seen (x ∷ xs) q h = ⊎_elim
     (λ (e : has same x seen ≡ true). rw e (join_keeps same seen xs q h))
-    (λ (e : has same x seen ≡ false). rw e (join_keeps same (seen ++ x ∷ []) xs q (has_left same q seen (x ∷ []) h))) (has_or_not same x seen)
+    (λ (e : has same x seen ≡ false). rw e (join_keeps same (seen ++ x ∷ []) xs q (has_left same q seen (x ∷ []) h)))
+        (has_or_not same x seen)
 
 module _ {A : Type 0} (same : A → A → Bool) (laws : IsEquality same) where
   -- nothing comes of what is there
@@ -28,23 +30,27 @@ module _ {A : Type 0} (same : A → A → Bool) (laws : IsEquality same) where
   pub join_brings : (seen xs : List A) (q : A) → Has same q xs → Has same q (join same seen xs)
   join_brings seen [] q h = none_in same q _ h
   join_brings seen (x ∷ xs) q h = ⊎_elim
-      (λ (e : has same x seen ≡ true). rw e (of_cons same laws (λ p. Has same p (join same seen xs)) x xs (join_keeps same seen xs x e) (join_brings seen xs) q h))
+      (λ (e : has same x seen ≡ true). rw e (of_cons same laws (λ p. Has same p (join same seen xs)) x xs (join_keeps same seen xs x e)
+          (join_brings seen xs) q h))
       (λ (e : has same x seen ≡ false). rw e (of_cons same laws (λ p. Has same p (join same (seen ++ x ∷ []) xs)) x xs
       (join_keeps same (seen ++ x ∷ []) xs x (has_pushed same laws x seen)) (join_brings (seen ++ x ∷ []) xs) q h)) (has_or_not same x seen)
 
   -- no more than was there and comes
-  pub of_join : (P : A → Type 0) (seen xs : List A) → ((q : A) → Has same q seen → P q) → ((q : A) → Has same q xs → P q) → (q : A) → Has same q (join same seen xs) → P q
+  pub of_join : (P : A → Type 0) (seen xs : List A) → ((q : A) → Has same q seen → P q) → ((q : A) → Has same q xs → P q) → (q : A) →
+      Has same q (join same seen xs) → P q
   of_join P seen [] old new q h = old q h
   of_join P seen (x ∷ xs) old new q h = ⊎_elim
       (λ (e : has same x seen ≡ true). of_join P seen xs old (λ p g. new p (has_later same p x xs g)) q (rw e at h))
       (λ (e : has same x seen ≡ false). of_join P (seen ++ x ∷ []) xs
-      (of_push same laws P seen x old (new x (has_first same laws x xs))) (λ p g. new p (has_later same p x xs g)) q (rw e at h)) (has_or_not same x seen)
+      (of_push same laws P seen x old (new x (has_first same laws x xs))) (λ p g. new p (has_later same p x xs g)) q (rw e at h))
+          (has_or_not same x seen)
 
 module _ {A : Type 0} (same : A → A → Bool) (laws : IsEquality same) where
   lacks_pushed : (x y : A) (xs : List A) → has same y (x ∷ xs) ≡ false → has same x xs ≡ false → has same x (xs ++ y ∷ []) ≡ false
   lacks_pushed x y xs apart absent = ⊎_elim
       (λ (h : Has same x (xs ++ y ∷ [])). ⊎_elim (λ there. not_both (has same x xs) _ there absent)
-      (λ last. let e : y ≡ x = sym (has_one same laws x y last) in not_both (has same y (x ∷ xs)) _ (has_same same laws y x xs e) apart) (has_append same x xs (y ∷ []) h))
+      (λ last. let e : y ≡ x = sym (has_one same laws x y last) in not_both (has same y (x ∷ xs)) _ (has_same same laws y x xs e) apart)
+          (has_append same x xs (y ∷ []) h))
       (λ e. e) (has_or_not same x (xs ++ y ∷ []))
 
   pub once_pushed : (y : A) (xs : List A) → has same y xs ≡ false → HasNoneTwice same xs → HasNoneTwice same (xs ++ y ∷ [])
@@ -72,4 +78,5 @@ module _ {A : Type 0} (same : A → A → Bool) (laws : IsEquality same) where
       ∙ sym (join-append same_b t (flat_map g s) (g x ++ flat_map g xs))
       ∙ ap (join same_b t) (sym (flat_map-append g s (x ∷ xs)))))
       (λ (e : has same x s ≡ false). rw e
-      (join_flat_map same_b laws_b g t (s ++ x ∷ []) xs ∙ ap (λ l. join same_b t (flat_map g l)) (append_assoc s (x ∷ []) xs))) (has_or_not same x s)
+      (join_flat_map same_b laws_b g t (s ++ x ∷ []) xs ∙ ap (λ l. join same_b t (flat_map g l)) (append_assoc s (x ∷ []) xs)))
+          (has_or_not same x s)

@@ -1,5 +1,6 @@
 -- From a pair to which nothing leads back, the ends of runs are those from where it leads, one after the other.
-use Rattle.std.proofs.Common.{◌≡◌, ℕ, zero, suc, ◌*◌, Bool, true, false, List, [], ◌∷◌, ◌++◌, length, None, refl, sym, ap, ◌∙◌, ⊎_elim, arith}
+use Rattle.std.proofs.Common.{◌≡◌, ℕ, zero, suc, ◌*◌, Bool, true, false, List, [], ◌∷◌, ◌++◌, length, None, refl, sym, ap, ◌∙◌, ⊎_elim}
+use Rattle.std.proofs.Common.{arith}
 use Rattle.std.specs.List.{flat_map}
 use Rattle.std.specs.Option.{option_to_list}
 use Rattle.nfa_core.specs.Walks.{has, Has, IsEquality, IsFinite, join, distinct, chain_ends}
@@ -8,7 +9,8 @@ use Rattle.nfa_core.specs.Places.{same_pair}
 use Rattle.nfa_core.specs.Returns.{IsLeftForGood}
 use Rattle.nfa_core.specs.Nfa.{Automaton, IsWellFormed}
 use Rattle.nfa_core.specs.Ways.{Text, IsPairOf, ways, matched, ends_from}
-use Rattle.nfa_core.proofs.MemberLemmas.{none_in, not_both, has_or_not, has_append, has_left, has_one, flat_map_same, flat_map_twice, of_cons}
+use Rattle.nfa_core.proofs.MemberLemmas.{none_in, not_both, has_or_not, has_append, has_left, has_one, flat_map_same, flat_map_twice}
+use Rattle.nfa_core.proofs.MemberLemmas.{of_cons}
 use Rattle.nfa_core.proofs.JoinLemmas.{join-append, join_flat_map}
 use Rattle.nfa_core.proofs.RelabelLemmas.{same_bound}
 use Rattle.nfa_core.proofs.PairLemmas.{pairs_equal}

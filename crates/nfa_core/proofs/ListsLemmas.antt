@@ -42,7 +42,8 @@ module _ {A B : Type 0} (ways : A → List A) (answer : A → Option B) where
   none_left lists_none = refl
 
   -- what is next, where the head has an answer and where it has none
-  after_answer : {x : A} {rest : List A} {m : List B} → Listed (x ∷ rest) m → (e : B) → answer x ≡ Some e → (t : List B) × (m ≡ e ∷ t) × Listed rest t
+  after_answer : {x : A} {rest : List A} {m : List B} → Listed (x ∷ rest) m → (e : B) → answer x ≡ Some e → (t : List B) × (m ≡ e ∷ t) ×
+      Listed rest t
   after_answer (lists_answer x d rest l is walk) e has = let i : d ≡ e = one_value (answer x) d e is has in (l, ap (λ w. w ∷ l) i, walk)
   after_answer (lists_ways x rest l is walk) e has = no_value (answer x) e _ is has
 

@@ -8,7 +8,8 @@ use Rattle.look_core.specs.declared.look.Look.{Look}
 use Rattle.look_core.specs.Codes.{repr, bit_of}
 use Rattle.look_core.specs.LookSets.{has_look}
 use Rattle.look_core.proofs.ForCallers.{has_look-none, has_look-repr, same_from_bit}
-use Rattle.nfa_core.specs.Nfa.{Node, byte_range, sparse_node, dense_node, look_node, union_node, binary_union, capture_node, fail_node, match_node, Automaton, node_at}
+use Rattle.nfa_core.specs.Nfa.{Node, byte_range, sparse_node, dense_node, look_node, union_node, binary_union, capture_node, fail_node}
+use Rattle.nfa_core.specs.Nfa.{match_node, Automaton, node_at}
 use Rattle.nfa_core.specs.NfaValue.{look_of, looks_of, reached_freely, prefix_looks}
 use Rattle.nfa_core.specs.Transitions.{sparse_next, dense_next, name_or_none}
 use Rattle.nfa_core.specs.Walks.{Has}
@@ -32,7 +33,8 @@ module _ (l : Look) where
   node_looks (byte_range low high next) h = no_look _ h
   node_looks (sparse_node ranges) h = no_look _ h
   node_looks (dense_node names) h = no_look _ h
-  node_looks (look_node k next) h = let e : l ≡ k = same_from_bit l k (eqb-true (bit_of l) (bit_of k) (sym (has_look-repr k l) ∙ h)) in (next, ap (λ m. look_node m next) (sym e))
+  node_looks (look_node k next) h = let e : l ≡ k = same_from_bit l k (eqb-true (bit_of l) (bit_of k) (sym (has_look-repr k l) ∙ h)) in
+      (next, ap (λ m. look_node m next) (sym e))
   node_looks (union_node names) h = no_look _ h
   node_looks (binary_union first second) h = no_look _ h
   node_looks (capture_node next pattern group slot) h = no_look _ h
@@ -45,7 +47,8 @@ module _ (l : Look) where
   found_at : (nodes : List Node) → list_any looks_there nodes ≡ true → (q : ℕ) × (looks_there (get_or nodes q fail_node) ≡ true)
   found_at [] h = cc
   found_at (node ∷ nodes) h = ⊎_elim (λ (t : looks_there node ≡ true). (zero, t))
-      (λ (f : looks_there node ≡ false). let g : list_any looks_there nodes ≡ true = (rw f at h) in let r = found_at nodes g in (suc r.0, r.1)) (cases_Bool (looks_there node))
+      (λ (f : looks_there node ≡ false). let g : list_any looks_there nodes ≡ true = (rw f at h) in let r = found_at nodes g in
+          (suc r.0, r.1)) (cases_Bool (looks_there node))
 
   there_at : (nodes : List Node) (q : ℕ) → looks_there (get_or nodes q fail_node) ≡ true → list_any looks_there nodes ≡ true
   there_at [] q h = not_both (has_look 0 l) _ h (has_look-none l)
@@ -59,11 +62,14 @@ module _ (l : Look) where
     λ (q, next, e). has_looks a.states l ∙ there_at a.states q (looks_node (node_at a q) next e),
   )
 
-  pub looks_prefix : (a : Automaton) → (has_look (prefix_looks a) l ≡ true) ↔ ((q : ℕ) × (next : ℕ) × Has nat_eq q (reached_freely a) × (node_at a q ≡ look_node l next))
+  pub looks_prefix : (a : Automaton) → (has_look (prefix_looks a) l ≡ true) ↔
+      ((q : ℕ) × (next : ℕ) × Has nat_eq q (reached_freely a) × (node_at a q ≡ look_node l next))
   looks_prefix a =
       let test : ℕ → Bool = λ q. looks_there (node_at a q) in
-      let same : has_look (prefix_looks a) l ≡ list_any (λ q. looks_there (node_at a q)) (reached_freely a) = has_looks (map (node_at a) (reached_freely a)) l ∙ any_map looks_there (node_at a) (reached_freely a) in (
-        (λ h. let r = has_any nat_eq names_equal test (reached_freely a) (sym same ∙ h) in let n = node_looks (node_at a r.0) r.2 in (r.0, n.0, r.1, n.1)),
+      let same : has_look (prefix_looks a) l ≡ list_any (λ q. looks_there (node_at a q)) (reached_freely a) =
+          has_looks (map (node_at a) (reached_freely a)) l ∙ any_map looks_there (node_at a) (reached_freely a) in (
+        (λ h. let r = has_any nat_eq names_equal test (reached_freely a) (sym same ∙ h) in let n = node_looks (node_at a r.0) r.2 in
+            (r.0, n.0, r.1, n.1)),
         λ (q, next, there, e). same ∙ any_has nat_eq names_equal test q (reached_freely a) there (looks_node (node_at a q) next e),
       )
 

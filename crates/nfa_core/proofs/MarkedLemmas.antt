@@ -1,5 +1,7 @@
 -- Tables with a bit for each number.
-use Rattle.std.proofs.Common.{◌≡◌, ◌≢◌, ℕ, ◌+◌, ◌*◌, ◌/◌, ◌%◌, ◌^◌, ◌<◌, ◌≤◌, Bool, true, false, ◌||◌, List, [], ◌∷◌, ◌++◌, length, set, get_or, drop, refl, sym, ap, ◌∙◌, ⊎_elim, arith, bit_or, w64, get_or-set_same, get_or-set_other, length-append}
+use Rattle.std.proofs.Common.{◌≡◌, ◌≢◌, ℕ, ◌+◌, ◌*◌, ◌/◌, ◌%◌, ◌^◌, ◌<◌, ◌≤◌, Bool, true, false, ◌||◌, List, [], ◌∷◌, ◌++◌, length, set}
+use Rattle.std.proofs.Common.{get_or, drop, refl, sym, ap, ◌∙◌, ⊎_elim, arith, bit_or, w64, get_or-set_same, get_or-set_other}
+use Rattle.std.proofs.Common.{length-append}
 use Rattle.std.proofs.lemmas.Bool.{cases_eq, false_from_ne_true}
 use Rattle.std.proofs.lemmas.Bool.Decides.{Decides-eqb}
 use Rattle.std.proofs.lemmas.Nat.Bits.{bit_at_set_same, bit_at_set_other}
@@ -48,7 +50,8 @@ none_left words names i past only n = false_from_ne_true _ (λ marked.
     let none : false ≡ true = ap (λ xs. is_in n xs) (sym nothing) ∙ there in
     cc)
 
-pub unmarked : (words : List ℕ) (bound : ℕ) → bound ≤ greatest_index + 1 → words_below bound ≤ length words → ((n : ℕ) → is_marked words n ≡ false) →
+pub unmarked : (words : List ℕ) (bound : ℕ) → bound ≤ greatest_index + 1 → words_below bound ≤ length words →
+    ((n : ℕ) → is_marked words n ≡ false) →
     IsMarked [] words bound
 unmarked words bound small wide none = record {
   distinct = IsDistinct-from_apart nat_eq [] (λ i j d first second. absurd (omega arith));
@@ -64,7 +67,8 @@ or_false true = refl
 or_false false = refl
 
 -- a number that is absent leaves room for it
-pub room : (names words : List ℕ) (bound name : ℕ) → IsMarked names words bound → name < bound → is_in name names ≡ false → length names + 1 ≤ bound
+pub room : (names words : List ℕ) (bound name : ℕ) → IsMarked names words bound → name < bound → is_in name names ≡ false →
+    length names + 1 ≤ bound
 room names words bound name m h absent = has_room names bound name m.distinct m.below h absent
 
 pub pushed : (names words new : List ℕ) (bound name : ℕ) → IsMarked names words bound → name < bound → is_in name names ≡ false →

@@ -17,7 +17,8 @@ not_both b P t e = let f : true ≡ false = sym t ∙ e in cc
 pub has_append : {A : Type 0} (same : A → A → Bool) (q : A) (xs ys : List A) → Has same q (xs ++ ys) → Has same q xs ⊎ Has same q ys
 has_append same q [] ys h = inr h
 has_append same q (x ∷ xs) ys h = ⊎_elim (λ (e : same q x ≡ true). inl (rw e))
-    (λ (e : same q x ≡ false). let g : Has same q (xs ++ ys) = (rw e at h) in ⊎_elim (λ (a : Has same q xs). inl (rw (e, a))) inr (has_append same q xs ys g)) (cases_Bool (same q x))
+    (λ (e : same q x ≡ false). let g : Has same q (xs ++ ys) = (rw e at h) in
+        ⊎_elim (λ (a : Has same q xs). inl (rw (e, a))) inr (has_append same q xs ys g)) (cases_Bool (same q x))
 
 pub has_left : {A : Type 0} (same : A → A → Bool) (q : A) (xs ys : List A) → Has same q xs → Has same q (xs ++ ys)
 has_left same q [] ys h = none_in same q _ h
@@ -26,13 +27,15 @@ has_left same q (x ∷ xs) ys h = ⊎_elim (λ (e : same q x ≡ true). rw e)
 
 pub has_right : {A : Type 0} (same : A → A → Bool) (q : A) (xs ys : List A) → Has same q ys → Has same q (xs ++ ys)
 has_right same q [] ys h = h
-has_right same q (x ∷ xs) ys h = ⊎_elim (λ (e : same q x ≡ true). rw e) (λ (e : same q x ≡ false). rw e (has_right same q xs ys h)) (cases_Bool (same q x))
+has_right same q (x ∷ xs) ys h = ⊎_elim (λ (e : same q x ≡ true). rw e) (λ (e : same q x ≡ false). rw e (has_right same q xs ys h))
+    (cases_Bool (same q x))
 
 pub has_later : {A : Type 0} (same : A → A → Bool) (q x : A) (xs : List A) → Has same q xs → Has same q (x ∷ xs)
 has_later same q x xs h = has_right same q (x ∷ []) xs h
 
 pub lacks_later : {A : Type 0} (same : A → A → Bool) (q x : A) (xs : List A) → has same q (x ∷ xs) ≡ false → has same q xs ≡ false
-lacks_later same q x xs h = ⊎_elim (λ (e : Has same q xs). not_both (has same q (x ∷ xs)) _ (has_later same q x xs e) h) (λ e. e) (has_or_not same q xs)
+lacks_later same q x xs h = ⊎_elim (λ (e : Has same q xs). not_both (has same q (x ∷ xs)) _ (has_later same q x xs e) h) (λ e. e)
+    (has_or_not same q xs)
 
 module _ {A : Type 0} (same : A → A → Bool) (laws : IsEquality same) where
   pub has_cons : (q x : A) (xs : List A) → Has same q (x ∷ xs) → (q ≡ x) ⊎ Has same q xs
@@ -51,7 +54,8 @@ module _ {A : Type 0} (same : A → A → Bool) (laws : IsEquality same) where
   pub of_cons : (P : A → Type 0) (x : A) (xs : List A) → P x → ((q : A) → Has same q xs → P q) → (q : A) → Has same q (x ∷ xs) → P q
   of_cons P x xs one all q h = ⊎_elim (λ (e : q ≡ x). rw e one) (λ g. all q g) (has_cons q x xs h)
 
-  pub of_append : (P : A → Type 0) (xs ys : List A) → ((q : A) → Has same q xs → P q) → ((q : A) → Has same q ys → P q) → (q : A) → Has same q (xs ++ ys) → P q
+  pub of_append : (P : A → Type 0) (xs ys : List A) → ((q : A) → Has same q xs → P q) → ((q : A) → Has same q ys → P q) → (q : A) →
+      Has same q (xs ++ ys) → P q
   of_append P xs ys left right q h = ⊎_elim (λ g. left q g) (λ g. right q g) (has_append same q xs ys h)
 
   pub of_push : (P : A → Type 0) (xs : List A) (x : A) → ((q : A) → Has same q xs → P q) → P x → (q : A) → Has same q (xs ++ x ∷ []) → P q
@@ -65,21 +69,25 @@ module _ {A : Type 0} (same : A → A → Bool) (laws : IsEquality same) where
 
   pub flat_map_same : {B : Type 0} (f g : A → List B) (xs : List A) → ((x : A) → Has same x xs → f x ≡ g x) → flat_map f xs ≡ flat_map g xs
   flat_map_same f g [] all = refl
-  flat_map_same f g (x ∷ xs) all = ap (λ l. l ++ flat_map f xs) (all x (has_first x xs)) ∙ ap (λ l. g x ++ l) (flat_map_same f g xs (λ y h. all y (has_later same y x xs h)))
+  flat_map_same f g (x ∷ xs) all = ap (λ l. l ++ flat_map f xs) (all x (has_first x xs))
+      ∙ ap (λ l. g x ++ l) (flat_map_same f g xs (λ y h. all y (has_later same y x xs h)))
 
   -- what holds of all that g gives for each in a list, holds of all in the joined list
   pub of_flat_map : {B : Type 0} (same_b : B → B → Bool) (g : A → List B) (P : B → Type 0) (xs : List A) →
       ((x : A) → Has same x xs → (q : B) → Has same_b q (g x) → P q) → (q : B) → Has same_b q (flat_map g xs) → P q
   of_flat_map same_b g P [] all q h = none_in same_b q _ h
   of_flat_map same_b g P (x ∷ xs) all q h = ⊎_elim (λ now. all x (has_first x xs) q now)
-      (λ later. of_flat_map same_b g P xs (λ y there. all y (has_later same y x xs there)) q later) (has_append same_b q (g x) (flat_map g xs) h)
+      (λ later. of_flat_map same_b g P xs (λ y there. all y (has_later same y x xs there)) q later)
+          (has_append same_b q (g x) (flat_map g xs) h)
 
-  pub into_flat_map : {B : Type 0} (same_b : B → B → Bool) (g : A → List B) (xs : List A) (x : A) → Has same x xs → (q : B) → Has same_b q (g x) → Has same_b q (flat_map g xs)
+  pub into_flat_map : {B : Type 0} (same_b : B → B → Bool) (g : A → List B) (xs : List A) (x : A) → Has same x xs → (q : B) →
+      Has same_b q (g x) → Has same_b q (flat_map g xs)
   into_flat_map same_b g [] x there q h = none_in same x _ there
   into_flat_map same_b g (y ∷ ys) x there q h = ⊎_elim
       (λ (e : x ≡ y). has_left same_b q (g y) (flat_map g ys) (rw e at h))
       (λ later. has_right same_b q (g y) (flat_map g ys) (into_flat_map same_b g ys x later q h)) (has_cons x y ys there)
 
-pub flat_map_twice : {A B C : Type 0} (f : B → List C) (g : A → List B) (xs : List A) → flat_map f (flat_map g xs) ≡ flat_map (λ y. flat_map f (g y)) xs
+pub flat_map_twice : {A B C : Type 0} (f : B → List C) (g : A → List B) (xs : List A) →
+    flat_map f (flat_map g xs) ≡ flat_map (λ y. flat_map f (g y)) xs
 flat_map_twice f g [] = refl
 flat_map_twice f g (x ∷ xs) = flat_map-append f (g x) (flat_map g xs) ∙ ap (λ l. flat_map f (g x) ++ l) (flat_map_twice f g xs)

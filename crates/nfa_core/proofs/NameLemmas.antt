@@ -18,13 +18,16 @@ pub fits : (names : List ℕ) (bound : ℕ) → IsDistinct nat_eq names → All 
 fits names bound distinct all = length-le_from_distinct_below names bound distinct (below_if_in names bound all)
 
 pub pushed_below : (names : List ℕ) (bound name : ℕ) → All (λ x. x < bound) names → name < bound → All (λ x. x < bound) (names ++ name ∷ [])
-pushed_below names bound name all h = All-append (λ x. x < bound) names (name ∷ []) all (λ k d inside. let e : k ≡ 0 = omega arith in rw e h)
+pushed_below names bound name all h = All-append (λ x. x < bound) names (name ∷ []) all (λ k d inside. let e : k ≡ 0 = omega arith in
+    rw e h)
 
-pub pushed_distinct : (names : List ℕ) (name : ℕ) → IsDistinct nat_eq names → is_in name names ≡ false → IsDistinct nat_eq (names ++ name ∷ [])
+pub pushed_distinct : (names : List ℕ) (name : ℕ) → IsDistinct nat_eq names → is_in name names ≡ false →
+    IsDistinct nat_eq (names ++ name ∷ [])
 pushed_distinct names name distinct absent = IsDistinct-push nat_eq_equiv names name distinct absent
 
 -- a number that is absent leaves room for it
-pub has_room : (names : List ℕ) (bound name : ℕ) → IsDistinct nat_eq names → All (λ x. x < bound) names → name < bound → is_in name names ≡ false →
+pub has_room : (names : List ℕ) (bound name : ℕ) → IsDistinct nat_eq names → All (λ x. x < bound) names → name < bound →
+    is_in name names ≡ false →
     length names + 1 ≤ bound
 has_room names bound name distinct all h absent =
     let more : length (names ++ name ∷ []) ≡ length names + 1 = length-append names (name ∷ []) in

@@ -1,5 +1,6 @@
 -- The names that states get: how many states are kept before the one past them.
-use Rattle.std.proofs.Common.{◌≡◌, ◌≢◌, ℕ, zero, suc, ◌+◌, ◌<◌, ◌≤◌, true, Bool, List, [], ◌∷◌, ◌++◌, length, map, take, get_or, Option, Some, None, refl, sym, ap, ◌∙◌, arith, length-append, ⊎_elim, inl}
+use Rattle.std.proofs.Common.{◌≡◌, ◌≢◌, ℕ, zero, suc, ◌+◌, ◌<◌, ◌≤◌, true, Bool, List, [], ◌∷◌, ◌++◌, length, map, take, get_or, Option}
+use Rattle.std.proofs.Common.{Some, None, refl, sym, ap, ◌∙◌, arith, length-append, ⊎_elim, inl}
 use Rattle.std.specs.Prelude.{is_none, unwrap_or}
 use Rattle.std.proofs.lemmas.List.{length-map, get_or-map, take_more, get_or_push, get_or_append_left}
 use Rattle.std.proofs.lemmas.Bool.{cases_eq}
@@ -13,27 +14,31 @@ abbrev pub is_kept : DraftNode → Bool
 is_kept draft = is_none (stands_for draft)
 
 -- the states past states are states
-past_inside_by : (drafts : List DraftNode) (n q : ℕ) (o : Option ℕ) → q < length drafts → stands_for (draft_at drafts q) ≡ o → IsReached drafts →
+past_inside_by : (drafts : List DraftNode) (n q : ℕ) (o : Option ℕ) → q < length drafts → stands_for (draft_at drafts q) ≡ o →
+    IsReached drafts →
     ((next : ℕ) → next < length drafts → past_within drafts n next < length drafts) → going_on q (past_within drafts n) o < length drafts
 past_inside_by drafts n q None inside e reached fewer = inside
 past_inside_by drafts n q (Some next) inside e reached fewer = fewer next (reached.stays q next inside e)
 
 past_within_inside : (drafts : List DraftNode) → IsReached drafts → (n q : ℕ) → q < length drafts → past_within drafts n q < length drafts
 past_within_inside drafts reached zero q inside = inside
-past_within_inside drafts reached (suc n) q inside = past_inside_by drafts n q (stands_for (draft_at drafts q)) inside refl reached (past_within_inside drafts reached n)
+past_within_inside drafts reached (suc n) q inside = past_inside_by drafts n q (stands_for (draft_at drafts q)) inside refl reached
+    (past_within_inside drafts reached n)
 
 pub past_inside : (drafts : List DraftNode) (q : ℕ) → IsReached drafts → q < length drafts → past drafts q < length drafts
 past_inside drafts q reached inside = past_within_inside drafts reached (length drafts) q inside
 
 -- one state more
-pub kept_more : (drafts : List DraftNode) (i : ℕ) (d : DraftNode) → i < length drafts → length (kept (take (i + 1) drafts)) ≡ length (kept (take i drafts)) + length (kept (get_or drafts i d ∷ []))
+pub kept_more : (drafts : List DraftNode) (i : ℕ) (d : DraftNode) → i < length drafts →
+    length (kept (take (i + 1) drafts)) ≡ length (kept (take i drafts)) + length (kept (get_or drafts i d ∷ []))
 kept_more drafts i d inside =
     ap (λ xs. length (kept xs)) (take_more drafts i d inside)
     ∙ ap length (filter-append is_kept (take i drafts) (get_or drafts i d ∷ []))
     ∙ length-append (kept (take i drafts)) (kept (get_or drafts i d ∷ []))
 
 -- a list of what a function gives for each place, with one more
-pub pushed_at : (f : ℕ → ℕ) (xs new : List ℕ) (x i : ℕ) → new ≡ xs ++ x ∷ [] → length xs ≡ i → x ≡ f i → ((q : ℕ) → q < i → name_in xs q ≡ f q) →
+pub pushed_at : (f : ℕ → ℕ) (xs new : List ℕ) (x i : ℕ) → new ≡ xs ++ x ∷ [] → length xs ≡ i → x ≡ f i →
+    ((q : ℕ) → q < i → name_in xs q ≡ f q) →
     (q : ℕ) → q < i + 1 → name_in new q ≡ f q
 pushed_at f xs new x i pushed len is before q below = ap (λ ys. name_in ys q) pushed ∙ ⊎_elim
     (λ (same : q ≡ i). get_or_push xs x 0 q (len ∙ sym same) ∙ is ∙ ap f (sym same))
@@ -47,13 +52,15 @@ pub record IsRankingTo (drafts : List DraftNode) (ranks : List ℕ) (i count : �
   pub counted : count ≡ length (kept (take i drafts))
   pub most : count ≤ i
 
-pub ranking_more : {D : Type 0} (view : D → DraftNode) (drafts : List D) (ranks new : List ℕ) (i count more : ℕ) (draft : D) → i < length drafts → draft ≡ get_or drafts i draft →
+pub ranking_more : {D : Type 0} (view : D → DraftNode) (drafts : List D) (ranks new : List ℕ) (i count more : ℕ) (draft : D) →
+    i < length drafts → draft ≡ get_or drafts i draft →
     new ≡ ranks ++ count ∷ [] → more ≡ length (kept (view draft ∷ [])) → more ≤ 1 →
     IsRankingTo (map view drafts) ranks i count → IsRankingTo (map view drafts) new (i + 1) (count + more)
 ranking_more view drafts ranks new i count more draft inside there pushed e one so_far =
     let len = length-map drafts view in
     let inside' : i < length (map view drafts) = omega arith in
-    let seen : get_or (map view drafts) i fail_draft ≡ view draft = get_or-map view drafts i draft fail_draft inside ∙ ap view (sym there) in
+    let seen : get_or (map view drafts) i fail_draft ≡ view draft = get_or-map view drafts i draft fail_draft inside
+        ∙ ap view (sym there) in
     let next = kept_more (map view drafts) i fail_draft inside' in
     let last = ap (λ draft. length (kept (draft ∷ []))) seen in record {
       len = ap length pushed ∙ length-append ranks (count ∷ []) ∙ ap (λ k. k + 1) so_far.len;
@@ -65,22 +72,29 @@ ranking_more view drafts ranks new i count more draft inside there pushed e one 
 pub ranking_start : (drafts : List DraftNode) → IsRankingTo drafts [] 0 0
 ranking_start drafts = record { len = refl; right = λ q below. absurd (omega (arith, below)); counted = refl; most = omega arith }
 
-pub ranking_done : (drafts : List DraftNode) (ranks : List ℕ) (i count : ℕ) → length drafts ≤ i → i ≤ length drafts → IsRankingTo drafts ranks i count → IsRanking drafts ranks
-ranking_done drafts ranks i count long short so_far = record { len = omega (arith, so_far.len); right = λ q inside. so_far.right q (omega (arith, inside)) }
+pub ranking_done : (drafts : List DraftNode) (ranks : List ℕ) (i count : ℕ) → length drafts ≤ i → i ≤ length drafts →
+    IsRankingTo drafts ranks i count → IsRanking drafts ranks
+ranking_done drafts ranks i count long short so_far = record { len = omega (arith, so_far.len);
+    right = λ q inside. so_far.right q (omega (arith, inside)) }
 
 -- the ranks of the states past all states are their names
-pub settled_past : (drafts : List DraftNode) (table : List (Option ℕ)) (q : ℕ) → IsPastTable drafts table → is_settled table q ≡ true → unwrap_or (get_or table q None) q ≡ past drafts q
+pub settled_past : (drafts : List DraftNode) (table : List (Option ℕ)) (q : ℕ) → IsPastTable drafts table → is_settled table q ≡ true →
+    unwrap_or (get_or table q None) q ≡ past drafts q
 settled_past drafts table q told there = known_end drafts table q told (inl there)
 
-pub past_is_inside : (drafts : List DraftNode) (table : List (Option ℕ)) (q : ℕ) → IsReached drafts → IsPastTable drafts table → is_settled table q ≡ true → q < length drafts →
+pub past_is_inside : (drafts : List DraftNode) (table : List (Option ℕ)) (q : ℕ) → IsReached drafts → IsPastTable drafts table →
+    is_settled table q ≡ true → q < length drafts →
     unwrap_or (get_or table q None) q < length drafts
 past_is_inside drafts table q reached told there inside =
     let e = settled_past drafts table q told there in
     let h = past_inside drafts q reached inside in omega (arith, e, h)
 
-pub naming_done : (drafts : List DraftNode) (table : List (Option ℕ)) (ranks names : List ℕ) → IsReached drafts → IsPastTable drafts table → ((q : ℕ) → q < length drafts → is_settled table q ≡ true) →
-    IsRanking drafts ranks → length names ≡ length ranks → ((q : ℕ) → q < length ranks → name_in names q ≡ name_in ranks (unwrap_or (get_or table q None) q)) → IsNaming drafts names
+pub naming_done : (drafts : List DraftNode) (table : List (Option ℕ)) (ranks names : List ℕ) → IsReached drafts → IsPastTable drafts table →
+    ((q : ℕ) → q < length drafts → is_settled table q ≡ true) →
+    IsRanking drafts ranks → length names ≡ length ranks → ((q : ℕ) → q < length ranks →
+        name_in names q ≡ name_in ranks (unwrap_or (get_or table q None) q)) → IsNaming drafts names
 naming_done drafts table ranks names reached told there ranked len right = record {
   len = len ∙ ranked.len;
-  right = λ q inside. right q (omega (arith, inside, ranked.len)) ∙ ap (name_in ranks) (settled_past drafts table q told (there q inside)) ∙ ranked.right (past drafts q) (past_inside drafts q reached inside);
+  right = λ q inside. right q (omega (arith, inside, ranked.len)) ∙ ap (name_in ranks) (settled_past drafts table q told (there q inside))
+      ∙ ranked.right (past drafts q) (past_inside drafts q reached inside);
 }

@@ -5,7 +5,8 @@ use Rattle.std.specs.Bool.{nat_eq}
 use Rattle.look_core.specs.declared.look.Look.{Look}
 use Rattle.look_core.specs.LookSets.{IsLookSet, has_look, union_of}
 use Rattle.look_core.proofs.ForCallers.{has_look-union, has_look-none, repr-lt, same_members, union-lt}
-use Rattle.nfa_core.specs.Nfa.{Node, byte_range, sparse_node, dense_node, look_node, union_node, binary_union, capture_node, fail_node, match_node, Automaton, node_at}
+use Rattle.nfa_core.specs.Nfa.{Node, byte_range, sparse_node, dense_node, look_node, union_node, binary_union, capture_node, fail_node}
+use Rattle.nfa_core.specs.Nfa.{match_node, Automaton, node_at}
 use Rattle.nfa_core.specs.NfaValue.{look_of, looks_of, is_match, reached_freely, has_empty, prefix_looks}
 use Rattle.nfa_core.specs.Walks.{distinct}
 use Rattle.nfa_core.proofs.MetLemmas.{any_distinct, any_map}
@@ -30,7 +31,8 @@ joined_in : (nodes : List Node) (s : ℕ) → IsLookSet s → IsLookSet (joined 
 joined_in [] s h = h
 joined_in (node ∷ nodes) s h = joined_in nodes (union_of s (look_of node)) (union-lt s (look_of node) h (look_in node))
 
-has_joined : (nodes : List Node) (s : ℕ) (l : Look) → has_look (joined s nodes) l ≡ (has_look s l || list_any (λ node. has_look (look_of node) l) nodes)
+has_joined : (nodes : List Node) (s : ℕ) (l : Look) → has_look (joined s nodes) l ≡ (has_look s l
+    || list_any (λ node. has_look (look_of node) l) nodes)
 has_joined [] s l = sym (or-false (has_look s l))
 has_joined (node ∷ nodes) s l = has_joined nodes (union_of s (look_of node)) l
     ∙ ap (λ b. b || list_any (λ n. has_look (look_of n) l) nodes) (has_look-union s (look_of node) l)
@@ -44,12 +46,15 @@ looks_in nodes = joined_in nodes 0 (omega arith)
 
 -- order and repeats of the states make no difference
 pub looks_distinct : (f : ℕ → Node) (xs : List ℕ) → looks_of (map f (distinct nat_eq xs)) ≡ looks_of (map f xs)
-looks_distinct f xs = same_members (looks_of (map f (distinct nat_eq xs))) (looks_of (map f xs)) (looks_in (map f (distinct nat_eq xs))) (looks_in (map f xs))
+looks_distinct f xs = same_members (looks_of (map f (distinct nat_eq xs))) (looks_of (map f xs)) (looks_in (map f (distinct nat_eq xs)))
+    (looks_in (map f xs))
     (λ l. let test : Node → Bool = λ node. has_look (look_of node) l in
-    has_looks (map f (distinct nat_eq xs)) l ∙ any_map test f (distinct nat_eq xs) ∙ any_distinct nat_eq names_equal (λ x. test (f x)) xs ∙ sym (any_map test f xs) ∙ sym (has_looks (map f xs) l))
+    has_looks (map f (distinct nat_eq xs)) l ∙ any_map test f (distinct nat_eq xs) ∙ any_distinct nat_eq names_equal (λ x. test (f x)) xs
+        ∙ sym (any_map test f xs) ∙ sym (has_looks (map f xs) l))
 
 -- what an NFA knows of the states that its patterns reach, from a list of these without repeats
-pub empty_met : (a : Automaton) (met : List ℕ) → met ≡ distinct nat_eq (reached_freely a) → list_any (λ q. is_match (node_at a q)) met ≡ has_empty a
+pub empty_met : (a : Automaton) (met : List ℕ) → met ≡ distinct nat_eq (reached_freely a) →
+    list_any (λ q. is_match (node_at a q)) met ≡ has_empty a
 empty_met a met e = rw e (any_distinct nat_eq names_equal (λ q. is_match (node_at a q)) (reached_freely a))
 
 pub prefix_met : (a : Automaton) (met : List ℕ) → met ≡ distinct nat_eq (reached_freely a) → looks_of (map (node_at a) met) ≡ prefix_looks a

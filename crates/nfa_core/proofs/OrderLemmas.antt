@@ -1,11 +1,14 @@
 -- A builder keeps to its limit and its rules as states are added and changed, and patterns begin and end.
-use Rattle.std.proofs.Common.{◌≡◌, ℕ, ◌+◌, ◌<◌, ◌≤◌, true, List, [], ◌∷◌, ◌++◌, map, length, sym, ap, subst, nat_lt, Option, None, Some, ◌∙◌, arith, length-append, if◌then◌else◌}
+use Rattle.std.proofs.Common.{◌≡◌, ℕ, ◌+◌, ◌<◌, ◌≤◌, true, List, [], ◌∷◌, ◌++◌, map, length, sym, ap, subst, nat_lt, Option, None, Some}
+use Rattle.std.proofs.Common.{◌∙◌, arith, length-append, if◌then◌else◌}
 use Rattle.std.specs.Prelude.{MatchOption, ⊤}
 use Rattle.std.proofs.lemmas.Bool.{ltb-false, lt-ltb}
 use Rattle.std.proofs.lemmas.List.{map-append, length-map, length-set}
 use Rattle.std.proofs.lemmas.List.Elements.{All-push, All-set, All-get_or, All-weaker}
 use Rattle.search_core.specs.Index.{greatest_index}
-use Rattle.nfa_core.specs.BuilderStates.{DraftNode, empty_draft, range_draft, sparse_draft, look_draft, capture_start_draft, capture_end_draft, union_draft, union_reverse_draft, fail_draft, match_draft, bytes_of, patched, draft_at, patched_at}
+use Rattle.nfa_core.specs.BuilderStates.{DraftNode, empty_draft, range_draft, sparse_draft, look_draft, capture_start_draft}
+use Rattle.nfa_core.specs.BuilderStates.{capture_end_draft, union_draft, union_reverse_draft, fail_draft, match_draft, bytes_of, patched}
+use Rattle.nfa_core.specs.BuilderStates.{draft_at, patched_at}
 use Rattle.nfa_core.specs.BuilderFaults.{limit_fault, index_fault, captures_refused}
 use Rattle.search_types.specs.GroupFaults.{TooManyGroups}
 use Rattle.nfa_core.specs.InOrder.{IsDraftOf, IsInOrder}
@@ -14,8 +17,10 @@ pub limit_kept : (limit : Option ℕ) (bytes : ℕ) → limit_fault limit bytes 
 limit_kept None bytes e = tt
 limit_kept (Some most) bytes e = grind (arith, ltb-false most bytes)
 
-pub order_added : {D : Type 0} (view : D → DraftNode) (old new : List D) (one : D) (patterns : ℕ) (limit : Option ℕ) → new ≡ old ++ one ∷ [] →
-    IsInOrder (map view old) patterns limit → IsDraftOf patterns (view one) → length old ≤ greatest_index → limit_fault limit (bytes_of (map view old ++ view one ∷ [])) ≡ None →
+pub order_added : {D : Type 0} (view : D → DraftNode) (old new : List D) (one : D) (patterns : ℕ) (limit : Option ℕ) →
+    new ≡ old ++ one ∷ [] →
+    IsInOrder (map view old) patterns limit → IsDraftOf patterns (view one) → length old ≤ greatest_index →
+        limit_fault limit (bytes_of (map view old ++ view one ∷ [])) ≡ None →
     IsInOrder (map view new) patterns limit
 order_added view old new one patterns limit pushed order good room within =
     let seen : map view new ≡ map view old ++ view one ∷ [] = ap (map view) pushed ∙ map-append view old (one ∷ []) in
@@ -41,7 +46,8 @@ draft_patched patterns to (union_reverse_draft names) good = tt
 draft_patched patterns to fail_draft good = tt
 draft_patched patterns to (match_draft pattern) good = good
 
-pub order_patched : (old new : List DraftNode) (from to patterns : ℕ) (limit : Option ℕ) → new ≡ patched_at old from to → from < length old →
+pub order_patched : (old new : List DraftNode) (from to patterns : ℕ) (limit : Option ℕ) → new ≡ patched_at old from to →
+    from < length old →
     IsInOrder old patterns limit → limit_fault limit (bytes_of (patched_at old from to)) ≡ None → IsInOrder new patterns limit
 order_patched old new from to patterns limit e inside order within =
     let len : length (patched_at old from to) ≡ length old = length-set old from (patched to (draft_at old from)) in
@@ -55,7 +61,8 @@ order_patched old new from to patterns limit e inside order within =
     subst (λ (drafts : List DraftNode). IsInOrder drafts patterns limit) (sym e) moved
 
 -- the limit is another one
-pub order_limited : (drafts : List DraftNode) (patterns : ℕ) (old new : Option ℕ) → IsInOrder drafts patterns old → limit_fault new (bytes_of drafts) ≡ None → IsInOrder drafts patterns new
+pub order_limited : (drafts : List DraftNode) (patterns : ℕ) (old new : Option ℕ) → IsInOrder drafts patterns old →
+    limit_fault new (bytes_of drafts) ≡ None → IsInOrder drafts patterns new
 order_limited drafts patterns old new order within = record {
   within = limit_kept new (bytes_of drafts) within;
   parts_of = order.parts_of;
@@ -76,7 +83,8 @@ draft_of_more old new more fail_draft good = tt
 draft_of_more old new more (match_draft pattern) good = omega (arith, good)
 
 -- there are more patterns, or as many
-pub order_more : (drafts : List DraftNode) (old new : ℕ) (limit : Option ℕ) → old ≤ new → new ≤ greatest_index + 1 → IsInOrder drafts old limit → IsInOrder drafts new limit
+pub order_more : (drafts : List DraftNode) (old new : ℕ) (limit : Option ℕ) → old ≤ new → new ≤ greatest_index + 1 →
+    IsInOrder drafts old limit → IsInOrder drafts new limit
 order_more drafts old new limit more numbered order = record {
   within = order.within;
   parts_of = All-weaker (IsDraftOf old) (IsDraftOf new) (draft_of_more old new more) drafts order.parts_of;
@@ -86,11 +94,14 @@ order_more drafts old new limit more numbered order = record {
 
 -- a builder without states and patterns
 pub order_blank : (limit : Option ℕ) → IsInOrder [] 0 limit
-order_blank None = record { within = tt; parts_of = λ k d inside. absurd (omega (arith, inside)); states_numbered = omega arith; patterns_numbered = omega arith }
-order_blank (Some most) = record { within = omega arith; parts_of = λ k d inside. absurd (omega (arith, inside)); states_numbered = omega arith; patterns_numbered = omega arith }
+order_blank None = record { within = tt; parts_of = λ k d inside. absurd (omega (arith, inside)); states_numbered = omega arith;
+    patterns_numbered = omega arith }
+order_blank (Some most) = record { within = omega arith; parts_of = λ k d inside. absurd (omega (arith, inside));
+    states_numbered = omega arith; patterns_numbered = omega arith }
 
 -- an index that is too great
-pub index_refused : (pattern index : ℕ) → greatest_index < index → index_fault pattern index ≡ Some (captures_refused (TooManyGroups pattern index))
+pub index_refused : (pattern index : ℕ) → greatest_index < index → index_fault pattern index ≡ Some
+    (captures_refused (TooManyGroups pattern index))
 index_refused pattern index above =
     let test : nat_lt greatest_index index ≡ true = lt-ltb greatest_index index above in
     ap (λ b. if b then Some (captures_refused (TooManyGroups pattern index)) else None) test

@@ -1,5 +1,6 @@
 -- The first end of runs doesn't depend on what stands behind the place where the walk is over.
-use Rattle.std.proofs.Common.{◌≡◌, ℕ, zero, suc, ◌-◌, ◌<◌, ◌≤◌, Bool, true, false, List, [], ◌∷◌, ◌++◌, refl, sym, ap, ap₂, ◌∙◌, subst, inl, inr, arith}
+use Rattle.std.proofs.Common.{◌≡◌, ℕ, zero, suc, ◌-◌, ◌<◌, ◌≤◌, Bool, true, false, List, [], ◌∷◌, ◌++◌, refl, sym, ap, ap₂, ◌∙◌, subst, inl}
+use Rattle.std.proofs.Common.{inr, arith}
 use Rattle.std.specs.List.{flat_map}
 use Rattle.std.specs.Bool.{nat_eq}
 use Rattle.std.proofs.lemmas.Bool.{cases_lt}
@@ -40,13 +41,15 @@ module _ (a : Automaton) (t u : Text) (i q d : ℕ) (lists : ℕ → List ℕ) w
   module _ (alike : IsAlike a t u i d) (listed : AreLists a t (i, q) cut lists) (over : IsOver a t i d (cut d (lists d))) where
     walk_alike : (k : ℕ) → k ≤ d → (stack : List ℕ) → Visits nat_eq (plain_steps a t (place_of a.reverse i k)) stack [] (lists k) →
         Visits nat_eq (plain_steps a u (place_of a.reverse i k)) stack [] (lists k)
-    walk_alike k l stack v = stays_closed nat_eq names_equal (plain_steps a t (place_of a.reverse i k)) (plain_steps a u (place_of a.reverse i k)) v (λ x has. alike.looks k x l)
+    walk_alike k l stack v = stays_closed nat_eq names_equal (plain_steps a t (place_of a.reverse i k))
+        (plain_steps a u (place_of a.reverse i k)) v (λ x has. alike.looks k x l)
 
     cut_none : (k : ℕ) (xs : List ℕ) → xs ≡ [] → cut k xs ≡ []
     cut_none k xs e = ap (cut k) e
 
     -- behind the end of the walk each list is empty
-    past_end : (k : ℕ) → d ≤ k → k < bytes_left a.reverse t i → flat_map (byte_steps a t (place_of a.reverse i k)) (cut k (lists k)) ≡ [] → lists (suc k) ≡ []
+    past_end : (k : ℕ) → d ≤ k → k < bytes_left a.reverse t i → flat_map (byte_steps a t (place_of a.reverse i k)) (cut k (lists k)) ≡ [] →
+        lists (suc k) ≡ []
     past_end k l inside none = nothing_todo (plain_steps a t (place_of a.reverse i (suc k))) _ (lists (suc k)) none (listed.later k inside)
 
     over_at : (k : ℕ) → d ≡ k → flat_map (byte_steps a t (place_of a.reverse i k)) (cut k (lists k)) ≡ []
@@ -72,16 +75,19 @@ module _ (a : Automaton) (t u : Text) (i q d : ℕ) (lists : ℕ → List ℕ) w
     other_over k l inside = elim (cases_lt d k) [
       | inl lt ↦ other_past k lt inside
       | inr ge ↦
-          sym (flat_same (byte_steps a t (place_of a.reverse i k)) (byte_steps a u (place_of a.reverse i k)) (cut k (lists k)) (λ x. alike.bytes k x (omega arith)))
+          sym (flat_same (byte_steps a t (place_of a.reverse i k)) (byte_steps a u (place_of a.reverse i k)) (cut k (lists k))
+              (λ x. alike.bytes k x (omega arith)))
           ∙ over_past k l inside
     ]
 
     other_later : (k : ℕ) → k < bytes_left a.reverse t i →
-        Visits nat_eq (plain_steps a u (place_of a.reverse i (suc k))) (flat_map (byte_steps a u (place_of a.reverse i k)) (cut k (lists k))) [] (lists (suc k))
+        Visits nat_eq (plain_steps a u (place_of a.reverse i (suc k)))
+            (flat_map (byte_steps a u (place_of a.reverse i k)) (cut k (lists k))) [] (lists (suc k))
     other_later k inside = elim (cases_lt k d) [
       | inl lt ↦
           let P : List ℕ → Type 0 = λ l. Visits nat_eq (plain_steps a u (place_of a.reverse i (suc k))) l [] (lists (suc k)) in
-          subst P (flat_same (byte_steps a t (place_of a.reverse i k)) (byte_steps a u (place_of a.reverse i k)) (cut k (lists k)) (λ x. alike.bytes k x (omega arith)))
+          subst P (flat_same (byte_steps a t (place_of a.reverse i k)) (byte_steps a u (place_of a.reverse i k)) (cut k (lists k))
+              (λ x. alike.bytes k x (omega arith)))
           (walk_alike (suc k) (omega arith) _ (listed.later k inside))
       | inr ge ↦
           meets_nothing (plain_steps a u (place_of a.reverse i (suc k))) _ (lists (suc k)) (other_over k ge inside)

@@ -1,5 +1,6 @@
 -- A list of numbers beside a table of their places.
-use Rattle.std.proofs.Common.{◌≡◌, ◌≢◌, ℕ, ◌+◌, ◌<◌, ◌≤◌, Bool, true, false, List, [], ◌∷◌, ◌++◌, length, set, get_or, slice_index, take, refl, sym, ap, ◌∙◌, subst, ⊎_elim, arith, length-set, get_or-set_same, get_or-set_other, All}
+use Rattle.std.proofs.Common.{◌≡◌, ◌≢◌, ℕ, ◌+◌, ◌<◌, ◌≤◌, Bool, true, false, List, [], ◌∷◌, ◌++◌, length, set, get_or, slice_index, take}
+use Rattle.std.proofs.Common.{refl, sym, ap, ◌∙◌, subst, ⊎_elim, arith, length-set, get_or-set_same, get_or-set_other, All}
 use Rattle.std.proofs.lemmas.Bool.{cases_eq, false_from_ne_true}
 use Rattle.std.proofs.lemmas.Bool.Decides.{Decides-eqb}
 use Rattle.std.proofs.lemmas.Cmp.{nat_eq_equiv}
@@ -35,10 +36,12 @@ held_at dense places n name p h =
     let place : slice_index places name ≡ found.0 = ap (λ x. slice_index places x) (sym read) ∙ (p.paired found.0 inside).1 in
     (subst (λ (x : ℕ). x < n) (sym place) inside, ap (λ x. slice_index dense x) place ∙ read)
 
-held_from : (dense places : List ℕ) (n name k : ℕ) → IsPaired dense places n → k < n → slice_index dense k ≡ name → is_in name (take n dense) ≡ true
+held_from : (dense places : List ℕ) (n name k : ℕ) → IsPaired dense places n → k < n → slice_index dense k ≡ name →
+    is_in name (take n dense) ≡ true
 held_from dense places n name k p inside read =
     let len = length_of_first dense n p.within in
-    list_any-from_Contains nat_eq_equiv name (take n dense) (k, omega (arith, len, inside), read_first dense n k name 0 inside p.within ∙ read)
+    list_any-from_Contains nat_eq_equiv name (take n dense) (k, omega (arith, len, inside),
+        read_first dense n k name 0 inside p.within ∙ read)
 
 -- what is read of the tables tells whether the number is there
 pub held_inside : (dense places : List ℕ) (n name place read d o : ℕ) → IsPaired dense places n → name < length places →
@@ -63,7 +66,8 @@ distinct dense places n p = IsDistinct-from_apart nat_eq (take n dense) (λ i j 
     let first : i < n = omega (arith, before, second) in
     false_from_ne_true _ (λ e.
     let same = (Decides-eqb (get_or (take n dense) i d) (get_or (take n dense) j d)).0 e in
-    let reads : slice_index dense i ≡ slice_index dense j = sym (read_first dense n i d 0 first p.within) ∙ same ∙ read_first dense n j d 0 second p.within in
+    let reads : slice_index dense i ≡ slice_index dense j = sym (read_first dense n i d 0 first p.within) ∙ same
+        ∙ read_first dense n j d 0 second p.within in
     let places_of : i ≡ j = sym (p.paired i first).1 ∙ ap (λ x. slice_index places x) reads ∙ (p.paired j second).1 in
     absurd (omega (arith, places_of, before))))
 
@@ -74,7 +78,8 @@ below dense places n p k d h =
     subst (λ (x : ℕ). x < length places) (sym (read_first dense n k d 0 inside p.within)) (p.paired k inside).0
 
 -- a number that is absent leaves room for it
-pub room : (dense places : List ℕ) (n name : ℕ) → IsPaired dense places n → name < length places → is_in name (take n dense) ≡ false → n < length dense
+pub room : (dense places : List ℕ) (n name : ℕ) → IsPaired dense places n → name < length places → is_in name (take n dense) ≡ false →
+    n < length dense
 room dense places n name p h absent =
     let len = length_of_first dense n p.within in
     let most = has_room (take n dense) (length places) name (distinct dense places n p) (below dense places n p) h absent in
@@ -96,7 +101,8 @@ added dense places n name p h absent =
           rw here (rw places_len h, get_or-set_same places name n 0 h ∙ sym e))
           (λ (ne : k ≢ n).
           let old : k < n = omega (arith, ne, inside) in
-          let other : slice_index dense k ≢ name = λ e. let t : true ≡ false = sym (held_from dense places n name k p old e) ∙ absent in cc in
+          let other : slice_index dense k ≢ name = λ e. let t : true ≡ false = sym (held_from dense places n name k p old e) ∙ absent in
+              cc in
           let here : slice_index (set dense n name) k ≡ slice_index dense k = get_or-set_other dense n k name 0 ne in
           rw here (rw places_len (p.paired k old).0, get_or-set_other places name (slice_index dense k) n 0 other ∙ (p.paired k old).1))
           (cases_eq k n);

@@ -1,26 +1,30 @@
 -- A walk of one graph carried over to another, where a thing may have the name of the only one that it leads to: what the
 -- first walk meets, the second meets under its name, in the same order.
-use Rattle.std.proofs.Common.{◌≡◌, ℕ, zero, suc, ◌⊎◌, inl, inr, ⊎_elim, true, false, Bool, if◌then◌else◌, List, [], ◌∷◌, ◌++◌, map, refl, sym, ap, ◌∙◌, subst, Option, Some, None}
+use Rattle.std.proofs.Common.{◌≡◌, ℕ, zero, suc, ◌⊎◌, inl, inr, ⊎_elim, true, false, Bool, if◌then◌else◌, List, [], ◌∷◌, ◌++◌, map, refl}
+use Rattle.std.proofs.Common.{sym, ap, ◌∙◌, subst, Option, Some, None}
 use Rattle.std.specs.Prelude.{is_none}
 use Rattle.std.proofs.lemmas.Bool.{cases_Bool}
 use Rattle.std.proofs.lemmas.List.{map-append, append-nil}
 use Rattle.std.proofs.lemmas.List.Elements.{filter-append}
 use Rattle.std.specs.List.{filter}
 use Rattle.nfa_core.specs.Walks.{has, Has, Visits, done, held, fresh, IsEquality}
-use Rattle.nfa_core.proofs.MemberLemmas.{none_in, not_both, has_or_not, has_left, has_later, has_first, has_same, has_cons, has_pushed, of_cons, of_push}
+use Rattle.nfa_core.proofs.MemberLemmas.{none_in, not_both, has_or_not, has_left, has_later, has_first, has_same, has_cons, has_pushed}
+use Rattle.nfa_core.proofs.MemberLemmas.{of_cons, of_push}
 use Rattle.nfa_core.proofs.PreferenceLemmas.{option_cases, one_value, no_value}
 use Rattle.nfa_core.proofs.RenamingWalks.{has_mapped, from_mapped}
 use Rattle.nfa_core.proofs.RunLemmas.{has_filter}
 use Rattle.nfa_core.proofs.StepLemmas.{joined}
 
 -- what a test keeps of a list
-in_filter : {A : Type 0} (same : A → A → Bool) → IsEquality same → (p : A → Bool) (xs : List A) (q : A) → Has same q (filter p xs) → Has same q xs × (p q ≡ true)
+in_filter : {A : Type 0} (same : A → A → Bool) → IsEquality same → (p : A → Bool) (xs : List A) (q : A) → Has same q (filter p xs) →
+    Has same q xs × (p q ≡ true)
 in_filter same laws p [] q h = none_in same q _ h
 in_filter same laws p (x ∷ xs) q h = ⊎_elim
     (λ (e : p x ≡ true). let g : Has same q (x ∷ filter p xs) = (rw e at h) in
     ⊎_elim (λ (i : q ≡ x). (has_same same laws q x xs i, ap p i ∙ e))
     (λ later. let r = in_filter same laws p xs q later in (has_later same q x xs r.0, r.1)) (has_cons same laws q x (filter p xs) g))
-    (λ (e : p x ≡ false). let g : Has same q (filter p xs) = (rw e at h) in let r = in_filter same laws p xs q g in (has_later same q x xs r.0, r.1)) (cases_Bool (p x))
+    (λ (e : p x ≡ false). let g : Has same q (filter p xs) = (rw e at h) in let r = in_filter same laws p xs q g in
+        (has_later same q x xs r.0, r.1)) (cases_Bool (p x))
 
 pub is_none_of : {A : Type 0} (o : Option A) → is_none o ≡ true → o ≡ None
 is_none_of None e = refl
@@ -99,31 +103,36 @@ module _ {A C : Type 0} (same : A → A → Bool) (laws : IsEquality same) (othe
     all_met seen stack x m all s h = ⊎_elim (λ own. own)
         (λ pending. (m.0, m.1, m.2, name_led (suc pending.0) s x pending.1 ∙ m.3)) (all s h)
 
-    of_more : (P : A → Type 0) (seen : List A) (x : A) → ((s : A) → Has same s seen → P s) → P x → (s : A) → Has same s (seen ++ x ∷ []) → P s
+    of_more : (P : A → Type 0) (seen : List A) (x : A) → ((s : A) → Has same s seen → P s) → P x → (s : A) → Has same s (seen ++ x ∷ []) →
+        P s
     of_more P seen x all one s h = of_push same laws P seen x all one s h
 
     kept_met : (seen stack : List A) (x : A) → stands x ≡ None → AreMetOr seen (x ∷ stack) → AreMet (seen ++ x ∷ [])
     kept_met seen stack x none all = of_more (IsMet (seen ++ x ∷ [])) seen x
-        (λ s h. ⊎_elim (λ m. more_met seen x s m) (λ pending. (x, has_pushed same laws x seen, none, name_led (suc pending.0) s x pending.1)) (all s h))
+        (λ s h. ⊎_elim (λ m. more_met seen x s m) (λ pending. (x, has_pushed same laws x seen, none,
+            name_led (suc pending.0) s x pending.1)) (all s h))
         (x, has_pushed same laws x seen, none, refl)
 
     stand_met : (seen stack : List A) (x r : A) → stands x ≡ Some r → AreMetOr seen (x ∷ stack) → AreMetOr (seen ++ x ∷ []) (ways x)
     stand_met seen stack x r some all =
         let P : List A → Type 0 = λ next. AreMetOr (seen ++ x ∷ []) next in
         subst P (sym (stand_ways x r some).0) (of_more (λ s. IsMet (seen ++ x ∷ []) s ⊎ IsPending s (r ∷ [])) seen x
-        (λ s h. ⊎_elim (λ m. inl (more_met seen x s m)) (λ pending. inr (suc pending.0, led_on (suc pending.0) s x r pending.1 some)) (all s h))
+        (λ s h. ⊎_elim (λ m. inl (more_met seen x s m)) (λ pending. inr (suc pending.0, led_on (suc pending.0) s x r pending.1 some))
+            (all s h))
         (inr (zero, (r, some, refl))))
 
     names_kept : (seen : List A) (x : A) → stands x ≡ None → names (seen ++ x ∷ []) ≡ names seen ++ name x ∷ []
     names_kept seen x none =
         let is : is_none (stands x) ≡ true = ap is_none none in
-        ap (map name) (filter-append (λ y. is_none (stands y)) seen (x ∷ [])) ∙ map-append name (filter (λ y. is_none (stands y)) seen) (filter (λ y. is_none (stands y)) (x ∷ []))
+        ap (map name) (filter-append (λ y. is_none (stands y)) seen (x ∷ []))
+            ∙ map-append name (filter (λ y. is_none (stands y)) seen) (filter (λ y. is_none (stands y)) (x ∷ []))
         ∙ ap (λ (keep : Bool). names seen ++ map name (if keep then x ∷ [] else [])) is
 
     names_stand : (seen : List A) (x r : A) → stands x ≡ Some r → names (seen ++ x ∷ []) ≡ names seen
     names_stand seen x r some =
         let is : is_none (stands x) ≡ false = ap is_none some in
-        ap (map name) (filter-append (λ y. is_none (stands y)) seen (x ∷ []) ∙ ap (λ (keep : Bool). filter (λ y. is_none (stands y)) seen ++ (if keep then x ∷ [] else [])) is
+        ap (map name) (filter-append (λ y. is_none (stands y)) seen (x ∷ [])
+            ∙ ap (λ (keep : Bool). filter (λ y. is_none (stands y)) seen ++ (if keep then x ∷ [] else [])) is
         ∙ append-nil (filter (λ y. is_none (stands y)) seen))
 
     is_there : (seen : List A) (x : A) → IsMet seen x → Has other (name x) (names seen)
@@ -132,7 +141,8 @@ module _ {A C : Type 0} (same : A → A → Bool) (laws : IsEquality same) (othe
         subst P (sym m.3) (has_mapped same laws other laws_o name m.0 (filter (λ y. is_none (stands y)) seen)
         (has_filter same laws (λ y. is_none (stands y)) m.0 seen (ap is_none m.2) ∙ m.1))
 
-    is_absent : (seen : List A) (x : A) → In x → AreIn seen → stands x ≡ None → has same x seen ≡ false → has other (name x) (names seen) ≡ false
+    is_absent : (seen : List A) (x : A) → In x → AreIn seen → stands x ≡ None → has same x seen ≡ false →
+        has other (name x) (names seen) ≡ false
     is_absent seen x here inside none absent = ⊎_elim
         (λ there. let s = from_mapped same laws other laws_o name (name x) (filter (λ y. is_none (stands y)) seen) there in
         let k = in_filter same laws (λ y. is_none (stands y)) seen s.0 s.1 in
@@ -141,14 +151,16 @@ module _ {A C : Type 0} (same : A → A → Bool) (laws : IsEquality same) (othe
         not_both (has same x seen) _ (subst H (sym one) k.0) absent)
         (λ e. e) (has_or_not other (name x) (names seen))
 
-    carry : {stack seen after : List A} → Visits same ways stack seen after → AreIn stack → AreIn seen → AreMetOr seen stack → Carried stack seen after
+    carry : {stack seen after : List A} → Visits same ways stack seen after → AreIn stack → AreIn seen → AreMetOr seen stack →
+        Carried stack seen after
     carry (done seen after e) todo_in inside all =
         let fine : Fine after = subst Fine e (inside, λ s h. ⊎_elim (λ m. m) (λ pending. absurd pending) (all s h)) in
         record { walk = done (names seen) (names after) (ap names e); inside = fine.0; met = fine.1 }
     carry (held x stack seen after there rest) todo_in inside all =
         let m : IsMet seen x = first_met seen stack x (todo_in x (has_first same laws x stack)) there all in
         let go = carry rest (λ q h. todo_in q (has_later same q x stack h)) inside (λ s h. inl (all_met seen stack x m all s h)) in
-        record { walk = held (name x) (map name stack) (names seen) (names after) (is_there seen x m) go.walk; inside = go.inside; met = go.met }
+        record { walk = held (name x) (map name stack) (names seen) (names after) (is_there seen x m) go.walk; inside = go.inside;
+            met = go.met }
     carry (fresh x stack seen mid after absent first rest) todo_in inside all =
         let here : In x = todo_in x (has_first same laws x stack) in
         let pushed : AreIn (seen ++ x ∷ []) = of_push same laws In seen x inside here in
@@ -182,5 +194,6 @@ module _ {A C : Type 0} (same : A → A → Bool) (laws : IsEquality same) (othe
     pub walk_passed : (p : A) → In p → (after : List A) → Visits same ways (p ∷ []) [] after →
         Visits other ways_o (name p ∷ []) [] (names after) × ((q : A) → Has same q after → In q)
     walk_passed p here after walk =
-        let c = carry walk (of_cons same laws In p [] here (λ q h. none_in same q _ h)) (λ q h. none_in same q _ h) (λ s h. none_in same s _ h) in
+        let c = carry walk (of_cons same laws In p [] here (λ q h. none_in same q _ h)) (λ q h. none_in same q _ h)
+            (λ s h. none_in same s _ h) in
         (c.walk, c.inside)

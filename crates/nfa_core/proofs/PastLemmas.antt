@@ -1,5 +1,6 @@
 -- What states lead past to, and how far it is: each state that stands for another is one step further than that one.
-use Rattle.std.proofs.Common.{◌≡◌, ◌≢◌, ℕ, zero, suc, ◌+◌, ◌<◌, ◌≤◌, false, true, List, length, set, get_or, Option, Some, None, refl, sym, ap, ◌∙◌, arith, get_or-set_other, get_or-set_same, ⊎_elim, subst}
+use Rattle.std.proofs.Common.{◌≡◌, ◌≢◌, ℕ, zero, suc, ◌+◌, ◌<◌, ◌≤◌, false, true, List, length, set, get_or, Option, Some, None, refl, sym}
+use Rattle.std.proofs.Common.{ap, ◌∙◌, arith, get_or-set_other, get_or-set_same, ⊎_elim, subst}
 use Rattle.std.specs.Prelude.{is_some, cond}
 use Rattle.std.specs.Option.{unwrap_or}
 use Rattle.std.proofs.lemmas.Bool.{cases_eq}
@@ -27,20 +28,24 @@ Reaches drafts n q = stands_for (draft_at drafts (past_within drafts n q)) ≡ N
 
 -- more steps change nothing where one that stands for itself is reached
 more_by : (drafts : List DraftNode) (n q : ℕ) (o : Option ℕ) → stands_for (draft_at drafts q) ≡ o → Reaches drafts (suc n) q →
-    ((next : ℕ) → Reaches drafts n next → (past_within drafts (suc n) next ≡ past_within drafts n next) × (steps_within drafts (suc n) next ≡ steps_within drafts n next)) →
-    (going_on q (past_within drafts (suc n)) o ≡ going_on q (past_within drafts n) o) × (one_more (steps_within drafts (suc n)) o ≡ one_more (steps_within drafts n) o)
+    ((next : ℕ) → Reaches drafts n next → (past_within drafts (suc n) next ≡ past_within drafts n next) ×
+        (steps_within drafts (suc n) next ≡ steps_within drafts n next)) →
+    (going_on q (past_within drafts (suc n)) o ≡ going_on q (past_within drafts n) o) ×
+        (one_more (steps_within drafts (suc n)) o ≡ one_more (steps_within drafts n) o)
 more_by drafts n q None e there fewer = (refl, refl)
 more_by drafts n q (Some next) e there fewer =
     let same : past_within drafts (suc n) q ≡ past_within drafts n next = ap (going_on q (past_within drafts n)) e in
     let h = fewer next (ap (λ p. stands_for (draft_at drafts p)) (sym same) ∙ there) in
     (h.0, ap suc h.1)
 
-more_same : (drafts : List DraftNode) (n q : ℕ) → Reaches drafts n q → (past_within drafts (suc n) q ≡ past_within drafts n q) × (steps_within drafts (suc n) q ≡ steps_within drafts n q)
+more_same : (drafts : List DraftNode) (n q : ℕ) → Reaches drafts n q → (past_within drafts (suc n) q ≡ past_within drafts n q) ×
+    (steps_within drafts (suc n) q ≡ steps_within drafts n q)
 more_same drafts zero q there = (ap (going_on q (past_within drafts zero)) there, ap (one_more (steps_within drafts zero)) there)
 more_same drafts (suc n) q there = more_by drafts n q (stands_for (draft_at drafts q)) refl there (more_same drafts n)
 
 step_by : (drafts : List DraftNode) (n q next : ℕ) → stands_for (draft_at drafts q) ≡ Some next → Reaches drafts (suc n) q →
-    (past_within drafts (suc n) q ≡ past_within drafts (suc n) next) × (steps_within drafts (suc n) q ≡ suc (steps_within drafts (suc n) next))
+    (past_within drafts (suc n) q ≡ past_within drafts (suc n) next) ×
+        (steps_within drafts (suc n) q ≡ suc (steps_within drafts (suc n) next))
 step_by drafts n q next e there =
     let same : past_within drafts (suc n) q ≡ past_within drafts n next = ap (going_on q (past_within drafts n)) e in
     let more = more_same drafts n next (ap (λ p. stands_for (draft_at drafts p)) (sym same) ∙ there) in
@@ -51,43 +56,53 @@ step_at : (drafts : List DraftNode) (len q next : ℕ) → q < len → stands_fo
 step_at drafts zero q next inside e there = absurd (omega (arith, inside))
 step_at drafts (suc n) q next inside e there = step_by drafts n q next e there
 
-pub past_next : (drafts : List DraftNode) (q next : ℕ) → IsReached drafts → q < length drafts → stands_for (draft_at drafts q) ≡ Some next → past drafts q ≡ past drafts next
+pub past_next : (drafts : List DraftNode) (q next : ℕ) → IsReached drafts → q < length drafts → stands_for (draft_at drafts q) ≡ Some next →
+    past drafts q ≡ past drafts next
 past_next drafts q next reached inside e = (step_at drafts (length drafts) q next inside e (reached.ends q inside)).0
 
-pub steps_fall : (drafts : List DraftNode) (q next : ℕ) → IsReached drafts → q < length drafts → stands_for (draft_at drafts q) ≡ Some next → steps_from drafts q ≡ suc (steps_from drafts next)
+pub steps_fall : (drafts : List DraftNode) (q next : ℕ) → IsReached drafts → q < length drafts →
+    stands_for (draft_at drafts q) ≡ Some next → steps_from drafts q ≡ suc (steps_from drafts next)
 steps_fall drafts q next reached inside e = (step_at drafts (length drafts) q next inside e (reached.ends q inside)).1
 
 -- a state that is told of after another is another one, if it is nearer to its end
-settled_other : (table : List (Option ℕ)) (at q : ℕ) (p : ℕ) → q ≢ at → is_settled table q ≡ false → is_settled (set table at (Some p)) q ≡ false
+settled_other : (table : List (Option ℕ)) (at q : ℕ) (p : ℕ) → q ≢ at → is_settled table q ≡ false →
+    is_settled (set table at (Some p)) q ≡ false
 settled_other table at q p other e = ap is_some (get_or-set_other table at q (Some p) None other) ∙ e
 
-open_other : (drafts : List DraftNode) (table : List (Option ℕ)) (n q at p : ℕ) → IsReached drafts → q < length drafts → steps_from drafts q < steps_from drafts at →
+open_other : (drafts : List DraftNode) (table : List (Option ℕ)) (n q at p : ℕ) → IsReached drafts → q < length drafts →
+    steps_from drafts q < steps_from drafts at →
     IsOpen drafts table n q → IsOpen drafts (set table at (Some p)) n q
 open_other drafts table zero q at p reached inside nearer opened = tt
 open_other drafts table (suc n) q at p reached inside nearer opened =
     let falls = steps_fall drafts q opened.1.0 reached inside opened.1.1 in
     let other : q ≢ at = λ (same : q ≡ at). absurd (omega (arith, nearer, ap (steps_from drafts) same)) in (
       settled_other table at q p other opened.0,
-      (opened.1.0, opened.1.1, open_other drafts table n opened.1.0 at p reached (reached.stays q opened.1.0 inside opened.1.1) (omega (arith, nearer, falls)) opened.1.2),
+      (opened.1.0, opened.1.1, open_other drafts table n opened.1.0 at p reached (reached.stays q opened.1.0 inside opened.1.1)
+          (omega (arith, nearer, falls)) opened.1.2),
     )
 
 -- the states behind the first are still open where the first is told of
-pub open_behind : (drafts : List DraftNode) (table : List (Option ℕ)) (n q next p : ℕ) → IsReached drafts → q < length drafts → stands_for (draft_at drafts q) ≡ Some next →
+pub open_behind : (drafts : List DraftNode) (table : List (Option ℕ)) (n q next p : ℕ) → IsReached drafts → q < length drafts →
+    stands_for (draft_at drafts q) ≡ Some next →
     IsOpen drafts table n next → IsOpen drafts (set table q (Some p)) n next
 open_behind drafts table n q next p reached inside e opened =
     let falls = steps_fall drafts q next reached inside e in
     open_other drafts table n next q p reached (reached.stays q next inside e) (omega (arith, falls)) opened
 
 -- where one stops, the table or the state itself tells the end
-known_by : (drafts : List DraftNode) (at : ℕ) (o : Option ℕ) → ((p : ℕ) → o ≡ Some p → p ≡ past drafts at) → (is_some o ≡ true → unwrap_or o at ≡ past drafts at) × (stands_for (draft_at drafts at) ≡ None → unwrap_or o at ≡ past drafts at)
+known_by : (drafts : List DraftNode) (at : ℕ) (o : Option ℕ) → ((p : ℕ) → o ≡ Some p → p ≡ past drafts at) →
+    (is_some o ≡ true → unwrap_or o at ≡ past drafts at) × (stands_for (draft_at drafts at) ≡ None → unwrap_or o at ≡ past drafts at)
 known_by drafts at None right = (λ (e : false ≡ true). cc, λ e. sym (past_itself drafts (length drafts) at e))
 known_by drafts at (Some p) right = (λ e. right p refl, λ e. right p refl)
 
-pub known_end : (drafts : List DraftNode) (table : List (Option ℕ)) (at : ℕ) → IsPastTable drafts table → IsEnd drafts table at → unwrap_or (get_or table at None) at ≡ past drafts at
-known_end drafts table at told end = let cases = known_by drafts at (get_or table at None) (λ p e. told.right at p e) in ⊎_elim cases.0 cases.1 end
+pub known_end : (drafts : List DraftNode) (table : List (Option ℕ)) (at : ℕ) → IsPastTable drafts table → IsEnd drafts table at →
+    unwrap_or (get_or table at None) at ≡ past drafts at
+known_end drafts table at told end = let cases = known_by drafts at (get_or table at None) (λ p e. told.right at p e) in
+    ⊎_elim cases.0 cases.1 end
 
 -- no way is longer than there are states
-steps_bound_by : (drafts : List DraftNode) (n : ℕ) (o : Option ℕ) → ((next : ℕ) → steps_within drafts n next ≤ n) → one_more (steps_within drafts n) o ≤ suc n
+steps_bound_by : (drafts : List DraftNode) (n : ℕ) (o : Option ℕ) → ((next : ℕ) → steps_within drafts n next ≤ n) →
+    one_more (steps_within drafts n) o ≤ suc n
 steps_bound_by drafts n None fewer = omega arith
 steps_bound_by drafts n (Some next) fewer = let h = fewer next in omega (arith, h)
 
@@ -106,9 +121,11 @@ pub record IsUnderway (drafts : List DraftNode) (table : List (Option ℕ)) (q a
   pub opened : (m : ℕ) → IsOpen drafts table m at → IsOpen drafts table (len + m) q
 
 pub underway_start : (drafts : List DraftNode) (table : List (Option ℕ)) (q : ℕ) → q < length drafts → IsUnderway drafts table q q 0
-underway_start drafts table q inside = record { inside = inside; same = refl; far = omega arith; opened = λ m behind. let none : m ≡ 0 + m = omega arith in subst (λ (k : ℕ). IsOpen drafts table k q) none behind }
+underway_start drafts table q inside = record { inside = inside; same = refl; far = omega arith;
+    opened = λ m behind. let none : m ≡ 0 + m = omega arith in subst (λ (k : ℕ). IsOpen drafts table k q) none behind }
 
-pub underway_next : (drafts : List DraftNode) (table : List (Option ℕ)) (q at next len : ℕ) → IsReached drafts → is_settled table at ≡ false → stands_for (draft_at drafts at) ≡ Some next →
+pub underway_next : (drafts : List DraftNode) (table : List (Option ℕ)) (q at next len : ℕ) → IsReached drafts →
+    is_settled table at ≡ false → stands_for (draft_at drafts at) ≡ Some next →
     IsUnderway drafts table q at len → IsUnderway drafts table q next (len + 1)
 underway_next drafts table q at next len reached free e way = record {
   inside = reached.stays at next way.inside e;
@@ -126,23 +143,27 @@ marked_none : (o : Option ℕ) → is_some o ≡ false → mark o ≡ 0
 marked_none None e = refl
 marked_none (Some p) e = cc
 
-pub settled_more : (table : List (Option ℕ)) (q p : ℕ) → q < length table → is_settled table q ≡ false → settled_count (set table q (Some p)) ≡ settled_count table + 1
+pub settled_more : (table : List (Option ℕ)) (q p : ℕ) → q < length table → is_settled table q ≡ false →
+    settled_count (set table q (Some p)) ≡ settled_count table + 1
 settled_more table q p inside e =
     let sums = sum_by-set mark table q (Some p) None inside in
     let none = marked_none (get_or table q None) e in
     omega (arith, sums, none)
 
 -- the table that tells of one state more
-pub told_more : (drafts : List DraftNode) (table : List (Option ℕ)) (q p : ℕ) → q < length drafts → IsPastTable drafts table → p ≡ past drafts q → IsPastTable drafts (set table q (Some p))
+pub told_more : (drafts : List DraftNode) (table : List (Option ℕ)) (q p : ℕ) → q < length drafts → IsPastTable drafts table →
+    p ≡ past drafts q → IsPastTable drafts (set table q (Some p))
 told_more drafts table q p inside told e = record {
   len = length-set table q (Some p) ∙ told.len;
   right = λ r x is. ⊎_elim
-      (λ (same : r ≡ q). let there : get_or (set table q (Some p)) q None ≡ Some p = get_or-set_same table q (Some p) None (omega (arith, inside, told.len)) in cc)
+      (λ (same : r ≡ q). let there : get_or (set table q (Some p)) q None ≡ Some p =
+          get_or-set_same table q (Some p) None (omega (arith, inside, told.len)) in cc)
       (λ (other : r ≢ q). told.right r x (sym (get_or-set_other table q r (Some p) None other) ∙ is)) (cases_eq r q);
 }
 
 -- what the table told of, it tells of still
-pub settled_kept : (table : List (Option ℕ)) (q p r : ℕ) → q < length table → is_settled table r ≡ true → is_settled (set table q (Some p)) r ≡ true
+pub settled_kept : (table : List (Option ℕ)) (q p r : ℕ) → q < length table → is_settled table r ≡ true →
+    is_settled (set table q (Some p)) r ≡ true
 settled_kept table q p r inside e = ⊎_elim
     (λ (same : r ≡ q). ap (λ k. is_settled (set table q (Some p)) k) same ∙ ap is_some (get_or-set_same table q (Some p) None inside))
     (λ (other : r ≢ q). ap is_some (get_or-set_other table q r (Some p) None other) ∙ e) (cases_eq r q)
@@ -170,7 +191,8 @@ pub record IsSettling (drafts : List DraftNode) (first table : List (Option ℕ)
   pub count : settled_count table ≡ settled_count first + done
   pub kept : (r : ℕ) → is_settled first r ≡ true → is_settled table r ≡ true
 
-pub settling_start : (drafts : List DraftNode) (table : List (Option ℕ)) (end q len left : ℕ) → q < length drafts → end ≡ past drafts q → IsPastTable drafts table → IsOpen drafts table len q → len ≡ left →
+pub settling_start : (drafts : List DraftNode) (table : List (Option ℕ)) (end q len left : ℕ) → q < length drafts → end ≡ past drafts q →
+    IsPastTable drafts table → IsOpen drafts table len q → len ≡ left →
     IsSettling drafts table table end q 0 left
 settling_start drafts table end q len left inside e told opened all = record {
   inside = inside;
@@ -181,7 +203,8 @@ settling_start drafts table end q len left inside e told opened all = record {
   kept = λ r there. there;
 }
 
-pub settling_next : (drafts : List DraftNode) (first table new : List (Option ℕ)) (end at next done left rest : ℕ) → IsReached drafts → new ≡ set table at (Some end) → stands_for (draft_at drafts at) ≡ Some next → left ≡ suc rest →
+pub settling_next : (drafts : List DraftNode) (first table new : List (Option ℕ)) (end at next done left rest : ℕ) → IsReached drafts →
+    new ≡ set table at (Some end) → stands_for (draft_at drafts at) ≡ Some next → left ≡ suc rest →
     IsSettling drafts first table end at done left → IsSettling drafts first new end next (done + 1) rest
 settling_next drafts first table new end at next done left rest reached is_new e more way =
     let opened : IsOpen drafts table (suc rest) at = subst (λ (k : ℕ). IsOpen drafts table k at) more way.opened in
@@ -199,6 +222,7 @@ settling_next drafts first table new end at next done left rest reached is_new e
     subst (λ (t : List (Option ℕ)). IsSettling drafts first t end next (done + 1) rest) (sym is_new) moved
 
 -- while some are to come, the state stands for another
-pub settling_stands : (drafts : List DraftNode) (first table : List (Option ℕ)) (end at done left : ℕ) → IsSettling drafts first table end at done left → 0 < left → stands_for (draft_at drafts at) ≢ None
+pub settling_stands : (drafts : List DraftNode) (first table : List (Option ℕ)) (end at done left : ℕ) →
+    IsSettling drafts first table end at done left → 0 < left → stands_for (draft_at drafts at) ≢ None
 settling_stands drafts first table end at done zero way more e = omega (arith, more)
 settling_stands drafts first table end at done (suc rest) way more e = let some = way.opened.1.1 in cc

@@ -1,5 +1,6 @@
 -- The first answer at the ends of chains is what the most preferred run finds.
-use Rattle.std.proofs.Common.{◌≡◌, ℕ, zero, suc, ◌<◌, true, false, Bool, List, [], ◌∷◌, ◌++◌, length, refl, sym, ap, ◌∙◌, arith, ◌⊎◌, inl, inr, ⊎_elim, Option, Some, None, subst}
+use Rattle.std.proofs.Common.{◌≡◌, ℕ, zero, suc, ◌<◌, true, false, Bool, List, [], ◌∷◌, ◌++◌, length, refl, sym, ap, ◌∙◌, arith, ◌⊎◌, inl}
+use Rattle.std.proofs.Common.{inr, ⊎_elim, Option, Some, None, subst}
 use Rattle.std.proofs.lemmas.Bool.{cases_Bool}
 use Rattle.std.specs.List.{flat_map}
 use Rattle.std.specs.Option.{option_or, option_to_list}
@@ -27,10 +28,12 @@ pub first_of_option : {A : Type 0} (o : Option A) → first (option_to_list o) �
 first_of_option None = refl
 first_of_option (Some a) = refl
 
-past : {A : Type 0} (same : A → A → Bool) (laws : IsEquality same) (P : Type 0) (x q other : A) (xs : List A) → (x ≡ other → ⊥) → P ⊎ (comes_before same q other xs ≡ true) → P ⊎ (comes_before same q other (x ∷ xs) ≡ true)
+past : {A : Type 0} (same : A → A → Bool) (laws : IsEquality same) (P : Type 0) (x q other : A) (xs : List A) → (x ≡ other → ⊥) → P ⊎
+    (comes_before same q other xs ≡ true) → P ⊎ (comes_before same q other (x ∷ xs) ≡ true)
 past same laws P x q other xs apart h = ⊎_elim inl (λ (e : comes_before same q other xs ≡ true). inr (⊎_elim
     (λ (i : same x other ≡ true). absurd (apart ((laws x other).0 i)))
-    (λ (i : same x other ≡ false). ⊎_elim (λ (j : same x q ≡ true). rw (i, j)) (λ (j : same x q ≡ false). rw (i, j, e)) (cases_Bool (same x q))) (cases_Bool (same x other)))) h
+    (λ (i : same x other ≡ false). ⊎_elim (λ (j : same x q ≡ true). rw (i, j)) (λ (j : same x q ≡ false). rw (i, j, e))
+        (cases_Bool (same x q))) (cases_Bool (same x other)))) h
 
 module _ {A B : Type 0} (same : A → A → Bool) (laws : IsEquality same) (ways : A → List A) (answer : A → Option B) where
   -- a run that keeps off the path, of fewer than f things behind its first
@@ -46,12 +49,14 @@ module _ {A B : Type 0} (same : A → A → Bool) (laws : IsEquality same) (ways
   abbrev BestOf : ℕ → List A → List A → Option B → Type 0
   BestOf f path qs None = (q : A) → Has same q qs → (s : List A) (d : B) → Short f path q s d → ⊥
   BestOf f path qs (Some e) = (q : A) × Has same q qs × (r : List A) × KeepsOff same ways path q r × (answer (last_or q r) ≡ Some e) ×
-      ((o : A) → Has same o qs → (s : List A) (d : B) → Short f path o s d → ((o ≡ q) × ((s ≡ r) ⊎ IsPreferred same ways q r s)) ⊎ (comes_before same q o qs ≡ true))
+      ((o : A) → Has same o qs → (s : List A) (d : B) → Short f path o s d → ((o ≡ q) × ((s ≡ r) ⊎ IsPreferred same ways q r s)) ⊎
+          (comes_before same q o qs ≡ true))
 
   abbrev given : ℕ → List A → A → List B
   given f path q = answers answer (chain_ends same ways f path q)
 
-  of_list : (f : ℕ) (path : List A) → ((q : A) → Best f path q (first (given f path q))) → (qs : List A) → BestOf f path qs (first (flat_map (given f path) qs))
+  of_list : (f : ℕ) (path : List A) → ((q : A) → Best f path q (first (given f path q))) → (qs : List A) →
+      BestOf f path qs (first (flat_map (given f path) qs))
   of_list f path each [] = λ q h s d short. none_in same q _ h
   of_list f path each (x ∷ xs) = ⊎_elim
       (λ (none : first (given f path x) ≡ None).
@@ -60,7 +65,8 @@ module _ {A B : Type 0} (same : A → A → Bool) (laws : IsEquality same) (ways
       (λ (e : first (flat_map (given f path) xs) ≡ None).
       let later = rw e at (of_list f path each xs) in
       rw (first_append (given f path x) (flat_map (given f path) xs), none, e)
-      (λ q h s d short. ⊎_elim (λ (i : q ≡ x). let g : Short f path x s d = (rw i at short) in no_run s d g) (λ g. later q g s d short) (has_cons same laws q x xs h)))
+      (λ q h s d short. ⊎_elim (λ (i : q ≡ x). let g : Short f path x s d = (rw i at short) in
+          no_run s d g) (λ g. later q g s d short) (has_cons same laws q x xs h)))
       (λ (some : (a : B) × (first (flat_map (given f path) xs) ≡ Some a)).
       let later = rw some.1 at (of_list f path each xs) in
       rw (first_append (given f path x) (flat_map (given f path) xs), none, some.1) (
@@ -71,7 +77,8 @@ module _ {A B : Type 0} (same : A → A → Bool) (laws : IsEquality same) (ways
         later.4,
         λ o h s d short. ⊎_elim
             (λ (i : o ≡ x). let g : Short f path x s d = (rw i at short) in absurd (no_run s d g))
-            (λ g. past same laws _ x later.0 o xs (λ (i : x ≡ o). let k : Short f path x s d = (rw i short) in no_run s d k) (later.5 o g s d short)) (has_cons same laws o x xs h),
+            (λ g. past same laws _ x later.0 o xs (λ (i : x ≡ o). let k : Short f path x s d = (rw i short) in
+                no_run s d k) (later.5 o g s d short)) (has_cons same laws o x xs h),
       ))
       (option_cases (first (flat_map (given f path) xs))))
       (λ (some : (a : B) × (first (given f path x) ≡ Some a)).
@@ -83,21 +90,25 @@ module _ {A B : Type 0} (same : A → A → Bool) (laws : IsEquality same) (ways
         best.1,
         best.2,
         λ o h s d short. ⊎_elim
-            (λ (e : same x o ≡ true). let i : o ≡ x = sym ((laws x o).0 e) in let g : Short f path x s d = (rw i at short) in inl (i, best.3 s d g))
+            (λ (e : same x o ≡ true). let i : o ≡ x = sym ((laws x o).0 e) in let g : Short f path x s d = (rw i at short) in
+                inl (i, best.3 s d g))
             (λ (e : same x o ≡ false). let self : same x x ≡ true = (laws x x).1 refl in inr (rw (e, self))) (cases_Bool (same x o)),
       )) (option_cases (first (given f path x)))
 
   given_is : (f : ℕ) (path : List A) (p : A) → has same p path ≡ false →
       first (given (suc f) path p) ≡ option_or (answer p) (first (flat_map (given f (p ∷ path)) (ways p)))
-  given_is f path p off = rw off (first_append (option_to_list (answer p)) (answers answer (flat_map (chain_ends same ways f (p ∷ path)) (ways p)))
-      ∙ ap (λ l. option_or (first (option_to_list (answer p))) (first l)) (flat_map_twice (λ x. option_to_list (answer x)) (chain_ends same ways f (p ∷ path)) (ways p))
+  given_is f path p off = rw off (first_append (option_to_list (answer p))
+      (answers answer (flat_map (chain_ends same ways f (p ∷ path)) (ways p)))
+      ∙ ap (λ l. option_or (first (option_to_list (answer p))) (first l))
+          (flat_map_twice (λ x. option_to_list (answer x)) (chain_ends same ways f (p ∷ path)) (ways p))
       ∙ ap (λ o. option_or o (first (flat_map (given f (p ∷ path)) (ways p)))) (first_of_option (answer p)))
 
   ends_first : (p : A) (s : List A) → (s ≡ []) ⊎ IsPreferred same ways p [] s
   ends_first p [] = inl refl
   ends_first p (o ∷ s) = inr tt
 
-  goes_nowhere : (f : ℕ) (path : List A) (p : A) → answer p ≡ None → BestOf f (p ∷ path) (ways p) None → (s : List A) (d : B) → Short (suc f) path p s d → ⊥
+  goes_nowhere : (f : ℕ) (path : List A) (p : A) → answer p ≡ None → BestOf f (p ∷ path) (ways p) None → (s : List A) (d : B) →
+      Short (suc f) path p s d → ⊥
   goes_nowhere f path p none all [] d short = no_value (answer p) d _ none short.1
   goes_nowhere f path p none all (q ∷ s) d short = all q short.0.1 s d (short.0.2, short.1, omega (arith, short.2))
 

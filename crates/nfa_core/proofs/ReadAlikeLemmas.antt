@@ -2,13 +2,15 @@
 use Rattle.std.proofs.Common.{◌≡◌, ℕ, zero, suc, ◌+◌, ◌≤◌, Bool, true, false, cond, List, [], ◌∷◌, refl, ap, arith}
 use Rattle.look_core.specs.declared.look.Look.{Look}
 use Rattle.look_core.specs.LookSets.{has_look}
-use Rattle.nfa_core.specs.Nfa.{Node, byte_range, sparse_node, dense_node, look_node, union_node, binary_union, capture_node, fail_node, match_node, Automaton, node_at}
+use Rattle.nfa_core.specs.Nfa.{Node, byte_range, sparse_node, dense_node, look_node, union_node, binary_union, capture_node, fail_node}
+use Rattle.nfa_core.specs.Nfa.{match_node, Automaton, node_at}
 use Rattle.nfa_core.specs.NfaValue.{looks_of}
 use Rattle.nfa_core.specs.Ways.{reads, is_passed, on_nothing, on_read, place_of}
 use Rattle.nfa_core.proofs.LookedLemmas.{looks_any}
 use Rattle.nfa_core.specs.Reaches.{IsAlike, read_by}
 
-pub nothing_same : (node : Node) (f g : Look → Bool) → ((l : Look) (next : ℕ) → node ≡ look_node l next → f l ≡ g l) → on_nothing node f ≡ on_nothing node g
+pub nothing_same : (node : Node) (f g : Look → Bool) → ((l : Look) (next : ℕ) → node ≡ look_node l next → f l ≡ g l) →
+    on_nothing node f ≡ on_nothing node g
 nothing_same (byte_range low high next) f g same = refl
 nothing_same (sparse_node ranges) f g same = refl
 nothing_same (dense_node names) f g same = refl
@@ -27,13 +29,15 @@ reads_same true f g h s e (suc i) = refl
 -- readings that agree on the looks of the states, each turned round for one who reads in reverse
 pub alike_by_looks : (a : Automaton) (f g : Look → ℕ → Bool) (h : List ℕ) (start end i d : ℕ) →
     ((l : Look) (k : ℕ) → has_look (looks_of a.states) l ≡ true → k ≤ d →
-    is_passed a.reverse (read_by f h start end) l (place_of a.reverse i k) ≡ is_passed a.reverse (read_by g h start end) l (place_of a.reverse i k)) →
+    is_passed a.reverse (read_by f h start end) l (place_of a.reverse i k) ≡ is_passed a.reverse (read_by g h start end) l
+        (place_of a.reverse i k)) →
     IsAlike a (read_by f h start end) (read_by g h start end) i d
 alike_by_looks a f g h start end i d same = record {
   same_start = refl;
   same_end = refl;
   looks = λ k q low.
-      nothing_same (node_at a q) (λ l. is_passed a.reverse (read_by f h start end) l (place_of a.reverse i k)) (λ l. is_passed a.reverse (read_by g h start end) l (place_of a.reverse i k))
+      nothing_same (node_at a q) (λ l. is_passed a.reverse (read_by f h start end) l (place_of a.reverse i k))
+          (λ l. is_passed a.reverse (read_by g h start end) l (place_of a.reverse i k))
       (λ l next is. same l k ((looks_any l a).1 (q, next, is)) low);
   bytes = λ k q low. ap (on_read (node_at a q)) (reads_same a.reverse f g h start end (place_of a.reverse i k));
 }
@@ -48,7 +52,9 @@ place_forward false i k up = refl
 place_forward true i k up = cc
 
 pub alike_forward : (a : Automaton) (f g : Look → ℕ → Bool) (h : List ℕ) (start end i d : ℕ) → a.reverse ≡ false →
-    ((l : Look) (j : ℕ) → has_look (looks_of a.states) l ≡ true → i ≤ j → j ≤ i + d → f l j ≡ g l j) → IsAlike a (read_by f h start end) (read_by g h start end) i d
+    ((l : Look) (j : ℕ) → has_look (looks_of a.states) l ≡ true → i ≤ j → j ≤ i + d → f l j ≡ g l j) →
+        IsAlike a (read_by f h start end) (read_by g h start end) i d
 alike_forward a f g h start end i d up same = alike_by_looks a f g h start end i d
     (λ l k there low. let at : place_of a.reverse i k ≡ i + k = place_forward a.reverse i k up in
-    passed_forward a.reverse f g h start end l (place_of a.reverse i k) up (same l (place_of a.reverse i k) there (omega arith) (omega arith)))
+    passed_forward a.reverse f g h start end l (place_of a.reverse i k) up
+        (same l (place_of a.reverse i k) there (omega arith) (omega arith)))

@@ -6,7 +6,8 @@ use Rattle.std.specs.Bool.{nat_eq}
 use Rattle.std.proofs.lemmas.List.{get_or_past}
 use Rattle.std.proofs.lemmas.List.Elements.{All-get_or}
 use Rattle.std.proofs.lemmas.Bool.Decides.{leb_tells}
-use Rattle.nfa_core.specs.BuilderStates.{DraftNode, empty_draft, range_draft, sparse_draft, look_draft, capture_start_draft, capture_end_draft, union_draft, union_reverse_draft, fail_draft, match_draft, draft_at}
+use Rattle.nfa_core.specs.BuilderStates.{DraftNode, empty_draft, range_draft, sparse_draft, look_draft, capture_start_draft}
+use Rattle.nfa_core.specs.BuilderStates.{capture_end_draft, union_draft, union_reverse_draft, fail_draft, match_draft, draft_at}
 use Rattle.nfa_core.specs.Walks.{Has, HasNoneTwice, IsFinite}
 use Rattle.nfa_core.specs.Renaming.{stands_for, past_within, going_on, past, HasNoLoop}
 use Rattle.nfa_core.specs.CanBuild.{names_of}
@@ -27,10 +28,12 @@ stand_in_named n (look_draft look next) r e all = cc
 stand_in_named n (capture_start_draft pattern group next) r e all = cc
 stand_in_named n (capture_end_draft pattern group next) r e all = cc
 stand_in_named n (union_draft []) r e all = cc
-stand_in_named n (union_draft (next ∷ [])) r e all = let i : next ≡ r = cc in let l : next < n = all 0 next (omega arith) in omega (arith, i, l)
+stand_in_named n (union_draft (next ∷ [])) r e all = let i : next ≡ r = cc in let l : next < n = all 0 next (omega arith) in
+    omega (arith, i, l)
 stand_in_named n (union_draft (next ∷ other ∷ others)) r e all = cc
 stand_in_named n (union_reverse_draft []) r e all = cc
-stand_in_named n (union_reverse_draft (next ∷ [])) r e all = let i : next ≡ r = cc in let l : next < n = all 0 next (omega arith) in omega (arith, i, l)
+stand_in_named n (union_reverse_draft (next ∷ [])) r e all = let i : next ≡ r = cc in let l : next < n = all 0 next (omega arith) in
+    omega (arith, i, l)
 stand_in_named n (union_reverse_draft (next ∷ other ∷ others)) r e all = cc
 stand_in_named n fail_draft r e all = cc
 stand_in_named n (match_draft pattern) r e all = cc
@@ -53,7 +56,8 @@ module _ (drafts : List DraftNode) where
   comes (suc n) q e = ⊎_elim
       (λ (none : standing q ≡ None). (0, none))
       (λ (some : (r : ℕ) × (standing q ≡ Some r)).
-      let back : standing (past_within drafts n some.0) ≡ standing (past_within drafts (suc n) q) = ap (λ o. standing (going_on q (past_within drafts n) o)) (sym some.1) in
+      let back : standing (past_within drafts n some.0) ≡ standing (past_within drafts (suc n) q) =
+          ap (λ o. standing (going_on q (past_within drafts n) o)) (sym some.1) in
       let more = comes n some.0 (back ∙ e) in (suc more.0, (some.0, some.1, more.1)))
       (option_cases (standing q))
 
@@ -69,7 +73,8 @@ module _ (drafts : List DraftNode) where
   -- what stands for another is there
   there_if_stands : (q r : ℕ) → standing q ≡ Some r → q < length drafts
   there_if_stands q r e = ⊎_elim
-      (λ told. let past_end : standing q ≡ None = ap stands_for (get_or_past drafts q fail_draft told.1) in no_value (standing q) r _ past_end e)
+      (λ told. let past_end : standing q ≡ None = ap stands_for (get_or_past drafts q fail_draft told.1) in
+          no_value (standing q) r _ past_end e)
       (λ told. told.1) (leb_tells (length drafts) q)
 
   -- the states on the way, without the last
@@ -89,31 +94,37 @@ module _ (drafts : List DraftNode) where
   trail_once : (m q : ℕ) (c : Comes m q) → HasNoneTwice nat_eq (trail m q c)
   trail_once zero q c = tt
   trail_once (suc m) q c = (
-    ⊎_elim (λ (h : Has nat_eq q (trail m c.0 c.2)). let o = on_trail m c.0 c.2 q h in let e : o.0 ≡ suc m = one_count o.0 (suc m) q o.2 c in absurd (omega (arith, e, o.1)))
+    ⊎_elim (λ (h : Has nat_eq q (trail m c.0 c.2)). let o = on_trail m c.0 c.2 q h in let e : o.0 ≡ suc m = one_count o.0 (suc m) q o.2 c in
+        absurd (omega (arith, e, o.1)))
         (λ e. e) (has_or_not nat_eq q (trail m c.0 c.2)),
     trail_once m c.0 c.2,
   )
 
   trail_inside : (m q : ℕ) (c : Comes m q) (z : ℕ) → Has nat_eq z (trail m q c) → z < length drafts
   trail_inside zero q c z h = none_in nat_eq z _ h
-  trail_inside (suc m) q c z h = of_cons nat_eq names_equal (λ w. w < length drafts) q (trail m c.0 c.2) (there_if_stands q c.0 c.1) (trail_inside m c.0 c.2) z h
+  trail_inside (suc m) q c z h = of_cons nat_eq names_equal (λ w. w < length drafts) q (trail m c.0 c.2) (there_if_stands q c.0 c.1)
+      (trail_inside m c.0 c.2) z h
 
   -- there are no more steps than states
   few_steps : (m q : ℕ) → Comes m q → m ≤ length drafts
   few_steps m q c =
-      let finite : IsFinite nat_eq (λ x. []) (λ x. x < length drafts) (length drafts) = finite_names (length drafts) (λ x. []) (λ x h y g. none_in nat_eq y _ g) in
+      let finite : IsFinite nat_eq (λ x. []) (λ x. x < length drafts) (length drafts) =
+          finite_names (length drafts) (λ x. []) (λ x h y g. none_in nat_eq y _ g) in
       let l : length (trail m q c) ≤ length drafts = finite.room (trail m q c) (trail_inside m q c) (trail_once m q c) in
       let e : length (trail m q c) ≡ m = length_trail m q c in omega (arith, l, e)
 
   module _ (named : AreNamed drafts) where
     pub next_inside : (q r : ℕ) → standing q ≡ Some r → r < length drafts
-    next_inside q r e = stand_in_named (length drafts) (draft_at drafts q) r e (All-get_or (λ draft. All (λ x. x < length drafts) (names_of draft)) drafts q fail_draft (there_if_stands q r e) named)
+    next_inside q r e = stand_in_named (length drafts) (draft_at drafts q) r e
+        (All-get_or (λ draft. All (λ x. x < length drafts) (names_of draft)) drafts q fail_draft (there_if_stands q r e) named)
 
     within_inside : (n q : ℕ) → q < length drafts → past_within drafts n q < length drafts
     within_inside zero q inside = inside
     within_inside (suc n) q inside = ⊎_elim
-        (λ (none : standing q ≡ None). let e : past_within drafts (suc n) q ≡ q = past_itself drafts (suc n) q none in omega (arith, e, inside))
-        (λ (some : (r : ℕ) × (standing q ≡ Some r)). let e : past_within drafts (suc n) q ≡ past_within drafts n some.0 = ap (going_on q (past_within drafts n)) some.1 in
+        (λ (none : standing q ≡ None). let e : past_within drafts (suc n) q ≡ q = past_itself drafts (suc n) q none in
+            omega (arith, e, inside))
+        (λ (some : (r : ℕ) × (standing q ≡ Some r)). let e : past_within drafts (suc n) q ≡ past_within drafts n some.0 =
+            ap (going_on q (past_within drafts n)) some.1 in
         let l : past_within drafts n some.0 < length drafts = within_inside n some.0 (next_inside q some.0 some.1) in omega (arith, e, l))
         (option_cases (standing q))
 
@@ -126,12 +137,14 @@ module _ (drafts : List DraftNode) where
   same_within (suc m) zero k q c a b = absurd (omega (arith, a))
   same_within (suc m) (suc j) zero q c a b = absurd (omega (arith, b))
   same_within (suc m) (suc j) (suc k) q c a b =
-      ap (going_on q (past_within drafts j)) c.1 ∙ same_within m j k c.0 c.2 (omega (arith, a)) (omega (arith, b)) ∙ sym (ap (going_on q (past_within drafts k)) c.1)
+      ap (going_on q (past_within drafts j)) c.1 ∙ same_within m j k c.0 c.2 (omega (arith, a)) (omega (arith, b))
+          ∙ sym (ap (going_on q (past_within drafts k)) c.1)
 
   stands_at_last : (m q k : ℕ) → Comes m q → m ≤ k → standing (past_within drafts k q) ≡ None
   stands_at_last zero q k c a = ap standing (past_itself drafts k q c) ∙ c
   stands_at_last (suc m) q zero c a = absurd (omega (arith, a))
-  stands_at_last (suc m) q (suc k) c a = ap (λ o. standing (going_on q (past_within drafts k) o)) c.1 ∙ stands_at_last m c.0 k c.2 (omega (arith, a))
+  stands_at_last (suc m) q (suc k) c a = ap (λ o. standing (going_on q (past_within drafts k) o)) c.1
+      ∙ stands_at_last m c.0 k c.2 (omega (arith, a))
 
   module _ (no_loop : HasNoLoop drafts) where
     pub comes_to : (q : ℕ) → q < length drafts → (m : ℕ) × Comes m q
@@ -147,4 +160,5 @@ module _ (drafts : List DraftNode) where
     past_next q r e =
         let c = comes_to q (there_if_stands q r e) in
         let l : c.0 ≤ length drafts = few_steps c.0 q c.1 in
-        same_within c.0 (length drafts) (suc (length drafts)) q c.1 l (omega (arith, l)) ∙ ap (going_on q (past_within drafts (length drafts))) e
+        same_within c.0 (length drafts) (suc (length drafts)) q c.1 l (omega (arith, l))
+            ∙ ap (going_on q (past_within drafts (length drafts))) e

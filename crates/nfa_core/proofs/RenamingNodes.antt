@@ -1,11 +1,13 @@
 -- A kept state under new names: it leads where it led, and matches what it matched.
-use Rattle.std.proofs.Common.{◌≡◌, ℕ, true, false, Bool, List, [], ◌∷◌, ◌++◌, map, reverse, refl, sym, ap, ◌∙◌, Option, Some, None, if◌then◌else◌, ◌&&◌}
+use Rattle.std.proofs.Common.{◌≡◌, ℕ, true, false, Bool, List, [], ◌∷◌, ◌++◌, map, reverse, refl, sym, ap, ◌∙◌, Option, Some, None}
+use Rattle.std.proofs.Common.{if◌then◌else◌, ◌&&◌}
 use Rattle.std.specs.Bool.{nat_le}
 use Rattle.std.proofs.lemmas.List.{map-append}
 use Rattle.look_core.specs.declared.look.Look.{Look}
 use Rattle.search_types.specs.Groups.{Groups}
 use Rattle.nfa_core.specs.Nfa.{union_node, leads_to}
-use Rattle.nfa_core.specs.BuilderStates.{DraftNode, empty_draft, range_draft, sparse_draft, look_draft, capture_start_draft, capture_end_draft, union_draft, union_reverse_draft, fail_draft, match_draft}
+use Rattle.nfa_core.specs.BuilderStates.{DraftNode, empty_draft, range_draft, sparse_draft, look_draft, capture_start_draft}
+use Rattle.nfa_core.specs.BuilderStates.{capture_end_draft, union_draft, union_reverse_draft, fail_draft, match_draft}
 use Rattle.nfa_core.specs.Drafted.{drafted}
 use Rattle.nfa_core.specs.Ways.{Text, reads, is_passed, in_ranges, on_byte, on_nothing, on_read, place_behind, node_ways, match_of}
 use Rattle.nfa_core.specs.Renaming.{stands_for, ways_node, ranges_node, renamed}
@@ -24,14 +26,17 @@ if_mapped : (name : ℕ → ℕ) (c : Bool) (next : ℕ) → (if c then name nex
 if_mapped name true next = refl
 if_mapped name false next = refl
 
-in_ranges_of : (c : Bool) (name : ℕ → ℕ) (next : ℕ) (xs ys : List ℕ) → xs ≡ map name ys → (if c then name next ∷ [] else xs) ≡ map name (if c then next ∷ [] else ys)
+in_ranges_of : (c : Bool) (name : ℕ → ℕ) (next : ℕ) (xs ys : List ℕ) → xs ≡ map name ys →
+    (if c then name next ∷ [] else xs) ≡ map name (if c then next ∷ [] else ys)
 in_ranges_of true name next xs ys e = refl
 in_ranges_of false name next xs ys e = e
 
-in_ranges_mapped : (name : ℕ → ℕ) (ranges : List (ℕ × ℕ × ℕ)) (b : ℕ) → in_ranges (map (λ r. (r.0, r.1, name r.2)) ranges) b ≡ map name (in_ranges ranges b)
+in_ranges_mapped : (name : ℕ → ℕ) (ranges : List (ℕ × ℕ × ℕ)) (b : ℕ) →
+    in_ranges (map (λ r. (r.0, r.1, name r.2)) ranges) b ≡ map name (in_ranges ranges b)
 in_ranges_mapped name [] b = refl
 in_ranges_mapped name ((low, high, next) ∷ others) b =
-    in_ranges_of (nat_le low b && nat_le b high) name next (in_ranges (map (λ r. (r.0, r.1, name r.2)) others) b) (in_ranges others b) (in_ranges_mapped name others b)
+    in_ranges_of (nat_le low b && nat_le b high) name next (in_ranges (map (λ r. (r.0, r.1, name r.2)) others) b) (in_ranges others b)
+        (in_ranges_mapped name others b)
 
 ranges_on_byte : (ranges : List (ℕ × ℕ × ℕ)) (b : ℕ) → on_byte (ranges_node ranges) b ≡ in_ranges ranges b
 ranges_on_byte [] b = refl
@@ -77,7 +82,8 @@ ranges_led name (range ∷ others) = ap (λ l. name range.2 ∷ l) (ranges_led n
 
 module _ (name : ℕ → ℕ) (groups : Groups) where
   -- the names that a kept state leads to are the new ones
-  pub leads_renamed : (draft : DraftNode) → stands_for draft ≡ None → leads_to (renamed name groups draft) ≡ map name (leads_to (drafted draft))
+  pub leads_renamed : (draft : DraftNode) → stands_for draft ≡ None → leads_to (renamed name groups draft) ≡ map name
+      (leads_to (drafted draft))
   leads_renamed (empty_draft next) kept = cc
   leads_renamed (range_draft low high next) kept = refl
   leads_renamed (sparse_draft ranges) kept = ranges_lead (map (under_range name) ranges) ∙ ranges_led name ranges
@@ -89,7 +95,8 @@ module _ (name : ℕ → ℕ) (groups : Groups) where
   leads_renamed fail_draft kept = refl
   leads_renamed (match_draft pattern) kept = refl
 
-  byte_renamed : (draft : DraftNode) → stands_for draft ≡ None → (b : ℕ) → on_byte (renamed name groups draft) b ≡ map name (on_byte (drafted draft) b)
+  byte_renamed : (draft : DraftNode) → stands_for draft ≡ None → (b : ℕ) →
+      on_byte (renamed name groups draft) b ≡ map name (on_byte (drafted draft) b)
   byte_renamed (empty_draft next) kept b = refl
   byte_renamed (range_draft low high next) kept b = if_mapped name (nat_le low b && nat_le b high) next
   byte_renamed (sparse_draft ranges) kept b = ranges_on_byte (map (λ r. (r.0, r.1, name r.2)) ranges) b ∙ in_ranges_mapped name ranges b
@@ -101,11 +108,13 @@ module _ (name : ℕ → ℕ) (groups : Groups) where
   byte_renamed fail_draft kept b = refl
   byte_renamed (match_draft pattern) kept b = refl
 
-  read_renamed : (draft : DraftNode) → stands_for draft ≡ None → (read : Option (ℕ × ℕ)) → on_read (renamed name groups draft) read ≡ map name (on_read (drafted draft) read)
+  read_renamed : (draft : DraftNode) → stands_for draft ≡ None → (read : Option (ℕ × ℕ)) →
+      on_read (renamed name groups draft) read ≡ map name (on_read (drafted draft) read)
   read_renamed draft kept None = refl
   read_renamed draft kept (Some (b, j)) = byte_renamed draft kept b
 
-  nothing_renamed : (draft : DraftNode) → stands_for draft ≡ None → (passed : Look → Bool) → on_nothing (renamed name groups draft) passed ≡ map name (on_nothing (drafted draft) passed)
+  nothing_renamed : (draft : DraftNode) → stands_for draft ≡ None → (passed : Look → Bool) →
+      on_nothing (renamed name groups draft) passed ≡ map name (on_nothing (drafted draft) passed)
   nothing_renamed (empty_draft next) kept passed = cc
   nothing_renamed (range_draft low high next) kept passed = refl
   nothing_renamed (sparse_draft ranges) kept passed = ranges_on_nothing (map (λ r. (r.0, r.1, name r.2)) ranges) passed
@@ -149,7 +158,8 @@ module _ (name : ℕ → ℕ) (groups : Groups) where
 
 -- ---- a state that stands for another leads there, and nowhere else
 
-one_way_read : (next i : ℕ) (read : Option (ℕ × ℕ)) → map (at_place (place_behind i read)) (on_read (union_node (next ∷ [])) read) ++ (at_place i next ∷ []) ≡ at_place i next ∷ []
+one_way_read : (next i : ℕ) (read : Option (ℕ × ℕ)) → map (at_place (place_behind i read)) (on_read (union_node (next ∷ [])) read)
+    ++ (at_place i next ∷ []) ≡ at_place i next ∷ []
 one_way_read next i None = refl
 one_way_read next i (Some (b, j)) = refl
 
@@ -172,7 +182,8 @@ drafted_stand (union_reverse_draft (next ∷ other ∷ others)) r e = cc
 drafted_stand fail_draft r e = cc
 drafted_stand (match_draft pattern) r e = cc
 
-pub ways_of_stand : (draft : DraftNode) (r : ℕ) → stands_for draft ≡ Some r → (is_reverse : Bool) (t : Text) (i : ℕ) → node_ways is_reverse t (drafted draft) i ≡ at_place i r ∷ []
+pub ways_of_stand : (draft : DraftNode) (r : ℕ) → stands_for draft ≡ Some r → (is_reverse : Bool) (t : Text) (i : ℕ) →
+    node_ways is_reverse t (drafted draft) i ≡ at_place i r ∷ []
 ways_of_stand draft r e is_reverse t i = ap (λ node. node_ways is_reverse t node i) (drafted_stand draft r e) ∙ one_way is_reverse t r i
 
 pub match_of_stand : (draft : DraftNode) (r : ℕ) → stands_for draft ≡ Some r → (i : ℕ) → match_of (drafted draft) i ≡ None

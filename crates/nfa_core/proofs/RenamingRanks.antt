@@ -26,7 +26,8 @@ module _ {A : Type 0} (keep : A → Bool) where
   first_rank : (x : A) (xs : List A) (q : ℕ) → keep x ≡ true → 0 < rank (x ∷ xs) (suc q)
   first_rank x xs q is = rw is (omega arith)
 
-  pub one_rank : (xs : List A) (p q : ℕ) (d : A) → p < length xs → q < length xs → keep (get_or xs p d) ≡ true → keep (get_or xs q d) ≡ true →
+  pub one_rank : (xs : List A) (p q : ℕ) (d : A) → p < length xs → q < length xs → keep (get_or xs p d) ≡ true →
+      keep (get_or xs q d) ≡ true →
       rank xs p ≡ rank xs q → p ≡ q
   one_rank [] p q d inside_p inside_q is_p is_q e = absurd (omega (arith, inside_p))
   one_rank (x ∷ xs) zero zero d inside_p inside_q is_p is_q e = refl
@@ -54,7 +55,10 @@ module _ {A : Type 0} (keep : A → Bool) where
   ranked [] d k inside = absurd (omega (arith, inside))
   ranked (x ∷ xs) d zero inside = ⊎_elim
       (λ (e : keep x ≡ true). (0, omega arith, e, refl))
-      (λ (e : keep x ≡ false). let l : 0 < length (filter keep xs) = (rw e at inside) in passed x xs d 0 e (ranked xs d 0 l)) (cases_Bool (keep x))
+      (λ (e : keep x ≡ false). let l : 0 < length (filter keep xs) = (rw e at inside) in
+          passed x xs d 0 e (ranked xs d 0 l)) (cases_Bool (keep x))
   ranked (x ∷ xs) d (suc k) inside = ⊎_elim
-      (λ (e : keep x ≡ true). let l : suc k < suc (length (filter keep xs)) = (rw e at inside) in later x xs d k e (ranked xs d k (omega (arith, l))))
-      (λ (e : keep x ≡ false). let l : suc k < length (filter keep xs) = (rw e at inside) in passed x xs d (suc k) e (ranked xs d (suc k) l)) (cases_Bool (keep x))
+      (λ (e : keep x ≡ true). let l : suc k < suc (length (filter keep xs)) = (rw e at inside) in
+          later x xs d k e (ranked xs d k (omega (arith, l))))
+      (λ (e : keep x ≡ false). let l : suc k < length (filter keep xs) = (rw e at inside) in
+          passed x xs d (suc k) e (ranked xs d (suc k) l)) (cases_Bool (keep x))

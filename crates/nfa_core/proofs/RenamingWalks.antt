@@ -7,7 +7,8 @@ use Rattle.nfa_core.specs.Runs.{IsChain, last_or}
 use Rattle.nfa_core.proofs.MemberLemmas.{none_in, has_first, has_later, has_same, has_cons, has_one, of_append}
 use Rattle.nfa_core.proofs.PreferenceLemmas.{no_value}
 
-module _ {A C : Type 0} (same : A → A → Bool) (laws : IsEquality same) (other : C → C → Bool) (laws_o : IsEquality other) (name : A → C) where
+module _ {A C : Type 0} (same : A → A → Bool) (laws : IsEquality same) (other : C → C → Bool) (laws_o : IsEquality other) (name : A →
+    C) where
   pub has_mapped : (x : A) (xs : List A) → Has same x xs → Has other (name x) (map name xs)
   has_mapped x [] h = none_in same x _ h
   has_mapped x (y ∷ ys) h = ⊎_elim (λ (e : x ≡ y). has_same other laws_o (name x) (name y) (map name ys) (ap name e))
@@ -19,7 +20,8 @@ module _ {A C : Type 0} (same : A → A → Bool) (laws : IsEquality same) (othe
   pub from_mapped : (z : C) (xs : List A) → Has other z (map name xs) → Source z xs
   from_mapped z [] h = none_in other z _ h
   from_mapped z (y ∷ ys) h = ⊎_elim (λ (e : z ≡ name y). (y, has_first same laws y ys, e))
-      (λ later. let o = from_mapped z ys later in (o.0, has_later same o.0 y ys o.1, o.2)) (has_cons other laws_o z (name y) (map name ys) h)
+      (λ later. let o = from_mapped z ys later in (o.0, has_later same o.0 y ys o.1, o.2))
+          (has_cons other laws_o z (name y) (map name ys) h)
 
   module _ {B : Type 0} (ways : A → List A) (answer : A → Option B) (ways_o : C → List C) (answer_o : C → Option B) where
     -- it leads under its name to what it led to, and answers the same
@@ -44,23 +46,29 @@ module _ {A C : Type 0} (same : A → A → Bool) (laws : IsEquality same) (othe
       pub named : name p ≡ name at
       pub leads : (e : B) → Finds at e → Finds p e
 
-    module _ (In : A → Type 0) (stays : (p : A) → In p → (q : A) → Has same q (ways p) → In q) (either : (p : A) → In p → IsKept p ⊎ StandsIn p) where
-      pub lists_carried : {stack : List A} {l : List B} → Lists ways answer stack l → ((p : A) → Has same p stack → In p) → Lists ways_o answer_o (map name stack) l
+    module _ (In : A → Type 0) (stays : (p : A) → In p → (q : A) → Has same q (ways p) → In q) (either : (p : A) → In p → IsKept p ⊎
+        StandsIn p) where
+      pub lists_carried : {stack : List A} {l : List B} → Lists ways answer stack l → ((p : A) → Has same p stack → In p) →
+          Lists ways_o answer_o (map name stack) l
       lists_carried lists_none inside = lists_none
       lists_carried (lists_answer x e rest l is walk) inside = ⊎_elim
-          (λ (kept : IsKept x). lists_answer (name x) e (map name rest) l (kept.1 ∙ is) (lists_carried walk (λ q h. inside q (has_later same q x rest h))))
+          (λ (kept : IsKept x). lists_answer (name x) e (map name rest) l (kept.1
+              ∙ is) (lists_carried walk (λ q h. inside q (has_later same q x rest h))))
           (λ (stands : StandsIn x). no_value (answer x) e _ stands.2 is)
           (either x (inside x (has_first same laws x rest)))
       lists_carried (lists_ways x rest l is walk) inside =
           let here : In x = inside x (has_first same laws x rest) in
           let L : List C → Type 0 = λ stack. Lists ways_o answer_o stack l in
-          let more : L (map name (ways x ++ rest)) = lists_carried walk (of_append same laws In (ways x) rest (stays x here) (λ q h. inside q (has_later same q x rest h))) in
+          let more : L (map name (ways x ++ rest)) = lists_carried walk
+              (of_append same laws In (ways x) rest (stays x here) (λ q h. inside q (has_later same q x rest h))) in
           ⊎_elim
-          (λ (kept : IsKept x). lists_ways (name x) (map name rest) l (kept.1 ∙ is) (subst L (map-append name (ways x) rest ∙ ap (λ w. w ++ map name rest) (sym kept.0)) more))
+          (λ (kept : IsKept x). lists_ways (name x) (map name rest) l (kept.1
+              ∙ is) (subst L (map-append name (ways x) rest ∙ ap (λ w. w ++ map name rest) (sym kept.0)) more))
           (λ (stands : StandsIn x). subst L (ap (λ w. map name (w ++ rest)) stands.1 ∙ ap (λ c. c ∷ map name rest) (sym stands.3)) more)
           (either x here)
 
-      pub carried_forth : (r : List A) (p : A) → In p → (e : B) → IsChain same ways p r → answer (last_or p r) ≡ Some e → FindsOther (name p) e
+      pub carried_forth : (r : List A) (p : A) → In p → (e : B) → IsChain same ways p r → answer (last_or p r) ≡ Some e →
+          FindsOther (name p) e
       carried_forth [] p here e chain is = ⊎_elim
           (λ (kept : IsKept p). ([], tt, kept.1 ∙ is))
           (λ (stands : StandsIn p). no_value (answer p) e _ stands.2 is) (either p here)
@@ -76,7 +84,8 @@ module _ {A C : Type 0} (same : A → A → Bool) (laws : IsEquality same) (othe
           let F : C → Type 0 = λ c. FindsOther c e in
           subst F (ap name one ∙ sym stands.3) go) (either p here)
 
-      pub carried_back : ((p : A) → In p → Settled In p) → (s : List C) (p : A) → In p → (e : B) → IsChain other ways_o (name p) s → answer_o (last_or (name p) s) ≡ Some e → Finds p e
+      pub carried_back : ((p : A) → In p → Settled In p) → (s : List C) (p : A) → In p → (e : B) → IsChain other ways_o (name p) s →
+          answer_o (last_or (name p) s) ≡ Some e → Finds p e
       carried_back settle [] p here e chain is =
           let k = settle p here in
           k.leads e ([], tt, sym k.kept.1 ∙ ap answer_o (sym k.named) ∙ is)

@@ -1,5 +1,6 @@
 -- What contracts see of a builder of automata. Its states are named by their indices, as those of the automaton are.
-use Rattle.std.specs.Prelude.{ℕ, suc, ◌+◌, ◌-◌, ◌*◌, ◌≤◌, nat_lt, min, Bool, true, false, List, [], ◌∷◌, ◌++◌, length, get_or, set, replicate, Option, None, if◌then◌else◌}
+use Rattle.std.specs.Prelude.{ℕ, suc, ◌+◌, ◌-◌, ◌*◌, ◌≤◌, nat_lt, min, Bool, true, false, List, [], ◌∷◌, ◌++◌, length, get_or, set}
+use Rattle.std.specs.Prelude.{replicate, Option, None, if◌then◌else◌}
 use Rattle.std.specs.List.{sum_by}
 use Rattle.search_types.specs.Groups.{Name, Groups}
 use Rattle.look_core.specs.declared.look.Look.{Look}
@@ -30,7 +31,8 @@ pub record Assembly : Type 0 where
 
 -- a builder without states, patterns and a limit
 abbrev pub blank : Terminator → Assembly
-blank terminator = record { drafts = []; starts = []; groups = []; is_open = false; utf8 = true; reverse = false; terminator = terminator; size_limit = None }
+blank terminator = record { drafts = []; starts = []; groups = []; is_open = false; utf8 = true; reverse = false; terminator = terminator;
+    size_limit = None }
 
 -- the builder with one more state
 abbrev pub with_draft : Assembly → DraftNode → Assembly
@@ -50,7 +52,8 @@ abbrev pub up_to_pattern : Groups → ℕ → Groups
 up_to_pattern groups pattern = filled [] groups (suc pattern)
 
 abbrev pub with_group : Groups → ℕ → ℕ → Option Name → Groups
-with_group groups pattern index name = set (up_to_pattern groups pattern) pattern (with_name (get_or (up_to_pattern groups pattern) pattern []) index name)
+with_group groups pattern index name = set (up_to_pattern groups pattern) pattern
+    (with_name (get_or (up_to_pattern groups pattern) pattern []) index name)
 
 -- how many patterns there are, with the one that isn't finished
 abbrev pub pattern_count : Assembly → ℕ

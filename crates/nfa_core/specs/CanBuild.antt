@@ -1,7 +1,8 @@
 -- What is asked of a builder before an automaton is built of it.
 use Rattle.std.specs.Prelude.{◌≡◌, ℕ, ◌<◌, Bool, true, false, List, [], ◌∷◌, map, length, is_some, All}
 use Rattle.search_types.specs.Groups.{Groups, slot}
-use Rattle.nfa_core.specs.BuilderStates.{DraftNode, empty_draft, range_draft, sparse_draft, look_draft, capture_start_draft, capture_end_draft, union_draft, union_reverse_draft, fail_draft, match_draft, Assembly}
+use Rattle.nfa_core.specs.BuilderStates.{DraftNode, empty_draft, range_draft, sparse_draft, look_draft, capture_start_draft}
+use Rattle.nfa_core.specs.BuilderStates.{capture_end_draft, union_draft, union_reverse_draft, fail_draft, match_draft, Assembly}
 use Rattle.nfa_core.specs.Renaming.{HasNoLoop}
 
 -- the states that a state names

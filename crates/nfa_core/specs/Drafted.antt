@@ -1,7 +1,8 @@
 -- A builder's states as an automaton of their own, before any is left out: what its table means.
 use Rattle.std.specs.Prelude.{ℕ, suc, ◌*◌, Bool, List, [], ◌∷◌, reverse, length, Option}
 use Rattle.nfa_core.specs.Nfa.{Node, byte_range, sparse_node, look_node, union_node, capture_node, fail_node, match_node}
-use Rattle.nfa_core.specs.BuilderStates.{DraftNode, empty_draft, range_draft, sparse_draft, look_draft, capture_start_draft, capture_end_draft, union_draft, union_reverse_draft, fail_draft, match_draft, draft_at}
+use Rattle.nfa_core.specs.BuilderStates.{DraftNode, empty_draft, range_draft, sparse_draft, look_draft, capture_start_draft}
+use Rattle.nfa_core.specs.BuilderStates.{capture_end_draft, union_draft, union_reverse_draft, fail_draft, match_draft, draft_at}
 use Rattle.nfa_core.specs.Places.{same_pair}
 use Rattle.nfa_core.specs.Runs.{run_ends}
 use Rattle.nfa_core.specs.Ways.{Text, node_ways, match_of}
@@ -33,4 +34,5 @@ table_match table p = match_of (drafted (table p.1)) p.0
 
 -- The ends of the runs of a builder's states from a pair, the preferred ones first. The bound is how many pairs there are.
 abbrev pub table_ends : Bool → Text → List DraftNode → ℕ × ℕ → List (ℕ × ℕ)
-table_ends reverse t drafts p = run_ends same_pair same_pair (table_ways reverse t (draft_at drafts)) (table_match (draft_at drafts)) (suc t.end * length drafts) p
+table_ends reverse t drafts p = run_ends same_pair same_pair (table_ways reverse t (draft_at drafts)) (table_match (draft_at drafts))
+    (suc t.end * length drafts) p

@@ -9,7 +9,8 @@ use Rattle.look_core.specs.Terminators.{Terminator}
 use Rattle.look_core.specs.ToldApart.{told_apart}
 use Rattle.search_types.specs.Groups.{Groups}
 use Rattle.nfa_core.specs.Walks.{chain_ends}
-use Rattle.nfa_core.specs.Nfa.{Node, byte_range, sparse_node, dense_node, look_node, capture_node, match_node, Automaton, node_at, IsWellFormed}
+use Rattle.nfa_core.specs.Nfa.{Node, byte_range, sparse_node, dense_node, look_node, capture_node, match_node, Automaton, node_at}
+use Rattle.nfa_core.specs.Nfa.{IsWellFormed}
 use Rattle.nfa_core.specs.Ways.{on_nothing}
 use Rattle.nfa_core.specs.States.{node_memory}
 use Rattle.nfa_core.specs.BuilderStates.{AscendsFrom}

@@ -25,7 +25,8 @@ pub record IsPastTable (drafts : List DraftNode) (table : List (Option ℕ)) : T
 -- from the state on so many follow, each for the one before, of which the table tells nothing
 abbrev pub IsOpen : List DraftNode → List (Option ℕ) → ℕ → ℕ → Type 0
 IsOpen drafts table zero q = Unit {0}
-IsOpen drafts table (suc n) q = (is_settled table q ≡ false) × ((next : ℕ) × (stands_for (draft_at drafts q) ≡ Some next) × IsOpen drafts table n next)
+IsOpen drafts table (suc n) q = (is_settled table q ≡ false) × ((next : ℕ) × (stands_for (draft_at drafts q) ≡ Some next) ×
+    IsOpen drafts table n next)
 
 -- how many states the table tells of
 abbrev pub settled_count : List (Option ℕ) → ℕ

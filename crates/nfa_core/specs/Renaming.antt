@@ -4,8 +4,10 @@ use Rattle.std.specs.Prelude.{◌≡◌, ℕ, zero, suc, ◌+◌, ◌<◌, List,
 use Rattle.std.specs.List.{filter}
 use Rattle.std.specs.Option.{unwrap_or}
 use Rattle.search_types.specs.Groups.{Groups, slot}
-use Rattle.nfa_core.specs.Nfa.{Node, byte_range, sparse_node, look_node, union_node, binary_union, capture_node, fail_node, match_node, Automaton}
-use Rattle.nfa_core.specs.BuilderStates.{DraftNode, empty_draft, range_draft, sparse_draft, look_draft, capture_start_draft, capture_end_draft, union_draft, union_reverse_draft, fail_draft, match_draft, draft_at, Assembly}
+use Rattle.nfa_core.specs.Nfa.{Node, byte_range, sparse_node, look_node, union_node, binary_union, capture_node, fail_node, match_node}
+use Rattle.nfa_core.specs.Nfa.{Automaton}
+use Rattle.nfa_core.specs.BuilderStates.{DraftNode, empty_draft, range_draft, sparse_draft, look_draft, capture_start_draft}
+use Rattle.nfa_core.specs.BuilderStates.{capture_end_draft, union_draft, union_reverse_draft, fail_draft, match_draft, draft_at, Assembly}
 
 -- the state that an empty state or a union of one way stands for
 abbrev pub stands_for : DraftNode → Option ℕ
@@ -56,8 +58,10 @@ renamed name groups (empty_draft next) = fail_node
 renamed name groups (range_draft low high next) = byte_range low high (name next)
 renamed name groups (sparse_draft ranges) = ranges_node (map (λ r. (r.0, r.1, name r.2)) ranges)
 renamed name groups (look_draft look next) = look_node look (name next)
-renamed name groups (capture_start_draft pattern group next) = capture_node (name next) pattern group (unwrap_or (slot groups pattern group) 0)
-renamed name groups (capture_end_draft pattern group next) = capture_node (name next) pattern group (unwrap_or (slot groups pattern group) 0 + 1)
+renamed name groups (capture_start_draft pattern group next) = capture_node (name next) pattern group
+    (unwrap_or (slot groups pattern group) 0)
+renamed name groups (capture_end_draft pattern group next) = capture_node (name next) pattern group
+    (unwrap_or (slot groups pattern group) 0 + 1)
 renamed name groups (union_draft names) = ways_node (map name names)
 renamed name groups (union_reverse_draft names) = ways_node (map name (reverse names))
 renamed name groups fail_draft = fail_node

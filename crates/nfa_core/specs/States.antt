@@ -1,6 +1,7 @@
 -- What contracts see of a state, and the memory that it is taken to need.
 use Rattle.std.specs.Prelude.{ℕ, ◌+◌, ◌*◌, Bool, true, false, length, map}
-use Rattle.nfa_core.specs.Nfa.{Node, byte_range, sparse_node, dense_node, look_node, union_node, binary_union, capture_node, fail_node, match_node}
+use Rattle.nfa_core.specs.Nfa.{Node, byte_range, sparse_node, dense_node, look_node, union_node, binary_union, capture_node, fail_node}
+use Rattle.nfa_core.specs.Nfa.{match_node}
 use Rattle.nfa_core.specs.Transitions.{range_of}
 use Rattle.nfa_core.specs.declared.state.State.{State}
 use Rattle.nfa_core.specs.declared.state.State.TheVariants.{ByteRange, Sparse, Dense, Look, Union, BinaryUnion, Capture, Fail, Match}

@@ -36,8 +36,10 @@ pub data Visits {A : Type 0} (same : A → A → Bool) (ways : A → List A) : L
 -- The depth-first walk of a stack, with no record of what was met: what it answers, in order. What has an answer is an end.
 pub data Lists {A B : Type 0} (ways : A → List A) (answer : A → Option B) : List A → List B → Type 0 where
   lists_none : Lists ways answer [] []
-  lists_answer : (x : A) (e : B) (rest : List A) (l : List B) → answer x ≡ Some e → Lists ways answer rest l → Lists ways answer (x ∷ rest) (e ∷ l)
-  lists_ways : (x : A) (rest : List A) (l : List B) → answer x ≡ None → Lists ways answer (ways x ++ rest) l → Lists ways answer (x ∷ rest) l
+  lists_answer : (x : A) (e : B) (rest : List A) (l : List B) → answer x ≡ Some e → Lists ways answer rest l →
+      Lists ways answer (x ∷ rest) (e ∷ l)
+  lists_ways : (x : A) (rest : List A) (l : List B) → answer x ≡ None → Lists ways answer (ways x ++ rest) l →
+      Lists ways answer (x ∷ rest) l
 
 abbrev pub HasNoneTwice : {A : Type 0} → (A → A → Bool) → List A → Type 0
 HasNoneTwice same [] = Unit {0}

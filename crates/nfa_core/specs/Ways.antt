@@ -1,12 +1,14 @@
 -- Where the states of an automaton lead from a place of a text, in order of preference.
-use Rattle.std.specs.Prelude.{ℕ, zero, suc, ◌+◌, ◌-◌, ◌*◌, ◌<◌, ◌≤◌, Bool, true, false, List, [], ◌∷◌, ◌++◌, map, length, get_or, Option, Some, None, if◌then◌else◌, ◌&&◌}
+use Rattle.std.specs.Prelude.{ℕ, zero, suc, ◌+◌, ◌-◌, ◌*◌, ◌<◌, ◌≤◌, Bool, true, false, List, [], ◌∷◌, ◌++◌, map, length, get_or, Option}
+use Rattle.std.specs.Prelude.{Some, None, if◌then◌else◌, ◌&&◌}
 use Rattle.std.specs.Bool.{nat_le, nat_lt}
 use Rattle.search_core.specs.Text.{byte_at}
 use Rattle.look_core.specs.declared.look.Look.{Look}
 use Rattle.look_core.specs.Codes.{reversed}
 use Rattle.look_core.specs.Terminators.{Terminator}
 use Rattle.look_core.specs.Looks.{holds_ascii}
-use Rattle.nfa_core.specs.Nfa.{Node, byte_range, sparse_node, dense_node, look_node, union_node, binary_union, capture_node, match_node, Automaton, node_at}
+use Rattle.nfa_core.specs.Nfa.{Node, byte_range, sparse_node, dense_node, look_node, union_node, binary_union, capture_node, match_node}
+use Rattle.nfa_core.specs.Nfa.{Automaton, node_at}
 use Rattle.nfa_core.specs.Places.{same_pair, IsListed}
 use Rattle.nfa_core.specs.Runs.{run_ends}
 
@@ -85,7 +87,8 @@ plain_steps a t i q = on_nothing (node_at a q) (λ l. is_passed a.reverse t l i)
 -- where a state leads from place i, for one who reads forward or in reverse: a byte moves by one place
 abbrev pub node_ways : Bool → Text → Node → ℕ → List (ℕ × ℕ)
 node_ways reverse t node i =
-    map (λ q. (place_behind i (reads reverse t i), q)) (on_read node (reads reverse t i)) ++ map (λ q. (i, q)) (on_nothing node (λ l. is_passed reverse t l i))
+    map (λ q. (place_behind i (reads reverse t i), q)) (on_read node (reads reverse t i))
+        ++ map (λ q. (i, q)) (on_nothing node (λ l. is_passed reverse t l i))
 
 -- where a pair of place and state leads
 abbrev pub ways : Automaton → Text → ℕ × ℕ → List (ℕ × ℕ)
@@ -120,7 +123,8 @@ ends_from a t p = run_ends same_pair same_pair (ways a t) (matched a) (suc t.end
 
 -- the lists of states that one walk a place makes from state q at place i, each as far as `cut` keeps the one before
 abbrev pub AreLists : Automaton → Text → ℕ × ℕ → (ℕ → List ℕ → List ℕ) → (ℕ → List ℕ) → Type 0
-AreLists a t p cut lists = IsListed (λ k. plain_steps a t (place_of a.reverse p.0 k)) (λ k. byte_steps a t (place_of a.reverse p.0 k)) cut (bytes_left a.reverse t p.0) p.1 lists
+AreLists a t p cut lists = IsListed (λ k. plain_steps a t (place_of a.reverse p.0 k)) (λ k. byte_steps a t (place_of a.reverse p.0 k)) cut
+    (bytes_left a.reverse t p.0) p.1 lists
 
 -- what matches in a state behind k bytes that were read from place i
 abbrev pub matched_behind : Automaton → ℕ → ℕ × ℕ → Option (ℕ × ℕ)

@@ -56,11 +56,13 @@ ok_is_told d v q f (inr (inl e)) = ok_is_no_error f NoMemory (Ok f ≡ told (sca
 ok_is_told d v q f (inr (inr g)) = ok_is_no_error f (GaveUp g.0) (Ok f ≡ told (scan (reader d) q)) g.1
 
 -- what is found lies in the span
-pub finds_in_span : (d : Dfa) (v : CacheValue) (q : Search) (e : HalfFound) → Answers d v q (Ok (Some e)) → (q.start ≤ e.offset) × (e.offset ≤ q.end)
+pub finds_in_span : (d : Dfa) (v : CacheValue) (q : Search) (e : HalfFound) → Answers d v q (Ok (Some e)) → (q.start ≤ e.offset) ×
+    (e.offset ≤ q.end)
 finds_in_span d v q e a = scan_in_span (reader d) q (pair e) (some_is_found (scan (reader d) q) e (ok_is_told d v q (Some e) a))
 
 -- a start that is found by the search back from an end stands before it
-pub starts_before : (d : Dfa) (v : CacheValue) (q back : Search) (at end : ℕ) (r : Result (Option HalfFound) MatchErrorKind) (f : Option HalfFound) (s : HalfFound) (start : ℕ) →
+pub starts_before : (d : Dfa) (v : CacheValue) (q back : Search) (at end : ℕ) (r : Result (Option HalfFound) MatchErrorKind)
+    (f : Option HalfFound) (s : HalfFound) (start : ℕ) →
     back ≡ back_from q at → at ≡ end → r ≡ Ok f → f ≡ Some s → start ≡ s.offset → Answers d v back r → start ≤ end
 starts_before d v q back at end r f s start is same ok some here a =
     let found_there : r ≡ answer (Some s) = ok ∙ ap answer some in

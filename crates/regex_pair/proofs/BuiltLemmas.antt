@@ -27,10 +27,12 @@ kept_by false false e f d g is = cc
 
 -- an automaton that is built has the NFA of which it is built
 pub built_of : (n : Nfa) (o : Options) (d : Dfa) → Ok d ≡ built n o → d.nfa ≡ n
-built_of n o d is = ap (λ (x : Dfa). x.nfa) (kept_by (is_unsupported n.automaton (word_boundary_of o) (by_hand o)) (is_too_small n o) Unsupported
+built_of n o d is = ap (λ (x : Dfa). x.nfa) (kept_by (is_unsupported n.automaton (word_boundary_of o) (by_hand o))
+    (is_too_small n o) Unsupported
     (InsufficientCacheCapacity (least_capacity (measures_with n o)) (capacity_of o)) d (dfa_of n o) is)
 
-pub built_pair : (n m : Nfa) (o u : Options) (f r : Dfa) → Ok f ≡ built n o → Ok r ≡ built m u → n.automaton.reverse ≡ false → m.automaton.reverse ≡ true →
+pub built_pair : (n m : Nfa) (o u : Options) (f r : Dfa) → Ok f ≡ built n o → Ok r ≡ built m u → n.automaton.reverse ≡ false →
+    m.automaton.reverse ≡ true →
     IsPair (record { forward = f; reverse = r })
 built_pair n m o u f r is_f is_r up is_reverse = record {
   is_forward = ap (λ (x : Nfa). x.automaton.reverse) (built_of n o f is_f) ∙ up;

@@ -1,6 +1,7 @@
 -- What two half searches that are joined answer: where a match lies, on which bytes an answer depends, and that answers one after
 -- the other are the list of all answers.
-use Rattle.std.proofs.Common.{◌≡◌, ℕ, ◌+◌, ◌≤◌, Bool, true, false, List, ◌++◌, length, Option, Some, None, Ok, refl, sym, ap, ◌∙◌, inl, inr, subst, arith, if◌then◌else◌}
+use Rattle.std.proofs.Common.{◌≡◌, ℕ, ◌+◌, ◌≤◌, Bool, true, false, List, ◌++◌, length, Option, Some, None, Ok, refl, sym, ap, ◌∙◌, inl, inr}
+use Rattle.std.proofs.Common.{subst, arith, if◌then◌else◌}
 use Rattle.search_types.specs.AllAnswers.{AnswersWithin, EndsRise, all_answers}
 use Rattle.search_types.specs.Chains.{IsChain, IsWholeChain}
 use Rattle.search_types.specs.Found.{Found}

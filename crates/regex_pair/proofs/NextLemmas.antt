@@ -1,5 +1,6 @@
 -- What comes next of matches one after the other: what two searches answer, where it lies, and that fewer items are left behind it.
-use Rattle.std.proofs.Common.{◌≡◌, ◌⊎◌, ℕ, ◌+◌, ◌<◌, ◌≤◌, Bool, true, false, ◌&&◌, nat_eq, Option, Some, None, Result, Ok, Err, refl, sym, ap, ◌∙◌, inl, inr, ⊎_elim, subst, arith}
+use Rattle.std.proofs.Common.{◌≡◌, ◌⊎◌, ℕ, ◌+◌, ◌<◌, ◌≤◌, Bool, true, false, ◌&&◌, nat_eq, Option, Some, None, Result, Ok, Err, refl, sym}
+use Rattle.std.proofs.Common.{ap, ◌∙◌, inl, inr, ⊎_elim, subst, arith}
 use Rattle.std.proofs.lemmas.Bool.{cases_lt, eq-eqb}
 use Rattle.std.specs.Iterator.{MakesProgress, at_most}
 use Rattle.search_types.specs.declared.match_error.MatchErrorKind.{MatchErrorKind}
@@ -8,7 +9,8 @@ use Rattle.search_types.specs.AllAnswers.{is_repeat}
 use Rattle.search_types.specs.Chains.{IsTaken}
 use Rattle.search_types.specs.Found.{Found}
 use Rattle.search_types.specs.Inputs.{Search, IsSpanOf}
-use Rattle.regex_pair.specs.Finding.{Finding, AnswersAt, IsNextFound, IsNextAnswer, IsBehindLast, IsPlaced, finds_next, fails, behind, most_left, search_at}
+use Rattle.regex_pair.specs.Finding.{Finding, AnswersAt, IsNextFound, IsNextAnswer, IsBehindLast, IsPlaced, finds_next, fails, behind}
+use Rattle.regex_pair.specs.Finding.{most_left, search_at}
 use Rattle.regex_pair.specs.Joined.{joined}
 use Rattle.regex_pair.specs.PairAnswers.{AnswersPair, PairGivesUp}
 use Rattle.regex_pair.specs.Pairs.{Pair, PairCache, AreCachesOf}

@@ -1,5 +1,6 @@
 -- What a search over two automata does, by what its half searches did: where it stops after the first, and where it goes back.
-use Rattle.std.proofs.Common.{◌≡◌, ℕ, ◌+◌, ◌*◌, ◌<◌, ◌≤◌, Bool, true, false, Option, Some, None, refl, sym, ap, ◌∙◌, ◌⊎◌, inl, inr, subst, arith, if◌then◌else◌}
+use Rattle.std.proofs.Common.{◌≡◌, ℕ, ◌+◌, ◌*◌, ◌<◌, ◌≤◌, Bool, true, false, Option, Some, None, refl, sym, ap, ◌∙◌, ◌⊎◌, inl, inr, subst}
+use Rattle.std.proofs.Common.{arith, if◌then◌else◌}
 use Rattle.std.specs.Prelude.{Result, Ok, Err, IfErr, OnOk}
 use Rattle.search_types.specs.declared.match_error.MatchErrorKind.{MatchErrorKind}
 use Rattle.search_types.specs.declared.match_error.MatchErrorKind.TheVariants.{NoMemory, NotAPair}
@@ -15,7 +16,8 @@ use Rattle.lazy_dfa.specs.SearchAnswers.{Answers, told, told_of, told_by}
 use Rattle.lazy_dfa.specs.Steps.{most_inserts}
 use Rattle.regex_pair.specs.Joined.{is_start_known, back_from, from_start, with_start, join, joined}
 use Rattle.regex_pair.specs.MadeSearches.{MakesHalf, MakesBack, MakesPair, with_half}
-use Rattle.regex_pair.specs.PairAnswers.{GoesBack, gives_up_forward, gives_up_back, AnswersPair, IsBackLinked, half_made, back_made_by, back_made}
+use Rattle.regex_pair.specs.PairAnswers.{GoesBack, gives_up_forward, gives_up_back, AnswersPair, IsBackLinked, half_made, back_made_by}
+use Rattle.regex_pair.specs.PairAnswers.{back_made}
 use Rattle.regex_pair.specs.Pairs.{Pair, PairCache}
 use Rattle.regex_pair.proofs.AnswerLemmas.{answer, error, pair, ok_is_no_error, some_is_not_none, some_is_found, ok_is_told, finds_in_span}
 
@@ -76,7 +78,8 @@ module _ (p : Pair) (q : Search) (old new : PairCache) (m1 m2 n1 n2 : ℕ) (h : 
     (never : h ≡ told (scan (reader p.forward) q) → (e : ℕ × ℕ) → GoesBack p q e → ⊥) where
   joined_there : h ≡ told (scan (reader p.forward) q) → by_end q h ≡ joined p q
   joined_there is = ap (λ (x : Half). by_end q x) is
-      ∙ stops_joined (reader p.forward) (reader p.reverse) q (scan (reader p.forward) q) (λ e finds unknown. never is e (record { found = finds; unknown = unknown }))
+      ∙ stops_joined (reader p.forward) (reader p.reverse) q (scan (reader p.forward) q)
+          (λ e finds unknown. never is e (record { found = finds; unknown = unknown }))
 
   answers_there : Answers p.forward new.forward q h → AnswersPair p new q (by_end q h)
   answers_there (inl is) = inl (joined_there is)
@@ -84,13 +87,15 @@ module _ (p : Pair) (q : Search) (old new : PairCache) (m1 m2 n1 n2 : ℕ) (h : 
   answers_there (inr (inr g)) = inr (inr (g.0, ap (λ (x : Half). by_end q x) g.1, gives_up_forward g.2))
 
   never_back : (f : Option HalfFound) → h ≡ Ok f → (e : ℕ × ℕ) → GoesBack p q e → ⊥
-  never_back f is = never (is ∙ ok_is_told p.forward new.forward q f (subst (λ (x : Half). Answers p.forward new.forward q x) is ends.answer))
+  never_back f is = never (is ∙ ok_is_told p.forward new.forward q f (subst
+      (λ (x : Half). Answers p.forward new.forward q x) is ends.answer))
 
   pub stops : MakesPair p q old new m1 m2 n1 n2 (by_end q h)
   stops = record {
     answer = answers_there ends.answer;
     sure = λ none none_back supported quiet quiet_back. if_err_end q h (ends.sure none supported quiet);
-    kept = record { forward = ends.kept; reverse = subst (λ (v : CacheValue). GrowsOrClears p.reverse old.reverse v) (sym same) (untouched_grows p.reverse old.reverse) };
+    kept = record { forward = ends.kept; reverse = subst (λ (v : CacheValue). GrowsOrClears p.reverse old.reverse v) (sym same)
+        (untouched_grows p.reverse old.reverse) };
     untouched = λ none. same;
     linked = on_end q h (new.forward.clears ≡ old.forward.clears → old.forward.clears < greatest → IsLinked p.forward new.forward q)
         (new.forward.clears ≡ old.forward.clears → old.forward.clears < greatest → IsLinked p.forward new.forward q) (λ l. l) ends.linked;
@@ -101,9 +106,11 @@ module _ (p : Pair) (q : Search) (old new : PairCache) (m1 m2 n1 n2 : ℕ) (h : 
         (new.forward.clears ≡ old.forward.clears → old.forward.clears < greatest →
         told_of new.forward ≡ told_by (reader p.forward) q (told_of old.forward) (passes_of (reader p.forward) q)) (λ t. t) ends.is_told;
     back_told = on_value q h (new.reverse.clears ≡ old.reverse.clears → old.reverse.clears < greatest → (e : ℕ × ℕ) → GoesBack p q e →
-        told_of new.reverse ≡ told_by (reader p.reverse) (back_from q e.0) (told_of old.reverse) (passes_of (reader p.reverse) (back_from q e.0)))
+        told_of new.reverse ≡ told_by (reader p.reverse) (back_from q e.0) (told_of old.reverse)
+            (passes_of (reader p.reverse) (back_from q e.0)))
         (λ f is kept less e there. absurd (never_back f is e there));
-    moved = λ linked. record { forward = ends.moved linked.forward; reverse = subst (λ (v : CacheValue). IsMoved old.reverse v) (sym same) refl };
+    moved = λ linked. record { forward = ends.moved linked.forward; reverse =
+        subst (λ (v : CacheValue). IsMoved old.reverse v) (sym same) refl };
     free = λ linked. ends.free linked.forward;
     sure_if_linked = λ linked. joined_there (ends.sure_if_linked linked.forward);
     determinized = let few = ends.determinized in omega (arith, few);
@@ -155,20 +162,23 @@ module _ (p : Pair) (q : Search) (e : HalfFound) (there : GoesBack p q (pair e))
   back_joined : with_half e (told (scan (reader p.reverse) back)) ≡ joined p q
   back_joined = with_back e (scan (reader p.reverse) back)
       ∙ sym (ap (λ (a : HalfAnswer). join (reader p.forward) (reader p.reverse) q a) there.found
-      ∙ known_false (is_start_known (reader p.forward) q e.offset) (Ok (Some (from_start q (pair e)))) (with_start (pair e) (scan (reader p.reverse) back)) there.unknown)
+      ∙ known_false (is_start_known (reader p.forward) q e.offset) (Ok (Some (from_start q (pair e))))
+          (with_start (pair e) (scan (reader p.reverse) back)) there.unknown)
 
   back_count : back_made p q ≡ half_made (reader p.reverse) back
   back_count = ap (λ (a : HalfAnswer). back_made_by p q a) there.found
       ∙ no_less (is_start_known (reader p.forward) q e.offset) (half_made (reader p.reverse) back) there.unknown
 
-  module _ (old new : PairCache) (m1 m2 m3 n1 n2 n3 : ℕ) (b : Half) (ends : MakesHalf p.forward q old.forward new.forward m1 m2 n1 n2 (answer (Some e)))
+  module _ (old new : PairCache) (m1 m2 m3 n1 n2 n3 : ℕ) (b : Half) (ends : MakesHalf p.forward q old.forward new.forward m1 m2 n1 n2
+      (answer (Some e)))
       (made : MakesHalf p.reverse back old.reverse new.reverse m2 m3 n2 n3 b) where
     answers_back : Answers p.reverse new.reverse back b → AnswersPair p new q (with_half e b)
     answers_back (inl is) = inl (ap (λ (x : Half). with_half e x) is ∙ back_joined)
     answers_back (inr (inl is)) = inr (inl (ap (λ (x : Half). with_half e x) is))
     answers_back (inr (inr g)) = inr (inr (g.0, ap (λ (x : Half). with_half e x) g.1, gives_up_back (pair e) there g.2))
 
-    near : e.offset ≤ q.end → HasNoQuitNear (reader p.reverse) q.haystack q.start q.end → HasNoQuitNear (reader p.reverse) q.haystack q.start e.offset
+    near : e.offset ≤ q.end → HasNoQuitNear (reader p.reverse) q.haystack q.start q.end →
+        HasNoQuitNear (reader p.reverse) q.haystack q.start e.offset
     near within quiet x from to = let up : x ≤ q.end = grind (arith, within, to) in quiet x from up
 
     linked_back : (new.reverse.clears ≡ old.reverse.clears → old.reverse.clears < greatest → IsLinked p.reverse new.reverse back) →
@@ -176,7 +186,8 @@ module _ (p : Pair) (q : Search) (e : HalfFound) (there : GoesBack p q (pair e))
     linked_back l same less x other = subst (λ (y : ℕ × ℕ). IsLinked p.reverse new.reverse (back_from q y.0)) (only x other) (l same less)
 
     abbrev IsTold : ℕ × ℕ → Type 0
-    IsTold x = told_of new.reverse ≡ told_by (reader p.reverse) (back_from q x.0) (told_of old.reverse) (passes_of (reader p.reverse) (back_from q x.0))
+    IsTold x = told_of new.reverse ≡ told_by (reader p.reverse) (back_from q x.0) (told_of old.reverse)
+        (passes_of (reader p.reverse) (back_from q x.0))
 
     told_back : (new.reverse.clears ≡ old.reverse.clears → old.reverse.clears < greatest → IsTold (pair e)) →
         new.reverse.clears ≡ old.reverse.clears → old.reverse.clears < greatest → (x : ℕ × ℕ) → GoesBack p q x → IsTold x
@@ -188,23 +199,29 @@ module _ (p : Pair) (q : Search) (e : HalfFound) (there : GoesBack p q (pair e))
 
     few_put : n3 ≤ n1 + (half_made (reader p.forward) q * most_inserts p.forward + back_made p q * most_inserts p.reverse)
     few_put = let up = ends.inserted in let is_reverse = made.inserted in
-        subst (λ (k : ℕ). n3 ≤ n1 + (half_made (reader p.forward) q * most_inserts p.forward + k * most_inserts p.reverse)) (sym back_count) (omega (arith, up, is_reverse))
+        subst (λ (k : ℕ). n3 ≤ n1 + (half_made (reader p.forward) q * most_inserts p.forward + k * most_inserts p.reverse)) (sym back_count)
+            (omega (arith, up, is_reverse))
 
     goes : MakesPair p q old new m1 m3 n1 n3 (with_half e b)
     goes = record {
       answer = answers_back made.answer;
-      sure = λ none none_back supported quiet quiet_back. if_err_back e b (made.sure none_back refl (near (finds_in_span p.forward new.forward q e ends.answer).1 quiet_back));
+      sure = λ none none_back supported quiet quiet_back. if_err_back e b
+          (made.sure none_back refl (near (finds_in_span p.forward new.forward q e ends.answer).1 quiet_back));
       kept = record { forward = ends.kept; reverse = made.kept };
       untouched = λ none. absurd (none (pair e) there);
-      linked = always_back e b (new.forward.clears ≡ old.forward.clears → old.forward.clears < greatest → IsLinked p.forward new.forward q) ends.linked;
-      back_linked = on_back e b (new.reverse.clears ≡ old.reverse.clears → old.reverse.clears < greatest → IsLinked p.reverse new.reverse back)
+      linked = always_back e b (new.forward.clears ≡ old.forward.clears → old.forward.clears < greatest →
+          IsLinked p.forward new.forward q) ends.linked;
+      back_linked = on_back e b (new.reverse.clears ≡ old.reverse.clears → old.reverse.clears < greatest →
+          IsLinked p.reverse new.reverse back)
           (new.reverse.clears ≡ old.reverse.clears → old.reverse.clears < greatest → IsBackLinked p new.reverse q) linked_back made.linked;
       is_told = always_back e b (new.forward.clears ≡ old.forward.clears → old.forward.clears < greatest →
           told_of new.forward ≡ told_by (reader p.forward) q (told_of old.forward) (passes_of (reader p.forward) q)) ends.is_told;
       back_told = on_back e b (new.reverse.clears ≡ old.reverse.clears → old.reverse.clears < greatest → IsTold (pair e))
-          (new.reverse.clears ≡ old.reverse.clears → old.reverse.clears < greatest → (x : ℕ × ℕ) → GoesBack p q x → IsTold x) told_back made.is_told;
+          (new.reverse.clears ≡ old.reverse.clears → old.reverse.clears < greatest → (x : ℕ × ℕ) → GoesBack p q x →
+              IsTold x) told_back made.is_told;
       moved = λ linked. record { forward = ends.moved linked.forward; reverse = made.moved (linked.back (pair e) there) };
-      free = λ linked. let up = ends.free linked.forward in let is_reverse = made.free (linked.back (pair e) there) in (is_reverse.0 ∙ up.0, is_reverse.1 ∙ up.1);
+      free = λ linked. let up = ends.free linked.forward in let is_reverse = made.free (linked.back (pair e) there) in
+          (is_reverse.0 ∙ up.0, is_reverse.1 ∙ up.1);
       sure_if_linked = λ linked. ap (λ (x : Half). with_half e x) (made.sure_if_linked (linked.back (pair e) there)) ∙ back_joined;
       determinized = few_made;
       inserted = few_put;
@@ -235,38 +252,48 @@ module _ (p : Pair) (q : Search) (f g : CacheValue) (m1 m2 n1 n2 : ℕ) (h : Hal
   not_both b is not = let never : true ≡ false = sym is ∙ not in absurd (grind (arith, never))
 
   -- the start is known
-  pub starts_there : (r : CacheValue) (old : PairCache) (known : Bool) (at start : ℕ) (m : Found) → record { forward = f; reverse = r } ≡ old →
+  pub starts_there : (r : CacheValue) (old : PairCache) (known : Bool) (at start : ℕ) (m : Found) →
+      record { forward = f; reverse = r } ≡ old →
       known ≡ is_start_known (reader p.forward) q at → known ≡ true → at ≡ e.offset → start ≡ q.start →
-      m ≡ record { pattern = e.pattern; start = start; end = e.offset } → MakesPair p q old (record { forward = g; reverse = r }) m1 m2 n1 n2 (Ok (Some m))
+      m ≡ record { pattern = e.pattern; start = start; end = e.offset } →
+          MakesPair p q old (record { forward = g; reverse = r }) m1 m2 n1 n2 (Ok (Some m))
   starts_there r old known at start m was told_known is_known same first made =
       let told_there : is_start_known (reader p.forward) q e.offset ≡ true =
       ap (λ (k : ℕ). is_start_known (reader p.forward) q k) (sym same) ∙ sym told_known ∙ is_known in
-      let match_there : m ≡ from_start q (pair e) = made ∙ ap (λ (k : ℕ). record { pattern = e.pattern; start = k; end = e.offset }) first in
+      let match_there : m ≡ from_start q (pair e) = made ∙ ap (λ (k : ℕ). record { pattern = e.pattern; start = k;
+          end = e.offset }) first in
       subst (λ (c : PairCache). MakesPair p q c (record { forward = g; reverse = r }) m1 m2 n1 n2 (Ok (Some m))) was
-      (subst (λ (x : Found). MakesPair p q (record { forward = f; reverse = r }) (record { forward = g; reverse = r }) m1 m2 n1 n2 (Ok (Some x))) (sym match_there)
+      (subst (λ (x : Found). MakesPair p q (record { forward = f; reverse = r }) (record { forward = g; reverse = r }) m1 m2 n1 n2
+          (Ok (Some x))) (sym match_there)
       (stops p q (record { forward = f; reverse = r }) (record { forward = g; reverse = r }) m1 m2 n1 n2 (answer (Some e)) ends_there refl
       (λ is x there. not_both (is_start_known (reader p.forward) q e.offset) told_there
-      (subst (λ (y : ℕ × ℕ). is_start_known (reader p.forward) q y.0 ≡ false) (one_pair x (pair e) (sym there.found ∙ is_found)) there.unknown))))
+      (subst (λ (y : ℕ × ℕ). is_start_known (reader p.forward) q y.0 ≡ false)
+          (one_pair x (pair e) (sym there.found ∙ is_found)) there.unknown))))
 
   -- one goes back
-  pub goes_back : (r s : CacheValue) (old : PairCache) (m3 n3 : ℕ) (known : Bool) (at : ℕ) (result : Whole) → record { forward = f; reverse = r } ≡ old →
+  pub goes_back : (r s : CacheValue) (old : PairCache) (m3 n3 : ℕ) (known : Bool) (at : ℕ) (result : Whole) →
+      record { forward = f; reverse = r } ≡ old →
       known ≡ is_start_known (reader p.forward) q at → known ≡ false → at ≡ e.offset → MakesBack p q e r s m2 m3 n2 n3 result →
       MakesPair p q old (record { forward = g; reverse = s }) m1 m3 n1 n3 result
   goes_back r s old m3 n3 known at result was told_known is_unknown same back =
       let told_there : is_start_known (reader p.forward) q e.offset ≡ false =
       ap (λ (k : ℕ). is_start_known (reader p.forward) q k) (sym same) ∙ sym told_known ∙ is_unknown in
       subst (λ (c : PairCache). MakesPair p q c (record { forward = g; reverse = s }) m1 m3 n1 n3 result) was
-      (subst (λ (x : Whole). MakesPair p q (record { forward = f; reverse = r }) (record { forward = g; reverse = s }) m1 m3 n1 n3 x) (sym back.answer)
-      (goes p q e (record { found = is_found; unknown = told_there }) (record { forward = f; reverse = r }) (record { forward = g; reverse = s })
+      (subst (λ (x : Whole). MakesPair p q (record { forward = f; reverse = r }) (record { forward = g; reverse = s }) m1 m3 n1 n3 x)
+          (sym back.answer)
+      (goes p q e (record { found = is_found; unknown = told_there }) (record { forward = f; reverse = r }) (record { forward = g;
+          reverse = s })
       m1 m2 m3 n1 n2 n3 back.half ends_there back.made))
 
-module _ (p : Pair) (q : Search) (f g r : CacheValue) (old : PairCache) (m1 m2 n1 n2 : ℕ) (h : Half) (was : record { forward = f; reverse = r } ≡ old)
+module _ (p : Pair) (q : Search) (f g r : CacheValue) (old : PairCache) (m1 m2 n1 n2 : ℕ) (h : Half) (was : record { forward = f;
+    reverse = r } ≡ old)
     (ends : MakesHalf p.forward q f g m1 m2 n1 n2 h) where
   ends_so : (y : Half) (w : Whole) → h ≡ y → w ≡ by_end q y → (y ≡ told (scan (reader p.forward) q) → (e : ℕ × ℕ) → GoesBack p q e → ⊥) →
       MakesPair p q old (record { forward = g; reverse = r }) m1 m2 n1 n2 w
   ends_so y w is gives never =
       subst (λ (c : PairCache). MakesPair p q c (record { forward = g; reverse = r }) m1 m2 n1 n2 w) was
-      (subst (λ (x : Whole). MakesPair p q (record { forward = f; reverse = r }) (record { forward = g; reverse = r }) m1 m2 n1 n2 x) (sym gives)
+      (subst (λ (x : Whole). MakesPair p q (record { forward = f; reverse = r }) (record { forward = g; reverse = r }) m1 m2 n1 n2 x)
+          (sym gives)
       (stops p q (record { forward = f; reverse = r }) (record { forward = g; reverse = r }) m1 m2 n1 n2 y
       (subst (λ (x : Half). MakesHalf p.forward q f g m1 m2 n1 n2 x) is ends) refl never))
 
@@ -276,6 +303,7 @@ module _ (p : Pair) (q : Search) (f g r : CacheValue) (old : PairCache) (m1 m2 n
       (λ told_so e there. ok_is_no_error (Some (record { pattern = e.1; offset = e.0 })) x ⊥ (sym (told_so ∙ ap told there.found)))
 
   -- it finds no end
-  pub finds_none : (o : Option HalfFound) → h ≡ Ok o → o ≡ None → MakesPair p q old (record { forward = g; reverse = r }) m1 m2 n1 n2 (Ok None)
+  pub finds_none : (o : Option HalfFound) → h ≡ Ok o → o ≡ None → MakesPair p q old (record { forward = g; reverse = r }) m1 m2 n1 n2
+      (Ok None)
   finds_none o ok none = ends_so (answer None) (Ok None) (ok ∙ ap answer none) refl
       (λ told_so e there. some_is_not_none (record { pattern = e.1; offset = e.0 }) ⊥ (sym (told_so ∙ ap told there.found)))

@@ -1,5 +1,6 @@
 -- How far a search over two automata came: what the search back reads lies in what the one for an end read.
-use Rattle.std.proofs.Common.{◌≡◌, ℕ, ◌+◌, ◌<◌, ◌≤◌, Bool, true, false, List, length, Option, Some, None, Result, Ok, Err, refl, sym, ap, ◌∙◌, ⊎_elim, subst, arith, if◌then◌else◌}
+use Rattle.std.proofs.Common.{◌≡◌, ℕ, ◌+◌, ◌<◌, ◌≤◌, Bool, true, false, List, length, Option, Some, None, Result, Ok, Err, refl, sym, ap}
+use Rattle.std.proofs.Common.{◌∙◌, ⊎_elim, subst, arith, if◌then◌else◌}
 use Rattle.std.proofs.lemmas.Bool.{cases_lt}
 use Rattle.std.specs.Prelude.{IfOk}
 use Rattle.search_core.specs.Text.{byte_at}
@@ -10,7 +11,8 @@ use Rattle.lazy_dfa.specs.Dfas.{reader}
 use Rattle.lazy_dfa.specs.Readers.{Reader, HalfAnswer, found, quit, unsupported}
 use Rattle.lazy_dfa.specs.Scans.{scan}
 use Rattle.lazy_dfa.specs.ScanLaws.{IsInReach, scan_len}
-use Rattle.lazy_dfa.proofs.ForCallers.{scan_done, scan_few, scan_is_quiet, scan_place_is_reached, reach_is_near, reached_forward, below_reach}
+use Rattle.lazy_dfa.proofs.ForCallers.{scan_done, scan_few, scan_is_quiet, scan_place_is_reached, reach_is_near, reached_forward}
+use Rattle.lazy_dfa.proofs.ForCallers.{below_reach}
 use Rattle.regex_pair.specs.Joined.{is_start_known, back_from, from_start, with_start, join, joined}
 use Rattle.regex_pair.specs.PairAnswers.{AnswersPair, GoesBack}
 use Rattle.regex_pair.specs.PairLaws.{found_of, IsInPairReach}
@@ -120,6 +122,7 @@ module _ (p : Pair) (q : Search) (o : Option Found) (up : (reader p.forward).aut
 -- ---- code
 
 pub reaches : (p : Pair) (q : Search) (c : PairCache) (result : Result (Option Found) MatchErrorKind) →
-    (reader p.forward).automaton.reverse ≡ false → q.end ≤ length q.haystack → AnswersPair p c q result → IfOk result (λ o. HasPairReach p q o)
+    (reader p.forward).automaton.reverse ≡ false → q.end ≤ length q.haystack → AnswersPair p c q result →
+        IfOk result (λ o. HasPairReach p q o)
 reaches p q c (Err e) up within answers = tt
 reaches p q c (Ok o) up within answers = joined_has_reach p q o up within (answer_is_joined p c q o answers)

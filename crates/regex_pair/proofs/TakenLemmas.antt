@@ -1,13 +1,15 @@
 -- Matches that are taken one after the other are a chain of answers, and all of them where the iterator comes to its end: by steps, as
 -- a loop keeps it. Nothing is taken at first, one more is by a step that gives one, and all are where a step gives nothing.
-use Rattle.std.proofs.Common.{◌≡◌, ℕ, ◌+◌, ◌≤◌, Bool, true, false, List, [], ◌∷◌, ◌++◌, Option, Some, None, Result, Ok, Err, refl, sym, ap, ◌∙◌, subst, arith, append-nil, append_assoc}
+use Rattle.std.proofs.Common.{◌≡◌, ℕ, ◌+◌, ◌≤◌, Bool, true, false, List, [], ◌∷◌, ◌++◌, Option, Some, None, Result, Ok, Err, refl, sym, ap}
+use Rattle.std.proofs.Common.{◌∙◌, subst, arith, append-nil, append_assoc}
 use Rattle.search_types.specs.declared.match_error.MatchErrorKind.{MatchErrorKind}
 use Rattle.search_types.specs.AllAnswers.{is_repeat}
 use Rattle.search_types.specs.Chains.{IsTaken, IsNext, IsChain, IsWholeChain}
 use Rattle.search_types.specs.Found.{Found}
 use Rattle.search_types.specs.Inputs.{Search}
 use Rattle.regex_pair.specs.declared.find_matches.FindMatches.{FindMatches}
-use Rattle.regex_pair.specs.Finding.{Finding, AnswersAt, IsNextFound, Finds, finds_next, finds_none, fails, is_over, finding_all, behind, search_at}
+use Rattle.regex_pair.specs.Finding.{Finding, AnswersAt, IsNextFound, Finds, finds_next, finds_none, fails, is_over, finding_all, behind}
+use Rattle.regex_pair.specs.Finding.{search_at}
 use Rattle.regex_pair.specs.FindSteps.{FindsNext, searches_by, finds_from, caches_of}
 use Rattle.regex_pair.specs.Pairs.{Pair, PairCache}
 use Rattle.regex_pair.specs.Taken.{AreTaken}
@@ -25,7 +27,8 @@ next_of_search p q at o here next = subst (λ (s : Search). IsNext (AnswersAt p 
 taken_is_behind : (p : Pair) (q : Search) (k : ℕ) (o : Option Found) (b : Bool) (f : Found) → AnswersAt p q k o →
     IsTaken (AnswersAt p q) k o b (Some f) → k ≤ f.end
 taken_is_behind p q k o false f first taken =
-    let lies = match_lies p (search_at q k) f (first ∙ ap Ok (sym taken)) in let low = lies.0 in let high = lies.1 in omega (arith, low, high)
+    let lies = match_lies p (search_at q k) f (first ∙ ap Ok (sym taken)) in let low = lies.0 in let high = lies.1 in
+        omega (arith, low, high)
 taken_is_behind p q k o true f first taken =
     let lies = match_lies p (search_at q (k + 1)) f taken in let low = lies.0 in let high = lies.1 in omega (arith, low, high)
 

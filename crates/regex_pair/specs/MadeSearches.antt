@@ -19,13 +19,15 @@ use Rattle.regex_pair.specs.PairAnswers.{AnswersPair, ArePathsLinked, GoesBack, 
 use Rattle.regex_pair.specs.Pairs.{Pair, PairCache, PairGrowsOrClears, IsPairMoved}
 
 -- one half search: what its contract says, whichever way it goes
-pub record MakesHalf (d : Dfa) (q : Search) (old new : CacheValue) (m1 m2 n1 n2 : ℕ) (result : Result (Option HalfFound) MatchErrorKind) : Type 0 where
+pub record MakesHalf (d : Dfa) (q : Search) (old new : CacheValue) (m1 m2 n1 n2 : ℕ)
+    (result : Result (Option HalfFound) MatchErrorKind) : Type 0 where
   pub answer : Answers d new q result
   pub sure : clears_of d.options ≡ None → is_supported (reader d).starts_for_each_pattern q.anchored ≡ true →
       HasNoQuitNear (reader d) q.haystack q.start q.end → IfErr result (λ e. e ≡ NoMemory)
   pub kept : GrowsOrClears d old new
   pub linked : OnOk result (new.clears ≡ old.clears → old.clears < greatest → IsLinked d new q)
-  pub is_told : OnOk result (new.clears ≡ old.clears → old.clears < greatest → told_of new ≡ told_by (reader d) q (told_of old) (passes_of (reader d) q))
+  pub is_told : OnOk result (new.clears ≡ old.clears → old.clears < greatest →
+      told_of new ≡ told_by (reader d) q (told_of old) (passes_of (reader d) q))
   pub moved : IsLinked d old q → IsMoved old new
   pub free : IsLinked d old q → (m2 ≡ m1) × (n2 ≡ n1)
   pub sure_if_linked : IsLinked d old q → result ≡ told (scan (reader d) q)
@@ -39,7 +41,8 @@ with_half e (Ok None) = Err NotAPair
 with_half e (Err x) = Err x
 
 -- the search back from an end
-pub record MakesBack (p : Pair) (q : Search) (e : HalfFound) (old new : CacheValue) (m1 m2 n1 n2 : ℕ) (result : Result (Option Found) MatchErrorKind) : Type 0 where
+pub record MakesBack (p : Pair) (q : Search) (e : HalfFound) (old new : CacheValue) (m1 m2 n1 n2 : ℕ)
+    (result : Result (Option Found) MatchErrorKind) : Type 0 where
   pub half : Result (Option HalfFound) MatchErrorKind
   pub made : MakesHalf p.reverse (back_from q e.offset) old new m1 m2 n1 n2 half
   pub answer : result ≡ with_half e half
@@ -57,7 +60,8 @@ pub record FindsEnd (d : Dfa) (q : Search) (old new : CacheValue) (m1 m2 n1 n2 :
   pub answer : result ≡ is_some_half half
 
 -- a search over both
-pub record MakesPair (p : Pair) (q : Search) (old new : PairCache) (m1 m2 n1 n2 : ℕ) (result : Result (Option Found) MatchErrorKind) : Type 0 where
+pub record MakesPair (p : Pair) (q : Search) (old new : PairCache) (m1 m2 n1 n2 : ℕ)
+    (result : Result (Option Found) MatchErrorKind) : Type 0 where
   pub answer : AnswersPair p new q result
   pub sure : clears_of p.forward.options ≡ None → clears_of p.reverse.options ≡ None →
       is_supported (reader p.forward).starts_for_each_pattern q.anchored ≡ true →
@@ -70,7 +74,8 @@ pub record MakesPair (p : Pair) (q : Search) (old new : PairCache) (m1 m2 n1 n2 
   pub is_told : OnOk result (new.forward.clears ≡ old.forward.clears → old.forward.clears < greatest →
       told_of new.forward ≡ told_by (reader p.forward) q (told_of old.forward) (passes_of (reader p.forward) q))
   pub back_told : OnOk result (new.reverse.clears ≡ old.reverse.clears → old.reverse.clears < greatest → (e : ℕ × ℕ) → GoesBack p q e →
-      told_of new.reverse ≡ told_by (reader p.reverse) (back_from q e.0) (told_of old.reverse) (passes_of (reader p.reverse) (back_from q e.0)))
+      told_of new.reverse ≡ told_by (reader p.reverse) (back_from q e.0) (told_of old.reverse)
+          (passes_of (reader p.reverse) (back_from q e.0)))
   pub moved : ArePathsLinked p old q → IsPairMoved old new
   pub free : ArePathsLinked p old q → (m2 ≡ m1) × (n2 ≡ n1)
   pub sure_if_linked : ArePathsLinked p old q → result ≡ joined p q
@@ -84,7 +89,8 @@ pub record MakesMatch (p : Pair) (q : Search) (old new : PairCache) (m1 m2 n1 n2
       HasNoQuitNear (reader p.forward) q.haystack q.start q.end → IfErr result (λ e. e ≡ NoMemory)
   pub kept : GrowsOrClears p.forward old.forward new.forward
   pub untouched : new.reverse ≡ old.reverse
-  pub linked : OnOk result (new.forward.clears ≡ old.forward.clears → old.forward.clears < greatest → IsLinked p.forward new.forward (match_search (reader p.forward) q))
+  pub linked : OnOk result (new.forward.clears ≡ old.forward.clears → old.forward.clears < greatest →
+      IsLinked p.forward new.forward (match_search (reader p.forward) q))
   pub moved : IsLinked p.forward old.forward (match_search (reader p.forward) q) → IsMoved old.forward new.forward
   pub free : IsLinked p.forward old.forward (match_search (reader p.forward) q) → (m2 ≡ m1) × (n2 ≡ n1)
   pub sure_if_linked : IsLinked p.forward old.forward (match_search (reader p.forward) q) → result ≡ has_match p q

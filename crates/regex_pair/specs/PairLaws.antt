@@ -34,4 +34,5 @@ pub record AreSetAlike (p r : Pair) (mode : Anchored) : Type 0 where
   pub starts_kind : (reader p.reverse).kind ≡ (reader r.reverse).kind
   pub ends_quits : p.forward.quits ≡ r.forward.quits
   pub starts_quits : p.reverse.quits ≡ r.reverse.quits
-  pub supported : is_supported (reader p.forward).starts_for_each_pattern mode ≡ is_supported (reader r.forward).starts_for_each_pattern mode
+  pub supported : is_supported (reader p.forward).starts_for_each_pattern mode ≡ is_supported
+      (reader r.forward).starts_for_each_pattern mode

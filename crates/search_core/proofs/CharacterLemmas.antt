@@ -1,5 +1,7 @@
 -- The computed characters of a text against the spellings that stand at its places.
-use Rattle.std.proofs.Common.{◌≡◌, ℕ, zero, suc, ◌+◌, ◌-◌, ◌<◌, ◌≤◌, ◌⊎◌, inl, inr, Bool, true, false, cond, ◌&&◌, leb, List, [], ◌∷◌, length, get_or, take, drop, Option, Some, None, Result, Ok, Err, refl, sym, ap, subst, ◌∙◌, arith, lit<, length-append, length-drop, length-take-le}
+use Rattle.std.proofs.Common.{◌≡◌, ℕ, zero, suc, ◌+◌, ◌-◌, ◌<◌, ◌≤◌, ◌⊎◌, inl, inr, Bool, true, false, cond, ◌&&◌, leb, List, [], ◌∷◌}
+use Rattle.std.proofs.Common.{length, get_or, take, drop, Option, Some, None, Result, Ok, Err, refl, sym, ap, subst, ◌∙◌, arith, lit<}
+use Rattle.std.proofs.Common.{length-append, length-drop, length-take-le}
 use Rattle.std.specs.Int.{IsInRange, is_in_range}
 use Rattle.std.specs.Option.{option_or, option_map, ok_or}
 use Rattle.std.proofs.lemmas.Bool.{and_parts, and_from, cond-true, cond-false, leb-true, ltb-true, le-leb, lt-leb, lt-ltb, cases_lt}
@@ -7,22 +9,28 @@ use Rattle.std.proofs.lemmas.Bool.Decides.{nat_tests}
 use Rattle.std.proofs.lemmas.List.{get_or-append_right, get_or-drop, get_or-take, get_or_past}
 use Rattle.std.proofs.lemmas.Option.{cond_some, none-some, slice_get-get_or, slice_get_past}
 use Rattle.search_core.specs.Text.{byte_at, byte_before}
-use Rattle.search_core.specs.Utf8.{IsContinuation, scalar_of_two, scalar_of_three, scalar_of_four, second_of_three, second_of_four, Spells, SpellsFirst, SpellsLast, Decodes, DecodesLast}
-use Rattle.search_core.specs.Utf8.Spells.{from_0000, from_0080, from_0800, from_1000, from_d000, from_e000, from_10000, from_40000, from_100000}
-use Rattle.search_core.specs.Characters.{one_byte, two_bytes, three_bytes, four_bytes, character_at, ending_at, character_before, spelling_len, read_at, read_before}
+use Rattle.search_core.specs.Utf8.{IsContinuation, scalar_of_two, scalar_of_three, scalar_of_four, second_of_three, second_of_four, Spells}
+use Rattle.search_core.specs.Utf8.{SpellsFirst, SpellsLast, Decodes, DecodesLast}
+use Rattle.search_core.specs.Utf8.Spells.{from_0000, from_0080, from_0800, from_1000, from_d000, from_e000, from_10000, from_40000}
+use Rattle.search_core.specs.Utf8.Spells.{from_100000}
+use Rattle.search_core.specs.Characters.{one_byte, two_bytes, three_bytes, four_bytes, character_at, ending_at, character_before}
+use Rattle.search_core.specs.Characters.{spelling_len, read_at, read_before}
 use Rattle.search_core.proofs.Utf8Lemmas.{heads_same, one_scalar}
-use Rattle.search_core.proofs.DecodeLemmas.{two_spell, three_spell, four_spell, same_first, front_two, front_three, front_four, read_one, back, put_one, put_two, put_three, put_four}
+use Rattle.search_core.proofs.DecodeLemmas.{two_spell, three_spell, four_spell, same_first, front_two, front_three, front_four, read_one}
+use Rattle.search_core.proofs.DecodeLemmas.{back, put_one, put_two, put_three, put_four}
 use Rattle.search_core.proofs.SplitLemmas.{spelling_some, spelling_tails}
 use Rattle.search_core.proofs.CutLemmas.{first_decodes, last_decodes, lasts_same}
 
 -- ---- the lengths of spellings
 is_three : (c : ℕ) → 0x800 ≤ c → c ≤ 0xFFFF → spelling_len c ≡ 3
 is_three c low high =
-    cond-false _ _ _ (lt-leb c 0x7F (omega arith)) ∙ cond-false _ _ _ (lt-leb c 0x7FF (omega arith)) ∙ cond-true _ _ _ (le-leb c 0xFFFF high)
+    cond-false _ _ _ (lt-leb c 0x7F (omega arith)) ∙ cond-false _ _ _ (lt-leb c 0x7FF (omega arith))
+        ∙ cond-true _ _ _ (le-leb c 0xFFFF high)
 
 is_four : (c : ℕ) → 0x10000 ≤ c → spelling_len c ≡ 4
 is_four c low =
-    cond-false _ _ _ (lt-leb c 0x7F (omega arith)) ∙ cond-false _ _ _ (lt-leb c 0x7FF (omega arith)) ∙ cond-false _ _ _ (lt-leb c 0xFFFF (omega arith))
+    cond-false _ _ _ (lt-leb c 0x7F (omega arith)) ∙ cond-false _ _ _ (lt-leb c 0x7FF (omega arith))
+        ∙ cond-false _ _ _ (lt-leb c 0xFFFF (omega arith))
 
 pub spelling_has_len : (c : ℕ) (s : List ℕ) → Spells c s → length s ≡ spelling_len c
 spelling_has_len c s (from_0000 a r e v) = ap length e ∙ sym (cond-true _ _ _ (le-leb c 0x7F (omega arith)))
@@ -76,16 +84,20 @@ four_value_spells a b d f c e =
 abbrev Row : ℕ → List ℕ → Type 0
 Row c s =
     ((length s ≡ 1) × (get_or s 0 0 ≤ 0x7F) × (c ≡ get_or s 0 0))
-    ⊎ (((length s ≡ 2) × (is_in_range 0xC2 0xDF (get_or s 0 0) && is_in_range 0x80 0xBF (get_or s 1 0) ≡ true) × (c ≡ scalar_of_two (get_or s 0 0) (get_or s 1 0)))
-    ⊎ (((length s ≡ 3) × (second_of_three (get_or s 0 0) (get_or s 1 0) && is_in_range 0x80 0xBF (get_or s 2 0) ≡ true) × (c ≡ scalar_of_three (get_or s 0 0) (get_or s 1 0) (get_or s 2 0)))
-    ⊎ ((length s ≡ 4) × (second_of_four (get_or s 0 0) (get_or s 1 0) && is_in_range 0x80 0xBF (get_or s 2 0) && is_in_range 0x80 0xBF (get_or s 3 0) ≡ true)
+    ⊎ (((length s ≡ 2) × (is_in_range 0xC2 0xDF (get_or s 0 0) && is_in_range 0x80 0xBF (get_or s 1 0) ≡ true) ×
+        (c ≡ scalar_of_two (get_or s 0 0) (get_or s 1 0)))
+    ⊎ (((length s ≡ 3) × (second_of_three (get_or s 0 0) (get_or s 1 0) && is_in_range 0x80 0xBF (get_or s 2 0) ≡ true) ×
+        (c ≡ scalar_of_three (get_or s 0 0) (get_or s 1 0) (get_or s 2 0)))
+    ⊎ ((length s ≡ 4) × (second_of_four (get_or s 0 0) (get_or s 1 0) && is_in_range 0x80 0xBF (get_or s 2 0)
+        && is_in_range 0x80 0xBF (get_or s 3 0) ≡ true)
     × (c ≡ scalar_of_four (get_or s 0 0) (get_or s 1 0) (get_or s 2 0) (get_or s 3 0)))))
 
 two_test : (a b : ℕ) → IsInRange 0xC2 0xDF a → IsContinuation b → is_in_range 0xC2 0xDF a && is_in_range 0x80 0xBF b ≡ true
 two_test a b r t = grind (arith, nat_tests)
 
 three_test : (a b d : ℕ) →
-    (((a ≡ 0xE0) × IsInRange 0xA0 0xBF b) ⊎ ((IsInRange 0xE1 0xEC a × IsContinuation b) ⊎ (((a ≡ 0xED) × IsInRange 0x80 0x9F b) ⊎ (IsInRange 0xEE 0xEF a × IsContinuation b)))) →
+    (((a ≡ 0xE0) × IsInRange 0xA0 0xBF b) ⊎ ((IsInRange 0xE1 0xEC a × IsContinuation b) ⊎
+        (((a ≡ 0xED) × IsInRange 0x80 0x9F b) ⊎ (IsInRange 0xEE 0xEF a × IsContinuation b)))) →
     IsContinuation d → second_of_three a b && is_in_range 0x80 0xBF d ≡ true
 three_test a b d h t = grind (arith, nat_tests)
 
@@ -109,7 +121,8 @@ row_of c s (from_40000 a b d f r t u w e v) = row_by c s _ e (inr (inr (inr (ref
 row_of c s (from_100000 a b d f r t u w e v) = row_by c s _ e (inr (inr (inr (refl, four_test a b d f (inr (inr (r, t))) u w, v))))
 
 -- ---- which of four values was taken
-taken : (w x y z : Option ℕ) (c : ℕ) → option_or w (option_or x (option_or y z)) ≡ Some c → (w ≡ Some c) ⊎ ((x ≡ Some c) ⊎ ((y ≡ Some c) ⊎ (z ≡ Some c)))
+taken : (w x y z : Option ℕ) (c : ℕ) → option_or w (option_or x (option_or y z)) ≡ Some c → (w ≡ Some c) ⊎
+    ((x ≡ Some c) ⊎ ((y ≡ Some c) ⊎ (z ≡ Some c)))
 taken (Some a) x y z c e = inl e
 taken None (Some a) y z c e = inr (inl e)
 taken None None (Some a) z c e = inr (inr (inl e))
@@ -154,7 +167,8 @@ module _ (h : List ℕ) (k c : ℕ) (s : List ℕ) (at : Stands h k s) where
 
   abbrev IsTold : Type 0
   IsTold =
-      ((length s ≡ 1) × (one_byte h k ≡ Some c)) ⊎ (((length s ≡ 2) × (two_bytes h k ≡ Some c)) ⊎ (((length s ≡ 3) × (three_bytes h k ≡ Some c)) ⊎ ((length s ≡ 4) × (four_bytes h k ≡ Some c))))
+      ((length s ≡ 1) × (one_byte h k ≡ Some c)) ⊎ (((length s ≡ 2) × (two_bytes h k ≡ Some c)) ⊎
+          (((length s ≡ 3) × (three_bytes h k ≡ Some c)) ⊎ ((length s ≡ 4) × (four_bytes h k ≡ Some c))))
 
   told : Row c s → IsTold
   told r = elim r [
@@ -163,19 +177,22 @@ module _ (h : List ℕ) (k c : ℕ) (s : List ℕ) (at : Stands h k s) where
       | inl n ↦
           let b0 = first_byte (omega arith) in
           let b1 = at.1 1 (omega arith) in
-          inr (inl (n.0, rw (b0, b1) at (cond-true _ (Some (scalar_of_two (get_or s 0 0) (get_or s 1 0))) None n.1 ∙ ap (λ x. Some x) (sym n.2))))
+          inr (inl (n.0, rw (b0, b1) at (cond-true _ (Some (scalar_of_two (get_or s 0 0) (get_or s 1 0))) None n.1
+              ∙ ap (λ x. Some x) (sym n.2))))
       | inr r ↦ elim r [
         | inl n ↦
             let b0 = first_byte (omega arith) in
             let b1 = at.1 1 (omega arith) in
             let b2 = at.1 2 (omega arith) in
-            inr (inr (inl (n.0, rw (b0, b1, b2) at (cond-true _ (Some (scalar_of_three (get_or s 0 0) (get_or s 1 0) (get_or s 2 0))) None n.1 ∙ ap (λ x. Some x) (sym n.2)))))
+            inr (inr (inl (n.0, rw (b0, b1, b2) at (cond-true _ (Some (scalar_of_three (get_or s 0 0) (get_or s 1 0) (get_or s 2 0))) None
+                n.1 ∙ ap (λ x. Some x) (sym n.2)))))
         | inr n ↦
             let b0 = first_byte (omega arith) in
             let b1 = at.1 1 (omega arith) in
             let b2 = at.1 2 (omega arith) in
             let b3 = at.1 3 (omega arith) in
-            inr (inr (inr (n.0, rw (b0, b1, b2, b3) at (cond-true _ (Some (scalar_of_four (get_or s 0 0) (get_or s 1 0) (get_or s 2 0) (get_or s 3 0))) None n.1 ∙ ap (λ x. Some x) (sym n.2)))))
+            inr (inr (inr (n.0, rw (b0, b1, b2, b3) at (cond-true _ (Some
+                (scalar_of_four (get_or s 0 0) (get_or s 1 0) (get_or s 2 0) (get_or s 3 0))) None n.1 ∙ ap (λ x. Some x) (sym n.2)))))
       ]
     ]
   ]
@@ -201,7 +218,8 @@ module _ (h : List ℕ) (i c : ℕ) where
       let t : IsContinuation (get_or h (i + 1) 0) = spelling_tails c _ s 1 (lit< tt) (lit< tt) in
       let l = some_byte h (i + 1) (omega arith) in
       let n = length-drop i h in
-      record { spelling = get_or (drop i h) 0 0 ∷ get_or (drop i h) 1 0 ∷ []; rest = drop 2 (drop i h); spells = rw (behind_here, behind_first 1) s; joined = front_two (drop i h) (omega arith) }
+      record { spelling = get_or (drop i h) 0 0 ∷ get_or (drop i h) 1 0 ∷ []; rest = drop 2 (drop i h);
+          spells = rw (behind_here, behind_first 1) s; joined = front_two (drop i h) (omega arith) }
 
   three_begins : three_bytes h i ≡ Some c → SpellsFirst c (drop i h)
   three_begins e =
@@ -209,7 +227,8 @@ module _ (h : List ℕ) (i c : ℕ) where
       let t : IsContinuation (get_or h (i + 2) 0) = spelling_tails c _ s 2 (lit< tt) (lit< tt) in
       let l = some_byte h (i + 2) (omega arith) in
       let n = length-drop i h in
-      record { spelling = get_or (drop i h) 0 0 ∷ get_or (drop i h) 1 0 ∷ get_or (drop i h) 2 0 ∷ []; rest = drop 3 (drop i h); spells = rw (behind_here, behind_first 1, behind_first 2) s; joined = front_three (drop i h) (omega arith) }
+      record { spelling = get_or (drop i h) 0 0 ∷ get_or (drop i h) 1 0 ∷ get_or (drop i h) 2 0 ∷ []; rest = drop 3 (drop i h);
+          spells = rw (behind_here, behind_first 1, behind_first 2) s; joined = front_three (drop i h) (omega arith) }
 
   four_begins : four_bytes h i ≡ Some c → SpellsFirst c (drop i h)
   four_begins e =
@@ -217,7 +236,9 @@ module _ (h : List ℕ) (i c : ℕ) where
       let t : IsContinuation (get_or h (i + 3) 0) = spelling_tails c _ s 3 (lit< tt) (lit< tt) in
       let l = some_byte h (i + 3) (omega arith) in
       let n = length-drop i h in
-      record { spelling = get_or (drop i h) 0 0 ∷ get_or (drop i h) 1 0 ∷ get_or (drop i h) 2 0 ∷ get_or (drop i h) 3 0 ∷ []; rest = drop 4 (drop i h); spells = rw (behind_here, behind_first 1, behind_first 2, behind_first 3) s; joined = front_four (drop i h) (omega arith) }
+      record { spelling = get_or (drop i h) 0 0 ∷ get_or (drop i h) 1 0 ∷ get_or (drop i h) 2 0 ∷ get_or (drop i h) 3 0 ∷ [];
+          rest = drop 4 (drop i h); spells = rw (behind_here, behind_first 1, behind_first 2, behind_first 3) s; joined =
+          front_four (drop i h) (omega arith) }
 
   pub character_begins : character_at h i ≡ Some c → SpellsFirst c (drop i h)
   character_begins e = elim (taken _ _ _ _ c e) [
@@ -234,7 +255,8 @@ module _ (h : List ℕ) (i c : ℕ) where
 
 pub begun_character : (h : List ℕ) (i c : ℕ) → SpellsFirst c (drop i h) → character_at h i ≡ Some c
 begun_character h i c f =
-    let d = takes (one_byte h i) (two_bytes h i) (three_bytes h i) (four_bytes h i) c (elim (told h i c f.spelling (begun_stands h i c f) (row_of c f.spelling f.spells)) [
+    let d = takes (one_byte h i) (two_bytes h i) (three_bytes h i) (four_bytes h i) c
+        (elim (told h i c f.spelling (begun_stands h i c f) (row_of c f.spelling f.spells)) [
       | inl o ↦ inl o.1
       | inr o ↦ elim o [ inl p ↦ inr (inl p.1) | inr p ↦ elim p [ inl q ↦ inr (inr (inl q.1)) | inr q ↦ inr (inr (inr q.1)) ] ]
     ]) in
@@ -249,7 +271,8 @@ ended false x c e = absurd (none-some c e)
 module _ (h : List ℕ) (i c : ℕ) (fits : i ≤ length h) where
   before_back : (k j : ℕ) → 0 < k → k ≤ i → j ≡ i - k → back (take i h) k ≡ get_or h j 0
   before_back k j some l e =
-      ap (λ n. get_or (take i h) (n - k) 0) (length-take-le i h fits) ∙ ap (λ m. get_or (take i h) m 0) (sym e) ∙ get_or-take i h j 0 (omega arith)
+      ap (λ n. get_or (take i h) (n - k) 0) (length-take-le i h fits) ∙ ap (λ m. get_or (take i h) m 0) (sym e)
+          ∙ get_or-take i h j 0 (omega arith)
 
   one_ends : ending_at 1 one_byte h i ≡ Some c → SpellsLast c (take i h)
   one_ends e =
@@ -296,9 +319,11 @@ character_ends h i c fits e = elim (taken _ _ _ _ c e) [
   | inr o ↦ elim o [ inl p ↦ two_ends h i c fits p | inr p ↦ elim p [ inl q ↦ three_ends h i c fits q | inr q ↦ four_ends h i c fits q ] ]
 ]
 
-ended_stands : (h : List ℕ) (i c : ℕ) → i ≤ length h → (f : SpellsLast c (take i h)) → (length f.spelling ≤ i) × Stands h (i - length f.spelling) f.spelling
+ended_stands : (h : List ℕ) (i c : ℕ) → i ≤ length h → (f : SpellsLast c (take i h)) → (length f.spelling ≤ i) ×
+    Stands h (i - length f.spelling) f.spelling
 ended_stands h i c fits f =
-    let n : i ≡ length f.front + length f.spelling = sym (length-take-le i h fits) ∙ ap length f.joined ∙ length-append f.front f.spelling in (
+    let n : i ≡ length f.front + length f.spelling = sym (length-take-le i h fits) ∙ ap length f.joined
+        ∙ length-append f.front f.spelling in (
       omega arith,
       (
         omega arith,
@@ -311,17 +336,20 @@ ended_stands h i c fits f =
     )
 
 -- a value at the place where a spelling of n bytes begins is one that ends behind it
-ends_with : (h : List ℕ) (i c m n : ℕ) (spelled : List ℕ → ℕ → Option ℕ) → m ≡ n → m ≤ i → spelled h (i - m) ≡ Some c → ending_at n spelled h i ≡ Some c
+ends_with : (h : List ℕ) (i c m n : ℕ) (spelled : List ℕ → ℕ → Option ℕ) → m ≡ n → m ≤ i → spelled h (i - m) ≡ Some c →
+    ending_at n spelled h i ≡ Some c
 ends_with h i c m n spelled e l v = cond-true _ _ _ (le-leb n i (omega arith)) ∙ ap (λ k. spelled h (i - k)) (sym e) ∙ v
 
 pub ended_character : (h : List ℕ) (i c : ℕ) → i ≤ length h → SpellsLast c (take i h) → character_before h i ≡ Some c
 ended_character h i c fits f =
     let at = ended_stands h i c fits f in
-    let d = takes (ending_at 1 one_byte h i) (ending_at 2 two_bytes h i) (ending_at 3 three_bytes h i) (ending_at 4 four_bytes h i) c (elim (told h (i - length f.spelling) c f.spelling at.1 (row_of c f.spelling f.spells)) [
+    let d = takes (ending_at 1 one_byte h i) (ending_at 2 two_bytes h i) (ending_at 3 three_bytes h i) (ending_at 4 four_bytes h i) c
+        (elim (told h (i - length f.spelling) c f.spelling at.1 (row_of c f.spelling f.spells)) [
       | inl o ↦ inl (ends_with h i c _ 1 one_byte o.0 at.0 o.1)
       | inr o ↦ elim o [
         | inl p ↦ inr (inl (ends_with h i c _ 2 two_bytes p.0 at.0 p.1))
-        | inr p ↦ elim p [ inl q ↦ inr (inr (inl (ends_with h i c _ 3 three_bytes q.0 at.0 q.1))) | inr q ↦ inr (inr (inr (ends_with h i c _ 4 four_bytes q.0 at.0 q.1))) ]
+        | inr p ↦ elim p [ inl q ↦ inr (inr (inl (ends_with h i c _ 3 three_bytes q.0 at.0 q.1))) | inr q ↦
+            inr (inr (inr (ends_with h i c _ 4 four_bytes q.0 at.0 q.1))) ]
       ]
     ]) in
     let g = character_ends h i d.0 fits d.1 in
@@ -332,7 +360,8 @@ ended_character h i c fits f =
 first_read_once : (bytes : List ℕ) (r s : Option (Result ℕ ℕ)) → Decodes bytes s → Decodes bytes r → r ≡ s
 first_read_once bytes r (Some (Ok c)) f d = first_decodes c f.spelling f.rest r f.spells (subst (λ x. Decodes x r) f.joined d)
 first_read_once bytes None None e d = refl
-first_read_once bytes (Some (Ok c)) None e d = sym (first_decodes c d.spelling d.rest None d.spells (subst (λ x. Decodes x None) d.joined e))
+first_read_once bytes (Some (Ok c)) None e d = sym (first_decodes c d.spelling d.rest None d.spells
+    (subst (λ x. Decodes x None) d.joined e))
 first_read_once bytes (Some (Err b)) None e d = absurd (none-some b (ap (λ x. byte_at x 0) (sym e) ∙ d.0))
 first_read_once bytes None (Some (Err b)) e d = absurd (none-some b (ap (λ x. byte_at x 0) (sym d) ∙ e.0))
 first_read_once bytes (Some (Ok c)) (Some (Err b)) e d = absurd (e.1 c d)
@@ -341,7 +370,8 @@ first_read_once bytes (Some (Err a)) (Some (Err b)) e d = ap (option_map (λ x. 
 last_read_once : (bytes : List ℕ) (r s : Option (Result ℕ ℕ)) → DecodesLast bytes s → DecodesLast bytes r → r ≡ s
 last_read_once bytes r (Some (Ok c)) f d = last_decodes c f.front f.spelling r f.spells (subst (λ x. DecodesLast x r) f.joined d)
 last_read_once bytes None None e d = refl
-last_read_once bytes (Some (Ok c)) None e d = sym (last_decodes c d.front d.spelling None d.spells (subst (λ x. DecodesLast x None) d.joined e))
+last_read_once bytes (Some (Ok c)) None e d = sym (last_decodes c d.front d.spelling None d.spells
+    (subst (λ x. DecodesLast x None) d.joined e))
 last_read_once bytes (Some (Err b)) None e d = absurd (none-some b (ap (λ x. byte_before x (length x)) (sym e) ∙ d.0))
 last_read_once bytes None (Some (Err b)) e d = absurd (none-some b (ap (λ x. byte_before x (length x)) (sym d) ∙ e.0))
 last_read_once bytes (Some (Ok c)) (Some (Err b)) e d = absurd (e.1 c d)
@@ -351,7 +381,8 @@ last_read_once bytes (Some (Err a)) (Some (Err b)) e d = ap (option_map (λ x. E
 byte_behind : (h : List ℕ) (i : ℕ) → byte_at (drop i h) 0 ≡ byte_at h i
 byte_behind h i = elim (cases_lt i (length h)) [
   | inl l ↦
-      slice_get-get_or (drop i h) 0 0 (omega (arith, length-drop i h)) ∙ ap (λ x. Some x) (get_or-drop i h 0 0 ∙ ap (λ j. get_or h j 0) (omega arith))
+      slice_get-get_or (drop i h) 0 0 (omega (arith, length-drop i h))
+          ∙ ap (λ x. Some x) (get_or-drop i h 0 0 ∙ ap (λ j. get_or h j 0) (omega arith))
       ∙ sym (slice_get-get_or h i 0 l)
   | inr past ↦ slice_get_past (drop i h) 0 (omega (arith, length-drop i h)) ∙ sym (slice_get_past h i past)
 ]
@@ -359,27 +390,32 @@ byte_behind h i = elim (cases_lt i (length h)) [
 byte_in_front : (h : List ℕ) (i : ℕ) → i ≤ length h → byte_before (take i h) i ≡ byte_before h i
 byte_in_front h zero l = refl
 byte_in_front h (suc j) l =
-    slice_get-get_or (take (suc j) h) j 0 (omega (arith, length-take-le (suc j) h l)) ∙ ap (λ x. Some x) (get_or-take (suc j) h j 0 (omega arith))
+    slice_get-get_or (take (suc j) h) j 0 (omega (arith, length-take-le (suc j) h l))
+        ∙ ap (λ x. Some x) (get_or-take (suc j) h j 0 (omega arith))
     ∙ sym (slice_get-get_or h j 0 (omega arith))
 
 -- of a reading by a byte and by a character
-read_first_by : (bytes : List ℕ) (o : Option ℕ) (b : ℕ) → byte_at bytes 0 ≡ Some b → ((c : ℕ) → o ≡ Some c → SpellsFirst c bytes) → ((c : ℕ) → SpellsFirst c bytes → o ≡ Some c) →
+read_first_by : (bytes : List ℕ) (o : Option ℕ) (b : ℕ) → byte_at bytes 0 ≡ Some b → ((c : ℕ) → o ≡ Some c → SpellsFirst c bytes) →
+    ((c : ℕ) → SpellsFirst c bytes → o ≡ Some c) →
     Decodes bytes (Some (ok_or o b))
 read_first_by bytes None b e says tells = (e, λ c f. none-some c (tells c f))
 read_first_by bytes (Some c) b e says tells = says c refl
 
-read_last_by : (bytes : List ℕ) (o : Option ℕ) (b : ℕ) → byte_before bytes (length bytes) ≡ Some b → ((c : ℕ) → o ≡ Some c → SpellsLast c bytes) → ((c : ℕ) → SpellsLast c bytes → o ≡ Some c) →
+read_last_by : (bytes : List ℕ) (o : Option ℕ) (b : ℕ) → byte_before bytes (length bytes) ≡ Some b →
+    ((c : ℕ) → o ≡ Some c → SpellsLast c bytes) → ((c : ℕ) → SpellsLast c bytes → o ≡ Some c) →
     DecodesLast bytes (Some (ok_or o b))
 read_last_by bytes None b e says tells = (e, λ c f. none-some c (tells c f))
 read_last_by bytes (Some c) b e says tells = says c refl
 
-decodes_option : (bytes : List ℕ) (o : Option ℕ) (p : Option ℕ) → byte_at bytes 0 ≡ p → ((c : ℕ) → o ≡ Some c → SpellsFirst c bytes) → ((c : ℕ) → SpellsFirst c bytes → o ≡ Some c) →
+decodes_option : (bytes : List ℕ) (o : Option ℕ) (p : Option ℕ) → byte_at bytes 0 ≡ p → ((c : ℕ) → o ≡ Some c → SpellsFirst c bytes) →
+    ((c : ℕ) → SpellsFirst c bytes → o ≡ Some c) →
     Decodes bytes (option_map (λ b. ok_or o b) p)
 decodes_option bytes o (Some b) e says tells = read_first_by bytes o b e says tells
 decodes_option [] o None e says tells = refl
 decodes_option (a ∷ t) o None e says tells = absurd (none-some a (sym e))
 
-decodes_last_option : (bytes : List ℕ) (o : Option ℕ) (p : Option ℕ) → byte_before bytes (length bytes) ≡ p → ((c : ℕ) → o ≡ Some c → SpellsLast c bytes) → ((c : ℕ) → SpellsLast c bytes → o ≡ Some c) →
+decodes_last_option : (bytes : List ℕ) (o : Option ℕ) (p : Option ℕ) → byte_before bytes (length bytes) ≡ p →
+    ((c : ℕ) → o ≡ Some c → SpellsLast c bytes) → ((c : ℕ) → SpellsLast c bytes → o ≡ Some c) →
     DecodesLast bytes (option_map (λ b. ok_or o b) p)
 decodes_last_option bytes o (Some b) e says tells = read_last_by bytes o b e says tells
 decodes_last_option [] o None e says tells = refl
@@ -390,7 +426,8 @@ reads_at h i = decodes_option (drop i h) (character_at h i) (byte_at h i) (byte_
 
 pub reads_before : (h : List ℕ) (i : ℕ) → i ≤ length h → DecodesLast (take i h) (read_before h i)
 reads_before h i l =
-    decodes_last_option (take i h) (character_before h i) (byte_before h i) (ap (byte_before (take i h)) (length-take-le i h l) ∙ byte_in_front h i l)
+    decodes_last_option (take i h) (character_before h i) (byte_before h i) (ap (byte_before (take i h)) (length-take-le i h l)
+        ∙ byte_in_front h i l)
     (λ c. character_ends h i c l) (λ c. ended_character h i c l)
 
 pub read_at_once : (h : List ℕ) (i : ℕ) (r : Option (Result ℕ ℕ)) → Decodes (drop i h) r → r ≡ read_at h i

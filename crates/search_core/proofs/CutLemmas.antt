@@ -1,5 +1,7 @@
 -- What is read at a place of a valid text that isn't split.
-use Rattle.std.proofs.Common.{◌≡◌, ℕ, suc, ◌-◌, ◌<◌, ◌≤◌, inl, inr, true, List, [], ◌∷◌, ◌++◌, length, get_or, take, drop, Option, Some, None, Result, Ok, Err, IsCharBoundary, refl, sym, ap, subst, ◌∙◌, arith, length-append, length-drop, length-take-le, append_assoc, append-nil, drop_at}
+use Rattle.std.proofs.Common.{◌≡◌, ℕ, suc, ◌-◌, ◌<◌, ◌≤◌, inl, inr, true, List, [], ◌∷◌, ◌++◌, length, get_or, take, drop, Option, Some}
+use Rattle.std.proofs.Common.{None, Result, Ok, Err, IsCharBoundary, refl, sym, ap, subst, ◌∙◌, arith, length-append, length-drop}
+use Rattle.std.proofs.Common.{length-take-le, append_assoc, append-nil, drop_at}
 use Rattle.std.proofs.lemmas.Bool.{cases_order}
 use Rattle.std.proofs.lemmas.Bool.Decides.{nat_tests}
 use Rattle.std.proofs.lemmas.Str.{IsUtf8-take, IsUtf8-drop}
@@ -22,8 +24,10 @@ not_longer bytes f g s t c d h k ef eg l =
     let some = spelling_some c s h in
     let j : suc (length s - 1) ≡ length s = omega arith in
     let z : length s - length s ≡ 0 = omega arith in
-    let es : get_or s 0 0 ≡ get_or bytes (length bytes - length s) 0 = rw z at (rw j at (same_last bytes f s (length s - 1) ef (omega arith))) in
-    let et : get_or t (length t - length s) 0 ≡ get_or bytes (length bytes - length s) 0 = rw j at (same_last bytes g t (length s - 1) eg (omega arith)) in
+    let es : get_or s 0 0 ≡ get_or bytes (length bytes - length s) 0 =
+        rw z at (rw j at (same_last bytes f s (length s - 1) ef (omega arith))) in
+    let et : get_or t (length t - length s) 0 ≡ get_or bytes (length bytes - length s) 0 =
+        rw j at (same_last bytes g t (length s - 1) eg (omega arith)) in
     let inner = spelling_tails d t k (length t - length s) (omega arith) (omega arith) in
     elim (spelling_lead c s h) [ inl low ↦ omega arith | inr high ↦ omega arith ]
 

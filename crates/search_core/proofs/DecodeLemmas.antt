@@ -1,17 +1,21 @@
 -- What the code of `decode` and `decode_last` reads: spellings by their length, at the start and at the end of bytes.
-use Rattle.std.proofs.Common.{◌≡◌, ℕ, suc, ◌+◌, ◌-◌, ◌<◌, ◌≤◌, ◌⊎◌, inl, inr, true, List, [], ◌∷◌, ◌++◌, length, get_or, Option, Some, None, MatchOption, SomeIff, refl, sym, ap, subst, ◌∙◌, arith, length-append, length-drop, take, drop}
+use Rattle.std.proofs.Common.{◌≡◌, ℕ, suc, ◌+◌, ◌-◌, ◌<◌, ◌≤◌, ◌⊎◌, inl, inr, true, List, [], ◌∷◌, ◌++◌, length, get_or, Option, Some, None}
+use Rattle.std.proofs.Common.{MatchOption, SomeIff, refl, sym, ap, subst, ◌∙◌, arith, length-append, length-drop, take, drop}
 use Rattle.std.proofs.lemmas.Bool.{and_parts, leb-true}
 use Rattle.std.proofs.lemmas.List.{take-append-drop, get_or_append_left, get_or-append_right}
 use Rattle.std.proofs.lemmas.Bool.Decides.{nat_tests}
 use Rattle.std.specs.Char.{IsScalar, InScalarRange, OutOfScalarRange}
 use Rattle.std.specs.Int.{IsInRange, is_in_range}
-use Rattle.search_core.specs.Utf8.{IsContinuation, scalar_of_two, scalar_of_three, scalar_of_four, second_of_three, second_of_four, Spells, SpellsFirst, SpellsLast}
-use Rattle.search_core.specs.Utf8.Spells.{from_0000, from_0080, from_0800, from_1000, from_d000, from_e000, from_10000, from_40000, from_100000}
+use Rattle.search_core.specs.Utf8.{IsContinuation, scalar_of_two, scalar_of_three, scalar_of_four, second_of_three, second_of_four, Spells}
+use Rattle.search_core.specs.Utf8.{SpellsFirst, SpellsLast}
+use Rattle.search_core.specs.Utf8.Spells.{from_0000, from_0080, from_0800, from_1000, from_d000, from_e000, from_10000, from_40000}
+use Rattle.search_core.specs.Utf8.Spells.{from_100000}
 
 -- what `char::from_u32` gives for the code of a spelling
 pub char_of : (r : Option ℕ) (code : ℕ) (P : ℕ → Type 0) → SomeIff r (IsScalar code) code →
     MatchOption r (OutOfScalarRange code) (λ _. InScalarRange code) → P code × InScalarRange code → MatchOption r ((c : ℕ) → ¬ (P c)) P
-char_of None code P v h p = absurd (elim h [ inl out ↦ elim p.1 [ inl low ↦ omega arith | inr high ↦ omega arith ] | inr out ↦ elim p.1 [ inl low ↦ omega arith | inr high ↦ omega arith ] ])
+char_of None code P v h p = absurd (elim h [ inl out ↦ elim p.1 [ inl low ↦ omega arith | inr high ↦ omega arith ] | inr out ↦
+    elim p.1 [ inl low ↦ omega arith | inr high ↦ omega arith ] ])
 char_of (Some x) code P v h p = subst P (sym v.1) p.0
 
 in_range : (lo hi b : ℕ) → is_in_range lo hi b ≡ true → IsInRange lo hi b
@@ -25,7 +29,8 @@ two_spell a b low high e =
 
 -- the rows of three bytes
 three_rows : (a b : ℕ) → second_of_three a b ≡ true →
-    ((a ≡ 0xE0) × IsInRange 0xA0 0xBF b) ⊎ ((IsInRange 0xE1 0xEC a × IsContinuation b) ⊎ (((a ≡ 0xED) × IsInRange 0x80 0x9F b) ⊎ (IsInRange 0xEE 0xEF a × IsContinuation b)))
+    ((a ≡ 0xE0) × IsInRange 0xA0 0xBF b) ⊎ ((IsInRange 0xE1 0xEC a × IsContinuation b) ⊎
+        (((a ≡ 0xED) × IsInRange 0x80 0x9F b) ⊎ (IsInRange 0xEE 0xEF a × IsContinuation b)))
 three_rows a b e = grind (arith, nat_tests)
 
 pub three_spell : (a b d : ℕ) → second_of_three a b ≡ true → is_in_range 0x80 0xBF d ≡ true →
@@ -131,7 +136,8 @@ module _ (bytes : List ℕ) (c : ℕ) (f : SpellsFirst c bytes) where
       let e0 = same_first bytes f.spelling f.rest 0 f.joined (omega arith) in
       subst (Spells c) (one_of f.spelling n ∙ ap (λ a. a ∷ []) e0) f.spells
 
-  pub first_is_two : 0x80 ≤ get_or bytes 0 0 → get_or bytes 0 0 ≤ 0xDF → (1 < length bytes) × Spells c (get_or bytes 0 0 ∷ get_or bytes 1 0 ∷ [])
+  pub first_is_two : 0x80 ≤ get_or bytes 0 0 → get_or bytes 0 0 ≤ 0xDF → (1 < length bytes) ×
+      Spells c (get_or bytes 0 0 ∷ get_or bytes 1 0 ∷ [])
   first_is_two low high =
       let n = leads_two _ _ first_leads low high in
       let e0 = same_first bytes f.spelling f.rest 0 f.joined (omega arith) in
@@ -166,7 +172,8 @@ pub front_two : (bytes : List ℕ) → 1 < length bytes → bytes ≡ (get_or by
 front_two [] h = absurd (omega arith)
 front_two (a ∷ t) h = ap (λ l. a ∷ l) (front_one t (omega arith))
 
-pub front_three : (bytes : List ℕ) → 2 < length bytes → bytes ≡ (get_or bytes 0 0 ∷ get_or bytes 1 0 ∷ get_or bytes 2 0 ∷ []) ++ drop 3 bytes
+pub front_three : (bytes : List ℕ) → 2 < length bytes → bytes ≡ (get_or bytes 0 0 ∷ get_or bytes 1 0 ∷ get_or bytes 2 0 ∷ [])
+    ++ drop 3 bytes
 front_three [] h = absurd (omega arith)
 front_three (a ∷ t) h = ap (λ l. a ∷ l) (front_two t (omega arith))
 
@@ -181,7 +188,8 @@ Reads P r = MatchOption r ((c : ℕ) → ¬ (P c)) P
 
 pub read_one : (bytes : List ℕ) → 0 < length bytes → get_or bytes 0 0 ≤ 0x7F → SpellsFirst (get_or bytes 0 0) bytes
 read_one bytes some low =
-    record { spelling = get_or bytes 0 0 ∷ []; rest = drop 1 bytes; spells = from_0000 (get_or bytes 0 0) (omega arith, low) refl refl; joined = front_one bytes some }
+    record { spelling = get_or bytes 0 0 ∷ []; rest = drop 1 bytes; spells = from_0000 (get_or bytes 0 0) (omega arith, low) refl refl;
+        joined = front_one bytes some }
 
 pub read_two : (bytes : List ℕ) (r : Option ℕ) → 1 < length bytes → 0x80 ≤ get_or bytes 0 0 → get_or bytes 0 0 ≤ 0xDF →
     Reads (λ c. Spells c (get_or bytes 0 0 ∷ get_or bytes 1 0 ∷ [])) r → Reads (λ c. SpellsFirst c bytes) r
@@ -194,16 +202,19 @@ read_three bytes None long low high h = λ c f. h c (first_is_three bytes c f lo
 read_three bytes (Some x) long low high h = record { spelling = _; rest = drop 3 bytes; spells = h; joined = front_three bytes long }
 
 pub read_four : (bytes : List ℕ) (r : Option ℕ) → 3 < length bytes → 0xF0 ≤ get_or bytes 0 0 →
-    Reads (λ c. Spells c (get_or bytes 0 0 ∷ get_or bytes 1 0 ∷ get_or bytes 2 0 ∷ get_or bytes 3 0 ∷ [])) r → Reads (λ c. SpellsFirst c bytes) r
+    Reads (λ c. Spells c (get_or bytes 0 0 ∷ get_or bytes 1 0 ∷ get_or bytes 2 0 ∷ get_or bytes 3 0 ∷ [])) r →
+        Reads (λ c. SpellsFirst c bytes) r
 read_four bytes None long low h = λ c f. h c (first_is_four bytes c f low).1
 read_four bytes (Some x) long low h = record { spelling = _; rest = drop 4 bytes; spells = h; joined = front_four bytes long }
 
 -- a spelling that stands last: its byte k from the end is the text's
-pub same_last : (bytes front s : List ℕ) (k : ℕ) → bytes ≡ front ++ s → k < length s → get_or s (length s - suc k) 0 ≡ get_or bytes (length bytes - suc k) 0
+pub same_last : (bytes front s : List ℕ) (k : ℕ) → bytes ≡ front ++ s → k < length s →
+    get_or s (length s - suc k) 0 ≡ get_or bytes (length bytes - suc k) 0
 same_last bytes front s k e h =
     let n : length bytes ≡ length front + length s = ap length e ∙ length-append front s in
     let i : length bytes - suc k - length front ≡ length s - suc k = omega arith in
-    sym (ap (λ l. get_or l (length bytes - suc k) 0) e ∙ get_or-append_right front s (length front) (length bytes - suc k) 0 refl (omega arith)
+    sym (ap (λ l. get_or l (length bytes - suc k) 0) e ∙ get_or-append_right front s (length front) (length bytes - suc k) 0 refl
+        (omega arith)
     ∙ ap (λ j. get_or s j 0) i)
 
 -- the last few bytes written out
@@ -250,13 +261,15 @@ module _ (bytes : List ℕ) (c k : ℕ) (long : k ≤ length bytes) where
 
 pub put_one : (bytes : List ℕ) → 0 < length bytes → back bytes 1 ≤ 0x7F → SpellsLast (back bytes 1) bytes
 put_one bytes long low =
-    put_last bytes (back bytes 1) 1 long (from_0000 (back bytes 1) (omega arith, low) (back_one bytes _ _ (cut bytes 0 1 long) (dropped bytes 0 1 long)) refl)
+    put_last bytes (back bytes 1) 1 long (from_0000 (back bytes 1) (omega arith,
+        low) (back_one bytes _ _ (cut bytes 0 1 long) (dropped bytes 0 1 long)) refl)
 
 pub put_two : (bytes : List ℕ) (c : ℕ) → 1 < length bytes → Spells c (back bytes 2 ∷ back bytes 1 ∷ []) → SpellsLast c bytes
 put_two bytes c long h =
     put_last bytes c 2 long (subst (Spells c) (sym (back_two bytes _ _ (cut bytes 0 2 long) (dropped bytes 0 2 long))) h)
 
-pub put_three : (bytes : List ℕ) (c : ℕ) → 2 < length bytes → Spells c (back bytes 3 ∷ back bytes 2 ∷ back bytes 1 ∷ []) → SpellsLast c bytes
+pub put_three : (bytes : List ℕ) (c : ℕ) → 2 < length bytes → Spells c (back bytes 3 ∷ back bytes 2 ∷ back bytes 1 ∷ []) →
+    SpellsLast c bytes
 put_three bytes c long h =
     put_last bytes c 3 long (subst (Spells c) (sym (back_three bytes _ _ (cut bytes 0 3 long) (dropped bytes 0 3 long))) h)
 
@@ -266,7 +279,10 @@ put_four bytes c long h =
     put_last bytes c 4 long (subst (Spells c) (sym (back_four bytes _ _ (cut bytes 0 4 long) (dropped bytes 0 4 long))) h)
 
 -- and where the last bytes are a spelling at no length, no spelling stands last
-module _ (bytes : List ℕ) (high : 0x80 ≤ back bytes 1) (two : (c : ℕ) → ¬ (Spells c (back bytes 2 ∷ back bytes 1 ∷ []))) (three : 2 < length bytes → (c : ℕ) → ¬ (Spells c (back bytes 3 ∷ back bytes 2 ∷ back bytes 1 ∷ []))) (four : 3 < length bytes → (c : ℕ) → ¬ (Spells c (back bytes 4 ∷ back bytes 3 ∷ back bytes 2 ∷ back bytes 1 ∷ []))) where
+module _ (bytes : List ℕ) (high : 0x80 ≤ back bytes 1) (two : (c : ℕ) →
+    ¬ (Spells c (back bytes 2 ∷ back bytes 1 ∷ []))) (three : 2 < length bytes → (c : ℕ) →
+    ¬ (Spells c (back bytes 3 ∷ back bytes 2 ∷ back bytes 1 ∷ []))) (four : 3 < length bytes → (c : ℕ) →
+    ¬ (Spells c (back bytes 4 ∷ back bytes 3 ∷ back bytes 2 ∷ back bytes 1 ∷ []))) where
   pub none_last : (c : ℕ) → ¬ (SpellsLast c bytes)
   none_last c f =
       let fits : length f.spelling ≤ length bytes = omega (arith, ap length f.joined, length-append f.front f.spelling) in
@@ -284,7 +300,8 @@ module _ (bytes : List ℕ) (high : 0x80 ≤ back bytes 1) (two : (c : ℕ) → 
       ]
 
 pub read_last_four : (bytes : List ℕ) (r : Option ℕ) → 3 < length bytes → 0x80 ≤ back bytes 1 →
-    ((c : ℕ) → ¬ (Spells c (back bytes 2 ∷ back bytes 1 ∷ []))) → ((c : ℕ) → ¬ (Spells c (back bytes 3 ∷ back bytes 2 ∷ back bytes 1 ∷ []))) →
+    ((c : ℕ) → ¬ (Spells c (back bytes 2 ∷ back bytes 1 ∷ []))) → ((c : ℕ) →
+        ¬ (Spells c (back bytes 3 ∷ back bytes 2 ∷ back bytes 1 ∷ []))) →
     Reads (λ c. Spells c (back bytes 4 ∷ back bytes 3 ∷ back bytes 2 ∷ back bytes 1 ∷ [])) r → Reads (λ c. SpellsLast c bytes) r
 read_last_four bytes None long high two three h = none_last bytes high two (λ _. three) (λ _. h)
 read_last_four bytes (Some x) long high two three h = put_four bytes x long h

@@ -1,11 +1,13 @@
 -- A class is the number of marks below, so bytes are in one class where no mark lies between them; a
 -- range's marks lie between two bytes unless it holds all bytes from one to the other or none.
-use Rattle.std.proofs.Common.{◌≡◌, ◌≢◌, ℕ, zero, suc, ◌+◌, ◌-◌, ◌<◌, ◌≤◌, ◌⊎◌, ◌↔◌, Bool, true, false, eqb, List, [], ◌∷◌, length, get_or, set, refl, sym, ap, ◌∙◌, subst, inl, inr, arith, get_or-set_other, get_or-set_same, length-set}
+use Rattle.std.proofs.Common.{◌≡◌, ◌≢◌, ℕ, zero, suc, ◌+◌, ◌-◌, ◌<◌, ◌≤◌, ◌⊎◌, ◌↔◌, Bool, true, false, eqb, List, [], ◌∷◌, length, get_or}
+use Rattle.std.proofs.Common.{set, refl, sym, ap, ◌∙◌, subst, inl, inr, arith, get_or-set_other, get_or-set_same, length-set}
 use Rattle.std.specs.List.{All}
 use Rattle.std.proofs.lemmas.Bool.{cases_Bool, cases_lt, cases_eq, eq-eqb, ne_eqb, cond-true, cond-false}
 use Rattle.std.proofs.lemmas.List.Sums.{count_by_more_yes, count_by_more_no}
 use Rattle.std.proofs.lemmas.List.Elements.{All-nil, All-cons, All-head, All-tail, All-weaker}
-use Rattle.search_core.specs.Marks.{marks_below, mark_before, mark_range, recorded, IsUnmarked, IsRangeBelow, IsIn, HoldsAllOrNone, HasMarks}
+use Rattle.search_core.specs.Marks.{marks_below, mark_before, mark_range, recorded, IsUnmarked, IsRangeBelow, IsIn, HoldsAllOrNone}
+use Rattle.search_core.specs.Marks.{HasMarks}
 
 -- ---- the number of marks below a byte
 pub below_zero : (m : List Bool) → marks_below m 0 ≡ 0
@@ -18,7 +20,8 @@ below_marked m b h e = count_by_more_yes (λ x. x) m b false h e
 pub below_unmarked : (m : List Bool) (b : ℕ) → b < length m → get_or m b false ≡ false → marks_below m (b + 1) ≡ marks_below m b
 below_unmarked m b h e = count_by_more_no (λ x. x) m b false h e
 
-pub below_next : (m : List Bool) (b : ℕ) → b < length m → (marks_below m (b + 1) ≡ marks_below m b) ⊎ (marks_below m (b + 1) ≡ marks_below m b + 1)
+pub below_next : (m : List Bool) (b : ℕ) → b < length m → (marks_below m (b + 1) ≡ marks_below m b) ⊎
+    (marks_below m (b + 1) ≡ marks_below m b + 1)
 below_next m b h = elim (cases_Bool (get_or m b false)) [
   | inl e ↦ inr (below_marked m b h e)
   | inr e ↦ inl (below_unmarked m b h e)
@@ -28,7 +31,8 @@ at_suc : (m : List Bool) (a d n : ℕ) → marks_below m ((a + d) + 1) ≡ n →
 at_suc m a d n h = let e : (a + d) + 1 ≡ a + suc d = omega arith in let P : ℕ → Type 0 = λ i. marks_below m i ≡ n in subst P e h
 
 below_rises_by : (m : List Bool) (a d : ℕ) → a + d ≤ length m → marks_below m a ≤ marks_below m (a + d)
-below_rises_by m a zero h = let e : a ≡ a + 0 = omega arith in let P : ℕ → Type 0 = λ i. marks_below m a ≤ marks_below m i in subst P e (omega arith)
+below_rises_by m a zero h = let e : a ≡ a + 0 = omega arith in let P : ℕ → Type 0 = λ i. marks_below m a ≤ marks_below m i in
+    subst P e (omega arith)
 below_rises_by m a (suc d) h =
     let ih : marks_below m a ≤ marks_below m (a + d) = below_rises_by m a d (omega arith) in
     let lt : a + d < length m = omega arith in
@@ -43,12 +47,14 @@ below_rises m a b h k =
     let P : ℕ → Type 0 = λ i. marks_below m a ≤ marks_below m i in
     subst P e (below_rises_by m a (b - a) (omega arith))
 
-below_same_by : (m : List Bool) (a d : ℕ) → a + d ≤ length m → ((k : ℕ) → a ≤ k → k < a + d → get_or m k false ≡ false) → marks_below m a ≡ marks_below m (a + d)
+below_same_by : (m : List Bool) (a d : ℕ) → a + d ≤ length m → ((k : ℕ) → a ≤ k → k < a + d → get_or m k false ≡ false) →
+    marks_below m a ≡ marks_below m (a + d)
 below_same_by m a zero h u = let e : a ≡ a + 0 = omega arith in ap (marks_below m) e
 below_same_by m a (suc d) h u =
     let ih : marks_below m a ≡ marks_below m (a + d) = below_same_by m a d (omega arith) (λ k p q. u k p (omega arith)) in
     let lt : a + d < length m = omega arith in
-    let f : marks_below m (a + suc d) ≡ marks_below m (a + d) = at_suc m a d _ (below_unmarked m (a + d) lt (u (a + d) (omega arith) (omega arith))) in
+    let f : marks_below m (a + suc d) ≡ marks_below m (a + d) = at_suc m a d _
+        (below_unmarked m (a + d) lt (u (a + d) (omega arith) (omega arith))) in
     ih ∙ sym f
 
 -- no byte from a up to b has a mark
@@ -112,7 +118,8 @@ before_marks m lo k e h =
 before_other : (m : List Bool) (lo k : ℕ) → k + 1 ≢ lo → get_or (mark_before m lo) k false ≡ get_or m k false
 before_other m lo k d = elim (cases_eq lo 0) [
   | inl e ↦ ap (λ l. get_or l k false) (before_none m lo e)
-  | inr n ↦ let ne : k ≢ lo - 1 = omega arith in ap (λ l. get_or l k false) (before_some m lo n) ∙ get_or-set_other m (lo - 1) k true false ne
+  | inr n ↦ let ne : k ≢ lo - 1 = omega arith in ap (λ l. get_or l k false) (before_some m lo n)
+      ∙ get_or-set_other m (lo - 1) k true false ne
 ]
 
 range_keeps : (m : List Bool) (lo hi k : ℕ) → k < length m → get_or m k false ≡ true → get_or (mark_range m lo hi) k false ≡ true
@@ -165,11 +172,13 @@ clear_after m a b r u s = λ k p q.
     range_other m r.0 r.1 k d n ∙ u k p q
 
 -- ---- the marks of several ranges
-recorded_clear : (m : List Bool) (a b : ℕ) (rs : List (ℕ × ℕ)) → b ≤ length m → IsClear m a b → All (IsApart a b) rs → IsClear (recorded m rs) a b
+recorded_clear : (m : List Bool) (a b : ℕ) (rs : List (ℕ × ℕ)) → b ≤ length m → IsClear m a b → All (IsApart a b) rs →
+    IsClear (recorded m rs) a b
 recorded_clear m a b [] h u s = u
 recorded_clear m a b (r ∷ rs) h u s =
     let e = length-mark_range m r.0 r.1 in
-    recorded_clear (mark_range m r.0 r.1) a b rs (omega arith) (clear_after m a b r u (All-head (IsApart a b) r rs s)) (All-tail (IsApart a b) r rs s)
+    recorded_clear (mark_range m r.0 r.1) a b rs (omega arith) (clear_after m a b r u (All-head (IsApart a b) r rs s))
+        (All-tail (IsApart a b) r rs s)
 
 recorded_first : (m : List Bool) (a b : ℕ) (rs : List (ℕ × ℕ)) → b ≤ length m → IsClear (recorded m rs) a b → IsClear m a b
 recorded_first m a b [] h u = u
@@ -182,7 +191,8 @@ recorded_apart m a b [] h u = All-nil (IsApart a b)
 recorded_apart m a b (r ∷ rs) h u =
     let e = length-mark_range m r.0 r.1 in
     let v = recorded_first (mark_range m r.0 r.1) a b rs (omega arith) u in
-    All-cons (IsApart a b) r rs (clear_start m a b r.0 r.1 h v, clear_end m a b r.0 r.1 h v) (recorded_apart (mark_range m r.0 r.1) a b rs (omega arith) u)
+    All-cons (IsApart a b) r rs (clear_start m a b r.0 r.1 h v, clear_end m a b r.0 r.1 h v)
+        (recorded_apart (mark_range m r.0 r.1) a b rs (omega arith) u)
 
 pub length-recorded : (m : List Bool) (rs : List (ℕ × ℕ)) → length (recorded m rs) ≡ length m
 length-recorded m [] = refl
@@ -239,7 +249,8 @@ all_apart a b n (r ∷ rs) h o s =
     All-cons (IsApart a b) r rs (holds_apart a b r h (All-head (IsRangeBelow n) r rs o).0 (All-head (HoldsAllOrNone a b) r rs s))
     (all_apart a b n rs h (All-tail (IsRangeBelow n) r rs o) (All-tail (HoldsAllOrNone a b) r rs s))
 
-pub same_class_from_ranges : (m : List Bool) (rs : List (ℕ × ℕ)) (a b : ℕ) → IsUnmarked m → All (IsRangeBelow (length m)) rs → a ≤ b → b < length m →
+pub same_class_from_ranges : (m : List Bool) (rs : List (ℕ × ℕ)) (a b : ℕ) → IsUnmarked m → All (IsRangeBelow (length m)) rs → a ≤ b →
+    b < length m →
     All (HoldsAllOrNone a b) rs → marks_below (recorded m rs) a ≡ marks_below (recorded m rs) b
 same_class_from_ranges m rs a b u o h k s =
     let len = length-recorded m rs in
@@ -256,7 +267,8 @@ alike_all_or_none a b r h s = elim (cases_lt a r.0) [
   ]
 ]
 
-alike_all : (a b : ℕ) (rs : List (ℕ × ℕ)) → a ≤ b → ((c : ℕ) → a ≤ c → c ≤ b → All (λ r. IsIn r a ↔ IsIn r c) rs) → All (HoldsAllOrNone a b) rs
+alike_all : (a b : ℕ) (rs : List (ℕ × ℕ)) → a ≤ b → ((c : ℕ) → a ≤ c → c ≤ b → All (λ r. IsIn r a ↔ IsIn r c) rs) →
+    All (HoldsAllOrNone a b) rs
 alike_all a b [] h s = All-nil (HoldsAllOrNone a b)
 alike_all a b (r ∷ rs) h s =
     All-cons (HoldsAllOrNone a b) r rs
@@ -293,7 +305,8 @@ marked_inside [] k t = absurd (not_both false t refl)
 marked_inside (x ∷ xs) zero t = omega arith
 marked_inside (x ∷ xs) (suc k) t = let h = marked_inside xs k t in omega arith
 
-finer_forward : (m others : List Bool) (a b : ℕ) → HasMarks m others → a ≤ b → b < length m → marks_below m a ≡ marks_below m b → marks_below others a ≡ marks_below others b
+finer_forward : (m others : List Bool) (a b : ℕ) → HasMarks m others → a ≤ b → b < length m → marks_below m a ≡ marks_below m b →
+    marks_below others a ≡ marks_below others b
 finer_forward m others a b has h l e =
     let clear : IsClear m a b = same_clear m a b (omega arith) e in
     let len = has.len in
@@ -309,7 +322,8 @@ same_class_of_finer m others a b has k l e = elim (cases_lt a b) [
   | inr p ↦ sym (finer_forward m others b a has p k (sym e))
 ]
 
-recorded_keeps : (m : List Bool) (rs : List (ℕ × ℕ)) (k : ℕ) → k < length m → get_or m k false ≡ true → get_or (recorded m rs) k false ≡ true
+recorded_keeps : (m : List Bool) (rs : List (ℕ × ℕ)) (k : ℕ) → k < length m → get_or m k false ≡ true →
+    get_or (recorded m rs) k false ≡ true
 recorded_keeps m [] k h t = t
 recorded_keeps m (r ∷ rs) k h t =
     let e = length-mark_range m r.0 r.1 in

@@ -1,5 +1,6 @@
 -- What follows valid text within valid text is valid, and no character is split where valid text starts or ends.
-use Rattle.std.proofs.Common.{◌≡◌, ℕ, ◌-◌, ◌<◌, ◌≤◌, inl, inr, true, List, ◌++◌, length, take, drop, get_or, sym, ap, subst, ◌∙◌, arith, length-append, length-drop, append_assoc}
+use Rattle.std.proofs.Common.{◌≡◌, ℕ, ◌-◌, ◌<◌, ◌≤◌, inl, inr, true, List, ◌++◌, length, take, drop, get_or, sym, ap, subst, ◌∙◌, arith}
+use Rattle.std.proofs.Common.{length-append, length-drop, append_assoc}
 use Rattle.std.proofs.lemmas.List.{get_or_append_left, get_or-append_right, length-take, take-append-drop}
 use Rattle.search_core.specs.Utf8.{Spells, IsValidText, IsSplit, is_boundary}
 use Rattle.search_core.specs.Utf8.IsValidText.{no_spelling, spelling_then}
@@ -28,7 +29,8 @@ get_dropped h i l =
 spelled_whole : (h : List ℕ) (i c : ℕ) (s y : List ℕ) → i ≤ length h → Spells c s → drop i h ≡ s ++ y → IsSplit h i → ⊥
 spelled_whole h i c s y l k e p =
     let q = split_continues h i p in
-    let same : get_or h i 0 ≡ get_or s 0 0 = get_dropped h i l ∙ ap (λ g. get_or g 0 0) e ∙ get_or_append_left s y 0 0 (spelling_some c s k) in
+    let same : get_or h i 0 ≡ get_or s 0 0 = get_dropped h i l ∙ ap (λ g. get_or g 0 0) e
+        ∙ get_or_append_left s y 0 0 (spelling_some c s k) in
     let low = q.1.0 in let high = q.1.1 in
     elim (spelling_lead c s k) [ inl a ↦ absurd (omega arith) | inr b ↦ absurd (omega arith) ]
 

@@ -1,5 +1,6 @@
 -- Classes that start at 0 and rise by at most one from byte to byte: which numbers are met, and when each byte is alone.
-use Rattle.std.proofs.Common.{◌≡◌, ℕ, zero, suc, ◌+◌, ◌-◌, ◌<◌, ◌≤◌, ◌⊎◌, Bool, List, length, get_or, sym, ap, ◌∙◌, subst, inl, inr, arith, nat_eq, IsTrue, eq-eqb}
+use Rattle.std.proofs.Common.{◌≡◌, ℕ, zero, suc, ◌+◌, ◌-◌, ◌<◌, ◌≤◌, ◌⊎◌, Bool, List, length, get_or, sym, ap, ◌∙◌, subst, inl, inr, arith}
+use Rattle.std.proofs.Common.{nat_eq, IsTrue, eq-eqb}
 use Rattle.std.proofs.lemmas.Bool.{cases_lt, eqb-true}
 use Rattle.search_core.specs.Marks.{marks_below}
 use Rattle.search_core.specs.Classes.{IsRising}
@@ -63,15 +64,18 @@ module _ (classes : List ℕ) (r : IsRising classes) where
 
   -- which a length of 257 tells
   pub singletons_told : (n : ℕ) → n ≡ get_or classes 255 0 + 2 →
-      (IsTrue (nat_eq n 257) → (b : ℕ) → b < 256 → get_or classes b 0 ≡ b) × (((b : ℕ) → b < 256 → get_or classes b 0 ≡ b) → IsTrue (nat_eq n 257))
+      (IsTrue (nat_eq n 257) → (b : ℕ) → b < 256 → get_or classes b 0 ≡ b) ×
+          (((b : ℕ) → b < 256 → get_or classes b 0 ≡ b) → IsTrue (nat_eq n 257))
   singletons_told n e = (
     λ h. let told : n ≡ 257 = eqb-true n 257 h in singletons_by_last (omega arith),
     λ own. let last : get_or classes 255 0 ≡ 255 = own 255 (omega arith) in eq-eqb n 257 (omega arith),
   )
 
 -- classes by marks rise
-module _ (classes : List ℕ) (marks : List Bool) (n : length marks ≡ 256) (numbered : (b : ℕ) → b < 256 → get_or classes b 0 ≡ marks_below marks b) where
-  next_by_marks : (b : ℕ) → b < 255 → (marks_below marks (b + 1) ≡ marks_below marks b) ⊎ (marks_below marks (b + 1) ≡ marks_below marks b + 1) →
+module _ (classes : List ℕ) (marks : List Bool) (n : length marks ≡ 256) (numbered : (b : ℕ) → b < 256 →
+    get_or classes b 0 ≡ marks_below marks b) where
+  next_by_marks : (b : ℕ) → b < 255 → (marks_below marks (b + 1) ≡ marks_below marks b) ⊎
+      (marks_below marks (b + 1) ≡ marks_below marks b + 1) →
       (get_or classes (b + 1) 0 ≡ get_or classes b 0) ⊎ (get_or classes (b + 1) 0 ≡ get_or classes b 0 + 1)
   next_by_marks b l (inl e) = inl (numbered (b + 1) (omega arith) ∙ e ∙ sym (numbered b (omega arith)))
   next_by_marks b l (inr e) = inr (numbered (b + 1) (omega arith) ∙ e ∙ ap (λ (k : ℕ). k + 1) (sym (numbered b (omega arith))))

@@ -1,5 +1,6 @@
 -- What is left of an iterator over units before and after a call.
-use Rattle.std.proofs.Common.{◌≡◌, ℕ, suc, ◌+◌, ◌-◌, ◌<◌, ◌≤◌, cond, leb, eqb, get_or, List, [], ◌∷◌, ◌++◌, map, refl, sym, ap, ◌∙◌, subst, Option, Some, None, arith}
+use Rattle.std.proofs.Common.{◌≡◌, ℕ, suc, ◌+◌, ◌-◌, ◌<◌, ◌≤◌, cond, leb, eqb, get_or, List, [], ◌∷◌, ◌++◌, map, refl, sym, ap, ◌∙◌, subst}
+use Rattle.std.proofs.Common.{Option, Some, None, arith}
 use Rattle.std.specs.List.{range_with_len}
 use Rattle.std.proofs.lemmas.Bool.{le-leb, lt-leb}
 use Rattle.search_core.specs.declared.unit.Unit.{Unit as InputUnit}
@@ -29,7 +30,8 @@ units_end n next h =
 
 -- ---- the elements of a class
 pub elements_byte : (classes : List ℕ) (unit : InputUnit) (c from b : ℕ) (r : Option ℕ) → unit ≡ Byte c → r ≡ Some b →
-    IsFirstWhere (λ x. eqb (get_or classes x 0) c) from 256 r → elements_from classes unit from ≡ Byte b ∷ elements_from classes unit (b + 1)
+    IsFirstWhere (λ x. eqb (get_or classes x 0) c) from 256 r → elements_from classes unit from ≡ Byte b ∷ elements_from classes unit
+        (b + 1)
 elements_byte classes unit c from b r e s h =
     subst (λ (u : InputUnit). elements_from classes u from ≡ Byte b ∷ elements_from classes u (b + 1)) (sym e)
     (ap (map Byte) (bytes_where-some (λ x. eqb (get_or classes x 0) c) from 256 r b s h))
@@ -41,7 +43,8 @@ elements_ended classes unit c from r e s h =
     (ap (map Byte) (bytes_where-ended (λ x. eqb (get_or classes x 0) c) from 256 r s h))
 
 -- ---- the first units
-end_same : (classes : List ℕ) (hi : Option ℕ) (from b : ℕ) → from ≤ b → b < range_limit hi → end_left classes hi from ≡ end_left classes hi (b + 1)
+end_same : (classes : List ℕ) (hi : Option ℕ) (from b : ℕ) → from ≤ b → b < range_limit hi →
+    end_left classes hi from ≡ end_left classes hi (b + 1)
 end_same classes None from b p q =
     ap (λ t. cond t (End (get_or classes 255 0 + 1) ∷ []) []) (le-leb from 256 (omega arith) ∙ sym (le-leb (b + 1) 256 (omega arith)))
 end_same classes (Some h) from b p q = refl
@@ -55,7 +58,8 @@ first_byte classes lo hi from b r e h =
 
 first_none : (classes : List ℕ) (lo : ℕ) (hi : Option ℕ) (from : ℕ) (r : Option ℕ) → r ≡ None →
     IsFirstWhere (is_first classes lo) from (range_limit hi) r → first_units classes lo hi from ≡ end_left classes hi from
-first_none classes lo hi from r e h = ap (λ bs. map Byte bs ++ end_left classes hi from) (bytes_where-ended (is_first classes lo) from (range_limit hi) r e h)
+first_none classes lo hi from r e h = ap (λ bs. map Byte bs ++ end_left classes hi from)
+    (bytes_where-ended (is_first classes lo) from (range_limit hi) r e h)
 
 pub first_bounded : (classes : List ℕ) (lo : ℕ) (hi : Option ℕ) (from top : ℕ) (r : Option ℕ) → r ≡ None → hi ≡ Some top →
     IsFirstWhere (is_first classes lo) from (range_limit hi) r → first_units classes lo hi from ≡ []
@@ -74,9 +78,11 @@ first_after classes lo from p =
     ∙ ap (λ t. cond t (End (get_or classes 255 0 + 1) ∷ []) []) (lt-leb from 256 p)
 
 pub first_end : (classes : List ℕ) (lo : ℕ) (hi : Option ℕ) (from : ℕ) (r : Option ℕ) → r ≡ None → hi ≡ None → from ≤ 256 →
-    IsFirstWhere (is_first classes lo) from (range_limit hi) r → first_units classes lo hi from ≡ End (get_or classes 255 0 + 1) ∷ first_units classes lo hi 257
+    IsFirstWhere (is_first classes lo) from (range_limit hi) r → first_units classes lo hi from ≡ End
+        (get_or classes 255 0 + 1) ∷ first_units classes lo hi 257
 first_end classes lo hi from r e f p h =
     first_none classes lo hi from r e h
     ∙ ap (λ o. end_left classes o from) f
     ∙ ap (λ t. cond t (End (get_or classes 255 0 + 1) ∷ []) []) (le-leb from 256 p)
-    ∙ ap (λ us. End (get_or classes 255 0 + 1) ∷ us) (sym (first_after classes lo 257 (omega arith)) ∙ ap (λ o. first_units classes lo o 257) (sym f))
+    ∙ ap (λ us. End (get_or classes 255 0 + 1) ∷ us) (sym (first_after classes lo 257 (omega arith))
+        ∙ ap (λ o. first_units classes lo o 257) (sym f))

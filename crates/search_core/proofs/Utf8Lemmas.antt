@@ -1,5 +1,6 @@
 -- Spellings are the bytes that `encode_utf8` gives, and texts of spellings are what std calls UTF-8.
-use Rattle.std.proofs.Common.{◌≡◌, ℕ, ◌+◌, ◌/◌, ◌%◌, ◌<◌, ◌≤◌, inl, inr, true, List, [], ◌∷◌, ◌++◌, IsUtf8, refl, sym, ap, ap₂, subst, ◌∙◌, arith, append-nil, lt-ltb, le-ltb}
+use Rattle.std.proofs.Common.{◌≡◌, ℕ, ◌+◌, ◌/◌, ◌%◌, ◌<◌, ◌≤◌, inl, inr, true, List, [], ◌∷◌, ◌++◌, IsUtf8, refl, sym, ap, ap₂, subst, ◌∙◌}
+use Rattle.std.proofs.Common.{arith, append-nil, lt-ltb, le-ltb}
 use Rattle.std.proofs.lemmas.Bool.{cond-true, cond-false, cases_lt, and_parts, and_from}
 use Rattle.std.proofs.lemmas.Bool.Decides.{nat_tests}
 use Rattle.std.proofs.lemmas.Str.{encode_ascii, encode_same}
@@ -7,7 +8,8 @@ use Rattle.std.specs.Char.{IsScalar, InScalarRange, encode_utf8}
 use Rattle.std.specs.Int.{IsInRange}
 use Rattle.std.specs.Str.{encode_utf8_all, all_scalars}
 use Rattle.search_core.specs.Utf8.{IsContinuation, scalar_of_two, scalar_of_three, scalar_of_four, Spells, IsValidText}
-use Rattle.search_core.specs.Utf8.Spells.{from_0000, from_0080, from_0800, from_1000, from_d000, from_e000, from_10000, from_40000, from_100000}
+use Rattle.search_core.specs.Utf8.Spells.{from_0000, from_0080, from_0800, from_1000, from_d000, from_e000, from_10000, from_40000}
+use Rattle.search_core.specs.Utf8.Spells.{from_100000}
 use Rattle.search_core.specs.Utf8.IsValidText.{no_spelling, spelling_then}
 
 pub encode_two : (c : ℕ) → 0x80 ≤ c → c < 0x800 → encode_utf8 c ≡ (192 + c / 64) ∷ (128 + c % 64) ∷ []
@@ -40,7 +42,8 @@ two_bytes_of a b c r t v =
     let next : 128 + c % 64 ≡ b = omega arith in
     (IsScalar-of_range c (inl (omega arith)), encode_two c (omega arith) (omega arith) ∙ cc)
 
-three_bytes_of : (a b d c : ℕ) → InScalarRange c → 0x800 ≤ c → IsInRange 0xE0 0xEF a → IsContinuation b → IsContinuation d → c ≡ scalar_of_three a b d →
+three_bytes_of : (a b d c : ℕ) → InScalarRange c → 0x800 ≤ c → IsInRange 0xE0 0xEF a → IsContinuation b → IsContinuation d →
+    c ≡ scalar_of_three a b d →
     IsScalar c × (encode_utf8 c ≡ a ∷ b ∷ d ∷ [])
 three_bytes_of a b d c s low r t u v =
     let lead : 224 + c / 4096 ≡ a = omega arith in
@@ -48,7 +51,8 @@ three_bytes_of a b d c s low r t u v =
     let last : 128 + c % 64 ≡ d = omega arith in
     (IsScalar-of_range c s, encode_three c low (omega arith) ∙ cc)
 
-four_bytes_of : (a b d e c : ℕ) → 0x1_0000 ≤ c → c ≤ 0x10_FFFF → IsInRange 0xF0 0xF4 a → IsContinuation b → IsContinuation d → IsContinuation e → c ≡ scalar_of_four a b d e →
+four_bytes_of : (a b d e c : ℕ) → 0x1_0000 ≤ c → c ≤ 0x10_FFFF → IsInRange 0xF0 0xF4 a → IsContinuation b → IsContinuation d →
+    IsContinuation e → c ≡ scalar_of_four a b d e →
     IsScalar c × (encode_utf8 c ≡ a ∷ b ∷ d ∷ e ∷ [])
 four_bytes_of a b d e c low high r t u w v =
     let lead : 240 + c / 262144 ≡ a = omega arith in
@@ -82,7 +86,8 @@ spelling_encodes c s (from_100000 a b d f r t u w e v) =
 -- the row of a scalar, by its range
 encoded_two : (c : ℕ) (s : List ℕ) → 0x80 ≤ c → c < 0x800 → encode_utf8 c ≡ s → Spells c s
 encoded_two c s low high e =
-    from_0080 (192 + c / 64) (128 + c % 64) (omega arith, omega arith) (omega arith, omega arith) (sym e ∙ encode_two c low high) (omega arith)
+    from_0080 (192 + c / 64) (128 + c % 64) (omega arith, omega arith) (omega arith,
+        omega arith) (sym e ∙ encode_two c low high) (omega arith)
 
 module _ (c : ℕ) (s : List ℕ) (low : 0x800 ≤ c) (high : c < 0x1_0000) (e : encode_utf8 c ≡ s) where
   is_three : s ≡ (224 + c / 4096) ∷ (128 + (c / 64) % 64) ∷ (128 + c % 64) ∷ []
@@ -112,10 +117,13 @@ module _ (c : ℕ) (s : List ℕ) (low : 0x1_0000 ≤ c) (high : c ≤ 0x10_FFFF
 
   encoded_four : Spells c s
   encoded_four = elim (cases_lt c 0x4_0000) [
-    | inl a ↦ from_10000 _ _ _ _ (omega arith) (omega arith, omega arith) (omega arith, omega arith) (omega arith, omega arith) is_four value_four
+    | inl a ↦ from_10000 _ _ _ _ (omega arith) (omega arith, omega arith) (omega arith, omega arith) (omega arith,
+        omega arith) is_four value_four
     | inr b ↦ elim (cases_lt c 0x10_0000) [
-      | inl a ↦ from_40000 _ _ _ _ (omega arith, omega arith) (omega arith, omega arith) (omega arith, omega arith) (omega arith, omega arith) is_four value_four
-      | inr b ↦ from_100000 _ _ _ _ (omega arith) (omega arith, omega arith) (omega arith, omega arith) (omega arith, omega arith) is_four value_four
+      | inl a ↦ from_40000 _ _ _ _ (omega arith, omega arith) (omega arith, omega arith) (omega arith, omega arith) (omega arith,
+          omega arith) is_four value_four
+      | inr b ↦ from_100000 _ _ _ _ (omega arith) (omega arith, omega arith) (omega arith, omega arith) (omega arith,
+          omega arith) is_four value_four
     ]
   ]
 

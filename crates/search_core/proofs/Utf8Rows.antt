@@ -2,7 +2,8 @@
 use Rattle.std.proofs.Common.{◌≡◌, ℕ, true, false, [], ◌∷◌, Some, None, refl, arith}
 use Rattle.search_core.specs.Text.{byte_at, byte_before}
 use Rattle.search_core.specs.Utf8.{Spells, is_boundary, is_word_byte}
-use Rattle.search_core.specs.Utf8.Spells.{from_0000, from_0080, from_0800, from_1000, from_d000, from_e000, from_10000, from_40000, from_100000}
+use Rattle.search_core.specs.Utf8.Spells.{from_0000, from_0080, from_0800, from_1000, from_d000, from_e000, from_10000, from_40000}
+use Rattle.search_core.specs.Utf8.Spells.{from_100000}
 
 first_0000 : Spells 0x0 (0x00 ∷ [])
 first_0000 = from_0000 0x00 (omega arith, omega arith) refl refl
@@ -47,16 +48,20 @@ last_10000 : Spells 0x3FFFF (0xF0 ∷ 0xBF ∷ 0xBF ∷ 0xBF ∷ [])
 last_10000 = from_10000 0xF0 0xBF 0xBF 0xBF refl (omega arith, omega arith) (omega arith, omega arith) (omega arith, omega arith) refl refl
 
 first_40000 : Spells 0x40000 (0xF1 ∷ 0x80 ∷ 0x80 ∷ 0x80 ∷ [])
-first_40000 = from_40000 0xF1 0x80 0x80 0x80 (omega arith, omega arith) (omega arith, omega arith) (omega arith, omega arith) (omega arith, omega arith) refl refl
+first_40000 = from_40000 0xF1 0x80 0x80 0x80 (omega arith, omega arith) (omega arith, omega arith) (omega arith, omega arith) (omega arith,
+    omega arith) refl refl
 
 last_40000 : Spells 0xFFFFF (0xF3 ∷ 0xBF ∷ 0xBF ∷ 0xBF ∷ [])
-last_40000 = from_40000 0xF3 0xBF 0xBF 0xBF (omega arith, omega arith) (omega arith, omega arith) (omega arith, omega arith) (omega arith, omega arith) refl refl
+last_40000 = from_40000 0xF3 0xBF 0xBF 0xBF (omega arith, omega arith) (omega arith, omega arith) (omega arith, omega arith) (omega arith,
+    omega arith) refl refl
 
 first_100000 : Spells 0x100000 (0xF4 ∷ 0x80 ∷ 0x80 ∷ 0x80 ∷ [])
-first_100000 = from_100000 0xF4 0x80 0x80 0x80 refl (omega arith, omega arith) (omega arith, omega arith) (omega arith, omega arith) refl refl
+first_100000 = from_100000 0xF4 0x80 0x80 0x80 refl (omega arith, omega arith) (omega arith, omega arith) (omega arith,
+    omega arith) refl refl
 
 last_100000 : Spells 0x10FFFF (0xF4 ∷ 0x8F ∷ 0xBF ∷ 0xBF ∷ [])
-last_100000 = from_100000 0xF4 0x8F 0xBF 0xBF refl (omega arith, omega arith) (omega arith, omega arith) (omega arith, omega arith) refl refl
+last_100000 = from_100000 0xF4 0x8F 0xBF 0xBF refl (omega arith, omega arith) (omega arith, omega arith) (omega arith,
+    omega arith) refl refl
 
 overlong_two : (c : ℕ) → ¬ (Spells c (0xC0 ∷ 0x80 ∷ []))
 overlong_two c h = grind arith

@@ -1,5 +1,6 @@
 -- The bytes that pass a test, one after the other, and sets of bytes: a list with a test for each byte.
-use Rattle.std.specs.Prelude.{◌≡◌, ◌<◌, ◌≤◌, ◌+◌, ◌-◌, ◌&&◌, nat_lt, not, ℕ, Bool, true, false, MatchOption, Option, slice_index_or, drop, List, map}
+use Rattle.std.specs.Prelude.{◌≡◌, ◌<◌, ◌≤◌, ◌+◌, ◌-◌, ◌&&◌, nat_lt, not, ℕ, Bool, true, false, MatchOption, Option, slice_index_or, drop}
+use Rattle.std.specs.Prelude.{List, map}
 use Rattle.std.specs.List.{filter, range_with_len, prefix_len}
 
 -- the bytes from `from` on and below `end` that pass the test, ascending

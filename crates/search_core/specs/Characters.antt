@@ -25,7 +25,8 @@ three_bytes h k =
 
 abbrev pub four_bytes : List ℕ → ℕ → Option ℕ
 four_bytes h k =
-    if second_of_four (byte_or_zero h k) (byte_or_zero h (k + 1)) && is_in_range 0x80 0xBF (byte_or_zero h (k + 2)) && is_in_range 0x80 0xBF (byte_or_zero h (k + 3))
+    if second_of_four (byte_or_zero h k) (byte_or_zero h (k + 1)) && is_in_range 0x80 0xBF (byte_or_zero h (k + 2))
+        && is_in_range 0x80 0xBF (byte_or_zero h (k + 3))
     then Some (scalar_of_four (byte_or_zero h k) (byte_or_zero h (k + 1)) (byte_or_zero h (k + 2)) (byte_or_zero h (k + 3))) else None
 
 -- the character whose spelling begins at the place; no two of these lengths fit at once
@@ -38,7 +39,8 @@ ending_at n spelled h i = if nat_le n i then spelled h (i - n) else None
 
 -- the character whose spelling ends at the place
 abbrev pub character_before : List ℕ → ℕ → Option ℕ
-character_before h i = option_or (ending_at 1 one_byte h i) (option_or (ending_at 2 two_bytes h i) (option_or (ending_at 3 three_bytes h i) (ending_at 4 four_bytes h i)))
+character_before h i = option_or (ending_at 1 one_byte h i) (option_or (ending_at 2 two_bytes h i)
+    (option_or (ending_at 3 three_bytes h i) (ending_at 4 four_bytes h i)))
 
 -- how many bytes spell the scalar
 abbrev pub spelling_len : ℕ → ℕ

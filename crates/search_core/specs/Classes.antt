@@ -1,5 +1,6 @@
 -- A class for each byte, as a list of the 256 classes.
-use Rattle.std.specs.Prelude.{◌≡◌, ◌≤◌, ◌<◌, ◌+◌, ◌⊎◌, ◌-◌, ◌^◌, ◌==◌, ◌||◌, ◌++◌, nat_le, not, cond, map, ℕ, Bool, Option, Some, None, List, [], ◌∷◌, slice_index}
+use Rattle.std.specs.Prelude.{◌≡◌, ◌≤◌, ◌<◌, ◌+◌, ◌⊎◌, ◌-◌, ◌^◌, ◌==◌, ◌||◌, ◌++◌, nat_le, not, cond, map, ℕ, Bool, Option, Some, None}
+use Rattle.std.specs.Prelude.{List, [], ◌∷◌, slice_index}
 use Rattle.std.specs.List.{range_with_len}
 use Rattle.search_core.specs.ByteSets.{bytes_where}
 use Rattle.search_core.specs.declared.unit.Unit.{Unit as InputUnit}
@@ -18,7 +19,8 @@ alphabet_size classes = slice_index classes 255 + 2
 -- one by one need not
 pub record IsRising (classes : List ℕ) : Type 0 where
   pub start : slice_index classes 0 ≡ 0
-  pub next : (b : ℕ) → b < 255 → (slice_index classes (b + 1) ≡ slice_index classes b) ⊎ (slice_index classes (b + 1) ≡ slice_index classes b + 1)
+  pub next : (b : ℕ) → b < 255 → (slice_index classes (b + 1) ≡ slice_index classes b) ⊎
+      (slice_index classes (b + 1) ≡ slice_index classes b + 1)
 
 -- whether 2 ^ k is the least power of two that isn't below n
 abbrev pub IsLeastExponent : ℕ → ℕ → Type 0

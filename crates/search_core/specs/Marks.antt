@@ -1,5 +1,6 @@
 -- Marks on bytes: the bytes b and b + 1 stand in different classes exactly where b has a mark.
-use Rattle.std.specs.Prelude.{◌≡◌, ◌<◌, ◌≤◌, ◌⊎◌, ◌-◌, ◌==◌, ℕ, Bool, true, false, cond, length, take, count_by, slice_set, slice_index_or, List}
+use Rattle.std.specs.Prelude.{◌≡◌, ◌<◌, ◌≤◌, ◌⊎◌, ◌-◌, ◌==◌, ℕ, Bool, true, false, cond, length, take, count_by, slice_set, slice_index_or}
+use Rattle.std.specs.Prelude.{List}
 use Rattle.std.specs.List.{fold}
 
 -- how many of the bytes below b have a mark

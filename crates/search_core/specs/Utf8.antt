@@ -1,6 +1,7 @@
 -- UTF-8: which bytes spell a scalar value, by Table 3-7 of the Unicode Standard, and where a text of such spellings may
 -- be cut.
-use Rattle.std.specs.Prelude.{◌≡◌, ℕ, ◌+◌, ◌-◌, ◌*◌, ◌<◌, Bool, ◌&&◌, ◌||◌, ◌==◌, nat_lt, nat_le, List, [], ◌∷◌, ◌++◌, length, slice_index, Option, Some, None, Result, Ok, Err}
+use Rattle.std.specs.Prelude.{◌≡◌, ℕ, ◌+◌, ◌-◌, ◌*◌, ◌<◌, Bool, ◌&&◌, ◌||◌, ◌==◌, nat_lt, nat_le, List, [], ◌∷◌, ◌++◌, length, slice_index}
+use Rattle.std.specs.Prelude.{Option, Some, None, Result, Ok, Err}
 use Rattle.std.specs.Int.{IsInRange, is_in_range}
 use Rattle.search_core.specs.Text.{byte_at, byte_before}
 
@@ -22,13 +23,20 @@ scalar_of_four a b d e = (a - 0xF0) * 262144 + (b - 0x80) * 4096 + (d - 0x80) * 
 pub data Spells (c : ℕ) (bytes : List ℕ) : Type 0 where
   from_0000 : (a : ℕ) → IsInRange 0x00 0x7F a → bytes ≡ a ∷ [] → c ≡ a → Spells c bytes
   from_0080 : (a b : ℕ) → IsInRange 0xC2 0xDF a → IsContinuation b → bytes ≡ a ∷ b ∷ [] → c ≡ scalar_of_two a b → Spells c bytes
-  from_0800 : (a b d : ℕ) → a ≡ 0xE0 → IsInRange 0xA0 0xBF b → IsContinuation d → bytes ≡ a ∷ b ∷ d ∷ [] → c ≡ scalar_of_three a b d → Spells c bytes
-  from_1000 : (a b d : ℕ) → IsInRange 0xE1 0xEC a → IsContinuation b → IsContinuation d → bytes ≡ a ∷ b ∷ d ∷ [] → c ≡ scalar_of_three a b d → Spells c bytes
-  from_d000 : (a b d : ℕ) → a ≡ 0xED → IsInRange 0x80 0x9F b → IsContinuation d → bytes ≡ a ∷ b ∷ d ∷ [] → c ≡ scalar_of_three a b d → Spells c bytes
-  from_e000 : (a b d : ℕ) → IsInRange 0xEE 0xEF a → IsContinuation b → IsContinuation d → bytes ≡ a ∷ b ∷ d ∷ [] → c ≡ scalar_of_three a b d → Spells c bytes
-  from_10000 : (a b d e : ℕ) → a ≡ 0xF0 → IsInRange 0x90 0xBF b → IsContinuation d → IsContinuation e → bytes ≡ a ∷ b ∷ d ∷ e ∷ [] → c ≡ scalar_of_four a b d e → Spells c bytes
-  from_40000 : (a b d e : ℕ) → IsInRange 0xF1 0xF3 a → IsContinuation b → IsContinuation d → IsContinuation e → bytes ≡ a ∷ b ∷ d ∷ e ∷ [] → c ≡ scalar_of_four a b d e → Spells c bytes
-  from_100000 : (a b d e : ℕ) → a ≡ 0xF4 → IsInRange 0x80 0x8F b → IsContinuation d → IsContinuation e → bytes ≡ a ∷ b ∷ d ∷ e ∷ [] → c ≡ scalar_of_four a b d e → Spells c bytes
+  from_0800 : (a b d : ℕ) → a ≡ 0xE0 → IsInRange 0xA0 0xBF b → IsContinuation d → bytes ≡ a ∷ b ∷ d ∷ [] → c ≡ scalar_of_three a b d →
+      Spells c bytes
+  from_1000 : (a b d : ℕ) → IsInRange 0xE1 0xEC a → IsContinuation b → IsContinuation d → bytes ≡ a ∷ b ∷ d ∷ [] →
+      c ≡ scalar_of_three a b d → Spells c bytes
+  from_d000 : (a b d : ℕ) → a ≡ 0xED → IsInRange 0x80 0x9F b → IsContinuation d → bytes ≡ a ∷ b ∷ d ∷ [] → c ≡ scalar_of_three a b d →
+      Spells c bytes
+  from_e000 : (a b d : ℕ) → IsInRange 0xEE 0xEF a → IsContinuation b → IsContinuation d → bytes ≡ a ∷ b ∷ d ∷ [] →
+      c ≡ scalar_of_three a b d → Spells c bytes
+  from_10000 : (a b d e : ℕ) → a ≡ 0xF0 → IsInRange 0x90 0xBF b → IsContinuation d → IsContinuation e → bytes ≡ a ∷ b ∷ d ∷ e ∷ [] →
+      c ≡ scalar_of_four a b d e → Spells c bytes
+  from_40000 : (a b d e : ℕ) → IsInRange 0xF1 0xF3 a → IsContinuation b → IsContinuation d → IsContinuation e → bytes ≡ a ∷ b ∷ d ∷ e ∷ [] →
+      c ≡ scalar_of_four a b d e → Spells c bytes
+  from_100000 : (a b d e : ℕ) → a ≡ 0xF4 → IsInRange 0x80 0x8F b → IsContinuation d → IsContinuation e → bytes ≡ a ∷ b ∷ d ∷ e ∷ [] →
+      c ≡ scalar_of_four a b d e → Spells c bytes
 
 -- a spelling of c stands at the start of the bytes
 pub record SpellsFirst (c : ℕ) (bytes : List ℕ) : Type 0 where
@@ -60,7 +68,8 @@ DecodesLast bytes (Some (Err b)) = (byte_before bytes (length bytes) ≡ Some b)
 -- the bytes are spellings of scalars, one after another
 pub data IsValidText : List ℕ → Type 0 where
   no_spelling : (bytes : List ℕ) → bytes ≡ [] → IsValidText bytes
-  spelling_then : (c : ℕ) (spelling rest bytes : List ℕ) → Spells c spelling → IsValidText rest → bytes ≡ spelling ++ rest → IsValidText bytes
+  spelling_then : (c : ℕ) (spelling rest bytes : List ℕ) → Spells c spelling → IsValidText rest → bytes ≡ spelling ++ rest →
+      IsValidText bytes
 
 -- the place lies strictly inside a spelling of the valid text h
 pub record IsSplit (h : List ℕ) (i : ℕ) : Type 0 where

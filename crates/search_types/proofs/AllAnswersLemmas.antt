@@ -1,5 +1,6 @@
 -- The list of all answers: each step of a loop that writes it, that the ends rise, and that no answer is cut off.
-use Rattle.std.proofs.Common.{◌≡◌, ℕ, zero, suc, ◌+◌, ◌-◌, ◌<◌, ◌≤◌, ◌&&◌, Bool, true, false, cond, if◌then◌else◌, List, [], ◌∷◌, ◌++◌, Option, Some, None, nat_eq, refl, sym, ap, ◌∙◌, inl, inr, arith, append-nil, append_assoc, eq-eqb}
+use Rattle.std.proofs.Common.{◌≡◌, ℕ, zero, suc, ◌+◌, ◌-◌, ◌<◌, ◌≤◌, ◌&&◌, Bool, true, false, cond, if◌then◌else◌, List, [], ◌∷◌, ◌++◌}
+use Rattle.std.proofs.Common.{Option, Some, None, nat_eq, refl, sym, ap, ◌∙◌, inl, inr, arith, append-nil, append_assoc, eq-eqb}
 use Rattle.std.specs.List.{All}
 use Rattle.std.proofs.lemmas.Bool.{cases_lt}
 use Rattle.search_types.specs.Found.{Found}
@@ -15,7 +16,8 @@ answer_written answer written n m last at f e is =
     ∙ ap (λ k. written ++ answers_from answer k last at) (sym e)
 
 -- what is written is the whole list: there is no further answer ...
-pub answers_done : (answer : ℕ → Option Found) (written : List Found) (n : ℕ) (last : Option ℕ) (at : ℕ) → None ≡ next_answer answer last at →
+pub answers_done : (answer : ℕ → Option Found) (written : List Found) (n : ℕ) (last : Option ℕ) (at : ℕ) →
+    None ≡ next_answer answer last at →
     written ≡ written ++ answers_from answer n last at
 answers_done answer written zero last at is = sym (append-nil written)
 answers_done answer written (suc n) last at is =
@@ -113,7 +115,8 @@ module _ (answer : ℕ → Option Found) (e : ℕ) (ok : AnswersWithin answer e)
       let past = next_past at f next in
       let low = past.starts in
       let later = past.later in
-      All-cons (λ g. (s ≤ g.start) × (g.start ≤ g.end) × (g.end ≤ e)) f (on f) (omega arith, past.forward, past.within) (others f (omega arith))
+      All-cons (λ g. (s ≤ g.start) × (g.start ≤ g.end) × (g.end ≤ e)) f (on f) (omega arith, past.forward,
+          past.within) (others f (omega arith))
 
   spans_after : (s n at : ℕ) → s ≤ at → All (λ g. (s ≤ g.start) × (g.start ≤ g.end) × (g.end ≤ e)) (answers_from answer n (Some at) at)
   spans_after s zero at le = All-nil (λ g. (s ≤ g.start) × (g.start ≤ g.end) × (g.end ≤ e))
@@ -150,7 +153,8 @@ module _ (answer : ℕ → Option Found) (e : ℕ) (ok : AnswersWithin answer e)
   same_after zero (suc m) at a b = none_on at _ (omega arith) (next_answer answer (Some at) at) refl
   same_after (suc n) zero at a b = sym (none_on at _ (omega arith) (next_answer answer (Some at) at) refl)
   same_after (suc n) (suc m) at a b =
-      same_on at _ _ (λ f past. let later = past.later in same_after n m f.end (omega arith) (omega arith)) (next_answer answer (Some at) at) refl
+      same_on at _ _ (λ f past. let later = past.later in same_after n m f.end (omega arith) (omega arith))
+          (next_answer answer (Some at) at) refl
 
   none_first : (s : ℕ) (on : Found → List Found) → e < s → (o : Option Found) → answer s ≡ o → [] ≡ and_on o on
   none_first s on le None next = refl

@@ -1,5 +1,6 @@
 -- The leftmost-first answer by its property.
-use Rattle.std.proofs.Common.{◌≡◌, ℕ, zero, suc, ◌+◌, ◌-◌, ◌<◌, ◌≤◌, Bool, true, false, if◌then◌else◌, List, [], ◌∷◌, Option, Some, None, nat_le, refl, sym, ap, ◌∙◌, subst, inl, inr, arith, leb-true}
+use Rattle.std.proofs.Common.{◌≡◌, ℕ, zero, suc, ◌+◌, ◌-◌, ◌<◌, ◌≤◌, Bool, true, false, if◌then◌else◌, List, [], ◌∷◌, Option, Some, None}
+use Rattle.std.proofs.Common.{nat_le, refl, sym, ap, ◌∙◌, subst, inl, inr, arith, leb-true}
 use Rattle.std.specs.Option.{option_or}
 use Rattle.std.proofs.lemmas.Bool.{cases_lt}
 use Rattle.search_types.specs.declared.anchored.Anchored.{Anchored}
@@ -35,7 +36,8 @@ module _ (choices_at : ℕ → List (ℕ × ℕ)) where
     ];
   }
 
-  at_place : (n s e : ℕ) (cs : List (ℕ × ℕ)) → choices_at s ≡ cs → s ≤ e → IsLeastAnswer choices_at (s + 1) e (leftmost choices_at n (s + 1)) →
+  at_place : (n s e : ℕ) (cs : List (ℕ × ℕ)) → choices_at s ≡ cs → s ≤ e →
+      IsLeastAnswer choices_at (s + 1) e (leftmost choices_at n (s + 1)) →
       IsLeastAnswer choices_at s e (option_or (first_choice s cs) (leftmost choices_at n (s + 1)))
   at_place n s e [] is le rest = one_more s e (leftmost choices_at n (s + 1)) is rest
   at_place n s e (c ∷ cs) is le rest = record {
@@ -51,7 +53,8 @@ module _ (choices_at : ℕ → List (ℕ × ℕ)) where
       at_place n s e (choices_at s) refl (omega arith) (leftmost_is_least n (s + 1) e (omega arith))
 
   -- the least place is the least at which the mode lets a search start
-  of_least : (mode : Anchored) (s e : ℕ) (o : Option Found) → s ≤ e → IsLeastAnswer choices_at s (last_start mode s e) o → IsAnswer choices_at mode s e o
+  of_least : (mode : Anchored) (s e : ℕ) (o : Option Found) → s ≤ e → IsLeastAnswer choices_at s (last_start mode s e) o →
+      IsAnswer choices_at mode s e o
   of_least mode s e None le is = λ i starts. let at = starts_at mode s e i starts in is i at.from_s at.to_last
   of_least mode s e (Some f) le is = record {
     starts = may_start_at mode s e f.start le is.from_s is.to_e;
@@ -78,7 +81,8 @@ module _ (choices_at : ℕ → List (ℕ × ℕ)) where
       first_choice g.start (choices_at g.start) ≡ Some g → Some f ≡ Some g
   same_start f g e first other = sym first ∙ (ap (λ i. first_choice i (choices_at i)) e ∙ other)
 
-  pub one_answer : (mode : Anchored) (s e : ℕ) (o p : Option Found) → IsAnswer choices_at mode s e o → IsAnswer choices_at mode s e p → o ≡ p
+  pub one_answer : (mode : Anchored) (s e : ℕ) (o p : Option Found) → IsAnswer choices_at mode s e o → IsAnswer choices_at mode s e p →
+      o ≡ p
   one_answer mode s e None None is other = refl
   one_answer mode s e None (Some g) is other = absurd (none_and_some g (is g.start other.starts) other.first)
   one_answer mode s e (Some f) None is other = absurd (none_and_some f (other f.start is.starts) is.first)

@@ -1,5 +1,6 @@
 -- The spans of groups, and what they cut out of a haystack.
-use Rattle.std.proofs.Common.{◌≡◌, ℕ, zero, suc, ◌+◌, ◌-◌, ◌<◌, ◌≤◌, List, [], ◌∷◌, ◌++◌, take, drop, Option, Some, None, Bool, ap, ◌∙◌, sym, arith, refl, length, map, set, append-nil}
+use Rattle.std.proofs.Common.{◌≡◌, ℕ, zero, suc, ◌+◌, ◌-◌, ◌<◌, ◌≤◌, List, [], ◌∷◌, ◌++◌, take, drop, Option, Some, None, Bool, ap, ◌∙◌}
+use Rattle.std.proofs.Common.{sym, arith, refl, length, map, set, append-nil}
 use Rattle.std.proofs.lemmas.Bool.Decides.{nat_tests}
 use Rattle.std.proofs.lemmas.List.{append_assoc, take_all, take_more_set, map-set, length-map}
 use Rattle.std.specs.Option.{option_map, option_and_then}
@@ -9,7 +10,8 @@ use Rattle.search_types.specs.CapturesLends.{with_slots}
 use Rattle.search_types.specs.CapturesValue.{CapturesValue, group_span, spans_from, first_slot, cut_span, cut_spans}
 
 -- the first span and the ones behind it
-pub spans_first : (c : CapturesValue) (g end : ℕ) → g < end → spans_from c g (end - g) ≡ group_span c g ∷ spans_from c (g + 1) (end - (g + 1))
+pub spans_first : (c : CapturesValue) (g end : ℕ) → g < end → spans_from c g (end - g) ≡ group_span c g ∷ spans_from c (g + 1)
+    (end - (g + 1))
 spans_first c g end h =
     let n : end - g ≡ suc (end - (g + 1)) = omega arith in
     ap (spans_from c g) n
@@ -32,28 +34,36 @@ onto_twice xs ys (Some zs) = ap Some (sym (append_assoc xs ys zs))
 
 module _ (cuts : Span → Bool) (h : List ℕ) where
   -- the next span cuts nothing out, or it does
-  pub cut_refused : (n : ℕ) (spans rest : List Span) (s : Span) → spans ≡ s ∷ rest → None ≡ cut_span cuts h s → cut_spans cuts h (suc n) spans ≡ None
+  pub cut_refused : (n : ℕ) (spans rest : List Span) (s : Span) → spans ≡ s ∷ rest → None ≡ cut_span cuts h s →
+      cut_spans cuts h (suc n) spans ≡ None
   cut_refused n spans rest s e f =
-      ap (cut_spans cuts h (suc n)) e ∙ ap (λ o. option_and_then (λ part. option_map (λ parts. part ∷ parts) (cut_spans cuts h n rest)) o) (sym f)
+      ap (cut_spans cuts h (suc n)) e ∙ ap (λ o. option_and_then (λ part. option_map (λ parts. part ∷ parts) (cut_spans cuts h n rest)) o)
+          (sym f)
 
   pub cut_goes : (n : ℕ) (spans rest : List Span) (s : Span) (part : List ℕ) → spans ≡ s ∷ rest → Some part ≡ cut_span cuts h s →
       cut_spans cuts h (suc n) spans ≡ onto_parts (part ∷ []) (cut_spans cuts h n rest)
   cut_goes n spans rest s part e f =
-      ap (cut_spans cuts h (suc n)) e ∙ ap (λ o. option_and_then (λ part. option_map (λ parts. part ∷ parts) (cut_spans cuts h n rest)) o) (sym f)
+      ap (cut_spans cuts h (suc n)) e ∙ ap (λ o. option_and_then (λ part. option_map (λ parts. part ∷ parts) (cut_spans cuts h n rest)) o)
+          (sym f)
 
 -- what the loop over the groups behind the first one keeps, where the next span cuts nothing out, where it does, and at the end
-pub none_from_here : (cuts : Span → Bool) (h : List ℕ) (all : Option (List (List ℕ))) (front : List (List ℕ)) (index end : ℕ) (spans : List Span) →
-    all ≡ onto_parts front (cut_spans cuts h (end - index) spans) → index < end → ((n : ℕ) → cut_spans cuts h (suc n) spans ≡ None) → None ≡ all
+pub none_from_here : (cuts : Span → Bool) (h : List ℕ) (all : Option (List (List ℕ))) (front : List (List ℕ)) (index end : ℕ)
+    (spans : List Span) →
+    all ≡ onto_parts front (cut_spans cuts h (end - index) spans) → index < end → ((n : ℕ) → cut_spans cuts h (suc n) spans ≡ None) →
+        None ≡ all
 none_from_here cuts h all front index end spans told below none =
     let n : end - index ≡ suc (end - (index + 1)) = omega arith in
     sym (told ∙ ap (λ m. onto_parts front (cut_spans cuts h m spans)) n ∙ ap (onto_parts front) (none (end - (index + 1))))
 
 module _ {H : Type 0} (bytes : H → List ℕ) where
   -- the parts so far, once one more is stored
-  store : (parts : List H) (index : ℕ) (part : H) → index < length parts → take (index + 1) (map bytes (set parts index part)) ≡ take index (map bytes parts) ++ bytes part ∷ []
-  store parts index part h = ap (take (index + 1)) (map-set bytes parts index part) ∙ take_more_set (map bytes parts) index (bytes part) (omega (arith, length-map parts bytes))
+  store : (parts : List H) (index : ℕ) (part : H) → index < length parts →
+      take (index + 1) (map bytes (set parts index part)) ≡ take index (map bytes parts) ++ bytes part ∷ []
+  store parts index part h = ap (take (index + 1)) (map-set bytes parts index part)
+      ∙ take_more_set (map bytes parts) index (bytes part) (omega (arith, length-map parts bytes))
 
-  pub parts_more : (cuts : Span → Bool) (h : List ℕ) (all : Option (List (List ℕ))) (whole part : H) (parts : List H) (index end : ℕ) (spans rest : List Span) (s : Span) →
+  pub parts_more : (cuts : Span → Bool) (h : List ℕ) (all : Option (List (List ℕ))) (whole part : H) (parts : List H) (index end : ℕ)
+      (spans rest : List Span) (s : Span) →
       length parts ≡ end → index < end →
       all ≡ onto_parts (bytes whole ∷ take index (map bytes parts)) (cut_spans cuts h (end - index) spans) →
       spans ≡ s ∷ rest → Some (bytes part) ≡ cut_span cuts h s →
@@ -67,9 +77,11 @@ module _ {H : Type 0} (bytes : H → List ℕ) where
       ∙ onto_twice front (bytes part ∷ []) left
       ∙ ap (λ texts. onto_parts (bytes whole ∷ texts) left) (sym (store parts index part (omega arith)))
 
-  pub parts_end : (cuts : Span → Bool) (h : List ℕ) (all : Option (List (List ℕ))) (whole : H) (parts : List H) (index end : ℕ) (spans : List Span) →
+  pub parts_end : (cuts : Span → Bool) (h : List ℕ) (all : Option (List (List ℕ))) (whole : H) (parts : List H) (index end : ℕ)
+      (spans : List Span) →
       length parts ≡ end → end ≤ index →
-      all ≡ onto_parts (bytes whole ∷ take index (map bytes parts)) (cut_spans cuts h (end - index) spans) → Some (bytes whole ∷ map bytes parts) ≡ all
+      all ≡ onto_parts (bytes whole ∷ take index (map bytes parts)) (cut_spans cuts h (end - index) spans) →
+          Some (bytes whole ∷ map bytes parts) ≡ all
   parts_end cuts h all whole parts index end spans len past told =
       let n : end - index ≡ 0 = omega arith in
       let texts = take_all index (map bytes parts) (omega (arith, length-map parts bytes)) in

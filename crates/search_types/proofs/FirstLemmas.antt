@@ -22,7 +22,8 @@ module _ {A : Type 0} (offers : ℕ → List A) where
     none_before = λ k low high. none_here i k e low (λ lt. r.none_before k (omega arith) high);
   }
 
-  first_step : (n i : ℕ) (l rest : List A) → offers i ≡ l → IsFirstOffer offers (suc i) n (first_of rest) → IsFirstOffer offers i (suc n) (first_of (l ++ rest))
+  first_step : (n i : ℕ) (l rest : List A) → offers i ≡ l → IsFirstOffer offers (suc i) n (first_of rest) →
+      IsFirstOffer offers i (suc n) (first_of (l ++ rest))
   first_step n i [] rest e r = first_later n i (first_of rest) e r
   first_step n i (c ∷ cs) rest e r = record {
     place = i;

@@ -1,5 +1,6 @@
 -- Why a name finds exactly the group that has it, and a slot is of exactly one group.
-use Rattle.std.proofs.Common.{◌≡◌, ◌≢◌, ◌==◌, ℕ, zero, suc, ◌+◌, ◌-◌, ◌*◌, ◌<◌, ◌≤◌, ◌⊎◌, ◌↔◌, Bool, true, List, [], ◌∷◌, ◌++◌, length, take, get_or, refl, sym, ap, ◌∙◌, inl, inr, arith, Some, None, is_some, length-append, append_assoc}
+use Rattle.std.proofs.Common.{◌≡◌, ◌≢◌, ◌==◌, ℕ, zero, suc, ◌+◌, ◌-◌, ◌*◌, ◌<◌, ◌≤◌, ◌⊎◌, ◌↔◌, Bool, true, List, [], ◌∷◌, ◌++◌, length}
+use Rattle.std.proofs.Common.{take, get_or, refl, sym, ap, ◌∙◌, inl, inr, arith, Some, None, is_some, length-append, append_assoc}
 use Rattle.std.specs.Prelude.{Option, nat_lt, slice_get}
 use Rattle.std.specs.Option.{option_and_then, option_map}
 use Rattle.std.specs.List.{position}
@@ -7,8 +8,10 @@ use Rattle.std.proofs.lemmas.Bool.{cases_Bool, cases_lt, cond-true, cond-false, 
 use Rattle.std.proofs.lemmas.Option.{slice_get_within, slice_get-get_or}
 use Rattle.std.proofs.lemmas.List.Quantifiers.{position-Some}
 use Rattle.search_core.specs.Index.{greatest_index}
-use Rattle.search_types.specs.Groups.{Name, Groups, groups_of, explicit_slot_len, implicit_slot_len, slot_len, explicit_slot, is_named, to_name, to_index, slot}
-use Rattle.search_types.specs.GroupFaults.{TooManyPatterns, TooManyGroups, FirstMustBeUnnamed, Duplicate, group_fault, names_fault, numbered_fault, pattern_fault, fault_after, group_fault_after, name_fault}
+use Rattle.search_types.specs.Groups.{Name, Groups, groups_of, explicit_slot_len, implicit_slot_len, slot_len, explicit_slot, is_named}
+use Rattle.search_types.specs.Groups.{to_name, to_index, slot}
+use Rattle.search_types.specs.GroupFaults.{TooManyPatterns, TooManyGroups, FirstMustBeUnnamed, Duplicate, group_fault, names_fault}
+use Rattle.search_types.specs.GroupFaults.{numbered_fault, pattern_fault, fault_after, group_fault_after, name_fault}
 use Rattle.search_types.specs.GroupSlots.{IsSlotOf}
 use Rattle.search_types.proofs.IndexLemmas.{position_first, position_later, bytes_eq_path, bytes_eq_from, not_some}
 use Rattle.search_types.proofs.GroupLemmas.{none_first, none_second, no_names_fault, has_group, has_pattern, explicit_slot_in_range}
@@ -42,7 +45,8 @@ slot_known gs k p zero e = elim (cases_lt 0 (length (groups_of gs p))) [
   | inr h ↦ none_is_not k (slot gs p 0) (slot_none gs p 0 h) e
 ]
 slot_known gs k p (suc g) e = elim (cases_lt (suc g) (length (groups_of gs p))) [
-  | inl h ↦ (h, inr (omega arith, some_is (explicit_slot gs p (suc g)) k (slot gs p (suc g)) (slot_explicit gs p (suc g) (omega arith) h) e))
+  | inl h ↦ (h, inr (omega arith, some_is (explicit_slot gs p (suc g)) k (slot gs p (suc g))
+      (slot_explicit gs p (suc g) (omega arith) h) e))
   | inr h ↦ none_is_not k (slot gs p (suc g)) (slot_none gs p (suc g) h) e
 ]
 
@@ -96,13 +100,15 @@ other_is_explicit gs k p g s h =
     omega (arith, n.from, explicit_above gs n.first p g n.known s)
 
 -- ---- no slot is of two groups
-bases_rise : (gs : Groups) (p q : ℕ) → p < q → q < length gs → explicit_slot_len (take p gs) + (length (groups_of gs p) - 1) * 2 ≤ explicit_slot_len (take q gs)
+bases_rise : (gs : Groups) (p q : ℕ) → p < q → q < length gs → explicit_slot_len (take p gs) +
+    (length (groups_of gs p) - 1) * 2 ≤ explicit_slot_len (take q gs)
 bases_rise [] p q l h = absurd (omega (arith, h))
 bases_rise (names ∷ rest) p zero l h = absurd (omega (arith, l))
 bases_rise (names ∷ rest) zero (suc q) l h = omega arith
 bases_rise (names ∷ rest) (suc p) (suc q) l h = omega (arith, bases_rise rest p q (omega (arith, l)) (omega (arith, h)))
 
-explicit_rise : (gs : Groups) (p g q h : ℕ) → 0 < g → g < length (groups_of gs p) → 0 < h → h < length (groups_of gs q) → p < q → explicit_slot gs p g + 2 ≤ explicit_slot gs q h
+explicit_rise : (gs : Groups) (p g q h : ℕ) → 0 < g → g < length (groups_of gs p) → 0 < h → h < length (groups_of gs q) → p < q →
+    explicit_slot gs p g + 2 ≤ explicit_slot gs q h
 explicit_rise gs p g q h gs0 gl hs0 hl l =
     let here : q < length gs = has_pattern gs q h hl in
     omega (arith, bases_rise gs p q l here, gs0, gl, hs0)
@@ -211,7 +217,8 @@ none_under : {A : Type 0} {B : Type 0} (f : A → B) (o : Option A) → option_m
 none_under f None h = refl
 none_under f (Some x) h = absurd (grind (arith, h))
 
-position_here : {X : Type 0} (p : X → Bool) (xs : List X) (y : X) (ys : List X) → position p xs ≡ None → p y ≡ true → position p (xs ++ y ∷ ys) ≡ Some (length xs)
+position_here : {X : Type 0} (p : X → Bool) (xs : List X) (y : X) (ys : List X) → position p xs ≡ None → p y ≡ true →
+    position p (xs ++ y ∷ ys) ≡ Some (length xs)
 position_here p [] y ys n h = position_first p y ys h
 position_here p (x ∷ xs) y ys n h = elim (cases_Bool (p x)) [
   | inl e ↦ none_is_not 0 (position p (x ∷ xs)) n (position_first p x xs e)
@@ -221,13 +228,16 @@ position_here p (x ∷ xs) y ys n h = elim (cases_Bool (p x)) [
 ]
 
 -- a group with no fault has no name of an earlier one
-name_is_new : (p : ℕ) (earlier : List (Option Name)) (name : Name) → group_fault_after p earlier (Some name) ≡ None → position (is_named name) earlier ≡ None
+name_is_new : (p : ℕ) (earlier : List (Option Name)) (name : Name) → group_fault_after p earlier (Some name) ≡ None →
+    position (is_named name) earlier ≡ None
 name_is_new p earlier name h = elim (cases_Bool (nat_lt greatest_index (length earlier))) [
-  | inl e ↦ none_is_not (TooManyGroups p (length earlier)) (group_fault_after p earlier (Some name)) h (cond-true (nat_lt greatest_index (length earlier)) _ _ e)
+  | inl e ↦ none_is_not (TooManyGroups p (length earlier)) (group_fault_after p earlier (Some name)) h
+      (cond-true (nat_lt greatest_index (length earlier)) _ _ e)
   | inr e ↦
       let named : name_fault p earlier (Some name) ≡ None = sym (cond-false (nat_lt greatest_index (length earlier)) _ _ e) ∙ h in
       elim (cases_Bool (is_some (position (is_named name) earlier))) [
-        | inl f ↦ none_is_not (Duplicate p name) (name_fault p earlier (Some name)) named (cond-true (is_some (position (is_named name) earlier)) _ _ f)
+        | inl f ↦ none_is_not (Duplicate p name) (name_fault p earlier (Some name)) named
+            (cond-true (is_some (position (is_named name) earlier)) _ _ f)
         | inr f ↦ not_some (position (is_named name) earlier) f
       ]
 ]
@@ -235,22 +245,26 @@ name_is_new p earlier name h = elim (cases_Bool (nat_lt greatest_index (length e
 some_inner : {A : Type 0} (a b : A) → Some a ≡ Some b → a ≡ b
 some_inner a b h = grind (arith, h)
 
-found_after : (p : ℕ) (earlier rest : List (Option Name)) (g : ℕ) (name : Name) → fault_after p earlier rest ≡ None → slice_get rest g ≡ Some (Some name)
+found_after : (p : ℕ) (earlier rest : List (Option Name)) (g : ℕ) (name : Name) → fault_after p earlier rest ≡ None →
+    slice_get rest g ≡ Some (Some name)
     → position (is_named name) (earlier ++ rest) ≡ Some (length earlier + g)
 found_after p earlier [] g name h e = none_is_not (Some name) (slice_get [] g) refl e
 found_after p earlier (x ∷ rest) zero name h e =
     let is : x ≡ Some name = some_inner x (Some name) e in
-    let first : group_fault_after p earlier x ≡ None = none_first (group_fault_after p earlier x) (fault_after p (earlier ++ x ∷ []) rest) h in
+    let first : group_fault_after p earlier x ≡ None = none_first (group_fault_after p earlier x)
+        (fault_after p (earlier ++ x ∷ []) rest) h in
     let fresh : position (is_named name) earlier ≡ None = name_is_new p earlier name (ap (group_fault_after p earlier) (sym is) ∙ first) in
     let self : is_named name x ≡ true = ap (is_named name) is ∙ bytes_eq_from name name refl in
     let zero_more : length earlier ≡ length earlier + 0 = omega arith in
     position_here (is_named name) earlier x rest fresh self ∙ ap Some zero_more
 found_after p earlier (x ∷ rest) (suc g) name h e =
-    let ih = found_after p (earlier ++ x ∷ []) rest g name (none_second (group_fault_after p earlier x) (fault_after p (earlier ++ x ∷ []) rest) h) e in
+    let ih = found_after p (earlier ++ x ∷ []) rest g name (none_second (group_fault_after p earlier x)
+        (fault_after p (earlier ++ x ∷ []) rest) h) e in
     let count : length (earlier ++ x ∷ []) + g ≡ length earlier + suc g = omega (arith, length-append earlier (x ∷ [])) in
     ap (position (is_named name)) (sym (append_assoc earlier (x ∷ []) rest)) ∙ ih ∙ ap Some count
 
-index_of_name : (p : ℕ) (names : List (Option Name)) (g : ℕ) (name : Name) → pattern_fault p names ≡ None → slice_get names g ≡ Some (Some name) → position (is_named name) names ≡ Some g
+index_of_name : (p : ℕ) (names : List (Option Name)) (g : ℕ) (name : Name) → pattern_fault p names ≡ None →
+    slice_get names g ≡ Some (Some name) → position (is_named name) names ≡ Some g
 index_of_name p [] g name h e = none_is_not (Some name) (slice_get [] g) refl e
 index_of_name p (Some x ∷ rest) g name h e = none_is_not (FirstMustBeUnnamed p) (pattern_fault p (Some x ∷ rest)) h refl
 index_of_name p (None ∷ rest) zero name h e = none_is_not name None refl (some_inner None (Some name) e)
@@ -272,13 +286,15 @@ sound_number p names h = elim (cases_Bool (nat_lt greatest_index p)) [
 sound_pattern : (p : ℕ) (gs : Groups) (q : ℕ) → names_fault p gs ≡ None → q < length gs → IsSoundPattern (groups_of gs q)
 sound_pattern p [] q h l = absurd (omega (arith, l))
 sound_pattern p (names ∷ rest) zero h l = sound_number p names (none_first (numbered_fault p names) (names_fault (p + 1) rest) h)
-sound_pattern p (names ∷ rest) (suc q) h l = sound_pattern (p + 1) rest q (none_second (numbered_fault p names) (names_fault (p + 1) rest) h) (omega (arith, l))
+sound_pattern p (names ∷ rest) (suc q) h l = sound_pattern (p + 1) rest q
+    (none_second (numbered_fault p names) (names_fault (p + 1) rest) h) (omega (arith, l))
 
 inner_name : (o : Option (Option Name)) (name : Name) → option_and_then (λ n. n) o ≡ Some name → o ≡ Some (Some name)
 inner_name None name h = none_is_not name None refl h
 inner_name (Some n) name h = ap Some h
 
-pub index_from_name : (gs : Groups) (p g : ℕ) (name : Name) → group_fault gs ≡ None → to_name gs p g ≡ Some name → to_index gs p name ≡ Some g
+pub index_from_name : (gs : Groups) (p g : ℕ) (name : Name) → group_fault gs ≡ None → to_name gs p g ≡ Some name →
+    to_index gs p name ≡ Some g
 index_from_name gs p g name s h =
     let at : slice_get (groups_of gs p) g ≡ Some (Some name) = inner_name (slice_get (groups_of gs p) g) name h in
     let below : g < length (groups_of gs p) = slice_get_within (groups_of gs p) g (Some name) at in
@@ -296,5 +312,6 @@ name_from_index gs p g name h =
     let is : get_or (groups_of gs p) g None ≡ Some name = named_is name (get_or (groups_of gs p) g None) place.1 in
     ap (option_and_then (λ (n : Option Name). n)) at ∙ is
 
-pub names_agree : (gs : Groups) (p g : ℕ) (name : Name) → group_fault gs ≡ None → (to_index gs p name ≡ Some g) ↔ (to_name gs p g ≡ Some name)
+pub names_agree : (gs : Groups) (p g : ℕ) (name : Name) → group_fault gs ≡ None → (to_index gs p name ≡ Some g) ↔
+    (to_name gs p g ≡ Some name)
 names_agree gs p g name s = (name_from_index gs p g name, index_from_name gs p g name s)

@@ -1,11 +1,13 @@
 -- Groups by pattern: where they are found, and how many slots they have.
-use Rattle.std.proofs.Common.{◌≡◌, ◌≢◌, ◌==◌, ℕ, zero, suc, ◌+◌, ◌-◌, ◌*◌, ◌<◌, ◌≤◌, true, false, List, [], ◌∷◌, ◌++◌, length, take, drop, get_or, refl, sym, ap, ◌∙◌, subst, arith, rules, Some, None}
+use Rattle.std.proofs.Common.{◌≡◌, ◌≢◌, ◌==◌, ℕ, zero, suc, ◌+◌, ◌-◌, ◌*◌, ◌<◌, ◌≤◌, true, false, List, [], ◌∷◌, ◌++◌, length, take, drop}
+use Rattle.std.proofs.Common.{get_or, refl, sym, ap, ◌∙◌, subst, arith, rules, Some, None}
 use Rattle.std.specs.Prelude.{Option, nat_lt, if◌then◌else◌, slice_get}
 use Rattle.std.specs.Option.{option_or, option_and_then}
 use Rattle.std.proofs.lemmas.Bool.{cond-true, cond-false, lt-ltb, ne_eqb}
 use Rattle.std.specs.Iterator.{MakesProgress, item_count}
 use Rattle.search_core.specs.Index.{greatest_index}
-use Rattle.search_types.specs.Groups.{Name, Groups, groups_of, all_group_len, explicit_slot_len, implicit_slot_len, slot_len, explicit_slot, to_name, slot}
+use Rattle.search_types.specs.Groups.{Name, Groups, groups_of, all_group_len, explicit_slot_len, implicit_slot_len, slot_len, explicit_slot}
+use Rattle.search_types.specs.Groups.{to_name, slot}
 use Rattle.search_types.specs.GroupFaults.{numbered_fault, names_fault, slots_fault, slots_end, group_fault}
 use Rattle.search_types.specs.GroupPlaces.{starts_from, IsLaidOut, named_from, all_named_from, left_from}
 
@@ -41,7 +43,8 @@ numbered_some p (name ∷ rest) h = omega arith
 names_some : (p : ℕ) (gs : Groups) → names_fault p gs ≡ None → (q : ℕ) → q < length gs → 0 < length (groups_of gs q)
 names_some p [] h q l = absurd (omega (arith, l))
 names_some p (names ∷ rest) h zero l = numbered_some p names (none_first (numbered_fault p names) (names_fault (p + 1) rest) h)
-names_some p (names ∷ rest) h (suc q) l = names_some (p + 1) rest (none_second (numbered_fault p names) (names_fault (p + 1) rest) h) q (omega (arith, l))
+names_some p (names ∷ rest) h (suc q) l = names_some (p + 1) rest (none_second (numbered_fault p names) (names_fault (p + 1) rest) h) q
+    (omega (arith, l))
 
 names_twice : (p : ℕ) (gs : Groups) → names_fault p gs ≡ None → slot_len gs ≡ all_group_len gs * 2
 names_twice p [] h = refl
@@ -68,12 +71,14 @@ pub length-starts_from : (start : ℕ) (gs : Groups) → length (starts_from sta
 length-starts_from start [] = refl
 length-starts_from start (names ∷ rest) = ap suc (length-starts_from (slots_end start names) rest)
 
-pub start_at : (start : ℕ) (gs : Groups) (p d : ℕ) → p < length gs → get_or (starts_from start gs) p d ≡ start + explicit_slot_len (take p gs)
+pub start_at : (start : ℕ) (gs : Groups) (p d : ℕ) → p < length gs → get_or (starts_from start gs) p d ≡ start + explicit_slot_len
+    (take p gs)
 start_at start [] p d h = absurd (omega (arith, h))
 start_at start (names ∷ rest) zero d h = omega arith
 start_at start (names ∷ rest) (suc p) d h = omega (arith, start_at (slots_end start names) rest p d (omega (arith, h)))
 
-explicit_start_in_slots : (gs : Groups) (p g : ℕ) → p < length gs → 0 < g → g < length (groups_of gs p) → explicit_slot_len (take p gs) + (g - 1) * 2 + 2 ≤ explicit_slot_len gs
+explicit_start_in_slots : (gs : Groups) (p g : ℕ) → p < length gs → 0 < g → g < length (groups_of gs p) →
+    explicit_slot_len (take p gs) + (g - 1) * 2 + 2 ≤ explicit_slot_len gs
 explicit_start_in_slots [] p g h s l = absurd (omega (arith, h))
 explicit_start_in_slots (names ∷ rest) zero g h s l = omega (arith, s, l)
 explicit_start_in_slots (names ∷ rest) (suc p) g h s l = omega (arith, explicit_start_in_slots rest p g (omega (arith, h)) s l)
@@ -88,7 +93,8 @@ pub explicit_slot_in_range : (gs : Groups) (p g : ℕ) → 0 < g → g < length 
 explicit_slot_in_range gs p g s l = omega (arith, explicit_start_in_slots gs p g (has_pattern gs p g l) s l)
 
 -- ---- slots, by the starts that are kept
-module _ (gs seen : Groups) (starts : List ℕ) (len p g n : ℕ) (laid : IsLaidOut gs starts len) (view : gs ≡ seen) (within : n ≡ length (groups_of seen p)) (below : g < n) where
+module _ (gs seen : Groups) (starts : List ℕ) (len p g n : ℕ) (laid : IsLaidOut gs starts len) (view : gs ≡ seen)
+    (within : n ≡ length (groups_of seen p)) (below : g < n) where
   within_gs : g < length (groups_of gs p)
   within_gs =
       let P : Groups → Type 0 = λ xs. g < length (groups_of xs p) in
@@ -120,7 +126,8 @@ named_step : (p k : ℕ) (names : List (Option Name)) (g : ℕ) → g < length n
     → named_from p k (drop g names) ≡ (p, k, option_and_then (λ name. name) (slice_get names g)) ∷ named_from p (k + 1) (drop (g + 1) names)
 named_step p k names g h =
     let e : suc g ≡ g + 1 = omega arith in
-    named_step_suc p k names g h ∙ ap (λ n. (p, k, option_and_then (λ name. name) (slice_get names g)) ∷ named_from p (k + 1) (drop n names)) e
+    named_step_suc p k names g h ∙ ap (λ n. (p, k, option_and_then (λ name. name) (slice_get names g)) ∷ named_from p (k + 1)
+        (drop n names)) e
 
 named_past : (p k : ℕ) (names : List (Option Name)) (g : ℕ) → length names ≤ g → named_from p k (drop g names) ≡ []
 named_past p k [] zero h = refl
@@ -128,13 +135,15 @@ named_past p k [] (suc g) h = refl
 named_past p k (name ∷ names) zero h = absurd (omega (arith, h))
 named_past p k (name ∷ names) (suc g) h = named_past p k names g (omega (arith, h))
 
-all_named_suc : (k : ℕ) (gs : Groups) (p : ℕ) → all_named_from k (drop p gs) ≡ named_from k 0 (groups_of gs p) ++ all_named_from (k + 1) (drop (suc p) gs)
+all_named_suc : (k : ℕ) (gs : Groups) (p : ℕ) → all_named_from k (drop p gs) ≡ named_from k 0 (groups_of gs p)
+    ++ all_named_from (k + 1) (drop (suc p) gs)
 all_named_suc k [] zero = refl
 all_named_suc k [] (suc p) = refl
 all_named_suc k (names ∷ rest) zero = refl
 all_named_suc k (names ∷ rest) (suc p) = all_named_suc k rest p
 
-all_named_at : (k : ℕ) (gs : Groups) (p : ℕ) → all_named_from k (drop p gs) ≡ named_from k 0 (groups_of gs p) ++ all_named_from (k + 1) (drop (p + 1) gs)
+all_named_at : (k : ℕ) (gs : Groups) (p : ℕ) → all_named_from k (drop p gs) ≡ named_from k 0 (groups_of gs p)
+    ++ all_named_from (k + 1) (drop (p + 1) gs)
 all_named_at k gs p =
     let e : suc p ≡ p + 1 = omega arith in
     all_named_suc k gs p ∙ ap (λ n. named_from k 0 (groups_of gs p) ++ all_named_from (k + 1) (drop n gs)) e
@@ -157,13 +166,15 @@ left_from_past gs p g h =
     ap (λ (xs : List (ℕ × ℕ × Option Name)). xs ++ all_named_from (p + 1) (drop (p + 1) gs)) first ∙ second
 
 -- the next group, from the view of an iterator that is at group g of pattern p
-pub left_step : (gs : Groups) (p g q : ℕ) (name : Option Name) (seen : List (ℕ × ℕ × Option Name)) → left_from gs p g ≡ seen → q ≡ p → g < length (groups_of gs p)
+pub left_step : (gs : Groups) (p g q : ℕ) (name : Option Name) (seen : List (ℕ × ℕ × Option Name)) → left_from gs p g ≡ seen → q ≡ p →
+    g < length (groups_of gs p)
     → name ≡ to_name gs q g → seen ≡ (q, g, name) ∷ left_from gs p (g + 1)
 left_step gs p g q name seen v e h n =
     let same : name ≡ to_name gs p g = n ∙ ap (λ k. to_name gs k g) e in
     let step : left_from gs p g ≡ (p, g, to_name gs p g) ∷ left_from gs p (g + 1)
     = ap (λ (xs : List (ℕ × ℕ × Option Name)). xs ++ all_named_from (p + 1) (drop (p + 1) gs)) (named_step p g (groups_of gs p) g h) in
-    sym v ∙ step ∙ ap (λ k. (k, g, to_name gs p g) ∷ left_from gs p (g + 1)) (sym e) ∙ ap (λ (m : Option Name). (q, g, m) ∷ left_from gs p (g + 1)) (sym same)
+    sym v ∙ step ∙ ap (λ k. (k, g, to_name gs p g) ∷ left_from gs p (g + 1)) (sym e)
+        ∙ ap (λ (m : Option Name). (q, g, m) ∷ left_from gs p (g + 1)) (sym same)
 
 -- where that is the last group of its pattern, the next pattern's first one comes behind it
 left_next : (gs : Groups) (p g : ℕ) → length (groups_of gs p) ≤ g → left_from gs p g ≡ left_from gs (p + 1) 0
@@ -171,18 +182,21 @@ left_next gs p g h =
     ap (λ (xs : List (ℕ × ℕ × Option Name)). xs ++ all_named_from (p + 1) (drop (p + 1) gs)) (named_past p g (groups_of gs p) g h)
     ∙ all_named_at (p + 1) gs (p + 1)
 
-pub left_step_last : (gs : Groups) (p g q : ℕ) (name : Option Name) (seen : List (ℕ × ℕ × Option Name)) → left_from gs p g ≡ seen → q ≡ p → g < length (groups_of gs p)
+pub left_step_last : (gs : Groups) (p g q : ℕ) (name : Option Name) (seen : List (ℕ × ℕ × Option Name)) → left_from gs p g ≡ seen → q ≡ p →
+    g < length (groups_of gs p)
     → length (groups_of gs p) ≤ g + 1 → name ≡ to_name gs q g → seen ≡ (q, g, name) ∷ left_from gs (p + 1) 0
 left_step_last gs p g q name seen v e h last n =
     left_step gs p g q name seen v e h n ∙ ap (λ (xs : List (ℕ × ℕ × Option Name)). (q, g, name) ∷ xs) (left_next gs p (g + 1) last)
 
-module _ (gs seen : Groups) (starts : List ℕ) (len p g n : ℕ) (laid : IsLaidOut gs starts len) (view : gs ≡ seen) (within : n ≡ length (groups_of seen p)) (below : g < n) (some : g ≢ 0) where
+module _ (gs seen : Groups) (starts : List ℕ) (len p g n : ℕ) (laid : IsLaidOut gs starts len) (view : gs ≡ seen)
+    (within : n ≡ length (groups_of seen p)) (below : g < n) (some : g ≢ 0) where
   pub explicit_fits : (start d : ℕ) → start ≡ get_or starts p d → start + (g - 1) * 2 ≤ greatest_index
   explicit_fits start d e =
       let is : start + (g - 1) * 2 ≡ explicit_slot seen p g = explicit_slot_is gs seen starts len p g n laid view within below start d e in
       let same : explicit_slot gs p g ≡ explicit_slot seen p g = ap (λ (xs : Groups). explicit_slot xs p g) view in
       let above : 0 < g = omega (arith, some) in
-      let inside : explicit_slot gs p g + 2 ≤ slot_len gs = explicit_slot_in_range gs p g above (within_gs gs seen starts len p g n laid view within below) in
+      let inside : explicit_slot gs p g + 2 ≤ slot_len gs = explicit_slot_in_range gs p g above
+          (within_gs gs seen starts len p g n laid view within below) in
       omega (arith, is, same, inside, laid.len_is, laid.in_range)
 
   pub slot_is : (start d : ℕ) → start ≡ get_or starts p d → Some (start + (g - 1) * 2) ≡ slot seen p g
@@ -194,14 +208,16 @@ module _ (gs seen : Groups) (starts : List ℕ) (len p g n : ℕ) (laid : IsLaid
       ∙ ap Some (cond-false (g == 0) (p * 2) (explicit_slot seen p g) other) ∙ ap Some (sym is))
 
 -- ---- the names of one pattern's groups
-drop_step_suc : (names : List (Option Name)) (g : ℕ) → g < length names → drop g names ≡ option_and_then (λ name. name) (slice_get names g) ∷ drop (suc g) names
+drop_step_suc : (names : List (Option Name)) (g : ℕ) → g < length names →
+    drop g names ≡ option_and_then (λ name. name) (slice_get names g) ∷ drop (suc g) names
 drop_step_suc [] g h = absurd (omega (arith, h))
 drop_step_suc (None ∷ names) zero h = refl
 drop_step_suc (Some name ∷ names) zero h = refl
 drop_step_suc (name ∷ names) (suc g) h = drop_step_suc names g (omega (arith, h))
 
 -- the next name, from the view of an iterator that is at group g
-pub pattern_step : (gs : Groups) (p g : ℕ) (name : Option Name) (seen : List (Option Name)) → drop g (groups_of gs p) ≡ seen → g < length (groups_of gs p) → name ≡ to_name gs p g
+pub pattern_step : (gs : Groups) (p g : ℕ) (name : Option Name) (seen : List (Option Name)) → drop g (groups_of gs p) ≡ seen →
+    g < length (groups_of gs p) → name ≡ to_name gs p g
     → seen ≡ name ∷ drop (g + 1) (groups_of gs p)
 pattern_step gs p g name seen v h n =
     let e : suc g ≡ g + 1 = omega arith in
@@ -209,7 +225,8 @@ pattern_step gs p g name seen v h n =
     ∙ ap (λ k. name ∷ drop k (groups_of gs p)) e
 
 -- an iterator that yields what is seen as the head of its list leaves the tail
-pub step_goes : {A B : Type 0} (x : A) (y : B) (s t : List B) → s ≡ y ∷ t → MakesProgress {S = List B} {A = A} (λ _. Unit {0}) (item_count {S = List B} {A = B} (λ rest. rest)) s (Some x) t
+pub step_goes : {A B : Type 0} (x : A) (y : B) (s t : List B) → s ≡ y ∷ t →
+    MakesProgress {S = List B} {A = A} (λ _. Unit {0}) (item_count {S = List B} {A = B} (λ rest. rest)) s (Some x) t
 step_goes x y s t e =
     let l = ap length e in
     let h : length t < length s = omega (arith, l) in

@@ -1,5 +1,6 @@
 -- The first place at which a test passes, and a map that finds each name's place.
-use Rattle.std.proofs.Common.{◌≡◌, ℕ, suc, ◌<◌, ◌≤◌, Bool, true, false, List, [], ◌∷◌, ◌++◌, length, refl, sym, ap, ◌∙◌, subst, inl, inr, arith, Some, None, is_some}
+use Rattle.std.proofs.Common.{◌≡◌, ℕ, suc, ◌<◌, ◌≤◌, Bool, true, false, List, [], ◌∷◌, ◌++◌, length, refl, sym, ap, ◌∙◌, subst, inl, inr}
+use Rattle.std.proofs.Common.{arith, Some, None, is_some}
 use Rattle.std.specs.Prelude.{Option, nat_lt, if◌then◌else◌, String, string_bytes}
 use Rattle.std.specs.Option.{option_or, option_map}
 use Rattle.std.specs.List.{position}
@@ -23,7 +24,8 @@ position_first p x xs h = grind (arith, h)
 pub position_later : {X : Type 0} (p : X → Bool) (x : X) (xs : List X) → p x ≡ false → position p (x ∷ xs) ≡ option_map suc (position p xs)
 position_later p x xs h = grind (arith, h)
 
-pub position_push : {X : Type 0} (p : X → Bool) (xs : List X) (y : X) → position p (xs ++ y ∷ []) ≡ option_or (position p xs) (if p y then Some (length xs) else None)
+pub position_push : {X : Type 0} (p : X → Bool) (xs : List X) (y : X) →
+    position p (xs ++ y ∷ []) ≡ option_or (position p xs) (if p y then Some (length xs) else None)
 position_push p [] y = elim (cases_Bool (p y)) [
   | inl e ↦ grind (arith, e)
   | inr e ↦ grind (arith, e)
@@ -35,7 +37,8 @@ position_push p (x ∷ xs) y = elim (cases_Bool (p x)) [
 
 -- ---- a map that finds each name
 -- a group without a name leaves what the map has to find
-pub finds_unnamed : {A S : Type 0} (names : List (Option Name)) (indices : HashMap (String A) ℕ S) → FindsEach names indices → FindsEach (names ++ None ∷ []) indices
+pub finds_unnamed : {A S : Type 0} (names : List (Option Name)) (indices : HashMap (String A) ℕ S) → FindsEach names indices →
+    FindsEach (names ++ None ∷ []) indices
 finds_unnamed names indices h = λ name. grind (arith, h name, position_push (is_named name) names None)
 
 pub bytes_eq_path : (xs ys : Name) → bytes_eq xs ys ≡ true → xs ≡ ys
@@ -65,18 +68,21 @@ named_at : (names : List (Option Name)) (old new : Option ℕ) (key text : Name)
 named_at names old new key text index name h e i u none = elim (cases_Bool (bytes_eq key name)) [
   | inl t ↦
       let same : text ≡ name = sym e ∙ bytes_eq_path key name t in
-      let found : position (is_named name) (names ++ Some text ∷ []) ≡ option_or (position (is_named name) names) (if bytes_eq name text then Some (length names) else None)
+      let found : position (is_named name) (names ++ Some text ∷ []) ≡ option_or (position (is_named name) names) (if bytes_eq name text
+          then Some (length names) else None)
       = position_push (is_named name) names (Some text) in
       let P : Name → Type 0 = λ n. position (is_named n) names ≡ None in
       let fresh : position (is_named name) names ≡ None = subst P same none in
       let yes : bytes_eq name text ≡ true = bytes_eq_from name text (sym same) in
       grind (arith, u, t, i, found, fresh, yes)
   | inr f ↦
-      let found : position (is_named name) (names ++ Some text ∷ []) ≡ option_or (position (is_named name) names) (if bytes_eq name text then Some (length names) else None)
+      let found : position (is_named name) (names ++ Some text ∷ []) ≡ option_or (position (is_named name) names) (if bytes_eq name text
+          then Some (length names) else None)
       = position_push (is_named name) names (Some text) in
       let no : bytes_eq name text ≡ false = bytes_ne name text key (sym e) f in
       let last : position (is_named name) (names ++ Some text ∷ []) ≡ position (is_named name) names
-      = found ∙ ap (λ (b : Bool). option_or (position (is_named name) names) (if b then Some (length names) else None)) no ∙ option_or-None (position (is_named name) names) in
+      = found ∙ ap (λ (b : Bool). option_or (position (is_named name) names) (if b then Some (length names) else None)) no
+          ∙ option_or-None (position (is_named name) names) in
       u ∙ cond-false (bytes_eq key name) (Some index) old f ∙ h ∙ sym last
 ]
 
@@ -85,24 +91,29 @@ pub finds_named : {A S : Type 0} (names : List (Option Name)) (old new : HashMap
     → FindsEach names old → string_bytes key ≡ text → index ≡ length names → Updates string_eq old new key (Some index)
     → position (is_named text) names ≡ None → FindsEach (names ++ Some text ∷ []) new
 finds_named names old new key text index h e i u none = λ name.
-    let at : get_by_text new name ≡ update bytes_eq (get_by_text old) (string_bytes key) (Some index) name = hash_map_updates_text (string_bytes key) old new (Some index) u name in
+    let at : get_by_text new name ≡ update bytes_eq (get_by_text old) (string_bytes key) (Some index) name =
+        hash_map_updates_text (string_bytes key) old new (Some index) u name in
     named_at names (get_by_text old name) (get_by_text new name) (string_bytes key) text index name (h name) e i at none
 
 -- ---- what is wrong with a group
-pub fault_too_many : (p : ℕ) (names : List (Option Name)) (name : Option Name) → greatest_index < length names → group_fault_after p names name ≡ Some (TooManyGroups p (length names))
+pub fault_too_many : (p : ℕ) (names : List (Option Name)) (name : Option Name) → greatest_index < length names →
+    group_fault_after p names name ≡ Some (TooManyGroups p (length names))
 fault_too_many p names name h = cond-true (nat_lt greatest_index (length names)) _ _ (lt-ltb greatest_index (length names) h)
 
-fault_name : (p : ℕ) (names : List (Option Name)) (name : Option Name) → length names ≤ greatest_index → group_fault_after p names name ≡ name_fault p names name
+fault_name : (p : ℕ) (names : List (Option Name)) (name : Option Name) → length names ≤ greatest_index →
+    group_fault_after p names name ≡ name_fault p names name
 fault_name p names name h = cond-false (nat_lt greatest_index (length names)) _ _ (le-ltb greatest_index (length names) h)
 
 pub fault_unnamed : (p : ℕ) (names : List (Option Name)) → length names ≤ greatest_index → group_fault_after p names None ≡ None
 fault_unnamed p names h = fault_name p names None h
 
-pub fault_duplicate : (p : ℕ) (names : List (Option Name)) (text : Name) → length names ≤ greatest_index → is_some (position (is_named text) names) ≡ true
+pub fault_duplicate : (p : ℕ) (names : List (Option Name)) (text : Name) → length names ≤ greatest_index →
+    is_some (position (is_named text) names) ≡ true
     → group_fault_after p names (Some text) ≡ Some (Duplicate p text)
 fault_duplicate p names text h e = fault_name p names (Some text) h ∙ cond-true (is_some (position (is_named text) names)) _ _ e
 
-pub fault_new_name : (p : ℕ) (names : List (Option Name)) (text : Name) → length names ≤ greatest_index → is_some (position (is_named text) names) ≡ false
+pub fault_new_name : (p : ℕ) (names : List (Option Name)) (text : Name) → length names ≤ greatest_index →
+    is_some (position (is_named text) names) ≡ false
     → group_fault_after p names (Some text) ≡ None
 fault_new_name p names text h e = fault_name p names (Some text) h ∙ cond-false (is_some (position (is_named text) names)) _ _ e
 
@@ -114,7 +125,8 @@ not_some (Some x) h = absurd (grind (arith, h))
 length-names_in : {A : Type 0} (texts : List (Option (String A))) → length (names_in texts) ≡ length texts
 length-names_in texts = length-map texts (option_map string_bytes)
 
-pub indexed_new : {A S : Type 0} (texts : List (Option (String A))) (old new : HashMap (String A) ℕ S) (name : Option (String A)) (text key : String A) (index : ℕ)
+pub indexed_new : {A S : Type 0} (texts : List (Option (String A))) (old new : HashMap (String A) ℕ S) (name : Option (String A))
+    (text key : String A) (index : ℕ)
     → index ≡ length texts → FindsEach (names_in texts) old → name ≡ Some text → string_bytes key ≡ string_bytes text
     → is_some (get_by_text old (string_bytes text)) ≡ false → Updates string_eq old new key (Some index)
     → FindsEach (names_in texts ++ option_map string_bytes name ∷ []) new

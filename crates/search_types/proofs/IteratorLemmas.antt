@@ -4,7 +4,8 @@ use Rattle.std.proofs.lemmas.List.{length_push}
 use Rattle.std.specs.Iterator.{MakesProgress, item_count}
 
 -- it gives the last of them and leaves those before it
-pub step_from_back : {A : Type 0} (x : A) (s t : List A) → s ≡ t ++ x ∷ [] → MakesProgress {S = List A} {A = A} (λ _. Unit {0}) (item_count {S = List A} {A = A} (λ rest. rest)) s (Some x) t
+pub step_from_back : {A : Type 0} (x : A) (s t : List A) → s ≡ t ++ x ∷ [] →
+    MakesProgress {S = List A} {A = A} (λ _. Unit {0}) (item_count {S = List A} {A = A} (λ rest. rest)) s (Some x) t
 step_from_back {A} x s t e =
     let l = ap length e in
     let h : length t < length s = omega (arith, length_push t x) in

@@ -1,5 +1,6 @@
 -- At which places a search may start, and which places count, by their properties.
-use Rattle.std.proofs.Common.{◌≡◌, ℕ, ◌≤◌, ◌⊎◌, ◌↔◌, Bool, true, false, ◌&&◌, List, length, nat_le, refl, sym, ◌∙◌, inl, inr, arith, leb-true, le-leb}
+use Rattle.std.proofs.Common.{◌≡◌, ℕ, ◌≤◌, ◌⊎◌, ◌↔◌, Bool, true, false, ◌&&◌, List, length, nat_le, refl, sym, ◌∙◌, inl, inr, arith}
+use Rattle.std.proofs.Common.{leb-true, le-leb}
 use Rattle.search_core.specs.Utf8.{IsSplit, IsValidText, is_boundary}
 use Rattle.search_core.proofs.ForCallers.{split_is_no_boundary, boundary_or_split}
 use Rattle.search_types.specs.declared.anchored.Anchored.{Anchored}

@@ -1,5 +1,6 @@
 -- How many members a set of patterns has, and the list of them read from both ends.
-use Rattle.std.proofs.Common.{◌≡◌, ℕ, zero, suc, ◌+◌, ◌<◌, ◌≤◌, ◌==◌, ◌↔◌, IsTrue, Bool, true, false, cond, List, [], ◌∷◌, ◌++◌, length, get_or, set, refl, sym, ap, ◌∙◌, subst, arith, append-nil}
+use Rattle.std.proofs.Common.{◌≡◌, ℕ, zero, suc, ◌+◌, ◌<◌, ◌≤◌, ◌==◌, ◌↔◌, IsTrue, Bool, true, false, cond, List, [], ◌∷◌, ◌++◌, length}
+use Rattle.std.proofs.Common.{get_or, set, refl, sym, ap, ◌∙◌, subst, arith, append-nil}
 use Rattle.std.proofs.lemmas.List.Sums.{sum_by-cons, sum_by-set, count_by-le-length}
 use Rattle.std.proofs.lemmas.Bool.{eqb-true, eq-eqb}
 use Rattle.search_types.specs.PatternSets.{member_count, members_from, onto_members}
@@ -38,11 +39,13 @@ count_of_all (true ∷ bs) h = omega (arith, count_cons true bs, count_of_all bs
 pub count_insert : (bs : List Bool) (p : ℕ) → p < length bs → get_or bs p false ≡ false → member_count (set bs p true) ≡ member_count bs + 1
 count_insert bs p h e =
     let s = sum_by-set (λ c. cond c 1 0) bs p true false h in
-    let n : member_count (set bs p true) + 0 ≡ member_count bs + 1 = subst (λ (b : Bool). member_count (set bs p true) + cond b 1 0 ≡ member_count bs + 1) e s in
+    let n : member_count (set bs p true) + 0 ≡ member_count bs + 1 = subst
+        (λ (b : Bool). member_count (set bs p true) + cond b 1 0 ≡ member_count bs + 1) e s in
     omega arith
 
 -- the members of a list and one test more
-pub members_push : (p : ℕ) (bs : List Bool) (b : Bool) → members_from p (bs ++ b ∷ []) ≡ members_from p bs ++ onto_members b (p + length bs) []
+pub members_push : (p : ℕ) (bs : List Bool) (b : Bool) → members_from p (bs ++ b ∷ []) ≡ members_from p bs
+    ++ onto_members b (p + length bs) []
 members_push p [] b = ap (λ n. onto_members b n []) (omega arith)
 members_push p (true ∷ bs) b =
     ap (λ ps. p ∷ ps) (members_push (p + 1) bs b ∙ ap (λ n. members_from (p + 1) bs ++ onto_members b n []) (omega arith))
@@ -54,13 +57,16 @@ pub back_skips : (p : ℕ) (bs rest : List Bool) (b : Bool) → bs ≡ rest ++ b
 back_skips p bs rest b e f =
     ap (members_from p) e ∙ members_push p rest b ∙ ap (λ c. members_from p rest ++ onto_members c (p + length rest) []) f ∙ append-nil _
 
-pub back_gives : (p : ℕ) (bs rest : List Bool) (b : Bool) → bs ≡ rest ++ b ∷ [] → b ≡ true → members_from p bs ≡ members_from p rest ++ (p + length rest) ∷ []
+pub back_gives : (p : ℕ) (bs rest : List Bool) (b : Bool) → bs ≡ rest ++ b ∷ [] → b ≡ true →
+    members_from p bs ≡ members_from p rest ++ (p + length rest) ∷ []
 back_gives p bs rest b e t =
     ap (members_from p) e ∙ members_push p rest b ∙ ap (λ c. members_from p rest ++ onto_members c (p + length rest) []) t
 
 -- what `is_empty` and `is_full` tell, by the count of the members
-pub empty_when_zero : (bs : List Bool) (n : ℕ) → n ≡ member_count bs → IsTrue (n == 0) ↔ ((p : ℕ) → p < length bs → get_or bs p false ≡ false)
+pub empty_when_zero : (bs : List Bool) (n : ℕ) → n ≡ member_count bs → IsTrue (n == 0) ↔
+    ((p : ℕ) → p < length bs → get_or bs p false ≡ false)
 empty_when_zero bs n e = (λ t. none_of_count bs (sym e ∙ eqb-true n 0 t), λ h. eq-eqb n 0 (e ∙ count_of_none bs h))
 
-pub full_when_all : (bs : List Bool) (n m : ℕ) → n ≡ member_count bs → m ≡ length bs → IsTrue (n == m) ↔ ((p : ℕ) → p < length bs → get_or bs p false ≡ true)
+pub full_when_all : (bs : List Bool) (n m : ℕ) → n ≡ member_count bs → m ≡ length bs → IsTrue (n == m) ↔
+    ((p : ℕ) → p < length bs → get_or bs p false ≡ true)
 full_when_all bs n m e f = (λ t. all_of_count bs (sym e ∙ eqb-true n m t ∙ f), λ h. eq-eqb n m (e ∙ count_of_all bs h ∙ sym f))

@@ -1,5 +1,6 @@
 -- Whether a group has the name of an earlier one, as a loop over these finds it, and what rule it breaks then.
-use Rattle.std.proofs.Common.{◌≡◌, ℕ, suc, ◌+◌, ◌<◌, ◌≤◌, Bool, true, false, List, ◌∷◌, length, drop, get_or, refl, sym, ap, ◌∙◌, arith, Some, None, is_some}
+use Rattle.std.proofs.Common.{◌≡◌, ℕ, suc, ◌+◌, ◌<◌, ◌≤◌, Bool, true, false, List, ◌∷◌, length, drop, get_or, refl, sym, ap, ◌∙◌, arith}
+use Rattle.std.proofs.Common.{Some, None, is_some}
 use Rattle.std.specs.Prelude.{Option, String, string_bytes}
 use Rattle.std.specs.Option.{option_map}
 use Rattle.std.specs.List.{position}
@@ -47,7 +48,8 @@ module _ {A : Type 0} (p : ℕ) (texts : List (Option (String A))) (name : Optio
   few_names = omega (arith, few, length-map texts (option_map string_bytes))
 
   named_so : group_fault_after p (names_in texts) (option_map string_bytes name) ≡ group_fault_after p (names_in texts) (Some bytes)
-  named_so = ap (λ n. group_fault_after p (names_in texts) (option_map string_bytes n)) is ∙ ap (λ b. group_fault_after p (names_in texts) (Some b)) (sym same)
+  named_so = ap (λ n. group_fault_after p (names_in texts) (option_map string_bytes n)) is
+      ∙ ap (λ b. group_fault_after p (names_in texts) (Some b)) (sym same)
 
   pub rule_of_new : found ≡ false → None ≡ group_fault_after p (names_in texts) (option_map string_bytes name)
   rule_of_new e = sym (named_so ∙ fault_new_name p (names_in texts) bytes few_names (sym told ∙ e))

@@ -1,5 +1,6 @@
 -- Captures: which pattern matched, and in slots the ends of the spans of its groups.
-use Rattle.std.specs.Prelude.{ℕ, zero, suc, ◌+◌, ◌*◌, ◌&&◌, ◌==◌, nat_le, List, [], ◌∷◌, length, map, filter_map, slice_index_or, slice_range, Option, Some, None, Bool, if◌then◌else◌}
+use Rattle.std.specs.Prelude.{ℕ, zero, suc, ◌+◌, ◌*◌, ◌&&◌, ◌==◌, nat_le, List, [], ◌∷◌, length, map, filter_map, slice_index_or}
+use Rattle.std.specs.Prelude.{slice_range, Option, Some, None, Bool, if◌then◌else◌}
 use Rattle.std.specs.Option.{option_map, option_and_then}
 use Rattle.std.specs.List.{range_with_len}
 use Rattle.search_core.specs.Utf8.{is_boundary}

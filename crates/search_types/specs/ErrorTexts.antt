@@ -8,7 +8,8 @@ use Rattle.search_types.specs.declared.group_info_error.GroupInfoError.TheVarian
 use Rattle.search_types.specs.declared.anchored.Anchored.{Anchored}
 use Rattle.search_types.specs.declared.anchored.Anchored.TheVariants.{No, Yes, Pattern}
 use Rattle.search_types.specs.declared.match_error.MatchErrorKind.{MatchErrorKind}
-use Rattle.search_types.specs.declared.match_error.MatchErrorKind.TheVariants.{Quit, GaveUp, HaystackTooLong, UnsupportedAnchored, NotAPair, NoMemory}
+use Rattle.search_types.specs.declared.match_error.MatchErrorKind.TheVariants.{Quit, GaveUp, HaystackTooLong, UnsupportedAnchored, NotAPair}
+use Rattle.search_types.specs.declared.match_error.MatchErrorKind.TheVariants.{NoMemory}
 
 -- a mode that an automaton can't search in
 abbrev pub mode_text : Anchored → List ℕ
@@ -28,10 +29,12 @@ error_text NoMemory = codes "out of memory"
 -- groups that can't be taken
 abbrev pub group_error_text : GroupInfoError → List ℕ
 group_error_text (group.TooManyPatterns attempted) = codes "too many patterns: " ++ pattern_id_text attempted
-group_error_text (group.TooManyGroups p minimum) = codes "pattern " ++ (decimal p ++ (codes " has too many groups, at least " ++ decimal minimum))
+group_error_text (group.TooManyGroups p minimum) = codes "pattern " ++ (decimal p
+    ++ (codes " has too many groups, at least " ++ decimal minimum))
 group_error_text (group.MissingGroups p) = codes "pattern " ++ (decimal p ++ codes " has no groups")
 group_error_text (group.FirstMustBeUnnamed p) = codes "the first group of pattern " ++ (decimal p ++ codes " has a name")
-group_error_text (group.Duplicate p name) = codes "two groups of pattern " ++ (decimal p ++ (codes " have the name '" ++ (string_bytes name ++ codes "'")))
+group_error_text (group.Duplicate p name) = codes "two groups of pattern "
+    ++ (decimal p ++ (codes " have the name '" ++ (string_bytes name ++ codes "'")))
 group_error_text group.NoMemory = codes "out of memory"
 
 -- a pattern for which a set has no room

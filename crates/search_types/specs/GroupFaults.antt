@@ -1,5 +1,6 @@
 -- Which groups are refused, and why: the first rule that they break.
-use Rattle.std.specs.Prelude.{ℕ, ◌+◌, ◌-◌, ◌*◌, nat_lt, List, [], ◌∷◌, ◌++◌, length, map, Option, Some, None, is_some, if◌then◌else◌, String, string_bytes, Vec}
+use Rattle.std.specs.Prelude.{ℕ, ◌+◌, ◌-◌, ◌*◌, nat_lt, List, [], ◌∷◌, ◌++◌, length, map, Option, Some, None, is_some, if◌then◌else◌}
+use Rattle.std.specs.Prelude.{String, string_bytes, Vec}
 use Rattle.std.specs.Option.{option_map, option_or}
 use Rattle.std.specs.List.{position}
 use Rattle.search_core.specs.Index.{greatest_index}

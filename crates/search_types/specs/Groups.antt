@@ -1,7 +1,8 @@
 -- Groups: for each pattern the names of its groups. A pattern's first group is its whole match and has no name.
 -- Slots: two for each group, for the two ends of its span. Those of the first groups come first, pattern by pattern, then
 -- those of the other groups.
-use Rattle.std.specs.Prelude.{ℕ, zero, suc, ◌+◌, ◌-◌, ◌*◌, ◌==◌, Bool, false, nat_lt, List, [], ◌∷◌, length, take, slice_get, Option, Some, None, if◌then◌else◌}
+use Rattle.std.specs.Prelude.{ℕ, zero, suc, ◌+◌, ◌-◌, ◌*◌, ◌==◌, Bool, false, nat_lt, List, [], ◌∷◌, length, take, slice_get, Option, Some}
+use Rattle.std.specs.Prelude.{None, if◌then◌else◌}
 use Rattle.std.specs.Option.{option_and_then}
 use Rattle.std.specs.List.{position}
 use Rattle.std.specs.Str.{bytes_eq}

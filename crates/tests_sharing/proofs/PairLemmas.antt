@@ -27,6 +27,7 @@ pairs_apart qs q r all = record {
 pairs_with : (old new : List (List (ℕ × ℕ))) (q r : ℕ × ℕ) → HasPairs old → IsWith old (q ∷ r ∷ []) new → HasPairs new
 pairs_with old new q r all w = λ s i. elim (w.only s i) [ inl e ↦ all s e | inr e ↦ two_long q r s e ]
 
-pub pairs_kept : {A E : Type 0} (result : Result A E) (old new : List (List (ℕ × ℕ))) (q r : ℕ × ℕ) → HasPairs old → OnOk result (IsWith old (q ∷ r ∷ []) new) → OnOk result (HasPairs new)
+pub pairs_kept : {A E : Type 0} (result : Result A E) (old new : List (List (ℕ × ℕ))) (q r : ℕ × ℕ) → HasPairs old →
+    OnOk result (IsWith old (q ∷ r ∷ []) new) → OnOk result (HasPairs new)
 pairs_kept (Ok a) old new q r all w = pairs_with old new q r all w
 pairs_kept (Err e) old new q r all w = w

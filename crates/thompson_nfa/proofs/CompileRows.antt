@@ -35,7 +35,8 @@ used_in_no_round = refl
 
 abbrev a_and_b : Automaton
 a_and_b = record {
-  states = binary_union 6 1 ∷ byte_range 0x00 0xFF 0 ∷ byte_range 0x61 0x61 3 ∷ match_node 0 ∷ byte_range 0x62 0x62 5 ∷ match_node 1 ∷ binary_union 2 4 ∷ [];
+  states = binary_union 6 1 ∷ byte_range 0x00 0xFF 0 ∷ byte_range 0x61 0x61 3 ∷ match_node 0 ∷ byte_range 0x62 0x62 5 ∷ match_node 1 ∷
+      binary_union 2 4 ∷ [];
   start_anchored = 6;
   start_unanchored = 0;
   start_pattern = 2 ∷ 4 ∷ [];
@@ -48,11 +49,13 @@ anchored_ends t = refl
 unanchored_ends : (t : Terminator) → ends_from a_and_b (whole t (0x61 ∷ 0x62 ∷ [])) (0, 0) ≡ (1, 0) ∷ (2, 1) ∷ []
 unanchored_ends t = refl
 
-one_place_after_the_other : (t : Terminator) → distinct same_pair (flat_map (λ k. ends_from a_and_b (whole t (0x61 ∷ 0x62 ∷ [])) (k, 6)) (places_from 0 3)) ≡ (1, 0) ∷ (2, 1) ∷ []
+one_place_after_the_other : (t : Terminator) → distinct same_pair (flat_map (λ k. ends_from a_and_b (whole t (0x61 ∷ 0x62 ∷ [])) (k, 6))
+    (places_from 0 3)) ≡ (1, 0) ∷ (2, 1) ∷ []
 one_place_after_the_other t = refl
 
 one_pattern_after_the_other : (t : Terminator) →
-    distinct same_pair (flat_map (λ p. ends_from a_and_b (whole t (0x61 ∷ 0x62 ∷ [])) (0, start_of a_and_b p)) (places_from 0 2)) ≡ (1, 0) ∷ []
+    distinct same_pair (flat_map (λ p. ends_from a_and_b (whole t (0x61 ∷ 0x62 ∷ [])) (0, start_of a_and_b p)) (places_from 0 2)) ≡ (1,
+        0) ∷ []
 one_pattern_after_the_other t = refl
 
 -- ---- the pattern `ab`, read forward and in reverse

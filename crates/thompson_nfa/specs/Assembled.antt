@@ -2,7 +2,8 @@
 use Rattle.std.specs.Prelude.{◌≡◌, ◌≢◌, ◌⊎◌, ℕ, suc, ◌*◌, ◌<◌, ◌≤◌, Bool, true, false, ◌&&◌, List, [], ◌∷◌, length, All}
 use Rattle.look_core.specs.declared.look.Look.{Look}
 use Rattle.hir_core.specs.Tree.{Tree}
-use Rattle.nfa_core.specs.BuilderStates.{DraftNode, Assembly, empty_draft, sparse_draft, union_draft, union_reverse_draft, fail_draft, match_draft, draft_at}
+use Rattle.nfa_core.specs.BuilderStates.{DraftNode, Assembly, empty_draft, sparse_draft, union_draft, union_reverse_draft, fail_draft}
+use Rattle.nfa_core.specs.BuilderStates.{match_draft, draft_at}
 use Rattle.nfa_core.specs.CanBuild.{CanBuild}
 use Rattle.nfa_core.specs.Drafted.{Table}
 use Rattle.thompson_nfa.specs.Configs.{Options, utf8_of, reverse_of, limit_of, captures_of, terminator_of, is_any, is_shrunk}
@@ -44,7 +45,8 @@ AllAnchored reverse xs = All (λ x. is_anchored_tree reverse x ≡ true) xs
 -- the unanchored start comes to the anchored one as the state that stands for it, where all trees are anchored, and else at
 -- each place
 abbrev pub ComesBefore : Bool → List Tree → Table → ℕ → ℕ → Type 0
-ComesBefore reverse xs table u c = (AllAnchored reverse xs × (table u ≡ empty_draft c)) ⊎ ((AllAnchored reverse xs → ⊥) × TriesEachPlace table u c)
+ComesBefore reverse xs table u c = (AllAnchored reverse xs × (table u ≡ empty_draft c)) ⊎
+    ((AllAnchored reverse xs → ⊥) × TriesEachPlace table u c)
 
 -- what the patterns do depends neither on states below `low` nor on one hole: the state that leads to them, where it isn't
 -- the start of the only one

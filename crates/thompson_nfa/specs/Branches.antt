@@ -30,4 +30,5 @@ pub record AddsBranch (old new : Assembly) (choice end n : ℕ) (x : Tree) : Typ
 -- branches of n states at most were added for the trees, one after the other
 pub data AddsAll (choice end n : ℕ) : Assembly → Assembly → List Tree → Type 0 where
   adds_none : (b : Assembly) → AddsAll choice end n b b []
-  adds_more : (a b c : Assembly) (xs : List Tree) (x : Tree) → AddsAll choice end n a b xs → AddsBranch b c choice end n x → AddsAll choice end n a c (xs ++ x ∷ [])
+  adds_more : (a b c : Assembly) (xs : List Tree) (x : Tree) → AddsAll choice end n a b xs → AddsBranch b c choice end n x →
+      AddsAll choice end n a c (xs ++ x ∷ [])

@@ -1,5 +1,6 @@
 -- The automaton that trees are compiled to: what its runs find, in which order, and how great it is.
-use Rattle.std.specs.Prelude.{◌*◌, ◌≡◌, ◌↔◌, ℕ, zero, suc, ◌-◌, ◌<◌, ◌≤◌, min, Bool, true, false, ◌&&◌, ◌==◌, List, [], ◌∷◌, ◌++◌, map, length, slice_get, get_or, All, Some, MatchOption, ⊤}
+use Rattle.std.specs.Prelude.{◌*◌, ◌≡◌, ◌↔◌, ℕ, zero, suc, ◌-◌, ◌<◌, ◌≤◌, min, Bool, true, false, ◌&&◌, ◌==◌, List, [], ◌∷◌, ◌++◌, map}
+use Rattle.std.specs.Prelude.{length, slice_get, get_or, All, Some, MatchOption, ⊤}
 use Rattle.std.specs.List.{flat_map, list_any}
 use Rattle.look_core.specs.declared.look.Look.{Look}
 use Rattle.look_core.specs.declared.look.Look.TheVariants.{Start, End}
@@ -77,7 +78,8 @@ pub record FindsInOrder (xs : List Tree) (n : Nfa) : Type 0 where
 
 -- No chain from the unanchored start comes to a pair twice, so there are no loops that read nothing.
 abbrev pub HasNoReturn : Nfa → Type 0
-HasNoReturn n = (t : Text) (i : ℕ) (r : List (ℕ × ℕ)) → i ≤ t.end → IsChain same_pair (ways n.automaton t) (i, n.automaton.start_unanchored) r →
+HasNoReturn n = (t : Text) (i : ℕ) (r : List (ℕ × ℕ)) → i ≤ t.end → IsChain same_pair (ways n.automaton t) (i,
+    n.automaton.start_unanchored) r →
     HasNoneTwice same_pair ((i, n.automaton.start_unanchored) ∷ r)
 
 -- Whatever the loops, the anchored start leads to those of the patterns, one after the other; the unanchored one leads, for

@@ -1,5 +1,6 @@
 -- What a call of the compiler adds to a builder's states: a fragment with a start, and an end that is led on later.
-use Rattle.std.specs.Prelude.{◌≡◌, ◌≢◌, ◌⊎◌, ℕ, zero, suc, ◌+◌, ◌*◌, ◌<◌, ◌≤◌, nat_lt, Bool, true, false, ◌||◌, List, length, All, Option, Some, None}
+use Rattle.std.specs.Prelude.{◌≡◌, ◌≢◌, ◌⊎◌, ℕ, zero, suc, ◌+◌, ◌*◌, ◌<◌, ◌≤◌, nat_lt, Bool, true, false, ◌||◌, List, length, All, Option}
+use Rattle.std.specs.Prelude.{Some, None}
 use Rattle.std.specs.List.{sum_by, list_any}
 use Rattle.search_core.specs.Index.{greatest_index}
 use Rattle.look_core.specs.declared.look.Look.{Look}
@@ -127,18 +128,21 @@ pub record Finished (low : ℕ) (drafts : List DraftNode) (end target : ℕ) (ta
 -- A fragment of n states at most. Once its end is led on to a target, no states that stand for others go round in it.
 pub record Makes (old new : Assembly) (start end n : ℕ) : Type 0 where
   pub fragment : IsFragment old new start end
-  pub comes_out : (table : Table) (target : ℕ) → Finished (length old.drafts) new.drafts end target table → AllComeOut table target (length old.drafts) (length new.drafts)
+  pub comes_out : (table : Table) (target : ℕ) → Finished (length old.drafts) new.drafts end target table →
+      AllComeOut table target (length old.drafts) (length new.drafts)
   pub tame : AllTame false (length old.drafts) new
   pub within : IsWithin old new n
 
 -- Once its end is led on to a target, the fragment does what the tree means on the way from its start to there.
 pub record Does (old new : Assembly) (start end : ℕ) (x : Tree) : Type 0 where
-  pub denotes : (table : Table) (target : ℕ) → Finished (length old.drafts) new.drafts end target table → Denotes old.reverse table start target x
+  pub denotes : (table : Table) (target : ℕ) → Finished (length old.drafts) new.drafts end target table →
+      Denotes old.reverse table start target x
   pub looks : (l : Look) → looks_in new.drafts l ≡ (looks_in old.drafts l || uses old.reverse x l)
 
 -- The same where something is still to do behind it: once `rest` is done from the target, `whole` is done from the start.
 pub record DoesFirst (old new : Assembly) (start end : ℕ) (rest whole : Tree) : Type 0 where
-  pub before : (table : Table) (target : ℕ) → Finished (length old.drafts) new.drafts end target table → (last : ℕ) → Denotes old.reverse table target last rest →
+  pub before : (table : Table) (target : ℕ) → Finished (length old.drafts) new.drafts end target table → (last : ℕ) →
+      Denotes old.reverse table target last rest →
       Denotes old.reverse table start last whole
   pub looks : (l : Look) → (looks_in new.drafts l || uses old.reverse rest l) ≡ (looks_in old.drafts l || uses old.reverse whole l)
 
@@ -149,11 +153,13 @@ raised n (Some most) = Some (n + most)
 
 -- n rounds of the tree are done before the others of a repetition
 pub record DoesCopies (old new : Assembly) (start end n : ℕ) (x : Tree) : Type 0 where
-  pub before : (min : ℕ) (most : Option ℕ) (greedy : Bool) → DoesFirst old new start end (repetition min most greedy x) (repetition (n + min) (raised n most) greedy x)
+  pub before : (min : ℕ) (most : Option ℕ) (greedy : Bool) → DoesFirst old new start end (repetition min most greedy x)
+      (repetition (n + min) (raised n most) greedy x)
 
 -- one more round of the tree may come before the others, or all of them are passed by on the way to the exit
 pub record DoesOption (old new : Assembly) (start end exit : ℕ) (greedy : Bool) (x : Tree) : Type 0 where
   pub before : (table : Table) (target : ℕ) → Finished (length old.drafts) new.drafts end target table → (left : ℕ) →
-      Denotes old.reverse table target exit (repetition 0 (Some left) greedy x) → Denotes old.reverse table start exit (repetition 0 (Some (suc left)) greedy x)
+      Denotes old.reverse table target exit (repetition 0 (Some left) greedy x) →
+          Denotes old.reverse table start exit (repetition 0 (Some (suc left)) greedy x)
   pub looks : (l : Look) (left : ℕ) →
       (looks_in new.drafts l || uses old.reverse (repetition 0 (Some left) greedy x) l) ≡ (looks_in old.drafts l || uses old.reverse x l)

@@ -36,7 +36,8 @@ abbrev pub Leads : Bool → Text → Table → ℕ × ℕ → ℕ × ℕ → Typ
 Leads reverse t table p q = (r : List (ℕ × ℕ)) × IsChain same_pair (table_ways reverse t table) p r × (last_or p r ≡ q)
 
 -- the chain r from p passes the state e at a place to which something leads that is meant from place i
-pub record Passes (reverse : Bool) (t : Text) (table : Table) (meant : ℕ → ℕ → Type 0) (i e : ℕ) (p : ℕ × ℕ) (r : List (ℕ × ℕ)) : Type 0 where
+pub record Passes (reverse : Bool) (t : Text) (table : Table) (meant : ℕ → ℕ → Type 0) (i e : ℕ) (p : ℕ ×
+    ℕ) (r : List (ℕ × ℕ)) : Type 0 where
   pub middle : ℕ
   pub rest : List (ℕ × ℕ)
   pub is_meant : meant i middle

@@ -39,7 +39,8 @@ pub record LaysNode (first : ℕ) (old new : List (List (List ℕ))) (node : Nod
   pub adds : AddsGroups old new (edges_in node.items) rest
   pub holds : (before : List (List (List ℕ))) → length before ≡ first → IsNode first (before ++ new) node.items rest
 
--- The nodes of all groups, of which the first has all strings. Edges lead to later nodes, and bytes of stems and edges are no more than those of the strings.
+-- The nodes of all groups, of which the first has all strings. Edges lead to later nodes, and bytes of stems and edges are no
+-- more than those of the strings.
 pub record IsTrie (nodes : List NodeValue) (strings : List (List ℕ)) : Type 0 where
   pub groups : List (List (List ℕ))
   pub as_many : length groups ≡ length nodes

@@ -62,7 +62,8 @@ pub record AddsNode (old new : Assembly) (names : List ℕ) (end : ℕ) (items :
   pub tame : AllTame true (length old.drafts) new
   pub stands : (q : ℕ) → length old.drafts ≤ q → q < length new.drafts → stands_for (draft_at new.drafts q) ≡ None
   pub there : (id ≡ end) ⊎ ((length old.drafts ≤ id) × (id < length new.drafts))
-  pub denotes : (table : Table) → ((q : ℕ) → length old.drafts ≤ q → q < length new.drafts → table q ≡ draft_at new.drafts q) → (first : ℕ) → AreChunks first (length names) items → (x : ℕ → Tree) →
+  pub denotes : (table : Table) → ((q : ℕ) → length old.drafts ≤ q → q < length new.drafts → table q ≡ draft_at new.drafts q) →
+      (first : ℕ) → AreChunks first (length names) items → (x : ℕ → Tree) →
       IsLed old.reverse table end first names x → Denotes old.reverse table id end (alternation (item_trees old.reverse names x items))
 
 -- what contracts see of a trie of literals: the strings in which they are read, in order of preference

@@ -9,7 +9,8 @@ use Rattle.thompson_nfa.specs.Denotes.{Denotes}
 use Rattle.thompson_nfa.specs.LiteralStates.{literals}
 use Rattle.thompson_nfa.specs.LiteralStems.{behind_text}
 
--- A state was added for each byte of the text. From the first of them on the table does what strings mean behind the text where it does from the state `next` on what these mean.
+-- A state was added for each byte of the text. From the first of them on the table does what strings mean behind the text where
+-- it does from the state `next` on what these mean.
 pub record AddsText (old new : Assembly) (next : ℕ) (text : List ℕ) (id : ℕ) : Type 0 where
   pub grows : Grows old new
   pub groups : new.groups ≡ old.groups
@@ -19,5 +20,6 @@ pub record AddsText (old new : Assembly) (next : ℕ) (text : List ℕ) (id : �
   pub tame : AllTame true (length old.drafts) new
   pub stands : (q : ℕ) → length old.drafts ≤ q → q < length new.drafts → stands_for (draft_at new.drafts q) ≡ None
   pub there : (id ≡ next) ⊎ ((length old.drafts ≤ id) × (id < length new.drafts))
-  pub denotes : (back : Bool) (table : Table) → ((q : ℕ) → length old.drafts ≤ q → q < length new.drafts → table q ≡ draft_at new.drafts q) → (end : ℕ) (strings : List (List ℕ)) →
+  pub denotes : (back : Bool) (table : Table) → ((q : ℕ) → length old.drafts ≤ q → q < length new.drafts →
+      table q ≡ draft_at new.drafts q) → (end : ℕ) (strings : List (List ℕ)) →
       Denotes back table next end (literals back strings) → Denotes back table id end (literals back (behind_text text strings))

@@ -1,5 +1,6 @@
 -- What the compile of patterns, one after the other, adds to a builder, and why it is refused.
-use Rattle.std.specs.Prelude.{◌≡◌, ◌≢◌, ℕ, ◌+◌, ◌*◌, ◌<◌, ◌≤◌, nat_lt, Bool, true, false, ◌||◌, List, [], ◌∷◌, ◌++◌, length, slice_get, All, Option, None, Some, if◌then◌else◌}
+use Rattle.std.specs.Prelude.{◌≡◌, ◌≢◌, ℕ, ◌+◌, ◌*◌, ◌<◌, ◌≤◌, nat_lt, Bool, true, false, ◌||◌, List, [], ◌∷◌, ◌++◌, length, slice_get, All}
+use Rattle.std.specs.Prelude.{Option, None, Some, if◌then◌else◌}
 use Rattle.search_core.specs.Index.{greatest_index}
 use Rattle.look_core.specs.declared.look.Look.{Look}
 use Rattle.hir_core.specs.Tree.{Tree}
@@ -34,7 +35,8 @@ room_for shrink (x ∷ xs) = room shrink x + 3 + room_for shrink xs
 
 -- The trees xs were compiled, as patterns from the next number on, to n states at most; of 4096 bytes for each, `spare` are
 -- left. Their starts are `starts`. One state, `hole`, may be any: what the patterns do doesn't depend on it.
-pub record HasPatterns (which : WhichCaptures) (hole : ℕ) (old new : Assembly) (starts : List ℕ) (xs : List Tree) (n spare : ℕ) : Type 0 where
+pub record HasPatterns (which : WhichCaptures) (hole : ℕ) (old new : Assembly) (starts : List ℕ) (xs : List Tree)
+    (n spare : ℕ) : Type 0 where
   pub settings : new ≡ record old { drafts = new.drafts; groups = new.groups; starts = new.starts }
   pub starts_are : new.starts ≡ old.starts ++ starts
   pub as_many : length starts ≡ length xs
@@ -45,11 +47,15 @@ pub record HasPatterns (which : WhichCaptures) (hole : ℕ) (old new : Assembly)
   pub starts_new : All (λ s. length old.drafts ≤ s) starts
   pub starts_there : All (λ s. s < length new.drafts) starts
   pub accept : (table : Table) → Holds hole (length old.drafts) new.drafts table → AcceptAll old.reverse table (length old.starts) starts xs
-  pub stands : (table : Table) → Holds hole (length old.drafts) new.drafts table → (q : ℕ) → length old.drafts ≤ q → q < length new.drafts → q ≢ hole → ComesToKept (length old.drafts) table q
-  pub named : (q : ℕ) → length old.drafts ≤ q → q < length new.drafts → q ≢ hole → All (λ r. r < length new.drafts) (names_of (draft_at new.drafts q))
+  pub stands : (table : Table) → Holds hole (length old.drafts) new.drafts table → (q : ℕ) → length old.drafts ≤ q → q < length new.drafts →
+      q ≢ hole → ComesToKept (length old.drafts) table q
+  pub named : (q : ℕ) → length old.drafts ≤ q → q < length new.drafts → q ≢ hole →
+      All (λ r. r < length new.drafts) (names_of (draft_at new.drafts q))
   pub known : (q : ℕ) → length old.drafts ≤ q → q < length new.drafts → q ≢ hole → is_known new.groups (draft_at new.drafts q) ≡ true
-  pub numbered : (q p : ℕ) → length old.drafts ≤ q → q < length new.drafts → q ≢ hole → draft_at new.drafts q ≡ match_draft p → (length old.starts ≤ p) × (p < length new.starts)
-  pub one_match : (q r p : ℕ) → length old.drafts ≤ q → q < length new.drafts → q ≢ hole → length old.drafts ≤ r → r < length new.drafts → r ≢ hole →
+  pub numbered : (q p : ℕ) → length old.drafts ≤ q → q < length new.drafts → q ≢ hole → draft_at new.drafts q ≡ match_draft p →
+      (length old.starts ≤ p) × (p < length new.starts)
+  pub one_match : (q r p : ℕ) → length old.drafts ≤ q → q < length new.drafts → q ≢ hole → length old.drafts ≤ r → r < length new.drafts →
+      r ≢ hole →
       draft_at new.drafts q ≡ match_draft p → draft_at new.drafts r ≡ match_draft p → q ≡ r
   pub looks : (l : Look) → looks_in new.drafts l ≡ (looks_in old.drafts l || any_uses old.reverse xs l)
   pub states : length new.drafts ≤ length old.drafts + n
@@ -63,7 +69,8 @@ HasAll which old new starts xs n spare = HasPatterns which (length new.drafts) o
 -- All patterns were compiled, and the state c leads to them.
 abbrev pub LeadsToPatterns : WhichCaptures → Assembly → Assembly → ℕ → List Tree → ℕ → Type 0
 LeadsToPatterns which old new c xs n =
-    (starts : List ℕ) × HasAll which old new starts xs n 0 × LeadsToAll (draft_at new.drafts) c starts × (c < length new.drafts) × (length old.drafts ≤ c)
+    (starts : List ℕ) × HasAll which old new starts xs n 0 × LeadsToAll (draft_at new.drafts) c starts × (c < length new.drafts) ×
+        (length old.drafts ≤ c)
     × IsFree old.reverse (length old.drafts) (length old.starts) new.drafts c starts xs
 
 -- The union led to some states, and leads to the starts of further patterns too.
@@ -79,7 +86,8 @@ HasStart false old new u = HasPrefix old new u
 
 -- a builder without states and patterns, with what these options say
 abbrev pub begun_with : Options → Assembly
-begun_with o = record { drafts = []; starts = []; groups = []; is_open = false; utf8 = utf8_of o; reverse = reverse_of o; terminator = terminator_of o; size_limit = limit_of o }
+begun_with o = record { drafts = []; starts = []; groups = []; is_open = false; utf8 = utf8_of o; reverse = reverse_of o;
+    terminator = terminator_of o; size_limit = limit_of o }
 
 -- Patterns for which n states are room are refused: some tree's group has an index that is too great, or the states are
 -- refused.
@@ -90,5 +98,6 @@ RefusesPatterns which b n xs e = RefusesStates b n e
 
 -- where the limit has no room for as many states as can be numbered, it is passed before the numbers run out
 abbrev pub told_by : Option ℕ → BuildError → BuildError
-told_by (Some limit) error.TooManyStates = if nat_lt limit (24 * (greatest_index + 1)) then error.ExceededSizeLimit limit else error.TooManyStates
+told_by (Some limit) error.TooManyStates = if nat_lt limit (24 * (greatest_index + 1)) then error.ExceededSizeLimit limit
+    else error.TooManyStates
 told_by limit e = e

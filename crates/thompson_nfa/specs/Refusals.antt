@@ -16,7 +16,8 @@ use Rattle.thompson_nfa.specs.declared.which_captures.WhichCaptures.{WhichCaptur
 -- bytes, or memory lacks. The count of bytes stops at the largest number of 64 bits, which no limit is below.
 abbrev pub RefusesStep : Assembly → ℕ → ℕ → BuildError → Type 0
 RefusesStep b n bytes error.TooManyStates = greatest_index + 1 < length b.drafts + n
-RefusesStep b n bytes (error.ExceededSizeLimit limit) = (b.size_limit ≡ Some limit) × (limit < sum_of_bytes b + bytes) × (limit < 18446744073709551615)
+RefusesStep b n bytes (error.ExceededSizeLimit limit) = (b.size_limit ≡ Some limit) × (limit < sum_of_bytes b + bytes) ×
+    (limit < 18446744073709551615)
 RefusesStep b n bytes error.NoMemory = Unit {0}
 RefusesStep b n bytes _ = ⊥
 

@@ -25,7 +25,8 @@ pub data SharesRange (old new : Assembly) (map changed : SlotTable Utf8SuffixKey
 
 -- the same for one range after the other, where the first one's state leads to the end: `id` is that of the last, or the end
 -- where there is none
-pub data SharesRanges (end : ℕ) (old : Assembly) (map : SlotTable Utf8SuffixKey) : Assembly → SlotTable Utf8SuffixKey → ℕ → List (ℕ × ℕ) → Type 0 where
+pub data SharesRanges (end : ℕ) (old : Assembly) (map : SlotTable Utf8SuffixKey) : Assembly → SlotTable Utf8SuffixKey → ℕ → List (ℕ × ℕ) →
+    Type 0 where
   shares_none : SharesRanges end old map old map end []
   shares_more : (mid new : Assembly) (kept changed : SlotTable Utf8SuffixKey) (next id : ℕ) (ranges : List (ℕ × ℕ)) (range : ℕ × ℕ) →
       SharesRanges end old map mid kept next ranges → SharesRange mid new kept changed next range id →
@@ -48,7 +49,8 @@ pub record AddsSequence (old new : Assembly) (map changed : SlotTable Utf8Suffix
   pub leads : Led whole new choice first
 
 -- the same for each of the sequences, one after the other
-pub data AddsSequences (choice end : ℕ) (old : Assembly) (map : SlotTable Utf8SuffixKey) : Assembly → SlotTable Utf8SuffixKey → List (List (ℕ × ℕ)) → Type 0 where
+pub data AddsSequences (choice end : ℕ) (old : Assembly) (map : SlotTable Utf8SuffixKey) : Assembly → SlotTable Utf8SuffixKey →
+    List (List (ℕ × ℕ)) → Type 0 where
   sequences_none : AddsSequences choice end old map old map []
   sequences_more : (mid new : Assembly) (kept changed : SlotTable Utf8SuffixKey) (sequences : List (List (ℕ × ℕ))) (ranges : List (ℕ × ℕ)) →
       AddsSequences choice end old map mid kept sequences → AddsSequence mid new kept changed choice end ranges →

@@ -42,4 +42,5 @@ pub record IsCover (v : List (List (List (ℕ × ℕ)))) (next : Next) (start st
 abbrev pub IsStep : List (List (List (ℕ × ℕ))) → List (List (List (ℕ × ℕ))) → ℕ → ℕ → List (ℕ × ℕ) → Edge → Edge → Type 0
 IsStep v w start stop rest p e =
     (e.range ≡ p.range)
-    × ((IsWithin start stop p × IsWith (below v p.next) rest (below w e.next)) ⊎ (IsBeside start stop p × (below w e.next ≡ below v p.next)))
+    × ((IsWithin start stop p × IsWith (below v p.next) rest (below w e.next)) ⊎
+        (IsBeside start stop p × (below w e.next ≡ below v p.next)))

@@ -53,7 +53,8 @@ fresh_limb range = record { branches = []; last = range }
 
 -- the node whose last range leads to a state from which this tree is read, with another range behind it
 abbrev pub grown : ℕ → Tree → ℕ × ℕ → Limb → Limb
-grown next x range l = record { branches = l.branches ++ record { low = l.last.0; high = l.last.1; next = next; tree = x } ∷ []; last = range }
+grown next x range l = record { branches = l.branches ++ record { low = l.last.0; high = l.last.1; next = next; tree = x } ∷ [];
+    last = range }
 
 -- from the branches' states to the end the table does what the branches' trees mean
 abbrev pub BranchesLead : Bool → Table → ℕ → List Branch → Type 0
@@ -100,7 +101,8 @@ pub record HasStates (old new : Assembly) (end : ℕ) (most : ℕ) : Type 0 wher
 
 -- What is read along the path, once its last ranges lead on, is what is read by the sequences. One state is for the end, and
 -- four for each sequence, of which the path's nodes are still to be made.
-pub record IsCompiling (old new : Assembly) (end : ℕ) (compiled : SlotTable (List Transition)) (nodes : List Stage) (qs : List (List (ℕ × ℕ))) : Type 0 where
+pub record IsCompiling (old new : Assembly) (end : ℕ) (compiled : SlotTable (List Transition)) (nodes : List Stage)
+    (qs : List (List (ℕ × ℕ))) : Type 0 where
   pub most : ℕ
   pub has : HasStates old new end most
   pub room : most + length nodes ≤ 1 + 4 * length qs

@@ -79,7 +79,8 @@ pub record MakesTop (old new : Assembly) (end : ℕ) (ns0 ns1 : List Stage) (nex
 -- states were made for the last nodes of a path, from the top down; the last index is where the next one's last range leads
 pub data Pops (end : ℕ) (b0 : Assembly) (ns0 : List Stage) : Assembly → List Stage → ℕ → Type 0 where
   pops_none : Pops end b0 ns0 b0 ns0 end
-  pops_more : (b c : Assembly) (ns ms : List Stage) (next id : ℕ) → Pops end b0 ns0 b ns next → MakesTop b c end ns ms next id → Pops end b0 ns0 c ms id
+  pops_more : (b c : Assembly) (ns ms : List Stage) (next id : ℕ) → Pops end b0 ns0 b ns next → MakesTop b c end ns ms next id →
+      Pops end b0 ns0 c ms id
 
 -- the node at the place leads on, and has this last range now
 pub record Turns (end : ℕ) (b0 b1 : Assembly) (ns0 ns1 : List Stage) (range : ℕ × ℕ) (at : ℕ) : Type 0 where

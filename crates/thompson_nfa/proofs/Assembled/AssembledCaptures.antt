@@ -1,5 +1,6 @@
 -- Where no group is kept, no state of the automaton that is built of a compile's states is one of a group.
-use Rattle.std.proofs.Common.{◌≡◌, ℕ, ◌<◌, true, false, List, [], ◌∷◌, map, reverse, None, is_none, is_some, nat_lt, get_or, refl, ap, ◌∙◌, subst, arith, ⊎_elim}
+use Rattle.std.proofs.Common.{◌≡◌, ℕ, ◌<◌, true, false, List, [], ◌∷◌, map, reverse, None, is_none, is_some, nat_lt, get_or, refl, ap, ◌∙◌}
+use Rattle.std.proofs.Common.{subst, arith, ⊎_elim}
 use Rattle.std.specs.Prelude.{All}
 use Rattle.std.specs.List.{list_any}
 use Rattle.std.proofs.lemmas.Bool.{cases_Bool, ltb-true}
@@ -8,7 +9,8 @@ use Rattle.std.proofs.lemmas.List.Folds.{list_any_none}
 use Rattle.search_types.specs.Groups.{Groups, slot}
 use Rattle.hir_core.specs.Tree.{Tree}
 use Rattle.nfa_core.specs.NfaValue.{is_capture}
-use Rattle.nfa_core.specs.BuilderStates.{DraftNode, empty_draft, range_draft, sparse_draft, look_draft, capture_start_draft, capture_end_draft, union_draft, union_reverse_draft, fail_draft, match_draft, Assembly}
+use Rattle.nfa_core.specs.BuilderStates.{DraftNode, empty_draft, range_draft, sparse_draft, look_draft, capture_start_draft}
+use Rattle.nfa_core.specs.BuilderStates.{capture_end_draft, union_draft, union_reverse_draft, fail_draft, match_draft, Assembly}
 use Rattle.nfa_core.specs.CanBuild.{is_known}
 use Rattle.nfa_core.specs.Renaming.{stands_for, kept, new_name, ways_node, ranges_node, renamed, automaton_of}
 use Rattle.thompson_nfa.specs.Configs.{Options, captures_of, is_any}
@@ -54,7 +56,8 @@ plain_states name drafts known =
     let P : DraftNode → Type 0 = λ draft. is_capture (renamed name [] draft) ≡ false in
     let all : All P drafts = λ k d inside. plain_draft name (get_or drafts k d) (known k d inside) in
     list_any_none is_capture (map (renamed name []) (kept drafts))
-    (All-map (λ node. is_capture node ≡ false) (renamed name []) (kept drafts) (All-filter (λ draft. is_none (stands_for draft)) P drafts all))
+    (All-map (λ node. is_capture node ≡ false) (renamed name []) (kept drafts)
+        (All-filter (λ draft. is_none (stands_for draft)) P drafts all))
 
 pub assembled_no_captures : (o : Options) (xs : List Tree) (b : Assembly) (A U : ℕ) → IsAssembled o xs b A U →
     is_any (captures_of o) ≡ false → list_any is_capture (automaton_of b A U).states ≡ false

@@ -1,5 +1,6 @@
 -- The automaton that is built of a compile's states is the one that the trees are compiled to.
-use Rattle.std.proofs.Common.{◌≡◌, ◌≢◌, ◌↔◌, ℕ, suc, ◌-◌, ◌*◌, ◌≤◌, min, arith, true, false, List, [], length, Some, slice_get, sym, ap, ◌∙◌, subst}
+use Rattle.std.proofs.Common.{◌≡◌, ◌≢◌, ◌↔◌, ℕ, suc, ◌-◌, ◌*◌, ◌≤◌, min, arith, true, false, List, [], length, Some, slice_get, sym, ap}
+use Rattle.std.proofs.Common.{◌∙◌, subst}
 use Rattle.std.specs.Prelude.{MatchOption, ⊤}
 use Rattle.std.specs.Bool.{nat_eq}
 use Rattle.hir_core.specs.Tree.{Tree}
@@ -29,7 +30,8 @@ use Rattle.thompson_nfa.proofs.Assembled.AssembledLooks.{assembled_looks}
 use Rattle.thompson_nfa.proofs.Assembled.AssembledSpans.{assembled_finds_spans}
 use Rattle.thompson_nfa.proofs.Assembled.AssembledOrders.{assembled_finds_in_order}
 use Rattle.thompson_nfa.proofs.Assembled.AssembledReturns.{assembled_has_no_return}
-use Rattle.thompson_nfa.proofs.Assembled.AssembledDrafts.{assembled_has_one_match, assembled_states, assembled_patterns, assembled_always_anchored}
+use Rattle.thompson_nfa.proofs.Assembled.AssembledDrafts.{assembled_has_one_match, assembled_states, assembled_patterns}
+use Rattle.thompson_nfa.proofs.Assembled.AssembledDrafts.{assembled_always_anchored}
 use Rattle.thompson_nfa.proofs.Assembled.AssembledEmpty.{assembled_empty}
 use Rattle.thompson_nfa.proofs.Assembled.AssembledCaptures.{assembled_no_captures}
 
@@ -42,7 +44,8 @@ AreLedTo a = (q : ℕ) → Has nat_eq q (reached_freely a)
 pub led_to : (a : Automaton) →
     ((q : ℕ) → Has nat_eq q (reached_freely a) →
     (s : ℕ) × (r : List ℕ) × Has nat_eq s a.start_pattern × IsChain nat_eq (free_steps a) s r × (last_or s r ≡ q)) →
-    ((q s : ℕ) (r : List ℕ) → Has nat_eq s a.start_pattern → IsChain nat_eq (free_steps a) s r → last_or s r ≡ q → Has nat_eq q (reached_freely a)) →
+    ((q s : ℕ) (r : List ℕ) → Has nat_eq s a.start_pattern → IsChain nat_eq (free_steps a) s r → last_or s r ≡ q →
+        Has nat_eq q (reached_freely a)) →
     AreLedTo a
 led_to a led all q = (λ h. let x = led q h in (x.0, x.2, x.1, x.3, x.4), λ x. all q x.0 x.2 x.1 x.3 x.4)
 
@@ -50,8 +53,10 @@ capped_below : (a b m s : ℕ) → m ≤ min a b → a ≤ s → m ≤ s
 capped_below a b m s below le = grind arith
 
 -- the states of what is built need no more bytes than those of the builder
-assembled_bytes : (o : Options) (xs : List Tree) (b : Assembly) (A U : ℕ) → IsAssembled o xs b A U → memory_of (automaton_of b A U).states ≤ 4096 * list_room (is_shrunk o) xs
-assembled_bytes o xs b A U is = capped_below (sum_of_bytes b) 18446744073709551615 (memory_of (automaton_of b A U).states) (4096 * list_room (is_shrunk o) xs) (smaller b A U) is.bytes
+assembled_bytes : (o : Options) (xs : List Tree) (b : Assembly) (A U : ℕ) → IsAssembled o xs b A U →
+    memory_of (automaton_of b A U).states ≤ 4096 * list_room (is_shrunk o) xs
+assembled_bytes o xs b A U is = capped_below (sum_of_bytes b) 18446744073709551615 (memory_of (automaton_of b A U).states)
+    (4096 * list_room (is_shrunk o) xs) (smaller b A U) is.bytes
 
 pub assembled_is_compiled : (o : Options) (xs : List Tree) (b : Assembly) (A U : ℕ) → IsAssembled o xs b A U →
     ((AllAnchored (reverse_of o) xs → ⊥) → past b.drafts A ≢ U) → AreLedTo (automaton_of b A U) →
@@ -89,11 +94,14 @@ assembled_is_compiled o xs b A U is apart reached n same utf8 terminator groups 
   matches = λ p inside.
       let P : Automaton → Type 0 = λ a. HasOneMatch a p in subst P (sym same) (assembled_has_one_match o xs b A U is p inside);
   empty =
-      let P : Automaton → Type 0 = λ a. (has_empty a ≡ true) ↔ ((p : ℕ) × (x : Tree) × (slice_get xs p ≡ Some x) × Means (λ l i. true) [] x 0 0) in
+      let P : Automaton → Type 0 = λ a. (has_empty a ≡ true) ↔ ((p : ℕ) × (x : Tree) × (slice_get xs p ≡ Some x) ×
+          Means (λ l i. true) [] x 0 0) in
       subst P (sym same) (assembled_empty o xs b A U is reached);
   always_anchored =
       let P : Automaton → Type 0 = λ a. (a.start_anchored ≡ a.start_unanchored) ↔ AllAnchored (reverse_of o) xs in
       subst P (sym same) (assembled_always_anchored o xs b A U is apart);
-  states = let P : Automaton → Type 0 = λ a. length a.states ≤ list_room (is_shrunk o) xs in subst P (sym same) (assembled_states o xs b A U is);
-  bytes = let P : Automaton → Type 0 = λ a. memory_of a.states ≤ 4096 * list_room (is_shrunk o) xs in subst P (sym same) (assembled_bytes o xs b A U is);
+  states = let P : Automaton → Type 0 = λ a. length a.states ≤ list_room (is_shrunk o) xs in
+      subst P (sym same) (assembled_states o xs b A U is);
+  bytes = let P : Automaton → Type 0 = λ a. memory_of a.states ≤ 4096 * list_room (is_shrunk o) xs in
+      subst P (sym same) (assembled_bytes o xs b A U is);
 }

@@ -1,5 +1,6 @@
 -- The states of the automaton that is built of a compile's states: its matches, how many they are, and where it starts.
-use Rattle.std.proofs.Common.{◌≡◌, ◌≢◌, ◌↔◌, ℕ, ◌<◌, ◌≤◌, List, length, take, get_or, inl, inr, ⊎_elim, Some, None, is_none, sym, ap, ◌∙◌, arith}
+use Rattle.std.proofs.Common.{◌≡◌, ◌≢◌, ◌↔◌, ℕ, ◌<◌, ◌≤◌, List, length, take, get_or, inl, inr, ⊎_elim, Some, None, is_none, sym, ap, ◌∙◌}
+use Rattle.std.proofs.Common.{arith}
 use Rattle.std.proofs.lemmas.List.{length-map, get_or_past}
 use Rattle.std.proofs.lemmas.List.Sums.{length-filter, count_by-le-length}
 use Rattle.std.proofs.lemmas.Bool.Decides.{leb_tells}
@@ -7,7 +8,8 @@ use Rattle.std.proofs.lemmas.Option.{slice_get-get_or}
 use Rattle.hir_core.specs.Tree.{Tree, empty}
 use Rattle.nfa_core.specs.Nfa.{Node, fail_node, match_node, node_at}
 use Rattle.nfa_core.specs.Ways.{matched, match_of}
-use Rattle.nfa_core.specs.BuilderStates.{DraftNode, empty_draft, range_draft, sparse_draft, look_draft, capture_start_draft, capture_end_draft, union_draft, union_reverse_draft, fail_draft, match_draft, draft_at, Assembly}
+use Rattle.nfa_core.specs.BuilderStates.{DraftNode, empty_draft, range_draft, sparse_draft, look_draft, capture_start_draft}
+use Rattle.nfa_core.specs.BuilderStates.{capture_end_draft, union_draft, union_reverse_draft, fail_draft, match_draft, draft_at, Assembly}
 use Rattle.nfa_core.specs.Drafted.{drafted}
 use Rattle.nfa_core.specs.Renaming.{stands_for, past, kept, new_name, renamed, automaton_of}
 use Rattle.nfa_core.proofs.ForCallers.{match_is, past_inside, past_stands, past_twice, past_next, one_state, state_named, state_match}
@@ -49,8 +51,10 @@ node_inside nodes q p is = ⊎_elim
     (λ told. let none : get_or nodes q fail_node ≡ fail_node = get_or_past nodes q fail_node told.1 in cc)
     (λ told. told.1) (leb_tells (length nodes) q)
 
-module _ (b : Assembly) (A U p : ℕ) (one : (q r p : ℕ) → draft_at b.drafts q ≡ match_draft p → draft_at b.drafts r ≡ match_draft p → q ≡ r) where
-  only_match : (end r : ℕ) → draft_at b.drafts end ≡ match_draft p → node_at (automaton_of b A U) r ≡ match_node p → r ≡ new_name b.drafts end
+module _ (b : Assembly) (A U p : ℕ) (one : (q r p : ℕ) → draft_at b.drafts q ≡ match_draft p → draft_at b.drafts r ≡ match_draft p →
+    q ≡ r) where
+  only_match : (end r : ℕ) → draft_at b.drafts end ≡ match_draft p → node_at (automaton_of b A U) r ≡ match_node p →
+      r ≡ new_name b.drafts end
   only_match end r is node =
       let s = state_named b A U r (node_inside (automaton_of b A U).states r p node) in
       let same : matched (automaton_of b A U) (0, new_name b.drafts s.0) ≡ Some (0, p) =
@@ -63,7 +67,8 @@ module _ (b : Assembly) (A U p : ℕ) (one : (q r p : ℕ) → draft_at b.drafts
       let inside = match_inside b.drafts end p is in
       let stands : stands_for (draft_at b.drafts end) ≡ None = ap stands_for is in (
         new_name b.drafts end,
-        node_of_match (node_at (automaton_of b A U) (new_name b.drafts end)) 0 p (state_match b A U end 0 inside stands ∙ ap (λ (n : DraftNode). match_of (drafted n) 0) is),
+        node_of_match (node_at (automaton_of b A U) (new_name b.drafts end)) 0 p (state_match b A U end 0 inside stands
+            ∙ ap (λ (n : DraftNode). match_of (drafted n) 0) is),
         λ r node. only_match end r is node,
       )
 
@@ -71,7 +76,8 @@ module _ (o : Options) (xs : List Tree) (b : Assembly) (A U : ℕ) (is : IsAssem
   has_one_match : (p : ℕ) → p < length xs → HasOneMatch (automaton_of b A U) p
   has_one_match p inside =
       let x = get_or xs p empty in
-      let a = accept_at (reverse_of o) (draft_at b.drafts) 0 b.starts xs is.accept p p x (omega arith) (slice_get-get_or xs p empty inside) in
+      let a = accept_at (reverse_of o) (draft_at b.drafts) 0 b.starts xs is.accept p p x (omega arith)
+          (slice_get-get_or xs p empty inside) in
       one_match_of b A U p is.one_match a.accepts.end a.accepts.matches
 
   -- ---- how many there are
@@ -95,7 +101,8 @@ module _ (o : Options) (xs : List Tree) (b : Assembly) (A U : ℕ) (is : IsAssem
     | inr x ↦ absurd (x.0 all)
   ]
 
-  two_starts : ((AllAnchored (reverse_of o) xs → ⊥) → past b.drafts A ≢ U) → new_name b.drafts A ≡ new_name b.drafts U → AllAnchored (reverse_of o) xs
+  two_starts : ((AllAnchored (reverse_of o) xs → ⊥) → past b.drafts A ≢ U) → new_name b.drafts A ≡ new_name b.drafts U →
+      AllAnchored (reverse_of o) xs
   two_starts apart same = elim is.before [
     | inl x ↦ x.0
     | inr x ↦
@@ -107,13 +114,16 @@ module _ (o : Options) (xs : List Tree) (b : Assembly) (A U : ℕ) (is : IsAssem
         (past_stands b.drafts can.no_loop A can.anchored_there) stands (name ∙ same)))
   ]
 
-pub assembled_has_one_match : (o : Options) (xs : List Tree) (b : Assembly) (A U : ℕ) → IsAssembled o xs b A U → (p : ℕ) → p < length xs → HasOneMatch (automaton_of b A U) p
+pub assembled_has_one_match : (o : Options) (xs : List Tree) (b : Assembly) (A U : ℕ) → IsAssembled o xs b A U → (p : ℕ) → p < length xs →
+    HasOneMatch (automaton_of b A U) p
 assembled_has_one_match o xs b A U is p inside = has_one_match o xs b A U is p inside
 
-pub assembled_states : (o : Options) (xs : List Tree) (b : Assembly) (A U : ℕ) → IsAssembled o xs b A U → length (automaton_of b A U).states ≤ list_room (is_shrunk o) xs
+pub assembled_states : (o : Options) (xs : List Tree) (b : Assembly) (A U : ℕ) → IsAssembled o xs b A U →
+    length (automaton_of b A U).states ≤ list_room (is_shrunk o) xs
 assembled_states o xs b A U is = few_states o xs b A U is
 
-pub assembled_patterns : (o : Options) (xs : List Tree) (b : Assembly) (A U : ℕ) → IsAssembled o xs b A U → length (automaton_of b A U).start_pattern ≡ length xs
+pub assembled_patterns : (o : Options) (xs : List Tree) (b : Assembly) (A U : ℕ) → IsAssembled o xs b A U →
+    length (automaton_of b A U).start_pattern ≡ length xs
 assembled_patterns o xs b A U is = all_patterns o xs b A U is
 
 -- the two starts are one where all trees are anchored; where they aren't, the premise keeps them apart

@@ -1,6 +1,7 @@
 -- Whether a match of the automaton that is built of a compile's states is reached without a byte: whether some tree means
 -- the empty span, each look taken as one that holds.
-use Rattle.std.proofs.Common.{◌≡◌, ◌↔◌, ℕ, ◌<◌, Bool, true, false, List, [], ◌∷◌, length, map, get_or, slice_get, inl, inr, ⊎_elim, Some, refl, sym, ap, ◌∙◌, subst, arith}
+use Rattle.std.proofs.Common.{◌≡◌, ◌↔◌, ℕ, ◌<◌, Bool, true, false, List, [], ◌∷◌, length, map, get_or, slice_get, inl, inr, ⊎_elim, Some}
+use Rattle.std.proofs.Common.{refl, sym, ap, ◌∙◌, subst, arith}
 use Rattle.std.specs.Bool.{nat_eq}
 use Rattle.std.specs.List.{list_any}
 use Rattle.std.proofs.lemmas.Bool.{cases_Bool}
@@ -9,12 +10,14 @@ use Rattle.hir_core.specs.Means.{Means}
 use Rattle.nfa_core.specs.Walks.{Has}
 use Rattle.nfa_core.specs.Runs.{IsChain, last_or}
 use Rattle.nfa_core.specs.Places.{same_pair}
-use Rattle.nfa_core.specs.Nfa.{Node, byte_range, sparse_node, dense_node, look_node, union_node, binary_union, capture_node, fail_node, match_node, Automaton, node_at}
+use Rattle.nfa_core.specs.Nfa.{Node, byte_range, sparse_node, dense_node, look_node, union_node, binary_union, capture_node, fail_node}
+use Rattle.nfa_core.specs.Nfa.{match_node, Automaton, node_at}
 use Rattle.nfa_core.specs.NfaValue.{is_match, free_steps, reached_freely, has_empty}
 use Rattle.nfa_core.specs.Ways.{Text, node_ways, on_nothing, ways, match_of, matched}
 use Rattle.nfa_core.specs.BuilderStates.{Assembly, draft_at}
 use Rattle.nfa_core.specs.Renaming.{new_name, automaton_of}
-use Rattle.nfa_core.proofs.ForCallers.{none_in, has_cons, has_same, has_first, has_later, names_equal, pairs_equal, from_map, match_is, listed_run, chain_listed, name_inside, is_well_formed}
+use Rattle.nfa_core.proofs.ForCallers.{none_in, has_cons, has_same, has_first, has_later, names_equal, pairs_equal, from_map, match_is}
+use Rattle.nfa_core.proofs.ForCallers.{listed_run, chain_listed, name_inside, is_well_formed}
 use Rattle.thompson_nfa.specs.Configs.{Options, reverse_of}
 use Rattle.thompson_nfa.specs.Denotes.{IsMeant}
 use Rattle.thompson_nfa.specs.Compilations.{start_of}
@@ -28,7 +31,8 @@ any_has : (test : ℕ → Bool) (xs : List ℕ) → list_any test xs ≡ true �
 any_has test [] e = cc
 any_has test (x ∷ xs) e = ⊎_elim
     (λ (yes_here : test x ≡ true). (x, has_first nat_eq names_equal x xs, yes_here))
-    (λ (not_here : test x ≡ false). let r = any_has test xs (rw not_here at e) in (r.0, has_later nat_eq r.0 x xs r.1, r.2)) (cases_Bool (test x))
+    (λ (not_here : test x ≡ false). let r = any_has test xs (rw not_here at e) in
+        (r.0, has_later nat_eq r.0 x xs r.1, r.2)) (cases_Bool (test x))
 
 has_any : (test : ℕ → Bool) (xs : List ℕ) (q : ℕ) → Has nat_eq q xs → test q ≡ true → list_any test xs ≡ true
 has_any test [] q h e = none_in nat_eq q _ h
@@ -158,8 +162,10 @@ module _ (o : Options) (xs : List Tree) (b : Assembly) (A U : ℕ) (is : IsAssem
       let k : ℕ = start_of auto tree.0 in
       let c = chain_here auto k r (subst P (sym tree.3) chain) in
       let ends : last_or (here k) (map here r) ≡ here q = last_here auto k r ∙ ap (λ (n : ℕ). here (last_or n r)) tree.3 ∙ ap here last in
-      let final : matched auto (last_or (here k) (map here r)) ≡ Some (0, p) = ap (matched auto) ends ∙ ap (λ (n : Node). match_of n 0) node in
-      let listed = chain_listed auto free_text (here k) (is_well_formed b A U is.can_build) (omega arith, start_below tree.0 tree.1 tree.2) (0, p) (map here r) c final in
+      let final : matched auto (last_or (here k) (map here r)) ≡ Some (0, p) =
+          ap (matched auto) ends ∙ ap (λ (n : Node). match_of n 0) node in
+      let listed = chain_listed auto free_text (here k) (is_well_formed b A U is.can_build) (omega arith,
+          start_below tree.0 tree.1 tree.2) (0, p) (map here r) c final in
       let m = (patterns_found o xs b A U is tree.0 tree.1 tree.2 free_text 0 (0, p) (omega arith)).0 listed in
       (tree.0, tree.1, tree.2, means_there (reverse_of o) tree.1 0 m.1 refl)
 
@@ -186,6 +192,7 @@ module _ (o : Options) (xs : List Tree) (b : Assembly) (A U : ℕ) (is : IsAssem
 
 pub assembled_empty : (o : Options) (xs : List Tree) (b : Assembly) (A U : ℕ) → IsAssembled o xs b A U →
     ((q : ℕ) → Has nat_eq q (reached_freely (automaton_of b A U))
-    ↔ ((s : ℕ) × Has nat_eq s (automaton_of b A U).start_pattern × (r : List ℕ) × IsChain nat_eq (free_steps (automaton_of b A U)) s r × (last_or s r ≡ q))) →
+    ↔ ((s : ℕ) × Has nat_eq s (automaton_of b A U).start_pattern × (r : List ℕ) × IsChain nat_eq (free_steps (automaton_of b A U)) s r ×
+        (last_or s r ≡ q))) →
     (has_empty (automaton_of b A U) ≡ true) ↔ ((p : ℕ) × (x : Tree) × (slice_get xs p ≡ Some x) × Means (λ l i. true) [] x 0 0)
 assembled_empty o xs b A U is reached = empty_is_meant o xs b A U is reached

@@ -2,7 +2,10 @@
 use Rattle.std.proofs.Common.{◌≡◌, ℕ, zero, suc, Bool, true, false, ◌||◌, List, [], ◌∷◌, map, reverse, Some, None, refl, sym, ap, ap₂, ◌∙◌}
 use Rattle.std.specs.List.{list_any}
 use Rattle.look_core.specs.declared.look.Look.{Look}
-use Rattle.look_core.specs.declared.look.Look.TheVariants.{Start, End, StartLF, EndLF, StartCRLF, EndCRLF, WordAscii, WordAsciiNegate, WordUnicode, WordUnicodeNegate, WordStartAscii, WordEndAscii, WordStartUnicode, WordEndUnicode, WordStartHalfAscii, WordEndHalfAscii, WordStartHalfUnicode, WordEndHalfUnicode}
+use Rattle.look_core.specs.declared.look.Look.TheVariants.{Start, End, StartLF, EndLF, StartCRLF, EndCRLF, WordAscii, WordAsciiNegate}
+use Rattle.look_core.specs.declared.look.Look.TheVariants.{WordUnicode, WordUnicodeNegate, WordStartAscii, WordEndAscii, WordStartUnicode}
+use Rattle.look_core.specs.declared.look.Look.TheVariants.{WordEndUnicode, WordStartHalfAscii, WordEndHalfAscii, WordStartHalfUnicode}
+use Rattle.look_core.specs.declared.look.Look.TheVariants.{WordEndHalfUnicode}
 use Rattle.look_core.specs.Codes.{repr, reversed}
 use Rattle.look_core.specs.LookSets.{has_look}
 use Rattle.look_core.proofs.ForCallers.{has_look-union, has_look-none}
@@ -12,7 +15,8 @@ use Rattle.hir_core.specs.Facts.{looks_used}
 use Rattle.hir_core.proofs.ForCallers.{one_has, one_held, same_test}
 use Rattle.nfa_core.specs.Nfa.{Node}
 use Rattle.nfa_core.specs.NfaValue.{look_of, looks_of}
-use Rattle.nfa_core.specs.BuilderStates.{DraftNode, empty_draft, range_draft, sparse_draft, look_draft, capture_start_draft, capture_end_draft, union_draft, union_reverse_draft, fail_draft, match_draft, Assembly}
+use Rattle.nfa_core.specs.BuilderStates.{DraftNode, empty_draft, range_draft, sparse_draft, look_draft, capture_start_draft}
+use Rattle.nfa_core.specs.BuilderStates.{capture_end_draft, union_draft, union_reverse_draft, fail_draft, match_draft, Assembly}
 use Rattle.nfa_core.specs.Renaming.{kept, new_name, ways_node, ranges_node, renamed, automaton_of}
 use Rattle.nfa_core.proofs.ForCallers.{has_looks}
 use Rattle.thompson_nfa.specs.Configs.{Options, reverse_of}

@@ -1,5 +1,6 @@
 -- In which order the automaton that is built of a compile's states finds spans, for one who reads forward.
-use Rattle.std.proofs.Common.{◌≡◌, ℕ, suc, ◌-◌, ◌<◌, ◌≤◌, Bool, false, List, [], ◌∷◌, length, map, get_or, slice_get, inl, inr, Some, sym, ap, ◌∙◌, subst, arith}
+use Rattle.std.proofs.Common.{◌≡◌, ℕ, suc, ◌-◌, ◌<◌, ◌≤◌, Bool, false, List, [], ◌∷◌, length, map, get_or, slice_get, inl, inr, Some, sym}
+use Rattle.std.proofs.Common.{ap, ◌∙◌, subst, arith}
 use Rattle.std.specs.Prelude.{All}
 use Rattle.std.specs.List.{flat_map}
 use Rattle.hir_core.specs.Tree.{Tree}
@@ -39,7 +40,8 @@ module _ (o : Options) (xs : List Tree) (b : Assembly) (A U : ℕ) (is : IsAssem
       subst P (sym reads_forward) walk
 
   -- what is listed from a state are the ends from it
-  ends_are_listed : (t : Text) (q i : ℕ) (l : List (ℕ × ℕ)) → q < length b.drafts → i ≤ t.end → ListedFirsts t (draft_at b.drafts) ((i, q) ∷ []) l →
+  ends_are_listed : (t : Text) (q i : ℕ) (l : List (ℕ × ℕ)) → q < length b.drafts → i ≤ t.end →
+      ListedFirsts t (draft_at b.drafts) ((i, q) ∷ []) l →
       ends_from auto t (i, new_name b.drafts q) ≡ distinct same_pair l
   ends_are_listed t q i l inside place walk = ends_listed b A U is.can_build t q i inside place walk.0 (turned t q i walk.0 walk.1) ∙ walk.2
 
@@ -62,7 +64,8 @@ module _ (o : Options) (xs : List Tree) (b : Assembly) (A U : ℕ) (is : IsAssem
     anchored_walk : (t : Text) (i : ℕ) → ListedFirsts t (draft_at b.drafts) ((i, A) ∷ []) (choices_from 0 xs t i)
     anchored_walk t i = all_list t (draft_at b.drafts) A b.starts xs i is.leads accept_forward reading
 
-    anchored_listed : (t : Text) (i : ℕ) → i ≤ t.end → ends_from auto t (i, new_name b.drafts A) ≡ distinct same_pair (choices_from 0 xs t i)
+    anchored_listed : (t : Text) (i : ℕ) → i ≤ t.end → ends_from auto t (i,
+        new_name b.drafts A) ≡ distinct same_pair (choices_from 0 xs t i)
     anchored_listed t i place = ends_are_listed t A i (choices_from 0 xs t i) is.can_build.anchored_there place (anchored_walk t i)
 
     all_walked : (t : Text) (i : ℕ) → IsRead t → i ≤ t.end →
@@ -71,10 +74,12 @@ module _ (o : Options) (xs : List Tree) (b : Assembly) (A U : ℕ) (is : IsAssem
         let P : List (ℕ × ℕ) → Type 0 = λ l. ListedFirsts t (draft_at b.drafts) ((i, U) ∷ []) l in
         elim before_forward [
           | inl x ↦ subst P (choices_at_once t read xs i x.0 high)
-              (listed_behind t (draft_at b.drafts) U A (choices_from 0 xs t) (anchored_walk t) (λ k. k ∷ []) i (orders_at_once t (draft_at b.drafts) U A x.1))
+              (listed_behind t (draft_at b.drafts) U A (choices_from 0 xs t) (anchored_walk t) (λ k. k ∷ []) i
+                  (orders_at_once t (draft_at b.drafts) U A x.1))
           | inr x ↦ subst P (ap (flat_map (choices_from 0 xs t))
               (all_tried t i (record { within = read.within; bytes = read.bytes }) high))
-              (listed_behind t (draft_at b.drafts) U A (choices_from 0 xs t) (anchored_walk t) (tried t) i (tries_in_order t (draft_at b.drafts) U A x.1))
+              (listed_behind t (draft_at b.drafts) U A (choices_from 0 xs t) (anchored_walk t) (tried t) i
+                  (tries_in_order t (draft_at b.drafts) U A x.1))
         ]
 
     unanchored_listed : (t : Text) (i : ℕ) → IsRead t → i ≤ t.end →
@@ -86,7 +91,8 @@ module _ (o : Options) (xs : List Tree) (b : Assembly) (A U : ℕ) (is : IsAssem
   finds_in_order : (n : Nfa) → n.automaton ≡ auto → FindsInOrder xs n
   finds_in_order n same = record {
     patterns = λ p x got reading t i place.
-        let P : Automaton → Type 0 = λ a. ends_from a t (i, start_of a p) ≡ distinct same_pair (map (λ j. (j, p)) (preferred_ends t.holds (seen t) x i)) in
+        let P : Automaton → Type 0 = λ a. ends_from a t (i, start_of a p) ≡ distinct same_pair
+            (map (λ j. (j, p)) (preferred_ends t.holds (seen t) x i)) in
         subst P (sym same) (patterns_listed p x got reading t i place);
     anchored = λ reading t i place.
         let P : Automaton → Type 0 = λ a. ends_from a t (i, a.start_anchored) ≡ distinct same_pair (choices_from 0 xs t i) in

@@ -1,6 +1,7 @@
 -- The starts of the automaton that is built of a compile's states: the anchored one leads to those of the patterns, one
 -- after the other.
-use Rattle.std.proofs.Common.{◌≡◌, ◌≢◌, ℕ, suc, ◌+◌, ◌*◌, ◌<◌, ◌≤◌, ◌||◌, nat_lt, Bool, true, false, List, [], ◌∷◌, ◌++◌, map, length, get_or, take, inl, inr, ⊎_elim, None, refl, sym, ap, ap₂, ◌∙◌, subst, arith, append-nil}
+use Rattle.std.proofs.Common.{◌≡◌, ◌≢◌, ℕ, suc, ◌+◌, ◌*◌, ◌<◌, ◌≤◌, ◌||◌, nat_lt, Bool, true, false, List, [], ◌∷◌, ◌++◌, map, length}
+use Rattle.std.proofs.Common.{get_or, take, inl, inr, ⊎_elim, None, refl, sym, ap, ap₂, ◌∙◌, subst, arith, append-nil}
 use Rattle.std.specs.Bool.{nat_eq}
 use Rattle.std.specs.List.{flat_map}
 use Rattle.std.proofs.lemmas.Bool.{cases_Bool, le-ltb, eqb-true, eq-eqb}
@@ -13,7 +14,8 @@ use Rattle.nfa_core.specs.Renaming.{stands_for, kept, new_name, automaton_of}
 use Rattle.nfa_core.specs.Runs.{IsChain, last_or, answers}
 use Rattle.nfa_core.specs.Walks.{Has, distinct, chain_ends}
 use Rattle.nfa_core.specs.Ways.{Text, ways, matched, ends_from}
-use Rattle.nfa_core.proofs.ForCallers.{none_in, pairs_equal, from_map, state_match, name_inside, is_well_formed, past_next, join_once_more, ends_by_ways, renamed_pair, state_ways, from_mapped, every_of_all, chain_to, unequal}
+use Rattle.nfa_core.proofs.ForCallers.{none_in, pairs_equal, from_map, state_match, name_inside, is_well_formed, past_next, join_once_more}
+use Rattle.nfa_core.proofs.ForCallers.{ends_by_ways, renamed_pair, state_ways, from_mapped, every_of_all, chain_to, unequal}
 use Rattle.thompson_nfa.specs.Assembled.{AcceptAll, IsAssembled}
 use Rattle.thompson_nfa.specs.Compilations.{places_from, start_of}
 use Rattle.thompson_nfa.specs.Configs.{Options}

@@ -1,6 +1,7 @@
 -- The unanchored start of the automaton that is built of a compile's states, for one who reads forward: it leads to the anchored
 -- one at one place after the other.
-use Rattle.std.proofs.Common.{◌≡◌, ℕ, zero, suc, ◌+◌, ◌-◌, ◌<◌, ◌≤◌, ◌||◌, nat_lt, Bool, true, false, List, [], ◌∷◌, ◌++◌, map, length, take, inl, inr, ⊎_elim, if◌then◌else◌, Option, Some, None, refl, sym, ap, ap₂, ◌∙◌, subst, arith, append-nil}
+use Rattle.std.proofs.Common.{◌≡◌, ℕ, zero, suc, ◌+◌, ◌-◌, ◌<◌, ◌≤◌, ◌||◌, nat_lt, Bool, true, false, List, [], ◌∷◌, ◌++◌, map, length}
+use Rattle.std.proofs.Common.{take, inl, inr, ⊎_elim, if◌then◌else◌, Option, Some, None, refl, sym, ap, ap₂, ◌∙◌, subst, arith, append-nil}
 use Rattle.std.specs.Prelude.{All}
 use Rattle.std.specs.Bool.{nat_eq}
 use Rattle.std.specs.List.{flat_map}
@@ -17,7 +18,9 @@ use Rattle.nfa_core.specs.Renaming.{stands_for, kept, new_name, automaton_of}
 use Rattle.nfa_core.specs.Runs.{IsChain, last_or}
 use Rattle.nfa_core.specs.Walks.{Has, distinct}
 use Rattle.nfa_core.specs.Ways.{Text, reads, with_place, is_passed, on_read, on_nothing, place_behind, ways}
-use Rattle.nfa_core.proofs.ForCallers.{join_once_more, of_append, ends_by_ways, renamed_pair, state_ways, chain_to, join-append, none_in, has_first, has_cons, names_equal, pairs_equal, from_map, state_match, one_state, name_inside, is_well_formed, past_next}
+use Rattle.nfa_core.proofs.ForCallers.{join_once_more, of_append, ends_by_ways, renamed_pair, state_ways, chain_to, join-append, none_in}
+use Rattle.nfa_core.proofs.ForCallers.{has_first, has_cons, names_equal, pairs_equal, from_map, state_match, one_state, name_inside}
+use Rattle.nfa_core.proofs.ForCallers.{is_well_formed, past_next}
 use Rattle.thompson_nfa.specs.Assembled.{IsAssembled, TriesEachPlace, AllAnchored}
 use Rattle.thompson_nfa.specs.Compilations.{places_from, IsReadTo, IsRead}
 use Rattle.thompson_nfa.specs.Configs.{Options, reverse_of}
@@ -179,7 +182,8 @@ module _ (o : Options) (xs : List Tree) (b : Assembly) (A U : ℕ) (is : IsAssem
 
     further_ends : (i : ℕ) → i < t.end → from (i, new_name b.drafts x.byte) ≡ from (suc i, new_name b.drafts U)
     further_ends i less =
-        byte_ends_are i (suc i ∷ []) (omega arith) (ends_forward t i text less) ∙ ends_again o xs b A U is t (suc i, new_name b.drafts x.back)
+        byte_ends_are i (suc i ∷ []) (omega arith) (ends_forward t i text less)
+            ∙ ends_again o xs b A U is t (suc i, new_name b.drafts x.back)
         ∙ ap (λ (k : ℕ). from (suc i, k)) back_is
 
     last_ends : (i : ℕ) → i ≡ t.end → from (i, new_name b.drafts x.byte) ≡ []

@@ -1,5 +1,7 @@
 -- A class of scalars that are spelled by one byte each is the class of these bytes.
-use Rattle.std.proofs.Common.{◌≡◌, ℕ, zero, suc, ◌+◌, ◌<◌, ◌≤◌, true, false, cond, nat_le, nat_lt, ◌&&◌, List, [], ◌∷◌, ◌++◌, length, drop, get_or, slice_get, Option, Some, None, inl, inr, refl, sym, ap, ◌∙◌, subst, arith, drop-cons, drop_of_length-le}
+use Rattle.std.proofs.Common.{◌≡◌, ℕ, zero, suc, ◌+◌, ◌<◌, ◌≤◌, true, false, cond, nat_le, nat_lt, ◌&&◌, List, [], ◌∷◌, ◌++◌, length, drop}
+use Rattle.std.proofs.Common.{get_or, slice_get, Option, Some, None, inl, inr, refl, sym, ap, ◌∙◌, subst, arith, drop-cons}
+use Rattle.std.proofs.Common.{drop_of_length-le}
 use Rattle.std.proofs.lemmas.Bool.{and_parts, cases_lt, cond-true, cond-false, false_from_ne_true, le-leb, leb-true, ltb-true}
 use Rattle.std.proofs.lemmas.Option.{slice_get_cases}
 use Rattle.search_core.specs.Characters.{character_at, spelling_len}
@@ -46,12 +48,14 @@ character_there h i b rest e l =
 
 -- ---- ends
 
-no_end : (ranges : List (ℕ × ℕ)) (o : Option ℕ) (i : ℕ) → ((c : ℕ) → o ≡ Some c → is_member ranges c ≡ false) → character_end ranges o i ≡ []
+no_end : (ranges : List (ℕ × ℕ)) (o : Option ℕ) (i : ℕ) → ((c : ℕ) → o ≡ Some c → is_member ranges c ≡ false) →
+    character_end ranges o i ≡ []
 no_end ranges None i none = refl
 no_end ranges (Some c) i none = cond-false _ _ _ (none c refl)
 
 -- no character of the class is there
-none_there : (ranges : List (ℕ × ℕ)) (h : List ℕ) (i : ℕ) → is_ascii ranges ≡ true → ((c : ℕ) (rest : List ℕ) → drop i h ≡ c ∷ rest → c < 128 → ⊥) →
+none_there : (ranges : List (ℕ × ℕ)) (h : List ℕ) (i : ℕ) → is_ascii ranges ≡ true →
+    ((c : ℕ) (rest : List ℕ) → drop i h ≡ c ∷ rest → c < 128 → ⊥) →
     character_end ranges (character_at h i) i ≡ []
 none_there ranges h i e none =
     no_end ranges (character_at h i) i
@@ -66,7 +70,8 @@ one_byte_end ranges i b l =
 heads : (a b : ℕ) (xs ys : List ℕ) → a ∷ xs ≡ b ∷ ys → a ≡ b
 heads a b xs ys e = cc
 
-ascii_ends : (h : List ℕ) (i : ℕ) (ranges : List (ℕ × ℕ)) → is_ascii ranges ≡ true → class_end ranges (slice_get h i) i ≡ character_end ranges (character_at h i) i
+ascii_ends : (h : List ℕ) (i : ℕ) (ranges : List (ℕ × ℕ)) → is_ascii ranges ≡ true →
+    class_end ranges (slice_get h i) i ≡ character_end ranges (character_at h i) i
 ascii_ends h i ranges e = elim (slice_get_cases h i).1 [
   | inl x ↦
       let b = x.0 in
@@ -79,7 +84,8 @@ ascii_ends h i ranges e = elim (slice_get_cases h i).1 [
         | inr g ↦
             ap (λ (o : Option ℕ). class_end ranges o i) x.2
             ∙ cond-false _ _ _ (no_member ranges b e g)
-            ∙ sym (none_there ranges h i e (λ c rest at l. let same = heads b c (drop (suc i) h) rest (sym here ∙ at) in absurd (omega arith)))
+            ∙ sym (none_there ranges h i e (λ c rest at l. let same = heads b c (drop (suc i) h) rest (sym here ∙ at) in
+                absurd (omega arith)))
       ]
   | inr o ↦
       ap (λ (c : Option ℕ). class_end ranges c i) o.1
@@ -90,7 +96,8 @@ ascii_ends h i ranges e = elim (slice_get_cases h i).1 [
 pub same_ascii : (ranges : List (ℕ × ℕ)) → is_ascii ranges ≡ true → IsSame (byte_class ranges) (char_class ranges)
 same_ascii ranges e = record { reading = λ f. tt; ends = λ looks h i. ascii_ends h i ranges e; met = λ back l. refl }
 
-pub ascii_does : (a b : Assembly) (ranges bytes : List (ℕ × ℕ)) → bytes ≡ ranges → (s e : ℕ) → is_ascii ranges ≡ true → Does a b s e (byte_class bytes) →
+pub ascii_does : (a b : Assembly) (ranges bytes : List (ℕ × ℕ)) → bytes ≡ ranges → (s e : ℕ) → is_ascii ranges ≡ true →
+    Does a b s e (byte_class bytes) →
     Does a b s e (char_class ranges)
 ascii_does a b ranges bytes is s e ascii d =
     let P : List (ℕ × ℕ) → Type 0 = λ rs. Does a b s e (byte_class rs) in
@@ -101,7 +108,8 @@ ascii_does a b ranges bytes is s e ascii d =
 abbrev pub IsByteRange : ℕ × ℕ → Type 0
 IsByteRange r = (r.0 < 256) × (r.1 < 256)
 
-byte_range_at : (low : ℕ) (ranges : List (ℕ × ℕ)) (k : ℕ) (d : ℕ × ℕ) → rises_from low ranges ≡ true → is_ascii ranges ≡ true → k < length ranges →
+byte_range_at : (low : ℕ) (ranges : List (ℕ × ℕ)) (k : ℕ) (d : ℕ × ℕ) → rises_from low ranges ≡ true → is_ascii ranges ≡ true →
+    k < length ranges →
     IsByteRange (get_or ranges k d)
 byte_range_at low [] k d up e l = absurd (omega arith)
 byte_range_at low (r ∷ rs) zero d up e l =
@@ -110,7 +118,8 @@ byte_range_at low (r ∷ rs) zero d up e l =
     let last : r.1 < 128 = ltb-true r.1 0x80 (and_parts (nat_lt r.1 0x80) (is_ascii rs) e).0 in
     (omega arith, omega arith)
 byte_range_at low (r ∷ rs) (suc k) d up e l =
-    byte_range_at (r.1 + 1) rs k d (and_parts (nat_le low r.0 && nat_le r.0 r.1) (rises_from (r.1 + 1) rs) up).1 (and_parts (nat_lt r.1 0x80) (is_ascii rs) e).1 (omega arith)
+    byte_range_at (r.1 + 1) rs k d (and_parts (nat_le low r.0 && nat_le r.0 r.1) (rises_from (r.1 + 1) rs) up).1
+        (and_parts (nat_lt r.1 0x80) (is_ascii rs) e).1 (omega arith)
 
 pub ascii_range_at : (ranges : List (ℕ × ℕ)) (k : ℕ) (d : ℕ × ℕ) → is_ascending ranges ≡ true → is_ascii ranges ≡ true → k < length ranges →
     IsByteRange (get_or ranges k d)

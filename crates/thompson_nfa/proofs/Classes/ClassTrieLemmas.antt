@@ -1,5 +1,6 @@
 -- The sequences of a class, each turned round, in a trie: one after the other, those of a range, and those of all ranges.
-use Rattle.std.proofs.Common.{◌≡◌, inl, inr, ℕ, suc, ◌+◌, ◌<◌, ◌≤◌, List, [], ◌∷◌, ◌++◌, reverse, length, get_or, take, slice_get, Some, true, refl, sym, ap, ◌∙◌, subst, append_assoc, append-nil}
+use Rattle.std.proofs.Common.{◌≡◌, inl, inr, ℕ, suc, ◌+◌, ◌<◌, ◌≤◌, List, [], ◌∷◌, ◌++◌, reverse, length, get_or, take, slice_get, Some}
+use Rattle.std.proofs.Common.{true, refl, sym, ap, ◌∙◌, subst, append_assoc, append-nil}
 use Rattle.std.proofs.lemmas.Grind.{flat_map-append}
 use Rattle.std.proofs.lemmas.List.{reverse-append, reverse-reverse, map-append, take_more, take_all}
 use Rattle.hir_core.specs.Sequences.{is_in_ranges, utf8_sequences}
@@ -36,7 +37,8 @@ gained_none old = record { only = λ s h. inl h; kept = λ s h. h; added = λ s 
 turned_append : (xs ys : List (List (ℕ × ℕ))) → turned_round (xs ++ ys) ≡ turned_round xs ++ turned_round ys
 turned_append xs ys = map-append reverse xs ys
 
-pub gained_more : (old mid new xs ys : List (List (ℕ × ℕ))) → GainsTurned old xs mid → GainsTurned mid ys new → GainsTurned old (xs ++ ys) new
+pub gained_more : (old mid new xs ys : List (List (ℕ × ℕ))) → GainsTurned old xs mid → GainsTurned mid ys new →
+    GainsTurned old (xs ++ ys) new
 gained_more old mid new xs ys a b =
     let whole : (s : List ℕ) → IsIn (turned_round xs ++ turned_round ys) s → IsIn (turned_round (xs ++ ys)) s =
     λ s h. subst (λ (l : List (List (ℕ × ℕ))). IsIn l s) (sym (turned_append xs ys)) h in
@@ -44,11 +46,13 @@ gained_more old mid new xs ys a b =
     λ s h. subst (λ (l : List (List (ℕ × ℕ))). IsIn l s) (turned_append xs ys) h in
     record {
       only = λ s h. elim (b.only s h) [
-        | inl before ↦ elim (a.only s before) [ inl first ↦ inl first | inr x ↦ inr (whole s (in_left (turned_round xs) (turned_round ys) s x)) ]
+        | inl before ↦ elim (a.only s before) [ inl first ↦ inl first | inr x ↦
+            inr (whole s (in_left (turned_round xs) (turned_round ys) s x)) ]
         | inr y ↦ inr (whole s (in_right (turned_round xs) (turned_round ys) s y))
       ];
       kept = λ s h. b.kept s (a.kept s h);
-      added = λ s h. elim (in_append (turned_round xs) (turned_round ys) s (parts s h)) [ inl x ↦ b.kept s (a.added s x) | inr y ↦ b.added s y ];
+      added = λ s h. elim (in_append (turned_round xs) (turned_round ys) s (parts s h)) [ inl x ↦ b.kept s (a.added s x) | inr y ↦
+          b.added s y ];
     }
 
 -- ---- the strings stay spellings
@@ -60,7 +64,8 @@ class_turned rs s h =
 
 range_turned : (lo hi : ℕ) (s : List ℕ) → IsIn (turned_round (utf8_sequences lo hi)) s → IsTurnedSpelling s
 range_turned lo hi s h =
-    class_turned ((lo, hi) ∷ []) s (subst (λ (l : List (List (ℕ × ℕ))). IsIn (turned_round l) s) (sym (append-nil (utf8_sequences lo hi))) h)
+    class_turned ((lo, hi) ∷ []) s (subst (λ (l : List (List (ℕ × ℕ))). IsIn (turned_round l) s)
+        (sym (append-nil (utf8_sequences lo hi))) h)
 
 -- ---- the sequences of one range
 
@@ -73,11 +78,13 @@ pub record GainsTo (old new left all : List (List (ℕ × ℕ))) : Type 0 where
 pub none_gained : (old left all : List (List (ℕ × ℕ))) → left ≡ all → GainsTo old old left all
 none_gained old left all e = record { met = []; split = e; gained = gained_none old }
 
-pub got_behind : (xs : List (List (ℕ × ℕ))) (x : List (ℕ × ℕ)) (rest : List (List (ℕ × ℕ))) → slice_get (xs ++ x ∷ rest) (length xs) ≡ Some x
+pub got_behind : (xs : List (List (ℕ × ℕ))) (x : List (ℕ × ℕ)) (rest : List (List (ℕ × ℕ))) →
+    slice_get (xs ++ x ∷ rest) (length xs) ≡ Some x
 got_behind [] x rest = refl
 got_behind (y ∷ xs) x rest = got_behind xs x rest
 
-pub next_gained : (old mid new left rest all : List (List (ℕ × ℕ))) (q : List (ℕ × ℕ)) → GainsTo old mid left all → left ≡ q ∷ rest → GainsTurned mid (q ∷ []) new → GainsTo old new rest all
+pub next_gained : (old mid new left rest all : List (List (ℕ × ℕ))) (q : List (ℕ × ℕ)) → GainsTo old mid left all → left ≡ q ∷ rest →
+    GainsTurned mid (q ∷ []) new → GainsTo old new rest all
 next_gained old mid new left rest all q so_far e one = record {
   met = so_far.met ++ q ∷ [];
   split = append_assoc so_far.met (q ∷ []) rest ∙ ap (λ (l : List (List (ℕ × ℕ))). so_far.met ++ l) (sym e) ∙ so_far.split;
@@ -86,17 +93,20 @@ next_gained old mid new left rest all q so_far e one = record {
 
 pub all_gained : (old new left all : List (List (ℕ × ℕ))) → GainsTo old new left all → left ≡ [] → GainsTurned old all new
 all_gained old new left all so_far none =
-    let whole : so_far.met ≡ all = sym (append-nil so_far.met) ∙ ap (λ (l : List (List (ℕ × ℕ))). so_far.met ++ l) (sym none) ∙ so_far.split in
+    let whole : so_far.met ≡ all = sym (append-nil so_far.met) ∙ ap (λ (l : List (List (ℕ × ℕ))). so_far.met ++ l) (sym none)
+        ∙ so_far.split in
     subst (λ (l : List (List (ℕ × ℕ))). GainsTurned old l new) whole so_far.gained
 
 ranges_from : (q : List (ℕ × ℕ)) → ((k : ℕ) (r : ℕ × ℕ) → slice_get q k ≡ Some r → (r.0 ≤ r.1) × (r.1 < 256)) → AreRanges q
 ranges_from [] a = tt
 ranges_from (r ∷ q) a = ((a 0 r refl).0, ranges_from q (λ k x f. a (suc k) x f))
 
-module _ (old mid left rest : List (List (ℕ × ℕ))) (lo hi : ℕ) (q : List (ℕ × ℕ)) (so_far : GainsTo old mid left (utf8_sequences lo hi)) (e : left ≡ q ∷ rest) where
+module _ (old mid left rest : List (List (ℕ × ℕ))) (lo hi : ℕ) (q : List (ℕ × ℕ)) (so_far : GainsTo old mid left (utf8_sequences lo hi))
+    (e : left ≡ q ∷ rest) where
   placed : slice_get (utf8_sequences lo hi) (length so_far.met) ≡ Some q
   placed =
-      ap (λ (l : List (List (ℕ × ℕ))). slice_get l (length so_far.met)) (sym so_far.split ∙ ap (λ (l : List (List (ℕ × ℕ))). so_far.met ++ l) e)
+      ap (λ (l : List (List (ℕ × ℕ))). slice_get l (length so_far.met)) (sym so_far.split
+          ∙ ap (λ (l : List (List (ℕ × ℕ))). so_far.met ++ l) e)
       ∙ got_behind so_far.met q rest
 
   pub next_ranges : AreRanges q
@@ -109,7 +119,8 @@ module _ (old mid left rest : List (List (ℕ × ℕ))) (lo hi : ℕ) (q : List 
   met_turned before s h = elim (so_far.gained.only s h) [
     | inl first ↦ before s first
     | inr met ↦ range_turned lo hi s
-        (subst (λ (l : List (List (ℕ × ℕ))). IsIn l s) (sym (turned_append so_far.met left) ∙ ap turned_round so_far.split) (in_left (turned_round so_far.met) (turned_round left) s met))
+        (subst (λ (l : List (List (ℕ × ℕ))). IsIn l s) (sym (turned_append so_far.met left)
+            ∙ ap turned_round so_far.split) (in_left (turned_round so_far.met) (turned_round left) s met))
   ]
 
 -- ---- the sequences of all ranges
@@ -120,17 +131,22 @@ class_begun new ranges e = subst (λ (l : List (List (ℕ × ℕ))). GainsTurned
 pub class_spelled : (new : List (List (ℕ × ℕ))) (rs : List (ℕ × ℕ)) → GainsTurned [] (sequences_of rs) new → AreTurnedSpellings new
 class_spelled new rs g s h = elim (g.only s h) [ inl none ↦ absurd none | inr in_class ↦ class_turned rs s in_class ]
 
-pub class_next : (mid new : List (List (ℕ × ℕ))) (i : ℕ) (ranges : List (ℕ × ℕ)) (d : ℕ × ℕ) → i < length ranges → GainsTurned [] (sequences_of (take i ranges)) mid →
-    GainsTurned mid (utf8_sequences (get_or ranges i d).0 (get_or ranges i d).1) new → GainsTurned [] (sequences_of (take (i + 1) ranges)) new
+pub class_next : (mid new : List (List (ℕ × ℕ))) (i : ℕ) (ranges : List (ℕ × ℕ)) (d : ℕ × ℕ) → i < length ranges →
+    GainsTurned [] (sequences_of (take i ranges)) mid →
+    GainsTurned mid (utf8_sequences (get_or ranges i d).0 (get_or ranges i d).1) new →
+        GainsTurned [] (sequences_of (take (i + 1) ranges)) new
 class_next mid new i ranges d less so_far more =
     let here : ℕ × ℕ = get_or ranges i d in
     let joined : sequences_of (take i ranges) ++ utf8_sequences here.0 here.1 ≡ sequences_of (take (i + 1) ranges) =
     ap (λ (l : List (List (ℕ × ℕ))). sequences_of (take i ranges) ++ l) (sym (append-nil (utf8_sequences here.0 here.1)))
     ∙ sym (flat_map-append (λ (r : ℕ × ℕ). utf8_sequences r.0 r.1) (take i ranges) (here ∷ []))
     ∙ ap sequences_of (sym (take_more ranges i d less)) in
-    subst (λ (l : List (List (ℕ × ℕ))). GainsTurned [] l new) joined (gained_more [] mid new (sequences_of (take i ranges)) (utf8_sequences here.0 here.1) so_far more)
+    subst (λ (l : List (List (ℕ × ℕ))). GainsTurned [] l new) joined (gained_more [] mid new (sequences_of (take i ranges))
+        (utf8_sequences here.0 here.1) so_far more)
 
-pub class_whole : (new : List (List (ℕ × ℕ))) (i : ℕ) (ranges : List (ℕ × ℕ)) → GainsTurned [] (sequences_of (take i ranges)) new → length ranges ≤ i → HasTurned new (sequences_of ranges)
+pub class_whole : (new : List (List (ℕ × ℕ))) (i : ℕ) (ranges : List (ℕ × ℕ)) → GainsTurned [] (sequences_of (take i ranges)) new →
+    length ranges ≤ i → HasTurned new (sequences_of ranges)
 class_whole new i ranges so_far past =
-    let g : GainsTurned [] (sequences_of ranges) new = subst (λ (rs : List (ℕ × ℕ)). GainsTurned [] (sequences_of rs) new) (take_all i ranges past) so_far in
+    let g : GainsTurned [] (sequences_of ranges) new = subst (λ (rs : List (ℕ × ℕ)). GainsTurned [] (sequences_of rs) new)
+        (take_all i ranges past) so_far in
     record { only = λ s h. elim (g.only s h) [ inl none ↦ absurd none | inr in_class ↦ in_class ]; kept = g.added }

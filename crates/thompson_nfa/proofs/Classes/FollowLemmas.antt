@@ -1,5 +1,7 @@
 -- Classes of scalars that ascend: their sequences, one after the other.
-use Rattle.std.proofs.Common.{◌≡◌, ℕ, suc, ◌+◌, ◌-◌, ◌*◌, ◌<◌, ◌≤◌, ◌⊎◌, inl, inr, Bool, true, false, List, [], ◌∷◌, ◌++◌, map, length, take, drop, get_or, slice_get, Some, nat_le, ◌&&◌, refl, sym, ap, subst, ◌∙◌, arith, append_assoc, append-nil, length-append}
+use Rattle.std.proofs.Common.{◌≡◌, ℕ, suc, ◌+◌, ◌-◌, ◌*◌, ◌<◌, ◌≤◌, ◌⊎◌, inl, inr, Bool, true, false, List, [], ◌∷◌, ◌++◌, map, length}
+use Rattle.std.proofs.Common.{take, drop, get_or, slice_get, Some, nat_le, ◌&&◌, refl, sym, ap, subst, ◌∙◌, arith, append_assoc, append-nil}
+use Rattle.std.proofs.Common.{length-append}
 use Rattle.std.proofs.lemmas.Bool.{leb-true, and_parts}
 use Rattle.std.proofs.lemmas.Grind.{flat_map-append}
 use Rattle.std.proofs.lemmas.List.{take_more, take_all}
@@ -52,7 +54,8 @@ follow_rest p (x ∷ xs) ys f = follow_rest x xs ys f.4
 last_behind : (qs xs : List (List (ℕ × ℕ))) → last_of (qs ++ xs) ≡ last_after (last_of qs) xs
 last_behind qs [] = ap last_of (append-nil qs)
 last_behind qs (x ∷ xs) =
-    ap last_of (sym (append_assoc qs (x ∷ []) xs)) ∙ last_behind (qs ++ x ∷ []) xs ∙ ap (λ (p : List (ℕ × ℕ)). last_after p xs) (last_pushed qs x)
+    ap last_of (sym (append_assoc qs (x ∷ []) xs)) ∙ last_behind (qs ++ x ∷ []) xs
+        ∙ ap (λ (p : List (ℕ × ℕ)). last_after p xs) (last_pushed qs x)
 
 -- ---- the sequences of a class
 
@@ -85,38 +88,46 @@ bytes_by (r ∷ rs) all = let x = all 0 r refl in (x.0, x.1, bytes_by rs (λ k s
 abbrev AllShort : List (List (ℕ × ℕ)) → Type 0
 AllShort qs = (i : ℕ) (rs : List (ℕ × ℕ)) → slice_get qs i ≡ Some rs → (1 ≤ length rs) × (length rs ≤ 4) × AllBytes rs
 
-follow_pieces : (low hi : ℕ) (ps : List (ℕ × ℕ)) (p : List (ℕ × ℕ)) → low ≤ hi + 1 → IsBelow p low → Rises low hi ps → AllShort (map byte_ranges ps) →
+follow_pieces : (low hi : ℕ) (ps : List (ℕ × ℕ)) (p : List (ℕ × ℕ)) → low ≤ hi + 1 → IsBelow p low → Rises low hi ps →
+    AllShort (map byte_ranges ps) →
     CanFollow p (map byte_ranges ps) × IsBelow (last_after p (map byte_ranges ps)) (hi + 1)
 follow_pieces low hi [] p l below up short = (tt, below_more p low (hi + 1) l below)
 follow_pieces low hi (x ∷ ps) p l below up short =
     let s = short 0 (byte_ranges x) refl in
     let least = up.0 in let most = up.1 in
-    let later = follow_pieces (x.1 + 1) hi ps (byte_ranges x) (omega arith) (inr (x.0, x.1, refl, up.2, omega arith)) up.3 (λ i rs e. short (suc i) rs e) in
+    let later = follow_pieces (x.1 + 1) hi ps (byte_ranges x) (omega arith) (inr (x.0, x.1, refl, up.2, omega arith)) up.3
+        (λ i rs e. short (suc i) rs e) in
     ((s.0, s.1, bytes_by (byte_ranges x) s.2, comes_after p low x.0 x.1 below up.2 up.0, later.0), later.1)
 
-pub rising : (low : ℕ) (r : ℕ × ℕ) (rs : List (ℕ × ℕ)) → rises_from low (r ∷ rs) ≡ true → (low ≤ r.0) × (r.0 ≤ r.1) × (rises_from (r.1 + 1) rs ≡ true)
+pub rising : (low : ℕ) (r : ℕ × ℕ) (rs : List (ℕ × ℕ)) → rises_from low (r ∷ rs) ≡ true → (low ≤ r.0) × (r.0 ≤ r.1) ×
+    (rises_from (r.1 + 1) rs ≡ true)
 rising low r rs e =
     let x = and_parts (nat_le low r.0 && nat_le r.0 r.1) (rises_from (r.1 + 1) rs) e in
     let y = and_parts (nat_le low r.0) (nat_le r.0 r.1) x.0 in
     (leb-true low r.0 y.0, leb-true r.0 r.1 y.1, x.1)
 
-follow_ranges : (low : ℕ) (ranges : List (ℕ × ℕ)) (p : List (ℕ × ℕ)) → IsBelow p low → rises_from low ranges ≡ true → CanFollow p (sequences_of ranges)
+follow_ranges : (low : ℕ) (ranges : List (ℕ × ℕ)) (p : List (ℕ × ℕ)) → IsBelow p low → rises_from low ranges ≡ true →
+    CanFollow p (sequences_of ranges)
 follow_ranges low [] p below up = tt
 follow_ranges low (r ∷ rs) p below up =
     let x = rising low r rs up in
     let some = x.1 in
-    let here = follow_pieces r.0 r.1 (pieces r.0 r.1) p (omega arith) (below_more p low r.0 x.0 below) (rises (r.1 + 1 - r.0) r.0 r.1) (λ i q e. sequence_short r.0 r.1 i q e) in
-    follow_append p (utf8_sequences r.0 r.1) (sequences_of rs) here.0 (follow_ranges (r.1 + 1) rs (last_after p (utf8_sequences r.0 r.1)) here.1 x.2)
+    let here = follow_pieces r.0 r.1 (pieces r.0 r.1) p (omega arith) (below_more p low r.0 x.0 below) (rises (r.1 + 1 - r.0) r.0 r.1)
+        (λ i q e. sequence_short r.0 r.1 i q e) in
+    follow_append p (utf8_sequences r.0 r.1) (sequences_of rs) here.0 (follow_ranges (r.1 + 1) rs
+        (last_after p (utf8_sequences r.0 r.1)) here.1 x.2)
 
 -- ---- the sequences of one range, as far as they were added
 
-pub record AddsTo (b0 b : Assembly) (e0 e : ℕ) (c0 c : SlotTable (List Transition)) (n0 n : List Stage) (left all : List (List (ℕ × ℕ))) : Type 0 where
+pub record AddsTo (b0 b : Assembly) (e0 e : ℕ) (c0 c : SlotTable (List Transition)) (n0 n : List Stage)
+    (left all : List (List (ℕ × ℕ))) : Type 0 where
   pub met : List (List (ℕ × ℕ))
   pub split : met ++ left ≡ all
   pub later : (old : Assembly) (qs : List (List (ℕ × ℕ))) → IsCompiling old b0 e0 c0 n0 qs → IsCompiling old b e c n (qs ++ met)
   pub order : CanFollow (path_of n) left
 
-pub none_added : (b : Assembly) (e : ℕ) (c : SlotTable (List Transition)) (n : List Stage) (left all : List (List (ℕ × ℕ))) → left ≡ all → CanFollow (path_of n) all → AddsTo b b e e c c n n left all
+pub none_added : (b : Assembly) (e : ℕ) (c : SlotTable (List Transition)) (n : List Stage) (left all : List (List (ℕ × ℕ))) → left ≡ all →
+    CanFollow (path_of n) all → AddsTo b b e e c c n n left all
 none_added b e c n left all is order =
     let P : List (List (ℕ × ℕ)) → Type 0 = λ l. CanFollow (path_of n) l in
     record {
@@ -126,7 +137,8 @@ none_added b e c n left all is order =
       order = subst P (sym is) order;
     }
 
-module _ (b0 b : Assembly) (e0 e : ℕ) (c0 c : SlotTable (List Transition)) (n0 n : List Stage) (left all : List (List (ℕ × ℕ))) (a : AddsTo b0 b e0 e c0 c n0 n left all) (o : IsOpen b0 e0 c0 n0) where
+module _ (b0 b : Assembly) (e0 e : ℕ) (c0 c : SlotTable (List Transition)) (n0 n : List Stage) (left all : List (List (ℕ × ℕ)))
+    (a : AddsTo b0 b e0 e c0 c n0 n left all) (o : IsOpen b0 e0 c0 n0) where
   now_compiling : IsCompiling o.old b e c n (o.before ++ a.met)
   now_compiling = a.later o.old o.before o.is
 
@@ -153,7 +165,8 @@ module _ (b0 b : Assembly) (e0 e : ℕ) (c0 c : SlotTable (List Transition)) (n0
     after_last = follows.3
 
     pub one_added : (b1 : Assembly) (e1 : ℕ) (c1 : SlotTable (List Transition)) (n1 : List Stage) →
-        ((old : Assembly) (qs : List (List (ℕ × ℕ))) → IsCompiling old b e c n qs → IsCompiling old b1 e1 c1 n1 (qs ++ rs ∷ [])) → AddsTo b0 b1 e0 e1 c0 c1 n0 n1 rest all
+        ((old : Assembly) (qs : List (List (ℕ × ℕ))) → IsCompiling old b e c n qs → IsCompiling old b1 e1 c1 n1 (qs ++ rs ∷ [])) →
+            AddsTo b0 b1 e0 e1 c0 c1 n0 n1 rest all
     one_added b1 e1 c1 n1 added =
         let next = added o.old (o.before ++ a.met) now_compiling in
         let P : List (ℕ × ℕ) → Type 0 = λ p. CanFollow p rest in
@@ -166,13 +179,15 @@ module _ (b0 b : Assembly) (e0 e : ℕ) (c0 c : SlotTable (List Transition)) (n0
           order = subst P (sym (next.path ∙ last_pushed (o.before ++ a.met) rs)) follows.4;
         }
 
-  pub all_added : left ≡ [] → (old : Assembly) (qs : List (List (ℕ × ℕ))) → IsCompiling old b0 e0 c0 n0 qs → IsCompiling old b e c n (qs ++ all)
+  pub all_added : left ≡ [] → (old : Assembly) (qs : List (List (ℕ × ℕ))) → IsCompiling old b0 e0 c0 n0 qs →
+      IsCompiling old b e c n (qs ++ all)
   all_added none old qs i =
       let Q : List (List (ℕ × ℕ)) → Type 0 = λ l. IsCompiling old b e c n (qs ++ l) in
       let whole : a.met ≡ all = sym (append-nil a.met) ∙ ap (λ (l : List (List (ℕ × ℕ))). a.met ++ l) (sym none) ∙ a.split in
       subst Q whole (a.later old qs i)
 
-  pub one_refused : (new : Assembly) (err : BuildError) → ((old : Assembly) (qs : List (List (ℕ × ℕ))) → IsCompiling old b e c n qs → Quits old new (2 + 4 * length qs) err) →
+  pub one_refused : (new : Assembly) (err : BuildError) → ((old : Assembly) (qs : List (List (ℕ × ℕ))) → IsCompiling old b e c n qs →
+      Quits old new (2 + 4 * length qs) err) →
       (old : Assembly) (qs : List (List (ℕ × ℕ))) → IsCompiling old b0 e0 c0 n0 qs → Quits old new (2 + 4 * length (qs ++ all)) err
   one_refused new err refused old qs i =
       let x : length (qs ++ a.met) ≡ length qs + length a.met = length-append qs a.met in
@@ -183,15 +198,18 @@ module _ (b0 b : Assembly) (e0 e : ℕ) (c0 c : SlotTable (List Transition)) (n0
 -- ---- all ranges
 
 -- the sequences of the first i ranges were added, and the others may follow
-pub record RangesTo (a b : Assembly) (e : ℕ) (c : SlotTable (List Transition)) (n : List Stage) (i : ℕ) (ranges : List (ℕ × ℕ)) : Type 0 where
+pub record RangesTo (a b : Assembly) (e : ℕ) (c : SlotTable (List Transition)) (n : List Stage) (i : ℕ) (ranges : List (ℕ ×
+    ℕ)) : Type 0 where
   pub is : IsCompiling a b e c n (sequences_of (take i ranges))
   pub order : CanFollow (path_of n) (sequences_of (drop i ranges))
   pub within : i ≤ length ranges
 
-pub no_range : (a b : Assembly) (e : ℕ) (c : SlotTable (List Transition)) (n : List Stage) (ranges : List (ℕ × ℕ)) → is_ascending ranges ≡ true → IsCompiling a b e c n [] → RangesTo a b e c n 0 ranges
+pub no_range : (a b : Assembly) (e : ℕ) (c : SlotTable (List Transition)) (n : List Stage) (ranges : List (ℕ × ℕ)) →
+    is_ascending ranges ≡ true → IsCompiling a b e c n [] → RangesTo a b e c n 0 ranges
 no_range a b e c n ranges up i = record { is = i; order = follow_ranges 0 ranges (path_of n) (inl i.path) up; within = omega arith }
 
-module _ (a b : Assembly) (e : ℕ) (c : SlotTable (List Transition)) (n : List Stage) (i : ℕ) (ranges : List (ℕ × ℕ)) (d : ℕ × ℕ) (so_far : RangesTo a b e c n i ranges) (less : i < length ranges) where
+module _ (a b : Assembly) (e : ℕ) (c : SlotTable (List Transition)) (n : List Stage) (i : ℕ) (ranges : List (ℕ × ℕ)) (d : ℕ ×
+    ℕ) (so_far : RangesTo a b e c n i ranges) (less : i < length ranges) where
   abbrev here : ℕ × ℕ
   here = get_or ranges i d
 
@@ -216,19 +234,24 @@ module _ (a b : Assembly) (e : ℕ) (c : SlotTable (List Transition)) (n : List 
       ∙ ap (λ (l : List (ℕ × ℕ)). sequences_of l) (sym (take_more ranges i d less))
 
   pub next_range : (b1 : Assembly) (e1 : ℕ) (c1 : SlotTable (List Transition)) (n1 : List Stage) →
-      ((old : Assembly) (qs : List (List (ℕ × ℕ))) → IsCompiling old b e c n qs → IsCompiling old b1 e1 c1 n1 (qs ++ utf8_sequences here.0 here.1)) → RangesTo a b1 e1 c1 n1 (i + 1) ranges
+      ((old : Assembly) (qs : List (List (ℕ × ℕ))) → IsCompiling old b e c n qs →
+          IsCompiling old b1 e1 c1 n1 (qs ++ utf8_sequences here.0 here.1)) → RangesTo a b1 e1 c1 n1 (i + 1) ranges
   next_range b1 e1 c1 n1 added =
       let next = added a (sequences_of (take i ranges)) so_far.is in
       let P : List (ℕ × ℕ) → Type 0 = λ p. CanFollow p rest in
       let Q : List (List (ℕ × ℕ)) → Type 0 = λ l. IsCompiling a b1 e1 c1 n1 l in
       let path : path_of n1 ≡ last_after (path_of n) (utf8_sequences here.0 here.1) =
-      next.path ∙ last_behind (sequences_of (take i ranges)) (utf8_sequences here.0 here.1) ∙ ap (λ (p : List (ℕ × ℕ)). last_after p (utf8_sequences here.0 here.1)) (sym so_far.is.path) in
-      record { is = subst Q more_sequences next; order = subst P (sym path) (follow_rest (path_of n) (utf8_sequences here.0 here.1) rest both_follow); within = omega arith }
+      next.path ∙ last_behind (sequences_of (take i ranges)) (utf8_sequences here.0 here.1)
+          ∙ ap (λ (p : List (ℕ × ℕ)). last_after p (utf8_sequences here.0 here.1)) (sym so_far.is.path) in
+      record { is = subst Q more_sequences next; order = subst P (sym path)
+          (follow_rest (path_of n) (utf8_sequences here.0 here.1) rest both_follow); within = omega arith }
 
   pub range_refused : (new : Assembly) (err : BuildError) →
-      ((old : Assembly) (qs : List (List (ℕ × ℕ))) → IsCompiling old b e c n qs → Quits old new (2 + 4 * length (qs ++ utf8_sequences here.0 here.1)) err) → Quits a new (count (char_class ranges)) err
+      ((old : Assembly) (qs : List (List (ℕ × ℕ))) → IsCompiling old b e c n qs →
+          Quits old new (2 + 4 * length (qs ++ utf8_sequences here.0 here.1)) err) → Quits a new (count (char_class ranges)) err
   range_refused new err refused =
-      let counted : length (sequences_of (take i ranges) ++ utf8_sequences here.0 here.1) ≡ sequence_count (take (i + 1) ranges) = ap length more_sequences ∙ sequences_counted (take (i + 1) ranges) in
+      let counted : length (sequences_of (take i ranges) ++ utf8_sequences here.0 here.1) ≡ sequence_count (take (i + 1) ranges) =
+          ap length more_sequences ∙ sequences_counted (take (i + 1) ranges) in
       let part = sequence_count_some ranges (i + 1) in
       quits_capped (count (char_class ranges))
       (quits_capped (2 + 4 * sequence_count ranges) (refused a (sequences_of (take i ranges)) so_far.is) (omega (arith, counted, part)))
@@ -243,20 +266,25 @@ spelt (r ∷ q) = as_then false r (read_tree false q) (sequence_tree q) (spelt q
 
 all_spelt : (qs : List (List (ℕ × ℕ))) → ReadsAs (alternation (map (read_tree false) qs)) (alternation (map sequence_tree qs))
 all_spelt [] = as_itself (alternation [])
-all_spelt (q ∷ qs) = as_alt (read_tree false q) (alternation (map (read_tree false) qs)) (sequence_tree q) (alternation (map sequence_tree qs)) (spelt q) (all_spelt qs)
+all_spelt (q ∷ qs) = as_alt (read_tree false q) (alternation (map (read_tree false) qs)) (sequence_tree q)
+    (alternation (map sequence_tree qs)) (spelt q) (all_spelt qs)
 
-pub all_compiled : (a b : Assembly) (e : ℕ) (c : SlotTable (List Transition)) (n : List Stage) (i : ℕ) (ranges : List (ℕ × ℕ)) → RangesTo a b e c n i ranges → length ranges ≤ i →
+pub all_compiled : (a b : Assembly) (e : ℕ) (c : SlotTable (List Transition)) (n : List Stage) (i : ℕ) (ranges : List (ℕ × ℕ)) →
+    RangesTo a b e c n i ranges → length ranges ≤ i →
     IsCompiling a b e c n (sequences_of ranges)
-all_compiled a b e c n i ranges so_far past = let P : List (ℕ × ℕ) → Type 0 = λ rs. IsCompiling a b e c n (sequences_of rs) in subst P (take_all i ranges past) so_far.is
+all_compiled a b e c n i ranges so_far past = let P : List (ℕ × ℕ) → Type 0 = λ rs. IsCompiling a b e c n (sequences_of rs) in
+    subst P (take_all i ranges past) so_far.is
 
 module _ (a f : Assembly) (ranges : List (ℕ × ℕ)) where
   whole_count : 2 + 4 * length (sequences_of ranges) ≡ 2 + 4 * sequence_count ranges
   whole_count = let same = sequences_counted ranges in omega (arith, same)
 
   pub class_made : (s t : ℕ) → Makes a f s t (2 + 4 * length (sequences_of ranges)) → Makes a f s t (count (char_class ranges))
-  class_made s t m = let same = whole_count in made_capped (count (char_class ranges)) m (fits_char_class (2 + 4 * length (sequences_of ranges)) ranges (omega (arith, same)))
+  class_made s t m = let same = whole_count in made_capped (count (char_class ranges)) m
+      (fits_char_class (2 + 4 * length (sequences_of ranges)) ranges (omega (arith, same)))
 
-  pub class_does : (s t : ℕ) → is_ascending ranges ≡ true → a.reverse ≡ false → Does a f s t (alternation (map (read_tree a.reverse) (sequences_of ranges))) → Does a f s t (char_class ranges)
+  pub class_does : (s t : ℕ) → is_ascending ranges ≡ true → a.reverse ≡ false →
+      Does a f s t (alternation (map (read_tree a.reverse) (sequences_of ranges))) → Does a f s t (char_class ranges)
   class_does s t up forward d =
       let qs = sequences_of ranges in
       let P : Bool → Type 0 = λ back. Does a f s t (alternation (map (read_tree back) qs)) in
@@ -265,4 +293,5 @@ module _ (a f : Assembly) (ranges : List (ℕ × ℕ)) where
       (λ back l. uses_reads back false l qs ∙ sym (uses_sequences back l qs))) (subst P forward d))
 
   pub class_refused : (err : BuildError) → Quits a f (2 + 4 * length (sequences_of ranges)) err → Quits a f (count (char_class ranges)) err
-  class_refused err r = let same = whole_count in quits_capped (count (char_class ranges)) r (fits_char_class (2 + 4 * length (sequences_of ranges)) ranges (omega (arith, same)))
+  class_refused err r = let same = whole_count in quits_capped (count (char_class ranges)) r
+      (fits_char_class (2 + 4 * length (sequences_of ranges)) ranges (omega (arith, same)))

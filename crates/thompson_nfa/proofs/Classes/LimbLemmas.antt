@@ -1,5 +1,6 @@
 -- A class that is compiled sequence by sequence: what its states do for the table, and what is read along the path.
-use Rattle.std.proofs.Common.{◌≡◌, ℕ, zero, suc, ◌+◌, ◌*◌, ◌<◌, ◌≤◌, ◌⊎◌, inl, inr, Bool, List, [], ◌∷◌, ◌++◌, map, length, get_or, refl, sym, ap, ◌∙◌, subst, arith, length-append, append_assoc, append-nil, ⊎_elim, true}
+use Rattle.std.proofs.Common.{◌≡◌, ℕ, zero, suc, ◌+◌, ◌*◌, ◌<◌, ◌≤◌, ◌⊎◌, inl, inr, Bool, List, [], ◌∷◌, ◌++◌, map, length, get_or, refl}
+use Rattle.std.proofs.Common.{sym, ap, ◌∙◌, subst, arith, length-append, append_assoc, append-nil, ⊎_elim, true}
 use Rattle.std.specs.Prelude.{All}
 use Rattle.std.proofs.lemmas.Bool.{cases_lt}
 use Rattle.hir_core.specs.Tree.{Tree, alternation}
@@ -16,7 +17,8 @@ use Rattle.thompson_nfa.specs.Refusals.{Quits}
 use Rattle.thompson_nfa.specs.Shared.{read_then, branch_trees, LeadAll}
 use Rattle.thompson_nfa.specs.SlotTables.{SlotTable}
 use Rattle.thompson_nfa.specs.Utf8Stacks.{Stage, frozen_with, RisesIn, MakesTop, Pops, pops_none, pops_more, PopsUntil}
-use Rattle.thompson_nfa.specs.Utf8Compiles.{Branch, Limb, edge, stage_of, branch_tree, fresh_limb, limb_tree, BranchesLead, LimbsLead, BranchesBelow, LimbsBelow, HasStates, IsCompiling}
+use Rattle.thompson_nfa.specs.Utf8Compiles.{Branch, Limb, edge, stage_of, branch_tree, fresh_limb, limb_tree, BranchesLead, LimbsLead}
+use Rattle.thompson_nfa.specs.Utf8Compiles.{BranchesBelow, LimbsBelow, HasStates, IsCompiling}
 use Rattle.thompson_nfa.proofs.Walks.DenoteLemmas.{denotes_empty_here}
 use Rattle.thompson_nfa.proofs.Steps.GrowLemmas.{grows_refl}
 use Rattle.thompson_nfa.proofs.Steps.ProgressLemmas.{Progress, then_added, then_quits}
@@ -28,7 +30,8 @@ use Rattle.thompson_nfa.proofs.Classes.StackLemmas.{rises_ascends, few_bytes}
 pub has_progress : {old b : Assembly} {end most : ℕ} → HasStates old b end most → Progress true old b most 8
 has_progress h = record { partly = record { grows = h.grows; tame = h.tame }; states = h.states; bytes = h.bytes; numbered = h.numbered }
 
-has_added : (old b c : Assembly) (end most id : ℕ) (trans : List (ℕ × ℕ × ℕ)) → HasStates old b end most → Added b c id (sparse_draft trans) b.groups → RisesIn 0 trans →
+has_added : (old b c : Assembly) (end most id : ℕ) (trans : List (ℕ × ℕ × ℕ)) → HasStates old b end most →
+    Added b c id (sparse_draft trans) b.groups → RisesIn 0 trans →
     All (λ q. q < length c.drafts) (names_of (sparse_draft trans)) → HasStates old c end (most + 1)
 has_added old b c end most id trans h x up named =
     let few = few_bytes trans up in
@@ -60,16 +63,19 @@ pub record More (old b c : Assembly) (end most : ℕ) : Type 0 where
   pub has : HasStates old c end now
   pub grows : Grows b c
 
-pub more_states : (old b c : Assembly) (end most id : ℕ) (trans : List (ℕ × ℕ × ℕ)) → HasStates old b end most → RisesIn 0 trans → All (λ q. q < length c.drafts) (names_of (sparse_draft trans)) →
+pub more_states : (old b c : Assembly) (end most id : ℕ) (trans : List (ℕ × ℕ × ℕ)) → HasStates old b end most → RisesIn 0 trans →
+    All (λ q. q < length c.drafts) (names_of (sparse_draft trans)) →
     (c ≡ b) ⊎ Added b c id (sparse_draft trans) b.groups → More old b c end most
 more_states old b c end most id trans h up named (inl same) =
     let P : Assembly → Type 0 = λ z. More old b z end most in
     subst P (sym same) (record { now = most; least = omega arith; has = h; grows = grows_refl b })
-more_states old b c end most id trans h up named (inr x) = record { now = most + 1; least = omega arith; has = has_added old b c end most id trans h x up named; grows = x.grows }
+more_states old b c end most id trans h up named (inr x) = record { now = most + 1; least = omega arith;
+    has = has_added old b c end most id trans h x up named; grows = x.grows }
 
 -- ---- branches and nodes
 
-pub names_below : (n a b next : ℕ) (bs : List Branch) → BranchesBelow n bs → next < n → (k d : ℕ) → k < length (names_of (sparse_draft (map edge bs ++ (a, b, next) ∷ []))) →
+pub names_below : (n a b next : ℕ) (bs : List Branch) → BranchesBelow n bs → next < n → (k d : ℕ) →
+    k < length (names_of (sparse_draft (map edge bs ++ (a, b, next) ∷ []))) →
     get_or (names_of (sparse_draft (map edge bs ++ (a, b, next) ∷ []))) k d < n
 names_below n a b next [] below l zero d h = l
 names_below n a b next [] below l (suc k) d h = absurd (omega arith)
@@ -117,7 +123,8 @@ module _ (back : Bool) (T : Table) (e : ℕ) where
   lead_both [] ms lead more = more
   lead_both (l ∷ ls) ms lead more = (lead.0, lead_both ls ms lead.1 more)
 
-  pub lead_push : (bs : List Branch) (b : Branch) → BranchesLead back T e bs → Denotes back T b.next e b.tree → BranchesLead back T e (bs ++ b ∷ [])
+  pub lead_push : (bs : List Branch) (b : Branch) → BranchesLead back T e bs → Denotes back T b.next e b.tree →
+      BranchesLead back T e (bs ++ b ∷ [])
   lead_push [] b lead d = (d, tt)
   lead_push (x ∷ bs) b lead d = (lead.0, lead_push bs b lead.1 d)
 
@@ -128,22 +135,26 @@ module _ (back : Bool) (T : Table) (e : ℕ) where
   abbrev tree_of : Branch → Tree
   tree_of b = b.tree
 
-  lead_all : (bs : List Branch) (a b next : ℕ) (y : Tree) → BranchesLead back T e bs → Denotes back T next e y → LeadAll back T e (map edge bs ++ (a, b, next) ∷ []) (map tree_of bs ++ y ∷ [])
+  lead_all : (bs : List Branch) (a b next : ℕ) (y : Tree) → BranchesLead back T e bs → Denotes back T next e y →
+      LeadAll back T e (map edge bs ++ (a, b, next) ∷ []) (map tree_of bs ++ y ∷ [])
   lead_all [] a b next y lead d = (d, tt)
   lead_all (x ∷ bs) a b next y lead d = (lead.0, lead_all bs a b next y lead.1 d)
 
-  all_trees : (bs : List Branch) (a b next : ℕ) (y : Tree) → branch_trees back (map edge bs ++ (a, b, next) ∷ []) (map tree_of bs ++ y ∷ []) ≡ map (branch_tree back) bs ++ read_then back (a, b) y ∷ []
+  all_trees : (bs : List Branch) (a b next : ℕ) (y : Tree) → branch_trees back (map edge bs ++ (a, b, next) ∷ []) (map tree_of bs
+      ++ y ∷ []) ≡ map (branch_tree back) bs ++ read_then back (a, b) y ∷ []
   all_trees [] a b next y = refl
   all_trees (x ∷ bs) a b next y = ap (λ (l : List Tree). branch_tree back x ∷ l) (all_trees bs a b next y)
 
   -- the state of a node, where the states above are made
-  pub node_leads : (id next : ℕ) (l : Limb) (above : List Limb) → T id ≡ sparse_draft (frozen_with next (stage_of l)) → RisesIn 0 (frozen_with next (stage_of l)) → BranchesLead back T e l.branches →
+  pub node_leads : (id next : ℕ) (l : Limb) (above : List Limb) → T id ≡ sparse_draft (frozen_with next (stage_of l)) →
+      RisesIn 0 (frozen_with next (stage_of l)) → BranchesLead back T e l.branches →
       Denotes back T next e (limb_tree back above) → Denotes back T id e (limb_tree back (l ∷ above))
   node_leads id next l above is up lead d =
       let P : List Tree → Type 0 = λ ys. Denotes back T id e (alternation ys) in
       let y : Tree = limb_tree back above in
       subst P (all_trees l.branches l.last.0 l.last.1 next y)
-      (denotes_branches back T id e (frozen_with next (stage_of l)) (map tree_of l.branches ++ y ∷ []) is (rises_ascends (frozen_with next (stage_of l)) up)
+      (denotes_branches back T id e (frozen_with next (stage_of l)) (map tree_of l.branches
+          ++ y ∷ []) is (rises_ascends (frozen_with next (stage_of l)) up)
       (lead_all l.branches l.last.0 l.last.1 next y lead d))
 
 -- the last node
@@ -173,7 +184,8 @@ last_limb (n ∷ ms) top (l ∷ front) e =
 
 -- ---- states are made from the top down
 
-pub finishes_before : (b c : Assembly) (end : ℕ) (table : Table) → Grows b c → Finishes end c.drafts end table → Finishes end b.drafts end table
+pub finishes_before : (b c : Assembly) (end : ℕ) (table : Table) → Grows b c → Finishes end c.drafts end table →
+    Finishes end b.drafts end table
 finishes_before b c end table g fin q low high ne = let l = g.longer in fin q low (omega arith) ne ∙ g.same q high
 
 -- from the states on the path to where the last one's last range leads, and from there to the end
@@ -191,7 +203,8 @@ pub record Popped (old b : Assembly) (end : ℕ) (ls0 : List Limb) (ns : List St
   pub leads : (table : Table) → Finishes end b.drafts end table → LimbsLead old.reverse table end front
   pub next_leads : (table : Table) → Finishes end b.drafts end table → Denotes old.reverse table next end (limb_tree old.reverse rest)
 
-pub popped_none : (old b : Assembly) (end : ℕ) (compiled : SlotTable (List Transition)) (ns : List Stage) (qs : List (List (ℕ × ℕ))) (c : IsCompiling old b end compiled ns qs) →
+pub popped_none : (old b : Assembly) (end : ℕ) (compiled : SlotTable (List Transition)) (ns : List Stage) (qs : List (List (ℕ × ℕ)))
+    (c : IsCompiling old b end compiled ns qs) →
     Popped old b end c.limbs ns end (1 + 4 * length qs)
 popped_none old b end compiled ns qs c = record {
   most = c.most;
@@ -208,7 +221,8 @@ popped_none old b end compiled ns qs c = record {
   next_leads = λ table fin. denotes_empty_here old.reverse table end;
 }
 
-module _ (old b c : Assembly) (end : ℕ) (ls0 : List Limb) (ns ms : List Stage) (next id bound : ℕ) (p : Popped old b end ls0 ns next bound) (top : MakesTop b c end ns ms next id) where
+module _ (old b c : Assembly) (end : ℕ) (ls0 : List Limb) (ns ms : List Stage) (next id bound : ℕ) (p : Popped old b end ls0 ns next bound)
+    (top : MakesTop b c end ns ms next id) where
   at_top : LastLimb p.front ms top.top
   at_top = last_limb ms top.top p.front (sym p.nodes_are ∙ top.split)
 
@@ -223,20 +237,23 @@ module _ (old b c : Assembly) (end : ℕ) (ls0 : List Limb) (ns ms : List Stage)
       let l = p.next_there in
       let P : Stage → Type 0 = λ s. All (λ q. q < length c.drafts) (names_of (sparse_draft (frozen_with next s))) in
       let branches = (below_back (length b.drafts) at_top.init (at_top.last ∷ []) top_below).0 in
-      subst P (sym at_top.top_is) (names_below (length c.drafts) at_top.last.last.0 at_top.last.last.1 next at_top.last.branches (branches_wider (length b.drafts) (length c.drafts) at_top.last.branches longer branches) (omega arith))
+      subst P (sym at_top.top_is) (names_below (length c.drafts) at_top.last.last.0 at_top.last.last.1 next at_top.last.branches
+          (branches_wider (length b.drafts) (length c.drafts) at_top.last.branches longer branches) (omega arith))
 
   longer_by : (c ≡ b) ⊎ Added b c id (sparse_draft (frozen_with next top.top)) b.groups → length b.drafts ≤ length c.drafts
   longer_by (inl same) = let e : length c.drafts ≡ length b.drafts = ap (λ (z : Assembly). length z.drafts) same in omega arith
   longer_by (inr x) = x.grows.longer
 
   top_more : More old b c end p.most
-  top_more = more_states old b c end p.most id (frozen_with next top.top) p.has top.compiles.rises (top_named (longer_by top.compiles.how)) top.compiles.how
+  top_more = more_states old b c end p.most id (frozen_with next top.top) p.has top.compiles.rises
+      (top_named (longer_by top.compiles.how)) top.compiles.how
 
   pub popped_top : Popped old c end ls0 ms id bound
   popped_top =
       let more = top_more in let least = more.least in let room = p.room in let behind = top.compiles.behind in
       let shorter : length ns ≡ length ms + 1 = ap length top.split ∙ length-append ms (top.top ∷ []) in
-      let before : (table : Table) → Finishes end c.drafts end table → Finishes end b.drafts end table = λ table fin. finishes_before b c end table more.grows fin in
+      let before : (table : Table) → Finishes end c.drafts end table → Finishes end b.drafts end table =
+          λ table fin. finishes_before b c end table more.grows fin in
       record {
         most = more.now;
         has = more.has;
@@ -245,27 +262,34 @@ module _ (old b c : Assembly) (end : ℕ) (ls0 : List Limb) (ns ms : List Stage)
         rest = at_top.last ∷ p.rest;
         split = p.split ∙ ap (λ (l : List Limb). l ++ p.rest) at_top.front_is ∙ append_assoc at_top.init (at_top.last ∷ []) p.rest;
         nodes_are = at_top.ms_is;
-        below = limbs_wider (length b.drafts) (length c.drafts) at_top.init more.grows.longer (below_front (length b.drafts) at_top.init (at_top.last ∷ []) top_below);
+        below = limbs_wider (length b.drafts) (length c.drafts) at_top.init more.grows.longer
+            (below_front (length b.drafts) at_top.init (at_top.last ∷ []) top_below);
         next_behind = omega arith;
         next_there = top.compiles.there;
         leads = λ table fin. lead_front old.reverse table end at_top.init (at_top.last ∷ []) (top_leads table (before table fin));
         next_leads = λ table fin.
             let P : Stage → Type 0 = λ s. table id ≡ sparse_draft (frozen_with next s) in
             let Q : Stage → Type 0 = λ s. RisesIn 0 (frozen_with next s) in
-            let is = subst P at_top.top_is (fin id (omega arith) top.compiles.there (λ (same : id ≡ end). omega arith) ∙ top.compiles.here) in
+            let is = subst P at_top.top_is (fin id (omega arith) top.compiles.there (λ (same : id ≡ end). omega arith)
+                ∙ top.compiles.here) in
             node_leads old.reverse table end id next at_top.last p.rest is (subst Q at_top.top_is top.compiles.rises)
-            (lead_back old.reverse table end at_top.init (at_top.last ∷ []) (top_leads table (before table fin))).0 (p.next_leads table (before table fin));
+            (lead_back old.reverse table end at_top.init (at_top.last ∷ []) (top_leads table (before table fin))).0
+                (p.next_leads table (before table fin));
       }
 
-pub popped_all : (old b0 : Assembly) (end : ℕ) (ls0 : List Limb) (ns0 : List Stage) (bound : ℕ) → Popped old b0 end ls0 ns0 end bound → (b : Assembly) (ns : List Stage) (next : ℕ) →
+pub popped_all : (old b0 : Assembly) (end : ℕ) (ls0 : List Limb) (ns0 : List Stage) (bound : ℕ) → Popped old b0 end ls0 ns0 end bound →
+    (b : Assembly) (ns : List Stage) (next : ℕ) →
     Pops end b0 ns0 b ns next → Popped old b end ls0 ns next bound
 popped_all old b0 end ls0 ns0 bound p _ _ _ pops_none = p
-popped_all old b0 end ls0 ns0 bound p _ _ _ (pops_more b c ns ms next id before top) = popped_top old b c end ls0 ns ms next id bound (popped_all old b0 end ls0 ns0 bound p b ns next before) top
+popped_all old b0 end ls0 ns0 bound p _ _ _ (pops_more b c ns ms next id before top) =
+    popped_top old b c end ls0 ns ms next id bound (popped_all old b0 end ls0 ns0 bound p b ns next before) top
 
 -- a refusal on the way
-pub until_quits : (old b0 new : Assembly) (end : ℕ) (compiled : SlotTable (List Transition)) (ns0 : List Stage) (qs : List (List (ℕ × ℕ))) (e : BuildError) → IsCompiling old b0 end compiled ns0 qs →
+pub until_quits : (old b0 new : Assembly) (end : ℕ) (compiled : SlotTable (List Transition)) (ns0 : List Stage) (qs : List (List (ℕ × ℕ)))
+    (e : BuildError) → IsCompiling old b0 end compiled ns0 qs →
     PopsUntil end b0 new ns0 e → Quits old new (2 + 4 * length qs) e
 until_quits old b0 new end compiled ns0 qs e c r =
-    let p = popped_all old b0 end c.limbs ns0 (1 + 4 * length qs) (popped_none old b0 end compiled ns0 qs c) r.middle r.stack r.next r.pops in
+    let p = popped_all old b0 end c.limbs ns0 (1 + 4 * length qs) (popped_none old b0 end compiled ns0 qs c) r.middle r.stack r.next
+        r.pops in
     let room = p.room in
     then_quits (2 + 4 * length qs) (has_progress p.has) r.stays (omega arith) (omega arith)

@@ -1,5 +1,6 @@
 -- A compiler of sequences: one sequence more, the first one, and the end.
-use Rattle.std.proofs.Common.{◌≡◌, ℕ, zero, suc, ◌+◌, ◌*◌, ◌<◌, ◌≤◌, Bool, List, [], ◌∷◌, ◌++◌, map, length, drop, replicate, get_or, Option, None, refl, sym, ap, ◌∙◌, subst, arith, length-append, append_assoc, ⊎_elim, false}
+use Rattle.std.proofs.Common.{◌≡◌, ℕ, zero, suc, ◌+◌, ◌*◌, ◌<◌, ◌≤◌, Bool, List, [], ◌∷◌, ◌++◌, map, length, drop, replicate, get_or}
+use Rattle.std.proofs.Common.{Option, None, refl, sym, ap, ◌∙◌, subst, arith, length-append, append_assoc, ⊎_elim, false}
 use Rattle.std.proofs.lemmas.Bool.{cases_eq, eq-eqb}
 use Rattle.std.proofs.lemmas.List.{length-map, map-append, get_or-map, length-replicate}
 use Rattle.hir_core.specs.Sequences.{bytes_of}
@@ -18,13 +19,17 @@ use Rattle.thompson_nfa.specs.Denotes.{Denotes}
 use Rattle.thompson_nfa.specs.Refusals.{Quits}
 use Rattle.thompson_nfa.specs.Shared.{read_tree}
 use Rattle.thompson_nfa.specs.SlotTables.{SlotTable, empty_table}
-use Rattle.thompson_nfa.specs.Utf8Stacks.{Stage, fresh, advanced, path_of, StagesRise, AreBytes, IsKept, Keeps, Compiles, Pops, pops_none, Turns, PopsUntil, PartsAt}
-use Rattle.thompson_nfa.specs.Utf8Compiles.{Limb, edge, stage_of, fresh_limb, grown, limb_tree, whole_tree, LimbsLead, LimbsBelow, ReadsAs, last_of, HasStates, IsCompiling}
+use Rattle.thompson_nfa.specs.Utf8Stacks.{Stage, fresh, advanced, path_of, StagesRise, AreBytes, IsKept, Keeps, Compiles, Pops, pops_none}
+use Rattle.thompson_nfa.specs.Utf8Stacks.{Turns, PopsUntil, PartsAt}
+use Rattle.thompson_nfa.specs.Utf8Compiles.{Limb, edge, stage_of, fresh_limb, grown, limb_tree, whole_tree, LimbsLead, LimbsBelow, ReadsAs}
+use Rattle.thompson_nfa.specs.Utf8Compiles.{last_of, HasStates, IsCompiling}
 use Rattle.thompson_nfa.proofs.Steps.LookLemmas.{adds_none, quiet_plain, uses_reads}
 use Rattle.thompson_nfa.proofs.Walks.AheadLemmas.{denotes_then_empty}
 use Rattle.thompson_nfa.proofs.Walks.DenoteLemmas.{denotes_empty, denotes_like}
 use Rattle.thompson_nfa.proofs.Fragments.LeafLemmas.{tame_one}
-use Rattle.thompson_nfa.proofs.Classes.LimbLemmas.{Popped, popped_none, popped_all, LastLimb, last_limb, below_front, below_back, below_both, branches_push, fresh_below, lead_front, lead_back, lead_both, lead_push, fresh_lead, has_progress, more_states, until_quits}
+use Rattle.thompson_nfa.proofs.Classes.LimbLemmas.{Popped, popped_none, popped_all, LastLimb, last_limb, below_front, below_back}
+use Rattle.thompson_nfa.proofs.Classes.LimbLemmas.{below_both, branches_push, fresh_below, lead_front, lead_back, lead_both, lead_push}
+use Rattle.thompson_nfa.proofs.Classes.LimbLemmas.{fresh_lead, has_progress, more_states, until_quits}
 use Rattle.thompson_nfa.proofs.Steps.OutLemmas.{out_here, out_next, out_at}
 use Rattle.thompson_nfa.proofs.Steps.ProgressLemmas.{first_added, made}
 use Rattle.thompson_nfa.proofs.Classes.ReadLemmas.{as_itself, lasts, turned_reads, more_reads, first_reads}
@@ -34,7 +39,8 @@ use Rattle.thompson_nfa.proofs.Classes.StackLemmas.{advanced_rises, rise_front, 
 
 -- ---- lists
 
-same_split : (xs ys : List (ℕ × ℕ)) (a b : ℕ × ℕ) (us vs : List (ℕ × ℕ)) → xs ++ a ∷ us ≡ ys ++ b ∷ vs → length xs ≡ length ys → (xs ≡ ys) × (a ≡ b)
+same_split : (xs ys : List (ℕ × ℕ)) (a b : ℕ × ℕ) (us vs : List (ℕ × ℕ)) → xs ++ a ∷ us ≡ ys ++ b ∷ vs → length xs ≡ length ys → (xs ≡ ys) ×
+    (a ≡ b)
 same_split [] [] a b us vs e l = (refl, cc)
 same_split [] (y ∷ ys) a b us vs e l = absurd (omega arith)
 same_split (x ∷ xs) [] a b us vs e l = absurd (omega arith)
@@ -73,21 +79,26 @@ last_pushed [] q = refl
 last_pushed (p ∷ []) q = refl
 last_pushed (p ∷ r ∷ qs) q = last_pushed (r ∷ qs) q
 
-whole_is : (back : Bool) (front : List Limb) (l : Limb) (ls : List Limb) → whole_tree back (front ++ l ∷ ls) ≡ limb_tree back (front ++ l ∷ ls)
+whole_is : (back : Bool) (front : List Limb) (l : Limb) (ls : List Limb) →
+    whole_tree back (front ++ l ∷ ls) ≡ limb_tree back (front ++ l ∷ ls)
 whole_is back [] l ls = refl
 whole_is back (n ∷ front) l ls = refl
 
 grown_stage : (next : ℕ) (x : Tree) (range : ℕ × ℕ) (l : Limb) → stage_of (grown next x range l) ≡ advanced next range (stage_of l)
 grown_stage next x range l =
-    ap (λ (es : List (ℕ × ℕ × ℕ)). record { frozen = es; last = range }) (map-append edge l.branches (record { low = l.last.0; high = l.last.1; next = next; tree = x } ∷ []))
+    ap (λ (es : List (ℕ × ℕ × ℕ)). record { frozen = es; last = range })
+        (map-append edge l.branches (record { low = l.last.0; high = l.last.1; next = next; tree = x } ∷ []))
 
-four_more : (n k most : ℕ) (qs : List (List (ℕ × ℕ))) (q : List (ℕ × ℕ)) → n ≤ 1 + 4 * length qs → most ≤ n + 4 → most ≤ 1 + 4 * length (qs ++ q ∷ [])
+four_more : (n k most : ℕ) (qs : List (List (ℕ × ℕ))) (q : List (ℕ × ℕ)) → n ≤ 1 + 4 * length qs → most ≤ n + 4 →
+    most ≤ 1 + 4 * length (qs ++ q ∷ [])
 four_more n k most qs q le more = omega (arith, length-append qs (q ∷ []), le, more)
 
 -- ---- a sequence that leaves the path at a node
 
-module _ (old b0 b1 : Assembly) (end : ℕ) (compiled table1 : SlotTable (List Transition)) (ns0 ns1 ns2 : List Stage) (qs : List (List (ℕ × ℕ))) (q : List (ℕ × ℕ)) (range : ℕ × ℕ) (at : ℕ)
-    (c : IsCompiling old b0 end compiled ns0 qs) (t : Turns end b0 b1 ns0 ns1 range at) (parts : PartsAt (path_of ns0) q at) (is_range : range ≡ parts.other) (bytes : AreBytes q) (few : length q ≤ 4)
+module _ (old b0 b1 : Assembly) (end : ℕ) (compiled table1 : SlotTable (List Transition)) (ns0 ns1 ns2 : List Stage)
+    (qs : List (List (ℕ × ℕ))) (q : List (ℕ × ℕ)) (range : ℕ × ℕ) (at : ℕ)
+    (c : IsCompiling old b0 end compiled ns0 qs) (t : Turns end b0 b1 ns0 ns1 range at) (parts : PartsAt (path_of ns0) q at)
+        (is_range : range ≡ parts.other) (bytes : AreBytes q) (few : length q ≤ 4)
     (pushed : ns2 ≡ ns1 ++ map fresh (drop (at + 1) q)) (keeps : Keeps b1 end table1) where
   p : Popped old b1 end c.limbs t.stack t.next (1 + 4 * length qs)
   p = popped_all old b0 end c.limbs ns0 (1 + 4 * length qs) (popped_none old b0 end compiled ns0 qs c) b1 t.stack t.next t.pops
@@ -119,15 +130,18 @@ module _ (old b0 b1 : Assembly) (end : ℕ) (compiled table1 : SlotTable (List T
       let two : length (map stage_of l.init) ≡ length l.init = length-map l.init stage_of in
       let three : length t.rest ≡ length (map stage_of l.init) = ap length l.ms_is in
       let place = t.place in let here = parts.place in
-      same_split (lasts l.init) parts.before l.last.last parts.one (lasts p.rest) parts.one_rest (sym old_path ∙ parts.one_is) (omega (arith, one, two, three, place, here))
+      same_split (lasts l.init) parts.before l.last.last parts.one (lasts p.rest) parts.one_rest (sym old_path
+          ∙ parts.one_is) (omega (arith, one, two, three, place, here))
 
   q_is : lasts l.init ++ range ∷ behind ≡ q
-  q_is = ap (λ (xs : List (ℕ × ℕ)). xs ++ range ∷ behind) before_is.0 ∙ ap (λ (r : ℕ × ℕ). parts.before ++ r ∷ behind) is_range ∙ sym parts.other_is
+  q_is = ap (λ (xs : List (ℕ × ℕ)). xs ++ range ∷ behind) before_is.0 ∙ ap (λ (r : ℕ × ℕ). parts.before ++ r ∷ behind) is_range
+      ∙ sym parts.other_is
 
   left_is : drop (at + 1) q ≡ behind
   left_is =
       let place : at + 1 ≡ suc (length parts.before) = let e = parts.place in omega (arith, e) in
-      ap (λ k. drop k q) place ∙ ap (λ (xs : List (ℕ × ℕ)). drop (suc (length parts.before)) xs) parts.other_is ∙ drop_behind parts.before parts.other behind
+      ap (λ k. drop k q) place ∙ ap (λ (xs : List (ℕ × ℕ)). drop (suc (length parts.before)) xs) parts.other_is
+          ∙ drop_behind parts.before parts.other behind
 
   nodes : ns2 ≡ t.rest ++ advanced t.next range t.top ∷ map fresh behind
   nodes =
@@ -136,14 +150,16 @@ module _ (old b0 b1 : Assembly) (end : ℕ) (compiled table1 : SlotTable (List T
 
   new_nodes : ns2 ≡ map stage_of limbs
   new_nodes =
-      let top : advanced t.next range t.top ≡ stage_of node = ap (λ (s : Stage). advanced t.next range s) l.top_is ∙ sym (grown_stage t.next above range l.last) in
+      let top : advanced t.next range t.top ≡ stage_of node = ap (λ (s : Stage). advanced t.next range s) l.top_is
+          ∙ sym (grown_stage t.next above range l.last) in
       nodes ∙ ap (λ (ns : List Stage). ns ++ advanced t.next range t.top ∷ map fresh behind) l.ms_is
       ∙ ap (λ (s : Stage). map stage_of l.init ++ s ∷ map fresh behind) top
       ∙ ap (λ (ns : List Stage). map stage_of l.init ++ stage_of node ∷ ns) (sym (fresh_stages behind))
       ∙ sym (map-append stage_of l.init (node ∷ map fresh_limb behind))
 
   bytes_here : AreBytes (parts.other ∷ behind)
-  bytes_here = let P : List (ℕ × ℕ) → Type 0 = λ xs. AreBytes xs in bytes_back parts.before (parts.other ∷ behind) (subst P parts.other_is bytes)
+  bytes_here = let P : List (ℕ × ℕ) → Type 0 = λ xs. AreBytes xs in bytes_back parts.before (parts.other ∷ behind)
+      (subst P parts.other_is bytes)
 
   new_rising : StagesRise ns2
   new_rising =
@@ -162,7 +178,8 @@ module _ (old b0 b1 : Assembly) (end : ℕ) (compiled table1 : SlotTable (List T
   new_path =
       let last : path_of (map stage_of limbs) ≡ lasts l.init ++ range ∷ behind =
       path_lasts limbs ∙ map-append (λ (n : Limb). n.last) l.init (node ∷ map fresh_limb behind)
-      ∙ ap (λ (xs : List (ℕ × ℕ)). lasts l.init ++ range ∷ xs) (sym (path_lasts (map fresh_limb behind)) ∙ ap path_of (fresh_stages behind) ∙ fresh_path behind) in
+      ∙ ap (λ (xs : List (ℕ × ℕ)). lasts l.init ++ range ∷ xs) (sym (path_lasts (map fresh_limb behind)) ∙ ap path_of (fresh_stages behind)
+          ∙ fresh_path behind) in
       ap path_of new_nodes ∙ last ∙ q_is ∙ sym (last_pushed qs q)
 
   front_below : LimbsBelow (length b1.drafts) (l.init ++ l.last ∷ [])
@@ -175,20 +192,25 @@ module _ (old b0 b1 : Assembly) (end : ℕ) (compiled table1 : SlotTable (List T
   new_room =
       let room = p.room in
       let stack : length t.stack ≡ length t.rest + 1 = ap length t.split ∙ length-append t.rest (t.top ∷ []) in
-      let new : length ns2 ≡ length t.rest + suc (length (map fresh behind)) = ap length nodes ∙ length-append t.rest (advanced t.next range t.top ∷ map fresh behind) in
+      let new : length ns2 ≡ length t.rest + suc (length (map fresh behind)) =
+          ap length nodes ∙ length-append t.rest (advanced t.next range t.top ∷ map fresh behind) in
       let later : length (map fresh behind) ≡ length behind = length-map behind fresh in
-      let whole : length q ≡ length parts.before + suc (length behind) = ap length parts.other_is ∙ length-append parts.before (parts.other ∷ behind) in
+      let whole : length q ≡ length parts.before + suc (length behind) =
+          ap length parts.other_is ∙ length-append parts.before (parts.other ∷ behind) in
       four_more (p.most + length t.stack) 0 (p.most + length ns2) qs q room (omega (arith, stack, new, later, whole, few))
 
   new_reads : ReadsAs (whole_tree old.reverse limbs) (alternation (map (read_tree old.reverse) (qs ++ q ∷ [])))
   new_reads =
       let back = old.reverse in
       let P : Tree → Type 0 = λ x. ReadsAs x (alternation (map (read_tree back) (qs ++ q ∷ []))) in
-      let R : List (ℕ × ℕ) → Type 0 = λ xs. ReadsAs (limb_tree back limbs) (alt (limb_tree back (l.init ++ l.last ∷ p.rest)) (read_tree back xs)) in
+      let R : List (ℕ × ℕ) → Type 0 = λ xs. ReadsAs (limb_tree back limbs)
+          (alt (limb_tree back (l.init ++ l.last ∷ p.rest)) (read_tree back xs)) in
       let W : Tree → Type 0 = λ y. ReadsAs y (alternation (map (read_tree back) qs)) in
-      let was : ReadsAs (limb_tree back (l.init ++ l.last ∷ p.rest)) (alternation (map (read_tree back) qs)) = subst W (ap (whole_tree back) old_limbs ∙ whole_is back l.init l.last p.rest) c.reads in
+      let was : ReadsAs (limb_tree back (l.init ++ l.last ∷ p.rest)) (alternation (map (read_tree back) qs)) =
+          subst W (ap (whole_tree back) old_limbs ∙ whole_is back l.init l.last p.rest) c.reads in
       subst P (sym (whole_is back l.init node (map fresh_limb behind)))
-      (more_reads back (limb_tree back limbs) (limb_tree back (l.init ++ l.last ∷ p.rest)) qs q was (subst R q_is (turned_reads back l.init t.next range l.last p.rest behind)))
+      (more_reads back (limb_tree back limbs) (limb_tree back (l.init ++ l.last ∷ p.rest)) qs q was
+          (subst R q_is (turned_reads back l.init t.next range l.last p.rest behind)))
 
   pub sequence_turned : IsCompiling old b1 end table1 ns2 (qs ++ q ∷ [])
   sequence_turned = record {
@@ -200,14 +222,17 @@ module _ (old b0 b1 : Assembly) (end : ℕ) (compiled table1 : SlotTable (List T
     path = new_path;
     limbs = limbs;
     nodes_are = new_nodes;
-    below = below_both (length b1.drafts) l.init (node ∷ map fresh_limb behind) (below_front (length b1.drafts) l.init (l.last ∷ []) front_below) (
+    below = below_both (length b1.drafts) l.init (node ∷ map fresh_limb behind)
+        (below_front (length b1.drafts) l.init (l.last ∷ []) front_below) (
       branches_push (length b1.drafts) l.last.branches (record { low = l.last.last.0; high = l.last.last.1; next = t.next; tree = above })
           (below_back (length b1.drafts) l.init (l.last ∷ []) front_below).0 p.next_there,
       fresh_below (length b1.drafts) behind,
     );
     leads = λ table fin.
-        lead_both old.reverse table end l.init (node ∷ map fresh_limb behind) (lead_front old.reverse table end l.init (l.last ∷ []) (front_leads table fin)) (
-          lead_push old.reverse table end l.last.branches (record { low = l.last.last.0; high = l.last.last.1; next = t.next; tree = above })
+        lead_both old.reverse table end l.init (node ∷ map fresh_limb behind)
+            (lead_front old.reverse table end l.init (l.last ∷ []) (front_leads table fin)) (
+          lead_push old.reverse table end l.last.branches (record { low = l.last.last.0; high = l.last.last.1; next = t.next;
+              tree = above })
               (lead_back old.reverse table end l.init (l.last ∷ []) (front_leads table fin)).0 (p.next_leads table fin),
           fresh_lead old.reverse table end behind,
         );
@@ -220,14 +245,17 @@ no_limb : (ls : List Limb) → map stage_of ls ≡ [] → ls ≡ []
 no_limb [] e = refl
 no_limb (l ∷ ls) e = cc
 
-module _ (old b : Assembly) (end : ℕ) (compiled : SlotTable (List Transition)) (ns0 ns : List Stage) (qs : List (List (ℕ × ℕ))) (c : IsCompiling old b end compiled ns0 qs) (none : ns0 ≡ []) where
+module _ (old b : Assembly) (end : ℕ) (compiled : SlotTable (List Transition)) (ns0 ns : List Stage) (qs : List (List (ℕ × ℕ)))
+    (c : IsCompiling old b end compiled ns0 qs) (none : ns0 ≡ []) where
   limbs_none : c.limbs ≡ []
   limbs_none = no_limb c.limbs (sym c.nodes_are ∙ none)
 
   never_read : ReadsAs never (alternation (map (read_tree old.reverse) qs))
-  never_read = let P : Tree → Type 0 = λ x. ReadsAs x (alternation (map (read_tree old.reverse) qs)) in subst P (ap (whole_tree old.reverse) limbs_none) c.reads
+  never_read = let P : Tree → Type 0 = λ x. ReadsAs x (alternation (map (read_tree old.reverse) qs)) in
+      subst P (ap (whole_tree old.reverse) limbs_none) c.reads
 
-  begun_by : (r : ℕ × ℕ) (q : List (ℕ × ℕ)) → AreBytes (r ∷ q) → length (r ∷ q) ≤ 4 → ns ≡ map fresh (r ∷ q) → IsCompiling old b end compiled ns (qs ++ (r ∷ q) ∷ [])
+  begun_by : (r : ℕ × ℕ) (q : List (ℕ × ℕ)) → AreBytes (r ∷ q) → length (r ∷ q) ≤ 4 → ns ≡ map fresh (r ∷ q) →
+      IsCompiling old b end compiled ns (qs ++ (r ∷ q) ∷ [])
   begun_by r q bytes few is =
       let back = old.reverse in
       let nodes_are : ns ≡ map stage_of (map fresh_limb (r ∷ q)) = is ∙ sym (fresh_stages (r ∷ q)) in
@@ -249,11 +277,13 @@ module _ (old b : Assembly) (end : ℕ) (compiled : SlotTable (List Transition))
         reads = more_reads back (limb_tree back (map fresh_limb (r ∷ q))) never qs (r ∷ q) never_read (first_reads back r q);
       }
 
-  some_begun : (q : List (ℕ × ℕ)) → 1 ≤ length q → AreBytes q → length q ≤ 4 → ns ≡ map fresh q → IsCompiling old b end compiled ns (qs ++ q ∷ [])
+  some_begun : (q : List (ℕ × ℕ)) → 1 ≤ length q → AreBytes q → length q ≤ 4 → ns ≡ map fresh q →
+      IsCompiling old b end compiled ns (qs ++ q ∷ [])
   some_begun [] some bytes few is = absurd (omega arith)
   some_begun (r ∷ q) some bytes few is = begun_by r q bytes few is
 
-  pub sequence_first : (q : List (ℕ × ℕ)) → 1 ≤ length q → AreBytes q → length q ≤ 4 → ns ≡ ns0 ++ map fresh (drop 0 q) → IsCompiling old b end compiled ns (qs ++ q ∷ [])
+  pub sequence_first : (q : List (ℕ × ℕ)) → 1 ≤ length q → AreBytes q → length q ≤ 4 → ns ≡ ns0 ++ map fresh (drop 0 q) →
+      IsCompiling old b end compiled ns (qs ++ q ∷ [])
   sequence_first q some bytes few pushed = some_begun q some bytes few (pushed ∙ ap (λ (l : List Stage). l ++ map fresh q) none)
 
 -- ---- the begin
@@ -269,9 +299,11 @@ none_held (suc n) (suc at) = none_held n at
 empty_keeps : (b : Assembly) (end capacity : ℕ) → end < length b.drafts → Keeps b end (empty_table capacity)
 empty_keeps b end capacity there =
     let P : Option (List Transition × ℕ) → Type 0 = λ o. IsKept b end o in
-    record { end_there = there; ready = eq-eqb (length (replicate capacity nothing_held)) capacity (length-replicate capacity nothing_held); kept = λ at. subst P (sym (none_held capacity at)) tt }
+    record { end_there = there; ready = eq-eqb (length (replicate capacity nothing_held)) capacity (length-replicate capacity nothing_held);
+        kept = λ at. subst P (sym (none_held capacity at)) tt }
 
-pub compile_begun : (a b : Assembly) (end capacity : ℕ) (compiled : SlotTable (List Transition)) (ns : List Stage) → Added a b end (empty_draft 0) a.groups → compiled ≡ empty_table capacity → ns ≡ [] →
+pub compile_begun : (a b : Assembly) (end capacity : ℕ) (compiled : SlotTable (List Transition)) (ns : List Stage) →
+    Added a b end (empty_draft 0) a.groups → compiled ≡ empty_table capacity → ns ≡ [] →
     IsCompiling a b end compiled ns []
 compile_begun a b end capacity compiled ns x is none =
     let p = first_added 8 x (tame_one b (empty_draft 0) 0 refl (omega arith) refl refl) (omega arith) in
@@ -331,14 +363,16 @@ module _ (old b : Assembly) (end start n : ℕ) (x : Tree) (c : IsWholePath old 
       (λ table target fin q low high.
       let P : ℕ → Type 0 = λ k. ComesOut table target k in
       ⊎_elim
-      (λ (same : q ≡ end). subst P (sym same) (out_next table target end target (ap stands_for (closed_end table target fin)) (out_at table target)))
+      (λ (same : q ≡ end). subst P (sym same) (out_next table target end target (ap stands_for (closed_end table target fin))
+          (out_at table target)))
       (λ (other : q ≡ end → ⊥). out_here table target q (ap stands_for (fin.states q low high other) ∙ c.has.stands q (omega arith) high))
       (cases_eq q end))
 
   pub closed_does : Does old b start end x
   closed_does = record {
     denotes = λ table target fin.
-        denotes_then_empty old.reverse table start end target x (c.denotes table (closed_states table target fin)) (denotes_empty old.reverse table end target (closed_end table target fin));
+        denotes_then_empty old.reverse table start end target x (c.denotes table (closed_states table target fin))
+            (denotes_empty old.reverse table end target (closed_end table target fin));
     looks = adds_none old.reverse x old b (quiet_plain c.has.grows c.has.tame) c.met;
   }
 
@@ -356,19 +390,22 @@ pub empty_by : (ns : List Stage) → length ns ≡ 0 → ns ≡ []
 empty_by [] e = refl
 empty_by (n ∷ ns) e = absurd (omega arith)
 
-module _ (old b0 b : Assembly) (end : ℕ) (compiled : SlotTable (List Transition)) (ns0 : List Stage) (qs : List (List (ℕ × ℕ))) (c : IsCompiling old b0 end compiled ns0 qs) where
+module _ (old b0 b : Assembly) (end : ℕ) (compiled : SlotTable (List Transition)) (ns0 : List Stage) (qs : List (List (ℕ × ℕ)))
+    (c : IsCompiling old b0 end compiled ns0 qs) where
   abbrev all_read : Tree
   all_read = alternation (map (read_tree old.reverse) qs)
 
   -- the states of all nodes are made
-  pub path_closed : (ns : List Stage) (start : ℕ) → 0 < length ns0 → Pops end b0 ns0 b ns start → length ns ≡ 0 → IsWholePath old b end start all_read (2 + 4 * length qs)
+  pub path_closed : (ns : List Stage) (start : ℕ) → 0 < length ns0 → Pops end b0 ns0 b ns start → length ns ≡ 0 →
+      IsWholePath old b end start all_read (2 + 4 * length qs)
   path_closed ns start some pops short =
       let back = old.reverse in
       let p = popped_all old b0 end c.limbs ns0 (1 + 4 * length qs) (popped_none old b0 end compiled ns0 qs c) b ns start pops in
       let none : p.front ≡ [] = no_limb p.front (sym p.nodes_are ∙ empty_by ns short) in
       let rest : c.limbs ≡ p.rest = p.split ∙ ap (λ (l : List Limb). l ++ p.rest) none in
       let long : length c.limbs ≡ length ns0 = sym (length-map c.limbs stage_of) ∙ sym (ap length c.nodes_are) in
-      let same : limb_tree back p.rest ≡ whole_tree back c.limbs = sym (ap (limb_tree back) rest) ∙ sym (whole_some back c.limbs (omega (arith, long, some))) in
+      let same : limb_tree back p.rest ≡ whole_tree back c.limbs = sym (ap (limb_tree back) rest)
+          ∙ sym (whole_some back c.limbs (omega (arith, long, some))) in
       let room = p.room in
       record {
         most = p.most;
@@ -384,7 +421,8 @@ module _ (old b0 b : Assembly) (end : ℕ) (compiled : SlotTable (List Transitio
       }
 
   -- there was no sequence
-  pub none_closed : (start : ℕ) (trans : List (ℕ × ℕ × ℕ)) → ns0 ≡ [] → trans ≡ [] → Compiles b0 b end trans start → IsWholePath old b end start all_read (2 + 4 * length qs)
+  pub none_closed : (start : ℕ) (trans : List (ℕ × ℕ × ℕ)) → ns0 ≡ [] → trans ≡ [] → Compiles b0 b end trans start →
+      IsWholePath old b end start all_read (2 + 4 * length qs)
   none_closed start trans none is x =
       let back = old.reverse in
       let P : List (ℕ × ℕ × ℕ) → Type 0 = λ l. Compiles b0 b end l start in
@@ -407,31 +445,39 @@ module _ (old b0 b : Assembly) (end : ℕ) (compiled : SlotTable (List Transitio
 
 -- what refuses a state on the way refuses the class
 abbrev pub QuitsAll : ℕ → Assembly → Assembly → SlotTable (List Transition) → List Stage → BuildError → Type 0
-QuitsAll end b0 new compiled ns0 e = (old : Assembly) (qs : List (List (ℕ × ℕ))) → IsCompiling old b0 end compiled ns0 qs → Quits old new (2 + 4 * length qs) e
+QuitsAll end b0 new compiled ns0 e = (old : Assembly) (qs : List (List (ℕ × ℕ))) → IsCompiling old b0 end compiled ns0 qs →
+    Quits old new (2 + 4 * length qs) e
 
-pub all_quit : (end : ℕ) (b0 new : Assembly) (compiled : SlotTable (List Transition)) (ns0 : List Stage) (e : BuildError) → PopsUntil end b0 new ns0 e → QuitsAll end b0 new compiled ns0 e
+pub all_quit : (end : ℕ) (b0 new : Assembly) (compiled : SlotTable (List Transition)) (ns0 : List Stage) (e : BuildError) →
+    PopsUntil end b0 new ns0 e → QuitsAll end b0 new compiled ns0 e
 all_quit end b0 new compiled ns0 e r = λ old qs c. until_quits old b0 new end compiled ns0 qs e c r
 
 -- memory lacks for the path
-pub first_quit : (end : ℕ) (b : Assembly) (compiled : SlotTable (List Transition)) (ns : List Stage) (e : BuildError) → e ≡ NoMemory → QuitsAll end b b compiled ns e
+pub first_quit : (end : ℕ) (b : Assembly) (compiled : SlotTable (List Transition)) (ns : List Stage) (e : BuildError) → e ≡ NoMemory →
+    QuitsAll end b b compiled ns e
 first_quit end b compiled ns e is =
     let P : BuildError → Type 0 = λ x. PopsUntil end b b ns x in
-    all_quit end b b compiled ns e (subst P (sym is) (record { middle = b; stack = ns; next = end; pops = pops_none; stays = record { same = refl; cause = tt } }))
+    all_quit end b b compiled ns e (subst P (sym is) (record { middle = b; stack = ns; next = end; pops = pops_none;
+        stays = record { same = refl; cause = tt } }))
 
-pub turned_quit : (end : ℕ) (b0 b1 : Assembly) (compiled : SlotTable (List Transition)) (ns0 ns1 : List Stage) (range : ℕ × ℕ) (at : ℕ) (e : BuildError) → Turns end b0 b1 ns0 ns1 range at → e ≡ NoMemory →
+pub turned_quit : (end : ℕ) (b0 b1 : Assembly) (compiled : SlotTable (List Transition)) (ns0 ns1 : List Stage) (range : ℕ ×
+    ℕ) (at : ℕ) (e : BuildError) → Turns end b0 b1 ns0 ns1 range at → e ≡ NoMemory →
     QuitsAll end b0 b1 compiled ns0 e
 turned_quit end b0 b1 compiled ns0 ns1 range at e t is =
     let P : BuildError → Type 0 = λ x. PopsUntil end b0 b1 ns0 x in
-    all_quit end b0 b1 compiled ns0 e (subst P (sym is) (record { middle = b1; stack = t.stack; next = t.next; pops = t.pops; stays = record { same = refl; cause = tt } }))
+    all_quit end b0 b1 compiled ns0 e (subst P (sym is) (record { middle = b1; stack = t.stack; next = t.next; pops = t.pops;
+        stays = record { same = refl; cause = tt } }))
 
-pub compiling_as : (old b : Assembly) (end first : ℕ) (compiled table : SlotTable (List Transition)) (ns : List Stage) (qs : List (List (ℕ × ℕ))) → end ≡ first → compiled ≡ table → IsCompiling old b first table ns qs →
+pub compiling_as : (old b : Assembly) (end first : ℕ) (compiled table : SlotTable (List Transition)) (ns : List Stage)
+    (qs : List (List (ℕ × ℕ))) → end ≡ first → compiled ≡ table → IsCompiling old b first table ns qs →
     IsCompiling old b end compiled ns qs
 compiling_as old b end first compiled table ns qs e is c =
     let P : ℕ → Type 0 = λ n. IsCompiling old b n table ns qs in
     let Q : SlotTable (List Transition) → Type 0 = λ t. IsCompiling old b end t ns qs in
     subst Q (sym is) (subst P (sym e) c)
 
-pub parts_range : (p q : List (ℕ × ℕ)) (rs : List Utf8Range) (r d : Utf8Range) (at : ℕ) → q ≡ map bytes_of rs → at < length rs → r ≡ get_or rs at d → (x : PartsAt p q at) → bytes_of r ≡ x.other
+pub parts_range : (p q : List (ℕ × ℕ)) (rs : List Utf8Range) (r d : Utf8Range) (at : ℕ) → q ≡ map bytes_of rs → at < length rs →
+    r ≡ get_or rs at d → (x : PartsAt p q at) → bytes_of r ≡ x.other
 parts_range p q rs r d at is inside got x =
     let e : ℕ × ℕ = bytes_of d in
     let place = x.place in

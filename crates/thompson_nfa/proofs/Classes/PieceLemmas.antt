@@ -27,7 +27,8 @@ spelled_three c l h =
 
 spelled_four : (c : ℕ) → 0x10000 ≤ c → spelling_of c ≡ four c
 spelled_four c l =
-    cond-false _ _ _ (lt-leb c 0x7F (omega arith)) ∙ cond-false _ _ _ (lt-leb c 0x7FF (omega arith)) ∙ cond-false _ _ _ (lt-leb c 0xFFFF (omega arith))
+    cond-false _ _ _ (lt-leb c 0x7F (omega arith)) ∙ cond-false _ _ _ (lt-leb c 0x7FF (omega arith))
+        ∙ cond-false _ _ _ (lt-leb c 0xFFFF (omega arith))
 
 -- ---- pieces by the length of their spellings
 
@@ -41,12 +42,16 @@ kind_of : (f e : ℕ) → IsPiece f e → Kind f e
 kind_of f e p = elim p.1 [
   | inl a ↦ let l = p.0 in one_byte p.0 a (ap₂ zip (spelled_one f (omega arith)) (spelled_one e a))
   | inr r ↦ elim r [
-    | inl a ↦ let l = p.0 in let h = a.1 in two_bytes p.0 a.0 a.1 a.2 (ap₂ zip (spelled_two f a.0 (omega arith)) (spelled_two e (let k = a.0 in omega arith) a.1))
+    | inl a ↦ let l = p.0 in let h = a.1 in two_bytes p.0 a.0 a.1 a.2 (ap₂ zip (spelled_two f a.0 (omega arith))
+        (spelled_two e (let k = a.0 in omega arith) a.1))
     | inr r ↦ elim r [
-      | inl a ↦ let l = p.0 in let k = a.0 in let h = a.1 in three_bytes p.0 (omega arith) (omega arith) a.2 (ap₂ zip (spelled_three f (omega arith) (omega arith)) (spelled_three e (omega arith) (omega arith)))
+      | inl a ↦ let l = p.0 in let k = a.0 in let h = a.1 in three_bytes p.0 (omega arith) (omega arith) a.2
+          (ap₂ zip (spelled_three f (omega arith) (omega arith)) (spelled_three e (omega arith) (omega arith)))
       | inr r ↦ elim r [
-        | inl a ↦ let l = p.0 in let k = a.0 in let h = a.1 in three_bytes p.0 (omega arith) (omega arith) a.2 (ap₂ zip (spelled_three f (omega arith) (omega arith)) (spelled_three e (omega arith) (omega arith)))
-        | inr a ↦ let l = p.0 in let k = a.0 in let h = a.1 in four_bytes p.0 (omega arith) (omega arith) a.2 (ap₂ zip (spelled_four f (omega arith)) (spelled_four e (omega arith)))
+        | inl a ↦ let l = p.0 in let k = a.0 in let h = a.1 in three_bytes p.0 (omega arith) (omega arith) a.2
+            (ap₂ zip (spelled_three f (omega arith) (omega arith)) (spelled_three e (omega arith) (omega arith)))
+        | inr a ↦ let l = p.0 in let k = a.0 in let h = a.1 in four_bytes p.0 (omega arith) (omega arith) a.2
+            (ap₂ zip (spelled_four f (omega arith)) (spelled_four e (omega arith)))
       ]
     ]
   ]
@@ -54,7 +59,8 @@ kind_of f e p = elim p.1 [
 
 -- ---- two pieces in one block, or in different ones
 
-at_64 : (f e g h : ℕ) → f ≤ e → g ≤ h → e < g → Aligned 64 f e → Aligned 64 g h → (e / 64 < g / 64) ⊎ ((f / 64 ≡ e / 64) × (g / 64 ≡ h / 64) × (e / 64 ≡ g / 64))
+at_64 : (f e g h : ℕ) → f ≤ e → g ≤ h → e < g → Aligned 64 f e → Aligned 64 g h → (e / 64 < g / 64) ⊎
+    ((f / 64 ≡ e / 64) × (g / 64 ≡ h / 64) × (e / 64 ≡ g / 64))
 at_64 f e g h l m less a b = elim (cases_lt (e / 64) (g / 64)) [
   | inl c ↦ inl c
   | inr c ↦ elim a [
@@ -63,7 +69,8 @@ at_64 f e g h l m less a b = elim (cases_lt (e / 64) (g / 64)) [
   ]
 ]
 
-at_4096 : (f e g h : ℕ) → f ≤ e → g ≤ h → e < g → Aligned 4096 f e → Aligned 4096 g h → (e / 4096 < g / 4096) ⊎ ((f / 4096 ≡ e / 4096) × (g / 4096 ≡ h / 4096) × (e / 4096 ≡ g / 4096))
+at_4096 : (f e g h : ℕ) → f ≤ e → g ≤ h → e < g → Aligned 4096 f e → Aligned 4096 g h → (e / 4096 < g / 4096) ⊎
+    ((f / 4096 ≡ e / 4096) × (g / 4096 ≡ h / 4096) × (e / 4096 ≡ g / 4096))
 at_4096 f e g h l m less a b = elim (cases_lt (e / 4096) (g / 4096)) [
   | inl c ↦ inl c
   | inr c ↦ elim a [
@@ -72,7 +79,8 @@ at_4096 f e g h l m less a b = elim (cases_lt (e / 4096) (g / 4096)) [
   ]
 ]
 
-at_262144 : (f e g h : ℕ) → f ≤ e → g ≤ h → e < g → Aligned 262144 f e → Aligned 262144 g h → (e / 262144 < g / 262144) ⊎ ((f / 262144 ≡ e / 262144) × (g / 262144 ≡ h / 262144) × (e / 262144 ≡ g / 262144))
+at_262144 : (f e g h : ℕ) → f ≤ e → g ≤ h → e < g → Aligned 262144 f e → Aligned 262144 g h → (e / 262144 < g / 262144) ⊎
+    ((f / 262144 ≡ e / 262144) × (g / 262144 ≡ h / 262144) × (e / 262144 ≡ g / 262144))
 at_262144 f e g h l m less a b = elim (cases_lt (e / 262144) (g / 262144)) [
   | inl c ↦ inl c
   | inr c ↦ elim a [
@@ -100,25 +108,30 @@ two_before f e g h l m less a b = elim (at_64 f e g h l m less a.0 b.0) [
 
 -- the last two ranges, in one block of 4096
 rest_before : (f e g h : ℕ) → f ≤ e → g ≤ h → e < g → Aligned 64 f e → Aligned 64 g h → e / 4096 ≡ g / 4096 →
-    IsBefore ((128 + (f / 64) % 64, 128 + (e / 64) % 64) ∷ (128 + f % 64, 128 + e % 64) ∷ []) ((128 + (g / 64) % 64, 128 + (h / 64) % 64) ∷ (128 + g % 64, 128 + h % 64) ∷ [])
+    IsBefore ((128 + (f / 64) % 64, 128 + (e / 64) % 64) ∷ (128 + f % 64, 128 + e % 64) ∷ []) ((128 + (g / 64) % 64,
+        128 + (h / 64) % 64) ∷ (128 + g % 64, 128 + h % 64) ∷ [])
 rest_before f e g h l m less a b same = elim (at_64 f e g h l m less a b) [
   | inl c ↦ inl (omega arith)
   | inr c ↦
       let p : f / 64 ≡ g / 64 = c.0 ∙ c.2 in
       let q : e / 64 ≡ h / 64 = c.2 ∙ c.1 in
-      inr (same_range (128 + (f / 64) % 64) (128 + (e / 64) % 64) (128 + (g / 64) % 64) (128 + (h / 64) % 64) (ap (λ k. 128 + k % 64) p) (ap (λ k. 128 + k % 64) q), last_before f e g h less c.2)
+      inr (same_range (128 + (f / 64) % 64) (128 + (e / 64) % 64) (128 + (g / 64) % 64) (128 + (h / 64) % 64) (ap (λ k. 128 + k % 64) p)
+          (ap (λ k. 128 + k % 64) q), last_before f e g h less c.2)
 ]
 
-three_before : (f e g h : ℕ) → f ≤ e → g ≤ h → e < g → Blocks f e → Blocks g h → IsBefore (zip (three f) (three e)) (zip (three g) (three h))
+three_before : (f e g h : ℕ) → f ≤ e → g ≤ h → e < g → Blocks f e → Blocks g h →
+    IsBefore (zip (three f) (three e)) (zip (three g) (three h))
 three_before f e g h l m less a b = elim (at_4096 f e g h l m less a.1 b.1) [
   | inl c ↦ inl (omega arith)
   | inr c ↦ let x = c.0 in let y = c.1 in let z = c.2 in
-      inr (same_range (224 + f / 4096) (224 + e / 4096) (224 + g / 4096) (224 + h / 4096) (omega arith) (omega arith), rest_before f e g h l m less a.0 b.0 c.2)
+      inr (same_range (224 + f / 4096) (224 + e / 4096) (224 + g / 4096) (224 + h / 4096) (omega arith) (omega arith),
+          rest_before f e g h l m less a.0 b.0 c.2)
 ]
 
 -- the last three, in one block of 262144
 later_before : (f e g h : ℕ) → f ≤ e → g ≤ h → e < g → Blocks f e → Blocks g h → e / 262144 ≡ g / 262144 →
-    IsBefore ((128 + (f / 4096) % 64, 128 + (e / 4096) % 64) ∷ (128 + (f / 64) % 64, 128 + (e / 64) % 64) ∷ (128 + f % 64, 128 + e % 64) ∷ [])
+    IsBefore ((128 + (f / 4096) % 64, 128 + (e / 4096) % 64) ∷ (128 + (f / 64) % 64, 128 + (e / 64) % 64) ∷ (128 + f % 64,
+        128 + e % 64) ∷ [])
     ((128 + (g / 4096) % 64, 128 + (h / 4096) % 64) ∷ (128 + (g / 64) % 64, 128 + (h / 64) % 64) ∷ (128 + g % 64, 128 + h % 64) ∷ [])
 later_before f e g h l m less a b same = elim (at_4096 f e g h l m less a.1 b.1) [
   | inl c ↦ inl (omega arith)
@@ -126,7 +139,8 @@ later_before f e g h l m less a b same = elim (at_4096 f e g h l m less a.1 b.1)
       let p : f / 4096 ≡ g / 4096 = c.0 ∙ c.2 in
       let q : e / 4096 ≡ h / 4096 = c.2 ∙ c.1 in
       inr (
-        same_range (128 + (f / 4096) % 64) (128 + (e / 4096) % 64) (128 + (g / 4096) % 64) (128 + (h / 4096) % 64) (ap (λ k. 128 + k % 64) p) (ap (λ k. 128 + k % 64) q),
+        same_range (128 + (f / 4096) % 64) (128 + (e / 4096) % 64) (128 + (g / 4096) % 64) (128 + (h / 4096) % 64)
+            (ap (λ k. 128 + k % 64) p) (ap (λ k. 128 + k % 64) q),
         rest_before f e g h l m less a.0 b.0 c.2,
       )
 ]
@@ -135,7 +149,8 @@ four_before : (f e g h : ℕ) → f ≤ e → g ≤ h → e < g → Blocks f e �
 four_before f e g h l m less a b = elim (at_262144 f e g h l m less a.2 b.2) [
   | inl c ↦ inl (omega arith)
   | inr c ↦ let x = c.0 in let y = c.1 in let z = c.2 in
-      inr (same_range (240 + f / 262144) (240 + e / 262144) (240 + g / 262144) (240 + h / 262144) (omega arith) (omega arith), later_before f e g h l m less a b c.2)
+      inr (same_range (240 + f / 262144) (240 + e / 262144) (240 + g / 262144) (240 + h / 262144) (omega arith) (omega arith),
+          later_before f e g h l m less a b c.2)
 ]
 
 before_by : (p q us vs : List (ℕ × ℕ)) → p ≡ us → q ≡ vs → IsBefore us vs → IsBefore p q
@@ -146,21 +161,30 @@ before_by p q us vs a b k =
 
 kinds_before : (f e g h : ℕ) → e < g → Kind f e → Kind g h → IsBefore (byte_ranges (f, e)) (byte_ranges (g, h))
 kinds_before f e g h less (one_byte l m p) (one_byte x y q) = before_by (byte_ranges (f, e)) (byte_ranges (g, h)) _ _ p q (inl less)
-kinds_before f e g h less (one_byte l m p) (two_bytes x y z b q) = before_by (byte_ranges (f, e)) (byte_ranges (g, h)) _ _ p q (inl (omega arith))
-kinds_before f e g h less (one_byte l m p) (three_bytes x y z b q) = before_by (byte_ranges (f, e)) (byte_ranges (g, h)) _ _ p q (inl (omega arith))
-kinds_before f e g h less (one_byte l m p) (four_bytes x y z b q) = before_by (byte_ranges (f, e)) (byte_ranges (g, h)) _ _ p q (inl (omega arith))
+kinds_before f e g h less (one_byte l m p) (two_bytes x y z b q) = before_by (byte_ranges (f, e)) (byte_ranges (g, h)) _ _ p q
+    (inl (omega arith))
+kinds_before f e g h less (one_byte l m p) (three_bytes x y z b q) = before_by (byte_ranges (f, e)) (byte_ranges (g, h)) _ _ p q
+    (inl (omega arith))
+kinds_before f e g h less (one_byte l m p) (four_bytes x y z b q) = before_by (byte_ranges (f, e)) (byte_ranges (g, h)) _ _ p q
+    (inl (omega arith))
 kinds_before f e g h less (two_bytes l m n a p) (one_byte x y q) = absurd (omega arith)
-kinds_before f e g h less (two_bytes l m n a p) (two_bytes x y z b q) = before_by (byte_ranges (f, e)) (byte_ranges (g, h)) _ _ p q (two_before f e g h l x less a b)
-kinds_before f e g h less (two_bytes l m n a p) (three_bytes x y z b q) = before_by (byte_ranges (f, e)) (byte_ranges (g, h)) _ _ p q (inl (omega arith))
-kinds_before f e g h less (two_bytes l m n a p) (four_bytes x y z b q) = before_by (byte_ranges (f, e)) (byte_ranges (g, h)) _ _ p q (inl (omega arith))
+kinds_before f e g h less (two_bytes l m n a p) (two_bytes x y z b q) =
+    before_by (byte_ranges (f, e)) (byte_ranges (g, h)) _ _ p q (two_before f e g h l x less a b)
+kinds_before f e g h less (two_bytes l m n a p) (three_bytes x y z b q) =
+    before_by (byte_ranges (f, e)) (byte_ranges (g, h)) _ _ p q (inl (omega arith))
+kinds_before f e g h less (two_bytes l m n a p) (four_bytes x y z b q) =
+    before_by (byte_ranges (f, e)) (byte_ranges (g, h)) _ _ p q (inl (omega arith))
 kinds_before f e g h less (three_bytes l m n a p) (one_byte x y q) = absurd (omega arith)
 kinds_before f e g h less (three_bytes l m n a p) (two_bytes x y z b q) = absurd (omega arith)
-kinds_before f e g h less (three_bytes l m n a p) (three_bytes x y z b q) = before_by (byte_ranges (f, e)) (byte_ranges (g, h)) _ _ p q (three_before f e g h l x less a b)
-kinds_before f e g h less (three_bytes l m n a p) (four_bytes x y z b q) = before_by (byte_ranges (f, e)) (byte_ranges (g, h)) _ _ p q (inl (omega arith))
+kinds_before f e g h less (three_bytes l m n a p) (three_bytes x y z b q) =
+    before_by (byte_ranges (f, e)) (byte_ranges (g, h)) _ _ p q (three_before f e g h l x less a b)
+kinds_before f e g h less (three_bytes l m n a p) (four_bytes x y z b q) =
+    before_by (byte_ranges (f, e)) (byte_ranges (g, h)) _ _ p q (inl (omega arith))
 kinds_before f e g h less (four_bytes l m n a p) (one_byte x y q) = absurd (omega arith)
 kinds_before f e g h less (four_bytes l m n a p) (two_bytes x y z b q) = absurd (omega arith)
 kinds_before f e g h less (four_bytes l m n a p) (three_bytes x y z b q) = absurd (omega arith)
-kinds_before f e g h less (four_bytes l m n a p) (four_bytes x y z b q) = before_by (byte_ranges (f, e)) (byte_ranges (g, h)) _ _ p q (four_before f e g h l x less a b)
+kinds_before f e g h less (four_bytes l m n a p) (four_bytes x y z b q) =
+    before_by (byte_ranges (f, e)) (byte_ranges (g, h)) _ _ p q (four_before f e g h l x less a b)
 
 pub pieces_before : (f e g h : ℕ) → IsPiece f e → IsPiece g h → e < g → IsBefore (byte_ranges (f, e)) (byte_ranges (g, h))
 pieces_before f e g h p q less = kinds_before f e g h less (kind_of f e p) (kind_of g h q)

@@ -1,5 +1,6 @@
 -- Trees that read the same: the path of a compiler of sequences, and the sequences themselves.
-use Rattle.std.proofs.Common.{◌≡◌, ℕ, ◌+◌, Bool, true, false, List, [], ◌∷◌, ◌++◌, map, Option, Some, None, if◌then◌else◌, slice_get, refl, sym, ap, ◌∙◌, subst, append_assoc, append-nil}
+use Rattle.std.proofs.Common.{◌≡◌, ℕ, ◌+◌, Bool, true, false, List, [], ◌∷◌, ◌++◌, map, Option, Some, None, if◌then◌else◌, slice_get, refl}
+use Rattle.std.proofs.Common.{sym, ap, ◌∙◌, subst, append_assoc, append-nil}
 use Rattle.std.specs.List.{flat_map}
 use Rattle.std.proofs.lemmas.Grind.{flat_map-append}
 use Rattle.std.proofs.lemmas.List.{map-append}
@@ -20,7 +21,8 @@ as_trans x y z a b = record { reading = λ f. a.reading (b.reading f); ends = λ
 pub as_alt : (x y u v : Tree) → ReadsAs x u → ReadsAs y v → ReadsAs (alt x y) (alt u v)
 as_alt x y u v a b = record {
   reading = λ f. (a.reading f.0, b.reading f.1);
-  ends = λ looks h i. ap (λ (l : List ℕ). l ++ preferred_ends looks h y i) (a.ends looks h i) ∙ ap (λ (l : List ℕ). preferred_ends looks h u i ++ l) (b.ends looks h i);
+  ends = λ looks h i. ap (λ (l : List ℕ). l ++ preferred_ends looks h y i) (a.ends looks h i)
+      ∙ ap (λ (l : List ℕ). preferred_ends looks h u i ++ l) (b.ends looks h i);
 }
 
 alt_one : (x : Tree) → ReadsAs (alt x never) x
@@ -52,8 +54,10 @@ as_snoc (x ∷ xs) z = as_trans (alt x (alternation (xs ++ z ∷ []))) (alt x (a
     (as_alt x (alternation (xs ++ z ∷ [])) x (alt (alternation xs) z) (as_itself x) (as_snoc xs z)) (alt_left x (alternation xs) z)
 
 snoc_as : (xs : List Tree) (z : Tree) → ReadsAs (alt (alternation xs) z) (alternation (xs ++ z ∷ []))
-snoc_as [] z = as_trans (alt never z) z (alt z never) (alt_last z) (record { reading = λ f. f.0; ends = λ looks h i. sym (append-nil (preferred_ends looks h z i)) })
-snoc_as (x ∷ xs) z = as_trans (alt (alt x (alternation xs)) z) (alt x (alt (alternation xs) z)) (alt x (alternation (xs ++ z ∷ []))) (alt_right x (alternation xs) z)
+snoc_as [] z = as_trans (alt never z) z (alt z never) (alt_last z) (record { reading = λ f. f.0;
+    ends = λ looks h i. sym (append-nil (preferred_ends looks h z i)) })
+snoc_as (x ∷ xs) z = as_trans (alt (alt x (alternation xs)) z) (alt x (alt (alternation xs) z)) (alt x (alternation (xs ++ z ∷ [])))
+    (alt_right x (alternation xs) z)
     (as_alt x (alt (alternation xs) z) x (alternation (xs ++ z ∷ [])) (as_itself x) (snoc_as xs z))
 
 -- ---- behind a range
@@ -61,7 +65,8 @@ snoc_as (x ∷ xs) z = as_trans (alt (alt x (alternation xs)) z) (alt x (alt (al
 pub as_then : (back : Bool) (r : ℕ × ℕ) (y z : Tree) → ReadsAs y z → ReadsAs (read_then back r y) (read_then back r z)
 as_then false r y z a = record {
   reading = λ f. (tt, a.reading f.1);
-  ends = λ looks h i. flat_map_same (preferred_ends looks h y) (preferred_ends looks h z) (preferred_ends looks h (range_tree r) i) (λ k m. a.ends looks h k);
+  ends = λ looks h i. flat_map_same (preferred_ends looks h y) (preferred_ends looks h z) (preferred_ends looks h (range_tree r) i)
+      (λ k m. a.ends looks h k);
 }
 as_then true r y z a = record {
   reading = λ f. (a.reading f.0, tt);
@@ -71,7 +76,8 @@ as_then true r y z a = record {
 -- behind one end at most both alternatives are one after the other
 both_behind : (f g : ℕ → List ℕ) (c : Bool) (k : ℕ) →
     flat_map (λ n. f n ++ g n) (if c then k ∷ [] else []) ≡ flat_map f (if c then k ∷ [] else []) ++ flat_map g (if c then k ∷ [] else [])
-both_behind f g true k = append-nil (f k ++ g k) ∙ ap (λ (l : List ℕ). l ++ g k) (sym (append-nil (f k))) ∙ ap (λ (l : List ℕ). (f k ++ []) ++ l) (sym (append-nil (g k)))
+both_behind f g true k = append-nil (f k ++ g k) ∙ ap (λ (l : List ℕ). l ++ g k) (sym (append-nil (f k)))
+    ∙ ap (λ (l : List ℕ). (f k ++ []) ++ l) (sym (append-nil (g k)))
 both_behind f g false k = refl
 
 both_ends : (f g : ℕ → List ℕ) (ranges : List (ℕ × ℕ)) (o : Option ℕ) (i : ℕ) →
@@ -96,29 +102,35 @@ pub fresh_reads : (back : Bool) (q : List (ℕ × ℕ)) → ReadsAs (limb_tree b
 fresh_reads back [] = as_itself (read_tree back [])
 fresh_reads back (r ∷ q) =
     let above : Tree = limb_tree back (map fresh_limb q) in
-    as_trans (alt (read_then back r above) never) (read_then back r above) (read_then back r (read_tree back q)) (alt_one (read_then back r above)) (as_then back r above (read_tree back q) (fresh_reads back q))
+    as_trans (alt (read_then back r above) never) (read_then back r above) (read_then back r (read_tree back q))
+        (alt_one (read_then back r above)) (as_then back r above (read_tree back q) (fresh_reads back q))
 
 abbrev pub lasts : List Limb → List (ℕ × ℕ)
 lasts ls = map (λ l. l.last) ls
 
 -- the top node, with its branches one after the other
 grown_tree : (back : Bool) (next : ℕ) (range : ℕ × ℕ) (l : Limb) (above new : List Limb) →
-    limb_tree back (grown next (limb_tree back above) range l ∷ new) ≡ alternation ((map (branch_tree back) l.branches ++ read_then back l.last (limb_tree back above) ∷ []) ++ read_then back range (limb_tree back new) ∷ [])
+    limb_tree back (grown next (limb_tree back above) range l ∷ new) ≡ alternation
+        ((map (branch_tree back) l.branches ++ read_then back l.last (limb_tree back above) ∷ [])
+        ++ read_then back range (limb_tree back new) ∷ [])
 grown_tree back next range l above new =
     ap (λ (xs : List Tree). alternation (xs ++ read_then back range (limb_tree back new) ∷ []))
     (map-append (branch_tree back) l.branches (record { low = l.last.0; high = l.last.1; next = next; tree = limb_tree back above } ∷ []))
 
 -- a path that leaves the old one at a node reads one sequence more
 pub turned_reads : (back : Bool) (front : List Limb) (next : ℕ) (range : ℕ × ℕ) (l : Limb) (above : List Limb) (q : List (ℕ × ℕ)) →
-    ReadsAs (limb_tree back (front ++ grown next (limb_tree back above) range l ∷ map fresh_limb q)) (alt (limb_tree back (front ++ l ∷ above)) (read_tree back (lasts front ++ range ∷ q)))
+    ReadsAs (limb_tree back (front ++ grown next (limb_tree back above) range l ∷ map fresh_limb q))
+        (alt (limb_tree back (front ++ l ∷ above)) (read_tree back (lasts front ++ range ∷ q)))
 turned_reads back [] next range l above q =
     let new : List Limb = map fresh_limb q in
     let old : List Tree = map (branch_tree back) l.branches ++ read_then back l.last (limb_tree back above) ∷ [] in
     let more : Tree = read_then back range (limb_tree back new) in
     let P : Tree → Type 0 = λ x. ReadsAs x (alt (alternation old) (read_then back range (read_tree back q))) in
     subst P (sym (grown_tree back next range l above new))
-    (as_trans (alternation (old ++ more ∷ [])) (alt (alternation old) more) (alt (alternation old) (read_then back range (read_tree back q))) (as_snoc old more)
-    (as_alt (alternation old) more (alternation old) (read_then back range (read_tree back q)) (as_itself (alternation old)) (as_then back range (limb_tree back new) (read_tree back q) (fresh_reads back q))))
+    (as_trans (alternation (old ++ more ∷ [])) (alt (alternation old) more)
+        (alt (alternation old) (read_then back range (read_tree back q))) (as_snoc old more)
+    (as_alt (alternation old) more (alternation old) (read_then back range (read_tree back q)) (as_itself (alternation old))
+        (as_then back range (limb_tree back new) (read_tree back q) (fresh_reads back q))))
 turned_reads back (n ∷ front) next range l above q =
     let xs : List Tree = map (branch_tree back) n.branches in
     let now : Tree = limb_tree back (front ++ grown next (limb_tree back above) range l ∷ map fresh_limb q) in
@@ -126,24 +138,35 @@ turned_reads back (n ∷ front) next range l above q =
     let one : Tree = read_tree back (lasts front ++ range ∷ q) in
     let r : ℕ × ℕ = n.last in
     let step : ReadsAs (read_then back r now) (alt (read_then back r was) (read_then back r one)) =
-    as_trans (read_then back r now) (read_then back r (alt was one)) (alt (read_then back r was) (read_then back r one)) (as_then back r now (alt was one) (turned_reads back front next range l above q)) (then_alt back r was one) in
-    as_trans (alternation (xs ++ read_then back r now ∷ [])) (alt (alternation xs) (read_then back r now)) (alt (alternation (xs ++ read_then back r was ∷ [])) (read_then back r one)) (as_snoc xs (read_then back r now))
-    (as_trans (alt (alternation xs) (read_then back r now)) (alt (alternation xs) (alt (read_then back r was) (read_then back r one))) (alt (alternation (xs ++ read_then back r was ∷ [])) (read_then back r one))
-    (as_alt (alternation xs) (read_then back r now) (alternation xs) (alt (read_then back r was) (read_then back r one)) (as_itself (alternation xs)) step)
-    (as_trans (alt (alternation xs) (alt (read_then back r was) (read_then back r one))) (alt (alt (alternation xs) (read_then back r was)) (read_then back r one)) (alt (alternation (xs ++ read_then back r was ∷ [])) (read_then back r one))
+    as_trans (read_then back r now) (read_then back r (alt was one)) (alt (read_then back r was) (read_then back r one))
+        (as_then back r now (alt was one) (turned_reads back front next range l above q)) (then_alt back r was one) in
+    as_trans (alternation (xs ++ read_then back r now ∷ [])) (alt (alternation xs) (read_then back r now))
+        (alt (alternation (xs ++ read_then back r was ∷ [])) (read_then back r one)) (as_snoc xs (read_then back r now))
+    (as_trans (alt (alternation xs) (read_then back r now)) (alt (alternation xs) (alt (read_then back r was) (read_then back r one)))
+        (alt (alternation (xs ++ read_then back r was ∷ [])) (read_then back r one))
+    (as_alt (alternation xs) (read_then back r now) (alternation xs) (alt (read_then back r was) (read_then back r one))
+        (as_itself (alternation xs)) step)
+    (as_trans (alt (alternation xs) (alt (read_then back r was) (read_then back r one)))
+        (alt (alt (alternation xs) (read_then back r was)) (read_then back r one))
+        (alt (alternation (xs ++ read_then back r was ∷ [])) (read_then back r one))
     (alt_left (alternation xs) (read_then back r was) (read_then back r one))
-    (as_alt (alt (alternation xs) (read_then back r was)) (read_then back r one) (alternation (xs ++ read_then back r was ∷ [])) (read_then back r one) (snoc_as xs (read_then back r was)) (as_itself (read_then back r one)))))
+    (as_alt (alt (alternation xs) (read_then back r was)) (read_then back r one) (alternation (xs ++ read_then back r was ∷ []))
+        (read_then back r one) (snoc_as xs (read_then back r was)) (as_itself (read_then back r one)))))
 
 -- with one sequence more
-pub more_reads : (back : Bool) (x y : Tree) (qs : List (List (ℕ × ℕ))) (q : List (ℕ × ℕ)) → ReadsAs y (alternation (map (read_tree back) qs)) → ReadsAs x (alt y (read_tree back q)) →
+pub more_reads : (back : Bool) (x y : Tree) (qs : List (List (ℕ × ℕ))) (q : List (ℕ × ℕ)) →
+    ReadsAs y (alternation (map (read_tree back) qs)) → ReadsAs x (alt y (read_tree back q)) →
     ReadsAs x (alternation (map (read_tree back) (qs ++ q ∷ [])))
 more_reads back x y qs q before more =
     let xs : List Tree = map (read_tree back) qs in
     let z : Tree = read_tree back q in
     let P : List Tree → Type 0 = λ l. ReadsAs x (alternation l) in
     subst P (sym (map-append (read_tree back) qs (q ∷ [])))
-    (as_trans x (alt y z) (alternation (xs ++ z ∷ [])) more (as_trans (alt y z) (alt (alternation xs) z) (alternation (xs ++ z ∷ [])) (as_alt y z (alternation xs) z before (as_itself z)) (snoc_as xs z)))
+    (as_trans x (alt y z) (alternation (xs ++ z ∷ [])) more (as_trans (alt y z) (alt (alternation xs) z) (alternation (xs ++ z ∷ []))
+        (as_alt y z (alternation xs) z before (as_itself z)) (snoc_as xs z)))
 
 -- the first sequence
-pub first_reads : (back : Bool) (r : ℕ × ℕ) (q : List (ℕ × ℕ)) → ReadsAs (whole_tree back (map fresh_limb (r ∷ q))) (alt never (read_tree back (r ∷ q)))
-first_reads back r q = as_trans (limb_tree back (map fresh_limb (r ∷ q))) (read_tree back (r ∷ q)) (alt never (read_tree back (r ∷ q))) (fresh_reads back (r ∷ q)) (last_alt (read_tree back (r ∷ q)))
+pub first_reads : (back : Bool) (r : ℕ × ℕ) (q : List (ℕ × ℕ)) → ReadsAs (whole_tree back (map fresh_limb (r ∷ q)))
+    (alt never (read_tree back (r ∷ q)))
+first_reads back r q = as_trans (limb_tree back (map fresh_limb (r ∷ q))) (read_tree back (r ∷ q)) (alt never (read_tree back (r ∷ q)))
+    (fresh_reads back (r ∷ q)) (last_alt (read_tree back (r ∷ q)))

@@ -1,5 +1,6 @@
 -- Branches of a choice so far: that they are a fragment once no branch is to come, and what one more adds.
-use Rattle.std.proofs.Common.{◌≡◌, ◌≢◌, inr, ℕ, ◌+◌, ◌<◌, ◌≤◌, true, List, [], ◌∷◌, ◌++◌, length, refl, sym, ap, ◌∙◌, subst, arith, ⊎_elim, false}
+use Rattle.std.proofs.Common.{◌≡◌, ◌≢◌, inr, ℕ, ◌+◌, ◌<◌, ◌≤◌, true, List, [], ◌∷◌, ◌++◌, length, refl, sym, ap, ◌∙◌, subst, arith, ⊎_elim}
+use Rattle.std.proofs.Common.{false}
 use Rattle.std.proofs.lemmas.Bool.{cases_lt, cases_eq}
 use Rattle.hir_core.specs.Tree.{Tree, alternation, never}
 use Rattle.nfa_core.specs.BuilderStates.{Assembly, draft_at, patched, is_sparse, empty_draft, union_draft}
@@ -16,7 +17,8 @@ use Rattle.thompson_nfa.proofs.Steps.ProgressLemmas.{Progress, first_added, then
 
 -- Whatever the choice u and the common end m become: from each other state one comes out where one does from the end.
 abbrev pub Others : Assembly → Assembly → ℕ → ℕ → Type 0
-Others b0 bk u m = (T : Table) (target : ℕ) → Agrees b0 bk u m T → ComesOut T target m → (q : ℕ) → length b0.drafts ≤ q → q < length bk.drafts → q ≢ u → ComesOut T target q
+Others b0 bk u m = (T : Table) (target : ℕ) → Agrees b0 bk u m T → ComesOut T target m → (q : ℕ) → length b0.drafts ≤ q →
+    q < length bk.drafts → q ≢ u → ComesOut T target q
 
 -- n states were added at most, among them the choice and the common end, and branches for the trees
 pub record Branched (b0 bk : Assembly) (u m n : ℕ) (xs : List Tree) : Type 0 where
@@ -37,7 +39,8 @@ pub record Branched (b0 bk : Assembly) (u m n : ℕ) (xs : List Tree) : Type 0 w
 -- ---- one branch more
 
 -- the steps' parts that lie before them are as they were
-pub one_more_way : (names : List ℕ) (s to : ℕ) (low high u : ℕ) → ((q : ℕ) → names ≡ q ∷ [] → (low ≤ q) × (q < high) × (q ≢ u)) → low ≤ s → s < high → s ≢ u → names ++ s ∷ [] ≡ to ∷ [] →
+pub one_more_way : (names : List ℕ) (s to : ℕ) (low high u : ℕ) → ((q : ℕ) → names ≡ q ∷ [] → (low ≤ q) × (q < high) × (q ≢ u)) → low ≤ s →
+    s < high → s ≢ u → names ++ s ∷ [] ≡ to ∷ [] →
     (low ≤ to) × (to < high) × (to ≢ u)
 one_more_way [] s to low high u one l h ne e =
     let same : s ≡ to = cc in
@@ -46,16 +49,21 @@ one_more_way [] s to low high u one l h ne e =
 one_more_way (a ∷ []) s to low high u one l h ne e = cc
 one_more_way (a ∷ b ∷ names) s to low high u one l h ne e = cc
 
-module _ (b0 b1 b2 b3 b4 : Assembly) (u m n s e k : ℕ) (xs : List Tree) (x : Tree) (so_far : Branched b0 b1 u m n xs) (next : Makes b1 b2 s e k) (l3 : Led b2 b3 u s) (l4 : Led b3 b4 e m) where
+module _ (b0 b1 b2 b3 b4 : Assembly) (u m n s e k : ℕ) (xs : List Tree) (x : Tree) (so_far : Branched b0 b1 u m n xs)
+    (next : Makes b1 b2 s e k) (l3 : Led b2 b3 u s) (l4 : Led b3 b4 e m) where
   others_next : Others b0 b4 u m
   others_next T target agrees out q low high not_u =
-      let f = next.fragment in let g = f.grows.longer in let en = f.end_new in let et = f.end_there in let n3 = l3.size in let n4 = l4.size in
-      let g0 = so_far.progress.partly.grows.longer in let ut = so_far.choice_there in let mt = so_far.end_there in let un = so_far.choice_new in let mn = so_far.end_new in
+      let f = next.fragment in let g = f.grows.longer in let en = f.end_new in let et = f.end_there in let n3 = l3.size in let n4 =
+          l4.size in
+      let g0 = so_far.progress.partly.grows.longer in let ut = so_far.choice_there in let mt = so_far.end_there in let un =
+          so_far.choice_new in let mn = so_far.end_new in
       let old : Agrees b0 b1 u m T = λ p l h not_u not_m.
       agrees p l (omega arith) not_u not_m ∙ l4.same p (λ (same : p ≡ e). omega arith) ∙ l3.same p not_u ∙ f.grows.same p h in
       let fin : Finished (length b1.drafts) b2.drafts e m T = record {
-        states = λ p l h not_e. agrees p (omega arith) (omega arith) (λ (same : p ≡ u). omega arith) (λ (same : p ≡ m). omega arith) ∙ l4.same p not_e ∙ l3.same p (λ (same : p ≡ u). omega arith);
-        led = agrees e (omega arith) (omega arith) (λ (same : e ≡ u). omega arith) (λ (same : e ≡ m). omega arith) ∙ l4.here ∙ ap (patched m) (l3.same e (λ (same : e ≡ u). omega arith));
+        states = λ p l h not_e. agrees p (omega arith) (omega arith) (λ (same : p ≡ u). omega arith) (λ (same : p ≡ m). omega arith)
+            ∙ l4.same p not_e ∙ l3.same p (λ (same : p ≡ u). omega arith);
+        led = agrees e (omega arith) (omega arith) (λ (same : e ≡ u). omega arith) (λ (same : e ≡ m). omega arith) ∙ l4.here
+            ∙ ap (patched m) (l3.same e (λ (same : e ≡ u). omega arith));
       } in
       ⊎_elim (λ (h : q < length b1.drafts). so_far.others T target old out q low h not_u)
       (λ (h : length b1.drafts ≤ q). let o = next.comes_out T m fin q h (omega arith) in out_on T target m o.0 q o.1 out)
@@ -63,13 +71,16 @@ module _ (b0 b1 b2 b3 b4 : Assembly) (u m n s e k : ℕ) (xs : List Tree) (x : T
 
   pub branched_next : Does b1 b2 s e x → Branched b0 b4 u m (n + k) (xs ++ x ∷ [])
   branched_next d =
-      let f = next.fragment in let g = f.grows.longer in let en = f.end_new in let et = f.end_there in let sn = f.start_new in let st = f.start_there in let n3 = l3.size in let n4 = l4.size in
-      let g0 = so_far.progress.partly.grows.longer in let ut = so_far.choice_there in let mt = so_far.end_there in let un = so_far.choice_new in let mn = so_far.end_new in
+      let f = next.fragment in let g = f.grows.longer in let en = f.end_new in let et = f.end_there in let sn = f.start_new in let st =
+          f.start_there in let n3 = l3.size in let n4 = l4.size in
+      let g0 = so_far.progress.partly.grows.longer in let ut = so_far.choice_there in let mt = so_far.end_there in let un =
+          so_far.choice_new in let mn = so_far.end_new in
       let u2 : draft_at b2.drafts u ≡ union_draft so_far.ways = f.grows.same u ut ∙ so_far.is_choice in
       let m2 : draft_at b2.drafts m ≡ empty_draft 0 = f.grows.same m mt ∙ so_far.is_end in
       record {
         ways = so_far.ways ++ s ∷ [];
-        progress = then_led 8 (then_led 12 (then_made 16 so_far.progress next (omega arith)) l3 un (omega arith) (omega arith)) l4 (omega arith) (omega arith) (omega arith);
+        progress = then_led 8 (then_led 12 (then_made 16 so_far.progress next (omega arith)) l3 un (omega arith) (omega arith)) l4
+            (omega arith) (omega arith) (omega arith);
         choice_new = un;
         choice_there = omega arith;
         end_new = mn;
@@ -84,17 +95,20 @@ module _ (b0 b1 b2 b3 b4 : Assembly) (u m n s e k : ℕ) (xs : List Tree) (x : T
             (λ k. uses_alternation b0.reverse xs x k) l;
         others = others_next;
         one_way = λ to same. one_more_way so_far.ways s to (length b0.drafts) (length b4.drafts) u
-            (λ q is. let o = so_far.one_way q is in let a = o.0 in let b = o.1 in (a, omega arith, o.2)) (omega arith) (omega arith) (λ (at_u : s ≡ u). omega arith) same;
+            (λ q is. let o = so_far.one_way q is in let a = o.0 in let b = o.1 in
+                (a, omega arith, o.2)) (omega arith) (omega arith) (λ (at_u : s ≡ u). omega arith) same;
       }
 
 -- ---- none as yet
 
-pub branched_begun : {b0 b1 b2 : Assembly} {u m : ℕ} → Added b0 b1 u (no_choice true) b0.groups → Added b1 b2 m (empty_draft 0) b1.groups → Branched b0 b2 u m 2 []
+pub branched_begun : {b0 b1 b2 : Assembly} {u m : ℕ} → Added b0 b1 u (no_choice true) b0.groups → Added b1 b2 m (empty_draft 0) b1.groups →
+    Branched b0 b2 u m 2 []
 branched_begun {b0} {b1} {b2} {u} {m} a1 a2 =
     let iu = a1.is in let im = a2.is in let n1 = a1.size in let n2 = a2.size in
     record {
       ways = [];
-      progress = then_added 8 (first_added 8 a1 (tame_none b1 (union_draft []) refl refl refl) (omega arith)) a2 (tame_one b2 (empty_draft 0) 0 refl (omega arith) refl refl) (omega arith);
+      progress = then_added 8 (first_added 8 a1 (tame_none b1 (union_draft []) refl refl refl) (omega arith)) a2
+          (tame_one b2 (empty_draft 0) 0 refl (omega arith) refl refl) (omega arith);
       choice_new = omega arith;
       choice_there = omega arith;
       end_new = omega arith;
@@ -115,10 +129,12 @@ branched_begun {b0} {b1} {b2} {u} {m} a1 a2 =
 
 module _ (b0 bk : Assembly) (u m n : ℕ) (xs : List Tree) (all : Branched b0 bk u m n xs) where
   -- one comes out of the choice, too: it stands for itself, or for its only way
-  choice_out : (T : Table) (target : ℕ) → Agrees b0 bk u m T → ComesOut T target m → (names : List ℕ) → T u ≡ union_draft names → ((s : ℕ) → names ≡ s ∷ [] → (length b0.drafts ≤ s) × (s < length bk.drafts) × (s ≢ u)) →
+  choice_out : (T : Table) (target : ℕ) → Agrees b0 bk u m T → ComesOut T target m → (names : List ℕ) → T u ≡ union_draft names →
+      ((s : ℕ) → names ≡ s ∷ [] → (length b0.drafts ≤ s) × (s < length bk.drafts) × (s ≢ u)) →
       ComesOut T target u
   choice_out T target agrees out [] is one = out_here T target u (ap stands_for is)
-  choice_out T target agrees out (s ∷ []) is one = let o = one s refl in out_next T target u s (ap stands_for is) (all.others T target agrees out s o.0 o.1 o.2)
+  choice_out T target agrees out (s ∷ []) is one = let o = one s refl in
+      out_next T target u s (ap stands_for is) (all.others T target agrees out s o.0 o.1 o.2)
   choice_out T target agrees out (s ∷ r ∷ names) is one = out_here T target u (ap stands_for is)
 
   pub branched_made : Makes b0 bk u m n

@@ -1,6 +1,7 @@
 -- A trie with the strings of a class, turned round, emits no more sequences than the class has scalars: the least string of
 -- each sequence is a spelling turned round, and no two sequences have one in common.
-use Rattle.std.proofs.Common.{◌≡◌, ◌⊎◌, inl, inr, ℕ, zero, suc, ◌+◌, ◌-◌, ◌<◌, ◌≤◌, List, [], ◌∷◌, ◌++◌, map, reverse, length, get_or, drop, true, refl, sym, ap, ◌∙◌, arith, subst, length-append}
+use Rattle.std.proofs.Common.{◌≡◌, ◌⊎◌, inl, inr, ℕ, zero, suc, ◌+◌, ◌-◌, ◌<◌, ◌≤◌, List, [], ◌∷◌, ◌++◌, map, reverse, length, get_or, drop}
+use Rattle.std.proofs.Common.{true, refl, sym, ap, ◌∙◌, arith, subst, length-append}
 use Rattle.std.proofs.lemmas.List.{length-map, reverse-reverse}
 use Rattle.search_core.specs.Utf8.{Spells}
 use Rattle.hir_core.specs.Sequences.{spelling_of, is_in_ranges, utf8_sequences}
@@ -94,7 +95,8 @@ equal_or_above (suc a) (suc b) l = elim (equal_or_above a b (omega (arith, l))) 
 
 number_from : (first n c : ℕ) → first ≤ c → c < first + n → Among (numbers_from first n) c
 number_from first zero c l h = absurd (omega (arith, l, h))
-number_from first (suc n) c l h = elim (equal_or_above first c l) [ inl e ↦ inl e | inr k ↦ inr (number_from (suc first) n c k (omega (arith, h))) ]
+number_from first (suc n) c l h = elim (equal_or_above first c l) [ inl e ↦ inl e | inr k ↦
+    inr (number_from (suc first) n c k (omega (arith, h))) ]
 
 -- ---- the strings of a class are spellings of its numbers
 
@@ -103,7 +105,8 @@ class_spells [] s h = absurd h
 class_spells (r ∷ rs) s h = elim (in_append (utf8_sequences r.0 r.1) (sequences_of rs) s h) [
   | inl here ↦
       let p = strings_spell r.0 r.1 s here in
-      (p.0, among_left (numbers_from r.0 (suc (r.1 - r.0))) (numbers rs) p.0 (number_from r.0 (suc (r.1 - r.0)) p.0 p.1 (omega (arith, p.1, p.2))), p.3)
+      (p.0, among_left (numbers_from r.0 (suc (r.1 - r.0))) (numbers rs) p.0
+          (number_from r.0 (suc (r.1 - r.0)) p.0 p.1 (omega (arith, p.1, p.2))), p.3)
   | inr later ↦
       let p = class_spells rs s later in
       (p.0, among_right (numbers_from r.0 (suc (r.1 - r.0))) (numbers rs) p.0 p.1, p.2)
@@ -152,9 +155,11 @@ lowest_of (q ∷ qs) s t h = elim h [
 ]
 
 -- no more sequences than scalars
-pub sequences_counted : (qs : List (List (ℕ × ℕ))) (rs : List (ℕ × ℕ)) → IsTrie qs → HasTurned qs (sequences_of rs) → length qs ≤ scalars_in rs
+pub sequences_counted : (qs : List (List (ℕ × ℕ))) (rs : List (ℕ × ℕ)) → IsTrie qs → HasTurned qs (sequences_of rs) →
+    length qs ≤ scalars_in rs
 sequences_counted qs rs t h =
-    let few : length (map lowest qs) ≤ length (map turned_spelling (numbers rs)) = no_more_than (map lowest qs) (map turned_spelling (numbers rs)) (all_apart qs t)
+    let few : length (map lowest qs) ≤ length (map turned_spelling (numbers rs)) =
+        no_more_than (map lowest qs) (map turned_spelling (numbers rs)) (all_apart qs t)
     (λ s k. turned_among rs s (h.only s (lowest_of qs s t k))) in
     let left = length-map qs lowest in
     let right = length-map (numbers rs) turned_spelling in

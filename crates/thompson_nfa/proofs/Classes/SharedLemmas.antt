@@ -1,5 +1,6 @@
 -- A sparse state: of its ranges the one that has the byte which is read leads on.
-use Rattle.std.proofs.Common.{◌≡◌, ℕ, ◌+◌, ◌<◌, ◌≤◌, Bool, true, false, List, [], ◌∷◌, ◌++◌, map, Option, Some, None, if◌then◌else◌, ◌&&◌, ◌||◌, nat_le, ◌⊎◌, inl, inr, refl, sym, ap, ◌∙◌, subst, arith, append-nil}
+use Rattle.std.proofs.Common.{◌≡◌, ℕ, ◌+◌, ◌<◌, ◌≤◌, Bool, true, false, List, [], ◌∷◌, ◌++◌, map, Option, Some, None, if◌then◌else◌, ◌&&◌}
+use Rattle.std.proofs.Common.{◌||◌, nat_le, ◌⊎◌, inl, inr, refl, sym, ap, ◌∙◌, subst, arith, append-nil}
 use Rattle.std.specs.List.{flat_map}
 use Rattle.std.proofs.lemmas.Bool.{leb-true, and_parts}
 use Rattle.hir_core.specs.BySequences.{range_tree}
@@ -35,11 +36,13 @@ abbrev sparse_to : List (ℕ × ℕ × ℕ) → Option (ℕ × ℕ) → List (�
 sparse_to trans None = []
 sparse_to trans (Some (b, j)) = each_at (in_ranges trans b) j
 
-sparse_ways : (trans : List (ℕ × ℕ × ℕ)) (i : ℕ) (o : Option (ℕ × ℕ)) → map (λ q. (place_behind i o, q)) (on_read (sparse_node trans) o) ++ [] ≡ sparse_to trans o
+sparse_ways : (trans : List (ℕ × ℕ × ℕ)) (i : ℕ) (o : Option (ℕ × ℕ)) →
+    map (λ q. (place_behind i o, q)) (on_read (sparse_node trans) o) ++ [] ≡ sparse_to trans o
 sparse_ways trans i None = refl
 sparse_ways trans i (Some (b, j)) = append-nil (each_at (in_ranges trans b) j)
 
-goes_sparse : (back : Bool) (t : Text) (T : Table) (s : ℕ) (trans : List (ℕ × ℕ × ℕ)) → T s ≡ sparse_draft trans → Goes back t T s (λ i. sparse_to trans (reads back t i))
+goes_sparse : (back : Bool) (t : Text) (T : Table) (s : ℕ) (trans : List (ℕ × ℕ × ℕ)) → T s ≡ sparse_draft trans →
+    Goes back t T s (λ i. sparse_to trans (reads back t i))
 goes_sparse back t T s trans is = record {
   ways = λ i. ap (λ (p : DraftNode). node_ways back t (drafted p) i) is ∙ sparse_ways trans i (reads back t i);
   is_open = λ i. ap (λ (p : DraftNode). match_of (drafted p) i) is;
@@ -75,11 +78,13 @@ not_within : (low high b : ℕ) (c : Bool) → within low high b ≡ c → (low 
 not_within low high b true e out = let x = is_within low high b e in absurd (out x.0 x.1)
 not_within low high b false e out = refl
 
-first_in : (low high next b : ℕ) (trans : List (ℕ × ℕ × ℕ)) (c : Bool) → within low high b ≡ c → c ≡ true → in_ranges ((low, high, next) ∷ trans) b ≡ next ∷ []
+first_in : (low high next b : ℕ) (trans : List (ℕ × ℕ × ℕ)) (c : Bool) → within low high b ≡ c → c ≡ true →
+    in_ranges ((low, high, next) ∷ trans) b ≡ next ∷ []
 first_in low high next b trans true e is = ap (λ (d : Bool). if d then next ∷ [] else in_ranges trans b) e
 first_in low high next b trans false e is = cc
 
-later_in : (low high next b : ℕ) (trans : List (ℕ × ℕ × ℕ)) (c : Bool) → within low high b ≡ c → c ≡ false → in_ranges ((low, high, next) ∷ trans) b ≡ in_ranges trans b
+later_in : (low high next b : ℕ) (trans : List (ℕ × ℕ × ℕ)) (c : Bool) → within low high b ≡ c → c ≡ false →
+    in_ranges ((low, high, next) ∷ trans) b ≡ in_ranges trans b
 later_in low high next b trans true e is = cc
 later_in low high next b trans false e is = ap (λ (d : Bool). if d then next ∷ [] else in_ranges trans b) e
 
@@ -88,7 +93,8 @@ none_below : (least b : ℕ) (trans : List (ℕ × ℕ × ℕ)) → AscendsFrom 
 none_below least b [] up less = refl
 none_below least b ((low, high, next) ∷ trans) up less =
     let l = up.0 in let m = up.1 in
-    later_in low high next b trans (within low high b) refl (not_within low high b (within low high b) refl (λ (x : low ≤ b) (y : b ≤ high). omega arith))
+    later_in low high next b trans (within low high b) refl (not_within low high b (within low high b) refl
+        (λ (x : low ≤ b) (y : b ≤ high). omega arith))
     ∙ none_below (high + 1) b trans up.2 (omega arith)
 
 -- what is read, where a byte of the range leads to k
@@ -114,18 +120,21 @@ module _ (back : Bool) (t : Text) (T : Table) (e : ℕ) where
     pub is_way : Has same_pair way ws
     pub on : Leads back t T way (j, e)
 
-  way_first : (low high next : ℕ) (trans : List (ℕ × ℕ × ℕ)) (o : Option (ℕ × ℕ)) (k j : ℕ) → ReadsIn low high o k → Leads back t T (k, next) (j, e) → ByWay (sparse_to ((low, high, next) ∷ trans) o) j
+  way_first : (low high next : ℕ) (trans : List (ℕ × ℕ × ℕ)) (o : Option (ℕ × ℕ)) (k j : ℕ) → ReadsIn low high o k →
+      Leads back t T (k, next) (j, e) → ByWay (sparse_to ((low, high, next) ∷ trans) o) j
   way_first low high next trans o k j r on =
       let P : Option (ℕ × ℕ) → Type 0 = λ p. ByWay (sparse_to ((low, high, next) ∷ trans) p) j in
       let Q : List ℕ → Type 0 = λ qs. Has same_pair (k, next) (each_at qs k) in
       subst P (sym r.is) (record {
         way = (k, next);
-        is_way = subst Q (sym (first_in low high next r.byte trans (within low high r.byte) refl r.inside)) (has_same same_pair pairs_equal (k, next) (k, next) [] refl);
+        is_way = subst Q (sym (first_in low high next r.byte trans (within low high r.byte) refl r.inside))
+            (has_same same_pair pairs_equal (k, next) (k, next) [] refl);
         on = on;
       })
 
   -- a way of the later ranges is one of all
-  way_kept : (low high next : ℕ) (trans : List (ℕ × ℕ × ℕ)) (o : Option (ℕ × ℕ)) (w : ℕ × ℕ) → AscendsFrom (high + 1) trans → Has same_pair w (sparse_to trans o) →
+  way_kept : (low high next : ℕ) (trans : List (ℕ × ℕ × ℕ)) (o : Option (ℕ × ℕ)) (w : ℕ × ℕ) → AscendsFrom (high + 1) trans →
+      Has same_pair w (sparse_to trans o) →
       Has same_pair w (sparse_to ((low, high, next) ∷ trans) o)
   way_kept low high next trans None w up h = h
   way_kept low high next trans (Some (b, j)) w up h =
@@ -134,7 +143,8 @@ module _ (back : Bool) (t : Text) (T : Table) (e : ℕ) where
       (λ (x : low ≤ b) (y : b ≤ high).
       none_in same_pair w _ (subst Q (none_below (high + 1) b trans up (omega arith)) h))))) h
 
-  branch_complete : (least : ℕ) (trans : List (ℕ × ℕ × ℕ)) (ys : List Tree) → AscendsFrom least trans → LeadAll back T e trans ys → (i j : ℕ) →
+  branch_complete : (least : ℕ) (trans : List (ℕ × ℕ × ℕ)) (ys : List Tree) → AscendsFrom least trans → LeadAll back T e trans ys →
+      (i j : ℕ) →
       IsMeant back t (alternation (branch_trees back trans ys)) i j → ByWay (sparse_to trans (reads back t i)) j
   branch_complete least [] ys up all i j m = absurd (meant_never back t i j m)
   branch_complete least ((low, high, next) ∷ trans) [] up all i j m = absurd all
@@ -144,7 +154,8 @@ module _ (back : Bool) (t : Text) (T : Table) (e : ℕ) where
       elim (meant_alt back t (read_then back r y) later i j m) [
         | inl a ↦
             let p = (joins_read back r y).parts t i j a in
-            way_first low high next trans (reads back t i) p.0 j (read_in low high (reads back t i) p.0 (meant_class back t (r ∷ []) i p.0 p.1)) ((all.0.reaches t).complete p.0 j p.2)
+            way_first low high next trans (reads back t i) p.0 j (read_in low high (reads back t i) p.0
+                (meant_class back t (r ∷ []) i p.0 p.1)) ((all.0.reaches t).complete p.0 j p.2)
         | inr b ↦
             let w = branch_complete (high + 1) trans ys up.2 all.1 i j b in
             record { way = w.way; is_way = way_kept low high next trans (reads back t i) w.way up.2 w.is_way; on = w.on }
@@ -159,7 +170,8 @@ module _ (back : Bool) (t : Text) (T : Table) (e : ℕ) where
     pub is : w ≡ (place, next)
 
   way_cases : (low high next : ℕ) (trans : List (ℕ × ℕ × ℕ)) (b j : ℕ) (w : ℕ × ℕ) (c : Bool) → within low high b ≡ c →
-      Has same_pair w (each_at (in_ranges ((low, high, next) ∷ trans) b) j) → FirstWay low high next (Some (b, j)) w ⊎ Has same_pair w (each_at (in_ranges trans b) j)
+      Has same_pair w (each_at (in_ranges ((low, high, next) ∷ trans) b) j) → FirstWay low high next (Some (b, j)) w ⊎
+          Has same_pair w (each_at (in_ranges trans b) j)
   way_cases low high next trans b j w true is h =
       let Q : List ℕ → Type 0 = λ qs. Has same_pair w (each_at qs j) in
       inl (record {
@@ -171,7 +183,8 @@ module _ (back : Bool) (t : Text) (T : Table) (e : ℕ) where
       let Q : List ℕ → Type 0 = λ qs. Has same_pair w (each_at qs j) in
       inr (subst Q (later_in low high next b trans false is refl) h)
 
-  way_split : (low high next : ℕ) (trans : List (ℕ × ℕ × ℕ)) (o : Option (ℕ × ℕ)) (w : ℕ × ℕ) → Has same_pair w (sparse_to ((low, high, next) ∷ trans) o) →
+  way_split : (low high next : ℕ) (trans : List (ℕ × ℕ × ℕ)) (o : Option (ℕ × ℕ)) (w : ℕ × ℕ) →
+      Has same_pair w (sparse_to ((low, high, next) ∷ trans) o) →
       FirstWay low high next o w ⊎ Has same_pair w (sparse_to trans o)
   way_split low high next trans None w h = inr h
   way_split low high next trans (Some (b, j)) w h = way_cases low high next trans b j w (within low high b) refl h
@@ -181,7 +194,8 @@ module _ (back : Bool) (t : Text) (T : Table) (e : ℕ) where
       let P : Option (ℕ × ℕ) → Type 0 = λ p. HasEnd (byte_ends ((low, high) ∷ []) p) k in
       subst P (sym r.is) (Has-then (within low high r.byte || false) k k (false_or (within low high r.byte) r.inside) refl)
 
-  branch_sound : (trans : List (ℕ × ℕ × ℕ)) (ys : List Tree) → LeadAll back T e trans ys → (i : ℕ) (w : ℕ × ℕ) (r : List (ℕ × ℕ)) (m : ℕ × ℕ) →
+  branch_sound : (trans : List (ℕ × ℕ × ℕ)) (ys : List Tree) → LeadAll back T e trans ys →
+      (i : ℕ) (w : ℕ × ℕ) (r : List (ℕ × ℕ)) (m : ℕ × ℕ) →
       Has same_pair w (sparse_to trans (reads back t i)) → Chain back t T w r → table_match T (last_or w r) ≡ Some m →
       Passes back t T (IsMeant back t (alternation (branch_trees back trans ys))) i e w r
   branch_sound [] ys all i w r m h c final = none_in same_pair w _ (none_to (reads back t i) w h)
@@ -198,7 +212,8 @@ module _ (back : Bool) (t : Text) (T : Table) (e : ℕ) where
             record {
               middle = p.middle;
               rest = p.rest;
-              is_meant = alt_meant back t (read_then back range y) later i p.middle (inl ((joins_read back range y).joined t i p.middle (f.place, here, p.is_meant)));
+              is_meant = alt_meant back t (read_then back range y) later i p.middle
+                  (inl ((joins_read back range y).joined t i p.middle (f.place, here, p.is_meant)));
               chain = p.chain;
               fewer = p.fewer;
               same_end = p.same_end ∙ ap (λ (v : ℕ × ℕ). last_or v r) (sym f.is);
@@ -215,7 +230,8 @@ module _ (back : Bool) (t : Text) (T : Table) (e : ℕ) where
             }
       ]
 
-  branch_reaches : (s : ℕ) (trans : List (ℕ × ℕ × ℕ)) (ys : List Tree) → T s ≡ sparse_draft trans → AscendsFrom 0 trans → LeadAll back T e trans ys →
+  branch_reaches : (s : ℕ) (trans : List (ℕ × ℕ × ℕ)) (ys : List Tree) → T s ≡ sparse_draft trans → AscendsFrom 0 trans →
+      LeadAll back T e trans ys →
       Reaches back t T s e (IsMeant back t (alternation (branch_trees back trans ys)))
   branch_reaches s trans ys is up all =
       let meant : ℕ → ℕ → Type 0 = IsMeant back t (alternation (branch_trees back trans ys)) in
@@ -231,7 +247,8 @@ module _ (back : Bool) (t : Text) (T : Table) (e : ℕ) where
 
   -- ---- the walk comes to its end
 
-  first_ended : (low high next : ℕ) (trans : List (ℕ × ℕ × ℕ)) (b j : ℕ) (c : Bool) → within low high b ≡ c → (within low high b ≡ true → ComesToEnd back t T (j, next)) →
+  first_ended : (low high next : ℕ) (trans : List (ℕ × ℕ × ℕ)) (b j : ℕ) (c : Bool) → within low high b ≡ c →
+      (within low high b ≡ true → ComesToEnd back t T (j, next)) →
       Ended back t T (each_at (in_ranges trans b) j) → Ended back t T (each_at (in_ranges ((low, high, next) ∷ trans) b) j)
   first_ended low high next trans b j true is here later =
       let Q : List ℕ → Type 0 = λ qs. Ended back t T (each_at qs j) in
@@ -240,8 +257,10 @@ module _ (back : Bool) (t : Text) (T : Table) (e : ℕ) where
       let Q : List ℕ → Type 0 = λ qs. Ended back t T (each_at qs j) in
       subst Q (sym (later_in low high next b trans false is refl)) later
 
-  branch_ended : (trans : List (ℕ × ℕ × ℕ)) (ys : List Tree) → LeadAll back T e trans ys → LoopsRead (alternation (branch_trees back trans ys)) → (i : ℕ) (o : Option (ℕ × ℕ)) → reads back t i ≡ o →
-      ((j : ℕ) → IsMeant back t (alternation (branch_trees back trans ys)) i j → ComesToEnd back t T (j, e)) → Ended back t T (sparse_to trans o)
+  branch_ended : (trans : List (ℕ × ℕ × ℕ)) (ys : List Tree) → LeadAll back T e trans ys →
+      LoopsRead (alternation (branch_trees back trans ys)) → (i : ℕ) (o : Option (ℕ × ℕ)) → reads back t i ≡ o →
+      ((j : ℕ) → IsMeant back t (alternation (branch_trees back trans ys)) i j → ComesToEnd back t T (j, e)) →
+          Ended back t T (sparse_to trans o)
   branch_ended [] ys all f i None is ends = ended_none back t T
   branch_ended [] ys all f i (Some (b, j)) is ends = ended_none back t T
   branch_ended ((low, high, next) ∷ trans) [] all f i o is ends = absurd all
@@ -257,10 +276,12 @@ module _ (back : Bool) (t : Text) (T : Table) (e : ℕ) where
       (λ k m. ends k (alt_meant back t (read_then back r y) later i k (inl ((joins_read back r y).joined t i k (j, here, m))))))
       (branch_ended trans ys all.1 f.1 i (Some (b, j)) is (λ k m. ends k (alt_meant back t (read_then back r y) later i k (inr m))))
 
-  branch_halts : (s : ℕ) (trans : List (ℕ × ℕ × ℕ)) (ys : List Tree) → T s ≡ sparse_draft trans → LeadAll back T e trans ys → LoopsRead (alternation (branch_trees back trans ys)) →
+  branch_halts : (s : ℕ) (trans : List (ℕ × ℕ × ℕ)) (ys : List Tree) → T s ≡ sparse_draft trans → LeadAll back T e trans ys →
+      LoopsRead (alternation (branch_trees back trans ys)) →
       Halts back t T s e (IsMeant back t (alternation (branch_trees back trans ys)))
   branch_halts s trans ys is all f = record {
-    halts = λ i ends. ended_on back t T s (λ k. sparse_to trans (reads back t k)) i (goes_sparse back t T s trans is) (branch_ended trans ys all f i (reads back t i) refl ends);
+    halts = λ i ends. ended_on back t T s (λ k. sparse_to trans (reads back t k)) i (goes_sparse back t T s trans is)
+        (branch_ended trans ys all f i (reads back t i) refl ends);
   }
 
 -- ---- in order, read forward
@@ -269,7 +290,8 @@ module _ (t : Text) (T : Table) (e : ℕ) where
   abbrev ends : Tree → ℕ → List ℕ
   ends x i = preferred_ends t.holds (seen t) x i
 
-  range_ends : (low high i : ℕ) (o : Option (ℕ × ℕ)) → reads false t i ≡ o → ends (range_tree (low, high)) i ≡ byte_ends ((low, high) ∷ []) o
+  range_ends : (low high i : ℕ) (o : Option (ℕ × ℕ)) → reads false t i ≡ o →
+      ends (range_tree (low, high)) i ≡ byte_ends ((low, high) ∷ []) o
   range_ends low high i o is = class_ends_forward t ((low, high) ∷ []) i ∙ ap (byte_ends ((low, high) ∷ [])) is
 
   no_end : (low high i b j : ℕ) → reads false t i ≡ Some (b, j) → within low high b ≡ false → ends (range_tree (low, high)) i ≡ []
@@ -279,7 +301,8 @@ module _ (t : Text) (T : Table) (e : ℕ) where
   one_end low high i b j is inside = range_ends low high i (Some (b, j)) is ∙ or_one (within low high b) j inside
 
   -- the later ranges have no end where the byte is less
-  none_later : (least b j i : ℕ) (trans : List (ℕ × ℕ × ℕ)) (ys : List Tree) → AscendsFrom least trans → b < least → reads false t i ≡ Some (b, j) →
+  none_later : (least b j i : ℕ) (trans : List (ℕ × ℕ × ℕ)) (ys : List Tree) → AscendsFrom least trans → b < least →
+      reads false t i ≡ Some (b, j) →
       ends (alternation (branch_trees false trans ys)) i ≡ []
   none_later least b j i [] ys up less is = refl
   none_later least b j i ((low, high, next) ∷ trans) [] up less is = refl
@@ -290,9 +313,12 @@ module _ (t : Text) (T : Table) (e : ℕ) where
       ∙ none_later (high + 1) b j i trans ys up.2 (omega arith) is
 
   -- by the byte the first range leads on, or a later one
-  first_lists : (low high next : ℕ) (trans : List (ℕ × ℕ × ℕ)) (y later : Tree) (b j i : ℕ) (l : List (ℕ × ℕ)) (c : Bool) → within low high b ≡ c → (b < high + 1 → ends later i ≡ []) →
-      reads false t i ≡ Some (b, j) → Denotes false T next e y → LoopsRead y → (Listed t T (at e (ends later i)) l → ListedFirsts t T (each_at (in_ranges trans b) j) l) →
-      Listed t T (at e (flat_map (ends y) (ends (range_tree (low, high)) i) ++ ends later i)) l → ListedFirsts t T (each_at (in_ranges ((low, high, next) ∷ trans) b) j) l
+  first_lists : (low high next : ℕ) (trans : List (ℕ × ℕ × ℕ)) (y later : Tree) (b j i : ℕ) (l : List (ℕ × ℕ)) (c : Bool) →
+      within low high b ≡ c → (b < high + 1 → ends later i ≡ []) →
+      reads false t i ≡ Some (b, j) → Denotes false T next e y → LoopsRead y →
+          (Listed t T (at e (ends later i)) l → ListedFirsts t T (each_at (in_ranges trans b) j) l) →
+      Listed t T (at e (flat_map (ends y) (ends (range_tree (low, high)) i) ++ ends later i)) l →
+          ListedFirsts t T (each_at (in_ranges ((low, high, next) ∷ trans) b) j) l
   first_lists low high next trans y later b j i l true is none read d f on walk =
       let x = is_within low high b is in
       let P : List ℕ → Type 0 = λ js. Listed t T (at e (flat_map (ends y) js ++ ends later i)) l in
@@ -308,8 +334,10 @@ module _ (t : Text) (T : Table) (e : ℕ) where
       let S : List ℕ → Type 0 = λ qs. ListedFirsts t T (each_at qs j) l in
       subst S (sym (later_in low high next b trans false is refl)) (on (subst P (no_end low high i b j read is) walk))
 
-  branch_lists : (least : ℕ) (trans : List (ℕ × ℕ × ℕ)) (ys : List Tree) → AscendsFrom least trans → LeadAll false T e trans ys → LoopsRead (alternation (branch_trees false trans ys)) →
-      (i : ℕ) (o : Option (ℕ × ℕ)) → reads false t i ≡ o → (l : List (ℕ × ℕ)) → Listed t T (at e (ends (alternation (branch_trees false trans ys)) i)) l → ListedFirsts t T (sparse_to trans o) l
+  branch_lists : (least : ℕ) (trans : List (ℕ × ℕ × ℕ)) (ys : List Tree) → AscendsFrom least trans → LeadAll false T e trans ys →
+      LoopsRead (alternation (branch_trees false trans ys)) →
+      (i : ℕ) (o : Option (ℕ × ℕ)) → reads false t i ≡ o → (l : List (ℕ × ℕ)) →
+          Listed t T (at e (ends (alternation (branch_trees false trans ys)) i)) l → ListedFirsts t T (sparse_to trans o) l
   branch_lists least [] ys up all f i None is l walk = firsts_of t T [] l walk
   branch_lists least [] ys up all f i (Some (b, j)) is l walk = firsts_of t T [] l walk
   branch_lists least ((low, high, next) ∷ trans) [] up all f i o is l walk = absurd all
@@ -323,8 +351,10 @@ module _ (t : Text) (T : Table) (e : ℕ) where
       (λ less. none_later (high + 1) b j i trans ys up.2 less is) is all.0 f.0.1
       (λ v. branch_lists (high + 1) trans ys up.2 all.1 f.1 i (Some (b, j)) is l v) walk
 
-branch_orders : (back : Bool) (t : Text) (T : Table) (e s : ℕ) (trans : List (ℕ × ℕ × ℕ)) (ys : List Tree) → back ≡ false → T s ≡ sparse_draft trans → AscendsFrom 0 trans → LeadAll back T e trans ys →
-    LoopsRead (alternation (branch_trees back trans ys)) → Orders t T s e (preferred_ends t.holds (seen t) (alternation (branch_trees back trans ys)))
+branch_orders : (back : Bool) (t : Text) (T : Table) (e s : ℕ) (trans : List (ℕ × ℕ × ℕ)) (ys : List Tree) → back ≡ false →
+    T s ≡ sparse_draft trans → AscendsFrom 0 trans → LeadAll back T e trans ys →
+    LoopsRead (alternation (branch_trees back trans ys)) → Orders t T s e
+        (preferred_ends t.holds (seen t) (alternation (branch_trees back trans ys)))
 branch_orders false t T e s trans ys up is rising all f = record {
   lists = λ i l walk. firsts_on t T s (λ k. sparse_to trans (reads false t k)) i l (goes_sparse false t T s trans is)
       (branch_lists t T e 0 trans ys rising all f i (reads false t i) refl l walk);
@@ -332,7 +362,8 @@ branch_orders false t T e s trans ys up is rising all f = record {
 branch_orders true t T e s trans ys up is rising all f = cc
 
 -- at a byte the range that has it leads on, and no other has it
-pub denotes_branches : (back : Bool) (T : Table) (s e : ℕ) (trans : List (ℕ × ℕ × ℕ)) (ys : List Tree) → T s ≡ sparse_draft trans → AscendsFrom 0 trans → LeadAll back T e trans ys →
+pub denotes_branches : (back : Bool) (T : Table) (s e : ℕ) (trans : List (ℕ × ℕ × ℕ)) (ys : List Tree) → T s ≡ sparse_draft trans →
+    AscendsFrom 0 trans → LeadAll back T e trans ys →
     Denotes back T s e (alternation (branch_trees back trans ys))
 denotes_branches back T s e trans ys is rising all = record {
   reaches = λ t. branch_reaches back t T e s trans ys is rising all;

@@ -24,9 +24,11 @@ use Rattle.thompson_nfa.proofs.Classes.TurnedMeanings.{denotes_turned}
 
 -- more room
 pub quits_more : {old new : Assembly} {e : BuildError} (n m : ℕ) → n ≤ m → Quits old new n e → Quits old new m e
-quits_more {old} {new} {e} n m le q = record { settings = q.settings; cause = step_later old old n (4096 * n) m m e refl (omega arith) (omega arith) (omega arith) q.cause }
+quits_more {old} {new} {e} n m le q = record { settings = q.settings; cause =
+    step_later old old n (4096 * n) m m e refl (omega arith) (omega arith) (omega arith) q.cause }
 
-module _ (ranges : List (ℕ × ℕ)) (trie : List (List (ℕ × ℕ))) (ascends : IsTrie trie) (has : HasTurned trie (sequences_of ranges)) (paths : List (Vec Utf8Range Global)) (same : paths_of paths ≡ trie) where
+module _ (ranges : List (ℕ × ℕ)) (trie : List (List (ℕ × ℕ))) (ascends : IsTrie trie) (has : HasTurned trie (sequences_of ranges))
+    (paths : List (Vec Utf8Range Global)) (same : paths_of paths ≡ trie) where
   pub paths_ascend : IsTrie (paths_of paths)
   paths_ascend = subst IsTrie (sym same) ascends
 
@@ -42,14 +44,18 @@ module _ (ranges : List (ℕ × ℕ)) (trie : List (List (ℕ × ℕ))) (ascends
       let long = length-map paths (λ (v : Vec Utf8Range Global). map bytes_of v.items) in
       omega (arith, many, long)
 
-  pub shrunk_made : {old new : Assembly} {start end : ℕ} → Makes old new start end (2 + 4 * length paths) → Makes old new start end (2 + 4 * scalars_in ranges)
+  pub shrunk_made : {old new : Assembly} {start end : ℕ} → Makes old new start end (2 + 4 * length paths) →
+      Makes old new start end (2 + 4 * scalars_in ranges)
   shrunk_made m = let l = few in made_capped (2 + 4 * scalars_in ranges) m (omega (arith, l))
 
-  pub shrunk_does : {old new : Assembly} {start end : ℕ} → old.reverse ≡ true → Does old new start end (alternation (map (read_tree old.reverse) (paths_of paths))) → Does old new start end (char_class ranges)
+  pub shrunk_does : {old new : Assembly} {start end : ℕ} → old.reverse ≡ true →
+      Does old new start end (alternation (map (read_tree old.reverse) (paths_of paths))) → Does old new start end (char_class ranges)
   shrunk_does {old} {new} {start} {end} is_reverse d = record {
-    denotes = λ table target fin. denotes_turned old.reverse table start target (paths_of paths) ranges is_reverse paths_have (d.denotes table target fin);
+    denotes = λ table target fin. denotes_turned old.reverse table start target (paths_of paths) ranges is_reverse paths_have
+        (d.denotes table target fin);
     looks = λ l. d.looks l ∙ ap (λ (k : Bool). looks_in old.drafts l || k) (uses_reads old.reverse old.reverse l (paths_of paths));
   }
 
-  pub shrunk_quits : {old new : Assembly} {e : BuildError} → Quits old new (2 + 4 * length paths) e → Quits old new (2 + 4 * scalars_in ranges) e
+  pub shrunk_quits : {old new : Assembly} {e : BuildError} → Quits old new (2 + 4 * length paths) e →
+      Quits old new (2 + 4 * scalars_in ranges) e
   shrunk_quits q = let l = few in quits_more (2 + 4 * length paths) (2 + 4 * scalars_in ranges) (omega (arith, l)) q

@@ -1,5 +1,6 @@
 -- What slots hold after a write, and after the version has gone up.
-use Rattle.std.proofs.Common.{◌≡◌, ℕ, zero, suc, ◌+◌, List, [], ◌∷◌, Option, Some, None, false, All, map, length, set, replicate, take, drop, ◌++◌, refl, ap, ◌∙◌, nat_eq, eq-eqb, arith}
+use Rattle.std.proofs.Common.{◌≡◌, ℕ, zero, suc, ◌+◌, List, [], ◌∷◌, Option, Some, None, false, All, map, length, set, replicate, take}
+use Rattle.std.proofs.Common.{drop, ◌++◌, refl, ap, ◌∙◌, nat_eq, eq-eqb, arith}
 use Rattle.std.proofs.lemmas.List.{map-set, length-replicate}
 use Rattle.std.proofs.lemmas.List.Elements.{All-head, All-tail}
 use Rattle.std.proofs.lemmas.Grind.{common_steps}
@@ -20,16 +21,19 @@ current_past v (Some slot) up =
 pub slots_set : {K : Type 0} → (v : ℕ) (slots : List (Option (Slot K))) (at : ℕ) (key : K) (id : ℕ) →
     map (current v) (set slots at (Some (record { version = v; key = key; id = id }))) ≡ set (map (current v) slots) at (Some (key, id))
 slots_set v slots at key id =
-    map-set (current v) slots at (Some (record { version = v; key = key; id = id })) ∙ ap (set (map (current v) slots) at) (current_now v key id)
+    map-set (current v) slots at (Some (record { version = v; key = key; id = id }))
+        ∙ ap (set (map (current v) slots) at) (current_now v key id)
 
 pub slots_none : {K : Type 0} → (v n : ℕ) → map (current {K = K} v) (replicate n None) ≡ replicate n None
 slots_none v zero = refl
 slots_none v (suc n) = ap (λ xs. None ∷ xs) (slots_none v n)
 
-pub slots_made : {K : Type 0} → (v n : ℕ) (slots : List (Option (Slot K))) → slots ≡ replicate n None → map (current v) slots ≡ replicate n None
+pub slots_made : {K : Type 0} → (v n : ℕ) (slots : List (Option (Slot K))) → slots ≡ replicate n None →
+    map (current v) slots ≡ replicate n None
 slots_made v n slots e = rw e (slots_none v n)
 
-pub slots_past : {K : Type 0} → (v n : ℕ) (slots : List (Option (Slot K))) → length slots ≡ n → All (IsUpTo v) slots → map (current (v + 1)) slots ≡ replicate n None
+pub slots_past : {K : Type 0} → (v n : ℕ) (slots : List (Option (Slot K))) → length slots ≡ n → All (IsUpTo v) slots →
+    map (current (v + 1)) slots ≡ replicate n None
 slots_past {K} v n slots e up = rw (← e) (past slots up)
   where
     past : (xs : List (Option (Slot K))) → All (IsUpTo v) xs → map (current (v + 1)) xs ≡ replicate (length xs) None

@@ -8,12 +8,14 @@ pub viewed_none : {A B : Type 0} → (f : A → B) (n : ℕ) → map (option_map
 viewed_none f zero = refl
 viewed_none f (suc n) = ap (λ xs. None ∷ xs) (viewed_none f n)
 
-pub viewed_at : {A B : Type 0} → (f : A → B) (xs : List (Option A)) (i : ℕ) → get_or (map (option_map f) xs) i None ≡ option_map f (get_or xs i None)
+pub viewed_at : {A B : Type 0} → (f : A → B) (xs : List (Option A)) (i : ℕ) →
+    get_or (map (option_map f) xs) i None ≡ option_map f (get_or xs i None)
 viewed_at f [] i = refl
 viewed_at f (x ∷ xs) zero = refl
 viewed_at f (x ∷ xs) (suc i) = viewed_at f xs i
 
-pub viewed_set : {A B : Type 0} → (f : A → B) (xs : List (Option A)) (i : ℕ) (a : A) → map (option_map f) (set xs i (Some a)) ≡ set (map (option_map f) xs) i (Some (f a))
+pub viewed_set : {A B : Type 0} → (f : A → B) (xs : List (Option A)) (i : ℕ) (a : A) →
+    map (option_map f) (set xs i (Some a)) ≡ set (map (option_map f) xs) i (Some (f a))
 viewed_set f xs i a = map-set (option_map f) xs i (Some a)
 
 -- what holds nothing is seen as nothing
@@ -27,5 +29,6 @@ viewed_value f None a b e g = cc
 viewed_value f (Some x) a b e g = cc
 
 -- a table that holds nothing is seen as one
-pub viewed_empty : {A B : Type 0} → (f : A × ℕ → B × ℕ) (t : SlotTable A) (n : ℕ) → t ≡ empty_table n → record { capacity = t.capacity; places = map (option_map f) t.places } ≡ empty_table {K = B} n
+pub viewed_empty : {A B : Type 0} → (f : A × ℕ → B × ℕ) (t : SlotTable A) (n : ℕ) → t ≡ empty_table n →
+    record { capacity = t.capacity; places = map (option_map f) t.places } ≡ empty_table {K = B} n
 viewed_empty {A} {B} f t n e = rw (e, viewed_none)

@@ -1,5 +1,7 @@
 -- What shared suffixes do: branches of a choice whose states are kept for later branches.
-use Rattle.std.proofs.Common.{◌≡◌, ◌≢◌, ◌⊎◌, inl, inr, ℕ, zero, suc, ◌+◌, ◌*◌, ◌<◌, ◌≤◌, Bool, true, false, List, [], ◌∷◌, ◌++◌, length, map, get_or, set, replicate, Option, Some, None, refl, sym, ap, ◌∙◌, subst, arith, ⊎_elim, append_assoc, append-nil, length-append, ◌||◌}
+use Rattle.std.proofs.Common.{◌≡◌, ◌≢◌, ◌⊎◌, inl, inr, ℕ, zero, suc, ◌+◌, ◌*◌, ◌<◌, ◌≤◌, Bool, true, false, List, [], ◌∷◌, ◌++◌, length}
+use Rattle.std.proofs.Common.{map, get_or, set, replicate, Option, Some, None, refl, sym, ap, ◌∙◌, subst, arith, ⊎_elim, append_assoc}
+use Rattle.std.proofs.Common.{append-nil, length-append, ◌||◌}
 use Rattle.std.proofs.lemmas.Bool.{cases_lt}
 use Rattle.std.proofs.lemmas.List.{map-append}
 use Rattle.hir_core.specs.BySequences.{range_tree, sequence_tree}
@@ -10,7 +12,8 @@ use Rattle.nfa_core.specs.Drafted.{Table}
 use Rattle.nfa_core.specs.Renaming.{stands_for}
 use Rattle.thompson_nfa.specs.Added.{Added, Led}
 use Rattle.thompson_nfa.specs.Denotes.{Denotes}
-use Rattle.thompson_nfa.specs.SharedSuffixes.{key_of, AddsRange, SharesRange, finds_state, adds_state, SharesRanges, shares_none, shares_more, AddsSequence, AddsSequences, sequences_none, sequences_more}
+use Rattle.thompson_nfa.specs.SharedSuffixes.{key_of, AddsRange, SharesRange, finds_state, adds_state, SharesRanges, shares_none}
+use Rattle.thompson_nfa.specs.SharedSuffixes.{shares_more, AddsSequence, AddsSequences, sequences_none, sequences_more}
 use Rattle.thompson_nfa.specs.SlotTables.{SlotTable, held_at, empty_table, with_held}
 use Rattle.thompson_nfa.specs.declared.utf8_suffix_map.Utf8SuffixKey.{Utf8SuffixKey}
 use Rattle.thompson_nfa.specs.Compiled.{looks_in, uses}
@@ -45,18 +48,21 @@ none_held (suc n) (suc i) a e = none_held n i a e
 pub keeps_none : (low : ℕ) (b : Assembly) (u m capacity : ℕ) → Keeps low b u m (empty_table capacity)
 keeps_none low b u m capacity place id key e = absurd (none_held capacity place (key, id) e)
 
-held_cases : {A : Type 0} (xs : List (Option A)) (i j : ℕ) (a b : A) → get_or (set xs i (Some a)) j None ≡ Some b → (a ≡ b) ⊎ (get_or xs j None ≡ Some b)
+held_cases : {A : Type 0} (xs : List (Option A)) (i j : ℕ) (a b : A) → get_or (set xs i (Some a)) j None ≡ Some b → (a ≡ b) ⊎
+    (get_or xs j None ≡ Some b)
 held_cases [] i j a b e = inr e
 held_cases (x ∷ xs) zero zero a b e = inl (cc)
 held_cases (x ∷ xs) zero (suc j) a b e = inr e
 held_cases (x ∷ xs) (suc i) zero a b e = inr e
 held_cases (x ∷ xs) (suc i) (suc j) a b e = held_cases xs i j a b e
 
-pub keeps_more : {low u m : ℕ} {b : Assembly} (table : SlotTable Utf8SuffixKey) (place id : ℕ) (key : Utf8SuffixKey) → Keeps low b u m table → IsKept low b u m key id →
+pub keeps_more : {low u m : ℕ} {b : Assembly} (table : SlotTable Utf8SuffixKey) (place id : ℕ) (key : Utf8SuffixKey) →
+    Keeps low b u m table → IsKept low b u m key id →
     Keeps low b u m (with_held table place key id)
 keeps_more {low} {u} {m} {b} table place id key keeps one at other k e =
     let P : Utf8SuffixKey × ℕ → Type 0 = λ p. IsKept low b u m p.0 p.1 in
-    ⊎_elim (λ (same : (key, id) ≡ (k, other)). subst P same one) (λ h. keeps at other k h) (held_cases table.places place at (key, id) (k, other) e)
+    ⊎_elim (λ (same : (key, id) ≡ (k, other)). subst P same one) (λ h. keeps at other k h) (held_cases table.places place at (key, id) (k,
+        other) e)
 
 -- the state is as it was
 pub keeps_later : {low u m : ℕ} {b c : Assembly} (table : SlotTable Utf8SuffixKey) → length b.drafts ≤ length c.drafts →
@@ -75,7 +81,8 @@ range_then true T id s m r rs e is d =
     let x : Tree = range_tree r in
     let P : List Tree → Type 0 = λ xs. Denotes true T id m (concat xs) in
     subst P (sym (map-append range_tree rs (r ∷ [])))
-    (denotes_join true T id s m (concat (x ∷ [])) (concat (map range_tree rs)) (concat (map range_tree rs ++ x ∷ [])) (joins_last_part x (map range_tree rs))
+    (denotes_join true T id s m (concat (x ∷ [])) (concat (map range_tree rs)) (concat (map range_tree rs ++ x ∷ []))
+        (joins_last_part x (map range_tree rs))
     (denotes_concat_one true T id s x (denotes_range true T id s r.0 r.1 is)) d)
 
 -- ---- a state that is added to branches
@@ -91,7 +98,8 @@ module _ (b0 b c : Assembly) (u m n id lo hi q : ℕ) (xs : List Tree) (so_far :
       ⊎_elim (λ (less : p < length b.drafts). so_far.others T target (older T agrees) out p l less not_u)
       (λ (more : length b.drafts ≤ p).
       let same : id ≡ p = omega arith in
-      let here : T p ≡ range_draft lo hi q = agrees p l h not_u (λ (e : p ≡ m). omega arith) ∙ ap (λ k. draft_at c.drafts k) (sym same) ∙ x.here in
+      let here : T p ≡ range_draft lo hi q = agrees p l h not_u (λ (e : p ≡ m). omega arith) ∙ ap (λ k. draft_at c.drafts k) (sym same)
+          ∙ x.here in
       out_here T target p (ap stands_for here))
       (cases_lt p (length b.drafts))
 
@@ -127,12 +135,15 @@ module _ (b0 b c d : Assembly) (u m n id lo hi q : ℕ) (xs : List Tree) (so_far
   unfolding branched_added
   branched_way y none denotes =
       let w = branched_added b0 b c u m n id lo hi q xs so_far x named in
-      let un = so_far.choice_new in let ut = so_far.choice_there in let s = x.size in let is = x.is in let t = led.size in let ct = w.choice_there in let et = w.end_there in
+      let un = so_far.choice_new in let ut = so_far.choice_there in let s = x.size in let is = x.is in let t = led.size in let ct =
+          w.choice_there in let et = w.end_there in
       let g = so_far.progress.partly.grows.longer in
-      let old : (T : Table) → Agrees b0 d u m T → Agrees b0 c u m T = λ T agrees p l h not_u not_m. agrees p l (omega arith) not_u not_m ∙ led.same p not_u in
+      let old : (T : Table) → Agrees b0 d u m T → Agrees b0 c u m T = λ T agrees p l h not_u not_m. agrees p l (omega arith) not_u not_m
+          ∙ led.same p not_u in
       record {
         ways = so_far.ways ++ id ∷ [];
-        progress = then_led 8 (added_progress b0 b c u m n id lo hi q xs so_far x named 12 (omega arith)) led un (omega arith) (omega arith);
+        progress = then_led 8 (added_progress b0 b c u m n id lo hi q xs so_far x named 12 (omega arith)) led un (omega arith)
+            (omega arith);
         choice_new = un;
         choice_there = omega arith;
         end_new = so_far.end_new;
@@ -144,10 +155,12 @@ module _ (b0 b c d : Assembly) (u m n id lo hi q : ℕ) (xs : List Tree) (so_far
             ∙ ap (λ (k : Bool). looks_in b0.drafts l || k)
             (sym (uses_alternation b0.reverse xs y l ∙ ap (λ (k : Bool). uses b0.reverse (alternation xs) l || k) (none l)
             ∙ or_none (uses b0.reverse (alternation xs) l)));
-        branches = record { all = λ T agrees. all_denote_push b0.reverse T m id y so_far.ways xs (w.branches.all T (old T agrees)) (denotes T (old T agrees)) };
+        branches = record { all = λ T agrees. all_denote_push b0.reverse T m id y so_far.ways xs (w.branches.all T (old T agrees))
+            (denotes T (old T agrees)) };
         others = λ T target agrees out p l h not_u. w.others T target (old T agrees) out p l (omega arith) not_u;
         one_way = λ to same. one_more_way so_far.ways id to (length b0.drafts) (length d.drafts) u
-            (λ k e. let o = w.one_way k e in let h = o.1 in (o.0, omega arith, o.2)) (omega arith) (omega arith) (λ (at_u : id ≡ u). omega arith) same;
+            (λ k e. let o = w.one_way k e in let h = o.1 in (o.0, omega arith, o.2)) (omega arith) (omega arith)
+                (λ (at_u : id ≡ u). omega arith) same;
       }
 
 branched_wider : {b0 b : Assembly} {u m n : ℕ} {xs : List Tree} (k : ℕ) → n ≤ k → Branched b0 b u m n xs → Branched b0 b u m k xs
@@ -178,7 +191,8 @@ pub record Chained (b0 b : Assembly) (table : SlotTable Utf8SuffixKey) (u m n s 
   pub there : s < length b.drafts
   pub denotes : (T : Table) → Agrees b0 b u m T → Denotes b0.reverse T s m (sequence_tree rs)
 
-chained_none : (b0 b : Assembly) (table : SlotTable Utf8SuffixKey) (u m n : ℕ) (xs : List Tree) → Branched b0 b u m n xs → Keeps (length b0.drafts) b u m table →
+chained_none : (b0 b : Assembly) (table : SlotTable Utf8SuffixKey) (u m n : ℕ) (xs : List Tree) → Branched b0 b u m n xs →
+    Keeps (length b0.drafts) b u m table →
     Chained b0 b table u m n m xs []
 chained_none b0 b table u m n xs branched keeps = record {
   branched = branched;
@@ -189,26 +203,31 @@ chained_none b0 b table u m n xs branched keeps = record {
 
 module _ (b0 b : Assembly) (table : SlotTable Utf8SuffixKey) (u m n s : ℕ) (xs : List Tree) (rs : List (ℕ × ℕ))
     (is_reverse : b0.reverse ≡ true) (so_far : Chained b0 b table u m n s xs rs) where
-  chained_found : (place id : ℕ) (r : ℕ × ℕ) → held_at table place ≡ Some (key_of s r, id) → Chained b0 b table u m (n + 1) id xs (rs ++ r ∷ [])
+  chained_found : (place id : ℕ) (r : ℕ × ℕ) → held_at table place ≡ Some (key_of s r, id) →
+      Chained b0 b table u m (n + 1) id xs (rs ++ r ∷ [])
   chained_found place id r at =
       let k = so_far.keeps place id (key_of s r) at in
       record {
         branched = branched_wider (n + 1) (omega arith) so_far.branched;
         keeps = so_far.keeps;
         there = k.there;
-        denotes = λ T agrees. range_then b0.reverse T id s m r rs is_reverse (agrees id k.new k.there k.not_choice k.not_end ∙ k.is) (so_far.denotes T agrees);
+        denotes = λ T agrees. range_then b0.reverse T id s m r rs is_reverse (agrees id k.new k.there k.not_choice k.not_end
+            ∙ k.is) (so_far.denotes T agrees);
       }
 
   module _ (c : Assembly) (changed : SlotTable Utf8SuffixKey) (id : ℕ) (r : ℕ × ℕ) (x : AddsRange b c table changed s r id) where
     new_kept : IsKept (length b0.drafts) c u m (key_of s r) id
     new_kept =
-        let w = so_far.branched in let g = w.progress.partly.grows.longer in let ut = w.choice_there in let mt = w.end_there in let l = x.added.is in let t = x.added.size in
-        record { new = omega arith; there = omega arith; not_choice = λ (e : id ≡ u). omega arith; not_end = λ (e : id ≡ m). omega arith; is = x.added.here }
+        let w = so_far.branched in let g = w.progress.partly.grows.longer in let ut = w.choice_there in let mt = w.end_there in let l =
+            x.added.is in let t = x.added.size in
+        record { new = omega arith; there = omega arith; not_choice = λ (e : id ≡ u). omega arith; not_end = λ (e : id ≡ m). omega arith;
+            is = x.added.here }
 
     pub kept_added : Keeps (length b0.drafts) c u m changed
     kept_added =
         let P : SlotTable Utf8SuffixKey → Type 0 = λ t. Keeps (length b0.drafts) c u m t in
-        subst P (sym x.kept) (keeps_more table x.place id (key_of s r) (keeps_later table x.added.grows.longer (λ q h not_u. x.added.grows.same q h) so_far.keeps) new_kept)
+        subst P (sym x.kept) (keeps_more table x.place id (key_of s r)
+            (keeps_later table x.added.grows.longer (λ q h not_u. x.added.grows.same q h) so_far.keeps) new_kept)
 
     pub denotes_added : (T : Table) → Agrees b0 c u m T → Denotes b0.reverse T id m (sequence_tree (rs ++ r ∷ []))
     denotes_added T agrees =
@@ -224,16 +243,20 @@ module _ (b0 b : Assembly) (table : SlotTable Utf8SuffixKey) (u m n s : ℕ) (xs
       denotes = denotes_added;
     }
 
-chained_more : (b0 b c : Assembly) (table changed : SlotTable Utf8SuffixKey) (u m n s id : ℕ) (xs : List Tree) (rs : List (ℕ × ℕ)) (r : ℕ × ℕ) → b0.reverse ≡ true → Chained b0 b table u m n s xs rs →
+chained_more : (b0 b c : Assembly) (table changed : SlotTable Utf8SuffixKey) (u m n s id : ℕ) (xs : List Tree) (rs : List (ℕ × ℕ)) (r : ℕ ×
+    ℕ) → b0.reverse ≡ true → Chained b0 b table u m n s xs rs →
     SharesRange b c table changed s r id → Chained b0 c changed u m (n + 1) id xs (rs ++ r ∷ [])
 chained_more b0 b c table changed u m n s id xs rs r is_reverse so_far (finds_state place at same kept) =
     let P : Assembly → Type 0 = λ z. Chained b0 z changed u m (n + 1) id xs (rs ++ r ∷ []) in
     let Q : SlotTable Utf8SuffixKey → Type 0 = λ t. Chained b0 b t u m (n + 1) id xs (rs ++ r ∷ []) in
     subst P (sym same) (subst Q (sym kept) (chained_found b0 b table u m n s xs rs is_reverse so_far place id r at))
-chained_more b0 b c table changed u m n s id xs rs r is_reverse so_far (adds_state x) = chained_added b0 b table u m n s xs rs is_reverse so_far c changed id r x
+chained_more b0 b c table changed u m n s id xs rs r is_reverse so_far (adds_state x) =
+    chained_added b0 b table u m n s xs rs is_reverse so_far c changed id r x
 
-chained_all : (b0 a : Assembly) (table : SlotTable Utf8SuffixKey) (u m n : ℕ) (xs : List Tree) → b0.reverse ≡ true → Branched b0 a u m n xs → Keeps (length b0.drafts) a u m table →
-    (b : Assembly) (changed : SlotTable Utf8SuffixKey) (id : ℕ) (rs : List (ℕ × ℕ)) → SharesRanges m a table b changed id rs → Chained b0 b changed u m (n + length rs) id xs rs
+chained_all : (b0 a : Assembly) (table : SlotTable Utf8SuffixKey) (u m n : ℕ) (xs : List Tree) → b0.reverse ≡ true →
+    Branched b0 a u m n xs → Keeps (length b0.drafts) a u m table →
+    (b : Assembly) (changed : SlotTable Utf8SuffixKey) (id : ℕ) (rs : List (ℕ × ℕ)) → SharesRanges m a table b changed id rs →
+        Chained b0 b changed u m (n + length rs) id xs rs
 chained_all b0 a table u m n xs is_reverse branched keeps _ _ _ _ shares_none =
     let P : ℕ → Type 0 = λ k. Chained b0 a table u m k m xs [] in
     let none : n ≡ n + 0 = omega arith in
@@ -241,7 +264,8 @@ chained_all b0 a table u m n xs is_reverse branched keeps _ _ _ _ shares_none =
 chained_all b0 a table u m n xs is_reverse branched keeps _ _ _ _ (shares_more mid new kept changed next id rs r before step) =
     let P : ℕ → Type 0 = λ k. Chained b0 new changed u m k id xs (rs ++ r ∷ []) in
     let sum : n + length rs + 1 ≡ n + length (rs ++ r ∷ []) = omega (arith, length-append rs (r ∷ [])) in
-    subst P sum (chained_more b0 mid new kept changed u m (n + length rs) next id xs rs r is_reverse (chained_all b0 a table u m n xs is_reverse branched keeps mid kept next rs before) step)
+    subst P sum (chained_more b0 mid new kept changed u m (n + length rs) next id xs rs r is_reverse
+        (chained_all b0 a table u m n xs is_reverse branched keeps mid kept next rs before) step)
 
 -- ---- sequences
 
@@ -251,10 +275,12 @@ pub record Suffixed (b0 b : Assembly) (table : SlotTable Utf8SuffixKey) (u m n :
   pub keeps : Keeps (length b0.drafts) b u m table
 
 module _ (b0 : Assembly) (u m : ℕ) (is_reverse : b0.reverse ≡ true) where
-  suffixed_one : (a b : Assembly) (table changed : SlotTable Utf8SuffixKey) (n : ℕ) (xs : List Tree) (rs : List (ℕ × ℕ)) → Suffixed b0 a table u m n xs →
+  suffixed_one : (a b : Assembly) (table changed : SlotTable Utf8SuffixKey) (n : ℕ) (xs : List Tree) (rs : List (ℕ × ℕ)) →
+      Suffixed b0 a table u m n xs →
       AddsSequence a b table changed u m rs → Suffixed b0 b changed u m (n + 4) (xs ++ sequence_tree rs ∷ [])
   suffixed_one a b table changed n xs rs so_far one =
-      let chain = chained_all b0 a table u m n xs is_reverse so_far.branched so_far.keeps one.shared one.kept one.next one.others one.shares in
+      let chain = chained_all b0 a table u m n xs is_reverse so_far.branched so_far.keeps one.shared one.kept one.next one.others
+          one.shares in
       let k : ℕ = n + length one.others in
       let r = one.last in
       let x = one.adds in
@@ -269,21 +295,25 @@ module _ (b0 : Assembly) (u m : ℕ) (is_reverse : b0.reverse ≡ true) where
       (denotes_added b0 one.shared one.kept u m k one.next xs one.others is_reverse chain one.whole changed one.first r x) in
       record {
         branched = branched_wider (n + 4) (omega (arith, sum, few)) (subst P one.split way);
-        keeps = keeps_later changed (omega arith) (λ q h not_u. led.same q not_u) (kept_added b0 one.shared one.kept u m k one.next xs one.others is_reverse chain one.whole changed one.first r x);
+        keeps = keeps_later changed (omega arith) (λ q h not_u. led.same q not_u)
+            (kept_added b0 one.shared one.kept u m k one.next xs one.others is_reverse chain one.whole changed one.first r x);
       }
 
   pub suffixed_all : (a : Assembly) (table : SlotTable Utf8SuffixKey) (n : ℕ) (xs : List Tree) → Suffixed b0 a table u m n xs →
-      (b : Assembly) (changed : SlotTable Utf8SuffixKey) (qs : List (List (ℕ × ℕ))) → AddsSequences u m a table b changed qs → Suffixed b0 b changed u m (n + 4 * length qs) (xs ++ map sequence_tree qs)
+      (b : Assembly) (changed : SlotTable Utf8SuffixKey) (qs : List (List (ℕ × ℕ))) → AddsSequences u m a table b changed qs →
+          Suffixed b0 b changed u m (n + 4 * length qs) (xs ++ map sequence_tree qs)
   suffixed_all a table n xs so_far _ _ _ sequences_none =
       let P : ℕ → Type 0 = λ k. Suffixed b0 a table u m k (xs ++ []) in
       let Q : List Tree → Type 0 = λ ys. Suffixed b0 a table u m n ys in
       let none : n ≡ n + 4 * 0 = omega arith in
       subst P none (subst Q (sym (append-nil xs)) so_far)
   suffixed_all a table n xs so_far _ _ _ (sequences_more mid new kept changed qs rs before one) =
-      let more = suffixed_one mid new kept changed (n + 4 * length qs) (xs ++ map sequence_tree qs) rs (suffixed_all a table n xs so_far mid kept qs before) one in
+      let more = suffixed_one mid new kept changed (n + 4 * length qs) (xs
+          ++ map sequence_tree qs) rs (suffixed_all a table n xs so_far mid kept qs before) one in
       let P : ℕ → Type 0 = λ k. Suffixed b0 new changed u m k ((xs ++ map sequence_tree qs) ++ sequence_tree rs ∷ []) in
       let Q : List Tree → Type 0 = λ ys. Suffixed b0 new changed u m (n + 4 * length (qs ++ rs ∷ [])) ys in
       let sum : n + 4 * length qs + 4 ≡ n + 4 * length (qs ++ rs ∷ []) = omega (arith, length-append qs (rs ∷ [])) in
       let trees : (xs ++ map sequence_tree qs) ++ sequence_tree rs ∷ [] ≡ xs ++ map sequence_tree (qs ++ rs ∷ []) =
-      append_assoc xs (map sequence_tree qs) (sequence_tree rs ∷ []) ∙ ap (λ (ys : List Tree). xs ++ ys) (sym (map-append sequence_tree qs (rs ∷ []))) in
+      append_assoc xs (map sequence_tree qs) (sequence_tree rs ∷ []) ∙ ap (λ (ys : List Tree). xs
+          ++ ys) (sym (map-append sequence_tree qs (rs ∷ []))) in
       subst Q trees (subst P sum more)

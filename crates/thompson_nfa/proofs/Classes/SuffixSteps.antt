@@ -1,5 +1,6 @@
 -- What the steps of shared suffixes do to the builder and to the map: how many states they add, and that the choice can be led on.
-use Rattle.std.proofs.Common.{◌≡◌, ℕ, ◌+◌, ◌-◌, ◌*◌, ◌<◌, ◌≤◌, true, false, List, [], ◌∷◌, ◌++◌, length, map, take, get_or, Some, nat_eq, refl, sym, ap, ◌∙◌, subst, arith, append_assoc, length-append}
+use Rattle.std.proofs.Common.{◌≡◌, ℕ, ◌+◌, ◌-◌, ◌*◌, ◌<◌, ◌≤◌, true, false, List, [], ◌∷◌, ◌++◌, length, map, take, get_or, Some, nat_eq}
+use Rattle.std.proofs.Common.{refl, sym, ap, ◌∙◌, subst, arith, append_assoc, length-append}
 use Rattle.std.specs.Prelude.{All}
 use Rattle.std.specs.List.{slice_get}
 use Rattle.std.proofs.lemmas.List.{length-set, length-take-le, take_more, get_or-map, length-map}
@@ -8,12 +9,15 @@ use Rattle.search_types.specs.Groups.{Groups}
 use Rattle.hir_core.specs.Sequences.{bytes_of, utf8_sequences}
 use Rattle.hir_core.specs.declared.utf8_sequences.Utf8Range.{Utf8Range}
 use Rattle.hir_core.proofs.ForCallers.{sequence_short}
-use Rattle.nfa_core.specs.BuilderStates.{DraftNode, Assembly, draft_at, patched, draft_bytes, is_sparse, empty_draft, range_draft, sparse_draft, look_draft, capture_start_draft, capture_end_draft, union_draft, union_reverse_draft, fail_draft, match_draft}
+use Rattle.nfa_core.specs.BuilderStates.{DraftNode, Assembly, draft_at, patched, draft_bytes, is_sparse, empty_draft, range_draft}
+use Rattle.nfa_core.specs.BuilderStates.{sparse_draft, look_draft, capture_start_draft, capture_end_draft, union_draft, union_reverse_draft}
+use Rattle.nfa_core.specs.BuilderStates.{fail_draft, match_draft}
 use Rattle.nfa_core.specs.declared.build_error.BuildError.{BuildError}
 use Rattle.thompson_nfa.specs.Added.{Added, Led}
 use Rattle.thompson_nfa.specs.Compiled.{Grows}
 use Rattle.thompson_nfa.specs.Refusals.{Stays, Quits}
-use Rattle.thompson_nfa.specs.SharedSuffixes.{key_of, AddsRange, SharesRange, finds_state, adds_state, SharesRanges, shares_none, shares_more, AddsSequence, AddsSequences, sequences_none, sequences_more}
+use Rattle.thompson_nfa.specs.SharedSuffixes.{key_of, AddsRange, SharesRange, finds_state, adds_state, SharesRanges, shares_none}
+use Rattle.thompson_nfa.specs.SharedSuffixes.{shares_more, AddsSequence, AddsSequences, sequences_none, sequences_more}
 use Rattle.thompson_nfa.specs.SlotTables.{SlotTable, is_ready, with_held}
 use Rattle.thompson_nfa.specs.declared.utf8_suffix_map.Utf8SuffixKey.{Utf8SuffixKey}
 use Rattle.thompson_nfa.proofs.Steps.GrowLemmas.{grows_refl, grows_trans}
@@ -23,7 +27,8 @@ use Rattle.thompson_nfa.proofs.Classes.ClassTrieLemmas.{got_behind}
 
 -- ---- the map
 
-pub ready_held : (table : SlotTable Utf8SuffixKey) (place : ℕ) (key : Utf8SuffixKey) (id : ℕ) → is_ready table ≡ true → is_ready (with_held table place key id) ≡ true
+pub ready_held : (table : SlotTable Utf8SuffixKey) (place : ℕ) (key : Utf8SuffixKey) (id : ℕ) → is_ready table ≡ true →
+    is_ready (with_held table place key id) ≡ true
 ready_held table place key id e = ap (λ n. nat_eq n table.capacity) (length-set table.places place (Some (key, id))) ∙ e
 
 -- the map is ready still
@@ -48,13 +53,15 @@ spent_then {a} {b} {c} {n} {k} x y =
       bytes = omega arith;
     }
 
-spent_added : {a b : Assembly} {id : ℕ} {draft : DraftNode} {groups : Groups} → Added a b id draft groups → draft_bytes draft ≤ 4096 → Spent a b 1
+spent_added : {a b : Assembly} {id : ℕ} {draft : DraftNode} {groups : Groups} → Added a b id draft groups → draft_bytes draft ≤ 4096 →
+    Spent a b 1
 spent_added x le =
     let n = x.size in let s = x.bytes in
     record { settings = x.grows.settings; longer = x.grows.longer; states = omega arith; bytes = omega arith }
 
 -- a state was added, and one has one more way
-spent_led : {a b c : Assembly} {id from to : ℕ} {draft : DraftNode} {groups : Groups} → Added a b id draft groups → Led b c from to → draft_bytes draft ≤ 4000 → Spent a c 1
+spent_led : {a b c : Assembly} {id from to : ℕ} {draft : DraftNode} {groups : Groups} → Added a b id draft groups → Led b c from to →
+    draft_bytes draft ≤ 4000 → Spent a c 1
 spent_led {a} {b} {c} x l le =
     let n = x.size in let s = x.bytes in let m = l.size in let t = l.bytes in
     let led : c ≡ record b { drafts = c.drafts; groups = c.groups } =
@@ -79,21 +86,29 @@ pub record Shares (a b : Assembly) (table changed : SlotTable Utf8SuffixKey) (n 
 shares_nothing : (a : Assembly) (table : SlotTable Utf8SuffixKey) → Shares a a table table 0
 shares_nothing a table = record { grows = grows_refl a; spent = spent_none a; groups = refl; capacity = refl; ready = λ e. e }
 
-shares_wider : {a b : Assembly} {table changed : SlotTable Utf8SuffixKey} {n : ℕ} (k : ℕ) → Shares a b table changed n → n ≤ k → Shares a b table changed k
-shares_wider k s le = record { grows = s.grows; spent = spent_wider k s.spent le; groups = s.groups; capacity = s.capacity; ready = s.ready }
+shares_wider : {a b : Assembly} {table changed : SlotTable Utf8SuffixKey} {n : ℕ} (k : ℕ) → Shares a b table changed n → n ≤ k →
+    Shares a b table changed k
+shares_wider k s le = record { grows = s.grows; spent = spent_wider k s.spent le; groups = s.groups; capacity = s.capacity;
+    ready = s.ready }
 
-shares_then : {a b c : Assembly} {m1 m2 m3 : SlotTable Utf8SuffixKey} {n k : ℕ} → Shares a b m1 m2 n → Shares b c m2 m3 k → Shares a c m1 m3 (n + k)
-shares_then x y = record { grows = grows_trans x.grows y.grows; spent = spent_then x.spent y.spent; groups = y.groups ∙ x.groups; capacity = y.capacity ∙ x.capacity; ready = λ e. y.ready (x.ready e) }
+shares_then : {a b c : Assembly} {m1 m2 m3 : SlotTable Utf8SuffixKey} {n k : ℕ} → Shares a b m1 m2 n → Shares b c m2 m3 k →
+    Shares a c m1 m3 (n + k)
+shares_then x y = record { grows = grows_trans x.grows y.grows; spent = spent_then x.spent y.spent; groups = y.groups ∙ x.groups;
+    capacity = y.capacity ∙ x.capacity; ready = λ e. y.ready (x.ready e) }
 
-ready_added : {a b : Assembly} {table changed : SlotTable Utf8SuffixKey} {next id : ℕ} {range : ℕ × ℕ} → AddsRange a b table changed next range id → StaysReady table changed
+ready_added : {a b : Assembly} {table changed : SlotTable Utf8SuffixKey} {next id : ℕ} {range : ℕ × ℕ} →
+    AddsRange a b table changed next range id → StaysReady table changed
 ready_added {a} {b} {table} {changed} {next} {id} {range} x e =
     let P : SlotTable Utf8SuffixKey → Type 0 = λ t. is_ready t ≡ true in
     subst P (sym x.kept) (ready_held table x.place (key_of next range) id e)
 
-adds_shares : {a b : Assembly} {table changed : SlotTable Utf8SuffixKey} {next id : ℕ} {range : ℕ × ℕ} → AddsRange a b table changed next range id → Shares a b table changed 1
-adds_shares x = record { grows = x.added.grows; spent = spent_added x.added (omega arith); groups = x.added.groups_are; capacity = ap (λ (t : SlotTable Utf8SuffixKey). t.capacity) x.kept; ready = ready_added x }
+adds_shares : {a b : Assembly} {table changed : SlotTable Utf8SuffixKey} {next id : ℕ} {range : ℕ × ℕ} →
+    AddsRange a b table changed next range id → Shares a b table changed 1
+adds_shares x = record { grows = x.added.grows; spent = spent_added x.added (omega arith); groups = x.added.groups_are;
+    capacity = ap (λ (t : SlotTable Utf8SuffixKey). t.capacity) x.kept; ready = ready_added x }
 
-range_shares : {a b : Assembly} {table changed : SlotTable Utf8SuffixKey} {next id : ℕ} {range : ℕ × ℕ} → SharesRange a b table changed next range id → Shares a b table changed 1
+range_shares : {a b : Assembly} {table changed : SlotTable Utf8SuffixKey} {next id : ℕ} {range : ℕ × ℕ} →
+    SharesRange a b table changed next range id → Shares a b table changed 1
 range_shares {a} {b} {table} {changed} (finds_state place at same kept) =
     let P : Assembly → Type 0 = λ z. Shares a z table changed 1 in
     let Q : SlotTable Utf8SuffixKey → Type 0 = λ t. Shares a a table t 1 in
@@ -102,7 +117,8 @@ range_shares (adds_state x) = adds_shares x
 
 -- ---- ranges of a sequence
 
-pub ranges_share : {end : ℕ} {a : Assembly} {table : SlotTable Utf8SuffixKey} {b : Assembly} {changed : SlotTable Utf8SuffixKey} {id : ℕ} {rs : List (ℕ × ℕ)} → SharesRanges end a table b changed id rs → Shares a b table changed (length rs)
+pub ranges_share : {end : ℕ} {a : Assembly} {table : SlotTable Utf8SuffixKey} {b : Assembly} {changed : SlotTable Utf8SuffixKey} {id : ℕ}
+    {rs : List (ℕ × ℕ)} → SharesRanges end a table b changed id rs → Shares a b table changed (length rs)
 ranges_share {end} {a} {table} shares_none = shares_nothing a table
 ranges_share (shares_more mid new kept last next state rs r before step) =
     let sum : length (rs ++ r ∷ []) ≡ length rs + 1 = length-append rs (r ∷ []) in
@@ -140,8 +156,10 @@ module _ (a b : Assembly) (table changed : SlotTable Utf8SuffixKey) (end id i : 
       record { shares = subst P (sym more) (shares_more b c changed last id state (take i rs) r so_far.shares step); within = omega arith }
 
 -- the same where the ranges are given as the code has them
-pub next_shared : (a b : Assembly) (table changed : SlotTable Utf8SuffixKey) (end id i : ℕ) (ranges : List Utf8Range) → SharesUpTo a b table changed end id i (map bytes_of ranges) →
-    (c : Assembly) (last : SlotTable Utf8SuffixKey) (state : ℕ) (d : Utf8Range) → i < length ranges → SharesRange b c changed last id (bytes_of (get_or ranges i d)) state →
+pub next_shared : (a b : Assembly) (table changed : SlotTable Utf8SuffixKey) (end id i : ℕ) (ranges : List Utf8Range) →
+    SharesUpTo a b table changed end id i (map bytes_of ranges) →
+    (c : Assembly) (last : SlotTable Utf8SuffixKey) (state : ℕ) (d : Utf8Range) → i < length ranges →
+        SharesRange b c changed last id (bytes_of (get_or ranges i d)) state →
     SharesUpTo a c table last end state (i + 1) (map bytes_of ranges)
 next_shared a b table changed end id i ranges so_far c last state d less step =
     let long : length (map bytes_of ranges) ≡ length ranges = length-map ranges bytes_of in
@@ -171,13 +189,15 @@ module _ (a b c : Assembly) (table kept changed : SlotTable Utf8SuffixKey) (m ne
       let P : Assembly → Type 0 = λ z. z ≡ record a { drafts = z.drafts; groups = z.groups } in
       record {
         settings = subst P (sym r.same) both.settings;
-        cause = step_later a c 0 4 4 4 e (ap (λ (z : Assembly). z.size_limit) both.settings) (omega arith) (omega arith) (omega arith) r.cause;
+        cause = step_later a c 0 4 4 4 e (ap (λ (z : Assembly). z.size_limit) both.settings) (omega arith) (omega arith)
+            (omega arith) r.cause;
       }
 
 -- the last range's state is refused
 pub last_refused : (a b c : Assembly) (table kept : SlotTable Utf8SuffixKey) (m next : ℕ) (rs : List (ℕ × ℕ)) (e : BuildError) →
     SharesRanges m a table b kept next rs → length rs ≤ 3 → Stays b c 1 24 e → Quits a c 4 e
-last_refused a b c table kept m next rs e shares few r = quits_later 4 (ranges_share shares).spent (first_quits 1 r (omega arith) (omega arith)) (omega arith)
+last_refused a b c table kept m next rs e shares few r = quits_later 4 (ranges_share shares).spent
+    (first_quits 1 r (omega arith) (omega arith)) (omega arith)
 
 -- states were added, and the choice may have more ways
 pub record Steps (a b : Assembly) (table changed : SlotTable Utf8SuffixKey) (n : ℕ) : Type 0 where
@@ -186,10 +206,13 @@ pub record Steps (a b : Assembly) (table changed : SlotTable Utf8SuffixKey) (n :
   pub capacity : changed.capacity ≡ table.capacity
   pub ready : StaysReady table changed
 
-steps_then : {a b c : Assembly} {t1 t2 t3 : SlotTable Utf8SuffixKey} {n k : ℕ} → Steps a b t1 t2 n → Steps b c t2 t3 k → Steps a c t1 t3 (n + k)
-steps_then x y = record { spent = spent_then x.spent y.spent; groups = y.groups ∙ x.groups; capacity = y.capacity ∙ x.capacity; ready = λ e. y.ready (x.ready e) }
+steps_then : {a b c : Assembly} {t1 t2 t3 : SlotTable Utf8SuffixKey} {n k : ℕ} → Steps a b t1 t2 n → Steps b c t2 t3 k →
+    Steps a c t1 t3 (n + k)
+steps_then x y = record { spent = spent_then x.spent y.spent; groups = y.groups ∙ x.groups; capacity = y.capacity ∙ x.capacity;
+    ready = λ e. y.ready (x.ready e) }
 
-pub sequence_steps : {a b : Assembly} {table changed : SlotTable Utf8SuffixKey} {u m : ℕ} {rs : List (ℕ × ℕ)} → AddsSequence a b table changed u m rs → Steps a b table changed 4
+pub sequence_steps : {a b : Assembly} {table changed : SlotTable Utf8SuffixKey} {u m : ℕ} {rs : List (ℕ × ℕ)} →
+    AddsSequence a b table changed u m rs → Steps a b table changed 4
 sequence_steps {a} {b} {table} {changed} {u} {m} {rs} one =
     let s = ranges_share one.shares in
     let x = one.adds in
@@ -202,9 +225,11 @@ sequence_steps {a} {b} {table} {changed} {u} {m} {rs} one =
       ready = λ e. ready_added x (s.ready e);
     }
 
-pub sequences_steps : {u m : ℕ} {a : Assembly} {table : SlotTable Utf8SuffixKey} {b : Assembly} {changed : SlotTable Utf8SuffixKey} {qs : List (List (ℕ × ℕ))} → AddsSequences u m a table b changed qs →
+pub sequences_steps : {u m : ℕ} {a : Assembly} {table : SlotTable Utf8SuffixKey} {b : Assembly} {changed : SlotTable Utf8SuffixKey}
+    {qs : List (List (ℕ × ℕ))} → AddsSequences u m a table b changed qs →
     Steps a b table changed (4 * length qs)
-sequences_steps {u} {m} {a} {table} sequences_none = record { spent = spent_wider (4 * 0) (spent_none a) (omega arith); groups = refl; capacity = refl; ready = λ e. e }
+sequences_steps {u} {m} {a} {table} sequences_none = record { spent = spent_wider (4 * 0) (spent_none a) (omega arith); groups = refl;
+    capacity = refl; ready = λ e. e }
 sequences_steps {u} {m} {a} {table} (sequences_more mid new kept last qs rs before one) =
     let x = steps_then (sequences_steps before) (sequence_steps one) in
     let sum : 4 * length qs + 4 ≡ 4 * length (qs ++ rs ∷ []) = omega (arith, length-append qs (rs ∷ [])) in
@@ -212,23 +237,28 @@ sequences_steps {u} {m} {a} {table} (sequences_more mid new kept last qs rs befo
     subst P sum x
 
 -- the choice can be led on still
-pub sequences_kind : (u m : ℕ) (a : Assembly) (table : SlotTable Utf8SuffixKey) (b : Assembly) (changed : SlotTable Utf8SuffixKey) (qs : List (List (ℕ × ℕ))) →
-    AddsSequences u m a table b changed qs → u < length a.drafts → is_sparse (draft_at a.drafts u) ≡ false → is_sparse (draft_at b.drafts u) ≡ false
+pub sequences_kind : (u m : ℕ) (a : Assembly) (table : SlotTable Utf8SuffixKey) (b : Assembly) (changed : SlotTable Utf8SuffixKey)
+    (qs : List (List (ℕ × ℕ))) →
+    AddsSequences u m a table b changed qs → u < length a.drafts → is_sparse (draft_at a.drafts u) ≡ false →
+        is_sparse (draft_at b.drafts u) ≡ false
 sequences_kind u m a table _ _ _ sequences_none l kind = kind
 sequences_kind u m a table _ _ _ (sequences_more mid new kept last qs rs before one) l kind =
     let longer = (sequences_steps before).spent.longer in
     ap is_sparse one.leads.here ∙ kind_patched one.first (draft_at one.whole.drafts u)
-    ∙ still_kind mid one.shared one.whole kept one.kept last m one.next one.first one.others one.last one.shares one.adds u (omega arith) (sequences_kind u m a table mid kept qs before l kind)
+    ∙ still_kind mid one.shared one.whole kept one.kept last m one.next one.first one.others one.last one.shares one.adds u (omega arith)
+        (sequences_kind u m a table mid kept qs before l kind)
 
 -- ---- the sequences of a range
 
 -- branches for the sequences that were met, of which `left` are still to come
-pub record MetSequences (a b : Assembly) (table changed : SlotTable Utf8SuffixKey) (u m lo hi : ℕ) (left : List (List (ℕ × ℕ))) : Type 0 where
+pub record MetSequences (a b : Assembly) (table changed : SlotTable Utf8SuffixKey) (u m lo hi : ℕ)
+    (left : List (List (ℕ × ℕ))) : Type 0 where
   pub met : List (List (ℕ × ℕ))
   pub split : met ++ left ≡ utf8_sequences lo hi
   pub added : AddsSequences u m a table b changed met
 
-pub none_met : (a : Assembly) (table : SlotTable Utf8SuffixKey) (u m lo hi : ℕ) (left : List (List (ℕ × ℕ))) → left ≡ utf8_sequences lo hi → MetSequences a a table table u m lo hi left
+pub none_met : (a : Assembly) (table : SlotTable Utf8SuffixKey) (u m lo hi : ℕ) (left : List (List (ℕ × ℕ))) → left ≡ utf8_sequences lo hi →
+    MetSequences a a table table u m lo hi left
 none_met a table u m lo hi left e = record { met = []; split = e; added = sequences_none }
 
 module _ (a b : Assembly) (table changed : SlotTable Utf8SuffixKey) (u m lo hi : ℕ) (left : List (List (ℕ × ℕ)))
@@ -247,7 +277,8 @@ module _ (a b : Assembly) (table changed : SlotTable Utf8SuffixKey) (u m lo hi :
 
   module _ (rest : List (List (ℕ × ℕ))) (rs : List (ℕ × ℕ)) (e : left ≡ rs ∷ rest) where
     place : slice_get (utf8_sequences lo hi) (length so_far.met) ≡ Some rs
-    place = ap (λ (qs : List (List (ℕ × ℕ))). slice_get qs (length so_far.met)) (sym so_far.split ∙ ap (λ (qs : List (List (ℕ × ℕ))). so_far.met ++ qs) e) ∙ got_behind so_far.met rs rest
+    place = ap (λ (qs : List (List (ℕ × ℕ))). slice_get qs (length so_far.met)) (sym so_far.split
+        ∙ ap (λ (qs : List (List (ℕ × ℕ))). so_far.met ++ qs) e) ∙ got_behind so_far.met rs rest
 
     pub met_rising : All (λ r. r.0 ≤ r.1) rs
     met_rising k d l = ((sequence_short lo hi (length so_far.met) rs place).2 k (get_or rs k d) (slice_get-get_or rs k d l)).0
@@ -255,10 +286,12 @@ module _ (a b : Assembly) (table changed : SlotTable Utf8SuffixKey) (u m lo hi :
     pub met_refused : (c : Assembly) (err : BuildError) → Quits b c 4 err → Quits a c (4 * length (utf8_sequences lo hi)) err
     met_refused c err r =
         let sum : length (so_far.met ++ rs ∷ rest) ≡ length so_far.met + length (rs ∷ rest) = length-append so_far.met (rs ∷ rest) in
-        let same : length (so_far.met ++ rs ∷ rest) ≡ length (utf8_sequences lo hi) = ap length (ap (λ (qs : List (List (ℕ × ℕ))). so_far.met ++ qs) (sym e) ∙ so_far.split) in
+        let same : length (so_far.met ++ rs ∷ rest) ≡ length (utf8_sequences lo hi) =
+            ap length (ap (λ (qs : List (List (ℕ × ℕ))). so_far.met ++ qs) (sym e) ∙ so_far.split) in
         quits_later (4 * length (utf8_sequences lo hi)) (sequences_steps so_far.added).spent r (omega (arith, sum, same))
 
-    pub met_next : (c : Assembly) (last : SlotTable Utf8SuffixKey) → AddsSequence b c changed last u m rs → MetSequences a c table last u m lo hi rest
+    pub met_next : (c : Assembly) (last : SlotTable Utf8SuffixKey) → AddsSequence b c changed last u m rs →
+        MetSequences a c table last u m lo hi rest
     met_next c last one = record {
       met = so_far.met ++ rs ∷ [];
       split = append_assoc so_far.met (rs ∷ []) rest ∙ ap (λ (qs : List (List (ℕ × ℕ))). so_far.met ++ qs) (sym e) ∙ so_far.split;
@@ -266,12 +299,14 @@ module _ (a b : Assembly) (table changed : SlotTable Utf8SuffixKey) (u m lo hi :
     }
 
 -- the ranges before the last one, and that one
-pub others_few : (ranges all : List Utf8Range) → ranges ≡ all → length (map bytes_of all) ≤ 4 → length (take (length ranges - 1) (map bytes_of ranges)) ≤ 3
+pub others_few : (ranges all : List Utf8Range) → ranges ≡ all → length (map bytes_of all) ≤ 4 →
+    length (take (length ranges - 1) (map bytes_of ranges)) ≤ 3
 others_few ranges all e few =
     let same : length ranges ≡ length all = ap length e in
     let long : length (map bytes_of all) ≡ length all = length-map all bytes_of in
     let here : length (map bytes_of ranges) ≡ length ranges = length-map ranges bytes_of in
-    let taken : length (take (length ranges - 1) (map bytes_of ranges)) ≡ length ranges - 1 = length-take-le (length ranges - 1) (map bytes_of ranges) (omega (arith, here)) in
+    let taken : length (take (length ranges - 1) (map bytes_of ranges)) ≡ length ranges - 1 =
+        length-take-le (length ranges - 1) (map bytes_of ranges) (omega (arith, here)) in
     omega (arith, taken, same, long, few)
 
 pub last_rising : (ranges all : List Utf8Range) (d : Utf8Range) → ranges ≡ all → 1 ≤ length (map bytes_of all) →

@@ -1,5 +1,6 @@
 -- The sequences of a trie, one after the other: what a compile of them asks of the next.
-use Rattle.std.proofs.Common.{◌≡◌, ℕ, zero, suc, ◌+◌, ◌<◌, ◌≤◌, List, [], ◌∷◌, ◌++◌, map, length, get_or, take, refl, sym, ap, ◌∙◌, subst, arith, length-take}
+use Rattle.std.proofs.Common.{◌≡◌, ℕ, zero, suc, ◌+◌, ◌<◌, ◌≤◌, List, [], ◌∷◌, ◌++◌, map, length, get_or, take, refl, sym, ap, ◌∙◌, subst}
+use Rattle.std.proofs.Common.{arith, length-take}
 use Rattle.std.proofs.lemmas.List.{take_more, take_all, get_or-map, length-map}
 use Rattle.std.specs.Prelude.{Vec}
 use Rattle.std.specs.declared.alloc.Global.{Global}
@@ -37,7 +38,8 @@ abbrev path_of_items : Vec Utf8Range Global → List (ℕ × ℕ)
 path_of_items v = map bytes_of v.items
 
 -- the path v at the place, as it is shown
-module _ (paths : List (Vec Utf8Range Global)) (i : ℕ) (v : Vec Utf8Range Global) (shown : List Utf8Range) (less : i < length paths) (is : v ≡ get_or paths i v) (value : shown ≡ v.items) where
+module _ (paths : List (Vec Utf8Range Global)) (i : ℕ) (v : Vec Utf8Range Global) (shown : List Utf8Range) (less : i < length paths)
+    (is : v ≡ get_or paths i v) (value : shown ≡ v.items) where
   inside : i < length (paths_of paths)
   inside = let n = length-map paths path_of_items in omega (arith, n, less)
 
@@ -48,8 +50,10 @@ module _ (paths : List (Vec Utf8Range Global)) (i : ℕ) (v : Vec Utf8Range Glob
       ∙ ap path_of_items (sym is)
       ∙ ap (map bytes_of) (sym value)
 
-  pub path_bytes : IsTrie (paths_of paths) → ((k : ℕ) → k < length (paths_of paths) → IsShort (get_or (paths_of paths) k [])) → AreBytes (map bytes_of shown)
-  path_bytes t short = subst AreBytes path_here (ranges_of_bytes (get_or (paths_of paths) i []) (ranges_at (paths_of paths) i t inside) (short i inside).2)
+  pub path_bytes : IsTrie (paths_of paths) → ((k : ℕ) → k < length (paths_of paths) → IsShort (get_or (paths_of paths) k [])) →
+      AreBytes (map bytes_of shown)
+  path_bytes t short = subst AreBytes path_here (ranges_of_bytes (get_or (paths_of paths) i []) (ranges_at (paths_of paths) i t inside)
+      (short i inside).2)
 
   pub path_some : ((k : ℕ) → k < length (paths_of paths) → IsShort (get_or (paths_of paths) k [])) → 1 ≤ length shown
   path_some short = let s = (short i inside).0 in let e = ap length path_here in let n = length-map shown bytes_of in omega (arith, s, e, n)

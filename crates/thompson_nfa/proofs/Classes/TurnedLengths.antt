@@ -1,9 +1,11 @@
 -- Each sequence of a trie with the strings of a class, turned round, has one to four ranges of bytes: its greatest string is a
 -- spelling turned round.
-use Rattle.std.proofs.Common.{◌≡◌, inl, inr, ℕ, zero, suc, ◌<◌, ◌≤◌, List, [], ◌∷◌, ◌++◌, reverse, length, get_or, true, refl, sym, ap, ◌∙◌, arith, subst}
+use Rattle.std.proofs.Common.{◌≡◌, inl, inr, ℕ, zero, suc, ◌<◌, ◌≤◌, List, [], ◌∷◌, ◌++◌, reverse, length, get_or, true, refl, sym, ap, ◌∙◌}
+use Rattle.std.proofs.Common.{arith, subst}
 use Rattle.std.proofs.lemmas.List.{reverse-append, reverse-reverse, length-reverse}
 use Rattle.search_core.specs.Utf8.{Spells}
-use Rattle.search_core.specs.Utf8.Spells.{from_0000, from_0080, from_0800, from_1000, from_d000, from_e000, from_10000, from_40000, from_100000}
+use Rattle.search_core.specs.Utf8.Spells.{from_0000, from_0080, from_0800, from_1000, from_d000, from_e000, from_10000, from_40000}
+use Rattle.search_core.specs.Utf8.Spells.{from_100000}
 use Rattle.hir_core.specs.Sequences.{is_in_ranges}
 use Rattle.hir_core.specs.BySequences.{sequences_of}
 use Rattle.thompson_nfa.specs.RangeTries.{IsIn, AreRanges, IsTrie}
@@ -49,7 +51,8 @@ spelling_short c s (from_d000 a b d r t u e v) = subst IsShortString (sym e) (sh
 spelling_short c s (from_e000 a b d r t u e v) = subst IsShortString (sym e) (short_three a b d (omega (arith, r.1)) t.1 u.1)
 spelling_short c s (from_10000 a b d f r t u w e v) = subst IsShortString (sym e) (short_four a b d f (omega (arith, r)) t.1 u.1 w.1)
 spelling_short c s (from_40000 a b d f r t u w e v) = subst IsShortString (sym e) (short_four a b d f (omega (arith, r.1)) t.1 u.1 w.1)
-spelling_short c s (from_100000 a b d f r t u w e v) = subst IsShortString (sym e) (short_four a b d f (omega (arith, r)) (omega (arith, t.1)) u.1 w.1)
+spelling_short c s (from_100000 a b d f r t u w e v) = subst IsShortString (sym e)
+    (short_four a b d f (omega (arith, r)) (omega (arith, t.1)) u.1 w.1)
 
 -- the greatest string of a sequence
 abbrev highest : List (ℕ × ℕ) → List ℕ
@@ -75,12 +78,15 @@ short_of rs q h =
     let long : length (reverse (highest q)) ≡ length q = length-reverse (highest q) ∙ as_long q in
     let some = short.0 in
     let few = short.1 in
-    (omega (arith, some, long), omega (arith, few, long), ranges_of_bytes q (subst AreBytes (reverse-reverse (highest q)) (bytes_turned (reverse (highest q)) short.2)))
+    (omega (arith, some, long), omega (arith, few, long), ranges_of_bytes q
+        (subst AreBytes (reverse-reverse (highest q)) (bytes_turned (reverse (highest q)) short.2)))
 
-all_short : (rs : List (ℕ × ℕ)) (qs : List (List (ℕ × ℕ))) → IsTrie qs → ((s : List ℕ) → IsIn qs s → IsIn (turned_round (sequences_of rs)) s) → (k : ℕ) → k < length qs → IsShort (get_or qs k [])
+all_short : (rs : List (ℕ × ℕ)) (qs : List (List (ℕ × ℕ))) → IsTrie qs →
+    ((s : List ℕ) → IsIn qs s → IsIn (turned_round (sequences_of rs)) s) → (k : ℕ) → k < length qs → IsShort (get_or qs k [])
 all_short rs [] t f k l = absurd (omega (arith, l))
 all_short rs (q ∷ qs) t f zero l = short_of rs q (f (highest q) (inl (highest_in q t.0)))
 all_short rs (q ∷ qs) t f (suc k) l = all_short rs qs t.2 (λ s h. f s (inr h)) k (omega (arith, l))
 
-pub turned_short : (qs : List (List (ℕ × ℕ))) (rs : List (ℕ × ℕ)) → IsTrie qs → HasTurned qs (sequences_of rs) → (k : ℕ) → k < length qs → IsShort (get_or qs k [])
+pub turned_short : (qs : List (List (ℕ × ℕ))) (rs : List (ℕ × ℕ)) → IsTrie qs → HasTurned qs (sequences_of rs) → (k : ℕ) → k < length qs →
+    IsShort (get_or qs k [])
 turned_short qs rs t h k l = all_short rs qs t h.only k l

@@ -1,9 +1,11 @@
 -- Strings turned round, and the spellings of scalars turned round: none of them is a proper prefix of another.
-use Rattle.std.proofs.Common.{◌≡◌, inl, inr, ℕ, suc, ◌≤◌, List, [], ◌∷◌, ◌++◌, reverse, slice_get, Some, true, refl, sym, ap₂, ◌∙◌, arith, subst}
+use Rattle.std.proofs.Common.{◌≡◌, inl, inr, ℕ, suc, ◌≤◌, List, [], ◌∷◌, ◌++◌, reverse, slice_get, Some, true, refl, sym, ap₂, ◌∙◌, arith}
+use Rattle.std.proofs.Common.{subst}
 use Rattle.std.proofs.lemmas.Bool.{false≢true}
 use Rattle.std.proofs.lemmas.List.{reverse-append, reverse-reverse}
 use Rattle.search_core.specs.Utf8.{Spells}
-use Rattle.search_core.specs.Utf8.Spells.{from_0000, from_0080, from_0800, from_1000, from_d000, from_e000, from_10000, from_40000, from_100000}
+use Rattle.search_core.specs.Utf8.Spells.{from_0000, from_0080, from_0800, from_1000, from_d000, from_e000, from_10000, from_40000}
+use Rattle.search_core.specs.Utf8.Spells.{from_100000}
 use Rattle.hir_core.specs.Sequences.{is_in_ranges, utf8_sequences}
 use Rattle.hir_core.proofs.ForCallers.{string_is_spelling}
 use Rattle.thompson_nfa.specs.RangeTries.{IsIn, IsApart}
@@ -13,7 +15,8 @@ use Rattle.thompson_nfa.proofs.Tries.TrieLemmas.{spelled, spells}
 -- ---- strings of sequences turned round
 
 -- one more byte in one more range
-in_push : (q : List (ℕ × ℕ)) (s : List ℕ) (r : ℕ × ℕ) (b : ℕ) → is_in_ranges q s ≡ true → is_in_ranges (r ∷ []) (b ∷ []) ≡ true → is_in_ranges (q ++ r ∷ []) (s ++ b ∷ []) ≡ true
+in_push : (q : List (ℕ × ℕ)) (s : List ℕ) (r : ℕ × ℕ) (b : ℕ) → is_in_ranges q s ≡ true → is_in_ranges (r ∷ []) (b ∷ []) ≡ true →
+    is_in_ranges (q ++ r ∷ []) (s ++ b ∷ []) ≡ true
 in_push [] [] r b e f = f
 in_push [] (x ∷ s) r b e f = absurd (false≢true e)
 in_push (x ∷ q) [] r b e f = absurd (false≢true e)
@@ -52,7 +55,8 @@ two_turned a b l m n = (m, omega arith, inr l)
 three_turned : (a b d : ℕ) → 192 ≤ a → 128 ≤ b → b ≤ 191 → 128 ≤ d → d ≤ 191 → IsTurnedSpelling (reverse (a ∷ b ∷ d ∷ []))
 three_turned a b d l m n o p = (o, omega arith, (m, omega arith, inr l))
 
-four_turned : (a b d f : ℕ) → 192 ≤ a → 128 ≤ b → b ≤ 191 → 128 ≤ d → d ≤ 191 → 128 ≤ f → f ≤ 191 → IsTurnedSpelling (reverse (a ∷ b ∷ d ∷ f ∷ []))
+four_turned : (a b d f : ℕ) → 192 ≤ a → 128 ≤ b → b ≤ 191 → 128 ≤ d → d ≤ 191 → 128 ≤ f → f ≤ 191 →
+    IsTurnedSpelling (reverse (a ∷ b ∷ d ∷ f ∷ []))
 four_turned a b d f l m n o p q r = (q, omega arith, (o, omega arith, (m, omega arith, inr l)))
 
 pub spelling_turned : (c : ℕ) (s : List ℕ) → Spells c s → IsTurnedSpelling (reverse s)
@@ -62,9 +66,11 @@ spelling_turned c s (from_0800 a b d r t u e v) = by_form s _ e (three_turned a 
 spelling_turned c s (from_1000 a b d r t u e v) = by_form s _ e (three_turned a b d (omega (arith, r.0)) t.0 t.1 u.0 u.1)
 spelling_turned c s (from_d000 a b d r t u e v) = by_form s _ e (three_turned a b d (omega (arith, r)) t.0 (omega (arith, t.1)) u.0 u.1)
 spelling_turned c s (from_e000 a b d r t u e v) = by_form s _ e (three_turned a b d (omega (arith, r.0)) t.0 t.1 u.0 u.1)
-spelling_turned c s (from_10000 a b d f r t u w e v) = by_form s _ e (four_turned a b d f (omega (arith, r)) (omega (arith, t.0)) t.1 u.0 u.1 w.0 w.1)
+spelling_turned c s (from_10000 a b d f r t u w e v) = by_form s _ e (four_turned a b d f (omega (arith, r)) (omega (arith,
+    t.0)) t.1 u.0 u.1 w.0 w.1)
 spelling_turned c s (from_40000 a b d f r t u w e v) = by_form s _ e (four_turned a b d f (omega (arith, r.0)) t.0 t.1 u.0 u.1 w.0 w.1)
-spelling_turned c s (from_100000 a b d f r t u w e v) = by_form s _ e (four_turned a b d f (omega (arith, r)) t.0 (omega (arith, t.1)) u.0 u.1 w.0 w.1)
+spelling_turned c s (from_100000 a b d f r t u w e v) = by_form s _ e (four_turned a b d f (omega (arith, r)) t.0 (omega (arith,
+    t.1)) u.0 u.1 w.0 w.1)
 
 -- no such string begins a longer one
 no_longer : (s rest : List ℕ) → IsTurnedSpelling s → IsTurnedSpelling (s ++ rest) → rest ≡ []
@@ -84,7 +90,8 @@ turned_apart qs ranges old new = record {
 -- ---- the sequences of a range of scalars
 
 -- the place of a sequence that has the string
-pub in_place : (ss : List (List (ℕ × ℕ))) (s : List ℕ) → IsIn ss s → (i : ℕ) × (q : List (ℕ × ℕ)) × (slice_get ss i ≡ Some q) × (is_in_ranges q s ≡ true)
+pub in_place : (ss : List (List (ℕ × ℕ))) (s : List ℕ) → IsIn ss s → (i : ℕ) × (q : List (ℕ × ℕ)) × (slice_get ss i ≡ Some q) ×
+    (is_in_ranges q s ≡ true)
 in_place [] s h = absurd h
 in_place (q ∷ ss) s h = elim h [
   | inl here ↦ (0, q, refl, here)
@@ -94,7 +101,8 @@ in_place (q ∷ ss) s h = elim h [
 pub strings_spell : (lo hi : ℕ) (s : List ℕ) → IsIn (utf8_sequences lo hi) s → (c : ℕ) × (lo ≤ c) × (c ≤ hi) × Spells c s
 strings_spell lo hi s h = let p = in_place (utf8_sequences lo hi) s h in string_is_spelling lo hi p.0 p.1 s p.2 p.3
 
-pub turned_spell : (lo hi i : ℕ) (q : List (ℕ × ℕ)) → slice_get (utf8_sequences lo hi) i ≡ Some q → (s : List ℕ) → is_in_ranges (reverse q) s ≡ true → IsTurnedSpelling s
+pub turned_spell : (lo hi i : ℕ) (q : List (ℕ × ℕ)) → slice_get (utf8_sequences lo hi) i ≡ Some q → (s : List ℕ) →
+    is_in_ranges (reverse q) s ≡ true → IsTurnedSpelling s
 turned_spell lo hi i q e s h =
     let p = string_is_spelling lo hi i q (reverse s) e (turned_in q s h) in
     subst IsTurnedSpelling (reverse-reverse s) (spelling_turned p.0 (reverse s) p.3)

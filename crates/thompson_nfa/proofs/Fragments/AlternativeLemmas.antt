@@ -1,5 +1,6 @@
 -- Fragments of alternations: the parts so far.
-use Rattle.std.proofs.Common.{◌≡◌, ℕ, zero, suc, ◌+◌, ◌*◌, ◌<◌, ◌≤◌, Bool, true, List, [], ◌∷◌, ◌++◌, length, take, drop, get_or, sym, ap, ◌∙◌, subst, arith, drop_of_length-le, false}
+use Rattle.std.proofs.Common.{◌≡◌, ℕ, zero, suc, ◌+◌, ◌*◌, ◌<◌, ◌≤◌, Bool, true, List, [], ◌∷◌, ◌++◌, length, take, drop, get_or, sym, ap}
+use Rattle.std.proofs.Common.{◌∙◌, subst, arith, drop_of_length-le, false}
 use Rattle.std.proofs.lemmas.List.{take_more, take_all}
 use Rattle.search_types.specs.Groups.{Groups}
 use Rattle.hir_core.specs.Tree.{Tree, alternation}
@@ -18,13 +19,15 @@ use Rattle.thompson_nfa.proofs.Fragments.TurnLemmas.{first_left}
 use Rattle.thompson_nfa.proofs.Fragments.BranchLemmas.{Branches, branches_open, branches_then, branches_made, branches_does}
 use Rattle.thompson_nfa.proofs.Fragments.RepeatLemmas.{choice_then, empty_then}
 use Rattle.thompson_nfa.proofs.Fragments.ConcatLemmas.{rooms, room_of_alternation, alternation_includes}
-use Rattle.thompson_nfa.proofs.Steps.ProgressLemmas.{Progress, first_made, then_made, then_led, made_capped, then_quits, refuses, then_refuses, first_refuses}
+use Rattle.thompson_nfa.proofs.Steps.ProgressLemmas.{Progress, first_made, then_made, then_led, made_capped, then_quits, refuses}
+use Rattle.thompson_nfa.proofs.Steps.ProgressLemmas.{then_refuses, first_refuses}
 
 pub record Cases (how : How) (old mid : Assembly) (u z i : ℕ) (xs : List Tree) : Type 0 where
   pub n : ℕ
   pub branches : Branches old mid u z n (take i xs)
   pub fits : n + rooms how.shrink (drop i xs) ≤ rooms how.shrink xs + 2
-  pub groups : noted how.which (length old.starts) (alternation (drop i xs)) mid.groups ≡ noted how.which (length old.starts) (alternation xs) old.groups
+  pub groups : noted how.which (length old.starts) (alternation (drop i xs)) mid.groups ≡ noted how.which (length old.starts)
+      (alternation xs) old.groups
 
 -- the list begins with these two
 two_first : (xs : List Tree) (x y : Tree) → 1 < length xs → x ≡ get_or xs 0 x → y ≡ get_or xs 1 y → xs ≡ x ∷ y ∷ drop 2 xs
@@ -32,15 +35,19 @@ two_first [] x y l a b = absurd (omega arith)
 two_first (p ∷ []) x y l a b = absurd (omega arith)
 two_first (p ∷ q ∷ xs) x y l a b = ap (λ k. k ∷ q ∷ xs) (sym a) ∙ ap (λ k. x ∷ k ∷ xs) (sym b)
 
-module _ (how : How) (t0 t1 t2 : Assembly) (s1 e1 s2 e2 : ℕ) (x y : Tree) (xs : List Tree) (two : 1 < length xs) (is_x : x ≡ get_or xs 0 x) (is_y : y ≡ get_or xs 1 y)
+module _ (how : How) (t0 t1 t2 : Assembly) (s1 e1 s2 e2 : ℕ) (x y : Tree) (xs : List Tree) (two : 1 < length xs) (is_x : x ≡ get_or xs 0 x)
+    (is_y : y ≡ get_or xs 1 y)
     (first : Makes t0 t1 s1 e1 (room how.shrink x)) where
   counted : rooms how.shrink xs ≡ room how.shrink x + (room how.shrink y + rooms how.shrink (drop 2 xs))
   counted = ap (rooms how.shrink) (two_first xs x y two is_x is_y)
 
-  pub second_refused : (new : Assembly) (e : BuildError) → Refuses how.which t1 new (room how.shrink y) y e → Refuses how.which t0 new (room how.shrink (alternation xs)) (alternation xs) e
+  pub second_refused : (new : Assembly) (e : BuildError) → Refuses how.which t1 new (room how.shrink y) y e →
+      Refuses how.which t0 new (room how.shrink (alternation xs)) (alternation xs) e
   second_refused new e r =
       let c = room_of_alternation how.shrink xs in let d = counted in
-      first_refuses (room how.shrink (alternation xs)) (alternation xs) (then_refuses (rooms how.shrink xs) (alternation xs) (first_made first) r (alternation_includes how.which xs 1 y two is_y) (omega arith)) (λ index h. h) (omega arith)
+      first_refuses (room how.shrink (alternation xs)) (alternation xs)
+          (then_refuses (rooms how.shrink xs) (alternation xs) (first_made first) r (alternation_includes how.which xs 1 y two is_y)
+          (omega arith)) (λ index h. h) (omega arith)
 
   module _ (second : Makes t1 t2 s2 e2 (room how.shrink y)) where
     -- a step behind the first two parts is refused
@@ -49,40 +56,53 @@ module _ (how : How) (t0 t1 t2 : Assembly) (s1 e1 s2 e2 : ℕ) (x y : Tree) (xs 
         Refuses how.which t0 new (room how.shrink (alternation xs)) (alternation xs) e
     later_refused p r le lb =
         let c = room_of_alternation how.shrink xs in let d = counted in
-        refuses how.which (room how.shrink (alternation xs)) (alternation xs) (then_quits (rooms how.shrink xs + 2) p r (omega arith) lb) (omega arith)
+        refuses how.which (room how.shrink (alternation xs)) (alternation xs) (then_quits (rooms how.shrink xs + 2) p r (omega arith) lb)
+            (omega arith)
 
     begun : Progress false t0 t2 (room how.shrink x + room how.shrink y) 8
     begun = then_made 8 (first_made first) second (omega arith)
 
-    pub union_refused : (new : Assembly) (e : BuildError) → Stays t2 new 1 24 e → Refuses how.which t0 new (room how.shrink (alternation xs)) (alternation xs) e
+    pub union_refused : (new : Assembly) (e : BuildError) → Stays t2 new 1 24 e →
+        Refuses how.which t0 new (room how.shrink (alternation xs)) (alternation xs) e
     union_refused new e r = later_refused begun r (omega arith) (omega arith)
 
-    pub end_refused : (t3 new : Assembly) (u : ℕ) (e : BuildError) → Added t2 t3 u (union_draft []) t2.groups → Stays t3 new 1 24 e → Refuses how.which t0 new (room how.shrink (alternation xs)) (alternation xs) e
+    pub end_refused : (t3 new : Assembly) (u : ℕ) (e : BuildError) → Added t2 t3 u (union_draft []) t2.groups → Stays t3 new 1 24 e →
+        Refuses how.which t0 new (room how.shrink (alternation xs)) (alternation xs) e
     end_refused t3 new u e union r = later_refused (choice_then true begun union) r (omega arith) (omega arith)
 
-    module _ (t3 t4 : Assembly) (u z : ℕ) (union : Added t2 t3 u (union_draft []) t2.groups) (last : Added t3 t4 z (empty_draft 0) t3.groups) where
+    module _ (t3 t4 : Assembly) (u z : ℕ) (union : Added t2 t3 u (union_draft []) t2.groups)
+        (last : Added t3 t4 z (empty_draft 0) t3.groups) where
       both : Progress false t0 t4 (room how.shrink x + room how.shrink y + 1 + 1) 4000
       both = empty_then (choice_then true begun union) last
 
-      pub first_lead_refused : (new : Assembly) (e : BuildError) → Stays t4 new 0 4 e → Refuses how.which t0 new (room how.shrink (alternation xs)) (alternation xs) e
+      pub first_lead_refused : (new : Assembly) (e : BuildError) → Stays t4 new 0 4 e →
+          Refuses how.which t0 new (room how.shrink (alternation xs)) (alternation xs) e
       first_lead_refused new e r = later_refused both r (omega arith) (omega arith)
 
-      pub second_lead_refused : (t5 new : Assembly) (e : BuildError) → Led t4 t5 u s1 → Stays t5 new 0 4 e → Refuses how.which t0 new (room how.shrink (alternation xs)) (alternation xs) e
-      second_lead_refused t5 new e p5 r = later_refused (then_led 20 both p5 (omega arith) (omega arith) (omega arith)) r (omega arith) (omega arith)
+      pub second_lead_refused : (t5 new : Assembly) (e : BuildError) → Led t4 t5 u s1 → Stays t5 new 0 4 e →
+          Refuses how.which t0 new (room how.shrink (alternation xs)) (alternation xs) e
+      second_lead_refused t5 new e p5 r = later_refused (then_led 20 both p5 (omega arith) (omega arith) (omega arith)) r (omega arith)
+          (omega arith)
 
-      pub third_lead_refused : (t5 t6 new : Assembly) (e : BuildError) → Led t4 t5 u s1 → Led t5 t6 e1 z → Stays t6 new 0 4 e → Refuses how.which t0 new (room how.shrink (alternation xs)) (alternation xs) e
+      pub third_lead_refused : (t5 t6 new : Assembly) (e : BuildError) → Led t4 t5 u s1 → Led t5 t6 e1 z → Stays t6 new 0 4 e →
+          Refuses how.which t0 new (room how.shrink (alternation xs)) (alternation xs) e
       third_lead_refused t5 t6 new e p5 p6 r =
-          later_refused (then_led 16 (then_led 20 both p5 (omega arith) (omega arith) (omega arith)) p6 (omega arith) (omega arith) (omega arith)) r (omega arith) (omega arith)
+          later_refused (then_led 16 (then_led 20 both p5 (omega arith) (omega arith) (omega arith)) p6 (omega arith) (omega arith)
+              (omega arith)) r (omega arith) (omega arith)
 
-      pub fourth_lead_refused : (t5 t6 t7 new : Assembly) (e : BuildError) → Led t4 t5 u s1 → Led t5 t6 e1 z → Led t6 t7 u s2 → Stays t7 new 0 4 e →
+      pub fourth_lead_refused : (t5 t6 t7 new : Assembly) (e : BuildError) → Led t4 t5 u s1 → Led t5 t6 e1 z → Led t6 t7 u s2 →
+          Stays t7 new 0 4 e →
           Refuses how.which t0 new (room how.shrink (alternation xs)) (alternation xs) e
       fourth_lead_refused t5 t6 t7 new e p5 p6 p7 r =
-          later_refused (then_led 12 (then_led 16 (then_led 20 both p5 (omega arith) (omega arith) (omega arith)) p6 (omega arith) (omega arith) (omega arith)) p7 (omega arith) (omega arith) (omega arith))
+          later_refused (then_led 12 (then_led 16 (then_led 20 both p5 (omega arith) (omega arith) (omega arith)) p6 (omega arith)
+              (omega arith) (omega arith)) p7 (omega arith) (omega arith) (omega arith))
           r (omega arith) (omega arith)
 
-    module _ (t3 t4 t5 t6 t7 t8 : Assembly) (u z : ℕ) (union : Added t2 t3 u (union_draft []) t2.groups) (last : Added t3 t4 z (empty_draft 0) t3.groups) (p5 : Led t4 t5 u s1) (p6 : Led t5 t6 e1 z)
+    module _ (t3 t4 t5 t6 t7 t8 : Assembly) (u z : ℕ) (union : Added t2 t3 u (union_draft []) t2.groups)
+        (last : Added t3 t4 z (empty_draft 0) t3.groups) (p5 : Led t4 t5 u s1) (p6 : Led t5 t6 e1 z)
         (p7 : Led t6 t7 u s2) (p8 : Led t7 t8 e2 z) where
-      pub cases_open : Does t0 t1 s1 e1 x → Does t1 t2 s2 e2 y → t1.groups ≡ noted how.which (length t0.starts) x t0.groups → t2.groups ≡ noted how.which (length t1.starts) y t1.groups →
+      pub cases_open : Does t0 t1 s1 e1 x → Does t1 t2 s2 e2 y → t1.groups ≡ noted how.which (length t0.starts) x t0.groups →
+          t2.groups ≡ noted how.which (length t1.starts) y t1.groups →
           Cases how t0 t8 u z 2 xs
       cases_open does1 does2 g1 g2 =
           let same = two_first xs x y two is_x is_y in
@@ -91,17 +111,22 @@ module _ (how : How) (t0 t1 t2 : Assembly) (s1 e1 s2 e2 : ℕ) (x y : Tree) (xs 
           let front : x ∷ y ∷ [] ≡ take 2 xs = sym (ap (take 2) same) in
           let starts : length t1.starts ≡ length t0.starts = ap (λ (b : Assembly). length b.starts) first.fragment.grows.settings in
           let groups : t8.groups ≡ noted how.which (length t0.starts) y (noted how.which (length t0.starts) x t0.groups) =
-          ap (λ (b : Assembly). b.groups) p8.settings ∙ ap (λ (b : Assembly). b.groups) p7.settings ∙ ap (λ (b : Assembly). b.groups) p6.settings ∙ ap (λ (b : Assembly). b.groups) p5.settings
-          ∙ last.groups_are ∙ union.groups_are ∙ g2 ∙ ap (λ p. noted how.which p y t1.groups) starts ∙ ap (noted how.which (length t0.starts) y) g1 in
+          ap (λ (b : Assembly). b.groups) p8.settings ∙ ap (λ (b : Assembly). b.groups) p7.settings
+              ∙ ap (λ (b : Assembly). b.groups) p6.settings ∙ ap (λ (b : Assembly). b.groups) p5.settings
+          ∙ last.groups_are ∙ union.groups_are ∙ g2 ∙ ap (λ p. noted how.which p y t1.groups) starts
+              ∙ ap (noted how.which (length t0.starts) y) g1 in
           record {
             n = room how.shrink x + room how.shrink y + 1 + 1;
-            branches = subst P front (branches_open t0 t1 t2 t3 t4 t5 t6 t7 t8 s1 e1 (room how.shrink x) s2 e2 (room how.shrink y) u z x y first second union last p5 p6 p7 p8 does1 does2);
+            branches = subst P front (branches_open t0 t1 t2 t3 t4 t5 t6 t7 t8 s1 e1 (room how.shrink x) s2 e2
+                (room how.shrink y) u z x y first second union last p5 p6 p7 p8 does1 does2);
             fits = omega arith;
-            groups = ap (noted how.which (length t0.starts) (alternation (drop 2 xs))) groups ∙ sym (ap (λ ys. noted how.which (length t0.starts) (alternation ys) t0.groups) same);
+            groups = ap (noted how.which (length t0.starts) (alternation (drop 2 xs))) groups
+                ∙ sym (ap (λ ys. noted how.which (length t0.starts) (alternation ys) t0.groups) same);
           }
 
 module _ (how : How) (old b : Assembly) (u z i : ℕ) (xs : List Tree) (cs : Cases how old b u z i xs) where
-  pub cases_then : (c d f : Assembly) (s e : ℕ) (x : Tree) → i < length xs → x ≡ get_or xs i x → Makes b c s e (room how.shrink x) → Does b c s e x → c.groups ≡ noted how.which (length b.starts) x b.groups →
+  pub cases_then : (c d f : Assembly) (s e : ℕ) (x : Tree) → i < length xs → x ≡ get_or xs i x → Makes b c s e (room how.shrink x) →
+      Does b c s e x → c.groups ≡ noted how.which (length b.starts) x b.groups →
       Led c d u s → Led d f e z → Cases how old f u z (i + 1) xs
   cases_then c d f s e x l is m does g p1 p2 =
       let fits = cs.fits in
@@ -109,46 +134,61 @@ module _ (how : How) (old b : Assembly) (u z i : ℕ) (xs : List Tree) (cs : Cas
       let counted : rooms how.shrink (drop i xs) ≡ room how.shrink x + rooms how.shrink (drop (i + 1) xs) = ap (rooms how.shrink) split in
       let P : List Tree → Type 0 = λ ys. Branches old f u z (cs.n + room how.shrink x) ys in
       let more : take i xs ++ x ∷ [] ≡ take (i + 1) xs = ap (λ (y : Tree). take i xs ++ y ∷ []) is ∙ sym (take_more xs i x l) in
-      let starts : length b.starts ≡ length old.starts = ap (λ (w : Assembly). length w.starts) cs.branches.progress.partly.grows.settings in
+      let starts : length b.starts ≡ length old.starts = ap (λ (w : Assembly). length w.starts)
+          cs.branches.progress.partly.grows.settings in
       let groups : f.groups ≡ noted how.which (length old.starts) x b.groups =
-      ap (λ (w : Assembly). w.groups) p2.settings ∙ ap (λ (w : Assembly). w.groups) p1.settings ∙ g ∙ ap (λ p. noted how.which p x b.groups) starts in
+      ap (λ (w : Assembly). w.groups) p2.settings ∙ ap (λ (w : Assembly). w.groups) p1.settings ∙ g
+          ∙ ap (λ p. noted how.which p x b.groups) starts in
       record {
         n = cs.n + room how.shrink x;
         branches = subst P more (branches_then old b c d f u z cs.n s e (room how.shrink x) (take i xs) x cs.branches m p1 p2 does);
         fits = omega arith;
-        groups = ap (noted how.which (length old.starts) (alternation (drop (i + 1) xs))) groups ∙ sym (ap (λ ys. noted how.which (length old.starts) (alternation ys) b.groups) split) ∙ cs.groups;
+        groups = ap (noted how.which (length old.starts) (alternation (drop (i + 1) xs))) groups
+            ∙ sym (ap (λ ys. noted how.which (length old.starts) (alternation ys) b.groups) split) ∙ cs.groups;
       }
 
-  pub cases_refused : (new : Assembly) (x : Tree) (e : BuildError) → i < length xs → x ≡ get_or xs i x → Refuses how.which b new (room how.shrink x) x e → Refuses how.which old new (room how.shrink (alternation xs)) (alternation xs) e
+  pub cases_refused : (new : Assembly) (x : Tree) (e : BuildError) → i < length xs → x ≡ get_or xs i x →
+      Refuses how.which b new (room how.shrink x) x e → Refuses how.which old new (room how.shrink (alternation xs)) (alternation xs) e
   cases_refused new x e l is r =
       let fits = cs.fits in
-      let counted : rooms how.shrink (drop i xs) ≡ room how.shrink x + rooms how.shrink (drop (i + 1) xs) = ap (rooms how.shrink) (first_left xs i x x l is) in
+      let counted : rooms how.shrink (drop i xs) ≡ room how.shrink x + rooms how.shrink (drop (i + 1) xs) =
+          ap (rooms how.shrink) (first_left xs i x x l is) in
       let c = room_of_alternation how.shrink xs in
-      first_refuses (room how.shrink (alternation xs)) (alternation xs) (then_refuses (rooms how.shrink xs + 2) (alternation xs) cs.branches.progress r (alternation_includes how.which xs i x l is) (omega arith)) (λ index h. h) (omega arith)
+      first_refuses (room how.shrink (alternation xs)) (alternation xs)
+          (then_refuses (rooms how.shrink xs + 2) (alternation xs) cs.branches.progress r (alternation_includes how.which xs i x l is)
+          (omega arith)) (λ index h. h) (omega arith)
 
   pub cases_led : (c : Assembly) (s e : ℕ) (x : Tree) → Makes b c s e (room how.shrink x) →
       Progress false old c (cs.n + room how.shrink x) 16
   cases_led c s e x m = then_made 16 cs.branches.progress m (omega arith)
 
-  pub cases_lead_refused : (c new : Assembly) (s t : ℕ) (x : Tree) (e : BuildError) → i < length xs → x ≡ get_or xs i x → Makes b c s t (room how.shrink x) → Stays c new 0 4 e →
+  pub cases_lead_refused : (c new : Assembly) (s t : ℕ) (x : Tree) (e : BuildError) → i < length xs → x ≡ get_or xs i x →
+      Makes b c s t (room how.shrink x) → Stays c new 0 4 e →
       Refuses how.which old new (room how.shrink (alternation xs)) (alternation xs) e
   cases_lead_refused c new s t x e l is m r =
       let fits = cs.fits in
-      let counted : rooms how.shrink (drop i xs) ≡ room how.shrink x + rooms how.shrink (drop (i + 1) xs) = ap (rooms how.shrink) (first_left xs i x x l is) in
+      let counted : rooms how.shrink (drop i xs) ≡ room how.shrink x + rooms how.shrink (drop (i + 1) xs) =
+          ap (rooms how.shrink) (first_left xs i x x l is) in
       let k = room_of_alternation how.shrink xs in
-      refuses how.which (room how.shrink (alternation xs)) (alternation xs) (then_quits (rooms how.shrink xs + 2) (cases_led c s t x m) r (omega arith) (omega arith)) (omega arith)
+      refuses how.which (room how.shrink (alternation xs)) (alternation xs)
+          (then_quits (rooms how.shrink xs + 2) (cases_led c s t x m) r (omega arith) (omega arith)) (omega arith)
 
-  pub cases_end_refused : (c d new : Assembly) (s t : ℕ) (x : Tree) (e : BuildError) → i < length xs → x ≡ get_or xs i x → Makes b c s t (room how.shrink x) → Led c d u s → Stays d new 0 4 e →
+  pub cases_end_refused : (c d new : Assembly) (s t : ℕ) (x : Tree) (e : BuildError) → i < length xs → x ≡ get_or xs i x →
+      Makes b c s t (room how.shrink x) → Led c d u s → Stays d new 0 4 e →
       Refuses how.which old new (room how.shrink (alternation xs)) (alternation xs) e
   cases_end_refused c d new s t x e l is m p1 r =
       let fits = cs.fits in
       let v = cs.branches.u_new in
-      let counted : rooms how.shrink (drop i xs) ≡ room how.shrink x + rooms how.shrink (drop (i + 1) xs) = ap (rooms how.shrink) (first_left xs i x x l is) in
+      let counted : rooms how.shrink (drop i xs) ≡ room how.shrink x + rooms how.shrink (drop (i + 1) xs) =
+          ap (rooms how.shrink) (first_left xs i x x l is) in
       let k = room_of_alternation how.shrink xs in
-      refuses how.which (room how.shrink (alternation xs)) (alternation xs) (then_quits (rooms how.shrink xs + 2) (then_led 12 (cases_led c s t x m) p1 v (omega arith) (omega arith)) r (omega arith) (omega arith)) (omega arith)
+      refuses how.which (room how.shrink (alternation xs)) (alternation xs)
+          (then_quits (rooms how.shrink xs + 2) (then_led 12 (cases_led c s t x m) p1 v (omega arith) (omega arith)) r (omega arith)
+          (omega arith)) (omega arith)
 
   pub cases_made : Makes old b u z (room how.shrink (alternation xs))
-  cases_made = let fits = cs.fits in let c = room_of_alternation how.shrink xs in made_capped (room how.shrink (alternation xs)) (branches_made old b u z cs.n (take i xs) cs.branches) (omega arith)
+  cases_made = let fits = cs.fits in let c = room_of_alternation how.shrink xs in
+      made_capped (room how.shrink (alternation xs)) (branches_made old b u z cs.n (take i xs) cs.branches) (omega arith)
 
   pub cases_does : length xs ≤ i → Does old b u z (alternation xs)
   cases_does over =
@@ -170,18 +210,23 @@ one_of [] x l e = absurd (omega arith)
 one_of (y ∷ []) x l e = ap (λ k. k ∷ []) (sym e)
 one_of (y ∷ z ∷ xs) x l e = absurd (omega arith)
 
-pub single_does : (a b : Assembly) (s e : ℕ) (x : Tree) (xs : List Tree) → length xs ≡ 1 → x ≡ get_or xs 0 x → Does a b s e x → Does a b s e (alternation xs)
-single_does a b s e x xs l is d = let P : List Tree → Type 0 = λ ys. Does a b s e (alternation ys) in subst P (sym (one_of xs x l is)) (does_same a b s e x (alternation (x ∷ [])) (same_alternation_one x) d)
+pub single_does : (a b : Assembly) (s e : ℕ) (x : Tree) (xs : List Tree) → length xs ≡ 1 → x ≡ get_or xs 0 x → Does a b s e x →
+    Does a b s e (alternation xs)
+single_does a b s e x xs l is d = let P : List Tree → Type 0 = λ ys. Does a b s e (alternation ys) in
+    subst P (sym (one_of xs x l is)) (does_same a b s e x (alternation (x ∷ [])) (same_alternation_one x) d)
 
-pub single_groups : (kept : WhichCaptures) (p : ℕ) (x : Tree) (xs : List Tree) (old now : Groups) → length xs ≡ 1 → x ≡ get_or xs 0 x → now ≡ noted kept p x old → now ≡ noted kept p (alternation xs) old
+pub single_groups : (kept : WhichCaptures) (p : ℕ) (x : Tree) (xs : List Tree) (old now : Groups) → length xs ≡ 1 → x ≡ get_or xs 0 x →
+    now ≡ noted kept p x old → now ≡ noted kept p (alternation xs) old
 single_groups kept p x xs old now l is g = g ∙ sym (ap (λ ys. noted kept p (alternation ys) old) (one_of xs x l is))
 
-pub single_made : (shrink : Bool) (a b : Assembly) (s e : ℕ) (x : Tree) (xs : List Tree) → length xs ≡ 1 → x ≡ get_or xs 0 x → Makes a b s e (room shrink x) → Makes a b s e (room shrink (alternation xs))
+pub single_made : (shrink : Bool) (a b : Assembly) (s e : ℕ) (x : Tree) (xs : List Tree) → length xs ≡ 1 → x ≡ get_or xs 0 x →
+    Makes a b s e (room shrink x) → Makes a b s e (room shrink (alternation xs))
 single_made shrink a b s e x xs l is m =
     let c = room_of_alternation shrink xs in let d : rooms shrink xs ≡ room shrink x + 0 = ap (rooms shrink) (one_of xs x l is) in
     made_capped (room shrink (alternation xs)) m (omega arith)
 
-pub part_refused : (how : How) (old new : Assembly) (i : ℕ) (x : Tree) (xs : List Tree) (e : BuildError) → i < length xs → x ≡ get_or xs i x → Refuses how.which old new (room how.shrink x) x e →
+pub part_refused : (how : How) (old new : Assembly) (i : ℕ) (x : Tree) (xs : List Tree) (e : BuildError) → i < length xs →
+    x ≡ get_or xs i x → Refuses how.which old new (room how.shrink x) x e →
     Refuses how.which old new (room how.shrink (alternation xs)) (alternation xs) e
 part_refused how old new i x xs e l is r =
     let c = room_of_alternation how.shrink xs in

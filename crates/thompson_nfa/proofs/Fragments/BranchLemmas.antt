@@ -1,5 +1,6 @@
 -- Fragments of alternations: the branches so far, where the union and the end wait for more.
-use Rattle.std.proofs.Common.{◌≡◌, ◌≢◌, ℕ, ◌+◌, ◌<◌, ◌≤◌, true, List, [], ◌∷◌, ◌++◌, length, None, refl, sym, ap, ◌∙◌, subst, arith, ⊎_elim, length-append, Bool, ◌||◌, false}
+use Rattle.std.proofs.Common.{◌≡◌, ◌≢◌, ℕ, ◌+◌, ◌<◌, ◌≤◌, true, List, [], ◌∷◌, ◌++◌, length, None, refl, sym, ap, ◌∙◌, subst, arith, ⊎_elim}
+use Rattle.std.proofs.Common.{length-append, Bool, ◌||◌, false}
 use Rattle.std.proofs.lemmas.Bool.{cases_lt, cases_eq}
 use Rattle.hir_core.specs.Tree.{Tree, alternation}
 use Rattle.nfa_core.specs.BuilderStates.{DraftNode, Assembly, draft_at, patched, is_sparse, empty_draft, union_draft}
@@ -28,12 +29,15 @@ pub record Branches (old mid : Assembly) (u z n : ℕ) (done : List Tree) : Type
   pub two : 2 ≤ length entries
   pub union_is : draft_at mid.drafts u ≡ union_draft entries
   pub end_is : draft_at mid.drafts z ≡ empty_draft 0
-  pub outs : (table : Table) → FinishesBut (length old.drafts) mid.drafts u z table → (q : ℕ) → length old.drafts ≤ q → q < length mid.drafts → q ≢ u → q ≢ z → ComesOut table z q
+  pub outs : (table : Table) → FinishesBut (length old.drafts) mid.drafts u z table → (q : ℕ) → length old.drafts ≤ q →
+      q < length mid.drafts → q ≢ u → q ≢ z → ComesOut table z q
   pub denote : (table : Table) → FinishesBut (length old.drafts) mid.drafts u z table → AllDenote old.reverse table z entries done
   pub looks : AddsLooks old.reverse old mid (alternation done)
 
-module _ (t0 t1 t2 t3 t4 t5 t6 t7 t8 : Assembly) (s1 e1 n1 s2 e2 n2 u z : ℕ) (x y : Tree) (first : Makes t0 t1 s1 e1 n1) (second : Makes t1 t2 s2 e2 n2) (union : Added t2 t3 u (union_draft []) t2.groups)
-    (last : Added t3 t4 z (empty_draft 0) t3.groups) (p5 : Led t4 t5 u s1) (p6 : Led t5 t6 e1 z) (p7 : Led t6 t7 u s2) (p8 : Led t7 t8 e2 z) where
+module _ (t0 t1 t2 t3 t4 t5 t6 t7 t8 : Assembly) (s1 e1 n1 s2 e2 n2 u z : ℕ) (x y : Tree) (first : Makes t0 t1 s1 e1 n1)
+    (second : Makes t1 t2 s2 e2 n2) (union : Added t2 t3 u (union_draft []) t2.groups)
+    (last : Added t3 t4 z (empty_draft 0) t3.groups) (p5 : Led t4 t5 u s1) (p6 : Led t5 t6 e1 z) (p7 : Led t6 t7 u s2)
+        (p8 : Led t7 t8 e2 z) where
   open_2 : Progress false t0 t2 (n1 + n2) 8
   open_2 = then_made 8 (first_made first) second (omega arith)
 
@@ -41,24 +45,29 @@ module _ (t0 t1 t2 t3 t4 t5 t6 t7 t8 : Assembly) (s1 e1 n1 s2 e2 n2 u z : ℕ) (
   open_4 = empty_then (choice_then true open_2 union) last
 
   pub open_8 : Progress false t0 t8 (n1 + n2 + 1 + 1) 8
-  open_8 = then_led 8 (then_led 12 (then_led 16 (then_led 20 open_4 p5 (omega arith) (omega arith) (omega arith)) p6 (omega arith) (omega arith) (omega arith))
+  open_8 = then_led 8 (then_led 12 (then_led 16 (then_led 20 open_4 p5 (omega arith) (omega arith) (omega arith)) p6 (omega arith)
+      (omega arith) (omega arith))
       p7 (omega arith) (omega arith) (omega arith)) p8 (omega arith) (omega arith) (omega arith)
 
   later : (q : ℕ) → q < length t2.drafts → q ≢ e1 → q ≢ e2 → draft_at t8.drafts q ≡ draft_at t2.drafts q
-  later q low ne1 ne2 = p8.same q ne2 ∙ p7.same q (omega arith) ∙ p6.same q ne1 ∙ p5.same q (omega arith) ∙ last.grows.same q (omega arith) ∙ union.grows.same q low
+  later q low ne1 ne2 = p8.same q ne2 ∙ p7.same q (omega arith) ∙ p6.same q ne1 ∙ p5.same q (omega arith) ∙ last.grows.same q (omega arith)
+      ∙ union.grows.same q low
 
   open_first : (table : Table) → FinishesBut (length t0.drafts) t8.drafts u z table → Finished (length t0.drafts) t1.drafts e1 z table
   open_first table fin = record {
-    states = λ q low high ne. fin q low (omega arith) (omega arith) (omega arith) ∙ later q (omega arith) ne (omega arith) ∙ second.fragment.grows.same q high;
+    states = λ q low high ne. fin q low (omega arith) (omega arith) (omega arith) ∙ later q (omega arith) ne (omega arith)
+        ∙ second.fragment.grows.same q high;
     led = fin e1 (omega arith) (omega arith) (omega arith) (omega arith) ∙ p8.same e1 (omega arith) ∙ p7.same e1 (omega arith) ∙ p6.here
-        ∙ ap (patched z) (p5.same e1 (omega arith) ∙ last.grows.same e1 (omega arith) ∙ union.grows.same e1 (omega arith) ∙ second.fragment.grows.same e1 (omega arith));
+        ∙ ap (patched z) (p5.same e1 (omega arith) ∙ last.grows.same e1 (omega arith) ∙ union.grows.same e1 (omega arith)
+            ∙ second.fragment.grows.same e1 (omega arith));
   }
 
   open_second : (table : Table) → FinishesBut (length t0.drafts) t8.drafts u z table → Finished (length t1.drafts) t2.drafts e2 z table
   open_second table fin = record {
     states = λ q low high ne. fin q (omega arith) (omega arith) (omega arith) (omega arith) ∙ later q high (omega arith) ne;
     led = fin e2 (omega arith) (omega arith) (omega arith) (omega arith) ∙ p8.here
-        ∙ ap (patched z) (p7.same e2 (omega arith) ∙ p6.same e2 (omega arith) ∙ p5.same e2 (omega arith) ∙ last.grows.same e2 (omega arith) ∙ union.grows.same e2 (omega arith));
+        ∙ ap (patched z) (p7.same e2 (omega arith) ∙ p6.same e2 (omega arith) ∙ p5.same e2 (omega arith) ∙ last.grows.same e2 (omega arith)
+            ∙ union.grows.same e2 (omega arith));
   }
 
   pub branches_open : Does t0 t1 s1 e1 x → Does t1 t2 s2 e2 y → Branches t0 t8 u z (n1 + n2 + 1 + 1) (x ∷ y ∷ [])
@@ -69,7 +78,8 @@ module _ (t0 t1 t2 t3 t4 t5 t6 t7 t8 : Assembly) (s1 e1 n1 s2 e2 n2 u z : ℕ) (
     z_there = omega arith;
     entries = s1 ∷ s2 ∷ [];
     two = omega arith;
-    union_is = p8.same u (omega arith) ∙ p7.here ∙ ap (patched s2) (p6.same u (omega arith) ∙ p5.here ∙ ap (patched s1) (last.grows.same u (omega arith) ∙ union.here));
+    union_is = p8.same u (omega arith) ∙ p7.here ∙ ap (patched s2) (p6.same u (omega arith) ∙ p5.here
+        ∙ ap (patched s1) (last.grows.same u (omega arith) ∙ union.here));
     end_is = p8.same z (omega arith) ∙ p7.same z (omega arith) ∙ p6.same z (omega arith) ∙ p5.same z (omega arith) ∙ last.here;
     outs = λ table fin q low high not_u not_z. ⊎_elim
         (λ (l : q < length t1.drafts). first.comes_out table z (open_first table fin) q low l)
@@ -79,7 +89,8 @@ module _ (t0 t1 t2 t3 t4 t5 t6 t7 t8 : Assembly) (s1 e1 n1 s2 e2 n2 u z : ℕ) (
         (cases_lt q (length t2.drafts)))
         (cases_lt q (length t1.drafts));
     denote = λ table fin. more_denote s1 x (s2 ∷ []) (y ∷ []) (does1.denotes table z (open_first table fin))
-        (more_denote s2 y [] [] (reads_as t0 t1 table s2 z y first.fragment.grows (does2.denotes table z (open_second table fin))) none_denote);
+        (more_denote s2 y [] [] (reads_as t0 t1 table s2 z y first.fragment.grows (does2.denotes table z (open_second table fin)))
+            none_denote);
     looks = λ l. quiet_led p8 l ∙ quiet_led p7 l ∙ quiet_led p6 l ∙ quiet_led p5 l ∙ quiet_added last (λ k. refl) l
         ∙ quiet_added union (λ k. refl) l
         ∙ adds_both t0 t1 t2 x y (alternation (x ∷ y ∷ [])) does1.looks
@@ -87,7 +98,8 @@ module _ (t0 t1 t2 t3 t4 t5 t6 t7 t8 : Assembly) (s1 e1 n1 s2 e2 n2 u z : ℕ) (
         (λ k. ap (λ (b : Bool). uses t0.reverse x k || b) (or_none (uses t0.reverse y k))) l;
   }
 
-module _ (old b c d f : Assembly) (u z n s e k : ℕ) (done : List Tree) (x : Tree) (bs : Branches old b u z n done) (draft : Makes b c s e k) (p1 : Led c d u s) (p2 : Led d f e z) where
+module _ (old b c d f : Assembly) (u z n s e k : ℕ) (done : List Tree) (x : Tree) (bs : Branches old b u z n done) (draft : Makes b c s e k)
+    (p1 : Led c d u s) (p2 : Led d f e z) where
   more_before : (table : Table) → FinishesBut (length old.drafts) f.drafts u z table → FinishesBut (length old.drafts) b.drafts u z table
   more_before table fin q low high not_u not_z =
       let g = bs.u_z in let h = bs.z_there in
@@ -105,7 +117,8 @@ module _ (old b c d f : Assembly) (u z n s e k : ℕ) (done : List Tree) (x : Tr
   branches_then does =
       let g = bs.u_z in let h = bs.z_there in let l = bs.progress.partly.grows.longer in let v = bs.u_new in let w = bs.two in
       record {
-        progress = then_led 8 (then_led 12 (then_made 16 bs.progress draft (omega arith)) p1 v (omega arith) (omega arith)) p2 (omega arith) (omega arith) (omega arith);
+        progress = then_led 8 (then_led 12 (then_made 16 bs.progress draft (omega arith)) p1 v (omega arith) (omega arith)) p2 (omega arith)
+            (omega arith) (omega arith);
         u_new = v;
         u_z = g;
         z_there = omega arith;
@@ -131,11 +144,13 @@ union_stands (a ∷ []) l = absurd (omega arith)
 union_stands (a ∷ b ∷ names) l = refl
 
 module _ (old mid : Assembly) (u z n : ℕ) (done : List Tree) (bs : Branches old mid u z n done) where
-  all_but : (target : ℕ) (table : Table) → Finished (length old.drafts) mid.drafts z target table → FinishesBut (length old.drafts) mid.drafts u z table
+  all_but : (target : ℕ) (table : Table) → Finished (length old.drafts) mid.drafts z target table →
+      FinishesBut (length old.drafts) mid.drafts u z table
   all_but target table fin q low high not_u not_z = fin.states q low high not_z
 
   done_u : (target : ℕ) (table : Table) → Finished (length old.drafts) mid.drafts z target table → table u ≡ union_draft bs.entries
-  done_u target table fin = let g = bs.u_z in let h = bs.z_there in let v = bs.u_new in fin.states u v (omega arith) (omega arith) ∙ bs.union_is
+  done_u target table fin = let g = bs.u_z in let h = bs.z_there in let v = bs.u_new in
+      fin.states u v (omega arith) (omega arith) ∙ bs.union_is
 
   pub branches_made : Makes old mid u z n
   branches_made =
@@ -149,7 +164,8 @@ module _ (old mid : Assembly) (u z n : ℕ) (done : List Tree) (bs : Branches ol
       (λ (e : q ≡ u). subst P (sym e) (out_here table target u (ap stands_for (done_u target table fin) ∙ union_stands bs.entries bs.two)))
       (λ (not_u : q ≡ u → ⊥). ⊎_elim
       (λ (e : q ≡ z). subst P (sym e) out)
-      (λ (not_z : q ≡ z → ⊥). let o = bs.outs table (all_but target table fin) q low high not_u not_z in out_on table target z o.0 q o.1 out)
+      (λ (not_z : q ≡ z → ⊥). let o = bs.outs table (all_but target table fin) q low high not_u not_z in
+          out_on table target z o.0 q o.1 out)
       (cases_eq q z))
       (cases_eq q u))
 

@@ -1,5 +1,6 @@
 -- Fragments of captures.
-use Rattle.std.proofs.Common.{◌≡◌, ◌⊎◌, inl, ℕ, ◌+◌, ◌*◌, ◌<◌, ◌≤◌, Bool, true, false, length, Option, Some, None, nat_lt, if◌then◌else◌, refl, sym, ap, ◌∙◌, subst, arith, ⊎_elim}
+use Rattle.std.proofs.Common.{◌≡◌, ◌⊎◌, inl, ℕ, ◌+◌, ◌*◌, ◌<◌, ◌≤◌, Bool, true, false, length, Option, Some, None, nat_lt, if◌then◌else◌}
+use Rattle.std.proofs.Common.{refl, sym, ap, ◌∙◌, subst, arith, ⊎_elim}
 use Rattle.std.specs.Option.{option_or}
 use Rattle.std.proofs.lemmas.Bool.{ltb-true}
 use Rattle.search_core.specs.Index.{greatest_index}
@@ -7,7 +8,8 @@ use Rattle.search_types.specs.Groups.{Name, Groups}
 use Rattle.search_types.specs.GroupFaults.{GroupFault, TooManyGroups}
 use Rattle.search_types.specs.GroupRefusals as group
 use Rattle.hir_core.specs.Tree.{Tree, capture}
-use Rattle.nfa_core.specs.BuilderStates.{DraftNode, Assembly, draft_at, patched, draft_bytes, is_sparse, with_draft, with_group, capture_start_draft, capture_end_draft}
+use Rattle.nfa_core.specs.BuilderStates.{DraftNode, Assembly, draft_at, patched, draft_bytes, is_sparse, with_draft, with_group}
+use Rattle.nfa_core.specs.BuilderStates.{capture_start_draft, capture_end_draft}
 use Rattle.nfa_core.specs.BuilderFaults.{Tells, add_fault, index_fault, captures_refused, BuildFault}
 use Rattle.nfa_core.specs.CanBuild.{is_known}
 use Rattle.nfa_core.specs.Renaming.{stands_for}
@@ -35,15 +37,18 @@ both_none None b e = e
 both_none (Some x) b e = absurd (cc)
 
 pub start_added : (old new : Assembly) (id index : ℕ) (name : Option Name) → id ≡ length old.drafts →
-    new ≡ record (with_draft old (capture_start_draft (length old.starts) index 0)) { groups = with_group old.groups (length old.starts) index name } →
+    new ≡ record (with_draft old (capture_start_draft (length old.starts) index 0)) { groups =
+        with_group old.groups (length old.starts) index name } →
     option_or (index_fault (length old.starts) index) (add_fault old (capture_start_draft (length old.starts) index 0)) ≡ None →
     Added old new id (capture_start_draft (length old.starts) index 0) (with_group old.groups (length old.starts) index name)
 start_added old new id index name is e none =
     let draft = capture_start_draft (length old.starts) index 0 in
     added_group old new id draft (with_group old.groups (length old.starts) index name) is e
-    (numbered old draft (both_none (index_fault (length old.starts) index) (add_fault old draft) none)) (known_group old.groups (length old.starts) index name)
+    (numbered old draft (both_none (index_fault (length old.starts) index) (add_fault old draft) none))
+        (known_group old.groups (length old.starts) index name)
 
-pub end_added : (old new : Assembly) (id index : ℕ) → id ≡ length old.drafts → new ≡ with_draft old (capture_end_draft (length old.starts) index 0) →
+pub end_added : (old new : Assembly) (id index : ℕ) → id ≡ length old.drafts →
+    new ≡ with_draft old (capture_end_draft (length old.starts) index 0) →
     option_or (index_fault (length old.starts) index) (add_fault old (capture_end_draft (length old.starts) index 0)) ≡ None →
     Added old new id (capture_end_draft (length old.starts) index 0) old.groups
 end_added old new id index is e none =
@@ -59,11 +64,14 @@ group_step p index old error.UnsupportedCaptures r = r
 group_step p index old (error.Captures err) r = absurd r
 group_step p index old error.NoMemory r = r
 
-same_fault : (p index : ℕ) (fault : GroupFault) → Some (captures_refused (TooManyGroups p index)) ≡ Some (captures_refused fault) → TooManyGroups p index ≡ fault
+same_fault : (p index : ℕ) (fault : GroupFault) → Some (captures_refused (TooManyGroups p index)) ≡ Some (captures_refused fault) →
+    TooManyGroups p index ≡ fault
 same_fault p index fault e = cc
 
-group_refused : (b : Bool) (old : Assembly) (index : ℕ) (draft : DraftNode) (e : BuildError) → b ≡ nat_lt greatest_index index → draft_bytes draft ≤ 24 →
-    Tells e (option_or (if b then Some (captures_refused (TooManyGroups (length old.starts) index)) else None) (add_fault old draft)) → RefusesGroup (length old.starts) index old e
+group_refused : (b : Bool) (old : Assembly) (index : ℕ) (draft : DraftNode) (e : BuildError) → b ≡ nat_lt greatest_index index →
+    draft_bytes draft ≤ 24 →
+    Tells e (option_or (if b then Some (captures_refused (TooManyGroups (length old.starts) index)) else None) (add_fault old draft)) →
+        RefusesGroup (length old.starts) index old e
 group_refused true old index draft error.TooManyPatterns test le told = absurd (cc)
 group_refused true old index draft error.TooManyStates test le told = absurd (cc)
 group_refused true old index draft (error.ExceededSizeLimit limit) test le told = absurd (cc)
@@ -76,38 +84,47 @@ group_refused false old index draft e test le told =
     group_step (length old.starts) index old e (refused_name (nat_lt greatest_index (length old.drafts)) old draft 24 e refl told le)
 
 pub end_refused : (old new : Assembly) (index : ℕ) (e : BuildError) → new ≡ old →
-    Tells e (option_or (index_fault (length old.starts) index) (add_fault old (capture_end_draft (length old.starts) index 0))) → QuitsGroup old new index e
+    Tells e (option_or (index_fault (length old.starts) index) (add_fault old (capture_end_draft (length old.starts) index 0))) →
+        QuitsGroup old new index e
 end_refused old new index e same told = record {
   settings = same ∙ ap (λ (b : Assembly). record old { drafts = b.drafts; groups = b.groups }) (sym same);
   cause = group_refused (nat_lt greatest_index index) old index (capture_end_draft (length old.starts) index 0) e refl (omega arith) told;
 }
 
 start_cause : (old : Assembly) (index : ℕ) (e : BuildError) →
-    (e ≡ error.NoMemory) ⊎ Tells e (option_or (index_fault (length old.starts) index) (add_fault old (capture_start_draft (length old.starts) index 0))) → RefusesGroup (length old.starts) index old e
+    (e ≡ error.NoMemory) ⊎ Tells e (option_or (index_fault (length old.starts) index)
+        (add_fault old (capture_start_draft (length old.starts) index 0))) → RefusesGroup (length old.starts) index old e
 start_cause old index e told = ⊎_elim
-    (λ (none : e ≡ error.NoMemory). let P : BuildError → Type 0 = λ one. RefusesGroup (length old.starts) index old one in subst P (sym none) tt)
+    (λ (none : e ≡ error.NoMemory). let P : BuildError → Type 0 = λ one. RefusesGroup (length old.starts) index old one in
+        subst P (sym none) tt)
     (λ (t : Tells e (option_or (index_fault (length old.starts) index) (add_fault old (capture_start_draft (length old.starts) index 0)))).
     group_refused (nat_lt greatest_index index) old index (capture_start_draft (length old.starts) index 0) e refl (omega arith) t)
     told
 
 pub start_refused : (old new : Assembly) (index : ℕ) (e : BuildError) → new ≡ record old { groups = new.groups } →
-    (e ≡ error.NoMemory) ⊎ Tells e (option_or (index_fault (length old.starts) index) (add_fault old (capture_start_draft (length old.starts) index 0))) → QuitsGroup old new index e
+    (e ≡ error.NoMemory) ⊎ Tells e (option_or (index_fault (length old.starts) index)
+        (add_fault old (capture_start_draft (length old.starts) index 0))) → QuitsGroup old new index e
 start_refused old new index e same told = record {
   settings = same ∙ ap (λ (b : Assembly). record old { drafts = b.drafts; groups = new.groups }) (sym same);
   cause = start_cause old index e told;
 }
 
 -- the whole capture is refused
-group_later : (kept : WhichCaptures) (p index : ℕ) (name : Option Name) (x : Tree) (old mid : Assembly) (k m : ℕ) (e : BuildError) → mid.size_limit ≡ old.size_limit → keeps_group kept index ≡ true →
-    length mid.drafts ≤ length old.drafts + k → k < m → RefusesGroup p index mid e → sum_of_bytes mid + 24 ≤ sum_of_bytes old + 4096 * m → RefusesTree kept p old m (capture index name x) e
+group_later : (kept : WhichCaptures) (p index : ℕ) (name : Option Name) (x : Tree) (old mid : Assembly) (k m : ℕ) (e : BuildError) →
+    mid.size_limit ≡ old.size_limit → keeps_group kept index ≡ true →
+    length mid.drafts ≤ length old.drafts + k → k < m → RefusesGroup p index mid e → sum_of_bytes mid + 24 ≤ sum_of_bytes old + 4096 * m →
+        RefusesTree kept p old m (capture index name x) e
 group_later kept p index name x old mid k m error.TooManyPatterns size keeps states le r room = r
-group_later kept p index name x old mid k m error.TooManyStates size keeps states le r room = step_later old mid 1 24 m m error.TooManyStates size (omega arith) room (omega arith) r
-group_later kept p index name x old mid k m (error.ExceededSizeLimit limit) size keeps states le r room = step_later old mid 1 24 m m (error.ExceededSizeLimit limit) size (omega arith) room (omega arith) r
+group_later kept p index name x old mid k m error.TooManyStates size keeps states le r room =
+    step_later old mid 1 24 m m error.TooManyStates size (omega arith) room (omega arith) r
+group_later kept p index name x old mid k m (error.ExceededSizeLimit limit) size keeps states le r room =
+    step_later old mid 1 24 m m (error.ExceededSizeLimit limit) size (omega arith) room (omega arith) r
 group_later kept p index name x old mid k m error.UnsupportedCaptures size keeps states le r room = r
 group_later kept p index name x old mid k m (error.Captures err) size keeps states le r room = (index, inl (refl, keeps), r)
 group_later kept p index name x old mid k m error.NoMemory size keeps states le r room = r
 
-pub start_quits : (kept : WhichCaptures) (old new : Assembly) (index m : ℕ) (name : Option Name) (x : Tree) (e : BuildError) → keeps_group kept index ≡ true → 1 ≤ m → QuitsGroup old new index e →
+pub start_quits : (kept : WhichCaptures) (old new : Assembly) (index m : ℕ) (name : Option Name) (x : Tree) (e : BuildError) →
+    keeps_group kept index ≡ true → 1 ≤ m → QuitsGroup old new index e →
     Refuses kept old new m (capture index name x) e
 start_quits kept old new index m name x e keeps le r = record {
   settings = r.settings;
@@ -122,20 +139,25 @@ end_quits {kept} {old} {mid} {new} {k} {s} {e} index m name x p keeps le r =
     let P : ℕ → Type 0 = λ pattern. RefusesGroup pattern index mid e in
     record {
       settings = r.settings ∙ ap (λ (b : Assembly). record b { drafts = new.drafts; groups = new.groups }) p.partly.grows.settings;
-      cause = group_later kept (length old.starts) index name x old mid k m e (size_kept p.partly.grows) keeps p.states le (subst P starts r.cause) (omega arith);
+      cause = group_later kept (length old.starts) index name x old mid k m e (size_kept p.partly.grows) keeps p.states le
+          (subst P starts r.cause) (omega arith);
     }
 
 -- the groups of a capture whose states are made, and of another
-pub capture_groups : (kept : WhichCaptures) (p q index : ℕ) (name shown : Option Name) (x : Tree) (old begun now : Groups) → keeps_group kept index ≡ true → begun ≡ with_group old p index name → name ≡ shown → q ≡ p →
+pub capture_groups : (kept : WhichCaptures) (p q index : ℕ) (name shown : Option Name) (x : Tree) (old begun now : Groups) →
+    keeps_group kept index ≡ true → begun ≡ with_group old p index name → name ≡ shown → q ≡ p →
     now ≡ noted kept q x begun → now ≡ noted kept p (capture index shown x) old
 capture_groups kept p q index name shown x old begun now keeps first same here is =
     is ∙ ap (λ k. noted kept k x begun) here ∙ ap (noted kept p x) (first ∙ ap (with_group old p index) same)
     ∙ sym (ap (λ (b : Bool). noted kept p x (if b then with_group old p index shown else old)) keeps)
 
-pub plain_groups : (kept : WhichCaptures) (p index : ℕ) (shown : Option Name) (x : Tree) (old now : Groups) → keeps_group kept index ≡ false → now ≡ noted kept p x old → now ≡ noted kept p (capture index shown x) old
-plain_groups kept p index shown x old now drops is = is ∙ sym (ap (λ (b : Bool). noted kept p x (if b then with_group old p index shown else old)) drops)
+pub plain_groups : (kept : WhichCaptures) (p index : ℕ) (shown : Option Name) (x : Tree) (old now : Groups) →
+    keeps_group kept index ≡ false → now ≡ noted kept p x old → now ≡ noted kept p (capture index shown x) old
+plain_groups kept p index shown x old now drops is = is ∙ sym (ap (λ (b : Bool). noted kept p x (if b then with_group old p index shown
+    else old)) drops)
 
-pub plain_does : (old new : Assembly) (s e index : ℕ) (name : Option Name) (x : Tree) → Does old new s e x → Does old new s e (capture index name x)
+pub plain_does : (old new : Assembly) (s e index : ℕ) (name : Option Name) (x : Tree) → Does old new s e x →
+    Does old new s e (capture index name x)
 plain_does old new s e index name x does =
     record {
       denotes =
@@ -144,11 +166,14 @@ plain_does old new s e index name x does =
           does.looks;
     }
 
-module _ (t0 t1 t2 t3 t4 t5 : Assembly) (a s e z n index pattern : ℕ) (name : Option Name) (first : Added t0 t1 a (capture_start_draft (length t0.starts) index 0) (with_group t0.groups (length t0.starts) index name))
-    (body : Makes t1 t2 s e n) (last : Added t2 t3 z (capture_end_draft pattern index 0) t2.groups) (same_pattern : pattern ≡ length t0.starts) (p4 : Led t3 t4 a s) (p5 : Led t4 t5 e z) where
+module _ (t0 t1 t2 t3 t4 t5 : Assembly) (a s e z n index pattern : ℕ) (name : Option Name)
+    (first : Added t0 t1 a (capture_start_draft (length t0.starts) index 0) (with_group t0.groups (length t0.starts) index name))
+    (body : Makes t1 t2 s e n) (last : Added t2 t3 z (capture_end_draft pattern index 0) t2.groups)
+        (same_pattern : pattern ≡ length t0.starts) (p4 : Led t3 t4 a s) (p5 : Led t4 t5 e z) where
   start_known : is_known t1.groups (capture_start_draft (length t0.starts) index 0) ≡ true
   start_known = ap (λ (gs : Groups). is_known gs (capture_start_draft (length t0.starts) index 0)) first.groups_are
-      ∙ known_of_in (with_group t0.groups (length t0.starts) index name) (length t0.starts) index (group_in t0.groups (length t0.starts) index name)
+      ∙ known_of_in (with_group t0.groups (length t0.starts) index name) (length t0.starts) index
+          (group_in t0.groups (length t0.starts) index name)
 
   start_tame : IsTame false t1 (capture_start_draft (length t0.starts) index 0)
   start_tame = tame_one t1 (capture_start_draft (length t0.starts) index 0) 0 refl (omega arith) start_known refl
@@ -157,7 +182,8 @@ module _ (t0 t1 t2 t3 t4 t5 : Assembly) (a s e z n index pattern : ℕ) (name : 
   end_tame =
       let P : ℕ → Type 0 = λ p. is_known t1.groups (capture_end_draft p index 0) ≡ true in
       tame_one t3 (capture_end_draft pattern index 0) 0 refl (omega arith)
-      (last.grows.known (capture_end_draft pattern index 0) (body.fragment.grows.known (capture_end_draft pattern index 0) (subst P (sym same_pattern) start_known))) refl
+      (last.grows.known (capture_end_draft pattern index 0) (body.fragment.grows.known (capture_end_draft pattern index 0)
+          (subst P (sym same_pattern) start_known))) refl
 
   pub capture_1 : Progress false t0 t1 1 4000
   capture_1 = first_added 4000 first start_tame (omega arith)
@@ -174,29 +200,36 @@ module _ (t0 t1 t2 t3 t4 t5 : Assembly) (a s e z n index pattern : ℕ) (name : 
   capture_z : draft_at t5.drafts z ≡ capture_end_draft pattern index 0
   capture_z = p5.same z (omega arith) ∙ p4.same z (omega arith) ∙ last.here
 
-  capture_end : (target : ℕ) (table : Table) → Finished (length t0.drafts) t5.drafts z target table → table z ≡ capture_end_draft pattern index target
+  capture_end : (target : ℕ) (table : Table) → Finished (length t0.drafts) t5.drafts z target table →
+      table z ≡ capture_end_draft pattern index target
   capture_end target table fin = fin.led ∙ ap (patched target) capture_z
 
-  capture_start : (target : ℕ) (table : Table) → Finished (length t0.drafts) t5.drafts z target table → table a ≡ capture_start_draft (length t0.starts) index s
+  capture_start : (target : ℕ) (table : Table) → Finished (length t0.drafts) t5.drafts z target table →
+      table a ≡ capture_start_draft (length t0.starts) index s
   capture_start target table fin = fin.states a (omega arith) (omega arith) (omega arith) ∙ p5.same a (omega arith) ∙ p4.here
       ∙ ap (patched s) (last.grows.same a (omega arith) ∙ body.fragment.grows.same a (omega arith) ∙ first.here)
 
-  capture_body : (target : ℕ) (table : Table) → Finished (length t0.drafts) t5.drafts z target table → Finished (length t1.drafts) t2.drafts e z table
+  capture_body : (target : ℕ) (table : Table) → Finished (length t0.drafts) t5.drafts z target table →
+      Finished (length t1.drafts) t2.drafts e z table
   capture_body target table fin = record {
-    states = λ i low high ne. fin.states i (omega arith) (omega arith) (omega arith) ∙ p5.same i ne ∙ p4.same i (omega arith) ∙ last.grows.same i (omega arith);
-    led = fin.states e (omega arith) (omega arith) (omega arith) ∙ p5.here ∙ ap (patched z) (p4.same e (omega arith) ∙ last.grows.same e (omega arith));
+    states = λ i low high ne. fin.states i (omega arith) (omega arith) (omega arith) ∙ p5.same i ne ∙ p4.same i (omega arith)
+        ∙ last.grows.same i (omega arith);
+    led = fin.states e (omega arith) (omega arith) (omega arith) ∙ p5.here
+        ∙ ap (patched z) (p4.same e (omega arith) ∙ last.grows.same e (omega arith));
   }
 
   pub capture_made : Makes t0 t5 a z (n + 2)
   capture_made =
-      made (n + 2) (then_led 3992 capture_4 p5 (omega arith) (omega arith) (omega arith)) (omega arith) (omega arith) (omega arith) (omega arith) (omega arith) (omega arith)
+      made (n + 2) (then_led 3992 capture_4 p5 (omega arith) (omega arith) (omega arith)) (omega arith) (omega arith) (omega arith)
+          (omega arith) (omega arith) (omega arith)
       (ap is_sparse capture_z)
       (λ table target fin.
       let real_a = out_here table target a (ap stands_for (capture_start target table fin)) in
       let real_z = out_here table target z (ap stands_for (capture_end target table fin)) in
       let P : ℕ → Type 0 = λ k. AllComeOut table target k (length t1.drafts) in
       let Q : ℕ → Type 0 = λ k. AllComeOut table target k (length t5.drafts) in
-      all_join table target (length t0.drafts) (length t1.drafts) (length t5.drafts) (subst P first.is (all_here table target a (length t1.drafts) (omega arith) real_a))
+      all_join table target (length t0.drafts) (length t1.drafts) (length t5.drafts)
+          (subst P first.is (all_here table target a (length t1.drafts) (omega arith) real_a))
       (all_join table target (length t1.drafts) (length t2.drafts) (length t5.drafts)
       (all_on table target z (length t1.drafts) (length t2.drafts) (body.comes_out table z (capture_body target table fin)) real_z)
       (subst Q last.is (all_here table target z (length t5.drafts) (omega arith) real_z))))

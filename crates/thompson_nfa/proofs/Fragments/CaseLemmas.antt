@@ -20,18 +20,23 @@ use Rattle.thompson_nfa.proofs.Walks.MeantLemmas.{meant_never, alt_meant, meant_
 -- from each of the states to e the table does what the tree at the same place of the list means
 pub data AllDenote (back : Bool) (T : Table) (e : ℕ) : List ℕ → List Tree → Type 0 where
   none_denote : AllDenote back T e [] []
-  more_denote : (q : ℕ) (x : Tree) (qs : List ℕ) (xs : List Tree) → Denotes back T q e x → AllDenote back T e qs xs → AllDenote back T e (q ∷ qs) (x ∷ xs)
+  more_denote : (q : ℕ) (x : Tree) (qs : List ℕ) (xs : List Tree) → Denotes back T q e x → AllDenote back T e qs xs →
+      AllDenote back T e (q ∷ qs) (x ∷ xs)
 
 -- one branch more behind the others
-pub all_denote_push : (back : Bool) (T : Table) (e q : ℕ) (x : Tree) (qs : List ℕ) (xs : List Tree) → AllDenote back T e qs xs → Denotes back T q e x →
+pub all_denote_push : (back : Bool) (T : Table) (e q : ℕ) (x : Tree) (qs : List ℕ) (xs : List Tree) → AllDenote back T e qs xs →
+    Denotes back T q e x →
     AllDenote back T e (qs ++ q ∷ []) (xs ++ x ∷ [])
 all_denote_push back T e q x _ _ none_denote d = more_denote q x [] [] d none_denote
-all_denote_push back T e q x _ _ (more_denote p y qs xs c cs) d = more_denote p y (qs ++ q ∷ []) (xs ++ x ∷ []) c (all_denote_push back T e q x qs xs cs d)
+all_denote_push back T e q x _ _ (more_denote p y qs xs c cs) d = more_denote p y (qs ++ q ∷ []) (xs
+    ++ x ∷ []) c (all_denote_push back T e q x qs xs cs d)
 
-pub all_denote_append : (back : Bool) (T : Table) (e : ℕ) (ps qs : List ℕ) (xs ys : List Tree) → AllDenote back T e ps xs → AllDenote back T e qs ys →
+pub all_denote_append : (back : Bool) (T : Table) (e : ℕ) (ps qs : List ℕ) (xs ys : List Tree) → AllDenote back T e ps xs →
+    AllDenote back T e qs ys →
     AllDenote back T e (ps ++ qs) (xs ++ ys)
 all_denote_append back T e _ qs _ ys none_denote ds = ds
-all_denote_append back T e _ qs _ ys (more_denote p y ps xs c cs) ds = more_denote p y (ps ++ qs) (xs ++ ys) c (all_denote_append back T e ps qs xs ys cs ds)
+all_denote_append back T e _ qs _ ys (more_denote p y ps xs c cs) ds =
+    more_denote p y (ps ++ qs) (xs ++ ys) c (all_denote_append back T e ps qs xs ys cs ds)
 
 module _ (back : Bool) (T : Table) (t : Text) (e : ℕ) where
   -- one of the states leads on
@@ -43,12 +48,14 @@ module _ (back : Bool) (T : Table) (t : Text) (e : ℕ) where
   all_complete : (qs : List ℕ) (xs : List Tree) → AllDenote back T e qs xs → (i j : ℕ) → IsMeant back t (alternation xs) i j → Chosen qs i j
   all_complete _ _ none_denote i j m = absurd (meant_never back t i j m)
   all_complete _ _ (more_denote q x qs xs d ds) i j m = elim (meant_alt back t x (alternation xs) i j m) [
-    | inl a ↦ record { by = q; is_way = has_same same_pair pairs_equal (i, q) (i, q) (each_at qs i) refl; on = (d.reaches t).complete i j a }
+    | inl a ↦ record { by = q; is_way = has_same same_pair pairs_equal (i, q) (i, q) (each_at qs i) refl;
+        on = (d.reaches t).complete i j a }
     | inr b ↦ let c = all_complete qs xs ds i j b in
         record { by = c.by; is_way = has_later same_pair (i, c.by) (i, q) (each_at qs i) c.is_way; on = c.on }
   ]
 
-  all_sound : (qs : List ℕ) (xs : List Tree) → AllDenote back T e qs xs → (i : ℕ) (w : ℕ × ℕ) (r : List (ℕ × ℕ)) (m : ℕ × ℕ) → Has same_pair w (each_at qs i) →
+  all_sound : (qs : List ℕ) (xs : List Tree) → AllDenote back T e qs xs → (i : ℕ) (w : ℕ × ℕ) (r : List (ℕ × ℕ)) (m : ℕ × ℕ) →
+      Has same_pair w (each_at qs i) →
       Chain back t T w r → table_match T (last_or w r) ≡ Some m → Passes back t T (IsMeant back t (alternation xs)) i e w r
   all_sound _ _ none_denote i w r m h c final = none_in same_pair w _ h
   all_sound _ _ (more_denote q x qs xs d ds) i w r m h c final = elim (has_cons same_pair pairs_equal w (i, q) (each_at qs i) h) [
@@ -76,7 +83,8 @@ module _ (back : Bool) (T : Table) (t : Text) (e : ℕ) where
         }
   ]
 
-  all_reaches : (u : ℕ) (qs : List ℕ) (xs : List Tree) → AllDenote back T e qs xs → Goes back t T u (each_at qs) → Reaches back t T u e (IsMeant back t (alternation xs))
+  all_reaches : (u : ℕ) (qs : List ℕ) (xs : List Tree) → AllDenote back T e qs xs → Goes back t T u (each_at qs) →
+      Reaches back t T u e (IsMeant back t (alternation xs))
   all_reaches u qs xs all g = record {
     complete = λ i j m. let c = all_complete qs xs all i j m in goes_leads back t T u (each_at qs) i (i, c.by) (j, e) g c.is_way c.on;
     sound = λ i r m c final.
@@ -93,11 +101,13 @@ module _ (back : Bool) (T : Table) (t : Text) (e : ℕ) where
       ((d.halts f.0 t).halts i (λ j m. all j (alt_meant back t x (alternation xs) i j (inl m))))
       (each_ends qs xs ds f.1 i (λ j m. all j (alt_meant back t x (alternation xs) i j (inr m))))
 
-  all_halts : (u : ℕ) (qs : List ℕ) (xs : List Tree) → AllDenote back T e qs xs → Goes back t T u (each_at qs) → LoopsRead (alternation xs) →
+  all_halts : (u : ℕ) (qs : List ℕ) (xs : List Tree) → AllDenote back T e qs xs → Goes back t T u (each_at qs) →
+      LoopsRead (alternation xs) →
       Halts back t T u e (IsMeant back t (alternation xs))
   all_halts u qs xs all g f = record { halts = λ i ends. ended_on back t T u (each_at qs) i g (each_ends qs xs all f i ends) }
 
-all_lists : (T : Table) (t : Text) (e : ℕ) (qs : List ℕ) (xs : List Tree) → AllDenote false T e qs xs → LoopsRead (alternation xs) → (i : ℕ) (l : List (ℕ × ℕ)) →
+all_lists : (T : Table) (t : Text) (e : ℕ) (qs : List ℕ) (xs : List Tree) → AllDenote false T e qs xs → LoopsRead (alternation xs) →
+    (i : ℕ) (l : List (ℕ × ℕ)) →
     Listed t T (at e (preferred_ends t.holds (seen t) (alternation xs) i)) l → ListedFirsts t T (each_at qs i) l
 all_lists T t e _ _ none_denote f i l walk = firsts_of t T [] l walk
 all_lists T t e _ _ (more_denote q x qs xs d ds) f i l walk =
@@ -107,13 +117,16 @@ all_lists T t e _ _ (more_denote q x qs xs d ds) f i l walk =
     firsts_parts t T (at e here) (at e others) ((i, q) ∷ []) (each_at qs i) l (λ m w. (d.orders refl f.0 t).lists i m w)
     (λ m w. all_lists T t e qs xs ds f.1 i m w) (subst P (at_append e here others) walk)
 
-all_orders : (back : Bool) (T : Table) (t : Text) (u e : ℕ) (qs : List ℕ) (xs : List Tree) → back ≡ false → AllDenote back T e qs xs → Goes back t T u (each_at qs) →
+all_orders : (back : Bool) (T : Table) (t : Text) (u e : ℕ) (qs : List ℕ) (xs : List Tree) → back ≡ false → AllDenote back T e qs xs →
+    Goes back t T u (each_at qs) →
     LoopsRead (alternation xs) → Orders t T u e (preferred_ends t.holds (seen t) (alternation xs))
-all_orders false T t u e qs xs up all g f = record { lists = λ i l walk. firsts_on t T u (each_at qs) i l g (all_lists T t e qs xs all f i l walk) }
+all_orders false T t u e qs xs up all g f = record { lists = λ i l walk. firsts_on t T u (each_at qs) i l g
+    (all_lists T t e qs xs all f i l walk) }
 all_orders true T t u e qs xs up all g f = cc
 
 -- a union of the branches' states
-pub denotes_alternation : (back : Bool) (T : Table) (u e : ℕ) (qs : List ℕ) (xs : List Tree) → T u ≡ union_draft qs → AllDenote back T e qs xs →
+pub denotes_alternation : (back : Bool) (T : Table) (u e : ℕ) (qs : List ℕ) (xs : List Tree) → T u ≡ union_draft qs →
+    AllDenote back T e qs xs →
     Denotes back T u e (alternation xs)
 denotes_alternation back T u e qs xs is all = record {
   reaches = λ t. all_reaches back T t e u qs xs all (goes_union back t T u qs is);

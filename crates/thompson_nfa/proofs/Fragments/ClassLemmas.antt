@@ -1,11 +1,13 @@
 -- Fragments of byte classes.
-use Rattle.std.proofs.Common.{◌≡◌, ℕ, zero, suc, ◌+◌, ◌<◌, ◌≤◌, Bool, true, false, List, [], ◌∷◌, length, get_or, refl, sym, ap, ◌∙◌, subst, arith, IsTrue, nat_le, ◌&&◌}
+use Rattle.std.proofs.Common.{◌≡◌, ℕ, zero, suc, ◌+◌, ◌<◌, ◌≤◌, Bool, true, false, List, [], ◌∷◌, length, get_or, refl, sym, ap, ◌∙◌, subst}
+use Rattle.std.proofs.Common.{arith, IsTrue, nat_le, ◌&&◌}
 use Rattle.std.specs.Prelude.{All}
 use Rattle.std.proofs.lemmas.Bool.{leb-true, and_parts}
 use Rattle.std.proofs.lemmas.List.{length-map}
 use Rattle.hir_core.specs.Facts.{rises_from, is_ascending}
 use Rattle.hir_core.specs.Tree.{byte_class}
-use Rattle.nfa_core.specs.BuilderStates.{DraftNode, Assembly, draft_at, patched, draft_bytes, is_sparse, AscendsFrom, empty_draft, sparse_draft}
+use Rattle.nfa_core.specs.BuilderStates.{DraftNode, Assembly, draft_at, patched, draft_bytes, is_sparse, AscendsFrom, empty_draft}
+use Rattle.nfa_core.specs.BuilderStates.{sparse_draft}
 use Rattle.nfa_core.specs.Renaming.{stands_for}
 use Rattle.nfa_core.specs.CanBuild.{names_of}
 use Rattle.nfa_core.specs.declared.build_error.BuildError.{BuildError}
@@ -25,7 +27,8 @@ ascends_from : (low next : ℕ) (ranges : List (ℕ × ℕ)) → rises_from low 
 ascends_from low next [] e = tt
 ascends_from low next (r ∷ rs) e = let x = rising low r rs e in (x.0, x.1, ascends_from (r.1 + 1) next rs x.2)
 
-few_from : (low : ℕ) (ranges : List (ℕ × ℕ)) → rises_from low ranges ≡ true → All (λ r. r.1 < 256) ranges → low ≤ 256 → length ranges + low ≤ 256
+few_from : (low : ℕ) (ranges : List (ℕ × ℕ)) → rises_from low ranges ≡ true → All (λ r. r.1 < 256) ranges → low ≤ 256 →
+    length ranges + low ≤ 256
 few_from low [] e all l = omega arith
 few_from low (r ∷ rs) e all l =
     let x = rising low r rs e in
@@ -35,20 +38,24 @@ few_from low (r ∷ rs) e all l =
     let a = x.0 in let b = x.1 in
     omega arith
 
-pub ascends : (next : ℕ) (ranges : List (ℕ × ℕ)) (transitions : List (ℕ × ℕ × ℕ)) → IsTrue (is_ascending ranges) → transitions ≡ to_one next ranges → AscendsFrom 0 transitions
-ascends next ranges transitions e same = let P : List (ℕ × ℕ × ℕ) → Type 0 = λ l. AscendsFrom 0 l in subst P (sym same) (ascends_from 0 next ranges e)
+pub ascends : (next : ℕ) (ranges : List (ℕ × ℕ)) (transitions : List (ℕ × ℕ × ℕ)) → IsTrue (is_ascending ranges) →
+    transitions ≡ to_one next ranges → AscendsFrom 0 transitions
+ascends next ranges transitions e same = let P : List (ℕ × ℕ × ℕ) → Type 0 = λ l. AscendsFrom 0 l in
+    subst P (sym same) (ascends_from 0 next ranges e)
 
 pub few_ranges : (ranges : List (ℕ × ℕ)) → IsTrue (is_ascending ranges) → All (λ r. r.1 < 256) ranges → length ranges ≤ 256
 few_ranges ranges e all = let few = few_from 0 ranges e all (omega arith) in omega arith
 
 -- the state that reads a byte of the ranges names one state at most
-names_to_one : (n next : ℕ) (ranges : List (ℕ × ℕ)) → next < n → (k d : ℕ) → k < length (names_of (sparse_draft (to_one next ranges))) → get_or (names_of (sparse_draft (to_one next ranges))) k d < n
+names_to_one : (n next : ℕ) (ranges : List (ℕ × ℕ)) → next < n → (k d : ℕ) → k < length (names_of (sparse_draft (to_one next ranges))) →
+    get_or (names_of (sparse_draft (to_one next ranges))) k d < n
 names_to_one n next [] l k d h = absurd (omega arith)
 names_to_one n next (r ∷ rs) l zero d h = l
 names_to_one n next (r ∷ rs) l (suc k) d h = names_to_one n next rs l k d (omega arith)
 
 pub bytes_to_one : (next : ℕ) (ranges : List (ℕ × ℕ)) → length ranges ≤ 256 → draft_bytes (sparse_draft (to_one next ranges)) ≤ 2072
-bytes_to_one next ranges few = let e : length (to_one next ranges) ≡ length ranges = length-map ranges (λ r. (r.0, r.1, next)) in omega arith
+bytes_to_one next ranges few = let e : length (to_one next ranges) ≡ length ranges = length-map ranges (λ r. (r.0, r.1, next)) in
+    omega arith
 
 module _ (a b c : Assembly) (end start : ℕ) (ranges : List (ℕ × ℕ)) (first : Added a b end (empty_draft 0) a.groups)
     (second : Added b c start (sparse_draft (to_one end ranges)) b.groups) (few : length ranges ≤ 256) where
@@ -63,7 +70,8 @@ module _ (a b c : Assembly) (end start : ℕ) (ranges : List (ℕ × ℕ)) (firs
       let bytes : draft_bytes class_part ≤ 2072 = bytes_to_one end ranges few in
       let tame : IsTame true c class_part =
       record { named = names_to_one (length c.drafts) end ranges (omega arith); known = refl; not_barred = refl } in
-      made 2 (then_added 8 (first_added 8 first (tame_one b (empty_draft 0) 0 refl (omega arith) refl refl) (omega arith)) second tame (omega arith)) (omega arith) (omega arith)
+      made 2 (then_added 8 (first_added 8 first (tame_one b (empty_draft 0) 0 refl (omega arith) refl refl) (omega arith)) second tame
+          (omega arith)) (omega arith) (omega arith)
       (omega arith) (omega arith) (omega arith) (omega arith) (ap is_sparse class_end)
       (λ table target fin.
       let last : table end ≡ empty_draft target = fin.led ∙ ap (patched target) class_end in
@@ -83,12 +91,14 @@ module _ (a b c : Assembly) (end start : ℕ) (ranges : List (ℕ × ℕ)) (firs
         (λ l. refl);
   }
 
-pub class_quits : (a b c : Assembly) (end : ℕ) (e : BuildError) → Added a b end (empty_draft 0) a.groups → Stays b c 1 2072 e → Quits a c 2 e
+pub class_quits : (a b c : Assembly) (end : ℕ) (e : BuildError) → Added a b end (empty_draft 0) a.groups → Stays b c 1 2072 e →
+    Quits a c 2 e
 class_quits a b c end e first r =
     then_quits 2 (first_added 8 first (tame_one {plain = true} b (empty_draft 0) 0 refl (omega arith) refl refl) (omega arith)) r
     (omega arith) (omega arith)
 
-pub bytes_shown : (next : ℕ) (ranges : List (ℕ × ℕ)) (transitions : List (ℕ × ℕ × ℕ)) → transitions ≡ to_one next ranges → length ranges ≤ 256 → draft_bytes (sparse_draft transitions) ≤ 2072
+pub bytes_shown : (next : ℕ) (ranges : List (ℕ × ℕ)) (transitions : List (ℕ × ℕ × ℕ)) → transitions ≡ to_one next ranges →
+    length ranges ≤ 256 → draft_bytes (sparse_draft transitions) ≤ 2072
 bytes_shown next ranges transitions same few =
     let e : length transitions ≡ length ranges = ap length same ∙ length-map ranges (λ r. (r.0, r.1, next)) in
     omega arith

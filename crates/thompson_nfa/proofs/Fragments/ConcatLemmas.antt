@@ -1,5 +1,6 @@
 -- Fragments of concatenations and of copies: the parts so far.
-use Rattle.std.proofs.Common.{◌≡◌, inl, inr, ℕ, zero, suc, ◌+◌, ◌-◌, ◌<◌, ◌≤◌, min, Bool, true, false, List, [], ◌∷◌, ◌++◌, length, take, drop, get_or, refl, sym, ap, ◌∙◌, subst, arith}
+use Rattle.std.proofs.Common.{◌≡◌, inl, inr, ℕ, zero, suc, ◌+◌, ◌-◌, ◌<◌, ◌≤◌, min, Bool, true, false, List, [], ◌∷◌, ◌++◌, length, take}
+use Rattle.std.proofs.Common.{drop, get_or, refl, sym, ap, ◌∙◌, subst, arith}
 use Rattle.search_types.specs.Groups.{Groups}
 use Rattle.hir_core.specs.Tree.{Tree, concat, alternation}
 use Rattle.hir_core.specs.Weight.{weight}
@@ -17,7 +18,8 @@ use Rattle.thompson_nfa.specs.declared.which_captures.WhichCaptures.TheVariants 
 use Rattle.thompson_nfa.proofs.Walks.SameLemmas.{same_concat_one}
 use Rattle.thompson_nfa.proofs.Fragments.TurnLemmas.{first_left, last_left, left_all, left_none, concat_joins, concat_begun, concat_ended}
 use Rattle.thompson_nfa.proofs.Fragments.JoinLemmas.{join_made, join_does, does_first, does_all, does_same}
-use Rattle.thompson_nfa.proofs.Steps.ProgressLemmas.{Includes, first_made, then_made, made_capped, then_quits, refuses, then_refuses, first_refuses}
+use Rattle.thompson_nfa.proofs.Steps.ProgressLemmas.{Includes, first_made, then_made, made_capped, then_quits, refuses, then_refuses}
+use Rattle.thompson_nfa.proofs.Steps.ProgressLemmas.{first_refuses}
 use Rattle.thompson_nfa.proofs.Steps.NoGroups.{none_noted}
 
 turned_below : (back : Bool) (i len : ℕ) → i < len → turned_place back i len < len
@@ -47,30 +49,40 @@ room_of_alternation shrink [] = omega arith
 room_of_alternation shrink (x ∷ xs) = let e = room_of_alternation shrink xs in omega arith
 
 -- a group of a part is one of the whole
-has_in_concat : (kept : WhichCaptures) (index : ℕ) (xs : List Tree) (i : ℕ) (d : Tree) → i < length xs → HasGroup kept index (get_or xs i d) → HasGroup kept index (concat xs)
+has_in_concat : (kept : WhichCaptures) (index : ℕ) (xs : List Tree) (i : ℕ) (d : Tree) → i < length xs →
+    HasGroup kept index (get_or xs i d) → HasGroup kept index (concat xs)
 has_in_concat kept index [] i d l h = absurd (omega arith)
 has_in_concat kept index (x ∷ xs) zero d l h = inl h
 has_in_concat kept index (x ∷ xs) (suc i) d l h = inr (has_in_concat kept index xs i d (omega arith) h)
 
-has_in_alternation : (kept : WhichCaptures) (index : ℕ) (xs : List Tree) (i : ℕ) (d : Tree) → i < length xs → HasGroup kept index (get_or xs i d) → HasGroup kept index (alternation xs)
+has_in_alternation : (kept : WhichCaptures) (index : ℕ) (xs : List Tree) (i : ℕ) (d : Tree) → i < length xs →
+    HasGroup kept index (get_or xs i d) → HasGroup kept index (alternation xs)
 has_in_alternation kept index [] i d l h = absurd (omega arith)
 has_in_alternation kept index (x ∷ xs) zero d l h = inl h
 has_in_alternation kept index (x ∷ xs) (suc i) d l h = inr (has_in_alternation kept index xs i d (omega arith) h)
 
-pub concat_includes : (kept : WhichCaptures) (xs : List Tree) (i : ℕ) (x : Tree) → i < length xs → x ≡ get_or xs i x → Includes kept x (concat xs)
-concat_includes kept xs i x l e index h = let P : Tree → Type 0 = λ y. HasGroup kept index y in has_in_concat kept index xs i x l (subst P e h)
+pub concat_includes : (kept : WhichCaptures) (xs : List Tree) (i : ℕ) (x : Tree) → i < length xs → x ≡ get_or xs i x →
+    Includes kept x (concat xs)
+concat_includes kept xs i x l e index h = let P : Tree → Type 0 = λ y. HasGroup kept index y in
+    has_in_concat kept index xs i x l (subst P e h)
 
-pub alternation_includes : (kept : WhichCaptures) (xs : List Tree) (i : ℕ) (x : Tree) → i < length xs → x ≡ get_or xs i x → Includes kept x (alternation xs)
-alternation_includes kept xs i x l e index h = let P : Tree → Type 0 = λ y. HasGroup kept index y in has_in_alternation kept index xs i x l (subst P e h)
+pub alternation_includes : (kept : WhichCaptures) (xs : List Tree) (i : ℕ) (x : Tree) → i < length xs → x ≡ get_or xs i x →
+    Includes kept x (alternation xs)
+alternation_includes kept xs i x l e index h = let P : Tree → Type 0 = λ y. HasGroup kept index y in
+    has_in_alternation kept index xs i x l (subst P e h)
 
-pub left_room : (shrink back : Bool) (xs : List Tree) (i : ℕ) (x : Tree) → i < length xs → x ≡ get_or xs (turned_place back i (length xs)) x →
+pub left_room : (shrink back : Bool) (xs : List Tree) (i : ℕ) (x : Tree) → i < length xs →
+    x ≡ get_or xs (turned_place back i (length xs)) x →
     rooms shrink (left_after back i xs) ≡ room shrink x + rooms shrink (left_after back (i + 1) xs)
 left_room shrink false xs i x l e = ap (rooms shrink) (first_left xs i x x l e)
-left_room shrink true xs i x l e = let p = rooms_push shrink (take (length xs - (i + 1)) xs) x in ap (rooms shrink) (last_left xs i x x l e) ∙ omega arith
+left_room shrink true xs i x l e = let p = rooms_push shrink (take (length xs - (i + 1)) xs) x in
+    ap (rooms shrink) (last_left xs i x x l e) ∙ omega arith
 
 -- the groups of the parts that are left
-pub left_groups : (kept : WhichCaptures) (p : ℕ) (back : Bool) (xs : List Tree) (i : ℕ) (x : Tree) (was now whole : Groups) → (back ≡ true → kept ≡ which.None) → i < length xs →
-    x ≡ get_or xs (turned_place back i (length xs)) x → now ≡ noted kept p x was → noted kept p (concat (left_after back i xs)) was ≡ whole → noted kept p (concat (left_after back (i + 1) xs)) now ≡ whole
+pub left_groups : (kept : WhichCaptures) (p : ℕ) (back : Bool) (xs : List Tree) (i : ℕ) (x : Tree) (was now whole : Groups) →
+    (back ≡ true → kept ≡ which.None) → i < length xs →
+    x ≡ get_or xs (turned_place back i (length xs)) x → now ≡ noted kept p x was →
+        noted kept p (concat (left_after back i xs)) was ≡ whole → noted kept p (concat (left_after back (i + 1) xs)) now ≡ whole
 left_groups kept p false xs i x was now whole none l e is so_far =
     ap (noted kept p (concat (drop (i + 1) xs))) is ∙ sym (ap (λ ys. noted kept p (concat ys) was) (first_left xs i x x l e)) ∙ so_far
 left_groups kept p true xs i x was now whole none l e is so_far =
@@ -85,10 +97,13 @@ pub record Parts (how : How) (old mid : Assembly) (start end i : ℕ) (xs : List
   pub made : Makes old mid start end n
   pub fits : n + rooms how.shrink (left_after old.reverse i xs) ≤ rooms how.shrink xs
   pub does : DoesFirst old mid start end (concat (left_after old.reverse i xs)) (concat xs)
-  pub groups : noted how.which (length old.starts) (concat (left_after old.reverse i xs)) mid.groups ≡ noted how.which (length old.starts) (concat xs) old.groups
+  pub groups : noted how.which (length old.starts) (concat (left_after old.reverse i xs)) mid.groups ≡ noted how.which (length old.starts)
+      (concat xs) old.groups
 
-pub parts_first : (how : How) (old mid : Assembly) (s e : ℕ) (x : Tree) (xs : List Tree) → IsReady how.which old → 0 < length xs → x ≡ get_or xs (turned_place old.reverse 0 (length xs)) x →
-    Makes old mid s e (room how.shrink x) → Does old mid s e x → mid.groups ≡ noted how.which (length old.starts) x old.groups → Parts how old mid s e 1 xs
+pub parts_first : (how : How) (old mid : Assembly) (s e : ℕ) (x : Tree) (xs : List Tree) → IsReady how.which old → 0 < length xs →
+    x ≡ get_or xs (turned_place old.reverse 0 (length xs)) x →
+    Makes old mid s e (room how.shrink x) → Does old mid s e x → mid.groups ≡ noted how.which (length old.starts) x old.groups →
+        Parts how old mid s e 1 xs
 parts_first how old mid s e x xs ready some is m d g =
     let counted = left_room how.shrink old.reverse xs 0 x some is in
     let all : rooms how.shrink (left_after old.reverse 0 xs) ≡ rooms how.shrink xs = ap (rooms how.shrink) (left_all old.reverse xs) in
@@ -97,17 +112,22 @@ parts_first how old mid s e x xs ready some is m d g =
       n = room how.shrink x;
       made = m;
       fits = omega arith;
-      does = does_first old mid s e (concat (x ∷ [])) (concat (left_after old.reverse 1 xs)) (concat xs) (concat_begun old.reverse xs x some is)
+      does = does_first old mid s e (concat (x ∷ [])) (concat (left_after old.reverse 1 xs)) (concat xs)
+          (concat_begun old.reverse xs x some is)
           (does_same old mid s e x (concat (x ∷ [])) (same_concat_one x) d);
-      groups = left_groups how.which (length old.starts) old.reverse xs 0 x old.groups mid.groups (noted how.which (length old.starts) (concat xs) old.groups) ready.forward some is g
+      groups = left_groups how.which (length old.starts) old.reverse xs 0 x old.groups mid.groups
+          (noted how.which (length old.starts) (concat xs) old.groups) ready.forward some is g
           (ap (λ ys. noted how.which (length old.starts) (concat ys) old.groups) (left_all old.reverse xs));
     }
 
-starts_kept : {how : How} {old mid : Assembly} {start end i : ℕ} {xs : List Tree} → Parts how old mid start end i xs → length mid.starts ≡ length old.starts
+starts_kept : {how : How} {old mid : Assembly} {start end i : ℕ} {xs : List Tree} → Parts how old mid start end i xs →
+    length mid.starts ≡ length old.starts
 starts_kept ps = ap (λ (b : Assembly). length b.starts) ps.made.fragment.grows.settings
 
-pub parts_then : (how : How) (old b c d : Assembly) (start end s e i : ℕ) (x : Tree) (xs : List Tree) → IsReady how.which old → i < length xs → x ≡ get_or xs (turned_place old.reverse i (length xs)) x →
-    Parts how old b start end i xs → Makes b c s e (room how.shrink x) → Does b c s e x → c.groups ≡ noted how.which (length b.starts) x b.groups → Led c d end s → Parts how old d start e (i + 1) xs
+pub parts_then : (how : How) (old b c d : Assembly) (start end s e i : ℕ) (x : Tree) (xs : List Tree) → IsReady how.which old →
+    i < length xs → x ≡ get_or xs (turned_place old.reverse i (length xs)) x →
+    Parts how old b start end i xs → Makes b c s e (room how.shrink x) → Does b c s e x →
+        c.groups ≡ noted how.which (length b.starts) x b.groups → Led c d end s → Parts how old d start e (i + 1) xs
 parts_then how old b c d start end s e i x xs ready inside is ps m does g led =
     let counted = left_room how.shrink old.reverse xs i x inside is in
     let fits = ps.fits in
@@ -117,9 +137,11 @@ parts_then how old b c d start end s e i x xs ready inside is ps m does g led =
       n = ps.n + room how.shrink x;
       made = join_made old b c d start end ps.n s e (room how.shrink x) ps.made m led;
       fits = omega arith;
-      does = join_does old b c d start end ps.n s e (room how.shrink x) ps.made m led (concat (x ∷ [])) (concat (left_after old.reverse (i + 1) xs)) (concat (left_after old.reverse i xs)) (concat xs)
+      does = join_does old b c d start end ps.n s e (room how.shrink x) ps.made m led (concat (x ∷ []))
+          (concat (left_after old.reverse (i + 1) xs)) (concat (left_after old.reverse i xs)) (concat xs)
           (concat_joins old.reverse xs i x inside is) ps.does (does_same b c s e x (concat (x ∷ [])) (same_concat_one x) does);
-      groups = left_groups how.which (length old.starts) old.reverse xs i x b.groups d.groups (noted how.which (length old.starts) (concat xs) old.groups) ready.forward inside is groups ps.groups;
+      groups = left_groups how.which (length old.starts) old.reverse xs i x b.groups d.groups
+          (noted how.which (length old.starts) (concat xs) old.groups) ready.forward inside is groups ps.groups;
     }
 
 module _ (how : How) (old mid : Assembly) (start end i : ℕ) (xs : List Tree) (ps : Parts how old mid start end i xs) where
@@ -127,34 +149,43 @@ module _ (how : How) (old mid : Assembly) (start end i : ℕ) (xs : List Tree) (
   parts_made = let c = room_of_concat how.shrink xs in let r = ps.fits in made_capped (room how.shrink (concat xs)) ps.made (omega arith)
 
   pub parts_does : length xs ≤ i → Does old mid start end (concat xs)
-  parts_does over = does_all old mid start end (concat (left_after old.reverse i xs)) (concat xs) (concat_ended old.reverse i xs over) ps.does
+  parts_does over = does_all old mid start end (concat (left_after old.reverse i xs)) (concat xs)
+      (concat_ended old.reverse i xs over) ps.does
 
   pub parts_groups : length xs ≤ i → mid.groups ≡ noted how.which (length old.starts) (concat xs) old.groups
-  parts_groups over = sym (ap (λ ys. noted how.which (length old.starts) (concat ys) mid.groups) (left_none old.reverse i xs over)) ∙ ps.groups
+  parts_groups over = sym (ap (λ ys. noted how.which (length old.starts) (concat ys) mid.groups) (left_none old.reverse i xs over))
+      ∙ ps.groups
 
   -- the next part is refused, or that it is led to
-  pub parts_refused : (new : Assembly) (x : Tree) (e : BuildError) → i < length xs → x ≡ get_or xs (turned_place old.reverse i (length xs)) x →
+  pub parts_refused : (new : Assembly) (x : Tree) (e : BuildError) → i < length xs →
+      x ≡ get_or xs (turned_place old.reverse i (length xs)) x →
       Refuses how.which mid new (room how.shrink x) x e → Refuses how.which old new (room how.shrink (concat xs)) (concat xs) e
   parts_refused new x e inside is r =
       let counted = left_room how.shrink old.reverse xs i x inside is in
       let fits = ps.fits in
       let c = room_of_concat how.shrink xs in
-      first_refuses (room how.shrink (concat xs)) (concat xs) (then_refuses (rooms how.shrink xs) (concat xs) (first_made ps.made) r (concat_includes how.which xs (turned_place old.reverse i (length xs)) x (turned_below old.reverse i (length xs) inside) is) (omega arith))
+      first_refuses (room how.shrink (concat xs)) (concat xs) (then_refuses (rooms how.shrink xs) (concat xs) (first_made ps.made) r
+          (concat_includes how.which xs (turned_place old.reverse i (length xs)) x (turned_below old.reverse i (length xs) inside) is)
+          (omega arith))
       (λ index h. h) (omega arith)
 
-  pub parts_lead_refused : (b new : Assembly) (s t : ℕ) (x : Tree) (e : BuildError) → i < length xs → x ≡ get_or xs (turned_place old.reverse i (length xs)) x →
+  pub parts_lead_refused : (b new : Assembly) (s t : ℕ) (x : Tree) (e : BuildError) → i < length xs →
+      x ≡ get_or xs (turned_place old.reverse i (length xs)) x →
       Makes mid b s t (room how.shrink x) → Stays b new 0 4 e → Refuses how.which old new (room how.shrink (concat xs)) (concat xs) e
   parts_lead_refused b new s t x e inside is m r =
       let counted = left_room how.shrink old.reverse xs i x inside is in
       let fits = ps.fits in
       let c = room_of_concat how.shrink xs in
-      refuses how.which (room how.shrink (concat xs)) (concat xs) (then_quits (rooms how.shrink xs) (then_made 8 (first_made ps.made) m (omega arith)) r (omega arith) (omega arith)) (omega arith)
+      refuses how.which (room how.shrink (concat xs)) (concat xs) (then_quits (rooms how.shrink xs)
+          (then_made 8 (first_made ps.made) m (omega arith)) r (omega arith) (omega arith)) (omega arith)
 
 -- the first part is refused
-pub first_part_refused : (how : How) (old new : Assembly) (x : Tree) (xs : List Tree) (e : BuildError) → 0 < length xs → x ≡ get_or xs (turned_place old.reverse 0 (length xs)) x →
+pub first_part_refused : (how : How) (old new : Assembly) (x : Tree) (xs : List Tree) (e : BuildError) → 0 < length xs →
+    x ≡ get_or xs (turned_place old.reverse 0 (length xs)) x →
     Refuses how.which old new (room how.shrink x) x e → Refuses how.which old new (room how.shrink (concat xs)) (concat xs) e
 first_part_refused how old new x xs e some is r =
     let counted = left_room how.shrink old.reverse xs 0 x some is in
     let all : rooms how.shrink (left_after old.reverse 0 xs) ≡ rooms how.shrink xs = ap (rooms how.shrink) (left_all old.reverse xs) in
     let c = room_of_concat how.shrink xs in
-    first_refuses (room how.shrink (concat xs)) (concat xs) r (concat_includes how.which xs (turned_place old.reverse 0 (length xs)) x (turned_below old.reverse 0 (length xs) some) is) (omega arith)
+    first_refuses (room how.shrink (concat xs)) (concat xs) r (concat_includes how.which xs (turned_place old.reverse 0 (length xs)) x
+        (turned_below old.reverse 0 (length xs) some) is) (omega arith)

@@ -1,5 +1,6 @@
 -- Fragments of copies and of rounds that may be passed by: the rounds so far.
-use Rattle.std.proofs.Common.{◌≡◌, ℕ, zero, suc, ◌+◌, ◌-◌, ◌*◌, ◌<◌, ◌≤◌, max, Bool, length, Option, Some, None, refl, sym, ap, ◌∙◌, subst, arith, ◌||◌}
+use Rattle.std.proofs.Common.{◌≡◌, ℕ, zero, suc, ◌+◌, ◌-◌, ◌*◌, ◌<◌, ◌≤◌, max, Bool, length, Option, Some, None, refl, sym, ap, ◌∙◌, subst}
+use Rattle.std.proofs.Common.{arith, ◌||◌}
 use Rattle.search_types.specs.Groups.{Groups}
 use Rattle.hir_core.specs.Tree.{Tree, empty, repetition}
 use Rattle.nfa_core.specs.BuilderStates.{Assembly, empty_draft}
@@ -39,17 +40,20 @@ copies_one a b s e x does = record {
       let Q : Option ℕ → Type 0 = λ o. DoesFirst a b s e (repetition low most greedy x) (repetition (suc low) o greedy x) in
       let one : suc low ≡ 1 + low = omega arith in
       subst P one (subst Q (one_raised most)
-      (does_first a b s e x (repetition low most greedy x) (repetition (suc low) (one_more most) greedy x) (joins_copy a.reverse low most greedy x) does));
+      (does_first a b s e x (repetition low most greedy x) (repetition (suc low) (one_more most) greedy x)
+          (joins_copy a.reverse low most greedy x) does));
 }
 
-pub copies_more : (a b c d : Assembly) (s1 e1 n1 s2 e2 n2 n : ℕ) (x : Tree) → Makes a b s1 e1 n1 → Makes b c s2 e2 n2 → Led c d e1 s2 → DoesCopies a b s1 e1 n x → Does b c s2 e2 x → DoesCopies a d s1 e2 (n + 1) x
+pub copies_more : (a b c d : Assembly) (s1 e1 n1 s2 e2 n2 n : ℕ) (x : Tree) → Makes a b s1 e1 n1 → Makes b c s2 e2 n2 → Led c d e1 s2 →
+    DoesCopies a b s1 e1 n x → Does b c s2 e2 x → DoesCopies a d s1 e2 (n + 1) x
 copies_more a b c d s1 e1 n1 s2 e2 n2 n x first second led copies does = record {
   before = λ low most greedy.
       let P : ℕ → Type 0 = λ k. DoesFirst a d s1 e2 (repetition low most greedy x) (repetition k (raised (n + 1) most) greedy x) in
       let Q : Option ℕ → Type 0 = λ o. DoesFirst a d s1 e2 (repetition low most greedy x) (repetition (n + suc low) o greedy x) in
       let one : n + suc low ≡ n + 1 + low = omega arith in
       subst P one (subst Q (raised_more n most)
-      (join_does a b c d s1 e1 n1 s2 e2 n2 first second led x (repetition low most greedy x) (repetition (suc low) (one_more most) greedy x) (repetition (n + suc low) (raised n (one_more most)) greedy x)
+      (join_does a b c d s1 e1 n1 s2 e2 n2 first second led x (repetition low most greedy x) (repetition (suc low) (one_more most) greedy x)
+          (repetition (n + suc low) (raised n (one_more most)) greedy x)
       (joins_copy a.reverse low most greedy x) (copies.before (suc low) (one_more most) greedy) does));
 }
 
@@ -58,44 +62,58 @@ pub record Copies (how : How) (old mid : Assembly) (start end i : ℕ) (x : Tree
   pub does : DoesCopies old mid start end i x
   pub groups : mid.groups ≡ noted how.which (length old.starts) x old.groups
 
-pub copies_first : (how : How) (old mid : Assembly) (s e : ℕ) (x : Tree) → Makes old mid s e (room how.shrink x) → Does old mid s e x → mid.groups ≡ noted how.which (length old.starts) x old.groups →
+pub copies_first : (how : How) (old mid : Assembly) (s e : ℕ) (x : Tree) → Makes old mid s e (room how.shrink x) → Does old mid s e x →
+    mid.groups ≡ noted how.which (length old.starts) x old.groups →
     Copies how old mid s e 1 x
-copies_first how old mid s e x m d g = record { made = made_capped (1 * room how.shrink x) m (omega arith); does = copies_one old mid s e x d; groups = g }
+copies_first how old mid s e x m d g = record { made = made_capped (1 * room how.shrink x) m (omega arith);
+    does = copies_one old mid s e x d; groups = g }
 
 -- the groups of one more copy
-pub groups_again : (kept : WhichCaptures) (p q : ℕ) (x : Tree) (old was now : Groups) → q ≡ p → was ≡ noted kept p x old → now ≡ noted kept q x was → now ≡ noted kept p x old
-groups_again kept p q x old was now same before is = is ∙ ap (λ k. noted kept k x was) same ∙ ap (noted kept p x) before ∙ noted_twice kept p x old
+pub groups_again : (kept : WhichCaptures) (p q : ℕ) (x : Tree) (old was now : Groups) → q ≡ p → was ≡ noted kept p x old →
+    now ≡ noted kept q x was → now ≡ noted kept p x old
+groups_again kept p q x old was now same before is = is ∙ ap (λ k. noted kept k x was) same ∙ ap (noted kept p x) before
+    ∙ noted_twice kept p x old
 
-pub copies_then : (how : How) (old b c d : Assembly) (start end s e i : ℕ) (x : Tree) → Copies how old b start end i x → Makes b c s e (room how.shrink x) → Does b c s e x →
+pub copies_then : (how : How) (old b c d : Assembly) (start end s e i : ℕ) (x : Tree) → Copies how old b start end i x →
+    Makes b c s e (room how.shrink x) → Does b c s e x →
     c.groups ≡ noted how.which (length b.starts) x b.groups → Led c d end s → Copies how old d start e (i + 1) x
 copies_then how old b c d start end s e i x cs m does g led = record {
-  made = made_capped ((i + 1) * room how.shrink x) (join_made old b c d start end (i * room how.shrink x) s e (room how.shrink x) cs.made m led) (omega arith);
+  made = made_capped ((i + 1) * room how.shrink x) (join_made old b c d start end (i * room how.shrink x) s e
+      (room how.shrink x) cs.made m led) (omega arith);
   does = copies_more old b c d start end (i * room how.shrink x) s e (room how.shrink x) i x cs.made m led cs.does does;
   groups = ap (λ (z : Assembly). z.groups) led.settings
-      ∙ groups_again how.which (length old.starts) (length b.starts) x old.groups b.groups c.groups (ap (λ (z : Assembly). length z.starts) cs.made.fragment.grows.settings) cs.groups g;
+      ∙ groups_again how.which (length old.starts) (length b.starts) x old.groups b.groups c.groups
+          (ap (λ (z : Assembly). length z.starts) cs.made.fragment.grows.settings) cs.groups g;
 }
 
-pub copies_refused : (how : How) (old b new : Assembly) (start end i n : ℕ) (x : Tree) (e : BuildError) → Copies how old b start end i x → i < n → Refuses how.which b new (room how.shrink x) x e →
+pub copies_refused : (how : How) (old b new : Assembly) (start end i n : ℕ) (x : Tree) (e : BuildError) → Copies how old b start end i x →
+    i < n → Refuses how.which b new (room how.shrink x) x e →
     Refuses how.which old new (n * room how.shrink x) x e
-copies_refused how old b new start end i n x e cs l r = let fits = one_fits i n (room how.shrink x) l in then_refuses (n * room how.shrink x) x (first_made cs.made) r (λ index h. h) fits
+copies_refused how old b new start end i n x e cs l r = let fits = one_fits i n (room how.shrink x) l in
+    then_refuses (n * room how.shrink x) x (first_made cs.made) r (λ index h. h) fits
 
-pub copies_lead_refused : (how : How) (old b c new : Assembly) (start end s t i n : ℕ) (x : Tree) (e : BuildError) → Copies how old b start end i x → i < n → Makes b c s t (room how.shrink x) → Stays c new 0 4 e →
+pub copies_lead_refused : (how : How) (old b c new : Assembly) (start end s t i n : ℕ) (x : Tree) (e : BuildError) →
+    Copies how old b start end i x → i < n → Makes b c s t (room how.shrink x) → Stays c new 0 4 e →
     Refuses how.which old new (n * room how.shrink x) x e
 copies_lead_refused how old b c new start end s t i n x e cs l m r =
     let fits = one_fits i n (room how.shrink x) l in
-    refuses how.which (n * room how.shrink x) x (then_quits (n * room how.shrink x) (then_made 8 (first_made cs.made) m (omega arith)) r (omega arith) (omega arith)) (omega arith)
+    refuses how.which (n * room how.shrink x) x (then_quits (n * room how.shrink x) (then_made 8 (first_made cs.made) m (omega arith)) r
+        (omega arith) (omega arith)) (omega arith)
 
 -- exactly so many copies
-pub copies_exact : (old new : Assembly) (s e low most : ℕ) (greedy : Bool) (x : Tree) → low ≡ most → DoesCopies old new s e low x → Does old new s e (repetition low (Some most) greedy x)
+pub copies_exact : (old new : Assembly) (s e low most : ℕ) (greedy : Bool) (x : Tree) → low ≡ most → DoesCopies old new s e low x →
+    Does old new s e (repetition low (Some most) greedy x)
 copies_exact old new s e low most greedy x same copies =
     let P : ℕ → Type 0 = λ k. Does old new s e (repetition k (Some most) greedy x) in
     let Q : ℕ → Type 0 = λ k. Does old new s e (repetition (low + 0) (Some k) greedy x) in
     let a : low + 0 ≡ low = omega arith in
     let b : low + 0 ≡ most = omega arith in
-    subst P a (subst Q b (does_all old new s e (repetition 0 (Some 0) greedy x) (repetition (low + 0) (Some (low + 0)) greedy x) (same_stopped greedy x) (copies.before 0 (Some 0) greedy)))
+    subst P a (subst Q b (does_all old new s e (repetition 0 (Some 0) greedy x) (repetition (low + 0) (Some (low + 0)) greedy x)
+        (same_stopped greedy x) (copies.before 0 (Some 0) greedy)))
 
 -- copies before a loop
-pub copies_loop : (a b c d : Assembly) (s1 e1 n1 s2 e2 n2 low : ℕ) (greedy : Bool) (x : Tree) → Makes a b s1 e1 n1 → Makes b c s2 e2 n2 → Led c d e1 s2 → 0 < low → DoesCopies a b s1 e1 (low - 1) x →
+pub copies_loop : (a b c d : Assembly) (s1 e1 n1 s2 e2 n2 low : ℕ) (greedy : Bool) (x : Tree) → Makes a b s1 e1 n1 → Makes b c s2 e2 n2 →
+    Led c d e1 s2 → 0 < low → DoesCopies a b s1 e1 (low - 1) x →
     Does b c s2 e2 (repetition 1 None greedy x) → Does a d s1 e2 (repetition low None greedy x)
 copies_loop a b c d s1 e1 n1 s2 e2 n2 low greedy x first second led some copies does =
     let P : ℕ → Type 0 = λ k. Does a d s1 e2 (repetition k None greedy x) in
@@ -104,7 +122,8 @@ copies_loop a b c d s1 e1 n1 s2 e2 n2 low greedy x first second led some copies 
     subst P same (record {
       denotes = λ table target fin.
           lead.before table s2 (join_first a b c d s1 e1 n1 s2 e2 n2 first second led target table fin) target
-          (reads_as a b table s2 target (repetition 1 None greedy x) first.fragment.grows (does.denotes table target (join_second a b c d s1 e1 n1 s2 e2 n2 first second led target table fin)));
+          (reads_as a b table s2 target (repetition 1 None greedy x) first.fragment.grows
+              (does.denotes table target (join_second a b c d s1 e1 n1 s2 e2 n2 first second led target table fin)));
       looks = λ l. quiet_led led l ∙ does.looks l
           ∙ ap (λ (r : Bool). looks_in b.drafts l || uses r x l) (ap (λ (z : Assembly). z.reverse) first.fragment.grows.settings)
           ∙ lead.looks l;
@@ -117,8 +136,10 @@ pub record Rounds (how : How) (old mid : Assembly) (start end z i low most total
   pub fits : n + (most - i) * (room how.shrink x + 1) ≤ total
   pub groups : mid.groups ≡ noted how.which (length old.starts) x old.groups
 
-pub rounds_owed : (how : How) (t0 t1 t2 : Assembly) (s e z low most : ℕ) (greedy : Bool) (x : Tree) → low ≤ most → Makes t0 t1 s e (low * room how.shrink x) → DoesCopies t0 t1 s e low x →
-    t1.groups ≡ noted how.which (length t0.starts) x t0.groups → Added t1 t2 z (empty_draft 0) t1.groups → Rounds how t0 t2 s e z low low most (low * room how.shrink x + (most - low) * (room how.shrink x + 1) + 1) greedy x
+pub rounds_owed : (how : How) (t0 t1 t2 : Assembly) (s e z low most : ℕ) (greedy : Bool) (x : Tree) → low ≤ most →
+    Makes t0 t1 s e (low * room how.shrink x) → DoesCopies t0 t1 s e low x →
+    t1.groups ≡ noted how.which (length t0.starts) x t0.groups → Added t1 t2 z (empty_draft 0) t1.groups →
+        Rounds how t0 t2 s e z low low most (low * room how.shrink x + (most - low) * (room how.shrink x + 1) + 1) greedy x
 rounds_owed how t0 t1 t2 s e z low most greedy x le m copies g added = record {
   n = low * room how.shrink x + 1;
   options = options_owed t0 t1 t2 s e (low * room how.shrink x) z (most - low) low most greedy x m copies added (omega arith);
@@ -126,47 +147,58 @@ rounds_owed how t0 t1 t2 s e z low most greedy x le m copies g added = record {
   groups = added.groups_are ∙ g;
 }
 
-pub rounds_first : (how : How) (t0 t1 t2 : Assembly) (u e z most : ℕ) (greedy : Bool) (x : Tree) → 0 < most → Added t0 t1 z (empty_draft 0) t0.groups → Makes t1 t2 u e (room how.shrink x + 1) →
-    DoesOption t1 t2 u e z greedy x → t2.groups ≡ noted how.which (length t1.starts) x t1.groups → Rounds how t0 t2 u e z 1 0 most (most * (room how.shrink x + 1) + 1) greedy x
+pub rounds_first : (how : How) (t0 t1 t2 : Assembly) (u e z most : ℕ) (greedy : Bool) (x : Tree) → 0 < most →
+    Added t0 t1 z (empty_draft 0) t0.groups → Makes t1 t2 u e (room how.shrink x + 1) →
+    DoesOption t1 t2 u e z greedy x → t2.groups ≡ noted how.which (length t1.starts) x t1.groups →
+        Rounds how t0 t2 u e z 1 0 most (most * (room how.shrink x + 1) + 1) greedy x
 rounds_first how t0 t1 t2 u e z zero greedy x some added m does g = absurd (omega arith)
 rounds_first how t0 t1 t2 u e z (suc left) greedy x some added m does g = record {
   n = 1 + (room how.shrink x + 1);
   options = options_first t0 t1 t2 u e (room how.shrink x + 1) z (suc left - 1) (suc left) greedy x added m does (omega arith);
   fits = let e : suc left - 1 ≡ left = omega arith in let f = ap (λ k. k * (room how.shrink x + 1)) e in omega arith;
-  groups = g ∙ ap (λ p. noted how.which p x t1.groups) (ap (λ (b : Assembly). length b.starts) added.grows.settings) ∙ ap (noted how.which (length t0.starts) x) added.groups_are;
+  groups = g ∙ ap (λ p. noted how.which p x t1.groups) (ap (λ (b : Assembly). length b.starts) added.grows.settings)
+      ∙ ap (noted how.which (length t0.starts) x) added.groups_are;
 }
 
 round_less : (i most k : ℕ) → i < most → (most - i) * k ≡ (most - (i + 1)) * k + k
 round_less i most k l = let e : most - i ≡ suc (most - (i + 1)) = omega arith in ap (λ n. n * k) e ∙ omega arith
 
-module _ (how : How) (old b : Assembly) (start end z i low most total : ℕ) (greedy : Bool) (x : Tree) (rs : Rounds how old b start end z i low most total greedy x) where
-  pub rounds_then : (c d : Assembly) (u e : ℕ) → i < most → Makes b c u e (room how.shrink x + 1) → DoesOption b c u e z greedy x → c.groups ≡ noted how.which (length b.starts) x b.groups → Led c d end u →
+module _ (how : How) (old b : Assembly) (start end z i low most total : ℕ) (greedy : Bool) (x : Tree)
+    (rs : Rounds how old b start end z i low most total greedy x) where
+  pub rounds_then : (c d : Assembly) (u e : ℕ) → i < most → Makes b c u e (room how.shrink x + 1) → DoesOption b c u e z greedy x →
+      c.groups ≡ noted how.which (length b.starts) x b.groups → Led c d end u →
       Rounds how old d start e z (i + 1) low most total greedy x
   rounds_then c d u e l m does g led =
       let step = round_less i most (room how.shrink x + 1) l in
       let fits = rs.fits in
       record {
         n = rs.n + (room how.shrink x + 1);
-        options = options_then old b c d start end z rs.n (most - i) (most - (i + 1)) low most u e (room how.shrink x + 1) greedy x rs.options m does led (omega arith);
+        options = options_then old b c d start end z rs.n (most - i) (most - (i + 1)) low most u e
+            (room how.shrink x + 1) greedy x rs.options m does led (omega arith);
         fits = omega arith;
         groups = ap (λ (w : Assembly). w.groups) led.settings
-            ∙ groups_again how.which (length old.starts) (length b.starts) x old.groups b.groups c.groups (ap (λ (w : Assembly). length w.starts) rs.options.progress.partly.grows.settings) rs.groups g;
+            ∙ groups_again how.which (length old.starts) (length b.starts) x old.groups b.groups c.groups
+                (ap (λ (w : Assembly). length w.starts) rs.options.progress.partly.grows.settings) rs.groups g;
       }
 
-  pub rounds_refused : (new : Assembly) (e : BuildError) → i < most → Refuses how.which b new (room how.shrink x + 1) x e → Refuses how.which old new total x e
+  pub rounds_refused : (new : Assembly) (e : BuildError) → i < most → Refuses how.which b new (room how.shrink x + 1) x e →
+      Refuses how.which old new total x e
   rounds_refused new e l r =
       let step = round_less i most (room how.shrink x + 1) l in
       let fits = rs.fits in
       then_refuses total x rs.options.progress r (λ index h. h) (omega arith)
 
-  pub rounds_lead_refused : (c new : Assembly) (u t : ℕ) (e : BuildError) → i < most → Makes b c u t (room how.shrink x + 1) → Stays c new 0 4 e → Refuses how.which old new total x e
+  pub rounds_lead_refused : (c new : Assembly) (u t : ℕ) (e : BuildError) → i < most → Makes b c u t (room how.shrink x + 1) →
+      Stays c new 0 4 e → Refuses how.which old new total x e
   rounds_lead_refused c new u t e l m r =
       let step = round_less i most (room how.shrink x + 1) l in
       let fits = rs.fits in
-      refuses how.which total x (then_quits total (then_made 8 rs.options.progress m (omega arith)) r (omega arith) (omega arith)) (omega arith)
+      refuses how.which total x (then_quits total (then_made 8 rs.options.progress m (omega arith)) r (omega arith) (omega arith))
+          (omega arith)
 
   pub rounds_last_refused : (new : Assembly) (e : BuildError) → Stays b new 0 4 e → Refuses how.which old new total x e
-  rounds_last_refused new e r = let fits = rs.fits in refuses how.which total x (then_quits total rs.options.progress r (omega arith) (omega arith)) (omega arith)
+  rounds_last_refused new e r = let fits = rs.fits in refuses how.which total x
+      (then_quits total rs.options.progress r (omega arith) (omega arith)) (omega arith)
 
   pub rounds_made : (new : Assembly) → Led b new end z → most ≤ i → Makes old new start z total
   rounds_made new led over =
@@ -176,29 +208,35 @@ module _ (how : How) (old b : Assembly) (start end z i low most total : ℕ) (gr
   pub rounds_does : (new : Assembly) → Led b new end z → most ≤ i → Does old new start z (repetition low (Some most) greedy x)
   rounds_does new led over = options_does old b new start end z rs.n (most - i) low most greedy x rs.options led (omega arith)
 
-pub copies_done : (how : How) (old mid : Assembly) (start end i n : ℕ) (x : Tree) → Copies how old mid start end i x → i ≤ n → n ≤ i → DoesCopies old mid start end n x
-copies_done how old mid start end i n x cs le ge = let same : i ≡ n = omega arith in let P : ℕ → Type 0 = λ k. DoesCopies old mid start end k x in subst P same cs.does
+pub copies_done : (how : How) (old mid : Assembly) (start end i n : ℕ) (x : Tree) → Copies how old mid start end i x → i ≤ n → n ≤ i →
+    DoesCopies old mid start end n x
+copies_done how old mid start end i n x cs le ge = let same : i ≡ n = omega arith in let P : ℕ → Type 0 =
+    λ k. DoesCopies old mid start end k x in subst P same cs.does
 
 before_last : (low k : ℕ) → 0 < low → (low - 1) * k + k ≡ low * k
 before_last zero k l = absurd (omega arith)
 before_last (suc low) k l = let e : suc low - 1 ≡ low = omega arith in ap (λ n. n * k + k) e ∙ omega arith
 
-pub at_least_made : (shrink : Bool) (a b c d : Assembly) (s1 e1 s2 e2 low : ℕ) (greedy : Bool) (x : Tree) → 1 < low → Makes a b s1 e1 ((low - 1) * room shrink x) → Makes b c s2 e2 (room shrink x + 1) → Led c d e1 s2 →
+pub at_least_made : (shrink : Bool) (a b c d : Assembly) (s1 e1 s2 e2 low : ℕ) (greedy : Bool) (x : Tree) → 1 < low →
+    Makes a b s1 e1 ((low - 1) * room shrink x) → Makes b c s2 e2 (room shrink x + 1) → Led c d e1 s2 →
     Makes a d s1 e2 (room shrink (repetition low None greedy x))
 at_least_made shrink a b c d s1 e1 s2 e2 low greedy x some first second led =
     let e = before_last low (room shrink x) (omega arith) in
     let most : max low 1 ≡ low = omega arith in
     let f = ap (λ n. n * room shrink x) most in
-    made_capped (room shrink (repetition low None greedy x)) (join_made a b c d s1 e1 ((low - 1) * room shrink x) s2 e2 (room shrink x + 1) first second led) (omega arith)
+    made_capped (room shrink (repetition low None greedy x)) (join_made a b c d s1 e1 ((low - 1) * room shrink x) s2 e2
+        (room shrink x + 1) first second led) (omega arith)
 
-pub stopped_does : (a b : Assembly) (s e low most : ℕ) (greedy : Bool) (x : Tree) → most ≡ 0 → low ≤ most → Does a b s e empty → Does a b s e (repetition low (Some most) greedy x)
+pub stopped_does : (a b : Assembly) (s e low most : ℕ) (greedy : Bool) (x : Tree) → most ≡ 0 → low ≤ most → Does a b s e empty →
+    Does a b s e (repetition low (Some most) greedy x)
 stopped_does a b s e low most greedy x none le does =
     let P : ℕ → Type 0 = λ k. Does a b s e (repetition k (Some most) greedy x) in
     let Q : ℕ → Type 0 = λ k. Does a b s e (repetition 0 (Some k) greedy x) in
     let zero_low : 0 ≡ low = omega arith in
     subst P zero_low (subst Q (sym none) (does_same a b s e empty (repetition 0 (Some 0) greedy x) (same_stopped greedy x) does))
 
-pub bounds_does : (a b : Assembly) (s e low most low2 most2 : ℕ) (greedy : Bool) (x : Tree) → low ≡ low2 → most ≡ most2 → Does a b s e (repetition low (Some most) greedy x) → Does a b s e (repetition low2 (Some most2) greedy x)
+pub bounds_does : (a b : Assembly) (s e low most low2 most2 : ℕ) (greedy : Bool) (x : Tree) → low ≡ low2 → most ≡ most2 →
+    Does a b s e (repetition low (Some most) greedy x) → Does a b s e (repetition low2 (Some most2) greedy x)
 bounds_does a b s e low most low2 most2 greedy x l m does =
     let P : ℕ → Type 0 = λ k. Does a b s e (repetition k (Some most2) greedy x) in
     let Q : ℕ → Type 0 = λ k. Does a b s e (repetition low (Some k) greedy x) in

@@ -21,12 +21,15 @@ use Rattle.thompson_nfa.proofs.Walks.DenoteLemmas.{denotes_empty}
 use Rattle.thompson_nfa.proofs.Fragments.DoesLemmas.{chosen}
 
 -- one round, which may be passed by
-module _ (t0 t1 t2 t3 t4 : Assembly) (greedy : Bool) (u s e n z : ℕ) (added : Added t0 t1 u (no_choice greedy) t0.groups) (body : Makes t1 t2 s e n) (p3 : Led t2 t3 u s) (p4 : Led t3 t4 u z) (there : z < length t0.drafts) where
+module _ (t0 t1 t2 t3 t4 : Assembly) (greedy : Bool) (u s e n z : ℕ) (added : Added t0 t1 u (no_choice greedy) t0.groups)
+    (body : Makes t1 t2 s e n) (p3 : Led t2 t3 u s) (p4 : Led t3 t4 u z) (there : z < length t0.drafts) where
   option_u : (target : ℕ) (table : Table) → Finished (length t0.drafts) t4.drafts e target table → table u ≡ choice greedy s z
-  option_u target table fin = fin.states u (omega arith) (omega arith) (omega arith) ∙ p4.here ∙ ap (patched z) (p3.here ∙ ap (patched s) (body.fragment.grows.same u (omega arith) ∙ added.here))
+  option_u target table fin = fin.states u (omega arith) (omega arith) (omega arith) ∙ p4.here
+      ∙ ap (patched z) (p3.here ∙ ap (patched s) (body.fragment.grows.same u (omega arith) ∙ added.here))
       ∙ chosen greedy s z
 
-  option_body : (target : ℕ) (table : Table) → Finished (length t0.drafts) t4.drafts e target table → Finished (length t1.drafts) t2.drafts e target table
+  option_body : (target : ℕ) (table : Table) → Finished (length t0.drafts) t4.drafts e target table →
+      Finished (length t1.drafts) t2.drafts e target table
   option_body target table fin = record {
     states = λ i low high ne. fin.states i (omega arith) (omega arith) ne ∙ p4.same i (omega arith) ∙ p3.same i (omega arith);
     led = fin.led ∙ ap (patched target) (p4.same e (omega arith) ∙ p3.same e (omega arith));
@@ -34,7 +37,8 @@ module _ (t0 t1 t2 t3 t4 : Assembly) (greedy : Bool) (u s e n z : ℕ) (added : 
 
   pub option_made : Makes t0 t4 u e (n + 1)
   option_made =
-      made (n + 1) (then_led 3992 (then_led 3996 (then_made 4000 (choice_first greedy added) body (omega arith)) p3 (omega arith) (omega arith) (omega arith)) p4 (omega arith) (omega arith) (omega arith))
+      made (n + 1) (then_led 3992 (then_led 3996 (then_made 4000 (choice_first greedy added) body (omega arith)) p3 (omega arith)
+          (omega arith) (omega arith)) p4 (omega arith) (omega arith) (omega arith))
       (omega arith) (omega arith) (omega arith) (omega arith) (omega arith) (omega arith)
       (ap is_sparse (p4.same e (omega arith) ∙ p3.same e (omega arith)) ∙ body.fragment.can_be_led_on)
       (λ table target fin.
@@ -42,13 +46,15 @@ module _ (t0 t1 t2 t3 t4 : Assembly) (greedy : Bool) (u s e n z : ℕ) (added : 
       let P : ℕ → Type 0 = λ k. AllComeOut table target k (length t1.drafts) in
       let Q : ℕ → Type 0 = λ k. AllComeOut table target (length t1.drafts) k in
       let size : length t2.drafts ≡ length t4.drafts = omega arith in
-      all_join table target (length t0.drafts) (length t1.drafts) (length t4.drafts) (subst P added.is (all_here table target u (length t1.drafts) (omega arith) real_u))
+      all_join table target (length t0.drafts) (length t1.drafts) (length t4.drafts)
+          (subst P added.is (all_here table target u (length t1.drafts) (omega arith) real_u))
       (subst Q size (body.comes_out table target (option_body target table fin))))
 
   pub option_does : (x : Tree) → Does t1 t2 s e x → DoesOption t0 t4 u e z greedy x
   option_does x does = record {
     before = λ table target fin left rest.
-        denotes_optional t0.reverse table u s target z left greedy x (option_u target table fin) (reads_as t0 t1 table s target x added.grows (does.denotes table target (option_body target table fin))) rest;
+        denotes_optional t0.reverse table u s target z left greedy x (option_u target table fin)
+            (reads_as t0 t1 table s target x added.grows (does.denotes table target (option_body target table fin))) rest;
     looks = λ l left.
         let all =
         adds_around t0 t1 t2 t4 x (quiet_choice greedy added) (ap (λ (z : Assembly). z.reverse) added.grows.settings) does.looks
@@ -68,17 +74,22 @@ pub record Options (old mid : Assembly) (start end z n left min most : ℕ) (gre
   pub apart : end ≢ z
   pub kind : is_sparse (draft_at mid.drafts end) ≡ false
   pub exit_is : draft_at mid.drafts z ≡ empty_draft 0
-  pub outs : (table : Table) (target : ℕ) → FinishesBut (length old.drafts) mid.drafts end z table → table end ≡ patched target (draft_at mid.drafts end) →
+  pub outs : (table : Table) (target : ℕ) → FinishesBut (length old.drafts) mid.drafts end z table →
+      table end ≡ patched target (draft_at mid.drafts end) →
       (q : ℕ) → length old.drafts ≤ q → q < length mid.drafts → q ≢ z → ComesOut table target q
-  pub does : (table : Table) (target : ℕ) → FinishesBut (length old.drafts) mid.drafts end z table → table end ≡ patched target (draft_at mid.drafts end) →
-      Denotes old.reverse table target z (repetition 0 (Some left) greedy x) → Denotes old.reverse table start z (repetition min (Some most) greedy x)
+  pub does : (table : Table) (target : ℕ) → FinishesBut (length old.drafts) mid.drafts end z table →
+      table end ≡ patched target (draft_at mid.drafts end) →
+      Denotes old.reverse table target z (repetition 0 (Some left) greedy x) →
+          Denotes old.reverse table start z (repetition min (Some most) greedy x)
   pub looks : (l : Look) → (looks_in mid.drafts l || uses old.reverse (repetition 0 (Some left) greedy x) l)
       ≡ (looks_in old.drafts l || uses old.reverse (repetition min (Some most) greedy x) l)
 
 -- behind copies that are owed
-module _ (t0 t1 t2 : Assembly) (s e n z left min most : ℕ) (greedy : Bool) (x : Tree) (prefix : Makes t0 t1 s e n) (copies : DoesCopies t0 t1 s e min x) (added : Added t1 t2 z (empty_draft 0) t1.groups)
+module _ (t0 t1 t2 : Assembly) (s e n z left min most : ℕ) (greedy : Bool) (x : Tree) (prefix : Makes t0 t1 s e n)
+    (copies : DoesCopies t0 t1 s e min x) (added : Added t1 t2 z (empty_draft 0) t1.groups)
     (sum : min + left ≡ most) where
-  owed_prefix : (target : ℕ) (table : Table) → FinishesBut (length t0.drafts) t2.drafts e z table → table e ≡ patched target (draft_at t2.drafts e) → Finished (length t0.drafts) t1.drafts e target table
+  owed_prefix : (target : ℕ) (table : Table) → FinishesBut (length t0.drafts) t2.drafts e z table →
+      table e ≡ patched target (draft_at t2.drafts e) → Finished (length t0.drafts) t1.drafts e target table
   owed_prefix target table fin here = record {
     states = λ q low high ne. fin q low (omega arith) ne (omega arith) ∙ added.grows.same q high;
     led = here ∙ ap (patched target) (added.grows.same e (omega arith));
@@ -86,7 +97,8 @@ module _ (t0 t1 t2 : Assembly) (s e n z left min most : ℕ) (greedy : Bool) (x 
 
   pub options_owed : Options t0 t2 s e z (n + 1) left min most greedy x
   options_owed = record {
-    progress = let p = empty_then (first_made prefix) added in record { partly = p.partly; states = p.states; bytes = omega arith; numbered = p.numbered };
+    progress = let p = empty_then (first_made prefix) added in record { partly = p.partly; states = p.states; bytes = omega arith;
+        numbered = p.numbered };
     start_new = omega arith;
     start_there = omega arith;
     end_new = omega arith;
@@ -112,8 +124,10 @@ module _ (t0 t1 t2 : Assembly) (s e n z left min most : ℕ) (greedy : Bool) (x 
   }
 
 -- from a first round on
-module _ (t0 t1 t2 : Assembly) (u e n z left most : ℕ) (greedy : Bool) (x : Tree) (added : Added t0 t1 z (empty_draft 0) t0.groups) (option : Makes t1 t2 u e n) (does : DoesOption t1 t2 u e z greedy x) (sum : suc left ≡ most) where
-  first_option : (target : ℕ) (table : Table) → FinishesBut (length t0.drafts) t2.drafts e z table → table e ≡ patched target (draft_at t2.drafts e) → Finished (length t1.drafts) t2.drafts e target table
+module _ (t0 t1 t2 : Assembly) (u e n z left most : ℕ) (greedy : Bool) (x : Tree) (added : Added t0 t1 z (empty_draft 0) t0.groups)
+    (option : Makes t1 t2 u e n) (does : DoesOption t1 t2 u e z greedy x) (sum : suc left ≡ most) where
+  first_option : (target : ℕ) (table : Table) → FinishesBut (length t0.drafts) t2.drafts e z table →
+      table e ≡ patched target (draft_at t2.drafts e) → Finished (length t1.drafts) t2.drafts e target table
   first_option target table fin here = record { states = λ q low high ne. fin q (omega arith) high ne (omega arith); led = here }
 
   pub options_first : Options t0 t2 u e z (1 + n) left 0 most greedy x
@@ -128,13 +142,15 @@ module _ (t0 t1 t2 : Assembly) (u e n z left most : ℕ) (greedy : Bool) (x : Tr
     apart = omega arith;
     kind = option.fragment.can_be_led_on;
     exit_is = option.fragment.grows.same z (omega arith) ∙ added.here;
-    outs = λ table target fin here q low high not_z. option.comes_out table target (first_option target table fin here) q (omega arith) high;
+    outs = λ table target fin here q low high not_z. option.comes_out table target (first_option target table fin here) q
+        (omega arith) high;
     does = λ table target fin here rest.
         let Q : ℕ → Type 0 = λ k. Denotes t0.reverse table u z (repetition 0 (Some k) greedy x) in
         let P : Bool → Type 0 = λ back. Denotes back table e z (repetition 0 (Some left) greedy x) in
         let turn : t1.reverse ≡ t0.reverse = ap (λ (b : Assembly). b.reverse) added.grows.settings in
         let R : Bool → Type 0 = λ back. Denotes back table target z (repetition 0 (Some left) greedy x) in
-        subst Q sum (reads_as t0 t1 table u z (repetition 0 (Some (suc left)) greedy x) added.grows (does.before table target (first_option target table fin here) left (subst R (sym turn) rest)));
+        subst Q sum (reads_as t0 t1 table u z (repetition 0 (Some (suc left)) greedy x) added.grows
+            (does.before table target (first_option target table fin here) left (subst R (sym turn) rest)));
     looks = λ l.
         let turn : t1.reverse ≡ t0.reverse = ap (λ (z : Assembly). z.reverse) added.grows.settings in
         let F : Bool → Type 0 =
@@ -144,17 +160,22 @@ module _ (t0 t1 t2 : Assembly) (u e n z left most : ℕ) (greedy : Bool) (x : Tr
   }
 
 -- one more round
-module _ (old b c d : Assembly) (start end z n left rest min most u e k : ℕ) (greedy : Bool) (x : Tree) (os : Options old b start end z n left min most greedy x) (option : Makes b c u e k) (does : DoesOption b c u e z greedy x)
+module _ (old b c d : Assembly) (start end z n left rest min most u e k : ℕ) (greedy : Bool) (x : Tree)
+    (os : Options old b start end z n left min most greedy x) (option : Makes b c u e k) (does : DoesOption b c u e z greedy x)
     (led : Led c d end u) (one : left ≡ suc rest) where
-  more_before : (target : ℕ) (table : Table) → FinishesBut (length old.drafts) d.drafts e z table → FinishesBut (length old.drafts) b.drafts end z table
-  more_before target table fin q low high not_end not_z = fin q low (omega arith) (omega arith) not_z ∙ led.same q not_end ∙ option.fragment.grows.same q high
+  more_before : (target : ℕ) (table : Table) → FinishesBut (length old.drafts) d.drafts e z table →
+      FinishesBut (length old.drafts) b.drafts end z table
+  more_before target table fin q low high not_end not_z = fin q low (omega arith) (omega arith) not_z ∙ led.same q not_end
+      ∙ option.fragment.grows.same q high
 
-  more_end : (target : ℕ) (table : Table) → FinishesBut (length old.drafts) d.drafts e z table → table end ≡ patched u (draft_at b.drafts end)
+  more_end : (target : ℕ) (table : Table) → FinishesBut (length old.drafts) d.drafts e z table →
+      table end ≡ patched u (draft_at b.drafts end)
   more_end target table fin =
       let a = os.end_new in let g = os.end_there in let h = os.apart in
       fin end a (omega arith) (omega arith) h ∙ led.here ∙ ap (patched u) (option.fragment.grows.same end g)
 
-  more_option : (target : ℕ) (table : Table) → FinishesBut (length old.drafts) d.drafts e z table → table e ≡ patched target (draft_at d.drafts e) → Finished (length b.drafts) c.drafts e target table
+  more_option : (target : ℕ) (table : Table) → FinishesBut (length old.drafts) d.drafts e z table →
+      table e ≡ patched target (draft_at d.drafts e) → Finished (length b.drafts) c.drafts e target table
   more_option target table fin here =
       let a = os.end_new in let g = os.end_there in let h = os.z_there in let l = os.progress.partly.grows.longer in
       record {
@@ -164,7 +185,8 @@ module _ (old b c d : Assembly) (start end z n left rest min most u e k : ℕ) (
 
   pub options_then : Options old d start e z (n + k) rest min most greedy x
   options_then =
-      let a = os.end_new in let g = os.end_there in let h = os.z_there in let l = os.progress.partly.grows.longer in let v = os.start_new in let w = os.start_there in let i = os.z_new in let ap1 = os.apart in
+      let a = os.end_new in let g = os.end_there in let h = os.z_there in let l = os.progress.partly.grows.longer in let v = os.start_new in
+          let w = os.start_there in let i = os.z_new in let ap1 = os.apart in
       record {
         progress = then_led 12 (then_made 16 os.progress option (omega arith)) led a (omega arith) (omega arith);
         start_new = v;
@@ -201,11 +223,14 @@ module _ (old b c d : Assembly) (start end z n left rest min most u e k : ℕ) (
       }
 
 -- no round is left
-module _ (old mid new : Assembly) (start end z n left min most : ℕ) (greedy : Bool) (x : Tree) (os : Options old mid start end z n left min most greedy x) (led : Led mid new end z) (none : left ≡ 0) where
-  last_but : (target : ℕ) (table : Table) → Finished (length old.drafts) new.drafts z target table → FinishesBut (length old.drafts) mid.drafts end z table
+module _ (old mid new : Assembly) (start end z n left min most : ℕ) (greedy : Bool) (x : Tree)
+    (os : Options old mid start end z n left min most greedy x) (led : Led mid new end z) (none : left ≡ 0) where
+  last_but : (target : ℕ) (table : Table) → Finished (length old.drafts) new.drafts z target table →
+      FinishesBut (length old.drafts) mid.drafts end z table
   last_but target table fin q low high not_end not_z = fin.states q low (omega arith) not_z ∙ led.same q not_end
 
-  last_end : (target : ℕ) (table : Table) → Finished (length old.drafts) new.drafts z target table → table end ≡ patched z (draft_at mid.drafts end)
+  last_end : (target : ℕ) (table : Table) → Finished (length old.drafts) new.drafts z target table →
+      table end ≡ patched z (draft_at mid.drafts end)
   last_end target table fin = let a = os.end_new in let g = os.end_there in fin.states end a (omega arith) os.apart ∙ led.here
 
   last_z : draft_at new.drafts z ≡ empty_draft 0
@@ -214,13 +239,15 @@ module _ (old mid new : Assembly) (start end z n left min most : ℕ) (greedy : 
   pub options_made : Makes old new start z n
   options_made =
       let a = os.end_new in let h = os.z_there in let v = os.start_new in let w = os.start_there in let i = os.z_new in
-      made n (then_led 8 os.progress led a h (omega arith)) (omega arith) (omega arith) v (omega arith) i (omega arith) (ap is_sparse last_z)
+      made n (then_led 8 os.progress led a h (omega arith)) (omega arith) (omega arith) v (omega arith) i (omega arith)
+          (ap is_sparse last_z)
       (λ table target fin q low high.
       let out = out_next table target z target (ap stands_for (fin.led ∙ ap (patched target) last_z)) (out_at table target) in
       let P : ℕ → Type 0 = λ k. ComesOut table target k in
       ⊎_elim
       (λ (e : q ≡ z). subst P (sym e) out)
-      (λ (not_z : q ≡ z → ⊥). let o = os.outs table z (last_but target table fin) (last_end target table fin) q low (omega arith) not_z in out_on table target z o.0 q o.1 out)
+      (λ (not_z : q ≡ z → ⊥). let o = os.outs table z (last_but target table fin) (last_end target table fin) q low (omega arith) not_z in
+          out_on table target z o.0 q o.1 out)
       (cases_eq q z))
 
   pub options_does : Does old new start z (repetition min (Some most) greedy x)
@@ -228,7 +255,8 @@ module _ (old mid new : Assembly) (start end z n left min most : ℕ) (greedy : 
     denotes = λ table target fin.
         let Q : ℕ → Type 0 = λ m. Denotes old.reverse table z z (repetition 0 (Some m) greedy x) in
         denotes_then_empty old.reverse table start z target (repetition min (Some most) greedy x)
-        (os.does table z (last_but target table fin) (last_end target table fin) (subst Q (sym none) (denotes_stopped_here old.reverse table z greedy x)))
+        (os.does table z (last_but target table fin) (last_end target table fin)
+            (subst Q (sym none) (denotes_stopped_here old.reverse table z greedy x)))
         (denotes_empty old.reverse table z target (fin.led ∙ ap (patched target) last_z));
     looks = λ l. quiet_led led l ∙ sym (or_none (looks_in mid.drafts l))
         ∙ ap (λ (m : ℕ). looks_in mid.drafts l || uses old.reverse (repetition 0 (Some m) greedy x) l) (sym none) ∙ os.looks l;

@@ -39,7 +39,8 @@ pub no_choice_tame : (b : Assembly) (greedy : Bool) → IsTame false b (no_choic
 no_choice_tame b true = tame_none b (no_choice true) refl refl refl
 no_choice_tame b false = tame_none b (no_choice false) refl refl refl
 
-pub empty_tame : {a b : Assembly} {id : ℕ} {draft : DraftNode} {groups : Groups} → Added a b id draft groups → IsTame false b (empty_draft 0)
+pub empty_tame : {a b : Assembly} {id : ℕ} {draft : DraftNode} {groups : Groups} → Added a b id draft groups →
+    IsTame false b (empty_draft 0)
 empty_tame {a} {b} x = tame_one b (empty_draft 0) 0 refl (omega arith) refl refl
 
 pub choice_first : {a b : Assembly} {id : ℕ} {groups : Groups} (greedy : Bool) → Added a b id (no_choice greedy) groups →
@@ -54,11 +55,14 @@ pub empty_then : {a b c : Assembly} {id n s : ℕ} {groups : Groups} → Progres
     Progress false a c (n + 1) 4000
 empty_then p x = then_added 4000 p x (empty_tame x) (omega arith)
 
-pub reads_as : (a b : Assembly) (table : Table) (s e : ℕ) (x : Tree) → Grows a b → Denotes b.reverse table s e x → Denotes a.reverse table s e x
-reads_as a b table s e x g d = let P : Bool → Type 0 = λ back. Denotes back table s e x in subst P (ap (λ (z : Assembly). z.reverse) g.settings) d
+pub reads_as : (a b : Assembly) (table : Table) (s e : ℕ) (x : Tree) → Grows a b → Denotes b.reverse table s e x →
+    Denotes a.reverse table s e x
+reads_as a b table s e x g d = let P : Bool → Type 0 = λ back. Denotes back table s e x in
+    subst P (ap (λ (z : Assembly). z.reverse) g.settings) d
 
 -- a loop whose body reads
-module _ (t0 t1 t2 t3 t4 : Assembly) (greedy : Bool) (u s e n : ℕ) (added : Added t0 t1 u (no_choice greedy) t0.groups) (body : Makes t1 t2 s e n) (led : Led t2 t3 u s) (back : Led t3 t4 e u) where
+module _ (t0 t1 t2 t3 t4 : Assembly) (greedy : Bool) (u s e n : ℕ) (added : Added t0 t1 u (no_choice greedy) t0.groups)
+    (body : Makes t1 t2 s e n) (led : Led t2 t3 u s) (back : Led t3 t4 e u) where
   pub star_2 : Progress false t0 t2 (1 + n) 4000
   star_2 = then_made 4000 (choice_first greedy added) body (omega arith)
 
@@ -71,7 +75,8 @@ module _ (t0 t1 t2 t3 t4 : Assembly) (greedy : Bool) (u s e n : ℕ) (added : Ad
   star_choice : (target : ℕ) (table : Table) → Finished (length t0.drafts) t4.drafts u target table → table u ≡ choice greedy s target
   star_choice target table fin = fin.led ∙ ap (patched target) star_u ∙ chosen greedy s target
 
-  star_body : (target : ℕ) (table : Table) → Finished (length t0.drafts) t4.drafts u target table → Finished (length t1.drafts) t2.drafts e u table
+  star_body : (target : ℕ) (table : Table) → Finished (length t0.drafts) t4.drafts u target table →
+      Finished (length t1.drafts) t2.drafts e u table
   star_body target table fin = record {
     states = λ q low high ne. fin.states q (omega arith) (omega arith) (omega arith) ∙ back.same q ne ∙ led.same q (omega arith);
     led = fin.states e (omega arith) (omega arith) (omega arith) ∙ back.here ∙ ap (patched u) (led.same e (omega arith));
@@ -79,27 +84,32 @@ module _ (t0 t1 t2 t3 t4 : Assembly) (greedy : Bool) (u s e n : ℕ) (added : Ad
 
   pub star_made : Makes t0 t4 u u (n + 1)
   star_made =
-      made (n + 1) (then_led 3992 star_3 back (omega arith) (omega arith) (omega arith)) (omega arith) (omega arith) (omega arith) (omega arith) (omega arith) (omega arith)
+      made (n + 1) (then_led 3992 star_3 back (omega arith) (omega arith) (omega arith)) (omega arith) (omega arith) (omega arith)
+          (omega arith) (omega arith) (omega arith)
       (ap is_sparse star_u ∙ choice_kind greedy s)
       (λ table target fin.
       let here = out_here table target u (ap stands_for (star_choice target table fin) ∙ choice_stands greedy s target) in
       let P : ℕ → Type 0 = λ k. AllComeOut table target k (length t4.drafts) in
-      subst P added.is (all_join table target u (length t1.drafts) (length t4.drafts) (all_here table target u (length t1.drafts) (omega arith) here)
+      subst P added.is (all_join table target u (length t1.drafts) (length t4.drafts)
+          (all_here table target u (length t1.drafts) (omega arith) here)
       (let Q : ℕ → Type 0 = λ k. AllComeOut table target (length t1.drafts) k in
       let size : length t2.drafts ≡ length t4.drafts = omega arith in
-      subst Q size (all_on table target u (length t1.drafts) (length t2.drafts) (body.comes_out table u (star_body target table fin)) here))))
+      subst Q size (all_on table target u (length t1.drafts) (length t2.drafts)
+          (body.comes_out table u (star_body target table fin)) here))))
 
   pub star_does : (x : Tree) → Does t1 t2 s e x → Does t0 t4 u u (repetition 0 None greedy x)
   star_does x does = record {
     denotes = λ table target fin.
         let loop = star_choice target table fin in
-        denotes_star t0.reverse table u u s target greedy x loop loop (reads_as t0 t1 table s u x added.grows (does.denotes table u (star_body target table fin)));
+        denotes_star t0.reverse table u u s target greedy x loop loop (reads_as t0 t1 table s u x added.grows
+            (does.denotes table u (star_body target table fin)));
     looks = adds_around t0 t1 t2 t4 x (quiet_choice greedy added) (ap (λ (z : Assembly). z.reverse) added.grows.settings) does.looks
         (λ l. quiet_led back l ∙ quiet_led led l);
   }
 
 -- a body, and then a loop
-module _ (t0 t1 t2 t3 t4 : Assembly) (greedy : Bool) (u s e n : ℕ) (body : Makes t0 t1 s e n) (added : Added t1 t2 u (no_choice greedy) t1.groups) (back : Led t2 t3 e u) (led : Led t3 t4 u s) where
+module _ (t0 t1 t2 t3 t4 : Assembly) (greedy : Bool) (u s e n : ℕ) (body : Makes t0 t1 s e n)
+    (added : Added t1 t2 u (no_choice greedy) t1.groups) (back : Led t2 t3 e u) (led : Led t3 t4 u s) where
   pub plus_2 : Progress false t0 t2 (n + 1) 4000
   plus_2 = choice_then greedy (first_made body) added
 
@@ -112,15 +122,19 @@ module _ (t0 t1 t2 t3 t4 : Assembly) (greedy : Bool) (u s e n : ℕ) (body : Mak
   plus_choice : (target : ℕ) (table : Table) → Finished (length t0.drafts) t4.drafts u target table → table u ≡ choice greedy s target
   plus_choice target table fin = fin.led ∙ ap (patched target) plus_u ∙ chosen greedy s target
 
-  plus_body : (target : ℕ) (table : Table) → Finished (length t0.drafts) t4.drafts u target table → Finished (length t0.drafts) t1.drafts e u table
+  plus_body : (target : ℕ) (table : Table) → Finished (length t0.drafts) t4.drafts u target table →
+      Finished (length t0.drafts) t1.drafts e u table
   plus_body target table fin = record {
-    states = λ q low high ne. fin.states q (omega arith) (omega arith) (omega arith) ∙ led.same q (omega arith) ∙ back.same q ne ∙ added.grows.same q (omega arith);
-    led = fin.states e (omega arith) (omega arith) (omega arith) ∙ led.same e (omega arith) ∙ back.here ∙ ap (patched u) (added.grows.same e (omega arith));
+    states = λ q low high ne. fin.states q (omega arith) (omega arith) (omega arith) ∙ led.same q (omega arith) ∙ back.same q ne
+        ∙ added.grows.same q (omega arith);
+    led = fin.states e (omega arith) (omega arith) (omega arith) ∙ led.same e (omega arith) ∙ back.here
+        ∙ ap (patched u) (added.grows.same e (omega arith));
   }
 
   pub plus_made : Makes t0 t4 s u (n + 1)
   plus_made =
-      made (n + 1) (then_led 3992 plus_3 led (omega arith) (omega arith) (omega arith)) (omega arith) (omega arith) (omega arith) (omega arith) (omega arith) (omega arith)
+      made (n + 1) (then_led 3992 plus_3 led (omega arith) (omega arith) (omega arith)) (omega arith) (omega arith) (omega arith)
+          (omega arith) (omega arith) (omega arith)
       (ap is_sparse plus_u ∙ choice_kind greedy s)
       (λ table target fin.
       let here = out_here table target u (ap stands_for (plus_choice target table fin) ∙ choice_stands greedy s target) in
@@ -132,13 +146,16 @@ module _ (t0 t1 t2 t3 t4 : Assembly) (greedy : Bool) (u s e n : ℕ) (body : Mak
   pub plus_does : (x : Tree) → Does t0 t1 s e x → Does t0 t4 s u (repetition 1 None greedy x)
   plus_does x does = record {
     denotes = λ table target fin.
-        denotes_plus t0.reverse table u s target greedy x (plus_choice target table fin) (does.denotes table u (plus_body target table fin));
+        denotes_plus t0.reverse table u s target greedy x (plus_choice target table fin)
+            (does.denotes table u (plus_body target table fin));
     looks = λ l. quiet_led led l ∙ quiet_led back l ∙ quiet_choice greedy added l ∙ does.looks l;
   }
 
 -- a loop whose body may read nothing
-module _ (t0 t1 t2 t3 t4 t5 t6 t7 t8 t9 : Assembly) (greedy : Bool) (s e u q z n : ℕ) (body : Makes t0 t1 s e n) (p1 : Added t1 t2 u (no_choice greedy) t1.groups) (p2 : Led t2 t3 e u) (p3 : Led t3 t4 u s)
-    (p4 : Added t4 t5 q (no_choice greedy) t4.groups) (p5 : Added t5 t6 z (empty_draft 0) t5.groups) (p6 : Led t6 t7 q s) (p7 : Led t7 t8 q z) (p8 : Led t8 t9 u z) where
+module _ (t0 t1 t2 t3 t4 t5 t6 t7 t8 t9 : Assembly) (greedy : Bool) (s e u q z n : ℕ) (body : Makes t0 t1 s e n)
+    (p1 : Added t1 t2 u (no_choice greedy) t1.groups) (p2 : Led t2 t3 e u) (p3 : Led t3 t4 u s)
+    (p4 : Added t4 t5 q (no_choice greedy) t4.groups) (p5 : Added t5 t6 z (empty_draft 0) t5.groups) (p6 : Led t6 t7 q s)
+        (p7 : Led t7 t8 q z) (p8 : Led t8 t9 u z) where
   pub loop_2 : Progress false t0 t2 (n + 1) 4000
   loop_2 = choice_then greedy (first_made body) p1
 
@@ -175,19 +192,23 @@ module _ (t0 t1 t2 t3 t4 t5 t6 t7 t8 t9 : Assembly) (greedy : Bool) (s e u q z n
   loop_q target table fin = fin.states q (omega arith) (omega arith) (omega arith) ∙ p8.same q (omega arith) ∙ p7.here
       ∙ ap (patched z) (p6.here ∙ ap (patched s) (p5.grows.same q (omega arith) ∙ p4.here)) ∙ chosen greedy s z
 
-  loop_body : (target : ℕ) (table : Table) → Finished (length t0.drafts) t9.drafts z target table → Finished (length t0.drafts) t1.drafts e u table
+  loop_body : (target : ℕ) (table : Table) → Finished (length t0.drafts) t9.drafts z target table →
+      Finished (length t0.drafts) t1.drafts e u table
   loop_body target table fin = record {
     states = λ i low high ne. fin.states i (omega arith) (omega arith) (omega arith)
-        ∙ p8.same i (omega arith) ∙ p7.same i (omega arith) ∙ p6.same i (omega arith) ∙ p5.grows.same i (omega arith) ∙ p4.grows.same i (omega arith)
+        ∙ p8.same i (omega arith) ∙ p7.same i (omega arith) ∙ p6.same i (omega arith) ∙ p5.grows.same i (omega arith)
+            ∙ p4.grows.same i (omega arith)
         ∙ p3.same i (omega arith) ∙ p2.same i ne ∙ p1.grows.same i (omega arith);
     led = fin.states e (omega arith) (omega arith) (omega arith)
-        ∙ p8.same e (omega arith) ∙ p7.same e (omega arith) ∙ p6.same e (omega arith) ∙ p5.grows.same e (omega arith) ∙ p4.grows.same e (omega arith)
+        ∙ p8.same e (omega arith) ∙ p7.same e (omega arith) ∙ p6.same e (omega arith) ∙ p5.grows.same e (omega arith)
+            ∙ p4.grows.same e (omega arith)
         ∙ p3.same e (omega arith) ∙ p2.here ∙ ap (patched u) (p1.grows.same e (omega arith));
   }
 
   pub loop_made : Makes t0 t9 q z (n + 3)
   loop_made =
-      made (n + 3) (then_led 3988 loop_8 p8 (omega arith) (omega arith) (omega arith)) (omega arith) (omega arith) (omega arith) (omega arith) (omega arith) (omega arith)
+      made (n + 3) (then_led 3988 loop_8 p8 (omega arith) (omega arith) (omega arith)) (omega arith) (omega arith) (omega arith)
+          (omega arith) (omega arith) (omega arith)
       (ap is_sparse loop_z)
       (λ table target fin.
       let real_u = out_here table target u (ap stands_for (loop_u target table fin) ∙ choice_stands greedy s z) in
@@ -197,13 +218,15 @@ module _ (t0 t1 t2 t3 t4 t5 t6 t7 t8 t9 : Assembly) (greedy : Bool) (s e u q z n
       all_join table target (length t0.drafts) (length t1.drafts) (length t9.drafts)
       (all_on table target u (length t0.drafts) (length t1.drafts) (body.comes_out table u (loop_body target table fin)) real_u)
       (all_join table target (length t1.drafts) q (length t9.drafts) (subst P p1.is (all_here table target u q (omega arith) real_u))
-      (all_join table target q z (length t9.drafts) (all_here table target q z (omega arith) real_q) (all_here table target z (length t9.drafts) (omega arith) last))))
+      (all_join table target q z (length t9.drafts) (all_here table target q z (omega arith) real_q)
+          (all_here table target z (length t9.drafts) (omega arith) last))))
 
   pub loop_does : (x : Tree) → Does t0 t1 s e x → Does t0 t9 q z (repetition 0 None greedy x)
   loop_does x does = record {
     denotes = λ table target fin.
         denotes_then_empty t0.reverse table q z target (repetition 0 None greedy x)
-        (denotes_star t0.reverse table q u s z greedy x (loop_u target table fin) (loop_q target table fin) (does.denotes table u (loop_body target table fin)))
+        (denotes_star t0.reverse table q u s z greedy x (loop_u target table fin) (loop_q target table fin)
+            (does.denotes table u (loop_body target table fin)))
         (denotes_empty t0.reverse table z target (loop_end target table fin));
     looks = λ l. quiet_led p8 l ∙ quiet_led p7 l ∙ quiet_led p6 l ∙ quiet_added p5 (λ k. refl) l ∙ quiet_choice greedy p4 l
         ∙ quiet_led p3 l ∙ quiet_led p2 l ∙ quiet_choice greedy p1 l ∙ does.looks l;

@@ -1,11 +1,13 @@
 -- Parts that are met from the first on, or from the last where the automaton reads in reverse.
-use Rattle.std.proofs.Common.{◌≡◌, ℕ, suc, ◌+◌, ◌-◌, ◌<◌, ◌≤◌, Bool, true, false, List, [], ◌∷◌, ◌++◌, length, take, drop, get_or, refl, sym, ap, ◌∙◌, subst, arith, drop-cons, add-one, drop_of_length-le}
+use Rattle.std.proofs.Common.{◌≡◌, ℕ, suc, ◌+◌, ◌-◌, ◌<◌, ◌≤◌, Bool, true, false, List, [], ◌∷◌, ◌++◌, length, take, drop, get_or, refl}
+use Rattle.std.proofs.Common.{sym, ap, ◌∙◌, subst, arith, drop-cons, add-one, drop_of_length-le}
 use Rattle.std.proofs.lemmas.List.{take_more}
 use Rattle.std.proofs.Math.Seq.{take-length}
 use Rattle.hir_core.specs.Tree.{Tree, empty, literal, cat, concat}
 use Rattle.thompson_nfa.specs.Turned.{turned_place, left_after}
 use Rattle.thompson_nfa.proofs.Walks.DenoteLemmas.{Joins}
-use Rattle.thompson_nfa.proofs.Walks.SameLemmas.{IsSame, joins_same, joins_cat_forward, same_concat_none, same_concat_append, same_literal_none}
+use Rattle.thompson_nfa.proofs.Walks.SameLemmas.{IsSame, joins_same, joins_cat_forward, same_concat_none, same_concat_append}
+use Rattle.thompson_nfa.proofs.Walks.SameLemmas.{same_literal_none}
 use Rattle.thompson_nfa.proofs.Walks.AheadLemmas.{joins_last_part, joins_first_byte, joins_last_byte}
 
 -- the part at i stands before the others from there on
@@ -13,14 +15,16 @@ pub first_left : {A : Type 0} (xs : List A) (i : ℕ) (x d : A) → i < length x
 first_left xs i x d l e = drop-cons xs i d l ∙ ap (λ y. y ∷ drop (suc i) xs) (sym e) ∙ ap (λ n. x ∷ drop n xs) (sym (add-one i))
 
 -- and behind those up to there
-pub last_left : {A : Type 0} (xs : List A) (i : ℕ) (x d : A) → i < length xs → x ≡ get_or xs (length xs - (i + 1)) d → take (length xs - i) xs ≡ take (length xs - (i + 1)) xs ++ x ∷ []
+pub last_left : {A : Type 0} (xs : List A) (i : ℕ) (x d : A) → i < length xs → x ≡ get_or xs (length xs - (i + 1)) d →
+    take (length xs - i) xs ≡ take (length xs - (i + 1)) xs ++ x ∷ []
 last_left {A} xs i x d l is =
     let k = length xs - (i + 1) in
     let low : k < length xs = omega arith in
     let one : length xs - i ≡ k + 1 = omega arith in
     ap (λ n. take n xs) one ∙ take_more xs k d low ∙ ap (λ (y : A). take k xs ++ y ∷ []) (sym is)
 
-pub literal_joins : (back : Bool) (bytes : List ℕ) (i b d : ℕ) → i < length bytes → b ≡ get_or bytes (turned_place back i (length bytes)) d →
+pub literal_joins : (back : Bool) (bytes : List ℕ) (i b d : ℕ) → i < length bytes →
+    b ≡ get_or bytes (turned_place back i (length bytes)) d →
     Joins back (literal (b ∷ [])) (literal (left_after back (i + 1) bytes)) (literal (left_after back i bytes))
 literal_joins false bytes i b d l e =
     let P : List ℕ → Type 0 = λ ys. Joins false (literal (b ∷ [])) (literal (drop (i + 1) bytes)) (literal ys) in
@@ -34,7 +38,8 @@ pub concat_joins : (back : Bool) (xs : List Tree) (i : ℕ) (x : Tree) → i < l
 concat_joins false xs i x l e =
     let P : List Tree → Type 0 = λ ys. Joins false (concat (x ∷ [])) (concat (drop (i + 1) xs)) (concat ys) in
     subst P (sym (first_left xs i x x l e))
-    (joins_same false (concat (x ∷ [])) (concat (drop (i + 1) xs)) (cat (concat (x ∷ [])) (concat (drop (i + 1) xs))) (concat (x ∷ drop (i + 1) xs))
+    (joins_same false (concat (x ∷ [])) (concat (drop (i + 1) xs)) (cat (concat (x ∷ [])) (concat (drop (i + 1) xs)))
+        (concat (x ∷ drop (i + 1) xs))
     (same_concat_append (x ∷ []) (drop (i + 1) xs)) (joins_cat_forward (concat (x ∷ [])) (concat (drop (i + 1) xs))))
 concat_joins true xs i x l e =
     let P : List Tree → Type 0 = λ ys. Joins true (concat (x ∷ [])) (concat (take (length xs - (i + 1)) xs)) (concat ys) in

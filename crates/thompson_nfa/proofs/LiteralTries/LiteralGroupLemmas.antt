@@ -1,11 +1,14 @@
 -- Strings in groups: what one more edge adds.
-use Rattle.std.proofs.Common.{◌≡◌, ℕ, zero, suc, ◌+◌, ◌<◌, ◌≤◌, min, Bool, true, false, List, [], ◌∷◌, ◌++◌, length, get_or, Option, Some, None, nat_eq, nat_le, if◌then◌else◌, refl, sym, ap, ◌∙◌, subst, arith, length-append, append_assoc, append-nil, ⊎_elim}
+use Rattle.std.proofs.Common.{◌≡◌, ℕ, zero, suc, ◌+◌, ◌<◌, ◌≤◌, min, Bool, true, false, List, [], ◌∷◌, ◌++◌, length, get_or, Option, Some}
+use Rattle.std.proofs.Common.{None, nat_eq, nat_le, if◌then◌else◌, refl, sym, ap, ◌∙◌, subst, arith, length-append, append_assoc}
+use Rattle.std.proofs.Common.{append-nil, ⊎_elim}
 use Rattle.std.proofs.lemmas.Bool.{cases_eq, cases_lt}
 use Rattle.std.proofs.lemmas.Grind.{common_steps}
 use Rattle.thompson_nfa.specs.declared.literal_groups.Edge.{Edge}
 use denote.Ref.{Bor}
 use Rattle.std.proofs.lemmas.List.{map-append, length-map}
-use Rattle.thompson_nfa.specs.LiteralGroups.{texts, groups_of, with_tail, tails, lesser, with_first, next_of, behind_byte, chunk_strings, Ascends, AreInside, bytes_in, bytes_in_all, AllSome, IsChunk}
+use Rattle.thompson_nfa.specs.LiteralGroups.{texts, groups_of, with_tail, tails, lesser, with_first, next_of, behind_byte, chunk_strings}
+use Rattle.thompson_nfa.specs.LiteralGroups.{Ascends, AreInside, bytes_in, bytes_in_all, AllSome, IsChunk}
 
 -- the bytes of those that begin with `low` or above
 abbrev pub bytes_from : ℕ → List (List ℕ) → ℕ
@@ -23,8 +26,10 @@ pub record Chunking (first : ℕ) (old new : List (List (List ℕ))) (low : ℕ)
   pub room : length new + bytes_in_all new + bytes_from low strings ≤ length old + bytes_in_all old + bytes_in strings
   pub ascends : Ascends 0 edges low
   pub inside : AreInside (first + length old) (first + length new) edges
-  pub below : (before : List (List (List ℕ))) → length before ≡ first → (c : ℕ) → c < low → tails c (chunk_strings (before ++ new) edges) ≡ tails c strings
-  pub above : (before : List (List (List ℕ))) → length before ≡ first → (c : ℕ) → low ≤ c → tails c (chunk_strings (before ++ new) edges) ≡ []
+  pub below : (before : List (List (List ℕ))) → length before ≡ first → (c : ℕ) → c < low →
+      tails c (chunk_strings (before ++ new) edges) ≡ tails c strings
+  pub above : (before : List (List (List ℕ))) → length before ≡ first → (c : ℕ) → low ≤ c →
+      tails c (chunk_strings (before ++ new) edges) ≡ []
 
 -- what is known of the least byte from `low` on
 abbrev pub IsNext : ℕ → List (List ℕ) → Option ℕ → Type 0
@@ -54,16 +59,19 @@ first_high low a w least l =
     ap (λ (t : Bool). if t then lesser a least else least) t
 
 -- a first byte below `low` changes nothing
-next_skips : (low a : ℕ) (w : List ℕ) (ws : List (List ℕ)) (least : Option ℕ) → a < low → IsNext low ws least → IsNext low ((a ∷ w) ∷ ws) least
+next_skips : (low a : ℕ) (w : List ℕ) (ws : List (List ℕ)) (least : Option ℕ) → a < low → IsNext low ws least →
+    IsNext low ((a ∷ w) ∷ ws) least
 next_skips low a w ws None l n = λ c le. tail_other a c w (tails c ws) (λ e. omega arith) ∙ n c le
 next_skips low a w ws (Some b) l n =
     let x = n.0 in (
       n.0,
-      (let same = tail_other a b w (tails b ws) (λ e. omega arith) in let P : List (List ℕ) → Type 0 = λ r. 1 ≤ length r in subst P (sym same) n.1),
+      (let same = tail_other a b w (tails b ws) (λ e. omega arith) in let P : List (List ℕ) → Type 0 = λ r. 1 ≤ length r in
+          subst P (sym same) n.1),
       λ c le less. tail_other a c w (tails c ws) (λ e. omega arith) ∙ n.2 c le less,
     )
 
-next_one : (low a : ℕ) (w : List ℕ) (ws : List (List ℕ)) → low ≤ a → ((c : ℕ) → low ≤ c → c < a → tails c ws ≡ []) → IsNext low ((a ∷ w) ∷ ws) (Some a)
+next_one : (low a : ℕ) (w : List ℕ) (ws : List (List ℕ)) → low ≤ a → ((c : ℕ) → low ≤ c → c < a → tails c ws ≡ []) →
+    IsNext low ((a ∷ w) ∷ ws) (Some a)
 next_one low a w ws le none = (
   le,
   (let P : List (List ℕ) → Type 0 = λ r. 1 ≤ length r in subst P (sym (tail_same a a w (tails a ws) refl)) (omega arith)),
@@ -77,7 +85,8 @@ next_kept low a b w ws less n = (
   λ c l k. tail_other a c w (tails c ws) (λ e. omega arith) ∙ n.2 c l k,
 )
 
-next_lesser : (low a : ℕ) (w : List ℕ) (ws : List (List ℕ)) (least : Option ℕ) → low ≤ a → IsNext low ws least → IsNext low ((a ∷ w) ∷ ws) (lesser a least)
+next_lesser : (low a : ℕ) (w : List ℕ) (ws : List (List ℕ)) (least : Option ℕ) → low ≤ a → IsNext low ws least →
+    IsNext low ((a ∷ w) ∷ ws) (lesser a least)
 next_lesser low a w ws None le n = next_one low a w ws le (λ c l k. n c l)
 next_lesser low a w ws (Some b) le n =
     let P : ℕ → Type 0 = λ m. IsNext low ((a ∷ w) ∷ ws) (Some m) in
@@ -102,7 +111,8 @@ next_is low ((a ∷ w) ∷ ws) =
 
 tail_append : (b : ℕ) (w : List ℕ) (xs ys : List (List ℕ)) → with_tail b w (xs ++ ys) ≡ with_tail b w xs ++ ys
 tail_append b [] xs ys = refl
-tail_append b (a ∷ w) xs ys = elim (nat_eq a b) as (λ t. (if t then w ∷ (xs ++ ys) else (xs ++ ys)) ≡ (if t then w ∷ xs else xs) ++ ys) [ true ↦ refl | false ↦ refl ]
+tail_append b (a ∷ w) xs ys = elim (nat_eq a b) as (λ t. (if t then w ∷ (xs ++ ys) else (xs ++ ys)) ≡ (if t then w ∷ xs else xs)
+    ++ ys) [ true ↦ refl | false ↦ refl ]
 
 pub tails_append : (b : ℕ) (us vs : List (List ℕ)) → tails b (us ++ vs) ≡ tails b us ++ tails b vs
 tails_append b [] vs = refl
@@ -116,13 +126,15 @@ tails_behind_other : (a b : ℕ) (ws : List (List ℕ)) → (a ≡ b → ⊥) �
 tails_behind_other a b [] ne = refl
 tails_behind_other a b (w ∷ ws) ne = tail_other a b w (tails b (behind_byte a ws)) ne ∙ tails_behind_other a b ws ne
 
-pub chunk_append : (groups : List (List (List ℕ))) (es fs : List Edge) → chunk_strings groups (es ++ fs) ≡ chunk_strings groups es ++ chunk_strings groups fs
+pub chunk_append : (groups : List (List (List ℕ))) (es fs : List Edge) →
+    chunk_strings groups (es ++ fs) ≡ chunk_strings groups es ++ chunk_strings groups fs
 chunk_append groups [] fs = refl
 chunk_append groups (e ∷ es) fs =
     ap (λ (r : List (List ℕ)). behind_byte e.byte (get_or groups e.next []) ++ r) (chunk_append groups es fs)
     ∙ sym (append_assoc (behind_byte e.byte (get_or groups e.next [])) (chunk_strings groups es) (chunk_strings groups fs))
 
-pub ascends_push : (low high b : ℕ) (next : ℕ) (es : List Edge) → Ascends low es high → high ≤ b → b < 256 → Ascends low (es ++ (record { byte = b; next = next }) ∷ []) (b + 1)
+pub ascends_push : (low high b : ℕ) (next : ℕ) (es : List Edge) → Ascends low es high → high ≤ b → b < 256 →
+    Ascends low (es ++ (record { byte = b; next = next }) ∷ []) (b + 1)
 ascends_push low high b next [] a le less = (omega arith, less, omega arith)
 ascends_push low high b next (e ∷ es) a le less = (a.0, a.1, ascends_push (e.byte + 1) high b next es a.2 le less)
 
@@ -130,13 +142,15 @@ pub ascends_wider : (low high most : ℕ) (es : List Edge) → Ascends low es hi
 ascends_wider low high most [] a le = omega arith
 ascends_wider low high most (e ∷ es) a le = (a.0, a.1, ascends_wider (e.byte + 1) high most es a.2 le)
 
-pub inside_push : (first end more next b : ℕ) (es : List Edge) → AreInside first end es → end ≤ more → first ≤ next → next < more → AreInside first more (es ++ (record { byte = b; next = next }) ∷ [])
+pub inside_push : (first end more next b : ℕ) (es : List Edge) → AreInside first end es → end ≤ more → first ≤ next → next < more →
+    AreInside first more (es ++ (record { byte = b; next = next }) ∷ [])
 inside_push first end more next b [] a le l h = (l, h, tt)
 inside_push first end more next b (e ∷ es) a le l h = let x = a.1 in (a.0, omega arith, inside_push first end more next b es a.2 le l h)
 
 pub inside_wider : (first end less more : ℕ) (es : List Edge) → AreInside first end es → less ≤ first → end ≤ more → AreInside less more es
 inside_wider first end less more [] a le l = tt
-inside_wider first end less more (e ∷ es) a le l = let x = a.0 in let y = a.1 in (omega arith, omega arith, inside_wider first end less more es a.2 le l)
+inside_wider first end less more (e ∷ es) a le l = let x = a.0 in let y = a.1 in
+    (omega arith, omega arith, inside_wider first end less more es a.2 le l)
 
 get_before : (A : Type 0) (xs ys : List A) (k : ℕ) (d : A) → k < length xs → get_or (xs ++ ys) k d ≡ get_or xs k d
 get_before A [] ys k d l = absurd (omega arith)
@@ -149,11 +163,13 @@ get_last A (x ∷ xs) y d zero e = absurd (omega arith)
 get_last A (x ∷ xs) y d (suc k) e = get_last A xs y d k (omega arith)
 
 -- groups that are added later change no strings
-pub chunk_kept : (groups more : List (List (List ℕ))) (first end : ℕ) (es : List Edge) → AreInside first end es → end ≤ length groups → chunk_strings (groups ++ more) es ≡ chunk_strings groups es
+pub chunk_kept : (groups more : List (List (List ℕ))) (first end : ℕ) (es : List Edge) → AreInside first end es → end ≤ length groups →
+    chunk_strings (groups ++ more) es ≡ chunk_strings groups es
 chunk_kept groups more first end [] a le = refl
 chunk_kept groups more first end (e ∷ es) a le =
     let x = a.1 in
-    ap (λ (g : List (List ℕ)). behind_byte e.byte g ++ chunk_strings (groups ++ more) es) (get_before (List (List ℕ)) groups more e.next [] (omega arith))
+    ap (λ (g : List (List ℕ)). behind_byte e.byte g ++ chunk_strings (groups ++ more) es)
+        (get_before (List (List ℕ)) groups more e.next [] (omega arith))
     ∙ ap (λ (r : List (List ℕ)). behind_byte e.byte (get_or groups e.next []) ++ r) (chunk_kept groups more first end es a.2 le)
 
 -- ---- bytes
@@ -183,7 +199,8 @@ from_more low high a n le = ⊎_elim
     (cases_lt a high)
 
 -- the strings that begin with b are no longer to come
-tails_room : (low b : ℕ) (ws : List (List ℕ)) → low ≤ b → bytes_in (tails b ws) + length (tails b ws) + bytes_from (b + 1) ws ≤ bytes_from low ws
+tails_room : (low b : ℕ) (ws : List (List ℕ)) → low ≤ b → bytes_in (tails b ws) + length (tails b ws) + bytes_from
+    (b + 1) ws ≤ bytes_from low ws
 tails_room low b [] le = omega arith
 tails_room low b ([] ∷ ws) le = tails_room low b ws le
 tails_room low b ((a ∷ w) ∷ ws) le =
@@ -209,7 +226,8 @@ all_some_append (g ∷ gs) hs a b = (a.0, all_some_append gs hs a.1 b)
 
 -- ---- the loop over bytes
 
-pub chunk_begun : (first : ℕ) (old : List (List (List ℕ))) (edges : List Edge) (strings : List (List ℕ)) → edges ≡ [] → Chunking first old old 0 edges strings
+pub chunk_begun : (first : ℕ) (old : List (List (List ℕ))) (edges : List Edge) (strings : List (List ℕ)) → edges ≡ [] →
+    Chunking first old old 0 edges strings
 chunk_begun first old edges strings none =
     let P : List Edge → Type 0 = λ es. Chunking first old old 0 es strings in
     subst P (sym none) (record {
@@ -225,7 +243,8 @@ chunk_begun first old edges strings none =
       above = λ before len c le. refl;
     })
 
-module _ (first : ℕ) (old new : List (List (List ℕ))) (low : ℕ) (edges : List Edge) (strings : List (List ℕ)) (so_far : Chunking first old new low edges strings) where
+module _ (first : ℕ) (old new : List (List (List ℕ))) (low : ℕ) (edges : List Edge) (strings : List (List ℕ))
+    (so_far : Chunking first old new low edges strings) where
   module _ (b : ℕ) (least : next_of low strings ≡ Some b) (is_byte : b < 256) where
     next : IsNext low strings (Some b)
     next = let P : Option ℕ → Type 0 = λ o. IsNext low strings o in subst P least (next_is low strings)
@@ -249,26 +268,36 @@ module _ (first : ℕ) (old new : List (List (List ℕ))) (low : ℕ) (edges : L
         let all : before ++ more ≡ (before ++ new) ++ tails b strings ∷ [] = sym (append_assoc before new (tails b strings ∷ [])) in
         let both : length (before ++ new) ≡ first + length new = omega (arith, length-append before new, len) in
         chunk_append (before ++ more) edges (edge ∷ [])
-        ∙ ap (λ (r : List (List ℕ)). chunk_strings (before ++ more) edges ++ r) (append-nil (behind_byte b (get_or (before ++ more) (first + length new) []))
-        ∙ ap (behind_byte b) (ap (λ (gs : List (List (List ℕ))). get_or gs (first + length new) []) all ∙ get_last (List (List ℕ)) (before ++ new) (tails b strings) [] (first + length new) (sym both)))
+        ∙ ap (λ (r : List (List ℕ)). chunk_strings (before ++ more) edges
+            ++ r) (append-nil (behind_byte b (get_or (before ++ more) (first + length new) []))
+        ∙ ap (behind_byte b) (ap (λ (gs : List (List (List ℕ))). get_or gs (first + length new) []) all
+            ∙ get_last (List (List ℕ)) (before ++ new) (tails b strings) [] (first + length new) (sym both)))
         ∙ ap (λ (gs : List (List (List ℕ))). chunk_strings gs edges ++ behind_byte b (tails b strings)) all
-        ∙ ap (λ (r : List (List ℕ)). r ++ behind_byte b (tails b strings)) (chunk_kept (before ++ new) (tails b strings ∷ []) (first + length old) (first + length new) edges so_far.inside (omega arith))
+        ∙ ap (λ (r : List (List ℕ)). r ++ behind_byte b (tails b strings))
+            (chunk_kept (before ++ new) (tails b strings ∷ []) (first + length old) (first + length new) edges so_far.inside (omega arith))
 
     tails_joined : (before : List (List (List ℕ))) → length before ≡ first → (c : ℕ) →
-        tails c (chunk_strings (before ++ more) (edges ++ edge ∷ [])) ≡ tails c (chunk_strings (before ++ new) edges) ++ tails c (behind_byte b (tails b strings))
-    tails_joined before len c = ap (tails c) (joined before len) ∙ tails_append c (chunk_strings (before ++ new) edges) (behind_byte b (tails b strings))
+        tails c (chunk_strings (before ++ more) (edges ++ edge ∷ [])) ≡ tails c (chunk_strings (before ++ new) edges)
+            ++ tails c (behind_byte b (tails b strings))
+    tails_joined before len c = ap (tails c) (joined before len) ∙ tails_append c (chunk_strings (before ++ new) edges)
+        (behind_byte b (tails b strings))
 
     -- of a byte but b nothing is added
-    apart : (before : List (List (List ℕ))) → length before ≡ first → (c : ℕ) → (b ≡ c → ⊥) → tails c (chunk_strings (before ++ more) (edges ++ edge ∷ [])) ≡ tails c (chunk_strings (before ++ new) edges)
+    apart : (before : List (List (List ℕ))) → length before ≡ first → (c : ℕ) → (b ≡ c → ⊥) →
+        tails c (chunk_strings (before ++ more) (edges ++ edge ∷ [])) ≡ tails c (chunk_strings (before ++ new) edges)
     apart before len c ne =
-        tails_joined before len c ∙ ap (λ (r : List (List ℕ)). tails c (chunk_strings (before ++ new) edges) ++ r) (tails_behind_other b c (tails b strings) ne) ∙ append-nil (tails c (chunk_strings (before ++ new) edges))
+        tails_joined before len c ∙ ap (λ (r : List (List ℕ)). tails c (chunk_strings (before ++ new) edges)
+            ++ r) (tails_behind_other b c (tails b strings) ne) ∙ append-nil (tails c (chunk_strings (before ++ new) edges))
 
-    here : (before : List (List (List ℕ))) → length before ≡ first → tails b (chunk_strings (before ++ more) (edges ++ edge ∷ [])) ≡ tails b strings
+    here : (before : List (List (List ℕ))) → length before ≡ first → tails b
+        (chunk_strings (before ++ more) (edges ++ edge ∷ [])) ≡ tails b strings
     here before len =
-        tails_joined before len b ∙ ap (λ (r : List (List ℕ)). r ++ tails b (behind_byte b (tails b strings))) (so_far.above before len b next.0) ∙ tails_behind b (tails b strings)
+        tails_joined before len b ∙ ap (λ (r : List (List ℕ)). r ++ tails b (behind_byte b (tails b strings)))
+            (so_far.above before len b next.0) ∙ tails_behind b (tails b strings)
 
     -- the bytes between `low` and b begin no string
-    between : (before : List (List (List ℕ))) → length before ≡ first → (c : ℕ) → low ≤ c → c < b → tails c (chunk_strings (before ++ new) edges) ≡ tails c strings
+    between : (before : List (List (List ℕ))) → length before ≡ first → (c : ℕ) → low ≤ c → c < b →
+        tails c (chunk_strings (before ++ new) edges) ≡ tails c strings
     between before len c le less = so_far.above before len c le ∙ sym (next.2 c le less)
 
     pub chunk_more : Chunking first old more (b + 1) (edges ++ edge ∷ []) strings
@@ -277,20 +306,25 @@ module _ (first : ℕ) (old new : List (List (List ℕ))) (low : ℕ) (edges : L
         record {
           low_within = omega arith;
           added = so_far.added ++ tails b strings ∷ [];
-          is = ap (λ (gs : List (List (List ℕ))). gs ++ tails b strings ∷ []) so_far.is ∙ append_assoc old so_far.added (tails b strings ∷ []);
+          is = ap (λ (gs : List (List (List ℕ))). gs ++ tails b strings ∷ []) so_far.is
+              ∙ append_assoc old so_far.added (tails b strings ∷ []);
           one_each = omega (arith, length-append so_far.added (tails b strings ∷ []), length-append edges (edge ∷ []), so_far.one_each);
           some = all_some_append so_far.added (tails b strings ∷ []) so_far.some (next.1, tt);
           room = omega (arith, long, all_bytes_push new (tails b strings), tails_room low b strings next.0, next.1, so_far.room);
           ascends = ascends_push 0 low b (first + length new) edges so_far.ascends next.0 is_byte;
-          inside = inside_push (first + length old) (first + length new) (first + length more) (first + length new) b edges so_far.inside (omega (arith, long)) (omega (arith, old_long)) (omega (arith, long));
+          inside = inside_push (first + length old) (first + length new) (first + length more) (first + length new) b edges so_far.inside
+              (omega (arith, long)) (omega (arith, old_long)) (omega (arith, long));
           below = λ before len c less. ⊎_elim
-              (λ (e : b ≡ c). let P : ℕ → Type 0 = λ d. tails d (chunk_strings (before ++ more) (edges ++ edge ∷ [])) ≡ tails d strings in subst P e (here before len))
-              (λ (ne : b ≡ c → ⊥). apart before len c ne ∙ ⊎_elim (λ (l : c < low). so_far.below before len c l) (λ (l : low ≤ c). between before len c l (omega arith)) (cases_lt c low))
+              (λ (e : b ≡ c). let P : ℕ → Type 0 = λ d. tails d (chunk_strings (before ++ more) (edges ++ edge ∷ [])) ≡ tails d strings in
+                  subst P e (here before len))
+              (λ (ne : b ≡ c → ⊥). apart before len c ne ∙ ⊎_elim (λ (l : c < low). so_far.below before len c l)
+                  (λ (l : low ≤ c). between before len c l (omega arith)) (cases_lt c low))
               (cases_eq b c);
           above = λ before len c l. apart before len c (λ e. omega arith) ∙ so_far.above before len c (omega arith);
         }
 
-    pub chunk_next : (new2 : List (List (List ℕ))) (low2 : ℕ) (edges2 : List Edge) (next2 : ℕ) → new2 ≡ new ++ tails b strings ∷ [] → low2 ≡ b + 1 → next2 ≡ first + length new →
+    pub chunk_next : (new2 : List (List (List ℕ))) (low2 : ℕ) (edges2 : List Edge) (next2 : ℕ) → new2 ≡ new ++ tails b strings ∷ [] →
+        low2 ≡ b + 1 → next2 ≡ first + length new →
         edges2 ≡ edges ++ record { byte = b; next = next2 } ∷ [] → Chunking first old new2 low2 edges2 strings
     chunk_next new2 low2 edges2 next2 e1 e2 e3 e4 =
         let P : List (List (List ℕ)) → Type 0 = λ gs. Chunking first old gs low2 edges2 strings in
@@ -305,16 +339,20 @@ module _ (first : ℕ) (old new : List (List (List ℕ))) (low : ℕ) (edges : L
     pub chunk_done : (before : List (List (List ℕ))) → length before ≡ first → IsChunk first (before ++ new) edges strings
     chunk_done before len = record {
       ascends = ascends_wider 0 low 256 edges so_far.ascends so_far.low_within;
-      inside = inside_wider (first + length old) (first + length new) first (length (before ++ new)) edges so_far.inside (omega arith) (omega (arith, length-append before new, len));
-      same_tails = λ c. ⊎_elim (λ (l : c < low). so_far.below before len c l) (λ (l : low ≤ c). so_far.above before len c l ∙ sym (over c l)) (cases_lt c low);
+      inside = inside_wider (first + length old) (first + length new) first (length (before ++ new)) edges so_far.inside (omega arith)
+          (omega (arith, length-append before new, len));
+      same_tails = λ c. ⊎_elim (λ (l : c < low). so_far.below before len c l) (λ (l : low ≤ c). so_far.above before len c l
+          ∙ sym (over c l)) (cases_lt c low);
     }
 
 -- ---- groups that hold references
 
-pub group_pushed : {V : Type 0} (items : V → List (Bor (List ℕ))) (olds news : List V) (g : V) (strings : List (List ℕ)) → news ≡ olds ++ g ∷ [] → texts (items g) ≡ strings →
+pub group_pushed : {V : Type 0} (items : V → List (Bor (List ℕ))) (olds news : List V) (g : V) (strings : List (List ℕ)) →
+    news ≡ olds ++ g ∷ [] → texts (items g) ≡ strings →
     groups_of items news ≡ groups_of items olds ++ strings ∷ []
 group_pushed {V} items olds news g strings e same =
-    ap (groups_of items) e ∙ map-append (λ (v : V). texts (items v)) olds (g ∷ []) ∙ ap (λ (s : List (List ℕ)). groups_of items olds ++ s ∷ []) same
+    ap (groups_of items) e ∙ map-append (λ (v : V). texts (items v)) olds (g ∷ [])
+        ∙ ap (λ (s : List (List ℕ)). groups_of items olds ++ s ∷ []) same
 
 pub group_count : {V : Type 0} (items : V → List (Bor (List ℕ))) (gs : List V) → length (groups_of items gs) ≡ length gs
 group_count {V} items gs = length-map gs (λ (v : V). texts (items v))

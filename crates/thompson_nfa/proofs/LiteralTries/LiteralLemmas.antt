@@ -3,7 +3,8 @@ use Rattle.std.proofs.Common.{◌≡◌, ℕ, ◌+◌, Bool, true, nat_lt, List,
 use Rattle.std.specs.List.{list_all}
 use Rattle.std.proofs.lemmas.Bool.{and_parts}
 use Rattle.search_types.specs.Groups.{Groups}
-use Rattle.hir_core.specs.Tree.{Tree, empty, literal, byte_class, char_class, look, repetition, capture, nothing, cat, never, alt, alternation}
+use Rattle.hir_core.specs.Tree.{Tree, empty, literal, byte_class, char_class, look, repetition, capture, nothing, cat, never, alt}
+use Rattle.hir_core.specs.Tree.{alternation}
 use Rattle.hir_core.specs.Facts.{count, capped}
 use Rattle.nfa_core.specs.BuilderStates.{Assembly}
 use Rattle.nfa_core.specs.declared.build_error.BuildError.{BuildError}
@@ -49,7 +50,8 @@ all_room shrink (x ∷ xs) all =
     let both = and_parts (is_literal x) (list_all is_literal xs) all in
     ap₂ (λ m n. capped (m + n)) (literal_room shrink x both.0) (all_room shrink xs both.1)
 
-all_noted : (kept : WhichCaptures) (p : ℕ) (xs : List Tree) (groups : Groups) → list_all is_literal xs ≡ true → noted kept p (alternation xs) groups ≡ groups
+all_noted : (kept : WhichCaptures) (p : ℕ) (xs : List Tree) (groups : Groups) → list_all is_literal xs ≡ true →
+    noted kept p (alternation xs) groups ≡ groups
 all_noted kept p [] groups all = refl
 all_noted kept p (x ∷ xs) groups all =
     let both = and_parts (is_literal x) (list_all is_literal xs) all in
@@ -63,12 +65,16 @@ pub literals_room : (shrink : Bool) (xs : List Tree) → are_literals xs ≡ tru
 literals_room shrink xs are = all_room shrink xs (only_literals xs are)
 
 -- they have no groups
-pub literals_noted : (kept : WhichCaptures) (p : ℕ) (xs : List Tree) (old now : Groups) → are_literals xs ≡ true → now ≡ old → now ≡ noted kept p (alternation xs) old
+pub literals_noted : (kept : WhichCaptures) (p : ℕ) (xs : List Tree) (old now : Groups) → are_literals xs ≡ true → now ≡ old →
+    now ≡ noted kept p (alternation xs) old
 literals_noted kept p xs old now are same = same ∙ sym (all_noted kept p xs old (only_literals xs are))
 
-pub literals_made : (shrink : Bool) (a b : Assembly) (s e : ℕ) (xs : List Tree) → are_literals xs ≡ true → Makes a b s e (count (alternation xs)) → Makes a b s e (room shrink (alternation xs))
+pub literals_made : (shrink : Bool) (a b : Assembly) (s e : ℕ) (xs : List Tree) → are_literals xs ≡ true →
+    Makes a b s e (count (alternation xs)) → Makes a b s e (room shrink (alternation xs))
 literals_made shrink a b s e xs are m = let P : ℕ → Type 0 = λ n. Makes a b s e n in subst P (sym (literals_room shrink xs are)) m
 
-pub literals_refused : (kept : WhichCaptures) (shrink : Bool) (a b : Assembly) (xs : List Tree) (err : BuildError) → are_literals xs ≡ true → Quits a b (count (alternation xs)) err →
+pub literals_refused : (kept : WhichCaptures) (shrink : Bool) (a b : Assembly) (xs : List Tree) (err : BuildError) →
+    are_literals xs ≡ true → Quits a b (count (alternation xs)) err →
     Refuses kept a b (room shrink (alternation xs)) (alternation xs) err
-literals_refused kept shrink a b xs err are q = let same = literals_room shrink xs are in refuses kept (room shrink (alternation xs)) (alternation xs) q (omega arith)
+literals_refused kept shrink a b xs err are q = let same = literals_room shrink xs are in
+    refuses kept (room shrink (alternation xs)) (alternation xs) q (omega arith)

@@ -1,5 +1,7 @@
 -- The nodes of a trie of strings: what one more item adds to a node.
-use Rattle.std.proofs.Common.{◌≡◌, inl, inr, ℕ, zero, suc, ◌+◌, ◌*◌, ◌≤◌, max, Bool, true, false, List, [], ◌∷◌, ◌++◌, length, take, drop, get_or, Option, Some, None, nat_eq, ◌&&◌, ◌||◌, ◌==◌, if◌then◌else◌, refl, sym, ap, ◌∙◌, subst, arith, length-append, replicate, append_assoc, append-nil, drop-cons, drop_of_length-le}
+use Rattle.std.proofs.Common.{◌≡◌, inl, inr, ℕ, zero, suc, ◌+◌, ◌*◌, ◌≤◌, max, Bool, true, false, List, [], ◌∷◌, ◌++◌, length, take, drop}
+use Rattle.std.proofs.Common.{get_or, Option, Some, None, nat_eq, ◌&&◌, ◌||◌, ◌==◌, if◌then◌else◌, refl, sym, ap, ◌∙◌, subst, arith}
+use Rattle.std.proofs.Common.{length-append, replicate, append_assoc, append-nil, drop-cons, drop_of_length-le}
 use Rattle.std.proofs.lemmas.List.{length-replicate}
 use Rattle.std.proofs.lemmas.Grind.{common_steps}
 use Rattle.std.proofs.lemmas.Option.{slice_get_cases}
@@ -8,7 +10,8 @@ use denote.Ref.{Bor}
 use Rattle.hir_core.specs.Means.{stands}
 use Rattle.nfa_core.specs.Walks.{has, join, distinct}
 use Rattle.thompson_nfa.specs.declared.literal_groups.Edge.{Edge}
-use Rattle.thompson_nfa.specs.LiteralGroups.{texts, tails, run_of, behind_byte, chunk_strings, Ascends, AreInside, bytes_in, bytes_in_all, AllSome, IsChunk, AddsGroups}
+use Rattle.thompson_nfa.specs.LiteralGroups.{texts, tails, run_of, behind_byte, chunk_strings, Ascends, AreInside, bytes_in, bytes_in_all}
+use Rattle.thompson_nfa.specs.LiteralGroups.{AllSome, IsChunk, AddsGroups}
 use Rattle.thompson_nfa.specs.LiteralTries.{ends_of, IsLike, item_strings, node_strings, edges_in, chunks_in, AreChunks}
 use Rattle.thompson_nfa.proofs.LiteralTries.LiteralGroupLemmas.{all_some_append, chunk_kept, inside_wider}
 
@@ -37,14 +40,16 @@ none_end_behind b (w ∷ ws) = none_end_behind b ws
 
 pub chunk_none_end : (groups : List (List (List ℕ))) (es : List Edge) → NoneEnds (chunk_strings groups es)
 chunk_none_end groups [] = tt
-chunk_none_end groups (e ∷ es) = none_end_append (behind_byte e.byte (get_or groups e.next [])) (chunk_strings groups es) (none_end_behind e.byte (get_or groups e.next [])) (chunk_none_end groups es)
+chunk_none_end groups (e ∷ es) = none_end_append (behind_byte e.byte (get_or groups e.next [])) (chunk_strings groups es)
+    (none_end_behind e.byte (get_or groups e.next [])) (chunk_none_end groups es)
 
 -- strings that begin with the byte that stands at the place go on behind it
 abbrev going : Option ℕ → List (List ℕ) → List ℕ → ℕ → List ℕ
 going None ws h i = []
 going (Some c) ws h i = ends_of (tails c ws) h (i + 1)
 
-one_end : (t s : Bool) (i n : ℕ) (w : List ℕ) (rest : List (List ℕ)) (h : List ℕ) (others : List ℕ) → s ≡ stands h (i + 1) w → n ≡ length w → others ≡ ends_of rest h (i + 1) →
+one_end : (t s : Bool) (i n : ℕ) (w : List ℕ) (rest : List (List ℕ)) (h : List ℕ) (others : List ℕ) → s ≡ stands h (i + 1) w →
+    n ≡ length w → others ≡ ends_of rest h (i + 1) →
     (if t && s then (i + suc n) ∷ [] else []) ++ others ≡ ends_of (if t then w ∷ rest else rest) h (i + 1)
 one_end true s i n w rest h others e m o =
     let place : i + suc n ≡ i + 1 + length w = omega (arith, m) in
@@ -53,7 +58,8 @@ one_end true s i n w rest h others e m o =
     ∙ ap (λ (b : Bool). (if b then (i + 1 + length w) ∷ [] else []) ++ ends_of rest h (i + 1)) e
 one_end false s i n w rest h others e m o = o
 
-ends_at_byte : (ws : List (List ℕ)) (h : List ℕ) (i c : ℕ) → NoneEnds ws → drop i h ≡ c ∷ drop (i + 1) h → ends_of ws h i ≡ ends_of (tails c ws) h (i + 1)
+ends_at_byte : (ws : List (List ℕ)) (h : List ℕ) (i c : ℕ) → NoneEnds ws → drop i h ≡ c ∷ drop (i + 1) h →
+    ends_of ws h i ≡ ends_of (tails c ws) h (i + 1)
 ends_at_byte [] h i c none e = refl
 ends_at_byte ([] ∷ ws) h i c none e = absurd none
 ends_at_byte ((a ∷ w) ∷ ws) h i c none e =
@@ -64,13 +70,16 @@ ends_at_end : (ws : List (List ℕ)) (h : List ℕ) (i : ℕ) → NoneEnds ws �
 ends_at_end [] h i none e = refl
 ends_at_end ([] ∷ ws) h i none e = absurd none
 ends_at_end ((a ∷ w) ∷ ws) h i none e =
-    ap (λ (d : List ℕ). (if starts_with nat_eq d (a ∷ w) then (i + suc (length w)) ∷ [] else []) ++ ends_of ws h i) e ∙ ends_at_end ws h i none e
+    ap (λ (d : List ℕ). (if starts_with nat_eq d (a ∷ w) then (i + suc (length w)) ∷ [] else []) ++ ends_of ws h i) e
+        ∙ ends_at_end ws h i none e
 
 -- strings none of which is empty end at the same places where the same strings go on behind each byte
-pub same_ends : (us vs : List (List ℕ)) → NoneEnds us → NoneEnds vs → ((c : ℕ) → tails c us ≡ tails c vs) → (h : List ℕ) (i : ℕ) → ends_of us h i ≡ ends_of vs h i
+pub same_ends : (us vs : List (List ℕ)) → NoneEnds us → NoneEnds vs → ((c : ℕ) → tails c us ≡ tails c vs) → (h : List ℕ) (i : ℕ) →
+    ends_of us h i ≡ ends_of vs h i
 same_ends us vs a b same h i = elim (slice_get_cases h i).1 [
   | inl x ↦
-      let e : drop i h ≡ x.0 ∷ drop (i + 1) h = drop-cons h i x.0 x.1 ∙ ap (λ (c : ℕ). c ∷ drop (suc i) h) x.3 ∙ ap (λ (k : ℕ). x.0 ∷ drop k h) (let k : suc i ≡ i + 1 = omega arith in k) in
+      let e : drop i h ≡ x.0 ∷ drop (i + 1) h = drop-cons h i x.0 x.1 ∙ ap (λ (c : ℕ). c ∷ drop (suc i) h) x.3
+          ∙ ap (λ (k : ℕ). x.0 ∷ drop k h) (let k : suc i ≡ i + 1 = omega arith in k) in
       ends_at_byte us h i x.0 a e ∙ ap (λ (ws : List (List ℕ)). ends_of ws h (i + 1)) (same x.0) ∙ sym (ends_at_byte vs h i x.0 b e)
   | inr o ↦
       let e : drop i h ≡ [] = drop_of_length-le h o.0 in
@@ -82,11 +91,13 @@ same_ends us vs a b same h i = elim (slice_get_cases h i).1 [
 pub join_append : (seen xs ys : List ℕ) → join nat_eq seen (xs ++ ys) ≡ join nat_eq (join nat_eq seen xs) ys
 join_append seen [] ys = refl
 join_append seen (x ∷ xs) ys = elim (has nat_eq x seen) as
-    (λ t. (if t then join nat_eq seen (xs ++ ys) else join nat_eq (seen ++ x ∷ []) (xs ++ ys)) ≡ join nat_eq (if t then join nat_eq seen xs else join nat_eq (seen ++ x ∷ []) xs) ys)
+    (λ t. (if t then join nat_eq seen (xs ++ ys) else join nat_eq (seen ++ x ∷ []) (xs ++ ys)) ≡ join nat_eq (if t then join nat_eq seen xs
+        else join nat_eq (seen ++ x ∷ []) xs) ys)
     [ true ↦ join_append seen xs ys | false ↦ join_append (seen ++ x ∷ []) xs ys ]
 
 -- what follows may be replaced by what ends at the same places
-pub like_then : (us vs xs ys : List (List ℕ)) → IsLike us vs → ((h : List ℕ) (i : ℕ) → ends_of xs h i ≡ ends_of ys h i) → IsLike (us ++ xs) (vs ++ ys)
+pub like_then : (us vs xs ys : List (List ℕ)) → IsLike us vs → ((h : List ℕ) (i : ℕ) → ends_of xs h i ≡ ends_of ys h i) →
+    IsLike (us ++ xs) (vs ++ ys)
 like_then us vs xs ys like same h i =
     ap (distinct nat_eq) (ends_append us xs h i) ∙ join_append [] (ends_of us h i) (ends_of xs h i)
     ∙ ap (λ (l : List ℕ). join nat_eq (distinct nat_eq (ends_of us h i)) l) (same h i)
@@ -95,11 +106,13 @@ like_then us vs xs ys like same h i =
 
 has_pushed : (x : ℕ) (seen : List ℕ) → has nat_eq x (seen ++ x ∷ []) ≡ true
 has_pushed x [] = grind (arith, common_steps)
-has_pushed x (y ∷ seen) = elim (nat_eq x y) as (λ t. (t || has nat_eq x (seen ++ x ∷ [])) ≡ true) [ true ↦ refl | false ↦ has_pushed x seen ]
+has_pushed x (y ∷ seen) = elim (nat_eq x y) as (λ t. (t || has nat_eq x (seen ++ x ∷ [])) ≡ true) [ true ↦ refl | false ↦
+    has_pushed x seen ]
 
 join_twice : (x : ℕ) (seen : List ℕ) → join nat_eq seen (x ∷ x ∷ []) ≡ join nat_eq seen (x ∷ [])
 join_twice x seen =
-    let T : Bool → Type 0 = λ t. (t ≡ has nat_eq x seen) → (if t then join nat_eq seen (x ∷ []) else join nat_eq (seen ++ x ∷ []) (x ∷ [])) ≡ (if t then seen else seen ++ x ∷ []) in
+    let T : Bool → Type 0 = λ t. (t ≡ has nat_eq x seen) → (if t then join nat_eq seen (x ∷ [])
+        else join nat_eq (seen ++ x ∷ []) (x ∷ [])) ≡ (if t then seen else seen ++ x ∷ []) in
     let all : (t : Bool) → T t = λ t. elim t as T [
       | true ↦ λ e. ap (λ (b : Bool). if b then seen else seen ++ x ∷ []) (sym e)
       | false ↦ λ e. ap (λ (b : Bool). if b then seen ++ x ∷ [] else (seen ++ x ∷ []) ++ x ∷ []) (has_pushed x seen)
@@ -111,16 +124,19 @@ pub match_twice : (ws : List (List ℕ)) → IsLike ((ws ++ [] ∷ []) ++ [] ∷
 match_twice ws h i =
     let here : List ℕ = ends_of ([] ∷ []) h i in
     let is : here ≡ (i + 0) ∷ [] = refl in
-    ap (distinct nat_eq) (ends_append (ws ++ [] ∷ []) ([] ∷ []) h i ∙ ap (λ (l : List ℕ). l ++ (i + 0) ∷ []) (ends_append ws ([] ∷ []) h i) ∙ append_assoc (ends_of ws h i) ((i + 0) ∷ []) ((i + 0) ∷ []))
+    ap (distinct nat_eq) (ends_append (ws ++ [] ∷ []) ([] ∷ []) h i ∙ ap (λ (l : List ℕ). l ++ (i + 0) ∷ []) (ends_append ws ([] ∷ []) h i)
+        ∙ append_assoc (ends_of ws h i) ((i + 0) ∷ []) ((i + 0) ∷ []))
     ∙ join_append [] (ends_of ws h i) ((i + 0) ∷ (i + 0) ∷ []) ∙ join_twice (i + 0) (distinct nat_eq (ends_of ws h i))
     ∙ sym (join_append [] (ends_of ws h i) ((i + 0) ∷ [])) ∙ ap (distinct nat_eq) (sym (ends_append ws ([] ∷ []) h i))
 
 -- ---- items
 
-pub strings_append : (groups : List (List (List ℕ))) (xs ys : List (List Edge)) → node_strings groups (xs ++ ys) ≡ node_strings groups xs ++ node_strings groups ys
+pub strings_append : (groups : List (List (List ℕ))) (xs ys : List (List Edge)) →
+    node_strings groups (xs ++ ys) ≡ node_strings groups xs ++ node_strings groups ys
 strings_append groups [] ys = refl
 strings_append groups (x ∷ xs) ys =
-    ap (λ (l : List (List ℕ)). item_strings groups x ++ l) (strings_append groups xs ys) ∙ sym (append_assoc (item_strings groups x) (node_strings groups xs) (node_strings groups ys))
+    ap (λ (l : List (List ℕ)). item_strings groups x ++ l) (strings_append groups xs ys)
+        ∙ sym (append_assoc (item_strings groups x) (node_strings groups xs) (node_strings groups ys))
 
 pub edges_append : (xs ys : List (List Edge)) → edges_in (xs ++ ys) ≡ edges_in xs + edges_in ys
 edges_append [] ys = omega arith
@@ -131,19 +147,24 @@ chunks_append [] ys = omega arith
 chunks_append ([] ∷ xs) ys = chunks_append xs ys
 chunks_append ((e ∷ es) ∷ xs) ys = omega (arith, chunks_append xs ys)
 
-pub are_wider : (first end less more : ℕ) (xs : List (List Edge)) → AreChunks first end xs → less ≤ first → end ≤ more → AreChunks less more xs
+pub are_wider : (first end less more : ℕ) (xs : List (List Edge)) → AreChunks first end xs → less ≤ first → end ≤ more →
+    AreChunks less more xs
 are_wider first end less more [] a le l = tt
-are_wider first end less more (x ∷ xs) a le l = (a.0, inside_wider first end less more x a.1 le l, are_wider first end less more xs a.2 le l)
+are_wider first end less more (x ∷ xs) a le l = (a.0, inside_wider first end less more x a.1 le l,
+    are_wider first end less more xs a.2 le l)
 
-are_pushed : (first end : ℕ) (xs : List (List Edge)) (x : List Edge) → AreChunks first end xs → Ascends 0 x 256 → AreInside first end x → AreChunks first end (xs ++ x ∷ [])
+are_pushed : (first end : ℕ) (xs : List (List Edge)) (x : List Edge) → AreChunks first end xs → Ascends 0 x 256 → AreInside first end x →
+    AreChunks first end (xs ++ x ∷ [])
 are_pushed first end [] x a b c = (b, c, tt)
 are_pushed first end (y ∷ ys) x a b c = (a.0, a.1, are_pushed first end ys x a.2 b c)
 
-item_kept : (groups more : List (List (List ℕ))) (first end : ℕ) (x : List Edge) → AreInside first end x → end ≤ length groups → item_strings (groups ++ more) x ≡ item_strings groups x
+item_kept : (groups more : List (List (List ℕ))) (first end : ℕ) (x : List Edge) → AreInside first end x → end ≤ length groups →
+    item_strings (groups ++ more) x ≡ item_strings groups x
 item_kept groups more first end [] a le = refl
 item_kept groups more first end (e ∷ es) a le = chunk_kept groups more first end (e ∷ es) a le
 
-pub strings_kept : (groups more : List (List (List ℕ))) (first end : ℕ) (xs : List (List Edge)) → AreChunks first end xs → end ≤ length groups → node_strings (groups ++ more) xs ≡ node_strings groups xs
+pub strings_kept : (groups more : List (List (List ℕ))) (first end : ℕ) (xs : List (List Edge)) → AreChunks first end xs →
+    end ≤ length groups → node_strings (groups ++ more) xs ≡ node_strings groups xs
 strings_kept groups more first end [] a le = refl
 strings_kept groups more first end (x ∷ xs) a le =
     ap (λ (l : List (List ℕ)). l ++ node_strings (groups ++ more) xs) (item_kept groups more first end x a.1 le)
@@ -161,7 +182,8 @@ own_tail a w ws =
     let P : List (List ℕ) → Type 0 = λ l. 1 ≤ length l in
     subst P (sym is) (omega arith)
 
-chunk_some : (first : ℕ) (groups : List (List (List ℕ))) (es : List Edge) (ws : List (List ℕ)) → IsChunk first groups es ws → NoneEnds ws → 1 ≤ length ws → 1 ≤ length es
+chunk_some : (first : ℕ) (groups : List (List (List ℕ))) (es : List Edge) (ws : List (List ℕ)) → IsChunk first groups es ws → NoneEnds ws →
+    1 ≤ length ws → 1 ≤ length es
 chunk_some first groups es [] c none l = absurd (omega arith)
 chunk_some first groups es ([] ∷ ws) c none l = absurd none
 chunk_some first groups es ((a ∷ w) ∷ ws) c none l =
@@ -189,7 +211,8 @@ pub record IsTurn (all turn rest : List (List ℕ)) : Type 0 where
 -- ---- one node
 
 -- the items so far, where `left` are the strings still to come, and whether the last item is a match
-pub record Listing (first : ℕ) (old new : List (List (List ℕ))) (items : List (List Edge)) (left : List (List ℕ)) (matched : Bool) (all : List (List ℕ)) : Type 0 where
+pub record Listing (first : ℕ) (old new : List (List (List ℕ))) (items : List (List Edge)) (left : List (List ℕ)) (matched : Bool)
+    (all : List (List ℕ)) : Type 0 where
   pub met : List (List ℕ)
   pub split : met ++ left ≡ all
   pub added : List (List (List ℕ))
@@ -208,7 +231,8 @@ bytes_append : (us vs : List (List ℕ)) → bytes_in (us ++ vs) ≡ bytes_in us
 bytes_append [] vs = omega arith
 bytes_append (w ∷ us) vs = omega (arith, bytes_append us vs)
 
-pub no_item : (first : ℕ) (old : List (List (List ℕ))) (items : List (List Edge)) (all left : List (List ℕ)) → items ≡ [] → left ≡ all → Listing first old old items left false all
+pub no_item : (first : ℕ) (old : List (List (List ℕ))) (items : List (List Edge)) (all left : List (List ℕ)) → items ≡ [] → left ≡ all →
+    Listing first old old items left false all
 no_item first old items all left none e =
     let P : List (List Edge) → Type 0 = λ xs. Listing first old old xs left false all in
     subst P (sym none) (record {
@@ -239,7 +263,8 @@ nothing_taken : (n : ℕ) (ws : List (List ℕ)) → take n [] ≡ ws → IsSome
 nothing_taken zero ws e some = let P : List (List ℕ) → Type 0 = IsSome in subst P (sym e) some
 nothing_taken (suc n) ws e some = let P : List (List ℕ) → Type 0 = IsSome in subst P (sym e) some
 
-module _ (first : ℕ) (old new : List (List (List ℕ))) (items : List (List Edge)) (left : List (List ℕ)) (matched : Bool) (all : List (List ℕ)) (so_far : Listing first old new items left matched all) where
+module _ (first : ℕ) (old new : List (List (List ℕ))) (items : List (List Edge)) (left : List (List ℕ)) (matched : Bool)
+    (all : List (List ℕ)) (so_far : Listing first old new items left matched all) where
   -- a string that ends, behind a match
   match_again : (rest : List (List ℕ)) → matched ≡ true → left ≡ [] ∷ rest → Listing first old new items rest true all
   match_again rest is_match e =
@@ -284,18 +309,26 @@ module _ (first : ℕ) (old new : List (List (List ℕ))) (items : List (List Ed
       }
 
   -- a string that ends, and a match unless one is there
-  pub match_next : (flag : Bool) → matched ≡ flag → (rest : List (List ℕ)) (items2 : List (List Edge)) → left ≡ [] ∷ rest → items2 ≡ (if flag then items else items ++ [] ∷ []) → Listing first old new items2 rest true all
-  match_next true m rest items2 e is = let P : List (List Edge) → Type 0 = λ xs. Listing first old new xs rest true all in subst P (sym is) (match_again rest m e)
-  match_next false m rest items2 e is = let P : List (List Edge) → Type 0 = λ xs. Listing first old new xs rest true all in subst P (sym is) (match_pushed rest m e)
+  pub match_next : (flag : Bool) → matched ≡ flag → (rest : List (List ℕ)) (items2 : List (List Edge)) → left ≡ [] ∷ rest →
+      items2 ≡ (if flag then items else items ++ [] ∷ []) → Listing first old new items2 rest true all
+  match_next true m rest items2 e is = let P : List (List Edge) → Type 0 = λ xs. Listing first old new xs rest true all in
+      subst P (sym is) (match_again rest m e)
+  match_next false m rest items2 e is = let P : List (List Edge) → Type 0 = λ xs. Listing first old new xs rest true all in
+      subst P (sym is) (match_pushed rest m e)
 
   -- a run of strings that don't end here
-  chunk_pushed : (more : List (List (List ℕ))) (edges : List Edge) (run rest : List (List ℕ)) → left ≡ run ++ rest → NoneEnds run → 1 ≤ length run → AddsGroups new more (length edges) run →
-      ((before : List (List (List ℕ))) → length before ≡ first → IsChunk first (before ++ more) edges run) → Listing first old more (items ++ edges ∷ []) rest false all
+  chunk_pushed : (more : List (List (List ℕ))) (edges : List Edge) (run rest : List (List ℕ)) → left ≡ run ++ rest → NoneEnds run →
+      1 ≤ length run → AddsGroups new more (length edges) run →
+      ((before : List (List (List ℕ))) → length before ≡ first → IsChunk first (before ++ more) edges run) →
+          Listing first old more (items ++ edges ∷ []) rest false all
   chunk_pushed more edges run rest e none some adds chunk =
       let long : length more ≡ length new + length adds.added = ap length adds.is ∙ length-append new adds.added in
-      let an_edge : 1 ≤ length edges = chunk_some first (replicate first [] ++ more) edges run (chunk (replicate first []) (length-replicate first [])) none some in
-      let wider : (before : List (List (List ℕ))) → before ++ more ≡ (before ++ new) ++ adds.added = λ before. ap (λ (l : List (List (List ℕ))). before ++ l) adds.is ∙ sym (append_assoc before new adds.added) in
-      let longer : (before : List (List (List ℕ))) → length (before ++ new) ≤ length (before ++ more) = λ before. omega (arith, length-append before new, length-append before more, long) in
+      let an_edge : 1 ≤ length edges = chunk_some first (replicate first []
+          ++ more) edges run (chunk (replicate first []) (length-replicate first [])) none some in
+      let wider : (before : List (List (List ℕ))) → before ++ more ≡ (before ++ new) ++ adds.added =
+          λ before. ap (λ (l : List (List (List ℕ))). before ++ l) adds.is ∙ sym (append_assoc before new adds.added) in
+      let longer : (before : List (List (List ℕ))) → length (before ++ new) ≤ length (before ++ more) =
+          λ before. omega (arith, length-append before new, length-append before more, long) in
       record {
         met = so_far.met ++ run;
         split = append_assoc so_far.met run rest ∙ ap (λ (l : List (List ℕ)). so_far.met ++ l) (sym e) ∙ so_far.split;
@@ -306,28 +339,38 @@ module _ (first : ℕ) (old new : List (List (List ℕ))) (items : List (List Ed
         some = λ l. omega (arith, length-append items (edges ∷ []));
         some_matched = λ t. absurd (cc);
         room = omega (arith, so_far.room, adds.room, bytes_append so_far.met run);
-        few = omega (arith, one_at_most matched (length items) (chunks_in items) so_far.few, length-append items (edges ∷ []), chunks_append items (edges ∷ []), one_chunk edges an_edge);
+        few = omega (arith, one_at_most matched (length items) (chunks_in items) so_far.few, length-append items (edges ∷ []),
+            chunks_append items (edges ∷ []), one_chunk edges an_edge);
         twice = λ t. absurd (cc);
         chunks = λ before len.
-            are_pushed first (length (before ++ more)) items edges (are_wider first (length (before ++ new)) first (length (before ++ more)) items (so_far.chunks before len) (omega arith) (longer before))
+            are_pushed first (length (before ++ more)) items edges (are_wider first (length (before ++ new)) first
+                (length (before ++ more)) items (so_far.chunks before len) (omega arith) (longer before))
             (chunk before len).ascends (chunk before len).inside;
         like = λ before len h i.
             ap (λ (l : List (List ℕ)). distinct nat_eq (ends_of l h i)) (strings_append (before ++ more) items (edges ∷ []))
             ∙ like_then (node_strings (before ++ more) items) so_far.met (node_strings (before ++ more) (edges ∷ [])) run
-            (λ g k. ap (λ (l : List (List ℕ)). distinct nat_eq (ends_of l g k)) (ap (λ (gs : List (List (List ℕ))). node_strings gs items) (wider before)
-            ∙ strings_kept (before ++ new) adds.added first (length (before ++ new)) items (so_far.chunks before len) (omega arith)) ∙ so_far.like before len g k)
-            (λ g k. ap (λ (l : List (List ℕ)). ends_of l g k) (append-nil (item_strings (before ++ more) edges) ∙ item_chunk (before ++ more) edges an_edge)
-            ∙ same_ends (chunk_strings (before ++ more) edges) run (chunk_none_end (before ++ more) edges) none (chunk before len).same_tails g k) h i;
+            (λ g k. ap (λ (l : List (List ℕ)). distinct nat_eq (ends_of l g k))
+                (ap (λ (gs : List (List (List ℕ))). node_strings gs items) (wider before)
+            ∙ strings_kept (before ++ new) adds.added first (length (before ++ new)) items (so_far.chunks before len) (omega arith))
+                ∙ so_far.like before len g k)
+            (λ g k. ap (λ (l : List (List ℕ)). ends_of l g k) (append-nil (item_strings (before ++ more) edges)
+                ∙ item_chunk (before ++ more) edges an_edge)
+            ∙ same_ends (chunk_strings (before ++ more) edges) run (chunk_none_end (before ++ more) edges) none
+                (chunk before len).same_tails g k) h i;
       }
 
-  pub chunk_next : (more : List (List (List ℕ))) (items2 : List (List Edge)) (edges : List Edge) (run rest : List (List ℕ)) → IsTurn left run rest → (b : ℕ) (w : List ℕ) → get_or run 0 [] ≡ b ∷ w → 1 ≤ length run →
-      items2 ≡ items ++ edges ∷ [] → AddsGroups new more (length edges) run → ((before : List (List (List ℕ))) → length before ≡ first → IsChunk first (before ++ more) edges run) →
+  pub chunk_next : (more : List (List (List ℕ))) (items2 : List (List Edge)) (edges : List Edge) (run rest : List (List ℕ)) →
+      IsTurn left run rest → (b : ℕ) (w : List ℕ) → get_or run 0 [] ≡ b ∷ w → 1 ≤ length run →
+      items2 ≡ items ++ edges ∷ [] → AddsGroups new more (length edges) run →
+          ((before : List (List (List ℕ))) → length before ≡ first → IsChunk first (before ++ more) edges run) →
       Listing first old more items2 rest false all
   chunk_next more items2 edges run rest t b w here some is adds chunk =
       let P : List (List Edge) → Type 0 = λ xs. Listing first old more xs rest false all in
-      subst P (sym is) (chunk_pushed more edges run rest (sym t.split) (t.none_ends b w (drop 1 run) (first_of run (b ∷ w) some here)) some adds chunk)
+      subst P (sym is) (chunk_pushed more edges run rest (sym t.split)
+          (t.none_ends b w (drop 1 run) (first_of run (b ∷ w) some here)) some adds chunk)
 
-  pub match_here : (flag : Bool) → matched ≡ flag → (run rest : List (List ℕ)) (items2 : List (List Edge)) → IsTurn left run rest → get_or run 0 [] ≡ [] → 1 ≤ length run →
+  pub match_here : (flag : Bool) → matched ≡ flag → (run rest : List (List ℕ)) (items2 : List (List Edge)) → IsTurn left run rest →
+      get_or run 0 [] ≡ [] → 1 ≤ length run →
       items2 ≡ (if flag then items else items ++ [] ∷ []) → Listing first old new items2 rest true all
   match_here flag m run rest items2 t here some is =
       let e : run ≡ [] ∷ drop 1 run = first_of run [] some here in
@@ -357,7 +400,8 @@ texts_drop (suc n) [] = refl
 texts_drop (suc n) (x ∷ xs) = texts_drop n xs
 
 turn_of : (ws : List (List ℕ)) (n : ℕ) → n ≡ max (run_of ws) 1 → IsTurn ws (take n ws) (drop n ws)
-turn_of [] n e = record { split = run_joined [] n; ended = λ us f. absurd (nothing_taken n ([] ∷ us) f tt); none_ends = λ b w us f. absurd (nothing_taken n ((b ∷ w) ∷ us) f tt) }
+turn_of [] n e = record { split = run_joined [] n; ended = λ us f. absurd (nothing_taken n ([] ∷ us) f tt);
+    none_ends = λ b w us f. absurd (nothing_taken n ((b ∷ w) ∷ us) f tt) }
 turn_of ([] ∷ ws) n e =
     let P : ℕ → Type 0 = λ k. IsTurn ([] ∷ ws) (take k ([] ∷ ws)) (drop k ([] ∷ ws)) in
     let one : n ≡ 1 = omega arith in
@@ -365,9 +409,11 @@ turn_of ([] ∷ ws) n e =
 turn_of ((a ∷ v) ∷ ws) n e =
     let P : ℕ → Type 0 = λ k. IsTurn ((a ∷ v) ∷ ws) (take k ((a ∷ v) ∷ ws)) (drop k ((a ∷ v) ∷ ws)) in
     let more : n ≡ suc (run_of ws) = omega arith in
-    subst P (sym more) (record { split = run_joined ((a ∷ v) ∷ ws) (suc (run_of ws)); ended = λ us f. absurd (cc); none_ends = λ b w us f. run_none ws })
+    subst P (sym more) (record { split = run_joined ((a ∷ v) ∷ ws) (suc (run_of ws)); ended = λ us f. absurd (cc);
+        none_ends = λ b w us f. run_none ws })
 
-pub turn_at : (all front back : List (Bor (List ℕ))) (n : ℕ) → n ≡ max (run_of (texts all)) 1 → front ≡ take n all → back ≡ drop n all → IsTurn (texts all) (texts front) (texts back)
+pub turn_at : (all front back : List (Bor (List ℕ))) (n : ℕ) → n ≡ max (run_of (texts all)) 1 → front ≡ take n all → back ≡ drop n all →
+    IsTurn (texts all) (texts front) (texts back)
 turn_at all front back n e f g =
     let P : List (List ℕ) → Type 0 = λ l. IsTurn (texts all) l (texts back) in
     let Q : List (List ℕ) → Type 0 = λ l. IsTurn (texts all) (take n (texts all)) l in
@@ -411,7 +457,8 @@ texts_long (x ∷ xs) = ap (λ (n : ℕ). suc n) (texts_long xs)
 
 -- ---- turns of the loop over a node's strings
 
-module _ (first : ℕ) (old new : List (List (List ℕ))) (items : List (List Edge)) (rest : List (Bor (List ℕ))) (matched : Bool) (all : List (List ℕ)) (so_far : Listing first old new items (texts rest) matched all)
+module _ (first : ℕ) (old new : List (List (List ℕ))) (items : List (List Edge)) (rest : List (Bor (List ℕ))) (matched : Bool)
+    (all : List (List ℕ)) (so_far : Listing first old new items (texts rest) matched all)
     (n m : ℕ) (is_turn : n ≡ max (run_of (texts rest)) 1) (some : 1 ≤ length rest) (others : m + n ≡ length rest) (d : Bor (List ℕ)) where
   turn : IsTurn (texts rest) (texts (take n rest)) (texts (take m (drop n rest)))
   turn = turn_at rest (take n rest) (take m (drop n rest)) n is_turn refl (left_part rest n m others)
@@ -422,13 +469,19 @@ module _ (first : ℕ) (old new : List (List (List ℕ))) (items : List (List Ed
   one : 1 ≤ length (texts (take n rest))
   one = omega (arith, texts_long (take n rest), some_taken rest n (omega arith) some)
 
-  pub match_turn : (items2 : List (List Edge)) → true ≡ (length (get_or (take n rest) 0 d).now == 0) → items2 ≡ (if matched then items else items ++ [] ∷ []) → Listing first old new items2 (texts (take m (drop n rest))) true all
+  pub match_turn : (items2 : List (List Edge)) → true ≡ (length (get_or (take n rest) 0 d).now == 0) →
+      items2 ≡ (if matched then items else items ++ [] ∷ []) → Listing first old new items2 (texts (take m (drop n rest))) true all
   match_turn items2 empty is =
-      match_here first old new items (texts rest) matched all so_far matched refl (texts (take n rest)) (texts (take m (drop n rest))) items2 turn (here ∙ no_text (get_or (take n rest) 0 d).now (grind (arith, common_steps, empty))) one is
+      match_here first old new items (texts rest) matched all so_far matched refl (texts (take n rest))
+          (texts (take m (drop n rest))) items2 turn (here ∙ no_text (get_or (take n rest) 0 d).now (grind (arith, common_steps, empty)))
+          one is
 
-  pub chunk_turn : (more : List (List (List ℕ))) (items2 : List (List Edge)) (edges : List Edge) → false ≡ (length (get_or (take n rest) 0 d).now == 0) → items2 ≡ items ++ edges ∷ [] →
-      AddsGroups new more (length edges) (texts (take n rest)) → ((before : List (List (List ℕ))) → length before ≡ first → IsChunk first (before ++ more) edges (texts (take n rest))) →
+  pub chunk_turn : (more : List (List (List ℕ))) (items2 : List (List Edge)) (edges : List Edge) →
+      false ≡ (length (get_or (take n rest) 0 d).now == 0) → items2 ≡ items ++ edges ∷ [] →
+      AddsGroups new more (length edges) (texts (take n rest)) → ((before : List (List (List ℕ))) → length before ≡ first →
+          IsChunk first (before ++ more) edges (texts (take n rest))) →
       Listing first old more items2 (texts (take m (drop n rest))) false all
   chunk_turn more items2 edges ne is adds chunk =
       let w = some_text (get_or (take n rest) 0 d).now (is_some (length (get_or (take n rest) 0 d).now) ne) in
-      chunk_next first old new items (texts rest) matched all so_far more items2 edges (texts (take n rest)) (texts (take m (drop n rest))) turn w.0 w.1 (here ∙ w.2) one is adds chunk
+      chunk_next first old new items (texts rest) matched all so_far more items2 edges (texts (take n rest))
+          (texts (take m (drop n rest))) turn w.0 w.1 (here ∙ w.2) one is adds chunk

@@ -1,5 +1,6 @@
 -- Alternations of literals: what a trie of them means is what they mean, and how many states it takes.
-use Rattle.std.proofs.Common.{◌≡◌, ℕ, suc, ◌+◌, ◌*◌, ◌<◌, ◌≤◌, min, Bool, true, false, List, [], ◌∷◌, ◌++◌, length, take, get_or, nat_le, ◌&&◌, refl, sym, ap, ◌∙◌, subst, arith}
+use Rattle.std.proofs.Common.{◌≡◌, ℕ, suc, ◌+◌, ◌*◌, ◌<◌, ◌≤◌, min, Bool, true, false, List, [], ◌∷◌, ◌++◌, length, take, get_or, nat_le}
+use Rattle.std.proofs.Common.{◌&&◌, refl, sym, ap, ◌∙◌, subst, arith}
 use Rattle.std.specs.Prelude.{Vec}
 use Rattle.std.specs.Global.{Global}
 use Rattle.std.specs.List.{list_all, sum_by}
@@ -7,7 +8,8 @@ use Rattle.std.proofs.lemmas.List.{reverse-reverse, length-reverse, take_more, t
 use Rattle.std.proofs.lemmas.List.Sums.{sum_by-cons}
 use Rattle.hir_core.specs.Facts.{count, capped}
 use Rattle.hir_core.specs.Node.{node}
-use Rattle.hir_core.specs.Tree.{Tree, empty, literal, byte_class, char_class, look, repetition, capture, nothing, cat, never, alt, concat, alternation}
+use Rattle.hir_core.specs.Tree.{Tree, empty, literal, byte_class, char_class, look, repetition, capture, nothing, cat, never, alt, concat}
+use Rattle.hir_core.specs.Tree.{alternation}
 use Rattle.hir_core.specs.declared.hir.HirKind.{HirKind}
 use Rattle.hir_core.specs.declared.hir.HirKind.TheVariants.{Empty, Literal, Bytes, Chars, Look, Repetition, Capture, Concat, Alternation}
 use Rattle.nfa_core.specs.BuilderStates.{Assembly}
@@ -91,17 +93,20 @@ literals_are back [] e = refl
 literals_are back (x ∷ xs) e =
     let b = and_parts (is_literal x) (list_all is_literal xs) e in
     ap (λ (w : List ℕ). alt (literal w) (literals back (read_strings back xs))) (spelt_twice back (bytes_of_literal x))
-    ∙ ap (λ (y : Tree). alt y (literals back (read_strings back xs))) (literal_is x b.0) ∙ ap (λ (y : Tree). alt x y) (literals_are back xs b.1)
+    ∙ ap (λ (y : Tree). alt y (literals back (read_strings back xs))) (literal_is x b.0)
+        ∙ ap (λ (y : Tree). alt x y) (literals_are back xs b.1)
 
 -- the trie's states are as many as the literals' bytes allow
-room : (back : Bool) (xs : List Tree) → list_all is_literal xs ≡ true → min (2 * bytes_in (read_strings back xs)) 18446744073709551615 ≤ sum_by count xs
+room : (back : Bool) (xs : List Tree) → list_all is_literal xs ≡ true →
+    min (2 * bytes_in (read_strings back xs)) 18446744073709551615 ≤ sum_by count xs
 room back [] e = omega arith
 room back (x ∷ xs) e =
     let b = and_parts (is_literal x) (list_all is_literal xs) e in
     let here : count x ≡ capped (2 * length (bytes_of_literal x) + 1) = ap count (sym (literal_is x b.0)) in
     omega (arith, room back xs b.1, sum_by-cons count x xs, here, length_spelt back (bytes_of_literal x))
 
-fits : (back : Bool) (xs : List Tree) → list_all is_literal xs ≡ true → min (1 + 2 * bytes_in (read_strings back xs)) 18446744073709551615 ≤ count (alternation xs)
+fits : (back : Bool) (xs : List Tree) → list_all is_literal xs ≡ true →
+    min (1 + 2 * bytes_in (read_strings back xs)) 18446744073709551615 ≤ count (alternation xs)
 fits back xs e = omega (arith, alternation_count xs, room back xs e)
 
 read_append : (back : Bool) (xs ys : List Tree) → read_strings back (xs ++ ys) ≡ read_strings back xs ++ read_strings back ys
@@ -113,23 +118,28 @@ read_long back [] = refl
 read_long back (x ∷ xs) = ap (λ (n : ℕ). suc n) (read_long back xs)
 
 -- one literal more
-pub read_next : (trie next : Strings) (back : Bool) (xs : List Tree) (k : ℕ) (x : Tree) (bytes : List ℕ) → trie ≡ record { reverse = back; strings = read_strings back (take k xs) } → x ≡ get_or xs k x → k < length xs →
-    bytes ≡ bytes_of_literal x → next ≡ record trie { strings = trie.strings ++ spelt trie.reverse bytes ∷ [] } → next ≡ record { reverse = back; strings = read_strings back (take (k + 1) xs) }
+pub read_next : (trie next : Strings) (back : Bool) (xs : List Tree) (k : ℕ) (x : Tree) (bytes : List ℕ) →
+    trie ≡ record { reverse = back; strings = read_strings back (take k xs) } → x ≡ get_or xs k x → k < length xs →
+    bytes ≡ bytes_of_literal x → next ≡ record trie { strings = trie.strings ++ spelt trie.reverse bytes ∷ [] } →
+        next ≡ record { reverse = back; strings = read_strings back (take (k + 1) xs) }
 read_next trie next back xs k x bytes e got less is n =
     let more : take (k + 1) xs ≡ take k xs ++ x ∷ [] = take_more xs k x less ∙ ap (λ (y : Tree). take k xs ++ y ∷ []) (sym got) in
-    let all : read_strings back (take (k + 1) xs) ≡ read_strings back (take k xs) ++ spelt back (bytes_of_literal x) ∷ [] = ap (read_strings back) more ∙ read_append back (take k xs) (x ∷ []) in
+    let all : read_strings back (take (k + 1) xs) ≡ read_strings back (take k xs) ++ spelt back (bytes_of_literal x) ∷ [] =
+        ap (read_strings back) more ∙ read_append back (take k xs) (x ∷ []) in
     n ∙ ap (λ (t : Strings). record t { strings = t.strings ++ spelt t.reverse bytes ∷ [] }) e
     ∙ ap (λ (w : List ℕ). record { reverse = back; strings = read_strings back (take k xs) ++ spelt back w ∷ [] }) is
     ∙ ap (λ (l : List (List ℕ)). record { reverse = back; strings = l }) (sym all)
 
-module _ (trie : Strings) (xs : List Tree) (k : ℕ) (old new : Assembly) (is : trie ≡ record { reverse = old.reverse; strings = read_strings old.reverse (take k xs) }) (past : length xs ≤ k) (wanted : are_literals xs ≡ true) where
+module _ (trie : Strings) (xs : List Tree) (k : ℕ) (old new : Assembly) (is : trie ≡ record { reverse = old.reverse;
+    strings = read_strings old.reverse (take k xs) }) (past : length xs ≤ k) (wanted : are_literals xs ≡ true) where
   strings_are : trie.strings ≡ read_strings old.reverse xs
   strings_are = ap (λ (t : Strings). t.strings) is ∙ ap (read_strings old.reverse) (take_all k xs past)
 
   all : list_all is_literal xs ≡ true
   all = (and_parts (nat_le 2 (length xs)) (list_all is_literal xs) wanted).1
 
-  pub literals_made : (start end : ℕ) → Makes old new start end (1 + 2 * bytes_in trie.strings) → Makes old new start end (count (alternation xs))
+  pub literals_made : (start end : ℕ) → Makes old new start end (1 + 2 * bytes_in trie.strings) →
+      Makes old new start end (count (alternation xs))
   literals_made start end m =
       let P : List (List ℕ) → Type 0 = λ ws. Makes old new start end (1 + 2 * bytes_in ws) in
       made_capped (count (alternation xs)) (subst P strings_are m) (fits old.reverse xs all)

@@ -1,5 +1,6 @@
 -- The states of a trie's nodes: what the items of a node add.
-use Rattle.std.proofs.Common.{◌≡◌, ◌⊎◌, inl, inr, ℕ, zero, suc, ◌+◌, ◌*◌, ◌<◌, ◌≤◌, Bool, List, [], ◌∷◌, ◌++◌, map, length, take, drop, get_or, None, refl, sym, ap, ◌∙◌, subst, arith, length-append, ⊎_elim, true}
+use Rattle.std.proofs.Common.{◌≡◌, ◌⊎◌, inl, inr, ℕ, zero, suc, ◌+◌, ◌*◌, ◌<◌, ◌≤◌, Bool, List, [], ◌∷◌, ◌++◌, map, length, take, drop}
+use Rattle.std.proofs.Common.{get_or, None, refl, sym, ap, ◌∙◌, subst, arith, length-append, ⊎_elim, true}
 use Rattle.std.specs.Prelude.{All}
 use Rattle.std.proofs.lemmas.Bool.{cases_lt}
 use Rattle.std.proofs.lemmas.List.{take_more, take_all, length-map, get_or-map}
@@ -46,21 +47,27 @@ ranges_long names (e ∷ es) = ap (λ (n : ℕ). suc n) (ranges_long names es)
 pub chunk_bytes : (names : List ℕ) (es : List Edge) → Ascends 0 es 256 → draft_bytes (sparse_draft (edge_ranges names es)) ≤ 2072
 chunk_bytes names es a = omega (arith, few_edges 0 256 es a, ranges_long names es)
 
-pub chunk_ascends : (names : List ℕ) (es : List Edge) (ranges : List (ℕ × ℕ × ℕ)) → Ascends 0 es 256 → ranges ≡ edge_ranges names es → AscendsFrom 0 ranges
-chunk_ascends names es ranges a e = let P : List (ℕ × ℕ × ℕ) → Type 0 = λ l. AscendsFrom 0 l in subst P (sym e) (ranges_ascend names 0 256 es a)
+pub chunk_ascends : (names : List ℕ) (es : List Edge) (ranges : List (ℕ × ℕ × ℕ)) → Ascends 0 es 256 → ranges ≡ edge_ranges names es →
+    AscendsFrom 0 ranges
+chunk_ascends names es ranges a e = let P : List (ℕ × ℕ × ℕ) → Type 0 = λ l. AscendsFrom 0 l in
+    subst P (sym e) (ranges_ascend names 0 256 es a)
 
-pub bytes_of_chunk : (names : List ℕ) (es : List Edge) (ranges : List (ℕ × ℕ × ℕ)) → Ascends 0 es 256 → ranges ≡ edge_ranges names es → draft_bytes (sparse_draft ranges) ≤ 2072
-bytes_of_chunk names es ranges a e = let P : List (ℕ × ℕ × ℕ) → Type 0 = λ l. draft_bytes (sparse_draft l) ≤ 2072 in subst P (sym e) (chunk_bytes names es a)
+pub bytes_of_chunk : (names : List ℕ) (es : List Edge) (ranges : List (ℕ × ℕ × ℕ)) → Ascends 0 es 256 → ranges ≡ edge_ranges names es →
+    draft_bytes (sparse_draft ranges) ≤ 2072
+bytes_of_chunk names es ranges a e = let P : List (ℕ × ℕ × ℕ) → Type 0 = λ l. draft_bytes (sparse_draft l) ≤ 2072 in
+    subst P (sym e) (chunk_bytes names es a)
 
 -- the state names states that are there
-chunk_names : (names : List ℕ) (n first : ℕ) (es : List Edge) → All (λ q. q < n) names → AreInside first (length names) es → (k d : ℕ) → k < length (names_of (sparse_draft (edge_ranges names es))) →
+chunk_names : (names : List ℕ) (n first : ℕ) (es : List Edge) → All (λ q. q < n) names → AreInside first (length names) es → (k d : ℕ) →
+    k < length (names_of (sparse_draft (edge_ranges names es))) →
     get_or (names_of (sparse_draft (edge_ranges names es))) k d < n
 chunk_names names n first [] all a k d l = absurd (omega arith)
 chunk_names names n first (e ∷ es) all a zero d l = all e.next 0 a.1
 chunk_names names n first (e ∷ es) all a (suc k) d l = chunk_names names n first es all a.2 k d (omega arith)
 
 -- where the nodes to which edges lead do what trees mean, the chunk does what the alternation of these means behind their bytes
-lead_edges : (back : Bool) (T : Table) (end first : ℕ) (names : List ℕ) (x : ℕ → Tree) (es : List Edge) → IsLed back T end first names x → AreInside first (length names) es →
+lead_edges : (back : Bool) (T : Table) (end first : ℕ) (names : List ℕ) (x : ℕ → Tree) (es : List Edge) → IsLed back T end first names x →
+    AreInside first (length names) es →
     LeadAll back T end (edge_ranges names es) (edge_trees x es)
 lead_edges back T end first names x [] led a = tt
 lead_edges back T end first names x (e ∷ es) led a = (led e.next a.0 a.1, lead_edges back T end first names x es led a.2)
@@ -85,10 +92,12 @@ pub record ItemsTo (old mid : Assembly) (names : List ℕ) (end : ℕ) (items : 
   pub numbered : length old.drafts ≤ greatest_index + 1 → length mid.drafts ≤ greatest_index + 1
   pub stands : (q : ℕ) → length old.drafts ≤ q → q < length mid.drafts → stands_for (draft_at mid.drafts q) ≡ None
   pub there : All (IsWay old mid end) ways
-  pub denotes : (table : Table) → HasStates old mid table → (first : ℕ) → AreChunks first (length names) items → (x : ℕ → Tree) → IsLed old.reverse table end first names x →
+  pub denotes : (table : Table) → HasStates old mid table → (first : ℕ) → AreChunks first (length names) items → (x : ℕ → Tree) →
+      IsLed old.reverse table end first names x →
       AllDenote old.reverse table end ways (item_trees old.reverse names x items)
 
-trees_append : (back : Bool) (names : List ℕ) (x : ℕ → Tree) (is js : List (List Edge)) → item_trees back names x (is ++ js) ≡ item_trees back names x is ++ item_trees back names x js
+trees_append : (back : Bool) (names : List ℕ) (x : ℕ → Tree) (is js : List (List Edge)) →
+    item_trees back names x (is ++ js) ≡ item_trees back names x is ++ item_trees back names x js
 trees_append back names x [] js = refl
 trees_append back names x (i ∷ is) js = ap (λ (l : List Tree). item_tree back names x i ∷ l) (trees_append back names x is js)
 
@@ -100,7 +109,8 @@ chunks_behind : (first end : ℕ) (is js : List (List Edge)) → AreChunks first
 chunks_behind first end [] js a = a
 chunks_behind first end (i ∷ is) js a = chunks_behind first end is js a.2
 
-pub no_items : (old : Assembly) (names : List ℕ) (end : ℕ) (items : List (List Edge)) (ways : List ℕ) → items ≡ [] → ways ≡ [] → ItemsTo old old names end items ways
+pub no_items : (old : Assembly) (names : List ℕ) (end : ℕ) (items : List (List Edge)) (ways : List ℕ) → items ≡ [] → ways ≡ [] →
+    ItemsTo old old names end items ways
 no_items old names end items ways no_item no_way =
     let P : List (List Edge) → Type 0 = λ is. ItemsTo old old names end is ways in
     let Q : List ℕ → Type 0 = λ ws. ItemsTo old old names end [] ws in
@@ -116,7 +126,8 @@ no_items old names end items ways no_item no_way =
       denotes = λ table has first chunks x led. none_denote;
     }))
 
-module _ (old mid : Assembly) (names : List ℕ) (end : ℕ) (items : List (List Edge)) (ways : List ℕ) (so_far : ItemsTo old mid names end items ways) where
+module _ (old mid : Assembly) (names : List ℕ) (end : ℕ) (items : List (List Edge)) (ways : List ℕ)
+    (so_far : ItemsTo old mid names end items ways) where
   match_added : ItemsTo old mid names end (items ++ [] ∷ []) (ways ++ end ∷ [])
   match_added =
       let none : chunks_in (items ++ [] ∷ []) ≡ chunks_in items = omega (arith, chunks_append items ([] ∷ [])) in
@@ -133,10 +144,12 @@ module _ (old mid : Assembly) (names : List ℕ) (end : ℕ) (items : List (List
             let P : List Tree → Type 0 = λ ts. AllDenote old.reverse table end (ways ++ end ∷ []) ts in
             subst P (sym (trees_append old.reverse names x items ([] ∷ [])))
             (all_denote_push old.reverse table end end empty ways (item_trees old.reverse names x items)
-            (so_far.denotes table has first (chunks_before first (length names) items ([] ∷ []) chunks) x led) (denotes_empty_here old.reverse table end));
+            (so_far.denotes table has first (chunks_before first (length names) items ([] ∷ []) chunks) x led)
+                (denotes_empty_here old.reverse table end));
       }
 
-  module _ (new : Assembly) (id : ℕ) (e : Edge) (es : List Edge) (added : Added mid new id (sparse_draft (edge_ranges names (e ∷ es))) mid.groups) (names_there : All (λ q. q < length old.drafts) names)
+  module _ (new : Assembly) (id : ℕ) (e : Edge) (es : List Edge) (added : Added mid new id
+      (sparse_draft (edge_ranges names (e ∷ es))) mid.groups) (names_there : All (λ q. q < length old.drafts) names)
       (inside : AreInside 0 (length names) (e ∷ es)) (ascends : Ascends 0 (e ∷ es) 256) where
     abbrev draft : DraftNode
     draft = sparse_draft (edge_ranges names (e ∷ es))
@@ -146,7 +159,8 @@ module _ (old mid : Assembly) (names : List ℕ) (end : ℕ) (items : List (List
 
     tame : IsTame true new draft
     tame = record {
-      named = chunk_names names (length new.drafts) 0 (e ∷ es) (All-weaker (λ q. q < length old.drafts) (λ q. q < length new.drafts) (λ q l. omega (arith, added.size, so_far.states)) names names_there) inside;
+      named = chunk_names names (length new.drafts) 0 (e ∷ es) (All-weaker (λ q. q < length old.drafts) (λ q. q < length new.drafts)
+          (λ q l. omega (arith, added.size, so_far.states)) names names_there) inside;
       known = refl;
       not_barred = refl;
     }
@@ -166,10 +180,12 @@ module _ (old mid : Assembly) (names : List ℕ) (end : ℕ) (items : List (List
           numbered = λ l. added.numbered;
           stands = λ q l h. ⊎_elim
               (λ (k : q < length mid.drafts). ap stands_for (added.grows.same q k) ∙ so_far.stands q l k)
-              (λ (k : length mid.drafts ≤ q). let same : id ≡ q = omega arith in let P : ℕ → Type 0 = λ j. stands_for (draft_at new.drafts j) ≡ None in subst P same (ap stands_for added.here))
+              (λ (k : length mid.drafts ≤ q). let same : id ≡ q = omega arith in let P : ℕ →
+                  Type 0 = λ j. stands_for (draft_at new.drafts j) ≡ None in subst P same (ap stands_for added.here))
               (cases_lt q (length mid.drafts));
           there = All-push (IsWay old new end) ways id
-              (All-weaker (IsWay old mid end) (IsWay old new end) (λ q w. ⊎_elim (λ (s : q ≡ end). inl s) (λ (n : (length old.drafts ≤ q) × (q < length mid.drafts)). let a = n.1 in inr (n.0, omega arith)) w) ways so_far.there)
+              (All-weaker (IsWay old mid end) (IsWay old new end) (λ q w. ⊎_elim (λ (s : q ≡ end). inl s)
+                  (λ (n : (length old.drafts ≤ q) × (q < length mid.drafts)). let a = n.1 in inr (n.0, omega arith)) w) ways so_far.there)
               (inr (omega arith, omega arith));
           denotes = λ table has first chunks x led.
               let P : List Tree → Type 0 = λ ts. AllDenote old.reverse table end (ways ++ id ∷ []) ts in
@@ -177,11 +193,13 @@ module _ (old mid : Assembly) (names : List ℕ) (end : ℕ) (items : List (List
               subst P (sym (trees_append old.reverse names x items ((e ∷ es) ∷ [])))
               (all_denote_push old.reverse table end id (item_tree old.reverse names x (e ∷ es)) ways (item_trees old.reverse names x items)
               (so_far.denotes table (older table has) first (chunks_before first (length names) items ((e ∷ es) ∷ []) chunks) x led)
-              (denotes_branches old.reverse table id end (edge_ranges names (e ∷ es)) (edge_trees x (e ∷ es)) (has id (omega arith) (omega arith) ∙ added.here) (ranges_ascend names 0 256 (e ∷ es) here.0)
+              (denotes_branches old.reverse table id end (edge_ranges names (e ∷ es)) (edge_trees x (e ∷ es))
+                  (has id (omega arith) (omega arith) ∙ added.here) (ranges_ascend names 0 256 (e ∷ es) here.0)
               (lead_edges old.reverse table end first names x (e ∷ es) led here.1)));
         }
 
-  pub item_added : (new : Assembly) (id : ℕ) (item : List Edge) → AddsItem mid new names end item id → All (λ q. q < length old.drafts) names → AreInside 0 (length names) item → Ascends 0 item 256 →
+  pub item_added : (new : Assembly) (id : ℕ) (item : List Edge) → AddsItem mid new names end item id →
+      All (λ q. q < length old.drafts) names → AreInside 0 (length names) item → Ascends 0 item 256 →
       ItemsTo old new names end (items ++ item ∷ []) (ways ++ id ∷ [])
   item_added new id [] a there inside ascends =
       let P : Assembly → Type 0 = λ b. ItemsTo old b names end (items ++ [] ∷ []) (ways ++ id ∷ []) in
@@ -196,13 +214,15 @@ chunks_edges [] = omega arith
 chunks_edges ([] ∷ is) = omega (arith, chunks_edges is)
 chunks_edges ((e ∷ es) ∷ is) = omega (arith, chunks_edges is)
 
-only_one : (back : Bool) (T : Table) (end : ℕ) (ways : List ℕ) (ts : List Tree) → length ways ≡ 1 → AllDenote back T end ways ts → Denotes back T (get_or ways 0 0) end (alternation ts)
+only_one : (back : Bool) (T : Table) (end : ℕ) (ways : List ℕ) (ts : List Tree) → length ways ≡ 1 → AllDenote back T end ways ts →
+    Denotes back T (get_or ways 0 0) end (alternation ts)
 only_one back T end _ _ l none_denote = absurd (omega arith)
 only_one back T end _ _ l (more_denote q x [] [] d none_denote) = denotes_alternation_one back T q end x d
 only_one back T end _ _ l (more_denote q x (p ∷ qs) xs d ds) = absurd (omega arith)
 only_one back T end _ _ l (more_denote q x [] (y ∷ ys) d ds) = elim ds [ ]
 
-module _ (old mid : Assembly) (names : List ℕ) (end : ℕ) (items : List (List Edge)) (ways : List ℕ) (so_far : ItemsTo old mid names end items ways) (few : length items ≤ 2 * chunks_in items + 1) where
+module _ (old mid : Assembly) (names : List ℕ) (end : ℕ) (items : List (List Edge)) (ways : List ℕ)
+    (so_far : ItemsTo old mid names end items ways) (few : length items ≤ 2 * chunks_in items + 1) where
   pub one_item : length ways ≡ 1 → AddsNode old mid names end items (get_or ways 0 0)
   one_item one = record {
     grows = so_far.partly.grows;
@@ -213,17 +233,20 @@ module _ (old mid : Assembly) (names : List ℕ) (end : ℕ) (items : List (List
     tame = so_far.partly.tame;
     stands = so_far.stands;
     there = so_far.there 0 0 (omega (arith, one));
-    denotes = λ table has first chunks x led. only_one old.reverse table end ways (item_trees old.reverse names x items) one (so_far.denotes table has first chunks x led);
+    denotes = λ table has first chunks x led. only_one old.reverse table end ways (item_trees old.reverse names x items) one
+        (so_far.denotes table has first chunks x led);
   }
 
-  module _ (new : Assembly) (id : ℕ) (two : 2 ≤ length ways) (end_there : end < length old.drafts) (added : Added mid new id (union_draft ways) mid.groups) where
+  module _ (new : Assembly) (id : ℕ) (two : 2 ≤ length ways) (end_there : end < length old.drafts)
+      (added : Added mid new id (union_draft ways) mid.groups) where
     some_chunk : 1 ≤ chunks_in items
     some_chunk = omega (arith, so_far.ways_long)
 
     union_tame : IsTame true new (union_draft ways)
     union_tame = record {
       named = All-weaker (IsWay old mid end) (λ q. q < length new.drafts)
-          (λ q w. let a = so_far.states in let b = added.size in ⊎_elim (λ (s : q ≡ end). omega arith) (λ (n : (length old.drafts ≤ q) × (q < length mid.drafts)). let h = n.1 in omega arith) w) ways so_far.there;
+          (λ q w. let a = so_far.states in let b = added.size in ⊎_elim (λ (s : q ≡ end). omega arith)
+              (λ (n : (length old.drafts ≤ q) × (q < length mid.drafts)). let h = n.1 in omega arith) w) ways so_far.there;
       known = refl;
       not_barred = refl;
     }
@@ -244,46 +267,58 @@ module _ (old mid : Assembly) (names : List ℕ) (end : ℕ) (items : List (List
           tame = all.tame;
           stands = λ q l h. ⊎_elim
               (λ (k : q < length mid.drafts). ap stands_for (added.grows.same q k) ∙ so_far.stands q l k)
-              (λ (k : length mid.drafts ≤ q). let same : id ≡ q = omega arith in let P : ℕ → Type 0 = λ j. stands_for (draft_at new.drafts j) ≡ None in subst P same (ap stands_for added.here ∙ union_stands ways two))
+              (λ (k : length mid.drafts ≤ q). let same : id ≡ q = omega arith in let P : ℕ →
+                  Type 0 = λ j. stands_for (draft_at new.drafts j) ≡ None in
+                  subst P same (ap stands_for added.here ∙ union_stands ways two))
               (cases_lt q (length mid.drafts));
           there = inr (omega arith, omega arith);
           denotes = λ table has first chunks x led.
-              denotes_alternation old.reverse table id end ways (item_trees old.reverse names x items) (has id (omega arith) (omega arith) ∙ added.here)
+              denotes_alternation old.reverse table id end ways (item_trees old.reverse names x items) (has id (omega arith) (omega arith)
+                  ∙ added.here)
               (so_far.denotes table (union_older table has) first chunks x led);
         }
 
   -- the union is refused
-  pub ways_refused : (new : Assembly) (e : BuildError) → 2 ≤ length ways → Stays mid new 1 (24 + 4 * length ways) e → Quits old new (2 * edges_in items) e
+  pub ways_refused : (new : Assembly) (e : BuildError) → 2 ≤ length ways → Stays mid new 1 (24 + 4 * length ways) e →
+      Quits old new (2 * edges_in items) e
   ways_refused new e two r =
       let m : ℕ = 2 * edges_in items in
       let some : 1 ≤ chunks_in items = omega (arith, so_far.ways_long) in
       record {
-        settings = (grows_trans so_far.partly.grows (let P : Assembly → Type 0 = λ b. Grows mid b in subst P (sym r.same) (grows_refl mid))).settings;
-        cause = step_later old mid 1 (24 + 4 * length ways) m m e (ap (λ (b : Assembly). b.size_limit) so_far.partly.grows.settings) (omega (arith, so_far.states, chunks_edges items, some))
+        settings = (grows_trans so_far.partly.grows (let P : Assembly → Type 0 = λ b. Grows mid b in
+            subst P (sym r.same) (grows_refl mid))).settings;
+        cause = step_later old mid 1 (24 + 4 * length ways) m m e (ap (λ (b : Assembly). b.size_limit) so_far.partly.grows.settings)
+            (omega (arith, so_far.states, chunks_edges items, some))
             (omega (arith, so_far.bytes, so_far.states, so_far.ways_long, chunks_edges items, some)) (omega arith) r.cause;
       }
 
 -- the state of an item is refused
-pub item_refused : (old mid new : Assembly) (names : List ℕ) (end : ℕ) (all items others : List (List Edge)) (item : List Edge) (ways : List ℕ) (e : BuildError) → ItemsTo old mid names end items ways →
+pub item_refused : (old mid new : Assembly) (names : List ℕ) (end : ℕ) (all items others : List (List Edge)) (item : List Edge)
+    (ways : List ℕ) (e : BuildError) → ItemsTo old mid names end items ways →
     all ≡ (items ++ item ∷ []) ++ others → 1 ≤ length item → Stays mid new 1 2072 e → Quits old new (2 * edges_in all) e
 item_refused old mid new names end all items others item ways e so_far is some r =
     let m : ℕ = 2 * edges_in all in
     let edges : edges_in all ≡ edges_in items + length item + edges_in others =
     omega (arith, ap edges_in is, edges_append (items ++ item ∷ []) others, edges_append items (item ∷ [])) in
     record {
-      settings = (grows_trans so_far.partly.grows (let P : Assembly → Type 0 = λ b. Grows mid b in subst P (sym r.same) (grows_refl mid))).settings;
-      cause = step_later old mid 1 2072 m m e (ap (λ (b : Assembly). b.size_limit) so_far.partly.grows.settings) (omega (arith, so_far.states, chunks_edges items, edges))
+      settings = (grows_trans so_far.partly.grows (let P : Assembly → Type 0 = λ b. Grows mid b in
+          subst P (sym r.same) (grows_refl mid))).settings;
+      cause = step_later old mid 1 2072 m m e (ap (λ (b : Assembly). b.size_limit) so_far.partly.grows.settings) (omega (arith,
+          so_far.states, chunks_edges items, edges))
           (omega (arith, so_far.bytes, so_far.states, chunks_edges items, edges)) (omega arith) r.cause;
     }
 
 -- ---- places in the list of items
 
-pub chunk_at : (first end : ℕ) (xs : List (List Edge)) (k : ℕ) (row : List Edge) → AreChunks first end xs → k < length xs → get_or xs k [] ≡ row → AreInside first end row × Ascends 0 row 256
+pub chunk_at : (first end : ℕ) (xs : List (List Edge)) (k : ℕ) (row : List Edge) → AreChunks first end xs → k < length xs →
+    get_or xs k [] ≡ row → AreInside first end row × Ascends 0 row 256
 chunk_at first end [] k row a l e = absurd (omega arith)
-chunk_at first end (x ∷ xs) zero row a l e = let P : List Edge → Type 0 = λ r. AreInside first end r × Ascends 0 r 256 in subst P e (a.1, a.0)
+chunk_at first end (x ∷ xs) zero row a l e = let P : List Edge → Type 0 = λ r. AreInside first end r × Ascends 0 r 256 in
+    subst P e (a.1, a.0)
 chunk_at first end (x ∷ xs) (suc k) row a l e = chunk_at first end xs k row a.2 (omega arith) e
 
-split_at : (xs : List (List Edge)) (k : ℕ) (row : List Edge) → k < length xs → get_or xs k [] ≡ row → xs ≡ (take k xs ++ row ∷ []) ++ drop (k + 1) xs
+split_at : (xs : List (List Edge)) (k : ℕ) (row : List Edge) → k < length xs → get_or xs k [] ≡ row →
+    xs ≡ (take k xs ++ row ∷ []) ++ drop (k + 1) xs
 split_at [] k row l e = absurd (omega arith)
 split_at (x ∷ xs) zero row l e = ap (λ (r : List Edge). r ∷ xs) e
 split_at (x ∷ xs) (suc k) row l e =
@@ -291,11 +326,13 @@ split_at (x ∷ xs) (suc k) row l e =
     let same : suc (k + 1) ≡ suc k + 1 = omega arith in
     subst P same (ap (λ (l : List (List Edge)). x ∷ l) (split_at xs k row (omega arith) e))
 
-taken_more : (xs : List (List Edge)) (k : ℕ) (row : List Edge) → k < length xs → get_or xs k [] ≡ row → take (k + 1) xs ≡ take k xs ++ row ∷ []
+taken_more : (xs : List (List Edge)) (k : ℕ) (row : List Edge) → k < length xs → get_or xs k [] ≡ row →
+    take (k + 1) xs ≡ take k xs ++ row ∷ []
 taken_more xs k row l e = take_more xs k [] l ∙ ap (λ (r : List Edge). take k xs ++ r ∷ []) e
 
 -- the items as lists
-module _ {V : Type 0} (items_of : V → List Edge) (rows : List V) (k : ℕ) (v : V) (row : List Edge) (got : v ≡ get_or rows k v) (is_row : row ≡ items_of v) (less : k < length rows) where
+module _ {V : Type 0} (items_of : V → List Edge) (rows : List V) (k : ℕ) (v : V) (row : List Edge) (got : v ≡ get_or rows k v)
+    (is_row : row ≡ items_of v) (less : k < length rows) where
   abbrev all : List (List Edge)
   all = map items_of rows
 
@@ -308,20 +345,26 @@ module _ {V : Type 0} (items_of : V → List Edge) (rows : List V) (k : ℕ) (v 
   pub row_chunk : (end : ℕ) → AreChunks 0 end (map items_of rows) → AreInside 0 end row × Ascends 0 row 256
   row_chunk end a = chunk_at 0 end (map items_of rows) k row a inside here
 
-  pub row_added : (old mid new : Assembly) (names : List ℕ) (end id : ℕ) (ways ways2 : List ℕ) → ItemsTo old mid names end (take k (map items_of rows)) ways → AddsItem mid new names end row id → ways2 ≡ ways ++ id ∷ [] →
-      All (λ q. q < length old.drafts) names → AreChunks 0 (length names) (map items_of rows) → ItemsTo old new names end (take (k + 1) (map items_of rows)) ways2
+  pub row_added : (old mid new : Assembly) (names : List ℕ) (end id : ℕ) (ways ways2 : List ℕ) →
+      ItemsTo old mid names end (take k (map items_of rows)) ways → AddsItem mid new names end row id → ways2 ≡ ways ++ id ∷ [] →
+      All (λ q. q < length old.drafts) names → AreChunks 0 (length names) (map items_of rows) →
+          ItemsTo old new names end (take (k + 1) (map items_of rows)) ways2
   row_added old mid new names end id ways ways2 so_far a e there chunks =
       let c = row_chunk (length names) chunks in
       let P : List (List Edge) → Type 0 = λ is. ItemsTo old new names end is ways2 in
       let Q : List ℕ → Type 0 = λ ws. ItemsTo old new names end (take k (map items_of rows) ++ row ∷ []) ws in
-      subst P (sym (taken_more (map items_of rows) k row inside here)) (subst Q (sym e) (item_added old mid names end (take k (map items_of rows)) ways so_far new id row a there c.0 c.1))
+      subst P (sym (taken_more (map items_of rows) k row inside here))
+          (subst Q (sym e) (item_added old mid names end (take k (map items_of rows)) ways so_far new id row a there c.0 c.1))
 
-  pub row_refused : (old mid new : Assembly) (names : List ℕ) (end : ℕ) (ways : List ℕ) (e : BuildError) → ItemsTo old mid names end (take k (map items_of rows)) ways → (1 ≤ length row) × Stays mid new 1 2072 e →
+  pub row_refused : (old mid new : Assembly) (names : List ℕ) (end : ℕ) (ways : List ℕ) (e : BuildError) →
+      ItemsTo old mid names end (take k (map items_of rows)) ways → (1 ≤ length row) × Stays mid new 1 2072 e →
       Quits old new (2 * edges_in (map items_of rows)) e
   row_refused old mid new names end ways e so_far r =
-      item_refused old mid new names end (map items_of rows) (take k (map items_of rows)) (drop (k + 1) (map items_of rows)) row ways e so_far (split_at (map items_of rows) k row inside here) r.0 r.1
+      item_refused old mid new names end (map items_of rows) (take k (map items_of rows))
+          (drop (k + 1) (map items_of rows)) row ways e so_far (split_at (map items_of rows) k row inside here) r.0 r.1
 
-pub all_items : {V : Type 0} (items_of : V → List Edge) (rows : List V) (k : ℕ) (old mid : Assembly) (names : List ℕ) (end : ℕ) (ways : List ℕ) → ItemsTo old mid names end (take k (map items_of rows)) ways → length rows ≤ k →
+pub all_items : {V : Type 0} (items_of : V → List Edge) (rows : List V) (k : ℕ) (old mid : Assembly) (names : List ℕ) (end : ℕ)
+    (ways : List ℕ) → ItemsTo old mid names end (take k (map items_of rows)) ways → length rows ≤ k →
     ItemsTo old mid names end (map items_of rows) ways
 all_items {V} items_of rows k old mid names end ways so_far past =
     let P : List (List Edge) → Type 0 = λ is. ItemsTo old mid names end is ways in
@@ -332,7 +375,8 @@ got_same [] d q l e = absurd (omega arith)
 got_same (x ∷ xs) d q l e = sym e
 
 -- all items are there
-module _ {V : Type 0} (items_of : V → List Edge) (rows : List V) (k : ℕ) (old mid : Assembly) (names : List ℕ) (end : ℕ) (ways : List ℕ) (so_far : ItemsTo old mid names end (take k (map items_of rows)) ways) (past : length rows ≤ k)
+module _ {V : Type 0} (items_of : V → List Edge) (rows : List V) (k : ℕ) (old mid : Assembly) (names : List ℕ) (end : ℕ) (ways : List ℕ)
+    (so_far : ItemsTo old mid names end (take k (map items_of rows)) ways) (past : length rows ≤ k)
     (some : 1 ≤ length rows) (few : length rows ≤ 2 * chunks_in (map items_of rows) + 1) where
   whole : ItemsTo old mid names end (map items_of rows) ways
   whole = all_items items_of rows k old mid names end ways so_far past
@@ -349,8 +393,11 @@ module _ {V : Type 0} (items_of : V → List Edge) (rows : List V) (k : ℕ) (ol
       let P : ℕ → Type 0 = λ j. AddsNode old mid names end (map items_of rows) j in
       subst P (got_same ways 0 q (omega arith) is) (one_item old mid names end (map items_of rows) ways whole few_rows l)
 
-  pub rows_union : (new : Assembly) (id n : ℕ) → n ≡ length ways → (n ≡ 1 → ⊥) → end < length old.drafts → Added mid new id (union_draft ways) mid.groups → AddsNode old new names end (map items_of rows) id
-  rows_union new id n e ne there added = more_items old mid names end (map items_of rows) ways whole few_rows new id (two_rows n e ne) there added
+  pub rows_union : (new : Assembly) (id n : ℕ) → n ≡ length ways → (n ≡ 1 → ⊥) → end < length old.drafts →
+      Added mid new id (union_draft ways) mid.groups → AddsNode old new names end (map items_of rows) id
+  rows_union new id n e ne there added = more_items old mid names end (map items_of rows) ways whole few_rows new id
+      (two_rows n e ne) there added
 
-  pub rows_refused : (new : Assembly) (e : BuildError) (n : ℕ) → n ≡ length ways → (n ≡ 1 → ⊥) → Stays mid new 1 (24 + 4 * length ways) e → Quits old new (2 * edges_in (map items_of rows)) e
+  pub rows_refused : (new : Assembly) (e : BuildError) (n : ℕ) → n ≡ length ways → (n ≡ 1 → ⊥) → Stays mid new 1 (24 + 4 * length ways) e →
+      Quits old new (2 * edges_in (map items_of rows)) e
   rows_refused new e n l ne r = ways_refused old mid names end (map items_of rows) ways whole few_rows new e (two_rows n l ne) r

@@ -1,5 +1,6 @@
 -- The stem of strings, byte by byte, and the strings behind it.
-use Rattle.std.proofs.Common.{◌≡◌, ℕ, zero, suc, ◌+◌, ◌<◌, ◌≤◌, List, [], ◌∷◌, ◌++◌, length, take, drop, get_or, refl, sym, ap, ◌∙◌, subst, arith, length-append, append_assoc}
+use Rattle.std.proofs.Common.{◌≡◌, ℕ, zero, suc, ◌+◌, ◌<◌, ◌≤◌, List, [], ◌∷◌, ◌++◌, length, take, drop, get_or, refl, sym, ap, ◌∙◌, subst}
+use Rattle.std.proofs.Common.{arith, length-append, append_assoc}
 use Rattle.std.proofs.lemmas.List.{take_more, take_all, length-take-le, drop_more, map-append}
 use denote.Ref.{Bor}
 use Rattle.thompson_nfa.specs.LiteralGroups.{texts, behind_byte, bytes_in}
@@ -14,11 +15,13 @@ begin_none (w ∷ ws) = (refl, begin_none ws)
 begin_more : (t : List ℕ) (b : ℕ) (ws : List (List ℕ)) → BeginAll t ws → HaveAll (length t) b ws → BeginAll (t ++ b ∷ []) ws
 begin_more t b [] a h = tt
 begin_more t b (w ∷ ws) a h = (
-  a.0 ∙ ap (λ (d : List ℕ). t ++ d) h.0 ∙ sym (append_assoc t (b ∷ []) (drop (length t + 1) w)) ∙ ap (λ (n : ℕ). (t ++ b ∷ []) ++ drop n w) (sym (length-append t (b ∷ []))),
+  a.0 ∙ ap (λ (d : List ℕ). t ++ d) h.0 ∙ sym (append_assoc t (b ∷ []) (drop (length t + 1) w))
+      ∙ ap (λ (n : ℕ). (t ++ b ∷ []) ++ drop n w) (sym (length-append t (b ∷ []))),
   begin_more t b ws a.1 h.1,
 )
 
-pub stem_more : (first : List ℕ) (k b : ℕ) (ws : List (List ℕ)) → k < length first → get_or first k 0 ≡ b → BeginAll (take k first) ws → HaveAll k b ws → BeginAll (take (k + 1) first) ws
+pub stem_more : (first : List ℕ) (k b : ℕ) (ws : List (List ℕ)) → k < length first → get_or first k 0 ≡ b → BeginAll (take k first) ws →
+    HaveAll k b ws → BeginAll (take (k + 1) first) ws
 stem_more first k b ws l is a h =
     let n : length (take k first) ≡ k = length-take-le k first (omega arith) in
     let longer : take (k + 1) first ≡ take k first ++ b ∷ [] = take_more first k 0 l ∙ ap (λ (c : ℕ). take k first ++ c ∷ []) is in
@@ -31,7 +34,8 @@ pub has_byte : (w : List ℕ) (k b : ℕ) → k < length w → get_or w k 0 ≡ 
 has_byte w k b l is = drop_more w k 0 l ∙ ap (λ (c : ℕ). c ∷ drop (k + 1) w) is
 
 -- a string that begins with the text is as long at least
-pub begins_long_at : (t : List ℕ) (ws : List (Bor (List ℕ))) (k : ℕ) (d : Bor (List ℕ)) → BeginAll t (texts ws) → k < length ws → length t ≤ length (get_or ws k d).now
+pub begins_long_at : (t : List ℕ) (ws : List (Bor (List ℕ))) (k : ℕ) (d : Bor (List ℕ)) → BeginAll t (texts ws) → k < length ws →
+    length t ≤ length (get_or ws k d).now
 begins_long_at t [] k d a l = absurd (omega arith)
 begins_long_at t (v ∷ ws) zero d a l = omega (arith, ap length a.0, length-append t (drop (length t) v.now))
 begins_long_at t (v ∷ ws) (suc k) d a l = begins_long_at t ws k d a.1 (omega arith)
@@ -39,7 +43,8 @@ begins_long_at t (v ∷ ws) (suc k) d a l = begins_long_at t ws k d a.1 (omega a
 -- the strings are those behind the stem
 pub behind_without : (t : List ℕ) (ws : List (List ℕ)) → BeginAll t ws → behind_text t (without (length t) ws) ≡ ws
 behind_without t [] a = refl
-behind_without t (w ∷ ws) a = ap (λ (v : List ℕ). v ∷ behind_text t (without (length t) ws)) (sym a.0) ∙ ap (λ (l : List (List ℕ)). w ∷ l) (behind_without t ws a.1)
+behind_without t (w ∷ ws) a = ap (λ (v : List ℕ). v ∷ behind_text t (without (length t) ws)) (sym a.0)
+    ∙ ap (λ (l : List (List ℕ)). w ∷ l) (behind_without t ws a.1)
 
 -- a text's first byte comes before the others
 pub text_byte : (b : ℕ) (t : List ℕ) (ws : List (List ℕ)) → behind_byte b (behind_text t ws) ≡ behind_text (b ∷ t) ws
@@ -68,7 +73,8 @@ have_append k b [] vs x y = y
 have_append k b (u ∷ us) vs x y = (x.0, have_append k b us vs x.1 y)
 
 -- one more string that has the byte
-pub have_next : (k b : ℕ) (xs : List (Bor (List ℕ))) (i : ℕ) (d : Bor (List ℕ)) → i < length xs → HaveAll k b (texts (take i xs)) → (k < length (get_or xs i d).now) × (get_or (get_or xs i d).now k 0 ≡ b) →
+pub have_next : (k b : ℕ) (xs : List (Bor (List ℕ))) (i : ℕ) (d : Bor (List ℕ)) → i < length xs → HaveAll k b (texts (take i xs)) →
+    (k < length (get_or xs i d).now) × (get_or (get_or xs i d).now k 0 ≡ b) →
     HaveAll k b (texts (take (i + 1) xs))
 have_next k b xs i d l so_far has =
     let P : List (List ℕ) → Type 0 = HaveAll k b in

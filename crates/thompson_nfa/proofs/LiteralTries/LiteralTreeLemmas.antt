@@ -1,5 +1,6 @@
 -- What the items of a node mean: the strings of the node.
-use Rattle.std.proofs.Common.{◌≡◌, ◌⊎◌, inl, inr, ℕ, ◌+◌, Bool, true, false, List, [], ◌∷◌, ◌++◌, map, length, get_or, nat_eq, ◌&&◌, if◌then◌else◌, reverse, refl, sym, ap, ◌∙◌, subst, arith, append_assoc, append-nil}
+use Rattle.std.proofs.Common.{◌≡◌, ◌⊎◌, inl, inr, ℕ, ◌+◌, Bool, true, false, List, [], ◌∷◌, ◌++◌, map, length, get_or, nat_eq, ◌&&◌}
+use Rattle.std.proofs.Common.{if◌then◌else◌, reverse, refl, sym, ap, ◌∙◌, subst, arith, append_assoc, append-nil}
 use Rattle.std.specs.List.{flat_map}
 use Rattle.std.proofs.lemmas.Grind.{common_steps, flat_map-append}
 use Rattle.std.proofs.lemmas.List.{map-append, reverse-append}
@@ -39,15 +40,18 @@ read_reads : (back : Bool) (r : ℕ × ℕ) (y : Tree) → LoopsRead y → Loops
 read_reads false r y f = (tt, f)
 read_reads true r y f = (f, tt)
 
-chunk_reads : (back : Bool) (names : List ℕ) (x : ℕ → Tree) (es : List Edge) → ((n : ℕ) → LoopsRead (x n)) → LoopsRead (alternation (branch_trees back (edge_ranges names es) (edge_trees x es)))
+chunk_reads : (back : Bool) (names : List ℕ) (x : ℕ → Tree) (es : List Edge) → ((n : ℕ) → LoopsRead (x n)) →
+    LoopsRead (alternation (branch_trees back (edge_ranges names es) (edge_trees x es)))
 chunk_reads back names x [] f = tt
 chunk_reads back names x (e ∷ es) f = (read_reads back (e.byte, e.byte) (x e.next) (f e.next), chunk_reads back names x es f)
 
-item_reads : (back : Bool) (names : List ℕ) (x : ℕ → Tree) (i : List Edge) → ((n : ℕ) → LoopsRead (x n)) → LoopsRead (item_tree back names x i)
+item_reads : (back : Bool) (names : List ℕ) (x : ℕ → Tree) (i : List Edge) → ((n : ℕ) → LoopsRead (x n)) →
+    LoopsRead (item_tree back names x i)
 item_reads back names x [] f = tt
 item_reads back names x (e ∷ es) f = chunk_reads back names x (e ∷ es) f
 
-items_read : (back : Bool) (names : List ℕ) (x : ℕ → Tree) (is : List (List Edge)) → ((n : ℕ) → LoopsRead (x n)) → LoopsRead (alternation (item_trees back names x is))
+items_read : (back : Bool) (names : List ℕ) (x : ℕ → Tree) (is : List (List Edge)) → ((n : ℕ) → LoopsRead (x n)) →
+    LoopsRead (alternation (item_trees back names x is))
 items_read back names x [] f = tt
 items_read back names x (i ∷ is) f = (item_reads back names x i f, items_read back names x is f)
 
@@ -64,15 +68,20 @@ module _ (looks : Looks) (h : List ℕ) where
   alternation_append : (xs ys : List Tree) (i : ℕ) → ends (alternation (xs ++ ys)) i ≡ ends (alternation xs) i ++ ends (alternation ys) i
   alternation_append [] ys i = refl
   alternation_append (x ∷ xs) ys i =
-      ap (λ (l : List ℕ). ends x i ++ l) (alternation_append xs ys i) ∙ sym (append_assoc (ends x i) (ends (alternation xs) i) (ends (alternation ys) i))
+      ap (λ (l : List ℕ). ends x i ++ l) (alternation_append xs ys i) ∙ sym
+          (append_assoc (ends x i) (ends (alternation xs) i) (ends (alternation ys) i))
 
-  literals_append : (back : Bool) (us vs : List (List ℕ)) (i : ℕ) → ends (literals back (us ++ vs)) i ≡ ends (literals back us) i ++ ends (literals back vs) i
+  literals_append : (back : Bool) (us vs : List (List ℕ)) (i : ℕ) → ends (literals back (us ++ vs)) i ≡ ends (literals back us) i
+      ++ ends (literals back vs) i
   literals_append back us vs i =
-      ap (λ (ts : List Tree). ends (alternation ts) i) (map-append (spelt_literal back) us vs) ∙ alternation_append (map (spelt_literal back) us) (map (spelt_literal back) vs) i
+      ap (λ (ts : List Tree). ends (alternation ts) i) (map-append (spelt_literal back) us vs)
+          ∙ alternation_append (map (spelt_literal back) us) (map (spelt_literal back) vs) i
 
   -- one place at most
-  both_or_none : (c : Bool) (k : ℕ) (f g : ℕ → List ℕ) → flat_map (λ p. f p ++ g p) (if c then k ∷ [] else []) ≡ flat_map f (if c then k ∷ [] else []) ++ flat_map g (if c then k ∷ [] else [])
-  both_or_none true k f g = append-nil (f k ++ g k) ∙ ap (λ (l : List ℕ). l ++ g k) (sym (append-nil (f k))) ∙ ap (λ (l : List ℕ). (f k ++ []) ++ l) (sym (append-nil (g k)))
+  both_or_none : (c : Bool) (k : ℕ) (f g : ℕ → List ℕ) → flat_map (λ p. f p ++ g p) (if c then k ∷ [] else []) ≡ flat_map f (if c
+      then k ∷ [] else []) ++ flat_map g (if c then k ∷ [] else [])
+  both_or_none true k f g = append-nil (f k ++ g k) ∙ ap (λ (l : List ℕ). l ++ g k) (sym (append-nil (f k)))
+      ∙ ap (λ (l : List ℕ). (f k ++ []) ++ l) (sym (append-nil (g k)))
   both_or_none false k f g = refl
 
   abbrev nowhere : ℕ → List ℕ
@@ -88,7 +97,8 @@ module _ (looks : Looks) (h : List ℕ) where
   one_forward : (b : ℕ) (w : List ℕ) (i : ℕ) → flat_map (ends (literal w)) (ends (range_tree (b, b)) i) ≡ ends (literal (b ∷ w)) i
   one_forward b w i = ap (flat_map (ends (literal w))) (byte_here b i) ∙ (same_literal_append (b ∷ []) w).ends looks h i
 
-  forward : (b : ℕ) (ws : List (List ℕ)) (i : ℕ) → flat_map (ends (literals false ws)) (ends (range_tree (b, b)) i) ≡ ends (literals false (behind_byte b ws)) i
+  forward : (b : ℕ) (ws : List (List ℕ)) (i : ℕ) → flat_map (ends (literals false ws)) (ends (range_tree (b, b)) i) ≡ ends
+      (literals false (behind_byte b ws)) i
   forward b [] i = no_places (ends (range_tree (b, b)) i)
   forward b (w ∷ ws) i =
       ap (flat_map (λ p. ends (literal w) p ++ ends (literals false ws) p)) (byte_here b i)
@@ -97,44 +107,53 @@ module _ (looks : Looks) (h : List ℕ) where
       ∙ ap (λ (l : List ℕ). l ++ flat_map (ends (literals false ws)) (ends (range_tree (b, b)) i)) (one_forward b w i)
       ∙ ap (λ (l : List ℕ). ends (literal (b ∷ w)) i ++ l) (forward b ws i)
 
-  one_backward : (b : ℕ) (w : List ℕ) (i : ℕ) → flat_map (ends (range_tree (b, b))) (ends (literal (reverse w)) i) ≡ ends (literal (reverse (b ∷ w))) i
+  one_backward : (b : ℕ) (w : List ℕ) (i : ℕ) → flat_map (ends (range_tree (b, b))) (ends (literal (reverse w)) i) ≡ ends
+      (literal (reverse (b ∷ w))) i
   one_backward b w i =
       flat_map_same (ends (range_tree (b, b))) (ends (literal (b ∷ []))) (ends (literal (reverse w)) i) (λ k m. byte_here b k)
-      ∙ (same_literal_append (reverse w) (b ∷ [])).ends looks h i ∙ ap (λ (v : List ℕ). ends (literal v) i) (sym (reverse-append (b ∷ []) w))
+      ∙ (same_literal_append (reverse w) (b ∷ [])).ends looks h i ∙ ap (λ (v : List ℕ). ends (literal v) i)
+          (sym (reverse-append (b ∷ []) w))
 
-  backward : (b : ℕ) (ws : List (List ℕ)) (i : ℕ) → flat_map (ends (range_tree (b, b))) (ends (literals true ws) i) ≡ ends (literals true (behind_byte b ws)) i
+  backward : (b : ℕ) (ws : List (List ℕ)) (i : ℕ) → flat_map (ends (range_tree (b, b))) (ends (literals true ws) i) ≡ ends
+      (literals true (behind_byte b ws)) i
   backward b [] i = refl
   backward b (w ∷ ws) i =
       flat_map-append (ends (range_tree (b, b))) (ends (literal (reverse w)) i) (ends (literals true ws) i)
       ∙ ap (λ (l : List ℕ). l ++ flat_map (ends (range_tree (b, b))) (ends (literals true ws) i)) (one_backward b w i)
       ∙ ap (λ (l : List ℕ). ends (literal (reverse (b ∷ w))) i ++ l) (backward b ws i)
 
-  read_ends : (back : Bool) (b : ℕ) (ws : List (List ℕ)) (i : ℕ) → ends (read_then back (b, b) (literals back ws)) i ≡ ends (literals back (behind_byte b ws)) i
+  read_ends : (back : Bool) (b : ℕ) (ws : List (List ℕ)) (i : ℕ) → ends (read_then back (b, b) (literals back ws)) i ≡ ends
+      (literals back (behind_byte b ws)) i
   read_ends false b ws i = forward b ws i
   read_ends true b ws i = backward b ws i
 
   module _ (back : Bool) (names : List ℕ) (groups : List (List (List ℕ))) where
-    chunk_ends : (es : List Edge) (i : ℕ) → ends (alternation (branch_trees back (edge_ranges names es) (edge_trees (node_tree back groups) es))) i ≡ ends (literals back (chunk_strings groups es)) i
+    chunk_ends : (es : List Edge) (i : ℕ) → ends (alternation (branch_trees back (edge_ranges names es)
+        (edge_trees (node_tree back groups) es))) i ≡ ends (literals back (chunk_strings groups es)) i
     chunk_ends [] i = refl
     chunk_ends (e ∷ es) i =
         let later : List Tree = branch_trees back (edge_ranges names es) (edge_trees (node_tree back groups) es) in
         let first : List (List ℕ) = behind_byte e.byte (get_or groups e.next []) in
         ap (λ (l : List ℕ). l ++ ends (alternation later) i) (read_ends back e.byte (get_or groups e.next []) i)
-        ∙ ap (λ (l : List ℕ). ends (literals back first) i ++ l) (chunk_ends es i) ∙ sym (literals_append back first (chunk_strings groups es) i)
+        ∙ ap (λ (l : List ℕ). ends (literals back first) i ++ l) (chunk_ends es i)
+            ∙ sym (literals_append back first (chunk_strings groups es) i)
 
     no_byte : (way : Bool) (i : ℕ) → ends empty i ≡ ends (literals way ([] ∷ [])) i
     no_byte false i = same_literal_none.ends looks h i ∙ sym (append-nil (ends (literal []) i))
     no_byte true i = same_literal_none.ends looks h i ∙ sym (append-nil (ends (literal []) i))
 
-    item_ends : (x : List Edge) (i : ℕ) → ends (item_tree back names (node_tree back groups) x) i ≡ ends (literals back (item_strings groups x)) i
+    item_ends : (x : List Edge) (i : ℕ) → ends (item_tree back names (node_tree back groups) x) i ≡ ends
+        (literals back (item_strings groups x)) i
     item_ends [] i = no_byte back i
     item_ends (e ∷ es) i = chunk_ends (e ∷ es) i
 
-    items_ends : (xs : List (List Edge)) (i : ℕ) → ends (alternation (item_trees back names (node_tree back groups) xs)) i ≡ ends (literals back (node_strings groups xs)) i
+    items_ends : (xs : List (List Edge)) (i : ℕ) → ends (alternation (item_trees back names (node_tree back groups) xs)) i ≡ ends
+        (literals back (node_strings groups xs)) i
     items_ends [] i = refl
     items_ends (x ∷ xs) i =
         ap (λ (l : List ℕ). l ++ ends (alternation (item_trees back names (node_tree back groups) xs)) i) (item_ends x i)
-        ∙ ap (λ (l : List ℕ). ends (literals back (item_strings groups x)) i ++ l) (items_ends xs i) ∙ sym (literals_append back (item_strings groups x) (node_strings groups xs) i)
+        ∙ ap (λ (l : List ℕ). ends (literals back (item_strings groups x)) i ++ l) (items_ends xs i)
+            ∙ sym (literals_append back (item_strings groups x) (node_strings groups xs) i)
 
   string_ends : (ws : List (List ℕ)) (i : ℕ) → ends (literals false ws) i ≡ ends_of ws h i
   string_ends [] i = refl
@@ -165,9 +184,11 @@ member_ends : (w : List ℕ) (ws : List (List ℕ)) → Member w ws → HasEnd (
 member_ends w [] m = elim m [ ]
 member_ends w (v ∷ ws) (inl e) =
     let P : List ℕ → Type 0 = λ u. HasEnd (ends_of (u ∷ ws) w 0) (length w) in
-    let here : HasEnd (if stands w 0 w then (0 + length w) ∷ [] else []) (length w) = Has-then (stands w 0 w) (0 + length w) (length w) (all_same w) (omega arith) in
+    let here : HasEnd (if stands w 0 w then (0 + length w) ∷ [] else []) (length w) =
+        Has-then (stands w 0 w) (0 + length w) (length w) (all_same w) (omega arith) in
     subst P (sym e) (Has-left (if stands w 0 w then (0 + length w) ∷ [] else []) (ends_of ws w 0) (length w) here)
-member_ends w (v ∷ ws) (inr m) = Has-right (if stands w 0 v then (0 + length v) ∷ [] else []) (ends_of ws w 0) (length w) (member_ends w ws m)
+member_ends w (v ∷ ws) (inr m) = Has-right (if stands w 0 v then (0 + length v) ∷ []
+    else []) (ends_of ws w 0) (length w) (member_ends w ws m)
 
 ends_member : (w : List ℕ) (ws : List (List ℕ)) → HasEnd (ends_of ws w 0) (length w) → Member w ws
 ends_member w [] h = elim h [ ]
@@ -191,8 +212,10 @@ like_members us vs like w m =
     let js : List ℕ = ends_of us w 0 in
     let ks : List ℕ = ends_of vs w 0 in
     let P : List ℕ → Type 0 = λ places. Has nat_eq (length w) places in
-    let found : Has nat_eq (length w) (distinct nat_eq ks) = subst P (like w 0) (join_brings nat_eq names_equal [] js (length w) (has_of_end js (length w) (member_ends w us m))) in
-    let there : Has nat_eq (length w) ks = of_join nat_eq names_equal (λ p. Has nat_eq p ks) [] ks (λ p g. none_in nat_eq p _ g) (λ p g. g) (length w) found in
+    let found : Has nat_eq (length w) (distinct nat_eq ks) = subst P (like w 0)
+        (join_brings nat_eq names_equal [] js (length w) (has_of_end js (length w) (member_ends w us m))) in
+    let there : Has nat_eq (length w) ks = of_join nat_eq names_equal (λ p. Has nat_eq p ks) [] ks (λ p g. none_in nat_eq p _ g) (λ p g. g)
+        (length w) found in
     ends_member w vs (end_of_has ks (length w) there)
 
 -- ---- meanings
@@ -201,50 +224,64 @@ like_members us vs like w m =
 abbrev OneOf : Looks → List ℕ → Bool → List (List ℕ) → ℕ → ℕ → Type 0
 OneOf looks h back ws i j = (w : List ℕ) × Member w ws × Means looks h (spelt_literal back w) i j
 
-one_of : (looks : Looks) (h : List ℕ) (back : Bool) (ws : List (List ℕ)) (i j : ℕ) → Means looks h (literals back ws) i j → OneOf looks h back ws i j
+one_of : (looks : Looks) (h : List ℕ) (back : Bool) (ws : List (List ℕ)) (i j : ℕ) → Means looks h (literals back ws) i j →
+    OneOf looks h back ws i j
 one_of looks h back [] i j m = absurd m
 one_of looks h back (w ∷ ws) i j (inl a) = (w, inl refl, a)
 one_of looks h back (w ∷ ws) i j (inr b) = let x = one_of looks h back ws i j b in (x.0, inr x.1, x.2)
 
-of_one : (looks : Looks) (h : List ℕ) (back : Bool) (ws : List (List ℕ)) (w : List ℕ) (i j : ℕ) → Member w ws → Means looks h (spelt_literal back w) i j → Means looks h (literals back ws) i j
+of_one : (looks : Looks) (h : List ℕ) (back : Bool) (ws : List (List ℕ)) (w : List ℕ) (i j : ℕ) → Member w ws →
+    Means looks h (spelt_literal back w) i j → Means looks h (literals back ws) i j
 of_one looks h back [] w i j m a = absurd m
-of_one looks h back (v ∷ ws) w i j (inl e) a = let P : List ℕ → Type 0 = λ u. Means looks h (spelt_literal back u) i j in inl (subst P (sym e) a)
+of_one looks h back (v ∷ ws) w i j (inl e) a = let P : List ℕ → Type 0 = λ u. Means looks h (spelt_literal back u) i j in
+    inl (subst P (sym e) a)
 of_one looks h back (v ∷ ws) w i j (inr m) a = inr (of_one looks h back ws w i j m a)
 
-like_means : (back : Bool) (us vs : List (List ℕ)) → IsLike us vs → (looks : Looks) (h : List ℕ) (i j : ℕ) → Means looks h (literals back us) i j → Means looks h (literals back vs) i j
+like_means : (back : Bool) (us vs : List (List ℕ)) → IsLike us vs → (looks : Looks) (h : List ℕ) (i j : ℕ) →
+    Means looks h (literals back us) i j → Means looks h (literals back vs) i j
 like_means back us vs like looks h i j m =
     let x = one_of looks h back us i j m in of_one looks h back vs x.0 i j (like_members us vs like x.0 x.1) x.2
 
-like_orders : (back : Bool) (T : Table) (s e : ℕ) (us vs : List (List ℕ)) → IsLike us vs → back ≡ false → (t : Text) → Orders t T s e (preferred_ends t.holds (seen t) (literals back us)) →
+like_orders : (back : Bool) (T : Table) (s e : ℕ) (us vs : List (List ℕ)) → IsLike us vs → back ≡ false → (t : Text) →
+    Orders t T s e (preferred_ends t.holds (seen t) (literals back us)) →
     Orders t T s e (preferred_ends t.holds (seen t) (literals back vs))
 like_orders false T s e us vs like up t o =
     orders_same_firsts t T s e (preferred_ends t.holds (seen t) (literals false us)) (preferred_ends t.holds (seen t) (literals false vs))
-    (λ i. ap (distinct nat_eq) (string_ends t.holds (seen t) us i) ∙ like (seen t) i ∙ ap (distinct nat_eq) (sym (string_ends t.holds (seen t) vs i))) o
+    (λ i. ap (distinct nat_eq) (string_ends t.holds (seen t) us i) ∙ like (seen t) i
+        ∙ ap (distinct nat_eq) (sym (string_ends t.holds (seen t) vs i))) o
 like_orders true T s e us vs like up t o = cc
 
 -- strings that end at the same places first may stand for each other
-pub denotes_like_strings : (back : Bool) (T : Table) (s e : ℕ) (us vs : List (List ℕ)) → IsLike us vs → Denotes back T s e (literals back us) → Denotes back T s e (literals back vs)
+pub denotes_like_strings : (back : Bool) (T : Table) (s e : ℕ) (us vs : List (List ℕ)) → IsLike us vs →
+    Denotes back T s e (literals back us) → Denotes back T s e (literals back vs)
 denotes_like_strings back T s e us vs like d =
     let x : Tree = literals back us in
     let y : Tree = literals back vs in
     let unlike : IsLike vs us = λ h i. sym (like h i) in
     record {
-      reaches = λ t. reaches_like back t T s e (IsMeant back t x) (IsMeant back t y) (meant_map y x (like_means back vs us unlike) back t) (meant_map x y (like_means back us vs like) back t) (d.reaches t);
-      halts = λ f t. halts_like back t T s e (IsMeant back t x) (IsMeant back t y) (meant_map x y (like_means back us vs like) back t) (d.halts (literals_read back us) t);
+      reaches = λ t. reaches_like back t T s e (IsMeant back t x) (IsMeant back t y) (meant_map y x (like_means back vs us unlike) back t)
+          (meant_map x y (like_means back us vs like) back t) (d.reaches t);
+      halts = λ f t. halts_like back t T s e (IsMeant back t x) (IsMeant back t y) (meant_map x y (like_means back us vs like) back t)
+          (d.halts (literals_read back us) t);
       orders = λ up f t. like_orders back T s e us vs like up t (d.orders up (literals_read back us) t);
     }
 
 -- what a node's items mean are the node's strings
-pub denotes_node : (back : Bool) (T : Table) (s e : ℕ) (names : List ℕ) (groups : List (List (List ℕ))) (items : List (List Edge)) (strings : List (List ℕ)) → IsLike (node_strings groups items) strings →
+pub denotes_node : (back : Bool) (T : Table) (s e : ℕ) (names : List ℕ) (groups : List (List (List ℕ))) (items : List (List Edge))
+    (strings : List (List ℕ)) → IsLike (node_strings groups items) strings →
     Denotes back T s e (alternation (item_trees back names (node_tree back groups) items)) → Denotes back T s e (literals back strings)
 denotes_node back T s e names groups items strings like d =
     denotes_like_strings back T s e (node_strings groups items) strings like
     (denotes_like back T s e (alternation (item_trees back names (node_tree back groups) items)) (literals back (node_strings groups items))
-    (λ f. items_read back names (node_tree back groups) items (λ n. literals_read back (get_or groups n []))) (λ looks h i. items_ends looks h back names groups items i) d)
+    (λ f. items_read back names (node_tree back groups) items (λ n. literals_read back (get_or groups n [])))
+        (λ looks h i. items_ends looks h back names groups items i) d)
 
 -- a byte, and then what is read behind it
-pub denotes_byte_then : (back : Bool) (T : Table) (s q e b : ℕ) (ws : List (List ℕ)) → T s ≡ range_draft b b q → Denotes back T q e (literals back ws) → Denotes back T s e (literals back (behind_byte b ws))
+pub denotes_byte_then : (back : Bool) (T : Table) (s q e b : ℕ) (ws : List (List ℕ)) → T s ≡ range_draft b b q →
+    Denotes back T q e (literals back ws) → Denotes back T s e (literals back (behind_byte b ws))
 denotes_byte_then back T s q e b ws is d =
     let both : Tree = read_then back (b, b) (literals back ws) in
-    denotes_like back T s e both (literals back (behind_byte b ws)) (λ f. read_reads back (b, b) (literals back ws) (literals_read back ws)) (λ looks h i. read_ends looks h back b ws i)
-    (denotes_join back T s q e (range_tree (b, b)) (literals back ws) both (joins_read back (b, b) (literals back ws)) (denotes_range back T s q b b is) d)
+    denotes_like back T s e both (literals back (behind_byte b ws)) (λ f. read_reads back (b, b) (literals back ws) (literals_read back ws))
+        (λ looks h i. read_ends looks h back b ws i)
+    (denotes_join back T s q e (range_tree (b, b)) (literals back ws) both (joins_read back (b, b) (literals back ws))
+        (denotes_range back T s q b b is) d)

@@ -1,5 +1,6 @@
 -- A trie of strings: what the nodes that are compiled make.
-use Rattle.std.proofs.Common.{◌≡◌, ℕ, zero, suc, ◌+◌, ◌-◌, ◌*◌, ◌<◌, ◌≤◌, Bool, List, [], ◌∷◌, map, length, drop, get_or, set, None, refl, sym, ap, ◌∙◌, subst, arith, ⊎_elim, true}
+use Rattle.std.proofs.Common.{◌≡◌, ℕ, zero, suc, ◌+◌, ◌-◌, ◌*◌, ◌<◌, ◌≤◌, Bool, List, [], ◌∷◌, map, length, drop, get_or, set, None, refl}
+use Rattle.std.proofs.Common.{sym, ap, ◌∙◌, subst, arith, ⊎_elim, true}
 use Rattle.std.specs.Prelude.{All}
 use Rattle.std.proofs.lemmas.Bool.{cases_lt, cases_eq}
 use Rattle.std.proofs.lemmas.List.{length-set, get_or-set_same, get_or-set_other, get_or-map, length-map}
@@ -54,9 +55,11 @@ pub record TrieTo (old mid : Assembly) (end : ℕ) (nodes : List NodeValue) (str
   pub stands : (q : ℕ) → length old.drafts < q → q < length mid.drafts → stands_for (draft_at mid.drafts q) ≡ None
   pub names_long : length names ≡ length nodes
   pub names_there : All (IsThere old mid) names
-  pub denotes : (table : Table) → HasOthers old mid table → (n : ℕ) → k ≤ n → n < length nodes → Denotes old.reverse table (get_or names n 0) end (literals old.reverse (get_or trie.groups n []))
+  pub denotes : (table : Table) → HasOthers old mid table → (n : ℕ) → k ≤ n → n < length nodes →
+      Denotes old.reverse table (get_or names n 0) end (literals old.reverse (get_or trie.groups n []))
 
-weight_from : (nodes : List NodeValue) (k : ℕ) → k < length nodes → weight_in_all (drop k nodes) ≡ weight (get_or nodes k no_node) + weight_in_all (drop (k + 1) nodes)
+weight_from : (nodes : List NodeValue) (k : ℕ) → k < length nodes → weight_in_all (drop k nodes) ≡ weight
+    (get_or nodes k no_node) + weight_in_all (drop (k + 1) nodes)
 weight_from [] k l = absurd (omega arith)
 weight_from (n ∷ nodes) zero l = refl
 weight_from (n ∷ nodes) (suc k) l =
@@ -69,7 +72,8 @@ weight_left nodes zero = omega arith
 weight_left [] (suc k) = omega arith
 weight_left (n ∷ nodes) (suc k) = omega (arith, weight_left nodes k)
 
-pub trie_begun : (old mid : Assembly) (end : ℕ) (nodes : List NodeValue) (strings : List (List ℕ)) (names : List ℕ) (k : ℕ) → IsTrie nodes strings → Added old mid end (empty_draft 0) old.groups → length names ≡ length nodes →
+pub trie_begun : (old mid : Assembly) (end : ℕ) (nodes : List NodeValue) (strings : List (List ℕ)) (names : List ℕ) (k : ℕ) →
+    IsTrie nodes strings → Added old mid end (empty_draft 0) old.groups → length names ≡ length nodes →
     All (λ q. q ≡ end) names → k ≡ length nodes → TrieTo old mid end nodes strings names k
 trie_begun old mid end nodes strings names k trie added long same past =
     let is = added.is in let size = added.size in
@@ -100,13 +104,15 @@ set_there P names k id all p n d l =
     (λ (ne : n ≡ k → ⊥). subst P (sym (get_or-set_other names k n id d ne)) (all n d m))
     (cases_eq n k)
 
-module _ (old mid : Assembly) (end : ℕ) (nodes : List NodeValue) (strings : List (List ℕ)) (names : List ℕ) (k : ℕ) (so_far : TrieTo old mid end nodes strings names (k + 1)) (less : k < length nodes) (node : NodeValue)
+module _ (old mid : Assembly) (end : ℕ) (nodes : List NodeValue) (strings : List (List ℕ)) (names : List ℕ) (k : ℕ)
+    (so_far : TrieTo old mid end nodes strings names (k + 1)) (less : k < length nodes) (node : NodeValue)
     (node_is : get_or nodes k no_node ≡ node) where
   back_same : mid.reverse ≡ old.reverse
   back_same = ap (λ (b : Assembly). b.reverse) so_far.partly.grows.settings
 
   has_strings : HasStrings (k + 1) so_far.trie.groups node (get_or so_far.trie.groups k [])
-  has_strings = let P : NodeValue → Type 0 = λ n. HasStrings (k + 1) so_far.trie.groups n (get_or so_far.trie.groups k []) in subst P node_is (so_far.trie.each k less)
+  has_strings = let P : NodeValue → Type 0 = λ n. HasStrings (k + 1) so_far.trie.groups n (get_or so_far.trie.groups k []) in
+      subst P node_is (so_far.trie.each k less)
 
   pub node_some : 1 ≤ length node.items
   node_some = has_strings.holds.some
@@ -115,7 +121,8 @@ module _ (old mid : Assembly) (end : ℕ) (nodes : List NodeValue) (strings : Li
   node_few = has_strings.holds.few
 
   pub node_chunks : AreChunks 0 (length names) node.items
-  node_chunks = are_wider (k + 1) (length so_far.trie.groups) 0 (length names) node.items has_strings.holds.chunks (omega arith) (omega (arith, so_far.names_long, so_far.trie.as_many))
+  node_chunks = are_wider (k + 1) (length so_far.trie.groups) 0 (length names) node.items has_strings.holds.chunks (omega arith)
+      (omega (arith, so_far.names_long, so_far.trie.as_many))
 
   end_below : end < length mid.drafts
   end_below = omega (arith, so_far.end_is, so_far.longer)
@@ -123,7 +130,8 @@ module _ (old mid : Assembly) (end : ℕ) (nodes : List NodeValue) (strings : Li
   weight_now : weight_in_all (drop k nodes) ≡ weight node + weight_in_all (drop (k + 1) nodes)
   weight_now = weight_from nodes k less ∙ ap (λ (n : NodeValue). weight n + weight_in_all (drop (k + 1) nodes)) node_is
 
-  pub node_refused : (new : Assembly) (e : BuildError) → Quits mid new (2 * edges_in node.items) e → Quits old new (1 + 2 * bytes_in strings) e
+  pub node_refused : (new : Assembly) (e : BuildError) → Quits mid new (2 * edges_in node.items) e →
+      Quits old new (1 + 2 * bytes_in strings) e
   node_refused new e r =
       let spent : Spent old mid (1 + 2 * weight_in_all (drop (k + 1) nodes)) = record {
         settings = so_far.partly.grows.settings;
@@ -142,7 +150,8 @@ module _ (old mid : Assembly) (end : ℕ) (nodes : List NodeValue) (strings : Li
 
     id_in : IsThere old grown id
     id_in = let a = so_far.end_is in let b = so_far.longer in let g = longer in
-        ⊎_elim (λ (e : id ≡ end). (omega arith, omega arith)) (λ (n : (length mid.drafts ≤ id) × (id < length grown.drafts)). let l = n.0 in (omega arith, n.1)) adds.there
+        ⊎_elim (λ (e : id ≡ end). (omega arith, omega arith)) (λ (n : (length mid.drafts ≤ id) × (id < length grown.drafts)). let l = n.0 in
+            (omega arith, n.1)) adds.there
 
     pub stem_there : id < length grown.drafts
     stem_there = id_in.1
@@ -157,32 +166,40 @@ module _ (old mid : Assembly) (end : ℕ) (nodes : List NodeValue) (strings : Li
         } in
         quits_later (1 + 2 * bytes_in strings) spent r (omega (arith, weight_now, weight_left nodes k, so_far.trie.room))
 
-    module _ (new : Assembly) (start : ℕ) (text : AddsText grown new id node.stem start) (names2 : List ℕ) (names_are : names2 ≡ set names k start) where
+    module _ (new : Assembly) (start : ℕ) (text : AddsText grown new id node.stem start) (names2 : List ℕ)
+        (names_are : names2 ≡ set names k start) where
       all_longer : length grown.drafts ≤ length new.drafts
       all_longer = text.grows.longer
 
       start_in : IsThere old new start
       start_in = let i = id_in.0 in let j = id_in.1 in let g = all_longer in let p = partly.grows.longer in
-          ⊎_elim (λ (e : start ≡ id). (omega arith, omega arith)) (λ (n : (length grown.drafts ≤ start) × (start < length new.drafts)). let l = n.0 in (omega arith, n.1)) text.there
+          ⊎_elim (λ (e : start ≡ id). (omega arith, omega arith)) (λ (n : (length grown.drafts ≤ start) × (start < length new.drafts)).
+              let l = n.0 in (omega arith, n.1)) text.there
 
       older : (table : Table) → HasOthers old new table → HasOthers old mid table
       older table has q l h = has q l (omega (arith, longer, all_longer)) ∙ text.grows.same q (omega (arith, longer)) ∙ adds.grows.same q h
 
-      items_have : (table : Table) → HasOthers old new table → (q : ℕ) → length mid.drafts ≤ q → q < length grown.drafts → table q ≡ draft_at grown.drafts q
+      items_have : (table : Table) → HasOthers old new table → (q : ℕ) → length mid.drafts ≤ q → q < length grown.drafts →
+          table q ≡ draft_at grown.drafts q
       items_have table has q l h = has q (omega (arith, so_far.longer)) (omega (arith, all_longer)) ∙ text.grows.same q h
 
-      text_has : (table : Table) → HasOthers old new table → (q : ℕ) → length grown.drafts ≤ q → q < length new.drafts → table q ≡ draft_at new.drafts q
+      text_has : (table : Table) → HasOthers old new table → (q : ℕ) → length grown.drafts ≤ q → q < length new.drafts →
+          table q ≡ draft_at new.drafts q
       text_has table has q l h = has q (omega (arith, so_far.longer, longer)) h
 
       behind : (table : Table) → HasOthers old new table → Denotes old.reverse table id end (literals old.reverse has_strings.rest)
       behind table has =
-          let P : Bool → Type 0 = λ back. (x : ℕ → Tree) → IsLed back table end (k + 1) names x → Denotes back table id end (alternation (item_trees back names x node.items)) in
-          let chunks : AreChunks (k + 1) (length names) node.items = are_wider (k + 1) (length so_far.trie.groups) (k + 1) (length names) node.items has_strings.holds.chunks (omega arith) (omega (arith, so_far.names_long, so_far.trie.as_many)) in
+          let P : Bool → Type 0 = λ back. (x : ℕ → Tree) → IsLed back table end (k + 1) names x →
+              Denotes back table id end (alternation (item_trees back names x node.items)) in
+          let chunks : AreChunks (k + 1) (length names) node.items = are_wider (k + 1) (length so_far.trie.groups) (k + 1)
+              (length names) node.items has_strings.holds.chunks (omega arith) (omega (arith, so_far.names_long, so_far.trie.as_many)) in
           let all = subst P back_same (adds.denotes table (items_have table has) (k + 1) chunks) in
           denotes_node old.reverse table id end names so_far.trie.groups node.items has_strings.rest has_strings.holds.like
-          (all (node_tree old.reverse so_far.trie.groups) (λ n l h. so_far.denotes table (older table has) n l (omega (arith, so_far.names_long))))
+          (all (node_tree old.reverse so_far.trie.groups) (λ n l h. so_far.denotes table (older table has) n l (omega (arith,
+              so_far.names_long))))
 
-      own : (table : Table) → HasOthers old new table → Denotes old.reverse table start end (literals old.reverse (get_or so_far.trie.groups k []))
+      own : (table : Table) → HasOthers old new table → Denotes old.reverse table start end
+          (literals old.reverse (get_or so_far.trie.groups k []))
       own table has =
           let P : List (List ℕ) → Type 0 = λ ws. Denotes old.reverse table start end (literals old.reverse ws) in
           subst P has_strings.is (text.denotes old.reverse table (text_has table has) end has_strings.rest (behind table has))
@@ -211,22 +228,29 @@ module _ (old mid : Assembly) (end : ℕ) (nodes : List NodeValue) (strings : Li
             names_long = ap length names_are ∙ length-set names k start ∙ so_far.names_long;
             names_there =
                 let P : List ℕ → Type 0 = All (IsThere old new) in
-                subst P (sym names_are) (set_there (IsThere old new) names k start (All-weaker (IsThere old mid) (IsThere old new) (λ q t. let n = t.1 in (t.0, omega arith)) names so_far.names_there) start_in);
+                subst P (sym names_are) (set_there (IsThere old new) names k start
+                    (All-weaker (IsThere old mid) (IsThere old new) (λ q t. let n = t.1 in
+                    (t.0, omega arith)) names so_far.names_there) start_in);
             denotes = λ table has n l m.
-                let P : List ℕ → Type 0 = λ ns. Denotes old.reverse table (get_or ns n 0) end (literals old.reverse (get_or so_far.trie.groups n [])) in
+                let P : List ℕ → Type 0 = λ ns. Denotes old.reverse table (get_or ns n 0) end
+                    (literals old.reverse (get_or so_far.trie.groups n [])) in
                 let Q : ℕ → Type 0 = λ q. Denotes old.reverse table q end (literals old.reverse (get_or so_far.trie.groups n [])) in
                 subst P (sym names_are) (⊎_elim
                 (λ (e : n ≡ k).
-                let R : ℕ → Type 0 = λ j. Denotes old.reverse table (get_or (set names k start) j 0) end (literals old.reverse (get_or so_far.trie.groups j [])) in
+                let R : ℕ → Type 0 = λ j. Denotes old.reverse table (get_or (set names k start) j 0) end
+                    (literals old.reverse (get_or so_far.trie.groups j [])) in
                 let S : ℕ → Type 0 = λ q. Denotes old.reverse table q end (literals old.reverse (get_or so_far.trie.groups k [])) in
                 subst R (sym e) (subst S (sym (get_or-set_same names k start 0 (omega (arith, so_far.names_long, less)))) (own table has)))
-                (λ (ne : n ≡ k → ⊥). subst Q (sym (get_or-set_other names k n start 0 ne)) (so_far.denotes table (older table has) n (omega arith) m))
+                (λ (ne : n ≡ k → ⊥). subst Q (sym (get_or-set_other names k n start 0 ne))
+                    (so_far.denotes table (older table has) n (omega arith) m))
                 (cases_eq n k));
           }
 
-module _ (old mid : Assembly) (end : ℕ) (nodes : List NodeValue) (strings : List (List ℕ)) (names : List ℕ) (all : TrieTo old mid end nodes strings names 0) (start : ℕ) (start_is : get_or names 0 0 ≡ start) where
+module _ (old mid : Assembly) (end : ℕ) (nodes : List NodeValue) (strings : List (List ℕ)) (names : List ℕ)
+    (all : TrieTo old mid end nodes strings names 0) (start : ℕ) (start_is : get_or names 0 0 ≡ start) where
   start_there : IsThere old mid start
-  start_there = let P : ℕ → Type 0 = IsThere old mid in subst P start_is (all.names_there 0 0 (omega (arith, all.names_long, all.trie.some)))
+  start_there = let P : ℕ → Type 0 = IsThere old mid in subst P start_is
+      (all.names_there 0 0 (omega (arith, all.names_long, all.trie.some)))
 
   progress : Progress true old mid (1 + 2 * weight_in_all nodes) 8
   progress = record { partly = all.partly; states = omega (arith, all.states); bytes = all.bytes; numbered = all.numbered }
@@ -237,10 +261,12 @@ module _ (old mid : Assembly) (end : ℕ) (nodes : List NodeValue) (strings : Li
   pub trie_made : Makes old mid start end (1 + 2 * bytes_in strings)
   trie_made =
       let e = all.end_is in let l = all.longer in
-      made (1 + 2 * bytes_in strings) progress (omega arith) (omega (arith, all.trie.room)) start_there.0 start_there.1 (omega arith) (omega arith) (ap is_sparse all.here)
+      made (1 + 2 * bytes_in strings) progress (omega arith) (omega (arith, all.trie.room)) start_there.0 start_there.1 (omega arith)
+          (omega arith) (ap is_sparse all.here)
       (λ table target fin q low high.
       ⊎_elim
-      (λ (same : q ≡ end). let P : ℕ → Type 0 = λ n. ComesOut table target n in subst P (sym same) (out_next table target end target (ap stands_for (ends_on table target fin)) (out_at table target)))
+      (λ (same : q ≡ end). let P : ℕ → Type 0 = λ n. ComesOut table target n in
+          subst P (sym same) (out_next table target end target (ap stands_for (ends_on table target fin)) (out_at table target)))
       (λ (ne : q ≡ end → ⊥). out_here table target q (ap stands_for (fin.states q low high ne) ∙ all.stands q (omega arith) high))
       (cases_eq q end))
 
@@ -263,10 +289,13 @@ same_got (x ∷ xs) zero c d l = refl
 same_got (x ∷ xs) (suc k) c d l = same_got xs k c d (omega arith)
 
 -- the node whose turn it is, in a list of rows
-module _ {V : Type 0} (value_of : V → NodeValue) (rows : List V) (old mid : Assembly) (end : ℕ) (strings : List (List ℕ)) (names now : List ℕ) (m k : ℕ) (so_far : TrieTo old mid end (map value_of rows) strings names m) (some : 1 ≤ m)
-    (turn : k ≡ m - 1) (v : V) (got : v ≡ get_or rows k v) (row : List (List Edge)) (row_is : row ≡ (value_of v).items) (now_is : now ≡ names) where
+module _ {V : Type 0} (value_of : V → NodeValue) (rows : List V) (old mid : Assembly) (end : ℕ) (strings : List (List ℕ))
+    (names now : List ℕ) (m k : ℕ) (so_far : TrieTo old mid end (map value_of rows) strings names m) (some : 1 ≤ m)
+    (turn : k ≡ m - 1) (v : V) (got : v ≡ get_or rows k v) (row : List (List Edge)) (row_is : row ≡ (value_of v).items)
+        (now_is : now ≡ names) where
   next : TrieTo old mid end (map value_of rows) strings names (k + 1)
-  next = let P : ℕ → Type 0 = λ n. TrieTo old mid end (map value_of rows) strings names n in let e : m ≡ k + 1 = omega arith in subst P e so_far
+  next = let P : ℕ → Type 0 = λ n. TrieTo old mid end (map value_of rows) strings names n in let e : m ≡ k + 1 = omega arith in
+      subst P e so_far
 
   less : k < length (map value_of rows)
   less = let w = so_far.within in omega arith
@@ -307,18 +336,23 @@ module _ {V : Type 0} (value_of : V → NodeValue) (rows : List V) (old mid : As
       stem_is : (value_of w).stem ≡ (value_of v).stem
       stem_is = ap (λ (x : V). (value_of x).stem) (got2 ∙ same_got rows k w v (omega (arith, less, length-map rows value_of)) ∙ sym got)
 
-      pub turn_stem_refused : (new : Assembly) (e : BuildError) → Quits grown new (length (value_of w).stem) e → Quits old new (1 + 2 * bytes_in strings) e
+      pub turn_stem_refused : (new : Assembly) (e : BuildError) → Quits grown new (length (value_of w).stem) e →
+          Quits old new (1 + 2 * bytes_in strings) e
       turn_stem_refused new e r =
           let P : List ℕ → Type 0 = λ t. Quits grown new (length t) e in
-          stem_refused old mid end (map value_of rows) strings names k next less (value_of v) here grown id adds_here new e (subst P stem_is r)
+          stem_refused old mid end (map value_of rows) strings names k next less (value_of v) here grown id adds_here new e
+              (subst P stem_is r)
 
-      pub turn_compiled : (new : Assembly) (start : ℕ) → AddsText grown new id (value_of w).stem start → TrieTo old new end (map value_of rows) strings (set names k start) k
+      pub turn_compiled : (new : Assembly) (start : ℕ) → AddsText grown new id (value_of w).stem start →
+          TrieTo old new end (map value_of rows) strings (set names k start) k
       turn_compiled new start text =
           let P : List ℕ → Type 0 = λ t. AddsText grown new id t start in
-          node_compiled old mid end (map value_of rows) strings names k next less (value_of v) here grown id adds_here new start (subst P stem_is text) (set names k start) refl
+          node_compiled old mid end (map value_of rows) strings names k next less (value_of v) here grown id adds_here new start
+              (subst P stem_is text) (set names k start) refl
 
 -- all nodes are compiled
-module _ (old mid : Assembly) (end : ℕ) (nodes : List NodeValue) (strings : List (List ℕ)) (names : List ℕ) (k : ℕ) (so_far : TrieTo old mid end nodes strings names k) (none : k ≤ 0) (start : ℕ) (start_is : start ≡ get_or names 0 start) where
+module _ (old mid : Assembly) (end : ℕ) (nodes : List NodeValue) (strings : List (List ℕ)) (names : List ℕ) (k : ℕ)
+    (so_far : TrieTo old mid end nodes strings names k) (none : k ≤ 0) (start : ℕ) (start_is : start ≡ get_or names 0 start) where
   all_nodes : TrieTo old mid end nodes strings names 0
   all_nodes = let P : ℕ → Type 0 = λ n. TrieTo old mid end nodes strings names n in let e : k ≡ 0 = omega arith in subst P e so_far
 

@@ -4,7 +4,8 @@ use Rattle.std.specs.Prelude.{All}
 use Rattle.std.proofs.lemmas.Bool.{cases_lt, cases_eq}
 use Rattle.std.proofs.lemmas.List.Elements.{All-push, All-weaker}
 use Rattle.search_types.specs.Groups.{Groups}
-use Rattle.nfa_core.specs.BuilderStates.{DraftNode, Assembly, draft_at, patched, empty_draft, range_draft, sparse_draft, look_draft, capture_start_draft, capture_end_draft, union_draft, union_reverse_draft, fail_draft, match_draft}
+use Rattle.nfa_core.specs.BuilderStates.{DraftNode, Assembly, draft_at, patched, empty_draft, range_draft, sparse_draft, look_draft}
+use Rattle.nfa_core.specs.BuilderStates.{capture_start_draft, capture_end_draft, union_draft, union_reverse_draft, fail_draft, match_draft}
 use Rattle.nfa_core.specs.CanBuild.{names_of, is_known}
 use Rattle.thompson_nfa.specs.Compiled.{Grows, IsTame, AllTame, is_match_draft, is_barred, IsReady}
 use Rattle.thompson_nfa.specs.Added.{Added, Led}
@@ -48,7 +49,8 @@ one_named : (n to : ℕ) → to < n → All (λ q. q < n) (to ∷ [])
 one_named n to l zero d k = l
 one_named n to l (suc i) d k = absurd (omega arith)
 
-pub names_patched : (n to : ℕ) (draft : DraftNode) → to < n → All (λ q. q < n) (names_of draft) → All (λ q. q < n) (names_of (patched to draft))
+pub names_patched : (n to : ℕ) (draft : DraftNode) → to < n → All (λ q. q < n) (names_of draft) →
+    All (λ q. q < n) (names_of (patched to draft))
 names_patched n to (empty_draft next) l a = one_named n to l
 names_patched n to (range_draft low high next) l a = one_named n to l
 names_patched n to (sparse_draft ranges) l a = a
@@ -171,12 +173,14 @@ partly_led {plain} {a} {b} {c} {from} {to} x l new there =
     let groups : b.groups ≡ c.groups = sym (ap (λ (z : Assembly). z.groups) l.settings) in
     let T : DraftNode → Type 0 = λ draft. IsTame plain c draft in
     let kept : (q : ℕ) → length a.drafts ≤ q → q < length b.drafts → IsTame plain c (draft_at b.drafts q) =
-    λ q low high. tame_wider b c (draft_at b.drafts q) (omega arith) (λ p k. ap (λ gs. is_known gs p) (sym groups) ∙ k) (x.tame q low high) in
+    λ q low high. tame_wider b c (draft_at b.drafts q) (omega arith) (λ p k. ap (λ gs. is_known gs p) (sym groups)
+        ∙ k) (x.tame q low high) in
     record {
       grows = grows_led x.grows l new;
       tame = λ q low high. ⊎_elim
           (λ (e : q ≡ from).
-          let here : draft_at c.drafts q ≡ patched to (draft_at b.drafts q) = ap (λ n. draft_at c.drafts n) e ∙ l.here ∙ ap (λ n. patched to (draft_at b.drafts n)) (sym e) in
+          let here : draft_at c.drafts q ≡ patched to (draft_at b.drafts q) =
+              ap (λ n. draft_at c.drafts n) e ∙ l.here ∙ ap (λ n. patched to (draft_at b.drafts n)) (sym e) in
           subst T (sym here) (tame_patched c to (draft_at b.drafts q) (omega arith) (kept q low (omega arith))))
           (λ (ne : q ≡ from → ⊥). subst T (sym (l.same q ne)) (kept q low (omega arith)))
           (cases_eq q from);

@@ -1,12 +1,15 @@
 -- The looks that the steps of a compile add to a builder's states.
-use Rattle.std.proofs.Common.{◌≡◌, ℕ, zero, suc, ◌<◌, ◌≤◌, Bool, true, false, ◌||◌, List, [], ◌∷◌, ◌++◌, length, map, Some, refl, sym, ap, ap₂, ◌∙◌, arith, ⊎_elim}
+use Rattle.std.proofs.Common.{◌≡◌, ℕ, zero, suc, ◌<◌, ◌≤◌, Bool, true, false, ◌||◌, List, [], ◌∷◌, ◌++◌, length, map, Some, refl, sym, ap}
+use Rattle.std.proofs.Common.{ap₂, ◌∙◌, arith, ⊎_elim}
 use Rattle.std.specs.List.{list_any}
 use Rattle.std.proofs.lemmas.Bool.{cases_eq}
 use Rattle.look_core.specs.declared.look.Look.{Look}
 use Rattle.search_types.specs.Groups.{Groups}
 use Rattle.hir_core.specs.Tree.{Tree, repetition, alternation, concat}
 use Rattle.hir_core.specs.BySequences.{sequence_tree}
-use Rattle.nfa_core.specs.BuilderStates.{DraftNode, empty_draft, range_draft, sparse_draft, look_draft, capture_start_draft, capture_end_draft, union_draft, union_reverse_draft, fail_draft, match_draft, Assembly, draft_at, patched}
+use Rattle.nfa_core.specs.BuilderStates.{DraftNode, empty_draft, range_draft, sparse_draft, look_draft, capture_start_draft}
+use Rattle.nfa_core.specs.BuilderStates.{capture_end_draft, union_draft, union_reverse_draft, fail_draft, match_draft, Assembly, draft_at}
+use Rattle.nfa_core.specs.BuilderStates.{patched}
 use Rattle.thompson_nfa.specs.Added.{Added, Led}
 use Rattle.thompson_nfa.specs.Choice.{no_choice}
 use Rattle.thompson_nfa.specs.Compiled.{Grows, AllTame, is_barred, is_look, looks_in, uses}
@@ -182,7 +185,8 @@ uses_read back is_reverse l [] = refl
 uses_read back false l (r ∷ q) = uses_read back false l q
 uses_read back true l (r ∷ q) = ap (λ (b : Bool). b || false) (uses_read back true l q)
 
-pub uses_reads : (back is_reverse : Bool) (l : Look) (qs : List (List (ℕ × ℕ))) → uses back (alternation (map (read_tree is_reverse) qs)) l ≡ false
+pub uses_reads : (back is_reverse : Bool) (l : Look) (qs : List (List (ℕ × ℕ))) →
+    uses back (alternation (map (read_tree is_reverse) qs)) l ≡ false
 uses_reads back is_reverse l qs = uses_each_none back l (read_tree is_reverse) (λ q. uses_read back is_reverse l q) qs
 
 pub uses_literals : (back is_reverse : Bool) (l : Look) (ws : List (List ℕ)) → uses back (literals is_reverse ws) l ≡ false

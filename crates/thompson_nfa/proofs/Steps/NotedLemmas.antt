@@ -1,10 +1,14 @@
 -- Groups that are noted stay, and to note them again changes nothing.
-use Rattle.std.proofs.Common.{◌≡◌, ◌⊎◌, inl, inr, ℕ, zero, suc, ◌-◌, ◌<◌, ◌≤◌, Bool, true, false, List, [], ◌∷◌, ◌++◌, length, get_or, set, replicate, Option, Some, None, is_some, nat_lt, if◌then◌else◌, refl, sym, ap, ◌∙◌, subst, arith, ⊎_elim, length-append, append-nil, lt-ltb}
+use Rattle.std.proofs.Common.{◌≡◌, ◌⊎◌, inl, inr, ℕ, zero, suc, ◌-◌, ◌<◌, ◌≤◌, Bool, true, false, List, [], ◌∷◌, ◌++◌, length, get_or, set}
+use Rattle.std.proofs.Common.{replicate, Option, Some, None, is_some, nat_lt, if◌then◌else◌, refl, sym, ap, ◌∙◌, subst, arith, ⊎_elim}
+use Rattle.std.proofs.Common.{length-append, append-nil, lt-ltb}
 use Rattle.std.proofs.lemmas.Bool.{cases_lt, cases_eq, cases_Bool, ltb-true}
 use Rattle.std.proofs.lemmas.List.{get_or-set_same, get_or-set_other, set-get_or, get_or_past}
 use Rattle.search_types.specs.Groups.{Name, Groups, groups_of, slot}
 use Rattle.hir_core.specs.Tree.{Tree, empty, literal, byte_class, char_class, look, repetition, capture, nothing, cat, never, alt}
-use Rattle.nfa_core.specs.BuilderStates.{DraftNode, empty_draft, range_draft, sparse_draft, look_draft, union_draft, union_reverse_draft, fail_draft, match_draft, capture_start_draft, capture_end_draft, filled, with_name, up_to_pattern, with_group}
+use Rattle.nfa_core.specs.BuilderStates.{DraftNode, empty_draft, range_draft, sparse_draft, look_draft, union_draft, union_reverse_draft}
+use Rattle.nfa_core.specs.BuilderStates.{fail_draft, match_draft, capture_start_draft, capture_end_draft, filled, with_name, up_to_pattern}
+use Rattle.nfa_core.specs.BuilderStates.{with_group}
 use Rattle.nfa_core.specs.CanBuild.{is_known}
 use Rattle.thompson_nfa.specs.NotedGroups.{keeps_group, noted}
 use Rattle.thompson_nfa.specs.declared.which_captures.WhichCaptures.{WhichCaptures}
@@ -40,7 +44,8 @@ named_in names index name = ⊎_elim
     let is : with_name names index name ≡ names = ap (λ b. if b then names else (filled None names index ++ name ∷ [])) e in
     omega (arith, ap length is))
     (λ (e : nat_lt index (length names) ≡ false).
-    let is : with_name names index name ≡ filled None names index ++ name ∷ [] = ap (λ b. if b then names else (filled None names index ++ name ∷ [])) e in
+    let is : with_name names index name ≡ filled None names index ++ name ∷ [] =
+        ap (λ b. if b then names else (filled None names index ++ name ∷ [])) e in
     omega (arith, ap length is, length-append (filled None names index) (name ∷ []), length_filled None names index))
     (cases_Bool (nat_lt index (length names)))
 
@@ -50,8 +55,10 @@ names_longer names index name = ⊎_elim
     let is : with_name names index name ≡ names = ap (λ b. if b then names else (filled None names index ++ name ∷ [])) e in
     omega (arith, ap length is))
     (λ (e : nat_lt index (length names) ≡ false).
-    let is : with_name names index name ≡ filled None names index ++ name ∷ [] = ap (λ b. if b then names else (filled None names index ++ name ∷ [])) e in
-    omega (arith, ap length is, length-append (filled None names index) (name ∷ []), length-append names (replicate (index - length names) None)))
+    let is : with_name names index name ≡ filled None names index ++ name ∷ [] =
+        ap (λ b. if b then names else (filled None names index ++ name ∷ [])) e in
+    omega (arith, ap length is, length-append (filled None names index) (name ∷ []),
+        length-append names (replicate (index - length names) None)))
     (cases_Bool (nat_lt index (length names)))
 
 module _ (groups : Groups) (p index : ℕ) (name : Option Name) where
@@ -65,7 +72,8 @@ module _ (groups : Groups) (p index : ℕ) (name : Option Name) where
   pub group_kept : (q j : ℕ) → IsIn groups q j → IsIn (with_group groups p index name) q j
   group_kept q j l =
       let inside = in_pattern groups q j l in
-      let old : get_or (up_to_pattern groups p) q [] ≡ get_or groups q [] = front_kept groups (replicate (suc p - length groups) []) q [] inside in
+      let old : get_or (up_to_pattern groups p) q [] ≡ get_or groups q [] =
+          front_kept groups (replicate (suc p - length groups) []) q [] inside in
       ⊎_elim
       (λ (e : q ≡ p).
       let P : ℕ → Type 0 = λ k. IsIn (with_group groups p index name) k j in
@@ -75,7 +83,8 @@ module _ (groups : Groups) (p index : ℕ) (name : Option Name) where
       let old2 = subst Q e old in
       subst P (sym e) (omega (arith, ap length here, names_longer (get_or (up_to_pattern groups p) p []) index name, ap length old2)))
       (λ (ne : q ≡ p → ⊥).
-      omega (arith, ap length old, ap length (get_or-set_other (up_to_pattern groups p) p q (with_name (get_or (up_to_pattern groups p) p []) index name) [] ne)))
+      omega (arith, ap length old, ap length (get_or-set_other (up_to_pattern groups p) p q
+          (with_name (get_or (up_to_pattern groups p) p []) index name) [] ne)))
       (cases_eq q p)
 
   pub group_same : IsIn groups p index → with_group groups p index name ≡ groups
@@ -84,7 +93,8 @@ module _ (groups : Groups) (p index : ℕ) (name : Option Name) where
       let none : suc p - length groups ≡ 0 = omega arith in
       let up : up_to_pattern groups p ≡ groups = ap (λ k. groups ++ replicate k []) none ∙ append-nil groups in
       let names = get_or groups p [] in
-      let same : with_name names index name ≡ names = ap (λ b. if b then names else (filled None names index ++ name ∷ [])) (lt-ltb index (length names) l) in
+      let same : with_name names index name ≡ names = ap (λ b. if b then names
+          else (filled None names index ++ name ∷ [])) (lt-ltb index (length names) l) in
       ap (λ (gs : Groups). set gs p (with_name (get_or gs p []) index name)) up ∙ ap (λ ns. set groups p ns) same ∙ set-get_or groups p []
 
 -- the groups that are noted for a tree
@@ -97,7 +107,8 @@ Notes kept index (alt x y) = Notes kept index x ⊎ Notes kept index y
 Notes kept index _ = ⊥
 
 module _ (kept : WhichCaptures) (p : ℕ) where
-  capture_kept : (b : Bool) (groups : Groups) (index : ℕ) (name : Option Name) (q j : ℕ) → IsIn groups q j → IsIn (if b then with_group groups p index name else groups) q j
+  capture_kept : (b : Bool) (groups : Groups) (index : ℕ) (name : Option Name) (q j : ℕ) → IsIn groups q j →
+      IsIn (if b then with_group groups p index name else groups) q j
   capture_kept true groups index name q j l = group_kept groups p index name q j l
   capture_kept false groups index name q j l = l
 
@@ -111,13 +122,15 @@ module _ (kept : WhichCaptures) (p : ℕ) where
   noted_kept (repetition min (Some zero) greedy x) groups q j l = l
   noted_kept (repetition min (Some (suc most)) greedy x) groups q j l = noted_kept x groups q j l
   noted_kept (capture index name x) groups q j l =
-      noted_kept x (if keeps_group kept index then with_group groups p index name else groups) q j (capture_kept (keeps_group kept index) groups index name q j l)
+      noted_kept x (if keeps_group kept index then with_group groups p index name
+          else groups) q j (capture_kept (keeps_group kept index) groups index name q j l)
   noted_kept nothing groups q j l = l
   noted_kept (cat x y) groups q j l = noted_kept y (noted kept p x groups) q j (noted_kept x groups q j l)
   noted_kept never groups q j l = l
   noted_kept (alt x y) groups q j l = noted_kept y (noted kept p x groups) q j (noted_kept x groups q j l)
 
-  capture_in : (b : Bool) (groups : Groups) (index : ℕ) (name : Option Name) → b ≡ true → IsIn (if b then with_group groups p index name else groups) p index
+  capture_in : (b : Bool) (groups : Groups) (index : ℕ) (name : Option Name) → b ≡ true →
+      IsIn (if b then with_group groups p index name else groups) p index
   capture_in true groups index name e = group_in groups p index name
   capture_in false groups index name e = absurd (cc)
 
@@ -138,11 +151,14 @@ module _ (kept : WhichCaptures) (p : ℕ) where
       subst P (sym h.0) (noted_kept x after p index (capture_in (keeps_group kept index) groups index name h.1)))
       (λ (h : Notes kept j x). noted_in x after j h) n
   noted_in nothing groups j n = absurd n
-  noted_in (cat x y) groups j n = ⊎_elim (λ (h : Notes kept j x). noted_kept y (noted kept p x groups) p j (noted_in x groups j h)) (λ (h : Notes kept j y). noted_in y (noted kept p x groups) j h) n
+  noted_in (cat x y) groups j n = ⊎_elim (λ (h : Notes kept j x). noted_kept y (noted kept p x groups) p j (noted_in x groups j h))
+      (λ (h : Notes kept j y). noted_in y (noted kept p x groups) j h) n
   noted_in never groups j n = absurd n
-  noted_in (alt x y) groups j n = ⊎_elim (λ (h : Notes kept j x). noted_kept y (noted kept p x groups) p j (noted_in x groups j h)) (λ (h : Notes kept j y). noted_in y (noted kept p x groups) j h) n
+  noted_in (alt x y) groups j n = ⊎_elim (λ (h : Notes kept j x). noted_kept y (noted kept p x groups) p j (noted_in x groups j h))
+      (λ (h : Notes kept j y). noted_in y (noted kept p x groups) j h) n
 
-  capture_same : (b : Bool) (groups : Groups) (index : ℕ) (name : Option Name) → (b ≡ true → IsIn groups p index) → (if b then with_group groups p index name else groups) ≡ groups
+  capture_same : (b : Bool) (groups : Groups) (index : ℕ) (name : Option Name) → (b ≡ true → IsIn groups p index) →
+      (if b then with_group groups p index name else groups) ≡ groups
   capture_same true groups index name there = group_same groups p index name (there refl)
   capture_same false groups index name there = refl
 
@@ -156,17 +172,21 @@ module _ (kept : WhichCaptures) (p : ℕ) where
   noted_same (repetition min (Some zero) greedy x) groups all = refl
   noted_same (repetition min (Some (suc most)) greedy x) groups all = noted_same x groups all
   noted_same (capture index name x) groups all =
-      ap (noted kept p x) (capture_same (keeps_group kept index) groups index name (λ e. all index (inl (refl, e)))) ∙ noted_same x groups (λ j n. all j (inr n))
+      ap (noted kept p x) (capture_same (keeps_group kept index) groups index name (λ e. all index (inl (refl, e))))
+          ∙ noted_same x groups (λ j n. all j (inr n))
   noted_same nothing groups all = refl
-  noted_same (cat x y) groups all = ap (noted kept p y) (noted_same x groups (λ j n. all j (inl n))) ∙ noted_same y groups (λ j n. all j (inr n))
+  noted_same (cat x y) groups all = ap (noted kept p y) (noted_same x groups (λ j n. all j (inl n)))
+      ∙ noted_same y groups (λ j n. all j (inr n))
   noted_same never groups all = refl
-  noted_same (alt x y) groups all = ap (noted kept p y) (noted_same x groups (λ j n. all j (inl n))) ∙ noted_same y groups (λ j n. all j (inr n))
+  noted_same (alt x y) groups all = ap (noted kept p y) (noted_same x groups (λ j n. all j (inl n)))
+      ∙ noted_same y groups (λ j n. all j (inr n))
 
   -- to note the groups of a tree again changes nothing
   pub noted_twice : (x : Tree) (groups : Groups) → noted kept p x (noted kept p x groups) ≡ noted kept p x groups
   noted_twice x groups = noted_same x (noted kept p x groups) (λ j n. noted_in x groups j n)
 
-  pub noted_bounded : (x : Tree) (groups : Groups) (min most : ℕ) (greedy : Bool) → 0 < most → noted kept p (repetition min (Some most) greedy x) groups ≡ noted kept p x groups
+  pub noted_bounded : (x : Tree) (groups : Groups) (min most : ℕ) (greedy : Bool) → 0 < most →
+      noted kept p (repetition min (Some most) greedy x) groups ≡ noted kept p x groups
   noted_bounded x groups min zero greedy l = absurd (omega arith)
   noted_bounded x groups min (suc most) greedy l = refl
 
@@ -181,7 +201,8 @@ slot_test true n = refl
 slot_test false n = refl
 
 slot_known : (groups : Groups) (p index : ℕ) → is_some (slot groups p index) ≡ nat_lt index (length (get_or groups p []))
-slot_known groups p index = slot_test (nat_lt index (length (groups_of groups p))) _ ∙ ap (λ ns. nat_lt index (length ns)) (groups_at groups p)
+slot_known groups p index = slot_test (nat_lt index (length (groups_of groups p))) _
+    ∙ ap (λ ns. nat_lt index (length ns)) (groups_at groups p)
 
 pub known_of_in : (groups : Groups) (p index : ℕ) → IsIn groups p index → is_some (slot groups p index) ≡ true
 known_of_in groups p index l = slot_known groups p index ∙ lt-ltb index (length (get_or groups p [])) l
@@ -189,11 +210,14 @@ known_of_in groups p index l = slot_known groups p index ∙ lt-ltb index (lengt
 in_of_known : (groups : Groups) (p index : ℕ) → is_some (slot groups p index) ≡ true → IsIn groups p index
 in_of_known groups p index e = ltb-true index (length (get_or groups p [])) (sym (slot_known groups p index) ∙ e)
 
-pub known_group : (groups : Groups) (p index : ℕ) (name : Option Name) (one : DraftNode) → is_known groups one ≡ true → is_known (with_group groups p index name) one ≡ true
+pub known_group : (groups : Groups) (p index : ℕ) (name : Option Name) (one : DraftNode) → is_known groups one ≡ true →
+    is_known (with_group groups p index name) one ≡ true
 known_group groups p index name (capture_start_draft pattern group next) k =
-    known_of_in (with_group groups p index name) pattern group (group_kept groups p index name pattern group (in_of_known groups pattern group k))
+    known_of_in (with_group groups p index name) pattern group (group_kept groups p index name pattern group
+        (in_of_known groups pattern group k))
 known_group groups p index name (capture_end_draft pattern group next) k =
-    known_of_in (with_group groups p index name) pattern group (group_kept groups p index name pattern group (in_of_known groups pattern group k))
+    known_of_in (with_group groups p index name) pattern group (group_kept groups p index name pattern group
+        (in_of_known groups pattern group k))
 known_group groups p index name (empty_draft next) k = refl
 known_group groups p index name (range_draft low high next) k = refl
 known_group groups p index name (sparse_draft ranges) k = refl

@@ -21,11 +21,13 @@ module _ (table : Table) where
       (suc o.0, subst P (sym on) o.1)
 
   -- past one target to another
-  pub out_on : (target via n q : ℕ) → (stands_for (table (past_in table n q)) ≡ None) ⊎ (past_in table n q ≡ via) → ComesOut table target via → ComesOut table target q
+  pub out_on : (target via n q : ℕ) → (stands_for (table (past_in table n q)) ≡ None) ⊎ (past_in table n q ≡ via) →
+      ComesOut table target via → ComesOut table target q
   out_on target via zero q o later = ⊎_elim (λ (none : stands_for (table q) ≡ None). out_here target q none)
       (λ (e : q ≡ via). let P : ℕ → Type 0 = λ k. ComesOut table target k in subst P (sym e) later) o
   out_on target via (suc n) q o later =
-      let R : Option ℕ → Type 0 = λ next. stands_for (table q) ≡ next → (stands_for (table (going_on q (past_in table n) next)) ≡ None) ⊎ (going_on q (past_in table n) next ≡ via) →
+      let R : Option ℕ → Type 0 = λ next. stands_for (table q) ≡ next → (stands_for (table (going_on q (past_in table n) next)) ≡ None) ⊎
+          (going_on q (past_in table n) next ≡ via) →
       ComesOut table target q in
       let split : (next : Option ℕ) → R next = λ next. elim next as R [
         | None ↦ λ e k. out_here target q e
@@ -35,12 +37,14 @@ module _ (table : Table) where
 
   -- of several states
   pub all_here : (target q : ℕ) (high : ℕ) → high ≡ q + 1 → ComesOut table target q → AllComeOut table target q high
-  all_here target q high e o k low less = let P : ℕ → Type 0 = λ n. ComesOut table target n in let same : q ≡ k = omega arith in subst P same o
+  all_here target q high e o k low less = let P : ℕ → Type 0 = λ n. ComesOut table target n in let same : q ≡ k = omega arith in
+      subst P same o
 
   pub all_none : (target low high : ℕ) → high ≤ low → AllComeOut table target low high
   all_none target low high e k l h = absurd (omega arith)
 
-  pub all_join : (target low mid high : ℕ) → AllComeOut table target low mid → AllComeOut table target mid high → AllComeOut table target low high
+  pub all_join : (target low mid high : ℕ) → AllComeOut table target low mid → AllComeOut table target mid high →
+      AllComeOut table target low high
   all_join target low mid high a b q l h = ⊎_elim (λ (x : q < mid). a q l x) (λ (x : mid ≤ q). b q x h) (cases_lt q mid)
 
   pub all_on : (target via low high : ℕ) → AllComeOut table via low high → ComesOut table target via → AllComeOut table target low high

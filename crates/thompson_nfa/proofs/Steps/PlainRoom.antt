@@ -1,5 +1,6 @@
 -- Where classes aren't shrunk, `room` is `count`; where they are, it has room for the plain form too.
-use Rattle.std.proofs.Common.{◌≡◌, ℕ, zero, suc, ◌+◌, ◌-◌, ◌*◌, ◌≤◌, min, Bool, true, false, List, [], ◌∷◌, length, refl, ap, ap₂, arith, nat_le}
+use Rattle.std.proofs.Common.{◌≡◌, ℕ, zero, suc, ◌+◌, ◌-◌, ◌*◌, ◌≤◌, min, Bool, true, false, List, [], ◌∷◌, length, refl, ap, ap₂, arith}
+use Rattle.std.proofs.Common.{nat_le}
 use Rattle.std.proofs.lemmas.List.{length-map}
 use Rattle.hir_core.specs.Tree.{Tree, empty, literal, byte_class, char_class, look, repetition, capture, nothing, cat, never, alt}
 use Rattle.hir_core.specs.Facts.{count, list_count, capped, repeated_count, sequence_count}
@@ -56,8 +57,11 @@ pub plain_fits : (shrink : Bool) (ranges : List (ℕ × ℕ)) → count (char_cl
 plain_fits false ranges = omega arith
 plain_fits true ranges = omega (arith, sequences_below_scalars ranges)
 
-pub plain_made : (shrink : Bool) (a b : Assembly) (start end : ℕ) (ranges : List (ℕ × ℕ)) → Makes a b start end (count (char_class ranges)) → Makes a b start end (room shrink (char_class ranges))
-plain_made shrink a b start end ranges m = let fits = plain_fits shrink ranges in made_capped (room shrink (char_class ranges)) m (omega arith)
+pub plain_made : (shrink : Bool) (a b : Assembly) (start end : ℕ) (ranges : List (ℕ × ℕ)) →
+    Makes a b start end (count (char_class ranges)) → Makes a b start end (room shrink (char_class ranges))
+plain_made shrink a b start end ranges m = let fits = plain_fits shrink ranges in
+    made_capped (room shrink (char_class ranges)) m (omega arith)
 
-pub plain_quits : (shrink : Bool) (a b : Assembly) (ranges : List (ℕ × ℕ)) (e : BuildError) → Quits a b (count (char_class ranges)) e → Quits a b (room shrink (char_class ranges)) e
+pub plain_quits : (shrink : Bool) (a b : Assembly) (ranges : List (ℕ × ℕ)) (e : BuildError) → Quits a b (count (char_class ranges)) e →
+    Quits a b (room shrink (char_class ranges)) e
 plain_quits shrink a b ranges e q = let fits = plain_fits shrink ranges in quits_capped (room shrink (char_class ranges)) q (omega arith)

@@ -26,26 +26,31 @@ pub first_added : {plain : Bool} {a b : Assembly} {id : ℕ} {draft : DraftNode}
 first_added spare x tame le = record { partly = partly_added x tame; states = omega arith; bytes = omega arith; numbered = x.numbered }
 
 pub first_made : {a b : Assembly} {start end n : ℕ} → Makes a b start end n → Progress false a b n 8
-first_made m = record { partly = record { grows = m.fragment.grows; tame = m.tame }; states = m.within.states; bytes = m.within.bytes; numbered = m.within.numbered }
+first_made m = record { partly = record { grows = m.fragment.grows; tame = m.tame }; states = m.within.states; bytes = m.within.bytes;
+    numbered = m.within.numbered }
 
 pub then_added : {plain : Bool} {a b c : Assembly} {id n s : ℕ} {draft : DraftNode} {groups : Groups} (spare : ℕ) → Progress plain a b n s →
     Added b c id draft groups → IsTame plain c draft → draft_bytes draft + spare ≤ s + 4096 →
     Progress plain a c (n + 1) spare
-then_added spare p x tame le = record { partly = partly_joined p.partly (partly_added x tame); states = omega arith; bytes = omega arith; numbered = x.numbered }
+then_added spare p x tame le = record { partly = partly_joined p.partly (partly_added x tame); states = omega arith; bytes = omega arith;
+    numbered = x.numbered }
 
 pub then_made : {a b c : Assembly} {start end n s k : ℕ} (spare : ℕ) → Progress false a b n s → Makes b c start end k → spare ≤ s + 8 →
     Progress false a c (n + k) spare
-then_made spare p m le = record { partly = partly_joined p.partly (record { grows = m.fragment.grows; tame = m.tame }); states = omega arith; bytes = omega arith; numbered = m.within.numbered }
+then_made spare p m le = record { partly = partly_joined p.partly (record { grows = m.fragment.grows; tame = m.tame });
+    states = omega arith; bytes = omega arith; numbered = m.within.numbered }
 
 pub then_led : {plain : Bool} {a b c : Assembly} {from to n s : ℕ} (spare : ℕ) → Progress plain a b n s → Led b c from to →
     length a.drafts ≤ from → to < length b.drafts → spare + 4 ≤ s → Progress plain a c n spare
-then_led spare p x new there le = record { partly = partly_led p.partly x new there; states = omega arith; bytes = omega arith; numbered = omega arith }
+then_led spare p x new there le = record { partly = partly_led p.partly x new there; states = omega arith; bytes = omega arith;
+    numbered = omega arith }
 
 -- a fragment that is done
 pub made : {plain : Bool} {a b : Assembly} {start end n s : ℕ} (m : ℕ) → Progress plain a b n s → 8 ≤ s → n ≤ m →
     length a.drafts ≤ start → start < length b.drafts → length a.drafts ≤ end → end < length b.drafts →
     is_sparse (draft_at b.drafts end) ≡ false →
-    ((table : Table) (target : ℕ) → Finished (length a.drafts) b.drafts end target table → AllComeOut table target (length a.drafts) (length b.drafts)) →
+    ((table : Table) (target : ℕ) → Finished (length a.drafts) b.drafts end target table →
+        AllComeOut table target (length a.drafts) (length b.drafts)) →
     Makes a b start end m
 made {plain} {a} {b} m p spare le s1 s2 e1 e2 kind out = record {
   fragment = record { grows = p.partly.grows; start_new = s1; start_there = s2; end_new = e1; end_there = e2; can_be_led_on = kind };
@@ -55,23 +60,29 @@ made {plain} {a} {b} m p spare le s1 s2 e1 e2 kind out = record {
 }
 
 -- the same where the count stops at the largest number of 64 bits
-pub made_capped : {a b : Assembly} {start end n : ℕ} (m : ℕ) → Makes a b start end n → min n 18446744073709551615 ≤ m → Makes a b start end m
-made_capped m x le = record { fragment = x.fragment; comes_out = x.comes_out; tame = x.tame; within = record { states = omega arith; bytes = x.within.bytes; numbered = x.within.numbered } }
+pub made_capped : {a b : Assembly} {start end n : ℕ} (m : ℕ) → Makes a b start end n → min n 18446744073709551615 ≤ m →
+    Makes a b start end m
+made_capped m x le = record { fragment = x.fragment; comes_out = x.comes_out; tame = x.tame;
+    within = record { states = omega arith; bytes = x.within.bytes; numbered = x.within.numbered } }
 
 pub size_kept : {old mid : Assembly} → Grows old mid → mid.size_limit ≡ old.size_limit
 size_kept g = ap (λ (b : Assembly). b.size_limit) g.settings
 
 -- what refuses a later step refuses the whole
-pub step_later : (old mid : Assembly) (n bytes whole m : ℕ) (e : BuildError) → mid.size_limit ≡ old.size_limit → length mid.drafts + n ≤ length old.drafts + whole →
-    sum_of_bytes mid + bytes ≤ sum_of_bytes old + 4096 * whole → min whole 18446744073709551615 ≤ m → RefusesStep mid n bytes e → RefusesStates old m e
+pub step_later : (old mid : Assembly) (n bytes whole m : ℕ) (e : BuildError) → mid.size_limit ≡ old.size_limit →
+    length mid.drafts + n ≤ length old.drafts + whole →
+    sum_of_bytes mid + bytes ≤ sum_of_bytes old + 4096 * whole → min whole 18446744073709551615 ≤ m → RefusesStep mid n bytes e →
+        RefusesStates old m e
 step_later old mid n bytes whole m error.TooManyPatterns size states room cap r = r
 step_later old mid n bytes whole m error.TooManyStates size states room cap r = omega arith
-step_later old mid n bytes whole m (error.ExceededSizeLimit limit) size states room cap r = let x = r.1 in let y = r.2 in (sym size ∙ r.0, omega arith, y)
+step_later old mid n bytes whole m (error.ExceededSizeLimit limit) size states room cap r = let x = r.1 in let y = r.2 in
+    (sym size ∙ r.0, omega arith, y)
 step_later old mid n bytes whole m error.UnsupportedCaptures size states room cap r = r
 step_later old mid n bytes whole m (error.Captures err) size states room cap r = r
 step_later old mid n bytes whole m error.NoMemory size states room cap r = r
 
-pub tree_later : (kept : WhichCaptures) (p : ℕ) (old : Assembly) (m : ℕ) (x : Tree) (e : BuildError) → RefusesStates old m e → RefusesTree kept p old m x e
+pub tree_later : (kept : WhichCaptures) (p : ℕ) (old : Assembly) (m : ℕ) (x : Tree) (e : BuildError) → RefusesStates old m e →
+    RefusesTree kept p old m x e
 tree_later kept p old m x error.TooManyPatterns r = r
 tree_later kept p old m x error.TooManyStates r = r
 tree_later kept p old m x (error.ExceededSizeLimit limit) r = r
@@ -79,12 +90,16 @@ tree_later kept p old m x error.UnsupportedCaptures r = r
 tree_later kept p old m x (error.Captures err) r = absurd r
 tree_later kept p old m x error.NoMemory r = r
 
-call_later : (kept : WhichCaptures) (p : ℕ) (old mid : Assembly) (n whole m : ℕ) (x y : Tree) (e : BuildError) → mid.size_limit ≡ old.size_limit → length mid.drafts + n ≤ length old.drafts + whole →
-    sum_of_bytes mid + 4096 * n ≤ sum_of_bytes old + 4096 * whole → min whole 18446744073709551615 ≤ m → ((index : ℕ) → HasGroup kept index x → HasGroup kept index y) →
+call_later : (kept : WhichCaptures) (p : ℕ) (old mid : Assembly) (n whole m : ℕ) (x y : Tree) (e : BuildError) →
+    mid.size_limit ≡ old.size_limit → length mid.drafts + n ≤ length old.drafts + whole →
+    sum_of_bytes mid + 4096 * n ≤ sum_of_bytes old + 4096 * whole → min whole 18446744073709551615 ≤ m →
+        ((index : ℕ) → HasGroup kept index x → HasGroup kept index y) →
     RefusesTree kept p mid n x e → RefusesTree kept p old m y e
 call_later kept p old mid n whole m x y error.TooManyPatterns size states room cap inside r = r
-call_later kept p old mid n whole m x y error.TooManyStates size states room cap inside r = step_later old mid n (4096 * n) whole m error.TooManyStates size states room cap r
-call_later kept p old mid n whole m x y (error.ExceededSizeLimit limit) size states room cap inside r = step_later old mid n (4096 * n) whole m (error.ExceededSizeLimit limit) size states room cap r
+call_later kept p old mid n whole m x y error.TooManyStates size states room cap inside r =
+    step_later old mid n (4096 * n) whole m error.TooManyStates size states room cap r
+call_later kept p old mid n whole m x y (error.ExceededSizeLimit limit) size states room cap inside r =
+    step_later old mid n (4096 * n) whole m (error.ExceededSizeLimit limit) size states room cap r
 call_later kept p old mid n whole m x y error.UnsupportedCaptures size states room cap inside r = r
 call_later kept p old mid n whole m x y (error.Captures err) size states room cap inside r = (r.0, inside r.0 r.1, r.2)
 call_later kept p old mid n whole m x y error.NoMemory size states room cap inside r = r
@@ -94,7 +109,8 @@ abbrev pub Includes : WhichCaptures → Tree → Tree → Type 0
 Includes kept x y = (index : ℕ) → HasGroup kept index x → HasGroup kept index y
 
 -- the first step is refused
-pub first_quits : {old new : Assembly} {n bytes : ℕ} {e : BuildError} (m : ℕ) → Stays old new n bytes e → n ≤ m → bytes ≤ 4096 * m → Quits old new m e
+pub first_quits : {old new : Assembly} {n bytes : ℕ} {e : BuildError} (m : ℕ) → Stays old new n bytes e → n ≤ m → bytes ≤ 4096 * m →
+    Quits old new m e
 first_quits {old} {new} {n} {bytes} {e} m r le lb = record {
   settings = r.same ∙ ap (λ (b : Assembly). record old { drafts = b.drafts; groups = b.groups }) (sym r.same);
   cause = step_later old old n bytes m m e refl (omega arith) (omega arith) (omega arith) r.cause;
@@ -108,13 +124,16 @@ then_quits {plain} {old} {mid} {new} {k} {s} {n} {bytes} {e} m p r le lb = recor
   cause = step_later old mid n bytes m m e (size_kept p.partly.grows) (omega arith) (omega arith) (omega arith) r.cause;
 }
 
-pub refuses : {old new : Assembly} {n : ℕ} {e : BuildError} (kept : WhichCaptures) (m : ℕ) (x : Tree) → Quits old new n e → min n 18446744073709551615 ≤ m → Refuses kept old new m x e
+pub refuses : {old new : Assembly} {n : ℕ} {e : BuildError} (kept : WhichCaptures) (m : ℕ) (x : Tree) → Quits old new n e →
+    min n 18446744073709551615 ≤ m → Refuses kept old new m x e
 refuses {old} {new} {n} {e} kept m x q cap = record {
   settings = q.settings;
-  cause = tree_later kept (length old.starts) old m x e (step_later old old n (4096 * n) n m e refl (omega arith) (omega arith) cap q.cause);
+  cause = tree_later kept (length old.starts) old m x e (step_later old old n (4096 * n) n m e refl (omega arith)
+      (omega arith) cap q.cause);
 }
 
-pub first_refuses : {old new : Assembly} {n : ℕ} {e : BuildError} {kept : WhichCaptures} {x : Tree} (m : ℕ) (y : Tree) → Refuses kept old new n x e → Includes kept x y → min n 18446744073709551615 ≤ m →
+pub first_refuses : {old new : Assembly} {n : ℕ} {e : BuildError} {kept : WhichCaptures} {x : Tree} (m : ℕ) (y : Tree) →
+    Refuses kept old new n x e → Includes kept x y → min n 18446744073709551615 ≤ m →
     Refuses kept old new m y e
 first_refuses {old} {new} {n} {e} {kept} {x} m y r inside cap = record {
   settings = r.settings;
@@ -130,5 +149,6 @@ then_refuses {plain} {old} {mid} {new} {k} {s} {n} {e} {kept} {x} m y p r inside
     let P : ℕ → Type 0 = λ pattern. RefusesTree kept pattern mid n x e in
     record {
       settings = r.settings ∙ ap (λ (b : Assembly). record b { drafts = new.drafts; groups = new.groups }) p.partly.grows.settings;
-      cause = call_later kept (length old.starts) old mid n m m x y e (size_kept p.partly.grows) (omega arith) (omega arith) (omega arith) inside (subst P starts r.cause);
+      cause = call_later kept (length old.starts) old mid n m m x y e (size_kept p.partly.grows) (omega arith) (omega arith)
+          (omega arith) inside (subst P starts r.cause);
     }

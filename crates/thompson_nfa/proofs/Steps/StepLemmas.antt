@@ -1,5 +1,6 @@
 -- What the single steps of a compile do to a builder, and why they are refused.
-use Rattle.std.proofs.Common.{◌≡◌, ℕ, zero, suc, ◌+◌, ◌*◌, ◌<◌, ◌≤◌, min, Bool, true, false, List, [], ◌∷◌, ◌++◌, length, Option, Some, None, nat_lt, if◌then◌else◌, refl, sym, ap, ◌∙◌, subst, arith, length-append}
+use Rattle.std.proofs.Common.{◌≡◌, ℕ, zero, suc, ◌+◌, ◌*◌, ◌<◌, ◌≤◌, min, Bool, true, false, List, [], ◌∷◌, ◌++◌, length, Option, Some}
+use Rattle.std.proofs.Common.{None, nat_lt, if◌then◌else◌, refl, sym, ap, ◌∙◌, subst, arith, length-append}
 use Rattle.std.specs.List.{sum_by}
 use Rattle.std.specs.Option.{option_or}
 use Rattle.std.proofs.lemmas.Bool.{ltb-false, ltb-true}
@@ -8,8 +9,11 @@ use Rattle.std.proofs.lemmas.List.Sums.{sum_by_push, sum_by-set}
 use Rattle.search_core.specs.Index.{greatest_index}
 use Rattle.search_types.specs.Groups.{Groups}
 use Rattle.nfa_core.specs.CanBuild.{is_known}
-use Rattle.nfa_core.specs.BuilderStates.{DraftNode, Assembly, draft_at, patched, patched_at, draft_bytes, bytes_of, with_draft, fail_draft, union_draft, union_reverse_draft, empty_draft, range_draft, sparse_draft, look_draft, capture_start_draft, capture_end_draft, match_draft}
-use Rattle.nfa_core.specs.BuilderFaults.{Tells, add_fault, patch_fault, limit_fault, BuildFault, exceeded_size_limit, too_many_states, unsupported_captures, too_many_patterns, captures_refused}
+use Rattle.nfa_core.specs.BuilderStates.{DraftNode, Assembly, draft_at, patched, patched_at, draft_bytes, bytes_of, with_draft, fail_draft}
+use Rattle.nfa_core.specs.BuilderStates.{union_draft, union_reverse_draft, empty_draft, range_draft, sparse_draft, look_draft}
+use Rattle.nfa_core.specs.BuilderStates.{capture_start_draft, capture_end_draft, match_draft}
+use Rattle.nfa_core.specs.BuilderFaults.{Tells, add_fault, patch_fault, limit_fault, BuildFault, exceeded_size_limit, too_many_states}
+use Rattle.nfa_core.specs.BuilderFaults.{unsupported_captures, too_many_patterns, captures_refused}
 use Rattle.nfa_core.specs.declared.build_error.BuildError.{BuildError}
 use Rattle.nfa_core.specs.declared.build_error.BuildError.TheVariants as error
 use Rattle.thompson_nfa.specs.Compiled.{sum_of_bytes}
@@ -33,13 +37,15 @@ bytes_patched to (union_reverse_draft names) = longer names to
 bytes_patched to fail_draft = omega arith
 bytes_patched to (match_draft pattern) = omega arith
 
-sum_patched : (drafts : List DraftNode) (from to : ℕ) → from < length drafts → sum_by draft_bytes (patched_at drafts from to) ≤ sum_by draft_bytes drafts + 4
+sum_patched : (drafts : List DraftNode) (from to : ℕ) → from < length drafts →
+    sum_by draft_bytes (patched_at drafts from to) ≤ sum_by draft_bytes drafts + 4
 sum_patched drafts from to inside =
     let draft = draft_at drafts from in
     let sums = sum_by-set draft_bytes drafts from (patched to draft) fail_draft inside in
     omega (arith, sums, bytes_patched to draft)
 
-pub led_of : (old new : Assembly) (from to : ℕ) → from < length old.drafts → new ≡ record old { drafts = patched_at old.drafts from to } → Led old new from to
+pub led_of : (old new : Assembly) (from to : ℕ) → from < length old.drafts → new ≡ record old { drafts = patched_at old.drafts from to } →
+    Led old new from to
 led_of old new from to inside e =
     let drafts_are : new.drafts ≡ patched_at old.drafts from to = ap (λ (b : Assembly). b.drafts) e in
     let to_draft = patched to (draft_at old.drafts from) in
@@ -51,7 +57,8 @@ led_of old new from to inside e =
       bytes = omega (arith, sum_patched old.drafts from to inside, ap (sum_by draft_bytes) drafts_are);
     }
 
-passed : (b : Bool) (given limit sum most : ℕ) → b ≡ nat_lt given (min sum 18446744073709551615) → (if b then Some (exceeded_size_limit given) else None) ≡ Some (exceeded_size_limit limit) →
+passed : (b : Bool) (given limit sum most : ℕ) → b ≡ nat_lt given (min sum 18446744073709551615) →
+    (if b then Some (exceeded_size_limit given) else None) ≡ Some (exceeded_size_limit limit) →
     sum ≤ most → (Some given ≡ Some limit) × (limit < most) × (limit < 18446744073709551615)
 passed true given limit sum most test e le =
     let same : given ≡ limit = cc in
@@ -60,7 +67,8 @@ passed true given limit sum most test e le =
 passed false given limit sum most test e le = absurd (cc)
 
 -- the limit that is passed
-limit_passed : (size : Option ℕ) (limit sum most : ℕ) → limit_fault size (min sum 18446744073709551615) ≡ Some (exceeded_size_limit limit) → sum ≤ most →
+limit_passed : (size : Option ℕ) (limit sum most : ℕ) → limit_fault size (min sum 18446744073709551615) ≡ Some (exceeded_size_limit limit) →
+    sum ≤ most →
     (size ≡ Some limit) × (limit < most) × (limit < 18446744073709551615)
 limit_passed None limit sum most e le = absurd (cc)
 limit_passed (Some given) limit sum most e le = passed (nat_lt given (min sum 18446744073709551615)) given limit sum most refl e le
@@ -69,27 +77,36 @@ abbrev IsOther : BuildFault → Type 0
 IsOther (exceeded_size_limit limit) = ⊥
 IsOther _ = Unit {0}
 
-never : (b : Bool) (given : ℕ) (fault : BuildFault) → (if b then Some (exceeded_size_limit given) else None) ≡ Some fault → IsOther fault → ⊥
-never true given fault e other = let P : BuildFault → Type 0 = IsOther in let same : exceeded_size_limit given ≡ fault = cc in subst P (sym same) other
+never : (b : Bool) (given : ℕ) (fault : BuildFault) → (if b then Some (exceeded_size_limit given) else None) ≡ Some fault → IsOther fault →
+    ⊥
+never true given fault e other = let P : BuildFault → Type 0 = IsOther in let same : exceeded_size_limit given ≡ fault = cc in
+    subst P (sym same) other
 never false given fault e other = cc
 
 never_other : (size : Option ℕ) (bytes : ℕ) (fault : BuildFault) → limit_fault size bytes ≡ Some fault → IsOther fault → ⊥
 never_other None bytes fault e other = cc
 never_other (Some given) bytes fault e other = never (nat_lt given bytes) given fault e other
 
-pub lead_refused : (old new : Assembly) (from to : ℕ) (e : BuildError) → from < length old.drafts → new ≡ old → Tells e (patch_fault old from to) → Stays old new 0 4 e
-lead_refused old new from to error.TooManyPatterns inside same told = absurd (never_other old.size_limit (bytes_of (patched_at old.drafts from to)) too_many_patterns told tt)
-lead_refused old new from to error.TooManyStates inside same told = absurd (never_other old.size_limit (bytes_of (patched_at old.drafts from to)) too_many_states told tt)
+pub lead_refused : (old new : Assembly) (from to : ℕ) (e : BuildError) → from < length old.drafts → new ≡ old →
+    Tells e (patch_fault old from to) → Stays old new 0 4 e
+lead_refused old new from to error.TooManyPatterns inside same told = absurd
+    (never_other old.size_limit (bytes_of (patched_at old.drafts from to)) too_many_patterns told tt)
+lead_refused old new from to error.TooManyStates inside same told = absurd
+    (never_other old.size_limit (bytes_of (patched_at old.drafts from to)) too_many_states told tt)
 lead_refused old new from to (error.ExceededSizeLimit limit) inside same told = record {
   same = same;
-  cause = limit_passed old.size_limit limit (sum_by draft_bytes (patched_at old.drafts from to)) (sum_of_bytes old + 4) told (sum_patched old.drafts from to inside);
+  cause = limit_passed old.size_limit limit (sum_by draft_bytes (patched_at old.drafts from to)) (sum_of_bytes old + 4) told
+      (sum_patched old.drafts from to inside);
 }
-lead_refused old new from to error.UnsupportedCaptures inside same told = absurd (never_other old.size_limit (bytes_of (patched_at old.drafts from to)) unsupported_captures told tt)
-lead_refused old new from to (error.Captures err) inside same told = absurd (never_other old.size_limit (bytes_of (patched_at old.drafts from to)) (captures_refused told.0) told.1 tt)
+lead_refused old new from to error.UnsupportedCaptures inside same told =
+    absurd (never_other old.size_limit (bytes_of (patched_at old.drafts from to)) unsupported_captures told tt)
+lead_refused old new from to (error.Captures err) inside same told = absurd
+    (never_other old.size_limit (bytes_of (patched_at old.drafts from to)) (captures_refused told.0) told.1 tt)
 lead_refused old new from to error.NoMemory inside same told = record { same = same; cause = tt }
 
 -- a name is there
-name_there : (b : Bool) (n : ℕ) (fault : BuildFault) (other : Option BuildFault) → b ≡ nat_lt greatest_index n → option_or (if b then Some fault else None) other ≡ None → n ≤ greatest_index
+name_there : (b : Bool) (n : ℕ) (fault : BuildFault) (other : Option BuildFault) → b ≡ nat_lt greatest_index n →
+    option_or (if b then Some fault else None) other ≡ None → n ≤ greatest_index
 name_there true n fault other e none = absurd (cc)
 name_there false n fault other e none = ltb-false greatest_index n (sym e)
 
@@ -103,7 +120,8 @@ draft_last [] draft = refl
 draft_last (x ∷ xs) draft = draft_last xs draft
 
 -- a state that was added, where groups were noted before
-pub added_group : (old new : Assembly) (id : ℕ) (draft : DraftNode) (groups : Groups) → id ≡ length old.drafts → new ≡ record (with_draft old draft) { groups = groups } → length old.drafts ≤ greatest_index →
+pub added_group : (old new : Assembly) (id : ℕ) (draft : DraftNode) (groups : Groups) → id ≡ length old.drafts →
+    new ≡ record (with_draft old draft) { groups = groups } → length old.drafts ≤ greatest_index →
     ((one : DraftNode) → is_known old.groups one ≡ true → is_known groups one ≡ true) → Added old new id draft groups
 added_group old new id draft groups is e room known =
     let drafts_are : new.drafts ≡ old.drafts ++ draft ∷ [] = ap (λ (b : Assembly). b.drafts) e in
@@ -113,37 +131,51 @@ added_group old new id draft groups is e room known =
       is = is;
       size = size;
       grows = record {
-        settings = e ∙ ap (λ (ps : List DraftNode). record old { drafts = ps; groups = groups }) (sym drafts_are) ∙ ap (λ (gs : Groups). record old { drafts = new.drafts; groups = gs }) (sym groups_are);
+        settings = e ∙ ap (λ (ps : List DraftNode). record old { drafts = ps; groups = groups }) (sym drafts_are)
+            ∙ ap (λ (gs : Groups). record old { drafts = new.drafts; groups = gs }) (sym groups_are);
         longer = omega arith;
         same = λ q l. ap (λ (ps : List DraftNode). draft_at ps q) drafts_are ∙ draft_below old.drafts draft q l;
         known = λ one k. ap (λ (gs : Groups). is_known gs one) groups_are ∙ known one k;
       };
-      here = ap (λ (ps : List DraftNode). draft_at ps id) drafts_are ∙ ap (λ n. draft_at (old.drafts ++ draft ∷ []) n) is ∙ draft_last old.drafts draft;
+      here = ap (λ (ps : List DraftNode). draft_at ps id) drafts_are ∙ ap (λ n. draft_at (old.drafts ++ draft ∷ []) n) is
+          ∙ draft_last old.drafts draft;
       bytes = ap (sum_by draft_bytes) drafts_are ∙ sum_by_push draft_bytes old.drafts draft;
       numbered = omega arith;
       groups_are = groups_are;
     }
 
-pub added_of : (old new : Assembly) (id : ℕ) (draft shown : DraftNode) → id ≡ length old.drafts → new ≡ with_draft old draft → add_fault old draft ≡ None → draft ≡ shown → Added old new id shown old.groups
+pub added_of : (old new : Assembly) (id : ℕ) (draft shown : DraftNode) → id ≡ length old.drafts → new ≡ with_draft old draft →
+    add_fault old draft ≡ None → draft ≡ shown → Added old new id shown old.groups
 added_of old new id draft shown is e none same =
     added_group old new id shown old.groups is (e ∙ ap (λ one. with_draft old one) same) (room_for old draft none) (λ one k. k)
 
 -- what refuses one more state
-pub refused_name : (b : Bool) (old : Assembly) (draft : DraftNode) (bytes : ℕ) (e : BuildError) → b ≡ nat_lt greatest_index (length old.drafts) →
-    Tells e (option_or (if b then Some too_many_states else None) (limit_fault old.size_limit (bytes_of (old.drafts ++ draft ∷ [])))) → draft_bytes draft ≤ bytes → RefusesStep old 1 bytes e
+pub refused_name : (b : Bool) (old : Assembly) (draft : DraftNode) (bytes : ℕ) (e : BuildError) →
+    b ≡ nat_lt greatest_index (length old.drafts) →
+    Tells e (option_or (if b then Some too_many_states else None) (limit_fault old.size_limit (bytes_of (old.drafts ++ draft ∷ [])))) →
+        draft_bytes draft ≤ bytes → RefusesStep old 1 bytes e
 refused_name true old draft bytes error.TooManyPatterns test told le = absurd (cc)
-refused_name true old draft bytes error.TooManyStates test told le = let less : greatest_index < length old.drafts = ltb-true greatest_index (length old.drafts) (sym test) in omega arith
+refused_name true old draft bytes error.TooManyStates test told le = let less : greatest_index < length old.drafts =
+    ltb-true greatest_index (length old.drafts) (sym test) in omega arith
 refused_name true old draft bytes (error.ExceededSizeLimit limit) test told le = absurd (cc)
 refused_name true old draft bytes error.UnsupportedCaptures test told le = absurd (cc)
-refused_name true old draft bytes (error.Captures err) test told le = let same : Some too_many_states ≡ Some (captures_refused told.0) = told.1 in absurd (cc)
+refused_name true old draft bytes (error.Captures err) test told le = let same : Some too_many_states ≡ Some (captures_refused told.0) =
+    told.1 in absurd (cc)
 refused_name true old draft bytes error.NoMemory test told le = tt
-refused_name false old draft bytes error.TooManyPatterns test told le = never_other old.size_limit (bytes_of (old.drafts ++ draft ∷ [])) too_many_patterns told tt
-refused_name false old draft bytes error.TooManyStates test told le = absurd (never_other old.size_limit (bytes_of (old.drafts ++ draft ∷ [])) too_many_states told tt)
+refused_name false old draft bytes error.TooManyPatterns test told le =
+    never_other old.size_limit (bytes_of (old.drafts ++ draft ∷ [])) too_many_patterns told tt
+refused_name false old draft bytes error.TooManyStates test told le = absurd
+    (never_other old.size_limit (bytes_of (old.drafts ++ draft ∷ [])) too_many_states told tt)
 refused_name false old draft bytes (error.ExceededSizeLimit limit) test told le =
-    limit_passed old.size_limit limit (sum_by draft_bytes (old.drafts ++ draft ∷ [])) (sum_of_bytes old + bytes) told (omega (arith, sum_by_push draft_bytes old.drafts draft))
-refused_name false old draft bytes error.UnsupportedCaptures test told le = never_other old.size_limit (bytes_of (old.drafts ++ draft ∷ [])) unsupported_captures told tt
-refused_name false old draft bytes (error.Captures err) test told le = never_other old.size_limit (bytes_of (old.drafts ++ draft ∷ [])) (captures_refused told.0) told.1 tt
+    limit_passed old.size_limit limit (sum_by draft_bytes (old.drafts ++ draft ∷ [])) (sum_of_bytes old + bytes) told (omega (arith,
+        sum_by_push draft_bytes old.drafts draft))
+refused_name false old draft bytes error.UnsupportedCaptures test told le =
+    never_other old.size_limit (bytes_of (old.drafts ++ draft ∷ [])) unsupported_captures told tt
+refused_name false old draft bytes (error.Captures err) test told le =
+    never_other old.size_limit (bytes_of (old.drafts ++ draft ∷ [])) (captures_refused told.0) told.1 tt
 refused_name false old draft bytes error.NoMemory test told le = tt
 
-pub add_refused : (old new : Assembly) (draft : DraftNode) (bytes : ℕ) (e : BuildError) → new ≡ old → Tells e (add_fault old draft) → draft_bytes draft ≤ bytes → Stays old new 1 bytes e
-add_refused old new draft bytes e same told le = record { same = same; cause = refused_name (nat_lt greatest_index (length old.drafts)) old draft bytes e refl told le }
+pub add_refused : (old new : Assembly) (draft : DraftNode) (bytes : ℕ) (e : BuildError) → new ≡ old → Tells e (add_fault old draft) →
+    draft_bytes draft ≤ bytes → Stays old new 1 bytes e
+add_refused old new draft bytes e same told le = record { same = same;
+    cause = refused_name (nat_lt greatest_index (length old.drafts)) old draft bytes e refl told le }

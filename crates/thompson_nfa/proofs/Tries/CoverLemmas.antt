@@ -1,5 +1,6 @@
 -- Dividing the edges of a node at the ends of a range keeps their strings.
-use Rattle.std.proofs.Common.{◌≡◌, ◌⊎◌, inl, inr, ℕ, ◌+◌, ◌-◌, ◌<◌, ◌≤◌, List, [], ◌∷◌, ◌++◌, min, max, nat_lt, true, false, arith, append-nil, append_assoc}
+use Rattle.std.proofs.Common.{◌≡◌, ◌⊎◌, inl, inr, ℕ, ◌+◌, ◌-◌, ◌<◌, ◌≤◌, List, [], ◌∷◌, ◌++◌, min, max, nat_lt, true, false, arith}
+use Rattle.std.proofs.Common.{append-nil, append_assoc}
 use Rattle.std.proofs.lemmas.Bool.{cases_lt}
 use Rattle.std.proofs.lemmas.Bool.Decides.{nat_tests}
 use Rattle.thompson_nfa.specs.declared.trie_nodes.Edge.{Edge}
@@ -18,7 +19,8 @@ piece_cases lo hi n = elim (cases_lt lo hi) [
 ]
 
 -- ---- strings
-pub has_append : (v : List (List (List (ℕ × ℕ)))) (xs ys : List Edge) (b : ℕ) (t : List ℕ) → Has v (xs ++ ys) b t → Has v xs b t ⊎ Has v ys b t
+pub has_append : (v : List (List (List (ℕ × ℕ)))) (xs ys : List Edge) (b : ℕ) (t : List ℕ) → Has v (xs ++ ys) b t → Has v xs b t ⊎
+    Has v ys b t
 has_append v [] ys b t h = inr h
 has_append v (x ∷ xs) ys b t h = elim h [
   | inl here ↦ inl (inl here)
@@ -33,13 +35,15 @@ pub has_right : (v : List (List (List (ℕ × ℕ)))) (xs ys : List Edge) (b : �
 has_right v [] ys b t h = h
 has_right v (x ∷ xs) ys b t h = inr (has_right v xs ys b t h)
 
-pub piece_has : (v : List (List (List (ℕ × ℕ)))) (lo hi : ℕ) (n : Next) (b : ℕ) (t : List ℕ) → Has v (piece lo hi n) b t → (lo ≤ b) × (b < hi) × IsIn (below v n) t
+pub piece_has : (v : List (List (List (ℕ × ℕ)))) (lo hi : ℕ) (n : Next) (b : ℕ) (t : List ℕ) → Has v (piece lo hi n) b t → (lo ≤ b) ×
+    (b < hi) × IsIn (below v n) t
 piece_has v lo hi n b t h = elim (piece_cases lo hi n) [
   | inl c ↦ (let g = rw c.1 at h in elim g [ inl here ↦ (here.0, omega arith, here.2) | inr none ↦ absurd none ])
   | inr c ↦ absurd (rw c.1 at h)
 ]
 
-pub has_piece : (v : List (List (List (ℕ × ℕ)))) (lo hi : ℕ) (n : Next) (b : ℕ) (t : List ℕ) → lo ≤ b → b < hi → IsIn (below v n) t → Has v (piece lo hi n) b t
+pub has_piece : (v : List (List (List (ℕ × ℕ)))) (lo hi : ℕ) (n : Next) (b : ℕ) (t : List ℕ) → lo ≤ b → b < hi → IsIn (below v n) t →
+    Has v (piece lo hi n) b t
 has_piece v lo hi n b t l h i = elim (piece_cases lo hi n) [
   | inl c ↦ rw c.1 (inl (l, omega arith, i))
   | inr c ↦ absurd (omega arith)
@@ -92,7 +96,8 @@ module _ (v : List (List (List (ℕ × ℕ)))) (b : ℕ) (t : List ℕ) (start s
   pub has_cover : (from : ℕ) (es : List Edge) → Has v es b t → Has v (cover_from from start stop es) b t
   has_cover from [] h = absurd h
   has_cover from (e ∷ es) h = elim h [
-    | inl a ↦ has_left v (cut from start stop e) (cover_from (e.range.end + 1) start stop es) b t (has_cut v b t from start stop ordered e a.0 a.1 a.2)
+    | inl a ↦ has_left v (cut from start stop e) (cover_from (e.range.end + 1) start stop es) b t
+        (has_cut v b t from start stop ordered e a.0 a.1 a.2)
     | inr r ↦ has_right v (cut from start stop e) (cover_from (e.range.end + 1) start stop es) b t (has_cover (e.range.end + 1) es r)
   ]
 
@@ -124,13 +129,15 @@ edge_cover b start stop from (e ∷ es) l h g =
     elim (cases_lt b high) [
       | inl a ↦ edge_left (p1 ++ (p2 ++ (p3 ++ p4))) rest b (elim (cases_lt b low) [
         | inl c ↦ edge_left p1 (p2 ++ (p3 ++ p4)) b (edge_piece (max from start) (min low stop) Nothing b (omega arith) (omega arith))
-        | inr c ↦ edge_right p1 (p2 ++ (p3 ++ p4)) b (edge_right p2 (p3 ++ p4) b (edge_left p3 p4 b (edge_piece (max low start) (min high stop) e.next b (omega arith) (omega arith))))
+        | inr c ↦ edge_right p1 (p2 ++ (p3 ++ p4)) b (edge_right p2 (p3
+            ++ p4) b (edge_left p3 p4 b (edge_piece (max low start) (min high stop) e.next b (omega arith) (omega arith))))
       ])
       | inr a ↦ edge_right (p1 ++ (p2 ++ (p3 ++ p4))) rest b (edge_cover b start stop high es l h a)
     ]
 
 -- ---- each edge lies in the range or beside it
-pub divided_append : (start stop : ℕ) (xs ys : List Edge) → AreDivided start stop xs → AreDivided start stop ys → AreDivided start stop (xs ++ ys)
+pub divided_append : (start stop : ℕ) (xs ys : List Edge) → AreDivided start stop xs → AreDivided start stop ys →
+    AreDivided start stop (xs ++ ys)
 divided_append start stop [] ys f g = g
 divided_append start stop (x ∷ xs) ys f g = (f.0, divided_append start stop xs ys f.1 g)
 
@@ -158,9 +165,11 @@ divided_cover start stop from (e ∷ es) =
     let low = e.range.start in
     let high = e.range.end + 1 in
     divided_append start stop (cut from start stop e) (cover_from high start stop es)
-    (divided_append start stop (piece (max from start) (min low stop) Nothing) (piece low (min high start) e.next ++ (piece (max low start) (min high stop) e.next ++ piece (max low stop) high e.next))
+    (divided_append start stop (piece (max from start) (min low stop) Nothing) (piece low (min high start) e.next
+        ++ (piece (max low start) (min high stop) e.next ++ piece (max low stop) high e.next))
     (divided_within start stop (max from start) (min low stop) Nothing (omega arith) (omega arith))
-    (divided_append start stop (piece low (min high start) e.next) (piece (max low start) (min high stop) e.next ++ piece (max low stop) high e.next)
+    (divided_append start stop (piece low (min high start) e.next) (piece (max low start) (min high stop) e.next
+        ++ piece (max low stop) high e.next)
     (divided_before start stop low (min high start) e.next (omega arith))
     (divided_append start stop (piece (max low start) (min high stop) e.next) (piece (max low stop) high e.next)
     (divided_within start stop (max low start) (min high stop) e.next (omega arith) (omega arith))
@@ -172,7 +181,8 @@ pub rises_more : (low lower : ℕ) (es : List Edge) → lower ≤ low → Rises 
 rises_more low lower [] l r = tt
 rises_more low lower (e ∷ es) l r = (omega arith, r.1, r.2)
 
-pub rises_piece : (low lo hi behind : ℕ) (n : Next) (rest : List Edge) → low ≤ lo → low ≤ behind → hi ≤ behind → Rises behind rest → Rises low (piece lo hi n ++ rest)
+pub rises_piece : (low lo hi behind : ℕ) (n : Next) (rest : List Edge) → low ≤ lo → low ≤ behind → hi ≤ behind → Rises behind rest →
+    Rises low (piece lo hi n ++ rest)
 rises_piece low lo hi behind n rest a b c r = elim (piece_cases lo hi n) [
   | inl d ↦ rw d.1 (a, omega arith, rises_more behind (hi - 1 + 1) rest (omega arith) r)
   | inr d ↦ rw d.1 (rises_more behind low rest b r)
@@ -192,7 +202,8 @@ rises_cover start stop ordered from (e ∷ es) r =
     let rest = cover_from high start stop es in
     let r0 : from ≤ low = r.0 in
     let r1 : low < high = omega (arith, r.1) in
-    simp append_assoc (rises_piece from (max from start) (min low stop) low Nothing (p2 ++ (p3 ++ (p4 ++ rest))) (omega arith) r0 (omega arith)
+    simp append_assoc (rises_piece from (max from start) (min low stop) low Nothing (p2
+        ++ (p3 ++ (p4 ++ rest))) (omega arith) r0 (omega arith)
     (rises_piece low low (min high start) m1 e.next (p3 ++ (p4 ++ rest)) (omega arith) (omega arith) (omega arith)
     (rises_piece m1 (max low start) (min high stop) m2 e.next (p4 ++ rest) (omega arith) (omega arith) (omega arith)
     (rises_piece m2 (max low stop) high high e.next rest (omega arith) (omega arith) (omega arith)
@@ -211,7 +222,8 @@ inside_cover k start stop from (e ∷ es) i =
     let low = e.range.start in
     let high = e.range.end + 1 in
     inside_append k (cut from start stop e) (cover_from high start stop es)
-    (inside_append k (piece (max from start) (min low stop) Nothing) (piece low (min high start) e.next ++ (piece (max low start) (min high stop) e.next ++ piece (max low stop) high e.next))
+    (inside_append k (piece (max from start) (min low stop) Nothing) (piece low (min high start) e.next
+        ++ (piece (max low start) (min high stop) e.next ++ piece (max low stop) high e.next))
     (inside_piece k (max from start) (min low stop) Nothing tt)
     (inside_append k (piece low (min high start) e.next) (piece (max low start) (min high stop) e.next ++ piece (max low stop) high e.next)
     (inside_piece k low (min high start) e.next i.0)

@@ -7,6 +7,7 @@ use Rattle.thompson_nfa.specs.RangeTries.{IsApart, IsWith}
 pub empty_alone : (qs : List (List (ℕ × ℕ))) → IsApart qs [] → IsWith qs [] ([] ∷ [])
 empty_alone qs apart = record {
   only = λ s i. elim i [ inl e ↦ inr e | inr n ↦ absurd n ];
-  kept = λ s i. let none : s ≡ [] = apart.long [] s refl i in inl (let P : List ℕ → Type 0 = λ x. is_in_ranges [] x ≡ true in subst P (sym none) refl);
+  kept = λ s i. let none : s ≡ [] = apart.long [] s refl i in inl (let P : List ℕ → Type 0 = λ x. is_in_ranges [] x ≡ true in
+      subst P (sym none) refl);
   added = λ s e. inl e;
 }

@@ -1,5 +1,6 @@
 -- The strings of what a node emits, and what one step of an insertion does to them.
-use Rattle.std.proofs.Common.{◌≡◌, ◌⊎◌, inl, inr, ℕ, ◌+◌, ◌<◌, ◌≤◌, List, [], ◌∷◌, ◌++◌, map, length, true, ◌&&◌, nat_le, sym, ◌∙◌, arith, subst}
+use Rattle.std.proofs.Common.{◌≡◌, ◌⊎◌, inl, inr, ℕ, ◌+◌, ◌<◌, ◌≤◌, List, [], ◌∷◌, ◌++◌, map, length, true, ◌&&◌, nat_le, sym, ◌∙◌, arith}
+use Rattle.std.proofs.Common.{subst}
 use Rattle.std.proofs.lemmas.Bool.{and_parts, and_from, leb-true, le-leb, false≢true}
 use Rattle.std.specs.List.{AllZip}
 use Rattle.hir_core.specs.Sequences.{is_in_ranges}
@@ -11,13 +12,15 @@ use Rattle.thompson_nfa.specs.TrieSteps.{Has, HasEdge, IsStep}
 use Rattle.thompson_nfa.proofs.Tries.NodeLemmas.{below_same}
 
 -- a string of more ranges than none
-pub spelled : (r : ℕ × ℕ) (q : List (ℕ × ℕ)) (b : ℕ) (t : List ℕ) → is_in_ranges (r ∷ q) (b ∷ t) ≡ true → (r.0 ≤ b) × (b ≤ r.1) × (is_in_ranges q t ≡ true)
+pub spelled : (r : ℕ × ℕ) (q : List (ℕ × ℕ)) (b : ℕ) (t : List ℕ) → is_in_ranges (r ∷ q) (b ∷ t) ≡ true → (r.0 ≤ b) × (b ≤ r.1) ×
+    (is_in_ranges q t ≡ true)
 spelled r q b t e =
     let two = and_parts (nat_le r.0 b && nat_le b r.1) (is_in_ranges q t) e in
     let one = and_parts (nat_le r.0 b) (nat_le b r.1) two.0 in
     (leb-true r.0 b one.0, leb-true b r.1 one.1, two.1)
 
-pub spells : (r : ℕ × ℕ) (q : List (ℕ × ℕ)) (b : ℕ) (t : List ℕ) → r.0 ≤ b → b ≤ r.1 → is_in_ranges q t ≡ true → is_in_ranges (r ∷ q) (b ∷ t) ≡ true
+pub spells : (r : ℕ × ℕ) (q : List (ℕ × ℕ)) (b : ℕ) (t : List ℕ) → r.0 ≤ b → b ≤ r.1 → is_in_ranges q t ≡ true →
+    is_in_ranges (r ∷ q) (b ∷ t) ≡ true
 spells r q b t l h e =
     and_from (nat_le r.0 b && nat_le b r.1) (is_in_ranges q t) (and_from (nat_le r.0 b) (nat_le b r.1) (le-leb r.0 b l) (le-leb b r.1 h)) e
 
@@ -37,14 +40,16 @@ pub in_right : (xs ys : List (List (ℕ × ℕ))) (s : List ℕ) → IsIn ys s �
 in_right [] ys s h = h
 in_right (x ∷ xs) ys s h = inr (in_right xs ys s h)
 
-pub in_behind : (r : ℕ × ℕ) (qs : List (List (ℕ × ℕ))) (b : ℕ) (t : List ℕ) → IsIn (map (λ q. r ∷ q) qs) (b ∷ t) → (r.0 ≤ b) × (b ≤ r.1) × IsIn qs t
+pub in_behind : (r : ℕ × ℕ) (qs : List (List (ℕ × ℕ))) (b : ℕ) (t : List ℕ) → IsIn (map (λ q. r ∷ q) qs) (b ∷ t) → (r.0 ≤ b) × (b ≤ r.1) ×
+    IsIn qs t
 in_behind r [] b t h = absurd h
 in_behind r (q ∷ qs) b t h = elim h [
   | inl here ↦ (let g = spelled r q b t here in (g.0, g.1, inl g.2))
   | inr later ↦ (let g = in_behind r qs b t later in (g.0, g.1, inr g.2))
 ]
 
-pub behind_in : (r : ℕ × ℕ) (qs : List (List (ℕ × ℕ))) (b : ℕ) (t : List ℕ) → r.0 ≤ b → b ≤ r.1 → IsIn qs t → IsIn (map (λ q. r ∷ q) qs) (b ∷ t)
+pub behind_in : (r : ℕ × ℕ) (qs : List (List (ℕ × ℕ))) (b : ℕ) (t : List ℕ) → r.0 ≤ b → b ≤ r.1 → IsIn qs t →
+    IsIn (map (λ q. r ∷ q) qs) (b ∷ t)
 behind_in r [] b t l h i = absurd i
 behind_in r (q ∷ qs) b t l h i = elim i [ inl here ↦ inl (spells r q b t l h here) | inr later ↦ inr (behind_in r qs b t l h later) ]
 
@@ -64,7 +69,8 @@ module _ (v : List (List (List (ℕ × ℕ)))) where
   pub along_in : (es : List Edge) (b : ℕ) (t : List ℕ) → Has v es b t → IsIn (along v es) (b ∷ t)
   along_in [] b t h = h
   along_in (e ∷ es) b t h = elim h [
-    | inl here ↦ in_left (map (λ q. (e.range.start, e.range.end) ∷ q) (below v e.next)) (along v es) (b ∷ t) (behind_in (e.range.start, e.range.end) (below v e.next) b t here.0 here.1 here.2)
+    | inl here ↦ in_left (map (λ q. (e.range.start, e.range.end) ∷ q) (below v e.next)) (along v es) (b ∷ t) (behind_in (e.range.start,
+        e.range.end) (below v e.next) b t here.0 here.1 here.2)
     | inr later ↦ in_right (map (λ q. (e.range.start, e.range.end) ∷ q) (below v e.next)) (along v es) (b ∷ t) (along_in es b t later)
   ]
 
@@ -111,7 +117,8 @@ module _ (v w : List (List (List (ℕ × ℕ)))) (start stop : ℕ) (rest : List
     | inr later ↦ inr (steps_kept ps es b t z.1 later)
   ]
 
-  pub steps_added : (ps es : List Edge) (b : ℕ) (t : List ℕ) → AllZip (IsStep v w start stop rest) ps es → HasEdge ps b → start ≤ b → b < stop →
+  pub steps_added : (ps es : List Edge) (b : ℕ) (t : List ℕ) → AllZip (IsStep v w start stop rest) ps es → HasEdge ps b → start ≤ b →
+      b < stop →
       is_in_ranges rest t ≡ true → Has w es b t
   steps_added [] [] b t z h l g i = absurd h
   steps_added [] (e ∷ es) b t z h l g i = absurd z

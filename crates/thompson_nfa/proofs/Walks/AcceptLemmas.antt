@@ -32,13 +32,15 @@ is_match_state T f p j is = ap (λ (n : DraftNode). match_of (drafted n) j) is
 
 listed_matches : (t : Text) (T : Table) (f p : ℕ) (js : List ℕ) → T f ≡ match_draft p → Listed t T (at f js) (at p js)
 listed_matches t T f p [] is = lists_none
-listed_matches t T f p (j ∷ js) is = lists_answer (j, f) (j, p) (at f js) (at p js) (is_match_state T f p j is) (listed_matches t T f p js is)
+listed_matches t T f p (j ∷ js) is = lists_answer (j, f) (j, p) (at f js) (at p js) (is_match_state T f p j is)
+    (listed_matches t T f p js is)
 
 ends_at_match : (back : Bool) (t : Text) (T : Table) (f p j : ℕ) → T f ≡ match_draft p → ComesToEnd back t T (j, f)
 ends_at_match back t T f p j is = ((j, p) ∷ [], lists_answer (j, f) (j, p) [] [] (is_match_state T f p j is) lists_none)
 
 -- a chain from a match stays there
-stays_at_match : (back : Bool) (t : Text) (T : Table) (q m : ℕ × ℕ) (r : List (ℕ × ℕ)) → table_match T q ≡ Some m → Chain back t T q r → last_or q r ≡ q
+stays_at_match : (back : Bool) (t : Text) (T : Table) (q m : ℕ × ℕ) (r : List (ℕ × ℕ)) → table_match T q ≡ Some m → Chain back t T q r →
+    last_or q r ≡ q
 stays_at_match back t T q m [] is c = refl
 stays_at_match back t T q m (w ∷ r) is c =
     let P : List (ℕ × ℕ) → Type 0 = λ ws. Has same_pair w ws in
@@ -49,7 +51,8 @@ some_pair a b e = cc
 
 pub finds_tree : (back : Bool) (T : Table) (s f p : ℕ) (x : Tree) → T f ≡ match_draft p → Denotes back T s f x → FindsTree back T s p x
 finds_tree back T s f p x is d = record {
-  lists = λ up g t i. (d.orders up g t).lists i (at p (preferred_ends t.holds (seen t) x i)) (listed_matches t T f p (preferred_ends t.holds (seen t) x i) is);
+  lists = λ up g t i. (d.orders up g t).lists i (at p (preferred_ends t.holds (seen t) x i))
+      (listed_matches t T f p (preferred_ends t.holds (seen t) x i) is);
   ends = λ g t i. (d.halts g t).halts i (λ j m. ends_at_match back t T f p j is);
   complete = λ t i j m.
       let r = (d.reaches t).complete i j m in

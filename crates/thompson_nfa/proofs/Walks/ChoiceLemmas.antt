@@ -1,5 +1,6 @@
 -- What is found and listed from the state that leads to the starts of all patterns.
-use Rattle.std.proofs.Common.{◌≡◌, ℕ, zero, suc, ◌+◌, Bool, false, List, [], ◌∷◌, map, length, get_or, slice_get, inl, inr, Some, refl, sym, ap, ◌∙◌, subst, arith}
+use Rattle.std.proofs.Common.{◌≡◌, ℕ, zero, suc, ◌+◌, Bool, false, List, [], ◌∷◌, map, length, get_or, slice_get, inl, inr, Some, refl, sym}
+use Rattle.std.proofs.Common.{ap, ◌∙◌, subst, arith}
 use Rattle.std.specs.Prelude.{All}
 use Rattle.std.specs.Bool.{nat_eq}
 use Rattle.std.proofs.lemmas.List.Elements.{All-head, All-tail}
@@ -36,7 +37,8 @@ module _ (back : Bool) (T : Table) where
   accept_count p (s ∷ starts) [] a = absurd a
   accept_count p (s ∷ starts) (x ∷ xs) a = ap (λ (n : ℕ). suc n) (accept_count (suc p) starts xs a.1)
 
-  pub accept_at : (p : ℕ) (starts : List ℕ) (xs : List Tree) → AcceptAll back T p starts xs → (n m : ℕ) (x : Tree) → m ≡ p + n → slice_get xs n ≡ Some x →
+  pub accept_at : (p : ℕ) (starts : List ℕ) (xs : List Tree) → AcceptAll back T p starts xs → (n m : ℕ) (x : Tree) → m ≡ p + n →
+      slice_get xs n ≡ Some x →
       IsStart back T starts n m x
   accept_at p starts [] a n m x e got = cc
   accept_at p [] (y ∷ xs) a n m x e got = absurd a
@@ -109,14 +111,16 @@ module _ (back : Bool) (t : Text) (T : Table) where
   enters_all c starts (inr (inr is)) = enters_none c starts is.0 is.1
 
   -- what is found from there is a choice
-  pub all_find : (c : ℕ) (starts : List ℕ) (xs : List Tree) → LeadsToAll T c starts → AcceptAll back T 0 starts xs → FindsChoices back t T c (IsChoice back xs t)
+  pub all_find : (c : ℕ) (starts : List ℕ) (xs : List Tree) → LeadsToAll T c starts → AcceptAll back T 0 starts xs →
+      FindsChoices back t T c (IsChoice back xs t)
   all_find c starts xs leads accept =
       let n = enters_all c starts leads in
       record {
         complete = λ i e choice.
             let a = accept_at back T 0 starts xs accept e.1 e.1 choice.0 (omega arith) choice.1 in
             let s = get_or starts e.1 0 in
-            found_behind back t T (i, c) (i, s) e (n.to i s a.there) ((accepts_finds back t T s e.1 choice.0 a.accepts).complete i e (refl, choice.2));
+            found_behind back t T (i, c) (i, s) e (n.to i s a.there) ((accepts_finds back t T s e.1 choice.0 a.accepts).complete i e (refl,
+                choice.2));
         sound = λ i e f.
             let o = n.from i e f in
             let x = accept_of back T 0 starts xs accept o.0 o.1 in
@@ -129,7 +133,8 @@ module _ (back : Bool) (t : Text) (T : Table) where
 -- ---- walks that come to their end
 
 module _ (back : Bool) (t : Text) (T : Table) where
-  starts_end : (p : ℕ) (starts : List ℕ) (xs : List Tree) (i : ℕ) → AcceptAll back T p starts xs → All LoopsRead xs → Ended back t T (each_at starts i)
+  starts_end : (p : ℕ) (starts : List ℕ) (xs : List Tree) (i : ℕ) → AcceptAll back T p starts xs → All LoopsRead xs →
+      Ended back t T (each_at starts i)
   starts_end p [] [] i a reads = ended_none back t T
   starts_end p [] (x ∷ xs) i a reads = absurd a
   starts_end p (s ∷ starts) [] i a reads = absurd a
@@ -142,7 +147,8 @@ module _ (back : Bool) (t : Text) (T : Table) where
   enters_end c starts i (inr (inl is)) walk = ended_on back t T c (each_at starts) i (goes_union back t T c starts is) walk
   enters_end c starts i (inr (inr is)) walk = ended_on back t T c (λ k. []) i (goes_fail back t T c is.1) (ended_none back t T)
 
-  pub all_end : (c : ℕ) (starts : List ℕ) (xs : List Tree) (i : ℕ) → LeadsToAll T c starts → AcceptAll back T 0 starts xs → All LoopsRead xs → ComesToEnd back t T (i, c)
+  pub all_end : (c : ℕ) (starts : List ℕ) (xs : List Tree) (i : ℕ) → LeadsToAll T c starts → AcceptAll back T 0 starts xs →
+      All LoopsRead xs → ComesToEnd back t T (i, c)
   all_end c starts xs i leads accept reads = enters_end c starts i leads (starts_end 0 starts xs i accept reads)
 
 -- ---- in order
@@ -154,16 +160,19 @@ module _ (t : Text) (T : Table) where
   starts_list p [] (x ∷ xs) i a reads = absurd a
   starts_list p (s ∷ starts) [] i a reads = absurd a
   starts_list p (s ∷ starts) (x ∷ xs) i a reads =
-      firsts_append t T ((i, s) ∷ []) (each_at starts i) (map (λ j. (j, p)) (preferred_ends t.holds (seen t) x i)) (choices_from (suc p) xs t i)
+      firsts_append t T ((i, s) ∷ []) (each_at starts i) (map (λ j. (j, p)) (preferred_ends t.holds (seen t) x i))
+          (choices_from (suc p) xs t i)
       (accepts_lists t T s p x i a.0 (All-head LoopsRead x xs reads)) (starts_list (suc p) starts xs i a.1 (All-tail LoopsRead x xs reads))
 
-  enters_list : (c : ℕ) (starts : List ℕ) (i : ℕ) (l : List (ℕ × ℕ)) → LeadsToAll T c starts → ListedFirsts t T (each_at starts i) l → ListedFirsts t T ((i, c) ∷ []) l
+  enters_list : (c : ℕ) (starts : List ℕ) (i : ℕ) (l : List (ℕ × ℕ)) → LeadsToAll T c starts → ListedFirsts t T (each_at starts i) l →
+      ListedFirsts t T ((i, c) ∷ []) l
   enters_list c starts i l (inl is) walk = let P : List ℕ → Type 0 = λ qs. ListedFirsts t T (each_at qs i) l in subst P is walk
   enters_list c starts i l (inr (inl is)) walk = firsts_on t T c (each_at starts) i l (goes_union false t T c starts is) walk
   enters_list c starts i l (inr (inr is)) walk =
       let P : List ℕ → Type 0 = λ qs. ListedFirsts t T (each_at qs i) l in
       firsts_on t T c (λ k. []) i l (goes_fail false t T c is.1) (subst P is.0 walk)
 
-  pub all_list : (c : ℕ) (starts : List ℕ) (xs : List Tree) (i : ℕ) → LeadsToAll T c starts → AcceptAll false T 0 starts xs → All LoopsRead xs →
+  pub all_list : (c : ℕ) (starts : List ℕ) (xs : List Tree) (i : ℕ) → LeadsToAll T c starts → AcceptAll false T 0 starts xs →
+      All LoopsRead xs →
       ListedFirsts t T ((i, c) ∷ []) (choices_from 0 xs t i)
   all_list c starts xs i leads accept reads = enters_list c starts i (choices_from 0 xs t i) leads (starts_list 0 starts xs i accept reads)

@@ -7,18 +7,22 @@ use Rattle.hir_core.specs.Means.{Looks, Means}
 use Rattle.hir_core.specs.PreferredEnds.{preferred_ends, Has as HasEnd}
 use Rattle.hir_core.specs.Facts.{LoopsRead}
 use Rattle.hir_core.proofs.ForCallers.{preferred_ends_sound, preferred_ends_complete}
-use Rattle.nfa_core.specs.BuilderStates.{empty_draft, range_draft, sparse_draft, look_draft, capture_start_draft, capture_end_draft, fail_draft}
+use Rattle.nfa_core.specs.BuilderStates.{empty_draft, range_draft, sparse_draft, look_draft, capture_start_draft, capture_end_draft}
+use Rattle.nfa_core.specs.BuilderStates.{fail_draft}
 use Rattle.nfa_core.specs.Ways.{Text, reads, is_passed}
 use Rattle.nfa_core.specs.Drafted.{Table}
 use Rattle.thompson_nfa.specs.Denotes.{at, seen, IsMeant, Denotes}
-use Rattle.thompson_nfa.proofs.Walks.WayLemmas.{Goes, byte_ends, to_one, goes_empty, goes_capture_start, goes_capture_end, goes_fail, goes_look, goes_range, goes_sparse}
+use Rattle.thompson_nfa.proofs.Walks.WayLemmas.{Goes, byte_ends, to_one, goes_empty, goes_capture_start, goes_capture_end, goes_fail}
+use Rattle.thompson_nfa.proofs.Walks.WayLemmas.{goes_look, goes_range, goes_sparse}
 use Rattle.thompson_nfa.proofs.Walks.ReachLemmas.{reaches_here, reaches_like, reaches_join, reaches_leaf, reaches_nowhere}
 use Rattle.thompson_nfa.proofs.Walks.OrderLemmas.{orders_here, orders_like, orders_join, orders_leaf, orders_nowhere}
 use Rattle.thompson_nfa.proofs.Walks.HaltLemmas.{halts_here, halts_like, halts_join, halts_leaf, halts_nowhere}
 use Rattle.thompson_nfa.specs.Compiled.{turned, uses}
-use Rattle.thompson_nfa.proofs.Walks.MeantLemmas.{meant_map, empty_meant, meant_empty, meant_never, look_meant, meant_look, class_ends_forward, class_meant, meant_class}
+use Rattle.thompson_nfa.proofs.Walks.MeantLemmas.{meant_map, empty_meant, meant_empty, meant_never, look_meant, meant_look}
+use Rattle.thompson_nfa.proofs.Walks.MeantLemmas.{class_ends_forward, class_meant, meant_class}
 
-goes_forward : (back : Bool) (t : Text) (T : Table) (s : ℕ) (to : ℕ → List (ℕ × ℕ)) → back ≡ false → Goes back t T s to → Goes false t T s to
+goes_forward : (back : Bool) (t : Text) (T : Table) (s : ℕ) (to : ℕ → List (ℕ × ℕ)) → back ≡ false → Goes back t T s to →
+    Goes false t T s to
 goes_forward false t T s to e g = g
 goes_forward true t T s to e g = cc
 
@@ -27,13 +31,16 @@ pub record Joins (back : Bool) (x1 x2 y : Tree) : Type 0 where
   pub parts : (t : Text) (i j : ℕ) → IsMeant back t y i j → (k : ℕ) × IsMeant back t x1 i k × IsMeant back t x2 k j
   pub joined : (t : Text) (i j : ℕ) → (k : ℕ) × IsMeant back t x1 i k × IsMeant back t x2 k j → IsMeant back t y i j
   pub reading : LoopsRead y → LoopsRead x1 × LoopsRead x2
-  pub ends : back ≡ false → (looks : Looks) (h : List ℕ) (i : ℕ) → flat_map (preferred_ends looks h x2) (preferred_ends looks h x1 i) ≡ preferred_ends looks h y i
+  pub ends : back ≡ false → (looks : Looks) (h : List ℕ) (i : ℕ) → flat_map (preferred_ends looks h x2)
+      (preferred_ends looks h x1 i) ≡ preferred_ends looks h y i
   pub met : (l : Look) → uses back y l ≡ (uses back x1 l || uses back x2 l)
 
 module _ (back : Bool) (T : Table) where
-  pub denotes_join : (s m e : ℕ) (x1 x2 y : Tree) → Joins back x1 x2 y → Denotes back T s m x1 → Denotes back T m e x2 → Denotes back T s e y
+  pub denotes_join : (s m e : ℕ) (x1 x2 y : Tree) → Joins back x1 x2 y → Denotes back T s m x1 → Denotes back T m e x2 →
+      Denotes back T s e y
   denotes_join s m e x1 x2 y j a b = record {
-    reaches = λ t. reaches_like back t T s e (λ i k. (l : ℕ) × IsMeant back t x1 i l × IsMeant back t x2 l k) (IsMeant back t y) (j.parts t) (j.joined t)
+    reaches = λ t. reaches_like back t T s e (λ i k. (l : ℕ) × IsMeant back t x1 i l ×
+        IsMeant back t x2 l k) (IsMeant back t y) (j.parts t) (j.joined t)
         (reaches_join back t T s m e (IsMeant back t x1) (IsMeant back t x2) (a.reaches t) (b.reaches t));
     halts = λ f t.
         let r = j.reading f in
@@ -50,17 +57,21 @@ module _ (back : Bool) (T : Table) where
   -- a tree that means the same, where read forward it prefers the same ends
   pub denotes_like_meaning : (s e : ℕ) (x y : Tree) → ((looks : Looks) (h : List ℕ) (i j : ℕ) → Means looks h y i j → Means looks h x i j) →
       ((looks : Looks) (h : List ℕ) (i j : ℕ) → Means looks h x i j → Means looks h y i j) → (LoopsRead y → LoopsRead x) →
-      (back ≡ false → (looks : Looks) (h : List ℕ) (i : ℕ) → preferred_ends looks h x i ≡ preferred_ends looks h y i) → Denotes back T s e x → Denotes back T s e y
+      (back ≡ false → (looks : Looks) (h : List ℕ) (i : ℕ) → preferred_ends looks h x i ≡ preferred_ends looks h y i) →
+          Denotes back T s e x → Denotes back T s e y
   denotes_like_meaning s e x y narrow wide reading same a = record {
-    reaches = λ t. reaches_like back t T s e (IsMeant back t x) (IsMeant back t y) (meant_map y x narrow back t) (meant_map x y wide back t) (a.reaches t);
+    reaches = λ t. reaches_like back t T s e (IsMeant back t x) (IsMeant back t y) (meant_map y x narrow back t) (meant_map x y wide back t)
+        (a.reaches t);
     halts = λ f t. halts_like back t T s e (IsMeant back t x) (IsMeant back t y) (meant_map x y wide back t) (a.halts (reading f) t);
     orders = λ up f t.
-        orders_like t T s e (preferred_ends t.holds (seen t) x) (preferred_ends t.holds (seen t) y) (same up t.holds (seen t)) (a.orders up (reading f) t);
+        orders_like t T s e (preferred_ends t.holds (seen t) x) (preferred_ends t.holds (seen t) y) (same up t.holds (seen t))
+            (a.orders up (reading f) t);
   }
 
   -- a tree that prefers the same ends
   pub denotes_like : (s e : ℕ) (x y : Tree) → (LoopsRead y → LoopsRead x) →
-      ((looks : Looks) (h : List ℕ) (i : ℕ) → preferred_ends looks h x i ≡ preferred_ends looks h y i) → Denotes back T s e x → Denotes back T s e y
+      ((looks : Looks) (h : List ℕ) (i : ℕ) → preferred_ends looks h x i ≡ preferred_ends looks h y i) → Denotes back T s e x →
+          Denotes back T s e y
   denotes_like s e x y reading same a = denotes_like_meaning s e x y
       (λ looks h i j m. let P : List ℕ → Type 0 = λ l. HasEnd l j in
       preferred_ends_sound looks h x i j (subst P (sym (same looks h i)) (preferred_ends_complete looks h y i j m)))
@@ -70,11 +81,14 @@ module _ (back : Bool) (T : Table) where
 
   -- one state that leads to e at these places
   pub denotes_leaf : (s e : ℕ) (x : Tree) (ends : Text → ℕ → List ℕ) → ((t : Text) → Goes back t T s (λ i. at e (ends t i))) →
-      ((t : Text) (i j : ℕ) → IsMeant back t x i j → HasEnd (ends t i) j) → ((t : Text) (i j : ℕ) → HasEnd (ends t i) j → IsMeant back t x i j) →
+      ((t : Text) (i j : ℕ) → IsMeant back t x i j → HasEnd (ends t i) j) →
+          ((t : Text) (i j : ℕ) → HasEnd (ends t i) j → IsMeant back t x i j) →
       (back ≡ false → (t : Text) (i : ℕ) → ends t i ≡ preferred_ends t.holds (seen t) x i) → Denotes back T s e x
   denotes_leaf s e x ends g narrow wide same = record {
-    reaches = λ t. reaches_like back t T s e (λ i j. HasEnd (ends t i) j) (IsMeant back t x) (narrow t) (wide t) (reaches_leaf back t T s e (ends t) (g t));
-    halts = λ f t. halts_like back t T s e (λ i j. HasEnd (ends t i) j) (IsMeant back t x) (wide t) (halts_leaf back t T s e (ends t) (g t));
+    reaches = λ t. reaches_like back t T s e (λ i j. HasEnd (ends t i) j) (IsMeant back t x) (narrow t) (wide t)
+        (reaches_leaf back t T s e (ends t) (g t));
+    halts = λ f t. halts_like back t T s e (λ i j. HasEnd (ends t i) j) (IsMeant back t x) (wide t)
+        (halts_leaf back t T s e (ends t) (g t));
     orders = λ up f t. orders_like t T s e (ends t) (preferred_ends t.holds (seen t) x) (same up t)
         (orders_leaf t T s e (ends t) (goes_forward back t T s (λ i. at e (ends t i)) up (g t)));
   }
@@ -82,7 +96,8 @@ module _ (back : Bool) (T : Table) where
   -- nothing is between a state and itself
   pub denotes_empty_here : (s : ℕ) → Denotes back T s s empty
   denotes_empty_here s = record {
-    reaches = λ t. reaches_like back t T s s (λ i j. i ≡ j) (IsMeant back t empty) (meant_empty back t) (empty_meant back t) (reaches_here back t T s);
+    reaches = λ t. reaches_like back t T s s (λ i j. i ≡ j) (IsMeant back t empty) (meant_empty back t) (empty_meant back t)
+        (reaches_here back t T s);
     halts = λ f t. halts_like back t T s s (λ i j. i ≡ j) (IsMeant back t empty) (empty_meant back t) (halts_here back t T s);
     orders = λ up f t. orders_here t T s;
   }
@@ -113,22 +128,28 @@ module _ (back : Bool) (T : Table) where
 
   pub denotes_never : (s e : ℕ) → T s ≡ fail_draft → Denotes back T s e never
   denotes_never s e is = record {
-    reaches = λ t. reaches_like back t T s e (λ i j. ⊥) (IsMeant back t never) (meant_never back t) (λ i j h. absurd h) (reaches_nowhere back t T s e (goes_fail back t T s is));
-    halts = λ f t. halts_like back t T s e (λ i j. ⊥) (IsMeant back t never) (λ i j h. absurd h) (halts_nowhere back t T s e (goes_fail back t T s is));
+    reaches = λ t. reaches_like back t T s e (λ i j. ⊥) (IsMeant back t never) (meant_never back t) (λ i j h. absurd h)
+        (reaches_nowhere back t T s e (goes_fail back t T s is));
+    halts = λ f t. halts_like back t T s e (λ i j. ⊥) (IsMeant back t never) (λ i j h. absurd h)
+        (halts_nowhere back t T s e (goes_fail back t T s is));
     orders = λ up f t. orders_nowhere t T s e (goes_forward back t T s (λ i. []) up (goes_fail back t T s is));
   }
 
-  same_look : back ≡ false → (t : Text) (l : Look) (i : ℕ) → (if is_passed back t (turned back l) i then i ∷ [] else []) ≡ preferred_ends t.holds (seen t) (look l) i
+  same_look : back ≡ false → (t : Text) (l : Look) (i : ℕ) → (if is_passed back t (turned back l) i then i ∷ []
+      else []) ≡ preferred_ends t.holds (seen t) (look l) i
   same_look up t l i = ap (λ (b : Bool). if is_passed b t (turned b l) i then i ∷ [] else []) up
 
   pub denotes_look : (s e : ℕ) (l : Look) → T s ≡ look_draft (turned back l) e → Denotes back T s e (look l)
-  denotes_look s e l is = denotes_leaf s e (look l) (λ t i. if is_passed back t (turned back l) i then i ∷ [] else []) (λ t. goes_look back t T s (turned back l) e is)
+  denotes_look s e l is = denotes_leaf s e (look l) (λ t i. if is_passed back t (turned back l) i then i ∷ []
+      else []) (λ t. goes_look back t T s (turned back l) e is)
       (λ t i j m. meant_look back t l i j m) (λ t i j h. look_meant back t l i j h) (λ up t i. same_look up t l i)
 
-  same_class : back ≡ false → (t : Text) (ranges : List (ℕ × ℕ)) (i : ℕ) → byte_ends ranges (reads back t i) ≡ preferred_ends t.holds (seen t) (byte_class ranges) i
+  same_class : back ≡ false → (t : Text) (ranges : List (ℕ × ℕ)) (i : ℕ) →
+      byte_ends ranges (reads back t i) ≡ preferred_ends t.holds (seen t) (byte_class ranges) i
   same_class up t ranges i = ap (λ (b : Bool). byte_ends ranges (reads b t i)) up ∙ sym (class_ends_forward t ranges i)
 
-  pub denotes_class : (s e : ℕ) (ranges : List (ℕ × ℕ)) → ((t : Text) → Goes back t T s (λ i. at e (byte_ends ranges (reads back t i)))) → Denotes back T s e (byte_class ranges)
+  pub denotes_class : (s e : ℕ) (ranges : List (ℕ × ℕ)) → ((t : Text) → Goes back t T s (λ i. at e (byte_ends ranges (reads back t i)))) →
+      Denotes back T s e (byte_class ranges)
   denotes_class s e ranges g = denotes_leaf s e (byte_class ranges) (λ t i. byte_ends ranges (reads back t i)) g
       (λ t i j m. meant_class back t ranges i j m) (λ t i j h. class_meant back t ranges i j h) (λ up t i. same_class up t ranges i)
 

@@ -28,7 +28,8 @@ module _ (back : Bool) (t : Text) (T : Table) where
       (all.0, all.1, ap (table_match T) all.2 ∙ b.2)
 
   -- behind what leads to state c
-  pub finds_behind : (s c : ℕ) (meant : ℕ → ℕ → Type 0) (choices : ℕ → ℕ × ℕ → Type 0) → Reaches back t T s c meant → FindsChoices back t T c choices →
+  pub finds_behind : (s c : ℕ) (meant : ℕ → ℕ → Type 0) (choices : ℕ → ℕ × ℕ → Type 0) → Reaches back t T s c meant →
+      FindsChoices back t T c choices →
       FindsChoices back t T s (λ i e. (k : ℕ) × meant i k × choices k e)
   finds_behind s c meant choices a f = record {
     complete = λ i e x. found_behind (i, s) (x.0, c) e (a.complete i x.0 x.1) (f.complete x.0 e x.2);
@@ -50,7 +51,8 @@ module _ (back : Bool) (t : Text) (T : Table) where
       }
 
 -- the walk of a stack comes to its end from where a pattern's tree begins
-pub accepts_ends : (back : Bool) (t : Text) (T : Table) (s p : ℕ) (x : Tree) (i : ℕ) → Accepts back T s p x → LoopsRead x → ComesToEnd back t T (i, s)
+pub accepts_ends : (back : Bool) (t : Text) (T : Table) (s p : ℕ) (x : Tree) (i : ℕ) → Accepts back T s p x → LoopsRead x →
+    ComesToEnd back t T (i, s)
 accepts_ends back t T s p x i a reads = (finds_tree back T s a.end p x a.matches a.denotes).ends reads t i
 
 -- what is listed where a pattern's tree begins

@@ -34,9 +34,11 @@ same_firsts_append k l m n a b =
     ∙ sym (join-append same_pair [] l n)
 
 -- what is listed for each of several places, with repeats of the places dropped
-distinct_places : (lists : ℕ → List (ℕ × ℕ)) (js : List ℕ) → distinct same_pair (flat_map lists (distinct nat_eq js)) ≡ distinct same_pair (flat_map lists js)
+distinct_places : (lists : ℕ → List (ℕ × ℕ)) (js : List ℕ) → distinct same_pair (flat_map lists (distinct nat_eq js)) ≡ distinct same_pair
+    (flat_map lists js)
 distinct_places lists js = join_flat_map nat_eq names_equal same_pair pairs_equal lists [] [] js
 
-pub same_firsts_each : (lists : ℕ → List (ℕ × ℕ)) (js ks : List ℕ) → distinct nat_eq js ≡ distinct nat_eq ks → HasSameFirsts (flat_map lists js) (flat_map lists ks)
+pub same_firsts_each : (lists : ℕ → List (ℕ × ℕ)) (js ks : List ℕ) → distinct nat_eq js ≡ distinct nat_eq ks →
+    HasSameFirsts (flat_map lists js) (flat_map lists ks)
 same_firsts_each lists js ks e =
     sym (distinct_places lists js) ∙ ap (λ (places : List ℕ). distinct same_pair (flat_map lists places)) e ∙ distinct_places lists ks

@@ -1,6 +1,7 @@
 -- Where the walk of a stack comes to its end, reading forward or in reverse: from states that are joined, where it does from their
 -- parts.
-use Rattle.std.proofs.Common.{◌≡◌, ℕ, zero, suc, ◌<◌, ◌≤◌, Bool, true, false, List, [], ◌∷◌, ◌++◌, ◌⊎◌, inl, inr, refl, sym, subst, arith, append-nil}
+use Rattle.std.proofs.Common.{◌≡◌, ℕ, zero, suc, ◌<◌, ◌≤◌, Bool, true, false, List, [], ◌∷◌, ◌++◌, ◌⊎◌, inl, inr, refl, sym, subst, arith}
+use Rattle.std.proofs.Common.{append-nil}
 use Rattle.hir_core.specs.Means.{Rounds}
 use Rattle.hir_core.specs.PreferredEnds.{Has as HasEnd}
 use Rattle.nfa_core.specs.Walks.{Lists, lists_none, lists_ways}
@@ -32,7 +33,8 @@ module _ (back : Bool) (t : Text) (T : Table) where
   ended_at e [] each = ended_none
   ended_at e (j ∷ js) each = ended_append ((j, e) ∷ []) (at e js) (each j (inl refl)) (ended_at e js (λ k h. each k (inr h)))
 
-  ended_choice : (greedy : Bool) (u a e i : ℕ) → Goes back t T u (both_at greedy a e) → ComesToEnd back t T (i, a) → ComesToEnd back t T (i, e) → ComesToEnd back t T (i, u)
+  ended_choice : (greedy : Bool) (u a e i : ℕ) → Goes back t T u (both_at greedy a e) → ComesToEnd back t T (i, a) →
+      ComesToEnd back t T (i, e) → ComesToEnd back t T (i, u)
   ended_choice true u a e i g body exit = ended_on u (both_at true a e) i g (ended_append ((i, a) ∷ []) ((i, e) ∷ []) body exit)
   ended_choice false u a e i g body exit = ended_on u (both_at false a e) i g (ended_append ((i, e) ∷ []) ((i, a) ∷ []) exit body)
 
@@ -44,7 +46,8 @@ module _ (back : Bool) (t : Text) (T : Table) where
   halts_like s e M N wide a = record { halts = λ i all. a.halts i (λ j m. all j (wide i j m)) }
 
   -- from s to m, and on to e
-  pub halts_join : (s m e : ℕ) (M N : ℕ → ℕ → Type 0) → Halts back t T s m M → Halts back t T m e N → Halts back t T s e (λ i j. (k : ℕ) × M i k × N k j)
+  pub halts_join : (s m e : ℕ) (M N : ℕ → ℕ → Type 0) → Halts back t T s m M → Halts back t T m e N →
+      Halts back t T s e (λ i j. (k : ℕ) × M i k × N k j)
   halts_join s m e M N a b = record { halts = λ i all. a.halts i (λ k x. b.halts k (λ j y. all j (k, x, y))) }
 
   -- a state that leads to e alone, at these places
@@ -53,23 +56,28 @@ module _ (back : Bool) (t : Text) (T : Table) where
 
   -- a state that leads on at the same place
   pub halts_pass : (s e : ℕ) → Goes back t T s (λ i. at e (i ∷ [])) → Halts back t T s e (λ i j. i ≡ j)
-  halts_pass s e g = halts_like s e (λ i j. HasEnd (i ∷ []) j) (λ i j. i ≡ j) (λ i j h. elim h [ inl is ↦ is | inr n ↦ elim n [ ] ]) (halts_leaf s e (λ i. i ∷ []) g)
+  halts_pass s e g = halts_like s e (λ i j. HasEnd (i ∷ []) j) (λ i j. i ≡ j) (λ i j h. elim h [ inl is ↦ is | inr n ↦ elim n [ ] ])
+      (halts_leaf s e (λ i. i ∷ []) g)
 
   -- a state that leads nowhere
   pub halts_nowhere : (s e : ℕ) → Goes back t T s (λ i. []) → Halts back t T s e (λ i j. ⊥)
   halts_nowhere s e g = record { halts = λ i all. ended_on s (λ k. []) i g ended_none }
 
   -- a state that leads to a and to e
-  pub halts_choice : (greedy : Bool) (u a e : ℕ) (M : ℕ → ℕ → Type 0) → Goes back t T u (both_at greedy a e) → Halts back t T a e M → Halts back t T u e (λ i j. M i j ⊎ (i ≡ j))
-  halts_choice greedy u a e M g x = record { halts = λ i all. ended_choice greedy u a e i g (x.halts i (λ j m. all j (inl m))) (all i (inr refl)) }
+  pub halts_choice : (greedy : Bool) (u a e : ℕ) (M : ℕ → ℕ → Type 0) → Goes back t T u (both_at greedy a e) → Halts back t T a e M →
+      Halts back t T u e (λ i j. M i j ⊎ (i ≡ j))
+  halts_choice greedy u a e M g x = record { halts = λ i all. ended_choice greedy u a e i g (x.halts i (λ j m. all j (inl m)))
+      (all i (inr refl)) }
 
   -- a loop whose rounds leave less to read: u leads to a body, which comes back to u, and to e
-  module _ (greedy : Bool) (a u e : ℕ) (M : ℕ → ℕ → Type 0) (left : ℕ → ℕ) (reading : (i k : ℕ) → M i k → left k < left i) (loop : Goes back t T u (both_at greedy a e))
+  module _ (greedy : Bool) (a u e : ℕ) (M : ℕ → ℕ → Type 0) (left : ℕ → ℕ) (reading : (i k : ℕ) → M i k →
+      left k < left i) (loop : Goes back t T u (both_at greedy a e))
       (body : Halts back t T a u M) where
     abbrev Loops : ℕ → ℕ → Type 0
     Loops i j = (n : ℕ) × Rounds M n i j
 
-    loop_halts : (room q i : ℕ) → left i ≤ room → Goes back t T q (both_at greedy a e) → ((j : ℕ) → Loops i j → ComesToEnd back t T (j, e)) → ComesToEnd back t T (i, q)
+    loop_halts : (room q i : ℕ) → left i ≤ room → Goes back t T q (both_at greedy a e) →
+        ((j : ℕ) → Loops i j → ComesToEnd back t T (j, e)) → ComesToEnd back t T (i, q)
     loop_halts zero q i le g all =
         ended_choice greedy q a e i g (body.halts i (λ k m. let less = reading i k m in absurd (omega arith))) (all i (0, refl))
     loop_halts (suc room) q i le g all =

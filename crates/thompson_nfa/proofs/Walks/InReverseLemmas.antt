@@ -42,7 +42,8 @@ module _ (start : ℕ) (R : ℕ → ℕ → Type 0) (forward : IsForward R) wher
 
 module _ (start : ℕ) (R S : ℕ → ℕ → Type 0) (first : IsForward R) (second : IsForward S) where
   -- what comes last forward comes first in reverse
-  pub reverse_join : (i j : ℕ) → InReverse start (λ a b. (k : ℕ) × R a k × S k b) i j → (k : ℕ) × InReverse start S i k × InReverse start R k j
+  pub reverse_join : (i j : ℕ) → InReverse start (λ a b. (k : ℕ) × R a k × S k b) i j → (k : ℕ) × InReverse start S i k ×
+      InReverse start R k j
   reverse_join i j m =
       let a = first j m.0.0 m.0.1 in
       let b = second m.0.0 i m.0.2 in

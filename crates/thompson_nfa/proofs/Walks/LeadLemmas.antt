@@ -57,18 +57,22 @@ module _ (back : Bool) (t : Text) (T : Table) where
       let P : List (ℕ × ℕ) → Type 0 = λ ws. Has same_pair b.way ws in
       record { way = b.way; rest = b.rest; one_less = b.one_less; same_end = b.same_end; has = subst P (g.ways i) b.has; chain = b.chain }
 
-  pub goes_leads : (s : ℕ) (to : ℕ → List (ℕ × ℕ)) (i : ℕ) (q o : ℕ × ℕ) → Goes back t T s to → Has same_pair q (to i) → Leads back t T q o → Leads back t T (i, s) o
+  pub goes_leads : (s : ℕ) (to : ℕ → List (ℕ × ℕ)) (i : ℕ) (q o : ℕ × ℕ) → Goes back t T s to → Has same_pair q (to i) →
+      Leads back t T q o → Leads back t T (i, s) o
   goes_leads s to i q o g h b =
       let P : List (ℕ × ℕ) → Type 0 = λ ws. Has same_pair q ws in
       leads_way (i, s) q o (subst P (sym (g.ways i)) h) b
 
   -- what a chain passes behind its first way it passes itself
-  pub passes_later : (M N : ℕ → ℕ → Type 0) (ws : List (ℕ × ℕ)) (i k e : ℕ) (p q : ℕ × ℕ) (r : List (ℕ × ℕ)) (b : Begins ws p r) → b.way ≡ q →
-      (Chain q b.rest → last_or q b.rest ≡ last_or p r → Passes back t T M k e q b.rest) → ((j : ℕ) → M k j → N i j) → Passes back t T N i e p r
+  pub passes_later : (M N : ℕ → ℕ → Type 0) (ws : List (ℕ × ℕ)) (i k e : ℕ) (p q : ℕ × ℕ) (r : List (ℕ × ℕ)) (b : Begins ws p r) →
+      b.way ≡ q →
+      (Chain q b.rest → last_or q b.rest ≡ last_or p r → Passes back t T M k e q b.rest) → ((j : ℕ) → M k j → N i j) →
+          Passes back t T N i e p r
   passes_later M N ws i k e p q r b is on wider =
       let C : ℕ × ℕ → Type 0 = λ w. Chain w b.rest in
       let ends : last_or q b.rest ≡ last_or p r = ap (λ (w : ℕ × ℕ). last_or w b.rest) (sym is) ∙ b.same_end in
       let x = on (subst C is b.chain) ends in
       let u = x.fewer in
       let v = b.one_less in
-      record { middle = x.middle; rest = x.rest; is_meant = wider x.middle x.is_meant; chain = x.chain; fewer = omega arith; same_end = x.same_end ∙ ends }
+      record { middle = x.middle; rest = x.rest; is_meant = wider x.middle x.is_meant; chain = x.chain; fewer = omega arith;
+          same_end = x.same_end ∙ ends }

@@ -1,5 +1,6 @@
 -- What one shall have come past for a tree, reading forward or in reverse, from what is meant of its parts.
-use Rattle.std.proofs.Common.{◌≡◌, ℕ, zero, suc, ◌+◌, ◌≤◌, Bool, true, false, List, [], ◌∷◌, take, Option, Some, None, if◌then◌else◌, slice_get, nat_lt, nat_le, IsTrue, ◌⊎◌, inl, inr, refl, sym, ap, ◌∙◌, subst, arith}
+use Rattle.std.proofs.Common.{◌≡◌, ℕ, zero, suc, ◌+◌, ◌≤◌, Bool, true, false, List, [], ◌∷◌, take, Option, Some, None, if◌then◌else◌}
+use Rattle.std.proofs.Common.{slice_get, nat_lt, nat_le, IsTrue, ◌⊎◌, inl, inr, refl, sym, ap, ◌∙◌, subst, arith}
 use Rattle.std.proofs.lemmas.Bool.{ltb-true, ltb-false, le-leb, leb-true}
 use Rattle.std.proofs.lemmas.Option.{slice_get_cases, slice_get-get_or, slice_get_past}
 use Rattle.std.proofs.lemmas.List.{length-take, get_or-take}
@@ -46,13 +47,16 @@ meant_alt true t x y i j (inl m, low) = inl (m, low)
 meant_alt true t x y i j (inr m, low) = inr (m, low)
 
 -- of two parts, one who reads in reverse comes past the second first
-pub meant_cat_reverse : (t : Text) (x y : Tree) (i j : ℕ) → IsMeant true t (cat x y) i j → (k : ℕ) × IsMeant true t y i k × IsMeant true t x k j
+pub meant_cat_reverse : (t : Text) (x y : Tree) (i j : ℕ) → IsMeant true t (cat x y) i j → (k : ℕ) × IsMeant true t y i k ×
+    IsMeant true t x k j
 meant_cat_reverse t x y i j m =
-    reverse_join t.start (Means t.holds t.haystack x) (Means t.holds t.haystack y) (span_forward t.holds t.haystack x) (span_forward t.holds t.haystack y) i j m
+    reverse_join t.start (Means t.holds t.haystack x) (Means t.holds t.haystack y) (span_forward t.holds t.haystack x)
+        (span_forward t.holds t.haystack y) i j m
 
 pub cat_meant_reverse : (t : Text) (x y : Tree) (i j k : ℕ) → IsMeant true t y i k → IsMeant true t x k j → IsMeant true t (cat x y) i j
 cat_meant_reverse t x y i j k m n =
-    join_reverse t.start (Means t.holds t.haystack x) (Means t.holds t.haystack y) (span_forward t.holds t.haystack x) (span_forward t.holds t.haystack y) i j k m n
+    join_reverse t.start (Means t.holds t.haystack x) (Means t.holds t.haystack y) (span_forward t.holds t.haystack x)
+        (span_forward t.holds t.haystack y) i j k m n
 
 -- rounds of what is meant
 abbrev pub MeantRounds : Bool → Text → ℕ → Option ℕ → Tree → ℕ → ℕ → Type 0
@@ -73,7 +77,8 @@ rounds_meant true t low most greedy x i j m =
 
 -- ---- looks
 
-pub look_meant : (back : Bool) (t : Text) (l : Look) (i j : ℕ) → HasEnd (if is_passed back t (turned back l) i then i ∷ [] else []) j → IsMeant back t (look l) i j
+pub look_meant : (back : Bool) (t : Text) (l : Look) (i j : ℕ) → HasEnd (if is_passed back t (turned back l) i then i ∷ [] else []) j →
+    IsMeant back t (look l) i j
 look_meant false t l i j h = let one = Has-if (t.holds l i) i j h in (one.1, one.0)
 look_meant true t l i j h =
     let one = Has-if (t.holds (reversed (reversed l)) i) i j h in
@@ -81,7 +86,8 @@ look_meant true t l i j h =
     let e = one.1 in
     ((sym one.1, subst P one.1 (ap (λ (k : Look). t.holds k i) (sym (reversed_twice l)) ∙ one.0)), omega arith)
 
-pub meant_look : (back : Bool) (t : Text) (l : Look) (i j : ℕ) → IsMeant back t (look l) i j → HasEnd (if is_passed back t (turned back l) i then i ∷ [] else []) j
+pub meant_look : (back : Bool) (t : Text) (l : Look) (i j : ℕ) → IsMeant back t (look l) i j →
+    HasEnd (if is_passed back t (turned back l) i then i ∷ [] else []) j
 meant_look false t l i j m = Has-then (t.holds l i) i j m.1 m.0
 meant_look true t l i j m =
     let P : ℕ → Type 0 = λ k. IsTrue (t.holds l k) in
@@ -95,7 +101,8 @@ taken_get h n i true e =
     elim (slice_get_cases h i).1 [
       | inl x ↦
           let fits = x.1 in
-          slice_get-get_or (take n h) i x.0 (omega (arith, length-take n h)) ∙ ap (λ (b : ℕ). Some b) (get_or-take n h i x.0 less ∙ x.3) ∙ sym x.2
+          slice_get-get_or (take n h) i x.0 (omega (arith, length-take n h)) ∙ ap (λ (b : ℕ). Some b) (get_or-take n h i x.0 less ∙ x.3)
+              ∙ sym x.2
       | inr o ↦ let past = o.0 in slice_get_past (take n h) i (omega (arith, length-take n h)) ∙ sym o.1
     ]
 taken_get h n i false e = let past = ltb-false i n e in slice_get_past (take n h) i (omega (arith, length-take n h))
@@ -103,11 +110,13 @@ taken_get h n i false e = let past = ltb-false i n e in slice_get_past (take n h
 class_ends_read : (ranges : List (ℕ × ℕ)) (c : Bool) (o : Option ℕ) (i : ℕ) →
     class_end ranges (if c then o else None) i ≡ byte_ends ranges (if c then with_place (suc i) o else None)
 class_ends_read ranges true None i = refl
-class_ends_read ranges true (Some b) i = ap (λ (k : ℕ). if is_member ranges b then k ∷ [] else []) (let e : i + 1 ≡ suc i = omega arith in e)
+class_ends_read ranges true (Some b) i = ap (λ (k : ℕ). if is_member ranges b then k ∷ [] else []) (let e : i + 1 ≡ suc i = omega arith in
+    e)
 class_ends_read ranges false o i = refl
 
 -- the ends of a class are those of the byte that is read
-pub class_ends_forward : (t : Text) (ranges : List (ℕ × ℕ)) (i : ℕ) → preferred_ends t.holds (seen t) (byte_class ranges) i ≡ byte_ends ranges (reads false t i)
+pub class_ends_forward : (t : Text) (ranges : List (ℕ × ℕ)) (i : ℕ) → preferred_ends t.holds (seen t)
+    (byte_class ranges) i ≡ byte_ends ranges (reads false t i)
 class_ends_forward t ranges i =
     ap (λ (o : Option ℕ). class_end ranges o i) (taken_get t.haystack t.end i (nat_lt i t.end) refl)
     ∙ class_ends_read ranges (nat_lt i t.end) (byte_at t.haystack i) i
@@ -116,15 +125,18 @@ read_reverse : (ranges : List (ℕ × ℕ)) (c : Bool) (o : Option ℕ) (i j b :
     HasEnd (byte_ends ranges (if c then with_place i o else None)) j
 read_reverse ranges false o i j b t e m is = cc
 read_reverse ranges true None i j b t e m is = cc
-read_reverse ranges true (Some d) i j b t e m is = let same : d ≡ b = cc in Has-then (is_member ranges d) i j (ap (is_member ranges) same ∙ m) is
+read_reverse ranges true (Some d) i j b t e m is = let same : d ≡ b = cc in
+    Has-then (is_member ranges d) i j (ap (is_member ranges) same ∙ m) is
 
-reverse_read : (ranges : List (ℕ × ℕ)) (c : Bool) (o : Option ℕ) (i j : ℕ) → HasEnd (byte_ends ranges (if c then with_place i o else None)) j →
+reverse_read : (ranges : List (ℕ × ℕ)) (c : Bool) (o : Option ℕ) (i j : ℕ) →
+    HasEnd (byte_ends ranges (if c then with_place i o else None)) j →
     (c ≡ true) × (i ≡ j) × (b : ℕ) × (o ≡ Some b) × (is_member ranges b ≡ true)
 reverse_read ranges false o i j h = elim h [ ]
 reverse_read ranges true None i j h = elim h [ ]
 reverse_read ranges true (Some b) i j h = let one = Has-if (is_member ranges b) i j h in (refl, one.1, b, refl, one.0)
 
-pub class_meant : (back : Bool) (t : Text) (ranges : List (ℕ × ℕ)) (i j : ℕ) → HasEnd (byte_ends ranges (reads back t i)) j → IsMeant back t (byte_class ranges) i j
+pub class_meant : (back : Bool) (t : Text) (ranges : List (ℕ × ℕ)) (i j : ℕ) → HasEnd (byte_ends ranges (reads back t i)) j →
+    IsMeant back t (byte_class ranges) i j
 class_meant false t ranges i j h =
     let P : List ℕ → Type 0 = λ l. HasEnd l j in
     preferred_ends_sound t.holds (seen t) (byte_class ranges) i j (subst P (sym (class_ends_forward t ranges i)) h)
@@ -136,7 +148,8 @@ class_meant true t ranges (suc i) j h =
     let P : ℕ → Type 0 = λ k. slice_get t.haystack k ≡ Some r.2 in
     ((omega arith, r.2, subst P r.1 r.3, r.4), omega arith)
 
-pub meant_class : (back : Bool) (t : Text) (ranges : List (ℕ × ℕ)) (i j : ℕ) → IsMeant back t (byte_class ranges) i j → HasEnd (byte_ends ranges (reads back t i)) j
+pub meant_class : (back : Bool) (t : Text) (ranges : List (ℕ × ℕ)) (i j : ℕ) → IsMeant back t (byte_class ranges) i j →
+    HasEnd (byte_ends ranges (reads back t i)) j
 meant_class false t ranges i j m =
     let P : List ℕ → Type 0 = λ l. HasEnd l j in
     subst P (class_ends_forward t ranges i) (preferred_ends_complete t.holds (seen t) (byte_class ranges) i j m)
@@ -146,4 +159,5 @@ meant_class true t ranges (suc i) j m =
     let low = m.1 in
     let same : j ≡ i = omega arith in
     let P : ℕ → Type 0 = λ k. slice_get t.haystack k ≡ Some m.0.1 in
-    read_reverse ranges (nat_le t.start i) (byte_at t.haystack i) i j m.0.1 (le-leb t.start i (omega arith)) (subst P same m.0.2) m.0.3 (sym same)
+    read_reverse ranges (nat_le t.start i) (byte_at t.haystack i) i j m.0.1 (le-leb t.start i (omega arith)) (subst P same m.0.2) m.0.3
+        (sym same)

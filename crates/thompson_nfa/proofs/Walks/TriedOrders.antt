@@ -1,5 +1,6 @@
 -- What the walk of a stack lists from a state that tries each place: what it lists at the places, one after the other.
-use Rattle.std.proofs.Common.{◌≡◌, ℕ, zero, suc, ◌+◌, ◌-◌, ◌≤◌, Bool, true, false, List, [], ◌∷◌, if◌then◌else◌, nat_lt, ⊎_elim, None, refl, sym, ap, ◌∙◌, arith, append-nil}
+use Rattle.std.proofs.Common.{◌≡◌, ℕ, zero, suc, ◌+◌, ◌-◌, ◌≤◌, Bool, true, false, List, [], ◌∷◌, if◌then◌else◌, nat_lt, ⊎_elim, None, refl}
+use Rattle.std.proofs.Common.{sym, ap, ◌∙◌, arith, append-nil}
 use Rattle.std.specs.List.{flat_map}
 use Rattle.std.proofs.lemmas.Bool.{cases_Bool, ltb-true}
 use Rattle.search_core.specs.Text.{byte_at}
@@ -11,7 +12,8 @@ use Rattle.thompson_nfa.specs.Denotes.{at, Orders}
 use Rattle.thompson_nfa.specs.Compilations.{places_from}
 use Rattle.thompson_nfa.specs.Assembled.{TriesEachPlace}
 use Rattle.thompson_nfa.proofs.Walks.WayLemmas.{byte_ends, goes_empty}
-use Rattle.thompson_nfa.proofs.Walks.OrderLemmas.{ListedFirsts, firsts_of, firsts_append, firsts_behind, orders_like, orders_join, orders_leaf, orders_rounds}
+use Rattle.thompson_nfa.proofs.Walks.OrderLemmas.{ListedFirsts, firsts_of, firsts_append, firsts_behind, orders_like, orders_join}
+use Rattle.thompson_nfa.proofs.Walks.OrderLemmas.{orders_leaf, orders_rounds}
 use Rattle.thompson_nfa.proofs.Walks.TriedPlaces.{any_range, any_ends, IsText, ends_forward, moves_forward, goes_on, goes_any}
 use Rattle.thompson_nfa.proofs.Assembled.AssembledTries.{nothing_read}
 
@@ -40,7 +42,8 @@ module _ (t : Text) (T : Table) (u c : ℕ) (w : TriesEachPlace T u c) where
   tries_in_order = orders_rounds t T false w.byte u c (any_ends false t) (tried t) t.end
       (λ i k h. let m = moves_forward t i k h in let is = m.0 in let less = m.1 in (omega arith, omega arith))
       (λ i. tried_step t (t.end - i) i refl) (goes_on false t T u c w)
-      (orders_like t T w.byte u (λ i. flat_map (λ (k : ℕ). k ∷ []) (any_ends false t i)) (any_ends false t) (λ i. single_ends (any_ends false t i))
+      (orders_like t T w.byte u (λ i. flat_map (λ (k : ℕ). k ∷ []) (any_ends false t i)) (any_ends false t)
+          (λ i. single_ends (any_ends false t i))
       (orders_join t T w.byte w.back u (any_ends false t) (λ i. i ∷ [])
       (orders_leaf t T w.byte w.back (any_ends false t) (goes_any false t T u c w))
       (orders_leaf t T w.back u (λ i. i ∷ []) (goes_empty false t T w.back u w.again))))
@@ -59,7 +62,9 @@ module _ (t : Text) (T : Table) (s c : ℕ) (lists : ℕ → List (ℕ × ℕ)) 
 tried_places : (t : Text) → IsText t → (n i : ℕ) → i + n ≡ t.end → tried_from t n i ≡ places_from i (suc n)
 tried_places t is zero i e = refl
 tried_places t is (suc n) i e = ap (λ (l : List ℕ). i ∷ l)
-    (ap (flat_map (tried_from t n)) (ends_forward t i is (omega arith)) ∙ append-nil (tried_from t n (suc i)) ∙ tried_places t is n (suc i) (omega arith))
+    (ap (flat_map (tried_from t n)) (ends_forward t i is (omega arith)) ∙ append-nil (tried_from t n (suc i))
+        ∙ tried_places t is n (suc i) (omega arith))
 
 pub all_tried : (t : Text) (i : ℕ) → IsText t → i ≤ t.end → tried t i ≡ places_from i (suc t.end - i)
-all_tried t i is h = tried_places t is (t.end - i) i (omega arith) ∙ ap (places_from i) (let e : suc (t.end - i) ≡ suc t.end - i = omega arith in e)
+all_tried t i is h = tried_places t is (t.end - i) i (omega arith) ∙ ap (places_from i)
+    (let e : suc (t.end - i) ≡ suc t.end - i = omega arith in e)

@@ -1,5 +1,6 @@
 -- From where a state that tries each place comes to the state that it tries: the places that are read to.
-use Rattle.std.proofs.Common.{◌≡◌, ℕ, zero, suc, ◌+◌, ◌-◌, ◌<◌, ◌≤◌, Bool, true, false, List, [], ◌∷◌, length, get_or, if◌then◌else◌, ◌&&◌, ◌||◌, nat_lt, nat_le, inl, Option, Some, None, refl, sym, ap, ◌∙◌, subst, arith}
+use Rattle.std.proofs.Common.{◌≡◌, ℕ, zero, suc, ◌+◌, ◌-◌, ◌<◌, ◌≤◌, Bool, true, false, List, [], ◌∷◌, length, get_or, if◌then◌else◌, ◌&&◌}
+use Rattle.std.proofs.Common.{◌||◌, nat_lt, nat_le, inl, Option, Some, None, refl, sym, ap, ◌∙◌, subst, arith}
 use Rattle.std.specs.Prelude.{All}
 use Rattle.std.proofs.lemmas.Bool.{le-leb, leb-true, lt-ltb, ltb-true}
 use Rattle.std.proofs.lemmas.Option.{slice_get-get_or}
@@ -36,7 +37,8 @@ read_as true None j b t e = cc
 read_as true (Some d) j b t e = ap (λ (p : Option ℕ). with_place j p) e
 
 in_any_range : (b : ℕ) → b < 256 → is_member any_range b ≡ true
-in_any_range b less = ap (λ (c : Bool). (nat_le 0 b && c) || false) (le-leb b 255 (omega arith)) ∙ ap (λ (c : Bool). (c && true) || false) (le-leb 0 b (omega arith))
+in_any_range b less = ap (λ (c : Bool). (nat_le 0 b && c) || false) (le-leb b 255 (omega arith))
+    ∙ ap (λ (c : Bool). (c && true) || false) (le-leb 0 b (omega arith))
 
 ends_of_read : (o : Option (ℕ × ℕ)) (b j : ℕ) → o ≡ Some (b, j) → b < 256 → byte_ends any_range o ≡ j ∷ []
 ends_of_read o b j is less = ap (byte_ends any_range) is ∙ ap (λ (c : Bool). if c then j ∷ [] else []) (in_any_range b less)
@@ -51,7 +53,8 @@ ends_forward t i is less =
     let within = is.within in
     let there : i < length t.haystack = omega arith in
     ends_of_read (reads false t i) (get_or t.haystack i 0) (suc i)
-    (read_as (nat_lt i t.end) (byte_at t.haystack i) (suc i) (get_or t.haystack i 0) (lt-ltb i t.end less) (slice_get-get_or t.haystack i 0 there))
+    (read_as (nat_lt i t.end) (byte_at t.haystack i) (suc i) (get_or t.haystack i 0) (lt-ltb i t.end less)
+        (slice_get-get_or t.haystack i 0 there))
     (All-get_or (λ byte. byte < 256) t.haystack i 0 there is.bytes)
 
 pub ends_reverse : (t : Text) (i : ℕ) → IsText t → t.start ≤ i → suc i ≤ t.end → any_ends true t (suc i) ≡ i ∷ []
@@ -59,7 +62,8 @@ ends_reverse t i is above below =
     let within = is.within in
     let there : i < length t.haystack = omega arith in
     ends_of_read (reads true t (suc i)) (get_or t.haystack i 0) i
-    (read_as (nat_le t.start i) (byte_at t.haystack i) i (get_or t.haystack i 0) (le-leb t.start i above) (slice_get-get_or t.haystack i 0 there))
+    (read_as (nat_le t.start i) (byte_at t.haystack i) i (get_or t.haystack i 0) (le-leb t.start i above)
+        (slice_get-get_or t.haystack i 0 there))
     (All-get_or (λ byte. byte < 256) t.haystack i 0 there is.bytes)
 
 ends_read : (c : Bool) (o : Option ℕ) (j k : ℕ) → HasEnd (byte_ends any_range (if c then with_place j o else None)) k → (c ≡ true) × (j ≡ k)
@@ -121,9 +125,11 @@ reverse_rounds t is (suc n) (suc i) k e h low =
     let P : List ℕ → Type 0 = λ l. HasEnd l i in
     (i, subst P (sym (ends_reverse t i is (omega arith) h)) (inl refl), reverse_rounds t is n i k (omega arith) (omega arith) low)
 
-pub read_rounds : (back : Bool) (t : Text) (i k : ℕ) → IsText t → t.start ≤ i → i ≤ t.end → IsReadTo back t i k → (n : ℕ) × Rounds (Moves back t) n i k
+pub read_rounds : (back : Bool) (t : Text) (i k : ℕ) → IsText t → t.start ≤ i → i ≤ t.end → IsReadTo back t i k → (n : ℕ) ×
+    Rounds (Moves back t) n i k
 read_rounds false t i k is low high r = let a = r.0 in let b = r.1 in (k - i, forward_rounds t is (k - i) i k (omega arith) b)
-read_rounds true t i k is low high r = let a = r.0 in let b = r.1 in (i - k, reverse_rounds t is (i - k) i k (omega arith) high (omega arith))
+read_rounds true t i k is low high r = let a = r.0 in let b = r.1 in (i - k,
+    reverse_rounds t is (i - k) i k (omega arith) high (omega arith))
 
 -- what is left to read
 abbrev left : Bool → Text → ℕ → ℕ

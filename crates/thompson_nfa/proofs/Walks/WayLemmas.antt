@@ -1,10 +1,12 @@
 -- Where a state of each form leads from a place, and that it is no match.
-use Rattle.std.proofs.Common.{◌≡◌, ℕ, Bool, true, false, List, [], ◌∷◌, ◌++◌, map, Option, Some, None, if◌then◌else◌, ◌&&◌, ◌||◌, nat_le, ◌⊎◌, inl, inr, refl, sym, ap, ◌∙◌}
+use Rattle.std.proofs.Common.{◌≡◌, ℕ, Bool, true, false, List, [], ◌∷◌, ◌++◌, map, Option, Some, None, if◌then◌else◌, ◌&&◌, ◌||◌, nat_le}
+use Rattle.std.proofs.Common.{◌⊎◌, inl, inr, refl, sym, ap, ◌∙◌}
 use Rattle.look_core.specs.declared.look.Look.{Look}
 use Rattle.hir_core.specs.Means.{is_member}
 use Rattle.hir_core.specs.PreferredEnds.{Has as HasEnd}
 use Rattle.nfa_core.specs.Nfa.{Node, byte_range, sparse_node, look_node, union_node, capture_node, fail_node, match_node}
-use Rattle.nfa_core.specs.BuilderStates.{DraftNode, empty_draft, range_draft, sparse_draft, look_draft, capture_start_draft, capture_end_draft, union_draft, fail_draft}
+use Rattle.nfa_core.specs.BuilderStates.{DraftNode, empty_draft, range_draft, sparse_draft, look_draft, capture_start_draft}
+use Rattle.nfa_core.specs.BuilderStates.{capture_end_draft, union_draft, fail_draft}
 use Rattle.nfa_core.specs.Walks.{Has}
 use Rattle.nfa_core.specs.Places.{same_pair}
 use Rattle.nfa_core.specs.Ways.{Text, reads, is_passed, in_ranges, on_byte, on_nothing, on_read, place_behind, node_ways, match_of}
@@ -82,7 +84,8 @@ range_ways : (low high e i : ℕ) (o : Option (ℕ × ℕ)) →
 range_ways low high e i None = refl
 range_ways low high e i (Some (b, j)) = one_byte (nat_le low b && nat_le b high) j e
 
-first_range : (c d : Bool) (e : ℕ) (xs : List ℕ) → xs ≡ (if d then e ∷ [] else []) → (if c then e ∷ [] else xs) ≡ (if c || d then e ∷ [] else [])
+first_range : (c d : Bool) (e : ℕ) (xs : List ℕ) → xs ≡ (if d then e ∷ [] else []) →
+    (if c then e ∷ [] else xs) ≡ (if c || d then e ∷ [] else [])
 first_range true d e xs is = refl
 first_range false d e xs is = is
 
@@ -91,7 +94,8 @@ to_one e ranges = map (λ r. (r.0, r.1, e)) ranges
 
 ranges_to_one : (ranges : List (ℕ × ℕ)) (b e : ℕ) → in_ranges (to_one e ranges) b ≡ (if is_member ranges b then e ∷ [] else [])
 ranges_to_one [] b e = refl
-ranges_to_one (r ∷ rs) b e = first_range (nat_le r.0 b && nat_le b r.1) (is_member rs b) e (in_ranges (to_one e rs) b) (ranges_to_one rs b e)
+ranges_to_one (r ∷ rs) b e = first_range (nat_le r.0 b && nat_le b r.1) (is_member rs b) e (in_ranges (to_one e rs) b)
+    (ranges_to_one rs b e)
 
 byte_or_none : (c : Bool) (j e : ℕ) → map (λ q. (j, q)) (if c then e ∷ [] else []) ++ [] ≡ at e (if c then j ∷ [] else [])
 byte_or_none true j e = refl
@@ -121,7 +125,8 @@ match_has_no_ways back t T p m h =
     ap (λ (n : Node). node_ways back t n p.0) is.1 ∙ plain_node back t (match_node is.0) p.0 (λ b. refl)
 
 module _ (back : Bool) (t : Text) (T : Table) (s : ℕ) where
-  goes_as : (n : DraftNode) (to : ℕ → List (ℕ × ℕ)) → T s ≡ n → ((i : ℕ) → match_of (drafted n) i ≡ None) → ((i : ℕ) → node_ways back t (drafted n) i ≡ to i) → Goes back t T s to
+  goes_as : (n : DraftNode) (to : ℕ → List (ℕ × ℕ)) → T s ≡ n → ((i : ℕ) → match_of (drafted n) i ≡ None) →
+      ((i : ℕ) → node_ways back t (drafted n) i ≡ to i) → Goes back t T s to
   goes_as n to is none same = record {
     ways = λ i. ap (λ (p : DraftNode). node_ways back t (drafted p) i) is ∙ same i;
     is_open = λ i. ap (λ (p : DraftNode). match_of (drafted p) i) is ∙ none i;
@@ -132,11 +137,13 @@ module _ (back : Bool) (t : Text) (T : Table) (s : ℕ) where
 
   pub goes_capture_start : (pattern group e : ℕ) → T s ≡ capture_start_draft pattern group e → Goes back t T s (λ i. at e (i ∷ []))
   goes_capture_start pattern group e is =
-      goes_as (capture_start_draft pattern group e) (λ i. at e (i ∷ [])) is (λ i. refl) (λ i. plain_node back t (capture_node e pattern group 0) i (λ b. refl))
+      goes_as (capture_start_draft pattern group e) (λ i. at e (i ∷ [])) is (λ i. refl)
+          (λ i. plain_node back t (capture_node e pattern group 0) i (λ b. refl))
 
   pub goes_capture_end : (pattern group e : ℕ) → T s ≡ capture_end_draft pattern group e → Goes back t T s (λ i. at e (i ∷ []))
   goes_capture_end pattern group e is =
-      goes_as (capture_end_draft pattern group e) (λ i. at e (i ∷ [])) is (λ i. refl) (λ i. plain_node back t (capture_node e pattern group 0) i (λ b. refl))
+      goes_as (capture_end_draft pattern group e) (λ i. at e (i ∷ [])) is (λ i. refl)
+          (λ i. plain_node back t (capture_node e pattern group 0) i (λ b. refl))
 
   pub goes_fail : T s ≡ fail_draft → Goes back t T s (λ i. [])
   goes_fail is = goes_as fail_draft (λ i. []) is (λ i. refl) (λ i. plain_node back t fail_node i (λ b. refl))
@@ -145,17 +152,21 @@ module _ (back : Bool) (t : Text) (T : Table) (s : ℕ) where
   goes_union qs is = goes_as (union_draft qs) (each_at qs) is (λ i. refl) (λ i. plain_node back t (union_node qs) i (λ b. refl))
 
   pub goes_choice : (greedy : Bool) (a e : ℕ) → T s ≡ choice greedy a e → Goes back t T s (both_at greedy a e)
-  goes_choice true a e is = goes_as (choice true a e) (both_at true a e) is (λ i. refl) (λ i. plain_node back t (union_node (a ∷ e ∷ [])) i (λ b. refl))
-  goes_choice false a e is = goes_as (choice false a e) (both_at false a e) is (λ i. refl) (λ i. plain_node back t (union_node (e ∷ a ∷ [])) i (λ b. refl))
+  goes_choice true a e is = goes_as (choice true a e) (both_at true a e) is (λ i. refl)
+      (λ i. plain_node back t (union_node (a ∷ e ∷ [])) i (λ b. refl))
+  goes_choice false a e is = goes_as (choice false a e) (both_at false a e) is (λ i. refl)
+      (λ i. plain_node back t (union_node (e ∷ a ∷ [])) i (λ b. refl))
 
   pub goes_look : (l : Look) (e : ℕ) → T s ≡ look_draft l e → Goes back t T s (λ i. at e (if is_passed back t l i then i ∷ [] else []))
   goes_look l e is = goes_as (look_draft l e) (λ i. at e (if is_passed back t l i then i ∷ [] else [])) is (λ i. refl)
       (λ i. plain_node back t (look_node l e) i (λ b. refl) ∙ passed_or_not (is_passed back t l i) i e)
 
-  pub goes_range : (low high e : ℕ) → T s ≡ range_draft low high e → Goes back t T s (λ i. at e (byte_ends ((low, high) ∷ []) (reads back t i)))
+  pub goes_range : (low high e : ℕ) → T s ≡ range_draft low high e → Goes back t T s
+      (λ i. at e (byte_ends ((low, high) ∷ []) (reads back t i)))
   goes_range low high e is = goes_as (range_draft low high e) (λ i. at e (byte_ends ((low, high) ∷ []) (reads back t i))) is (λ i. refl)
       (λ i. range_ways low high e i (reads back t i))
 
-  pub goes_sparse : (ranges : List (ℕ × ℕ)) (e : ℕ) → T s ≡ sparse_draft (to_one e ranges) → Goes back t T s (λ i. at e (byte_ends ranges (reads back t i)))
+  pub goes_sparse : (ranges : List (ℕ × ℕ)) (e : ℕ) → T s ≡ sparse_draft (to_one e ranges) →
+      Goes back t T s (λ i. at e (byte_ends ranges (reads back t i)))
   goes_sparse ranges e is = goes_as (sparse_draft (to_one e ranges)) (λ i. at e (byte_ends ranges (reads back t i))) is (λ i. refl)
       (λ i. sparse_ways ranges e i (reads back t i))

@@ -1,5 +1,6 @@
 -- What stands in a builder when all patterns are compiled.
-use Rattle.std.proofs.Common.{◌≡◌, ◌≢◌, inl, inr, ℕ, ◌+◌, ◌*◌, ◌<◌, ◌≤◌, min, Bool, true, false, ◌&&◌, List, [], ◌∷◌, ◌++◌, length, None, sym, ap, ◌∙◌, subst, arith, ⊎_elim, ◌||◌, ◌⊎◌}
+use Rattle.std.proofs.Common.{◌≡◌, ◌≢◌, inl, inr, ℕ, ◌+◌, ◌*◌, ◌<◌, ◌≤◌, min, Bool, true, false, ◌&&◌, List, [], ◌∷◌, ◌++◌, length, None}
+use Rattle.std.proofs.Common.{sym, ap, ◌∙◌, subst, arith, ⊎_elim, ◌||◌, ◌⊎◌}
 use Rattle.std.specs.Prelude.{All}
 use Rattle.std.specs.List.{list_all}
 use Rattle.std.proofs.lemmas.Bool.{cases_lt, cases_eq}
@@ -40,11 +41,14 @@ each_part P drafts at k d l = subst P (get_or_default drafts k fail_draft d l) (
 leads_same : (table other : Table) (c : ℕ) (starts : List ℕ) → table c ≡ other c → LeadsToAll table c starts → LeadsToAll other c starts
 leads_same table other c starts same l = ⊎_elim
     (λ (one : starts ≡ c ∷ []). inl one)
-    (λ rest. ⊎_elim (λ (union : table c ≡ union_draft starts). inr (inl (sym same ∙ union))) (λ none. inr (inr (none.0, sym same ∙ none.1))) rest)
+    (λ rest. ⊎_elim (λ (union : table c ≡ union_draft starts). inr (inl (sym same ∙ union)))
+        (λ none. inr (inr (none.0, sym same ∙ none.1))) rest)
     l
 
-module _ (o : Options) (xs : List Tree) (b0 b1 b2 b3 : Assembly) (u c : ℕ) (begun : b0 ≡ begun_with o) (captures : (reverse_of o && is_any (captures_of o)) ≡ false) (anchored : Bool)
-    (is_anchored : anchored ≡ list_all (is_anchored_tree (reverse_of o)) xs) (start : HasStart anchored b0 b1 u) (below : u < length b1.drafts)
+module _ (o : Options) (xs : List Tree) (b0 b1 b2 b3 : Assembly) (u c : ℕ) (begun : b0 ≡ begun_with o)
+    (captures : (reverse_of o && is_any (captures_of o)) ≡ false) (anchored : Bool)
+    (is_anchored : anchored ≡ list_all (is_anchored_tree (reverse_of o)) xs) (start : HasStart anchored b0 b1 u)
+        (below : u < length b1.drafts)
     (patterns : LeadsToPatterns (captures_of o) b1 b2 c xs (room_for (is_shrunk o) xs + 1)) (led : Led b2 b3 u c) where
   abbrev starts : List ℕ
   starts = patterns.0
@@ -111,7 +115,8 @@ module _ (o : Options) (xs : List Tree) (b0 b1 b2 b3 : Assembly) (u c : ℕ) (be
   groups_same = ap (λ (z : Assembly). z.groups) led.settings
 
   groups_are : b3.groups ≡ noted_from (captures_of o) 0 xs []
-  groups_are = groups_same ∙ has.groups ∙ ap (λ (ss : List ℕ). noted_from (captures_of o) (length ss) xs b1.groups) starts_0 ∙ ap (noted_from (captures_of o) 0 xs) groups_0
+  groups_are = groups_same ∙ has.groups ∙ ap (λ (ss : List ℕ). noted_from (captures_of o) (length ss) xs b1.groups) starts_0
+      ∙ ap (noted_from (captures_of o) 0 xs) groups_0
 
   named_at : (q : ℕ) → q < length b3.drafts → All (λ r. r < length b3.drafts) (names_of (draft_at b3.drafts q))
   named_at q l =
@@ -119,14 +124,16 @@ module _ (o : Options) (xs : List Tree) (b0 b1 b2 b3 : Assembly) (u c : ℕ) (be
       let P : DraftNode → Type 0 = λ draft. All (λ r. r < length b3.drafts) (names_of draft) in
       ⊎_elim (λ (low : q < length b1.drafts). (before.tame q low).named)
       (λ (high : length b1.drafts ≤ q). subst P (sym (later_same q high))
-      (All-weaker (λ r. r < length b2.drafts) (λ r. r < length b3.drafts) (λ r k. omega arith) (names_of (draft_at b2.drafts q)) (has.named q high (omega arith) (λ e. omega arith))))
+      (All-weaker (λ r. r < length b2.drafts) (λ r. r < length b3.drafts) (λ r k. omega arith) (names_of (draft_at b2.drafts q))
+          (has.named q high (omega arith) (λ e. omega arith))))
       (cases_lt q (length b1.drafts))
 
   known_at : (q : ℕ) → q < length b3.drafts → is_known b3.groups (draft_at b3.drafts q) ≡ true
   known_at q l =
       let z = size in
       ⊎_elim (λ (low : q < length b1.drafts). (before.tame q low).known)
-      (λ (high : length b1.drafts ≤ q). ap (is_known b3.groups) (later_same q high) ∙ ap (λ gs. is_known gs (draft_at b2.drafts q)) groups_same
+      (λ (high : length b1.drafts ≤ q). ap (is_known b3.groups) (later_same q high)
+          ∙ ap (λ gs. is_known gs (draft_at b2.drafts q)) groups_same
       ∙ has.known q high (omega arith) (λ e. omega arith))
       (cases_lt q (length b1.drafts))
 
@@ -148,7 +155,8 @@ module _ (o : Options) (xs : List Tree) (b0 b1 b2 b3 : Assembly) (u c : ℕ) (be
         closed = ap (λ (b : Assembly). b.is_open) settings;
         anchored_there = omega arith;
         unanchored_there = omega arith;
-        starts_there = subst P (sym starts_are) (All-weaker (λ q. q < length b2.drafts) (λ q. q < length b3.drafts) (λ q m. omega arith) patterns.0 has.starts_there);
+        starts_there = subst P (sym starts_are) (All-weaker (λ q. q < length b2.drafts) (λ q. q < length b3.drafts)
+            (λ q m. omega arith) patterns.0 has.starts_there);
         named = each_part (λ draft. All (λ q. q < length b3.drafts) (names_of draft)) b3.drafts named_at;
         known = each_part (λ draft. is_known b3.groups draft ≡ true) b3.drafts known_at;
         no_loop = no_loop;
@@ -190,7 +198,8 @@ module _ (o : Options) (xs : List Tree) (b0 b1 b2 b3 : Assembly) (u c : ℕ) (be
       let z = size in
       let i = match_inside b3.drafts q p f in let j = match_inside b3.drafts r p g in
       let k = match_late q p f in let l = match_late r p g in
-      has.one_match q r p k (omega arith) (λ e. omega arith) l (omega arith) (λ e. omega arith) (sym (later_same q k) ∙ f) (sym (later_same r l) ∙ g)
+      has.one_match q r p k (omega arith) (λ e. omega arith) l (omega arith) (λ e. omega arith) (sym (later_same q k)
+          ∙ f) (sym (later_same r l) ∙ g)
 
   few : length b3.drafts ≤ list_room (is_shrunk o) xs
   few = let a = has.last (let b = before.few in omega arith) in omega (arith, size, has.states, before.few, a, list_fits (is_shrunk o) xs)
@@ -226,7 +235,8 @@ module _ (o : Options) (xs : List Tree) (b0 b1 b2 b3 : Assembly) (u c : ℕ) (be
         captures = captures;
         can_build = can_build;
         accept = accepted;
-        leads = subst P (sym starts_are) (leads_same (draft_at b2.drafts) (draft_at b3.drafts) c patterns.0 (sym (later_same c above)) patterns.2);
+        leads = subst P (sym starts_are) (leads_same (draft_at b2.drafts) (draft_at b3.drafts) c patterns.0
+            (sym (later_same c above)) patterns.2);
         before = before.before;
         low = length b1.drafts;
         below = below;
@@ -244,7 +254,8 @@ module _ (o : Options) (xs : List Tree) (b0 b1 b2 b3 : Assembly) (u c : ℕ) (be
   starts_apart same =
       let s = standing c above inside in
       let list = past_in_list b3.drafts s.0 c in
-      let stands : stands_for (draft_at b3.drafts (past_within b3.drafts s.0 c)) ≡ None = ap (λ (k : ℕ). stands_for (draft_at b3.drafts k)) (sym list) ∙ s.1 in
+      let stands : stands_for (draft_at b3.drafts (past_within b3.drafts s.0 c)) ≡ None =
+          ap (λ (k : ℕ). stands_for (draft_at b3.drafts k)) (sym list) ∙ s.1 in
       let found = past_found b3.drafts no_loop s.0 c stands in
       let high = s.2 in let low = below in
       absurd (omega arith)
@@ -255,8 +266,10 @@ start_below false b0 b1 u x = let is = x.is in let size = x.size in omega arith
 
 -- the same from what each call says
 module _ (o : Options) (xs : List Tree) (b0 b1 b2 b3 : Assembly) (u c : ℕ) (anchored reverse : Bool) (how : How) (begun : b0 ≡ begun_with o)
-    (captures : (reverse_of o && is_any (captures_of o)) ≡ false) (turned : reverse ≡ reverse_of o) (kept : how.which ≡ captures_of o) (shrunk : how.shrink ≡ is_shrunk o) (is_anchored : anchored ≡ list_all (is_anchored_tree reverse) xs)
-    (start : HasStart anchored b0 b1 u) (patterns : LeadsToPatterns how.which b1 b2 c xs (room_for how.shrink xs + 1)) (led : Led b2 b3 u c) where
+    (captures : (reverse_of o && is_any (captures_of o)) ≡ false) (turned : reverse ≡ reverse_of o) (kept : how.which ≡ captures_of o)
+        (shrunk : how.shrink ≡ is_shrunk o) (is_anchored : anchored ≡ list_all (is_anchored_tree reverse) xs)
+    (start : HasStart anchored b0 b1 u) (patterns : LeadsToPatterns how.which b1 b2 c xs (room_for how.shrink xs + 1))
+        (led : Led b2 b3 u c) where
   kept_patterns : LeadsToPatterns (captures_of o) b1 b2 c xs (room_for (is_shrunk o) xs + 1)
   kept_patterns =
       let P : WhichCaptures → Type 0 = λ w. LeadsToPatterns w b1 b2 c xs (room_for (is_shrunk o) xs + 1) in
@@ -264,7 +277,9 @@ module _ (o : Options) (xs : List Tree) (b0 b1 b2 b3 : Assembly) (u c : ℕ) (an
       subst P kept (subst Q shrunk patterns)
 
   pub compiled_assembled : IsAssembled o xs b3 c u
-  compiled_assembled = all_assembled o xs b0 b1 b2 b3 u c begun captures anchored (is_anchored ∙ ap (λ (r : Bool). list_all (is_anchored_tree r) xs) turned) start (start_below anchored b0 b1 u start) kept_patterns led
+  compiled_assembled = all_assembled o xs b0 b1 b2 b3 u c begun captures anchored (is_anchored
+      ∙ ap (λ (r : Bool). list_all (is_anchored_tree r) xs) turned) start (start_below anchored b0 b1 u start) kept_patterns led
 
   pub compiled_apart : past b3.drafts c ≢ u
-  compiled_apart = starts_apart o xs b0 b1 b2 b3 u c begun captures anchored (is_anchored ∙ ap (λ (r : Bool). list_all (is_anchored_tree r) xs) turned) start (start_below anchored b0 b1 u start) kept_patterns led
+  compiled_apart = starts_apart o xs b0 b1 b2 b3 u c begun captures anchored (is_anchored
+      ∙ ap (λ (r : Bool). list_all (is_anchored_tree r) xs) turned) start (start_below anchored b0 b1 u start) kept_patterns led

@@ -1,5 +1,6 @@
 -- One pattern: the fragment of its tree, and the state in which it matches.
-use Rattle.std.proofs.Common.{◌≡◌, ◌≢◌, ℕ, zero, suc, ◌+◌, ◌*◌, ◌<◌, ◌≤◌, Bool, true, false, List, [], ◌∷◌, ◌++◌, length, None, refl, sym, ap, ◌∙◌, subst, arith, ⊎_elim, length-append, ◌||◌}
+use Rattle.std.proofs.Common.{◌≡◌, ◌≢◌, ℕ, zero, suc, ◌+◌, ◌*◌, ◌<◌, ◌≤◌, Bool, true, false, List, [], ◌∷◌, ◌++◌, length, None, refl, sym}
+use Rattle.std.proofs.Common.{ap, ◌∙◌, subst, arith, ⊎_elim, length-append, ◌||◌}
 use Rattle.std.specs.Prelude.{All}
 use Rattle.std.proofs.lemmas.Bool.{cases_lt, cases_eq}
 use Rattle.std.proofs.lemmas.List.Elements.{All-weaker, All-nil}
@@ -39,7 +40,8 @@ same_number draft p r e f = cc
 capture_is : (x : Tree) → IsSame (capture 0 None x) x
 capture_is x = record { reading = λ reads. reads; ends = λ looks h i. refl; met = λ back l. refl }
 
-module _ (how : How) (b0 b1 b2 b3 b4 b5 : Assembly) (x : Tree) (s e m : ℕ) (closed : b0.is_open ≡ false) (begun : b1 ≡ record b0 { is_open = true })
+module _ (how : How) (b0 b1 b2 b3 b4 b5 : Assembly) (x : Tree) (s e m : ℕ) (closed : b0.is_open ≡ false)
+    (begun : b1 ≡ record b0 { is_open = true })
     (made : Makes b1 b2 s e (room how.shrink x + 2)) (does : Does b1 b2 s e (capture 0 None x))
     (noted_here : b2.groups ≡ noted how.which (length b1.starts) (capture 0 None x) b1.groups)
     (added : Added b2 b3 m (match_draft (length b2.starts)) b2.groups) (led : Led b3 b4 e m)
@@ -85,14 +87,17 @@ module _ (how : How) (b0 b1 b2 b3 b4 b5 : Assembly) (x : Tree) (s e m : ℕ) (cl
   match_not_end same = let is = end_is in let l = end_high in absurd (omega arith)
 
   at_match : draft_at b5.drafts m ≡ match_draft (length b0.starts)
-  at_match = ap (λ ps. draft_at ps m) parts_end ∙ led.same m match_not_end ∙ added.here ∙ ap (λ (ss : List ℕ). match_draft (length ss)) starts_2
+  at_match = ap (λ ps. draft_at ps m) parts_end ∙ led.same m match_not_end ∙ added.here
+      ∙ ap (λ (ss : List ℕ). match_draft (length ss)) starts_2
 
   old_same : (q : ℕ) → q < length b0.drafts → draft_at b5.drafts q ≡ draft_at b0.drafts q
   old_same q l =
       let z = size_0 in let g = grown in let en = end_low in
-      at_all q (omega arith) (λ same. omega arith) ∙ made.fragment.grows.same q (omega arith) ∙ ap (λ (z : Assembly). draft_at z.drafts q) begun
+      at_all q (omega arith) (λ same. omega arith) ∙ made.fragment.grows.same q (omega arith)
+          ∙ ap (λ (z : Assembly). draft_at z.drafts q) begun
 
-  begun_finished : (table : Table) → Holds (length b5.drafts) (length b0.drafts) b5.drafts table → Finished (length b1.drafts) b2.drafts e m table
+  begun_finished : (table : Table) → Holds (length b5.drafts) (length b0.drafts) b5.drafts table →
+      Finished (length b1.drafts) b2.drafts e m table
   begun_finished table hold =
       let z = size_0 in let n = size_5 in let en = end_low in let et = end_high in
       record {
@@ -105,26 +110,31 @@ module _ (how : How) (b0 b1 b2 b3 b4 b5 : Assembly) (x : Tree) (s e m : ℕ) (cl
       let z = size_0 in let n = size_5 in let is = end_is in let g = grown in
       hold m (omega arith) (omega arith) (λ same. omega arith) ∙ at_match
 
-  accepted : (table : Table) → Holds (length b5.drafts) (length b0.drafts) b5.drafts table → AcceptAll b0.reverse table (length b0.starts) (s ∷ []) (x ∷ [])
+  accepted : (table : Table) → Holds (length b5.drafts) (length b0.drafts) b5.drafts table →
+      AcceptAll b0.reverse table (length b0.starts) (s ∷ []) (x ∷ [])
   accepted table hold = (
     record {
       end = m;
       matches = match_in table hold;
-      denotes = turned_to (ap (λ (z : Assembly). z.reverse) begun) (denotes_same b1.reverse table s m (capture 0 None x) x (capture_is x) (does.denotes table m (begun_finished table hold)));
+      denotes = turned_to (ap (λ (z : Assembly). z.reverse) begun) (denotes_same b1.reverse table s m (capture 0 None x) x (capture_is x)
+          (does.denotes table m (begun_finished table hold)));
     },
     tt,
   )
 
-  fenced_holds : (table : Table) → Holds (length b5.drafts) (length b0.drafts) b5.drafts table → Holds (length b5.drafts) (length b0.drafts) b5.drafts (fenced (length b0.drafts) table)
+  fenced_holds : (table : Table) → Holds (length b5.drafts) (length b0.drafts) b5.drafts table →
+      Holds (length b5.drafts) (length b0.drafts) b5.drafts (fenced (length b0.drafts) table)
   fenced_holds table hold q low high ne = fenced_above (length b0.drafts) table q low ∙ hold q low high ne
 
-  standing : (table : Table) → Holds (length b5.drafts) (length b0.drafts) b5.drafts table → (q : ℕ) → length b0.drafts ≤ q → q < length b5.drafts → ComesToKept (length b0.drafts) table q
+  standing : (table : Table) → Holds (length b5.drafts) (length b0.drafts) b5.drafts table → (q : ℕ) → length b0.drafts ≤ q →
+      q < length b5.drafts → ComesToKept (length b0.drafts) table q
   standing table hold q low high =
       let z = size_0 in let n = size_5 in let is = end_is in let g = grown in
       let none : stands_for (table m) ≡ None = ap stands_for (match_in table hold) in
       ⊎_elim
       (λ (l : q < length b2.drafts). stands_from (length b0.drafts) table m q (omega arith) none
-      (made.comes_out (fenced (length b0.drafts) table) m (begun_finished (fenced (length b0.drafts) table) (fenced_holds table hold)) q (omega arith) l))
+      (made.comes_out (fenced (length b0.drafts) table) m (begun_finished (fenced (length b0.drafts) table) (fenced_holds table hold)) q
+          (omega arith) l))
       (λ (l : length b2.drafts ≤ q). let P : ℕ → Type 0 = λ k. ComesToKept (length b0.drafts) table k in
       let same : m ≡ q = omega arith in subst P same (0, none, omega arith))
       (cases_lt q (length b2.drafts))
@@ -171,12 +181,14 @@ module _ (how : How) (b0 b1 b2 b3 b4 b5 : Assembly) (x : Tree) (s e m : ℕ) (cl
       (cases_lt q (length b2.drafts))
 
   match_number : (q p : ℕ) → length b0.drafts ≤ q → q < length b5.drafts → draft_at b5.drafts q ≡ match_draft p → length b0.starts ≡ p
-  match_number q p low high found = same_number (draft_at b5.drafts m) (length b0.starts) p at_match (ap (draft_at b5.drafts) (sym (only_match q p low high found)) ∙ found)
+  match_number q p low high found = same_number (draft_at b5.drafts m) (length b0.starts) p at_match
+      (ap (draft_at b5.drafts) (sym (only_match q p low high found)) ∙ found)
 
   settings_end : b5 ≡ record b0 { drafts = b5.drafts; groups = b5.groups; starts = b5.starts }
   settings_end =
       let F : Assembly → Assembly = λ z. record z { drafts = b5.drafts; groups = b5.groups; starts = b5.starts; is_open = false } in
-      ap (λ (v : Bool). record b5 { is_open = v }) (ap (λ (z : Assembly). z.is_open) done) ∙ ap F done ∙ ap F led.settings ∙ ap F added.grows.settings
+      ap (λ (v : Bool). record b5 { is_open = v }) (ap (λ (z : Assembly). z.is_open) done) ∙ ap F done ∙ ap F led.settings
+          ∙ ap F added.grows.settings
       ∙ ap F made.fragment.grows.settings ∙ ap F begun
       ∙ ap (λ (v : Bool). record b0 { drafts = b5.drafts; groups = b5.groups; starts = b5.starts; is_open = v }) (sym closed)
 
@@ -202,7 +214,8 @@ module _ (how : How) (b0 b1 b2 b3 b4 b5 : Assembly) (x : Tree) (s e m : ℕ) (cl
         starts_are = starts_end;
         as_many = refl;
         groups = groups_end ∙ noted_here ∙ ap (λ (z : Assembly). noted how.which (length z.starts) (capture 0 None x) z.groups) begun;
-        known_more = λ draft k. ap (λ gs. is_known gs draft) groups_end ∙ made.fragment.grows.known draft (ap (λ (z : Assembly). is_known z.groups draft) begun ∙ k);
+        known_more = λ draft k. ap (λ gs. is_known gs draft) groups_end
+            ∙ made.fragment.grows.known draft (ap (λ (z : Assembly). is_known z.groups draft) begun ∙ k);
         longer = omega arith;
         same = λ q l ne. old_same q l;
         starts_new = one_above (length b0.drafts) s (omega arith);

@@ -1,11 +1,13 @@
 -- What refuses the patterns, or to build, refuses the trees under their options.
-use Rattle.std.proofs.Common.{◌≡◌, ◌⊎◌, inl, inr, ℕ, ◌+◌, ◌*◌, ◌<◌, ◌≤◌, Bool, true, false, ◌&&◌, List, [], length, nat_lt, if◌then◌else◌, Option, Some, None, refl, sym, ap, ◌∙◌, subst, arith, ⊎_elim}
+use Rattle.std.proofs.Common.{◌≡◌, ◌⊎◌, inl, inr, ℕ, ◌+◌, ◌*◌, ◌<◌, ◌≤◌, Bool, true, false, ◌&&◌, List, [], length, nat_lt, if◌then◌else◌}
+use Rattle.std.proofs.Common.{Option, Some, None, refl, sym, ap, ◌∙◌, subst, arith, ⊎_elim}
 use Rattle.std.proofs.lemmas.Bool.{ltb-true, ltb-false}
 use Rattle.search_core.specs.Index.{greatest_index}
 use Rattle.search_types.specs.GroupFaults.{GroupFault, group_fault}
 use Rattle.hir_core.specs.Tree.{Tree}
 use Rattle.nfa_core.specs.BuilderStates.{Assembly}
-use Rattle.nfa_core.specs.BuilderFaults.{Tells, BuildFault, groups_fault, build_fault, captures_refused, too_many_patterns, too_many_states, exceeded_size_limit, unsupported_captures}
+use Rattle.nfa_core.specs.BuilderFaults.{Tells, BuildFault, groups_fault, build_fault, captures_refused, too_many_patterns, too_many_states}
+use Rattle.nfa_core.specs.BuilderFaults.{exceeded_size_limit, unsupported_captures}
 use Rattle.nfa_core.specs.declared.build_error.BuildError.{BuildError}
 use Rattle.nfa_core.specs.declared.build_error.BuildError.TheVariants as error
 use Rattle.thompson_nfa.specs.Compiled.{sum_of_bytes}
@@ -27,19 +29,22 @@ none_kept false kept e = inl refl
 none_kept true kept e = inr (none_is_kept kept e)
 
 -- a group is kept, or those of trees have a fault: so the automaton reads forward
-forward_group : (o : Options) (index : ℕ) (x : Tree) → (reverse_of o && is_any (captures_of o)) ≡ false → HasGroup (captures_of o) index x → reverse_of o ≡ false
+forward_group : (o : Options) (index : ℕ) (x : Tree) → (reverse_of o && is_any (captures_of o)) ≡ false → HasGroup (captures_of o) index x →
+    reverse_of o ≡ false
 forward_group o index x captures h = ⊎_elim (λ (up : reverse_of o ≡ false). up)
     (λ (none : captures_of o ≡ which.None). absurd (no_group_kept (captures_of o) index x none h))
     (none_kept (reverse_of o) (captures_of o) captures)
 
-forward_fault : (o : Options) (xs : List Tree) (fault : GroupFault) → (reverse_of o && is_any (captures_of o)) ≡ false → group_fault (noted_from (captures_of o) 0 xs []) ≡ Some fault → reverse_of o ≡ false
+forward_fault : (o : Options) (xs : List Tree) (fault : GroupFault) → (reverse_of o && is_any (captures_of o)) ≡ false →
+    group_fault (noted_from (captures_of o) 0 xs []) ≡ Some fault → reverse_of o ≡ false
 forward_fault o xs fault captures e = ⊎_elim (λ (up : reverse_of o ≡ false). up)
     (λ (none : captures_of o ≡ which.None). absurd (no_group_fault (captures_of o) xs fault none e))
     (none_kept (reverse_of o) (captures_of o) captures)
 
 -- ---- patterns are refused
 
-too_many : (b : Bool) (o : Options) (xs : List Tree) (limit : ℕ) → b ≡ nat_lt limit (24 * (greatest_index + 1)) → limit_of o ≡ Some limit → greatest_index + 1 < list_room (is_shrunk o) xs →
+too_many : (b : Bool) (o : Options) (xs : List Tree) (limit : ℕ) → b ≡ nat_lt limit (24 * (greatest_index + 1)) → limit_of o ≡ Some limit →
+    greatest_index + 1 < list_room (is_shrunk o) xs →
     RefusesTrees o xs (if b then error.ExceededSizeLimit limit else error.TooManyStates)
 too_many true o xs limit test is many = let less = ltb-true limit (24 * (greatest_index + 1)) (sym test) in (is, omega arith)
 too_many false o xs limit test is many =
@@ -47,7 +52,8 @@ too_many false o xs limit test is many =
     let fits : 24 * (greatest_index + 1) ≤ limit = ltb-false limit (24 * (greatest_index + 1)) (sym test) in
     (many, subst P (sym is) fits)
 
-too_many_told : (o : Options) (xs : List Tree) (limit : Option ℕ) → limit_of o ≡ limit → greatest_index + 1 < list_room (is_shrunk o) xs → RefusesTrees o xs (told_by limit error.TooManyStates)
+too_many_told : (o : Options) (xs : List Tree) (limit : Option ℕ) → limit_of o ≡ limit → greatest_index + 1 < list_room (is_shrunk o) xs →
+    RefusesTrees o xs (told_by limit error.TooManyStates)
 too_many_told o xs None is many = let P : Option ℕ → Type 0 = FitsStates in (many, subst P (sym is) tt)
 too_many_told o xs (Some limit) is many = too_many (nat_lt limit (24 * (greatest_index + 1))) o xs limit refl is many
 
@@ -61,10 +67,12 @@ other_told (Some limit) (error.Captures err) other = refl
 other_told (Some limit) error.NoMemory other = refl
 
 -- the error is told as it is
-as_it_is : (o : Options) (xs : List Tree) (e : BuildError) → (e ≡ error.TooManyStates → ⊥) → RefusesTrees o xs e → RefusesTrees o xs (told_by (limit_of o) e)
+as_it_is : (o : Options) (xs : List Tree) (e : BuildError) → (e ≡ error.TooManyStates → ⊥) → RefusesTrees o xs e →
+    RefusesTrees o xs (told_by (limit_of o) e)
 as_it_is o xs e other r = let P : BuildError → Type 0 = λ one. RefusesTrees o xs one in subst P (sym (other_told (limit_of o) e other)) r
 
-pub trees_refused : (o : Options) (xs : List Tree) (b : Assembly) (e : BuildError) → b ≡ begun_with o → (reverse_of o && is_any (captures_of o)) ≡ false →
+pub trees_refused : (o : Options) (xs : List Tree) (b : Assembly) (e : BuildError) → b ≡ begun_with o →
+    (reverse_of o && is_any (captures_of o)) ≡ false →
     RefusesPatterns (captures_of o) b (room_for (is_shrunk o) xs + 4) xs e → RefusesTrees o xs (told_by (limit_of o) e)
 trees_refused o xs b error.TooManyPatterns begun captures r = absurd r
 trees_refused o xs b error.TooManyStates begun captures r =
@@ -96,18 +104,22 @@ same_fault : (found : Option GroupFault) (fault : GroupFault) → groups_fault f
 same_fault None fault e = absurd (cc)
 same_fault (Some one) fault e = let same : one ≡ fault = cc in ap Some same
 
-fault_refuses : (o : Options) (xs : List Tree) (b : Assembly) (e : BuildError) → b.groups ≡ noted_from (captures_of o) 0 xs [] → (reverse_of o && is_any (captures_of o)) ≡ false →
+fault_refuses : (o : Options) (xs : List Tree) (b : Assembly) (e : BuildError) → b.groups ≡ noted_from (captures_of o) 0 xs [] →
+    (reverse_of o && is_any (captures_of o)) ≡ false →
     Tells e (build_fault b) → RefusesTrees o xs e
 fault_refuses o xs b error.TooManyPatterns groups captures told = absurd (of_groups (group_fault b.groups) too_many_patterns told)
 fault_refuses o xs b error.TooManyStates groups captures told = absurd (of_groups (group_fault b.groups) too_many_states told)
-fault_refuses o xs b (error.ExceededSizeLimit limit) groups captures told = absurd (of_groups (group_fault b.groups) (exceeded_size_limit limit) told)
+fault_refuses o xs b (error.ExceededSizeLimit limit) groups captures told =
+    absurd (of_groups (group_fault b.groups) (exceeded_size_limit limit) told)
 fault_refuses o xs b error.UnsupportedCaptures groups captures told = absurd (of_groups (group_fault b.groups) unsupported_captures told)
 fault_refuses o xs b (error.Captures err) groups captures told =
-    let is : group_fault (noted_from (captures_of o) 0 xs []) ≡ Some told.0 = ap group_fault (sym groups) ∙ same_fault (group_fault b.groups) told.0 told.1 in
+    let is : group_fault (noted_from (captures_of o) 0 xs []) ≡ Some told.0 =
+        ap group_fault (sym groups) ∙ same_fault (group_fault b.groups) told.0 told.1 in
     (forward_fault o xs told.0 captures is, inl (told.0, is, told.2))
 fault_refuses o xs b error.NoMemory groups captures told = tt
 
-pub build_refused : (o : Options) (xs : List Tree) (b : Assembly) (e : BuildError) → b.groups ≡ noted_from (captures_of o) 0 xs [] → (reverse_of o && is_any (captures_of o)) ≡ false →
+pub build_refused : (o : Options) (xs : List Tree) (b : Assembly) (e : BuildError) → b.groups ≡ noted_from (captures_of o) 0 xs [] →
+    (reverse_of o && is_any (captures_of o)) ≡ false →
     (e ≡ error.NoMemory) ⊎ Tells e (build_fault b) → RefusesTrees o xs e
 build_refused o xs b e groups captures told = ⊎_elim
     (λ (none : e ≡ error.NoMemory). let P : BuildError → Type 0 = λ one. RefusesTrees o xs one in subst P (sym none) tt)
@@ -115,7 +127,8 @@ build_refused o xs b e groups captures told = ⊎_elim
     told
 
 -- the same of the error that is told
-pub told_refused : (o : Options) (xs : List Tree) (b : Assembly) (limit : Option ℕ) (e told : BuildError) → b ≡ begun_with o → (reverse_of o && is_any (captures_of o)) ≡ false → limit ≡ limit_of o →
+pub told_refused : (o : Options) (xs : List Tree) (b : Assembly) (limit : Option ℕ) (e told : BuildError) → b ≡ begun_with o →
+    (reverse_of o && is_any (captures_of o)) ≡ false → limit ≡ limit_of o →
     told ≡ told_by limit e → RefusesPatterns (captures_of o) b (room_for (is_shrunk o) xs + 4) xs e → RefusesTrees o xs told
 told_refused o xs b limit e told begun captures same is r =
     let P : BuildError → Type 0 = λ one. RefusesTrees o xs one in

@@ -20,14 +20,18 @@ fenced_below low table q l = cond-true (nat_lt q low) _ _ (lt-ltb q low l)
 stays_below : (low : ℕ) (table : Table) (n q : ℕ) → q < low → past_in (fenced low table) n q ≡ q
 stays_below low table zero q l = refl
 stays_below low table (suc n) q l =
-    ap (λ (draft : DraftNode). going_on q (past_in (fenced low table) n) (stands_for draft)) (fenced_below low table q l) ∙ stays_below low table n q l
+    ap (λ (draft : DraftNode). going_on q (past_in (fenced low table) n) (stands_for draft)) (fenced_below low table q l)
+        ∙ stays_below low table n q l
 
-on_alike : (low : ℕ) (table : Table) (n q : ℕ) (next : Option ℕ) → ((r : ℕ) → low ≤ past_in (fenced low table) n r → past_in table n r ≡ past_in (fenced low table) n r) →
-    low ≤ going_on q (past_in (fenced low table) n) next → going_on q (past_in table n) next ≡ going_on q (past_in (fenced low table) n) next
+on_alike : (low : ℕ) (table : Table) (n q : ℕ) (next : Option ℕ) → ((r : ℕ) → low ≤ past_in (fenced low table) n r →
+    past_in table n r ≡ past_in (fenced low table) n r) →
+    low ≤ going_on q (past_in (fenced low table) n) next → going_on q (past_in table n) next ≡ going_on q
+        (past_in (fenced low table) n) next
 on_alike low table n q None alike l = refl
 on_alike low table n q (Some r) alike l = alike r l
 
-walks_alike : (low : ℕ) (table : Table) (n q : ℕ) → low ≤ past_in (fenced low table) n q → past_in table n q ≡ past_in (fenced low table) n q
+walks_alike : (low : ℕ) (table : Table) (n q : ℕ) → low ≤ past_in (fenced low table) n q →
+    past_in table n q ≡ past_in (fenced low table) n q
 walks_alike low table zero q l = refl
 walks_alike low table (suc n) q l = ⊎_elim
     (λ (below : q < low). absurd (omega (arith, stays_below low table (suc n) q below)))
@@ -37,19 +41,22 @@ walks_alike low table (suc n) q l = ⊎_elim
     on_alike low table n q (stands_for (table q)) (walks_alike low table n) (omega (arith, l, same)) ∙ sym same)
     (cases_lt q low)
 
-stands_at : (low : ℕ) (table : Table) (n q : ℕ) → low ≤ past_in (fenced low table) n q → stands_for (table (past_in (fenced low table) n q)) ≡ None → ComesToKept low table q
+stands_at : (low : ℕ) (table : Table) (n q : ℕ) → low ≤ past_in (fenced low table) n q →
+    stands_for (table (past_in (fenced low table) n q)) ≡ None → ComesToKept low table q
 stands_at low table n q above none =
     let same = walks_alike low table n q above in
     (n, ap (λ (k : ℕ). stands_for (table k)) same ∙ none, omega (arith, same, above))
 
 not_below : (low : ℕ) (table : Table) (q : ℕ) → stands_for (fenced low table q) ≡ None → low ≤ q
 not_below low table q none = ⊎_elim
-    (λ (below : q < low). let some : stands_for (fenced low table q) ≡ Some q = ap stands_for (fenced_below low table q below) in absurd (cc))
+    (λ (below : q < low). let some : stands_for (fenced low table q) ≡ Some q = ap stands_for (fenced_below low table q below) in
+        absurd (cc))
     (λ (above : low ≤ q). above)
     (cases_lt q low)
 
 -- the walk of the fenced table ends at a state that stands for itself, or at one that does so in the table
-pub stands_from : (low : ℕ) (table : Table) (m q : ℕ) → low ≤ m → stands_for (table m) ≡ None → ComesOut (fenced low table) m q → ComesToKept low table q
+pub stands_from : (low : ℕ) (table : Table) (m q : ℕ) → low ≤ m → stands_for (table m) ≡ None → ComesOut (fenced low table) m q →
+    ComesToKept low table q
 stands_from low table m q above none o =
     let end = past_in (fenced low table) o.0 q in
     ⊎_elim

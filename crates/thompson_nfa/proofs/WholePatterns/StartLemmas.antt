@@ -1,5 +1,6 @@
 -- What stands before the patterns, once it is led on to them.
-use Rattle.std.proofs.Common.{◌≡◌, ◌≢◌, inl, inr, ℕ, zero, suc, ◌+◌, ◌*◌, ◌<◌, ◌≤◌, Bool, true, false, List, [], ◌∷◌, length, get_or, Option, Some, None, refl, sym, ap, ◌∙◌, subst, arith}
+use Rattle.std.proofs.Common.{◌≡◌, ◌≢◌, inl, inr, ℕ, zero, suc, ◌+◌, ◌*◌, ◌<◌, ◌≤◌, Bool, true, false, List, [], ◌∷◌, length, get_or}
+use Rattle.std.proofs.Common.{Option, Some, None, refl, sym, ap, ◌∙◌, subst, arith}
 use Rattle.std.specs.Prelude.{All}
 use Rattle.std.specs.List.{list_all}
 use Rattle.std.proofs.lemmas.List.Sums.{AllPass-from_list_all, list_all-from_AllPass}
@@ -24,10 +25,12 @@ Out table q = (n : ℕ) × (stands_for (table (past_in table n q)) ≡ None)
 
 out_one : (table : Table) (q r : ℕ) → table q ≡ empty_draft r → Out table r → Out table q
 out_one table q r e o =
-    let on : past_in table (suc o.0) q ≡ past_in table o.0 r = ap (λ (draft : DraftNode). going_on q (past_in table o.0) (stands_for draft)) e in
+    let on : past_in table (suc o.0) q ≡ past_in table o.0 r = ap (λ (draft : DraftNode). going_on q (past_in table o.0) (stands_for draft))
+        e in
     (suc o.0, ap (λ (k : ℕ). stands_for (table k)) on ∙ o.1)
 
-on_in_drafts : (drafts : List DraftNode) (n q : ℕ) (next : Option ℕ) → ((r : ℕ) → past_in (draft_at drafts) n r ≡ past_within drafts n r) → going_on q (past_in (draft_at drafts) n) next ≡ going_on q (past_within drafts n) next
+on_in_drafts : (drafts : List DraftNode) (n q : ℕ) (next : Option ℕ) → ((r : ℕ) → past_in (draft_at drafts) n r ≡ past_within drafts n r) →
+    going_on q (past_in (draft_at drafts) n) next ≡ going_on q (past_within drafts n) next
 on_in_drafts drafts n q None same = refl
 on_in_drafts drafts n q (Some r) same = same r
 
@@ -42,7 +45,8 @@ found_on drafts n q None loop e later none = past_itself drafts (length drafts) 
 found_on drafts n q (Some r) loop e later none = past_next drafts loop q r e ∙ later r none
 
 -- a state that stands for itself and is met on the way is the one past all
-pub past_found : (drafts : List DraftNode) → HasNoLoop drafts → (n q : ℕ) → stands_for (draft_at drafts (past_within drafts n q)) ≡ None → past drafts q ≡ past_within drafts n q
+pub past_found : (drafts : List DraftNode) → HasNoLoop drafts → (n q : ℕ) → stands_for (draft_at drafts (past_within drafts n q)) ≡ None →
+    past drafts q ≡ past_within drafts n q
 past_found drafts loop zero q none = past_itself drafts (length drafts) q none
 past_found drafts loop (suc n) q none = found_on drafts n q (stands_for (draft_at drafts q)) loop refl (past_found drafts loop n) none
 
@@ -57,9 +61,12 @@ pub record IsBefore (reverse : Bool) (xs : List Tree) (b0 b1 b3 : Assembly) (u c
   pub stands : (q : ℕ) → q < length b1.drafts → Out (draft_at b3.drafts) q
   pub before : ComesBefore reverse xs (draft_at b3.drafts) u c
 
-module _ (reverse : Bool) (xs : List Tree) (b0 b1 b3 : Assembly) (u c : ℕ) (none : length b0.drafts ≡ 0) (no_bytes : sum_of_bytes b0 ≡ 0) (longer : length b1.drafts ≤ length b3.drafts) (there : c < length b3.drafts)
-    (same : (q : ℕ) → q < length b1.drafts → q ≢ u → draft_at b3.drafts q ≡ draft_at b1.drafts q) (led : draft_at b3.drafts u ≡ patched c (draft_at b1.drafts u)) (out : Out (draft_at b3.drafts) c) where
-  pub before_empty : list_all (is_anchored_tree reverse) xs ≡ true → Added b0 b1 u (empty_draft 0) b0.groups → IsBefore reverse xs b0 b1 b3 u c
+module _ (reverse : Bool) (xs : List Tree) (b0 b1 b3 : Assembly) (u c : ℕ) (none : length b0.drafts ≡ 0) (no_bytes : sum_of_bytes b0 ≡ 0)
+    (longer : length b1.drafts ≤ length b3.drafts) (there : c < length b3.drafts)
+    (same : (q : ℕ) → q < length b1.drafts → q ≢ u → draft_at b3.drafts q ≡ draft_at b1.drafts q)
+        (led : draft_at b3.drafts u ≡ patched c (draft_at b1.drafts u)) (out : Out (draft_at b3.drafts) c) where
+  pub before_empty : list_all (is_anchored_tree reverse) xs ≡ true → Added b0 b1 u (empty_draft 0) b0.groups →
+      IsBefore reverse xs b0 b1 b3 u c
   before_empty anchored x =
       let is = x.is in let size = x.size in let bytes = x.bytes in
       let here : draft_at b3.drafts u ≡ empty_draft c = led ∙ ap (patched c) x.here in
@@ -108,13 +115,15 @@ module _ (reverse : Bool) (xs : List Tree) (b0 b1 b3 : Assembly) (u c : ℕ) (no
             (subst R (sym back) (record { named = one_below (length b3.drafts) u (omega arith); known = refl; not_barred = refl }))
             (subst R (sym any) (record { named = one_below (length b3.drafts) (u + 1) (omega arith); known = refl; not_barred = refl }))
             (omega arith) q (omega arith);
-        stands = λ q l. three Q first_out (out_one (draft_at b3.drafts) (u + 1) u back first_out) (0, ap stands_for any) (omega arith) q (omega arith);
+        stands = λ q l. three Q first_out (out_one (draft_at b3.drafts) (u + 1) u back first_out) (0,
+            ap stands_for any) (omega arith) q (omega arith);
         before = inr (
           λ all. let no = list_all-from_AllPass (is_anchored_tree reverse) xs all in absurd (cc),
           record { byte = u + 2; back = u + 1; loop = here; any = any; again = back },
         );
       }
 
-  pub before_all : (anchored : Bool) → anchored ≡ list_all (is_anchored_tree reverse) xs → HasStart anchored b0 b1 u → IsBefore reverse xs b0 b1 b3 u c
+  pub before_all : (anchored : Bool) → anchored ≡ list_all (is_anchored_tree reverse) xs → HasStart anchored b0 b1 u →
+      IsBefore reverse xs b0 b1 b3 u c
   before_all true e x = before_empty (sym e) x
   before_all false e x = before_prefix (sym e) x

@@ -1,9 +1,12 @@
 -- The union that leads to further patterns, and what refuses them.
-use Rattle.std.proofs.Common.{◌≡◌, ℕ, zero, suc, ◌+◌, ◌*◌, ◌<◌, ◌≤◌, Bool, false, List, [], ◌∷◌, ◌++◌, length, get_or, take, slice_get, Some, refl, sym, ap, ◌∙◌, subst, arith, length-append}
+use Rattle.std.proofs.Common.{◌≡◌, ℕ, zero, suc, ◌+◌, ◌*◌, ◌<◌, ◌≤◌, Bool, false, List, [], ◌∷◌, ◌++◌, length, get_or, take, slice_get}
+use Rattle.std.proofs.Common.{Some, refl, sym, ap, ◌∙◌, subst, arith, length-append}
 use Rattle.std.proofs.lemmas.List.{append_assoc, append-nil, take_more, length-take-le}
 use Rattle.std.proofs.lemmas.Option.{slice_get-get_or}
 use Rattle.hir_core.specs.Tree.{Tree}
-use Rattle.nfa_core.specs.BuilderStates.{DraftNode, Assembly, empty_draft, range_draft, sparse_draft, look_draft, capture_start_draft, capture_end_draft, union_draft, union_reverse_draft, fail_draft, match_draft, draft_at, patched, is_sparse}
+use Rattle.nfa_core.specs.BuilderStates.{DraftNode, Assembly, empty_draft, range_draft, sparse_draft, look_draft, capture_start_draft}
+use Rattle.nfa_core.specs.BuilderStates.{capture_end_draft, union_draft, union_reverse_draft, fail_draft, match_draft, draft_at, patched}
+use Rattle.nfa_core.specs.BuilderStates.{is_sparse}
 use Rattle.nfa_core.specs.declared.build_error.BuildError.{BuildError}
 use Rattle.nfa_core.specs.declared.build_error.BuildError.TheVariants as error
 use Rattle.thompson_nfa.specs.Added.{Led}
@@ -19,21 +22,26 @@ use Rattle.thompson_nfa.proofs.Classes.ScalarLemmas.{kind_patched}
 -- ---- refusals
 
 -- what refuses a step refuses the patterns
-pub step_refuses : (which : WhichCaptures) (a b : Assembly) (n bytes whole : ℕ) (xs : List Tree) (e : BuildError) → b.size_limit ≡ a.size_limit → length b.drafts + n ≤ length a.drafts + whole →
+pub step_refuses : (which : WhichCaptures) (a b : Assembly) (n bytes whole : ℕ) (xs : List Tree) (e : BuildError) →
+    b.size_limit ≡ a.size_limit → length b.drafts + n ≤ length a.drafts + whole →
     sum_of_bytes b + bytes ≤ sum_of_bytes a + 4096 * whole → RefusesStep b n bytes e → RefusesPatterns which a whole xs e
 step_refuses which a b n bytes whole xs error.TooManyPatterns size states room r = r
 step_refuses which a b n bytes whole xs error.TooManyStates size states room r = omega arith
-step_refuses which a b n bytes whole xs (error.ExceededSizeLimit limit) size states room r = let x = r.1 in (sym size ∙ r.0, omega arith, r.2)
+step_refuses which a b n bytes whole xs (error.ExceededSizeLimit limit) size states room r = let x = r.1 in
+    (sym size ∙ r.0, omega arith, r.2)
 step_refuses which a b n bytes whole xs error.UnsupportedCaptures size states room r = r
 step_refuses which a b n bytes whole xs (error.Captures err) size states room r = absurd r
 step_refuses which a b n bytes whole xs error.NoMemory size states room r = r
 
 -- so does what refuses the patterns from number k on
-pub patterns_refuse : (which : WhichCaptures) (a b : Assembly) (k n whole : ℕ) (xs ys : List Tree) (e : BuildError) → b.size_limit ≡ a.size_limit → length b.starts ≡ length a.starts + k →
+pub patterns_refuse : (which : WhichCaptures) (a b : Assembly) (k n whole : ℕ) (xs ys : List Tree) (e : BuildError) →
+    b.size_limit ≡ a.size_limit → length b.starts ≡ length a.starts + k →
     length b.drafts + n ≤ length a.drafts + whole → sum_of_bytes b + 4096 * n ≤ sum_of_bytes a + 4096 * whole →
-    ((i : ℕ) (x : Tree) → slice_get xs i ≡ Some x → slice_get ys (k + i) ≡ Some x) → RefusesPatterns which b n xs e → RefusesPatterns which a whole ys e
+    ((i : ℕ) (x : Tree) → slice_get xs i ≡ Some x → slice_get ys (k + i) ≡ Some x) → RefusesPatterns which b n xs e →
+        RefusesPatterns which a whole ys e
 patterns_refuse which a b k n whole xs ys error.TooManyPatterns size starts states room inside r = r
-patterns_refuse which a b k n whole xs ys error.TooManyStates size starts states room inside r = step_refuses which a b n (4096 * n) whole ys error.TooManyStates size states room r
+patterns_refuse which a b k n whole xs ys error.TooManyStates size starts states room inside r =
+    step_refuses which a b n (4096 * n) whole ys error.TooManyStates size states room r
 patterns_refuse which a b k n whole xs ys (error.ExceededSizeLimit limit) size starts states room inside r =
     step_refuses which a b n (4096 * n) whole ys (error.ExceededSizeLimit limit) size states room r
 patterns_refuse which a b k n whole xs ys error.UnsupportedCaptures size starts states room inside r = r
@@ -43,23 +51,30 @@ patterns_refuse which a b k n whole xs ys (error.Captures err) size starts state
     (k + r.0, r.1, r.2, inside r.0 r.2 r.3, r.4, subst P number r.5)
 patterns_refuse which a b k n whole xs ys error.NoMemory size starts states room inside r = r
 
-size_after : {which : WhichCaptures} {hole : ℕ} {a b : Assembly} {ss : List ℕ} {xs : List Tree} {n spare : ℕ} → HasPatterns which hole a b ss xs n spare → b.size_limit ≡ a.size_limit
+size_after : {which : WhichCaptures} {hole : ℕ} {a b : Assembly} {ss : List ℕ} {xs : List Tree} {n spare : ℕ} →
+    HasPatterns which hole a b ss xs n spare → b.size_limit ≡ a.size_limit
 size_after h = ap (λ (z : Assembly). z.size_limit) h.settings
 
-starts_after : {which : WhichCaptures} {hole : ℕ} {a b : Assembly} {ss : List ℕ} {xs : List Tree} {n spare : ℕ} → HasPatterns which hole a b ss xs n spare → length b.starts ≡ length a.starts + length xs
+starts_after : {which : WhichCaptures} {hole : ℕ} {a b : Assembly} {ss : List ℕ} {xs : List Tree} {n spare : ℕ} →
+    HasPatterns which hole a b ss xs n spare → length b.starts ≡ length a.starts + length xs
 starts_after {which} {hole} {a} {b} {ss} {xs} h = omega (arith, ap length h.starts_are, length-append a.starts ss, h.as_many)
 
 -- patterns behind others are refused
-pub later_refuse : {which : WhichCaptures} {hole : ℕ} {a b : Assembly} {ss : List ℕ} {xs : List Tree} {n spare : ℕ} (more whole : ℕ) (ys zs : List Tree) (e : BuildError) → HasPatterns which hole a b ss xs n spare →
-    n + more ≤ whole → ((i : ℕ) (x : Tree) → slice_get ys i ≡ Some x → slice_get zs (length xs + i) ≡ Some x) → RefusesPatterns which b more ys e → RefusesPatterns which a whole zs e
+pub later_refuse : {which : WhichCaptures} {hole : ℕ} {a b : Assembly} {ss : List ℕ} {xs : List Tree} {n spare : ℕ} (more whole : ℕ)
+    (ys zs : List Tree) (e : BuildError) → HasPatterns which hole a b ss xs n spare →
+    n + more ≤ whole → ((i : ℕ) (x : Tree) → slice_get ys i ≡ Some x → slice_get zs (length xs + i) ≡ Some x) →
+        RefusesPatterns which b more ys e → RefusesPatterns which a whole zs e
 later_refuse {which} {hole} {a} {b} {ss} {xs} {n} {spare} more whole ys zs e h le inside r =
-    patterns_refuse which a b (length xs) more whole ys zs e (size_after h) (starts_after h) (omega (arith, h.states, le)) (omega (arith, h.states, h.bytes, le)) inside r
+    patterns_refuse which a b (length xs) more whole ys zs e (size_after h) (starts_after h) (omega (arith, h.states, le)) (omega (arith,
+        h.states, h.bytes, le)) inside r
 
 -- a step behind patterns is refused
-pub later_stays : {which : WhichCaptures} {hole : ℕ} {a b c : Assembly} {ss : List ℕ} {xs : List Tree} {n spare : ℕ} (more bytes whole : ℕ) (zs : List Tree) (e : BuildError) → HasPatterns which hole a b ss xs n spare →
+pub later_stays : {which : WhichCaptures} {hole : ℕ} {a b c : Assembly} {ss : List ℕ} {xs : List Tree} {n spare : ℕ} (more bytes whole : ℕ)
+    (zs : List Tree) (e : BuildError) → HasPatterns which hole a b ss xs n spare →
     n + more ≤ whole → bytes ≤ spare + 4096 * more → Stays b c more bytes e → RefusesPatterns which a whole zs e
 later_stays {which} {hole} {a} {b} {c} {ss} {xs} {n} {spare} more bytes whole zs e h le room r =
-    step_refuses which a b more bytes whole zs e (size_after h) (omega (arith, h.states, le)) (omega (arith, h.states, h.bytes, le, room)) r.cause
+    step_refuses which a b more bytes whole zs e (size_after h) (omega (arith, h.states, le)) (omega (arith, h.states, h.bytes, le,
+        room)) r.cause
 
 -- ---- the union
 
@@ -78,7 +93,8 @@ further_none how union a kind = record {
   kind = kind;
 }
 
-module _ (how : How) (union : ℕ) (a b c : Assembly) (xs : List Tree) (x : Tree) (s : ℕ) (there : union < length a.drafts) (so_far : IsFurther how union a b xs)
+module _ (how : How) (union : ℕ) (a b c : Assembly) (xs : List Tree) (x : Tree) (s : ℕ) (there : union < length a.drafts)
+    (so_far : IsFurther how union a b xs)
     (next : HasAll how.which b c (s ∷ []) (x ∷ []) (room how.shrink x + 3) 4) where
   kept_union : draft_at c.drafts union ≡ draft_at b.drafts union
   kept_union = let l = so_far.has.longer in let m = next.longer in next.same union (omega arith) (λ e. omega arith)
@@ -94,40 +110,50 @@ module _ (how : How) (union : ℕ) (a b c : Assembly) (xs : List Tree) (x : Tree
   pub further_one : (d : Assembly) → Led c d union s → IsFurther how union a d (xs ++ x ∷ [])
   further_one d led =
       let P : ℕ → Type 0 = λ n. HasPatterns how.which union a d (so_far.ways ++ s ∷ []) (xs ++ x ∷ []) n 0 in
-      let fits : room_for how.shrink xs + (room how.shrink x + 3) ≡ room_for how.shrink (xs ++ x ∷ []) = omega (arith, room_joined how.shrink xs (x ∷ [])) in
+      let fits : room_for how.shrink xs + (room how.shrink x + 3) ≡ room_for how.shrink (xs ++ x ∷ []) =
+          omega (arith, room_joined how.shrink xs (x ∷ [])) in
       record {
         ways = so_far.ways ++ s ∷ [];
-        has = subst P fits (patterns_led how.which a c d (so_far.ways ++ s ∷ []) (xs ++ x ∷ []) (room_for how.shrink xs + (room how.shrink x + 3)) 4 0 union s both led (omega arith));
-        leads = λ first e. led.here ∙ ap (patched s) (kept_union ∙ so_far.leads first e) ∙ ap union_draft (append_assoc first so_far.ways (s ∷ []));
+        has = subst P fits (patterns_led how.which a c d (so_far.ways ++ s ∷ []) (xs
+            ++ x ∷ []) (room_for how.shrink xs + (room how.shrink x + 3)) 4 0 union s both led (omega arith));
+        leads = λ first e. led.here ∙ ap (patched s) (kept_union ∙ so_far.leads first e)
+            ∙ ap union_draft (append_assoc first so_far.ways (s ∷ []));
         kind = ap is_sparse led.here ∙ kind_patched s (draft_at c.drafts union) ∙ union_kind;
       }
 
   -- the way to it is refused
-  pub way_refused : (d : Assembly) (whole : ℕ) (zs : List Tree) (e : BuildError) → room_for how.shrink xs + (room how.shrink x + 3) ≤ whole → Stays c d 0 4 e → RefusesPatterns how.which a whole zs e
+  pub way_refused : (d : Assembly) (whole : ℕ) (zs : List Tree) (e : BuildError) →
+      room_for how.shrink xs + (room how.shrink x + 3) ≤ whole → Stays c d 0 4 e → RefusesPatterns how.which a whole zs e
   way_refused d whole zs e le r = later_stays 0 4 whole zs e both (omega arith) (omega arith) r
 
-pub further_is : (how : How) (union : ℕ) (a b : Assembly) (xs : List Tree) → IsFurther how union a b xs → LeadsToFurther how.which union a b xs (room_for how.shrink xs)
+pub further_is : (how : How) (union : ℕ) (a b : Assembly) (xs : List Tree) → IsFurther how union a b xs →
+    LeadsToFurther how.which union a b xs (room_for how.shrink xs)
 further_is how union a b xs f = (f.ways, f.has, f.leads)
 
 -- the first of the patterns that are left is refused
-only_one : (xs zs : List Tree) (i : ℕ) (y : Tree) → slice_get zs i ≡ Some y → length xs ≡ i → (k : ℕ) (x : Tree) → slice_get (y ∷ []) k ≡ Some x → slice_get zs (length xs + k) ≡ Some x
+only_one : (xs zs : List Tree) (i : ℕ) (y : Tree) → slice_get zs i ≡ Some y → length xs ≡ i → (k : ℕ) (x : Tree) →
+    slice_get (y ∷ []) k ≡ Some x → slice_get zs (length xs + k) ≡ Some x
 only_one xs zs i y here same zero x e =
     let is : length xs + 0 ≡ i = omega arith in ap (slice_get zs) is ∙ here ∙ e
 only_one xs zs i y here same (suc k) x e = absurd (cc)
 
-pub first_left_refused : (how : How) (union : ℕ) (a b : Assembly) (xs zs : List Tree) (x : Tree) (e : BuildError) → IsFurther how union a b xs → slice_get zs (length xs) ≡ Some x →
-    room_for how.shrink xs + (room how.shrink x + 3) ≤ room_for how.shrink zs → RefusesPatterns how.which b (room how.shrink x + 3) (x ∷ []) e → RefusesPatterns how.which a (room_for how.shrink zs) zs e
+pub first_left_refused : (how : How) (union : ℕ) (a b : Assembly) (xs zs : List Tree) (x : Tree) (e : BuildError) →
+    IsFurther how union a b xs → slice_get zs (length xs) ≡ Some x →
+    room_for how.shrink xs + (room how.shrink x + 3) ≤ room_for how.shrink zs →
+        RefusesPatterns how.which b (room how.shrink x + 3) (x ∷ []) e → RefusesPatterns how.which a (room_for how.shrink zs) zs e
 first_left_refused how union a b xs zs x e f here le r =
     later_refuse (room how.shrink x + 3) (room_for how.shrink zs) (x ∷ []) zs e f.has le (only_one xs zs (length xs) x here refl) r
 
 -- ---- places in the list
 
-pub room_at : (shrink : Bool) (zs : List Tree) (i : ℕ) (d : Tree) → i < length zs → room_for shrink (take i zs) + (room shrink (get_or zs i d) + 3) ≤ room_for shrink zs
+pub room_at : (shrink : Bool) (zs : List Tree) (i : ℕ) (d : Tree) → i < length zs →
+    room_for shrink (take i zs) + (room shrink (get_or zs i d) + 3) ≤ room_for shrink zs
 room_at shrink [] i d l = absurd (omega arith)
 room_at shrink (z ∷ zs) zero d l = omega arith
 room_at shrink (z ∷ zs) (suc i) d l = omega (arith, room_at shrink zs i d (omega arith))
 
-module _ (how : How) (union : ℕ) (a b c : Assembly) (zs : List Tree) (i : ℕ) (x : Tree) (inside : i < length zs) (is : x ≡ get_or zs i x) (there : union < length a.drafts)
+module _ (how : How) (union : ℕ) (a b c : Assembly) (zs : List Tree) (i : ℕ) (x : Tree) (inside : i < length zs) (is : x ≡ get_or zs i x)
+    (there : union < length a.drafts)
     (so_far : IsFurther how union a b (take i zs)) where
   taken : length (take i zs) ≡ i
   taken = length-take-le i zs (omega arith)
@@ -135,14 +161,18 @@ module _ (how : How) (union : ℕ) (a b c : Assembly) (zs : List Tree) (i : ℕ)
   fits : room_for how.shrink (take i zs) + (room how.shrink x + 3) ≤ room_for how.shrink zs
   fits = omega (arith, room_at how.shrink zs i x inside, ap (room how.shrink) is)
 
-  pub pattern_refused : (e : BuildError) → RefusesPatterns how.which b (room how.shrink x + 3) (x ∷ []) e → RefusesPatterns how.which a (room_for how.shrink zs) zs e
+  pub pattern_refused : (e : BuildError) → RefusesPatterns how.which b (room how.shrink x + 3) (x ∷ []) e →
+      RefusesPatterns how.which a (room_for how.shrink zs) zs e
   pattern_refused e r =
-      first_left_refused how union a b (take i zs) zs x e so_far (ap (slice_get zs) taken ∙ slice_get-get_or zs i x inside ∙ ap Some (sym is)) fits r
+      first_left_refused how union a b (take i zs) zs x e so_far (ap (slice_get zs) taken ∙ slice_get-get_or zs i x inside
+          ∙ ap Some (sym is)) fits r
 
-  pub union_refused : (d : Assembly) (s : ℕ) (e : BuildError) → HasAll how.which b c (s ∷ []) (x ∷ []) (room how.shrink x + 3) 4 → Stays c d 0 4 e → RefusesPatterns how.which a (room_for how.shrink zs) zs e
+  pub union_refused : (d : Assembly) (s : ℕ) (e : BuildError) → HasAll how.which b c (s ∷ []) (x ∷ []) (room how.shrink x + 3) 4 →
+      Stays c d 0 4 e → RefusesPatterns how.which a (room_for how.shrink zs) zs e
   union_refused d s e next r = way_refused how union a b c (take i zs) x s there so_far next d (room_for how.shrink zs) zs e fits r
 
-  pub further_next : (d : Assembly) (s : ℕ) → HasAll how.which b c (s ∷ []) (x ∷ []) (room how.shrink x + 3) 4 → Led c d union s → IsFurther how union a d (take (i + 1) zs)
+  pub further_next : (d : Assembly) (s : ℕ) → HasAll how.which b c (s ∷ []) (x ∷ []) (room how.shrink x + 3) 4 → Led c d union s →
+      IsFurther how union a d (take (i + 1) zs)
   further_next d s next led =
       let P : List Tree → Type 0 = λ xs. IsFurther how union a d xs in
       let more : take (i + 1) zs ≡ take i zs ++ x ∷ [] = take_more zs i x inside ∙ ap (λ (y : Tree). take i zs ++ y ∷ []) (sym is) in

@@ -6,7 +6,8 @@ abbrev pub invariant-loop-id : goal.invariant-loop-id
 invariant-loop-id g l = record {
   bound : g.S.NameSet.bound l.set ≡ g.S.NameSet.bound l.initial.set;
   fits : length (g.S.NameSet.names l.set) ≤ g.S.NameSet.bound l.set;
-  stands : StandsAt l.nfa.automaton l.look_have l.fn.start (g.S.NameSet.names l.initial.set) l.initial.steps (reverse l.stack.items) (g.S.NameSet.names l.set) l.steps;
+  stands : StandsAt l.nfa.automaton l.look_have l.fn.start (g.S.NameSet.names l.initial.set) l.initial.steps (reverse l.stack.items)
+      (g.S.NameSet.names l.set) l.steps;
 }
 
 abbrev pub decreases-loop-id : goal.decreases-loop-id

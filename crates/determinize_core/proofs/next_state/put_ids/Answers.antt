@@ -11,7 +11,8 @@ loop-id-init g c =
     let all = c.into_iter-id-iterator.ensures.into_iter_gives ∙ c.iter_nfa_state_ids-id-items.ensures in
     record {
       names = ap (λ (xs : List ℕ). join nat_eq xs c.into_iter-id-iterator.result) c.requires.empty ∙ ap (join nat_eq []) all;
-      below = subst (λ (xs : List ℕ). AreBelow (g.S.NameSet.bound c.args.set.now) xs) (sym all) (has_from_all (g.S.NameSet.bound c.args.set.now) c.args.state.now.ids c.requires.below);
+      below = subst (λ (xs : List ℕ). AreBelow (g.S.NameSet.bound c.args.set.now) xs) (sym all)
+          (has_from_all (g.S.NameSet.bound c.args.set.now) c.args.state.now.ids c.requires.below);
       bound = refl;
       cost = ap (λ (xs : List ℕ). c.args.steps.now + length xs) all;
     }
@@ -19,15 +20,19 @@ loop-id-init g c =
 pub insert-requires : goal.insert-requires
 insert-requires g c =
     let bound : g.S.NameSet.bound c.loop-id.set ≡ g.S.NameSet.bound c.args.set.now = c.loop-id.invariant.bound in
-    rw bound (taken_below (g.S.NameSet.bound c.args.set.now) c.in-Some.id c.next.new.self c.loop-id.id-iterator c.in-Some.ensures.steps c.loop-id.invariant.below)
+    rw bound (taken_below (g.S.NameSet.bound c.args.set.now) c.in-Some.id c.next.new.self c.loop-id.id-iterator c.in-Some.ensures.steps
+        c.loop-id.invariant.below)
 
 pub loop-id-preserved : goal.loop-id-preserved
 loop-id-preserved g c =
     let len : length c.loop-id.id-iterator ≡ 1 + length c.next.new.self = ap length c.in-Some.ensures.steps ∙ omega arith in
     record {
-      names = joins_one c.in-Some.id c.next.new.self (g.S.NameSet.names c.loop-id.set) (g.S.NameSet.names c.insert.new.self) _ c.insert.result
-          (ap (join nat_eq (g.S.NameSet.names c.loop-id.set)) (sym c.in-Some.ensures.steps) ∙ c.loop-id.invariant.names) c.insert.ensures.fresh c.insert.ensures.names;
-      below = left_below (g.S.NameSet.bound c.args.set.now) c.in-Some.id c.next.new.self c.loop-id.id-iterator c.in-Some.ensures.steps c.loop-id.invariant.below;
+      names = joins_one c.in-Some.id c.next.new.self (g.S.NameSet.names c.loop-id.set)
+          (g.S.NameSet.names c.insert.new.self) _ c.insert.result
+          (ap (join nat_eq (g.S.NameSet.names c.loop-id.set)) (sym c.in-Some.ensures.steps)
+              ∙ c.loop-id.invariant.names) c.insert.ensures.fresh c.insert.ensures.names;
+      below = left_below (g.S.NameSet.bound c.args.set.now) c.in-Some.id c.next.new.self c.loop-id.id-iterator c.in-Some.ensures.steps
+          c.loop-id.invariant.below;
       bound = c.insert.ensures.bound ∙ c.loop-id.invariant.bound;
       cost = omega (arith, c.insert.ensures.cost, len, c.loop-id.invariant.cost);
     }

@@ -8,7 +8,8 @@ use Rattle.determinize_core.proofs.walking.walk_from.Goals as goal
 
 pub loop-k-init : goal.loop-k-init
 loop-k-init g c = record {
-  walked = ap (λ (l : List StateValue). l ++ walked c.args.nfa.now.automaton c.args.nfa.now.terminator c.args.kind c.args.first (units_of c.args.bytes.now)) c.new-states.ensures.items;
+  walked = ap (λ (l : List StateValue). l ++ walked c.args.nfa.now.automaton c.args.nfa.now.terminator c.args.kind c.args.first
+      (units_of c.args.bytes.now)) c.new-states.ensures.items;
   below = c.requires.below;
   once = c.requires.once;
   empty = c.requires.empty;
@@ -18,11 +19,15 @@ loop-k-init g c = record {
 
 pub loop-k-preserved : goal.loop-k-preserved
 loop-k-preserved g c = record {
-  walked = walks_on c.args.nfa.now.automaton c.args.nfa.now.terminator c.args.kind c.args.bytes.now (walked c.args.nfa.now.automaton c.args.nfa.now.terminator c.args.kind c.args.first (units_of c.args.bytes.now)) c.loop-k.states.items c.loop-k.last c.loop-k.k c.loop-k.invariant.walked
+  walked = walks_on c.args.nfa.now.automaton c.args.nfa.now.terminator c.args.kind c.args.bytes.now
+      (walked c.args.nfa.now.automaton c.args.nfa.now.terminator c.args.kind c.args.first (units_of c.args.bytes.now)) c.loop-k.states.items
+      c.loop-k.last c.loop-k.k c.loop-k.invariant.walked
       (get_or c.args.bytes.now c.loop-k.k 0) (unit_byte c.u8-unit.result) c.in_ok-behind.behind c.push.new.self.items
       c.loop-k-test.true refl (ap unit_byte c.u8-unit.ensures) c.in_ok-behind.ensures.value c.in_ok-push.ensures.items;
-  below = behind_below c.args.nfa.now.automaton c.args.nfa.now.terminator c.args.kind c.loop-k.last (unit_byte c.u8-unit.result) c.in_ok-behind.behind c.in_ok-behind.ensures.value c.is_sound.ensures.named;
-  once = behind_once c.args.nfa.now.automaton c.args.nfa.now.terminator c.args.kind c.loop-k.last (unit_byte c.u8-unit.result) c.in_ok-behind.behind c.in_ok-behind.ensures.value;
+  below = behind_below c.args.nfa.now.automaton c.args.nfa.now.terminator c.args.kind c.loop-k.last
+      (unit_byte c.u8-unit.result) c.in_ok-behind.behind c.in_ok-behind.ensures.value c.is_sound.ensures.named;
+  once = behind_once c.args.nfa.now.automaton c.args.nfa.now.terminator c.args.kind c.loop-k.last
+      (unit_byte c.u8-unit.result) c.in_ok-behind.behind c.in_ok-behind.ensures.value;
   empty = c.in_ok-behind.ensures.stack;
   bound1 = c.in_ok-behind.ensures.bound1;
   bound2 = c.in_ok-behind.ensures.bound2;
@@ -30,6 +35,9 @@ loop-k-preserved g c = record {
 
 pub returns-clause-states : goal.returns-clause-states
 returns-clause-states g c =
-    walk_ends c.args.nfa.now.automaton c.args.nfa.now.terminator c.args.kind c.args.bytes.now (walked c.args.nfa.now.automaton c.args.nfa.now.terminator c.args.kind c.args.first (units_of c.args.bytes.now)) c.loop-k.states.items c.loop-k.last c.loop-k.k c.loop-k.invariant.walked
+    walk_ends c.args.nfa.now.automaton c.args.nfa.now.terminator c.args.kind c.args.bytes.now
+        (walked c.args.nfa.now.automaton c.args.nfa.now.terminator c.args.kind c.args.first (units_of c.args.bytes.now))
+        c.loop-k.states.items c.loop-k.last c.loop-k.k c.loop-k.invariant.walked
     c.in_ok-end.end c.push-2.new.self.items c.push-3.new.self.items c.loop-k-test.false
-    (c.in_ok-end.ensures.value ∙ ap (step_value c.args.nfa.now.automaton c.args.nfa.now.terminator c.args.kind c.loop-k.last) (ap unit_byte c.eoi.ensures)) c.in_ok-push-2.ensures.items c.in_ok-push-3.ensures.items
+    (c.in_ok-end.ensures.value ∙ ap (step_value c.args.nfa.now.automaton c.args.nfa.now.terminator c.args.kind c.loop-k.last)
+        (ap unit_byte c.eoi.ensures)) c.in_ok-push-2.ensures.items c.in_ok-push-3.ensures.items

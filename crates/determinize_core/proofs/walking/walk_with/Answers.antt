@@ -2,7 +2,10 @@ use Rattle.determinize_core.proofs.WalkingLemmas.{first_below, first_once}
 use Rattle.determinize_core.proofs.walking.walk_with.Goals as goal
 
 pub walk_from-requires-clause-below : goal.walk_from-requires-clause-below
-walk_from-requires-clause-below g c = first_below c.args.nfa.now.automaton c.args.nfa.now.terminator c.start_behind-begin.result c.args.start c.in_ok-built.built c.in_ok-first.first c.in_ok-built.ensures.value c.in_ok-first.ensures c.is_sound.ensures.named c.requires.inside
+walk_from-requires-clause-below g c = first_below c.args.nfa.now.automaton c.args.nfa.now.terminator c.start_behind-begin.result
+    c.args.start c.in_ok-built.built c.in_ok-first.first c.in_ok-built.ensures.value c.in_ok-first.ensures c.is_sound.ensures.named
+    c.requires.inside
 
 pub walk_from-requires-clause-once : goal.walk_from-requires-clause-once
-walk_from-requires-clause-once g c = first_once c.args.nfa.now.automaton c.args.nfa.now.terminator c.start_behind-begin.result c.args.start c.in_ok-built.built c.in_ok-first.first c.in_ok-built.ensures.value c.in_ok-first.ensures
+walk_from-requires-clause-once g c = first_once c.args.nfa.now.automaton c.args.nfa.now.terminator c.start_behind-begin.result c.args.start
+    c.in_ok-built.built c.in_ok-first.first c.in_ok-built.ensures.value c.in_ok-first.ensures

@@ -10,12 +10,14 @@ loop-at-init c = record {
   row = c.requires.row;
   past = omega arith;
   within = c.requires.fits;
-  lingers = lingers_none c.args.dfa.now c.args.haystack.now c.args.cache.now c.args.from c.args.id c.unknown.result c.args.from (c.args.from - c.args.from)
+  lingers = lingers_none c.args.dfa.now c.args.haystack.now c.args.cache.now c.args.from c.args.id c.unknown.result c.args.from
+      (c.args.from - c.args.from)
       c.requires.own c.requires.row c.unknown.ensures (omega arith);
 }
 
 pub cell-next-requires : goal.cell-next-requires
-cell-next-requires c = row_place c.args.dfa.now c.args.cache.now c.loop-at.sid c.class.result (Some (get_or c.args.haystack.now c.loop-at.at 0)) c.is_made.ensures c.requires.own
+cell-next-requires c = row_place c.args.dfa.now c.args.cache.now c.loop-at.sid c.class.result
+    (Some (get_or c.args.haystack.now c.loop-at.at 0)) c.is_made.ensures c.requires.own
     (omega (arith, c.type_inv.haystack c.loop-at.at)) c.class.ensures c.loop-at.invariant.row
 
 pub loop-at-preserved : goal.loop-at-preserved
@@ -34,8 +36,10 @@ loop-at-preserved c =
       row = row_next d v sid next (Some b) c.requires.own unit c.loop-at.invariant.row read below;
       past = omega (arith, c.loop-at.invariant.past);
       within = omega (arith, c.loop-at-test.true);
-      lingers = lingers_on d v sid next (Some b) c.requires.own unit c.loop-at.invariant.row read below h c.is_made.ensures (λ i. omega (arith, c.type_inv.haystack i))
+      lingers = lingers_on d v sid next (Some b) c.requires.own unit c.loop-at.invariant.row read below h c.is_made.ensures
+          (λ i. omega (arith, c.type_inv.haystack i))
           c.args.from c.args.id at c.loop-at.met.id c.loop-at.met.last (at - c.args.from) c.requires.row c.loop-at.invariant.lingers
-          (at + 1) (at + 1 - c.args.from) (forward_unit d h at c.requires.is_forward (omega (arith, c.loop-at-test.true, c.requires.within))) (forward_place d at c.requires.is_forward) (omega (arith, c.loop-at.invariant.past))
+          (at + 1) (at + 1 - c.args.from) (forward_unit d h at c.requires.is_forward (omega (arith, c.loop-at-test.true,
+              c.requires.within))) (forward_place d at c.requires.is_forward) (omega (arith, c.loop-at.invariant.past))
           c.meet-met.result.id c.meet-met.result.last c.meet-met.ensures.matching c.meet-met.ensures.plain;
     }

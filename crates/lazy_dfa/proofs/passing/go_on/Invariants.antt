@@ -18,7 +18,8 @@ invariant-loop-turned g l = record {
       (point l.fn.cache l.fn.work.determinized l.fn.work.inserted (first_place l.is_reverse l.input.start l.input.end) l.fn.id None)
       (point l.cache l.work.determinized l.work.inserted l.position.at l.position.id (pair_of l.position.best))
       (came l.is_reverse l.input l.position.at);
-  under : IsUnder l.is_reverse l.input (first_place l.is_reverse l.input.start l.input.end) l.fn.cache l.cache (came l.is_reverse l.input l.position.at);
+  under : IsUnder l.is_reverse l.input (first_place l.is_reverse l.input.start l.input.end) l.fn.cache l.cache
+      (came l.is_reverse l.input l.position.at);
 }
 
 abbrev pub decreases-loop-turned : goal.decreases-loop-turned

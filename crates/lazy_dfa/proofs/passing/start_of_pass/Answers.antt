@@ -3,8 +3,10 @@ use Rattle.lazy_dfa.proofs.PassStartLemmas.{starts_pass}
 use Rattle.lazy_dfa.proofs.passing.start_of_pass.Goals as goal
 
 pub returns-then-is_reverse-clause-start : goal.returns-then-is_reverse-clause-start
-returns-then-is_reverse-clause-start g c = let x = c.start_state_reverse.ensures in starts_pass c.args.dfa.now c.args.input.now c.args.cache.now c.start_state_reverse.new.cache
-    c.args.work.now.determinized c.start_state_reverse.new.work.determinized c.args.work.now.inserted c.start_state_reverse.new.work.inserted c.start_state_reverse.result
+returns-then-is_reverse-clause-start g c = let x = c.start_state_reverse.ensures in
+    starts_pass c.args.dfa.now c.args.input.now c.args.cache.now c.start_state_reverse.new.cache
+    c.args.work.now.determinized c.start_state_reverse.new.work.determinized c.args.work.now.inserted
+        c.start_state_reverse.new.work.inserted c.start_state_reverse.result
     true (sym c.if-is_reverse.true ∙ c.requires.is_reverse) (record {
       answer = x.answer;
       noted = x.noted;
@@ -19,8 +21,10 @@ returns-then-is_reverse-clause-start g c = let x = c.start_state_reverse.ensures
     })
 
 pub returns-else-is_reverse-clause-start : goal.returns-else-is_reverse-clause-start
-returns-else-is_reverse-clause-start g c = let x = c.start_state_forward.ensures in starts_pass c.args.dfa.now c.args.input.now c.args.cache.now c.start_state_forward.new.cache
-    c.args.work.now.determinized c.start_state_forward.new.work.determinized c.args.work.now.inserted c.start_state_forward.new.work.inserted c.start_state_forward.result
+returns-else-is_reverse-clause-start g c = let x = c.start_state_forward.ensures in
+    starts_pass c.args.dfa.now c.args.input.now c.args.cache.now c.start_state_forward.new.cache
+    c.args.work.now.determinized c.start_state_forward.new.work.determinized c.args.work.now.inserted
+        c.start_state_forward.new.work.inserted c.start_state_forward.result
     false (sym c.if-is_reverse.false ∙ c.requires.is_reverse) (record {
       answer = x.answer;
       noted = x.noted;

@@ -6,7 +6,8 @@ pub loop-byte-init : goal.loop-byte-init
 loop-byte-init c = high_from c.args.set.now
 
 pub loop-byte-preserved : goal.loop-byte-preserved
-loop-byte-preserved c = c.loop-byte.invariant ∙ all_here c.args.set.now c.loop-byte.byte c.loop-byte-test.true (sym c.contains.ensures ∙ c.if-not-contains.false)
+loop-byte-preserved c = c.loop-byte.invariant ∙ all_here c.args.set.now c.loop-byte.byte c.loop-byte-test.true (sym c.contains.ensures
+    ∙ c.if-not-contains.false)
 
 pub returns : goal.returns
 returns c =

@@ -1,7 +1,8 @@
 use Rattle.std.proofs.Common.{◌≡◌, ◌∙◌, ◌+◌, sym, subst, arith, List, Bool, ℕ}
 use Rattle.lazy_dfa.proofs.QuitLemmas.{IsSettled, settled_all, settled_none, settled_in, settled_out, wanted_by_set, wanted_high, unwanted}
 use Rattle.lazy_dfa.proofs.quits.with_high_bytes.Goals as goal
-use Rattle.lazy_dfa.proofs.quits.with_high_bytes.Goals.{then-contains, then-contains-via-then-contains, then-contains-via-else-contains+then-byte-ge128, else-contains+else-byte-ge128}
+use Rattle.lazy_dfa.proofs.quits.with_high_bytes.Goals.{then-contains, then-contains-via-then-contains}
+use Rattle.lazy_dfa.proofs.quits.with_high_bytes.Goals.{then-contains-via-else-contains+then-byte-ge128, else-contains+else-byte-ge128}
 
 pub loop-byte-init : goal.loop-byte-init
 loop-byte-init c = settled_none c.args.set.now c.empty-quits.result c.empty-quits.ensures.len c.empty-quits.ensures.none
@@ -26,4 +27,5 @@ loop-byte-preserved c = elim c.if-contains.branch [
 pub returns : goal.returns
 returns c =
     let over : c.loop-byte.byte ≡ 256 = omega (arith, c.loop-byte-test.false, c.loop-byte.auto.byte-end) in
-    settled_all c.args.set.now c.loop-byte.quits (subst (λ (n : ℕ). IsSettled c.args.set.now c.loop-byte.quits n) over c.loop-byte.invariant)
+    settled_all c.args.set.now c.loop-byte.quits (subst (λ (n : ℕ). IsSettled c.args.set.now c.loop-byte.quits n) over
+        c.loop-byte.invariant)

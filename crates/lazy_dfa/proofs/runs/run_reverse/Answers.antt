@@ -10,11 +10,13 @@ loop-at-init c = record {
   untagged = c.requires.untagged;
   past = omega arith;
   within = c.requires.fits;
-  goes = runs_none c.args.dfa.now c.args.cache.now c.args.haystack.now c.args.from c.args.id (c.args.from - c.args.from) c.requires.own c.requires.row (omega arith);
+  goes = runs_none c.args.dfa.now c.args.cache.now c.args.haystack.now c.args.from c.args.id
+      (c.args.from - c.args.from) c.requires.own c.requires.row (omega arith);
 }
 
 pub cell_of_untagged-next-requires : goal.cell_of_untagged-next-requires
-cell_of_untagged-next-requires c = plain_place c.args.dfa.now c.args.cache.now c.loop-at.sid c.class.result (get_or c.args.haystack.now (c.loop-at.at - 1) 0) c.is_made.ensures c.requires.own
+cell_of_untagged-next-requires c = plain_place c.args.dfa.now c.args.cache.now c.loop-at.sid c.class.result
+    (get_or c.args.haystack.now (c.loop-at.at - 1) 0) c.is_made.ensures c.requires.own
     (omega (arith, c.type_inv.haystack (c.loop-at.at - 1))) c.class.ensures c.loop-at.invariant.untagged c.loop-at.invariant.row
 
 pub loop-at-preserved : goal.loop-at-preserved
@@ -34,8 +36,10 @@ loop-at-preserved c =
       untagged = plain;
       past = omega (arith, c.loop-at.invariant.past);
       within = omega (arith, c.loop-at-test.true);
-      goes = λ m n best. runs_on d v h c.is_made.ensures c.requires.own (λ i. omega (arith, c.type_inv.haystack i)) c.args.from c.args.id at sid c.requires.row c.loop-at.invariant.row
+      goes = λ m n best. runs_on d v h c.is_made.ensures c.requires.own (λ i. omega (arith,
+          c.type_inv.haystack i)) c.args.from c.args.id at sid c.requires.row c.loop-at.invariant.row
           (c.args.from - at) m n best (c.loop-at.invariant.goes m n best) next (at - 1) (c.args.from - (at - 1)) (Some b) unit read plain
-          (reverse_unit d h at c.requires.is_reverse (omega (arith, c.loop-at-test.true)) (omega (arith, c.loop-at.invariant.past, c.requires.within))) (reverse_place d at c.requires.is_reverse)
+          (reverse_unit d h at c.requires.is_reverse (omega (arith, c.loop-at-test.true)) (omega (arith, c.loop-at.invariant.past,
+              c.requires.within))) (reverse_place d at c.requires.is_reverse)
           (omega (arith, c.loop-at.invariant.past, c.loop-at-test.true));
     }

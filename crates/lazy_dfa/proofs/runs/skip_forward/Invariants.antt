@@ -11,7 +11,8 @@ invariant-loop-sid l = record {
   untagged : l.sid < tag;
   past : l.from ≤ l.at;
   within : l.at ≤ l.end;
-  goes : (m n : ℕ) (best : Option (ℕ × ℕ)) → GoesTo l.dfa l.haystack (point l.fn.cache m n l.from l.fn.id best) (point l.fn.cache m n l.at l.sid best) (l.at - l.from);
+  goes : (m n : ℕ) (best : Option (ℕ × ℕ)) → GoesTo l.dfa l.haystack (point l.fn.cache m n l.from l.fn.id best)
+      (point l.fn.cache m n l.at l.sid best) (l.at - l.from);
 }
 
 abbrev pub decreases-loop-sid : goal.decreases-loop-sid

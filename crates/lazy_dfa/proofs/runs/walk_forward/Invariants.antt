@@ -10,7 +10,8 @@ invariant-loop-at l = record {
   untagged : l.sid < tag;
   past : l.from ≤ l.at;
   within : l.at ≤ l.limit;
-  goes : (m n : ℕ) (best : Option (ℕ × ℕ)) → GoesTo l.dfa l.haystack (point l.cache m n l.from l.fn.id best) (point l.cache m n l.at l.sid best) (l.at - l.from);
+  goes : (m n : ℕ) (best : Option (ℕ × ℕ)) → GoesTo l.dfa l.haystack (point l.cache m n l.from l.fn.id best)
+      (point l.cache m n l.at l.sid best) (l.at - l.from);
 }
 
 abbrev pub decreases-loop-at : goal.decreases-loop-at

@@ -7,20 +7,24 @@ use Rattle.lazy_dfa.proofs.ChangeLemmas.{lacks_not_dead, lacks_not_found}
 use Rattle.lazy_dfa.proofs.starting.place_start.Goals as goal
 
 pub returns-then-is_dead_state-clause-to : goal.returns-then-is_dead_state-clause-to
-returns-then-is_dead_state-clause-to c = names_dead (c.dead.ensures ∙ ap dead_id c.stride-stride.ensures.stride) (dead_of c.args.state (sym c.is_dead_state.ensures ∙ c.if-is_dead_state.true))
+returns-then-is_dead_state-clause-to c = names_dead (c.dead.ensures ∙ ap dead_id c.stride-stride.ensures.stride)
+    (dead_of c.args.state (sym c.is_dead_state.ensures ∙ c.if-is_dead_state.true))
 
 pub returns-then-is_dead_state-clause-ok : goal.returns-then-is_dead_state-clause-ok
-returns-then-is_dead_state-clause-ok c = lacks_not_dead c.args.dfa.now c.args.cache.now c.args.state (sym c.is_dead_state.ensures ∙ c.if-is_dead_state.true)
+returns-then-is_dead_state-clause-ok c = lacks_not_dead c.args.dfa.now c.args.cache.now c.args.state (sym c.is_dead_state.ensures
+    ∙ c.if-is_dead_state.true)
 
 pub returns-in-Some-clause-to : goal.returns-in-Some-clause-to
-returns-in-Some-clause-to c = subst (λ (n : ℕ). Names c.args.cache.now n c.args.state) (sym c.id-id.ensures) (names_held c.in-Some.ensures.held)
+returns-in-Some-clause-to c = subst (λ (n : ℕ). Names c.args.cache.now n c.args.state) (sym c.id-id.ensures)
+    (names_held c.in-Some.ensures.held)
 
 pub returns-in-Some-clause-ok : goal.returns-in-Some-clause-ok
 returns-in-Some-clause-ok c = lacks_not_found c.args.dfa.now c.args.cache.now c.args.state (Some c.in-Some.j) c.in-Some.ensures.place refl
 
 pub returns-clause-own : goal.returns-clause-own
 returns-clause-own c = subst (IsCacheOf c.args.dfa.now) (sym c.in_ok-id.ensures.ok)
-    (is_cache_added c.args.dfa.now c.room_alone.new.cache c.specializes.result c.args.state c.is_made.ensures c.in_ok-room_alone.ensures.own c.find.ensures.real c.in_ok-room_alone.ensures.fresh c.in_ok-room_alone.ensures.fits
+    (is_cache_added c.args.dfa.now c.room_alone.new.cache c.specializes.result c.args.state c.is_made.ensures c.in_ok-room_alone.ensures.own
+        c.find.ensures.real c.in_ok-room_alone.ensures.fresh c.in_ok-room_alone.ensures.fits
     (alive_of c.args.state (sym c.is_dead_state.ensures ∙ c.if-is_dead_state.false)) c.requires.is)
 
 pub returns-clause-slots : goal.returns-clause-slots
@@ -33,5 +37,6 @@ returns-clause-made c = start_added c.room_alone.new.cache c.in_ok-room_alone.en
 
 pub returns-clause-to : goal.returns-clause-to
 returns-clause-to c = subst (λ (w : CacheValue). Names w c.in_ok-id.id c.args.state) (sym c.in_ok-id.ensures.ok)
-    (subst (λ (n : ℕ). Names (with_state c.specializes.result c.args.state c.room_alone.new.cache) n c.args.state) (sym c.in_ok-id.ensures.id)
+    (subst (λ (n : ℕ). Names (with_state c.specializes.result c.args.state c.room_alone.new.cache) n c.args.state)
+        (sym c.in_ok-id.ensures.id)
     (names_held (new_held c.room_alone.new.cache c.specializes.result c.args.state c.in_ok-room_alone.ensures.own.shape)))

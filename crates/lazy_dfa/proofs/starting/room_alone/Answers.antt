@@ -13,10 +13,12 @@ pub returns-then-fits-clause-ok : goal.returns-then-fits-clause-ok
 returns-then-fits-clause-ok c = lacks_not_fitting c.args.dfa.now c.args.cache.now c.args.state.now (sym c.fits.ensures ∙ c.if-fits.true)
 
 pub returns-then-refuses_clear-clause-err : goal.returns-then-refuses_clear-clause-err
-returns-then-refuses_clear-clause-err c = inr (refl, lacks_all c.args.dfa.now c.args.cache.now c.args.state.now c.requires.alive c.requires.fresh (sym c.fits.ensures ∙ c.if-fits.false) (sym c.refuses_clear.ensures ∙ c.if-refuses_clear.true))
+returns-then-refuses_clear-clause-err c = inr (refl, lacks_all c.args.dfa.now c.args.cache.now c.args.state.now c.requires.alive
+    c.requires.fresh (sym c.fits.ensures ∙ c.if-fits.false) (sym c.refuses_clear.ensures ∙ c.if-refuses_clear.true))
 
 pub returns-clause-own : goal.returns-clause-own
-returns-clause-own c = subst (IsCacheOf c.args.dfa.now) (sym c.clear.ensures) (is_cache_cleared c.args.dfa.now c.args.cache.now c.requires.own)
+returns-clause-own c = subst (IsCacheOf c.args.dfa.now) (sym c.clear.ensures)
+    (is_cache_cleared c.args.dfa.now c.args.cache.now c.requires.own)
 
 pub returns-clause-slots : goal.returns-clause-slots
 returns-clause-slots c = ap (λ (v : CacheValue). length v.starts) c.clear.ensures ∙ length-replicate _ _
@@ -25,7 +27,9 @@ pub returns-clause-fresh : goal.returns-clause-fresh
 returns-clause-fresh c = place_in_none c.args.state.now c.clear.new.self.states (ap (λ (v : CacheValue). v.states) c.clear.ensures)
 
 pub returns-clause-fits : goal.returns-clause-fits
-returns-clause-fits c = subst (Fits c.args.dfa.now.capacity c.args.state.now) (sym c.clear.ensures) (fits_in_cleared c.args.dfa.now c.args.cache.now c.args.state.now c.is_made.ensures c.requires.own c.requires.is)
+returns-clause-fits c = subst (Fits c.args.dfa.now.capacity c.args.state.now) (sym c.clear.ensures)
+    (fits_in_cleared c.args.dfa.now c.args.cache.now c.args.state.now c.is_made.ensures c.requires.own c.requires.is)
 
 pub returns-clause-ok : goal.returns-clause-ok
-returns-clause-ok c = lacks_not_allowed c.args.dfa.now c.args.cache.now c.args.state.now (sym c.refuses_clear.ensures ∙ c.if-refuses_clear.false)
+returns-clause-ok c = lacks_not_allowed c.args.dfa.now c.args.cache.now c.args.state.now (sym c.refuses_clear.ensures
+    ∙ c.if-refuses_clear.false)

@@ -9,13 +9,16 @@ pub returns-then-is_dead_state-clause-kept : goal.returns-then-is_dead_state-cla
 returns-then-is_dead_state-clause-kept c = inl (added_refl c.args.cache.now c.requires.own.shape)
 
 pub returns-then-is_dead_state-clause-ok : goal.returns-then-is_dead_state-clause-ok
-returns-then-is_dead_state-clause-ok c = lacks_not_dead c.args.dfa.now c.args.cache.now c.args.state (sym c.is_dead_state.ensures ∙ c.if-is_dead_state.true)
+returns-then-is_dead_state-clause-ok c = lacks_not_dead c.args.dfa.now c.args.cache.now c.args.state (sym c.is_dead_state.ensures
+    ∙ c.if-is_dead_state.true)
 
 pub returns-then-is_dead_state-clause-to : goal.returns-then-is_dead_state-clause-to
-returns-then-is_dead_state-clause-to c = names_dead (c.dead.ensures ∙ ap dead_id c.stride-stride.ensures.stride) (dead_of c.args.state (sym c.is_dead_state.ensures ∙ c.if-is_dead_state.true))
+returns-then-is_dead_state-clause-to c = names_dead (c.dead.ensures ∙ ap dead_id c.stride-stride.ensures.stride)
+    (dead_of c.args.state (sym c.is_dead_state.ensures ∙ c.if-is_dead_state.true))
 
 pub returns-in-Some-clause-to : goal.returns-in-Some-clause-to
-returns-in-Some-clause-to c = subst (λ (n : ℕ). Names c.args.cache.now n c.args.state) (sym c.id-to.ensures) (names_held c.in-Some.ensures.held)
+returns-in-Some-clause-to c = subst (λ (n : ℕ). Names c.args.cache.now n c.args.state) (sym c.id-to.ensures)
+    (names_held c.in-Some.ensures.held)
 
 pub returns-in-Some-clause-kept : goal.returns-in-Some-clause-kept
 returns-in-Some-clause-kept c = inl (added_refl c.args.cache.now c.requires.own.shape)
@@ -30,25 +33,32 @@ pub returns-in-Some-clause-made : goal.returns-in-Some-clause-made
 returns-in-Some-clause-made c = inl (added_refl c.args.cache.now c.requires.own.shape)
 
 pub returns-in_err-from-clause-kept : goal.returns-in_err-from-clause-kept
-returns-in_err-from-clause-kept c = adds_nothing c.args.cache.now c.make_room.new.cache c.make_room.new.cache c.requires.own.shape c.in_err-from.ensures.room refl
+returns-in_err-from-clause-kept c = adds_nothing c.args.cache.now c.make_room.new.cache c.make_room.new.cache c.requires.own.shape
+    c.in_err-from.ensures.room refl
 
 pub returns-in_err-to-clause-kept : goal.returns-in_err-to-clause-kept
-returns-in_err-to-clause-kept c = adds_nothing c.args.cache.now c.make_room.new.cache c.add_state.new.self c.requires.own.shape c.in_ok-from.ensures.room c.in_err-to.ensures.err
+returns-in_err-to-clause-kept c = adds_nothing c.args.cache.now c.make_room.new.cache c.add_state.new.self c.requires.own.shape
+    c.in_ok-from.ensures.room c.in_err-to.ensures.err
 
 pub returns-clause-own : goal.returns-clause-own
 returns-clause-own c = subst (IsCacheOf c.args.dfa.now) (sym c.in_ok-to.ensures.ok)
-    (is_cache_added c.args.dfa.now c.make_room.new.cache false c.args.state c.is_made.ensures c.in_ok-from.ensures.own c.find.ensures.real c.in_ok-from.ensures.fresh c.in_ok-from.ensures.fits
+    (is_cache_added c.args.dfa.now c.make_room.new.cache false c.args.state c.is_made.ensures c.in_ok-from.ensures.own c.find.ensures.real
+        c.in_ok-from.ensures.fresh c.in_ok-from.ensures.fits
     (alive_of c.args.state (sym c.is_dead_state.ensures ∙ c.if-is_dead_state.false)) c.requires.is)
 
 pub returns-clause-kept : goal.returns-clause-kept
-returns-clause-kept c = adds_after c.args.cache.now c.make_room.new.cache c.add_state.new.self false c.args.state c.requires.own.shape c.in_ok-from.ensures.room c.in_ok-to.ensures.ok
+returns-clause-kept c = adds_after c.args.cache.now c.make_room.new.cache c.add_state.new.self false c.args.state c.requires.own.shape
+    c.in_ok-from.ensures.room c.in_ok-to.ensures.ok
 
 pub returns-clause-made : goal.returns-clause-made
-returns-clause-made c = made_after c.args.cache.now c.make_room.new.cache c.add_state.new.self c.args.k c.args.state c.requires.own.shape c.in_ok-from.ensures.made c.in_ok-to.ensures.ok
+returns-clause-made c = made_after c.args.cache.now c.make_room.new.cache c.add_state.new.self c.args.k c.args.state c.requires.own.shape
+    c.in_ok-from.ensures.made c.in_ok-to.ensures.ok
 
 pub returns-clause-from : goal.returns-clause-from
-returns-clause-from c = subst (λ (w : CacheValue). HeldAt w c.in_ok-from.from (state_at c.args.cache.now c.args.k)) (sym c.in_ok-to.ensures.ok)
-    (held_added c.make_room.new.cache false c.args.state c.in_ok-from.from (state_at c.args.cache.now c.args.k) c.in_ok-from.ensures.own.shape c.in_ok-from.ensures.from)
+returns-clause-from c = subst (λ (w : CacheValue). HeldAt w c.in_ok-from.from (state_at c.args.cache.now c.args.k))
+    (sym c.in_ok-to.ensures.ok)
+    (held_added c.make_room.new.cache false c.args.state c.in_ok-from.from
+        (state_at c.args.cache.now c.args.k) c.in_ok-from.ensures.own.shape c.in_ok-from.ensures.from)
 
 pub returns-clause-to : goal.returns-clause-to
 returns-clause-to c = subst (λ (w : CacheValue). Names w c.in_ok-to.to c.args.state) (sym c.in_ok-to.ensures.ok)

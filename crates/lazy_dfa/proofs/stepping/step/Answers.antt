@@ -2,8 +2,10 @@ use Rattle.std.proofs.Common.{◌∙◌, sym, ap, ℕ, refl, inl, inr, Ok, true�
 use Rattle.search_core.specs.Units.{unit_byte}
 use Rattle.lazy_dfa.specs.Ids.{quit_id}
 use Rattle.lazy_dfa.specs.Caches.{state_at}
-use Rattle.lazy_dfa.proofs.IsCacheLemmas.{no_step, row_place, row_of_held, known_leads, is_cache_stepped, leads_quit, leads_stepped, steps_of_row}
-use Rattle.lazy_dfa.proofs.ChangeLemmas.{grew_refl, same_grew, grew_cell, grew_set, set_is_noted, added_refl, no_row, noted_read, unknown_here, not_known, known_cell}
+use Rattle.lazy_dfa.proofs.IsCacheLemmas.{no_step, row_place, row_of_held, known_leads, is_cache_stepped, leads_quit, leads_stepped}
+use Rattle.lazy_dfa.proofs.IsCacheLemmas.{steps_of_row}
+use Rattle.lazy_dfa.proofs.ChangeLemmas.{grew_refl, same_grew, grew_cell, grew_set, set_is_noted, added_refl, no_row, noted_read}
+use Rattle.lazy_dfa.proofs.ChangeLemmas.{unknown_here, not_known, known_cell}
 use Rattle.lazy_dfa.proofs.stepping.step.Goals as goal
 
 -- ---- a sentinel
@@ -15,13 +17,16 @@ pub returns-then-is_sentinel-clause-remains : goal.returns-then-is_sentinel-clau
 returns-then-is_sentinel-clause-remains g c = inl (same_grew c.args.dfa.now c.args.cache.now)
 
 pub returns-then-is_sentinel-clause-step : goal.returns-then-is_sentinel-clause-step
-returns-then-is_sentinel-clause-step g c = no_step c.args.dfa.now c.args.cache.now c.args.current c.args.current (unit_byte c.args.unit) c.requires.own.shape (sym c.is_sentinel.ensures ∙ c.if-is_sentinel.true)
+returns-then-is_sentinel-clause-step g c = no_step c.args.dfa.now c.args.cache.now c.args.current c.args.current
+    (unit_byte c.args.unit) c.requires.own.shape (sym c.is_sentinel.ensures ∙ c.if-is_sentinel.true)
 
 pub returns-then-is_sentinel-clause-noted : goal.returns-then-is_sentinel-clause-noted
-returns-then-is_sentinel-clause-noted g c s h k = absurd (no_row c.args.cache.now c.args.current c.requires.own.shape (sym c.is_sentinel.ensures ∙ c.if-is_sentinel.true) (h.0, h.1, h.2))
+returns-then-is_sentinel-clause-noted g c s h k = absurd (no_row c.args.cache.now c.args.current c.requires.own.shape
+    (sym c.is_sentinel.ensures ∙ c.if-is_sentinel.true) (h.0, h.1, h.2))
 
 pub returns-then-is_sentinel-clause-ok : goal.returns-then-is_sentinel-clause-ok
-returns-then-is_sentinel-clause-ok g c gives = no_row c.args.cache.now c.args.current c.requires.own.shape (sym c.is_sentinel.ensures ∙ c.if-is_sentinel.true) gives.row
+returns-then-is_sentinel-clause-ok g c gives = no_row c.args.cache.now c.args.current c.requires.own.shape (sym c.is_sentinel.ensures
+    ∙ c.if-is_sentinel.true) gives.row
 
 pub returns-then-is_sentinel-clause-known : goal.returns-then-is_sentinel-clause-known
 returns-then-is_sentinel-clause-known g c plain n = absurd (true≢false (sym (sym c.is_sentinel.ensures ∙ c.if-is_sentinel.true) ∙ plain))
@@ -29,7 +34,8 @@ returns-then-is_sentinel-clause-known g c plain n = absurd (true≢false (sym (s
 -- ---- a step that is known
 
 pub cell-cell-requires : goal.cell-cell-requires
-cell-cell-requires g c = row_place c.args.dfa.now c.args.cache.now c.args.current c.args.class (unit_byte c.args.unit) c.is_made.ensures c.requires.own c.requires.unit c.requires.class
+cell-cell-requires g c = row_place c.args.dfa.now c.args.cache.now c.args.current c.args.class
+    (unit_byte c.args.unit) c.is_made.ensures c.requires.own c.requires.unit c.requires.class
     (row_of_held c.args.cache.now c.args.current c.requires.held (sym c.is_sentinel.ensures ∙ c.if-is_sentinel.false))
 
 pub returns-then-not-is_not_known-clause-kept : goal.returns-then-not-is_not_known-clause-kept
@@ -42,43 +48,58 @@ pub returns-then-not-is_not_known-clause-loops : goal.returns-then-not-is_not_kn
 returns-then-not-is_not_known-clause-loops g c e = absurd (true≢false (sym e ∙ (sym c.is_sentinel.ensures ∙ c.if-is_sentinel.false)))
 
 pub returns-then-not-is_not_known-clause-step : goal.returns-then-not-is_not_known-clause-step
-returns-then-not-is_not_known-clause-step g c = known_leads c.args.dfa.now c.args.cache.now c.args.current c.args.class (unit_byte c.args.unit) c.is_made.ensures c.requires.own c.requires.unit c.requires.class
+returns-then-not-is_not_known-clause-step g c = known_leads c.args.dfa.now c.args.cache.now c.args.current c.args.class
+    (unit_byte c.args.unit) c.is_made.ensures c.requires.own c.requires.unit c.requires.class
     c.cell-cell.result c.cell-cell.ensures (sym c.is_not_known.ensures ∙ c.if-not-is_not_known.true)
 
 pub returns-then-not-is_not_known-clause-noted : goal.returns-then-not-is_not_known-clause-noted
-returns-then-not-is_not_known-clause-noted g c s h k = sym (noted_read c.args.dfa.now c.args.cache.now c.args.current c.args.class c.cell-cell.result (unit_byte c.args.unit) c.is_made.ensures c.requires.own c.requires.unit c.requires.class c.cell-cell.ensures)
+returns-then-not-is_not_known-clause-noted g c s h k = sym (noted_read c.args.dfa.now c.args.cache.now c.args.current c.args.class
+    c.cell-cell.result (unit_byte c.args.unit) c.is_made.ensures c.requires.own c.requires.unit c.requires.class c.cell-cell.ensures)
 
 pub returns-then-not-is_not_known-clause-ok : goal.returns-then-not-is_not_known-clause-ok
-returns-then-not-is_not_known-clause-ok g c gives = known_cell c.args.dfa.now c.args.cache.now c.args.current c.args.class c.cell-cell.result (unit_byte c.args.unit) c.is_made.ensures c.requires.own c.requires.unit c.requires.class c.cell-cell.ensures
+returns-then-not-is_not_known-clause-ok g c gives = known_cell c.args.dfa.now c.args.cache.now c.args.current c.args.class
+    c.cell-cell.result (unit_byte c.args.unit) c.is_made.ensures c.requires.own c.requires.unit c.requires.class c.cell-cell.ensures
     (sym c.is_not_known.ensures ∙ c.if-not-is_not_known.true) gives.unknown
 
 pub returns-then-not-is_not_known-clause-known : goal.returns-then-not-is_not_known-clause-known
-returns-then-not-is_not_known-clause-known g c plain n = ap (λ (m : ℕ). Ok m) (noted_read c.args.dfa.now c.args.cache.now c.args.current c.args.class c.cell-cell.result (unit_byte c.args.unit) c.is_made.ensures c.requires.own c.requires.unit c.requires.class c.cell-cell.ensures)
+returns-then-not-is_not_known-clause-known g c plain n = ap (λ (m : ℕ). Ok m)
+    (noted_read c.args.dfa.now c.args.cache.now c.args.current c.args.class c.cell-cell.result
+    (unit_byte c.args.unit) c.is_made.ensures c.requires.own c.requires.unit c.requires.class c.cell-cell.ensures)
 
 -- ---- a quit byte
 
 pub returns-then-is_quit-clause-own : goal.returns-then-is_quit-clause-own
 returns-then-is_quit-clause-own g c =
     let row = row_of_held c.args.cache.now c.args.current c.requires.held (sym c.is_sentinel.ensures ∙ c.if-is_sentinel.false) in
-    is_cache_stepped c.args.dfa.now c.args.cache.now c.args.current c.args.class (unit_byte c.args.unit) c.is_made.ensures c.requires.own c.requires.unit c.requires.class
+    is_cache_stepped c.args.dfa.now c.args.cache.now c.args.current c.args.class
+        (unit_byte c.args.unit) c.is_made.ensures c.requires.own c.requires.unit c.requires.class
     (state_at c.args.cache.now row.0) c.quit-quit.result c.set_cell.new.self (row.0, row.1, row.2, refl)
-    (leads_quit c.args.dfa.now c.args.cache.now (state_at c.args.cache.now row.0) (unit_byte c.args.unit) c.quit-quit.result (sym c.requires.quit ∙ c.if-is_quit.true) (c.quit-quit.ensures ∙ ap quit_id c.stride-stride.ensures.stride))
+    (leads_quit c.args.dfa.now c.args.cache.now (state_at c.args.cache.now row.0) (unit_byte c.args.unit) c.quit-quit.result
+        (sym c.requires.quit ∙ c.if-is_quit.true) (c.quit-quit.ensures ∙ ap quit_id c.stride-stride.ensures.stride))
     c.set_cell.ensures
 
 pub returns-then-is_quit-clause-kept : goal.returns-then-is_quit-clause-kept
 returns-then-is_quit-clause-kept g c =
     let row = row_of_held c.args.cache.now c.args.current c.requires.held (sym c.is_sentinel.ensures ∙ c.if-is_sentinel.false) in
-    grew_set c.args.dfa.now c.args.cache.now c.args.cache.now c.set_cell.new.self c.args.current c.args.current c.args.class row.0 c.quit-quit.result (unit_byte c.args.unit)
-    c.is_made.ensures c.requires.own c.requires.own c.requires.unit c.requires.class row.1 row.2 (row.0, row.1, row.2, refl) c.set_cell.ensures
-    (unknown_here c.args.dfa.now c.args.cache.now c.args.current c.args.class c.cell-cell.result (unit_byte c.args.unit) c.is_made.ensures c.requires.own c.requires.unit c.requires.class c.cell-cell.ensures row (sym c.is_not_known.ensures ∙ c.if-not-is_not_known.false))
+    grew_set c.args.dfa.now c.args.cache.now c.args.cache.now c.set_cell.new.self c.args.current c.args.current c.args.class row.0
+        c.quit-quit.result (unit_byte c.args.unit)
+    c.is_made.ensures c.requires.own c.requires.own c.requires.unit c.requires.class row.1 row.2 (row.0, row.1, row.2,
+        refl) c.set_cell.ensures
+    (unknown_here c.args.dfa.now c.args.cache.now c.args.current c.args.class c.cell-cell.result
+        (unit_byte c.args.unit) c.is_made.ensures c.requires.own c.requires.unit c.requires.class c.cell-cell.ensures row
+        (sym c.is_not_known.ensures ∙ c.if-not-is_not_known.false))
     (inl (added_refl c.args.cache.now c.requires.own.shape))
 
 pub returns-then-is_quit-clause-remains : goal.returns-then-is_quit-clause-remains
 returns-then-is_quit-clause-remains g c =
     let row = row_of_held c.args.cache.now c.args.current c.requires.held (sym c.is_sentinel.ensures ∙ c.if-is_sentinel.false) in
-    inl (grew_cell c.args.dfa.now c.args.cache.now c.args.cache.now c.set_cell.new.self c.args.current c.args.current c.args.class row.0 c.quit-quit.result (unit_byte c.args.unit)
-    c.is_made.ensures c.requires.own c.requires.own c.requires.unit c.requires.class row.1 row.2 (row.0, row.1, row.2, refl) c.set_cell.ensures
-    (unknown_here c.args.dfa.now c.args.cache.now c.args.current c.args.class c.cell-cell.result (unit_byte c.args.unit) c.is_made.ensures c.requires.own c.requires.unit c.requires.class c.cell-cell.ensures row (sym c.is_not_known.ensures ∙ c.if-not-is_not_known.false))
+    inl (grew_cell c.args.dfa.now c.args.cache.now c.args.cache.now c.set_cell.new.self c.args.current c.args.current c.args.class row.0
+        c.quit-quit.result (unit_byte c.args.unit)
+    c.is_made.ensures c.requires.own c.requires.own c.requires.unit c.requires.class row.1 row.2 (row.0, row.1, row.2,
+        refl) c.set_cell.ensures
+    (unknown_here c.args.dfa.now c.args.cache.now c.args.current c.args.class c.cell-cell.result
+        (unit_byte c.args.unit) c.is_made.ensures c.requires.own c.requires.unit c.requires.class c.cell-cell.ensures row
+        (sym c.is_not_known.ensures ∙ c.if-not-is_not_known.false))
     (added_refl c.args.cache.now c.requires.own.shape))
 
 pub returns-then-is_quit-clause-loops : goal.returns-then-is_quit-clause-loops
@@ -87,71 +108,95 @@ returns-then-is_quit-clause-loops g c e = absurd (true≢false (sym e ∙ (sym c
 pub returns-then-is_quit-clause-step : goal.returns-then-is_quit-clause-step
 returns-then-is_quit-clause-step g c =
     let row = row_of_held c.args.cache.now c.args.current c.requires.held (sym c.is_sentinel.ensures ∙ c.if-is_sentinel.false) in
-    steps_of_row c.args.dfa.now c.args.cache.now c.set_cell.new.self c.args.current row.0 (unit_byte c.args.unit) c.quit-quit.result c.requires.own.shape row.1 row.2
-    (leads_stepped c.args.dfa.now c.args.cache.now c.args.current c.args.class (unit_byte c.args.unit) c.is_made.ensures c.requires.own c.requires.unit c.requires.class
+    steps_of_row c.args.dfa.now c.args.cache.now c.set_cell.new.self c.args.current row.0
+        (unit_byte c.args.unit) c.quit-quit.result c.requires.own.shape row.1 row.2
+    (leads_stepped c.args.dfa.now c.args.cache.now c.args.current c.args.class
+        (unit_byte c.args.unit) c.is_made.ensures c.requires.own c.requires.unit c.requires.class
     (state_at c.args.cache.now row.0) c.quit-quit.result c.set_cell.new.self
-    (leads_quit c.args.dfa.now c.args.cache.now (state_at c.args.cache.now row.0) (unit_byte c.args.unit) c.quit-quit.result (sym c.requires.quit ∙ c.if-is_quit.true) (c.quit-quit.ensures ∙ ap quit_id c.stride-stride.ensures.stride))
+    (leads_quit c.args.dfa.now c.args.cache.now (state_at c.args.cache.now row.0) (unit_byte c.args.unit) c.quit-quit.result
+        (sym c.requires.quit ∙ c.if-is_quit.true) (c.quit-quit.ensures ∙ ap quit_id c.stride-stride.ensures.stride))
     c.set_cell.ensures)
 
 pub returns-then-is_quit-clause-noted : goal.returns-then-is_quit-clause-noted
 returns-then-is_quit-clause-noted g c =
     let row = row_of_held c.args.cache.now c.args.current c.requires.held (sym c.is_sentinel.ensures ∙ c.if-is_sentinel.false) in
-    set_is_noted c.args.dfa.now c.args.cache.now c.args.cache.now c.set_cell.new.self c.args.current c.args.current c.args.class row.0 c.quit-quit.result (unit_byte c.args.unit)
-    c.is_made.ensures c.requires.own c.requires.own c.requires.unit c.requires.class row.1 row.2 (row.0, row.1, row.2, refl) c.set_cell.ensures
+    set_is_noted c.args.dfa.now c.args.cache.now c.args.cache.now c.set_cell.new.self c.args.current c.args.current c.args.class row.0
+        c.quit-quit.result (unit_byte c.args.unit)
+    c.is_made.ensures c.requires.own c.requires.own c.requires.unit c.requires.class row.1 row.2 (row.0, row.1, row.2,
+        refl) c.set_cell.ensures
 
 pub returns-then-is_quit-clause-ok : goal.returns-then-is_quit-clause-ok
 returns-then-is_quit-clause-ok g c gives = true≢false (sym (sym c.requires.quit ∙ c.if-is_quit.true) ∙ gives.no_quit)
 
 pub returns-then-is_quit-clause-known : goal.returns-then-is_quit-clause-known
-returns-then-is_quit-clause-known g c plain n = absurd (not_known c.args.dfa.now c.args.cache.now c.args.current c.args.class c.cell-cell.result (unit_byte c.args.unit) c.is_made.ensures c.requires.own c.requires.unit c.requires.class c.cell-cell.ensures
-    (row_of_held c.args.cache.now c.args.current c.requires.held plain) (sym c.is_not_known.ensures ∙ c.if-not-is_not_known.false) plain (inr n))
+returns-then-is_quit-clause-known g c plain n = absurd (not_known c.args.dfa.now c.args.cache.now c.args.current c.args.class
+    c.cell-cell.result (unit_byte c.args.unit) c.is_made.ensures c.requires.own c.requires.unit c.requires.class c.cell-cell.ensures
+    (row_of_held c.args.cache.now c.args.current c.requires.held plain) (sym c.is_not_known.ensures
+        ∙ c.if-not-is_not_known.false) plain (inr n))
 
 pub returns-then-is_quit-clause-same : goal.returns-then-is_quit-clause-same
-returns-then-is_quit-clause-same g c k = absurd (not_known c.args.dfa.now c.args.cache.now c.args.current c.args.class c.cell-cell.result (unit_byte c.args.unit) c.is_made.ensures c.requires.own c.requires.unit c.requires.class c.cell-cell.ensures
-    (row_of_held c.args.cache.now c.args.current c.requires.held (sym c.is_sentinel.ensures ∙ c.if-is_sentinel.false)) (sym c.is_not_known.ensures ∙ c.if-not-is_not_known.false)
+returns-then-is_quit-clause-same g c k = absurd (not_known c.args.dfa.now c.args.cache.now c.args.current c.args.class c.cell-cell.result
+    (unit_byte c.args.unit) c.is_made.ensures c.requires.own c.requires.unit c.requires.class c.cell-cell.ensures
+    (row_of_held c.args.cache.now c.args.current c.requires.held (sym c.is_sentinel.ensures ∙ c.if-is_sentinel.false))
+        (sym c.is_not_known.ensures ∙ c.if-not-is_not_known.false)
     (sym c.is_sentinel.ensures ∙ c.if-is_sentinel.false) k)
 
 -- ---- a step that is made
 
 pub fill-requires-clause-row : goal.fill-requires-clause-row
-fill-requires-clause-row g c = row_of_held c.args.cache.now c.args.current c.requires.held (sym c.is_sentinel.ensures ∙ c.if-is_sentinel.false)
+fill-requires-clause-row g c = row_of_held c.args.cache.now c.args.current c.requires.held (sym c.is_sentinel.ensures
+    ∙ c.if-is_sentinel.false)
 
 pub fill-requires-clause-unknown : goal.fill-requires-clause-unknown
-fill-requires-clause-unknown g c = unknown_here c.args.dfa.now c.args.cache.now c.args.current c.args.class c.cell-cell.result (unit_byte c.args.unit) c.is_made.ensures c.requires.own c.requires.unit c.requires.class c.cell-cell.ensures
-    (row_of_held c.args.cache.now c.args.current c.requires.held (sym c.is_sentinel.ensures ∙ c.if-is_sentinel.false)) (sym c.is_not_known.ensures ∙ c.if-not-is_not_known.false)
+fill-requires-clause-unknown g c = unknown_here c.args.dfa.now c.args.cache.now c.args.current c.args.class c.cell-cell.result
+    (unit_byte c.args.unit) c.is_made.ensures c.requires.own c.requires.unit c.requires.class c.cell-cell.ensures
+    (row_of_held c.args.cache.now c.args.current c.requires.held (sym c.is_sentinel.ensures ∙ c.if-is_sentinel.false))
+        (sym c.is_not_known.ensures ∙ c.if-not-is_not_known.false)
 
 pub returns-in_err-to-clause-loops : goal.returns-in_err-to-clause-loops
 returns-in_err-to-clause-loops g c e = absurd (true≢false (sym e ∙ (sym c.is_sentinel.ensures ∙ c.if-is_sentinel.false)))
 
 pub returns-in_err-to-clause-known : goal.returns-in_err-to-clause-known
-returns-in_err-to-clause-known g c plain n = absurd (not_known c.args.dfa.now c.args.cache.now c.args.current c.args.class c.cell-cell.result (unit_byte c.args.unit) c.is_made.ensures c.requires.own c.requires.unit c.requires.class c.cell-cell.ensures
-    (row_of_held c.args.cache.now c.args.current c.requires.held (sym c.is_sentinel.ensures ∙ c.if-is_sentinel.false)) (sym c.is_not_known.ensures ∙ c.if-not-is_not_known.false)
+returns-in_err-to-clause-known g c plain n = absurd (not_known c.args.dfa.now c.args.cache.now c.args.current c.args.class
+    c.cell-cell.result (unit_byte c.args.unit) c.is_made.ensures c.requires.own c.requires.unit c.requires.class c.cell-cell.ensures
+    (row_of_held c.args.cache.now c.args.current c.requires.held (sym c.is_sentinel.ensures ∙ c.if-is_sentinel.false))
+        (sym c.is_not_known.ensures ∙ c.if-not-is_not_known.false)
     (sym c.is_sentinel.ensures ∙ c.if-is_sentinel.false) (inr n))
 
 pub returns-in_err-to-clause-same : goal.returns-in_err-to-clause-same
-returns-in_err-to-clause-same g c k = absurd (not_known c.args.dfa.now c.args.cache.now c.args.current c.args.class c.cell-cell.result (unit_byte c.args.unit) c.is_made.ensures c.requires.own c.requires.unit c.requires.class c.cell-cell.ensures
-    (row_of_held c.args.cache.now c.args.current c.requires.held (sym c.is_sentinel.ensures ∙ c.if-is_sentinel.false)) (sym c.is_not_known.ensures ∙ c.if-not-is_not_known.false)
+returns-in_err-to-clause-same g c k = absurd (not_known c.args.dfa.now c.args.cache.now c.args.current c.args.class c.cell-cell.result
+    (unit_byte c.args.unit) c.is_made.ensures c.requires.own c.requires.unit c.requires.class c.cell-cell.ensures
+    (row_of_held c.args.cache.now c.args.current c.requires.held (sym c.is_sentinel.ensures ∙ c.if-is_sentinel.false))
+        (sym c.is_not_known.ensures ∙ c.if-not-is_not_known.false)
     (sym c.is_sentinel.ensures ∙ c.if-is_sentinel.false) k)
 
 pub returns-in_err-to-clause-free : goal.returns-in_err-to-clause-free
-returns-in_err-to-clause-free g c k = absurd (not_known c.args.dfa.now c.args.cache.now c.args.current c.args.class c.cell-cell.result (unit_byte c.args.unit) c.is_made.ensures c.requires.own c.requires.unit c.requires.class c.cell-cell.ensures
-    (row_of_held c.args.cache.now c.args.current c.requires.held (sym c.is_sentinel.ensures ∙ c.if-is_sentinel.false)) (sym c.is_not_known.ensures ∙ c.if-not-is_not_known.false)
+returns-in_err-to-clause-free g c k = absurd (not_known c.args.dfa.now c.args.cache.now c.args.current c.args.class c.cell-cell.result
+    (unit_byte c.args.unit) c.is_made.ensures c.requires.own c.requires.unit c.requires.class c.cell-cell.ensures
+    (row_of_held c.args.cache.now c.args.current c.requires.held (sym c.is_sentinel.ensures ∙ c.if-is_sentinel.false))
+        (sym c.is_not_known.ensures ∙ c.if-not-is_not_known.false)
     (sym c.is_sentinel.ensures ∙ c.if-is_sentinel.false) k)
 
 pub returns-clause-loops : goal.returns-clause-loops
 returns-clause-loops g c e = absurd (true≢false (sym e ∙ (sym c.is_sentinel.ensures ∙ c.if-is_sentinel.false)))
 
 pub returns-clause-known : goal.returns-clause-known
-returns-clause-known g c plain n = absurd (not_known c.args.dfa.now c.args.cache.now c.args.current c.args.class c.cell-cell.result (unit_byte c.args.unit) c.is_made.ensures c.requires.own c.requires.unit c.requires.class c.cell-cell.ensures
-    (row_of_held c.args.cache.now c.args.current c.requires.held (sym c.is_sentinel.ensures ∙ c.if-is_sentinel.false)) (sym c.is_not_known.ensures ∙ c.if-not-is_not_known.false)
+returns-clause-known g c plain n = absurd (not_known c.args.dfa.now c.args.cache.now c.args.current c.args.class c.cell-cell.result
+    (unit_byte c.args.unit) c.is_made.ensures c.requires.own c.requires.unit c.requires.class c.cell-cell.ensures
+    (row_of_held c.args.cache.now c.args.current c.requires.held (sym c.is_sentinel.ensures ∙ c.if-is_sentinel.false))
+        (sym c.is_not_known.ensures ∙ c.if-not-is_not_known.false)
     (sym c.is_sentinel.ensures ∙ c.if-is_sentinel.false) (inr n))
 
 pub returns-clause-same : goal.returns-clause-same
-returns-clause-same g c k = absurd (not_known c.args.dfa.now c.args.cache.now c.args.current c.args.class c.cell-cell.result (unit_byte c.args.unit) c.is_made.ensures c.requires.own c.requires.unit c.requires.class c.cell-cell.ensures
-    (row_of_held c.args.cache.now c.args.current c.requires.held (sym c.is_sentinel.ensures ∙ c.if-is_sentinel.false)) (sym c.is_not_known.ensures ∙ c.if-not-is_not_known.false)
+returns-clause-same g c k = absurd (not_known c.args.dfa.now c.args.cache.now c.args.current c.args.class c.cell-cell.result
+    (unit_byte c.args.unit) c.is_made.ensures c.requires.own c.requires.unit c.requires.class c.cell-cell.ensures
+    (row_of_held c.args.cache.now c.args.current c.requires.held (sym c.is_sentinel.ensures ∙ c.if-is_sentinel.false))
+        (sym c.is_not_known.ensures ∙ c.if-not-is_not_known.false)
     (sym c.is_sentinel.ensures ∙ c.if-is_sentinel.false) k)
 
 pub returns-clause-free : goal.returns-clause-free
-returns-clause-free g c k = absurd (not_known c.args.dfa.now c.args.cache.now c.args.current c.args.class c.cell-cell.result (unit_byte c.args.unit) c.is_made.ensures c.requires.own c.requires.unit c.requires.class c.cell-cell.ensures
-    (row_of_held c.args.cache.now c.args.current c.requires.held (sym c.is_sentinel.ensures ∙ c.if-is_sentinel.false)) (sym c.is_not_known.ensures ∙ c.if-not-is_not_known.false)
+returns-clause-free g c k = absurd (not_known c.args.dfa.now c.args.cache.now c.args.current c.args.class c.cell-cell.result
+    (unit_byte c.args.unit) c.is_made.ensures c.requires.own c.requires.unit c.requires.class c.cell-cell.ensures
+    (row_of_held c.args.cache.now c.args.current c.requires.held (sym c.is_sentinel.ensures ∙ c.if-is_sentinel.false))
+        (sym c.is_not_known.ensures ∙ c.if-not-is_not_known.false)
     (sym c.is_sentinel.ensures ∙ c.if-is_sentinel.false) k)

@@ -4,8 +4,10 @@ use Rattle.lazy_dfa.proofs.TurnStepLemmas.{step_renamed}
 use Rattle.lazy_dfa.proofs.turns.step_by.Goals as goal
 
 pub returns-in_ok-to-in-Some-clause-step : goal.returns-in_ok-to-in-Some-clause-step
-returns-in_ok-to-in-Some-clause-step g c = let x = c.in_ok-to-in-Some.ensures in step_renamed c.args.dfa.now c.args.cache.now c.next_state.new.cache c.args.work.now.determinized
-    c.next_state.new.work.determinized c.args.work.now.inserted c.next_state.new.work.inserted c.args.current (Some c.in-Some.byte) c.args.unit (answered c.in_ok-to-in-Some.to) c.in-Some.is (record {
+returns-in_ok-to-in-Some-clause-step g c = let x = c.in_ok-to-in-Some.ensures in
+    step_renamed c.args.dfa.now c.args.cache.now c.next_state.new.cache c.args.work.now.determinized
+    c.next_state.new.work.determinized c.args.work.now.inserted c.next_state.new.work.inserted c.args.current
+        (Some c.in-Some.byte) c.args.unit (answered c.in_ok-to-in-Some.to) c.in-Some.is (record {
       unit = omega arith;
       kept = x.kept;
       step = x.step;
@@ -21,8 +23,10 @@ returns-in_ok-to-in-Some-clause-step g c = let x = c.in_ok-to-in-Some.ensures in
     })
 
 pub returns-in_ok-to-in-None-clause-step : goal.returns-in_ok-to-in-None-clause-step
-returns-in_ok-to-in-None-clause-step g c = let x = c.in_ok-to-in-None.ensures in step_renamed c.args.dfa.now c.args.cache.now c.next_eoi_state.new.cache c.args.work.now.determinized
-    c.next_eoi_state.new.work.determinized c.args.work.now.inserted c.next_eoi_state.new.work.inserted c.args.current None c.args.unit (answered c.in_ok-to-in-None.to) c.in-None.is (record {
+returns-in_ok-to-in-None-clause-step g c = let x = c.in_ok-to-in-None.ensures in
+    step_renamed c.args.dfa.now c.args.cache.now c.next_eoi_state.new.cache c.args.work.now.determinized
+    c.next_eoi_state.new.work.determinized c.args.work.now.inserted c.next_eoi_state.new.work.inserted c.args.current None c.args.unit
+        (answered c.in_ok-to-in-None.to) c.in-None.is (record {
       unit = tt;
       kept = x.kept;
       step = x.step;

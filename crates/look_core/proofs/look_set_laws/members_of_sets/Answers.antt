@@ -1,4 +1,5 @@
-use Rattle.look_core.proofs.LookSetLemmas.{has_look-none, has_look-full, has_look-repr, has_look-union, has_look-shared, has_look-without, has_look-with, has_look-without_look}
+use Rattle.look_core.proofs.LookSetLemmas.{has_look-none, has_look-full, has_look-repr, has_look-union, has_look-shared, has_look-without}
+use Rattle.look_core.proofs.LookSetLemmas.{has_look-with, has_look-without_look}
 use Rattle.look_core.proofs.look_set_laws.members_of_sets.Goals as goal
 
 pub returns-clause-empty : goal.returns-clause-empty

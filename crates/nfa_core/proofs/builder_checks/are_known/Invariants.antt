@@ -6,4 +6,5 @@ use Rattle.nfa_core.specs.Drafts.{draft_of}
 use Rattle.nfa_core.proofs.builder_checks.are_known.Given as goal
 
 abbrev pub invariant-loop-draft : goal.invariant-loop-draft
-invariant-loop-draft l = list_all (is_known (groups_in l.groups)) (map draft_of (drop l.draft-index l.drafts)) ≡ list_all (is_known (groups_in l.groups)) (map draft_of l.drafts)
+invariant-loop-draft l = list_all (is_known (groups_in l.groups)) (map draft_of (drop l.draft-index l.drafts)) ≡ list_all
+    (is_known (groups_in l.groups)) (map draft_of l.drafts)

@@ -6,4 +6,6 @@ use Rattle.nfa_core.specs.Drafts.{draft_of}
 use Rattle.nfa_core.proofs.builder_checks.are_named.Given as goal
 
 abbrev pub invariant-loop-draft : goal.invariant-loop-draft
-invariant-loop-draft l = list_all (λ draft. list_all (λ q. nat_lt q (length l.drafts)) (names_of draft)) (map draft_of (drop l.draft-index l.drafts)) ≡ list_all (λ draft. list_all (λ q. nat_lt q (length l.drafts)) (names_of draft)) (map draft_of l.drafts)
+invariant-loop-draft l = list_all (λ draft. list_all (λ q. nat_lt q (length l.drafts)) (names_of draft))
+    (map draft_of (drop l.draft-index l.drafts)) ≡ list_all (λ draft. list_all (λ q. nat_lt q (length l.drafts)) (names_of draft))
+    (map draft_of l.drafts)

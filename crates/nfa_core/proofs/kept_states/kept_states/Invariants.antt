@@ -6,4 +6,5 @@ use Rattle.nfa_core.specs.States.{node_of}
 use Rattle.nfa_core.proofs.kept_states.kept_states.Given as goal
 
 abbrev pub invariant-loop-draft : goal.invariant-loop-draft
-invariant-loop-draft l = map node_of l.states.items ≡ map (renamed (name_in l.names) l.groups) (kept (take l.draft-index (map draft_of l.drafts)))
+invariant-loop-draft l = map node_of l.states.items ≡ map (renamed (name_in l.names) l.groups)
+    (kept (take l.draft-index (map draft_of l.drafts)))

@@ -9,5 +9,6 @@ use Rattle.nfa_core.proofs.nfa_facts.has_match.Given as goal
 abbrev pub invariant-loop-id : goal.invariant-loop-id
 invariant-loop-id l = record {
   below : AreBelow (length l.states) l.id-iterator;
-  same : list_any (λ q. is_match (get_or (map node_of l.states) q fail_node)) l.id-iterator ≡ list_any (λ q. is_match (get_or (map node_of l.states) q fail_node)) l.set.names;
+  same : list_any (λ q. is_match (get_or (map node_of l.states) q fail_node)) l.id-iterator ≡ list_any
+      (λ q. is_match (get_or (map node_of l.states) q fail_node)) l.set.names;
 }

@@ -14,19 +14,23 @@ loop-id-init g c =
     record {
       bound = bound;
       fits = search rules;
-      stands = begins (automaton_in c.args.parts.now) c.in_ok-set.set.bound (bound ∙ len_nodes c.args.parts.now.states.items) c.requires.sound
+      stands = begins (automaton_in c.args.parts.now) c.in_ok-set.set.bound (bound
+          ∙ len_nodes c.args.parts.now.states.items) c.requires.sound
           c.push_all.new.self c.in_ok-set.set.names all none;
     }
 
 pub loop-id-preserved : goal.loop-id-preserved
 loop-id-preserved g c =
     let bound : c.next_fresh.new.set.bound ≡ c.loop-id.set.bound = c.in-Some.ensures.bound in
-    let len : c.loop-id.set.bound ≡ length (automaton_in c.args.parts.now).states = c.loop-id.invariant.bound ∙ len_nodes c.args.parts.now.states.items in
+    let len : c.loop-id.set.bound ≡ length (automaton_in c.args.parts.now).states =
+        c.loop-id.invariant.bound ∙ len_nodes c.args.parts.now.states.items in
     let is : node_of c.state_at.result.now ≡ node_at (automaton_in c.args.parts.now) c.in-Some.id = search rules in
     let ways : c.push_ways.new.stack ≡ on_nothing (node_of c.state_at.result.now) (λ l. true) ++ c.next_fresh.new.stack = search rules in
     let stands : StandsAt (automaton_in c.args.parts.now) c.loop-id.set.bound c.push_ways.new.stack c.next_fresh.new.set.names =
-    goes_on (automaton_in c.args.parts.now) c.loop-id.set.bound len c.requires.sound c.loop-id.stack c.loop-id.set.names c.next_fresh.new.stack c.next_fresh.new.set.names
-    c.push_ways.new.stack c.in-Some.id (node_of c.state_at.result.now) c.loop-id.invariant.stands c.in-Some.ensures.inside c.in-Some.ensures.below c.in-Some.ensures.meets is ways in
+    goes_on (automaton_in c.args.parts.now) c.loop-id.set.bound len c.requires.sound c.loop-id.stack c.loop-id.set.names
+        c.next_fresh.new.stack c.next_fresh.new.set.names
+    c.push_ways.new.stack c.in-Some.id (node_of c.state_at.result.now) c.loop-id.invariant.stands c.in-Some.ensures.inside
+        c.in-Some.ensures.below c.in-Some.ensures.meets is ways in
     record {
       bound = bound ∙ c.loop-id.invariant.bound;
       fits = c.in-Some.ensures.fits;
@@ -35,12 +39,16 @@ loop-id-preserved g c =
 
 pub returns-clause-names : goal.returns-clause-names
 returns-clause-names g c =
-    let len : c.loop-id.set.bound ≡ length (automaton_in c.args.parts.now).states = c.loop-id.invariant.bound ∙ len_nodes c.args.parts.now.states.items in
-    ends (automaton_in c.args.parts.now) c.loop-id.set.bound len c.requires.sound c.loop-id.stack c.loop-id.set.names c.next_fresh.new.stack c.next_fresh.new.set.names
+    let len : c.loop-id.set.bound ≡ length (automaton_in c.args.parts.now).states =
+        c.loop-id.invariant.bound ∙ len_nodes c.args.parts.now.states.items in
+    ends (automaton_in c.args.parts.now) c.loop-id.set.bound len c.requires.sound c.loop-id.stack c.loop-id.set.names c.next_fresh.new.stack
+        c.next_fresh.new.set.names
     c.loop-id.invariant.stands c.in_default.ensures.meets
 
 pub returns-clause-below : goal.returns-clause-below
 returns-clause-below g c =
-    let len : c.loop-id.set.bound ≡ length (automaton_in c.args.parts.now).states = c.loop-id.invariant.bound ∙ len_nodes c.args.parts.now.states.items in
-    rw (← c.loop-id.invariant.bound) (met_below (automaton_in c.args.parts.now) c.loop-id.set.bound len c.requires.sound c.loop-id.stack c.loop-id.set.names
+    let len : c.loop-id.set.bound ≡ length (automaton_in c.args.parts.now).states =
+        c.loop-id.invariant.bound ∙ len_nodes c.args.parts.now.states.items in
+    rw (← c.loop-id.invariant.bound) (met_below (automaton_in c.args.parts.now) c.loop-id.set.bound len c.requires.sound c.loop-id.stack
+        c.loop-id.set.names
     c.next_fresh.new.stack c.next_fresh.new.set.names c.loop-id.invariant.stands c.in_default.ensures.meets)

@@ -4,7 +4,8 @@ use Rattle.regex_pair.specs.MadeSearches.{MakesHalf}
 use Rattle.regex_pair.proofs.searching.search_end.Goals as goal
 
 pub returns-clause-search : goal.returns-clause-search
-returns-clause-search g c = subst (λ (d : Dfa). MakesHalf d c.args.input.now c.args.cache.now c.try_search_fwd.new.cache c.args.work.now.determinized c.try_search_fwd.new.work.determinized
+returns-clause-search g c = subst (λ (d : Dfa). MakesHalf d c.args.input.now c.args.cache.now c.try_search_fwd.new.cache
+    c.args.work.now.determinized c.try_search_fwd.new.work.determinized
     c.args.work.now.inserted c.try_search_fwd.new.work.inserted c.try_search_fwd.result) c.forward.ensures.value (record {
       answer = c.try_search_fwd.ensures.answer;
       sure = c.try_search_fwd.ensures.sure;

@@ -4,7 +4,8 @@ use Rattle.regex_pair.specs.MadeSearches.{MakesHalf}
 use Rattle.regex_pair.proofs.searching.search_start.Goals as goal
 
 pub returns-clause-search : goal.returns-clause-search
-returns-clause-search g c = subst (λ (d : Dfa). MakesHalf d c.args.input.now c.args.cache.now c.try_search_rev.new.cache c.args.work.now.determinized c.try_search_rev.new.work.determinized
+returns-clause-search g c = subst (λ (d : Dfa). MakesHalf d c.args.input.now c.args.cache.now c.try_search_rev.new.cache
+    c.args.work.now.determinized c.try_search_rev.new.work.determinized
     c.args.work.now.inserted c.try_search_rev.new.work.inserted c.try_search_rev.result) c.reverse.ensures.value (record {
       answer = c.try_search_rev.ensures.answer;
       sure = c.try_search_rev.ensures.sure;

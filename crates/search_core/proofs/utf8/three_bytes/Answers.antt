@@ -4,4 +4,6 @@ use Rattle.search_core.proofs.DecodeLemmas.{char_of, three_spell}
 use Rattle.search_core.proofs.utf8.three_bytes.Goals as goal
 
 pub returns : goal.returns
-returns c = char_of _ _ (λ x. Spells x (c.args.a ∷ c.args.b ∷ c.args.d ∷ [])) c.from_u32.ensures.value c.from_u32.ensures.cases (rw (c.from.ensures, c.from-2.ensures, c.from-3.ensures) (three_spell _ _ _ (sym c.if-not-is_second_of_three.ensures) (sym c.if-not-is_continuation.ensures)))
+returns c = char_of _ _ (λ x. Spells x (c.args.a ∷ c.args.b ∷ c.args.d ∷ [])) c.from_u32.ensures.value c.from_u32.ensures.cases
+    (rw (c.from.ensures, c.from-2.ensures, c.from-3.ensures) (three_spell _ _ _ (sym c.if-not-is_second_of_three.ensures)
+    (sym c.if-not-is_continuation.ensures)))

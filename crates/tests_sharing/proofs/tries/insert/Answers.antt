@@ -17,4 +17,5 @@ insert-requires-clause-apart c = pairs_apart c.args.trie.now (bytes_of c.args.fi
 
 -- src/tries.rt:19:1
 pub returns : goal.returns
-returns c = pairs_kept c.insert.result c.args.trie.now c.insert.new.self (bytes_of c.args.first) (bytes_of c.args.second) c.requires.old c.insert.ensures.ok
+returns c = pairs_kept c.insert.result c.args.trie.now c.insert.new.self (bytes_of c.args.first)
+    (bytes_of c.args.second) c.requires.old c.insert.ensures.ok

@@ -9,8 +9,11 @@ pub add_sparse-requires : goal.add_sparse-requires
 add_sparse-requires c = ascends c.args.next c.args.ranges.now _ c.requires c.in_ok-all.ensures.each
 
 pub returns-clause-added : goal.returns-clause-added
-returns-clause-added c = added_of _ _ _ _ _ c.in_ok-id.ensures.0 c.in_ok-id.ensures.1 c.in_ok-id.ensures.2 (ap sparse_draft c.in_ok-all.ensures.each)
+returns-clause-added c = added_of _ _ _ _ _ c.in_ok-id.ensures.0 c.in_ok-id.ensures.1 c.in_ok-id.ensures.2
+    (ap sparse_draft c.in_ok-all.ensures.each)
 
 pub returns-in_err-id-clause-refused : goal.returns-in_err-id-clause-refused
 returns-in_err-id-clause-refused c = handed _ _ c.in_err-id.field-0.0 c.from_residual-in_err-id.ensures.1
-    (add_refused _ _ _ 2072 _ c.in_err-id.ensures.0 c.in_err-id.ensures.1 (bytes_shown c.args.next c.args.ranges.now _ c.in_ok-all.ensures.each (few_ranges c.args.ranges.now c.requires c.in_ok-all.ensures.bytes)))
+    (add_refused _ _ _ 2072 _ c.in_err-id.ensures.0 c.in_err-id.ensures.1
+        (bytes_shown c.args.next c.args.ranges.now _ c.in_ok-all.ensures.each
+        (few_ranges c.args.ranges.now c.requires c.in_ok-all.ensures.bytes)))

@@ -4,13 +4,15 @@ use Rattle.thompson_nfa.proofs.Classes.ClassTrieLemmas.{none_gained, next_ranges
 use Rattle.thompson_nfa.proofs.class_trie.insert_range.Goals as goal
 
 pub loop-sequence-init : goal.loop-sequence-init
-loop-sequence-init c = none_gained c.args.trie.now _ _ (c.into_iter-sequence-iterator.ensures.into_iter_gives ∙ c.new-sequence-items.ensures)
+loop-sequence-init c = none_gained c.args.trie.now _ _ (c.into_iter-sequence-iterator.ensures.into_iter_gives
+    ∙ c.new-sequence-items.ensures)
 
 pub insert_turned-requires-clause-ordered : goal.insert_turned-requires-clause-ordered
 insert_turned-requires-clause-ordered c = next_ranges _ _ _ _ c.args.first c.args.last _ c.loop-sequence.invariant c.in-Some.ensures.steps
 
 pub insert_turned-requires-clause-old : goal.insert_turned-requires-clause-old
-insert_turned-requires-clause-old c = met_turned _ _ _ _ c.args.first c.args.last _ c.loop-sequence.invariant c.in-Some.ensures.steps c.requires
+insert_turned-requires-clause-old c = met_turned _ _ _ _ c.args.first c.args.last _ c.loop-sequence.invariant c.in-Some.ensures.steps
+    c.requires
 
 pub insert_turned-requires-clause-new : goal.insert_turned-requires-clause-new
 insert_turned-requires-clause-new c = next_turned _ _ _ _ c.args.first c.args.last _ c.loop-sequence.invariant c.in-Some.ensures.steps

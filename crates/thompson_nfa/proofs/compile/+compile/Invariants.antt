@@ -53,11 +53,13 @@ abbrev pub invariant-copies-loop : goal.invariant-copies-loop
 invariant-copies-loop l = Copies l.how l.fn.builder l.builder l.first.start l.end l.counter l.x × (l.counter ≤ l.n)
 
 abbrev pub invariant-up_to-loop : goal.invariant-up_to-loop
-invariant-up_to-loop l = Rounds l.how l.fn.builder l.builder l.first.start l.end l.exit l.counter 0 l.most (l.most * (room l.how.shrink l.x + 1) + 1) l.greedy l.x
+invariant-up_to-loop l = Rounds l.how l.fn.builder l.builder l.first.start l.end l.exit l.counter 0 l.most
+    (l.most * (room l.how.shrink l.x + 1) + 1) l.greedy l.x
 
 abbrev pub invariant-owed_and_more-loop : goal.invariant-owed_and_more-loop
 invariant-owed_and_more-loop l =
-    Rounds l.how l.fn.builder l.builder l.prefix.start l.end l.exit l.counter l.min l.most (l.min * room l.how.shrink l.x + (l.most - l.min) * (room l.how.shrink l.x + 1) + 1) l.greedy l.x
+    Rounds l.how l.fn.builder l.builder l.prefix.start l.end l.exit l.counter l.min l.most
+        (l.min * room l.how.shrink l.x + (l.most - l.min) * (room l.how.shrink l.x + 1) + 1) l.greedy l.x
 
 abbrev pub invariant-alternatives-loop-i : goal.invariant-alternatives-loop-i
 invariant-alternatives-loop-i l = Cases l.how l.fn.builder l.builder l.union l.end l.i l.subs

@@ -11,7 +11,8 @@ loop-i-init c = (
   c.in_ok-first.ensures.groups,
   omega arith,
   does_first _ _ _ _ _ _ _ (literal_begun c.args.builder.now.reverse c.args.bytes.now _ 0 (omega arith)
-      (ap (λ k. get_or c.args.bytes.now k 0) (c.turned_place.ensures.value ∙ ap (λ back. turned_place back 0 (length c.args.bytes.now)) c.get_reverse-reverse.ensures))) c.in_ok-first.ensures.denotes,
+      (ap (λ k. get_or c.args.bytes.now k 0) (c.turned_place.ensures.value
+          ∙ ap (λ back. turned_place back 0 (length c.args.bytes.now)) c.get_reverse-reverse.ensures))) c.in_ok-first.ensures.denotes,
 )
 
 pub loop-i-preserved : goal.loop-i-preserved
@@ -21,11 +22,15 @@ loop-i-preserved c = (
   omega arith,
   join_does _ _ _ _ _ _ _ _ _ _ c.loop-i.invariant.0 c.in_ok-next.ensures.made c.in_ok-lead.ensures _ _ _ _
       (literal_joins c.args.builder.now.reverse c.args.bytes.now c.loop-i.i _ 0 (omega arith)
-      (ap (λ k. get_or c.args.bytes.now k 0) (c.turned_place-in-loop-i.ensures.value ∙ ap (λ back. turned_place back c.loop-i.i (length c.args.bytes.now)) c.get_reverse-reverse.ensures))) c.loop-i.invariant.3 c.in_ok-next.ensures.denotes,
+      (ap (λ k. get_or c.args.bytes.now k 0) (c.turned_place-in-loop-i.ensures.value
+          ∙ ap (λ back. turned_place back c.loop-i.i (length c.args.bytes.now)) c.get_reverse-reverse.ensures))) c.loop-i.invariant.3
+          c.in_ok-next.ensures.denotes,
 )
 
 pub returns-then-bytes-eq0-clause-denotes : goal.returns-then-bytes-eq0-clause-denotes
-returns-then-bytes-eq0-clause-denotes c = does_same _ _ _ _ _ _ (none_is_literal c.args.bytes.now (omega arith)) c.in_ok-none.ensures.denotes
+returns-then-bytes-eq0-clause-denotes c = does_same _ _ _ _ _ _ (none_is_literal c.args.bytes.now (omega arith))
+    c.in_ok-none.ensures.denotes
 
 pub returns-clause-denotes : goal.returns-clause-denotes
-returns-clause-denotes c = does_all _ _ _ _ _ _ (literal_ended c.args.builder.now.reverse c.loop-i.i c.args.bytes.now (omega arith)) c.loop-i.invariant.3
+returns-clause-denotes c = does_all _ _ _ _ _ _ (literal_ended c.args.builder.now.reverse c.loop-i.i c.args.bytes.now (omega arith))
+    c.loop-i.invariant.3

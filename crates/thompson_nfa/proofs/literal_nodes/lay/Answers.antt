@@ -5,12 +5,14 @@ use Rattle.thompson_nfa.proofs.literal_nodes.lay.Goals as goal
 
 pub items-requires-clause-some : goal.items-requires-clause-some
 items-requires-clause-some c =
-    omega (arith, c.requires.some, rest_long c.stem-stem.result.now c.args.strings.now c.in_ok-rest.rest.items c.deref.result.now c.stem-stem.ensures c.in_ok-rest.ensures c.deref.ensures.value)
+    omega (arith, c.requires.some, rest_long c.stem-stem.result.now c.args.strings.now c.in_ok-rest.rest.items c.deref.result.now
+        c.stem-stem.ensures c.in_ok-rest.ensures c.deref.ensures.value)
 
 pub returns : goal.returns
 returns c = record {
   rest = texts c.deref.result.now;
-  is = stem_split c.stem-stem.result.now c.args.strings.now c.in_ok-rest.rest.items c.deref.result.now c.stem-stem.ensures c.in_ok-rest.ensures c.deref.ensures.value;
+  is = stem_split c.stem-stem.result.now c.args.strings.now c.in_ok-rest.rest.items c.deref.result.now c.stem-stem.ensures
+      c.in_ok-rest.ensures c.deref.ensures.value;
   adds = c.in_ok-items.ensures.adds;
   holds = c.in_ok-items.ensures.node;
 }

@@ -5,4 +5,5 @@ use Rattle.thompson_nfa.specs.LiteralStates.{edge_ranges}
 use Rattle.thompson_nfa.proofs.literal_states.transitions.Given as goal
 
 abbrev pub invariant-loop-edge : goal.invariant-loop-edge
-invariant-loop-edge l = (map range_of l.all.items ++ edge_ranges l.names (drop l.edge-index l.edges) ≡ edge_ranges l.names l.edges) × AreInside 0 (length l.names) (drop l.edge-index l.edges)
+invariant-loop-edge l = (map range_of l.all.items ++ edge_ranges l.names (drop l.edge-index l.edges) ≡ edge_ranges l.names l.edges) ×
+    AreInside 0 (length l.names) (drop l.edge-index l.edges)

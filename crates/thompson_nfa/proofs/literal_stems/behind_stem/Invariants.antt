@@ -4,4 +4,5 @@ use Rattle.thompson_nfa.specs.LiteralStems.{without}
 use Rattle.thompson_nfa.proofs.literal_stems.behind_stem.Given as goal
 
 abbrev pub invariant-loop-string : goal.invariant-loop-string
-invariant-loop-string l = texts l.all.items ++ without (length l.stem) (texts (drop l.string-index l.strings)) ≡ without (length l.stem) (texts l.strings)
+invariant-loop-string l = texts l.all.items ++ without (length l.stem) (texts (drop l.string-index l.strings)) ≡ without (length l.stem)
+    (texts l.strings)

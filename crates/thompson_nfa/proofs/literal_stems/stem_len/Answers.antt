@@ -9,5 +9,6 @@ loop-len-init c = (omega arith, begin_none (texts c.args.strings.now))
 pub loop-len-preserved : goal.loop-len-preserved
 loop-len-preserved c = (
   omega (arith, c.loop-len-test.true),
-  stem_more c.args.first.now c.loop-len.len _ (texts c.args.strings.now) c.loop-len-test.true refl c.loop-len.invariant.1 (c.if-all_have.ensures refl),
+  stem_more c.args.first.now c.loop-len.len _ (texts c.args.strings.now) c.loop-len-test.true refl c.loop-len.invariant.1
+      (c.if-all_have.ensures refl),
 )

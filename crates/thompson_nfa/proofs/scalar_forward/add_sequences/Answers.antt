@@ -1,10 +1,12 @@
 use Rattle.std.proofs.Common.{◌∙◌}
 use Rattle.thompson_nfa.proofs.Steps.ErrorLemmas.{handed}
-use Rattle.thompson_nfa.proofs.Classes.FollowLemmas.{none_added, still_rising, still_keeps, some_ranges, few_ranges, byte_bounds, after_last, one_added, all_added, one_refused}
+use Rattle.thompson_nfa.proofs.Classes.FollowLemmas.{none_added, still_rising, still_keeps, some_ranges, few_ranges, byte_bounds}
+use Rattle.thompson_nfa.proofs.Classes.FollowLemmas.{after_last, one_added, all_added, one_refused}
 use Rattle.thompson_nfa.proofs.scalar_forward.add_sequences.Goals as goal
 
 pub loop-sequence-init : goal.loop-sequence-init
-loop-sequence-init c = none_added _ _ _ _ _ _ (c.into_iter-sequence-iterator.ensures.into_iter_gives ∙ c.new-sequence-items.ensures) c.requires.order
+loop-sequence-init c = none_added _ _ _ _ _ _ (c.into_iter-sequence-iterator.ensures.into_iter_gives
+    ∙ c.new-sequence-items.ensures) c.requires.order
 
 pub add_sequence-requires-clause-some : goal.add_sequence-requires-clause-some
 add_sequence-requires-clause-some c = some_ranges _ _ _ _ _ _ _ _ _ _ c.loop-sequence.invariant c.requires.begun _ _ c.in-Some.ensures.steps
@@ -13,7 +15,8 @@ pub add_sequence-requires-clause-few : goal.add_sequence-requires-clause-few
 add_sequence-requires-clause-few c = few_ranges _ _ _ _ _ _ _ _ _ _ c.loop-sequence.invariant c.requires.begun _ _ c.in-Some.ensures.steps
 
 pub add_sequence-requires-clause-bytes : goal.add_sequence-requires-clause-bytes
-add_sequence-requires-clause-bytes c = byte_bounds _ _ _ _ _ _ _ _ _ _ c.loop-sequence.invariant c.requires.begun _ _ c.in-Some.ensures.steps
+add_sequence-requires-clause-bytes c = byte_bounds _ _ _ _ _ _ _ _ _ _ c.loop-sequence.invariant c.requires.begun _ _
+    c.in-Some.ensures.steps
 
 pub add_sequence-requires-clause-after : goal.add_sequence-requires-clause-after
 add_sequence-requires-clause-after c = after_last _ _ _ _ _ _ _ _ _ _ c.loop-sequence.invariant c.requires.begun _ _ c.in-Some.ensures.steps
@@ -25,7 +28,8 @@ pub add_sequence-requires-clause-keeps : goal.add_sequence-requires-clause-keeps
 add_sequence-requires-clause-keeps c = still_keeps _ _ _ _ _ _ _ _ _ _ c.loop-sequence.invariant c.requires.begun
 
 pub loop-sequence-preserved : goal.loop-sequence-preserved
-loop-sequence-preserved c = one_added _ _ _ _ _ _ _ _ _ _ c.loop-sequence.invariant c.requires.begun _ _ c.in-Some.ensures.steps _ _ _ _ c.in_ok-add_sequence.ensures.added
+loop-sequence-preserved c = one_added _ _ _ _ _ _ _ _ _ _ c.loop-sequence.invariant c.requires.begun _ _ c.in-Some.ensures.steps _ _ _ _
+    c.in_ok-add_sequence.ensures.added
 
 pub returns-in_err-add_sequence-clause-refused : goal.returns-in_err-add_sequence-clause-refused
 returns-in_err-add_sequence-clause-refused c = handed _ _ c.in_err-add_sequence.field-0.0 c.from_residual.ensures.1

@@ -15,7 +15,8 @@ pub share_range-requires-clause-places : goal.share_range-requires-clause-places
 share_range-requires-clause-places c = places_up_to _ _ _ _ _ _ _ _ c.loop-place.invariant c.requires.places
 
 pub share_range-requires-clause-rising : goal.share_range-requires-clause-rising
-share_range-requires-clause-rising c = let less = c.loop-place-test.true in let within = c.requires.within in rising_at c.args.ranges.now c.loop-place.place _ c.requires.rising (omega (arith, less, within))
+share_range-requires-clause-rising c = let less = c.loop-place-test.true in let within = c.requires.within in
+    rising_at c.args.ranges.now c.loop-place.place _ c.requires.rising (omega (arith, less, within))
 
 pub returns-in_err-next-clause-capacity : goal.returns-in_err-next-clause-capacity
 returns-in_err-next-clause-capacity c = c.in_err-next.ensures.capacity ∙ capacity_up_to _ _ _ _ _ _ _ _ c.loop-place.invariant
@@ -25,7 +26,9 @@ returns-in_err-next-clause-refused c = handed _ _ c.in_err-next.field-0.0 c.from
     (range_refused _ _ _ _ _ _ _ _ c.loop-place.invariant _ _ c.args.many c.loop-place-test.true c.in_err-next.ensures.refused)
 
 pub loop-place-preserved : goal.loop-place-preserved
-loop-place-preserved c = let less = c.loop-place-test.true in let within = c.requires.within in next_shared _ _ _ _ _ _ c.loop-place.place c.args.ranges.now c.loop-place.invariant _ _ _ _ (omega (arith, less, within)) c.in_ok-next.ensures.shared
+loop-place-preserved c = let less = c.loop-place-test.true in let within = c.requires.within in
+    next_shared _ _ _ _ _ _ c.loop-place.place c.args.ranges.now c.loop-place.invariant _ _ _ _ (omega (arith, less,
+    within)) c.in_ok-next.ensures.shared
 
 pub returns-clause-capacity : goal.returns-clause-capacity
 returns-clause-capacity c = capacity_up_to _ _ _ _ _ _ _ _ c.loop-place.invariant

@@ -2,7 +2,8 @@ use Rattle.std.proofs.Common.{◌≡◌, ◌≤◌, refl, ◌∙◌, arith, map,
 use Rattle.std.proofs.lemmas.List.{length-map}
 use Rattle.hir_core.specs.Sequences.{bytes_of}
 use Rattle.thompson_nfa.proofs.Steps.ErrorLemmas.{handed}
-use Rattle.thompson_nfa.proofs.Classes.PathLemmas.{sequence_turned, sequence_first, compiling_as, parts_range, empty_by, all_quit, first_quit, turned_quit}
+use Rattle.thompson_nfa.proofs.Classes.PathLemmas.{sequence_turned, sequence_first, compiling_as, parts_range, empty_by, all_quit}
+use Rattle.thompson_nfa.proofs.Classes.PathLemmas.{first_quit, turned_quit}
 use Rattle.thompson_nfa.proofs.utf8_compiler.add.Goals as goal
 
 pub returns-then-is_empty-clause-added : goal.returns-then-is_empty-clause-added
@@ -13,7 +14,8 @@ returns-then-is_empty-clause-added c = λ old qs i.
     let few : length c.args.ranges.now ≤ 4 = c.requires.few in
     let none : length c.args.state.now.nodes.items ≡ 0 = grind (arith, c.is_empty.ensures, c.if-is_empty.true) in
     compiling_as _ _ _ _ _ _ _ _ c.push_nodes.ensures.end c.push_nodes.ensures.compiled
-    (sequence_first _ _ _ _ _ _ _ i (empty_by _ none) q (omega (arith, long, some)) c.requires.bytes (omega (arith, long, few)) c.in_ok-push_nodes.ensures.nodes)
+    (sequence_first _ _ _ _ _ _ _ i (empty_by _ none) q (omega (arith, long, some)) c.requires.bytes (omega (arith, long,
+        few)) c.in_ok-push_nodes.ensures.nodes)
 
 pub returns-clause-added : goal.returns-clause-added
 returns-clause-added c = λ old qs i.
@@ -23,7 +25,8 @@ returns-clause-added c = λ old qs i.
     let at = c.first_difference-from in
     compiling_as _ _ _ _ _ _ _ _ (c.push_nodes-2.ensures.end ∙ c.turn.ensures.end) c.push_nodes-2.ensures.compiled
     (sequence_turned _ _ _ _ _ _ _ _ _ qs q _ at.result i c.in_ok-turn.ensures.turns at.ensures.parts
-    (parts_range _ q c.args.ranges.now _ (record { start = 0; end = 0 }) at.result refl at.ensures.inside refl at.ensures.parts) c.requires.bytes (omega (arith, long, few)) c.in_ok-push_nodes-2.ensures.nodes
+    (parts_range _ q c.args.ranges.now _ (record { start = 0; end = 0 }) at.result refl at.ensures.inside refl at.ensures.parts)
+        c.requires.bytes (omega (arith, long, few)) c.in_ok-push_nodes-2.ensures.nodes
     c.in_ok-turn.ensures.keeps)
 
 pub returns-in_err-push_nodes-clause-refused : goal.returns-in_err-push_nodes-clause-refused

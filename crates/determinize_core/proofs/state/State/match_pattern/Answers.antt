@@ -10,13 +10,17 @@ pub overflow_add-index : goal.overflow_add-index
 overflow_add-index c = omega (arith, c.requires, few c.args.self.now c.as_bytes-bytes.ensures.state)
 
 pub number_at-requires : goal.number_at-requires
-number_at-requires c = pattern_within c.args.self.now c.as_bytes-bytes.result.now c.args.index c.as_bytes-bytes.ensures.value (sym c.has_flag.ensures ∙ c.if-has_flag.true) c.requires
+number_at-requires c = pattern_within c.args.self.now c.as_bytes-bytes.result.now c.args.index c.as_bytes-bytes.ensures.value
+    (sym c.has_flag.ensures ∙ c.if-has_flag.true) c.requires
 
 pub must-requires : goal.must-requires
-must-requires c = omega (arith, c.number_at.ensures, pattern_index c.args.self.now c.as_bytes-bytes.result.now c.args.index c.as_bytes-bytes.ensures.state c.as_bytes-bytes.ensures.value (sym c.has_flag.ensures ∙ c.if-has_flag.true) c.requires)
+must-requires c = omega (arith, c.number_at.ensures, pattern_index c.args.self.now c.as_bytes-bytes.result.now c.args.index
+    c.as_bytes-bytes.ensures.state c.as_bytes-bytes.ensures.value (sym c.has_flag.ensures ∙ c.if-has_flag.true) c.requires)
 
 pub returns-then-has_flag : goal.returns-then-has_flag
-returns-then-has_flag c = c.must.ensures ∙ (c.number_at.ensures ∙ pattern_told c.args.self.now c.as_bytes-bytes.result.now c.args.index c.as_bytes-bytes.ensures.state c.as_bytes-bytes.ensures.value (sym c.has_flag.ensures ∙ c.if-has_flag.true) c.requires)
+returns-then-has_flag c = c.must.ensures ∙ (c.number_at.ensures ∙ pattern_told c.args.self.now c.as_bytes-bytes.result.now c.args.index
+    c.as_bytes-bytes.ensures.state c.as_bytes-bytes.ensures.value (sym c.has_flag.ensures ∙ c.if-has_flag.true) c.requires)
 
 pub returns : goal.returns
-returns c = sym (alone c.args.self.now.matches c.args.index (sym (told_listed c.args.self.now c.as_bytes-bytes.result.now c.as_bytes-bytes.ensures.value) ∙ (sym c.has_flag.ensures ∙ c.if-has_flag.false)) c.requires)
+returns c = sym (alone c.args.self.now.matches c.args.index (sym (told_listed c.args.self.now c.as_bytes-bytes.result.now
+    c.as_bytes-bytes.ensures.value) ∙ (sym c.has_flag.ensures ∙ c.if-has_flag.false)) c.requires)

@@ -10,4 +10,5 @@ invariant_of-self c =
     (kept.0, noted_same c.self.inside.positions.noted.items _ _ (ap (λ (v : StateValue). v.matches) kept.1) c.self.invariant.1)
 
 pub returns : goal.returns
-returns c = (keeps_word c.self.inside.bytes.items c.set_flag.new.bytes.items c.self.invariant.0 c.set_flag.ensures).1 ∙ ap (λ (v : StateValue). record v { is_from_word = true }) c.self.view_is
+returns c = (keeps_word c.self.inside.bytes.items c.set_flag.new.bytes.items c.self.invariant.0 c.set_flag.ensures).1
+    ∙ ap (λ (v : StateValue). record v { is_from_word = true }) c.self.view_is

@@ -6,4 +6,5 @@ pub from_bytes-requires : goal.from_bytes-requires
 from_bytes-requires c = is_encoded c.args.self.now _ c.as_bytes.ensures.state (c.in_ok-from_slice.ensures.items ∙ c.as_bytes.ensures.value)
 
 pub returns : goal.returns
-returns c = c.in_ok-state.ensures ∙ value_back c.args.self.now _ c.as_bytes.ensures.state (c.in_ok-from_slice.ensures.items ∙ c.as_bytes.ensures.value)
+returns c = c.in_ok-state.ensures ∙ value_back c.args.self.now _ c.as_bytes.ensures.state (c.in_ok-from_slice.ensures.items
+    ∙ c.as_bytes.ensures.value)

@@ -4,4 +4,5 @@ use Rattle.lazy_dfa.proofs.CacheLemmas.{place_in_none}
 use Rattle.lazy_dfa.proofs.cache.Cache.clear_keeping.Goals as goal
 
 pub add_state-requires-clause-fresh : goal.add_state-requires-clause-fresh
-add_state-requires-clause-fresh c = place_in_none c.in_ok-state.state c.clear.new.self.states (ap (λ (v : CacheValue). v.states) c.clear.ensures)
+add_state-requires-clause-fresh c = place_in_none c.in_ok-state.state c.clear.new.self.states
+    (ap (λ (v : CacheValue). v.states) c.clear.ensures)

@@ -6,10 +6,13 @@ use Rattle.lazy_dfa.proofs.ChangeLemmas.{step_held}
 use Rattle.lazy_dfa.proofs.dfa.DFA.next_eoi_state.Goals as goal
 
 pub returns-clause-step : goal.returns-clause-step
-returns-clause-step g c = subst (λ (x : InputUnit). StepsTo c.args.self.now c.args.cache.now c.step.new.cache c.args.current (unit_byte x) c.in_ok-to.to) c.eoi.ensures c.in_ok-to.ensures.step
+returns-clause-step g c = subst (λ (x : InputUnit). StepsTo c.args.self.now c.args.cache.now c.step.new.cache c.args.current
+    (unit_byte x) c.in_ok-to.to) c.eoi.ensures c.in_ok-to.ensures.step
 
 pub returns-clause-noted : goal.returns-clause-noted
-returns-clause-noted g c = subst (λ (x : InputUnit). IsNoted c.args.self.now c.args.cache.now c.step.new.cache c.args.current (unit_byte x) c.in_ok-to.to) c.eoi.ensures c.in_ok-to.ensures.noted
+returns-clause-noted g c = subst (λ (x : InputUnit). IsNoted c.args.self.now c.args.cache.now c.step.new.cache c.args.current
+    (unit_byte x) c.in_ok-to.to) c.eoi.ensures c.in_ok-to.ensures.noted
 
 pub returns-clause-held : goal.returns-clause-held
-returns-clause-held g c = step_held c.args.self.now c.args.cache.now c.step.new.cache c.args.current c.in_ok-to.to (unit_byte c.eoi.result) c.requires.held c.in_ok-to.ensures.loops c.in_ok-to.ensures.same c.in_ok-to.ensures.step
+returns-clause-held g c = step_held c.args.self.now c.args.cache.now c.step.new.cache c.args.current c.in_ok-to.to
+    (unit_byte c.eoi.result) c.requires.held c.in_ok-to.ensures.loops c.in_ok-to.ensures.same c.in_ok-to.ensures.step

@@ -5,4 +5,5 @@ pub returns-clause-marked : goal.returns-clause-marked
 returns-clause-marked c = marked_there c.args.self.now.words.items c.args.number c.index_mut.result.now c.requires
 
 pub returns-clause-others : goal.returns-clause-others
-returns-clause-others c = marked_elsewhere c.args.self.now.words.items c.args.number c.index_mut.result.now _ c.requires c.index_mut.ensures.value
+returns-clause-others c = marked_elsewhere c.args.self.now.words.items c.args.number c.index_mut.result.now _ c.requires
+    c.index_mut.ensures.value

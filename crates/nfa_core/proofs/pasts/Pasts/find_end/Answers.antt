@@ -13,16 +13,19 @@ overflow_add-len g c =
 
 pub loop-next-smaller : goal.loop-next-smaller
 loop-next-smaller g c =
-    let falls = steps_fall (map draft_of c.args.drafts.now) c.loop-next.at c.in-Some.next c.requires.reached c.loop-next.invariant.way.inside c.in-Some.ensures.value.1 in
+    let falls = steps_fall (map draft_of c.args.drafts.now) c.loop-next.at c.in-Some.next c.requires.reached
+        c.loop-next.invariant.way.inside c.in-Some.ensures.value.1 in
     omega (arith, falls)
 
 pub loop-next-preserved : goal.loop-next-preserved
 loop-next-preserved g c = record {
-  way = underway_next (map draft_of c.args.drafts.now) c.args.self.now.table.items c.args.q c.loop-next.at c.in-Some.next c.loop-next.len c.requires.reached c.in-Some.ensures.value.0 c.in-Some.ensures.value.1 c.loop-next.invariant.way;
+  way = underway_next (map draft_of c.args.drafts.now) c.args.self.now.table.items c.args.q c.loop-next.at c.in-Some.next c.loop-next.len
+      c.requires.reached c.in-Some.ensures.value.0 c.in-Some.ensures.value.1 c.loop-next.invariant.way;
   moves = search rules;
 }
 
 pub returns-clause-opened : goal.returns-clause-opened
 returns-clause-opened g c =
     let same : c.loop-next.len + 0 ≡ c.loop-next.len = omega arith in
-    subst (λ (k : ℕ). IsOpen (map draft_of c.args.drafts.now) c.args.self.now.table.items k c.args.q) same (c.loop-next.invariant.way.opened 0 tt)
+    subst (λ (k : ℕ). IsOpen (map draft_of c.args.drafts.now) c.args.self.now.table.items k c.args.q) same
+        (c.loop-next.invariant.way.opened 0 tt)

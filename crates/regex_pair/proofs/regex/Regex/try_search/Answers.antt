@@ -29,13 +29,15 @@ pub returns-clause-moved : goal.returns-clause-moved
 returns-clause-moved g c = c.search.ensures.search.moved
 
 pub returns-clause-free : goal.returns-clause-free
-returns-clause-free g c = λ linked i. record { determinized = (c.search.ensures.search.free linked).0 i; inserted = (c.search.ensures.search.free linked).1 i }
+returns-clause-free g c = λ linked i. record { determinized = (c.search.ensures.search.free linked).0 i;
+    inserted = (c.search.ensures.search.free linked).1 i }
 
 pub returns-clause-sure_if_linked : goal.returns-clause-sure_if_linked
 returns-clause-sure_if_linked g c = c.search.ensures.search.sure_if_linked
 
 pub returns-clause-reach : goal.returns-clause-reach
-returns-clause-reach g c = reaches c.args.self.now c.args.input.now c.search.new.cache c.search.result c.search.ensures.pair.is_forward c.search.ensures.within.0 c.search.ensures.search.answer
+returns-clause-reach g c = reaches c.args.self.now c.args.input.now c.search.new.cache c.search.result c.search.ensures.pair.is_forward
+    c.search.ensures.within.0 c.search.ensures.search.answer
 
 pub returns-clause-determinized : goal.returns-clause-determinized
 returns-clause-determinized g c = c.search.ensures.search.determinized
