@@ -144,7 +144,8 @@ module _ (d : Dfa) (q : Search) (is_reverse : Bool) (is : is_reverse ≡ d.nfa.a
         ((told_of v ≡ turned_told is_reverse finishes ends false q p.at (told_of p.cache)) × (v.clears ≡ p.cache.clears)) ⊎
         (since × (told_of v ≡ turned_told is_reverse finishes ends true q p.at (told_of p.cache)))
     turn_as finishes ends t = ⊎_elim
-        (λ (e : (told_of v ≡ turned_told d.nfa.automaton.reverse finishes ends false q p.at (told_of p.cache)) × (v.clears ≡ p.cache.clears)).
+        (λ (e : (told_of v ≡ turned_told d.nfa.automaton.reverse finishes ends false q p.at (told_of p.cache)) ×
+             (v.clears ≡ p.cache.clears)).
         inl (e.0 ∙ ap (λ (b : Bool). turned_told b finishes ends false q p.at (told_of p.cache)) (sym is), e.1))
         (λ (c : HasCleared p.cache v × (told_of v ≡ turned_told d.nfa.automaton.reverse finishes ends true q p.at (told_of p.cache))).
         inr (clears_now c.0, c.1 ∙ ap (λ (b : Bool). turned_told b finishes ends true q p.at (told_of p.cache)) (sym is)))
