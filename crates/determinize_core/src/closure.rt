@@ -9,8 +9,8 @@ ghost use Rattle.nfa_core.specs.Ways.{on_nothing};
 ghost use Rattle.determinize_core.specs.Costs.{known_ways};
 ghost use Rattle.determinize_core.specs.Steps.{known_steps};
 
-use crate::stack::{pop, push, push_all};
 use look_core::LookSet;
+use nfa_core::stack::{next_fresh, push, push_all};
 use nfa_core::{NFA, NameSet, State, Steps};
 use search_core::StateID;
 use std::alloc::AllocError;
@@ -46,34 +46,6 @@ pub fn epsilon_closure<S: NameSet, L: Ledger>(
         push_ways(nfa.state(id), look_have, stack)?;
     }
     Ok(())
-}
-
-/// Takes states from the stack until one is met that the set lacks, and puts that into the set.
-fn next_fresh<S: NameSet, L: Ledger>(
-    stack: &mut Vec<StateID>,
-    set: &mut S,
-    steps: &mut Steps<L>,
-) -> Option<StateID>
-    requires below { AreBelow (S.bound set.old) (reverse stack.old.items) }
-    requires fits { length (S.names set.old) ≤ S.bound set.old }
-    ensures bound { S.bound set.new ≡ S.bound set.old }
-    ensures below { AreBelow (S.bound set.old) (reverse stack.new.items) }
-    ensures inside { IfSome result (λ q. q < S.bound set.old) }
-    ensures fits { length (S.names set.new) ≤ S.bound set.new }
-    ensures once { IsDistinct nat_eq (S.names set.new) }
-    ensures all_below { All (λ q. q < S.bound set.new) (S.names set.new) }
-    ensures meets { Meets (reverse stack.old.items) (S.names set.old) (reverse stack.new.items) (S.names set.new) result }
-    ensures cost { steps.new + length (reverse stack.new.items) ≡ steps.old + length (reverse stack.old.items) }
-{
-    while let Some(id) = pop(stack) {
-        if set.insert(id, steps) {
-            // What a set has is there once, and below its bound.
-            let _ = set.len();
-            return Some(id);
-        }
-    }
-    let _ = set.len();
-    None
 }
 
 /// Puts the states on a stack to which a state leads with no byte where these looks are known to hold, the

@@ -9,7 +9,6 @@ mod lookbehind;
 mod next_state;
 mod nfa_states;
 mod positions;
-mod stack;
 mod start;
 mod start_config;
 pub mod start_laws;

@@ -42,7 +42,7 @@ pub use Rattle.nfa_core.proofs.ClassLemmas.{bytes_alike}
 -- texts of one class place by place are followed alike, looks of states hold alike in them, and they have the same ends
 pub use Rattle.nfa_core.proofs.SameTextLemmas.{looks_alike, ways_alike, ends_alike}
 -- the walk with a stack over an automaton's states: names below a bound, and what a step of the walk does
-pub use Rattle.nfa_core.proofs.ReachedLemmas.{has_from_all, taken_below, left_below, len_nodes, passes, meets}
+pub use Rattle.nfa_core.proofs.ReachedLemmas.{has_from_all, taken_below, left_below, len_nodes}
 -- ---- what is built of a builder's states
 -- past a state there is one that stands for itself, and it stays where it is
 pub use Rattle.nfa_core.proofs.RenamingLemmas.{past_itself, past_inside, past_stands, past_twice, past_next}

@@ -40,7 +40,7 @@ mod sets;
 mod sparse_set;
 mod sparse_set_iter;
 mod sparse_transitions;
-mod stack;
+pub mod stack;
 mod state;
 mod steps;
 pub mod text_laws;

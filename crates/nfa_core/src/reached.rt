@@ -1,19 +1,18 @@
 // The states to which the patterns' starts lead with no byte.
-ghost use Rattle.std.specs.Prelude.{◌≡◌, ◌<◌, ◌≤◌, ◌++◌, length, map, get_or, true, false, IfOk, IfSome, OnOk};
+ghost use Rattle.std.specs.Prelude.{◌≡◌, ◌<◌, ◌++◌, length, map, get_or, reverse, true, IfOk, OnOk};
 ghost use Rattle.std.specs.Bool.{nat_eq};
 ghost use Rattle.nfa_core.specs.Nfa.{fail_node};
 ghost use Rattle.nfa_core.specs.NfaParts.{automaton_in};
 ghost use Rattle.nfa_core.specs.NfaValue.{IsSound, reached_freely};
-ghost use Rattle.nfa_core.specs.Reached.{AreBelow, Meets};
+ghost use Rattle.nfa_core.specs.Reached.{AreBelow};
 ghost use Rattle.nfa_core.specs.States.{node_of};
 ghost use Rattle.nfa_core.specs.Walks.{distinct};
 ghost use Rattle.nfa_core.specs.Ways.{on_nothing};
 ghost use Rattle.search_core.specs.Index.{greatest_index};
 
-use crate::name_set::NameSet;
 use crate::nfa_parts::Parts;
 use crate::sparse_set::SparseSet;
-use crate::stack::Stack;
+use crate::stack::{next_fresh, push, push_all};
 use crate::state::State;
 use crate::steps::Steps;
 use search_core::StateID;
@@ -42,34 +41,12 @@ fn walk<L: Ledger>(alloc: Global, parts: &Parts, blank: Blank) -> Result<SparseS
 {
     let mut steps = Steps::<L>::new(blank);
     let mut set = SparseSet::new(alloc, parts.states.len())?;
-    let mut stack = Stack::new(alloc);
-    stack.push_all(&parts.start_pattern)?;
+    let mut stack = Vec::new(alloc);
+    push_all(&mut stack, &parts.start_pattern)?;
     while let Some(id) = next_fresh(&mut stack, &mut set, &mut steps) {
         push_ways(&mut stack, state_at(&parts.states, id))?;
     }
     Ok(set)
-}
-
-/// Takes states from the stack until one is met that the set lacks, and puts that into the set.
-fn next_fresh<L: Ledger>(
-    stack: &mut Stack,
-    set: &mut SparseSet,
-    steps: &mut Steps<L>,
-) -> Option<StateID>
-    requires below { AreBelow set.old.bound stack.old }
-    requires fits { length set.old.names ≤ set.old.bound }
-    ensures bound { set.new.bound ≡ set.old.bound }
-    ensures below { AreBelow set.old.bound stack.new }
-    ensures inside { IfSome result (λ q. q < set.old.bound) }
-    ensures fits { length set.new.names ≤ set.new.bound }
-    ensures meets { Meets stack.old set.old.names stack.new set.new.names result }
-{
-    while let Some(id) = stack.pop() {
-        if set.insert(id, steps) {
-            return Some(id);
-        }
-    }
-    None
 }
 
 /// The state with this number.
@@ -82,16 +59,16 @@ pub(crate) fn state_at(states: &[State], id: StateID) -> &State
 }
 
 /// Puts the states to which a state leads with no byte on a stack, the preferred one on top.
-fn push_ways(stack: &mut Stack, state: &State) -> Result<(), AllocError>
-    ensures { OnOk result (stack.new ≡ on_nothing (node_of state.now) (λ l. true) ++ stack.old) }
+fn push_ways(stack: &mut Vec<StateID>, state: &State) -> Result<(), AllocError>
+    ensures { OnOk result (reverse stack.new.items ≡ on_nothing (node_of state.now) (λ l. true) ++ reverse stack.old.items) }
 {
     match state {
-        State::Look { next, .. } => stack.push(*next),
-        State::Capture { next, .. } => stack.push(*next),
-        State::Union { alternates } => stack.push_all(alternates),
+        State::Look { next, .. } => push(stack, *next),
+        State::Capture { next, .. } => push(stack, *next),
+        State::Union { alternates } => push_all(stack, alternates),
         State::BinaryUnion { alt1, alt2 } => {
-            stack.push(*alt2)?;
-            stack.push(*alt1)
+            push(stack, *alt2)?;
+            push(stack, *alt1)
         }
         State::ByteRange { .. } | State::Sparse(_) | State::Dense(_) => Ok(()),
         State::Fail | State::Match { .. } => Ok(()),

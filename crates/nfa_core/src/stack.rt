@@ -1,56 +1,67 @@
-ghost use Rattle.std.specs.Prelude.{◌≡◌, ◌∷◌, ◌++◌, [], OnOk, MatchOption};
+//! The numbers of states that a walk has still to visit: a list that ends with the one on top.
+ghost use Rattle.std.specs.Prelude.{◌≡◌, ◌+◌, ◌<◌, ◌≤◌, ◌∷◌, ◌++◌, [], length, reverse, All, OnOk, IfSome, MatchOption};
+ghost use Rattle.std.specs.Bool.{nat_eq};
+ghost use Rattle.std.specs.List.{IsDistinct};
+ghost use Rattle.nfa_core.specs.Reached.{AreBelow, Meets};
 
+use crate::name_set::NameSet;
+use crate::steps::Steps;
 use search_core::StateID;
-use std::alloc::{AllocError, Global};
-use std::marker::Model;
+use std::alloc::AllocError;
+use std::sync::ledger::Ledger;
 
-/// Numbers of states that are still to be visited. A contract sees them from the one on top to the lowest.
-#[derive(Drop)]
-pub(crate) struct Stack {
-    /// From the lowest to the one on top.
-    ids: Vec<StateID>,
+/// Puts a number on top.
+#[tactic(auto, using(crate::proofs::StackedLemmas::reverse_pushed))]
+pub fn push(stack: &mut Vec<StateID>, id: StateID) -> Result<(), AllocError>
+    ensures { OnOk result (reverse stack.new.items ≡ id ∷ reverse stack.old.items) }
+{
+    stack.push(id)?;
+    Ok(())
 }
 
-impl Model for Stack {
-    ghost use Rattle.std.specs.Prelude.{List, ℕ, reverse};
-
-    ghost Value = { List ℕ };
-
-    ghost view = { λ s. reverse s.ids.items };
+/// Takes the number on top away.
+#[tactic(auto, using(crate::proofs::StackedLemmas::reverse_pushed))]
+pub fn pop(stack: &mut Vec<StateID>) -> Option<StateID>
+    ensures top { MatchOption result ((reverse stack.old.items ≡ []) × (reverse stack.new.items ≡ [])) (λ id. reverse stack.old.items ≡ id ∷ reverse stack.new.items) }
+    ensures len { MatchOption result (length stack.old.items ≡ length stack.new.items) (λ id. length stack.old.items ≡ length stack.new.items + 1) }
+{
+    stack.pop()
 }
 
-impl Stack {
-    pub(crate) fn new(alloc: Global) -> Stack
-        ensures { result ≡ [] }
-    {
-        Stack {
-            ids: Vec::new(alloc),
+/// Puts numbers on top, the first one at the very top.
+pub fn push_all(stack: &mut Vec<StateID>, ids: &[StateID]) -> Result<(), AllocError>
+    ensures { OnOk result (reverse stack.new.items ≡ ids.now ++ reverse stack.old.items) }
+{
+    for i in (0..ids.len()).rev() {
+        push(stack, ids[i])?;
+    }
+    Ok(())
+}
+
+/// Takes numbers away until one is met that the set lacks, and puts that into the set.
+pub fn next_fresh<S: NameSet, L: Ledger>(
+    stack: &mut Vec<StateID>,
+    set: &mut S,
+    steps: &mut Steps<L>,
+) -> Option<StateID>
+    requires below { AreBelow (S.bound set.old) (reverse stack.old.items) }
+    requires fits { length (S.names set.old) ≤ S.bound set.old }
+    ensures bound { S.bound set.new ≡ S.bound set.old }
+    ensures below { AreBelow (S.bound set.old) (reverse stack.new.items) }
+    ensures inside { IfSome result (λ q. q < S.bound set.old) }
+    ensures fits { length (S.names set.new) ≤ S.bound set.new }
+    ensures once { IsDistinct nat_eq (S.names set.new) }
+    ensures all_below { All (λ q. q < S.bound set.new) (S.names set.new) }
+    ensures meets { Meets (reverse stack.old.items) (S.names set.old) (reverse stack.new.items) (S.names set.new) result }
+    ensures cost { steps.new + length (reverse stack.new.items) ≡ steps.old + length (reverse stack.old.items) }
+{
+    while let Some(id) = pop(stack) {
+        if set.insert(id, steps) {
+            // What a set has is there once, and below its bound.
+            let _ = set.len();
+            return Some(id);
         }
     }
-
-    /// Puts a number on top.
-    #[tactic(auto, using(crate::proofs::StackedLemmas::reverse_pushed))]
-    pub(crate) fn push(&mut self, id: StateID) -> Result<(), AllocError>
-        ensures { OnOk result (self.new ≡ id ∷ self.old) }
-    {
-        self.ids.push(id)?;
-        Ok(())
-    }
-
-    /// Takes the number on top away.
-    pub(crate) fn pop(&mut self) -> Option<StateID>
-        ensures { MatchOption result ((self.old ≡ []) × (self.new ≡ [])) (λ id. self.old ≡ id ∷ self.new) }
-    {
-        self.ids.pop()
-    }
-
-    /// Puts numbers on top, the first one at the very top.
-    pub(crate) fn push_all(&mut self, ids: &[StateID]) -> Result<(), AllocError>
-        ensures { OnOk result (self.new ≡ ids.now ++ self.old) }
-    {
-        for i in (0..ids.len()).rev() {
-            self.push(ids[i])?;
-        }
-        Ok(())
-    }
+    let _ = set.len();
+    None
 }

@@ -1,4 +1,4 @@
-use Rattle.std.proofs.Common.{◌≡◌, ◌∙◌, ◌++◌, [], length, rules, true}
+use Rattle.std.proofs.Common.{◌≡◌, ◌∙◌, ◌++◌, [], length, reverse, rules, true}
 use Rattle.nfa_core.specs.Nfa.{node_at}
 use Rattle.nfa_core.specs.NfaParts.{automaton_in}
 use Rattle.nfa_core.specs.States.{node_of}
@@ -10,13 +10,13 @@ pub loop-id-init : goal.loop-id-init
 loop-id-init g c =
     let bound : c.in_ok-set.set.bound ≡ length c.args.parts.now.states.items = search rules in
     let none : c.in_ok-set.set.names ≡ [] = search rules in
-    let all : c.push_all.new.self ≡ c.args.parts.now.start_pattern.items ++ [] = search rules in
+    let all : reverse c.push_all.new.stack.items ≡ c.args.parts.now.start_pattern.items ++ [] = search rules in
     record {
       bound = bound;
       fits = search rules;
       stands = begins (automaton_in c.args.parts.now) c.in_ok-set.set.bound (bound
           ∙ len_nodes c.args.parts.now.states.items) c.requires.sound
-          c.push_all.new.self c.in_ok-set.set.names all none;
+          (reverse c.push_all.new.stack.items) c.in_ok-set.set.names all none;
     }
 
 pub loop-id-preserved : goal.loop-id-preserved
@@ -25,11 +25,11 @@ loop-id-preserved g c =
     let len : c.loop-id.set.bound ≡ length (automaton_in c.args.parts.now).states =
         c.loop-id.invariant.bound ∙ len_nodes c.args.parts.now.states.items in
     let is : node_of c.state_at.result.now ≡ node_at (automaton_in c.args.parts.now) c.in-Some.id = search rules in
-    let ways : c.push_ways.new.stack ≡ on_nothing (node_of c.state_at.result.now) (λ l. true) ++ c.next_fresh.new.stack = search rules in
-    let stands : StandsAt (automaton_in c.args.parts.now) c.loop-id.set.bound c.push_ways.new.stack c.next_fresh.new.set.names =
-    goes_on (automaton_in c.args.parts.now) c.loop-id.set.bound len c.requires.sound c.loop-id.stack c.loop-id.set.names
-        c.next_fresh.new.stack c.next_fresh.new.set.names
-    c.push_ways.new.stack c.in-Some.id (node_of c.state_at.result.now) c.loop-id.invariant.stands c.in-Some.ensures.inside
+    let ways : reverse c.push_ways.new.stack.items ≡ on_nothing (node_of c.state_at.result.now) (λ l. true) ++ reverse c.next_fresh.new.stack.items = search rules in
+    let stands : StandsAt (automaton_in c.args.parts.now) c.loop-id.set.bound (reverse c.push_ways.new.stack.items) c.next_fresh.new.set.names =
+    goes_on (automaton_in c.args.parts.now) c.loop-id.set.bound len c.requires.sound (reverse c.loop-id.stack.items) c.loop-id.set.names
+        (reverse c.next_fresh.new.stack.items) c.next_fresh.new.set.names
+    (reverse c.push_ways.new.stack.items) c.in-Some.id (node_of c.state_at.result.now) c.loop-id.invariant.stands c.in-Some.ensures.inside
         c.in-Some.ensures.below c.in-Some.ensures.meets is ways in
     record {
       bound = bound ∙ c.loop-id.invariant.bound;
@@ -41,7 +41,7 @@ pub returns-clause-names : goal.returns-clause-names
 returns-clause-names g c =
     let len : c.loop-id.set.bound ≡ length (automaton_in c.args.parts.now).states =
         c.loop-id.invariant.bound ∙ len_nodes c.args.parts.now.states.items in
-    ends (automaton_in c.args.parts.now) c.loop-id.set.bound len c.requires.sound c.loop-id.stack c.loop-id.set.names c.next_fresh.new.stack
+    ends (automaton_in c.args.parts.now) c.loop-id.set.bound len c.requires.sound (reverse c.loop-id.stack.items) c.loop-id.set.names (reverse c.next_fresh.new.stack.items)
         c.next_fresh.new.set.names
     c.loop-id.invariant.stands c.in_default.ensures.meets
 
@@ -49,6 +49,6 @@ pub returns-clause-below : goal.returns-clause-below
 returns-clause-below g c =
     let len : c.loop-id.set.bound ≡ length (automaton_in c.args.parts.now).states =
         c.loop-id.invariant.bound ∙ len_nodes c.args.parts.now.states.items in
-    rw (← c.loop-id.invariant.bound) (met_below (automaton_in c.args.parts.now) c.loop-id.set.bound len c.requires.sound c.loop-id.stack
+    rw (← c.loop-id.invariant.bound) (met_below (automaton_in c.args.parts.now) c.loop-id.set.bound len c.requires.sound (reverse c.loop-id.stack.items)
         c.loop-id.set.names
-    c.next_fresh.new.stack c.next_fresh.new.set.names c.loop-id.invariant.stands c.in_default.ensures.meets)
+    (reverse c.next_fresh.new.stack.items) c.next_fresh.new.set.names c.loop-id.invariant.stands c.in_default.ensures.meets)

@@ -1,6 +1,6 @@
 use Rattle.std.proofs.Common.{◌≡◌, ◌+◌, ap, ◌∙◌, length, reverse, arith}
-use Rattle.nfa_core.proofs.ForCallers.{taken_below, left_below, passes, meets}
-use Rattle.determinize_core.proofs.closure.next_fresh.Goals as goal
+use Rattle.nfa_core.proofs.ReachedLemmas.{taken_below, left_below, passes, meets}
+use Rattle.nfa_core.proofs.stack.next_fresh.Goals as goal
 
 pub insert-requires : goal.insert-requires
 insert-requires g c =

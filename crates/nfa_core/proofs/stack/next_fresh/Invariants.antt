@@ -1,6 +1,6 @@
 use Rattle.std.proofs.Common.{◌≡◌, ◌+◌, length, reverse}
 use Rattle.nfa_core.specs.Reached.{AreBelow, GoesOn}
-use Rattle.determinize_core.proofs.closure.next_fresh.Given as goal
+use Rattle.nfa_core.proofs.stack.next_fresh.Given as goal
 
 abbrev pub invariant-loop-id : goal.invariant-loop-id
 invariant-loop-id g l = record {
