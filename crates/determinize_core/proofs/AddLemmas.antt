@@ -72,8 +72,8 @@ nine_with v m l = nine (flags_with v m l) v.look_have v.look_need
 -- behind others that are listed
 behind_listed : (v : StateValue) (ps : List ℕ) (p : ℕ) → is_listed ps ≡ true →
     (nine_with v (is_match ps) (is_listed ps) ++ pattern_bytes (is_listed ps) 0 ps)
-        ++ four_bytes p ≡ nine_with v (is_match (ps ++ p ∷ [])) (is_listed (ps ++ p ∷ []))
-        ++ pattern_bytes (is_listed (ps ++ p ∷ [])) 0 (ps ++ p ∷ [])
+    ++ four_bytes p ≡ nine_with v (is_match (ps ++ p ∷ [])) (is_listed (ps ++ p ∷ []))
+    ++ pattern_bytes (is_listed (ps ++ p ∷ [])) 0 (ps ++ p ∷ [])
 behind_listed v [] p listed = cc
 behind_listed v (q ∷ []) p listed =
     ap (λ (l : Bool). (nine_with v true l ++ pattern_bytes l 0 (q ∷ [])) ++ four_bytes p) listed
@@ -84,13 +84,13 @@ behind_listed v (q ∷ r ∷ ps) p listed =
 -- behind pattern 0 alone
 behind_alone : (v : StateValue) (ps : List ℕ) (p : ℕ) → is_listed ps ≡ false → is_match ps ≡ true →
     slice_set ((nine_with v (is_match ps) (is_listed ps) ++ pattern_bytes (is_listed ps) 0 ps)
-        ++ (four_bytes 0 ++ (four_bytes 0 ++ four_bytes p))) 0
+    ++ (four_bytes 0 ++ (four_bytes 0 ++ four_bytes p))) 0
     (bit_or (flags_with v (is_match ps) (is_listed ps)) 2)
     ≡ nine_with v (is_match (ps ++ p ∷ [])) (is_listed (ps ++ p ∷ [])) ++ pattern_bytes (is_listed (ps ++ p ∷ [])) 0 (ps ++ p ∷ [])
 behind_alone v [] p unlisted matching = cc
 behind_alone v (zero ∷ []) p unlisted matching =
     ap (λ (f : ℕ). f ∷ ((four_bytes v.look_have ++ four_bytes v.look_need) ++ (four_bytes 0 ++ (four_bytes 0 ++ four_bytes p))))
-        (set_listed true false v.is_from_word v.is_half_crlf)
+    (set_listed true false v.is_from_word v.is_half_crlf)
 behind_alone v (suc q ∷ []) p unlisted matching = let never : (suc q == 0) ≡ false = grind arith in let e : true ≡ false =
     (rw never at unlisted) in cc
 behind_alone v (q ∷ r ∷ ps) p unlisted matching = cc
@@ -103,13 +103,13 @@ first_listed : (v : StateValue) (ps : List ℕ) (p : ℕ) → is_match ps ≡ fa
 first_listed v [] p none other =
     let l : is_listed (p ∷ []) ≡ true = rw other refl in
     ap (λ (f : ℕ). f ∷ ((four_bytes v.look_have ++ four_bytes v.look_need) ++ (four_bytes 0 ++ four_bytes p)))
-        (set_both false false v.is_from_word v.is_half_crlf)
+    (set_both false false v.is_from_word v.is_half_crlf)
     ∙ ap (λ (b : Bool). nine_with v true b ++ pattern_bytes b 0 (p ∷ [])) (sym l)
 first_listed v (q ∷ ps) p none other = cc
 
 first_told : (v : StateValue) (ps : List ℕ) (p : ℕ) → is_match ps ≡ false → (p == 0) ≡ true →
     slice_set (nine_with v (is_match ps) (is_listed ps) ++ pattern_bytes (is_listed ps) 0 ps) 0
-        (bit_or (flags_with v (is_match ps) (is_listed ps)) 1)
+    (bit_or (flags_with v (is_match ps) (is_listed ps)) 1)
     ≡ nine_with v (is_match (ps ++ p ∷ [])) (is_listed (ps ++ p ∷ [])) ++ pattern_bytes (is_listed (ps ++ p ∷ [])) 0 (ps ++ p ∷ [])
 first_told v [] p none zero_is =
     let l : is_listed (p ∷ []) ≡ false = rw zero_is refl in
@@ -136,23 +136,23 @@ module _ (old new : List ℕ) (p : ℕ) (of : IsUnfinished old) (within : p ≤ 
 
   pub keeps_second : has_flag (slice_index old 0) 2 ≡ false → has_flag (slice_index old 0) 1 ≡ true →
       new ≡ slice_set (old ++ (four_bytes 0 ++ (four_bytes 0 ++ four_bytes p))) 0
-          (bit_or (slice_index (old ++ (four_bytes 0 ++ (four_bytes 0 ++ four_bytes p))) 0) 2) → Kept
+      (bit_or (slice_index (old ++ (four_bytes 0 ++ (four_bytes 0 ++ four_bytes p))) 0) 2) → Kept
   keeps_second flag match_flag e =
       keeps (e ∙ (ap (λ (xs : List ℕ). slice_set (xs ++ (four_bytes 0 ++ (four_bytes 0 ++ four_bytes p))) 0
-          (bit_or (slice_index (xs ++ (four_bytes 0 ++ (four_bytes 0 ++ four_bytes p))) 0) 2)) of.same
+      (bit_or (slice_index (xs ++ (four_bytes 0 ++ (four_bytes 0 ++ four_bytes p))) 0) 2)) of.same
       ∙ behind_alone value value.matches p (unfinished_listed old false of flag) (unfinished_match old true of match_flag)))
 
   pub keeps_first : has_flag (slice_index old 0) 1 ≡ false → (p == 0) ≡ false →
       new ≡ slice_set (old ++ (four_bytes 0 ++ four_bytes p)) 0 (bit_or (slice_index (old ++ (four_bytes 0 ++ four_bytes p)) 0) 3) → Kept
   keeps_first match_flag other e =
       keeps (e ∙ (ap (λ (xs : List ℕ). slice_set (xs ++ (four_bytes 0 ++ four_bytes p)) 0
-          (bit_or (slice_index (xs ++ (four_bytes 0 ++ four_bytes p)) 0) 3)) of.same
+      (bit_or (slice_index (xs ++ (four_bytes 0 ++ four_bytes p)) 0) 3)) of.same
       ∙ first_listed value value.matches p (unfinished_match old false of match_flag) other))
 
   pub keeps_told : has_flag (slice_index old 0) 1 ≡ false → (p == 0) ≡ true → new ≡ slice_set old 0 (bit_or (slice_index old 0) 1) → Kept
   keeps_told match_flag zero_is e =
       keeps (e ∙ (ap (λ (xs : List ℕ). slice_set xs 0 (bit_or (slice_index xs 0) 1)) of.same
-          ∙ first_told value value.matches p (unfinished_match old false of match_flag) zero_is))
+      ∙ first_told value value.matches p (unfinished_match old false of match_flag) zero_is))
 
 -- ---- whether it is there already
 
@@ -175,8 +175,8 @@ module _ (v : StateValue) (bytes : List ℕ) (is : decoded_unfinished bytes ≡ 
   pub pattern_built : (i : ℕ) → i < length v.matches → number_at (13 + 4 * i) bytes ≡ get_or v.matches i 0
   pattern_built i within =
       let patterns : All (λ p. p ≤ greatest_index) v.matches = subst (λ (w : StateValue). All (λ p. p ≤ greatest_index) w.matches) is
-          of.state.patterns in
+      of.state.patterns in
       ap (λ (xs : List ℕ). from_le_bytes w32 (drop (13 + 4 * i) xs)) (as_built ∙ listed_form v listed)
       ∙ (ap (from_le_bytes w32) (past_13 (4 * i) _ _ _ _ _ _ _ _ _ _ _ _ _ (four_bytes_each v.matches))
       ∙ (ap (λ (xs : List ℕ). from_le_bytes w32 (drop (4 * i) xs)) (sym (append-nil (four_bytes_each v.matches)))
-          ∙ number_of i v.matches [] within (small greatest_index v.matches patterns (omega arith))))
+      ∙ number_of i v.matches [] within (small greatest_index v.matches patterns (omega arith))))

@@ -41,9 +41,9 @@ one_more a qs k v w x within all e =
     ap (λ (i : ℕ). with_each a (drop i qs) x) next
     ∙ (ap (with_each a (drop (suc k) qs)) e
     ∙ (sym (with_first a (get_or qs k 0) (drop (suc k) qs) v) ∙ (ap (λ (l : List ℕ). with_each a l v) (sym (from_member qs k within))
-        ∙ all)))
+    ∙ all)))
 
 pub all_added : (a : Automaton) (qs : List ℕ) (k : ℕ) (v w : StateValue) → length qs ≤ k → with_each a (drop k qs) v ≡ w → v ≡ w
 all_added a qs k v w past all =
     ap (λ (ids : List ℕ). record v { ids = ids }) (sym (append-nil v.ids))
-        ∙ (ap (λ (l : List ℕ). with_each a l v) (sym (past_all qs k past)) ∙ all)
+    ∙ (ap (λ (l : List ℕ). with_each a l v) (sym (past_all qs k past)) ∙ all)

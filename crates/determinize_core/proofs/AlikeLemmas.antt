@@ -96,7 +96,7 @@ module _ (a : Automaton) (k n : ℕ) (same : (l : Look) → has_look (looks_of a
   pub closed_alike : (qs : List ℕ) → closed a k qs ≡ closed a n qs
   closed_alike qs =
       let ways : (q : ℕ) → known_steps a k q ≡ known_steps a n q = λ q. nothing_same (node_at a q) (has_look k) (has_look n)
-          (λ l next e. same l ((looks_any l a).1 (q, next, e))) in
+      (λ l next e. same l ((looks_any l a).1 (q, next, e))) in
       λ i. distinct nat_eq (flat_map (chain_ends nat_eq (λ q. ways q i) (length a.states) []) qs)
 
   module _ (v : StateValue) (stepped : IsStepped a v) where
@@ -163,7 +163,7 @@ before_alike : (looks : ℕ) (r : Bool) (t : Terminator) (b c : ℕ) → AskedAl
     has_look (known_before r t v (Some b)) l ≡ has_look (known_before r t v (Some c)) l
 before_alike looks r t b c asked v l m =
     known_wanted r t v (Some b) l ∙ decided_alike looks r t b c asked v.is_from_word v.is_half_crlf (has_look v.look_have l) l m
-        ∙ sym (known_wanted r t v (Some c) l)
+    ∙ sym (known_wanted r t v (Some c) l)
 
 module _ (looks : ℕ) (r : Bool) (t : Terminator) (b c : ℕ) (asked : AskedAlike looks t b c) where
   abbrev asks : Families
@@ -186,7 +186,7 @@ module _ (looks : ℕ) (r : Bool) (t : Terminator) (b c : ℕ) (asked : AskedAli
       let p = with_left asks.lines (ends_line t b) (ends_line t c) behind_line_alike in
       let q = with_left asks.crlf (second_half r == b) (second_half r == c) behind_second_alike in
       let s = with_left asks.words (is_no_word (word_if (is_word_byte b))) (is_no_word (word_if (is_word_byte c)))
-          (λ e. ap (λ (x : Bool). is_no_word (word_if x)) (behind_word_alike e)) in
+      (λ e. ap (λ (x : Bool). is_no_word (word_if x)) (behind_word_alike e)) in
       λ i. starts_of (record { haystack = false; lines = p i; crlf = q i; words = s i })
 
 -- ---- steps
@@ -194,8 +194,14 @@ module _ (looks : ℕ) (r : Bool) (t : Terminator) (b c : ℕ) (asked : AskedAli
 -- a step by its parts
 abbrev made : Automaton → MatchKind → Bool → Bool → ℕ → List ℕ → List ℕ → StateValue
 made a kind word half known before after =
-    with_states a after (record { is_from_word = word; is_half_crlf = half; look_have = known; look_need = 0;
-        matches = patterns_in kind a before; ids = [] })
+    with_states a after (record {
+      is_from_word = word;
+      is_half_crlf = half;
+      look_have = known;
+      look_need = 0;
+      matches = patterns_in kind a before;
+      ids = [];
+    })
 
 module _ (a : Automaton) (t : Terminator) (kind : MatchKind) (v : StateValue) (b c : ℕ) (stepped : IsStepped a v)
     (alike : AreAlike t a b c) where
@@ -225,7 +231,7 @@ module _ (a : Automaton) (t : Terminator) (kind : MatchKind) (v : StateValue) (b
       ≡ ((families a).words && (is_word (byte_side (Some c)) && is_some_kept a (states_behind a t kind v (Some c))))
   from_word_alike = with_left (families a).words _ _
       (λ e. let p = behind_word_alike (looks_of a.states) a.reverse t b c asked e in
-          λ i. is_word (word_if (p i)) && is_some_kept a (states_alike i))
+      λ i. is_word (word_if (p i)) && is_some_kept a (states_alike i))
 
   half_alike : ((families a).crlf && (is_byte (first_half a.reverse) (Some b) && is_some_kept a (states_behind a t kind v (Some b))))
       ≡ ((families a).crlf && (is_byte (first_half a.reverse) (Some c) && is_some_kept a (states_behind a t kind v (Some c))))
@@ -281,10 +287,10 @@ start_is : (f : Families) (r : Bool) (t : Terminator) (b : ℕ) →
     behind_start f r t (start_of t (Some b)) ≡ by_answers f (ends_line t b) (is_word_byte b) (first_half r == b) (second_half r == b)
 start_is f r t b = start_cases f r t b (λ x. x ≡ by_answers f (ends_line t b) (is_word_byte b) (first_half r == b) (second_half r == b))
     (λ is. subst (λ (d : ℕ). behind_line f r (ends_line t 0x0A) ≡ by_answers f (ends_line t d) (is_word_byte d) (first_half r == d)
-        (second_half r == d)) (sym is)
+    (second_half r == d)) (sym is)
     (λ i. by_answers f (ends_line t 0x0A) false (line_feed_first r i) (line_feed_second r i)))
     (λ is. subst (λ (d : ℕ). behind_line f (not r) (ends_line t 0x0D) ≡ by_answers f (ends_line t d) (is_word_byte d) (first_half r == d)
-        (second_half r == d)) (sym is)
+    (second_half r == d)) (sym is)
     (λ i. by_answers f (ends_line t 0x0D) false (carriage_first r i) (carriage_second r i)))
     (λ n m i. by_answers f (ends_line t b) (is_word_byte b) (other_first r b n m i) (other_second r b n m i))
 
@@ -298,8 +304,12 @@ module _ (looks : ℕ) (r : Bool) (t : Terminator) (b c : ℕ) (asked : AskedAli
       let l = with_right f.lines (ends_line t b) (ends_line t c) (behind_line_alike looks r t b c asked) in
       let h = with_right f.crlf (first_half r == b) (first_half r == c) (behind_first_alike looks r t b c asked) in
       let s = with_right f.crlf (second_half r == b) (second_half r == c) (behind_second_alike looks r t b c asked) in
-      λ i. record { is_from_word = p i; is_half_crlf = h i; look_have =
-          starts_of (record { haystack = false; lines = l i; crlf = s i; words = n i }) }
+      λ i. record {
+        is_from_word = p i;
+        is_half_crlf = h i;
+        look_have =
+            starts_of (record { haystack = false; lines = l i; crlf = s i; words = n i });
+      }
 
   start_alike : behind_start (families_of looks) r t (start_of t (Some b)) ≡ behind_start (families_of looks) r t (start_of t (Some c))
   start_alike = start_is (families_of looks) r t b ∙ answers_alike ∙ sym (start_is (families_of looks) r t c)
@@ -309,6 +319,6 @@ pub units_start_alike : (a : Automaton) (t : Terminator) (q : ℕ) (u w : Option
 units_start_alike a t q None None alike = refl
 units_start_alike a t q (Some b) (Some c) alike =
     ap (λ (k : LookBehind). with_states a (closed a k.look_have (q ∷ [])) (with_look_behind k dead))
-        (start_alike (looks_of a.states) a.reverse t b c (asked_alike a t b c alike))
+    (start_alike (looks_of a.states) a.reverse t b c (asked_alike a t b c alike))
 units_start_alike a t q None (Some c) alike = absurd alike
 units_start_alike a t q (Some b) None alike = absurd alike

@@ -114,7 +114,7 @@ module _ (a : Automaton) where
   to_is_kept zero x q h = none_in nat_eq q _ h
   to_is_kept (suc f) x q h = ⊎_elim
       (λ (e : is_kept a x ≡ true). let g : Has nat_eq q (x ∷ []) = (rw e at h) in let i : q ≡ x = has_one nat_eq names_equal q x g in
-          ap (is_kept a) i ∙ e)
+      ap (is_kept a) i ∙ e)
       (λ (e : is_kept a x ≡ false). to_is_kept f (next x) q (rw e at h)) (cases_Bool (is_kept a x))
 
   search_end : (f x : ℕ) → ((m : ℕ) × (m < f) × EndsIn m x) ⊎ ((m : ℕ) → m < f → EndsIn m x → ⊥)
@@ -139,7 +139,7 @@ module _ (a : Automaton) where
     near : (m x : ℕ) → x < length a.states → EndsIn m x → m < length a.states
     near m x low d =
         let l : length (trail m x) ≤ length a.states = (finite_names (length a.states) (λ q. []) (λ q g y h. none_in nat_eq y _ h)).room
-            (trail m x) (trail_below m x low d) (trail_once m x d) in
+        (trail m x) (trail_below m x low d) (trail_once m x d) in
         let e = trail_length m x in omega (arith, l, e)
 
     -- what stands for a state, and how many captures stand before it
@@ -185,5 +185,5 @@ module _ (a : Automaton) where
         let leads : on_nothing (node_at a x) passed ≡ next x ∷ [] = capture_leads (node_at a x) passed k in
         let f = follows x k in
         let P : List ℕ → Type 0 = λ l. (to x ≡ flat_map to l) × ((to x ≡ []) ⊎
-            ((z : ℕ) × (to x ≡ to z) × (rank z < rank x) × IsHead z l)) in
+        ((z : ℕ) × (to x ≡ to z) × (rank z < rank x) × IsHead z l)) in
         subst P (sym leads) (f.0 ∙ sym (append-nil (to (next x))), ⊎_elim (λ none. inl none) (λ less. inr (next x, f.0, less, refl)) f.1)

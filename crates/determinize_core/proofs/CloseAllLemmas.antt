@@ -36,7 +36,7 @@ but_has n q (x ∷ xs) h = ⊎_elim
     (λ (e : nat_eq x n ≡ true). let g : Has nat_eq q (but n xs) = (rw e at h) in has_later nat_eq q x xs (but_has n q xs g))
     (λ (e : nat_eq x n ≡ false). let g : Has nat_eq q (x ∷ but n xs) = (rw e at h) in
     of_cons nat_eq names_equal (λ p. Has nat_eq p (x ∷ xs)) x (but n xs) (has_first nat_eq names_equal x xs)
-        (λ p i. has_later nat_eq p x xs (but_has n p xs i)) q g) (cases_Bool (nat_eq x n))
+    (λ p i. has_later nat_eq p x xs (but_has n p xs i)) q g) (cases_Bool (nat_eq x n))
 
 but_lacks : (n q : ℕ) (xs : List ℕ) → has nat_eq q xs ≡ false → has nat_eq q (but n xs) ≡ false
 but_lacks n q xs absent = ⊎_elim (λ (h : Has nat_eq q (but n xs)). not_both (has nat_eq q xs) _ (but_has n q xs h) absent) (λ e. e)
@@ -54,13 +54,13 @@ not_itself n (x ∷ xs) h = ⊎_elim
     (λ (e : nat_eq x n ≡ true). let g : Has nat_eq n (but n xs) = (rw e at h) in not_itself n xs g)
     (λ (e : nat_eq x n ≡ false). let g : Has nat_eq n (x ∷ but n xs) = (rw e at h) in
     ⊎_elim (λ (same : n ≡ x). absurd (grind (arith, e, same))) (λ (later : Has nat_eq n (but n xs)). not_itself n xs later)
-        (has_cons nat_eq names_equal n x (but n xs) g)) (cases_Bool (nat_eq x n))
+    (has_cons nat_eq names_equal n x (but n xs) g)) (cases_Bool (nat_eq x n))
 
 but_below : (n : ℕ) (xs : List ℕ) → AreBelow (suc n) xs → AreBelow n (but n xs)
 but_below n xs below q h =
     let less : q < suc n = below q (but_has n q xs h) in
     ⊎_elim (λ (e : nat_eq q n ≡ true). let same : q ≡ n = grind (arith, e) in
-        absurd (not_itself n xs (subst (λ (p : ℕ). Has nat_eq p (but n xs)) same h)))
+    absurd (not_itself n xs (subst (λ (p : ℕ). Has nat_eq p (but n xs)) same h)))
     (λ (e : nat_eq q n ≡ false). grind (arith, e, less)) (cases_Bool (nat_eq q n))
 
 module _ (f : ℕ → ℕ) where
@@ -68,11 +68,11 @@ module _ (f : ℕ → ℕ) where
   but_absent n [] absent = refl
   but_absent n (x ∷ xs) absent = ⊎_elim
       (λ (e : nat_eq x n ≡ true). let same : n ≡ x = grind (arith, e) in
-          not_both (has nat_eq n (x ∷ xs)) _ (subst (λ (p : ℕ). Has nat_eq p (x ∷ xs)) (sym same) (has_first nat_eq names_equal x xs))
-          absent)
+      not_both (has nat_eq n (x ∷ xs)) _ (subst (λ (p : ℕ). Has nat_eq p (x ∷ xs)) (sym same) (has_first nat_eq names_equal x xs))
+      absent)
       (λ (e : nat_eq x n ≡ false). rw e (ap (λ (l : List ℕ). x ∷ l) (but_absent n xs
-          (⊎_elim (λ (h : Has nat_eq n xs). not_both (has nat_eq n (x ∷ xs)) _ (has_later nat_eq n x xs h) absent) (λ i. i)
-          (cases_Bool (has nat_eq n xs)))))) (cases_Bool (nat_eq x n))
+      (⊎_elim (λ (h : Has nat_eq n xs). not_both (has nat_eq n (x ∷ xs)) _ (has_later nat_eq n x xs h) absent) (λ i. i)
+      (cases_Bool (has nat_eq n xs)))))) (cases_Bool (nat_eq x n))
 
   sum_but : (n : ℕ) (xs : List ℕ) → HasNoneTwice nat_eq xs → sum_by f xs ≤ f n + sum_by f (but n xs)
   sum_but n [] once = omega arith
@@ -83,7 +83,7 @@ module _ (f : ℕ → ℕ) where
       let value : f x ≡ f n = ap f same in
       rw e (rw rest (omega (arith, sum_by-cons f x xs, value))))
       (λ (e : nat_eq x n ≡ false). rw e (omega (arith, sum_by-cons f x xs, sum_by-cons f x (but n xs), sum_but n xs once.1)))
-          (cases_Bool (nat_eq x n))
+      (cases_Bool (nat_eq x n))
 
   -- the sum over numbers below one, none twice, is at most that over all of them
   pub sum_once : (n : ℕ) (xs : List ℕ) → HasNoneTwice nat_eq xs → AreBelow n xs → sum_by f xs ≤ sum_below f n
@@ -186,8 +186,13 @@ module _ (a : Automaton) (looks : ℕ) where
 
   fewer : (qs : List ℕ) → known_ways a looks qs ≤ sum_by (λ q. length (free_steps a q)) qs
   fewer [] = omega arith
-  fewer (q ∷ qs) = omega (arith, fewer_of (node_at a q), fewer qs, sum_by-cons (λ p. length (known_steps a looks p)) q qs,
-      sum_by-cons (λ p. length (free_steps a p)) q qs)
+  fewer (q ∷ qs) = omega (
+    arith,
+    fewer_of (node_at a q),
+    fewer qs,
+    sum_by-cons (λ p. length (known_steps a looks p)) q qs,
+    sum_by-cons (λ p. length (free_steps a p)) q qs,
+  )
 
   pub ways_once : (qs : List ℕ) → HasNoneTwice nat_eq qs → AreBelow (length a.states) qs → known_ways a looks qs ≤ free_ways a
   ways_once qs once below = omega (arith, fewer qs, sum_once (λ q. length (free_steps a q)) (length a.states) qs once below)
@@ -199,16 +204,16 @@ module _ (a : Automaton) (looks : ℕ) where
     chain_below (suc fuel) path x low q h = ⊎_elim
         (λ (e : has nat_eq x path ≡ true). none_in nat_eq q _ (rw e at h))
         (λ (e : has nat_eq x path ≡ false). of_cons nat_eq names_equal (λ p. p < length a.states) x
-            (flat_map (chain_ends nat_eq (known_steps a looks) fuel (x ∷ path)) (known_steps a looks x)) low
+        (flat_map (chain_ends nat_eq (known_steps a looks) fuel (x ∷ path)) (known_steps a looks x)) low
         (of_flat_map nat_eq names_equal nat_eq (chain_ends nat_eq (known_steps a looks) fuel (x ∷ path)) (λ p. p < length a.states)
-            (known_steps a looks x)
+        (known_steps a looks x)
         (λ y way p g. chain_below fuel (x ∷ path) y (known_below a looks formed x low y way) p g)) q (rw e at h))
-            (cases_Bool (has nat_eq x path))
+        (cases_Bool (has nat_eq x path))
 
     pub closed_below : (qs : List ℕ) → AreBelow (length a.states) qs → AreBelow (length a.states) (closed a looks qs)
     closed_below qs below =
         of_join nat_eq names_equal (λ q. q < length a.states) [] (flat_map
-            (chain_ends nat_eq (known_steps a looks) (length a.states) []) qs) (λ q h. none_in nat_eq q _ h)
+        (chain_ends nat_eq (known_steps a looks) (length a.states) []) qs) (λ q h. none_in nat_eq q _ h)
         (of_flat_map nat_eq names_equal nat_eq (chain_ends nat_eq (known_steps a looks) (length a.states) []) (λ q. q < length a.states) qs
         (λ x there p g. chain_below (length a.states) [] x (below x there) p g))
 
@@ -232,7 +237,7 @@ module _ (a : Automaton) (looks : ℕ) (all : List ℕ) (before : ℕ) where
         let more = grows (known_steps a looks) part met new v in
         let others : drop (length met) new ≡ more.0 = ap (drop (length met)) more.1 ∙ drop-append_seam met more.0 in
         let sum : known_ways a looks new ≡ known_ways a looks met + known_ways a looks more.0 =
-            ap (known_ways a looks) more.1 ∙ sum_by-append (λ q. length (known_steps a looks q)) met more.0 in
+        ap (known_ways a looks) more.1 ∙ sum_by-append (λ q. length (known_steps a looks q)) met more.0 in
         let ways : known_ways a looks (drop (length met) new) ≡ known_ways a looks more.0 = ap (known_ways a looks) others in
         record {
           walk = λ after w. of.walk after (subst (λ (l : List ℕ). Visits nat_eq (known_steps a looks) l met after) (sym e)
@@ -243,8 +248,13 @@ module _ (a : Automaton) (looks : ℕ) (all : List ℕ) (before : ℕ) where
     -- wherever the walk is cut off, it has cost no more
     pub here_cost : IsDistinct nat_eq met → All (λ q. q < length a.states) met → (most : ℕ) → count ≤ most →
         now ≤ before + most + free_ways a
-    here_cost once below most few = omega (arith, of.cost, few, ways_once a looks met (once_from_distinct met once)
-        (has_from_all (length a.states) met below))
+    here_cost once below most few = omega (
+      arith,
+      of.cost,
+      few,
+      ways_once a looks met (once_from_distinct met once)
+          (has_from_all (length a.states) met below),
+    )
 
     pub cut_cost : (new : List ℕ) (then most : ℕ) → ((more : List ℕ) × (new ≡ met ++ more)) → IsDistinct nat_eq new →
         All (λ q. q < length a.states) new →
@@ -252,10 +262,18 @@ module _ (a : Automaton) (looks : ℕ) (all : List ℕ) (before : ℕ) where
     cut_cost new then most grown once below cost few =
         let others : drop (length met) new ≡ grown.0 = ap (drop (length met)) grown.1 ∙ drop-append_seam met grown.0 in
         let sum : known_ways a looks new ≡ known_ways a looks met + known_ways a looks grown.0 =
-            ap (known_ways a looks) grown.1 ∙ sum_by-append (λ q. length (known_steps a looks q)) met grown.0 in
+        ap (known_ways a looks) grown.1 ∙ sum_by-append (λ q. length (known_steps a looks q)) met grown.0 in
         let ways : known_ways a looks (drop (length met) new) ≡ known_ways a looks grown.0 = ap (known_ways a looks) others in
-        omega (arith, of.cost, cost, sum, ways, few, ways_once a looks new (once_from_distinct new once)
-            (has_from_all (length a.states) new below))
+        omega (
+          arith,
+          of.cost,
+          cost,
+          sum,
+          ways,
+          few,
+          ways_once a looks new (once_from_distinct new once)
+              (has_from_all (length a.states) new below),
+        )
 
     -- where none is left, the closure is whole
     module _ (formed : IsWellFormed a) (below : AreBelow (length a.states) all) (none : left ≡ []) where
@@ -266,8 +284,14 @@ module _ (a : Automaton) (looks : ℕ) (all : List ℕ) (before : ℕ) where
       pub closes_cost : (most : ℕ) → count ≤ most → now ≤ before + most + free_ways a
       closes_cost most few =
           let ways : known_ways a looks met ≡ known_ways a looks (closed a looks all) = ap (known_ways a looks) closes_all in
-          omega (arith, of.cost, few, ways, ways_once a looks (closed a looks all) (closed_once a looks all)
-              (closed_below a looks formed all below))
+          omega (
+            arith,
+            of.cost,
+            few,
+            ways,
+            ways_once a looks (closed a looks all) (closed_once a looks all)
+                (closed_below a looks formed all below),
+          )
 
 -- a number that is put into a set is joined to it
 pub joins_one : (x : ℕ) (rest old new whole : List ℕ) (b : Bool) → join nat_eq old (x ∷ rest) ≡ whole → b ≡ not (has nat_eq x old) →
@@ -282,4 +306,4 @@ joins_one x rest old new whole b all tells e = ⊎_elim
     let some : b ≡ true = tells ∙ ap not h in
     let more : new ≡ old ++ x ∷ [] = e ∙ ap (λ (t : Bool). cond t (old ++ x ∷ []) old) some in
     let left : join nat_eq (old ++ x ∷ []) rest ≡ whole = (rw h at all) in
-        ap (λ (l : List ℕ). join nat_eq l rest) more ∙ left) (cases_Bool (has nat_eq x old))
+    ap (λ (l : List ℕ). join nat_eq l rest) more ∙ left) (cases_Bool (has nat_eq x old))

@@ -44,13 +44,13 @@ module _ (a : Automaton) (looks start : ℕ) (seen : List ℕ) (before : ℕ) wh
     pub goes_on : (next : List ℕ) (q : ℕ) (node : Node) → IsWellFormed a → q < length a.states → AreBelow (length a.states) later →
         Meets stack met later new (Some q) →
         then + length later ≡ now + length stack → node ≡ node_at a q → next ≡ on_nothing node (has_look looks) ++ later →
-            StandsAt a looks start seen before next new then
+        StandsAt a looks start seen before next new then
     goes_on next q node formed low below m cost is e =
         let steps : next ≡ known_steps a looks q ++ later = e ∙ ap (λ w. on_nothing w (has_look looks) ++ later) is in
         let len : length next ≡ length (known_steps a looks q) + length later =
-            ap length steps ∙ length-append (known_steps a looks q) later in
+        ap length steps ∙ length-append (known_steps a looks q) later in
         let sum : known_ways a looks (stands.grown.0 ++ q ∷ []) ≡ known_ways a looks stands.grown.0 + length (known_steps a looks q) =
-            sum_by_push (λ p. length (known_steps a looks p)) stands.grown.0 q in
+        sum_by_push (λ p. length (known_steps a looks p)) stands.grown.0 q in
         record {
           below = λ r h. of_append nat_eq names_equal (λ p. p < length a.states) (known_steps a looks q) later
               (λ p way. known_below a looks formed q low p way) below r (rw steps at h);
@@ -83,16 +83,19 @@ module _ (a : Automaton) (looks start : ℕ) (seen : List ℕ) (before : ℕ) wh
     -- the same where the walk is cut off behind a state that was met
     module _ (q : ℕ) (m : Meets stack met later new (Some q)) where
       pub cut_grown : (more : List ℕ) × (new ≡ seen ++ more)
-      cut_grown = (stands.grown.0 ++ q ∷ [], m.0 ∙ (ap (λ (l : List ℕ). l ++ q ∷ []) stands.grown.1
-          ∙ append_assoc seen stands.grown.0 (q ∷ [])))
+      cut_grown = (
+        stands.grown.0 ++ q ∷ [],
+        m.0 ∙ (ap (λ (l : List ℕ). l ++ q ∷ []) stands.grown.1
+            ∙ append_assoc seen stands.grown.0 (q ∷ [])),
+      )
 
       pub cut_counts : then + length later ≡ now + length stack → then ≤ before + 1 + known_ways a looks (drop (length seen) new)
       unfolding cut_grown
       cut_counts cost =
           let rest : drop (length seen) new ≡ stands.grown.0 ++ q ∷ [] =
-              ap (drop (length seen)) cut_grown.1 ∙ drop-append_seam seen (stands.grown.0 ++ q ∷ []) in
+          ap (drop (length seen)) cut_grown.1 ∙ drop-append_seam seen (stands.grown.0 ++ q ∷ []) in
           let ways : known_ways a looks (drop (length seen) new) ≡ known_ways a looks (stands.grown.0 ++ q ∷ []) =
-              ap (known_ways a looks) rest in
+          ap (known_ways a looks) rest in
           let sum : known_ways a looks (stands.grown.0 ++ q ∷ []) ≡ known_ways a looks stands.grown.0 + length (known_steps a looks q) =
           sum_by_push (λ p. length (known_steps a looks p)) stands.grown.0 q in
           omega (arith, cost, ways, sum, stands.grown.2)

@@ -67,16 +67,16 @@ module _ (looks : ℕ) (reverse : Bool) (t : Terminator) (o : Option ℕ) where
       has_look known.look_have l ≡ decided edge l
   known_looks edge n AtStart d m =
       edge_exact (families_of looks) reverse t o ∙ with_family _ _ (haystack_is looks ∙ has_family is_anchor_haystack looks AtStart m refl)
-          ∙ n
+      ∙ n
   known_looks edge n StartLF d m =
       lines_exact (families_of looks) reverse t o ∙ with_family _ _ (lines_is looks ∙ has_family is_anchor_lf looks StartLF m refl)
-          ∙ ap (λ b. b || is_line_end t o) n
+      ∙ ap (λ b. b || is_line_end t o) n
   known_looks edge n WordStartHalfAscii d m =
       ascii_exact (families_of looks) reverse t o ∙ with_family _ _ (words_is looks
-          ∙ has_family is_word_look looks WordStartHalfAscii m refl)
+      ∙ has_family is_word_look looks WordStartHalfAscii m refl)
   known_looks edge n WordStartHalfUnicode d m =
       unicode_exact (families_of looks) reverse t o ∙ with_family _ _ (words_is looks
-          ∙ has_family is_word_look looks WordStartHalfUnicode m refl)
+      ∙ has_family is_word_look looks WordStartHalfUnicode m refl)
   known_looks edge n _ d m = let none : ⊥ = cc in absurd none
 
   pub known_crlf : (edge : Bool) → is_none o ≡ edge → has_any is_anchor_crlf looks ≡ true →

@@ -18,7 +18,7 @@ walks_alike a t kind h g i j q (suc k) e all =
     let before = walks_alike a t kind h g i j q k e (λ m l. all m (omega (arith, l))) in
     let unit = all k (omega arith) in
     stepped (walk_value a t kind h i q k) (walk_value a t kind g j q k) (unit_at a.reverse h (place_of a.reverse i k))
-        (unit_at a.reverse g (place_of a.reverse j k)) before unit
+    (unit_at a.reverse g (place_of a.reverse j k)) before unit
   where
     stepped : (v w : StateValue) (x y : Option ℕ) → v ≡ w → x ≡ y → step_value a t kind v x ≡ step_value a t kind w y
     stepped v w x y p r = λ n. step_value a t kind (p n) (r n)

@@ -63,7 +63,7 @@ module _ (kind : MatchKind) (a : Automaton) (u : Option ℕ) (looks : ℕ) (qs :
       stop_matches =
           others_now ∙ ap (λ (ps : List ℕ). record v { matches = ps })
           (ends_listed kind a (drop k qs) (drop (k + 1) qs) q left w.matches x.matches last listed_now
-              ∙ (at.listed ∙ listed_in_all kind a qs v.matches none))
+          ∙ (at.listed ∙ listed_in_all kind a qs v.matches none))
 
       stop_left : entries kind a u (drop k qs) ≡ []
       stop_left = ends_reading kind a (drop k qs) (drop (k + 1) qs) q left u last
@@ -75,7 +75,7 @@ module _ (kind : MatchKind) (a : Automaton) (u : Option ℕ) (looks : ℕ) (qs :
       pub stop_cost : IsWellFormed a → now ≤ before + length qs + free_ways a
       stop_cost formed =
           closes_cost a looks (entries kind a u qs) before (entries kind a u (drop k qs)) met k now at.closes formed
-              (units_below a formed u (reading kind a qs)) stop_left (length qs) (omega (arith, within))
+          (units_below a formed u (reading kind a qs)) stop_left (length qs) (omega (arith, within))
 
   module _ (k : ℕ) (w : StateValue) (met : List ℕ) (now : ℕ) (at : StepsAt kind a u looks qs v before k w met now)
       (past : length qs ≤ k) where
@@ -89,7 +89,7 @@ module _ (kind : MatchKind) (a : Automaton) (u : Option ℕ) (looks : ℕ) (qs :
     end_matches none =
         at.others ∙ ap (λ (ps : List ℕ). record v { matches = ps })
         (sym (listed_of_none kind a w.matches) ∙ (ap (listed_from kind a w.matches) (sym none_left)
-            ∙ (at.listed ∙ listed_in_all kind a qs v.matches none)))
+        ∙ (at.listed ∙ listed_in_all kind a qs v.matches none)))
 
     pub end_closed : IsWellFormed a → met ≡ closed a looks (entries kind a u qs)
     end_closed formed = closes_all a looks (entries kind a u qs) before (entries kind a u (drop k qs)) met k now at.closes formed
@@ -98,7 +98,7 @@ module _ (kind : MatchKind) (a : Automaton) (u : Option ℕ) (looks : ℕ) (qs :
     pub end_cost : IsWellFormed a → k ≤ length qs → now ≤ before + length qs + free_ways a
     end_cost formed few =
         closes_cost a looks (entries kind a u qs) before (entries kind a u (drop k qs)) met k now at.closes formed
-            (units_below a formed u (reading kind a qs)) end_left (length qs) few
+        (units_below a formed u (reading kind a qs)) end_left (length qs) few
 
   -- what the walk has cost where memory is refused in front of state k, or while states are closed to which it leads
   module _ (k : ℕ) (w : StateValue) (met : List ℕ) (now : ℕ) (at : StepsAt kind a u looks qs v before k w met now)
@@ -106,11 +106,11 @@ module _ (kind : MatchKind) (a : Automaton) (u : Option ℕ) (looks : ℕ) (qs :
     pub match_refused : IsDistinct nat_eq met → All (λ q. q < length a.states) met → now ≤ before + length qs + free_ways a
     match_refused once low =
         here_cost a looks (entries kind a u qs) before (entries kind a u (drop k qs)) met k now at.closes once low (length qs)
-            (omega (arith, within))
+        (omega (arith, within))
 
     pub target_refused : (new : List ℕ) (then : ℕ) → ((more : List ℕ) × (new ≡ met ++ more)) → IsDistinct nat_eq new →
         All (λ q. q < length a.states) new →
         then ≤ now + 1 + known_ways a looks (drop (length met) new) → then ≤ before + length qs + free_ways a
     target_refused new then grown once low cost =
         cut_cost a looks (entries kind a u qs) before (entries kind a u (drop k qs)) met k now at.closes new
-            then (length qs) grown once low cost (omega (arith, within))
+        then (length qs) grown once low cost (omega (arith, within))

@@ -31,8 +31,13 @@ told_encoded v bytes state e = (is_encoded v bytes state e, value_back v bytes s
 -- the flags
 pub keeps_word : (old new : List ℕ) → IsUnfinished old → new ≡ slice_set old 0 (bit_or (slice_index old 0) 4) → IsUnfinished new ×
     (decoded_unfinished new ≡ record (decoded_unfinished old) { is_from_word = true })
-keeps_word old new of e = told_unfinished (record (decoded_unfinished old) { is_from_word = true }) new (record { have = of.state.have;
-    need = of.state.need; patterns = of.state.patterns; once = of.state.once; states = of.state.states }) refl
+keeps_word old new of e = told_unfinished (record (decoded_unfinished old) { is_from_word = true }) new (record {
+  have = of.state.have;
+  need = of.state.need;
+  patterns = of.state.patterns;
+  once = of.state.once;
+  states = of.state.states;
+}) refl
     (e ∙ (ap (λ (xs : List ℕ). slice_set xs 0 (bit_or (slice_index xs 0) 4)) of.same ∙ written (decoded_unfinished old)))
   where
     written : (v : StateValue) → slice_set (unfinished v) 0 (bit_or (slice_index (unfinished v) 0) 4) ≡ unfinished
@@ -42,8 +47,13 @@ keeps_word old new of e = told_unfinished (record (decoded_unfinished old) { is_
 
 pub keeps_half : (old new : List ℕ) → IsUnfinished old → new ≡ slice_set old 0 (bit_or (slice_index old 0) 8) → IsUnfinished new ×
     (decoded_unfinished new ≡ record (decoded_unfinished old) { is_half_crlf = true })
-keeps_half old new of e = told_unfinished (record (decoded_unfinished old) { is_half_crlf = true }) new (record { have = of.state.have;
-    need = of.state.need; patterns = of.state.patterns; once = of.state.once; states = of.state.states }) refl
+keeps_half old new of e = told_unfinished (record (decoded_unfinished old) { is_half_crlf = true }) new (record {
+  have = of.state.have;
+  need = of.state.need;
+  patterns = of.state.patterns;
+  once = of.state.once;
+  states = of.state.states;
+}) refl
     (e ∙ (ap (λ (xs : List ℕ). slice_set xs 0 (bit_or (slice_index xs 0) 8)) of.same ∙ written (decoded_unfinished old)))
   where
     written : (v : StateValue) → slice_set (unfinished v) 0 (bit_or (slice_index (unfinished v) 0) 8) ≡ unfinished
@@ -61,14 +71,24 @@ keeps_have_unfinished old new looks of within e = told_unfinished (record (decod
 
 pub keeps_have : (old new : List ℕ) (looks : ℕ) → IsEncoded old → IsLookSet looks → new ≡ take 1 old ++ (four_bytes looks ++ drop 5 old) →
     IsEncoded new × (decoded new ≡ record (decoded old) { look_have = looks })
-keeps_have old new looks of within e = told_encoded (record (decoded old) { look_have = looks }) new (record { have = within;
-    need = of.state.need; patterns = of.state.patterns; once = of.state.once; states = of.state.states })
+keeps_have old new looks of within e = told_encoded (record (decoded old) { look_have = looks }) new (record {
+  have = within;
+  need = of.state.need;
+  patterns = of.state.patterns;
+  once = of.state.once;
+  states = of.state.states;
+})
     (e ∙ ap (λ (xs : List ℕ). take 1 xs ++ (four_bytes looks ++ drop 5 xs)) of.same)
 
 pub keeps_need : (old new : List ℕ) (looks : ℕ) → IsEncoded old → IsLookSet looks → new ≡ take 5 old ++ (four_bytes looks ++ drop 9 old) →
     IsEncoded new × (decoded new ≡ record (decoded old) { look_need = looks })
-keeps_need old new looks of within e = told_encoded (record (decoded old) { look_need = looks }) new (record { have = of.state.have;
-    need = within; patterns = of.state.patterns; once = of.state.once; states = of.state.states })
+keeps_need old new looks of within e = told_encoded (record (decoded old) { look_need = looks }) new (record {
+  have = of.state.have;
+  need = within;
+  patterns = of.state.patterns;
+  once = of.state.once;
+  states = of.state.states;
+})
     (e ∙ ap (λ (xs : List ℕ). take 5 xs ++ (four_bytes looks ++ drop 9 xs)) of.same)
 
 -- a state comes last
@@ -101,10 +121,15 @@ pub keeps_id : (old new : List ℕ) (q : ℕ) → IsEncoded old → q ≤ greate
     IsEncoded new × (decoded new ≡ record (decoded old) { ids = (decoded old).ids ++ q ∷ [] }) × (q ≡ last_id 0 (decoded new).ids)
 keeps_id old new q of within e =
     let written : new ≡ encoded (record (decoded old) { ids = (decoded old).ids ++ q ∷ [] }) =
-        e ∙ (ap (λ (xs : List ℕ). xs ++ groups 4 (zigzag (last_id 0 (decoded old).ids) q)) of.same ∙ id_written (decoded old) q) in
-    let told = told_encoded (record (decoded old) { ids = (decoded old).ids ++ q ∷ [] }) new (record { have = of.state.have;
-        need = of.state.need; patterns = of.state.patterns; once = of.state.once; states =
-        all_more greatest_index (decoded old).ids q of.state.states within }) written in
+    e ∙ (ap (λ (xs : List ℕ). xs ++ groups 4 (zigzag (last_id 0 (decoded old).ids) q)) of.same ∙ id_written (decoded old) q) in
+    let told = told_encoded (record (decoded old) { ids = (decoded old).ids ++ q ∷ [] }) new (record {
+      have = of.state.have;
+      need = of.state.need;
+      patterns = of.state.patterns;
+      once = of.state.once;
+      states =
+          all_more greatest_index (decoded old).ids q of.state.states within;
+    }) written in
     (told.0, told.1, sym (ap (λ (v : StateValue). last_id 0 v.ids) told.1 ∙ last_more 0 (decoded old).ids q))
 
 -- the number of patterns is written where they are listed
@@ -113,9 +138,9 @@ written_count : (l : Bool) (v : StateValue) (bytes : List ℕ) → v.ids ≡ [] 
     first_bytes v ++ (pattern_bytes l (length v.matches) v.matches ++ id_bytes 0 v.ids) ≡ with_count l bytes
 written_count true v bytes none listed e =
     let tail : (four_bytes (length v.matches) ++ four_bytes_each v.matches) ++ id_bytes 0 v.ids ≡ four_bytes (length v.matches)
-        ++ four_bytes_each v.matches =
+    ++ four_bytes_each v.matches =
     ap (λ (qs : List ℕ). (four_bytes (length v.matches) ++ four_bytes_each v.matches) ++ id_bytes 0 qs) none
-        ∙ append-nil (four_bytes (length v.matches) ++ four_bytes_each v.matches) in
+    ∙ append-nil (four_bytes (length v.matches) ++ four_bytes_each v.matches) in
     let len : length bytes ≡ 13 + 4 * length v.matches = ap length e ∙ omega (arith, length-four_bytes_each v.matches) in
     let count : (length bytes - 13) / 4 ≡ length v.matches = omega (arith, len) in
     ap (λ (xs : List ℕ). first_bytes v ++ xs) tail
@@ -129,10 +154,10 @@ keeps_all old new l of flag e =
     let listed : is_listed (decoded_unfinished old).matches ≡ l =
     sym (listed_back _ _ _ _) ∙ (sym (ap (λ (xs : List ℕ). has_flag (slice_index xs 0) 2) of.same) ∙ flag) in
     let written = written_count l (decoded_unfinished old) old refl listed (of.same
-        ∙ ap (λ (t : Bool). first_bytes (decoded_unfinished old) ++ pattern_bytes t 0 (decoded_unfinished old).matches) listed) in
+    ∙ ap (λ (t : Bool). first_bytes (decoded_unfinished old) ++ pattern_bytes t 0 (decoded_unfinished old).matches) listed) in
     let form = ap (λ (t : Bool). first_bytes (decoded_unfinished old) ++
-        (pattern_bytes t (length (decoded_unfinished old).matches) (decoded_unfinished old).matches
-        ++ id_bytes 0 (decoded_unfinished old).ids)) listed in
+    (pattern_bytes t (length (decoded_unfinished old).matches) (decoded_unfinished old).matches
+    ++ id_bytes 0 (decoded_unfinished old).ids)) listed in
     told_encoded (decoded_unfinished old) new of.state (e ∙ (sym written ∙ sym form))
 
 pub count_fits : (old : List ℕ) → IsUnfinished old → has_flag (slice_index old 0) 2 ≡ true → (length old - 13) / 4 < 4294967296
@@ -140,7 +165,7 @@ count_fits old of flag =
     let listed : is_listed (decoded_unfinished old).matches ≡ true =
     sym (listed_back _ _ _ _) ∙ (sym (ap (λ (xs : List ℕ). has_flag (slice_index xs 0) 2) of.same) ∙ flag) in
     let form = of.same ∙ ap (λ (t : Bool). first_bytes (decoded_unfinished old)
-        ++ pattern_bytes t 0 (decoded_unfinished old).matches) listed in
+    ++ pattern_bytes t 0 (decoded_unfinished old).matches) listed in
     let len : length old ≡ 13 + 4 * length (decoded_unfinished old).matches =
-        ap length form ∙ omega (arith, length-four_bytes_each (decoded_unfinished old).matches) in
+    ap length form ∙ omega (arith, length-four_bytes_each (decoded_unfinished old).matches) in
     omega (arith, len, few (decoded_unfinished old) of.state)

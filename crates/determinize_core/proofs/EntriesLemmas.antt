@@ -64,7 +64,7 @@ module _ (a : Automaton) (l : Look) where
   has_its_look [] s x there h = none_in nat_eq x _ there
   has_its_look (q ∷ qs) s x there h = ⊎_elim
       (λ (e : x ≡ q). has_old qs (union_of s (look_of (node_at a q))) (has_look-union s (look_of (node_at a q)) l
-          ∙ or_right _ _ (ap (λ y. has_look (look_of (node_at a y)) l) (sym e) ∙ h)))
+      ∙ or_right _ _ (ap (λ y. has_look (look_of (node_at a y)) l) (sym e) ∙ h)))
       (λ later. has_its_look qs (union_of s (look_of (node_at a q))) x later h) (has_cons nat_eq names_equal x q qs there)
 
 pub capture_looks : (node : Node) → not (is_capture node) ≡ false → look_of node ≡ 0
@@ -86,7 +86,7 @@ captures_alone a (q ∷ qs) s none = ⊎_elim
     (λ (e : is_kept a q ≡ false).
     let rest : is_some_kept a qs ≡ false = (rw e at none) in
     ap (λ w. looks_with a (union_of s w) qs) (capture_looks (node_at a q) e) ∙ ap (λ w. looks_with a w qs) (or_zero_r s)
-        ∙ captures_alone a qs s rest)
+    ∙ captures_alone a qs s rest)
     (cases_Bool (is_kept a q))
 
 -- ---- what is gained
@@ -110,7 +110,7 @@ nothing_gained known have need l small none m f =
     let z : shared_by (without known have) need ≡ 0 = eqb-true (shared_by (without known have) need) 0 (not-false _ none) in
     let e : ((has_look known l && not (has_look have l)) && has_look need l) ≡ false =
     ap (λ b. b && has_look need l) (sym (has_look-without known have l small)) ∙ sym (has_look-shared (without known have) need l)
-        ∙ ap (λ s. has_look s l) z ∙ has_look-none l in
+    ∙ ap (λ s. has_look s l) z ∙ has_look-none l in
     not_gained (has_look known l) (has_look have l) (has_look need l) e m f
 
 -- ---- a state and what it was made of
@@ -164,13 +164,13 @@ module _ (a : Automaton) (formed : IsWellFormed a) (t : Terminator) (o u : Optio
   needs : (l : Look) → has_look v.look_need l ≡ true → (v.look_need == 0) ≡ false
   needs l h = ⊎_elim
       (λ (z : (v.look_need == 0) ≡ true). not_both (has_look v.look_need l) _ h (ap (λ n. has_look n l) (eqb-true v.look_need 0 z)
-          ∙ has_look-none l))
+      ∙ has_look-none l))
       (λ z. z) (cases_Bool (v.look_need == 0))
 
   some_kept : (v.look_need == 0) ≡ false → is_some_kept a states ≡ true
   some_kept some = ⊎_elim (λ e. e)
       (λ (none : is_some_kept a states ≡ false). not_both (v.look_need == 0) _
-          (eq-eqb v.look_need 0 (s.need ∙ captures_alone a states 0 none)) some) (cases_Bool (is_some_kept a states))
+      (eq-eqb v.look_need 0 (s.need ∙ captures_alone a states 0 none)) some) (cases_Bool (is_some_kept a states))
 
   has_is : (v.look_need == 0) ≡ false → v.look_have ≡ have
   has_is some = s.has ∙ chosen (v.look_need == 0) some
@@ -227,11 +227,11 @@ module _ (a : Automaton) (formed : IsWellFormed a) (t : Terminator) (o u : Optio
       let e : ids_before a t v u ≡ again = rw g (ap (closed a known) s.ids) in
       ap (kept a) e
       ∙ kept_close_anew nat_eq names_equal (is_kept a) (to a formed) (rank a formed) (to_self a formed) (to_kept a formed)
-          (known_steps a have) full grows
+      (known_steps a have) full grows
       (passed_through a formed (has_look have)) (passed_through a formed passed) entries states after again first_visits w by_full)
       (λ (none : gains v known ≡ false).
       let by_full : Visits nat_eq full entries [] states = stays_closed nat_eq names_equal (known_steps a have) full first_visits
-          (alike_there none) in
+      (alike_there none) in
       let same : states ≡ after = one_after nat_eq full by_full after w in
       let e : ids_before a t v u ≡ kept a states = rw none s.ids in
       ap (kept a) e ∙ kept_twice (is_kept a) states ∙ ap (kept a) same)

@@ -52,7 +52,7 @@ crlf_of f =
     other f.words WordStartHalfUnicode StartCRLF _ refl
     ∙ other f.words WordStartHalfAscii StartCRLF _ refl
     ∙ itself f.crlf StartCRLF _ refl (other f.lines StartLF StartCRLF _ refl ∙ other f.haystack AtStart StartCRLF 0 refl
-        ∙ has_look-none StartCRLF)
+    ∙ has_look-none StartCRLF)
 
 -- neither look of words is in the set of the three others
 no_word_look : (f : Families) (l : Look) → same_look l StartCRLF ≡ false → same_look l StartLF ≡ false → same_look l AtStart ≡ false →
@@ -126,7 +126,7 @@ module _ (f : Families) (reverse : Bool) (t : Terminator) where
   edge_exact None = haystack_of f
   edge_exact (Some b) =
       start_cases f reverse t b (λ x. has_look x.look_have AtStart ≡ false) (λ _. haystack_of at_line_feed)
-          (λ _. haystack_of at_carriage_return) (λ _ _. haystack_of (at_byte b))
+      (λ _. haystack_of at_carriage_return) (λ _ _. haystack_of (at_byte b))
 
   pub lines_exact : (o : Option ℕ) → has_look (behind_start f reverse t (start_of t o)).look_have StartLF ≡ ((is_none o || is_line_end t o)
       && f.lines)
@@ -144,7 +144,7 @@ module _ (f : Families) (reverse : Bool) (t : Terminator) where
       start_cases f reverse t b (λ x. has_look x.look_have StartCRLF ≡ ((second_half reverse == b) && f.crlf))
       (λ is. crlf_of at_line_feed ∙ ap (λ c. c && f.crlf) (second_is_line_feed reverse ∙ ap (λ c. second_half reverse == c) (sym is)))
       (λ is. crlf_of at_carriage_return ∙ ap (λ c. c && f.crlf) (second_is_carriage_return reverse
-          ∙ ap (λ c. second_half reverse == c) (sym is)))
+      ∙ ap (λ c. second_half reverse == c) (sym is)))
       (λ n m. crlf_of (at_byte b) ∙ ap (λ c. c && f.crlf) (sym (no_second reverse b n m)))
 
   pub half_exact : (o : Option ℕ) → (behind_start f reverse t (start_of t o)).is_half_crlf ≡ (is_byte (first_half reverse) o && f.crlf)

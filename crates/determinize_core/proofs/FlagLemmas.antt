@@ -20,9 +20,9 @@ of_all f = of_both (λ m. of_both (λ l. of_both (λ w. of_both (λ h. f m l w h
 of_four : (f : Bool → Bool → Bool → Bool → Bool) → of_all f ≡ true → (m l w h : Bool) → f m l w h ≡ true
 of_four f e m l w h =
     of_each (λ h. f m l w h)
-      (of_each (λ w. of_both (λ h. f m l w h))
-        (of_each (λ l. of_both (λ w. of_both (λ h. f m l w h)))
-          (of_each (λ m. of_both (λ l. of_both (λ w. of_both (λ h. f m l w h)))) e m) l) w) h
+    (of_each (λ w. of_both (λ h. f m l w h))
+    (of_each (λ l. of_both (λ w. of_both (λ h. f m l w h)))
+    (of_each (λ m. of_both (λ l. of_both (λ w. of_both (λ h. f m l w h)))) e m) l) w) h
 
 -- whether two bits are the same
 abbrev is_same : Bool → Bool → Bool

@@ -119,9 +119,9 @@ module _ (a : Automaton) (t : Terminator) (kind : MatchKind) where
     state_there k l =
         let len = units_len bytes in
         ap (λ (o : Option ℕ). slice_get (walked a t kind (start_value a t (start_of t o) q) (units_of bytes)) k)
-            (sym (stands_behind a.reverse behind bytes))
+        (sym (stands_behind a.reverse behind bytes))
         ∙ walked_there (units_of bytes) state (λ m u e. ap (step_value a t kind (state m)) (reads_bytes a.reverse behind bytes m
-            ∙ unit_there bytes m u e)) k (omega (arith, l, len))
+        ∙ unit_there bytes m u e)) k (omega (arith, l, len))
 
     pub states_len : length (walked a t kind (start_value a t (start_of t behind) q) (units_of bytes)) ≡ length bytes + 2
     states_len =

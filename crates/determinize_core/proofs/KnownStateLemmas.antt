@@ -45,5 +45,11 @@ state_with_known b v known state = record {
 
 pub fresh_with_known : (b : LookBehind) →
     with_look_behind b dead ≡ record dead { is_from_word = b.is_from_word; is_half_crlf = b.is_half_crlf; look_have = b.look_have }
-fresh_with_known b = λ i. record { is_from_word = b.is_from_word; is_half_crlf = b.is_half_crlf; look_have = or_zero_l b.look_have i;
-    look_need = 0; matches = []; ids = [] }
+fresh_with_known b = λ i. record {
+  is_from_word = b.is_from_word;
+  is_half_crlf = b.is_half_crlf;
+  look_have = or_zero_l b.look_have i;
+  look_need = 0;
+  matches = [];
+  ids = [];
+}

@@ -56,10 +56,10 @@ join_at : (j : ℕ) (seen xs : List ℕ) → map (at j) (join nat_eq seen xs) �
 join_at j seen [] = refl
 join_at j seen (x ∷ xs) = ⊎_elim
     (λ (e : has nat_eq x seen ≡ true). let f : has same_pair (j, x) (map (at j) seen) ≡ true = has_at j x seen ∙ e in
-        rw (e, f) (join_at j seen xs))
+    rw (e, f) (join_at j seen xs))
     (λ (e : has nat_eq x seen ≡ false). let f : has same_pair (j, x) (map (at j) seen) ≡ false = has_at j x seen ∙ e in
     rw (e, f) (join_at j (seen ++ x ∷ []) xs ∙ ap (λ l. join same_pair l (map (at j) xs)) (map_appended (at j) seen (x ∷ []))))
-        (has_or_not nat_eq x seen)
+    (has_or_not nat_eq x seen)
 
 patterns_of : (j : ℕ) (xs : List ℕ) → map pattern (map (at j) xs) ≡ xs
 patterns_of j [] = refl
@@ -144,7 +144,7 @@ module _ (a : Automaton) (t : Terminator) (h : List ℕ) (s e i q : ℕ) (formed
 
   pub all_listed : (k : ℕ) → k ≤ len →
       (walk_value a t AllMatches h i q (suc k)).matches ≡ map pattern (filter (λ x. nat_eq x.0 (place_of a.reverse i k))
-          (ends_from a text (i, q)))
+      (ends_from a text (i, q)))
   all_listed k l =
       let j : ℕ = place_of a.reverse i k in
       let ps : List ℕ = answers (pattern_at a) (walked_lists AllMatches a text i q k) in
@@ -152,7 +152,7 @@ module _ (a : Automaton) (t : Terminator) (h : List ℕ) (s e i q : ℕ) (formed
       ∙ sym (patterns_of j (distinct nat_eq ps))
       ∙ ap (map pattern) (join_at j [] ps ∙ ap (distinct same_pair) (sym (ends_there a i k (walked_lists AllMatches a text i q k)))
       ∙ list_matches a text i formed below q low (walked_lists AllMatches a text i q)
-          (lists_are_lists AllMatches a text i q formed low) k l)
+      (lists_are_lists AllMatches a text i q formed low) k l)
 
   abbrev state : ℕ → StateValue
   state k = walk_value a t LeftmostFirst h i q k
@@ -201,7 +201,7 @@ module _ (a : Automaton) (t : Terminator) (h : List ℕ) (s e i q : ℕ) (formed
       (k : ℕ) × (k ≤ left) × (j ≡ place_of a.reverse i k) × (listed k ≡ p ∷ []) × ((m : ℕ) → k < m → m ≤ left → listed m ≡ [])
   some_listed j p is =
       let r = last_listed (walk_value a t LeftmostFirst h i q) (place_of a.reverse i) left 0 j p
-          (latest_is_first a t h s e i q formed below within low ∙ is) in
+      (latest_is_first a t h s e i q formed below within low ∙ is) in
       let to = r.2 in (
         r.0,
         omega (arith, to),

@@ -93,7 +93,7 @@ module _ (f : Families) (reverse : Bool) (t : Terminator) (P : Look → Type 0) 
   line_holds b first ends a w e p =
       let none : is_no_word (byte_side (Some b)) ≡ true = rw w refl in
       starts_hold P _ (never (P AtStart)) (λ u. a.line (e (both_left ends f.lines u))) (λ u. p (both_not first f.crlf u))
-          (λ _. a.ascii none) (λ _. a.unicode none)
+      (λ _. a.ascii none) (λ _. a.unicode none)
 
   byte_holds : (b : ℕ) (ends word : Bool) → Allows reverse t (Some b) P → ends ≡ ends_line t b → word ≡ is_word_byte b →
       Each P (behind_byte f ends word).look_have
@@ -107,7 +107,7 @@ module _ (f : Families) (reverse : Bool) (t : Terminator) (P : Look → Type 0) 
   known_holds (Some b) a =
       start_cases f reverse t b (λ x. Each P x.look_have)
       (λ is. line_holds b reverse (ends_line t 0x0A) a (ap is_word_byte is) (λ u. ap (ends_line t) is
-          ∙ u) (λ r. a.line_feed r (ap Some is)))
+      ∙ u) (λ r. a.line_feed r (ap Some is)))
       (λ is. line_holds b (not reverse) (ends_line t 0x0D) a (ap is_word_byte is) (λ u. ap (ends_line t) is
-          ∙ u) (λ r. a.carriage_return (not-false reverse r) (ap Some is)))
+      ∙ u) (λ r. a.carriage_return (not-false reverse r) (ap Some is)))
       (λ _ _. byte_holds b (ends_line t b) (is_word_byte b) a refl refl)

@@ -33,34 +33,44 @@ module _ (steps : ℕ → List ℕ) (n : ℕ) (below : StaysBelow n steps) where
   room : (x : ℕ) (seen : List ℕ) → x < n → AreBelow n seen → HasNoneTwice nat_eq seen → has nat_eq x seen ≡ false → length seen < n
   room x seen x_low low once absent =
       let l : length (seen ++ x ∷ []) ≤ n = (finite_names n steps below).room (seen
-          ++ x ∷ []) (of_push nat_eq names_equal (λ q. q < n) seen x low x_low) (once_more seen x absent once) in
+      ++ x ∷ []) (of_push nat_eq names_equal (λ q. q < n) seen x low x_low) (once_more seen x absent once) in
       let e = length-pushed seen x in omega (arith, l, e)
 
   held_there : (x : ℕ) (stack seen : List ℕ) → has nat_eq x seen ≡ true → Made stack seen → Made (x ∷ stack) seen
-  held_there x stack seen e r = record { after = r.after; visits = held x stack seen r.after e r.visits; once = r.once; low = r.low;
-      longer = r.longer }
+  held_there x stack seen e r = record {
+    after = r.after;
+    visits = held x stack seen r.after e r.visits;
+    once = r.once;
+    low = r.low;
+    longer = r.longer;
+  }
 
   make : (f : ℕ) (stack seen : List ℕ) → n ≤ f + length seen → AreBelow n stack → AreBelow n seen → HasNoneTwice nat_eq seen →
       Made stack seen
   make f [] seen fuel inside low once = record { after = seen; visits = done seen seen refl; once = once; low = low; longer = omega arith }
   make zero (x ∷ stack) seen fuel inside low once = ⊎_elim
       (λ (e : has nat_eq x seen ≡ true). held_there x stack seen e (make zero stack seen fuel
-          (λ q h. inside q (has_later nat_eq q x stack h)) low once))
+      (λ q h. inside q (has_later nat_eq q x stack h)) low once))
       (λ (e : has nat_eq x seen ≡ false). let l = room x seen (inside x (has_first nat_eq names_equal x stack)) low once e in
-          absurd (omega (arith, l, fuel))) (has_or_not nat_eq x seen)
+      absurd (omega (arith, l, fuel))) (has_or_not nat_eq x seen)
   make (suc f) (x ∷ stack) seen fuel inside low once = ⊎_elim
       (λ (e : has nat_eq x seen ≡ true). held_there x stack seen e (make (suc f) stack seen fuel
-          (λ q h. inside q (has_later nat_eq q x stack h)) low once))
+      (λ q h. inside q (has_later nat_eq q x stack h)) low once))
       (λ (absent : has nat_eq x seen ≡ false).
       let x_low : x < n = inside x (has_first nat_eq names_equal x stack) in
       let e = length-pushed seen x in
       let one = make f (steps x) (seen ++ x ∷ []) (omega (arith, fuel, e)) (below x x_low)
-          (of_push nat_eq names_equal (λ q. q < n) seen x low x_low) (once_more seen x absent once) in
+      (of_push nat_eq names_equal (λ q. q < n) seen x low x_low) (once_more seen x absent once) in
       let l = one.longer in
       let two = make f stack one.after (omega (arith, fuel, e, l)) (λ q h. inside q (has_later nat_eq q x stack h)) one.low one.once in
       let m = two.longer in
-      record { after = two.after; visits = fresh x stack seen one.after two.after absent one.visits two.visits; once = two.once;
-          low = two.low; longer = omega (arith, e, l, m) })
+      record {
+        after = two.after;
+        visits = fresh x stack seen one.after two.after absent one.visits two.visits;
+        once = two.once;
+        low = two.low;
+        longer = omega (arith, e, l, m);
+      })
       (has_or_not nat_eq x seen)
 
   pub walk_made : (stack : List ℕ) → AreBelow n stack → Visits nat_eq steps stack []

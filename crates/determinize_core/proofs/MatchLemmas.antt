@@ -74,7 +74,7 @@ module _ (kind : MatchKind) (a : Automaton) (left rest : List ℕ) (q : ℕ) (is
       listed_from kind a new rest ≡ listed_from kind a ps left
   goes_on_listed ps new on e =
       ap (λ (l : List ℕ). listed_from kind a l rest) e ∙ (sym (going_with kind (pattern_at a q) ps (answers (pattern_at a) rest) on)
-          ∙ ap (listed_from kind a ps) (sym is))
+      ∙ ap (listed_from kind a ps) (sym is))
 
   pub goes_on_reading : (u : Option ℕ) → stops kind (pattern_at a q) ≡ false →
       flat_map (unit_steps a u) (reading kind a left) ≡ unit_steps a u q ++ flat_map (unit_steps a u) (reading kind a rest)

@@ -106,7 +106,7 @@ module _ (a : Automaton) (t : Terminator) (kind : MatchKind) (v : StateValue) (u
     builds w x y z b some none told listed kept_some flags m same built =
         let first : y ≡ record dead { look_have = looks; matches = patterns_in kind a ids } =
         listed ∙ (ap (λ (s : StateValue). record s { matches = patterns_in kind a ids }) told
-            ∙ ap (λ (s : StateValue). record s { look_have = looks; matches = patterns_in kind a ids }) none) in
+        ∙ ap (λ (s : StateValue). record s { look_have = looks; matches = patterns_in kind a ids }) none) in
         let second : z ≡ begun_by looks ids some = flags ∙ ap (λ (s : StateValue). with_flags s some) first in
         let third : begun_by looks ids some ≡ begun a t kind v u =
         ap (λ (l : ℕ). begun_by l ids some) known

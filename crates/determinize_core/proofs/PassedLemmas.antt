@@ -156,8 +156,10 @@ or-false true = refl
 or-false false = refl
 
 abbrev starts_list : Families → List Wanted
-starts_list f = (f.words, WordStartHalfUnicode) ∷ (f.words, WordStartHalfAscii) ∷ (f.crlf, StartCRLF) ∷ (f.lines, StartLF) ∷ (f.haystack,
-    AtStart) ∷ []
+starts_list f = (f.words, WordStartHalfUnicode) ∷ (f.words, WordStartHalfAscii) ∷ (f.crlf, StartCRLF) ∷ (f.lines, StartLF) ∷ (
+  f.haystack,
+  AtStart,
+) ∷ []
 
 starts_wanted : (f : Families) (l : Look) → has_look (starts_of f) l ≡ any_wanted (starts_list f) l false
 starts_wanted f l = has_all_wanted (starts_list f) 0 l ∙ ap (any_wanted (starts_list f) l) (has_look-none l)

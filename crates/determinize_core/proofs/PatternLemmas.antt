@@ -20,16 +20,16 @@ number_of zero (n ∷ ns) rest within all = number_back n (four_bytes_each ns ++
 number_of (suc i) (n ∷ ns) rest within all =
     let place : 4 * suc i ≡ 4 + 4 * i = omega arith in
     let skip : drop (4 + 4 * i) (four_bytes n ++ (four_bytes_each ns ++ rest)) ≡ drop (4 * i) (four_bytes_each ns ++ rest) =
-        drop-append-add (four_bytes n) (four_bytes_each ns ++ rest) (4 * i) in
+    drop-append-add (four_bytes n) (four_bytes_each ns ++ rest) (4 * i) in
     let there : from_le_bytes w32 (drop (4 * i) (four_bytes_each ns ++ rest)) ≡ get_or ns i 0 =
-        number_of i ns rest (omega arith) (λ k d p. all (suc k) d (omega arith)) in
+    number_of i ns rest (omega arith) (λ k d p. all (suc k) d (omega arith)) in
     ap (λ (k : ℕ). from_le_bytes w32 (drop k (four_bytes_each (n ∷ ns) ++ rest))) place ∙ (ap (from_le_bytes w32) skip ∙ there)
 number_of i [] rest within all = grind arith
 
 -- the bytes where the patterns are listed
 listed_form : (v : StateValue) → is_listed v.matches ≡ true →
     encoded v ≡ nine (flag_byte (is_match v.matches) (is_listed v.matches) v.is_from_word v.is_half_crlf) v.look_have v.look_need
-        ++ ((four_bytes (length v.matches) ++ four_bytes_each v.matches) ++ id_bytes 0 v.ids)
+    ++ ((four_bytes (length v.matches) ++ four_bytes_each v.matches) ++ id_bytes 0 v.ids)
 listed_form v listed = ap (λ (l : Bool). nine (flag_byte (is_match v.matches) (is_listed v.matches) v.is_from_word v.is_half_crlf)
     v.look_have v.look_need ++ (pattern_bytes l (length v.matches) v.matches ++ id_bytes 0 v.ids)) listed
 
@@ -38,7 +38,7 @@ pub count_there : (v : StateValue) (bytes : List ℕ) → IsState v → bytes �
     number_at 9 bytes ≡ length v.matches
 count_there v bytes state e listed =
     ap (number_at 9) (e ∙ listed_form v listed) ∙ number_back (length v.matches) (four_bytes_each v.matches
-        ++ id_bytes 0 v.ids) (few v state)
+    ++ id_bytes 0 v.ids) (few v state)
 
 pub pattern_there : (v : StateValue) (bytes : List ℕ) (i : ℕ) → IsState v → bytes ≡ encoded v → is_listed v.matches ≡ true →
     i < length v.matches → number_at (13 + 4 * i) bytes ≡ get_or v.matches i 0
@@ -51,13 +51,13 @@ pub length-listed : (v : StateValue) (bytes : List ℕ) → bytes ≡ encoded v 
     length bytes ≡ 13 + 4 * length v.matches + length (id_bytes 0 v.ids)
 length-listed v bytes e listed =
     let whole : length bytes ≡ 13 + length (four_bytes_each v.matches ++ id_bytes 0 v.ids) =
-        ap length (e ∙ listed_form v listed) ∙ omega arith in
+    ap length (e ∙ listed_form v listed) ∙ omega arith in
     omega (arith, whole, length-append (four_bytes_each v.matches) (id_bytes 0 v.ids), length-four_bytes_each v.matches)
 
 pub length-unlisted : (v : StateValue) (bytes : List ℕ) → bytes ≡ encoded v → 9 ≤ length bytes
 length-unlisted v bytes e =
     let whole : length bytes ≡ 9 + length (pattern_bytes (is_listed v.matches) (length v.matches) v.matches ++ id_bytes 0 v.ids) =
-        ap length e ∙ omega arith in
+    ap length e ∙ omega arith in
     omega (arith, whole)
 
 -- whether they are listed, as the flags tell
@@ -112,8 +112,11 @@ pattern_index v bytes i state e flag within =
 
 pub ids_within : (bytes : List ℕ) → IsEncoded bytes → has_flag (slice_index bytes 0) 2 ≡ true → 13 + 4 * number_at 9 bytes ≤ length bytes
 ids_within bytes of flag =
-    omega (arith, length-listed (decoded bytes) bytes of.same (listed_told (decoded bytes) bytes of.same flag),
-        count_told (decoded bytes) bytes of.state of.same flag)
+    omega (
+      arith,
+      length-listed (decoded bytes) bytes of.same (listed_told (decoded bytes) bytes of.same flag),
+      count_told (decoded bytes) bytes of.state of.same flag,
+    )
 
 pub ids_slice : (v : StateValue) (bytes : List ℕ) (start : ℕ) → IsState v → bytes ≡ encoded v →
     start ≡ ids_start (has_flag (slice_index bytes 0) 2) (number_at 9 bytes) →
@@ -122,7 +125,7 @@ ids_slice v bytes start state e at =
     let len : length (drop start bytes) ≡ length bytes - start = length-drop start bytes in
     let whole : take (length (drop start bytes)) (drop start bytes) ≡ drop start bytes = take-length (drop start bytes) in
     ap (λ (n : ℕ). ids_read 0 0 1 (take n (drop start bytes))) (sym len)
-        ∙ (ap (ids_read 0 0 1) whole ∙ (ap (λ (n : ℕ). ids_read 0 0 1 (drop n bytes)) at ∙ ids_there v bytes state e))
+    ∙ (ap (ids_read 0 0 1) whole ∙ (ap (λ (n : ℕ). ids_read 0 0 1 (drop n bytes)) at ∙ ids_there v bytes state e))
 
 pub ids_all : (v : StateValue) (xs : List ℕ) → IsState v → xs ≡ v.ids → All (λ q. q ≤ greatest_index) xs
 ids_all v xs state e = subst (λ (ys : List ℕ). All (λ q. q ≤ greatest_index) ys) (sym e) state.states
@@ -133,7 +136,7 @@ pub next_all : (xs bytes rest : List ℕ) (before part w b q : ℕ) → All (λ 
     (nat_lt b 128 || nat_le last_weight w) ≡ true → q ≡ moved before (part + b * w) → All (λ p. p ≤ greatest_index) (ids_read q 0 1 rest)
 next_all xs bytes rest before part w b q all left e ends to =
     let read : ids_read before part w (b ∷ rest) ≡ moved before (part + b * w) ∷ ids_read (moved before (part + b * w)) 0 1 rest =
-        read_last before part w b rest ends in
+    read_last before part w b rest ends in
     let whole : xs ≡ q ∷ ids_read q 0 1 rest = cc in
     let of_all = subst (λ (ys : List ℕ). All (λ p. p ≤ greatest_index) ys) whole all in
     λ k d p. of_all (suc k) d (omega arith)

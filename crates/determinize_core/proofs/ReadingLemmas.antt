@@ -42,7 +42,7 @@ before_kept {B} keep f answer none silent (x ∷ xs) = ⊎_elim
     (λ (n : answer x ≡ None). rw (e, n) (ap (λ l. f x ++ l) (before_kept keep f answer none silent xs)))
     (λ (some : (d : B) × (answer x ≡ Some d)). let n = some.1 in rw (e, n) refl) (option_cases (answer x)))
     (λ (e : keep x ≡ false). let n : f x ≡ [] = none x e in let m : answer x ≡ None = silent x e in
-        rw (e, m, n) (before_kept keep f answer none silent xs)) (cases_Bool (keep x))
+    rw (e, m, n) (before_kept keep f answer none silent xs)) (cases_Bool (keep x))
 
 capture_reads : (node : Node) (b : ℕ) → not (is_capture node) ≡ false → on_byte node b ≡ []
 capture_reads (capture_node next pattern group slot) b k = refl
@@ -166,14 +166,14 @@ module _ (a : Automaton) (kind : MatchKind) (t : Terminator) (h : List ℕ) (s e
   -- where two lists are the same but for captures, the next entries are
   pub entries_alike : (ids list : List ℕ) → kept a ids ≡ kept a list →
       flat_map (unit_steps a unit) (reading kind a ids) ≡ flat_map (byte_steps a (span t h s e) (place_of a.reverse i k))
-          (cut_of kind a i k list)
+      (cut_of kind a i k list)
   entries_alike ids list alike =
       sym (kept_read a kind unit ids)
       ∙ ap (λ l. flat_map (unit_steps a unit) (reading kind a l)) alike
       ∙ kept_read a kind unit list
       ∙ ap (flat_map (unit_steps a unit)) (sym (cut_reads a i k kind list))
       ∙ sym (flat_map_alike (byte_steps a (span t h s e) (place_of a.reverse i k)) (unit_steps a unit) byte_steps_are
-          (cut_of kind a i k list))
+      (cut_of kind a i k list))
 
 pub unit_low : (a : Automaton) → IsWellFormed a → (u : Option ℕ) (xs : List ℕ) → AreBelow (length a.states) (flat_map (unit_steps a u) xs)
 unit_low a formed u xs = of_flat_map nat_eq names_equal nat_eq (unit_steps a u) (λ q. q < length a.states) xs (λ x there q h. led u x q h)

@@ -30,7 +30,7 @@ starts_at_words_and_others = refl
 abbrev known : ℕ → Bool → Terminator → List LookBehind
 known looks reverse t =
     map (look_behind looks reverse t) (NonWordByte ∷ WordByte ∷ Text ∷ LineLF ∷ LineCR ∷ CustomLineTerminator ∷ CustomWordLineTerminator ∷
-        [])
+    [])
 
 -- looks alone, those beside a word byte, and those beside the first half of a carriage return and a line feed
 abbrev have : ℕ → LookBehind

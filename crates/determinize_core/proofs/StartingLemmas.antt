@@ -30,7 +30,7 @@ module _ (a : Automaton) (formed : IsWellFormed a) (q : ℕ) (low : q < length a
   start_builds t s w x m b begun told known same built =
       let first : x ≡ with_look_behind (behind a t s) dead = told ∙ ap (with_look_behind (behind a t s)) begun in
       let looks_are : looks ≡ (behind a t s).look_have = known ∙ ap (λ (y : StateValue). y.look_have) (first
-          ∙ fresh_with_known (behind a t s)) in
+      ∙ fresh_with_known (behind a t s)) in
       built ∙ (ap (with_states a set) (same ∙ first)
       ∙ (ap (λ (qs : List ℕ). with_states a qs (with_look_behind (behind a t s) dead)) one_closed
       ∙ ap (λ (l : ℕ). with_states a (closed a l (q ∷ [])) (with_look_behind (behind a t s) dead)) looks_are))
@@ -41,5 +41,5 @@ pub start_costs : (a : Automaton) (looks : ℕ) (old set : List ℕ) → old ≡
     now ≤ before + 1 + known_ways a looks (drop (length old) set) → now ≤ before + 1 + free_ways a
 start_costs a looks old set none once below before now cost =
     let whole : known_ways a looks (drop (length old) set) ≡ known_ways a looks set =
-        ap (λ (l : List ℕ). known_ways a looks (drop (length l) set)) none in
+    ap (λ (l : List ℕ). known_ways a looks (drop (length l) set)) none in
     omega (arith, cost, whole, ways_once a looks set (once_from_distinct set once) (has_from_all (length a.states) set below))

@@ -82,7 +82,7 @@ sum_back part w z =
 groups_step : (t : Bool) (more before part w z : ℕ) (rest : List ℕ) → nat_lt z 128 ≡ t → nat_le last_weight w ≡ false →
     ids_read before (part + (z % 128 + 128 - 128) * w) (w * 128) (groups more (z / 128) ++ rest)
     ≡ moved before ((part + (z % 128 + 128 - 128) * w) + z / 128 * (w * 128)) ∷ ids_read
-        (moved before ((part + (z % 128 + 128 - 128) * w) + z / 128 * (w * 128))) 0 1 rest →
+    (moved before ((part + (z % 128 + 128 - 128) * w) + z / 128 * (w * 128))) 0 1 rest →
     ids_read before part w (groups (suc more) z ++ rest) ≡ moved before (part + z * w) ∷ ids_read (moved before (part + z * w)) 0 1 rest
 groups_step true more before part w z rest small room next =
     let ends : (nat_lt z 128 || nat_le last_weight w) ≡ true = rw small refl in
@@ -93,8 +93,8 @@ groups_step false more before part w z rest large room next =
     let large_group : nat_lt (z % 128 + 128) 128 ≡ false = grind arith in
     let not_last : (nat_lt (z % 128 + 128) 128 || nat_le last_weight w) ≡ false = rw large_group room in
     let step : ids_read before part w ((z % 128 + 128) ∷ (groups more (z / 128) ++ rest)) ≡ ids_read before
-        (part + (z % 128 + 128 - 128) * w) (w * 128) (groups more (z / 128) ++ rest) =
-        read_more before part w (z % 128 + 128) (groups more (z / 128) ++ rest) not_last in
+    (part + (z % 128 + 128 - 128) * w) (w * 128) (groups more (z / 128) ++ rest) =
+    read_more before part w (z % 128 + 128) (groups more (z / 128) ++ rest) not_last in
     let sum : (part + (z % 128 + 128 - 128) * w) + z / 128 * (w * 128) ≡ part + z * w = sum_back part w z in
     let written = groups_more more z large in
     cc
@@ -112,7 +112,7 @@ pub ids_back : (before : ℕ) (ids : List ℕ) → ids_read before 0 1 (id_bytes
 ids_back before [] = refl
 ids_back before (q ∷ qs) =
     let read : ids_read before 0 1 (groups 4 (zigzag before q) ++ id_bytes q qs) ≡ moved before (0 + zigzag before q * 1) ∷ ids_read
-        (moved before (0 + zigzag before q * 1)) 0 1 (id_bytes q qs) = groups_back 4 before 0 1 (zigzag before q) (id_bytes q qs) refl in
+    (moved before (0 + zigzag before q * 1)) 0 1 (id_bytes q qs) = groups_back 4 before 0 1 (zigzag before q) (id_bytes q qs) refl in
     let one : 0 + zigzag before q * 1 ≡ zigzag before q = omega arith in
     let there : moved before (zigzag before q) ≡ q = moved_zigzag before q in
     let rest : ids_read q 0 1 (id_bytes q qs) ≡ qs = ids_back q qs in

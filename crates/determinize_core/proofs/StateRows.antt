@@ -21,8 +21,14 @@ behind_b : encoded (record dead { matches = 0 ∷ [] }) ≡ 1 ∷ 0 ∷ 0 ∷ 0 
 behind_b = refl
 
 -- patterns 0 and 258, looks, and a state far away
-all_parts : encoded (record { is_from_word = true; is_half_crlf = true; look_have = 260; look_need = 1; matches = 0 ∷ 258 ∷ [];
-    ids = 200 ∷ [] })
+all_parts : encoded (record {
+  is_from_word = true;
+  is_half_crlf = true;
+  look_have = 260;
+  look_need = 1;
+  matches = 0 ∷ 258 ∷ [];
+  ids = 200 ∷ [];
+})
     ≡ 15 ∷ 4 ∷ 1 ∷ 0 ∷ 0 ∷ 1 ∷ 0 ∷ 0 ∷ 0 ∷ 2 ∷ 0 ∷ 0 ∷ 0 ∷ 0 ∷ 0 ∷ 0 ∷ 0 ∷ 2 ∷ 1 ∷ 0 ∷ 0 ∷ 144 ∷ 3 ∷ []
 all_parts = refl
 

@@ -37,9 +37,9 @@ kept_has a q [] h = h
 kept_has a q (x ∷ xs) h = ⊎_elim
     (λ (e : is_kept a x ≡ true). let g : Has nat_eq q (x ∷ kept a xs) = (rw e at h) in
     of_cons nat_eq names_equal (λ p. Has nat_eq p (x ∷ xs)) x (kept a xs) (has_first nat_eq names_equal x xs)
-        (λ p i. has_later nat_eq p x xs (kept_has a p xs i)) q g)
+    (λ p i. has_later nat_eq p x xs (kept_has a p xs i)) q g)
     (λ (e : is_kept a x ≡ false). let g : Has nat_eq q (kept a xs) = (rw e at h) in
-        has_later nat_eq q x xs (kept_has a q xs g)) (cases_Bool (is_kept a x))
+    has_later nat_eq q x xs (kept_has a q xs g)) (cases_Bool (is_kept a x))
 
 kept_lacks : (a : Automaton) (q : ℕ) (xs : List ℕ) → has nat_eq q xs ≡ false → has nat_eq q (kept a xs) ≡ false
 kept_lacks a q xs absent = ⊎_elim (λ (h : Has nat_eq q (kept a xs)). not_both (has nat_eq q xs) _ (kept_has a q xs h) absent) (λ e. e)
@@ -58,7 +58,7 @@ pub kept_below : (a : Automaton) (looks : ℕ) (qs : List ℕ) → IsWellFormed 
     All (λ q. q < length a.states) (kept a (closed a looks qs))
 kept_below a looks qs formed below =
     all_from_below (length a.states) (kept a (closed a looks qs)) (λ q h. closed_below a looks formed qs below q
-        (kept_has a q (closed a looks qs) h))
+    (kept_has a q (closed a looks qs) h))
 
 -- ---- laws
 
@@ -110,7 +110,7 @@ module _ (a : Automaton) where
   none_looks looks (q ∷ qs) none =
       let parts = first_not_kept q qs none in
       let same : union_of looks (look_of (node_at a q)) ≡ looks = ap (union_of looks) (capture_looks (node_at a q) parts.0)
-          ∙ or_zero_r looks in
+      ∙ or_zero_r looks in
       ap (λ (l : ℕ). looks_with a l qs) same ∙ none_looks looks qs parts.1
 
   module _ (t : Terminator) (kind : MatchKind) (v : StateValue) (u : Option ℕ) where
@@ -121,7 +121,7 @@ module _ (a : Automaton) where
         same_made
         (ap (λ (b : Bool). (families a).words && (is_word (byte_side u) && b)) some ∙ never_both (families a).words (is_word (byte_side u)))
         (ap (λ (b : Bool). (families a).crlf && (is_byte (first_half a.reverse) u && b)) some
-            ∙ never_both (families a).crlf (is_byte (first_half a.reverse) u))
+        ∙ never_both (families a).crlf (is_byte (first_half a.reverse) u))
         (ap (λ (n : ℕ). have_if n (known_behind (families a) a.reverse t u)) looks) looks no_match no_state
 
   dead_before_by : (t : Terminator) (u : Option ℕ) (b : Bool) → gains dead (known_before a.reverse t dead u) ≡ b →

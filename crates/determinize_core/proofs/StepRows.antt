@@ -39,8 +39,13 @@ behind_end = refl
 
 -- matches where a line begins, lines ended by CRLF, by a line feed or by a carriage return
 abbrev line_starts : Automaton
-line_starts = record { states = look_node StartCRLF 1 ∷ match_node 0 ∷ []; start_anchored = 0; start_unanchored = 0; start_pattern = 0 ∷ [];
-    reverse = false }
+line_starts = record {
+  states = look_node StartCRLF 1 ∷ match_node 0 ∷ [];
+  start_anchored = 0;
+  start_unanchored = 0;
+  start_pattern = 0 ∷ [];
+  reverse = false;
+}
 
 inside_crlf : (walk_value line_starts (one_of 10) LeftmostFirst (13 ∷ 10 ∷ []) 1 0 1).matches ≡ []
 unfolding families_of known_words known_lines
@@ -76,8 +81,13 @@ before_feed = refl
 
 -- a word begins, and then its first letter and the place behind its last one
 abbrev words : Automaton
-words = record { states = look_node WordAscii 1 ∷ byte_range 97 122 2 ∷ look_node WordEndAscii 3 ∷ match_node 7 ∷ []; start_anchored = 0;
-    start_unanchored = 0; start_pattern = 0 ∷ []; reverse = false }
+words = record {
+  states = look_node WordAscii 1 ∷ byte_range 97 122 2 ∷ look_node WordEndAscii 3 ∷ match_node 7 ∷ [];
+  start_anchored = 0;
+  start_unanchored = 0;
+  start_pattern = 0 ∷ [];
+  reverse = false;
+}
 
 one_letter_word : (walk_value words (one_of 10) LeftmostFirst (45 ∷ 97 ∷ 45 ∷ []) 1 0 2).matches ≡ 7 ∷ []
 unfolding families_of known_words known_lines

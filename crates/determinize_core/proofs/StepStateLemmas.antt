@@ -112,7 +112,7 @@ step_state a t kind v u sound = record {
   need = looks_with-lt a 0 (states_behind a t kind v u) (omega arith);
   patterns = at_most (length a.start_pattern) (patterns_in kind a (ids_before a t v u)) sound.patterns_numbered
       (all_from_below (length a.start_pattern) (patterns_in kind a (ids_before a t v u))
-          (patterns_below a sound kind (ids_before a t v u)));
+      (patterns_below a sound kind (ids_before a t v u)));
   once = distinct_from_once (patterns_in kind a (ids_before a t v u)) (patterns_once a kind (ids_before a t v u));
   states = at_most (length a.states) (step_value a t kind v u).ids sound.states_numbered (step_below a t kind v u sound.named);
 }
@@ -120,7 +120,7 @@ step_state a t kind v u sound = record {
 pub start_state : (a : Automaton) (t : Terminator) (s : Start) (q : ℕ) → IsSound a → q < length a.states → IsState (start_value a t s q)
 start_state a t s q sound low =
     let begun : IsState (with_look_behind (behind a t s) dead) = state_with_known (behind a t s) dead
-        (known-lt (families a) a.reverse t s) dead_state in
+    (known-lt (families a) a.reverse t s) dead_state in
     record {
       have = have_if-lt (looks_with a 0 (closed a (behind a t s).look_have (q ∷ [])))
           (with_look_behind (behind a t s) dead).look_have begun.have;

@@ -36,7 +36,7 @@ has_its_state l (sparse_node ranges) h = no_look l _ h
 has_its_state l (dense_node names) h = no_look l _ h
 has_its_state l (look_node k next) h =
     let e : l ≡ k = same_from_bit l k (eqb-true (bit_of l) (bit_of k) (sym (has_look-repr k l) ∙ h)) in
-        (next, ap (λ m. look_node m next) (sym e))
+    (next, ap (λ m. look_node m next) (sym e))
 has_its_state l (union_node names) h = no_look l _ h
 has_its_state l (binary_union first second) h = no_look l _ h
 has_its_state l (capture_node next pattern group slot) h = no_look l _ h
@@ -59,7 +59,7 @@ module _ (a : Automaton) (l : Look) where
   looks_of_states (q ∷ qs) s old h =
       looks_of_states qs (union_of s (look_of (node_at a q)))
       (λ g. of_either (has_look s l) (has_look (look_of (node_at a q)) l) (has_look (looks_of a.states) l ≡ true)
-          (sym (has_look-union s (look_of (node_at a q)) l) ∙ g) old (of_state q)) h
+      (sym (has_look-union s (look_of (node_at a q)) l) ∙ g) old (of_state q)) h
 
 looks_from_none : (a : Automaton) (qs : List ℕ) (l : Look) → has_look (looks_with a 0 qs) l ≡ true → has_look (looks_of a.states) l ≡ true
 looks_from_none a qs l h = looks_of_states a l qs 0 (λ g. not_both (has_look 0 l) _ g (has_look-none l)) h
@@ -101,5 +101,9 @@ few n xs once all = few_once n xs once (has_from_all n xs all)
 
 pub stepped_short : (a : Automaton) (v : StateValue) → IsStepped a v → length (encoded v) ≤ widest a
 stepped_short a v stepped =
-    omega (arith, length-encoded v, few (length a.states) v.ids stepped.once stepped.below,
-        few (length a.start_pattern) v.matches stepped.state.once stepped.patterns)
+    omega (
+      arith,
+      length-encoded v,
+      few (length a.states) v.ids stepped.once stepped.below,
+      few (length a.start_pattern) v.matches stepped.state.once stepped.patterns,
+    )

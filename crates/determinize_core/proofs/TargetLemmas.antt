@@ -26,4 +26,4 @@ pub one_below : (a : Automaton) → IsWellFormed a → (b q : ℕ) (node : Node)
 one_below a formed b q node None is e = tt
 one_below a formed b q node (Some r) is e =
     byte_below a formed b q r (subst (λ (w : Node). Has nat_eq r (on_byte w b)) is
-        (subst (λ (xs : List ℕ). Has nat_eq r xs) e (has_first nat_eq names_equal r [])))
+    (subst (λ (xs : List ℕ). Has nat_eq r xs) e (has_first nat_eq names_equal r [])))

@@ -29,7 +29,7 @@ of_member bound q (x ∷ xs) all is =
 pub few : (v : StateValue) → IsState v → length v.matches < 2 ^ 32
 few v state =
     let h : length v.matches ≤ greatest_index + 1 = length-le_from_distinct_below v.matches (greatest_index + 1) state.once
-        (λ q is. of_member greatest_index q v.matches state.patterns is) in
+    (λ q is. of_member greatest_index q v.matches state.patterns is) in
     omega (arith, h)
 
 pub small : (bound : ℕ) (xs : List ℕ) → All (λ x. x ≤ bound) xs → bound < 2 ^ 32 → All (λ x. x < 2 ^ 32) xs
@@ -40,15 +40,15 @@ flags_of v = flag_byte (is_match v.matches) (is_listed v.matches) v.is_from_word
 
 by_listed : (l : Bool) (v : StateValue) → IsState v → is_listed v.matches ≡ l →
     decoded (nine (flag_byte (is_match v.matches) (is_listed v.matches) v.is_from_word v.is_half_crlf) v.look_have v.look_need
-        ++ (pattern_bytes l (length v.matches) v.matches ++ id_bytes 0 v.ids)) ≡ v
+    ++ (pattern_bytes l (length v.matches) v.matches ++ id_bytes 0 v.ids)) ≡ v
 by_listed true v state listed =
     decoded_listed _ v.look_have v.look_need v.matches v.ids (let h = state.have in omega (arith, h)) (let h = state.need in
-        omega (arith, h)) (few v state) (small greatest_index v.matches state.patterns (omega arith)) (listed_back _ _ _ _ ∙ listed)
+    omega (arith, h)) (few v state) (small greatest_index v.matches state.patterns (omega arith)) (listed_back _ _ _ _ ∙ listed)
     ∙ same_made (word_back _ _ _ _) (half_back _ _ _ _) refl refl refl refl
 by_listed false v state listed =
     let told : patterns_told (is_listed v.matches) (is_match v.matches) v.matches ≡ v.matches = told_back v.matches in
     decoded_unlisted (is_match v.matches) _ v.look_have v.look_need v.matches v.ids (let h = state.have in
-        omega (arith, h)) (let h = state.need in omega (arith, h)) (listed_back _ _ _ _ ∙ listed) (match_back _ _ _ _)
+    omega (arith, h)) (let h = state.need in omega (arith, h)) (listed_back _ _ _ _ ∙ listed) (match_back _ _ _ _)
     ∙ same_made (word_back _ _ _ _) (half_back _ _ _ _) refl refl (rw listed at told) refl
 
 -- the bytes of a state stand for it
@@ -61,32 +61,32 @@ same_from_bytes v w of_v of_w e = sym (decoded_encoded v of_v) ∙ (ap decoded e
 
 unfinished_by : (l : Bool) (v : StateValue) → IsState v → v.ids ≡ [] → is_listed v.matches ≡ l →
     decoded_unfinished (nine (flag_byte (is_match v.matches) (is_listed v.matches) v.is_from_word v.is_half_crlf) v.look_have v.look_need
-        ++ pattern_bytes l 0 v.matches) ≡ v
+    ++ pattern_bytes l 0 v.matches) ≡ v
 unfinished_by true v state none listed =
     let read : numbers (four_bytes_each v.matches) ≡ v.matches = numbers_back v.matches
-        (small greatest_index v.matches state.patterns (omega arith)) in
+    (small greatest_index v.matches state.patterns (omega arith)) in
     let told : patterns_told (has_flag (flag_byte (is_match v.matches) (is_listed v.matches) v.is_from_word v.is_half_crlf) 2)
-        (has_flag (flag_byte (is_match v.matches) (is_listed v.matches) v.is_from_word v.is_half_crlf) 1)
-        (numbers (four_bytes_each v.matches)) ≡ v.matches =
+    (has_flag (flag_byte (is_match v.matches) (is_listed v.matches) v.is_from_word v.is_half_crlf) 1)
+    (numbers (four_bytes_each v.matches)) ≡ v.matches =
     (let e : has_flag (flag_byte (is_match v.matches) (is_listed v.matches) v.is_from_word v.is_half_crlf) 2 ≡ true =
-        listed_back (is_match v.matches) (is_listed v.matches) v.is_from_word v.is_half_crlf ∙ listed in
+    listed_back (is_match v.matches) (is_listed v.matches) v.is_from_word v.is_half_crlf ∙ listed in
     cc) in
     same_made (word_back _ _ _ _) (half_back _ _ _ _) (number_back v.look_have (four_bytes v.look_need
-        ++ pattern_bytes true 0 v.matches) (let h = state.have in omega (arith, h)))
-        (number_back v.look_need (pattern_bytes true 0 v.matches) (let h = state.need in omega (arith, h))) told (sym none)
+    ++ pattern_bytes true 0 v.matches) (let h = state.have in omega (arith, h)))
+    (number_back v.look_need (pattern_bytes true 0 v.matches) (let h = state.need in omega (arith, h))) told (sym none)
 unfinished_by false v state none listed =
     let whole : patterns_told (is_listed v.matches) (is_match v.matches) v.matches ≡ v.matches = told_back v.matches in
     let part : patterns_told false (is_match v.matches) [] ≡ v.matches =
-        told_unlisted (is_match v.matches) [] v.matches ∙ (rw listed at whole) in
+    told_unlisted (is_match v.matches) [] v.matches ∙ (rw listed at whole) in
     let told : patterns_told (has_flag (flag_byte (is_match v.matches) (is_listed v.matches) v.is_from_word v.is_half_crlf) 2)
-        (has_flag (flag_byte (is_match v.matches) (is_listed v.matches) v.is_from_word v.is_half_crlf) 1) [] ≡ v.matches =
+    (has_flag (flag_byte (is_match v.matches) (is_listed v.matches) v.is_from_word v.is_half_crlf) 1) [] ≡ v.matches =
     (let e : has_flag (flag_byte (is_match v.matches) (is_listed v.matches) v.is_from_word v.is_half_crlf) 2 ≡ false =
-        listed_back (is_match v.matches) (is_listed v.matches) v.is_from_word v.is_half_crlf ∙ listed in
+    listed_back (is_match v.matches) (is_listed v.matches) v.is_from_word v.is_half_crlf ∙ listed in
     let f : has_flag (flag_byte (is_match v.matches) (is_listed v.matches) v.is_from_word v.is_half_crlf) 1 ≡ is_match v.matches =
-        match_back (is_match v.matches) (is_listed v.matches) v.is_from_word v.is_half_crlf in
+    match_back (is_match v.matches) (is_listed v.matches) v.is_from_word v.is_half_crlf in
     cc) in
     same_made (word_back _ _ _ _) (half_back _ _ _ _) (number_back v.look_have (four_bytes v.look_need) (let h = state.have in
-        omega (arith, h))) (number_back v.look_need [] (let h = state.need in omega (arith, h))) told (sym none)
+    omega (arith, h))) (number_back v.look_need [] (let h = state.need in omega (arith, h))) told (sym none)
 
 -- the same while patterns are added
 pub decoded_unfinished_back : (v : StateValue) → IsState v → v.ids ≡ [] → decoded_unfinished (unfinished v) ≡ v
@@ -106,17 +106,23 @@ unfolding IsDistinct
 nothing_twice = tt
 
 pub dead_state : IsState dead
-dead_state = record { have = omega arith; need = omega arith; patterns = λ k d p. absurd (omega arith); once = nothing_twice;
-    states = λ k d p. absurd (omega arith) }
+dead_state = record {
+  have = omega arith;
+  need = omega arith;
+  patterns = λ k d p. absurd (omega arith);
+  once = nothing_twice;
+  states = λ k d p. absurd (omega arith);
+}
 
 -- states are the same where their bytes are
 pub told_by_bytes : (v w : StateValue) → IsState v → IsState w → (encoded v ≡ encoded w) ↔ (v ≡ w)
 told_by_bytes v w state other = (same_from_bytes v w state other, λ e. ap encoded e)
 
 pub told_by_test : (v w : StateValue) → IsState v → IsState w → (has_same_bytes v w ≡ true) ↔ (v ≡ w)
-told_by_test v w state other =
-    (λ e. same_from_bytes v w state other ((bytes_eq-Decides (encoded v) (encoded w)).0 e),
-        λ e. (bytes_eq-Decides (encoded v) (encoded w)).1 (ap encoded e))
+told_by_test v w state other = (
+  λ e. same_from_bytes v w state other ((bytes_eq-Decides (encoded v) (encoded w)).0 e),
+  λ e. (bytes_eq-Decides (encoded v) (encoded w)).1 (ap encoded e),
+)
 
 pub has_its_own : (v : StateValue) → has_same_bytes v v ≡ true
 has_its_own v = (bytes_eq-Decides (encoded v) (encoded v)).1 refl

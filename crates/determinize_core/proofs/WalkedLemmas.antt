@@ -64,7 +64,7 @@ start_stands a t o q low =
 
 step_stands : (a : Automaton) → IsWellFormed a → (t : Terminator) (kind : MatchKind) (v : StateValue) (u : Option ℕ) (b : ℕ) → u ≡ Some b →
     IsStateOf a t u (known_behind (families a) a.reverse t u) (flat_map (unit_steps a u) (reading kind a (ids_before a t v u)))
-        (step_value a t kind v u)
+    (step_value a t kind v u)
 step_stands a formed t kind v u b e =
     let T : Option ℕ → Type 0 = λ x. IsTold (looks_of a.states) a.reverse t x (known_behind (families a) a.reverse t x) in record {
       ids = refl;
@@ -99,13 +99,13 @@ module _ (kind : MatchKind) (a : Automaton) (t : Terminator) (h : List ℕ) (s e
   -- closed under all looks that hold, in the order of reading
   visits_by : (k : ℕ) → k ≤ len → (entries : List ℕ) → AreBelow (length a.states) entries →
       Visits nat_eq (λ x. on_nothing (node_at a x) (passed_by a.reverse t (unit_behind a.reverse h (place k)) (unit k))) entries []
-          (closed_by a (plain_steps a text (place k)) entries)
+      (closed_by a (plain_steps a text (place k)) entries)
   visits_by k l entries under =
       stays_closed nat_eq names_equal (plain_steps a text (place k)) (λ x. on_nothing (node_at a x)
-          (passed_by a.reverse t (unit_behind a.reverse h (place k)) (unit k)))
+      (passed_by a.reverse t (unit_behind a.reverse h (place k)) (unit k)))
       (closed_visits a formed text (place k) entries under)
       (λ x there. nothing_same (node_at a x) (λ m. is_passed a.reverse text m (place k))
-          (passed_by a.reverse t (unit_behind a.reverse h (place k)) (unit k))
+      (passed_by a.reverse t (unit_behind a.reverse h (place k)) (unit k))
       (λ m next is. looks_passed a.reverse t h s e (place k) (place_inside t h s e i k below within a.reverse l) m))
 
   -- a state that stands there has the states that its entries come to
@@ -114,13 +114,13 @@ module _ (kind : MatchKind) (a : Automaton) (t : Terminator) (h : List ℕ) (s e
   comes_to k l have entries stands =
       closes a formed t (unit_behind a.reverse h (place k)) (unit k) have entries (state k) stands
       (made_below (λ x. on_nothing (node_at a x) (has_look have)) (length a.states)
-          (stays_below a formed (has_look have)) entries stands.low)
+      (stays_below a formed (has_look have)) entries stands.low)
       (closed_by a (plain_steps a text (place k)) entries) (visits_by k l entries stands.low)
 
   pub states_are : (k : ℕ) → k ≤ len → kept a (ids_before a t (state k) (unit k)) ≡ kept a (list k)
   states_are zero l =
       let S : Option ℕ → Type 0 = λ o. IsStateOf a t o (behind a t (start_of t (unit_behind a.reverse h i))).look_have (q ∷ [])
-          (state zero) in
+      (state zero) in
       comes_to zero l (behind a t (start_of t (unit_behind a.reverse h i))).look_have (q ∷ [])
       (subst S (ap (unit_behind a.reverse h) (sym (place_zero a.reverse i))) (start_stands a t (unit_behind a.reverse h i) q low))
   states_are (suc k) l =

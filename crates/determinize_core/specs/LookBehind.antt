@@ -38,8 +38,12 @@ behind_nothing f = record { is_from_word = false; is_half_crlf = false; look_hav
 
 -- the families whose looks hold behind a line feed or a carriage return, and behind another byte
 abbrev pub known_at_line : Families → Bool → Bool → Families
-known_at_line f is_first_half ends_line = record { haystack = false; lines = ends_line && f.lines; crlf = not is_first_half && f.crlf;
-    words = f.words }
+known_at_line f is_first_half ends_line = record {
+  haystack = false;
+  lines = ends_line && f.lines;
+  crlf = not is_first_half && f.crlf;
+  words = f.words;
+}
 
 abbrev pub known_at_byte : Families → Bool → Bool → Families
 known_at_byte f ends_line is_word = record { haystack = false; lines = ends_line && f.lines; crlf = false; words = not is_word && f.words }

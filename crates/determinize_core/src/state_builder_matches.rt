@@ -8,7 +8,10 @@ ghost use Rattle.determinize_core.specs.Added.{with_match};
 
 use crate::positions::Positions;
 use crate::state_builder_nfa::StateBuilderNFA;
-use crate::state_bytes::{FROM_WORD, HALF_CRLF, LISTED, MATCHES, has_flag, number_at, push_behind_eight, push_behind_four, push_number, set_flag, write_number};
+use crate::state_bytes::{
+    FROM_WORD, HALF_CRLF, LISTED, MATCHES, has_flag, number_at, push_behind_eight,
+    push_behind_four, push_number, set_flag, write_number,
+};
 use look_core::LookSet;
 use search_core::PatternID;
 use std::alloc::AllocError;

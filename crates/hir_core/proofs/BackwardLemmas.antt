@@ -18,6 +18,6 @@ behind_more met x = ap reverse (map-append (λ y. y.now) met (x ∷ [])) ∙ rev
 -- at the end all was met
 pub behind_all : {A : Type 0} (subs : List A) (s t u : Rev (Iter A)) (met : List (Bor A)) (r : Option (Bor A)) →
     iter_rest (rev_source s) ≡ subs → Yields (rev_steps iter_steps_back) s met t → r ≡ None → rev_steps iter_steps_back t r u →
-        behind met ≡ subs
+    behind met ≡ subs
 behind_all subs s t u met r e y n p =
     ap reverse (YieldsList-end (YieldsList-from_rev_slice subs e) met t y r u n p).0 ∙ reverse-reverse subs

@@ -214,12 +214,12 @@ module _ (looks : Looks) (h : List ℕ) (e : ℕ) where
     at_least_cuts a zero i p =
         let cut = cut_length e h in
         up_to_enough (take e h) greedy (preferred_ends looks (take e h) x) (rounds_read looks (take e h) x a) (length (take e h) - i)
-            (length h - i) i
+        (length h - i) i
         (omega arith) (omega (arith, cut.1))
         ∙ up_to_cuts (length h - i) i p
     at_least_cuts a (suc low) i p =
         then_cuts x cuts (at_least (take e h) greedy (preferred_ends looks (take e h) x) low)
-            (at_least h greedy (preferred_ends looks h x) low)
+        (at_least h greedy (preferred_ends looks h x) low)
         (at_least_cuts a low) (ends_forward looks h (repetition low None greedy x)) i p
 
   ends_cut : (x : Tree) → LoopsRead x → Cuts x
@@ -234,7 +234,7 @@ module _ (looks : Looks) (h : List ℕ) (e : ℕ) where
   ends_cut nothing r i p = leaf_cuts nothing i p (λ g. omega arith)
   ends_cut (cat x y) r i p =
       then_cuts x (ends_cut x r.0) (preferred_ends looks (take e h) y) (preferred_ends looks h y) (ends_cut y r.1)
-          (ends_forward looks h y) i p
+      (ends_forward looks h y) i p
   ends_cut never r i p = refl
   ends_cut (alt x y) r i p =
       ap₂ (λ (a b : List ℕ). a ++ b) (ends_cut x r.0 i p) (ends_cut y r.1 i p)

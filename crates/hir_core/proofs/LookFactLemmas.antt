@@ -74,7 +74,7 @@ module _ (looks : Looks) (h : List ℕ) (l : Look) where
     | inl t ↦
         let same = empty_sound looks h x i m.0 (nothing_read (maximum_len x) t) m.1 in
         ⊎_elim (prefix_sound x i m.0 m.1) (λ f. let P : ℕ → Type 0 = λ k. looks l k ≡ true in
-            subst P (sym same) (prefix_sound y m.0 j m.2 f))
+        subst P (sym same) (prefix_sound y m.0 j m.2 f))
         (union_has (look_set_prefix x) (look_set_prefix y) l (rw t at e))
     | inr f ↦ prefix_sound x i m.0 m.1 (rw f at e)
   ]

@@ -31,11 +31,19 @@ module _ (f g : Looks) (h : List ℕ) where
   same_meaning (byte_class ranges) a i j m = m
   same_meaning (char_class ranges) a i j m = m
   same_meaning (look l) a i j m = (m.0, sym (a l (one_held l l refl) i) ∙ m.1)
-  same_meaning (repetition min None greedy x) a i j m = (m.0, m.1, tt,
-      rounds_map (Means f h x) (Means g h x) (same_meaning x a) m.0 i j m.3)
+  same_meaning (repetition min None greedy x) a i j m = (
+    m.0,
+    m.1,
+    tt,
+    rounds_map (Means f h x) (Means g h x) (same_meaning x a) m.0 i j m.3,
+  )
   same_meaning (repetition min (Some zero) greedy x) a i j m = (m.0, m.1, m.2, no_round (Means f h x) (Means g h x) m.0 i j m.2 m.3)
-  same_meaning (repetition min (Some (suc most)) greedy x) a i j m = (m.0, m.1, m.2,
-      rounds_map (Means f h x) (Means g h x) (same_meaning x a) m.0 i j m.3)
+  same_meaning (repetition min (Some (suc most)) greedy x) a i j m = (
+    m.0,
+    m.1,
+    m.2,
+    rounds_map (Means f h x) (Means g h x) (same_meaning x a) m.0 i j m.3,
+  )
   same_meaning (capture index name x) a i j m = same_meaning x a i j m
   same_meaning nothing a i j m = m
   same_meaning (cat x y) a i j m = (

@@ -140,8 +140,10 @@ module _ (looks : Looks) (h : List ℕ) (wide : length h < 2 ^ 64) where
   maximum_len_sound (char_class ranges) i j p m = longest_sound ranges m.scalar i j m.member (member_len h ranges i j m)
   maximum_len_sound (look l) i j p m = omega (arith, m.0)
   maximum_len_sound (repetition low most greedy x) i j p m =
-      rounds_bound (Means looks h x) most (maximum_len x) (length h) wide (λ a b q s. (span_within looks h x a b q s,
-          maximum_len_sound x a b q s))
+      rounds_bound (Means looks h x) most (maximum_len x) (length h) wide (λ a b q s. (
+        span_within looks h x a b q s,
+        maximum_len_sound x a b q s,
+      ))
       m.0 i j p (span_within looks h (repetition low most greedy x) i j p m) m.2 m.3
   maximum_len_sound (capture index name x) i j p m = maximum_len_sound x i j p m
   maximum_len_sound nothing i j p m = omega (arith, m)

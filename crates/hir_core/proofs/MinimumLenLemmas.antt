@@ -58,7 +58,7 @@ module _ (looks : Looks) (h : List ℕ) where
   minimum_len_sound (look l) i j m = let e = m.0 in omega arith
   minimum_len_sound (repetition low most greedy x) i j m =
       IsAtLeast-times (Means looks h x) (minimum_len x) (minimum_len_sound x)
-          (λ a b s. (IsSpan-Means looks h x a b s).forward) low m.0 i j m.1 m.3
+      (λ a b s. (IsSpan-Means looks h x a b s).forward) low m.0 i j m.1 m.3
   minimum_len_sound (capture index name x) i j m = minimum_len_sound x i j m
   minimum_len_sound nothing i j m = omega arith
   minimum_len_sound (cat x y) i j m =

@@ -22,7 +22,7 @@ EndsAt size lo hi e =
     ((lo / size ≡ hi / size) × (e ≡ hi))
     ⊎ (((lo % size ≡ 0) × (hi % size ≡ size - 1) × (e ≡ hi))
     ⊎ (((lo / size < hi / size) × (lo % size ≡ 0) × (e ≡ hi - hi % size - 1)) ⊎
-        ((lo / size < hi / size) × (e ≡ lo - lo % size + (size - 1)))))
+    ((lo / size < hi / size) × (e ≡ lo - lo % size + (size - 1)))))
 
 ends_at : (size lo hi : ℕ) → (lo / size ≤ hi / size) → EndsAt size lo hi (block_end size lo hi)
 ends_at size lo hi ordered = elim (eqb_tells (lo / size) (hi / size)) [
@@ -43,8 +43,11 @@ after_64 lo hi e l h = elim h [
   | inl a ↦ (omega arith, omega arith, inl (omega arith))
   | inr h ↦ elim h [
     | inl a ↦ (omega arith, omega arith, inr (omega arith, omega arith))
-    | inr h ↦ elim h [ inl a ↦ (omega arith, omega arith, inr (omega arith, omega arith)) | inr a ↦
-        (omega arith, omega arith, inl (omega arith)) ]
+    | inr h ↦ elim h [
+      | inl a ↦ (omega arith, omega arith, inr (omega arith, omega arith))
+      | inr a ↦
+          (omega arith, omega arith, inl (omega arith))
+    ]
   ]
 ]
 
@@ -55,8 +58,12 @@ after_4096 lo hi e l s h = elim h [
     | inl a ↦ (omega arith, omega arith, subst (Aligned 64 lo) (sym a.2) s, inr (omega arith, omega arith))
     | inr h ↦ elim h [
       | inl a ↦ (omega arith, omega arith, inr (omega arith, omega arith), inr (omega arith, omega arith))
-      | inr a ↦ (omega arith, omega arith, elim s [ inl b ↦ absurd (omega arith) | inr b ↦ inr (omega arith, omega arith) ],
-          inl (omega arith))
+      | inr a ↦ (
+        omega arith,
+        omega arith,
+        elim s [ inl b ↦ absurd (omega arith) | inr b ↦ inr (omega arith, omega arith) ],
+        inl (omega arith),
+      )
     ]
   ]
 ]
@@ -65,8 +72,15 @@ after_262144 : (lo hi e : ℕ) → lo ≤ hi → Aligned 64 lo hi → Aligned 40
 after_262144 lo hi e l s t h = elim h [
   | inl a ↦ (omega arith, omega arith, (subst (Aligned 64 lo) (sym a.1) s, subst (Aligned 4096 lo) (sym a.1) t, inl (omega arith)))
   | inr h ↦ elim h [
-    | inl a ↦ (omega arith, omega arith, (subst (Aligned 64 lo) (sym a.2) s, subst (Aligned 4096 lo) (sym a.2) t,
-        inr (omega arith, omega arith)))
+    | inl a ↦ (
+      omega arith,
+      omega arith,
+      (
+        subst (Aligned 64 lo) (sym a.2) s,
+        subst (Aligned 4096 lo) (sym a.2) t,
+        inr (omega arith, omega arith),
+      ),
+    )
     | inr h ↦ elim h [
       | inl a ↦ (omega arith, omega arith, (inr (omega arith, omega arith), inr (omega arith, omega arith), inr (omega arith, omega arith)))
       | inr a ↦ (
@@ -89,12 +103,12 @@ blocks_end lo hi l =
     let a = after_64 lo hi (block_end 64 lo hi) l (ends_at 64 lo hi (omega arith)) in
     let b = after_4096 lo (block_end 64 lo hi) (block_end 4096 lo (block_end 64 lo hi)) a.0 a.2 (ends_at 4096 lo _ (omega (arith, a.0))) in
     let d = after_262144 lo _ (block_end 262144 lo (block_end 4096 lo (block_end 64 lo hi))) b.0 b.2 b.3
-        (ends_at 262144 lo _ (omega (arith, b.0))) in
+    (ends_at 262144 lo _ (omega (arith, b.0))) in
     (d.0, omega (arith, d.1, b.1, a.1), d.2)
 
 row_cases : (c : ℕ) → InScalarRange c → 0x80 ≤ c →
     ((c ≤ 0x7FF) × (row_end c ≡ 0x7FF)) ⊎ (((0x800 ≤ c) × (c ≤ 0xD7FF) × (row_end c ≡ 0xD7FF)) ⊎
-        (((0xE000 ≤ c) × (c ≤ 0xFFFF) × (row_end c ≡ 0xFFFF)) ⊎ ((0x10000 ≤ c) × (c ≤ 0x10FFFF) × (row_end c ≡ 0x10FFFF))))
+    (((0xE000 ≤ c) × (c ≤ 0xFFFF) × (row_end c ≡ 0xFFFF)) ⊎ ((0x10000 ≤ c) × (c ≤ 0x10FFFF) × (row_end c ≡ 0x10FFFF))))
 row_cases c r low = grind (arith, nat_tests)
 
 in_row : (f hi : ℕ) → InScalarRange f → f ≤ hi → 0x80 ≤ f → IsPiece f (block_end 262144 f
@@ -117,7 +131,7 @@ piece_is f hi r l = elim (cases_lt f 0x80) [
       (omega (arith, e), inl (omega (arith, e)))
   | inr more ↦
       let e : piece_end f hi ≡ block_end 262144 f (block_end 4096 f (block_end 64 f (min hi (row_end f)))) =
-          cond-false _ (min hi 0x7F) _ (lt-leb f 0x7F (omega arith)) in
+      cond-false _ (min hi 0x7F) _ (lt-leb f 0x7F (omega arith)) in
       subst (IsPiece f) (sym e) (in_row f hi r l more)
 ]
 
@@ -149,15 +163,18 @@ spelled_three c l h =
 spelled_four : (c : ℕ) → 0x10000 ≤ c → spelling_of c ≡ four c
 spelled_four c l =
     cond-false _ _ _ (lt-leb c 0x7F (omega arith)) ∙ cond-false _ _ _ (lt-leb c 0x7FF (omega arith))
-        ∙ cond-false _ _ _ (lt-leb c 0xFFFF (omega arith))
+    ∙ cond-false _ _ _ (lt-leb c 0xFFFF (omega arith))
 
 pub encoded : (c : ℕ) → encode_utf8 c ≡ spelling_of c
 encoded c = elim (cases_lt c 0x80) [
   | inl a ↦ encode_ascii c a ∙ sym (spelled_one c (omega arith))
   | inr l ↦ elim (cases_lt c 0x800) [
     | inl a ↦ encode_two c l a ∙ sym (spelled_two c l (omega arith))
-    | inr l ↦ elim (cases_lt c 0x10000) [ inl a ↦ encode_three c l a ∙ sym (spelled_three c l (omega arith)) | inr l ↦
-        encode_four c l ∙ sym (spelled_four c l) ]
+    | inr l ↦ elim (cases_lt c 0x10000) [
+      | inl a ↦ encode_three c l a ∙ sym (spelled_three c l (omega arith))
+      | inr l ↦
+          encode_four c l ∙ sym (spelled_four c l)
+    ]
   ]
 ]
 
@@ -189,28 +206,37 @@ in_four l h b l' h' b' x y d z w g p q r s = byte_in l h b ((l', h') ∷ (x, y) 
 
 two_in : (f c e : ℕ) → f ≤ c → c ≤ e → Aligned 64 f e → is_in_ranges (zip (two f) (two e)) (two c) ≡ true
 two_in f c e l h a =
-    let last : Between (128 + f % 64) (128 + c % 64) (128 + e % 64) = elim a [ inl s ↦ (omega arith, omega arith) | inr s ↦
-        (omega arith, omega arith) ] in
+    let last : Between (128 + f % 64) (128 + c % 64) (128 + e % 64) = elim a [
+      | inl s ↦ (omega arith, omega arith)
+      | inr s ↦
+          (omega arith, omega arith)
+    ] in
     let lead : Between (192 + f / 64) (192 + c / 64) (192 + e / 64) = (omega arith, omega arith) in
     in_two _ _ _ _ _ _ lead last
 
 three_in : (f c e : ℕ) → f ≤ c → c ≤ e → Aligned 64 f e → Aligned 4096 f e → is_in_ranges (zip (three f) (three e)) (three c) ≡ true
 three_in f c e l h a b =
-    let last : Between (128 + f % 64) (128 + c % 64) (128 + e % 64) = elim a [ inl s ↦ (omega arith, omega arith) | inr s ↦
-        (omega arith, omega arith) ] in
+    let last : Between (128 + f % 64) (128 + c % 64) (128 + e % 64) = elim a [
+      | inl s ↦ (omega arith, omega arith)
+      | inr s ↦
+          (omega arith, omega arith)
+    ] in
     let next : Between (128 + (f / 64) % 64) (128 + (c / 64) % 64) (128 + (e / 64) % 64) =
-        elim b [ inl s ↦ (omega arith, omega arith) | inr s ↦ (omega arith, omega arith) ] in
+    elim b [ inl s ↦ (omega arith, omega arith) | inr s ↦ (omega arith, omega arith) ] in
     let lead : Between (224 + f / 4096) (224 + c / 4096) (224 + e / 4096) = (omega arith, omega arith) in
     in_three _ _ _ _ _ _ _ _ _ lead next last
 
 four_in : (f c e : ℕ) → f ≤ c → c ≤ e → Blocks f e → is_in_ranges (zip (four f) (four e)) (four c) ≡ true
 four_in f c e l h a =
-    let last : Between (128 + f % 64) (128 + c % 64) (128 + e % 64) = elim a.0 [ inl s ↦ (omega arith, omega arith) | inr s ↦
-        (omega arith, omega arith) ] in
+    let last : Between (128 + f % 64) (128 + c % 64) (128 + e % 64) = elim a.0 [
+      | inl s ↦ (omega arith, omega arith)
+      | inr s ↦
+          (omega arith, omega arith)
+    ] in
     let third : Between (128 + (f / 64) % 64) (128 + (c / 64) % 64) (128 + (e / 64) % 64) =
-        elim a.1 [ inl s ↦ (omega arith, omega arith) | inr s ↦ (omega arith, omega arith) ] in
+    elim a.1 [ inl s ↦ (omega arith, omega arith) | inr s ↦ (omega arith, omega arith) ] in
     let next : Between (128 + (f / 4096) % 64) (128 + (c / 4096) % 64) (128 + (e / 4096) % 64) =
-        elim a.2 [ inl s ↦ (omega arith, omega arith) | inr s ↦ (omega arith, omega arith) ] in
+    elim a.2 [ inl s ↦ (omega arith, omega arith) | inr s ↦ (omega arith, omega arith) ] in
     let lead : Between (240 + f / 262144) (240 + c / 262144) (240 + e / 262144) = (omega arith, omega arith) in
     in_four _ _ _ _ _ _ _ _ _ _ _ _ lead next third last
 
@@ -315,9 +341,13 @@ two_put : (f e : ℕ) (s : List ℕ) (a b : ℕ) → 0x80 ≤ f → e ≤ 0x7FF 
     Between (128 + f % 64) b (128 + e % 64) →
     s ≡ a ∷ b ∷ [] → SpelledIn f e s
 two_put f e s a b o l h i j x =
-    let m = two_bounds f e a b h i j in
-    (scalar_of_two a b, m.0, m.1, spelled_two (scalar_of_two a b) (omega (arith, m.0)) (omega (arith, m.1))
-        ∙ two_same a b (omega arith) (omega arith, omega arith) ∙ sym x)
+    let m = two_bounds f e a b h i j in (
+      scalar_of_two a b,
+      m.0,
+      m.1,
+      spelled_two (scalar_of_two a b) (omega (arith, m.0)) (omega (arith, m.1))
+          ∙ two_same a b (omega arith) (omega arith, omega arith) ∙ sym x,
+    )
 
 three_put : (f e : ℕ) (s : List ℕ) (a b d : ℕ) → 0x800 ≤ f → e ≤ 0xFFFF → Aligned 64 f e → Aligned 4096 f e →
     Between (224 + f / 4096) a (224 + e / 4096) →
@@ -334,14 +364,16 @@ three_put f e s a b d o l h k i j m x =
 four_put : (f e : ℕ) (s : List ℕ) (a b d g : ℕ) → 0x10000 ≤ f → Blocks f e → Between (240 + f / 262144) a (240 + e / 262144) →
     Between (128 + (f / 4096) % 64) b (128 + (e / 4096) % 64) →
     Between (128 + (f / 64) % 64) d (128 + (e / 64) % 64) → Between (128 + f % 64) g (128 + e % 64) → s ≡ a ∷ b ∷ d ∷ g ∷ [] →
-        SpelledIn f e s
+    SpelledIn f e s
 four_put f e s a b d g o h i j k m x =
     let n = four_bounds f e a b d g h i j k m in (
       scalar_of_four a b d g,
       n.0,
       n.1,
-      spelled_four (scalar_of_four a b d g) (omega (arith, n.0)) ∙ four_same a b d g (omega arith) (omega arith, omega arith) (omega arith,
-          omega arith) (omega arith, omega arith) ∙ sym x,
+      spelled_four (scalar_of_four a b d g) (omega (arith, n.0)) ∙ four_same a b d g (omega arith) (omega arith, omega arith) (
+        omega arith,
+        omega arith,
+      ) (omega arith, omega arith) ∙ sym x,
     )
 
 then_by : (s : List ℕ) (a : ℕ) (t u : List ℕ) → s ≡ a ∷ t → t ≡ u → s ≡ a ∷ u
@@ -357,26 +389,34 @@ two_spelled f e s o l a i =
 three_spelled : (f e : ℕ) (s : List ℕ) → 0x800 ≤ f → e ≤ 0xFFFF → Aligned 64 f e → Aligned 4096 f e →
     is_in_ranges (zip (three f) (three e)) s ≡ true → SpelledIn f e s
 three_spelled f e s o l a b i =
-    let p = first_in (224 + f / 4096) (224 + e / 4096) ((128 + (f / 64) % 64, 128 + (e / 64) % 64) ∷ (128 + f % 64,
-        128 + e % 64) ∷ []) s i in
+    let p = first_in (224 + f / 4096) (224 + e / 4096) ((128 + (f / 64) % 64, 128 + (e / 64) % 64) ∷ (
+      128 + f % 64,
+      128 + e % 64,
+    ) ∷ []) s i in
     let q = first_in (128 + (f / 64) % 64) (128 + (e / 64) % 64) ((128 + f % 64, 128 + e % 64) ∷ []) p.1 p.5 in
     let r = first_in (128 + f % 64) (128 + e % 64) [] q.1 q.5 in
     let z = none_in r.1 r.5 in
     three_put f e s p.0 q.0 r.0 o l a b (p.3, p.4) (q.3, q.4) (r.3, r.4)
-        (then_by s p.0 p.1 (q.0 ∷ r.0 ∷ []) p.2 (then_by p.1 q.0 q.1 (r.0 ∷ []) q.2 (then_by q.1 r.0 r.1 [] r.2 z)))
+    (then_by s p.0 p.1 (q.0 ∷ r.0 ∷ []) p.2 (then_by p.1 q.0 q.1 (r.0 ∷ []) q.2 (then_by q.1 r.0 r.1 [] r.2 z)))
 
 four_spelled : (f e : ℕ) (s : List ℕ) → 0x10000 ≤ f → Blocks f e → is_in_ranges (zip (four f) (four e)) s ≡ true → SpelledIn f e s
 four_spelled f e s o a i =
-    let p = first_in (240 + f / 262144) (240 + e / 262144) ((128 + (f / 4096) % 64, 128 + (e / 4096) % 64) ∷ (128 + (f / 64) % 64,
-        128 + (e / 64) % 64) ∷ (128 + f % 64, 128 + e % 64) ∷ []) s i in
-    let q = first_in (128 + (f / 4096) % 64) (128 + (e / 4096) % 64) ((128 + (f / 64) % 64, 128 + (e / 64) % 64) ∷ (128 + f % 64,
-        128 + e % 64) ∷ []) p.1 p.5 in
+    let p = first_in (240 + f / 262144) (240 + e / 262144) ((128 + (f / 4096) % 64, 128 + (e / 4096) % 64) ∷ (
+      128 + (f / 64) % 64,
+      128 + (e / 64) % 64,
+    ) ∷ (128 + f % 64, 128 + e % 64) ∷ []) s i in
+    let q = first_in (128 + (f / 4096) % 64) (128 + (e / 4096) % 64) ((128 + (f / 64) % 64, 128 + (e / 64) % 64) ∷ (
+      128 + f % 64,
+      128 + e % 64,
+    ) ∷ []) p.1 p.5 in
     let r = first_in (128 + (f / 64) % 64) (128 + (e / 64) % 64) ((128 + f % 64, 128 + e % 64) ∷ []) q.1 q.5 in
     let u = first_in (128 + f % 64) (128 + e % 64) [] r.1 r.5 in
     let z = none_in u.1 u.5 in
-    four_put f e s p.0 q.0 r.0 u.0 o a (p.3, p.4) (q.3, q.4) (r.3, r.4) (u.3,
-        u.4) (then_by s p.0 p.1 (q.0 ∷ r.0 ∷ u.0 ∷ []) p.2 (then_by p.1 q.0 q.1 (r.0 ∷ u.0 ∷ []) q.2
-        (then_by q.1 r.0 r.1 (u.0 ∷ []) r.2 (then_by r.1 u.0 u.1 [] u.2 z))))
+    four_put f e s p.0 q.0 r.0 u.0 o a (p.3, p.4) (q.3, q.4) (r.3, r.4) (
+      u.3,
+      u.4,
+    ) (then_by s p.0 p.1 (q.0 ∷ r.0 ∷ u.0 ∷ []) p.2 (then_by p.1 q.0 q.1 (r.0 ∷ u.0 ∷ []) q.2
+    (then_by q.1 r.0 r.1 (u.0 ∷ []) r.2 (then_by r.1 u.0 u.1 [] u.2 z))))
 
 ranges_by : (f e : ℕ) (s x y : List ℕ) → spelling_of f ≡ x → spelling_of e ≡ y → is_in_ranges (byte_ranges (f, e)) s ≡ true →
     is_in_ranges (zip x y) s ≡ true
@@ -418,9 +458,12 @@ rises (suc most) lo hi = elim (cases_lt (min hi 0x10FFFF) (scalar_from lo)) [
   | inl none ↦ subst (Rises lo hi) (sym (pieces_none (suc most) lo hi none)) tt
   | inr l ↦
       let p = piece_between (scalar_from lo) hi (omega arith) (omega arith) in
-      subst (Rises lo hi) (sym (pieces_first most lo hi l))
-      (scalar_above lo, p.1, piece_is (scalar_from lo) hi (scalar_is lo (omega arith)) (omega arith),
-          rises most (piece_end (scalar_from lo) hi + 1) hi)
+      subst (Rises lo hi) (sym (pieces_first most lo hi l)) (
+        scalar_above lo,
+        p.1,
+        piece_is (scalar_from lo) hi (scalar_is lo (omega arith)) (omega arith),
+        rises most (piece_end (scalar_from lo) hi + 1) hi,
+      )
 ]
 
 at_place : (low hi : ℕ) (ps : List (ℕ × ℕ)) (i : ℕ) (p : ℕ × ℕ) → Rises low hi ps → slice_get ps i ≡ Some p → IsPieceOf low hi p
@@ -491,8 +534,14 @@ piece_scalars f e c p l h = elim p.1 [
   | inl a ↦ inl (omega arith)
   | inr r ↦ elim r [
     | inl a ↦ inl (omega arith)
-    | inr r ↦ elim r [ inl a ↦ inl (omega arith) | inr r ↦ elim r [ inl a ↦ inr (omega arith, omega arith) | inr a ↦
-        inr (omega arith, omega arith) ] ]
+    | inr r ↦ elim r [
+      | inl a ↦ inl (omega arith)
+      | inr r ↦ elim r [
+        | inl a ↦ inr (omega arith, omega arith)
+        | inr a ↦
+            inr (omega arith, omega arith)
+      ]
+    ]
   ]
 ]
 
@@ -576,28 +625,37 @@ short_by f e x y a b h = subst IsShort (sym (ap₂ zip a b)) h
 
 two_short : (f e : ℕ) → f ≤ e → e ≤ 0x7FF → Blocks f e → IsShort (zip (two f) (two e))
 two_short f e l h b =
-    let last : IsByteRange (128 + f % 64) (128 + e % 64) = elim b.0 [ inl s ↦ (omega arith, omega arith) | inr s ↦
-        (omega arith, omega arith) ] in
+    let last : IsByteRange (128 + f % 64) (128 + e % 64) = elim b.0 [
+      | inl s ↦ (omega arith, omega arith)
+      | inr s ↦
+          (omega arith, omega arith)
+    ] in
     let lead : IsByteRange (192 + f / 64) (192 + e / 64) = (omega arith, omega arith) in
     (lit≤ tt, lit≤ tt, ranges_two _ _ _ _ lead last)
 
 three_short : (f e : ℕ) → f ≤ e → e ≤ 0xFFFF → Blocks f e → IsShort (zip (three f) (three e))
 three_short f e l h b =
-    let last : IsByteRange (128 + f % 64) (128 + e % 64) = elim b.0 [ inl s ↦ (omega arith, omega arith) | inr s ↦
-        (omega arith, omega arith) ] in
+    let last : IsByteRange (128 + f % 64) (128 + e % 64) = elim b.0 [
+      | inl s ↦ (omega arith, omega arith)
+      | inr s ↦
+          (omega arith, omega arith)
+    ] in
     let next : IsByteRange (128 + (f / 64) % 64) (128 + (e / 64) % 64) =
-        elim b.1 [ inl s ↦ (omega arith, omega arith) | inr s ↦ (omega arith, omega arith) ] in
+    elim b.1 [ inl s ↦ (omega arith, omega arith) | inr s ↦ (omega arith, omega arith) ] in
     let lead : IsByteRange (224 + f / 4096) (224 + e / 4096) = (omega arith, omega arith) in
     (lit≤ tt, lit≤ tt, ranges_three _ _ _ _ _ _ lead next last)
 
 four_short : (f e : ℕ) → f ≤ e → e ≤ 0x10FFFF → Blocks f e → IsShort (zip (four f) (four e))
 four_short f e l h b =
-    let last : IsByteRange (128 + f % 64) (128 + e % 64) = elim b.0 [ inl s ↦ (omega arith, omega arith) | inr s ↦
-        (omega arith, omega arith) ] in
+    let last : IsByteRange (128 + f % 64) (128 + e % 64) = elim b.0 [
+      | inl s ↦ (omega arith, omega arith)
+      | inr s ↦
+          (omega arith, omega arith)
+    ] in
     let third : IsByteRange (128 + (f / 64) % 64) (128 + (e / 64) % 64) =
-        elim b.1 [ inl s ↦ (omega arith, omega arith) | inr s ↦ (omega arith, omega arith) ] in
+    elim b.1 [ inl s ↦ (omega arith, omega arith) | inr s ↦ (omega arith, omega arith) ] in
     let next : IsByteRange (128 + (f / 4096) % 64) (128 + (e / 4096) % 64) =
-        elim b.2 [ inl s ↦ (omega arith, omega arith) | inr s ↦ (omega arith, omega arith) ] in
+    elim b.2 [ inl s ↦ (omega arith, omega arith) | inr s ↦ (omega arith, omega arith) ] in
     let lead : IsByteRange (240 + f / 262144) (240 + e / 262144) = (omega arith, omega arith) in
     (lit≤ tt, lit≤ tt, ranges_four _ _ _ _ _ _ _ _ lead next third last)
 

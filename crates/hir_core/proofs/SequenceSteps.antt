@@ -22,11 +22,11 @@ module _ (rs : List Utf8Range) (bs : List ℕ) (i : ℕ) (all : Bool) (e : all �
     begins_ended p =
         e ∙ ap (λ x. begins_in_ranges (map bytes_of x) (drop i bs)) (drop_more rs i d l)
         ∙ ap (begins_in_ranges (map bytes_of (get_or rs i d ∷ drop (i + 1) rs)))
-            (nil_from_length (drop i bs) (omega (arith, length-drop i bs)))
+        (nil_from_length (drop i bs) (omega (arith, length-drop i bs)))
 
     pub begins_more : i < length bs →
         all ≡ (is_in_range (get_or rs i d).start (get_or rs i d).end (get_or bs i 0)
-            && begins_in_ranges (map bytes_of (drop (i + 1) rs)) (drop (i + 1) bs))
+        && begins_in_ranges (map bytes_of (drop (i + 1) rs)) (drop (i + 1) bs))
     begins_more p =
         e ∙ ap (λ x. begins_in_ranges (map bytes_of x) (drop i bs)) (drop_more rs i d l)
         ∙ ap (begins_in_ranges (map bytes_of (get_or rs i d ∷ drop (i + 1) rs))) (drop_more bs i 0 p)
@@ -77,7 +77,7 @@ between size lo hi some ordered = elim (eqb_tells (lo / size) (hi / size)) [
           (omega (arith, e), omega (arith, e))
       | inr not_last ↦
           let e : block_end size lo hi ≡ hi - hi % size - 1 = cond-false _ _ _ other.0 ∙ cond-true _ _ _ whole.0
-              ∙ cond-false _ hi _ not_last.0 in
+          ∙ cond-false _ hi _ not_last.0 in
           (omega (arith, e, block_below size lo hi some ordered other.1), omega (arith, e))
     ]
     | inr part ↦
@@ -100,7 +100,7 @@ piece_between lo hi ordered high = elim (cases_lt lo 0x80) [
       let b = between 4096 lo (block_end 64 lo last) (lit< tt) a.0 in
       let d = between 262144 lo (block_end 4096 lo (block_end 64 lo last)) (lit< tt) b.0 in
       let e : piece_end lo hi ≡ block_end 262144 lo (block_end 4096 lo (block_end 64 lo last)) =
-          cond-false _ (min hi 0x7F) _ (lt-leb lo 0x7F (omega arith)) in
+      cond-false _ (min hi 0x7F) _ (lt-leb lo 0x7F (omega arith)) in
       (omega (arith, e, d.0), omega (arith, e, d.1, b.1, a.1))
 ]
 
@@ -138,7 +138,7 @@ enough (suc f) (suc g) lo hi a b = elim (cases_lt (min hi 0x10FFFF) (scalar_from
       let s = scalar_above lo in
       pieces_first f lo hi l
       ∙ ap (λ ps. (scalar_from lo, piece_end (scalar_from lo) hi) ∷ ps)
-          (enough f g (piece_end (scalar_from lo) hi + 1) hi (omega arith) (omega arith))
+      (enough f g (piece_end (scalar_from lo) hi + 1) hi (omega arith) (omega arith))
       ∙ sym (pieces_first g lo hi l)
 ]
 
@@ -150,11 +150,11 @@ pieces_step lo hi l high =
     enough (hi + 1 - lo) (suc (hi + 1 - lo)) lo hi (omega arith) (omega arith)
     ∙ pieces_first (hi + 1 - lo) lo hi (omega arith)
     ∙ ap (λ ps. (scalar_from lo, piece_end (scalar_from lo) hi) ∷ ps) (enough (hi + 1 - lo) _ (piece_end (scalar_from lo) hi + 1) hi
-        (omega arith) (omega arith))
+    (omega arith) (omega arith))
 
 pub sequences_step : (lo hi : ℕ) → scalar_from lo ≤ hi → hi ≤ 0x10FFFF →
     utf8_sequences lo hi ≡ byte_ranges (scalar_from lo, piece_end (scalar_from lo) hi) ∷ utf8_sequences
-        (piece_end (scalar_from lo) hi + 1) hi
+    (piece_end (scalar_from lo) hi + 1) hi
 sequences_step lo hi l high = ap (map byte_ranges) (pieces_step lo hi l high)
 
 pub sequences_none : (lo hi : ℕ) → hi < scalar_from lo → utf8_sequences lo hi ≡ []

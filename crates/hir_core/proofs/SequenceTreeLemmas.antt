@@ -79,7 +79,7 @@ module _ (looks : Looks) (h : List ℕ) where
     | inr a ↦
         ap (λ o. flat_map (preferred_ends looks h (sequence_tree rs)) (class_end (r ∷ []) o i)) a.2
         ∙ after_one (preferred_ends looks h (sequence_tree rs)) (leb r.0 a.0
-            && leb a.0 r.1) (begins_in_ranges rs (drop (i + 1) h)) i (length rs) (sequence_ends rs (i + 1))
+        && leb a.0 r.1) (begins_in_ranges rs (drop (i + 1) h)) i (length rs) (sequence_ends rs (i + 1))
         ∙ sym (ap (λ d. cond (begins_in_ranges (r ∷ rs) d) ((i + length (r ∷ rs)) ∷ []) []) a.1)
   ]
 
@@ -128,7 +128,7 @@ piece_begins h i c p k e m =
     let first = character_begins h i c e in
     let bounds = member_of_one p c m in
     let inside = ap (is_in_ranges (byte_ranges p)) (sym (spelled_by c first.spelling first.spells))
-        ∙ spelling_in p.0 c p.1 k bounds.0 bounds.1 in
+    ∙ spelling_in p.0 c p.1 k bounds.0 bounds.1 in
     ap (begins_in_ranges (byte_ranges p)) first.joined ∙ in_begins (byte_ranges p) first.spelling first.rest inside
 
 no_end : (h : List ℕ) (i : ℕ) (ranges : List (ℕ × ℕ)) (o : Option ℕ) → ((c : ℕ) → o ≡ Some c → is_member ranges c ≡ false) →
@@ -176,7 +176,7 @@ pieces_ends h i low hi [] r = sym (no_end h i [] (character_at h i) (λ c e. ref
 pieces_ends h i low hi (p ∷ ps) r =
     ap₂ (λ (a b : List ℕ). a ++ b) (piece_end_is h i p r.2) (pieces_ends h i (p.1 + 1) hi ps r.3)
     ∙ sym (class_parts p ps (character_at h i) i (λ c l m e. let q = rising_members (p.1 + 1) hi ps c r.3 e in
-        absurd (omega (arith, m, q.0))))
+    absurd (omega (arith, m, q.0))))
 
 -- ---- the pieces of a range have its scalars
 
@@ -185,7 +185,7 @@ member_there c k [] p e l m = cc
 member_there c zero (x ∷ ps) p e l m =
     let same : x ≡ p = cc in
     subst (λ (y : ℕ × ℕ). is_member (y ∷ ps) c ≡ true) (sym same) (ap (λ t. t
-        || is_member ps c) (and_from _ _ (le-leb p.0 c l) (le-leb c p.1 m)))
+    || is_member ps c) (and_from _ _ (le-leb p.0 c l) (le-leb c p.1 m)))
 member_there c (suc k) (x ∷ ps) p e l m = or_right (leb x.0 c && leb c x.1) (is_member ps c) (member_there c k ps p e l m)
 
 pub same_test : (t u : Bool) → (t ≡ true → u ≡ true) → (u ≡ true → t ≡ true) → t ≡ u
@@ -217,7 +217,7 @@ range_ends h i r =
 -- ---- all ranges
 ranges_ends : (h : List ℕ) (i : ℕ) (r : ℕ × ℕ) (rs : List (ℕ × ℕ)) →
     flat_map (sequence_end h i) (sequences_of (r ∷ rs)) ≡ character_end (r ∷ []) (character_at h i) i
-        ++ flat_map (sequence_end h i) (sequences_of rs)
+    ++ flat_map (sequence_end h i) (sequences_of rs)
 ranges_ends h i r rs =
     flat_map-append (sequence_end h i) (utf8_sequences r.0 r.1) (sequences_of rs)
     ∙ ap (λ l. l ++ flat_map (sequence_end h i) (sequences_of rs)) (range_ends h i r)
@@ -277,7 +277,7 @@ has_sequence h i j [] g = absurd (subst (λ (l : List ℕ). Has l j) (no_end h i
 has_sequence h i j (r ∷ rs) g =
     subst (λ (l : List ℕ). Has l j) (sym (ranges_ends h i r rs))
     (⊎_elim (Has-left _ _ j) (λ b. Has-right (character_end (r ∷ []) (character_at h i) i) _ j (has_sequence h i j rs b))
-        (either_part r rs (character_at h i) i j g))
+    (either_part r rs (character_at h i) i j g))
 
 has_class : (h : List ℕ) (i j : ℕ) (rs : List (ℕ × ℕ)) → SequenceHas h i j rs → Has (character_end rs (character_at h i) i) j
 has_class h i j [] g = elim g [ ]
@@ -297,4 +297,4 @@ module _ (looks : Looks) (h : List ℕ) (ranges : List (ℕ × ℕ)) (i j : ℕ)
       preferred_ends_sound looks h (char_class ranges) i j
       (has_class h i j ranges
       (subst (λ (l : List ℕ). Has l j) (part_ends looks h (sequences_of ranges) i)
-          (preferred_ends_complete looks h (by_sequences ranges) i j m)))
+      (preferred_ends_complete looks h (by_sequences ranges) i j m)))

@@ -51,8 +51,15 @@ begins_with_span h ranges i j m = record {
 
 span_len : (h : List ℕ) (i j : ℕ) → i ≤ j → j ≤ length h → length (slice_range h i j) ≡ j - i
 span_len h i j f w =
-    omega (arith, f, w, length-drop i h, length-drop (j - i) (drop i h), ap length (take-append-drop (j - i) (drop i h)),
-        length-append (slice_range h i j) (drop (j - i) (drop i h)))
+    omega (
+      arith,
+      f,
+      w,
+      length-drop i h,
+      length-drop (j - i) (drop i h),
+      ap length (take-append-drop (j - i) (drop i h)),
+      length-append (slice_range h i j) (drop (j - i) (drop i h)),
+    )
 
 pub member_len : (h : List ℕ) (ranges : List (ℕ × ℕ)) (i j : ℕ) (m : SpellsMember h ranges i j) → i + spelling_len m.scalar ≡ j
 member_len h ranges i j m =

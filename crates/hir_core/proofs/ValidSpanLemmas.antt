@@ -41,7 +41,7 @@ valid_parts : (h : List ℕ) (i k j : ℕ) → i ≤ k → k ≤ j → IsValidTe
     IsValidText (slice_range h i j)
 valid_parts h i k j p q v w =
     (let P : List ℕ → Type 0 = λ t. IsValidText t in subst P (sym (span_parts h i k j p q))
-        (valid_append (slice_range h i k) (slice_range h k j) v w))
+    (valid_append (slice_range h i k) (slice_range h k j) v w))
 
 rounds_valid : (h : List ℕ) (R : ℕ → ℕ → Type 0) → ((i j : ℕ) → R i j → (i ≤ j) × IsValidText (slice_range h i j)) → (n i j : ℕ) →
     Rounds R n i j → (i ≤ j) × IsValidText (slice_range h i j)
@@ -72,7 +72,7 @@ byte_valid h i j b e g l =
     let count : j - i ≡ 1 = omega (arith, e) in
     let one : slice_range h i j ≡ b ∷ [] =
     ap (λ n. take n (drop i h)) count ∙ (ap (λ t. take 1 t) (drop-cons h i 0 within)
-        ∙ ap (λ c. c ∷ []) (get_or_from_slice_get h i b 0 g)) in
+    ∙ ap (λ c. c ∷ []) (get_or_from_slice_get h i b 0 g)) in
     spelling_then b (b ∷ []) [] (slice_range h i j) (from_0000 b (omega (arith, l), omega (arith, l)) refl refl) (no_spelling [] refl) one
 
 module _ (looks : Looks) (h : List ℕ) where
@@ -82,7 +82,7 @@ module _ (looks : Looks) (h : List ℕ) where
   utf8_sound (byte_class ranges) i j u m = byte_valid h i j m.1 m.0 m.2 (member_below ranges m.1 u m.3)
   utf8_sound (char_class ranges) i j u m =
       spelling_then m.scalar (slice_range h i j) [] (slice_range h i j) m.spells (no_spelling [] refl)
-          (sym (append-nil (slice_range h i j)))
+      (sym (append-nil (slice_range h i j)))
   utf8_sound (look l) i j u m = valid_none h i j m.0
   utf8_sound (repetition min most greedy x) i j u m =
       (rounds_valid h (Means looks h x) (λ a b s. (span_forward looks h x a b s, utf8_sound x a b u s)) m.0 i j m.3).1
@@ -91,7 +91,7 @@ module _ (looks : Looks) (h : List ℕ) where
   utf8_sound (cat x y) i j u m =
       let parts = and_parts (is_utf8_tree x) (is_utf8_tree y) u in
       valid_parts h i m.0 j (span_forward looks h x i m.0 m.1) (span_forward looks h y m.0 j m.2) (utf8_sound x i m.0 parts.0 m.1)
-          (utf8_sound y m.0 j parts.1 m.2)
+      (utf8_sound y m.0 j parts.1 m.2)
   utf8_sound never i j u m = elim m [ ]
   utf8_sound (alt x y) i j u m =
       let parts = and_parts (is_utf8_tree x) (is_utf8_tree y) u in

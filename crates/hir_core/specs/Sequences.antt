@@ -17,7 +17,7 @@ scalar_from n = if nat_le 0xD800 n && nat_le n 0xDFFF then 0xE000 else n
 abbrev pub row_end : ℕ → ℕ
 row_end c =
     if nat_le c 0x7F then 0x7F else if nat_le c 0x7FF then 0x7FF else if nat_le c 0xD7FF then 0xD7FF else if nat_le c 0xFFFF then 0xFFFF
-        else 0x10FFFF
+    else 0x10FFFF
 
 -- where the first piece of the numbers from lo to hi ends by the blocks of so many numbers: where lo and hi lie in different
 -- blocks, a first block that isn't whole is a piece of its own, and so is a last one

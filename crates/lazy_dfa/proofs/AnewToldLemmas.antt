@@ -49,7 +49,7 @@ zero_least g = min-eq_left (omega arith)
 
 byte_distance : (is_reverse : Bool) (n i a k : ℕ) → a ≤ k → k < n → (is_reverse ≡ true → n ≤ i) →
     (distance (index_at is_reverse (place_of is_reverse i a)) (index_at is_reverse (place_of is_reverse i k)) ≡ pass_distance is_reverse n
-        (suc k) - a) × (a ≤ pass_distance is_reverse n (suc k))
+    (suc k) - a) × (a ≤ pass_distance is_reverse n (suc k))
 byte_distance false n i a k l m fits = (omega (arith, l, m), omega (arith, l, m))
 byte_distance true n i a k l m fits =
     let f : min (suc k - 1) (n - 1) ≡ suc k - 1 = min-eq_left (omega (arith, m)) in
@@ -58,7 +58,7 @@ byte_distance true n i a k l m fits =
 
 last_distance : (is_reverse : Bool) (n i a : ℕ) → IsByteOf is_reverse n a → (is_reverse ≡ true → n ≤ i) →
     (distance (index_at is_reverse (place_of is_reverse i a)) (place_of is_reverse i n) ≡ pass_distance is_reverse n (suc n) - a) ×
-        (a ≤ pass_distance is_reverse n (suc n))
+    (a ≤ pass_distance is_reverse n (suc n))
 last_distance false n i a l fits = (omega (arith, l), omega (arith, l))
 last_distance true n i a l fits =
     let f : min (suc n - 1) (n - 1) ≡ n - 1 = min-eq_right (omega arith) in
@@ -118,21 +118,45 @@ module _ (is_reverse : Bool) (n i k s : ℕ) (was now whole clr : Type 0) (join 
     where
       by : IsGoing is_reverse n i s k was clr t → TurnBy now clr new (λ c. told_byte is_reverse true c here t) → EndsBy (suc k)
       by (since_first w b l m e) (inl f) =
-          inl (f.0 ∙ (ap (told_byte is_reverse true false here) e ∙ ap (told_end s)
-              ((byte_distance is_reverse n i 0 k (omega arith) less fits).0 ∙ none_more (pass_distance is_reverse n (suc k)))), join w f.1)
+          inl (
+            f.0 ∙ (ap (told_byte is_reverse true false here) e ∙ ap (told_end s)
+                ((byte_distance is_reverse n i 0 k (omega arith) less fits).0 ∙ none_more (pass_distance is_reverse n (suc k)))),
+            join w f.1,
+          )
       by (since_first w b l m e) (inr g) =
           let d = byte_distance is_reverse n i k k (omega arith) less fits in
-          inr (g.0, (k, d.1, g.1 ∙ (ap (told_byte is_reverse true true here) e
-              ∙ cut_end (distance (index_at is_reverse here) (index_at is_reverse here)) (pass_distance is_reverse n (suc k) - k) d.0)))
+          inr (
+            g.0,
+            (
+              k,
+              d.1,
+              g.1 ∙ (ap (told_byte is_reverse true true here) e
+                  ∙ cut_end (distance (index_at is_reverse here) (index_at is_reverse here)) (pass_distance is_reverse n (suc k) - k) d.0),
+            ),
+          )
       by (since_clear c a b x l m e) (inl f) =
           let d = byte_distance is_reverse n i a k (omega (arith, x, l)) less fits in
-          inr (c, (a, d.1, f.0 ∙ (ap (told_byte is_reverse true false here) e
-              ∙ cut_end (distance (index_at is_reverse (place_of is_reverse i a)) (index_at is_reverse here))
-              (pass_distance is_reverse n (suc k) - a) d.0)))
+          inr (
+            c,
+            (
+              a,
+              d.1,
+              f.0 ∙ (ap (told_byte is_reverse true false here) e
+                  ∙ cut_end (distance (index_at is_reverse (place_of is_reverse i a)) (index_at is_reverse here))
+                  (pass_distance is_reverse n (suc k) - a) d.0),
+            ),
+          )
       by (since_clear c a b x l m e) (inr g) =
           let d = byte_distance is_reverse n i k k (omega arith) less fits in
-          inr (g.0, (k, d.1, g.1 ∙ (ap (told_byte is_reverse true true here) e
-              ∙ cut_end (distance (index_at is_reverse here) (index_at is_reverse here)) (pass_distance is_reverse n (suc k) - k) d.0)))
+          inr (
+            g.0,
+            (
+              k,
+              d.1,
+              g.1 ∙ (ap (told_byte is_reverse true true here) e
+                  ∙ cut_end (distance (index_at is_reverse here) (index_at is_reverse here)) (pass_distance is_reverse n (suc k) - k) d.0),
+            ),
+          )
 
   -- forward behind the last byte: it goes on where the turn doesn't end the pass
   module _ (q : Search) (up : is_reverse ≡ false) (at : ℕ) (there : at ≡ place_of is_reverse i n) where
@@ -159,21 +183,44 @@ module _ (is_reverse : Bool) (n i k s : ℕ) (was now whole clr : Type 0) (join 
 
         by : IsGoing is_reverse n i s k was clr t → TurnBy now clr new (λ c. told_last false true c q at t) → EndsBy (suc n)
         by (since_first w b l m e) (inl f) =
-            inl (f.0 ∙ (ap (told_last false true false q at) e ∙ ap (told_end s)
-                ((length_from 0 (less_byte is_reverse n 0 b (omega arith) m)).0 ∙ none_more (pass_distance is_reverse n (suc n)))),
-                join w f.1)
+            inl (
+              f.0 ∙ (ap (told_last false true false q at) e ∙ ap (told_end s)
+                  ((length_from 0 (less_byte is_reverse n 0 b (omega arith) m)).0 ∙ none_more (pass_distance is_reverse n (suc n)))),
+              join w f.1,
+            )
         by (since_first w b l m e) (inr g) =
             let d = length_from b m in
-            inr (g.0, (b, d.1, g.1 ∙ (ap (told_last false true true q at) e
-                ∙ cut_end (distance (index_at is_reverse (place_of is_reverse i b)) at) (pass_distance is_reverse n (suc n) - b) d.0)))
+            inr (
+              g.0,
+              (
+                b,
+                d.1,
+                g.1 ∙ (ap (told_last false true true q at) e
+                    ∙ cut_end (distance (index_at is_reverse (place_of is_reverse i b)) at) (pass_distance is_reverse n (suc n) - b) d.0),
+              ),
+            )
         by (since_clear c a b x l m e) (inl f) =
             let d = length_from a (less_byte is_reverse n a b x m) in
-            inr (c, (a, d.1, f.0 ∙ (ap (told_last false true false q at) e
-                ∙ cut_end (distance (index_at is_reverse (place_of is_reverse i a)) at) (pass_distance is_reverse n (suc n) - a) d.0)))
+            inr (
+              c,
+              (
+                a,
+                d.1,
+                f.0 ∙ (ap (told_last false true false q at) e
+                    ∙ cut_end (distance (index_at is_reverse (place_of is_reverse i a)) at) (pass_distance is_reverse n (suc n) - a) d.0),
+              ),
+            )
         by (since_clear c a b x l m e) (inr g) =
             let d = length_from b m in
-            inr (g.0, (b, d.1, g.1 ∙ (ap (told_last false true true q at) e
-                ∙ cut_end (distance (index_at is_reverse (place_of is_reverse i b)) at) (pass_distance is_reverse n (suc n) - b) d.0)))
+            inr (
+              g.0,
+              (
+                b,
+                d.1,
+                g.1 ∙ (ap (told_last false true true q at) e
+                    ∙ cut_end (distance (index_at is_reverse (place_of is_reverse i b)) at) (pass_distance is_reverse n (suc n) - b) d.0),
+              ),
+            )
 
   -- in reverse it has ended at the span's start
   module _ (q : Search) (fits : is_reverse ≡ true → n ≤ i) (ends : Bool) (at : ℕ) (there : at ≡ place_of is_reverse i n)
@@ -190,8 +237,14 @@ module _ (is_reverse : Bool) (n i k s : ℕ) (was now whole clr : Type 0) (join 
         finished_is cleared u = ap (λ (b : Bool). anew_if cleared (if b then told_finished at u else u)) tell
 
         anew : clr → new ≡ told_last true ends true q at t → EndsBy (suc n)
-        anew c g = inr (c, (pass_distance is_reverse n (suc n), omega arith,
-            g ∙ (finished_is true t ∙ nothing (pass_distance is_reverse n (suc n)))))
+        anew c g = inr (
+          c,
+          (
+            pass_distance is_reverse n (suc n),
+            omega arith,
+            g ∙ (finished_is true t ∙ nothing (pass_distance is_reverse n (suc n))),
+          ),
+        )
           where
             nothing : (x : ℕ) → so_many 0 ≡ so_many (min (x - x) greatest)
             nothing x = ap so_many (sym (ap (λ (m : ℕ). min m greatest) (so x) ∙ zero_least greatest))
@@ -201,14 +254,24 @@ module _ (is_reverse : Bool) (n i k s : ℕ) (was now whole clr : Type 0) (join 
 
         by : IsGoing is_reverse n i s k was clr t → TurnBy now clr new (λ c. told_last true ends c q at t) → EndsBy (suc n)
         by (since_first w b l m e) (inl f) =
-            inl (f.0 ∙ (finished_is false t ∙ (ap (told_finished at) e
-                ∙ ap (told_end s) ((length_from 0 (less_byte is_reverse n 0 b (omega arith) m)).0
-                ∙ none_more (pass_distance is_reverse n (suc n))))), join w f.1)
+            inl (
+              f.0 ∙ (finished_is false t ∙ (ap (told_finished at) e
+                  ∙ ap (told_end s) ((length_from 0 (less_byte is_reverse n 0 b (omega arith) m)).0
+                  ∙ none_more (pass_distance is_reverse n (suc n))))),
+              join w f.1,
+            )
         by (since_first w b l m e) (inr g) = anew g.0 g.1
         by (since_clear c a b x l m e) (inl f) =
             let d = length_from a (less_byte is_reverse n a b x m) in
-            inr (c, (a, d.1, f.0 ∙ (finished_is false t ∙ (ap (told_finished at) e
-                ∙ cut_end (distance (index_at is_reverse (place_of is_reverse i a)) at) (pass_distance is_reverse n (suc n) - a) d.0))))
+            inr (
+              c,
+              (
+                a,
+                d.1,
+                f.0 ∙ (finished_is false t ∙ (ap (told_finished at) e
+                    ∙ cut_end (distance (index_at is_reverse (place_of is_reverse i a)) at) (pass_distance is_reverse n (suc n) - a) d.0)),
+              ),
+            )
         by (since_clear c a b x l m e) (inr g) = anew g.0 g.1
 
 -- ---- a turn in a span
@@ -256,8 +319,10 @@ length_zero (Some p) = so p.at
     so x = omega arith
 
 pub fresh_anew : (t new : Told) → new ≡ told_anew t → IsFresh new
-fresh_anew t new e = record { searched = ap (λ (x : Told). x.searched) e;
-    progress = ap (λ (x : Told). progress_len x.progress) e ∙ length_zero t.progress }
+fresh_anew t new e = record {
+  searched = ap (λ (x : Told). x.searched) e;
+  progress = ap (λ (x : Told). progress_len x.progress) e ∙ length_zero t.progress;
+}
 
 module _ (q : Search) (is_reverse : Bool) (at k i : ℕ) (was now whole clr : Type 0) (join : was → now →
     whole) (t0 t new : Told) (within : IsWithinSpan q at) (place : at ≡ place_of is_reverse i k)
@@ -286,11 +351,17 @@ module _ (q : Search) (is_reverse : Bool) (at k i : ℕ) (was now whole clr : Ty
   by_byte : (finishes ends : Bool) → at ≢ last_place is_reverse q → TurnsBy finishes ends →
       TurnBy now clr new (λ c. told_byte is_reverse finishes c (place_of is_reverse i k) t)
   by_byte finishes ends left (inl f) =
-      inl (f.0 ∙ (at_last finishes ends false false (ne_eqb at (last_place is_reverse q) left)
-          ∙ ap (λ (x : ℕ). told_byte is_reverse finishes false x t) place), f.1)
+      inl (
+        f.0 ∙ (at_last finishes ends false false (ne_eqb at (last_place is_reverse q) left)
+            ∙ ap (λ (x : ℕ). told_byte is_reverse finishes false x t) place),
+        f.1,
+      )
   by_byte finishes ends left (inr g) =
-      inr (g.0, g.1 ∙ (at_last finishes ends true false (ne_eqb at (last_place is_reverse q) left)
-          ∙ ap (λ (x : ℕ). told_byte is_reverse finishes true x t) place))
+      inr (
+        g.0,
+        g.1 ∙ (at_last finishes ends true false (ne_eqb at (last_place is_reverse q) left)
+            ∙ ap (λ (x : ℕ). told_byte is_reverse finishes true x t) place),
+      )
 
   -- ---- results
 
@@ -319,7 +390,7 @@ module _ (q : Search) (is_reverse : Bool) (at k i : ℕ) (was now whole clr : Ty
         (b : Bool) → is_reverse ≡ b → TurnBy now clr new (λ c. told_last b ends c q at t) → Ends (suc n)
     last_ends tell ends last done true is turn =
         last_before is_reverse n i k t0.searched was now whole clr join t new (under tell) q fits ends at (end_place last)
-            (subst (λ (b : Bool). tells b q ≡ true) is tell) turn
+        (subst (λ (b : Bool). tells b q ≡ true) is tell) turn
     last_ends tell ends last done false is turn =
         last_ended is_reverse n i k t0.searched was now whole clr join t new (under tell) q is at (end_place last) (⊎_elim
         (λ (d : is_reverse ≡ true). absurd (true≢false (sym d ∙ is)))
@@ -368,9 +439,9 @@ module _ (q : Search) (is_reverse : Bool) (at k i : ℕ) (was now whole clr : Ty
     ends_told same turn = ⊎_elim
         (λ (tell : tells is_reverse q ≡ true). ended_so (suc k) tell (⊎_elim
         (λ (last : at ≡ last_place is_reverse q). subst (λ (x : ℕ). Ends (suc x)) (sym (last_unit last))
-            (last_ends tell true last (inr refl) is_reverse refl (by_last true true last turn)))
+        (last_ends tell true last (inr refl) is_reverse refl (by_last true true last turn)))
         (λ (left : at ≢ last_place is_reverse q). byte_end is_reverse n i k t0.searched was now whole clr join t new (under tell)
-            (less left) fits (by_byte true true left turn))
+        (less left) fits (by_byte true true left turn))
         (cases_eq at (last_place is_reverse q))))
         (λ (tell : tells is_reverse q ≡ false). ⊎_elim
         (λ (e : (new ≡ t0) × whole). inl (e.0 ∙ none_behind tell (suc k) t0, e.1))
@@ -394,16 +465,25 @@ module _ (q : Search) (is_reverse : Bool) (at k i : ℕ) (was now whole clr : Ty
     left_as quits b x u e = sym (ap (λ (y : Bool). if y then told_behind is_reverse n u (suc k) else told_at x u) e)
 
     abbrev cut_by : ℕ → ℕ → Bool → Told
-    cut_by a x b = if b then cut_told is_reverse n a (suc k) else record { searched = 0;
-        progress = Some (record { start = index a; at = x }) }
+    cut_by a x b = if b then cut_told is_reverse n a (suc k) else record {
+      searched = 0;
+      progress = Some (record { start = index a; at = x });
+    }
 
     cut_as : (quits b : Bool) (a x : ℕ) → has_finished is_reverse quits n k ≡ b → cut_by a x b ≡ cut_left is_reverse quits n i a k x
     cut_as quits b a x e = sym (ap (cut_by a x) e)
 
     left_ended : (quits : Bool) → has_finished is_reverse quits n k ≡ true → tells is_reverse q ≡ true → Ends (suc k) → LeftSo quits
     left_ended quits is tell (inl e) =
-        inl (record { byte = k; read = omega arith; there = λ l. refl;
-            told = e.0 ∙ (behind_is is_reverse n (suc k) t0 (some tell) ∙ left_as quits true (index k) t0 is) }, e.1)
+        inl (
+          record {
+            byte = k;
+            read = omega arith;
+            there = λ l. refl;
+            told = e.0 ∙ (behind_is is_reverse n (suc k) t0 (some tell) ∙ left_as quits true (index k) t0 is);
+          },
+          e.1,
+        )
     left_ended quits is tell (inr c) = inr (
       c.0,
       fails_at (record {
@@ -420,24 +500,41 @@ module _ (q : Search) (is_reverse : Bool) (at k i : ℕ) (was now whole clr : Ty
     module _ (begun : tells is_reverse q ≡ true → t0 ≡ going is_reverse i t0.searched 0 0) (tell : tells is_reverse q ≡ true) (quits : Bool)
         (is : has_finished is_reverse quits n k ≡ false) where
       left_going : (b : ℕ) → b ≤ k → (k < n → b ≡ k) → new ≡ going is_reverse i t0.searched 0 b → LeftAt is_reverse quits n i k t0 new
-      left_going b read there e = record { byte = b; read = read; there = there;
-          told = e ∙ (sym (ap (told_at (index b)) (begun tell)) ∙ left_as quits false (index b) t0 is) }
+      left_going b read there e = record {
+        byte = b;
+        read = read;
+        there = there;
+        told = e ∙ (sym (ap (told_at (index b)) (begun tell)) ∙ left_as quits false (index b) t0 is);
+      }
 
       cut_going : (a b : ℕ) → a ≤ pass_distance is_reverse n (suc k) → a ≤ b → b ≤ k → (k < n → b ≡ k) → new ≡ going is_reverse i 0 a b →
           CutAt is_reverse quits n i k new
-      cut_going a b l past read there e = record { from = a; byte = b; inside = l; past = past; read = read; there = there;
-          told = e ∙ cut_as quits false a (index b) is }
+      cut_going a b l past read there e = record {
+        from = a;
+        byte = b;
+        inside = l;
+        past = past;
+        read = read;
+        there = there;
+        told = e ∙ cut_as quits false a (index b) is;
+      }
 
       left_byte : k < n → ((new ≡ going is_reverse i t0.searched 0 k) × whole) ⊎
           (clr × ((a : ℕ) × (a ≤ k) × (new ≡ going is_reverse i 0 a k))) → LeftSo quits
       left_byte l (inl e) = inl (left_going k (omega arith) (λ x. refl) e.0, e.1)
-      left_byte l (inr c) = inr (c.0, fails_at (cut_going c.1.0 k (byte_distance is_reverse n i c.1.0 k c.1.1 l fits).1 c.1.1 (omega arith)
-          (λ x. refl) c.1.2))
+      left_byte l (inr c) = inr (
+        c.0,
+        fails_at (cut_going c.1.0 k (byte_distance is_reverse n i c.1.0 k c.1.1 l fits).1 c.1.1 (omega arith)
+            (λ x. refl) c.1.2),
+      )
 
       left_up : is_reverse ≡ false → k ≡ n → Under k whole new → LeftSo quits
       left_up up all (since_first w b l m e) = inl (left_going b l (λ x. absurd (omega (arith, x, all))) e, w)
-      left_up up all (since_clear c a b x l m e) = inr (c, fails_at (cut_going a b (far is_reverse up (omega (arith, x, l))) x l
-          (λ y. absurd (omega (arith, y, all))) e))
+      left_up up all (since_clear c a b x l m e) = inr (
+        c,
+        fails_at (cut_going a b (far is_reverse up (omega (arith, x, l))) x l
+            (λ y. absurd (omega (arith, y, all))) e),
+      )
         where
           far : (b : Bool) → b ≡ false → a ≤ k → a ≤ pass_distance b n (suc k)
           far false is l = omega (arith, l)
@@ -460,17 +557,17 @@ module _ (q : Search) (is_reverse : Bool) (at k i : ℕ) (was now whole clr : Ty
         by_side tell last true is =
             left_ended quits (finishes_by quits false true (none_left (last_unit last)) is) tell
             (subst (λ (x : ℕ). Ends (suc x)) (sym (last_unit last)) (last_ends tell false last (inl is) true is
-                (by_reverse false (by_last quits false last turn) true is)))
+            (by_reverse false (by_last quits false last turn) true is)))
         by_side tell last false is =
             left_up begun tell quits (finishes_by quits false false (none_left (last_unit last)) is) is (last_unit last)
             (last_on is_reverse n i k t0.searched was now whole clr join t new (under tell) q is at (end_place last)
-                (by_reverse false (by_last quits false last turn) false is))
+            (by_reverse false (by_last quits false last turn) false is))
 
         by_quits : tells is_reverse q ≡ true → at ≢ last_place is_reverse q → (b : Bool) → TurnsBy b false → LeftSo b
         by_quits tell left true turn =
             left_ended true (finishes_by true true true (lt-ltb k n (less left)) refl) tell
             (byte_end is_reverse n i k t0.searched was now whole clr join t new (under tell) (less left) fits
-                (by_byte true false left turn))
+            (by_byte true false left turn))
         by_quits tell left false turn =
             left_byte begun tell false (finishes_by false true false (lt-ltb k n (less left)) refl) (less left)
             (byte_on is_reverse n i k t0.searched was now whole clr join t new (under tell) (by_byte false false left turn))
@@ -485,8 +582,15 @@ module _ (q : Search) (is_reverse : Bool) (at k i : ℕ) (was now whole clr : Ty
 
         by_none : tells is_reverse q ≡ false → ((new ≡ t0) × whole) ⊎ (clr × IsFresh new) → LeftSo quits
         by_none tell (inl e) = inl (record { byte = k; read = omega arith; there = λ l. refl; told = e.0 ∙ nothing_left tell t0 }, e.1)
-        by_none tell (inr c) = inr (c.0, fails_untold tell c.1 (record { byte = k; read = omega arith; there = λ l. refl;
-            told = nothing_left tell new }))
+        by_none tell (inr c) = inr (
+          c.0,
+          fails_untold tell c.1 (record {
+            byte = k;
+            read = omega arith;
+            there = λ l. refl;
+            told = nothing_left tell new;
+          }),
+        )
 
     -- ---- where it goes on
 
@@ -517,8 +621,8 @@ pub begun_so : (q : Search) (is_reverse : Bool) (i : ℕ) (v : CacheValue) → i
     told_of v ≡ going is_reverse i v.searched 0 0
 begun_so q is_reverse i v e begins tell =
     ap (λ (o : Option Progress). record { searched = v.searched; progress = o }) (begins tell
-        ∙ ap (λ (x : ℕ). Some (record { start = index_at is_reverse x; at = index_at is_reverse x })) (sym e
-        ∙ sym (place_zero is_reverse i)))
+    ∙ ap (λ (x : ℕ). Some (record { start = index_at is_reverse x; at = index_at is_reverse x })) (sym e
+    ∙ sym (place_zero is_reverse i)))
 
 pub going_first : (q : Search) (is_reverse : Bool) (i : ℕ) (same clr : Type 0) (t : Told) → same → tells is_reverse q ≡ true →
     t ≡ going is_reverse i t.searched 0 0 →

@@ -53,7 +53,7 @@ length-marks_of t nodes = length-recorded (replicate 256 false) (flat_map (told_
 
 same_set : (zeros set : List Bool) (rs : List (ℕ × ℕ)) (b c : ℕ) → IsUnmarked zeros → length zeros ≡ 256 → b < 256 → c < 256 →
     marks_below (recorded (recorded zeros rs) (ranges_from set 0)) b ≡ marks_below (recorded (recorded zeros rs) (ranges_from set 0)) c →
-        has set b ≡ has set c
+    has set b ≡ has set c
 same_set zeros set rs b c none len small little e = ⊎_elim
     (λ (up : b < c). same_class_same_set set zeros rs b c none len (omega (arith, up)) little e)
     (λ (is_reverse : c ≤ b). sym (same_class_same_set set zeros rs c b none len is_reverse small (sym e)))
@@ -61,7 +61,7 @@ same_set zeros set rs b c none len small little e = ⊎_elim
 
 same_quits : (t : Terminator) (nodes : List Node) (set : List Bool) (b c : ℕ) → b < 256 → c < 256 →
     marks_below (recorded (marks_of t nodes) (ranges_from set 0)) b ≡ marks_below (recorded (marks_of t nodes) (ranges_from set 0)) c →
-        has set b ≡ has set c
+    has set b ≡ has set c
 unfolding marks_of
 same_quits t nodes set b c small little e =
     same_set (replicate 256 false) set (flat_map (told_by t) nodes) b c (all_unmarked 256) (length-replicate 256 false) small little e
@@ -214,7 +214,7 @@ dfa_is n o cs qs m cap p q r s = λ i. made_dfa n o (p i) (q i) (r i) (s i)
 
 pub made_is_dfa : (n : Nfa) (o : Options) (cs : List ℕ) (qs : List Bool) (m : Measures) (cap : ℕ) → made_dfa n o cs qs m cap ≡ dfa_of n o →
     IsSound n.automaton → is_unsupported n.automaton (word_boundary_of o) (by_hand o) ≡ false → is_too_small n o ≡ false →
-        IsDfa (made_dfa n o cs qs m cap)
+    IsDfa (made_dfa n o cs qs m cap)
 made_is_dfa n o cs qs m cap e sound fine large = subst IsDfa (sym e) (is_dfa n o sound fine large)
 
 pub built_dfa : (n : Nfa) (o : Options) (d : Dfa) → is_unsupported n.automaton (word_boundary_of o) (by_hand o) ≡ false →
@@ -223,9 +223,9 @@ pub built_dfa : (n : Nfa) (o : Options) (d : Dfa) → is_unsupported n.automaton
 built_dfa n o d e f is =
     ap (λ (x : Dfa). Ok x) is
     ∙ sym (ap (λ (t : Bool). if t then Err Unsupported else if is_too_small n o
-        then Err (InsufficientCacheCapacity (least_capacity (measures_with n o)) (capacity_of o)) else Ok (dfa_of n o)) e
+    then Err (InsufficientCacheCapacity (least_capacity (measures_with n o)) (capacity_of o)) else Ok (dfa_of n o)) e
     ∙ ap (λ (t : Bool). if t then Err (InsufficientCacheCapacity (least_capacity (measures_with n o)) (capacity_of o))
-        else Ok (dfa_of n o)) f)
+    else Ok (dfa_of n o)) f)
 
 -- what the test of the code says of the capacity
 pub too_small_is : (n : Nfa) (o : Options) (skips : Bool) (given least : ℕ) (t : Bool) → skips ≡ skips_check o → given ≡ capacity_of o →

@@ -40,7 +40,7 @@ find_after : {S : Type 0} (states : List StateValue) (m : HashMap StateValue ℕ
 find_after states m s q true a fresh here there =
     let bytes : encoded s ≡ encoded q = (bytes_eq-Decides (encoded s) (encoded q)).0 here in
     let none : position_from (same q) 0 states ≡ None = sym (ap (λ (x : List ℕ). position_from
-        (λ (y : StateValue). bytes_eq x (encoded y)) 0 states) bytes) ∙ fresh in
+    (λ (y : StateValue). bytes_eq x (encoded y)) 0 states) bytes) ∙ fresh in
     let n : length states ≡ 0 + length states = omega arith in
     ap Some n ∙ sym (pf-append (same q) 0 states s
     ∙ (ap (λ (o : Option ℕ). or_last o (same q s) (0 + length states)) none ∙ ap (λ (b : Bool). or_last None b (0 + length states)) there))
@@ -142,15 +142,23 @@ pub IsKept-cleared : {S : Type 0} (v : CacheValue) (m n : HashMap StateValue ℕ
 IsKept-cleared v m n used clears starts progress k e =
     let i = IsShaped-cleared v clears k.shape in
     record {
-      shape = record { positive = i.positive; narrow = i.narrow; sized = i.sized; small = i.small; named = i.named; tags = i.tags;
-          real = i.real; apart = i.apart };
+      shape = record {
+        positive = i.positive;
+        narrow = i.narrow;
+        sized = i.sized;
+        small = i.small;
+        named = i.named;
+        tags = i.tags;
+        real = i.real;
+        apart = i.apart;
+      };
       agree = Agrees-empty n e;
       counted = omega arith;
     }
 
 pub IsKept-added : {S : Type 0} (v : CacheValue) (m n : HashMap StateValue ℕ S) (used k add : ℕ) (b : Bool) (s : StateValue) →
     IsKept v m used → IsState s → place_of s v.states ≡ None → length v.cells + v.stride ≤ tag → k ≡ length v.states →
-        add ≡ cost v.stride s →
+    add ≡ cost v.stride s →
     ((q : StateValue) → get_by (same q) n ≡ cond (same s q) (Some k) (get_by (same q) m)) →
     IsKept (with_state b s v) n (used + add)
 IsKept-added v m n used k add b s i real fresh room e is put = record {
@@ -169,7 +177,7 @@ resized cells n m stride v e f =
 -- the parts of a cache with one state more
 pub added_parts : (v : CacheValue) (b : Bool) (s copy : StateValue) (id : ℕ) (states : List StateValue) (ids cells : List ℕ) →
     states ≡ v.states ++ copy ∷ [] → copy ≡ s → ids ≡ v.ids ++ id ∷ [] → id ≡ new_id v b s →
-        cells ≡ v.cells ++ replicate v.stride unknown_id →
+    cells ≡ v.cells ++ replicate v.stride unknown_id →
     record v { states = states; ids = ids; cells = cells } ≡ with_state b s v
 added_parts v b s copy id states ids cells e c f g h =
     ap (λ (x : List StateValue). record v { states = x; ids = ids; cells = cells }) (e ∙ ap (λ (y : StateValue). v.states ++ y ∷ []) c)
@@ -215,9 +223,14 @@ IsKept-empty stride fresh starts bound classes n positive narrow e = record {
 pub IsKept-made : {S : Type 0} (stride fresh starts bound one : ℕ) (classes : List ℕ) (states : List StateValue) (ids cells known : List ℕ)
     (n : HashMap StateValue ℕ S) →
     0 < stride → stride ≤ 512 → states ≡ [] → ids ≡ [] → cells ≡ sentinel_rows stride → known ≡ replicate starts unknown_id →
-        n.entries ≡ [] → one ≡ bound →
-    IsKept (record (empty_cache stride fresh starts bound classes) { states = states; ids = ids; cells = cells; starts = known;
-        bound = one }) n fresh
+    n.entries ≡ [] → one ≡ bound →
+    IsKept (record (empty_cache stride fresh starts bound classes) {
+      states = states;
+      ids = ids;
+      cells = cells;
+      starts = known;
+      bound = one;
+    }) n fresh
 IsKept-made stride fresh starts bound one classes states ids cells known n positive narrow a b c d e f =
     rw (a, b, c, d, f) (IsKept-empty stride fresh starts bound classes n positive narrow e)
 

@@ -29,8 +29,16 @@ use Rattle.lazy_dfa.proofs.IsCacheLemmas.{row_quotient, le_of, lt_of}
 -- ---- a state more
 
 pub added_refl : (v : CacheValue) → IsShaped v → Added v v
-added_refl v i = record { shape = i; stride = refl; names = λ id s n. n; cells = λ id c r l. refl; starts = λ j n. refl; clears = refl;
-    searched = refl; progress = refl }
+added_refl v i = record {
+  shape = i;
+  stride = refl;
+  names = λ id s n. n;
+  cells = λ id c r l. refl;
+  starts = λ j n. refl;
+  clears = refl;
+  searched = refl;
+  progress = refl;
+}
 
 pub added_state : (v : CacheValue) (b : Bool) (s : StateValue) → IsShaped v → Added v (with_state b s v)
 added_state v b s i = record {
@@ -39,7 +47,7 @@ added_state v b s i = record {
   names = λ id t n. names_added v b s id t i n;
   cells = λ id c r l.
       let inside : id % tag + c < length v.cells = subst (λ (n : ℕ). n % tag + c < length v.cells) (sym r.2)
-          (place_inside v i r.0 r.1 c l) in
+      (place_inside v i r.0 r.1 c l) in
       get_or-append v.cells (replicate v.stride unknown_id) 0 (id % tag + c) inside;
   starts = λ j n. refl;
   clears = refl;
@@ -48,12 +56,20 @@ added_state v b s i = record {
 }
 
 pub cleared_few : (v w : CacheValue) → w ≡ cleared v → WasCleared v w 1
-cleared_few v w e = subst (λ (x : CacheValue). WasCleared v x 1) (sym e) (record { clears = refl; searched = refl; progress = refl;
-    few = omega arith })
+cleared_few v w e = subst (λ (x : CacheValue). WasCleared v x 1) (sym e) (record {
+  clears = refl;
+  searched = refl;
+  progress = refl;
+  few = omega arith;
+})
 
 pub cleared_one : (v w : CacheValue) (b : Bool) (s : StateValue) → w ≡ with_state b s (cleared v) → WasCleared v w 1
-cleared_one v w b s e = subst (λ (x : CacheValue). WasCleared v x 1) (sym e) (record { clears = refl; searched = refl; progress = refl;
-    few = omega arith })
+cleared_one v w b s e = subst (λ (x : CacheValue). WasCleared v x 1) (sym e) (record {
+  clears = refl;
+  searched = refl;
+  progress = refl;
+  few = omega arith;
+})
 
 -- a clear that was refused by memory
 pub room_refused : (v w : CacheValue) → (w ≡ v) ⊎ (w ≡ cleared v) → MadeRoom v w
@@ -66,15 +82,23 @@ adds_after v mid new b s i room e = ⊎_elim
     (λ (f : mid ≡ v). inl (subst (Added v) (sym (e ∙ ap (with_state b s) f)) (added_state v b s i)))
     (λ (f : WasCleared v mid 1).
     let long = one_longer mid.states s in
-    inr (subst (λ (x : CacheValue). WasCleared v x 2) (sym e) (record { clears = f.clears; searched = f.searched; progress = f.progress;
-        few = omega (arith, long, f.few) })))
+    inr (subst (λ (x : CacheValue). WasCleared v x 2) (sym e) (record {
+      clears = f.clears;
+      searched = f.searched;
+      progress = f.progress;
+      few = omega (arith, long, f.few);
+    })))
     room
 
 pub adds_nothing : (v mid new : CacheValue) → IsShaped v → MadeRoom v mid → new ≡ mid → AddsOrClears v new
 adds_nothing v mid new i room e = ⊎_elim
     (λ (f : mid ≡ v). inl (subst (Added v) (sym (e ∙ f)) (added_refl v i)))
-    (λ (f : WasCleared v mid 1). inr (subst (λ (x : CacheValue). WasCleared v x 2) (sym e) (record { clears = f.clears;
-        searched = f.searched; progress = f.progress; few = omega (arith, f.few) })))
+    (λ (f : WasCleared v mid 1). inr (subst (λ (x : CacheValue). WasCleared v x 2) (sym e) (record {
+      clears = f.clears;
+      searched = f.searched;
+      progress = f.progress;
+      few = omega (arith, f.few);
+    })))
     room
 
 -- the state of a row is kept, and another one added
@@ -146,7 +170,7 @@ one_id v i j s shape g h = g.2 ∙ (ap (id_at v) (same_at g.0 h.0 g.1 h.1 (sym g
     same_at j k l m e = ⊎_elim
         (λ (f : j ≡ k). f)
         (λ (n : j ≢ k). ⊎_elim (λ (f : j < k). absurd (clash j k f m e)) (λ (f : k ≤ j). absurd (clash k j (omega (arith, f, n)) l (sym e)))
-            (cases_lt j k))
+        (cases_lt j k))
         (cases_eq j k)
 
 -- an ID that names a state in a row before
@@ -170,22 +194,22 @@ module _ (d : Dfa) (v mid new : CacheValue) (id from c k to : ℕ) (u : Option �
   same_name a =
       let low = row_is_plain v id k own.shape inside row in
       one_id mid id from (state_at v k) mine.shape (held_of d mid id (state_at v k) mine.shape low
-          (a.names id (state_at v k) (names_held (k, inside, row, refl)))) from_held
+      (a.names id (state_at v k) (names_held (k, inside, row, refl)))) from_held
 
   known_on : Added v mid → noted d v id u ≡ unknown_id → (i : ℕ) (w : Option ℕ) → IsRow v i → IsUnit w → noted d v i w ≢ unknown_id →
       get_or cells (i % tag + class_of d.classes w) 0 ≡ noted d v i w
   known_on a unknown i w r unitw n = ⊎_elim
       (λ (f : i % tag + class_of d.classes w ≡ from % tag + c).
       let here : noted d v i w ≡ get_or mid.cells (i % tag + class_of d.classes w) 0 =
-          sym (a.cells i (class_of d.classes w) r (column d v made own w unitw)) in
+      sym (a.cells i (class_of d.classes w) r (column d v made own w unitw)) in
       let there : get_or mid.cells (from % tag + c) 0 ≡ get_or v.cells (id % tag + c) 0 =
       ap (λ (m : ℕ). get_or mid.cells (m % tag + c) 0) (sym (same_name a))
-          ∙ a.cells id c (k, inside, row) (rw class (column d v made own u unit)) in
+      ∙ a.cells id c (k, inside, row) (rw class (column d v made own u unit)) in
       absurd (n (here ∙ (ap (λ (m : ℕ). get_or mid.cells m 0) f ∙ (there
-          ∙ (ap (λ (m : ℕ). get_or v.cells (id % tag + m) 0) class ∙ unknown))))))
+      ∙ (ap (λ (m : ℕ). get_or v.cells (id % tag + m) 0) class ∙ unknown))))))
       (λ (n : i % tag + class_of d.classes w ≢ from % tag + c).
       get_or-set_other mid.cells (from % tag + c) (i % tag + class_of d.classes w) to 0 n
-          ∙ a.cells i (class_of d.classes w) r (column d v made own w unitw))
+      ∙ a.cells i (class_of d.classes w) r (column d v made own w unitw))
       (cases_eq (i % tag + class_of d.classes w) (from % tag + c))
 
   pub grew_cell : noted d v id u ≡ unknown_id → Added v mid → Grew d v new
@@ -202,8 +226,12 @@ module _ (d : Dfa) (v mid new : CacheValue) (id from c k to : ℕ) (u : Option �
   pub grew_set : noted d v id u ≡ unknown_id → AddsOrClears v mid → KeepsOrClears d v new
   grew_set unknown changes = ⊎_elim
       (λ (a : Added v mid). inl (grew_cell unknown a))
-      (λ (x : WasCleared v mid 2). inr (subst (λ (w : CacheValue). WasCleared v w 2) (sym e) (record { clears = x.clears;
-          searched = x.searched; progress = x.progress; few = x.few })))
+      (λ (x : WasCleared v mid 2). inr (subst (λ (w : CacheValue). WasCleared v w 2) (sym e) (record {
+        clears = x.clears;
+        searched = x.searched;
+        progress = x.progress;
+        few = x.few;
+      })))
       changes
 
   -- after a clear the state stepped from and the one stepped to are left
@@ -221,8 +249,10 @@ module _ (d : Dfa) (v mid new : CacheValue) (id from c k to : ℕ) (u : Option �
       one : (t : StateValue) → HeldAt v id t → state_at v k ≡ t
       one t h = ap (state_at v) (same_row v k h.0 own.shape inside h.1 (sym row ∙ h.2)) ∙ sym h.3
 
-      there : ClearedFrom d v (record (with_state false s (kept_alone v k)) { cells =
-          set (with_state false s (kept_alone v k)).cells (from % tag + c) to }) id u
+      there : ClearedFrom d v (record (with_state false s (kept_alone v k)) {
+        cells =
+            set (with_state false s (kept_alone v k)).cells (from % tag + c) to;
+      }) id u
       there = record {
         cleared = record { clears = refl; searched = refl; progress = refl; few = omega arith };
         from = λ t h.
@@ -249,8 +279,15 @@ module _ (d : Dfa) (v mid new : CacheValue) (id from c k to : ℕ) (u : Option �
           ∙ (ap (λ (m : ℕ). get_or cells (from % tag + m) 0) (sym class) ∙ get_or-set_same mid.cells (from % tag + c) to 0 fits_row)
 
 pub same_grew : (d : Dfa) (v : CacheValue) → Grew d v v
-same_grew d v = record { names = λ id s n. n; rows = λ id r. r; known = λ id u r unit n. refl; starts = λ i n. refl; clears = refl;
-    searched = refl; progress = refl }
+same_grew d v = record {
+  names = λ id s n. n;
+  rows = λ id r. r;
+  known = λ id u r unit n. refl;
+  starts = λ i n. refl;
+  clears = refl;
+  searched = refl;
+  progress = refl;
+}
 
 pub grew_refl : (d : Dfa) (v : CacheValue) → KeepsOrClears d v v
 grew_refl d v = inl (same_grew d v)
@@ -352,7 +389,7 @@ module _ (d : Dfa) (v mid : CacheValue) (id k : ℕ) (u : Option ℕ) (s : State
           lacks = λ t h.
               let one : state_at v k ≡ t = ap (state_at v) (same_row v k h.0 shape inside h.1 (sym row ∙ h.2)) ∙ sym h.3 in
               ap (λ (x : StateValue). lacks_room d v (after d x u)) (sym one)
-                  ∙ (ap (lacks_room d v) (sym value) ∙ (ap (λ (w : CacheValue). lacks_room d w s) (sym same_cache) ∙ g.1));
+              ∙ (ap (lacks_room d v) (sym value) ∙ (ap (λ (w : CacheValue). lacks_room d w s) (sym same_cache) ∙ g.1));
         },
       ))
       cause
@@ -391,7 +428,7 @@ pub held_from : (d : Dfa) (v w : CacheValue) (id to : ℕ) (u : Option ℕ) → 
     StepsTo d v w id u to → IsHeld w to
 held_from d v w id to u held loops steps = ⊎_elim
     (λ (e : is_sentinel id ≡ true). subst (λ (n : ℕ). IsHeld w n) (sym (loops e).0)
-        (subst (λ (x : CacheValue). IsHeld x id) (sym (loops e).1) held))
+    (subst (λ (x : CacheValue). IsHeld x id) (sym (loops e).1) held))
     (λ (e : is_sentinel id ≡ false).
     let x = row_of_held v id held e in
     led (state_at v x.0) (steps (state_at v x.0) (x.0, x.1, x.2, refl)))

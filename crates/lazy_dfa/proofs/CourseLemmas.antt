@@ -45,7 +45,7 @@ module _ (r : Reader) (h : List ℕ) (i j k : ℕ) (there : j ≡ place_of r.aut
         let was = best_behind r h j behind (best_behind r h i s best k) l in
         ap (λ (x : ℕ). recorded x (state_behind r h j behind (suc l)) was) (place_there l)
         ∙ (ap (λ (t : StateValue). recorded (place_of r.automaton.reverse i (k + l)) t was) (state_there (suc l)
-            ∙ sym (ap (state_behind r h i s) (one_more l)))
+        ∙ sym (ap (state_behind r h i s) (one_more l)))
         ∙ (ap (recorded (place_of r.automaton.reverse i (k + l)) (state_behind r h i s (suc (k + l)))) (best_there best l)
         ∙ ap (best_behind r h i s best) (one_more l)))
 

@@ -95,9 +95,9 @@ module _ (r : Reader) (q : Search) (o : Option (ℕ × ℕ)) (up : r.automaton.r
         (λ x there. same x (reach_is_near r q x there).0 (below_reach r.automaton.reverse q.start q.end len x up there.1));
     first = λ name holds begun leftmost late plain named alike.
         scan_finds_first r q name sound.named fits within named (start_is_state r.automaton q.anchored name sound named) leftmost late plain
-            holds
+        holds
         (subst (λ (n : ℕ). ReadsAlike r holds q.haystack q.start q.end (begins_at r q) n)
-            (same_length r.automaton.reverse q.start q.end len up) alike) o is;
+        (same_length r.automaton.reverse q.start q.end len up) alike) o is;
   }
 
   reach_done : q.end < q.start → IsReachOf r q o 0
@@ -124,8 +124,11 @@ module _ (r : Reader) (q : Search) (o : Option (ℕ × ℕ)) (back : r.automaton
     done = λ over x from to. absurd (omega (arith, fits, over));
     past = λ e same. above_reach r.automaton.reverse q.start q.end (scan_len r q) e.0 back
         (scan_place_is_reached r q e (is ∙ ap found same)).1;
-    quiet = λ x from to. scan_is_quiet r q o within is x (fits, reached_reverse r.automaton.reverse q.start q.end
-        (scan_len r q) x back from to);
+    quiet = λ x from to. scan_is_quiet r q o within is x (
+      fits,
+      reached_reverse r.automaton.reverse q.start q.end
+          (scan_len r q) x back from to,
+    );
     local = λ g in_g same. same_elsewhere r q o within is g in_g
         (λ x there. same x (above_reach r.automaton.reverse q.start q.end (scan_len r q) x back there.1) (reach_is_near r q x there).1);
   }

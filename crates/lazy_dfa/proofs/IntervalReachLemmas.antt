@@ -81,6 +81,6 @@ module _ (r : Reader) (q : Search) where
   scan_in_span e is = ⊎_elim
       (λ (l : q.start ≤ q.end).
       let read = scan_found_read r q l e is in place_in_span is_reverse q.start q.end (scan_len r q) read.0 e.0 l
-          (scan_few r q) read.1 read.2)
+      (scan_few r q) read.1 read.2)
       (λ (past : q.end < q.start). none_found e ((q.start ≤ e.0) × (e.0 ≤ q.end)) (sym (scan_done r q past) ∙ is))
       (le_or_done r q q.start q.end)

@@ -93,9 +93,12 @@ names_cells v cells id s (names_held h) = names_held h
 -- the ID of the state that was just added
 pub new_held : (v : CacheValue) (b : Bool) (s : StateValue) → IsShaped v → HeldAt (with_state b s v) (new_id v b s) s
 new_held v b s i =
-    let l : length (v.states ++ s ∷ []) ≡ length v.states + 1 = one_longer v.states s in
-    (length v.states, omega (arith, l), sym (at_last v.ids (new_id v b s) 0 (length v.states) (sym i.named)),
-        sym (at_last v.states s dead (length v.states) refl))
+    let l : length (v.states ++ s ∷ []) ≡ length v.states + 1 = one_longer v.states s in (
+      length v.states,
+      omega (arith, l),
+      sym (at_last v.ids (new_id v b s) 0 (length v.states) (sym i.named)),
+      sym (at_last v.states s dead (length v.states) refl),
+    )
 
 pub leads_added : (d : Dfa) (v : CacheValue) (b : Bool) (t s : StateValue) (u : Option ℕ) (id : ℕ) → IsShaped v → Leads d v s u id →
     Leads d (with_state b t v) s u id
@@ -119,7 +122,7 @@ blank : (v : CacheValue) (k c : ℕ) → IsShaped v → k ≡ length v.states �
     get_or (v.cells ++ replicate v.stride unknown_id) ((k + 3) * v.stride + c) 0 ≡ unknown_id
 blank v k c i e l =
     let place : (k + 3) * v.stride + c ≡ length v.cells + c = ap (λ (n : ℕ). (n + 3) * v.stride + c) e
-        ∙ ap (λ (n : ℕ). n + c) (sym i.sized) in
+    ∙ ap (λ (n : ℕ). n + c) (sym i.sized) in
     ap (λ (n : ℕ). get_or (v.cells ++ replicate v.stride unknown_id) n 0) place
     ∙ (get_or-append-add v.cells (replicate v.stride unknown_id) c 0 ∙ get_or-replicate v.stride c unknown_id 0 l)
 
@@ -152,7 +155,7 @@ is_cache_added d v b s made own real fresh fits alive is =
           let read : get_or (v.cells ++ replicate v.stride unknown_id) ((k + 3) * v.stride + c) 0 ≡ cell_at v k c =
           get_or-append v.cells (replicate v.stride unknown_id) 0 ((k + 3) * v.stride + c) (cell_inside v own.shape k o c low) in
           rw (read, at_old v.states s dead k o) (leads_added d v b s (state_at v k) u (cell_at v k c) own.shape
-              (own.steps k u o unit (λ z. known (read ∙ z)))))
+          (own.steps k u o unit (λ z. known (read ∙ z)))))
           (λ (e : k ≡ n).
           let low : class_of d.classes u < v.stride = rw own.stride (made.classed u unit) in
           absurd (known (blank v k (class_of d.classes u) own.shape e low)))
@@ -177,8 +180,16 @@ is_cache_cleared d v own = record {
 }
 
 shape_cells : (v : CacheValue) (cells : List ℕ) → length cells ≡ length v.cells → IsShaped v → IsShaped (record v { cells = cells })
-shape_cells v cells e i = record { positive = i.positive; narrow = i.narrow; sized = e ∙ i.sized; small = rw e i.small; named = i.named;
-    tags = i.tags; real = i.real; apart = i.apart }
+shape_cells v cells e i = record {
+  positive = i.positive;
+  narrow = i.narrow;
+  sized = e ∙ i.sized;
+  small = rw e i.small;
+  named = i.named;
+  tags = i.tags;
+  real = i.real;
+  apart = i.apart;
+}
 
 pub is_cache_set : (d : Dfa) (v : CacheValue) (k to : ℕ) (u : Option ℕ) → IsDfa d → IsCacheOf d v → k < length v.states → IsUnit u →
     Leads d v (state_at v k) u to →
@@ -207,14 +218,14 @@ is_cache_set d v k to u made own l unit there =
           (λ (is : (j + 3) * v.stride + e ≡ at).
           let both = same_place v.stride j e k c lower low (is ∙ place) in
           let read : get_or cells ((j + 3) * v.stride + e) 0 ≡ to = ap (λ (n : ℕ). get_or cells n 0) is
-              ∙ get_or-set_same v.cells at to 0 (place_inside v i k l c low) in
+          ∙ get_or-set_same v.cells at to 0 (place_inside v i k l c low) in
           let led = leads_alike d v (state_at v k) u w to (own.states k l).stepped (made.alike u w unit unit2 (sym both.1)) there in
           subst (λ (x : ℕ). Leads d (record v { cells = cells }) (state_at v j) w x) (sym read)
           (subst (λ (n : ℕ). Leads d (record v { cells = cells }) (state_at v n) w to) (sym both.0)
-              (leads_cells d v cells (state_at v k) w to led)))
+          (leads_cells d v cells (state_at v k) w to led)))
           (λ (ne : (j + 3) * v.stride + e ≢ at).
           let read : get_or cells ((j + 3) * v.stride + e) 0 ≡ cell_at v j e =
-              get_or-set_other v.cells at ((j + 3) * v.stride + e) to 0 ne in
+          get_or-set_other v.cells at ((j + 3) * v.stride + e) to 0 ne in
           subst (λ (x : ℕ). Leads d (record v { cells = cells }) (state_at v j) w x) (sym read)
           (leads_cells d v cells (state_at v j) w (cell_at v j e) (own.steps j w below unit2 (λ z. known (read ∙ z)))))
           (cases_eq ((j + 3) * v.stride + e) at);
@@ -250,9 +261,26 @@ same_slot m n s t e =
     let numbers : number_of s ≡ number_of t = omega (arith, e, f, g) in
     (modes, sym (numbered_back s).0 ∙ (ap numbered numbers ∙ (numbered_back t).0))
 
+pub names_starts : (v : CacheValue) (starts : List ℕ) (id : ℕ) (s : StateValue) → Names v id s →
+    Names (record v { starts = starts }) id s
+names_starts v starts id s (names_dead e f) = names_dead e f
+names_starts v starts id s (names_held h) = names_held h
+
+leads_starts : (d : Dfa) (v : CacheValue) (starts : List ℕ) (s : StateValue) (u : Option ℕ) (id : ℕ) → Leads d v s u id →
+    Leads d (record v { starts = starts }) s u id
+leads_starts d v starts s u id x = record { quits = x.quits; goes = λ e. names_starts v starts id (after d s u) (x.goes e) }
+
 shape_starts : (v : CacheValue) (starts : List ℕ) → IsShaped v → IsShaped (record v { starts = starts })
-shape_starts v starts i = record { positive = i.positive; narrow = i.narrow; sized = i.sized; small = i.small; named = i.named;
-    tags = i.tags; real = i.real; apart = i.apart }
+shape_starts v starts i = record {
+  positive = i.positive;
+  narrow = i.narrow;
+  sized = i.sized;
+  small = i.small;
+  named = i.named;
+  tags = i.tags;
+  real = i.real;
+  apart = i.apart;
+}
 
 pub is_cache_started : (d : Dfa) (v : CacheValue) (m : ℕ) (s : Start) (to : ℕ) → IsCacheOf d v → slot m s < length v.starts →
     Begins d v m s to →
@@ -269,20 +297,21 @@ is_cache_started d v m s to own inside there =
       within = own.within;
       lives = own.lives;
       states = own.states;
-      steps = λ k u l unit known. leads_cells d v starts (state_at v k) u (cell_at v k (class_of d.classes u)) (own.steps k u l unit known);
+      steps = λ k u l unit known. leads_starts d v starts (state_at v k) u (cell_at v k (class_of d.classes u))
+          (own.steps k u l unit known);
       starts = λ n t l known q e. ⊎_elim
           (λ (is : slot n t ≡ slot m s).
           let both = same_slot n m t s is in
           let read : get_or starts (slot n t) 0 ≡ to = ap (λ (i : ℕ). get_or starts i 0) is
-              ∙ get_or-set_same v.starts (slot m s) to 0 inside in
+          ∙ get_or-set_same v.starts (slot m s) to 0 inside in
           let f : start_in d m ≡ Some q = ap (start_in d) (sym both.0) ∙ e in
           subst (λ (x : ℕ). Names (record v { starts = starts }) x (first_state d t q)) (sym read)
           (subst (λ (x : Start). Names (record v { starts = starts }) to (first_state d x q)) (sym both.1)
-              (names_cells v starts to (first_state d s q) (there q f))))
+          (names_starts v starts to (first_state d s q) (there q f))))
           (λ (ne : slot n t ≢ slot m s).
           let read : get_or starts (slot n t) 0 ≡ get_or v.starts (slot n t) 0 = get_or-set_other v.starts (slot m s) (slot n t) to 0 ne in
           subst (λ (x : ℕ). Names (record v { starts = starts }) x (first_state d t q)) (sym read)
-          (names_cells v starts (get_or v.starts (slot n t) 0) (first_state d t q)
+          (names_starts v starts (get_or v.starts (slot n t) 0) (first_state d t q)
           (own.starts n t (rw length-set at l) (λ z. known (read ∙ z)) q e)))
           (cases_eq (slot n t) (slot m s));
     }
@@ -306,13 +335,13 @@ dead_parts v a b c d e f =
 pub dead_of : (v : StateValue) → is_dead v ≡ true → v ≡ dead
 dead_of v e =
     let a = and_parts (is_empty v.ids && is_empty v.matches && v.look_have == 0 && v.look_need == 0
-        && not v.is_from_word) (not v.is_half_crlf) e in
+    && not v.is_from_word) (not v.is_half_crlf) e in
     let b = and_parts (is_empty v.ids && is_empty v.matches && v.look_have == 0 && v.look_need == 0) (not v.is_from_word) a.0 in
     let c = and_parts (is_empty v.ids && is_empty v.matches && v.look_have == 0) (v.look_need == 0) b.0 in
     let d = and_parts (is_empty v.ids && is_empty v.matches) (v.look_have == 0) c.0 in
     let f = and_parts (is_empty v.ids) (is_empty v.matches) d.0 in
     dead_parts v (none_of v.ids f.0) (none_of v.matches f.1) ((Decides-eqb v.look_have 0).0 d.1) ((Decides-eqb v.look_need 0).0 c.1)
-        (not-true v.is_from_word b.1) (not-true v.is_half_crlf a.1)
+    (not-true v.is_from_word b.1) (not-true v.is_half_crlf a.1)
 
 pub alive_of : (v : StateValue) → is_dead v ≡ false → v ≢ dead
 alive_of v e f = true≢false (ap is_dead (sym f) ∙ e)
@@ -376,15 +405,18 @@ pub after_of : (d : Dfa) (a : Automaton) (t : Terminator) (kind : MatchKind) (s 
 unfolding after
 after_of d a t kind s u r e f g h =
     h ∙ (ap (λ (x : Automaton). step_value x t kind s u) e ∙ (ap (λ (x : Terminator). step_value d.nfa.automaton x kind s u) f
-        ∙ ap (λ (x : MatchKind). step_value d.nfa.automaton d.nfa.terminator x s u) g))
+    ∙ ap (λ (x : MatchKind). step_value d.nfa.automaton d.nfa.terminator x s u) g))
 
 as_long : (d : Dfa) → IsDfa d → widest d.nfa.automaton ≡ longest_state d.measures
 as_long d made = ap (λ (m : Measures). longest_state m) (sym made.measured)
 
 -- what starts and steps come to is the automaton's
 is_state : (d : Dfa) (s : StateValue) → IsDfa d → IsStepped d.nfa.automaton s → IsStateOf d s
-is_state d s made i = record { stepped = i; short = subst (λ (n : ℕ). length (encoded s) ≤ n) (as_long d made)
-    (stepped_short d.nfa.automaton s i) }
+is_state d s made i = record {
+  stepped = i;
+  short = subst (λ (n : ℕ). length (encoded s) ≤ n) (as_long d made)
+      (stepped_short d.nfa.automaton s i);
+}
 
 after_below : (d : Dfa) (s : StateValue) (u : Option ℕ) → IsDfa d → IsStateOf d (after d s u)
 unfolding after
@@ -448,7 +480,7 @@ module _ (d : Dfa) (v : CacheValue) (id c : ℕ) (u : Option ℕ) (made : IsDfa 
       let led = subst (λ (t : StateValue). Leads d v t u to) h.3 there in
       let set_at = is_cache_set d v h.0 to u made own h.1 unit led in
       let same_at : id_at v h.0 % tag + class_of d.classes u ≡ id % tag + c =
-          ap (λ (n : ℕ). n % tag + class_of d.classes u) (sym h.2) ∙ ap (λ (n : ℕ). id % tag + n) (sym class) in
+      ap (λ (n : ℕ). n % tag + class_of d.classes u) (sym h.2) ∙ ap (λ (n : ℕ). id % tag + n) (sym class) in
       subst (IsCacheOf d) (sym e) (subst (λ (n : ℕ). IsCacheOf d (record v { cells = set v.cells n to })) same_at set_at)
 
   pub leads_stepped : (s : StateValue) (to : ℕ) (w : CacheValue) → Leads d v s u to →
@@ -510,8 +542,8 @@ module _ (d : Dfa) (v w : CacheValue) (m i q to : ℕ) (s : Start) (state : Stat
   started own inside named =
       let there : Begins d v m s to = λ p f. subst (Names v to) (is ∙ ap (first_state d s) (some_same q p (sym named ∙ f))) names in
       subst (IsCacheOf d) (sym (e ∙ ap (λ (n : ℕ). record v { starts = set v.starts n to }) at))
-          (is_cache_started d v m s to own inside there)
+      (is_cache_started d v m s to own inside there)
 
   pub names_started : Names w to (first_state d s q)
   names_started = subst (λ (x : CacheValue). Names x to (first_state d s q)) (sym e)
-      (names_cells v (set v.starts i to) to (first_state d s q) (subst (Names v to) is names))
+      (names_starts v (set v.starts i to) to (first_state d s q) (subst (Names v to) is names))

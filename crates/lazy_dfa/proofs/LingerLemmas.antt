@@ -52,7 +52,7 @@ module _ (d : Dfa) (v : CacheValue) (id next : ℕ) (u : Option ℕ) (own : IsCa
   leads : (s : StateValue) → HeldAt v id s → Leads d v s u next
   leads s g = subst (λ (n : ℕ). Leads d v s u n) (sym read)
       (subst (λ (t : StateValue). Leads d v t u (noted d v id u)) (one_state v id row.0 s own.shape row.1 row.2 g)
-          (row_leads d v id u own unit row known))
+      (row_leads d v id u own unit row known))
 
   quiet : is_quit d.quits u ≡ false
   quiet = ⊎_elim
@@ -91,7 +91,7 @@ module _ (d : Dfa) (v : CacheValue) (id next : ℕ) (u : Option ℕ) (own : IsCa
         subst (λ (j : ℕ). GoesTo d h (point v m n from first best) (point v m n at2 next c) j) count
         (subst (λ (i : ℕ). GoesTo d h (point v m n from first best) (point v m n i next c) (k + 1)) place
         (goes_on d h made bytes (point v m n from first best) (point v m n at id b)
-            (point v m n (place_of d.nfa.automaton.reverse at 1) next c) k 1 own own start f g))
+        (point v m n (place_of d.nfa.automaton.reverse at 1) next c) k 1 own own start f g))
 
     lingers_plain : next < tag → Lingers d h v from first at2 next met last k2
     lingers_plain low = record {
@@ -116,7 +116,7 @@ module _ (d : Dfa) (v : CacheValue) (id next : ℕ) (u : Option ℕ) (own : IsCa
           let does : is_match t.matches ≡ true = sym (row_matches v next t own.shape held) ∙ match_bit next high below in
           subst (λ (b : Option (ℕ × ℕ)). Goes m n best b) (recorded_last s t last at best does)
           (on m n best (recorded last s best) (recorded at t (recorded last s best)) (so_far.goes e s (r.0, r.1, r.2, refl) m n best)
-              (goes_one h at m n (recorded last s best) t held is)))
+          (goes_one h at m n (recorded last s best) t held is)))
           (cases_eq met unknown_id);
     }
 
@@ -152,7 +152,7 @@ never_stops d earliest h at s k e j l = ap (λ (x : Bool). x && not (is_empty (s
 module _ (d : Dfa) (v : CacheValue) (q : Search) (h : List ℕ) (is_reverse : Bool) (from first at id met last end : ℕ) (own : IsCacheOf d v)
     (same : h ≡ q.haystack) (late : q.earliest ≡ false) (before behind : Option (ℕ × ℕ))
     (stays : unknown_id ≤ met → behind ≡ before) (best : met < unknown_id → (s : StateValue) → HeldAt v met s →
-        behind ≡ recorded last s before) where
+    behind ≡ recorded last s before) where
   abbrev Comes : Option (ℕ × ℕ) → ℕ → ℕ → ℕ → Type 0
   Comes b k m n = GoesTo d h (point v m n from first before) (point v m n at id b) k
 
@@ -162,7 +162,7 @@ module _ (d : Dfa) (v : CacheValue) (q : Search) (h : List ℕ) (is_reverse : Bo
   comes : (k : ℕ) → Lingers d h v from first at id met last k → (m n : ℕ) → Comes behind k m n
   comes k lingers m n = ⊎_elim
       (λ (e : met ≡ unknown_id). subst (λ (b : Option (ℕ × ℕ)). Comes b k m n) (sym (stays (omega (arith, e))))
-          (lingers.plain e m n before))
+      (lingers.plain e m n before))
       (λ (e : met ≢ unknown_id).
       let r = lingers.row e in
       let s : StateValue = state_at v r.0 in
@@ -212,9 +212,9 @@ pub between_both : (d : Dfa) (v : CacheValue) (q : Search) (is_reverse : Bool) (
     GoesBetween d q.earliest q.haystack (point v m n i x a) (point v m n k z c) (left_at is_reverse q i - left_at is_reverse q k)
 between_both d v q is_reverse i j k x y z a b c made bytes own row here closer nearer m n f g =
     subst (GoesBetween d q.earliest q.haystack (point v m n i x a) (point v m n k z c))
-        (both (left_at is_reverse q i) (left_at is_reverse q j) (left_at is_reverse q k) closer nearer)
+    (both (left_at is_reverse q i) (left_at is_reverse q j) (left_at is_reverse q k) closer nearer)
     (between_on d q.earliest q.haystack made bytes (point v m n i x a) (point v m n j y b) (point v m n k z c)
-        (left_at is_reverse q i - left_at is_reverse q j) (left_at is_reverse q j - left_at is_reverse q k)
+    (left_at is_reverse q i - left_at is_reverse q j) (left_at is_reverse q j - left_at is_reverse q k)
     own own row here f g)
   where
     both : (i j k : ℕ) → j ≤ i → k ≤ j → (i - j) + (j - k) ≡ i - k

@@ -111,8 +111,16 @@ module _ (v : CacheValue) (n : ℕ) (p : Option Progress) where
   leads_further d s u id x = record { quits = x.quits; goes = λ e. names_further id (after d s u) (x.goes e) }
 
   shape_further : IsShaped v → IsShaped (moved v n p)
-  shape_further i = record { positive = i.positive; narrow = i.narrow; sized = i.sized; small = i.small; named = i.named; tags = i.tags;
-      real = i.real; apart = i.apart }
+  shape_further i = record {
+    positive = i.positive;
+    narrow = i.narrow;
+    sized = i.sized;
+    small = i.small;
+    named = i.named;
+    tags = i.tags;
+    real = i.real;
+    apart = i.apart;
+  }
 
   is_cache_further : (d : Dfa) → IsCacheOf d v → IsCacheOf d (moved v n p)
   is_cache_further d own = record {
@@ -159,7 +167,7 @@ module _ (d : Dfa) (v w : CacheValue) (e : IsMoved v w) where
     id_moved (suc k) =
         ap (λ (x : ℕ). led d w x (unit_of (reader d) h i k)) (id_moved k)
         ∙ ap (λ (n : ℕ). if is_sentinel (id_behind d v h i id k) then id_behind d v h i id k
-            else n) (noted_moved (id_behind d v h i id k) (unit_of (reader d) h i k))
+        else n) (noted_moved (id_behind d v h i id k) (unit_of (reader d) h i k))
 
     known_moved : (x y : ℕ) (u : Option ℕ) → y ≡ x → IsKnown d v x u → IsKnown d w y u
     known_moved x y u f known = subst (λ (n : ℕ). IsKnown d w n u) (sym f) (⊎_elim
@@ -245,7 +253,7 @@ held_led d v id u own unit held known = ⊎_elim
     (λ (s : is_sentinel id ≡ false).
     let r = row_of_held v id held s in
     subst (IsHeld v) (sym (led_row d v id u s)) (held_leads d v (state_at v r.0) u (noted d v id u)
-        (row_leads d v id u own unit r (known_row d v id u s known))))
+    (row_leads d v id u own unit r (known_row d v id u s known))))
     (cases_Bool (is_sentinel id))
 
 -- ---- known paths in a cache that grows
@@ -276,21 +284,21 @@ module _ (d : Dfa) (b c : CacheValue) (own : IsCacheOf d b) (grows : Grows d b c
     held_on id n held l zero le = held
     held_on id n held l (suc k) le =
         held_led d b (id_behind d b h i id k) (unit_of (reader d) h i k) own (unit_is_one k) (held_on id n held l k (omega (arith, le)))
-            (l.steps k (omega (arith, le)))
+        (l.steps k (omega (arith, le)))
 
     pub id_grows : (id n : ℕ) → IsHeld b id → IsLinkedOver d b h i id n → (k : ℕ) → k ≤ n → id_behind d c h i id k ≡ id_behind d b h i id k
     id_grows id n held l zero le = refl
     id_grows id n held l (suc k) le =
         ap (λ (x : ℕ). led d c x (unit_of (reader d) h i k)) (id_grows id n held l k (omega (arith, le)))
         ∙ led_grows (id_behind d b h i id k) (unit_of (reader d) h i k) (unit_is_one k) (held_on id n held l k (omega (arith, le)))
-            (l.steps k (omega (arith, le)))
+        (l.steps k (omega (arith, le)))
 
     pub linked_grows : (id n : ℕ) → IsHeld b id → IsLinkedOver d b h i id n → IsLinkedOver d c h i id n
     linked_grows id n held l = record {
       start = l.start;
       steps = λ k lt. subst (λ (x : ℕ). IsKnown d c x (unit_of (reader d) h i k)) (sym (id_grows id n held l k (omega (arith, lt))))
           (known_grows (id_behind d b h i id k) (unit_of (reader d) h i k) (unit_is_one k) (held_on id n held l k (omega (arith, lt)))
-              (l.steps k lt));
+          (l.steps k lt));
     }
 
   pub linked_pass_grows : (mode : Anchored) (earliest : Bool) (h : List ℕ) (n i : ℕ) → IsDfa d → AreBytes h →
@@ -346,7 +354,7 @@ module _ (d : Dfa) (v : CacheValue) (h : List ℕ) (i id : ℕ) where
       start = id_is_known (k + l) linked k (omega arith);
       steps = λ j lt. subst (λ (x : ℕ). IsKnown d v x (unit_of (reader d) h there j)) (id_split j)
           (subst (λ (u : Option ℕ). IsKnown d v (id_behind d v h i id (k + j)) u) (unit_split j)
-              (linked.steps (k + j) (omega (arith, lt))));
+          (linked.steps (k + j) (omega (arith, lt))));
     }
 
     step_there : (j m : ℕ) → m ≡ k + j → IsKnown d v (id_behind d v h there id_there j) (unit_of (reader d) h there j) →

@@ -29,7 +29,7 @@ module _ (d : Dfa) (made : IsDfa d) where
   pub few_starts : d.measures.starts < 0x10_0000_0000
   few_starts =
       let e : d.measures.starts ≡ start_count (starts_each_of d.options) (length d.nfa.automaton.start_pattern) =
-          ap (λ (m : Measures). m.starts) made.measured in
+      ap (λ (m : Measures). m.starts) made.measured in
       let l = made.sound.patterns_numbered in
       subst (λ (n : ℕ). n < 0x10_0000_0000) (sym e) (counted (starts_each_of d.options) (length d.nfa.automaton.start_pattern) l)
     where

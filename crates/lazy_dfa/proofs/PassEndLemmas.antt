@@ -124,7 +124,7 @@ module _ (r : Reader) (earliest : Bool) (h : List ℕ) (i : ℕ) (v : StateValue
       units_read r earliest h (m + n) i v ≡ m + units_at n m
   goes_units zero n read free =
       ap (λ (k : ℕ). units_read r earliest h k i v) (none_more n) ∙ (ap (λ (j : ℕ). units_read r earliest h n j v)
-          (sym (place_zero r.automaton.reverse i)) ∙ sym (none_more (units_at n 0)))
+      (sym (place_zero r.automaton.reverse i)) ∙ sym (none_more (units_at n 0)))
   goes_units (suc m) n read free =
       let same : suc m + n ≡ m + suc n = omega arith in
       let before = goes_units m (suc n) (fewer m read) (fewer_stops m free) in

@@ -151,7 +151,7 @@ module _ (r : Reader) (t : Search) (free : is_anchored t.anchored ≡ false) whe
     passes_anew_by is_reverse is some (inr l) =
         lowest_once r t fits free (omega (arith, fits, l))
         ∙ sym (ap (λ (ps : List (ℕ × ℕ)). first_pass r t ∷ ps) (done_passes r (shorter is_reverse t)
-            (over is_reverse (omega (arith, fits, l)) some)))
+        (over is_reverse (omega (arith, fits, l)) some)))
 
     scan_anew_by : (is_reverse : Bool) → r.automaton.reverse ≡ is_reverse → (is_reverse ≡ true → 0 < t.end) → (t.start < t.end) ⊎
         (t.end ≤ t.start) →

@@ -86,12 +86,12 @@ gave_up_there is_reverse q i from k w there is = by (cases_at i (last_place is_r
         let far = is ∙ came_last is_reverse q i e in
         ap (λ (b : Bool). if b then i else index_at is_reverse i) (eq-eqb i (last_place is_reverse q) e)
         ∙ (there ∙ sym (ap (λ (b : Bool). if b then index_at is_reverse (place_of is_reverse from k)
-            else place_of is_reverse from k) (le-ltb k (span_len q) (omega (arith, far)))))
+        else place_of is_reverse from k) (le-ltb k (span_len q) (omega (arith, far)))))
     by (inr n) =
         let less = came_less is_reverse q i w n in
         ap (λ (b : Bool). if b then i else index_at is_reverse i) (ne_eqb i (last_place is_reverse q) n)
         ∙ (ap (index_at is_reverse) there ∙ sym (ap (λ (b : Bool). if b then index_at is_reverse (place_of is_reverse from k)
-            else place_of is_reverse from k) (lt-ltb k (span_len q) (omega (arith, is, less)))))
+        else place_of is_reverse from k) (lt-ltb k (span_len q) (omega (arith, is, less)))))
 
 -- a search that began goes on
 pub began_runs : (p : Option Progress) (x : ℕ) → began p ≡ Some x → IsSome p
@@ -109,9 +109,9 @@ pub under_first : (is_reverse : Bool) (q : Search) (v : CacheValue) (at : ℕ) �
     IsUnder is_reverse q (first_place is_reverse q.start q.end) v v (came is_reverse q at)
 under_first is_reverse q v at begins t =
     going_later is_reverse (span_len q) (first_place is_reverse q.start q.end) v.searched 0 (came is_reverse q at) (v.clears ≡ v.clears)
-        (HasCleared v v) (told_of v) (omega arith)
+    (HasCleared v v) (told_of v) (omega arith)
     (going_first q is_reverse (first_place is_reverse q.start q.end) (v.clears ≡ v.clears) (HasCleared v v) (told_of v) refl t
-        (begun_so q is_reverse (first_place is_reverse q.start q.end) v refl begins t))
+    (begun_so q is_reverse (first_place is_reverse q.start q.end) v refl begins t))
 
 -- ---- stands
 
@@ -120,10 +120,10 @@ pub stand_first : (d : Dfa) (q : Search) (is_reverse : Bool) (v : CacheValue) (m
     GoesBetween d q.earliest q.haystack (point v m n (first_place is_reverse q.start q.end) id None) (point v m n i j b)
     (left_at is_reverse q (first_place is_reverse q.start q.end) - left_at is_reverse q i) → IsWithinSpan q i →
     GoesBetween d q.earliest q.haystack (point v m n (first_place is_reverse q.start q.end) id None) (point v m n i j b)
-        (came is_reverse q i)
+    (came is_reverse q i)
 stand_first d q is_reverse v m n id i j b g w =
     subst (GoesBetween d q.earliest q.haystack (point v m n (first_place is_reverse q.start q.end) id None) (point v m n i j b))
-        (came_first is_reverse q i w) g
+    (came_first is_reverse q i w) g
 
 module _ (d : Dfa) (q : Search) (is_reverse : Bool) (is : is_reverse ≡ d.nfa.automaton.reverse) (made : IsDfa d)
     (bytes : AreBytes q.haystack) (from p : Point) (own : IsCacheOf d from.cache)
@@ -145,7 +145,7 @@ module _ (d : Dfa) (q : Search) (is_reverse : Bool) (is : is_reverse ≡ d.nfa.a
         (since × (told_of v ≡ turned_told is_reverse finishes ends true q p.at (told_of p.cache)))
     turn_as finishes ends t = ⊎_elim
         (λ (e : (told_of v ≡ turned_told d.nfa.automaton.reverse finishes ends false q p.at (told_of p.cache)) ×
-             (v.clears ≡ p.cache.clears)).
+        (v.clears ≡ p.cache.clears)).
         inl (e.0 ∙ ap (λ (b : Bool). turned_told b finishes ends false q p.at (told_of p.cache)) (sym is), e.1))
         (λ (c : HasCleared p.cache v × (told_of v ≡ turned_told d.nfa.automaton.reverse finishes ends true q p.at (told_of p.cache))).
         inr (clears_now c.0, c.1 ∙ ap (λ (b : Bool). turned_told b finishes ends true q p.at (told_of p.cache)) (sym is)))
@@ -166,22 +166,22 @@ module _ (d : Dfa) (q : Search) (is_reverse : Bool) (is : is_reverse ≡ d.nfa.a
     to_next = subst (λ (x : ℕ). GoesBetween d q.earliest q.haystack from (point v m n x next.id (pair_of next.best))
         (came is_reverse q p.at + 1)) (sym t.1)
         (between_on d q.earliest q.haystack made bytes from p (point v m n (place_of d.nfa.automaton.reverse p.at 1) next.id
-            (pair_of next.best)) (came is_reverse q p.at) 1 own mine row here
+        (pair_of next.best)) (came is_reverse q p.at) 1 own mine row here
         between (t.0, one_stop))
 
     -- the search goes on
     pub under_on : (first : ℕ) → first ≡ first_place is_reverse q.start q.end → from.at ≡ first → (at : ℕ) → IsWithinSpan q at →
         left_at is_reverse q at ≤ left_at is_reverse q next.at →
         IsUnder is_reverse q first from.cache p.cache (came is_reverse q p.at) →
-            IsUnder is_reverse q first from.cache v (came is_reverse q at)
+        IsUnder is_reverse q first from.cache v (came is_reverse q at)
     under_on first start same at w closer under tell =
         going_later is_reverse (span_len q) first from.cache.searched (suc (came is_reverse q p.at)) (came is_reverse q at)
-            (v.clears ≡ from.cache.clears) (since v) (told_of v) far
+        (v.clears ≡ from.cache.clears) (since v) (told_of v) far
         (going_on q is_reverse p.at (came is_reverse q p.at) first (p.cache.clears ≡ from.cache.clears) (v.clears ≡ p.cache.clears)
-            (v.clears ≡ from.cache.clears) (since v) (λ a b. b ∙ a) (told_of from.cache) (told_of p.cache)
-            (told_of v) within place_so start refl
+        (v.clears ≡ from.cache.clears) (since v) (λ a b. b ∙ a) (told_of from.cache) (told_of p.cache)
+        (told_of v) within place_so start refl
         (λ e. going_by is_reverse (span_len q) first from.cache.searched (came is_reverse q p.at) (p.cache.clears ≡ from.cache.clears)
-            (HasCleared from.cache p.cache) (since v) (told_of p.cache) clears_on (under e)) tell goes_further (turn_as v false false t.5))
+        (HasCleared from.cache p.cache) (since v) (told_of p.cache) clears_on (under e)) tell goes_further (turn_as v false false t.5))
       where
         far : suc (came is_reverse q p.at) ≤ came is_reverse q at
         far = let e = came_on is_reverse q p.at next.at at within goes_further next_there w closer in omega (arith, e)
@@ -193,19 +193,19 @@ module _ (d : Dfa) (q : Search) (is_reverse : Bool) (is : is_reverse ≡ d.nfa.a
         clears_on : HasCleared from.cache p.cache → since v
         clears_on c = ⊎_elim
             (λ (f : Follows d q.haystack p (point v m n (place_of d.nfa.automaton.reverse p.at 1) next.id (pair_of next.best)) 1).
-                cleared_grows d from.cache p.cache v c (inl f.grows))
+            cleared_grows d from.cache p.cache v c (inl f.grows))
             (λ (x : HasCleared p.cache v). cleared_grows d from.cache p.cache v c (inr x))
             t.0.kept
 
     pub stand_on : (i j : ℕ) (b : Option (ℕ × ℕ)) → IsWithinSpan q i → left_at is_reverse q i ≤ left_at is_reverse q next.at →
         GoesBetween d q.earliest q.haystack (point v m n next.at next.id (pair_of next.best)) (point v m n i j b)
-            (left_at is_reverse q next.at - left_at is_reverse q i) →
+        (left_at is_reverse q next.at - left_at is_reverse q i) →
         GoesBetween d q.earliest q.haystack from (point v m n i j b) (came is_reverse q i)
     stand_on i j b w closer g =
         subst (GoesBetween d q.earliest q.haystack from (point v m n i j b))
-            (came_on is_reverse q p.at next.at i within goes_further next_there w closer)
+        (came_on is_reverse q p.at next.at i within goes_further next_there w closer)
         (between_on d q.earliest q.haystack made bytes from (point v m n next.at next.id (pair_of next.best)) (point v m n i j b)
-            (came is_reverse q p.at + 1)
+        (came is_reverse q p.at + 1)
         (left_at is_reverse q next.at - left_at is_reverse q i) own his row t.3 to_next g)
 
   -- ---- ends
@@ -253,10 +253,10 @@ module _ (d : Dfa) (q : Search) (is_reverse : Bool) (is : is_reverse ≡ d.nfa.a
         subst (λ (b : Bool). (LeftAt b (is_quit_error e) (span_len q) from.at k (told_of from.cache) (told_of v) ×
             (v.clears ≡ from.cache.clears)) ⊎ (clr × RestFails b (is_quit_error e) q from.at k (told_of v))) is
             (refused_so q is_reverse p.at k from.at (p.cache.clears ≡ from.cache.clears) (v.clears ≡ p.cache.clears)
-                (v.clears ≡ from.cache.clears) clr (λ a b. b ∙ a) (told_of from.cache) (told_of p.cache)
-                (told_of v) within place_so start refl
+            (v.clears ≡ from.cache.clears) clr (λ a b. b ∙ a) (told_of from.cache) (told_of p.cache)
+            (told_of v) within place_so start refl
             (under_here (λ c. cleared_grows d from.cache p.cache v c leaves.kept)) (begun_so q is_reverse from.at from.cache start begins)
-                (is_quit_error e) untold
+            (is_quit_error e) untold
             (turn_as v (is_quit_error e) false turn)),
       )
 
@@ -284,9 +284,9 @@ module _ (d : Dfa) (q : Search) (is_reverse : Bool) (is : is_reverse ≡ d.nfa.a
       end_keeps b x c = ⊎_elim
           (λ (f : Follows d q.haystack (record p { cache = x.before }) (point x.behind m n (place_of back p.at 1) x.id b) 1).
           subst (λ (y : ℕ). min (from.cache.clears + 1) greatest ≤ y) (sym (ap (λ (w : CacheValue). w.clears) x.ended
-              ∙ (f.grows.clears ∙ ap (λ (w : CacheValue). w.clears) x.begun))) c)
+          ∙ (f.grows.clears ∙ ap (λ (w : CacheValue). w.clears) x.begun))) c)
           (λ (y : HasCleared x.before x.behind). cleared_grows d from.cache p.cache v c
-              (inr (cleared_between p.cache x.before x.behind v x.begun x.ended y)))
+          (inr (cleared_between p.cache x.before x.behind v x.begun x.ended y)))
           x.goes.kept
 
       pub ends_found : (b : Option HalfFound) → TurnsInto d q p v m n (record { at = p.at; id = p.id; best = b }) true →
@@ -298,10 +298,10 @@ module _ (d : Dfa) (q : Search) (is_reverse : Bool) (is : is_reverse ≡ d.nfa.a
           (subst (λ (y : Bool). BeganFirst y q from.cache) is begun)
           (λ e. same (ap (λ (y : Bool). tells y q) is ∙ e))
           (subst (λ (b : Bool). ((told_of v ≡ told_behind b (span_len q) (told_of from.cache) (suc k)) × (v.clears ≡ from.cache.clears)) ⊎
-              (clr × RestAnew b q (suc k) (told_of v))) is
+          (clr × RestAnew b q (suc k) (told_of v))) is
           (ends_told q is_reverse p.at k from.at (p.cache.clears ≡ from.cache.clears) (v.clears ≡ p.cache.clears)
-              (v.clears ≡ from.cache.clears) clr (λ a b. b ∙ a) (told_of from.cache) (told_of p.cache)
-              (told_of v) within place_so start refl
+          (v.clears ≡ from.cache.clears) clr (λ a b. b ∙ a) (told_of from.cache) (told_of p.cache)
+          (told_of v) within place_so start refl
           (under_here (end_keeps (pair_of b) x)) untold (turn_as v true true x.tells)))
 
 -- the next stand is in the span, and closer to its end

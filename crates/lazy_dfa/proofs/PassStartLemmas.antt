@@ -32,8 +32,10 @@ use Rattle.lazy_dfa.specs.Steps.{Grew, WasCleared, most_inserts}
 
 -- what one who reads forward or in reverse, through the span tells of the start
 abbrev pub start_read : Bool → Search → StartValue
-start_read is_reverse q = record { look_behind = unit_behind is_reverse q.haystack (first_place is_reverse q.start q.end);
-    anchored = q.anchored }
+start_read is_reverse q = record {
+  look_behind = unit_behind is_reverse q.haystack (first_place is_reverse q.start q.end);
+  anchored = q.anchored;
+}
 
 -- what the start of a search answers, and leaves
 pub record ToldStart (d : Dfa) (c : StartValue) (quit_place place : ℕ) (old new : CacheValue) (m1 m2 n1 n2 : ℕ)
@@ -90,7 +92,7 @@ quit_told false b mode fine index place rest e f = mode_told fine mode index pla
 pub pass_told : (d : Dfa) (behind : Option ℕ) (mode : Anchored) (index place : ℕ) (rest : HalfAnswer) (e : StartError) →
     behind_refusal d behind (mode_refusal d mode) ≡ Some e →
     failed (error_at index place e) ≡ told (unless_quit d.quits behind index
-        (if_supported (is_supported (starts_each_of d.options) mode) mode rest))
+    (if_supported (is_supported (starts_each_of d.options) mode) mode rest))
 pass_told d None mode index place rest e f = mode_told (is_supported (starts_each_of d.options) mode) mode index place rest e f
 pass_told d (Some b) mode index place rest e f = quit_told (is_quit d.quits (Some b)) b mode
     (is_supported (starts_each_of d.options) mode) index place rest e f
@@ -164,10 +166,10 @@ module _ (d : Dfa) (q : Search) (old new : CacheValue) where
       AnswersStart d old new told_of_it quits_at begins (Err k) → failed k ≡ told whole
   pass_refused k x e a =
       let is : refused k ≡ Err (error_at quits_at begins x) = subst (λ (o : Option StartError). MatchOption o ⊤
-          (λ y. refused k ≡ Err (error_at quits_at begins y))) e a.refused in
+      (λ y. refused k ≡ Err (error_at quits_at begins y))) e a.refused in
       ap failed (one_refused k (error_at quits_at begins x) is)
       ∙ pass_told d told_of_it.look_behind q.anchored quits_at begins (pass_from (reader d) q.earliest q.haystack
-          (suc (span_len q)) begins first None) x e
+      (suc (span_len q)) begins first None) x e
 
   refusal_told : (k : MatchErrorKind) (o : Option StartError) → start_refusal d told_of_it ≡ o →
       AnswersStart d old new told_of_it quits_at begins (Err k) →
@@ -186,7 +188,7 @@ module _ (d : Dfa) (q : Search) (old new : CacheValue) where
   -- a start of which nothing is to be made is told, but for the refusal of the pass
   known_refused : (r : Result ℕ MatchErrorKind) → AnswersStart d old new told_of_it quits_at begins r →
       ((p : ℕ) → start_refusal d told_of_it ≡ None → start_in d (mode_of q.anchored) ≡ Some p → start_noted d old told_of_it ≢ unknown_id →
-          r ≡ Ok (start_noted d old told_of_it)) →
+      r ≡ Ok (start_noted d old told_of_it)) →
       (start_refusal d told_of_it ≡ None → start_in d (mode_of q.anchored) ≡ None → r ≡ Ok (dead_id new.stride)) →
       IsStartKnown d old told_of_it → IfErr r (λ e. failed e ≡ told whole)
   known_refused (Ok id) a known none x = tt
@@ -226,8 +228,8 @@ module _ (d : Dfa) (q : Search) (old new : CacheValue) where
 
     pub starts_pass : (is_reverse : Bool) → is_reverse ≡ d.nfa.automaton.reverse →
         ToldStart d (start_read is_reverse q) (index_behind is_reverse (first_place is_reverse q.start q.end))
-            (first_place is_reverse q.start q.end) old new m1 m2 n1 n2 r →
+        (first_place is_reverse q.start q.end) old new m1 m2 n1 n2 r →
         StartsPass d q old new m1 m2 n1 n2 r
     starts_pass is_reverse e t = starts_so
         (subst (λ (b : Bool). ToldStart d (start_read b q) (index_behind b (first_place b q.start q.end))
-            (first_place b q.start q.end) old new m1 m2 n1 n2 r) e t)
+        (first_place b q.start q.end) old new m1 m2 n1 n2 r) e t)

@@ -63,8 +63,13 @@ module _ (d : Dfa) (h : List ℕ) where
     names = λ s named. named;
     read = λ s named k lt. absurd (omega (arith, lt));
     best = λ s named. refl;
-    kept = inl (record { grows = grows_refl d p.cache; leads = refl; linked = linked_none d p.cache h p.at p.id n; searched = refl;
-        began = refl });
+    kept = inl (record {
+      grows = grows_refl d p.cache;
+      leads = refl;
+      linked = linked_none d p.cache h p.at p.id n;
+      searched = refl;
+      began = refl;
+    });
     free = λ l. record { moved = moved_refl p.cache; leads = refl; determinized = refl; inserted = refl };
     running = λ r. r;
     determinized = omega arith;
@@ -90,8 +95,12 @@ module _ (d : Dfa) (h : List ℕ) where
         }))
         (λ (x : HasCleared a.cache v). inr (subst (λ (n : ℕ). min (a.cache.clears + 1) greatest ≤ n) (sym (grows_moved d v w e).clears) x))
         g.kept;
-    free = λ l. let f = g.free l in record { moved = moved_trans a.cache v w f.moved e; leads = f.leads; determinized = f.determinized;
-        inserted = f.inserted };
+    free = λ l. let f = g.free l in record {
+      moved = moved_trans a.cache v w f.moved e;
+      leads = f.leads;
+      determinized = f.determinized;
+      inserted = f.inserted;
+    };
     running = λ r. runs (g.running r);
     determinized = g.determinized;
     inserted = g.inserted;
@@ -160,7 +169,7 @@ module _ (d : Dfa) (h : List ℕ) (made : IsDfa d) (bytes : AreBytes h) (a b c :
   free_on linked =
       let x = f.free (linked_less d a.cache h a.at a.id (k + l) k linked (omega arith)) in
       let y = g.free (linked_moved d a.cache b.cache x.moved h b.at b.id l
-          (linked_from d a.cache h a.at a.id b.at b.id k f.place x.leads l linked)) in
+      (linked_from d a.cache h a.at a.id b.at b.id k f.place x.leads l linked)) in
       record {
         moved = moved_trans a.cache b.cache c.cache x.moved y.moved;
         leads = id_on d a.cache h a.at a.id b.at b.id k f.place x.leads l
@@ -215,7 +224,7 @@ module _ (d : Dfa) (h : List ℕ) (old : CacheValue) (at id : ℕ) (u : Option �
 
   module _ (new : CacheValue) (to m1 m2 n1 n2 : ℕ) (best1 best2 : Option (ℕ × ℕ)) (mine : IsCacheOf d new) (kept : KeepsOrClears d old new)
       (step : StepsTo d old new id u to) (there : IsNoted d old new id u to) (same : IsKnown d old id u →
-          new ≡ old) (free : IsKnown d old id u → (m2 ≡ m1) × (n2 ≡ n1))
+      new ≡ old) (free : IsKnown d old id u → (m2 ≡ m1) × (n2 ≡ n1))
       (determinized : m2 ≤ m1 + 1) (inserted : n2 ≤ n1 + most_inserts d)
       (best : (s : StateValue) → HeldAt old id s → best2 ≡ recorded at (after d s u) best1) where
     abbrev here : Point
@@ -284,7 +293,7 @@ pub untagged_match : (v : CacheValue) (id : ℕ) (s : StateValue) → IsShaped v
 untagged_match v id s i low g =
     let t = i.tags g.0 g.1 in
     ap (λ (x : StateValue). is_match x.matches) g.3 ∙ no_match t.0 (is_match (state_at v g.0).matches) ((g.0 + 3) * v.stride)
-        (subst (λ (n : ℕ). n < tag) (g.2 ∙ t.1) low)
+    (subst (λ (n : ℕ). n < tag) (g.2 ∙ t.1) low)
 
 module _ (d : Dfa) (v : CacheValue) (id next : ℕ) (u : Option ℕ) (own : IsCacheOf d v) (unit : IsUnit u) (row : IsRow v id)
     (read : next ≡ noted d v id u) (plain : next < tag) where
@@ -294,12 +303,12 @@ module _ (d : Dfa) (v : CacheValue) (id next : ℕ) (u : Option ℕ) (own : IsCa
   next_leads : (s : StateValue) → HeldAt v id s → Leads d v s u next
   next_leads s g = subst (λ (n : ℕ). Leads d v s u n) (sym read)
       (subst (λ (t : StateValue). Leads d v t u (noted d v id u)) (one_state v id row.0 s own.shape row.1 row.2 g)
-          (row_leads d v id u own unit row noted_known))
+      (row_leads d v id u own unit row noted_known))
 
   pub next_quiet : is_quit d.quits u ≡ false
   next_quiet = ⊎_elim
       (λ (e : is_quit d.quits u ≡ true). let q = (next_leads (state_at v row.0) (row.0, row.1, row.2, refl)).quits e in
-          absurd (omega (arith, q, plain)))
+      absurd (omega (arith, q, plain)))
       (λ (e : is_quit d.quits u ≡ false). e)
       (cases_Bool (is_quit d.quits u))
 
@@ -325,7 +334,7 @@ module _ (d : Dfa) (v : CacheValue) (h : List ℕ) (made : IsDfa d) (own : IsCac
       subst (λ (j : ℕ). GoesTo d h (point v m n from first best) (point v m n at2 next best) j) count
       (subst (λ (p : ℕ). GoesTo d h (point v m n from first best) (point v m n p next best) (k + 1)) place
       (goes_on d h made bytes (point v m n from first best) (point v m n at id best)
-          (point v m n (place_of d.nfa.automaton.reverse at 1) next best) k 1 own own row so_far
+      (point v m n (place_of d.nfa.automaton.reverse at 1) next best) k 1 own own row so_far
       (goes_known d v id next u own unit here read plain h at m n best is)))
 
 pub runs_none : (d : Dfa) (v : CacheValue) (h : List ℕ) (at id k : ℕ) → IsCacheOf d v → IsRow v id → k ≡ 0 →
@@ -333,7 +342,7 @@ pub runs_none : (d : Dfa) (v : CacheValue) (h : List ℕ) (at id k : ℕ) → Is
     GoesTo d h (point v m n at id best) (point v m n at id best) k
 runs_none d v h at id k own row e m n best =
     subst (λ (j : ℕ). GoesTo d h (point v m n at id best) (point v m n at id best) j) (sym e)
-        (goes_none d h (point v m n at id best) (row_known v id own.shape row))
+    (goes_none d h (point v m n at id best) (row_known v id own.shape row))
 
 -- the unit at a place inside the haystack
 pub forward_unit : (d : Dfa) (h : List ℕ) (at : ℕ) → d.nfa.automaton.reverse ≡ false → at < length h →

@@ -45,8 +45,12 @@ start_below set (suc b) e = ⊎_elim
           (λ (up : c ≤ b). r.3 c l up)
           (cases_lt b c),
     ))
-    (λ (f : has set b ≡ false). (suc b, omega arith, starts_next set b (suc b) refl e f,
-        λ c l k. let is : c ≡ suc b = omega (arith, l, k) in ap (has set) is ∙ e))
+    (λ (f : has set b ≡ false). (
+      suc b,
+      omega arith,
+      starts_next set b (suc b) refl e f,
+      λ c l k. let is : c ≡ suc b = omega (arith, l, k) in ap (has set) is ∙ e,
+    ))
     (cases_Bool (has set b))
 
 reaches : (xs : List Bool) (n : ℕ) → ((k : ℕ) → k < n → get_or xs k false ≡ true) → n ≤ prefix_len (λ m. m) xs
@@ -54,7 +58,7 @@ reaches xs zero h = omega arith
 reaches [] (suc n) h = let never : false ≡ true = h 0 (omega arith) in absurd (grind (arith, never))
 reaches (x ∷ xs) (suc n) h =
     let e : prefix_len (λ m. m) (x ∷ xs) ≡ 1 + prefix_len (λ m. m) xs =
-        ap (λ (t : Bool). cond t (1 + prefix_len (λ m. m) xs) 0) (h 0 (omega arith)) in
+    ap (λ (t : Bool). cond t (1 + prefix_len (λ m. m) xs) 0) (h 0 (omega arith)) in
     let later : n ≤ prefix_len (λ m. m) xs = reaches xs n (λ k l. h (suc k) (omega (arith, l))) in
     omega (arith, e, later)
 
@@ -90,7 +94,7 @@ each_kept : (P : ℕ × ℕ → Type 0) (f : ℕ → ℕ × ℕ) (test : ℕ →
 each_kept P f test from zero all s low high e = absurd (omega (arith, low, high))
 each_kept P f test from (suc n) all s low high e = ⊎_elim
     (λ (past : from < s). each_kept P f test (from + 1) n (kept_later P f from (filter test (range_with_len (from + 1) n)) (test from) all)
-        s (omega (arith, past)) (omega (arith, high)) e)
+    s (omega (arith, past)) (omega (arith, high)) e)
     (λ (up : s ≤ from).
     let is : from ≡ s = omega (arith, up, low) in
     subst (λ (x : ℕ). P (f x)) is (kept_here P f from (filter test (range_with_len (from + 1) n)) (test from) (ap test is ∙ e) all))
@@ -141,10 +145,10 @@ all_behind P (r ∷ rs) qs all = all_behind P rs qs (All-tail P r (rs ++ qs) all
 -- where marks of other ranges are there already
 pub same_class_same_set : (set m : List Bool) (rs : List (ℕ × ℕ)) (b c : ℕ) → IsUnmarked m → length m ≡ 256 → b ≤ c → c < 256 →
     marks_below (recorded (recorded m rs) (ranges_from set 0)) b ≡ marks_below (recorded (recorded m rs) (ranges_from set 0)) c →
-        has set b ≡ has set c
+    has set b ≡ has set c
 same_class_same_set set m rs b c none len up small e =
     let twice : recorded m (rs ++ ranges_from set 0) ≡ recorded (recorded m rs) (ranges_from set 0) =
-        recorded_twice m rs (ranges_from set 0) in
+    recorded_twice m rs (ranges_from set 0) in
     both_or_none set b c up small
     (all_behind (HoldsAllOrNone b c) rs (ranges_from set 0)
     (same_class_tells m (rs ++ ranges_from set 0) b c none up (omega (arith, len, small))

@@ -18,7 +18,7 @@ by_elements f a (suc n) (x ∷ xs) e g =
     let head : x ≡ f a = g 0 (omega arith) ∙ ap f here in
     let rest : xs ≡ map f (range_with_len (a + 1) n) =
     by_elements f (a + 1) n xs (omega (arith, e)) (λ k l. let there : a + suc k ≡ a + 1 + k = omega arith in
-        g (suc k) (omega (arith, l)) ∙ ap f there) in
+    g (suc k) (omega (arith, l)) ∙ ap f there) in
     ap (λ (y : Bool). y ∷ xs) head ∙ ap (λ (ys : List Bool). f a ∷ ys) rest
 
 -- whether the byte is to be in the set
@@ -55,7 +55,7 @@ settled_in xs made n small want i = record {
   len = length-set made n true ∙ i.len;
   done = λ k l. ⊎_elim
       (λ (e : k ≡ n). ap (λ (m : ℕ). get_or (set made n true) m false) e
-          ∙ (get_or-set_same made n true false (rw i.len small) ∙ (sym want ∙ ap (is_wanted xs) (sym e))))
+      ∙ (get_or-set_same made n true false (rw i.len small) ∙ (sym want ∙ ap (is_wanted xs) (sym e))))
       (λ (ne : k ≢ n). get_or-set_other made n k true false ne ∙ i.done k (omega (arith, l, ne)))
       (cases_eq k n);
   rest = λ k l m. get_or-set_other made n k true false (λ e. omega (arith, e, l)) ∙ i.rest k (omega (arith, l)) m;

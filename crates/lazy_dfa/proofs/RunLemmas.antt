@@ -53,7 +53,7 @@ module _ (d : Dfa) (earliest : Bool) (h : List ℕ) (made : IsDfa d) (bytes : Ar
       let same : k + suc (m - k) ≡ suc m = omega (arith, e) in
       let is = sym (ap (state_behind (reader d) h a.at s) same) ∙ sym (state_there (reader d) h a.at b.at k f.0.place s (suc (m - k))) in
       stop_of (state_behind (reader d) h a.at s (suc m)) (state_behind (reader d) h b.at (state_behind (reader d) h a.at s k) (suc (m - k)))
-          is
+      is
       (g.1 (state_behind (reader d) h a.at s k) there (m - k) (omega (arith, e, lt))))
       (cases_lt m k)
     where
@@ -164,7 +164,7 @@ tells_some true q e = ⊎_elim
 module _ (d : Dfa) (q : Search) (made : IsDfa d) (bytes : AreBytes q.haystack) (s : StateValue) (from p : Point) (k : ℕ)
     (own : IsCacheOf d from.cache) (mine : IsCacheOf d p.cache)
     (held : HeldAt from.cache from.id s) (here : IsRow p.cache p.id) (none : from.best ≡ None)
-        (between : GoesBetween d q.earliest q.haystack from p k) (inside : k ≤ span_len q) where
+    (between : GoesBetween d q.earliest q.haystack from p k) (inside : k ≤ span_len q) where
   abbrev h : List ℕ
   h = q.haystack
 
@@ -226,9 +226,11 @@ module _ (d : Dfa) (q : Search) (made : IsDfa d) (bytes : AreBytes q.haystack) (
     free_here : IsLinkedOver d from.cache h from.at from.id units → IsFree d h from p k × IsLinkedOver d p.cache h p.at p.id 1
     free_here linked =
         let more = linked_less d from.cache h from.at from.id units (k + 1) linked (let l = reads_this in omega (arith, l)) in
-        let f = goes.free (linked_less d from.cache h from.at from.id (k + 1) k more (omega arith)) in
-        (f, linked_moved d from.cache p.cache f.moved h p.at p.id 1 (linked_from d from.cache h from.at from.id p.at p.id k goes.place
-            f.leads 1 more))
+        let f = goes.free (linked_less d from.cache h from.at from.id (k + 1) k more (omega arith)) in (
+          f,
+          linked_moved d from.cache p.cache f.moved h p.at p.id 1 (linked_from d from.cache h from.at from.id p.at p.id k goes.place
+              f.leads 1 more),
+        )
 
     few : m ≤ from.determinized + units
     few = let l = reads_this in let a = goes.determinized in let b = x.determinized in omega (arith, l, a, b)
@@ -383,7 +385,7 @@ module _ (d : Dfa) (q : Search) (made : IsDfa d) (bytes : AreBytes q.haystack) (
             (suc k)
         told_from = ⊎_elim
             (λ (t : tells is_reverse q ≡ true). told_by_searched is_reverse (span_len q) (suc k) p.cache from.cache f.searched
-                (tells_some is_reverse q t))
+            (tells_some is_reverse q t))
             (λ (t : tells is_reverse q ≡ false). ap (λ (v : CacheValue). told_behind is_reverse (span_len q) (told_of v) (suc k)) (same t))
             (cases_Bool (tells is_reverse q))
 
@@ -396,7 +398,7 @@ module _ (d : Dfa) (q : Search) (made : IsDfa d) (bytes : AreBytes q.haystack) (
 
     follows_new : Follows d h from p k → Follows d h from to (k + 1) → ToldBehind from.cache →
         Grows d from.cache new × IsLinkedOver d new h from.at from.id units ×
-            (told_of new ≡ told_behind is_reverse (span_len q) (told_of from.cache) units)
+        (told_of new ≡ told_behind is_reverse (span_len q) (told_of from.cache) units)
     follows_new f g t = (
       grows_trans d from.cache behind new made own g.grows (grows_moved d behind new moved),
       subst (IsLinkedOver d new h from.at from.id) (sym units_are) (linked_moved d behind new moved h from.at from.id (k + 1) g.linked),
@@ -405,7 +407,7 @@ module _ (d : Dfa) (q : Search) (made : IsDfa d) (bytes : AreBytes q.haystack) (
 
     followed : Follows d h from p k ⊎ HasCleared from.cache p.cache → Follows d h from to (k + 1) ⊎ HasCleared from.cache behind →
         (Grows d from.cache new × IsLinkedOver d new h from.at from.id units ×
-            (told_of new ≡ told_behind is_reverse (span_len q) (told_of from.cache) units)) ⊎
+        (told_of new ≡ told_behind is_reverse (span_len q) (told_of from.cache) units)) ⊎
         HasCleared from.cache new
     followed f (inr y) = inr (cleared_behind y)
     followed (inr z) g = inr (cleared_behind (cleared_on z one.kept))

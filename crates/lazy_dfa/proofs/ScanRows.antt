@@ -352,14 +352,18 @@ abbrev nothing_told : Told
 nothing_told = record { searched = 0; progress = None }
 
 -- it comes over two bytes, and once more over two
-bytes_of_a_search : told_by (reads (forward letter) no_quits) (over (97 ∷ 98 ∷ []) 0 2) nothing_told ((2, 0) ∷ []) ≡ record { searched = 2;
-    progress = None }
+bytes_of_a_search : told_by (reads (forward letter) no_quits) (over (97 ∷ 98 ∷ []) 0 2) nothing_told ((2, 0) ∷ []) ≡ record {
+  searched = 2;
+  progress = None;
+}
 unfolding families_of known_lines known_words next_value start_or_dead pass_from
 bytes_of_a_search = refl
 
 -- a search that still went on over three bytes ends with it
-bytes_of_two_searches : told_by (reads (forward letter) no_quits) (over (97 ∷ 98 ∷ []) 0 2) (record { searched = 2;
-    progress = Some (record { start = 7; at = 4 }) }) ((2, 0) ∷ [])
+bytes_of_two_searches : told_by (reads (forward letter) no_quits) (over (97 ∷ 98 ∷ []) 0 2) (record {
+  searched = 2;
+  progress = Some (record { start = 7; at = 4 });
+}) ((2, 0) ∷ [])
     ≡ record { searched = 7; progress = None }
 unfolding families_of known_lines known_words next_value start_or_dead pass_from
 bytes_of_two_searches = refl

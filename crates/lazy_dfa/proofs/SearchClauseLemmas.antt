@@ -89,7 +89,7 @@ module _ (d : Dfa) (v : CacheValue) (none : clears_of d.options ≡ None) where
   pub has_room : (s : StateValue) → lacks_room d v s ≡ true → ⊥
   has_room s lacks = true≢false (sym lacks
       ∙ no_room_lacks (clears_of d.options) (is_dead s) (is_none (place_of s v.states)) (not (fits d.capacity s v))
-          (bytes_of d.options) v none)
+      (bytes_of d.options) v none)
 
   pub never_here : (mode : Anchored) (earliest : Bool) (h : List ℕ) (n i x : ℕ) → GivesUpIn d v mode earliest h n i x → ⊥
   never_here mode earliest h n i x (at_start place lacks) = has_room (first_value (reader d) mode h i) lacks
@@ -172,12 +172,12 @@ half_of_pair (Some m) = refl
 reaches_where : (P : Option (ℕ × ℕ) → Type 0) (d : Dfa) (q : Search) (new : CacheValue)
     (result : Result (Option HalfFound) MatchErrorKind) →
     ((o : Option (ℕ × ℕ)) → scan (reader d) q ≡ found o → P o) → Answers d new q result →
-        IfOk result (λ f. (o : Option (ℕ × ℕ)) × (f ≡ half_of o) × P o)
+    IfOk result (λ f. (o : Option (ℕ × ℕ)) × (f ≡ half_of o) × P o)
 reaches_where P d q new (Err e) reach answers = tt
 reaches_where P d q new (Ok f) reach answers =
     let is : scan (reader d) q ≡ found (pair_of f) =
     ok_is_found (scan (reader d) q) f (ok_is_told f (told (scan (reader d) q))
-        (λ (x : ℕ). GivesUpAmong d new q x (passes_of (reader d) q)) answers) in
+    (λ (x : ℕ). GivesUpAmong d new q x (passes_of (reader d) q)) answers) in
     (pair_of f, half_of_pair f, reach (pair_of f) is)
 
 module _ (d : Dfa) (q : Search) (new : CacheValue) (result : Result (Option HalfFound) MatchErrorKind) (made : IsDfa d)

@@ -64,12 +64,12 @@ module _ (d : Dfa) (q t : Search) (old now : CacheValue) (m1 m2 n1 n2 : ℕ) (st
   done_ends past =
       finishes d q old now m1 m2 n1 n2 None (ap told (sym (scan_done (reader d) t past) ∙ stands.left.scan)) stands.passes
       (sym (append-nil stands.passes) ∙ sym (ap (λ (os : List (ℕ × ℕ)). stands.passes ++ os) (done_passes (reader d) t past))
-          ∙ stands.left.passes)
+      ∙ stands.left.passes)
       stands.made
 
 module _ (d : Dfa) (q t : Search) (old now next : CacheValue) (m1 m2 m3 n1 n2 n3 : ℕ) (fit : IsDfa d)
     (own_old : IsCacheOf d old) (own_now : IsCacheOf d now) (bytes : AreBytes q.haystack) (stands : HasCome d q t old now m1 m2 n1 n2)
-        (fits : t.start ≤ t.end) where
+    (fits : t.start ≤ t.end) where
   abbrev r : Reader
   r = reader d
 
@@ -130,7 +130,7 @@ module _ (d : Dfa) (q t : Search) (old now next : CacheValue) (m1 m2 m3 n1 n2 n3
         pub lowest_ends : is_anchored t.anchored ≡ false → t.end ≡ 0 → MakesSearch d q old next m1 m3 n1 n3 (Ok None)
         lowest_ends a low =
             split_ends (lowest_once r t fits a (omega (arith, fits, low)))
-                (lowest_scan r t fits a (omega (arith, fits, low)) (splits_by false inside))
+            (lowest_scan r t fits a (omega (arith, fits, low)) (splits_by false inside))
 
         same_but_span : (is_reverse : Bool) → shorter is_reverse t ≡ with_span (shorter is_reverse t).start (shorter is_reverse t).end q
         same_but_span false = ap (with_span (t.start + 1) t.end) stands.left.same
@@ -148,7 +148,7 @@ module _ (d : Dfa) (q t : Search) (old now next : CacheValue) (m1 m2 m3 n1 n2 n3
             passes = append_assoc stands.passes (first_pass r t ∷ []) (passes_of r u)
                 ∙ ap (λ (x : Search). stands.passes ++ first_pass r t ∷ passes_of r x) same
                 ∙ sym (ap (λ (os : List (ℕ × ℕ)). stands.passes ++ os)
-                    (passes_anew r t a fits (splits_by false inside) is_reverse dir some))
+                (passes_anew r t a fits (splits_by false inside) is_reverse dir some))
                 ∙ stands.left.passes;
           };
         }

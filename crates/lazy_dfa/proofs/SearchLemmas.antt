@@ -85,13 +85,16 @@ begins d q t v m n is = record {
     inserted = omega arith;
     anew = inl (refl, refl);
   };
-  left = record { same = is ∙ ap (λ (x : Search). with_span x.start x.end q) (sym is); scan = ap (scan (reader d)) is;
-      passes = ap (passes_of (reader d)) is };
+  left = record {
+    same = is ∙ ap (λ (x : Search). with_span x.start x.end q) (sym is);
+    scan = ap (scan (reader d)) is;
+    passes = ap (passes_of (reader d)) is;
+  };
 }
 
 module _ (d : Dfa) (q : Search) (old now next : CacheValue) (m1 m2 m3 n1 n2 n3 : ℕ) (ps : List (ℕ × ℕ)) (fit : IsDfa d)
     (own_old : IsCacheOf d old) (own_now : IsCacheOf d now) (bytes : AreBytes q.haystack) (made : HasMade d q old now m1 m2 n1 n2 ps)
-        (s e : ℕ) where
+    (s e : ℕ) where
   abbrev r : Reader
   r = reader d
 
@@ -204,7 +207,7 @@ module _ (d : Dfa) (q : Search) (old now next : CacheValue) (m1 m2 m3 n1 n2 n3 :
     told_whole : Err x ≡ told (first_answer r rest) → Err x ≡ told (scan r q)
     told_whole is =
         is ∙ ap told (sym (whole_scan r rest fits (error_is_whole (counts r.between_characters q.haystack) (first_answer r rest) x is))
-            ∙ same)
+        ∙ same)
 
     answered : (Err x ≡ told (first_answer r rest)) ⊎ (error x ≡ error NoMemory) ⊎
         ((i : ℕ) × (error x ≡ error (GaveUp i)) × GivesUpIn d next q.anchored q.earliest q.haystack p.0 p.1 i) → Answers d next q (Err x)

@@ -37,7 +37,7 @@ started d old new c quit_place place id h is = record {
 
 pub not_started : (d : Dfa) (old new : CacheValue) (c : StartValue) (quit_place place : ℕ) (e : StartError) (told : MatchErrorKind) →
     told ≡ error_at quit_place place e → MatchOption (start_refusal d c) ⊤ (λ x. is_error (Err e) x) →
-        (start_refusal d c ≡ None → IsStartCause d old c e) →
+    (start_refusal d c ≡ None → IsStartCause d old c e) →
     AnswersStart d old new c quit_place place (Err told)
 not_started d old new c quit_place place e told is h cause = record {
   refused = is_refused (start_refusal d c) e told (error_at quit_place place) is h;

@@ -15,7 +15,7 @@ module _ (d : Dfa) (v : CacheValue) (h : List ℕ) (made : IsDfa d) (own : IsCac
   module _ (from first at id : ℕ) (row : IsRow v first) (here : IsRow v id) (low : id < tag) (past : from ≤ at) (inside : at < length h)
       (so_far : (m n : ℕ) (best : Option (ℕ × ℕ)) → GoesTo d h (point v m n from first best) (point v m n at id best) (at - from))
       (next c : ℕ) (class : c ≡ class_of d.classes (Some (get_or h at 0))) (read : next ≡ get_or v.cells (id + c) 0)
-          (plain : next < tag) where
+      (plain : next < tag) where
     pub row_on : IsRow v next
     row_on = next_row d v id next (Some (get_or h at 0)) own (bytes at) here
         (plain_noted d v id c (get_or h at 0) next class low read) plain
@@ -25,7 +25,7 @@ module _ (d : Dfa) (v : CacheValue) (h : List ℕ) (made : IsDfa d) (own : IsCac
     way_on m n best = runs_on d v h made own bytes from first at id row here (at - from) m n best (so_far m n best) next (at + 1)
         (at + 1 - from) (Some (get_or h at 0)) (bytes at)
         (plain_noted d v id c (get_or h at 0) next class low read) plain (forward_unit d h at up inside) (forward_place d at up)
-            (omega (arith, past))
+        (omega (arith, past))
 
   -- and behind bytes that leave the state as it is
   module _ (from first at id : ℕ) (row : IsRow v first) (here : IsRow v id) (low : id < tag) (past : from ≤ at)
@@ -39,11 +39,11 @@ module _ (d : Dfa) (v : CacheValue) (h : List ℕ) (made : IsDfa d) (own : IsCac
         let b = get_or h (at + k) 0 in
         let read : id ≡ get_or v.cells (id + class_of d.classes (Some b)) 0 =
         sym (subst (λ (cs : List ℕ). get_or v.cells (id + class_of cs (Some b)) 0 ≡ id) own.classes
-            (stays (at + k) (omega arith) (omega arith))) in
+        (stays (at + k) (omega arith) (omega arith))) in
         subst (λ (j : ℕ). (m n : ℕ) (best : Option (ℕ × ℕ)) → GoesTo d h (point v m n from first best) (point v m n j id best) (j - from))
-            (omega arith)
+        (omega arith)
         (way_on from first (at + k) id row here low (omega (arith, past)) (omega (arith, within)) before id
-            (class_of d.classes (Some b)) refl read low)
+        (class_of d.classes (Some b)) refl read low)
 
     pub way_over : (to : ℕ) → at ≤ to → to ≤ length h → StaysOver v.cells v.classes h id at to →
         (m n : ℕ) (best : Option (ℕ × ℕ)) → GoesTo d h (point v m n from first best) (point v m n to id best) (to - from)
@@ -60,7 +60,7 @@ module _ (d : Dfa) (v : CacheValue) (h : List ℕ) (made : IsDfa d) (own : IsCac
   way_behind from first at id to next row here past further so_far on m n best =
       subst (λ (j : ℕ). GoesTo d h (point v m n from first best) (point v m n to next best) j) (sum (past) further)
       (goes_on d h made bytes (point v m n from first best) (point v m n at id best) (point v m n to next best) (at - from)
-          (to - at) own own row (so_far m n best) (on m n best))
+      (to - at) own own row (so_far m n best) (on m n best))
     where
       sum : from ≤ at → at ≤ to → (at - from) + (to - at) ≡ to - from
       sum l m = omega (arith, l, m)

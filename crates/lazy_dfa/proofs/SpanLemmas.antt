@@ -36,7 +36,7 @@ module _ (r : Reader) (h : List ℕ) (i : ℕ) (s : StateValue) where
   none_there zero e k l = absurd (omega (arith, l))
   none_there (suc n) e k l =
       let both = neither (end_at (place_of r.automaton.reverse i n) (first (state_behind r h i s (suc n)).matches))
-          (best_behind r h i s None n) e in
+      (best_behind r h i s None n) e in
       ⊎_elim
       (λ (less : k < n). none_there n both.1 k less)
       (λ (same : k ≡ n). subst (λ (j : ℕ). is_empty (state_behind r h i s (suc j)).matches ≡ true) (sym same)
@@ -60,17 +60,17 @@ between d v h from at id to k j best e goes earliest m n =
 pub stays_between : (d : Dfa) (v : CacheValue) (q : Search) (is_reverse : Bool) (at id : ℕ) (best : Option (ℕ × ℕ)) → IsCacheOf d v →
     IsRow v id →
     (earliest : Bool) (m n : ℕ) → GoesBetween d earliest q.haystack (point v m n at id best) (point v m n at id best)
-        (left_at is_reverse q at - left_at is_reverse q at)
+    (left_at is_reverse q at - left_at is_reverse q at)
 stays_between d v q is_reverse at id best own row =
     between d v q.haystack at at id id 0 (left_at is_reverse q at - left_at is_reverse q at) best (omega arith)
-        (runs_none d v q.haystack at id 0 own row refl)
+    (runs_none d v q.haystack at id 0 own row refl)
 
 -- the haystack that a run was handed, where it ends for one who reads forward, and the ways there
 pub forward_between : (d : Dfa) (v : CacheValue) (q : Search) (h : List ℕ) (is_reverse : Bool) (from at id to end : ℕ) (best : Option (ℕ ×
     ℕ)) → h ≡ q.haystack → end ≡ q.end → is_reverse ≡ false → from ≤ at → at ≤ end →
     ((m n : ℕ) (best : Option (ℕ × ℕ)) → GoesTo d h (point v m n from id best) (point v m n at to best) (at - from)) →
     (earliest : Bool) (m n : ℕ) → GoesBetween d earliest q.haystack (point v m n from id best) (point v m n at to best)
-        (left_at is_reverse q from - left_at is_reverse q at)
+    (left_at is_reverse q from - left_at is_reverse q at)
 forward_between d v q h true from at id to end best same last up past within goes = absurd cc
 forward_between d v q h false from at id to end best same last up past within goes =
     between d v q.haystack from at id to (at - from) (left_at false q from - left_at false q at) best (omega (arith, past, within, last))
@@ -80,7 +80,7 @@ pub reverse_between : (d : Dfa) (v : CacheValue) (q : Search) (h : List ℕ) (is
     ℕ)) → h ≡ q.haystack → end ≡ q.start → is_reverse ≡ true → at ≤ from → end ≤ at →
     ((m n : ℕ) (best : Option (ℕ × ℕ)) → GoesTo d h (point v m n from id best) (point v m n at to best) (from - at)) →
     (earliest : Bool) (m n : ℕ) → GoesBetween d earliest q.haystack (point v m n from id best) (point v m n at to best)
-        (left_at is_reverse q from - left_at is_reverse q at)
+    (left_at is_reverse q from - left_at is_reverse q at)
 reverse_between d v q h false from at id to end best same last is_reverse past within goes = absurd cc
 reverse_between d v q h true from at id to end best same last is_reverse past within goes =
     between d v q.haystack from at id to (from - at) (left_at true q from - left_at true q at) best (omega (arith, past, within, last))

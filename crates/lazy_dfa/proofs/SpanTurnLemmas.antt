@@ -112,8 +112,12 @@ module _ (d : Dfa) (v w : CacheValue) (e : IsMoved v w) where
           g.kept;
       free = λ l.
           let f = g.free (linked_moved d v w e h at id k l) in
-          record { moved = moved_trans v w to.cache e f.moved; leads = sym (id_moved d v w e h at id k) ∙ f.leads;
-              determinized = f.determinized; inserted = f.inserted };
+          record {
+            moved = moved_trans v w to.cache e f.moved;
+            leads = sym (id_moved d v w e h at id k) ∙ f.leads;
+            determinized = f.determinized;
+            inserted = f.inserted;
+          };
       running = λ r. g.running (runs r);
       determinized = g.determinized;
       inserted = g.inserted;
@@ -251,19 +255,19 @@ byte_end_told true q v v2 at within left searched begins =
     let l = above q.start at within.0 left in
     let far = within.1 in
     told_there v2 v.searched (q.end - 1) (at - 1) (min (suc (q.end - at) - 1) (q.end - q.start - 1)) searched
-        (begins (not_le q.end q.start (omega (arith, l, far)))) (reverse_distance q.start q.end at l far)
+    (begins (not_le q.end q.start (omega (arith, l, far)))) (reverse_distance q.start q.end at l far)
     ∙ told_behind_some true (q.end - q.start) (suc (q.end - at)) (min (suc (q.end - at) - 1) (q.end - q.start - 1)) (told_of v)
-        (omega (arith, l, far)) refl
+    (omega (arith, l, far)) refl
 
 byte_told : (is_reverse : Bool) (q : Search) (v0 v1 v2 v3 : CacheValue) (at index : ℕ) → index ≡ index_at is_reverse at →
     v1 ≡ record v0 { progress = moved_to index v0.progress } →
     v3 ≡ finished index v2 → IsWithinSpan q at → at ≢ last_place is_reverse q → TellsTheSame v1 v2 → BeganFirst is_reverse q v0 →
-        TellsEnd is_reverse q at v0 v3
+    TellsEnd is_reverse q at v0 v3
 byte_told is_reverse q v0 v1 v2 v3 at index here e f within left same begins = ⊎_elim
     (λ (g : IsSame v1 v2). inl (ap told_of f ∙ (ap (λ (x : ℕ). told_of (finished x v2)) here
     ∙ byte_end_told is_reverse q v0 v2 at within left (ap (λ (t : Told). t.searched) g.0 ∙ ap (λ (c : CacheValue). c.searched) e)
     (λ tells. ap (λ (t : Told). began t.progress) g.0 ∙ (ap (λ (c : CacheValue). began c.progress) e
-        ∙ (began_moved index v0.progress ∙ begins tells))))))
+    ∙ (began_moved index v0.progress ∙ begins tells))))))
     (λ (c : IsAnew v1 v2). inr (cleared_between v0 v1 v2 v3 (moved_is v0 v1 index e) (finished_moves v2 v3 index f) c.0))
     same
 
@@ -276,9 +280,9 @@ last_told_same : (is_reverse : Bool) (q : Search) (v0 v1 v2 v3 : CacheValue) (at
 last_told_same false q v0 v1 v2 v3 at e f last begun g begins =
     ap told_of f
     ∙ told_there v2 v0.searched q.start at (suc (at - q.start) - 1) (ap (λ (t : Told). t.searched) g
-        ∙ ap (λ (c : CacheValue). c.searched) e)
+    ∙ ap (λ (c : CacheValue). c.searched) e)
     (ap (λ (t : Told). began t.progress) g ∙ (ap (λ (c : CacheValue). began c.progress) e ∙ begins refl))
-        (forward_distance q.start at (omega (arith, last, begun)))
+    (forward_distance q.start at (omega (arith, last, begun)))
 last_told_same true q v0 v1 v2 v3 at e f last begun g begins = ap told_of f ∙ (g ∙ ⊎_elim
     (λ (l : q.start < q.end).
     let yes_tells = not_le q.end q.start l in
@@ -286,7 +290,7 @@ last_told_same true q v0 v1 v2 v3 at e f last begun g begins = ap told_of f ∙ 
     ∙ (told_there v0 v0.searched (q.end - 1) at (min (suc (q.end - q.start) - 1) (q.end - q.start - 1)) refl (begins yes_tells)
     (ap (distance (q.end - 1)) last ∙ whole_distance q.start q.end l)
     ∙ told_behind_some true (q.end - q.start) (suc (q.end - at)) (min (suc (q.end - q.start) - 1) (q.end - q.start - 1)) (told_of v0)
-        (omega (arith, l))
+    (omega (arith, l))
     (sym (ap (λ (x : ℕ). min (suc (q.end - x) - 1) (q.end - q.start - 1)) last))))
     (λ (l : q.end ≤ q.start).
     ap told_of (e ∙ ap (λ (b : Bool). finished_where b at v0) (is_le q.end q.start l))
@@ -299,7 +303,7 @@ last_told : (is_reverse : Bool) (q : Search) (v0 v1 v2 v3 : CacheValue) (at : �
 last_told is_reverse q v0 v1 v2 v3 at e f last begun same begins = ⊎_elim
     (λ (g : IsSame v1 v2). inl (last_told_same is_reverse q v0 v1 v2 v3 at e f last begun g.0 begins))
     (λ (c : IsAnew v1 v2). inr (cleared_between v0 v1 v2 v3 (finished_where_moves v0 v1 at (is_reverse && tells is_reverse q) e)
-        (finished_where_moves v2 v3 at (not is_reverse) f) c.0))
+    (finished_where_moves v2 v3 at (not is_reverse) f) c.0))
     same
 
 -- ---- the unit at a place
@@ -351,7 +355,7 @@ module _ (d : Dfa) (q : Search) (is_reverse : Bool) (same : is_reverse ≡ d.nfa
       place ≡ gave_up_at d.nfa.automaton.reverse q at
   gave_up_byte place e left = ⊎_elim
       (λ (f : at == last_place d.nfa.automaton.reverse q ≡ true). absurd
-          (left (eqb-true at (last_place d.nfa.automaton.reverse q) f ∙ ap (λ (b : Bool). last_place b q) (sym same))))
+      (left (eqb-true at (last_place d.nfa.automaton.reverse q) f ∙ ap (λ (b : Bool). last_place b q) (sym same))))
       (λ (f : at == last_place d.nfa.automaton.reverse q ≡ false). gave_up false place f (index_there place e))
       (cases_Bool (at == last_place d.nfa.automaton.reverse q))
 
@@ -386,11 +390,11 @@ module _ (d : Dfa) (q : Search) (is_reverse : Bool) (same : is_reverse ≡ d.nfa
   pub turn_refused : (earliest : Bool) (place : ℕ) (e : CacheError) (err : MatchErrorKind) → IsMoved v0 v1 →
       u ≡ unit_at d.nfa.automaton.reverse q.haystack at →
       place ≡ gave_up_at d.nfa.automaton.reverse q at → (at ≢ last_place d.nfa.automaton.reverse q → running_at v1.progress ≡ Some place) →
-          Turned false false v2 →
+      Turned false false v2 →
       err ≡ error_of place e → IsTurn d earliest q.haystack u before v2 m2 n2 (Err e) → TurnsTo d q from v2 m2 n2 (Err err)
   turn_refused earliest place e err moved is there runs tells told turn =
       subst (λ (x : MatchErrorKind). TurnsTo d q from v2 m2 n2 (Err x)) (sym told)
-          (refused_so earliest place e moved is there runs tells turn)
+      (refused_so earliest place e moved is there runs tells turn)
 
   module _ (to : ℕ) (best2 : Option (ℕ × ℕ)) (earliest : Bool) (turn : Turn) (asked : earliest ≡ q.earliest)
       (seen : IsSeen d earliest q.haystack u before v2 m2 n2 to best2 turn) where
@@ -436,9 +440,9 @@ module _ (d : Dfa) (q : Search) (is_reverse : Bool) (same : is_reverse ≡ d.nfa
     pub byte_goes : (index next : ℕ) → v1 ≡ record v0 { progress = moved_to index v0.progress } → next ≡ place_of is_reverse at 1 →
         at ≢ last_place is_reverse q → Turned false false v2 → turn ≡ GoesOn →
         GoesOne d q.haystack from v2 m2 n2 to best2 × (next ≡ place_of d.nfa.automaton.reverse at 1) ×
-            (at ≢ last_place d.nfa.automaton.reverse q) × IsRow v2 to ×
+        (at ≢ last_place d.nfa.automaton.reverse q) × IsRow v2 to ×
         ((s : StateValue) → HeldAt v0 id s → stops_behind (reader d) q.earliest q.haystack at s 0 ≡ false) ×
-            TellsTurn d false false q at v0 v2
+        TellsTurn d false false q at v0 v2
     byte_goes index next moved place left tells e =
         let x = seen_as GoesOn e in
         let m = moved_is v0 v1 index moved in (

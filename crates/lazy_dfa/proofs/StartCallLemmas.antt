@@ -38,18 +38,18 @@ pub slot_inside : (d : Dfa) (v : CacheValue) (mode : Anchored) (s : Start) (q n 
     start_in d n ≡ Some q → slot n s < length v.starts
 slot_inside d v No s q n made own fine e f =
     let few = (numbered_back s).1 in let long = starts_are d v made own in let least =
-        at_least (starts_each_of d.options) (length d.nfa.automaton.start_pattern) in
+    at_least (starts_each_of d.options) (length d.nfa.automaton.start_pattern) in
     omega (arith, few, long, least, e)
 slot_inside d v Yes s q n made own fine e f =
     let few = (numbered_back s).1 in let long = starts_are d v made own in let least =
-        at_least (starts_each_of d.options) (length d.nfa.automaton.start_pattern) in
+    at_least (starts_each_of d.options) (length d.nfa.automaton.start_pattern) in
     omega (arith, few, long, least, e)
 slot_inside d v (Pattern p) s q n made own fine e f =
     let l : p < length d.nfa.automaton.start_pattern = inside_of d.nfa.automaton.start_pattern p q (ap (start_in d) (sym e) ∙ f) in
     let few = (numbered_back s).1 in
     let long : length v.starts ≡ 14 + 7 * length d.nfa.automaton.start_pattern =
     starts_are d v made own ∙ ap (λ (b : Bool). start_count b (length d.nfa.automaton.start_pattern))
-        (on (starts_each_of d.options) fine) in
+    (on (starts_each_of d.options) fine) in
     omega (arith, few, long, l, e)
   where
     on : (b : Bool) → (if b then None else Some (UnsupportedAnchored (Pattern p))) ≡ None → b ≡ true
@@ -77,7 +77,7 @@ pub allowed_of : (d : Dfa) (c : StartValue) (r : Option StartError) (o : Option 
     start_refusal d c ≡ None
 allowed_of d c r o m none e f g =
     ap (λ (o : Option ℕ). behind_refusal d o (mode_refusal d c.anchored)) (sym f)
-        ∙ (ap (λ (m : Anchored). behind_refusal d o (mode_refusal d m)) (sym g) ∙ (sym e ∙ none))
+    ∙ (ap (λ (m : Anchored). behind_refusal d o (mode_refusal d m)) (sym g) ∙ (sym e ∙ none))
 
 pub fine_of : (d : Dfa) (c : StartValue) (r : Option StartError) (o : Option ℕ) (m : Anchored) → r ≡ None →
     r ≡ behind_refusal d o (mode_refusal d m) → o ≡ c.look_behind → m ≡ c.anchored →

@@ -17,7 +17,7 @@ use Rattle.lazy_dfa.specs.Steps.{IsHeld, Added, Grew, WasCleared}
 use Rattle.lazy_dfa.specs.StartCalls.{TagsStart, ClearedFor, PlacesStart, start_found, start_added}
 use Rattle.lazy_dfa.proofs.CacheLemmas.{IsShaped-cleared, fresh_at}
 use Rattle.lazy_dfa.proofs.ChangeLemmas.{added_refl, added_state, column, row_kept, cleared_few, same_grew}
-use Rattle.lazy_dfa.proofs.IsCacheLemmas.{alive_of, row_is_plain, le_of, names_cells}
+use Rattle.lazy_dfa.proofs.IsCacheLemmas.{alive_of, row_is_plain, le_of, names_starts}
 
 -- ---- tags
 
@@ -67,7 +67,7 @@ unmade_start d v w e = ⊎_elim (λ (f : w ≡ v). inl (subst (Grew d v) (sym f)
 
 module _ (d : Dfa) (v mid new : CacheValue) (i id : ℕ) (s : StateValue) (made : IsDfa d) (own : IsCacheOf d v)
     (unknown : get_or v.starts i 0 ≡ unknown_id) (placed : PlacesStart d v mid s id)
-        (e : new ≡ record mid { starts = set mid.starts i id }) where
+    (e : new ≡ record mid { starts = set mid.starts i id }) where
   starts_on : Added v mid → (j : ℕ) → get_or v.starts j 0 ≢ unknown_id → get_or (set mid.starts i id) j 0 ≡ get_or v.starts j 0
   starts_on a j n = ⊎_elim
       (λ (f : j ≡ i). absurd (n (ap (λ (k : ℕ). get_or v.starts k 0) f ∙ unknown)))
@@ -76,9 +76,9 @@ module _ (d : Dfa) (v mid new : CacheValue) (i id : ℕ) (s : StateValue) (made 
 
   grew_start : Added v mid → Grew d v new
   grew_start a = subst (Grew d v) (sym e) (record {
-    names = λ j t n. names_cells mid (set mid.starts i id) j t (a.names j t n);
+    names = λ j t n. names_starts mid (set mid.starts i id) j t (a.names j t n);
     rows = λ j r. row_kept v (record mid { starts = set mid.starts i id }) own.shape
-        (λ j t n. names_cells mid (set mid.starts i id) j t (a.names j t n)) j r;
+        (λ j t n. names_starts mid (set mid.starts i id) j t (a.names j t n)) j r;
     known = λ j w r unit n. a.cells j (class_of d.classes w) r (column d v made own w unit);
     starts = λ j n. starts_on a j n;
     clears = a.clears;
@@ -108,14 +108,14 @@ module _ (d : Dfa) (v mid new : CacheValue) (i id : ℕ) (s : StateValue) (made 
       by (start_found f g) = inl (grew_start (subst (Added v) (sym f) (added_refl v own.shape)))
       by (start_added m room l f g) = ⊎_elim
           (λ (h : m ≡ v). inl (grew_start (subst (Added v) (sym (f ∙ ap (with_state (specializes d.options) s) h))
-              (added_state v (specializes d.options) s own.shape))))
+          (added_state v (specializes d.options) s own.shape))))
           (λ (h : m ≡ cleared v).
           let is : mid ≡ with_state (specializes d.options) s (cleared v) = f ∙ ap (with_state (specializes d.options) s) h in
           let named : id ≡ fresh_id = g ∙ ap (λ (x : CacheValue). new_id x (specializes d.options) s) h in
           inr (subst (λ (w : CacheValue). ClearedFor d v w i s)
           (sym (e ∙ (ap (λ (x : CacheValue). record x { starts = set x.starts i id }) is
           ∙ ap (λ (n : ℕ). record (with_state (specializes d.options) s (cleared v)) { starts = set (cleared v).starts i n }) named)))
-              alone))
+          alone))
           room
 
   pub start_kept : Grew d v new ⊎ WasCleared v new 1

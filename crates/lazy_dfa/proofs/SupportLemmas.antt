@@ -48,7 +48,7 @@ module _ (r : Reader) (b : Bool) where
     each_alike zero i = ap (λ (x : HalfAnswer). unless_split (counts r.between_characters h) x (found None)) (one_alike zero i)
     each_alike (suc n) i =
         ap (λ (x : HalfAnswer). unless_split (counts r.between_characters h) x (passes r mode earliest h n (next_place r i)))
-            (one_alike (suc n) i)
+        (one_alike (suc n) i)
         ∙ ap (λ (x : HalfAnswer). unless_split (counts r.between_characters h) (pass other mode earliest h (suc n) i) x)
         (each_alike n (next_place r i))
 
@@ -79,5 +79,5 @@ pub scan_by_support : (r s : Reader) (q : Search) → r.automaton ≡ s.automato
 scan_by_support r s q automaton terminator kind quits between same =
     ap (λ (x : HalfAnswer). if nat_le q.start q.end then x else found None)
     (begun_alike r s.starts_for_each_pattern q.anchored q.earliest q.haystack same (q.end - q.start)
-        (first_place r.automaton.reverse q.start q.end))
+    (first_place r.automaton.reverse q.start q.end))
     ∙ ap (λ (x : Reader). scan x q) (same_but_starts r s automaton terminator kind quits between)

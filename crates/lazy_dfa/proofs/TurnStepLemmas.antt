@@ -245,8 +245,11 @@ module _ (d : Dfa) (h : List ℕ) (old : CacheValue) (at id m1 n1 : ℕ) (u : Op
     gives_up (inr g) = g.1
 
     pub turn_refused : (e : CacheError) → IsStep d old new m1 m2 n1 n2 id u (Err e) → IsTurn d earliest h u from new m2 n2 (Err e)
-    turn_refused NoMemory step = (fails_on NoMemory step, stays_running new m2 n2 (Err NoMemory) step,
-        tells_same new m2 n2 (Err NoMemory) step)
+    turn_refused NoMemory step = (
+      fails_on NoMemory step,
+      stays_running new m2 n2 (Err NoMemory) step,
+      tells_same new m2 n2 (Err NoMemory) step,
+    )
     turn_refused GaveUp step =
         let g = gives_up step.err in (
           fails_on GaveUp step,
@@ -297,7 +300,7 @@ module _ (d : Dfa) (h : List ℕ) (old : CacheValue) (at id m1 n1 : ℕ) (u : Op
       seen_dead last e b =
           let quiet = quiet_if (λ q. omega (arith, e, q, mine.shape.narrow)) in
           let dies : (s : StateValue) → HeldAt old id s → after d s u ≡ dead =
-              λ s g. to_dead (after d s u) e ((step.step s g).goes quiet) in (
+          λ s g. to_dead (after d s u) e ((step.step s g).goes quiet) in (
             goes_one last quiet (λ s g. b ∙ (unmatched dead at best refl ∙ ap (λ (x : StateValue). recorded at x best) (sym (dies s g)))),
             tells_same new m2 n2 (Ok to) step,
             λ s g. inr (ap is_dead (state_behind_one d h at u is s ∙ dies s g)),

@@ -19,10 +19,10 @@ module _ (q : Search) (is_reverse back : Bool) (same : is_reverse ≡ back) (v0 
   -- what a turn tells, by whether it is the last one
   by_place : (is : Bool) → at == last_place is_reverse q ≡ is →
       (if is then told_last is_reverse ends cleared q at (told_of v0) else told_byte is_reverse finishes cleared at (told_of v0)) ≡
-          turned_told back finishes ends cleared q at (told_of v0)
+      turned_told back finishes ends cleared q at (told_of v0)
   by_place is e =
       sym (ap (λ (b : Bool). if b then told_last is_reverse ends cleared q at (told_of v0)
-          else told_byte is_reverse finishes cleared at (told_of v0)) e)
+      else told_byte is_reverse finishes cleared at (told_of v0)) e)
       ∙ ap (λ (b : Bool). turned_told b finishes ends cleared q at (told_of v0)) same
 
   module _ (step : told_of v2 ≡ anew_if cleared (told_of v1)) where
@@ -66,13 +66,13 @@ module _ (q : Search) (is_reverse back : Bool) (same : is_reverse ≡ back) (v0 
           ap told_of f
           ∙ (finished_if (not is_reverse) at v2
           ∙ (ap (λ (t : Told). if not is_reverse then told_finished at t else t) (step
-              ∙ ap (anew_if cleared) (ap told_of e ∙ finished_if (is_reverse && tells is_reverse q) at v0))
+          ∙ ap (anew_if cleared) (ap told_of e ∙ finished_if (is_reverse && tells is_reverse q) at v0))
           ∙ (so is_reverse ∙ (sym (ap (λ (b : Bool). told_last is_reverse b cleared q at (told_of v0)) g)
           ∙ by_place true (eq-eqb at (last_place is_reverse q) last)))))
         where
           so : (b : Bool) → (if not b then told_finished at (anew_if cleared (if b && tells b q then told_finished at (told_of v0)
               else told_of v0)) else
               anew_if cleared (if b && tells b q then told_finished at (told_of v0) else told_of v0)) ≡ told_last b true cleared q at
-                  (told_of v0)
+              (told_of v0)
           so true = refl
           so false = refl

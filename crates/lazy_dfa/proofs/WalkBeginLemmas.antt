@@ -104,13 +104,17 @@ told_short n = record { searched = n; progress = None }
 
 -- a search that begins somewhere and ends there
 pub dead_moved : (mid begun new : CacheValue) (at : ℕ) →
-    begun ≡ record mid { searched = min (mid.searched + progress_len mid.progress) greatest;
-        progress = Some (record { start = at; at = at }) } →
+    begun ≡ record mid {
+      searched = min (mid.searched + progress_len mid.progress) greatest;
+      progress = Some (record { start = at; at = at });
+    } →
     new ≡ record begun { searched = min (begun.searched + progress_len (moved_to at begun.progress)) greatest; progress = None } →
     IsMoved mid new × (told_of new ≡ told_with (mid.searched + progress_len mid.progress) 0)
 dead_moved mid begun new at e f =
-    let is = f ∙ ap (λ (x : CacheValue). record x { searched = min (x.searched + progress_len (moved_to at x.progress)) greatest;
-        progress = None }) e in (
+    let is = f ∙ ap (λ (x : CacheValue). record x {
+      searched = min (x.searched + progress_len (moved_to at x.progress)) greatest;
+      progress = None;
+    }) e in (
       subst (λ (x : CacheValue). IsMoved mid x) (sym is) refl,
       ap told_of is ∙ ap told_short (nowhere (mid.searched + progress_len mid.progress) at),
     )
@@ -163,7 +167,7 @@ module _ (d : Dfa) (q : Search) (old mid : CacheValue) (m1 m n1 n id : ℕ) (beg
     abbrev told_after_start : ℕ → Told
     told_after_start k =
         told_with (old.searched + progress_len old.progress) (pass_distance d.nfa.automaton.reverse
-            (left_at d.nfa.automaton.reverse q from) k)
+        (left_at d.nfa.automaton.reverse q from) k)
 
     no_distance : (is_reverse : Bool) (k : ℕ) → pass_distance is_reverse k 0 ≡ 0
     no_distance false k = refl
@@ -174,7 +178,7 @@ module _ (d : Dfa) (q : Search) (old mid : CacheValue) (m1 m n1 n id : ℕ) (beg
         ap (λ (b : Bool). if b then told_after_start (call_units (reader d) q Fresh) else told_of old) reads_first
         ∙ (ap told_after_start none_read
         ∙ ap (told_with (old.searched + progress_len old.progress)) (no_distance d.nfa.automaton.reverse
-            (left_at d.nfa.automaton.reverse q from)))
+        (left_at d.nfa.automaton.reverse q from)))
 
     pub dead_call : (new : CacheValue) → IsMoved mid new → told_of new ≡ told_with (mid.searched + progress_len mid.progress) 0 →
         MakesCall d q old new m1 m n1 n Fresh ended fine
@@ -213,4 +217,4 @@ module _ (d : Dfa) (q : Search) (old mid : CacheValue) (m1 m n1 n id : ℕ) (beg
     begins_walk new m2 n2 result x =
         makes_on d q Fresh old mid new m1 m m2 n1 n n2 made own reads_first (fits.1 ∙ begun_rest (reader d) q) (begun_units (reader d) q)
         so_far few_starts few_starts_put result (subst (λ (b : Bool). ReadsOn d q (first_place b q.start q.end) mid new m m2 n n2 result) is
-            x)
+        x)

@@ -100,7 +100,7 @@ pub failed_call : (d : Dfa) (q : Search) (v : CacheValue) (m n : ℕ) (e : Match
     MakesCall d q v v m m n n (Failed e) (failed_by e) (failure e)
 failed_call d q v m n e =
     still_call d q v m n (Failed e) (failed_by e) (failure e) (tells_refusal (reader d) q (Failed e) (refused e) e refl refl refl) refl tt
-        refl tt
+    refl tt
 
 -- ---- calls that read on
 

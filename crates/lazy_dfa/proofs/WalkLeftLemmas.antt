@@ -95,13 +95,13 @@ module _ (r : Reader) (q : Search) where
   begun_rest = sym (
       ap (λ (n : ℕ). rest_from r q.haystack (suc n) from (value_before r q from)) (left_first is_reverse q)
       ∙ ap (λ (k : ℕ). rest_from r q.haystack (suc (span_len q)) from (state_behind r q.haystack from first_state k))
-          (came_first is_reverse q))
+      (came_first is_reverse q))
 
   pub begun_units : units_met r q.haystack (suc (span_len q)) from first_state ≡ units_at r q from
   begun_units = sym (
       ap (λ (n : ℕ). units_met r q.haystack (suc n) from (value_before r q from)) (left_first is_reverse q)
       ∙ ap (λ (k : ℕ). units_met r q.haystack (suc (span_len q)) from (state_behind r q.haystack from first_state k))
-          (came_first is_reverse q))
+      (came_first is_reverse q))
 
   pub begun_value : value_before r q from ≡ first_state
   begun_value = ap (λ (k : ℕ). state_behind r q.haystack from first_state k) (came_first is_reverse q)
@@ -147,7 +147,7 @@ one_error x y e = cc
 
 mode_left : (is : Bool) (mode : Anchored) (e : MatchErrorKind) (all : HalfAnswer) (rest : Rest) (x : StartError) →
     (if is then None else Some (StartUnsupported mode)) ≡ Some x → failed e ≡ told (if_supported is mode all) →
-        where_supported is mode rest ≡ refused e
+    where_supported is mode rest ≡ refused e
 mode_left true mode e all rest x some is = absurd cc
 mode_left false mode e all rest x some is = ap refused (sym (one_error e (UnsupportedAnchored mode) is))
 

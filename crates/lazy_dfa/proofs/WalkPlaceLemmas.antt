@@ -82,7 +82,7 @@ comes_far is_reverse q a c l w x e = by is_reverse (cases_eq a (last_place is_re
     by : (is_reverse : Bool) → (a ≡ last_place is_reverse q) ⊎ (a ≢ last_place is_reverse q) → (c ≡ last_place is_reverse q) ⊎
         (c ≢ last_place is_reverse q) → IsWithinSpan q a → IsWithinSpan q c →
         left_at is_reverse q a ≡ l + left_at is_reverse q c → distance (gave_up_at is_reverse q a)
-            (gave_up_at is_reverse q c) ≡ pass_distance is_reverse (left_at is_reverse q a) (l + 1)
+        (gave_up_at is_reverse q c) ≡ pass_distance is_reverse (left_at is_reverse q a) (l + 1)
     by false (inl f) (inl g) w x e = joined false a c (at_last false a f) (at_last false c g) (forward_same a c e w x)
     by false (inl f) (inr g) w x e = joined false a c (at_last false a f) (before false c g) (forward_same a c e w x)
     by false (inr f) (inl g) w x e = joined false a c (before false a f) (at_last false c g) (forward_same a c e w x)
@@ -111,9 +111,9 @@ module _ (r : Reader) (q : Search) (a : ℕ) (w : IsWithinSpan q a) where
     pub value_later : state_behind r q.haystack a value l ≡ value_before r q c
     value_later =
         state_there r q.haystack (begins_at r q) a (came r.automaton.reverse q a) there
-            (first_value r q.anchored q.haystack (begins_at r q)) l
+        (first_value r q.anchored q.haystack (begins_at r q)) l
         ∙ ap (state_behind r q.haystack (begins_at r q) (first_value r q.anchored q.haystack (begins_at r q)))
-            (came_later r.automaton.reverse q a c l w x left)
+        (came_later r.automaton.reverse q a c l w x left)
 
     abbrev whole : ℕ
     whole = suc (left_at r.automaton.reverse q a)

@@ -67,14 +67,18 @@ pub record StandsOn (d : Dfa) (q : Search) (from p : Point) : Type 0 where
   pub inserted : p.inserted ≤ from.inserted + steps * most_inserts d
 
 -- nothing else of the cache changes where it begins
-pub started_moves : (v w : CacheValue) (index : ℕ) → w ≡ record v { searched = min (v.searched + progress_len v.progress) greatest;
-    progress = Some (record { start = index; at = index }) } → IsMoved v w
+pub started_moves : (v w : CacheValue) (index : ℕ) → w ≡ record v {
+  searched = min (v.searched + progress_len v.progress) greatest;
+  progress = Some (record { start = index; at = index });
+} → IsMoved v w
 started_moves v w index e = subst (λ (c : CacheValue). IsMoved v c) (sym e) refl
 
 -- a call begins
 pub begins_on : (d : Dfa) (q : Search) (v w : CacheValue) (m n at id index : ℕ) (best best2 : Option (ℕ × ℕ)) →
-    w ≡ record v { searched = min (v.searched + progress_len v.progress) greatest;
-        progress = Some (record { start = index; at = index }) } →
+    w ≡ record v {
+      searched = min (v.searched + progress_len v.progress) greatest;
+      progress = Some (record { start = index; at = index });
+    } →
     index ≡ gave_up_at d.nfa.automaton.reverse q at → HeldAt v id (value_before (reader d) q at) →
     StandsOn d q (point v m n at id best) (point w m n at id best2)
 begins_on d q v w m n at id index best best2 e there held = record {
@@ -197,7 +201,7 @@ module _ (d : Dfa) (q : Search) (made : IsDfa d) (from p : Point) (own : IsCache
 
     refuses : (e : MatchErrorKind) → Leaves d h p v m n 0 →
         ((told_left (rest_at (reader d) q from.at).ends (rest_at (reader d) q from.at).refusal ≡ Err e) ⊎ (e ≡ NoMemory) ⊎
-            ((y : ℕ) × (e ≡ GaveUp y) × GivesUpFrom d v q from.at y)) →
+        ((y : ℕ) × (e ≡ GaveUp y) × GivesUpFrom d v q from.at y)) →
         ReadsOn d q from.at from.cache v from.determinized m from.inserted n (Err e)
     refuses e leaves why = record {
       ok = tt;
@@ -213,7 +217,7 @@ module _ (d : Dfa) (q : Search) (made : IsDfa d) (from p : Point) (own : IsCache
     ends_refused (Quit b y) t =
         let left = x.rest ∙ quit_left (reader d) h (left_at rev q p.at) p.at now b alive t.1 t.2 in
         refuses (Quit b y) t.0 (inl (ap (λ (rest : Rest). told_left rest.ends rest.refusal) left
-            ∙ ap (λ (i : ℕ). Err (Quit b i)) (sym t.3)))
+        ∙ ap (λ (i : ℕ). Err (Quit b i)) (sym t.3)))
     ends_refused (GaveUp y) t = refuses (GaveUp y) t.0.leaves (inr (inr (
       y,
       refl,
@@ -279,10 +283,10 @@ module _ (d : Dfa) (q : Search) (made : IsDfa d) (from p : Point) (own : IsCache
         ap told_of t.ended
         ∙ (told_there t.behind (min (from.cache.searched + progress_len from.cache.progress) greatest) index (gave_up_at rev q p.at)
         (pass_distance rev (left_at rev q from.at) (x.steps + 1)) k.searched k.began
-            (comes_far rev q from.at p.at x.steps start within x.left)
+        (comes_far rev q from.at p.at x.steps start within x.left)
         ∙ (ap (λ (s : ℕ). record { searched = s; progress = None })
         (min_twice (from.cache.searched + progress_len from.cache.progress)
-            (pass_distance rev (left_at rev q from.at) (x.steps + 1)) greatest)
+        (pass_distance rev (left_at rev q from.at) (x.steps + 1)) greatest)
         ∙ ap (λ (u : ℕ). record {
           searched = min (from.cache.searched + progress_len from.cache.progress + pass_distance rev (left_at rev q from.at) u) greatest;
           progress = None;
@@ -292,7 +296,7 @@ module _ (d : Dfa) (q : Search) (made : IsDfa d) (from p : Point) (own : IsCache
     abbrev IsAnswer : WalkState → Type 0
     IsAnswer w = (told_left (rest_at (reader d) q from.at).ends (rest_at (reader d) q from.at).refusal ≡ Ok tt) ×
         (w.found ≡ half_of (first (rest_at (reader d) q from.at).ends)) ×
-            (rest_of (reader d) q w.walk ≡ others (rest_at (reader d) q from.at)) ×
+        (rest_of (reader d) q w.walk ≡ others (rest_at (reader d) q from.at)) ×
         IsWalk d v q w.walk × (w.found ≡ None → w.walk ≡ Ended)
 
     stops_so : (w : WalkState) → IsAnswer w → ReadsOn d q from.at from.cache v from.determinized m from.inserted n (Ok w)
@@ -301,12 +305,15 @@ module _ (d : Dfa) (q : Search) (made : IsDfa d) (from p : Point) (own : IsCache
       err = tt;
       kept = ⊎_elim
           (λ (k : KeepsOn d from.cache t.behind index). inl (grows_trans d from.cache t.behind v made own k.grows
-              (grows_moved d t.behind v moved)))
+          (grows_moved d t.behind v moved)))
           (λ (y : HasCleared from.cache t.behind). inr (cleared_there y))
           kept_there;
       told = ⊎_elim
-          (λ (k : KeepsOn d from.cache t.behind index). inl (grows_trans d from.cache t.behind v made own k.grows
-              (grows_moved d t.behind v moved), tells_so k))
+          (λ (k : KeepsOn d from.cache t.behind index). inl (
+            grows_trans d from.cache t.behind v made own k.grows
+                (grows_moved d t.behind v moved),
+            tells_so k,
+          ))
           (λ (y : HasCleared from.cache t.behind). inr (cleared_there y))
           kept_there;
       determinized = many v m n 1 (omega arith) all_units t.goes.determinized;
@@ -343,7 +350,7 @@ module _ (d : Dfa) (q : Search) (made : IsDfa d) (from p : Point) (own : IsCache
     lists_all : rest_at (reader d) q from.at ≡ onto (listed counted p.at past.matches) (rest_past (reader d) q p.at)
     lists_all = x.rest ∙ (step_left (reader d) h (left_at rev q p.at) p.at now alive quiet
         ∙ ap (λ (s : StateValue). onto (listed counted p.at s.matches)
-            (rest_from (reader d) h (left_at rev q p.at) (next_place (reader d) p.at) s))
+        (rest_from (reader d) h (left_at rev q p.at) (next_place (reader d) p.at) s))
         (sym (past_next (reader d) q p.at within)))
 
     best_is : pair_of position.best ≡ option_or (end_at p.at (first past.matches)) p.best
@@ -364,7 +371,7 @@ module _ (d : Dfa) (q : Search) (made : IsDfa d) (from p : Point) (own : IsCache
     ends_some : tells ≡ true → IsAnswer (stopped true position.id position.at position.best)
     ends_some e =
         let lists : tells_end (reader d) h p.at past ≡ true = ap (tells_end (reader d) h p.at) (past_next (reader d) q p.at within)
-            ∙ (sym is_told ∙ e) in
+        ∙ (sym is_told ∙ e) in
         let l = some_listed (counted p.at) p.at past.matches p.best (rest_past (reader d) q p.at) lists in (
           ap (λ (rest : Rest). told_left rest.ends rest.refusal) lists_all ∙ l.0,
           sym (half_back position.best) ∙ ap half_of (best_is ∙ sym (ap (λ (rest : Rest). first rest.ends) lists_all ∙ l.1)),
@@ -405,13 +412,13 @@ module _ (d : Dfa) (q : Search) (made : IsDfa d) (from p : Point) (own : IsCache
 module _ (d : Dfa) (q : Search) (is_reverse : Bool) (is : is_reverse ≡ d.nfa.automaton.reverse) (made : IsDfa d) (from : Point)
     (v : CacheValue) (m n i id j to : ℕ) (best best2 : Option (ℕ × ℕ))
     (own : IsCacheOf d from.cache) (mine : IsCacheOf d v) (start : IsWithinSpan q from.at) (within : IsWithinSpan q i)
-        (x : StandsOn d q from (point v m n i id best)) where
+    (x : StandsOn d q from (point v m n i id best)) where
   pub stands_run : IsRow v to → IsWithinSpan q j → left_at is_reverse q j ≤ left_at is_reverse q i →
       GoesBetween d true q.haystack (point v m n i id best) (point v m n j to best2) (left_at is_reverse q i - left_at is_reverse q j) →
-          StandsOn d q from (point v m n j to best2)
+      StandsOn d q from (point v m n j to best2)
   stands_run row there closer g =
       stands_further d q made from (point v m n i id best) own mine start within x best (point v m n j to best2)
-          (left_at is_reverse q i - left_at is_reverse q j) g.0 mine row there
+      (left_at is_reverse q i - left_at is_reverse q j) g.0 mine row there
       (ap (λ (b : Bool). left_at b q i) (sym is) ∙ (apart (left_at is_reverse q i) (left_at is_reverse q j) closer
       ∙ ap (λ (b : Bool). (left_at is_reverse q i - left_at is_reverse q j) + left_at b q j) is)) tells_none
     where
@@ -425,4 +432,4 @@ module _ (d : Dfa) (q : Search) (is_reverse : Bool) (is : is_reverse ≡ d.nfa.a
       tells_none : TellsNone (reader d) q.haystack i (value_before (reader d) q i) (left_at is_reverse q i - left_at is_reverse q j)
       tells_none k l = no_end (counts (reader d).between_characters q.haystack (place_of d.nfa.automaton.reverse i k))
           (state_behind (reader d) q.haystack i (value_before (reader d) q i) (suc k)).matches
-              (g.1 (value_before (reader d) q i) x.state k l)
+          (g.1 (value_before (reader d) q i) x.state k l)

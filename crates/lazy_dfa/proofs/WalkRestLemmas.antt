@@ -39,7 +39,7 @@ none_listed true at (m ∷ ms) e = absurd (true≢false e)
 -- where ends are listed the first one is told next, and the others are what a walk that stopped behind it has left
 pub some_listed : (counted : Bool) (at : ℕ) (ms : List ℕ) (best : Option (ℕ × ℕ)) (rest : Rest) → (counted && not (is_empty ms)) ≡ true →
     (told_left (onto (if counted then map (end_of at) ms else []) rest).ends
-        (onto (if counted then map (end_of at) ms else []) rest).refusal ≡ Ok tt) ×
+    (onto (if counted then map (end_of at) ms else []) rest).refusal ≡ Ok tt) ×
     (first (onto (if counted then map (end_of at) ms else []) rest).ends ≡ option_or (end_at at (first ms)) best) ×
     (onto (if counted then map (end_of at) (drop 1 ms) else []) rest ≡ others (onto (if counted then map (end_of at) ms else []) rest)) ×
     (1 ≤ length ms) × (option_or (end_at at (first ms)) best ≡ None → ⊥)
@@ -72,7 +72,7 @@ module _ (r : Reader) (h : List ℕ) (n i : ℕ) (v : StateValue) where
 
   alive_left : is_dead v ≡ false →
       rest_from r h (suc n) i v ≡ unless_quit_at r.quits (unit_at r.automaton.reverse h i) (index_at r.automaton.reverse i)
-          (onto here later)
+      (onto here later)
   unfolding rest_from
   alive_left e = ap (λ (d : Bool). if d then nothing_left else
       unless_quit_at r.quits (unit_at r.automaton.reverse h i) (index_at r.automaton.reverse i) (onto here later)) e
@@ -144,14 +144,14 @@ module _ (r : Reader) (h : List ℕ) (i : ℕ) (v : StateValue) where
   pub goes_units : (m n : ℕ) → AreRead r h i v m → TellsNone r h i v m → units_met r h (m + n) i v ≡ m + units_met r h n (place m) (state m)
   goes_units zero n read none =
       ap (λ (k : ℕ). units_met r h k i v) (none_more n) ∙ (ap (λ (j : ℕ). units_met r h n j v) (sym (place_zero r.automaton.reverse i))
-          ∙ sym (none_more (units_met r h n (place 0) v)))
+      ∙ sym (none_more (units_met r h n (place 0) v)))
   goes_units (suc m) n read none =
       let same : suc m + n ≡ m + suc n = omega arith in
       let before = goes_units m (suc n) (fewer m read) (fewer_tell m none) in
       let one = pass_units r h n (place m) (state m) (read m (omega arith)).alive (none m (omega arith))
       ∙ ap (λ (j : ℕ). suc (units_met r h n j (state (suc m)))) (place_next r.automaton.reverse i m) in
       ap (λ (k : ℕ). units_met r h k i v) same ∙ (before ∙ (ap (λ (k : ℕ). m + k) one
-          ∙ one_later m (units_met r h n (place (suc m)) (state (suc m)))))
+      ∙ one_later m (units_met r h n (place (suc m)) (state (suc m)))))
     where
       one_later : (m k : ℕ) → m + suc k ≡ suc m + k
       one_later m k = omega arith

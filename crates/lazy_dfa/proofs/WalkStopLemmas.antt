@@ -40,7 +40,7 @@ module _ (d : Dfa) (q : Search) (v : CacheValue) (m n : ℕ) (stop : Stop) (stop
       after.walk ≡ Stopped next → MakesCall d q v v m m n n (Stopped stop) after fine
   more_call after is found walk =
       still_call d q v m n (Stopped stop) after fine tells (ap (λ (b : Bool). not (b
-          || stop.at == last_place d.nfa.automaton.reverse q)) is)
+      || stop.at == last_place d.nfa.automaton.reverse q)) is)
       (subst (IsWalk d v q) (sym walk) goes) tt (λ none. never (sym none ∙ found))
     where
       one : ((if counted then map (end_of stop.at) (drop stop.index listing) else []) ≡

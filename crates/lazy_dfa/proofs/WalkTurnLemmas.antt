@@ -63,7 +63,7 @@ still_lacks : (d : Dfa) (v : CacheValue) (at : ℕ) (s : StateValue) → moved_t
     lacks_room d (finished at v) s ≡ lacks_room d v s
 still_lacks d v at s e =
     ap (λ (b : Bool). not (is_lost s) && (is_none (row_of s v.states) && (not (fits d.capacity s v) && b)))
-        (still_refused (clears_of d.options) (bytes_of d.options) v at e)
+    (still_refused (clears_of d.options) (bytes_of d.options) v at e)
 
 moved_twice : (at : ℕ) (o : Option Progress) → moved_to at (moved_to at o) ≡ moved_to at o
 moved_twice at None = refl
@@ -90,7 +90,7 @@ tag_tells : (d : Dfa) (h : List ℕ) (v : CacheValue) (id at : ℕ) (tells : Boo
     Names v id s → tells ≡ tells_end (reader d) h at s
 tag_tells d h v id at tells s i e (names_held g) =
     e ∙ both (has_tag match_tag id) (not (is_empty s.matches)) (counts (reader d).between_characters h at) (row_matches v id s i g
-        ∙ some_listed s.matches)
+    ∙ some_listed s.matches)
 tag_tells d h v id at tells s i e (names_dead f g) =
     e ∙ both (has_tag match_tag id) (not (is_empty s.matches)) (counts (reader d).between_characters h at)
     (has_not match_tag id (omega (arith, f, i.narrow)) ∙ sym (ap (λ (t : StateValue). not (is_empty t.matches)) g))
@@ -122,7 +122,7 @@ module _ (d : Dfa) (q : Search) (is_reverse : Bool) (same : is_reverse ≡ d.nfa
       GoesOne d q.haystack from v2 m2 n2 to best2
   goes_from to best2 g = goes_back d v0 v1 moved q.haystack m1 n1 at id best (point v2 m2 n2 (place_of rev at 1) to best2) 1
       (ap (λ (c : CacheValue). c.searched) moves) (ap (λ (c : CacheValue). began c.progress) moves
-          ∙ began_moved place v0.progress) (some_moved v0 v1 place moves) g
+      ∙ began_moved place v0.progress) (some_moved v0 v1 place moves) g
 
   -- where a step leads, if not to a quit byte
   pub step_leads : (to : ℕ) (best2 : Option (ℕ × ℕ)) (turn : Turn) → (turn ≡ Quits → ⊥) →
@@ -159,7 +159,7 @@ module _ (d : Dfa) (q : Search) (is_reverse : Bool) (same : is_reverse ≡ d.nfa
         let t = refused_before GaveUp turn in
         let at_place : moved_to place v2.progress ≡ v2.progress =
         ap (λ (c : CacheValue). moved_to place c.progress) (turn.3 ∙ moves)
-            ∙ (moved_twice place v0.progress ∙ sym (ap (λ (c : CacheValue). c.progress) (turn.3 ∙ moves))) in (
+        ∙ (moved_twice place v0.progress ∙ sym (ap (λ (c : CacheValue). c.progress) (turn.3 ∙ moves))) in (
           fails_forth (finished_moves v2 v3 place f) t.0,
           t.1,
           t.2,
@@ -180,7 +180,7 @@ module _ (d : Dfa) (q : Search) (is_reverse : Bool) (same : is_reverse ≡ d.nfa
   pub step_quits : (to : ℕ) (best2 : Option (ℕ × ℕ)) (turn : Turn) (v3 : CacheValue) (b index : ℕ) (err : MatchErrorKind) → IsMoved v2 v3 →
       u ≡ unit_at rev q.haystack at → u ≡ Some b →
       index ≡ index_at is_reverse at → err ≡ Quit b index → turn ≡ Quits → IsSeen d false q.haystack u before v2 m2 n2 to best2 turn →
-          Refuses d q from v3 m2 n2 err
+      Refuses d q from v3 m2 n2 err
   step_quits to best2 turn v3 b index err after is some here told e seen =
       let x = subst (λ (t : Turn). IsSeen d false q.haystack u before v2 m2 n2 to best2 t) e seen in
       let byte : x.2.0 ≡ b = one_byte x.2.0 b (sym x.2.1 ∙ some) in
@@ -199,7 +199,7 @@ module _ (d : Dfa) (q : Search) (is_reverse : Bool) (same : is_reverse ≡ d.nfa
 module _ (d : Dfa) (q : Search) (is_reverse : Bool) (same : is_reverse ≡ d.nfa.automaton.reverse) (p : Point) (v : CacheValue) (m n : ℕ)
     (id : ℕ) (turn : Turn) (tells last : Bool)
     (mine : IsShaped v) (listed : tells ≡ (has_tag match_tag id && counts (reader d).between_characters q.haystack p.at))
-        (is_last : last ≡ (p.at == last_place is_reverse q)) where
+    (is_last : last ≡ (p.at == last_place is_reverse q)) where
   abbrev Step : Option (ℕ × ℕ) → Type 0
   Step best = IsStepTo d q p v m n id best turn
 
@@ -284,9 +284,9 @@ pub lists_there : (d : Dfa) (v : CacheValue) (q : Search) (stop : Stop) → IsSh
 lists_there d v q stop i x more s held =
     let same : s ≡ value_past (reader d) q stop.at = sym (one_state v stop.id x.held.0 s i x.held.1 x.held.2 held) ∙ sym x.held.3 in
     subst (λ (t : StateValue). stop.index < length t.matches) (sym same)
-        (below stop.index (length (value_past (reader d) q stop.at).matches)
+    (below stop.index (length (value_past (reader d) q stop.at).matches)
     (and_parts (counts (reader d).between_characters q.haystack stop.at)
-        (nat_lt stop.index (length (value_past (reader d) q stop.at).matches)) more).1)
+    (nat_lt stop.index (length (value_past (reader d) q stop.at).matches)) more).1)
   where
     below : (a b : ℕ) → nat_lt a b ≡ true → a < b
     below a b e = ⊎_elim (λ (l : a < b). l) (λ (l : b ≤ a). absurd (true≢false (sym e ∙ le-ltb a b l))) (cases_lt a b)

@@ -492,7 +492,7 @@ module _ (d : Dfa) (v : CacheValue) (q : Search) (x : ℕ) where
       let small : m ≤ span_len q = omega (arith, less, few) in
       let all : pass_len r q.anchored false q.haystack (span_len q) (begins r q) ≡ read r q (units r q) 0 =
       ap (λ (b : Bool). if b then units_read r false q.haystack (units r q) (begins r q) (start r q) else 0) supported
-          ∙ read_at_first r q in
+      ∙ read_at_first r q in
       at_unit m (omega (arith, less, all)) (there.0 ∙ same_give_up r.automaton.reverse q m fits small)
       (sym (ap (λ (k : ℕ). lacks_room d v (state r q (suc k))) (came_of r.automaton.reverse q m fits small)) ∙ there.1)
       (λ before. there.2 (λ last. let end = is_last r.automaton.reverse q m fits small last in absurd (omega (arith, before, end))))

@@ -270,7 +270,7 @@ module _ (r : Reader) (h : List ℕ) (i : ℕ) (state : ℕ → StateValue)
   read_few (suc n) k = ⊎_elim
       (λ (dies : is_dead (state k) ≡ true). let none = read_dead (suc n) k dies in omega (arith, none))
       (λ (lives : is_dead (state k) ≡ false). let more = read_lives n k lives in let later = read_few n (suc k) in
-          omega (arith, more, later))
+      omega (arith, more, later))
       (cases_Bool (is_dead (state k)))
 
   pub met_is_read : (n k : ℕ) → met n k ≤ read n k

@@ -107,15 +107,17 @@ parts_told false t at k = ap (λ (n : ℕ). record { searched = n; progress = No
 whole_told : (is_reverse : Bool) (q : Search) (t : Told) (units : ℕ) →
     told_behind is_reverse (span_len q) (told_begun is_reverse q t) units ≡
     (if is_reverse && span_len q == 0 then t else ended (t.searched + progress_len t.progress)
-        (pass_distance is_reverse (span_len q) units))
+    (pass_distance is_reverse (span_len q) units))
 whole_told is_reverse q t units =
     ap (λ (b : Bool). told_behind is_reverse (span_len q) (if not (is_reverse && b) then begun (first_index is_reverse q) t else t) units)
-        (none_left q.start q.end)
+    (none_left q.start q.end)
     ∙ parts_told (is_reverse && span_len q == 0) t (first_index is_reverse q) (pass_distance is_reverse (span_len q) units)
 
 -- what it tells at its start, by its bytes and its first place
-told_first : (is_reverse : Bool) (q : Search) (t : Told) → told_begun is_reverse q t ≡ told_from is_reverse (span_len q,
-    first_place is_reverse q.start q.end) t
+told_first : (is_reverse : Bool) (q : Search) (t : Told) → told_begun is_reverse q t ≡ told_from is_reverse (
+  span_len q,
+  first_place is_reverse q.start q.end,
+) t
 told_first is_reverse q t =
     ap (λ (b : Bool). if not (is_reverse && b) then begun (first_index is_reverse q) t else t) (none_left q.start q.end)
     ∙ turned_round (is_reverse && span_len q == 0)
@@ -177,10 +179,10 @@ module _ (d : Dfa) (mode : Anchored) (h : List ℕ) (i : ℕ) where
   plain_pass earliest n none =
       goes_on d.quits (unit_behind d.nfa.automaton.reverse h i) (index_behind d.nfa.automaton.reverse i)
       (if_supported (is_supported (starts_each_of d.options) mode) mode
-          (pass_from (reader d) earliest h (suc n) i (first_value (reader d) mode h i) None))
+      (pass_from (reader d) earliest h (suc n) i (first_value (reader d) mode h i) None))
       (quiet_behind (unit_behind d.nfa.automaton.reverse h i) (mode_refusal d mode) none)
       ∙ goes_in_mode (is_supported (starts_each_of d.options) mode) mode
-          (pass_from (reader d) earliest h (suc n) i (first_value (reader d) mode h i) None) (is_fit none)
+      (pass_from (reader d) earliest h (suc n) i (first_value (reader d) mode h i) None) (is_fit none)
 
   plain_len : (earliest : Bool) (n : ℕ) → start_refusal d told_start ≡ None →
       units_read (reader d) earliest h (suc n) i (first_value (reader d) mode h i) ≡ pass_len (reader d) mode earliest h n i
@@ -242,10 +244,10 @@ module _ (d : Dfa) (q : Search) (old new : CacheValue) (m1 m2 n1 n2 : ℕ) (e : 
   refused_first = ⊎_elim
       (λ (x : (start_refusal d (pass_start d q) ≢ None) × (Err e ≡ told whole)). by (start_refusal d (pass_start d q)) refl x.0 x.1)
       (λ (x : (e ≡ SearchNoMemory) ⊎ ((e ≡ GaveUp at) × (lacks_room d new (first_value (reader d) q.anchored q.haystack at) ≡ true))).
-          ⊎_elim
+      ⊎_elim
       (λ (f : e ≡ SearchNoMemory). subst (IsRefusedFirst d.nfa.automaton.reverse at) (sym f) tt)
       (λ (f : (e ≡ GaveUp at) × (lacks_room d new (first_value (reader d) q.anchored q.haystack at) ≡ true)). subst
-          (IsRefusedFirst d.nfa.automaton.reverse at) (sym f.0) refl)
+      (IsRefusedFirst d.nfa.automaton.reverse at) (sym f.0) refl)
       x)
       start.err
     where
@@ -264,10 +266,13 @@ module _ (d : Dfa) (q : Search) (old new : CacheValue) (m1 m2 n1 n2 : ℕ) (e : 
     answer = ⊎_elim
         (λ (x : (start_refusal d (pass_start d q) ≢ None) × (Err e ≡ told whole)). inl x.1)
         (λ (x : (e ≡ SearchNoMemory) ⊎ ((e ≡ GaveUp at) × (lacks_room d new (first_value (reader d) q.anchored q.haystack at) ≡ true))). inr
-            (⊎_elim
+        (⊎_elim
         (λ (f : e ≡ SearchNoMemory). inl (ap Err f))
-        (λ (f : (e ≡ GaveUp at) × (lacks_room d new (first_value (reader d) q.anchored q.haystack at) ≡ true)). inr (at, ap Err f.0,
-            at_start refl f.1))
+        (λ (f : (e ≡ GaveUp at) × (lacks_room d new (first_value (reader d) q.anchored q.haystack at) ≡ true)). inr (
+          at,
+          ap Err f.0,
+          at_start refl f.1,
+        ))
         x))
         start.err;
     kept = start_grows_of d old new start.kept;
@@ -280,8 +285,11 @@ module _ (d : Dfa) (q : Search) (old new : CacheValue) (m1 m2 n1 n2 : ℕ) (e : 
     inserted = one_at_most n1 n2 length (most_inserts d) start.inserted;
     anew = ⊎_elim
         (λ (g : Grew d old new). inl (left_first refused_first (same_told d old new g), g.clears))
-        (λ (w : WasCleared old new 1). inr (has_cleared old new 1 w, fails_first (told_of new) (fresh_start old new w)
-            (left_first refused_first refl)))
+        (λ (w : WasCleared old new 1). inr (
+          has_cleared old new 1 w,
+          fails_first (told_of new) (fresh_start old new w)
+              (left_first refused_first refl),
+        ))
         start.kept;
   }
 
@@ -315,7 +323,7 @@ module _ (d : Dfa) (q : Search) (old mid : CacheValue) (m1 m n1 n id : ℕ) (mad
 
   module _ (here new : CacheValue) (m2 n2 : ℕ) (result : Result (Option HalfFound) MatchErrorKind) (moved : IsMoved mid here)
       (tells_start : told_of here ≡ told_begun d.nfa.automaton.reverse q (told_of mid))
-          (runs : RunsOn d q first (point here m n from id None) new m2 n2 result) where
+      (runs : RunsOn d q first (point here m n from id None) new m2 n2 result) where
     from_mid : GrowsOrClears d mid new
     from_mid = grows_or_clears_trans d mid here new made mine (inl (grows_moved d mid here moved)) runs.kept
 
@@ -324,9 +332,9 @@ module _ (d : Dfa) (q : Search) (old mid : CacheValue) (m1 m n1 n id : ℕ) (mad
     linked_behind grows linked p none named =
         let slot : start_noted d mid (pass_start d q) ≡ id = start.noted p named in
         let noted : start_noted d new (pass_start d q) ≡ id = grows.starts (start_slot d (pass_start d q)) (λ z. id_known (sym slot ∙ z))
-            ∙ slot in
+        ∙ slot in
         subst (λ (x : ℕ). IsLinkedOver d new q.haystack from x all) (sym noted)
-            (subst (IsLinkedOver d new q.haystack from id) same_len linked)
+        (subst (IsLinkedOver d new q.haystack from id) same_len linked)
 
     told_behind_mid : told_of new ≡ told_behind d.nfa.automaton.reverse (span_len q) (told_of here) units →
         told_of new ≡ told_by_pass (reader d) q.anchored q.earliest q.haystack (told_of mid) (span_len q, from)
@@ -335,13 +343,13 @@ module _ (d : Dfa) (q : Search) (old mid : CacheValue) (m1 m n1 n id : ℕ) (mad
         ∙ (ap (λ (t : Told). told_behind d.nfa.automaton.reverse (span_len q) t units) tells_start
         ∙ (whole_told d.nfa.automaton.reverse q (told_of mid) units
         ∙ ap (λ (k : ℕ). if d.nfa.automaton.reverse && span_len q == 0 then told_of mid
-            else ended (mid.searched + progress_len mid.progress) (pass_distance d.nfa.automaton.reverse (span_len q) k)) same_len))
+        else ended (mid.searched + progress_len mid.progress) (pass_distance d.nfa.automaton.reverse (span_len q) k)) same_len))
 
     told_behind_all : Grew d old mid → told_of new ≡ told_behind d.nfa.automaton.reverse (span_len q) (told_of here) units →
         told_of new ≡ told_by_pass (reader d) q.anchored q.earliest q.haystack (told_of old) (span_len q, from)
     told_behind_all g e =
         told_behind_mid e ∙ ap (λ (t : Told). told_by_pass (reader d) q.anchored q.earliest q.haystack t (span_len q, from))
-            (same_told d old mid g)
+        (same_told d old mid g)
 
     abbrev Followed : Type 0
     Followed = Grows d here new × IsLinkedOver d new q.haystack from id units ×
@@ -399,7 +407,7 @@ module _ (d : Dfa) (q : Search) (old mid : CacheValue) (m1 m n1 n id : ℕ) (mad
     pass_anew (rest_untold tell fresh) =
         cleared_first (told_of new) fresh
         (sym (ap (λ (b : Bool). if b then told_of new else ended (new.searched + progress_len new.progress)
-            (pass_distance d.nfa.automaton.reverse (span_len q) all)) (nothing_told (told_of new) tell)))
+        (pass_distance d.nfa.automaton.reverse (span_len q) all)) (nothing_told (told_of new) tell)))
 
     told_ok : (f : Option HalfFound) → IsRestTold d q first from (Ok f) here new →
         IsPassTold (reader d) q.anchored q.earliest q.haystack p (Ok f) old new
@@ -430,19 +438,22 @@ module _ (d : Dfa) (q : Search) (old mid : CacheValue) (m1 m n1 n id : ℕ) (mad
       fails_so (fails_untold tell fresh l) =
           fails_first (told_of new) fresh (left_from (told_of new) (subst Left
           (sym (ap (λ (b : Bool). if b then told_of new else begun (index_at d.nfa.automaton.reverse from) (told_of new))
-              (nothing_told (told_of new) tell))) l))
+          (nothing_told (told_of new) tell))) l))
 
       told_err : (LeftAt d.nfa.automaton.reverse (is_quit_error e) (span_len q) from k (told_of here) (told_of new) ×
           (new.clears ≡ here.clears)) ⊎
           (HasCleared here new × RestFails d.nfa.automaton.reverse (is_quit_error e) q from k (told_of new)) →
-              IsPassTold (reader d) q.anchored q.earliest q.haystack p (Err e) old new
+          IsPassTold (reader d) q.anchored q.earliest q.haystack p (Err e) old new
       told_err (inl l) = ⊎_elim
           (λ (g : Grew d old mid). inl (
             left_from (told_of old) (subst Left (begun_mid ∙ ap (told_from d.nfa.automaton.reverse p) (same_told d old mid g)) l.0),
             clears_here g l.1,
           ))
-          (λ (w : WasCleared old mid 1). inr (clear_first w, fails_first (told_of mid) (fresh_start old mid w)
-              (left_from (told_of mid) (subst Left begun_mid l.0))))
+          (λ (w : WasCleared old mid 1). inr (
+            clear_first w,
+            fails_first (told_of mid) (fresh_start old mid w)
+                (left_from (told_of mid) (subst Left begun_mid l.0)),
+          ))
           start.kept
       told_err (inr c) = inr (cleared_here c.0, fails_so c.1)
 
@@ -458,12 +469,12 @@ module _ (d : Dfa) (q : Search) (old mid : CacheValue) (m1 m n1 n id : ℕ) (mad
         (λ (e : start_in d (mode_of q.anchored) ≡ None).
         let gone = ap is_dead (dead_first d q.anchored q.haystack from e) in
         let nothing = ends_dead (reader d) q.earliest q.haystack from first 0 (suc (span_len q)) None (omega arith)
-            (λ k l. absurd (omega (arith, l))) (λ k l. absurd (omega (arith, l))) gone in
+        (λ k l. absurd (omega (arith, l))) (λ k l. absurd (omega (arith, l))) gone in
         subst (IsLinkedOver d here q.haystack from id) (sym nothing.1) (linked_none d here q.haystack from id id_known))
         (λ (s : (p : ℕ) × (start_in d (mode_of q.anchored) ≡ Some p)).
         let path = linked s.0 start.start.0 s.1 in
         let same : id ≡ start_noted d old (pass_start d q) = one_ok id (start_noted d old (pass_start d q))
-            (start.known s.0 start.start.0 s.1 path.start) in
+        (start.known s.0 start.start.0 s.1 path.start) in
         linked_moved d old here still q.haystack from id units
         (subst (λ (x : ℕ). IsLinkedOver d old q.haystack from x units) (sym same)
         (subst (IsLinkedOver d old q.haystack from (start_noted d old (pass_start d q))) (sym same_len) path)))
@@ -483,13 +494,13 @@ module _ (d : Dfa) (q : Search) (old mid : CacheValue) (m1 m n1 n id : ℕ) (mad
         (λ (e : result ≡ told rest). inl (e ∙ ap told (sym is_rest)))
         (λ (e : (result ≡ Err SearchNoMemory) ⊎ ((x k : ℕ) × (result ≡ Err (GaveUp x)) × (k < units) ×
         (x ≡ give_up_place d.nfa.automaton.reverse (span_len q) from k) ×
-            (lacks_room d new (state_behind (reader d) q.haystack from first (suc k)) ≡ true) ×
+        (lacks_room d new (state_behind (reader d) q.haystack from first (suc k)) ≡ true) ×
         (k < span_len q → running_at new.progress ≡ Some x))).
         inr (⊎_elim
         (λ (f : result ≡ Err SearchNoMemory). inl f)
         (λ (g : (x k : ℕ) × (result ≡ Err (GaveUp x)) × (k < units) ×
         (x ≡ give_up_place d.nfa.automaton.reverse (span_len q) from k) ×
-            (lacks_room d new (state_behind (reader d) q.haystack from first (suc k)) ≡ true) ×
+        (lacks_room d new (state_behind (reader d) q.haystack from first (suc k)) ≡ true) ×
         (k < span_len q → running_at new.progress ≡ Some x)).
         inr (g.0, g.2, at_unit g.1 (subst (λ (l : ℕ). g.1 < l) same_len g.3) g.4 g.5 g.6))
         e))
@@ -516,7 +527,7 @@ module _ (d : Dfa) (q : Search) (old mid : CacheValue) (m1 m n1 n id : ℕ) (mad
   -- the first state is dead: nothing is read
   pub makes_dead_pass : (new : CacheValue) → has_tag dead_tag id ≡ true → IsMoved mid new →
       told_of new ≡ told_behind d.nfa.automaton.reverse (span_len q) (told_begun d.nfa.automaton.reverse q (told_of mid)) 0 →
-          MakesPass d q old new m1 m n1 n (Ok None)
+      MakesPass d q old new m1 m n1 n (Ok None)
   makes_dead_pass new tagged moved e =
       makes_pass here new m n (Ok None) refl refl (record {
         answer = inl is_none;
@@ -529,8 +540,10 @@ module _ (d : Dfa) (q : Search) (old mid : CacheValue) (m1 m n1 n id : ℕ) (mad
         free = λ l. (still, refl, refl, is_none);
         determinized = omega arith;
         inserted = omega arith;
-        anew = inl (e ∙ ap (told_behind d.nfa.automaton.reverse (span_len q) (told_of here)) (sym nothing.1),
-            (grows_moved d here new still).clears);
+        anew = inl (
+          e ∙ ap (told_behind d.nfa.automaton.reverse (span_len q) (told_of here)) (sym nothing.1),
+          (grows_moved d here new still).clears,
+        );
       })
     where
       still : IsMoved here new
@@ -552,13 +565,13 @@ module _ (d : Dfa) (q : Search) (old mid : CacheValue) (m1 m n1 n id : ℕ) (mad
         (told_begun is_reverse q (told_of mid)) 0 → MakesPass d q old new m1 m n1 n (Ok None)
     goes_dead tagged moved e =
         makes_dead_pass new tagged moved (subst (λ (b : Bool). told_of new ≡ told_behind b (span_len q) (told_begun b q (told_of mid)) 0) is
-            e)
+        e)
 
     pub goes_further : (here : CacheValue) (m2 n2 : ℕ) (result : Result (Option HalfFound) MatchErrorKind) → has_tag dead_tag id ≡ false →
         IsMoved mid here →
         told_of here ≡ told_begun is_reverse q (told_of mid) →
         ((s : StateValue) → HeldAt here id s → RunsOn d q s (point here m n (first_place is_reverse q.start q.end) id None) new m2 n2
-            result) →
+        result) →
         MakesPass d q old new m1 m2 n1 n2 result
     goes_further here m2 n2 result untagged moved e runs =
         makes_pass here new m2 n2 result moved (subst (λ (b : Bool). told_of here ≡ told_begun b q (told_of mid)) is e)

@@ -85,7 +85,7 @@ pub data LeavesPass (r : Reader) (mode : Anchored) (earliest : Bool) (h : List �
   left_first : IsRefusedFirst r.automaton.reverse p.1 e → new ≡ t → LeavesPass r mode earliest h p e t new
   left_at_unit : (k : ℕ) → k < pass_len r mode earliest h p.0 p.1 → IsRefusedAt r.automaton.reverse p.0 p.1 k e →
       LeftAt r.automaton.reverse (is_quit_error e) p.0 p.1 k (told_from r.automaton.reverse p t) new →
-          LeavesPass r mode earliest h p e t new
+      LeavesPass r mode earliest h p e t new
 
 -- of the passes of a half search one is refused, and those before it have told all that they do
 pub record LeavesTold (r : Reader) (q : Search) (e : MatchErrorKind) (t new : Told) : Type 0 where

@@ -52,7 +52,7 @@ abbrev pub passes_on : Reader → Anchored → Bool → List ℕ → ℕ → ℕ
 passes_on r mode earliest h zero i = (zero, i) ∷ []
 passes_on r mode earliest h (suc n) i = (suc n, i) ∷
     (if splits (counts r.between_characters h) (pass r mode earliest h (suc n) i) then passes_on r mode earliest h n (next_place r i)
-        else [])
+    else [])
 
 -- those of a half search
 abbrev pub passes_of : Reader → Search → List (ℕ × ℕ)

@@ -36,7 +36,7 @@ IsPassTold r mode earliest h p (Err e) old new =
 abbrev pub IsSearchTold : Reader → Search → Result (Option HalfFound) MatchErrorKind → CacheValue → CacheValue → Type 0
 IsSearchTold r q (Ok found) old new =
     ((told_of new ≡ told_by r q (told_of old) (passes_of r q)) × (new.clears ≡ old.clears)) ⊎
-        (HasCleared old new × ToldSince r q (passes_of r q) (told_of new))
+    (HasCleared old new × ToldSince r q (passes_of r q) (told_of new))
 IsSearchTold r q (Err e) old new =
     (LeavesTold r q e (told_of old) (told_of new) × (new.clears ≡ old.clears)) ⊎ (HasCleared old new × FailsSince r q e (told_of new))
 
@@ -49,10 +49,10 @@ pub record MakesPass (d : Dfa) (q : Search) (old new : CacheValue) (m1 m2 n1 n2 
   pub kept : GrowsOrClears d old new
   pub follows : OnOk result ((Grows d old new × IsLinkedPass d new q.anchored q.earliest q.haystack (span_len q) (begins_at (reader d) q) ×
       (told_of new ≡ told_by_pass (reader d) q.anchored q.earliest q.haystack (told_of old) (span_len q, begins_at (reader d) q))) ⊎
-          HasCleared old new)
+      HasCleared old new)
   pub free : IsLinkedPass d old q.anchored q.earliest q.haystack (span_len q) (begins_at (reader d) q) →
       IsMoved old new × (m2 ≡ m1) × (n2 ≡ n1) × (result ≡ told (pass (reader d) q.anchored q.earliest q.haystack (span_len q)
-          (begins_at (reader d) q)))
+      (begins_at (reader d) q)))
   pub determinized : m2 ≤ m1 + suc (pass_len (reader d) q.anchored q.earliest q.haystack (span_len q) (begins_at (reader d) q))
   pub inserted : n2 ≤ n1 + suc (pass_len (reader d) q.anchored q.earliest q.haystack (span_len q) (begins_at (reader d) q)) * most_inserts d
   pub anew : IsPassTold (reader d) q.anchored q.earliest q.haystack (span_len q, begins_at (reader d) q) result old new

@@ -68,15 +68,19 @@ BeganFirst is_reverse q v = tells is_reverse q ≡ true → began v.progress ≡
 
 -- it has just begun
 abbrev pub BeginsFirst : Bool → Search → CacheValue → Type 0
-BeginsFirst is_reverse q v = tells is_reverse q ≡ true → v.progress ≡ Some (record { start = first_index is_reverse q;
-    at = first_index is_reverse q })
+BeginsFirst is_reverse q v = tells is_reverse q ≡ true → v.progress ≡ Some (record {
+  start = first_index is_reverse q;
+  at = first_index is_reverse q;
+})
 
 -- what a cache keeps of that when a pass has told it where it begins
 abbrev pub told_begun : Bool → Search → Told → Told
 told_begun is_reverse q t =
     if tells is_reverse q
-    then record { searched = min (t.searched + progress_len t.progress) greatest;
-        progress = Some (record { start = first_index is_reverse q; at = first_index is_reverse q }) }
+    then record {
+      searched = min (t.searched + progress_len t.progress) greatest;
+      progress = Some (record { start = first_index is_reverse q; at = first_index is_reverse q });
+    }
     else t
 
 -- the search that goes on ends at this place, and its length is added; or only where that is wanted
@@ -156,7 +160,7 @@ abbrev pub TurnsTo : Dfa → Search → Point → CacheValue → ℕ → ℕ →
 TurnsTo d q from new m n (Ok turned) = TurnsInto d q from new m n turned.position turned.has_ended
 TurnsTo d q from new m n (Err (Quit b x)) = Leaves d q.haystack from new m n 0 ×
     (unit_at d.nfa.automaton.reverse q.haystack from.at ≡ Some b) × (has d.quits b ≡ true) ×
-        (x ≡ index_at d.nfa.automaton.reverse from.at) ×
+    (x ≡ index_at d.nfa.automaton.reverse from.at) ×
     TellsTurn d true false q from.at from.cache new
 TurnsTo d q from new m n (Err (GaveUp x)) = FailsOn d q.haystack from new m n 0 ×
     (is_quit d.quits (unit_at d.nfa.automaton.reverse q.haystack from.at) ≡ false) × (x ≡ gave_up_at d.nfa.automaton.reverse q from.at) ×
@@ -185,12 +189,12 @@ pub data RestFails (is_reverse quits : Bool) (q : Search) (i k : ℕ) (new : Tol
 abbrev pub IsRestTold : Dfa → Search → StateValue → ℕ → Result (Option HalfFound) MatchErrorKind → CacheValue → CacheValue → Type 0
 IsRestTold d q s i (Ok found) old new =
     ((told_of new ≡ told_behind d.nfa.automaton.reverse (span_len q) (told_of old)
-        (units_read (reader d) q.earliest q.haystack (suc (span_len q)) i s)) ×
+    (units_read (reader d) q.earliest q.haystack (suc (span_len q)) i s)) ×
     (new.clears ≡ old.clears)) ⊎ (HasCleared old new × RestAnew d.nfa.automaton.reverse q
-        (units_read (reader d) q.earliest q.haystack (suc (span_len q)) i s) (told_of new))
+    (units_read (reader d) q.earliest q.haystack (suc (span_len q)) i s) (told_of new))
 IsRestTold d q s i (Err e) old new =
     (k : ℕ) × (k < units_read (reader d) q.earliest q.haystack (suc (span_len q)) i s) ×
-        IsRefusedAt d.nfa.automaton.reverse (span_len q) i k e ×
+    IsRefusedAt d.nfa.automaton.reverse (span_len q) i k e ×
     ((LeftAt d.nfa.automaton.reverse (is_quit_error e) (span_len q) i k (told_of old) (told_of new) × (new.clears ≡ old.clears)) ⊎
     (HasCleared old new × RestFails d.nfa.automaton.reverse (is_quit_error e) q i k (told_of new)))
 
@@ -200,13 +204,13 @@ pub record RunsOn (d : Dfa) (q : Search) (s : StateValue) (from : Point) (new : 
   pub answer : (result ≡ told (pass_from (reader d) q.earliest q.haystack (suc (span_len q)) from.at s None)) ⊎ (result ≡ Err NoMemory) ⊎
       ((x k : ℕ) × (result ≡ Err (GaveUp x)) × (k < units_read (reader d) q.earliest q.haystack (suc (span_len q)) from.at s) ×
       (x ≡ give_up_place d.nfa.automaton.reverse (span_len q) from.at k) ×
-          (lacks_room d new (state_behind (reader d) q.haystack from.at s (suc k)) ≡ true) ×
+      (lacks_room d new (state_behind (reader d) q.haystack from.at s (suc k)) ≡ true) ×
       (k < span_len q → running_at new.progress ≡ Some x))
   pub kept : GrowsOrClears d from.cache new
   pub follows : OnOk result ((Grows d from.cache new ×
       IsLinkedOver d new q.haystack from.at from.id (units_read (reader d) q.earliest q.haystack (suc (span_len q)) from.at s) ×
       (told_of new ≡ told_behind d.nfa.automaton.reverse (span_len q) (told_of from.cache)
-          (units_read (reader d) q.earliest q.haystack (suc (span_len q)) from.at s))) ⊎
+      (units_read (reader d) q.earliest q.haystack (suc (span_len q)) from.at s))) ⊎
       HasCleared from.cache new)
   pub free : IsLinkedOver d from.cache q.haystack from.at from.id (units_read (reader d) q.earliest q.haystack
       (suc (span_len q)) from.at s) →
@@ -229,7 +233,7 @@ pub record StartsPass (d : Dfa) (q : Search) (old new : CacheValue) (m1 m2 n1 n2
   pub err : IfErr r (λ e. ((start_refusal d (pass_start d q) ≢ None) ×
       (Err e ≡ told (pass (reader d) q.anchored q.earliest q.haystack (span_len q) (begins_at (reader d) q)))) ⊎ (e ≡ NoMemory) ⊎
       ((e ≡ GaveUp (begins_at (reader d) q)) × (lacks_room d new (first_value (reader d) q.anchored q.haystack (begins_at (reader d) q)) ≡
-          true)))
+      true)))
   pub kept : Grew d old new ⊎ WasCleared old new 1
   pub noted : IfOk r (λ id. (p : ℕ) → start_in d (mode_of q.anchored) ≡ Some p → start_noted d new (pass_start d q) ≡ id)
   pub known : (p : ℕ) → start_refusal d (pass_start d q) ≡ None → start_in d (mode_of q.anchored) ≡ Some p →

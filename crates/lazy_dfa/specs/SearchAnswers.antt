@@ -56,7 +56,7 @@ pub data GivesUpIn (d : Dfa) (v : CacheValue) (mode : Anchored) (earliest : Bool
   at_start : x ≡ i → lacks_room d v (first_value (reader d) mode h i) ≡ true → GivesUpIn d v mode earliest h n i x
   at_unit : (k : ℕ) → k < pass_len (reader d) mode earliest h n i → x ≡ give_up_place d.nfa.automaton.reverse n i k →
       lacks_room d v (state_behind (reader d) h i (first_value (reader d) mode h i) (suc k)) ≡ true →
-          (k < n → running_at v.progress ≡ Some x) →
+      (k < n → running_at v.progress ≡ Some x) →
       GivesUpIn d v mode earliest h n i x
 
 -- of these passes one gave up

@@ -102,7 +102,7 @@ pub data GivesUpOn (d : Dfa) (v : CacheValue) (q : Search) (w : Walk) (x : ℕ) 
       x ≡ gave_up_at d.nfa.automaton.reverse q (place_of d.nfa.automaton.reverse (call_place (reader d) q w) k) →
       lacks_room d v (value_past (reader d) q (place_of d.nfa.automaton.reverse (call_place (reader d) q w) k)) ≡ true →
       (place_of d.nfa.automaton.reverse (call_place (reader d) q w) k ≢ last_place d.nfa.automaton.reverse q →
-          running_at v.progress ≡ Some x) →
+      running_at v.progress ≡ Some x) →
       GivesUpOn d v q w x
 
 -- What a call of a walk answers over whatever cache. Else memory lacked, or it gave up, and the cache is as it was then.
@@ -223,7 +223,7 @@ AnswersWhich d v q old new result =
     ((result ≡ told_left [] (which_of (reader d) q old).refusal) × (new ≡ (which_of (reader d) q old).set)) ⊎
     ((k : ℕ) × (new ≡ with_ends old (take k (whole_rest (reader d) q).ends)) ×
     ((result ≡ Err NoMemory) ⊎ ((x : ℕ) × (result ≡ Err (GaveUp x)) × GivesUpIn d v q.anchored false q.haystack (span_len q)
-        (begins_at (reader d) q) x)))
+    (begins_at (reader d) q) x)))
 
 -- it makes so many states at most: one for its start, and one for each unit of one pass
 abbrev pub which_made : Reader → Search → ℕ

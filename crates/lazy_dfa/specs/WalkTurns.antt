@@ -90,7 +90,7 @@ ReadsInto d q from new m n position tells false =
     GoesOne d q.haystack from new m n position.id (pair_of position.best) × (position.at ≡ place_of d.nfa.automaton.reverse from.at 1) ×
     (from.at ≢ last_place d.nfa.automaton.reverse q) × IsRow new position.id ×
     ((s : StateValue) → HeldAt from.cache from.id s → tells_end (reader d) q.haystack from.at
-        (state_behind (reader d) q.haystack from.at s 1) ≡ false)
+    (state_behind (reader d) q.haystack from.at s 1) ≡ false)
 
 -- one unit of a walk in its span
 abbrev pub ReadsTo : Dfa → Search → Point → CacheValue → ℕ → ℕ → Result Read MatchErrorKind → Type 0

@@ -78,7 +78,7 @@ abbrev pub whole_rest : Reader → Search → Rest
 whole_rest r q =
     if nat_le q.start q.end
     then unless_quit_at r.quits (unit_behind r.automaton.reverse q.haystack (begins_at r q))
-        (index_behind r.automaton.reverse (begins_at r q))
+    (index_behind r.automaton.reverse (begins_at r q))
     (where_supported (is_supported r.starts_for_each_pattern q.anchored) q.anchored
     (rest_from r q.haystack (suc (q.end - q.start)) (begins_at r q) (first_value r q.anchored q.haystack (begins_at r q))))
     else nothing_left
@@ -101,7 +101,7 @@ rest_of r q Ended = nothing_left
 rest_of r q (Failed e) = refused e
 rest_of r q (Stopped stop) =
     onto (listed (counts r.between_characters q.haystack) stop.at (drop stop.index (value_past r q stop.at).matches))
-        (rest_past r q stop.at)
+    (rest_past r q stop.at)
 
 -- A walk stopped in this cache: its ID names the state behind the units that it read, and its index is one of this state's list
 -- or just behind it. Nothing else ties a walk to a cache.

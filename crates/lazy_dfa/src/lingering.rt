@@ -161,7 +161,14 @@ pub(crate) fn linger(
     }
     let haystack = input.haystack();
     if is_reverse {
-        let run = linger_reverse(dfa, cache, haystack, position.id, position.at, input.start());
+        let run = linger_reverse(
+            dfa,
+            cache,
+            haystack,
+            position.id,
+            position.at,
+            input.start(),
+        );
         return Position {
             at: run.at,
             id: run.id,

@@ -16,7 +16,7 @@ use crate::cache_error::CacheError;
 use crate::dfa::{Cache, DFA};
 use crate::lazy_id::LazyStateID;
 use crate::lingering::linger;
-use crate::runs::{run_reverse, run_forward, see_bytes};
+use crate::runs::{run_forward, run_reverse, see_bytes};
 use crate::turns::{Turn, make_turn};
 use crate::work::Work;
 use search_types::{HalfMatch, Input, MatchError, MatchErrorKind};
@@ -43,14 +43,22 @@ pub(crate) struct Turned {
 pub(crate) fn first_place(input: &Input<'_>, is_reverse: bool) -> usize
     ensures { result ≡ first_place is_reverse input.now.start input.now.end }
 {
-    if is_reverse { input.end() } else { input.start() }
+    if is_reverse {
+        input.end()
+    } else {
+        input.start()
+    }
 }
 
 /// Where one ends.
 pub(crate) fn last_place(input: &Input<'_>, is_reverse: bool) -> usize
     ensures { result ≡ last_place is_reverse input.now }
 {
-    if is_reverse { input.start() } else { input.end() }
+    if is_reverse {
+        input.start()
+    } else {
+        input.end()
+    }
 }
 
 /// The index of the byte that is read next at a place.
@@ -148,7 +156,14 @@ pub(crate) fn run(
     }
     let haystack = input.haystack();
     if is_reverse {
-        let moved = run_reverse(dfa, cache, haystack, position.id, position.at, input.start());
+        let moved = run_reverse(
+            dfa,
+            cache,
+            haystack,
+            position.id,
+            position.at,
+            input.start(),
+        );
         return Position {
             at: moved.at,
             id: moved.id,
@@ -174,7 +189,13 @@ pub(crate) fn run(
 
 /// Goes on over known steps, up to the last place of the span: while no state has a tag, and then through those that match too.
 #[inline(always)]
-fn run_known(dfa: &DFA, cache: &mut Cache, input: &Input<'_>, is_reverse: bool, position: Position) -> Position
+fn run_known(
+    dfa: &DFA,
+    cache: &mut Cache,
+    input: &Input<'_>,
+    is_reverse: bool,
+    position: Position,
+) -> Position
     requires own { IsCacheOf dfa.now cache.old }
     requires is_reverse { is_reverse ≡ dfa.now.nfa.automaton.reverse }
     requires row { IsRow cache.old position.id }
@@ -218,7 +239,14 @@ fn byte_turn<L: Ledger, M: Ledger>(
     let earliest = input.get_earliest();
     cache.search_update(index);
     let seen = match make_turn(
-        dfa, cache, position.id, unit, position.at, position.best, earliest, work,
+        dfa,
+        cache,
+        position.id,
+        unit,
+        position.at,
+        position.best,
+        earliest,
+        work,
     ) {
         Ok(seen) => seen,
         Err(e) => return Err(refusal(e, index)),
@@ -269,7 +297,14 @@ fn last_turn<L: Ledger, M: Ledger>(
     let earliest = input.get_earliest();
     finish_where(cache, position.at, tells_before(input, is_reverse));
     let seen = match make_turn(
-        dfa, cache, position.id, unit, position.at, position.best, earliest, work,
+        dfa,
+        cache,
+        position.id,
+        unit,
+        position.at,
+        position.best,
+        earliest,
+        work,
     ) {
         Ok(seen) => seen,
         Err(e) => return Err(refusal(e, position.at)),

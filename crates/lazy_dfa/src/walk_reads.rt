@@ -152,7 +152,14 @@ fn step_at<L: Ledger, M: Ledger>(
     let unit = unit_at(input.haystack(), position.at, is_reverse);
     cache.search_update(place);
     let seen = match make_turn(
-        dfa, cache, position.id, unit, position.at, position.best, false, work,
+        dfa,
+        cache,
+        position.id,
+        unit,
+        position.at,
+        position.best,
+        false,
+        work,
     ) {
         Ok(seen) => seen,
         Err(e) => {

@@ -36,7 +36,7 @@ scalars_reverse (x ∷ xs) h =
     let p = and_parts _ _ h in
     let last : all_scalars (x ∷ []) ≡ true = and_from _ _ p.0 refl in
     subst (λ (l : List ℕ). all_scalars l ≡ true) (sym (reverse-append (x ∷ []) xs))
-        (scalars_join (reverse xs) (x ∷ []) (scalars_reverse xs p.1) last)
+    (scalars_join (reverse xs) (x ∷ []) (scalars_reverse xs p.1) last)
 
 -- ---- the sides of a place between characters
 abbrev head_side : (ℕ → Bool) → List ℕ → Side
@@ -53,8 +53,12 @@ first_side : (words : ℕ → Bool) (front s rest : List ℕ) (c : ℕ) → Spel
     (by_characters words).after (front ++ (s ++ rest)) (length front) ≡ word_if (words c)
 first_side words front s rest c k =
     let h : List ℕ = front ++ (s ++ rest) in
-    let first : SpellsFirst c (drop (length front) h) = record { spelling = s; rest = rest; spells = k;
-        joined = drop-append_seam front (s ++ rest) } in
+    let first : SpellsFirst c (drop (length front) h) = record {
+      spelling = s;
+      rest = rest;
+      spells = k;
+      joined = drop-append_seam front (s ++ rest);
+    } in
     let some = spelling_some c s k in
     let low : length front < length h = omega (arith, length-append front (s ++ rest), length-append s rest) in
     side_is words _ _ (get_or h (length front) 0) c (slice_get-get_or h (length front) 0 low) (begun_character h (length front) c first)
@@ -81,7 +85,7 @@ before_side words [] rest h = refl
 before_side words (c ∷ rs) rest h =
     let e : encode_utf8_all (reverse rs) ++ encode_utf8 c ≡ encode_utf8_all (reverse (c ∷ rs)) =
     sym (ap encode_utf8_all (reverse-append (c ∷ []) rs) ∙ encodes-append (reverse rs) (c ∷ [])
-        ∙ ap (λ (l : List ℕ). encode_utf8_all (reverse rs) ++ l) (append-nil (encode_utf8 c))) in
+    ∙ ap (λ (l : List ℕ). encode_utf8_all (reverse rs) ++ l) (append-nil (encode_utf8 c))) in
     subst (λ (a : List ℕ). (by_characters words).before (a ++ rest) (length a) ≡ head_side words (c ∷ rs)) e
     (last_side words (encode_utf8_all (reverse rs)) (encode_utf8 c) rest c (encoded_spells c _ (and_parts _ _ h).0 refl))
 
@@ -136,6 +140,6 @@ mirror_characters words t cs l k s fits u =
     let r = turned_cut words t xs ys l (scalars_left xs ys both) (scalars_right xs ys both) u in
     let n : length cs - k ≡ length ys = sym (length-drop k cs) in
     let w : take (length cs - k) (reverse cs) ≡ reverse ys = ap (λ (a : List ℕ). take (length cs - k) (reverse a)) (sym e)
-        ∙ take_reversed xs ys (length cs - k) n in
+    ∙ take_reversed xs ys (length cs - k) n in
     ap (λ (a : List ℕ). holds words t (encode_utf8_all a) l (length (encode_utf8_all xs))) (sym e) ∙ r
     ∙ ap₂ (λ (a b : List ℕ). holds words t (encode_utf8_all (reverse a)) (reversed l) (length (encode_utf8_all b))) e (sym w)

@@ -87,7 +87,7 @@ same_word a b h =
     let h2 = All-tail P (0x41, 0x5A) score h1 in
     let h3 = All-tail P (0x5F, 0x5F) small h2 in
     or_of_four _ _ _ _ _ _ _ _ (same_in_range 0x30 0x39 a b (All-head P (0x30, 0x39) capital h))
-        (same_in_range 0x41 0x5A a b (All-head P (0x41, 0x5A) score h1))
+    (same_in_range 0x41 0x5A a b (All-head P (0x41, 0x5A) score h1))
     (same_byte_turned 0x5F a b (All-head P (0x5F, 0x5F) small h2)) (same_in_range 0x61 0x7A a b (All-head P (0x61, 0x7A) [] h3))
 
 pub same_end : (t : Terminator) (a b : ℕ) → All (LieAlike a b) (line_ends t) → ends_line t a ≡ ends_line t b

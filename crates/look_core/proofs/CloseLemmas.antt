@@ -84,7 +84,7 @@ module _ (h g : List ℕ) (len : length h ≡ length g) (close : (k : ℕ) → A
   four_close : (k : ℕ) → four_bytes h k ≡ four_bytes g k
   four_close k =
       same_four (get_or h k 0) (get_or h (k + 1) 0) (get_or h (k + 2) 0) (get_or h (k + 3) 0) (get_or g k 0) (get_or g (k + 1) 0)
-          (get_or g (k + 2) 0) (get_or g (k + 3) 0)
+      (get_or g (k + 2) 0) (get_or g (k + 3) 0)
       (close k) (close (k + 1)) (close (k + 2)) (close (k + 3))
 
   rest_at : (k : ℕ) → option_or (two_bytes h k) (option_or (three_bytes h k) (four_bytes h k)) ≡ option_or (two_bytes g k)

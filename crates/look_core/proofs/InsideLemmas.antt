@@ -51,7 +51,7 @@ module _ (h : List ℕ) (p n i : ℕ) (lead : Leads (get_or h p 0) n)
   inside_at =
       let t = tails i above below in
       none_of_four _ _ _ _ (no_one h i t.0) (no_two_lead h i (inl (omega arith))) (no_three_lead h i (inl (omega arith)))
-          (no_four_lead h i (inl (omega arith)))
+      (no_four_lead h i (inl (omega arith)))
 
   lead_at : (k : ℕ) → k ≡ p → 0xC2 ≤ get_or h k 0
   lead_at k e = subst (λ (j : ℕ). 0xC2 ≤ get_or h j 0) (sym e) (lead_two _ n lead (omega arith))
@@ -66,8 +66,10 @@ module _ (h : List ℕ) (p n i : ℕ) (lead : Leads (get_or h p 0) n)
   inside_two l = elim (cases_eq (i - 2 + 1) p) [
     | inl e ↦ no_two_next h (i - 2) (inr (omega (arith, lead_at (i - 2 + 1) e)))
     | inr d ↦ elim (cases_eq (i - 2) p) [
-      | inl e ↦ no_two_lead h (i - 2) (inr (subst (λ (j : ℕ). 0xDF < get_or h j 0) (sym e) (omega (arith,
-          lead_three _ n lead (omega arith)))))
+      | inl e ↦ no_two_lead h (i - 2) (inr (subst (λ (j : ℕ). 0xDF < get_or h j 0) (sym e) (omega (
+        arith,
+        lead_three _ n lead (omega arith),
+      ))))
       | inr o ↦ no_two_lead h (i - 2) (inl (omega (arith, tails (i - 2) (omega arith) (omega arith))))
     ]
   ]
@@ -78,8 +80,10 @@ module _ (h : List ℕ) (p n i : ℕ) (lead : Leads (get_or h p 0) n)
     | inr d ↦ elim (cases_eq (i - 3 + 1) p) [
       | inl e ↦ no_three_next h (i - 3) (inr (omega (arith, lead_at (i - 3 + 1) e)))
       | inr c ↦ elim (cases_eq (i - 3) p) [
-        | inl e ↦ no_three_lead h (i - 3) (inr (subst (λ (j : ℕ). 0xEF < get_or h j 0) (sym e) (omega (arith,
-            lead_four _ n lead (omega arith)))))
+        | inl e ↦ no_three_lead h (i - 3) (inr (subst (λ (j : ℕ). 0xEF < get_or h j 0) (sym e) (omega (
+          arith,
+          lead_four _ n lead (omega arith),
+        ))))
         | inr o ↦ no_three_lead h (i - 3) (inl (omega (arith, tails (i - 3) (omega arith) (omega arith))))
       ]
     ]
@@ -112,7 +116,7 @@ module _ (h : List ℕ) (p n i : ℕ) (lead : Leads (get_or h p 0) n)
 -- with both sides broken no Unicode look holds
 broken_fails : (words : ℕ → Bool) (t : Terminator) (h : List ℕ) (l : Look) (i : ℕ) →
     (by_characters words).before h i ≡ broken → (by_characters words).after h i ≡ broken → is_word_unicode l ≡ true →
-        holds words t h l i ≡ false
+    holds words t h l i ≡ false
 broken_fails words t h Start i p q u = cc
 broken_fails words t h End i p q u = cc
 broken_fails words t h StartLF i p q u = cc
@@ -140,16 +144,16 @@ at_place before s after m low high =
 
 pub inside_fails : (words : ℕ → Bool) (t : Terminator) (before spelling after : List ℕ) (c : ℕ) (l : Look) (i : ℕ) → Spells c spelling →
     length before < i → i < length before + length spelling → is_word_unicode l ≡ true →
-        holds words t (before ++ (spelling ++ after)) l i ≡ false
+    holds words t (before ++ (spelling ++ after)) l i ≡ false
 inside_fails words t before s after c l i k above below u =
     let h : List ℕ = before ++ (s ++ after) in
     let p : ℕ = length before in
     let e : get_or s 0 0 ≡ get_or h p 0 = sym (at_place before s after p (omega arith) (omega arith)
-        ∙ ap (λ (j : ℕ). get_or s j 0) (omega arith)) in
+    ∙ ap (λ (j : ℕ). get_or s j 0) (omega arith)) in
     let lead : Leads (get_or h p 0) (length s) = subst (λ (a : ℕ). Leads a (length s)) e (spelling_leads c s k) in
     let tails : (m : ℕ) → p < m → m < p + length s → IsContinuation (get_or h m 0) =
     λ m low high. subst IsContinuation (sym (at_place before s after m (omega arith) high))
-        (spelling_tails c s k (m - p) (omega arith) (omega arith)) in
+    (spelling_tails c s k (m - p) (omega arith) (omega arith)) in
     let fits : p + length s ≤ length h = omega (arith, length-append before (s ++ after), length-append s after) in
     let b = inside_broken h p (length s) i lead tails above below words fits in
     broken_fails words t h l i b.0 b.1 u

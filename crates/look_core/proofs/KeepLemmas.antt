@@ -23,12 +23,12 @@ module _ (t : Terminator) (looks : List Look) (marks : List Bool) (unmarked : Is
       alike_for t looks l (get_or h k 0) (get_or g k 0) member
       (same_class_alike marks (flat_map (told_apart t) looks) (get_or h k 0) (get_or g k 0) unmarked
       (All-get_or (λ b. b < length marks) h k 0 low bytes_h) (All-get_or (λ b. b < length marks) g k 0 (omega (arith, same.0)) bytes_g)
-          (same.1 k low))
+      (same.1 k low))
 
   pub kept_bytes : (words : ℕ → Bool) (i : ℕ) → is_word_unicode l ≡ false → holds words t h l i ≡ holds words t g l i
   kept_bytes words i u =
       reads_bytes (by_characters words) t h l i u ∙ alike_bytes t h g i same.0 l u alike_each
-          ∙ sym (reads_bytes (by_characters words) t g l i u)
+      ∙ sym (reads_bytes (by_characters words) t g l i u)
 
   pub kept_characters : (words : ℕ → Bool) (i : ℕ) → IsWordSet words → DifferInAscii h g → is_word_unicode l ≡ true →
       holds words t h l i ≡ holds words t g l i
@@ -36,6 +36,6 @@ module _ (t : Terminator) (looks : List Look) (marks : List Bool) (unmarked : Is
       let each = close_each h g same.0 close in
       let alike : (k : ℕ) → k < length h → is_word_byte (get_or h k 0) ≡ is_word_byte (get_or g k 0) =
       λ k low. same_word (get_or h k 0) (get_or g k 0) (subst (All (LieAlike (get_or h k 0) (get_or g k 0))) (word_ranges_told t l u)
-          (alike_each k low)) in
+      (alike_each k low)) in
       same_unicode (by_characters words) t h g i (close_before h g same.0 each words set alike i)
-          (close_after h g same.0 each words set alike i) l u
+      (close_after h g same.0 each words set alike i) l u

@@ -71,7 +71,7 @@ has_look-without s t l h =
     ap (λ n. n == 1) (bit_at_and s (bit_not w32 t) (bit_of l))
     ∙ both_bits _ _ (bit_at-lt s (bit_of l)) (bit_at-lt (bit_not w32 t) (bit_of l))
     ∙ ap (λ b. has_look s l && b) (ap (λ n. n == 1) (bit_at_not w32 t (bit_of l) (omega arith) (omega (arith, bit_of-lt l)))
-        ∙ other_bit _ (bit_at-lt t (bit_of l)))
+    ∙ other_bit _ (bit_at-lt t (bit_of l)))
 
 power_bit : (k i : ℕ) → (bit_at (2 ^ k) i == 1) ≡ (i == k)
 power_bit k i =
@@ -160,7 +160,7 @@ same_members s t p q h = same_from_bits_below 18 s t p q (λ i b. at i b (bit_of
     at : (i : ℕ) → i < 18 → bit_of (look_at i) ≡ i → bit_at s i ≡ bit_at t i
     at i b e =
         let same : bit_at s (bit_of (look_at i)) ≡ bit_at t (bit_of (look_at i)) =
-            same_test _ _ (bit_at-lt s _) (bit_at-lt t _) (h (look_at i)) in
+        same_test _ _ (bit_at-lt s _) (bit_at-lt t _) (h (look_at i)) in
         subst (λ (j : ℕ). bit_at s j ≡ bit_at t j) e same
 
 -- ---- a member by its number's bit in the set
@@ -213,7 +213,7 @@ filter_first f g (x ∷ xs) zero l fb gb fh gh above =
 filter_first f g (x ∷ xs) (suc n) l fb gb fh gh above =
     ap (λ b. cond b (x ∷ filter f xs) (filter f xs)) (fb 0 (omega arith))
     ∙ filter_first f g xs n (omega arith) (λ i h. fb (suc i) (omega arith)) (λ i h. gb (suc i) (omega arith)) fh gh
-        (λ i h k. above (suc i) (omega arith) (omega arith))
+    (λ i h k. above (suc i) (omega arith) (omega arith))
     ∙ sym (ap (λ b. get_or xs n Start ∷ cond b (x ∷ filter g xs) (filter g xs)) (gb 0 (omega arith)))
 
 pub members-first : (s : ℕ) (l : Look) → has_look s l ≡ true → ((i : ℕ) → i < bit_of l → bit_at s i ≡ 0)
@@ -223,7 +223,7 @@ members-first s l here below =
     lower (λ i h. has_look-without_look s l (look_at i) ∙ ap (λ b. b && not (same_look (look_at i) l)) (lower i h))
     (ap (has_look s) (look_at-bit_of l) ∙ here)
     (ap (has_look (without_look s l)) (look_at-bit_of l) ∙ has_look-without_look s l l
-        ∙ (λ i. here i && not (eq-eqb (bit_of l) (bit_of l) refl i)))
+    ∙ (λ i. here i && not (eq-eqb (bit_of l) (bit_of l) refl i)))
     (λ i h b. sym (has_look-without_look s l (look_at i)
     ∙ ap (λ t. has_look s (look_at i) && not t) (ne_eqb (bit_of (look_at i)) (bit_of l) (λ e. omega (arith, e, bit_of-look_at i b)))
     ∙ and-true (has_look s (look_at i))))

@@ -41,14 +41,14 @@ module _ {B : Type 0} (eps step : ℕ → ℕ → List ℕ) (n len : ℕ) (graph
   -- up to place k all are those of what arrives
   up : (start i d : ℕ) → i + d ≡ len → i ≤ k →
       flat_map (found eps step only n len 0) (chain_ends nat_eq (eps 0) n [] start) ≡ flat_map (found eps step only n d i)
-          (arrivals eps step n start i)
+      (arrivals eps step n start i)
   up start zero d sum low = let e : len ≡ d = omega (arith, sum) in rw e
   up start (suc i) d sum low =
       let arrived : List ℕ = arrivals eps step n start i in
       let ends : ℕ → List ℕ = chain_ends nat_eq (eps (suc i)) n [] in
       up start i (suc d) (omega (arith, sum)) (omega (arith, low))
       ∙ flat_map_same nat_eq names_equal (found eps step only n (suc d) i)
-          (λ y. flat_map (found eps step only n d (suc i)) (flat_map ends (step i y))) arrived
+      (λ y. flat_map (found eps step only n d (suc i)) (flat_map ends (step i y))) arrived
       (λ y h. rw (off i y (omega (arith, low))))
       ∙ sym (flat_map_twice (found eps step only n d (suc i)) (λ y. flat_map ends (step i y)) arrived)
       ∙ ap (flat_map (found eps step only n d (suc i))) (sym (flat_map_twice ends (step i) arrived))
@@ -60,8 +60,10 @@ module _ {B : Type 0} (eps step : ℕ → ℕ → List ℕ) (n len : ℕ) (graph
   -- the matches of the list at place k are the ends of runs there
   pub list_has_ends : (same_end : B → B → Bool) → IsEquality same_end → (start : ℕ) → start < n → (lists : ℕ → List ℕ) →
       IsListed eps step (λ j xs. xs) len start lists → k ≤ len →
-      distinct same_end (answers_at answer k (lists k)) ≡ run_ends same_pair same_end (nexts eps step) (only_at k answer) (suc len * n) (0,
-          start)
+      distinct same_end (answers_at answer k (lists k)) ≡ run_ends same_pair same_end (nexts eps step) (only_at k answer) (suc len * n) (
+        0,
+        start,
+      )
   list_has_ends same_end laws_end start start_low lists listed inside =
       let arrived : List ℕ = arrivals eps step n start k in
       ap (λ l. distinct same_end (answers_at answer k l)) (lists_are_joins eps step n len graph start start_low lists listed k inside)

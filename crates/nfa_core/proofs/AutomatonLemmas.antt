@@ -30,7 +30,7 @@ in_ranges_led [] b r h = h
 in_ranges_led ((low, high, next) ∷ others) b r h =
     of_either (nat_le low b && nat_le b high) (next ∷ []) (in_ranges others b) (next ∷ map (λ r. r.2) others) r
     (of_cons nat_eq names_equal (λ q. Has nat_eq q (next ∷ map (λ r. r.2) others)) next []
-        (has_first nat_eq names_equal next (map (λ r. r.2) others)) (λ q g. none_in nat_eq q _ g) r)
+    (has_first nat_eq names_equal next (map (λ r. r.2) others)) (λ q g. none_in nat_eq q _ g) r)
     (λ g. has_later nat_eq r next (map (λ r. r.2) others) (in_ranges_led others b r g)) h
 
 named_is : (m r : ℕ) → Has nat_eq r (named m) → r ≡ m
@@ -104,13 +104,13 @@ finite_automaton a t formed = record {
       let j : ℕ = place_behind p.0 (reads a.reverse t p.0) in
       let inside : j ≤ t.end = behind_inside a.reverse t p.0 (reads a.reverse t p.0) (reads_beside a.reverse t p.0) here.0 in
       of_append same_pair pairs_equal (IsPairOf a t) (map (λ q. (j, q)) (byte_steps a t p.0 p.1))
-          (map (λ q. (p.0, q)) (plain_steps a t p.0 p.1))
+      (map (λ q. (p.0, q)) (plain_steps a t p.0 p.1))
       (λ q h. let o = from_map j q (byte_steps a t p.0 p.1) h in
       let below : o.0 < length a.states = formed p.1 o.0 (read_led (node_at a p.1) (reads a.reverse t p.0) o.0 o.1) in
-          rw o.2 (inside, below))
+      rw o.2 (inside, below))
       (λ q h. let o = from_map p.0 q (plain_steps a t p.0 p.1) h in
       let below : o.0 < length a.states = formed p.1 o.0 (nothing_led (node_at a p.1) (λ l. is_passed a.reverse t l p.0) o.0 o.1) in
-          rw o.2 (here.0, below));
+      rw o.2 (here.0, below));
   room = pairs_room (length a.states) t.end;
 }
 

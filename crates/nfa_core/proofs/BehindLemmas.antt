@@ -56,7 +56,7 @@ reads_none true t i k h = reverse_stops t (i - k) (omega (arith, h))
 byte_moves : (is_reverse : Bool) (t : Text) (i k : ℕ) (node : Node) (read : Option (ℕ × ℕ)) →
     IsBeside is_reverse t (place_of is_reverse i k) read →
     map {B = ℕ × ℕ} (λ q. (place_behind (place_of is_reverse i k) read, q)) (on_read node read) ≡ map {B = ℕ ×
-        ℕ} (λ q. (place_of is_reverse i (suc k), q)) (on_read node read)
+    ℕ} (λ q. (place_of is_reverse i (suc k), q)) (on_read node read)
 byte_moves is_reverse t i k node None beside = refl
 byte_moves false t i k node (Some (b, j)) beside = let e : j ≡ i + suc k = omega (arith, beside.0) in
     ap (λ m. map {B = ℕ × ℕ} (λ q. (m, q)) (on_read node (Some (b, j)))) e
@@ -115,7 +115,7 @@ module _ (a : Automaton) (t : Text) (i : ℕ) (formed : IsWellFormed a) where
       ∙ ap (λ l. l ++ map name (map {B = ℕ × ℕ} (λ y. (p.0, y)) (eps p.0 p.1))) (map_pairs place (suc p.0) (step p.0 p.1)
       ∙ sym (byte_moves a.reverse t i p.0 (node_at a p.1) (reads a.reverse t (place p.0)) (reads_beside a.reverse t (place p.0))))
       ∙ ap (λ l. map {B = ℕ × ℕ} (λ q. (place_behind (place p.0) (reads a.reverse t (place p.0)), q)) (step p.0 p.1)
-          ++ l) (map_pairs place p.0 (eps p.0 p.1)))
+      ++ l) (map_pairs place p.0 (eps p.0 p.1)))
 
   name_one : (p q : ℕ × ℕ) → InText n len p → InText n len q → name p ≡ name q → p ≡ q
   name_one (k, x) (j, y) hp hq e =
@@ -132,7 +132,7 @@ module _ (a : Automaton) (t : Text) (i : ℕ) (formed : IsWellFormed a) where
     enough : suc len * n ≤ suc t.end * n
     enough =
         let l : pairs n (suc len) ≤ pairs n (suc t.end) = pairs_more n (suc len) (suc t.end)
-            (let w : len ≤ t.end = left_within a.reverse t i inside in omega (arith, w)) in
+        (let w : len ≤ t.end = left_within a.reverse t i inside in omega (arith, w)) in
         let e : pairs n (suc len) ≡ suc len * n = pairs_is n (suc len) in
         let g : pairs n (suc t.end) ≡ suc t.end * n = pairs_is n (suc t.end) in omega (arith, l, e, g)
 
@@ -141,10 +141,12 @@ module _ (a : Automaton) (t : Text) (i : ℕ) (formed : IsWellFormed a) where
     ends_behind =
         ap (λ j. ends_from a t (j, q)) (sym (place_zero a.reverse i))
         ∙ run_ends_named same_pair pairs_equal same_pair pairs_equal (nexts eps step) (ways a t) name
-            (InText n len) pairs_finite.stays name_one (λ p h. alike p) same_pair (matched a) (suc t.end * n) (0, q) start_in
+        (InText n len) pairs_finite.stays name_one (λ p h. alike p) same_pair (matched a) (suc t.end * n) (0, q) start_in
         ∙ ap (λ l. distinct same_pair (answers (matched_behind a i) l))
-        (same_bound same_pair pairs_equal (nexts eps step) (InText n len) (suc len * n) pairs_finite (suc t.end * n) (suc len * n) [] (0,
-            q) start_in
+        (same_bound same_pair pairs_equal (nexts eps step) (InText n len) (suc len * n) pairs_finite (suc t.end * n) (suc len * n) [] (
+          0,
+          q,
+        ) start_in
         (λ p h. none_in same_pair p _ h) tt (omega (arith, enough)) (omega arith))
 
     -- leftmost-first
@@ -157,7 +159,7 @@ module _ (a : Automaton) (t : Text) (i : ℕ) (formed : IsWellFormed a) where
         only_at k (matched_behind a i) p ≡ wanted_answer (λ e. nat_eq e.0 (place k)) (matched_behind a i p)
     only_is_wanted k h p hp =
         let e : nat_eq (place p.0) (place k) ≡ nat_eq p.0 k = same_cases nat_eq nat_eq names_equal names_equal (place p.0) (place k) p.0 k
-            (place_one a.reverse t i p.0 k hp.0 h) (ap place) in
+        (place_one a.reverse t i p.0 k hp.0 h) (ap place) in
         ap (λ (b : Bool). if b then matched_behind a i p else None) (sym e)
         ∙ sym (wanted_at (matched_behind a i p) (place p.0) (place k) (match_place (node_at a p.1) (place p.0)))
 
@@ -169,9 +171,11 @@ module _ (a : Automaton) (t : Text) (i : ℕ) (formed : IsWellFormed a) where
         let wanted : ℕ × ℕ → Bool = λ e. nat_eq e.0 (place k) in
         list_has_ends eps step n len graph (matched_behind a i) k same_pair pairs_equal q below lists listed h
         ∙ ap (distinct same_pair) (flat_map_same same_pair pairs_equal (λ p. option_to_list (only_at k (matched_behind a i) p))
-            (λ p. option_to_list (wanted_answer wanted (matched_behind a i p))) ends
+        (λ p. option_to_list (wanted_answer wanted (matched_behind a i p))) ends
         (λ p there. ap option_to_list (only_is_wanted k h p (ends_in same_pair pairs_equal (nexts eps step)
-            (InText n len) pairs_finite.stays (suc len * n) [] (0, q) start_in p there))))
-        ∙ wanted_ends same_pair pairs_equal same_pair pairs_equal (nexts eps step) (InText n len) (suc len * n) pairs_finite (0,
-            q) start_in (matched_behind a i) wanted
+        (InText n len) pairs_finite.stays (suc len * n) [] (0, q) start_in p there))))
+        ∙ wanted_ends same_pair pairs_equal same_pair pairs_equal (nexts eps step) (InText n len) (suc len * n) pairs_finite (
+          0,
+          q,
+        ) start_in (matched_behind a i) wanted
         ∙ ap (filter wanted) (sym ends_behind)

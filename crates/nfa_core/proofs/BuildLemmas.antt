@@ -96,7 +96,7 @@ name_inside drafts q reached inside =
     let there = past_inside drafts q reached inside in
     let more = kept_more drafts (past drafts q) fail_draft there in
     let stays : is_kept (draft_at drafts (past drafts q)) ≡ true = kept_one (stands_for (draft_at drafts (past drafts q)))
-        (reached.ends q inside) in
+    (reached.ends q inside) in
     let one : length (kept (draft_at drafts (past drafts q) ∷ [])) ≡ 1 = rw stays in
     let most = kept_up_to drafts (past drafts q + 1) in
     omega (arith, more, one, most)
@@ -196,25 +196,25 @@ sound b x y can reached order =
     let nodes = map (renamed name b.groups) (kept b.drafts) in
     let len : length nodes ≡ length (kept b.drafts) = length-map (kept b.drafts) (renamed name b.groups) in
     let inside : (q : ℕ) → q < length b.drafts → name q < length nodes =
-        λ q below. (let h = name_inside b.drafts q reached below in omega (arith, h, len)) in
+    λ q below. (let h = name_inside b.drafts q reached below in omega (arith, h, len)) in
     let named : All (λ node. All (λ q. q < length nodes) (leads_to node)) nodes =
-        All-map (λ node. All (λ q. q < length nodes) (leads_to node)) (renamed name b.groups) (kept b.drafts)
+    All-map (λ node. All (λ q. q < length nodes) (leads_to node)) (renamed name b.groups) (kept b.drafts)
     (All-weaker (λ draft. All (λ q. q < length b.drafts) (names_of draft))
-        (λ draft. All (λ q. q < length nodes) (leads_to (renamed name b.groups draft)))
+    (λ draft. All (λ q. q < length nodes) (leads_to (renamed name b.groups draft)))
     (leads_inside (length b.drafts) (length nodes) name inside b.groups) (kept b.drafts)
     (All-filter is_kept (λ draft. All (λ q. q < length b.drafts) (names_of draft)) b.drafts can.named)) in
     let count : pattern_count b ≡ length b.starts = ap (λ is_open. if is_open then length b.starts + 1 else length b.starts) can.closed in
     let starts : length (map name b.starts) ≡ length b.starts = length-map b.starts name in
     let few : length (kept b.drafts) ≤ length b.drafts = (let e = length-filter is_kept b.drafts in
-        let h = count_by-le-length is_kept b.drafts in omega (arith, e, h)) in
+    let h = count_by-le-length is_kept b.drafts in omega (arith, e, h)) in
     let good : All (IsDraftOf (length (map name b.starts))) b.drafts =
-        subst (λ (k : ℕ). All (IsDraftOf k) b.drafts) (count ∙ sym starts) order.parts_of in
+    subst (λ (k : ℕ). All (IsDraftOf k) b.drafts) (count ∙ sym starts) order.parts_of in
     record {
       named = λ q r h. ⊎_elim
           (λ told. let none : get_or nodes q fail_node ≡ fail_node = get_or_past nodes q fail_node told.1 in
-              none_in nat_eq r (r < length nodes) (subst (λ (node : Node). Has nat_eq r (leads_to node)) none h))
+          none_in nat_eq r (r < length nodes) (subst (λ (node : Node). Has nat_eq r (leads_to node)) none h))
           (λ told. has_all (λ q. q < length nodes) (leads_to (get_or nodes q fail_node))
-              (All-get_or (λ node. All (λ q. q < length nodes) (leads_to node)) nodes q fail_node told.1 named) r h)
+          (All-get_or (λ node. All (λ q. q < length nodes) (leads_to node)) nodes q fail_node told.1 named) r h)
           (leb_tells (length nodes) q);
       anchored = inside x can.anchored_there;
       unanchored = inside y can.unanchored_there;
@@ -224,16 +224,16 @@ sound b x y can reached order =
       patterns_numbered = omega (arith, count, starts, order.patterns_numbered);
       nodes = All-map (IsNodeOf (length (map name b.starts))) (renamed name b.groups) (kept b.drafts)
           (All-weaker (IsDraftOf (length (map name b.starts))) (λ draft. IsNodeOf (length (map name b.starts))
-              (renamed name b.groups draft))
+          (renamed name b.groups draft))
           (node_of_draft name b.groups (length (map name b.starts))) (kept b.drafts)
-              (All-filter is_kept (IsDraftOf (length (map name b.starts))) b.drafts good));
+          (All-filter is_kept (IsDraftOf (length (map name b.starts))) b.drafts good));
     }
 
 -- a table of the names gives the same states and starts
 pub same_nfa : (b : Assembly) (x y : ℕ) (names : List ℕ) (states : List Node) (starts : List ℕ) → CanBuild b x y → IsNaming b.drafts names →
     states ≡ map (renamed (name_in names) b.groups) (kept b.drafts) → starts ≡ map (name_in names) b.starts →
     (states ≡ (automaton_of b x y).states) × (starts ≡ (automaton_of b x y).start_pattern) ×
-        (name_in names x ≡ (automaton_of b x y).start_anchored) × (name_in names y ≡ (automaton_of b x y).start_unanchored)
+    (name_in names x ≡ (automaton_of b x y).start_anchored) × (name_in names y ≡ (automaton_of b x y).start_unanchored)
 same_nfa b x y names states starts can naming all_states all_starts = (
   all_states ∙ states_same (name_in names) (new_name b.drafts) (length b.drafts) naming.right b.groups b.drafts can.named,
   all_starts ∙ map_same (λ q. q < length b.drafts) (name_in names) (new_name b.drafts) naming.right b.starts can.starts_there,
@@ -244,8 +244,13 @@ same_nfa b x y names states starts can naming all_states all_starts = (
 -- the NFA of these parts
 abbrev pub nfa_with : List Node → ℕ → ℕ → List ℕ → Groups → Bool → Bool → Terminator → Nfa
 nfa_with states anchored unanchored starts groups utf8 reverse terminator = record {
-  automaton = record { states = states; start_anchored = anchored; start_unanchored = unanchored; start_pattern = starts;
-      reverse = reverse };
+  automaton = record {
+    states = states;
+    start_anchored = anchored;
+    start_unanchored = unanchored;
+    start_pattern = starts;
+    reverse = reverse;
+  };
   groups = groups;
   utf8 = utf8;
   terminator = terminator;
@@ -254,9 +259,9 @@ nfa_with states anchored unanchored starts groups utf8 reverse terminator = reco
 pub nfa_made : (b : Assembly) (x y anchored unanchored : ℕ) (names : List ℕ) (states : List Node) (starts : List ℕ) (groups : Groups)
     (utf8 reverse : Bool) (t : Terminator) → CanBuild b x y → IsNaming b.drafts names →
     states ≡ map (renamed (name_in names) b.groups) (kept b.drafts) → starts ≡ map (name_in names) b.starts → anchored ≡ name_in names x →
-        unanchored ≡ name_in names y →
+    unanchored ≡ name_in names y →
     groups ≡ b.groups → utf8 ≡ b.utf8 → reverse ≡ b.reverse → t ≡ b.terminator →
-        nfa_with states anchored unanchored starts groups utf8 reverse t ≡ nfa_of b x y
+    nfa_with states anchored unanchored starts groups utf8 reverse t ≡ nfa_of b x y
 nfa_made b x y anchored unanchored names states starts groups utf8 reverse t can naming all_states all_starts a u g f r e =
     let h = same_nfa b x y names states starts can naming all_states all_starts in
     let target = automaton_of b x y in

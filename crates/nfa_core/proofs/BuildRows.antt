@@ -12,8 +12,11 @@ use Rattle.nfa_core.specs.Renaming.{past, new_name, automaton_of}
 
 -- a union that prefers its last way, an empty state that stands for it, all bytes, the byte 61, and a match
 abbrev byte_a : List DraftNode
-byte_a = union_reverse_draft (2 ∷ 3 ∷ []) ∷ empty_draft 0 ∷ sparse_draft ((0x00, 0xFF,
-    1) ∷ []) ∷ range_draft 0x61 0x61 4 ∷ match_draft 0 ∷ []
+byte_a = union_reverse_draft (2 ∷ 3 ∷ []) ∷ empty_draft 0 ∷ sparse_draft ((
+  0x00,
+  0xFF,
+  1,
+) ∷ []) ∷ range_draft 0x61 0x61 4 ∷ match_draft 0 ∷ []
 
 abbrev byte_a_builder : Assembly
 byte_a_builder = record (blank (one_of 0x0A)) { drafts = byte_a; starts = 3 ∷ [] }

@@ -17,7 +17,7 @@ pub bytes_pushed : (drafts : List DraftNode) (draft : DraftNode) →
     min (bytes_of drafts + min (draft_bytes draft) 18446744073709551615) 18446744073709551615 ≡ bytes_of (drafts ++ draft ∷ [])
 bytes_pushed drafts draft =
     capped_sum 18446744073709551615 (sum_by draft_bytes drafts) (draft_bytes draft)
-        ∙ ap (λ n. min n 18446744073709551615) (sym (sum_by_push draft_bytes drafts draft))
+    ∙ ap (λ n. min n 18446744073709551615) (sym (sum_by_push draft_bytes drafts draft))
 
 longer : (names : List ℕ) (to : ℕ) → 24 + 4 * length (names ++ to ∷ []) ≡ 24 + 4 * length names + 4
 longer names to =
@@ -46,7 +46,7 @@ bytes_patched drafts from to inside =
     let draft = draft_at drafts from in
     let sums = sum_by-set draft_bytes drafts from (patched to draft) fail_draft inside in
     capped_change 18446744073709551615 (sum_by draft_bytes drafts) (sum_by draft_bytes (patched_at drafts from to)) (draft_bytes draft)
-        (way_bytes draft)
+    (way_bytes draft)
     (sums ∙ ap (λ n. sum_by draft_bytes drafts + n) (draft_bytes_patched to draft))
 
 -- the states as contracts see them, where one was patched
@@ -103,7 +103,7 @@ view_named view old mid new one index name pushed is_name enough absent so_far =
     let test : nat_lt index (length (map view old)) ≡ false = le-ltb _ _ none in
     let filled_up = sym (filled_enough None (map view mid) index full) ∙ so_far in
     seen ∙ ap (λ xs. xs ++ name ∷ []) filled_up ∙ sym (ap (λ b. if b then map view old
-        else (filled None (map view old) index ++ name ∷ [])) test)
+    else (filled None (map view old) index ++ name ∷ [])) test)
 
 -- the groups where those of one pattern were changed
 pub view_group : {D : Type 0} (view : D → List (Option Name)) (old mid : List D) (at pattern index : ℕ) (name : Option Name)

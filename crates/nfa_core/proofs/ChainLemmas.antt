@@ -41,7 +41,7 @@ module _ {A : Type 0} (same : A → A → Bool) (laws : IsEquality same) (ways :
     keeps_off (p ∷ path) q r chain.1 once.1 (λ z h. ⊎_elim
         (λ (there : Has same z (p ∷ path)). ⊎_elim
         (λ (e : z ≡ p). let g : Has same p (q ∷ r) = (let P : A → Type 0 = λ w. Has same w (q ∷ r) in subst P e h) in
-            not_both (has same p (q ∷ r)) _ g once.0)
+        not_both (has same p (q ∷ r)) _ g once.0)
         (λ on. not_both (has same z path) _ on (off z (has_later same z p (q ∷ r) h))) (has_cons same laws z p path there))
         (λ e. e) (has_or_not same z (p ∷ path))),
   )

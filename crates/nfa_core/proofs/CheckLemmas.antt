@@ -58,9 +58,9 @@ pub can_checked : (b : Assembly) (x y : ℕ) → CanBuild b x y → has_all b x 
 can_checked b x y can =
     let n = length b.drafts in
     and_from _ _ (ap not can.closed) (and_from _ _ ((Decides-ltb x n).1 can.anchored_there)
-        (and_from _ _ ((Decides-ltb y n).1 can.unanchored_there)
+    (and_from _ _ ((Decides-ltb y n).1 can.unanchored_there)
     (and_from _ _ ((decides_below n b.starts).1 can.starts_there) (and_from _ _ ((decides_named n b.drafts).1 can.named)
-        ((decides_known b.groups b.drafts).1 can.known)))))
+    ((decides_known b.groups b.drafts).1 can.known)))))
 
 -- where each state was followed to one that stands for itself, there is no loop
 pub followed_free : (drafts : List DraftNode) (n : ℕ) → length drafts ≡ n →
@@ -89,9 +89,9 @@ len_absent (first ∷ rest) (suc p) h = len_absent rest p (omega (arith, h))
 pub all_tested : (b : Assembly) (x y n m : ℕ) (starts : List ℕ) (drafts later : List DraftNode) (groups : Groups)
     (first second third : Bool) →
     n ≡ length b.drafts → m ≡ length b.drafts → starts ≡ b.starts → drafts ≡ b.drafts → later ≡ b.drafts → groups ≡ b.groups →
-        b.is_open ≡ false → x < n → y < n →
+    b.is_open ≡ false → x < n → y < n →
     first ≡ list_all (λ q. nat_lt q n) starts → second ≡ list_all (λ draft. list_all (λ q. nat_lt q m) (names_of draft)) drafts →
-        third ≡ list_all (is_known groups) later →
+    third ≡ list_all (is_known groups) later →
     first ≡ true → second ≡ true → third ≡ has_all b x y
 all_tested b x y n m starts drafts later groups first second third same_n same_m same_starts same_parts same_later same_groups closed x_in
     y_in e f g is_first is_second =
@@ -99,12 +99,12 @@ all_tested b x y n m starts drafts later groups first second third same_n same_m
     let two : nat_lt y (length b.drafts) ≡ true = (Decides-ltb y (length b.drafts)).1 (omega (arith, y_in, same_n)) in
     let three : list_all (λ q. nat_lt q (length b.drafts)) b.starts ≡ true =
     ap (λ (k : ℕ). list_all (λ q. nat_lt q k) b.starts) (sym same_n) ∙ ap (list_all (λ q. nat_lt q n)) (sym same_starts) ∙ sym e
-        ∙ is_first in
+    ∙ is_first in
     let four : list_all (λ draft. list_all (λ q. nat_lt q (length b.drafts)) (names_of draft)) b.drafts ≡ true =
     ap (λ (k : ℕ). list_all (λ draft. list_all (λ q. nat_lt q k) (names_of draft)) b.drafts) (sym same_m)
     ∙ ap (list_all (λ draft. list_all (λ q. nat_lt q m) (names_of draft))) (sym same_parts) ∙ sym f ∙ is_second in
     let five : third ≡ list_all (is_known b.groups) b.drafts = g ∙ ap (λ (gs : Groups). list_all (is_known gs) later) same_groups
-        ∙ ap (list_all (is_known b.groups)) same_later in
+    ∙ ap (list_all (is_known b.groups)) same_later in
     rw (closed, one, two, three, four) five
 
 -- where a state that was followed stands for itself, it is the one past the first

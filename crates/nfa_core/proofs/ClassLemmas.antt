@@ -52,7 +52,7 @@ module _ (b c : ℕ) where
       let e : lies low high b ≡ lies low high c = same_side b c low high (all zero (low, high) (omega arith)) in
       ⊎_elim (λ (t : lies low high c ≡ true). rw (e, t) refl)
       (λ (f : lies low high c ≡ false). rw (e, f) (alike_ranges others (λ j d g. all (suc j) d (omega (arith, g)))))
-          (cases_Bool (lies low high c))
+      (cases_Bool (lies low high c))
 
   alike_node : (t : Terminator) (p : ℕ) (node : Node) → IsNodeOf p node → All (LieAlike b c) (told_by t node) →
       on_byte node b ≡ on_byte node c

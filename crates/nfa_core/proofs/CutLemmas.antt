@@ -27,7 +27,7 @@ module _ {A : Type 0} (same : A → A → Bool) (laws : IsEquality same) (ways :
       let rest = without_rounds q r chain.1 in
       ⊎_elim (λ (back : Has same p (q ∷ rest.0)). from_there p q (last_or q r) rest.0 back rest.1)
       (λ (off : has same p (q ∷ rest.0) ≡ false). (q ∷ rest.0, ((chain.0, rest.1.0), (off, rest.1.1), rest.1.2)))
-          (has_or_not same p (q ∷ rest.0))
+      (has_or_not same p (q ∷ rest.0))
 
   -- ---- preference
 
@@ -51,10 +51,10 @@ module _ {A : Type 0} (same : A → A → Bool) (laws : IsEquality same) (ways :
       (λ (e : same x o ≡ false). ⊎_elim
       (λ (i : same x q ≡ true). inr (inl (rw (e, i) refl)))
       (λ (i : same x q ≡ false). let apart : same q x ≡ false = ⊎_elim
-          (λ (t : same q x ≡ true). not_both (same x q) _ ((laws x q).1 (sym ((laws q x).0 t))) i) (λ f. f) (cases_Bool (same q x)) in
+      (λ (t : same q x ≡ true). not_both (same x q) _ ((laws x q).1 (sym ((laws q x).0 t))) i) (λ f. f) (cases_Bool (same q x)) in
       let later : Has same q xs = (rw apart at h) in
       ⊎_elim inl (λ told. inr (⊎_elim (λ (a : comes_before same q o xs ≡ true). inl (rw (e, i, a) refl))
-          (λ (b : comes_before same o q xs ≡ true). inr (rw (i, e, b) refl)) told)) (either_first q o xs later))
+      (λ (b : comes_before same o q xs ≡ true). inr (rw (i, e, b) refl)) told)) (either_first q o xs later))
       (cases_Bool (same x q))) (cases_Bool (same x o))
 
   -- no two are each preferred to the other, and no run to itself
@@ -64,9 +64,9 @@ module _ {A : Type 0} (same : A → A → Bool) (laws : IsEquality same) (ways :
   preferred_one_way p (q ∷ r) [] a b = absurd a
   preferred_one_way p (q ∷ r) (o ∷ s) a b = ⊎_elim
       (λ way. ⊎_elim (λ back. not_round q o (ways p) way back) (λ (e, _b). not_itself q (ways p) (let C : A →
-          Type 0 = λ w. comes_before same q w (ways p) ≡ true in subst C e way)) b)
+      Type 0 = λ w. comes_before same q w (ways p) ≡ true in subst C e way)) b)
       (λ (e, on). ⊎_elim (λ back. not_itself q (ways p) (let C : A → Type 0 = λ w. comes_before same w q (ways p) ≡ true in
-          subst C (sym e) back))
+      subst C (sym e) back))
       (λ (_e, back). preferred_one_way q r s on (let P : A → Type 0 = λ w. IsPreferred same ways w s r in subst P (sym e) back)) b) a
 
   -- of two chains that differ, one is preferred
@@ -77,6 +77,8 @@ module _ {A : Type 0} (same : A → A → Bool) (laws : IsEquality same) (ways :
   one_is_preferred p (q ∷ r) [] chain = inr (inr tt)
   one_is_preferred p (q ∷ r) (o ∷ s) chain = ⊎_elim
       (λ (e : q ≡ o). ⊎_elim (λ (same_rest : r ≡ s). inl (rw (e, same_rest) refl))
-      (λ told. inr (⊎_elim (λ a. inl (inr (e, a))) (λ b. inr (inr (sym e,
-          (let P : A → Type 0 = λ w. IsPreferred same ways w s r in subst P e b)))) told)) (one_is_preferred q r s chain.1))
+      (λ told. inr (⊎_elim (λ a. inl (inr (e, a))) (λ b. inr (inr (
+        sym e,
+        (let P : A → Type 0 = λ w. IsPreferred same ways w s r in subst P e b),
+      ))) told)) (one_is_preferred q r s chain.1))
       (λ told. inr (⊎_elim (λ a. inl (inl a)) (λ b. inr (inl b)) told)) (either_first q o (ways p) chain.0)

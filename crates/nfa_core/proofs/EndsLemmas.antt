@@ -23,7 +23,7 @@ use Rattle.nfa_core.proofs.AutomatonLemmas.{finite_automaton, match_ends}
 
 pub chains_met : (steps : ℕ → List ℕ) (n : ℕ) (stack seen after : List ℕ) → StaysBelow n steps → ((q : ℕ) → Has nat_eq q stack → q < n) →
     IsClosed nat_eq steps seen → Visits nat_eq steps stack seen after →
-        after ≡ join nat_eq seen (flat_map (chain_ends nat_eq steps n []) stack)
+    after ≡ join nat_eq seen (flat_map (chain_ends nat_eq steps n []) stack)
 chains_met steps n stack seen after below inside shut v = walk_is_join nat_eq names_equal steps (λ q. q < n) n
     (finite_names n steps below) stack seen after inside shut v
 
@@ -35,7 +35,7 @@ read_forward t h i = ⊎_elim (λ (e : nat_lt i (length h) ≡ true). rw e refl)
     (λ (e : nat_lt i (length h) ≡ false). ⊎_elim
     (λ (less : i < length h). let f : true ≡ false = sym ((Decides-ltb i (length h)).1 less) ∙ e in cc)
     (λ (past : length h ≤ i). let none : byte_at h i ≡ None = slice_get_past h i past in rw (e, none) refl) (below_or_past i (length h)))
-        (cases_Bool (nat_lt i (length h)))
+    (cases_Bool (nat_lt i (length h)))
 
 pub read_reverse : (t : Terminator) (h : List ℕ) (i : ℕ) → reads true (whole t h) (suc i) ≡ with_place i (byte_at h i)
 read_reverse t h i = ⊎_elim (λ told. rw told.0 refl) (λ told. absurd (omega (arith, told.1))) (leb_tells 0 i)
@@ -61,7 +61,7 @@ module _ (a : Automaton) (t : Text) (p : ℕ × ℕ) (formed : IsWellFormed a) (
       let Goal : List (ℕ × ℕ) → Type 0 = λ l. IsMostPreferred same_pair (ways a t) (λ q. wanted_answer wanted (matched a q)) p (first l) in
       subst Goal (wanted_ends same_pair pairs_equal same_pair pairs_equal (ways a t) (IsPairOf a t) bound finite p here (matched a) wanted)
       (first_is_most_preferred same_pair pairs_equal same_pair pairs_equal (ways a t) (IsPairOf a t) bound finite p here
-          (λ q. wanted_answer wanted (matched a q)))
+      (λ q. wanted_answer wanted (matched a q)))
 
   pub listed_run : (e : ℕ × ℕ) → Has same_pair e (ends_from a t p) → (r : List (ℕ × ℕ)) × IsRun same_pair (ways a t) (matched a) p r e
   listed_run e h = listed_is_run same_pair pairs_equal same_pair pairs_equal (ways a t) (IsPairOf a t) bound finite p here (matched a) e h

@@ -26,11 +26,11 @@ module _ {A : Type 0} (same : A → A → Bool) (laws : IsEquality same) (ways :
     walk_fresh : (x : A) (stack seen : List A) → ((seen : List A) → AreIn seen → HasNoneTwice same seen → n ≤ f + length seen →
         Walked stack seen) →
         In x → AreIn seen → HasNoneTwice same seen → n ≤ f + length seen → has same x seen ≡ false → (g : ℕ) → suc g ≡ f →
-            Walked (x ∷ stack) seen
+        Walked (x ∷ stack) seen
     walk_fresh x stack seen others here inside once fuel absent g e =
         let len : length (seen ++ x ∷ []) ≡ length seen + 1 = length-append seen (x ∷ []) in
         let first = deeper g e (ways x) (seen ++ x ∷ []) (finite.stays x here) (of_push same laws In seen x inside here)
-            (once_pushed same laws x seen absent once) (omega (arith, len, e, fuel)) in
+        (once_pushed same laws x seen absent once) (omega (arith, len, e, fuel)) in
         let one = first.longer in
         let rest = others first.after first.inside first.once (omega (arith, fuel, one, len)) in
         let two = rest.longer in record {
@@ -42,15 +42,25 @@ module _ {A : Type 0} (same : A → A → Bool) (laws : IsEquality same) (ways :
         }
 
     walk_list : Walks f
-    walk_list [] seen todo_in inside once fuel = record { after = seen; walk = done seen seen refl; inside = inside; once = once;
-        longer = omega arith }
+    walk_list [] seen todo_in inside once fuel = record {
+      after = seen;
+      walk = done seen seen refl;
+      inside = inside;
+      once = once;
+      longer = omega arith;
+    }
     walk_list (x ∷ stack) seen todo_in inside once fuel =
         let here : In x = todo_in x (has_first same laws x stack) in
         let todo_rest : AreIn stack = λ q h. todo_in q (has_later same q x stack h) in
         ⊎_elim
         (λ there. let rest = walk_list stack seen todo_rest inside once fuel in
-        record { after = rest.after; walk = held x stack seen rest.after there rest.walk; inside = rest.inside; once = rest.once;
-            longer = rest.longer })
+        record {
+          after = rest.after;
+          walk = held x stack seen rest.after there rest.walk;
+          inside = rest.inside;
+          once = rest.once;
+          longer = rest.longer;
+        })
         (λ absent. let short : length seen < n = room_for same laws ways In n finite x seen here inside once absent in
         let one : 0 < f = omega (arith, short, fuel) in
         walk_fresh x stack seen (λ s. walk_list stack s todo_rest) here inside once fuel absent (f - 1) (omega (arith, one)))
@@ -64,5 +74,5 @@ module _ {A : Type 0} (same : A → A → Bool) (laws : IsEquality same) (ways :
   pub walk_from : (p : A) → In p → (after : List A) × Visits same ways (p ∷ []) [] after
   walk_from p here =
       let w = walk_within n (p ∷ []) [] (of_cons same laws In p [] here (λ q h. none_in same q _ h)) (λ q h. none_in same q _ h) tt
-          (omega arith) in
+      (omega arith) in
       (w.after, w.walk)

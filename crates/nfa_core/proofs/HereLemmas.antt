@@ -75,7 +75,7 @@ module _ (a : Automaton) (t : Text) where
       (λ h. let o = from_map p.0 y (on_nothing node (λ l. is_passed a.reverse t l p.0)) h in
       by_nothing o.0 (free_way node (λ l. is_passed a.reverse t l p.0) o.0 o.1) o.2)
       (has_append same_pair y (map (λ q. (j, q)) (on_read node (reads a.reverse t p.0)))
-          (map (λ q. (p.0, q)) (on_nothing node (λ l. is_passed a.reverse t l p.0))) way)
+      (map (λ q. (p.0, q)) (on_nothing node (λ l. is_passed a.reverse t l p.0))) way)
 
   way_behind : (p y : ℕ × ℕ) → Way p y → IsBehind a.reverse p.0 y.0
   way_behind p y way =
@@ -99,7 +99,7 @@ module _ (a : Automaton) (t : Text) where
       way_parts p y chain.0 (IsFree p.1 (last_or y r).1)
       (λ q h is. let B : ℕ × ℕ → Type 0 = λ z. IsBehind a.reverse z.0 (last_or y r).0 in
       absurd (read_leaves a.reverse t (node_at a p.1) p.0 q (last_or y r).0 (reads a.reverse t p.0) (reads_beside a.reverse t p.0) h
-          (subst B is behind) e))
+      (subst B is behind) e))
       (λ q h is. let place : p.0 ≡ y.0 = sym (ap (λ z. z.0) is) in
       let name : y.1 ≡ q = ap (λ z. z.1) is in
       let more = stays_free r y chain.1 (e ∙ place) in

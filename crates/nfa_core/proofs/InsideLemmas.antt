@@ -29,7 +29,7 @@ module _ (a : Automaton) (t : Text) (i : ℕ) where
   moved j x there =
       subst (λ (m : ℕ). Inside (place_behind m (reads a.reverse t m))) (sym there.2)
       (read_inside a.reverse t i there.0 (reads a.reverse t (place_of a.reverse i there.0)) there.1
-          (reads_beside a.reverse t (place_of a.reverse i there.0)))
+      (reads_beside a.reverse t (place_of a.reverse i there.0)))
 
   way_inside : (p y : ℕ × ℕ) → Inside p.0 → Has same_pair y (ways a t p) → Inside y.0
   way_inside p y there way = ⊎_elim

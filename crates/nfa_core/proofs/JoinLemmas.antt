@@ -18,7 +18,7 @@ join_keeps same seen [] q h = h
 join_keeps same seen (x ∷ xs) q h = ⊎_elim
     (λ (e : has same x seen ≡ true). rw e (join_keeps same seen xs q h))
     (λ (e : has same x seen ≡ false). rw e (join_keeps same (seen ++ x ∷ []) xs q (has_left same q seen (x ∷ []) h)))
-        (has_or_not same x seen)
+    (has_or_not same x seen)
 
 module _ {A : Type 0} (same : A → A → Bool) (laws : IsEquality same) where
   -- nothing comes of what is there
@@ -31,7 +31,7 @@ module _ {A : Type 0} (same : A → A → Bool) (laws : IsEquality same) where
   join_brings seen [] q h = none_in same q _ h
   join_brings seen (x ∷ xs) q h = ⊎_elim
       (λ (e : has same x seen ≡ true). rw e (of_cons same laws (λ p. Has same p (join same seen xs)) x xs (join_keeps same seen xs x e)
-          (join_brings seen xs) q h))
+      (join_brings seen xs) q h))
       (λ (e : has same x seen ≡ false). rw e (of_cons same laws (λ p. Has same p (join same (seen ++ x ∷ []) xs)) x xs
       (join_keeps same (seen ++ x ∷ []) xs x (has_pushed same laws x seen)) (join_brings (seen ++ x ∷ []) xs) q h)) (has_or_not same x seen)
 
@@ -43,14 +43,14 @@ module _ {A : Type 0} (same : A → A → Bool) (laws : IsEquality same) where
       (λ (e : has same x seen ≡ true). of_join P seen xs old (λ p g. new p (has_later same p x xs g)) q (rw e at h))
       (λ (e : has same x seen ≡ false). of_join P (seen ++ x ∷ []) xs
       (of_push same laws P seen x old (new x (has_first same laws x xs))) (λ p g. new p (has_later same p x xs g)) q (rw e at h))
-          (has_or_not same x seen)
+      (has_or_not same x seen)
 
 module _ {A : Type 0} (same : A → A → Bool) (laws : IsEquality same) where
   lacks_pushed : (x y : A) (xs : List A) → has same y (x ∷ xs) ≡ false → has same x xs ≡ false → has same x (xs ++ y ∷ []) ≡ false
   lacks_pushed x y xs apart absent = ⊎_elim
       (λ (h : Has same x (xs ++ y ∷ [])). ⊎_elim (λ there. not_both (has same x xs) _ there absent)
       (λ last. let e : y ≡ x = sym (has_one same laws x y last) in not_both (has same y (x ∷ xs)) _ (has_same same laws y x xs e) apart)
-          (has_append same x xs (y ∷ []) h))
+      (has_append same x xs (y ∷ []) h))
       (λ e. e) (has_or_not same x (xs ++ y ∷ []))
 
   pub once_pushed : (y : A) (xs : List A) → has same y xs ≡ false → HasNoneTwice same xs → HasNoneTwice same (xs ++ y ∷ [])
@@ -79,4 +79,4 @@ module _ {A : Type 0} (same : A → A → Bool) (laws : IsEquality same) where
       ∙ ap (join same_b t) (sym (flat_map-append g s (x ∷ xs)))))
       (λ (e : has same x s ≡ false). rw e
       (join_flat_map same_b laws_b g t (s ++ x ∷ []) xs ∙ ap (λ l. join same_b t (flat_map g l)) (append_assoc s (x ∷ []) xs)))
-          (has_or_not same x s)
+      (has_or_not same x s)

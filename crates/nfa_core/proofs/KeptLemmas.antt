@@ -46,7 +46,7 @@ module _ {A : Type 0} (same : A → A → Bool) (laws : IsEquality same) (keep :
     head_in : (x : A) (s stack : List A) → Has same x s → Waits s (x ∷ stack) → In x s
     head_in x s stack there waits = ⊎_elim (λ (k : keep x ≡ true). in_self x s k there)
         (λ (k : keep x ≡ false). ⊎_elim (λ (all : In x s). all) (λ (z, e, less, is). let l : rank x < rank x = (rw is at less) in
-            absurd (omega (arith, l))) (waits x there k)) (cases_Bool (keep x))
+        absurd (omega (arith, l))) (waits x there k)) (cases_Bool (keep x))
 
     settle : (x : A) (s stack : List A) → In x s → Waits s (x ∷ stack) → Settled s
     settle x s stack all waits d there k = ⊎_elim (λ (a : In d s). a) (λ (z, e, less, is). in_as d x s (e ∙ ap to is) all) (waits d there k)
@@ -60,9 +60,11 @@ module _ {A : Type 0} (same : A → A → Bool) (laws : IsEquality same) (keep :
     )
     kept_walk (held x stack s a there rest) waits =
         let all : In x s = head_in x s stack there waits in
-        let r = kept_walk rest (λ d h k. inl (settle x s stack all waits d h k)) in
-        (all_held same laws past (to x) (flat_map to stack) (filter keep s) (filter keep a)
-            (λ q h. has_filter same laws keep q s (to_kept x q h) ∙ all q h) r.0, r.1)
+        let r = kept_walk rest (λ d h k. inl (settle x s stack all waits d h k)) in (
+          all_held same laws past (to x) (flat_map to stack) (filter keep s) (filter keep a)
+              (λ q h. has_filter same laws keep q s (to_kept x q h) ∙ all q h) r.0,
+          r.1,
+        )
     kept_walk (fresh x stack s mid a absent first rest) waits =
         let now : List A = s ++ x ∷ [] in
         let x_now : Has same x now = has_pushed same laws x s in
@@ -70,33 +72,41 @@ module _ {A : Type 0} (same : A → A → Bool) (laws : IsEquality same) (keep :
         (λ (k : keep x ≡ true).
         let waiting : Waits now (ways x) = λ d h drop. ⊎_elim
         (λ old. ⊎_elim (λ (all : In d s). inl (in_more d x s all)) (λ (z, e, less, is). inl
-            (in_as d x now (e ∙ ap to is) (in_self x now k x_now))) (waits d old drop))
+        (in_as d x now (e ∙ ap to is) (in_self x now k x_now))) (waits d old drop))
         (λ last. let is : d ≡ x = has_one same laws d x last in not_both (keep x) _ k (sym (ap keep is) ∙ drop))
-            (has_append same d s (x ∷ []) h) in
+        (has_append same d s (x ∷ []) h) in
         let one = kept_walk first waiting in
         let two = kept_walk rest (λ d h drop. inl (one.1 d h drop)) in
         let e : filter keep now ≡ filter keep s ++ x ∷ [] = filter-append keep s (x ∷ []) ∙ rw k in
         let V : List A → Type 0 = λ l. Visits same past (past x) l (filter keep mid) in
-        let W : List A → Type 0 = λ l. Visits same past (l ++ flat_map to stack) (filter keep s) (filter keep a) in
-        (subst W (sym (to_self x k)) (fresh x (flat_map to stack) (filter keep s) (filter keep mid) (filter keep a)
-            (has_filter same laws keep x s k ∙ absent) (subst V e one.0) two.0), two.1))
+        let W : List A → Type 0 = λ l. Visits same past (l ++ flat_map to stack) (filter keep s) (filter keep a) in (
+          subst W (sym (to_self x k)) (fresh x (flat_map to stack) (filter keep s) (filter keep mid) (filter keep a)
+              (has_filter same laws keep x s k ∙ absent) (subst V e one.0) two.0),
+          two.1,
+        ))
         (λ (k : keep x ≡ false).
         let pass = passed x k in
         let on : (d : A) → to d ≡ to x → rank x ≤ rank d → In d now ⊎ ((z : A) × (to d ≡ to z) × (rank z < rank d) × IsHead z (ways x)) =
-        λ d alike up. ⊎_elim (λ (none : to x ≡ []). inl (in_nil d now (alike ∙ none))) (λ (z, e, less, head). inr (z, alike ∙ e,
-            omega (arith, up, less), head)) pass.1 in
+        λ d alike up. ⊎_elim (λ (none : to x ≡ []). inl (in_nil d now (alike ∙ none))) (λ (z, e, less, head). inr (
+          z,
+          alike ∙ e,
+          omega (arith, up, less),
+          head,
+        )) pass.1 in
         let waiting : Waits now (ways x) = λ d h drop. ⊎_elim
         (λ old. ⊎_elim (λ (all : In d s). inl (in_more d x s all))
         (λ (z, e, less, is). let l : rank x < rank d = (rw is at less) in on d (e ∙ ap to is) (omega (arith, l))) (waits d old drop))
         (λ last. let is : d ≡ x = has_one same laws d x last in let l : rank d ≡ rank x = ap rank is in
-            on d (ap to is) (omega (arith, l))) (has_append same d s (x ∷ []) h) in
+        on d (ap to is) (omega (arith, l))) (has_append same d s (x ∷ []) h) in
         let one = kept_walk first waiting in
         let two = kept_walk rest (λ d h drop. inl (one.1 d h drop)) in
         let e : filter keep now ≡ filter keep s = filter-append keep s (x ∷ []) ∙ rw k (append-nil (filter keep s)) in
         let V : List A → Type 0 = λ l. Visits same past (flat_map to (ways x)) l (filter keep mid) in
-        let W : List A → Type 0 = λ l. Visits same past l (filter keep s) (filter keep mid) in
-        (joined same past (to x) (flat_map to stack) (filter keep s) (filter keep mid) (filter keep a)
-            (subst W (sym pass.0) (subst V e one.0)) two.0, two.1))
+        let W : List A → Type 0 = λ l. Visits same past l (filter keep s) (filter keep mid) in (
+          joined same past (to x) (flat_map to stack) (filter keep s) (filter keep mid) (filter keep a)
+              (subst W (sym pass.0) (subst V e one.0)) two.0,
+          two.1,
+        ))
         (cases_Bool (keep x))
 
   kept_alone : (xs : List A) → flat_map to (filter keep xs) ≡ filter keep xs
@@ -109,7 +119,7 @@ module _ {A : Type 0} (same : A → A → Bool) (laws : IsEquality same) (keep :
   pub kept_close_anew : (known full : A → List A) → ((x z : A) → Has same z (known x) → Has same z (full x)) →
       ((x : A) → keep x ≡ false → IsPassedThrough known to rank x) → ((x : A) → keep x ≡ false → IsPassedThrough full to rank x) →
       (entries ids after again : List A) → Visits same known entries [] ids → Visits same full entries [] after →
-          Visits same full (filter keep ids) [] again →
+      Visits same full (filter keep ids) [] again →
       filter keep again ≡ filter keep after
   kept_close_anew known full grows passed_known passed_full entries ids after again v w u =
       let past_known : A → List A = λ x. flat_map to (known x) in
@@ -118,7 +128,7 @@ module _ {A : Type 0} (same : A → A → Bool) (laws : IsEquality same) (keep :
       let b = kept_walk full passed_full w (λ d h k. none_in same d _ h) in
       let c = kept_walk full passed_full u (λ d h k. none_in same d _ h) in
       let more = λ (x z : A) (h : Has same z (past_known x)). of_flat_map same laws same to (λ q. Has same q (past_full x)) (known x)
-          (λ y way q g. into_flat_map same laws same to (full x) y (grows x y way) q g) z h in
+      (λ y way q g. into_flat_map same laws same to (full x) y (grows x y way) q g) z h in
       let anew_kept = closes_anew same laws past_known past_full more (flat_map to entries) (filter keep ids) (filter keep after) a.0 b.0 in
       let V : List A → Type 0 = λ l. Visits same past_full l [] (filter keep again) in
       one_after same past_full (subst V (kept_alone ids) c.0) (filter keep after) anew_kept

@@ -40,9 +40,9 @@ kept_next view drafts i draft inside there =
     let len = length-map drafts view in
     let inside' : i < length (map view drafts) = omega (arith, inside, len) in
     let seen : get_or (map view drafts) i fail_draft ≡ view draft = get_or-map view drafts i draft fail_draft inside
-        ∙ ap view (sym there) in
+    ∙ ap view (sym there) in
     ap kept (take_more (map view drafts) i fail_draft inside') ∙ filter-append is_kept (take i (map view drafts))
-        (get_or (map view drafts) i fail_draft ∷ [])
+    (get_or (map view drafts) i fail_draft ∷ [])
     ∙ ap (λ draft. kept (take i (map view drafts)) ++ kept (draft ∷ [])) seen
 
 none_of : (o : Option ℕ) → is_some o ≡ true → is_none o ≡ false
@@ -59,7 +59,7 @@ pub kept_skips : {D : Type 0} (view : D → DraftNode) (drafts : List D) (i : �
 kept_skips view drafts i draft inside there stands =
     let gone : kept (view draft ∷ []) ≡ [] = rw (none_of (stands_for (view draft)) stands) in
     kept_next view drafts i draft inside there ∙ ap (λ xs. kept (take i (map view drafts)) ++ xs) gone
-        ∙ append-nil (kept (take i (map view drafts)))
+    ∙ append-nil (kept (take i (map view drafts)))
 
 pub kept_takes : {D : Type 0} (view : D → DraftNode) (drafts : List D) (i : ℕ) (draft : D) → i < length drafts →
     draft ≡ get_or drafts i draft → is_some (stands_for (view draft)) ≡ false →
@@ -71,13 +71,13 @@ kept_takes view drafts i draft inside there stays =
 pub states_more : {S D : Type 0} (node : S → Node) (view : D → DraftNode) (become : DraftNode →
     Node) (states new : List S) (state : S) (drafts : List D) (i : ℕ) (draft : D) →
     new ≡ states ++ state ∷ [] → node state ≡ become (view draft) → i < length drafts → draft ≡ get_or drafts i draft →
-        is_some (stands_for (view draft)) ≡ false →
+    is_some (stands_for (view draft)) ≡ false →
     map node states ≡ map become (kept (take i (map view drafts))) → map node new ≡ map become (kept (take (i + 1) (map view drafts)))
 states_more node view become states new state drafts i draft pushed e inside there stays so_far =
     ap (map node) pushed ∙ map-append node states (state ∷ []) ∙ ap (λ xs. xs ++ node state ∷ []) so_far
-        ∙ ap (λ x. map become (kept (take i (map view drafts))) ++ x ∷ []) e
+    ∙ ap (λ x. map become (kept (take i (map view drafts))) ++ x ∷ []) e
     ∙ sym (ap (map become) (kept_takes view drafts i draft inside there stays)
-        ∙ map-append become (kept (take i (map view drafts))) (view draft ∷ []))
+    ∙ map-append become (kept (take i (map view drafts))) (view draft ∷ []))
 
 pub states_skip : {S D : Type 0} (node : S → Node) (view : D → DraftNode) (become : DraftNode →
     Node) (states : List S) (drafts : List D) (i : ℕ) (draft : D) →

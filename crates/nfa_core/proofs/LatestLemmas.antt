@@ -41,7 +41,7 @@ first_flat_map same laws g xs = sym (first_distinct same (flat_map g (join nat_e
 -- the runs that go on from before the first match come before it, and all others after it
 cut_first : {B : Type 0} (answer : ℕ → Option B) (r : ℕ → List B) (xs : List ℕ) →
     option_or (first (flat_map r (before_answer answer xs))) (first (answers answer xs)) ≡ first
-        (flat_map (λ y. option_to_list (answer y) ++ r y) xs)
+    (flat_map (λ y. option_to_list (answer y) ++ r y) xs)
 cut_first {B} answer r [] = refl
 cut_first {B} answer r (x ∷ xs) = ⊎_elim
     (λ (e : answer x ≡ None). rw e
@@ -86,7 +86,7 @@ module _ (eps step : ℕ → ℕ → List ℕ) (n len : ℕ) (graph : IsGraph ep
         let ends : ℕ → List ℕ = chain_ends nat_eq (eps (suc k)) n [] in
         let arrived : List ℕ = arrivals eps step n start k in
         place (suc k) (flat_map (step k) (lists k)) (lists (suc k)) (listed.later k (omega (arith, h)))
-            (stepped_low k (lists k) (lists_low k (omega (arith, h))))
+        (stepped_low k (lists k) (lists_low k (omega (arith, h))))
         ∙ ap (λ l. join nat_eq [] (flat_map ends (flat_map (step k) l))) (lists_are_joins k (omega (arith, h)))
         ∙ ap (join nat_eq []) (flat_map_twice ends (step k) (join nat_eq [] arrived))
         ∙ join_flat_map nat_eq names_equal nat_eq names_equal (λ y. flat_map ends (step k y)) [] [] arrived
@@ -98,38 +98,38 @@ module _ (eps step : ℕ → ℕ → List ℕ) (n len : ℕ) (graph : IsGraph ep
         (λ y h. append-nil (here eps step answer n k y))
 
     module _ (start : ℕ) (lists : ℕ → List ℕ) (listed : IsListed eps step (λ k xs. before_answer (λ x. answer (k, x)) xs) len start lists)
-        where
-      latest_from : (d k : ℕ) (xs : List ℕ) → k + d ≤ len → ((q : ℕ) → Has nat_eq q xs → q < n) → Visits nat_eq (eps k) xs [] (lists k) →
-          latest answer lists d k ≡ first (flat_map (found eps step answer n d k) (flat_map (chain_ends nat_eq (eps k) n []) xs))
-      latest_from zero k xs h low v =
-          let arrived : List ℕ = flat_map (chain_ends nat_eq (eps k) n []) xs in
-          ap (λ l. first (answers_at answer k l)) (place k xs (lists k) v low)
-          ∙ first_flat_map same_end laws_end (here eps step answer n k) arrived
-          ∙ ap first (sym (no_more k arrived))
-      latest_from (suc d) k xs h low v =
-          let arrived : List ℕ = flat_map (chain_ends nat_eq (eps k) n []) xs in
-          let list_low : (q : ℕ) → Has nat_eq q (lists k) → q < n = stays (eps k) n (graph.eps_below k) v low
-              (λ q g. none_in nat_eq q _ g) in
-          let before : List ℕ = before_answer (λ x. answer (k, x)) (lists k) in
-          let ends : ℕ → List ℕ = chain_ends nat_eq (eps (suc k)) n [] in
-          let r : ℕ → List B = beyond eps step answer n (suc d) k in
-          let later : latest answer lists d (suc k) ≡ first (flat_map (found eps step answer n d (suc k))
-              (flat_map ends (flat_map (step k) before))) =
-          latest_from d (suc k) (flat_map (step k) before) (omega (arith, h))
-          (stepped_low k before (λ q there. list_low q (has_before (λ x. answer (k, x)) (lists k) q there)))
-          (listed.later k (omega (arith, h))) in
-          ap (λ o. option_or o (first (answers_at answer k (lists k))))
-          (later ∙ ap (λ l. first (flat_map (found eps step answer n d (suc k)) l)) (flat_map_twice ends (step k) before)
-          ∙ ap first (flat_map_twice (found eps step answer n d (suc k)) (λ y. flat_map ends (step k y)) before))
-          ∙ cut_first (λ x. answer (k, x)) r (lists k)
-          ∙ ap (λ l. first (flat_map (found eps step answer n (suc d) k) l)) (place k xs (lists k) v low)
-          ∙ first_flat_map same_end laws_end (found eps step answer n (suc d) k) arrived
+      where
+        latest_from : (d k : ℕ) (xs : List ℕ) → k + d ≤ len → ((q : ℕ) → Has nat_eq q xs → q < n) → Visits nat_eq (eps k) xs [] (lists k) →
+            latest answer lists d k ≡ first (flat_map (found eps step answer n d k) (flat_map (chain_ends nat_eq (eps k) n []) xs))
+        latest_from zero k xs h low v =
+            let arrived : List ℕ = flat_map (chain_ends nat_eq (eps k) n []) xs in
+            ap (λ l. first (answers_at answer k l)) (place k xs (lists k) v low)
+            ∙ first_flat_map same_end laws_end (here eps step answer n k) arrived
+            ∙ ap first (sym (no_more k arrived))
+        latest_from (suc d) k xs h low v =
+            let arrived : List ℕ = flat_map (chain_ends nat_eq (eps k) n []) xs in
+            let list_low : (q : ℕ) → Has nat_eq q (lists k) → q < n = stays (eps k) n (graph.eps_below k) v low
+            (λ q g. none_in nat_eq q _ g) in
+            let before : List ℕ = before_answer (λ x. answer (k, x)) (lists k) in
+            let ends : ℕ → List ℕ = chain_ends nat_eq (eps (suc k)) n [] in
+            let r : ℕ → List B = beyond eps step answer n (suc d) k in
+            let later : latest answer lists d (suc k) ≡ first (flat_map (found eps step answer n d (suc k))
+            (flat_map ends (flat_map (step k) before))) =
+            latest_from d (suc k) (flat_map (step k) before) (omega (arith, h))
+            (stepped_low k before (λ q there. list_low q (has_before (λ x. answer (k, x)) (lists k) q there)))
+            (listed.later k (omega (arith, h))) in
+            ap (λ o. option_or o (first (answers_at answer k (lists k))))
+            (later ∙ ap (λ l. first (flat_map (found eps step answer n d (suc k)) l)) (flat_map_twice ends (step k) before)
+            ∙ ap first (flat_map_twice (found eps step answer n d (suc k)) (λ y. flat_map ends (step k y)) before))
+            ∙ cut_first (λ x. answer (k, x)) r (lists k)
+            ∙ ap (λ l. first (flat_map (found eps step answer n (suc d) k) l)) (place k xs (lists k) v low)
+            ∙ first_flat_map same_end laws_end (found eps step answer n (suc d) k) arrived
 
-      -- leftmost-first: the latest match is that of the most preferred run
-      pub latest_is_first : start < n → latest answer lists len 0 ≡ first
-          (run_ends same_pair same_end (nexts eps step) answer (suc len * n) (0, start))
-      latest_is_first start_low =
-          latest_from len 0 (start ∷ []) (omega arith) (one_low start start_low) listed.first
-          ∙ ap (λ l. first (flat_map (found eps step answer n len 0) l)) (append-nil (chain_ends nat_eq (eps 0) n [] start))
-          ∙ ap first (sym (ends_by_place eps step answer n len graph start start_low))
-          ∙ sym (first_distinct same_end (answers answer (chain_ends same_pair (nexts eps step) (suc len * n) [] (0, start))))
+        -- leftmost-first: the latest match is that of the most preferred run
+        pub latest_is_first : start < n → latest answer lists len 0 ≡ first
+            (run_ends same_pair same_end (nexts eps step) answer (suc len * n) (0, start))
+        latest_is_first start_low =
+            latest_from len 0 (start ∷ []) (omega arith) (one_low start start_low) listed.first
+            ∙ ap (λ l. first (flat_map (found eps step answer n len 0) l)) (append-nil (chain_ends nat_eq (eps 0) n [] start))
+            ∙ ap first (sym (ends_by_place eps step answer n len graph start start_low))
+            ∙ sym (first_distinct same_end (answers answer (chain_ends same_pair (nexts eps step) (suc len * n) [] (0, start))))

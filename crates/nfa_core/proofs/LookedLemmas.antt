@@ -48,7 +48,7 @@ module _ (l : Look) where
   found_at [] h = cc
   found_at (node ∷ nodes) h = ⊎_elim (λ (t : looks_there node ≡ true). (zero, t))
       (λ (f : looks_there node ≡ false). let g : list_any looks_there nodes ≡ true = (rw f at h) in let r = found_at nodes g in
-          (suc r.0, r.1)) (cases_Bool (looks_there node))
+      (suc r.0, r.1)) (cases_Bool (looks_there node))
 
   there_at : (nodes : List Node) (q : ℕ) → looks_there (get_or nodes q fail_node) ≡ true → list_any looks_there nodes ≡ true
   there_at [] q h = not_both (has_look 0 l) _ h (has_look-none l)
@@ -67,7 +67,7 @@ module _ (l : Look) where
   looks_prefix a =
       let test : ℕ → Bool = λ q. looks_there (node_at a q) in
       let same : has_look (prefix_looks a) l ≡ list_any (λ q. looks_there (node_at a q)) (reached_freely a) =
-          has_looks (map (node_at a) (reached_freely a)) l ∙ any_map looks_there (node_at a) (reached_freely a) in (
+      has_looks (map (node_at a) (reached_freely a)) l ∙ any_map looks_there (node_at a) (reached_freely a) in (
         (λ h. let r = has_any nat_eq names_equal test (reached_freely a) (sym same ∙ h) in let n = node_looks (node_at a r.0) r.2 in
             (r.0, n.0, r.1, n.1)),
         λ (q, next, there, e). same ∙ any_has nat_eq names_equal test q (reached_freely a) there (looks_node (node_at a q) next e),

@@ -18,7 +18,7 @@ pub has_append : {A : Type 0} (same : A → A → Bool) (q : A) (xs ys : List A)
 has_append same q [] ys h = inr h
 has_append same q (x ∷ xs) ys h = ⊎_elim (λ (e : same q x ≡ true). inl (rw e))
     (λ (e : same q x ≡ false). let g : Has same q (xs ++ ys) = (rw e at h) in
-        ⊎_elim (λ (a : Has same q xs). inl (rw (e, a))) inr (has_append same q xs ys g)) (cases_Bool (same q x))
+    ⊎_elim (λ (a : Has same q xs). inl (rw (e, a))) inr (has_append same q xs ys g)) (cases_Bool (same q x))
 
 pub has_left : {A : Type 0} (same : A → A → Bool) (q : A) (xs ys : List A) → Has same q xs → Has same q (xs ++ ys)
 has_left same q [] ys h = none_in same q _ h
@@ -78,7 +78,7 @@ module _ {A : Type 0} (same : A → A → Bool) (laws : IsEquality same) where
   of_flat_map same_b g P [] all q h = none_in same_b q _ h
   of_flat_map same_b g P (x ∷ xs) all q h = ⊎_elim (λ now. all x (has_first x xs) q now)
       (λ later. of_flat_map same_b g P xs (λ y there. all y (has_later same y x xs there)) q later)
-          (has_append same_b q (g x) (flat_map g xs) h)
+      (has_append same_b q (g x) (flat_map g xs) h)
 
   pub into_flat_map : {B : Type 0} (same_b : B → B → Bool) (g : A → List B) (xs : List A) (x : A) → Has same x xs → (q : B) →
       Has same_b q (g x) → Has same_b q (flat_map g xs)

@@ -11,13 +11,13 @@ module _ {A : Type 0} (same : A → A → Bool) (laws : IsEquality same) (test :
   any_has x [] h is = none_in same x _ h
   any_has x (y ∷ ys) h is = ⊎_elim (λ (e : x ≡ y). let t : test y ≡ true = ap test (sym e) ∙ is in rw t refl)
       (λ later. ⊎_elim (λ (t : test y ≡ true). rw t refl) (λ (t : test y ≡ false). rw t (any_has x ys later is)) (cases_Bool (test y)))
-          (has_cons same laws x y ys h)
+      (has_cons same laws x y ys h)
 
   pub has_any : (xs : List A) → list_any test xs ≡ true → (x : A) × Has same x xs × (test x ≡ true)
   has_any [] h = cc
   has_any (y ∷ ys) h = ⊎_elim (λ (t : test y ≡ true). (y, has_first same laws y ys, t))
       (λ (t : test y ≡ false). let g : list_any test ys ≡ true = (rw t at h) in let r = has_any ys g in
-          (r.0, has_later same r.0 y ys r.1, r.2)) (cases_Bool (test y))
+      (r.0, has_later same r.0 y ys r.1, r.2)) (cases_Bool (test y))
 
   any_more : (xs ys : List A) → ((q : A) → Has same q xs → Has same q ys) → list_any test xs ≡ true → list_any test ys ≡ true
   any_more xs ys all h = let r = has_any xs h in any_has r.0 ys (all r.0 r.1) r.2
@@ -26,7 +26,7 @@ module _ {A : Type 0} (same : A → A → Bool) (laws : IsEquality same) (test :
       list_any test xs ≡ list_any test ys
   any_same xs ys to from = ⊎_elim (λ (e : list_any test ys ≡ true). any_more ys xs from e ∙ sym e)
       (λ (e : list_any test ys ≡ false). ⊎_elim (λ (h : list_any test xs ≡ true). not_both (list_any test ys) _ (any_more xs ys to h) e)
-          (λ (h : list_any test xs ≡ false). h ∙ sym e) (cases_Bool (list_any test xs)))
+      (λ (h : list_any test xs ≡ false). h ∙ sym e) (cases_Bool (list_any test xs)))
       (cases_Bool (list_any test ys))
 
   pub any_distinct : (xs : List A) → list_any test (distinct same xs) ≡ list_any test xs

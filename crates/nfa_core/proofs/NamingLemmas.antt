@@ -60,7 +60,7 @@ ranking_more view drafts ranks new i count more draft inside there pushed e one 
     let len = length-map drafts view in
     let inside' : i < length (map view drafts) = omega arith in
     let seen : get_or (map view drafts) i fail_draft ≡ view draft = get_or-map view drafts i draft fail_draft inside
-        ∙ ap view (sym there) in
+    ∙ ap view (sym there) in
     let next = kept_more (map view drafts) i fail_draft inside' in
     let last = ap (λ draft. length (kept (draft ∷ []))) seen in record {
       len = ap length pushed ∙ length-append ranks (count ∷ []) ∙ ap (λ k. k + 1) so_far.len;
@@ -74,8 +74,10 @@ ranking_start drafts = record { len = refl; right = λ q below. absurd (omega (a
 
 pub ranking_done : (drafts : List DraftNode) (ranks : List ℕ) (i count : ℕ) → length drafts ≤ i → i ≤ length drafts →
     IsRankingTo drafts ranks i count → IsRanking drafts ranks
-ranking_done drafts ranks i count long short so_far = record { len = omega (arith, so_far.len);
-    right = λ q inside. so_far.right q (omega (arith, inside)) }
+ranking_done drafts ranks i count long short so_far = record {
+  len = omega (arith, so_far.len);
+  right = λ q inside. so_far.right q (omega (arith, inside));
+}
 
 -- the ranks of the states past all states are their names
 pub settled_past : (drafts : List DraftNode) (table : List (Option ℕ)) (q : ℕ) → IsPastTable drafts table → is_settled table q ≡ true →
@@ -92,7 +94,7 @@ past_is_inside drafts table q reached told there inside =
 pub naming_done : (drafts : List DraftNode) (table : List (Option ℕ)) (ranks names : List ℕ) → IsReached drafts → IsPastTable drafts table →
     ((q : ℕ) → q < length drafts → is_settled table q ≡ true) →
     IsRanking drafts ranks → length names ≡ length ranks → ((q : ℕ) → q < length ranks →
-        name_in names q ≡ name_in ranks (unwrap_or (get_or table q None) q)) → IsNaming drafts names
+    name_in names q ≡ name_in ranks (unwrap_or (get_or table q None) q)) → IsNaming drafts names
 naming_done drafts table ranks names reached told there ranked len right = record {
   len = len ∙ ranked.len;
   right = λ q inside. right q (omega (arith, inside, ranked.len)) ∙ ap (name_in ranks) (settled_past drafts table q told (there q inside))

@@ -50,7 +50,7 @@ looks_distinct f xs = same_members (looks_of (map f (distinct nat_eq xs))) (look
     (looks_in (map f xs))
     (λ l. let test : Node → Bool = λ node. has_look (look_of node) l in
     has_looks (map f (distinct nat_eq xs)) l ∙ any_map test f (distinct nat_eq xs) ∙ any_distinct nat_eq names_equal (λ x. test (f x)) xs
-        ∙ sym (any_map test f xs) ∙ sym (has_looks (map f xs) l))
+    ∙ sym (any_map test f xs) ∙ sym (has_looks (map f xs) l))
 
 -- what an NFA knows of the states that its patterns reach, from a list of these without repeats
 pub empty_met : (a : Automaton) (met : List ℕ) → met ≡ distinct nat_eq (reached_freely a) →

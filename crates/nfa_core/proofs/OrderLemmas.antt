@@ -20,7 +20,7 @@ limit_kept (Some most) bytes e = grind (arith, ltb-false most bytes)
 pub order_added : {D : Type 0} (view : D → DraftNode) (old new : List D) (one : D) (patterns : ℕ) (limit : Option ℕ) →
     new ≡ old ++ one ∷ [] →
     IsInOrder (map view old) patterns limit → IsDraftOf patterns (view one) → length old ≤ greatest_index →
-        limit_fault limit (bytes_of (map view old ++ view one ∷ [])) ≡ None →
+    limit_fault limit (bytes_of (map view old ++ view one ∷ [])) ≡ None →
     IsInOrder (map view new) patterns limit
 order_added view old new one patterns limit pushed order good room within =
     let seen : map view new ≡ map view old ++ view one ∷ [] = ap (map view) pushed ∙ map-append view old (one ∷ []) in
@@ -94,10 +94,18 @@ order_more drafts old new limit more numbered order = record {
 
 -- a builder without states and patterns
 pub order_blank : (limit : Option ℕ) → IsInOrder [] 0 limit
-order_blank None = record { within = tt; parts_of = λ k d inside. absurd (omega (arith, inside)); states_numbered = omega arith;
-    patterns_numbered = omega arith }
-order_blank (Some most) = record { within = omega arith; parts_of = λ k d inside. absurd (omega (arith, inside));
-    states_numbered = omega arith; patterns_numbered = omega arith }
+order_blank None = record {
+  within = tt;
+  parts_of = λ k d inside. absurd (omega (arith, inside));
+  states_numbered = omega arith;
+  patterns_numbered = omega arith;
+}
+order_blank (Some most) = record {
+  within = omega arith;
+  parts_of = λ k d inside. absurd (omega (arith, inside));
+  states_numbered = omega arith;
+  patterns_numbered = omega arith;
+}
 
 -- an index that is too great
 pub index_refused : (pattern index : ℕ) → greatest_index < index → index_fault pattern index ≡ Some

@@ -76,18 +76,18 @@ module _ (a : Automaton) (t u : Text) (i q d : ℕ) (lists : ℕ → List ℕ) w
       | inl lt ↦ other_past k lt inside
       | inr ge ↦
           sym (flat_same (byte_steps a t (place_of a.reverse i k)) (byte_steps a u (place_of a.reverse i k)) (cut k (lists k))
-              (λ x. alike.bytes k x (omega arith)))
+          (λ x. alike.bytes k x (omega arith)))
           ∙ over_past k l inside
     ]
 
     other_later : (k : ℕ) → k < bytes_left a.reverse t i →
         Visits nat_eq (plain_steps a u (place_of a.reverse i (suc k)))
-            (flat_map (byte_steps a u (place_of a.reverse i k)) (cut k (lists k))) [] (lists (suc k))
+        (flat_map (byte_steps a u (place_of a.reverse i k)) (cut k (lists k))) [] (lists (suc k))
     other_later k inside = elim (cases_lt k d) [
       | inl lt ↦
           let P : List ℕ → Type 0 = λ l. Visits nat_eq (plain_steps a u (place_of a.reverse i (suc k))) l [] (lists (suc k)) in
           subst P (flat_same (byte_steps a t (place_of a.reverse i k)) (byte_steps a u (place_of a.reverse i k)) (cut k (lists k))
-              (λ x. alike.bytes k x (omega arith)))
+          (λ x. alike.bytes k x (omega arith)))
           (walk_alike (suc k) (omega arith) _ (listed.later k inside))
       | inr ge ↦
           meets_nothing (plain_steps a u (place_of a.reverse i (suc k))) _ (lists (suc k)) (other_over k ge inside)

@@ -20,7 +20,7 @@ pub pairs_equal : IsEquality same_pair
 pairs_equal (a, b) (c, d) = (
   λ h. ⊎_elim
       (λ (e : nat_eq a c ≡ true). let g : nat_eq b d ≡ true = (rw e at h) in let i : a ≡ c = (Decides-eqb a c).0 e in
-          let j : b ≡ d = (Decides-eqb b d).0 g in rw (i, j))
+      let j : b ≡ d = (Decides-eqb b d).0 g in rw (i, j))
       (λ (e : nat_eq a c ≡ false). let g : false ≡ true = (rw e at h) in cc) (cases_Bool (nat_eq a c)),
   λ e. let i : nat_eq a c ≡ true = (Decides-eqb a c).1 (ap (λ (p : ℕ × ℕ). p.0) e) in let j : nat_eq b d ≡ true =
       (Decides-eqb b d).1 (ap (λ (p : ℕ × ℕ). p.1) e) in rw (i, j),
@@ -46,8 +46,11 @@ distinct_from same [] once = tt
 distinct_from same (x ∷ xs) once = IsDistinct-cons same x xs (apart same x xs once.0) (distinct_from same xs once.1)
 
 pub finite_names : (n : ℕ) (ways : ℕ → List ℕ) → StaysBelow n ways → IsFinite nat_eq ways (λ x. x < n) n
-finite_names n ways below = record { stays = below; room = λ xs inside once. length-le_from_distinct_below xs n
-    (distinct_from nat_eq xs once) inside }
+finite_names n ways below = record {
+  stays = below;
+  room = λ xs inside once. length-le_from_distinct_below xs n
+      (distinct_from nat_eq xs once) inside;
+}
 
 -- ---- pairs of the first places and names below n
 
@@ -68,7 +71,7 @@ in_names : (n x : ℕ) → x < n → Has nat_eq x (names_below n)
 in_names zero x h = absurd (omega (arith, h))
 in_names (suc n) x h = ⊎_elim (λ (e : nat_eq x n ≡ true). rw e)
     (λ (e : nat_eq x n ≡ false). rw e (in_names n x (let differ : x ≢ n = λ i. not_both (nat_eq x n) _ ((Decides-eqb x n).1 i) e in
-        omega (arith, h, differ)))) (cases_Bool (nat_eq x n))
+    omega (arith, h, differ)))) (cases_Bool (nat_eq x n))
 
 length_names : (n : ℕ) → length (names_below n) ≡ n
 length_names zero = refl
@@ -86,18 +89,20 @@ in_map k y (z ∷ zs) h = ⊎_elim (λ (e : y ≡ z). has_same same_pair pairs_e
 pub from_map : (k : ℕ) (q : ℕ × ℕ) (ys : List ℕ) → Has same_pair q (map (λ z. (k, z)) ys) → (y : ℕ) × Has nat_eq y ys × (q ≡ (k, y))
 from_map k q [] h = none_in same_pair q _ h
 from_map k q (y ∷ ys) h = ⊎_elim (λ (e : q ≡ (k, y)). (y, has_first nat_eq names_equal y ys, e))
-    (λ later. let o = from_map k q ys later in (o.0, has_later nat_eq o.0 y ys o.1, o.2)) (has_cons same_pair pairs_equal q (k,
-        y) (map (λ z. (k, z)) ys) h)
+    (λ later. let o = from_map k q ys later in (o.0, has_later nat_eq o.0 y ys o.1, o.2)) (has_cons same_pair pairs_equal q (
+      k,
+      y,
+    ) (map (λ z. (k, z)) ys) h)
 
 in_pairs : (n d : ℕ) (p : ℕ × ℕ) → p.0 < d → p.1 < n → Has same_pair p (pairs_below n d)
 in_pairs n zero p h g = absurd (omega (arith, h))
 in_pairs n (suc d) (k, y) h g = ⊎_elim
     (λ (e : nat_eq k d ≡ true). let i : k ≡ d = (Decides-eqb k d).0 e in
-        rw i (has_left same_pair (d, y) (map (λ z. (d, z)) (names_below n)) (pairs_below n d)
-        (in_map d y (names_below n) (in_names n y g))))
+    rw i (has_left same_pair (d, y) (map (λ z. (d, z)) (names_below n)) (pairs_below n d)
+    (in_map d y (names_below n) (in_names n y g))))
     (λ (e : nat_eq k d ≡ false). let differ : k ≢ d = λ i. not_both (nat_eq k d) _ ((Decides-eqb k d).1 i) e in
     has_right same_pair (k, y) (map (λ z. (d, z)) (names_below n)) (pairs_below n d) (in_pairs n d (k, y) (omega (arith, h, differ)) g))
-        (cases_Bool (nat_eq k d))
+    (cases_Bool (nat_eq k d))
 
 length_appended : {A : Type 0} (xs ys : List A) → length (xs ++ ys) ≡ length xs + length ys
 length_appended [] ys = omega arith
@@ -131,7 +136,7 @@ equivalence same laws = record {
 below_or_at : (k len : ℕ) → k ≤ len → (k < len) ⊎ (k ≡ len)
 below_or_at k len h = ⊎_elim (λ (e : nat_eq k len ≡ true). inr ((Decides-eqb k len).0 e))
     (λ (e : nat_eq k len ≡ false). let differ : k ≢ len = λ i. not_both (nat_eq k len) _ ((Decides-eqb k len).1 i) e in
-        inl (omega (arith, h, differ))) (cases_Bool (nat_eq k len))
+    inl (omega (arith, h, differ))) (cases_Bool (nat_eq k len))
 
 -- the pairs of the places up to len and the names below n
 abbrev pub InText : ℕ → ℕ → ℕ × ℕ → Type 0
@@ -142,7 +147,7 @@ pub pairs_room : (n len : ℕ) (xs : List (ℕ × ℕ)) → ((q : ℕ × ℕ) �
     length xs ≤ suc len * n
 pairs_room n len xs inside once =
     let l : length xs ≤ length (pairs_below n (suc len)) = length-le_from_is_member (equivalence same_pair pairs_equal) xs
-        (pairs_below n (suc len)) (distinct_from same_pair xs once)
+    (pairs_below n (suc len)) (distinct_from same_pair xs once)
     (λ q h. let i = inside q h in in_pairs n (suc len) q (omega (arith, i.0)) i.1) in
     let e : length (pairs_below n (suc len)) ≡ suc len * n = length_pairs n (suc len) ∙ pairs_is n (suc len) in
     omega (l, e, arith)
@@ -151,7 +156,7 @@ stays_inside : (eps step : ℕ → ℕ → List ℕ) (n len : ℕ) → IsGraph e
     suc k ≤ len
 stays_inside eps step n len graph k x y h way = ⊎_elim (λ (less : k < len). omega (arith, less))
     (λ (e : k ≡ len). let none : step k x ≡ [] = graph.text_ends k x (omega (arith, e)) in let g : Has nat_eq y [] = (rw none at way) in
-        none_in nat_eq y _ g) (below_or_at k len h)
+    none_in nat_eq y _ g) (below_or_at k len h)
 
 pub finite_pairs : (eps step : ℕ → ℕ → List ℕ) (n len : ℕ) → IsGraph eps step n len →
     IsFinite same_pair (nexts eps step) (InText n len) (suc len * n)

@@ -40,8 +40,11 @@ held_from : (dense places : List ℕ) (n name k : ℕ) → IsPaired dense places
     is_in name (take n dense) ≡ true
 held_from dense places n name k p inside read =
     let len = length_of_first dense n p.within in
-    list_any-from_Contains nat_eq_equiv name (take n dense) (k, omega (arith, len, inside),
-        read_first dense n k name 0 inside p.within ∙ read)
+    list_any-from_Contains nat_eq_equiv name (take n dense) (
+      k,
+      omega (arith, len, inside),
+      read_first dense n k name 0 inside p.within ∙ read,
+    )
 
 -- what is read of the tables tells whether the number is there
 pub held_inside : (dense places : List ℕ) (n name place read d o : ℕ) → IsPaired dense places n → name < length places →
@@ -67,7 +70,7 @@ distinct dense places n p = IsDistinct-from_apart nat_eq (take n dense) (λ i j 
     false_from_ne_true _ (λ e.
     let same = (Decides-eqb (get_or (take n dense) i d) (get_or (take n dense) j d)).0 e in
     let reads : slice_index dense i ≡ slice_index dense j = sym (read_first dense n i d 0 first p.within) ∙ same
-        ∙ read_first dense n j d 0 second p.within in
+    ∙ read_first dense n j d 0 second p.within in
     let places_of : i ≡ j = sym (p.paired i first).1 ∙ ap (λ x. slice_index places x) reads ∙ (p.paired j second).1 in
     absurd (omega (arith, places_of, before))))
 
@@ -102,7 +105,7 @@ added dense places n name p h absent =
           (λ (ne : k ≢ n).
           let old : k < n = omega (arith, ne, inside) in
           let other : slice_index dense k ≢ name = λ e. let t : true ≡ false = sym (held_from dense places n name k p old e) ∙ absent in
-              cc in
+          cc in
           let here : slice_index (set dense n name) k ≡ slice_index dense k = get_or-set_other dense n k name 0 ne in
           rw here (rw places_len (p.paired k old).0, get_or-set_other places name (slice_index dense k) n 0 other ∙ (p.paired k old).1))
           (cases_eq k n);

@@ -24,7 +24,7 @@ in_filter same laws p (x ∷ xs) q h = ⊎_elim
     ⊎_elim (λ (i : q ≡ x). (has_same same laws q x xs i, ap p i ∙ e))
     (λ later. let r = in_filter same laws p xs q later in (has_later same q x xs r.0, r.1)) (has_cons same laws q x (filter p xs) g))
     (λ (e : p x ≡ false). let g : Has same q (filter p xs) = (rw e at h) in let r = in_filter same laws p xs q g in
-        (has_later same q x xs r.0, r.1)) (cases_Bool (p x))
+    (has_later same q x xs r.0, r.1)) (cases_Bool (p x))
 
 pub is_none_of : {A : Type 0} (o : Option A) → is_none o ≡ true → o ≡ None
 is_none_of None e = refl
@@ -109,8 +109,12 @@ module _ {A C : Type 0} (same : A → A → Bool) (laws : IsEquality same) (othe
 
     kept_met : (seen stack : List A) (x : A) → stands x ≡ None → AreMetOr seen (x ∷ stack) → AreMet (seen ++ x ∷ [])
     kept_met seen stack x none all = of_more (IsMet (seen ++ x ∷ [])) seen x
-        (λ s h. ⊎_elim (λ m. more_met seen x s m) (λ pending. (x, has_pushed same laws x seen, none,
-            name_led (suc pending.0) s x pending.1)) (all s h))
+        (λ s h. ⊎_elim (λ m. more_met seen x s m) (λ pending. (
+          x,
+          has_pushed same laws x seen,
+          none,
+          name_led (suc pending.0) s x pending.1,
+        )) (all s h))
         (x, has_pushed same laws x seen, none, refl)
 
     stand_met : (seen stack : List A) (x r : A) → stands x ≡ Some r → AreMetOr seen (x ∷ stack) → AreMetOr (seen ++ x ∷ []) (ways x)
@@ -118,21 +122,21 @@ module _ {A C : Type 0} (same : A → A → Bool) (laws : IsEquality same) (othe
         let P : List A → Type 0 = λ next. AreMetOr (seen ++ x ∷ []) next in
         subst P (sym (stand_ways x r some).0) (of_more (λ s. IsMet (seen ++ x ∷ []) s ⊎ IsPending s (r ∷ [])) seen x
         (λ s h. ⊎_elim (λ m. inl (more_met seen x s m)) (λ pending. inr (suc pending.0, led_on (suc pending.0) s x r pending.1 some))
-            (all s h))
+        (all s h))
         (inr (zero, (r, some, refl))))
 
     names_kept : (seen : List A) (x : A) → stands x ≡ None → names (seen ++ x ∷ []) ≡ names seen ++ name x ∷ []
     names_kept seen x none =
         let is : is_none (stands x) ≡ true = ap is_none none in
         ap (map name) (filter-append (λ y. is_none (stands y)) seen (x ∷ []))
-            ∙ map-append name (filter (λ y. is_none (stands y)) seen) (filter (λ y. is_none (stands y)) (x ∷ []))
+        ∙ map-append name (filter (λ y. is_none (stands y)) seen) (filter (λ y. is_none (stands y)) (x ∷ []))
         ∙ ap (λ (keep : Bool). names seen ++ map name (if keep then x ∷ [] else [])) is
 
     names_stand : (seen : List A) (x r : A) → stands x ≡ Some r → names (seen ++ x ∷ []) ≡ names seen
     names_stand seen x r some =
         let is : is_none (stands x) ≡ false = ap is_none some in
         ap (map name) (filter-append (λ y. is_none (stands y)) seen (x ∷ [])
-            ∙ ap (λ (keep : Bool). filter (λ y. is_none (stands y)) seen ++ (if keep then x ∷ [] else [])) is
+        ∙ ap (λ (keep : Bool). filter (λ y. is_none (stands y)) seen ++ (if keep then x ∷ [] else [])) is
         ∙ append-nil (filter (λ y. is_none (stands y)) seen))
 
     is_there : (seen : List A) (x : A) → IsMet seen x → Has other (name x) (names seen)
@@ -159,8 +163,11 @@ module _ {A C : Type 0} (same : A → A → Bool) (laws : IsEquality same) (othe
     carry (held x stack seen after there rest) todo_in inside all =
         let m : IsMet seen x = first_met seen stack x (todo_in x (has_first same laws x stack)) there all in
         let go = carry rest (λ q h. todo_in q (has_later same q x stack h)) inside (λ s h. inl (all_met seen stack x m all s h)) in
-        record { walk = held (name x) (map name stack) (names seen) (names after) (is_there seen x m) go.walk; inside = go.inside;
-            met = go.met }
+        record {
+          walk = held (name x) (map name stack) (names seen) (names after) (is_there seen x m) go.walk;
+          inside = go.inside;
+          met = go.met;
+        }
     carry (fresh x stack seen mid after absent first rest) todo_in inside all =
         let here : In x = todo_in x (has_first same laws x stack) in
         let pushed : AreIn (seen ++ x ∷ []) = of_push same laws In seen x inside here in
@@ -195,5 +202,5 @@ module _ {A C : Type 0} (same : A → A → Bool) (laws : IsEquality same) (othe
         Visits other ways_o (name p ∷ []) [] (names after) × ((q : A) → Has same q after → In q)
     walk_passed p here after walk =
         let c = carry walk (of_cons same laws In p [] here (λ q h. none_in same q _ h)) (λ q h. none_in same q _ h)
-            (λ s h. none_in same s _ h) in
+        (λ s h. none_in same s _ h) in
         (c.walk, c.inside)

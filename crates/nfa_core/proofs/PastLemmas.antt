@@ -29,9 +29,9 @@ Reaches drafts n q = stands_for (draft_at drafts (past_within drafts n q)) ≡ N
 -- more steps change nothing where one that stands for itself is reached
 more_by : (drafts : List DraftNode) (n q : ℕ) (o : Option ℕ) → stands_for (draft_at drafts q) ≡ o → Reaches drafts (suc n) q →
     ((next : ℕ) → Reaches drafts n next → (past_within drafts (suc n) next ≡ past_within drafts n next) ×
-        (steps_within drafts (suc n) next ≡ steps_within drafts n next)) →
+    (steps_within drafts (suc n) next ≡ steps_within drafts n next)) →
     (going_on q (past_within drafts (suc n)) o ≡ going_on q (past_within drafts n) o) ×
-        (one_more (steps_within drafts (suc n)) o ≡ one_more (steps_within drafts n) o)
+    (one_more (steps_within drafts (suc n)) o ≡ one_more (steps_within drafts n) o)
 more_by drafts n q None e there fewer = (refl, refl)
 more_by drafts n q (Some next) e there fewer =
     let same : past_within drafts (suc n) q ≡ past_within drafts n next = ap (going_on q (past_within drafts n)) e in
@@ -45,7 +45,7 @@ more_same drafts (suc n) q there = more_by drafts n q (stands_for (draft_at draf
 
 step_by : (drafts : List DraftNode) (n q next : ℕ) → stands_for (draft_at drafts q) ≡ Some next → Reaches drafts (suc n) q →
     (past_within drafts (suc n) q ≡ past_within drafts (suc n) next) ×
-        (steps_within drafts (suc n) q ≡ suc (steps_within drafts (suc n) next))
+    (steps_within drafts (suc n) q ≡ suc (steps_within drafts (suc n) next))
 step_by drafts n q next e there =
     let same : past_within drafts (suc n) q ≡ past_within drafts n next = ap (going_on q (past_within drafts n)) e in
     let more = more_same drafts n next (ap (λ p. stands_for (draft_at drafts p)) (sym same) ∙ there) in
@@ -77,8 +77,12 @@ open_other drafts table (suc n) q at p reached inside nearer opened =
     let falls = steps_fall drafts q opened.1.0 reached inside opened.1.1 in
     let other : q ≢ at = λ (same : q ≡ at). absurd (omega (arith, nearer, ap (steps_from drafts) same)) in (
       settled_other table at q p other opened.0,
-      (opened.1.0, opened.1.1, open_other drafts table n opened.1.0 at p reached (reached.stays q opened.1.0 inside opened.1.1)
-          (omega (arith, nearer, falls)) opened.1.2),
+      (
+        opened.1.0,
+        opened.1.1,
+        open_other drafts table n opened.1.0 at p reached (reached.stays q opened.1.0 inside opened.1.1)
+            (omega (arith, nearer, falls)) opened.1.2,
+      ),
     )
 
 -- the states behind the first are still open where the first is told of
@@ -121,8 +125,12 @@ pub record IsUnderway (drafts : List DraftNode) (table : List (Option ℕ)) (q a
   pub opened : (m : ℕ) → IsOpen drafts table m at → IsOpen drafts table (len + m) q
 
 pub underway_start : (drafts : List DraftNode) (table : List (Option ℕ)) (q : ℕ) → q < length drafts → IsUnderway drafts table q q 0
-underway_start drafts table q inside = record { inside = inside; same = refl; far = omega arith;
-    opened = λ m behind. let none : m ≡ 0 + m = omega arith in subst (λ (k : ℕ). IsOpen drafts table k q) none behind }
+underway_start drafts table q inside = record {
+  inside = inside;
+  same = refl;
+  far = omega arith;
+  opened = λ m behind. let none : m ≡ 0 + m = omega arith in subst (λ (k : ℕ). IsOpen drafts table k q) none behind;
+}
 
 pub underway_next : (drafts : List DraftNode) (table : List (Option ℕ)) (q at next len : ℕ) → IsReached drafts →
     is_settled table at ≡ false → stands_for (draft_at drafts at) ≡ Some next →
@@ -157,7 +165,7 @@ told_more drafts table q p inside told e = record {
   len = length-set table q (Some p) ∙ told.len;
   right = λ r x is. ⊎_elim
       (λ (same : r ≡ q). let there : get_or (set table q (Some p)) q None ≡ Some p =
-          get_or-set_same table q (Some p) None (omega (arith, inside, told.len)) in cc)
+      get_or-set_same table q (Some p) None (omega (arith, inside, told.len)) in cc)
       (λ (other : r ≢ q). told.right r x (sym (get_or-set_other table q r (Some p) None other) ∙ is)) (cases_eq r q);
 }
 

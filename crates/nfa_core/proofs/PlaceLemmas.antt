@@ -49,13 +49,16 @@ module _ {B : Type 0} (eps step : ℕ → ℕ → List ℕ) (answer : ℕ × ℕ
     fits_nil = (omega arith, tt, λ q h. none_in nat_eq q _ h)
 
     fits_cons : (g x : ℕ) (inner : List ℕ) → x < n → has nat_eq x inner ≡ false → Fits (suc g) inner → Fits g (x ∷ inner)
-    fits_cons g x inner below off fits = (omega (arith, fits.0), (off, fits.1),
-        of_cons nat_eq names_equal (λ q. q < n) x inner below fits.2)
+    fits_cons g x inner below off fits = (
+      omega (arith, fits.0),
+      (off, fits.1),
+      of_cons nat_eq names_equal (λ q. q < n) x inner below fits.2,
+    )
 
     full : (k x : ℕ) (inner : List ℕ) → x < n → Fits 0 inner → has nat_eq x inner ≡ true
     full k x inner below fits = ⊎_elim (λ t. t) (λ (e : has nat_eq x inner ≡ false).
         let l : length inner < n = room_for nat_eq names_equal (eps k) (λ q. q < n) n
-            (finite_names n (eps k) (graph.eps_below k)) x inner below fits.2 fits.1 e in
+        (finite_names n (eps k) (graph.eps_below k)) x inner below fits.2 fits.1 e in
         absurd (omega (arith, l, fits.0))) (has_or_not nat_eq x inner)
 
     drafts : (k x : ℕ) (t : ℕ × ℕ → List B) → flat_map t (nexts eps step (k, x)) ≡ flat_map (λ y. t (suc k, y)) (step k x)
@@ -66,12 +69,12 @@ module _ {B : Type 0} (eps step : ℕ → ℕ → List ℕ) (answer : ℕ × ℕ
 
     byte_part : (d k x : ℕ) (t : ℕ × ℕ → List B) → len ≤ k + d →
         ((e y : ℕ) → d ≡ suc e → Has nat_eq y (step k x) → t (suc k, y) ≡ flat_map (found e (suc k))
-            (chain_ends nat_eq (eps (suc k)) n [] y)) →
+        (chain_ends nat_eq (eps (suc k)) n [] y)) →
         flat_map (λ y. t (suc k, y)) (step k x) ≡ beyond d k x
     byte_part zero k x t end each = let none : step k x ≡ [] = graph.text_ends k x (omega (arith, end)) in rw none
     byte_part (suc d) k x t end each =
         flat_map_same nat_eq names_equal (λ y. t (suc k, y)) (λ y. flat_map (found d (suc k)) (chain_ends nat_eq (eps (suc k)) n [] y))
-            (step k x) (λ y way. each d y refl way)
+        (step k x) (λ y way. each d y refl way)
         ∙ sym (flat_map_twice (found d (suc k)) (chain_ends nat_eq (eps (suc k)) n []) (step k x))
 
     linked : (f g d k x : ℕ) (inner : List ℕ) (path : List (ℕ × ℕ)) → g + pairs n d ≤ f → len ≤ k + d → x < n → Fits g inner →
@@ -91,12 +94,12 @@ module _ {B : Type 0} (eps step : ℕ → ℕ → List ℕ) (answer : ℕ × ℕ
         let way_part : flat_map (λ y. t (k, y)) (eps k x) ≡ flat_map (found d k) inside =
         flat_map_same nat_eq names_equal (λ y. t (k, y)) (λ y. flat_map (found d k) (chain_ends nat_eq (eps k) g (x ∷ inner) y)) (eps k x)
         (λ y way. linked f g d k y (x ∷ inner) (p ∷ path) (omega (arith, fuel)) end (graph.eps_below k x below y way)
-            (fits_cons g x inner below e fits) (knows_way k x inner path knows))
+        (fits_cons g x inner below e fits) (knows_way k x inner path knows))
         ∙ sym (flat_map_twice (found d k) (chain_ends nat_eq (eps k) g (x ∷ inner)) (eps k x)) in
         let bytes : flat_map (λ y. t (suc k, y)) (step k x) ≡ beyond d k x = byte_part d k x t end
         (λ b y is way. let m : pairs n d ≡ n + pairs n b = ap (pairs n) is in
         linked f n b (suc k) y [] (p ∷ path) (omega (arith, m, fuel)) (omega (arith, is, end)) (graph.step_below k x below y way) fits_nil
-            (knows_byte k x inner path knows)) in
+        (knows_byte k x inner path knows)) in
         ap (λ l. here k x ++ l)
         (flat_map_twice (λ q. option_to_list (answer q)) ends (nexts eps step p)
         ∙ drafts k x t
@@ -108,7 +111,7 @@ module _ {B : Type 0} (eps step : ℕ → ℕ → List ℕ) (answer : ℕ × ℕ
     -- the ends of chains over pairs, from a state at the first place
     pub ends_by_place : (start : ℕ) → start < n →
         answers answer (chain_ends same_pair (nexts eps step) (suc len * n) [] (0, start)) ≡ flat_map (found len 0)
-            (chain_ends nat_eq (eps 0) n [] start)
+        (chain_ends nat_eq (eps 0) n [] start)
     ends_by_place start below =
         let enough : pairs n (suc len) ≡ suc len * n = pairs_is n (suc len) in
         linked (suc len * n) n len 0 start [] [] (omega (arith, enough)) (omega arith) below fits_nil (λ y. refl, λ j y less. refl)

@@ -33,7 +33,7 @@ past : {A : Type 0} (same : A → A → Bool) (laws : IsEquality same) (P : Type
 past same laws P x q other xs apart h = ⊎_elim inl (λ (e : comes_before same q other xs ≡ true). inr (⊎_elim
     (λ (i : same x other ≡ true). absurd (apart ((laws x other).0 i)))
     (λ (i : same x other ≡ false). ⊎_elim (λ (j : same x q ≡ true). rw (i, j)) (λ (j : same x q ≡ false). rw (i, j, e))
-        (cases_Bool (same x q))) (cases_Bool (same x other)))) h
+    (cases_Bool (same x q))) (cases_Bool (same x other)))) h
 
 module _ {A B : Type 0} (same : A → A → Bool) (laws : IsEquality same) (ways : A → List A) (answer : A → Option B) where
   -- a run that keeps off the path, of fewer than f things behind its first
@@ -50,7 +50,7 @@ module _ {A B : Type 0} (same : A → A → Bool) (laws : IsEquality same) (ways
   BestOf f path qs None = (q : A) → Has same q qs → (s : List A) (d : B) → Short f path q s d → ⊥
   BestOf f path qs (Some e) = (q : A) × Has same q qs × (r : List A) × KeepsOff same ways path q r × (answer (last_or q r) ≡ Some e) ×
       ((o : A) → Has same o qs → (s : List A) (d : B) → Short f path o s d → ((o ≡ q) × ((s ≡ r) ⊎ IsPreferred same ways q r s)) ⊎
-          (comes_before same q o qs ≡ true))
+      (comes_before same q o qs ≡ true))
 
   abbrev given : ℕ → List A → A → List B
   given f path q = answers answer (chain_ends same ways f path q)
@@ -66,7 +66,7 @@ module _ {A B : Type 0} (same : A → A → Bool) (laws : IsEquality same) (ways
       let later = rw e at (of_list f path each xs) in
       rw (first_append (given f path x) (flat_map (given f path) xs), none, e)
       (λ q h s d short. ⊎_elim (λ (i : q ≡ x). let g : Short f path x s d = (rw i at short) in
-          no_run s d g) (λ g. later q g s d short) (has_cons same laws q x xs h)))
+      no_run s d g) (λ g. later q g s d short) (has_cons same laws q x xs h)))
       (λ (some : (a : B) × (first (flat_map (given f path) xs) ≡ Some a)).
       let later = rw some.1 at (of_list f path each xs) in
       rw (first_append (given f path x) (flat_map (given f path) xs), none, some.1) (
@@ -78,7 +78,7 @@ module _ {A B : Type 0} (same : A → A → Bool) (laws : IsEquality same) (ways
         λ o h s d short. ⊎_elim
             (λ (i : o ≡ x). let g : Short f path x s d = (rw i at short) in absurd (no_run s d g))
             (λ g. past same laws _ x later.0 o xs (λ (i : x ≡ o). let k : Short f path x s d = (rw i short) in
-                no_run s d k) (later.5 o g s d short)) (has_cons same laws o x xs h),
+            no_run s d k) (later.5 o g s d short)) (has_cons same laws o x xs h),
       ))
       (option_cases (first (flat_map (given f path) xs))))
       (λ (some : (a : B) × (first (given f path x) ≡ Some a)).
@@ -91,7 +91,7 @@ module _ {A B : Type 0} (same : A → A → Bool) (laws : IsEquality same) (ways
         best.2,
         λ o h s d short. ⊎_elim
             (λ (e : same x o ≡ true). let i : o ≡ x = sym ((laws x o).0 e) in let g : Short f path x s d = (rw i at short) in
-                inl (i, best.3 s d g))
+            inl (i, best.3 s d g))
             (λ (e : same x o ≡ false). let self : same x x ≡ true = (laws x x).1 refl in inr (rw (e, self))) (cases_Bool (same x o)),
       )) (option_cases (first (given f path x)))
 
@@ -100,7 +100,7 @@ module _ {A B : Type 0} (same : A → A → Bool) (laws : IsEquality same) (ways
   given_is f path p off = rw off (first_append (option_to_list (answer p))
       (answers answer (flat_map (chain_ends same ways f (p ∷ path)) (ways p)))
       ∙ ap (λ l. option_or (first (option_to_list (answer p))) (first l))
-          (flat_map_twice (λ x. option_to_list (answer x)) (chain_ends same ways f (p ∷ path)) (ways p))
+      (flat_map_twice (λ x. option_to_list (answer x)) (chain_ends same ways f (p ∷ path)) (ways p))
       ∙ ap (λ o. option_or o (first (flat_map (given f (p ∷ path)) (ways p)))) (first_of_option (answer p)))
 
   ends_first : (p : A) (s : List A) → (s ≡ []) ⊎ IsPreferred same ways p [] s

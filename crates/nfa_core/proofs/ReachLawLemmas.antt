@@ -38,7 +38,7 @@ module _ (a : Automaton) (sound : IsSound a) where
   led_from s q low h =
       let g : Has nat_eq q (answers (λ p. Some p) (ends s)) = rw (itself_answers (ends s)) h in
       let run = listed_is_run nat_eq names_equal nat_eq names_equal (free_steps a) (λ p. p < length a.states) (length a.states) finite s low
-          (λ p. Some p) q
+      (λ p. Some p) q
       (join_brings nat_eq names_equal [] (answers (λ p. Some p) (ends s)) q g) in
       (run.0, run.1.0, some_same (last_or s run.0) q run.1.2)
 
@@ -47,10 +47,10 @@ module _ (a : Automaton) (sound : IsSound a) where
       let w = without_rounds nat_eq names_equal (free_steps a) s r chain in
       let g : Has nat_eq q (run_ends nat_eq nat_eq (free_steps a) (λ p. Some p) (length a.states) s) =
       run_is_listed nat_eq names_equal nat_eq names_equal (free_steps a) (λ p. p < length a.states) (length a.states) finite s low
-          (λ p. Some p) q w.0
+      (λ p. Some p) q w.0
       (w.1.0, w.1.1, ap (λ p. Some p) (w.1.2 ∙ e)) in
       of_join nat_eq names_equal (λ p. Has nat_eq p (ends s)) [] (answers (λ p. Some p) (ends s)) (λ p h. none_in nat_eq p _ h)
-          (λ p h. rw (itself_answers (ends s)) at h) q g
+      (λ p h. rw (itself_answers (ends s)) at h) q g
 
   pub led : (q : ℕ) → Has nat_eq q (reached_freely a) → (s : ℕ) × (r : List ℕ) × Has nat_eq s a.start_pattern ×
       IsChain nat_eq (free_steps a) s r × (last_or s r ≡ q)

@@ -76,9 +76,11 @@ module _ (before seen stack names rest new : List ℕ) (x : ℕ) (b : Bool) (sam
       (h.1 ∙ same, λ ways after v. walk ways after (rw taken (held x rest names after h.0 (rw (← h.1) v))))
 
   pub meets : b ≡ true → Meets before seen rest new (Some x)
-  meets is = let h = fresh_inserted b x names new is tells e in
-      (h.1 ∙ ap (λ l. l ++ x ∷ []) same, λ ways after v. walk ways after
-          (rw taken (fresh_on_stack nat_eq ways x rest names after h.0 (rw (← h.1) v))))
+  meets is = let h = fresh_inserted b x names new is tells e in (
+    h.1 ∙ ap (λ l. l ++ x ∷ []) same,
+    λ ways after v. walk ways after
+        (rw taken (fresh_on_stack nat_eq ways x rest names after h.0 (rw (← h.1) v))),
+  )
 
 -- the walk stands at a stack and what was met: going on from there goes on from the patterns' starts
 abbrev pub StandsAt : Automaton → ℕ → List ℕ → List ℕ → Type 0
@@ -87,9 +89,11 @@ StandsAt a n stack met = AreBelow n stack × AreBelow n met × ((after : List �
 
 module _ (a : Automaton) (n : ℕ) (len : n ≡ length a.states) (sound : IsSound a) where
   pub begins : (stack met : List ℕ) → stack ≡ a.start_pattern ++ [] → met ≡ [] → StandsAt a n stack met
-  begins stack met e none = let same : stack ≡ a.start_pattern = e ∙ append-nil a.start_pattern in
-      (rw (same, len) (has_from_all (length a.states) a.start_pattern sound.starts), (λ q h. none_in nat_eq q _ (rw none at h)),
-          λ after v. rw (← same) (rw (← none) v))
+  begins stack met e none = let same : stack ≡ a.start_pattern = e ∙ append-nil a.start_pattern in (
+    rw (same, len) (has_from_all (length a.states) a.start_pattern sound.starts),
+    (λ q h. none_in nat_eq q _ (rw none at h)),
+    λ after v. rw (← same) (rw (← none) v),
+  )
 
   pub goes_on : (stack met later new next : List ℕ) (q : ℕ) (node : Node) → StandsAt a n stack met → q < n → AreBelow n later →
       Meets stack met later new (Some q) →

@@ -30,14 +30,14 @@ reads_same true f g h s e (suc i) = refl
 pub alike_by_looks : (a : Automaton) (f g : Look → ℕ → Bool) (h : List ℕ) (start end i d : ℕ) →
     ((l : Look) (k : ℕ) → has_look (looks_of a.states) l ≡ true → k ≤ d →
     is_passed a.reverse (read_by f h start end) l (place_of a.reverse i k) ≡ is_passed a.reverse (read_by g h start end) l
-        (place_of a.reverse i k)) →
+    (place_of a.reverse i k)) →
     IsAlike a (read_by f h start end) (read_by g h start end) i d
 alike_by_looks a f g h start end i d same = record {
   same_start = refl;
   same_end = refl;
   looks = λ k q low.
       nothing_same (node_at a q) (λ l. is_passed a.reverse (read_by f h start end) l (place_of a.reverse i k))
-          (λ l. is_passed a.reverse (read_by g h start end) l (place_of a.reverse i k))
+      (λ l. is_passed a.reverse (read_by g h start end) l (place_of a.reverse i k))
       (λ l next is. same l k ((looks_any l a).1 (q, next, is)) low);
   bytes = λ k q low. ap (on_read (node_at a q)) (reads_same a.reverse f g h start end (place_of a.reverse i k));
 }
@@ -53,8 +53,8 @@ place_forward true i k up = cc
 
 pub alike_forward : (a : Automaton) (f g : Look → ℕ → Bool) (h : List ℕ) (start end i d : ℕ) → a.reverse ≡ false →
     ((l : Look) (j : ℕ) → has_look (looks_of a.states) l ≡ true → i ≤ j → j ≤ i + d → f l j ≡ g l j) →
-        IsAlike a (read_by f h start end) (read_by g h start end) i d
+    IsAlike a (read_by f h start end) (read_by g h start end) i d
 alike_forward a f g h start end i d up same = alike_by_looks a f g h start end i d
     (λ l k there low. let at : place_of a.reverse i k ≡ i + k = place_forward a.reverse i k up in
     passed_forward a.reverse f g h start end l (place_of a.reverse i k) up
-        (same l (place_of a.reverse i k) there (omega arith) (omega arith)))
+    (same l (place_of a.reverse i k) there (omega arith) (omega arith)))

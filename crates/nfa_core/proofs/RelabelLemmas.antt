@@ -26,9 +26,9 @@ module _ {A : Type 0} (same : A → A → Bool) (laws : IsEquality same) (ways :
   ends_in stays (suc f) path x here q h = ⊎_elim
       (λ (e : has same x path ≡ true). none_in same q _ (rw e at h))
       (λ (e : has same x path ≡ false). let g = rw e at h in of_cons same laws In x
-          (flat_map (chain_ends same ways f (x ∷ path)) (ways x)) here
+      (flat_map (chain_ends same ways f (x ∷ path)) (ways x)) here
       (of_flat_map same laws same (chain_ends same ways f (x ∷ path)) In (ways x)
-          (λ y way. ends_in stays f (x ∷ path) y (stays x here y way))) q g) (has_or_not same x path)
+      (λ y way. ends_in stays f (x ∷ path) y (stays x here y way))) q g) (has_or_not same x path)
 
   -- bounds above the number of things in the set bring the same
   pub same_bound : (n : ℕ) → IsFinite same ways In n → (f g : ℕ) (path : List A) (x : A) → In x → ((q : A) → Has same q path → In q) →
@@ -37,15 +37,17 @@ module _ {A : Type 0} (same : A → A → Bool) (laws : IsEquality same) (ways :
   same_bound n finite zero zero path x here inside once a b = refl
   same_bound n finite zero (suc g) path x here inside once a b = ⊎_elim (λ (e : has same x path ≡ true). rw e)
       (λ (e : has same x path ≡ false). let l : length path < n = room_for same laws ways In n finite x path here inside once e in
-          absurd (omega (arith, a, l))) (has_or_not same x path)
+      absurd (omega (arith, a, l))) (has_or_not same x path)
   same_bound n finite (suc f) zero path x here inside once a b = ⊎_elim (λ (e : has same x path ≡ true). rw e)
       (λ (e : has same x path ≡ false). let l : length path < n = room_for same laws ways In n finite x path here inside once e in
-          absurd (omega (arith, b, l))) (has_or_not same x path)
+      absurd (omega (arith, b, l))) (has_or_not same x path)
   same_bound n finite (suc f) (suc g) path x here inside once a b = ⊎_elim (λ (e : has same x path ≡ true). rw e)
       (λ (e : has same x path ≡ false). rw e (ap (λ l. x ∷ l) (flat_map_same same laws (chain_ends same ways f (x ∷ path))
-          (chain_ends same ways g (x ∷ path)) (ways x)
-      (λ y way. same_bound n finite f g (x ∷ path) y (finite.stays x here y way) (of_cons same laws In x path here inside) (e,
-          once) (omega (arith, a)) (omega (arith, b)))))) (has_or_not same x path)
+      (chain_ends same ways g (x ∷ path)) (ways x)
+      (λ y way. same_bound n finite f g (x ∷ path) y (finite.stays x here y way) (of_cons same laws In x path here inside) (
+        e,
+        once,
+      ) (omega (arith, a)) (omega (arith, b)))))) (has_or_not same x path)
 
 module _ {A C : Type 0} (same : A → A → Bool) (laws : IsEquality same) (other : C → C → Bool) (laws_o : IsEquality other) (ways : A →
     List A) (ways_o : C → List C)
@@ -55,7 +57,7 @@ module _ {A C : Type 0} (same : A → A → Bool) (laws : IsEquality same) (othe
   has_named x [] here inside = refl
   has_named x (y ∷ ys) here inside =
       let e : other (name x) (name y) ≡ same x y = same_cases other same laws_o laws (name x) (name y) x y
-          (one x y here (inside y (has_first same laws y ys))) (ap name) in
+      (one x y here (inside y (has_first same laws y ys))) (ap name) in
       rw (e, has_named x ys here (λ q h. inside q (has_later same q y ys h)))
 
   pub ends_named : (f : ℕ) (path : List A) (x : A) → In x → ((q : A) → Has same q path → In q) →
@@ -64,11 +66,11 @@ module _ {A C : Type 0} (same : A → A → Bool) (laws : IsEquality same) (othe
   ends_named (suc f) path x here inside = ⊎_elim
       (λ (e : has same x path ≡ true). let g : has other (name x) (map name path) ≡ true = has_named x path here inside ∙ e in rw (e, g))
       (λ (e : has same x path ≡ false). let g : has other (name x) (map name path) ≡ false = has_named x path here inside ∙ e in
-          rw (e, g) (ap (λ l. name x ∷ l)
+      rw (e, g) (ap (λ l. name x ∷ l)
       (ap (flat_map (chain_ends other ways_o f (name x ∷ map name path))) (alike x here)
       ∙ flat_map-map (chain_ends other ways_o f (name x ∷ map name path)) name (ways x)
       ∙ flat_map_same same laws (λ y. chain_ends other ways_o f (name x ∷ map name path) (name y))
-          (λ y. map name (chain_ends same ways f (x ∷ path) y)) (ways x)
+      (λ y. map name (chain_ends same ways f (x ∷ path) y)) (ways x)
       (λ y way. ends_named f (x ∷ path) y (stays x here y way) (of_cons same laws In x path here inside))
       ∙ sym (map_flat name (chain_ends same ways f (x ∷ path)) (ways x))))) (has_or_not same x path)
 

@@ -30,7 +30,7 @@ pub state_inside : (b : Assembly) (x y q : ℕ) → q < length b.drafts → stan
 state_inside b x y q inside e =
     let l : new_name b.drafts q < length (kept b.drafts) = kept_inside b.drafts q inside e in
     let len : length (map (renamed (new_name b.drafts) b.groups) (kept b.drafts)) ≡ length (kept b.drafts) =
-        length-map (kept b.drafts) (renamed (new_name b.drafts) b.groups) in
+    length-map (kept b.drafts) (renamed (new_name b.drafts) b.groups) in
     omega (arith, l, len)
 
 pub state_renamed : (b : Assembly) (x y q : ℕ) → q < length b.drafts → stands_for (draft_at b.drafts q) ≡ None →
@@ -44,7 +44,7 @@ pub one_state : (drafts : List DraftNode) (p q : ℕ) → p < length drafts → 
     new_name drafts p ≡ new_name drafts q → p ≡ q
 one_state drafts p q inside_p inside_q kept_p kept_q e =
     one_rank is_kept drafts p q fail_draft inside_p inside_q (ap is_none kept_p) (ap is_none kept_q) (sym (name_of_kept drafts p kept_p) ∙ e
-        ∙ name_of_kept drafts q kept_q)
+    ∙ name_of_kept drafts q kept_q)
 
 -- the kept state of which a name is the new one
 abbrev pub Named : List DraftNode → ℕ → Type 0
@@ -53,7 +53,7 @@ Named drafts k = (q : ℕ) × (q < length drafts) × (stands_for (draft_at draft
 pub state_named : (b : Assembly) (x y k : ℕ) → k < length (automaton_of b x y).states → Named b.drafts k
 state_named b x y k inside =
     let len : length (map (renamed (new_name b.drafts) b.groups) (kept b.drafts)) ≡ length (kept b.drafts) =
-        length-map (kept b.drafts) (renamed (new_name b.drafts) b.groups) in
+    length-map (kept b.drafts) (renamed (new_name b.drafts) b.groups) in
     let l : k < length (kept b.drafts) = omega (arith, inside, len) in
     let r = ranked is_kept b.drafts fail_draft k l in
     let none : stands_for (draft_at b.drafts r.0) ≡ None = is_none_of (stands_for (draft_at b.drafts r.0)) r.2 in
@@ -65,10 +65,10 @@ renamed_pair drafts p = (p.0, new_name drafts p.1)
 
 pub state_ways : (b : Assembly) (x y q i : ℕ) (t : Text) → q < length b.drafts → stands_for (draft_at b.drafts q) ≡ None →
     ways (automaton_of b x y) t (i, new_name b.drafts q) ≡ map (λ p. (p.0, new_name b.drafts p.1))
-        (table_ways b.reverse t (draft_at b.drafts) (i, q))
+    (table_ways b.reverse t (draft_at b.drafts) (i, q))
 state_ways b x y q i t inside e =
     ap (λ node. node_ways b.reverse t node i) (state_renamed b x y q inside e)
-        ∙ ways_renamed (new_name b.drafts) b.groups (draft_at b.drafts q) e b.reverse t i
+    ∙ ways_renamed (new_name b.drafts) b.groups (draft_at b.drafts q) e b.reverse t i
 
 pub state_match : (b : Assembly) (x y q i : ℕ) → q < length b.drafts → stands_for (draft_at b.drafts q) ≡ None →
     matched (automaton_of b x y) (i, new_name b.drafts q) ≡ table_match (draft_at b.drafts) (i, q)

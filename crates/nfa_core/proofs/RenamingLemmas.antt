@@ -57,7 +57,7 @@ module _ (drafts : List DraftNode) where
       (λ (none : standing q ≡ None). (0, none))
       (λ (some : (r : ℕ) × (standing q ≡ Some r)).
       let back : standing (past_within drafts n some.0) ≡ standing (past_within drafts (suc n) q) =
-          ap (λ o. standing (going_on q (past_within drafts n) o)) (sym some.1) in
+      ap (λ o. standing (going_on q (past_within drafts n) o)) (sym some.1) in
       let more = comes n some.0 (back ∙ e) in (suc more.0, (some.0, some.1, more.1)))
       (option_cases (standing q))
 
@@ -74,7 +74,7 @@ module _ (drafts : List DraftNode) where
   there_if_stands : (q r : ℕ) → standing q ≡ Some r → q < length drafts
   there_if_stands q r e = ⊎_elim
       (λ told. let past_end : standing q ≡ None = ap stands_for (get_or_past drafts q fail_draft told.1) in
-          no_value (standing q) r _ past_end e)
+      no_value (standing q) r _ past_end e)
       (λ told. told.1) (leb_tells (length drafts) q)
 
   -- the states on the way, without the last
@@ -109,7 +109,7 @@ module _ (drafts : List DraftNode) where
   few_steps : (m q : ℕ) → Comes m q → m ≤ length drafts
   few_steps m q c =
       let finite : IsFinite nat_eq (λ x. []) (λ x. x < length drafts) (length drafts) =
-          finite_names (length drafts) (λ x. []) (λ x h y g. none_in nat_eq y _ g) in
+      finite_names (length drafts) (λ x. []) (λ x h y g. none_in nat_eq y _ g) in
       let l : length (trail m q c) ≤ length drafts = finite.room (trail m q c) (trail_inside m q c) (trail_once m q c) in
       let e : length (trail m q c) ≡ m = length_trail m q c in omega (arith, l, e)
 
@@ -122,9 +122,9 @@ module _ (drafts : List DraftNode) where
     within_inside zero q inside = inside
     within_inside (suc n) q inside = ⊎_elim
         (λ (none : standing q ≡ None). let e : past_within drafts (suc n) q ≡ q = past_itself drafts (suc n) q none in
-            omega (arith, e, inside))
+        omega (arith, e, inside))
         (λ (some : (r : ℕ) × (standing q ≡ Some r)). let e : past_within drafts (suc n) q ≡ past_within drafts n some.0 =
-            ap (going_on q (past_within drafts n)) some.1 in
+        ap (going_on q (past_within drafts n)) some.1 in
         let l : past_within drafts n some.0 < length drafts = within_inside n some.0 (next_inside q some.0 some.1) in omega (arith, e, l))
         (option_cases (standing q))
 
@@ -138,7 +138,7 @@ module _ (drafts : List DraftNode) where
   same_within (suc m) (suc j) zero q c a b = absurd (omega (arith, b))
   same_within (suc m) (suc j) (suc k) q c a b =
       ap (going_on q (past_within drafts j)) c.1 ∙ same_within m j k c.0 c.2 (omega (arith, a)) (omega (arith, b))
-          ∙ sym (ap (going_on q (past_within drafts k)) c.1)
+      ∙ sym (ap (going_on q (past_within drafts k)) c.1)
 
   stands_at_last : (m q k : ℕ) → Comes m q → m ≤ k → standing (past_within drafts k q) ≡ None
   stands_at_last zero q k c a = ap standing (past_itself drafts k q c) ∙ c
@@ -161,4 +161,4 @@ module _ (drafts : List DraftNode) where
         let c = comes_to q (there_if_stands q r e) in
         let l : c.0 ≤ length drafts = few_steps c.0 q c.1 in
         same_within c.0 (length drafts) (suc (length drafts)) q c.1 l (omega (arith, l))
-            ∙ ap (going_on q (past_within drafts (length drafts))) e
+        ∙ ap (going_on q (past_within drafts (length drafts))) e

@@ -36,7 +36,7 @@ in_ranges_mapped : (name : ℕ → ℕ) (ranges : List (ℕ × ℕ × ℕ)) (b :
 in_ranges_mapped name [] b = refl
 in_ranges_mapped name ((low, high, next) ∷ others) b =
     in_ranges_of (nat_le low b && nat_le b high) name next (in_ranges (map (λ r. (r.0, r.1, name r.2)) others) b) (in_ranges others b)
-        (in_ranges_mapped name others b)
+    (in_ranges_mapped name others b)
 
 ranges_on_byte : (ranges : List (ℕ × ℕ × ℕ)) (b : ℕ) → on_byte (ranges_node ranges) b ≡ in_ranges ranges b
 ranges_on_byte [] b = refl

@@ -16,7 +16,7 @@ module _ {A : Type 0} (same : A → A → Bool) (laws : IsEquality same) (ways :
       let d : FallsBelow m q = step_down same laws ways p q m chain.0 falls in
       ⊎_elim (λ (e : z ≡ q). rw e d)
       (λ later. let g : FallsBelow d.0 z = falls_behind r q chain.1 z later d.0 d.2 in
-          (g.0, omega (arith, g.1, d.1), g.2)) (has_cons same laws z q r h)
+      (g.0, omega (arith, g.1, d.1), g.2)) (has_cons same laws z q r h)
 
   once_if_falls : (r : List A) (p : A) → IsChain same ways p r → (m : ℕ) → Falls same laws ways m p → HasNoneTwice same (p ∷ r)
   once_if_falls [] p chain m falls = (refl, tt)
@@ -31,7 +31,7 @@ module _ {A : Type 0} (same : A → A → Bool) (laws : IsEquality same) (ways :
   pub once_if_listed : {B : Type 0} (answer : A → Option B) → ((x : A) (e : B) → answer x ≡ Some e → ways x ≡ []) →
       (In : A → Type 0) (n : ℕ) → IsFinite same ways In n →
       (p : A) (rest : List A) (l : List B) → Lists ways answer (p ∷ rest) l → (r : List A) → IsChain same ways p r →
-          HasNoneTwice same (p ∷ r)
+      HasNoneTwice same (p ∷ r)
   once_if_listed answer ends_there In n finite p rest l walk r chain =
       let all = all_fall same laws ways In n finite answer ends_there walk in
       once_if_falls r p chain all.0 (all.1 p (has_first same laws p rest))

@@ -56,9 +56,9 @@ module _ {A : Type 0} (keep : A → Bool) where
   ranked (x ∷ xs) d zero inside = ⊎_elim
       (λ (e : keep x ≡ true). (0, omega arith, e, refl))
       (λ (e : keep x ≡ false). let l : 0 < length (filter keep xs) = (rw e at inside) in
-          passed x xs d 0 e (ranked xs d 0 l)) (cases_Bool (keep x))
+      passed x xs d 0 e (ranked xs d 0 l)) (cases_Bool (keep x))
   ranked (x ∷ xs) d (suc k) inside = ⊎_elim
       (λ (e : keep x ≡ true). let l : suc k < suc (length (filter keep xs)) = (rw e at inside) in
-          later x xs d k e (ranked xs d k (omega (arith, l))))
+      later x xs d k e (ranked xs d k (omega (arith, l))))
       (λ (e : keep x ≡ false). let l : suc k < length (filter keep xs) = (rw e at inside) in
-          passed x xs d (suc k) e (ranked xs d (suc k) l)) (cases_Bool (keep x))
+      passed x xs d (suc k) e (ranked xs d (suc k) l)) (cases_Bool (keep x))

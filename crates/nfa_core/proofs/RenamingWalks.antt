@@ -21,7 +21,7 @@ module _ {A C : Type 0} (same : A → A → Bool) (laws : IsEquality same) (othe
   from_mapped z [] h = none_in other z _ h
   from_mapped z (y ∷ ys) h = ⊎_elim (λ (e : z ≡ name y). (y, has_first same laws y ys, e))
       (λ later. let o = from_mapped z ys later in (o.0, has_later same o.0 y ys o.1, o.2))
-          (has_cons other laws_o z (name y) (map name ys) h)
+      (has_cons other laws_o z (name y) (map name ys) h)
 
   module _ {B : Type 0} (ways : A → List A) (answer : A → Option B) (ways_o : C → List C) (answer_o : C → Option B) where
     -- it leads under its name to what it led to, and answers the same
@@ -53,17 +53,17 @@ module _ {A C : Type 0} (same : A → A → Bool) (laws : IsEquality same) (othe
       lists_carried lists_none inside = lists_none
       lists_carried (lists_answer x e rest l is walk) inside = ⊎_elim
           (λ (kept : IsKept x). lists_answer (name x) e (map name rest) l (kept.1
-              ∙ is) (lists_carried walk (λ q h. inside q (has_later same q x rest h))))
+          ∙ is) (lists_carried walk (λ q h. inside q (has_later same q x rest h))))
           (λ (stands : StandsIn x). no_value (answer x) e _ stands.2 is)
           (either x (inside x (has_first same laws x rest)))
       lists_carried (lists_ways x rest l is walk) inside =
           let here : In x = inside x (has_first same laws x rest) in
           let L : List C → Type 0 = λ stack. Lists ways_o answer_o stack l in
           let more : L (map name (ways x ++ rest)) = lists_carried walk
-              (of_append same laws In (ways x) rest (stays x here) (λ q h. inside q (has_later same q x rest h))) in
+          (of_append same laws In (ways x) rest (stays x here) (λ q h. inside q (has_later same q x rest h))) in
           ⊎_elim
           (λ (kept : IsKept x). lists_ways (name x) (map name rest) l (kept.1
-              ∙ is) (subst L (map-append name (ways x) rest ∙ ap (λ w. w ++ map name rest) (sym kept.0)) more))
+          ∙ is) (subst L (map-append name (ways x) rest ∙ ap (λ w. w ++ map name rest) (sym kept.0)) more))
           (λ (stands : StandsIn x). subst L (ap (λ w. map name (w ++ rest)) stands.1 ∙ ap (λ c. c ∷ map name rest) (sym stands.3)) more)
           (either x here)
 

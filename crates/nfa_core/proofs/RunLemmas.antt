@@ -34,7 +34,7 @@ pub has_filter : {A : Type 0} (same : A → A → Bool) → IsEquality same → 
 has_filter same laws p x [] h = refl
 has_filter same laws p x (y ∷ ys) h = ⊎_elim
     (λ (e : p y ≡ true). ⊎_elim (λ (i : same x y ≡ true). rw (e, i)) (λ (i : same x y ≡ false). rw (e, i) (has_filter same laws p x ys h))
-        (cases_Bool (same x y)))
+    (cases_Bool (same x y)))
     (λ (e : p y ≡ false). ⊎_elim
     (λ (i : same x y ≡ true). let k : x ≡ y = (laws x y).0 i in not_both (p y) _ (sym (ap p k) ∙ h) e)
     (λ (i : same x y ≡ false). rw (e, i) (has_filter same laws p x ys h)) (cases_Bool (same x y))) (cases_Bool (p y))
@@ -47,10 +47,10 @@ filter_join same laws p seen (x ∷ xs) = ⊎_elim
     (λ (i : p x ≡ true). let there : has same x (filter p seen) ≡ true = has_filter same laws p x seen i ∙ e in rw (i, there))
     (λ (i : p x ≡ false). rw i) (cases_Bool (p x))))
     (λ (e : has same x seen ≡ false). rw e (filter_join same laws p (seen ++ x ∷ []) xs
-        ∙ ap (λ l. join same l (filter p xs)) (filter-append p seen (x ∷ [])) ∙ ⊎_elim
+    ∙ ap (λ l. join same l (filter p xs)) (filter-append p seen (x ∷ [])) ∙ ⊎_elim
     (λ (i : p x ≡ true). let absent : has same x (filter p seen) ≡ false = has_filter same laws p x seen i ∙ e in rw (i, absent))
     (λ (i : p x ≡ false). rw i (ap (λ l. join same l (filter p xs)) (append-nil (filter p seen)))) (cases_Bool (p x))))
-        (has_or_not same x seen)
+    (has_or_not same x seen)
 
 filter_option : {B : Type 0} (wanted : B → Bool) (o : Option B) (l : List B) →
     option_to_list (wanted_answer wanted o) ++ filter wanted l ≡ filter wanted (option_to_list o ++ l)
@@ -81,7 +81,7 @@ first_in : {B : Type 0} (same : B → B → Bool) → IsEquality same → (e d :
 first_in same laws e d [] h = cc
 first_in same laws e d (x ∷ l) h = ⊎_elim (λ (i : same e x ≡ true). rw i)
     (λ (i : same e x ≡ false). let g : first (filter (same e) l) ≡ Some d = (rw i at h) in
-        rw i (first_in same laws e d l g)) (cases_Bool (same e x))
+    rw i (first_in same laws e d l g)) (cases_Bool (same e x))
 
 module _ {A B : Type 0} (same : A → A → Bool) (laws : IsEquality same) (same_end : B → B →
     Bool) (laws_end : IsEquality same_end) (ways : A → List A) where
@@ -102,8 +102,11 @@ module _ {A B : Type 0} (same : A → A → Bool) (laws : IsEquality same) (same
         subst Goal (sym (first_distinct same_end xs)) (⊎_elim
         (λ (none : first xs ≡ None). let all = rw none at there in rw none (λ s d run. all s d (short answer s d run)))
         (λ (some : (e : B) × (first xs ≡ Some e)). let one = rw some.1 at there in
-        rw some.1 (one.0, (chain_of same laws ways [] p one.0 one.1, once_of same laws ways [] p one.0 one.1, one.2),
-            λ s d run. one.3 s d (short answer s d run)))
+        rw some.1 (
+          one.0,
+          (chain_of same laws ways [] p one.0 one.1, once_of same laws ways [] p one.0 one.1, one.2),
+          λ s d run. one.3 s d (short answer s d run),
+        ))
         (option_cases (first xs)))
 
     pub wanted_ends : (answer : A → Option B) (wanted : B → Bool) →
@@ -128,14 +131,14 @@ module _ {A B : Type 0} (same : A → A → Bool) (laws : IsEquality same) (same
         let l : List B = run_ends same same_end ways answer n p in
         let wanted : A → Option B = λ x. wanted_answer (same_end e) (answer x) in
         let is : first (run_ends same same_end ways wanted n p) ≡ first (filter (same_end e) l) =
-            ap first (wanted_ends answer (same_end e)) in
+        ap first (wanted_ends answer (same_end e)) in
         let self : same_end e e ≡ true = (laws_end e e).1 refl in
         ⊎_elim
         (λ (none : first (run_ends same same_end ways wanted n p) ≡ None).
         let no_run = rw none at (first_is_most_preferred wanted) in
         absurd (no_run r e (run.0, run.1, is_wanted (same_end e) (answer (last_or p r)) e self run.2)))
         (λ (some : (d : B) × (first (run_ends same same_end ways wanted n p) ≡ Some d)). first_in same_end laws_end e some.0 l (sym is
-            ∙ some.1))
+        ∙ some.1))
         (option_cases (first (run_ends same same_end ways wanted n p)))
 
     -- what a walk with one set for all answers, repeats dropped, are the ends of runs
@@ -144,6 +147,6 @@ module _ {A B : Type 0} (same : A → A → Bool) (laws : IsEquality same) (same
     walk_ends answer after visits =
         let is : after ≡ join same [] (chain_ends same ways n [] p ++ []) =
         walk_is_join same laws ways In n finite (p ∷ []) [] after (of_cons same laws In p [] here (λ q h. none_in same q _ h))
-            (λ y h. none_in same y _ h) visits in
+        (λ y h. none_in same y _ h) visits in
         ap (λ l. distinct same_end (answers answer l)) (is ∙ ap (join same []) (append-nil (chain_ends same ways n [] p)))
         ∙ join_flat_map same laws same_end laws_end (λ x. option_to_list (answer x)) [] [] (chain_ends same ways n [] p)

@@ -7,8 +7,13 @@ use Rattle.nfa_core.specs.Ways.{ways, ends_from, whole, span}
 
 -- as many of the byte a as there are, with a round of ways that reads nothing
 abbrev many : Automaton
-many = record { states = union_node (1 ∷ 3 ∷ []) ∷ binary_union 0 2 ∷ byte_range 97 97 0 ∷ match_node 5 ∷ []; start_anchored = 0;
-    start_unanchored = 0; start_pattern = 0 ∷ []; reverse = false }
+many = record {
+  states = union_node (1 ∷ 3 ∷ []) ∷ binary_union 0 2 ∷ byte_range 97 97 0 ∷ match_node 5 ∷ [];
+  start_anchored = 0;
+  start_unanchored = 0;
+  start_pattern = 0 ∷ [];
+  reverse = false;
+}
 
 greedy : (t : Terminator) → ends_from many (whole t (97 ∷ 97 ∷ [])) (0, 0) ≡ (2, 5) ∷ (1, 5) ∷ (0, 5) ∷ []
 greedy t = refl
@@ -19,9 +24,17 @@ in_span t = refl
 
 -- the same from the end to the start, where the start of the text is wanted
 abbrev back : Automaton
-back = record { states = binary_union 2 1 ∷ sparse_node ((65, 70, 0) ∷ (97, 97,
-    0) ∷ []) ∷ look_node End 3 ∷ capture_node 4 0 0 0 ∷ match_node 1 ∷ []; start_anchored = 0; start_unanchored = 0; start_pattern = 0 ∷ [];
-    reverse = true }
+back = record {
+  states = binary_union 2 1 ∷ sparse_node ((65, 70, 0) ∷ (
+    97,
+    97,
+    0,
+  ) ∷ []) ∷ look_node End 3 ∷ capture_node 4 0 0 0 ∷ match_node 1 ∷ [];
+  start_anchored = 0;
+  start_unanchored = 0;
+  start_pattern = 0 ∷ [];
+  reverse = true;
+}
 
 to_start : (t : Terminator) → ends_from back (whole t (66 ∷ 97 ∷ [])) (2, 0) ≡ (0, 1) ∷ []
 to_start t = refl

@@ -65,7 +65,7 @@ module _ (t : Terminator) (h g : List ℕ) (len : length h ≡ length g) where
         let W : ℕ → ℕ → Type 0 = λ b c. All (LieAlike b c) word_ranges in
         let side : (b c : ℕ) → W b c → byte_side (Some b) ≡ byte_side (Some c) = λ b c x. ap word_if (same_word b c x) in
         same_unicode by_bytes t h g i (same_before W h g len (words_at u) Side byte_side side i)
-            (same_at W h g len (words_at u) Side byte_side side i) l u)
+        (same_at W h g len (words_at u) Side byte_side side i) l u)
         (λ (u : is_word_unicode l ≡ false). alike_bytes t h g i len l u at) (cases_Bool (is_word_unicode l))
 
   module _ (start end : ℕ) where
@@ -74,11 +74,11 @@ module _ (t : Terminator) (h g : List ℕ) (len : length h ≡ length g) where
     passed_alike false l at i = same_look l at i
     passed_alike true l at i =
         same_look (reversed l) (λ k low. let P : List (ℕ × ℕ) → Type 0 = All (LieAlike (get_or h k 0) (get_or g k 0)) in
-            let e : told_apart t l ≡ told_apart t (reversed l) = sym (turned_alike t l) in subst P e (at k low)) i
+        let e : told_apart t l ≡ told_apart t (reversed l) = sym (turned_alike t l) in subst P e (at k low)) i
 
     nothing_alike : (is_reverse : Bool) (node : Node) → AtEach (λ b c. All (LieAlike b c) (told_by t node)) h g → (i : ℕ) →
         on_nothing node (λ l. is_passed is_reverse (span t h start end) l i) ≡ on_nothing node
-            (λ l. is_passed is_reverse (span t g start end) l i)
+        (λ l. is_passed is_reverse (span t g start end) l i)
     nothing_alike is_reverse (byte_range low high next) at i = refl
     nothing_alike is_reverse (sparse_node ranges) at i = refl
     nothing_alike is_reverse (dense_node names) at i = refl
@@ -118,10 +118,10 @@ module _ (a : Automaton) (t : Terminator) (marks : List Bool) (h g : List ℕ) (
       let node : Node = node_at a p.1 in
       ap₂ ◌++◌
       (read_alike t h g classes.0 start end node (at_each (λ b c. on_byte node b ≡ on_byte node c)
-          (λ b c lb lc same. (bytes_alike a t marks b c sound has lb lc same).led p.1)) a.reverse p.0)
+      (λ b c lb lc same. (bytes_alike a t marks b c sound has lb lc same).led p.1)) a.reverse p.0)
       (ap (map (λ q. (p.0, q)))
       (nothing_alike t h g classes.0 start end a.reverse node (at_each (λ b c. All (LieAlike b c) (told_by t node))
-          (λ b c lb lc same. lie_alike a t marks b c has lb lc same p.1)) p.0))
+      (λ b c lb lc same. lie_alike a t marks b c has lb lc same p.1)) p.0))
 
   pub ends_alike : (p : ℕ × ℕ) → ends_from a (span t h start end) p ≡ ends_from a (span t g start end) p
   ends_alike p = ap (λ (w : ℕ × ℕ → List (ℕ × ℕ)). run_ends same_pair same_pair w (matched a) (suc end * length a.states) p)

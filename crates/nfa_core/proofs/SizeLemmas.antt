@@ -39,14 +39,14 @@ one_smaller name groups (capture_end_draft pattern group next) = omega arith
 one_smaller name groups (union_draft names) = let h = ways_bytes (map name names) in let e = length-map names name in omega (arith, h, e)
 one_smaller name groups (union_reverse_draft names) =
     let h = ways_bytes (map name (reverse names)) in let e = length-map (reverse names) name in let f = length-reverse names in
-        omega (arith, h, e, f)
+    omega (arith, h, e, f)
 one_smaller name groups fail_draft = omega arith
 one_smaller name groups (match_draft pattern) = omega arith
 
 kept_smaller : (name : ℕ → ℕ) (groups : Groups) (draft : DraftNode) (drafts : List DraftNode) →
     sum_by node_memory (map (renamed name groups) (kept drafts)) ≤ sum_by draft_bytes drafts → (kept_too : Bool) →
     sum_by node_memory (map (renamed name groups) (if kept_too then draft ∷ kept drafts else kept drafts)) ≤ sum_by draft_bytes
-        (draft ∷ drafts)
+    (draft ∷ drafts)
 kept_smaller name groups draft drafts rest true =
     let h = one_smaller name groups draft in
     let e = sum_by-cons node_memory (renamed name groups draft) (map (renamed name groups) (kept drafts)) in

@@ -51,14 +51,17 @@ module _ {A : Type 0} (same : A → A → Bool) (laws : IsEquality same) (ways :
 
     clear_next : (f : ℕ) (path : List A) (x y : A) (m : ℕ) → In x → Falls m x → Has same y (ways x) → Clear (suc f) path x →
         Clear f (x ∷ path) y
-    clear_next f path x y m here falls way clear =
-        (omega (arith, clear.0), (off_path path x m clear.3 falls, clear.1), of_cons same laws In x path here clear.2,
-            above_next path x y way clear.3)
+    clear_next f path x y m here falls way clear = (
+      omega (arith, clear.0),
+      (off_path path x m clear.3 falls, clear.1),
+      of_cons same laws In x path here clear.2,
+      above_next path x y way clear.3,
+    )
 
     no_room : (path : List A) (x : A) (m : ℕ) → In x → Falls m x → Clear 0 path x → ⊥
     no_room path x m here falls clear =
         let l : length path < n = room_for same laws ways In n finite x path here clear.2 clear.1 (off_path path x m clear.3 falls) in
-            omega (arith, l, clear.0)
+        omega (arith, l, clear.0)
 
     -- neither the path nor the bound matters then
     same_ends : (f g : ℕ) (path other : List A) (x : A) (m : ℕ) → In x → Falls m x → Clear f path x → Clear g other x →
@@ -69,10 +72,10 @@ module _ {A : Type 0} (same : A → A → Bool) (laws : IsEquality same) (ways :
         let off : has same x path ≡ false = off_path path x m a.3 falls in
         let off_other : has same x other ≡ false = off_path other x m b.3 falls in
         rw (off, off_other) (ap (λ l. x ∷ l) (flat_map_same same laws (chain_ends same ways f (x ∷ path))
-            (chain_ends same ways g (x ∷ other)) (ways x)
+        (chain_ends same ways g (x ∷ other)) (ways x)
         (λ y way. let d = step_down x y m way falls in
         same_ends f g (x ∷ path) (x ∷ other) y d.0 (finite.stays x here y way) d.2 (clear_next f path x y m here falls way a)
-            (clear_next g other x y m here falls way b))))
+        (clear_next g other x y m here falls way b))))
 
     clear_nil : (x : A) → Clear n [] x
     clear_nil x = (omega arith, tt, λ q h. none_in same q _ h, λ q h. none_in same q _ h)
@@ -113,7 +116,7 @@ module _ {A : Type 0} (same : A → A → Bool) (laws : IsEquality same) (ways :
           let first_in : Has same x (x ∷ rest) = has_first same laws x rest in
           let none : ways x ≡ [] = ends_there x e is in
           let one : chain_ends same ways n [] x ≡ x ∷ [] = unrolled x r.0 (inside x first_in) (r.1 x first_in)
-              ∙ ap (λ ws. x ∷ ends_of ws) none in
+          ∙ ap (λ ws. x ∷ ends_of ws) none in
           ap (λ t. e ∷ t) (lists_ends walk (λ q h. inside q (has_later same q x rest h)))
           ∙ ap (λ o. option_to_list o ++ answers answer (ends_of rest)) (sym is)
           ∙ ap (λ c. answers answer (c ++ ends_of rest)) (sym one)

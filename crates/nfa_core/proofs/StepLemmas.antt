@@ -43,7 +43,7 @@ module _ {A : Type 0} (same : A → A → Bool) (ways : A → List A) where
       (λ (m, absent, one, two). not_both (has same x seen) _ there absent) (begun w)
   one_after (fresh x stack seen mid a absent first rest) b w = ⊎_elim (λ (there, v). not_both (has same x seen) _ there absent)
       (λ (m, _a, one, two). let e : mid ≡ m = one_after first m one in
-          one_after rest b (let V : List A → Type 0 = λ l. Visits same ways stack l b in subst V (sym e) two)) (begun w)
+      one_after rest b (let V : List A → Type 0 = λ l. Visits same ways stack l b in subst V (sym e) two)) (begun w)
 
 module _ {A : Type 0} (same : A → A → Bool) (laws : IsEquality same) (ways : A → List A) where
   pub all_held : (xs ys seen after : List A) → ((q : A) → Has same q xs → Has same q seen) → Visits same ways ys seen after →
@@ -68,7 +68,7 @@ module _ {A : Type 0} (same : A → A → Bool) (laws : IsEquality same) (known 
   anew : ((x z : A) → Has same z (known x) → Has same z (full x)) → {stack seen ids : List A} → Visits same known stack seen ids →
       (new : List A) × (ids ≡ seen ++ new) ×
       ((s a : List A) → Visits same full stack s a → ((q : A) → Has same q seen → Has same q s) → IsClosed same full s →
-          Visits same full new s a)
+      Visits same full new s a)
   anew grows (done seen ids e) = ([], sym e ∙ sym (append-nil seen), λ s a v sub shut. v)
   anew grows (held x stack seen ids there rest) =
       let r = anew grows rest in (
@@ -83,7 +83,7 @@ module _ {A : Type 0} (same : A → A → Bool) (laws : IsEquality same) (known 
       let is_mid : mid ≡ (seen ++ x ∷ []) ++ a.0 = a.1 in
       let Result : List A → List A → Type 0 = λ s end. Visits same full (x ∷ (a.0 ++ b.0)) s end in
       let new_in_mid = λ (q : A) (h : Has same q a.0). let g : Has same q ((seen ++ x ∷ []) ++ a.0) =
-          has_right same q (seen ++ x ∷ []) a.0 h in let K : List A → Type 0 = λ l. Has same q l in subst K (sym is_mid) g in (
+      has_right same q (seen ++ x ∷ []) a.0 h in let K : List A → Type 0 = λ l. Has same q l in subst K (sym is_mid) g in (
         x ∷ (a.0 ++ b.0),
         b.1 ∙ ap (λ l. l ++ b.0) is_mid ∙ append_assoc (seen ++ x ∷ []) a.0 b.0 ∙ append_assoc seen (x ∷ []) (a.0 ++ b.0),
         λ s end v sub shut. ⊎_elim
@@ -91,19 +91,19 @@ module _ {A : Type 0} (same : A → A → Bool) (laws : IsEquality same) (known 
             let mid_in = within same laws known first s (λ y h z g. shut y h z (grows y z g)) (λ z g. shut x there z (grows x z g))
             (of_push same laws (λ q. Has same q s) seen x sub there) in
             let r : Result s end = held x (a.0 ++ b.0) s end there (all_held same laws full a.0 b.0 s end (λ q h. mid_in q (new_in_mid q h))
-                (b.2 s end w mid_in shut)) in r)
+            (b.2 s end w mid_in shut)) in r)
             (λ (m, lacking, one, two).
             let x_in : Has same x m = kept same laws full one x (has_pushed same laws x s) in
             let shut_m : IsClosed same full m = λ y h. ⊎_elim
             (λ before. of_push same laws (λ p. (z : A) → Has same z (full p) → Has same z m) s x
             (λ p old z g. kept same laws full one z (has_left same z s (x ∷ []) (shut p old z g)))
-                (λ z g. followed same laws full one z g) y before)
+            (λ z g. followed same laws full one z g) y before)
             (λ all. all) (closed same laws full one y h) in
             let mid_in = within same laws known first m (λ y h z g. shut_m y h z (grows y z g)) (λ z g. shut_m x x_in z (grows x z g))
             (of_push same laws (λ q. Has same q m) seen x (λ q old. kept same laws full one q (has_left same q s (x ∷ []) (sub q old)))
-                x_in) in
+            x_in) in
             let r : Result s end = fresh x (a.0 ++ b.0) s m end lacking one
-                (all_held same laws full a.0 b.0 m end (λ q h. mid_in q (new_in_mid q h)) (b.2 m end two mid_in shut_m)) in r)
+            (all_held same laws full a.0 b.0 m end (λ q h. mid_in q (new_in_mid q h)) (b.2 m end two mid_in shut_m)) in r)
             (begun same full v),
       )
 
@@ -122,4 +122,4 @@ module _ {A : Type 0} (same : A → A → Bool) (laws : IsEquality same) (known 
   stays_closed (fresh x stack seen mid ids absent one two) alike =
       let x_in : Has same x ids = kept same laws known two x (kept same laws known one x (has_pushed same laws x seen)) in
       fresh x stack seen mid ids absent (rw (← alike x x_in) (stays_closed one (λ y h. alike y (kept same laws known two y h))))
-          (stays_closed two alike)
+      (stays_closed two alike)

@@ -34,7 +34,7 @@ ways_placed is_reverse t node i here =
     let there : j ≤ t.end = behind_inside is_reverse t i (reads is_reverse t i) (reads_beside is_reverse t i) here in
     let I : ℕ × ℕ → Type 0 = λ p. p.0 ≤ t.end in
     of_append same_pair pairs_equal I (map (λ q. (j, q)) (on_read node (reads is_reverse t i)))
-        (map (λ q. (i, q)) (on_nothing node (λ l. is_passed is_reverse t l i)))
+    (map (λ q. (i, q)) (on_nothing node (λ l. is_passed is_reverse t l i)))
     (λ p h. let o = from_map j p (on_read node (reads is_reverse t i)) h in subst I (sym o.2) there)
     (λ p h. let o = from_map i p (on_nothing node (λ l. is_passed is_reverse t l i)) h in subst I (sym o.2) here)
 
@@ -42,13 +42,13 @@ ways_placed is_reverse t node i here =
 module _ {A B C : Type 0} (same : A → A → Bool) (laws : IsEquality same) (name : A → C) (stands : A → Option A) (answer : A →
     Option B) (answer_o : C → Option B)
     (In : A → Type 0) (kept : (x : A) → In x → stands x ≡ None → answer_o (name x) ≡ answer x) (other : (x r : A) → stands x ≡ Some r →
-        answer x ≡ None) where
+    answer x ≡ None) where
   answers_kept : (xs : List A) → ((x : A) → Has same x xs → In x) → answers answer_o
       (map name (filter (λ x. is_none (stands x)) xs)) ≡ answers answer xs
   answers_kept [] inside = refl
   answers_kept (x ∷ xs) inside =
       let rest : answers answer_o (map name (filter (λ y. is_none (stands y)) xs)) ≡ answers answer xs =
-          answers_kept xs (λ y h. inside y (has_later same y x xs h)) in
+      answers_kept xs (λ y h. inside y (has_later same y x xs h)) in
       ⊎_elim
       (λ (none : stands x ≡ None).
       let is : is_none (stands x) ≡ true = ap is_none none in
@@ -112,7 +112,7 @@ module _ (b : Assembly) (x y : ℕ) (can : CanBuild b x y) (t : Text) where
       renamed_pair b.drafts p ≡ renamed_pair b.drafts q → p ≡ q
   apart p q in_p in_q none_p none_q e =
       let one : p.1 ≡ q.1 = one_state b.drafts p.1 q.1 in_p.1 in_q.1 (no_pair p.0 (stands_for (draft_at b.drafts p.1)) none_p)
-          (no_pair q.0 (stands_for (draft_at b.drafts q.1)) none_q)
+      (no_pair q.0 (stands_for (draft_at b.drafts q.1)) none_q)
       (ap (λ z. z.1) e) in
       let place : p.0 ≡ q.0 = ap (λ z. z.0) e in
       ap₂ pair_at place one
@@ -121,27 +121,35 @@ module _ (b : Assembly) (x y : ℕ) (can : CanBuild b x y) (t : Text) where
       (pair_stands b.drafts) m p
   out p here = let c = comes_to b.drafts can.no_loop p.1 here.1 in (c.0, pair_comes_out b.drafts c.0 p.0 p.1 c.1)
 
-  pub ends_kept : (q i : ℕ) → q < length b.drafts → i ≤ t.end → ends_from (automaton_of b x y) t (i,
-      new_name b.drafts q) ≡ table_ends b.reverse t b.drafts (i, q)
+  pub ends_kept : (q i : ℕ) → q < length b.drafts → i ≤ t.end → ends_from (automaton_of b x y) t (
+    i,
+    new_name b.drafts q,
+  ) ≡ table_ends b.reverse t b.drafts (i, q)
   ends_kept q i inside place =
       let here : In (i, q) = (place, inside) in
       let there : IsPairOf (automaton_of b x y) t (i, new_name b.drafts q) = (place, name_inside b x y can q inside) in
       let met = walk_from same_pair pairs_equal from In (suc t.end * length b.drafts) finite_table (i, q) here in
       let passed = walk_passed same_pair pairs_equal same_pair pairs_equal (renamed_pair b.drafts) from from_built
-          (pair_stands b.drafts) In stays_in kept_ways stand_ways apart out (i, q) here met.0 met.1 in
+      (pair_stands b.drafts) In stays_in kept_ways stand_ways apart out (i, q) here met.0 met.1 in
       let found : ℕ × ℕ → Option (ℕ × ℕ) = λ p. table_match (draft_at b.drafts) p in
       let one : distinct same_pair (answers (matched (automaton_of b x y))
-          (map (renamed_pair b.drafts) (filter (λ p. is_none (pair_stands b.drafts p)) met.0))) ≡ ends_from (automaton_of b x y) t (i,
-          new_name b.drafts q) =
+      (map (renamed_pair b.drafts) (filter (λ p. is_none (pair_stands b.drafts p)) met.0))) ≡ ends_from (automaton_of b x y) t (
+        i,
+        new_name b.drafts q,
+      ) =
       walk_ends same_pair pairs_equal same_pair pairs_equal from_built (IsPairOf (automaton_of b x y) t)
-          (suc t.end * length (automaton_of b x y).states)
-      (finite_automaton (automaton_of b x y) t (is_well_formed b x y can)) (i,
-          new_name b.drafts q) there (matched (automaton_of b x y)) _ passed.0 in
+      (suc t.end * length (automaton_of b x y).states)
+      (finite_automaton (automaton_of b x y) t (is_well_formed b x y can)) (
+        i,
+        new_name b.drafts q,
+      ) there (matched (automaton_of b x y)) _ passed.0 in
       let two : distinct same_pair (answers found met.0) ≡ table_ends b.reverse t b.drafts (i, q) =
-      walk_ends same_pair pairs_equal same_pair pairs_equal from In (suc t.end * length b.drafts) finite_table (i,
-          q) here found met.0 met.1 in
+      walk_ends same_pair pairs_equal same_pair pairs_equal from In (suc t.end * length b.drafts) finite_table (
+        i,
+        q,
+      ) here found met.0 met.1 in
       let same : answers (matched (automaton_of b x y)) (map (renamed_pair b.drafts) (filter (λ p. is_none (pair_stands b.drafts p)) met.0))
-          ≡ answers found met.0 =
+      ≡ answers found met.0 =
       answers_kept same_pair pairs_equal (renamed_pair b.drafts) (pair_stands b.drafts) found (matched (automaton_of b x y)) In
       (λ p p_in none. state_match b x y p.1 p.0 p_in.1 (no_pair p.0 (stands_for (draft_at b.drafts p.1)) none))
       (λ p r some. let s = some_pair p.0 (stands_for (draft_at b.drafts p.1)) r some in match_of_stand (draft_at b.drafts p.1) s.0 s.1 p.0)

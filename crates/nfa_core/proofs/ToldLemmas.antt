@@ -43,5 +43,5 @@ pub marked_all : (t : Terminator) (states : List State) (set all : List Bool) (i
     recorded set (flat_map (told_by t) (map node_of (drop i states))) ≡ all → set ≡ all
 marked_all t states set all i past same =
     let left : recorded set (flat_map (told_by t) (map node_of (drop i states))) ≡ set =
-        ap (λ l. recorded set (flat_map (told_by t) (map node_of l))) (drop_all i states past) in
+    ap (λ l. recorded set (flat_map (told_by t) (map node_of l))) (drop_all i states past) in
     sym left ∙ same

@@ -38,7 +38,7 @@ module _ {A : Type 0} (same : A → A → Bool) (laws : IsEquality same) (ways :
       ⊎_elim
       (λ now. ⊎_elim
       (λ before. ⊎_elim inl (λ one. inr (λ z g. let e : y ≡ x = has_one same laws y x one in kept rest z (followed first z (rw e at g))))
-          (has_append same y seen (x ∷ []) before))
+      (has_append same y seen (x ∷ []) before))
       (λ (all : (z : A) → Has same z (ways y) → Has same z mid). inr (λ z g. kept rest z (all z g))) (closed first y now))
       inr (closed rest y h)
 
@@ -63,30 +63,30 @@ module _ {A : Type 0} (same : A → A → Bool) (laws : IsEquality same) (ways :
     pub meets : {stack seen after : List A} → Visits same ways stack seen after → (f : ℕ) (path : List A) → n ≤ f + length path →
         HasNoneTwice same path →
         ((q : A) → Has same q path → In q) → ((q : A) → Has same q stack → In q) → ((q : A) → Has same q path → Has same q seen) →
-            Settled path seen →
+        Settled path seen →
         after ≡ join same seen (flat_map (chain_ends same ways f path) stack)
     meets (done seen after e) f path fuel once low inside under settled = sym e
     meets (held x stack seen after there rest) f path fuel once low inside under settled =
         meets rest f path fuel once low (λ q h. inside q (has_later same q x stack h)) under settled
         ∙ ap (λ s. join same s (flat_map (chain_ends same ways f path) stack))
-            (sym (join_held same laws seen (chain_ends same ways f path x) (held_ends f path seen x settled there)))
+        (sym (join_held same laws seen (chain_ends same ways f path x) (held_ends f path seen x settled there)))
         ∙ sym (join-append same seen (chain_ends same ways f path x) (flat_map (chain_ends same ways f path) stack))
     meets (fresh x stack seen mid after absent first rest) zero path fuel once low inside under settled =
         let short : length path < n = room_for same laws ways In n finite x path (inside x (has_first same laws x stack)) low once
-            (lacks same laws x path seen absent under) in
+        (lacks same laws x path seen absent under) in
         absurd (omega arith)
     meets (fresh x stack seen mid after absent first rest) (suc f) path fuel once low inside under settled =
         let off : has same x path ≡ false = lacks same laws x path seen absent under in
         let x_in : In x = inside x (has_first same laws x stack) in
         let more : (q : A) → Has same q seen → Has same q (seen ++ x ∷ []) = λ q h. has_left same q seen (x ∷ []) h in
         let one : mid ≡ join same (seen ++ x ∷ []) (flat_map (chain_ends same ways f (x ∷ path)) (ways x)) =
-            meets first f (x ∷ path) (omega arith) (off, once)
+        meets first f (x ∷ path) (omega arith) (off, once)
         (of_cons same laws In x path x_in low)
         (finite.stays x x_in)
         (of_cons same laws (λ q. Has same q (seen ++ x ∷ [])) x path (has_pushed same laws x seen) (λ q on. more q (under q on)))
         (λ y h. ⊎_elim
         (λ before. ⊎_elim (λ on. inl (has_later same y x path on)) (λ (all : (z : A) → Has same z (ways y) → Has same z seen). inr
-            (λ z g. more z (all z g))) (settled y before))
+        (λ z g. more z (all z g))) (settled y before))
         (λ last. inl (has_same same laws y x path (has_one same laws y x last))) (has_append same y seen (x ∷ []) h)) in
         let two : after ≡ join same mid (flat_map (chain_ends same ways (suc f) path) stack) = meets rest (suc f) path fuel once low
         (λ q h. inside q (has_later same q x stack h))
@@ -94,13 +94,13 @@ module _ {A : Type 0} (same : A → A → Bool) (laws : IsEquality same) (ways :
         (λ y h. ⊎_elim
         (λ before. ⊎_elim
         (λ old. ⊎_elim inl (λ (all : (z : A) → Has same z (ways y) → Has same z seen). inr (λ z g. kept first z (more z (all z g))))
-            (settled y old))
+        (settled y old))
         (λ last. let e : y ≡ x = has_one same laws y x last in inr (λ z g. followed first z (rw e at g)))
-            (has_append same y seen (x ∷ []) before))
+        (has_append same y seen (x ∷ []) before))
         inr (closed first y h)) in
         two ∙ ap (λ s. join same s (flat_map (chain_ends same ways (suc f) path) stack)) one
         ∙ sym (join-append same (seen ++ x ∷ []) (flat_map (chain_ends same ways f (x ∷ path)) (ways x))
-            (flat_map (chain_ends same ways (suc f) path) stack))
+        (flat_map (chain_ends same ways (suc f) path) stack))
         ∙ rw (off, absent)
 
     -- the walk is the join of the ends of chains

@@ -75,7 +75,7 @@ AddsGroup old new result pattern index name draft = MatchResult result
     (λ id. (id ≡ length old.drafts) × (new ≡ record (with_draft old draft) { groups = with_group old.groups pattern index name })
     × (option_or (index_fault pattern index) (add_fault old draft) ≡ None))
     (λ e. (new ≡ record old { groups = new.groups }) × ((e ≡ error.NoMemory) ⊎
-        Tells e (option_or (index_fault pattern index) (add_fault old draft)))
+    Tells e (option_or (index_fault pattern index) (add_fault old draft)))
     × TellsIndex e pattern index × (greatest_index < index → new ≡ old))
 
 -- what refuses to build: groups that break a rule

@@ -31,8 +31,16 @@ pub record Assembly : Type 0 where
 
 -- a builder without states, patterns and a limit
 abbrev pub blank : Terminator → Assembly
-blank terminator = record { drafts = []; starts = []; groups = []; is_open = false; utf8 = true; reverse = false; terminator = terminator;
-    size_limit = None }
+blank terminator = record {
+  drafts = [];
+  starts = [];
+  groups = [];
+  is_open = false;
+  utf8 = true;
+  reverse = false;
+  terminator = terminator;
+  size_limit = None;
+}
 
 -- the builder with one more state
 abbrev pub with_draft : Assembly → DraftNode → Assembly

@@ -20,8 +20,12 @@ automaton_in parts = record {
 }
 
 abbrev pub nfa_in : Parts → Nfa
-nfa_in parts = record { automaton = automaton_in parts; groups = parts.group_info; utf8 = parts.utf8;
-    terminator = parts.look_matcher.terminator }
+nfa_in parts = record {
+  automaton = automaton_in parts;
+  groups = parts.group_info;
+  utf8 = parts.utf8;
+  terminator = parts.look_matcher.terminator;
+}
 
 -- these are the facts of the automaton, where lines end at the terminator
 pub record AreFacts (t : Terminator) (a : Automaton) (facts : Facts) : Type 0 where

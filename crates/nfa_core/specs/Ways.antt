@@ -88,7 +88,7 @@ plain_steps a t i q = on_nothing (node_at a q) (λ l. is_passed a.reverse t l i)
 abbrev pub node_ways : Bool → Text → Node → ℕ → List (ℕ × ℕ)
 node_ways reverse t node i =
     map (λ q. (place_behind i (reads reverse t i), q)) (on_read node (reads reverse t i))
-        ++ map (λ q. (i, q)) (on_nothing node (λ l. is_passed reverse t l i))
+    ++ map (λ q. (i, q)) (on_nothing node (λ l. is_passed reverse t l i))
 
 -- where a pair of place and state leads
 abbrev pub ways : Automaton → Text → ℕ × ℕ → List (ℕ × ℕ)

@@ -38,7 +38,7 @@ module _ (p r : Pair) (q : Search) (same : AreSetAlike p r q.anchored) where
   ahead : (t : Search) → t.anchored ≡ q.anchored → scan (reader p.forward) t ≡ scan (reader r.forward) t
   ahead t mode =
       scan_by_support (reader p.forward) (reader r.forward) t (ap (λ (n : Nfa). n.automaton) same.ends)
-          (ap (λ (n : Nfa). n.terminator) same.ends)
+      (ap (λ (n : Nfa). n.terminator) same.ends)
       same.ends_kind same.ends_quits ends_between (rw mode same.supported)
 
   back : (e : ℕ) → scan (reader p.reverse) (back_from q e) ≡ scan (reader r.reverse) (back_from q e)

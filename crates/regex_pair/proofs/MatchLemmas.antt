@@ -66,6 +66,8 @@ pub tells : (p : Pair) (q s : Search) (f g r : CacheValue) (old : PairCache) (m1
     MakesMatch p q old (record { forward = g; reverse = r }) m1 m2 n1 n2 result
 tells p q s f g r old m1 m2 n1 n2 result was is finds =
     subst (λ (c : PairCache). MakesMatch p q c (record { forward = g; reverse = r }) m1 m2 n1 n2 result) was
-    (subst (λ (x : Result Bool MatchErrorKind). MakesMatch p q (record { forward = f; reverse = r }) (record { forward = g;
-        reverse = r }) m1 m2 n1 n2 x) (sym finds.answer)
+    (subst (λ (x : Result Bool MatchErrorKind). MakesMatch p q (record { forward = f; reverse = r }) (record {
+      forward = g;
+      reverse = r;
+    }) m1 m2 n1 n2 x) (sym finds.answer)
     (tells_there p q f g r m1 m2 n1 n2 finds.half (subst (λ (x : Search). MakesHalf p.forward x f g m1 m2 n1 n2 finds.half) is finds.made)))

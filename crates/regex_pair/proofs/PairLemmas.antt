@@ -79,7 +79,7 @@ module _ (p : Pair) (q : Search) (old new : PairCache) (m1 m2 n1 n2 : ℕ) (h : 
   joined_there : h ≡ told (scan (reader p.forward) q) → by_end q h ≡ joined p q
   joined_there is = ap (λ (x : Half). by_end q x) is
       ∙ stops_joined (reader p.forward) (reader p.reverse) q (scan (reader p.forward) q)
-          (λ e finds unknown. never is e (record { found = finds; unknown = unknown }))
+      (λ e finds unknown. never is e (record { found = finds; unknown = unknown }))
 
   answers_there : Answers p.forward new.forward q h → AnswersPair p new q (by_end q h)
   answers_there (inl is) = inl (joined_there is)
@@ -94,8 +94,11 @@ module _ (p : Pair) (q : Search) (old new : PairCache) (m1 m2 n1 n2 : ℕ) (h : 
   stops = record {
     answer = answers_there ends.answer;
     sure = λ none none_back supported quiet quiet_back. if_err_end q h (ends.sure none supported quiet);
-    kept = record { forward = ends.kept; reverse = subst (λ (v : CacheValue). GrowsOrClears p.reverse old.reverse v) (sym same)
-        (untouched_grows p.reverse old.reverse) };
+    kept = record {
+      forward = ends.kept;
+      reverse = subst (λ (v : CacheValue). GrowsOrClears p.reverse old.reverse v) (sym same)
+          (untouched_grows p.reverse old.reverse);
+    };
     untouched = λ none. same;
     linked = on_end q h (new.forward.clears ≡ old.forward.clears → old.forward.clears < greatest → IsLinked p.forward new.forward q)
         (new.forward.clears ≡ old.forward.clears → old.forward.clears < greatest → IsLinked p.forward new.forward q) (λ l. l) ends.linked;
@@ -107,10 +110,13 @@ module _ (p : Pair) (q : Search) (old new : PairCache) (m1 m2 n1 n2 : ℕ) (h : 
         told_of new.forward ≡ told_by (reader p.forward) q (told_of old.forward) (passes_of (reader p.forward) q)) (λ t. t) ends.is_told;
     back_told = on_value q h (new.reverse.clears ≡ old.reverse.clears → old.reverse.clears < greatest → (e : ℕ × ℕ) → GoesBack p q e →
         told_of new.reverse ≡ told_by (reader p.reverse) (back_from q e.0) (told_of old.reverse)
-            (passes_of (reader p.reverse) (back_from q e.0)))
+        (passes_of (reader p.reverse) (back_from q e.0)))
         (λ f is kept less e there. absurd (never_back f is e there));
-    moved = λ linked. record { forward = ends.moved linked.forward; reverse =
-        subst (λ (v : CacheValue). IsMoved old.reverse v) (sym same) refl };
+    moved = λ linked. record {
+      forward = ends.moved linked.forward;
+      reverse =
+          subst (λ (v : CacheValue). IsMoved old.reverse v) (sym same) refl;
+    };
     free = λ linked. ends.free linked.forward;
     sure_if_linked = λ linked. joined_there (ends.sure_if_linked linked.forward);
     determinized = let few = ends.determinized in omega (arith, few);
@@ -163,7 +169,7 @@ module _ (p : Pair) (q : Search) (e : HalfFound) (there : GoesBack p q (pair e))
   back_joined = with_back e (scan (reader p.reverse) back)
       ∙ sym (ap (λ (a : HalfAnswer). join (reader p.forward) (reader p.reverse) q a) there.found
       ∙ known_false (is_start_known (reader p.forward) q e.offset) (Ok (Some (from_start q (pair e))))
-          (with_start (pair e) (scan (reader p.reverse) back)) there.unknown)
+      (with_start (pair e) (scan (reader p.reverse) back)) there.unknown)
 
   back_count : back_made p q ≡ half_made (reader p.reverse) back
   back_count = ap (λ (a : HalfAnswer). back_made_by p q a) there.found
@@ -200,7 +206,7 @@ module _ (p : Pair) (q : Search) (e : HalfFound) (there : GoesBack p q (pair e))
     few_put : n3 ≤ n1 + (half_made (reader p.forward) q * most_inserts p.forward + back_made p q * most_inserts p.reverse)
     few_put = let up = ends.inserted in let is_reverse = made.inserted in
         subst (λ (k : ℕ). n3 ≤ n1 + (half_made (reader p.forward) q * most_inserts p.forward + k * most_inserts p.reverse)) (sym back_count)
-            (omega (arith, up, is_reverse))
+        (omega (arith, up, is_reverse))
 
     goes : MakesPair p q old new m1 m3 n1 n3 (with_half e b)
     goes = record {
@@ -218,7 +224,7 @@ module _ (p : Pair) (q : Search) (e : HalfFound) (there : GoesBack p q (pair e))
           told_of new.forward ≡ told_by (reader p.forward) q (told_of old.forward) (passes_of (reader p.forward) q)) ends.is_told;
       back_told = on_back e b (new.reverse.clears ≡ old.reverse.clears → old.reverse.clears < greatest → IsTold (pair e))
           (new.reverse.clears ≡ old.reverse.clears → old.reverse.clears < greatest → (x : ℕ × ℕ) → GoesBack p q x →
-              IsTold x) told_back made.is_told;
+          IsTold x) told_back made.is_told;
       moved = λ linked. record { forward = ends.moved linked.forward; reverse = made.moved (linked.back (pair e) there) };
       free = λ linked. let up = ends.free linked.forward in let is_reverse = made.free (linked.back (pair e) there) in
           (is_reverse.0 ∙ up.0, is_reverse.1 ∙ up.1);
@@ -256,19 +262,22 @@ module _ (p : Pair) (q : Search) (f g : CacheValue) (m1 m2 n1 n2 : ℕ) (h : Hal
       record { forward = f; reverse = r } ≡ old →
       known ≡ is_start_known (reader p.forward) q at → known ≡ true → at ≡ e.offset → start ≡ q.start →
       m ≡ record { pattern = e.pattern; start = start; end = e.offset } →
-          MakesPair p q old (record { forward = g; reverse = r }) m1 m2 n1 n2 (Ok (Some m))
+      MakesPair p q old (record { forward = g; reverse = r }) m1 m2 n1 n2 (Ok (Some m))
   starts_there r old known at start m was told_known is_known same first made =
       let told_there : is_start_known (reader p.forward) q e.offset ≡ true =
       ap (λ (k : ℕ). is_start_known (reader p.forward) q k) (sym same) ∙ sym told_known ∙ is_known in
-      let match_there : m ≡ from_start q (pair e) = made ∙ ap (λ (k : ℕ). record { pattern = e.pattern; start = k;
-          end = e.offset }) first in
+      let match_there : m ≡ from_start q (pair e) = made ∙ ap (λ (k : ℕ). record {
+        pattern = e.pattern;
+        start = k;
+        end = e.offset;
+      }) first in
       subst (λ (c : PairCache). MakesPair p q c (record { forward = g; reverse = r }) m1 m2 n1 n2 (Ok (Some m))) was
       (subst (λ (x : Found). MakesPair p q (record { forward = f; reverse = r }) (record { forward = g; reverse = r }) m1 m2 n1 n2
-          (Ok (Some x))) (sym match_there)
+      (Ok (Some x))) (sym match_there)
       (stops p q (record { forward = f; reverse = r }) (record { forward = g; reverse = r }) m1 m2 n1 n2 (answer (Some e)) ends_there refl
       (λ is x there. not_both (is_start_known (reader p.forward) q e.offset) told_there
       (subst (λ (y : ℕ × ℕ). is_start_known (reader p.forward) q y.0 ≡ false)
-          (one_pair x (pair e) (sym there.found ∙ is_found)) there.unknown))))
+      (one_pair x (pair e) (sym there.found ∙ is_found)) there.unknown))))
 
   -- one goes back
   pub goes_back : (r s : CacheValue) (old : PairCache) (m3 n3 : ℕ) (known : Bool) (at : ℕ) (result : Whole) →
@@ -280,20 +289,24 @@ module _ (p : Pair) (q : Search) (f g : CacheValue) (m1 m2 n1 n2 : ℕ) (h : Hal
       ap (λ (k : ℕ). is_start_known (reader p.forward) q k) (sym same) ∙ sym told_known ∙ is_unknown in
       subst (λ (c : PairCache). MakesPair p q c (record { forward = g; reverse = s }) m1 m3 n1 n3 result) was
       (subst (λ (x : Whole). MakesPair p q (record { forward = f; reverse = r }) (record { forward = g; reverse = s }) m1 m3 n1 n3 x)
-          (sym back.answer)
-      (goes p q e (record { found = is_found; unknown = told_there }) (record { forward = f; reverse = r }) (record { forward = g;
-          reverse = s })
+      (sym back.answer)
+      (goes p q e (record { found = is_found; unknown = told_there }) (record { forward = f; reverse = r }) (record {
+        forward = g;
+        reverse = s;
+      })
       m1 m2 m3 n1 n2 n3 back.half ends_there back.made))
 
-module _ (p : Pair) (q : Search) (f g r : CacheValue) (old : PairCache) (m1 m2 n1 n2 : ℕ) (h : Half) (was : record { forward = f;
-    reverse = r } ≡ old)
+module _ (p : Pair) (q : Search) (f g r : CacheValue) (old : PairCache) (m1 m2 n1 n2 : ℕ) (h : Half) (was : record {
+  forward = f;
+  reverse = r;
+} ≡ old)
     (ends : MakesHalf p.forward q f g m1 m2 n1 n2 h) where
   ends_so : (y : Half) (w : Whole) → h ≡ y → w ≡ by_end q y → (y ≡ told (scan (reader p.forward) q) → (e : ℕ × ℕ) → GoesBack p q e → ⊥) →
       MakesPair p q old (record { forward = g; reverse = r }) m1 m2 n1 n2 w
   ends_so y w is gives never =
       subst (λ (c : PairCache). MakesPair p q c (record { forward = g; reverse = r }) m1 m2 n1 n2 w) was
       (subst (λ (x : Whole). MakesPair p q (record { forward = f; reverse = r }) (record { forward = g; reverse = r }) m1 m2 n1 n2 x)
-          (sym gives)
+      (sym gives)
       (stops p q (record { forward = f; reverse = r }) (record { forward = g; reverse = r }) m1 m2 n1 n2 y
       (subst (λ (x : Half). MakesHalf p.forward q f g m1 m2 n1 n2 x) is ends) refl never))
 

@@ -123,6 +123,6 @@ module _ (p : Pair) (q : Search) (o : Option Found) (up : (reader p.forward).aut
 
 pub reaches : (p : Pair) (q : Search) (c : PairCache) (result : Result (Option Found) MatchErrorKind) →
     (reader p.forward).automaton.reverse ≡ false → q.end ≤ length q.haystack → AnswersPair p c q result →
-        IfOk result (λ o. HasPairReach p q o)
+    IfOk result (λ o. HasPairReach p q o)
 reaches p q c (Err e) up within answers = tt
 reaches p q c (Ok o) up within answers = joined_has_reach p q o up within (answer_is_joined p c q o answers)

@@ -28,7 +28,7 @@ taken_is_behind : (p : Pair) (q : Search) (k : ℕ) (o : Option Found) (b : Bool
     IsTaken (AnswersAt p q) k o b (Some f) → k ≤ f.end
 taken_is_behind p q k o false f first taken =
     let lies = match_lies p (search_at q k) f (first ∙ ap Ok (sym taken)) in let low = lies.0 in let high = lies.1 in
-        omega (arith, low, high)
+    omega (arith, low, high)
 taken_is_behind p q k o true f first taken =
     let lies = match_lies p (search_at q (k + 1)) f taken in let low = lies.0 in let high = lies.1 in omega (arith, low, high)
 

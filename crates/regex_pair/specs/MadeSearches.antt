@@ -75,7 +75,7 @@ pub record MakesPair (p : Pair) (q : Search) (old new : PairCache) (m1 m2 n1 n2 
       told_of new.forward ≡ told_by (reader p.forward) q (told_of old.forward) (passes_of (reader p.forward) q))
   pub back_told : OnOk result (new.reverse.clears ≡ old.reverse.clears → old.reverse.clears < greatest → (e : ℕ × ℕ) → GoesBack p q e →
       told_of new.reverse ≡ told_by (reader p.reverse) (back_from q e.0) (told_of old.reverse)
-          (passes_of (reader p.reverse) (back_from q e.0)))
+      (passes_of (reader p.reverse) (back_from q e.0)))
   pub moved : ArePathsLinked p old q → IsPairMoved old new
   pub free : ArePathsLinked p old q → (m2 ≡ m1) × (n2 ≡ n1)
   pub sure_if_linked : ArePathsLinked p old q → result ≡ joined p q

@@ -24,7 +24,7 @@ filter_skip test a (suc d) n h =
     let f : (a + 1) + d ≡ a + suc d = omega arith in
     ap (λ m. filter test (range_with_len a m)) e
     ∙ ap (λ t. cond t (a ∷ filter test (range_with_len (a + 1) (d + n))) (filter test (range_with_len (a + 1) (d + n))))
-        (h a (omega arith) (omega arith))
+    (h a (omega arith) (omega arith))
     ∙ filter_skip test (a + 1) d n (λ k p q. h k (omega arith) (omega arith))
     ∙ ap (λ b. filter test (range_with_len b n)) f
 

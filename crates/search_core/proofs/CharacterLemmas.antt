@@ -25,12 +25,12 @@ use Rattle.search_core.proofs.CutLemmas.{first_decodes, last_decodes, lasts_same
 is_three : (c : ℕ) → 0x800 ≤ c → c ≤ 0xFFFF → spelling_len c ≡ 3
 is_three c low high =
     cond-false _ _ _ (lt-leb c 0x7F (omega arith)) ∙ cond-false _ _ _ (lt-leb c 0x7FF (omega arith))
-        ∙ cond-true _ _ _ (le-leb c 0xFFFF high)
+    ∙ cond-true _ _ _ (le-leb c 0xFFFF high)
 
 is_four : (c : ℕ) → 0x10000 ≤ c → spelling_len c ≡ 4
 is_four c low =
     cond-false _ _ _ (lt-leb c 0x7F (omega arith)) ∙ cond-false _ _ _ (lt-leb c 0x7FF (omega arith))
-        ∙ cond-false _ _ _ (lt-leb c 0xFFFF (omega arith))
+    ∙ cond-false _ _ _ (lt-leb c 0xFFFF (omega arith))
 
 pub spelling_has_len : (c : ℕ) (s : List ℕ) → Spells c s → length s ≡ spelling_len c
 spelling_has_len c s (from_0000 a r e v) = ap length e ∙ sym (cond-true _ _ _ (le-leb c 0x7F (omega arith)))
@@ -85,11 +85,11 @@ abbrev Row : ℕ → List ℕ → Type 0
 Row c s =
     ((length s ≡ 1) × (get_or s 0 0 ≤ 0x7F) × (c ≡ get_or s 0 0))
     ⊎ (((length s ≡ 2) × (is_in_range 0xC2 0xDF (get_or s 0 0) && is_in_range 0x80 0xBF (get_or s 1 0) ≡ true) ×
-        (c ≡ scalar_of_two (get_or s 0 0) (get_or s 1 0)))
+    (c ≡ scalar_of_two (get_or s 0 0) (get_or s 1 0)))
     ⊎ (((length s ≡ 3) × (second_of_three (get_or s 0 0) (get_or s 1 0) && is_in_range 0x80 0xBF (get_or s 2 0) ≡ true) ×
-        (c ≡ scalar_of_three (get_or s 0 0) (get_or s 1 0) (get_or s 2 0)))
+    (c ≡ scalar_of_three (get_or s 0 0) (get_or s 1 0) (get_or s 2 0)))
     ⊎ ((length s ≡ 4) × (second_of_four (get_or s 0 0) (get_or s 1 0) && is_in_range 0x80 0xBF (get_or s 2 0)
-        && is_in_range 0x80 0xBF (get_or s 3 0) ≡ true)
+    && is_in_range 0x80 0xBF (get_or s 3 0) ≡ true)
     × (c ≡ scalar_of_four (get_or s 0 0) (get_or s 1 0) (get_or s 2 0) (get_or s 3 0)))))
 
 two_test : (a b : ℕ) → IsInRange 0xC2 0xDF a → IsContinuation b → is_in_range 0xC2 0xDF a && is_in_range 0x80 0xBF b ≡ true
@@ -97,7 +97,7 @@ two_test a b r t = grind (arith, nat_tests)
 
 three_test : (a b d : ℕ) →
     (((a ≡ 0xE0) × IsInRange 0xA0 0xBF b) ⊎ ((IsInRange 0xE1 0xEC a × IsContinuation b) ⊎
-        (((a ≡ 0xED) × IsInRange 0x80 0x9F b) ⊎ (IsInRange 0xEE 0xEF a × IsContinuation b)))) →
+    (((a ≡ 0xED) × IsInRange 0x80 0x9F b) ⊎ (IsInRange 0xEE 0xEF a × IsContinuation b)))) →
     IsContinuation d → second_of_three a b && is_in_range 0x80 0xBF d ≡ true
 three_test a b d h t = grind (arith, nat_tests)
 
@@ -168,7 +168,7 @@ module _ (h : List ℕ) (k c : ℕ) (s : List ℕ) (at : Stands h k s) where
   abbrev IsTold : Type 0
   IsTold =
       ((length s ≡ 1) × (one_byte h k ≡ Some c)) ⊎ (((length s ≡ 2) × (two_bytes h k ≡ Some c)) ⊎
-          (((length s ≡ 3) × (three_bytes h k ≡ Some c)) ⊎ ((length s ≡ 4) × (four_bytes h k ≡ Some c))))
+      (((length s ≡ 3) × (three_bytes h k ≡ Some c)) ⊎ ((length s ≡ 4) × (four_bytes h k ≡ Some c))))
 
   told : Row c s → IsTold
   told r = elim r [
@@ -177,22 +177,31 @@ module _ (h : List ℕ) (k c : ℕ) (s : List ℕ) (at : Stands h k s) where
       | inl n ↦
           let b0 = first_byte (omega arith) in
           let b1 = at.1 1 (omega arith) in
-          inr (inl (n.0, rw (b0, b1) at (cond-true _ (Some (scalar_of_two (get_or s 0 0) (get_or s 1 0))) None n.1
-              ∙ ap (λ x. Some x) (sym n.2))))
+          inr (inl (
+            n.0,
+            rw (b0, b1) at (cond-true _ (Some (scalar_of_two (get_or s 0 0) (get_or s 1 0))) None n.1
+                ∙ ap (λ x. Some x) (sym n.2)),
+          ))
       | inr r ↦ elim r [
         | inl n ↦
             let b0 = first_byte (omega arith) in
             let b1 = at.1 1 (omega arith) in
             let b2 = at.1 2 (omega arith) in
-            inr (inr (inl (n.0, rw (b0, b1, b2) at (cond-true _ (Some (scalar_of_three (get_or s 0 0) (get_or s 1 0) (get_or s 2 0))) None
-                n.1 ∙ ap (λ x. Some x) (sym n.2)))))
+            inr (inr (inl (
+              n.0,
+              rw (b0, b1, b2) at (cond-true _ (Some (scalar_of_three (get_or s 0 0) (get_or s 1 0) (get_or s 2 0))) None
+                  n.1 ∙ ap (λ x. Some x) (sym n.2)),
+            )))
         | inr n ↦
             let b0 = first_byte (omega arith) in
             let b1 = at.1 1 (omega arith) in
             let b2 = at.1 2 (omega arith) in
             let b3 = at.1 3 (omega arith) in
-            inr (inr (inr (n.0, rw (b0, b1, b2, b3) at (cond-true _ (Some
-                (scalar_of_four (get_or s 0 0) (get_or s 1 0) (get_or s 2 0) (get_or s 3 0))) None n.1 ∙ ap (λ x. Some x) (sym n.2)))))
+            inr (inr (inr (
+              n.0,
+              rw (b0, b1, b2, b3) at (cond-true _ (Some
+                  (scalar_of_four (get_or s 0 0) (get_or s 1 0) (get_or s 2 0) (get_or s 3 0))) None n.1 ∙ ap (λ x. Some x) (sym n.2)),
+            )))
       ]
     ]
   ]
@@ -218,8 +227,12 @@ module _ (h : List ℕ) (i c : ℕ) where
       let t : IsContinuation (get_or h (i + 1) 0) = spelling_tails c _ s 1 (lit< tt) (lit< tt) in
       let l = some_byte h (i + 1) (omega arith) in
       let n = length-drop i h in
-      record { spelling = get_or (drop i h) 0 0 ∷ get_or (drop i h) 1 0 ∷ []; rest = drop 2 (drop i h);
-          spells = rw (behind_here, behind_first 1) s; joined = front_two (drop i h) (omega arith) }
+      record {
+        spelling = get_or (drop i h) 0 0 ∷ get_or (drop i h) 1 0 ∷ [];
+        rest = drop 2 (drop i h);
+        spells = rw (behind_here, behind_first 1) s;
+        joined = front_two (drop i h) (omega arith);
+      }
 
   three_begins : three_bytes h i ≡ Some c → SpellsFirst c (drop i h)
   three_begins e =
@@ -227,8 +240,12 @@ module _ (h : List ℕ) (i c : ℕ) where
       let t : IsContinuation (get_or h (i + 2) 0) = spelling_tails c _ s 2 (lit< tt) (lit< tt) in
       let l = some_byte h (i + 2) (omega arith) in
       let n = length-drop i h in
-      record { spelling = get_or (drop i h) 0 0 ∷ get_or (drop i h) 1 0 ∷ get_or (drop i h) 2 0 ∷ []; rest = drop 3 (drop i h);
-          spells = rw (behind_here, behind_first 1, behind_first 2) s; joined = front_three (drop i h) (omega arith) }
+      record {
+        spelling = get_or (drop i h) 0 0 ∷ get_or (drop i h) 1 0 ∷ get_or (drop i h) 2 0 ∷ [];
+        rest = drop 3 (drop i h);
+        spells = rw (behind_here, behind_first 1, behind_first 2) s;
+        joined = front_three (drop i h) (omega arith);
+      }
 
   four_begins : four_bytes h i ≡ Some c → SpellsFirst c (drop i h)
   four_begins e =
@@ -236,9 +253,13 @@ module _ (h : List ℕ) (i c : ℕ) where
       let t : IsContinuation (get_or h (i + 3) 0) = spelling_tails c _ s 3 (lit< tt) (lit< tt) in
       let l = some_byte h (i + 3) (omega arith) in
       let n = length-drop i h in
-      record { spelling = get_or (drop i h) 0 0 ∷ get_or (drop i h) 1 0 ∷ get_or (drop i h) 2 0 ∷ get_or (drop i h) 3 0 ∷ [];
-          rest = drop 4 (drop i h); spells = rw (behind_here, behind_first 1, behind_first 2, behind_first 3) s; joined =
-          front_four (drop i h) (omega arith) }
+      record {
+        spelling = get_or (drop i h) 0 0 ∷ get_or (drop i h) 1 0 ∷ get_or (drop i h) 2 0 ∷ get_or (drop i h) 3 0 ∷ [];
+        rest = drop 4 (drop i h);
+        spells = rw (behind_here, behind_first 1, behind_first 2, behind_first 3) s;
+        joined =
+            front_four (drop i h) (omega arith);
+      }
 
   pub character_begins : character_at h i ≡ Some c → SpellsFirst c (drop i h)
   character_begins e = elim (taken _ _ _ _ c e) [
@@ -256,7 +277,7 @@ module _ (h : List ℕ) (i c : ℕ) where
 pub begun_character : (h : List ℕ) (i c : ℕ) → SpellsFirst c (drop i h) → character_at h i ≡ Some c
 begun_character h i c f =
     let d = takes (one_byte h i) (two_bytes h i) (three_bytes h i) (four_bytes h i) c
-        (elim (told h i c f.spelling (begun_stands h i c f) (row_of c f.spelling f.spells)) [
+    (elim (told h i c f.spelling (begun_stands h i c f) (row_of c f.spelling f.spells)) [
       | inl o ↦ inl o.1
       | inr o ↦ elim o [ inl p ↦ inr (inl p.1) | inr p ↦ elim p [ inl q ↦ inr (inr (inl q.1)) | inr q ↦ inr (inr (inr q.1)) ] ]
     ]) in
@@ -272,7 +293,7 @@ module _ (h : List ℕ) (i c : ℕ) (fits : i ≤ length h) where
   before_back : (k j : ℕ) → 0 < k → k ≤ i → j ≡ i - k → back (take i h) k ≡ get_or h j 0
   before_back k j some l e =
       ap (λ n. get_or (take i h) (n - k) 0) (length-take-le i h fits) ∙ ap (λ m. get_or (take i h) m 0) (sym e)
-          ∙ get_or-take i h j 0 (omega arith)
+      ∙ get_or-take i h j 0 (omega arith)
 
   one_ends : ending_at 1 one_byte h i ≡ Some c → SpellsLast c (take i h)
   one_ends e =
@@ -323,7 +344,7 @@ ended_stands : (h : List ℕ) (i c : ℕ) → i ≤ length h → (f : SpellsLast
     Stands h (i - length f.spelling) f.spelling
 ended_stands h i c fits f =
     let n : i ≡ length f.front + length f.spelling = sym (length-take-le i h fits) ∙ ap length f.joined
-        ∙ length-append f.front f.spelling in (
+    ∙ length-append f.front f.spelling in (
       omega arith,
       (
         omega arith,
@@ -344,12 +365,15 @@ pub ended_character : (h : List ℕ) (i c : ℕ) → i ≤ length h → SpellsLa
 ended_character h i c fits f =
     let at = ended_stands h i c fits f in
     let d = takes (ending_at 1 one_byte h i) (ending_at 2 two_bytes h i) (ending_at 3 three_bytes h i) (ending_at 4 four_bytes h i) c
-        (elim (told h (i - length f.spelling) c f.spelling at.1 (row_of c f.spelling f.spells)) [
+    (elim (told h (i - length f.spelling) c f.spelling at.1 (row_of c f.spelling f.spells)) [
       | inl o ↦ inl (ends_with h i c _ 1 one_byte o.0 at.0 o.1)
       | inr o ↦ elim o [
         | inl p ↦ inr (inl (ends_with h i c _ 2 two_bytes p.0 at.0 p.1))
-        | inr p ↦ elim p [ inl q ↦ inr (inr (inl (ends_with h i c _ 3 three_bytes q.0 at.0 q.1))) | inr q ↦
-            inr (inr (inr (ends_with h i c _ 4 four_bytes q.0 at.0 q.1))) ]
+        | inr p ↦ elim p [
+          | inl q ↦ inr (inr (inl (ends_with h i c _ 3 three_bytes q.0 at.0 q.1)))
+          | inr q ↦
+              inr (inr (inr (ends_with h i c _ 4 four_bytes q.0 at.0 q.1)))
+        ]
       ]
     ]) in
     let g = character_ends h i d.0 fits d.1 in
@@ -382,7 +406,7 @@ byte_behind : (h : List ℕ) (i : ℕ) → byte_at (drop i h) 0 ≡ byte_at h i
 byte_behind h i = elim (cases_lt i (length h)) [
   | inl l ↦
       slice_get-get_or (drop i h) 0 0 (omega (arith, length-drop i h))
-          ∙ ap (λ x. Some x) (get_or-drop i h 0 0 ∙ ap (λ j. get_or h j 0) (omega arith))
+      ∙ ap (λ x. Some x) (get_or-drop i h 0 0 ∙ ap (λ j. get_or h j 0) (omega arith))
       ∙ sym (slice_get-get_or h i 0 l)
   | inr past ↦ slice_get_past (drop i h) 0 (omega (arith, length-drop i h)) ∙ sym (slice_get_past h i past)
 ]
@@ -391,7 +415,7 @@ byte_in_front : (h : List ℕ) (i : ℕ) → i ≤ length h → byte_before (tak
 byte_in_front h zero l = refl
 byte_in_front h (suc j) l =
     slice_get-get_or (take (suc j) h) j 0 (omega (arith, length-take-le (suc j) h l))
-        ∙ ap (λ x. Some x) (get_or-take (suc j) h j 0 (omega arith))
+    ∙ ap (λ x. Some x) (get_or-take (suc j) h j 0 (omega arith))
     ∙ sym (slice_get-get_or h j 0 (omega arith))
 
 -- of a reading by a byte and by a character
@@ -427,7 +451,7 @@ reads_at h i = decodes_option (drop i h) (character_at h i) (byte_at h i) (byte_
 pub reads_before : (h : List ℕ) (i : ℕ) → i ≤ length h → DecodesLast (take i h) (read_before h i)
 reads_before h i l =
     decodes_last_option (take i h) (character_before h i) (byte_before h i) (ap (byte_before (take i h)) (length-take-le i h l)
-        ∙ byte_in_front h i l)
+    ∙ byte_in_front h i l)
     (λ c. character_ends h i c l) (λ c. ended_character h i c l)
 
 pub read_at_once : (h : List ℕ) (i : ℕ) (r : Option (Result ℕ ℕ)) → Decodes (drop i h) r → r ≡ read_at h i

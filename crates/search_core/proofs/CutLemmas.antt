@@ -25,9 +25,9 @@ not_longer bytes f g s t c d h k ef eg l =
     let j : suc (length s - 1) ≡ length s = omega arith in
     let z : length s - length s ≡ 0 = omega arith in
     let es : get_or s 0 0 ≡ get_or bytes (length bytes - length s) 0 =
-        rw z at (rw j at (same_last bytes f s (length s - 1) ef (omega arith))) in
+    rw z at (rw j at (same_last bytes f s (length s - 1) ef (omega arith))) in
     let et : get_or t (length t - length s) 0 ≡ get_or bytes (length bytes - length s) 0 =
-        rw j at (same_last bytes g t (length s - 1) eg (omega arith)) in
+    rw j at (same_last bytes g t (length s - 1) eg (omega arith)) in
     let inner = spelling_tails d t k (length t - length s) (omega arith) (omega arith) in
     elim (spelling_lead c s h) [ inl low ↦ omega arith | inr high ↦ omega arith ]
 

@@ -14,8 +14,11 @@ use Rattle.search_core.specs.Utf8.Spells.{from_100000}
 -- what `char::from_u32` gives for the code of a spelling
 pub char_of : (r : Option ℕ) (code : ℕ) (P : ℕ → Type 0) → SomeIff r (IsScalar code) code →
     MatchOption r (OutOfScalarRange code) (λ _. InScalarRange code) → P code × InScalarRange code → MatchOption r ((c : ℕ) → ¬ (P c)) P
-char_of None code P v h p = absurd (elim h [ inl out ↦ elim p.1 [ inl low ↦ omega arith | inr high ↦ omega arith ] | inr out ↦
-    elim p.1 [ inl low ↦ omega arith | inr high ↦ omega arith ] ])
+char_of None code P v h p = absurd (elim h [
+  | inl out ↦ elim p.1 [ inl low ↦ omega arith | inr high ↦ omega arith ]
+  | inr out ↦
+      elim p.1 [ inl low ↦ omega arith | inr high ↦ omega arith ]
+])
 char_of (Some x) code P v h p = subst P (sym v.1) p.0
 
 in_range : (lo hi b : ℕ) → is_in_range lo hi b ≡ true → IsInRange lo hi b
@@ -30,7 +33,7 @@ two_spell a b low high e =
 -- the rows of three bytes
 three_rows : (a b : ℕ) → second_of_three a b ≡ true →
     ((a ≡ 0xE0) × IsInRange 0xA0 0xBF b) ⊎ ((IsInRange 0xE1 0xEC a × IsContinuation b) ⊎
-        (((a ≡ 0xED) × IsInRange 0x80 0x9F b) ⊎ (IsInRange 0xEE 0xEF a × IsContinuation b)))
+    (((a ≡ 0xED) × IsInRange 0x80 0x9F b) ⊎ (IsInRange 0xEE 0xEF a × IsContinuation b)))
 three_rows a b e = grind (arith, nat_tests)
 
 pub three_spell : (a b d : ℕ) → second_of_three a b ≡ true → is_in_range 0x80 0xBF d ≡ true →
@@ -188,8 +191,12 @@ Reads P r = MatchOption r ((c : ℕ) → ¬ (P c)) P
 
 pub read_one : (bytes : List ℕ) → 0 < length bytes → get_or bytes 0 0 ≤ 0x7F → SpellsFirst (get_or bytes 0 0) bytes
 read_one bytes some low =
-    record { spelling = get_or bytes 0 0 ∷ []; rest = drop 1 bytes; spells = from_0000 (get_or bytes 0 0) (omega arith, low) refl refl;
-        joined = front_one bytes some }
+    record {
+      spelling = get_or bytes 0 0 ∷ [];
+      rest = drop 1 bytes;
+      spells = from_0000 (get_or bytes 0 0) (omega arith, low) refl refl;
+      joined = front_one bytes some;
+    }
 
 pub read_two : (bytes : List ℕ) (r : Option ℕ) → 1 < length bytes → 0x80 ≤ get_or bytes 0 0 → get_or bytes 0 0 ≤ 0xDF →
     Reads (λ c. Spells c (get_or bytes 0 0 ∷ get_or bytes 1 0 ∷ [])) r → Reads (λ c. SpellsFirst c bytes) r
@@ -203,7 +210,7 @@ read_three bytes (Some x) long low high h = record { spelling = _; rest = drop 3
 
 pub read_four : (bytes : List ℕ) (r : Option ℕ) → 3 < length bytes → 0xF0 ≤ get_or bytes 0 0 →
     Reads (λ c. Spells c (get_or bytes 0 0 ∷ get_or bytes 1 0 ∷ get_or bytes 2 0 ∷ get_or bytes 3 0 ∷ [])) r →
-        Reads (λ c. SpellsFirst c bytes) r
+    Reads (λ c. SpellsFirst c bytes) r
 read_four bytes None long low h = λ c f. h c (first_is_four bytes c f low).1
 read_four bytes (Some x) long low h = record { spelling = _; rest = drop 4 bytes; spells = h; joined = front_four bytes long }
 
@@ -214,7 +221,7 @@ same_last bytes front s k e h =
     let n : length bytes ≡ length front + length s = ap length e ∙ length-append front s in
     let i : length bytes - suc k - length front ≡ length s - suc k = omega arith in
     sym (ap (λ l. get_or l (length bytes - suc k) 0) e ∙ get_or-append_right front s (length front) (length bytes - suc k) 0 refl
-        (omega arith)
+    (omega arith)
     ∙ ap (λ j. get_or s j 0) i)
 
 -- the last few bytes written out
@@ -261,8 +268,10 @@ module _ (bytes : List ℕ) (c k : ℕ) (long : k ≤ length bytes) where
 
 pub put_one : (bytes : List ℕ) → 0 < length bytes → back bytes 1 ≤ 0x7F → SpellsLast (back bytes 1) bytes
 put_one bytes long low =
-    put_last bytes (back bytes 1) 1 long (from_0000 (back bytes 1) (omega arith,
-        low) (back_one bytes _ _ (cut bytes 0 1 long) (dropped bytes 0 1 long)) refl)
+    put_last bytes (back bytes 1) 1 long (from_0000 (back bytes 1) (
+      omega arith,
+      low,
+    ) (back_one bytes _ _ (cut bytes 0 1 long) (dropped bytes 0 1 long)) refl)
 
 pub put_two : (bytes : List ℕ) (c : ℕ) → 1 < length bytes → Spells c (back bytes 2 ∷ back bytes 1 ∷ []) → SpellsLast c bytes
 put_two bytes c long h =
@@ -301,7 +310,7 @@ module _ (bytes : List ℕ) (high : 0x80 ≤ back bytes 1) (two : (c : ℕ) →
 
 pub read_last_four : (bytes : List ℕ) (r : Option ℕ) → 3 < length bytes → 0x80 ≤ back bytes 1 →
     ((c : ℕ) → ¬ (Spells c (back bytes 2 ∷ back bytes 1 ∷ []))) → ((c : ℕ) →
-        ¬ (Spells c (back bytes 3 ∷ back bytes 2 ∷ back bytes 1 ∷ []))) →
+    ¬ (Spells c (back bytes 3 ∷ back bytes 2 ∷ back bytes 1 ∷ []))) →
     Reads (λ c. Spells c (back bytes 4 ∷ back bytes 3 ∷ back bytes 2 ∷ back bytes 1 ∷ [])) r → Reads (λ c. SpellsLast c bytes) r
 read_last_four bytes None long high two three h = none_last bytes high two (λ _. three) (λ _. h)
 read_last_four bytes (Some x) long high two three h = put_four bytes x long h

@@ -54,7 +54,7 @@ below_same_by m a (suc d) h u =
     let ih : marks_below m a ≡ marks_below m (a + d) = below_same_by m a d (omega arith) (λ k p q. u k p (omega arith)) in
     let lt : a + d < length m = omega arith in
     let f : marks_below m (a + suc d) ≡ marks_below m (a + d) = at_suc m a d _
-        (below_unmarked m (a + d) lt (u (a + d) (omega arith) (omega arith))) in
+    (below_unmarked m (a + d) lt (u (a + d) (omega arith) (omega arith))) in
     ih ∙ sym f
 
 -- no byte from a up to b has a mark
@@ -178,7 +178,7 @@ recorded_clear m a b [] h u s = u
 recorded_clear m a b (r ∷ rs) h u s =
     let e = length-mark_range m r.0 r.1 in
     recorded_clear (mark_range m r.0 r.1) a b rs (omega arith) (clear_after m a b r u (All-head (IsApart a b) r rs s))
-        (All-tail (IsApart a b) r rs s)
+    (All-tail (IsApart a b) r rs s)
 
 recorded_first : (m : List Bool) (a b : ℕ) (rs : List (ℕ × ℕ)) → b ≤ length m → IsClear (recorded m rs) a b → IsClear m a b
 recorded_first m a b [] h u = u
@@ -192,7 +192,7 @@ recorded_apart m a b (r ∷ rs) h u =
     let e = length-mark_range m r.0 r.1 in
     let v = recorded_first (mark_range m r.0 r.1) a b rs (omega arith) u in
     All-cons (IsApart a b) r rs (clear_start m a b r.0 r.1 h v, clear_end m a b r.0 r.1 h v)
-        (recorded_apart (mark_range m r.0 r.1) a b rs (omega arith) u)
+    (recorded_apart (mark_range m r.0 r.1) a b rs (omega arith) u)
 
 pub length-recorded : (m : List Bool) (rs : List (ℕ × ℕ)) → length (recorded m rs) ≡ length m
 length-recorded m [] = refl

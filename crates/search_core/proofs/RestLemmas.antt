@@ -30,7 +30,7 @@ spelled_whole : (h : List ℕ) (i c : ℕ) (s y : List ℕ) → i ≤ length h �
 spelled_whole h i c s y l k e p =
     let q = split_continues h i p in
     let same : get_or h i 0 ≡ get_or s 0 0 = get_dropped h i l ∙ ap (λ g. get_or g 0 0) e
-        ∙ get_or_append_left s y 0 0 (spelling_some c s k) in
+    ∙ get_or_append_left s y 0 0 (spelling_some c s k) in
     let low = q.1.0 in let high = q.1.1 in
     elim (spelling_lead c s k) [ inl a ↦ absurd (omega arith) | inr b ↦ absurd (omega arith) ]
 

@@ -65,7 +65,7 @@ module _ (classes : List ℕ) (r : IsRising classes) where
   -- which a length of 257 tells
   pub singletons_told : (n : ℕ) → n ≡ get_or classes 255 0 + 2 →
       (IsTrue (nat_eq n 257) → (b : ℕ) → b < 256 → get_or classes b 0 ≡ b) ×
-          (((b : ℕ) → b < 256 → get_or classes b 0 ≡ b) → IsTrue (nat_eq n 257))
+      (((b : ℕ) → b < 256 → get_or classes b 0 ≡ b) → IsTrue (nat_eq n 257))
   singletons_told n e = (
     λ h. let told : n ≡ 257 = eqb-true n 257 h in singletons_by_last (omega arith),
     λ own. let last : get_or classes 255 0 ≡ 255 = own 255 (omega arith) in eq-eqb n 257 (omega arith),

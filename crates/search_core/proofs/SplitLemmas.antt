@@ -65,12 +65,12 @@ same_cut a (no_spelling _ ea) b (no_spelling _ eb) c d s t x y i h k e la ha lb 
     (ea ∙ sym eb, m.1, m.2)
 same_cut a (no_spelling _ ea) b (spelling_then f u r _ g v eb) c d s t x y i h k e la ha lb hb =
     let same : s ++ x ≡ u ++ (r ++ (t ++ y)) = ap (λ l. l ++ (s ++ x)) (sym ea) ∙ e ∙ ap (λ l. l ++ (t ++ y)) eb
-        ∙ append_assoc u r (t ++ y) in
+    ∙ append_assoc u r (t ++ y) in
     let m = heads_same c f s u x (r ++ (t ++ y)) h g same in
     absurd (omega (arith, ap length ea, ap length eb, length-append u r, ap length m.1))
 same_cut a (spelling_then f u r _ g v ea) b (no_spelling _ eb) c d s t x y i h k e la ha lb hb =
     let same : u ++ (r ++ (s ++ x)) ≡ t ++ y = sym (ap (λ l. l ++ (s ++ x)) ea ∙ append_assoc u r (s ++ x)) ∙ e
-        ∙ ap (λ l. l ++ (t ++ y)) eb in
+    ∙ ap (λ l. l ++ (t ++ y)) eb in
     let m = heads_same f d u t (r ++ (s ++ x)) y g k same in
     absurd (omega (arith, ap length eb, ap length ea, length-append u r, ap length m.1))
 same_cut a (spelling_then f u r _ g v ea) b (spelling_then p q w _ n z eb) c d s t x y i h k e la ha lb hb =
@@ -92,15 +92,17 @@ same_split h i p q =
 pub split_continues : (h : List ℕ) (i : ℕ) → IsSplit h i → (i < length h) × IsContinuation (get_or h i 0)
 split_continues h i p =
     let n : length h ≡ length p.before + length (p.spelling ++ p.after) =
-        ap length p.joined ∙ length-append p.before (p.spelling ++ p.after) in
+    ap length p.joined ∙ length-append p.before (p.spelling ++ p.after) in
     let m = length-append p.spelling p.after in
     let k : i - length p.before < length p.spelling = omega (arith, p.above, p.below) in
     let e : get_or h i 0 ≡ get_or p.spelling (i - length p.before) 0 =
     ap (λ l. get_or l i 0) p.joined ∙ get_or-append_right p.before (p.spelling
-        ++ p.after) (length p.before) i 0 refl (omega (arith, p.above))
-    ∙ get_or_append_left p.spelling p.after 0 (i - length p.before) k in
-    (omega (arith, p.above, p.below), subst IsContinuation (sym e) (spelling_tails p.scalar p.spelling p.spells (i - length p.before)
-        (omega (arith, p.above)) k))
+    ++ p.after) (length p.before) i 0 refl (omega (arith, p.above))
+    ∙ get_or_append_left p.spelling p.after 0 (i - length p.before) k in (
+      omega (arith, p.above, p.below),
+      subst IsContinuation (sym e) (spelling_tails p.scalar p.spelling p.spells (i - length p.before)
+          (omega (arith, p.above)) k),
+    )
 
 no_boundary : (h : List ℕ) (i : ℕ) → i < length h → IsContinuation (get_or h i 0) → is_boundary h i ≡ false
 no_boundary h i l t = grind (arith, nat_tests)
@@ -128,7 +130,7 @@ bounds_behind : (h s rest : List ℕ) (i : ℕ) → h ≡ s ++ rest → length s
 bounds_behind h s rest i e l b =
     let n : length h ≡ length s + length rest = ap length e ∙ length-append s rest in
     let same : get_or rest (i - length s) 0 ≡ get_or h i 0 = sym (ap (λ l. get_or l i 0) e
-        ∙ get_or-append_right s rest (length s) i 0 refl l) in
+    ∙ get_or-append_right s rest (length s) i 0 refl l) in
     let P : ℕ → Type 0 = λ b. (b ≤ 0x7F) ⊎ (0xC0 ≤ b) in
     elim b [ inl x ↦ inl (omega arith) | inr x ↦ inr (omega arith, subst P same x.1) ]
 

@@ -31,7 +31,7 @@ units_end n next h =
 -- ---- the elements of a class
 pub elements_byte : (classes : List ℕ) (unit : InputUnit) (c from b : ℕ) (r : Option ℕ) → unit ≡ Byte c → r ≡ Some b →
     IsFirstWhere (λ x. eqb (get_or classes x 0) c) from 256 r → elements_from classes unit from ≡ Byte b ∷ elements_from classes unit
-        (b + 1)
+    (b + 1)
 elements_byte classes unit c from b r e s h =
     subst (λ (u : InputUnit). elements_from classes u from ≡ Byte b ∷ elements_from classes u (b + 1)) (sym e)
     (ap (map Byte) (bytes_where-some (λ x. eqb (get_or classes x 0) c) from 256 r b s h))
@@ -79,10 +79,10 @@ first_after classes lo from p =
 
 pub first_end : (classes : List ℕ) (lo : ℕ) (hi : Option ℕ) (from : ℕ) (r : Option ℕ) → r ≡ None → hi ≡ None → from ≤ 256 →
     IsFirstWhere (is_first classes lo) from (range_limit hi) r → first_units classes lo hi from ≡ End
-        (get_or classes 255 0 + 1) ∷ first_units classes lo hi 257
+    (get_or classes 255 0 + 1) ∷ first_units classes lo hi 257
 first_end classes lo hi from r e f p h =
     first_none classes lo hi from r e h
     ∙ ap (λ o. end_left classes o from) f
     ∙ ap (λ t. cond t (End (get_or classes 255 0 + 1) ∷ []) []) (le-leb from 256 p)
     ∙ ap (λ us. End (get_or classes 255 0 + 1) ∷ us) (sym (first_after classes lo 257 (omega arith))
-        ∙ ap (λ o. first_units classes lo o 257) (sym f))
+    ∙ ap (λ o. first_units classes lo o 257) (sym f))

@@ -86,8 +86,10 @@ spelling_encodes c s (from_100000 a b d f r t u w e v) =
 -- the row of a scalar, by its range
 encoded_two : (c : ℕ) (s : List ℕ) → 0x80 ≤ c → c < 0x800 → encode_utf8 c ≡ s → Spells c s
 encoded_two c s low high e =
-    from_0080 (192 + c / 64) (128 + c % 64) (omega arith, omega arith) (omega arith,
-        omega arith) (sym e ∙ encode_two c low high) (omega arith)
+    from_0080 (192 + c / 64) (128 + c % 64) (omega arith, omega arith) (
+      omega arith,
+      omega arith,
+    ) (sym e ∙ encode_two c low high) (omega arith)
 
 module _ (c : ℕ) (s : List ℕ) (low : 0x800 ≤ c) (high : c < 0x1_0000) (e : encode_utf8 c ≡ s) where
   is_three : s ≡ (224 + c / 4096) ∷ (128 + (c / 64) % 64) ∷ (128 + c % 64) ∷ []
@@ -117,13 +119,19 @@ module _ (c : ℕ) (s : List ℕ) (low : 0x1_0000 ≤ c) (high : c ≤ 0x10_FFFF
 
   encoded_four : Spells c s
   encoded_four = elim (cases_lt c 0x4_0000) [
-    | inl a ↦ from_10000 _ _ _ _ (omega arith) (omega arith, omega arith) (omega arith, omega arith) (omega arith,
-        omega arith) is_four value_four
+    | inl a ↦ from_10000 _ _ _ _ (omega arith) (omega arith, omega arith) (omega arith, omega arith) (
+      omega arith,
+      omega arith,
+    ) is_four value_four
     | inr b ↦ elim (cases_lt c 0x10_0000) [
-      | inl a ↦ from_40000 _ _ _ _ (omega arith, omega arith) (omega arith, omega arith) (omega arith, omega arith) (omega arith,
-          omega arith) is_four value_four
-      | inr b ↦ from_100000 _ _ _ _ (omega arith) (omega arith, omega arith) (omega arith, omega arith) (omega arith,
-          omega arith) is_four value_four
+      | inl a ↦ from_40000 _ _ _ _ (omega arith, omega arith) (omega arith, omega arith) (omega arith, omega arith) (
+        omega arith,
+        omega arith,
+      ) is_four value_four
+      | inr b ↦ from_100000 _ _ _ _ (omega arith) (omega arith, omega arith) (omega arith, omega arith) (
+        omega arith,
+        omega arith,
+      ) is_four value_four
     ]
   ]
 

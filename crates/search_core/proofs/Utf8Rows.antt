@@ -48,20 +48,28 @@ last_10000 : Spells 0x3FFFF (0xF0 ∷ 0xBF ∷ 0xBF ∷ 0xBF ∷ [])
 last_10000 = from_10000 0xF0 0xBF 0xBF 0xBF refl (omega arith, omega arith) (omega arith, omega arith) (omega arith, omega arith) refl refl
 
 first_40000 : Spells 0x40000 (0xF1 ∷ 0x80 ∷ 0x80 ∷ 0x80 ∷ [])
-first_40000 = from_40000 0xF1 0x80 0x80 0x80 (omega arith, omega arith) (omega arith, omega arith) (omega arith, omega arith) (omega arith,
-    omega arith) refl refl
+first_40000 = from_40000 0xF1 0x80 0x80 0x80 (omega arith, omega arith) (omega arith, omega arith) (omega arith, omega arith) (
+  omega arith,
+  omega arith,
+) refl refl
 
 last_40000 : Spells 0xFFFFF (0xF3 ∷ 0xBF ∷ 0xBF ∷ 0xBF ∷ [])
-last_40000 = from_40000 0xF3 0xBF 0xBF 0xBF (omega arith, omega arith) (omega arith, omega arith) (omega arith, omega arith) (omega arith,
-    omega arith) refl refl
+last_40000 = from_40000 0xF3 0xBF 0xBF 0xBF (omega arith, omega arith) (omega arith, omega arith) (omega arith, omega arith) (
+  omega arith,
+  omega arith,
+) refl refl
 
 first_100000 : Spells 0x100000 (0xF4 ∷ 0x80 ∷ 0x80 ∷ 0x80 ∷ [])
-first_100000 = from_100000 0xF4 0x80 0x80 0x80 refl (omega arith, omega arith) (omega arith, omega arith) (omega arith,
-    omega arith) refl refl
+first_100000 = from_100000 0xF4 0x80 0x80 0x80 refl (omega arith, omega arith) (omega arith, omega arith) (
+  omega arith,
+  omega arith,
+) refl refl
 
 last_100000 : Spells 0x10FFFF (0xF4 ∷ 0x8F ∷ 0xBF ∷ 0xBF ∷ [])
-last_100000 = from_100000 0xF4 0x8F 0xBF 0xBF refl (omega arith, omega arith) (omega arith, omega arith) (omega arith,
-    omega arith) refl refl
+last_100000 = from_100000 0xF4 0x8F 0xBF 0xBF refl (omega arith, omega arith) (omega arith, omega arith) (
+  omega arith,
+  omega arith,
+) refl refl
 
 overlong_two : (c : ℕ) → ¬ (Spells c (0xC0 ∷ 0x80 ∷ []))
 overlong_two c h = grind arith

@@ -26,7 +26,7 @@ three_bytes h k =
 abbrev pub four_bytes : List ℕ → ℕ → Option ℕ
 four_bytes h k =
     if second_of_four (byte_or_zero h k) (byte_or_zero h (k + 1)) && is_in_range 0x80 0xBF (byte_or_zero h (k + 2))
-        && is_in_range 0x80 0xBF (byte_or_zero h (k + 3))
+    && is_in_range 0x80 0xBF (byte_or_zero h (k + 3))
     then Some (scalar_of_four (byte_or_zero h k) (byte_or_zero h (k + 1)) (byte_or_zero h (k + 2)) (byte_or_zero h (k + 3))) else None
 
 -- the character whose spelling begins at the place; no two of these lengths fit at once

@@ -115,8 +115,11 @@ module _ (answer : ℕ → Option Found) (e : ℕ) (ok : AnswersWithin answer e)
       let past = next_past at f next in
       let low = past.starts in
       let later = past.later in
-      All-cons (λ g. (s ≤ g.start) × (g.start ≤ g.end) × (g.end ≤ e)) f (on f) (omega arith, past.forward,
-          past.within) (others f (omega arith))
+      All-cons (λ g. (s ≤ g.start) × (g.start ≤ g.end) × (g.end ≤ e)) f (on f) (
+        omega arith,
+        past.forward,
+        past.within,
+      ) (others f (omega arith))
 
   spans_after : (s n at : ℕ) → s ≤ at → All (λ g. (s ≤ g.start) × (g.start ≤ g.end) × (g.end ≤ e)) (answers_from answer n (Some at) at)
   spans_after s zero at le = All-nil (λ g. (s ≤ g.start) × (g.start ≤ g.end) × (g.end ≤ e))
@@ -154,7 +157,7 @@ module _ (answer : ℕ → Option Found) (e : ℕ) (ok : AnswersWithin answer e)
   same_after (suc n) zero at a b = sym (none_on at _ (omega arith) (next_answer answer (Some at) at) refl)
   same_after (suc n) (suc m) at a b =
       same_on at _ _ (λ f past. let later = past.later in same_after n m f.end (omega arith) (omega arith))
-          (next_answer answer (Some at) at) refl
+      (next_answer answer (Some at) at) refl
 
   none_first : (s : ℕ) (on : Found → List Found) → e < s → (o : Option Found) → answer s ≡ o → [] ≡ and_on o on
   none_first s on le None next = refl

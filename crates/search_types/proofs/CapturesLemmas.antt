@@ -38,19 +38,19 @@ module _ (cuts : Span → Bool) (h : List ℕ) where
       cut_spans cuts h (suc n) spans ≡ None
   cut_refused n spans rest s e f =
       ap (cut_spans cuts h (suc n)) e ∙ ap (λ o. option_and_then (λ part. option_map (λ parts. part ∷ parts) (cut_spans cuts h n rest)) o)
-          (sym f)
+      (sym f)
 
   pub cut_goes : (n : ℕ) (spans rest : List Span) (s : Span) (part : List ℕ) → spans ≡ s ∷ rest → Some part ≡ cut_span cuts h s →
       cut_spans cuts h (suc n) spans ≡ onto_parts (part ∷ []) (cut_spans cuts h n rest)
   cut_goes n spans rest s part e f =
       ap (cut_spans cuts h (suc n)) e ∙ ap (λ o. option_and_then (λ part. option_map (λ parts. part ∷ parts) (cut_spans cuts h n rest)) o)
-          (sym f)
+      (sym f)
 
 -- what the loop over the groups behind the first one keeps, where the next span cuts nothing out, where it does, and at the end
 pub none_from_here : (cuts : Span → Bool) (h : List ℕ) (all : Option (List (List ℕ))) (front : List (List ℕ)) (index end : ℕ)
     (spans : List Span) →
     all ≡ onto_parts front (cut_spans cuts h (end - index) spans) → index < end → ((n : ℕ) → cut_spans cuts h (suc n) spans ≡ None) →
-        None ≡ all
+    None ≡ all
 none_from_here cuts h all front index end spans told below none =
     let n : end - index ≡ suc (end - (index + 1)) = omega arith in
     sym (told ∙ ap (λ m. onto_parts front (cut_spans cuts h m spans)) n ∙ ap (onto_parts front) (none (end - (index + 1))))
@@ -81,7 +81,7 @@ module _ {H : Type 0} (bytes : H → List ℕ) where
       (spans : List Span) →
       length parts ≡ end → end ≤ index →
       all ≡ onto_parts (bytes whole ∷ take index (map bytes parts)) (cut_spans cuts h (end - index) spans) →
-          Some (bytes whole ∷ map bytes parts) ≡ all
+      Some (bytes whole ∷ map bytes parts) ≡ all
   parts_end cuts h all whole parts index end spans len past told =
       let n : end - index ≡ 0 = omega arith in
       let texts = take_all index (map bytes parts) (omega (arith, length-map parts bytes)) in

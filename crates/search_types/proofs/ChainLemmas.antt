@@ -52,7 +52,7 @@ module _ (answer : ℕ → Option Found) (low e : ℕ) (answers : ℕ → Option
   chain_begins last at (f ∷ fs) (suc n) l p c =
       let next = next_is last at (Some f) p c.0 in
       let more = chain_begins (Some f.end) f.end fs n (omega arith) (end_within last at f (is_repeat last (answer at))
-          (place_within last at p).0 next) c.1 in
+      (place_within last at p).0 next) c.1 in
       (more.0, chain_on last at f fs more.0 n next more.1)
 
   none_next : (last : Option ℕ) (at n : ℕ) → None ≡ next_answer answer last at → answers_from answer n last at ≡ []
@@ -66,7 +66,7 @@ module _ (answer : ℕ → Option Found) (low e : ℕ) (answers : ℕ → Option
   chain_is_all last at (f ∷ fs) (suc n) l p c =
       let next = next_is last at (Some f) p c.0 in
       let more = chain_is_all (Some f.end) f.end fs n (omega arith) (end_within last at f (is_repeat last (answer at))
-          (place_within last at p).0 next) c.1 in
+      (place_within last at p).0 next) c.1 in
       chain_on last at f fs [] n next (more ∙ sym (append-nil fs)) ∙ ap (λ gs. f ∷ gs) (append-nil fs)
 
   -- a chain is a beginning of the list of all answers, and it is all of it where nothing more is answered

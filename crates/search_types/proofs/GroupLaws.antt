@@ -45,8 +45,14 @@ slot_known gs k p zero e = elim (cases_lt 0 (length (groups_of gs p))) [
   | inr h ↦ none_is_not k (slot gs p 0) (slot_none gs p 0 h) e
 ]
 slot_known gs k p (suc g) e = elim (cases_lt (suc g) (length (groups_of gs p))) [
-  | inl h ↦ (h, inr (omega arith, some_is (explicit_slot gs p (suc g)) k (slot gs p (suc g))
-      (slot_explicit gs p (suc g) (omega arith) h) e))
+  | inl h ↦ (
+    h,
+    inr (
+      omega arith,
+      some_is (explicit_slot gs p (suc g)) k (slot gs p (suc g))
+          (slot_explicit gs p (suc g) (omega arith) h) e,
+    ),
+  )
   | inr h ↦ none_is_not k (slot gs p (suc g)) (slot_none gs p (suc g) h) e
 ]
 
@@ -252,14 +258,14 @@ found_after p earlier [] g name h e = none_is_not (Some name) (slice_get [] g) r
 found_after p earlier (x ∷ rest) zero name h e =
     let is : x ≡ Some name = some_inner x (Some name) e in
     let first : group_fault_after p earlier x ≡ None = none_first (group_fault_after p earlier x)
-        (fault_after p (earlier ++ x ∷ []) rest) h in
+    (fault_after p (earlier ++ x ∷ []) rest) h in
     let fresh : position (is_named name) earlier ≡ None = name_is_new p earlier name (ap (group_fault_after p earlier) (sym is) ∙ first) in
     let self : is_named name x ≡ true = ap (is_named name) is ∙ bytes_eq_from name name refl in
     let zero_more : length earlier ≡ length earlier + 0 = omega arith in
     position_here (is_named name) earlier x rest fresh self ∙ ap Some zero_more
 found_after p earlier (x ∷ rest) (suc g) name h e =
     let ih = found_after p (earlier ++ x ∷ []) rest g name (none_second (group_fault_after p earlier x)
-        (fault_after p (earlier ++ x ∷ []) rest) h) e in
+    (fault_after p (earlier ++ x ∷ []) rest) h) e in
     let count : length (earlier ++ x ∷ []) + g ≡ length earlier + suc g = omega (arith, length-append earlier (x ∷ [])) in
     ap (position (is_named name)) (sym (append_assoc earlier (x ∷ []) rest)) ∙ ih ∙ ap Some count
 

@@ -127,7 +127,7 @@ named_step : (p k : ℕ) (names : List (Option Name)) (g : ℕ) → g < length n
 named_step p k names g h =
     let e : suc g ≡ g + 1 = omega arith in
     named_step_suc p k names g h ∙ ap (λ n. (p, k, option_and_then (λ name. name) (slice_get names g)) ∷ named_from p (k + 1)
-        (drop n names)) e
+    (drop n names)) e
 
 named_past : (p k : ℕ) (names : List (Option Name)) (g : ℕ) → length names ≤ g → named_from p k (drop g names) ≡ []
 named_past p k [] zero h = refl
@@ -174,7 +174,7 @@ left_step gs p g q name seen v e h n =
     let step : left_from gs p g ≡ (p, g, to_name gs p g) ∷ left_from gs p (g + 1)
     = ap (λ (xs : List (ℕ × ℕ × Option Name)). xs ++ all_named_from (p + 1) (drop (p + 1) gs)) (named_step p g (groups_of gs p) g h) in
     sym v ∙ step ∙ ap (λ k. (k, g, to_name gs p g) ∷ left_from gs p (g + 1)) (sym e)
-        ∙ ap (λ (m : Option Name). (q, g, m) ∷ left_from gs p (g + 1)) (sym same)
+    ∙ ap (λ (m : Option Name). (q, g, m) ∷ left_from gs p (g + 1)) (sym same)
 
 -- where that is the last group of its pattern, the next pattern's first one comes behind it
 left_next : (gs : Groups) (p g : ℕ) → length (groups_of gs p) ≤ g → left_from gs p g ≡ left_from gs (p + 1) 0
@@ -196,7 +196,7 @@ module _ (gs seen : Groups) (starts : List ℕ) (len p g n : ℕ) (laid : IsLaid
       let same : explicit_slot gs p g ≡ explicit_slot seen p g = ap (λ (xs : Groups). explicit_slot xs p g) view in
       let above : 0 < g = omega (arith, some) in
       let inside : explicit_slot gs p g + 2 ≤ slot_len gs = explicit_slot_in_range gs p g above
-          (within_gs gs seen starts len p g n laid view within below) in
+      (within_gs gs seen starts len p g n laid view within below) in
       omega (arith, is, same, inside, laid.len_is, laid.in_range)
 
   pub slot_is : (start d : ℕ) → start ≡ get_or starts p d → Some (start + (g - 1) * 2) ≡ slot seen p g

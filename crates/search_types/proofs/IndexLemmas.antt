@@ -69,7 +69,7 @@ named_at names old new key text index name h e i u none = elim (cases_Bool (byte
   | inl t ↦
       let same : text ≡ name = sym e ∙ bytes_eq_path key name t in
       let found : position (is_named name) (names ++ Some text ∷ []) ≡ option_or (position (is_named name) names) (if bytes_eq name text
-          then Some (length names) else None)
+      then Some (length names) else None)
       = position_push (is_named name) names (Some text) in
       let P : Name → Type 0 = λ n. position (is_named n) names ≡ None in
       let fresh : position (is_named name) names ≡ None = subst P same none in
@@ -77,12 +77,12 @@ named_at names old new key text index name h e i u none = elim (cases_Bool (byte
       grind (arith, u, t, i, found, fresh, yes)
   | inr f ↦
       let found : position (is_named name) (names ++ Some text ∷ []) ≡ option_or (position (is_named name) names) (if bytes_eq name text
-          then Some (length names) else None)
+      then Some (length names) else None)
       = position_push (is_named name) names (Some text) in
       let no : bytes_eq name text ≡ false = bytes_ne name text key (sym e) f in
       let last : position (is_named name) (names ++ Some text ∷ []) ≡ position (is_named name) names
       = found ∙ ap (λ (b : Bool). option_or (position (is_named name) names) (if b then Some (length names) else None)) no
-          ∙ option_or-None (position (is_named name) names) in
+      ∙ option_or-None (position (is_named name) names) in
       u ∙ cond-false (bytes_eq key name) (Some index) old f ∙ h ∙ sym last
 ]
 
@@ -92,7 +92,7 @@ pub finds_named : {A S : Type 0} (names : List (Option Name)) (old new : HashMap
     → position (is_named text) names ≡ None → FindsEach (names ++ Some text ∷ []) new
 finds_named names old new key text index h e i u none = λ name.
     let at : get_by_text new name ≡ update bytes_eq (get_by_text old) (string_bytes key) (Some index) name =
-        hash_map_updates_text (string_bytes key) old new (Some index) u name in
+    hash_map_updates_text (string_bytes key) old new (Some index) u name in
     named_at names (get_by_text old name) (get_by_text new name) (string_bytes key) text index name (h name) e i at none
 
 -- ---- what is wrong with a group

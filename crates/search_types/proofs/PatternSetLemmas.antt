@@ -40,7 +40,7 @@ pub count_insert : (bs : List Bool) (p : ℕ) → p < length bs → get_or bs p 
 count_insert bs p h e =
     let s = sum_by-set (λ c. cond c 1 0) bs p true false h in
     let n : member_count (set bs p true) + 0 ≡ member_count bs + 1 = subst
-        (λ (b : Bool). member_count (set bs p true) + cond b 1 0 ≡ member_count bs + 1) e s in
+    (λ (b : Bool). member_count (set bs p true) + cond b 1 0 ≡ member_count bs + 1) e s in
     omega arith
 
 -- the members of a list and one test more

@@ -44,7 +44,7 @@ fault_any p q earlier (name ∷ rest) h =
     (none_first (group_fault_after p earlier name) (fault_after p (earlier ++ name ∷ []) rest) h) (name_any p q earlier name) in
     let later : fault_after q (earlier ++ name ∷ []) rest ≡ None
     = fault_any p q (earlier ++ name ∷ []) rest (none_second (group_fault_after p earlier name)
-        (fault_after p (earlier ++ name ∷ []) rest) h) in
+    (fault_after p (earlier ++ name ∷ []) rest) h) in
     ap (λ o. option_or o (fault_after q (earlier ++ name ∷ []) rest)) here ∙ later
 
 pattern_any : (p q : ℕ) (names : List (Option Name)) → pattern_fault p names ≡ None → pattern_fault q names ≡ None
@@ -66,7 +66,7 @@ others_are_sound p names rest h = none_second (numbered_fault p names) (names_fa
 pub next_pattern_is_sound : {A B : Type 0} (groups : List (Vec (Option (String A)) B)) (i p : ℕ) (x : Vec (Option (String A)) B)
     (texts : List (Option (String A)))
     → i < length groups → x ≡ get_or groups i x → texts ≡ x.items → names_fault p (groups_in (drop i groups)) ≡ None →
-        pattern_fault 0 (names_in texts) ≡ None
+    pattern_fault 0 (names_in texts) ≡ None
 next_pattern_is_sound groups i p x texts below at is sound =
     let left : drop i groups ≡ x ∷ drop (i + 1) groups = drop_more groups i x below ∙ ap (λ y. y ∷ drop (i + 1) groups) (sym at) in
     ap (λ ts. pattern_fault 0 (names_in ts)) is
@@ -125,7 +125,7 @@ pub indexed_sound : {A S : Type 0} (texts : List (Option (String A))) (old new :
     → FindsEach (names_in texts ++ option_map string_bytes name ∷ []) new
 indexed_sound texts old new name text key index i h e k sound u =
     let named : group_fault_after 0 (names_in texts) (Some (string_bytes text)) ≡ None =
-        ap (λ n. group_fault_after 0 (names_in texts) (option_map string_bytes n)) (sym e) ∙ sound in
+    ap (λ n. group_fault_after 0 (names_in texts) (option_map string_bytes n)) (sym e) ∙ sound in
     let absent : is_some (position (is_named (string_bytes text)) (names_in texts)) ≡ false
     = test_false (is_some (position (is_named (string_bytes text)) (names_in texts))) _ None
     (else_none (nat_lt greatest_index (length (names_in texts))) _ (name_fault 0 (names_in texts) (Some (string_bytes text))) named) in

@@ -74,9 +74,9 @@ fn is_built(alloc: Global, steps: &[Step], bytes: usize, start: u8, wanted: Want
 
 /// Adds an empty state that stands for this one.
 fn add_link(builder: &mut Builder, to: StateID) -> Result<StateID, BuildError>
-    requires { to < length builder.old.parts }
-    ensures name { IfOk result (λ id. id ≡ length builder.old.parts) }
-    ensures len { IfOk result (λ _. length builder.new.parts ≡ length builder.old.parts + 1) }
+    requires { to < length builder.old.drafts }
+    ensures name { IfOk result (λ id. id ≡ length builder.old.drafts) }
+    ensures len { IfOk result (λ _. length builder.new.drafts ≡ length builder.old.drafts + 1) }
     ensures open { builder.new.is_open ≡ builder.old.is_open }
 {
     let id = builder.add_empty()?;
@@ -289,7 +289,7 @@ fn two_groups_of_one_name(rt: HostRuntime) {
 
 /// A chain of empty states to a match, and the last of them.
 fn chain(alloc: Global) -> Result<(Builder, StateID), BuildError>
-    ensures { IfOk result (λ r. length r.0.parts ≡ 1001) }
+    ensures { IfOk result (λ r. length r.0.drafts ≡ 1001) }
 {
     let mut builder = Builder::new(alloc);
     builder.start_pattern()?;
@@ -308,7 +308,7 @@ fn build_bounded<L: Ledger>(
     steps: &mut Steps<L>,
 ) -> Result<NFA, BuildError>
     requires can { CanBuild builder.now start start }
-    requires len { length builder.now.parts ≡ 1001 }
+    requires len { length builder.now.drafts ≡ 1001 }
     ensures { steps.new ≤ steps.old + 2002 }
 {
     builder.build(start, start, steps)
@@ -321,7 +321,7 @@ fn build_chain<L: Ledger>(
     blank: Blank,
 ) -> Result<NFA, BuildError>
     requires can { CanBuild builder.now start start }
-    requires len { length builder.now.parts ≡ 1001 }
+    requires len { length builder.now.drafts ≡ 1001 }
     requires name { blank.name ≡ L.name }
     requires parts { blank.parts ≡ L.parts }
     requires some { 0 < blank.parts }

@@ -217,7 +217,7 @@ fn matches_tell_their_spans(rt: HostRuntime) {
 fn errors() -> [(MatchError, &'static str); 8] {
     [
         (MatchError::quit(10, 7), "quit at byte 10 at offset 7"),
-        (MatchError::gave_up(7), "gave forward at offset 7"),
+        (MatchError::gave_up(7), "gave up at offset 7"),
         (
             MatchError::haystack_too_long(9),
             "haystack of 9 bytes is too long",

@@ -29,7 +29,7 @@ fits_no_limit limit most is low fits =
 -- beside memory that lacks, the limit alone refuses, where the trees' room passes it
 pub limit_alone_refuses : (o : Options) (xs : List Tree) (e : BuildError) (limit : ℕ) → captures_of o ≡ which.None →
     limit_of o ≡ Some limit → limit < 24 * (greatest_index + 1) → length xs ≤ greatest_index + 1 → RefusesTrees o xs e →
-        e ≢ error.NoMemory →
+    e ≢ error.NoMemory →
     (e ≡ error.ExceededSizeLimit limit) × (limit < 4096 * list_room (is_shrunk o) xs)
 limit_alone_refuses o xs error.TooManyPatterns limit none is low few refused other = absurd (omega arith)
 limit_alone_refuses o xs error.TooManyStates limit none is low few refused other =

@@ -54,8 +54,10 @@ one_place_after_the_other : (t : Terminator) → distinct same_pair (flat_map (�
 one_place_after_the_other t = refl
 
 one_pattern_after_the_other : (t : Terminator) →
-    distinct same_pair (flat_map (λ p. ends_from a_and_b (whole t (0x61 ∷ 0x62 ∷ [])) (0, start_of a_and_b p)) (places_from 0 2)) ≡ (1,
-        0) ∷ []
+    distinct same_pair (flat_map (λ p. ends_from a_and_b (whole t (0x61 ∷ 0x62 ∷ [])) (0, start_of a_and_b p)) (places_from 0 2)) ≡ (
+      1,
+      0,
+    ) ∷ []
 one_pattern_after_the_other t = refl
 
 -- ---- the pattern `ab`, read forward and in reverse

@@ -78,8 +78,10 @@ pub record FindsInOrder (xs : List Tree) (n : Nfa) : Type 0 where
 
 -- No chain from the unanchored start comes to a pair twice, so there are no loops that read nothing.
 abbrev pub HasNoReturn : Nfa → Type 0
-HasNoReturn n = (t : Text) (i : ℕ) (r : List (ℕ × ℕ)) → i ≤ t.end → IsChain same_pair (ways n.automaton t) (i,
-    n.automaton.start_unanchored) r →
+HasNoReturn n = (t : Text) (i : ℕ) (r : List (ℕ × ℕ)) → i ≤ t.end → IsChain same_pair (ways n.automaton t) (
+  i,
+  n.automaton.start_unanchored,
+) r →
     HasNoneTwice same_pair ((i, n.automaton.start_unanchored) ∷ r)
 
 -- Whatever the loops, the anchored start leads to those of the patterns, one after the other; the unanchored one leads, for

@@ -160,6 +160,6 @@ pub record DoesCopies (old new : Assembly) (start end n : ℕ) (x : Tree) : Type
 pub record DoesOption (old new : Assembly) (start end exit : ℕ) (greedy : Bool) (x : Tree) : Type 0 where
   pub before : (table : Table) (target : ℕ) → Finished (length old.drafts) new.drafts end target table → (left : ℕ) →
       Denotes old.reverse table target exit (repetition 0 (Some left) greedy x) →
-          Denotes old.reverse table start exit (repetition 0 (Some (suc left)) greedy x)
+      Denotes old.reverse table start exit (repetition 0 (Some (suc left)) greedy x)
   pub looks : (l : Look) (left : ℕ) →
       (looks_in new.drafts l || uses old.reverse (repetition 0 (Some left) greedy x) l) ≡ (looks_in old.drafts l || uses old.reverse x l)

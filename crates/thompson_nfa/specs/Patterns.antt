@@ -70,7 +70,7 @@ HasAll which old new starts xs n spare = HasPatterns which (length new.drafts) o
 abbrev pub LeadsToPatterns : WhichCaptures → Assembly → Assembly → ℕ → List Tree → ℕ → Type 0
 LeadsToPatterns which old new c xs n =
     (starts : List ℕ) × HasAll which old new starts xs n 0 × LeadsToAll (draft_at new.drafts) c starts × (c < length new.drafts) ×
-        (length old.drafts ≤ c)
+    (length old.drafts ≤ c)
     × IsFree old.reverse (length old.drafts) (length old.starts) new.drafts c starts xs
 
 -- The union led to some states, and leads to the starts of further patterns too.
@@ -86,8 +86,16 @@ HasStart false old new u = HasPrefix old new u
 
 -- a builder without states and patterns, with what these options say
 abbrev pub begun_with : Options → Assembly
-begun_with o = record { drafts = []; starts = []; groups = []; is_open = false; utf8 = utf8_of o; reverse = reverse_of o;
-    terminator = terminator_of o; size_limit = limit_of o }
+begun_with o = record {
+  drafts = [];
+  starts = [];
+  groups = [];
+  is_open = false;
+  utf8 = utf8_of o;
+  reverse = reverse_of o;
+  terminator = terminator_of o;
+  size_limit = limit_of o;
+}
 
 -- Patterns for which n states are room are refused: some tree's group has an index that is too great, or the states are
 -- refused.

@@ -12,7 +12,7 @@ pub record SlotTable (K : Type 0) : Type 0 where
 abbrev pub table_code : {K : Type 0} → Coded K → Coded (SlotTable K)
 table_code {K} code =
     code_by (ℕ × List (Option (K × ℕ))) (coded× coded_ℕ (coded_list (coded_option (coded× code coded_ℕ)))) (λ t. (t.capacity, t.places))
-        (λ p. record { capacity = p.0; places = p.1 }) (λ _. refl)
+    (λ p. record { capacity = p.0; places = p.1 }) (λ _. refl)
 
 -- whether the places are there
 abbrev pub is_ready : {K : Type 0} → SlotTable K → Bool

@@ -43,4 +43,4 @@ abbrev pub IsStep : List (List (List (ℕ × ℕ))) → List (List (List (ℕ ×
 IsStep v w start stop rest p e =
     (e.range ≡ p.range)
     × ((IsWithin start stop p × IsWith (below v p.next) rest (below w e.next)) ⊎
-        (IsBeside start stop p × (below w e.next ≡ below v p.next)))
+    (IsBeside start stop p × (below w e.next ≡ below v p.next)))

@@ -53,8 +53,10 @@ fresh_limb range = record { branches = []; last = range }
 
 -- the node whose last range leads to a state from which this tree is read, with another range behind it
 abbrev pub grown : ℕ → Tree → ℕ × ℕ → Limb → Limb
-grown next x range l = record { branches = l.branches ++ record { low = l.last.0; high = l.last.1; next = next; tree = x } ∷ [];
-    last = range }
+grown next x range l = record {
+  branches = l.branches ++ record { low = l.last.0; high = l.last.1; next = next; tree = x } ∷ [];
+  last = range;
+}
 
 -- from the branches' states to the end the table does what the branches' trees mean
 abbrev pub BranchesLead : Bool → Table → ℕ → List Branch → Type 0

@@ -9,9 +9,9 @@ ghost use Rattle.thompson_nfa.specs.Room.{room};
 
 use crate::class::byte_class;
 use crate::compiling::{Fragment, How, Shared};
+use crate::drafts::{add_choice, add_empty, end_group, lead, start_group};
 use crate::leaves::{empty, fail, literal, look, turned_place};
 use crate::literals::{all_literals, compile_literals};
-use crate::drafts::{add_choice, add_empty, end_group, lead, start_group};
 use crate::scalar_class::compile_scalars;
 use crate::which_captures::WhichCaptures;
 use hir_core::{Hir, HirKind};

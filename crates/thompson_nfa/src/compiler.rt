@@ -3,8 +3,8 @@ ghost use Rattle.thompson_nfa.specs.Configs.{no_options, changed_by};
 ghost use Rattle.thompson_nfa.specs.Compilations.{IsCompiled};
 ghost use Rattle.thompson_nfa.specs.RefusedTrees.{RefusesTrees};
 
-use crate::config::Config;
 use crate::compiling::Shared;
+use crate::config::Config;
 use crate::trees::compile_trees;
 use hir_core::Hir;
 use nfa_core::{BuildError, Builder, NFA};

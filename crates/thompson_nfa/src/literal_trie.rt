@@ -6,10 +6,10 @@ ghost use Rattle.thompson_nfa.specs.LiteralStates.{literals, spelt};
 ghost use Rattle.thompson_nfa.specs.Refusals.{Quits};
 
 use crate::compiling::Fragment;
+use crate::drafts::add_empty;
 use crate::literal_nodes::nodes;
 use crate::literal_states::add_node;
 use crate::literal_texts::add_text;
-use crate::drafts::add_empty;
 use nfa_core::{BuildError, Builder};
 use search_core::StateID;
 use std::alloc::{AllocError, Global};

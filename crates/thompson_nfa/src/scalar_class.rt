@@ -6,11 +6,11 @@ ghost use Rattle.thompson_nfa.specs.Compiled.{Makes, Does};
 ghost use Rattle.thompson_nfa.specs.Refusals.{Quits};
 ghost use Rattle.thompson_nfa.specs.Room.{room};
 
-use crate::scalar_ascii::{compile_ascii, is_ascii};
 use crate::compiling::{Fragment, How, Shared};
+use crate::scalar_ascii::{compile_ascii, is_ascii};
 use crate::scalar_forward::compile_scalars_forward;
-use crate::scalar_shrunk::compile_scalars_shrunk;
 use crate::scalar_reverse::compile_scalars_reverse;
+use crate::scalar_shrunk::compile_scalars_shrunk;
 use nfa_core::{BuildError, Builder};
 use std::alloc::Global;
 

@@ -13,9 +13,9 @@ ghost use Rattle.thompson_nfa.specs.Configs.{reverse_of, captures_of, is_any};
 ghost use Rattle.thompson_nfa.specs.Patterns.{begun_with, told_by};
 ghost use Rattle.thompson_nfa.specs.RefusedTrees.{RefusesTrees};
 
+use crate::compiling::Shared;
 use crate::config::Config;
 use crate::patterns::{Starts, compile_all};
-use crate::compiling::Shared;
 use hir_core::Hir;
 use nfa_core::nfa_laws::reached_states_are_led_to;
 use nfa_core::{BuildError, Builder, NFA, Steps};

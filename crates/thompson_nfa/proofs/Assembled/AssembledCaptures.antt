@@ -57,7 +57,7 @@ plain_states name drafts known =
     let all : All P drafts = λ k d inside. plain_draft name (get_or drafts k d) (known k d inside) in
     list_any_none is_capture (map (renamed name []) (kept drafts))
     (All-map (λ node. is_capture node ≡ false) (renamed name []) (kept drafts)
-        (All-filter (λ draft. is_none (stands_for draft)) P drafts all))
+    (All-filter (λ draft. is_none (stands_for draft)) P drafts all))
 
 pub assembled_no_captures : (o : Options) (xs : List Tree) (b : Assembly) (A U : ℕ) → IsAssembled o xs b A U →
     is_any (captures_of o) ≡ false → list_any is_capture (automaton_of b A U).states ≡ false

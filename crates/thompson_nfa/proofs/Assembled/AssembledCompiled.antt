@@ -45,7 +45,7 @@ pub led_to : (a : Automaton) →
     ((q : ℕ) → Has nat_eq q (reached_freely a) →
     (s : ℕ) × (r : List ℕ) × Has nat_eq s a.start_pattern × IsChain nat_eq (free_steps a) s r × (last_or s r ≡ q)) →
     ((q s : ℕ) (r : List ℕ) → Has nat_eq s a.start_pattern → IsChain nat_eq (free_steps a) s r → last_or s r ≡ q →
-        Has nat_eq q (reached_freely a)) →
+    Has nat_eq q (reached_freely a)) →
     AreLedTo a
 led_to a led all q = (λ h. let x = led q h in (x.0, x.2, x.1, x.3, x.4), λ x. all q x.0 x.2 x.1 x.3 x.4)
 
@@ -95,7 +95,7 @@ assembled_is_compiled o xs b A U is apart reached n same utf8 terminator groups 
       let P : Automaton → Type 0 = λ a. HasOneMatch a p in subst P (sym same) (assembled_has_one_match o xs b A U is p inside);
   empty =
       let P : Automaton → Type 0 = λ a. (has_empty a ≡ true) ↔ ((p : ℕ) × (x : Tree) × (slice_get xs p ≡ Some x) ×
-          Means (λ l i. true) [] x 0 0) in
+      Means (λ l i. true) [] x 0 0) in
       subst P (sym same) (assembled_empty o xs b A U is reached);
   always_anchored =
       let P : Automaton → Type 0 = λ a. (a.start_anchored ≡ a.start_unanchored) ↔ AllAnchored (reverse_of o) xs in

@@ -77,7 +77,7 @@ module _ (o : Options) (xs : List Tree) (b : Assembly) (A U : ℕ) (is : IsAssem
   has_one_match p inside =
       let x = get_or xs p empty in
       let a = accept_at (reverse_of o) (draft_at b.drafts) 0 b.starts xs is.accept p p x (omega arith)
-          (slice_get-get_or xs p empty inside) in
+      (slice_get-get_or xs p empty inside) in
       one_match_of b A U p is.one_match a.accepts.end a.accepts.matches
 
   -- ---- how many there are

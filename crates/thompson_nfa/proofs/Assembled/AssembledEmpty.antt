@@ -32,7 +32,7 @@ any_has test [] e = cc
 any_has test (x ∷ xs) e = ⊎_elim
     (λ (yes_here : test x ≡ true). (x, has_first nat_eq names_equal x xs, yes_here))
     (λ (not_here : test x ≡ false). let r = any_has test xs (rw not_here at e) in
-        (r.0, has_later nat_eq r.0 x xs r.1, r.2)) (cases_Bool (test x))
+    (r.0, has_later nat_eq r.0 x xs r.1, r.2)) (cases_Bool (test x))
 
 has_any : (test : ℕ → Bool) (xs : List ℕ) (q : ℕ) → Has nat_eq q xs → test q ≡ true → list_any test xs ≡ true
 has_any test [] q h e = none_in nat_eq q _ h
@@ -163,9 +163,11 @@ module _ (o : Options) (xs : List Tree) (b : Assembly) (A U : ℕ) (is : IsAssem
       let c = chain_here auto k r (subst P (sym tree.3) chain) in
       let ends : last_or (here k) (map here r) ≡ here q = last_here auto k r ∙ ap (λ (n : ℕ). here (last_or n r)) tree.3 ∙ ap here last in
       let final : matched auto (last_or (here k) (map here r)) ≡ Some (0, p) =
-          ap (matched auto) ends ∙ ap (λ (n : Node). match_of n 0) node in
-      let listed = chain_listed auto free_text (here k) (is_well_formed b A U is.can_build) (omega arith,
-          start_below tree.0 tree.1 tree.2) (0, p) (map here r) c final in
+      ap (matched auto) ends ∙ ap (λ (n : Node). match_of n 0) node in
+      let listed = chain_listed auto free_text (here k) (is_well_formed b A U is.can_build) (
+        omega arith,
+        start_below tree.0 tree.1 tree.2,
+      ) (0, p) (map here r) c final in
       let m = (patterns_found o xs b A U is tree.0 tree.1 tree.2 free_text 0 (0, p) (omega arith)).0 listed in
       (tree.0, tree.1, tree.2, means_there (reverse_of o) tree.1 0 m.1 refl)
 
@@ -193,6 +195,6 @@ module _ (o : Options) (xs : List Tree) (b : Assembly) (A U : ℕ) (is : IsAssem
 pub assembled_empty : (o : Options) (xs : List Tree) (b : Assembly) (A U : ℕ) → IsAssembled o xs b A U →
     ((q : ℕ) → Has nat_eq q (reached_freely (automaton_of b A U))
     ↔ ((s : ℕ) × Has nat_eq s (automaton_of b A U).start_pattern × (r : List ℕ) × IsChain nat_eq (free_steps (automaton_of b A U)) s r ×
-        (last_or s r ≡ q))) →
+    (last_or s r ≡ q))) →
     (has_empty (automaton_of b A U) ≡ true) ↔ ((p : ℕ) × (x : Tree) × (slice_get xs p ≡ Some x) × Means (λ l i. true) [] x 0 0)
 assembled_empty o xs b A U is reached = empty_is_meant o xs b A U is reached

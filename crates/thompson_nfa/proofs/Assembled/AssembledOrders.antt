@@ -64,8 +64,10 @@ module _ (o : Options) (xs : List Tree) (b : Assembly) (A U : ℕ) (is : IsAssem
     anchored_walk : (t : Text) (i : ℕ) → ListedFirsts t (draft_at b.drafts) ((i, A) ∷ []) (choices_from 0 xs t i)
     anchored_walk t i = all_list t (draft_at b.drafts) A b.starts xs i is.leads accept_forward reading
 
-    anchored_listed : (t : Text) (i : ℕ) → i ≤ t.end → ends_from auto t (i,
-        new_name b.drafts A) ≡ distinct same_pair (choices_from 0 xs t i)
+    anchored_listed : (t : Text) (i : ℕ) → i ≤ t.end → ends_from auto t (
+      i,
+      new_name b.drafts A,
+    ) ≡ distinct same_pair (choices_from 0 xs t i)
     anchored_listed t i place = ends_are_listed t A i (choices_from 0 xs t i) is.can_build.anchored_there place (anchored_walk t i)
 
     all_walked : (t : Text) (i : ℕ) → IsRead t → i ≤ t.end →
@@ -75,11 +77,11 @@ module _ (o : Options) (xs : List Tree) (b : Assembly) (A U : ℕ) (is : IsAssem
         elim before_forward [
           | inl x ↦ subst P (choices_at_once t read xs i x.0 high)
               (listed_behind t (draft_at b.drafts) U A (choices_from 0 xs t) (anchored_walk t) (λ k. k ∷ []) i
-                  (orders_at_once t (draft_at b.drafts) U A x.1))
+              (orders_at_once t (draft_at b.drafts) U A x.1))
           | inr x ↦ subst P (ap (flat_map (choices_from 0 xs t))
               (all_tried t i (record { within = read.within; bytes = read.bytes }) high))
               (listed_behind t (draft_at b.drafts) U A (choices_from 0 xs t) (anchored_walk t) (tried t) i
-                  (tries_in_order t (draft_at b.drafts) U A x.1))
+              (tries_in_order t (draft_at b.drafts) U A x.1))
         ]
 
     unanchored_listed : (t : Text) (i : ℕ) → IsRead t → i ≤ t.end →
@@ -92,7 +94,7 @@ module _ (o : Options) (xs : List Tree) (b : Assembly) (A U : ℕ) (is : IsAssem
   finds_in_order n same = record {
     patterns = λ p x got reading t i place.
         let P : Automaton → Type 0 = λ a. ends_from a t (i, start_of a p) ≡ distinct same_pair
-            (map (λ j. (j, p)) (preferred_ends t.holds (seen t) x i)) in
+        (map (λ j. (j, p)) (preferred_ends t.holds (seen t) x i)) in
         subst P (sym same) (patterns_listed p x got reading t i place);
     anchored = λ reading t i place.
         let P : Automaton → Type 0 = λ a. ends_from a t (i, a.start_anchored) ≡ distinct same_pair (choices_from 0 xs t i) in

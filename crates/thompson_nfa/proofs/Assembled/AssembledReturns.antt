@@ -31,8 +31,10 @@ module _ (o : Options) (xs : List Tree) (b : Assembly) (A U : ℕ) (is : IsAssem
     | inr x ↦ (tries_halt (reverse_of o) t (draft_at b.drafts) U A x.1).halts i (λ j m. anchored_ends t j)
   ]
 
-  returns_never : (t : Text) (i : ℕ) (r : List (ℕ × ℕ)) → i ≤ t.end → IsChain same_pair (ways (automaton_of b A U) t) (i,
-      new_name b.drafts U) r →
+  returns_never : (t : Text) (i : ℕ) (r : List (ℕ × ℕ)) → i ≤ t.end → IsChain same_pair (ways (automaton_of b A U) t) (
+    i,
+    new_name b.drafts U,
+  ) r →
       HasNoneTwice same_pair ((i, new_name b.drafts U) ∷ r)
   returns_never t i r place chain =
       let P : Bool → Type 0 = λ back. ComesToEnd back t (draft_at b.drafts) (i, U) in

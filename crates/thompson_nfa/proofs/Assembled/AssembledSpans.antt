@@ -68,7 +68,7 @@ module _ (o : Options) (xs : List Tree) (b : Assembly) (A U : ℕ) (is : IsAssem
       let a = accept_at (reverse_of o) drafts 0 b.starts xs is.accept p p x (omega arith) got in
       subst P (sym (start_is p x got))
       (ends_are_found t q (λ k c. (c.1 ≡ p) × IsMeant (reverse_of o) t x k c.0) (start_inside p x got)
-          (accepts_finds (reverse_of o) t drafts q p x a.accepts) i e place)
+      (accepts_finds (reverse_of o) t drafts q p x a.accepts) i e place)
 
   choices : (t : Text) → FindsChoices (reverse_of o) t drafts A (IsChoice (reverse_of o) xs t)
   choices t = all_find (reverse_of o) t drafts A b.starts xs is.leads is.accept
@@ -84,11 +84,11 @@ module _ (o : Options) (xs : List Tree) (b : Assembly) (A U : ℕ) (is : IsAssem
     behind : (meant : ℕ → ℕ → Type 0) → FindsChoices (reverse_of o) t drafts U (λ j c. (k : ℕ) × meant j k ×
         IsChoice (reverse_of o) xs t k c) →
         ((k : ℕ) → meant i k → IsReadTo (reverse_of o) t i k) → ((k : ℕ) → IsReadTo (reverse_of o) t i k →
-            IsChoice (reverse_of o) xs t k e → meant i k) →
+        IsChoice (reverse_of o) xs t k e → meant i k) →
         Has same_pair e (ends_from built t (i, new_name b.drafts U)) ↔ Somewhere
     behind meant finds wide narrow =
         let both = ends_are_found t U (λ j c. (k : ℕ) × meant j k × IsChoice (reverse_of o) xs t k c) is.can_build.unanchored_there finds i
-            e high in (
+        e high in (
           λ has. let x = both.0 has in (x.0, wide x.0 x.1, x.2),
           λ x. both.1 (x.0, narrow x.0 x.1 x.2, x.2),
         )
@@ -97,7 +97,7 @@ module _ (o : Options) (xs : List Tree) (b : Assembly) (A U : ℕ) (is : IsAssem
     unanchored_found = elim is.before [
       | inl x ↦ behind (λ j k. j ≡ k)
           (finds_behind (reverse_of o) t drafts U A (λ j k. j ≡ k) (IsChoice (reverse_of o) xs t)
-              (reaches_at_once (reverse_of o) t drafts U A x.1) (choices t))
+          (reaches_at_once (reverse_of o) t drafts U A x.1) (choices t))
           (λ k same. read_here (reverse_of o) t i k high same)
           (λ k read choice. anchored_place t read_well (reverse_of o) xs i k e x.0 low high read choice)
       | inr x ↦ behind (λ j k. (n : ℕ) × Rounds (Moves (reverse_of o) t) n j k)
@@ -112,7 +112,7 @@ module _ (o : Options) (xs : List Tree) (b : Assembly) (A U : ℕ) (is : IsAssem
   finds_spans n same = record {
     patterns = λ p x got t i e place.
         let P : Automaton → Type 0 = λ a. Has same_pair e (ends_from a t (i, start_of a p)) ↔
-            ((e.1 ≡ p) × IsMeant (reverse_of o) t x i e.0) in
+        ((e.1 ≡ p) × IsMeant (reverse_of o) t x i e.0) in
         subst P (sym same) (patterns_found p x got t i e place);
     anchored = λ t i e place.
         let P : Automaton → Type 0 = λ a. Has same_pair e (ends_from a t (i, a.start_anchored)) ↔ IsChoice (reverse_of o) xs t i e in

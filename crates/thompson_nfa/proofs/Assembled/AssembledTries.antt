@@ -183,7 +183,7 @@ module _ (o : Options) (xs : List Tree) (b : Assembly) (A U : ℕ) (is : IsAssem
     further_ends : (i : ℕ) → i < t.end → from (i, new_name b.drafts x.byte) ≡ from (suc i, new_name b.drafts U)
     further_ends i less =
         byte_ends_are i (suc i ∷ []) (omega arith) (ends_forward t i text less)
-            ∙ ends_again o xs b A U is t (suc i, new_name b.drafts x.back)
+        ∙ ends_again o xs b A U is t (suc i, new_name b.drafts x.back)
         ∙ ap (λ (k : ℕ). from (suc i, k)) back_is
 
     last_ends : (i : ℕ) → i ≡ t.end → from (i, new_name b.drafts x.byte) ≡ []

@@ -85,7 +85,7 @@ ascii_ends h i ranges e = elim (slice_get_cases h i).1 [
             ap (λ (o : Option ℕ). class_end ranges o i) x.2
             ∙ cond-false _ _ _ (no_member ranges b e g)
             ∙ sym (none_there ranges h i e (λ c rest at l. let same = heads b c (drop (suc i) h) rest (sym here ∙ at) in
-                absurd (omega arith)))
+            absurd (omega arith)))
       ]
   | inr o ↦
       ap (λ (c : Option ℕ). class_end ranges c i) o.1
@@ -119,7 +119,7 @@ byte_range_at low (r ∷ rs) zero d up e l =
     (omega arith, omega arith)
 byte_range_at low (r ∷ rs) (suc k) d up e l =
     byte_range_at (r.1 + 1) rs k d (and_parts (nat_le low r.0 && nat_le r.0 r.1) (rises_from (r.1 + 1) rs) up).1
-        (and_parts (nat_lt r.1 0x80) (is_ascii rs) e).1 (omega arith)
+    (and_parts (nat_lt r.1 0x80) (is_ascii rs) e).1 (omega arith)
 
 pub ascii_range_at : (ranges : List (ℕ × ℕ)) (k : ℕ) (d : ℕ × ℕ) → is_ascending ranges ≡ true → is_ascii ranges ≡ true → k < length ranges →
     IsByteRange (get_or ranges k d)

@@ -46,13 +46,19 @@ gained_more old mid new xs ys a b =
     λ s h. subst (λ (l : List (List (ℕ × ℕ))). IsIn l s) (turned_append xs ys) h in
     record {
       only = λ s h. elim (b.only s h) [
-        | inl before ↦ elim (a.only s before) [ inl first ↦ inl first | inr x ↦
-            inr (whole s (in_left (turned_round xs) (turned_round ys) s x)) ]
+        | inl before ↦ elim (a.only s before) [
+          | inl first ↦ inl first
+          | inr x ↦
+              inr (whole s (in_left (turned_round xs) (turned_round ys) s x))
+        ]
         | inr y ↦ inr (whole s (in_right (turned_round xs) (turned_round ys) s y))
       ];
       kept = λ s h. b.kept s (a.kept s h);
-      added = λ s h. elim (in_append (turned_round xs) (turned_round ys) s (parts s h)) [ inl x ↦ b.kept s (a.added s x) | inr y ↦
-          b.added s y ];
+      added = λ s h. elim (in_append (turned_round xs) (turned_round ys) s (parts s h)) [
+        | inl x ↦ b.kept s (a.added s x)
+        | inr y ↦
+            b.added s y
+      ];
     }
 
 -- ---- the strings stay spellings
@@ -65,7 +71,7 @@ class_turned rs s h =
 range_turned : (lo hi : ℕ) (s : List ℕ) → IsIn (turned_round (utf8_sequences lo hi)) s → IsTurnedSpelling s
 range_turned lo hi s h =
     class_turned ((lo, hi) ∷ []) s (subst (λ (l : List (List (ℕ × ℕ))). IsIn (turned_round l) s)
-        (sym (append-nil (utf8_sequences lo hi))) h)
+    (sym (append-nil (utf8_sequences lo hi))) h)
 
 -- ---- the sequences of one range
 
@@ -94,7 +100,7 @@ next_gained old mid new left rest all q so_far e one = record {
 pub all_gained : (old new left all : List (List (ℕ × ℕ))) → GainsTo old new left all → left ≡ [] → GainsTurned old all new
 all_gained old new left all so_far none =
     let whole : so_far.met ≡ all = sym (append-nil so_far.met) ∙ ap (λ (l : List (List (ℕ × ℕ))). so_far.met ++ l) (sym none)
-        ∙ so_far.split in
+    ∙ so_far.split in
     subst (λ (l : List (List (ℕ × ℕ))). GainsTurned old l new) whole so_far.gained
 
 ranges_from : (q : List (ℕ × ℕ)) → ((k : ℕ) (r : ℕ × ℕ) → slice_get q k ≡ Some r → (r.0 ≤ r.1) × (r.1 < 256)) → AreRanges q
@@ -106,7 +112,7 @@ module _ (old mid left rest : List (List (ℕ × ℕ))) (lo hi : ℕ) (q : List 
   placed : slice_get (utf8_sequences lo hi) (length so_far.met) ≡ Some q
   placed =
       ap (λ (l : List (List (ℕ × ℕ))). slice_get l (length so_far.met)) (sym so_far.split
-          ∙ ap (λ (l : List (List (ℕ × ℕ))). so_far.met ++ l) e)
+      ∙ ap (λ (l : List (List (ℕ × ℕ))). so_far.met ++ l) e)
       ∙ got_behind so_far.met q rest
 
   pub next_ranges : AreRanges q
@@ -120,7 +126,7 @@ module _ (old mid left rest : List (List (ℕ × ℕ))) (lo hi : ℕ) (q : List 
     | inl first ↦ before s first
     | inr met ↦ range_turned lo hi s
         (subst (λ (l : List (List (ℕ × ℕ))). IsIn l s) (sym (turned_append so_far.met left)
-            ∙ ap turned_round so_far.split) (in_left (turned_round so_far.met) (turned_round left) s met))
+        ∙ ap turned_round so_far.split) (in_left (turned_round so_far.met) (turned_round left) s met))
   ]
 
 -- ---- the sequences of all ranges
@@ -134,7 +140,7 @@ class_spelled new rs g s h = elim (g.only s h) [ inl none ↦ absurd none | inr 
 pub class_next : (mid new : List (List (ℕ × ℕ))) (i : ℕ) (ranges : List (ℕ × ℕ)) (d : ℕ × ℕ) → i < length ranges →
     GainsTurned [] (sequences_of (take i ranges)) mid →
     GainsTurned mid (utf8_sequences (get_or ranges i d).0 (get_or ranges i d).1) new →
-        GainsTurned [] (sequences_of (take (i + 1) ranges)) new
+    GainsTurned [] (sequences_of (take (i + 1) ranges)) new
 class_next mid new i ranges d less so_far more =
     let here : ℕ × ℕ = get_or ranges i d in
     let joined : sequences_of (take i ranges) ++ utf8_sequences here.0 here.1 ≡ sequences_of (take (i + 1) ranges) =
@@ -142,11 +148,11 @@ class_next mid new i ranges d less so_far more =
     ∙ sym (flat_map-append (λ (r : ℕ × ℕ). utf8_sequences r.0 r.1) (take i ranges) (here ∷ []))
     ∙ ap sequences_of (sym (take_more ranges i d less)) in
     subst (λ (l : List (List (ℕ × ℕ))). GainsTurned [] l new) joined (gained_more [] mid new (sequences_of (take i ranges))
-        (utf8_sequences here.0 here.1) so_far more)
+    (utf8_sequences here.0 here.1) so_far more)
 
 pub class_whole : (new : List (List (ℕ × ℕ))) (i : ℕ) (ranges : List (ℕ × ℕ)) → GainsTurned [] (sequences_of (take i ranges)) new →
     length ranges ≤ i → HasTurned new (sequences_of ranges)
 class_whole new i ranges so_far past =
     let g : GainsTurned [] (sequences_of ranges) new = subst (λ (rs : List (ℕ × ℕ)). GainsTurned [] (sequences_of rs) new)
-        (take_all i ranges past) so_far in
+    (take_all i ranges past) so_far in
     record { only = λ s h. elim (g.only s h) [ inl none ↦ absurd none | inr in_class ↦ in_class ]; kept = g.added }

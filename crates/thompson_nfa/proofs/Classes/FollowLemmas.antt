@@ -55,7 +55,7 @@ last_behind : (qs xs : List (List (ℕ × ℕ))) → last_of (qs ++ xs) ≡ last
 last_behind qs [] = ap last_of (append-nil qs)
 last_behind qs (x ∷ xs) =
     ap last_of (sym (append_assoc qs (x ∷ []) xs)) ∙ last_behind (qs ++ x ∷ []) xs
-        ∙ ap (λ (p : List (ℕ × ℕ)). last_after p xs) (last_pushed qs x)
+    ∙ ap (λ (p : List (ℕ × ℕ)). last_after p xs) (last_pushed qs x)
 
 -- ---- the sequences of a class
 
@@ -96,7 +96,7 @@ follow_pieces low hi (x ∷ ps) p l below up short =
     let s = short 0 (byte_ranges x) refl in
     let least = up.0 in let most = up.1 in
     let later = follow_pieces (x.1 + 1) hi ps (byte_ranges x) (omega arith) (inr (x.0, x.1, refl, up.2, omega arith)) up.3
-        (λ i rs e. short (suc i) rs e) in
+    (λ i rs e. short (suc i) rs e) in
     ((s.0, s.1, bytes_by (byte_ranges x) s.2, comes_after p low x.0 x.1 below up.2 up.0, later.0), later.1)
 
 pub rising : (low : ℕ) (r : ℕ × ℕ) (rs : List (ℕ × ℕ)) → rises_from low (r ∷ rs) ≡ true → (low ≤ r.0) × (r.0 ≤ r.1) ×
@@ -113,9 +113,9 @@ follow_ranges low (r ∷ rs) p below up =
     let x = rising low r rs up in
     let some = x.1 in
     let here = follow_pieces r.0 r.1 (pieces r.0 r.1) p (omega arith) (below_more p low r.0 x.0 below) (rises (r.1 + 1 - r.0) r.0 r.1)
-        (λ i q e. sequence_short r.0 r.1 i q e) in
+    (λ i q e. sequence_short r.0 r.1 i q e) in
     follow_append p (utf8_sequences r.0 r.1) (sequences_of rs) here.0 (follow_ranges (r.1 + 1) rs
-        (last_after p (utf8_sequences r.0 r.1)) here.1 x.2)
+    (last_after p (utf8_sequences r.0 r.1)) here.1 x.2)
 
 -- ---- the sequences of one range, as far as they were added
 
@@ -166,7 +166,7 @@ module _ (b0 b : Assembly) (e0 e : ℕ) (c0 c : SlotTable (List Transition)) (n0
 
     pub one_added : (b1 : Assembly) (e1 : ℕ) (c1 : SlotTable (List Transition)) (n1 : List Stage) →
         ((old : Assembly) (qs : List (List (ℕ × ℕ))) → IsCompiling old b e c n qs → IsCompiling old b1 e1 c1 n1 (qs ++ rs ∷ [])) →
-            AddsTo b0 b1 e0 e1 c0 c1 n0 n1 rest all
+        AddsTo b0 b1 e0 e1 c0 c1 n0 n1 rest all
     one_added b1 e1 c1 n1 added =
         let next = added o.old (o.before ++ a.met) now_compiling in
         let P : List (ℕ × ℕ) → Type 0 = λ p. CanFollow p rest in
@@ -235,23 +235,27 @@ module _ (a b : Assembly) (e : ℕ) (c : SlotTable (List Transition)) (n : List 
 
   pub next_range : (b1 : Assembly) (e1 : ℕ) (c1 : SlotTable (List Transition)) (n1 : List Stage) →
       ((old : Assembly) (qs : List (List (ℕ × ℕ))) → IsCompiling old b e c n qs →
-          IsCompiling old b1 e1 c1 n1 (qs ++ utf8_sequences here.0 here.1)) → RangesTo a b1 e1 c1 n1 (i + 1) ranges
+      IsCompiling old b1 e1 c1 n1 (qs ++ utf8_sequences here.0 here.1)) → RangesTo a b1 e1 c1 n1 (i + 1) ranges
   next_range b1 e1 c1 n1 added =
       let next = added a (sequences_of (take i ranges)) so_far.is in
       let P : List (ℕ × ℕ) → Type 0 = λ p. CanFollow p rest in
       let Q : List (List (ℕ × ℕ)) → Type 0 = λ l. IsCompiling a b1 e1 c1 n1 l in
       let path : path_of n1 ≡ last_after (path_of n) (utf8_sequences here.0 here.1) =
       next.path ∙ last_behind (sequences_of (take i ranges)) (utf8_sequences here.0 here.1)
-          ∙ ap (λ (p : List (ℕ × ℕ)). last_after p (utf8_sequences here.0 here.1)) (sym so_far.is.path) in
-      record { is = subst Q more_sequences next; order = subst P (sym path)
-          (follow_rest (path_of n) (utf8_sequences here.0 here.1) rest both_follow); within = omega arith }
+      ∙ ap (λ (p : List (ℕ × ℕ)). last_after p (utf8_sequences here.0 here.1)) (sym so_far.is.path) in
+      record {
+        is = subst Q more_sequences next;
+        order = subst P (sym path)
+            (follow_rest (path_of n) (utf8_sequences here.0 here.1) rest both_follow);
+        within = omega arith;
+      }
 
   pub range_refused : (new : Assembly) (err : BuildError) →
       ((old : Assembly) (qs : List (List (ℕ × ℕ))) → IsCompiling old b e c n qs →
-          Quits old new (2 + 4 * length (qs ++ utf8_sequences here.0 here.1)) err) → Quits a new (count (char_class ranges)) err
+      Quits old new (2 + 4 * length (qs ++ utf8_sequences here.0 here.1)) err) → Quits a new (count (char_class ranges)) err
   range_refused new err refused =
       let counted : length (sequences_of (take i ranges) ++ utf8_sequences here.0 here.1) ≡ sequence_count (take (i + 1) ranges) =
-          ap length more_sequences ∙ sequences_counted (take (i + 1) ranges) in
+      ap length more_sequences ∙ sequences_counted (take (i + 1) ranges) in
       let part = sequence_count_some ranges (i + 1) in
       quits_capped (count (char_class ranges))
       (quits_capped (2 + 4 * sequence_count ranges) (refused a (sequences_of (take i ranges)) so_far.is) (omega (arith, counted, part)))

@@ -69,8 +69,12 @@ pub more_states : (old b c : Assembly) (end most id : ℕ) (trans : List (ℕ ×
 more_states old b c end most id trans h up named (inl same) =
     let P : Assembly → Type 0 = λ z. More old b z end most in
     subst P (sym same) (record { now = most; least = omega arith; has = h; grows = grows_refl b })
-more_states old b c end most id trans h up named (inr x) = record { now = most + 1; least = omega arith;
-    has = has_added old b c end most id trans h x up named; grows = x.grows }
+more_states old b c end most id trans h up named (inr x) = record {
+  now = most + 1;
+  least = omega arith;
+  has = has_added old b c end most id trans h x up named;
+  grows = x.grows;
+}
 
 -- ---- branches and nodes
 
@@ -154,7 +158,7 @@ module _ (back : Bool) (T : Table) (e : ℕ) where
       let y : Tree = limb_tree back above in
       subst P (all_trees l.branches l.last.0 l.last.1 next y)
       (denotes_branches back T id e (frozen_with next (stage_of l)) (map tree_of l.branches
-          ++ y ∷ []) is (rises_ascends (frozen_with next (stage_of l)) up)
+      ++ y ∷ []) is (rises_ascends (frozen_with next (stage_of l)) up)
       (lead_all l.branches l.last.0 l.last.1 next y lead d))
 
 -- the last node
@@ -238,7 +242,7 @@ module _ (old b c : Assembly) (end : ℕ) (ls0 : List Limb) (ns ms : List Stage)
       let P : Stage → Type 0 = λ s. All (λ q. q < length c.drafts) (names_of (sparse_draft (frozen_with next s))) in
       let branches = (below_back (length b.drafts) at_top.init (at_top.last ∷ []) top_below).0 in
       subst P (sym at_top.top_is) (names_below (length c.drafts) at_top.last.last.0 at_top.last.last.1 next at_top.last.branches
-          (branches_wider (length b.drafts) (length c.drafts) at_top.last.branches longer branches) (omega arith))
+      (branches_wider (length b.drafts) (length c.drafts) at_top.last.branches longer branches) (omega arith))
 
   longer_by : (c ≡ b) ⊎ Added b c id (sparse_draft (frozen_with next top.top)) b.groups → length b.drafts ≤ length c.drafts
   longer_by (inl same) = let e : length c.drafts ≡ length b.drafts = ap (λ (z : Assembly). length z.drafts) same in omega arith
@@ -253,7 +257,7 @@ module _ (old b c : Assembly) (end : ℕ) (ls0 : List Limb) (ns ms : List Stage)
       let more = top_more in let least = more.least in let room = p.room in let behind = top.compiles.behind in
       let shorter : length ns ≡ length ms + 1 = ap length top.split ∙ length-append ms (top.top ∷ []) in
       let before : (table : Table) → Finishes end c.drafts end table → Finishes end b.drafts end table =
-          λ table fin. finishes_before b c end table more.grows fin in
+      λ table fin. finishes_before b c end table more.grows fin in
       record {
         most = more.now;
         has = more.has;
@@ -271,10 +275,10 @@ module _ (old b c : Assembly) (end : ℕ) (ls0 : List Limb) (ns ms : List Stage)
             let P : Stage → Type 0 = λ s. table id ≡ sparse_draft (frozen_with next s) in
             let Q : Stage → Type 0 = λ s. RisesIn 0 (frozen_with next s) in
             let is = subst P at_top.top_is (fin id (omega arith) top.compiles.there (λ (same : id ≡ end). omega arith)
-                ∙ top.compiles.here) in
+            ∙ top.compiles.here) in
             node_leads old.reverse table end id next at_top.last p.rest is (subst Q at_top.top_is top.compiles.rises)
             (lead_back old.reverse table end at_top.init (at_top.last ∷ []) (top_leads table (before table fin))).0
-                (p.next_leads table (before table fin));
+            (p.next_leads table (before table fin));
       }
 
 pub popped_all : (old b0 : Assembly) (end : ℕ) (ls0 : List Limb) (ns0 : List Stage) (bound : ℕ) → Popped old b0 end ls0 ns0 end bound →
@@ -290,6 +294,6 @@ pub until_quits : (old b0 new : Assembly) (end : ℕ) (compiled : SlotTable (Lis
     PopsUntil end b0 new ns0 e → Quits old new (2 + 4 * length qs) e
 until_quits old b0 new end compiled ns0 qs e c r =
     let p = popped_all old b0 end c.limbs ns0 (1 + 4 * length qs) (popped_none old b0 end compiled ns0 qs c) r.middle r.stack r.next
-        r.pops in
+    r.pops in
     let room = p.room in
     then_quits (2 + 4 * length qs) (has_progress p.has) r.stays (omega arith) (omega arith)

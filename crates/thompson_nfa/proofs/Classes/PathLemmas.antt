@@ -87,7 +87,7 @@ whole_is back (n ∷ front) l ls = refl
 grown_stage : (next : ℕ) (x : Tree) (range : ℕ × ℕ) (l : Limb) → stage_of (grown next x range l) ≡ advanced next range (stage_of l)
 grown_stage next x range l =
     ap (λ (es : List (ℕ × ℕ × ℕ)). record { frozen = es; last = range })
-        (map-append edge l.branches (record { low = l.last.0; high = l.last.1; next = next; tree = x } ∷ []))
+    (map-append edge l.branches (record { low = l.last.0; high = l.last.1; next = next; tree = x } ∷ []))
 
 four_more : (n k most : ℕ) (qs : List (List (ℕ × ℕ))) (q : List (ℕ × ℕ)) → n ≤ 1 + 4 * length qs → most ≤ n + 4 →
     most ≤ 1 + 4 * length (qs ++ q ∷ [])
@@ -98,7 +98,7 @@ four_more n k most qs q le more = omega (arith, length-append qs (q ∷ []), le,
 module _ (old b0 b1 : Assembly) (end : ℕ) (compiled table1 : SlotTable (List Transition)) (ns0 ns1 ns2 : List Stage)
     (qs : List (List (ℕ × ℕ))) (q : List (ℕ × ℕ)) (range : ℕ × ℕ) (at : ℕ)
     (c : IsCompiling old b0 end compiled ns0 qs) (t : Turns end b0 b1 ns0 ns1 range at) (parts : PartsAt (path_of ns0) q at)
-        (is_range : range ≡ parts.other) (bytes : AreBytes q) (few : length q ≤ 4)
+    (is_range : range ≡ parts.other) (bytes : AreBytes q) (few : length q ≤ 4)
     (pushed : ns2 ≡ ns1 ++ map fresh (drop (at + 1) q)) (keeps : Keeps b1 end table1) where
   p : Popped old b1 end c.limbs t.stack t.next (1 + 4 * length qs)
   p = popped_all old b0 end c.limbs ns0 (1 + 4 * length qs) (popped_none old b0 end compiled ns0 qs c) b1 t.stack t.next t.pops
@@ -131,7 +131,7 @@ module _ (old b0 b1 : Assembly) (end : ℕ) (compiled table1 : SlotTable (List T
       let three : length t.rest ≡ length (map stage_of l.init) = ap length l.ms_is in
       let place = t.place in let here = parts.place in
       same_split (lasts l.init) parts.before l.last.last parts.one (lasts p.rest) parts.one_rest (sym old_path
-          ∙ parts.one_is) (omega (arith, one, two, three, place, here))
+      ∙ parts.one_is) (omega (arith, one, two, three, place, here))
 
   q_is : lasts l.init ++ range ∷ behind ≡ q
   q_is = ap (λ (xs : List (ℕ × ℕ)). xs ++ range ∷ behind) before_is.0 ∙ ap (λ (r : ℕ × ℕ). parts.before ++ r ∷ behind) is_range
@@ -141,7 +141,7 @@ module _ (old b0 b1 : Assembly) (end : ℕ) (compiled table1 : SlotTable (List T
   left_is =
       let place : at + 1 ≡ suc (length parts.before) = let e = parts.place in omega (arith, e) in
       ap (λ k. drop k q) place ∙ ap (λ (xs : List (ℕ × ℕ)). drop (suc (length parts.before)) xs) parts.other_is
-          ∙ drop_behind parts.before parts.other behind
+      ∙ drop_behind parts.before parts.other behind
 
   nodes : ns2 ≡ t.rest ++ advanced t.next range t.top ∷ map fresh behind
   nodes =
@@ -151,7 +151,7 @@ module _ (old b0 b1 : Assembly) (end : ℕ) (compiled table1 : SlotTable (List T
   new_nodes : ns2 ≡ map stage_of limbs
   new_nodes =
       let top : advanced t.next range t.top ≡ stage_of node = ap (λ (s : Stage). advanced t.next range s) l.top_is
-          ∙ sym (grown_stage t.next above range l.last) in
+      ∙ sym (grown_stage t.next above range l.last) in
       nodes ∙ ap (λ (ns : List Stage). ns ++ advanced t.next range t.top ∷ map fresh behind) l.ms_is
       ∙ ap (λ (s : Stage). map stage_of l.init ++ s ∷ map fresh behind) top
       ∙ ap (λ (ns : List Stage). map stage_of l.init ++ stage_of node ∷ ns) (sym (fresh_stages behind))
@@ -179,7 +179,7 @@ module _ (old b0 b1 : Assembly) (end : ℕ) (compiled table1 : SlotTable (List T
       let last : path_of (map stage_of limbs) ≡ lasts l.init ++ range ∷ behind =
       path_lasts limbs ∙ map-append (λ (n : Limb). n.last) l.init (node ∷ map fresh_limb behind)
       ∙ ap (λ (xs : List (ℕ × ℕ)). lasts l.init ++ range ∷ xs) (sym (path_lasts (map fresh_limb behind)) ∙ ap path_of (fresh_stages behind)
-          ∙ fresh_path behind) in
+      ∙ fresh_path behind) in
       ap path_of new_nodes ∙ last ∙ q_is ∙ sym (last_pushed qs q)
 
   front_below : LimbsBelow (length b1.drafts) (l.init ++ l.last ∷ [])
@@ -193,10 +193,10 @@ module _ (old b0 b1 : Assembly) (end : ℕ) (compiled table1 : SlotTable (List T
       let room = p.room in
       let stack : length t.stack ≡ length t.rest + 1 = ap length t.split ∙ length-append t.rest (t.top ∷ []) in
       let new : length ns2 ≡ length t.rest + suc (length (map fresh behind)) =
-          ap length nodes ∙ length-append t.rest (advanced t.next range t.top ∷ map fresh behind) in
+      ap length nodes ∙ length-append t.rest (advanced t.next range t.top ∷ map fresh behind) in
       let later : length (map fresh behind) ≡ length behind = length-map behind fresh in
       let whole : length q ≡ length parts.before + suc (length behind) =
-          ap length parts.other_is ∙ length-append parts.before (parts.other ∷ behind) in
+      ap length parts.other_is ∙ length-append parts.before (parts.other ∷ behind) in
       four_more (p.most + length t.stack) 0 (p.most + length ns2) qs q room (omega (arith, stack, new, later, whole, few))
 
   new_reads : ReadsAs (whole_tree old.reverse limbs) (alternation (map (read_tree old.reverse) (qs ++ q ∷ [])))
@@ -204,13 +204,13 @@ module _ (old b0 b1 : Assembly) (end : ℕ) (compiled table1 : SlotTable (List T
       let back = old.reverse in
       let P : Tree → Type 0 = λ x. ReadsAs x (alternation (map (read_tree back) (qs ++ q ∷ []))) in
       let R : List (ℕ × ℕ) → Type 0 = λ xs. ReadsAs (limb_tree back limbs)
-          (alt (limb_tree back (l.init ++ l.last ∷ p.rest)) (read_tree back xs)) in
+      (alt (limb_tree back (l.init ++ l.last ∷ p.rest)) (read_tree back xs)) in
       let W : Tree → Type 0 = λ y. ReadsAs y (alternation (map (read_tree back) qs)) in
       let was : ReadsAs (limb_tree back (l.init ++ l.last ∷ p.rest)) (alternation (map (read_tree back) qs)) =
-          subst W (ap (whole_tree back) old_limbs ∙ whole_is back l.init l.last p.rest) c.reads in
+      subst W (ap (whole_tree back) old_limbs ∙ whole_is back l.init l.last p.rest) c.reads in
       subst P (sym (whole_is back l.init node (map fresh_limb behind)))
       (more_reads back (limb_tree back limbs) (limb_tree back (l.init ++ l.last ∷ p.rest)) qs q was
-          (subst R q_is (turned_reads back l.init t.next range l.last p.rest behind)))
+      (subst R q_is (turned_reads back l.init t.next range l.last p.rest behind)))
 
   pub sequence_turned : IsCompiling old b1 end table1 ns2 (qs ++ q ∷ [])
   sequence_turned = record {
@@ -224,15 +224,24 @@ module _ (old b0 b1 : Assembly) (end : ℕ) (compiled table1 : SlotTable (List T
     nodes_are = new_nodes;
     below = below_both (length b1.drafts) l.init (node ∷ map fresh_limb behind)
         (below_front (length b1.drafts) l.init (l.last ∷ []) front_below) (
-      branches_push (length b1.drafts) l.last.branches (record { low = l.last.last.0; high = l.last.last.1; next = t.next; tree = above })
-          (below_back (length b1.drafts) l.init (l.last ∷ []) front_below).0 p.next_there,
-      fresh_below (length b1.drafts) behind,
-    );
+          branches_push (length b1.drafts) l.last.branches (record {
+            low = l.last.last.0;
+            high = l.last.last.1;
+            next = t.next;
+            tree = above;
+          })
+              (below_back (length b1.drafts) l.init (l.last ∷ []) front_below).0 p.next_there,
+          fresh_below (length b1.drafts) behind,
+        );
     leads = λ table fin.
         lead_both old.reverse table end l.init (node ∷ map fresh_limb behind)
-            (lead_front old.reverse table end l.init (l.last ∷ []) (front_leads table fin)) (
-          lead_push old.reverse table end l.last.branches (record { low = l.last.last.0; high = l.last.last.1; next = t.next;
-              tree = above })
+        (lead_front old.reverse table end l.init (l.last ∷ []) (front_leads table fin)) (
+          lead_push old.reverse table end l.last.branches (record {
+            low = l.last.last.0;
+            high = l.last.last.1;
+            next = t.next;
+            tree = above;
+          })
               (lead_back old.reverse table end l.init (l.last ∷ []) (front_leads table fin)).0 (p.next_leads table fin),
           fresh_lead old.reverse table end behind,
         );
@@ -299,8 +308,11 @@ none_held (suc n) (suc at) = none_held n at
 empty_keeps : (b : Assembly) (end capacity : ℕ) → end < length b.drafts → Keeps b end (empty_table capacity)
 empty_keeps b end capacity there =
     let P : Option (List Transition × ℕ) → Type 0 = λ o. IsKept b end o in
-    record { end_there = there; ready = eq-eqb (length (replicate capacity nothing_held)) capacity (length-replicate capacity nothing_held);
-        kept = λ at. subst P (sym (none_held capacity at)) tt }
+    record {
+      end_there = there;
+      ready = eq-eqb (length (replicate capacity nothing_held)) capacity (length-replicate capacity nothing_held);
+      kept = λ at. subst P (sym (none_held capacity at)) tt;
+    }
 
 pub compile_begun : (a b : Assembly) (end capacity : ℕ) (compiled : SlotTable (List Transition)) (ns : List Stage) →
     Added a b end (empty_draft 0) a.groups → compiled ≡ empty_table capacity → ns ≡ [] →
@@ -364,7 +376,7 @@ module _ (old b : Assembly) (end start n : ℕ) (x : Tree) (c : IsWholePath old 
       let P : ℕ → Type 0 = λ k. ComesOut table target k in
       ⊎_elim
       (λ (same : q ≡ end). subst P (sym same) (out_next table target end target (ap stands_for (closed_end table target fin))
-          (out_at table target)))
+      (out_at table target)))
       (λ (other : q ≡ end → ⊥). out_here table target q (ap stands_for (fin.states q low high other) ∙ c.has.stands q (omega arith) high))
       (cases_eq q end))
 
@@ -372,7 +384,7 @@ module _ (old b : Assembly) (end start n : ℕ) (x : Tree) (c : IsWholePath old 
   closed_does = record {
     denotes = λ table target fin.
         denotes_then_empty old.reverse table start end target x (c.denotes table (closed_states table target fin))
-            (denotes_empty old.reverse table end target (closed_end table target fin));
+        (denotes_empty old.reverse table end target (closed_end table target fin));
     looks = adds_none old.reverse x old b (quiet_plain c.has.grows c.has.tame) c.met;
   }
 
@@ -405,7 +417,7 @@ module _ (old b0 b : Assembly) (end : ℕ) (compiled : SlotTable (List Transitio
       let rest : c.limbs ≡ p.rest = p.split ∙ ap (λ (l : List Limb). l ++ p.rest) none in
       let long : length c.limbs ≡ length ns0 = sym (length-map c.limbs stage_of) ∙ sym (ap length c.nodes_are) in
       let same : limb_tree back p.rest ≡ whole_tree back c.limbs = sym (ap (limb_tree back) rest)
-          ∙ sym (whole_some back c.limbs (omega (arith, long, some))) in
+      ∙ sym (whole_some back c.limbs (omega (arith, long, some))) in
       let room = p.room in
       record {
         most = p.most;
@@ -457,16 +469,26 @@ pub first_quit : (end : ℕ) (b : Assembly) (compiled : SlotTable (List Transiti
     QuitsAll end b b compiled ns e
 first_quit end b compiled ns e is =
     let P : BuildError → Type 0 = λ x. PopsUntil end b b ns x in
-    all_quit end b b compiled ns e (subst P (sym is) (record { middle = b; stack = ns; next = end; pops = pops_none;
-        stays = record { same = refl; cause = tt } }))
+    all_quit end b b compiled ns e (subst P (sym is) (record {
+      middle = b;
+      stack = ns;
+      next = end;
+      pops = pops_none;
+      stays = record { same = refl; cause = tt };
+    }))
 
 pub turned_quit : (end : ℕ) (b0 b1 : Assembly) (compiled : SlotTable (List Transition)) (ns0 ns1 : List Stage) (range : ℕ ×
     ℕ) (at : ℕ) (e : BuildError) → Turns end b0 b1 ns0 ns1 range at → e ≡ NoMemory →
     QuitsAll end b0 b1 compiled ns0 e
 turned_quit end b0 b1 compiled ns0 ns1 range at e t is =
     let P : BuildError → Type 0 = λ x. PopsUntil end b0 b1 ns0 x in
-    all_quit end b0 b1 compiled ns0 e (subst P (sym is) (record { middle = b1; stack = t.stack; next = t.next; pops = t.pops;
-        stays = record { same = refl; cause = tt } }))
+    all_quit end b0 b1 compiled ns0 e (subst P (sym is) (record {
+      middle = b1;
+      stack = t.stack;
+      next = t.next;
+      pops = t.pops;
+      stays = record { same = refl; cause = tt };
+    }))
 
 pub compiling_as : (old b : Assembly) (end first : ℕ) (compiled table : SlotTable (List Transition)) (ns : List Stage)
     (qs : List (List (ℕ × ℕ))) → end ≡ first → compiled ≡ table → IsCompiling old b first table ns qs →

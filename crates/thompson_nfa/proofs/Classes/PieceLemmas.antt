@@ -28,7 +28,7 @@ spelled_three c l h =
 spelled_four : (c : ℕ) → 0x10000 ≤ c → spelling_of c ≡ four c
 spelled_four c l =
     cond-false _ _ _ (lt-leb c 0x7F (omega arith)) ∙ cond-false _ _ _ (lt-leb c 0x7FF (omega arith))
-        ∙ cond-false _ _ _ (lt-leb c 0xFFFF (omega arith))
+    ∙ cond-false _ _ _ (lt-leb c 0xFFFF (omega arith))
 
 -- ---- pieces by the length of their spellings
 
@@ -108,15 +108,20 @@ two_before f e g h l m less a b = elim (at_64 f e g h l m less a.0 b.0) [
 
 -- the last two ranges, in one block of 4096
 rest_before : (f e g h : ℕ) → f ≤ e → g ≤ h → e < g → Aligned 64 f e → Aligned 64 g h → e / 4096 ≡ g / 4096 →
-    IsBefore ((128 + (f / 64) % 64, 128 + (e / 64) % 64) ∷ (128 + f % 64, 128 + e % 64) ∷ []) ((128 + (g / 64) % 64,
-        128 + (h / 64) % 64) ∷ (128 + g % 64, 128 + h % 64) ∷ [])
+    IsBefore ((128 + (f / 64) % 64, 128 + (e / 64) % 64) ∷ (128 + f % 64, 128 + e % 64) ∷ []) ((
+      128 + (g / 64) % 64,
+      128 + (h / 64) % 64,
+    ) ∷ (128 + g % 64, 128 + h % 64) ∷ [])
 rest_before f e g h l m less a b same = elim (at_64 f e g h l m less a b) [
   | inl c ↦ inl (omega arith)
   | inr c ↦
       let p : f / 64 ≡ g / 64 = c.0 ∙ c.2 in
       let q : e / 64 ≡ h / 64 = c.2 ∙ c.1 in
-      inr (same_range (128 + (f / 64) % 64) (128 + (e / 64) % 64) (128 + (g / 64) % 64) (128 + (h / 64) % 64) (ap (λ k. 128 + k % 64) p)
-          (ap (λ k. 128 + k % 64) q), last_before f e g h less c.2)
+      inr (
+        same_range (128 + (f / 64) % 64) (128 + (e / 64) % 64) (128 + (g / 64) % 64) (128 + (h / 64) % 64) (ap (λ k. 128 + k % 64) p)
+            (ap (λ k. 128 + k % 64) q),
+        last_before f e g h less c.2,
+      )
 ]
 
 three_before : (f e g h : ℕ) → f ≤ e → g ≤ h → e < g → Blocks f e → Blocks g h →
@@ -124,14 +129,18 @@ three_before : (f e g h : ℕ) → f ≤ e → g ≤ h → e < g → Blocks f e 
 three_before f e g h l m less a b = elim (at_4096 f e g h l m less a.1 b.1) [
   | inl c ↦ inl (omega arith)
   | inr c ↦ let x = c.0 in let y = c.1 in let z = c.2 in
-      inr (same_range (224 + f / 4096) (224 + e / 4096) (224 + g / 4096) (224 + h / 4096) (omega arith) (omega arith),
-          rest_before f e g h l m less a.0 b.0 c.2)
+      inr (
+        same_range (224 + f / 4096) (224 + e / 4096) (224 + g / 4096) (224 + h / 4096) (omega arith) (omega arith),
+        rest_before f e g h l m less a.0 b.0 c.2,
+      )
 ]
 
 -- the last three, in one block of 262144
 later_before : (f e g h : ℕ) → f ≤ e → g ≤ h → e < g → Blocks f e → Blocks g h → e / 262144 ≡ g / 262144 →
-    IsBefore ((128 + (f / 4096) % 64, 128 + (e / 4096) % 64) ∷ (128 + (f / 64) % 64, 128 + (e / 64) % 64) ∷ (128 + f % 64,
-        128 + e % 64) ∷ [])
+    IsBefore ((128 + (f / 4096) % 64, 128 + (e / 4096) % 64) ∷ (128 + (f / 64) % 64, 128 + (e / 64) % 64) ∷ (
+      128 + f % 64,
+      128 + e % 64,
+    ) ∷ [])
     ((128 + (g / 4096) % 64, 128 + (h / 4096) % 64) ∷ (128 + (g / 64) % 64, 128 + (h / 64) % 64) ∷ (128 + g % 64, 128 + h % 64) ∷ [])
 later_before f e g h l m less a b same = elim (at_4096 f e g h l m less a.1 b.1) [
   | inl c ↦ inl (omega arith)
@@ -149,8 +158,10 @@ four_before : (f e g h : ℕ) → f ≤ e → g ≤ h → e < g → Blocks f e �
 four_before f e g h l m less a b = elim (at_262144 f e g h l m less a.2 b.2) [
   | inl c ↦ inl (omega arith)
   | inr c ↦ let x = c.0 in let y = c.1 in let z = c.2 in
-      inr (same_range (240 + f / 262144) (240 + e / 262144) (240 + g / 262144) (240 + h / 262144) (omega arith) (omega arith),
-          later_before f e g h l m less a b c.2)
+      inr (
+        same_range (240 + f / 262144) (240 + e / 262144) (240 + g / 262144) (240 + h / 262144) (omega arith) (omega arith),
+        later_before f e g h l m less a b c.2,
+      )
 ]
 
 before_by : (p q us vs : List (ℕ × ℕ)) → p ≡ us → q ≡ vs → IsBefore us vs → IsBefore p q

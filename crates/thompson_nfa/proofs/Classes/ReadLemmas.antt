@@ -54,8 +54,10 @@ as_snoc (x ∷ xs) z = as_trans (alt x (alternation (xs ++ z ∷ []))) (alt x (a
     (as_alt x (alternation (xs ++ z ∷ [])) x (alt (alternation xs) z) (as_itself x) (as_snoc xs z)) (alt_left x (alternation xs) z)
 
 snoc_as : (xs : List Tree) (z : Tree) → ReadsAs (alt (alternation xs) z) (alternation (xs ++ z ∷ []))
-snoc_as [] z = as_trans (alt never z) z (alt z never) (alt_last z) (record { reading = λ f. f.0;
-    ends = λ looks h i. sym (append-nil (preferred_ends looks h z i)) })
+snoc_as [] z = as_trans (alt never z) z (alt z never) (alt_last z) (record {
+  reading = λ f. f.0;
+  ends = λ looks h i. sym (append-nil (preferred_ends looks h z i));
+})
 snoc_as (x ∷ xs) z = as_trans (alt (alt x (alternation xs)) z) (alt x (alt (alternation xs) z)) (alt x (alternation (xs ++ z ∷ [])))
     (alt_right x (alternation xs) z)
     (as_alt x (alt (alternation xs) z) x (alternation (xs ++ z ∷ [])) (as_itself x) (snoc_as xs z))
@@ -103,7 +105,7 @@ fresh_reads back [] = as_itself (read_tree back [])
 fresh_reads back (r ∷ q) =
     let above : Tree = limb_tree back (map fresh_limb q) in
     as_trans (alt (read_then back r above) never) (read_then back r above) (read_then back r (read_tree back q))
-        (alt_one (read_then back r above)) (as_then back r above (read_tree back q) (fresh_reads back q))
+    (alt_one (read_then back r above)) (as_then back r above (read_tree back q) (fresh_reads back q))
 
 abbrev pub lasts : List Limb → List (ℕ × ℕ)
 lasts ls = map (λ l. l.last) ls
@@ -111,8 +113,8 @@ lasts ls = map (λ l. l.last) ls
 -- the top node, with its branches one after the other
 grown_tree : (back : Bool) (next : ℕ) (range : ℕ × ℕ) (l : Limb) (above new : List Limb) →
     limb_tree back (grown next (limb_tree back above) range l ∷ new) ≡ alternation
-        ((map (branch_tree back) l.branches ++ read_then back l.last (limb_tree back above) ∷ [])
-        ++ read_then back range (limb_tree back new) ∷ [])
+    ((map (branch_tree back) l.branches ++ read_then back l.last (limb_tree back above) ∷ [])
+    ++ read_then back range (limb_tree back new) ∷ [])
 grown_tree back next range l above new =
     ap (λ (xs : List Tree). alternation (xs ++ read_then back range (limb_tree back new) ∷ []))
     (map-append (branch_tree back) l.branches (record { low = l.last.0; high = l.last.1; next = next; tree = limb_tree back above } ∷ []))
@@ -120,7 +122,7 @@ grown_tree back next range l above new =
 -- a path that leaves the old one at a node reads one sequence more
 pub turned_reads : (back : Bool) (front : List Limb) (next : ℕ) (range : ℕ × ℕ) (l : Limb) (above : List Limb) (q : List (ℕ × ℕ)) →
     ReadsAs (limb_tree back (front ++ grown next (limb_tree back above) range l ∷ map fresh_limb q))
-        (alt (limb_tree back (front ++ l ∷ above)) (read_tree back (lasts front ++ range ∷ q)))
+    (alt (limb_tree back (front ++ l ∷ above)) (read_tree back (lasts front ++ range ∷ q)))
 turned_reads back [] next range l above q =
     let new : List Limb = map fresh_limb q in
     let old : List Tree = map (branch_tree back) l.branches ++ read_then back l.last (limb_tree back above) ∷ [] in
@@ -128,9 +130,9 @@ turned_reads back [] next range l above q =
     let P : Tree → Type 0 = λ x. ReadsAs x (alt (alternation old) (read_then back range (read_tree back q))) in
     subst P (sym (grown_tree back next range l above new))
     (as_trans (alternation (old ++ more ∷ [])) (alt (alternation old) more)
-        (alt (alternation old) (read_then back range (read_tree back q))) (as_snoc old more)
+    (alt (alternation old) (read_then back range (read_tree back q))) (as_snoc old more)
     (as_alt (alternation old) more (alternation old) (read_then back range (read_tree back q)) (as_itself (alternation old))
-        (as_then back range (limb_tree back new) (read_tree back q) (fresh_reads back q))))
+    (as_then back range (limb_tree back new) (read_tree back q) (fresh_reads back q))))
 turned_reads back (n ∷ front) next range l above q =
     let xs : List Tree = map (branch_tree back) n.branches in
     let now : Tree = limb_tree back (front ++ grown next (limb_tree back above) range l ∷ map fresh_limb q) in
@@ -139,19 +141,19 @@ turned_reads back (n ∷ front) next range l above q =
     let r : ℕ × ℕ = n.last in
     let step : ReadsAs (read_then back r now) (alt (read_then back r was) (read_then back r one)) =
     as_trans (read_then back r now) (read_then back r (alt was one)) (alt (read_then back r was) (read_then back r one))
-        (as_then back r now (alt was one) (turned_reads back front next range l above q)) (then_alt back r was one) in
+    (as_then back r now (alt was one) (turned_reads back front next range l above q)) (then_alt back r was one) in
     as_trans (alternation (xs ++ read_then back r now ∷ [])) (alt (alternation xs) (read_then back r now))
-        (alt (alternation (xs ++ read_then back r was ∷ [])) (read_then back r one)) (as_snoc xs (read_then back r now))
+    (alt (alternation (xs ++ read_then back r was ∷ [])) (read_then back r one)) (as_snoc xs (read_then back r now))
     (as_trans (alt (alternation xs) (read_then back r now)) (alt (alternation xs) (alt (read_then back r was) (read_then back r one)))
-        (alt (alternation (xs ++ read_then back r was ∷ [])) (read_then back r one))
+    (alt (alternation (xs ++ read_then back r was ∷ [])) (read_then back r one))
     (as_alt (alternation xs) (read_then back r now) (alternation xs) (alt (read_then back r was) (read_then back r one))
-        (as_itself (alternation xs)) step)
+    (as_itself (alternation xs)) step)
     (as_trans (alt (alternation xs) (alt (read_then back r was) (read_then back r one)))
-        (alt (alt (alternation xs) (read_then back r was)) (read_then back r one))
-        (alt (alternation (xs ++ read_then back r was ∷ [])) (read_then back r one))
+    (alt (alt (alternation xs) (read_then back r was)) (read_then back r one))
+    (alt (alternation (xs ++ read_then back r was ∷ [])) (read_then back r one))
     (alt_left (alternation xs) (read_then back r was) (read_then back r one))
     (as_alt (alt (alternation xs) (read_then back r was)) (read_then back r one) (alternation (xs ++ read_then back r was ∷ []))
-        (read_then back r one) (snoc_as xs (read_then back r was)) (as_itself (read_then back r one)))))
+    (read_then back r one) (snoc_as xs (read_then back r was)) (as_itself (read_then back r one)))))
 
 -- with one sequence more
 pub more_reads : (back : Bool) (x y : Tree) (qs : List (List (ℕ × ℕ))) (q : List (ℕ × ℕ)) →
@@ -163,7 +165,7 @@ more_reads back x y qs q before more =
     let P : List Tree → Type 0 = λ l. ReadsAs x (alternation l) in
     subst P (sym (map-append (read_tree back) qs (q ∷ [])))
     (as_trans x (alt y z) (alternation (xs ++ z ∷ [])) more (as_trans (alt y z) (alt (alternation xs) z) (alternation (xs ++ z ∷ []))
-        (as_alt y z (alternation xs) z before (as_itself z)) (snoc_as xs z)))
+    (as_alt y z (alternation xs) z before (as_itself z)) (snoc_as xs z)))
 
 -- the first sequence
 pub first_reads : (back : Bool) (r : ℕ × ℕ) (q : List (ℕ × ℕ)) → ReadsAs (whole_tree back (map fresh_limb (r ∷ q)))

@@ -54,9 +54,9 @@ module _ (b0 b1 b2 b3 b4 : Assembly) (u m n s e k : ℕ) (xs : List Tree) (x : T
   others_next : Others b0 b4 u m
   others_next T target agrees out q low high not_u =
       let f = next.fragment in let g = f.grows.longer in let en = f.end_new in let et = f.end_there in let n3 = l3.size in let n4 =
-          l4.size in
+      l4.size in
       let g0 = so_far.progress.partly.grows.longer in let ut = so_far.choice_there in let mt = so_far.end_there in let un =
-          so_far.choice_new in let mn = so_far.end_new in
+      so_far.choice_new in let mn = so_far.end_new in
       let old : Agrees b0 b1 u m T = λ p l h not_u not_m.
       agrees p l (omega arith) not_u not_m ∙ l4.same p (λ (same : p ≡ e). omega arith) ∙ l3.same p not_u ∙ f.grows.same p h in
       let fin : Finished (length b1.drafts) b2.drafts e m T = record {
@@ -72,9 +72,9 @@ module _ (b0 b1 b2 b3 b4 : Assembly) (u m n s e k : ℕ) (xs : List Tree) (x : T
   pub branched_next : Does b1 b2 s e x → Branched b0 b4 u m (n + k) (xs ++ x ∷ [])
   branched_next d =
       let f = next.fragment in let g = f.grows.longer in let en = f.end_new in let et = f.end_there in let sn = f.start_new in let st =
-          f.start_there in let n3 = l3.size in let n4 = l4.size in
+      f.start_there in let n3 = l3.size in let n4 = l4.size in
       let g0 = so_far.progress.partly.grows.longer in let ut = so_far.choice_there in let mt = so_far.end_there in let un =
-          so_far.choice_new in let mn = so_far.end_new in
+      so_far.choice_new in let mn = so_far.end_new in
       let u2 : draft_at b2.drafts u ≡ union_draft so_far.ways = f.grows.same u ut ∙ so_far.is_choice in
       let m2 : draft_at b2.drafts m ≡ empty_draft 0 = f.grows.same m mt ∙ so_far.is_end in
       record {
@@ -96,7 +96,7 @@ module _ (b0 b1 b2 b3 b4 : Assembly) (u m n s e k : ℕ) (xs : List Tree) (x : T
         others = others_next;
         one_way = λ to same. one_more_way so_far.ways s to (length b0.drafts) (length b4.drafts) u
             (λ q is. let o = so_far.one_way q is in let a = o.0 in let b = o.1 in
-                (a, omega arith, o.2)) (omega arith) (omega arith) (λ (at_u : s ≡ u). omega arith) same;
+            (a, omega arith, o.2)) (omega arith) (omega arith) (λ (at_u : s ≡ u). omega arith) same;
       }
 
 -- ---- none as yet

@@ -95,8 +95,11 @@ equal_or_above (suc a) (suc b) l = elim (equal_or_above a b (omega (arith, l))) 
 
 number_from : (first n c : ℕ) → first ≤ c → c < first + n → Among (numbers_from first n) c
 number_from first zero c l h = absurd (omega (arith, l, h))
-number_from first (suc n) c l h = elim (equal_or_above first c l) [ inl e ↦ inl e | inr k ↦
-    inr (number_from (suc first) n c k (omega (arith, h))) ]
+number_from first (suc n) c l h = elim (equal_or_above first c l) [
+  | inl e ↦ inl e
+  | inr k ↦
+      inr (number_from (suc first) n c k (omega (arith, h)))
+]
 
 -- ---- the strings of a class are spellings of its numbers
 
@@ -104,9 +107,12 @@ pub class_spells : (rs : List (ℕ × ℕ)) (s : List ℕ) → IsIn (sequences_o
 class_spells [] s h = absurd h
 class_spells (r ∷ rs) s h = elim (in_append (utf8_sequences r.0 r.1) (sequences_of rs) s h) [
   | inl here ↦
-      let p = strings_spell r.0 r.1 s here in
-      (p.0, among_left (numbers_from r.0 (suc (r.1 - r.0))) (numbers rs) p.0
-          (number_from r.0 (suc (r.1 - r.0)) p.0 p.1 (omega (arith, p.1, p.2))), p.3)
+      let p = strings_spell r.0 r.1 s here in (
+        p.0,
+        among_left (numbers_from r.0 (suc (r.1 - r.0))) (numbers rs) p.0
+            (number_from r.0 (suc (r.1 - r.0)) p.0 p.1 (omega (arith, p.1, p.2))),
+        p.3,
+      )
   | inr later ↦
       let p = class_spells rs s later in
       (p.0, among_right (numbers_from r.0 (suc (r.1 - r.0))) (numbers rs) p.0 p.1, p.2)
@@ -159,7 +165,7 @@ pub sequences_counted : (qs : List (List (ℕ × ℕ))) (rs : List (ℕ × ℕ))
     length qs ≤ scalars_in rs
 sequences_counted qs rs t h =
     let few : length (map lowest qs) ≤ length (map turned_spelling (numbers rs)) =
-        no_more_than (map lowest qs) (map turned_spelling (numbers rs)) (all_apart qs t)
+    no_more_than (map lowest qs) (map turned_spelling (numbers rs)) (all_apart qs t)
     (λ s k. turned_among rs s (h.only s (lowest_of qs s t k))) in
     let left = length-map qs lowest in
     let right = length-map (numbers rs) turned_spelling in

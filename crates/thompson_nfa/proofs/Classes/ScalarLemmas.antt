@@ -67,7 +67,7 @@ first_joined a b s e k d rs some is l m does groups =
       within = some;
       does = does_first a b s e (concat (x ∷ [])) (concat (left_after a.reverse 1 (map range_tree rs))) (concat (map range_tree rs))
           (concat_begun a.reverse (map range_tree rs) x (omega (arith, long)) (tree_at rs a.reverse 0 k d is l))
-              (does_same a b s e x (concat (x ∷ [])) (same_concat_one x) does);
+          (does_same a b s e x (concat (x ∷ [])) (same_concat_one x) does);
     }
 
 pub next_joined : (a b c b4 : Assembly) (s1 e1 s2 e2 i k : ℕ) (d : ℕ × ℕ) (rs : List (ℕ × ℕ)) → JoinedTo a b s1 e1 i rs → i < length rs →
@@ -84,14 +84,14 @@ next_joined a b c b4 s1 e1 s2 e2 i k d rs so_far less is l m does groups led =
       does = join_does a b c b4 s1 e1 i s2 e2 1 so_far.made m led (concat (x ∷ [])) (concat (left_after a.reverse (i + 1) drafts))
           (concat (left_after a.reverse i drafts)) (concat drafts)
           (concat_joins a.reverse drafts i x (omega (arith, long)) (tree_at rs a.reverse i k d is l)) so_far.does
-              (does_same b c s2 e2 x (concat (x ∷ [])) (same_concat_one x) does);
+          (does_same b c s2 e2 x (concat (x ∷ [])) (same_concat_one x) does);
     }
 
 pub all_joined : (a b : Assembly) (s e i : ℕ) (rs : List (ℕ × ℕ)) → JoinedTo a b s e i rs → length rs ≤ i → Does a b s e (sequence_tree rs)
 all_joined a b s e i rs so_far past =
     let long : length (map range_tree rs) ≡ length rs = length-map rs range_tree in
     does_all a b s e (concat (left_after a.reverse i (map range_tree rs))) (concat (map range_tree rs))
-        (concat_ended a.reverse i (map range_tree rs) (omega (arith, long))) so_far.does
+    (concat_ended a.reverse i (map range_tree rs) (omega (arith, long))) so_far.does
 
 -- ---- refusals within what is done so far
 
@@ -108,17 +108,23 @@ quits_later {old} {mid} {new} {k} {n} {e} m p r le = record {
   settings = r.settings ∙ ap (λ (b : Assembly). record b { drafts = new.drafts; groups = new.groups }) p.settings;
   cause = let a = p.states in let b = p.bytes in let l = p.longer in
       step_later old mid n (4096 * n) m m e (ap (λ (b : Assembly). b.size_limit) p.settings) (omega arith) (omega arith)
-          (omega arith) r.cause;
+      (omega arith) r.cause;
 }
 
 pub quits_capped : {old new : Assembly} {n : ℕ} {e : BuildError} (m : ℕ) → Quits old new n e → min n 18446744073709551615 ≤ m →
     Quits old new m e
-quits_capped {old} {new} {n} {e} m r cap = record { settings = r.settings;
-    cause = step_later old old n (4096 * n) n m e refl (omega arith) (omega arith) cap r.cause }
+quits_capped {old} {new} {n} {e} m r cap = record {
+  settings = r.settings;
+  cause = step_later old old n (4096 * n) n m e refl (omega arith) (omega arith) cap r.cause;
+}
 
 pub spent_of : {old mid : Assembly} {n s : ℕ} → Progress false old mid n s → Spent old mid n
-spent_of p = let b = p.bytes in record { settings = p.partly.grows.settings; longer = p.partly.grows.longer; states = p.states;
-    bytes = omega arith }
+spent_of p = let b = p.bytes in record {
+  settings = p.partly.grows.settings;
+  longer = p.partly.grows.longer;
+  states = p.states;
+  bytes = omega arith;
+}
 
 -- ---- branches one after the other
 
@@ -130,8 +136,8 @@ spent_more {a} {b} {c} {u} {m} {i} {n} {x} p one =
     let c1 = l1.size in let c2 = l1.bytes in let d1 = l2.size in let d2 = l2.bytes in
     let led : c ≡ record one.middle { drafts = c.drafts; groups = c.groups } =
     l2.settings ∙ ap (λ (z : Assembly). record z { drafts = c.drafts }) l1.settings
-        ∙ ap (λ gs. record one.middle { drafts = c.drafts; groups = gs }) (sym (ap (λ (z : Assembly). z.groups) l1.settings)
-        ∙ sym (ap (λ (z : Assembly). z.groups) l2.settings)) in
+    ∙ ap (λ gs. record one.middle { drafts = c.drafts; groups = gs }) (sym (ap (λ (z : Assembly). z.groups) l1.settings)
+    ∙ sym (ap (λ (z : Assembly). z.groups) l2.settings)) in
     record {
       settings = led ∙ ap (λ (z : Assembly). record z { drafts = c.drafts; groups = c.groups }) (g.settings
           ∙ ap (λ (z : Assembly). record z { drafts = one.middle.drafts; groups = one.middle.groups }) p.settings);
@@ -170,7 +176,7 @@ adds_kind u m n a _ _ (adds_more _ b c xs x before one) l k =
     let p = adds_spent u m n a b xs before in let long = p.longer in
     let f = one.made.fragment in let en = f.end_new in
     ap is_sparse (one.leads.two.same u (λ (same : u ≡ one.last). omega arith) ∙ one.leads.one.here
-        ∙ ap (patched one.first) (f.grows.same u (omega arith)))
+    ∙ ap (patched one.first) (f.grows.same u (omega arith)))
     ∙ kind_patched one.first (draft_at b.drafts u) ∙ adds_kind u m n a b xs before l k
 
 pub branched_all : (b0 : Assembly) (u m n k : ℕ) (xs : List Tree) (b1 b2 : Assembly) (ys : List Tree) → Branched b0 b1 u m n xs →
@@ -182,7 +188,7 @@ branched_all b0 u m n k xs b1 _ _ so_far (adds_none _) =
     subst P (sym (append-nil xs)) (subst Q none so_far)
 branched_all b0 u m n k xs b1 _ _ so_far (adds_more _ b c ys y before one) =
     let more = branched_next b0 b one.middle one.leads.middle c u m (n + k * length ys) one.first one.last k (xs
-        ++ ys) y (branched_all b0 u m n k xs b1 b ys so_far before)
+    ++ ys) y (branched_all b0 u m n k xs b1 b ys so_far before)
     one.made one.leads.one one.leads.two one.does in
     let P : List Tree → Type 0 = λ zs. Branched b0 c u m (n + k * length ys + k) zs in
     let Q : ℕ → Type 0 = λ j. Branched b0 c u m j (xs ++ (ys ++ y ∷ [])) in
@@ -231,7 +237,7 @@ pub all_sequences : (a b : Assembly) (u m : ℕ) (left all : List (List (ℕ × 
 all_sequences a b u m left all so_far none =
     let P : List (List (ℕ × ℕ)) → Type 0 = λ l. AddsAll u m 4 a b (map sequence_tree l) in
     let whole : so_far.met ≡ all = sym (append-nil so_far.met) ∙ ap (λ (l : List (List (ℕ × ℕ))). so_far.met ++ l) (sym none)
-        ∙ so_far.split in
+    ∙ so_far.split in
     subst P whole so_far.added
 
 module _ (a b : Assembly) (u m lo hi : ℕ) (left rest : List (List (ℕ × ℕ))) (rs : List (ℕ × ℕ))
@@ -253,10 +259,14 @@ module _ (a b : Assembly) (u m lo hi : ℕ) (left rest : List (List (ℕ × ℕ)
   sequence_refused c err r =
       let sum : length (so_far.met ++ rs ∷ rest) ≡ length so_far.met + length (rs ∷ rest) = length-append so_far.met (rs ∷ rest) in
       let same : length (so_far.met ++ rs ∷ rest) ≡ length (utf8_sequences lo hi) =
-          ap length (ap (λ (l : List (List (ℕ × ℕ))). so_far.met ++ l) (sym e) ∙ so_far.split) in
+      ap length (ap (λ (l : List (List (ℕ × ℕ))). so_far.met ++ l) (sym e) ∙ so_far.split) in
       let trees : length (map sequence_tree so_far.met) ≡ length so_far.met = length-map so_far.met sequence_tree in
-      quits_later (4 * length (utf8_sequences lo hi)) (adds_spent u m 4 a b (map sequence_tree so_far.met) so_far.added) r (omega (arith,
-          sum, same, trees))
+      quits_later (4 * length (utf8_sequences lo hi)) (adds_spent u m 4 a b (map sequence_tree so_far.met) so_far.added) r (omega (
+        arith,
+        sum,
+        same,
+        trees,
+      ))
 
 -- ---- all ranges
 
@@ -275,7 +285,7 @@ counted [] = refl
 counted (r ∷ rs) =
     let here = utf8_sequences r.0 r.1 in
     length-map (here ++ sequences_of rs) sequence_tree ∙ length-append here (sequences_of rs)
-        ∙ ap (λ n. length here + n) (sym (length-map (sequences_of rs) sequence_tree) ∙ counted rs)
+    ∙ ap (λ n. length here + n) (sym (length-map (sequences_of rs) sequence_tree) ∙ counted rs)
 
 module _ (a b : Assembly) (u m i : ℕ) (ranges : List (ℕ × ℕ)) (d : ℕ ×
     ℕ) (so_far : RangesTo a b u m i ranges) (less : i < length ranges) where
@@ -287,9 +297,9 @@ module _ (a b : Assembly) (u m i : ℕ) (ranges : List (ℕ × ℕ)) (d : ℕ ×
   more_trees =
       sym (map-append sequence_tree (sequences_of (take i ranges)) (utf8_sequences here.0 here.1))
       ∙ ap (λ (l : List (List (ℕ × ℕ))). map sequence_tree (sequences_of (take i ranges) ++ l))
-          (sym (append-nil (utf8_sequences here.0 here.1)))
+      (sym (append-nil (utf8_sequences here.0 here.1)))
       ∙ ap (λ (l : List (List (ℕ × ℕ))). map sequence_tree l) (sym (flat_map-append (λ (r : ℕ × ℕ). utf8_sequences r.0 r.1) (take i ranges)
-          (here ∷ [])))
+      (here ∷ [])))
       ∙ ap (λ (l : List (ℕ × ℕ)). map sequence_tree (sequences_of l)) (sym (take_more ranges i d less))
 
   pub next_range : (c : Assembly) → AddsAll u m 4 b c (map sequence_tree (utf8_sequences here.0 here.1)) → c.groups ≡ b.groups →
@@ -303,8 +313,11 @@ module _ (a b : Assembly) (u m i : ℕ) (ranges : List (ℕ × ℕ)) (d : ℕ ×
       let states : n + 4 * length new ≡ 2 + 4 * sequence_count (take (i + 1) ranges) = omega (arith, sum, long) in
       let P : List Tree → Type 0 = λ zs. Branched a c u m (n + 4 * length new) zs in
       let Q : ℕ → Type 0 = λ j. Branched a c u m j (map sequence_tree (sequences_of (take (i + 1) ranges))) in
-      record { branched = subst Q states (subst P more_trees (branched_all a u m n 4 old b c new so_far.branched added));
-          groups = groups ∙ so_far.groups; within = omega arith }
+      record {
+        branched = subst Q states (subst P more_trees (branched_all a u m n 4 old b c new so_far.branched added));
+        groups = groups ∙ so_far.groups;
+        within = omega arith;
+      }
 
   pub range_refused : (c : Assembly) (e : BuildError) → Quits b c (4 * length (utf8_sequences here.0 here.1)) e →
       Quits a c (count (char_class ranges)) e
@@ -312,7 +325,7 @@ module _ (a b : Assembly) (u m i : ℕ) (ranges : List (ℕ × ℕ)) (d : ℕ ×
       let sum = sequence_count_take ranges i d less in
       let draft = sequence_count_some ranges (i + 1) in
       quits_capped (count (char_class ranges)) (quits_later (2 + 4 * sequence_count ranges) (spent_of so_far.branched.progress) r
-          (omega (arith, sum, draft)))
+      (omega (arith, sum, draft)))
       (fits_char_class (2 + 4 * sequence_count ranges) ranges (omega arith))
 
 module _ (a b : Assembly) (u m i : ℕ) (ranges : List (ℕ × ℕ)) (so_far : RangesTo a b u m i ranges) (past : length ranges ≤ i) where
@@ -321,11 +334,11 @@ module _ (a b : Assembly) (u m i : ℕ) (ranges : List (ℕ × ℕ)) (so_far : R
       let P : List (ℕ × ℕ) → Type 0 = λ rs. Makes a b u m (2 + 4 * sequence_count rs) in
       made_capped (count (char_class ranges))
       (subst P (take_all i ranges past) (branched_made a b u m (2 + 4 * sequence_count (take i ranges))
-          (map sequence_tree (sequences_of (take i ranges))) so_far.branched))
+      (map sequence_tree (sequences_of (take i ranges))) so_far.branched))
       (fits_char_class (2 + 4 * sequence_count ranges) ranges (omega arith))
 
   pub ranges_do : is_ascending ranges ≡ true → Does a b u m (char_class ranges)
   ranges_do ascending =
       let P : List (ℕ × ℕ) → Type 0 = λ rs. Does a b u m (by_sequences rs) in
       does_scalars ascending (subst P (take_all i ranges past) (branched_does a b u m (2 + 4 * sequence_count (take i ranges))
-          (map sequence_tree (sequences_of (take i ranges))) so_far.branched))
+      (map sequence_tree (sequences_of (take i ranges))) so_far.branched))

@@ -94,7 +94,7 @@ none_below least b [] up less = refl
 none_below least b ((low, high, next) ∷ trans) up less =
     let l = up.0 in let m = up.1 in
     later_in low high next b trans (within low high b) refl (not_within low high b (within low high b) refl
-        (λ (x : low ≤ b) (y : b ≤ high). omega arith))
+    (λ (x : low ≤ b) (y : b ≤ high). omega arith))
     ∙ none_below (high + 1) b trans up.2 (omega arith)
 
 -- what is read, where a byte of the range leads to k
@@ -155,7 +155,7 @@ module _ (back : Bool) (t : Text) (T : Table) (e : ℕ) where
         | inl a ↦
             let p = (joins_read back r y).parts t i j a in
             way_first low high next trans (reads back t i) p.0 j (read_in low high (reads back t i) p.0
-                (meant_class back t (r ∷ []) i p.0 p.1)) ((all.0.reaches t).complete p.0 j p.2)
+            (meant_class back t (r ∷ []) i p.0 p.1)) ((all.0.reaches t).complete p.0 j p.2)
         | inr b ↦
             let w = branch_complete (high + 1) trans ys up.2 all.1 i j b in
             record { way = w.way; is_way = way_kept low high next trans (reads back t i) w.way up.2 w.is_way; on = w.on }
@@ -171,7 +171,7 @@ module _ (back : Bool) (t : Text) (T : Table) (e : ℕ) where
 
   way_cases : (low high next : ℕ) (trans : List (ℕ × ℕ × ℕ)) (b j : ℕ) (w : ℕ × ℕ) (c : Bool) → within low high b ≡ c →
       Has same_pair w (each_at (in_ranges ((low, high, next) ∷ trans) b) j) → FirstWay low high next (Some (b, j)) w ⊎
-          Has same_pair w (each_at (in_ranges trans b) j)
+      Has same_pair w (each_at (in_ranges trans b) j)
   way_cases low high next trans b j w true is h =
       let Q : List ℕ → Type 0 = λ qs. Has same_pair w (each_at qs j) in
       inl (record {
@@ -260,7 +260,7 @@ module _ (back : Bool) (t : Text) (T : Table) (e : ℕ) where
   branch_ended : (trans : List (ℕ × ℕ × ℕ)) (ys : List Tree) → LeadAll back T e trans ys →
       LoopsRead (alternation (branch_trees back trans ys)) → (i : ℕ) (o : Option (ℕ × ℕ)) → reads back t i ≡ o →
       ((j : ℕ) → IsMeant back t (alternation (branch_trees back trans ys)) i j → ComesToEnd back t T (j, e)) →
-          Ended back t T (sparse_to trans o)
+      Ended back t T (sparse_to trans o)
   branch_ended [] ys all f i None is ends = ended_none back t T
   branch_ended [] ys all f i (Some (b, j)) is ends = ended_none back t T
   branch_ended ((low, high, next) ∷ trans) [] all f i o is ends = absurd all
@@ -316,9 +316,9 @@ module _ (t : Text) (T : Table) (e : ℕ) where
   first_lists : (low high next : ℕ) (trans : List (ℕ × ℕ × ℕ)) (y later : Tree) (b j i : ℕ) (l : List (ℕ × ℕ)) (c : Bool) →
       within low high b ≡ c → (b < high + 1 → ends later i ≡ []) →
       reads false t i ≡ Some (b, j) → Denotes false T next e y → LoopsRead y →
-          (Listed t T (at e (ends later i)) l → ListedFirsts t T (each_at (in_ranges trans b) j) l) →
+      (Listed t T (at e (ends later i)) l → ListedFirsts t T (each_at (in_ranges trans b) j) l) →
       Listed t T (at e (flat_map (ends y) (ends (range_tree (low, high)) i) ++ ends later i)) l →
-          ListedFirsts t T (each_at (in_ranges ((low, high, next) ∷ trans) b) j) l
+      ListedFirsts t T (each_at (in_ranges ((low, high, next) ∷ trans) b) j) l
   first_lists low high next trans y later b j i l true is none read d f on walk =
       let x = is_within low high b is in
       let P : List ℕ → Type 0 = λ js. Listed t T (at e (flat_map (ends y) js ++ ends later i)) l in
@@ -337,7 +337,7 @@ module _ (t : Text) (T : Table) (e : ℕ) where
   branch_lists : (least : ℕ) (trans : List (ℕ × ℕ × ℕ)) (ys : List Tree) → AscendsFrom least trans → LeadAll false T e trans ys →
       LoopsRead (alternation (branch_trees false trans ys)) →
       (i : ℕ) (o : Option (ℕ × ℕ)) → reads false t i ≡ o → (l : List (ℕ × ℕ)) →
-          Listed t T (at e (ends (alternation (branch_trees false trans ys)) i)) l → ListedFirsts t T (sparse_to trans o) l
+      Listed t T (at e (ends (alternation (branch_trees false trans ys)) i)) l → ListedFirsts t T (sparse_to trans o) l
   branch_lists least [] ys up all f i None is l walk = firsts_of t T [] l walk
   branch_lists least [] ys up all f i (Some (b, j)) is l walk = firsts_of t T [] l walk
   branch_lists least ((low, high, next) ∷ trans) [] up all f i o is l walk = absurd all
@@ -354,7 +354,7 @@ module _ (t : Text) (T : Table) (e : ℕ) where
 branch_orders : (back : Bool) (t : Text) (T : Table) (e s : ℕ) (trans : List (ℕ × ℕ × ℕ)) (ys : List Tree) → back ≡ false →
     T s ≡ sparse_draft trans → AscendsFrom 0 trans → LeadAll back T e trans ys →
     LoopsRead (alternation (branch_trees back trans ys)) → Orders t T s e
-        (preferred_ends t.holds (seen t) (alternation (branch_trees back trans ys)))
+    (preferred_ends t.holds (seen t) (alternation (branch_trees back trans ys)))
 branch_orders false t T e s trans ys up is rising all f = record {
   lists = λ i l walk. firsts_on t T s (λ k. sparse_to trans (reads false t k)) i l (goes_sparse false t T s trans is)
       (branch_lists t T e 0 trans ys rising all f i (reads false t i) refl l walk);

@@ -24,8 +24,11 @@ use Rattle.thompson_nfa.proofs.Classes.TurnedMeanings.{denotes_turned}
 
 -- more room
 pub quits_more : {old new : Assembly} {e : BuildError} (n m : ℕ) → n ≤ m → Quits old new n e → Quits old new m e
-quits_more {old} {new} {e} n m le q = record { settings = q.settings; cause =
-    step_later old old n (4096 * n) m m e refl (omega arith) (omega arith) (omega arith) q.cause }
+quits_more {old} {new} {e} n m le q = record {
+  settings = q.settings;
+  cause =
+      step_later old old n (4096 * n) m m e refl (omega arith) (omega arith) (omega arith) q.cause;
+}
 
 module _ (ranges : List (ℕ × ℕ)) (trie : List (List (ℕ × ℕ))) (ascends : IsTrie trie) (has : HasTurned trie (sequences_of ranges))
     (paths : List (Vec Utf8Range Global)) (same : paths_of paths ≡ trie) where

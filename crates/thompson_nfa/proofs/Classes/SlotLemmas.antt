@@ -22,7 +22,7 @@ pub slots_set : {K : Type 0} → (v : ℕ) (slots : List (Option (Slot K))) (at 
     map (current v) (set slots at (Some (record { version = v; key = key; id = id }))) ≡ set (map (current v) slots) at (Some (key, id))
 slots_set v slots at key id =
     map-set (current v) slots at (Some (record { version = v; key = key; id = id }))
-        ∙ ap (set (map (current v) slots) at) (current_now v key id)
+    ∙ ap (set (map (current v) slots) at) (current_now v key id)
 
 pub slots_none : {K : Type 0} → (v n : ℕ) → map (current {K = K} v) (replicate n None) ≡ replicate n None
 slots_none v zero = refl

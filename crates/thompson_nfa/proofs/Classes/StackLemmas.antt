@@ -43,8 +43,12 @@ rises_next low ((start, end, next) ∷ others) a b m n up = (up.0, up.1, up.2, r
 rises_behind : (low : ℕ) (trans : List (ℕ × ℕ × ℕ)) (a b m c d n : ℕ) → RisesIn low (trans ++ (a, b, m) ∷ []) → b < c → c ≤ d → d < 256 →
     RisesIn low ((trans ++ (a, b, m) ∷ []) ++ (c, d, n) ∷ [])
 rises_behind low [] a b m c d n up l k h = (up.0, up.1, up.2, (omega arith, k, h, tt))
-rises_behind low ((start, end, next) ∷ others) a b m c d n up l k h = (up.0, up.1, up.2,
-    rises_behind (end + 1) others a b m c d n up.3 l k h)
+rises_behind low ((start, end, next) ∷ others) a b m c d n up l k h = (
+  up.0,
+  up.1,
+  up.2,
+  rises_behind (end + 1) others a b m c d n up.3 l k h,
+)
 
 -- the last range isn't empty
 last_range : (low : ℕ) (trans : List (ℕ × ℕ × ℕ)) (a b m : ℕ) → RisesIn low (trans ++ (a, b, m) ∷ []) → a ≤ b
@@ -155,8 +159,17 @@ next_of : (p q before left right : List (ℕ × ℕ)) (i : ℕ) → p ≡ before
     IsBefore left right → Next p q i
 next_of p q before [] right i e f l b = absurd b
 next_of p q before (a ∷ left) [] i e f l b = absurd b
-next_of p q before (a ∷ left) (c ∷ right) i e f l b = record { before = before; one = a; other = c; one_rest = left; other_rest = right;
-    one_is = e; other_is = f; place = l; behind = b }
+next_of p q before (a ∷ left) (c ∷ right) i e f l b = record {
+  before = before;
+  one = a;
+  other = c;
+  one_rest = left;
+  other_rest = right;
+  one_is = e;
+  other_is = f;
+  place = l;
+  behind = b;
+}
 
 pub next_at : (p q : List (ℕ × ℕ)) (i : ℕ) → Agree p q i → Next p q i
 next_at p q i a = next_of p q a.before a.left a.right i a.one_is a.other_is a.place a.behind
@@ -186,7 +199,7 @@ module _ (p q : List (ℕ × ℕ)) (i : ℕ) (a : Agree p q i) where
       let start : next.one.0 ≡ next.other.0 = ap (λ (r : ℕ × ℕ). r.0) is in
       let place = next.place in
       let rest : IsBefore next.one_rest next.other_rest = ⊎_elim (λ (l : next.one.1 < next.other.0). absurd (omega arith))
-          (λ (b : (next.one ≡ next.other) × IsBefore next.one_rest next.other_rest). b.1) next.behind in
+      (λ (b : (next.one ≡ next.other) × IsBefore next.one_rest next.other_rest). b.1) next.behind in
       record {
         before = next.before ++ next.one ∷ [];
         left = next.one_rest;
@@ -203,9 +216,18 @@ module _ (p q : List (ℕ × ℕ)) (i : ℕ) (a : Agree p q i) where
   parts_here d e other =
       let less : next.one.1 < next.other.0 = ⊎_elim (λ (l : next.one.1 < next.other.0). l)
       (λ (b : (next.one ≡ next.other) × IsBefore next.one_rest next.other_rest). absurd (other (one_got d ∙ b.0 ∙ sym (other_got e))))
-          next.behind in
-      record { before = next.before; one = next.one; other = next.other; one_rest = next.one_rest; other_rest = next.other_rest;
-          one_is = next.one_is; other_is = next.other_is; place = next.place; behind = less }
+      next.behind in
+      record {
+        before = next.before;
+        one = next.one;
+        other = next.other;
+        one_rest = next.one_rest;
+        other_rest = next.other_rest;
+        one_is = next.one_is;
+        other_is = next.other_is;
+        place = next.place;
+        behind = less;
+      }
 
 pub path_at : (ns : List Stage) (i : ℕ) (d : Stage) → i < length ns → get_or (path_of ns) i d.last ≡ (get_or ns i d).last
 path_at [] i d l = absurd (omega arith)
@@ -221,10 +243,10 @@ push_more all new old n rs i r d l is e f so_far =
     let long = length-map rs bytes_of in
     let here : bytes_of r ≡ get_or (map bytes_of rs) i (bytes_of d) = ap bytes_of is ∙ sym (get_or-map bytes_of rs i d (bytes_of d) l) in
     let split : drop i (map bytes_of rs) ≡ bytes_of r ∷ drop (i + 1) (map bytes_of rs) =
-        first_left (map bytes_of rs) i (bytes_of r) (bytes_of d) (omega (arith, long)) here in
+    first_left (map bytes_of rs) i (bytes_of r) (bytes_of d) (omega (arith, long)) here in
     let more : List Stage = map fresh (drop (i + 1) (map bytes_of rs)) in
     ap (λ (l : List Stage). l ++ more) (f ∙ ap (λ (s : Stage). old ++ s ∷ []) e) ∙ append_assoc old (fresh (bytes_of r) ∷ []) more
-        ∙ sym (ap (λ (l : List (ℕ × ℕ)). old ++ map fresh l) split) ∙ so_far
+    ∙ sym (ap (λ (l : List (ℕ × ℕ)). old ++ map fresh l) split) ∙ so_far
 
 node_rises : (ns : List Stage) (i : ℕ) (d : Stage) → StagesRise ns → i < length ns → RisesIn 0 (frozen_with 0 (get_or ns i d))
 node_rises [] i d up l = absurd (omega arith)

@@ -61,8 +61,10 @@ pub keeps_more : {low u m : ℕ} {b : Assembly} (table : SlotTable Utf8SuffixKey
     Keeps low b u m (with_held table place key id)
 keeps_more {low} {u} {m} {b} table place id key keeps one at other k e =
     let P : Utf8SuffixKey × ℕ → Type 0 = λ p. IsKept low b u m p.0 p.1 in
-    ⊎_elim (λ (same : (key, id) ≡ (k, other)). subst P same one) (λ h. keeps at other k h) (held_cases table.places place at (key, id) (k,
-        other) e)
+    ⊎_elim (λ (same : (key, id) ≡ (k, other)). subst P same one) (λ h. keeps at other k h) (held_cases table.places place at (key, id) (
+      k,
+      other,
+    ) e)
 
 -- the state is as it was
 pub keeps_later : {low u m : ℕ} {b c : Assembly} (table : SlotTable Utf8SuffixKey) → length b.drafts ≤ length c.drafts →
@@ -82,7 +84,7 @@ range_then true T id s m r rs e is d =
     let P : List Tree → Type 0 = λ xs. Denotes true T id m (concat xs) in
     subst P (sym (map-append range_tree rs (r ∷ [])))
     (denotes_join true T id s m (concat (x ∷ [])) (concat (map range_tree rs)) (concat (map range_tree rs ++ x ∷ []))
-        (joins_last_part x (map range_tree rs))
+    (joins_last_part x (map range_tree rs))
     (denotes_concat_one true T id s x (denotes_range true T id s r.0 r.1 is)) d)
 
 -- ---- a state that is added to branches
@@ -99,7 +101,7 @@ module _ (b0 b c : Assembly) (u m n id lo hi q : ℕ) (xs : List Tree) (so_far :
       (λ (more : length b.drafts ≤ p).
       let same : id ≡ p = omega arith in
       let here : T p ≡ range_draft lo hi q = agrees p l h not_u (λ (e : p ≡ m). omega arith) ∙ ap (λ k. draft_at c.drafts k) (sym same)
-          ∙ x.here in
+      ∙ x.here in
       out_here T target p (ap stands_for here))
       (cases_lt p (length b.drafts))
 
@@ -136,10 +138,10 @@ module _ (b0 b c d : Assembly) (u m n id lo hi q : ℕ) (xs : List Tree) (so_far
   branched_way y none denotes =
       let w = branched_added b0 b c u m n id lo hi q xs so_far x named in
       let un = so_far.choice_new in let ut = so_far.choice_there in let s = x.size in let is = x.is in let t = led.size in let ct =
-          w.choice_there in let et = w.end_there in
+      w.choice_there in let et = w.end_there in
       let g = so_far.progress.partly.grows.longer in
       let old : (T : Table) → Agrees b0 d u m T → Agrees b0 c u m T = λ T agrees p l h not_u not_m. agrees p l (omega arith) not_u not_m
-          ∙ led.same p not_u in
+      ∙ led.same p not_u in
       record {
         ways = so_far.ways ++ id ∷ [];
         progress = then_led 8 (added_progress b0 b c u m n id lo hi q xs so_far x named 12 (omega arith)) led un (omega arith)
@@ -155,12 +157,14 @@ module _ (b0 b c d : Assembly) (u m n id lo hi q : ℕ) (xs : List Tree) (so_far
             ∙ ap (λ (k : Bool). looks_in b0.drafts l || k)
             (sym (uses_alternation b0.reverse xs y l ∙ ap (λ (k : Bool). uses b0.reverse (alternation xs) l || k) (none l)
             ∙ or_none (uses b0.reverse (alternation xs) l)));
-        branches = record { all = λ T agrees. all_denote_push b0.reverse T m id y so_far.ways xs (w.branches.all T (old T agrees))
-            (denotes T (old T agrees)) };
+        branches = record {
+          all = λ T agrees. all_denote_push b0.reverse T m id y so_far.ways xs (w.branches.all T (old T agrees))
+              (denotes T (old T agrees));
+        };
         others = λ T target agrees out p l h not_u. w.others T target (old T agrees) out p l (omega arith) not_u;
         one_way = λ to same. one_more_way so_far.ways id to (length b0.drafts) (length d.drafts) u
             (λ k e. let o = w.one_way k e in let h = o.1 in (o.0, omega arith, o.2)) (omega arith) (omega arith)
-                (λ (at_u : id ≡ u). omega arith) same;
+            (λ (at_u : id ≡ u). omega arith) same;
       }
 
 branched_wider : {b0 b : Assembly} {u m n : ℕ} {xs : List Tree} (k : ℕ) → n ≤ k → Branched b0 b u m n xs → Branched b0 b u m k xs
@@ -219,15 +223,20 @@ module _ (b0 b : Assembly) (table : SlotTable Utf8SuffixKey) (u m n s : ℕ) (xs
     new_kept : IsKept (length b0.drafts) c u m (key_of s r) id
     new_kept =
         let w = so_far.branched in let g = w.progress.partly.grows.longer in let ut = w.choice_there in let mt = w.end_there in let l =
-            x.added.is in let t = x.added.size in
-        record { new = omega arith; there = omega arith; not_choice = λ (e : id ≡ u). omega arith; not_end = λ (e : id ≡ m). omega arith;
-            is = x.added.here }
+        x.added.is in let t = x.added.size in
+        record {
+          new = omega arith;
+          there = omega arith;
+          not_choice = λ (e : id ≡ u). omega arith;
+          not_end = λ (e : id ≡ m). omega arith;
+          is = x.added.here;
+        }
 
     pub kept_added : Keeps (length b0.drafts) c u m changed
     kept_added =
         let P : SlotTable Utf8SuffixKey → Type 0 = λ t. Keeps (length b0.drafts) c u m t in
         subst P (sym x.kept) (keeps_more table x.place id (key_of s r)
-            (keeps_later table x.added.grows.longer (λ q h not_u. x.added.grows.same q h) so_far.keeps) new_kept)
+        (keeps_later table x.added.grows.longer (λ q h not_u. x.added.grows.same q h) so_far.keeps) new_kept)
 
     pub denotes_added : (T : Table) → Agrees b0 c u m T → Denotes b0.reverse T id m (sequence_tree (rs ++ r ∷ []))
     denotes_added T agrees =
@@ -256,7 +265,7 @@ chained_more b0 b c table changed u m n s id xs rs r is_reverse so_far (adds_sta
 chained_all : (b0 a : Assembly) (table : SlotTable Utf8SuffixKey) (u m n : ℕ) (xs : List Tree) → b0.reverse ≡ true →
     Branched b0 a u m n xs → Keeps (length b0.drafts) a u m table →
     (b : Assembly) (changed : SlotTable Utf8SuffixKey) (id : ℕ) (rs : List (ℕ × ℕ)) → SharesRanges m a table b changed id rs →
-        Chained b0 b changed u m (n + length rs) id xs rs
+    Chained b0 b changed u m (n + length rs) id xs rs
 chained_all b0 a table u m n xs is_reverse branched keeps _ _ _ _ shares_none =
     let P : ℕ → Type 0 = λ k. Chained b0 a table u m k m xs [] in
     let none : n ≡ n + 0 = omega arith in
@@ -265,7 +274,7 @@ chained_all b0 a table u m n xs is_reverse branched keeps _ _ _ _ (shares_more m
     let P : ℕ → Type 0 = λ k. Chained b0 new changed u m k id xs (rs ++ r ∷ []) in
     let sum : n + length rs + 1 ≡ n + length (rs ++ r ∷ []) = omega (arith, length-append rs (r ∷ [])) in
     subst P sum (chained_more b0 mid new kept changed u m (n + length rs) next id xs rs r is_reverse
-        (chained_all b0 a table u m n xs is_reverse branched keeps mid kept next rs before) step)
+    (chained_all b0 a table u m n xs is_reverse branched keeps mid kept next rs before) step)
 
 -- ---- sequences
 
@@ -280,7 +289,7 @@ module _ (b0 : Assembly) (u m : ℕ) (is_reverse : b0.reverse ≡ true) where
       AddsSequence a b table changed u m rs → Suffixed b0 b changed u m (n + 4) (xs ++ sequence_tree rs ∷ [])
   suffixed_one a b table changed n xs rs so_far one =
       let chain = chained_all b0 a table u m n xs is_reverse so_far.branched so_far.keeps one.shared one.kept one.next one.others
-          one.shares in
+      one.shares in
       let k : ℕ = n + length one.others in
       let r = one.last in
       let x = one.adds in
@@ -301,7 +310,7 @@ module _ (b0 : Assembly) (u m : ℕ) (is_reverse : b0.reverse ≡ true) where
 
   pub suffixed_all : (a : Assembly) (table : SlotTable Utf8SuffixKey) (n : ℕ) (xs : List Tree) → Suffixed b0 a table u m n xs →
       (b : Assembly) (changed : SlotTable Utf8SuffixKey) (qs : List (List (ℕ × ℕ))) → AddsSequences u m a table b changed qs →
-          Suffixed b0 b changed u m (n + 4 * length qs) (xs ++ map sequence_tree qs)
+      Suffixed b0 b changed u m (n + 4 * length qs) (xs ++ map sequence_tree qs)
   suffixed_all a table n xs so_far _ _ _ sequences_none =
       let P : ℕ → Type 0 = λ k. Suffixed b0 a table u m k (xs ++ []) in
       let Q : List Tree → Type 0 = λ ys. Suffixed b0 a table u m n ys in
@@ -309,11 +318,11 @@ module _ (b0 : Assembly) (u m : ℕ) (is_reverse : b0.reverse ≡ true) where
       subst P none (subst Q (sym (append-nil xs)) so_far)
   suffixed_all a table n xs so_far _ _ _ (sequences_more mid new kept changed qs rs before one) =
       let more = suffixed_one mid new kept changed (n + 4 * length qs) (xs
-          ++ map sequence_tree qs) rs (suffixed_all a table n xs so_far mid kept qs before) one in
+      ++ map sequence_tree qs) rs (suffixed_all a table n xs so_far mid kept qs before) one in
       let P : ℕ → Type 0 = λ k. Suffixed b0 new changed u m k ((xs ++ map sequence_tree qs) ++ sequence_tree rs ∷ []) in
       let Q : List Tree → Type 0 = λ ys. Suffixed b0 new changed u m (n + 4 * length (qs ++ rs ∷ [])) ys in
       let sum : n + 4 * length qs + 4 ≡ n + 4 * length (qs ++ rs ∷ []) = omega (arith, length-append qs (rs ∷ [])) in
       let trees : (xs ++ map sequence_tree qs) ++ sequence_tree rs ∷ [] ≡ xs ++ map sequence_tree (qs ++ rs ∷ []) =
       append_assoc xs (map sequence_tree qs) (sequence_tree rs ∷ []) ∙ ap (λ (ys : List Tree). xs
-          ++ ys) (sym (map-append sequence_tree qs (rs ∷ []))) in
+      ++ ys) (sym (map-append sequence_tree qs (rs ∷ []))) in
       subst Q trees (subst P sum more)

@@ -35,8 +35,12 @@ pub reverse_begun : (a b c : Assembly) (capacity : ℕ) (table : SlotTable Utf8S
     Added a b u (no_choice true) a.groups → Added b c m (empty_draft 0) b.groups → RangesReverse a c capacity table u m 0 ranges
 reverse_begun a b c capacity table u m ranges e x y =
     let P : SlotTable Utf8SuffixKey → Type 0 = λ t. RangesReverse a c capacity t u m 0 ranges in
-    subst P (sym e) (record { met = no_range a b c u m ranges x y; keeps = keeps_none (length a.drafts) c u m capacity;
-        ready = empty_ready capacity; as_many = refl })
+    subst P (sym e) (record {
+      met = no_range a b c u m ranges x y;
+      keeps = keeps_none (length a.drafts) c u m capacity;
+      ready = empty_ready capacity;
+      as_many = refl;
+    })
 
 module _ (a b : Assembly) (capacity : ℕ) (table : SlotTable Utf8SuffixKey) (u m i : ℕ) (ranges : List (ℕ × ℕ))
     (so_far : RangesReverse a b capacity table u m i ranges) (d : ℕ × ℕ) (less : i < length ranges) where
@@ -48,9 +52,9 @@ module _ (a b : Assembly) (capacity : ℕ) (table : SlotTable Utf8SuffixKey) (u 
   more_trees =
       sym (map-append sequence_tree (sequences_of (take i ranges)) (utf8_sequences here.0 here.1))
       ∙ ap (λ (l : List (List (ℕ × ℕ))). map sequence_tree (sequences_of (take i ranges) ++ l))
-          (sym (append-nil (utf8_sequences here.0 here.1)))
+      (sym (append-nil (utf8_sequences here.0 here.1)))
       ∙ ap (λ (l : List (List (ℕ × ℕ))). map sequence_tree l) (sym (flat_map-append (λ (r : ℕ × ℕ). utf8_sequences r.0 r.1) (take i ranges)
-          (here ∷ [])))
+      (here ∷ [])))
       ∙ ap (λ (l : List (ℕ × ℕ)). map sequence_tree (sequences_of l)) (sym (take_more ranges i d less))
 
   pub reverse_next : a.reverse ≡ true → (c : Assembly) (changed : SlotTable Utf8SuffixKey) →
@@ -60,15 +64,18 @@ module _ (a b : Assembly) (capacity : ℕ) (table : SlotTable Utf8SuffixKey) (u 
       let n : ℕ = 2 + 4 * sequence_count (take i ranges) in
       let qs = utf8_sequences here.0 here.1 in
       let all = suffixed_all a u m is_reverse b table n (map sequence_tree (sequences_of (take i ranges)))
-          (record { branched = so_far.met.branched; keeps = so_far.keeps }) c changed qs added in
+      (record { branched = so_far.met.branched; keeps = so_far.keeps }) c changed qs added in
       let steps = sequences_steps added in
       let sum = sequence_count_take ranges i d less in
       let states : n + 4 * length qs ≡ 2 + 4 * sequence_count (take (i + 1) ranges) = omega (arith, sum) in
       let P : List Tree → Type 0 = λ xs. Branched a c u m (n + 4 * length qs) xs in
       let Q : ℕ → Type 0 = λ k. Branched a c u m k (map sequence_tree (sequences_of (take (i + 1) ranges))) in
       record {
-        met = record { branched = subst Q states (subst P more_trees all.branched); groups = steps.groups ∙ so_far.met.groups;
-            within = omega arith };
+        met = record {
+          branched = subst Q states (subst P more_trees all.branched);
+          groups = steps.groups ∙ so_far.met.groups;
+          within = omega arith;
+        };
         keeps = all.keeps;
         ready = steps.ready so_far.ready;
         as_many = steps.capacity ∙ so_far.as_many;

@@ -88,13 +88,23 @@ shares_nothing a table = record { grows = grows_refl a; spent = spent_none a; gr
 
 shares_wider : {a b : Assembly} {table changed : SlotTable Utf8SuffixKey} {n : ℕ} (k : ℕ) → Shares a b table changed n → n ≤ k →
     Shares a b table changed k
-shares_wider k s le = record { grows = s.grows; spent = spent_wider k s.spent le; groups = s.groups; capacity = s.capacity;
-    ready = s.ready }
+shares_wider k s le = record {
+  grows = s.grows;
+  spent = spent_wider k s.spent le;
+  groups = s.groups;
+  capacity = s.capacity;
+  ready = s.ready;
+}
 
 shares_then : {a b c : Assembly} {m1 m2 m3 : SlotTable Utf8SuffixKey} {n k : ℕ} → Shares a b m1 m2 n → Shares b c m2 m3 k →
     Shares a c m1 m3 (n + k)
-shares_then x y = record { grows = grows_trans x.grows y.grows; spent = spent_then x.spent y.spent; groups = y.groups ∙ x.groups;
-    capacity = y.capacity ∙ x.capacity; ready = λ e. y.ready (x.ready e) }
+shares_then x y = record {
+  grows = grows_trans x.grows y.grows;
+  spent = spent_then x.spent y.spent;
+  groups = y.groups ∙ x.groups;
+  capacity = y.capacity ∙ x.capacity;
+  ready = λ e. y.ready (x.ready e);
+}
 
 ready_added : {a b : Assembly} {table changed : SlotTable Utf8SuffixKey} {next id : ℕ} {range : ℕ × ℕ} →
     AddsRange a b table changed next range id → StaysReady table changed
@@ -104,8 +114,13 @@ ready_added {a} {b} {table} {changed} {next} {id} {range} x e =
 
 adds_shares : {a b : Assembly} {table changed : SlotTable Utf8SuffixKey} {next id : ℕ} {range : ℕ × ℕ} →
     AddsRange a b table changed next range id → Shares a b table changed 1
-adds_shares x = record { grows = x.added.grows; spent = spent_added x.added (omega arith); groups = x.added.groups_are;
-    capacity = ap (λ (t : SlotTable Utf8SuffixKey). t.capacity) x.kept; ready = ready_added x }
+adds_shares x = record {
+  grows = x.added.grows;
+  spent = spent_added x.added (omega arith);
+  groups = x.added.groups_are;
+  capacity = ap (λ (t : SlotTable Utf8SuffixKey). t.capacity) x.kept;
+  ready = ready_added x;
+}
 
 range_shares : {a b : Assembly} {table changed : SlotTable Utf8SuffixKey} {next id : ℕ} {range : ℕ × ℕ} →
     SharesRange a b table changed next range id → Shares a b table changed 1
@@ -159,7 +174,7 @@ module _ (a b : Assembly) (table changed : SlotTable Utf8SuffixKey) (end id i : 
 pub next_shared : (a b : Assembly) (table changed : SlotTable Utf8SuffixKey) (end id i : ℕ) (ranges : List Utf8Range) →
     SharesUpTo a b table changed end id i (map bytes_of ranges) →
     (c : Assembly) (last : SlotTable Utf8SuffixKey) (state : ℕ) (d : Utf8Range) → i < length ranges →
-        SharesRange b c changed last id (bytes_of (get_or ranges i d)) state →
+    SharesRange b c changed last id (bytes_of (get_or ranges i d)) state →
     SharesUpTo a c table last end state (i + 1) (map bytes_of ranges)
 next_shared a b table changed end id i ranges so_far c last state d less step =
     let long : length (map bytes_of ranges) ≡ length ranges = length-map ranges bytes_of in
@@ -208,8 +223,12 @@ pub record Steps (a b : Assembly) (table changed : SlotTable Utf8SuffixKey) (n :
 
 steps_then : {a b c : Assembly} {t1 t2 t3 : SlotTable Utf8SuffixKey} {n k : ℕ} → Steps a b t1 t2 n → Steps b c t2 t3 k →
     Steps a c t1 t3 (n + k)
-steps_then x y = record { spent = spent_then x.spent y.spent; groups = y.groups ∙ x.groups; capacity = y.capacity ∙ x.capacity;
-    ready = λ e. y.ready (x.ready e) }
+steps_then x y = record {
+  spent = spent_then x.spent y.spent;
+  groups = y.groups ∙ x.groups;
+  capacity = y.capacity ∙ x.capacity;
+  ready = λ e. y.ready (x.ready e);
+}
 
 pub sequence_steps : {a b : Assembly} {table changed : SlotTable Utf8SuffixKey} {u m : ℕ} {rs : List (ℕ × ℕ)} →
     AddsSequence a b table changed u m rs → Steps a b table changed 4
@@ -228,8 +247,12 @@ sequence_steps {a} {b} {table} {changed} {u} {m} {rs} one =
 pub sequences_steps : {u m : ℕ} {a : Assembly} {table : SlotTable Utf8SuffixKey} {b : Assembly} {changed : SlotTable Utf8SuffixKey}
     {qs : List (List (ℕ × ℕ))} → AddsSequences u m a table b changed qs →
     Steps a b table changed (4 * length qs)
-sequences_steps {u} {m} {a} {table} sequences_none = record { spent = spent_wider (4 * 0) (spent_none a) (omega arith); groups = refl;
-    capacity = refl; ready = λ e. e }
+sequences_steps {u} {m} {a} {table} sequences_none = record {
+  spent = spent_wider (4 * 0) (spent_none a) (omega arith);
+  groups = refl;
+  capacity = refl;
+  ready = λ e. e;
+}
 sequences_steps {u} {m} {a} {table} (sequences_more mid new kept last qs rs before one) =
     let x = steps_then (sequences_steps before) (sequence_steps one) in
     let sum : 4 * length qs + 4 ≡ 4 * length (qs ++ rs ∷ []) = omega (arith, length-append qs (rs ∷ [])) in
@@ -240,13 +263,13 @@ sequences_steps {u} {m} {a} {table} (sequences_more mid new kept last qs rs befo
 pub sequences_kind : (u m : ℕ) (a : Assembly) (table : SlotTable Utf8SuffixKey) (b : Assembly) (changed : SlotTable Utf8SuffixKey)
     (qs : List (List (ℕ × ℕ))) →
     AddsSequences u m a table b changed qs → u < length a.drafts → is_sparse (draft_at a.drafts u) ≡ false →
-        is_sparse (draft_at b.drafts u) ≡ false
+    is_sparse (draft_at b.drafts u) ≡ false
 sequences_kind u m a table _ _ _ sequences_none l kind = kind
 sequences_kind u m a table _ _ _ (sequences_more mid new kept last qs rs before one) l kind =
     let longer = (sequences_steps before).spent.longer in
     ap is_sparse one.leads.here ∙ kind_patched one.first (draft_at one.whole.drafts u)
     ∙ still_kind mid one.shared one.whole kept one.kept last m one.next one.first one.others one.last one.shares one.adds u (omega arith)
-        (sequences_kind u m a table mid kept qs before l kind)
+    (sequences_kind u m a table mid kept qs before l kind)
 
 -- ---- the sequences of a range
 
@@ -287,7 +310,7 @@ module _ (a b : Assembly) (table changed : SlotTable Utf8SuffixKey) (u m lo hi :
     met_refused c err r =
         let sum : length (so_far.met ++ rs ∷ rest) ≡ length so_far.met + length (rs ∷ rest) = length-append so_far.met (rs ∷ rest) in
         let same : length (so_far.met ++ rs ∷ rest) ≡ length (utf8_sequences lo hi) =
-            ap length (ap (λ (qs : List (List (ℕ × ℕ))). so_far.met ++ qs) (sym e) ∙ so_far.split) in
+        ap length (ap (λ (qs : List (List (ℕ × ℕ))). so_far.met ++ qs) (sym e) ∙ so_far.split) in
         quits_later (4 * length (utf8_sequences lo hi)) (sequences_steps so_far.added).spent r (omega (arith, sum, same))
 
     pub met_next : (c : Assembly) (last : SlotTable Utf8SuffixKey) → AddsSequence b c changed last u m rs →
@@ -306,7 +329,7 @@ others_few ranges all e few =
     let long : length (map bytes_of all) ≡ length all = length-map all bytes_of in
     let here : length (map bytes_of ranges) ≡ length ranges = length-map ranges bytes_of in
     let taken : length (take (length ranges - 1) (map bytes_of ranges)) ≡ length ranges - 1 =
-        length-take-le (length ranges - 1) (map bytes_of ranges) (omega (arith, here)) in
+    length-take-le (length ranges - 1) (map bytes_of ranges) (omega (arith, here)) in
     omega (arith, taken, same, long, few)
 
 pub last_rising : (ranges all : List Utf8Range) (d : Utf8Range) → ranges ≡ all → 1 ≤ length (map bytes_of all) →

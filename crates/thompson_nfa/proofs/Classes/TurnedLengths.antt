@@ -77,9 +77,12 @@ short_of rs q h =
     let short = spelling_short p.0 (reverse (highest q)) p.2 in
     let long : length (reverse (highest q)) ≡ length q = length-reverse (highest q) ∙ as_long q in
     let some = short.0 in
-    let few = short.1 in
-    (omega (arith, some, long), omega (arith, few, long), ranges_of_bytes q
-        (subst AreBytes (reverse-reverse (highest q)) (bytes_turned (reverse (highest q)) short.2)))
+    let few = short.1 in (
+      omega (arith, some, long),
+      omega (arith, few, long),
+      ranges_of_bytes q
+          (subst AreBytes (reverse-reverse (highest q)) (bytes_turned (reverse (highest q)) short.2)),
+    )
 
 all_short : (rs : List (ℕ × ℕ)) (qs : List (List (ℕ × ℕ))) → IsTrie qs →
     ((s : List ℕ) → IsIn qs s → IsIn (turned_round (sequences_of rs)) s) → (k : ℕ) → k < length qs → IsShort (get_or qs k [])

@@ -29,8 +29,11 @@ one_on i n = omega arith
 
 stands_push : (h : List ℕ) (i b : ℕ) (s : List ℕ) → StandsAt h i s → slice_get h (i + length s) ≡ Some b → StandsAt h i (s ++ b ∷ [])
 stands_push h i b [] f e = (let same : i + 0 ≡ i = omega arith in ap (slice_get h) (sym same) ∙ e, tt)
-stands_push h i b (x ∷ s) f e = (f.0, stands_push h (i + 1) b s f.1 (let same : i + 1 + length s ≡ i + length (x ∷ s) = omega arith in
-    ap (slice_get h) same ∙ e))
+stands_push h i b (x ∷ s) f e = (
+  f.0,
+  stands_push h (i + 1) b s f.1 (let same : i + 1 + length s ≡ i + length (x ∷ s) = omega arith in
+      ap (slice_get h) same ∙ e),
+)
 
 stands_parts : (h : List ℕ) (i b : ℕ) (s : List ℕ) → StandsAt h i (s ++ b ∷ []) → StandsAt h i s × (slice_get h (i + length s) ≡ Some b)
 stands_parts h i b [] f = (tt, let same : i + 0 ≡ i = omega arith in ap (slice_get h) same ∙ f.0)
@@ -72,9 +75,12 @@ module _ (looks : Looks) (h : List ℕ) where
   reads_sequence [] (b ∷ s) i e f = absurd (false≢true e)
   reads_sequence (r ∷ q) [] i e f = absurd (false≢true e)
   reads_sequence (r ∷ q) (b ∷ s) i e f =
-      let p = spelled r q b s e in
-      (i + 1, read_range r i b p.0 p.1 f.0, subst (λ (k : ℕ). Means looks h (sequence_tree q) (i + 1) k) (one_on i (length s))
-          (reads_sequence q s (i + 1) p.2 f.1))
+      let p = spelled r q b s e in (
+        i + 1,
+        read_range r i b p.0 p.1 f.0,
+        subst (λ (k : ℕ). Means looks h (sequence_tree q) (i + 1) k) (one_on i (length s))
+            (reads_sequence q s (i + 1) p.2 f.1),
+      )
 
   -- ---- a sequence read from its last range on
 
@@ -149,7 +155,7 @@ module _ (looks : Looks) (h : List ℕ) where
         let whole = first_read (sequences_of ranges) (reverse p.0) i (turned_round_in (sequences_of ranges) p.0 (has.only p.0 p.1)) p.2 in
         let end : i + length (reverse p.0) ≡ j = ap (λ n. i + n) (length-reverse p.0) ∙ sym p.3 in
         sequences_to_class looks h ranges i j (subst (λ (k : ℕ). Means looks h (alternation (map sequence_tree (sequences_of ranges))) i k)
-            end whole)
+        end whole)
 
     pub class_to_turned : Means looks h (char_class ranges) i j → Means looks h (alternation (map (read_tree true) qs)) i j
     class_to_turned m =

@@ -66,11 +66,15 @@ spelling_turned c s (from_0800 a b d r t u e v) = by_form s _ e (three_turned a 
 spelling_turned c s (from_1000 a b d r t u e v) = by_form s _ e (three_turned a b d (omega (arith, r.0)) t.0 t.1 u.0 u.1)
 spelling_turned c s (from_d000 a b d r t u e v) = by_form s _ e (three_turned a b d (omega (arith, r)) t.0 (omega (arith, t.1)) u.0 u.1)
 spelling_turned c s (from_e000 a b d r t u e v) = by_form s _ e (three_turned a b d (omega (arith, r.0)) t.0 t.1 u.0 u.1)
-spelling_turned c s (from_10000 a b d f r t u w e v) = by_form s _ e (four_turned a b d f (omega (arith, r)) (omega (arith,
-    t.0)) t.1 u.0 u.1 w.0 w.1)
+spelling_turned c s (from_10000 a b d f r t u w e v) = by_form s _ e (four_turned a b d f (omega (arith, r)) (omega (
+  arith,
+  t.0,
+)) t.1 u.0 u.1 w.0 w.1)
 spelling_turned c s (from_40000 a b d f r t u w e v) = by_form s _ e (four_turned a b d f (omega (arith, r.0)) t.0 t.1 u.0 u.1 w.0 w.1)
-spelling_turned c s (from_100000 a b d f r t u w e v) = by_form s _ e (four_turned a b d f (omega (arith, r)) t.0 (omega (arith,
-    t.1)) u.0 u.1 w.0 w.1)
+spelling_turned c s (from_100000 a b d f r t u w e v) = by_form s _ e (four_turned a b d f (omega (arith, r)) t.0 (omega (
+  arith,
+  t.1,
+)) u.0 u.1 w.0 w.1)
 
 -- no such string begins a longer one
 no_longer : (s rest : List ℕ) → IsTurnedSpelling s → IsTurnedSpelling (s ++ rest) → rest ≡ []

@@ -46,8 +46,8 @@ module _ (how : How) (t0 t1 t2 : Assembly) (s1 e1 s2 e2 : ℕ) (x y : Tree) (xs 
   second_refused new e r =
       let c = room_of_alternation how.shrink xs in let d = counted in
       first_refuses (room how.shrink (alternation xs)) (alternation xs)
-          (then_refuses (rooms how.shrink xs) (alternation xs) (first_made first) r (alternation_includes how.which xs 1 y two is_y)
-          (omega arith)) (λ index h. h) (omega arith)
+      (then_refuses (rooms how.shrink xs) (alternation xs) (first_made first) r (alternation_includes how.which xs 1 y two is_y)
+      (omega arith)) (λ index h. h) (omega arith)
 
   module _ (second : Makes t1 t2 s2 e2 (room how.shrink y)) where
     -- a step behind the first two parts is refused
@@ -57,7 +57,7 @@ module _ (how : How) (t0 t1 t2 : Assembly) (s1 e1 s2 e2 : ℕ) (x y : Tree) (xs 
     later_refused p r le lb =
         let c = room_of_alternation how.shrink xs in let d = counted in
         refuses how.which (room how.shrink (alternation xs)) (alternation xs) (then_quits (rooms how.shrink xs + 2) p r (omega arith) lb)
-            (omega arith)
+        (omega arith)
 
     begun : Progress false t0 t2 (room how.shrink x + room how.shrink y) 8
     begun = then_made 8 (first_made first) second (omega arith)
@@ -88,14 +88,14 @@ module _ (how : How) (t0 t1 t2 : Assembly) (s1 e1 s2 e2 : ℕ) (x y : Tree) (xs 
           Refuses how.which t0 new (room how.shrink (alternation xs)) (alternation xs) e
       third_lead_refused t5 t6 new e p5 p6 r =
           later_refused (then_led 16 (then_led 20 both p5 (omega arith) (omega arith) (omega arith)) p6 (omega arith) (omega arith)
-              (omega arith)) r (omega arith) (omega arith)
+          (omega arith)) r (omega arith) (omega arith)
 
       pub fourth_lead_refused : (t5 t6 t7 new : Assembly) (e : BuildError) → Led t4 t5 u s1 → Led t5 t6 e1 z → Led t6 t7 u s2 →
           Stays t7 new 0 4 e →
           Refuses how.which t0 new (room how.shrink (alternation xs)) (alternation xs) e
       fourth_lead_refused t5 t6 t7 new e p5 p6 p7 r =
           later_refused (then_led 12 (then_led 16 (then_led 20 both p5 (omega arith) (omega arith) (omega arith)) p6 (omega arith)
-              (omega arith) (omega arith)) p7 (omega arith) (omega arith) (omega arith))
+          (omega arith) (omega arith)) p7 (omega arith) (omega arith) (omega arith))
           r (omega arith) (omega arith)
 
     module _ (t3 t4 t5 t6 t7 t8 : Assembly) (u z : ℕ) (union : Added t2 t3 u (union_draft []) t2.groups)
@@ -112,9 +112,9 @@ module _ (how : How) (t0 t1 t2 : Assembly) (s1 e1 s2 e2 : ℕ) (x y : Tree) (xs 
           let starts : length t1.starts ≡ length t0.starts = ap (λ (b : Assembly). length b.starts) first.fragment.grows.settings in
           let groups : t8.groups ≡ noted how.which (length t0.starts) y (noted how.which (length t0.starts) x t0.groups) =
           ap (λ (b : Assembly). b.groups) p8.settings ∙ ap (λ (b : Assembly). b.groups) p7.settings
-              ∙ ap (λ (b : Assembly). b.groups) p6.settings ∙ ap (λ (b : Assembly). b.groups) p5.settings
+          ∙ ap (λ (b : Assembly). b.groups) p6.settings ∙ ap (λ (b : Assembly). b.groups) p5.settings
           ∙ last.groups_are ∙ union.groups_are ∙ g2 ∙ ap (λ p. noted how.which p y t1.groups) starts
-              ∙ ap (noted how.which (length t0.starts) y) g1 in
+          ∙ ap (noted how.which (length t0.starts) y) g1 in
           record {
             n = room how.shrink x + room how.shrink y + 1 + 1;
             branches = subst P front (branches_open t0 t1 t2 t3 t4 t5 t6 t7 t8 s1 e1 (room how.shrink x) s2 e2
@@ -135,10 +135,10 @@ module _ (how : How) (old b : Assembly) (u z i : ℕ) (xs : List Tree) (cs : Cas
       let P : List Tree → Type 0 = λ ys. Branches old f u z (cs.n + room how.shrink x) ys in
       let more : take i xs ++ x ∷ [] ≡ take (i + 1) xs = ap (λ (y : Tree). take i xs ++ y ∷ []) is ∙ sym (take_more xs i x l) in
       let starts : length b.starts ≡ length old.starts = ap (λ (w : Assembly). length w.starts)
-          cs.branches.progress.partly.grows.settings in
+      cs.branches.progress.partly.grows.settings in
       let groups : f.groups ≡ noted how.which (length old.starts) x b.groups =
       ap (λ (w : Assembly). w.groups) p2.settings ∙ ap (λ (w : Assembly). w.groups) p1.settings ∙ g
-          ∙ ap (λ p. noted how.which p x b.groups) starts in
+      ∙ ap (λ p. noted how.which p x b.groups) starts in
       record {
         n = cs.n + room how.shrink x;
         branches = subst P more (branches_then old b c d f u z cs.n s e (room how.shrink x) (take i xs) x cs.branches m p1 p2 does);
@@ -152,11 +152,11 @@ module _ (how : How) (old b : Assembly) (u z i : ℕ) (xs : List Tree) (cs : Cas
   cases_refused new x e l is r =
       let fits = cs.fits in
       let counted : rooms how.shrink (drop i xs) ≡ room how.shrink x + rooms how.shrink (drop (i + 1) xs) =
-          ap (rooms how.shrink) (first_left xs i x x l is) in
+      ap (rooms how.shrink) (first_left xs i x x l is) in
       let c = room_of_alternation how.shrink xs in
       first_refuses (room how.shrink (alternation xs)) (alternation xs)
-          (then_refuses (rooms how.shrink xs + 2) (alternation xs) cs.branches.progress r (alternation_includes how.which xs i x l is)
-          (omega arith)) (λ index h. h) (omega arith)
+      (then_refuses (rooms how.shrink xs + 2) (alternation xs) cs.branches.progress r (alternation_includes how.which xs i x l is)
+      (omega arith)) (λ index h. h) (omega arith)
 
   pub cases_led : (c : Assembly) (s e : ℕ) (x : Tree) → Makes b c s e (room how.shrink x) →
       Progress false old c (cs.n + room how.shrink x) 16
@@ -168,10 +168,10 @@ module _ (how : How) (old b : Assembly) (u z i : ℕ) (xs : List Tree) (cs : Cas
   cases_lead_refused c new s t x e l is m r =
       let fits = cs.fits in
       let counted : rooms how.shrink (drop i xs) ≡ room how.shrink x + rooms how.shrink (drop (i + 1) xs) =
-          ap (rooms how.shrink) (first_left xs i x x l is) in
+      ap (rooms how.shrink) (first_left xs i x x l is) in
       let k = room_of_alternation how.shrink xs in
       refuses how.which (room how.shrink (alternation xs)) (alternation xs)
-          (then_quits (rooms how.shrink xs + 2) (cases_led c s t x m) r (omega arith) (omega arith)) (omega arith)
+      (then_quits (rooms how.shrink xs + 2) (cases_led c s t x m) r (omega arith) (omega arith)) (omega arith)
 
   pub cases_end_refused : (c d new : Assembly) (s t : ℕ) (x : Tree) (e : BuildError) → i < length xs → x ≡ get_or xs i x →
       Makes b c s t (room how.shrink x) → Led c d u s → Stays d new 0 4 e →
@@ -180,11 +180,11 @@ module _ (how : How) (old b : Assembly) (u z i : ℕ) (xs : List Tree) (cs : Cas
       let fits = cs.fits in
       let v = cs.branches.u_new in
       let counted : rooms how.shrink (drop i xs) ≡ room how.shrink x + rooms how.shrink (drop (i + 1) xs) =
-          ap (rooms how.shrink) (first_left xs i x x l is) in
+      ap (rooms how.shrink) (first_left xs i x x l is) in
       let k = room_of_alternation how.shrink xs in
       refuses how.which (room how.shrink (alternation xs)) (alternation xs)
-          (then_quits (rooms how.shrink xs + 2) (then_led 12 (cases_led c s t x m) p1 v (omega arith) (omega arith)) r (omega arith)
-          (omega arith)) (omega arith)
+      (then_quits (rooms how.shrink xs + 2) (then_led 12 (cases_led c s t x m) p1 v (omega arith) (omega arith)) r (omega arith)
+      (omega arith)) (omega arith)
 
   pub cases_made : Makes old b u z (room how.shrink (alternation xs))
   cases_made = let fits = cs.fits in let c = room_of_alternation how.shrink xs in

@@ -37,7 +37,7 @@ pub record Branches (old mid : Assembly) (u z n : ℕ) (done : List Tree) : Type
 module _ (t0 t1 t2 t3 t4 t5 t6 t7 t8 : Assembly) (s1 e1 n1 s2 e2 n2 u z : ℕ) (x y : Tree) (first : Makes t0 t1 s1 e1 n1)
     (second : Makes t1 t2 s2 e2 n2) (union : Added t2 t3 u (union_draft []) t2.groups)
     (last : Added t3 t4 z (empty_draft 0) t3.groups) (p5 : Led t4 t5 u s1) (p6 : Led t5 t6 e1 z) (p7 : Led t6 t7 u s2)
-        (p8 : Led t7 t8 e2 z) where
+    (p8 : Led t7 t8 e2 z) where
   open_2 : Progress false t0 t2 (n1 + n2) 8
   open_2 = then_made 8 (first_made first) second (omega arith)
 
@@ -59,7 +59,7 @@ module _ (t0 t1 t2 t3 t4 t5 t6 t7 t8 : Assembly) (s1 e1 n1 s2 e2 n2 u z : ℕ) (
         ∙ second.fragment.grows.same q high;
     led = fin e1 (omega arith) (omega arith) (omega arith) (omega arith) ∙ p8.same e1 (omega arith) ∙ p7.same e1 (omega arith) ∙ p6.here
         ∙ ap (patched z) (p5.same e1 (omega arith) ∙ last.grows.same e1 (omega arith) ∙ union.grows.same e1 (omega arith)
-            ∙ second.fragment.grows.same e1 (omega arith));
+        ∙ second.fragment.grows.same e1 (omega arith));
   }
 
   open_second : (table : Table) → FinishesBut (length t0.drafts) t8.drafts u z table → Finished (length t1.drafts) t2.drafts e2 z table
@@ -67,7 +67,7 @@ module _ (t0 t1 t2 t3 t4 t5 t6 t7 t8 : Assembly) (s1 e1 n1 s2 e2 n2 u z : ℕ) (
     states = λ q low high ne. fin q (omega arith) (omega arith) (omega arith) (omega arith) ∙ later q high (omega arith) ne;
     led = fin e2 (omega arith) (omega arith) (omega arith) (omega arith) ∙ p8.here
         ∙ ap (patched z) (p7.same e2 (omega arith) ∙ p6.same e2 (omega arith) ∙ p5.same e2 (omega arith) ∙ last.grows.same e2 (omega arith)
-            ∙ union.grows.same e2 (omega arith));
+        ∙ union.grows.same e2 (omega arith));
   }
 
   pub branches_open : Does t0 t1 s1 e1 x → Does t1 t2 s2 e2 y → Branches t0 t8 u z (n1 + n2 + 1 + 1) (x ∷ y ∷ [])
@@ -90,7 +90,7 @@ module _ (t0 t1 t2 t3 t4 t5 t6 t7 t8 : Assembly) (s1 e1 n1 s2 e2 n2 u z : ℕ) (
         (cases_lt q (length t1.drafts));
     denote = λ table fin. more_denote s1 x (s2 ∷ []) (y ∷ []) (does1.denotes table z (open_first table fin))
         (more_denote s2 y [] [] (reads_as t0 t1 table s2 z y first.fragment.grows (does2.denotes table z (open_second table fin)))
-            none_denote);
+        none_denote);
     looks = λ l. quiet_led p8 l ∙ quiet_led p7 l ∙ quiet_led p6 l ∙ quiet_led p5 l ∙ quiet_added last (λ k. refl) l
         ∙ quiet_added union (λ k. refl) l
         ∙ adds_both t0 t1 t2 x y (alternation (x ∷ y ∷ [])) does1.looks
@@ -165,7 +165,7 @@ module _ (old mid : Assembly) (u z n : ℕ) (done : List Tree) (bs : Branches ol
       (λ (not_u : q ≡ u → ⊥). ⊎_elim
       (λ (e : q ≡ z). subst P (sym e) out)
       (λ (not_z : q ≡ z → ⊥). let o = bs.outs table (all_but target table fin) q low high not_u not_z in
-          out_on table target z o.0 q o.1 out)
+      out_on table target z o.0 q o.1 out)
       (cases_eq q z))
       (cases_eq q u))
 

@@ -37,15 +37,17 @@ both_none None b e = e
 both_none (Some x) b e = absurd (cc)
 
 pub start_added : (old new : Assembly) (id index : ℕ) (name : Option Name) → id ≡ length old.drafts →
-    new ≡ record (with_draft old (capture_start_draft (length old.starts) index 0)) { groups =
-        with_group old.groups (length old.starts) index name } →
+    new ≡ record (with_draft old (capture_start_draft (length old.starts) index 0)) {
+      groups =
+          with_group old.groups (length old.starts) index name;
+    } →
     option_or (index_fault (length old.starts) index) (add_fault old (capture_start_draft (length old.starts) index 0)) ≡ None →
     Added old new id (capture_start_draft (length old.starts) index 0) (with_group old.groups (length old.starts) index name)
 start_added old new id index name is e none =
     let draft = capture_start_draft (length old.starts) index 0 in
     added_group old new id draft (with_group old.groups (length old.starts) index name) is e
     (numbered old draft (both_none (index_fault (length old.starts) index) (add_fault old draft) none))
-        (known_group old.groups (length old.starts) index name)
+    (known_group old.groups (length old.starts) index name)
 
 pub end_added : (old new : Assembly) (id index : ℕ) → id ≡ length old.drafts →
     new ≡ with_draft old (capture_end_draft (length old.starts) index 0) →
@@ -71,7 +73,7 @@ same_fault p index fault e = cc
 group_refused : (b : Bool) (old : Assembly) (index : ℕ) (draft : DraftNode) (e : BuildError) → b ≡ nat_lt greatest_index index →
     draft_bytes draft ≤ 24 →
     Tells e (option_or (if b then Some (captures_refused (TooManyGroups (length old.starts) index)) else None) (add_fault old draft)) →
-        RefusesGroup (length old.starts) index old e
+    RefusesGroup (length old.starts) index old e
 group_refused true old index draft error.TooManyPatterns test le told = absurd (cc)
 group_refused true old index draft error.TooManyStates test le told = absurd (cc)
 group_refused true old index draft (error.ExceededSizeLimit limit) test le told = absurd (cc)
@@ -85,7 +87,7 @@ group_refused false old index draft e test le told =
 
 pub end_refused : (old new : Assembly) (index : ℕ) (e : BuildError) → new ≡ old →
     Tells e (option_or (index_fault (length old.starts) index) (add_fault old (capture_end_draft (length old.starts) index 0))) →
-        QuitsGroup old new index e
+    QuitsGroup old new index e
 end_refused old new index e same told = record {
   settings = same ∙ ap (λ (b : Assembly). record old { drafts = b.drafts; groups = b.groups }) (sym same);
   cause = group_refused (nat_lt greatest_index index) old index (capture_end_draft (length old.starts) index 0) e refl (omega arith) told;
@@ -93,17 +95,17 @@ end_refused old new index e same told = record {
 
 start_cause : (old : Assembly) (index : ℕ) (e : BuildError) →
     (e ≡ error.NoMemory) ⊎ Tells e (option_or (index_fault (length old.starts) index)
-        (add_fault old (capture_start_draft (length old.starts) index 0))) → RefusesGroup (length old.starts) index old e
+    (add_fault old (capture_start_draft (length old.starts) index 0))) → RefusesGroup (length old.starts) index old e
 start_cause old index e told = ⊎_elim
     (λ (none : e ≡ error.NoMemory). let P : BuildError → Type 0 = λ one. RefusesGroup (length old.starts) index old one in
-        subst P (sym none) tt)
+    subst P (sym none) tt)
     (λ (t : Tells e (option_or (index_fault (length old.starts) index) (add_fault old (capture_start_draft (length old.starts) index 0)))).
     group_refused (nat_lt greatest_index index) old index (capture_start_draft (length old.starts) index 0) e refl (omega arith) t)
     told
 
 pub start_refused : (old new : Assembly) (index : ℕ) (e : BuildError) → new ≡ record old { groups = new.groups } →
     (e ≡ error.NoMemory) ⊎ Tells e (option_or (index_fault (length old.starts) index)
-        (add_fault old (capture_start_draft (length old.starts) index 0))) → QuitsGroup old new index e
+    (add_fault old (capture_start_draft (length old.starts) index 0))) → QuitsGroup old new index e
 start_refused old new index e same told = record {
   settings = same ∙ ap (λ (b : Assembly). record old { drafts = b.drafts; groups = new.groups }) (sym same);
   cause = start_cause old index e told;
@@ -113,7 +115,7 @@ start_refused old new index e same told = record {
 group_later : (kept : WhichCaptures) (p index : ℕ) (name : Option Name) (x : Tree) (old mid : Assembly) (k m : ℕ) (e : BuildError) →
     mid.size_limit ≡ old.size_limit → keeps_group kept index ≡ true →
     length mid.drafts ≤ length old.drafts + k → k < m → RefusesGroup p index mid e → sum_of_bytes mid + 24 ≤ sum_of_bytes old + 4096 * m →
-        RefusesTree kept p old m (capture index name x) e
+    RefusesTree kept p old m (capture index name x) e
 group_later kept p index name x old mid k m error.TooManyPatterns size keeps states le r room = r
 group_later kept p index name x old mid k m error.TooManyStates size keeps states le r room =
     step_later old mid 1 24 m m error.TooManyStates size (omega arith) room (omega arith) r
@@ -169,11 +171,11 @@ plain_does old new s e index name x does =
 module _ (t0 t1 t2 t3 t4 t5 : Assembly) (a s e z n index pattern : ℕ) (name : Option Name)
     (first : Added t0 t1 a (capture_start_draft (length t0.starts) index 0) (with_group t0.groups (length t0.starts) index name))
     (body : Makes t1 t2 s e n) (last : Added t2 t3 z (capture_end_draft pattern index 0) t2.groups)
-        (same_pattern : pattern ≡ length t0.starts) (p4 : Led t3 t4 a s) (p5 : Led t4 t5 e z) where
+    (same_pattern : pattern ≡ length t0.starts) (p4 : Led t3 t4 a s) (p5 : Led t4 t5 e z) where
   start_known : is_known t1.groups (capture_start_draft (length t0.starts) index 0) ≡ true
   start_known = ap (λ (gs : Groups). is_known gs (capture_start_draft (length t0.starts) index 0)) first.groups_are
       ∙ known_of_in (with_group t0.groups (length t0.starts) index name) (length t0.starts) index
-          (group_in t0.groups (length t0.starts) index name)
+      (group_in t0.groups (length t0.starts) index name)
 
   start_tame : IsTame false t1 (capture_start_draft (length t0.starts) index 0)
   start_tame = tame_one t1 (capture_start_draft (length t0.starts) index 0) 0 refl (omega arith) start_known refl
@@ -183,7 +185,7 @@ module _ (t0 t1 t2 t3 t4 t5 : Assembly) (a s e z n index pattern : ℕ) (name : 
       let P : ℕ → Type 0 = λ p. is_known t1.groups (capture_end_draft p index 0) ≡ true in
       tame_one t3 (capture_end_draft pattern index 0) 0 refl (omega arith)
       (last.grows.known (capture_end_draft pattern index 0) (body.fragment.grows.known (capture_end_draft pattern index 0)
-          (subst P (sym same_pattern) start_known))) refl
+      (subst P (sym same_pattern) start_known))) refl
 
   pub capture_1 : Progress false t0 t1 1 4000
   capture_1 = first_added 4000 first start_tame (omega arith)
@@ -221,7 +223,7 @@ module _ (t0 t1 t2 t3 t4 t5 : Assembly) (a s e z n index pattern : ℕ) (name : 
   pub capture_made : Makes t0 t5 a z (n + 2)
   capture_made =
       made (n + 2) (then_led 3992 capture_4 p5 (omega arith) (omega arith) (omega arith)) (omega arith) (omega arith) (omega arith)
-          (omega arith) (omega arith) (omega arith)
+      (omega arith) (omega arith) (omega arith)
       (ap is_sparse capture_z)
       (λ table target fin.
       let real_a = out_here table target a (ap stands_for (capture_start target table fin)) in
@@ -229,7 +231,7 @@ module _ (t0 t1 t2 t3 t4 t5 : Assembly) (a s e z n index pattern : ℕ) (name : 
       let P : ℕ → Type 0 = λ k. AllComeOut table target k (length t1.drafts) in
       let Q : ℕ → Type 0 = λ k. AllComeOut table target k (length t5.drafts) in
       all_join table target (length t0.drafts) (length t1.drafts) (length t5.drafts)
-          (subst P first.is (all_here table target a (length t1.drafts) (omega arith) real_a))
+      (subst P first.is (all_here table target a (length t1.drafts) (omega arith) real_a))
       (all_join table target (length t1.drafts) (length t2.drafts) (length t5.drafts)
       (all_on table target z (length t1.drafts) (length t2.drafts) (body.comes_out table z (capture_body target table fin)) real_z)
       (subst Q last.is (all_here table target z (length t5.drafts) (omega arith) real_z))))

@@ -48,8 +48,11 @@ module _ (back : Bool) (T : Table) (t : Text) (e : ℕ) where
   all_complete : (qs : List ℕ) (xs : List Tree) → AllDenote back T e qs xs → (i j : ℕ) → IsMeant back t (alternation xs) i j → Chosen qs i j
   all_complete _ _ none_denote i j m = absurd (meant_never back t i j m)
   all_complete _ _ (more_denote q x qs xs d ds) i j m = elim (meant_alt back t x (alternation xs) i j m) [
-    | inl a ↦ record { by = q; is_way = has_same same_pair pairs_equal (i, q) (i, q) (each_at qs i) refl;
-        on = (d.reaches t).complete i j a }
+    | inl a ↦ record {
+      by = q;
+      is_way = has_same same_pair pairs_equal (i, q) (i, q) (each_at qs i) refl;
+      on = (d.reaches t).complete i j a;
+    }
     | inr b ↦ let c = all_complete qs xs ds i j b in
         record { by = c.by; is_way = has_later same_pair (i, c.by) (i, q) (each_at qs i) c.is_way; on = c.on }
   ]
@@ -120,8 +123,10 @@ all_lists T t e _ _ (more_denote q x qs xs d ds) f i l walk =
 all_orders : (back : Bool) (T : Table) (t : Text) (u e : ℕ) (qs : List ℕ) (xs : List Tree) → back ≡ false → AllDenote back T e qs xs →
     Goes back t T u (each_at qs) →
     LoopsRead (alternation xs) → Orders t T u e (preferred_ends t.holds (seen t) (alternation xs))
-all_orders false T t u e qs xs up all g f = record { lists = λ i l walk. firsts_on t T u (each_at qs) i l g
-    (all_lists T t e qs xs all f i l walk) }
+all_orders false T t u e qs xs up all g f = record {
+  lists = λ i l walk. firsts_on t T u (each_at qs) i l g
+      (all_lists T t e qs xs all f i l walk);
+}
 all_orders true T t u e qs xs up all g f = cc
 
 -- a union of the branches' states

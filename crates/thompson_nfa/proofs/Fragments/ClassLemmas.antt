@@ -71,7 +71,7 @@ module _ (a b c : Assembly) (end start : ℕ) (ranges : List (ℕ × ℕ)) (firs
       let tame : IsTame true c class_part =
       record { named = names_to_one (length c.drafts) end ranges (omega arith); known = refl; not_barred = refl } in
       made 2 (then_added 8 (first_added 8 first (tame_one b (empty_draft 0) 0 refl (omega arith) refl refl) (omega arith)) second tame
-          (omega arith)) (omega arith) (omega arith)
+      (omega arith)) (omega arith) (omega arith)
       (omega arith) (omega arith) (omega arith) (omega arith) (ap is_sparse class_end)
       (λ table target fin.
       let last : table end ≡ empty_draft target = fin.led ∙ ap (patched target) class_end in

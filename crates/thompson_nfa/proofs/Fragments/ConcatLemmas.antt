@@ -82,7 +82,7 @@ left_room shrink true xs i x l e = let p = rooms_push shrink (take (length xs - 
 pub left_groups : (kept : WhichCaptures) (p : ℕ) (back : Bool) (xs : List Tree) (i : ℕ) (x : Tree) (was now whole : Groups) →
     (back ≡ true → kept ≡ which.None) → i < length xs →
     x ≡ get_or xs (turned_place back i (length xs)) x → now ≡ noted kept p x was →
-        noted kept p (concat (left_after back i xs)) was ≡ whole → noted kept p (concat (left_after back (i + 1) xs)) now ≡ whole
+    noted kept p (concat (left_after back i xs)) was ≡ whole → noted kept p (concat (left_after back (i + 1) xs)) now ≡ whole
 left_groups kept p false xs i x was now whole none l e is so_far =
     ap (noted kept p (concat (drop (i + 1) xs))) is ∙ sym (ap (λ ys. noted kept p (concat ys) was) (first_left xs i x x l e)) ∙ so_far
 left_groups kept p true xs i x was now whole none l e is so_far =
@@ -103,7 +103,7 @@ pub record Parts (how : How) (old mid : Assembly) (start end i : ℕ) (xs : List
 pub parts_first : (how : How) (old mid : Assembly) (s e : ℕ) (x : Tree) (xs : List Tree) → IsReady how.which old → 0 < length xs →
     x ≡ get_or xs (turned_place old.reverse 0 (length xs)) x →
     Makes old mid s e (room how.shrink x) → Does old mid s e x → mid.groups ≡ noted how.which (length old.starts) x old.groups →
-        Parts how old mid s e 1 xs
+    Parts how old mid s e 1 xs
 parts_first how old mid s e x xs ready some is m d g =
     let counted = left_room how.shrink old.reverse xs 0 x some is in
     let all : rooms how.shrink (left_after old.reverse 0 xs) ≡ rooms how.shrink xs = ap (rooms how.shrink) (left_all old.reverse xs) in
@@ -127,7 +127,7 @@ starts_kept ps = ap (λ (b : Assembly). length b.starts) ps.made.fragment.grows.
 pub parts_then : (how : How) (old b c d : Assembly) (start end s e i : ℕ) (x : Tree) (xs : List Tree) → IsReady how.which old →
     i < length xs → x ≡ get_or xs (turned_place old.reverse i (length xs)) x →
     Parts how old b start end i xs → Makes b c s e (room how.shrink x) → Does b c s e x →
-        c.groups ≡ noted how.which (length b.starts) x b.groups → Led c d end s → Parts how old d start e (i + 1) xs
+    c.groups ≡ noted how.which (length b.starts) x b.groups → Led c d end s → Parts how old d start e (i + 1) xs
 parts_then how old b c d start end s e i x xs ready inside is ps m does g led =
     let counted = left_room how.shrink old.reverse xs i x inside is in
     let fits = ps.fits in
@@ -165,8 +165,8 @@ module _ (how : How) (old mid : Assembly) (start end i : ℕ) (xs : List Tree) (
       let fits = ps.fits in
       let c = room_of_concat how.shrink xs in
       first_refuses (room how.shrink (concat xs)) (concat xs) (then_refuses (rooms how.shrink xs) (concat xs) (first_made ps.made) r
-          (concat_includes how.which xs (turned_place old.reverse i (length xs)) x (turned_below old.reverse i (length xs) inside) is)
-          (omega arith))
+      (concat_includes how.which xs (turned_place old.reverse i (length xs)) x (turned_below old.reverse i (length xs) inside) is)
+      (omega arith))
       (λ index h. h) (omega arith)
 
   pub parts_lead_refused : (b new : Assembly) (s t : ℕ) (x : Tree) (e : BuildError) → i < length xs →
@@ -177,7 +177,7 @@ module _ (how : How) (old mid : Assembly) (start end i : ℕ) (xs : List Tree) (
       let fits = ps.fits in
       let c = room_of_concat how.shrink xs in
       refuses how.which (room how.shrink (concat xs)) (concat xs) (then_quits (rooms how.shrink xs)
-          (then_made 8 (first_made ps.made) m (omega arith)) r (omega arith) (omega arith)) (omega arith)
+      (then_made 8 (first_made ps.made) m (omega arith)) r (omega arith) (omega arith)) (omega arith)
 
 -- the first part is refused
 pub first_part_refused : (how : How) (old new : Assembly) (x : Tree) (xs : List Tree) (e : BuildError) → 0 < length xs →
@@ -188,4 +188,4 @@ first_part_refused how old new x xs e some is r =
     let all : rooms how.shrink (left_after old.reverse 0 xs) ≡ rooms how.shrink xs = ap (rooms how.shrink) (left_all old.reverse xs) in
     let c = room_of_concat how.shrink xs in
     first_refuses (room how.shrink (concat xs)) (concat xs) r (concat_includes how.which xs (turned_place old.reverse 0 (length xs)) x
-        (turned_below old.reverse 0 (length xs) some) is) (omega arith)
+    (turned_below old.reverse 0 (length xs) some) is) (omega arith)

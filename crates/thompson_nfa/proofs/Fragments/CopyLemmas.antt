@@ -41,7 +41,7 @@ copies_one a b s e x does = record {
       let one : suc low ≡ 1 + low = omega arith in
       subst P one (subst Q (one_raised most)
       (does_first a b s e x (repetition low most greedy x) (repetition (suc low) (one_more most) greedy x)
-          (joins_copy a.reverse low most greedy x) does));
+      (joins_copy a.reverse low most greedy x) does));
 }
 
 pub copies_more : (a b c d : Assembly) (s1 e1 n1 s2 e2 n2 n : ℕ) (x : Tree) → Makes a b s1 e1 n1 → Makes b c s2 e2 n2 → Led c d e1 s2 →
@@ -53,7 +53,7 @@ copies_more a b c d s1 e1 n1 s2 e2 n2 n x first second led copies does = record 
       let one : n + suc low ≡ n + 1 + low = omega arith in
       subst P one (subst Q (raised_more n most)
       (join_does a b c d s1 e1 n1 s2 e2 n2 first second led x (repetition low most greedy x) (repetition (suc low) (one_more most) greedy x)
-          (repetition (n + suc low) (raised n (one_more most)) greedy x)
+      (repetition (n + suc low) (raised n (one_more most)) greedy x)
       (joins_copy a.reverse low most greedy x) (copies.before (suc low) (one_more most) greedy) does));
 }
 
@@ -65,8 +65,11 @@ pub record Copies (how : How) (old mid : Assembly) (start end i : ℕ) (x : Tree
 pub copies_first : (how : How) (old mid : Assembly) (s e : ℕ) (x : Tree) → Makes old mid s e (room how.shrink x) → Does old mid s e x →
     mid.groups ≡ noted how.which (length old.starts) x old.groups →
     Copies how old mid s e 1 x
-copies_first how old mid s e x m d g = record { made = made_capped (1 * room how.shrink x) m (omega arith);
-    does = copies_one old mid s e x d; groups = g }
+copies_first how old mid s e x m d g = record {
+  made = made_capped (1 * room how.shrink x) m (omega arith);
+  does = copies_one old mid s e x d;
+  groups = g;
+}
 
 -- the groups of one more copy
 pub groups_again : (kept : WhichCaptures) (p q : ℕ) (x : Tree) (old was now : Groups) → q ≡ p → was ≡ noted kept p x old →
@@ -83,7 +86,7 @@ copies_then how old b c d start end s e i x cs m does g led = record {
   does = copies_more old b c d start end (i * room how.shrink x) s e (room how.shrink x) i x cs.made m led cs.does does;
   groups = ap (λ (z : Assembly). z.groups) led.settings
       ∙ groups_again how.which (length old.starts) (length b.starts) x old.groups b.groups c.groups
-          (ap (λ (z : Assembly). length z.starts) cs.made.fragment.grows.settings) cs.groups g;
+      (ap (λ (z : Assembly). length z.starts) cs.made.fragment.grows.settings) cs.groups g;
 }
 
 pub copies_refused : (how : How) (old b new : Assembly) (start end i n : ℕ) (x : Tree) (e : BuildError) → Copies how old b start end i x →
@@ -98,7 +101,7 @@ pub copies_lead_refused : (how : How) (old b c new : Assembly) (start end s t i 
 copies_lead_refused how old b c new start end s t i n x e cs l m r =
     let fits = one_fits i n (room how.shrink x) l in
     refuses how.which (n * room how.shrink x) x (then_quits (n * room how.shrink x) (then_made 8 (first_made cs.made) m (omega arith)) r
-        (omega arith) (omega arith)) (omega arith)
+    (omega arith) (omega arith)) (omega arith)
 
 -- exactly so many copies
 pub copies_exact : (old new : Assembly) (s e low most : ℕ) (greedy : Bool) (x : Tree) → low ≡ most → DoesCopies old new s e low x →
@@ -109,7 +112,7 @@ copies_exact old new s e low most greedy x same copies =
     let a : low + 0 ≡ low = omega arith in
     let b : low + 0 ≡ most = omega arith in
     subst P a (subst Q b (does_all old new s e (repetition 0 (Some 0) greedy x) (repetition (low + 0) (Some (low + 0)) greedy x)
-        (same_stopped greedy x) (copies.before 0 (Some 0) greedy)))
+    (same_stopped greedy x) (copies.before 0 (Some 0) greedy)))
 
 -- copies before a loop
 pub copies_loop : (a b c d : Assembly) (s1 e1 n1 s2 e2 n2 low : ℕ) (greedy : Bool) (x : Tree) → Makes a b s1 e1 n1 → Makes b c s2 e2 n2 →
@@ -123,7 +126,7 @@ copies_loop a b c d s1 e1 n1 s2 e2 n2 low greedy x first second led some copies 
       denotes = λ table target fin.
           lead.before table s2 (join_first a b c d s1 e1 n1 s2 e2 n2 first second led target table fin) target
           (reads_as a b table s2 target (repetition 1 None greedy x) first.fragment.grows
-              (does.denotes table target (join_second a b c d s1 e1 n1 s2 e2 n2 first second led target table fin)));
+          (does.denotes table target (join_second a b c d s1 e1 n1 s2 e2 n2 first second led target table fin)));
       looks = λ l. quiet_led led l ∙ does.looks l
           ∙ ap (λ (r : Bool). looks_in b.drafts l || uses r x l) (ap (λ (z : Assembly). z.reverse) first.fragment.grows.settings)
           ∙ lead.looks l;
@@ -139,7 +142,7 @@ pub record Rounds (how : How) (old mid : Assembly) (start end z i low most total
 pub rounds_owed : (how : How) (t0 t1 t2 : Assembly) (s e z low most : ℕ) (greedy : Bool) (x : Tree) → low ≤ most →
     Makes t0 t1 s e (low * room how.shrink x) → DoesCopies t0 t1 s e low x →
     t1.groups ≡ noted how.which (length t0.starts) x t0.groups → Added t1 t2 z (empty_draft 0) t1.groups →
-        Rounds how t0 t2 s e z low low most (low * room how.shrink x + (most - low) * (room how.shrink x + 1) + 1) greedy x
+    Rounds how t0 t2 s e z low low most (low * room how.shrink x + (most - low) * (room how.shrink x + 1) + 1) greedy x
 rounds_owed how t0 t1 t2 s e z low most greedy x le m copies g added = record {
   n = low * room how.shrink x + 1;
   options = options_owed t0 t1 t2 s e (low * room how.shrink x) z (most - low) low most greedy x m copies added (omega arith);
@@ -150,7 +153,7 @@ rounds_owed how t0 t1 t2 s e z low most greedy x le m copies g added = record {
 pub rounds_first : (how : How) (t0 t1 t2 : Assembly) (u e z most : ℕ) (greedy : Bool) (x : Tree) → 0 < most →
     Added t0 t1 z (empty_draft 0) t0.groups → Makes t1 t2 u e (room how.shrink x + 1) →
     DoesOption t1 t2 u e z greedy x → t2.groups ≡ noted how.which (length t1.starts) x t1.groups →
-        Rounds how t0 t2 u e z 1 0 most (most * (room how.shrink x + 1) + 1) greedy x
+    Rounds how t0 t2 u e z 1 0 most (most * (room how.shrink x + 1) + 1) greedy x
 rounds_first how t0 t1 t2 u e z zero greedy x some added m does g = absurd (omega arith)
 rounds_first how t0 t1 t2 u e z (suc left) greedy x some added m does g = record {
   n = 1 + (room how.shrink x + 1);
@@ -178,7 +181,7 @@ module _ (how : How) (old b : Assembly) (start end z i low most total : ℕ) (gr
         fits = omega arith;
         groups = ap (λ (w : Assembly). w.groups) led.settings
             ∙ groups_again how.which (length old.starts) (length b.starts) x old.groups b.groups c.groups
-                (ap (λ (w : Assembly). length w.starts) rs.options.progress.partly.grows.settings) rs.groups g;
+            (ap (λ (w : Assembly). length w.starts) rs.options.progress.partly.grows.settings) rs.groups g;
       }
 
   pub rounds_refused : (new : Assembly) (e : BuildError) → i < most → Refuses how.which b new (room how.shrink x + 1) x e →
@@ -194,7 +197,7 @@ module _ (how : How) (old b : Assembly) (start end z i low most total : ℕ) (gr
       let step = round_less i most (room how.shrink x + 1) l in
       let fits = rs.fits in
       refuses how.which total x (then_quits total (then_made 8 rs.options.progress m (omega arith)) r (omega arith) (omega arith))
-          (omega arith)
+      (omega arith)
 
   pub rounds_last_refused : (new : Assembly) (e : BuildError) → Stays b new 0 4 e → Refuses how.which old new total x e
   rounds_last_refused new e r = let fits = rs.fits in refuses how.which total x
@@ -225,7 +228,7 @@ at_least_made shrink a b c d s1 e1 s2 e2 low greedy x some first second led =
     let most : max low 1 ≡ low = omega arith in
     let f = ap (λ n. n * room shrink x) most in
     made_capped (room shrink (repetition low None greedy x)) (join_made a b c d s1 e1 ((low - 1) * room shrink x) s2 e2
-        (room shrink x + 1) first second led) (omega arith)
+    (room shrink x + 1) first second led) (omega arith)
 
 pub stopped_does : (a b : Assembly) (s e low most : ℕ) (greedy : Bool) (x : Tree) → most ≡ 0 → low ≤ most → Does a b s e empty →
     Does a b s e (repetition low (Some most) greedy x)

@@ -18,7 +18,7 @@ module _ (a b c d : Assembly) (s1 e1 n1 s2 e2 n2 : ℕ) (first : Makes a b s1 e1
       Finished (length a.drafts) b.drafts e1 s2 table
   join_first target table fin =
       let f = first.fragment in let g = second.fragment in let l = led.size in let m = g.grows.longer in let k = g.end_new in let j =
-          f.end_there in let h = f.end_new in
+      f.end_there in let h = f.end_new in
       record {
         states = λ q low high ne. fin.states q low (omega arith) (omega arith) ∙ led.same q ne ∙ g.grows.same q high;
         led = fin.states e1 h (omega arith) (omega arith) ∙ led.here ∙ ap (patched s2) (g.grows.same e1 j);
@@ -28,7 +28,7 @@ module _ (a b c d : Assembly) (s1 e1 n1 s2 e2 n2 : ℕ) (first : Makes a b s1 e1
       Finished (length b.drafts) c.drafts e2 target table
   join_second target table fin =
       let f = first.fragment in let g = second.fragment in let l = led.size in let m = f.grows.longer in let k = g.end_new in let j =
-          f.end_there in
+      f.end_there in
       record {
         states = λ q low high ne. fin.states q (omega arith) (omega arith) ne ∙ led.same q (omega arith);
         led = fin.led ∙ ap (patched target) (led.same e2 (omega arith));
@@ -37,9 +37,9 @@ module _ (a b c d : Assembly) (s1 e1 n1 s2 e2 n2 : ℕ) (first : Makes a b s1 e1
   pub join_made : Makes a d s1 e2 (n1 + n2)
   join_made =
       let f = first.fragment in let g = second.fragment in let l = led.size in let m = f.grows.longer in let k = g.end_new in let j =
-          f.end_there in
+      f.end_there in
       let h = f.start_there in let i = g.end_there in let o = g.start_there in let p = g.start_new in let r = f.start_new in let t =
-          f.end_new in let u = g.grows.longer in
+      f.end_new in let u = g.grows.longer in
       made (n1 + n2) (then_led 12 (then_made 16 (first_made first) second (omega arith)) led t o (omega arith)) (omega arith) (omega arith)
       r (omega arith) (omega arith) (omega arith) (ap is_sparse (led.same e2 (omega arith)) ∙ g.can_be_led_on)
       (λ table target fin.
@@ -47,7 +47,7 @@ module _ (a b c d : Assembly) (s1 e1 n1 s2 e2 n2 : ℕ) (first : Makes a b s1 e1
       let front = first.comes_out table s2 (join_first target table fin) in
       let P : ℕ → Type 0 = λ n. AllComeOut table target (length a.drafts) n in
       subst P (sym l) (all_join table target (length a.drafts) (length b.drafts) (length c.drafts)
-          (all_on table target s2 (length a.drafts) (length b.drafts) front (later s2 p o)) later))
+      (all_on table target s2 (length a.drafts) (length b.drafts) front (later s2 p o)) later))
 
   -- what the first leaves to do is done by the second and what that leaves
   pub join_does : (x rest owed whole : Tree) → Joins a.reverse x rest owed → DoesFirst a b s1 e1 owed whole → Does b c s2 e2 x →

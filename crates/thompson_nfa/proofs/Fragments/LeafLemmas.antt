@@ -44,7 +44,7 @@ leaf : (old new : Assembly) (id : ℕ) (draft : DraftNode) → Added old new id 
     ((target : ℕ) → (stands_for (patched target draft) ≡ None) ⊎ (stands_for (patched target draft) ≡ Some target)) → Makes old new id id 1
 leaf old new id draft x le kind tame goes =
     made 1 (first_added 8 x tame (omega arith)) (omega arith) (omega arith) (omega arith) (omega arith) (omega arith) (omega arith)
-        (ap is_sparse x.here ∙ kind)
+    (ap is_sparse x.here ∙ kind)
     (λ table target fin.
     let is : table id ≡ patched target draft = fin.led ∙ ap (patched target) x.here in
     let low : id ≡ length old.drafts = x.is in
@@ -52,7 +52,7 @@ leaf old new id draft x le kind tame goes =
     subst P low (all_here table target id (length new.drafts) (omega arith)
     (⊎_elim (λ (n : stands_for (patched target draft) ≡ None). out_here table target id (ap stands_for is ∙ n))
     (λ (n : stands_for (patched target draft) ≡ Some target). out_next table target id target (ap stands_for is ∙ n) (out_at table target))
-        (goes target))))
+    (goes target))))
 
 pub empty_made : (old new : Assembly) (id : ℕ) → Added old new id (empty_draft 0) old.groups → Makes old new id id 1
 empty_made old new id x = leaf old new id (empty_draft 0) x (omega arith) refl (tame_one new (empty_draft 0) 0 refl (omega arith) refl refl)

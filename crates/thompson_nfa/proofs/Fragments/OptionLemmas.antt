@@ -38,7 +38,7 @@ module _ (t0 t1 t2 t3 t4 : Assembly) (greedy : Bool) (u s e n z : ℕ) (added : 
   pub option_made : Makes t0 t4 u e (n + 1)
   option_made =
       made (n + 1) (then_led 3992 (then_led 3996 (then_made 4000 (choice_first greedy added) body (omega arith)) p3 (omega arith)
-          (omega arith) (omega arith)) p4 (omega arith) (omega arith) (omega arith))
+      (omega arith) (omega arith)) p4 (omega arith) (omega arith) (omega arith))
       (omega arith) (omega arith) (omega arith) (omega arith) (omega arith) (omega arith)
       (ap is_sparse (p4.same e (omega arith) ∙ p3.same e (omega arith)) ∙ body.fragment.can_be_led_on)
       (λ table target fin.
@@ -47,14 +47,14 @@ module _ (t0 t1 t2 t3 t4 : Assembly) (greedy : Bool) (u s e n z : ℕ) (added : 
       let Q : ℕ → Type 0 = λ k. AllComeOut table target (length t1.drafts) k in
       let size : length t2.drafts ≡ length t4.drafts = omega arith in
       all_join table target (length t0.drafts) (length t1.drafts) (length t4.drafts)
-          (subst P added.is (all_here table target u (length t1.drafts) (omega arith) real_u))
+      (subst P added.is (all_here table target u (length t1.drafts) (omega arith) real_u))
       (subst Q size (body.comes_out table target (option_body target table fin))))
 
   pub option_does : (x : Tree) → Does t1 t2 s e x → DoesOption t0 t4 u e z greedy x
   option_does x does = record {
     before = λ table target fin left rest.
         denotes_optional t0.reverse table u s target z left greedy x (option_u target table fin)
-            (reads_as t0 t1 table s target x added.grows (does.denotes table target (option_body target table fin))) rest;
+        (reads_as t0 t1 table s target x added.grows (does.denotes table target (option_body target table fin))) rest;
     looks = λ l left.
         let all =
         adds_around t0 t1 t2 t4 x (quiet_choice greedy added) (ap (λ (z : Assembly). z.reverse) added.grows.settings) does.looks
@@ -80,7 +80,7 @@ pub record Options (old mid : Assembly) (start end z n left min most : ℕ) (gre
   pub does : (table : Table) (target : ℕ) → FinishesBut (length old.drafts) mid.drafts end z table →
       table end ≡ patched target (draft_at mid.drafts end) →
       Denotes old.reverse table target z (repetition 0 (Some left) greedy x) →
-          Denotes old.reverse table start z (repetition min (Some most) greedy x)
+      Denotes old.reverse table start z (repetition min (Some most) greedy x)
   pub looks : (l : Look) → (looks_in mid.drafts l || uses old.reverse (repetition 0 (Some left) greedy x) l)
       ≡ (looks_in old.drafts l || uses old.reverse (repetition min (Some most) greedy x) l)
 
@@ -97,8 +97,12 @@ module _ (t0 t1 t2 : Assembly) (s e n z left min most : ℕ) (greedy : Bool) (x 
 
   pub options_owed : Options t0 t2 s e z (n + 1) left min most greedy x
   options_owed = record {
-    progress = let p = empty_then (first_made prefix) added in record { partly = p.partly; states = p.states; bytes = omega arith;
-        numbered = p.numbered };
+    progress = let p = empty_then (first_made prefix) added in record {
+      partly = p.partly;
+      states = p.states;
+      bytes = omega arith;
+      numbered = p.numbered;
+    };
     start_new = omega arith;
     start_there = omega arith;
     end_new = omega arith;
@@ -150,7 +154,7 @@ module _ (t0 t1 t2 : Assembly) (u e n z left most : ℕ) (greedy : Bool) (x : Tr
         let turn : t1.reverse ≡ t0.reverse = ap (λ (b : Assembly). b.reverse) added.grows.settings in
         let R : Bool → Type 0 = λ back. Denotes back table target z (repetition 0 (Some left) greedy x) in
         subst Q sum (reads_as t0 t1 table u z (repetition 0 (Some (suc left)) greedy x) added.grows
-            (does.before table target (first_option target table fin here) left (subst R (sym turn) rest)));
+        (does.before table target (first_option target table fin here) left (subst R (sym turn) rest)));
     looks = λ l.
         let turn : t1.reverse ≡ t0.reverse = ap (λ (z : Assembly). z.reverse) added.grows.settings in
         let F : Bool → Type 0 =
@@ -186,7 +190,7 @@ module _ (old b c d : Assembly) (start end z n left rest min most u e k : ℕ) (
   pub options_then : Options old d start e z (n + k) rest min most greedy x
   options_then =
       let a = os.end_new in let g = os.end_there in let h = os.z_there in let l = os.progress.partly.grows.longer in let v = os.start_new in
-          let w = os.start_there in let i = os.z_new in let ap1 = os.apart in
+      let w = os.start_there in let i = os.z_new in let ap1 = os.apart in
       record {
         progress = then_led 12 (then_made 16 os.progress option (omega arith)) led a (omega arith) (omega arith);
         start_new = v;
@@ -240,14 +244,14 @@ module _ (old mid new : Assembly) (start end z n left min most : ℕ) (greedy : 
   options_made =
       let a = os.end_new in let h = os.z_there in let v = os.start_new in let w = os.start_there in let i = os.z_new in
       made n (then_led 8 os.progress led a h (omega arith)) (omega arith) (omega arith) v (omega arith) i (omega arith)
-          (ap is_sparse last_z)
+      (ap is_sparse last_z)
       (λ table target fin q low high.
       let out = out_next table target z target (ap stands_for (fin.led ∙ ap (patched target) last_z)) (out_at table target) in
       let P : ℕ → Type 0 = λ k. ComesOut table target k in
       ⊎_elim
       (λ (e : q ≡ z). subst P (sym e) out)
       (λ (not_z : q ≡ z → ⊥). let o = os.outs table z (last_but target table fin) (last_end target table fin) q low (omega arith) not_z in
-          out_on table target z o.0 q o.1 out)
+      out_on table target z o.0 q o.1 out)
       (cases_eq q z))
 
   pub options_does : Does old new start z (repetition min (Some most) greedy x)
@@ -256,7 +260,7 @@ module _ (old mid new : Assembly) (start end z n left min most : ℕ) (greedy : 
         let Q : ℕ → Type 0 = λ m. Denotes old.reverse table z z (repetition 0 (Some m) greedy x) in
         denotes_then_empty old.reverse table start z target (repetition min (Some most) greedy x)
         (os.does table z (last_but target table fin) (last_end target table fin)
-            (subst Q (sym none) (denotes_stopped_here old.reverse table z greedy x)))
+        (subst Q (sym none) (denotes_stopped_here old.reverse table z greedy x)))
         (denotes_empty old.reverse table z target (fin.led ∙ ap (patched target) last_z));
     looks = λ l. quiet_led led l ∙ sym (or_none (looks_in mid.drafts l))
         ∙ ap (λ (m : ℕ). looks_in mid.drafts l || uses old.reverse (repetition 0 (Some m) greedy x) l) (sym none) ∙ os.looks l;

@@ -85,24 +85,24 @@ module _ (t0 t1 t2 t3 t4 : Assembly) (greedy : Bool) (u s e n : ℕ) (added : Ad
   pub star_made : Makes t0 t4 u u (n + 1)
   star_made =
       made (n + 1) (then_led 3992 star_3 back (omega arith) (omega arith) (omega arith)) (omega arith) (omega arith) (omega arith)
-          (omega arith) (omega arith) (omega arith)
+      (omega arith) (omega arith) (omega arith)
       (ap is_sparse star_u ∙ choice_kind greedy s)
       (λ table target fin.
       let here = out_here table target u (ap stands_for (star_choice target table fin) ∙ choice_stands greedy s target) in
       let P : ℕ → Type 0 = λ k. AllComeOut table target k (length t4.drafts) in
       subst P added.is (all_join table target u (length t1.drafts) (length t4.drafts)
-          (all_here table target u (length t1.drafts) (omega arith) here)
+      (all_here table target u (length t1.drafts) (omega arith) here)
       (let Q : ℕ → Type 0 = λ k. AllComeOut table target (length t1.drafts) k in
       let size : length t2.drafts ≡ length t4.drafts = omega arith in
       subst Q size (all_on table target u (length t1.drafts) (length t2.drafts)
-          (body.comes_out table u (star_body target table fin)) here))))
+      (body.comes_out table u (star_body target table fin)) here))))
 
   pub star_does : (x : Tree) → Does t1 t2 s e x → Does t0 t4 u u (repetition 0 None greedy x)
   star_does x does = record {
     denotes = λ table target fin.
         let loop = star_choice target table fin in
         denotes_star t0.reverse table u u s target greedy x loop loop (reads_as t0 t1 table s u x added.grows
-            (does.denotes table u (star_body target table fin)));
+        (does.denotes table u (star_body target table fin)));
     looks = adds_around t0 t1 t2 t4 x (quiet_choice greedy added) (ap (λ (z : Assembly). z.reverse) added.grows.settings) does.looks
         (λ l. quiet_led back l ∙ quiet_led led l);
   }
@@ -134,7 +134,7 @@ module _ (t0 t1 t2 t3 t4 : Assembly) (greedy : Bool) (u s e n : ℕ) (body : Mak
   pub plus_made : Makes t0 t4 s u (n + 1)
   plus_made =
       made (n + 1) (then_led 3992 plus_3 led (omega arith) (omega arith) (omega arith)) (omega arith) (omega arith) (omega arith)
-          (omega arith) (omega arith) (omega arith)
+      (omega arith) (omega arith) (omega arith)
       (ap is_sparse plus_u ∙ choice_kind greedy s)
       (λ table target fin.
       let here = out_here table target u (ap stands_for (plus_choice target table fin) ∙ choice_stands greedy s target) in
@@ -147,7 +147,7 @@ module _ (t0 t1 t2 t3 t4 : Assembly) (greedy : Bool) (u s e n : ℕ) (body : Mak
   plus_does x does = record {
     denotes = λ table target fin.
         denotes_plus t0.reverse table u s target greedy x (plus_choice target table fin)
-            (does.denotes table u (plus_body target table fin));
+        (does.denotes table u (plus_body target table fin));
     looks = λ l. quiet_led led l ∙ quiet_led back l ∙ quiet_choice greedy added l ∙ does.looks l;
   }
 
@@ -155,7 +155,7 @@ module _ (t0 t1 t2 t3 t4 : Assembly) (greedy : Bool) (u s e n : ℕ) (body : Mak
 module _ (t0 t1 t2 t3 t4 t5 t6 t7 t8 t9 : Assembly) (greedy : Bool) (s e u q z n : ℕ) (body : Makes t0 t1 s e n)
     (p1 : Added t1 t2 u (no_choice greedy) t1.groups) (p2 : Led t2 t3 e u) (p3 : Led t3 t4 u s)
     (p4 : Added t4 t5 q (no_choice greedy) t4.groups) (p5 : Added t5 t6 z (empty_draft 0) t5.groups) (p6 : Led t6 t7 q s)
-        (p7 : Led t7 t8 q z) (p8 : Led t8 t9 u z) where
+    (p7 : Led t7 t8 q z) (p8 : Led t8 t9 u z) where
   pub loop_2 : Progress false t0 t2 (n + 1) 4000
   loop_2 = choice_then greedy (first_made body) p1
 
@@ -197,18 +197,18 @@ module _ (t0 t1 t2 t3 t4 t5 t6 t7 t8 t9 : Assembly) (greedy : Bool) (s e u q z n
   loop_body target table fin = record {
     states = λ i low high ne. fin.states i (omega arith) (omega arith) (omega arith)
         ∙ p8.same i (omega arith) ∙ p7.same i (omega arith) ∙ p6.same i (omega arith) ∙ p5.grows.same i (omega arith)
-            ∙ p4.grows.same i (omega arith)
+        ∙ p4.grows.same i (omega arith)
         ∙ p3.same i (omega arith) ∙ p2.same i ne ∙ p1.grows.same i (omega arith);
     led = fin.states e (omega arith) (omega arith) (omega arith)
         ∙ p8.same e (omega arith) ∙ p7.same e (omega arith) ∙ p6.same e (omega arith) ∙ p5.grows.same e (omega arith)
-            ∙ p4.grows.same e (omega arith)
+        ∙ p4.grows.same e (omega arith)
         ∙ p3.same e (omega arith) ∙ p2.here ∙ ap (patched u) (p1.grows.same e (omega arith));
   }
 
   pub loop_made : Makes t0 t9 q z (n + 3)
   loop_made =
       made (n + 3) (then_led 3988 loop_8 p8 (omega arith) (omega arith) (omega arith)) (omega arith) (omega arith) (omega arith)
-          (omega arith) (omega arith) (omega arith)
+      (omega arith) (omega arith) (omega arith)
       (ap is_sparse loop_z)
       (λ table target fin.
       let real_u = out_here table target u (ap stands_for (loop_u target table fin) ∙ choice_stands greedy s z) in
@@ -219,14 +219,14 @@ module _ (t0 t1 t2 t3 t4 t5 t6 t7 t8 t9 : Assembly) (greedy : Bool) (s e u q z n
       (all_on table target u (length t0.drafts) (length t1.drafts) (body.comes_out table u (loop_body target table fin)) real_u)
       (all_join table target (length t1.drafts) q (length t9.drafts) (subst P p1.is (all_here table target u q (omega arith) real_u))
       (all_join table target q z (length t9.drafts) (all_here table target q z (omega arith) real_q)
-          (all_here table target z (length t9.drafts) (omega arith) last))))
+      (all_here table target z (length t9.drafts) (omega arith) last))))
 
   pub loop_does : (x : Tree) → Does t0 t1 s e x → Does t0 t9 q z (repetition 0 None greedy x)
   loop_does x does = record {
     denotes = λ table target fin.
         denotes_then_empty t0.reverse table q z target (repetition 0 None greedy x)
         (denotes_star t0.reverse table q u s z greedy x (loop_u target table fin) (loop_q target table fin)
-            (does.denotes table u (loop_body target table fin)))
+        (does.denotes table u (loop_body target table fin)))
         (denotes_empty t0.reverse table z target (loop_end target table fin));
     looks = λ l. quiet_led p8 l ∙ quiet_led p7 l ∙ quiet_led p6 l ∙ quiet_added p5 (λ k. refl) l ∙ quiet_choice greedy p4 l
         ∙ quiet_led p3 l ∙ quiet_led p2 l ∙ quiet_choice greedy p1 l ∙ does.looks l;

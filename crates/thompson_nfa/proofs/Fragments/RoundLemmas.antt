@@ -47,7 +47,7 @@ copy_reading low (Some m) greedy x f = (f, f)
 
 copy_ends : (looks : Looks) (h : List ℕ) (low : ℕ) (most : Option ℕ) (greedy : Bool) (x : Tree) (i : ℕ) →
     flat_map (preferred_ends looks h (repetition low most greedy x)) (preferred_ends looks h x i) ≡ preferred_ends looks h
-        (repetition (suc low) (one_more most) greedy x) i
+    (repetition (suc low) (one_more most) greedy x) i
 copy_ends looks h low None greedy x i = refl
 copy_ends looks h low (Some m) greedy x i = refl
 
@@ -98,7 +98,7 @@ module _ (back : Bool) (T : Table) where
       Denotes back T s e (repetition (suc low) (one_more most) greedy x)
   denotes_copy s m e low most greedy x a b =
       denotes_join back T s m e x (repetition low most greedy x) (repetition (suc low) (one_more most) greedy x)
-          (joins_copy back low most greedy x) a b
+      (joins_copy back low most greedy x) a b
 
   pub denotes_stopped : (s e : ℕ) (greedy : Bool) (x : Tree) → Denotes back T s e empty →
       Denotes back T s e (repetition 0 (Some 0) greedy x)
@@ -120,8 +120,16 @@ module _ (back : Bool) (T : Table) where
 
     few_rounds : (t : Text) (i j : ℕ) → MeantRounds back t 0 (Some (suc left)) x i j → Both t i j ⊎ (i ≡ j)
     few_rounds t i j (zero, low, upper, r) = inr r
-    few_rounds t i j (suc n, low, upper, r) = inl (r.0, r.1, rounds_meant back t 0 (Some left) greedy x r.0 j (n, omega arith, omega arith,
-        r.2))
+    few_rounds t i j (suc n, low, upper, r) = inl (
+      r.0,
+      r.1,
+      rounds_meant back t 0 (Some left) greedy x r.0 j (
+        n,
+        omega arith,
+        omega arith,
+        r.2,
+      ),
+    )
 
     rounds_few : (t : Text) (i j : ℕ) → Both t i j ⊎ (i ≡ j) → MeantRounds back t 0 (Some (suc left)) x i j
     rounds_few t i j (inl b) =
@@ -138,7 +146,7 @@ module _ (back : Bool) (T : Table) where
         (λ i j y. rounds_meant back t 0 (Some (suc left)) greedy x i j (rounds_few t i j y))
         (reaches_choice back t T greedy u a e (Both t) g
         (reaches_join back t T a m e (IsMeant back t x) (IsMeant back t (repetition 0 (Some left) greedy x)) (body.reaches t)
-            (rest.reaches t)))
+        (rest.reaches t)))
 
     few_halts : (t : Text) → Goes back t T u (both_at greedy a e) → LoopsRead x →
         Halts back t T u e (IsMeant back t (repetition 0 (Some (suc left)) greedy x))
@@ -147,7 +155,7 @@ module _ (back : Bool) (T : Table) where
         (λ i j y. rounds_meant back t 0 (Some (suc left)) greedy x i j (rounds_few t i j y))
         (halts_choice back t T greedy u a e (Both t) g
         (halts_join back t T a m e (IsMeant back t x) (IsMeant back t (repetition 0 (Some left) greedy x)) (body.halts f t)
-            (rest.halts f t)))
+        (rest.halts f t)))
 
   few_orders : (u a m e left : ℕ) (greedy : Bool) (x : Tree) → Denotes back T a m x →
       Denotes back T m e (repetition 0 (Some left) greedy x) → (t : Text) → back ≡ false → LoopsRead x →
@@ -156,7 +164,7 @@ module _ (back : Bool) (T : Table) where
       let p : ℕ → List ℕ = preferred_ends t.holds (seen t) x in
       let q : ℕ → List ℕ = preferred_ends t.holds (seen t) (repetition 0 (Some left) greedy x) in
       orders_like t T u e (λ i. in_order greedy (flat_map q (p i)) i) (preferred_ends t.holds (seen t)
-          (repetition 0 (Some (suc left)) greedy x)) (λ i. refl)
+      (repetition 0 (Some (suc left)) greedy x)) (λ i. refl)
       (orders_choice t T greedy u a e (λ i. flat_map q (p i)) g (orders_join t T a m e p q (body.orders up f t) (rest.orders up f t)))
 
   pub denotes_optional : (u a m e left : ℕ) (greedy : Bool) (x : Tree) → T u ≡ choice greedy a e → Denotes back T a m x →
@@ -174,7 +182,7 @@ module _ (back : Bool) (T : Table) where
       LoopsRead (repetition 0 None greedy x) → Orders t T q e (preferred_ends t.holds (seen t) (repetition 0 None greedy x))
   star_orders q u a e greedy x loop entry body t up f =
       orders_rounds t T greedy a u e (preferred_ends t.holds (seen t) x) (preferred_ends t.holds (seen t) (repetition 0 None greedy x))
-          (length (seen t))
+      (length (seen t))
       (λ i k h.
       let m = preferred_ends_sound t.holds (seen t) x i k h in
       let longer = reads_a_byte t.holds (seen t) x f.0 i k m in
@@ -182,7 +190,7 @@ module _ (back : Bool) (T : Table) where
       let within = span.within in
       (longer, omega arith))
       (repetition_more t.holds (seen t) greedy x f.0) (goes_choice false t T u greedy a e loop) (body.orders up f.1 t) q
-          (goes_choice false t T q greedy a e entry)
+      (goes_choice false t T q greedy a e entry)
 
   star_halts : (q u a e : ℕ) (greedy : Bool) (x : Tree) → T u ≡ choice greedy a e → T q ≡ choice greedy a e → Denotes back T a u x →
       (t : Text) →
@@ -191,7 +199,7 @@ module _ (back : Bool) (T : Table) where
       halts_like back t T q e (λ i j. (n : ℕ) × Rounds (IsMeant back t x) n i j) (IsMeant back t (repetition 0 None greedy x))
       (λ i j r. rounds_meant back t 0 None greedy x i j (r.0, omega arith, tt, r.1))
       (halts_rounds back t T greedy a u e (IsMeant back t x) (left_to_read back t) (reads_on back t x f.0)
-          (goes_choice back t T u greedy a e loop) (body.halts f.1 t) q
+      (goes_choice back t T u greedy a e loop) (body.halts f.1 t) q
       (goes_choice back t T q greedy a e entry))
 
   -- a loop, entered at any state that chooses between its body and e
@@ -203,7 +211,7 @@ module _ (back : Bool) (T : Table) where
         (λ i j m. let r = meant_rounds back t 0 None greedy x i j m in (r.0, r.3))
         (λ i j r. rounds_meant back t 0 None greedy x i j (r.0, omega arith, tt, r.1))
         (reaches_rounds back t T greedy a u e (IsMeant back t x) (goes_choice back t T u greedy a e loop) (body.reaches t) q
-            (goes_choice back t T q greedy a e entry));
+        (goes_choice back t T q greedy a e entry));
     halts = λ f t. star_halts q u a e greedy x loop entry body t f;
     orders = λ up f t. star_orders q u a e greedy x loop entry body t up f;
   }

@@ -39,7 +39,7 @@ concat_joins false xs i x l e =
     let P : List Tree → Type 0 = λ ys. Joins false (concat (x ∷ [])) (concat (drop (i + 1) xs)) (concat ys) in
     subst P (sym (first_left xs i x x l e))
     (joins_same false (concat (x ∷ [])) (concat (drop (i + 1) xs)) (cat (concat (x ∷ [])) (concat (drop (i + 1) xs)))
-        (concat (x ∷ drop (i + 1) xs))
+    (concat (x ∷ drop (i + 1) xs))
     (same_concat_append (x ∷ []) (drop (i + 1) xs)) (joins_cat_forward (concat (x ∷ [])) (concat (drop (i + 1) xs))))
 concat_joins true xs i x l e =
     let P : List Tree → Type 0 = λ ys. Joins true (concat (x ∷ [])) (concat (take (length xs - (i + 1)) xs)) (concat ys) in

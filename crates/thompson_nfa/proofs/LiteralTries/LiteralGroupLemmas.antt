@@ -169,7 +169,7 @@ chunk_kept groups more first end [] a le = refl
 chunk_kept groups more first end (e ∷ es) a le =
     let x = a.1 in
     ap (λ (g : List (List ℕ)). behind_byte e.byte g ++ chunk_strings (groups ++ more) es)
-        (get_before (List (List ℕ)) groups more e.next [] (omega arith))
+    (get_before (List (List ℕ)) groups more e.next [] (omega arith))
     ∙ ap (λ (r : List (List ℕ)). behind_byte e.byte (get_or groups e.next []) ++ r) (chunk_kept groups more first end es a.2 le)
 
 -- ---- bytes
@@ -269,16 +269,16 @@ module _ (first : ℕ) (old new : List (List (List ℕ))) (low : ℕ) (edges : L
         let both : length (before ++ new) ≡ first + length new = omega (arith, length-append before new, len) in
         chunk_append (before ++ more) edges (edge ∷ [])
         ∙ ap (λ (r : List (List ℕ)). chunk_strings (before ++ more) edges
-            ++ r) (append-nil (behind_byte b (get_or (before ++ more) (first + length new) []))
+        ++ r) (append-nil (behind_byte b (get_or (before ++ more) (first + length new) []))
         ∙ ap (behind_byte b) (ap (λ (gs : List (List (List ℕ))). get_or gs (first + length new) []) all
-            ∙ get_last (List (List ℕ)) (before ++ new) (tails b strings) [] (first + length new) (sym both)))
+        ∙ get_last (List (List ℕ)) (before ++ new) (tails b strings) [] (first + length new) (sym both)))
         ∙ ap (λ (gs : List (List (List ℕ))). chunk_strings gs edges ++ behind_byte b (tails b strings)) all
         ∙ ap (λ (r : List (List ℕ)). r ++ behind_byte b (tails b strings))
-            (chunk_kept (before ++ new) (tails b strings ∷ []) (first + length old) (first + length new) edges so_far.inside (omega arith))
+        (chunk_kept (before ++ new) (tails b strings ∷ []) (first + length old) (first + length new) edges so_far.inside (omega arith))
 
     tails_joined : (before : List (List (List ℕ))) → length before ≡ first → (c : ℕ) →
         tails c (chunk_strings (before ++ more) (edges ++ edge ∷ [])) ≡ tails c (chunk_strings (before ++ new) edges)
-            ++ tails c (behind_byte b (tails b strings))
+        ++ tails c (behind_byte b (tails b strings))
     tails_joined before len c = ap (tails c) (joined before len) ∙ tails_append c (chunk_strings (before ++ new) edges)
         (behind_byte b (tails b strings))
 
@@ -287,13 +287,13 @@ module _ (first : ℕ) (old new : List (List (List ℕ))) (low : ℕ) (edges : L
         tails c (chunk_strings (before ++ more) (edges ++ edge ∷ [])) ≡ tails c (chunk_strings (before ++ new) edges)
     apart before len c ne =
         tails_joined before len c ∙ ap (λ (r : List (List ℕ)). tails c (chunk_strings (before ++ new) edges)
-            ++ r) (tails_behind_other b c (tails b strings) ne) ∙ append-nil (tails c (chunk_strings (before ++ new) edges))
+        ++ r) (tails_behind_other b c (tails b strings) ne) ∙ append-nil (tails c (chunk_strings (before ++ new) edges))
 
     here : (before : List (List (List ℕ))) → length before ≡ first → tails b
         (chunk_strings (before ++ more) (edges ++ edge ∷ [])) ≡ tails b strings
     here before len =
         tails_joined before len b ∙ ap (λ (r : List (List ℕ)). r ++ tails b (behind_byte b (tails b strings)))
-            (so_far.above before len b next.0) ∙ tails_behind b (tails b strings)
+        (so_far.above before len b next.0) ∙ tails_behind b (tails b strings)
 
     -- the bytes between `low` and b begin no string
     between : (before : List (List (List ℕ))) → length before ≡ first → (c : ℕ) → low ≤ c → c < b →
@@ -316,9 +316,9 @@ module _ (first : ℕ) (old new : List (List (List ℕ))) (low : ℕ) (edges : L
               (omega (arith, long)) (omega (arith, old_long)) (omega (arith, long));
           below = λ before len c less. ⊎_elim
               (λ (e : b ≡ c). let P : ℕ → Type 0 = λ d. tails d (chunk_strings (before ++ more) (edges ++ edge ∷ [])) ≡ tails d strings in
-                  subst P e (here before len))
+              subst P e (here before len))
               (λ (ne : b ≡ c → ⊥). apart before len c ne ∙ ⊎_elim (λ (l : c < low). so_far.below before len c l)
-                  (λ (l : low ≤ c). between before len c l (omega arith)) (cases_lt c low))
+              (λ (l : low ≤ c). between before len c l (omega arith)) (cases_lt c low))
               (cases_eq b c);
           above = λ before len c l. apart before len c (λ e. omega arith) ∙ so_far.above before len c (omega arith);
         }
@@ -352,7 +352,7 @@ pub group_pushed : {V : Type 0} (items : V → List (Bor (List ℕ))) (olds news
     groups_of items news ≡ groups_of items olds ++ strings ∷ []
 group_pushed {V} items olds news g strings e same =
     ap (groups_of items) e ∙ map-append (λ (v : V). texts (items v)) olds (g ∷ [])
-        ∙ ap (λ (s : List (List ℕ)). groups_of items olds ++ s ∷ []) same
+    ∙ ap (λ (s : List (List ℕ)). groups_of items olds ++ s ∷ []) same
 
 pub group_count : {V : Type 0} (items : V → List (Bor (List ℕ))) (gs : List V) → length (groups_of items gs) ≡ length gs
 group_count {V} items gs = length-map gs (λ (v : V). texts (items v))

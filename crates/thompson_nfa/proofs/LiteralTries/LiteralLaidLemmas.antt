@@ -52,8 +52,12 @@ node_kept first less groups more items strings le node = record {
 
 node_first : (first less : ℕ) (groups : List (List (List ℕ))) (items : List (List Edge)) (strings : List (List ℕ)) → less ≤ first →
     IsNode first groups items strings → IsNode less groups items strings
-node_first first less groups items strings le node = record { like = node.like;
-    chunks = are_wider first (length groups) less (length groups) items node.chunks le (omega arith); some = node.some; few = node.few }
+node_first first less groups items strings le node = record {
+  like = node.like;
+  chunks = are_wider first (length groups) less (length groups) items node.chunks le (omega arith);
+  some = node.some;
+  few = node.few;
+}
 
 weight_push : (nodes : List NodeValue) (node : NodeValue) → weight_in_all (nodes ++ node ∷ []) ≡ weight_in_all nodes + weight node
 weight_push [] node = omega arith
@@ -71,7 +75,7 @@ waiting [] fresh k l = absurd (omega arith)
 waiting (g ∷ groups) fresh zero l = omega (arith, all_bytes_append groups fresh)
 waiting (g ∷ groups) fresh (suc k) l =
     let P : ℕ → Type 0 = λ n. bytes_in_all (drop n (g ∷ groups ++ fresh)) + bytes_in (get_or groups k []) ≡ bytes_in_all
-        (drop k groups) + bytes_in_all fresh in
+    (drop k groups) + bytes_in_all fresh in
     let same : suc (k + 1) ≡ suc k + 1 = omega arith in
     subst P same (waiting groups fresh k (omega arith))
 
@@ -96,8 +100,12 @@ module _ (nodes : List NodeValue) (groups : List (List (List ℕ))) (strings : L
   long = omega (arith, length-append nodes (node ∷ []), at)
 
   here : HasStrings (k + 1) (groups ++ fresh) node (get_or groups k [])
-  here = record { rest = lays.rest; is = lays.is; holds = node_first (length groups) (k + 1) (groups
-      ++ fresh) node.items lays.rest (omega arith) (lays.holds groups refl) }
+  here = record {
+    rest = lays.rest;
+    is = lays.is;
+    holds = node_first (length groups) (k + 1) (groups
+        ++ fresh) node.items lays.rest (omega arith) (lays.holds groups refl);
+  }
 
   pub node_next : NodesTo (nodes ++ node ∷ []) (groups ++ fresh) strings
   node_next = record {
@@ -112,19 +120,23 @@ module _ (nodes : List NodeValue) (groups : List (List (List ℕ))) (strings : L
         let Q : List (List ℕ) → Type 0 = λ g. HasStrings (i + 1) (groups ++ fresh) (get_or nodes i no_node) g in
         let old = so_far.each i h in
         subst P (sym (got_node nodes (node ∷ []) i h)) (subst Q (sym (got_before groups fresh i (omega arith)))
-        (record { rest = old.rest; is = old.is; holds = node_kept (i + 1) (i + 1) groups fresh (get_or nodes i no_node).items old.rest
-            (omega arith) old.holds })))
+        (record {
+          rest = old.rest;
+          is = old.is;
+          holds = node_kept (i + 1) (i + 1) groups fresh (get_or nodes i no_node).items old.rest
+              (omega arith) old.holds;
+        })))
         (λ (h : length nodes ≤ i).
         let same : k ≡ i = omega (arith, long) in
         let P : ℕ → Type 0 = λ j. HasStrings (j + 1) (groups ++ fresh) (get_or (nodes ++ node ∷ []) j no_node)
-            (get_or (groups ++ fresh) j []) in
+        (get_or (groups ++ fresh) j []) in
         let Q : NodeValue → Type 0 = λ n. HasStrings (k + 1) (groups ++ fresh) n (get_or (groups ++ fresh) k []) in
         let R : List (List ℕ) → Type 0 = λ g. HasStrings (k + 1) (groups ++ fresh) node g in
         subst P same (subst Q (sym (last_node nodes node k at)) (subst R (sym (got_before groups fresh k less)) here)))
         (cases_lt i (length nodes));
     room =
         let same : drop (length (nodes ++ node ∷ [])) (groups ++ fresh) ≡ drop (k + 1) (groups ++ fresh) =
-            ap (λ (n : ℕ). drop n (groups ++ fresh)) long in
+        ap (λ (n : ℕ). drop n (groups ++ fresh)) long in
         omega (arith, ap bytes_in_all same, wait, paid, so_far.room, weight_push nodes node);
   }
 
@@ -133,7 +145,7 @@ module _ (nodes : List NodeValue) (groups : List (List (List ℕ))) (strings : L
       (drop (length (nodes ++ node ∷ [])) (groups ++ fresh)) < length groups - length nodes + bytes_in_all (drop (length nodes) groups)
   waits_less =
       let same : drop (length (nodes ++ node ∷ [])) (groups ++ fresh) ≡ drop (k + 1) (groups ++ fresh) =
-          ap (λ (n : ℕ). drop n (groups ++ fresh)) long in
+      ap (λ (n : ℕ). drop n (groups ++ fresh)) long in
       omega (arith, ap bytes_in_all same, wait, paid, long, at, fresh_count, length-append groups fresh)
 
 -- ---- groups that were taken are held no longer
@@ -171,8 +183,14 @@ held_begun held nodes strings e none some =
       groups = strings ∷ [];
       as_many = ap length (sym e);
       left = sym e;
-      to = record { within = omega arith; some = omega arith; filled = (some, tt); root = refl; each = λ i l. absurd (omega arith);
-          room = omega arith };
+      to = record {
+        within = omega arith;
+        some = omega arith;
+        filled = (some, tt);
+        root = refl;
+        each = λ i l. absurd (omega arith);
+        room = omega arith;
+      };
     })
 
 module _ (nodes : List NodeValue) (held : List (List (List ℕ))) (strings : List (List ℕ)) (so_far : NodesHeld nodes held strings) where
@@ -215,7 +233,7 @@ module _ (nodes : List NodeValue) (held : List (List (List ℕ))) (strings : Lis
         let Q : ℕ → Type 0 = λ n. drop n (so_far.groups ++ fresh) ≡ drop n (kept ++ fresh) in
         subst Q (sym long2) (drop-append-le (k + 1) so_far.groups fresh (omega (arith, here_less))
         ∙ ap (λ (l : List (List (List ℕ))). l ++ fresh) (drop_next k so_far.groups ∙ ap (λ (l : List (List (List ℕ))). drop 1 l) lefts
-            ∙ sym (drop_next k held) ∙ sym later)
+        ∙ sym (drop_next k held) ∙ sym later)
         ∙ sym (drop-append-le (k + 1) kept fresh (omega (arith, as_long, less))))
 
     held_next : NodesHeld (nodes ++ node ∷ []) (kept ++ fresh) strings
@@ -229,15 +247,23 @@ module _ (nodes : List NodeValue) (held : List (List (List ℕ))) (strings : Lis
     held_less : left_of (nodes ++ node ∷ []) (kept ++ fresh) < left_of nodes held
     held_less =
         let less_wait = waits_less nodes so_far.groups strings so_far.to k at here_less fresh node lays_here in
-        omega (arith, less_wait, ap bytes_in_all left_next, ap bytes_in_all so_far.left, so_far.as_many, as_long,
-            length-append so_far.groups fresh, length-append kept fresh)
+        omega (
+          arith,
+          less_wait,
+          ap bytes_in_all left_next,
+          ap bytes_in_all so_far.left,
+          so_far.as_many,
+          as_long,
+          length-append so_far.groups fresh,
+          length-append kept fresh,
+        )
 
     pub taken_next : (nodes2 : List NodeValue) (held2 : List (List (List ℕ))) → nodes2 ≡ nodes ++ node ∷ [] → held2 ≡ kept ++ fresh →
         NodesHeld nodes2 held2 strings × (left_of nodes2 held2 < left_of nodes held)
     taken_next nodes2 held2 e1 e2 =
         let P : List NodeValue → Type 0 = λ ns. NodesHeld ns held2 strings × (left_of ns held2 < left_of nodes held) in
         let Q : List (List (List ℕ)) → Type 0 = λ hs. NodesHeld (nodes ++ node ∷ []) hs strings ×
-            (left_of (nodes ++ node ∷ []) hs < left_of nodes held) in
+        (left_of (nodes ++ node ∷ []) hs < left_of nodes held) in
         subst P (sym e1) (subst Q (sym e2) (held_next, held_less))
 
 -- ---- one node is laid
@@ -256,7 +282,7 @@ module _ (stem : List ℕ) (strings rest row : List (Bor (List ℕ))) (begins : 
 module _ {W V : Type 0} (value : W → NodeValue) (items_of : V → List (Bor (List ℕ))) (rows : List W) (groups kept : List V)
     (strings : List (List ℕ)) (so_far : NodesHeld (map value rows) (groups_of items_of groups) strings) (k : ℕ)
     (at : k ≡ length rows) (less : k < length groups) (row taken : List (Bor (List ℕ))) (row_is : row ≡ taken)
-        (taken_is : texts taken ≡ get_or (groups_of items_of groups) k []) where
+    (taken_is : texts taken ≡ get_or (groups_of items_of groups) k []) where
   same_place : k ≡ length (map value rows)
   same_place = omega (arith, at, length-map rows value)
 
@@ -267,13 +293,18 @@ module _ {W V : Type 0} (value : W → NodeValue) (items_of : V → List (Bor (L
   texts_are = ap texts row_is ∙ taken_is
 
   pub row_some : 1 ≤ length row
-  row_some = omega (arith, texts_long row, ap length texts_are, held_some (map value rows)
-      (groups_of items_of groups) strings so_far k same_place is_there)
+  row_some = omega (
+    arith,
+    texts_long row,
+    ap length texts_are,
+    held_some (map value rows)
+        (groups_of items_of groups) strings so_far k same_place is_there,
+  )
 
   module _ (n : ℕ) (is_n : n ≡ length kept) (as_many : length (groups_of items_of kept) ≡ length (groups_of items_of groups))
       (later : drop (k + 1) (groups_of items_of kept) ≡ drop (k + 1) (groups_of items_of groups))
       (none fresh : List V) (is_none : none ≡ []) (node : W) (lays : LaysNode n (groups_of items_of none) (groups_of items_of fresh)
-          (value node) (texts row)) where
+      (value node) (texts row)) where
     lays_row : LaysNode (length (groups_of items_of groups)) [] (groups_of items_of fresh) (value node)
         (get_or (groups_of items_of groups) k [])
     lays_row =
@@ -285,9 +316,9 @@ module _ {W V : Type 0} (value : W → NodeValue) (items_of : V → List (Bor (L
 
     pub node_laid : (rows2 : List W) (groups2 : List V) → rows2 ≡ rows ++ node ∷ [] → groups2 ≡ kept ++ fresh →
         NodesHeld (map value rows2) (groups_of items_of groups2) strings ×
-            (left_of (map value rows2) (groups_of items_of groups2) < left_of (map value rows) (groups_of items_of groups))
+        (left_of (map value rows2) (groups_of items_of groups2) < left_of (map value rows) (groups_of items_of groups))
     node_laid rows2 groups2 e1 e2 =
         taken_next (map value rows) (groups_of items_of groups) strings so_far k same_place is_there (groups_of items_of kept)
-            (groups_of items_of fresh) as_many later (value node) lays_row (map value rows2) (groups_of items_of groups2)
+        (groups_of items_of fresh) as_many later (value node) lays_row (map value rows2) (groups_of items_of groups2)
         (ap (map value) e1 ∙ map-append value rows (node ∷ [])) (ap (groups_of items_of) e2
-            ∙ map-append (λ (v : V). texts (items_of v)) kept fresh)
+        ∙ map-append (λ (v : V). texts (items_of v)) kept fresh)

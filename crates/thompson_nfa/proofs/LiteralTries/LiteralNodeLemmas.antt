@@ -71,7 +71,7 @@ ends_at_end [] h i none e = refl
 ends_at_end ([] ∷ ws) h i none e = absurd none
 ends_at_end ((a ∷ w) ∷ ws) h i none e =
     ap (λ (d : List ℕ). (if starts_with nat_eq d (a ∷ w) then (i + suc (length w)) ∷ [] else []) ++ ends_of ws h i) e
-        ∙ ends_at_end ws h i none e
+    ∙ ends_at_end ws h i none e
 
 -- strings none of which is empty end at the same places where the same strings go on behind each byte
 pub same_ends : (us vs : List (List ℕ)) → NoneEnds us → NoneEnds vs → ((c : ℕ) → tails c us ≡ tails c vs) → (h : List ℕ) (i : ℕ) →
@@ -79,7 +79,7 @@ pub same_ends : (us vs : List (List ℕ)) → NoneEnds us → NoneEnds vs → ((
 same_ends us vs a b same h i = elim (slice_get_cases h i).1 [
   | inl x ↦
       let e : drop i h ≡ x.0 ∷ drop (i + 1) h = drop-cons h i x.0 x.1 ∙ ap (λ (c : ℕ). c ∷ drop (suc i) h) x.3
-          ∙ ap (λ (k : ℕ). x.0 ∷ drop k h) (let k : suc i ≡ i + 1 = omega arith in k) in
+      ∙ ap (λ (k : ℕ). x.0 ∷ drop k h) (let k : suc i ≡ i + 1 = omega arith in k) in
       ends_at_byte us h i x.0 a e ∙ ap (λ (ws : List (List ℕ)). ends_of ws h (i + 1)) (same x.0) ∙ sym (ends_at_byte vs h i x.0 b e)
   | inr o ↦
       let e : drop i h ≡ [] = drop_of_length-le h o.0 in
@@ -92,7 +92,7 @@ pub join_append : (seen xs ys : List ℕ) → join nat_eq seen (xs ++ ys) ≡ jo
 join_append seen [] ys = refl
 join_append seen (x ∷ xs) ys = elim (has nat_eq x seen) as
     (λ t. (if t then join nat_eq seen (xs ++ ys) else join nat_eq (seen ++ x ∷ []) (xs ++ ys)) ≡ join nat_eq (if t then join nat_eq seen xs
-        else join nat_eq (seen ++ x ∷ []) xs) ys)
+    else join nat_eq (seen ++ x ∷ []) xs) ys)
     [ true ↦ join_append seen xs ys | false ↦ join_append (seen ++ x ∷ []) xs ys ]
 
 -- what follows may be replaced by what ends at the same places
@@ -106,13 +106,16 @@ like_then us vs xs ys like same h i =
 
 has_pushed : (x : ℕ) (seen : List ℕ) → has nat_eq x (seen ++ x ∷ []) ≡ true
 has_pushed x [] = grind (arith, common_steps)
-has_pushed x (y ∷ seen) = elim (nat_eq x y) as (λ t. (t || has nat_eq x (seen ++ x ∷ [])) ≡ true) [ true ↦ refl | false ↦
-    has_pushed x seen ]
+has_pushed x (y ∷ seen) = elim (nat_eq x y) as (λ t. (t || has nat_eq x (seen ++ x ∷ [])) ≡ true) [
+  | true ↦ refl
+  | false ↦
+      has_pushed x seen
+]
 
 join_twice : (x : ℕ) (seen : List ℕ) → join nat_eq seen (x ∷ x ∷ []) ≡ join nat_eq seen (x ∷ [])
 join_twice x seen =
     let T : Bool → Type 0 = λ t. (t ≡ has nat_eq x seen) → (if t then join nat_eq seen (x ∷ [])
-        else join nat_eq (seen ++ x ∷ []) (x ∷ [])) ≡ (if t then seen else seen ++ x ∷ []) in
+    else join nat_eq (seen ++ x ∷ []) (x ∷ [])) ≡ (if t then seen else seen ++ x ∷ []) in
     let all : (t : Bool) → T t = λ t. elim t as T [
       | true ↦ λ e. ap (λ (b : Bool). if b then seen else seen ++ x ∷ []) (sym e)
       | false ↦ λ e. ap (λ (b : Bool). if b then seen ++ x ∷ [] else (seen ++ x ∷ []) ++ x ∷ []) (has_pushed x seen)
@@ -125,7 +128,7 @@ match_twice ws h i =
     let here : List ℕ = ends_of ([] ∷ []) h i in
     let is : here ≡ (i + 0) ∷ [] = refl in
     ap (distinct nat_eq) (ends_append (ws ++ [] ∷ []) ([] ∷ []) h i ∙ ap (λ (l : List ℕ). l ++ (i + 0) ∷ []) (ends_append ws ([] ∷ []) h i)
-        ∙ append_assoc (ends_of ws h i) ((i + 0) ∷ []) ((i + 0) ∷ []))
+    ∙ append_assoc (ends_of ws h i) ((i + 0) ∷ []) ((i + 0) ∷ []))
     ∙ join_append [] (ends_of ws h i) ((i + 0) ∷ (i + 0) ∷ []) ∙ join_twice (i + 0) (distinct nat_eq (ends_of ws h i))
     ∙ sym (join_append [] (ends_of ws h i) ((i + 0) ∷ [])) ∙ ap (distinct nat_eq) (sym (ends_append ws ([] ∷ []) h i))
 
@@ -136,7 +139,7 @@ pub strings_append : (groups : List (List (List ℕ))) (xs ys : List (List Edge)
 strings_append groups [] ys = refl
 strings_append groups (x ∷ xs) ys =
     ap (λ (l : List (List ℕ)). item_strings groups x ++ l) (strings_append groups xs ys)
-        ∙ sym (append_assoc (item_strings groups x) (node_strings groups xs) (node_strings groups ys))
+    ∙ sym (append_assoc (item_strings groups x) (node_strings groups xs) (node_strings groups ys))
 
 pub edges_append : (xs ys : List (List Edge)) → edges_in (xs ++ ys) ≡ edges_in xs + edges_in ys
 edges_append [] ys = omega arith
@@ -150,8 +153,11 @@ chunks_append ((e ∷ es) ∷ xs) ys = omega (arith, chunks_append xs ys)
 pub are_wider : (first end less more : ℕ) (xs : List (List Edge)) → AreChunks first end xs → less ≤ first → end ≤ more →
     AreChunks less more xs
 are_wider first end less more [] a le l = tt
-are_wider first end less more (x ∷ xs) a le l = (a.0, inside_wider first end less more x a.1 le l,
-    are_wider first end less more xs a.2 le l)
+are_wider first end less more (x ∷ xs) a le l = (
+  a.0,
+  inside_wider first end less more x a.1 le l,
+  are_wider first end less more xs a.2 le l,
+)
 
 are_pushed : (first end : ℕ) (xs : List (List Edge)) (x : List Edge) → AreChunks first end xs → Ascends 0 x 256 → AreInside first end x →
     AreChunks first end (xs ++ x ∷ [])
@@ -320,15 +326,15 @@ module _ (first : ℕ) (old new : List (List (List ℕ))) (items : List (List Ed
   chunk_pushed : (more : List (List (List ℕ))) (edges : List Edge) (run rest : List (List ℕ)) → left ≡ run ++ rest → NoneEnds run →
       1 ≤ length run → AddsGroups new more (length edges) run →
       ((before : List (List (List ℕ))) → length before ≡ first → IsChunk first (before ++ more) edges run) →
-          Listing first old more (items ++ edges ∷ []) rest false all
+      Listing first old more (items ++ edges ∷ []) rest false all
   chunk_pushed more edges run rest e none some adds chunk =
       let long : length more ≡ length new + length adds.added = ap length adds.is ∙ length-append new adds.added in
       let an_edge : 1 ≤ length edges = chunk_some first (replicate first []
-          ++ more) edges run (chunk (replicate first []) (length-replicate first [])) none some in
+      ++ more) edges run (chunk (replicate first []) (length-replicate first [])) none some in
       let wider : (before : List (List (List ℕ))) → before ++ more ≡ (before ++ new) ++ adds.added =
-          λ before. ap (λ (l : List (List (List ℕ))). before ++ l) adds.is ∙ sym (append_assoc before new adds.added) in
+      λ before. ap (λ (l : List (List (List ℕ))). before ++ l) adds.is ∙ sym (append_assoc before new adds.added) in
       let longer : (before : List (List (List ℕ))) → length (before ++ new) ≤ length (before ++ more) =
-          λ before. omega (arith, length-append before new, length-append before more, long) in
+      λ before. omega (arith, length-append before new, length-append before more, long) in
       record {
         met = so_far.met ++ run;
         split = append_assoc so_far.met run rest ∙ ap (λ (l : List (List ℕ)). so_far.met ++ l) (sym e) ∙ so_far.split;
@@ -339,35 +345,40 @@ module _ (first : ℕ) (old new : List (List (List ℕ))) (items : List (List Ed
         some = λ l. omega (arith, length-append items (edges ∷ []));
         some_matched = λ t. absurd (cc);
         room = omega (arith, so_far.room, adds.room, bytes_append so_far.met run);
-        few = omega (arith, one_at_most matched (length items) (chunks_in items) so_far.few, length-append items (edges ∷ []),
-            chunks_append items (edges ∷ []), one_chunk edges an_edge);
+        few = omega (
+          arith,
+          one_at_most matched (length items) (chunks_in items) so_far.few,
+          length-append items (edges ∷ []),
+          chunks_append items (edges ∷ []),
+          one_chunk edges an_edge,
+        );
         twice = λ t. absurd (cc);
         chunks = λ before len.
             are_pushed first (length (before ++ more)) items edges (are_wider first (length (before ++ new)) first
-                (length (before ++ more)) items (so_far.chunks before len) (omega arith) (longer before))
+            (length (before ++ more)) items (so_far.chunks before len) (omega arith) (longer before))
             (chunk before len).ascends (chunk before len).inside;
         like = λ before len h i.
             ap (λ (l : List (List ℕ)). distinct nat_eq (ends_of l h i)) (strings_append (before ++ more) items (edges ∷ []))
             ∙ like_then (node_strings (before ++ more) items) so_far.met (node_strings (before ++ more) (edges ∷ [])) run
             (λ g k. ap (λ (l : List (List ℕ)). distinct nat_eq (ends_of l g k))
-                (ap (λ (gs : List (List (List ℕ))). node_strings gs items) (wider before)
+            (ap (λ (gs : List (List (List ℕ))). node_strings gs items) (wider before)
             ∙ strings_kept (before ++ new) adds.added first (length (before ++ new)) items (so_far.chunks before len) (omega arith))
-                ∙ so_far.like before len g k)
+            ∙ so_far.like before len g k)
             (λ g k. ap (λ (l : List (List ℕ)). ends_of l g k) (append-nil (item_strings (before ++ more) edges)
-                ∙ item_chunk (before ++ more) edges an_edge)
+            ∙ item_chunk (before ++ more) edges an_edge)
             ∙ same_ends (chunk_strings (before ++ more) edges) run (chunk_none_end (before ++ more) edges) none
-                (chunk before len).same_tails g k) h i;
+            (chunk before len).same_tails g k) h i;
       }
 
   pub chunk_next : (more : List (List (List ℕ))) (items2 : List (List Edge)) (edges : List Edge) (run rest : List (List ℕ)) →
       IsTurn left run rest → (b : ℕ) (w : List ℕ) → get_or run 0 [] ≡ b ∷ w → 1 ≤ length run →
       items2 ≡ items ++ edges ∷ [] → AddsGroups new more (length edges) run →
-          ((before : List (List (List ℕ))) → length before ≡ first → IsChunk first (before ++ more) edges run) →
+      ((before : List (List (List ℕ))) → length before ≡ first → IsChunk first (before ++ more) edges run) →
       Listing first old more items2 rest false all
   chunk_next more items2 edges run rest t b w here some is adds chunk =
       let P : List (List Edge) → Type 0 = λ xs. Listing first old more xs rest false all in
       subst P (sym is) (chunk_pushed more edges run rest (sym t.split)
-          (t.none_ends b w (drop 1 run) (first_of run (b ∷ w) some here)) some adds chunk)
+      (t.none_ends b w (drop 1 run) (first_of run (b ∷ w) some here)) some adds chunk)
 
   pub match_here : (flag : Bool) → matched ≡ flag → (run rest : List (List ℕ)) (items2 : List (List Edge)) → IsTurn left run rest →
       get_or run 0 [] ≡ [] → 1 ≤ length run →
@@ -400,8 +411,11 @@ texts_drop (suc n) [] = refl
 texts_drop (suc n) (x ∷ xs) = texts_drop n xs
 
 turn_of : (ws : List (List ℕ)) (n : ℕ) → n ≡ max (run_of ws) 1 → IsTurn ws (take n ws) (drop n ws)
-turn_of [] n e = record { split = run_joined [] n; ended = λ us f. absurd (nothing_taken n ([] ∷ us) f tt);
-    none_ends = λ b w us f. absurd (nothing_taken n ((b ∷ w) ∷ us) f tt) }
+turn_of [] n e = record {
+  split = run_joined [] n;
+  ended = λ us f. absurd (nothing_taken n ([] ∷ us) f tt);
+  none_ends = λ b w us f. absurd (nothing_taken n ((b ∷ w) ∷ us) f tt);
+}
 turn_of ([] ∷ ws) n e =
     let P : ℕ → Type 0 = λ k. IsTurn ([] ∷ ws) (take k ([] ∷ ws)) (drop k ([] ∷ ws)) in
     let one : n ≡ 1 = omega arith in
@@ -409,8 +423,11 @@ turn_of ([] ∷ ws) n e =
 turn_of ((a ∷ v) ∷ ws) n e =
     let P : ℕ → Type 0 = λ k. IsTurn ((a ∷ v) ∷ ws) (take k ((a ∷ v) ∷ ws)) (drop k ((a ∷ v) ∷ ws)) in
     let more : n ≡ suc (run_of ws) = omega arith in
-    subst P (sym more) (record { split = run_joined ((a ∷ v) ∷ ws) (suc (run_of ws)); ended = λ us f. absurd (cc);
-        none_ends = λ b w us f. run_none ws })
+    subst P (sym more) (record {
+      split = run_joined ((a ∷ v) ∷ ws) (suc (run_of ws));
+      ended = λ us f. absurd (cc);
+      none_ends = λ b w us f. run_none ws;
+    })
 
 pub turn_at : (all front back : List (Bor (List ℕ))) (n : ℕ) → n ≡ max (run_of (texts all)) 1 → front ≡ take n all → back ≡ drop n all →
     IsTurn (texts all) (texts front) (texts back)
@@ -473,15 +490,15 @@ module _ (first : ℕ) (old new : List (List (List ℕ))) (items : List (List Ed
       items2 ≡ (if matched then items else items ++ [] ∷ []) → Listing first old new items2 (texts (take m (drop n rest))) true all
   match_turn items2 empty is =
       match_here first old new items (texts rest) matched all so_far matched refl (texts (take n rest))
-          (texts (take m (drop n rest))) items2 turn (here ∙ no_text (get_or (take n rest) 0 d).now (grind (arith, common_steps, empty)))
-          one is
+      (texts (take m (drop n rest))) items2 turn (here ∙ no_text (get_or (take n rest) 0 d).now (grind (arith, common_steps, empty)))
+      one is
 
   pub chunk_turn : (more : List (List (List ℕ))) (items2 : List (List Edge)) (edges : List Edge) →
       false ≡ (length (get_or (take n rest) 0 d).now == 0) → items2 ≡ items ++ edges ∷ [] →
       AddsGroups new more (length edges) (texts (take n rest)) → ((before : List (List (List ℕ))) → length before ≡ first →
-          IsChunk first (before ++ more) edges (texts (take n rest))) →
+      IsChunk first (before ++ more) edges (texts (take n rest))) →
       Listing first old more items2 (texts (take m (drop n rest))) false all
   chunk_turn more items2 edges ne is adds chunk =
       let w = some_text (get_or (take n rest) 0 d).now (is_some (length (get_or (take n rest) 0 d).now) ne) in
       chunk_next first old new items (texts rest) matched all so_far more items2 edges (texts (take n rest))
-          (texts (take m (drop n rest))) turn w.0 w.1 (here ∙ w.2) one is adds chunk
+      (texts (take m (drop n rest))) turn w.0 w.1 (here ∙ w.2) one is adds chunk

@@ -94,7 +94,7 @@ literals_are back (x ∷ xs) e =
     let b = and_parts (is_literal x) (list_all is_literal xs) e in
     ap (λ (w : List ℕ). alt (literal w) (literals back (read_strings back xs))) (spelt_twice back (bytes_of_literal x))
     ∙ ap (λ (y : Tree). alt y (literals back (read_strings back xs))) (literal_is x b.0)
-        ∙ ap (λ (y : Tree). alt x y) (literals_are back xs b.1)
+    ∙ ap (λ (y : Tree). alt x y) (literals_are back xs b.1)
 
 -- the trie's states are as many as the literals' bytes allow
 room : (back : Bool) (xs : List Tree) → list_all is_literal xs ≡ true →
@@ -121,17 +121,19 @@ read_long back (x ∷ xs) = ap (λ (n : ℕ). suc n) (read_long back xs)
 pub read_next : (trie next : Strings) (back : Bool) (xs : List Tree) (k : ℕ) (x : Tree) (bytes : List ℕ) →
     trie ≡ record { reverse = back; strings = read_strings back (take k xs) } → x ≡ get_or xs k x → k < length xs →
     bytes ≡ bytes_of_literal x → next ≡ record trie { strings = trie.strings ++ spelt trie.reverse bytes ∷ [] } →
-        next ≡ record { reverse = back; strings = read_strings back (take (k + 1) xs) }
+    next ≡ record { reverse = back; strings = read_strings back (take (k + 1) xs) }
 read_next trie next back xs k x bytes e got less is n =
     let more : take (k + 1) xs ≡ take k xs ++ x ∷ [] = take_more xs k x less ∙ ap (λ (y : Tree). take k xs ++ y ∷ []) (sym got) in
     let all : read_strings back (take (k + 1) xs) ≡ read_strings back (take k xs) ++ spelt back (bytes_of_literal x) ∷ [] =
-        ap (read_strings back) more ∙ read_append back (take k xs) (x ∷ []) in
+    ap (read_strings back) more ∙ read_append back (take k xs) (x ∷ []) in
     n ∙ ap (λ (t : Strings). record t { strings = t.strings ++ spelt t.reverse bytes ∷ [] }) e
     ∙ ap (λ (w : List ℕ). record { reverse = back; strings = read_strings back (take k xs) ++ spelt back w ∷ [] }) is
     ∙ ap (λ (l : List (List ℕ)). record { reverse = back; strings = l }) (sym all)
 
-module _ (trie : Strings) (xs : List Tree) (k : ℕ) (old new : Assembly) (is : trie ≡ record { reverse = old.reverse;
-    strings = read_strings old.reverse (take k xs) }) (past : length xs ≤ k) (wanted : are_literals xs ≡ true) where
+module _ (trie : Strings) (xs : List Tree) (k : ℕ) (old new : Assembly) (is : trie ≡ record {
+  reverse = old.reverse;
+  strings = read_strings old.reverse (take k xs);
+}) (past : length xs ≤ k) (wanted : are_literals xs ≡ true) where
   strings_are : trie.strings ≡ read_strings old.reverse xs
   strings_are = ap (λ (t : Strings). t.strings) is ∙ ap (read_strings old.reverse) (take_all k xs past)
 

@@ -145,7 +145,7 @@ module _ (old mid : Assembly) (names : List ℕ) (end : ℕ) (items : List (List
             subst P (sym (trees_append old.reverse names x items ([] ∷ [])))
             (all_denote_push old.reverse table end end empty ways (item_trees old.reverse names x items)
             (so_far.denotes table has first (chunks_before first (length names) items ([] ∷ []) chunks) x led)
-                (denotes_empty_here old.reverse table end));
+            (denotes_empty_here old.reverse table end));
       }
 
   module _ (new : Assembly) (id : ℕ) (e : Edge) (es : List Edge) (added : Added mid new id
@@ -181,11 +181,11 @@ module _ (old mid : Assembly) (names : List ℕ) (end : ℕ) (items : List (List
           stands = λ q l h. ⊎_elim
               (λ (k : q < length mid.drafts). ap stands_for (added.grows.same q k) ∙ so_far.stands q l k)
               (λ (k : length mid.drafts ≤ q). let same : id ≡ q = omega arith in let P : ℕ →
-                  Type 0 = λ j. stands_for (draft_at new.drafts j) ≡ None in subst P same (ap stands_for added.here))
+              Type 0 = λ j. stands_for (draft_at new.drafts j) ≡ None in subst P same (ap stands_for added.here))
               (cases_lt q (length mid.drafts));
           there = All-push (IsWay old new end) ways id
               (All-weaker (IsWay old mid end) (IsWay old new end) (λ q w. ⊎_elim (λ (s : q ≡ end). inl s)
-                  (λ (n : (length old.drafts ≤ q) × (q < length mid.drafts)). let a = n.1 in inr (n.0, omega arith)) w) ways so_far.there)
+              (λ (n : (length old.drafts ≤ q) × (q < length mid.drafts)). let a = n.1 in inr (n.0, omega arith)) w) ways so_far.there)
               (inr (omega arith, omega arith));
           denotes = λ table has first chunks x led.
               let P : List Tree → Type 0 = λ ts. AllDenote old.reverse table end (ways ++ id ∷ []) ts in
@@ -194,7 +194,7 @@ module _ (old mid : Assembly) (names : List ℕ) (end : ℕ) (items : List (List
               (all_denote_push old.reverse table end id (item_tree old.reverse names x (e ∷ es)) ways (item_trees old.reverse names x items)
               (so_far.denotes table (older table has) first (chunks_before first (length names) items ((e ∷ es) ∷ []) chunks) x led)
               (denotes_branches old.reverse table id end (edge_ranges names (e ∷ es)) (edge_trees x (e ∷ es))
-                  (has id (omega arith) (omega arith) ∙ added.here) (ranges_ascend names 0 256 (e ∷ es) here.0)
+              (has id (omega arith) (omega arith) ∙ added.here) (ranges_ascend names 0 256 (e ∷ es) here.0)
               (lead_edges old.reverse table end first names x (e ∷ es) led here.1)));
         }
 
@@ -246,7 +246,7 @@ module _ (old mid : Assembly) (names : List ℕ) (end : ℕ) (items : List (List
     union_tame = record {
       named = All-weaker (IsWay old mid end) (λ q. q < length new.drafts)
           (λ q w. let a = so_far.states in let b = added.size in ⊎_elim (λ (s : q ≡ end). omega arith)
-              (λ (n : (length old.drafts ≤ q) × (q < length mid.drafts)). let h = n.1 in omega arith) w) ways so_far.there;
+          (λ (n : (length old.drafts ≤ q) × (q < length mid.drafts)). let h = n.1 in omega arith) w) ways so_far.there;
       known = refl;
       not_barred = refl;
     }
@@ -268,13 +268,13 @@ module _ (old mid : Assembly) (names : List ℕ) (end : ℕ) (items : List (List
           stands = λ q l h. ⊎_elim
               (λ (k : q < length mid.drafts). ap stands_for (added.grows.same q k) ∙ so_far.stands q l k)
               (λ (k : length mid.drafts ≤ q). let same : id ≡ q = omega arith in let P : ℕ →
-                  Type 0 = λ j. stands_for (draft_at new.drafts j) ≡ None in
-                  subst P same (ap stands_for added.here ∙ union_stands ways two))
+              Type 0 = λ j. stands_for (draft_at new.drafts j) ≡ None in
+              subst P same (ap stands_for added.here ∙ union_stands ways two))
               (cases_lt q (length mid.drafts));
           there = inr (omega arith, omega arith);
           denotes = λ table has first chunks x led.
               denotes_alternation old.reverse table id end ways (item_trees old.reverse names x items) (has id (omega arith) (omega arith)
-                  ∙ added.here)
+              ∙ added.here)
               (so_far.denotes table (union_older table has) first chunks x led);
         }
 
@@ -303,8 +303,12 @@ item_refused old mid new names end all items others item ways e so_far is some r
     record {
       settings = (grows_trans so_far.partly.grows (let P : Assembly → Type 0 = λ b. Grows mid b in
           subst P (sym r.same) (grows_refl mid))).settings;
-      cause = step_later old mid 1 2072 m m e (ap (λ (b : Assembly). b.size_limit) so_far.partly.grows.settings) (omega (arith,
-          so_far.states, chunks_edges items, edges))
+      cause = step_later old mid 1 2072 m m e (ap (λ (b : Assembly). b.size_limit) so_far.partly.grows.settings) (omega (
+        arith,
+        so_far.states,
+        chunks_edges items,
+        edges,
+      ))
           (omega (arith, so_far.bytes, so_far.states, chunks_edges items, edges)) (omega arith) r.cause;
     }
 
@@ -348,20 +352,20 @@ module _ {V : Type 0} (items_of : V → List Edge) (rows : List V) (k : ℕ) (v 
   pub row_added : (old mid new : Assembly) (names : List ℕ) (end id : ℕ) (ways ways2 : List ℕ) →
       ItemsTo old mid names end (take k (map items_of rows)) ways → AddsItem mid new names end row id → ways2 ≡ ways ++ id ∷ [] →
       All (λ q. q < length old.drafts) names → AreChunks 0 (length names) (map items_of rows) →
-          ItemsTo old new names end (take (k + 1) (map items_of rows)) ways2
+      ItemsTo old new names end (take (k + 1) (map items_of rows)) ways2
   row_added old mid new names end id ways ways2 so_far a e there chunks =
       let c = row_chunk (length names) chunks in
       let P : List (List Edge) → Type 0 = λ is. ItemsTo old new names end is ways2 in
       let Q : List ℕ → Type 0 = λ ws. ItemsTo old new names end (take k (map items_of rows) ++ row ∷ []) ws in
       subst P (sym (taken_more (map items_of rows) k row inside here))
-          (subst Q (sym e) (item_added old mid names end (take k (map items_of rows)) ways so_far new id row a there c.0 c.1))
+      (subst Q (sym e) (item_added old mid names end (take k (map items_of rows)) ways so_far new id row a there c.0 c.1))
 
   pub row_refused : (old mid new : Assembly) (names : List ℕ) (end : ℕ) (ways : List ℕ) (e : BuildError) →
       ItemsTo old mid names end (take k (map items_of rows)) ways → (1 ≤ length row) × Stays mid new 1 2072 e →
       Quits old new (2 * edges_in (map items_of rows)) e
   row_refused old mid new names end ways e so_far r =
       item_refused old mid new names end (map items_of rows) (take k (map items_of rows))
-          (drop (k + 1) (map items_of rows)) row ways e so_far (split_at (map items_of rows) k row inside here) r.0 r.1
+      (drop (k + 1) (map items_of rows)) row ways e so_far (split_at (map items_of rows) k row inside here) r.0 r.1
 
 pub all_items : {V : Type 0} (items_of : V → List Edge) (rows : List V) (k : ℕ) (old mid : Assembly) (names : List ℕ) (end : ℕ)
     (ways : List ℕ) → ItemsTo old mid names end (take k (map items_of rows)) ways → length rows ≤ k →

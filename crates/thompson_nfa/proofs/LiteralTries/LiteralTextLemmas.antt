@@ -66,14 +66,14 @@ module _ (old mid : Assembly) (next : ℕ) (text : List ℕ) (id : ℕ) (so_far 
           stands = λ q l h. ⊎_elim
               (λ (k : q < length mid.drafts). ap stands_for (added.grows.same q k) ∙ so_far.stands q l k)
               (λ (k : length mid.drafts ≤ q). let same : id2 ≡ q = omega arith in let P : ℕ →
-                  Type 0 = λ j. stands_for (draft_at new.drafts j) ≡ None in subst P same (ap stands_for added.here))
+              Type 0 = λ j. stands_for (draft_at new.drafts j) ≡ None in subst P same (ap stands_for added.here))
               (cases_lt q (length mid.drafts));
           there = inr (omega arith, omega arith);
           denotes = λ back table has end ws d.
               let P : List (List ℕ) → Type 0 = λ l. Denotes back table id2 end (literals back l) in
               subst P (text_byte b text ws)
               (denotes_byte_then back table id2 id end b (behind_text text ws) (has id2 (omega arith) (omega arith)
-                  ∙ added.here) (so_far.denotes back table (older table has) end ws d));
+              ∙ added.here) (so_far.denotes back table (older table has) end ws d));
         }
 
 -- the byte at a place, before those behind it
@@ -84,7 +84,7 @@ module _ (old mid : Assembly) (next : ℕ) (text : List ℕ) (id k m : ℕ) (at 
   text_more new b id2 is added =
       let more : k + 1 ≡ m = omega arith in
       let all : drop k text ≡ b ∷ drop m text = drop_more text k 0 (omega arith) ∙ ap (λ (c : ℕ). c ∷ drop (k + 1) text) is
-          ∙ ap (λ (n : ℕ). b ∷ drop n text) more in
+      ∙ ap (λ (n : ℕ). b ∷ drop n text) more in
       let P : List ℕ → Type 0 = λ t. AddsText old new next t id2 in
       subst P (sym all) (byte_added old mid next (drop m text) id so_far there new b id2 added)
 
@@ -94,6 +94,9 @@ module _ (old mid : Assembly) (next : ℕ) (text : List ℕ) (id k m : ℕ) (at 
       record {
         settings = (grows_trans so_far.grows (let P : Assembly → Type 0 = λ a. Grows mid a in
             subst P (sym r.same) (grows_refl mid))).settings;
-        cause = step_later old mid 1 24 n n e (ap (λ (a : Assembly). a.size_limit) so_far.grows.settings) (omega (arith, so_far.states,
-            length-drop m text)) (omega (arith, so_far.states, so_far.bytes, length-drop m text)) (omega arith) r.cause;
+        cause = step_later old mid 1 24 n n e (ap (λ (a : Assembly). a.size_limit) so_far.grows.settings) (omega (
+          arith,
+          so_far.states,
+          length-drop m text,
+        )) (omega (arith, so_far.states, so_far.bytes, length-drop m text)) (omega arith) r.cause;
       }

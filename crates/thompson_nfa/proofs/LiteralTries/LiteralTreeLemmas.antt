@@ -69,13 +69,13 @@ module _ (looks : Looks) (h : List ℕ) where
   alternation_append [] ys i = refl
   alternation_append (x ∷ xs) ys i =
       ap (λ (l : List ℕ). ends x i ++ l) (alternation_append xs ys i) ∙ sym
-          (append_assoc (ends x i) (ends (alternation xs) i) (ends (alternation ys) i))
+      (append_assoc (ends x i) (ends (alternation xs) i) (ends (alternation ys) i))
 
   literals_append : (back : Bool) (us vs : List (List ℕ)) (i : ℕ) → ends (literals back (us ++ vs)) i ≡ ends (literals back us) i
       ++ ends (literals back vs) i
   literals_append back us vs i =
       ap (λ (ts : List Tree). ends (alternation ts) i) (map-append (spelt_literal back) us vs)
-          ∙ alternation_append (map (spelt_literal back) us) (map (spelt_literal back) vs) i
+      ∙ alternation_append (map (spelt_literal back) us) (map (spelt_literal back) vs) i
 
   -- one place at most
   both_or_none : (c : Bool) (k : ℕ) (f g : ℕ → List ℕ) → flat_map (λ p. f p ++ g p) (if c then k ∷ [] else []) ≡ flat_map f (if c
@@ -112,7 +112,7 @@ module _ (looks : Looks) (h : List ℕ) where
   one_backward b w i =
       flat_map_same (ends (range_tree (b, b))) (ends (literal (b ∷ []))) (ends (literal (reverse w)) i) (λ k m. byte_here b k)
       ∙ (same_literal_append (reverse w) (b ∷ [])).ends looks h i ∙ ap (λ (v : List ℕ). ends (literal v) i)
-          (sym (reverse-append (b ∷ []) w))
+      (sym (reverse-append (b ∷ []) w))
 
   backward : (b : ℕ) (ws : List (List ℕ)) (i : ℕ) → flat_map (ends (range_tree (b, b))) (ends (literals true ws) i) ≡ ends
       (literals true (behind_byte b ws)) i
@@ -136,7 +136,7 @@ module _ (looks : Looks) (h : List ℕ) where
         let first : List (List ℕ) = behind_byte e.byte (get_or groups e.next []) in
         ap (λ (l : List ℕ). l ++ ends (alternation later) i) (read_ends back e.byte (get_or groups e.next []) i)
         ∙ ap (λ (l : List ℕ). ends (literals back first) i ++ l) (chunk_ends es i)
-            ∙ sym (literals_append back first (chunk_strings groups es) i)
+        ∙ sym (literals_append back first (chunk_strings groups es) i)
 
     no_byte : (way : Bool) (i : ℕ) → ends empty i ≡ ends (literals way ([] ∷ [])) i
     no_byte false i = same_literal_none.ends looks h i ∙ sym (append-nil (ends (literal []) i))
@@ -153,7 +153,7 @@ module _ (looks : Looks) (h : List ℕ) where
     items_ends (x ∷ xs) i =
         ap (λ (l : List ℕ). l ++ ends (alternation (item_trees back names (node_tree back groups) xs)) i) (item_ends x i)
         ∙ ap (λ (l : List ℕ). ends (literals back (item_strings groups x)) i ++ l) (items_ends xs i)
-            ∙ sym (literals_append back (item_strings groups x) (node_strings groups xs) i)
+        ∙ sym (literals_append back (item_strings groups x) (node_strings groups xs) i)
 
   string_ends : (ws : List (List ℕ)) (i : ℕ) → ends (literals false ws) i ≡ ends_of ws h i
   string_ends [] i = refl
@@ -185,7 +185,7 @@ member_ends w [] m = elim m [ ]
 member_ends w (v ∷ ws) (inl e) =
     let P : List ℕ → Type 0 = λ u. HasEnd (ends_of (u ∷ ws) w 0) (length w) in
     let here : HasEnd (if stands w 0 w then (0 + length w) ∷ [] else []) (length w) =
-        Has-then (stands w 0 w) (0 + length w) (length w) (all_same w) (omega arith) in
+    Has-then (stands w 0 w) (0 + length w) (length w) (all_same w) (omega arith) in
     subst P (sym e) (Has-left (if stands w 0 w then (0 + length w) ∷ [] else []) (ends_of ws w 0) (length w) here)
 member_ends w (v ∷ ws) (inr m) = Has-right (if stands w 0 v then (0 + length v) ∷ []
     else []) (ends_of ws w 0) (length w) (member_ends w ws m)
@@ -213,9 +213,9 @@ like_members us vs like w m =
     let ks : List ℕ = ends_of vs w 0 in
     let P : List ℕ → Type 0 = λ places. Has nat_eq (length w) places in
     let found : Has nat_eq (length w) (distinct nat_eq ks) = subst P (like w 0)
-        (join_brings nat_eq names_equal [] js (length w) (has_of_end js (length w) (member_ends w us m))) in
+    (join_brings nat_eq names_equal [] js (length w) (has_of_end js (length w) (member_ends w us m))) in
     let there : Has nat_eq (length w) ks = of_join nat_eq names_equal (λ p. Has nat_eq p ks) [] ks (λ p g. none_in nat_eq p _ g) (λ p g. g)
-        (length w) found in
+    (length w) found in
     ends_member w vs (end_of_has ks (length w) there)
 
 -- ---- meanings
@@ -248,7 +248,7 @@ like_orders : (back : Bool) (T : Table) (s e : ℕ) (us vs : List (List ℕ)) �
 like_orders false T s e us vs like up t o =
     orders_same_firsts t T s e (preferred_ends t.holds (seen t) (literals false us)) (preferred_ends t.holds (seen t) (literals false vs))
     (λ i. ap (distinct nat_eq) (string_ends t.holds (seen t) us i) ∙ like (seen t) i
-        ∙ ap (distinct nat_eq) (sym (string_ends t.holds (seen t) vs i))) o
+    ∙ ap (distinct nat_eq) (sym (string_ends t.holds (seen t) vs i))) o
 like_orders true T s e us vs like up t o = cc
 
 -- strings that end at the same places first may stand for each other
@@ -274,7 +274,7 @@ denotes_node back T s e names groups items strings like d =
     denotes_like_strings back T s e (node_strings groups items) strings like
     (denotes_like back T s e (alternation (item_trees back names (node_tree back groups) items)) (literals back (node_strings groups items))
     (λ f. items_read back names (node_tree back groups) items (λ n. literals_read back (get_or groups n [])))
-        (λ looks h i. items_ends looks h back names groups items i) d)
+    (λ looks h i. items_ends looks h back names groups items i) d)
 
 -- a byte, and then what is read behind it
 pub denotes_byte_then : (back : Bool) (T : Table) (s q e b : ℕ) (ws : List (List ℕ)) → T s ≡ range_draft b b q →
@@ -282,6 +282,6 @@ pub denotes_byte_then : (back : Bool) (T : Table) (s q e b : ℕ) (ws : List (Li
 denotes_byte_then back T s q e b ws is d =
     let both : Tree = read_then back (b, b) (literals back ws) in
     denotes_like back T s e both (literals back (behind_byte b ws)) (λ f. read_reads back (b, b) (literals back ws) (literals_read back ws))
-        (λ looks h i. read_ends looks h back b ws i)
+    (λ looks h i. read_ends looks h back b ws i)
     (denotes_join back T s q e (range_tree (b, b)) (literals back ws) both (joins_read back (b, b) (literals back ws))
-        (denotes_range back T s q b b is) d)
+    (denotes_range back T s q b b is) d)

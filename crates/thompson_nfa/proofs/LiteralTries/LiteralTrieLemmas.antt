@@ -151,7 +151,7 @@ module _ (old mid : Assembly) (end : ℕ) (nodes : List NodeValue) (strings : Li
     id_in : IsThere old grown id
     id_in = let a = so_far.end_is in let b = so_far.longer in let g = longer in
         ⊎_elim (λ (e : id ≡ end). (omega arith, omega arith)) (λ (n : (length mid.drafts ≤ id) × (id < length grown.drafts)). let l = n.0 in
-            (omega arith, n.1)) adds.there
+        (omega arith, n.1)) adds.there
 
     pub stem_there : id < length grown.drafts
     stem_there = id_in.1
@@ -174,7 +174,7 @@ module _ (old mid : Assembly) (end : ℕ) (nodes : List NodeValue) (strings : Li
       start_in : IsThere old new start
       start_in = let i = id_in.0 in let j = id_in.1 in let g = all_longer in let p = partly.grows.longer in
           ⊎_elim (λ (e : start ≡ id). (omega arith, omega arith)) (λ (n : (length grown.drafts ≤ start) × (start < length new.drafts)).
-              let l = n.0 in (omega arith, n.1)) text.there
+          let l = n.0 in (omega arith, n.1)) text.there
 
       older : (table : Table) → HasOthers old new table → HasOthers old mid table
       older table has q l h = has q l (omega (arith, longer, all_longer)) ∙ text.grows.same q (omega (arith, longer)) ∙ adds.grows.same q h
@@ -190,13 +190,15 @@ module _ (old mid : Assembly) (end : ℕ) (nodes : List NodeValue) (strings : Li
       behind : (table : Table) → HasOthers old new table → Denotes old.reverse table id end (literals old.reverse has_strings.rest)
       behind table has =
           let P : Bool → Type 0 = λ back. (x : ℕ → Tree) → IsLed back table end (k + 1) names x →
-              Denotes back table id end (alternation (item_trees back names x node.items)) in
+          Denotes back table id end (alternation (item_trees back names x node.items)) in
           let chunks : AreChunks (k + 1) (length names) node.items = are_wider (k + 1) (length so_far.trie.groups) (k + 1)
-              (length names) node.items has_strings.holds.chunks (omega arith) (omega (arith, so_far.names_long, so_far.trie.as_many)) in
+          (length names) node.items has_strings.holds.chunks (omega arith) (omega (arith, so_far.names_long, so_far.trie.as_many)) in
           let all = subst P back_same (adds.denotes table (items_have table has) (k + 1) chunks) in
           denotes_node old.reverse table id end names so_far.trie.groups node.items has_strings.rest has_strings.holds.like
-          (all (node_tree old.reverse so_far.trie.groups) (λ n l h. so_far.denotes table (older table has) n l (omega (arith,
-              so_far.names_long))))
+          (all (node_tree old.reverse so_far.trie.groups) (λ n l h. so_far.denotes table (older table has) n l (omega (
+            arith,
+            so_far.names_long,
+          ))))
 
       own : (table : Table) → HasOthers old new table → Denotes old.reverse table start end
           (literals old.reverse (get_or so_far.trie.groups k []))
@@ -229,20 +231,20 @@ module _ (old mid : Assembly) (end : ℕ) (nodes : List NodeValue) (strings : Li
             names_there =
                 let P : List ℕ → Type 0 = All (IsThere old new) in
                 subst P (sym names_are) (set_there (IsThere old new) names k start
-                    (All-weaker (IsThere old mid) (IsThere old new) (λ q t. let n = t.1 in
-                    (t.0, omega arith)) names so_far.names_there) start_in);
+                (All-weaker (IsThere old mid) (IsThere old new) (λ q t. let n = t.1 in
+                (t.0, omega arith)) names so_far.names_there) start_in);
             denotes = λ table has n l m.
                 let P : List ℕ → Type 0 = λ ns. Denotes old.reverse table (get_or ns n 0) end
-                    (literals old.reverse (get_or so_far.trie.groups n [])) in
+                (literals old.reverse (get_or so_far.trie.groups n [])) in
                 let Q : ℕ → Type 0 = λ q. Denotes old.reverse table q end (literals old.reverse (get_or so_far.trie.groups n [])) in
                 subst P (sym names_are) (⊎_elim
                 (λ (e : n ≡ k).
                 let R : ℕ → Type 0 = λ j. Denotes old.reverse table (get_or (set names k start) j 0) end
-                    (literals old.reverse (get_or so_far.trie.groups j [])) in
+                (literals old.reverse (get_or so_far.trie.groups j [])) in
                 let S : ℕ → Type 0 = λ q. Denotes old.reverse table q end (literals old.reverse (get_or so_far.trie.groups k [])) in
                 subst R (sym e) (subst S (sym (get_or-set_same names k start 0 (omega (arith, so_far.names_long, less)))) (own table has)))
                 (λ (ne : n ≡ k → ⊥). subst Q (sym (get_or-set_other names k n start 0 ne))
-                    (so_far.denotes table (older table has) n (omega arith) m))
+                (so_far.denotes table (older table has) n (omega arith) m))
                 (cases_eq n k));
           }
 
@@ -262,11 +264,11 @@ module _ (old mid : Assembly) (end : ℕ) (nodes : List NodeValue) (strings : Li
   trie_made =
       let e = all.end_is in let l = all.longer in
       made (1 + 2 * bytes_in strings) progress (omega arith) (omega (arith, all.trie.room)) start_there.0 start_there.1 (omega arith)
-          (omega arith) (ap is_sparse all.here)
+      (omega arith) (ap is_sparse all.here)
       (λ table target fin q low high.
       ⊎_elim
       (λ (same : q ≡ end). let P : ℕ → Type 0 = λ n. ComesOut table target n in
-          subst P (sym same) (out_next table target end target (ap stands_for (ends_on table target fin)) (out_at table target)))
+      subst P (sym same) (out_next table target end target (ap stands_for (ends_on table target fin)) (out_at table target)))
       (λ (ne : q ≡ end → ⊥). out_here table target q (ap stands_for (fin.states q low high ne) ∙ all.stands q (omega arith) high))
       (cases_eq q end))
 
@@ -292,7 +294,7 @@ same_got (x ∷ xs) (suc k) c d l = same_got xs k c d (omega arith)
 module _ {V : Type 0} (value_of : V → NodeValue) (rows : List V) (old mid : Assembly) (end : ℕ) (strings : List (List ℕ))
     (names now : List ℕ) (m k : ℕ) (so_far : TrieTo old mid end (map value_of rows) strings names m) (some : 1 ≤ m)
     (turn : k ≡ m - 1) (v : V) (got : v ≡ get_or rows k v) (row : List (List Edge)) (row_is : row ≡ (value_of v).items)
-        (now_is : now ≡ names) where
+    (now_is : now ≡ names) where
   next : TrieTo old mid end (map value_of rows) strings names (k + 1)
   next = let P : ℕ → Type 0 = λ n. TrieTo old mid end (map value_of rows) strings names n in let e : m ≡ k + 1 = omega arith in
       subst P e so_far
@@ -341,14 +343,14 @@ module _ {V : Type 0} (value_of : V → NodeValue) (rows : List V) (old mid : As
       turn_stem_refused new e r =
           let P : List ℕ → Type 0 = λ t. Quits grown new (length t) e in
           stem_refused old mid end (map value_of rows) strings names k next less (value_of v) here grown id adds_here new e
-              (subst P stem_is r)
+          (subst P stem_is r)
 
       pub turn_compiled : (new : Assembly) (start : ℕ) → AddsText grown new id (value_of w).stem start →
           TrieTo old new end (map value_of rows) strings (set names k start) k
       turn_compiled new start text =
           let P : List ℕ → Type 0 = λ t. AddsText grown new id t start in
           node_compiled old mid end (map value_of rows) strings names k next less (value_of v) here grown id adds_here new start
-              (subst P stem_is text) (set names k start) refl
+          (subst P stem_is text) (set names k start) refl
 
 -- all nodes are compiled
 module _ (old mid : Assembly) (end : ℕ) (nodes : List NodeValue) (strings : List (List ℕ)) (names : List ℕ) (k : ℕ)

@@ -174,13 +174,13 @@ partly_led {plain} {a} {b} {c} {from} {to} x l new there =
     let T : DraftNode → Type 0 = λ draft. IsTame plain c draft in
     let kept : (q : ℕ) → length a.drafts ≤ q → q < length b.drafts → IsTame plain c (draft_at b.drafts q) =
     λ q low high. tame_wider b c (draft_at b.drafts q) (omega arith) (λ p k. ap (λ gs. is_known gs p) (sym groups)
-        ∙ k) (x.tame q low high) in
+    ∙ k) (x.tame q low high) in
     record {
       grows = grows_led x.grows l new;
       tame = λ q low high. ⊎_elim
           (λ (e : q ≡ from).
           let here : draft_at c.drafts q ≡ patched to (draft_at b.drafts q) =
-              ap (λ n. draft_at c.drafts n) e ∙ l.here ∙ ap (λ n. patched to (draft_at b.drafts n)) (sym e) in
+          ap (λ n. draft_at c.drafts n) e ∙ l.here ∙ ap (λ n. patched to (draft_at b.drafts n)) (sym e) in
           subst T (sym here) (tame_patched c to (draft_at b.drafts q) (omega arith) (kept q low (omega arith))))
           (λ (ne : q ≡ from → ⊥). subst T (sym (l.same q ne)) (kept q low (omega arith)))
           (cases_eq q from);

@@ -45,7 +45,7 @@ named_in names index name = ⊎_elim
     omega (arith, ap length is))
     (λ (e : nat_lt index (length names) ≡ false).
     let is : with_name names index name ≡ filled None names index ++ name ∷ [] =
-        ap (λ b. if b then names else (filled None names index ++ name ∷ [])) e in
+    ap (λ b. if b then names else (filled None names index ++ name ∷ [])) e in
     omega (arith, ap length is, length-append (filled None names index) (name ∷ []), length_filled None names index))
     (cases_Bool (nat_lt index (length names)))
 
@@ -56,9 +56,13 @@ names_longer names index name = ⊎_elim
     omega (arith, ap length is))
     (λ (e : nat_lt index (length names) ≡ false).
     let is : with_name names index name ≡ filled None names index ++ name ∷ [] =
-        ap (λ b. if b then names else (filled None names index ++ name ∷ [])) e in
-    omega (arith, ap length is, length-append (filled None names index) (name ∷ []),
-        length-append names (replicate (index - length names) None)))
+    ap (λ b. if b then names else (filled None names index ++ name ∷ [])) e in
+    omega (
+      arith,
+      ap length is,
+      length-append (filled None names index) (name ∷ []),
+      length-append names (replicate (index - length names) None),
+    ))
     (cases_Bool (nat_lt index (length names)))
 
 module _ (groups : Groups) (p index : ℕ) (name : Option Name) where
@@ -73,7 +77,7 @@ module _ (groups : Groups) (p index : ℕ) (name : Option Name) where
   group_kept q j l =
       let inside = in_pattern groups q j l in
       let old : get_or (up_to_pattern groups p) q [] ≡ get_or groups q [] =
-          front_kept groups (replicate (suc p - length groups) []) q [] inside in
+      front_kept groups (replicate (suc p - length groups) []) q [] inside in
       ⊎_elim
       (λ (e : q ≡ p).
       let P : ℕ → Type 0 = λ k. IsIn (with_group groups p index name) k j in
@@ -83,8 +87,12 @@ module _ (groups : Groups) (p index : ℕ) (name : Option Name) where
       let old2 = subst Q e old in
       subst P (sym e) (omega (arith, ap length here, names_longer (get_or (up_to_pattern groups p) p []) index name, ap length old2)))
       (λ (ne : q ≡ p → ⊥).
-      omega (arith, ap length old, ap length (get_or-set_other (up_to_pattern groups p) p q
-          (with_name (get_or (up_to_pattern groups p) p []) index name) [] ne)))
+      omega (
+        arith,
+        ap length old,
+        ap length (get_or-set_other (up_to_pattern groups p) p q
+            (with_name (get_or (up_to_pattern groups p) p []) index name) [] ne),
+      ))
       (cases_eq q p)
 
   pub group_same : IsIn groups p index → with_group groups p index name ≡ groups
@@ -94,7 +102,7 @@ module _ (groups : Groups) (p index : ℕ) (name : Option Name) where
       let up : up_to_pattern groups p ≡ groups = ap (λ k. groups ++ replicate k []) none ∙ append-nil groups in
       let names = get_or groups p [] in
       let same : with_name names index name ≡ names = ap (λ b. if b then names
-          else (filled None names index ++ name ∷ [])) (lt-ltb index (length names) l) in
+      else (filled None names index ++ name ∷ [])) (lt-ltb index (length names) l) in
       ap (λ (gs : Groups). set gs p (with_name (get_or gs p []) index name)) up ∙ ap (λ ns. set groups p ns) same ∙ set-get_or groups p []
 
 -- the groups that are noted for a tree
@@ -123,7 +131,7 @@ module _ (kept : WhichCaptures) (p : ℕ) where
   noted_kept (repetition min (Some (suc most)) greedy x) groups q j l = noted_kept x groups q j l
   noted_kept (capture index name x) groups q j l =
       noted_kept x (if keeps_group kept index then with_group groups p index name
-          else groups) q j (capture_kept (keeps_group kept index) groups index name q j l)
+      else groups) q j (capture_kept (keeps_group kept index) groups index name q j l)
   noted_kept nothing groups q j l = l
   noted_kept (cat x y) groups q j l = noted_kept y (noted kept p x groups) q j (noted_kept x groups q j l)
   noted_kept never groups q j l = l
@@ -173,7 +181,7 @@ module _ (kept : WhichCaptures) (p : ℕ) where
   noted_same (repetition min (Some (suc most)) greedy x) groups all = noted_same x groups all
   noted_same (capture index name x) groups all =
       ap (noted kept p x) (capture_same (keeps_group kept index) groups index name (λ e. all index (inl (refl, e))))
-          ∙ noted_same x groups (λ j n. all j (inr n))
+      ∙ noted_same x groups (λ j n. all j (inr n))
   noted_same nothing groups all = refl
   noted_same (cat x y) groups all = ap (noted kept p y) (noted_same x groups (λ j n. all j (inl n)))
       ∙ noted_same y groups (λ j n. all j (inr n))
@@ -214,10 +222,10 @@ pub known_group : (groups : Groups) (p index : ℕ) (name : Option Name) (one : 
     is_known (with_group groups p index name) one ≡ true
 known_group groups p index name (capture_start_draft pattern group next) k =
     known_of_in (with_group groups p index name) pattern group (group_kept groups p index name pattern group
-        (in_of_known groups pattern group k))
+    (in_of_known groups pattern group k))
 known_group groups p index name (capture_end_draft pattern group next) k =
     known_of_in (with_group groups p index name) pattern group (group_kept groups p index name pattern group
-        (in_of_known groups pattern group k))
+    (in_of_known groups pattern group k))
 known_group groups p index name (empty_draft next) k = refl
 known_group groups p index name (range_draft low high next) k = refl
 known_group groups p index name (sparse_draft ranges) k = refl

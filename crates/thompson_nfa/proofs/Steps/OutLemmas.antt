@@ -27,7 +27,7 @@ module _ (table : Table) where
       (λ (e : q ≡ via). let P : ℕ → Type 0 = λ k. ComesOut table target k in subst P (sym e) later) o
   out_on target via (suc n) q o later =
       let R : Option ℕ → Type 0 = λ next. stands_for (table q) ≡ next → (stands_for (table (going_on q (past_in table n) next)) ≡ None) ⊎
-          (going_on q (past_in table n) next ≡ via) →
+      (going_on q (past_in table n) next ≡ via) →
       ComesOut table target q in
       let split : (next : Option ℕ) → R next = λ next. elim next as R [
         | None ↦ λ e k. out_here target q e

@@ -26,31 +26,47 @@ pub first_added : {plain : Bool} {a b : Assembly} {id : ℕ} {draft : DraftNode}
 first_added spare x tame le = record { partly = partly_added x tame; states = omega arith; bytes = omega arith; numbered = x.numbered }
 
 pub first_made : {a b : Assembly} {start end n : ℕ} → Makes a b start end n → Progress false a b n 8
-first_made m = record { partly = record { grows = m.fragment.grows; tame = m.tame }; states = m.within.states; bytes = m.within.bytes;
-    numbered = m.within.numbered }
+first_made m = record {
+  partly = record { grows = m.fragment.grows; tame = m.tame };
+  states = m.within.states;
+  bytes = m.within.bytes;
+  numbered = m.within.numbered;
+}
 
 pub then_added : {plain : Bool} {a b c : Assembly} {id n s : ℕ} {draft : DraftNode} {groups : Groups} (spare : ℕ) → Progress plain a b n s →
     Added b c id draft groups → IsTame plain c draft → draft_bytes draft + spare ≤ s + 4096 →
     Progress plain a c (n + 1) spare
-then_added spare p x tame le = record { partly = partly_joined p.partly (partly_added x tame); states = omega arith; bytes = omega arith;
-    numbered = x.numbered }
+then_added spare p x tame le = record {
+  partly = partly_joined p.partly (partly_added x tame);
+  states = omega arith;
+  bytes = omega arith;
+  numbered = x.numbered;
+}
 
 pub then_made : {a b c : Assembly} {start end n s k : ℕ} (spare : ℕ) → Progress false a b n s → Makes b c start end k → spare ≤ s + 8 →
     Progress false a c (n + k) spare
-then_made spare p m le = record { partly = partly_joined p.partly (record { grows = m.fragment.grows; tame = m.tame });
-    states = omega arith; bytes = omega arith; numbered = m.within.numbered }
+then_made spare p m le = record {
+  partly = partly_joined p.partly (record { grows = m.fragment.grows; tame = m.tame });
+  states = omega arith;
+  bytes = omega arith;
+  numbered = m.within.numbered;
+}
 
 pub then_led : {plain : Bool} {a b c : Assembly} {from to n s : ℕ} (spare : ℕ) → Progress plain a b n s → Led b c from to →
     length a.drafts ≤ from → to < length b.drafts → spare + 4 ≤ s → Progress plain a c n spare
-then_led spare p x new there le = record { partly = partly_led p.partly x new there; states = omega arith; bytes = omega arith;
-    numbered = omega arith }
+then_led spare p x new there le = record {
+  partly = partly_led p.partly x new there;
+  states = omega arith;
+  bytes = omega arith;
+  numbered = omega arith;
+}
 
 -- a fragment that is done
 pub made : {plain : Bool} {a b : Assembly} {start end n s : ℕ} (m : ℕ) → Progress plain a b n s → 8 ≤ s → n ≤ m →
     length a.drafts ≤ start → start < length b.drafts → length a.drafts ≤ end → end < length b.drafts →
     is_sparse (draft_at b.drafts end) ≡ false →
     ((table : Table) (target : ℕ) → Finished (length a.drafts) b.drafts end target table →
-        AllComeOut table target (length a.drafts) (length b.drafts)) →
+    AllComeOut table target (length a.drafts) (length b.drafts)) →
     Makes a b start end m
 made {plain} {a} {b} m p spare le s1 s2 e1 e2 kind out = record {
   fragment = record { grows = p.partly.grows; start_new = s1; start_there = s2; end_new = e1; end_there = e2; can_be_led_on = kind };
@@ -62,8 +78,12 @@ made {plain} {a} {b} m p spare le s1 s2 e1 e2 kind out = record {
 -- the same where the count stops at the largest number of 64 bits
 pub made_capped : {a b : Assembly} {start end n : ℕ} (m : ℕ) → Makes a b start end n → min n 18446744073709551615 ≤ m →
     Makes a b start end m
-made_capped m x le = record { fragment = x.fragment; comes_out = x.comes_out; tame = x.tame;
-    within = record { states = omega arith; bytes = x.within.bytes; numbered = x.within.numbered } }
+made_capped m x le = record {
+  fragment = x.fragment;
+  comes_out = x.comes_out;
+  tame = x.tame;
+  within = record { states = omega arith; bytes = x.within.bytes; numbered = x.within.numbered };
+}
 
 pub size_kept : {old mid : Assembly} → Grows old mid → mid.size_limit ≡ old.size_limit
 size_kept g = ap (λ (b : Assembly). b.size_limit) g.settings
@@ -72,7 +92,7 @@ size_kept g = ap (λ (b : Assembly). b.size_limit) g.settings
 pub step_later : (old mid : Assembly) (n bytes whole m : ℕ) (e : BuildError) → mid.size_limit ≡ old.size_limit →
     length mid.drafts + n ≤ length old.drafts + whole →
     sum_of_bytes mid + bytes ≤ sum_of_bytes old + 4096 * whole → min whole 18446744073709551615 ≤ m → RefusesStep mid n bytes e →
-        RefusesStates old m e
+    RefusesStates old m e
 step_later old mid n bytes whole m error.TooManyPatterns size states room cap r = r
 step_later old mid n bytes whole m error.TooManyStates size states room cap r = omega arith
 step_later old mid n bytes whole m (error.ExceededSizeLimit limit) size states room cap r = let x = r.1 in let y = r.2 in
@@ -93,7 +113,7 @@ tree_later kept p old m x error.NoMemory r = r
 call_later : (kept : WhichCaptures) (p : ℕ) (old mid : Assembly) (n whole m : ℕ) (x y : Tree) (e : BuildError) →
     mid.size_limit ≡ old.size_limit → length mid.drafts + n ≤ length old.drafts + whole →
     sum_of_bytes mid + 4096 * n ≤ sum_of_bytes old + 4096 * whole → min whole 18446744073709551615 ≤ m →
-        ((index : ℕ) → HasGroup kept index x → HasGroup kept index y) →
+    ((index : ℕ) → HasGroup kept index x → HasGroup kept index y) →
     RefusesTree kept p mid n x e → RefusesTree kept p old m y e
 call_later kept p old mid n whole m x y error.TooManyPatterns size states room cap inside r = r
 call_later kept p old mid n whole m x y error.TooManyStates size states room cap inside r =

@@ -132,13 +132,13 @@ parts_left_reverse xs i d h =
     let one : length xs - i ≡ k + 1 = omega (arith, h) in
     let sum : sum_by count (take (length xs - i) xs) ≡ sum_by count (take k xs) + count (get_or xs k d)
     = ap (λ n. sum_by count (take n xs)) one ∙ ap (sum_by count) (take_more xs k d (omega (arith, h)))
-        ∙ sum_by_push count (take k xs) (get_or xs k d) in
+    ∙ sum_by_push count (take k xs) (get_or xs k d) in
     omega (arith, sum)
 
 -- ---- sequences of ranges
 pub sequences_left_forward : (ranges : List (ℕ × ℕ)) (i : ℕ) (d : ℕ × ℕ) → i < length ranges →
     sequence_count (drop i ranges) ≡ length (utf8_sequences (get_or ranges i d).0 (get_or ranges i d).1) + sequence_count
-        (drop (i + 1) ranges)
+    (drop (i + 1) ranges)
 sequences_left_forward [] i d h = absurd (omega (arith, h))
 sequences_left_forward (x ∷ xs) zero d h = refl
 sequences_left_forward (x ∷ xs) (suc i) d h =
@@ -153,7 +153,7 @@ sequence_count_push (x ∷ xs) r = omega (arith, sequence_count_push xs r)
 
 pub sequence_count_take : (ranges : List (ℕ × ℕ)) (i : ℕ) (d : ℕ × ℕ) → i < length ranges →
     sequence_count (take (i + 1) ranges) ≡ sequence_count (take i ranges) + length
-        (utf8_sequences (get_or ranges i d).0 (get_or ranges i d).1)
+    (utf8_sequences (get_or ranges i d).0 (get_or ranges i d).1)
 sequence_count_take [] i d h = absurd (omega (arith, h))
 sequence_count_take (x ∷ xs) zero d h = omega arith
 sequence_count_take (x ∷ xs) (suc i) d h =
@@ -173,7 +173,7 @@ either_short false xs ys h k = k
 short_spelling : (c : ℕ) → length (spelling_of c) ≤ 4
 short_spelling c =
     either_short (nat_le c 0x7F) _ _ (omega arith) (either_short (nat_le c 0x7FF) _ _ (omega arith)
-        (either_short (nat_le c 0xFFFF) _ _ (omega arith) (omega arith)))
+    (either_short (nat_le c 0xFFFF) _ _ (omega arith) (omega arith)))
 
 pub few_byte_ranges : (p : ℕ × ℕ) → length (byte_ranges p) ≤ 4
 few_byte_ranges p = omega (arith, length-zip (spelling_of p.0) (spelling_of p.1), short_spelling p.0)
@@ -239,7 +239,7 @@ pub room_added : (old mid new : Assembly) (draft : DraftNode) (n k j : ℕ) → 
 room_added old mid new draft n k j a e low small =
     let len : length new.drafts ≡ length mid.drafts + 1 = ap length e ∙ length-append mid.drafts (draft ∷ []) in
     let sum : sum_of_bytes new ≡ sum_of_bytes mid + draft_bytes draft =
-        ap (sum_by draft_bytes) e ∙ sum_by_push draft_bytes mid.drafts draft in
+    ap (sum_by draft_bytes) e ∙ sum_by_push draft_bytes mid.drafts draft in
     (omega (arith, a.0, len), omega (arith, a.1, len, sum, small), omega (arith, a.2, len, low))
 
 way_at_most : (draft : DraftNode) (to : ℕ) → draft_bytes (patched to draft) ≤ draft_bytes draft + 4
@@ -289,7 +289,7 @@ pub room_branched : (old mid next led new : Assembly) (from to from_end to_end m
     new.drafts ≡ patched_at led.drafts from_end to_end → from_end < length led.drafts → HasRoom old new (m + n) j
 room_branched old mid next led new from to from_end to_end m n j a b e inside f inside_end =
     room_led_on old led new from_end to_end (m + n) (j + 1) j (room_linked old mid next led from to m n j a b e inside) f inside_end
-        (omega arith)
+    (omega arith)
 
 -- one more copy of a body that has count c
 pub room_copied : (old mid next new : Assembly) (from to i c j : ℕ) → HasRoom old mid (i * c) j → HasRoom mid next c 2 →

@@ -153,7 +153,7 @@ added_of old new id draft shown is e none same =
 pub refused_name : (b : Bool) (old : Assembly) (draft : DraftNode) (bytes : ℕ) (e : BuildError) →
     b ≡ nat_lt greatest_index (length old.drafts) →
     Tells e (option_or (if b then Some too_many_states else None) (limit_fault old.size_limit (bytes_of (old.drafts ++ draft ∷ [])))) →
-        draft_bytes draft ≤ bytes → RefusesStep old 1 bytes e
+    draft_bytes draft ≤ bytes → RefusesStep old 1 bytes e
 refused_name true old draft bytes error.TooManyPatterns test told le = absurd (cc)
 refused_name true old draft bytes error.TooManyStates test told le = let less : greatest_index < length old.drafts =
     ltb-true greatest_index (length old.drafts) (sym test) in omega arith
@@ -167,8 +167,10 @@ refused_name false old draft bytes error.TooManyPatterns test told le =
 refused_name false old draft bytes error.TooManyStates test told le = absurd
     (never_other old.size_limit (bytes_of (old.drafts ++ draft ∷ [])) too_many_states told tt)
 refused_name false old draft bytes (error.ExceededSizeLimit limit) test told le =
-    limit_passed old.size_limit limit (sum_by draft_bytes (old.drafts ++ draft ∷ [])) (sum_of_bytes old + bytes) told (omega (arith,
-        sum_by_push draft_bytes old.drafts draft))
+    limit_passed old.size_limit limit (sum_by draft_bytes (old.drafts ++ draft ∷ [])) (sum_of_bytes old + bytes) told (omega (
+      arith,
+      sum_by_push draft_bytes old.drafts draft,
+    ))
 refused_name false old draft bytes error.UnsupportedCaptures test told le =
     never_other old.size_limit (bytes_of (old.drafts ++ draft ∷ [])) unsupported_captures told tt
 refused_name false old draft bytes (error.Captures err) test told le =
@@ -177,5 +179,7 @@ refused_name false old draft bytes error.NoMemory test told le = tt
 
 pub add_refused : (old new : Assembly) (draft : DraftNode) (bytes : ℕ) (e : BuildError) → new ≡ old → Tells e (add_fault old draft) →
     draft_bytes draft ≤ bytes → Stays old new 1 bytes e
-add_refused old new draft bytes e same told le = record { same = same;
-    cause = refused_name (nat_lt greatest_index (length old.drafts)) old draft bytes e refl told le }
+add_refused old new draft bytes e same told le = record {
+  same = same;
+  cause = refused_name (nat_lt greatest_index (length old.drafts)) old draft bytes e refl told le;
+}

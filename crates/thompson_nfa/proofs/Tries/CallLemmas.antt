@@ -14,12 +14,17 @@ module _ {F E : Type 0} (step : F → Bor (List Utf8Range) → Result (Unit {0})
   here = ap (map bytes_of) shows
 
   pub calls_more : step f shown (Ok tt) g → CallsAll step g (paths_of others) → CallsAll step f (paths_of rest)
-  calls_more s all = subst (λ (xs : List (Vec Utf8Range Global)). CallsAll step f (paths_of xs)) (sym is) (all.0,
-      (g, (shown, here, s), all.1))
+  calls_more s all = subst (λ (xs : List (Vec Utf8Range Global)). CallsAll step f (paths_of xs)) (sym is) (
+    all.0,
+    (g, (shown, here, s), all.1),
+  )
 
   pub calls_up_to : (e : E) → step f shown (Ok tt) g → CallsUpTo step g (paths_of others) e → CallsUpTo step f (paths_of rest) e
-  calls_up_to e s up = subst (λ (xs : List (Vec Utf8Range Global)). CallsUpTo step f (paths_of xs) e) (sym is) (inr (g, (shown, here, s),
-      up))
+  calls_up_to e s up = subst (λ (xs : List (Vec Utf8Range Global)). CallsUpTo step f (paths_of xs) e) (sym is) (inr (
+    g,
+    (shown, here, s),
+    up,
+  ))
 
   pub calls_refused : (e : E) → step f shown (Err e) g → CallsUpTo step f (paths_of rest) e
   calls_refused e s = subst (λ (xs : List (Vec Utf8Range Global)). CallsUpTo step f (paths_of xs) e) (sym is) (inl (shown, g, here, s))

@@ -166,10 +166,10 @@ divided_cover start stop from (e ∷ es) =
     let high = e.range.end + 1 in
     divided_append start stop (cut from start stop e) (cover_from high start stop es)
     (divided_append start stop (piece (max from start) (min low stop) Nothing) (piece low (min high start) e.next
-        ++ (piece (max low start) (min high stop) e.next ++ piece (max low stop) high e.next))
+    ++ (piece (max low start) (min high stop) e.next ++ piece (max low stop) high e.next))
     (divided_within start stop (max from start) (min low stop) Nothing (omega arith) (omega arith))
     (divided_append start stop (piece low (min high start) e.next) (piece (max low start) (min high stop) e.next
-        ++ piece (max low stop) high e.next)
+    ++ piece (max low stop) high e.next)
     (divided_before start stop low (min high start) e.next (omega arith))
     (divided_append start stop (piece (max low start) (min high stop) e.next) (piece (max low stop) high e.next)
     (divided_within start stop (max low start) (min high stop) e.next (omega arith) (omega arith))
@@ -203,7 +203,7 @@ rises_cover start stop ordered from (e ∷ es) r =
     let r0 : from ≤ low = r.0 in
     let r1 : low < high = omega (arith, r.1) in
     simp append_assoc (rises_piece from (max from start) (min low stop) low Nothing (p2
-        ++ (p3 ++ (p4 ++ rest))) (omega arith) r0 (omega arith)
+    ++ (p3 ++ (p4 ++ rest))) (omega arith) r0 (omega arith)
     (rises_piece low low (min high start) m1 e.next (p3 ++ (p4 ++ rest)) (omega arith) (omega arith) (omega arith)
     (rises_piece m1 (max low start) (min high stop) m2 e.next (p4 ++ rest) (omega arith) (omega arith) (omega arith)
     (rises_piece m2 (max low stop) high high e.next rest (omega arith) (omega arith) (omega arith)
@@ -223,7 +223,7 @@ inside_cover k start stop from (e ∷ es) i =
     let high = e.range.end + 1 in
     inside_append k (cut from start stop e) (cover_from high start stop es)
     (inside_append k (piece (max from start) (min low stop) Nothing) (piece low (min high start) e.next
-        ++ (piece (max low start) (min high stop) e.next ++ piece (max low stop) high e.next))
+    ++ (piece (max low start) (min high stop) e.next ++ piece (max low stop) high e.next))
     (inside_piece k (max from start) (min low stop) Nothing tt)
     (inside_append k (piece low (min high start) e.next) (piece (max low start) (min high stop) e.next ++ piece (max low stop) high e.next)
     (inside_piece k low (min high start) e.next i.0)

@@ -26,7 +26,7 @@ use Rattle.thompson_nfa.proofs.Tries.EmptyString.{empty_alone}
 module _ (v : List (List (List (ℕ × ℕ)))) (start end : ℕ) (ordered : start ≤ end) (pieces : List Edge) where
   pub cover_of_edges : (next : Next) (es : List Edge) → pieces ≡ cover_from 0 start (end + 1) es → Rises 0 es → AreInside (length v) es →
       ((b : ℕ) (t : List ℕ) → Has v es b t → IsIn (below v next) (b ∷ t)) →
-          ((b : ℕ) (t : List ℕ) → IsIn (below v next) (b ∷ t) → Has v es b t) →
+      ((b : ℕ) (t : List ℕ) → IsIn (below v next) (b ∷ t) → Has v es b t) →
       IsCover v next start (end + 1) pieces
   cover_of_edges next es e rising inside only kept = rw e (record {
     rising = rises_cover start (end + 1) (omega arith) 0 es rising;
@@ -49,11 +49,11 @@ module _ (v : List (List (List (ℕ × ℕ)))) (start end : ℕ) (ordered : star
   cover_of_nothing e = cover_of_edges Nothing [] e tt tt (λ b t h. h) (λ b t h. h)
 
   pub cover_of_end : pieces ≡ cover_from 0 start (end + 1) [] → IsCover v End start (end + 1) pieces
-  cover_of_end e = cover_of_edges End [] e tt tt (λ b t h. absurd h) (λ b t h. elim h [ inl here ↦ absurd (false≢true here) | inr none ↦
-      none ])
-
--- ---- where the ranges end
-}
+  cover_of_end e = cover_of_edges End [] e tt tt (λ b t h. absurd h) (λ b t h. elim h [
+    | inl here ↦ absurd (false≢true here)
+    | inr none ↦
+        none
+  ])
 
 -- ---- a string of the ranges
 abbrev pub witness : List (ℕ × ℕ) → List ℕ
@@ -101,10 +101,10 @@ module _ (v : List (List (List (ℕ × ℕ)))) (next : Next) (first : ℕ × ℕ
       record {
         short = λ s more old new.
             apart.short (b ∷ s) more (cover.only b s (has_at v pieces i p b s l at (omega arith) some old))
-                (spells first rest b (s ++ more) within.0 (omega (arith, within.1, some)) new);
+            (spells first rest b (s ++ more) within.0 (omega (arith, within.1, some)) new);
         long = λ s more new old.
             apart.long (b ∷ s) more (spells first rest b s within.0 (omega (arith, within.1, some)) new)
-                (cover.only b (s ++ more) (has_at v pieces i p b (s ++ more) l at (omega arith) some old));
+            (cover.only b (s ++ more) (has_at v pieces i p b (s ++ more) l at (omega arith) some old));
       }
 
   -- ---- the edges of the new node have the strings
@@ -133,7 +133,7 @@ module _ (v : List (List (List (ℕ × ℕ)))) (next : Next) (first : ℕ × ℕ
       added (b ∷ t) h =
           let g = spelled first rest b t h in
           along_in w es b t (steps_added v w first.0 (first.1 + 1) rest pieces es b t z (cover.covered b g.0 (omega (arith, g.1))) g.0
-              (omega (arith, g.1)) g.2)
+          (omega (arith, g.1)) g.2)
 
 -- ---- the loop over the pieces
 -- the first pieces are done: an edge stands for each of them
@@ -191,7 +191,7 @@ module _ (v w x : List (List (List (ℕ × ℕ)))) (start stop : ℕ) (rest : Li
     inserting_beside is same divided out =
         let beside : IsBeside start stop p = elim (divided_at start stop ps i p l at divided) [ inl h ↦ absurd (out h) | inr h ↦ h ] in
         let inner : IsInside (length w) p.next = inside_more (length v) (length w) p.next here.later.len
-            (next_at (length v) ps i p l at inside) in
+        (next_at (length v) ps i p l at inside) in
         inserting_more
         (ap (λ y. y.range) is, inr (beside, ap (λ y. below x y.next) is ∙ ap (λ y. below y p.next) same ∙ next_kept))
         (subst (λ (y : Edge). IsInside (length x) y.next) (sym is) (inside_more (length w) (length x) p.next later.len inner))
@@ -201,12 +201,12 @@ pub with_none : (qs : List (List (ℕ × ℕ))) (rs : List Utf8Range) → rs ≡
     IsWith qs (map bytes_of rs) ([] ∷ [])
 with_none qs rs e apart =
     subst (λ (x : List Utf8Range). IsWith qs (map bytes_of x) ([] ∷ [])) (sym e)
-        (empty_alone qs (subst (λ (x : List Utf8Range). IsApart qs (map bytes_of x)) e apart))
+    (empty_alone qs (subst (λ (x : List Utf8Range). IsApart qs (map bytes_of x)) e apart))
 
 module _ (v w x : List (List (List (ℕ × ℕ)))) (next made : Next) (rs rest : List Utf8Range) (first : Utf8Range) (e : rs ≡ first ∷ rest)
     (pieces edges : List Edge)
     (cover : IsCover v next first.start (first.end + 1) pieces) (apart : IsApart (below v next) (map bytes_of rs))
-        (ok : AreRanges (map bytes_of rs)) where
+    (ok : AreRanges (map bytes_of rs)) where
   first_apart : IsApart (below v next) ((first.start, first.end) ∷ map bytes_of rest)
   first_apart = subst (λ (y : List Utf8Range). IsApart (below v next) (map bytes_of y)) e apart
 
@@ -232,7 +232,7 @@ module _ (v w x : List (List (List (ℕ × ℕ)))) (next made : Next) (rs rest :
     pub with_pushed : made ≡ Node (length w) → x ≡ w ++ along w edges ∷ [] → IsWith (below v next) (map bytes_of rs) (below x made)
     with_pushed a b =
         let emits : along w edges ≡ below x made = sym (ap (λ m. below x m) a ∙ ap (λ y. get_or y (length w) []) b
-            ∙ get_or-append_seam w (along w edges) [] []) in
+        ∙ get_or-append_seam w (along w edges) [] []) in
         subst (λ (y : List Utf8Range). IsWith (below v next) (map bytes_of y) (below x made)) (sym e)
         (subst (λ (qs : List (List (ℕ × ℕ))). IsWith (below v next) ((first.start, first.end) ∷ map bytes_of rest) qs) emits
         (with_steps v next (first.start, first.end) (map bytes_of rest) pieces cover first_apart w edges first_ok all_steps))
@@ -252,9 +252,9 @@ pub with_pushed_if : (v w x : List (List (List (ℕ × ℕ)))) (next : Next) (rs
     (e : rs ≡ first ∷ rest) (pieces edges : List Edge) →
     IsCover v next first.start (first.end + 1) pieces → IsApart (below v next) (map bytes_of rs) → AreRanges (map bytes_of rs) → (n : ℕ) →
     IsInserting v w first.start (first.end + 1) (map bytes_of rest) (take n pieces) edges → length pieces ≤ n →
-        (made : Result Next AllocError) →
+    (made : Result Next AllocError) →
     IfOk made (λ m. m ≡ Node (length w)) → IfOk made (λ _. x ≡ w ++ along w edges ∷ []) →
-        IfOk made (λ m. IsWith (below v next) (map bytes_of rs) (below x m))
+    IfOk made (λ m. IsWith (below v next) (map bytes_of rs) (below x m))
 with_pushed_if v w x next rs rest first e pieces edges cover apart ok n here whole (Ok m) a b =
     with_pushed v w x next m rs rest first e pieces edges cover apart ok n here whole a b
 with_pushed_if v w x next rs rest first e pieces edges cover apart ok n here whole (Err m) a b = tt

@@ -61,7 +61,7 @@ along_append v (e ∷ es) fs =
 pub copying_more : (nodes old copy copy2 : List (List (List (ℕ × ℕ)))) (names names2 : List Next) (es edges edges2 : List Edge) (e : Edge)
     (n : Next) → IsCopying nodes old copy names es edges → IsLater copy copy2 → AreCopies nodes copy2 names2 →
     IsInside (length copy2) n → below copy2 n ≡ below nodes e.next → edges2 ≡ edges ++ record { range = e.range; next = n } ∷ [] →
-        IsCopying nodes old copy2 names2 (es ++ e ∷ []) edges2
+    IsCopying nodes old copy2 names2 (es ++ e ∷ []) edges2
 copying_more nodes old copy copy2 names names2 es edges edges2 e n so_far later copies inside same is =
     let P : List Edge → Type 0 = λ fs. IsCopying nodes old copy2 names2 (es ++ e ∷ []) fs in
     let f : Edge = record { range = e.range; next = n } in
@@ -82,12 +82,12 @@ copying_more nodes old copy copy2 names names2 es edges edges2 e n so_far later 
 pub copying_next : (nodes old copy copy2 : List (List (List (ℕ × ℕ)))) (names names2 : List Next) (all edges edges2 : List Edge) (i : ℕ)
     (d : Edge) (n : Next) → i < length all → IsCopying nodes old copy names (take i all) edges → IsLater copy copy2 →
     AreCopies nodes copy2 names2 → IsInside (length copy2) n → below copy2 n ≡ below nodes (get_or all i d).next →
-        edges2 ≡ edges ++ record { range = (get_or all i d).range; next = n } ∷ [] →
+    edges2 ≡ edges ++ record { range = (get_or all i d).range; next = n } ∷ [] →
     IsCopying nodes old copy2 names2 (take (i + 1) all) edges2
 copying_next nodes old copy copy2 names names2 all edges edges2 i d n l so_far later copies inside same is =
     let P : List Edge → Type 0 = λ es. IsCopying nodes old copy2 names2 es edges2 in
     subst P (sym (take_more all i d l)) (copying_more nodes old copy copy2 names names2 (take i all) edges edges2
-        (get_or all i d) n so_far later copies inside same is)
+    (get_or all i d) n so_far later copies inside same is)
 
 rises_alike : (low : ℕ) (es fs : List Edge) → map (λ e. e.range) fs ≡ map (λ e. e.range) es → Rises low es → Rises low fs
 rises_alike low [] [] e r = tt
@@ -138,8 +138,8 @@ module _ (nodes old copy : List (List (List (ℕ × ℕ)))) (names : List Next) 
           same = λ j n got. ⊎_elim
               (λ (here : j ≡ number).
               let at : get_or (set names number made) j Nothing ≡ made =
-                  ap (λ k. get_or (set names number made) k Nothing) here
-                  ∙ get_or-set_same names number made Nothing (omega (arith, whole.copies.len, there)) in
+              ap (λ k. get_or (set names number made) k Nothing) here
+              ∙ get_or-set_same names number made Nothing (omega (arith, whole.copies.len, there)) in
               let same : length copy ≡ n = node_number (sym is ∙ sym at ∙ got) in
               let Q : ℕ → Type 0 = λ m. (m < length copy2) × (get_or copy2 m [] ≡ get_or nodes j []) in
               subst Q same (longer, emitted ∙ ap (λ k. get_or nodes k []) (sym here)))

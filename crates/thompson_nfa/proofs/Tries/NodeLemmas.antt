@@ -60,9 +60,12 @@ rises_at n (m ∷ ns) (suc i) nodes l = rises_at (n + 1) ns i nodes.2 (omega ari
 pub nodes_push : (n : ℕ) (ns : List (List Edge)) (e : List Edge) → AreNodes n ns → AreInside (n + length ns) e → Rises 0 e →
     AreNodes n (ns ++ e ∷ [])
 nodes_push n [] e nodes inside rising = (are_inside_more (n + 0) n e (omega arith) inside, rising, tt)
-nodes_push n (m ∷ ns) e nodes inside rising =
-    (nodes.0, nodes.1, nodes_push (n + 1) ns e nodes.2 (are_inside_more (n + length (m ∷ ns)) (n + 1 + length ns) e (omega arith) inside)
-        rising)
+nodes_push n (m ∷ ns) e nodes inside rising = (
+  nodes.0,
+  nodes.1,
+  nodes_push (n + 1) ns e nodes.2 (are_inside_more (n + length (m ∷ ns)) (n + 1 + length ns) e (omega arith) inside)
+      rising,
+)
 
 pub emits_at : (v : List (List (List (ℕ × ℕ)))) (ns : List (List Edge)) (n i : ℕ) → length v ≡ n → AreNodes n ns → i < length ns →
     along (emitted_from v ns) (get_or ns i []) ≡ get_or (emitted_from v ns) (n + i) []
@@ -72,10 +75,10 @@ emits_at v (m ∷ ns) n zero len nodes l =
     let long : length w ≡ length v + 1 = omega (arith, length-append v (along v m ∷ [])) in
     let at : n + 0 ≡ length v = omega arith in
     let read : get_or (emitted_from w ns) (length v) [] ≡ along v m = emitted_kept w ns (length v) (omega arith)
-        ∙ get_or-append_seam v (along v m) [] [] in
+    ∙ get_or-append_seam v (along v m) [] [] in
     let same : along (emitted_from w ns) m ≡ along v m =
     along_same v (emitted_from w ns) n m (λ i h. emitted_kept w ns i (omega arith)
-        ∙ get_or_append_left v (along v m ∷ []) [] i (omega arith)) nodes.0 in
+    ∙ get_or_append_left v (along v m ∷ []) [] i (omega arith)) nodes.0 in
     same ∙ sym read ∙ ap (λ j. get_or (emitted_from w ns) j []) (sym at)
 emits_at v (m ∷ ns) n (suc i) len nodes l =
     let w : List (List (List (ℕ × ℕ))) = v ++ along v m ∷ [] in

@@ -36,9 +36,11 @@ append_along : (v : List (List (List (ℕ × ℕ)))) (r : ℕ × ℕ) (qs : List
     Rises low es →
     IsTrie (map (λ q. r ∷ q) qs) → IsTrie (along v es) → IsTrie (map (λ q. r ∷ q) qs ++ along v es)
 append_along v r [] low es l rise a b = b
-append_along v r (q ∷ qs) low es l rise a b =
-    (a.0, before_append (r ∷ q) (map (λ p. r ∷ p) qs) (along v es) a.1 (before_along v r q low es l rise),
-        append_along v r qs low es l rise a.2 b)
+append_along v r (q ∷ qs) low es l rise a b = (
+  a.0,
+  before_append (r ∷ q) (map (λ p. r ∷ p) qs) (along v es) a.1 (before_along v r q low es l rise),
+  append_along v r qs low es l rise a.2 b,
+)
 
 pub trie_below : (v : List (List (List (ℕ × ℕ)))) (next : Next) → ((i : ℕ) → IsTrie (get_or v i [])) → IsTrie (below v next)
 trie_below v Nothing all = tt

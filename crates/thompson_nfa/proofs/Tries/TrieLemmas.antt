@@ -69,8 +69,10 @@ module _ (v : List (List (List (ℕ × ℕ)))) where
   pub along_in : (es : List Edge) (b : ℕ) (t : List ℕ) → Has v es b t → IsIn (along v es) (b ∷ t)
   along_in [] b t h = h
   along_in (e ∷ es) b t h = elim h [
-    | inl here ↦ in_left (map (λ q. (e.range.start, e.range.end) ∷ q) (below v e.next)) (along v es) (b ∷ t) (behind_in (e.range.start,
-        e.range.end) (below v e.next) b t here.0 here.1 here.2)
+    | inl here ↦ in_left (map (λ q. (e.range.start, e.range.end) ∷ q) (below v e.next)) (along v es) (b ∷ t) (behind_in (
+      e.range.start,
+      e.range.end,
+    ) (below v e.next) b t here.0 here.1 here.2)
     | inr later ↦ in_right (map (λ q. (e.range.start, e.range.end) ∷ q) (below v e.next)) (along v es) (b ∷ t) (along_in es b t later)
   ]
 

@@ -28,9 +28,9 @@ module _ (v : List (List (List (ℕ × ℕ)))) (es : List Edge) (i : ℕ) (d : E
       let e1 = ap (λ xs. so_far ++ behind (map bytes_of path) (along v xs)) (sym (drop_more es i d l)) in
       let e2 = ap (λ xs. so_far ++ xs) (sym (behind_along v (map bytes_of path) (get_or es i d) (drop (i + 1) es))) in
       let e3 = sym (append_assoc so_far (behind (map bytes_of path ++ bytes_of (get_or es i d).range ∷ []) (below v (get_or es i d).next))
-          (behind (map bytes_of path) (along v (drop (i + 1) es)))) in
+      (behind (map bytes_of path) (along v (drop (i + 1) es)))) in
       let path_is : map bytes_of more ≡ map bytes_of path ++ bytes_of (get_or es i d).range ∷ [] =
-          ap (map bytes_of) m ∙ map-append bytes_of path ((get_or es i d).range ∷ []) in
+      ap (map bytes_of) m ∙ map-append bytes_of path ((get_or es i d).range ∷ []) in
       rw (n, path_is) (sym e3 ∙ e2 ∙ e1 ∙ e)
 
   pub edge_inside : (n : ℕ) → AreInside n es → IsInside n (get_or es i d).next

@@ -48,19 +48,19 @@ joins_then_empty back x = record {
 pub joins_last_part : (x : Tree) (xs : List Tree) → Joins true (concat (x ∷ [])) (concat xs) (concat (xs ++ x ∷ []))
 joins_last_part x xs =
     joins_same true (concat (x ∷ [])) (concat xs) (cat (concat xs) (concat (x ∷ []))) (concat (xs ++ x ∷ []))
-        (same_concat_append xs (x ∷ []))
+    (same_concat_append xs (x ∷ []))
     (joins_cat_reverse (concat xs) (concat (x ∷ [])))
 
 pub joins_first_byte : (b : ℕ) (bytes : List ℕ) → Joins false (literal (b ∷ [])) (literal bytes) (literal (b ∷ bytes))
 joins_first_byte b bytes =
     joins_same false (literal (b ∷ [])) (literal bytes) (cat (literal (b ∷ [])) (literal bytes)) (literal (b ∷ bytes))
-        (same_literal_append (b ∷ []) bytes)
+    (same_literal_append (b ∷ []) bytes)
     (joins_cat_forward (literal (b ∷ [])) (literal bytes))
 
 pub joins_last_byte : (b : ℕ) (bytes : List ℕ) → Joins true (literal (b ∷ [])) (literal bytes) (literal (bytes ++ b ∷ []))
 joins_last_byte b bytes =
     joins_same true (literal (b ∷ [])) (literal bytes) (cat (literal bytes) (literal (b ∷ []))) (literal (bytes ++ b ∷ []))
-        (same_literal_append bytes (b ∷ []))
+    (same_literal_append bytes (b ∷ []))
     (joins_cat_reverse (literal bytes) (literal (b ∷ [])))
 
 module _ (back : Bool) (T : Table) where
@@ -135,12 +135,12 @@ module _ (back : Bool) (T : Table) where
   pub copies_step : (start target m low least : ℕ) (most upper : Option ℕ) (greedy : Bool) (x whole : Tree) → least ≡ suc low →
       upper ≡ one_more most →
       Before back T start target (repetition least upper greedy x) whole → Denotes back T target m x →
-          Before back T start m (repetition low most greedy x) whole
+      Before back T start m (repetition low most greedy x) whole
   copies_step start target m low least most upper greedy x whole e f lead d =
       let P : ℕ → Type 0 = λ n. Before back T start target (repetition n upper greedy x) whole in
       let Q : Option ℕ → Type 0 = λ o. Before back T start target (repetition (suc low) o greedy x) whole in
       before_step start target m x (repetition low most greedy x) (repetition (suc low) (one_more most) greedy x) whole
-          (joins_copy back low most greedy x) (subst Q f (subst P e lead)) d
+      (joins_copy back low most greedy x) (subst Q f (subst P e lead)) d
 
   -- no copy is left: exactly so many
   pub copies_done : (start target : ℕ) (greedy : Bool) (x whole : Tree) →
@@ -155,7 +155,7 @@ Toward back T start target e rest whole = Denotes back T target e rest → Denot
 
 pub toward_step : (back : Bool) (T : Table) (start u a m e left : ℕ) (greedy : Bool) (x whole : Tree) → T u ≡ choice greedy a e →
     Toward back T start u e (repetition 0 (Some (suc left)) greedy x) whole → Denotes back T a m x →
-        Toward back T start m e (repetition 0 (Some left) greedy x) whole
+    Toward back T start m e (repetition 0 (Some left) greedy x) whole
 toward_step back T start u a m e left greedy x whole is lead body rest = lead (denotes_optional back T u a m e left greedy x is body rest)
 
 -- the last round leads to e itself
@@ -216,11 +216,11 @@ module _ (T : Table) where
 
   pub ranges_step_forward : (start target m k : ℕ) (ranges : List (ℕ × ℕ)) (d : ℕ × ℕ) (whole : Tree) → k < length ranges →
       Before false T start target (concat (range_parts (drop k ranges))) whole →
-          Denotes false T target m (byte_class (get_or ranges k d ∷ [])) →
+      Denotes false T target m (byte_class (get_or ranges k d ∷ [])) →
       Before false T start m (concat (range_parts (drop (k + 1) ranges))) whole
   ranges_step_forward start target m k ranges d whole less lead part =
       concat_front_forward start target m (range_parts (drop k ranges)) (range_parts (drop (k + 1) ranges))
-          (byte_class (get_or ranges k d ∷ [])) whole
+      (byte_class (get_or ranges k d ∷ [])) whole
       (ap range_parts (dropped ranges k d less)) lead part
 
   pub ranges_done_forward : (start target k : ℕ) (ranges : List (ℕ × ℕ)) (whole : Tree) → length ranges ≤ k →
@@ -231,13 +231,13 @@ module _ (T : Table) where
 
   pub ranges_step_reverse : (start target m k : ℕ) (ranges : List (ℕ × ℕ)) (d : ℕ × ℕ) (whole : Tree) → k < length ranges →
       Before true T start target (concat (range_parts (take (k + 1) ranges))) whole →
-          Denotes true T target m (byte_class (get_or ranges k d ∷ [])) →
+      Denotes true T target m (byte_class (get_or ranges k d ∷ [])) →
       Before true T start m (concat (range_parts (take k ranges))) whole
   ranges_step_reverse start target m k ranges d whole less lead part =
       concat_back_reverse start target m (range_parts (take (k + 1) ranges)) (range_parts (take k ranges))
-          (byte_class (get_or ranges k d ∷ [])) whole
+      (byte_class (get_or ranges k d ∷ [])) whole
       (ap range_parts (take_more ranges k d less) ∙ map-append (λ (r : ℕ × ℕ). byte_class (r ∷ [])) (take k ranges)
-          (get_or ranges k d ∷ [])) lead part
+      (get_or ranges k d ∷ [])) lead part
 
   -- ---- bytes of a literal
 
@@ -249,7 +249,7 @@ module _ (T : Table) where
       let here : drop k bytes ≡ b ∷ drop (k + 1) bytes = dropped bytes k d less in
       let P : List ℕ → Type 0 = λ ys. Before false T start target (literal ys) whole in
       before_step false T start target m (literal (b ∷ [])) (literal (drop (k + 1) bytes)) (literal (b ∷ drop (k + 1) bytes)) whole
-          (joins_first_byte b (drop (k + 1) bytes)) (subst P here lead) part
+      (joins_first_byte b (drop (k + 1) bytes)) (subst P here lead) part
 
   pub literal_done_forward : (start target k : ℕ) (bytes : List ℕ) (whole : Tree) → length bytes ≤ k →
       Before false T start target (literal (drop k bytes)) whole →
@@ -265,7 +265,7 @@ module _ (T : Table) where
       let b = get_or bytes k d in
       let P : List ℕ → Type 0 = λ ys. Before true T start target (literal ys) whole in
       before_step true T start target m (literal (b ∷ [])) (literal (take k bytes)) (literal (take k bytes ++ b ∷ [])) whole
-          (joins_last_byte b (take k bytes))
+      (joins_last_byte b (take k bytes))
       (subst P (take_more bytes k d less) lead) part
 
   pub literal_done_reverse : (start target : ℕ) (whole : Tree) → Before true T start target (literal []) whole →

@@ -47,7 +47,7 @@ module _ (t : Text) (is : IsRead t) where
       IsReadTo back t i k → IsChoice back xs t k e → i ≡ k
   anchored_place false xs i k e all low high read choice =
       let z : k ≡ 0 = meant_at_start choice.0 k e.0 (of_member (λ x. is_anchored_tree false x ≡ true) xs e.1 choice.0 all choice.1)
-          choice.2 in
+      choice.2 in
       let a = read.0 in
       omega arith
   anchored_place true xs i k e all low high read choice =
@@ -60,20 +60,20 @@ module _ (t : Text) (is : IsRead t) where
   no_ends : (x : Tree) (k : ℕ) → is_anchored_tree false x ≡ true → preferred_ends t.holds (seen t) x (suc k) ≡ []
   no_ends x k anchored = nil_from_none (preferred_ends t.holds (seen t) x (suc k))
       (λ j has. let z : suc k ≡ 0 = meant_at_start x (suc k) j anchored (preferred_ends_sound t.holds (seen t) x (suc k) j has) in
-          omega arith)
+      omega arith)
 
   no_choices : (p : ℕ) (xs : List Tree) (k : ℕ) → AllAnchored false xs → choices_from p xs t (suc k) ≡ []
   no_choices p [] k all = refl
   no_choices p (x ∷ xs) k all =
       ap (λ (l : List ℕ). map (λ j. (j, p)) l ++ choices_from (suc p) xs t (suc k))
-          (no_ends x k (All-head (λ y. is_anchored_tree false y ≡ true) x xs all))
+      (no_ends x k (All-head (λ y. is_anchored_tree false y ≡ true) x xs all))
       ∙ no_choices (suc p) xs k (All-tail (λ y. is_anchored_tree false y ≡ true) x xs all)
 
   nothing_later : (xs : List Tree) (i n : ℕ) → AllAnchored false xs → flat_map (choices_from 0 xs t) (places_from (suc i) n) ≡ []
   nothing_later xs i zero all = refl
   nothing_later xs i (suc n) all =
       ap (λ (l : List (ℕ × ℕ)). l ++ flat_map (choices_from 0 xs t) (places_from (suc (suc i)) n)) (no_choices 0 xs i all)
-          ∙ nothing_later xs (suc i) n all
+      ∙ nothing_later xs (suc i) n all
 
   -- so the choices at all places are those where reading begins
   pub choices_at_once : (xs : List Tree) (i : ℕ) → AllAnchored false xs → i ≤ t.end →

@@ -119,8 +119,10 @@ module _ (back : Bool) (t : Text) (T : Table) where
         complete = λ i e choice.
             let a = accept_at back T 0 starts xs accept e.1 e.1 choice.0 (omega arith) choice.1 in
             let s = get_or starts e.1 0 in
-            found_behind back t T (i, c) (i, s) e (n.to i s a.there) ((accepts_finds back t T s e.1 choice.0 a.accepts).complete i e (refl,
-                choice.2));
+            found_behind back t T (i, c) (i, s) e (n.to i s a.there) ((accepts_finds back t T s e.1 choice.0 a.accepts).complete i e (
+              refl,
+              choice.2,
+            ));
         sound = λ i e f.
             let o = n.from i e f in
             let x = accept_of back T 0 starts xs accept o.0 o.1 in
@@ -161,7 +163,7 @@ module _ (t : Text) (T : Table) where
   starts_list p (s ∷ starts) [] i a reads = absurd a
   starts_list p (s ∷ starts) (x ∷ xs) i a reads =
       firsts_append t T ((i, s) ∷ []) (each_at starts i) (map (λ j. (j, p)) (preferred_ends t.holds (seen t) x i))
-          (choices_from (suc p) xs t i)
+      (choices_from (suc p) xs t i)
       (accepts_lists t T s p x i a.0 (All-head LoopsRead x xs reads)) (starts_list (suc p) starts xs i a.1 (All-tail LoopsRead x xs reads))
 
   enters_list : (c : ℕ) (starts : List ℕ) (i : ℕ) (l : List (ℕ × ℕ)) → LeadsToAll T c starts → ListedFirsts t T (each_at starts i) l →

@@ -58,20 +58,20 @@ module _ (back : Bool) (T : Table) where
   pub denotes_like_meaning : (s e : ℕ) (x y : Tree) → ((looks : Looks) (h : List ℕ) (i j : ℕ) → Means looks h y i j → Means looks h x i j) →
       ((looks : Looks) (h : List ℕ) (i j : ℕ) → Means looks h x i j → Means looks h y i j) → (LoopsRead y → LoopsRead x) →
       (back ≡ false → (looks : Looks) (h : List ℕ) (i : ℕ) → preferred_ends looks h x i ≡ preferred_ends looks h y i) →
-          Denotes back T s e x → Denotes back T s e y
+      Denotes back T s e x → Denotes back T s e y
   denotes_like_meaning s e x y narrow wide reading same a = record {
     reaches = λ t. reaches_like back t T s e (IsMeant back t x) (IsMeant back t y) (meant_map y x narrow back t) (meant_map x y wide back t)
         (a.reaches t);
     halts = λ f t. halts_like back t T s e (IsMeant back t x) (IsMeant back t y) (meant_map x y wide back t) (a.halts (reading f) t);
     orders = λ up f t.
         orders_like t T s e (preferred_ends t.holds (seen t) x) (preferred_ends t.holds (seen t) y) (same up t.holds (seen t))
-            (a.orders up (reading f) t);
+        (a.orders up (reading f) t);
   }
 
   -- a tree that prefers the same ends
   pub denotes_like : (s e : ℕ) (x y : Tree) → (LoopsRead y → LoopsRead x) →
       ((looks : Looks) (h : List ℕ) (i : ℕ) → preferred_ends looks h x i ≡ preferred_ends looks h y i) → Denotes back T s e x →
-          Denotes back T s e y
+      Denotes back T s e y
   denotes_like s e x y reading same a = denotes_like_meaning s e x y
       (λ looks h i j m. let P : List ℕ → Type 0 = λ l. HasEnd l j in
       preferred_ends_sound looks h x i j (subst P (sym (same looks h i)) (preferred_ends_complete looks h y i j m)))
@@ -82,7 +82,7 @@ module _ (back : Bool) (T : Table) where
   -- one state that leads to e at these places
   pub denotes_leaf : (s e : ℕ) (x : Tree) (ends : Text → ℕ → List ℕ) → ((t : Text) → Goes back t T s (λ i. at e (ends t i))) →
       ((t : Text) (i j : ℕ) → IsMeant back t x i j → HasEnd (ends t i) j) →
-          ((t : Text) (i j : ℕ) → HasEnd (ends t i) j → IsMeant back t x i j) →
+      ((t : Text) (i j : ℕ) → HasEnd (ends t i) j → IsMeant back t x i j) →
       (back ≡ false → (t : Text) (i : ℕ) → ends t i ≡ preferred_ends t.holds (seen t) x i) → Denotes back T s e x
   denotes_leaf s e x ends g narrow wide same = record {
     reaches = λ t. reaches_like back t T s e (λ i j. HasEnd (ends t i) j) (IsMeant back t x) (narrow t) (wide t)

@@ -61,6 +61,10 @@ module _ (whole : (looks : Looks) (h : List ℕ) (e : ℕ) (x : Tree) (i j : ℕ
           λ h.
               let far : s ≤ h.0 = h.1 in
               let near : h.0 ≤ t.end = h.2 in
-              found.1 (h.0, (far, near), (spans_forward.anchored t h.0 (j, p) near).0
-                  ((same_anchored t p h.0 j (omega arith) near to).1 h.3)),
+              found.1 (
+                h.0,
+                (far, near),
+                (spans_forward.anchored t h.0 (j, p) near).0
+                    ((same_anchored t p h.0 j (omega arith) near to).1 h.3),
+              ),
         )

@@ -66,8 +66,10 @@ module _ (back : Bool) (t : Text) (T : Table) where
   -- a state that leads to a and to e
   pub halts_choice : (greedy : Bool) (u a e : ℕ) (M : ℕ → ℕ → Type 0) → Goes back t T u (both_at greedy a e) → Halts back t T a e M →
       Halts back t T u e (λ i j. M i j ⊎ (i ≡ j))
-  halts_choice greedy u a e M g x = record { halts = λ i all. ended_choice greedy u a e i g (x.halts i (λ j m. all j (inl m)))
-      (all i (inr refl)) }
+  halts_choice greedy u a e M g x = record {
+    halts = λ i all. ended_choice greedy u a e i g (x.halts i (λ j m. all j (inl m)))
+        (all i (inr refl));
+  }
 
   -- a loop whose rounds leave less to read: u leads to a body, which comes back to u, and to e
   module _ (greedy : Bool) (a u e : ℕ) (M : ℕ → ℕ → Type 0) (left : ℕ → ℕ) (reading : (i k : ℕ) → M i k →

@@ -67,12 +67,18 @@ module _ (back : Bool) (t : Text) (T : Table) where
   pub passes_later : (M N : ℕ → ℕ → Type 0) (ws : List (ℕ × ℕ)) (i k e : ℕ) (p q : ℕ × ℕ) (r : List (ℕ × ℕ)) (b : Begins ws p r) →
       b.way ≡ q →
       (Chain q b.rest → last_or q b.rest ≡ last_or p r → Passes back t T M k e q b.rest) → ((j : ℕ) → M k j → N i j) →
-          Passes back t T N i e p r
+      Passes back t T N i e p r
   passes_later M N ws i k e p q r b is on wider =
       let C : ℕ × ℕ → Type 0 = λ w. Chain w b.rest in
       let ends : last_or q b.rest ≡ last_or p r = ap (λ (w : ℕ × ℕ). last_or w b.rest) (sym is) ∙ b.same_end in
       let x = on (subst C is b.chain) ends in
       let u = x.fewer in
       let v = b.one_less in
-      record { middle = x.middle; rest = x.rest; is_meant = wider x.middle x.is_meant; chain = x.chain; fewer = omega arith;
-          same_end = x.same_end ∙ ends }
+      record {
+        middle = x.middle;
+        rest = x.rest;
+        is_meant = wider x.middle x.is_meant;
+        chain = x.chain;
+        fewer = omega arith;
+        same_end = x.same_end ∙ ends;
+      }

@@ -51,12 +51,12 @@ pub meant_cat_reverse : (t : Text) (x y : Tree) (i j : ℕ) → IsMeant true t (
     IsMeant true t x k j
 meant_cat_reverse t x y i j m =
     reverse_join t.start (Means t.holds t.haystack x) (Means t.holds t.haystack y) (span_forward t.holds t.haystack x)
-        (span_forward t.holds t.haystack y) i j m
+    (span_forward t.holds t.haystack y) i j m
 
 pub cat_meant_reverse : (t : Text) (x y : Tree) (i j k : ℕ) → IsMeant true t y i k → IsMeant true t x k j → IsMeant true t (cat x y) i j
 cat_meant_reverse t x y i j k m n =
     join_reverse t.start (Means t.holds t.haystack x) (Means t.holds t.haystack y) (span_forward t.holds t.haystack x)
-        (span_forward t.holds t.haystack y) i j k m n
+    (span_forward t.holds t.haystack y) i j k m n
 
 -- rounds of what is meant
 abbrev pub MeantRounds : Bool → Text → ℕ → Option ℕ → Tree → ℕ → ℕ → Type 0
@@ -102,7 +102,7 @@ taken_get h n i true e =
       | inl x ↦
           let fits = x.1 in
           slice_get-get_or (take n h) i x.0 (omega (arith, length-take n h)) ∙ ap (λ (b : ℕ). Some b) (get_or-take n h i x.0 less ∙ x.3)
-              ∙ sym x.2
+          ∙ sym x.2
       | inr o ↦ let past = o.0 in slice_get_past (take n h) i (omega (arith, length-take n h)) ∙ sym o.1
     ]
 taken_get h n i false e = let past = ltb-false i n e in slice_get_past (take n h) i (omega (arith, length-take n h))
@@ -160,4 +160,4 @@ meant_class true t ranges (suc i) j m =
     let same : j ≡ i = omega arith in
     let P : ℕ → Type 0 = λ k. slice_get t.haystack k ≡ Some m.0.1 in
     read_reverse ranges (nat_le t.start i) (byte_at t.haystack i) i j m.0.1 (le-leb t.start i (omega arith)) (subst P same m.0.2) m.0.3
-        (sym same)
+    (sym same)

@@ -61,7 +61,7 @@ module _ (t : Text) (T : Table) where
   -- at each of the places
   pub firsts_each : (s e : ℕ) (ends : ℕ → List ℕ) (js : List ℕ) (l : List (ℕ × ℕ)) →
       ((k : ℕ) (m : List (ℕ × ℕ)) → HasEnd js k → Listed (at e (ends k)) m → ListedFirsts ((k, s) ∷ []) m) →
-          Listed (at e (flat_map ends js)) l → ListedFirsts (at s js) l
+      Listed (at e (flat_map ends js)) l → ListedFirsts (at s js) l
   firsts_each s e ends [] l one walk = firsts_of [] l walk
   firsts_each s e ends (k ∷ ks) l one walk =
       let P : List (ℕ × ℕ) → Type 0 = λ st. Listed st l in
@@ -89,15 +89,15 @@ module _ (t : Text) (T : Table) where
   -- from a choice: what the body lists, and then the end, or the other way round
   firsts_choice : (greedy : Bool) (u a e i : ℕ) (more : List ℕ) (l : List (ℕ × ℕ)) → Goes false t T u (both_at greedy a e) →
       ((m : List (ℕ × ℕ)) → Listed (at e more) m → ListedFirsts ((i, a) ∷ []) m) → Listed (at e (in_order greedy more i)) l →
-          ListedFirsts ((i, u) ∷ []) l
+      ListedFirsts ((i, u) ∷ []) l
   firsts_choice true u a e i more l g body walk =
       let P : List (ℕ × ℕ) → Type 0 = λ st. Listed st l in
       firsts_on u (both_at true a e) i l g
       (firsts_parts (at e more) ((i, e) ∷ []) ((i, a) ∷ []) ((i, e) ∷ []) l body (firsts_of ((i, e) ∷ []))
-          (subst P (at_append e more (i ∷ [])) walk))
+      (subst P (at_append e more (i ∷ [])) walk))
   firsts_choice false u a e i more l g body walk =
       firsts_on u (both_at false a e) i l g (firsts_parts ((i, e) ∷ []) (at e more) ((i, e) ∷ []) ((i, a) ∷ []) l
-          (firsts_of ((i, e) ∷ [])) body walk)
+      (firsts_of ((i, e) ∷ [])) body walk)
 
   pub orders_choice : (greedy : Bool) (u a e : ℕ) (more : ℕ → List ℕ) → Goes false t T u (both_at greedy a e) → Orders t T a e more →
       Orders t T u e (λ i. in_order greedy (more i) i)
@@ -106,15 +106,15 @@ module _ (t : Text) (T : Table) where
   -- a loop whose rounds read: u leads to a body, which comes back to u, and to e
   module _ (greedy : Bool) (a u e : ℕ) (body loops : ℕ → List ℕ) (len : ℕ) (reading : (i k : ℕ) → HasEnd (body i) k → (i < k) × (k ≤ len))
       (more_or_stop : (i : ℕ) → loops i ≡ in_order greedy (flat_map loops (body i)) i) (loop : Goes false t T u (both_at greedy a e))
-          (x : Orders t T a u body) where
+      (x : Orders t T a u body) where
     loop_step : (q i : ℕ) (l : List (ℕ × ℕ)) → Goes false t T q (both_at greedy a e) →
         ((k : ℕ) (m : List (ℕ × ℕ)) → i < k → k ≤ len → Listed (at e (loops k)) m → ListedFirsts ((k, u) ∷ []) m) →
-            Listed (at e (loops i)) l → ListedFirsts ((i, q) ∷ []) l
+        Listed (at e (loops i)) l → ListedFirsts ((i, q) ∷ []) l
     loop_step q i l g later walk =
         let P : List ℕ → Type 0 = λ js. Listed (at e js) l in
         firsts_choice greedy q a e i (flat_map loops (body i)) l g
         (λ m w. firsts_behind (at u (body i)) ((i, a) ∷ []) m (x.lists i)
-            (firsts_each u e loops (body i) m (λ k n h v. let r = reading i k h in later k n r.0 r.1 v) w))
+        (firsts_each u e loops (body i) m (λ k n h v. let r = reading i k h in later k n r.0 r.1 v) w))
         (subst P (more_or_stop i) walk)
 
     loop_order : (room q i : ℕ) (l : List (ℕ × ℕ)) → len ≤ i + room → Goes false t T q (both_at greedy a e) → Listed (at e (loops i)) l →

@@ -22,8 +22,14 @@ module _ (back : Bool) (t : Text) (T : Table) where
   passes_then M N K i m e q r p x wider =
       let u = p.fewer in
       let v = x.fewer in
-      record { middle = x.middle; rest = x.rest; is_meant = wider x.middle x.is_meant; chain = x.chain; fewer = omega arith;
-          same_end = x.same_end ∙ p.same_end }
+      record {
+        middle = x.middle;
+        rest = x.rest;
+        is_meant = wider x.middle x.is_meant;
+        chain = x.chain;
+        fewer = omega arith;
+        same_end = x.same_end ∙ p.same_end;
+      }
 
   kept_match : (p q m : ℕ × ℕ) → p ≡ q → table_match T q ≡ Some m → table_match T p ≡ Some m
   kept_match p q m e final = ap (table_match T) e ∙ final
@@ -40,8 +46,14 @@ module _ (back : Bool) (t : Text) (T : Table) where
     complete = λ i j n. a.complete i j (narrow i j n);
     sound = λ i r m c final.
         let p = a.sound i r m c final in
-        record { middle = p.middle; rest = p.rest; is_meant = wide i p.middle p.is_meant; chain = p.chain; fewer = p.fewer;
-            same_end = p.same_end };
+        record {
+          middle = p.middle;
+          rest = p.rest;
+          is_meant = wide i p.middle p.is_meant;
+          chain = p.chain;
+          fewer = p.fewer;
+          same_end = p.same_end;
+        };
   }
 
   -- from s to m, and on to e
@@ -52,15 +64,17 @@ module _ (back : Bool) (t : Text) (T : Table) where
     sound = λ i r f c final.
         let p = a.sound i r f c final in
         passes_then M N (λ i j. (k : ℕ) × M i k × N k j) i m e (i, s) r p
-            (b.sound p.middle p.rest f p.chain (ap (table_match T) p.same_end ∙ final))
+        (b.sound p.middle p.rest f p.chain (ap (table_match T) p.same_end ∙ final))
         (λ j y. (p.middle, p.is_meant, y));
   }
 
   -- a state that leads to e alone, at these places
   pub reaches_leaf : (s e : ℕ) (ends : ℕ → List ℕ) → Goes back t T s (λ i. at e (ends i)) → Reaches back t T s e (λ i j. HasEnd (ends i) j)
   reaches_leaf s e ends g = record {
-    complete = λ i j h. goes_leads back t T s (λ k. at e (ends k)) i (j, e) (j,
-        e) g (has_at e (ends i) j h) (leads_here back t T (j, e) (j, e) refl);
+    complete = λ i j h. goes_leads back t T s (λ k. at e (ends k)) i (j, e) (
+      j,
+      e,
+    ) g (has_at e (ends i) j h) (leads_here back t T (j, e) (j, e) refl);
     sound = λ i r m c final.
         let b = goes_begins back t T s (λ k. at e (ends k)) i r m g c final in
         let w = at_has e (ends i) b.way b.has in
@@ -88,8 +102,10 @@ module _ (back : Bool) (t : Text) (T : Table) where
   reaches_choice greedy u a e M g x = record {
     complete = λ i j h. elim h [
       | inl m ↦ goes_leads back t T u (both_at greedy a e) i (i, a) (j, e) g (both_has_body greedy a e i) (x.complete i j m)
-      | inr is ↦ goes_leads back t T u (both_at greedy a e) i (i, e) (j,
-          e) g (both_has_exit greedy a e i) (leads_here back t T (i, e) (j, e) (ap (λ (k : ℕ). (k, e)) is))
+      | inr is ↦ goes_leads back t T u (both_at greedy a e) i (i, e) (
+        j,
+        e,
+      ) g (both_has_exit greedy a e i) (leads_here back t T (i, e) (j, e) (ap (λ (k : ℕ). (k, e)) is))
     ];
     sound = λ i r m c final.
         let b = goes_begins back t T u (both_at greedy a e) i r m g c final in
@@ -109,8 +125,10 @@ module _ (back : Bool) (t : Text) (T : Table) where
 
     loop_complete : (n q i j : ℕ) → Goes back t T q (both_at greedy a e) → Rounds M n i j → Leads back t T (i, q) (j, e)
     loop_complete zero q i j g r =
-        goes_leads back t T q (both_at greedy a e) i (i, e) (j, e) g (both_has_exit greedy a e i) (leads_here back t T (i, e) (j,
-            e) (ap (λ (k : ℕ). (k, e)) r))
+        goes_leads back t T q (both_at greedy a e) i (i, e) (j, e) g (both_has_exit greedy a e i) (leads_here back t T (i, e) (
+          j,
+          e,
+        ) (ap (λ (k : ℕ). (k, e)) r))
     loop_complete (suc n) q i j g r =
         goes_leads back t T q (both_at greedy a e) i (i, a) (j, e) g (both_has_body greedy a e i)
         (leads_trans back t T (i, a) (r.0, u) (j, e) (body.complete i r.0 r.1) (loop_complete n u r.0 j loop r.2))
@@ -131,7 +149,7 @@ module _ (back : Bool) (t : Text) (T : Table) where
               let v = p.fewer in
               passes_then M Loops Loops i u e (i, a) b.rest p
               (loop_sound room u p.middle p.rest m (omega arith) loop p.chain
-                  (kept_match (last_or (p.middle, u) p.rest) (last_or (i, q) r) m (p.same_end ∙ f) final))
+              (kept_match (last_or (p.middle, u) p.rest) (last_or (i, q) r) m (p.same_end ∙ f) final))
               (λ j y. (suc y.0, (p.middle, p.is_meant, y.1))))
               (λ j y. y)
           | inr is ↦ passes_later back t T (λ k j. k ≡ j) Loops (both_at greedy a e i) i i e (i, q) (i, e) r b is

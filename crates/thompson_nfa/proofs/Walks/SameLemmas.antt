@@ -48,8 +48,13 @@ joins_same back x1 x2 y z same j = record {
 
 -- two parts: the first is done first reading up, the second reading down
 pub joins_cat_forward : (x y : Tree) → Joins false x y (cat x y)
-joins_cat_forward x y = record { parts = λ t i j m. m; joined = λ t i j m. m; reading = λ f. f; ends = λ up looks h i. refl;
-    met = λ l. refl }
+joins_cat_forward x y = record {
+  parts = λ t i j m. m;
+  joined = λ t i j m. m;
+  reading = λ f. f;
+  ends = λ up looks h i. refl;
+  met = λ l. refl;
+}
 
 pub joins_cat_reverse : (x y : Tree) → Joins true y x (cat x y)
 joins_cat_reverse x y = record {
@@ -112,7 +117,7 @@ concat_ends looks h [] ys i = append-nil (preferred_ends looks h (concat ys) i)
 concat_ends looks h (x ∷ xs) ys i =
     flat_map-flat_map (preferred_ends looks h (concat ys)) (preferred_ends looks h (concat xs)) (preferred_ends looks h x i)
     ∙ flat_map_same (λ k. flat_map (preferred_ends looks h (concat ys)) (preferred_ends looks h (concat xs) k))
-        (preferred_ends looks h (concat (xs ++ ys)))
+    (preferred_ends looks h (concat (xs ++ ys)))
     (preferred_ends looks h x i) (λ k m. concat_ends looks h xs ys k)
 
 pub same_concat_append : (xs ys : List Tree) → IsSame (cat (concat xs) (concat ys)) (concat (xs ++ ys))
@@ -137,7 +142,7 @@ starts_append (a ∷ us) vs (x ∷ xs) =
 stands_append : (h : List ℕ) (i : ℕ) (us vs : List ℕ) → stands h i (us ++ vs) ≡ (stands h i us && stands h (i + length us) vs)
 stands_append h i us vs =
     starts_append us vs (drop i h) ∙ ap (λ (rest : List ℕ). starts_with nat_eq (drop i h) us
-        && starts_with nat_eq rest vs) (drop-drop (length us) i h)
+    && starts_with nat_eq rest vs) (drop-drop (length us) i h)
 
 two_stands : (c : Bool) (d : ℕ → Bool) (i n m k : ℕ) → i + n + m ≡ i + k →
     flat_map (λ p. if d p then (p + m) ∷ [] else []) (if c then (i + n) ∷ [] else []) ≡ (if c && d (i + n) then (i + k) ∷ [] else [])
@@ -152,7 +157,7 @@ literal_ends : (looks : Looks) (h : List ℕ) (us vs : List ℕ) (i : ℕ) →
     flat_map (preferred_ends looks h (literal vs)) (preferred_ends looks h (literal us) i) ≡ preferred_ends looks h (literal (us ++ vs)) i
 literal_ends looks h us vs i =
     two_stands (stands h i us) (λ p. stands h p vs) i (length us) (length vs) (length (us ++ vs)) (let e = length_joined us vs in
-        omega arith)
+    omega arith)
     ∙ ap (λ (c : Bool). if c then (i + length (us ++ vs)) ∷ [] else []) (sym (stands_append h i us vs))
 
 pub same_literal_append : (us vs : List ℕ) → IsSame (cat (literal us) (literal vs)) (literal (us ++ vs))

@@ -43,7 +43,7 @@ module _ (t : Text) (T : Table) (u c : ℕ) (w : TriesEachPlace T u c) where
       (λ i k h. let m = moves_forward t i k h in let is = m.0 in let less = m.1 in (omega arith, omega arith))
       (λ i. tried_step t (t.end - i) i refl) (goes_on false t T u c w)
       (orders_like t T w.byte u (λ i. flat_map (λ (k : ℕ). k ∷ []) (any_ends false t i)) (any_ends false t)
-          (λ i. single_ends (any_ends false t i))
+      (λ i. single_ends (any_ends false t i))
       (orders_join t T w.byte w.back u (any_ends false t) (λ i. i ∷ [])
       (orders_leaf t T w.byte w.back (any_ends false t) (goes_any false t T u c w))
       (orders_leaf t T w.back u (λ i. i ∷ []) (goes_empty false t T w.back u w.again))))
@@ -63,7 +63,7 @@ tried_places : (t : Text) → IsText t → (n i : ℕ) → i + n ≡ t.end → t
 tried_places t is zero i e = refl
 tried_places t is (suc n) i e = ap (λ (l : List ℕ). i ∷ l)
     (ap (flat_map (tried_from t n)) (ends_forward t i is (omega arith)) ∙ append-nil (tried_from t n (suc i))
-        ∙ tried_places t is n (suc i) (omega arith))
+    ∙ tried_places t is n (suc i) (omega arith))
 
 pub all_tried : (t : Text) (i : ℕ) → IsText t → i ≤ t.end → tried t i ≡ places_from i (suc t.end - i)
 all_tried t i is h = tried_places t is (t.end - i) i (omega arith) ∙ ap (places_from i)

@@ -54,7 +54,7 @@ ends_forward t i is less =
     let there : i < length t.haystack = omega arith in
     ends_of_read (reads false t i) (get_or t.haystack i 0) (suc i)
     (read_as (nat_lt i t.end) (byte_at t.haystack i) (suc i) (get_or t.haystack i 0) (lt-ltb i t.end less)
-        (slice_get-get_or t.haystack i 0 there))
+    (slice_get-get_or t.haystack i 0 there))
     (All-get_or (λ byte. byte < 256) t.haystack i 0 there is.bytes)
 
 pub ends_reverse : (t : Text) (i : ℕ) → IsText t → t.start ≤ i → suc i ≤ t.end → any_ends true t (suc i) ≡ i ∷ []
@@ -63,7 +63,7 @@ ends_reverse t i is above below =
     let there : i < length t.haystack = omega arith in
     ends_of_read (reads true t (suc i)) (get_or t.haystack i 0) i
     (read_as (nat_le t.start i) (byte_at t.haystack i) i (get_or t.haystack i 0) (le-leb t.start i above)
-        (slice_get-get_or t.haystack i 0 there))
+    (slice_get-get_or t.haystack i 0 there))
     (All-get_or (λ byte. byte < 256) t.haystack i 0 there is.bytes)
 
 ends_read : (c : Bool) (o : Option ℕ) (j k : ℕ) → HasEnd (byte_ends any_range (if c then with_place j o else None)) k → (c ≡ true) × (j ≡ k)
@@ -128,8 +128,10 @@ reverse_rounds t is (suc n) (suc i) k e h low =
 pub read_rounds : (back : Bool) (t : Text) (i k : ℕ) → IsText t → t.start ≤ i → i ≤ t.end → IsReadTo back t i k → (n : ℕ) ×
     Rounds (Moves back t) n i k
 read_rounds false t i k is low high r = let a = r.0 in let b = r.1 in (k - i, forward_rounds t is (k - i) i k (omega arith) b)
-read_rounds true t i k is low high r = let a = r.0 in let b = r.1 in (i - k,
-    reverse_rounds t is (i - k) i k (omega arith) high (omega arith))
+read_rounds true t i k is low high r = let a = r.0 in let b = r.1 in (
+  i - k,
+  reverse_rounds t is (i - k) i k (omega arith) high (omega arith),
+)
 
 -- what is left to read
 abbrev left : Bool → Text → ℕ → ℕ

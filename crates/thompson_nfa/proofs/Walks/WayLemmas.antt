@@ -138,12 +138,12 @@ module _ (back : Bool) (t : Text) (T : Table) (s : ℕ) where
   pub goes_capture_start : (pattern group e : ℕ) → T s ≡ capture_start_draft pattern group e → Goes back t T s (λ i. at e (i ∷ []))
   goes_capture_start pattern group e is =
       goes_as (capture_start_draft pattern group e) (λ i. at e (i ∷ [])) is (λ i. refl)
-          (λ i. plain_node back t (capture_node e pattern group 0) i (λ b. refl))
+      (λ i. plain_node back t (capture_node e pattern group 0) i (λ b. refl))
 
   pub goes_capture_end : (pattern group e : ℕ) → T s ≡ capture_end_draft pattern group e → Goes back t T s (λ i. at e (i ∷ []))
   goes_capture_end pattern group e is =
       goes_as (capture_end_draft pattern group e) (λ i. at e (i ∷ [])) is (λ i. refl)
-          (λ i. plain_node back t (capture_node e pattern group 0) i (λ b. refl))
+      (λ i. plain_node back t (capture_node e pattern group 0) i (λ b. refl))
 
   pub goes_fail : T s ≡ fail_draft → Goes back t T s (λ i. [])
   goes_fail is = goes_as fail_draft (λ i. []) is (λ i. refl) (λ i. plain_node back t fail_node i (λ b. refl))

@@ -30,7 +30,7 @@ prefix_of b0 b1 b2 b3 b4 b5 u e a s1 s2 s3 s4 s5 =
     let e_first : draft_at b4.drafts e ≡ empty_draft 0 =
     s4.same e (λ same. differ.0 (sym same)) ∙ s3.grows.same e (omega (arith, is_e, s1.size, s2.size)) ∙ s2.here in
     let a_last : draft_at b5.drafts a ≡ sparse_draft ((0, 255, e) ∷ []) =
-        s5.same a (λ same. differ.1 (sym same)) ∙ s4.same a (λ same. differ.2 (sym same)) ∙ s3.here in
+    s5.same a (λ same. differ.1 (sym same)) ∙ s4.same a (λ same. differ.2 (sym same)) ∙ s3.here in
     record {
       settings = settings_joined b0 b3 b5 (settings_joined b0 b2 b3 (settings_joined b0 b1 b2 (settings_added b0 b1 u _ s1)
           (settings_added b1 b2 e _ s2)) (settings_added b2 b3 a _ s3))
@@ -40,7 +40,7 @@ prefix_of b0 b1 b2 b3 b4 b5 u e a s1 s2 s3 s4 s5 =
       same = λ q inside.
           s5.same q (λ same. omega (arith, same, inside, is_e)) ∙ s4.same q (λ same. omega (arith, same, inside, s1.is))
           ∙ s3.grows.same q (omega (arith, inside, s1.size, s2.size)) ∙ s2.grows.same q (omega (arith, inside, s1.size))
-              ∙ s1.grows.same q inside;
+          ∙ s1.grows.same q inside;
       loop = s5.same u differ.0 ∙ s4.here ∙ ap (patched a) u_first ∙ ap (λ (k : ℕ). union_reverse_draft (k ∷ [])) after_u;
       back = ap (draft_at b5.drafts) (sym after_e) ∙ s5.here ∙ ap (patched u) e_first;
       any = ap (draft_at b5.drafts) (sym after_u) ∙ a_last ∙ ap (λ (k : ℕ). sparse_draft ((0, 255, k) ∷ [])) after_e;

@@ -42,13 +42,13 @@ leads_same : (table other : Table) (c : ℕ) (starts : List ℕ) → table c ≡
 leads_same table other c starts same l = ⊎_elim
     (λ (one : starts ≡ c ∷ []). inl one)
     (λ rest. ⊎_elim (λ (union : table c ≡ union_draft starts). inr (inl (sym same ∙ union)))
-        (λ none. inr (inr (none.0, sym same ∙ none.1))) rest)
+    (λ none. inr (inr (none.0, sym same ∙ none.1))) rest)
     l
 
 module _ (o : Options) (xs : List Tree) (b0 b1 b2 b3 : Assembly) (u c : ℕ) (begun : b0 ≡ begun_with o)
     (captures : (reverse_of o && is_any (captures_of o)) ≡ false) (anchored : Bool)
     (is_anchored : anchored ≡ list_all (is_anchored_tree (reverse_of o)) xs) (start : HasStart anchored b0 b1 u)
-        (below : u < length b1.drafts)
+    (below : u < length b1.drafts)
     (patterns : LeadsToPatterns (captures_of o) b1 b2 c xs (room_for (is_shrunk o) xs + 1)) (led : Led b2 b3 u c) where
   abbrev starts : List ℕ
   starts = patterns.0
@@ -125,7 +125,7 @@ module _ (o : Options) (xs : List Tree) (b0 b1 b2 b3 : Assembly) (u c : ℕ) (be
       ⊎_elim (λ (low : q < length b1.drafts). (before.tame q low).named)
       (λ (high : length b1.drafts ≤ q). subst P (sym (later_same q high))
       (All-weaker (λ r. r < length b2.drafts) (λ r. r < length b3.drafts) (λ r k. omega arith) (names_of (draft_at b2.drafts q))
-          (has.named q high (omega arith) (λ e. omega arith))))
+      (has.named q high (omega arith) (λ e. omega arith))))
       (cases_lt q (length b1.drafts))
 
   known_at : (q : ℕ) → q < length b3.drafts → is_known b3.groups (draft_at b3.drafts q) ≡ true
@@ -133,7 +133,7 @@ module _ (o : Options) (xs : List Tree) (b0 b1 b2 b3 : Assembly) (u c : ℕ) (be
       let z = size in
       ⊎_elim (λ (low : q < length b1.drafts). (before.tame q low).known)
       (λ (high : length b1.drafts ≤ q). ap (is_known b3.groups) (later_same q high)
-          ∙ ap (λ gs. is_known gs (draft_at b2.drafts q)) groups_same
+      ∙ ap (λ gs. is_known gs (draft_at b2.drafts q)) groups_same
       ∙ has.known q high (omega arith) (λ e. omega arith))
       (cases_lt q (length b1.drafts))
 
@@ -199,7 +199,7 @@ module _ (o : Options) (xs : List Tree) (b0 b1 b2 b3 : Assembly) (u c : ℕ) (be
       let i = match_inside b3.drafts q p f in let j = match_inside b3.drafts r p g in
       let k = match_late q p f in let l = match_late r p g in
       has.one_match q r p k (omega arith) (λ e. omega arith) l (omega arith) (λ e. omega arith) (sym (later_same q k)
-          ∙ f) (sym (later_same r l) ∙ g)
+      ∙ f) (sym (later_same r l) ∙ g)
 
   few : length b3.drafts ≤ list_room (is_shrunk o) xs
   few = let a = has.last (let b = before.few in omega arith) in omega (arith, size, has.states, before.few, a, list_fits (is_shrunk o) xs)
@@ -255,7 +255,7 @@ module _ (o : Options) (xs : List Tree) (b0 b1 b2 b3 : Assembly) (u c : ℕ) (be
       let s = standing c above inside in
       let list = past_in_list b3.drafts s.0 c in
       let stands : stands_for (draft_at b3.drafts (past_within b3.drafts s.0 c)) ≡ None =
-          ap (λ (k : ℕ). stands_for (draft_at b3.drafts k)) (sym list) ∙ s.1 in
+      ap (λ (k : ℕ). stands_for (draft_at b3.drafts k)) (sym list) ∙ s.1 in
       let found = past_found b3.drafts no_loop s.0 c stands in
       let high = s.2 in let low = below in
       absurd (omega arith)
@@ -267,9 +267,9 @@ start_below false b0 b1 u x = let is = x.is in let size = x.size in omega arith
 -- the same from what each call says
 module _ (o : Options) (xs : List Tree) (b0 b1 b2 b3 : Assembly) (u c : ℕ) (anchored reverse : Bool) (how : How) (begun : b0 ≡ begun_with o)
     (captures : (reverse_of o && is_any (captures_of o)) ≡ false) (turned : reverse ≡ reverse_of o) (kept : how.which ≡ captures_of o)
-        (shrunk : how.shrink ≡ is_shrunk o) (is_anchored : anchored ≡ list_all (is_anchored_tree reverse) xs)
+    (shrunk : how.shrink ≡ is_shrunk o) (is_anchored : anchored ≡ list_all (is_anchored_tree reverse) xs)
     (start : HasStart anchored b0 b1 u) (patterns : LeadsToPatterns how.which b1 b2 c xs (room_for how.shrink xs + 1))
-        (led : Led b2 b3 u c) where
+    (led : Led b2 b3 u c) where
   kept_patterns : LeadsToPatterns (captures_of o) b1 b2 c xs (room_for (is_shrunk o) xs + 1)
   kept_patterns =
       let P : WhichCaptures → Type 0 = λ w. LeadsToPatterns w b1 b2 c xs (room_for (is_shrunk o) xs + 1) in

@@ -87,7 +87,7 @@ pub hole_moved : (which : WhichCaptures) (a b : Assembly) (ss : List ℕ) (xs : 
 hole_moved which a b ss xs n spare hole out h =
     let longer = h.longer in
     let there : (table : Table) → Holds hole (length a.drafts) b.drafts table → Holds (length b.drafts) (length a.drafts) b.drafts table =
-        λ table hold q low high ne. hold q low high (out q low high) in
+    λ table hold q low high ne. hold q low high (out q low high) in
     record {
       settings = h.settings;
       starts_are = h.starts_are;
@@ -138,7 +138,7 @@ patterns_added which a b c ss xs n spare more id draft h x le no_look =
           omega arith);
       named = λ q low high ne. let l = below q high ne in subst P (sym (x.grows.same q l))
           (All-weaker (λ r. r < length b.drafts) (λ r. r < length c.drafts) (λ r l. omega arith) (names_of (draft_at b.drafts q))
-              (h.named q low l (λ e. omega arith)));
+          (h.named q low l (λ e. omega arith)));
       known = λ q low high ne. let l = below q high ne in ap (is_known c.groups) (x.grows.same q l)
           ∙ x.grows.known (draft_at b.drafts q) (h.known q low l (λ e. omega arith));
       numbered = λ q p low high ne found. let l = below q high ne in let k =
@@ -179,7 +179,7 @@ patterns_led which a b c ss xs n spare more hole to h x le =
       stands = λ table hold q low high ne. h.stands table (there table hold) q low (omega arith) ne;
       named = λ q low high ne. subst P (sym (x.same q ne))
           (All-weaker (λ r. r < length b.drafts) (λ r. r < length c.drafts) (λ r l. omega arith) (names_of (draft_at b.drafts q))
-              (h.named q low (omega arith) ne));
+          (h.named q low (omega arith) ne));
       known = λ q low high ne. ap (is_known c.groups) (x.same q ne) ∙ ap (λ gs. is_known gs (draft_at b.drafts q)) groups
           ∙ h.known q low (omega arith) ne;
       numbered = λ q p low high ne found. let k = h.numbered q p low (omega arith) ne (sym (x.same q ne) ∙ found) in
@@ -247,7 +247,7 @@ module _ (which : WhichCaptures) (hole : ℕ) (a b c : Assembly) (ss ts : List �
       let as_many = first.as_many in let between = starts_between in
       let len : length b.starts ≡ length a.starts + length xs = omega arith in
       second.groups ∙ ap (λ (k : ℕ). noted_from which k ys b.groups) len
-          ∙ ap (λ (gs : Groups). noted_from which (length a.starts + length xs) ys gs) first.groups
+      ∙ ap (λ (gs : Groups). noted_from which (length a.starts + length xs) ys gs) first.groups
       ∙ sym (noted_joined which (length a.starts) xs ys a.groups)
 
   holds_first : (table : Table) → Holds hole (length a.drafts) c.drafts table → Holds hole (length a.drafts) b.drafts table
@@ -263,7 +263,7 @@ module _ (which : WhichCaptures) (hole : ℕ) (a b c : Assembly) (ss ts : List �
       let Q : ℕ → Type 0 = λ k. AcceptAll a.reverse table k ts ys in
       let turn : b.reverse ≡ a.reverse = ap (λ (z : Assembly). z.reverse) first.settings in
       accept_joined a.reverse table (length a.starts) ss ts xs ys (first.accept table (holds_first table hold))
-          (subst Q starts_between (subst P turn (second.accept table (holds_second table hold))))
+      (subst Q starts_between (subst P turn (second.accept table (holds_second table hold))))
 
   stands_both : (table : Table) → Holds hole (length a.drafts) c.drafts table → (q : ℕ) → length a.drafts ≤ q → q < length c.drafts →
       q ≢ hole → ComesToKept (length a.drafts) table q
@@ -271,7 +271,7 @@ module _ (which : WhichCaptures) (hole : ℕ) (a b c : Assembly) (ss ts : List �
       let longer = first.longer in
       ⊎_elim (λ (l : q < length b.drafts). first.stands table (holds_first table hold) q low l ne)
       (λ (l : length b.drafts ≤ q). let s = second.stands table (holds_second table hold) q l high ne in
-          (s.0, s.1, let k = s.2 in omega arith))
+      (s.0, s.1, let k = s.2 in omega arith))
       (cases_lt q (length b.drafts))
 
   names_both : (q : ℕ) → length a.drafts ≤ q → q < length c.drafts → q ≢ hole →
@@ -281,14 +281,14 @@ module _ (which : WhichCaptures) (hole : ℕ) (a b c : Assembly) (ss ts : List �
       let P : DraftNode → Type 0 = λ one. All (λ r. r < length c.drafts) (names_of one) in
       ⊎_elim (λ (l : q < length b.drafts). subst P (sym (second.same q l ne))
       (All-weaker (λ r. r < length b.drafts) (λ r. r < length c.drafts) (λ r k. omega arith) (names_of (draft_at b.drafts q))
-          (first.named q low l ne)))
+      (first.named q low l ne)))
       (λ (l : length b.drafts ≤ q). second.named q l high ne)
       (cases_lt q (length b.drafts))
 
   known_both : (q : ℕ) → length a.drafts ≤ q → q < length c.drafts → q ≢ hole → is_known c.groups (draft_at c.drafts q) ≡ true
   known_both q low high ne = ⊎_elim
       (λ (l : q < length b.drafts). ap (is_known c.groups) (second.same q l ne)
-          ∙ second.known_more (draft_at b.drafts q) (first.known q low l ne))
+      ∙ second.known_more (draft_at b.drafts q) (first.known q low l ne))
       (λ (l : length b.drafts ≤ q). second.known q l high ne)
       (cases_lt q (length b.drafts))
 
@@ -310,11 +310,11 @@ module _ (which : WhichCaptures) (hole : ℕ) (a b c : Assembly) (ss ts : List �
       (λ (l : q < length b.drafts). ⊎_elim
       (λ (k : r < length b.drafts). first.one_match q r p l1 l n1 l2 k n2 (sym (second.same q l n1) ∙ f1) (sym (second.same r k n2) ∙ f2))
       (λ (k : length b.drafts ≤ r). let i = (number_first q p l1 l n1 f1).1 in let j = (second.numbered r p k h2 n2 f2).0 in
-          absurd (omega arith))
+      absurd (omega arith))
       (cases_lt r (length b.drafts)))
       (λ (l : length b.drafts ≤ q). ⊎_elim
       (λ (k : r < length b.drafts). let i = (number_first r p l2 k n2 f2).1 in let j = (second.numbered q p l h1 n1 f1).0 in
-          absurd (omega arith))
+      absurd (omega arith))
       (λ (k : length b.drafts ≤ r). second.one_match q r p l h1 n1 k h2 n2 f1 f2)
       (cases_lt r (length b.drafts)))
       (cases_lt q (length b.drafts))
@@ -330,8 +330,11 @@ module _ (which : WhichCaptures) (hole : ℕ) (a b c : Assembly) (ss ts : List �
   patterns_joined =
       let longer = first.longer in let longer_2 = second.longer in
       record {
-        settings = second.settings ∙ ap (λ (z : Assembly). record z { drafts = c.drafts; groups = c.groups;
-            starts = c.starts }) first.settings;
+        settings = second.settings ∙ ap (λ (z : Assembly). record z {
+          drafts = c.drafts;
+          groups = c.groups;
+          starts = c.starts;
+        }) first.settings;
         starts_are = second.starts_are ∙ ap (λ (v : List ℕ). v ++ ts) first.starts_are ∙ append_assoc a.starts ss ts;
         as_many = omega (arith, length-append ss ts, length-append xs ys, first.as_many, second.as_many);
         groups = groups_joined;

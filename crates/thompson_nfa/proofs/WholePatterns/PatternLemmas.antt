@@ -94,7 +94,7 @@ module _ (how : How) (b0 b1 b2 b3 b4 b5 : Assembly) (x : Tree) (s e m : ℕ) (cl
   old_same q l =
       let z = size_0 in let g = grown in let en = end_low in
       at_all q (omega arith) (λ same. omega arith) ∙ made.fragment.grows.same q (omega arith)
-          ∙ ap (λ (z : Assembly). draft_at z.drafts q) begun
+      ∙ ap (λ (z : Assembly). draft_at z.drafts q) begun
 
   begun_finished : (table : Table) → Holds (length b5.drafts) (length b0.drafts) b5.drafts table →
       Finished (length b1.drafts) b2.drafts e m table
@@ -134,7 +134,7 @@ module _ (how : How) (b0 b1 b2 b3 b4 b5 : Assembly) (x : Tree) (s e m : ℕ) (cl
       ⊎_elim
       (λ (l : q < length b2.drafts). stands_from (length b0.drafts) table m q (omega arith) none
       (made.comes_out (fenced (length b0.drafts) table) m (begun_finished (fenced (length b0.drafts) table) (fenced_holds table hold)) q
-          (omega arith) l))
+      (omega arith) l))
       (λ (l : length b2.drafts ≤ q). let P : ℕ → Type 0 = λ k. ComesToKept (length b0.drafts) table k in
       let same : m ≡ q = omega arith in subst P same (0, none, omega arith))
       (cases_lt q (length b2.drafts))
@@ -188,7 +188,7 @@ module _ (how : How) (b0 b1 b2 b3 b4 b5 : Assembly) (x : Tree) (s e m : ℕ) (cl
   settings_end =
       let F : Assembly → Assembly = λ z. record z { drafts = b5.drafts; groups = b5.groups; starts = b5.starts; is_open = false } in
       ap (λ (v : Bool). record b5 { is_open = v }) (ap (λ (z : Assembly). z.is_open) done) ∙ ap F done ∙ ap F led.settings
-          ∙ ap F added.grows.settings
+      ∙ ap F added.grows.settings
       ∙ ap F made.fragment.grows.settings ∙ ap F begun
       ∙ ap (λ (v : Bool). record b0 { drafts = b5.drafts; groups = b5.groups; starts = b5.starts; is_open = v }) (sym closed)
 

@@ -114,7 +114,7 @@ fault_refuses o xs b (error.ExceededSizeLimit limit) groups captures told =
 fault_refuses o xs b error.UnsupportedCaptures groups captures told = absurd (of_groups (group_fault b.groups) unsupported_captures told)
 fault_refuses o xs b (error.Captures err) groups captures told =
     let is : group_fault (noted_from (captures_of o) 0 xs []) ≡ Some told.0 =
-        ap group_fault (sym groups) ∙ same_fault (group_fault b.groups) told.0 told.1 in
+    ap group_fault (sym groups) ∙ same_fault (group_fault b.groups) told.0 told.1 in
     (forward_fault o xs told.0 captures is, inl (told.0, is, told.2))
 fault_refuses o xs b error.NoMemory groups captures told = tt
 

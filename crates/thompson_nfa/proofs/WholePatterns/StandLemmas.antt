@@ -21,12 +21,12 @@ stays_below : (low : ℕ) (table : Table) (n q : ℕ) → q < low → past_in (f
 stays_below low table zero q l = refl
 stays_below low table (suc n) q l =
     ap (λ (draft : DraftNode). going_on q (past_in (fenced low table) n) (stands_for draft)) (fenced_below low table q l)
-        ∙ stays_below low table n q l
+    ∙ stays_below low table n q l
 
 on_alike : (low : ℕ) (table : Table) (n q : ℕ) (next : Option ℕ) → ((r : ℕ) → low ≤ past_in (fenced low table) n r →
     past_in table n r ≡ past_in (fenced low table) n r) →
     low ≤ going_on q (past_in (fenced low table) n) next → going_on q (past_in table n) next ≡ going_on q
-        (past_in (fenced low table) n) next
+    (past_in (fenced low table) n) next
 on_alike low table n q None alike l = refl
 on_alike low table n q (Some r) alike l = alike r l
 
@@ -50,7 +50,7 @@ stands_at low table n q above none =
 not_below : (low : ℕ) (table : Table) (q : ℕ) → stands_for (fenced low table q) ≡ None → low ≤ q
 not_below low table q none = ⊎_elim
     (λ (below : q < low). let some : stands_for (fenced low table q) ≡ Some q = ap stands_for (fenced_below low table q below) in
-        absurd (cc))
+    absurd (cc))
     (λ (above : low ≤ q). above)
     (cases_lt q low)
 

@@ -26,7 +26,7 @@ Out table q = (n : ℕ) × (stands_for (table (past_in table n q)) ≡ None)
 out_one : (table : Table) (q r : ℕ) → table q ≡ empty_draft r → Out table r → Out table q
 out_one table q r e o =
     let on : past_in table (suc o.0) q ≡ past_in table o.0 r = ap (λ (draft : DraftNode). going_on q (past_in table o.0) (stands_for draft))
-        e in
+    e in
     (suc o.0, ap (λ (k : ℕ). stands_for (table k)) on ∙ o.1)
 
 on_in_drafts : (drafts : List DraftNode) (n q : ℕ) (next : Option ℕ) → ((r : ℕ) → past_in (draft_at drafts) n r ≡ past_within drafts n r) →
@@ -64,7 +64,7 @@ pub record IsBefore (reverse : Bool) (xs : List Tree) (b0 b1 b3 : Assembly) (u c
 module _ (reverse : Bool) (xs : List Tree) (b0 b1 b3 : Assembly) (u c : ℕ) (none : length b0.drafts ≡ 0) (no_bytes : sum_of_bytes b0 ≡ 0)
     (longer : length b1.drafts ≤ length b3.drafts) (there : c < length b3.drafts)
     (same : (q : ℕ) → q < length b1.drafts → q ≢ u → draft_at b3.drafts q ≡ draft_at b1.drafts q)
-        (led : draft_at b3.drafts u ≡ patched c (draft_at b1.drafts u)) (out : Out (draft_at b3.drafts) c) where
+    (led : draft_at b3.drafts u ≡ patched c (draft_at b1.drafts u)) (out : Out (draft_at b3.drafts) c) where
   pub before_empty : list_all (is_anchored_tree reverse) xs ≡ true → Added b0 b1 u (empty_draft 0) b0.groups →
       IsBefore reverse xs b0 b1 b3 u c
   before_empty anchored x =
@@ -115,8 +115,10 @@ module _ (reverse : Bool) (xs : List Tree) (b0 b1 b3 : Assembly) (u c : ℕ) (no
             (subst R (sym back) (record { named = one_below (length b3.drafts) u (omega arith); known = refl; not_barred = refl }))
             (subst R (sym any) (record { named = one_below (length b3.drafts) (u + 1) (omega arith); known = refl; not_barred = refl }))
             (omega arith) q (omega arith);
-        stands = λ q l. three Q first_out (out_one (draft_at b3.drafts) (u + 1) u back first_out) (0,
-            ap stands_for any) (omega arith) q (omega arith);
+        stands = λ q l. three Q first_out (out_one (draft_at b3.drafts) (u + 1) u back first_out) (
+          0,
+          ap stands_for any,
+        ) (omega arith) q (omega arith);
         before = inr (
           λ all. let no = list_all-from_AllPass (is_anchored_tree reverse) xs all in absurd (cc),
           record { byte = u + 2; back = u + 1; loop = here; any = any; again = back },

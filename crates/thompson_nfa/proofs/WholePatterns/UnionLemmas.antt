@@ -38,7 +38,7 @@ pub patterns_refuse : (which : WhichCaptures) (a b : Assembly) (k n whole : ℕ)
     b.size_limit ≡ a.size_limit → length b.starts ≡ length a.starts + k →
     length b.drafts + n ≤ length a.drafts + whole → sum_of_bytes b + 4096 * n ≤ sum_of_bytes a + 4096 * whole →
     ((i : ℕ) (x : Tree) → slice_get xs i ≡ Some x → slice_get ys (k + i) ≡ Some x) → RefusesPatterns which b n xs e →
-        RefusesPatterns which a whole ys e
+    RefusesPatterns which a whole ys e
 patterns_refuse which a b k n whole xs ys error.TooManyPatterns size starts states room inside r = r
 patterns_refuse which a b k n whole xs ys error.TooManyStates size starts states room inside r =
     step_refuses which a b n (4096 * n) whole ys error.TooManyStates size states room r
@@ -63,18 +63,27 @@ starts_after {which} {hole} {a} {b} {ss} {xs} h = omega (arith, ap length h.star
 pub later_refuse : {which : WhichCaptures} {hole : ℕ} {a b : Assembly} {ss : List ℕ} {xs : List Tree} {n spare : ℕ} (more whole : ℕ)
     (ys zs : List Tree) (e : BuildError) → HasPatterns which hole a b ss xs n spare →
     n + more ≤ whole → ((i : ℕ) (x : Tree) → slice_get ys i ≡ Some x → slice_get zs (length xs + i) ≡ Some x) →
-        RefusesPatterns which b more ys e → RefusesPatterns which a whole zs e
+    RefusesPatterns which b more ys e → RefusesPatterns which a whole zs e
 later_refuse {which} {hole} {a} {b} {ss} {xs} {n} {spare} more whole ys zs e h le inside r =
-    patterns_refuse which a b (length xs) more whole ys zs e (size_after h) (starts_after h) (omega (arith, h.states, le)) (omega (arith,
-        h.states, h.bytes, le)) inside r
+    patterns_refuse which a b (length xs) more whole ys zs e (size_after h) (starts_after h) (omega (arith, h.states, le)) (omega (
+      arith,
+      h.states,
+      h.bytes,
+      le,
+    )) inside r
 
 -- a step behind patterns is refused
 pub later_stays : {which : WhichCaptures} {hole : ℕ} {a b c : Assembly} {ss : List ℕ} {xs : List Tree} {n spare : ℕ} (more bytes whole : ℕ)
     (zs : List Tree) (e : BuildError) → HasPatterns which hole a b ss xs n spare →
     n + more ≤ whole → bytes ≤ spare + 4096 * more → Stays b c more bytes e → RefusesPatterns which a whole zs e
 later_stays {which} {hole} {a} {b} {c} {ss} {xs} {n} {spare} more bytes whole zs e h le room r =
-    step_refuses which a b more bytes whole zs e (size_after h) (omega (arith, h.states, le)) (omega (arith, h.states, h.bytes, le,
-        room)) r.cause
+    step_refuses which a b more bytes whole zs e (size_after h) (omega (arith, h.states, le)) (omega (
+      arith,
+      h.states,
+      h.bytes,
+      le,
+      room,
+    )) r.cause
 
 -- ---- the union
 
@@ -111,7 +120,7 @@ module _ (how : How) (union : ℕ) (a b c : Assembly) (xs : List Tree) (x : Tree
   further_one d led =
       let P : ℕ → Type 0 = λ n. HasPatterns how.which union a d (so_far.ways ++ s ∷ []) (xs ++ x ∷ []) n 0 in
       let fits : room_for how.shrink xs + (room how.shrink x + 3) ≡ room_for how.shrink (xs ++ x ∷ []) =
-          omega (arith, room_joined how.shrink xs (x ∷ [])) in
+      omega (arith, room_joined how.shrink xs (x ∷ [])) in
       record {
         ways = so_far.ways ++ s ∷ [];
         has = subst P fits (patterns_led how.which a c d (so_far.ways ++ s ∷ []) (xs
@@ -140,7 +149,7 @@ only_one xs zs i y here same (suc k) x e = absurd (cc)
 pub first_left_refused : (how : How) (union : ℕ) (a b : Assembly) (xs zs : List Tree) (x : Tree) (e : BuildError) →
     IsFurther how union a b xs → slice_get zs (length xs) ≡ Some x →
     room_for how.shrink xs + (room how.shrink x + 3) ≤ room_for how.shrink zs →
-        RefusesPatterns how.which b (room how.shrink x + 3) (x ∷ []) e → RefusesPatterns how.which a (room_for how.shrink zs) zs e
+    RefusesPatterns how.which b (room how.shrink x + 3) (x ∷ []) e → RefusesPatterns how.which a (room_for how.shrink zs) zs e
 first_left_refused how union a b xs zs x e f here le r =
     later_refuse (room how.shrink x + 3) (room_for how.shrink zs) (x ∷ []) zs e f.has le (only_one xs zs (length xs) x here refl) r
 
@@ -165,7 +174,7 @@ module _ (how : How) (union : ℕ) (a b c : Assembly) (zs : List Tree) (i : ℕ)
       RefusesPatterns how.which a (room_for how.shrink zs) zs e
   pattern_refused e r =
       first_left_refused how union a b (take i zs) zs x e so_far (ap (slice_get zs) taken ∙ slice_get-get_or zs i x inside
-          ∙ ap Some (sym is)) fits r
+      ∙ ap Some (sym is)) fits r
 
   pub union_refused : (d : Assembly) (s : ℕ) (e : BuildError) → HasAll how.which b c (s ∷ []) (x ∷ []) (room how.shrink x + 3) 4 →
       Stays c d 0 4 e → RefusesPatterns how.which a (room_for how.shrink zs) zs e

@@ -84,10 +84,13 @@ second_refused how a b xs ys rest x y s e is more h r =
     let all : xs ≡ x ∷ y ∷ rest = is ∙ ap (λ (zs : List Tree). x ∷ zs) more in
     let P : List Tree → Type 0 = λ zs. RefusesPatterns how.which a (room_for how.shrink zs + 1) zs e in
     let inside : (i : ℕ) (z : Tree) → slice_get (y ∷ []) i ≡ Some z → slice_get (x ∷ y ∷ rest) (1 + i) ≡ Some z =
-    λ i z. elim i as (λ k. slice_get (y ∷ []) k ≡ Some z → slice_get (x ∷ y ∷ rest) (1 + k) ≡ Some z) [ zero ↦ λ here. here | suc k ↦
-        λ none. absurd (cc) ] in
+    λ i z. elim i as (λ k. slice_get (y ∷ []) k ≡ Some z → slice_get (x ∷ y ∷ rest) (1 + k) ≡ Some z) [
+      | zero ↦ λ here. here
+      | suc k ↦
+          λ none. absurd (cc)
+    ] in
     subst P (sym all) (later_refuse (room how.shrink y + 3) (room_for how.shrink (x ∷ y ∷ rest) + 1) (y ∷ []) (x ∷ y ∷ rest) e h
-        (omega arith) inside r)
+    (omega arith) inside r)
 
 -- ---- two and more
 
@@ -98,7 +101,7 @@ module _ (how : How) (a b c d e f : Assembly) (x y : Tree) (s t u : ℕ)
   two : HasAll how.which a c (s ∷ t ∷ []) (x ∷ y ∷ []) ((room how.shrink x + 3) + (room how.shrink y + 3)) (4 + 4)
   two = let l = first.longer in let m = second.longer in
       patterns_joined how.which (length c.drafts) a b c (s ∷ []) (t ∷ []) (x ∷ []) (y ∷ []) (room how.shrink x + 3)
-          (room how.shrink y + 3) 4 4
+      (room how.shrink y + 3) 4 4
       (hole_moved how.which a b (s ∷ []) (x ∷ []) (room how.shrink x + 3) 4 (length c.drafts) (λ q low high same. omega arith) first) second
 
   pub united : HasPatterns how.which u a f (s ∷ t ∷ []) (x ∷ y ∷ []) ((room how.shrink x + 3) + (room how.shrink y + 3) + 1) 0
@@ -118,7 +121,7 @@ module _ (how : How) (a b c d e f : Assembly) (x y : Tree) (s t u : ℕ)
       let all : xs ≡ x ∷ y ∷ rest = is ∙ ap (λ (zs : List Tree). x ∷ zs) more in
       let P : List Tree → Type 0 = λ zs. RefusesPatterns how.which a (room_for how.shrink zs + 1) zs err in
       subst P (sym all) (later_refuse (room_for how.shrink rest) (room_for how.shrink (x ∷ y ∷ rest) + 1) rest (x ∷ y ∷ rest) err united
-          (omega arith)
+      (omega arith)
       (λ i z here. let two_more : 2 + i ≡ suc (suc i) = omega arith in ap (slice_get (x ∷ y ∷ rest)) two_more ∙ here) r)
 
   module _ (g : Assembly) (rest : List Tree) (more : LeadsToFurther how.which u f g rest (room_for how.shrink rest)) where
@@ -140,9 +143,9 @@ module _ (how : How) (a b c d e f : Assembly) (x y : Tree) (s t u : ℕ)
         let all : xs ≡ x ∷ y ∷ rest = is ∙ ap (λ (zs : List Tree). x ∷ zs) is_2 in
         let P : List Tree → Type 0 = λ zs. LeadsToPatterns how.which a g u zs (room_for how.shrink zs + 1) in
         let l = first.longer in let m = second.longer in let n = added.is in let o = added.size in let p = led.size in let q = led_2.size in
-            let r = more.1.longer in
+        let r = more.1.longer in
         let closed = hole_closed how.which a g (s ∷ t ∷ more.0) (x ∷ y ∷ rest)
-            ((room how.shrink x + 3) + (room how.shrink y + 3) + 1 + room_for how.shrink rest) 0 u all_patterns (omega arith)
+        ((room how.shrink x + 3) + (room how.shrink y + 3) + 1 + room_for how.shrink rest) 0 u all_patterns (omega arith)
         (λ table there. ap stands_for (there ∙ union_at)) union_tame in
         subst P (sym all) (
           s ∷ t ∷ more.0,

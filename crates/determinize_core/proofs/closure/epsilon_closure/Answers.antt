@@ -6,7 +6,7 @@ use Rattle.determinize_core.proofs.closure.epsilon_closure.Goals as goal
 pub loop-id-init : goal.loop-id-init
 loop-id-init g c =
     let one : reverse c.push.new.stack.items ≡ c.args.start ∷ [] = c.in_ok-push.ensures
-        ∙ ap (λ (xs : List ℕ). c.args.start ∷ reverse xs) c.requires.empty in
+    ∙ ap (λ (xs : List ℕ). c.args.start ∷ reverse xs) c.requires.empty in
     record {
       bound = refl;
       fits = c.len.ensures.fits;
@@ -32,10 +32,10 @@ loop-id-preserved g c =
       fits = c.in-Some.ensures.fits;
       stands = goes_on c.args.nfa.now.automaton c.args.look_have c.args.start (g.S.NameSet.names c.args.set.now) c.args.steps.now
           (reverse c.loop-id.stack.items) (g.S.NameSet.names c.loop-id.set) (reverse c.next_fresh.new.stack.items)
-              (g.S.NameSet.names c.next_fresh.new.set) c.loop-id.steps c.next_fresh.new.steps
+          (g.S.NameSet.names c.next_fresh.new.set) c.loop-id.steps c.next_fresh.new.steps
           c.loop-id.invariant.stands (reverse c.push_ways.new.stack.items) c.in-Some.id _ c.is_sound.ensures.named
           (rw (← bound) c.in-Some.ensures.inside) (rw (← bound) c.in-Some.ensures.below) c.in-Some.ensures.meets c.in-Some.ensures.cost
-              c.state.ensures c.in_ok-push_ways.ensures;
+          c.state.ensures c.in_ok-push_ways.ensures;
     }
 
 -- where there is no memory to begin with, nothing was done
@@ -51,47 +51,47 @@ pub returns-in_err-push_ways-clause-grows : goal.returns-in_err-push_ways-clause
 returns-in_err-push_ways-clause-grows g c =
     cut_grown c.args.nfa.now.automaton c.args.look_have c.args.start (g.S.NameSet.names c.args.set.now) c.args.steps.now
     (reverse c.loop-id.stack.items) (g.S.NameSet.names c.loop-id.set) (reverse c.next_fresh.new.stack.items)
-        (g.S.NameSet.names c.next_fresh.new.set) c.loop-id.steps c.next_fresh.new.steps
+    (g.S.NameSet.names c.next_fresh.new.set) c.loop-id.steps c.next_fresh.new.steps
     c.loop-id.invariant.stands c.in-Some.id c.in-Some.ensures.meets
 
 pub returns-in_err-push_ways-clause-below : goal.returns-in_err-push_ways-clause-below
 returns-in_err-push_ways-clause-below g c =
     let bound : g.S.NameSet.bound c.next_fresh.new.set ≡ length c.args.nfa.now.automaton.states =
-        c.in-Some.ensures.bound ∙ (c.loop-id.invariant.bound ∙ c.requires.bound) in
+    c.in-Some.ensures.bound ∙ (c.loop-id.invariant.bound ∙ c.requires.bound) in
     subst (λ (n : ℕ). All (λ q. q < n) (g.S.NameSet.names c.next_fresh.new.set)) bound c.in-Some.ensures.all_below
 
 pub returns-in_err-push_ways-clause-cost : goal.returns-in_err-push_ways-clause-cost
 returns-in_err-push_ways-clause-cost g c =
     cut_counts c.args.nfa.now.automaton c.args.look_have c.args.start (g.S.NameSet.names c.args.set.now) c.args.steps.now
     (reverse c.loop-id.stack.items) (g.S.NameSet.names c.loop-id.set) (reverse c.next_fresh.new.stack.items)
-        (g.S.NameSet.names c.next_fresh.new.set) c.loop-id.steps c.next_fresh.new.steps
+    (g.S.NameSet.names c.next_fresh.new.set) c.loop-id.steps c.next_fresh.new.steps
     c.loop-id.invariant.stands c.in-Some.id c.in-Some.ensures.meets c.in-Some.ensures.cost
 
 pub returns-clause-grows : goal.returns-clause-grows
 returns-clause-grows g c =
     has_grown c.args.nfa.now.automaton c.args.look_have c.args.start (g.S.NameSet.names c.args.set.now) c.args.steps.now
     (reverse c.loop-id.stack.items) (g.S.NameSet.names c.loop-id.set) (reverse c.next_fresh.new.stack.items)
-        (g.S.NameSet.names c.next_fresh.new.set) c.loop-id.steps c.next_fresh.new.steps
+    (g.S.NameSet.names c.next_fresh.new.set) c.loop-id.steps c.next_fresh.new.steps
     c.loop-id.invariant.stands c.in_default.ensures.meets
 
 pub returns-clause-below : goal.returns-clause-below
 returns-clause-below g c =
     let bound : g.S.NameSet.bound c.next_fresh.new.set ≡ length c.args.nfa.now.automaton.states =
-        c.in_default.ensures.bound ∙ (c.loop-id.invariant.bound ∙ c.requires.bound) in
+    c.in_default.ensures.bound ∙ (c.loop-id.invariant.bound ∙ c.requires.bound) in
     subst (λ (n : ℕ). All (λ q. q < n) (g.S.NameSet.names c.next_fresh.new.set)) bound c.in_default.ensures.all_below
 
 pub returns-clause-visits : goal.returns-clause-visits
 returns-clause-visits g c =
     ends c.args.nfa.now.automaton c.args.look_have c.args.start (g.S.NameSet.names c.args.set.now) c.args.steps.now
     (reverse c.loop-id.stack.items) (g.S.NameSet.names c.loop-id.set) (reverse c.next_fresh.new.stack.items)
-        (g.S.NameSet.names c.next_fresh.new.set) c.loop-id.steps c.next_fresh.new.steps
+    (g.S.NameSet.names c.next_fresh.new.set) c.loop-id.steps c.next_fresh.new.steps
     c.loop-id.invariant.stands c.in_default.ensures.meets
 
 pub returns-clause-cost : goal.returns-clause-cost
 returns-clause-cost g c =
     counts c.args.nfa.now.automaton c.args.look_have c.args.start (g.S.NameSet.names c.args.set.now) c.args.steps.now
     (reverse c.loop-id.stack.items) (g.S.NameSet.names c.loop-id.set) (reverse c.next_fresh.new.stack.items)
-        (g.S.NameSet.names c.next_fresh.new.set) c.loop-id.steps c.next_fresh.new.steps
+    (g.S.NameSet.names c.next_fresh.new.set) c.loop-id.steps c.next_fresh.new.steps
     c.loop-id.invariant.stands c.in_default.ensures.meets c.in_default.ensures.cost
 
 pub returns-clause-stack : goal.returns-clause-stack

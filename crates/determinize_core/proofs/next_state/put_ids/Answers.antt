@@ -21,7 +21,7 @@ pub insert-requires : goal.insert-requires
 insert-requires g c =
     let bound : g.S.NameSet.bound c.loop-id.set ≡ g.S.NameSet.bound c.args.set.now = c.loop-id.invariant.bound in
     rw bound (taken_below (g.S.NameSet.bound c.args.set.now) c.in-Some.id c.next.new.self c.loop-id.id-iterator c.in-Some.ensures.steps
-        c.loop-id.invariant.below)
+    c.loop-id.invariant.below)
 
 pub loop-id-preserved : goal.loop-id-preserved
 loop-id-preserved g c =
@@ -30,7 +30,7 @@ loop-id-preserved g c =
       names = joins_one c.in-Some.id c.next.new.self (g.S.NameSet.names c.loop-id.set)
           (g.S.NameSet.names c.insert.new.self) _ c.insert.result
           (ap (join nat_eq (g.S.NameSet.names c.loop-id.set)) (sym c.in-Some.ensures.steps)
-              ∙ c.loop-id.invariant.names) c.insert.ensures.fresh c.insert.ensures.names;
+          ∙ c.loop-id.invariant.names) c.insert.ensures.fresh c.insert.ensures.names;
       below = left_below (g.S.NameSet.bound c.args.set.now) c.in-Some.id c.next.new.self c.loop-id.id-iterator c.in-Some.ensures.steps
           c.loop-id.invariant.below;
       bound = c.insert.ensures.bound ∙ c.loop-id.invariant.bound;

@@ -36,8 +36,8 @@ loop-k-preserved g c = record {
 pub returns-clause-states : goal.returns-clause-states
 returns-clause-states g c =
     walk_ends c.args.nfa.now.automaton c.args.nfa.now.terminator c.args.kind c.args.bytes.now
-        (walked c.args.nfa.now.automaton c.args.nfa.now.terminator c.args.kind c.args.first (units_of c.args.bytes.now))
-        c.loop-k.states.items c.loop-k.last c.loop-k.k c.loop-k.invariant.walked
+    (walked c.args.nfa.now.automaton c.args.nfa.now.terminator c.args.kind c.args.first (units_of c.args.bytes.now))
+    c.loop-k.states.items c.loop-k.last c.loop-k.k c.loop-k.invariant.walked
     c.in_ok-end.end c.push-2.new.self.items c.push-3.new.self.items c.loop-k-test.false
     (c.in_ok-end.ensures.value ∙ ap (step_value c.args.nfa.now.automaton c.args.nfa.now.terminator c.args.kind c.loop-k.last)
-        (ap unit_byte c.eoi.ensures)) c.in_ok-push-2.ensures.items c.in_ok-push-3.ensures.items
+    (ap unit_byte c.eoi.ensures)) c.in_ok-push-2.ensures.items c.in_ok-push-3.ensures.items

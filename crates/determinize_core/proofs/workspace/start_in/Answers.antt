@@ -7,4 +7,4 @@ pub returns-clause-stepped : goal.returns-clause-stepped
 returns-clause-stepped g c =
     subst (λ (v : StateValue). IsStepped c.args.nfa.now.automaton v) (sym (c.in_ok-first.ensures ∙ c.in_ok-built.ensures.value))
     (c.starts_and_steps_are_stepped.ensures.start c.args.nfa.now.automaton c.args.nfa.now.terminator c.args.start c.args.id
-        c.is_sound.ensures c.requires.inside)
+    c.is_sound.ensures c.requires.inside)

@@ -8,4 +8,4 @@ returns c =
     let over : c.loop-index._index ≡ c.stride2-exponent.result = omega (arith, c.loop-index-test.false, c.loop-index.auto._index-end) in
     c.loop-index.invariant ∙ (ap (λ (k : ℕ). 2 ^ k) over
     ∙ power_found c.stride2-exponent.result (alphabet_size c.args.classes.now) c.stride2-exponent.ensures.least
-        c.stride2-exponent.ensures.most)
+    c.stride2-exponent.ensures.most)

@@ -26,4 +26,4 @@ returns-clause-last c l s held =
     ap (λ (m : HalfFound). pair_of (Some m)) c.new.ensures
     ∙ (ap (λ (p : ℕ). Some (c.args.met.last, p)) (c.match_pattern-pattern.ensures s held)
     ∙ first_recorded s c.args.met.last (pair_of c.args.best) s.matches refl
-        (sym (row_matches c.args.cache.now c.args.met.id s c.requires.own.shape held) ∙ c.requires.matches l))
+    (sym (row_matches c.args.cache.now c.args.met.id s c.requires.own.shape held) ∙ c.requires.matches l))

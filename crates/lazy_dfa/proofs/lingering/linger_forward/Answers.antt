@@ -39,7 +39,10 @@ loop-at-preserved c =
       lingers = lingers_on d v sid next (Some b) c.requires.own unit c.loop-at.invariant.row read below h c.is_made.ensures
           (λ i. omega (arith, c.type_inv.haystack i))
           c.args.from c.args.id at c.loop-at.met.id c.loop-at.met.last (at - c.args.from) c.requires.row c.loop-at.invariant.lingers
-          (at + 1) (at + 1 - c.args.from) (forward_unit d h at c.requires.is_forward (omega (arith, c.loop-at-test.true,
-              c.requires.within))) (forward_place d at c.requires.is_forward) (omega (arith, c.loop-at.invariant.past))
+          (at + 1) (at + 1 - c.args.from) (forward_unit d h at c.requires.is_forward (omega (
+            arith,
+            c.loop-at-test.true,
+            c.requires.within,
+          ))) (forward_place d at c.requires.is_forward) (omega (arith, c.loop-at.invariant.past))
           c.meet-met.result.id c.meet-met.result.last c.meet-met.ensures.matching c.meet-met.ensures.plain;
     }

@@ -24,27 +24,27 @@ returns-in-Err-clause-err g c = refused_call c.args.dfa.now c.args.input.now c.a
     c.args.work.now.determinized
     c.start_of_pass.new.work.determinized c.args.work.now.inserted c.start_of_pass.new.work.inserted
     (is_begun c.is_done.result c.args.input.now.start c.args.input.now.end c.is_done.ensures c.if-is_done.false) c.in-Err.e
-        c.in-Err.ensures.start
+    c.in-Err.ensures.start
 
 pub returns-then-is_dead-clause-own : goal.returns-then-is_dead-clause-own
 returns-then-is_dead-clause-own g c = is_cache_moved c.args.dfa.now c.start_of_pass.new.cache c.search_finish.new.self
     (dead_moved c.start_of_pass.new.cache c.search_start.new.self c.search_finish.new.self c.progress_at-index.result c.search_start.ensures
-        c.search_finish.ensures).0
+    c.search_finish.ensures).0
     c.in-Ok.ensures.own
 
 pub returns-then-is_dead-clause-call : goal.returns-then-is_dead-clause-call
 returns-then-is_dead-clause-call g c =
     let moved = dead_moved c.start_of_pass.new.cache c.search_start.new.self c.search_finish.new.self c.progress_at-index.result
-        c.search_start.ensures c.search_finish.ensures in
+    c.search_start.ensures c.search_finish.ensures in
     subst (λ (after : WalkState). MakesCall c.args.dfa.now c.args.input.now c.args.cache.now c.search_finish.new.self
-        c.args.work.now.determinized
+    c.args.work.now.determinized
     c.start_of_pass.new.work.determinized c.args.work.now.inserted c.start_of_pass.new.work.inserted Fresh after (Ok tt))
-        (sym c.ended-then-is_dead.ensures)
+    (sym c.ended-then-is_dead.ensures)
     (dead_call c.args.dfa.now c.args.input.now c.args.cache.now c.start_of_pass.new.cache c.args.work.now.determinized
     c.start_of_pass.new.work.determinized c.args.work.now.inserted c.start_of_pass.new.work.inserted c.in-Ok.id
     (is_begun c.is_done.result c.args.input.now.start c.args.input.now.end c.is_done.ensures c.if-is_done.false) c.is_made.ensures
     c.requires.own c.in-Ok.ensures.own c.in-Ok.ensures.start (sym c.is_dead.ensures
-        ∙ c.if-is_dead.true) c.search_finish.new.self moved.0 moved.1)
+    ∙ c.if-is_dead.true) c.search_finish.new.self moved.0 moved.1)
 
 pub read_on-requires-clause-row : goal.read_on-requires-clause-row
 read_on-requires-clause-row g c =
@@ -52,7 +52,7 @@ read_on-requires-clause-row g c =
     c.start_of_pass.new.work.determinized c.args.work.now.inserted c.start_of_pass.new.work.inserted c.in-Ok.id
     (is_begun c.is_done.result c.args.input.now.start c.args.input.now.end c.is_done.ensures c.if-is_done.false) c.is_made.ensures
     c.requires.own c.in-Ok.ensures.own c.in-Ok.ensures.start c.args.is_reverse c.requires.is_reverse (sym c.is_dead.ensures
-        ∙ c.if-is_dead.false) in
+    ∙ c.if-is_dead.false) in
     (h.0, h.1, h.2)
 
 pub read_on-requires-clause-within : goal.read_on-requires-clause-within
@@ -63,12 +63,12 @@ read_on-requires-clause-within g c = subst (IsWithinSpan c.args.input.now) (sym 
 pub read_on-requires-clause-state : goal.read_on-requires-clause-state
 read_on-requires-clause-state g c =
     subst (λ (at : ℕ). HeldAt c.start_of_pass.new.cache c.in-Ok.id (value_before (reader c.args.dfa.now) c.args.input.now at))
-        (sym c.first_place-at.ensures)
+    (sym c.first_place-at.ensures)
     (begins_held c.args.dfa.now c.args.input.now c.args.cache.now c.start_of_pass.new.cache c.args.work.now.determinized
     c.start_of_pass.new.work.determinized c.args.work.now.inserted c.start_of_pass.new.work.inserted c.in-Ok.id
     (is_begun c.is_done.result c.args.input.now.start c.args.input.now.end c.is_done.ensures c.if-is_done.false) c.is_made.ensures
     c.requires.own c.in-Ok.ensures.own c.in-Ok.ensures.start c.args.is_reverse c.requires.is_reverse (sym c.is_dead.ensures
-        ∙ c.if-is_dead.false))
+    ∙ c.if-is_dead.false))
 
 pub returns-clause-call : goal.returns-clause-call
 returns-clause-call g c = (begins_walk c.args.dfa.now c.args.input.now c.args.cache.now c.start_of_pass.new.cache
@@ -76,12 +76,12 @@ returns-clause-call g c = (begins_walk c.args.dfa.now c.args.input.now c.args.ca
     c.start_of_pass.new.work.determinized c.args.work.now.inserted c.start_of_pass.new.work.inserted c.in-Ok.id
     (is_begun c.is_done.result c.args.input.now.start c.args.input.now.end c.is_done.ensures c.if-is_done.false) c.is_made.ensures
     c.requires.own c.in-Ok.ensures.own c.in-Ok.ensures.start c.args.is_reverse c.requires.is_reverse c.read_on.new.cache
-        c.read_on.new.work.determinized
+    c.read_on.new.work.determinized
     c.read_on.new.work.inserted c.read_on.result
     (subst (λ (at : ℕ). ReadsOn c.args.dfa.now c.args.input.now at c.start_of_pass.new.cache c.read_on.new.cache
-        c.start_of_pass.new.work.determinized
+    c.start_of_pass.new.work.determinized
     c.read_on.new.work.determinized c.start_of_pass.new.work.inserted c.read_on.new.work.inserted c.read_on.result) c.first_place-at.ensures
-        c.read_on.ensures.reads)).0
+    c.read_on.ensures.reads)).0
 
 pub returns-clause-err : goal.returns-clause-err
 returns-clause-err g c = (begins_walk c.args.dfa.now c.args.input.now c.args.cache.now c.start_of_pass.new.cache
@@ -89,9 +89,9 @@ returns-clause-err g c = (begins_walk c.args.dfa.now c.args.input.now c.args.cac
     c.start_of_pass.new.work.determinized c.args.work.now.inserted c.start_of_pass.new.work.inserted c.in-Ok.id
     (is_begun c.is_done.result c.args.input.now.start c.args.input.now.end c.is_done.ensures c.if-is_done.false) c.is_made.ensures
     c.requires.own c.in-Ok.ensures.own c.in-Ok.ensures.start c.args.is_reverse c.requires.is_reverse c.read_on.new.cache
-        c.read_on.new.work.determinized
+    c.read_on.new.work.determinized
     c.read_on.new.work.inserted c.read_on.result
     (subst (λ (at : ℕ). ReadsOn c.args.dfa.now c.args.input.now at c.start_of_pass.new.cache c.read_on.new.cache
-        c.start_of_pass.new.work.determinized
+    c.start_of_pass.new.work.determinized
     c.read_on.new.work.determinized c.start_of_pass.new.work.inserted c.read_on.new.work.inserted c.read_on.result) c.first_place-at.ensures
-        c.read_on.ensures.reads)).1
+    c.read_on.ensures.reads)).1

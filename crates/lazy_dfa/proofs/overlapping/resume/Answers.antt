@@ -17,18 +17,18 @@ pub returns-then-stop-last_place-clause-call : goal.returns-then-stop-last_place
 returns-then-stop-last_place-clause-call g c =
     subst (λ (after : WalkState). MakesCall c.args.dfa.now c.args.input.now c.args.cache.now c.args.cache.now c.args.work.now.determinized
     c.args.work.now.determinized c.args.work.now.inserted c.args.work.now.inserted (Stopped c.args.stop) after (Ok tt))
-        (sym c.ended.ensures)
+    (sym c.ended.ensures)
     (over_call c.args.dfa.now c.args.input.now c.args.cache.now c.args.work.now.determinized c.args.work.now.inserted c.args.stop
-        c.requires.stops
+    c.requires.stops
     (sym c.lists_more.ensures ∙ c.if-lists_more.false) c.args.is_reverse c.requires.is_reverse (c.if-stop-last_place.true
-        ∙ c.last_place.ensures))
+    ∙ c.last_place.ensures))
 
 pub read_on-requires-clause-state : goal.read_on-requires-clause-state
 read_on-requires-clause-state g c =
     subst (λ (at : ℕ). HeldAt c.args.cache.now c.args.stop.id (value_before (reader c.args.dfa.now) c.args.input.now at))
-        (sym c.next_place.ensures)
+    (sym c.next_place.ensures)
     (resumes_held c.args.dfa.now c.args.input.now c.args.cache.now c.args.work.now.determinized c.args.work.now.inserted c.args.stop
-        c.is_made.ensures
+    c.is_made.ensures
     c.requires.own c.requires.stops (sym c.lists_more.ensures ∙ c.if-lists_more.false) c.args.is_reverse c.requires.is_reverse
     (λ e. c.if-stop-last_place.false (e ∙ sym c.last_place.ensures)))
 
@@ -37,17 +37,17 @@ returns-clause-call g c = (resumes c.args.dfa.now c.args.input.now c.args.cache.
     c.args.stop c.is_made.ensures
     c.requires.own c.requires.stops (sym c.lists_more.ensures ∙ c.if-lists_more.false) c.args.is_reverse c.requires.is_reverse
     (λ e. c.if-stop-last_place.false (e ∙ sym c.last_place.ensures)) c.read_on.new.cache c.read_on.new.work.determinized
-        c.read_on.new.work.inserted c.read_on.result
+    c.read_on.new.work.inserted c.read_on.result
     (subst (λ (at : ℕ). ReadsOn c.args.dfa.now c.args.input.now at c.args.cache.now c.read_on.new.cache c.args.work.now.determinized
     c.read_on.new.work.determinized c.args.work.now.inserted c.read_on.new.work.inserted c.read_on.result) c.next_place.ensures
-        c.read_on.ensures.reads)).0
+    c.read_on.ensures.reads)).0
 
 pub returns-clause-err : goal.returns-clause-err
 returns-clause-err g c = (resumes c.args.dfa.now c.args.input.now c.args.cache.now c.args.work.now.determinized c.args.work.now.inserted
     c.args.stop c.is_made.ensures
     c.requires.own c.requires.stops (sym c.lists_more.ensures ∙ c.if-lists_more.false) c.args.is_reverse c.requires.is_reverse
     (λ e. c.if-stop-last_place.false (e ∙ sym c.last_place.ensures)) c.read_on.new.cache c.read_on.new.work.determinized
-        c.read_on.new.work.inserted c.read_on.result
+    c.read_on.new.work.inserted c.read_on.result
     (subst (λ (at : ℕ). ReadsOn c.args.dfa.now c.args.input.now at c.args.cache.now c.read_on.new.cache c.args.work.now.determinized
     c.read_on.new.work.determinized c.args.work.now.inserted c.read_on.new.work.inserted c.read_on.result) c.next_place.ensures
-        c.read_on.ensures.reads)).1
+    c.read_on.ensures.reads)).1

@@ -19,11 +19,11 @@ loop-turned-init g c = rw c.run_known-position.ensures.same (record {
       c.args.work.now.inserted c.args.id c.run_known-position.result.at c.run_known-position.result.id
       (pair_of c.run_known-position.result.best)
       (subst (λ (x : ℕ). GoesBetween c.args.dfa.now c.args.input.now.earliest c.args.input.now.haystack
-          (point c.args.cache.now c.args.work.now.determinized c.args.work.now.inserted x c.args.id None)
+      (point c.args.cache.now c.args.work.now.determinized c.args.work.now.inserted x c.args.id None)
       (point c.args.cache.now c.args.work.now.determinized c.args.work.now.inserted c.run_known-position.result.at
-          c.run_known-position.result.id (pair_of c.run_known-position.result.best))
+      c.run_known-position.result.id (pair_of c.run_known-position.result.best))
       (left_at c.args.is_reverse c.args.input.now x - left_at c.args.is_reverse c.args.input.now c.run_known-position.result.at))
-          c.first_place.ensures
+      c.first_place.ensures
       (c.run_known-position.ensures.goes c.args.work.now.determinized c.args.work.now.inserted)) c.run_known-position.ensures.within;
   under = under_first c.args.is_reverse c.args.input.now c.args.cache.now c.run_known-position.result.at c.requires.running;
 })
@@ -31,47 +31,47 @@ loop-turned-init g c = rw c.run_known-position.ensures.same (record {
 pub returns-in-Err-clause-runs : goal.returns-in-Err-clause-runs
 returns-in-Err-clause-runs g c s held =
     ends_error c.args.dfa.now c.args.input.now c.args.is_reverse c.requires.is_reverse c.is_made.ensures
-        (subst AreBytes c.haystack.ensures.value c.see_bytes.ensures)
+    (subst AreBytes c.haystack.ensures.value c.see_bytes.ensures)
     (point c.args.cache.now c.args.work.now.determinized c.args.work.now.inserted
-        (first_place c.args.is_reverse c.args.input.now.start c.args.input.now.end) c.args.id None)
+    (first_place c.args.is_reverse c.args.input.now.start c.args.input.now.end) c.args.id None)
     (point c.loop-turned.cache c.loop-turned.work.determinized c.loop-turned.work.inserted c.loop-turned.position.at
-        c.loop-turned.position.id (pair_of c.loop-turned.position.best))
+    c.loop-turned.position.id (pair_of c.loop-turned.position.best))
     c.requires.own c.loop-turned.invariant.own c.requires.row c.loop-turned.invariant.row c.loop-turned.invariant.within
-        c.loop-turned.invariant.goes s held refl
+    c.loop-turned.invariant.goes s held refl
     c.turn_at.new.cache c.turn_at.new.work.determinized c.turn_at.new.work.inserted c.requires.running c.loop-turned.invariant.same refl
-        c.loop-turned.invariant.under c.in-Err.e c.in-Err.ensures.turn
+    c.loop-turned.invariant.under c.in-Err.e c.in-Err.ensures.turn
 
 pub returns-then-turned-clause-runs : goal.returns-then-turned-clause-runs
 returns-then-turned-clause-runs g c s held =
     ends_found c.args.dfa.now c.args.input.now c.args.is_reverse c.requires.is_reverse c.is_made.ensures
-        (subst AreBytes c.haystack.ensures.value c.see_bytes.ensures)
+    (subst AreBytes c.haystack.ensures.value c.see_bytes.ensures)
     (point c.args.cache.now c.args.work.now.determinized c.args.work.now.inserted
-        (first_place c.args.is_reverse c.args.input.now.start c.args.input.now.end) c.args.id None)
+    (first_place c.args.is_reverse c.args.input.now.start c.args.input.now.end) c.args.id None)
     (point c.loop-turned.cache c.loop-turned.work.determinized c.loop-turned.work.inserted c.loop-turned.position.at
-        c.loop-turned.position.id (pair_of c.loop-turned.position.best))
+    c.loop-turned.position.id (pair_of c.loop-turned.position.best))
     c.requires.own c.loop-turned.invariant.own c.requires.row c.loop-turned.invariant.row c.loop-turned.invariant.within
-        c.loop-turned.invariant.goes s held refl
+    c.loop-turned.invariant.goes s held refl
     c.turn_at.new.cache c.turn_at.new.work.determinized c.turn_at.new.work.inserted
     c.requires.running c.loop-turned.invariant.same refl c.loop-turned.invariant.under c.in-Ok.turned.position.best
     (subst (TurnsInto c.args.dfa.now c.args.input.now
     (point c.loop-turned.cache c.loop-turned.work.determinized c.loop-turned.work.inserted c.loop-turned.position.at
-        c.loop-turned.position.id (pair_of c.loop-turned.position.best))
+    c.loop-turned.position.id (pair_of c.loop-turned.position.best))
     c.turn_at.new.cache c.turn_at.new.work.determinized c.turn_at.new.work.inserted c.in-Ok.turned.position) c.if-turned.true
-        c.in-Ok.ensures.turn)
+    c.in-Ok.ensures.turn)
 
 pub loop-turned-preserved : goal.loop-turned-preserved
 loop-turned-preserved g c =
     let here : Point = point c.loop-turned.cache c.loop-turned.work.determinized c.loop-turned.work.inserted c.loop-turned.position.at
-        c.loop-turned.position.id (pair_of c.loop-turned.position.best) in
+    c.loop-turned.position.id (pair_of c.loop-turned.position.best) in
     let on = subst (TurnsInto c.args.dfa.now c.args.input.now here c.turn_at.new.cache c.turn_at.new.work.determinized
-        c.turn_at.new.work.inserted c.in-Ok.turned.position) c.if-turned.false c.in-Ok.ensures.turn in
+    c.turn_at.new.work.inserted c.in-Ok.turned.position) c.if-turned.false c.in-Ok.ensures.turn in
     let first : Point = point c.args.cache.now c.args.work.now.determinized c.args.work.now.inserted
-        (first_place c.args.is_reverse c.args.input.now.start c.args.input.now.end) c.args.id None in
+    (first_place c.args.is_reverse c.args.input.now.start c.args.input.now.end) c.args.id None in
     let further = goes_further c.args.dfa.now c.args.input.now c.args.is_reverse c.requires.is_reverse c.is_made.ensures
-        (subst AreBytes c.haystack.ensures.value c.see_bytes.ensures) first here c.requires.own c.loop-turned.invariant.own c.requires.row
-        c.loop-turned.invariant.row
+    (subst AreBytes c.haystack.ensures.value c.see_bytes.ensures) first here c.requires.own c.loop-turned.invariant.own c.requires.row
+    c.loop-turned.invariant.row
     c.loop-turned.invariant.within c.loop-turned.invariant.goes c.turn_at.new.cache c.turn_at.new.work.determinized
-        c.turn_at.new.work.inserted c.in-Ok.turned.position c.in-Ok.ensures.own on in
+    c.turn_at.new.work.inserted c.in-Ok.turned.position c.in-Ok.ensures.own on in
     rw c.run_known-position-in-loop-turned.ensures.same (record {
       own = c.in-Ok.ensures.own;
       row = c.run_known-position-in-loop-turned.ensures.row;
@@ -83,26 +83,26 @@ loop-turned-preserved g c =
           (subst AreBytes c.haystack.ensures.value c.see_bytes.ensures) first here c.requires.own c.loop-turned.invariant.own c.requires.row
           c.loop-turned.invariant.row
           c.loop-turned.invariant.within c.loop-turned.invariant.goes c.turn_at.new.cache c.turn_at.new.work.determinized
-              c.turn_at.new.work.inserted c.in-Ok.turned.position c.in-Ok.ensures.own on
+          c.turn_at.new.work.inserted c.in-Ok.turned.position c.in-Ok.ensures.own on
           c.run_known-position-in-loop-turned.result.at c.run_known-position-in-loop-turned.result.id
-              (pair_of c.run_known-position-in-loop-turned.result.best) c.run_known-position-in-loop-turned.ensures.within
-              c.run_known-position-in-loop-turned.ensures.closer
+          (pair_of c.run_known-position-in-loop-turned.result.best) c.run_known-position-in-loop-turned.ensures.within
+          c.run_known-position-in-loop-turned.ensures.closer
           (c.run_known-position-in-loop-turned.ensures.goes c.turn_at.new.work.determinized c.turn_at.new.work.inserted);
       under = under_on c.args.dfa.now c.args.input.now c.args.is_reverse c.requires.is_reverse c.is_made.ensures
           (subst AreBytes c.haystack.ensures.value c.see_bytes.ensures) first here c.requires.own c.loop-turned.invariant.own c.requires.row
           c.loop-turned.invariant.row
           c.loop-turned.invariant.within c.loop-turned.invariant.goes c.turn_at.new.cache c.turn_at.new.work.determinized
-              c.turn_at.new.work.inserted c.in-Ok.turned.position c.in-Ok.ensures.own on
+          c.turn_at.new.work.inserted c.in-Ok.turned.position c.in-Ok.ensures.own on
           (first_place c.args.is_reverse c.args.input.now.start c.args.input.now.end) refl refl
-              c.run_known-position-in-loop-turned.result.at c.run_known-position-in-loop-turned.ensures.within
-              c.run_known-position-in-loop-turned.ensures.closer c.loop-turned.invariant.under;
+          c.run_known-position-in-loop-turned.result.at c.run_known-position-in-loop-turned.ensures.within
+          c.run_known-position-in-loop-turned.ensures.closer c.loop-turned.invariant.under;
     })
 
 pub run_known-position-requires-in-loop-turned-clause-within : goal.run_known-position-requires-in-loop-turned-clause-within
 run_known-position-requires-in-loop-turned-clause-within g c =
     let here : Point = point c.loop-turned.cache c.loop-turned.work.determinized c.loop-turned.work.inserted c.loop-turned.position.at
-        c.loop-turned.position.id (pair_of c.loop-turned.position.best) in
+    c.loop-turned.position.id (pair_of c.loop-turned.position.best) in
     let on = subst (TurnsInto c.args.dfa.now c.args.input.now here c.turn_at.new.cache c.turn_at.new.work.determinized
-        c.turn_at.new.work.inserted c.in-Ok.turned.position) c.if-turned.false c.in-Ok.ensures.turn in
+    c.turn_at.new.work.inserted c.in-Ok.turned.position) c.if-turned.false c.in-Ok.ensures.turn in
     within_next c.args.dfa.now c.args.input.now c.args.is_reverse here c.turn_at.new.cache c.turn_at.new.work.determinized
-        c.turn_at.new.work.inserted c.in-Ok.turned.position c.requires.is_reverse c.loop-turned.invariant.within on
+    c.turn_at.new.work.inserted c.in-Ok.turned.position c.requires.is_reverse c.loop-turned.invariant.within on

@@ -20,9 +20,9 @@ pub returns-then-is_dead-clause-pass : goal.returns-then-is_dead-clause-pass
 returns-then-is_dead-clause-pass g c = goes_dead c.args.dfa.now c.args.input.now c.args.cache.now c.start_of_pass.new.cache
     c.args.work.now.determinized c.start_of_pass.new.work.determinized
     c.args.work.now.inserted c.start_of_pass.new.work.inserted c.in-Ok.id c.is_made.ensures c.requires.own c.in-Ok.ensures.own
-        c.in-Ok.ensures.start
+    c.in-Ok.ensures.start
     c.is_reverse-is_reverse.result (c.is_reverse-is_reverse.ensures ∙ ap (λ (n : Nfa). n.automaton.reverse) c.get_nfa.ensures)
-        c.end_at_first.new.cache
+    c.end_at_first.new.cache
     (sym c.is_dead.ensures ∙ c.if-is_dead.true) c.end_at_first.ensures.moved c.end_at_first.ensures.told
 
 pub go_on-requires-clause-own : goal.go_on-requires-clause-own
@@ -33,7 +33,7 @@ pub go_on-requires-clause-row : goal.go_on-requires-clause-row
 go_on-requires-clause-row g c =
     let h = row_named c.args.dfa.now c.start_of_pass.new.cache c.begin_at_first.new.cache c.in-Ok.id
     (first_value (reader c.args.dfa.now) c.args.input.now.anchored c.args.input.now.haystack
-        (begins_at (reader c.args.dfa.now) c.args.input.now))
+    (begins_at (reader c.args.dfa.now) c.args.input.now))
     c.in-Ok.ensures.own.shape c.begin_at_first.ensures.moved (sym c.is_dead.ensures ∙ c.if-is_dead.false) c.in-Ok.ensures.start.start.1 in
     (h.0, h.1, h.2)
 
@@ -41,8 +41,8 @@ pub returns-clause-pass : goal.returns-clause-pass
 returns-clause-pass g c = goes_further c.args.dfa.now c.args.input.now c.args.cache.now c.start_of_pass.new.cache
     c.args.work.now.determinized c.start_of_pass.new.work.determinized
     c.args.work.now.inserted c.start_of_pass.new.work.inserted c.in-Ok.id c.is_made.ensures c.requires.own c.in-Ok.ensures.own
-        c.in-Ok.ensures.start
+    c.in-Ok.ensures.start
     c.is_reverse-is_reverse.result (c.is_reverse-is_reverse.ensures ∙ ap (λ (n : Nfa). n.automaton.reverse) c.get_nfa.ensures)
-        c.go_on.new.cache
+    c.go_on.new.cache
     c.begin_at_first.new.cache c.go_on.new.work.determinized c.go_on.new.work.inserted c.go_on.result
     (sym c.is_dead.ensures ∙ c.if-is_dead.false) c.begin_at_first.ensures.moved c.begin_at_first.ensures.told c.go_on.ensures.runs

@@ -6,7 +6,7 @@ pub returns-then-is_reverse-clause-start : goal.returns-then-is_reverse-clause-s
 returns-then-is_reverse-clause-start g c = let x = c.start_state_reverse.ensures in
     starts_pass c.args.dfa.now c.args.input.now c.args.cache.now c.start_state_reverse.new.cache
     c.args.work.now.determinized c.start_state_reverse.new.work.determinized c.args.work.now.inserted
-        c.start_state_reverse.new.work.inserted c.start_state_reverse.result
+    c.start_state_reverse.new.work.inserted c.start_state_reverse.result
     true (sym c.if-is_reverse.true ∙ c.requires.is_reverse) (record {
       answer = x.answer;
       noted = x.noted;
@@ -24,7 +24,7 @@ pub returns-else-is_reverse-clause-start : goal.returns-else-is_reverse-clause-s
 returns-else-is_reverse-clause-start g c = let x = c.start_state_forward.ensures in
     starts_pass c.args.dfa.now c.args.input.now c.args.cache.now c.start_state_forward.new.cache
     c.args.work.now.determinized c.start_state_forward.new.work.determinized c.args.work.now.inserted
-        c.start_state_forward.new.work.inserted c.start_state_forward.result
+    c.start_state_forward.new.work.inserted c.start_state_forward.result
     false (sym c.if-is_reverse.false ∙ c.requires.is_reverse) (record {
       answer = x.answer;
       noted = x.noted;

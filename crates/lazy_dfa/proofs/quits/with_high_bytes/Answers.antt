@@ -28,4 +28,4 @@ pub returns : goal.returns
 returns c =
     let over : c.loop-byte.byte ≡ 256 = omega (arith, c.loop-byte-test.false, c.loop-byte.auto.byte-end) in
     settled_all c.args.set.now c.loop-byte.quits (subst (λ (n : ℕ). IsSettled c.args.set.now c.loop-byte.quits n) over
-        c.loop-byte.invariant)
+    c.loop-byte.invariant)

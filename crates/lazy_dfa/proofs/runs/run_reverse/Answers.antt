@@ -36,10 +36,15 @@ loop-at-preserved c =
       untagged = plain;
       past = omega (arith, c.loop-at.invariant.past);
       within = omega (arith, c.loop-at-test.true);
-      goes = λ m n best. runs_on d v h c.is_made.ensures c.requires.own (λ i. omega (arith,
-          c.type_inv.haystack i)) c.args.from c.args.id at sid c.requires.row c.loop-at.invariant.row
+      goes = λ m n best. runs_on d v h c.is_made.ensures c.requires.own (λ i. omega (
+        arith,
+        c.type_inv.haystack i,
+      )) c.args.from c.args.id at sid c.requires.row c.loop-at.invariant.row
           (c.args.from - at) m n best (c.loop-at.invariant.goes m n best) next (at - 1) (c.args.from - (at - 1)) (Some b) unit read plain
-          (reverse_unit d h at c.requires.is_reverse (omega (arith, c.loop-at-test.true)) (omega (arith, c.loop-at.invariant.past,
-              c.requires.within))) (reverse_place d at c.requires.is_reverse)
+          (reverse_unit d h at c.requires.is_reverse (omega (arith, c.loop-at-test.true)) (omega (
+            arith,
+            c.loop-at.invariant.past,
+            c.requires.within,
+          ))) (reverse_place d at c.requires.is_reverse)
           (omega (arith, c.loop-at.invariant.past, c.loop-at-test.true));
     }

@@ -21,42 +21,46 @@ pub returns-then-not-walked-clause-goes : goal.returns-then-not-walked-clause-go
 returns-then-not-walked-clause-goes c = way_behind c.args.dfa.now c.args.cache.now c.args.haystack.now c.is_made.ensures c.requires.own
     (λ i. omega (arith, c.type_inv.haystack i)) c.requires.is_forward
     c.args.from c.args.id c.loop-sid.at c.loop-sid.sid c.walk_forward-walked.result.at c.walk_forward-walked.result.id c.requires.row
-        c.loop-sid.invariant.row c.loop-sid.invariant.past c.walk_forward-walked.ensures.past
+    c.loop-sid.invariant.row c.loop-sid.invariant.past c.walk_forward-walked.ensures.past
     c.loop-sid.invariant.goes
     (subst (λ (v : CacheValue). (m n : ℕ) (best : Option (ℕ × ℕ)) → GoesTo c.args.dfa.now c.args.haystack.now
-        (point v m n c.loop-sid.at c.loop-sid.sid best)
+    (point v m n c.loop-sid.at c.loop-sid.sid best)
     (point v m n c.walk_forward-walked.result.at c.walk_forward-walked.result.id best) (c.walk_forward-walked.result.at - c.loop-sid.at))
-        c.loop-sid.invariant.same c.walk_forward-walked.ensures.goes)
+    c.loop-sid.invariant.same c.walk_forward-walked.ensures.goes)
 
 pub loop-sid-preserved : goal.loop-sid-preserved
 loop-sid-preserved c =
     let walked : (m n : ℕ) (best : Option (ℕ × ℕ)) → GoesTo c.args.dfa.now c.args.haystack.now
-        (point c.args.cache.now m n c.args.from c.args.id best)
+    (point c.args.cache.now m n c.args.from c.args.id best)
     (point c.args.cache.now m n c.walk_forward-walked.result.at c.walk_forward-walked.result.id best)
-        (c.walk_forward-walked.result.at - c.args.from) =
-    way_behind c.args.dfa.now c.args.cache.now c.args.haystack.now c.is_made.ensures c.requires.own (λ i. omega (arith,
-        c.type_inv.haystack i)) c.requires.is_forward
+    (c.walk_forward-walked.result.at - c.args.from) =
+    way_behind c.args.dfa.now c.args.cache.now c.args.haystack.now c.is_made.ensures c.requires.own (λ i. omega (
+      arith,
+      c.type_inv.haystack i,
+    )) c.requires.is_forward
     c.args.from c.args.id c.loop-sid.at c.loop-sid.sid c.walk_forward-walked.result.at c.walk_forward-walked.result.id c.requires.row
-        c.loop-sid.invariant.row c.loop-sid.invariant.past c.walk_forward-walked.ensures.past
+    c.loop-sid.invariant.row c.loop-sid.invariant.past c.walk_forward-walked.ensures.past
     c.loop-sid.invariant.goes
     (subst (λ (v : CacheValue). (m n : ℕ) (best : Option (ℕ × ℕ)) → GoesTo c.args.dfa.now c.args.haystack.now
-        (point v m n c.loop-sid.at c.loop-sid.sid best)
+    (point v m n c.loop-sid.at c.loop-sid.sid best)
     (point v m n c.walk_forward-walked.result.at c.walk_forward-walked.result.id best) (c.walk_forward-walked.result.at - c.loop-sid.at))
-        c.loop-sid.invariant.same c.walk_forward-walked.ensures.goes) in
+    c.loop-sid.invariant.same c.walk_forward-walked.ensures.goes) in
     let row = subst (λ (v : CacheValue). IsRow v c.walk_forward-walked.result.id) c.loop-sid.invariant.same
-        c.walk_forward-walked.ensures.row in
+    c.walk_forward-walked.ensures.row in
     record {
       same = c.pass_over-at.ensures.same ∙ c.loop-sid.invariant.same;
       row = row;
       untagged = c.walk_forward-walked.ensures.untagged;
       past = omega (arith, c.loop-sid.invariant.past, c.walk_forward-walked.ensures.past, c.pass_over-at.ensures.low);
       within = c.pass_over-at.ensures.high;
-      goes = way_over c.args.dfa.now c.args.cache.now c.args.haystack.now c.is_made.ensures c.requires.own (λ i. omega (arith,
-          c.type_inv.haystack i)) c.requires.is_forward
+      goes = way_over c.args.dfa.now c.args.cache.now c.args.haystack.now c.is_made.ensures c.requires.own (λ i. omega (
+        arith,
+        c.type_inv.haystack i,
+      )) c.requires.is_forward
           c.args.from c.args.id c.walk_forward-walked.result.at c.walk_forward-walked.result.id c.requires.row row
-              c.walk_forward-walked.ensures.untagged
+          c.walk_forward-walked.ensures.untagged
           (omega (arith, c.loop-sid.invariant.past, c.walk_forward-walked.ensures.past)) walked
           c.pass_over-at.result c.pass_over-at.ensures.low (omega (arith, c.pass_over-at.ensures.high, c.requires.within))
           (subst (λ (v : CacheValue). StaysOver v.cells v.classes c.args.haystack.now c.walk_forward-walked.result.id
-              c.walk_forward-walked.result.at c.pass_over-at.result) c.loop-sid.invariant.same c.pass_over-at.ensures.stays);
+          c.walk_forward-walked.result.at c.pass_over-at.result) c.loop-sid.invariant.same c.pass_over-at.ensures.stays);
     }

@@ -24,9 +24,9 @@ pub returns-then-eq-clause-row : goal.returns-then-eq-clause-row
 returns-then-eq-clause-row c = row_on c.args.dfa.now c.args.cache.now c.args.haystack.now c.is_made.ensures c.requires.own
     (λ i. omega (arith, c.type_inv.haystack i)) c.requires.is_forward
     c.args.from c.args.id c.loop-at.at c.loop-at.sid c.requires.row c.loop-at.invariant.row c.loop-at.invariant.untagged
-        c.loop-at.invariant.past (omega (arith, c.loop-at-test.true, c.requires.within))
+    c.loop-at.invariant.past (omega (arith, c.loop-at-test.true, c.requires.within))
     c.loop-at.invariant.goes c.cell_of_untagged-next.result c.class.result c.class.ensures c.cell_of_untagged-next.ensures
-        (lt_of 0x800_0000 c.cell_of_untagged-next.result (sym c.is_tagged.ensures ∙ c.if-is_tagged.false))
+    (lt_of 0x800_0000 c.cell_of_untagged-next.result (sym c.is_tagged.ensures ∙ c.if-is_tagged.false))
 
 pub returns-then-eq-clause-untagged : goal.returns-then-eq-clause-untagged
 returns-then-eq-clause-untagged c = lt_of 0x800_0000 c.cell_of_untagged-next.result (sym c.is_tagged.ensures ∙ c.if-is_tagged.false)
@@ -35,25 +35,29 @@ pub returns-then-eq-clause-goes : goal.returns-then-eq-clause-goes
 returns-then-eq-clause-goes c = way_on c.args.dfa.now c.args.cache.now c.args.haystack.now c.is_made.ensures c.requires.own
     (λ i. omega (arith, c.type_inv.haystack i)) c.requires.is_forward
     c.args.from c.args.id c.loop-at.at c.loop-at.sid c.requires.row c.loop-at.invariant.row c.loop-at.invariant.untagged
-        c.loop-at.invariant.past (omega (arith, c.loop-at-test.true, c.requires.within))
+    c.loop-at.invariant.past (omega (arith, c.loop-at-test.true, c.requires.within))
     c.loop-at.invariant.goes c.cell_of_untagged-next.result c.class.result c.class.ensures c.cell_of_untagged-next.ensures
-        (lt_of 0x800_0000 c.cell_of_untagged-next.result (sym c.is_tagged.ensures ∙ c.if-is_tagged.false))
+    (lt_of 0x800_0000 c.cell_of_untagged-next.result (sym c.is_tagged.ensures ∙ c.if-is_tagged.false))
 
 pub loop-at-preserved : goal.loop-at-preserved
 loop-at-preserved c =
     let plain = lt_of 0x800_0000 c.cell_of_untagged-next.result (sym c.is_tagged.ensures ∙ c.if-is_tagged.false) in
     record {
-      row = row_on c.args.dfa.now c.args.cache.now c.args.haystack.now c.is_made.ensures c.requires.own (λ i. omega (arith,
-          c.type_inv.haystack i)) c.requires.is_forward
+      row = row_on c.args.dfa.now c.args.cache.now c.args.haystack.now c.is_made.ensures c.requires.own (λ i. omega (
+        arith,
+        c.type_inv.haystack i,
+      )) c.requires.is_forward
           c.args.from c.args.id c.loop-at.at c.loop-at.sid c.requires.row c.loop-at.invariant.row c.loop-at.invariant.untagged
-              c.loop-at.invariant.past (omega (arith, c.loop-at-test.true, c.requires.within))
+          c.loop-at.invariant.past (omega (arith, c.loop-at-test.true, c.requires.within))
           c.loop-at.invariant.goes c.cell_of_untagged-next.result c.class.result c.class.ensures c.cell_of_untagged-next.ensures plain;
       untagged = plain;
       past = omega (arith, c.loop-at.invariant.past);
       within = omega (arith, c.loop-at-test.true);
-      goes = way_on c.args.dfa.now c.args.cache.now c.args.haystack.now c.is_made.ensures c.requires.own (λ i. omega (arith,
-          c.type_inv.haystack i)) c.requires.is_forward
+      goes = way_on c.args.dfa.now c.args.cache.now c.args.haystack.now c.is_made.ensures c.requires.own (λ i. omega (
+        arith,
+        c.type_inv.haystack i,
+      )) c.requires.is_forward
           c.args.from c.args.id c.loop-at.at c.loop-at.sid c.requires.row c.loop-at.invariant.row c.loop-at.invariant.untagged
-              c.loop-at.invariant.past (omega (arith, c.loop-at-test.true, c.requires.within))
+          c.loop-at.invariant.past (omega (arith, c.loop-at-test.true, c.requires.within))
           c.loop-at.invariant.goes c.cell_of_untagged-next.result c.class.result c.class.ensures c.cell_of_untagged-next.ensures plain;
     }

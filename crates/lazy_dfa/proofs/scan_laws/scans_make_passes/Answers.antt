@@ -15,7 +15,7 @@ returns-clause-anchored c = λ r q l a. scan_anchored r q l a
 pub returns-clause-unanchored : goal.returns-clause-unanchored
 returns-clause-unanchored c = λ r q l a.
     subst (λ (x : HalfAnswer). IsOfPasses r q.anchored q.earliest q.haystack (q.end - q.start)
-        (first_place r.automaton.reverse q.start q.end) x) (sym (scan_unanchored r q l a))
+    (first_place r.automaton.reverse q.start q.end) x) (sym (scan_unanchored r q l a))
     (passes_are r q.anchored q.earliest q.haystack (q.end - q.start) (first_place r.automaton.reverse q.start q.end))
 
 pub returns-clause-one : goal.returns-clause-one

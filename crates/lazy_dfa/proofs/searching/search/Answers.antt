@@ -22,27 +22,27 @@ returns-in-Err-clause-search g c = fails c.args.dfa.now c.args.input.now c.loop-
     c.pass.new.cache c.args.work.now.determinized
     c.loop-rest.work.determinized c.pass.new.work.determinized c.args.work.now.inserted c.loop-rest.work.inserted
     c.pass.new.work.inserted c.is_made.ensures c.requires c.loop-rest.invariant.own
-        (subst AreBytes c.haystack.ensures.value c.see_bytes.ensures)
+    (subst AreBytes c.haystack.ensures.value c.see_bytes.ensures)
     c.loop-rest.invariant.stands (not_done c.is_done.result c.loop-rest.rest.start c.loop-rest.rest.end c.is_done.ensures
-        c.loop-rest-test.true) c.in-Err.e c.in-Err.ensures.pass
+    c.loop-rest-test.true) c.in-Err.e c.in-Err.ensures.pass
 
 pub returns-in_default-clause-search : goal.returns-in_default-clause-search
 returns-in_default-clause-search g c = none_ends c.args.dfa.now c.args.input.now c.loop-rest.rest c.args.cache.now c.loop-rest.cache
     c.pass.new.cache c.args.work.now.determinized
     c.loop-rest.work.determinized c.pass.new.work.determinized c.args.work.now.inserted c.loop-rest.work.inserted
     c.pass.new.work.inserted c.is_made.ensures c.requires c.loop-rest.invariant.own
-        (subst AreBytes c.haystack.ensures.value c.see_bytes.ensures)
+    (subst AreBytes c.haystack.ensures.value c.see_bytes.ensures)
     c.loop-rest.invariant.stands (not_done c.is_done.result c.loop-rest.rest.start c.loop-rest.rest.end c.is_done.ensures
-        c.loop-rest-test.true) c.in-Ok.found c.in-Ok.ensures.pass c.in_default.is
+    c.loop-rest-test.true) c.in-Ok.found c.in-Ok.ensures.pass c.in_default.is
 
 pub returns-then-not-between_characters-clause-search : goal.returns-then-not-between_characters-clause-search
 returns-then-not-between_characters-clause-search g c = counted_ends c.args.dfa.now c.args.input.now c.loop-rest.rest c.args.cache.now
     c.loop-rest.cache c.pass.new.cache c.args.work.now.determinized
     c.loop-rest.work.determinized c.pass.new.work.determinized c.args.work.now.inserted c.loop-rest.work.inserted
     c.pass.new.work.inserted c.is_made.ensures c.requires c.loop-rest.invariant.own
-        (subst AreBytes c.haystack.ensures.value c.see_bytes.ensures)
+    (subst AreBytes c.haystack.ensures.value c.see_bytes.ensures)
     c.loop-rest.invariant.stands (not_done c.is_done.result c.loop-rest.rest.start c.loop-rest.rest.end c.is_done.ensures
-        c.loop-rest-test.true) c.in-Ok.found c.in-Ok.ensures.pass
+    c.loop-rest-test.true) c.in-Ok.found c.in-Ok.ensures.pass
     c.in-Some.half c.in-Some.is
     (each_counts (reader c.args.dfa.now).between_characters c.loop-rest.rest.haystack c.in-Some.half.offset
     (sym c.is_between_characters-between_characters.ensures ∙ c.if-not-between_characters.true))
@@ -52,9 +52,9 @@ returns-then-is_char_boundary-clause-search g c = counted_ends c.args.dfa.now c.
     c.loop-rest.cache c.pass.new.cache c.args.work.now.determinized
     c.loop-rest.work.determinized c.pass.new.work.determinized c.args.work.now.inserted c.loop-rest.work.inserted
     c.pass.new.work.inserted c.is_made.ensures c.requires c.loop-rest.invariant.own
-        (subst AreBytes c.haystack.ensures.value c.see_bytes.ensures)
+    (subst AreBytes c.haystack.ensures.value c.see_bytes.ensures)
     c.loop-rest.invariant.stands (not_done c.is_done.result c.loop-rest.rest.start c.loop-rest.rest.end c.is_done.ensures
-        c.loop-rest-test.true) c.in-Ok.found c.in-Ok.ensures.pass
+    c.loop-rest-test.true) c.in-Ok.found c.in-Ok.ensures.pass
     c.in-Some.half c.in-Some.is
     (boundary_counts (reader c.args.dfa.now).between_characters c.loop-rest.rest.haystack c.in-Some.half.offset
     (ap (is_boundary c.loop-rest.rest.haystack) (sym c.offset.ensures) ∙ sym c.is_char_boundary.ensures ∙ c.if-is_char_boundary.true))
@@ -64,9 +64,9 @@ returns-then-is_anchored-clause-search g c = anchored_ends c.args.dfa.now c.args
     c.loop-rest.cache c.pass.new.cache c.args.work.now.determinized
     c.loop-rest.work.determinized c.pass.new.work.determinized c.args.work.now.inserted c.loop-rest.work.inserted
     c.pass.new.work.inserted c.is_made.ensures c.requires c.loop-rest.invariant.own
-        (subst AreBytes c.haystack.ensures.value c.see_bytes.ensures)
+    (subst AreBytes c.haystack.ensures.value c.see_bytes.ensures)
     c.loop-rest.invariant.stands (not_done c.is_done.result c.loop-rest.rest.start c.loop-rest.rest.end c.is_done.ensures
-        c.loop-rest-test.true) c.in-Ok.found c.in-Ok.ensures.pass
+    c.loop-rest-test.true) c.in-Ok.found c.in-Ok.ensures.pass
     c.in-Some.half c.in-Some.is
     (inside_counts (reader c.args.dfa.now).between_characters c.loop-rest.rest.haystack c.in-Some.half.offset
     (sym c.is_between_characters-between_characters.ensures ∙ c.if-not-between_characters.false)
@@ -78,9 +78,9 @@ returns-then-end-eq0-clause-search g c = lowest_ends c.args.dfa.now c.args.input
     c.pass.new.cache c.args.work.now.determinized
     c.loop-rest.work.determinized c.pass.new.work.determinized c.args.work.now.inserted c.loop-rest.work.inserted
     c.pass.new.work.inserted c.is_made.ensures c.requires c.loop-rest.invariant.own
-        (subst AreBytes c.haystack.ensures.value c.see_bytes.ensures)
+    (subst AreBytes c.haystack.ensures.value c.see_bytes.ensures)
     c.loop-rest.invariant.stands (not_done c.is_done.result c.loop-rest.rest.start c.loop-rest.rest.end c.is_done.ensures
-        c.loop-rest-test.true) c.in-Ok.found c.in-Ok.ensures.pass
+    c.loop-rest-test.true) c.in-Ok.found c.in-Ok.ensures.pass
     c.in-Some.half c.in-Some.is
     (inside_counts (reader c.args.dfa.now).between_characters c.loop-rest.rest.haystack c.in-Some.half.offset
     (sym c.is_between_characters-between_characters.ensures ∙ c.if-not-between_characters.false)
@@ -101,15 +101,15 @@ loop-rest-preserved-then-is_reverse g c = record {
       c.args.work.now.determinized
       c.loop-rest.work.determinized c.pass.new.work.determinized c.args.work.now.inserted c.loop-rest.work.inserted
       c.pass.new.work.inserted c.is_made.ensures c.requires c.loop-rest.invariant.own
-          (subst AreBytes c.haystack.ensures.value c.see_bytes.ensures)
+      (subst AreBytes c.haystack.ensures.value c.see_bytes.ensures)
       c.loop-rest.invariant.stands (not_done c.is_done.result c.loop-rest.rest.start c.loop-rest.rest.end c.is_done.ensures
-          c.loop-rest-test.true) c.in-Ok.found c.in-Ok.ensures.pass
+      c.loop-rest-test.true) c.in-Ok.found c.in-Ok.ensures.pass
       c.in-Some.half c.in-Some.is
       (inside_counts (reader c.args.dfa.now).between_characters c.loop-rest.rest.haystack c.in-Some.half.offset
       (sym c.is_between_characters-between_characters.ensures ∙ c.if-not-between_characters.false)
       (ap (is_boundary c.loop-rest.rest.haystack) (sym c.offset.ensures) ∙ sym c.is_char_boundary.ensures ∙ c.if-is_char_boundary.false))
       (ap is_anchored (sym c.get_anchored.ensures) ∙ sym c.is_anchored.ensures
-          ∙ c.if-is_anchored.false) (sym c.is_reverse-is_reverse.ensures ∙ c.if-is_reverse.true)
+      ∙ c.if-is_anchored.false) (sym c.is_reverse-is_reverse.ensures ∙ c.if-is_reverse.true)
       (above_none c.end.result c.loop-rest.rest.end c.end.ensures.value c.if-end-eq0.false) c.set_end.new.self
       (c.set_end.ensures ∙ ap (λ (e : ℕ). with_span c.loop-rest.rest.start (e - 1) c.loop-rest.rest) c.end-then-is_reverse.ensures.value);
 }
@@ -121,15 +121,15 @@ loop-rest-preserved g c = record {
       c.args.work.now.determinized
       c.loop-rest.work.determinized c.pass.new.work.determinized c.args.work.now.inserted c.loop-rest.work.inserted
       c.pass.new.work.inserted c.is_made.ensures c.requires c.loop-rest.invariant.own
-          (subst AreBytes c.haystack.ensures.value c.see_bytes.ensures)
+      (subst AreBytes c.haystack.ensures.value c.see_bytes.ensures)
       c.loop-rest.invariant.stands (not_done c.is_done.result c.loop-rest.rest.start c.loop-rest.rest.end c.is_done.ensures
-          c.loop-rest-test.true) c.in-Ok.found c.in-Ok.ensures.pass
+      c.loop-rest-test.true) c.in-Ok.found c.in-Ok.ensures.pass
       c.in-Some.half c.in-Some.is
       (inside_counts (reader c.args.dfa.now).between_characters c.loop-rest.rest.haystack c.in-Some.half.offset
       (sym c.is_between_characters-between_characters.ensures ∙ c.if-not-between_characters.false)
       (ap (is_boundary c.loop-rest.rest.haystack) (sym c.offset.ensures) ∙ sym c.is_char_boundary.ensures ∙ c.if-is_char_boundary.false))
       (ap is_anchored (sym c.get_anchored.ensures) ∙ sym c.is_anchored.ensures
-          ∙ c.if-is_anchored.false) (sym c.is_reverse-is_reverse.ensures ∙ c.if-is_reverse.false) c.set_start.new.self
+      ∙ c.if-is_anchored.false) (sym c.is_reverse-is_reverse.ensures ∙ c.if-is_reverse.false) c.set_start.new.self
       (c.set_start.ensures ∙ ap (λ (b : ℕ). with_span (b + 1) c.loop-rest.rest.end c.loop-rest.rest) c.start.ensures.value);
 }
 

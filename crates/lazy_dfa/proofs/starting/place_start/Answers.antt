@@ -24,7 +24,7 @@ returns-in-Some-clause-ok c = lacks_not_found c.args.dfa.now c.args.cache.now c.
 pub returns-clause-own : goal.returns-clause-own
 returns-clause-own c = subst (IsCacheOf c.args.dfa.now) (sym c.in_ok-id.ensures.ok)
     (is_cache_added c.args.dfa.now c.room_alone.new.cache c.specializes.result c.args.state c.is_made.ensures c.in_ok-room_alone.ensures.own
-        c.find.ensures.real c.in_ok-room_alone.ensures.fresh c.in_ok-room_alone.ensures.fits
+    c.find.ensures.real c.in_ok-room_alone.ensures.fresh c.in_ok-room_alone.ensures.fits
     (alive_of c.args.state (sym c.is_dead_state.ensures ∙ c.if-is_dead_state.false)) c.requires.is)
 
 pub returns-clause-slots : goal.returns-clause-slots
@@ -38,5 +38,5 @@ returns-clause-made c = start_added c.room_alone.new.cache c.in_ok-room_alone.en
 pub returns-clause-to : goal.returns-clause-to
 returns-clause-to c = subst (λ (w : CacheValue). Names w c.in_ok-id.id c.args.state) (sym c.in_ok-id.ensures.ok)
     (subst (λ (n : ℕ). Names (with_state c.specializes.result c.args.state c.room_alone.new.cache) n c.args.state)
-        (sym c.in_ok-id.ensures.id)
+    (sym c.in_ok-id.ensures.id)
     (names_held (new_held c.room_alone.new.cache c.specializes.result c.args.state c.in_ok-room_alone.ensures.own.shape)))

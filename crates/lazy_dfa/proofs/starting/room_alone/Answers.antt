@@ -13,8 +13,11 @@ pub returns-then-fits-clause-ok : goal.returns-then-fits-clause-ok
 returns-then-fits-clause-ok c = lacks_not_fitting c.args.dfa.now c.args.cache.now c.args.state.now (sym c.fits.ensures ∙ c.if-fits.true)
 
 pub returns-then-refuses_clear-clause-err : goal.returns-then-refuses_clear-clause-err
-returns-then-refuses_clear-clause-err c = inr (refl, lacks_all c.args.dfa.now c.args.cache.now c.args.state.now c.requires.alive
-    c.requires.fresh (sym c.fits.ensures ∙ c.if-fits.false) (sym c.refuses_clear.ensures ∙ c.if-refuses_clear.true))
+returns-then-refuses_clear-clause-err c = inr (
+  refl,
+  lacks_all c.args.dfa.now c.args.cache.now c.args.state.now c.requires.alive
+      c.requires.fresh (sym c.fits.ensures ∙ c.if-fits.false) (sym c.refuses_clear.ensures ∙ c.if-refuses_clear.true),
+)
 
 pub returns-clause-own : goal.returns-clause-own
 returns-clause-own c = subst (IsCacheOf c.args.dfa.now) (sym c.clear.ensures)

@@ -16,7 +16,7 @@ pub returns-then-not-is_not_known-clause-start : goal.returns-then-not-is_not_kn
 returns-then-not-is_not_known-clause-start g c = known_begins c.args.dfa.now c.args.cache.now c.args.mode
     (c.args.mode * 7 + c.as_usize.result) c.args.name c.start-known.result c.args.start c.requires.own
     (ap (λ (n : ℕ). c.args.mode * 7 + n) c.as_usize.ensures.number) c.requires.inside c.requires.named c.start-known.ensures
-        (sym c.is_not_known.ensures ∙ c.if-not-is_not_known.true)
+    (sym c.is_not_known.ensures ∙ c.if-not-is_not_known.true)
 
 pub returns-in_err-state-clause-own : goal.returns-in_err-state-clause-own
 returns-in_err-state-clause-own g c = subst (IsCacheOf c.args.dfa.now) (sym c.first_of.ensures.same) c.requires.own
@@ -31,15 +31,15 @@ returns-in-Err-clause-err g c = subst (λ (s : StateValue). IsCause c.args.dfa.n
 pub set_start-requires : goal.set_start-requires
 set_start-requires g c = subst (λ (n : ℕ). c.args.mode * 7 + n < length c.place_start.new.cache.starts) (sym c.as_usize.ensures.number)
     (subst (λ (n : ℕ). slot c.args.mode c.args.start < n) (sym (c.in-Ok.ensures.slots
-        ∙ ap (λ (v : CacheValue). length v.starts) c.first_of.ensures.same)) c.requires.inside)
+    ∙ ap (λ (v : CacheValue). length v.starts) c.first_of.ensures.same)) c.requires.inside)
 
 pub returns-in-Ok-clause-own : goal.returns-in-Ok-clause-own
 returns-in-Ok-clause-own g c = started c.args.dfa.now c.place_start.new.cache c.set_start.new.self c.args.mode
     (c.args.mode * 7 + c.as_usize.result) c.args.name c.in-Ok.id c.args.start c.in_ok-state.state
     (ap (λ (n : ℕ). c.args.mode * 7 + n) c.as_usize.ensures.number) c.in_ok-state.ensures.value c.in-Ok.ensures.to c.set_start.ensures
-        c.in-Ok.ensures.own
+    c.in-Ok.ensures.own
     (subst (λ (n : ℕ). slot c.args.mode c.args.start < n) (sym (c.in-Ok.ensures.slots
-        ∙ ap (λ (v : CacheValue). length v.starts) c.first_of.ensures.same)) c.requires.inside) c.requires.named
+    ∙ ap (λ (v : CacheValue). length v.starts) c.first_of.ensures.same)) c.requires.inside) c.requires.named
 
 pub returns-in-Ok-clause-start : goal.returns-in-Ok-clause-start
 returns-in-Ok-clause-start g c = names_started c.args.dfa.now c.place_start.new.cache c.set_start.new.self c.args.mode
@@ -52,9 +52,9 @@ pub returns-then-not-is_not_known-clause-tag : goal.returns-then-not-is_not_know
 returns-then-not-is_not_known-clause-tag g c alive fresh = absurd (not_fresh c.args.dfa.now c.args.cache.now c.start-known.result
     (first_state c.args.dfa.now c.args.start c.args.name)
     (known_begins c.args.dfa.now c.args.cache.now c.args.mode (c.args.mode * 7 + c.as_usize.result) c.args.name c.start-known.result
-        c.args.start c.requires.own
+    c.args.start c.requires.own
     (ap (λ (n : ℕ). c.args.mode * 7 + n) c.as_usize.ensures.number) c.requires.inside c.requires.named c.start-known.ensures
-        (sym c.is_not_known.ensures ∙ c.if-not-is_not_known.true))
+    (sym c.is_not_known.ensures ∙ c.if-not-is_not_known.true))
     alive fresh)
 
 -- ---- memory lacks
@@ -63,49 +63,49 @@ pub returns-in_err-state-clause-known : goal.returns-in_err-state-clause-known
 returns-in_err-state-clause-known g c n = absurd (n (unknown_start c.args.dfa.now c.args.cache.now c.args.mode
     (c.args.mode * 7 + c.as_usize.result) c.args.name c.start-known.result c.args.start c.requires.own
     (ap (λ (n : ℕ). c.args.mode * 7 + n) c.as_usize.ensures.number) c.requires.inside c.requires.named c.start-known.ensures
-        (sym c.is_not_known.ensures ∙ c.if-not-is_not_known.false)))
+    (sym c.is_not_known.ensures ∙ c.if-not-is_not_known.false)))
 
 pub returns-in_err-state-clause-free : goal.returns-in_err-state-clause-free
 returns-in_err-state-clause-free g c n = absurd (n (unknown_start c.args.dfa.now c.args.cache.now c.args.mode
     (c.args.mode * 7 + c.as_usize.result) c.args.name c.start-known.result c.args.start c.requires.own
     (ap (λ (n : ℕ). c.args.mode * 7 + n) c.as_usize.ensures.number) c.requires.inside c.requires.named c.start-known.ensures
-        (sym c.is_not_known.ensures ∙ c.if-not-is_not_known.false)))
+    (sym c.is_not_known.ensures ∙ c.if-not-is_not_known.false)))
 
 pub returns-in_err-state-clause-unknown : goal.returns-in_err-state-clause-unknown
 returns-in_err-state-clause-unknown g c = on_err c.from_residual.result
     (unknown_start c.args.dfa.now c.args.cache.now c.args.mode (c.args.mode * 7 + c.as_usize.result) c.args.name c.start-known.result
     c.args.start c.requires.own
     (ap (λ (n : ℕ). c.args.mode * 7 + n) c.as_usize.ensures.number) c.requires.inside c.requires.named c.start-known.ensures
-        (sym c.is_not_known.ensures ∙ c.if-not-is_not_known.false))
+    (sym c.is_not_known.ensures ∙ c.if-not-is_not_known.false))
 
 pub returns-in-Err-clause-known : goal.returns-in-Err-clause-known
 returns-in-Err-clause-known g c n = absurd (n (unknown_start c.args.dfa.now c.args.cache.now c.args.mode
     (c.args.mode * 7 + c.as_usize.result) c.args.name c.start-known.result c.args.start c.requires.own
     (ap (λ (n : ℕ). c.args.mode * 7 + n) c.as_usize.ensures.number) c.requires.inside c.requires.named c.start-known.ensures
-        (sym c.is_not_known.ensures ∙ c.if-not-is_not_known.false)))
+    (sym c.is_not_known.ensures ∙ c.if-not-is_not_known.false)))
 
 pub returns-in-Err-clause-same : goal.returns-in-Err-clause-same
 returns-in-Err-clause-same g c n = absurd (n (unknown_start c.args.dfa.now c.args.cache.now c.args.mode
     (c.args.mode * 7 + c.as_usize.result) c.args.name c.start-known.result c.args.start c.requires.own
     (ap (λ (n : ℕ). c.args.mode * 7 + n) c.as_usize.ensures.number) c.requires.inside c.requires.named c.start-known.ensures
-        (sym c.is_not_known.ensures ∙ c.if-not-is_not_known.false)))
+    (sym c.is_not_known.ensures ∙ c.if-not-is_not_known.false)))
 
 pub returns-in-Err-clause-free : goal.returns-in-Err-clause-free
 returns-in-Err-clause-free g c n = absurd (n (unknown_start c.args.dfa.now c.args.cache.now c.args.mode
     (c.args.mode * 7 + c.as_usize.result) c.args.name c.start-known.result c.args.start c.requires.own
     (ap (λ (n : ℕ). c.args.mode * 7 + n) c.as_usize.ensures.number) c.requires.inside c.requires.named c.start-known.ensures
-        (sym c.is_not_known.ensures ∙ c.if-not-is_not_known.false)))
+    (sym c.is_not_known.ensures ∙ c.if-not-is_not_known.false)))
 
 pub returns-in-Err-clause-unknown : goal.returns-in-Err-clause-unknown
 returns-in-Err-clause-unknown g c = unknown_start c.args.dfa.now c.args.cache.now c.args.mode
     (c.args.mode * 7 + c.as_usize.result) c.args.name c.start-known.result c.args.start c.requires.own
     (ap (λ (n : ℕ). c.args.mode * 7 + n) c.as_usize.ensures.number) c.requires.inside c.requires.named c.start-known.ensures
-        (sym c.is_not_known.ensures ∙ c.if-not-is_not_known.false)
+    (sym c.is_not_known.ensures ∙ c.if-not-is_not_known.false)
 
 pub returns-in-Err-clause-kept : goal.returns-in-Err-clause-kept
 returns-in-Err-clause-kept g c = unmade_start c.args.dfa.now c.args.cache.now c.place_start.new.cache
     (subst (λ (v : CacheValue). (c.place_start.new.cache ≡ v) ⊎ (c.place_start.new.cache ≡ cleared v)) c.first_of.ensures.same
-        c.in-Err.ensures.unmade)
+    c.in-Err.ensures.unmade)
 
 -- ---- a start that is made
 
@@ -113,41 +113,45 @@ pub returns-in-Ok-clause-known : goal.returns-in-Ok-clause-known
 returns-in-Ok-clause-known g c n = absurd (n (unknown_start c.args.dfa.now c.args.cache.now c.args.mode
     (c.args.mode * 7 + c.as_usize.result) c.args.name c.start-known.result c.args.start c.requires.own
     (ap (λ (n : ℕ). c.args.mode * 7 + n) c.as_usize.ensures.number) c.requires.inside c.requires.named c.start-known.ensures
-        (sym c.is_not_known.ensures ∙ c.if-not-is_not_known.false)))
+    (sym c.is_not_known.ensures ∙ c.if-not-is_not_known.false)))
 
 pub returns-in-Ok-clause-same : goal.returns-in-Ok-clause-same
 returns-in-Ok-clause-same g c n = absurd (n (unknown_start c.args.dfa.now c.args.cache.now c.args.mode
     (c.args.mode * 7 + c.as_usize.result) c.args.name c.start-known.result c.args.start c.requires.own
     (ap (λ (n : ℕ). c.args.mode * 7 + n) c.as_usize.ensures.number) c.requires.inside c.requires.named c.start-known.ensures
-        (sym c.is_not_known.ensures ∙ c.if-not-is_not_known.false)))
+    (sym c.is_not_known.ensures ∙ c.if-not-is_not_known.false)))
 
 pub returns-in-Ok-clause-free : goal.returns-in-Ok-clause-free
 returns-in-Ok-clause-free g c n = absurd (n (unknown_start c.args.dfa.now c.args.cache.now c.args.mode
     (c.args.mode * 7 + c.as_usize.result) c.args.name c.start-known.result c.args.start c.requires.own
     (ap (λ (n : ℕ). c.args.mode * 7 + n) c.as_usize.ensures.number) c.requires.inside c.requires.named c.start-known.ensures
-        (sym c.is_not_known.ensures ∙ c.if-not-is_not_known.false)))
+    (sym c.is_not_known.ensures ∙ c.if-not-is_not_known.false)))
 
 placed : (g : Rattle.lazy_dfa.proofs.starting.start_in_mode.Given.Over) (c : goal.After-set_start g) →
     PlacesStart c.args.dfa.now c.args.cache.now c.place_start.new.cache (first_state c.args.dfa.now c.args.start c.args.name) c.in-Ok.id
 placed g c = subst (λ (w : CacheValue). PlacesStart c.args.dfa.now w c.place_start.new.cache
     (first_state c.args.dfa.now c.args.start c.args.name) c.in-Ok.id) c.first_of.ensures.same
     (subst (λ (t : StateValue). PlacesStart c.args.dfa.now c.first_of.new.cache c.place_start.new.cache t c.in-Ok.id)
-        c.in_ok-state.ensures.value c.in-Ok.ensures.made)
+    c.in_ok-state.ensures.value c.in-Ok.ensures.made)
 
 noted_at : (g : Rattle.lazy_dfa.proofs.starting.start_in_mode.Given.Over) (c : goal.After-set_start g) →
-    c.set_start.new.self ≡ record c.place_start.new.cache { starts = set c.place_start.new.cache.starts
-        (slot c.args.mode c.args.start) c.in-Ok.id }
-noted_at g c = c.set_start.ensures ∙ ap (λ (n : ℕ). record c.place_start.new.cache { starts =
-    set c.place_start.new.cache.starts (c.args.mode * 7 + n) c.in-Ok.id }) c.as_usize.ensures.number
+    c.set_start.new.self ≡ record c.place_start.new.cache {
+      starts = set c.place_start.new.cache.starts
+          (slot c.args.mode c.args.start) c.in-Ok.id;
+    }
+noted_at g c = c.set_start.ensures ∙ ap (λ (n : ℕ). record c.place_start.new.cache {
+  starts =
+      set c.place_start.new.cache.starts (c.args.mode * 7 + n) c.in-Ok.id;
+}) c.as_usize.ensures.number
 
 pub returns-in-Ok-clause-kept : goal.returns-in-Ok-clause-kept
 returns-in-Ok-clause-kept g c = start_kept c.args.dfa.now c.args.cache.now c.place_start.new.cache c.set_start.new.self
     (slot c.args.mode c.args.start) c.in-Ok.id (first_state c.args.dfa.now c.args.start c.args.name)
     c.is_made.ensures c.requires.own
     (unknown_start c.args.dfa.now c.args.cache.now c.args.mode (c.args.mode * 7 + c.as_usize.result) c.args.name c.start-known.result
-        c.args.start c.requires.own
+    c.args.start c.requires.own
     (ap (λ (n : ℕ). c.args.mode * 7 + n) c.as_usize.ensures.number) c.requires.inside c.requires.named c.start-known.ensures
-        (sym c.is_not_known.ensures ∙ c.if-not-is_not_known.false))
+    (sym c.is_not_known.ensures ∙ c.if-not-is_not_known.false))
     (placed g c) (noted_at g c)
 
 pub returns-in-Ok-clause-remains : goal.returns-in-Ok-clause-remains
@@ -155,9 +159,9 @@ returns-in-Ok-clause-remains g c = start_remains c.args.dfa.now c.args.cache.now
     (slot c.args.mode c.args.start) c.in-Ok.id (first_state c.args.dfa.now c.args.start c.args.name)
     c.is_made.ensures c.requires.own
     (unknown_start c.args.dfa.now c.args.cache.now c.args.mode (c.args.mode * 7 + c.as_usize.result) c.args.name c.start-known.result
-        c.args.start c.requires.own
+    c.args.start c.requires.own
     (ap (λ (n : ℕ). c.args.mode * 7 + n) c.as_usize.ensures.number) c.requires.inside c.requires.named c.start-known.ensures
-        (sym c.is_not_known.ensures ∙ c.if-not-is_not_known.false))
+    (sym c.is_not_known.ensures ∙ c.if-not-is_not_known.false))
     (placed g c) (noted_at g c)
 
 pub returns-in-Ok-clause-tag : goal.returns-in-Ok-clause-tag

@@ -28,12 +28,12 @@ pub returns-in-Err-clause-err : goal.returns-in-Err-clause-err
 returns-in-Err-clause-err g c = step_cause c.args.dfa.now c.args.cache.now c.state_behind.new.cache c.args.id c.row-k.result
     (unit_byte c.args.unit) c.in_ok-state.state
     c.requires.own.shape c.state_behind.ensures.same c.row-k.ensures.inside c.row-k.ensures.id c.in_ok-state.ensures.value c.in-Err.e
-        c.requires.unknown c.requires.no_quit c.in-Err.ensures.err
+    c.requires.unknown c.requires.no_quit c.in-Err.ensures.err
 
 pub set_cell-requires : goal.set_cell-requires
 set_cell-requires g c = let h = c.in-Ok.ensures.from in
     row_place c.args.dfa.now c.place.new.cache c.in-Ok.rows.from c.args.class
-        (unit_byte c.args.unit) c.is_made.ensures c.in-Ok.ensures.own c.requires.unit c.requires.class (h.0, h.1, h.2)
+    (unit_byte c.args.unit) c.is_made.ensures c.in-Ok.ensures.own c.requires.unit c.requires.class (h.0, h.1, h.2)
 
 led : (g : Rattle.lazy_dfa.proofs.stepping.fill.Given.Over) (c : goal.After-set_cell g) →
     Leads c.args.dfa.now c.place.new.cache (state_at c.args.cache.now c.row-k.result) (unit_byte c.args.unit) c.in-Ok.rows.to
@@ -49,41 +49,41 @@ held g c = subst (λ (v : CacheValue). HeldAt c.place.new.cache c.in-Ok.rows.fro
 pub returns-in-Ok-clause-own : goal.returns-in-Ok-clause-own
 returns-in-Ok-clause-own g c =
     is_cache_stepped c.args.dfa.now c.place.new.cache c.in-Ok.rows.from c.args.class
-        (unit_byte c.args.unit) c.is_made.ensures c.in-Ok.ensures.own c.requires.unit c.requires.class
+    (unit_byte c.args.unit) c.is_made.ensures c.in-Ok.ensures.own c.requires.unit c.requires.class
     (state_at c.args.cache.now c.row-k.result) c.in-Ok.rows.to c.set_cell.new.self (held g c) (led g c) c.set_cell.ensures
 
 pub returns-in-Ok-clause-kept : goal.returns-in-Ok-clause-kept
 returns-in-Ok-clause-kept g c = grew_set c.args.dfa.now c.args.cache.now c.place.new.cache c.set_cell.new.self c.args.id c.in-Ok.rows.from
     c.args.class c.row-k.result c.in-Ok.rows.to (unit_byte c.args.unit)
     c.is_made.ensures c.requires.own c.in-Ok.ensures.own c.requires.unit c.requires.class c.row-k.ensures.inside c.row-k.ensures.id
-        (held g c) c.set_cell.ensures c.requires.unknown
+    (held g c) c.set_cell.ensures c.requires.unknown
     (subst (λ (v : CacheValue). AddsOrClears v c.place.new.cache) c.state_behind.ensures.same c.in-Ok.ensures.kept)
 
 pub returns-in-Ok-clause-remains : goal.returns-in-Ok-clause-remains
 returns-in-Ok-clause-remains g c = remains_set c.args.dfa.now c.args.cache.now c.place.new.cache c.set_cell.new.self c.args.id
     c.in-Ok.rows.from c.args.class c.row-k.result c.in-Ok.rows.to (unit_byte c.args.unit)
     c.is_made.ensures c.requires.own c.in-Ok.ensures.own c.requires.unit c.requires.class c.row-k.ensures.inside c.row-k.ensures.id
-        (held g c) c.set_cell.ensures c.in_ok-state.state c.requires.unknown
+    (held g c) c.set_cell.ensures c.in_ok-state.state c.requires.unknown
     c.in_ok-state.ensures.value
     (subst (λ (v : CacheValue). Added v c.place.new.cache ⊎ (c.place.new.cache ≡ with_state false c.in_ok-state.state
-        (kept_alone v c.row-k.result))) c.state_behind.ensures.same c.in-Ok.ensures.made)
+    (kept_alone v c.row-k.result))) c.state_behind.ensures.same c.in-Ok.ensures.made)
 
 pub returns-in-Ok-clause-noted : goal.returns-in-Ok-clause-noted
 returns-in-Ok-clause-noted g c = set_is_noted c.args.dfa.now c.args.cache.now c.place.new.cache c.set_cell.new.self c.args.id
     c.in-Ok.rows.from c.args.class c.row-k.result c.in-Ok.rows.to (unit_byte c.args.unit)
     c.is_made.ensures c.requires.own c.in-Ok.ensures.own c.requires.unit c.requires.class c.row-k.ensures.inside c.row-k.ensures.id
-        (held g c) c.set_cell.ensures
+    (held g c) c.set_cell.ensures
 
 pub returns-in-Ok-clause-ok : goal.returns-in-Ok-clause-ok
 returns-in-Ok-clause-ok g c = no_cause c.args.dfa.now c.args.cache.now c.state_behind.new.cache c.args.id c.row-k.result
     (unit_byte c.args.unit) c.in_ok-state.state
     c.requires.own.shape c.state_behind.ensures.same c.row-k.ensures.inside c.row-k.ensures.id c.in_ok-state.ensures.value
-        c.in-Ok.ensures.ok
+    c.in-Ok.ensures.ok
 
 pub returns-in-Ok-clause-step : goal.returns-in-Ok-clause-step
 returns-in-Ok-clause-step g c =
     steps_of_row c.args.dfa.now c.args.cache.now c.set_cell.new.self c.args.id c.row-k.result
-        (unit_byte c.args.unit) c.in-Ok.rows.to c.requires.own.shape c.row-k.ensures.inside c.row-k.ensures.id
+    (unit_byte c.args.unit) c.in-Ok.rows.to c.requires.own.shape c.row-k.ensures.inside c.row-k.ensures.id
     (leads_stepped c.args.dfa.now c.place.new.cache c.in-Ok.rows.from c.args.class
-        (unit_byte c.args.unit) c.is_made.ensures c.in-Ok.ensures.own c.requires.unit c.requires.class
+    (unit_byte c.args.unit) c.is_made.ensures c.in-Ok.ensures.own c.requires.unit c.requires.class
     (state_at c.args.cache.now c.row-k.result) c.in-Ok.rows.to c.set_cell.new.self (led g c) c.set_cell.ensures)

@@ -12,8 +12,11 @@ pub returns-then-fits-clause-ok : goal.returns-then-fits-clause-ok
 returns-then-fits-clause-ok c = lacks_not_fitting c.args.dfa.now c.args.cache.now c.args.state.now (sym c.fits.ensures ∙ c.if-fits.true)
 
 pub returns-then-refuses_clear-clause-err : goal.returns-then-refuses_clear-clause-err
-returns-then-refuses_clear-clause-err c = inr (refl, lacks_all c.args.dfa.now c.args.cache.now c.args.state.now c.requires.alive
-    c.requires.fresh (sym c.fits.ensures ∙ c.if-fits.false) (sym c.refuses_clear.ensures ∙ c.if-refuses_clear.true))
+returns-then-refuses_clear-clause-err c = inr (
+  refl,
+  lacks_all c.args.dfa.now c.args.cache.now c.args.state.now c.requires.alive
+      c.requires.fresh (sym c.fits.ensures ∙ c.if-fits.false) (sym c.refuses_clear.ensures ∙ c.if-refuses_clear.true),
+)
 
 pub returns-in_err-id-clause-own : goal.returns-in_err-id-clause-own
 returns-in_err-id-clause-own c = is_cache_refused c.args.dfa.now c.args.cache.now c.args.k c.is_made.ensures c.requires.own c.requires.row
@@ -25,7 +28,7 @@ returns-in_err-id-clause-room c = room_refused c.args.cache.now c.clear_keeping.
 pub returns-clause-own : goal.returns-clause-own
 returns-clause-own c = subst (IsCacheOf c.args.dfa.now) (sym c.in_ok-id.ensures.ok)
     (is_cache_kept c.args.dfa.now c.args.cache.now c.args.k c.is_made.ensures c.requires.own c.requires.row
-        (has_tag start_tag (id_at c.args.cache.now c.args.k)))
+    (has_tag start_tag (id_at c.args.cache.now c.args.k)))
 
 pub returns-clause-room : goal.returns-clause-room
 returns-clause-room c = inr (cleared_one c.args.cache.now c.clear_keeping.new.self (has_tag start_tag (id_at c.args.cache.now c.args.k))
@@ -34,19 +37,19 @@ returns-clause-room c = inr (cleared_one c.args.cache.now c.clear_keeping.new.se
 pub returns-clause-from : goal.returns-clause-from
 returns-clause-from c = subst (λ (w : CacheValue). HeldAt w c.in_ok-id.id (state_at c.args.cache.now c.args.k)) (sym c.in_ok-id.ensures.ok)
     (subst (λ (n : ℕ). HeldAt (with_state (has_tag start_tag (id_at c.args.cache.now c.args.k)) (state_at c.args.cache.now c.args.k)
-        (cleared c.args.cache.now)) n (state_at c.args.cache.now c.args.k)) (sym c.in_ok-id.ensures.id)
+    (cleared c.args.cache.now)) n (state_at c.args.cache.now c.args.k)) (sym c.in_ok-id.ensures.id)
     (kept_held c.args.dfa.now c.args.cache.now c.args.k c.is_made.ensures c.requires.own c.requires.row
-        (has_tag start_tag (id_at c.args.cache.now c.args.k))))
+    (has_tag start_tag (id_at c.args.cache.now c.args.k))))
 
 pub returns-clause-fresh : goal.returns-clause-fresh
 returns-clause-fresh c = subst (λ (w : CacheValue). place_of c.args.state.now w.states ≡ None) (sym c.in_ok-id.ensures.ok)
     (fresh_beside c.args.dfa.now c.args.cache.now c.args.k c.is_made.ensures c.requires.own c.requires.row
-        (has_tag start_tag (id_at c.args.cache.now c.args.k)) c.args.state.now c.requires.fresh)
+    (has_tag start_tag (id_at c.args.cache.now c.args.k)) c.args.state.now c.requires.fresh)
 
 pub returns-clause-fits : goal.returns-clause-fits
 returns-clause-fits c = subst (Fits c.args.dfa.now.capacity c.args.state.now) (sym c.in_ok-id.ensures.ok)
     (fits_beside c.args.dfa.now c.args.cache.now c.args.k c.is_made.ensures c.requires.own c.requires.row
-        (has_tag start_tag (id_at c.args.cache.now c.args.k)) c.args.state.now c.requires.is)
+    (has_tag start_tag (id_at c.args.cache.now c.args.k)) c.args.state.now c.requires.is)
 
 pub returns-clause-ok : goal.returns-clause-ok
 returns-clause-ok c = lacks_not_allowed c.args.dfa.now c.args.cache.now c.args.state.now (sym c.refuses_clear.ensures

@@ -43,7 +43,7 @@ returns-in_err-to-clause-kept c = adds_nothing c.args.cache.now c.make_room.new.
 pub returns-clause-own : goal.returns-clause-own
 returns-clause-own c = subst (IsCacheOf c.args.dfa.now) (sym c.in_ok-to.ensures.ok)
     (is_cache_added c.args.dfa.now c.make_room.new.cache false c.args.state c.is_made.ensures c.in_ok-from.ensures.own c.find.ensures.real
-        c.in_ok-from.ensures.fresh c.in_ok-from.ensures.fits
+    c.in_ok-from.ensures.fresh c.in_ok-from.ensures.fits
     (alive_of c.args.state (sym c.is_dead_state.ensures ∙ c.if-is_dead_state.false)) c.requires.is)
 
 pub returns-clause-kept : goal.returns-clause-kept
@@ -58,7 +58,7 @@ pub returns-clause-from : goal.returns-clause-from
 returns-clause-from c = subst (λ (w : CacheValue). HeldAt w c.in_ok-from.from (state_at c.args.cache.now c.args.k))
     (sym c.in_ok-to.ensures.ok)
     (held_added c.make_room.new.cache false c.args.state c.in_ok-from.from
-        (state_at c.args.cache.now c.args.k) c.in_ok-from.ensures.own.shape c.in_ok-from.ensures.from)
+    (state_at c.args.cache.now c.args.k) c.in_ok-from.ensures.own.shape c.in_ok-from.ensures.from)
 
 pub returns-clause-to : goal.returns-clause-to
 returns-clause-to c = subst (λ (w : CacheValue). Names w c.in_ok-to.to c.args.state) (sym c.in_ok-to.ensures.ok)

@@ -72,34 +72,42 @@ pub returns-then-is_quit-clause-own : goal.returns-then-is_quit-clause-own
 returns-then-is_quit-clause-own g c =
     let row = row_of_held c.args.cache.now c.args.current c.requires.held (sym c.is_sentinel.ensures ∙ c.if-is_sentinel.false) in
     is_cache_stepped c.args.dfa.now c.args.cache.now c.args.current c.args.class
-        (unit_byte c.args.unit) c.is_made.ensures c.requires.own c.requires.unit c.requires.class
+    (unit_byte c.args.unit) c.is_made.ensures c.requires.own c.requires.unit c.requires.class
     (state_at c.args.cache.now row.0) c.quit-quit.result c.set_cell.new.self (row.0, row.1, row.2, refl)
     (leads_quit c.args.dfa.now c.args.cache.now (state_at c.args.cache.now row.0) (unit_byte c.args.unit) c.quit-quit.result
-        (sym c.requires.quit ∙ c.if-is_quit.true) (c.quit-quit.ensures ∙ ap quit_id c.stride-stride.ensures.stride))
+    (sym c.requires.quit ∙ c.if-is_quit.true) (c.quit-quit.ensures ∙ ap quit_id c.stride-stride.ensures.stride))
     c.set_cell.ensures
 
 pub returns-then-is_quit-clause-kept : goal.returns-then-is_quit-clause-kept
 returns-then-is_quit-clause-kept g c =
     let row = row_of_held c.args.cache.now c.args.current c.requires.held (sym c.is_sentinel.ensures ∙ c.if-is_sentinel.false) in
     grew_set c.args.dfa.now c.args.cache.now c.args.cache.now c.set_cell.new.self c.args.current c.args.current c.args.class row.0
-        c.quit-quit.result (unit_byte c.args.unit)
-    c.is_made.ensures c.requires.own c.requires.own c.requires.unit c.requires.class row.1 row.2 (row.0, row.1, row.2,
-        refl) c.set_cell.ensures
+    c.quit-quit.result (unit_byte c.args.unit)
+    c.is_made.ensures c.requires.own c.requires.own c.requires.unit c.requires.class row.1 row.2 (
+      row.0,
+      row.1,
+      row.2,
+      refl,
+    ) c.set_cell.ensures
     (unknown_here c.args.dfa.now c.args.cache.now c.args.current c.args.class c.cell-cell.result
-        (unit_byte c.args.unit) c.is_made.ensures c.requires.own c.requires.unit c.requires.class c.cell-cell.ensures row
-        (sym c.is_not_known.ensures ∙ c.if-not-is_not_known.false))
+    (unit_byte c.args.unit) c.is_made.ensures c.requires.own c.requires.unit c.requires.class c.cell-cell.ensures row
+    (sym c.is_not_known.ensures ∙ c.if-not-is_not_known.false))
     (inl (added_refl c.args.cache.now c.requires.own.shape))
 
 pub returns-then-is_quit-clause-remains : goal.returns-then-is_quit-clause-remains
 returns-then-is_quit-clause-remains g c =
     let row = row_of_held c.args.cache.now c.args.current c.requires.held (sym c.is_sentinel.ensures ∙ c.if-is_sentinel.false) in
     inl (grew_cell c.args.dfa.now c.args.cache.now c.args.cache.now c.set_cell.new.self c.args.current c.args.current c.args.class row.0
-        c.quit-quit.result (unit_byte c.args.unit)
-    c.is_made.ensures c.requires.own c.requires.own c.requires.unit c.requires.class row.1 row.2 (row.0, row.1, row.2,
-        refl) c.set_cell.ensures
+    c.quit-quit.result (unit_byte c.args.unit)
+    c.is_made.ensures c.requires.own c.requires.own c.requires.unit c.requires.class row.1 row.2 (
+      row.0,
+      row.1,
+      row.2,
+      refl,
+    ) c.set_cell.ensures
     (unknown_here c.args.dfa.now c.args.cache.now c.args.current c.args.class c.cell-cell.result
-        (unit_byte c.args.unit) c.is_made.ensures c.requires.own c.requires.unit c.requires.class c.cell-cell.ensures row
-        (sym c.is_not_known.ensures ∙ c.if-not-is_not_known.false))
+    (unit_byte c.args.unit) c.is_made.ensures c.requires.own c.requires.unit c.requires.class c.cell-cell.ensures row
+    (sym c.is_not_known.ensures ∙ c.if-not-is_not_known.false))
     (added_refl c.args.cache.now c.requires.own.shape))
 
 pub returns-then-is_quit-clause-loops : goal.returns-then-is_quit-clause-loops
@@ -109,21 +117,25 @@ pub returns-then-is_quit-clause-step : goal.returns-then-is_quit-clause-step
 returns-then-is_quit-clause-step g c =
     let row = row_of_held c.args.cache.now c.args.current c.requires.held (sym c.is_sentinel.ensures ∙ c.if-is_sentinel.false) in
     steps_of_row c.args.dfa.now c.args.cache.now c.set_cell.new.self c.args.current row.0
-        (unit_byte c.args.unit) c.quit-quit.result c.requires.own.shape row.1 row.2
+    (unit_byte c.args.unit) c.quit-quit.result c.requires.own.shape row.1 row.2
     (leads_stepped c.args.dfa.now c.args.cache.now c.args.current c.args.class
-        (unit_byte c.args.unit) c.is_made.ensures c.requires.own c.requires.unit c.requires.class
+    (unit_byte c.args.unit) c.is_made.ensures c.requires.own c.requires.unit c.requires.class
     (state_at c.args.cache.now row.0) c.quit-quit.result c.set_cell.new.self
     (leads_quit c.args.dfa.now c.args.cache.now (state_at c.args.cache.now row.0) (unit_byte c.args.unit) c.quit-quit.result
-        (sym c.requires.quit ∙ c.if-is_quit.true) (c.quit-quit.ensures ∙ ap quit_id c.stride-stride.ensures.stride))
+    (sym c.requires.quit ∙ c.if-is_quit.true) (c.quit-quit.ensures ∙ ap quit_id c.stride-stride.ensures.stride))
     c.set_cell.ensures)
 
 pub returns-then-is_quit-clause-noted : goal.returns-then-is_quit-clause-noted
 returns-then-is_quit-clause-noted g c =
     let row = row_of_held c.args.cache.now c.args.current c.requires.held (sym c.is_sentinel.ensures ∙ c.if-is_sentinel.false) in
     set_is_noted c.args.dfa.now c.args.cache.now c.args.cache.now c.set_cell.new.self c.args.current c.args.current c.args.class row.0
-        c.quit-quit.result (unit_byte c.args.unit)
-    c.is_made.ensures c.requires.own c.requires.own c.requires.unit c.requires.class row.1 row.2 (row.0, row.1, row.2,
-        refl) c.set_cell.ensures
+    c.quit-quit.result (unit_byte c.args.unit)
+    c.is_made.ensures c.requires.own c.requires.own c.requires.unit c.requires.class row.1 row.2 (
+      row.0,
+      row.1,
+      row.2,
+      refl,
+    ) c.set_cell.ensures
 
 pub returns-then-is_quit-clause-ok : goal.returns-then-is_quit-clause-ok
 returns-then-is_quit-clause-ok g c gives = true≢false (sym (sym c.requires.quit ∙ c.if-is_quit.true) ∙ gives.no_quit)
@@ -132,13 +144,13 @@ pub returns-then-is_quit-clause-known : goal.returns-then-is_quit-clause-known
 returns-then-is_quit-clause-known g c plain n = absurd (not_known c.args.dfa.now c.args.cache.now c.args.current c.args.class
     c.cell-cell.result (unit_byte c.args.unit) c.is_made.ensures c.requires.own c.requires.unit c.requires.class c.cell-cell.ensures
     (row_of_held c.args.cache.now c.args.current c.requires.held plain) (sym c.is_not_known.ensures
-        ∙ c.if-not-is_not_known.false) plain (inr n))
+    ∙ c.if-not-is_not_known.false) plain (inr n))
 
 pub returns-then-is_quit-clause-same : goal.returns-then-is_quit-clause-same
 returns-then-is_quit-clause-same g c k = absurd (not_known c.args.dfa.now c.args.cache.now c.args.current c.args.class c.cell-cell.result
     (unit_byte c.args.unit) c.is_made.ensures c.requires.own c.requires.unit c.requires.class c.cell-cell.ensures
     (row_of_held c.args.cache.now c.args.current c.requires.held (sym c.is_sentinel.ensures ∙ c.if-is_sentinel.false))
-        (sym c.is_not_known.ensures ∙ c.if-not-is_not_known.false)
+    (sym c.is_not_known.ensures ∙ c.if-not-is_not_known.false)
     (sym c.is_sentinel.ensures ∙ c.if-is_sentinel.false) k)
 
 -- ---- a step that is made
@@ -151,7 +163,7 @@ pub fill-requires-clause-unknown : goal.fill-requires-clause-unknown
 fill-requires-clause-unknown g c = unknown_here c.args.dfa.now c.args.cache.now c.args.current c.args.class c.cell-cell.result
     (unit_byte c.args.unit) c.is_made.ensures c.requires.own c.requires.unit c.requires.class c.cell-cell.ensures
     (row_of_held c.args.cache.now c.args.current c.requires.held (sym c.is_sentinel.ensures ∙ c.if-is_sentinel.false))
-        (sym c.is_not_known.ensures ∙ c.if-not-is_not_known.false)
+    (sym c.is_not_known.ensures ∙ c.if-not-is_not_known.false)
 
 pub returns-in_err-to-clause-loops : goal.returns-in_err-to-clause-loops
 returns-in_err-to-clause-loops g c e = absurd (true≢false (sym e ∙ (sym c.is_sentinel.ensures ∙ c.if-is_sentinel.false)))
@@ -160,21 +172,21 @@ pub returns-in_err-to-clause-known : goal.returns-in_err-to-clause-known
 returns-in_err-to-clause-known g c plain n = absurd (not_known c.args.dfa.now c.args.cache.now c.args.current c.args.class
     c.cell-cell.result (unit_byte c.args.unit) c.is_made.ensures c.requires.own c.requires.unit c.requires.class c.cell-cell.ensures
     (row_of_held c.args.cache.now c.args.current c.requires.held (sym c.is_sentinel.ensures ∙ c.if-is_sentinel.false))
-        (sym c.is_not_known.ensures ∙ c.if-not-is_not_known.false)
+    (sym c.is_not_known.ensures ∙ c.if-not-is_not_known.false)
     (sym c.is_sentinel.ensures ∙ c.if-is_sentinel.false) (inr n))
 
 pub returns-in_err-to-clause-same : goal.returns-in_err-to-clause-same
 returns-in_err-to-clause-same g c k = absurd (not_known c.args.dfa.now c.args.cache.now c.args.current c.args.class c.cell-cell.result
     (unit_byte c.args.unit) c.is_made.ensures c.requires.own c.requires.unit c.requires.class c.cell-cell.ensures
     (row_of_held c.args.cache.now c.args.current c.requires.held (sym c.is_sentinel.ensures ∙ c.if-is_sentinel.false))
-        (sym c.is_not_known.ensures ∙ c.if-not-is_not_known.false)
+    (sym c.is_not_known.ensures ∙ c.if-not-is_not_known.false)
     (sym c.is_sentinel.ensures ∙ c.if-is_sentinel.false) k)
 
 pub returns-in_err-to-clause-free : goal.returns-in_err-to-clause-free
 returns-in_err-to-clause-free g c k = absurd (not_known c.args.dfa.now c.args.cache.now c.args.current c.args.class c.cell-cell.result
     (unit_byte c.args.unit) c.is_made.ensures c.requires.own c.requires.unit c.requires.class c.cell-cell.ensures
     (row_of_held c.args.cache.now c.args.current c.requires.held (sym c.is_sentinel.ensures ∙ c.if-is_sentinel.false))
-        (sym c.is_not_known.ensures ∙ c.if-not-is_not_known.false)
+    (sym c.is_not_known.ensures ∙ c.if-not-is_not_known.false)
     (sym c.is_sentinel.ensures ∙ c.if-is_sentinel.false) k)
 
 pub returns-clause-loops : goal.returns-clause-loops
@@ -184,19 +196,19 @@ pub returns-clause-known : goal.returns-clause-known
 returns-clause-known g c plain n = absurd (not_known c.args.dfa.now c.args.cache.now c.args.current c.args.class c.cell-cell.result
     (unit_byte c.args.unit) c.is_made.ensures c.requires.own c.requires.unit c.requires.class c.cell-cell.ensures
     (row_of_held c.args.cache.now c.args.current c.requires.held (sym c.is_sentinel.ensures ∙ c.if-is_sentinel.false))
-        (sym c.is_not_known.ensures ∙ c.if-not-is_not_known.false)
+    (sym c.is_not_known.ensures ∙ c.if-not-is_not_known.false)
     (sym c.is_sentinel.ensures ∙ c.if-is_sentinel.false) (inr n))
 
 pub returns-clause-same : goal.returns-clause-same
 returns-clause-same g c k = absurd (not_known c.args.dfa.now c.args.cache.now c.args.current c.args.class c.cell-cell.result
     (unit_byte c.args.unit) c.is_made.ensures c.requires.own c.requires.unit c.requires.class c.cell-cell.ensures
     (row_of_held c.args.cache.now c.args.current c.requires.held (sym c.is_sentinel.ensures ∙ c.if-is_sentinel.false))
-        (sym c.is_not_known.ensures ∙ c.if-not-is_not_known.false)
+    (sym c.is_not_known.ensures ∙ c.if-not-is_not_known.false)
     (sym c.is_sentinel.ensures ∙ c.if-is_sentinel.false) k)
 
 pub returns-clause-free : goal.returns-clause-free
 returns-clause-free g c k = absurd (not_known c.args.dfa.now c.args.cache.now c.args.current c.args.class c.cell-cell.result
     (unit_byte c.args.unit) c.is_made.ensures c.requires.own c.requires.unit c.requires.class c.cell-cell.ensures
     (row_of_held c.args.cache.now c.args.current c.requires.held (sym c.is_sentinel.ensures ∙ c.if-is_sentinel.false))
-        (sym c.is_not_known.ensures ∙ c.if-not-is_not_known.false)
+    (sym c.is_not_known.ensures ∙ c.if-not-is_not_known.false)
     (sym c.is_sentinel.ensures ∙ c.if-is_sentinel.false) k)

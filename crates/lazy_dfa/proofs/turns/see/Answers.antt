@@ -23,7 +23,7 @@ pub returns-then-not-is_match : goal.returns-then-not-is_match
 returns-then-not-is_match c = see_unmatched c.args.cache.now c.args.id c.args.place
     (pair_of c.args.best) c.args.earliest _ c.requires.own.shape c.requires.held refl
     (sym c.is_dead.ensures ∙ c.if-is_dead.false) (sym c.is_quit.ensures ∙ c.if-is_quit.false) (sym c.is_match.ensures
-        ∙ c.if-not-is_match.true) refl refl
+    ∙ c.if-not-is_match.true) refl refl
 
 pub match_pattern-pattern-requires-clause-inside : goal.match_pattern-pattern-requires-clause-inside
 match_pattern-pattern-requires-clause-inside c = matches_there c.args.cache.now c.args.id c.requires.own.shape (sym c.is_match.ensures
@@ -33,14 +33,14 @@ pub returns-then-earliest : goal.returns-then-earliest
 returns-then-earliest c = see_end c.args.cache.now c.args.id c.args.place
     (pair_of c.args.best) c.args.earliest _ c.requires.own.shape c.requires.held refl
     (sym c.is_dead.ensures ∙ c.if-is_dead.false) (sym c.is_quit.ensures ∙ c.if-is_quit.false) (sym c.is_match.ensures
-        ∙ c.if-not-is_match.false)
+    ∙ c.if-not-is_match.false)
     c.match_pattern-pattern.result c.match_pattern-pattern.ensures (ap (λ (m : HalfFound). pair_of (Some m)) c.new.ensures)
-        c.if-earliest.true refl
+    c.if-earliest.true refl
 
 pub returns-else-earliest : goal.returns-else-earliest
 returns-else-earliest c = see_on c.args.cache.now c.args.id c.args.place
     (pair_of c.args.best) c.args.earliest _ c.requires.own.shape c.requires.held refl
     (sym c.is_dead.ensures ∙ c.if-is_dead.false) (sym c.is_quit.ensures ∙ c.if-is_quit.false) (sym c.is_match.ensures
-        ∙ c.if-not-is_match.false)
+    ∙ c.if-not-is_match.false)
     c.match_pattern-pattern.result c.match_pattern-pattern.ensures (ap (λ (m : HalfFound). pair_of (Some m)) c.new.ensures)
-        c.if-earliest.false refl
+    c.if-earliest.false refl

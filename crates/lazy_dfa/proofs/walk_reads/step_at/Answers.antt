@@ -13,20 +13,20 @@ make_turn-requires-clause-own g c = is_cache_moved c.args.dfa.now c.args.cache.n
 pub returns-in-Err-clause-own : goal.returns-in-Err-clause-own
 returns-in-Err-clause-own g c = is_cache_moved c.args.dfa.now c.make_turn.new.cache c.finish_where.new.cache
     (finished_where_moves c.make_turn.new.cache c.finish_where.new.cache c.progress_at-place.result _ c.finish_where.ensures)
-        c.in-Err.ensures.own
+    c.in-Err.ensures.own
 
 pub returns-in-Err-clause-step : goal.returns-in-Err-clause-step
 returns-in-Err-clause-step g c =
     let is = unit_same c.args.is_reverse c.args.dfa.now.nfa.automaton.reverse c.args.input.now c.haystack.result.now c.args.position.at
-        c.unit_at-unit.result c.unit_at-unit.ensures c.haystack.ensures.value c.requires.is_reverse in
+    c.unit_at-unit.result c.unit_at-unit.ensures c.haystack.ensures.value c.requires.is_reverse in
     step_refused c.args.dfa.now c.args.input.now c.args.is_reverse c.requires.is_reverse c.args.cache.now c.search_update.new.self
-        c.make_turn.new.cache c.args.work.now.determinized c.args.work.now.inserted
+    c.make_turn.new.cache c.args.work.now.determinized c.args.work.now.inserted
     c.make_turn.new.work.determinized c.make_turn.new.work.inserted c.args.position.at c.args.position.id
-        (pair_of c.args.position.best) c.unit_at-unit.result c.progress_at-place.result c.search_update.ensures c.requires.running
+    (pair_of c.args.position.best) c.unit_at-unit.result c.progress_at-place.result c.search_update.ensures c.requires.running
     c.finish_where.new.cache (c.progress_at-place.ensures ∙ ap (λ (b : Bool). gave_up_at b c.args.input.now c.args.position.at)
-        c.requires.is_reverse) is
+    c.requires.is_reverse) is
     c.in-Err.e c.refusal.result _ (ap (λ (x : ℕ). c.args.position.at == x) c.last_place.ensures) c.finish_where.ensures c.refusal.ensures
-        (c.in-Err.ensures.turn c.args.input.now.haystack is)
+    (c.in-Err.ensures.turn c.args.input.now.haystack is)
 
 pub returns-in-Quits-clause-own : goal.returns-in-Quits-clause-own
 returns-in-Quits-clause-own g c = is_cache_moved c.args.dfa.now c.make_turn.new.cache c.search_finish.new.self
@@ -35,25 +35,25 @@ returns-in-Quits-clause-own g c = is_cache_moved c.args.dfa.now c.make_turn.new.
 pub returns-in-Quits-clause-step : goal.returns-in-Quits-clause-step
 returns-in-Quits-clause-step g c =
     let is = unit_same c.args.is_reverse c.args.dfa.now.nfa.automaton.reverse c.args.input.now c.haystack.result.now c.args.position.at
-        c.unit_at-unit.result c.unit_at-unit.ensures c.haystack.ensures.value c.requires.is_reverse in
+    c.unit_at-unit.result c.unit_at-unit.ensures c.haystack.ensures.value c.requires.is_reverse in
     step_quits c.args.dfa.now c.args.input.now c.args.is_reverse c.requires.is_reverse c.args.cache.now c.search_update.new.self
-        c.make_turn.new.cache c.args.work.now.determinized c.args.work.now.inserted
+    c.make_turn.new.cache c.args.work.now.determinized c.args.work.now.inserted
     c.make_turn.new.work.determinized c.make_turn.new.work.inserted c.args.position.at c.args.position.id
-        (pair_of c.args.position.best) c.unit_at-unit.result c.progress_at-place.result c.search_update.ensures c.requires.running
+    (pair_of c.args.position.best) c.unit_at-unit.result c.progress_at-place.result c.search_update.ensures c.requires.running
     c.in-Ok.seen.id (pair_of c.in-Ok.seen.best) c.in-Ok.seen.turn c.search_finish.new.self c.in-Some.byte c.index_at.result c.quit.result
     (finished_moves c.make_turn.new.cache c.search_finish.new.self c.progress_at-place.result c.search_finish.ensures) is c.in-Some.is
-        c.index_at.ensures c.quit.ensures c.in-Quits.is
+    c.index_at.ensures c.quit.ensures c.in-Quits.is
     (c.in-Ok.ensures.turn c.args.input.now.haystack is)
 
 pub returns : goal.returns
 returns g c =
     let is = unit_same c.args.is_reverse c.args.dfa.now.nfa.automaton.reverse c.args.input.now c.haystack.result.now c.args.position.at
-        c.unit_at-unit.result c.unit_at-unit.ensures c.haystack.ensures.value c.requires.is_reverse in record {
+    c.unit_at-unit.result c.unit_at-unit.ensures c.haystack.ensures.value c.requires.is_reverse in record {
       own = c.in-Ok.ensures.own;
       step = step_leads c.args.dfa.now c.args.input.now c.args.is_reverse c.requires.is_reverse c.args.cache.now c.search_update.new.self
           c.make_turn.new.cache c.args.work.now.determinized c.args.work.now.inserted
           c.make_turn.new.work.determinized c.make_turn.new.work.inserted c.args.position.at c.args.position.id
-              (pair_of c.args.position.best) c.unit_at-unit.result c.progress_at-place.result c.search_update.ensures c.requires.running
+          (pair_of c.args.position.best) c.unit_at-unit.result c.progress_at-place.result c.search_update.ensures c.requires.running
           c.in-Ok.seen.id (pair_of c.in-Ok.seen.best) c.in-Ok.seen.turn c.in_default.not-Quits
-              (c.in-Ok.ensures.turn c.args.input.now.haystack is);
+          (c.in-Ok.ensures.turn c.args.input.now.haystack is);
     }

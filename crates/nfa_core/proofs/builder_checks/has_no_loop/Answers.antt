@@ -12,6 +12,12 @@ returns-then-not-is_passed c =
 
 pub returns : goal.returns
 returns c =
-    let drafts = map draft_of c.args.drafts.now in
-    (λ e. followed_free drafts c.loop-index.index (omega (arith, length-map c.args.drafts.now draft_of, c.loop-index-test.false,
-        c.loop-index.auto)) c.loop-index.invariant, λ e. refl)
+    let drafts = map draft_of c.args.drafts.now in (
+      λ e. followed_free drafts c.loop-index.index (omega (
+        arith,
+        length-map c.args.drafts.now draft_of,
+        c.loop-index-test.false,
+        c.loop-index.auto,
+      )) c.loop-index.invariant,
+      λ e. refl,
+    )

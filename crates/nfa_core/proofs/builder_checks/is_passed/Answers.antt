@@ -8,4 +8,4 @@ loop-index-preserved c =
     let left = length c.args.drafts.now - c.loop-index._index in
     let more : left ≡ suc (length c.args.drafts.now - (c.loop-index._index + 1)) = omega (arith, c.loop-index-test.true) in
     follow_next (map draft_of c.args.drafts.now) left (length c.args.drafts.now - (c.loop-index._index + 1)) c.loop-index.at c.in-Some.next
-        c.args.q more (sym c.next_of.ensures ∙ c.in-Some.is) c.loop-index.invariant
+    c.args.q more (sym c.next_of.ensures ∙ c.in-Some.is) c.loop-index.invariant

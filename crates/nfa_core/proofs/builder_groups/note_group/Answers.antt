@@ -10,9 +10,9 @@ pub returns : goal.returns
 returns c =
     let inside : c.args.pattern < length c.fill_patterns.new.groups.items = search rules in
     let all : groups_in c.fill_patterns.new.groups.items ≡ up_to_pattern (groups_in c.args.groups.now.items) c.args.pattern =
-        search rules in
+    search rules in
     let named : names_in c.note_name.new.names.items ≡ with_name (names_in c.index_mut.result.now.items) c.args.index
-        (option_map string_bytes c.args.name) = search rules in
+    (option_map string_bytes c.args.name) = search rules in
     view_group (λ names. names_in names.items) c.args.groups.now.items c.fill_patterns.new.groups.items c.as_usize.result c.args.pattern
-        c.args.index _
+    c.args.index _
     c.index_mut.result.now c.note_name.new.names c.index_mut.result.now (search rules) all inside (search rules) named

@@ -9,4 +9,4 @@ returns c =
     let e : draft_of c.patch.new.self ≡ patched c.args.to (draft_of c.index_mut.result.now) = search rules in
     let same : c.as_usize.result ≡ c.args.from = search rules in
     view_patched draft_of c.args.drafts.now.items c.as_usize.result c.args.from c.args.to c.index_mut.result.now c.patch.new.self
-        c.index_mut.result.now same c.requires (search rules) e
+    c.index_mut.result.now same c.requires (search rules) e

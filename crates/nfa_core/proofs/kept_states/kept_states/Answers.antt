@@ -22,7 +22,7 @@ pub loop-draft-preserved-then-is_some : goal.loop-draft-preserved-then-is_some
 loop-draft-preserved-then-is_some c =
     let stands : is_some (stands_for (draft_of c.draft-item.result)) ≡ true = search rules in
     states_skip node_of draft_of (renamed (name_in c.args.names.now) c.args.groups.now) c.loop-draft.states.items c.args.drafts.now
-        c.loop-draft.draft-index c.draft-item.result
+    c.loop-draft.draft-index c.draft-item.result
     c.loop-draft-test.true c.draft-item.is stands c.loop-draft.invariant
 
 pub loop-draft-preserved : goal.loop-draft-preserved
@@ -30,6 +30,6 @@ loop-draft-preserved c =
     let stays : is_some (stands_for (draft_of c.draft-item.result)) ≡ false = search rules in
     let pushed : c.push.new.self.items ≡ c.loop-draft.states.items ++ c.in_ok-kept_state.field-0 ∷ [] = search rules in
     states_more node_of draft_of (renamed (name_in c.args.names.now) c.args.groups.now) c.loop-draft.states.items c.push.new.self.items
-        c.in_ok-kept_state.field-0 c.args.drafts.now
+    c.in_ok-kept_state.field-0 c.args.drafts.now
     c.loop-draft.draft-index c.draft-item.result pushed c.in_ok-kept_state.ensures c.loop-draft-test.true c.draft-item.is stays
-        c.loop-draft.invariant
+    c.loop-draft.invariant

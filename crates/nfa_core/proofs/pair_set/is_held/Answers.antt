@@ -7,7 +7,7 @@ pub returns-then-place-len : goal.returns-then-place-len
 returns-then-place-len c =
     let at : c.as_usize-place.result ≡ get_or c.args.places.now c.args.name c.index-places-as_usize.result = cc in
     c.eq.ensures ∙ held_inside _ _ _ c.args.name c.as_usize-place.result _ _ _ c.requires.paired c.requires.inside at c.if-place-len.true
-        c.index-dense-place.is
+    c.index-dense-place.is
 
 pub returns-else-place-len : goal.returns-else-place-len
 returns-else-place-len c =

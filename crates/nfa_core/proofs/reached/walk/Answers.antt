@@ -23,14 +23,16 @@ pub loop-id-preserved : goal.loop-id-preserved
 loop-id-preserved g c =
     let bound : c.next_fresh.new.set.bound ≡ c.loop-id.set.bound = c.in-Some.ensures.bound in
     let len : c.loop-id.set.bound ≡ length (automaton_in c.args.parts.now).states =
-        c.loop-id.invariant.bound ∙ len_nodes c.args.parts.now.states.items in
+    c.loop-id.invariant.bound ∙ len_nodes c.args.parts.now.states.items in
     let is : node_of c.state_at.result.now ≡ node_at (automaton_in c.args.parts.now) c.in-Some.id = search rules in
-    let ways : reverse c.push_ways.new.stack.items ≡ on_nothing (node_of c.state_at.result.now) (λ l. true) ++ reverse c.next_fresh.new.stack.items = search rules in
-    let stands : StandsAt (automaton_in c.args.parts.now) c.loop-id.set.bound (reverse c.push_ways.new.stack.items) c.next_fresh.new.set.names =
+    let ways : reverse c.push_ways.new.stack.items ≡ on_nothing (node_of c.state_at.result.now) (λ l. true)
+    ++ reverse c.next_fresh.new.stack.items = search rules in
+    let stands : StandsAt (automaton_in c.args.parts.now) c.loop-id.set.bound
+    (reverse c.push_ways.new.stack.items) c.next_fresh.new.set.names =
     goes_on (automaton_in c.args.parts.now) c.loop-id.set.bound len c.requires.sound (reverse c.loop-id.stack.items) c.loop-id.set.names
-        (reverse c.next_fresh.new.stack.items) c.next_fresh.new.set.names
+    (reverse c.next_fresh.new.stack.items) c.next_fresh.new.set.names
     (reverse c.push_ways.new.stack.items) c.in-Some.id (node_of c.state_at.result.now) c.loop-id.invariant.stands c.in-Some.ensures.inside
-        c.in-Some.ensures.below c.in-Some.ensures.meets is ways in
+    c.in-Some.ensures.below c.in-Some.ensures.meets is ways in
     record {
       bound = bound ∙ c.loop-id.invariant.bound;
       fits = c.in-Some.ensures.fits;
@@ -40,15 +42,17 @@ loop-id-preserved g c =
 pub returns-clause-names : goal.returns-clause-names
 returns-clause-names g c =
     let len : c.loop-id.set.bound ≡ length (automaton_in c.args.parts.now).states =
-        c.loop-id.invariant.bound ∙ len_nodes c.args.parts.now.states.items in
-    ends (automaton_in c.args.parts.now) c.loop-id.set.bound len c.requires.sound (reverse c.loop-id.stack.items) c.loop-id.set.names (reverse c.next_fresh.new.stack.items)
-        c.next_fresh.new.set.names
+    c.loop-id.invariant.bound ∙ len_nodes c.args.parts.now.states.items in
+    ends (automaton_in c.args.parts.now) c.loop-id.set.bound len c.requires.sound (reverse c.loop-id.stack.items) c.loop-id.set.names
+    (reverse c.next_fresh.new.stack.items)
+    c.next_fresh.new.set.names
     c.loop-id.invariant.stands c.in_default.ensures.meets
 
 pub returns-clause-below : goal.returns-clause-below
 returns-clause-below g c =
     let len : c.loop-id.set.bound ≡ length (automaton_in c.args.parts.now).states =
-        c.loop-id.invariant.bound ∙ len_nodes c.args.parts.now.states.items in
-    rw (← c.loop-id.invariant.bound) (met_below (automaton_in c.args.parts.now) c.loop-id.set.bound len c.requires.sound (reverse c.loop-id.stack.items)
-        c.loop-id.set.names
+    c.loop-id.invariant.bound ∙ len_nodes c.args.parts.now.states.items in
+    rw (← c.loop-id.invariant.bound) (met_below (automaton_in c.args.parts.now) c.loop-id.set.bound len c.requires.sound
+    (reverse c.loop-id.stack.items)
+    c.loop-id.set.names
     (reverse c.next_fresh.new.stack.items) c.next_fresh.new.set.names c.loop-id.invariant.stands c.in_default.ensures.meets)

@@ -4,5 +4,8 @@ use Rattle.nfa_core.proofs.EndsLemmas.{ends_once}
 use Rattle.nfa_core.proofs.run_laws.the_ends_are_those_of_runs.Goals as goal
 
 pub returns : goal.returns
-returns c = record { listed = λ a t p e formed here h. listed_run a t p formed here e h;
-    all = λ a t p e r formed here run. run_listed a t p formed here e r run; once = ends_once }
+returns c = record {
+  listed = λ a t p e formed here h. listed_run a t p formed here e h;
+  all = λ a t p e r formed here run. run_listed a t p formed here e r run;
+  once = ends_once;
+}

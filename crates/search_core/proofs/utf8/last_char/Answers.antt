@@ -22,4 +22,4 @@ returns-then-n-lt4 c =
 pub returns : goal.returns
 returns c =
     read_last_four c.args.bytes.now c.four_bytes.result (omega arith) (omega arith) c.in_default.ensures c.in_default-three_bytes.ensures
-        c.four_bytes.ensures
+    c.four_bytes.ensures

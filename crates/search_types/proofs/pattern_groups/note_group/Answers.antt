@@ -10,6 +10,6 @@ must-index-requires c = sound_group_fits c.args.names.now (option_map string_byt
 pub returns-clause-indexed : goal.returns-clause-indexed
 returns-clause-indexed c =
     indexed_sound c.args.names.now c.args.indices.now c.insert.new.self c.args.name.now c.in-Some.text c.in_ok-from_str.field-0
-        c.must-index.result
+    c.must-index.result
     c.must-index.ensures c.requires.finds c.in-Some.is (c.in_ok-from_str.ensures.ok
-        ∙ c.as_str.ensures.value) c.requires.sound c.in_ok-insert.ensures.updates
+    ∙ c.as_str.ensures.value) c.requires.sound c.in_ok-insert.ensures.updates

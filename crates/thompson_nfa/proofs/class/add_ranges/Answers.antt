@@ -15,5 +15,5 @@ returns-clause-added c = added_of _ _ _ _ _ c.in_ok-id.ensures.0 c.in_ok-id.ensu
 pub returns-in_err-id-clause-refused : goal.returns-in_err-id-clause-refused
 returns-in_err-id-clause-refused c = handed _ _ c.in_err-id.field-0.0 c.from_residual-in_err-id.ensures.1
     (add_refused _ _ _ 2072 _ c.in_err-id.ensures.0 c.in_err-id.ensures.1
-        (bytes_shown c.args.next c.args.ranges.now _ c.in_ok-all.ensures.each
-        (few_ranges c.args.ranges.now c.requires c.in_ok-all.ensures.bytes)))
+    (bytes_shown c.args.next c.args.ranges.now _ c.in_ok-all.ensures.each
+    (few_ranges c.args.ranges.now c.requires c.in_ok-all.ensures.bytes)))

@@ -10,8 +10,10 @@ pub insert_range-requires : goal.insert_range-requires
 insert_range-requires c = class_spelled _ (take c.loop-range.range-index c.args.ranges.now) c.loop-range.invariant
 
 pub loop-range-preserved : goal.loop-range-preserved
-loop-range-preserved c = class_next _ _ c.loop-range.range-index c.args.ranges.now (0,
-    0) c.loop-range-test.true c.loop-range.invariant c.in_ok-insert_range.ensures
+loop-range-preserved c = class_next _ _ c.loop-range.range-index c.args.ranges.now (
+  0,
+  0,
+) c.loop-range-test.true c.loop-range.invariant c.in_ok-insert_range.ensures
 
 pub returns : goal.returns
 returns c = class_whole _ c.loop-range.range-index c.args.ranges.now c.loop-range.invariant c.loop-range-test.false

@@ -13,4 +13,4 @@ insert-requires-clause-ordered c =
 pub insert-requires-clause-apart : goal.insert-requires-clause-apart
 insert-requires-clause-apart c =
     subst (IsApart c.args.trie.now) (sym (ap (map bytes_of) c.as_slice.ensures ∙ c.reverse.ensures))
-        (turned_apart c.args.trie.now _ c.requires.old c.requires.new)
+    (turned_apart c.args.trie.now _ c.requires.old c.requires.new)

@@ -27,12 +27,12 @@ use Rattle.hir_core.proofs.ForCallers.{weight_in_concat}
 pub zero_or_more-returns-clause-made : goal.zero_or_more-returns-clause-made
 zero_or_more-returns-clause-made t c =
     made_capped _ (star_made _ _ _ _ _ c.args.greedy _ _ _ _ c.in_ok-union.ensures c.in_ok-body.ensures.made c.in_ok-lead.ensures
-        c.in_ok-lead-2.ensures) (omega arith)
+    c.in_ok-lead-2.ensures) (omega arith)
 
 pub zero_or_more-returns-clause-denotes : goal.zero_or_more-returns-clause-denotes
 zero_or_more-returns-clause-denotes t c =
     star_does _ _ _ _ _ c.args.greedy _ _ _ _ c.in_ok-union.ensures c.in_ok-body.ensures.made c.in_ok-lead.ensures c.in_ok-lead-2.ensures
-        c.args.x.now c.in_ok-body.ensures.denotes
+    c.args.x.now c.in_ok-body.ensures.denotes
 
 pub zero_or_more-returns-clause-form : goal.zero_or_more-returns-clause-form
 zero_or_more-returns-clause-form t c = loop_form _ _ (minimum_len c.args.x.now) c.reads-some.ensures c.if-not-some.false
@@ -47,13 +47,13 @@ zero_or_more_of_empty-returns-clause-apart t c = loops_apart c.in_ok-question.en
 pub zero_or_more_of_empty-returns-clause-made : goal.zero_or_more_of_empty-returns-clause-made
 zero_or_more_of_empty-returns-clause-made t c =
     loop_made _ _ _ _ _ _ _ _ _ _ c.args.greedy _ _ _ _ _ _ c.in_ok-body.ensures.made c.in_ok-plus.ensures c.in_ok-lead.ensures
-        c.in_ok-lead-2.ensures c.in_ok-question.ensures c.in_ok-empty.ensures
+    c.in_ok-lead-2.ensures c.in_ok-question.ensures c.in_ok-empty.ensures
     c.in_ok-lead-3.ensures c.in_ok-lead-4.ensures c.in_ok-lead-5.ensures
 
 pub zero_or_more_of_empty-returns-clause-denotes : goal.zero_or_more_of_empty-returns-clause-denotes
 zero_or_more_of_empty-returns-clause-denotes t c =
     loop_does _ _ _ _ _ _ _ _ _ _ c.args.greedy _ _ _ _ _ _ c.in_ok-body.ensures.made c.in_ok-plus.ensures c.in_ok-lead.ensures
-        c.in_ok-lead-2.ensures c.in_ok-question.ensures c.in_ok-empty.ensures
+    c.in_ok-lead-2.ensures c.in_ok-question.ensures c.in_ok-empty.ensures
     c.in_ok-lead-3.ensures c.in_ok-lead-4.ensures c.in_ok-lead-5.ensures c.args.x.now c.in_ok-body.ensures.denotes
 
 pub one_or_more-returns-clause-made : goal.one_or_more-returns-clause-made
@@ -63,26 +63,31 @@ one_or_more-returns-clause-made t c = plus_made _ _ _ _ _ c.args.greedy _ _ _ _ 
 pub one_or_more-returns-clause-denotes : goal.one_or_more-returns-clause-denotes
 one_or_more-returns-clause-denotes t c =
     plus_does _ _ _ _ _ c.args.greedy _ _ _ _ c.in_ok-body.ensures.made c.in_ok-union.ensures c.in_ok-lead.ensures c.in_ok-lead-2.ensures
-        c.args.x.now c.in_ok-body.ensures.denotes
+    c.args.x.now c.in_ok-body.ensures.denotes
 
 pub option-returns-clause-made : goal.option-returns-clause-made
 option-returns-clause-made t c =
     option_made _ _ _ _ _ c.args.greedy _ _ _ _ _ c.in_ok-union.ensures c.in_ok-body.ensures.made c.in_ok-lead.ensures
-        c.in_ok-lead-2.ensures c.requires.there
+    c.in_ok-lead-2.ensures c.requires.there
 
 pub option-returns-clause-denotes : goal.option-returns-clause-denotes
 option-returns-clause-denotes t c =
     option_does _ _ _ _ _ c.args.greedy _ _ _ _ _ c.in_ok-union.ensures c.in_ok-body.ensures.made c.in_ok-lead.ensures
-        c.in_ok-lead-2.ensures c.requires.there c.args.x.now c.in_ok-body.ensures.denotes
+    c.in_ok-lead-2.ensures c.requires.there c.args.x.now c.in_ok-body.ensures.denotes
 
 pub copies-loop-init : goal.copies-loop-init
-copies-loop-init t c = (copies_first c.args.how _ _ _ _ c.args.x.now c.in_ok-first.ensures.made c.in_ok-first.ensures.denotes
-    c.in_ok-first.ensures.groups, c.requires.some)
+copies-loop-init t c = (
+  copies_first c.args.how _ _ _ _ c.args.x.now c.in_ok-first.ensures.made c.in_ok-first.ensures.denotes
+      c.in_ok-first.ensures.groups,
+  c.requires.some,
+)
 
 pub copies-loop-preserved : goal.copies-loop-preserved
-copies-loop-preserved t c =
-    (copies_then c.args.how _ _ _ _ _ _ _ _ c.loop.counter c.args.x.now c.loop.invariant.0 c.in_ok-next.ensures.made
-        c.in_ok-next.ensures.denotes c.in_ok-next.ensures.groups c.in_ok-lead.ensures, omega arith)
+copies-loop-preserved t c = (
+  copies_then c.args.how _ _ _ _ _ _ _ _ c.loop.counter c.args.x.now c.loop.invariant.0 c.in_ok-next.ensures.made
+      c.in_ok-next.ensures.denotes c.in_ok-next.ensures.groups c.in_ok-lead.ensures,
+  omega arith,
+)
 
 pub copies-returns-clause-denotes : goal.copies-returns-clause-denotes
 copies-returns-clause-denotes t c = copies_done c.args.how _ _ _ _ c.loop.counter c.args.n c.args.x.now c.loop.invariant.0
@@ -91,29 +96,29 @@ copies-returns-clause-denotes t c = copies_done c.args.how _ _ _ _ c.loop.counte
 pub at_least-returns-clause-made : goal.at_least-returns-clause-made
 at_least-returns-clause-made t c =
     at_least_made c.args.how.shrink _ _ _ _ _ _ _ _ c.args.min c.args.greedy c.args.x.now
-        (omega arith) c.in_ok-prefix.ensures.made c.in_ok-last.ensures.made c.in_ok-lead.ensures
+    (omega arith) c.in_ok-prefix.ensures.made c.in_ok-last.ensures.made c.in_ok-lead.ensures
 
 pub at_least-returns-clause-denotes : goal.at_least-returns-clause-denotes
 at_least-returns-clause-denotes t c =
     copies_loop _ _ _ _ _ _ _ _ _ _ c.args.min c.args.greedy c.args.x.now c.in_ok-prefix.ensures.made c.in_ok-last.ensures.made
-        c.in_ok-lead.ensures (omega arith)
+    c.in_ok-lead.ensures (omega arith)
     c.in_ok-prefix.ensures.denotes c.in_ok-last.ensures.denotes
 
 pub at_least-returns-clause-groups : goal.at_least-returns-clause-groups
 at_least-returns-clause-groups t c =
     ap (λ (b : Assembly). b.groups) c.in_ok-lead.ensures.settings
     ∙ groups_again c.args.how.which _ _ c.args.x.now _ _ _ (ap (λ (b : Assembly). length b.starts)
-        c.in_ok-prefix.ensures.made.fragment.grows.settings) c.in_ok-prefix.ensures.groups c.in_ok-last.ensures.groups
+    c.in_ok-prefix.ensures.made.fragment.grows.settings) c.in_ok-prefix.ensures.groups c.in_ok-last.ensures.groups
 
 pub up_to-loop-init : goal.up_to-loop-init
 up_to-loop-init t c =
     rounds_first c.args.how _ _ _ _ _ _ c.args.most c.args.greedy c.args.x.now
-        (omega arith) c.in_ok-exit.ensures c.in_ok-first.ensures.made c.in_ok-first.ensures.denotes c.in_ok-first.ensures.groups
+    (omega arith) c.in_ok-exit.ensures c.in_ok-first.ensures.made c.in_ok-first.ensures.denotes c.in_ok-first.ensures.groups
 
 pub up_to-loop-preserved : goal.up_to-loop-preserved
 up_to-loop-preserved t c =
     rounds_then c.args.how _ _ _ _ _ c.loop.counter 0 c.args.most _ c.args.greedy c.args.x.now c.loop.invariant _ _ _ _ c.loop-test.true
-        c.in_ok-next.ensures.made c.in_ok-next.ensures.denotes
+    c.in_ok-next.ensures.made c.in_ok-next.ensures.denotes
     c.in_ok-next.ensures.groups c.in_ok-lead.ensures
 
 pub up_to-returns-clause-made : goal.up_to-returns-clause-made
@@ -127,12 +132,12 @@ up_to-returns-clause-denotes t c = rounds_does c.args.how _ _ _ _ _ c.loop.count
 pub owed_and_more-loop-init : goal.owed_and_more-loop-init
 owed_and_more-loop-init t c =
     rounds_owed c.args.how _ _ _ _ _ _ c.args.min c.args.most c.args.greedy c.args.x.now c.requires.ordered c.in_ok-prefix.ensures.made
-        c.in_ok-prefix.ensures.denotes c.in_ok-prefix.ensures.groups c.in_ok-exit.ensures
+    c.in_ok-prefix.ensures.denotes c.in_ok-prefix.ensures.groups c.in_ok-exit.ensures
 
 pub owed_and_more-loop-preserved : goal.owed_and_more-loop-preserved
 owed_and_more-loop-preserved t c =
     rounds_then c.args.how _ _ _ _ _ c.loop.counter c.args.min c.args.most _ c.args.greedy c.args.x.now c.loop.invariant _ _ _ _
-        c.loop-test.true c.in_ok-next.ensures.made c.in_ok-next.ensures.denotes
+    c.loop-test.true c.in_ok-next.ensures.made c.in_ok-next.ensures.denotes
     c.in_ok-next.ensures.groups c.in_ok-lead.ensures
 
 pub owed_and_more-returns-clause-made : goal.owed_and_more-returns-clause-made
@@ -162,14 +167,14 @@ pub captured-returns-clause-made : goal.captured-returns-clause-made
 captured-returns-clause-made t c =
     capture_made _ _ _ _ _ _ _ _ _ _ _ c.args.index _ _ c.in_ok-start.ensures.added c.in_ok-body-2.ensures.made c.in_ok-end.ensures.added
     (ap (λ (b : Assembly). length b.starts) c.in_ok-body-2.ensures.made.fragment.grows.settings
-        ∙ ap (λ (b : Assembly). length b.starts) c.in_ok-start.ensures.added.grows.settings)
+    ∙ ap (λ (b : Assembly). length b.starts) c.in_ok-start.ensures.added.grows.settings)
     c.in_ok-lead.ensures c.in_ok-lead-2.ensures
 
 pub captured-returns-clause-denotes : goal.captured-returns-clause-denotes
 captured-returns-clause-denotes t c =
     capture_does _ _ _ _ _ _ _ _ _ _ _ c.args.index _ _ c.in_ok-start.ensures.added c.in_ok-body-2.ensures.made c.in_ok-end.ensures.added
     (ap (λ (b : Assembly). length b.starts) c.in_ok-body-2.ensures.made.fragment.grows.settings
-        ∙ ap (λ (b : Assembly). length b.starts) c.in_ok-start.ensures.added.grows.settings)
+    ∙ ap (λ (b : Assembly). length b.starts) c.in_ok-start.ensures.added.grows.settings)
     c.in_ok-lead.ensures c.in_ok-lead-2.ensures _ c.args.x.now c.in_ok-body-2.ensures.denotes
 
 pub concatenation-returns-then-subs-eq0-clause-denotes : goal.concatenation-returns-then-subs-eq0-clause-denotes
@@ -177,14 +182,23 @@ concatenation-returns-then-subs-eq0-clause-denotes t c = does_same _ _ _ _ _ _
     (none_is_concat c.args.subs.now (omega arith)) c.in_ok-none.ensures.denotes
 
 pub concatenation-compile-requires : goal.concatenation-compile-requires
-concatenation-compile-requires t c =
-    (omega (arith, weight_in_concat c.args.subs.now c.turned_place-begin.result c.index-subs-begin.result
-        c.turned_place-begin.ensures.within, ap weight c.index-subs-begin.is), c.requires)
+concatenation-compile-requires t c = (
+  omega (
+    arith,
+    weight_in_concat c.args.subs.now c.turned_place-begin.result c.index-subs-begin.result
+        c.turned_place-begin.ensures.within,
+    ap weight c.index-subs-begin.is,
+  ),
+  c.requires,
+)
 
 pub concatenation-compile-requires-in-loop-i : goal.concatenation-compile-requires-in-loop-i
 concatenation-compile-requires-in-loop-i t c = (
-  omega (arith, weight_in_concat c.args.subs.now c.turned_place-place.result c.index-subs-place.result c.turned_place-place.ensures.within,
-      ap weight c.index-subs-place.is),
+  omega (
+    arith,
+    weight_in_concat c.args.subs.now c.turned_place-place.result c.index-subs-place.result c.turned_place-place.ensures.within,
+    ap weight c.index-subs-place.is,
+  ),
   ready_later c.args.how.which _ _ c.loop-i.invariant.made.fragment.grows c.requires,
 )
 
@@ -222,7 +236,7 @@ pub concatenation-returns-in_err-lead-clause-refused : goal.concatenation-return
 concatenation-returns-in_err-lead-clause-refused t c =
     handed _ _ c.in_err-lead.field-0.0 c.from_residual-in_err-lead.ensures.1
     (parts_lead_refused c.args.how _ _ _ _ c.loop-i.i c.args.subs.now c.loop-i.invariant _ _ _ _ c.index-subs-place.result _
-        c.loop-i-test.true
+    c.loop-i-test.true
     (c.index-subs-place.is ∙ ap (λ k. get_or c.args.subs.now k c.index-subs-place.result)
     (c.turned_place-place.ensures.value ∙ ap (λ back. turned_place back c.loop-i.i (length c.args.subs.now)) c.get_reverse-reverse.ensures))
     c.in_ok-next.ensures.made c.in_err-lead.ensures)
@@ -238,20 +252,20 @@ concatenation-returns-clause-denotes t c =
 pub alternatives-returns-then-all_literals-clause-made : goal.alternatives-returns-then-all_literals-clause-made
 alternatives-returns-then-all_literals-clause-made t c =
     literals_made c.args.how.shrink _ _ _ _ c.args.subs.now (sym c.all_literals.ensures
-        ∙ c.if-all_literals.true) c.in_ok-literals.ensures.made
+    ∙ c.if-all_literals.true) c.in_ok-literals.ensures.made
 
 pub alternatives-returns-then-all_literals-clause-groups :
     goal.alternatives-returns-then-all_literals-clause-groups
 alternatives-returns-then-all_literals-clause-groups t c =
     literals_noted c.args.how.which _ c.args.subs.now _ _ (sym c.all_literals.ensures
-        ∙ c.if-all_literals.true) c.in_ok-literals.ensures.groups
+    ∙ c.if-all_literals.true) c.in_ok-literals.ensures.groups
 
 pub alternatives-returns-in_err-literals-clause-refused :
     goal.alternatives-returns-in_err-literals-clause-refused
 alternatives-returns-in_err-literals-clause-refused t c =
     handed _ _ c.in_err-literals.field-0.0 c.from_residual-in_err-literals.ensures.1
     (literals_refused c.args.how.which c.args.how.shrink _ _ c.args.subs.now _ (sym c.all_literals.ensures
-        ∙ c.if-all_literals.true) c.in_err-literals.ensures.refused)
+    ∙ c.if-all_literals.true) c.in_err-literals.ensures.refused)
 
 pub alternatives-returns-clause-made : goal.alternatives-returns-clause-made
 alternatives-returns-clause-made t c =
@@ -269,60 +283,60 @@ pub alternatives-returns-in_err-union-clause-refused : goal.alternatives-returns
 alternatives-returns-in_err-union-clause-refused t c =
     handed _ _ c.in_err-union.field-0.0 c.from_residual-in_err-union.ensures.1
     (union_refused c.args.how _ _ _ _ _ _ _ c.index-subs-0-2.result c.index-subs-1.result c.args.subs.now
-        (omega arith) c.index-subs-0-2.is c.index-subs-1.is
+    (omega arith) c.index-subs-0-2.is c.index-subs-1.is
     c.in_ok-first.ensures.made c.in_ok-second.ensures.made _ _ c.in_err-union.ensures)
 
 pub alternatives-returns-in_err-end-clause-refused : goal.alternatives-returns-in_err-end-clause-refused
 alternatives-returns-in_err-end-clause-refused t c =
     handed _ _ c.in_err-end.field-0.0 c.from_residual-in_err-end.ensures.1
     (end_refused c.args.how _ _ _ _ _ _ _ c.index-subs-0-2.result c.index-subs-1.result c.args.subs.now
-        (omega arith) c.index-subs-0-2.is c.index-subs-1.is
+    (omega arith) c.index-subs-0-2.is c.index-subs-1.is
     c.in_ok-first.ensures.made c.in_ok-second.ensures.made _ _ _ _ c.in_ok-union.ensures c.in_err-end.ensures)
 
 pub alternatives-returns-in_err-lead-clause-refused : goal.alternatives-returns-in_err-lead-clause-refused
 alternatives-returns-in_err-lead-clause-refused t c =
     handed _ _ c.in_err-lead.field-0.0 c.from_residual-in_err-lead.ensures.1
     (first_lead_refused c.args.how _ _ _ _ _ _ _ c.index-subs-0-2.result c.index-subs-1.result c.args.subs.now
-        (omega arith) c.index-subs-0-2.is c.index-subs-1.is
+    (omega arith) c.index-subs-0-2.is c.index-subs-1.is
     c.in_ok-first.ensures.made c.in_ok-second.ensures.made _ _ _ _ c.in_ok-union.ensures c.in_ok-end.ensures _ _ c.in_err-lead.ensures)
 
 pub alternatives-returns-in_err-lead-2-clause-refused : goal.alternatives-returns-in_err-lead-2-clause-refused
 alternatives-returns-in_err-lead-2-clause-refused t c =
     handed _ _ c.in_err-lead-2.field-0.0 c.from_residual-in_err-lead-2.ensures.1
     (second_lead_refused c.args.how _ _ _ _ _ _ _ c.index-subs-0-2.result c.index-subs-1.result c.args.subs.now
-        (omega arith) c.index-subs-0-2.is c.index-subs-1.is
+    (omega arith) c.index-subs-0-2.is c.index-subs-1.is
     c.in_ok-first.ensures.made c.in_ok-second.ensures.made _ _ _ _ c.in_ok-union.ensures c.in_ok-end.ensures _ _ _ c.in_ok-lead.ensures
-        c.in_err-lead-2.ensures)
+    c.in_err-lead-2.ensures)
 
 pub alternatives-returns-in_err-lead-3-clause-refused : goal.alternatives-returns-in_err-lead-3-clause-refused
 alternatives-returns-in_err-lead-3-clause-refused t c =
     handed _ _ c.in_err-lead-3.field-0.0 c.from_residual-in_err-lead-3.ensures.1
     (third_lead_refused c.args.how _ _ _ _ _ _ _ c.index-subs-0-2.result c.index-subs-1.result c.args.subs.now
-        (omega arith) c.index-subs-0-2.is c.index-subs-1.is
+    (omega arith) c.index-subs-0-2.is c.index-subs-1.is
     c.in_ok-first.ensures.made c.in_ok-second.ensures.made _ _ _ _ c.in_ok-union.ensures c.in_ok-end.ensures _ _ _ _ c.in_ok-lead.ensures
-        c.in_ok-lead-2.ensures c.in_err-lead-3.ensures)
+    c.in_ok-lead-2.ensures c.in_err-lead-3.ensures)
 
 pub alternatives-returns-in_err-lead-4-clause-refused : goal.alternatives-returns-in_err-lead-4-clause-refused
 alternatives-returns-in_err-lead-4-clause-refused t c =
     handed _ _ c.in_err-lead-4.field-0.0 c.from_residual-in_err-lead-4.ensures.1
     (fourth_lead_refused c.args.how _ _ _ _ _ _ _ c.index-subs-0-2.result c.index-subs-1.result c.args.subs.now
-        (omega arith) c.index-subs-0-2.is c.index-subs-1.is
+    (omega arith) c.index-subs-0-2.is c.index-subs-1.is
     c.in_ok-first.ensures.made c.in_ok-second.ensures.made _ _ _ _ c.in_ok-union.ensures c.in_ok-end.ensures _ _ _ _ _ c.in_ok-lead.ensures
-        c.in_ok-lead-2.ensures c.in_ok-lead-3.ensures c.in_err-lead-4.ensures)
+    c.in_ok-lead-2.ensures c.in_ok-lead-3.ensures c.in_err-lead-4.ensures)
 
 pub alternatives-loop-i-init : goal.alternatives-loop-i-init
 alternatives-loop-i-init t c =
     cases_open c.args.how _ _ _ _ _ _ _ c.index-subs-0-2.result c.index-subs-1.result c.args.subs.now
-        (omega arith) c.index-subs-0-2.is c.index-subs-1.is
+    (omega arith) c.index-subs-0-2.is c.index-subs-1.is
     c.in_ok-first.ensures.made c.in_ok-second.ensures.made _ _ _ _ _ _ _ _ c.in_ok-union.ensures c.in_ok-end.ensures c.in_ok-lead.ensures
-        c.in_ok-lead-2.ensures
+    c.in_ok-lead-2.ensures
     c.in_ok-lead-3.ensures c.in_ok-lead-4.ensures c.in_ok-first.ensures.denotes c.in_ok-second.ensures.denotes c.in_ok-first.ensures.groups
-        c.in_ok-second.ensures.groups
+    c.in_ok-second.ensures.groups
 
 pub alternatives-loop-i-preserved : goal.alternatives-loop-i-preserved
 alternatives-loop-i-preserved t c =
     cases_then c.args.how _ _ _ _ c.loop-i.i c.args.subs.now c.loop-i.invariant _ _ _ _ _ c.index-subs-i.result c.loop-i-test.true
-        c.index-subs-i.is c.in_ok-next.ensures.made c.in_ok-next.ensures.denotes
+    c.index-subs-i.is c.in_ok-next.ensures.made c.in_ok-next.ensures.denotes
     c.in_ok-next.ensures.groups c.in_ok-lead-5.ensures c.in_ok-lead-6.ensures
 
 pub alternatives-compile-requires-in-loop-i : goal.alternatives-compile-requires-in-loop-i
@@ -335,16 +349,16 @@ pub alternatives-returns-in_err-next-clause-refused : goal.alternatives-returns-
 alternatives-returns-in_err-next-clause-refused t c =
     handed _ _ c.in_err-next.field-0.0 c.from_residual-in_err-next.ensures.1
     (cases_refused c.args.how _ _ _ _ c.loop-i.i c.args.subs.now c.loop-i.invariant _ c.index-subs-i.result _ c.loop-i-test.true
-        c.index-subs-i.is c.in_err-next.ensures.refused)
+    c.index-subs-i.is c.in_err-next.ensures.refused)
 
 pub alternatives-returns-in_err-lead-5-clause-refused : goal.alternatives-returns-in_err-lead-5-clause-refused
 alternatives-returns-in_err-lead-5-clause-refused t c =
     handed _ _ c.in_err-lead-5.field-0.0 c.from_residual-in_err-lead-5.ensures.1
     (cases_lead_refused c.args.how _ _ _ _ c.loop-i.i c.args.subs.now c.loop-i.invariant _ _ _ _ c.index-subs-i.result _ c.loop-i-test.true
-        c.index-subs-i.is c.in_ok-next.ensures.made c.in_err-lead-5.ensures)
+    c.index-subs-i.is c.in_ok-next.ensures.made c.in_err-lead-5.ensures)
 
 pub alternatives-returns-in_err-lead-6-clause-refused : goal.alternatives-returns-in_err-lead-6-clause-refused
 alternatives-returns-in_err-lead-6-clause-refused t c =
     handed _ _ c.in_err-lead-6.field-0.0 c.from_residual-in_err-lead-6.ensures.1
     (cases_end_refused c.args.how _ _ _ _ c.loop-i.i c.args.subs.now c.loop-i.invariant _ _ _ _ _ c.index-subs-i.result _ c.loop-i-test.true
-        c.index-subs-i.is c.in_ok-next.ensures.made c.in_ok-lead-5.ensures c.in_err-lead-6.ensures)
+    c.index-subs-i.is c.in_ok-next.ensures.made c.in_ok-lead-5.ensures c.in_err-lead-6.ensures)

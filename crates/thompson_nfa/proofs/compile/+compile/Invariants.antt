@@ -59,7 +59,7 @@ invariant-up_to-loop l = Rounds l.how l.fn.builder l.builder l.first.start l.end
 abbrev pub invariant-owed_and_more-loop : goal.invariant-owed_and_more-loop
 invariant-owed_and_more-loop l =
     Rounds l.how l.fn.builder l.builder l.prefix.start l.end l.exit l.counter l.min l.most
-        (l.min * room l.how.shrink l.x + (l.most - l.min) * (room l.how.shrink l.x + 1) + 1) l.greedy l.x
+    (l.min * room l.how.shrink l.x + (l.most - l.min) * (room l.how.shrink l.x + 1) + 1) l.greedy l.x
 
 abbrev pub invariant-alternatives-loop-i : goal.invariant-alternatives-loop-i
 invariant-alternatives-loop-i l = Cases l.how l.fn.builder l.builder l.union l.end l.i l.subs

@@ -12,7 +12,7 @@ loop-i-init c = (
   omega arith,
   does_first _ _ _ _ _ _ _ (literal_begun c.args.builder.now.reverse c.args.bytes.now _ 0 (omega arith)
       (ap (λ k. get_or c.args.bytes.now k 0) (c.turned_place.ensures.value
-          ∙ ap (λ back. turned_place back 0 (length c.args.bytes.now)) c.get_reverse-reverse.ensures))) c.in_ok-first.ensures.denotes,
+      ∙ ap (λ back. turned_place back 0 (length c.args.bytes.now)) c.get_reverse-reverse.ensures))) c.in_ok-first.ensures.denotes,
 )
 
 pub loop-i-preserved : goal.loop-i-preserved
@@ -23,8 +23,8 @@ loop-i-preserved c = (
   join_does _ _ _ _ _ _ _ _ _ _ c.loop-i.invariant.0 c.in_ok-next.ensures.made c.in_ok-lead.ensures _ _ _ _
       (literal_joins c.args.builder.now.reverse c.args.bytes.now c.loop-i.i _ 0 (omega arith)
       (ap (λ k. get_or c.args.bytes.now k 0) (c.turned_place-in-loop-i.ensures.value
-          ∙ ap (λ back. turned_place back c.loop-i.i (length c.args.bytes.now)) c.get_reverse-reverse.ensures))) c.loop-i.invariant.3
-          c.in_ok-next.ensures.denotes,
+      ∙ ap (λ back. turned_place back c.loop-i.i (length c.args.bytes.now)) c.get_reverse-reverse.ensures))) c.loop-i.invariant.3
+      c.in_ok-next.ensures.denotes,
 )
 
 pub returns-then-bytes-eq0-clause-denotes : goal.returns-then-bytes-eq0-clause-denotes

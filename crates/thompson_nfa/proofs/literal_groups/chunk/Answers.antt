@@ -15,10 +15,10 @@ loop-byte-smaller c =
 pub loop-byte-preserved : goal.loop-byte-preserved
 loop-byte-preserved c =
     chunk_next c.args.first _ (groups_of (λ g. g.items) c.loop-byte.groups.items) c.loop-byte.low c.loop-byte.edges.items
-        (texts c.args.strings.now) c.loop-byte.invariant c.in-Some.byte (sym c.next_byte.ensures ∙ c.in-Some.is) c.edge_by.ensures.within
+    (texts c.args.strings.now) c.loop-byte.invariant c.in-Some.byte (sym c.next_byte.ensures ∙ c.in-Some.is) c.edge_by.ensures.within
     _ _ _ (c.args.first + c.len.result)
     (group_pushed (λ g. g.items) c.loop-byte.groups.items _ c.in_ok-tails.field-0
-        (tails c.in-Some.byte (texts c.args.strings.now)) c.in_ok-push.ensures.items c.in_ok-tails.ensures)
+    (tails c.in-Some.byte (texts c.args.strings.now)) c.in_ok-push.ensures.items c.in_ok-tails.ensures)
     (ap (λ n. n + 1) c.from-low.ensures) (search (arith, c.len.ensures, group_count (λ g. g.items) c.loop-byte.groups.items))
     (c.in_ok-push-2.ensures.items ∙ ap (λ e. c.loop-byte.edges.items ++ e ∷ []) c.edge_by.ensures.is)
 

@@ -5,8 +5,12 @@ use Rattle.thompson_nfa.proofs.literal_nodes.lay.Goals as goal
 
 pub items-requires-clause-some : goal.items-requires-clause-some
 items-requires-clause-some c =
-    omega (arith, c.requires.some, rest_long c.stem-stem.result.now c.args.strings.now c.in_ok-rest.rest.items c.deref.result.now
-        c.stem-stem.ensures c.in_ok-rest.ensures c.deref.ensures.value)
+    omega (
+      arith,
+      c.requires.some,
+      rest_long c.stem-stem.result.now c.args.strings.now c.in_ok-rest.rest.items c.deref.result.now
+          c.stem-stem.ensures c.in_ok-rest.ensures c.deref.ensures.value,
+    )
 
 pub returns : goal.returns
 returns c = record {

@@ -9,4 +9,4 @@ add_sparse-requires c = chunk_ascends c.args.names.now c.args.edges.now _ c.requ
 pub returns-in_err-id-clause-refused : goal.returns-in_err-id-clause-refused
 returns-in_err-id-clause-refused c = handed _ _ c.in_err-id.field-0.0 c.from_residual-in_err-id.ensures.1
     (add_refused _ _ _ 2072 _ c.in_err-id.ensures.0 c.in_err-id.ensures.1
-        (bytes_of_chunk c.args.names.now c.args.edges.now _ c.requires.ascending c.in_ok-all.ensures))
+    (bytes_of_chunk c.args.names.now c.args.edges.now _ c.requires.ascending c.in_ok-all.ensures))

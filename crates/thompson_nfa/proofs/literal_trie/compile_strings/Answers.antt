@@ -16,62 +16,62 @@ loop-i-init c =
 pub add_node-requires-clause-some : goal.add_node-requires-clause-some
 add_node-requires-clause-some c =
     let some = turn_some node_value c.in_ok-laid.laid.items _ _ c.in_ok-end.end
-        (texts c.args.strings.items) c.loop-i.names.items c.deref-in-loop-i.result.now c.loop-i.i _ c.loop-i.invariant c.loop-i-test.true
-        refl c.index.result.now
+    (texts c.args.strings.items) c.loop-i.names.items c.deref-in-loop-i.result.now c.loop-i.i _ c.loop-i.invariant c.loop-i-test.true
+    refl c.index.result.now
     c.index.ensures (map (λ x. x.items) c.deref.result.now) (ap (map (λ x. x.items)) c.deref.ensures.value)
-        c.deref-in-loop-i.ensures.value in
+    c.deref-in-loop-i.ensures.value in
     omega (arith, some, length-map c.deref.result.now (λ x. x.items))
 
 pub add_node-requires-clause-few : goal.add_node-requires-clause-few
 add_node-requires-clause-few c =
     let few = turn_few node_value c.in_ok-laid.laid.items _ _ c.in_ok-end.end
-        (texts c.args.strings.items) c.loop-i.names.items c.deref-in-loop-i.result.now c.loop-i.i _ c.loop-i.invariant c.loop-i-test.true
-        refl c.index.result.now
+    (texts c.args.strings.items) c.loop-i.names.items c.deref-in-loop-i.result.now c.loop-i.i _ c.loop-i.invariant c.loop-i-test.true
+    refl c.index.result.now
     c.index.ensures (map (λ x. x.items) c.deref.result.now) (ap (map (λ x. x.items)) c.deref.ensures.value)
-        c.deref-in-loop-i.ensures.value in
+    c.deref-in-loop-i.ensures.value in
     omega (arith, few, length-map c.deref.result.now (λ x. x.items))
 
 pub add_node-requires-clause-chunks : goal.add_node-requires-clause-chunks
 add_node-requires-clause-chunks c =
     turn_chunks node_value c.in_ok-laid.laid.items _ _ c.in_ok-end.end
-        (texts c.args.strings.items) c.loop-i.names.items c.deref-in-loop-i.result.now c.loop-i.i _ c.loop-i.invariant c.loop-i-test.true
-        refl c.index.result.now
+    (texts c.args.strings.items) c.loop-i.names.items c.deref-in-loop-i.result.now c.loop-i.i _ c.loop-i.invariant c.loop-i-test.true
+    refl c.index.result.now
     c.index.ensures (map (λ x. x.items) c.deref.result.now) (ap (map (λ x. x.items)) c.deref.ensures.value) c.deref-in-loop-i.ensures.value
 
 pub add_text-requires : goal.add_text-requires
 add_text-requires c =
     turn_there node_value c.in_ok-laid.laid.items _ _ c.in_ok-end.end (texts c.args.strings.items) c.loop-i.names.items
-        c.deref-in-loop-i.result.now c.loop-i.i _ c.loop-i.invariant c.loop-i-test.true refl c.index.result.now
+    c.deref-in-loop-i.result.now c.loop-i.i _ c.loop-i.invariant c.loop-i-test.true refl c.index.result.now
     c.index.ensures (map (λ x. x.items) c.deref.result.now) (ap (map (λ x. x.items)) c.deref.ensures.value) c.deref-in-loop-i.ensures.value
-        c.add_node.new.builder c.in_ok-id.id c.in_ok-id.ensures.added
+    c.add_node.new.builder c.in_ok-id.id c.in_ok-id.ensures.added
 
 pub returns-in_err-id-clause-refused : goal.returns-in_err-id-clause-refused
 returns-in_err-id-clause-refused c =
     handed _ _ c.in_err-id.field-0.0 c.from_residual-in_err-id.ensures.1
     (turn_refused node_value c.in_ok-laid.laid.items _ _ c.in_ok-end.end
-        (texts c.args.strings.items) c.loop-i.names.items c.deref-in-loop-i.result.now c.loop-i.i _ c.loop-i.invariant c.loop-i-test.true
-        refl c.index.result.now
+    (texts c.args.strings.items) c.loop-i.names.items c.deref-in-loop-i.result.now c.loop-i.i _ c.loop-i.invariant c.loop-i-test.true
+    refl c.index.result.now
     c.index.ensures (map (λ x. x.items) c.deref.result.now) (ap (map (λ x. x.items)) c.deref.ensures.value) c.deref-in-loop-i.ensures.value
-        _ _ c.in_err-id.ensures.refused)
+    _ _ c.in_err-id.ensures.refused)
 
 pub returns-in_err-start-clause-refused : goal.returns-in_err-start-clause-refused
 returns-in_err-start-clause-refused c =
     handed _ _ c.in_err-start.field-0.0 c.from_residual-in_err-start.ensures.1
     (turn_stem_refused node_value c.in_ok-laid.laid.items _ _ c.in_ok-end.end
-        (texts c.args.strings.items) c.loop-i.names.items c.deref-in-loop-i.result.now c.loop-i.i _ c.loop-i.invariant c.loop-i-test.true
-        refl c.index.result.now
+    (texts c.args.strings.items) c.loop-i.names.items c.deref-in-loop-i.result.now c.loop-i.i _ c.loop-i.invariant c.loop-i-test.true
+    refl c.index.result.now
     c.index.ensures (map (λ x. x.items) c.deref.result.now) (ap (map (λ x. x.items)) c.deref.ensures.value) c.deref-in-loop-i.ensures.value
-        c.add_node.new.builder c.in_ok-id.id c.in_ok-id.ensures.added c.index-in-loop-i.result.now c.index-in-loop-i.ensures _ _
-        c.in_err-start.ensures.refused)
+    c.add_node.new.builder c.in_ok-id.id c.in_ok-id.ensures.added c.index-in-loop-i.result.now c.index-in-loop-i.ensures _ _
+    c.in_err-start.ensures.refused)
 
 pub loop-i-preserved : goal.loop-i-preserved
 loop-i-preserved c =
     turn_compiled node_value c.in_ok-laid.laid.items _ _ c.in_ok-end.end
-        (texts c.args.strings.items) c.loop-i.names.items c.deref-in-loop-i.result.now c.loop-i.i _ c.loop-i.invariant c.loop-i-test.true
-        refl c.index.result.now
+    (texts c.args.strings.items) c.loop-i.names.items c.deref-in-loop-i.result.now c.loop-i.i _ c.loop-i.invariant c.loop-i-test.true
+    refl c.index.result.now
     c.index.ensures (map (λ x. x.items) c.deref.result.now) (ap (map (λ x. x.items)) c.deref.ensures.value) c.deref-in-loop-i.ensures.value
-        c.add_node.new.builder c.in_ok-id.id c.in_ok-id.ensures.added c.index-in-loop-i.result.now c.index-in-loop-i.ensures
-        c.add_text.new.builder c.in_ok-start.start c.in_ok-start.ensures.added
+    c.add_node.new.builder c.in_ok-id.id c.in_ok-id.ensures.added c.index-in-loop-i.result.now c.index-in-loop-i.ensures
+    c.add_text.new.builder c.in_ok-start.start c.in_ok-start.ensures.added
 
 pub returns-clause-made : goal.returns-clause-made
 returns-clause-made c = all_made _ _ c.in_ok-end.end _ (texts c.args.strings.items) c.loop-i.names.items c.loop-i.i c.loop-i.invariant

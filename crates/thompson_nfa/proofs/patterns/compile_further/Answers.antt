@@ -9,14 +9,14 @@ loop-expr-init c = further_none c.args.how c.args.union c.args.builder.now c.req
 pub returns-in_err-start-clause-refused : goal.returns-in_err-start-clause-refused
 returns-in_err-start-clause-refused c = handed _ _ c.in_err-start.field-0.0 c.from_residual.ensures.1
     (pattern_refused c.args.how c.args.union c.args.builder.now c.loop-expr.builder c.compile_pattern.new.builder c.args.exprs.now
-        c.loop-expr.expr-index c.expr-item.result (omega arith) c.expr-item.is c.requires.there c.loop-expr.invariant _
-        c.in_err-start.ensures.refused)
+    c.loop-expr.expr-index c.expr-item.result (omega arith) c.expr-item.is c.requires.there c.loop-expr.invariant _
+    c.in_err-start.ensures.refused)
 
 pub returns-in_err-lead-clause-refused : goal.returns-in_err-lead-clause-refused
 returns-in_err-lead-clause-refused c = handed _ _ c.in_err-lead.field-0.0 c.from_residual-in_err-lead.ensures.1
     (union_refused c.args.how c.args.union c.args.builder.now c.loop-expr.builder c.compile_pattern.new.builder c.args.exprs.now
-        c.loop-expr.expr-index c.expr-item.result (omega arith) c.expr-item.is c.requires.there c.loop-expr.invariant _ _ _
-        c.in_ok-start.ensures.has c.in_err-lead.ensures)
+    c.loop-expr.expr-index c.expr-item.result (omega arith) c.expr-item.is c.requires.there c.loop-expr.invariant _ _ _
+    c.in_ok-start.ensures.has c.in_err-lead.ensures)
 
 pub loop-expr-preserved : goal.loop-expr-preserved
 loop-expr-preserved c = further_next c.args.how c.args.union c.args.builder.now c.loop-expr.builder c.compile_pattern.new.builder

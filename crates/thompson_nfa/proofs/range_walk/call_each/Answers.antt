@@ -22,5 +22,5 @@ returns-in-Err-clause-err g c =
     let met = subst (λ r. g.F.FnMut.steps c.loop-path.f (c.deref.result, tt) r c.f.new.self) c.in-Err.is c.f.ensures.met in
     let step : goal.F-step g c.loop-path.f c.deref.result (Err c.in-Err.error) c.f.new.self = record { met = met } in
     c.loop-path.invariant.up_to c.in-Err.error (calls_refused {E = g.row.E.Denot}
-        (goal.F-step g) c.loop-path.f c.f.new.self c.loop-path.rest.now c.in-Some.others.now c.in-Some.path.now c.in-Some.ensures.cases.0
-        c.deref.result c.deref.ensures.value c.in-Err.error step)
+    (goal.F-step g) c.loop-path.f c.f.new.self c.loop-path.rest.now c.in-Some.others.now c.in-Some.path.now c.in-Some.ensures.cases.0
+    c.deref.result c.deref.ensures.value c.in-Err.error step)

@@ -7,17 +7,23 @@ pub loop-range-init : goal.loop-range-init
 loop-range-init c = no_range _ _ _ _ _ c.args.ranges.now c.requires.ascending c.in_ok-begin.ensures.begun
 
 pub add_sequences-requires-clause-order : goal.add_sequences-requires-clause-order
-add_sequences-requires-clause-order c = range_follows _ _ _ _ _ c.loop-range.range-index c.args.ranges.now (0,
-    0) c.loop-range.invariant c.loop-range-test.true
+add_sequences-requires-clause-order c = range_follows _ _ _ _ _ c.loop-range.range-index c.args.ranges.now (
+  0,
+  0,
+) c.loop-range.invariant c.loop-range-test.true
 
 pub returns-in_err-add_sequences-clause-refused : goal.returns-in_err-add_sequences-clause-refused
 returns-in_err-add_sequences-clause-refused c = handed _ _ c.in_err-add_sequences.field-0.0 c.from_residual-in_err-add_sequences.ensures.1
-    (range_refused _ _ _ _ _ c.loop-range.range-index c.args.ranges.now (0,
-        0) c.loop-range.invariant c.loop-range-test.true _ _ c.in_err-add_sequences.ensures.refused)
+    (range_refused _ _ _ _ _ c.loop-range.range-index c.args.ranges.now (
+      0,
+      0,
+    ) c.loop-range.invariant c.loop-range-test.true _ _ c.in_err-add_sequences.ensures.refused)
 
 pub loop-range-preserved : goal.loop-range-preserved
-loop-range-preserved c = next_range _ _ _ _ _ c.loop-range.range-index c.args.ranges.now (0,
-    0) c.loop-range.invariant c.loop-range-test.true _ _ _ _ c.in_ok-add_sequences.ensures.added
+loop-range-preserved c = next_range _ _ _ _ _ c.loop-range.range-index c.args.ranges.now (
+  0,
+  0,
+) c.loop-range.invariant c.loop-range-test.true _ _ _ _ c.in_ok-add_sequences.ensures.added
 
 pub returns-in_err-whole-clause-refused : goal.returns-in_err-whole-clause-refused
 returns-in_err-whole-clause-refused c =

@@ -12,7 +12,7 @@ last_range-requires-clause-rising c = last_rising _ _ _ c.as_slice-ranges.ensure
 pub returns-in_err-first-clause-refused : goal.returns-in_err-first-clause-refused
 returns-in_err-first-clause-refused c = handed _ _ c.in_err-first.field-0.0 c.from_residual-in_err-first.ensures.1
     (last_refused _ _ _ _ _ _ _ _ _ c.in_ok-next.ensures.shared (others_few _ _ c.as_slice-ranges.ensures c.requires.few)
-        c.in_err-first.ensures.refused)
+    c.in_err-first.ensures.refused)
 
 pub lead-requires-clause-from : goal.lead-requires-clause-from
 lead-requires-clause-from c = still_there _ _ _ _ _ _ _ _ _ _ _ c.in_ok-next.ensures.shared c.in_ok-first.ensures.added c.args.choice
@@ -25,4 +25,4 @@ lead-requires-clause-kind c = still_kind _ _ _ _ _ _ _ _ _ _ _ c.in_ok-next.ensu
 pub returns-in_err-lead-clause-refused : goal.returns-in_err-lead-clause-refused
 returns-in_err-lead-clause-refused c = handed _ _ c.in_err-lead.field-0.0 c.from_residual-in_err-lead.ensures.1
     (way_refused _ _ _ _ _ _ _ _ _ _ _ c.in_ok-next.ensures.shared c.in_ok-first.ensures.added _ _
-        (others_few _ _ c.as_slice-ranges.ensures c.requires.few) c.in_err-lead.ensures)
+    (others_few _ _ c.as_slice-ranges.ensures c.requires.few) c.in_err-lead.ensures)

@@ -33,7 +33,7 @@ returns-in_err-add_sequence_reverse-clause-capacity c = c.in_err-add_sequence_re
 pub returns-in_err-add_sequence_reverse-clause-refused : goal.returns-in_err-add_sequence_reverse-clause-refused
 returns-in_err-add_sequence_reverse-clause-refused c = handed _ _ c.in_err-add_sequence_reverse.field-0.0 c.from_residual.ensures.1
     (met_refused _ _ _ _ _ _ c.args.first c.args.last _ c.loop-sequence.invariant _ _ c.in-Some.ensures.steps _ _
-        c.in_err-add_sequence_reverse.ensures.refused)
+    c.in_err-add_sequence_reverse.ensures.refused)
 
 pub returns-clause-capacity : goal.returns-clause-capacity
 returns-clause-capacity c = met_capacity _ _ _ _ _ _ c.args.first c.args.last _ c.loop-sequence.invariant

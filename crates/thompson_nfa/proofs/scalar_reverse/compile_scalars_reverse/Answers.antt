@@ -9,13 +9,17 @@ loop-range-init c = reverse_begun _ _ _ _ _ _ _ c.args.ranges.now c.in_ok-clear.
 pub returns-in_err-add_sequences_reverse-clause-refused : goal.returns-in_err-add_sequences_reverse-clause-refused
 returns-in_err-add_sequences_reverse-clause-refused c = handed _ _ c.in_err-add_sequences_reverse.field-0.0
     c.from_residual-in_err-add_sequences_reverse.ensures.1
-    (range_refused _ _ _ _ c.loop-range.range-index c.args.ranges.now (0,
-        0) c.loop-range.invariant.met c.loop-range-test.true _ _ c.in_err-add_sequences_reverse.ensures.refused)
+    (range_refused _ _ _ _ c.loop-range.range-index c.args.ranges.now (
+      0,
+      0,
+    ) c.loop-range.invariant.met c.loop-range-test.true _ _ c.in_err-add_sequences_reverse.ensures.refused)
 
 pub loop-range-preserved : goal.loop-range-preserved
 loop-range-preserved c =
-    reverse_next _ _ _ _ _ _ c.loop-range.range-index c.args.ranges.now c.loop-range.invariant (0,
-        0) c.loop-range-test.true c.requires.reverse _ _ c.in_ok-add_sequences_reverse.ensures.added
+    reverse_next _ _ _ _ _ _ c.loop-range.range-index c.args.ranges.now c.loop-range.invariant (
+      0,
+      0,
+    ) c.loop-range-test.true c.requires.reverse _ _ c.in_ok-add_sequences_reverse.ensures.added
 
 pub returns-clause-made : goal.returns-clause-made
 returns-clause-made c = ranges_made _ _ _ _ c.loop-range.range-index c.args.ranges.now c.loop-range.invariant.met c.loop-range-test.false

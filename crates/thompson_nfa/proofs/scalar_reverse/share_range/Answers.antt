@@ -4,5 +4,7 @@ use Rattle.thompson_nfa.specs.declared.utf8_suffix_map.Utf8SuffixKey.{Utf8Suffix
 use Rattle.thompson_nfa.proofs.scalar_reverse.share_range.Goals as goal
 
 pub returns-in-Some-clause-shared : goal.returns-in-Some-clause-shared
-returns-in-Some-clause-shared c = finds_state _ (c.in-Some.ensures ∙ ap (λ (k : Utf8SuffixKey). Some (k,
-    c.in-Some.id)) c.key_of-key.ensures) refl refl
+returns-in-Some-clause-shared c = finds_state _ (c.in-Some.ensures ∙ ap (λ (k : Utf8SuffixKey). Some (
+  k,
+  c.in-Some.id,
+)) c.key_of-key.ensures) refl refl

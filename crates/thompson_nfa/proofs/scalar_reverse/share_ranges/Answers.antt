@@ -27,8 +27,11 @@ returns-in_err-next-clause-refused c = handed _ _ c.in_err-next.field-0.0 c.from
 
 pub loop-place-preserved : goal.loop-place-preserved
 loop-place-preserved c = let less = c.loop-place-test.true in let within = c.requires.within in
-    next_shared _ _ _ _ _ _ c.loop-place.place c.args.ranges.now c.loop-place.invariant _ _ _ _ (omega (arith, less,
-    within)) c.in_ok-next.ensures.shared
+    next_shared _ _ _ _ _ _ c.loop-place.place c.args.ranges.now c.loop-place.invariant _ _ _ _ (omega (
+      arith,
+      less,
+      within,
+    )) c.in_ok-next.ensures.shared
 
 pub returns-clause-capacity : goal.returns-clause-capacity
 returns-clause-capacity c = capacity_up_to _ _ _ _ _ _ _ _ c.loop-place.invariant

@@ -24,13 +24,13 @@ add-requires-clause-few c = path_few c.args.paths.now c.loop-path.path-index c.p
 pub add-requires-clause-bytes : goal.add-requires-clause-bytes
 add-requires-clause-bytes c =
     path_bytes c.args.paths.now c.loop-path.path-index c.path-item.result c.deref.result.now c.loop-path-test.true c.path-item.is
-        c.deref.ensures.value c.requires.ascending c.requires.short
+    c.deref.ensures.value c.requires.ascending c.requires.short
 
 pub add-requires-clause-after : goal.add-requires-clause-after
 add-requires-clause-after c =
     subst (λ p. ComesAfter p (map bytes_of c.deref.result.now)) (sym c.loop-path.invariant.path)
     (path_after c.args.paths.now c.loop-path.path-index c.path-item.result c.deref.result.now c.loop-path-test.true c.path-item.is
-        c.deref.ensures.value c.requires.ascending)
+    c.deref.ensures.value c.requires.ascending)
 
 pub add-requires-clause-rising : goal.add-requires-clause-rising
 add-requires-clause-rising c = c.loop-path.invariant.rising
@@ -42,16 +42,18 @@ pub loop-path-preserved : goal.loop-path-preserved
 loop-path-preserved c =
     subst (IsCompiling c.args.builder.now c.add.new.builder c.add.new.state.end c.add.new.state.compiled c.add.new.state.nodes.items)
     (sym (paths_more c.args.paths.now c.loop-path.path-index c.path-item.result c.deref.result.now c.loop-path-test.true c.path-item.is
-        c.deref.ensures.value))
+    c.deref.ensures.value))
     (c.in_ok-add.ensures.added c.args.builder.now _ c.loop-path.invariant)
 
 pub returns-in_err-add-clause-refused : goal.returns-in_err-add-clause-refused
 returns-in_err-add-clause-refused c =
     let fits = next_fits c.args.paths.now c.loop-path.path-index c.path-item.result c.deref.result.now c.loop-path-test.true c.path-item.is
-        c.deref.ensures.value in
+    c.deref.ensures.value in
     handed _ _ c.in_err-add.field-0.0 c.from_residual-in_err-add.ensures.1
-    (quits_more (2 + 4 * length (take c.loop-path.path-index (paths_of c.args.paths.now))) (2 + 4 * length c.args.paths.now) (omega (arith,
-        fits))
+    (quits_more (2 + 4 * length (take c.loop-path.path-index (paths_of c.args.paths.now))) (2 + 4 * length c.args.paths.now) (omega (
+      arith,
+      fits,
+    ))
     (c.in_err-add.ensures.refused c.args.builder.now _ c.loop-path.invariant))
 
 pub finish-requires-clause-rising : goal.finish-requires-clause-rising
@@ -64,20 +66,22 @@ pub returns-in_err-all-clause-refused : goal.returns-in_err-all-clause-refused
 returns-in_err-all-clause-refused c =
     let count = paths_counted c.args.paths.now c.loop-path.path-index c.loop-path-test.false in
     handed _ _ c.in_err-all.field-0.0 c.from_residual-in_err-all.ensures.1
-    (quits_more (2 + 4 * length (take c.loop-path.path-index (paths_of c.args.paths.now))) (2 + 4 * length c.args.paths.now) (omega (arith,
-        count))
+    (quits_more (2 + 4 * length (take c.loop-path.path-index (paths_of c.args.paths.now))) (2 + 4 * length c.args.paths.now) (omega (
+      arith,
+      count,
+    ))
     (c.in_err-all.ensures.refused c.args.builder.now _ c.loop-path.invariant))
 
 pub returns-clause-made : goal.returns-clause-made
 returns-clause-made c =
     subst (λ (n : ℕ). Makes c.args.builder.now c.finish.new.builder c.in_ok-all.all.start c.in_ok-all.all.end (2 + 4 * n))
-        (paths_counted c.args.paths.now c.loop-path.path-index c.loop-path-test.false)
+    (paths_counted c.args.paths.now c.loop-path.path-index c.loop-path-test.false)
     (c.in_ok-all.ensures.closed c.args.builder.now _ c.loop-path.invariant).0
 
 pub returns-clause-does : goal.returns-clause-does
 returns-clause-does c =
     subst (λ (qs : List (List (ℕ × ℕ))). Does c.args.builder.now c.finish.new.builder c.in_ok-all.all.start c.in_ok-all.all.end
-        (alternation (map (read_tree c.args.builder.now.reverse) qs)))
+    (alternation (map (read_tree c.args.builder.now.reverse) qs)))
     (paths_whole c.args.paths.now c.loop-path.path-index c.loop-path-test.false)
     (c.in_ok-all.ensures.closed c.args.builder.now _ c.loop-path.invariant).1
 

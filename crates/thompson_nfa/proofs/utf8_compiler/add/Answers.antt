@@ -14,8 +14,11 @@ returns-then-is_empty-clause-added c = λ old qs i.
     let few : length c.args.ranges.now ≤ 4 = c.requires.few in
     let none : length c.args.state.now.nodes.items ≡ 0 = grind (arith, c.is_empty.ensures, c.if-is_empty.true) in
     compiling_as _ _ _ _ _ _ _ _ c.push_nodes.ensures.end c.push_nodes.ensures.compiled
-    (sequence_first _ _ _ _ _ _ _ i (empty_by _ none) q (omega (arith, long, some)) c.requires.bytes (omega (arith, long,
-        few)) c.in_ok-push_nodes.ensures.nodes)
+    (sequence_first _ _ _ _ _ _ _ i (empty_by _ none) q (omega (arith, long, some)) c.requires.bytes (omega (
+      arith,
+      long,
+      few,
+    )) c.in_ok-push_nodes.ensures.nodes)
 
 pub returns-clause-added : goal.returns-clause-added
 returns-clause-added c = λ old qs i.
@@ -26,7 +29,7 @@ returns-clause-added c = λ old qs i.
     compiling_as _ _ _ _ _ _ _ _ (c.push_nodes-2.ensures.end ∙ c.turn.ensures.end) c.push_nodes-2.ensures.compiled
     (sequence_turned _ _ _ _ _ _ _ _ _ qs q _ at.result i c.in_ok-turn.ensures.turns at.ensures.parts
     (parts_range _ q c.args.ranges.now _ (record { start = 0; end = 0 }) at.result refl at.ensures.inside refl at.ensures.parts)
-        c.requires.bytes (omega (arith, long, few)) c.in_ok-push_nodes-2.ensures.nodes
+    c.requires.bytes (omega (arith, long, few)) c.in_ok-push_nodes-2.ensures.nodes
     c.in_ok-turn.ensures.keeps)
 
 pub returns-in_err-push_nodes-clause-refused : goal.returns-in_err-push_nodes-clause-refused

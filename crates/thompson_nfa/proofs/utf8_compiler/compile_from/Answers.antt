@@ -12,6 +12,7 @@ returns-in_err-next-clause-refused c = handed _ _ c.in_err-next.field-0.0 c.from
 
 pub loop-count-preserved : goal.loop-count-preserved
 loop-count-preserved c =
-    let i = c.loop-count.invariant in
-    (one_popped _ _ _ _ _ _ _ _ _ _ _ _ _ _ i.1 i.0 c.in_ok-next.ensures.top c.in_ok-next.ensures.rising c.in_ok-next.ensures.keeps,
-        c.compile_top.ensures.end ∙ i.1)
+    let i = c.loop-count.invariant in (
+      one_popped _ _ _ _ _ _ _ _ _ _ _ _ _ _ i.1 i.0 c.in_ok-next.ensures.top c.in_ok-next.ensures.rising c.in_ok-next.ensures.keeps,
+      c.compile_top.ensures.end ∙ i.1,
+    )

@@ -8,7 +8,7 @@ pub returns-then-is_empty-clause-closed : goal.returns-then-is_empty-clause-clos
 returns-then-is_empty-clause-closed c = λ old qs i.
     let none : length c.args.state.now.nodes.items ≡ 0 = grind (arith, c.is_empty.ensures, c.if-is_empty.true) in
     let x = none_closed _ _ _ _ _ _ _ i c.in_ok-start.start _ (empty_by _ none)
-        (ap (map range_of) c.new.ensures.items) c.in_ok-start.ensures.compiled in
+    (ap (map range_of) c.new.ensures.items) c.in_ok-start.ensures.compiled in
     (closed_made _ _ _ _ _ _ x, closed_does _ _ _ _ _ _ x, closed_groups _ _ _ _ _ _ x)
 
 pub returns-clause-closed : goal.returns-clause-closed

@@ -6,5 +6,5 @@ use Rattle.thompson_nfa.proofs.utf8_compiler.push_nodes.Given as goal
 abbrev pub invariant-loop-i : goal.invariant-loop-i
 invariant-loop-i l =
     (l.state.nodes.items ++ map fresh (drop l.i (map bytes_of l.ranges)) ≡ l.fn.state.nodes.items
-        ++ map fresh (drop l.from (map bytes_of l.ranges)))
+    ++ map fresh (drop l.from (map bytes_of l.ranges)))
     × (l.state.compiled ≡ l.fn.state.compiled) × (l.state.end ≡ l.fn.state.end)

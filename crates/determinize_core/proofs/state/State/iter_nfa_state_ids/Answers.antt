@@ -9,7 +9,7 @@ ids_start-start-requires c = is_encoded c.args.self.now _ c.as_bytes-bytes.ensur
 pub new-requires : goal.new-requires
 new-requires c =
     ids_all c.args.self.now _ c.as_bytes-bytes.ensures.state (ids_slice c.args.self.now c.as_bytes-bytes.result.now c.ids_start-start.result
-        c.as_bytes-bytes.ensures.state c.as_bytes-bytes.ensures.value c.ids_start-start.ensures.value)
+    c.as_bytes-bytes.ensures.state c.as_bytes-bytes.ensures.value c.ids_start-start.ensures.value)
 
 pub returns : goal.returns
 returns c = c.new.ensures ∙ ids_slice c.args.self.now c.as_bytes-bytes.result.now c.ids_start-start.result c.as_bytes-bytes.ensures.state

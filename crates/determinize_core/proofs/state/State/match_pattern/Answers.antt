@@ -14,8 +14,12 @@ number_at-requires c = pattern_within c.args.self.now c.as_bytes-bytes.result.no
     (sym c.has_flag.ensures ∙ c.if-has_flag.true) c.requires
 
 pub must-requires : goal.must-requires
-must-requires c = omega (arith, c.number_at.ensures, pattern_index c.args.self.now c.as_bytes-bytes.result.now c.args.index
-    c.as_bytes-bytes.ensures.state c.as_bytes-bytes.ensures.value (sym c.has_flag.ensures ∙ c.if-has_flag.true) c.requires)
+must-requires c = omega (
+  arith,
+  c.number_at.ensures,
+  pattern_index c.args.self.now c.as_bytes-bytes.result.now c.args.index
+      c.as_bytes-bytes.ensures.state c.as_bytes-bytes.ensures.value (sym c.has_flag.ensures ∙ c.if-has_flag.true) c.requires,
+)
 
 pub returns-then-has_flag : goal.returns-then-has_flag
 returns-then-has_flag c = c.must.ensures ∙ (c.number_at.ensures ∙ pattern_told c.args.self.now c.as_bytes-bytes.result.now c.args.index

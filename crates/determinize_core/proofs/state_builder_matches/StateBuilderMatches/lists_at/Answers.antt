@@ -13,6 +13,6 @@ pub returns : goal.returns
 returns c =
     let within : c.args.position < length c.args.self.now.matches = omega (arith, c.count.ensures, c.if-position-count.false) in
     let there = pattern_built c.args.self.now c.self.inside.bytes.items c.self.view_is c.self.invariant.0 c.requires c.args.position
-        within in
+    within in
     reads_at c.args.self.now.matches c.args.position c.args.pid c.number_at.result c.as_u32.result within
     (c.number_at.ensures ∙ (ap (number_at (13 + 4 * c.args.position)) c.deref.ensures.value ∙ there)) c.as_u32.ensures.value

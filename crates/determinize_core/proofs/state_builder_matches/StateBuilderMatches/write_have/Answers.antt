@@ -7,12 +7,12 @@ use Rattle.determinize_core.proofs.state_builder_matches.StateBuilderMatches.wri
 pub invariant_of-self : goal.invariant_of-self
 invariant_of-self c =
     let kept = keeps_have_unfinished c.self.inside.bytes.items c.write_number.new.bytes.items c.bits.result c.self.invariant.0
-        c.bits.ensures.in_range c.write_number.ensures in
+    c.bits.ensures.in_range c.write_number.ensures in
     (kept.0, noted_same c.self.inside.positions.noted.items _ _ (ap (λ (v : StateValue). v.matches) kept.1) c.self.invariant.1)
 
 pub returns : goal.returns
 returns c =
     let kept = keeps_have_unfinished c.self.inside.bytes.items c.write_number.new.bytes.items c.bits.result c.self.invariant.0
-        c.bits.ensures.in_range c.write_number.ensures in
+    c.bits.ensures.in_range c.write_number.ensures in
     kept.1 ∙ (ap (λ (v : StateValue). record v { look_have = c.bits.result }) c.self.view_is
-        ∙ ap (λ (n : ℕ). record c.args.self.now { look_have = n }) c.bits.ensures.value)
+    ∙ ap (λ (n : ℕ). record c.args.self.now { look_have = n }) c.bits.ensures.value)

@@ -11,26 +11,39 @@ invariant_of-self-in_err-reserve-4 c = rw (c.reserve.ensures.items, c.reserve-2.
     (IsKept-same _ _ _ _ c.self.invariant.0 c.in_err-reserve-4.ensures.err, c.self.invariant.1)
 
 abbrev value : goal.After-self-2-1 → CacheValue
-value c = record { states = c.self.inside.states.items; ids = c.self.inside.ids.items; cells = c.self.inside.cells.items;
-    starts = c.self.inside.starts.items; stride = c.self.inside.stride; fresh = c.self.inside.fresh; bound = c.self.inside.workspace;
-    clears = c.self.inside.clears; searched = c.self.inside.searched; progress = c.self.inside.progress; classes = c.self.inside.classes }
+value c = record {
+  states = c.self.inside.states.items;
+  ids = c.self.inside.ids.items;
+  cells = c.self.inside.cells.items;
+  starts = c.self.inside.starts.items;
+  stride = c.self.inside.stride;
+  fresh = c.self.inside.fresh;
+  bound = c.self.inside.workspace;
+  clears = c.self.inside.clears;
+  searched = c.self.inside.searched;
+  progress = c.self.inside.progress;
+  classes = c.self.inside.classes;
+}
 
 parts : (c : goal.After-self-2-1) →
-    record (value c) { states = c.push.new.self.items; ids = c.push-2.new.self.items;
-        cells = c.resize.new.self.items } ≡ with_state c.args.is_start c.args.state (value c)
+    record (value c) {
+      states = c.push.new.self.items;
+      ids = c.push-2.new.self.items;
+      cells = c.resize.new.self.items;
+    } ≡ with_state c.args.is_start c.args.state (value c)
 parts c =
     let v = value c in
     let at : c.len-at.result ≡ length c.self.inside.cells.items = c.len-at.ensures ∙ c.self.inside.cells.ok.0 in
     let now : vec_len c.reserve.new.self ≡ length c.self.inside.cells.items = c.reserve.ensures.len ∙ c.self.inside.cells.ok.0 in
     added_parts v c.args.is_start c.args.state c.in_ok-copy.copy c.id_of-id.result c.push.new.self.items c.push-2.new.self.items
-        c.resize.new.self.items
+    c.resize.new.self.items
     (rw (← c.reserve-2.ensures.items) c.in_ok-push.ensures.items)
     c.in_ok-copy.ensures.cases
     (rw (← c.reserve-3.ensures.items) c.in_ok-push-2.ensures.items)
     (c.id_of-id.ensures ∙ (ap (λ (b : Bool). tagged c.args.is_start b c.len-at.result) c.is_match.ensures
-        ∙ ap (tagged c.args.is_start (is_match c.args.state.matches)) at))
+    ∙ ap (tagged c.args.is_start (is_match c.args.state.matches)) at))
     (rw (c.in_ok-resize.ensures.items, c.reserve.ensures.items, c.unknown.ensures)
-        (resized c.self.inside.cells.items c.len-at.result (vec_len c.reserve.new.self) c.self.inside.stride unknown_id at now))
+    (resized c.self.inside.cells.items c.len-at.result (vec_len c.reserve.new.self) c.self.inside.stride unknown_id at now))
 
 pub invariant_of-self-2 : goal.invariant_of-self-2
 invariant_of-self-2 c =
@@ -39,7 +52,7 @@ invariant_of-self-2 c =
       subst (λ (w : CacheValue). IsKept w c.insert.new.self (c.self.inside.used +
           (4 * c.self.inside.stride + 16 + 20 + c.memory_usage.result))) (sym (parts c))
           (IsKept-added v c.self.inside.rows c.insert.new.self c.self.inside.used c.len-k.result
-              (4 * c.self.inside.stride + 16 + 20 + c.memory_usage.result) c.args.is_start c.args.state
+          (4 * c.self.inside.stride + 16 + 20 + c.memory_usage.result) c.args.is_start c.args.state
           c.self.invariant.0
           (subst IsState c.state.view_is c.state.invariant.state)
           (rw (← c.self.view_is) at c.requires.fresh)
@@ -47,7 +60,7 @@ invariant_of-self-2 c =
           k
           (ap (λ (n : ℕ). 4 * v.stride + 16 + 20 + n) c.memory_usage.ensures)
           (λ q. c.in_ok-insert.ensures.updates.0 q ∙ ap (cond (same c.args.state q) (Some c.len-k.result))
-              (c.in_ok-reserve-4.ensures.entries.2 q))),
+          (c.in_ok-reserve-4.ensures.entries.2 q))),
       λ low. absurd (omega (arith, low, c.forgotten-self-inside.ensures)),
     )
 

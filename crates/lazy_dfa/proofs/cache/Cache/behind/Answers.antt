@@ -10,7 +10,7 @@ use Rattle.lazy_dfa.proofs.cache.Cache.behind.Goals as goal
 pub next_in-requires-clause-state : goal.next_in-requires-clause-state
 next_in-requires-clause-state g c = subst (IsStepped c.args.nfa.now.automaton)
     (sym (read_state c.self.inside.states.items c.args.self.now c.args.k c.index.result.now
-        (ap (λ (v : CacheValue). v.states) c.self.view_is) c.index.ensures c.requires.row))
+    (ap (λ (v : CacheValue). v.states) c.self.view_is) c.index.ensures c.requires.row))
     c.requires.stepped
 
 pub returns-clause-value : goal.returns-clause-value
@@ -18,4 +18,4 @@ returns-clause-value g c =
     c.in_ok-behind.ensures.value
     ∙ ap (λ (s : StateValue). step_value c.args.nfa.now.automaton c.args.nfa.now.terminator c.args.kind s (unit_byte c.args.unit))
     (read_state c.self.inside.states.items c.args.self.now c.args.k c.index.result.now
-        (ap (λ (v : CacheValue). v.states) c.self.view_is) c.index.ensures c.requires.row)
+    (ap (λ (v : CacheValue). v.states) c.self.view_is) c.index.ensures c.requires.row)

@@ -6,6 +6,6 @@ pub invariant_of-self : goal.invariant_of-self
 invariant_of-self c = (
   rw (c.clear-2.ensures.items, c.clear-3.ensures.items, c.truncate.ensures.items)
       (IsKept-cleared _ _ c.clear.new.self _ c.saturating_add-self-inside.result c.fill.new.self.items c.begun_anew-self-inside.result
-          c.self.invariant.0 c.clear.ensures.empty),
+      c.self.invariant.0 c.clear.ensures.empty),
   λ low. absurd (omega (arith, low, c.new-self-inside.ensures)),
 )

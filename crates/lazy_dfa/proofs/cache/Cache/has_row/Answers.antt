@@ -14,7 +14,7 @@ returns-then-row-lt3 c = (
 pub returns-then-k-len : goal.returns-then-k-len
 returns-then-k-len c =
     let count : c.len.result ≡ length c.args.self.now.states = c.len.ensures
-        ∙ (c.self.inside.states.ok.0 ∙ ap (λ (v : CacheValue). length v.states) c.self.view_is) in (
+    ∙ (c.self.inside.states.ok.0 ∙ ap (λ (v : CacheValue). length v.states) c.self.view_is) in (
       λ e. absurd (true≢false (sym e)),
       λ x. absurd (no_high_row c.args.self.now c.args.id c.bits.result c.stride-stride.result c.stride-stride.ensures.shape c.bits.ensures
           c.stride-stride.ensures.stride _ refl
@@ -24,10 +24,13 @@ returns-then-k-len c =
 pub returns : goal.returns
 returns c =
     let count : c.len.result ≡ length c.args.self.now.states = c.len.ensures
-        ∙ (c.self.inside.states.ok.0 ∙ ap (λ (v : CacheValue). length v.states) c.self.view_is) in (
-      λ t. (c.bits.result % 0x800_0000 / c.stride-stride.result - 3, omega (arith, c.if-k-len.false, count),
-          sym ((Decides-eqb c.id-held.result c.args.id).0 (sym c.eq.ensures ∙ t)) ∙ c.id-held.ensures),
+    ∙ (c.self.inside.states.ok.0 ∙ ap (λ (v : CacheValue). length v.states) c.self.view_is) in (
+      λ t. (
+        c.bits.result % 0x800_0000 / c.stride-stride.result - 3,
+        omega (arith, c.if-k-len.false, count),
+        sym ((Decides-eqb c.id-held.result c.args.id).0 (sym c.eq.ensures ∙ t)) ∙ c.id-held.ensures,
+      ),
       λ x. c.eq.ensures ∙ (Decides-eqb c.id-held.result c.args.id).1
           (c.id-held.ensures ∙ only_row c.args.self.now c.args.id c.bits.result c.stride-stride.result c.stride-stride.ensures.shape
-              c.bits.ensures c.stride-stride.ensures.stride _ refl x),
+          c.bits.ensures c.stride-stride.ensures.stride _ refl x),
     )

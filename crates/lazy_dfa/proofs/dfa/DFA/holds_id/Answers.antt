@@ -5,16 +5,25 @@ use Rattle.lazy_dfa.specs.Steps.{IsHeld}
 use Rattle.lazy_dfa.proofs.dfa.DFA.holds_id.Goals as goal
 
 pub returns-then-eq : goal.returns-then-eq
-returns-then-eq c = (λ t. inl ((Decides-eqb c.args.id c.unknown-unknown.result).0 (sym c.eq.ensures ∙ c.if-eq.true)
-    ∙ c.unknown-unknown.ensures), λ x. refl)
+returns-then-eq c = (
+  λ t. inl ((Decides-eqb c.args.id c.unknown-unknown.result).0 (sym c.eq.ensures ∙ c.if-eq.true)
+      ∙ c.unknown-unknown.ensures),
+  λ x. refl,
+)
 
 pub returns-then-eq-2 : goal.returns-then-eq-2
-returns-then-eq-2 c = (λ t. inr (inl ((Decides-eqb c.args.id c.dead-dead.result).0 (sym c.eq-2.ensures ∙ c.if-eq-2.true)
-    ∙ (c.dead-dead.ensures ∙ ap dead_id c.stride-stride.ensures.stride))), λ x. refl)
+returns-then-eq-2 c = (
+  λ t. inr (inl ((Decides-eqb c.args.id c.dead-dead.result).0 (sym c.eq-2.ensures ∙ c.if-eq-2.true)
+      ∙ (c.dead-dead.ensures ∙ ap dead_id c.stride-stride.ensures.stride))),
+  λ x. refl,
+)
 
 pub returns-then-eq-3 : goal.returns-then-eq-3
-returns-then-eq-3 c = (λ t. inr (inr (inl ((Decides-eqb c.args.id c.quit-quit.result).0 (sym c.eq-3.ensures ∙ c.if-eq-3.true)
-    ∙ (c.quit-quit.ensures ∙ ap quit_id c.stride-stride.ensures.stride)))), λ x. refl)
+returns-then-eq-3 c = (
+  λ t. inr (inr (inl ((Decides-eqb c.args.id c.quit-quit.result).0 (sym c.eq-3.ensures ∙ c.if-eq-3.true)
+      ∙ (c.quit-quit.ensures ∙ ap quit_id c.stride-stride.ensures.stride)))),
+  λ x. refl,
+)
 
 pub returns : goal.returns
 returns c = (λ t. inr (inr (inr (c.has_row.ensures.0 t))), held)

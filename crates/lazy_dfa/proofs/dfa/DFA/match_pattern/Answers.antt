@@ -12,7 +12,7 @@ only_pattern : (d : Dfa) (v : CacheValue) (id index : ℕ) (s : StateValue) → 
 only_pattern d v id index s own one held inside =
     let listed : All (λ (p : ℕ). p < length d.nfa.automaton.start_pattern) s.matches =
     subst (λ (t : StateValue). All (λ (p : ℕ). p < length d.nfa.automaton.start_pattern) t.matches) (sym held.3)
-        (own.states held.0 held.1).stepped.patterns in
+    (own.states held.0 held.1).stepped.patterns in
     let below : slice_index s.matches index < length d.nfa.automaton.start_pattern = listed index 0 inside in
     omega (arith, below, one)
 
@@ -27,4 +27,4 @@ returns-then-pattern_len-eq1 c s h = only_pattern c.args.self.now c.args.cache.n
 pub returns : goal.returns
 returns c s h = c.match_pattern.ensures ∙ (ap (λ (t : StateValue). get_or t.matches c.args.index 0) c.state.ensures
     ∙ ap (λ (t : StateValue). get_or t.matches c.args.index 0) (one_state c.args.cache.now c.args.id c.row-k.result s c.requires.own.shape
-        c.row-k.ensures.inside c.row-k.ensures.id h))
+    c.row-k.ensures.inside c.row-k.ensures.id h))

@@ -11,9 +11,9 @@ pub start_in_mode-requires-clause-inside : goal.start_in_mode-requires-clause-in
 start_in_mode-requires-clause-inside g c =
     let number = c.mode_number-number.ensures.value ∙ ap mode_of c.get_anchored-3.ensures in
     slot_inside c.args.self.now c.args.cache.now c.args.config.now.anchored c.start_behind-start.result c.in-Some-name_of.name
-        c.mode_number-number.result c.is_made.ensures c.requires
+    c.mode_number-number.result c.is_made.ensures c.requires
     (fine_of c.args.self.now c.args.config.now c.check_start.result c.get_look_behind-look_behind.result c.get_anchored.result
-        c.in_default.is c.check_start.ensures
+    c.in_default.is c.check_start.ensures
     c.get_look_behind-look_behind.ensures c.get_anchored.ensures)
     number
     (ap (start_in c.args.self.now) (number ∙ sym (ap mode_of c.get_anchored-2.ensures)) ∙ sym c.in-Some-name_of.ensures.name)
@@ -29,7 +29,7 @@ returns-in-Ok-clause-same g c known = c.in-Ok.ensures.same (known_here c.args.se
     (c.mode_number-number.ensures.value ∙ ap mode_of c.get_anchored-3.ensures)
     (c.start_behind-start.ensures ∙ ap (start_of c.args.self.now.nfa.terminator) c.get_look_behind-look_behind.ensures)
     c.args.cache.now (allowed_of c.args.self.now c.args.config.now c.check_start.result c.get_look_behind-look_behind.result
-        c.get_anchored.result c.in_default.is c.check_start.ensures
+    c.get_anchored.result c.in_default.is c.check_start.ensures
     c.get_look_behind-look_behind.ensures c.get_anchored.ensures) known)
 
 pub returns-in-Ok-clause-free : goal.returns-in-Ok-clause-free
@@ -39,7 +39,7 @@ returns-in-Ok-clause-free g c known = c.in-Ok.ensures.free (known_here c.args.se
     (c.mode_number-number.ensures.value ∙ ap mode_of c.get_anchored-3.ensures)
     (c.start_behind-start.ensures ∙ ap (start_of c.args.self.now.nfa.terminator) c.get_look_behind-look_behind.ensures)
     c.args.cache.now (allowed_of c.args.self.now c.args.config.now c.check_start.result c.get_look_behind-look_behind.result
-        c.get_anchored.result c.in_default.is c.check_start.ensures
+    c.get_anchored.result c.in_default.is c.check_start.ensures
     c.get_look_behind-look_behind.ensures c.get_anchored.ensures) known)
 
 pub returns-in-Err-clause-same : goal.returns-in-Err-clause-same
@@ -49,7 +49,7 @@ returns-in-Err-clause-same g c known = c.in-Err.ensures.same (known_here c.args.
     (c.mode_number-number.ensures.value ∙ ap mode_of c.get_anchored-3.ensures)
     (c.start_behind-start.ensures ∙ ap (start_of c.args.self.now.nfa.terminator) c.get_look_behind-look_behind.ensures)
     c.args.cache.now (allowed_of c.args.self.now c.args.config.now c.check_start.result c.get_look_behind-look_behind.result
-        c.get_anchored.result c.in_default.is c.check_start.ensures
+    c.get_anchored.result c.in_default.is c.check_start.ensures
     c.get_look_behind-look_behind.ensures c.get_anchored.ensures) known)
 
 pub returns-in-Err-clause-free : goal.returns-in-Err-clause-free
@@ -59,7 +59,7 @@ returns-in-Err-clause-free g c known = c.in-Err.ensures.free (known_here c.args.
     (c.mode_number-number.ensures.value ∙ ap mode_of c.get_anchored-3.ensures)
     (c.start_behind-start.ensures ∙ ap (start_of c.args.self.now.nfa.terminator) c.get_look_behind-look_behind.ensures)
     c.args.cache.now (allowed_of c.args.self.now c.args.config.now c.check_start.result c.get_look_behind-look_behind.result
-        c.get_anchored.result c.in_default.is c.check_start.ensures
+    c.get_anchored.result c.in_default.is c.check_start.ensures
     c.get_look_behind-look_behind.ensures c.get_anchored.ensures) known)
 
 pub returns-in-Ok-clause-remains : goal.returns-in-Ok-clause-remains

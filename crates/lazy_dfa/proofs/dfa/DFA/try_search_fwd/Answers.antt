@@ -37,8 +37,10 @@ pub returns-clause-moved : goal.returns-clause-moved
 returns-clause-moved g c = λ linked. (c.search.ensures.search.free linked).0
 
 pub returns-clause-free : goal.returns-clause-free
-returns-clause-free g c = λ linked i. record { determinized = (c.search.ensures.search.free linked).1 i;
-    inserted = (c.search.ensures.search.free linked).2 i }
+returns-clause-free g c = λ linked i. record {
+  determinized = (c.search.ensures.search.free linked).1 i;
+  inserted = (c.search.ensures.search.free linked).2 i;
+}
 
 pub returns-clause-sure_if_linked : goal.returns-clause-sure_if_linked
 returns-clause-sure_if_linked g c = λ linked. (c.search.ensures.search.free linked).3

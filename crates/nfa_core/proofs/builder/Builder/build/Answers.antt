@@ -9,6 +9,6 @@ pub returns-clause-within : goal.returns-clause-within
 returns-clause-within g c =
     let b = c.args.self.now in
     let order : IsInOrder b.drafts (pattern_count b) b.size_limit = subst
-        (λ (b : Assembly). IsInOrder b.drafts (pattern_count b) b.size_limit) c.self.view_is c.self.invariant.2 in
+    (λ (b : Assembly). IsInOrder b.drafts (pattern_count b) b.size_limit) c.self.view_is c.self.invariant.2 in
     let is : c.in_ok-nfa.nfa ≡ nfa_of b c.args.start_anchored c.args.start_unanchored = search rules in
     within_limit b c.args.start_anchored c.args.start_unanchored c.in_ok-nfa.nfa is order

@@ -13,9 +13,9 @@ returns c =
     let len : c.len-len.result ≡ length c.args.self.now.drafts = search rules in
     let later_len : length c.deref-2.result.now ≡ length c.args.self.now.drafts = search rules in
     all_tested c.args.self.now c.args.start_anchored c.args.start_unanchored c.len-len.result
-        (length c.deref-2.result.now) c.deref.result.now (map draft_of c.deref-2.result.now)
+    (length c.deref-2.result.now) c.deref.result.now (map draft_of c.deref-2.result.now)
     (map draft_of c.deref-4.result.now) (groups_in c.deref-3.result.now) c.are_below.result c.are_named.result c.are_known.result
     len later_len (c.deref.ensures.value ∙ ap (λ (b : Assembly). b.starts) c.self.view_is) (ap (map draft_of) c.deref-2.ensures.value
-        ∙ seen) (ap (map draft_of) c.deref-4.ensures.value ∙ seen)
+    ∙ seen) (ap (map draft_of) c.deref-4.ensures.value ∙ seen)
     (ap groups_in c.deref-3.ensures.value ∙ ap (λ (b : Assembly). b.groups) c.self.view_is) (search rules) (search rules) (search rules)
     c.are_below.ensures c.are_named.ensures c.are_known.ensures (search rules) (search rules)

@@ -17,7 +17,7 @@ pub name_all-requires-clause-reached : goal.name_all-requires-clause-reached
 name_all-requires-clause-reached g c =
     let seen = ap (map draft_of) c.deref.ensures.value ∙ ap (λ (b : Assembly). b.drafts) c.self.view_is in
     subst (λ (parts : List DraftNode). IsReached parts) (sym seen) (can_reach c.args.self.now c.args.start_anchored c.args.start_unanchored
-        c.requires.can)
+    c.requires.can)
 
 pub returns-clause-value : goal.returns-clause-value
 returns-clause-value g c =
@@ -25,10 +25,10 @@ returns-clause-value g c =
     let names = c.in_ok-names.names.items in
     let seen : map draft_of c.self.inside.drafts.items ≡ b.drafts = ap (λ (b : Assembly). b.drafts) c.self.view_is in
     let naming : IsNaming b.drafts names = subst (λ (parts : List DraftNode). IsNaming parts names) (ap (map draft_of) c.deref.ensures.value
-        ∙ seen) c.in_ok-names.ensures.names in
+    ∙ seen) c.in_ok-names.ensures.names in
     let states : map node_of c.in_ok-states.states.items ≡ map (renamed (name_in names) b.groups) (kept b.drafts) =
     c.in_ok-states.ensures ∙ ap (λ (ns : List ℕ). map (renamed (name_in ns) c.args.group_info) (kept (map draft_of c.deref-3.result.now)))
-        c.deref-2.ensures.value
+    c.deref-2.ensures.value
     ∙ ap (λ (ds : List Draft). map (renamed (name_in names) c.args.group_info) (kept (map draft_of ds))) c.deref-3.ensures.value
     ∙ ap (λ (parts : List DraftNode). map (renamed (name_in names) c.args.group_info) (kept parts)) seen
     ∙ ap (λ (gs : Groups). map (renamed (name_in names) gs) (kept b.drafts)) c.requires.groups in
@@ -36,20 +36,20 @@ returns-clause-value g c =
     c.in_ok-start_pattern.ensures ∙ ap (λ (ns : List ℕ). map (name_in ns) c.deref-5.result.now) c.deref-4.ensures.value
     ∙ ap (map (name_in names)) (c.deref-5.ensures.value ∙ ap (λ (b : Assembly). b.starts) c.self.view_is) in
     nfa_made b c.args.start_anchored c.args.start_unanchored c.rename-anchored.result c.rename-unanchored.result names
-        (map node_of c.in_ok-states.states.items)
+    (map node_of c.in_ok-states.states.items)
     c.in_ok-start_pattern.start_pattern.items c.group_info.inside.patterns.items c.self.inside.utf8 c.self.inside.reverse
-        c.in_ok-clone.field-0.terminator
+    c.in_ok-clone.field-0.terminator
     c.requires.can naming states starts (c.rename-anchored.ensures ∙ ap
-        (λ (ns : List ℕ). name_in ns c.args.start_anchored) c.deref-6.ensures.value)
+    (λ (ns : List ℕ). name_in ns c.args.start_anchored) c.deref-6.ensures.value)
     (c.rename-unanchored.ensures ∙ ap (λ (ns : List ℕ). name_in ns c.args.start_unanchored) c.deref-7.ensures.value)
     (c.group_info.view_is ∙ c.requires.groups) (ap (λ (b : Assembly). b.utf8) c.self.view_is)
-        (ap (λ (b : Assembly). b.reverse) c.self.view_is) (search rules)
+    (ap (λ (b : Assembly). b.reverse) c.self.view_is) (search rules)
 
 pub returns-clause-sound : goal.returns-clause-sound
 returns-clause-sound g c =
     let b = c.args.self.now in
     let order : IsInOrder b.drafts (pattern_count b) b.size_limit = subst
-        (λ (b : Assembly). IsInOrder b.drafts (pattern_count b) b.size_limit) c.self.view_is c.self.invariant.2 in
+    (λ (b : Assembly). IsInOrder b.drafts (pattern_count b) b.size_limit) c.self.view_is c.self.invariant.2 in
     let all = sound b c.args.start_anchored c.args.start_unanchored c.requires.can
-        (can_reach b c.args.start_anchored c.args.start_unanchored c.requires.can) order in
+    (can_reach b c.args.start_anchored c.args.start_unanchored c.requires.can) order in
     subst (λ (a : Automaton). IsSound a) (sym (ap (λ (n : Nfa). n.automaton) (returns-clause-value g c))) all

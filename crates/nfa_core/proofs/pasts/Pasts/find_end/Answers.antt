@@ -14,7 +14,7 @@ overflow_add-len g c =
 pub loop-next-smaller : goal.loop-next-smaller
 loop-next-smaller g c =
     let falls = steps_fall (map draft_of c.args.drafts.now) c.loop-next.at c.in-Some.next c.requires.reached
-        c.loop-next.invariant.way.inside c.in-Some.ensures.value.1 in
+    c.loop-next.invariant.way.inside c.in-Some.ensures.value.1 in
     omega (arith, falls)
 
 pub loop-next-preserved : goal.loop-next-preserved
@@ -28,4 +28,4 @@ pub returns-clause-opened : goal.returns-clause-opened
 returns-clause-opened g c =
     let same : c.loop-next.len + 0 ≡ c.loop-next.len = omega arith in
     subst (λ (k : ℕ). IsOpen (map draft_of c.args.drafts.now) c.args.self.now.table.items k c.args.q) same
-        (c.loop-next.invariant.way.opened 0 tt)
+    (c.loop-next.invariant.way.opened 0 tt)

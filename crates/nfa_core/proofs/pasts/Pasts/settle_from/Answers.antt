@@ -9,7 +9,7 @@ pub returns-clause-moves : goal.returns-clause-moves
 returns-clause-moves g c =
     let len = length-map c.args.drafts.now draft_of in
     let inside : c.args.q < length c.settle_path.new.self.table.items =
-        omega (arith, len, c.requires.inside, c.settle_path.ensures.table.len) in
+    omega (arith, len, c.requires.inside, c.settle_path.ensures.table.len) in
     let grows = settled_grows c.settle_path.new.self.table.items c.args.q c.find_end-way.result.end inside in
     let same = ap settled_count c.settle.ensures in
     omega (arith, c.find_end-way.ensures.moves, c.settle_path.ensures.count, c.settle_path.ensures.moves, grows, same)

@@ -18,30 +18,30 @@ loop-passed-init g c =
 pub loop-passed-preserved : goal.loop-passed-preserved
 loop-passed-preserved g c =
     let e : stands_for (draft_at (map draft_of c.args.drafts.now) c.loop-passed.at) ≡ Some c.in-Some.next =
-        sym c.next_of.ensures.value ∙ c.in-Some.is in
+    sym c.next_of.ensures.value ∙ c.in-Some.is in
     let more : c.args.len - c.loop-passed.passed ≡ suc (c.args.len - (c.loop-passed.passed + 1)) = omega (arith, c.loop-passed-test.true) in
-        record {
+    record {
       way = settling_next (map draft_of c.args.drafts.now) c.args.self.now.table.items c.loop-passed.self.table.items
           c.settle.new.self.table.items c.args.end c.loop-passed.at c.in-Some.next
           c.loop-passed.passed (c.args.len - c.loop-passed.passed) (c.args.len - (c.loop-passed.passed + 1)) c.requires.reached
-              c.settle.ensures e more c.loop-passed.invariant.way;
+          c.settle.ensures e more c.loop-passed.invariant.way;
       moves = omega (arith, c.in-Some.ensures.moves, c.loop-passed.invariant.moves);
     }
 
 pub returns-in_default-clause-count : goal.returns-in_default-clause-count
 returns-in_default-clause-count g c =
     let e : stands_for (draft_at (map draft_of c.args.drafts.now) c.loop-passed.at) ≡ None =
-        sym c.next_of.ensures.value ∙ c.in_default.is in
+    sym c.next_of.ensures.value ∙ c.in_default.is in
     let more : 0 < c.args.len - c.loop-passed.passed = omega (arith, c.loop-passed-test.true) in
     absurd (settling_stands (map draft_of c.args.drafts.now) c.args.self.now.table.items c.loop-passed.self.table.items c.args.end
-        c.loop-passed.at c.loop-passed.passed (c.args.len - c.loop-passed.passed)
+    c.loop-passed.at c.loop-passed.passed (c.args.len - c.loop-passed.passed)
     c.loop-passed.invariant.way more e)
 
 pub returns-in_default-clause-moves : goal.returns-in_default-clause-moves
 returns-in_default-clause-moves g c =
     let e : stands_for (draft_at (map draft_of c.args.drafts.now) c.loop-passed.at) ≡ None =
-        sym c.next_of.ensures.value ∙ c.in_default.is in
+    sym c.next_of.ensures.value ∙ c.in_default.is in
     let more : 0 < c.args.len - c.loop-passed.passed = omega (arith, c.loop-passed-test.true) in
     absurd (settling_stands (map draft_of c.args.drafts.now) c.args.self.now.table.items c.loop-passed.self.table.items c.args.end
-        c.loop-passed.at c.loop-passed.passed (c.args.len - c.loop-passed.passed)
+    c.loop-passed.at c.loop-passed.passed (c.args.len - c.loop-passed.passed)
     c.loop-passed.invariant.way more e)

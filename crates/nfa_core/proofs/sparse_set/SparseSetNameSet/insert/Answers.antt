@@ -6,14 +6,14 @@ use Rattle.nfa_core.proofs.sparse_set.SparseSetNameSet.insert.Goals as goal
 pub push_reserved-requires : goal.push_reserved-requires
 push_reserved-requires g c =
     let absent : is_in c.args.name c.self.inside.names.items ≡ false =
-        ap (λ s. is_in c.args.name s.names) c.self.view_is ∙ sym c.if-contains.ensures in
+    ap (λ s. is_in c.args.name s.names) c.self.view_is ∙ sym c.if-contains.ensures in
     let free = room _ _ _ c.args.name c.self.invariant.0 (rw (← c.self.view_is) at c.requires) absent in
     omega (arith, free, c.self.invariant.1, c.self.inside.names.ok.0)
 
 pub invariant_of-self : goal.invariant_of-self
 invariant_of-self g c =
     let absent : is_in c.args.name c.self.inside.names.items ≡ false =
-        ap (λ s. is_in c.args.name s.names) c.self.view_is ∙ sym c.if-contains.ensures in
+    ap (λ s. is_in c.args.name s.names) c.self.view_is ∙ sym c.if-contains.ensures in
     let inside = rw (← c.self.view_is) at c.requires in
     let here = rw c.as_usize.ensures.value at c.mark.ensures.marked in
     let others = rw c.as_usize.ensures.value at c.mark.ensures.others in (
@@ -25,8 +25,8 @@ invariant_of-self g c =
 pub returns-clause-fits : goal.returns-clause-fits
 returns-clause-fits g c =
     let absent : is_in c.args.name c.self.inside.names.items ≡ false =
-        ap (λ s. is_in c.args.name s.names) c.self.view_is ∙ sym c.if-contains.ensures in
+    ap (λ s. is_in c.args.name s.names) c.self.view_is ∙ sym c.if-contains.ensures in
     let free = room _ _ _ c.args.name c.self.invariant.0 (rw (← c.self.view_is) at c.requires) absent in
     let more : length c.push_reserved.new.self.items ≡ length c.self.inside.names.items + 1 =
-        ap length c.push_reserved.ensures.items ∙ length-append _ _ in
+    ap length c.push_reserved.ensures.items ∙ length-append _ _ in
     omega (arith, free, more)

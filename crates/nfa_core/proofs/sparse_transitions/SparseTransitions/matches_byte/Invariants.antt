@@ -5,4 +5,4 @@ use Rattle.nfa_core.proofs.sparse_transitions.SparseTransitions.matches_byte.Giv
 abbrev pub invariant-loop-transition : goal.invariant-loop-transition
 invariant-loop-transition l =
     sparse_next (map range_of l.self.transitions.items) l.byte ≡ sparse_next
-        (map range_of (drop l.transition-index l.self.transitions.items)) l.byte
+    (map range_of (drop l.transition-index l.self.transitions.items)) l.byte

@@ -29,8 +29,10 @@ pub returns-clause-moved : goal.returns-clause-moved
 returns-clause-moved g c = c.search.ensures.search.moved
 
 pub returns-clause-free : goal.returns-clause-free
-returns-clause-free g c = λ linked i. record { determinized = (c.search.ensures.search.free linked).0 i;
-    inserted = (c.search.ensures.search.free linked).1 i }
+returns-clause-free g c = λ linked i. record {
+  determinized = (c.search.ensures.search.free linked).0 i;
+  inserted = (c.search.ensures.search.free linked).1 i;
+}
 
 pub returns-clause-sure_if_linked : goal.returns-clause-sure_if_linked
 returns-clause-sure_if_linked g c = c.search.ensures.search.sure_if_linked

@@ -9,7 +9,7 @@ returns-in_err-start-clause-steps c =
     let set = c.self.inside.set.now in
     let f : ℕ → ℕ × ℕ = λ b. (b, range_end set b) in
     let e = ap (map f) (bytes_where-ended (starts_range set) c.self.inside.from 256 c.next_start.result c.in_err-start.was
-        c.next_start.ensures) in
+    c.next_start.ensures) in
     step_ends _ _ (cc) (cc)
 
 pub returns-clause-steps : goal.returns-clause-steps
@@ -17,7 +17,7 @@ returns-clause-steps c =
     let set = c.self.inside.set.now in
     let f : ℕ → ℕ × ℕ = λ b. (b, range_end set b) in
     let e = ap (map f) (bytes_where-some (starts_range set) c.self.inside.from 256 c.next_start.result c.in_ok-start.start c.in_ok-start.was
-        c.next_start.ensures) in
+    c.next_start.ensures) in
     cc
 
 pub returns-clause-goes : goal.returns-clause-goes
@@ -25,5 +25,5 @@ returns-clause-goes c =
     let set = c.self.inside.set.now in
     let f : ℕ → ℕ × ℕ = λ b. (b, range_end set b) in
     let e = ap (map f) (bytes_where-some (starts_range set) c.self.inside.from 256 c.next_start.result c.in_ok-start.start c.in_ok-start.was
-        c.next_start.ensures) in
+    c.next_start.ensures) in
     step_goes _ _ _ (cc)

@@ -5,6 +5,6 @@ use Rattle.search_types.proofs.pattern_set.PatternSetInsertErrorDisplay.fmt.Goal
 pub returns-clause-writes : goal.returns-clause-writes
 returns-clause-writes g c =
     let attempted : c.as_usize.result ≡ c.args.self.now.attempted = c.as_usize.ensures.value
-        ∙ ap (λ (r : InsertRefusal). r.attempted) c.self.view_is in
+    ∙ ap (λ (r : InsertRefusal). r.attempted) c.self.view_is in
     let capacity : c.self.inside.capacity ≡ c.args.self.now.capacity = ap (λ (r : InsertRefusal). r.capacity) c.self.view_is in
     rw (attempted, capacity) at c.write.ensures.writes

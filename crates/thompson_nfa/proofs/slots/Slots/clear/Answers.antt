@@ -20,7 +20,7 @@ returns-else-self-lt65535-clause-ok g c =
     let len : length c.self.inside.slots.items ≡ c.self.inside.capacity = grind (arith, common_steps) in
     let count : c.self.inside.slots.len ≡ c.self.inside.capacity = grind (arith, common_steps) in
     let new : c.forget_slots.new.slots ≡ replicate c.self.inside.capacity None =
-        c.forget_slots.ensures ∙ ap (λ n. replicate n None) (ap length c.deref_mut.ensures.value ∙ len) in
+    c.forget_slots.ensures ∙ ap (λ n. replicate n None) (ap length c.deref_mut.ensures.value ∙ len) in
     let e = slots_forgotten 0 c.self.inside.capacity c.self.inside.slots.len c.self.inside.slots.items c.forget_slots.new.slots count len
-        new in
+    new in
     rw (← c.self.view_is) (rw e)

@@ -12,14 +12,14 @@ index-requires c =
 pub returns-clause-emits : goal.returns-clause-emits
 returns-clause-emits c =
     row_emits c.self.inside.rows.items c.args.self.now c.self.view_is c.args.number c.index.result.now c.index.ensures c.deref.result.now
-        c.deref.ensures.value c.self.invariant c.requires
+    c.deref.ensures.value c.self.invariant c.requires
 
 pub returns-clause-inside : goal.returns-clause-inside
 returns-clause-inside c =
     row_inside c.self.inside.rows.items c.args.self.now c.self.view_is c.args.number c.index.result.now c.index.ensures c.deref.result.now
-        c.deref.ensures.value c.self.invariant c.requires
+    c.deref.ensures.value c.self.invariant c.requires
 
 pub returns-clause-rising : goal.returns-clause-rising
 returns-clause-rising c =
     row_rises c.self.inside.rows.items c.args.self.now c.self.view_is c.args.number c.index.result.now c.index.ensures c.deref.result.now
-        c.deref.ensures.value c.self.invariant c.requires
+    c.deref.ensures.value c.self.invariant c.requires

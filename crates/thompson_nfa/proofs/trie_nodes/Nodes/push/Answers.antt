@@ -10,9 +10,9 @@ use Rattle.thompson_nfa.proofs.trie_nodes.Nodes.push.Goals as goal
 pub invariant_of-self-2 : goal.invariant_of-self-2
 invariant_of-self-2 c =
     let inside = subst (λ (k : ℕ). AreInside k c.args.edges.items) (ap length (sym c.self.view_is)
-        ∙ length_emitted [] (rows_of c.self.inside.rows.items)) c.requires.inside in
+    ∙ length_emitted [] (rows_of c.self.inside.rows.items)) c.requires.inside in
     rw (c.in_ok-push.ensures.items, map-append) (nodes_push 0 (rows_of c.self.inside.rows.items) c.args.edges.items c.self.invariant inside
-        c.requires.rising)
+    c.requires.rising)
 
 pub returns-clause-node : goal.returns-clause-node
 returns-clause-node c =
