@@ -4,12 +4,11 @@ use Rattle.std.proofs.Common.{cond, Some, None, append_assoc, append-nil, length
 use Rattle.std.proofs.lemmas.List.Sums.{sum_by_push}
 use Rattle.std.proofs.Math.Seq.{drop-append_seam}
 use Rattle.std.specs.Bool.{nat_eq}
-use Rattle.look_core.specs.declared.look.Look.{Look}
 use Rattle.look_core.specs.LookSets.{has_look}
 use Rattle.nfa_core.specs.Walks.{Has, Visits, done}
 use Rattle.nfa_core.specs.Places.{StaysBelow}
-use Rattle.nfa_core.specs.Nfa.{Node, byte_range, sparse_node, dense_node, look_node, union_node, binary_union, capture_node, fail_node}
-use Rattle.nfa_core.specs.Nfa.{match_node, Automaton, node_at, leads_to, IsWellFormed}
+use Rattle.nfa_core.specs.Nfa.{Node}
+use Rattle.nfa_core.specs.Nfa.{Automaton, node_at, IsWellFormed}
 use Rattle.nfa_core.specs.Ways.{on_nothing}
 use Rattle.nfa_core.specs.Reached.{AreBelow, Meets}
 use Rattle.nfa_core.proofs.ForCallers.{none_in, of_cons, of_append, names_equal, nothing_led}

@@ -1,6 +1,6 @@
 -- A powerset state's states, closed anew by what the unit ahead decides, are those that closing its entries under all looks
 -- would have given, but for captures.
-use Rattle.std.proofs.Common.{◌≡◌, ℕ, ◌==◌, ◌&&◌, ◌||◌, true, false, Bool, not, List, [], ◌∷◌, length, Option, refl, sym, ap, ◌∙◌, ⊎_elim}
+use Rattle.std.proofs.Common.{◌≡◌, ℕ, ◌==◌, ◌&&◌, true, false, Bool, not, List, [], ◌∷◌, length, Option, refl, sym, ap, ◌∙◌, ⊎_elim}
 use Rattle.std.proofs.Common.{subst, if◌then◌else◌}
 use Rattle.std.proofs.lemmas.Bool.{cases_Bool, eqb-true, eq-eqb, or_left, or_right, not-false}
 use Rattle.std.specs.Int.Bits.{and_zero_r, or_zero_r}

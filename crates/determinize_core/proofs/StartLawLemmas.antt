@@ -1,5 +1,5 @@
 -- What is known by a start, forward and in reverse.
-use Rattle.std.proofs.Common.{is_none, sym, ◌∙◌, ◌≡◌, ℕ, ◌≤◌, ◌==◌, ◌||◌, Bool, true, false, List, length, refl, ap}
+use Rattle.std.proofs.Common.{is_none, sym, ◌∙◌, ◌≡◌, ℕ, ◌≤◌, ◌==◌, true, false, List, length, ap}
 use Rattle.search_core.specs.Text.{byte_at, byte_before}
 use Rattle.look_core.specs.LookSets.{has_look}
 use Rattle.look_core.specs.Looks.{holds_ascii, is_byte}

@@ -1,5 +1,5 @@
 -- Laws of steps.
-use Rattle.std.proofs.Common.{◌≡◌, ℕ, ◌<◌, ◌≤◌, true, false, Bool, not, ◌&&◌, List, [], ◌∷◌, length, Option, Some, None, refl, ap, ◌∙◌}
+use Rattle.std.proofs.Common.{◌≡◌, ℕ, ◌<◌, ◌≤◌, true, false, Bool, ◌&&◌, List, [], ◌∷◌, length, Option, Some, None, refl, ap, ◌∙◌}
 use Rattle.std.proofs.Common.{arith, cond, All, ⊎_elim, option_to_list}
 use Rattle.std.proofs.lemmas.Bool.{cases_Bool}
 use Rattle.std.specs.Bool.{nat_eq}
@@ -13,9 +13,8 @@ use Rattle.search_types.specs.declared.match_kind.MatchKind.TheVariants.{All as 
 use Rattle.nfa_core.specs.Walks.{has, Has, HasNoneTwice}
 use Rattle.nfa_core.specs.Places.{first}
 use Rattle.nfa_core.specs.Runs.{answers}
-use Rattle.nfa_core.specs.Nfa.{Node, byte_range, sparse_node, dense_node, look_node, union_node, binary_union, capture_node, fail_node}
-use Rattle.nfa_core.specs.Nfa.{match_node, Automaton, node_at, IsWellFormed}
-use Rattle.nfa_core.specs.NfaValue.{look_of, is_capture}
+use Rattle.nfa_core.specs.Nfa.{Automaton, node_at, IsWellFormed}
+use Rattle.nfa_core.specs.NfaValue.{look_of}
 use Rattle.nfa_core.specs.Reached.{AreBelow}
 use Rattle.nfa_core.proofs.ForCallers.{not_both, has_first, has_later, of_cons, names_equal}
 use Rattle.determinize_core.specs.States.{StateValue, dead}

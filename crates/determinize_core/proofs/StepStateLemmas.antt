@@ -1,5 +1,5 @@
 -- What steps come to keeps to what every state keeps to.
-use Rattle.std.proofs.Common.{ℕ, zero, suc, ◌<◌, ◌≤◌, ◌+◌, ◌==◌, ◌&&◌, true, false, Bool, List, [], ◌∷◌, length, get_or, Option, Some, None}
+use Rattle.std.proofs.Common.{ℕ, ◌<◌, ◌≤◌, ◌+◌, ◌==◌, ◌&&◌, true, false, Bool, List, [], ◌∷◌, length, Option, Some, None}
 use Rattle.std.proofs.Common.{refl, arith, cond, All, option_to_list}
 use Rattle.std.specs.Bool.{nat_eq}
 use Rattle.search_core.specs.Index.{greatest_index}

@@ -1,11 +1,11 @@
 -- The states of a walk from powerset state to powerset state are those of the walk under all looks, but for captures.
-use Rattle.std.proofs.Common.{◌≡◌, ℕ, zero, suc, ◌<◌, ◌≤◌, true, List, [], ◌∷◌, length, Option, Some, None, refl, sym, ap, ◌∙◌, subst}
+use Rattle.std.proofs.Common.{◌≡◌, ℕ, zero, suc, ◌<◌, ◌≤◌, List, [], ◌∷◌, length, Option, Some, refl, sym, ap, ◌∙◌, subst}
 use Rattle.std.proofs.Common.{arith}
 use Rattle.std.specs.Int.Bits.{or_zero_l}
 use Rattle.std.specs.List.{flat_map}
 use Rattle.std.specs.Bool.{nat_eq}
 use Rattle.look_core.specs.Terminators.{Terminator}
-use Rattle.look_core.specs.LookSets.{IsLookSet, has_look}
+use Rattle.look_core.specs.LookSets.{has_look}
 use Rattle.search_types.specs.declared.match_kind.MatchKind.{MatchKind}
 use Rattle.nfa_core.specs.Walks.{Visits}
 use Rattle.nfa_core.specs.Nfa.{Automaton, node_at, IsWellFormed}
@@ -14,13 +14,10 @@ use Rattle.nfa_core.specs.Ways.{Text, span, is_passed, on_nothing, plain_steps, 
 use Rattle.nfa_core.proofs.ForCallers.{none_in, of_cons, names_equal, stays_closed, place_zero, nothing_same}
 use Rattle.determinize_core.specs.States.{StateValue}
 use Rattle.determinize_core.specs.Starts.{start_of}
-use Rattle.determinize_core.specs.LookBehind.{starts_of}
 use Rattle.determinize_core.specs.Steps.{known_behind, closed, unit_steps, reading, patterns_in, kept, have_if, looks_with, ids_before}
 use Rattle.determinize_core.specs.Steps.{families, states_behind, is_some_kept, behind, start_value, step_value, unit_at, unit_behind}
 use Rattle.determinize_core.specs.Steps.{walk_value}
 use Rattle.determinize_core.specs.Walked.{closed_by, cut_of, walked_lists}
-use Rattle.determinize_core.specs.declared.start.Start.TheVariants.{Text as AtText}
-use Rattle.determinize_core.specs.declared.lookbehind.Families.{Families}
 use Rattle.determinize_core.proofs.KnownStateLemmas.{known-lt, starts_of-lt}
 use Rattle.determinize_core.proofs.MadeLemmas.{AreBelow, walk_made, made_below}
 use Rattle.determinize_core.proofs.PassedLemmas.{passed_by, looks_passed, IsTold, start_is_told, start_is_flagged, seen_behind}

@@ -61,7 +61,7 @@ module _ (may_find kept : ℕ → Bool) (ends_of : Tree → List ℕ) where
   chosen_in : (x : Tree) (xs : List Tree) (p i : ℕ) (f : Found) (ends : List ℕ) → filter kept (ends_of x) ≡ ends →
       (first_choice i (choices may_find kept (p + 1) (map ends_of xs)) ≡ Some f → IsChosen kept ends_of xs (p + 1) i f) →
       first_choice i (map (λ j. (p, j)) ends ++ choices may_find kept (p + 1) (map ends_of xs)) ≡ Some f →
-          IsChosen kept ends_of (x ∷ xs) p i f
+      IsChosen kept ends_of (x ∷ xs) p i f
   chosen_in x xs p i f [] is others e = chosen_later x xs p i f (others e)
   chosen_in x xs p i f (j ∷ js) is others e =
       let pattern : p ≡ f.pattern = cc in
@@ -82,7 +82,7 @@ module _ (may_find kept : ℕ → Bool) (ends_of : Tree → List ℕ) where
   chosen_of : (x : Tree) (xs : List Tree) (p i : ℕ) (f : Found) (b : Bool) →
       (first_choice i (choices may_find kept (p + 1) (map ends_of xs)) ≡ Some f → IsChosen kept ends_of xs (p + 1) i f) →
       first_choice i (pattern_choices b kept p (ends_of x) ++ choices may_find kept (p + 1) (map ends_of xs)) ≡ Some f →
-          IsChosen kept ends_of (x ∷ xs) p i f
+      IsChosen kept ends_of (x ∷ xs) p i f
   chosen_of x xs p i f true others e = chosen_in x xs p i f (filter kept (ends_of x)) refl others e
   chosen_of x xs p i f false others e = chosen_later x xs p i f (others e)
 
@@ -124,7 +124,7 @@ module _ (q : Query) where
 
   start_counts : (i : ℕ) (f : Found) (b : Bool) → counts q.utf8 q.haystack i ≡ b →
       first_choice i (cond b (choices (allowed q.mode (length q.patterns)) (may_end q) 0 (ends_at q i)) []) ≡ Some f →
-          counts q.utf8 q.haystack i ≡ true
+      counts q.utf8 q.haystack i ≡ true
   start_counts i f true is e = is
   start_counts i f false is e = cc
 

@@ -79,10 +79,10 @@ counts_so false v h i t = refl
 
 wanted_all : (kind : MatchKind) (is_reverse : Bool) (ends : List (ℕ × ℕ)) (o : Option (ℕ × ℕ)) → kind ≡ AllMatches → is_reverse ≡ true →
     IsWanted kind false is_reverse ends o → IsLastEnd true ends o
-wanted_all kind is_reverse ends o is_all is_reverse wanted =
+wanted_all kind is_reverse ends o is_all reads_back wanted =
     let P : MatchKind → Type 0 = λ k. IsWanted k false is_reverse ends o in
     let R : Bool → Type 0 = λ b. IsLastEnd b ends o in
-    subst R is_reverse (subst P is_all wanted)
+    subst R reads_back (subst P is_all wanted)
 
 module _ (xs : List Tree) (utf8 : Bool) (t : Terminator) (p : Pair) (regex : IsRegexOf xs utf8 t p) (q : Search)
     (asked : IsSearchOf xs utf8 q)

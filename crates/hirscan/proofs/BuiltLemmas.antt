@@ -1,9 +1,8 @@
 -- What is built of trees with settings: a regex of these trees, whose quit bytes and room are told by the trees and the settings.
-use Rattle.std.proofs.Common.{◌≡◌, ℕ, ◌≤◌, Bool, true, false, ◌&&◌, not, max, List, map, length, Option, Some, None, refl, sym, ap, ◌∙◌}
+use Rattle.std.proofs.Common.{◌≡◌, ℕ, ◌≤◌, Bool, true, false, ◌&&◌, not, max, List, map, length, refl, sym, ap, ◌∙◌}
 use Rattle.std.proofs.Common.{subst, if◌then◌else◌}
 use Rattle.std.specs.Prelude.{Ok}
 use Rattle.std.specs.List.{range_with_len}
-use Rattle.std.specs.Option.{option_or}
 use Rattle.std.proofs.lemmas.List.Folds.{list_any_at, Any-from_list_any}
 use Rattle.std.proofs.lemmas.Option.{slice_get_within, slice_get_read, get_or_from_slice_get}
 use Rattle.look_core.specs.declared.look.Look.{Look}
@@ -122,7 +121,7 @@ module _ (xs : List Tree) (s : Settings) (p : Pair) (made : IsBuilt xs s p) wher
   pub built_regex : FindsFirst s → IsRegexOf xs s.utf8 s.line_terminator p
   built_regex first =
       built_pair_is (compile_options false s) (compile_options true s) xs p.forward.nfa p.reverse.nfa made.is_forward made.is_reverse refl
-          refl s.utf8
+      refl s.utf8
       s.line_terminator refl refl refl refl (made.is_forward.no_captures refl) s.dfa first p made.made made.forward made.reverse
 
   pub forward_quits : p.forward.quits ≡ quit_bytes_for xs s.dfa

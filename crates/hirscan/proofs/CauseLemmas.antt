@@ -114,7 +114,7 @@ module _ (setup : Setup) (xs : List Tree) (h : List ℕ) (none : refusal setup x
   valid_haystack : setup.settings.utf8 ≡ true → IsValidText h
   valid_haystack on =
       let found = unmapped _ (where_utf8 setup.settings.utf8 (first_broken h))
-          (first_none text_cause (span_cause ∷ []) haystack_passes).0 in
+      (first_none text_cause (span_cause ∷ []) haystack_passes).0 in
       text_of_none h (asked_utf8 setup.settings.utf8 (first_broken h) found on)
 
   -- what is searched fits the haystack
@@ -122,17 +122,17 @@ module _ (setup : Setup) (xs : List Tree) (h : List ℕ) (none : refusal setup x
   span_fits =
       let rest = (first_none text_cause (span_cause ∷ []) haystack_passes).1 in
       not-false (is_span (span_of setup.span h) h) (no_cause (not (is_span (span_of setup.span h) h)) (codes "span")
-          (first_none span_cause [] rest).0)
+      (first_none span_cause [] rest).0)
 
   pub span_ends : (span_of setup.span h).end ≤ length h
   span_ends = leb-true (span_of setup.span h).end (length h)
       (and_parts (nat_le (span_of setup.span h).end (length h)) (nat_le (span_of setup.span h).start ((span_of setup.span h).end + 1))
-          span_fits).0
+      span_fits).0
 
   pub span_starts : (search_of setup h).start ≤ (search_of setup h).end + 1
   span_starts = leb-true (span_of setup.span h).start ((span_of setup.span h).end + 1)
       (and_parts (nat_le (span_of setup.span h).end (length h)) (nat_le (span_of setup.span h).start ((span_of setup.span h).end + 1))
-          span_fits).1
+      span_fits).1
 
   pub is_search : All (λ byte. byte < 256) h → IsSearchOf xs setup.settings.utf8 (search_of setup h)
   is_search bytes = record { within = span_ends; whole = refl; bytes = bytes; valid = valid_haystack; utf8_trees = utf8_trees }

@@ -163,7 +163,7 @@ module _ (o : Options) (xs : List Tree) (n : Nfa) (compiled : IsCompiled o xs n)
   -- ---- two haystacks
   module _ (sound : IsSound n.automaton) (marks : List Bool) (has : HasMarks marks (marks_of n.terminator n.automaton.states))
       (h g : List ℕ) (e : ℕ) (in_h : e ≤ length h) (bytes_h : All (λ b. b < 256) h) (bytes_g : All (λ b. b < 256) g)
-          (same : HaveSameClasses marks h g) where
+      (same : HaveSameClasses marks h g) where
     in_g : e ≤ length g
     in_g = let len = same.0 in omega (arith, in_h, len)
 
@@ -173,7 +173,7 @@ module _ (o : Options) (xs : List Tree) (n : Nfa) (compiled : IsCompiled o xs n)
     same_of_all : (i : ℕ) → i ≤ e → first_of (offers_in h e in_h bytes_h Yes i) ≡ first_of (offers_in g e in_g bytes_g Yes i)
     same_of_all i low =
         sym (first_of_all h e in_h bytes_h i low) ∙ ap first (ends_same (i, n.automaton.start_anchored))
-            ∙ first_of_all g e in_g bytes_g i low
+        ∙ first_of_all g e in_g bytes_g i low
 
     same_of_one : (p i : ℕ) → i ≤ e → (name : Option ℕ) → start_name n.automaton (Pattern p) ≡ name →
         first_of (offers_in h e in_h bytes_h (Pattern p) i) ≡ first_of (offers_in g e in_g bytes_g (Pattern p) i)
@@ -199,7 +199,7 @@ fits_bytes q off inside = record { within = inside; valid = λ on. absurd (never
 module _ (o : Options) (xs : List Tree) (n : Nfa) (compiled : IsCompiled o xs n) (up : reverse_of o ≡ false) (loops : All LoopsRead xs)
     (plain : HasNoUnicodeWord xs) (sound : IsSound n.automaton) (marks : List Bool)
     (has : HasMarks marks (marks_of n.terminator n.automaton.states)) (q : Search) (g : List ℕ) (inside : q.end ≤ length q.haystack)
-        (bytes_h : All (λ b. b < 256) q.haystack) (bytes_g : All (λ b. b < 256) g)
+    (bytes_h : All (λ b. b < 256) q.haystack) (bytes_g : All (λ b. b < 256) g)
     (same : HaveSameClasses marks q.haystack g) (words : ℕ → Bool) where
   abbrev elsewhere : Search
   elsewhere = record q { haystack = g }
@@ -217,7 +217,7 @@ module _ (o : Options) (xs : List Tree) (n : Nfa) (compiled : IsCompiled o xs n)
   choices_same k low =
       choice_by_offers here_read (fits_bytes here_read refl inside) loops refl k low
       ∙ ap (choice_of k) (same_first o xs n compiled up loops sound marks has q.haystack g q.end inside bytes_h bytes_g same q.anchored k
-          low)
+      low)
       ∙ sym (choice_by_offers there_read (fits_bytes there_read refl inside_g) loops refl k low)
 
   pub answer_by_marks : answer_from (query_of xs false (holds words n.terminator q.haystack) q) q.start ≡
@@ -241,7 +241,7 @@ all_same_classes classes marks h g bytes_h bytes_g by alike = (
 
 pub answer_by_classes : (xs : List Tree) (t : Terminator) (p : Pair) → IsRegexOf xs false t p → HasItsClasses p →
     All LoopsRead xs → HasNoUnicodeWord xs → (q : Search) (g : List ℕ) → q.end ≤ length q.haystack → All (λ byte. byte < 256) q.haystack →
-        All (λ byte. byte < 256) g →
+    All (λ byte. byte < 256) g →
     IsAlike p.forward.classes q.haystack g → (words : ℕ → Bool) →
     answer_from (query_of xs false (holds words t q.haystack) q) q.start ≡
     answer_from (query_of xs false (holds words t g) (record q { haystack = g })) q.start
@@ -253,7 +253,7 @@ answer_by_classes xs t p regex own loops plain q g inside bytes_h bytes_g alike 
     subst (λ (ends : Terminator). answer_from (query_of xs false (holds words ends q.haystack) q) q.start ≡
     answer_from (query_of xs false (holds words ends g) (record q { haystack = g })) q.start) lines
     (answer_by_marks regex.forward_options xs p.forward.nfa regex.is_forward regex.reads_forward loops plain regex.forward.sound by.0 by.1 q
-        g inside
+    g inside
     bytes_h bytes_g same words)
 
 pub built_has_its_classes : (n m : Nfa) (c : DfaOptions) (p : Pair) → pair_built n m c ≡ Ok p → HasItsClasses p

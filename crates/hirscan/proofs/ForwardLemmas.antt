@@ -93,7 +93,7 @@ module _ (xs : List Tree) (utf8 : Bool) (t : Terminator) (p : Pair) (regex : IsR
         let some : has_empty a ≡ true =
         regex.is_forward.empty.1 (k, span.tree, span.listed, empty_span looks q.haystack span.tree i i refl span.means) in
         let differ : true ≡ false = sym (and_from p.forward.nfa.utf8 (has_empty a) (forward_is_utf8 xs utf8 t p regex ∙ on) some) ∙ off in
-            cc)
+        cc)
     | inr plain ↦ inl plain
   ]
 

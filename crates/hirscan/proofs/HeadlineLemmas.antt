@@ -45,7 +45,7 @@ module _ (xs : List Tree) (s : Settings) (p : Pair) (made : IsBuilt xs s p) wher
         (words : ℕ → Bool) → IsWordSet words → IsLooseAnswer (query_by words xs s q) q.start o
     answers_trees_loosely c o answered words set =
         answers_loosely xs s.utf8 s.line_terminator p (built_regex xs s p made first) q asked words set o
-            (answer_is_joined p c q o answered)
+        (answer_is_joined p c q o answered)
 
     pub taken_begin : All LoopsRead xs → q.start ≤ q.end + 1 → (fs : List Found) (at : Finding) → AreTaken p q fs at →
         (words : ℕ → Bool) → IsWordSet words → (rest : List Found) × (answers_to words xs s q ≡ fs ++ rest)
@@ -89,4 +89,4 @@ settings_alike xs s t p r made other first leftmost same_utf8 same_lines q asked
     answers_trees xs s p made first q asked loops c o is is_word_byte byte_words
     ∙ (λ i. answer_by xs q (same_utf8 i) (same_lines i))
     ∙ sym (answers_trees xs t r other leftmost q (subst (λ (b : Bool). IsSearchOf xs b q) same_utf8 asked) loops d u are is_word_byte
-        byte_words)
+    byte_words)

@@ -106,7 +106,7 @@ module _ (setup : Setup) (xs : List Tree) (h : List ℕ) (bytes : All (λ byte. 
       let later = asked_at xs setup.settings.utf8 q asked k in
       let told = scan_mode_told (reader p.forward) (search_at q k) m
       (refuses_by_first xs setup.settings.utf8 setup.settings.line_terminator p
-          (built_regex xs (program_settings setup.settings) p built refl)
+      (built_regex xs (program_settings setup.settings) p built refl)
       (search_at q k) later m is) in
       true≢false (sym (supported_forward xs (program_settings setup.settings) p built (search_at q k)
       (mode_is_supported setup.anchored (starts_each_of (program_settings setup.settings).dfa))) ∙ told.2)
@@ -116,7 +116,7 @@ module _ (setup : Setup) (xs : List Tree) (h : List ℕ) (bytes : All (λ byte. 
   may_end c k (Quit b x) is = inr (b, x, refl)
   may_end c k NotAPair is =
       absurd (never_no_pair xs (program_settings setup.settings) p built refl (search_at q k)
-          (asked_at xs setup.settings.utf8 q asked k) c is)
+      (asked_at xs setup.settings.utf8 q asked k) c is)
   may_end c k (UnsupportedAnchored m) is =
       absurd (mode_is_unsupported k m (refusal_is_joined p c (search_at q k) (UnsupportedAnchored m) refl is))
   may_end c k (HaystackTooLong n) is =
@@ -133,7 +133,7 @@ module _ (setup : Setup) (xs : List Tree) (h : List ℕ) (bytes : All (λ byte. 
     refused =
         let finds : Finds p (finds_from old) (finds_from new) (caches_of old) (caches_of new) (Some (Err e)) =
         subst (λ (r : Pair). Finds r (finds_from old) (finds_from new) (caches_of old) (caches_of new) (Some (Err e))) l.same_regex
-            step.finds in
+        step.finds in
         subst (λ (at : Finding). RefusesFrom p at (caches_of new) e) l.stands
         (refused_from p (finds_from old) (finds_from new) (caches_of old) (caches_of new) e finds)
 
@@ -143,14 +143,14 @@ module _ (setup : Setup) (xs : List Tree) (h : List ℕ) (bytes : All (λ byte. 
     from_is_later : q.start ≤ refused.0
     from_is_later =
         let low : q.start ≤ (finding_behind q l.found).search.start = subst
-            (λ (at : Finding). q.start ≤ at.search.start) l.stands l.taken.from in
+        (λ (at : Finding). q.start ≤ at.search.start) l.stands l.taken.from in
         omega (arith, low, asked_behind p (finding_behind q l.found) refused.0 refused.1)
 
     quits_there : (b x : ℕ) → e ≡ Quit b x → QuitsBehind setup xs h l.found b x
     quits_there b x is =
         let k = refused.0 in
         let there = quits_forward xs (program_settings setup.settings) p built refl (search_at q k)
-            (asked_at xs setup.settings.utf8 q asked k)
+        (asked_at xs setup.settings.utf8 q asked k)
         (caches_of new) b x (subst (λ (v : MatchErrorKind). AnswersPair p (caches_of new) (search_at q k) (Err v)) is refused.2) in
         record {
           regex = p;
@@ -172,6 +172,6 @@ module _ (setup : Setup) (xs : List Tree) (h : List ℕ) (bytes : All (λ byte. 
         IfOk r (λ x. IsSearchReply setup xs h x.ending (string_bytes x.text))
     reply_of_quit (Ok x) told =
         quits l.found told.byte told.offset (some_are_listed lender text old l)
-            (quits_there told.byte told.offset told.quits) told.ending_is
+        (quits_there told.byte told.offset told.quits) told.ending_is
         (told.text_is ∙ ap (λ t. t ++ quit_line told.byte told.offset) l.text_is)
     reply_of_quit (Err v) told = tt

@@ -62,7 +62,7 @@ pub begins_list : (p : Pair) (asked q : Search) (text : List ℕ) (made it : Fin
 begins_list p asked q text made it none same is regex from goes_on =
     subst (λ (t : List ℕ). ListsUpTo p q (lender_of it) t it) (sym none)
     (subst (λ (x : FindMatches). ListsUpTo p q (lender_of x) [] x) (sym same)
-        (listed_none p q made regex (from ∙ ap finding_all is) goes_on))
+    (listed_none p q made regex (from ∙ ap finding_all is) goes_on))
 
 module _ (p : Pair) (q : Search) (lender : GName) where
   -- the line of one more match is written

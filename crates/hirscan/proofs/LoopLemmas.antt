@@ -1,5 +1,5 @@
 -- The test for loops that read tells whether they do.
-use Rattle.std.proofs.Common.{◌≡◌, ℕ, ◌&&◌, Bool, true, false, Option, Some, None, refl, ap, ◌∙◌, ltb-true, lt-ltb}
+use Rattle.std.proofs.Common.{◌≡◌, ℕ, true, Option, Some, None, refl, ltb-true, lt-ltb}
 use Rattle.hir_core.specs.Tree.{Tree, empty, literal, byte_class, char_class, look, repetition, capture, nothing, cat, never, alt}
 use Rattle.hir_core.specs.Facts.{minimum_len, IsAboveZero, LoopsRead}
 use Rattle.hirscan.specs.Loops.{is_above_zero, loops_read}

@@ -55,12 +55,12 @@ module _ (xs : List Tree) (utf8 : Bool) (t : Terminator) (p r : Pair) (of_first 
 
   pub answers_alike : (q : Search) →
       is_supported (reader p.forward).starts_for_each_pattern q.anchored ≡ is_supported
-          (reader r.forward).starts_for_each_pattern q.anchored →
+      (reader r.forward).starts_for_each_pattern q.anchored →
       joined p q ≡ joined r q
   answers_alike q same = joined_alike p r q (set_alike q.anchored same)
 
   pub tells_alike : (q : Search) →
       is_supported (reader p.forward).starts_for_each_pattern q.anchored ≡ is_supported
-          (reader r.forward).starts_for_each_pattern q.anchored →
+      (reader r.forward).starts_for_each_pattern q.anchored →
       has_match p q ≡ has_match r q
   tells_alike q same = told_alike p r q (set_alike q.anchored same)

@@ -69,7 +69,7 @@ module _ (xs : List Tree) (s : Settings) where
       words ≡ are_unsupported xs s.dfa → skips ≡ skips_check s.dfa → given ≡ capacity_of s.dfa →
       least ≡ least_capacity (measures_with n s.dfa) → (small : Bool) → (not skips && nat_lt given least) ≡ small → (e : BuildError) →
       (if words then Err Unsupported else if small then Err (InsufficientCacheCapacity least given) else ok_dfa d) ≡ err_dfa e →
-          RefusesBuild xs s e
+      RefusesBuild xs s e
   by_tests reverse n made true skips given least d w k g l small is_small e is = unsupported (sym w) (sym (same_refusal Unsupported e is))
   by_tests reverse n made false skips given least d w k g l true is_small e is =
       let both = and_parts (not skips) (nat_lt given least) is_small in

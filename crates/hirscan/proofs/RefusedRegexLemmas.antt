@@ -35,7 +35,7 @@ module _ (setup : Setup) (xs : List Tree) (few : length xs ≤ greatest_index + 
   refused_for : (e : BuildError) → RefusesBuild xs (program_settings setup.settings) e → IsRefusedFor setup xs e
   refused_for e (not_compiled reverse x other refused is) =
       let limit = limit_alone_refuses (compile_options reverse (program_settings setup.settings)) xs x (2 ^ 26) refl refl
-          (lit< tt) few refused other in
+      (lit< tt) few refused other in
       inr (is ∙ ap NFA limit.0, for_size reverse x limit.0 refused)
   refused_for e (unsupported are is) = absurd (true≢false (sym are ∙ never_unsupported xs setup.settings))
   refused_for e (too_small reverse n can made checks less is) = absurd (true≢false checks)

@@ -1,21 +1,19 @@
 -- What the definition of two automata that search as one gives at once: their directions, and that where a search forward found
 -- something, words of characters are read as those of bytes as far as it read.
-use Rattle.std.proofs.Common.{◌≡◌, ℕ, zero, suc, ◌+◌, ◌-◌, ◌<◌, ◌≤◌, Bool, true, false, ◌&&◌, List, slice_get, Option, Some, None, All}
+use Rattle.std.proofs.Common.{◌≡◌, ℕ, zero, suc, ◌+◌, ◌-◌, ◌<◌, ◌≤◌, Bool, true, false, List, slice_get, Option, Some, None, All}
 use Rattle.std.proofs.Common.{refl, sym, ap, ◌∙◌, subst, inl, inr, ⊎_elim, arith}
 use Rattle.std.specs.Prelude.{IfSome}
 use Rattle.std.proofs.lemmas.Bool.{cases_Bool, cases_lt}
 use Rattle.std.proofs.lemmas.Option.{slice_get_within, get_or_from_slice_get}
 use Rattle.std.proofs.lemmas.List.Elements.{All-get_or}
-use Rattle.std.proofs.lemmas.List.Folds.{list_any_at}
 use Rattle.search_core.specs.Text.{byte_at, byte_before}
 use Rattle.search_core.specs.ByteSets.{has}
 use Rattle.look_core.specs.declared.look.Look.{Look}
-use Rattle.look_core.specs.declared.look.Look.TheVariants.{Start}
-use Rattle.look_core.specs.Codes.{all_looks, bit_of, is_word_unicode}
-use Rattle.look_core.specs.LookSets.{has_look, has_any}
+use Rattle.look_core.specs.Codes.{is_word_unicode}
+use Rattle.look_core.specs.LookSets.{has_look}
 use Rattle.look_core.specs.Looks.{holds, holds_ascii, by_characters, IsWordSet}
 use Rattle.look_core.specs.Terminators.{Terminator}
-use Rattle.look_core.proofs.ForCallers.{look_at-bit_of, bit_of-lt, reads_bytes, agree_on_ascii}
+use Rattle.look_core.proofs.ForCallers.{reads_bytes, agree_on_ascii}
 use Rattle.hir_core.specs.Tree.{Tree}
 use Rattle.hir_core.specs.Means.{Looks}
 use Rattle.hir_core.specs.Facts.{looks_used}

@@ -68,7 +68,7 @@ few_patterns _ _ _ _ (reads_line text line rest at after found n m parts one tak
 -- a reply of one line for a cause that applies
 pub reply_of_refusal : (r : Result Reply AllocError) (input cause : List ℕ) → IfOk r (λ x. x.ending ≡ Refused) →
     IfOk r (λ x. string_bytes x.text ≡ refusal_line cause) → IsRefused input cause →
-        IfOk r (λ x. IsReply input x.ending (string_bytes x.text))
+    IfOk r (λ x. IsReply input x.ending (string_bytes x.text))
 reply_of_refusal (Ok x) input cause p q applies = refused cause applies p q
 reply_of_refusal (Err e) input cause p q applies = tt
 
@@ -100,7 +100,7 @@ answer_of_refusal (Err e) setup xs h cause p q applies = tt
 -- and where it is searched
 pub answer_of_search : (r : Result Reply AllocError) (setup : Setup) (xs : List Tree) (h : List ℕ) → refusal setup xs h ≡ None →
     IfOk r (λ x. IsSearchReply setup xs h x.ending (string_bytes x.text)) →
-        IfOk r (λ x. AnswersHead setup xs h x.ending (string_bytes x.text))
+    IfOk r (λ x. AnswersHead setup xs h x.ending (string_bytes x.text))
 answer_of_search (Ok x) setup xs h none reply = searches none reply
 answer_of_search (Err e) setup xs h none reply = tt
 

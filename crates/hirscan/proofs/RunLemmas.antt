@@ -46,7 +46,7 @@ if_some_prefix input before after ending text n NoMemory is reply written = cc
 -- The bytes that were read, the reply to them and what was written of it, each as code hands it on, say what a run leaves.
 module _ (input left before after : Option (List ℕ)) (bytes items text written : List ℕ) (ending : Ending) (same : bytes ≡ items)
     (read : Consumes input left items) (whole : length items ≤ 2 ^ 30 →
-        IsAtEnd left) (reply : IsReply bytes ending text) (all : written ≡ text) where
+    IsAtEnd left) (reply : IsReply bytes ending text) (all : written ≡ text) where
   reply_known : IfSome input (λ known. IsReply known ending text)
   reply_known = reply_of_whole input left items ending text read whole (subst (λ (xs : List ℕ). IsReply xs ending text) same reply)
 
@@ -56,4 +56,4 @@ module _ (input left before after : Option (List ℕ)) (bytes items text written
   pub writes_prefix : (e : RunError) → (e ≡ Write) × (n : ℕ) × Appends before after (take n written) → WritesAtFault input before after e
   writes_prefix e part =
       if_some_prefix input before after ending text part.1 e part.0 reply_known
-          (subst (λ (xs : List ℕ). Appends before after (take part.1 xs)) all part.2)
+      (subst (λ (xs : List ℕ). Appends before after (take part.1 xs)) all part.2)

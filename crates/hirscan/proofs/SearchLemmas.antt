@@ -79,12 +79,12 @@ module _ (xs : List Tree) (utf8 : Bool) (t : Terminator) (p : Pair) (regex : IsR
   loose_tells : Tells asks loosely (HasNoneCounted asks) (IsOfFirstPattern asks)
   loose_tells =
       loosely_told regex.forward_options xs p.forward.nfa regex.is_forward regex.reads_forward looks q.haystack q.start q.end is_read utf8
-          q.anchored
+      q.anchored
 
   loose_finds : FindsFirsts p.forward.nfa.automaton (read_by looks q.haystack q.start q.end) q.anchored loosely
   loose_finds =
       loose_firsts regex.forward_options xs p.forward.nfa regex.is_forward regex.reads_forward looks q.haystack q.start q.end is_read utf8
-          q.anchored
+      q.anchored
 
   pub answers_loosely : (o : Option Found) → joined p q ≡ Ok o → IsLooseAnswer asks q.start o
   answers_loosely o e =
@@ -123,7 +123,7 @@ module _ (xs : List Tree) (utf8 : Bool) (t : Terminator) (p : Pair) (regex : IsR
         (offers asks (fits_query xs utf8 t p regex q asked words set) loops)
     trees_find =
         trees_firsts regex.forward_options xs p.forward.nfa regex.is_forward regex.reads_forward loops looks q.haystack q.start q.end
-            is_read q.anchored
+        is_read q.anchored
 
     pub answer_is_of_trees : (o : Option Found) → joined p q ≡ Ok o → o ≡ answer_from asks q.start
     answer_is_of_trees o e =

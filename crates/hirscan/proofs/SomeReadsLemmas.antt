@@ -40,10 +40,17 @@ Outcome text p = ((there : HeadValue) × (n : ℕ) × Reads text p there n) ⊎ 
 
 -- the outcome of what follows a line, as that of the text from the line on
 outcome_later : (text : List ℕ) (p q : HeadValue) (cut : Cut text) → Takes (words cut.line) p q → Outcome cut.rest q → Outcome text p
-outcome_later text p q cut takes (inl r) = inl (r.0, length cut.line + 1 + r.1,
-    reads_line text cut.line cut.rest p q r.0 _ r.1 cut.parts cut.one_line takes r.2 refl)
-outcome_later text p q cut takes (inr f) = inr (f.0 + 1, f.1, faulty_later text cut.line cut.rest p q
-    (f.0 + 1) f.0 f.1 cut.parts cut.one_line takes f.2 refl)
+outcome_later text p q cut takes (inl r) = inl (
+  r.0,
+  length cut.line + 1 + r.1,
+  reads_line text cut.line cut.rest p q r.0 _ r.1 cut.parts cut.one_line takes r.2 refl,
+)
+outcome_later text p q cut takes (inr f) = inr (
+  f.0 + 1,
+  f.1,
+  faulty_later text cut.line cut.rest p q
+      (f.0 + 1) f.0 f.1 cut.parts cut.one_line takes f.2 refl,
+)
 
 outcome_of_line : (text : List ℕ) (p : HeadValue) (cut : Cut text) (found : Option FaultKind) → fault (words cut.line) p ≡ found →
     ((q : HeadValue) → Outcome cut.rest q) → Outcome text p

@@ -146,7 +146,7 @@ module _ (xs : List Tree) (s : Settings) (p : Pair) (made : IsBuilt xs s p) wher
       IsQuiet (quit_bytes_for xs s.dfa) q → (c : PairCache) (e : MatchErrorKind) → AnswersMatch p c q (Err e) → e ≡ NoMemory
   match_is_sure none q supported quiet c e (inl told) =
       let there = scan_finds_near (reader p.forward) (match_search (reader p.forward) q) (supported_forward q supported)
-          (quiet_forward q quiet) in
+      (quiet_forward q quiet) in
       absurd (ok_is_no_refusal (is_some_match there.0) e (sym (told ∙ ap match_told there.1)))
   match_is_sure none q supported quiet c e (inr (inl lacks)) = same_bool_error e NoMemory lacks
   match_is_sure none q supported quiet c e (inr (inr gave)) =
@@ -158,7 +158,7 @@ module _ (xs : List Tree) (s : Settings) (p : Pair) (made : IsBuilt xs s p) wher
         (c : PairCache) (e : MatchErrorKind) → AnswersPair p c q (Err e) → e ≡ NoMemory
     search_is_sure none q asked supported quiet c e (inl told) =
         let there = finds_near xs s.utf8 s.line_terminator p (built_regex xs s p made first) q asked (supported_forward q supported)
-            (quiet_forward q quiet) in
+        (quiet_forward q quiet) in
         absurd (found_is_no_refusal there.0 e (sym (told ∙ there.1)))
     search_is_sure none q asked supported quiet c e (inr (inl lacks)) = same_error e NoMemory lacks
     search_is_sure none q asked supported quiet c e (inr (inr gave)) = absurd (never_gives_up none c q gave.0 gave.2)
@@ -189,7 +189,7 @@ module _ (xs : List Tree) (s : Settings) (p : Pair) (made : IsBuilt xs s p) wher
     quits_forward q asked c b x is =
         let reads : scan (reader p.forward) q ≡ quit b x =
         quits_by_first xs s.utf8 s.line_terminator p (built_regex xs s p made first) q asked b x
-            (refusal_is_joined p c q (Quit b x) refl is) in
+        (refusal_is_joined p c q (Quit b x) refl is) in
         let near = scan_quits_near (reader p.forward) q b x reads in (
           reads,
           record {

@@ -149,9 +149,14 @@ module _ (xs : List Tree) (b utf8 : Bool) (t : Terminator) (d : Dfa) (w : IsWalk
         let inside = slice_get_within xs p (get_or xs p empty) listed in (
           λ there.
               let c = (spans.patterns p (get_or xs p empty) listed text i x high).0 there in
-              let same : x.1 ≡ p = c.0 in
-              (i, (refl, named_allowed p (length xs) x.1 (omega (arith, inside, same)) same,
-                  (get_or xs p empty, ap (slice_get xs) same ∙ listed, c.1))),
+              let same : x.1 ≡ p = c.0 in (
+                i,
+                (
+                  refl,
+                  named_allowed p (length xs) x.1 (omega (arith, inside, same)) same,
+                  (get_or xs p empty, ap (slice_get xs) same ∙ listed, c.1),
+                ),
+              ),
           λ m.
               let same : x.1 ≡ p = allowed_named p (length xs) x.1 m.1.1 in
               let P : ℕ → Type 0 = λ k. IsMeant b text m.1.2.0 k x.0 in

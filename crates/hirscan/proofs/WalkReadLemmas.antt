@@ -1,6 +1,6 @@
 -- What a walk that comes to no refusal reads: at each place of its span neither byte beside the place is a quit byte, or no state
 -- is left there.
-use Rattle.std.proofs.Common.{◌≡◌, ◌⊎◌, ℕ, zero, suc, ◌+◌, ◌-◌, ◌<◌, ◌≤◌, Bool, true, false, ◌&&◌, ◌==◌, not, List, [], ◌∷◌, Option, Some}
+use Rattle.std.proofs.Common.{◌≡◌, ◌⊎◌, ℕ, zero, suc, ◌+◌, ◌-◌, ◌<◌, ◌≤◌, Bool, true, false, ◌&&◌, ◌==◌, not, List, [], Option, Some}
 use Rattle.std.proofs.Common.{None, refl, sym, ap, ◌∙◌, inl, inr, ⊎_elim, subst, arith, if◌then◌else◌}
 use Rattle.std.proofs.lemmas.Bool.{cases_Bool, cases_lt, le-leb}
 use Rattle.std.specs.List.{flat_map}
@@ -9,7 +9,6 @@ use Rattle.search_core.specs.Text.{byte_before}
 use Rattle.search_types.specs.declared.anchored.Anchored.{Anchored}
 use Rattle.search_types.specs.declared.match_error.MatchErrorKind.TheVariants.{Quit}
 use Rattle.search_types.specs.declared.match_kind.MatchKind.{MatchKind}
-use Rattle.search_types.specs.declared.match_kind.MatchKind.TheVariants.{All as AllMatches, LeftmostFirst}
 use Rattle.search_types.specs.Inputs.{Search}
 use Rattle.search_types.specs.Modes.{is_supported}
 use Rattle.search_types.specs.Places.{counts}
@@ -155,7 +154,7 @@ module _ (r : Reader) (h : List ℕ) (i q : ℕ) where
     behind_quiet (suc m) l = ⊎_elim
         (λ (quiet : IsQuiet m).
         inl (ap (is_quit r.quits) (unit_behind_next r.automaton.reverse h i m (λ is_reverse. let far = inside is_reverse in
-            omega (arith, far, l)))
+        omega (arith, far, l)))
         ∙ quiet))
         (λ (none : HasNone m). inr (none_later m none))
         (reads_or_ends (suc n) 0 goes m (omega arith) (omega (arith, l)))
@@ -203,7 +202,7 @@ module _ (r : Reader) (q : Search) (name : ℕ) (begun : IsBegun r q name) where
       ap (λ (o : Option ℕ). rest_from r q.haystack (suc (q.end - q.start)) begin (start_or_dead r behind o)) begun.start
       ∙ ap (λ (v : StateValue). rest_from r q.haystack (suc (q.end - q.start)) begin v) (walk_begins r behind q.haystack begin name refl)
       ∙ ap (λ (j : ℕ). rest_from r q.haystack (suc (q.end - q.start)) j
-          (walk_value r.automaton r.terminator r.kind q.haystack begin name 0))
+      (walk_value r.automaton r.terminator r.kind q.haystack begin name 0))
       (sym (place_zero r.automaton.reverse begin))
 
   pub behind_there : is_quit r.quits behind ≡ false →

@@ -1,6 +1,6 @@
 -- Each end that a walk tells lies at a place up to which it read no quit byte, refused behind that or not. So it is meant with
 -- any set of words, where it is by the bytes of ASCII.
-use Rattle.std.proofs.Common.{◌≡◌, ℕ, zero, suc, ◌+◌, ◌-◌, ◌<◌, ◌≤◌, Bool, true, false, List, [], ◌∷◌, map, length, slice_get, Option, Some}
+use Rattle.std.proofs.Common.{◌≡◌, ℕ, zero, suc, ◌+◌, ◌-◌, ◌<◌, ◌≤◌, Bool, true, false, List, [], map, length, slice_get, Option, Some}
 use Rattle.std.proofs.Common.{None, All, refl, sym, ap, ◌∙◌, inl, inr, ⊎_elim, subst, arith, if◌then◌else◌}
 use Rattle.std.proofs.lemmas.Bool.{cases_Bool, cases_lt}
 use Rattle.search_core.specs.ByteSets.{has}
@@ -10,7 +10,6 @@ use Rattle.look_core.specs.Codes.{is_word_unicode}
 use Rattle.look_core.specs.LookSets.{has_look}
 use Rattle.look_core.specs.Looks.{holds, holds_ascii, IsWordSet}
 use Rattle.look_core.specs.Terminators.{Terminator}
-use Rattle.look_core.proofs.ForCallers.{reversed_twice}
 use Rattle.hir_core.specs.Facts.{looks_used}
 use Rattle.hir_core.specs.Tree.{Tree}
 use Rattle.search_types.specs.declared.anchored.Anchored.{Anchored}
@@ -21,7 +20,7 @@ use Rattle.search_types.specs.Places.{counts}
 use Rattle.nfa_core.specs.Places.{same_pair}
 use Rattle.nfa_core.specs.Walks.{Has}
 use Rattle.nfa_core.specs.Ways.{place_of}
-use Rattle.nfa_core.proofs.ForCallers.{none_in, has_cons, of_append, pairs_equal}
+use Rattle.nfa_core.proofs.ForCallers.{none_in, of_append, pairs_equal}
 use Rattle.thompson_nfa.specs.Compiled.{turned}
 use Rattle.thompson_nfa.specs.Configs.{reverse_of}
 use Rattle.thompson_nfa.proofs.ForCallers.{looks_are_used}
@@ -36,7 +35,6 @@ use Rattle.lazy_dfa.specs.ScanLaws.{begins_at}
 use Rattle.lazy_dfa.specs.Walks.{Rest, nothing_left, refused, onto, unless_quit_at, where_supported, end_of, listed, rest_from, whole_rest}
 use Rattle.lazy_dfa.specs.WalkLaws.{IsBegun}
 use Rattle.hirscan.specs.TreeWalks.{IsWalkerOf}
-use Rattle.hirscan.proofs.BuiltPairLemmas.{turned_words}
 use Rattle.hirscan.proofs.TreeToldLemmas.{read_low, read_high, AgreeUpTo}
 use Rattle.hirscan.proofs.WalkLookLemmas.{beside, read_alike, asks_for_words}
 use Rattle.hirscan.proofs.WalkReadLemmas.{IsQuiet, more, turn_is, more_is, unit_behind_next, reverse_inside, IsQuietBeside, whole_is}

@@ -1,8 +1,8 @@
 -- Which patterns a call adds to a set where it answers Ok: those of all ends that it has room for, also where it stops before a
 -- refusal, since the set is full then.
-use Rattle.std.proofs.Common.{◌≡◌, ◌↔◌, ◌⊎◌, ℕ, zero, suc, ◌<◌, Bool, true, false, List, [], ◌∷◌, length, Option, Some, None, Ok, refl, sym}
+use Rattle.std.proofs.Common.{◌≡◌, ◌↔◌, ◌⊎◌, ℕ, ◌<◌, Bool, true, false, List, [], ◌∷◌, length, Option, Some, None, Ok, refl, sym}
 use Rattle.std.proofs.Common.{ap, ◌∙◌, inl, inr, ⊎_elim, subst, arith, if◌then◌else◌}
-use Rattle.std.proofs.lemmas.Bool.{cases_Bool, and_parts}
+use Rattle.std.proofs.lemmas.Bool.{cases_Bool}
 use Rattle.look_core.specs.Looks.{IsWordSet}
 use Rattle.look_core.specs.Terminators.{Terminator}
 use Rattle.search_core.specs.ByteSets.{has}

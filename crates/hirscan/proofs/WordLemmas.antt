@@ -47,7 +47,7 @@ alone_or_zero w (inr h) = or_right _ _ (eq-eqb _ _ h)
 pub is_number_from_parts : (w : List ℕ) → NumberParts w → is_number w ≡ true
 is_number_from_parts w p =
     and_from _ _ (and_from _ _ (and_from _ _ p.digits (lt-ltb 0 (length w) p.some)) (alone_or_zero w p.no_leading_zero))
-        (lt-ltb _ _ p.small)
+    (lt-ltb _ _ p.small)
 
 pub number_read : (w : List ℕ) → NumberParts w → number w ≡ Some (digits_value 10 w)
 number_read w p = rw (is_number_from_parts w p) refl

@@ -31,7 +31,7 @@ pub record IsAnswerReach (xs : List Tree) (utf8 : Bool) (t : Terminator) (p : Pa
 abbrev pub IsAlike : List ℕ → List ℕ → List ℕ → Type 0
 IsAlike classes h g =
     (length h ≡ length g) × ((k : ℕ) → k < length h → class_of classes (Some (byte_or_zero h k)) ≡ class_of classes
-        (Some (byte_or_zero g k)))
+    (Some (byte_or_zero g k)))
 
 -- the classes of bytes of the first automaton are those with which it is built
 abbrev pub HasItsClasses : Pair → Type 0

@@ -5,7 +5,7 @@ ghost use Rattle.hirscan.specs.Reads.{IsOneLine, Reads};
 ghost use Rattle.hirscan.specs.Tells.{TellsFault, CutsLine, value_of_head};
 
 use crate::fault::{Fault, FaultKind};
-use crate::line::{Setup, HeadState, Step, read_line};
+use crate::line::{HeadState, Setup, Step, read_line};
 use crate::settings::Settings;
 use hir_core::Hir;
 use search_types::Span;

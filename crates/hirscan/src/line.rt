@@ -514,7 +514,11 @@ fn follow(
 }
 
 /// Follows a line, given without its line feed.
-pub(crate) fn read_line(alloc: Global, line: &[u8], state: &mut HeadState) -> Result<Step, LineFault>
+pub(crate) fn read_line(
+    alloc: Global,
+    line: &[u8],
+    state: &mut HeadState,
+) -> Result<Step, LineFault>
     ensures ok { IfOk result (λ step. TellsStep (words line.now) (head_value state.old) (head_value state.new) step) }
     ensures err { IfErr result (λ e. TellsLineFault (fault (words line.now) (head_value state.old)) e) }
 {

@@ -1,7 +1,7 @@
 -- How many transitions a state has, and that this is room for each class.
 use Rattle.std.proofs.Common.{◌≡◌, ℕ, zero, suc, ◌*◌, ◌^◌, ◌≤◌, Bool, refl, sym, ap, ⊎_elim, arith, if◌then◌else◌}
 use Rattle.std.proofs.lemmas.Bool.Decides.{leb_tells}
-use Rattle.std.proofs.Math.Nat.{pow-succ', mul-le-mul_left}
+use Rattle.std.proofs.Math.Nat.{mul-le-mul_left}
 use Rattle.search_core.specs.Classes.{IsLeastExponent}
 use Rattle.lazy_dfa.specs.Accounting.{power_from}
 use Rattle.lazy_dfa.proofs.AccountingLemmas.{power_is, twice}

@@ -13,7 +13,7 @@ use Rattle.lazy_dfa.specs.Dfas.{Dfa, IsDfa, class_of, first_state, start_in, is_
 use Rattle.lazy_dfa.specs.Ids.{tag, unknown_id, tagged, has_tag, start_tag}
 use Rattle.lazy_dfa.specs.Caches.{CacheValue, IsShaped, IsCacheOf, Names, names_dead, names_held, same, place_of, slot, new_id, with_state}
 use Rattle.lazy_dfa.specs.Caches.{cleared}
-use Rattle.lazy_dfa.specs.Steps.{IsHeld, Added, Grew, WasCleared}
+use Rattle.lazy_dfa.specs.Steps.{Added, Grew, WasCleared}
 use Rattle.lazy_dfa.specs.StartCalls.{TagsStart, ClearedFor, PlacesStart, start_found, start_added}
 use Rattle.lazy_dfa.proofs.CacheLemmas.{IsShaped-cleared, fresh_at}
 use Rattle.lazy_dfa.proofs.ChangeLemmas.{added_refl, added_state, column, row_kept, cleared_few, same_grew}

@@ -3,7 +3,7 @@
 use Rattle.std.proofs.Common.{◌≡◌, ◌⊎◌, inl, inr, ℕ, zero, suc, ◌+◌, ◌-◌, ◌*◌, ◌<◌, ◌≤◌, ◌&&◌, not, min, Bool, true, false, List, length}
 use Rattle.std.proofs.Common.{drop, Option, Some, None, Ok, Err, IsSome, refl, sym, ap, ◌∙◌, subst, ⊎_elim, arith}
 use Rattle.std.specs.Option.{option_or}
-use Rattle.std.proofs.Math.Nat.{mul-le-mul_right, add-mul}
+use Rattle.std.proofs.Math.Nat.{mul-le-mul_right}
 use Rattle.nfa_core.specs.Ways.{place_of}
 use Rattle.nfa_core.specs.Places.{first}
 use Rattle.determinize_core.specs.States.{StateValue}

@@ -39,15 +39,14 @@ pub(crate) struct Turned {
 
 // ---- places
 
-/// Where one who reads forward or in reverse, through the span begins.
+/// Where one who reads forward or in reverse through the span begins.
 pub(crate) fn first_place(input: &Input<'_>, is_reverse: bool) -> usize
     ensures { result ≡ first_place is_reverse input.now.start input.now.end }
 {
     if is_reverse {
-        input.end()
-    } else {
-        input.start()
+        return input.end();
     }
+    input.start()
 }
 
 /// Where one ends.
@@ -55,10 +54,9 @@ pub(crate) fn last_place(input: &Input<'_>, is_reverse: bool) -> usize
     ensures { result ≡ last_place is_reverse input.now }
 {
     if is_reverse {
-        input.start()
-    } else {
-        input.end()
+        return input.start();
     }
+    input.end()
 }
 
 /// The index of the byte that is read next at a place.

@@ -1,6 +1,6 @@
 -- Looks in a reversed haystack: what stood before a place stands behind its mirror place.
 use Rattle.std.proofs.Common.{◌≡◌, ℕ, zero, suc, ◌-◌, ◌≤◌, true, false, Bool, List, length, get_or, Option, Some, None, refl, sym, ap, ap₂}
-use Rattle.std.proofs.Common.{◌∙◌, arith, eqb, map, reverse, ◌&&◌, ◌||◌, not}
+use Rattle.std.proofs.Common.{◌∙◌, arith, eqb, map, reverse, ◌||◌}
 use Rattle.std.proofs.lemmas.Bool.Decides.{nat_tests}
 use Rattle.std.proofs.lemmas.List.{get_or-reverse, length-reverse, reverse-reverse, length-map}
 use Rattle.std.proofs.lemmas.Option.{slice_get-get_or, slice_get_past, slice_get-map}

@@ -1,5 +1,5 @@
 -- Bytes of one class, state by state: they lie alike in the ranges that states and their looks tell apart.
-use Rattle.std.proofs.Common.{◌≡◌, ℕ, zero, suc, ◌<◌, true, false, Bool, List, [], ◌∷◌, ◌++◌, length, map, replicate, All, get_or, refl, ap}
+use Rattle.std.proofs.Common.{◌≡◌, ℕ, zero, suc, ◌<◌, true, false, Bool, List, [], ◌∷◌, length, map, replicate, All, get_or, refl, ap}
 use Rattle.std.proofs.Common.{ap₂, ◌∙◌, subst, arith, ⊎_elim, ◌&&◌}
 use Rattle.std.proofs.lemmas.Bool.{cases_Bool}
 use Rattle.std.proofs.lemmas.Bool.Decides.{nat_tests}

@@ -1,16 +1,16 @@
 -- Where the ends of runs lie: at places that are reached by reading bytes of the text.
-use Rattle.std.proofs.Common.{◌≡◌, ℕ, suc, ◌≤◌, true, false, Bool, List, [], ◌∷◌, map, refl, sym, ap, ⊎_elim, Option, Some, None, subst}
+use Rattle.std.proofs.Common.{◌≡◌, ℕ, suc, ◌≤◌, true, false, Bool, List, [], ◌∷◌, map, refl, sym, ⊎_elim, Option, Some, None, subst}
 use Rattle.std.proofs.Common.{arith}
 use Rattle.nfa_core.specs.Walks.{Has}
 use Rattle.nfa_core.specs.Runs.{IsChain, last_or}
 use Rattle.nfa_core.specs.Places.{same_pair}
-use Rattle.nfa_core.specs.Nfa.{Node, Automaton, node_at, IsWellFormed}
+use Rattle.nfa_core.specs.Nfa.{Automaton, node_at, IsWellFormed}
 use Rattle.nfa_core.specs.Reaches.{IsInside}
-use Rattle.nfa_core.specs.Ways.{Text, reads, is_passed, on_read, on_nothing, place_behind, ways, match_of, place_of, bytes_left, IsPairOf}
+use Rattle.nfa_core.specs.Ways.{Text, reads, is_passed, on_read, on_nothing, place_behind, ways, place_of, bytes_left, IsPairOf}
 use Rattle.nfa_core.specs.Ways.{ends_from}
 use Rattle.nfa_core.proofs.MemberLemmas.{has_append}
 use Rattle.nfa_core.proofs.PairLemmas.{from_map}
-use Rattle.nfa_core.proofs.AutomatonLemmas.{IsBeside, reads_beside, match_is}
+use Rattle.nfa_core.proofs.AutomatonLemmas.{IsBeside, reads_beside}
 use Rattle.nfa_core.proofs.EndsLemmas.{listed_run}
 use Rattle.nfa_core.proofs.BehindLemmas.{place_zero, match_place}
 

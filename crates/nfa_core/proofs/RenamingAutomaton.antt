@@ -1,5 +1,5 @@
 -- The automaton that is built of a builder's states: where each kept state is in it, and where it leads.
-use Rattle.std.proofs.Common.{◌≡◌, ℕ, ◌<◌, true, Bool, List, length, take, get_or, map, refl, sym, ap, ◌∙◌, arith, Option, Some, None}
+use Rattle.std.proofs.Common.{◌≡◌, ℕ, ◌<◌, Bool, List, length, take, get_or, map, sym, ap, ◌∙◌, arith, None}
 use Rattle.std.specs.Prelude.{is_none}
 use Rattle.std.proofs.lemmas.List.{length-map}
 use Rattle.nfa_core.specs.Nfa.{fail_node, node_at}

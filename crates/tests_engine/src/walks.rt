@@ -3,10 +3,10 @@ use lazy_dfa::dfa::{Config, OverlappingState};
 use search_types::{Anchored, Input, MatchKind};
 use std::alloc::Global;
 use std::test::Fail;
-use tests_machines::answers::{answers, answers_reverse, answers_ready};
+use tests_machines::answers::{answers, answers_ready, answers_reverse};
 use tests_machines::automata::{Ready, machine_of};
 use tests_machines::calls::{Call, Ends, Found, Text};
-use tests_machines::shapes::{Node, answers_by, by_characters, reverse, forward};
+use tests_machines::shapes::{Node, answers_by, by_characters, forward, reverse};
 use tests_machines::spans::{gives_up, no_mode, on, only, over, quit};
 
 /// All matches are asked for.

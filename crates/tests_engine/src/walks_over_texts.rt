@@ -4,7 +4,7 @@ use lazy_dfa::dfa::Config;
 use search_types::{Anchored, Input, MatchKind, Span};
 use std::alloc::Global;
 use std::test::Fail;
-use tests_machines::automata::{machine_reverse, machine_of};
+use tests_machines::automata::{machine_of, machine_reverse};
 use tests_machines::calls::Found;
 use tests_machines::machine::Machine;
 use tests_machines::shapes::{Form, Node, machine_by};

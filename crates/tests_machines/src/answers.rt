@@ -1,5 +1,5 @@
 //! What a machine answers to calls, one after the other.
-use crate::automata::{Ready, machine_reverse, machine_of, machine_ready};
+use crate::automata::{Ready, machine_of, machine_ready, machine_reverse};
 use crate::calls::{Call, Ends, Found, Kind, Over, Room, bytes_of};
 use crate::machine::{Machine, Stepped};
 use determinize_core::Config as StartConfig;

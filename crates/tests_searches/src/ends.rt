@@ -5,7 +5,7 @@ use look_core::Look;
 use search_types::{Anchored, MatchKind};
 use std::test::Fail;
 use tests_machines::calls::{Call, Found, Text};
-use tests_machines::shapes::{Form, Node, answers_by, by_characters, reverse, forward};
+use tests_machines::shapes::{Form, Node, answers_by, by_characters, forward, reverse};
 use tests_machines::spans::{on, over};
 
 /// `a` once or more.
@@ -109,7 +109,15 @@ fn inside_characters(rt: HostRuntime) -> Result<(), Fail> {
     let alloc = rt.alloc();
     let config = Config::new();
     let empty = [Node::Match];
-    assert!(rt; answers_by(alloc, &empty, by_characters(false), config, &empty_forward()));
+    assert!(rt;
+        answers_by(
+            alloc,
+            &empty,
+            by_characters(false),
+            config,
+            &empty_forward()
+        )
+    );
     assert!(rt; answers_by(alloc, &empty, by_characters(true), config, &empty_reverse()));
     assert!(rt; answers_by(alloc, &empty, forward(), config, &empty_by_bytes()));
     assert!(rt; answers_by(alloc, &empty, reverse(), config, &empty_by_bytes()));
@@ -175,8 +183,24 @@ fn quit_bytes(rt: HostRuntime) -> Result<(), Fail> {
     let config = Config::new();
     let quit = config.quit(b'x', true);
     let words = config.unicode_word_boundary(true);
-    assert!(rt; answers_by(alloc, &word_at_the_end(), forward(), config, &up_to_the_end()));
-    assert!(rt; answers_by(alloc, &word_at_the_end(), forward(), quit, &up_to_a_quit_byte()));
+    assert!(rt;
+        answers_by(
+            alloc,
+            &word_at_the_end(),
+            forward(),
+            config,
+            &up_to_the_end()
+        )
+    );
+    assert!(rt;
+        answers_by(
+            alloc,
+            &word_at_the_end(),
+            forward(),
+            quit,
+            &up_to_a_quit_byte()
+        )
+    );
     assert!(rt; answers_by(alloc, &digits(), reverse(), words, &digits_beside_beta()));
     Ok(())
 }

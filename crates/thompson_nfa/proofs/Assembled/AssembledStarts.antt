@@ -1,10 +1,10 @@
 -- The starts of the automaton that is built of a compile's states: the anchored one leads to those of the patterns, one
 -- after the other.
 use Rattle.std.proofs.Common.{◌≡◌, ◌≢◌, ℕ, suc, ◌+◌, ◌*◌, ◌<◌, ◌≤◌, ◌||◌, nat_lt, Bool, true, false, List, [], ◌∷◌, ◌++◌, map, length}
-use Rattle.std.proofs.Common.{get_or, take, inl, inr, ⊎_elim, None, refl, sym, ap, ap₂, ◌∙◌, subst, arith, append-nil}
+use Rattle.std.proofs.Common.{get_or, take, inl, inr, None, refl, sym, ap, ap₂, ◌∙◌, subst, arith, append-nil}
 use Rattle.std.specs.Bool.{nat_eq}
 use Rattle.std.specs.List.{flat_map}
-use Rattle.std.proofs.lemmas.Bool.{cases_Bool, le-ltb, eqb-true, eq-eqb}
+use Rattle.std.proofs.lemmas.Bool.{le-ltb, eq-eqb}
 use Rattle.hir_core.specs.Tree.{Tree}
 use Rattle.nfa_core.specs.BuilderStates.{Assembly, draft_at, union_draft, fail_draft}
 use Rattle.nfa_core.specs.Drafted.{Table, table_ways}

@@ -9,9 +9,7 @@ use Rattle.search_types.specs.Groups.{Groups}
 use Rattle.hir_core.specs.Sequences.{bytes_of, utf8_sequences}
 use Rattle.hir_core.specs.declared.utf8_sequences.Utf8Range.{Utf8Range}
 use Rattle.hir_core.proofs.ForCallers.{sequence_short}
-use Rattle.nfa_core.specs.BuilderStates.{DraftNode, Assembly, draft_at, patched, draft_bytes, is_sparse, empty_draft, range_draft}
-use Rattle.nfa_core.specs.BuilderStates.{sparse_draft, look_draft, capture_start_draft, capture_end_draft, union_draft, union_reverse_draft}
-use Rattle.nfa_core.specs.BuilderStates.{fail_draft, match_draft}
+use Rattle.nfa_core.specs.BuilderStates.{DraftNode, Assembly, draft_at, draft_bytes, is_sparse}
 use Rattle.nfa_core.specs.declared.build_error.BuildError.{BuildError}
 use Rattle.thompson_nfa.specs.Added.{Added, Led}
 use Rattle.thompson_nfa.specs.Compiled.{Grows}

@@ -7,7 +7,7 @@ use Rattle.std.specs.declared.alloc.Global.{Global}
 use Rattle.hir_core.specs.Sequences.{bytes_of}
 use Rattle.hir_core.specs.declared.utf8_sequences.Utf8Range.{Utf8Range}
 use Rattle.thompson_nfa.specs.ClassTries.{AreByteRanges, IsShort}
-use Rattle.thompson_nfa.specs.RangeTries.{IsBefore, AreRanges, IsTrie}
+use Rattle.thompson_nfa.specs.RangeTries.{AreRanges, IsTrie}
 use Rattle.thompson_nfa.specs.RangeWalks.{paths_of}
 use Rattle.thompson_nfa.specs.Utf8Compiles.{last_of}
 use Rattle.thompson_nfa.specs.Utf8Stacks.{AreBytes, ComesAfter}

@@ -9,7 +9,7 @@ use Rattle.hir_core.specs.Facts.{LoopsRead}
 use Rattle.hir_core.specs.Means.{Looks, Means, is_member}
 use Rattle.hir_core.specs.Sequences.{is_in_ranges}
 use Rattle.hir_core.specs.BySequences.{sequence_tree, range_tree, sequences_of}
-use Rattle.hir_core.proofs.ForCallers.{class_to_sequences, sequences_to_class, member_cases, member_of_one}
+use Rattle.hir_core.proofs.ForCallers.{class_to_sequences, sequences_to_class, member_of_one}
 use Rattle.nfa_core.specs.Drafted.{Table}
 use Rattle.thompson_nfa.specs.Denotes.{Denotes}
 use Rattle.thompson_nfa.specs.RangeTries.{IsIn}

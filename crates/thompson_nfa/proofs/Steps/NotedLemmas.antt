@@ -12,7 +12,6 @@ use Rattle.nfa_core.specs.BuilderStates.{with_group}
 use Rattle.nfa_core.specs.CanBuild.{is_known}
 use Rattle.thompson_nfa.specs.NotedGroups.{keeps_group, noted}
 use Rattle.thompson_nfa.specs.declared.which_captures.WhichCaptures.{WhichCaptures}
-use Rattle.thompson_nfa.specs.declared.which_captures.WhichCaptures.TheVariants as which
 
 front_kept : {A : Type 0} (xs ys : List A) (k : ℕ) (d : A) → k < length xs → get_or (xs ++ ys) k d ≡ get_or xs k d
 front_kept [] ys k d l = absurd (omega arith)

@@ -1,10 +1,9 @@
 -- Where classes aren't shrunk, `room` is `count`; where they are, it has room for the plain form too.
-use Rattle.std.proofs.Common.{◌≡◌, ℕ, zero, suc, ◌+◌, ◌-◌, ◌*◌, ◌≤◌, min, Bool, true, false, List, [], ◌∷◌, length, refl, ap, ap₂, arith}
-use Rattle.std.proofs.Common.{nat_le}
+use Rattle.std.proofs.Common.{◌≡◌, ℕ, suc, ◌+◌, ◌-◌, ◌*◌, ◌≤◌, min, Bool, true, false, List, [], ◌∷◌, length, refl, ap, ap₂, arith}
 use Rattle.std.proofs.lemmas.List.{length-map}
 use Rattle.hir_core.specs.Tree.{Tree, empty, literal, byte_class, char_class, look, repetition, capture, nothing, cat, never, alt}
 use Rattle.hir_core.specs.Facts.{count, list_count, capped, repeated_count, sequence_count}
-use Rattle.hir_core.specs.Sequences.{pieces, pieces_of, piece_end, scalar_from, utf8_sequences, byte_ranges}
+use Rattle.hir_core.specs.Sequences.{pieces, piece_end, scalar_from, utf8_sequences, byte_ranges}
 use Rattle.nfa_core.specs.BuilderStates.{Assembly}
 use Rattle.nfa_core.specs.declared.build_error.BuildError.{BuildError}
 use Rattle.thompson_nfa.specs.Compiled.{Makes}

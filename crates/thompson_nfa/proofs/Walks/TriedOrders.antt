@@ -1,20 +1,18 @@
 -- What the walk of a stack lists from a state that tries each place: what it lists at the places, one after the other.
-use Rattle.std.proofs.Common.{◌≡◌, ℕ, zero, suc, ◌+◌, ◌-◌, ◌≤◌, Bool, true, false, List, [], ◌∷◌, if◌then◌else◌, nat_lt, ⊎_elim, None, refl}
+use Rattle.std.proofs.Common.{◌≡◌, ℕ, zero, suc, ◌+◌, ◌-◌, ◌≤◌, false, List, [], ◌∷◌, refl}
 use Rattle.std.proofs.Common.{sym, ap, ◌∙◌, arith, append-nil}
 use Rattle.std.specs.List.{flat_map}
-use Rattle.std.proofs.lemmas.Bool.{cases_Bool, ltb-true}
-use Rattle.search_core.specs.Text.{byte_at}
 use Rattle.hir_core.proofs.ForCallers.{flat_map_same}
 use Rattle.nfa_core.specs.Walks.{lists_none}
-use Rattle.nfa_core.specs.Ways.{Text, with_place}
+use Rattle.nfa_core.specs.Ways.{Text}
 use Rattle.nfa_core.specs.Drafted.{Table}
 use Rattle.thompson_nfa.specs.Denotes.{at, Orders}
 use Rattle.thompson_nfa.specs.Compilations.{places_from}
 use Rattle.thompson_nfa.specs.Assembled.{TriesEachPlace}
-use Rattle.thompson_nfa.proofs.Walks.WayLemmas.{byte_ends, goes_empty}
+use Rattle.thompson_nfa.proofs.Walks.WayLemmas.{goes_empty}
 use Rattle.thompson_nfa.proofs.Walks.OrderLemmas.{ListedFirsts, firsts_of, firsts_append, firsts_behind, orders_like, orders_join}
 use Rattle.thompson_nfa.proofs.Walks.OrderLemmas.{orders_leaf, orders_rounds}
-use Rattle.thompson_nfa.proofs.Walks.TriedPlaces.{any_range, any_ends, IsText, ends_forward, moves_forward, goes_on, goes_any}
+use Rattle.thompson_nfa.proofs.Walks.TriedPlaces.{any_ends, IsText, ends_forward, moves_forward, goes_on, goes_any}
 use Rattle.thompson_nfa.proofs.Assembled.AssembledTries.{nothing_read}
 
 -- the place, and those that are come to from it by so many bytes at most

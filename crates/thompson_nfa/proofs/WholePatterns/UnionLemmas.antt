@@ -4,8 +4,8 @@ use Rattle.std.proofs.Common.{Some, refl, sym, ap, ◌∙◌, subst, arith, leng
 use Rattle.std.proofs.lemmas.List.{append_assoc, append-nil, take_more, length-take-le}
 use Rattle.std.proofs.lemmas.Option.{slice_get-get_or}
 use Rattle.hir_core.specs.Tree.{Tree}
-use Rattle.nfa_core.specs.BuilderStates.{DraftNode, Assembly, empty_draft, range_draft, sparse_draft, look_draft, capture_start_draft}
-use Rattle.nfa_core.specs.BuilderStates.{capture_end_draft, union_draft, union_reverse_draft, fail_draft, match_draft, draft_at, patched}
+use Rattle.nfa_core.specs.BuilderStates.{Assembly}
+use Rattle.nfa_core.specs.BuilderStates.{union_draft, draft_at, patched}
 use Rattle.nfa_core.specs.BuilderStates.{is_sparse}
 use Rattle.nfa_core.specs.declared.build_error.BuildError.{BuildError}
 use Rattle.nfa_core.specs.declared.build_error.BuildError.TheVariants as error

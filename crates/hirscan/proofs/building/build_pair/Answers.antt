@@ -8,7 +8,7 @@ pub returns-in-Err-build_from_nfas-clause-refused : goal.returns-in-Err-build_fr
 returns-in-Err-build_from_nfas-clause-refused c =
     build_refused c.args.exprs.now c.args.settings.now _ _ c.in-Ok.ensures.compiled c.in-Ok-compile.ensures.compiled
     c.in-Err-build_from_nfas.e c.builder_with-builder.result (sym c.in-Err-build_from_nfas.is
-        ∙ c.build_from_nfas.ensures) c.builder_with-builder.ensures
+    ∙ c.build_from_nfas.ensures) c.builder_with-builder.ensures
 
 pub returns-clause-built : goal.returns-clause-built
 returns-clause-built c =

@@ -20,7 +20,7 @@ loop-item-init c =
 pub loop-item-preserved : goal.loop-item-preserved
 loop-item-preserved c =
     lists_more _ _ _ _ _ _ c.next.new.self c.in-Ok.found c.loop-item.invariant
-        (rw c.in-Ok.is at c.in-Some.ensures.steps) c.in_ok-push_span-in-Ok.ensures
+    (rw c.in-Ok.is at c.in-Some.ensures.steps) c.in_ok-push_span-in-Ok.ensures
 
 pub failed_reply-requires : goal.failed_reply-requires
 failed_reply-requires c =
@@ -28,7 +28,7 @@ failed_reply-requires c =
       told = ends_list (value_of_head c.args.head.now).setup c.args.head.now.patterns.items c.args.h.now c.see_bytes.ensures
           c.requires.searched
           c.args.regex.now c.requires.built _ _ _ c.next.new.self c.in-Err.e c.loop-item.invariant
-              (rw c.in-Err.is at c.in-Some.ensures.steps);
+          (rw c.in-Err.is at c.in-Some.ensures.steps);
     }
 
 pub returns-in-Err : goal.returns-in-Err

@@ -8,4 +8,4 @@ use Rattle.hirscan.proofs.reply.list_matches.Given as goal
 abbrev pub invariant-loop-item : goal.invariant-loop-item
 invariant-loop-item l =
     ListsUpTo l.fn.regex (search_of (value_of_head l.fn.head).setup l.fn.h) (lender_of l.initial.item-iterator)
-        (string_bytes l.text) l.item-iterator
+    (string_bytes l.text) l.item-iterator

@@ -5,5 +5,5 @@ use Rattle.hirscan.proofs.reply.regex_of.Goals as goal
 pub returns-in-Err-NFA : goal.returns-in-Err-NFA
 returns-in-Err-NFA c =
     too_large (value_of_head c.args.head.now).setup c.args.head.now.patterns.items c.requires.few _ _ _ c.in-Err-NFA.field-0-0
-        c.deref.ensures.value
+    c.deref.ensures.value
     c.program_settings-settings.ensures c.in-Err-NFA.field-0-is c.in-Err-NFA.ensures.refused

@@ -22,7 +22,7 @@ slice_bounds-search_reply-start c = head_len_le _ _ _ _ c.in-Ok.ensures.ok
 pub returns-in-Ok : goal.returns-in-Ok
 returns-in-Ok c =
     reply_of_search c.search_reply.result c.args.input.now _ (value_of_head c.in-Ok.head) c.in-Ok.head.len c.if-input-gt-INPUT_LIMIT.false
-        c.in-Ok.ensures.ok
+    c.in-Ok.ensures.ok
     refl c.search_reply.ensures
 
 pub returns-then-input-gt-INPUT_LIMIT : goal.returns-then-input-gt-INPUT_LIMIT

@@ -10,10 +10,10 @@ returns-in-Some c =
     let told = rw c.in-Some.is at c.in_ok-cause.ensures in
     let found : refusal at.setup at.patterns c.args.h.now ≡ Some c.as_str.result.now = sym told ∙ ap Some (sym c.as_str.ensures.value) in
     answer_of_refusal c.refusal.result at.setup at.patterns c.args.h.now c.as_str.result.now c.refusal.ensures.ending c.refusal.ensures.text
-        found
+    found
 
 pub returns : goal.returns
 returns c =
     let at = value_of_head c.args.head.now in
     answer_of_search c.list_matches.result at.setup at.patterns c.args.h.now
-        (sym (rw c.in_default.is at c.in_ok-cause.ensures)) c.list_matches.ensures
+    (sym (rw c.in_default.is at c.in_ok-cause.ensures)) c.list_matches.ensures

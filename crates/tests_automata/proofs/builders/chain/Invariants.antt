@@ -3,7 +3,7 @@ use Rattle.tests_automata.proofs.builders.chain.Given as goal
 
 abbrev pub invariant-loop-index : goal.invariant-loop-index
 invariant-loop-index l = record {
-  len : length l.builder.parts ≡ l._index + 1;
-  there : l.at < length l.builder.parts;
+  len : length l.builder.drafts ≡ l._index + 1;
+  there : l.at < length l.builder.drafts;
   opened : l.builder.is_open ≡ true;
 }
