@@ -1,5 +1,5 @@
 //! The numbers of states that a walk has still to visit: a list that ends with the one on top.
-ghost use Rattle.std.specs.Prelude.{◌≡◌, ◌+◌, ◌<◌, ◌≤◌, ◌∷◌, ◌++◌, [], length, reverse, All, OnOk, IfSome, MatchOption};
+ghost use Rattle.std.specs.Prelude.{◌≡◌, ℕ, ◌+◌, ◌<◌, ◌≤◌, ◌∷◌, ◌++◌, [], length, reverse, drop, All, OnOk, OnErr, IfSome, MatchOption};
 ghost use Rattle.std.specs.Bool.{nat_eq};
 ghost use Rattle.std.specs.List.{IsDistinct};
 ghost use Rattle.nfa_core.specs.Reached.{AreBelow, Meets};
@@ -10,10 +10,11 @@ use search_core::StateID;
 use std::alloc::AllocError;
 use std::sync::ledger::Ledger;
 
-/// Puts a number on top.
+/// Puts a number on top. Where memory lacks, the stack stands as it was.
 #[tactic(auto, using(crate::proofs::StackedLemmas::reverse_pushed))]
 pub fn push(stack: &mut Vec<StateID>, id: StateID) -> Result<(), AllocError>
-    ensures { OnOk result (reverse stack.new.items ≡ id ∷ reverse stack.old.items) }
+    ensures ok { OnOk result (reverse stack.new.items ≡ id ∷ reverse stack.old.items) }
+    ensures err { OnErr result (stack.new.items ≡ stack.old.items) }
 {
     stack.push(id)?;
     Ok(())
@@ -28,9 +29,10 @@ pub fn pop(stack: &mut Vec<StateID>) -> Option<StateID>
     stack.pop()
 }
 
-/// Puts numbers on top, the first one at the very top.
+/// Puts numbers on top, the first one at the very top. Where memory lacks, the stack has only the last of them on top.
 pub fn push_all(stack: &mut Vec<StateID>, ids: &[StateID]) -> Result<(), AllocError>
-    ensures { OnOk result (reverse stack.new.items ≡ ids.now ++ reverse stack.old.items) }
+    ensures ok { OnOk result (reverse stack.new.items ≡ ids.now ++ reverse stack.old.items) }
+    ensures err { OnErr result ((k : ℕ) × (0 < k) × (reverse stack.new.items ≡ drop k ids.now ++ reverse stack.old.items)) }
 {
     for i in (0..ids.len()).rev() {
         push(stack, ids[i])?;

@@ -5,7 +5,7 @@ use Rattle.determinize_core.proofs.closure.epsilon_closure.Goals as goal
 
 pub loop-id-init : goal.loop-id-init
 loop-id-init g c =
-    let one : reverse c.push.new.stack.items ≡ c.args.start ∷ [] = c.in_ok-push.ensures
+    let one : reverse c.push.new.stack.items ≡ c.args.start ∷ [] = c.in_ok-push.ensures.ok
     ∙ ap (λ (xs : List ℕ). c.args.start ∷ reverse xs) c.requires.empty in
     record {
       bound = refl;
