@@ -1,6 +1,6 @@
 -- A builder keeps to its limit and its rules as states are added and changed, and patterns begin and end.
 use Rattle.std.proofs.Common.{◌≡◌, ℕ, ◌+◌, ◌<◌, ◌≤◌, true, List, [], ◌∷◌, ◌++◌, map, length, sym, ap, subst, nat_lt, Option, None, Some}
-use Rattle.std.proofs.Common.{◌∙◌, arith, length-append, if◌then◌else◌}
+use Rattle.std.proofs.Common.{◌∙◌, arith, length-append, if◌then◌else◌, le-ltb, refl}
 use Rattle.std.specs.Prelude.{MatchOption, ⊤}
 use Rattle.std.proofs.lemmas.Bool.{ltb-false, lt-ltb}
 use Rattle.std.proofs.lemmas.List.{map-append, length-map, length-set}
@@ -9,13 +9,18 @@ use Rattle.search_core.specs.Index.{greatest_index}
 use Rattle.nfa_core.specs.BuilderStates.{DraftNode, empty_draft, range_draft, sparse_draft, look_draft, capture_start_draft}
 use Rattle.nfa_core.specs.BuilderStates.{capture_end_draft, union_draft, union_reverse_draft, fail_draft, match_draft, bytes_of, patched}
 use Rattle.nfa_core.specs.BuilderStates.{draft_at, patched_at}
-use Rattle.nfa_core.specs.BuilderFaults.{limit_fault, index_fault, captures_refused}
+use Rattle.nfa_core.specs.BuilderFaults.{limit_fault, index_fault, captures_refused, exceeded_size_limit}
 use Rattle.search_types.specs.GroupFaults.{TooManyGroups}
 use Rattle.nfa_core.specs.InOrder.{IsDraftOf, IsInOrder}
 
 pub limit_kept : (limit : Option ℕ) (bytes : ℕ) → limit_fault limit bytes ≡ None → MatchOption limit ⊤ (λ most. bytes ≤ most)
 limit_kept None bytes e = tt
 limit_kept (Some most) bytes e = grind (arith, ltb-false most bytes)
+
+-- what is within the limit isn't refused
+pub limit_holds : (limit : Option ℕ) (bytes : ℕ) → MatchOption limit ⊤ (λ most. bytes ≤ most) → limit_fault limit bytes ≡ None
+limit_holds None bytes within = refl
+limit_holds (Some most) bytes within = ap (λ b. if b then Some (exceeded_size_limit most) else None) (le-ltb most bytes within)
 
 pub order_added : {D : Type 0} (view : D → DraftNode) (old new : List D) (one : D) (patterns : ℕ) (limit : Option ℕ) →
     new ≡ old ++ one ∷ [] →

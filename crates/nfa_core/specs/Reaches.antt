@@ -9,7 +9,7 @@ use Rattle.nfa_core.specs.Ways.{Text, plain_steps, byte_steps, place_of}
 abbrev pub read_by : (Look → ℕ → Bool) → List ℕ → ℕ → ℕ → Text
 read_by holds h i j = record { haystack = h; start = i; end = j; holds = holds }
 
--- the place j is one to which one comes from place i by reading up, or down, so many bytes at most
+-- the place j is one to which one comes from place i by reading forward, or in reverse, so many bytes at most
 abbrev pub IsInside : Bool → ℕ → ℕ → ℕ → Type 0
 IsInside reverse i len j = (k : ℕ) × (k ≤ len) × (j ≡ place_of reverse i k)
 

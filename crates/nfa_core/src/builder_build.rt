@@ -1,5 +1,6 @@
-ghost use Rattle.std.specs.Prelude.{◌≡◌, ◌⊎◌, ◌+◌, ◌*◌, ◌≤◌, length, None, IfOk, MatchOption, MatchResult, ⊤};
+ghost use Rattle.std.specs.Prelude.{◌≡◌, ◌⊎◌, ◌+◌, ◌*◌, ◌≤◌, length, None, IfErr, IfOk, MatchOption, MatchResult, ⊤};
 ghost use Rattle.search_types.specs.GroupFaults.{groups_in, group_fault};
+ghost use Rattle.search_types.specs.GroupRefusals.{TakesMemory};
 ghost use Rattle.nfa_core.specs.declared.build_error.BuildError.TheVariants.{NoMemory};
 ghost use Rattle.nfa_core.specs.BuilderFaults.{Tells, groups_fault, build_fault};
 ghost use Rattle.nfa_core.specs.CanBuild.{CanBuild};
@@ -22,8 +23,9 @@ use std::sync::ledger::Ledger;
 impl Builder {
     /// The automaton of the states, which starts in one of these for an anchored search and in the other for
     /// one that isn't. Empty states and unions of one way are left out, and what led to one of them leads to
-    /// the first state past it that is neither. Groups that break a rule are refused; want of memory may be told
-    /// before. The automaton keeps to the builder's size limit.
+    /// the first state past it that is neither. Groups that break a rule are refused, whatever memory there
+    /// is; but where a name stands twice, want of memory may be told for it. The automaton keeps to the builder's
+    /// size limit.
     ///
     /// A move is one way that is followed past a state that is left out; there are two for each state at most.
     pub fn build<L: Ledger>(
@@ -35,6 +37,7 @@ impl Builder {
         requires { CanBuild self.now start_anchored start_unanchored }
         ensures value { MatchResult result (λ n. (n ≡ nfa_of self.now start_anchored start_unanchored) × (build_fault self.now ≡ None))
             (λ e. (e ≡ NoMemory) ⊎ Tells e (build_fault self.now)) }
+        ensures told { IfErr result (λ e. e ≡ NoMemory → TakesMemory (group_fault self.now.groups)) }
         ensures within { IfOk result (λ n. MatchOption self.now.size_limit ⊤ (λ most. memory_of n.automaton.states ≤ most)) }
         ensures moves { steps.new ≤ steps.old + 2 * length self.now.drafts }
     {
@@ -80,8 +83,9 @@ impl Builder {
 
 /// Takes the names of each pattern's groups, where these break no rule.
 fn take_groups(alloc: Global, groups: &[Vec<Option<String>>]) -> Result<GroupInfo, BuildError>
-    ensures { MatchResult result (λ g. (g ≡ groups_in groups.now) × (group_fault (groups_in groups.now) ≡ None))
+    ensures value { MatchResult result (λ g. (g ≡ groups_in groups.now) × (group_fault (groups_in groups.now) ≡ None))
         (λ e. (e ≡ NoMemory) ⊎ Tells e (groups_fault (group_fault (groups_in groups.now)))) }
+    ensures told { IfErr result (λ e. e ≡ NoMemory → TakesMemory (group_fault (groups_in groups.now))) }
 {
     match GroupInfo::new(alloc, groups) {
         Ok(taken) => Ok(taken),

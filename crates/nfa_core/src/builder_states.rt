@@ -1,4 +1,4 @@
-ghost use Rattle.std.specs.Prelude.{◌≡◌, ◌<◌, ◌≤◌, true, false, length, map, None, All, MatchResult};
+ghost use Rattle.std.specs.Prelude.{◌≡◌, ◌<◌, ◌≤◌, true, false, length, map, None, All, IsOk, MatchResult};
 ghost use Rattle.nfa_core.specs.BuilderStates.{empty_draft, range_draft, sparse_draft, look_draft, union_draft, union_reverse_draft, fail_draft, match_draft, AscendsFrom, draft_at, patched_at, way_bytes, is_sparse};
 ghost use Rattle.nfa_core.specs.BuilderFaults.{Adds, Tells, patch_fault};
 ghost use Rattle.nfa_core.specs.declared.build_error.BuildError.TheVariants.{NoMemory};
@@ -79,15 +79,16 @@ impl Builder {
     }
 
     /// Lets the state `from` lead to `to`: a union has one more way, behind those that it had, and any other
-    /// state leads there and no more where it did.
-    #[tactic(auto, using(crate::proofs::BuilderLemmas::bytes_patched))]
+    /// state leads there and no more where it did, which is never refused.
+    #[tactic(auto, using(crate::proofs::BuilderLemmas::bytes_patched, crate::proofs::OrderLemmas::limit_holds))]
     pub fn patch(&mut self, from: StateID, to: StateID) -> Result<(), BuildError>
         requires from { from < length self.old.drafts }
         requires to { to < length self.old.drafts }
         requires kind { is_sparse (draft_at self.old.drafts from) ≡ false }
-        ensures { MatchResult result
+        ensures value { MatchResult result
             (λ _. (self.new ≡ record self.old { drafts = patched_at self.old.drafts from to }) × (patch_fault self.old from to ≡ None))
             (λ e. (self.new ≡ self.old) × Tells e (patch_fault self.old from to)) }
+        ensures free { way_bytes (draft_at self.old.drafts from) ≡ 0 → IsOk result }
     {
         let memory = self.memory.saturating_add(way_memory(&self.drafts, from));
         check_limit(self.size_limit, memory)?;
@@ -123,11 +124,12 @@ fn way_memory(drafts: &[Draft], from: StateID) -> usize
 }
 
 /// Lets one of the states lead to `to`.
-#[tactic(auto, using(crate::proofs::BuilderLemmas::view_patched, crate::proofs::BuilderLemmas::view_kept))]
+#[tactic(auto, using(crate::proofs::BuilderLemmas::view_patched, crate::proofs::BuilderLemmas::view_kept, crate::proofs::BuilderLemmas::view_at))]
 fn patch(drafts: &mut Vec<Draft>, from: StateID, to: StateID) -> Result<(), BuildError>
     requires { from < length drafts.old.items }
-    ensures { MatchResult result (λ _. map draft_of drafts.new.items ≡ patched_at (map draft_of drafts.old.items) from to)
+    ensures value { MatchResult result (λ _. map draft_of drafts.new.items ≡ patched_at (map draft_of drafts.old.items) from to)
         (λ e. (map draft_of drafts.new.items ≡ map draft_of drafts.old.items) × (e ≡ NoMemory)) }
+    ensures free { way_bytes (draft_at (map draft_of drafts.old.items) from) ≡ 0 → IsOk result }
 {
     drafts[from.as_usize()].patch(to)?;
     Ok(())

@@ -1,4 +1,4 @@
-ghost use Rattle.std.specs.Prelude.{◌≡◌, ◌≤◌, ◌∷◌, [], length, min, MatchResult};
+ghost use Rattle.std.specs.Prelude.{◌≡◌, ◌≤◌, ◌∷◌, [], length, min, IsOk, MatchResult};
 ghost use Rattle.nfa_core.specs.BuilderStates.{draft_bytes, list_bytes, way_bytes, patched, union_draft};
 ghost use Rattle.nfa_core.specs.Renaming.{stands_for, kept};
 ghost use Rattle.nfa_core.specs.Drafts.{draft_of};
@@ -116,7 +116,8 @@ impl Draft {
 
     /// Lets the state lead to `to`: a union has one more way, and any other state leads there alone.
     pub(crate) fn patch(&mut self, to: StateID) -> Result<(), AllocError>
-        ensures { MatchResult result (λ _. draft_of self.new ≡ patched to (draft_of self.old)) (λ _. draft_of self.new ≡ draft_of self.old) }
+        ensures value { MatchResult result (λ _. draft_of self.new ≡ patched to (draft_of self.old)) (λ _. draft_of self.new ≡ draft_of self.old) }
+        ensures free { way_bytes (draft_of self.old) ≡ 0 → IsOk result }
     {
         match self {
             Draft::Empty { next } => *next = to,

@@ -29,10 +29,12 @@ pub fn pop(stack: &mut Vec<StateID>) -> Option<StateID>
     stack.pop()
 }
 
-/// Puts numbers on top, the first one at the very top. Where memory lacks, the stack has only the last of them on top.
+/// Puts numbers on top, the first one at the very top. Where memory lacks, the stack has only the last of them on top,
+/// fewer than all: an empty list is never refused.
 pub fn push_all(stack: &mut Vec<StateID>, ids: &[StateID]) -> Result<(), AllocError>
     ensures ok { OnOk result (reverse stack.new.items ≡ ids.now ++ reverse stack.old.items) }
     ensures err { OnErr result ((k : ℕ) × (0 < k) × (reverse stack.new.items ≡ drop k ids.now ++ reverse stack.old.items)) }
+    ensures fewer { OnErr result (length (reverse stack.new.items) < length ids.now + length (reverse stack.old.items)) }
 {
     for i in (0..ids.len()).rev() {
         push(stack, ids[i])?;
