@@ -62,6 +62,15 @@ pub unfinished_match : (bytes : List ℕ) (m : Bool) → IsUnfinished bytes → 
     is_match (decoded_unfinished bytes).matches ≡ m
 unfinished_match bytes m of flag = sym (match_back _ _ _ _) ∙ (sym (ap (λ (xs : List ℕ). has_flag (slice_index xs 0) 1) of.same) ∙ flag)
 
+-- where no pattern matches, neither flag is set
+pub not_listed : (bytes : List ℕ) → IsUnfinished bytes → (decoded_unfinished bytes).matches ≡ [] →
+    has_flag (slice_index bytes 0) 2 ≡ false
+not_listed bytes of none = sym (unfinished_listed bytes _ of refl) ∙ ap is_listed none
+
+pub not_matching : (bytes : List ℕ) → IsUnfinished bytes → (decoded_unfinished bytes).matches ≡ [] →
+    has_flag (slice_index bytes 0) 1 ≡ false
+not_matching bytes of none = sym (unfinished_match bytes _ of refl) ∙ ap is_match none
+
 -- the bytes as the patterns have them
 abbrev flags_with : StateValue → Bool → Bool → ℕ
 flags_with v m l = flag_byte m l v.is_from_word v.is_half_crlf

@@ -1,8 +1,7 @@
 -- Bytes that an automaton does not tell apart lead from a state to the same state, and a search starts in the same state behind
 -- them.
-use Rattle.std.proofs.Common.{◌≡◌, ◌≢◌, ℕ, ◌==◌, ◌&&◌, ◌||◌, true, false, Bool, not, List, [], ◌∷◌, length, Option, Some, None, refl, sym}
+use Rattle.std.proofs.Common.{◌≡◌, ℕ, ◌==◌, ◌&&◌, ◌||◌, true, false, Bool, not, List, [], ◌∷◌, length, Option, Some, None, refl, sym}
 use Rattle.std.proofs.Common.{ap, ◌∙◌, subst, arith}
-use Rattle.std.proofs.lemmas.Bool.{ne_eqb}
 use Rattle.std.proofs.lemmas.Nat.{and_le_r}
 use Rattle.std.specs.Bool.{nat_eq}
 use Rattle.std.specs.List.{flat_map, list_any}
@@ -35,9 +34,11 @@ use Rattle.determinize_core.specs.Steps.{reading, gains, ids_before, families, s
 use Rattle.determinize_core.specs.Steps.{start_value}
 use Rattle.determinize_core.specs.declared.lookbehind.Families.{Families}
 use Rattle.determinize_core.specs.declared.lookbehind.LookBehind.{LookBehind}
-use Rattle.determinize_core.proofs.DecidedLemmas.{has_family}
+use Rattle.determinize_core.proofs.DecidedLemmas.{has_family, lines_is, crlf_is, words_is}
+use Rattle.determinize_core.proofs.ExactLemmas.{first_is_line_feed, first_is_carriage_return, second_is_line_feed}
+use Rattle.determinize_core.proofs.ExactLemmas.{second_is_carriage_return, no_first, no_second}
 use Rattle.determinize_core.proofs.LookBehindLemmas.{start_cases}
-use Rattle.determinize_core.proofs.PassedLemmas.{any_wanted, known_list, known_wanted, lines_is, crlf_is, words_is}
+use Rattle.determinize_core.proofs.PassedLemmas.{any_wanted, known_list, known_wanted}
 
 -- ---- tests
 
@@ -251,30 +252,6 @@ units_step_alike a t kind v (Some b) None stepped alike = absurd alike
 
 -- ---- starts
 
-line_feed_first : (r : Bool) → r ≡ (first_half r == 0x0A)
-line_feed_first true = refl
-line_feed_first false = refl
-
-line_feed_second : (r : Bool) → not r ≡ (second_half r == 0x0A)
-line_feed_second true = refl
-line_feed_second false = refl
-
-carriage_first : (r : Bool) → not r ≡ (first_half r == 0x0D)
-carriage_first true = refl
-carriage_first false = refl
-
-carriage_second : (r : Bool) → not (not r) ≡ (second_half r == 0x0D)
-carriage_second true = refl
-carriage_second false = refl
-
-other_first : (r : Bool) (b : ℕ) → b ≢ 0x0A → b ≢ 0x0D → false ≡ (first_half r == b)
-other_first true b n m = sym (ne_eqb 0x0A b (λ e. n (sym e)))
-other_first false b n m = sym (ne_eqb 0x0D b (λ e. m (sym e)))
-
-other_second : (r : Bool) (b : ℕ) → b ≢ 0x0A → b ≢ 0x0D → false ≡ (second_half r == b)
-other_second true b n m = sym (ne_eqb 0x0D b (λ e. m (sym e)))
-other_second false b n m = sym (ne_eqb 0x0A b (λ e. n (sym e)))
-
 -- what is known behind a byte: whether it ends a line, is a word byte, and is the first or the second half of a CRLF
 abbrev by_answers : Families → Bool → Bool → Bool → Bool → LookBehind
 by_answers f line word first second = record {
@@ -288,11 +265,11 @@ start_is : (f : Families) (r : Bool) (t : Terminator) (b : ℕ) →
 start_is f r t b = start_cases f r t b (λ x. x ≡ by_answers f (ends_line t b) (is_word_byte b) (first_half r == b) (second_half r == b))
     (λ is. subst (λ (d : ℕ). behind_line f r (ends_line t 0x0A) ≡ by_answers f (ends_line t d) (is_word_byte d) (first_half r == d)
     (second_half r == d)) (sym is)
-    (λ i. by_answers f (ends_line t 0x0A) false (line_feed_first r i) (line_feed_second r i)))
+    (λ i. by_answers f (ends_line t 0x0A) false (first_is_line_feed r i) (second_is_line_feed r i)))
     (λ is. subst (λ (d : ℕ). behind_line f (not r) (ends_line t 0x0D) ≡ by_answers f (ends_line t d) (is_word_byte d) (first_half r == d)
     (second_half r == d)) (sym is)
-    (λ i. by_answers f (ends_line t 0x0D) false (carriage_first r i) (carriage_second r i)))
-    (λ n m i. by_answers f (ends_line t b) (is_word_byte b) (other_first r b n m i) (other_second r b n m i))
+    (λ i. by_answers f (ends_line t 0x0D) false (first_is_carriage_return r i) (second_is_carriage_return r i)))
+    (λ n m i. by_answers f (ends_line t b) (is_word_byte b) (sym (no_first r b n m) i) (sym (no_second r b n m) i))
 
 module _ (looks : ℕ) (r : Bool) (t : Terminator) (b c : ℕ) (asked : AskedAlike looks t b c) where
   answers_alike : by_answers (families_of looks) (ends_line t b) (is_word_byte b) (first_half r == b) (second_half r == b)

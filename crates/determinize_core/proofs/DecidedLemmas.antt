@@ -11,9 +11,10 @@ use Rattle.look_core.specs.declared.look.Look.TheVariants.{Start as AtStart, Sta
 use Rattle.look_core.proofs.ForCallers.{look_at-bit_of, bit_of-lt}
 use Rattle.determinize_core.specs.Starts.{start_of}
 use Rattle.determinize_core.specs.LookBehind.{families_of, look_behind, is_decided}
+use Rattle.determinize_core.specs.Steps.{first_half, second_half}
 use Rattle.determinize_core.specs.declared.lookbehind.LookBehind.{LookBehind}
 use Rattle.determinize_core.proofs.EdgeLemmas.{none_before, none_at}
-use Rattle.determinize_core.proofs.ExactLemmas.{first_half, second_half, edge_exact, lines_exact, crlf_exact, half_exact, ascii_exact}
+use Rattle.determinize_core.proofs.ExactLemmas.{edge_exact, lines_exact, crlf_exact, half_exact, ascii_exact}
 use Rattle.determinize_core.proofs.ExactLemmas.{unicode_exact, word_exact}
 
 -- ---- a family of which there is a member
@@ -33,19 +34,19 @@ with_family false b e = refl
 
 -- ---- the families of a set
 
-haystack_is : (looks : ℕ) → (families_of looks).haystack ≡ has_any is_anchor_haystack looks
+pub haystack_is : (looks : ℕ) → (families_of looks).haystack ≡ has_any is_anchor_haystack looks
 unfolding families_of
 haystack_is looks = refl
 
-lines_is : (looks : ℕ) → (families_of looks).lines ≡ has_any is_anchor_lf looks
+pub lines_is : (looks : ℕ) → (families_of looks).lines ≡ has_any is_anchor_lf looks
 unfolding families_of
 lines_is looks = refl
 
-crlf_is : (looks : ℕ) → (families_of looks).crlf ≡ has_any is_anchor_crlf looks
+pub crlf_is : (looks : ℕ) → (families_of looks).crlf ≡ has_any is_anchor_crlf looks
 unfolding families_of
 crlf_is looks = refl
 
-words_is : (looks : ℕ) → (families_of looks).words ≡ has_any is_word_look looks
+pub words_is : (looks : ℕ) → (families_of looks).words ≡ has_any is_word_look looks
 unfolding families_of
 words_is looks = refl
 

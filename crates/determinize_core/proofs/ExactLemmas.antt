@@ -11,6 +11,7 @@ use Rattle.look_core.specs.declared.look.Look.TheVariants.{Start as AtStart, Sta
 use Rattle.look_core.proofs.ForCallers.{has_look-none, has_look-with}
 use Rattle.determinize_core.specs.Starts.{start_of}
 use Rattle.determinize_core.specs.LookBehind.{with_if, starts_of, known_at_line, known_at_byte, behind_start}
+use Rattle.determinize_core.specs.Steps.{first_half, second_half}
 use Rattle.determinize_core.proofs.LookBehindLemmas.{start_cases}
 use Rattle.determinize_core.specs.declared.lookbehind.Families.{Families}
 
@@ -71,36 +72,27 @@ unicode_of f =
 
 -- ---- what a start tells, by the byte that stands before the place
 
--- the bytes of a carriage return and a line feed, in the order of the search
-abbrev pub first_half : Bool → ℕ
-first_half false = 0x0D
-first_half true = 0x0A
-
-abbrev pub second_half : Bool → ℕ
-second_half false = 0x0A
-second_half true = 0x0D
-
-first_is_line_feed : (r : Bool) → r ≡ (first_half r == 0x0A)
+pub first_is_line_feed : (r : Bool) → r ≡ (first_half r == 0x0A)
 first_is_line_feed true = refl
 first_is_line_feed false = refl
 
-first_is_carriage_return : (r : Bool) → not r ≡ (first_half r == 0x0D)
+pub first_is_carriage_return : (r : Bool) → not r ≡ (first_half r == 0x0D)
 first_is_carriage_return true = refl
 first_is_carriage_return false = refl
 
-second_is_line_feed : (r : Bool) → not r ≡ (second_half r == 0x0A)
+pub second_is_line_feed : (r : Bool) → not r ≡ (second_half r == 0x0A)
 second_is_line_feed true = refl
 second_is_line_feed false = refl
 
-second_is_carriage_return : (r : Bool) → not (not r) ≡ (second_half r == 0x0D)
+pub second_is_carriage_return : (r : Bool) → not (not r) ≡ (second_half r == 0x0D)
 second_is_carriage_return true = refl
 second_is_carriage_return false = refl
 
-no_first : (r : Bool) (b : ℕ) → b ≢ 0x0A → b ≢ 0x0D → (first_half r == b) ≡ false
+pub no_first : (r : Bool) (b : ℕ) → b ≢ 0x0A → b ≢ 0x0D → (first_half r == b) ≡ false
 no_first true b n m = ne_eqb 0x0A b (λ e. n (sym e))
 no_first false b n m = ne_eqb 0x0D b (λ e. m (sym e))
 
-no_second : (r : Bool) (b : ℕ) → b ≢ 0x0A → b ≢ 0x0D → (second_half r == b) ≡ false
+pub no_second : (r : Bool) (b : ℕ) → b ≢ 0x0A → b ≢ 0x0D → (second_half r == b) ≡ false
 no_second true b n m = ne_eqb 0x0D b (λ e. m (sym e))
 no_second false b n m = ne_eqb 0x0A b (λ e. n (sym e))
 

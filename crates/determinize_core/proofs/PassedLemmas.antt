@@ -23,9 +23,9 @@ use Rattle.determinize_core.specs.KnownBefore.{known_words, known_lines}
 use Rattle.determinize_core.specs.Steps.{first_half, second_half, is_end, known_before, known_behind, unit_at, unit_behind}
 use Rattle.determinize_core.specs.declared.lookbehind.Families.{Families}
 use Rattle.determinize_core.proofs.EdgeLemmas.{none_before, none_at}
-use Rattle.determinize_core.proofs.DecidedLemmas.{has_family, with_family}
+use Rattle.determinize_core.proofs.DecidedLemmas.{has_family, with_family, haystack_is, lines_is, crlf_is, words_is}
 use Rattle.determinize_core.proofs.LookBehindLemmas.{start_cases}
-use Rattle.determinize_core.proofs.ExactLemmas.{first_half as exact_first, second_half as exact_second, edge_exact, lines_exact, crlf_exact}
+use Rattle.determinize_core.proofs.ExactLemmas.{edge_exact, lines_exact, crlf_exact}
 use Rattle.determinize_core.proofs.ExactLemmas.{half_exact, ascii_exact, unicode_exact, word_exact}
 
 -- ---- where looks hold, in the order of reading
@@ -325,30 +325,6 @@ known_passed looks r t o u v flagged is l m =
 
 -- ---- what is known at a start, and behind a unit
 
-haystack_is : (looks : ℕ) → (families_of looks).haystack ≡ has_any is_anchor_haystack looks
-unfolding families_of
-haystack_is looks = refl
-
-pub lines_is : (looks : ℕ) → (families_of looks).lines ≡ has_any is_anchor_lf looks
-unfolding families_of
-lines_is looks = refl
-
-pub crlf_is : (looks : ℕ) → (families_of looks).crlf ≡ has_any is_anchor_crlf looks
-unfolding families_of
-crlf_is looks = refl
-
-pub words_is : (looks : ℕ) → (families_of looks).words ≡ has_any is_word_look looks
-unfolding families_of
-words_is looks = refl
-
-same_first : (r : Bool) → exact_first r ≡ first_half r
-same_first false = refl
-same_first true = refl
-
-same_second : (r : Bool) → exact_second r ≡ second_half r
-same_second false = refl
-same_second true = refl
-
 true_with : (a b : Bool) → a ≡ true → (a && b) ≡ b
 true_with true b e = refl
 true_with false b e = let f : false ≡ true = e in cc
@@ -382,7 +358,6 @@ module _ (looks : ℕ) (r : Bool) (t : Terminator) where
   start_has o AtStart m = edge_exact asked r t o ∙ with_family _ _ (haystack_asked AtStart refl m)
   start_has o StartLF m = lines_exact asked r t o ∙ with_family _ _ (lines_asked StartLF refl m)
   start_has o StartCRLF m = crlf_exact asked r t o ∙ with_family _ _ (crlf_asked StartCRLF refl m)
-      ∙ ap (λ b. is_none o || is_byte b o) (same_second r)
   start_has o WordStartHalfAscii m = ascii_exact asked r t o ∙ with_family _ _ (words_asked WordStartHalfAscii refl m)
   start_has o WordStartHalfUnicode m = unicode_exact asked r t o ∙ with_family _ _ (words_asked WordStartHalfUnicode refl m)
   start_has o End m = not_known End (λ f. starts_told f End) o
@@ -406,7 +381,7 @@ module _ (looks : ℕ) (r : Bool) (t : Terminator) where
       IsFlagged looks r o (look_behind looks r t (start_of t o)).is_from_word (look_behind looks r t (start_of t o)).is_half_crlf
   start_is_flagged o = record {
     word = λ m. word_exact asked r t o ∙ with_family _ _ (words_is looks ∙ m);
-    half = λ m. half_exact asked r t o ∙ with_family _ _ (crlf_is looks ∙ m) ∙ ap (λ b. is_byte b o) (same_first r);
+    half = λ m. half_exact asked r t o ∙ with_family _ _ (crlf_is looks ∙ m);
   }
 
   abbrev pub seen_behind : Option ℕ → Families

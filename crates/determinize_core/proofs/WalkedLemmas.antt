@@ -11,7 +11,7 @@ use Rattle.nfa_core.specs.Walks.{Visits}
 use Rattle.nfa_core.specs.Nfa.{Automaton, node_at, IsWellFormed}
 use Rattle.nfa_core.specs.NfaValue.{looks_of}
 use Rattle.nfa_core.specs.Ways.{Text, span, is_passed, on_nothing, plain_steps, byte_steps, place_of, bytes_left, AreLists}
-use Rattle.nfa_core.proofs.ForCallers.{none_in, of_cons, names_equal, stays_closed, place_zero, nothing_same}
+use Rattle.nfa_core.proofs.ForCallers.{names_equal, stays_closed, place_zero, nothing_same}
 use Rattle.determinize_core.specs.States.{StateValue}
 use Rattle.determinize_core.specs.Starts.{start_of}
 use Rattle.determinize_core.specs.Steps.{known_behind, closed, unit_steps, reading, patterns_in, kept, have_if, looks_with, ids_before}
@@ -23,12 +23,10 @@ use Rattle.determinize_core.proofs.MadeLemmas.{AreBelow, walk_made, made_below}
 use Rattle.determinize_core.proofs.PassedLemmas.{passed_by, looks_passed, IsTold, start_is_told, start_is_flagged, seen_behind}
 use Rattle.determinize_core.proofs.PassedLemmas.{behind_is_told, behind_is_flagged}
 use Rattle.determinize_core.proofs.EntriesLemmas.{stays_below, IsStateOf, closes}
+use Rattle.determinize_core.proofs.StartingLemmas.{one_inside}
 use Rattle.determinize_core.proofs.ReadingLemmas.{kept_match, unit_passes, unit_is, place_inside, entries_alike, unit_low, bytes_low}
 
 -- ---- the lists of the walk under all looks
-
-pub one_below : (n q : ℕ) → q < n → AreBelow n (q ∷ [])
-one_below n q low = of_cons nat_eq names_equal (λ x. x < n) q [] low (λ x h. none_in nat_eq x _ h)
 
 pub closed_visits : (a : Automaton) → IsWellFormed a → (text : Text) (j : ℕ) (xs : List ℕ) → AreBelow (length a.states) xs →
     Visits nat_eq (plain_steps a text j) xs [] (closed_by a (plain_steps a text j) xs)
@@ -38,7 +36,7 @@ closed_visits a formed text j xs low = walk_made (plain_steps a text j) (length 
 pub lists_are_lists : (kind : MatchKind) (a : Automaton) (text : Text) (i q : ℕ) → IsWellFormed a → q < length a.states →
     AreLists a text (i, q) (cut_of kind a i) (walked_lists kind a text i q)
 lists_are_lists kind a text i q formed low = record {
-  first = closed_visits a formed text (place_of a.reverse i 0) (q ∷ []) (one_below (length a.states) q low);
+  first = closed_visits a formed text (place_of a.reverse i 0) (q ∷ []) (one_inside (length a.states) q low);
   later = λ k less. closed_visits a formed text (place_of a.reverse i (suc k))
       (flat_map (byte_steps a text (place_of a.reverse i k)) (cut_of kind a i k (walked_lists kind a text i q k)))
       (bytes_low a formed text (place_of a.reverse i k) (cut_of kind a i k (walked_lists kind a text i q k)));
@@ -56,7 +54,7 @@ start_stands a t o q low =
       small = known-lt (families a) a.reverse t (start_of t o);
       told = start_is_told (looks_of a.states) a.reverse t o;
       flagged = λ some. start_is_flagged (looks_of a.states) a.reverse t o;
-      low = one_below (length a.states) q low;
+      low = one_inside (length a.states) q low;
     }
 
 step_stands : (a : Automaton) → IsWellFormed a → (t : Terminator) (kind : MatchKind) (v : StateValue) (u : Option ℕ) (b : ℕ) → u ≡ Some b →

@@ -1,17 +1,29 @@
--- A walk from state to state, one unit after another.
+-- A walk from state to state, one unit after another, and what it costs.
 use Rattle.std.proofs.Common.{◌≡◌, ℕ, ◌+◌, ◌<◌, ◌≤◌, List, [], ◌∷◌, ◌++◌, length, drop, get_or, Option, Some, None, sym, ap, ◌∙◌}
-use Rattle.std.proofs.Common.{append_assoc, All, subst}
+use Rattle.std.proofs.Common.{append_assoc, All, subst, ◌*◌, arith}
+use Rattle.std.proofs.lemmas.Nat.{row_fits}
 use Rattle.std.specs.Bool.{nat_eq}
 use Rattle.std.specs.List.{IsDistinct}
 use Rattle.look_core.specs.Terminators.{Terminator}
 use Rattle.search_types.specs.declared.match_kind.MatchKind.{MatchKind}
 use Rattle.nfa_core.specs.Nfa.{Automaton, IsWellFormed}
+use Rattle.determinize_core.specs.Costs.{free_ways}
 use Rattle.determinize_core.specs.States.{StateValue}
 use Rattle.determinize_core.specs.Steps.{step_value, start_value}
 use Rattle.determinize_core.specs.declared.start.Start.{Start}
 use Rattle.determinize_core.specs.WalkLists.{walked, units_of}
 use Rattle.determinize_core.proofs.AddedLemmas.{next_left, past_all}
 use Rattle.determinize_core.proofs.StepLawLemmas.{step_below, step_once, start_below, start_once}
+
+-- what one step more has cost, where there are no more than so many
+one_more : (old now new step k m : ℕ) → now ≤ old + k * step → new ≤ now + step → k ≤ m → new ≤ old + (m + 1) * step
+one_more old now new step k m so_far more within = let fits = row_fits k step (m + 1) step (omega arith) (omega arith) in
+    omega (arith, so_far, more, fits)
+
+pub cost_on : (a : Automaton) (old now new k m : ℕ) → now ≤ old + k * (3 * length a.states + 2 * free_ways a) →
+    new ≤ now + 3 * length a.states + 2 * free_ways a → k ≤ m → new ≤ old + (m + 1) * (3 * length a.states + 2 * free_ways a)
+cost_on a old now new k m so_far more within =
+    one_more old now new (3 * length a.states + 2 * free_ways a) k m so_far (omega (arith, more)) within
 
 module _ (a : Automaton) (t : Terminator) (kind : MatchKind) (bytes : List ℕ) (whole items : List StateValue) (v : StateValue) (k : ℕ)
     (so_far : items ++ walked a t kind v (units_of (drop k bytes)) ≡ whole) where

@@ -1,5 +1,5 @@
 //! Where patterns may stand in a list.
-ghost use Rattle.std.specs.Prelude.{◌≡◌, ◌≢◌, ℕ, ◌<◌, [], length, slice_index, OnOk};
+ghost use Rattle.std.specs.Prelude.{◌≡◌, ◌≢◌, ℕ, ◌<◌, [], length, slice_index, IsOk, OnOk};
 
 use search_core::PatternID;
 use std::alloc::{AllocError, Global};
@@ -31,9 +31,11 @@ impl Positions {
         }
     }
 
-    /// Notes a position for the pattern; of the first one, 0, nothing is noted. It is refused where memory lacks.
+    /// Notes a position for the pattern; of the first one, 0, nothing is noted, which is never refused. It is refused where
+    /// memory lacks.
     pub(crate) fn note(&mut self, pid: PatternID, position: u32) -> Result<(), AllocError>
         ensures there { 0 < position → OnOk result (slice_index self.new.noted.items pid ≡ position) }
+        ensures first { position ≡ 0 → IsOk result }
         ensures others { (p : ℕ) → p ≢ pid → slice_index self.new.noted.items p ≡ slice_index self.old.noted.items p }
     {
         if position == 0 {

@@ -1,4 +1,4 @@
-ghost use Rattle.std.specs.Prelude.{◌≡◌, ◌<◌, ◌≤◌, length, slice_index, IfOk, MatchOption, true, [], Some, refl};
+ghost use Rattle.std.specs.Prelude.{◌≡◌, ◌<◌, ◌≤◌, length, slice_index, IfOk, IsOk, MatchOption, true, [], Some, refl};
 ghost use Rattle.look_core.specs.LookSets.{IsLookSet};
 ghost use Rattle.determinize_core.specs.States.{dead, IsState};
 ghost use Rattle.determinize_core.specs.StateBytes.{encoded, decoded, IsEncoded, is_match, has_same_bytes};
@@ -143,9 +143,10 @@ impl State {
         PatternID::ZERO
     }
 
-    /// The patterns that match, in order of preference, and `None` where none does.
+    /// The patterns that match, in order of preference, and `None` where none does, which takes no memory.
     pub fn match_pattern_ids(&self, alloc: Global) -> Result<Option<Vec<PatternID>>, AllocError>
-        ensures { IfOk result (λ ids. MatchOption ids (self.now.matches ≡ []) (λ ps. (ps.items ≡ self.now.matches) × (is_match self.now.matches ≡ true))) }
+        ensures value { IfOk result (λ ids. MatchOption ids (self.now.matches ≡ []) (λ ps. (ps.items ≡ self.now.matches) × (is_match self.now.matches ≡ true))) }
+        ensures none { self.now.matches ≡ [] → IsOk result }
     {
         if !self.is_match() {
             return Ok(None);

@@ -1,4 +1,4 @@
-ghost use Rattle.std.specs.Prelude.{◌≡◌, ℕ, true, false, [], ◌∷◌, ◌++◌, length, OnOk, OnErr};
+ghost use Rattle.std.specs.Prelude.{◌≡◌, ℕ, true, false, [], ◌∷◌, ◌++◌, length, IsOk, OnOk, OnErr};
 ghost use Rattle.std.specs.Bool.{nat_eq};
 ghost use Rattle.std.specs.List.{list_any};
 ghost use Rattle.determinize_core.specs.States.{StateValue};
@@ -141,11 +141,13 @@ impl StateBuilderMatches {
     }
 
     /// Adds a pattern that matches, behind the others, or leaves all as it is where there is no memory. A second pattern
-    /// and each later one takes four bytes for each number up to its own, once for all states that are built one by one.
+    /// and each later one takes four bytes for each number up to its own, once for all states that are built one by one;
+    /// pattern 0 as the first one takes none.
     pub fn add_match_pattern_id(&mut self, pid: PatternID) -> Result<(), AllocError>
         requires { list_any (nat_eq pid) self.old.matches ≡ false }
         ensures ok { OnOk result (self.new ≡ record self.old { matches = self.old.matches ++ pid ∷ [] }) }
         ensures err { OnErr result (self.new ≡ self.old) }
+        ensures first { self.old.matches ≡ [] → pid ≡ 0 → IsOk result }
     {
         let count = self.count();
         self.positions.note(pid, count)?;
@@ -155,11 +157,13 @@ impl StateBuilderMatches {
 }
 
 /// Adds a pattern to the bytes of a state, behind the others, or leaves them as they are where there is no memory.
+#[tactic(auto, using(crate::proofs::AddLemmas::not_listed, crate::proofs::AddLemmas::not_matching))]
 fn add_pattern(bytes: &mut Vec<u8>, pid: PatternID) -> Result<(), AllocError>
     requires form { IsUnfinished bytes.old.items }
     requires absent { list_any (nat_eq pid) (decoded_unfinished bytes.old.items).matches ≡ false }
     ensures ok { OnOk result (IsUnfinished bytes.new.items × (decoded_unfinished bytes.new.items ≡ with_match (decoded_unfinished bytes.old.items) pid)) }
     ensures err { OnErr result (bytes.new.items ≡ bytes.old.items) }
+    ensures first { (decoded_unfinished bytes.old.items).matches ≡ [] → pid ≡ 0 → IsOk result }
 {
     if has_flag(bytes, LISTED) {
         push_number(bytes, pid.as_u32())?;

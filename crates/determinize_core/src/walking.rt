@@ -1,7 +1,8 @@
-ghost use Rattle.std.specs.Prelude.{◌≡◌, ◌<◌, ◌≤◌, ℕ, [], ◌∷◌, ◌++◌, drop, length, All, OnOk, IfOk, Some};
+ghost use Rattle.std.specs.Prelude.{◌≡◌, ◌+◌, ◌*◌, ◌<◌, ◌≤◌, ℕ, [], ◌∷◌, ◌++◌, drop, length, All, OnOk, IfOk, Some};
 ghost use Rattle.std.specs.Bool.{nat_eq};
 ghost use Rattle.std.specs.List.{IsDistinct};
 ghost use Rattle.search_core.specs.Units.{unit_byte};
+ghost use Rattle.determinize_core.specs.Costs.{free_ways};
 ghost use Rattle.determinize_core.specs.States.{StateValue};
 ghost use Rattle.determinize_core.specs.Starts.{start_of};
 ghost use Rattle.determinize_core.specs.Steps.{start_value, step_value};
@@ -72,7 +73,8 @@ fn walk_counted<L: Ledger>(
     Ok(states)
 }
 
-/// The same with sets for the states of the automaton, which keep their bounds.
+/// The same with sets for the states of the automaton, which keep their bounds. It counts the steps: those of the start
+/// and of one step for each byte and the end, at most, also where it is refused.
 pub fn walk_with<S: NameSet, L: Ledger>(
     alloc: Global,
     nfa: &NFA,
@@ -90,6 +92,7 @@ pub fn walk_with<S: NameSet, L: Ledger>(
         (start_value nfa.now.automaton nfa.now.terminator (start_of nfa.now.terminator look_behind) start) (units_of bytes.now)) }
     ensures bound1 { S.bound sets.new.set1 ≡ S.bound sets.old.set1 }
     ensures bound2 { S.bound sets.new.set2 ≡ S.bound sets.old.set2 }
+    ensures cost { steps.new ≤ steps.old + (1 + free_ways nfa.now.automaton) + (length bytes.now + 1) * (3 * length nfa.now.automaton.states + 2 * free_ways nfa.now.automaton) }
 {
     nfa.is_sound();
     let mut stack = Vec::new(alloc);
@@ -127,6 +130,7 @@ fn walk_from<S: NameSet, L: Ledger>(
     ensures states { IfOk result (λ states. states.items ≡ walked nfa.now.automaton nfa.now.terminator kind first (units_of bytes.now)) }
     ensures bound1 { S.bound sets.new.set1 ≡ length nfa.now.automaton.states }
     ensures bound2 { S.bound sets.new.set2 ≡ length nfa.now.automaton.states }
+    ensures cost { steps.new ≤ steps.old + (length bytes.now + 1) * (3 * length nfa.now.automaton.states + 2 * free_ways nfa.now.automaton) }
 {
     nfa.is_sound();
     let mut states = Vec::new(alloc);
@@ -163,6 +167,7 @@ fn state_behind<S: NameSet, L: Ledger>(
     ensures stack { OnOk result (stack.new.items ≡ []) }
     ensures bound1 { S.bound sets.new.set1 ≡ length nfa.now.automaton.states }
     ensures bound2 { S.bound sets.new.set2 ≡ length nfa.now.automaton.states }
+    ensures cost { steps.new ≤ steps.old + 3 * length nfa.now.automaton.states + 2 * free_ways nfa.now.automaton }
 {
     let empty = StateBuilderEmpty::new(alloc);
     let built = next(nfa, kind, sets, stack, state, unit, empty, steps)?;

@@ -1,9 +1,9 @@
-use Rattle.std.proofs.Common.{List, ap, refl, get_or, ◌++◌, ◌∙◌}
+use Rattle.std.proofs.Common.{List, ap, refl, get_or, ◌++◌, ◌∙◌, length, arith}
 use Rattle.search_core.specs.Units.{unit_byte}
 use Rattle.determinize_core.specs.States.{StateValue}
 use Rattle.determinize_core.specs.Steps.{step_value}
 use Rattle.determinize_core.specs.WalkLists.{walked, units_of}
-use Rattle.determinize_core.proofs.WalkingLemmas.{walks_on, walk_ends, behind_below, behind_once}
+use Rattle.determinize_core.proofs.WalkingLemmas.{walks_on, walk_ends, behind_below, behind_once, cost_on}
 use Rattle.determinize_core.proofs.walking.walk_from.Goals as goal
 
 pub loop-k-init : goal.loop-k-init
@@ -15,6 +15,7 @@ loop-k-init g c = record {
   empty = c.requires.empty;
   bound1 = c.requires.bound1;
   bound2 = c.requires.bound2;
+  cost = omega arith;
 }
 
 pub loop-k-preserved : goal.loop-k-preserved
@@ -31,6 +32,8 @@ loop-k-preserved g c = record {
   empty = c.in_ok-behind.ensures.stack;
   bound1 = c.in_ok-behind.ensures.bound1;
   bound2 = c.in_ok-behind.ensures.bound2;
+  cost = cost_on c.args.nfa.now.automaton c.args.steps.now c.loop-k.steps c.state_behind.new.steps c.loop-k.k c.loop-k.k
+      c.loop-k.invariant.cost c.state_behind.ensures.cost (omega arith);
 }
 
 pub returns-clause-states : goal.returns-clause-states
@@ -41,3 +44,33 @@ returns-clause-states g c =
     c.in_ok-end.end c.push-2.new.self.items c.push-3.new.self.items c.loop-k-test.false
     (c.in_ok-end.ensures.value ∙ ap (step_value c.args.nfa.now.automaton c.args.nfa.now.terminator c.args.kind c.loop-k.last)
     (ap unit_byte c.eoi.ensures)) c.in_ok-push-2.ensures.items c.in_ok-push-3.ensures.items
+
+pub returns-in_err-behind-clause-cost : goal.returns-in_err-behind-clause-cost
+returns-in_err-behind-clause-cost g c =
+    cost_on c.args.nfa.now.automaton c.args.steps.now c.loop-k.steps c.state_behind.new.steps c.loop-k.k (length c.args.bytes.now)
+    c.loop-k.invariant.cost c.state_behind.ensures.cost (omega arith)
+
+pub returns-in_err-push-clause-cost : goal.returns-in_err-push-clause-cost
+returns-in_err-push-clause-cost g c =
+    cost_on c.args.nfa.now.automaton c.args.steps.now c.loop-k.steps c.state_behind.new.steps c.loop-k.k (length c.args.bytes.now)
+    c.loop-k.invariant.cost c.state_behind.ensures.cost (omega arith)
+
+pub returns-in_err-end-clause-cost : goal.returns-in_err-end-clause-cost
+returns-in_err-end-clause-cost g c =
+    cost_on c.args.nfa.now.automaton c.args.steps.now c.loop-k.steps c.state_behind-2.new.steps c.loop-k.k (length c.args.bytes.now)
+    c.loop-k.invariant.cost c.state_behind-2.ensures.cost (omega arith)
+
+pub returns-in_err-push-2-clause-cost : goal.returns-in_err-push-2-clause-cost
+returns-in_err-push-2-clause-cost g c =
+    cost_on c.args.nfa.now.automaton c.args.steps.now c.loop-k.steps c.state_behind-2.new.steps c.loop-k.k (length c.args.bytes.now)
+    c.loop-k.invariant.cost c.state_behind-2.ensures.cost (omega arith)
+
+pub returns-in_err-push-3-clause-cost : goal.returns-in_err-push-3-clause-cost
+returns-in_err-push-3-clause-cost g c =
+    cost_on c.args.nfa.now.automaton c.args.steps.now c.loop-k.steps c.state_behind-2.new.steps c.loop-k.k (length c.args.bytes.now)
+    c.loop-k.invariant.cost c.state_behind-2.ensures.cost (omega arith)
+
+pub returns-clause-cost : goal.returns-clause-cost
+returns-clause-cost g c =
+    cost_on c.args.nfa.now.automaton c.args.steps.now c.loop-k.steps c.state_behind-2.new.steps c.loop-k.k (length c.args.bytes.now)
+    c.loop-k.invariant.cost c.state_behind-2.ensures.cost (omega arith)

@@ -1,6 +1,7 @@
-use Rattle.std.proofs.Common.{◌≡◌, ◌++◌, [], All, ◌<◌, length, drop}
+use Rattle.std.proofs.Common.{◌≡◌, ◌++◌, [], All, ◌+◌, ◌*◌, ◌<◌, ◌≤◌, length, drop}
 use Rattle.std.specs.Bool.{nat_eq}
 use Rattle.std.specs.List.{IsDistinct}
+use Rattle.determinize_core.specs.Costs.{free_ways}
 use Rattle.determinize_core.specs.WalkLists.{walked, units_of}
 use Rattle.determinize_core.proofs.walking.walk_from.Given as goal
 
@@ -13,4 +14,5 @@ invariant-loop-k g l = record {
   empty : l.stack.items ≡ [];
   bound1 : g.S.NameSet.bound l.sets.set1 ≡ length l.nfa.automaton.states;
   bound2 : g.S.NameSet.bound l.sets.set2 ≡ length l.nfa.automaton.states;
+  cost : l.steps ≤ l.initial.steps + l.k * (3 * length l.nfa.automaton.states + 2 * free_ways l.nfa.automaton);
 }
