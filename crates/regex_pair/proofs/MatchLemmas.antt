@@ -7,10 +7,10 @@ use Rattle.search_types.specs.Found.{HalfFound}
 use Rattle.search_types.specs.Inputs.{Search}
 use Rattle.lazy_dfa.specs.Caches.{CacheValue, greatest}
 use Rattle.lazy_dfa.specs.Dfas.{reader}
-use Rattle.lazy_dfa.specs.Linked.{IsLinked}
+use Rattle.lazy_dfa.specs.Linked.{IsLinked, passes_of}
 use Rattle.lazy_dfa.specs.Readers.{HalfAnswer, found, quit, unsupported}
 use Rattle.lazy_dfa.specs.Scans.{scan}
-use Rattle.lazy_dfa.specs.SearchAnswers.{Answers, told}
+use Rattle.lazy_dfa.specs.SearchAnswers.{Answers, told, told_of, told_by}
 use Rattle.regex_pair.specs.MadeSearches.{FindsEnd, MakesMatch, MakesHalf, is_some_half}
 use Rattle.regex_pair.specs.Matching.{AnswersMatch, has_match, match_search, match_told}
 use Rattle.regex_pair.specs.Pairs.{Pair, PairCache}
@@ -54,6 +54,8 @@ module _ (p : Pair) (q : Search) (f g r : CacheValue) (m1 m2 n1 n2 : ℕ) (h : H
     kept = made.kept;
     untouched = refl;
     linked = on_some h (g.clears ≡ f.clears → f.clears < greatest → IsLinked p.forward g asked) made.linked;
+    is_told = on_some h (g.clears ≡ f.clears → f.clears < greatest →
+        told_of g ≡ told_by (reader p.forward) asked (told_of f) (passes_of (reader p.forward) asked)) made.is_told;
     moved = made.moved;
     free = made.free;
     sure_if_linked = λ linked. told_there (made.sure_if_linked linked);

@@ -9,14 +9,15 @@ use Rattle.search_types.specs.AllAnswers.{is_repeat}
 use Rattle.search_types.specs.Chains.{IsTaken}
 use Rattle.search_types.specs.Found.{Found}
 use Rattle.search_types.specs.Inputs.{Search, IsSpanOf}
-use Rattle.regex_pair.specs.Finding.{Finding, AnswersAt, IsNextFound, IsNextAnswer, IsBehindLast, IsPlaced, finds_next, fails, behind}
-use Rattle.regex_pair.specs.Finding.{most_left, search_at}
+use Rattle.regex_pair.specs.Finding.{Finding, AnswersAt, IsNextFound, IsNextAnswer, IsBehindLast, IsPlaced, KeepsTwice, finds_next, fails, is_over}
+use Rattle.regex_pair.specs.Finding.{behind, most_left, search_at}
 use Rattle.regex_pair.specs.Joined.{joined}
 use Rattle.regex_pair.specs.PairAnswers.{AnswersPair, PairGivesUp}
-use Rattle.regex_pair.specs.Pairs.{Pair, PairCache, AreCachesOf}
+use Rattle.regex_pair.specs.Pairs.{Pair, PairCache, AreCachesOf, PairGrowsOrClears}
 use Rattle.regex_pair.specs.declared.find_matches.FindMatches.{FindMatches}
 use Rattle.regex_pair.specs.FindSteps.{searches_by, finds_from, caches_of, lender_of, items_left, MayGoOn, FindsNext}
 use Rattle.regex_pair.proofs.JoinedLemmas.{LiesWithin, match_lies}
+use Rattle.regex_pair.proofs.PairLemmas.{untouched_grows}
 
 -- ---- what two searches answer
 
@@ -60,6 +61,19 @@ second_taken p middle after q further last o u first again there is = (
   subst (λ (b : Bool). IsTaken (AnswersAt p q) q.start o b u) again
       (ap (λ (s : Search). joined p s) (sym there) ∙ answer_is_joined p after further u is),
 )
+
+-- ---- what the searches leave of the caches
+
+pub kept_once : (p : Pair) (before after : PairCache) → PairGrowsOrClears p before after → KeepsTwice p before after
+kept_once p before after kept = (before, record { forward = untouched_grows p.forward before.forward; reverse = untouched_grows p.reverse before.reverse }, kept)
+
+pub kept_twice : (p : Pair) (before middle after : PairCache) → PairGrowsOrClears p before middle → PairGrowsOrClears p middle after →
+    KeepsTwice p before after
+kept_twice p before middle after one two = (middle, one, two)
+
+pub kept_untouched : (p : Pair) (v : PairCache) → KeepsTwice p v v
+kept_untouched p v =
+    kept_once p v v (record { forward = untouched_grows p.forward v.forward; reverse = untouched_grows p.reverse v.reverse })
 
 -- ---- where what comes next lies
 
@@ -125,8 +139,18 @@ stands_behind at f i begun here = λ k. record { search = search_at at.search (h
 
 -- ---- one step of an iterator
 
+pub finds_nothing_more : (it : FindMatches) → MayGoOn it → it.is_over ≡ true → FindsNext it None it
+finds_nothing_more it ready over = record {
+  same_regex = refl;
+  same_reference = refl;
+  finds = is_over over refl refl refl;
+  kept = kept_untouched (searches_by it) (caches_of it);
+  goes_on = ready;
+}
+
 module _ (old new : FindMatches) (ready : MayGoOn old) (begun : old.is_over ≡ false) (own : AreCachesOf (searches_by old) (caches_of new))
-    (same_regex : searches_by new ≡ searches_by old) (same_reference : lender_of new ≡ lender_of old) where
+    (same_regex : searches_by new ≡ searches_by old) (same_reference : lender_of new ≡ lender_of old)
+    (kept : KeepsTwice (searches_by old) (caches_of old) (caches_of new)) where
   owned : AreCachesOf (searches_by new) (caches_of new)
   owned = subst (λ (p : Pair). AreCachesOf p (caches_of new)) (sym same_regex) own
 
@@ -136,6 +160,7 @@ module _ (old new : FindMatches) (ready : MayGoOn old) (begun : old.is_over ≡ 
     same_regex = same_regex;
     same_reference = same_reference;
     finds = finds_next f begun next refl there;
+    kept = kept;
     goes_on = record {
       own = owned;
       placed = subst IsPlaced (sym there) (behind_placed (searches_by old) (finds_from old) f begun ready.placed next);
@@ -163,5 +188,6 @@ module _ (old new : FindMatches) (ready : MayGoOn old) (begun : old.is_over ≡ 
     same_regex = same_regex;
     same_reference = same_reference;
     finds = fails next.0 e begun next.1 next.2 refl over;
+    kept = kept;
     goes_on = record { own = owned; placed = placed };
   }

@@ -28,7 +28,7 @@ abbrev Whole : Type 0
 Whole = Result (Option Found) MatchErrorKind
 
 -- a cache that isn't touched keeps what it has
-untouched_grows : (d : Dfa) (v : CacheValue) → GrowsOrClears d v v
+pub untouched_grows : (d : Dfa) (v : CacheValue) → GrowsOrClears d v v
 untouched_grows d v = inl (record {
   names = λ id s named. named;
   known = λ id u row unit known. refl;

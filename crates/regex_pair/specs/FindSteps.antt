@@ -5,7 +5,7 @@ use Rattle.search_types.specs.declared.match_error.MatchErrorKind.{MatchErrorKin
 use Rattle.search_types.specs.Found.{Found}
 use Rattle.search_types.specs.Inputs.{Search}
 use Rattle.regex_pair.specs.declared.find_matches.FindMatches.{FindMatches}
-use Rattle.regex_pair.specs.Finding.{Finding, Finds, IsPlaced, most_left}
+use Rattle.regex_pair.specs.Finding.{Finding, Finds, IsPlaced, KeepsTwice, most_left}
 use Rattle.regex_pair.specs.Pairs.{Pair, PairCache, AreCachesOf}
 
 -- the automata over which it searches
@@ -37,6 +37,7 @@ pub record FindsNext (old : FindMatches) (item : Option (Result Found MatchError
   pub same_regex : searches_by new ≡ searches_by old
   pub same_reference : lender_of new ≡ lender_of old
   pub finds : Finds (searches_by old) (finds_from old) (finds_from new) (caches_of old) (caches_of new) item
+  pub kept : KeepsTwice (searches_by old) (caches_of old) (caches_of new)
   pub goes_on : MayGoOn new
 
 -- so many items come at most

@@ -6,7 +6,7 @@ use Rattle.search_types.specs.Chains.{IsNext}
 use Rattle.search_types.specs.Found.{Found}
 use Rattle.search_types.specs.Inputs.{Search, IsWithin, with_span}
 use Rattle.regex_pair.specs.Joined.{joined}
-use Rattle.regex_pair.specs.Pairs.{Pair, PairCache}
+use Rattle.regex_pair.specs.Pairs.{Pair, PairCache, PairGrowsOrClears}
 use Rattle.regex_pair.specs.PairAnswers.{AnswersPair}
 
 -- what is left: a search from the end of the last match on
@@ -55,6 +55,10 @@ pub data Finds (p : Pair) (old new : Finding) (before after : PairCache) (item :
   fails : (k : ℕ) (e : MatchErrorKind) → old.is_over ≡ false → IsAskedAt p old k → AnswersPair p after (search_at old.search k) (Err e) →
       item ≡ Some (Err e) → new.is_over ≡ true → Finds p old new before after item
   is_over : old.is_over ≡ true → item ≡ None → new ≡ old → after ≡ before → Finds p old new before after item
+
+-- what a step leaves of the caches: it makes two searches at most, each of which cleared them or kept what they name and know
+abbrev pub KeepsTwice : Pair → PairCache → PairCache → Type 0
+KeepsTwice p before after = (middle : PairCache) × PairGrowsOrClears p before middle × PairGrowsOrClears p middle after
 
 -- ---- how many items come
 

@@ -91,6 +91,9 @@ pub record MakesMatch (p : Pair) (q : Search) (old new : PairCache) (m1 m2 n1 n2
   pub untouched : new.reverse ≡ old.reverse
   pub linked : OnOk result (new.forward.clears ≡ old.forward.clears → old.forward.clears < greatest →
       IsLinked p.forward new.forward (match_search (reader p.forward) q))
+  pub is_told : OnOk result (new.forward.clears ≡ old.forward.clears → old.forward.clears < greatest →
+      told_of new.forward ≡ told_by (reader p.forward) (match_search (reader p.forward) q) (told_of old.forward)
+      (passes_of (reader p.forward) (match_search (reader p.forward) q)))
   pub moved : IsLinked p.forward old.forward (match_search (reader p.forward) q) → IsMoved old.forward new.forward
   pub free : IsLinked p.forward old.forward (match_search (reader p.forward) q) → (m2 ≡ m1) × (n2 ≡ n1)
   pub sure_if_linked : IsLinked p.forward old.forward (match_search (reader p.forward) q) → result ≡ has_match p q

@@ -3,10 +3,10 @@ ghost use Rattle.std.specs.Prelude.{◌≡◌, ◌+◌, ◌<◌, ◌≤◌, fals
 ghost use Rattle.std.specs.Iterator.{at_most};
 ghost use Rattle.search_types.specs.AllAnswers.{is_repeat};
 ghost use Rattle.search_types.specs.Inputs.{IsSpanOf};
-ghost use Rattle.regex_pair.specs.Finding.{finding_all, search_at, IsNextAnswer, IsPlaced};
+ghost use Rattle.regex_pair.specs.Finding.{finding_all, search_at, IsNextAnswer, IsPlaced, KeepsTwice};
 ghost use Rattle.regex_pair.specs.FindSteps.{searches_by, finds_from, caches_of, lender_of, items_left, MayGoOn, FindsNext};
 ghost use Rattle.regex_pair.specs.PairAnswers.{AnswersPair};
-ghost use Rattle.regex_pair.specs.Pairs.{AreCachesOf};
+ghost use Rattle.regex_pair.specs.Pairs.{AreCachesOf, PairGrowsOrClears};
 
 use crate::regex::{Cache, Regex};
 use lazy_dfa::Work;
@@ -31,6 +31,7 @@ fn search_counted<L: Ledger, M: Ledger>(
     requires some2 { 0 < second.parts }
     ensures own { AreCachesOf re.now cache.new }
     ensures answer { AnswersPair re.now cache.new input.now result }
+    ensures kept { PairGrowsOrClears re.now cache.old cache.new }
 {
     let mut work = Work::<L, M>::new(first, second);
     re.try_search(cache, input, &mut work)
@@ -45,6 +46,7 @@ fn search_once(
     requires own { AreCachesOf re.now cache.old }
     ensures own { AreCachesOf re.now cache.new }
     ensures answer { AnswersPair re.now cache.new input.now result }
+    ensures kept { PairGrowsOrClears re.now cache.old cache.new }
 {
     let first = Blank::new(1);
     let second = Blank::new(1);
@@ -101,6 +103,7 @@ fn next_answer(
     requires own { AreCachesOf re.now cache.old }
     ensures own { AreCachesOf re.now cache.new }
     ensures answer { IsNextAnswer re.now (record { search = input.now; last = last; is_over = false }) cache.new result }
+    ensures kept { KeepsTwice re.now cache.old cache.new }
 {
     let found = match search_once(re, cache, input) {
         Ok(found) => found,
@@ -121,7 +124,8 @@ fn next_answer(
 /// Each item is the next match. An empty one at the end of the last match isn't given. A refusal is the last item, where the
 /// iterator of the Rust crate panics; behind it and behind the end comes nothing for good.
 ///
-/// The caches are the regex's own after each step, whatever it gave, and those that were lent are so once this is gone: a loop
+/// The caches are the regex's own after each step, whatever it gave, and keep what they have but for clears, as
+/// [`try_search`](Regex::try_search) has it. Those that were lent are the regex's own once this is gone: a loop
 /// keeps that the iterator may go on (`MayGoOn`), and that the regex (`searches_by`) and the name of the reference
 /// (`lender_of`) are those with which it began.
 #[derive(Drop)]

@@ -200,7 +200,8 @@ impl Regex {
     /// its end, and the one that reads in reverse from there its start, unless that is known.
     ///
     /// The answer is that of two half searches, joined, whatever the caches hold and whatever was done with them before. Else
-    /// memory lacked, or one of both gave up. A quit byte is answered where one of both reads it. Where the second finds no
+    /// memory lacked, or one of both gave up. A quit byte is answered where one of both reads it, and a mode that isn't supported
+    /// is refused. Where the second finds no
     /// start for the end that the first found, the automata are no pair. The caches are of use after each answer.
     ///
     /// Where no quit byte stands in or beside the span, no least count of clears is set and the mode is supported, it answers,
@@ -261,10 +262,16 @@ impl Regex {
             HasNoQuitNear (reader self.now.reverse) input.now.haystack input.now.start input.now.end →
             IfErr result (λ e. (e ≡ NoMemory) ⊎ (e ≡ NotAPair)) }
         ensures kept { PairGrowsOrClears self.now cache.old cache.new }
+        ensures untouched { ((e : ℕ × ℕ) → GoesBack self.now input.now e → ⊥) → cache.new.reverse ≡ cache.old.reverse }
         ensures linked { OnOk result (cache.new.forward.clears ≡ cache.old.forward.clears → cache.old.forward.clears < greatest →
             IsLinked self.now.forward cache.new.forward input.now) }
         ensures back_linked { OnOk result (cache.new.reverse.clears ≡ cache.old.reverse.clears → cache.old.reverse.clears < greatest →
             IsBackLinked self.now cache.new.reverse input.now) }
+        ensures told { OnOk result (cache.new.forward.clears ≡ cache.old.forward.clears → cache.old.forward.clears < greatest →
+            told_of cache.new.forward ≡ told_by (reader self.now.forward) input.now (told_of cache.old.forward) (passes_of (reader self.now.forward) input.now)) }
+        ensures back_told { OnOk result (cache.new.reverse.clears ≡ cache.old.reverse.clears → cache.old.reverse.clears < greatest →
+            (e : ℕ × ℕ) → GoesBack self.now input.now e → told_of cache.new.reverse ≡
+            told_by (reader self.now.reverse) (back_from input.now e.0) (told_of cache.old.reverse) (passes_of (reader self.now.reverse) (back_from input.now e.0))) }
         ensures moved { ArePathsLinked self.now cache.old input.now → IsPairMoved cache.old cache.new }
         ensures free { ArePathsLinked self.now cache.old input.now → work.new ≡ work.old }
         ensures sure_if_linked { ArePathsLinked self.now cache.old input.now → result ≡ joined self.now input.now }
@@ -279,6 +286,9 @@ impl Regex {
     /// Whether there is a match in a span, as `Regex::is_match`: by the automaton that reads forward alone, so the other's cache
     /// stays as it is, and no two automata are refused for being no pair. Where an end may split a character, the end
     /// that leftmost-first prefers is looked for, and else the earliest one, whatever the input asks for.
+    ///
+    /// It is refused as the first half search is: at a quit byte, in a mode that isn't supported, where the cache gives up, and
+    /// where memory lacks.
     pub fn is_match<L: Ledger, M: Ledger>(
         &self,
         cache: &mut Cache,
@@ -294,6 +304,9 @@ impl Regex {
         ensures untouched { cache.new.reverse ≡ cache.old.reverse }
         ensures linked { OnOk result (cache.new.forward.clears ≡ cache.old.forward.clears → cache.old.forward.clears < greatest →
             IsLinked self.now.forward cache.new.forward (match_search (reader self.now.forward) input.now)) }
+        ensures told { OnOk result (cache.new.forward.clears ≡ cache.old.forward.clears → cache.old.forward.clears < greatest →
+            told_of cache.new.forward ≡ told_by (reader self.now.forward) (match_search (reader self.now.forward) input.now) (told_of cache.old.forward)
+            (passes_of (reader self.now.forward) (match_search (reader self.now.forward) input.now))) }
         ensures moved { IsLinked self.now.forward cache.old.forward (match_search (reader self.now.forward) input.now) → IsMoved cache.old.forward cache.new.forward }
         ensures free { IsLinked self.now.forward cache.old.forward (match_search (reader self.now.forward) input.now) → work.new ≡ work.old }
         ensures sure_if_linked { IsLinked self.now.forward cache.old.forward (match_search (reader self.now.forward) input.now) → result ≡ has_match self.now input.now }

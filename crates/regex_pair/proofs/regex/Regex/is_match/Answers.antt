@@ -15,6 +15,9 @@ returns-clause-untouched g c = c.search_match.ensures.search.untouched
 pub returns-clause-linked : goal.returns-clause-linked
 returns-clause-linked g c = c.search_match.ensures.search.linked
 
+pub returns-clause-told : goal.returns-clause-told
+returns-clause-told g c = c.search_match.ensures.search.is_told
+
 pub returns-clause-moved : goal.returns-clause-moved
 returns-clause-moved g c = c.search_match.ensures.search.moved
 
