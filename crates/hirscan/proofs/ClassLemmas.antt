@@ -228,7 +228,24 @@ module _ (o : Options) (xs : List Tree) (n : Nfa) (compiled : IsCompiled o xs n)
       (λ k low. words_as_bytes xs n.terminator q inside plain words k low ∙ choices_same k low
       ∙ sym (words_as_bytes xs n.terminator elsewhere inside_g plain words k low))
 
--- ---- classes
+-- ---- classes of the NFA
+
+pub answer_by_automaton : (xs : List Tree) (t : Terminator) (p : Pair) → IsRegexOf xs false t p →
+    All LoopsRead xs → HasNoUnicodeWord xs → (q : Search) (g : List ℕ) → q.end ≤ length q.haystack → All (λ byte. byte < 256) q.haystack →
+    All (λ byte. byte < 256) g →
+    HaveSameClasses (marks_of p.forward.nfa.terminator p.forward.nfa.automaton.states) q.haystack g → (words : ℕ → Bool) →
+    answer_from (query_of xs false (holds words t q.haystack) q) q.start ≡
+    answer_from (query_of xs false (holds words t g) (record q { haystack = g })) q.start
+answer_by_automaton xs t p regex loops plain q g inside bytes_h bytes_g same words =
+    let own : HasMarks (marks_of p.forward.nfa.terminator p.forward.nfa.automaton.states)
+    (marks_of p.forward.nfa.terminator p.forward.nfa.automaton.states) = record { len = refl; marked = λ k there. there } in
+    let lines : p.forward.nfa.terminator ≡ t = forward_ends_lines xs false t p regex in
+    subst (λ (ends : Terminator). answer_from (query_of xs false (holds words ends q.haystack) q) q.start ≡
+    answer_from (query_of xs false (holds words ends g) (record q { haystack = g })) q.start) lines
+    (answer_by_marks regex.forward_options xs p.forward.nfa regex.is_forward regex.reads_forward loops plain regex.forward.sound
+    (marks_of p.forward.nfa.terminator p.forward.nfa.automaton.states) own q g inside bytes_h bytes_g same words)
+
+-- ---- classes of the automaton over it
 
 all_same_classes : (classes : List ℕ) (marks : List Bool) (h g : List ℕ) → All (λ b. b < 256) h → All (λ b. b < 256) g →
     ((b c : ℕ) → b < 256 → c < 256 → class_of classes (Some b) ≡ class_of classes (Some c) → marks_below marks b ≡ marks_below marks c) →

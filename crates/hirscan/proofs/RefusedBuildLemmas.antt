@@ -1,7 +1,7 @@
 -- Why nothing is built: the refusal of a compile, or of one of both automata, by the trees and the settings.
-use Rattle.std.proofs.Common.{◌≡◌, ℕ, ◌<◌, Bool, true, false, ◌&&◌, not, nat_lt, List, true≢false, refl, sym, ap, ◌∙◌, arith, if◌then◌else◌}
+use Rattle.std.proofs.Common.{◌≡◌, ℕ, ◌<◌, ◌≤◌, Bool, true, false, ◌&&◌, not, nat_lt, List, true≢false, refl, sym, ap, ◌∙◌, subst, arith, if◌then◌else◌}
 use Rattle.std.specs.Prelude.{Result, Ok, Err}
-use Rattle.std.proofs.lemmas.Bool.{and_parts, not-true, ltb-true}
+use Rattle.std.proofs.lemmas.Bool.{and_parts, not-true, ltb-true, ltb-false}
 use Rattle.hir_core.specs.Tree.{Tree}
 use Rattle.nfa_core.specs.NfaValue.{Nfa}
 use Rattle.nfa_core.specs.declared.build_error.BuildError.{BuildError as NfaBuildError}
@@ -17,7 +17,7 @@ use Rattle.lazy_dfa.specs.Dfas.{Dfa}
 use Rattle.lazy_dfa.specs.Quits.{is_unsupported}
 use Rattle.regex_pair.specs.Pairs.{Pair, back_options, both_of, pair_built}
 use Rattle.hirscan.specs.declared.settings.Settings.{Settings}
-use Rattle.hirscan.specs.Built.{RefusesBuild, not_compiled, unsupported, too_small, no_memory, compile_options, are_unsupported}
+use Rattle.hirscan.specs.Built.{RefusesBuild, HasRoom, not_compiled, unsupported, too_small, no_memory, compile_options, half_of, are_unsupported}
 use Rattle.hirscan.proofs.BuiltLemmas.{unsupported_are, same_measures}
 
 abbrev ok_dfa : Dfa → Result Dfa BuildError
@@ -44,6 +44,23 @@ no_refusal d e is = let never : true ≡ false = cc in grind (arith, never)
 no_pair_refusal : (p : Pair) (e : BuildError) → ok_pair p ≡ err_pair e → ⊥
 no_pair_refusal p e is = let never : true ≡ false = cc in grind (arith, never)
 
+no_dfa_refusal : (d : Dfa) (e : BuildError) → err_dfa e ≡ ok_dfa d → ⊥
+no_dfa_refusal d e is = no_refusal d e (sym is)
+
+-- ---- an automaton that is built has room
+room_by_tests : (words skips : Bool) (given least : ℕ) (d f : Dfa) (small : Bool) → (not skips && nat_lt given least) ≡ small →
+    (if words then Err Unsupported else if small then Err (InsufficientCacheCapacity least given) else ok_dfa d) ≡ ok_dfa f →
+    skips ≡ false → least ≤ given
+room_by_tests true skips given least d f small is_small is off = absurd (no_dfa_refusal f Unsupported is)
+room_by_tests false skips given least d f true is_small is off = absurd (no_dfa_refusal f (InsufficientCacheCapacity least given) is)
+room_by_tests false skips given least d f false is_small is off =
+    ltb-false given least (subst (λ (b : Bool). (not b && nat_lt given least) ≡ false) off is_small)
+
+room_if_built : (n : Nfa) (o : Options) (f : Dfa) → built n o ≡ ok_dfa f → HasRoom n o
+room_if_built n o f made =
+    room_by_tests (is_unsupported n.automaton (word_boundary_of o) (by_hand o)) (skips_check o) (capacity_of o)
+    (least_capacity (measures_with n o)) (dfa_of n o) f (is_too_small n o) refl made
+
 abbrev lacks_memory : NfaBuildError → Bool
 lacks_memory nfa.NoMemory = true
 lacks_memory x = false
@@ -65,37 +82,39 @@ module _ (xs : List Tree) (s : Settings) where
   compile_refused reverse nfa.NoMemory e why is = no_memory is
 
   -- ---- the refusal of one of both automata
-  by_tests : (reverse : Bool) (n : Nfa) → IsCompiled (compile_options reverse s) xs n → (words skips : Bool) (given least : ℕ) (d : Dfa) →
-      words ≡ are_unsupported xs s.dfa → skips ≡ skips_check s.dfa → given ≡ capacity_of s.dfa →
-      least ≡ least_capacity (measures_with n s.dfa) → (small : Bool) → (not skips && nat_lt given least) ≡ small → (e : BuildError) →
-      (if words then Err Unsupported else if small then Err (InsufficientCacheCapacity least given) else ok_dfa d) ≡ err_dfa e →
-      RefusesBuild xs s e
-  by_tests reverse n made true skips given least d w k g l small is_small e is = unsupported (sym w) (sym (same_refusal Unsupported e is))
-  by_tests reverse n made false skips given least d w k g l true is_small e is =
-      let both = and_parts (not skips) (nat_lt given least) is_small in
-      let less : given < least = ltb-true given least both.1 in
-      too_small reverse n (sym w) made (sym k ∙ not-true skips both.0) (omega (arith, g, l, less))
-      (sym (same_refusal (InsufficientCacheCapacity least given) e is) ∙ (λ i. InsufficientCacheCapacity (l i) (g i)))
-  by_tests reverse n made false skips given least d w k g l false is_small e is = absurd (no_refusal d e is)
-
   module _ (n m : Nfa) (up : IsCompiled (compile_options false s) xs n) (is_reverse : IsCompiled (compile_options true s) xs m)
       (e : BuildError) where
-    by_half : (x y : Result Dfa BuildError) → (x ≡ err_dfa e → RefusesBuild xs s e) → (y ≡ err_dfa e → RefusesBuild xs s e) →
-        both_of x y ≡ err_pair e → RefusesBuild xs s e
+    by_tests : (reverse : Bool) → (reverse ≡ true → HasRoom n s.dfa) → (words skips : Bool) (given least : ℕ) (d : Dfa) →
+        words ≡ are_unsupported xs s.dfa → skips ≡ skips_check s.dfa → given ≡ capacity_of s.dfa →
+        least ≡ least_capacity (measures_with (half_of reverse n m) s.dfa) → (small : Bool) → (not skips && nat_lt given least) ≡ small →
+        (if words then Err Unsupported else if small then Err (InsufficientCacheCapacity least given) else ok_dfa d) ≡ err_dfa e →
+        RefusesBuild xs s e
+    by_tests reverse roomy true skips given least d w k g l small is_small is =
+        unsupported n m up is_reverse (sym w) (sym (same_refusal Unsupported e is))
+    by_tests reverse roomy false skips given least d w k g l true is_small is =
+        let both = and_parts (not skips) (nat_lt given least) is_small in
+        let less : given < least = ltb-true given least both.1 in
+        too_small n m up is_reverse (sym w) (sym k ∙ not-true skips both.0) reverse roomy (omega (arith, g, l, less))
+        (sym (same_refusal (InsufficientCacheCapacity least given) e is) ∙ (λ i. InsufficientCacheCapacity (l i) (g i)))
+    by_tests reverse roomy false skips given least d w k g l false is_small is = absurd (no_refusal d e is)
+
+    by_half : (x y : Result Dfa BuildError) → (x ≡ err_dfa e → RefusesBuild xs s e) →
+        ((f : Dfa) → x ≡ ok_dfa f → y ≡ err_dfa e → RefusesBuild xs s e) → both_of x y ≡ err_pair e → RefusesBuild xs s e
     by_half (Ok f) (Ok r) first second is = absurd (no_pair_refusal (record { forward = f; reverse = r }) e is)
-    by_half (Ok f) (Err v) first second is = second (ap err_dfa (same_pair_refusal v e is))
+    by_half (Ok f) (Err v) first second is = second f refl (ap err_dfa (same_pair_refusal v e is))
     by_half (Err v) r first second is = first (ap err_dfa (same_pair_refusal v e is))
 
     pair_refused : pair_built n m s.dfa ≡ err_pair e → RefusesBuild xs s e
     pair_refused is =
         by_half (built n s.dfa) (built m (changed_by s.dfa back_options))
-        (λ first. by_tests false n up (is_unsupported n.automaton (word_boundary_of s.dfa) (by_hand s.dfa)) (skips_check s.dfa)
-        (capacity_of s.dfa) (least_capacity (measures_with n s.dfa)) (dfa_of n s.dfa) (unsupported_are xs s false n up s.dfa) refl refl refl
-        (is_too_small n s.dfa) refl e first)
-        (λ second. by_tests true m is_reverse (is_unsupported m.automaton (word_boundary_of s.dfa) (by_hand s.dfa)) (skips_check s.dfa)
-        (capacity_of s.dfa) (least_capacity (measures_with m (changed_by s.dfa back_options))) (dfa_of m (changed_by s.dfa back_options))
+        (λ first. by_tests false (λ back. absurd (true≢false (sym back))) (is_unsupported n.automaton (word_boundary_of s.dfa) (by_hand s.dfa))
+        (skips_check s.dfa) (capacity_of s.dfa) (least_capacity (measures_with n s.dfa)) (dfa_of n s.dfa)
+        (unsupported_are xs s false n up s.dfa) refl refl refl (is_too_small n s.dfa) refl first)
+        (λ f made second. by_tests true (λ back. room_if_built n s.dfa f made)
+        (is_unsupported m.automaton (word_boundary_of s.dfa) (by_hand s.dfa)) (skips_check s.dfa) (capacity_of s.dfa)
+        (least_capacity (measures_with m (changed_by s.dfa back_options))) (dfa_of m (changed_by s.dfa back_options))
         (unsupported_are xs s true m is_reverse s.dfa) refl refl (ap least_capacity (same_measures m s.dfa))
-        (is_too_small m (changed_by s.dfa back_options)) refl e second) is
+        (is_too_small m (changed_by s.dfa back_options)) refl second) is
 
     pub build_refused : (o : Options) → err_pair e ≡ pair_built n m o → o ≡ s.dfa → RefusesBuild xs s e
     build_refused o is same = pair_refused (ap (λ (c : Options). pair_built n m c) (sym same) ∙ sym is)

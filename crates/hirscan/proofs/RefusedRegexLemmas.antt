@@ -37,8 +37,8 @@ module _ (setup : Setup) (xs : List Tree) (few : length xs ≤ greatest_index + 
       let limit = limit_alone_refuses (compile_options reverse (program_settings setup.settings)) xs x (2 ^ 26) refl refl
       (lit< tt) few refused other in
       inr (is ∙ ap NFA limit.0, for_size reverse x limit.0 refused)
-  refused_for e (unsupported are is) = absurd (true≢false (sym are ∙ never_unsupported xs setup.settings))
-  refused_for e (too_small reverse n can made checks less is) = absurd (true≢false checks)
+  refused_for e (unsupported n m up back are is) = absurd (true≢false (sym are ∙ never_unsupported xs setup.settings))
+  refused_for e (too_small n m up back can checks reverse roomy less is) = absurd (true≢false checks)
   refused_for e (no_memory is) = inl is
 
   by_cause : (x : NfaBuildError) → IsRefusedFor setup xs (NFA x) → AreTooLarge setup xs

@@ -87,13 +87,19 @@ pub record IsBuilt (xs : List Tree) (s : Settings) (p : Pair) : Type 0 where
 abbrev pub HasRoom : Nfa → DfaOptions → Type 0
 HasRoom n o = skips_check o ≡ false → least_capacity (measures_with n o) ≤ capacity_of o
 
--- Why no regex is built: a compile is refused, which is told as it was; words by characters can't be had; the capacity is below
--- the least one of an automaton; or memory lacked. The first of these three that applies is told.
+-- one of both NFAs
+abbrev pub half_of : Bool → Nfa → Nfa → Nfa
+half_of reverse n m = if reverse then m else n
+
+-- Why no regex is built: a compile is refused, which is told as it was; or both NFAs are made, and words by characters can't be
+-- had, or else the capacity is below the least one of an automaton, the forward one first; or memory lacked.
 pub data RefusesBuild (xs : List Tree) (s : Settings) (e : BuildError) : Type 0 where
   not_compiled : (reverse : Bool) (x : NfaBuildError) → x ≢ NfaNoMemory → RefusesTrees (compile_options reverse s) xs x →
       e ≡ NFA x → RefusesBuild xs s e
-  unsupported : are_unsupported xs s.dfa ≡ true → e ≡ Unsupported → RefusesBuild xs s e
-  too_small : (reverse : Bool) (n : Nfa) → are_unsupported xs s.dfa ≡ false → IsCompiled (compile_options reverse s) xs n →
-      skips_check s.dfa ≡ false → capacity_of s.dfa < least_capacity (measures_with n s.dfa) →
-      e ≡ InsufficientCacheCapacity (least_capacity (measures_with n s.dfa)) (capacity_of s.dfa) → RefusesBuild xs s e
+  unsupported : (n m : Nfa) → IsCompiled (compile_options false s) xs n → IsCompiled (compile_options true s) xs m →
+      are_unsupported xs s.dfa ≡ true → e ≡ Unsupported → RefusesBuild xs s e
+  too_small : (n m : Nfa) → IsCompiled (compile_options false s) xs n → IsCompiled (compile_options true s) xs m →
+      are_unsupported xs s.dfa ≡ false → skips_check s.dfa ≡ false → (reverse : Bool) → (reverse ≡ true → HasRoom n s.dfa) →
+      capacity_of s.dfa < least_capacity (measures_with (half_of reverse n m) s.dfa) →
+      e ≡ InsufficientCacheCapacity (least_capacity (measures_with (half_of reverse n m) s.dfa)) (capacity_of s.dfa) → RefusesBuild xs s e
   no_memory : e ≡ NoMemory → RefusesBuild xs s e

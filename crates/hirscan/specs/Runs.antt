@@ -1,5 +1,5 @@
 -- What a run leaves of what its reader and its writer tell of their bytes.
-use Rattle.std.specs.Prelude.{◌≡◌, ℕ, List, ◌++◌, length, take, Option, IfSome}
+use Rattle.std.specs.Prelude.{◌≡◌, ◌+◌, ◌^◌, ◌≤◌, ℕ, List, ◌++◌, length, take, Option, IfSome}
 use Rattle.std.specs.Io.KnownBytes.{Appends, Consumes, IsAtEnd, Keeps}
 use Rattle.hirscan.specs.declared.program.Ending.{Ending}
 use Rattle.hirscan.specs.declared.program.RunError.{RunError}
@@ -25,3 +25,14 @@ WritesAtFault input before after Read = Keeps before after
 WritesAtFault input before after Write =
     IfSome input (λ bytes. (ending : Ending) × (text : List ℕ) × (n : ℕ) × IsReply bytes ending text × Appends before after (take n text))
 WritesAtFault input before after NoMemory = Keeps before after
+
+-- of the reader all was taken, or one byte more than an input may have
+abbrev pub TakesInput : Option (List ℕ) → Option (List ℕ) → Type 0
+TakesInput before after =
+    (input : List ℕ) × Consumes before after input × (length input ≤ 2 ^ 30 + 1) × (length input ≤ 2 ^ 30 → IsAtEnd after)
+
+-- a write comes only behind the whole input; how far a read came that failed, or for which memory lacked, isn't told
+abbrev pub TakesAtFault : Option (List ℕ) → Option (List ℕ) → RunError → Type 0
+TakesAtFault before after Read = Unit {0}
+TakesAtFault before after Write = TakesInput before after
+TakesAtFault before after NoMemory = Unit {0}

@@ -79,6 +79,7 @@ pub enum Fault {
     /// The first faulty line, counted from 1, and what is wrong with it.
     #[error("line {line}: {kind}")]
     Notation { line: usize, kind: FaultKind },
+    /// A growth was refused. It says nothing of the text.
     #[error("out of memory")]
     NoMemory,
 }

@@ -1,6 +1,6 @@
-ghost use Rattle.std.specs.Prelude.{◌≡◌, ℕ, ◌^◌, ◌<◌, ◌≤◌, length, take, IfOk, IfErr, OnOk, ◌≢◌};
+ghost use Rattle.std.specs.Prelude.{◌≡◌, ℕ, ◌+◌, ◌^◌, ◌<◌, ◌≤◌, length, take, IfOk, IfErr, OnOk, ◌≢◌};
 ghost use Rattle.std.specs.Io.KnownBytes.{Appends, Consumes, IsAtEnd, Keeps};
-ghost use Rattle.hirscan.specs.Runs.{ReadsSome, WritesReply, WritesAtFault};
+ghost use Rattle.hirscan.specs.Runs.{ReadsSome, TakesInput, TakesAtFault, WritesReply, WritesAtFault};
 
 use crate::reply::{INPUT_LIMIT, Reply, reply_to};
 use std::alloc::{AllocError, AllocFailed, Global};
@@ -82,6 +82,7 @@ fn read_input<R: Read>(
     requires { 0 < length buffer.old }
     ensures read { IfOk result (λ input. Consumes (R.remaining reader.old) (R.remaining reader.new) input.items) }
     ensures whole { IfOk result (λ input. length input.items ≤ 2 ^ 30 → IsAtEnd (R.remaining reader.new)) }
+    ensures limit { IfOk result (λ input. length input.items ≤ 2 ^ 30 + 1) }
     ensures fault { IfErr result (λ e. e ≢ RunError.Write) }
 {
     let mut input = Vec::new(alloc);
@@ -117,13 +118,19 @@ fn write_reply<W: Write>(writer: &mut W, text: &[u8]) -> Result<(), RunError>
 /// Reads a head and a haystack to the end, and writes the reply: a line `pattern start end` for each
 /// span of the list of all answers, which ends in a line that begins `quit: ` where a search gives up
 /// at a quit byte; or one line that begins `refused: `. The whole reply is made before the first write.
+///
+/// It ends with [`RunError::Read`] where a read fails, with [`RunError::NoMemory`] where a growth is refused, and with
+/// [`RunError::Write`] where a write fails or takes no byte or the flush fails; nothing is written before the reply is whole. Of the
+/// reader it takes all bytes, or one more than an input may have.
 pub fn run<R: Read, W: Write>(
     alloc: Global,
     reader: &mut R,
     writer: &mut W,
 ) -> Result<Ending, RunError>
     ensures ok { IfOk result (λ ending. WritesReply (R.remaining reader.old) (W.contents writer.old) (W.contents writer.new) ending) }
+    ensures taken { OnOk result (TakesInput (R.remaining reader.old) (R.remaining reader.new)) }
     ensures fault { IfErr result (λ e. WritesAtFault (R.remaining reader.old) (W.contents writer.old) (W.contents writer.new) e) }
+    ensures taken_at_fault { IfErr result (λ e. TakesAtFault (R.remaining reader.old) (R.remaining reader.new) e) }
 {
     let mut buffer = make_buffer(alloc, CHUNK)?;
     let input = read_input(alloc, reader, &mut buffer)?;

@@ -2,12 +2,14 @@
 //! no setting of a cache. Each function has no code: its contract is the law.
 ghost use Rattle.std.specs.Prelude.{◌≡◌, ℕ, ◌<◌, ◌≤◌, Bool, false, List, All, length, Option, Ok};
 ghost use Rattle.look_core.specs.Looks.{holds};
+ghost use Rattle.look_core.specs.SameClasses.{HaveSameClasses};
 ghost use Rattle.look_core.specs.Terminators.{Terminator};
 ghost use Rattle.hir_core.specs.Facts.{LoopsRead};
 ghost use Rattle.hir_core.specs.Tree.{Tree};
 ghost use Rattle.search_types.specs.Found.{Found};
 ghost use Rattle.search_types.specs.Inputs.{Search};
 ghost use Rattle.search_types.specs.Modes.{is_supported};
+ghost use Rattle.nfa_core.specs.Alike.{marks_of};
 ghost use Rattle.nfa_core.specs.NfaValue.{Nfa};
 ghost use Rattle.lazy_dfa.specs.ConfigValue.{Options as DfaOptions};
 ghost use Rattle.lazy_dfa.specs.Dfas.{reader};
@@ -41,9 +43,15 @@ pub fn settings_of_caches_do_not_show()
 {}
 
 /// Bytes of one class are interchangeable: over two haystacks of bytes of one length that are alike place by place by the classes
-/// of the automaton that reads forward, with which it is built, the trees define the same answer, for every set of words. They are
-/// not in UTF-8 mode, none asks for words of characters, and the loops of all read.
+/// of the NFA that reads forward, those of `NFA::byte_classes`, the trees define the same answer, for every set of words; and so
+/// they do by the classes with which the automaton over it is built, which tell more bytes apart. They are not in UTF-8 mode, none
+/// asks for words of characters, and the loops of all read.
 pub fn bytes_of_one_class_are_interchangeable()
+    ensures marks { (xs : List Tree) (t : Terminator) (p : Pair) → IsRegexOf xs false t p → All LoopsRead xs → HasNoUnicodeWord xs →
+        (q : Search) (g : List ℕ) → q.end ≤ length q.haystack → All (λ byte. byte < 256) q.haystack → All (λ byte. byte < 256) g →
+        HaveSameClasses (marks_of p.forward.nfa.terminator p.forward.nfa.automaton.states) q.haystack g → (words : ℕ → Bool) →
+        answer_from (query_of xs false (holds words t q.haystack) q) q.start
+        ≡ answer_from (query_of xs false (holds words t g) (record q { haystack = g })) q.start }
     ensures answer { (xs : List Tree) (t : Terminator) (p : Pair) → IsRegexOf xs false t p → HasItsClasses p → All LoopsRead xs → HasNoUnicodeWord xs →
         (q : Search) (g : List ℕ) → q.end ≤ length q.haystack → All (λ byte. byte < 256) q.haystack → All (λ byte. byte < 256) g →
         IsAlike p.forward.classes q.haystack g → (words : ℕ → Bool) →

@@ -39,11 +39,18 @@ impl<'a> WordsLeft<'a> {
         WordsLeft { left: Some(line) }
     }
 
-    /// The first of these words, as many as there are up to this number.
+    /// The first of these words, as many as there are up to this number. Each growth that is refused ends it.
     pub(crate) fn at_most(self, alloc: Global, number: usize) -> Result<Vec<&'a [u8]>, AllocError>
         ensures { IfOk result (λ found. texts found.items ≡ take number (words_left self.entry)) }
     {
-        self.take(number).collect(alloc)
+        let mut found = Vec::new(alloc);
+        for word in self {
+            if found.len() == number {
+                return Ok(found);
+            }
+            found.push(word)?;
+        }
+        Ok(found)
     }
 }
 

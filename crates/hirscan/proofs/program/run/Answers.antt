@@ -13,3 +13,6 @@ returns-clause-fault g c =
     let text : c.as_bytes.result.now ≡ string_bytes c.in_ok-ending.field-0.text = cc in
     writes_prefix _ _ _ _ _ _ _ _ _ c.deref.ensures.value c.in_ok-input.ensures.read c.in_ok-input.ensures.whole c.in_ok-ending.ensures text
     _ c.in-Err.ensures.prefix
+
+pub returns-in-Ok-clause-taken : goal.returns-in-Ok-clause-taken
+returns-in-Ok-clause-taken g c = (_, c.in_ok-input.ensures.read, c.in_ok-input.ensures.limit, c.in_ok-input.ensures.whole)

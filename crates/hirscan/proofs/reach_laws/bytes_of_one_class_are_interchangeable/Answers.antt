@@ -1,5 +1,8 @@
-use Rattle.hirscan.proofs.ClassLemmas.{answer_by_classes, built_has_its_classes}
+use Rattle.hirscan.proofs.ClassLemmas.{answer_by_automaton, answer_by_classes, built_has_its_classes}
 use Rattle.hirscan.proofs.reach_laws.bytes_of_one_class_are_interchangeable.Goals as goal
+
+pub returns-clause-marks : goal.returns-clause-marks
+returns-clause-marks c = answer_by_automaton
 
 pub returns-clause-answer : goal.returns-clause-answer
 returns-clause-answer c = answer_by_classes
