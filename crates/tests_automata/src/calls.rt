@@ -1,6 +1,8 @@
 //! Calls of a builder, one after the other, each with what it should answer.
 ghost use Rattle.std.specs.Prelude.{◌≡◌};
 
+use crate::building::{builds, built};
+use crate::nfas::Wanted;
 use crate::texts::is_told;
 use look_core::{AsciiWord, LineTerm, Look, LookMatcher};
 use nfa_core::{BuildError, Builder, Transition};
@@ -15,14 +17,14 @@ pub(crate) enum Step {
     Finish(u8),
     Match,
     Fail,
+    /// Stands for the state 0.
     Empty,
-    /// Two empty states that stand for each other.
-    Loop,
-    /// By the first byte, to this state.
-    Zero(u8),
+    /// By this byte, to this state.
+    Byte(u8, u8),
     Look(Look, u8),
-    /// Sparse states of no range, of one and of two.
+    /// Sparse states of no range, of one and of two, or one of all bytes, which leads to this state.
     Sparse,
+    All(u8),
     Union(&'static [u8]),
     UnionReverse(&'static [u8]),
     /// Begins or ends a group: where it leads, the group, and its name.
@@ -33,6 +35,8 @@ pub(crate) enum Step {
     /// Sets all settings to others than those of a new builder.
     SetAll,
     Clear,
+    /// Builds an automaton that starts in the state 0, for nothing.
+    Build,
 }
 
 /// A step, or what a builder should tell.
@@ -41,21 +45,21 @@ pub(crate) enum Call {
     Do(Step),
     /// The step is refused in these words.
     Refuses(Step, &'static str),
-    /// The limit, and the bytes of the states.
-    Limit(Option<usize>),
+    /// The bytes of the states.
     Bytes(usize),
     /// Whether it can build with these starts.
     CanBuild(u8, u8, bool),
+    /// It builds this automaton with these starts.
+    Builds(u8, u8, Wanted),
     /// Whether a pattern was begun, and how many there are.
     Patterns(bool, usize),
     /// One more than the number of the pattern that was begun.
     InPattern(usize),
-    /// The settings are those of a new builder, or all of the others.
-    HasGiven,
-    HasSet,
+    /// Whether spans are UTF-8, whether the text is read in reverse, the limit, and by what lines end.
+    Settings(bool, bool, Option<usize>, u8),
 }
 
-pub(crate) fn transition(start: u8, end: u8, next: u8) -> Transition
+fn transition(start: u8, end: u8, next: u8) -> Transition
     ensures first { result.start ≡ start }
     ensures last { result.end ≡ end }
 {
@@ -83,24 +87,16 @@ fn add_sparse(alloc: Global, builder: &mut Builder) -> Result<(), BuildError> {
     Ok(())
 }
 
-/// Adds two empty states that stand for each other.
-fn add_loop(builder: &mut Builder) -> Result<(), BuildError> {
-    let first = builder.add_empty()?;
-    let second = builder.add_empty()?;
-    builder.patch(first, second)?;
-    builder.patch(second, first)
-}
-
-/// Adds a state, or two.
+/// Adds a state, or a few.
 fn add(alloc: Global, builder: &mut Builder, step: Step) -> Result<(), BuildError> {
     match step {
         Step::Fail => builder.add_fail()?,
         Step::Empty => builder.add_empty()?,
-        Step::Zero(next) => builder.add_range(transition(0, 0, next))?,
+        Step::Byte(byte, next) => builder.add_range(transition(byte, byte, next))?,
+        Step::All(next) => builder.add_sparse(vec![in alloc; transition(0, 255, next)]?)?,
         Step::Look(look, next) => builder.add_look(StateID::from(next), look)?,
         Step::Union(ways) => builder.add_union(names(alloc, ways)?)?,
         Step::UnionReverse(ways) => builder.add_union_reverse(names(alloc, ways)?)?,
-        Step::Loop => return add_loop(builder),
         _ => return add_sparse(alloc, builder),
     };
     Ok(())
@@ -144,15 +140,6 @@ fn add_in_pattern(alloc: Global, builder: &mut Builder, step: Step) -> Result<()
     Ok(())
 }
 
-/// Begins a pattern.
-fn start(builder: &mut Builder) -> Result<(), BuildError> {
-    if builder.in_pattern() {
-        return Err(BuildError::TooManyPatterns);
-    }
-    builder.start_pattern()?;
-    Ok(())
-}
-
 /// Sets all settings to others than those of a new builder.
 fn set_all(builder: &mut Builder) -> Result<(), BuildError> {
     let mut look_matcher = LookMatcher::new(AsciiWord);
@@ -164,72 +151,52 @@ fn set_all(builder: &mut Builder) -> Result<(), BuildError> {
 }
 
 /// Takes a step.
-pub(crate) fn take(alloc: Global, builder: &mut Builder, step: Step) -> Result<(), BuildError> {
+fn take(alloc: Global, builder: &mut Builder, step: Step) -> Result<(), BuildError> {
+    let in_pattern = builder.in_pattern();
     match step {
-        Step::Start => start(builder),
+        Step::Start if in_pattern => return Err(BuildError::TooManyPatterns),
+        Step::Start => {
+            builder.start_pattern()?;
+        }
         Step::Finish(_) | Step::Match | Step::Group(..) | Step::GroupEnd(..) => {
-            add_in_pattern(alloc, builder, step)
+            add_in_pattern(alloc, builder, step)?;
         }
-        Step::Limit(limit) => builder.set_size_limit(limit),
-        Step::SetAll => set_all(builder),
-        Step::Reverse(reverse) => {
-            builder.set_reverse(reverse);
-            Ok(())
+        Step::Limit(limit) => builder.set_size_limit(limit)?,
+        Step::SetAll => set_all(builder)?,
+        Step::Reverse(reverse) => builder.set_reverse(reverse),
+        Step::Clear => builder.clear(),
+        Step::Build => {
+            let _nfa = built(builder, StateID::ZERO, StateID::ZERO)?;
         }
-        Step::Clear => {
-            builder.clear();
-            Ok(())
-        }
-        _ => add(alloc, builder, step),
+        _ => add(alloc, builder, step)?,
     }
-}
-
-/// A builder behind these steps.
-pub(crate) fn made(alloc: Global, steps: &[Step]) -> Result<Builder, BuildError> {
-    let mut builder = Builder::new(alloc);
-    for step in steps {
-        take(alloc, &mut builder, *step)?;
-    }
-    Ok(builder)
-}
-
-/// Whether a step is refused in these words.
-fn refuses(alloc: Global, builder: &mut Builder, step: Step, want: &str) -> bool {
-    match take(alloc, builder, step) {
-        Ok(()) => false,
-        Err(error) => is_told(alloc, &error, want),
-    }
-}
-
-/// Whether spans are UTF-8, whether the text is read in reverse, the limit, and by what lines end.
-fn settings(builder: &Builder) -> (bool, bool, Option<usize>, LineTerm) {
-    (
-        builder.get_utf8(),
-        builder.get_reverse(),
-        builder.get_size_limit(),
-        builder.get_look_matcher().get_line_terminator(),
-    )
-}
-
-/// Whether the pattern that was begun has this number, and one more.
-fn is_in_pattern(builder: &Builder, one_more: usize) -> bool {
-    builder.in_pattern() && builder.current_pattern_id().one_more() == one_more
+    Ok(())
 }
 
 /// Whether a builder tells what it should.
 fn tells(builder: &Builder, call: Call) -> bool {
     match call {
-        Call::Limit(limit) => builder.get_size_limit() == limit,
         Call::Bytes(bytes) => builder.memory_usage() == bytes,
         Call::CanBuild(anchored, unanchored, want) => {
             builder.can_build(StateID::from(anchored), StateID::from(unanchored)) == want
         }
+        Call::Builds(anchored, unanchored, wanted) => {
+            let (anchored, unanchored) = (StateID::from(anchored), StateID::from(unanchored));
+            builds(builder, anchored, unanchored, wanted)
+        }
         Call::Patterns(is_open, len) => {
             (builder.in_pattern(), builder.pattern_len()) == (is_open, len)
         }
-        Call::InPattern(one_more) => is_in_pattern(builder, one_more),
-        Call::HasGiven => settings(builder) == (true, false, None, LineTerm::one(b'\n')),
-        _ => settings(builder) == (false, true, Some(100), LineTerm::one(0)),
+        Call::InPattern(one_more) => {
+            builder.in_pattern() && builder.current_pattern_id().one_more() == one_more
+        }
+        Call::Settings(utf8, reverse, limit, line_end) => {
+            let lines = builder.get_look_matcher().get_line_terminator();
+            (builder.get_utf8(), builder.get_reverse()) == (utf8, reverse)
+                && builder.get_size_limit() == limit
+                && lines == LineTerm::one(line_end)
+        }
+        _ => false,
     }
 }
 
@@ -237,12 +204,15 @@ fn tells(builder: &Builder, call: Call) -> bool {
 fn is_answered(alloc: Global, builder: &mut Builder, call: Call) -> bool {
     match call {
         Call::Do(step) => take(alloc, builder, step).is_ok(),
-        Call::Refuses(step, want) => refuses(alloc, builder, step, want),
+        Call::Refuses(step, want) => match take(alloc, builder, step) {
+            Ok(()) => false,
+            Err(error) => is_told(alloc, &error, want),
+        },
         _ => tells(builder, call),
     }
 }
 
-/// Whether each of the calls answers what it should.
+/// Whether each of the calls of a new builder answers what it should.
 pub(crate) fn are_answered(alloc: Global, calls: &[Call]) -> bool {
     let mut builder = Builder::new(alloc);
     for call in calls {

@@ -6,6 +6,8 @@ mod builder_calls;
 #[cfg(test)]
 mod builders;
 #[cfg(test)]
+mod building;
+#[cfg(test)]
 mod calls;
 #[cfg(test)]
 mod nfas;
@@ -13,6 +15,8 @@ mod nfas;
 mod sets;
 #[cfg(test)]
 mod shapes;
+#[cfg(test)]
+mod stacks;
 #[cfg(test)]
 mod states;
 #[cfg(test)]

@@ -1,120 +1,115 @@
 //! One tree of each kind but repetitions and groups, read forward and in reverse.
-use crate::shapes::{Shape, becomes, compiled, is_anchored, plain};
-use crate::small::Small;
+use crate::calls::Call::{self, Captures, Make, Reverse};
+use crate::calls::Fact::Made;
+use crate::calls::are_answered;
+use crate::shapes::Shape::{self, Byte, Fail, Match, Range, Three, TwoRanges};
+use crate::small::Small::{
+    A, Ab, AtEnd, Digits, Edge, Empty, Greek, Letters, Line, NoBytes, NoChoice, NoParts, OneWay,
+    ThreeWays,
+};
 use look_core::Look;
-use std::alloc::Global;
+use thompson_nfa::WhichCaptures;
+
+/// Texts, some of which have no bytes, and a choice between one.
+const fn texts() -> [Call; 11] {
+    [
+        Captures(WhichCaptures::None),
+        Make(A, Made(2, &[Byte(b'a', 3), Match(0)])),
+        Make(Ab, Made(2, &[Byte(b'a', 3), Byte(b'b', 4), Match(0)])),
+        Make(Empty, Made(2, &[Match(0)])),
+        Make(NoParts, Made(2, &[Match(0)])),
+        Make(OneWay, Made(2, &[Byte(b'a', 3), Match(0)])),
+        Reverse(true),
+        Make(A, Made(2, &[Byte(b'a', 3), Match(0)])),
+        Make(Ab, Made(2, &[Byte(b'b', 3), Byte(b'a', 4), Match(0)])),
+        Make(NoBytes, Made(2, &[Match(0)])),
+        Make(NoChoice, Made(2, &[Fail, Match(0)])),
+    ]
+}
+
+/// Of scalars the last range's state is made first forward, and in reverse the first range's.
+const fn classes() -> [Call; 7] {
+    [
+        Captures(WhichCaptures::None),
+        Make(
+            Letters,
+            Made(2, &[TwoRanges(97, 98, 3, 100, 100, 3), Match(0)]),
+        ),
+        Make(
+            Greek,
+            Made(3, &[Range(0xB1, 0xB2, 4), Byte(0xCE, 2), Match(0)]),
+        ),
+        Make(
+            Edge,
+            Made(
+                3,
+                &[
+                    Byte(0x80, 4),
+                    TwoRanges(0x7F, 0x7F, 4, 0xC2, 0xC2, 2),
+                    Match(0),
+                ],
+            ),
+        ),
+        Reverse(true),
+        Make(Digits, Made(2, &[Range(48, 57, 3), Match(0)])),
+        Make(
+            Greek,
+            Made(3, &[Byte(0xCE, 4), Range(0xB1, 0xB2, 2), Match(0)]),
+        ),
+    ]
+}
+
+/// Looks, and a choice, whose ways are tried in their order in either direction. In reverse nothing stands before `a$`:
+/// each of its spans ends at the end of the haystack.
+const fn looks_and_choices() -> [Call; 8] {
+    [
+        Captures(WhichCaptures::None),
+        Make(Line, Made(2, &[Shape::Look(Look::StartLF, 3), Match(0)])),
+        Make(
+            AtEnd,
+            Made(2, &[Byte(b'a', 3), Shape::Look(Look::End, 4), Match(0)]),
+        ),
+        Make(
+            ThreeWays,
+            Made(
+                4,
+                &[
+                    Byte(b'a', 6),
+                    Byte(b'b', 6),
+                    Three(2, 3, 5),
+                    Byte(b'c', 6),
+                    Match(0),
+                ],
+            ),
+        ),
+        Reverse(true),
+        Make(Line, Made(2, &[Shape::Look(Look::EndLF, 3), Match(0)])),
+        Make(
+            AtEnd,
+            Made(0, &[Shape::Look(Look::Start, 1), Byte(b'a', 2), Match(0)]),
+        ),
+        Make(
+            ThreeWays,
+            Made(
+                4,
+                &[
+                    Byte(b'a', 6),
+                    Byte(b'b', 6),
+                    Three(2, 3, 5),
+                    Byte(b'c', 6),
+                    Match(0),
+                ],
+            ),
+        ),
+    ]
+}
 
 #[test]
-fn literals(rt: HostRuntime) {
+fn each_kind_of_tree(rt: HostRuntime) {
     let alloc = rt.alloc();
-    let a = [Shape::Range(b'a', b'a', 3), Shape::Match(0)];
-    assert!(rt; becomes(alloc, false, Small::A, 2, &a));
-    assert!(rt; becomes(alloc, true, Small::A, 2, &a));
-    let forward = [
-        Shape::Range(b'a', b'a', 3),
-        Shape::Range(b'b', b'b', 4),
-        Shape::Match(0),
-    ];
-    assert!(rt; becomes(alloc, false, Small::Ab, 2, &forward));
-    let reverse = [
-        Shape::Range(b'b', b'b', 3),
-        Shape::Range(b'a', b'a', 4),
-        Shape::Match(0),
-    ];
-    assert!(rt; becomes(alloc, true, Small::Ab, 2, &reverse));
-}
-
-#[test]
-fn texts_without_bytes(rt: HostRuntime) {
-    let alloc = rt.alloc();
-    assert!(rt; becomes(alloc, false, Small::Empty, 2, &[Shape::Match(0)]));
-    assert!(rt; becomes(alloc, true, Small::NoBytes, 2, &[Shape::Match(0)]));
-    assert!(rt; becomes(alloc, false, Small::NoParts, 2, &[Shape::Match(0)]));
-    let never = [Shape::Fail, Shape::Match(0)];
-    assert!(rt; becomes(alloc, true, Small::NoChoice, 2, &never));
-}
-
-#[test]
-fn classes(rt: HostRuntime) {
-    let alloc = rt.alloc();
-    let letters = [
-        Shape::TwoRanges((97, 98, 3), (100, 100, 3)),
-        Shape::Match(0),
-    ];
-    assert!(rt; becomes(alloc, false, Small::Letters, 2, &letters));
-    let digits = [Shape::Range(48, 57, 3), Shape::Match(0)];
-    assert!(rt; becomes(alloc, true, Small::Digits, 2, &digits));
-}
-
-/// Forward the last range's state is made first, in reverse the first range's.
-#[test]
-fn scalar_classes(rt: HostRuntime) {
-    let alloc = rt.alloc();
-    let forward = [
-        Shape::Range(0xB1, 0xB2, 4),
-        Shape::Range(0xCE, 0xCE, 2),
-        Shape::Match(0),
-    ];
-    assert!(rt; becomes(alloc, false, Small::Greek, 3, &forward));
-    let reverse = [
-        Shape::Range(0xCE, 0xCE, 4),
-        Shape::Range(0xB1, 0xB2, 2),
-        Shape::Match(0),
-    ];
-    assert!(rt; becomes(alloc, true, Small::Greek, 3, &reverse));
-    let edge = [
-        Shape::Range(0x80, 0x80, 4),
-        Shape::TwoRanges((0x7F, 0x7F, 4), (0xC2, 0xC2, 2)),
-        Shape::Match(0),
-    ];
-    assert!(rt; becomes(alloc, false, Small::Edge, 3, &edge));
-}
-
-#[test]
-fn looks(rt: HostRuntime) {
-    let alloc = rt.alloc();
-    let forward = [Shape::Look(Look::StartLF, 3), Shape::Match(0)];
-    assert!(rt; becomes(alloc, false, Small::Line, 2, &forward));
-    let reverse = [Shape::Look(Look::EndLF, 3), Shape::Match(0)];
-    assert!(rt; becomes(alloc, true, Small::Line, 2, &reverse));
-}
-
-/// Whether each span of `a$` ends at the end of the haystack, so that nothing stands before it in reverse.
-fn end_comes_first(alloc: Global) -> bool {
-    let reverse = [
-        Shape::Look(Look::Start, 1),
-        Shape::Range(b'a', b'a', 2),
-        Shape::Match(0),
-    ];
-    match compiled(alloc, plain(true), &[Small::AtEnd]) {
-        Ok(nfa) => is_anchored(&nfa, &reverse),
-        Err(_) => false,
-    }
-}
-
-#[test]
-fn concatenations(rt: HostRuntime) {
-    let forward = [
-        Shape::Range(b'a', b'a', 3),
-        Shape::Look(Look::End, 4),
-        Shape::Match(0),
-    ];
-    assert!(rt; becomes(rt.alloc(), false, Small::AtEnd, 2, &forward));
-    assert!(rt; end_comes_first(rt.alloc()));
-}
-
-#[test]
-fn alternations(rt: HostRuntime) {
-    let alloc = rt.alloc();
-    let one = [Shape::Range(b'a', b'a', 3), Shape::Match(0)];
-    assert!(rt; becomes(alloc, false, Small::OneWay, 2, &one));
-    let three = [
-        Shape::Range(b'a', b'a', 6),
-        Shape::Range(b'b', b'b', 6),
-        Shape::Three(2, 3, 5),
-        Shape::Range(b'c', b'c', 6),
-        Shape::Match(0),
-    ];
-    assert!(rt; becomes(alloc, false, Small::ThreeWays, 4, &three));
-    assert!(rt; becomes(alloc, true, Small::ThreeWays, 4, &three));
+    assert!(rt;
+        are_answered(alloc, &texts())
+            && are_answered(alloc, &classes())
+            && are_answered(alloc, &looks_and_choices())
+    );
 }

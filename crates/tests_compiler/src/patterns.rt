@@ -1,68 +1,38 @@
 //! Several patterns, none, and what stands before them.
-use crate::shapes::{Shape, compiled, is_anchored, is_made_of, plain};
-use crate::small::Small;
+use crate::calls::Call::{self, Captures, Make, MakeAll};
+use crate::calls::Fact::{Made, Patterns, Second, States, Unanchored};
+use crate::calls::are_answered;
+use crate::shapes::Shape::{self, Byte, Fail, Match, Two};
+use crate::small::Small::{A, AtStart, B};
 use look_core::Look;
-use nfa_core::{BuildError, NFA};
-use search_core::PatternID;
-use std::alloc::Global;
-use thompson_nfa::Config;
+use thompson_nfa::WhichCaptures;
 
-/// Whether there are two patterns, the second of which begins in this state.
-fn has_two(nfa: &NFA, second: usize) -> bool {
-    match nfa.start_pattern(PatternID::must(1)) {
-        Some(start) => start.as_usize() == second && nfa.pattern_len() == 2,
-        None => false,
-    }
-}
-
-/// Whether two patterns are tried in their order.
-fn are_tried_in_order(alloc: Global) -> Result<bool, BuildError> {
-    let nfa = compiled(alloc, plain(false), &[Small::A, Small::B])?;
-    let states = [
-        Shape::Range(b'a', b'a', 3),
-        Shape::Match(0),
-        Shape::Range(b'b', b'b', 5),
-        Shape::Match(1),
-        Shape::Two(2, 4),
-    ];
-    Ok(is_made_of(&nfa, 6, &states) && has_two(&nfa, 4))
-}
-
-#[test]
-fn patterns_are_tried_in_order(rt: HostRuntime) {
-    assert!(rt; matches!(are_tried_in_order(rt.alloc()), Ok(true)));
-}
-
-/// Whether no patterns, with states for groups, become one state that leads nowhere.
-fn none_matches(alloc: Global) -> Result<bool, BuildError> {
-    let nfa = compiled(alloc, Config::new(), &[])?;
-    Ok(is_anchored(&nfa, &[Shape::Fail]) && nfa.pattern_len() == 0)
+/// No patterns, with states for groups, become one state that leads nowhere. Two are tried in their order. Nothing
+/// stands before a pattern that is anchored; something does where another one isn't.
+const fn patterns() -> [Call; 9] {
+    [
+        MakeAll(&[], Made(0, &[Fail])),
+        MakeAll(&[], Patterns(0)),
+        Captures(WhichCaptures::None),
+        MakeAll(
+            &[A, B],
+            Made(
+                6,
+                &[Byte(b'a', 3), Match(0), Byte(b'b', 5), Match(1), Two(2, 4)],
+            ),
+        ),
+        MakeAll(&[A, B], Second(4)),
+        MakeAll(&[A, B], Patterns(2)),
+        Make(
+            AtStart,
+            Made(0, &[Shape::Look(Look::Start, 1), Byte(b'a', 2), Match(0)]),
+        ),
+        MakeAll(&[AtStart, B], Unanchored),
+        MakeAll(&[AtStart, B], States(8)),
+    ]
 }
 
 #[test]
-fn no_patterns_never_match(rt: HostRuntime) {
-    assert!(rt; matches!(none_matches(rt.alloc()), Ok(true)));
-}
-
-/// Whether nothing stands before a pattern that is anchored.
-fn begins_at_once(alloc: Global) -> Result<bool, BuildError> {
-    let nfa = compiled(alloc, plain(false), &[Small::AtStart])?;
-    let states = [
-        Shape::Look(Look::Start, 1),
-        Shape::Range(b'a', b'a', 2),
-        Shape::Match(0),
-    ];
-    Ok(is_anchored(&nfa, &states))
-}
-
-/// Whether something does where another one isn't.
-fn begins_anywhere(alloc: Global) -> Result<bool, BuildError> {
-    let nfa = compiled(alloc, plain(false), &[Small::AtStart, Small::B])?;
-    Ok(!nfa.is_always_start_anchored() && nfa.states().len() == 8)
-}
-
-#[test]
-fn nothing_stands_before_anchored_patterns(rt: HostRuntime) {
-    assert!(rt; matches!(begins_at_once(rt.alloc()), Ok(true)));
-    assert!(rt; matches!(begins_anywhere(rt.alloc()), Ok(true)));
+fn patterns_in_order_none_and_anchored_ones(rt: HostRuntime) {
+    assert!(rt; are_answered(rt.alloc(), &patterns()));
 }

@@ -1,5 +1,5 @@
 //! Small trees that the tests are made of.
-use hir_core::Hir;
+use hir_core::{Hir, is_ascending, is_ascending_chars};
 use look_core::Look;
 use std::alloc::{AllocError, Global};
 
@@ -19,6 +19,12 @@ pub enum Small {
     B,
     /// `ab`
     Ab,
+    /// `going`
+    Going,
+    /// `doing`
+    Doing,
+    /// The class of one byte.
+    OneByte(u8),
     /// `[a-bd]`, as bytes.
     Letters,
     /// `[0-9]`, as bytes.
@@ -31,6 +37,8 @@ pub enum Small {
     Line,
     /// `^`
     Start,
+    /// `$`
+    End,
     /// `^a`
     AtStart,
     /// `a$`
@@ -41,38 +49,75 @@ pub enum Small {
     ThreeWays,
     /// `going|doing`
     Words,
-    /// Rounds of `a`, or `a` where the least number is above the greatest.
-    Rounds(u32, Option<u32>, bool),
+    /// Rounds of `a`: the least number of them, the greatest, and whether more are preferred.
+    Rounds(u32, u32, bool),
+    /// The same without a greatest number.
+    AnyRounds(u32, bool),
     /// Any rounds of a body that may read nothing, `(?:a?)*`.
     EmptyRounds,
-    /// `a` as the group 1, which has no name.
-    Group,
+    /// `a` as the group of this index, which has the name `one` or none.
+    Group(u32, bool),
+    /// Two groups of one name.
+    TwoGroups,
 }
 
 impl Small {
-    pub fn tree(self, alloc: Global) -> Result<Hir, AllocError> {
+    /// The tree of a text, a class, a look or a group.
+    fn part(self, alloc: Global) -> Result<Hir, AllocError> {
         match self {
-            Small::Empty => Ok(Hir::empty()),
             Small::NoBytes => text(alloc, b""),
-            Small::NoParts => Ok(Hir::concat(Vec::new(alloc))),
-            Small::NoChoice => Ok(Hir::alternation(Vec::new(alloc))),
             Small::A => text(alloc, b"a"),
             Small::B => text(alloc, b"b"),
             Small::Ab => text(alloc, b"ab"),
-            Small::Letters => Ok(Hir::bytes(vec![in alloc; (97, 98), (100, 100)]?)),
-            Small::Digits => Ok(Hir::bytes(vec![in alloc; (48, 57)]?)),
-            Small::Greek => Ok(Hir::chars(vec![in alloc; ('α', 'β')]?)),
-            Small::Edge => Ok(Hir::chars(vec![in alloc; ('\u{7F}', '\u{80}')]?)),
+            Small::Going => text(alloc, b"going"),
+            Small::Doing => text(alloc, b"doing"),
+            Small::OneByte(byte) => bytes(alloc, &[(byte, byte)]),
+            Small::Letters => bytes(alloc, &[(97, 98), (100, 100)]),
+            Small::Digits => bytes(alloc, &[(48, 57)]),
+            Small::Greek => chars(alloc, 'α', 'β'),
+            Small::Edge => chars(alloc, '\u{7F}', '\u{80}'),
             Small::Line => Ok(Hir::look(Look::StartLF)),
             Small::Start => Ok(Hir::look(Look::Start)),
-            Small::AtStart => at_start(alloc),
-            Small::AtEnd => at_end(alloc),
-            Small::OneWay => one_way(alloc),
-            Small::ThreeWays => three_ways(alloc),
-            Small::Words => words(alloc),
+            Small::End => Ok(Hir::look(Look::End)),
+            Small::Group(index, named) => group(alloc, index, named),
+            _ => Ok(Hir::empty()),
+        }
+    }
+
+    /// The tree of this name.
+    fn tree(self, alloc: Global) -> Result<Hir, AllocError> {
+        match self {
+            Small::NoParts => joined(alloc, &[], false),
+            Small::NoChoice => joined(alloc, &[], true),
+            Small::AtStart => joined(alloc, &[Small::Start, Small::A], false),
+            Small::AtEnd => joined(alloc, &[Small::A, Small::End], false),
+            Small::OneWay => joined(alloc, &[Small::A], true),
+            Small::ThreeWays => {
+                let ways = [
+                    Small::OneByte(b'a'),
+                    Small::OneByte(b'b'),
+                    Small::OneByte(b'c'),
+                ];
+                joined(alloc, &ways, true)
+            }
+            Small::Words => joined(alloc, &[Small::Going, Small::Doing], true),
             Small::Rounds(min, max, greedy) => rounds(alloc, min, max, greedy),
-            Small::EmptyRounds => empty_rounds(alloc),
-            Small::Group => group(alloc),
+            Small::AnyRounds(min, greedy) => {
+                let body = text(alloc, b"a")?;
+                Hir::repetition(alloc, min, None, greedy, body)
+            }
+            Small::EmptyRounds => {
+                let body = rounds(alloc, 0, 1, true)?;
+                Hir::repetition(alloc, 0, None, true, body)
+            }
+            Small::TwoGroups => {
+                joined(
+                    alloc,
+                    &[Small::Group(1, true), Small::Group(2, true)],
+                    false,
+                )
+            }
+            _ => self.part(alloc),
         }
     }
 }
@@ -86,68 +131,56 @@ pub fn trees(alloc: Global, names: &[Small]) -> Result<Vec<Hir>, AllocError> {
     Ok(trees)
 }
 
+/// These parts as a choice, or one after the other.
+fn joined(alloc: Global, names: &[Small], is_choice: bool) -> Result<Hir, AllocError> {
+    let mut parts = Vec::new(alloc);
+    for name in names {
+        parts.push(name.part(alloc)?)?;
+    }
+    if is_choice {
+        return Ok(Hir::alternation(parts));
+    }
+    Ok(Hir::concat(parts))
+}
+
 /// A literal.
-pub fn text(alloc: Global, bytes: &[u8]) -> Result<Hir, AllocError> {
+fn text(alloc: Global, bytes: &[u8]) -> Result<Hir, AllocError> {
     Ok(Hir::literal(bytes.to_vec(alloc)?))
 }
 
-fn at_start(alloc: Global) -> Result<Hir, AllocError> {
-    let mut parts = Vec::new(alloc);
-    parts.push(Hir::look(Look::Start))?;
-    parts.push(text(alloc, b"a")?)?;
-    Ok(Hir::concat(parts))
-}
-
-fn at_end(alloc: Global) -> Result<Hir, AllocError> {
-    let mut parts = Vec::new(alloc);
-    parts.push(text(alloc, b"a")?)?;
-    parts.push(Hir::look(Look::End))?;
-    Ok(Hir::concat(parts))
-}
-
-fn one_way(alloc: Global) -> Result<Hir, AllocError> {
-    let mut ways = Vec::new(alloc);
-    ways.push(text(alloc, b"a")?)?;
-    Ok(Hir::alternation(ways))
-}
-
-/// The class of one byte.
-fn one_byte(alloc: Global, byte: u8) -> Result<Hir, AllocError> {
-    Ok(Hir::bytes(vec![in alloc; (byte, byte)]?))
-}
-
-fn three_ways(alloc: Global) -> Result<Hir, AllocError> {
-    let mut ways = Vec::new(alloc);
-    for byte in [b'a', b'b', b'c'] {
-        ways.push(one_byte(alloc, byte)?)?;
+/// The class of these ranges, which ascend.
+fn bytes(alloc: Global, ranges: &[(u8, u8)]) -> Result<Hir, AllocError> {
+    if !is_ascending(ranges) {
+        return Ok(Hir::empty());
     }
-    Ok(Hir::alternation(ways))
+    Ok(Hir::bytes(ranges.to_vec(alloc)?))
 }
 
-fn words(alloc: Global) -> Result<Hir, AllocError> {
-    let mut ways = Vec::new(alloc);
-    ways.push(text(alloc, b"going")?)?;
-    ways.push(text(alloc, b"doing")?)?;
-    Ok(Hir::alternation(ways))
+/// The class of one range.
+fn chars(alloc: Global, first: char, last: char) -> Result<Hir, AllocError> {
+    let ranges = vec![in alloc; (first, last)]?;
+    if !is_ascending_chars(&ranges) {
+        return Ok(Hir::empty());
+    }
+    Ok(Hir::chars(ranges))
 }
 
-fn rounds(alloc: Global, min: u32, max: Option<u32>, greedy: bool) -> Result<Hir, AllocError> {
+/// Rounds of `a`, or `a` where the least number is above the greatest.
+fn rounds(alloc: Global, min: u32, max: u32, greedy: bool) -> Result<Hir, AllocError> {
     let body = text(alloc, b"a")?;
-    if !max.is_none_or(|most| min <= most) {
+    if min > max {
         return Ok(body);
     }
-    let tree = Hir::repetition(alloc, min, max, greedy, body)?;
-    Ok(tree)
+    Hir::repetition(alloc, min, Some(max), greedy, body)
 }
 
-fn empty_rounds(alloc: Global) -> Result<Hir, AllocError> {
-    let body = rounds(alloc, 0, Some(1), true)?;
-    let tree = Hir::repetition(alloc, 0, None, true, body)?;
-    Ok(tree)
-}
-
-fn group(alloc: Global) -> Result<Hir, AllocError> {
+/// `a` as a group, with or without a name.
+fn group(alloc: Global, index: u32, named: bool) -> Result<Hir, AllocError> {
+    let name = if named {
+        Some(String::from_str(alloc, "one")?)
+    } else {
+        None
+    };
     let body = text(alloc, b"a")?;
-    let tree = Hir::capture(alloc, 1, None, body)?;
-    Ok(tree)
+    Hir::capture(alloc, index, name, body)
 }

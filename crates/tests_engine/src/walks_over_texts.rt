@@ -3,11 +3,18 @@ use crate::plain::{ends, letter_ends, long_text, text};
 use lazy_dfa::dfa::Config;
 use search_types::{Anchored, Input, MatchKind, Span};
 use std::alloc::Global;
-use std::test::Fail;
-use tests_machines::automata::{machine_of, machine_reverse};
+use tests_machines::automata::machine_of;
 use tests_machines::calls::Found;
 use tests_machines::machine::Machine;
-use tests_machines::shapes::{Form, Node, machine_by};
+use tests_machines::shapes::{Form, Node, Shape, is_by_characters, machine_by, nodes_of};
+
+/// All matches are asked for, of caches with so much room, or with the least that they need.
+fn all(capacity: usize) -> Config {
+    Config::new()
+        .match_kind(MatchKind::All)
+        .cache_capacity(capacity)
+        .skip_cache_capacity_check(true)
+}
 
 /// Whether a walk over a span tells this.
 fn tells(
@@ -34,20 +41,7 @@ fn tells(
     machine.walks(&input.span(span), wanted)
 }
 
-/// Whether a walk over a span tells what the states tell.
-fn agrees(
-    machine: &mut Machine,
-    nodes: &[Node],
-    form: Form,
-    text: &[u8],
-    span: (usize, usize),
-    is_anchored: bool,
-) -> bool {
-    let wanted = ends(nodes, form, text, span, is_anchored);
-    tells(machine, text, span.0, span.1, is_anchored, &wanted)
-}
-
-/// Whether those over a text do, over all of it and over all but its first or its last byte.
+/// Whether walks over all of a text and over all but its first or its last byte tell what the states tell.
 fn agree_on(
     machine: &mut Machine,
     nodes: &[Node],
@@ -56,12 +50,13 @@ fn agree_on(
     is_anchored: bool,
 ) -> bool {
     let len = text.len();
-    if len == 0 {
-        return agrees(machine, nodes, form, text, (0, 0), is_anchored);
+    for (first, last) in [(0, len), (len.min(1), len), (0, len.saturating_sub(1))] {
+        let wanted = ends(nodes, form, text, (first, last), is_anchored);
+        if !tells(machine, text, first, last, is_anchored, &wanted) {
+            return false;
+        }
     }
-    agrees(machine, nodes, form, text, (0, len), is_anchored)
-        && agrees(machine, nodes, form, text, (1, len), is_anchored)
-        && agrees(machine, nodes, form, text, (0, len - 1), is_anchored)
+    true
 }
 
 /// Whether those over all texts of at most five of these letters do.
@@ -85,128 +80,81 @@ fn agree(
 }
 
 /// The letters of the texts: by characters one is a byte within them.
-fn letters_of(utf8: bool) -> &'static [u8; 2] {
-    if utf8 { b"a\xB2" } else { b"ab" }
+fn letters_of(form: Form) -> &'static [u8; 2] {
+    if is_by_characters(form) {
+        b"a\xB2"
+    } else {
+        b"ab"
+    }
 }
 
-/// Whether those of an automaton that reads so do.
-fn agree_by(
-    alloc: Global,
-    nodes: &[Node],
-    reverse: bool,
-    utf8: bool,
-    config: Config,
-    is_anchored: bool,
-) -> bool {
-    let form = Form {
-        reverse,
-        utf8,
-        line_end: b'\n',
-    };
-    match machine_by(alloc, nodes, form, config) {
-        Ok(mut machine) => agree(&mut machine, nodes, form, letters_of(utf8), is_anchored),
+/// Whether those of a shape do in a form and a mode.
+fn agree_by(alloc: Global, shape: Shape, form: Form, capacity: usize, is_anchored: bool) -> bool {
+    match machine_by(alloc, shape, form, all(capacity)) {
+        Ok(mut machine) => {
+            agree(
+                &mut machine,
+                nodes_of(shape),
+                form,
+                letters_of(form),
+                is_anchored,
+            )
+        }
         Err(_) => false,
     }
 }
 
-/// Forward and in reverse.
-fn agree_both(
-    alloc: Global,
-    nodes: &[Node],
-    utf8: bool,
-    config: Config,
-    is_anchored: bool,
-) -> bool {
-    agree_by(alloc, nodes, false, utf8, config, is_anchored)
-        && agree_by(alloc, nodes, true, utf8, config, is_anchored)
+/// Whether they do in each mode, with much room, and with so little that walks clear the cache on their way.
+fn agree_in_modes(alloc: Global, shape: Shape, form: Form) -> bool {
+    agree_by(alloc, shape, form, 2097152, false)
+        && agree_by(alloc, shape, form, 2097152, true)
+        && agree_by(alloc, shape, form, 0, false)
+        && agree_by(alloc, shape, form, 0, true)
 }
 
-/// In each mode, by bytes and by characters.
-fn agree_each(alloc: Global, nodes: &[Node], config: Config) -> bool {
-    agree_both(alloc, nodes, false, config, false)
-        && agree_both(alloc, nodes, false, config, true)
-        && agree_both(alloc, nodes, true, config, false)
-        && agree_both(alloc, nodes, true, config, true)
+/// Whether each of these shapes does in each form.
+fn agree_each(alloc: Global, shapes: &[Shape]) -> bool {
+    for shape in shapes {
+        for form in [
+            Form::Forward,
+            Form::Reverse,
+            Form::Characters,
+            Form::CharactersBack,
+        ] {
+            if !agree_in_modes(alloc, *shape, form) {
+                return false;
+            }
+        }
+    }
+    true
 }
 
-/// With much room, and with so little that walks clear the cache on their way.
-fn agree_all(alloc: Global, nodes: &[Node]) -> bool {
-    let config = Config::new().match_kind(MatchKind::All);
-    let least = config.cache_capacity(0).skip_cache_capacity_check(true);
-    agree_each(alloc, nodes, config) && agree_each(alloc, nodes, least)
-}
-
-/// The empty pattern, `a`, `ab` or `a`, and `[ab]b`.
 #[test]
-fn of_fixed_lengths(rt: HostRuntime) -> Result<(), Fail> {
-    let alloc = rt.alloc();
-    let letter = Node::Range(b'a', b'a', 0);
-    let last = Node::Range(b'b', b'b', 0);
-    let choice = [
-        Node::Match,
-        last,
-        Node::Range(b'a', b'a', 1),
-        letter,
-        Node::Either(2, 3),
-    ];
-    assert!(rt; agree_all(alloc, &[Node::Match]));
-    assert!(rt; agree_all(alloc, &[Node::Match, letter]));
-    assert!(rt; agree_all(alloc, &choice));
-    assert!(rt; agree_all(alloc, &[Node::Match, last, Node::Range(b'a', b'b', 1)]));
-    Ok(())
+fn walks_of_few_letters_tell_what_sets_of_states_tell(rt: HostRuntime) {
+    let shapes = [Shape::Empty, Shape::Letter, Shape::OneOrTwo, Shape::Pair];
+    assert!(rt; agree_each(rt.alloc(), &shapes));
 }
 
-/// `a` once or more, any number of times, the same with the fewest first, and any number of `a` or nothing.
 #[test]
-fn of_repetitions(rt: HostRuntime) -> Result<(), Fail> {
-    let alloc = rt.alloc();
-    let one = Node::Range(b'a', b'a', 1);
-    let two = Node::Range(b'a', b'a', 2);
-    let three = Node::Range(b'a', b'a', 3);
-    let nothing = [Node::Match, three, Node::Either(1, 3), Node::Either(2, 0)];
-    assert!(rt; agree_all(alloc, &[Node::Match, Node::Either(2, 0), one]));
-    assert!(rt; agree_all(alloc, &[Node::Match, two, Node::Either(1, 0)]));
-    assert!(rt; agree_all(alloc, &[Node::Match, two, Node::Either(0, 1)]));
-    assert!(rt; agree_all(alloc, &nothing));
-    Ok(())
+fn walks_of_repetitions_tell_what_sets_of_states_tell(rt: HostRuntime) {
+    let shapes = [
+        Shape::Repeated,
+        Shape::Many,
+        Shape::Fewest,
+        Shape::ManyOrNothing,
+    ];
+    assert!(rt; agree_each(rt.alloc(), &shapes));
 }
 
-/// Any number of `ab`; `a`, or any number of `b`; two or more of `b`; and `a` before one more letter, behind any number of
-/// letters: its caches have many states.
 #[test]
-fn of_many_states(rt: HostRuntime) -> Result<(), Fail> {
-    let alloc = rt.alloc();
-    let pairs = [
-        Node::Match,
-        Node::Range(b'b', b'b', 3),
-        Node::Range(b'a', b'a', 1),
-        Node::Either(2, 0),
+fn walks_over_many_states_tell_what_sets_of_states_tell(rt: HostRuntime) {
+    let shapes = [
+        Shape::Pairs,
+        Shape::OneOrMany,
+        Shape::TwoOrMore,
+        Shape::Late,
     ];
-    let choice = [
-        Node::Match,
-        Node::Range(b'a', b'a', 0),
-        Node::Range(b'b', b'b', 3),
-        Node::Either(2, 0),
-        Node::Either(1, 3),
-    ];
-    let two = [
-        Node::Match,
-        Node::Either(2, 0),
-        Node::Range(b'b', b'b', 1),
-        Node::Range(b'b', b'b', 2),
-    ];
-    let late = [
-        Node::Match,
-        Node::Range(b'a', b'b', 0),
-        Node::Range(b'a', b'a', 1),
-        Node::Range(b'a', b'b', 4),
-        Node::Either(3, 2),
-    ];
-    assert!(rt; agree_all(alloc, &pairs));
-    assert!(rt; agree_all(alloc, &choice));
-    assert!(rt; agree_all(alloc, &two));
-    assert!(rt; agree_all(alloc, &late));
-    Ok(())
+    assert!(rt; agree_each(rt.alloc(), &shapes));
 }
 
 /// Whether walks for patterns of a letter tell each of them at each place, in their order.
@@ -221,26 +169,17 @@ fn agree_for(machine: &mut Machine, each: &[u8], reverse: bool) -> bool {
     true
 }
 
-fn agree_forward(alloc: Global, each: &[u8], config: Config) -> bool {
-    match machine_of(alloc, each, None, config) {
-        Ok(mut machine) => agree_for(&mut machine, each, false),
-        Err(_) => false,
-    }
-}
-
-fn agree_reverse(alloc: Global, each: &[u8], config: Config) -> bool {
-    match machine_reverse(alloc, each, config) {
-        Ok(mut machine) => agree_for(&mut machine, each, true),
+/// Whether they do over caches with so much room.
+fn agree_with(alloc: Global, each: &[u8], reverse: bool, capacity: usize) -> bool {
+    match machine_of(alloc, each, None, reverse, all(capacity)) {
+        Ok(mut machine) => agree_for(&mut machine, each, reverse),
         Err(_) => false,
     }
 }
 
 #[test]
-fn of_many_patterns(rt: HostRuntime) -> Result<(), Fail> {
+fn walks_of_many_patterns_tell_each_at_each_place(rt: HostRuntime) {
     let alloc = rt.alloc();
-    let config = Config::new().match_kind(MatchKind::All);
-    let least = config.cache_capacity(0).skip_cache_capacity_check(true);
-    assert!(rt; agree_forward(alloc, b"aba", config) && agree_forward(alloc, b"cab", least));
-    assert!(rt; agree_reverse(alloc, b"aba", config) && agree_reverse(alloc, b"ccc", least));
-    Ok(())
+    assert!(rt; agree_with(alloc, b"aba", false, 2097152) && agree_with(alloc, b"cab", false, 0));
+    assert!(rt; agree_with(alloc, b"aba", true, 2097152) && agree_with(alloc, b"ccc", true, 0));
 }

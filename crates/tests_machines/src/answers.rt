@@ -1,12 +1,13 @@
 //! What a machine answers to calls, one after the other.
-use crate::automata::{Ready, machine_of, machine_ready, machine_reverse};
-use crate::calls::{Call, Ends, Found, Kind, Over, Room, bytes_of};
+use crate::automata::{Ready, machine_of, machine_ready, ready_made};
+use crate::calls::{Call, Ends, Found, Kind, Mode, Room, Text, bytes_of};
 use crate::machine::{Machine, Stepped};
+use crate::shapes::machine_by;
 use determinize_core::Config as StartConfig;
 use lazy_dfa::dfa::Config;
-use lazy_dfa::{CacheError, LazyStateID, StartError};
-use look_core::Look;
-use search_types::{Anchored, HalfMatch, Input, MatchErrorKind, Span};
+use lazy_dfa::{BuildError, CacheError, LazyStateID, StartError};
+use search_core::PatternID;
+use search_types::{Anchored, HalfMatch, Input, MatchError, MatchErrorKind, MatchKind, Span};
 use std::alloc::Global;
 
 /// The ID with this number.
@@ -28,104 +29,233 @@ fn keep(ids: &mut [LazyStateID], number: usize, id: LazyStateID) -> bool {
     }
 }
 
-/// The start that a call asks for.
-fn start(
-    machine: &mut Machine,
-    behind: Option<u8>,
-    mode: Anchored,
-) -> Result<LazyStateID, StartError> {
-    machine.start(&StartConfig::new().look_behind(behind).anchored(mode))
+/// Keeps the ID that was answered, if one was.
+fn keeps(ids: &mut [LazyStateID], number: usize, answer: &Result<LazyStateID, Found>) -> bool {
+    match answer {
+        Ok(id) => keep(ids, number, *id),
+        Err(_) => false,
+    }
 }
 
-/// The input that a call asks for, if its span fits the haystack.
+/// Whether what was asked for is refused so.
+fn is_refused(answer: &Result<LazyStateID, Found>, wanted: Found) -> bool {
+    match answer {
+        Ok(_) => false,
+        Err(refusal) => *refusal == wanted,
+    }
+}
+
+/// What is told where a mode has no starts.
+fn no_mode(mode: &Anchored) -> Found {
+    match mode {
+        Anchored::Pattern(pattern) => Found::NoMode(pattern.as_usize()),
+        _ => Found::Other,
+    }
+}
+
+/// What the refusal of a start tells.
+fn start_refusal(e: &StartError) -> Found {
+    match e {
+        StartError::Quit { byte } => Found::Quit(*byte, 0),
+        StartError::UnsupportedAnchored { mode } => no_mode(mode),
+        StartError::Cache {
+            err: CacheError::GaveUp,
+        } => Found::GaveUp(0),
+        _ => Found::Other,
+    }
+}
+
+/// What the refusal of a search tells.
+pub(crate) fn refusal_of(e: &MatchError) -> Found {
+    match e.kind() {
+        MatchErrorKind::Quit { byte, offset } => Found::Quit(*byte, *offset),
+        MatchErrorKind::GaveUp { offset } => Found::GaveUp(*offset),
+        MatchErrorKind::UnsupportedAnchored { mode } => no_mode(mode),
+        _ => Found::Other,
+    }
+}
+
+/// What was found, if anything was.
+pub(crate) fn found_of(half: &Option<HalfMatch>) -> Found {
+    match half {
+        Some(half) => Found::At(half.pattern().as_usize(), half.offset()),
+        None => Found::Nothing,
+    }
+}
+
+fn mode_of(mode: Mode) -> Anchored {
+    match mode {
+        Mode::Free => Anchored::No,
+        Mode::Anchored => Anchored::Yes,
+        Mode::Only(pattern) => Anchored::Pattern(PatternID::from(pattern)),
+    }
+}
+
+/// A search that a call asks for: over a text, from a place up to another one, in a mode.
+#[derive(Clone, Copy)]
+struct Over(Text, usize, usize, Mode);
+
+/// Its input, if the span fits the text.
 fn input_of(over: Over, earliest: bool) -> Option<Input<'static>> {
-    let input = Input::new(bytes_of(over.haystack)).anchored(over.mode);
-    let span = Span {
-        start: over.start,
-        end: over.end,
-    };
+    let Over(text, start, end, mode) = over;
+    let input = Input::new(bytes_of(text)).anchored(mode_of(mode));
+    let span = Span { start, end };
     if !input.fits(span) {
         return None;
     }
     Some(input.span(span).earliest(earliest))
 }
 
-/// The start over an input that a call asks for.
-fn start_over(
-    machine: &mut Machine,
-    reverse: bool,
-    over: Over,
-) -> Result<LazyStateID, MatchErrorKind> {
+/// The start that a call asks for.
+fn start(machine: &mut Machine, behind: Option<u8>, mode: Mode) -> Result<LazyStateID, Found> {
+    let config = StartConfig::new()
+        .look_behind(behind)
+        .anchored(mode_of(mode));
+    match machine.start(&config) {
+        Ok(id) => Ok(id),
+        Err(e) => Err(start_refusal(&e)),
+    }
+}
+
+/// The start of a search.
+fn start_over(machine: &mut Machine, reverse: bool, over: Over) -> Result<LazyStateID, Found> {
     let Some(input) = input_of(over, false) else {
-        return Err(MatchErrorKind::NotAPair);
+        return Err(Found::Other);
     };
     match machine.start_over(&input, reverse) {
         Ok(id) => Ok(id),
-        Err(e) => Err(*e.kind()),
+        Err(e) => Err(refusal_of(&e)),
     }
 }
 
-/// Whether a half search finds this.
-fn finds(machine: &mut Machine, over: Over, earliest: bool, wanted: Found) -> bool {
-    let Some(input) = input_of(over, earliest) else {
-        return false;
-    };
-    match machine.search(&input) {
-        Ok(Some(half)) => is_at(half, wanted),
-        Ok(None) => matches!(wanted, Found::Nothing),
-        Err(e) => match wanted {
-            Found::Refused(kind) => *e.kind() == kind,
-            _ => false,
-        },
-    }
-}
-
-/// Whether what was found is this.
-pub fn is_at(half: HalfMatch, wanted: Found) -> bool {
-    match wanted {
-        Found::At(pattern, place) => {
-            half.pattern().as_usize() == pattern && half.offset() == place
-        }
+/// Keeps the ID to which a step leads, if it does to one.
+fn steps(
+    machine: &mut Machine,
+    ids: &mut [LazyStateID],
+    from: usize,
+    unit: Option<u8>,
+    number: usize,
+) -> bool {
+    match machine.step(id_of(ids, from), unit) {
+        Stepped::To(id) => keep(ids, number, id),
         _ => false,
     }
 }
 
-/// Whether the call of a start, a step or a search answers what it should.
-fn is_answered(machine: &mut Machine, ids: &mut [LazyStateID], call: &Call) -> bool {
+/// Whether a step gives up.
+fn gives_up(machine: &mut Machine, id: LazyStateID, unit: Option<u8>) -> bool {
+    matches!(machine.step(id, unit), Stepped::Refused(CacheError::GaveUp))
+}
+
+/// What a half search finds.
+fn finds(machine: &mut Machine, over: Over, earliest: bool) -> Found {
+    let Some(input) = input_of(over, earliest) else {
+        return Found::Other;
+    };
+    match machine.search(&input) {
+        Ok(half) => found_of(&half),
+        Err(e) => refusal_of(&e),
+    }
+}
+
+/// Sets the option that a call asks for.
+fn set(config: &mut Config, call: &Call) {
     match *call {
-        Call::Start(behind, mode, number) => match start(machine, behind, mode) {
-            Ok(id) => keep(ids, number, id),
-            Err(_) => false,
-        },
-        Call::NoStart(behind, mode, wanted) => start(machine, behind, mode) == Err(wanted),
-        Call::Over(reverse, over, number) => match start_over(machine, reverse, over) {
-            Ok(id) => keep(ids, number, id),
-            Err(_) => false,
-        },
-        Call::NotOver(reverse, over, wanted) => start_over(machine, reverse, over) == Err(wanted),
-        Call::Step(from, unit, number) => match machine.step(id_of(ids, from), unit) {
-            Stepped::To(id) => keep(ids, number, id),
-            _ => false,
-        },
-        Call::NoStep(from, unit) => matches!(
-            machine.step(id_of(ids, from), unit),
-            Stepped::Refused(CacheError::GaveUp)
-        ),
-        Call::Search(over, wanted) => finds(machine, over, false, wanted),
-        Call::Earliest(over, wanted) => finds(machine, over, true, wanted),
-        _ => is_walked(machine, call) && is_moved(machine, call) && is_told(machine, ids, call),
+        Call::Unset => *config = Config::new(),
+        Call::All => *config = config.match_kind(MatchKind::All),
+        Call::Each => *config = config.starts_for_each_pattern(true),
+        Call::Words => *config = config.unicode_word_boundary(true),
+        Call::Apart => *config = config.byte_classes(false),
+        Call::Tagged(tagged) => *config = config.specialize_start_states(tagged),
+        Call::QuitAt(byte) => *config = config.quit(byte, true),
+        Call::Capacity(bytes) => *config = config.cache_capacity(bytes),
+        Call::Raised(raised) => *config = config.skip_cache_capacity_check(raised),
+        Call::MinClears(clears) => *config = config.minimum_cache_clear_count(clears),
+        Call::MinBytes(bytes) => *config = config.minimum_bytes_per_state(bytes),
+        _ => {}
+    }
+}
+
+/// Whether a machine was made, which then takes the place of this one.
+fn is_replaced(machine: &mut Machine, made: Result<Machine, BuildError>) -> bool {
+    match made {
+        Ok(made) => {
+            *machine = made;
+            true
+        }
+        Err(_) => false,
+    }
+}
+
+/// Whether the cache is handed on to an automaton that is ready made.
+fn is_handed_on(machine: &mut Machine, kind: Ready) -> bool {
+    match ready_made(machine.alloc, kind) {
+        Ok(dfa) => machine.reset_to(dfa).is_ok(),
+        Err(_) => false,
+    }
+}
+
+/// Whether a call answers what it should, or the machine that it asks for is made.
+fn is_answered(
+    machine: &mut Machine,
+    ids: &mut [LazyStateID],
+    config: &Config,
+    call: &Call,
+) -> bool {
+    let alloc = machine.alloc;
+    match *call {
+        Call::Letters(text) => {
+            let made = machine_of(alloc, bytes_of(text), None, false, *config);
+            is_replaced(machine, made)
+        }
+        Call::LettersBack(text) => {
+            let made = machine_of(alloc, bytes_of(text), None, true, *config);
+            is_replaced(machine, made)
+        }
+        Call::Behind(look, text) => {
+            let made = machine_of(alloc, bytes_of(text), Some(look), false, *config);
+            is_replaced(machine, made)
+        }
+        Call::Of(shape, form) => is_replaced(machine, machine_by(alloc, shape, form, *config)),
+        Call::Made(kind) => is_replaced(machine, machine_ready(alloc, kind)),
+        Call::HandedOn(kind) => is_handed_on(machine, kind),
+        _ => is_started(machine, ids, config, call),
+    }
+}
+
+/// Whether the call of a start or a step does, or another one that makes no machine.
+fn is_started(
+    machine: &mut Machine,
+    ids: &mut [LazyStateID],
+    config: &Config,
+    call: &Call,
+) -> bool {
+    match *call {
+        Call::Start(behind, mode, number) => keeps(ids, number, &start(machine, behind, mode)),
+        Call::NoStart(behind, mode, wanted) => is_refused(&start(machine, behind, mode), wanted),
+        Call::Over(reverse, text, from, to, mode, number) => {
+            let over = Over(text, from, to, mode);
+            keeps(ids, number, &start_over(machine, reverse, over))
+        }
+        Call::NotOver(reverse, text, from, to, mode, wanted) => {
+            let over = Over(text, from, to, mode);
+            is_refused(&start_over(machine, reverse, over), wanted)
+        }
+        Call::Step(from, unit, number) => steps(machine, ids, from, unit, number),
+        Call::NoStep(from, unit) => gives_up(machine, id_of(ids, from), unit),
+        _ => is_found(machine, ids, config, call),
     }
 }
 
 /// What a call of a walk tells, by the number of calls before it.
 fn told(ends: &Ends, before: usize) -> Found {
     match *ends {
-        Ends::Nothing => Found::Nothing,
+        Ends::NoEnd => Found::Nothing,
         Ends::One(first) => told_of_three(first, Found::Nothing, Found::Nothing, before),
         Ends::Two(first, second) => told_of_three(first, second, Found::Nothing, before),
         Ends::Three(first, second, third) => told_of_three(first, second, third, before),
-        Ends::Refused(kind) => Found::Refused(kind),
-        Ends::Then(first, kind) => told_before(first, kind, before),
+        Ends::Refused(refusal) => refusal,
+        Ends::Then(first, refusal) => { if before == 0 { first } else { refusal } }
     }
 }
 
@@ -139,60 +269,82 @@ fn told_of_three(first: Found, second: Found, third: Found, before: usize) -> Fo
     }
 }
 
-/// Behind one end a walk is refused.
-fn told_before(first: Found, kind: MatchErrorKind, before: usize) -> Found {
-    if before == 0 {
-        first
-    } else {
-        Found::Refused(kind)
-    }
-}
-
-/// Whether a walk tells this.
-fn walks(machine: &mut Machine, over: Over, earliest: bool, ends: &Ends) -> bool {
-    let Some(input) = input_of(over, earliest) else {
-        return false;
-    };
-    let wanted = [
+/// What five calls of a walk tell.
+fn five(ends: &Ends) -> [Found; 5] {
+    [
         told(ends, 0),
         told(ends, 1),
         told(ends, 2),
         told(ends, 3),
         told(ends, 4),
-    ];
-    machine.walks(&input, &wanted)
+    ]
 }
 
-/// Whether a set of patterns gets these.
-fn adds(machine: &mut Machine, over: Over, earliest: bool, room: Room) -> bool {
+/// Whether a walk tells this.
+fn walks(machine: &mut Machine, over: Over, earliest: bool, ends: &Ends) -> bool {
     match input_of(over, earliest) {
-        Some(input) => machine.adds(&input, room, Found::Nothing),
+        Some(input) => machine.walks(&input, &five(ends)),
         None => false,
     }
 }
 
-/// Whether it does so up to a refusal.
-fn adds_before(machine: &mut Machine, over: Over, room: Room, kind: MatchErrorKind) -> bool {
-    match input_of(over, false) {
-        Some(input) => machine.adds(&input, room, Found::Refused(kind)),
+/// Whether a walk over all of a text does where searches over another one follow its calls.
+fn walks_between(machine: &mut Machine, text: Text, other: Text, ends: &Ends) -> bool {
+    let other = Input::new(bytes_of(other));
+    machine.walks_between(&Input::new(bytes_of(text)), &other, &five(ends))
+}
+
+/// Whether a set of patterns gets these, up to a refusal if there is one.
+fn adds(machine: &mut Machine, over: Over, earliest: bool, room: Room, refusal: Found) -> bool {
+    match input_of(over, earliest) {
+        Some(input) => machine.adds(&input, room, refusal),
         None => false,
     }
 }
 
-/// Whether the call of a walk tells what it should, and true of the others.
-fn is_walked(machine: &mut Machine, call: &Call) -> bool {
+/// Whether a search or a walk tells what it should, or another call that starts none answers what it should.
+fn is_found(machine: &mut Machine, ids: &[LazyStateID], config: &Config, call: &Call) -> bool {
     match *call {
-        Call::Walk(over, wanted) => walks(machine, over, false, &wanted),
-        Call::EarliestWalk(over, wanted) => walks(machine, over, true, &wanted),
-        Call::Which(over, room) => adds(machine, over, false, room),
-        Call::EarliestWhich(over, room) => adds(machine, over, true, room),
-        Call::NoWhich(over, room, kind) => adds_before(machine, over, room, kind),
-        _ => true,
+        Call::Search(text, from, to, mode, wanted) => {
+            finds(machine, Over(text, from, to, mode), false) == wanted
+        }
+        Call::Earliest(text, from, to, mode, wanted) => {
+            finds(machine, Over(text, from, to, mode), true) == wanted
+        }
+        Call::Walk(text, from, to, mode, ends) => {
+            walks(machine, Over(text, from, to, mode), false, &ends)
+        }
+        Call::EarliestWalk(text, from, to, mode, ends) => {
+            walks(machine, Over(text, from, to, mode), true, &ends)
+        }
+        Call::Between(text, other, ends) => walks_between(machine, text, other, &ends),
+        Call::Which(text, from, to, mode, room) => {
+            adds(
+                machine,
+                Over(text, from, to, mode),
+                false,
+                room,
+                Found::Nothing,
+            )
+        }
+        Call::EarliestWhich(text, from, to, mode, room) => {
+            adds(
+                machine,
+                Over(text, from, to, mode),
+                true,
+                room,
+                Found::Nothing,
+            )
+        }
+        Call::NoWhich(text, from, to, mode, room, refusal) => {
+            adds(machine, Over(text, from, to, mode), false, room, refusal)
+        }
+        _ => is_moved(machine, ids, config, call),
     }
 }
 
-/// Whether a call that moves a search on is made, and true of the others.
-fn is_moved(machine: &mut Machine, call: &Call) -> bool {
+/// Whether a call that moves a search on is made, or what another one asks of the cache is told.
+fn is_moved(machine: &mut Machine, ids: &[LazyStateID], config: &Config, call: &Call) -> bool {
     match *call {
         Call::Reset => machine.reset().is_ok(),
         Call::SearchStart(at) => {
@@ -207,13 +359,19 @@ fn is_moved(machine: &mut Machine, call: &Call) -> bool {
             machine.search_finish(at);
             true
         }
-        _ => true,
+        _ => is_told(machine, ids, config, call),
     }
 }
 
-/// Whether what a call asks of the cache is told, and true of the others.
-fn is_told(machine: &Machine, ids: &[LazyStateID], call: &Call) -> bool {
+/// Whether what a call asks of the cache is told, and true of calls that ask for nothing.
+fn is_told(machine: &Machine, ids: &[LazyStateID], config: &Config, call: &Call) -> bool {
     match *call {
+        Call::Patterns(count) => machine.dfa().pattern_len() == count,
+        Call::Given(bytes) => machine.dfa().get_config().get_cache_capacity() == bytes,
+        Call::Least(bytes) => {
+            let least = config.get_minimum_cache_capacity(machine.dfa().get_nfa());
+            least.ok() == Some(bytes)
+        }
         Call::Total(bytes, goes_on) => {
             machine.total() == bytes && machine.in_progress() == goes_on
         }
@@ -267,42 +425,21 @@ fn lists(machine: &Machine, id: LazyStateID, place: usize, pattern: usize, len: 
 }
 
 /// Whether each of the calls answers what it should.
-pub fn are_answered(machine: &mut Machine, calls: &[Call]) -> bool {
+fn are_answered(machine: &mut Machine, calls: &[Call]) -> bool {
     let mut ids = [LazyStateID::default(); 6];
+    let mut config = Config::new();
     for call in calls {
-        if !is_answered(machine, &mut ids, call) {
+        set(&mut config, call);
+        if !is_answered(machine, &mut ids, &config, call) {
             return false;
         }
     }
     true
 }
 
-/// Whether each of the calls answers what it should over a fresh cache for the patterns of these letters, behind a look if
-/// there is one.
-pub fn answers(
-    alloc: Global,
-    letters: &[u8],
-    look: Option<Look>,
-    config: Config,
-    calls: &[Call],
-) -> bool {
-    match machine_of(alloc, letters, look, config) {
-        Ok(mut machine) => are_answered(&mut machine, calls),
-        Err(_) => false,
-    }
-}
-
-/// Whether each of them does over a fresh cache for the patterns of these letters, read in reverse.
-pub fn answers_reverse(alloc: Global, letters: &[u8], config: Config, calls: &[Call]) -> bool {
-    match machine_reverse(alloc, letters, config) {
-        Ok(mut machine) => are_answered(&mut machine, calls),
-        Err(_) => false,
-    }
-}
-
-/// Whether each of them does over a fresh cache of an automaton that is ready made.
-pub fn answers_ready(alloc: Global, kind: Ready, calls: &[Call]) -> bool {
-    match machine_ready(alloc, kind) {
+/// Whether each of them does, where the first machine is of the pattern `a` with no option set.
+pub fn answers(alloc: Global, calls: &[Call]) -> bool {
+    match machine_of(alloc, b"a", None, false, Config::new()) {
         Ok(mut machine) => are_answered(&mut machine, calls),
         Err(_) => false,
     }

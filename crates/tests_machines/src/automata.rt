@@ -75,27 +75,19 @@ fn patterns(
     Ok(starts)
 }
 
-/// Finds one pattern for each letter at any place, the first one preferred. For one letter it has four states: a match, the
-/// letter, any byte, and a choice of the letter and any byte.
+/// Finds one pattern for each letter at any place, the first one preferred, forward or in reverse. For one letter it has four
+/// states: a match, the letter, any byte, and a choice of the letter and any byte.
 pub fn letters(
     alloc: Global,
     letters: &[u8],
     look: Option<Look>,
     limit: Option<usize>,
+    reverse: bool,
 ) -> Result<NFA, NfaError> {
     let mut builder = Builder::new(alloc);
+    builder.set_reverse(reverse);
     builder.set_size_limit(limit)?;
     let starts = patterns(alloc, &mut builder, letters, look)?;
-    let anchored = builder.add_union(starts)?;
-    let prefix = any_place(alloc, &mut builder, anchored)?;
-    built(&builder, anchored, prefix)
-}
-
-/// The same read in reverse.
-pub fn letters_reverse(alloc: Global, letters: &[u8]) -> Result<NFA, NfaError> {
-    let mut builder = Builder::new(alloc);
-    builder.set_reverse(true);
-    let starts = patterns(alloc, &mut builder, letters, None)?;
     let anchored = builder.add_union(starts)?;
     let prefix = any_place(alloc, &mut builder, anchored)?;
     built(&builder, anchored, prefix)
@@ -119,20 +111,10 @@ pub fn machine_of(
     alloc: Global,
     each: &[u8],
     look: Option<Look>,
+    reverse: bool,
     config: Config,
 ) -> Result<Machine, BuildError> {
-    let nfa = letters(alloc, each, look, None)?;
-    Machine::new(alloc, nfa, config)
-}
-
-/// The machine of the pattern `a`.
-pub fn machine(alloc: Global, config: Config) -> Result<Machine, BuildError> {
-    machine_of(alloc, b"a", None, config)
-}
-
-/// The machine of these patterns, read in reverse.
-pub fn machine_reverse(alloc: Global, each: &[u8], config: Config) -> Result<Machine, BuildError> {
-    let nfa = letters_reverse(alloc, each)?;
+    let nfa = letters(alloc, each, look, None, reverse)?;
     Machine::new(alloc, nfa, config)
 }
 

@@ -7,5 +7,4 @@ pub mod automata;
 pub mod calls;
 pub mod machine;
 pub mod shapes;
-pub mod spans;
 pub mod walking;

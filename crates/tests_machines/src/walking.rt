@@ -1,11 +1,11 @@
 //! Walks over a machine, call by call, and sets of the patterns that match.
-ghost use Rattle.std.specs.Prelude.{◌≡◌, ◌<◌, true, false};
+ghost use Rattle.std.specs.Prelude.{◌≡◌, ◌<◌, true};
 ghost use Rattle.lazy_dfa.specs.Caches.{IsCacheOf};
 ghost use Rattle.search_types.specs.Inputs.{Search};
 ghost use Rattle.lazy_dfa.specs.Walks.{IsWalk};
 ghost use Rattle.lazy_dfa.specs.declared.overlapping_state.Walk.{Walk};
 
-use crate::answers::is_at;
+use crate::answers::{found_of, refusal_of};
 use crate::calls::{Found, Room};
 use crate::machine::Machine;
 use lazy_dfa::Work;
@@ -22,7 +22,7 @@ impl Machine {
     pub fn walks(&mut self, input: &Input<'_>, wanted: &[Found]) -> bool {
         let one = Blank::new(1);
         let two = Blank::new(1);
-        walk_counted::<Brand, Brand>(&self.dfa, &mut self.cache, input, wanted, one, two)
+        walk_counted::<Brand, Brand>(&self.dfa, &mut self.cache, input, None, wanted, one, two)
     }
 
     /// The same where a half search over another input follows each call, forward, and none of them clears the cache.
@@ -34,7 +34,15 @@ impl Machine {
     ) -> bool {
         let one = Blank::new(1);
         let two = Blank::new(1);
-        between_counted::<Brand, Brand>(&self.dfa, &mut self.cache, input, other, wanted, one, two)
+        walk_counted::<Brand, Brand>(
+            &self.dfa,
+            &mut self.cache,
+            input,
+            Some(other),
+            wanted,
+            one,
+            two,
+        )
     }
 
     /// Whether a set with this room gets these patterns. The automaton reads forward.
@@ -76,25 +84,11 @@ fn call<L: Ledger, M: Ledger>(
     }
 }
 
-/// Whether a walk whose call was answered stands at this end, or at none.
-fn tells(state: &OverlappingState, wanted: Found) -> bool {
-    if state.is_failed() {
-        return false;
-    }
-    match state.get_match() {
-        Some(half) => is_at(half, wanted),
-        None => matches!(wanted, Found::Nothing),
-    }
-}
-
-/// Whether a walk whose call was refused has failed, and no end is told.
-fn fails(state: &OverlappingState, kind: MatchErrorKind, wanted: Found) -> bool {
-    if !state.is_failed() || state.get_match().is_some() {
-        return false;
-    }
-    match wanted {
-        Found::Refused(wanted) => kind == wanted,
-        _ => false,
+/// Whether the call of a walk told this; one that was refused has failed, and stands at no end.
+fn is_told(state: &OverlappingState, answer: Result<(), MatchError>, wanted: Found) -> bool {
+    match answer {
+        Ok(()) => !state.is_failed() && found_of(&state.get_match()) == wanted,
+        Err(e) => { state.is_failed() && state.get_match().is_none() && refusal_of(&e) == wanted }
     }
 }
 
@@ -112,52 +106,27 @@ fn is_next<L: Ledger, M: Ledger>(
     ensures own { IsCacheOf dfa.now cache.new }
     ensures walk { IsWalk dfa.now cache.new input.now state.new.walk }
 {
-    match call(dfa, cache, input, state, work) {
-        Ok(()) => tells(state, wanted),
-        Err(e) => fails(state, *e.kind(), wanted),
-    }
+    let answer = call(dfa, cache, input, state, work);
+    is_told(state, answer, wanted)
 }
 
-/// A walk, counted.
-fn walk_counted<L: Ledger, M: Ledger>(
-    dfa: &DFA,
-    cache: &mut Cache,
-    input: &Input<'_>,
-    wanted: &[Found],
-    first: Blank,
-    second: Blank,
-) -> bool
-    requires own { IsCacheOf dfa.now cache.old }
-    requires name1 { first.name ≡ L.name }
-    requires parts1 { first.parts ≡ L.parts }
-    requires some1 { 0 < first.parts }
-    requires name2 { second.name ≡ M.name }
-    requires parts2 { second.parts ≡ M.parts }
-    requires some2 { 0 < second.parts }
-    ensures own { IsCacheOf dfa.now cache.new }
-{
-    let mut work = Work::<L, M>::new(first, second);
-    let mut state = OverlappingState::start();
-    for found in wanted {
-        if !is_next(dfa, cache, input, &mut state, *found, &mut work) {
-            return false;
-        }
-    }
-    true
-}
-
-/// A half search forward, after which a walk still goes on: whether it cleared nothing.
+/// A half search forward, if there is one, after which a walk still goes on: whether it cleared nothing.
 fn is_kept<L: Ledger, M: Ledger>(
     dfa: &DFA,
     cache: &mut Cache,
-    other: &Input<'_>,
+    other: Option<&Input<'_>>,
     work: &mut Work<L, M>,
 ) -> bool
     requires own { IsCacheOf dfa.now cache.old }
-    requires forward { dfa.now.nfa.automaton.reverse ≡ false }
     ensures own { IsCacheOf dfa.now cache.new }
     ensures kept { result ≡ true → (q : Search) (w : Walk) → IsWalk dfa.now cache.old q w → IsWalk dfa.now cache.new q w }
 {
+    let Some(other) = other else {
+        return true;
+    };
+    if dfa.get_nfa().is_reverse() {
+        return false;
+    }
     let before = cache.clear_count();
     if before == usize::MAX {
         return false;
@@ -172,12 +141,12 @@ fn is_kept<L: Ledger, M: Ledger>(
     true
 }
 
-/// A walk with other searches between its calls, counted.
-fn between_counted<L: Ledger, M: Ledger>(
+/// A walk, counted, with another search behind each of its calls if there is one.
+fn walk_counted<L: Ledger, M: Ledger>(
     dfa: &DFA,
     cache: &mut Cache,
     input: &Input<'_>,
-    other: &Input<'_>,
+    other: Option<&Input<'_>>,
     wanted: &[Found],
     first: Blank,
     second: Blank,
@@ -191,9 +160,6 @@ fn between_counted<L: Ledger, M: Ledger>(
     requires some2 { 0 < second.parts }
     ensures own { IsCacheOf dfa.now cache.new }
 {
-    if dfa.get_nfa().is_reverse() {
-        return false;
-    }
     let mut work = Work::<L, M>::new(first, second);
     let mut state = OverlappingState::start();
     for found in wanted {
@@ -209,10 +175,10 @@ fn between_counted<L: Ledger, M: Ledger>(
 
 /// The set of this room.
 fn set_of(alloc: Global, room: Room) -> Option<PatternSet> {
-    let Ok(mut patterns) = PatternSet::new(alloc, usize::from(room.capacity)) else {
+    let Ok(mut patterns) = PatternSet::new(alloc, usize::from(room.0)) else {
         return None;
     };
-    if room.first && patterns.try_insert(PatternID::ZERO).is_err() {
+    if room.1 && patterns.try_insert(PatternID::ZERO).is_err() {
         return None;
     }
     Some(patterns)
@@ -220,23 +186,21 @@ fn set_of(alloc: Global, room: Room) -> Option<PatternSet> {
 
 /// Whether the set has the patterns that it should have.
 fn has_members(patterns: &PatternSet, room: Room) -> bool {
-    if patterns.contains(PatternID::from(0u8)) != room.zero {
+    let members = room.2;
+    if patterns.contains(PatternID::from(0u8)) != (members & 1 != 0) {
         return false;
     }
-    if patterns.contains(PatternID::from(1u8)) != room.one {
+    if patterns.contains(PatternID::from(1u8)) != (members & 2 != 0) {
         return false;
     }
-    patterns.contains(PatternID::from(2u8)) == room.two
+    patterns.contains(PatternID::from(2u8)) == (members & 4 != 0)
 }
 
 /// Whether the answer is this refusal, or none.
 fn is_answer(answer: Result<(), MatchError>, wanted: Found) -> bool {
     match answer {
-        Ok(()) => matches!(wanted, Found::Nothing),
-        Err(e) => match wanted {
-            Found::Refused(kind) => *e.kind() == kind,
-            _ => false,
-        },
+        Ok(()) => wanted == Found::Nothing,
+        Err(e) => refusal_of(&e) == wanted,
     }
 }
 

@@ -7,9 +7,14 @@ use nfa_core::{BuildError, NFA};
 use search_types::MatchKind;
 use std::alloc::{AllocError, Global};
 
-/// Whether the automaton matches between the byte that it comes from and the one that it reads.
-fn matches_between(alloc: Global, nfa: &NFA, from: u8, read: u8) -> Result<bool, AllocError> {
+/// Whether the automaton matches between the two bytes, as it reads.
+fn matches_between(alloc: Global, nfa: &NFA, before: u8, after: u8) -> Result<bool, AllocError> {
     let (kind, start) = (MatchKind::LeftmostFirst, nfa.start_anchored());
+    let (from, read) = if nfa.is_reverse() {
+        (after, before)
+    } else {
+        (before, after)
+    };
     let states = walk(alloc, nfa, kind, start, Some(from), &[read])?;
     match states.get(1) {
         Some(state) => Ok(state.is_match()),
@@ -17,93 +22,71 @@ fn matches_between(alloc: Global, nfa: &NFA, from: u8, read: u8) -> Result<bool,
     }
 }
 
-/// Whether the look is passed between the two bytes, by one who reads forward or in reverse.
-fn is_passed(
-    alloc: Global,
-    look: Look,
-    reverse: bool,
-    before: u8,
-    after: u8,
-) -> Result<bool, BuildError> {
-    let nfa = one_look(alloc, look, reverse, b'\n')?;
-    let (from, read) = if reverse {
-        (after, before)
-    } else {
-        (before, after)
-    };
-    let passed = matches_between(alloc, &nfa, from, read)?;
-    Ok(passed)
+/// The bytes, counted from the last one.
+fn byte(number: u8) -> u8 {
+    match number {
+        0 => b'\n',
+        1 => b'\r',
+        2 => b'-',
+        _ => b'a',
+    }
 }
 
-/// Whether the look is passed just where the table says: a row for each byte before the place, in it a `+`
-/// or a `-` for each byte behind it.
-fn is_passed_as(
-    alloc: Global,
-    look: Look,
-    reverse: bool,
-    table: &[&[u8; 4]; 4],
-) -> Result<bool, BuildError> {
-    let bytes = [b'a', b'-', b'\r', b'\n'];
-    for row in 0..4 {
-        for column in 0..4 {
-            let passed = is_passed(alloc, look, reverse, bytes[row], bytes[column])?;
-            if passed != (table[row][column] == b'+') {
-                return Ok(false);
-            }
+// A bit for each pair: four for each byte before the place, one for each byte behind it, in the order of the bytes.
+
+const STARTS_OF_LINES: u16 = 0b0000_0000_1110_1111;
+
+const ENDS_OF_LINES: u16 = 0b0011_0011_0010_0011;
+
+const EDGES_OF_WORDS: u16 = 0b0111_1000_1000_1000;
+
+const STARTS_OF_WORDS: u16 = 0b0000_1000_1000_1000;
+
+const ENDS_OF_WORDS: u16 = 0b0111_0000_0000_0000;
+
+const BEHIND_NO_WORD: u16 = 0b0000_1111_1111_1111;
+
+const BEFORE_NO_WORD: u16 = 0b0111_0111_0111_0111;
+
+/// A look, whether it is read in reverse, and the pairs between which it is passed.
+type Row = (Look, bool, u16);
+
+/// Looks of lines and of words, forward and in reverse. There a look stands for its reverse.
+const fn rows() -> &'static [Row] {
+    &[
+        (Look::StartCRLF, false, STARTS_OF_LINES),
+        (Look::EndCRLF, false, ENDS_OF_LINES),
+        (Look::StartCRLF, true, ENDS_OF_LINES),
+        (Look::EndCRLF, true, STARTS_OF_LINES),
+        (Look::WordAscii, false, EDGES_OF_WORDS),
+        (Look::WordStartAscii, false, STARTS_OF_WORDS),
+        (Look::WordEndUnicode, false, ENDS_OF_WORDS),
+        (Look::WordStartHalfAscii, false, BEHIND_NO_WORD),
+        (Look::WordEndHalfUnicode, false, BEFORE_NO_WORD),
+        (Look::WordUnicode, true, EDGES_OF_WORDS),
+        (Look::WordStartAscii, true, ENDS_OF_WORDS),
+        (Look::WordEndHalfAscii, true, BEHIND_NO_WORD),
+    ]
+}
+
+/// Whether the look is passed just between the row's pairs, which are read from the last one to the first.
+fn is_passed_as(alloc: Global, row: &Row) -> Result<bool, BuildError> {
+    let (look, reverse, pairs) = *row;
+    let nfa = one_look(alloc, look, reverse, b'\n')?;
+    let mut left = pairs;
+    for number in 0..16u8 {
+        let passed = matches_between(alloc, &nfa, byte(number / 4), byte(number % 4))?;
+        if passed != (left % 2 == 1) {
+            return Ok(false);
         }
+        left /= 2;
     }
     Ok(true)
 }
 
-const STARTS_OF_LINES: [&[u8; 4]; 4] = [b"----", b"----", b"+++-", b"++++"];
-
-const ENDS_OF_LINES: [&[u8; 4]; 4] = [b"--++", b"--++", b"--+-", b"--++"];
-
-const EDGES_OF_WORDS: [&[u8; 4]; 4] = [b"-+++", b"+---", b"+---", b"+---"];
-
-const STARTS_OF_WORDS: [&[u8; 4]; 4] = [b"----", b"+---", b"+---", b"+---"];
-
-const ENDS_OF_WORDS: [&[u8; 4]; 4] = [b"-+++", b"----", b"----", b"----"];
-
-const BEHIND_NO_WORD: [&[u8; 4]; 4] = [b"----", b"++++", b"++++", b"++++"];
-
-const BEFORE_NO_WORD: [&[u8; 4]; 4] = [b"-+++", b"-+++", b"-+++", b"-+++"];
-
-/// Whether the look is passed forward as the table says.
-fn forward(alloc: Global, look: Look, table: &[&[u8; 4]; 4]) -> bool {
-    matches!(is_passed_as(alloc, look, false, table), Ok(true))
-}
-
-/// Likewise in reverse.
-fn reverse(alloc: Global, look: Look, table: &[&[u8; 4]; 4]) -> bool {
-    matches!(is_passed_as(alloc, look, true, table), Ok(true))
-}
-
 #[test]
-fn lines_forward(rt: HostRuntime) {
-    assert!(rt; forward(rt.alloc(), Look::StartCRLF, &STARTS_OF_LINES));
-    assert!(rt; forward(rt.alloc(), Look::EndCRLF, &ENDS_OF_LINES));
-}
-
-/// In reverse a look stands for its reverse.
-#[test]
-fn lines_in_reverse(rt: HostRuntime) {
-    assert!(rt; reverse(rt.alloc(), Look::StartCRLF, &ENDS_OF_LINES));
-    assert!(rt; reverse(rt.alloc(), Look::EndCRLF, &STARTS_OF_LINES));
-}
-
-#[test]
-fn words_forward(rt: HostRuntime) {
-    assert!(rt; forward(rt.alloc(), Look::WordAscii, &EDGES_OF_WORDS));
-    assert!(rt; forward(rt.alloc(), Look::WordStartAscii, &STARTS_OF_WORDS));
-    assert!(rt; forward(rt.alloc(), Look::WordEndUnicode, &ENDS_OF_WORDS));
-    assert!(rt; forward(rt.alloc(), Look::WordStartHalfAscii, &BEHIND_NO_WORD));
-    assert!(rt; forward(rt.alloc(), Look::WordEndHalfUnicode, &BEFORE_NO_WORD));
-}
-
-#[test]
-fn words_in_reverse(rt: HostRuntime) {
-    assert!(rt; reverse(rt.alloc(), Look::WordUnicode, &EDGES_OF_WORDS));
-    assert!(rt; reverse(rt.alloc(), Look::WordStartAscii, &ENDS_OF_WORDS));
-    assert!(rt; reverse(rt.alloc(), Look::WordEndHalfAscii, &BEHIND_NO_WORD));
+fn looks_between_two_bytes(rt: HostRuntime) {
+    for row in rows() {
+        assert!(rt; matches!(is_passed_as(rt.alloc(), row), Ok(true)));
+    }
 }

@@ -1,101 +1,143 @@
-//! Walks of a small automaton.
-use crate::automata::{one_letter, two_patterns};
-use determinize_core::{State, walk};
-use nfa_core::BuildError;
-use search_types::MatchKind;
-use std::alloc::Global;
+//! Walks of small automata, with either kind of set.
+ghost use Rattle.std.specs.Prelude.{◌≡◌, ◌<◌};
 
-/// The states of a walk by the automaton that finds `a`, which may begin at any place.
-fn walk_letter(alloc: Global, kind: MatchKind, bytes: &[u8]) -> Result<Vec<State>, BuildError> {
-    let nfa = one_letter(alloc)?;
-    let start = nfa.start_unanchored();
-    let states = walk(alloc, &nfa, kind, start, None, bytes)?;
-    Ok(states)
+use crate::automata::Small::{self, Letter, TwoPatterns};
+use crate::automata::nfa_of;
+use crate::steps::pair_sets;
+use determinize_core::{State, walk, walk_with};
+use nfa_core::{BuildError, NFA, Steps};
+use search_types::MatchKind::{self, All, LeftmostFirst};
+use std::alloc::{AllocError, Global};
+use std::marker::Brand;
+use std::sync::ledger::{Blank, Ledger};
+
+/// An automaton, which matches are told, the bytes of a walk that may begin at any place, the place of one of its
+/// states, how many patterns match there, and that state's bytes.
+type Row = (Small, MatchKind, &'static [u8], usize, usize, &'static [u8]);
+
+/// A match is told one unit late, and behind the end nothing is left. Under `All` the walk goes on behind a match.
+/// There all patterns match, in order of preference, and else the preferred one alone.
+const fn rows() -> &'static [Row] {
+    &[
+        (
+            Letter,
+            LeftmostFirst,
+            b"ab",
+            0,
+            0,
+            &[0, 0, 0, 0, 0, 0, 0, 0, 0, 0, 4, 1],
+        ),
+        (
+            Letter,
+            LeftmostFirst,
+            b"ab",
+            1,
+            0,
+            &[0, 0, 0, 0, 0, 0, 0, 0, 0, 6, 5, 4, 1],
+        ),
+        (
+            Letter,
+            LeftmostFirst,
+            b"ab",
+            2,
+            1,
+            &[1, 0, 0, 0, 0, 0, 0, 0, 0],
+        ),
+        (
+            Letter,
+            LeftmostFirst,
+            b"ab",
+            3,
+            0,
+            &[0, 0, 0, 0, 0, 0, 0, 0, 0],
+        ),
+        (
+            Letter,
+            All,
+            b"aba",
+            2,
+            1,
+            &[1, 0, 0, 0, 0, 0, 0, 0, 0, 0, 4, 1],
+        ),
+        (
+            Letter,
+            All,
+            b"aba",
+            3,
+            0,
+            &[0, 0, 0, 0, 0, 0, 0, 0, 0, 6, 5, 4, 1],
+        ),
+        (Letter, All, b"aba", 4, 1, &[1, 0, 0, 0, 0, 0, 0, 0, 0]),
+        (
+            TwoPatterns,
+            All,
+            b"a",
+            2,
+            2,
+            &[
+                3, 0, 0, 0, 0, 0, 0, 0, 0, 2, 0, 0, 0, 1, 0, 0, 0, 0, 0, 0, 0,
+            ],
+        ),
+        (
+            TwoPatterns,
+            LeftmostFirst,
+            b"a",
+            2,
+            1,
+            &[3, 0, 0, 0, 0, 0, 0, 0, 0, 1, 0, 0, 0, 1, 0, 0, 0],
+        ),
+    ]
 }
 
-/// The states of a walk over `a` by the automaton of two patterns.
-fn walk_patterns(alloc: Global, kind: MatchKind) -> Result<Vec<State>, BuildError> {
-    let nfa = two_patterns(alloc)?;
-    let start = nfa.start_anchored();
-    let states = walk(alloc, &nfa, kind, start, None, b"a")?;
-    Ok(states)
-}
-
-/// Whether the states from this place on have these bytes.
-fn have_bytes(states: &[State], place: usize, rows: &[&[u8]]) -> bool {
-    let Some(states) = states.get(place..) else {
+/// Whether one of the states of the row's walk is the row's, and they are one for the start, one for each byte and one
+/// for the end.
+fn has_state(states: &[State], row: &Row) -> bool {
+    let (text, place, len, bytes) = (row.2, row.3, row.4, row.5);
+    if states.len() != text.len().saturating_add(2) {
         return false;
-    };
-    if states.len() != rows.len() {
-        return false;
     }
-    for (state, bytes) in states.iter().zip(rows) {
-        if state.as_bytes() != *bytes {
-            return false;
-        }
-    }
-    true
-}
-
-/// A match is told one unit late, and behind the end nothing is left.
-fn finds_one(alloc: Global) -> Result<bool, BuildError> {
-    let rows: [&[u8]; 4] = [
-        &[0, 0, 0, 0, 0, 0, 0, 0, 0, 0, 4, 1],
-        &[0, 0, 0, 0, 0, 0, 0, 0, 0, 6, 5, 4, 1],
-        &[1, 0, 0, 0, 0, 0, 0, 0, 0],
-        &[0, 0, 0, 0, 0, 0, 0, 0, 0],
-    ];
-    let states = walk_letter(alloc, MatchKind::LeftmostFirst, b"ab")?;
-    Ok(have_bytes(&states, 0, &rows))
-}
-
-#[test]
-fn a_letter_and_another(rt: HostRuntime) {
-    assert!(rt; matches!(finds_one(rt.alloc()), Ok(true)));
-}
-
-/// Under `All` the walk goes on behind a match.
-fn finds_all(alloc: Global) -> Result<bool, BuildError> {
-    let rows: [&[u8]; 3] = [
-        &[1, 0, 0, 0, 0, 0, 0, 0, 0, 0, 4, 1],
-        &[0, 0, 0, 0, 0, 0, 0, 0, 0, 6, 5, 4, 1],
-        &[1, 0, 0, 0, 0, 0, 0, 0, 0],
-    ];
-    let states = walk_letter(alloc, MatchKind::All, b"aba")?;
-    Ok(have_bytes(&states, 2, &rows))
-}
-
-#[test]
-fn all_matches(rt: HostRuntime) {
-    assert!(rt; matches!(finds_all(rt.alloc()), Ok(true)));
-}
-
-/// How many patterns match in the last state.
-fn last_len(states: &[State]) -> Option<usize> {
-    match states.last() {
-        Some(state) => Some(state.match_len()),
-        None => None,
+    match states.get(place) {
+        Some(state) => state.as_bytes() == bytes && state.match_len() == len,
+        None => false,
     }
 }
 
-/// All patterns match, in order of preference.
-fn tells_both(alloc: Global) -> Result<bool, BuildError> {
-    let last: &[u8] = &[
-        3, 0, 0, 0, 0, 0, 0, 0, 0, 2, 0, 0, 0, 1, 0, 0, 0, 0, 0, 0, 0,
-    ];
-    let states = walk_patterns(alloc, MatchKind::All)?;
-    Ok(last_len(&states) == Some(2) && have_bytes(&states, 2, &[last]))
+/// Whether a walk with sets of pairs comes by the row's state.
+fn walks_in_pairs<L: Ledger>(
+    alloc: Global,
+    nfa: &NFA,
+    row: &Row,
+    blank: Blank,
+) -> Result<bool, AllocError>
+    requires name { blank.name ≡ L.name }
+    requires parts { blank.parts ≡ L.parts }
+    requires some { 0 < blank.parts }
+{
+    let mut steps = Steps::<L>::new(blank);
+    let mut sets = pair_sets(alloc, nfa)?;
+    let (kind, text, start) = (row.1, row.2, nfa.start_unanchored());
+    let states = walk_with(alloc, nfa, kind, &mut sets, start, None, text, &mut steps)?;
+    Ok(has_state(&states, row))
 }
 
-/// The preferred pattern alone does.
-fn tells_preferred(alloc: Global) -> Result<bool, BuildError> {
-    let last: &[u8] = &[3, 0, 0, 0, 0, 0, 0, 0, 0, 1, 0, 0, 0, 1, 0, 0, 0];
-    let states = walk_patterns(alloc, MatchKind::LeftmostFirst)?;
-    Ok(have_bytes(&states, 2, &[last]))
+/// Whether a walk with the library's own sets does.
+fn walks_alone(alloc: Global, nfa: &NFA, row: &Row) -> Result<bool, AllocError> {
+    let (kind, text, start) = (row.1, row.2, nfa.start_unanchored());
+    let states = walk(alloc, nfa, kind, start, None, text)?;
+    Ok(has_state(&states, row))
+}
+
+/// Whether both of them do.
+fn is_walked(alloc: Global, row: &Row) -> Result<bool, BuildError> {
+    let nfa = nfa_of(alloc, row.0)?;
+    let alone = walks_alone(alloc, &nfa, row)?;
+    let in_pairs = walks_in_pairs::<Brand>(alloc, &nfa, row, Blank::new(1))?;
+    Ok(alone && in_pairs)
 }
 
 #[test]
-fn patterns_in_order(rt: HostRuntime) {
-    assert!(rt; matches!(tells_both(rt.alloc()), Ok(true)));
-    assert!(rt; matches!(tells_preferred(rt.alloc()), Ok(true)));
+fn states_of_walks(rt: HostRuntime) {
+    for row in rows() {
+        assert!(rt; matches!(is_walked(rt.alloc(), row), Ok(true)));
+    }
 }

@@ -1,149 +1,170 @@
 //! Clears of a cache that has room for two states, which is the least, and why they are refused: the start of `a` and the
 //! state behind `a` need 445 of 494 bytes, so the step by `b` lacks room.
-use lazy_dfa::dfa::Config;
-use lazy_dfa::{CacheError, StartError};
-use search_types::Anchored;
 use std::alloc::Global;
-use std::test::Fail;
-use tests_machines::answers::are_answered;
-use tests_machines::automata::machine;
-use tests_machines::calls::{Call, Kind, Text};
-use tests_machines::spans::{self, on};
+use tests_machines::answers::answers;
+use tests_machines::calls::Call::{
+    self, Capacity, Held, Is, Letters, Lists, MinBytes, MinClears, NoStart, NoStep, NotOver,
+    Raised, Reset, SearchFinish, SearchStart, SearchUpdate, Start, Step, Tagged, Total, Usage,
+};
+use tests_machines::calls::Found::GaveUp;
+use tests_machines::calls::Kind;
+use tests_machines::calls::Mode::Free;
+use tests_machines::calls::Text::{A, Xa};
 
-/// Whether the calls are answered behind these two states, in a search that has come to this place from 0.
-fn goes_on(alloc: Global, config: Config, place: usize, calls: &[Call]) -> bool {
-    match machine(alloc, config) {
-        Ok(mut machine) => {
-            are_answered(&mut machine, &first(place)) && are_answered(&mut machine, calls)
-        }
-        Err(_) => false,
-    }
-}
+/// A capacity, after how many clears one may be refused, where fewer bytes than this were searched for each state, and the place
+/// to which a search has come.
+type Cause = (usize, Option<usize>, Option<usize>, usize);
 
-/// The calls that lead to these two states.
-fn first(place: usize) -> [Call; 7] {
+/// Behind these two states the step by `b` clears the cache.
+const fn clears(cause: Cause) -> [Call; 20] {
+    let (capacity, clears, bytes, place) = cause;
     [
-        Call::SearchStart(0),
-        Call::SearchUpdate(place),
-        Call::Start(None, Anchored::No, 0),
-        Call::Step(0, Some(b'a'), 1),
-        Call::Usage(445, 0),
-        Call::Held(0, true),
-        Call::Held(1, true),
+        Capacity(capacity),
+        Raised(capacity < 494),
+        MinClears(clears),
+        MinBytes(bytes),
+        Letters(A),
+        SearchStart(0),
+        SearchUpdate(place),
+        Start(None, Free, 0),
+        Step(0, Some(b'a'), 1),
+        Usage(445, 0),
+        Held(0, true),
+        Held(1, true),
+        Start(None, Free, 0),
+        Step(0, Some(b'a'), 1),
+        Step(1, Some(b'b'), 2),
+        Usage(442, 1),
+        Total(0, true),
+        Is(2, Kind::Match),
+        Held(2, true),
+        Lists(2, 0, 0, 1),
     ]
 }
 
-/// The step by `b` clears the cache.
-fn clears() -> [Call; 8] {
+/// It is refused, and leaves all as it was.
+const fn gives_up(cause: Cause) -> [Call; 18] {
+    let (capacity, clears, bytes, place) = cause;
     [
-        Call::Start(None, Anchored::No, 0),
-        Call::Step(0, Some(b'a'), 1),
-        Call::Step(1, Some(b'b'), 2),
-        Call::Usage(442, 1),
-        Call::Total(0, true),
-        Call::Is(2, Kind::Match),
-        Call::Held(2, true),
-        Call::Lists(2, 0, 0, 1),
+        Capacity(capacity),
+        MinClears(clears),
+        MinBytes(bytes),
+        Letters(A),
+        SearchStart(0),
+        SearchUpdate(place),
+        Start(None, Free, 0),
+        Step(0, Some(b'a'), 1),
+        Usage(445, 0),
+        Held(0, true),
+        Held(1, true),
+        Start(None, Free, 0),
+        Step(0, Some(b'a'), 1),
+        NoStep(1, Some(b'b')),
+        Usage(445, 0),
+        Total(place, true),
+        Held(0, true),
+        Held(1, true),
     ]
-}
-
-/// The step by `b` is refused, and leaves all as it was.
-fn gives_up(place: usize) -> [Call; 7] {
-    [
-        Call::Start(None, Anchored::No, 0),
-        Call::Step(0, Some(b'a'), 1),
-        Call::NoStep(1, Some(b'b')),
-        Call::Usage(445, 0),
-        Call::Total(place, true),
-        Call::Held(0, true),
-        Call::Held(1, true),
-    ]
-}
-
-/// The least capacity.
-fn least() -> Config {
-    Config::new().cache_capacity(494)
-}
-
-/// A capacity that is too small, and raised to the least.
-fn raised(capacity: usize) -> Config {
-    let config = Config::new().skip_cache_capacity_check(true);
-    config.cache_capacity(capacity)
-}
-
-/// A clear may be refused after so many, where fewer bytes than this were searched for each state.
-fn after(clears: usize, bytes: Option<usize>) -> Config {
-    least()
-        .minimum_cache_clear_count(Some(clears))
-        .minimum_bytes_per_state(bytes)
 }
 
 /// With the sentinels five states are held.
-#[test]
-fn causes(rt: HostRuntime) -> Result<(), Fail> {
-    let alloc = rt.alloc();
-    assert!(rt; goes_on(alloc, least(), 1, &clears()));
-    assert!(rt;
-        goes_on(alloc, raised(493), 1, &clears()) && goes_on(alloc, raised(0), 1, &clears())
-    );
-    assert!(rt; goes_on(alloc, after(1, None), 1, &clears()));
-    assert!(rt; goes_on(alloc, after(0, None), 1, &gives_up(1)));
-    assert!(rt; goes_on(alloc, after(0, Some(0)), 1, &clears()));
-    assert!(rt; goes_on(alloc, after(0, Some(1)), 1, &gives_up(1)));
-    assert!(rt; goes_on(alloc, after(0, Some(1)), 4, &gives_up(4)));
-    assert!(rt; goes_on(alloc, after(0, Some(1)), 5, &clears()));
-    Ok(())
+const fn causes_to_clear() -> &'static [Cause] {
+    &[
+        (494, None, None, 1),
+        (493, None, None, 1),
+        (0, None, None, 1),
+        (494, Some(1), None, 1),
+        (494, Some(0), Some(0), 1),
+        (494, Some(0), Some(1), 5),
+    ]
+}
+
+const fn causes_to_give_up() -> &'static [Cause] {
+    &[
+        (494, Some(0), None, 1),
+        (494, Some(0), Some(1), 1),
+        (494, Some(0), Some(1), 4),
+    ]
+}
+
+/// Whether each cause has its effect.
+fn have_effect(alloc: Global) -> bool {
+    for cause in causes_to_clear() {
+        if !answers(alloc, &clears(*cause)) {
+            return false;
+        }
+    }
+    for cause in causes_to_give_up() {
+        if !answers(alloc, &gives_up(*cause)) {
+            return false;
+        }
+    }
+    true
 }
 
 /// The state behind `a` gets the first row, which was the start's, and its own row is that of a state that matches: so its
 /// ID isn't held any more, and that of the start is held only where it has no tag. A search begins anew where it is. A
 /// start behind it is made again, by a clear that keeps no state.
-fn leaves(start_is_held: bool) -> [Call; 19] {
+const fn leaves(tagged: bool) -> [Call; 27] {
     [
-        Call::Start(None, Anchored::No, 0),
-        Call::Step(0, Some(b'a'), 1),
-        Call::Step(1, Some(b'b'), 2),
-        Call::Held(0, start_is_held),
-        Call::Held(1, false),
-        Call::Held(2, true),
-        Call::SearchUpdate(7),
-        Call::Total(2, true),
-        Call::Start(None, Anchored::No, 3),
-        Call::Usage(380, 2),
-        Call::Held(2, false),
-        Call::Held(3, true),
-        Call::Total(0, true),
-        Call::SearchFinish(10),
-        Call::Total(3, false),
-        Call::Reset,
-        Call::Usage(316, 0),
-        Call::Total(0, false),
-        Call::Held(3, false),
+        Capacity(494),
+        Tagged(tagged),
+        Letters(A),
+        SearchStart(0),
+        SearchUpdate(5),
+        Start(None, Free, 0),
+        Step(0, Some(b'a'), 1),
+        Usage(445, 0),
+        Held(0, true),
+        Held(1, true),
+        Step(1, Some(b'b'), 2),
+        Held(0, !tagged),
+        Held(1, false),
+        Held(2, true),
+        SearchUpdate(7),
+        Total(2, true),
+        Start(None, Free, 3),
+        Usage(380, 2),
+        Held(2, false),
+        Held(3, true),
+        Total(0, true),
+        SearchFinish(10),
+        Total(3, false),
+        Reset,
+        Usage(316, 0),
+        Total(0, false),
+        Held(3, false),
     ]
 }
 
 /// Starts are refused too where their state has no room, behind the one clear that is allowed; searches give up where they
 /// start.
-fn starts_give_up() -> [Call; 8] {
-    let err = CacheError::GaveUp;
-    [
-        Call::Start(None, Anchored::No, 0),
-        Call::Step(0, Some(b'a'), 1),
-        Call::Step(1, Some(b'b'), 2),
-        Call::NoStart(None, Anchored::No, StartError::Cache { err }),
-        Call::NotOver(false, on(Text::Xa, 1, 2), spans::gives_up(1)),
-        Call::NotOver(true, on(Text::Xa, 1, 2), spans::gives_up(2)),
-        Call::Usage(442, 1),
-        Call::Held(2, true),
+const fn starts_give_up() -> &'static [Call] {
+    &[
+        Capacity(494),
+        MinClears(Some(1)),
+        Letters(A),
+        SearchStart(0),
+        SearchUpdate(1),
+        Start(None, Free, 0),
+        Step(0, Some(b'a'), 1),
+        Usage(445, 0),
+        Held(0, true),
+        Held(1, true),
+        Step(1, Some(b'b'), 2),
+        NoStart(None, Free, GaveUp(0)),
+        NotOver(false, Xa, 1, 2, Free, GaveUp(1)),
+        NotOver(true, Xa, 1, 2, Free, GaveUp(2)),
+        Usage(442, 1),
+        Held(2, true),
     ]
 }
 
 #[test]
-fn what_is_left(rt: HostRuntime) -> Result<(), Fail> {
+fn clears_and_what_they_leave(rt: HostRuntime) {
     let alloc = rt.alloc();
-    assert!(rt; goes_on(alloc, least(), 5, &leaves(true)));
-    let tagged = least().specialize_start_states(true);
-    assert!(rt; goes_on(alloc, tagged, 5, &leaves(false)));
-    assert!(rt; goes_on(alloc, after(1, None), 1, &starts_give_up()));
-    Ok(())
+    assert!(rt; have_effect(alloc));
+    assert!(rt; answers(alloc, &leaves(false)));
+    assert!(rt; answers(alloc, &leaves(true)));
+    assert!(rt; answers(alloc, starts_give_up()));
 }

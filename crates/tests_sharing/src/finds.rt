@@ -1,4 +1,5 @@
 //! Small compiles, and what their automata find.
+use crate::trees::Tree;
 use determinize_core::walk;
 use hir_core::Hir;
 use nfa_core::{BuildError, NFA};
@@ -6,61 +7,82 @@ use search_types::MatchKind;
 use std::alloc::{AllocError, Global};
 use thompson_nfa::{Compiler, Config, WhichCaptures};
 
-/// The automaton of a tree.
-pub(crate) fn build(alloc: Global, config: Config, tree: &Hir) -> Result<NFA, BuildError> {
-    let mut compiler = Compiler::new(alloc);
-    compiler.configure(config);
+/// How a tree is read.
+#[derive(Clone, Copy)]
+pub(crate) enum Mode {
+    Forward,
+    Reverse,
+    /// In reverse, where classes are made smaller.
+    Shrunk,
+    /// The same under a limit of so many bytes.
+    Limited(usize),
+    /// Forward, with states for groups.
+    Grouped,
+}
+
+/// What an automaton answers, or why there is none.
+#[derive(Clone, Copy)]
+pub(crate) enum Answer {
+    /// So many states, or at most so many.
+    States(usize),
+    AtMost(usize),
+    /// So many groups.
+    Groups(usize),
+    /// Whether a match ends behind all bytes of this number, in the order in which they are read. The first isn't zero.
+    Finds(u32, bool),
+    /// Whether the spelling of each of these scalars is found, or of none.
+    Scalars(&'static [char], bool),
+    /// Behind how many of these bytes the preferred match ends, where there is one from the first byte on.
+    Ends(&'static [u8], Option<usize>),
+    /// The states take more bytes than this limit.
+    Above(usize),
+}
+
+/// A tree, how it is read, and what its automaton answers.
+pub(crate) type Row = (Tree, Mode, Answer);
+
+/// A tree, and how many states it takes forward, in reverse, and in reverse where classes are made smaller.
+pub(crate) type Sizes = (Tree, usize, usize, usize);
+
+fn config_of(mode: Mode) -> Config {
+    let (groups, reverse, shrink, limit) = match mode {
+        Mode::Forward => (WhichCaptures::None, false, false, None),
+        Mode::Reverse => (WhichCaptures::None, true, false, None),
+        Mode::Shrunk => (WhichCaptures::None, true, true, None),
+        Mode::Limited(bytes) => (WhichCaptures::None, true, true, Some(bytes)),
+        Mode::Grouped => (WhichCaptures::All, false, false, None),
+    };
+    let config = Config::new().which_captures(groups).reverse(reverse);
+    config.shrink(shrink).nfa_size_limit(limit)
+}
+
+/// The automaton that a compiler makes of a tree, read so.
+fn build(compiler: &mut Compiler, mode: Mode, tree: &Hir) -> Result<NFA, BuildError> {
+    compiler.configure(config_of(mode));
     compiler.build_from_hir(tree)
 }
 
-/// No states for groups.
-pub(crate) fn plain(reverse: bool, shrink: bool) -> Config {
-    let config = Config::new().which_captures(WhichCaptures::None);
-    config.reverse(reverse).shrink(shrink)
+/// The one that a new compiler makes.
+fn compiled(alloc: Global, mode: Mode, tree: &Hir) -> Result<NFA, BuildError> {
+    let mut compiler = Compiler::new(alloc);
+    build(&mut compiler, mode, tree)
 }
 
-/// The automaton of a tree without states for groups.
-pub(crate) fn compiled(
-    alloc: Global,
-    reverse: bool,
-    shrink: bool,
-    tree: &Hir,
-) -> Result<NFA, BuildError> {
-    build(alloc, plain(reverse, shrink), tree)
+/// The automaton of the tree of this name.
+fn made(alloc: Global, tree: Tree, mode: Mode) -> Result<NFA, BuildError> {
+    let tree = tree.hir(alloc)?;
+    compiled(alloc, mode, &tree)
 }
 
-/// How many states it has.
-fn len(alloc: Global, reverse: bool, shrink: bool, tree: &Hir) -> Result<usize, BuildError> {
-    let nfa = compiled(alloc, reverse, shrink, tree)?;
-    Ok(nfa.states().len())
-}
-
-/// How many states there are forward, in reverse, and in reverse where classes are made smaller.
-pub(crate) fn sizes(alloc: Global, tree: &Hir) -> Result<(usize, usize, usize), BuildError> {
-    let forward = len(alloc, false, false, tree)?;
-    let reverse = len(alloc, true, false, tree)?;
-    let shrunk = len(alloc, true, true, tree)?;
-    Ok((forward, reverse, shrunk))
-}
-
-/// Whether a match of the automaton ends behind all of these bytes, in the order in which it reads them.
-pub(crate) fn accepts(alloc: Global, nfa: &NFA, bytes: &[u8]) -> Result<bool, AllocError> {
-    let start = nfa.start_anchored();
-    let states = walk(alloc, nfa, MatchKind::All, start, None, bytes)?;
-    match states.last() {
-        Some(state) => Ok(state.is_match()),
-        None => Ok(false),
-    }
-}
-
-/// Behind how many bytes the preferred match ends, where the automaton finds one from the first byte on.
-pub(crate) fn preferred_end(
+/// Behind how many of the bytes the last match ends that a walk over them meets.
+fn last_end(
     alloc: Global,
     nfa: &NFA,
+    kind: MatchKind,
     bytes: &[u8],
 ) -> Result<Option<usize>, AllocError> {
     let start = nfa.start_anchored();
-    let states = walk(alloc, nfa, MatchKind::LeftmostFirst, start, None, bytes)?;
+    let states = walk(alloc, nfa, kind, start, None, bytes)?;
     let mut end = None;
     for (place, state) in states.iter().enumerate() {
         if state.is_match() && place > 0 {
@@ -68,4 +90,119 @@ pub(crate) fn preferred_end(
         }
     }
     Ok(end)
+}
+
+/// Whether that is so many, or isn't, as it is expected.
+fn is_end(
+    alloc: Global,
+    nfa: &NFA,
+    kind: MatchKind,
+    bytes: &[u8],
+    end: Option<usize>,
+    expected: bool,
+) -> bool {
+    match last_end(alloc, nfa, kind, bytes) {
+        Ok(told) => (told == end) == expected,
+        Err(_) => false,
+    }
+}
+
+/// Whether the automaton accepts these bytes, in the order in which it reads them, or doesn't, as it is expected: whether
+/// a match ends behind all of them.
+fn accepts(alloc: Global, nfa: &NFA, bytes: &[u8], expected: bool) -> bool {
+    is_end(
+        alloc,
+        nfa,
+        MatchKind::All,
+        bytes,
+        Some(bytes.len()),
+        expected,
+    )
+}
+
+/// The same of the bytes of a number without the zeros that it begins with.
+fn accepts_number(alloc: Global, nfa: &NFA, number: u32, expected: bool) -> bool {
+    let bytes = number.to_be_bytes();
+    let zeros = number.leading_zeros() as usize / 8;
+    match bytes.get(zeros..) {
+        Some(bytes) => accepts(alloc, nfa, bytes, expected),
+        None => false,
+    }
+}
+
+/// The same of the spelling of a scalar, in the order in which the automaton reads.
+fn accepts_scalar(alloc: Global, nfa: &NFA, scalar: char, expected: bool) -> bool {
+    let mut room = [0; 4];
+    let spelling = scalar.encode_utf8(&mut room).as_bytes();
+    let Ok(mut bytes) = spelling.to_vec(alloc) else {
+        return false;
+    };
+    if nfa.is_reverse() {
+        bytes.reverse();
+    }
+    accepts(alloc, nfa, &bytes, expected)
+}
+
+/// The same of each of these scalars.
+fn accepts_scalars(alloc: Global, nfa: &NFA, scalars: &[char], expected: bool) -> bool {
+    for scalar in scalars {
+        if !accepts_scalar(alloc, nfa, *scalar, expected) {
+            return false;
+        }
+    }
+    true
+}
+
+/// Whether the automaton answers this.
+fn has(alloc: Global, nfa: &NFA, answer: Answer) -> bool {
+    match answer {
+        Answer::States(len) => nfa.states().len() == len,
+        Answer::AtMost(len) => nfa.states().len() <= len,
+        Answer::Groups(len) => nfa.group_info().all_group_len() == len,
+        Answer::Finds(number, expected) => accepts_number(alloc, nfa, number, expected),
+        Answer::Scalars(scalars, expected) => accepts_scalars(alloc, nfa, scalars, expected),
+        Answer::Ends(bytes, end) => {
+            is_end(alloc, nfa, MatchKind::LeftmostFirst, bytes, end, true)
+        }
+        Answer::Above(_) => false,
+    }
+}
+
+/// Whether this is why the tree is refused.
+fn refuses(error: &BuildError, answer: Answer) -> bool {
+    match answer {
+        Answer::Above(limit) => error.size_limit() == Some(limit),
+        _ => false,
+    }
+}
+
+/// Whether the tree, read so, has this answer.
+pub(crate) fn is_answered(alloc: Global, tree: Tree, mode: Mode, answer: Answer) -> bool {
+    match made(alloc, tree, mode) {
+        Ok(nfa) => has(alloc, &nfa, answer),
+        Err(error) => refuses(&error, answer),
+    }
+}
+
+/// Whether each row has its answer.
+pub(crate) fn are_answered(alloc: Global, rows: &[Row]) -> bool {
+    for (tree, mode, answer) in rows {
+        if !is_answered(alloc, *tree, *mode, *answer) {
+            return false;
+        }
+    }
+    true
+}
+
+/// Whether each tree takes so many states.
+pub(crate) fn have_sizes(alloc: Global, rows: &[Sizes]) -> bool {
+    for (tree, forward, reverse, shrunk) in rows {
+        if !is_answered(alloc, *tree, Mode::Forward, Answer::States(*forward))
+            || !is_answered(alloc, *tree, Mode::Reverse, Answer::States(*reverse))
+            || !is_answered(alloc, *tree, Mode::Shrunk, Answer::States(*shrunk))
+        {
+            return false;
+        }
+    }
+    true
 }

