@@ -1,37 +1,40 @@
 use crate::groups::groups_of;
-use crate::texts::is_told;
+use crate::texts::is_refused;
 use std::alloc::Global;
 
 /// The names of patterns' groups, and what refuses them.
-pub(crate) type Refusal = (&'static str, &'static str);
+type Refusal = (&'static [&'static str], &'static str);
 
-/// The groups of two patterns, and what refuses them: a fault of the second one alone, or of two faults
-/// the earlier.
-const fn faults() -> &'static [Refusal] {
+/// The groups of one pattern, and what refuses them.
+const fn faults_of_one() -> &'static [Refusal] {
     &[
-        ("-a|-a", "none"),
-        ("-|", "pattern 1 has no groups"),
-        ("-a|a", "the first group of pattern 1 has a name"),
-        ("-b|-b-b", "two groups of pattern 1 have the name 'b'"),
-        ("-aa|", "two groups of pattern 0 have the name 'a'"),
-        ("|a", "pattern 0 has no groups"),
-        ("a|", "the first group of pattern 0 has a name"),
-        ("-abba|", "two groups of pattern 0 have the name 'b'"),
+        (&["-a-b"], "none"),
+        (&[""], "pattern 0 has no groups"),
+        (&["a"], "the first group of pattern 0 has a name"),
+        (&["-a-a"], "two groups of pattern 0 have the name 'a'"),
+        (&["aa"], "the first group of pattern 0 has a name"),
     ]
 }
 
-/// Whether the groups of these patterns are refused in these words.
-fn is_refused(alloc: Global, patterns: &str, want: &str) -> bool {
-    match groups_of(alloc, patterns) {
-        Ok(_) => want == "none",
-        Err(error) => is_told(alloc, &error, want),
-    }
+/// The groups of two patterns, and what refuses them: a fault of the second one alone, or of two faults
+/// the earlier.
+const fn faults_of_two() -> &'static [Refusal] {
+    &[
+        (&["-a", "-a"], "none"),
+        (&["-", ""], "pattern 1 has no groups"),
+        (&["-a", "a"], "the first group of pattern 1 has a name"),
+        (&["-b", "-b-b"], "two groups of pattern 1 have the name 'b'"),
+        (&["-aa", ""], "two groups of pattern 0 have the name 'a'"),
+        (&["", "a"], "pattern 0 has no groups"),
+        (&["a", ""], "the first group of pattern 0 has a name"),
+        (&["-abba", ""], "two groups of pattern 0 have the name 'b'"),
+    ]
 }
 
 /// Whether each row is refused as it says.
-pub(crate) fn are_refused(alloc: Global, rows: &[Refusal]) -> bool {
+fn are_refused(alloc: Global, rows: &[Refusal]) -> bool {
     for (patterns, want) in rows {
-        if !is_refused(alloc, patterns, want) {
+        if !is_refused(alloc, groups_of(alloc, patterns), want) {
             return false;
         }
     }
@@ -39,6 +42,7 @@ pub(crate) fn are_refused(alloc: Global, rows: &[Refusal]) -> bool {
 }
 
 #[test]
-fn faults_of_two_patterns(rt: HostRuntime) {
-    assert!(rt; are_refused(rt.alloc(), faults()));
+fn groups_that_break_a_rule(rt: HostRuntime) {
+    let alloc = rt.alloc();
+    assert!(rt; are_refused(alloc, faults_of_one()) && are_refused(alloc, faults_of_two()));
 }

@@ -1,40 +1,34 @@
-use crate::group_faults::{Refusal, are_refused};
 use search_core::PatternID;
 use search_types::{GroupInfo, GroupInfoError};
 use std::alloc::{AllocError, Global};
 
 /// A group's name by its letter, where a dash is none.
-fn name_of(letter: char) -> Option<&'static str> {
-    match letter {
-        'a' => Some("a"),
-        'b' => Some("b"),
-        _ => None,
-    }
+fn name_of(alloc: Global, letter: u8) -> Result<Option<String>, AllocError> {
+    let name = match letter {
+        b'a' => "a",
+        b'b' => "b",
+        _ => return Ok(None),
+    };
+    Ok(Some(String::from_str(alloc, name)?))
 }
 
 /// The names of a pattern's groups, of one letter each.
-fn names(alloc: Global, letters: &str) -> Result<Vec<Option<String>>, AllocError> {
+fn names(alloc: Global, letters: &[u8]) -> Result<Vec<Option<String>>, AllocError> {
     let mut names = Vec::new(alloc);
-    for letter in letters.chars() {
-        match name_of(letter) {
-            Some(name) => names.push(Some(String::from_str(alloc, name)?))?,
-            None => names.push(None)?,
-        }
+    for letter in letters {
+        names.push(name_of(alloc, *letter)?)?;
     }
     Ok(names)
 }
 
-/// The groups of patterns that are parted by bars, each with a letter for each of its groups.
-pub(crate) fn groups_of(alloc: Global, patterns: &str) -> Result<GroupInfo, GroupInfoError> {
+/// The groups of patterns, each with a letter for each of its groups.
+pub(crate) fn groups_of(alloc: Global, patterns: &[&str]) -> Result<GroupInfo, GroupInfoError> {
     let mut groups = Vec::new(alloc);
-    for letters in patterns.split('|') {
-        groups.push(names(alloc, letters)?)?;
+    for letters in patterns {
+        groups.push(names(alloc, letters.as_bytes())?)?;
     }
     GroupInfo::new(alloc, &groups)
 }
-
-/// Two patterns: one with a group of its own that is called `a`, and one without.
-pub(crate) const A_AND_NONE: &str = "-a|-";
 
 /// The number of patterns, of all groups, and of slots: all, implicit and explicit ones.
 fn sizes(info: &GroupInfo) -> [usize; 5] {
@@ -47,121 +41,53 @@ fn sizes(info: &GroupInfo) -> [usize; 5] {
     ]
 }
 
-/// What is told of a group by its pattern and its index: the slots, the first slot and the name.
-type Told<'a> = (Option<(usize, usize)>, Option<usize>, Option<&'a str>);
-
-fn told(info: &GroupInfo, pattern: PatternID, group: usize) -> Told<'_> {
-    (
-        info.slots(pattern, group),
-        info.slot(pattern, group),
-        info.to_name(pattern, group),
-    )
-}
-
-/// What is told of each group of two patterns, and of one more of each.
-const fn groups() -> [(u8, usize, Told<'static>); 5] {
+/// The slots of each group of two patterns, and of one more of each.
+fn slots_of(info: &GroupInfo) -> [Option<(usize, usize)>; 5] {
+    let (zero, one) = (PatternID::ZERO, PatternID::must(1));
     [
-        (0, 0, (Some((0, 1)), Some(0), None)),
-        (1, 0, (Some((2, 3)), Some(2), None)),
-        (0, 1, (Some((4, 5)), Some(4), Some("a"))),
-        (0, 2, (None, None, None)),
-        (1, 1, (None, None, None)),
+        info.slots(zero, 0),
+        info.slots(one, 0),
+        info.slots(zero, 1),
+        info.slots(zero, 2),
+        info.slots(one, 1),
     ]
 }
 
-/// Whether each group of two patterns has its slots and its name.
+/// Whether two patterns have their slots, and the group `a` its name.
 fn slots_are_told(info: &GroupInfo) -> bool {
-    for (pattern, group, want) in groups() {
-        if told(info, PatternID::from(pattern), group) != want {
-            return false;
-        }
-    }
-    sizes(info) == [2, 3, 6, 4, 2]
+    let want = [Some((0, 1)), Some((2, 3)), Some((4, 5)), None, None];
+    slots_of(info) == want
+        && sizes(info) == [2, 3, 6, 4, 2]
+        && info.to_name(PatternID::ZERO, 1) == Some("a")
 }
 
-/// Whether two patterns that were made have them.
-fn two_are_told(alloc: Global) -> bool {
-    match groups_of(alloc, A_AND_NONE) {
-        Ok(info) => slots_are_told(&info),
-        Err(_) => false,
-    }
+/// The index of the group `a` of two patterns, and of one more.
+fn indices_of(info: &GroupInfo) -> [Option<usize>; 3] {
+    [
+        info.to_index(PatternID::ZERO, "a"),
+        info.to_index(PatternID::must(1), "a"),
+        info.to_index(PatternID::must(2), "a"),
+    ]
 }
 
-#[test]
-fn slots_of_two_patterns(rt: HostRuntime) {
-    assert!(rt; two_are_told(rt.alloc()));
-}
-
-/// The number of a pattern's groups, the index of its group `a`, and how many names it tells.
-fn counts(info: &GroupInfo, pattern: u8) -> (usize, Option<usize>, usize) {
-    let pattern = PatternID::from(pattern);
-    (
-        info.group_len(pattern),
-        info.to_index(pattern, "a"),
-        info.pattern_names(pattern).count(),
-    )
-}
-
-/// Whether the groups of two patterns, and of one more, are told.
-fn groups_are_told(info: &GroupInfo) -> bool {
-    counts(info, 0) == (2, Some(1), 2)
-        && counts(info, 1) == (1, None, 1)
-        && counts(info, 2) == (0, None, 0)
-}
-
-/// Whether these are all groups: the pattern, the group's index, and its name.
-fn are_named(info: &GroupInfo, want: &[(u8, usize, Option<&str>)]) -> bool {
-    let mut names = info.all_names();
-    for (pattern, group, name) in want {
-        if names.next() != Some((PatternID::from(*pattern), *group, *name)) {
-            return false;
-        }
-    }
-    names.next().is_none()
-}
-
-/// Whether a copy of two patterns' groups tells them and their names.
+/// Whether a copy of two patterns' groups tells the one with a name.
 fn copy_is_told(alloc: Global, info: &GroupInfo) -> bool {
     match info.try_clone(alloc) {
-        Ok(copy) => {
-            groups_are_told(&copy)
-                && are_named(&copy, &[(0, 0, None), (0, 1, Some("a")), (1, 0, None)])
-        }
+        Ok(copy) => sizes(&copy) == sizes(info) && indices_of(&copy) == [Some(1), None, None],
         Err(_) => false,
     }
 }
 
-/// Whether a copy of two patterns that were made does.
-fn copy_of_two_is_told(alloc: Global) -> bool {
-    match groups_of(alloc, A_AND_NONE) {
-        Ok(info) => copy_is_told(alloc, &info),
+/// Whether the groups of two patterns that were made are told, and those of a copy: one pattern with a group of its own
+/// that is called `a`, and one without.
+fn two_are_told(alloc: Global) -> bool {
+    match groups_of(alloc, &["-a", "-"]) {
+        Ok(info) => slots_are_told(&info) && copy_is_told(alloc, &info),
         Err(_) => false,
     }
 }
 
-/// Whether no groups have no names and no slots.
-fn nothing_is_told(alloc: Global) -> bool {
-    let nothing = GroupInfo::empty(alloc);
-    nothing.slot_len() == 0 && are_named(&nothing, &[])
-}
-
 #[test]
-fn names_of_two_patterns(rt: HostRuntime) {
-    assert!(rt; copy_of_two_is_told(rt.alloc()) && nothing_is_told(rt.alloc()));
-}
-
-/// The names of a pattern's groups, and what refuses them.
-const fn refusals() -> &'static [Refusal] {
-    &[
-        ("-a-b", "none"),
-        ("", "pattern 0 has no groups"),
-        ("a", "the first group of pattern 0 has a name"),
-        ("-a-a", "two groups of pattern 0 have the name 'a'"),
-        ("aa", "the first group of pattern 0 has a name"),
-    ]
-}
-
-#[test]
-fn groups_that_break_a_rule(rt: HostRuntime) {
-    assert!(rt; are_refused(rt.alloc(), refusals()));
+fn slots_and_names_of_two_patterns(rt: HostRuntime) {
+    assert!(rt; two_are_told(rt.alloc()));
 }

@@ -20,8 +20,6 @@ mod look_sets;
 #[cfg(test)]
 mod looks;
 #[cfg(test)]
-mod parts;
-#[cfg(test)]
 mod sets;
 #[cfg(test)]
 mod texts;

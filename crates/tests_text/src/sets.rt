@@ -1,95 +1,74 @@
 use crate::texts::is_told;
 use search_core::PatternID;
-use search_types::PatternSet;
-use std::alloc::{AllocError, Global};
+use search_types::{PatternSet, PatternSetInsertError};
+use std::alloc::Global;
 
-/// A pattern, whether it was absent when it is inserted, or why it is refused, and how many members there are then.
-type Row = (u8, Result<bool, &'static str>, usize);
+/// A pattern, whether it was absent when it is inserted, if it is taken, and how many members there are then.
+type Row = (u8, Option<bool>, usize);
 
 /// Patterns that are inserted into a set of two, one after the other.
-const fn inserted() -> [Row; 3] {
-    [
-        (2, Err("pattern 2 is not below the set's capacity 2"), 0),
-        (1, Ok(true), 1),
-        (1, Ok(false), 1),
-    ]
+const fn inserted() -> &'static [Row] {
+    &[(2, None, 0), (1, Some(true), 1), (1, Some(false), 1)]
+}
+
+/// Whether the refusal of the third pattern is told in words, and a copy of it.
+fn refusal_is_told(alloc: Global, error: &PatternSetInsertError) -> bool {
+    let want = "pattern 2 is not below the set's capacity 2";
+    match error.clone() {
+        Ok(copy) => is_told(alloc, error, want) && is_told(alloc, &copy, want),
+        Err(_) => false,
+    }
 }
 
 /// Whether the set answers so where the pattern is inserted, and has so many members then.
 fn answers(alloc: Global, set: &mut PatternSet, row: Row) -> bool {
     let (pattern, want, len) = row;
-    let told = match (set.try_insert(PatternID::from(pattern)), want) {
-        (Ok(absent), Ok(want)) => absent == want,
-        (Err(error), Err(want)) => is_told(alloc, &error, want),
-        _ => false,
+    let told = match set.try_insert(PatternID::from(pattern)) {
+        Ok(absent) => want == Some(absent),
+        Err(error) => want.is_none() && refusal_is_told(alloc, &error),
     };
     told && set.len() == len
 }
 
-/// Whether it answers so to each of them.
-fn takes_rows(alloc: Global, set: &mut PatternSet) -> bool {
-    for row in inserted() {
-        if !answers(alloc, set, row) {
+/// Patterns that are inserted into a set of eight.
+const fn four() -> &'static [Row] {
+    &[
+        (6, Some(true), 1),
+        (1, Some(true), 2),
+        (4, Some(true), 3),
+        (2, Some(true), 4),
+    ]
+}
+
+/// Whether the set answers rightly to each of the patterns.
+fn takes_rows(alloc: Global, set: &mut PatternSet, rows: &[Row]) -> bool {
+    for row in rows {
+        if !answers(alloc, set, *row) {
             return false;
         }
     }
-    !set.contains(PatternID::must(2))
+    true
 }
 
-/// Whether a set of two takes patterns below its capacity, each of them once, and is full then.
+/// Whether a set of two takes patterns below its capacity, each of them once.
 fn keeps_to_capacity(alloc: Global) -> bool {
     match PatternSet::new(alloc, 2) {
-        Ok(mut set) => takes_rows(alloc, &mut set) && fills_and_clears(&mut set),
+        Ok(mut set) => {
+            takes_rows(alloc, &mut set, inserted()) && !set.contains(PatternID::must(2))
+        }
         Err(_) => false,
     }
 }
 
-/// Whether a set of two that has one of them is full where the other one comes, and empty where it is cleared.
-fn fills_and_clears(set: &mut PatternSet) -> bool {
-    let room = !set.is_full();
-    let is_new = set.capacity() == 2 && set.insert(PatternID::ZERO);
-    let full = set.is_full();
-    set.clear();
-    room && is_new && full && (set.len(), set.capacity(), set.is_empty()) == (0, 2, true)
-}
-
-#[test]
-fn a_pattern_at_the_capacity_is_refused(rt: HostRuntime) {
-    assert!(rt; keeps_to_capacity(rt.alloc()));
-}
-
-/// What the set tells from the front, twice from the back, from the front again and from both ends behind that.
-fn members(set: &PatternSet) -> [Option<PatternID>; 6] {
-    let mut members = set.iter();
-    [
-        members.next(),
-        members.next_back(),
-        members.next_back(),
-        members.next(),
-        members.next_back(),
-        members.next(),
-    ]
-}
-
-/// Whether the set tells its four members from both ends.
+/// Whether the set tells its four members.
 fn tells_four(set: &PatternSet) -> bool {
-    let one = Some(PatternID::must(1));
-    let two = Some(PatternID::must(2));
-    let four = Some(PatternID::must(4));
-    let six = Some(PatternID::must(6));
-    members(set) == [one, six, four, two, None, None] && (set.len(), set.capacity()) == (4, 8)
-}
-
-/// A set of eight with four members, or an empty one where one of them isn't taken.
-fn four(alloc: Global) -> Result<PatternSet, AllocError> {
-    let mut set = PatternSet::new(alloc, 8)?;
-    for pattern in [6, 1, 4, 2u8] {
-        if !matches!(set.try_insert(PatternID::from(pattern)), Ok(true)) {
-            set.clear();
-            return Ok(set);
-        }
-    }
-    Ok(set)
+    let members = [
+        PatternID::must(1),
+        PatternID::must(2),
+        PatternID::must(4),
+        PatternID::must(6),
+    ];
+    (set.len(), set.capacity()) == (4, 8) && set.iter().eq(members)
 }
 
 /// Whether a copy tells four members where the set that it was made of is cleared.
@@ -97,21 +76,21 @@ fn copy_outlives(alloc: Global, set: &mut PatternSet) -> bool {
     match set.try_clone(alloc) {
         Ok(copy) => {
             set.clear();
-            tells_four(&copy)
+            set.is_empty() && tells_four(&copy)
         }
         Err(_) => false,
     }
 }
 
-/// Whether a copy of the set of four does.
+/// Whether a copy of a set of eight does, which takes four patterns.
 fn copy_tells_four(alloc: Global) -> bool {
-    match four(alloc) {
-        Ok(mut set) => copy_outlives(alloc, &mut set),
+    match PatternSet::new(alloc, 8) {
+        Ok(mut set) => takes_rows(alloc, &mut set, four()) && copy_outlives(alloc, &mut set),
         Err(_) => false,
     }
 }
 
 #[test]
-fn a_set_is_read_from_both_ends(rt: HostRuntime) {
-    assert!(rt; copy_tells_four(rt.alloc()));
+fn sets_keep_to_their_capacity_and_are_copied(rt: HostRuntime) {
+    assert!(rt; keeps_to_capacity(rt.alloc()) && copy_tells_four(rt.alloc()));
 }

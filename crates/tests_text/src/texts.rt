@@ -10,6 +10,18 @@ pub(crate) fn is_told<T: Display>(alloc: Global, value: &T, want: &str) -> bool 
     }
 }
 
+/// Whether what was asked for is refused in these words, or taken where they are `none`.
+pub(crate) fn is_refused<T: Drop, E: Display + Drop>(
+    alloc: Global,
+    made: Result<T, E>,
+    want: &str,
+) -> bool {
+    match made {
+        Ok(_) => want == "none",
+        Err(error) => is_told(alloc, &error, want),
+    }
+}
+
 /// Whether it is printed so for programmers.
 pub(crate) fn is_printed<T: Debug>(alloc: Global, value: &T, want: &str) -> bool {
     match format!(in alloc; "{value:?}") {

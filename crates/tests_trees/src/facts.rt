@@ -1,276 +1,610 @@
+//! The table of what is known of a tree, with rows for each way to make one.
+use crate::small::Made::{self, Choice, Concat, Greedy, Grouped, Lazy, Leaf};
 use crate::small::Small::{
-    self, Anchored, Dash, Date, Digit, Empty, Fail as Failing, Group, Huge, Letter, NoBytes,
-    NoChars, NoChoice, NoParts, Sam, Samwise, Start, Vowel, Wide,
+    self, Alpha, Anchored, AnyChar, Dash, Date, Digit, Empty, End, Fail as Failing, Group, Half,
+    HighBytes, Huge, Letter, LoneByte, NoBytes, NoChars, NoChoice, NoParts, Sam, Samwise, Start,
+    Vowel, Wide, Word,
 };
-use crate::small::{nested, repeated, trees};
-use hir_core::{Hir, Properties};
+use hir_core::Hir;
 use std::alloc::{AllocError, Global};
 
-/// The minimum length, the height and the count of a tree.
-type Facts = (Option<usize>, usize, usize);
+/// The least and the greatest length, whether spans are UTF-8, the numbers of the looks that stand in the
+/// tree, at its start and at its end (1 for `^`, 2 for `$` and 64 for `\b`), the height and the count.
+type Facts = (
+    Option<usize>,
+    Option<usize>,
+    bool,
+    (u32, u32, u32),
+    usize,
+    usize,
+);
+
+/// How a tree is made, of which small ones, and its facts.
+type Row = (Made, &'static [Small], Facts);
 
 const MOST: usize = usize::MAX;
 
+/// The facts of a tree.
 fn facts(tree: &Hir) -> Facts {
-    (tree.properties().minimum_len(), tree.height(), tree.count())
+    let known = tree.properties();
+    let looks = (
+        known.look_set().bits(),
+        known.look_set_prefix().bits(),
+        known.look_set_suffix().bits(),
+    );
+    (
+        known.minimum_len(),
+        known.maximum_len(),
+        known.is_utf8(),
+        looks,
+        tree.height(),
+        tree.count(),
+    )
 }
 
-/// Whether the small tree has these facts.
-fn has_facts(alloc: Global, small: Small, want: Facts) -> Result<bool, AllocError> {
-    let tree = small.tree(alloc)?;
-    Ok(facts(&tree) == want)
+/// Whether the tree of a row has its facts.
+fn has_facts(alloc: Global, row: &Row) -> bool {
+    match row.0.of(alloc, row.1) {
+        Ok(tree) => facts(&tree) == row.2,
+        Err(_) => false,
+    }
 }
 
-/// Whether the small trees one behind the other have these facts.
-fn concat_has(alloc: Global, parts: &[Small], want: Facts) -> Result<bool, AllocError> {
-    let tree = Hir::concat(trees(alloc, parts)?);
-    Ok(facts(&tree) == want)
-}
-
-/// Whether a choice between the small trees has these facts.
-fn alternation_has(alloc: Global, parts: &[Small], want: Facts) -> Result<bool, AllocError> {
-    let tree = Hir::alternation(trees(alloc, parts)?);
-    Ok(facts(&tree) == want)
-}
-
-/// Small trees that aren't classes of characters, with their facts.
-const fn small_trees() -> [(Small, Facts); 12] {
-    [
-        (Empty, (Some(0), 1, 1)),
-        (NoBytes, (Some(0), 1, 1)),
-        (Dash, (Some(1), 1, 3)),
-        (Sam, (Some(3), 1, 7)),
-        (Samwise, (Some(7), 1, 15)),
-        (Digit, (Some(1), 1, 2)),
-        (Vowel, (Some(1), 1, 2)),
-        (Failing, (None, 1, 2)),
-        (NoParts, (Some(0), 1, 1)),
-        (NoChoice, (None, 1, 4)),
-        (Date, (Some(10), 3, 26)),
-        (Huge, (Some(MOST), 4, MOST)),
-    ]
-}
-
-/// Classes of characters, looks and a group, with their facts.
-const fn looks_and_characters() -> [(Small, Facts); 6] {
-    [
-        // one sequence of byte ranges for the letters of ASCII, and two for the Greek ones
-        (Letter, (Some(1), 1, 14)),
-        // two sequences of two bytes, four of three and three of four
-        (Wide, (Some(2), 1, 38)),
-        (NoChars, (None, 1, 2)),
-        (Start, (Some(0), 1, 1)),
-        (Anchored, (Some(1), 2, 6)),
-        (Group, (Some(1), 3, 8)),
-    ]
-}
-
-/// Whether each of the small trees has its facts.
-fn have_facts(alloc: Global, rows: &[(Small, Facts)]) -> Result<bool, AllocError> {
-    for (small, want) in rows {
-        if !has_facts(alloc, *small, *want)? {
-            return Ok(false);
+/// Whether the tree of each row does.
+fn have_facts(alloc: Global, rows: &[Row]) -> bool {
+    for row in rows {
+        if !has_facts(alloc, row) {
+            return false;
         }
     }
-    Ok(true)
+    true
 }
 
-#[test]
-fn facts_of_small_trees(rt: HostRuntime) {
-    assert!(rt; matches!(have_facts(rt.alloc(), &small_trees()), Ok(true)));
-    assert!(rt; matches!(have_facts(rt.alloc(), &looks_and_characters()), Ok(true)));
-}
-
-/// What is known of a small tree.
-fn properties_of(alloc: Global, small: Small) -> Result<Properties, AllocError> {
-    let tree = small.tree(alloc)?;
-    Ok(tree.properties())
-}
-
-/// Whether the same is known of a digit and a vowel, and something else of a date.
-fn are_compared(alloc: Global) -> Result<bool, AllocError> {
-    let digit = properties_of(alloc, Digit)?;
-    Ok(properties_of(alloc, Vowel)? == digit && properties_of(alloc, Date)? != digit)
-}
-
-#[test]
-fn properties_are_compared(rt: HostRuntime) {
-    assert!(rt; matches!(are_compared(rt.alloc()), Ok(true)));
-}
-
-/// A small tree, its bounds, whether it is greedy, and the facts of its rounds.
-type Rounds = (Small, u32, Option<u32>, bool, Facts);
-
-/// Rounds of a digit.
-const fn digits() -> [Rounds; 12] {
-    [
-        (Digit, 4, Some(4), true, (Some(4), 2, 9)),
-        (Digit, 2, Some(2), false, (Some(2), 2, 5)),
-        (Digit, 1, Some(1), true, (Some(1), 2, 3)),
-        (Digit, 0, Some(0), false, (Some(0), 2, 1)),
-        (Digit, 2, Some(5), true, (Some(2), 2, 14)),
-        (Digit, 2, Some(5), false, (Some(2), 2, 14)),
-        (Digit, 0, Some(1), true, (Some(0), 2, 4)),
-        (Digit, 0, None, false, (Some(0), 2, 5)),
-        (Digit, 1, None, true, (Some(1), 2, 5)),
-        (Digit, 3, None, false, (Some(3), 2, 9)),
-        (Digit, 0, Some(u32::MAX), true, (Some(0), 2, 12884901886)),
+/// Texts and classes of bytes.
+const fn texts_and_bytes() -> &'static [Row] {
+    &[
+        (Leaf, &[Empty], (Some(0), Some(0), true, (0, 0, 0), 1, 1)),
+        (Leaf, &[NoBytes], (Some(0), Some(0), true, (0, 0, 0), 1, 1)),
+        (Leaf, &[Dash], (Some(1), Some(1), true, (0, 0, 0), 1, 3)),
+        (Leaf, &[Sam], (Some(3), Some(3), true, (0, 0, 0), 1, 7)),
+        (Leaf, &[Samwise], (Some(7), Some(7), true, (0, 0, 0), 1, 15)),
+        (Leaf, &[Alpha], (Some(2), Some(2), true, (0, 0, 0), 1, 5)),
         (
-            Digit,
-            u32::MAX,
-            None,
-            false,
-            (Some(4294967295), 2, 8589934593),
+            Leaf,
+            &[LoneByte],
+            (Some(1), Some(1), false, (0, 0, 0), 1, 3),
+        ),
+        (Leaf, &[Digit], (Some(1), Some(1), true, (0, 0, 0), 1, 2)),
+        (Leaf, &[Vowel], (Some(1), Some(1), true, (0, 0, 0), 1, 2)),
+        (
+            Leaf,
+            &[HighBytes],
+            (Some(1), Some(1), false, (0, 0, 0), 1, 2),
+        ),
+        (Leaf, &[Failing], (None, None, true, (0, 0, 0), 1, 2)),
+    ]
+}
+
+/// Classes of characters, looks, no parts, and small trees of several parts. The half tree and the huge one stand
+/// right below the largest `usize`, and at it: 4294967295 times itself is still below 2^64, and times that again is
+/// not.
+const fn other_leaves() -> &'static [Row] {
+    &[
+        // one sequence of byte ranges for the letters of ASCII, and two for the Greek ones
+        (Leaf, &[Letter], (Some(1), Some(2), true, (0, 0, 0), 1, 14)),
+        // two sequences of two bytes, four of three and three of four
+        (Leaf, &[Wide], (Some(2), Some(4), true, (0, 0, 0), 1, 38)),
+        // nine sequences
+        (Leaf, &[AnyChar], (Some(1), Some(4), true, (0, 0, 0), 1, 38)),
+        (Leaf, &[NoChars], (None, None, true, (0, 0, 0), 1, 2)),
+        (Leaf, &[Start], (Some(0), Some(0), true, (1, 1, 1), 1, 1)),
+        (Leaf, &[Word], (Some(0), Some(0), true, (64, 64, 64), 1, 1)),
+        (Leaf, &[NoParts], (Some(0), Some(0), true, (0, 0, 0), 1, 1)),
+        (Leaf, &[NoChoice], (None, None, true, (0, 0, 0), 1, 4)),
+        (Leaf, &[Date], (Some(10), Some(10), true, (0, 0, 0), 3, 26)),
+        (
+            Leaf,
+            &[Half],
+            (
+                Some(18446744065119617025),
+                Some(18446744065119617025),
+                true,
+                (0, 0, 0),
+                3,
+                MOST,
+            ),
+        ),
+        (
+            Leaf,
+            &[Huge],
+            (Some(MOST), Some(MOST), true, (0, 0, 0), 4, MOST),
+        ),
+        (Leaf, &[Anchored], (Some(1), Some(1), true, (3, 1, 2), 2, 6)),
+        (Leaf, &[Group], (Some(1), Some(1), true, (3, 1, 2), 3, 8)),
+    ]
+}
+
+/// Groups: the facts of what they are around, but for the height, which is one more, and the count, which is two more.
+const fn groups() -> &'static [Row] {
+    &[
+        (Grouped, &[Empty], (Some(0), Some(0), true, (0, 0, 0), 2, 3)),
+        (
+            Grouped,
+            &[Date],
+            (Some(10), Some(10), true, (0, 0, 0), 4, 28),
+        ),
+        (
+            Grouped,
+            &[LoneByte],
+            (Some(1), Some(1), false, (0, 0, 0), 2, 5),
+        ),
+        (Grouped, &[Wide], (Some(2), Some(4), true, (0, 0, 0), 2, 40)),
+        (
+            Grouped,
+            &[Anchored],
+            (Some(1), Some(1), true, (3, 1, 2), 3, 8),
+        ),
+        (Grouped, &[NoChoice], (None, None, true, (0, 0, 0), 2, 6)),
+        (
+            Grouped,
+            &[Huge],
+            (Some(MOST), Some(MOST), true, (0, 0, 0), 5, MOST),
         ),
     ]
 }
 
-/// Rounds of a date, of what fails, and of what is longer than all numbers.
-const fn other_rounds() -> [Rounds; 12] {
-    [
-        (Date, 0, Some(0), true, (Some(0), 4, 1)),
-        (Date, 2, Some(2), false, (Some(20), 4, 53)),
-        (Date, 0, None, true, (Some(0), 4, 29)),
-        (Date, 3, None, false, (Some(30), 4, 81)),
-        (Failing, 0, Some(0), true, (Some(0), 2, 1)),
-        (Failing, 2, Some(2), false, (None, 2, 5)),
-        (Failing, 0, None, true, (Some(0), 2, 5)),
-        (Failing, 1, None, false, (None, 2, 5)),
-        (Huge, 0, Some(0), true, (Some(0), 5, 1)),
-        (Huge, 0, Some(1), false, (Some(0), 5, MOST)),
-        (Huge, 0, None, true, (Some(0), 5, MOST)),
-        (Huge, 2, None, false, (Some(MOST), 5, MOST)),
+#[test]
+fn facts_of_leaves_and_groups(rt: HostRuntime) {
+    let alloc = rt.alloc();
+    assert!(rt; have_facts(alloc, texts_and_bytes()) && have_facts(alloc, other_leaves()));
+    assert!(rt; have_facts(alloc, groups()));
+}
+
+/// Rounds of a digit.
+const fn digits() -> &'static [Row] {
+    &[
+        (
+            Greedy(4, Some(4)),
+            &[Digit],
+            (Some(4), Some(4), true, (0, 0, 0), 2, 9),
+        ),
+        (
+            Lazy(2, Some(2)),
+            &[Digit],
+            (Some(2), Some(2), true, (0, 0, 0), 2, 5),
+        ),
+        (
+            Greedy(1, Some(1)),
+            &[Digit],
+            (Some(1), Some(1), true, (0, 0, 0), 2, 3),
+        ),
+        (
+            Lazy(0, Some(0)),
+            &[Digit],
+            (Some(0), Some(0), true, (0, 0, 0), 2, 1),
+        ),
+        (
+            Greedy(2, Some(5)),
+            &[Digit],
+            (Some(2), Some(5), true, (0, 0, 0), 2, 14),
+        ),
+        (
+            Lazy(2, Some(5)),
+            &[Digit],
+            (Some(2), Some(5), true, (0, 0, 0), 2, 14),
+        ),
+        (
+            Greedy(0, Some(1)),
+            &[Digit],
+            (Some(0), Some(1), true, (0, 0, 0), 2, 4),
+        ),
+        (
+            Lazy(0, None),
+            &[Digit],
+            (Some(0), None, true, (0, 0, 0), 2, 5),
+        ),
+        (
+            Greedy(1, None),
+            &[Digit],
+            (Some(1), None, true, (0, 0, 0), 2, 5),
+        ),
+        (
+            Lazy(3, None),
+            &[Digit],
+            (Some(3), None, true, (0, 0, 0), 2, 9),
+        ),
+        (
+            Greedy(0, Some(u32::MAX)),
+            &[Digit],
+            (Some(0), Some(4294967295), true, (0, 0, 0), 2, 12884901886),
+        ),
+        (
+            Lazy(u32::MAX, None),
+            &[Digit],
+            (Some(4294967295), None, true, (0, 0, 0), 2, 8589934593),
+        ),
+        (
+            Greedy(u32::MAX, Some(u32::MAX)),
+            &[Digit],
+            (
+                Some(4294967295),
+                Some(4294967295),
+                true,
+                (0, 0, 0),
+                2,
+                8589934591,
+            ),
+        ),
     ]
 }
 
-/// Whether the rounds have their facts.
-fn repetition_has(alloc: Global, row: &Rounds) -> Result<bool, AllocError> {
-    match repeated(alloc, row.0, row.1, row.2, row.3)? {
-        Some(tree) => Ok(facts(&tree) == row.4),
-        None => Ok(false),
-    }
+/// Rounds of a date and of other texts, with and without looks.
+const fn rounds_of_texts() -> &'static [Row] {
+    &[
+        (
+            Greedy(0, Some(0)),
+            &[Date],
+            (Some(0), Some(0), true, (0, 0, 0), 4, 1),
+        ),
+        (
+            Lazy(2, Some(2)),
+            &[Date],
+            (Some(20), Some(20), true, (0, 0, 0), 4, 53),
+        ),
+        (
+            Greedy(0, None),
+            &[Date],
+            (Some(0), None, true, (0, 0, 0), 4, 29),
+        ),
+        (
+            Lazy(3, None),
+            &[Date],
+            (Some(30), None, true, (0, 0, 0), 4, 81),
+        ),
+        (
+            Greedy(2, Some(3)),
+            &[Date],
+            (Some(20), Some(30), true, (0, 0, 0), 4, 80),
+        ),
+        (
+            Greedy(0, Some(1)),
+            &[Date],
+            (Some(0), Some(10), true, (0, 0, 0), 4, 28),
+        ),
+        (
+            Greedy(3, Some(3)),
+            &[Letter],
+            (Some(3), Some(6), true, (0, 0, 0), 2, 43),
+        ),
+        (
+            Greedy(2, None),
+            &[Sam],
+            (Some(6), None, true, (0, 0, 0), 2, 17),
+        ),
+        (
+            Greedy(0, Some(0)),
+            &[Sam],
+            (Some(0), Some(0), true, (0, 0, 0), 2, 1),
+        ),
+        (
+            Greedy(0, None),
+            &[Anchored],
+            (Some(0), None, true, (3, 0, 0), 3, 9),
+        ),
+        (
+            Greedy(1, None),
+            &[Anchored],
+            (Some(1), None, true, (3, 1, 2), 3, 9),
+        ),
+        (
+            Greedy(2, Some(2)),
+            &[Word],
+            (Some(0), Some(0), true, (64, 64, 64), 2, 3),
+        ),
+    ]
 }
 
-/// Whether the rounds of each row do.
-fn repetitions_have(alloc: Global, rows: &[Rounds]) -> Result<bool, AllocError> {
-    for row in rows {
-        if !repetition_has(alloc, row)? {
-            return Ok(false);
-        }
-    }
-    Ok(true)
+/// Rounds of what fails, of what is longer than all numbers, and of a byte that is no UTF-8.
+const fn other_rounds() -> &'static [Row] {
+    &[
+        (
+            Greedy(0, Some(0)),
+            &[Failing],
+            (Some(0), None, true, (0, 0, 0), 2, 1),
+        ),
+        (
+            Lazy(2, Some(2)),
+            &[Failing],
+            (None, None, true, (0, 0, 0), 2, 5),
+        ),
+        (
+            Greedy(0, None),
+            &[Failing],
+            (Some(0), None, true, (0, 0, 0), 2, 5),
+        ),
+        (
+            Lazy(1, None),
+            &[Failing],
+            (None, None, true, (0, 0, 0), 2, 5),
+        ),
+        (
+            Greedy(1, Some(2)),
+            &[Failing],
+            (None, None, true, (0, 0, 0), 2, 6),
+        ),
+        (
+            Greedy(0, Some(0)),
+            &[Huge],
+            (Some(0), Some(0), true, (0, 0, 0), 5, 1),
+        ),
+        (
+            Lazy(0, Some(1)),
+            &[Huge],
+            (Some(0), Some(MOST), true, (0, 0, 0), 5, MOST),
+        ),
+        (
+            Greedy(0, None),
+            &[Huge],
+            (Some(0), None, true, (0, 0, 0), 5, MOST),
+        ),
+        (
+            Lazy(2, None),
+            &[Huge],
+            (Some(MOST), None, true, (0, 0, 0), 5, MOST),
+        ),
+        (
+            Greedy(1, Some(2)),
+            &[Huge],
+            (Some(MOST), Some(MOST), true, (0, 0, 0), 5, MOST),
+        ),
+        (
+            Greedy(0, None),
+            &[LoneByte],
+            (Some(0), None, false, (0, 0, 0), 2, 6),
+        ),
+    ]
 }
 
 #[test]
 fn facts_of_repetitions(rt: HostRuntime) {
-    assert!(rt; matches!(repetitions_have(rt.alloc(), &digits()), Ok(true)));
-    assert!(rt; matches!(repetitions_have(rt.alloc(), &other_rounds()), Ok(true)));
+    let alloc = rt.alloc();
+    assert!(rt; have_facts(alloc, digits()) && have_facts(alloc, rounds_of_texts()));
+    assert!(rt; have_facts(alloc, other_rounds()));
 }
 
-/// Small trees one behind the other, with their facts.
-const fn concatenations() -> [(&'static [Small], Facts); 11] {
-    [
-        (&[], (Some(0), 1, 1)),
-        (&[Digit], (Some(1), 2, 3)),
-        (&[Sam, Digit], (Some(4), 2, 10)),
-        (&[Empty, NoParts], (Some(0), 2, 3)),
-        (&[Digit, Date, Digit], (Some(12), 4, 31)),
-        (&[Date, Date], (Some(20), 4, 53)),
-        (&[Failing, Digit], (None, 2, 5)),
-        (&[Digit, Failing], (None, 2, 5)),
-        (&[NoChoice], (None, 2, 5)),
-        (&[Huge, Digit], (Some(MOST), 5, MOST)),
-        (&[Digit, Huge, Huge], (Some(MOST), 5, MOST)),
+/// Small trees without looks one behind the other, where sums may be above all numbers.
+const fn concatenations() -> &'static [Row] {
+    &[
+        (Concat, &[Digit], (Some(1), Some(1), true, (0, 0, 0), 2, 3)),
+        (
+            Concat,
+            &[Sam, Digit],
+            (Some(4), Some(4), true, (0, 0, 0), 2, 10),
+        ),
+        (
+            Concat,
+            &[Empty, NoParts],
+            (Some(0), Some(0), true, (0, 0, 0), 2, 3),
+        ),
+        (
+            Concat,
+            &[Digit, Date, Digit],
+            (Some(12), Some(12), true, (0, 0, 0), 4, 31),
+        ),
+        (
+            Concat,
+            &[Date, Date],
+            (Some(20), Some(20), true, (0, 0, 0), 4, 53),
+        ),
+        (
+            Concat,
+            &[Failing, Digit],
+            (None, None, true, (0, 0, 0), 2, 5),
+        ),
+        (
+            Concat,
+            &[Digit, Failing],
+            (None, None, true, (0, 0, 0), 2, 5),
+        ),
+        (Concat, &[NoChoice], (None, None, true, (0, 0, 0), 2, 5)),
+        (
+            Concat,
+            &[Huge, Digit],
+            (Some(MOST), Some(MOST), true, (0, 0, 0), 5, MOST),
+        ),
+        (
+            Concat,
+            &[Digit, Huge, Huge],
+            (Some(MOST), Some(MOST), true, (0, 0, 0), 5, MOST),
+        ),
+        (
+            Concat,
+            &[Half, Half],
+            (Some(MOST), Some(MOST), true, (0, 0, 0), 4, MOST),
+        ),
     ]
 }
 
-/// Whether each of them has its facts.
-fn concatenations_have(alloc: Global) -> Result<bool, AllocError> {
-    for (parts, want) in concatenations() {
-        if !concat_has(alloc, parts, want)? {
-            return Ok(false);
-        }
-    }
-    Ok(true)
-}
-
-#[test]
-fn facts_of_concatenations(rt: HostRuntime) {
-    assert!(rt; matches!(concatenations_have(rt.alloc()), Ok(true)));
-}
-
-/// Choices between small trees, with their facts.
-const fn alternations() -> [(&'static [Small], Facts); 11] {
-    [
-        (&[], (None, 1, 4)),
-        (&[Digit], (Some(1), 2, 6)),
-        (&[Sam, Samwise], (Some(3), 2, 26)),
-        (&[Samwise, Sam], (Some(3), 2, 26)),
-        (&[Digit, Date, Digit], (Some(1), 4, 34)),
-        (&[Empty, Date], (Some(0), 4, 31)),
-        (&[NoParts], (Some(0), 2, 5)),
-        (&[Failing], (None, 2, 6)),
-        (&[Failing, Digit], (Some(1), 2, 8)),
-        (&[Digit, NoChoice], (Some(1), 2, 10)),
-        (&[Huge, Digit], (Some(1), 5, MOST)),
+/// Small trees of several kinds one behind the other, most of them with looks.
+const fn concatenations_with_looks() -> &'static [Row] {
+    &[
+        (
+            Concat,
+            &[Sam, Letter],
+            (Some(4), Some(5), true, (0, 0, 0), 2, 22),
+        ),
+        (
+            Concat,
+            &[Huge, Huge],
+            (Some(MOST), Some(MOST), true, (0, 0, 0), 5, MOST),
+        ),
+        (
+            Concat,
+            &[Sam, Failing],
+            (None, None, true, (0, 0, 0), 2, 10),
+        ),
+        (
+            Concat,
+            &[Sam, LoneByte],
+            (Some(4), Some(4), false, (0, 0, 0), 2, 11),
+        ),
+        (
+            Concat,
+            &[Start, Word, End],
+            (Some(0), Some(0), true, (67, 67, 67), 2, 4),
+        ),
+        (
+            Concat,
+            &[Dash, Start],
+            (Some(1), Some(1), true, (1, 0, 1), 2, 5),
+        ),
+        (
+            Concat,
+            &[End, Dash],
+            (Some(1), Some(1), true, (2, 2, 0), 2, 5),
+        ),
+        (
+            Concat,
+            &[Word, Empty, Anchored],
+            (Some(1), Some(1), true, (67, 65, 2), 3, 9),
+        ),
+        (
+            Concat,
+            &[Anchored, Word],
+            (Some(1), Some(1), true, (67, 1, 66), 3, 8),
+        ),
+        (
+            Concat,
+            &[Anchored, NoParts, Group, Word],
+            (Some(2), Some(2), true, (67, 1, 66), 4, 17),
+        ),
     ]
 }
 
-/// Whether each of them has its facts.
-fn alternations_have(alloc: Global) -> Result<bool, AllocError> {
-    for (parts, want) in alternations() {
-        if !alternation_has(alloc, parts, want)? {
-            return Ok(false);
-        }
-    }
-    Ok(true)
+/// Choices between small trees without looks.
+const fn alternations() -> &'static [Row] {
+    &[
+        (Choice, &[Digit], (Some(1), Some(1), true, (0, 0, 0), 2, 6)),
+        (
+            Choice,
+            &[Sam, Samwise],
+            (Some(3), Some(7), true, (0, 0, 0), 2, 26),
+        ),
+        (
+            Choice,
+            &[Samwise, Sam],
+            (Some(3), Some(7), true, (0, 0, 0), 2, 26),
+        ),
+        (
+            Choice,
+            &[Digit, Date, Digit],
+            (Some(1), Some(10), true, (0, 0, 0), 4, 34),
+        ),
+        (
+            Choice,
+            &[Empty, Date],
+            (Some(0), Some(10), true, (0, 0, 0), 4, 31),
+        ),
+        (
+            Choice,
+            &[NoParts],
+            (Some(0), Some(0), true, (0, 0, 0), 2, 5),
+        ),
+        (Choice, &[Failing], (None, None, true, (0, 0, 0), 2, 6)),
+        (
+            Choice,
+            &[Failing, Digit],
+            (Some(1), None, true, (0, 0, 0), 2, 8),
+        ),
+        (
+            Choice,
+            &[Digit, NoChoice],
+            (Some(1), None, true, (0, 0, 0), 2, 10),
+        ),
+        (
+            Choice,
+            &[Huge, Digit],
+            (Some(1), Some(MOST), true, (0, 0, 0), 5, MOST),
+        ),
+    ]
+}
+
+/// Choices between small trees of several kinds, most of them with looks.
+const fn alternations_with_looks() -> &'static [Row] {
+    &[
+        (
+            Choice,
+            &[Date, Letter, Dash],
+            (Some(1), Some(10), true, (0, 0, 0), 4, 47),
+        ),
+        (
+            Choice,
+            &[Sam, Failing],
+            (Some(3), None, true, (0, 0, 0), 2, 13),
+        ),
+        (
+            Choice,
+            &[Sam, HighBytes],
+            (Some(1), Some(3), false, (0, 0, 0), 2, 13),
+        ),
+        (Choice, &[Start], (Some(0), Some(0), true, (1, 1, 1), 2, 5)),
+        (
+            Choice,
+            &[Anchored, Start],
+            (Some(0), Some(1), true, (3, 1, 0), 3, 11),
+        ),
+        (
+            Choice,
+            &[Anchored, Start, Dash],
+            (Some(0), Some(1), true, (3, 0, 0), 3, 14),
+        ),
+        (
+            Choice,
+            &[Group, Anchored],
+            (Some(1), Some(1), true, (3, 1, 2), 4, 18),
+        ),
+        (
+            Choice,
+            &[Start, NoChoice],
+            (Some(0), None, true, (1, 0, 0), 2, 9),
+        ),
+    ]
 }
 
 #[test]
-fn facts_of_alternations(rt: HostRuntime) {
-    assert!(rt; matches!(alternations_have(rt.alloc()), Ok(true)));
+fn facts_of_concatenations_and_alternations(rt: HostRuntime) {
+    let alloc = rt.alloc();
+    assert!(rt; have_facts(alloc, concatenations()) && have_facts(alloc, alternations()));
+    assert!(rt; have_facts(alloc, concatenations_with_looks()));
+    assert!(rt; have_facts(alloc, alternations_with_looks()));
 }
 
-/// Whether a digit in so many repetitions has these facts.
-fn nested_has(alloc: Global, levels: u8, want: Facts) -> Result<bool, AllocError> {
-    let tree = nested(alloc, levels)?;
-    Ok(facts(&tree) == want)
+/// Small trees of all kinds.
+const fn all_kinds() -> &'static [Small] {
+    &[
+        Empty, Sam, LoneByte, Digit, Letter, Word, Date, Group, NoParts, NoChoice,
+    ]
 }
 
-/// Two trees one behind the other, each of which reads more than half of the largest `usize`.
-fn halves(alloc: Global) -> Result<Hir, AllocError> {
-    let mut halves = Vec::new(alloc);
-    for _ in 0..2 {
-        halves.push(nested(alloc, 2)?)?;
-    }
-    Ok(Hir::concat(halves))
+/// The tree as it is printed.
+fn printed(alloc: Global, tree: &Hir) -> Result<String, AllocError> {
+    format!(in alloc; "{tree:?}")
 }
 
-/// Whether both of them together read the largest `usize`.
-fn halves_have_most(alloc: Global) -> Result<bool, AllocError> {
-    let tree = halves(alloc)?;
-    Ok(facts(&tree) == (Some(MOST), 4, MOST))
+/// Whether the copy of a tree is printed as the tree is.
+fn copy_is_alike(alloc: Global, tree: &Hir) -> Result<bool, AllocError> {
+    let copy = tree.try_clone(alloc)?;
+    let text = printed(alloc, &copy)?;
+    Ok(printed(alloc, tree)? == text)
 }
 
-/// Whether sums and products are right below the largest `usize`, and stop at it. 4294967295 times itself is
-/// still below 2^64, and twice that is not.
-fn levels_have(alloc: Global) -> Result<bool, AllocError> {
-    let rows = [
-        (0, (Some(1), 1, 2)),
-        (1, (Some(4294967295), 2, 8589934591)),
-        (2, (Some(18446744065119617025), 3, MOST)),
-        (3, (Some(MOST), 4, MOST)),
-    ];
-    for (levels, want) in rows {
-        if !nested_has(alloc, levels, want)? {
-            return Ok(false);
-        }
-    }
-    Ok(true)
+/// Whether that of a tree with all kinds is.
+fn copy_of_all_kinds_is_alike(alloc: Global) -> Result<bool, AllocError> {
+    let tree = Choice.of(alloc, all_kinds())?;
+    copy_is_alike(alloc, &tree)
 }
 
 #[test]
-fn sums_and_products_stop_at_the_largest_usize(rt: HostRuntime) {
-    assert!(rt; matches!(levels_have(rt.alloc()), Ok(true)));
-    assert!(rt; matches!(halves_have_most(rt.alloc()), Ok(true)));
+fn copies_are_the_same(rt: HostRuntime) {
+    assert!(rt; matches!(copy_of_all_kinds_is_alike(rt.alloc()), Ok(true)));
 }

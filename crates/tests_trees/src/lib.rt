@@ -1,9 +1,7 @@
-//! Tests of trees: each constructor once with ample memory, and the facts of small trees with values
-//! that were worked out by hand.
+//! Tests of trees: each constructor with ample memory, and the facts of small trees with values that were
+//! worked out by hand.
 #![tactic(auto)]
 
-#[cfg(test)]
-mod constructors;
 #[cfg(test)]
 mod facts;
 #[cfg(test)]
@@ -12,5 +10,3 @@ mod ranges;
 mod sequences;
 #[cfg(test)]
 mod small;
-#[cfg(test)]
-mod tree_facts;

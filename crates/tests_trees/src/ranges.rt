@@ -1,8 +1,8 @@
 use hir_core::{is_ascending, is_ascending_chars};
 
-/// Ranges of bytes, and whether they ascend and are disjoint.
-const fn ranges() -> [(&'static [(u8, u8)], bool); 12] {
-    [
+/// Whether ranges of bytes are told to ascend and be disjoint just where they do.
+fn ranges_ascend() -> bool {
+    let rows: [(&[(u8, u8)], bool); 12] = [
         (&[], true),
         (&[(48, 57)], true),
         (&[(7, 7)], true),
@@ -19,12 +19,8 @@ const fn ranges() -> [(&'static [(u8, u8)], bool); 12] {
         (&[(1, 2), (4, 3)], false),
         // the higher range first
         (&[(97, 122), (48, 57)], false),
-    ]
-}
-
-/// Whether each row is told so.
-fn ascend() -> bool {
-    for (ranges, want) in ranges() {
+    ];
+    for (ranges, want) in rows {
         if is_ascending(ranges) != want {
             return false;
         }
@@ -32,14 +28,9 @@ fn ascend() -> bool {
     true
 }
 
-#[test]
-fn ranges_ascend_and_are_disjoint(rt: HostRuntime) {
-    assert!(rt; ascend());
-}
-
-/// Ranges of characters, and whether they ascend and are disjoint.
-const fn character_ranges() -> [(&'static [(char, char)], bool); 8] {
-    [
+/// The same of ranges of characters.
+fn ranges_of_characters_ascend() -> bool {
+    let rows: [(&[(char, char)], bool); 8] = [
         (&[], true),
         (&[('\0', char::MAX)], true),
         (&[('a', 'z'), ('α', 'ω')], true),
@@ -50,12 +41,8 @@ const fn character_ranges() -> [(&'static [(char, char)], bool); 8] {
         (&[('a', 'm'), ('m', 'z')], false),
         (&[('z', 'a')], false),
         (&[('α', 'ω'), ('a', 'z')], false),
-    ]
-}
-
-/// Whether each row is told so.
-fn characters_ascend() -> bool {
-    for (ranges, want) in character_ranges() {
+    ];
+    for (ranges, want) in rows {
         if is_ascending_chars(ranges) != want {
             return false;
         }
@@ -64,6 +51,6 @@ fn characters_ascend() -> bool {
 }
 
 #[test]
-fn ranges_of_characters_ascend_and_are_disjoint(rt: HostRuntime) {
-    assert!(rt; characters_ascend());
+fn ranges_ascend_and_are_disjoint(rt: HostRuntime) {
+    assert!(rt; ranges_ascend() && ranges_of_characters_ascend());
 }

@@ -1,124 +1,71 @@
 use hir_core::{Utf8Range, Utf8Sequence, Utf8Sequences};
 
-/// The first and the last string of a sequence.
-type Ends = (&'static [u8], &'static [u8]);
+/// How many bytes a sequence's strings have, and its first and its last string, each as one number.
+type Ends = (usize, u32, u32);
 
-/// Whether the sequence has these ends.
-fn has_ends(sequence: &Utf8Sequence, ends: Ends) -> bool {
-    let (first, last) = ends;
-    if first.len() != sequence.len() || last.len() != sequence.len() {
-        return false;
+/// The ends of a sequence.
+fn ends(sequence: &Utf8Sequence) -> Ends {
+    let (mut first, mut last) = (0u32, 0u32);
+    for range in sequence.as_slice() {
+        first = (first << 8) | u32::from(range.start);
+        last = (last << 8) | u32::from(range.end);
     }
-    for ((range, start), end) in sequence.as_slice().iter().zip(first).zip(last) {
-        if range.start != *start || range.end != *end {
-            return false;
-        }
-    }
-    true
+    (sequence.len(), first, last)
 }
 
 /// Whether the characters have these sequences, in this order.
 fn have_sequences(start: char, end: char, rows: &[Ends]) -> bool {
     let mut sequences = Utf8Sequences::new(start, end);
-    for ends in rows {
+    for want in rows {
         match sequences.next() {
-            Some(sequence) if has_ends(&sequence, *ends) => {}
+            Some(sequence) if ends(&sequence) == *want => {}
             _ => return false,
         }
     }
     sequences.next().is_none()
 }
 
-/// Table 3-7 of the Unicode Standard.
-const fn table() -> [Ends; 9] {
-    [
-        (&[0x00], &[0x7F]),
-        (&[0xC2, 0x80], &[0xDF, 0xBF]),
-        (&[0xE0, 0xA0, 0x80], &[0xE0, 0xBF, 0xBF]),
-        (&[0xE1, 0x80, 0x80], &[0xEC, 0xBF, 0xBF]),
-        (&[0xED, 0x80, 0x80], &[0xED, 0x9F, 0xBF]),
-        (&[0xEE, 0x80, 0x80], &[0xEF, 0xBF, 0xBF]),
-        (&[0xF0, 0x90, 0x80, 0x80], &[0xF0, 0xBF, 0xBF, 0xBF]),
-        (&[0xF1, 0x80, 0x80, 0x80], &[0xF3, 0xBF, 0xBF, 0xBF]),
-        (&[0xF4, 0x80, 0x80, 0x80], &[0xF4, 0x8F, 0xBF, 0xBF]),
-    ]
-}
-
-/// The characters beside the surrogates.
-const fn beside_surrogates() -> [Ends; 2] {
-    [
-        (&[0xED, 0x9F, 0xBF], &[0xED, 0x9F, 0xBF]),
-        (&[0xEE, 0x80, 0x80], &[0xEE, 0x80, 0x80]),
-    ]
-}
-
-/// A part of a block, whole blocks, and a part of one.
-const fn parts_and_blocks() -> [Ends; 3] {
-    [
-        (&[0xCE, 0xB1], &[0xCE, 0xBF]),
-        (&[0xCF, 0x80], &[0xD0, 0xBF]),
-        (&[0xD1, 0x80], &[0xD1, 0x81]),
-    ]
-}
-
-/// From the last character of three bytes to the first of four.
-const fn three_and_four_bytes() -> [Ends; 2] {
-    [
-        (&[0xEF, 0xBF, 0xBF], &[0xEF, 0xBF, 0xBF]),
-        (&[0xF0, 0x90, 0x80, 0x80], &[0xF0, 0x90, 0x80, 0x80]),
-    ]
+/// Whether ranges of several sequences have them, and one of no characters none.
+fn have_several_sequences() -> bool {
+    // Table 3-7 of the Unicode Standard
+    let table: [Ends; 9] = [
+        (1, 0x00, 0x7F),
+        (2, 0xC280, 0xDFBF),
+        (3, 0xE0A080, 0xE0BFBF),
+        (3, 0xE18080, 0xECBFBF),
+        (3, 0xED8080, 0xED9FBF),
+        (3, 0xEE8080, 0xEFBFBF),
+        (4, 0xF0908080, 0xF0BFBFBF),
+        (4, 0xF1808080, 0xF3BFBFBF),
+        (4, 0xF4808080, 0xF48FBFBF),
+    ];
+    let beside_surrogates: [Ends; 2] = [(3, 0xED9FBF, 0xED9FBF), (3, 0xEE8080, 0xEE8080)];
+    // a part of a block, whole blocks, and a part of one
+    let parts_and_blocks: [Ends; 3] = [
+        (2, 0xCEB1, 0xCEBF),
+        (2, 0xCF80, 0xD0BF),
+        (2, 0xD180, 0xD181),
+    ];
+    // from the last character of three bytes to the first of four
+    let three_and_four_bytes: [Ends; 2] = [(3, 0xEFBFBF, 0xEFBFBF), (4, 0xF0908080, 0xF0908080)];
+    have_sequences('\0', '\u{10FFFF}', &table)
+        && have_sequences('\u{D7FF}', '\u{E000}', &beside_surrogates)
+        && have_sequences('\u{3B1}', '\u{441}', &parts_and_blocks)
+        && have_sequences('\u{FFFF}', '\u{10000}', &three_and_four_bytes)
+        && have_sequences('b', 'a', &[])
 }
 
 /// Ranges of one sequence. A part of a block is one in ASCII; the last four are one character of each length.
-const fn of_one_sequence() -> [(char, char, Ends); 7] {
-    [
-        ('\0', '\u{7F}', (&[0x00], &[0x7F])),
-        ('\u{80}', '\u{7FF}', (&[0xC2, 0x80], &[0xDF, 0xBF])),
-        ('0', 'z', (&[0x30], &[0x7A])),
-        ('a', 'a', (&[0x61], &[0x61])),
-        ('β', 'β', (&[0xCE, 0xB2], &[0xCE, 0xB2])),
-        ('☃', '☃', (&[0xE2, 0x98, 0x83], &[0xE2, 0x98, 0x83])),
-        (
-            '𝛃',
-            '𝛃',
-            (&[0xF0, 0x9D, 0x9B, 0x83], &[0xF0, 0x9D, 0x9B, 0x83]),
-        ),
+const fn of_one_sequence() -> &'static [(char, char, Ends)] {
+    &[
+        ('\0', '\u{7F}', (1, 0x00, 0x7F)),
+        ('\u{80}', '\u{7FF}', (2, 0xC280, 0xDFBF)),
+        ('0', 'z', (1, 0x30, 0x7A)),
+        ('a', 'a', (1, 0x61, 0x61)),
+        ('β', 'β', (2, 0xCEB2, 0xCEB2)),
+        ('☃', '☃', (3, 0xE29883, 0xE29883)),
+        ('𝛃', '𝛃', (4, 0xF09D9B83, 0xF09D9B83)),
     ]
-}
-
-/// Whether the characters of each of these ranges have its sequence.
-fn have_one_sequence() -> bool {
-    for (start, end, ends) in of_one_sequence() {
-        if !have_sequences(start, end, &[ends]) {
-            return false;
-        }
-    }
-    true
-}
-
-#[test]
-fn ranges_have_their_sequences(rt: HostRuntime) {
-    assert!(rt; have_sequences('\0', '\u{10FFFF}', &table()));
-    assert!(rt; have_sequences('\u{D7FF}', '\u{E000}', &beside_surrogates()));
-    assert!(rt; have_sequences('\u{3B1}', '\u{441}', &parts_and_blocks()));
-    assert!(rt; have_sequences('\u{FFFF}', '\u{10000}', &three_and_four_bytes()));
-    assert!(rt; have_sequences('b', 'a', &[]));
-    assert!(rt; have_one_sequence());
-}
-
-/// A sequence of two bytes, `C2` to `DF` and `80` to `BF`.
-fn two_bytes() -> Utf8Sequence {
-    let (first, last) = (
-        Utf8Range {
-            start: 0xC2,
-            end: 0xDF,
-        },
-        Utf8Range {
-            start: 0x80,
-            end: 0xBF,
-        },
-    );
-    Utf8Sequence::Two([first, last])
 }
 
 /// What the sequence answers for strings of two bytes, of three, of one, of two the other way round, and of none.
@@ -132,10 +79,28 @@ fn matched(sequence: &Utf8Sequence) -> [bool; 5] {
     ]
 }
 
-#[test]
-fn sequences_match_what_begins_with_a_string(rt: HostRuntime) {
-    let mut sequence = two_bytes();
-    assert!(rt; matched(&sequence) == [true, true, false, false, false]);
+/// Whether a sequence of two bytes, `C2` to `DF` and `80` to `BF`, matches what begins with one of its strings, and
+/// its reverse what begins with one the other way round.
+fn strings_are_matched() -> bool {
+    let first = Utf8Range {
+        start: 0xC2,
+        end: 0xDF,
+    };
+    let last = Utf8Range {
+        start: 0x80,
+        end: 0xBF,
+    };
+    let mut sequence = Utf8Sequence::Two([first, last]);
+    let forward = matched(&sequence);
     sequence.reverse();
-    assert!(rt; matched(&sequence) == [false, false, false, true, false]);
+    let backward = matched(&sequence);
+    forward == [true, true, false, false, false] && backward == [false, false, false, true, false]
+}
+
+#[test]
+fn ranges_have_their_sequences_and_these_their_strings(rt: HostRuntime) {
+    assert!(rt; have_several_sequences() && strings_are_matched());
+    for (start, end, want) in of_one_sequence() {
+        assert!(rt; have_sequences(*start, *end, &[*want]));
+    }
 }

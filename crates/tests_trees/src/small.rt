@@ -1,10 +1,10 @@
-//! Small trees that the tables of the tests are made of.
+//! Small trees that the tables of the tests are made of, and trees that are made of them.
 use hir_core::Hir;
 use look_core::Look;
 use std::alloc::{AllocError, Global};
 
-#[derive(Clone, Copy, Debug)]
-pub enum Small {
+#[derive(Clone, Copy)]
+pub(crate) enum Small {
     /// The empty text.
     Empty,
     /// A literal of no bytes.
@@ -27,6 +27,8 @@ pub enum Small {
     NoChoice,
     /// `[0-9]{4}-[0-9]{2}-[0-9]{2}`
     Date,
+    /// A digit, 4294967295 times in each of two repetitions.
+    Half,
     /// A digit, 4294967295 times in each of three repetitions.
     Huge,
     /// `α`, as its two bytes.
@@ -39,6 +41,8 @@ pub enum Small {
     Letter,
     /// The characters from `é` to `😀`.
     Wide,
+    /// All characters.
+    AnyChar,
     /// A class of characters without a range.
     NoChars,
     /// `^`
@@ -54,37 +58,91 @@ pub enum Small {
 }
 
 impl Small {
-    pub fn tree(self, alloc: Global) -> Result<Hir, AllocError> {
+    fn tree(self, alloc: Global) -> Result<Hir, AllocError> {
         match self {
-            Small::Empty => Ok(Hir::empty()),
             Small::NoBytes => text(alloc, b""),
             Small::Dash => text(alloc, b"-"),
             Small::Sam => text(alloc, b"sam"),
             Small::Samwise => text(alloc, b"samwise"),
-            Small::Digit => digit(alloc),
-            Small::Vowel => vowel(alloc),
-            Small::Fail => Ok(Hir::fail(alloc)),
-            Small::NoParts => Ok(Hir::concat(Vec::new(alloc))),
-            Small::NoChoice => Ok(Hir::alternation(Vec::new(alloc))),
-            Small::Date => date(alloc),
-            Small::Huge => nested(alloc, 3),
             Small::Alpha => text(alloc, "α".as_bytes()),
             Small::LoneByte => text(alloc, &[0xFF]),
+            Small::Date => date(alloc),
+            Small::Half => nested(alloc, 2),
+            Small::Huge => nested(alloc, 3),
+            Small::Anchored => anchored(alloc),
+            Small::Group => group(alloc),
+            _ => self.leaf(alloc),
+        }
+    }
+
+    /// A class, a look, or a tree without parts.
+    fn leaf(self, alloc: Global) -> Result<Hir, AllocError> {
+        match self {
+            Small::Digit => digit(alloc),
+            Small::Vowel => vowel(alloc),
             Small::HighBytes => Ok(Hir::bytes(vec![in alloc; (0x41, 0x80)]?)),
             Small::Letter => Ok(Hir::chars(vec![in alloc; ('a', 'z'), ('α', 'ω')]?)),
             Small::Wide => Ok(Hir::chars(vec![in alloc; ('é', '😀')]?)),
-            Small::NoChars => Ok(Hir::chars(Vec::new(alloc))),
-            Small::Start => Ok(Hir::look(Look::Start)),
-            Small::End => Ok(Hir::look(Look::End)),
-            Small::Word => Ok(Hir::look(Look::WordAscii)),
-            Small::Anchored => anchored(alloc),
-            Small::Group => group(alloc),
+            Small::AnyChar => Ok(Hir::chars(vec![in alloc; ('\0', char::MAX)]?)),
+            _ => Ok(self.without_members(alloc)),
+        }
+    }
+
+    /// A look, or a tree without members or parts.
+    fn without_members(self, alloc: Global) -> Hir {
+        match self {
+            Small::Fail => Hir::fail(alloc),
+            Small::NoChars => Hir::chars(Vec::new(alloc)),
+            Small::NoParts => Hir::concat(Vec::new(alloc)),
+            Small::NoChoice => Hir::alternation(Vec::new(alloc)),
+            Small::Start => Hir::look(Look::Start),
+            Small::End => Hir::look(Look::End),
+            Small::Word => Hir::look(Look::WordAscii),
+            _ => Hir::empty(),
+        }
+    }
+}
+
+/// How a tree is made of small ones.
+#[derive(Clone, Copy)]
+pub(crate) enum Made {
+    /// Of one alone, which it is.
+    Leaf,
+    /// Of these, one behind the other.
+    Concat,
+    /// Of these, as a choice between them.
+    Choice,
+    /// At least and at most so many greedy rounds of one.
+    Greedy(u32, Option<u32>),
+    /// The same of lazy rounds.
+    Lazy(u32, Option<u32>),
+    /// A group without a name around one.
+    Grouped,
+}
+
+impl Made {
+    /// The tree that is made so of these.
+    pub(crate) fn of(self, alloc: Global, parts: &[Small]) -> Result<Hir, AllocError> {
+        match self {
+            Made::Concat => Ok(Hir::concat(trees(alloc, parts)?)),
+            Made::Choice => Ok(Hir::alternation(trees(alloc, parts)?)),
+            _ => self.around(alloc, one(alloc, parts)?),
+        }
+    }
+
+    /// The tree that is made so of one.
+    fn around(self, alloc: Global, sub: Hir) -> Result<Hir, AllocError> {
+        match self {
+            Made::Greedy(min, max) => rounds(alloc, min, max, true, sub),
+            Made::Lazy(min, max) => rounds(alloc, min, max, false, sub),
+            Made::Grouped => Hir::capture(alloc, 7, None, sub),
+            _ => Ok(sub),
         }
     }
 }
 
 /// The trees of these names.
-pub fn trees(alloc: Global, names: &[Small]) -> Result<Vec<Hir>, AllocError> {
+fn trees(alloc: Global, names: &[Small]) -> Result<Vec<Hir>, AllocError> {
     let mut trees = Vec::new(alloc);
     for name in names {
         trees.push(name.tree(alloc)?)?;
@@ -92,23 +150,35 @@ pub fn trees(alloc: Global, names: &[Small]) -> Result<Vec<Hir>, AllocError> {
     Ok(trees)
 }
 
-/// From `min` to `max` rounds of a small tree, or nothing where the least number is above the greatest.
-pub fn repeated(
+/// The tree of the one name; what fails where there are others.
+fn one(alloc: Global, names: &[Small]) -> Result<Hir, AllocError> {
+    match names {
+        [name] => name.tree(alloc),
+        _ => Ok(Hir::fail(alloc)),
+    }
+}
+
+/// From `min` to `max` rounds of a tree; what fails where the least number is above the greatest.
+fn rounds(
     alloc: Global,
-    small: Small,
     min: u32,
     max: Option<u32>,
     greedy: bool,
-) -> Result<Option<Hir>, AllocError> {
-    if !max.is_none_or(|most| min <= most) {
-        return Ok(None);
+    sub: Hir,
+) -> Result<Hir, AllocError> {
+    match max {
+        Some(most) => {
+            if min > most {
+                return Ok(Hir::fail(alloc));
+            }
+            Hir::repetition(alloc, min, Some(most), greedy, sub)
+        }
+        None => Hir::repetition(alloc, min, None, greedy, sub),
     }
-    let tree = Hir::repetition(alloc, min, max, greedy, small.tree(alloc)?)?;
-    Ok(Some(tree))
 }
 
 /// A digit, 4294967295 times in each of so many repetitions.
-pub fn nested(alloc: Global, levels: u8) -> Result<Hir, AllocError> {
+fn nested(alloc: Global, levels: u8) -> Result<Hir, AllocError> {
     let mut tree = digit(alloc)?;
     for _ in 0..levels {
         tree = times(alloc, u32::MAX, tree)?;
