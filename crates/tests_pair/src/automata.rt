@@ -2,19 +2,64 @@
 ghost use Rattle.std.specs.Prelude.{◌≡◌, ◌<◌};
 ghost use Rattle.nfa_core.specs.CanBuild.{CanBuild};
 
+use crate::calls::give_up;
 use lazy_dfa::BuildError;
 use lazy_dfa::dfa::{Config, DFA};
 use look_core::Look;
 use nfa_core::{BuildError as NfaError, Builder, NFA, Steps, Transition};
 use regex_pair::regex::Regex;
 use search_core::StateID;
+use search_types::MatchKind;
 use std::alloc::Global;
 use std::marker::Brand;
 use std::sync::ledger::{Blank, Ledger};
 
+/// An automaton. But for the last two, searches start at any place, the first one preferred.
+#[derive(Clone, Copy)]
+pub(crate) enum Shape {
+    /// `a`; `b`; and any letter.
+    A,
+    B,
+    Letter,
+    /// `a` any number of times, and once or more, the most preferred.
+    Many,
+    Several,
+    /// `ab` and `ba`.
+    AThenB,
+    BThenA,
+    /// The patterns `a` and `b`.
+    AOrB,
+    /// "aβb", and its bytes in reverse, or no bound of a word; by characters.
+    Word,
+    WordBack,
+    /// The empty pattern, by characters.
+    Nothing,
+    /// `a` and `b` where a search starts alone.
+    FirstA,
+    FirstB,
+}
+
+/// How both automata are made.
+#[derive(Clone, Copy)]
+pub(crate) enum Options {
+    /// As they are where no option is set.
+    Plain,
+    /// With this quit byte.
+    Quits(u8),
+    /// With starts for each pattern.
+    Starts,
+    /// With this capacity.
+    Capacity(usize),
+    /// With a capacity of 494 bytes, and no clear.
+    Never,
+    /// The one in reverse alone with the quit byte `b`, or so.
+    BackQuits,
+    BackNever,
+}
+
 /// A state, with the numbers of those to which it leads.
 #[derive(Clone, Copy)]
-pub(crate) enum Node {
+enum Node {
     /// The next pattern matches, which starts in this state.
     Match(u8),
     /// By the bytes of a range.
@@ -25,12 +70,142 @@ pub(crate) enum Node {
     Either(u8, u8),
 }
 
-/// Where anchored searches start, and others; and whether ends inside characters don't count.
-#[derive(Clone, Copy)]
-pub(crate) struct Form {
-    pub(crate) anchored: u8,
-    pub(crate) unanchored: u8,
-    pub(crate) utf8: bool,
+/// The states. But for the last two automata, the first two start at any place what the state 2 starts.
+fn nodes_of(shape: Shape) -> &'static [Node] {
+    match shape {
+        Shape::A => &[
+            Node::Either(2, 1),
+            Node::Range(0, 255, 0),
+            Node::Range(b'a', b'a', 3),
+            Node::Match(2),
+        ],
+        Shape::B => &[
+            Node::Either(2, 1),
+            Node::Range(0, 255, 0),
+            Node::Range(b'b', b'b', 3),
+            Node::Match(2),
+        ],
+        Shape::Letter => &[
+            Node::Either(2, 1),
+            Node::Range(0, 255, 0),
+            Node::Range(b'a', b'z', 3),
+            Node::Match(2),
+        ],
+        Shape::AThenB => &[
+            Node::Either(2, 1),
+            Node::Range(0, 255, 0),
+            Node::Range(b'a', b'a', 3),
+            Node::Range(b'b', b'b', 4),
+            Node::Match(2),
+        ],
+        Shape::BThenA => &[
+            Node::Either(2, 1),
+            Node::Range(0, 255, 0),
+            Node::Range(b'b', b'b', 3),
+            Node::Range(b'a', b'a', 4),
+            Node::Match(2),
+        ],
+        Shape::FirstA => &[Node::Range(b'a', b'a', 1), Node::Match(0)],
+        Shape::FirstB => &[Node::Range(b'b', b'b', 1), Node::Match(0)],
+        _ => more_nodes_of(shape),
+    }
+}
+
+/// The states of the others.
+fn more_nodes_of(shape: Shape) -> &'static [Node] {
+    match shape {
+        Shape::Many => &[
+            Node::Either(2, 1),
+            Node::Range(0, 255, 0),
+            Node::Either(3, 4),
+            Node::Range(b'a', b'a', 2),
+            Node::Match(2),
+        ],
+        Shape::Several => &[
+            Node::Either(2, 1),
+            Node::Range(0, 255, 0),
+            Node::Range(b'a', b'a', 3),
+            Node::Either(2, 4),
+            Node::Match(2),
+        ],
+        Shape::AOrB => &[
+            Node::Either(2, 1),
+            Node::Range(0, 255, 0),
+            Node::Either(3, 5),
+            Node::Range(b'a', b'a', 4),
+            Node::Match(3),
+            Node::Range(b'b', b'b', 6),
+            Node::Match(5),
+        ],
+        Shape::Word => &[
+            Node::Either(2, 1),
+            Node::Range(0, 255, 0),
+            Node::Either(3, 7),
+            Node::Range(b'a', b'a', 4),
+            Node::Range(0xCE, 0xCE, 5),
+            Node::Range(0xB2, 0xB2, 6),
+            Node::Range(b'b', b'b', 8),
+            Node::Look(Look::WordAsciiNegate, 8),
+            Node::Match(2),
+        ],
+        Shape::WordBack => &[
+            Node::Either(2, 1),
+            Node::Range(0, 255, 0),
+            Node::Either(3, 7),
+            Node::Range(b'b', b'b', 4),
+            Node::Range(0xB2, 0xB2, 5),
+            Node::Range(0xCE, 0xCE, 6),
+            Node::Range(b'a', b'a', 8),
+            Node::Look(Look::WordAsciiNegate, 8),
+            Node::Match(2),
+        ],
+        _ => &[Node::Either(2, 1), Node::Range(0, 255, 0), Node::Match(2)],
+    }
+}
+
+/// The state where anchored searches start; others start in the state 0.
+fn start_of(shape: Shape) -> u8 {
+    match shape {
+        Shape::FirstA | Shape::FirstB => 0,
+        _ => 2,
+    }
+}
+
+fn add_match(builder: &mut Builder, start: u8) -> Result<(), NfaError> {
+    if builder.in_pattern() {
+        return Err(NfaError::TooManyPatterns);
+    }
+    builder.start_pattern()?;
+    builder.add_match()?;
+    builder.finish_pattern(StateID::from(start))?;
+    Ok(())
+}
+
+fn add_either(
+    alloc: Global,
+    builder: &mut Builder,
+    first: u8,
+    second: u8,
+) -> Result<StateID, NfaError> {
+    let ways = vec![in alloc; StateID::from(first), StateID::from(second)]?;
+    builder.add_union(ways)
+}
+
+/// Adds a state.
+fn add(alloc: Global, builder: &mut Builder, node: Node) -> Result<(), NfaError> {
+    match node {
+        Node::Match(start) => return add_match(builder, start),
+        Node::Range(start, end, next) => {
+            if start > end {
+                return Err(NfaError::TooManyStates);
+            }
+            let next = StateID::from(next);
+            builder.add_range(Transition { start, end, next })?
+        }
+        Node::Look(look, next) => builder.add_look(StateID::from(next), look)?,
+        Node::Either(first, second) => add_either(alloc, builder, first, second)?,
+    };
+    Ok(())
 }
 
 /// Builds, and counts the moves.
@@ -49,81 +224,44 @@ fn build_counted<L: Ledger>(
     builder.build(anchored, unanchored, &mut steps)
 }
 
-/// The automaton that starts so; the builder says whether it can be built.
-fn built(builder: &Builder, form: Form) -> Result<NFA, NfaError> {
-    let anchored = StateID::from(form.anchored);
-    let unanchored = StateID::from(form.unanchored);
+/// The automaton where anchored searches start so; the builder says whether it can be built.
+fn built(builder: &Builder, start: u8) -> Result<NFA, NfaError> {
+    let anchored = StateID::from(start);
+    let unanchored = StateID::from(0u8);
     if !builder.can_build(anchored, unanchored) {
         return Err(NfaError::TooManyStates);
     }
     build_counted::<Brand>(builder, anchored, unanchored, Blank::new(1))
 }
 
-/// From the bytes of a range to a state.
-fn range(start: u8, end: u8, next: u8) -> Transition
-    ensures first { result.start ≡ start }
-    ensures last { result.end ≡ end }
-{
-    Transition {
-        start,
-        end,
-        next: StateID::from(next),
-    }
-}
-
-fn add_match(builder: &mut Builder, start: u8) -> Result<(), NfaError> {
-    if builder.in_pattern() {
-        return Err(NfaError::TooManyPatterns);
-    }
-    builder.start_pattern()?;
-    builder.add_match()?;
-    builder.finish_pattern(StateID::from(start))?;
-    Ok(())
-}
-
-fn add_range(builder: &mut Builder, start: u8, end: u8, next: u8) -> Result<(), NfaError> {
-    if start > end {
-        return Err(NfaError::TooManyStates);
-    }
-    builder.add_range(range(start, end, next))?;
-    Ok(())
-}
-
-fn add_either(alloc: Global, builder: &mut Builder, first: u8, second: u8) -> Result<(), NfaError> {
-    let ways = vec![in alloc; StateID::from(first), StateID::from(second)]?;
-    builder.add_union(ways)?;
-    Ok(())
-}
-
-fn add_look(builder: &mut Builder, look: Look, next: u8) -> Result<(), NfaError> {
-    builder.add_look(StateID::from(next), look)?;
-    Ok(())
-}
-
-/// Adds a state.
-fn add(alloc: Global, builder: &mut Builder, node: Node) -> Result<(), NfaError> {
-    match node {
-        Node::Match(start) => add_match(builder, start),
-        Node::Range(start, end, next) => add_range(builder, start, end, next),
-        Node::Look(look, next) => add_look(builder, look, next),
-        Node::Either(first, second) => add_either(alloc, builder, first, second),
-    }
-}
-
-/// The automaton of these states.
-fn nfa_of(alloc: Global, nodes: &[Node], form: Form, reverse: bool) -> Result<NFA, NfaError> {
+fn nfa_of(alloc: Global, shape: Shape, reverse: bool) -> Result<NFA, NfaError> {
     let mut builder = Builder::new(alloc);
-    builder.set_utf8(form.utf8);
+    builder.set_utf8(matches!(shape, Shape::Word | Shape::WordBack | Shape::Nothing));
     builder.set_reverse(reverse);
-    for node in nodes {
-        add(alloc, &mut builder, *node)?;
+    for node in nodes_of(shape) {
+        if let Err(e) = add(alloc, &mut builder, *node) {
+            give_up(builder);
+            return Err(e);
+        }
     }
-    built(&builder, form)
+    let nfa = built(&builder, start_of(shape));
+    give_up(builder);
+    nfa
 }
 
 /// The regex of two NFAs, the first forward and the second in reverse.
-fn joined(forward: NFA, reverse: NFA, config: Config) -> Result<Regex, BuildError> {
+fn pair(alloc: Global, forth: Shape, back: Shape, config: Config) -> Result<Regex, BuildError> {
+    let forward = nfa_of(alloc, forth, false)?;
+    let reverse = match nfa_of(alloc, back, true) {
+        Ok(reverse) => reverse,
+        Err(e) => {
+            give_up(forward);
+            return Err(BuildError::from(e));
+        }
+    };
     if forward.is_reverse() || !reverse.is_reverse() {
+        give_up(forward);
+        give_up(reverse);
         return Err(BuildError::Unsupported);
     }
     let mut builder = Regex::builder();
@@ -131,136 +269,55 @@ fn joined(forward: NFA, reverse: NFA, config: Config) -> Result<Regex, BuildErro
     builder.build_from_nfas(forward, reverse)
 }
 
-/// The regex of these states forward and those in reverse.
-pub(crate) fn pair(
-    alloc: Global,
-    forward: &[Node],
-    reverse: &[Node],
-    form: Form,
-    config: Config,
-) -> Result<Regex, BuildError> {
-    let forward = nfa_of(alloc, forward, form, false)?;
-    let reverse = nfa_of(alloc, reverse, form, true)?;
-    joined(forward, reverse, config)
-}
-
-/// The automaton of an NFA.
-fn dfa_of(nfa: NFA, config: Config) -> Result<DFA, BuildError> {
+/// The lazy automaton of an NFA.
+fn half(alloc: Global, shape: Shape, reverse: bool, config: Config) -> Result<DFA, BuildError> {
+    let nfa = nfa_of(alloc, shape, reverse)?;
     let mut builder = DFA::builder();
     builder.configure(config);
     builder.build_from_nfa(nfa)
 }
 
-/// The regex of two automata as they are, the first forward and the second in reverse.
-fn joined_as_they_are(forward: DFA, reverse: DFA) -> Option<Regex> {
+/// The regex of two lazy automata as they are, of which the one in reverse alone has options.
+fn each(alloc: Global, forth: Shape, back: Shape, starts: Config) -> Result<Regex, BuildError> {
+    let forward = half(alloc, forth, false, Config::new())?;
+    let reverse = match half(alloc, back, true, starts.match_kind(MatchKind::All)) {
+        Ok(reverse) => reverse,
+        Err(e) => {
+            give_up(forward);
+            return Err(e);
+        }
+    };
     if forward.get_nfa().is_reverse() || !reverse.get_nfa().is_reverse() {
-        return None;
+        give_up(forward);
+        give_up(reverse);
+        return Err(BuildError::Unsupported);
     }
-    Some(Regex::builder().build_from_dfas(forward, reverse))
+    Ok(Regex::builder().build_from_dfas(forward, reverse))
 }
 
-/// The regex of these states forward and in reverse, each automaton with options of its own.
-pub(crate) fn each(
+/// What is set.
+fn config_of(options: Options) -> Config {
+    let plain = Config::new();
+    match options {
+        Options::Plain => plain,
+        Options::Quits(byte) => plain.quit(byte, true),
+        Options::Starts => plain.starts_for_each_pattern(true),
+        Options::Capacity(bytes) => plain.cache_capacity(bytes),
+        Options::BackQuits => plain.quit(b'b', true),
+        _ => plain.cache_capacity(494).minimum_cache_clear_count(Some(0)),
+    }
+}
+
+/// The regex of an automaton forward and one in reverse.
+pub(crate) fn made(
     alloc: Global,
-    nodes: &[Node],
-    ends: Config,
-    starts: Config,
-) -> Result<Option<Regex>, BuildError> {
-    let forward = dfa_of(nfa_of(alloc, nodes, any_place(), false)?, ends)?;
-    let reverse = dfa_of(nfa_of(alloc, nodes, any_place(), true)?, starts)?;
-    Ok(joined_as_they_are(forward, reverse))
-}
-
-/// What starts in the state 2 is found at any place, by the states 0 and 1; by bytes.
-pub(crate) fn any_place() -> Form {
-    Form {
-        anchored: 2,
-        unanchored: 0,
-        utf8: false,
+    forth: Shape,
+    back: Shape,
+    options: Options,
+) -> Result<Regex, BuildError> {
+    let config = config_of(options);
+    match options {
+        Options::BackQuits | Options::BackNever => each(alloc, forth, back, config),
+        _ => pair(alloc, forth, back, config),
     }
-}
-
-/// The same by characters.
-pub(crate) fn by_characters() -> Form {
-    Form {
-        anchored: 2,
-        unanchored: 0,
-        utf8: true,
-    }
-}
-
-/// The first state starts at any place what the state 2 starts, the first place preferred.
-pub(crate) fn choice() -> Node {
-    Node::Either(2, 1)
-}
-
-/// Any byte, and back to the choice.
-pub(crate) fn any() -> Node {
-    Node::Range(0, 255, 0)
-}
-
-/// One letter.
-pub(crate) fn letter(byte: u8) -> [Node; 4] {
-    [choice(), any(), Node::Range(byte, byte, 3), Node::Match(2)]
-}
-
-/// `a` any number of times, the most preferred.
-pub(crate) fn many() -> [Node; 5] {
-    [
-        choice(),
-        any(),
-        Node::Either(3, 4),
-        Node::Range(b'a', b'a', 2),
-        Node::Match(2),
-    ]
-}
-
-/// `a` once or more, the most preferred.
-pub(crate) fn some() -> [Node; 5] {
-    [
-        choice(),
-        any(),
-        Node::Range(b'a', b'a', 3),
-        Node::Either(2, 4),
-        Node::Match(2),
-    ]
-}
-
-/// Two letters in this order.
-pub(crate) fn two(first: u8, second: u8) -> [Node; 5] {
-    [
-        choice(),
-        any(),
-        Node::Range(first, first, 3),
-        Node::Range(second, second, 4),
-        Node::Match(2),
-    ]
-}
-
-/// The patterns `a` and `b`.
-pub(crate) fn patterns() -> [Node; 7] {
-    [
-        choice(),
-        any(),
-        Node::Either(3, 5),
-        Node::Range(b'a', b'a', 4),
-        Node::Match(3),
-        Node::Range(b'b', b'b', 6),
-        Node::Match(5),
-    ]
-}
-
-/// These four bytes in their order, or no bound of a word.
-pub(crate) fn four_or_none(one: u8, two: u8, three: u8, four: u8) -> [Node; 9] {
-    [
-        choice(),
-        any(),
-        Node::Either(3, 7),
-        Node::Range(one, one, 4),
-        Node::Range(two, two, 5),
-        Node::Range(three, three, 6),
-        Node::Range(four, four, 8),
-        Node::Look(Look::WordAsciiNegate, 8),
-        Node::Match(2),
-    ]
 }

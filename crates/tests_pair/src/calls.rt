@@ -1,7 +1,6 @@
 //! Calls over a machine, one after the other, each with what it should answer.
-use crate::machine::Machine;
-use lazy_dfa::BuildError;
-use regex_pair::regex::Regex;
+use crate::automata::{Options, Shape, made};
+use crate::machine::{Machine, Question};
 use search_core::PatternID;
 use search_types::{Anchored, Input, Match, MatchError, MatchErrorKind, Span};
 use std::alloc::Global;
@@ -9,39 +8,58 @@ use std::alloc::Global;
 /// A call, with what it should answer.
 #[derive(Clone, Copy)]
 pub(crate) enum Call {
-    /// The search over these bytes in this span and mode finds this, by either name.
+    /// The search finds this, by either name.
     Search(Over, Found),
-    /// The one for the earliest end does.
-    Earliest(Over, Found),
-    /// The iterator over the matches gives this, one by one, and then nothing for good; and so does the one for earliest ends.
-    Each(Over, Items),
-    EarliestEach(Over, Items),
-    /// There is a match, or none, whether the earliest end is asked for or not.
-    IsMatch(Over, bool),
-    /// That is refused.
-    NoAnswer(Over, MatchErrorKind),
-    /// The caches are made anew.
+    /// It is told so whether there is a match, whether the earliest end is asked for or not.
+    IsMatch(Over, Found),
+    /// The iterator over the matches gives this, one by one, and then nothing for good.
+    Each(Over, Found, Found, Found),
+    /// The caches are made anew, and so they are for another regex.
     Reset,
+    HandTo(Shape, Shape),
     /// So many bytes are needed by each cache, and their sum by both.
     Usage(usize, usize),
 }
 
-/// What an iterator gives, before nothing for good.
+/// An automaton forward and one in reverse, how both are made, and calls over their regex.
+pub(crate) type Case = (Shape, Shape, Options, &'static [Call]);
+
+/// A haystack, where its part starts and ends that is searched, and in which mode.
 #[derive(Clone, Copy)]
-pub(crate) enum Items {
-    Nothing,
-    One(Found),
-    Two(Found, Found),
-    Three(Found, Found, Found),
+pub(crate) struct Over(
+    pub(crate) Text,
+    pub(crate) usize,
+    pub(crate) usize,
+    pub(crate) Mode,
+);
+
+/// The mode of a search.
+#[derive(Clone, Copy)]
+pub(crate) enum Mode {
+    No,
+    Yes,
+    /// For the pattern with this number alone.
+    Only(u8),
+    /// Not anchored, for the earliest end.
+    Earliest,
 }
 
-/// What a search finds.
-#[derive(Clone, Copy)]
+/// What is found.
+#[derive(Clone, Copy, PartialEq, Eq)]
 pub(crate) enum Found {
     /// The pattern, the start and the end.
     At(usize, usize, usize),
+    /// A match of which no more is told.
+    Any,
     Nothing,
-    Refused(MatchErrorKind),
+    /// It gave up at this byte, at this place; and at this place for its cache.
+    Quit(u8, usize),
+    GaveUp(usize),
+    /// There are no starts for the pattern with this number alone.
+    NoStarts(usize),
+    NotAPair,
+    /// Another refusal.
+    Refused,
 }
 
 /// A haystack.
@@ -74,44 +92,8 @@ pub(crate) enum Text {
     Empty,
 }
 
-/// A search.
-#[derive(Clone, Copy)]
-pub(crate) struct Over {
-    pub(crate) haystack: Text,
-    pub(crate) start: usize,
-    pub(crate) end: usize,
-    pub(crate) mode: Anchored,
-}
-
-/// A search over the span.
-pub(crate) fn in_mode(haystack: Text, start: usize, end: usize, mode: Anchored) -> Over {
-    Over {
-        haystack,
-        start,
-        end,
-        mode,
-    }
-}
-
-/// An unanchored one.
-pub(crate) fn on(haystack: Text, start: usize, end: usize) -> Over {
-    in_mode(haystack, start, end, Anchored::No)
-}
-
-/// The mode of searches for the pattern with this number.
-pub(crate) fn only(pattern: u8) -> Anchored {
-    Anchored::Pattern(PatternID::from(pattern))
-}
-
-/// A match of the pattern 0.
-pub(crate) fn at(start: usize, end: usize) -> Found {
-    Found::At(0, start, end)
-}
-
-/// The refusal at this byte, at this place.
-pub(crate) fn quit(byte: u8, offset: usize) -> MatchErrorKind {
-    MatchErrorKind::Quit { byte, offset }
-}
+/// Drops a value. Where it has many parts, a call is cheaper to prove than the drop of each of them.
+pub(crate) fn give_up<T: Drop>(_value: T) {}
 
 /// The bytes of a haystack.
 fn bytes_of(text: Text) -> &'static [u8] {
@@ -121,9 +103,12 @@ fn bytes_of(text: Text) -> &'static [u8] {
         Text::Aab => b"aab",
         Text::Ab => b"ab",
         Text::Abcd => b"abcd",
+        Text::Abcz => b"abcz",
         Text::Abd => b"abd",
         Text::Ba => b"ba",
         Text::Baab => b"baab",
+        Text::Dab => b"dab",
+        Text::Xa => b"xa",
         _ => more_bytes_of(text),
     }
 }
@@ -131,22 +116,12 @@ fn bytes_of(text: Text) -> &'static [u8] {
 /// The bytes of the others.
 fn more_bytes_of(text: Text) -> &'static [u8] {
     match text {
-        Text::Dab => b"dab",
-        Text::Xa => b"xa",
         Text::Xaa => b"xaa",
         Text::Xab => b"xab",
         Text::Xba => b"xba",
         Text::Xx => b"xx",
         Text::Beta => b"\xCE\xB2",
         Text::BetaWithin => b"a\xCE\xB2b",
-        _ => alike_bytes_of(text),
-    }
-}
-
-/// The bytes of those of which two are searched alike.
-fn alike_bytes_of(text: Text) -> &'static [u8] {
-    match text {
-        Text::Abcz => b"abcz",
         Text::WithinD => b"dxabcd",
         Text::WithinZ => b"zxabcz",
         Text::LetterDigit => b"a1",
@@ -156,163 +131,123 @@ fn alike_bytes_of(text: Text) -> &'static [u8] {
 }
 
 /// The input that a call asks for, if its span fits the haystack.
-fn input_of(over: Over, earliest: bool) -> Option<Input<'static>> {
-    let input = Input::new(bytes_of(over.haystack)).anchored(over.mode);
-    let span = Span {
-        start: over.start,
-        end: over.end,
-    };
+fn input_of(over: Over) -> Option<Input<'static>> {
+    let Over(haystack, start, end, mode) = over;
+    let span = Span { start, end };
+    let input = Input::new(bytes_of(haystack)).earliest(matches!(mode, Mode::Earliest));
     if !input.fits(span) {
         return None;
     }
-    Some(input.span(span).earliest(earliest))
+    let anchored = match mode {
+        Mode::No | Mode::Earliest => Anchored::No,
+        Mode::Yes => Anchored::Yes,
+        Mode::Only(pattern) => Anchored::Pattern(PatternID::from(pattern)),
+    };
+    Some(input.span(span).anchored(anchored))
 }
 
-/// Whether a match is this one.
-fn is_at(found: Match, wanted: Found) -> bool {
-    match wanted {
-        Found::At(pattern, start, end) => {
-            found.pattern().as_usize() == pattern && found.start() == start && found.end() == end
-        }
-        _ => false,
+fn refusal_of(e: &MatchError) -> Found {
+    match e.kind() {
+        MatchErrorKind::Quit { byte, offset } => Found::Quit(*byte, *offset),
+        MatchErrorKind::GaveUp { offset } => Found::GaveUp(*offset),
+        MatchErrorKind::UnsupportedAnchored {
+            mode: Anchored::Pattern(pattern),
+        } => Found::NoStarts(pattern.as_usize()),
+        MatchErrorKind::NotAPair => Found::NotAPair,
+        _ => Found::Refused,
     }
 }
 
-/// Whether a refusal is this one.
-fn is_refusal(kind: MatchErrorKind, wanted: Found) -> bool {
-    match wanted {
-        Found::Refused(refusal) => kind == refusal,
-        _ => false,
+/// What a search finds.
+pub(crate) fn found_of(answer: Result<Option<Match>, MatchError>) -> Found {
+    match answer {
+        Ok(Some(found)) => { Found::At(found.pattern().as_usize(), found.start(), found.end()) }
+        Ok(None) => Found::Nothing,
+        Err(e) => refusal_of(&e),
     }
 }
 
-/// Whether a search finds this.
-fn finds(machine: &mut Machine, over: Over, earliest: bool, name: bool, wanted: Found) -> bool {
-    let Some(input) = input_of(over, earliest) else {
+/// What is found where it is told whether there is a match.
+pub(crate) fn told_of(answer: Result<bool, MatchError>) -> Found {
+    match answer {
+        Ok(true) => Found::Any,
+        Ok(false) => Found::Nothing,
+        Err(e) => refusal_of(&e),
+    }
+}
+
+/// Whether a question, and then a second one, find this. Whether there is a match is asked for the earliest end then.
+fn finds(
+    machine: &mut Machine,
+    over: Over,
+    first: Question,
+    second: Question,
+    wanted: Found,
+) -> bool {
+    let Some(mut input) = input_of(over) else {
         return false;
     };
-    match machine.search(&input, name) {
-        Ok(Some(found)) => is_at(found, wanted),
-        Ok(None) => matches!(wanted, Found::Nothing),
-        Err(e) => is_refusal(*e.kind(), wanted),
+    if machine.ask(&input, first) != wanted {
+        return false;
     }
-}
-
-/// Whether an item of an iterator is this.
-pub(crate) fn is_item(item: Option<Result<Match, MatchError>>, wanted: Found) -> bool {
-    match item {
-        Some(Ok(found)) => is_at(found, wanted),
-        Some(Err(e)) => is_refusal(*e.kind(), wanted),
-        None => matches!(wanted, Found::Nothing),
+    if matches!(second, Question::IsMatch) {
+        input.set_earliest(true);
     }
-}
-
-/// The item behind so many others.
-fn item(items: &Items, before: usize) -> Found {
-    match *items {
-        Items::Nothing => Found::Nothing,
-        Items::One(first) => item_of_three(first, Found::Nothing, Found::Nothing, before),
-        Items::Two(first, second) => item_of_three(first, second, Found::Nothing, before),
-        Items::Three(first, second, third) => item_of_three(first, second, third, before),
-    }
-}
-
-/// Behind three there is none.
-fn item_of_three(first: Found, second: Found, third: Found, before: usize) -> Found {
-    match before {
-        0 => first,
-        1 => second,
-        2 => third,
-        _ => Found::Nothing,
-    }
+    machine.ask(&input, second) == wanted
 }
 
 /// Whether an iterator gives this.
-fn gives(machine: &mut Machine, over: Over, earliest: bool, items: &Items) -> bool {
-    let Some(input) = input_of(over, earliest) else {
-        return false;
-    };
-    let wanted = [
-        item(items, 0),
-        item(items, 1),
-        item(items, 2),
-        item(items, 3),
-        item(items, 4),
-    ];
-    machine.gives(input, &wanted)
-}
-
-/// Whether it is told so that there is a match.
-fn tells(machine: &mut Machine, over: Over, earliest: bool, wanted: bool) -> bool {
-    let Some(input) = input_of(over, earliest) else {
-        return false;
-    };
-    match machine.is_match(&input) {
-        Ok(is_match) => is_match == wanted,
-        Err(_) => false,
+fn gives(machine: &mut Machine, over: Over, wanted: &[Found]) -> bool {
+    match input_of(over) {
+        Some(input) => machine.gives(input, wanted),
+        None => false,
     }
-}
-
-/// Whether that is refused so.
-fn is_refused(machine: &mut Machine, over: Over, wanted: MatchErrorKind) -> bool {
-    let Some(input) = input_of(over, false) else {
-        return false;
-    };
-    match machine.is_match(&input) {
-        Ok(_) => false,
-        Err(e) => *e.kind() == wanted,
-    }
-}
-
-/// Whether the caches need so many bytes.
-fn needs(machine: &Machine, forward: usize, reverse: usize) -> bool {
-    let (ends, starts, both) = machine.usage();
-    ends == forward && starts == reverse && both == forward.saturating_add(reverse)
 }
 
 /// Whether a call answers what it should.
-fn is_answered(machine: &mut Machine, call: &Call) -> bool {
+fn is_answered(alloc: Global, machine: &mut Machine, call: &Call) -> bool {
     match *call {
-        Call::Search(over, wanted) => finds(machine, over, false, false, wanted),
-        Call::Earliest(over, wanted) => finds(machine, over, true, false, wanted),
-        Call::Each(over, wanted) => gives(machine, over, false, &wanted),
-        Call::EarliestEach(over, wanted) => gives(machine, over, true, &wanted),
-        Call::IsMatch(over, wanted) => tells(machine, over, false, wanted),
-        Call::NoAnswer(over, wanted) => is_refused(machine, over, wanted),
+        Call::Search(over, wanted) => {
+            finds(machine, over, Question::Search, Question::Find, wanted)
+        }
+        Call::IsMatch(over, wanted) => {
+            finds(machine, over, Question::IsMatch, Question::IsMatch, wanted)
+        }
+        Call::Each(over, first, second, third) => gives(
+            machine,
+            over,
+            &[first, second, third, Found::Nothing, Found::Nothing],
+        ),
         Call::Reset => machine.reset().is_ok(),
-        Call::Usage(forward, reverse) => needs(machine, forward, reverse),
-    }
-}
-
-/// Whether a search does by its other name too, and for the earliest end; true of the other calls.
-fn is_answered_again(machine: &mut Machine, call: &Call) -> bool {
-    match *call {
-        Call::Search(over, wanted) => finds(machine, over, false, true, wanted),
-        Call::IsMatch(over, wanted) => tells(machine, over, true, wanted),
-        _ => true,
+        Call::HandTo(forth, back) => machine.hand_to(alloc, forth, back).is_ok(),
+        Call::Usage(ends, starts) => {
+            machine.usage() == (ends, starts, ends.saturating_add(starts))
+        }
     }
 }
 
 /// Whether each of the calls answers what it should.
-pub(crate) fn are_answered(machine: &mut Machine, calls: &[Call]) -> bool {
+fn are_answered(alloc: Global, machine: &mut Machine, calls: &[Call]) -> bool {
     for call in calls {
-        if !is_answered(machine, call) {
-            return false;
-        }
-        if !is_answered_again(machine, call) {
+        if !is_answered(alloc, machine, call) {
             return false;
         }
     }
     true
 }
 
-/// Whether each of them does over fresh caches of a regex.
-pub(crate) fn answers(alloc: Global, re: Result<Regex, BuildError>, calls: &[Call]) -> bool {
-    let Ok(re) = re else {
-        return false;
-    };
-    match Machine::new(alloc, re) {
-        Ok(mut machine) => are_answered(&mut machine, calls),
-        Err(_) => false,
+/// Whether each of them does over fresh caches of a case's regex.
+pub(crate) fn answers(alloc: Global, case: &Case) -> bool {
+    let (forth, back, options, calls) = *case;
+    match Machine::new(alloc, forth, back, options) {
+        Ok(mut machine) => {
+            let answers = are_answered(alloc, &mut machine, calls);
+            give_up(machine);
+            answers
+        }
+        Err(e) => {
+            give_up(e);
+            false
+        }
     }
 }

@@ -1,186 +1,151 @@
 //! What searches over two automata find.
-use crate::automata::{
-    Form, Node, any, any_place, by_characters, choice, four_or_none, letter, many, pair, patterns,
-    some, two,
-};
-use crate::calls::{Call, Found, Text, answers, at, in_mode, on, only};
-use lazy_dfa::dfa::Config;
-use search_types::Anchored;
-use std::test::Fail;
+use crate::automata::Options::{Plain, Starts};
+use crate::automata::Shape;
+use crate::calls::Call::{IsMatch, Search, Usage};
+use crate::calls::Found::{Any, At, Nothing};
+use crate::calls::Mode::{Earliest, No, Only, Yes};
+use crate::calls::Text::{Aa, Aab, Ab, Ba, Baab, Beta, BetaWithin, Xa, Xaa, Xab, Xba, Xx};
+use crate::calls::{Case, Over, answers};
 
-/// Of `a`: the first one in the span, or none.
-fn of_letter() -> [Call; 7] {
-    [
-        Call::Search(on(Text::Aa, 0, 2), at(0, 1)),
-        Call::Search(on(Text::Xaa, 0, 3), at(1, 2)),
-        Call::Search(on(Text::Xaa, 2, 3), at(2, 3)),
-        Call::Search(on(Text::Xx, 0, 2), Found::Nothing),
-        Call::Search(on(Text::Ab, 2, 1), Found::Nothing),
-        Call::Search(in_mode(Text::Aa, 0, 2, Anchored::Yes), at(0, 1)),
-        Call::Search(in_mode(Text::Xa, 0, 2, Anchored::Yes), Found::Nothing),
-    ]
-}
-
-/// Of any number of `a`: an empty match too.
-fn of_many() -> [Call; 4] {
-    [
-        Call::Search(on(Text::Baab, 0, 4), at(0, 0)),
-        Call::Search(on(Text::Baab, 1, 4), at(1, 3)),
-        Call::Search(on(Text::Baab, 2, 4), at(2, 3)),
-        Call::Search(on(Text::Baab, 3, 4), at(3, 3)),
-    ]
-}
-
-/// Of `a` once or more: the least start of a match with the end that is found, which may be the earliest one.
-fn of_some() -> [Call; 5] {
-    [
-        Call::Search(on(Text::Xaa, 0, 3), at(1, 3)),
-        Call::Earliest(on(Text::Xaa, 0, 3), at(1, 2)),
-        Call::Search(on(Text::Aab, 0, 3), at(0, 2)),
-        Call::Earliest(on(Text::Aab, 0, 3), at(0, 1)),
-        Call::Search(on(Text::Aab, 1, 2), at(1, 2)),
-    ]
-}
-
-/// Of `ab`.
-fn of_two() -> [Call; 3] {
-    [
-        Call::Search(on(Text::Xab, 0, 3), at(1, 3)),
-        Call::Search(on(Text::Aab, 0, 3), at(1, 3)),
-        Call::Search(on(Text::Aab, 0, 2), Found::Nothing),
-    ]
-}
-
+/// Of `a` the first one in the span, or none; of any number of `a` an empty match too; and of `a` once or more the least start
+/// of a match with the end that is found, which may be the earliest one.
 #[test]
-fn matches(rt: HostRuntime) -> Result<(), Fail> {
-    let alloc = rt.alloc();
-    let plain = Config::new();
-    let form = any_place();
-    let a = letter(b'a');
-    let forth = two(b'a', b'b');
-    let back = two(b'b', b'a');
-    assert!(rt; answers(alloc, pair(alloc, &a, &a, form, plain), &of_letter()));
-    assert!(rt;
-        answers(
-            alloc,
-            pair(alloc, &many(), &many(), form, plain),
-            &of_many()
-        )
-    );
-    assert!(rt;
-        answers(
-            alloc,
-            pair(alloc, &some(), &some(), form, plain),
-            &of_some()
-        )
-    );
-    assert!(rt; answers(alloc, pair(alloc, &forth, &back, form, plain), &of_two()));
-    Ok(())
+fn matches_of_one_letter(rt: HostRuntime) {
+    let cases: &[Case] = &[
+        (
+            Shape::A,
+            Shape::A,
+            Plain,
+            &[
+                Search(Over(Aa, 0, 2, No), At(0, 0, 1)),
+                Search(Over(Xaa, 0, 3, No), At(0, 1, 2)),
+                Search(Over(Xaa, 2, 3, No), At(0, 2, 3)),
+                Search(Over(Xx, 0, 2, No), Nothing),
+                Search(Over(Ab, 2, 1, No), Nothing),
+                Search(Over(Aa, 0, 2, Yes), At(0, 0, 1)),
+                Search(Over(Xa, 0, 2, Yes), Nothing),
+            ],
+        ),
+        (
+            Shape::Many,
+            Shape::Many,
+            Plain,
+            &[
+                Search(Over(Baab, 0, 4, No), At(0, 0, 0)),
+                Search(Over(Baab, 1, 4, No), At(0, 1, 3)),
+                Search(Over(Baab, 2, 4, No), At(0, 2, 3)),
+                Search(Over(Baab, 3, 4, No), At(0, 3, 3)),
+            ],
+        ),
+        (
+            Shape::Several,
+            Shape::Several,
+            Plain,
+            &[
+                Search(Over(Xaa, 0, 3, No), At(0, 1, 3)),
+                Search(Over(Xaa, 0, 3, Earliest), At(0, 1, 2)),
+                Search(Over(Aab, 0, 3, No), At(0, 0, 2)),
+                Search(Over(Aab, 0, 3, Earliest), At(0, 0, 1)),
+                Search(Over(Aab, 1, 2, No), At(0, 1, 2)),
+            ],
+        ),
+    ];
+    for case in cases {
+        assert!(rt; answers(rt.alloc(), case));
+    }
 }
 
-/// Of the patterns `a` and `b`.
-fn of_either() -> [Call; 3] {
-    [
-        Call::Search(on(Text::Ab, 0, 2), at(0, 1)),
-        Call::Search(on(Text::Xba, 0, 3), Found::At(1, 1, 2)),
-        Call::Search(in_mode(Text::Ba, 0, 2, Anchored::Yes), Found::At(1, 0, 1)),
-    ]
-}
-
-/// With starts for each; one that there isn't is never found.
-fn of_one() -> [Call; 4] {
-    [
-        Call::Search(in_mode(Text::Ba, 0, 2, only(1)), Found::At(1, 0, 1)),
-        Call::Search(in_mode(Text::Ab, 0, 2, only(1)), Found::Nothing),
-        Call::Search(in_mode(Text::Ab, 1, 2, only(1)), Found::At(1, 1, 2)),
-        Call::Search(in_mode(Text::Ab, 0, 2, only(7)), Found::Nothing),
-    ]
-}
-
+/// Of `ab`; and of the patterns `a` and `b`, also with starts for each: one that there isn't is never found.
 #[test]
-fn patterns_of_a_letter(rt: HostRuntime) -> Result<(), Fail> {
-    let alloc = rt.alloc();
-    let plain = Config::new();
-    let each = plain.starts_for_each_pattern(true);
-    let form = any_place();
-    let all = patterns();
-    assert!(rt; answers(alloc, pair(alloc, &all, &all, form, plain), &of_either()));
-    assert!(rt; answers(alloc, pair(alloc, &all, &all, form, each), &of_one()));
-    Ok(())
+fn matches_of_two_letters(rt: HostRuntime) {
+    let cases: &[Case] = &[
+        (
+            Shape::AThenB,
+            Shape::BThenA,
+            Plain,
+            &[
+                Search(Over(Xab, 0, 3, No), At(0, 1, 3)),
+                Search(Over(Aab, 0, 3, No), At(0, 1, 3)),
+                Search(Over(Aab, 0, 2, No), Nothing),
+            ],
+        ),
+        (
+            Shape::AOrB,
+            Shape::AOrB,
+            Plain,
+            &[
+                Search(Over(Ab, 0, 2, No), At(0, 0, 1)),
+                Search(Over(Xba, 0, 3, No), At(1, 1, 2)),
+                Search(Over(Ba, 0, 2, Yes), At(1, 0, 1)),
+            ],
+        ),
+        (
+            Shape::AOrB,
+            Shape::AOrB,
+            Starts,
+            &[
+                Search(Over(Ba, 0, 2, Only(1)), At(1, 0, 1)),
+                Search(Over(Ab, 0, 2, Only(1)), Nothing),
+                Search(Over(Ab, 1, 2, Only(1)), At(1, 1, 2)),
+                Search(Over(Ab, 0, 2, Only(7)), Nothing),
+            ],
+        ),
+    ];
+    for case in cases {
+        assert!(rt; answers(rt.alloc(), case));
+    }
 }
 
 /// Of "aβb" or no bound of a word: the earliest end splits the character, but the preferred one doesn't. Where there is no
-/// other, there is no match.
-fn of_four_or_none() -> [Call; 6] {
-    [
-        Call::Search(on(Text::BetaWithin, 0, 4), at(0, 4)),
-        Call::IsMatch(on(Text::BetaWithin, 0, 4), true),
-        Call::Search(on(Text::BetaWithin, 2, 4), Found::Nothing),
-        Call::IsMatch(on(Text::BetaWithin, 2, 4), false),
-        Call::Search(on(Text::Xx, 0, 2), at(1, 1)),
-        Call::IsMatch(on(Text::Xx, 0, 2), true),
-    ]
-}
-
-/// Of the empty pattern.
-fn of_nothing() -> [Call; 4] {
-    [
-        Call::Search(on(Text::Beta, 0, 2), at(0, 0)),
-        Call::Search(on(Text::Beta, 1, 2), at(2, 2)),
-        Call::Search(on(Text::Beta, 1, 1), Found::Nothing),
-        Call::IsMatch(on(Text::Beta, 1, 1), false),
-    ]
-}
-
+/// other, there is no match. And of the empty pattern.
 #[test]
-fn characters(rt: HostRuntime) -> Result<(), Fail> {
-    let alloc = rt.alloc();
-    let plain = Config::new();
-    let form = by_characters();
-    let forth = four_or_none(b'a', 0xCE, 0xB2, b'b');
-    let back = four_or_none(b'b', 0xB2, 0xCE, b'a');
-    let empty = [choice(), any(), Node::Match(2)];
-    assert!(rt;
-        answers(
-            alloc,
-            pair(alloc, &forth, &back, form, plain),
-            &of_four_or_none()
-        )
-    );
-    assert!(rt;
-        answers(
-            alloc,
-            pair(alloc, &empty, &empty, form, plain),
-            &of_nothing()
-        )
-    );
-    Ok(())
+fn characters(rt: HostRuntime) {
+    let cases: &[Case] = &[
+        (
+            Shape::Word,
+            Shape::WordBack,
+            Plain,
+            &[
+                Search(Over(BetaWithin, 0, 4, No), At(0, 0, 4)),
+                IsMatch(Over(BetaWithin, 0, 4, No), Any),
+                Search(Over(BetaWithin, 2, 4, No), Nothing),
+                IsMatch(Over(BetaWithin, 2, 4, No), Nothing),
+                Search(Over(Xx, 0, 2, No), At(0, 1, 1)),
+                IsMatch(Over(Xx, 0, 2, No), Any),
+            ],
+        ),
+        (
+            Shape::Nothing,
+            Shape::Nothing,
+            Plain,
+            &[
+                Search(Over(Beta, 0, 2, No), At(0, 0, 0)),
+                Search(Over(Beta, 1, 2, No), At(0, 2, 2)),
+                Search(Over(Beta, 1, 1, No), Nothing),
+                IsMatch(Over(Beta, 1, 1, No), Nothing),
+            ],
+        ),
+    ];
+    for case in cases {
+        assert!(rt; answers(rt.alloc(), case));
+    }
 }
 
-/// The automaton of two states takes 266 bytes at first, and its three states 62, 62 and 61 more. The one that finds starts,
-/// which would find none, isn't asked: the start is known.
-fn at_the_start() -> [Call; 5] {
-    [
-        Call::Usage(266, 266),
-        Call::Search(on(Text::Ab, 0, 2), at(0, 1)),
-        Call::Usage(451, 266),
-        Call::Search(on(Text::Xab, 1, 3), at(1, 2)),
-        Call::Search(on(Text::Ba, 0, 2), Found::Nothing),
-    ]
-}
-
-/// Searches for `a` start at the span's start alone.
+/// Searches for `a` start at the span's start alone. The automaton of two states takes 266 bytes at first, and its three states
+/// 62, 62 and 61 more. The one that finds starts, which would find none, isn't asked: the start is known.
 #[test]
-fn known_starts(rt: HostRuntime) -> Result<(), Fail> {
-    let alloc = rt.alloc();
-    let forth = [Node::Range(b'a', b'a', 1), Node::Match(0)];
-    let back = [Node::Range(b'b', b'b', 1), Node::Match(0)];
-    let form = Form {
-        anchored: 0,
-        unanchored: 0,
-        utf8: false,
-    };
-    let re = pair(alloc, &forth, &back, form, Config::new());
-    assert!(rt; answers(alloc, re, &at_the_start()));
-    Ok(())
+fn known_starts(rt: HostRuntime) {
+    let case: &Case = &(
+        Shape::FirstA,
+        Shape::FirstB,
+        Plain,
+        &[
+            Usage(266, 266),
+            Search(Over(Ab, 0, 2, No), At(0, 0, 1)),
+            Usage(451, 266),
+            Search(Over(Xab, 1, 3, No), At(0, 1, 2)),
+            Search(Over(Ba, 0, 2, No), Nothing),
+        ],
+    );
+    assert!(rt; answers(rt.alloc(), case));
 }

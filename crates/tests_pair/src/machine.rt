@@ -2,13 +2,25 @@
 ghost use Rattle.std.specs.Prelude.{◌≡◌, ◌<◌};
 ghost use Rattle.regex_pair.specs.Pairs.{AreCachesOf};
 
-use crate::calls::{Found, is_item};
-use lazy_dfa::Work;
+use crate::automata::{Options, Shape, made};
+use crate::calls::{Found, found_of, give_up, told_of};
+use lazy_dfa::{BuildError, Work};
 use regex_pair::regex::{Cache, Regex};
-use search_types::{Input, Match, MatchError};
+use search_types::Input;
 use std::alloc::{AllocError, Global};
 use std::marker::{Brand, Model};
+use std::mem;
 use std::sync::ledger::{Blank, Ledger};
+
+/// What is asked of a regex.
+#[derive(Clone, Copy)]
+pub(crate) enum Question {
+    /// For a match, by either name.
+    Search,
+    Find,
+    /// Whether there is one.
+    IsMatch,
+}
 
 /// A regex with caches of it.
 #[derive(Drop)]
@@ -29,10 +41,21 @@ impl Model for Machine {
 
 /// How it is made.
 impl Machine {
-    /// A regex with fresh caches.
-    pub(crate) fn new(alloc: Global, re: Regex) -> Result<Machine, AllocError> {
-        let cache = re.create_cache(alloc)?;
-        Ok(Machine { re, cache })
+    /// The regex of an automaton forward and one in reverse, with fresh caches.
+    pub(crate) fn new(
+        alloc: Global,
+        forth: Shape,
+        back: Shape,
+        options: Options,
+    ) -> Result<Machine, BuildError> {
+        let re = made(alloc, forth, back, options)?;
+        match Cache::new(alloc, &re) {
+            Ok(cache) => Ok(Machine { re, cache }),
+            Err(_) => {
+                give_up(re);
+                Err(BuildError::NoMemory)
+            }
+        }
     }
 
     /// Makes the caches anew.
@@ -41,10 +64,23 @@ impl Machine {
     }
 
     /// Makes the caches anew for another regex, which takes the place of this one.
-    pub(crate) fn reset_to(&mut self, re: Regex) -> Result<(), AllocError> {
-        self.cache.reset(&re)?;
-        self.re = re;
-        Ok(())
+    pub(crate) fn hand_to(
+        &mut self,
+        alloc: Global,
+        forth: Shape,
+        back: Shape,
+    ) -> Result<(), BuildError> {
+        let re = made(alloc, forth, back, Options::Plain)?;
+        match self.cache.reset(&re) {
+            Ok(()) => {
+                give_up(mem::replace(&mut self.re, re));
+                Ok(())
+            }
+            Err(_) => {
+                give_up(re);
+                Err(BuildError::NoMemory)
+            }
+        }
     }
 
     /// The bytes that the caches are taken to need: that of the ends, that of the starts, and both.
@@ -59,32 +95,18 @@ impl Machine {
 
 /// Searches.
 impl Machine {
-    /// The match over an input, by either name.
-    pub(crate) fn search(
-        &mut self,
-        input: &Input<'_>,
-        finds: bool,
-    ) -> Result<Option<Match>, MatchError> {
+    /// What is found over an input.
+    pub(crate) fn ask(&mut self, input: &Input<'_>, question: Question) -> Found {
         let one = Blank::new(1);
         let two = Blank::new(1);
-        search_counted::<Brand, Brand>(&self.re, &mut self.cache, input, finds, one, two)
+        asked_counted::<Brand, Brand>(&self.re, &mut self.cache, input, question, one, two)
     }
 
-    /// Whether there is one.
-    pub(crate) fn is_match(&mut self, input: &Input<'_>) -> Result<bool, MatchError> {
-        let one = Blank::new(1);
-        let two = Blank::new(1);
-        match_counted::<Brand, Brand>(&self.re, &mut self.cache, input, one, two)
-    }
-}
-
-/// Matches one after the other.
-impl Machine {
-    /// Whether the iterator over the matches gives this, one by one, and then nothing for good.
+    /// Whether the iterator over the matches gives this, one by one.
     pub(crate) fn gives(&mut self, input: Input<'_>, wanted: &[Found]) -> bool {
         let mut matches = self.re.find_iter(&mut self.cache, input);
         for found in wanted {
-            if !is_item(matches.next(), *found) {
+            if found_of(matches.next().transpose()) != *found {
                 return false;
             }
         }
@@ -92,15 +114,15 @@ impl Machine {
     }
 }
 
-/// The search, counted.
-fn search_counted<L: Ledger, M: Ledger>(
+/// What is found, counted.
+fn asked_counted<L: Ledger, M: Ledger>(
     re: &Regex,
     cache: &mut Cache,
     input: &Input<'_>,
-    finds: bool,
+    question: Question,
     first: Blank,
     second: Blank,
-) -> Result<Option<Match>, MatchError>
+) -> Found
     requires own { AreCachesOf re.now cache.old }
     requires name1 { first.name ≡ L.name }
     requires parts1 { first.parts ≡ L.parts }
@@ -111,30 +133,9 @@ fn search_counted<L: Ledger, M: Ledger>(
     ensures own { AreCachesOf re.now cache.new }
 {
     let mut work = Work::<L, M>::new(first, second);
-    if finds {
-        re.find(cache, input, &mut work)
-    } else {
-        re.try_search(cache, input, &mut work)
+    match question {
+        Question::Search => found_of(re.try_search(cache, input, &mut work)),
+        Question::Find => found_of(re.find(cache, input, &mut work)),
+        Question::IsMatch => told_of(re.is_match(cache, input, &mut work)),
     }
-}
-
-/// Whether there is a match, counted.
-fn match_counted<L: Ledger, M: Ledger>(
-    re: &Regex,
-    cache: &mut Cache,
-    input: &Input<'_>,
-    first: Blank,
-    second: Blank,
-) -> Result<bool, MatchError>
-    requires own { AreCachesOf re.now cache.old }
-    requires name1 { first.name ≡ L.name }
-    requires parts1 { first.parts ≡ L.parts }
-    requires some1 { 0 < first.parts }
-    requires name2 { second.name ≡ M.name }
-    requires parts2 { second.parts ≡ M.parts }
-    requires some2 { 0 < second.parts }
-    ensures own { AreCachesOf re.now cache.new }
-{
-    let mut work = Work::<L, M>::new(first, second);
-    re.is_match(cache, input, &mut work)
 }

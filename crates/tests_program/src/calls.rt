@@ -1,274 +1,177 @@
 // Calls over a machine, one after the other, each with what it should answer.
 use crate::heads::{Head, Text, bytes_of};
-use crate::machine::Machine;
-use lazy_dfa::BuildError;
-use lazy_dfa::dfa::Config;
+use crate::machine::{Machine, Options, Question};
 use search_core::PatternID;
-use search_types::{Anchored, HalfMatch, Input, Match, MatchError, MatchErrorKind, Span};
+use search_types::{Anchored, Input, Match, MatchError, MatchErrorKind, Span};
 use std::alloc::Global;
 
 /// A call, with what it should answer.
 #[derive(Clone, Copy)]
 pub enum Call {
-    /// The search over a part of these bytes finds this.
-    Search(Over, Found),
-    /// There is a match, or none.
-    IsMatch(Over, bool),
+    /// This is found where that is asked of the bytes from a place up to another one.
+    Ask(Question, Text, usize, usize, Found),
     /// The iterator over the matches gives this, one by one, and then nothing for good.
-    Each(Text, Items),
-    /// The automaton that finds starts finds none, or gives up so.
-    Back(Over, Found),
-    /// The search for the pattern with this number alone finds this, and the one without starts for each is refused.
-    Only(Text, u8, Found),
-    LacksStarts(Text, u8),
+    Each(Text, Found, Found, Found),
+    /// Searches from each place on find what they do over ample caches of this head's regex, and none leaves a cache with more
+    /// bytes than the least capacity.
+    Alike(Head, Text),
     /// So many bytes are needed by the cache of the automaton that finds ends.
     Usage(usize),
-    /// Each cache keeps within the least capacity of its automaton.
-    IsLeast,
+    /// The caches are made anew for this head's regex.
+    HandTo(Head),
 }
 
-/// What an iterator gives, before nothing for good.
-#[derive(Clone, Copy)]
-pub enum Items {
-    One(Found),
-    Two(Found, Found),
-    Three(Found, Found, Found),
-}
-
-/// What a search finds.
-#[derive(Clone, Copy)]
+/// What is found.
+#[derive(Clone, Copy, PartialEq, Eq)]
 pub enum Found {
     /// The pattern, the start and the end.
     At(usize, usize, usize),
+    /// A match, or a start, of which no more is told.
+    Any,
     Nothing,
     /// It gave up at this byte, at this place.
     Quit(u8, usize),
+    /// There are no starts for the pattern with this number alone.
+    NoStarts(usize),
+    /// Another refusal.
+    Refused,
 }
 
-/// A part of a haystack.
-#[derive(Clone, Copy)]
-pub struct Over {
-    haystack: Text,
-    start: usize,
-    end: usize,
-}
+/// Drops a value. Where it has many parts, a call is cheaper to prove than the drop of each of them.
+pub fn give_up<T: Drop>(_value: T) {}
 
-/// The bytes from a place up to another one.
-pub fn on(haystack: Text, start: usize, end: usize) -> Over {
-    Over {
-        haystack,
-        start,
-        end,
+fn refusal_of(e: &MatchError) -> Found {
+    match e.kind() {
+        MatchErrorKind::Quit { byte, offset } => Found::Quit(*byte, *offset),
+        MatchErrorKind::UnsupportedAnchored {
+            mode: Anchored::Pattern(pattern),
+        } => Found::NoStarts(pattern.as_usize()),
+        _ => Found::Refused,
     }
 }
 
-/// A match of the pattern 0.
-pub fn at(start: usize, end: usize) -> Found {
-    Found::At(0, start, end)
+/// What a search finds.
+pub fn found_of(answer: Result<Option<Match>, MatchError>) -> Found {
+    match answer {
+        Ok(Some(found)) => { Found::At(found.pattern().as_usize(), found.start(), found.end()) }
+        Ok(None) => Found::Nothing,
+        Err(e) => refusal_of(&e),
+    }
 }
 
-/// The input over a part of a haystack, if it fits.
-fn input_of(over: Over) -> Option<Input<'static>> {
-    let input = Input::new(bytes_of(over.haystack));
-    let span = Span {
-        start: over.start,
-        end: over.end,
-    };
+/// What is found where it is told whether there is a match, or a start.
+pub fn told_of(answer: Result<bool, MatchError>) -> Found {
+    match answer {
+        Ok(true) => Found::Any,
+        Ok(false) => Found::Nothing,
+        Err(e) => refusal_of(&e),
+    }
+}
+
+/// Whether this is found where that is asked of a part of a haystack.
+fn finds(
+    alloc: Global,
+    machine: &mut Machine,
+    question: Question,
+    part: (Text, usize, usize),
+    wanted: Found,
+) -> bool {
+    let (haystack, start, end) = part;
+    let span = Span { start, end };
+    let input = Input::new(bytes_of(haystack));
     if !input.fits(span) {
-        return None;
+        return false;
     }
-    Some(input.span(span))
+    let anchored = match question {
+        Question::Only(pattern) => Anchored::Pattern(PatternID::from(pattern)),
+        _ => Anchored::No,
+    };
+    machine.ask(alloc, &input.span(span).anchored(anchored), question) == wanted
 }
 
-/// The search for one pattern alone.
-fn only(haystack: Text, pattern: u8) -> Input<'static> {
-    Input::new(bytes_of(haystack)).anchored(Anchored::Pattern(PatternID::from(pattern)))
-}
-
-/// Whether a match is this one.
-fn is_at(found: Match, wanted: Found) -> bool {
-    match wanted {
-        Found::At(pattern, start, end) => {
-            found.pattern().as_usize() == pattern && found.start() == start && found.end() == end
+/// Whether searches from each place on find over caches of the least capacity what they find over ample ones, and no search
+/// leaves one of the former with more bytes.
+fn find_alike(alloc: Global, ample: &mut Machine, least: &mut Machine, haystack: &[u8]) -> bool {
+    let end = haystack.len();
+    for start in 0..=end {
+        let input = Input::new(haystack);
+        let span = Span { start, end };
+        if !input.fits(span) {
+            return false;
         }
-        _ => false,
-    }
-}
-
-/// Whether a refusal is this one.
-fn is_quit(e: &MatchError, wanted: Found) -> bool {
-    match wanted {
-        Found::Quit(byte, offset) => *e.kind() == MatchErrorKind::Quit { byte, offset },
-        _ => false,
-    }
-}
-
-/// Whether a search finds this.
-fn is_found(answer: Result<Option<Match>, MatchError>, wanted: Found) -> bool {
-    match answer {
-        Ok(Some(found)) => is_at(found, wanted),
-        Ok(None) => matches!(wanted, Found::Nothing),
-        Err(e) => is_quit(&e, wanted),
-    }
-}
-
-/// Whether an item of an iterator is this.
-pub fn is_item(item: Option<Result<Match, MatchError>>, wanted: Found) -> bool {
-    match item {
-        Some(Ok(found)) => is_at(found, wanted),
-        Some(Err(e)) => is_quit(&e, wanted),
-        None => matches!(wanted, Found::Nothing),
-    }
-}
-
-/// Whether a search for starts finds none, or gives up so.
-fn is_no_start(answer: Result<Option<HalfMatch>, MatchError>, wanted: Found) -> bool {
-    match answer {
-        Ok(found) => found.is_none() && matches!(wanted, Found::Nothing),
-        Err(e) => is_quit(&e, wanted),
-    }
-}
-
-/// The item behind so many others.
-fn item(items: &Items, before: usize) -> Found {
-    match *items {
-        Items::One(first) => item_of_three(first, Found::Nothing, Found::Nothing, before),
-        Items::Two(first, second) => item_of_three(first, second, Found::Nothing, before),
-        Items::Three(first, second, third) => item_of_three(first, second, third, before),
-    }
-}
-
-/// Behind three there is none.
-fn item_of_three(first: Found, second: Found, third: Found, before: usize) -> Found {
-    match before {
-        0 => first,
-        1 => second,
-        2 => third,
-        _ => Found::Nothing,
-    }
-}
-
-fn finds(machine: &mut Machine, over: Over, wanted: Found) -> bool {
-    match input_of(over) {
-        Some(input) => is_found(machine.search(&input), wanted),
-        None => false,
-    }
-}
-
-fn tells(machine: &mut Machine, over: Over, wanted: bool) -> bool {
-    match input_of(over) {
-        Some(input) => machine.is_match(&input) == Ok(wanted),
-        None => false,
-    }
-}
-
-fn gives(machine: &mut Machine, haystack: Text, items: &Items) -> bool {
-    let wanted = [
-        item(items, 0),
-        item(items, 1),
-        item(items, 2),
-        item(items, 3),
-        item(items, 4),
-    ];
-    machine.gives(Input::new(bytes_of(haystack)), &wanted)
-}
-
-fn finds_back(alloc: Global, machine: &Machine, over: Over, wanted: Found) -> bool {
-    match input_of(over) {
-        Some(input) => is_no_start(machine.search_back(alloc, &input), wanted),
-        None => false,
-    }
-}
-
-fn lacks_starts(machine: &mut Machine, input: &Input<'_>) -> bool {
-    let mode = input.get_anchored();
-    match machine.search(input) {
-        Ok(_) => false,
-        Err(e) => *e.kind() == MatchErrorKind::UnsupportedAnchored { mode },
-    }
-}
-
-/// Whether a call answers what it should.
-fn is_answered(alloc: Global, machine: &mut Machine, call: &Call) -> bool {
-    match *call {
-        Call::Search(over, wanted) => finds(machine, over, wanted),
-        Call::IsMatch(over, wanted) => tells(machine, over, wanted),
-        Call::Each(haystack, items) => gives(machine, haystack, &items),
-        Call::Back(over, wanted) => finds_back(alloc, machine, over, wanted),
-        Call::Only(haystack, pattern, wanted) => {
-            is_found(machine.search(&only(haystack, pattern)), wanted)
+        let input = input.span(span);
+        let found = least.ask(alloc, &input, Question::Match);
+        if found == Found::Refused || found != ample.ask(alloc, &input, Question::Match) {
+            return false;
         }
-        Call::LacksStarts(haystack, pattern) => lacks_starts(machine, &only(haystack, pattern)),
-        Call::Usage(bytes) => machine.forward_usage() == bytes,
-        Call::IsLeast => machine.is_least(),
-    }
-}
-
-/// Whether each of the calls answers what it should.
-pub fn are_answered(alloc: Global, machine: &mut Machine, calls: &[Call]) -> bool {
-    for call in calls {
-        if !is_answered(alloc, machine, call) {
+        if !least.is_least() {
             return false;
         }
     }
     true
 }
 
-/// Whether each of them does over fresh caches of a head's regex.
-pub fn answers(alloc: Global, head: Head, dfa: Config, calls: &[Call]) -> bool {
-    match Machine::new(alloc, head, dfa) {
-        Ok(mut machine) => are_answered(alloc, &mut machine, calls),
-        Err(_) => false,
-    }
-}
-
-/// The end of the match over all of a haystack, where it starts at 0 and is of the pattern 0.
-fn end_of(answer: Result<Option<Match>, MatchError>) -> Option<usize> {
-    match answer {
-        Ok(Some(found)) => {
-            if found.start() != 0 || found.pattern().as_usize() != 0 {
-                return None;
-            }
-            Some(found.end())
+/// Whether they do, over fresh ample caches.
+fn finds_alike(alloc: Global, least: &mut Machine, head: Head, haystack: Text) -> bool {
+    match Machine::new(alloc, head, Options::Plain) {
+        Ok(mut ample) => {
+            let alike = find_alike(alloc, &mut ample, least, bytes_of(haystack));
+            give_up(ample);
+            alike
         }
-        _ => None,
-    }
-}
-
-/// The one that a search finds.
-fn found_end(machine: &mut Machine, haystack: Text) -> Option<usize> {
-    end_of(machine.search(&Input::new(bytes_of(haystack))))
-}
-
-/// The one that a head's regex finds.
-pub fn end(alloc: Global, head: Head, dfa: Config, haystack: Text) -> Option<usize> {
-    match Machine::new(alloc, head, dfa) {
-        Ok(mut machine) => found_end(&mut machine, haystack),
-        Err(_) => None,
-    }
-}
-
-/// How the build of a head's regex ends.
-#[derive(Clone, Copy, PartialEq, Eq)]
-pub enum Ending {
-    Built,
-    /// The capacity is told to be 0, and too small.
-    NoRoom,
-    Unsupported,
-    Other,
-}
-
-/// How a build ends.
-pub fn outcome_of(alloc: Global, head: Head, dfa: Config) -> Ending {
-    match crate::machine::built(alloc, head, dfa) {
-        Ok(_) => Ending::Built,
-        Err(BuildError::Unsupported) => Ending::Unsupported,
-        Err(BuildError::InsufficientCacheCapacity { minimum, given }) => {
-            if minimum == 0 || given != 0 {
-                return Ending::Other;
-            }
-            Ending::NoRoom
+        Err(e) => {
+            give_up(e);
+            false
         }
-        Err(_) => Ending::Other,
+    }
+}
+
+/// Whether a call answers what it should.
+fn is_answered(alloc: Global, machine: &mut Machine, call: &Call) -> bool {
+    match *call {
+        Call::Ask(question, haystack, start, end, wanted) => {
+            finds(alloc, machine, question, (haystack, start, end), wanted)
+        }
+        Call::Each(haystack, first, second, third) => machine.gives(
+            Input::new(bytes_of(haystack)),
+            &[first, second, third, Found::Nothing, Found::Nothing],
+        ),
+        Call::Alike(head, haystack) => finds_alike(alloc, machine, head, haystack),
+        Call::Usage(bytes) => machine.forward_usage() == bytes,
+        Call::HandTo(head) => machine.hand_to(alloc, head).is_ok(),
+    }
+}
+
+/// Whether each of the calls answers what it should, and leaves the caches within the least capacity where they have no more.
+pub fn are_answered(
+    alloc: Global,
+    machine: &mut Machine,
+    options: Options,
+    calls: &[Call],
+) -> bool {
+    for call in calls {
+        if !is_answered(alloc, machine, call) {
+            return false;
+        }
+        if matches!(options, Options::Least) && !machine.is_least() {
+            return false;
+        }
+    }
+    true
+}
+
+/// Whether each of them does, over caches of a head's regex that are fresh, and again over the same ones.
+pub fn answers(alloc: Global, head: Head, options: Options, calls: &[Call]) -> bool {
+    match Machine::new(alloc, head, options) {
+        Ok(mut machine) => {
+            let answers = are_answered(alloc, &mut machine, options, calls)
+                && are_answered(alloc, &mut machine, options, calls);
+            give_up(machine);
+            answers
+        }
+        Err(e) => {
+            give_up(e);
+            false
+        }
     }
 }

@@ -1,5 +1,4 @@
 // Readers and writers over memory.
-use std::alloc::Global;
 use std::io;
 use std::io::{Error, ErrorKind, Read, Write};
 
@@ -10,17 +9,6 @@ pub struct Source<'a> {
     pub step: usize,
     pub given: usize,
     pub fails_at: Option<usize>,
-}
-
-impl<'a> Source<'a> {
-    pub fn whole(bytes: &'a [u8]) -> Source<'a> {
-        Source {
-            bytes,
-            step: usize::MAX,
-            given: 0,
-            fails_at: None,
-        }
-    }
 }
 
 impl Read for Source<'_> {
@@ -36,39 +24,20 @@ impl Read for Source<'_> {
     }
 }
 
-/// What a writer does where it has no room left.
-#[derive(Clone, Copy, PartialEq, Eq)]
-pub enum AtLimit {
-    Fails,
-    TakesNothing,
-}
-
-/// Keeps what it takes: so many bytes a call and so many in all.
+/// Keeps what it takes: so many bytes a call and so many in all. Behind them it fails, or takes nothing.
 #[derive(Drop)]
 pub struct Sink {
     pub taken: Vec<u8>,
     pub step: usize,
     pub limit: usize,
-    pub at_limit: AtLimit,
+    pub fails: bool,
     pub flush_fails: bool,
-}
-
-impl Sink {
-    pub fn open(alloc: Global) -> Sink {
-        Sink {
-            taken: Vec::new(alloc),
-            step: usize::MAX,
-            limit: usize::MAX,
-            at_limit: AtLimit::Fails,
-            flush_fails: false,
-        }
-    }
 }
 
 impl Write for Sink {
     fn write(&mut self, buf: &[u8]) -> io::Result<usize> {
         let room = self.limit.saturating_sub(self.taken.len());
-        if room == 0 && self.at_limit == AtLimit::Fails {
+        if room == 0 && self.fails {
             return Err(Error::from(ErrorKind::Other));
         }
         let n = self.step.min(room).min(buf.len());

@@ -1,9 +1,9 @@
 // Heads and haystacks by their names, and what is read of heads.
+use crate::calls::give_up;
 use hirscan::read_head;
 use look_core::LineTerm;
 use search_types::Span;
 use std::alloc::Global;
-use std::test::Fail;
 
 /// A head: settings and patterns.
 #[derive(Clone, Copy)]
@@ -45,9 +45,10 @@ pub enum Text {
     Dates,
     FooBar,
     Baab,
-    /// "β", "ab  β", "aβb", "aβ-γ", "β123" and "123β".
+    /// "β", "ab  β", "ab β", "aβb", "aβ-γ", "β123" and "123β".
     Beta,
     AbBeta,
+    AbNearBeta,
     BetaWithin,
     Greek,
     BetaNumber,
@@ -109,6 +110,7 @@ pub fn bytes_of(text: Text) -> &'static [u8] {
         Text::Baab => b"baab",
         Text::Beta => b"\xCE\xB2",
         Text::AbBeta => b"ab  \xCE\xB2",
+        Text::AbNearBeta => b"ab \xCE\xB2",
         Text::BetaWithin => b"a\xCE\xB2b",
         Text::Greek => b"a\xCE\xB2-\xCE\xB3",
         Text::BetaNumber => b"\xCE\xB2123",
@@ -128,13 +130,6 @@ fn more_bytes_of(text: Text) -> &'static [u8] {
         Text::B => b"b",
         Text::Abc => b"abc",
         Text::Bbc => b"bbc",
-        _ => quit_bytes_of(text),
-    }
-}
-
-/// The bytes of those that are searched up to a quit byte.
-fn quit_bytes_of(text: Text) -> &'static [u8] {
-    match text {
         Text::Xab => b"xab_",
         Text::AThenD => b"a__d",
         Text::AThenZ => b"a__z",
@@ -151,85 +146,78 @@ pub fn dates_lines() -> &'static [u8] {
     b"0 0 10\n0 11 21\n"
 }
 
-/// Whether the options of its automata are those that no line sets.
-fn has_plain_options(head: &hirscan::Head) -> bool {
-    let dfa = &head.settings.dfa;
-    dfa.get_cache_capacity() == 2097152 && dfa.get_byte_classes() && !dfa.get_quit(b'-')
-}
-
-/// Whether it has so many patterns, the first of this count and height.
-fn has_patterns(head: &hirscan::Head, len: usize, count: usize, height: usize) -> bool {
-    match head.patterns.get(0) {
-        Some(tree) => {
-            head.patterns.len() == len && tree.count() == count && tree.height() == height
-        }
-        None => false,
-    }
-}
-
-/// Whether it has the settings that no line sets.
-fn has_plain_settings(head: &hirscan::Head) -> bool {
-    if !head.settings.utf8 || head.settings.shrink || head.anchored {
-        return false;
-    }
-    if head.settings.line_terminator != LineTerm::one(b'\n') {
-        return false;
-    }
-    head.settings.size_limit.is_none() && head.span.is_none() && has_plain_options(head)
-}
-
-/// Whether the head of the dates is read as it should be.
-fn is_read(alloc: Global) -> bool {
-    match read_head(alloc, dates()) {
-        Ok(head) => {
-            head.len == 114 && has_patterns(&head, 1, 26, 3) && has_plain_settings(&head)
-        }
-        Err(_) => false,
-    }
-}
-
-#[test]
-fn a_head_as_it_is_read(rt: HostRuntime) -> Result<(), Fail> {
-    assert!(rt; is_read(rt.alloc()));
-    Ok(())
-}
-
 /// Each line that sets something, some of them twice, and two patterns.
 fn set_head() -> &'static [u8] {
     b"capacity 9\nanchored yes\nutf8 off\nline 00\nspan 1 3\nquit 61\nshrink on\nline 0d 0A\nquit FF\nclasses off\ncapacity 7\nlook WordAscii\nchars 3B1-3C9\ncat 2\npattern\nbytes 61-7A\npattern\nfind\nlet"
 }
 
-/// Whether the options of its automata are those that these lines set.
-fn has_set_options(head: &hirscan::Head) -> bool {
-    let dfa = &head.settings.dfa;
-    dfa.get_cache_capacity() == 7
-        && !dfa.get_byte_classes()
-        && dfa.get_quit(b'a')
-        && dfa.get_quit(0xFF)
-        && !dfa.get_quit(b'b')
+/// How many bytes it has and how many patterns, the count and the height of the first one, and the capacity of caches.
+fn sizes(head: &hirscan::Head) -> [usize; 5] {
+    let (count, height) = match head.patterns.get(0) {
+        Some(tree) => (tree.count(), tree.height()),
+        None => (0, 0),
+    };
+    let capacity = head.settings.dfa.get_cache_capacity();
+    [head.len, head.patterns.len(), count, height, capacity]
 }
 
-/// Whether it has the settings that these lines set.
-fn has_set_settings(head: &hirscan::Head) -> bool {
-    if head.settings.utf8 || !head.settings.shrink || !head.anchored {
-        return false;
-    }
-    if head.settings.line_terminator != LineTerm::two(b'\r', b'\n') {
-        return false;
-    }
-    head.span == Some(Span { start: 1, end: 3 }) && has_set_options(head)
+/// Whether it is by characters, shrunk, anchored and limited, has classes, and quits at `-`, `a`, `b` and FF.
+fn flags(head: &hirscan::Head) -> [bool; 9] {
+    let settings = &head.settings;
+    let dfa = &settings.dfa;
+    [
+        settings.utf8,
+        settings.shrink,
+        head.anchored,
+        settings.size_limit.is_some(),
+        dfa.get_byte_classes(),
+        dfa.get_quit(b'-'),
+        dfa.get_quit(b'a'),
+        dfa.get_quit(b'b'),
+        dfa.get_quit(0xFF),
+    ]
 }
 
-/// Whether they are read as they should be.
-fn are_read(alloc: Global) -> bool {
-    match read_head(alloc, set_head()) {
-        Ok(head) => head.len == 178 && has_patterns(&head, 2, 12, 2) && has_set_settings(&head),
+/// Whether a text reads as a head with these.
+fn is_read(
+    alloc: Global,
+    text: &[u8],
+    numbers: [usize; 5],
+    choices: [bool; 9],
+    line: LineTerm,
+    span: Option<Span>,
+) -> bool {
+    match read_head(alloc, text) {
+        Ok(head) => {
+            let is_right = sizes(&head) == numbers
+                && flags(&head) == choices
+                && head.settings.line_terminator == line
+                && head.span == span;
+            give_up(head);
+            is_right
+        }
         Err(_) => false,
     }
 }
 
+/// The head of the dates, whose settings no line sets, and one where each is set.
 #[test]
-fn settings_and_patterns_as_they_are_read(rt: HostRuntime) -> Result<(), Fail> {
-    assert!(rt; are_read(rt.alloc()));
-    Ok(())
+fn heads_as_they_are_read(rt: HostRuntime) {
+    let alloc = rt.alloc();
+    let numbers = [114, 1, 26, 3, 2097152];
+    let choices = [true, false, false, false, true, false, false, false, false];
+    assert!(rt; is_read(alloc, dates(), numbers, choices, LineTerm::one(b'\n'), None));
+    let numbers = [178, 2, 12, 2, 7];
+    let choices = [false, true, true, false, false, false, true, false, true];
+    let span = Some(Span { start: 1, end: 3 });
+    assert!(rt;
+        is_read(
+            alloc,
+            set_head(),
+            numbers,
+            choices,
+            LineTerm::two(b'\r', b'\n'),
+            span
+        )
+    );
 }

@@ -1,69 +1,78 @@
 // Readers and writers that give or take little, and that fail.
-use crate::fakes::{AtLimit, Sink, Source};
+use crate::fakes::{Sink, Source};
 use crate::heads::{dates, dates_lines};
 use hirscan::{Ending, RunError, run};
-use std::test::Fail;
+use std::alloc::Global;
 
-#[test]
-fn a_byte_at_a_time(rt: HostRuntime) -> Result<(), Fail> {
-    let alloc = rt.alloc();
-    let mut reader = Source::whole(dates());
-    reader.step = 1;
-    let mut writer = Sink::open(alloc);
-    writer.step = 1;
-    assert_eq!(rt; run(alloc, &mut reader, &mut writer)?, Ending::Listed);
-    assert_eq!(rt; writer.taken.as_slice(), dates_lines());
-    Ok(())
+/// What readers and writers do.
+#[derive(Clone, Copy)]
+enum Fault {
+    /// They give and take a byte a call.
+    Slow,
+    /// A read fails behind so many bytes, each of which it gives alone.
+    Read(usize),
+    /// A write of a few bytes fails behind so many, or takes nothing there.
+    Write(usize),
+    Takes(usize),
+    /// The flush fails.
+    Flush,
 }
 
-#[test]
-fn a_read_fault_at_each_byte(rt: HostRuntime) -> Result<(), Fail> {
-    let alloc = rt.alloc();
-    for k in 0..=dates().len() {
-        let mut reader = Source::whole(dates());
-        reader.step = 1;
-        reader.fails_at = Some(k);
-        let mut writer = Sink::open(alloc);
-        assert_eq!(rt;
-            run(alloc, &mut reader, &mut writer),
-            Err(RunError::Read),
-            "at {k}"
-        );
-        assert_eq!(rt; writer.taken.len(), 0, "at {k}");
-    }
-    Ok(())
-}
-
-#[test]
-fn a_write_fault_at_each_byte(rt: HostRuntime) -> Result<(), Fail> {
-    let alloc = rt.alloc();
-    for at_limit in [AtLimit::Fails, AtLimit::TakesNothing] {
-        for k in 0..dates_lines().len() {
-            let mut writer = Sink::open(alloc);
-            writer.limit = k;
-            writer.step = 4;
-            writer.at_limit = at_limit;
-            assert_eq!(rt;
-                run(alloc, &mut Source::whole(dates()), &mut writer),
-                Err(RunError::Write),
-                "at {k}"
-            );
-            let part = dates_lines().get(..k).ok_or("a part")?;
-            assert_eq!(rt; writer.taken.as_slice(), part);
+/// Whether a run over the dates ends so, with so many bytes of the lines written.
+fn ends(alloc: Global, fault: Fault, ending: Result<Ending, RunError>, written: usize) -> bool {
+    let mut reader = Source {
+        bytes: dates(),
+        step: usize::MAX,
+        given: 0,
+        fails_at: None,
+    };
+    let mut writer = Sink {
+        taken: Vec::new(alloc),
+        step: usize::MAX,
+        limit: usize::MAX,
+        fails: true,
+        flush_fails: false,
+    };
+    match fault {
+        Fault::Slow => {
+            reader.step = 1;
+            writer.step = 1;
         }
+        Fault::Read(at) => {
+            reader.step = 1;
+            reader.fails_at = Some(at);
+        }
+        Fault::Write(at) => {
+            writer.step = 4;
+            writer.limit = at;
+        }
+        Fault::Takes(at) => {
+            writer.step = 4;
+            writer.limit = at;
+            writer.fails = false;
+        }
+        Fault::Flush => writer.flush_fails = true,
     }
-    Ok(())
+    let ends = run(alloc, &mut reader, &mut writer) == ending;
+    let begins = match dates_lines().get(..written) {
+        Some(lines) => writer.taken.as_slice() == lines,
+        None => false,
+    };
+    ends && begins
 }
 
+/// Where a read fails nothing is written, and where a write or the flush does what was taken begins the lines.
 #[test]
-fn a_flush_that_fails(rt: HostRuntime) -> Result<(), Fail> {
+fn a_byte_at_a_time_and_faults_at_each_byte(rt: HostRuntime) {
     let alloc = rt.alloc();
-    let mut writer = Sink::open(alloc);
-    writer.flush_fails = true;
-    assert_eq!(rt;
-        run(alloc, &mut Source::whole(dates()), &mut writer),
-        Err(RunError::Write)
-    );
-    assert_eq!(rt; writer.taken.as_slice(), dates_lines());
-    Ok(())
+    let len = dates_lines().len();
+    assert!(rt; ends(alloc, Fault::Slow, Ok(Ending::Listed), len));
+    for at in 0..=dates().len() {
+        assert!(rt; ends(alloc, Fault::Read(at), Err(RunError::Read), 0));
+    }
+    for at in 0..len {
+        assert!(rt; ends(alloc, Fault::Write(at), Err(RunError::Write), at));
+        assert!(rt; ends(alloc, Fault::Takes(at), Err(RunError::Write), at));
+    }
+    assert!(rt; ends(alloc, Fault::Flush, Err(RunError::Write), len));
 }
