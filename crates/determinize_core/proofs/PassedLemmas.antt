@@ -57,12 +57,6 @@ and_turned true false = refl
 and_turned false true = refl
 and_turned false false = refl
 
-or_turned : (a b : Bool) → (a || b) ≡ (b || a)
-or_turned true true = refl
-or_turned true false = refl
-or_turned false true = refl
-or_turned false false = refl
-
 or_both : (a b c d : Bool) → a ≡ b → c ≡ d → (a || c) ≡ (b || d)
 or_both a b c d p q = λ i. p i || q i
 

@@ -54,7 +54,7 @@ pub use Rattle.hir_core.proofs.SequenceTreeLemmas.{class_to_sequences, sequences
 pub use Rattle.hir_core.proofs.SequenceTreeLemmas.{class_ends, sequences_read}
 -- there are so many sequences as the count of states takes
 pub use Rattle.hir_core.proofs.SequenceTreeLemmas.{sequences_counted}
--- ---- loops that go backwards over a slice
+-- ---- loops over a slice from its end
 -- one more element that was met stands before those behind it; at the end all was met
 pub use Rattle.hir_core.proofs.BackwardLemmas.{behind_more, behind_all}
 -- the set of one look has that look and no other
@@ -63,6 +63,6 @@ pub use Rattle.hir_core.proofs.LookFactLemmas.{one_has, one_held}
 pub use Rattle.hir_core.proofs.CutLemmas.{cut_ends, cut_to_whole, whole_to_cut}
 pub use Rattle.hir_core.proofs.LooksUsedLemmas.{rounds_map}
 pub use Rattle.hir_core.proofs.SequenceCountLemmas.{few_pieces}
-pub use Rattle.hir_core.proofs.SequenceLemmas.{spelled_one}
+pub use Rattle.hir_core.proofs.SequenceLemmas.{spelled_one, spelled_two, spelled_three, spelled_four}
 pub use Rattle.hir_core.proofs.SequenceTreeLemmas.{member_of_one}
 pub use Rattle.hir_core.proofs.SequenceTreeLemmas.{same_test}

@@ -141,26 +141,26 @@ begins_with (r ∷ rs) [] = refl
 begins_with (r ∷ rs) (b ∷ bs) = ap (λ t. leb r.0 b && leb b r.1 && t) (begins_with rs bs)
 
 -- ---- spellings by their length
-abbrev two : ℕ → List ℕ
+abbrev pub two : ℕ → List ℕ
 two c = (192 + c / 64) ∷ (128 + c % 64) ∷ []
 
-abbrev three : ℕ → List ℕ
+abbrev pub three : ℕ → List ℕ
 three c = (224 + c / 4096) ∷ (128 + (c / 64) % 64) ∷ (128 + c % 64) ∷ []
 
-abbrev four : ℕ → List ℕ
+abbrev pub four : ℕ → List ℕ
 four c = (240 + c / 262144) ∷ (128 + (c / 4096) % 64) ∷ (128 + (c / 64) % 64) ∷ (128 + c % 64) ∷ []
 
 pub spelled_one : (c : ℕ) → c ≤ 0x7F → spelling_of c ≡ c ∷ []
 spelled_one c h = cond-true _ _ _ (le-leb c 0x7F h)
 
-spelled_two : (c : ℕ) → 0x80 ≤ c → c ≤ 0x7FF → spelling_of c ≡ two c
+pub spelled_two : (c : ℕ) → 0x80 ≤ c → c ≤ 0x7FF → spelling_of c ≡ two c
 spelled_two c l h = cond-false _ _ _ (lt-leb c 0x7F (omega arith)) ∙ cond-true _ _ _ (le-leb c 0x7FF h)
 
-spelled_three : (c : ℕ) → 0x800 ≤ c → c ≤ 0xFFFF → spelling_of c ≡ three c
+pub spelled_three : (c : ℕ) → 0x800 ≤ c → c ≤ 0xFFFF → spelling_of c ≡ three c
 spelled_three c l h =
     cond-false _ _ _ (lt-leb c 0x7F (omega arith)) ∙ cond-false _ _ _ (lt-leb c 0x7FF (omega arith)) ∙ cond-true _ _ _ (le-leb c 0xFFFF h)
 
-spelled_four : (c : ℕ) → 0x10000 ≤ c → spelling_of c ≡ four c
+pub spelled_four : (c : ℕ) → 0x10000 ≤ c → spelling_of c ≡ four c
 spelled_four c l =
     cond-false _ _ _ (lt-leb c 0x7F (omega arith)) ∙ cond-false _ _ _ (lt-leb c 0x7FF (omega arith))
     ∙ cond-false _ _ _ (lt-leb c 0xFFFF (omega arith))

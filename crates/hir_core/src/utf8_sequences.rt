@@ -68,7 +68,7 @@ impl Utf8Sequence {
         true
     }
 
-    /// Puts the last range first, and so on, for an automaton that reads backwards.
+    /// Puts the last range first, and so on, for an automaton that reads in reverse.
     #[tactic(auto, using(crate::proofs::SequenceSteps::ranges_turned))]
     pub fn reverse(&mut self)
         ensures { ranges_of self.new ≡ reverse (ranges_of self.old) }

@@ -47,8 +47,8 @@ pub fault_at_end : (text rest : List ℕ) (here : HeadValue) (at lines : ℕ) �
 fault_at_end text rest here at lines b one = b.faults 1 NoFindLine (no_line_feed rest here 1 NoFindLine one refl refl)
 
 -- what stands at the end of a head has no tree left over
-pub standing_at_end : (now here : HeadValue) → now ≡ here → here.stack ≡ []
+pub state_at_end : (now here : HeadValue) → now ≡ here → here.stack ≡ []
     → record { setup = now.setup; stack = []; patterns = now.patterns } ≡ here
-standing_at_end now here e none =
+state_at_end now here e none =
     let left : now.stack ≡ [] = ap (λ (s : HeadValue). s.stack) e ∙ none in
     sym (ap (λ (s : List Tree). record { setup = now.setup; stack = s; patterns = now.patterns }) left) ∙ e

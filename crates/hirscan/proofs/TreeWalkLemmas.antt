@@ -44,7 +44,7 @@ IsFrom b (Pattern p) text i k = k ≡ i
 abbrev pub IsMet : List Tree → Bool → Text → Anchored → ℕ → ℕ × ℕ → Type 0
 IsMet xs b text mode i x = (k : ℕ) × (IsFrom b mode text i k × (allowed mode (length xs) x.1 ≡ true) × IsChoice b xs text k x)
 
--- reading up
+-- forward
 pub forward_starts : (mode : Anchored) (text : Text) (s e k : ℕ) → text.end ≡ e → s ≤ e → IsFrom false mode text s k →
     may_start mode s e k ≡ true
 forward_starts No text s e k at l from = may_start_at No s e k l from.0 (omega (arith, at, from.1))
@@ -63,7 +63,7 @@ forward_high No text s e k at l from = omega (arith, at, from.1)
 forward_high Yes text s e k at l from = omega (arith, l, from)
 forward_high (Pattern p) text s e k at l from = omega (arith, l, from)
 
--- reading down
+-- in reverse
 pub reverse_ends : (mode : Anchored) (text : Text) (e k : ℕ) → IsFrom true mode text e k → is_anchored mode ≡ true → k ≡ e
 reverse_ends No text e k from anchored = cc
 reverse_ends Yes text e k from anchored = from

@@ -10,8 +10,8 @@ use Rattle.hirscan.specs.LineFault.{fault}
 abbrev pub IsOneLine : List ℕ → Type 0
 IsOneLine bytes = All (λ b. b ≢ 10) bytes
 
--- From this standing on, the first n bytes of the text are lines, each ended by a line feed, up to a `find` line, at
--- which this stands.
+-- From this head state on, the first n bytes of the text are lines, each ended by a line feed, up to a `find` line, which
+-- meets the state `found`.
 pub data Reads : List ℕ → HeadValue → HeadValue → ℕ → Type 0 where
   reads_find : (text line rest : List ℕ) (at found : HeadValue) (n : ℕ) →
       text ≡ line ++ 10 ∷ rest → IsOneLine line → EndsHead (words line) at → found ≡ at → n ≡ length line + 1 →
@@ -20,7 +20,7 @@ pub data Reads : List ℕ → HeadValue → HeadValue → ℕ → Type 0 where
       text ≡ line ++ 10 ∷ rest → IsOneLine line → Takes (words line) at after → Reads rest after found m → n ≡ length line + 1 + m →
       Reads text at found n
 
--- From this standing on, line k of the text, counted from 1, is the first faulty one, and has this kind.
+-- From this head state on, line k of the text, counted from 1, is the first faulty one, and has this kind.
 pub data IsFaultAt : List ℕ → HeadValue → ℕ → FaultKind → Type 0 where
   no_line_feed : (text : List ℕ) (at : HeadValue) (k : ℕ) (kind : FaultKind) →
       IsOneLine text → k ≡ 1 → kind ≡ NoFindLine → IsFaultAt text at k kind

@@ -26,14 +26,14 @@ pub record IsWalkerOf (xs : List Tree) (reverse utf8 : Bool) (t : Terminator) (d
   pub dfa : IsDfa d
   pub finds_all : kind_of d.options ≡ AllMatches
 
--- Reading up from the place s: a span of the pattern p that may be found ends at j, which counts. It starts where a search may.
+-- Forward from the place s: a span of the pattern p that may be found ends at j, which counts. It starts where a search may.
 pub record IsToldEnd (q : Query) (s j p : ℕ) : Type 0 where
   pub start : ℕ
   pub starts : may_start q.mode s q.end start ≡ true
   pub findable : IsFindable q start p j
   pub counted : counts q.utf8 q.haystack j ≡ true
 
--- Reading down to the place s: a span of the pattern p that may be found starts at i, which counts. It ends where one begins to
+-- In reverse, down to the place s: a span of the pattern p that may be found starts at i, which counts. It ends where one begins to
 -- read, or below that if it isn't anchored.
 pub record IsToldStart (q : Query) (s i p : ℕ) : Type 0 where
   pub end : ℕ

@@ -17,7 +17,7 @@ pub fn lines_without_a_fault_have_a_rule()
     ensures ended { (ws : List (List ℕ)) (p : HeadValue) → EndsHead ws p → fault ws p ≡ None }
 {}
 
-/// A line has one effect: it leads to one standing, and doesn't end the head as well.
+/// A line has one effect: it leads to one head state, and doesn't end the head as well.
 #[tactic(auto, using(crate::proofs::EffectLemmas::taken_goes_on))]
 pub fn lines_have_one_effect()
     ensures same { (ws : List (List ℕ)) (p q r : HeadValue) → Takes ws p q → Takes ws p r → q ≡ r }

@@ -2,7 +2,7 @@
 use Rattle.std.proofs.Common.{◌≡◌, ◌≢◌, ℕ, zero, suc, ◌+◌, ◌*◌, ◌%◌, ◌/◌, ◌<◌, ◌≤◌, Bool, true, false, ◌⊎◌, List, [], ◌∷◌, ◌++◌, length}
 use Rattle.std.proofs.Common.{get_or, set, replicate, refl, sym, ap, ◌∙◌, subst, inl, inr, ⊎_elim, arith, true≢false, Option, Some, None}
 use Rattle.std.proofs.Common.{length-set, get_or-set_same, get_or-set_other}
-use Rattle.std.proofs.lemmas.Bool.{cases_lt, cases_eq, and_parts, not-true}
+use Rattle.std.proofs.lemmas.Bool.{cases_lt, cases_eq}
 use Rattle.std.proofs.lemmas.Slice.Eq.{bytes_eq-Decides}
 use Rattle.std.proofs.Math.Nat.{mul-le-mul_left, mul-div_cancel}
 use lib.ListN.{get_or-append, get_or-replicate, length-replicate}
@@ -15,14 +15,14 @@ use Rattle.determinize_core.specs.declared.start.Start.TheVariants.{NonWordByte,
 use Rattle.determinize_core.specs.declared.start.Start.TheVariants.{CustomWordLineTerminator}
 use Rattle.lazy_dfa.specs.ConfigValue.{kind_of}
 use Rattle.lazy_dfa.specs.Readers.{is_quit}
-use Rattle.lazy_dfa.specs.Dfas.{Dfa, IsDfa, IsStateOf, IsUnit, Alike, after, first_state, start_in, class_of, is_dead, is_empty}
+use Rattle.lazy_dfa.specs.Dfas.{Dfa, IsDfa, IsStateOf, IsUnit, Alike, after, first_state, start_in, class_of, is_dead}
 use Rattle.lazy_dfa.specs.Ids.{tag, tagged, unknown_id, quit_id}
 use Rattle.lazy_dfa.specs.Caches.{CacheValue, IsShaped, IsCacheOf, Leads, Names, names_dead, names_held, HeldAt, IsRow, same, place_of}
 use Rattle.lazy_dfa.specs.Caches.{state_at, id_at, cell_at, slot, Begins, new_id, with_state, cleared, Fits}
 use Rattle.lazy_dfa.proofs.ListLemmas.{found_at, one_longer, below_or_last, at_old, at_last}
 use Rattle.lazy_dfa.proofs.CacheLemmas.{IsShaped-added, IsShaped-cleared, states_cost-append, grown, place_in_none, place_in_one, fresh_at}
-use Rattle.std.proofs.lemmas.Bool.Decides.{leb_tells, Decides-eqb}
-use Rattle.std.specs.Prelude.{nat_le, ◌&&◌, ◌==◌, not, IfSome}
+use Rattle.std.proofs.lemmas.Bool.Decides.{leb_tells}
+use Rattle.std.specs.Prelude.{nat_le, IfSome}
 use Rattle.determinize_core.specs.Steps.{step_value, start_value}
 use Rattle.determinize_core.proofs.ForCallers.{step_stepped, start_stepped, stepped_short}
 use Rattle.determinize_core.specs.Stepped.{IsStepped, widest}
@@ -317,31 +317,6 @@ is_cache_started d v m s to own inside there =
     }
 
 -- ---- what calls do
-
-none_of : (xs : List ℕ) → is_empty xs ≡ true → xs ≡ []
-none_of [] e = refl
-none_of (x ∷ xs) e = absurd (true≢false (sym e))
-
-dead_parts : (v : StateValue) → v.ids ≡ [] → v.matches ≡ [] → v.look_have ≡ 0 → v.look_need ≡ 0 → v.is_from_word ≡ false →
-    v.is_half_crlf ≡ false → v ≡ dead
-dead_parts v a b c d e f =
-    ap (λ (x : List ℕ). record v { ids = x }) a
-    ∙ (ap (λ (x : List ℕ). record v { ids = []; matches = x }) b
-    ∙ (ap (λ (x : ℕ). record v { ids = []; matches = []; look_have = x }) c
-    ∙ (ap (λ (x : ℕ). record v { ids = []; matches = []; look_have = 0; look_need = x }) d
-    ∙ (ap (λ (x : Bool). record v { ids = []; matches = []; look_have = 0; look_need = 0; is_from_word = x }) e
-    ∙ ap (λ (x : Bool). record v { ids = []; matches = []; look_have = 0; look_need = 0; is_from_word = false; is_half_crlf = x }) f))))
-
-pub dead_of : (v : StateValue) → is_dead v ≡ true → v ≡ dead
-dead_of v e =
-    let a = and_parts (is_empty v.ids && is_empty v.matches && v.look_have == 0 && v.look_need == 0
-    && not v.is_from_word) (not v.is_half_crlf) e in
-    let b = and_parts (is_empty v.ids && is_empty v.matches && v.look_have == 0 && v.look_need == 0) (not v.is_from_word) a.0 in
-    let c = and_parts (is_empty v.ids && is_empty v.matches && v.look_have == 0) (v.look_need == 0) b.0 in
-    let d = and_parts (is_empty v.ids && is_empty v.matches) (v.look_have == 0) c.0 in
-    let f = and_parts (is_empty v.ids) (is_empty v.matches) d.0 in
-    dead_parts v (none_of v.ids f.0) (none_of v.matches f.1) ((Decides-eqb v.look_have 0).0 d.1) ((Decides-eqb v.look_need 0).0 c.1)
-    (not-true v.is_from_word b.1) (not-true v.is_half_crlf a.1)
 
 pub alive_of : (v : StateValue) → is_dead v ≡ false → v ≢ dead
 alive_of v e f = true≢false (ap is_dead (sym f) ∙ e)

@@ -3,7 +3,10 @@ use Rattle.std.proofs.Common.{◌≡◌, ℕ, suc, Bool, true, false, ◌&&◌, 
 use Rattle.std.proofs.Common.{ap, ◌∙◌, ◌⊎◌, inl, inr, arith}
 use Rattle.std.proofs.lemmas.Bool.{and_parts, eqb-true, not-true}
 use Rattle.search_core.specs.ByteSets.{has}
+use Rattle.std.specs.Prelude.{Result, Err}
 use Rattle.search_types.specs.declared.anchored.Anchored.{Anchored}
+use Rattle.search_types.specs.declared.match_error.MatchErrorKind.{MatchErrorKind}
+use Rattle.search_types.specs.Found.{HalfFound}
 use Rattle.nfa_core.specs.Ways.{place_of}
 use Rattle.determinize_core.specs.States.{StateValue, dead}
 use Rattle.lazy_dfa.specs.Readers.{is_quit, HalfAnswer, found, quit, unsupported}
@@ -52,6 +55,13 @@ found_no_mode o mode e = let never : true ≡ false = cc in absurd (grind (arith
 
 pub quit_no_mode : (b x : ℕ) (mode : Anchored) → quit b x ≡ unsupported mode → ⊥
 quit_no_mode b x mode e = let never : true ≡ false = cc in absurd (grind (arith, never))
+
+-- errors in the place of what a search finds
+abbrev pub failed : MatchErrorKind → Result (Option HalfFound) MatchErrorKind
+failed e = Err e
+
+pub one_failed : (x y : MatchErrorKind) → failed x ≡ failed y → x ≡ y
+one_failed x y e = cc
 
 pub one_found : (x y : Option (ℕ × ℕ)) → found x ≡ found y → x ≡ y
 one_found x y e = cc

@@ -31,7 +31,7 @@ use Rattle.lazy_dfa.proofs.LinkedLemmas.{grows_moved}
 use Rattle.lazy_dfa.proofs.SearchEndLemmas.{not_done, is_over}
 use Rattle.lazy_dfa.proofs.WalkLeftLemmas.{begun_rest, begun_units, begun_value, dead_rest, dead_units, whole_from, done_left}
 use Rattle.lazy_dfa.proofs.WalkLeftLemmas.{refused_whole, fit_whole}
-use Rattle.lazy_dfa.proofs.WholePassLemmas.{min_twice, dead_named, row_named}
+use Rattle.lazy_dfa.proofs.WholePassLemmas.{min_twice, dead_named, row_named, same_told}
 use Rattle.lazy_dfa.proofs.WalkCallLemmas.{fine, failure, ended, tells_refusal, tells_none, still_call, told_with, makes_on, MakesIts}
 
 -- a done input
@@ -47,9 +47,6 @@ is_begun b s e f is = le-leb s e (not_done b s e f is)
 
 pub is_done : (b : Bool) (s e : ℕ) → (IsTrue b ↔ (e < s)) → b ≡ true → nat_le s e ≡ false
 is_done b s e f is = lt-leb s e (is_over b s e f is)
-
-same_told : (d : Dfa) (a b : CacheValue) → Grew d a b → told_of b ≡ told_of a
-same_told d a b g = λ i. record { searched = g.searched i; progress = g.progress i }
 
 one_start : (q : Search) → nat_le q.start q.end ≡ true → call_starts q Fresh ≡ 1
 one_start q e = ap (λ (b : Bool). if b then 1 else 0) e

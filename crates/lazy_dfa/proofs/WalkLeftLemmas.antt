@@ -1,13 +1,12 @@
 -- What is left of an overlapping walk: at its start, where it stopped, and where it reads on.
 use Rattle.std.proofs.Common.{◌≡◌, ◌≢◌, ℕ, zero, suc, ◌+◌, ◌<◌, ◌≤◌, ◌&&◌, Bool, true, false, List, ◌∷◌, length, drop, map, Option, Some}
 use Rattle.std.proofs.Common.{None, if◌then◌else◌, refl, sym, ap, ◌∙◌, ⊎_elim, arith, true≢false, []}
-use Rattle.std.specs.Prelude.{Result, Err, slice_index, nat_lt, nat_le}
+use Rattle.std.specs.Prelude.{Err, slice_index, nat_lt, nat_le}
 use Rattle.std.proofs.lemmas.List.{drop_more, drop_all}
 use Rattle.std.proofs.lemmas.Bool.{ltb-true, cases_lt, lt-ltb}
 use Rattle.search_types.specs.declared.anchored.Anchored.{Anchored}
 use Rattle.search_types.specs.declared.match_error.MatchErrorKind.{MatchErrorKind}
 use Rattle.search_types.specs.declared.match_error.MatchErrorKind.TheVariants.{Quit, UnsupportedAnchored}
-use Rattle.search_types.specs.Found.{HalfFound}
 use Rattle.search_types.specs.Inputs.{Search}
 use Rattle.search_types.specs.Modes.{is_supported}
 use Rattle.nfa_core.specs.Ways.{place_of}
@@ -29,6 +28,7 @@ use Rattle.lazy_dfa.specs.StartCalls.{quit_refusal, behind_refusal, mode_refusal
 use Rattle.lazy_dfa.specs.Walks.{Rest, nothing_left, refused, unless_quit_at, where_supported, end_of, rest_from, whole_rest, value_past}
 use Rattle.lazy_dfa.specs.Walks.{rest_past}
 use Rattle.lazy_dfa.specs.WalkAnswers.{units_met, value_before, rest_at, units_at}
+use Rattle.lazy_dfa.proofs.TurnLemmas.{failed, one_failed}
 
 -- ---- places of a span
 
@@ -139,24 +139,18 @@ dead_units r h (suc n) i s e = rw e refl
 
 -- ---- refused starts
 
-abbrev failed : MatchErrorKind → Result (Option HalfFound) MatchErrorKind
-failed e = Err e
-
-one_error : (x y : MatchErrorKind) → failed x ≡ failed y → x ≡ y
-one_error x y e = cc
-
 mode_left : (is : Bool) (mode : Anchored) (e : MatchErrorKind) (all : HalfAnswer) (rest : Rest) (x : StartError) →
     (if is then None else Some (StartUnsupported mode)) ≡ Some x → failed e ≡ told (if_supported is mode all) →
     where_supported is mode rest ≡ refused e
 mode_left true mode e all rest x some is = absurd cc
-mode_left false mode e all rest x some is = ap refused (sym (one_error e (UnsupportedAnchored mode) is))
+mode_left false mode e all rest x some is = ap refused (sym (one_failed e (UnsupportedAnchored mode) is))
 
 quit_left : (quits : Bool) (b index : ℕ) (fine : Bool) (mode : Anchored) (e : MatchErrorKind)
     (all : HalfAnswer) (rest : Rest) (x : StartError) →
     quit_refusal quits b (if fine then None else Some (StartUnsupported mode)) ≡ Some x →
     failed e ≡ told (if quits then quit b index else if_supported fine mode all) →
     (if quits then refused (Quit b index) else where_supported fine mode rest) ≡ refused e
-quit_left true b index fine mode e all rest x some is = ap refused (sym (one_error e (Quit b index) is))
+quit_left true b index fine mode e all rest x some is = ap refused (sym (one_failed e (Quit b index) is))
 quit_left false b index fine mode e all rest x some is = mode_left fine mode e all rest x some is
 
 -- what a pass answers whose start is refused is the refusal that is left of a walk

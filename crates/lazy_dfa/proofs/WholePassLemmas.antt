@@ -49,7 +49,7 @@ use Rattle.lazy_dfa.proofs.PassQuitLemmas.{reads_all}
 use Rattle.lazy_dfa.proofs.PassStartLemmas.{named_alike, starts_dead, pass_told}
 use Rattle.lazy_dfa.proofs.PointLemmas.{held_known}
 use Rattle.lazy_dfa.proofs.StartCallLemmas.{mode_fine}
-use Rattle.lazy_dfa.proofs.TurnLemmas.{goes_on, goes_in_mode}
+use Rattle.lazy_dfa.proofs.TurnLemmas.{goes_on, goes_in_mode, one_failed}
 
 none_or_not : {X : Type 0} (o : Option X) → (o ≡ None) ⊎ (o ≢ None)
 none_or_not None = inl refl
@@ -214,14 +214,8 @@ one_at_most a b k m f = let e = suc-mul k m in omega (arith, e, f)
 fresh_start : (old new : CacheValue) → WasCleared old new 1 → IsFresh (told_of new)
 fresh_start old new w = fresh_anew (told_of old) (told_of new) (λ i. record { searched = w.searched i; progress = w.progress i })
 
-same_told : (d : Dfa) (a b : CacheValue) → Grew d a b → told_of b ≡ told_of a
+pub same_told : (d : Dfa) (a b : CacheValue) → Grew d a b → told_of b ≡ told_of a
 same_told d a b g = λ n. record { searched = g.searched n; progress = g.progress n }
-
-abbrev failed : MatchErrorKind → Result (Option HalfFound) MatchErrorKind
-failed e = Err e
-
-one_failed : (x y : MatchErrorKind) → failed x ≡ failed y → x ≡ y
-one_failed x y e = cc
 
 first_error : (is_reverse : Bool) (i : ℕ) (x : StartError) → IsRefusedFirst is_reverse i (error_at (index_behind is_reverse i) i x)
 first_error is_reverse i (Cache e) = refl

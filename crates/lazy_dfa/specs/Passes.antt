@@ -1,6 +1,6 @@
 -- One pass of a half search, as a function of values that knows no cache: from a powerset state on, unit by unit. A unit is
 -- a byte, or none at the end of input.
-use Rattle.std.specs.Prelude.{ℕ, zero, suc, ◌-◌, ◌==◌, ◌&&◌, not, Bool, true, false, List, [], ◌∷◌, Option, Some, None, if◌then◌else◌}
+use Rattle.std.specs.Prelude.{ℕ, zero, suc, ◌-◌, ◌&&◌, not, Bool, true, false, List, Option, Some, None, if◌then◌else◌}
 use Rattle.std.specs.Prelude.{slice_get}
 use Rattle.std.specs.Option.{option_or}
 use Rattle.search_core.specs.ByteSets.{has}
@@ -14,6 +14,7 @@ use Rattle.determinize_core.specs.States.{StateValue, dead}
 use Rattle.determinize_core.specs.Starts.{start_of}
 use Rattle.determinize_core.specs.Steps.{unit_at, unit_behind, start_value, step_value}
 use Rattle.determinize_core.specs.Walked.{end_at}
+pub use Rattle.lazy_dfa.specs.Dfas.{is_empty, is_dead}
 use Rattle.lazy_dfa.specs.Readers.{Reader, HalfAnswer, found, quit, unsupported}
 
 -- the index of the byte that one who reads forward or in reverse, from a place reads next, and that of the one behind the place
@@ -24,15 +25,6 @@ index_at true i = i - 1
 abbrev pub index_behind : Bool → ℕ → ℕ
 index_behind false i = i - 1
 index_behind true i = i
-
-abbrev pub is_empty : List ℕ → Bool
-is_empty [] = true
-is_empty (x ∷ xs) = false
-
--- whether the state is the dead one
-abbrev pub is_dead : StateValue → Bool
-is_dead v =
-    is_empty v.ids && is_empty v.matches && v.look_have == 0 && v.look_need == 0 && not v.is_from_word && not v.is_half_crlf
 
 -- a quit byte is answered with its index
 abbrev pub unless_quit : List Bool → Option ℕ → ℕ → HalfAnswer → HalfAnswer

@@ -90,17 +90,17 @@ module _ (b : Assembly) (x y : ℕ) (can : CanBuild b x y) (t : Text) where
     abbrev Kept : ℕ × ℕ → Type 0
     Kept p = IsKept same_pair pairs_equal same_pair pairs_equal (renamed_pair b.drafts) from found from_built found_built p
 
-    abbrev Stands : ℕ × ℕ → Type 0
-    Stands p = StandsIn same_pair pairs_equal same_pair pairs_equal (renamed_pair b.drafts) from found from_built found_built p
+    abbrev IsLedOn : ℕ × ℕ → Type 0
+    IsLedOn p = StandsIn same_pair pairs_equal same_pair pairs_equal (renamed_pair b.drafts) from found from_built found_built p
 
     is_kept : (p : ℕ × ℕ) → IsInside p → stands_for (draft_at b.drafts p.1) ≡ None → Kept p
     is_kept p here e = (state_ways b x y p.1 p.0 t here e, alike.kept p here e)
 
-    stands_in : (p : ℕ × ℕ) (r : ℕ) → stands_for (draft_at b.drafts p.1) ≡ Some r → Stands p
+    stands_in : (p : ℕ × ℕ) (r : ℕ) → stands_for (draft_at b.drafts p.1) ≡ Some r → IsLedOn p
     stands_in p r e =
         ((p.0, r), ways_of_stand (draft_at b.drafts p.1) r e b.reverse t p.0, alike.stands p r e, ap (λ n. (p.0, n)) (same_name p.1 r e))
 
-    either : (p : ℕ × ℕ) → IsInside p → Kept p ⊎ Stands p
+    either : (p : ℕ × ℕ) → IsInside p → Kept p ⊎ IsLedOn p
     either p here = ⊎_elim (λ (none : stands_for (draft_at b.drafts p.1) ≡ None). inl (is_kept p here none))
         (λ (some : (r : ℕ) × (stands_for (draft_at b.drafts p.1) ≡ Some r)). inr (stands_in p some.0 some.1))
         (option_cases (stands_for (draft_at b.drafts p.1)))

@@ -43,38 +43,38 @@ abbrev pub AreNamed : List DraftNode → Type 0
 AreNamed drafts = All (λ draft. All (λ q. q < length drafts) (names_of draft)) drafts
 
 module _ (drafts : List DraftNode) where
-  abbrev pub standing : ℕ → Option ℕ
-  standing q = stands_for (draft_at drafts q)
+  abbrev pub stood_for : ℕ → Option ℕ
+  stood_for q = stands_for (draft_at drafts q)
 
   -- after this many steps, and no fewer, one comes to a state that stands for itself
   abbrev pub Comes : ℕ → ℕ → Type 0
-  Comes zero q = standing q ≡ None
-  Comes (suc m) q = (r : ℕ) × (standing q ≡ Some r) × Comes m r
+  Comes zero q = stood_for q ≡ None
+  Comes (suc m) q = (r : ℕ) × (stood_for q ≡ Some r) × Comes m r
 
-  comes : (n q : ℕ) → standing (past_within drafts n q) ≡ None → (m : ℕ) × Comes m q
+  comes : (n q : ℕ) → stood_for (past_within drafts n q) ≡ None → (m : ℕ) × Comes m q
   comes zero q e = (0, e)
   comes (suc n) q e = ⊎_elim
-      (λ (none : standing q ≡ None). (0, none))
-      (λ (some : (r : ℕ) × (standing q ≡ Some r)).
-      let back : standing (past_within drafts n some.0) ≡ standing (past_within drafts (suc n) q) =
-      ap (λ o. standing (going_on q (past_within drafts n) o)) (sym some.1) in
+      (λ (none : stood_for q ≡ None). (0, none))
+      (λ (some : (r : ℕ) × (stood_for q ≡ Some r)).
+      let back : stood_for (past_within drafts n some.0) ≡ stood_for (past_within drafts (suc n) q) =
+      ap (λ o. stood_for (going_on q (past_within drafts n) o)) (sym some.1) in
       let more = comes n some.0 (back ∙ e) in (suc more.0, (some.0, some.1, more.1)))
-      (option_cases (standing q))
+      (option_cases (stood_for q))
 
   one_count : (m k q : ℕ) → Comes m q → Comes k q → m ≡ k
   one_count zero zero q a b = refl
-  one_count zero (suc k) q a b = no_value (standing q) b.0 _ a b.1
-  one_count (suc m) zero q a b = no_value (standing q) a.0 _ b a.1
+  one_count zero (suc k) q a b = no_value (stood_for q) b.0 _ a b.1
+  one_count (suc m) zero q a b = no_value (stood_for q) a.0 _ b a.1
   one_count (suc m) (suc k) q a b =
-      let same : a.0 ≡ b.0 = one_value (standing q) a.0 b.0 a.1 b.1 in
+      let same : a.0 ≡ b.0 = one_value (stood_for q) a.0 b.0 a.1 b.1 in
       let there : Comes k a.0 = rw same b.2 in
       ap (λ j. suc j) (one_count m k a.0 a.2 there)
 
   -- what stands for another is there
-  there_if_stands : (q r : ℕ) → standing q ≡ Some r → q < length drafts
+  there_if_stands : (q r : ℕ) → stood_for q ≡ Some r → q < length drafts
   there_if_stands q r e = ⊎_elim
-      (λ told. let past_end : standing q ≡ None = ap stands_for (get_or_past drafts q fail_draft told.1) in
-      no_value (standing q) r _ past_end e)
+      (λ told. let past_end : stood_for q ≡ None = ap stands_for (get_or_past drafts q fail_draft told.1) in
+      no_value (stood_for q) r _ past_end e)
       (λ told. told.1) (leb_tells (length drafts) q)
 
   -- the states on the way, without the last
@@ -114,19 +114,19 @@ module _ (drafts : List DraftNode) where
       let e : length (trail m q c) ≡ m = length_trail m q c in omega (arith, l, e)
 
   module _ (named : AreNamed drafts) where
-    pub next_inside : (q r : ℕ) → standing q ≡ Some r → r < length drafts
+    pub next_inside : (q r : ℕ) → stood_for q ≡ Some r → r < length drafts
     next_inside q r e = stand_in_named (length drafts) (draft_at drafts q) r e
         (All-get_or (λ draft. All (λ x. x < length drafts) (names_of draft)) drafts q fail_draft (there_if_stands q r e) named)
 
     within_inside : (n q : ℕ) → q < length drafts → past_within drafts n q < length drafts
     within_inside zero q inside = inside
     within_inside (suc n) q inside = ⊎_elim
-        (λ (none : standing q ≡ None). let e : past_within drafts (suc n) q ≡ q = past_itself drafts (suc n) q none in
+        (λ (none : stood_for q ≡ None). let e : past_within drafts (suc n) q ≡ q = past_itself drafts (suc n) q none in
         omega (arith, e, inside))
-        (λ (some : (r : ℕ) × (standing q ≡ Some r)). let e : past_within drafts (suc n) q ≡ past_within drafts n some.0 =
+        (λ (some : (r : ℕ) × (stood_for q ≡ Some r)). let e : past_within drafts (suc n) q ≡ past_within drafts n some.0 =
         ap (going_on q (past_within drafts n)) some.1 in
         let l : past_within drafts n some.0 < length drafts = within_inside n some.0 (next_inside q some.0 some.1) in omega (arith, e, l))
-        (option_cases (standing q))
+        (option_cases (stood_for q))
 
     pub past_inside : (q : ℕ) → q < length drafts → past drafts q < length drafts
     past_inside q inside = within_inside (length drafts) q inside
@@ -140,23 +140,23 @@ module _ (drafts : List DraftNode) where
       ap (going_on q (past_within drafts j)) c.1 ∙ same_within m j k c.0 c.2 (omega (arith, a)) (omega (arith, b))
       ∙ sym (ap (going_on q (past_within drafts k)) c.1)
 
-  stands_at_last : (m q k : ℕ) → Comes m q → m ≤ k → standing (past_within drafts k q) ≡ None
-  stands_at_last zero q k c a = ap standing (past_itself drafts k q c) ∙ c
+  stands_at_last : (m q k : ℕ) → Comes m q → m ≤ k → stood_for (past_within drafts k q) ≡ None
+  stands_at_last zero q k c a = ap stood_for (past_itself drafts k q c) ∙ c
   stands_at_last (suc m) q zero c a = absurd (omega (arith, a))
-  stands_at_last (suc m) q (suc k) c a = ap (λ o. standing (going_on q (past_within drafts k) o)) c.1
+  stands_at_last (suc m) q (suc k) c a = ap (λ o. stood_for (going_on q (past_within drafts k) o)) c.1
       ∙ stands_at_last m c.0 k c.2 (omega (arith, a))
 
   module _ (no_loop : HasNoLoop drafts) where
     pub comes_to : (q : ℕ) → q < length drafts → (m : ℕ) × Comes m q
     comes_to q inside = let n = no_loop q inside in comes n.0 q n.1
 
-    pub past_stands : (q : ℕ) → q < length drafts → standing (past drafts q) ≡ None
+    pub past_stands : (q : ℕ) → q < length drafts → stood_for (past drafts q) ≡ None
     past_stands q inside = let c = comes_to q inside in stands_at_last c.0 q (length drafts) c.1 (few_steps c.0 q c.1)
 
     pub past_twice : (q : ℕ) → q < length drafts → past drafts (past drafts q) ≡ past drafts q
     past_twice q inside = past_itself drafts (length drafts) (past drafts q) (past_stands q inside)
 
-    pub past_next : (q r : ℕ) → standing q ≡ Some r → past drafts q ≡ past drafts r
+    pub past_next : (q r : ℕ) → stood_for q ≡ Some r → past drafts q ≡ past drafts r
     past_next q r e =
         let c = comes_to q (there_if_stands q r e) in
         let l : c.0 ≤ length drafts = few_steps c.0 q c.1 in

@@ -17,7 +17,7 @@ use Rattle.search_core.specs.Characters.{one_byte, two_bytes, three_bytes, four_
 use Rattle.search_core.specs.Characters.{spelling_len, read_at, read_before}
 use Rattle.search_core.proofs.Utf8Lemmas.{heads_same, one_scalar}
 use Rattle.search_core.proofs.DecodeLemmas.{two_spell, three_spell, four_spell, same_first, front_two, front_three, front_four, read_one}
-use Rattle.search_core.proofs.DecodeLemmas.{back, put_one, put_two, put_three, put_four}
+use Rattle.search_core.proofs.DecodeLemmas.{in_range, back, put_one, put_two, put_three, put_four}
 use Rattle.search_core.proofs.SplitLemmas.{spelling_some, spelling_tails}
 use Rattle.search_core.proofs.CutLemmas.{first_decodes, last_decodes, lasts_same}
 
@@ -56,9 +56,6 @@ three_value a b d = cond (second_of_three a b && is_in_range 0x80 0xBF d) (Some 
 
 abbrev four_value : ℕ → ℕ → ℕ → ℕ → Option ℕ
 four_value a b d e = cond (second_of_four a b && is_in_range 0x80 0xBF d && is_in_range 0x80 0xBF e) (Some (scalar_of_four a b d e)) None
-
-in_range : (lo hi b : ℕ) → is_in_range lo hi b ≡ true → IsInRange lo hi b
-in_range lo hi b e = let p = and_parts _ _ e in (leb-true _ _ p.0, leb-true _ _ p.1)
 
 two_value_spells : (a b c : ℕ) → two_value a b ≡ Some c → Spells c (a ∷ b ∷ [])
 two_value_spells a b c e =
@@ -157,11 +154,11 @@ some_byte : (h : List ℕ) (k : ℕ) → 0 < get_or h k 0 → k < length h
 some_byte h k some = elim (cases_lt k (length h)) [ inl l ↦ l | inr past ↦ absurd (omega (arith, get_or_past h k 0 past)) ]
 
 -- the byte with index j of a list that stands at the place k
-abbrev Stands : List ℕ → ℕ → List ℕ → Type 0
-Stands h k s = (k + length s ≤ length h) × ((j : ℕ) → j < length s → get_or s j 0 ≡ get_or h (k + j) 0)
+abbrev IsAt : List ℕ → ℕ → List ℕ → Type 0
+IsAt h k s = (k + length s ≤ length h) × ((j : ℕ) → j < length s → get_or s j 0 ≡ get_or h (k + j) 0)
 
 -- a spelling that stands at the place gives the value of its length
-module _ (h : List ℕ) (k c : ℕ) (s : List ℕ) (at : Stands h k s) where
+module _ (h : List ℕ) (k c : ℕ) (s : List ℕ) (at : IsAt h k s) where
   first_byte : 0 < length s → get_or s 0 0 ≡ get_or h k 0
   first_byte l = at.1 0 l ∙ ap (λ j. get_or h j 0) (omega arith)
 
@@ -267,7 +264,7 @@ module _ (h : List ℕ) (i c : ℕ) where
     | inr o ↦ elim o [ inl p ↦ two_begins p | inr p ↦ elim p [ inl q ↦ three_begins q | inr q ↦ four_begins q ] ]
   ]
 
-  begun_stands : (f : SpellsFirst c (drop i h)) → Stands h i f.spelling
+  begun_stands : (f : SpellsFirst c (drop i h)) → IsAt h i f.spelling
   begun_stands f =
       let some = spelling_some c f.spelling f.spells in (
         omega (arith, length-drop i h, ap length f.joined, length-append f.spelling f.rest),
@@ -341,7 +338,7 @@ character_ends h i c fits e = elim (taken _ _ _ _ c e) [
 ]
 
 ended_stands : (h : List ℕ) (i c : ℕ) → i ≤ length h → (f : SpellsLast c (take i h)) → (length f.spelling ≤ i) ×
-    Stands h (i - length f.spelling) f.spelling
+    IsAt h (i - length f.spelling) f.spelling
 ended_stands h i c fits f =
     let n : i ≡ length f.front + length f.spelling = sym (length-take-le i h fits) ∙ ap length f.joined
     ∙ length-append f.front f.spelling in (

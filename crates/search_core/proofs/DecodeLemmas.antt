@@ -21,7 +21,7 @@ char_of None code P v h p = absurd (elim h [
 ])
 char_of (Some x) code P v h p = subst P (sym v.1) p.0
 
-in_range : (lo hi b : ℕ) → is_in_range lo hi b ≡ true → IsInRange lo hi b
+pub in_range : (lo hi b : ℕ) → is_in_range lo hi b ≡ true → IsInRange lo hi b
 in_range lo hi b e = let p = and_parts _ _ e in (leb-true _ _ p.0, leb-true _ _ p.1)
 
 pub two_spell : (a b : ℕ) → 0xC2 ≤ a → a ≤ 0xDF → is_in_range 0x80 0xBF b ≡ true →

@@ -1,4 +1,4 @@
--- Classes of scalars in a trie of ranges. Each sequence is turned round, as one who reads backwards meets its bytes.
+-- Classes of scalars in a trie of ranges. Each sequence is turned round, as one who reads in reverse meets its bytes.
 use Rattle.std.specs.Prelude.{◌⊎◌, ℕ, ◌<◌, ◌≤◌, List, [], ◌∷◌, map, reverse, length}
 use Rattle.thompson_nfa.specs.RangeTries.{IsIn}
 

@@ -25,7 +25,7 @@ choice false a e = union_reverse_draft (a ∷ e ∷ [])
 abbrev pub seen : Text → List ℕ
 seen t = take t.end t.haystack
 
--- What one who reads from place i to place j shall have come past: reading up a span of the tree from i to j, reading down
+-- What one who reads from place i to place j shall have come past: forward a span of the tree from i to j, in reverse
 -- one from j to i whose bytes are in the text.
 abbrev pub IsMeant : Bool → Text → Tree → ℕ → ℕ → Type 0
 IsMeant false t x i j = Means t.holds (seen t) x i j

@@ -1,4 +1,4 @@
-//! Classes of scalars in a trie of ranges, for an automaton that reads backwards.
+//! Classes of scalars in a trie of ranges, for an automaton that reads in reverse.
 ghost use Rattle.std.specs.Prelude.{◌≡◌, ℕ, List, [], ◌∷◌, true, reverse, OnOk};
 ghost use Rattle.hir_core.specs.BySequences.{sequences_of};
 ghost use Rattle.hir_core.specs.Sequences.{is_in_ranges, ranges_of, utf8_sequences};

@@ -1,4 +1,4 @@
-//! Classes of scalars that are read backwards, by sequences that share as many states as they can.
+//! Classes of scalars that are read in reverse, by sequences that share as many states as they can.
 
 ghost use Rattle.std.specs.Prelude.{◌≡◌, ◌<◌, ◌+◌, ◌*◌, ℕ, [], true, length, map, get_or, IfOk, IfErr};
 ghost use Rattle.hir_core.specs.Tree.{alternation, char_class};

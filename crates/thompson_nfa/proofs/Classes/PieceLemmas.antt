@@ -1,34 +1,11 @@
 -- The sequences of pieces that ascend: each comes after the one before it.
 use Rattle.std.proofs.Common.{◌≡◌, ℕ, ◌+◌, ◌/◌, ◌%◌, ◌<◌, ◌≤◌, ◌⊎◌, inl, inr, List, [], ◌∷◌, sym, ap, ap₂, subst, ◌∙◌, arith}
 use Rattle.std.specs.List.{zip}
-use Rattle.std.proofs.lemmas.Bool.{cond-true, cond-false, le-leb, lt-leb, cases_lt}
-use Rattle.hir_core.specs.Sequences.{spelling_of, byte_ranges}
+use Rattle.std.proofs.lemmas.Bool.{cases_lt}
+use Rattle.hir_core.specs.Sequences.{byte_ranges}
 use Rattle.hir_core.specs.Pieces.{Aligned, Blocks, IsPiece}
 use Rattle.thompson_nfa.specs.RangeTries.{IsBefore}
-use Rattle.hir_core.proofs.ForCallers.{spelled_one}
-
--- ---- spellings by their length
-
-abbrev two : ℕ → List ℕ
-two c = (192 + c / 64) ∷ (128 + c % 64) ∷ []
-
-abbrev three : ℕ → List ℕ
-three c = (224 + c / 4096) ∷ (128 + (c / 64) % 64) ∷ (128 + c % 64) ∷ []
-
-abbrev four : ℕ → List ℕ
-four c = (240 + c / 262144) ∷ (128 + (c / 4096) % 64) ∷ (128 + (c / 64) % 64) ∷ (128 + c % 64) ∷ []
-
-spelled_two : (c : ℕ) → 0x80 ≤ c → c ≤ 0x7FF → spelling_of c ≡ two c
-spelled_two c l h = cond-false _ _ _ (lt-leb c 0x7F (omega arith)) ∙ cond-true _ _ _ (le-leb c 0x7FF h)
-
-spelled_three : (c : ℕ) → 0x800 ≤ c → c ≤ 0xFFFF → spelling_of c ≡ three c
-spelled_three c l h =
-    cond-false _ _ _ (lt-leb c 0x7F (omega arith)) ∙ cond-false _ _ _ (lt-leb c 0x7FF (omega arith)) ∙ cond-true _ _ _ (le-leb c 0xFFFF h)
-
-spelled_four : (c : ℕ) → 0x10000 ≤ c → spelling_of c ≡ four c
-spelled_four c l =
-    cond-false _ _ _ (lt-leb c 0x7F (omega arith)) ∙ cond-false _ _ _ (lt-leb c 0x7FF (omega arith))
-    ∙ cond-false _ _ _ (lt-leb c 0xFFFF (omega arith))
+use Rattle.hir_core.proofs.ForCallers.{spelled_one, spelled_two, spelled_three, spelled_four}
 
 -- ---- pieces by the length of their spellings
 

@@ -1,4 +1,4 @@
--- What a class of scalars means where it is read backwards by sequences that were turned round: the strings of these are its
+-- What a class of scalars means where it is read in reverse by sequences that were turned round: the strings of these are its
 -- spellings, their last bytes first.
 use Rattle.std.proofs.Common.{◌≡◌, inl, inr, ℕ, suc, ◌+◌, ◌≤◌, Bool, true, false, ◌&&◌, ◌||◌, leb, List, [], ◌∷◌, ◌++◌, map, reverse}
 use Rattle.std.proofs.Common.{length, slice_get, Some, refl, sym, ap, ◌∙◌, arith, subst}

@@ -20,7 +20,7 @@ abbrev pub Finds : Bool → Text → Table → ℕ × ℕ → ℕ × ℕ → Typ
 Finds back t T p m = (r : List (ℕ × ℕ)) × IsChain same_pair (table_ways back t T) p r × (table_match T (last_or p r) ≡ Some m)
 
 -- From s the table finds pattern p wherever the tree leads, and nothing else. Where loops read, walks come to their end, and
--- reading up they list in the tree's order, up to repeats.
+-- forward they list in the tree's order, up to repeats.
 pub record FindsTree (back : Bool) (T : Table) (s p : ℕ) (x : Tree) : Type 0 where
   pub lists : back ≡ false → LoopsRead x → (t : Text) (i : ℕ) → ListedFirsts t T ((i, s) ∷ []) (at p (preferred_ends t.holds (seen t) x i))
   pub ends : LoopsRead x → (t : Text) (i : ℕ) → ComesToEnd back t T (i, s)

@@ -1,5 +1,5 @@
--- What is still to do, for loops over parts: once `rest` is done from the target, `whole` is done from the start. Reading
--- up the parts are taken from the first on, reading down from the last.
+-- What is still to do, for loops over parts: once `rest` is done from the target, `whole` is done from the start. Forward
+-- the parts are taken from the first on, in reverse from the last.
 use Rattle.std.proofs.Common.{◌≡◌, ℕ, suc, ◌+◌, ◌<◌, ◌≤◌, Bool, true, false, List, [], ◌∷◌, ◌++◌, length, take, drop, get_or, map, Option}
 use Rattle.std.proofs.Common.{Some, refl, sym, ap, ◌∙◌, subst, append-nil, drop-cons, add-one, drop_of_length-le}
 use Rattle.std.proofs.Math.Seq.{take-length}
@@ -44,7 +44,7 @@ joins_then_empty back x = record {
   met = λ l. sym (or_none (uses back x l));
 }
 
--- one part more behind the others, reading down
+-- one part more behind the others, in reverse
 pub joins_last_part : (x : Tree) (xs : List Tree) → Joins true (concat (x ∷ [])) (concat xs) (concat (xs ++ x ∷ []))
 joins_last_part x xs =
     joins_same true (concat (x ∷ [])) (concat xs) (cat (concat xs) (concat (x ∷ []))) (concat (xs ++ x ∷ []))

@@ -46,7 +46,7 @@ joins_same back x1 x2 y z same j = record {
   met = λ l. sym (same.met back l) ∙ j.met l;
 }
 
--- two parts: the first is done first reading up, the second reading down
+-- two parts: the first is done first forward, the second in reverse
 pub joins_cat_forward : (x y : Tree) → Joins false x y (cat x y)
 joins_cat_forward x y = record {
   parts = λ t i j m. m;

@@ -2,13 +2,14 @@ use Rattle.std.proofs.Common.{◌∙◌, sym, subst, ap, ℕ, Bool, refl, Some, 
 use Rattle.lazy_dfa.specs.Ids.{dead_id}
 use Rattle.lazy_dfa.specs.Caches.{CacheValue, IsCacheOf, Names, names_dead, names_held, with_state, new_id}
 use Rattle.lazy_dfa.specs.StartCalls.{start_added}
-use Rattle.lazy_dfa.proofs.IsCacheLemmas.{is_cache_added, alive_of, dead_of, new_held}
+use Rattle.lazy_dfa.proofs.IsCacheLemmas.{is_cache_added, alive_of, new_held}
+use Rattle.lazy_dfa.proofs.TurnLemmas.{dead_is}
 use Rattle.lazy_dfa.proofs.ChangeLemmas.{lacks_not_dead, lacks_not_found}
 use Rattle.lazy_dfa.proofs.starting.place_start.Goals as goal
 
 pub returns-then-is_dead_state-clause-to : goal.returns-then-is_dead_state-clause-to
 returns-then-is_dead_state-clause-to c = names_dead (c.dead.ensures ∙ ap dead_id c.stride-stride.ensures.stride)
-    (dead_of c.args.state (sym c.is_dead_state.ensures ∙ c.if-is_dead_state.true))
+    (dead_is c.args.state (sym c.is_dead_state.ensures ∙ c.if-is_dead_state.true))
 
 pub returns-then-is_dead_state-clause-ok : goal.returns-then-is_dead_state-clause-ok
 returns-then-is_dead_state-clause-ok c = lacks_not_dead c.args.dfa.now c.args.cache.now c.args.state (sym c.is_dead_state.ensures

@@ -1,7 +1,8 @@
 use Rattle.std.proofs.Common.{◌∙◌, sym, subst, ap, false, ℕ, refl, inl, Some}
 use Rattle.lazy_dfa.specs.Ids.{dead_id}
 use Rattle.lazy_dfa.specs.Caches.{CacheValue, IsCacheOf, HeldAt, Names, names_dead, names_held, state_at, with_state}
-use Rattle.lazy_dfa.proofs.IsCacheLemmas.{is_cache_added, alive_of, dead_of, held_added, new_held}
+use Rattle.lazy_dfa.proofs.IsCacheLemmas.{is_cache_added, alive_of, held_added, new_held}
+use Rattle.lazy_dfa.proofs.TurnLemmas.{dead_is}
 use Rattle.lazy_dfa.proofs.ChangeLemmas.{added_refl, adds_after, adds_nothing, made_after, lacks_not_dead, lacks_not_found}
 use Rattle.lazy_dfa.proofs.stepping.place.Goals as goal
 
@@ -14,7 +15,7 @@ returns-then-is_dead_state-clause-ok c = lacks_not_dead c.args.dfa.now c.args.ca
 
 pub returns-then-is_dead_state-clause-to : goal.returns-then-is_dead_state-clause-to
 returns-then-is_dead_state-clause-to c = names_dead (c.dead.ensures ∙ ap dead_id c.stride-stride.ensures.stride)
-    (dead_of c.args.state (sym c.is_dead_state.ensures ∙ c.if-is_dead_state.true))
+    (dead_is c.args.state (sym c.is_dead_state.ensures ∙ c.if-is_dead_state.true))
 
 pub returns-in-Some-clause-to : goal.returns-in-Some-clause-to
 returns-in-Some-clause-to c = subst (λ (n : ℕ). Names c.args.cache.now n c.args.state) (sym c.id-to.ensures)
