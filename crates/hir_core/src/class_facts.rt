@@ -8,6 +8,7 @@ ghost use Rattle.hir_core.specs.Facts.{least_spelling, longest_spelling, capped,
 use crate::facts::least_of_either;
 use crate::utf8_sequences::Utf8Sequences;
 
+/// Whether the bytes are valid UTF-8.
 #[tactic(auto, using(crate::proofs::Utf8Lemmas::is_utf8_yes, crate::proofs::Utf8Lemmas::is_utf8_no))]
 pub fn is_utf8(bytes: &[u8]) -> bool
     ensures { result ≡ is_utf8 bytes.now }

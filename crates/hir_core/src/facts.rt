@@ -7,6 +7,7 @@ ghost use Rattle.hir_core.specs.Facts.{minimum_len, maximum_len, is_utf8_tree, h
 
 use crate::hir::Hir;
 
+/// Both lengths in sum, at most `usize::MAX`, where both are known.
 pub fn sum_of_both(a: Option<usize>, b: Option<usize>) -> Option<usize>
     ensures { result ≡ sum_of_both a b }
 {
@@ -16,6 +17,7 @@ pub fn sum_of_both(a: Option<usize>, b: Option<usize>) -> Option<usize>
     }
 }
 
+/// The least of the lengths that are known.
 pub fn least_of_either(a: Option<usize>, b: Option<usize>) -> Option<usize>
     ensures { result ≡ least_of_either a b }
 {
@@ -26,6 +28,7 @@ pub fn least_of_either(a: Option<usize>, b: Option<usize>) -> Option<usize>
     }
 }
 
+/// The greatest of both lengths, where both are known.
 pub fn greatest_of_both(a: Option<usize>, b: Option<usize>) -> Option<usize>
     ensures { result ≡ greatest_of_both a b }
 {
@@ -56,6 +59,7 @@ pub fn times_most(rounds: Option<u32>, body: Option<usize>) -> Option<usize>
     }
 }
 
+/// The least length of a concatenation.
 pub fn concat_minimum_len(subs: &[Hir]) -> Option<usize>
     ensures { result ≡ minimum_len (concat subs.now) }
 {
@@ -66,6 +70,7 @@ pub fn concat_minimum_len(subs: &[Hir]) -> Option<usize>
     total
 }
 
+/// The least length of an alternation.
 pub fn alternation_minimum_len(subs: &[Hir]) -> Option<usize>
     ensures { result ≡ minimum_len (alternation subs.now) }
 {
@@ -76,6 +81,7 @@ pub fn alternation_minimum_len(subs: &[Hir]) -> Option<usize>
     least
 }
 
+/// The greatest length of a concatenation, where there is one.
 pub fn concat_maximum_len(subs: &[Hir]) -> Option<usize>
     ensures { result ≡ maximum_len (concat subs.now) }
 {
@@ -86,6 +92,7 @@ pub fn concat_maximum_len(subs: &[Hir]) -> Option<usize>
     total
 }
 
+/// The greatest length of an alternation, where there is one.
 pub fn alternation_maximum_len(subs: &[Hir]) -> Option<usize>
     ensures { result ≡ maximum_len (alternation subs.now) }
 {
@@ -123,6 +130,7 @@ pub fn height_over(subs: &[Hir]) -> usize
     levels
 }
 
+/// A bound on the states of a concatenation, as `Hir::count` has it.
 pub fn concat_count(subs: &[Hir]) -> usize
     ensures { result ≡ count (concat subs.now) }
 {
@@ -133,6 +141,7 @@ pub fn concat_count(subs: &[Hir]) -> usize
     states
 }
 
+/// A bound on the states of an alternation, as `Hir::count` has it.
 pub fn alternation_count(subs: &[Hir]) -> usize
     ensures { result ≡ count (alternation subs.now) }
 {
@@ -143,6 +152,7 @@ pub fn alternation_count(subs: &[Hir]) -> usize
     states
 }
 
+/// A bound on the states of a repetition, as `Hir::count` has it.
 pub fn repetition_count(min: usize, max: Option<u32>, body: usize) -> usize
     requires { IfSome max (λ most. min ≤ most) }
     ensures { result ≡ repeated_count min max body }

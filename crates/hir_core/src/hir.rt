@@ -21,7 +21,7 @@ pub struct Hir {
     count: usize,
 }
 
-/// The node at the top of a tree.
+/// The node at the top of a tree. As `regex_syntax::hir::HirKind`.
 #[cycle(hir)]
 #[derive(Debug, Drop)]
 pub enum HirKind {

@@ -8,7 +8,7 @@ ghost use Rattle.hir_core.specs.Sequences.{scalar_from, row_end, block_end, piec
 
 use std::marker::Model;
 
-/// A range of bytes, with both ends.
+/// A range of bytes, with both ends. As `regex_syntax::utf8::Utf8Range`.
 #[derive(Clone, Copy, Debug, PartialEq, Eq)]
 pub struct Utf8Range {
     pub start: u8,
@@ -25,6 +25,7 @@ impl Utf8Range {
 }
 
 /// A range for each byte of a spelling: its strings are those with each byte in its range.
+/// As `regex_syntax::utf8::Utf8Sequence`.
 #[derive(Clone, Copy, Debug, PartialEq, Eq)]
 pub enum Utf8Sequence {
     One(Utf8Range),
@@ -83,7 +84,7 @@ impl Utf8Sequence {
 }
 
 /// The sequences of the characters from one to another, ascending. Each character's spelling is a
-/// string of exactly one of them. A contract sees what is left of them.
+/// string of exactly one of them. A contract sees what is left of them. As `regex_syntax::utf8::Utf8Sequences`.
 #[derive(Drop)]
 pub struct Utf8Sequences {
     next: u32,

@@ -2,7 +2,7 @@ ghost use Rattle.std.specs.Prelude.{◌≡◌, ◌↔◌, Some};
 ghost use Rattle.look_core.specs.Codes.{reversed, repr, char_of};
 
 /// An assertion on a place of a haystack: it holds or not by the bytes or the characters beside the place,
-/// and reads none of them.
+/// and reads none of them. As `regex_automata::util::look::Look`.
 #[derive(Clone, Copy, Debug, PartialEq, Eq)]
 pub enum Look {
     /// The place is the start of the haystack.

@@ -56,6 +56,7 @@ impl<W: WordClass> LookMatcher<W> {
         self.terminator = terminator;
     }
 
+    /// The line terminator.
     pub fn get_line_terminator(&self) -> LineTerm
         ensures { result ≡ self.now.terminator }
     {

@@ -26,6 +26,7 @@ impl Model for LookSet {
 }
 
 impl LookSet {
+    /// No looks.
     pub fn empty() -> LookSet
         ensures { result ≡ 0 }
     {
@@ -69,12 +70,14 @@ impl LookSet {
         self.bits.count_ones() as usize
     }
 
+    /// Whether no look is in the set.
     pub fn is_empty(self) -> bool
         ensures { IsTrue result ↔ (self ≡ 0) }
     {
         self.bits == 0
     }
 
+    /// Whether the look is in the set.
     pub fn contains(self, look: Look) -> bool
         ensures { result ≡ has_look self look }
     {

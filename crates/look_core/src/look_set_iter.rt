@@ -6,7 +6,7 @@ use crate::look::Look;
 use crate::look_set::LookSet;
 use std::marker::Model;
 
-/// The members of a set, ascending by their numbers.
+/// The members of a set, ascending by their numbers. As `regex_automata::util::look::LookSetIter`.
 #[derive(Drop)]
 pub struct LookSetIter {
     set: LookSet,

@@ -4,7 +4,7 @@ use std::error::Error;
 use std::fmt;
 
 /// What asking for Unicode's word boundaries would be refused with, where the table of word characters is left
-/// out. Here the table is always there, so nothing gives this error.
+/// out. Here the table is always there, so nothing gives this error. As `regex_automata::util::look::UnicodeWordBoundaryError`.
 #[derive(Clone, Copy, Debug, PartialEq, Eq)]
 pub struct UnicodeWordBoundaryError(());
 

@@ -5,7 +5,7 @@ use search_types::GroupInfoError;
 use std::alloc::{AllocError, AllocFailed};
 use thiserror::Error;
 
-/// Why an automaton can't be built.
+/// Why an automaton can't be built. As `regex_automata::nfa::thompson::BuildError`.
 #[derive(Debug, Drop, Error)]
 pub enum BuildError {
     /// There are more patterns than can be numbered.

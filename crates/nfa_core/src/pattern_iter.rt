@@ -7,6 +7,7 @@ use search_core::PatternID;
 use std::marker::Model;
 
 /// The numbers of an automaton's patterns, ascending. A contract sees those that are left.
+/// As `regex_automata::nfa::thompson::PatternIter`.
 #[derive(Drop)]
 pub struct PatternIter {
     next: usize,

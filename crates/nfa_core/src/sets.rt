@@ -8,7 +8,7 @@ use std::alloc::{AllocError, Global};
 use std::mem;
 
 /// Two sets, as a walk over the states needs them: one for the states at this place of the input, and one
-/// for those at the next.
+/// for those at the next. As `regex_automata::util::sparse_set::SparseSets`.
 #[derive(Drop)]
 pub struct Sets<S: NameSet> {
     pub set1: S,

@@ -15,6 +15,7 @@ use std::sync::ledger::Ledger;
 /// A set of numbers of states below a capacity, in the order in which they came: a list whose memory is
 /// reserved, beside a table with a bit for each number. So a test and an insertion read one word, and
 /// [`clear`](NameSet::clear) costs as much as the numbers in the set, not as the capacity.
+/// As `regex_automata::util::sparse_set::SparseSet`.
 #[derive(Drop)]
 pub struct SparseSet {
     names: Vec<StateID>,

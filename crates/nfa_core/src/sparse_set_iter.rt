@@ -5,6 +5,7 @@ use search_core::StateID;
 use std::marker::Model;
 
 /// The numbers of a set, in the order in which they came. A contract sees those that are left.
+/// As `regex_automata::util::sparse_set::SparseSetIter`.
 #[derive(Drop)]
 pub struct SparseSetIter<'a> {
     rest: &'a [StateID],

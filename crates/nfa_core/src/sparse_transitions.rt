@@ -9,6 +9,7 @@ use search_core::{StateID, Unit};
 
 /// Ranges of bytes, each with the state to which it leads. The builder makes them ascending, with no byte in
 /// two of them; in a list where ranges overlap, the first that has a byte tells where it leads.
+/// As `regex_automata::nfa::thompson::SparseTransitions`.
 #[derive(Clone, PartialEq, Eq, Debug, Drop)]
 pub struct SparseTransitions {
     pub transitions: Vec<Transition>,

@@ -16,7 +16,7 @@ const TRANSITION_SIZE: usize = 8;
 /// The bytes that the table of a dense state takes.
 const TABLE_SIZE: usize = 1024;
 
-/// A state of a byte automaton.
+/// A state of a byte automaton. As `regex_automata::nfa::thompson::State`.
 #[derive(Clone, PartialEq, Eq, Debug, Drop)]
 pub enum State {
     /// Leads on by the bytes of one range.

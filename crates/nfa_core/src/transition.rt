@@ -7,7 +7,7 @@ ghost use Rattle.nfa_core.specs.Transitions.{has_byte};
 use search_core::{StateID, Unit};
 
 /// A range of bytes, from `start` to `end`, and the state to which each of them leads. A range whose start
-/// is above its end has no byte.
+/// is above its end has no byte. As `regex_automata::nfa::thompson::Transition`.
 #[derive(Clone, Copy, PartialEq, Eq, Debug)]
 pub struct Transition {
     pub start: u8,

@@ -4,7 +4,7 @@ ghost use Rattle.search_core.specs.ByteSets.{has, IsFirstWhere, starts_range, ra
 use crate::byte_set_iter::{ByteSetIter, ByteSetRangeIter};
 use std::marker::Model;
 
-/// A set of bytes.
+/// A set of bytes. As `regex_automata::util::alphabet::ByteSet`.
 #[derive(Clone, Copy, Debug)]
 pub struct ByteSet {
     bytes: [bool; 256],
@@ -21,6 +21,7 @@ impl Model for ByteSet {
 }
 
 impl ByteSet {
+    /// No bytes.
     pub fn empty() -> ByteSet
         ensures len { length result ≡ 256 }
         ensures none { (b : ℕ) → b < 256 → has result b ≡ false }
@@ -30,18 +31,21 @@ impl ByteSet {
         }
     }
 
+    /// Puts a byte in.
     pub fn add(&mut self, byte: u8)
         ensures { self.new ≡ slice_set self.old byte true }
     {
         self.bytes[usize::from(byte)] = true;
     }
 
+    /// Takes a byte out.
     pub fn remove(&mut self, byte: u8)
         ensures { self.new ≡ slice_set self.old byte false }
     {
         self.bytes[usize::from(byte)] = false;
     }
 
+    /// Whether the byte is in the set.
     pub fn contains(&self, byte: u8) -> bool
         ensures { result ≡ has self.now byte }
     {
@@ -60,6 +64,7 @@ impl ByteSet {
         true
     }
 
+    /// Whether no byte is in the set.
     pub fn is_empty(&self) -> bool
         ensures { IsTrue result ↔ ((b : ℕ) → b < 256 → has self.now b ≡ false) }
     {

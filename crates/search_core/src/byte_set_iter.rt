@@ -5,7 +5,7 @@ ghost use Rattle.search_core.specs.ByteSets.{members_of, ranges_of};
 use crate::byte_set::ByteSet;
 use std::marker::Model;
 
-/// The bytes of a set, ascending.
+/// The bytes of a set, ascending. As `regex_automata::util::alphabet::ByteSetIter`.
 #[derive(Drop)]
 pub struct ByteSetIter<'a> {
     set: &'a ByteSet,
@@ -43,7 +43,7 @@ impl<'a> Iterator for ByteSetIter<'a> {
     }
 }
 
-/// The ranges of a set, ascending.
+/// The ranges of a set, ascending. As `regex_automata::util::alphabet::ByteSetRangeIter`.
 #[derive(Drop)]
 pub struct ByteSetRangeIter<'a> {
     set: &'a ByteSet,

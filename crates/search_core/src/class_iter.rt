@@ -7,6 +7,7 @@ use crate::unit::Unit;
 use std::marker::Model;
 
 /// The classes, each once as a unit with its number, ascending, and then the end of the input.
+/// As `regex_automata::util::alphabet::ByteClassIter`.
 #[derive(Drop)]
 pub struct ByteClassIter {
     end: usize,
@@ -54,7 +55,7 @@ impl Iterator for ByteClassIter {
     }
 }
 
-/// The units of a class: its bytes, ascending, or the end of the input.
+/// The units of a class: its bytes, ascending, or the end of the input. As `regex_automata::util::alphabet::ByteClassElements`.
 #[derive(Drop)]
 pub struct ByteClassElements<'a> {
     classes: &'a ByteClasses,
@@ -109,7 +110,7 @@ impl<'a> Iterator for ByteClassElements<'a> {
     }
 }
 
-/// The first unit of each class that a range of bytes meets.
+/// The first unit of each class that a range of bytes meets. As `regex_automata::util::alphabet::ByteClassRepresentatives`.
 #[derive(Drop)]
 pub struct ByteClassRepresentatives<'a> {
     classes: &'a ByteClasses,

@@ -8,7 +8,7 @@ use crate::classes::ByteClasses;
 use std::marker::Model;
 
 /// Marks on bytes, by which byte classes are made: a byte with a mark and the byte after it are in
-/// different classes.
+/// different classes. As `regex_automata::util::alphabet::ByteClassSet`.
 #[derive(Clone, Copy, Debug)]
 pub struct ByteClassSet {
     marks: [bool; 256],

@@ -7,7 +7,7 @@ use crate::unit::Unit;
 use std::marker::Model;
 
 /// A class for each byte. Bytes of one class are alike to a searcher, which then needs one column of
-/// its table for each class.
+/// its table for each class. As `regex_automata::util::alphabet::ByteClasses`.
 #[derive(Clone, Copy, Debug)]
 pub struct ByteClasses {
     classes: [u8; 256],

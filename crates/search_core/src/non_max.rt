@@ -4,7 +4,7 @@ ghost use Rattle.std.specs.Option.{SomeIff};
 use std::fmt;
 use std::marker::Model;
 
-/// A `usize` other than the greatest. A contract sees it as the number.
+/// A `usize` other than the greatest. A contract sees it as the number. As `regex_automata::util::primitives::NonMaxUsize`.
 #[derive(Clone, Copy, PartialEq, Eq, PartialOrd, Ord, Hash)]
 pub struct NonMaxUsize(usize);
 

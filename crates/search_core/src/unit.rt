@@ -4,7 +4,7 @@ ghost use Rattle.search_core.specs.Units.{unit_byte, unit_end, unit_number, is_u
 use crate::utf8::is_word_byte;
 
 /// One unit of input: a byte, or the end of the input, whose number lies above those of all bytes or
-/// byte classes.
+/// byte classes. As `regex_automata::util::alphabet::Unit`.
 #[derive(Clone, Copy, Debug, PartialEq, Eq)]
 pub enum Unit {
     Byte(u8),
@@ -27,6 +27,7 @@ impl Unit {
         Unit::End(num_byte_equiv_classes as u16)
     }
 
+    /// The byte, or the number of the class; `None` at the end of the input.
     pub fn as_u8(self) -> Option<u8>
         ensures { result ≡ unit_byte self }
     {
@@ -46,6 +47,7 @@ impl Unit {
         }
     }
 
+    /// The number: that of the byte or class, or the one above all of them.
     pub fn as_usize(self) -> usize
         ensures { result ≡ unit_number self }
     {
@@ -55,12 +57,14 @@ impl Unit {
         }
     }
 
+    /// Whether this is a byte or a class.
     pub fn is_byte(self, byte: u8) -> bool
         ensures { result ≡ is_unit_byte self byte }
     {
         self.as_u8() == Some(byte)
     }
 
+    /// Whether this is the end of the input.
     pub fn is_eoi(self) -> bool
         ensures { IsTrue result ↔ IsSome (unit_end self) }
     {

@@ -3,7 +3,7 @@ ghost use Rattle.search_types.specs.Modes.{is_anchored, named_pattern};
 
 use search_core::PatternID;
 
-/// Where a search may find a match, and of which patterns.
+/// Where a search may find a match, and of which patterns. As `regex_automata::Anchored`.
 #[derive(Clone, Copy, Debug, PartialEq, Eq)]
 pub enum Anchored {
     /// At any place of the span.

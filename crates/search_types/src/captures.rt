@@ -19,7 +19,7 @@ use std::marker::Model;
 /// slots.
 ///
 /// A slot has one end of a group's span, and is unset where the group took no part in the match. Where
-/// only some of the slots are kept, the groups of the others count as such.
+/// only some of the slots are kept, the groups of the others count as such. As `regex_automata::util::captures::Captures`.
 #[derive(Drop)]
 pub struct Captures {
     group_info: GroupInfo,

@@ -8,7 +8,7 @@ use std::iter::FusedIterator;
 use std::marker::Model;
 
 /// The spans of the groups of the matched pattern in order, `None` for a group without one. A contract
-/// sees it as the list of those that are left.
+/// sees it as the list of those that are left. As `regex_automata::util::captures::CapturesPatternIter`.
 #[derive(Drop)]
 pub struct CapturesPatternIter<'a> {
     captures: &'a Captures,

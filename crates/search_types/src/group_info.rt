@@ -19,7 +19,7 @@ use std::marker::Model;
 ///
 /// Each pattern has a first group, which is its whole match and has no name. Each group has two slots,
 /// for the start and the end of its span. The slots of the first groups come first, pattern by pattern,
-/// and then those of the other groups, the explicit ones.
+/// and then those of the other groups, the explicit ones. As `regex_automata::util::captures::GroupInfo`.
 #[derive(Drop)]
 pub struct GroupInfo {
     patterns: Vec<PatternGroups>,

@@ -7,6 +7,7 @@ use std::error::Error;
 use std::fmt;
 
 /// Why groups can't be taken: the first rule that they break, or no memory.
+/// As `regex_automata::util::captures::GroupInfoError`.
 #[derive(Debug, Drop)]
 pub enum GroupInfoError {
     /// There are more patterns than can be numbered.

@@ -9,6 +9,7 @@ use search_core::PatternID;
 use std::marker::Model;
 
 /// The names of a pattern's groups in order, `None` for a group without one.
+/// As `regex_automata::util::captures::GroupInfoPatternNames`.
 #[derive(Drop)]
 pub struct GroupInfoPatternNames<'a> {
     info: &'a GroupInfo,
@@ -55,7 +56,7 @@ impl<'a> Iterator for GroupInfoPatternNames<'a> {
 }
 
 /// The groups of all patterns, pattern by pattern: the pattern, the group's index and its name, if it has
-/// one.
+/// one. As `regex_automata::util::captures::GroupInfoAllNames`.
 #[derive(Drop)]
 pub struct GroupInfoAllNames<'a> {
     info: &'a GroupInfo,

@@ -7,7 +7,7 @@ use std::fmt::{self, Display, Formatter, Write};
 use std::marker::Model;
 use thiserror::Error;
 
-/// Why a search told neither a match nor that there is none.
+/// Why a search told neither a match nor that there is none. As `regex_automata::MatchErrorKind`.
 #[derive(Clone, Copy, Debug, PartialEq, Eq)]
 pub enum MatchErrorKind {
     /// The search met a byte at which it was set to stop. The offset is the byte's place.
@@ -59,7 +59,7 @@ impl Display for MatchErrorKind {
     }
 }
 
-/// The error of a search. A contract sees it as its kind.
+/// The error of a search. A contract sees it as its kind. As `regex_automata::MatchError`.
 #[derive(Clone, Copy, Debug, PartialEq, Eq, Error)]
 #[error("{0}")]
 pub struct MatchError(MatchErrorKind);

@@ -7,7 +7,7 @@ use std::marker::Model;
 use std::ops::Range;
 
 /// A match: which pattern it is of, and the span of it, whose start is never above its end. A
-/// contract sees it as a `Found`.
+/// contract sees it as a `Found`. As `regex_automata::Match`.
 #[derive(Clone, Copy, Debug, PartialEq, Eq, Hash)]
 pub struct Match {
     pattern: PatternID,
@@ -102,7 +102,7 @@ impl Match {
 
 /// One end of a match: which pattern it is of, and the place to which the search came, which is the
 /// match's end for a forward search and its start for a reverse one. A contract sees it as a
-/// `HalfFound`.
+/// `HalfFound`. As `regex_automata::HalfMatch`.
 #[derive(Clone, Copy, Debug, PartialEq, Eq, Hash)]
 pub struct HalfMatch {
     pattern: PatternID,

@@ -11,7 +11,7 @@ use std::fmt;
 use std::marker::Model;
 
 /// A set of patterns whose numbers are below a capacity. A contract sees it as a list with a test for
-/// each pattern, as long as the capacity.
+/// each pattern, as long as the capacity. As `regex_automata::PatternSet`.
 #[derive(Debug, Drop)]
 pub struct PatternSet {
     which: Vec<bool>,
@@ -88,6 +88,7 @@ impl PatternSet {
         Ok(self.insert(pid))
     }
 
+    /// Whether no pattern is in the set.
     pub fn is_empty(&self) -> bool
         ensures { IsTrue result ↔ ((p : ℕ) → p < length self.now → has self.now p ≡ false) }
     {
@@ -137,7 +138,7 @@ impl PatternSet {
     }
 }
 
-/// A set of patterns has no room for a pattern.
+/// A set of patterns has no room for a pattern. As `regex_automata::PatternSetInsertError`.
 #[derive(Clone, Debug, Drop)]
 pub struct PatternSetInsertError {
     attempted: PatternID,

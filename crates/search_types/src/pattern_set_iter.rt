@@ -8,7 +8,7 @@ use std::iter::FusedIterator;
 use std::marker::Model;
 
 /// The patterns of a set, ascending, from both ends. A contract sees it as the list of those that are
-/// left.
+/// left. As `regex_automata::PatternSetIter`.
 #[derive(Drop)]
 pub struct PatternSetIter<'a> {
     // A test for each pattern that is still to be looked at, and the first one's number.

@@ -3,7 +3,7 @@ ghost use Rattle.std.specs.Prelude.{◌≡◌, ◌+◌, ◌-◌, ◌<◌, ◌≤
 use std::ops::Range;
 
 /// A part of a haystack, as the places of its two ends in bytes. The byte at `end` is outside. A
-/// start above the end is allowed, and such a span is empty.
+/// start above the end is allowed, and such a span is empty. As `regex_automata::Span`.
 #[derive(Clone, Copy, Debug, PartialEq, Eq, Hash)]
 pub struct Span {
     pub start: usize,
