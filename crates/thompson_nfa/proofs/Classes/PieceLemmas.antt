@@ -7,6 +7,17 @@ use Rattle.hir_core.specs.Pieces.{Aligned, Blocks, IsPiece}
 use Rattle.thompson_nfa.specs.RangeTries.{IsBefore}
 use Rattle.hir_core.proofs.ForCallers.{spelled_one, spelled_two, spelled_three, spelled_four}
 
+-- ---- spellings by their length
+
+abbrev two : ℕ → List ℕ
+two c = (192 + c / 64) ∷ (128 + c % 64) ∷ []
+
+abbrev three : ℕ → List ℕ
+three c = (224 + c / 4096) ∷ (128 + (c / 64) % 64) ∷ (128 + c % 64) ∷ []
+
+abbrev four : ℕ → List ℕ
+four c = (240 + c / 262144) ∷ (128 + (c / 4096) % 64) ∷ (128 + (c / 64) % 64) ∷ (128 + c % 64) ∷ []
+
 -- ---- pieces by the length of their spellings
 
 pub data Kind (f e : ℕ) : Type 0 where
