@@ -16,9 +16,9 @@ use Rattle.lazy_dfa.specs.Readers.{is_quit}
 use Rattle.lazy_dfa.specs.Dfas.{Dfa, IsDfa, IsUnit, after, class_of, is_dead, cost}
 use Rattle.lazy_dfa.specs.Ids.{tag, unknown_id, is_sentinel, tagged, has_tag, start_tag}
 use Rattle.lazy_dfa.specs.Caches.{CacheValue, IsShaped, IsCacheOf, Leads, Names, names_dead, names_held, HeldAt, IsRow, same, place_of}
-use Rattle.lazy_dfa.specs.Caches.{state_at, id_at, cell_at, with_state, cleared, usage, fits, Fits, is_refused, lacks_room}
+use Rattle.lazy_dfa.specs.Caches.{state_at, id_at, cell_at, with_state, cleared, usage, fits, Fits, is_refused, needs_clear, lacks_room}
 use Rattle.lazy_dfa.specs.Steps.{IsHeld, StepsTo, Added, Grew, WasCleared, ClearedFrom, kept_alone, MadeRoom, AddsOrClears, KeepsOrClears}
-use Rattle.lazy_dfa.specs.Steps.{noted, IsKnown, IsNoted, GivesUp, IsCause, IsStepCause}
+use Rattle.lazy_dfa.specs.Steps.{noted, IsKnown, IsNoted, GivesUp, StepNeedsClear, IsCause, IsStepCause}
 use Rattle.lazy_dfa.specs.declared.cache_error.CacheError.{CacheError}
 use Rattle.lazy_dfa.specs.declared.cache_error.CacheError.TheVariants.{GaveUp, NoMemory}
 use Rattle.lazy_dfa.proofs.ListLemmas.{one_longer}
@@ -109,6 +109,13 @@ made_after v mid new k s i made e = ⊎_elim
     (λ (f : mid ≡ v). inl (subst (Added v) (sym (e ∙ ap (with_state false s) f)) (added_state v false s i)))
     (λ (f : mid ≡ kept_alone v k). inr (e ∙ ap (with_state false s) f))
     made
+
+-- a cache that is as it was, and one with a state more
+pub added_none : (v new : CacheValue) → IsShaped v → new ≡ v → Added v new
+added_none v new i e = subst (Added v) (sym e) (added_refl v i)
+
+pub added_one : (v mid new : CacheValue) (b : Bool) (s : StateValue) → IsShaped v → mid ≡ v → new ≡ with_state b s mid → Added v new
+added_one v mid new b s i f e = subst (Added v) (sym (e ∙ ap (with_state b s) f)) (added_state v b s i)
 
 -- an ID of a row stays one where it names what it named
 pub row_kept : (v w : CacheValue) → IsShaped v → ((id : ℕ) (s : StateValue) → Names v id s → Names w id s) → (id : ℕ) → IsRow v id →
@@ -293,17 +300,20 @@ pub grew_refl : (d : Dfa) (v : CacheValue) → KeepsOrClears d v v
 grew_refl d v = inl (same_grew d v)
 
 -- where no step was noted
+pub grew_added : (d : Dfa) (v mid : CacheValue) → IsDfa d → IsCacheOf d v → Added v mid → Grew d v mid
+grew_added d v mid made own a = record {
+  names = a.names;
+  rows = row_kept v mid a.shape a.names;
+  known = λ i w r unitw n. a.cells i (class_of d.classes w) r (column d v made own w unitw);
+  starts = a.starts;
+  clears = a.clears;
+  searched = a.searched;
+  progress = a.progress;
+}
+
 pub grew_of : (d : Dfa) (v mid : CacheValue) → IsDfa d → IsCacheOf d v → AddsOrClears v mid → KeepsOrClears d v mid
 grew_of d v mid made own changes = ⊎_elim
-    (λ (a : Added v mid). inl (record {
-      names = a.names;
-      rows = row_kept v mid a.shape a.names;
-      known = λ i w r unitw n. a.cells i (class_of d.classes w) r (column d v made own w unitw);
-      starts = a.starts;
-      clears = a.clears;
-      searched = a.searched;
-      progress = a.progress;
-    }))
+    (λ (a : Added v mid). inl (grew_added d v mid made own a))
     (λ (x : WasCleared v mid 2). inr x)
     changes
 
@@ -336,6 +346,9 @@ no_refusal false true false w e = e
 all_refuse : (x y z w : Bool) → x ≡ false → y ≡ true → z ≡ false → w ≡ true → refuses x y z w ≡ true
 all_refuse x y z w a b c e = rw (a, b, c, e) refl
 
+all_need : (x y z : Bool) → x ≡ false → y ≡ true → z ≡ false → (not x && (y && not z)) ≡ true
+all_need x y z a b c = rw (a, b, c) refl
+
 module _ (d : Dfa) (v : CacheValue) (s : StateValue) where
   abbrev dead_one : Bool
   dead_one = is_dead s
@@ -365,6 +378,9 @@ module _ (d : Dfa) (v : CacheValue) (s : StateValue) where
       is_refused (clears_of d.options) (bytes_of d.options) v ≡ true → lacks_room d v s ≡ true
   lacks_all a b c e = all_refuse dead_one new_one fitting refused a (ap is_none b) c e
 
+  pub needs_all : is_dead s ≡ false → place_of s v.states ≡ None → fits d.capacity s v ≡ false → needs_clear d v s ≡ true
+  needs_all a b c = all_need dead_one new_one fitting a (ap is_none b) c
+
   pub fits_is : fits d.capacity s v ≡ true → Fits d.capacity s v
   fits_is e =
       let b = both (nat_le (usage v + cost v.stride s) d.capacity) (nat_le (length v.cells + v.stride) tag) e in
@@ -393,6 +409,18 @@ module _ (d : Dfa) (v mid : CacheValue) (id k : ℕ) (u : Option ℕ) (s : State
         },
       ))
       cause
+
+  -- the state asks for a clear, so the step does
+  pub step_needs : noted d v id u ≡ unknown_id → is_quit d.quits u ≡ false → needs_clear d mid s ≡ true → StepNeedsClear d v id u
+  step_needs unknown no_quit needs = record {
+    row = (k, inside, row);
+    unknown = unknown;
+    no_quit = no_quit;
+    needs = λ t h.
+        let one : state_at v k ≡ t = ap (state_at v) (same_row v k h.0 shape inside h.1 (sym row ∙ h.2)) ∙ sym h.3 in
+        ap (λ (x : StateValue). needs_clear d v (after d x u)) (sym one)
+        ∙ (ap (needs_clear d v) (sym value) ∙ (ap (λ (w : CacheValue). needs_clear d w s) (sym same_cache) ∙ needs));
+  }
 
   pub no_cause : lacks_room d mid s ≡ false → GivesUp d v id u → ⊥
   no_cause none g = true≢false (sym (g.lacks (state_at v k) (k, inside, row, refl))

@@ -10,11 +10,11 @@ use Rattle.lazy_dfa.specs.Accounting.{Measures, start_count}
 use Rattle.lazy_dfa.specs.ConfigValue.{starts_each_of}
 use Rattle.lazy_dfa.specs.Dfas.{Dfa, IsDfa, start_in, first_state}
 use Rattle.lazy_dfa.specs.Ids.{unknown_id}
-use Rattle.lazy_dfa.specs.Caches.{CacheValue, IsCacheOf, slot}
+use Rattle.lazy_dfa.specs.Caches.{CacheValue, IsCacheOf, slot, needs_clear}
 use Rattle.lazy_dfa.specs.Readers.{is_quit}
 use Rattle.lazy_dfa.specs.Steps.{Grew}
 use Rattle.lazy_dfa.specs.StartCalls.{mode_of, quit_refusal, behind_refusal, mode_refusal, start_refusal, start_slot, start_first}
-use Rattle.lazy_dfa.specs.StartCalls.{IsStartKnown, ClearedFor, StartCleared}
+use Rattle.lazy_dfa.specs.StartCalls.{IsStartKnown, StartNeedsClear, ClearedFor, StartCleared}
 use Rattle.lazy_dfa.specs.declared.start_error.StartError.{StartError}
 use Rattle.lazy_dfa.specs.declared.start_error.StartError.TheVariants.{UnsupportedAnchored}
 use Rattle.lazy_dfa.proofs.IsCacheLemmas.{numbered_back}
@@ -104,5 +104,19 @@ module _ (d : Dfa) (c : StartValue) (n q : ℕ) (s : Start) (named : Some q ≡ 
         named = sym named;
         clears = subst (λ (i : ℕ). ClearedFor d v w i (start_first d c q)) same_slot
             (subst (λ (t : Start). ClearedFor d v w (slot n s) (first_state d t q)) is x);
+      }))
+      e
+
+  -- a state that asks for a clear is that of a start which does
+  pub start_needs : (v w : CacheValue) → Grew d v w ⊎ ((get_or v.starts (slot n s) 0 ≡ unknown_id) ×
+      (needs_clear d v (first_state d s q) ≡ true)) →
+      Grew d v w ⊎ StartNeedsClear d v c
+  start_needs v w e = ⊎_elim
+      (λ (g : Grew d v w). inl g)
+      (λ (x : (get_or v.starts (slot n s) 0 ≡ unknown_id) × (needs_clear d v (first_state d s q) ≡ true)). inr (record {
+        name = q;
+        named = sym named;
+        unknown = ap (λ (i : ℕ). get_or v.starts i 0) (sym same_slot) ∙ x.0;
+        needs = subst (λ (t : Start). needs_clear d v (first_state d t q) ≡ true) is x.1;
       }))
       e

@@ -1,6 +1,6 @@
 -- What start calls change of a cache, and which tag a start gets.
-use Rattle.std.proofs.Common.{◌≡◌, ◌≢◌, ℕ, ◌*◌, ◌%◌, ◌/◌, ◌<◌, Bool, true, false, ◌⊎◌, length, get_or, set, refl, sym, ap, ◌∙◌, subst, inl}
-use Rattle.std.proofs.Common.{inr, ⊎_elim, arith, true≢false, Some, None, get_or-set_other}
+use Rattle.std.proofs.Common.{◌≡◌, ◌≢◌, ℕ, ◌*◌, ◌+◌, ◌%◌, ◌/◌, ◌<◌, ◌≤◌, Bool, true, false, ◌⊎◌, length, get_or, set, refl, sym, ap, ◌∙◌, subst, inl}
+use Rattle.std.proofs.Common.{inr, ⊎_elim, arith, true≢false, Option, Some, None, get_or-set_other}
 use Rattle.std.proofs.lemmas.Bool.{cases_eq}
 use Rattle.std.proofs.lemmas.Bool.Decides.{Decides-eqb}
 use Rattle.std.proofs.lemmas.Slice.Eq.{bytes_eq-Decides}
@@ -9,15 +9,16 @@ use Rattle.determinize_core.specs.StateBytes.{encoded, is_match}
 use Rattle.determinize_core.specs.States.{StateValue}
 use Rattle.determinize_core.specs.declared.start.Start.{Start}
 use Rattle.lazy_dfa.specs.ConfigValue.{specializes}
-use Rattle.lazy_dfa.specs.Dfas.{Dfa, IsDfa, class_of, first_state, start_in, is_dead}
-use Rattle.lazy_dfa.specs.Ids.{tag, unknown_id, tagged, has_tag, start_tag}
+use Rattle.lazy_dfa.specs.Readers.{is_quit}
+use Rattle.lazy_dfa.specs.Dfas.{Dfa, IsDfa, class_of, after, first_state, start_in, is_dead}
+use Rattle.lazy_dfa.specs.Ids.{tag, unknown_id, quit_id, tagged, has_tag, start_tag}
 use Rattle.lazy_dfa.specs.Caches.{CacheValue, IsShaped, IsCacheOf, Names, names_dead, names_held, same, place_of, slot, new_id, with_state}
-use Rattle.lazy_dfa.specs.Caches.{cleared}
-use Rattle.lazy_dfa.specs.Steps.{Added, Grew, WasCleared}
+use Rattle.lazy_dfa.specs.Caches.{IsRow, id_at, state_at, cleared}
+use Rattle.lazy_dfa.specs.Steps.{Added, Grew, WasCleared, StepsTo, TagsStep}
 use Rattle.lazy_dfa.specs.StartCalls.{TagsStart, ClearedFor, PlacesStart, start_found, start_added}
 use Rattle.lazy_dfa.proofs.CacheLemmas.{IsShaped-cleared, fresh_at}
 use Rattle.lazy_dfa.proofs.ChangeLemmas.{added_refl, added_state, column, row_kept, cleared_few, same_grew}
-use Rattle.lazy_dfa.proofs.IsCacheLemmas.{alive_of, row_is_plain, le_of, names_starts}
+use Rattle.lazy_dfa.proofs.IsCacheLemmas.{alive_of, row_is_plain, same_row, le_of, names_starts}
 
 -- ---- tags
 
@@ -74,7 +75,7 @@ module _ (d : Dfa) (v mid new : CacheValue) (i id : ℕ) (s : StateValue) (made 
       (λ (ne : j ≢ i). get_or-set_other mid.starts i j id 0 ne ∙ a.starts j n)
       (cases_eq j i)
 
-  grew_start : Added v mid → Grew d v new
+  pub grew_start : Added v mid → Grew d v new
   grew_start a = subst (Grew d v) (sym e) (record {
     names = λ j t n. names_starts mid (set mid.starts i id) j t (a.names j t n);
     rows = λ j r. row_kept v (record mid { starts = set mid.starts i id }) own.shape
@@ -127,3 +128,30 @@ start_tags d v mid id s positive (start_found f g) alive fresh = absurd (g alive
 start_tags d v mid id s positive (start_added m room l f g) alive fresh =
     let stride : mid.stride ≡ m.stride = ap (λ (x : CacheValue). x.stride) f in
     ap (has_tag start_tag) g ∙ has_start (specializes d.options) (is_match s.matches) (length m.cells) (omega (arith, l, stride, positive))
+
+-- ---- tags of states to which steps lead
+
+-- a state that a step adds has no tag of starts
+pub made_tag : (mid : CacheValue) (s : StateValue) (to : ℕ) → 0 < mid.stride → length mid.cells + mid.stride ≤ tag →
+    to ≡ new_id mid false s → has_tag start_tag to ≡ false
+made_tag mid s to positive l e =
+    ap (has_tag start_tag) e ∙ has_start false (is_match s.matches) (length mid.cells) (omega (arith, l, positive))
+
+-- so a step that is made has none where its state wasn't held
+pub step_tags : (d : Dfa) (v mid : CacheValue) (id k : ℕ) (u : Option ℕ) (s : StateValue) (to : ℕ) → IsShaped v → mid ≡ v →
+    k < length v.states → id ≡ id_at v k → s ≡ after d (state_at v k) u →
+    (is_dead s ≡ false → place_of s mid.states ≡ None → has_tag start_tag to ≡ false) → TagsStep d v id u to
+step_tags d v mid id k u s to shape same_cache inside row value tag t h no_quit alive fresh =
+    let one : state_at v k ≡ t = ap (state_at v) (same_row v k h.0 shape inside h.1 (sym row ∙ h.2)) ∙ sym h.3 in
+    let is : s ≡ after d t u = value ∙ ap (λ (x : StateValue). after d x u) one in
+    tag (ap is_dead is ∙ alive) (ap (λ (x : StateValue). place_of x mid.states) is
+    ∙ (ap (λ (w : CacheValue). place_of (after d t u) w.states) same_cache ∙ fresh))
+
+-- one that is known leads to a state that is held
+pub known_tags : (d : Dfa) (v : CacheValue) (id cell : ℕ) (u : Option ℕ) → StepsTo d v v id u cell → TagsStep d v id u cell
+known_tags d v id cell u leads t h no_quit alive fresh = absurd (not_fresh d v cell (after d t u) ((leads t h).goes no_quit) alive fresh)
+
+-- and by a quit byte to the quit sentinel
+pub known_quits : (d : Dfa) (v : CacheValue) (id cell : ℕ) (u : Option ℕ) → StepsTo d v v id u cell → IsRow v id →
+    is_quit d.quits u ≡ true → cell ≡ quit_id v.stride
+known_quits d v id cell u leads row quit = (leads (state_at v row.0) (row.0, row.1, row.2, refl)).quits quit

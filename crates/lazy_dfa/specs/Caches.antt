@@ -178,6 +178,10 @@ abbrev pub is_refused : Option ℕ → Option ℕ → CacheValue → Bool
 is_refused None bytes v = false
 is_refused (Some least) bytes v = nat_le least v.clears && not (pays_off bytes v)
 
+-- whether a state isn't held and doesn't fit, so that it asks for a clear
+abbrev pub needs_clear : Dfa → CacheValue → StateValue → Bool
+needs_clear d v s = not (is_dead s) && (is_none (place_of s v.states) && not (fits d.capacity s v))
+
 -- whether a state isn't held, doesn't fit, and no room may be made for it
 abbrev pub lacks_room : Dfa → CacheValue → StateValue → Bool
 lacks_room d v s = not (is_dead s) && (is_none (place_of s v.states) && (not (fits d.capacity s v)

@@ -10,7 +10,7 @@ use Rattle.determinize_core.specs.Starts.{StartValue, start_of}
 use Rattle.lazy_dfa.specs.ConfigValue.{starts_each_of, specializes}
 use Rattle.lazy_dfa.specs.Dfas.{Dfa, start_in, first_state, is_dead}
 use Rattle.lazy_dfa.specs.Ids.{tag, dead_id, unknown_id, tagged, has_tag, start_tag}
-use Rattle.lazy_dfa.specs.Caches.{CacheValue, Names, slot, id_at, place_of, new_id, with_state, cleared, lacks_room}
+use Rattle.lazy_dfa.specs.Caches.{CacheValue, Names, slot, id_at, place_of, new_id, with_state, cleared, needs_clear, lacks_room}
 use Rattle.lazy_dfa.specs.Readers.{is_quit}
 use Rattle.lazy_dfa.specs.Steps.{WasCleared}
 use Rattle.lazy_dfa.specs.declared.cache_error.CacheError.{CacheError}
@@ -75,6 +75,13 @@ abbrev pub IsStartCause : Dfa → CacheValue → StartValue → StartError → T
 IsStartCause d v c e = (e ≡ NoMemory) ⊎ ((e ≡ Cache GaveUp) × StartGivesUp d v c)
 
 -- ---- what start calls change
+
+-- a start asks for a clear: it isn't known, and its state isn't held and doesn't fit
+pub record StartNeedsClear (d : Dfa) (v : CacheValue) (c : StartValue) : Type 0 where
+  pub name : ℕ
+  pub named : start_in d (mode_of c.anchored) ≡ Some name
+  pub unknown : start_noted d v c ≡ unknown_id
+  pub needs : needs_clear d v (start_first d c name) ≡ true
 
 -- a state that wasn't held gets the tag of starts where those are told apart
 abbrev pub TagsStart : Dfa → CacheValue → StateValue → ℕ → Type 0

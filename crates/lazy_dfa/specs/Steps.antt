@@ -1,13 +1,13 @@
 -- What steps over a cache are told of, what they answer, and what they change.
 use Rattle.std.specs.Prelude.{◌≡◌, ◌≢◌, ◌⊎◌, ◌<◌, ◌≤◌, ◌+◌, ◌*◌, ◌%◌, ℕ, true, false, min, [], ◌∷◌, length, Option, slice_index_or}
-use Rattle.std.specs.Prelude.{replicate}
+use Rattle.std.specs.Prelude.{None, replicate}
 use Rattle.determinize_core.specs.Costs.{free_ways}
 use Rattle.determinize_core.specs.StateBytes.{is_match}
 use Rattle.determinize_core.specs.States.{StateValue}
-use Rattle.lazy_dfa.specs.Dfas.{Dfa, class_of, after, IsUnit}
+use Rattle.lazy_dfa.specs.Dfas.{Dfa, class_of, after, is_dead, IsUnit}
 use Rattle.lazy_dfa.specs.Ids.{tag, has_tag, start_tag, tagged, unknown_id, dead_id, quit_id, is_sentinel}
 use Rattle.lazy_dfa.specs.Caches.{CacheValue, IsShaped, IsRow, HeldAt, Names, Leads, id_at, state_at, with_state, cleared, greatest}
-use Rattle.lazy_dfa.specs.Caches.{begun_anew, lacks_room}
+use Rattle.lazy_dfa.specs.Caches.{place_of, begun_anew, needs_clear, lacks_room}
 use Rattle.lazy_dfa.specs.Readers.{is_quit}
 use Rattle.lazy_dfa.specs.declared.cache_error.CacheError.{CacheError}
 use Rattle.lazy_dfa.specs.declared.cache_error.CacheError.TheVariants.{GaveUp, NoMemory}
@@ -32,6 +32,11 @@ IsKnown d v id u = (is_sentinel id ≡ true) ⊎ (noted d v id u ≢ unknown_id)
 abbrev pub IsNoted : Dfa → CacheValue → CacheValue → ℕ → Option ℕ → ℕ → Type 0
 IsNoted d old new id u r = (s : StateValue) → HeldAt old id s → HeldAt new id s → noted d new id u ≡ r
 
+-- a state that wasn't held gets no tag of starts
+abbrev pub TagsStep : Dfa → CacheValue → ℕ → Option ℕ → ℕ → Type 0
+TagsStep d old id u r = (s : StateValue) → HeldAt old id s → is_quit d.quits u ≡ false → is_dead (after d s u) ≡ false →
+    place_of (after d s u) old.states ≡ None → has_tag start_tag r ≡ false
+
 -- ---- refusals
 
 -- memory lacked; or a clear was refused, for this state
@@ -49,6 +54,13 @@ abbrev pub IsStepCause : Dfa → CacheValue → ℕ → Option ℕ → CacheErro
 IsStepCause d v id u e = (e ≡ NoMemory) ⊎ ((e ≡ GaveUp) × GivesUp d v id u)
 
 -- ---- what calls change
+
+-- the step from an ID by a unit asks for a clear: it isn't known, and the state to which it leads isn't held and doesn't fit
+pub record StepNeedsClear (d : Dfa) (v : CacheValue) (id : ℕ) (u : Option ℕ) : Type 0 where
+  pub row : IsRow v id
+  pub unknown : noted d v id u ≡ unknown_id
+  pub no_quit : is_quit d.quits u ≡ false
+  pub needs : (s : StateValue) → HeldAt v id s → needs_clear d v (after d s u) ≡ true
 
 -- nothing was cleared: each ID names what it named, and what was known of steps and starts is known
 pub record Added (old new : CacheValue) : Type 0 where

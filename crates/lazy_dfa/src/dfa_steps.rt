@@ -1,10 +1,11 @@
 //! The steps of a DFA: what searches are made of.
 ghost use Rattle.std.specs.Prelude.{◌≡◌, ◌≢◌, ◌⊎◌, ◌↔◌, ◌+◌, ◌<◌, ◌≤◌, true, false, length, slice_index, IfOk, OnOk, IfErr, Ok, Err, None, Some};
 ghost use Rattle.determinize_core.specs.States.{StateValue};
-ghost use Rattle.lazy_dfa.specs.Ids.{tag, unknown_id, is_sentinel};
+ghost use Rattle.lazy_dfa.specs.Ids.{tag, unknown_id, quit_id, is_sentinel};
 ghost use Rattle.lazy_dfa.specs.Caches.{IsCacheOf, HeldAt, IsRow};
+ghost use Rattle.lazy_dfa.specs.Readers.{is_quit};
 ghost use Rattle.lazy_dfa.specs.declared.cache_error.CacheError.TheVariants.{GaveUp};
-ghost use Rattle.lazy_dfa.specs.Steps.{IsHeld, GivesUp, IsStepCause, StepsTo, Grew, ClearedFrom, KeepsOrClears, noted, IsKnown, IsNoted, most_inserts};
+ghost use Rattle.lazy_dfa.specs.Steps.{IsHeld, GivesUp, IsStepCause, StepsTo, Grew, StepNeedsClear, ClearedFrom, KeepsOrClears, noted, IsKnown, IsNoted, TagsStep, most_inserts};
 
 use crate::cache_error::CacheError;
 use crate::dfa::{Cache, DFA};
@@ -16,11 +17,13 @@ use std::sync::ledger::Ledger;
 
 impl DFA {
     /// The ID of the state behind a byte, as `DFA::next_state`. A sentinel leads to itself; from the other states a quit
-    /// byte leads to the quit sentinel, and any other byte to the state that lists what matched before it.
+    /// byte leads to the quit sentinel, which makes no state and is never refused, and any other byte to the state that
+    /// lists what matched before it. A state that wasn't held gets no tag of starts.
     ///
-    /// The cache may be cleared: the ID that is answered is held then, and the others are to be asked of
-    /// [`holds_id`](DFA::holds_id) again. The step is refused where a state has no room and no clear is allowed, and where
-    /// memory lacks; the cache is of use after that too. Where a clear isn't allowed the cache is as it was.
+    /// The cache is cleared only where the step isn't known and its state isn't held and has no room: the ID that is answered
+    /// is held then, and the others are to be asked of [`holds_id`](DFA::holds_id) again. The step is refused where a state
+    /// has no room and no clear is allowed, and where memory lacks; the cache is of use after that too. Where a clear isn't
+    /// allowed the cache is as it was.
     pub fn next_state<L: Ledger, M: Ledger>(
         &self,
         cache: &mut Cache,
@@ -33,10 +36,14 @@ impl DFA {
         ensures own { IsCacheOf self.now cache.new }
         ensures kept { KeepsOrClears self.now cache.old cache.new }
         ensures remains { OnOk result (Grew self.now cache.old cache.new ⊎ ClearedFrom self.now cache.old cache.new current (Some input)) }
+        ensures cause { Grew self.now cache.old cache.new ⊎ StepNeedsClear self.now cache.old current (Some input) }
         ensures gave_up { result ≡ Err GaveUp → cache.new ≡ cache.old }
         ensures loops { is_sentinel current ≡ true → result ≡ Ok current }
         ensures step { IfOk result (λ to. StepsTo self.now cache.old cache.new current (Some input) to) }
         ensures noted { IfOk result (λ to. IsNoted self.now cache.old cache.new current (Some input) to) }
+        ensures tag { IfOk result (λ to. TagsStep self.now cache.old current (Some input) to) }
+        ensures quits { is_sentinel current ≡ false → is_quit self.now.quits (Some input) ≡ true → result ≡ Ok (quit_id cache.old.stride) }
+        ensures spares { is_quit self.now.quits (Some input) ≡ true → work.new ≡ work.old }
         ensures held { IfOk result (λ to. IsHeld cache.new to) }
         ensures ok { OnOk result (¬ GivesUp self.now cache.old current (Some input)) }
         ensures err { IfErr result (λ e. IsStepCause self.now cache.old current (Some input) e) }
@@ -65,10 +72,12 @@ impl DFA {
         ensures own { IsCacheOf self.now cache.new }
         ensures kept { KeepsOrClears self.now cache.old cache.new }
         ensures remains { OnOk result (Grew self.now cache.old cache.new ⊎ ClearedFrom self.now cache.old cache.new current None) }
+        ensures cause { Grew self.now cache.old cache.new ⊎ StepNeedsClear self.now cache.old current None }
         ensures gave_up { result ≡ Err GaveUp → cache.new ≡ cache.old }
         ensures loops { is_sentinel current ≡ true → result ≡ Ok current }
         ensures step { IfOk result (λ to. StepsTo self.now cache.old cache.new current None to) }
         ensures noted { IfOk result (λ to. IsNoted self.now cache.old cache.new current None to) }
+        ensures tag { IfOk result (λ to. TagsStep self.now cache.old current None to) }
         ensures held { IfOk result (λ to. IsHeld cache.new to) }
         ensures ok { OnOk result (¬ GivesUp self.now cache.old current None) }
         ensures err { IfErr result (λ e. IsStepCause self.now cache.old current None e) }

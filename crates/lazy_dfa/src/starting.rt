@@ -1,10 +1,10 @@
 //! The states in which searches start.
-ghost use Rattle.std.specs.Prelude.{◌≡◌, ◌≢◌, ◌⊎◌, ◌+◌, ◌<◌, ◌≤◌, false, length, slice_index_or, IfOk, OnOk, IfErr, OnErr, Ok, Err, None, Some};
+ghost use Rattle.std.specs.Prelude.{◌≡◌, ◌≢◌, ◌⊎◌, ◌+◌, ◌<◌, ◌≤◌, true, false, length, slice_index_or, IfOk, OnOk, IfErr, OnErr, Ok, Err, None, Some};
 ghost use Rattle.lazy_dfa.specs.Dfas.{IsStateOf, is_dead, start_in, first_state};
-ghost use Rattle.lazy_dfa.specs.Caches.{IsCacheOf, Names, Fits, place_of, slot, lacks_room, cleared};
+ghost use Rattle.lazy_dfa.specs.Caches.{IsCacheOf, Names, Fits, place_of, slot, needs_clear, lacks_room, cleared};
 ghost use Rattle.lazy_dfa.specs.Ids.{unknown_id};
 ghost use Rattle.lazy_dfa.specs.StartCalls.{PlacesStart, ClearedFor, TagsStart};
-ghost use Rattle.lazy_dfa.specs.Steps.{IsCause, Grew, WasCleared, most_inserts};
+ghost use Rattle.lazy_dfa.specs.Steps.{IsCause, Added, Grew, WasCleared, most_inserts};
 ghost use Rattle.lazy_dfa.specs.declared.cache_error.CacheError.TheVariants.{GaveUp};
 
 use crate::cache_error::CacheError;
@@ -26,6 +26,7 @@ fn room_alone(dfa: &DFA, cache: &mut Cache, state: &State) -> Result<(), CacheEr
     ensures own { IsCacheOf dfa.now cache.new }
     ensures slots { length cache.new.starts ≡ length cache.old.starts }
     ensures room { (cache.new ≡ cache.old) ⊎ (cache.new ≡ cleared cache.old) }
+    ensures cause { (cache.new ≡ cache.old) ⊎ (needs_clear dfa.now cache.old state.now ≡ true) }
     ensures err_same { OnErr result (cache.new ≡ cache.old) }
     ensures fresh { OnOk result (place_of state.now cache.new.states ≡ None) }
     ensures fits { OnOk result (Fits dfa.now.capacity state.now cache.new) }
@@ -51,6 +52,7 @@ fn place_start(dfa: &DFA, cache: &mut Cache, state: State) -> Result<LazyStateID
     ensures slots { length cache.new.starts ≡ length cache.old.starts }
     ensures made { IfOk result (λ id. PlacesStart dfa.now cache.old cache.new state id) }
     ensures unmade { OnErr result ((cache.new ≡ cache.old) ⊎ (cache.new ≡ cleared cache.old)) }
+    ensures cause { Added cache.old cache.new ⊎ (needs_clear dfa.now cache.old state ≡ true) }
     ensures gave_up { result ≡ Err GaveUp → cache.new ≡ cache.old }
     ensures to { IfOk result (λ id. Names cache.new id state) }
     ensures ok { OnOk result (lacks_room dfa.now cache.old state ≡ false) }
@@ -116,6 +118,7 @@ pub(crate) fn start_in_mode<L: Ledger, M: Ledger>(
     ensures free { slice_index_or cache.old.starts (slot mode start) 0 ≢ unknown_id → work.new ≡ work.old }
     ensures kept { Grew dfa.now cache.old cache.new ⊎ WasCleared cache.old cache.new 1 }
     ensures remains { OnOk result (Grew dfa.now cache.old cache.new ⊎ ClearedFor dfa.now cache.old cache.new (slot mode start) (first_state dfa.now start name)) }
+    ensures cause { Grew dfa.now cache.old cache.new ⊎ ((slice_index_or cache.old.starts (slot mode start) 0 ≡ unknown_id) × (needs_clear dfa.now cache.old (first_state dfa.now start name) ≡ true)) }
     ensures ok { OnOk result (slice_index_or cache.old.starts (slot mode start) 0 ≡ unknown_id → lacks_room dfa.now cache.old (first_state dfa.now start name) ≡ false) }
     ensures gave_up { result ≡ Err GaveUp → cache.new ≡ cache.old }
     ensures tag { IfOk result (λ id. TagsStart dfa.now cache.old (first_state dfa.now start name) id) }

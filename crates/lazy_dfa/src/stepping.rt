@@ -3,12 +3,12 @@ ghost use Rattle.std.specs.Prelude.{◌≡◌, ◌≢◌, ◌⊎◌, ◌+◌, �
 ghost use Rattle.search_core.specs.Units.{unit_byte};
 ghost use Rattle.determinize_core.specs.Costs.{free_ways};
 ghost use Rattle.lazy_dfa.specs.Dfas.{IsStateOf, IsUnit, after, class_of, is_dead};
-ghost use Rattle.lazy_dfa.specs.Ids.{unknown_id, is_sentinel};
-ghost use Rattle.lazy_dfa.specs.Caches.{IsCacheOf, HeldAt, IsRow, Names, Fits, fits, is_refused, place_of, state_at, with_state, lacks_room};
+ghost use Rattle.lazy_dfa.specs.Ids.{unknown_id, quit_id, is_sentinel, has_tag, start_tag};
+ghost use Rattle.lazy_dfa.specs.Caches.{IsCacheOf, HeldAt, IsRow, Names, Fits, fits, is_refused, place_of, state_at, with_state, needs_clear, lacks_room};
 ghost use Rattle.lazy_dfa.specs.ConfigValue.{clears_of, bytes_of};
 ghost use Rattle.lazy_dfa.specs.declared.cache_error.CacheError.TheVariants.{GaveUp};
 ghost use Rattle.lazy_dfa.specs.Readers.{is_quit, is_quit as is_quit_unit};
-ghost use Rattle.lazy_dfa.specs.Steps.{IsHeld, IsCause, GivesUp, IsStepCause, StepsTo, Added, Grew, ClearedFrom, kept_alone, MadeRoom, AddsOrClears, KeepsOrClears, noted, IsKnown, IsNoted, most_inserts};
+ghost use Rattle.lazy_dfa.specs.Steps.{IsHeld, IsCause, GivesUp, IsStepCause, StepsTo, Added, Grew, StepNeedsClear, ClearedFrom, kept_alone, MadeRoom, AddsOrClears, KeepsOrClears, noted, IsKnown, IsNoted, TagsStep, most_inserts};
 
 use crate::cache_error::CacheError;
 use crate::dfa::{Cache, DFA};
@@ -71,6 +71,7 @@ fn make_room(
     ensures own { IsCacheOf dfa.now cache.new }
     ensures room { MadeRoom cache.old cache.new }
     ensures made { OnOk result ((cache.new ≡ cache.old) ⊎ (cache.new ≡ kept_alone cache.old k)) }
+    ensures cause { (cache.new ≡ cache.old) ⊎ (needs_clear dfa.now cache.old state.now ≡ true) }
     ensures gave_up { result ≡ Err GaveUp → cache.new ≡ cache.old }
     ensures from { IfOk result (λ id. HeldAt cache.new id (state_at cache.old k)) }
     ensures fresh { OnOk result (place_of state.now cache.new.states ≡ None) }
@@ -106,9 +107,11 @@ fn place(dfa: &DFA, cache: &mut Cache, k: usize, state: State) -> Result<Rows, C
     ensures own { IsCacheOf dfa.now cache.new }
     ensures kept { AddsOrClears cache.old cache.new }
     ensures made { OnOk result (Added cache.old cache.new ⊎ (cache.new ≡ with_state false state (kept_alone cache.old k))) }
+    ensures cause { Added cache.old cache.new ⊎ (needs_clear dfa.now cache.old state ≡ true) }
     ensures gave_up { result ≡ Err GaveUp → cache.new ≡ cache.old }
     ensures from { IfOk result (λ rows. HeldAt cache.new rows.from (state_at cache.old k)) }
     ensures to { IfOk result (λ rows. Names cache.new rows.to state) }
+    ensures tag { IfOk result (λ rows. is_dead state ≡ false → place_of state cache.old.states ≡ None → has_tag start_tag rows.to ≡ false) }
     ensures ok { OnOk result (lacks_room dfa.now cache.old state ≡ false) }
     ensures err { IfErr result (λ e. IsCause dfa.now cache.old state e) }
 {
@@ -174,9 +177,11 @@ fn fill<L: Ledger, M: Ledger>(
     ensures own { IsCacheOf dfa.now cache.new }
     ensures kept { KeepsOrClears dfa.now cache.old cache.new }
     ensures remains { OnOk result (Grew dfa.now cache.old cache.new ⊎ ClearedFrom dfa.now cache.old cache.new id (unit_byte unit)) }
+    ensures cause { Grew dfa.now cache.old cache.new ⊎ StepNeedsClear dfa.now cache.old id (unit_byte unit) }
     ensures gave_up { result ≡ Err GaveUp → cache.new ≡ cache.old }
     ensures step { IfOk result (λ to. StepsTo dfa.now cache.old cache.new id (unit_byte unit) to) }
     ensures noted { IfOk result (λ to. IsNoted dfa.now cache.old cache.new id (unit_byte unit) to) }
+    ensures tag { IfOk result (λ to. TagsStep dfa.now cache.old id (unit_byte unit) to) }
     ensures ok { OnOk result (¬ GivesUp dfa.now cache.old id (unit_byte unit)) }
     ensures err { IfErr result (λ e. IsStepCause dfa.now cache.old id (unit_byte unit) e) }
     ensures determinized { work.new.determinized ≡ work.old.determinized + 1 }
@@ -213,10 +218,14 @@ pub(crate) fn step<L: Ledger, M: Ledger>(
     ensures own { IsCacheOf dfa.now cache.new }
     ensures kept { KeepsOrClears dfa.now cache.old cache.new }
     ensures remains { OnOk result (Grew dfa.now cache.old cache.new ⊎ ClearedFrom dfa.now cache.old cache.new current (unit_byte unit)) }
+    ensures cause { Grew dfa.now cache.old cache.new ⊎ StepNeedsClear dfa.now cache.old current (unit_byte unit) }
     ensures gave_up { result ≡ Err GaveUp → cache.new ≡ cache.old }
     ensures loops { is_sentinel current ≡ true → result ≡ Ok current }
     ensures step { IfOk result (λ to. StepsTo dfa.now cache.old cache.new current (unit_byte unit) to) }
     ensures noted { IfOk result (λ to. IsNoted dfa.now cache.old cache.new current (unit_byte unit) to) }
+    ensures tag { IfOk result (λ to. TagsStep dfa.now cache.old current (unit_byte unit) to) }
+    ensures quits { is_sentinel current ≡ false → is_quit_unit dfa.now.quits (unit_byte unit) ≡ true → result ≡ Ok (quit_id cache.old.stride) }
+    ensures spares { is_quit_unit dfa.now.quits (unit_byte unit) ≡ true → work.new ≡ work.old }
     ensures ok { OnOk result (¬ GivesUp dfa.now cache.old current (unit_byte unit)) }
     ensures err { IfErr result (λ e. IsStepCause dfa.now cache.old current (unit_byte unit) e) }
     ensures known { is_sentinel current ≡ false → noted dfa.now cache.old current (unit_byte unit) ≢ unknown_id → result ≡ Ok (noted dfa.now cache.old current (unit_byte unit)) }

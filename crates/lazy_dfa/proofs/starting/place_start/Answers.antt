@@ -1,10 +1,10 @@
-use Rattle.std.proofs.Common.{◌∙◌, sym, subst, ap, ℕ, Bool, refl, Some, length}
+use Rattle.std.proofs.Common.{◌≡◌, ◌∙◌, sym, subst, ap, ℕ, Bool, true, refl, inl, inr, ⊎_elim, Some, length}
 use Rattle.lazy_dfa.specs.Ids.{dead_id}
-use Rattle.lazy_dfa.specs.Caches.{CacheValue, IsCacheOf, Names, names_dead, names_held, with_state, new_id}
+use Rattle.lazy_dfa.specs.Caches.{CacheValue, IsCacheOf, Names, names_dead, names_held, with_state, new_id, needs_clear}
 use Rattle.lazy_dfa.specs.StartCalls.{start_added}
 use Rattle.lazy_dfa.proofs.IsCacheLemmas.{is_cache_added, alive_of, new_held}
 use Rattle.lazy_dfa.proofs.TurnLemmas.{dead_is}
-use Rattle.lazy_dfa.proofs.ChangeLemmas.{lacks_not_dead, lacks_not_found}
+use Rattle.lazy_dfa.proofs.ChangeLemmas.{added_refl, added_none, added_one, lacks_not_dead, lacks_not_found}
 use Rattle.lazy_dfa.proofs.starting.place_start.Goals as goal
 
 pub returns-then-is_dead_state-clause-to : goal.returns-then-is_dead_state-clause-to
@@ -41,3 +41,31 @@ returns-clause-to c = subst (λ (w : CacheValue). Names w c.in_ok-id.id c.args.s
     (subst (λ (n : ℕ). Names (with_state c.specializes.result c.args.state c.room_alone.new.cache) n c.args.state)
     (sym c.in_ok-id.ensures.id)
     (names_held (new_held c.room_alone.new.cache c.specializes.result c.args.state c.in_ok-room_alone.ensures.own.shape)))
+
+-- ---- a clear only where the state asks for one
+
+pub returns-then-is_dead_state-clause-cause : goal.returns-then-is_dead_state-clause-cause
+returns-then-is_dead_state-clause-cause c = inl (added_refl c.args.cache.now c.requires.own.shape)
+
+pub returns-in-Some-clause-cause : goal.returns-in-Some-clause-cause
+returns-in-Some-clause-cause c = inl (added_refl c.args.cache.now c.requires.own.shape)
+
+pub returns-in_err-room_alone-clause-cause : goal.returns-in_err-room_alone-clause-cause
+returns-in_err-room_alone-clause-cause c = ⊎_elim
+    (λ (f : c.room_alone.new.cache ≡ c.args.cache.now). inl (added_none c.args.cache.now c.room_alone.new.cache c.requires.own.shape f))
+    (λ (n : needs_clear c.args.dfa.now c.args.cache.now c.args.state ≡ true). inr n)
+    c.in_err-room_alone.ensures.cause
+
+pub returns-in_err-id-clause-cause : goal.returns-in_err-id-clause-cause
+returns-in_err-id-clause-cause c = ⊎_elim
+    (λ (f : c.room_alone.new.cache ≡ c.args.cache.now). inl (added_none c.args.cache.now c.add_state.new.self c.requires.own.shape
+    (c.in_err-id.ensures.err ∙ f)))
+    (λ (n : needs_clear c.args.dfa.now c.args.cache.now c.args.state ≡ true). inr n)
+    c.in_ok-room_alone.ensures.cause
+
+pub returns-clause-cause : goal.returns-clause-cause
+returns-clause-cause c = ⊎_elim
+    (λ (f : c.room_alone.new.cache ≡ c.args.cache.now). inl (added_one c.args.cache.now c.room_alone.new.cache c.add_state.new.self
+    c.specializes.result c.args.state c.requires.own.shape f c.in_ok-id.ensures.ok))
+    (λ (n : needs_clear c.args.dfa.now c.args.cache.now c.args.state ≡ true). inr n)
+    c.in_ok-room_alone.ensures.cause

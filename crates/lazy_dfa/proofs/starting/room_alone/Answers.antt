@@ -3,7 +3,7 @@ use lib.ListN.{length-replicate}
 use Rattle.lazy_dfa.specs.Caches.{CacheValue, IsCacheOf, Fits}
 use Rattle.lazy_dfa.proofs.CacheLemmas.{place_in_none}
 use Rattle.lazy_dfa.proofs.IsCacheLemmas.{is_cache_cleared, fits_in_cleared}
-use Rattle.lazy_dfa.proofs.ChangeLemmas.{fits_is, lacks_not_fitting, lacks_not_allowed, lacks_all}
+use Rattle.lazy_dfa.proofs.ChangeLemmas.{fits_is, lacks_not_fitting, lacks_not_allowed, lacks_all, needs_all}
 use Rattle.lazy_dfa.proofs.starting.room_alone.Goals as goal
 
 pub returns-then-fits-clause-fits : goal.returns-then-fits-clause-fits
@@ -36,3 +36,7 @@ returns-clause-fits c = subst (Fits c.args.dfa.now.capacity c.args.state.now) (s
 pub returns-clause-ok : goal.returns-clause-ok
 returns-clause-ok c = lacks_not_allowed c.args.dfa.now c.args.cache.now c.args.state.now (sym c.refuses_clear.ensures
     ∙ c.if-refuses_clear.false)
+
+pub returns-clause-cause : goal.returns-clause-cause
+returns-clause-cause c = inr (needs_all c.args.dfa.now c.args.cache.now c.args.state.now c.requires.alive
+    c.requires.fresh (sym c.fits.ensures ∙ c.if-fits.false))

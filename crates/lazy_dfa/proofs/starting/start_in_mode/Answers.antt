@@ -1,11 +1,12 @@
-use Rattle.std.proofs.Common.{◌≡◌, ◌⊎◌, ◌∙◌, ◌+◌, ◌*◌, ◌<◌, ℕ, sym, subst, ap, set, length}
+use Rattle.std.proofs.Common.{◌≡◌, ◌⊎◌, ◌∙◌, ◌+◌, ◌*◌, ◌<◌, ℕ, true, sym, subst, ap, inl, inr, ⊎_elim, set, length}
 use Rattle.determinize_core.specs.States.{StateValue}
-use Rattle.lazy_dfa.specs.Caches.{CacheValue, IsCacheOf, slot, cleared}
+use Rattle.lazy_dfa.specs.Caches.{CacheValue, IsCacheOf, slot, cleared, needs_clear}
 use Rattle.lazy_dfa.specs.Dfas.{first_state}
 use Rattle.lazy_dfa.specs.StartCalls.{PlacesStart}
-use Rattle.lazy_dfa.specs.Steps.{IsCause}
+use Rattle.lazy_dfa.specs.Steps.{IsCause, Added, Grew}
+use Rattle.lazy_dfa.proofs.ChangeLemmas.{same_grew, grew_added}
 use Rattle.lazy_dfa.proofs.IsCacheLemmas.{started, names_started, known_begins}
-use Rattle.lazy_dfa.proofs.StartChangeLemmas.{not_fresh, unknown_start, unmade_start, on_err, start_kept, start_remains, start_tags}
+use Rattle.lazy_dfa.proofs.StartChangeLemmas.{not_fresh, unknown_start, unmade_start, on_err, grew_start, start_kept, start_remains, start_tags}
 use Rattle.lazy_dfa.proofs.starting.start_in_mode.Goals as goal
 
 pub start-known-requires : goal.start-known-requires
@@ -167,3 +168,48 @@ returns-in-Ok-clause-remains g c = start_remains c.args.dfa.now c.args.cache.now
 pub returns-in-Ok-clause-tag : goal.returns-in-Ok-clause-tag
 returns-in-Ok-clause-tag g c = start_tags c.args.dfa.now c.args.cache.now c.place_start.new.cache c.in-Ok.id
     (first_state c.args.dfa.now c.args.start c.args.name) c.in-Ok.ensures.own.shape.positive (placed g c)
+
+-- ---- a clear only where the start asks for one
+
+pub returns-then-not-is_not_known-clause-cause : goal.returns-then-not-is_not_known-clause-cause
+returns-then-not-is_not_known-clause-cause g c = inl (same_grew c.args.dfa.now c.args.cache.now)
+
+pub returns-in_err-state-clause-cause : goal.returns-in_err-state-clause-cause
+returns-in_err-state-clause-cause g c = inl (subst (Grew c.args.dfa.now c.args.cache.now) (sym c.first_of.ensures.same)
+    (same_grew c.args.dfa.now c.args.cache.now))
+
+pub returns-in-Err-clause-cause : goal.returns-in-Err-clause-cause
+returns-in-Err-clause-cause g c = ⊎_elim
+    (λ (a : Added c.first_of.new.cache c.place_start.new.cache). inl (grew_added c.args.dfa.now c.args.cache.now c.place_start.new.cache
+    c.is_made.ensures c.requires.own (subst (λ (v : CacheValue). Added v c.place_start.new.cache) c.first_of.ensures.same a)))
+    (λ (n : needs_clear c.args.dfa.now c.first_of.new.cache c.in_ok-state.state ≡ true). inr (
+      (unknown_start c.args.dfa.now c.args.cache.now c.args.mode (c.args.mode * 7 + c.as_usize.result) c.args.name c.start-known.result
+          c.args.start c.requires.own
+          (ap (λ (n : ℕ). c.args.mode * 7 + n) c.as_usize.ensures.number) c.requires.inside c.requires.named c.start-known.ensures
+          (sym c.is_not_known.ensures ∙ c.if-not-is_not_known.false)),
+      subst (λ (s : StateValue). needs_clear c.args.dfa.now c.args.cache.now s ≡ true) c.in_ok-state.ensures.value
+          (subst (λ (v : CacheValue). needs_clear c.args.dfa.now v c.in_ok-state.state ≡ true) c.first_of.ensures.same n),
+    ))
+    c.in-Err.ensures.cause
+
+pub returns-in-Ok-clause-cause : goal.returns-in-Ok-clause-cause
+returns-in-Ok-clause-cause g c = ⊎_elim
+    (λ (a : Added c.first_of.new.cache c.place_start.new.cache). inl (
+    grew_start c.args.dfa.now c.args.cache.now c.place_start.new.cache c.set_start.new.self
+    (slot c.args.mode c.args.start) c.in-Ok.id (first_state c.args.dfa.now c.args.start c.args.name)
+    c.is_made.ensures c.requires.own
+    (unknown_start c.args.dfa.now c.args.cache.now c.args.mode (c.args.mode * 7 + c.as_usize.result) c.args.name c.start-known.result
+    c.args.start c.requires.own
+    (ap (λ (n : ℕ). c.args.mode * 7 + n) c.as_usize.ensures.number) c.requires.inside c.requires.named c.start-known.ensures
+    (sym c.is_not_known.ensures ∙ c.if-not-is_not_known.false))
+    (placed g c) (noted_at g c) (subst (λ (v : CacheValue). Added v c.place_start.new.cache) c.first_of.ensures.same a)
+    ))
+    (λ (n : needs_clear c.args.dfa.now c.first_of.new.cache c.in_ok-state.state ≡ true). inr (
+      (unknown_start c.args.dfa.now c.args.cache.now c.args.mode (c.args.mode * 7 + c.as_usize.result) c.args.name c.start-known.result
+          c.args.start c.requires.own
+          (ap (λ (n : ℕ). c.args.mode * 7 + n) c.as_usize.ensures.number) c.requires.inside c.requires.named c.start-known.ensures
+          (sym c.is_not_known.ensures ∙ c.if-not-is_not_known.false)),
+      subst (λ (s : StateValue). needs_clear c.args.dfa.now c.args.cache.now s ≡ true) c.in_ok-state.ensures.value
+          (subst (λ (v : CacheValue). needs_clear c.args.dfa.now v c.in_ok-state.state ≡ true) c.first_of.ensures.same n),
+    ))
+    c.in-Ok.ensures.cause

@@ -1,9 +1,11 @@
-use Rattle.std.proofs.Common.{◌≡◌, ◌⊎◌, false, sym, subst, ◌<◌, length}
+use Rattle.std.proofs.Common.{◌≡◌, ◌⊎◌, true, false, sym, subst, inl, inr, ⊎_elim, ◌<◌, length}
 use Rattle.search_core.specs.Units.{unit_byte}
-use Rattle.lazy_dfa.specs.Caches.{CacheValue, IsCacheOf, HeldAt, Leads, state_at, with_state}
-use Rattle.lazy_dfa.specs.Steps.{Added, AddsOrClears, KeepsOrClears, kept_alone}
+use Rattle.lazy_dfa.specs.Caches.{CacheValue, IsCacheOf, HeldAt, Leads, state_at, with_state, needs_clear}
+use Rattle.lazy_dfa.specs.Steps.{Added, Grew, AddsOrClears, KeepsOrClears, kept_alone}
 use Rattle.lazy_dfa.proofs.IsCacheLemmas.{row_place, is_cache_stepped, leads_stepped, leads_to, steps_of_row}
-use Rattle.lazy_dfa.proofs.ChangeLemmas.{grew_refl, grew_of, grew_set, remains_set, set_is_noted, step_cause, no_cause}
+use Rattle.lazy_dfa.proofs.ChangeLemmas.{grew_refl, grew_of, grew_added, grew_cell, grew_set, remains_set}
+use Rattle.lazy_dfa.proofs.ChangeLemmas.{same_grew, set_is_noted, step_cause, step_needs, no_cause}
+use Rattle.lazy_dfa.proofs.StartChangeLemmas.{step_tags}
 use Rattle.lazy_dfa.proofs.stepping.fill.Goals as goal
 
 pub returns-in_err-state-clause-own : goal.returns-in_err-state-clause-own
@@ -87,3 +89,43 @@ returns-in-Ok-clause-step g c =
     (leads_stepped c.args.dfa.now c.place.new.cache c.in-Ok.rows.from c.args.class
     (unit_byte c.args.unit) c.is_made.ensures c.in-Ok.ensures.own c.requires.unit c.requires.class
     (state_at c.args.cache.now c.row-k.result) c.in-Ok.rows.to c.set_cell.new.self (led g c) c.set_cell.ensures)
+
+-- ---- a clear only where the state asks for one
+
+pub returns-in_err-state-clause-cause : goal.returns-in_err-state-clause-cause
+returns-in_err-state-clause-cause g c = inl (subst (Grew c.args.dfa.now c.args.cache.now) (sym c.state_behind.ensures.same)
+    (same_grew c.args.dfa.now c.args.cache.now))
+
+pub returns-in-Err-clause-cause : goal.returns-in-Err-clause-cause
+returns-in-Err-clause-cause g c = ⊎_elim
+    (λ (a : Added c.state_behind.new.cache c.place.new.cache). inl (grew_added c.args.dfa.now c.args.cache.now c.place.new.cache
+    c.is_made.ensures c.requires.own (subst (λ (v : CacheValue). Added v c.place.new.cache) c.state_behind.ensures.same a)))
+    (λ (n : needs_clear c.args.dfa.now c.state_behind.new.cache c.in_ok-state.state ≡ true). inr (
+    step_needs c.args.dfa.now c.args.cache.now c.state_behind.new.cache c.args.id c.row-k.result
+    (unit_byte c.args.unit) c.in_ok-state.state
+    c.requires.own.shape c.state_behind.ensures.same c.row-k.ensures.inside c.row-k.ensures.id c.in_ok-state.ensures.value
+    c.requires.unknown c.requires.no_quit n
+    ))
+    c.in-Err.ensures.cause
+
+pub returns-in-Ok-clause-cause : goal.returns-in-Ok-clause-cause
+returns-in-Ok-clause-cause g c = ⊎_elim
+    (λ (a : Added c.state_behind.new.cache c.place.new.cache). inl (
+    grew_cell c.args.dfa.now c.args.cache.now c.place.new.cache c.set_cell.new.self c.args.id c.in-Ok.rows.from
+    c.args.class c.row-k.result c.in-Ok.rows.to (unit_byte c.args.unit)
+    c.is_made.ensures c.requires.own c.in-Ok.ensures.own c.requires.unit c.requires.class c.row-k.ensures.inside c.row-k.ensures.id
+    (held g c) c.set_cell.ensures c.requires.unknown
+    (subst (λ (v : CacheValue). Added v c.place.new.cache) c.state_behind.ensures.same a)
+    ))
+    (λ (n : needs_clear c.args.dfa.now c.state_behind.new.cache c.in_ok-state.state ≡ true). inr (
+    step_needs c.args.dfa.now c.args.cache.now c.state_behind.new.cache c.args.id c.row-k.result
+    (unit_byte c.args.unit) c.in_ok-state.state
+    c.requires.own.shape c.state_behind.ensures.same c.row-k.ensures.inside c.row-k.ensures.id c.in_ok-state.ensures.value
+    c.requires.unknown c.requires.no_quit n
+    ))
+    c.in-Ok.ensures.cause
+
+pub returns-in-Ok-clause-tag : goal.returns-in-Ok-clause-tag
+returns-in-Ok-clause-tag g c = step_tags c.args.dfa.now c.args.cache.now c.state_behind.new.cache c.args.id c.row-k.result
+    (unit_byte c.args.unit) c.in_ok-state.state c.in-Ok.rows.to c.requires.own.shape c.state_behind.ensures.same
+    c.row-k.ensures.inside c.row-k.ensures.id c.in_ok-state.ensures.value c.in-Ok.ensures.tag

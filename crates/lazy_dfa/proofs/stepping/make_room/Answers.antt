@@ -2,7 +2,7 @@ use Rattle.std.proofs.Common.{◌∙◌, ◌≡◌, sym, subst, None, inr, refl,
 use Rattle.lazy_dfa.specs.Ids.{has_tag, start_tag}
 use Rattle.lazy_dfa.specs.Caches.{CacheValue, IsCacheOf, HeldAt, Fits, id_at, state_at, place_of, with_state, cleared}
 use Rattle.lazy_dfa.proofs.IsCacheLemmas.{is_cache_kept, is_cache_refused, fresh_beside, kept_held, fits_beside}
-use Rattle.lazy_dfa.proofs.ChangeLemmas.{room_refused, cleared_one, fits_is, lacks_not_fitting, lacks_not_allowed, lacks_all}
+use Rattle.lazy_dfa.proofs.ChangeLemmas.{room_refused, cleared_one, fits_is, lacks_not_fitting, lacks_not_allowed, lacks_all, needs_all}
 use Rattle.lazy_dfa.proofs.stepping.make_room.Goals as goal
 
 pub returns-then-fits-clause-fits : goal.returns-then-fits-clause-fits
@@ -54,3 +54,11 @@ returns-clause-fits c = subst (Fits c.args.dfa.now.capacity c.args.state.now) (s
 pub returns-clause-ok : goal.returns-clause-ok
 returns-clause-ok c = lacks_not_allowed c.args.dfa.now c.args.cache.now c.args.state.now (sym c.refuses_clear.ensures
     ∙ c.if-refuses_clear.false)
+
+pub returns-in_err-id-clause-cause : goal.returns-in_err-id-clause-cause
+returns-in_err-id-clause-cause c = inr (needs_all c.args.dfa.now c.args.cache.now c.args.state.now c.requires.alive
+    c.requires.fresh (sym c.fits.ensures ∙ c.if-fits.false))
+
+pub returns-clause-cause : goal.returns-clause-cause
+returns-clause-cause c = inr (needs_all c.args.dfa.now c.args.cache.now c.args.state.now c.requires.alive
+    c.requires.fresh (sym c.fits.ensures ∙ c.if-fits.false))

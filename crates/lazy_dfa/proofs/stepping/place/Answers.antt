@@ -1,9 +1,10 @@
-use Rattle.std.proofs.Common.{◌∙◌, sym, subst, ap, false, ℕ, refl, inl, Some}
+use Rattle.std.proofs.Common.{◌≡◌, ◌∙◌, sym, subst, ap, true, false, ℕ, refl, inl, inr, ⊎_elim, Some, None, true≢false}
 use Rattle.lazy_dfa.specs.Ids.{dead_id}
-use Rattle.lazy_dfa.specs.Caches.{CacheValue, IsCacheOf, HeldAt, Names, names_dead, names_held, state_at, with_state}
+use Rattle.lazy_dfa.specs.Caches.{CacheValue, IsCacheOf, HeldAt, Names, names_dead, names_held, state_at, with_state, needs_clear}
 use Rattle.lazy_dfa.proofs.IsCacheLemmas.{is_cache_added, alive_of, held_added, new_held}
+use Rattle.lazy_dfa.proofs.StartChangeLemmas.{made_tag}
 use Rattle.lazy_dfa.proofs.TurnLemmas.{dead_is}
-use Rattle.lazy_dfa.proofs.ChangeLemmas.{added_refl, adds_after, adds_nothing, made_after, lacks_not_dead, lacks_not_found}
+use Rattle.lazy_dfa.proofs.ChangeLemmas.{added_refl, adds_after, adds_nothing, made_after, added_none, added_one, lacks_not_dead, lacks_not_found}
 use Rattle.lazy_dfa.proofs.stepping.place.Goals as goal
 
 pub returns-then-is_dead_state-clause-kept : goal.returns-then-is_dead_state-clause-kept
@@ -65,3 +66,44 @@ pub returns-clause-to : goal.returns-clause-to
 returns-clause-to c = subst (λ (w : CacheValue). Names w c.in_ok-to.to c.args.state) (sym c.in_ok-to.ensures.ok)
     (subst (λ (n : ℕ). Names (with_state false c.args.state c.make_room.new.cache) n c.args.state) (sym c.in_ok-to.ensures.id)
     (names_held (new_held c.make_room.new.cache false c.args.state c.in_ok-from.ensures.own.shape)))
+
+-- ---- a clear only where the state asks for one
+
+pub returns-then-is_dead_state-clause-cause : goal.returns-then-is_dead_state-clause-cause
+returns-then-is_dead_state-clause-cause c = inl (added_refl c.args.cache.now c.requires.own.shape)
+
+pub returns-in-Some-clause-cause : goal.returns-in-Some-clause-cause
+returns-in-Some-clause-cause c = inl (added_refl c.args.cache.now c.requires.own.shape)
+
+pub returns-in_err-from-clause-cause : goal.returns-in_err-from-clause-cause
+returns-in_err-from-clause-cause c = ⊎_elim
+    (λ (f : c.make_room.new.cache ≡ c.args.cache.now). inl (added_none c.args.cache.now c.make_room.new.cache c.requires.own.shape f))
+    (λ (n : needs_clear c.args.dfa.now c.args.cache.now c.args.state ≡ true). inr n)
+    c.in_err-from.ensures.cause
+
+pub returns-in_err-to-clause-cause : goal.returns-in_err-to-clause-cause
+returns-in_err-to-clause-cause c = ⊎_elim
+    (λ (f : c.make_room.new.cache ≡ c.args.cache.now). inl (added_none c.args.cache.now c.add_state.new.self c.requires.own.shape
+    (c.in_err-to.ensures.err ∙ f)))
+    (λ (n : needs_clear c.args.dfa.now c.args.cache.now c.args.state ≡ true). inr n)
+    c.in_ok-from.ensures.cause
+
+pub returns-clause-cause : goal.returns-clause-cause
+returns-clause-cause c = ⊎_elim
+    (λ (f : c.make_room.new.cache ≡ c.args.cache.now). inl (added_one c.args.cache.now c.make_room.new.cache c.add_state.new.self false
+    c.args.state c.requires.own.shape f c.in_ok-to.ensures.ok))
+    (λ (n : needs_clear c.args.dfa.now c.args.cache.now c.args.state ≡ true). inr n)
+    c.in_ok-from.ensures.cause
+
+-- ---- a state that is added has no tag of starts
+
+pub returns-then-is_dead_state-clause-tag : goal.returns-then-is_dead_state-clause-tag
+returns-then-is_dead_state-clause-tag c alive fresh = absurd (true≢false (sym (sym c.is_dead_state.ensures ∙ c.if-is_dead_state.true)
+    ∙ alive))
+
+pub returns-in-Some-clause-tag : goal.returns-in-Some-clause-tag
+returns-in-Some-clause-tag c alive fresh = let f : Some c.in-Some.j ≡ None = c.in-Some.ensures.place ∙ fresh in absurd cc
+
+pub returns-clause-tag : goal.returns-clause-tag
+returns-clause-tag c alive fresh = made_tag c.make_room.new.cache c.args.state c.in_ok-to.to c.in_ok-from.ensures.own.shape.positive
+    c.in_ok-from.ensures.fits.1 c.in_ok-to.ensures.id

@@ -6,6 +6,7 @@ use Rattle.lazy_dfa.proofs.IsCacheLemmas.{no_step, row_place, row_of_held, known
 use Rattle.lazy_dfa.proofs.IsCacheLemmas.{steps_of_row}
 use Rattle.lazy_dfa.proofs.ChangeLemmas.{grew_refl, same_grew, grew_cell, grew_set, set_is_noted, added_refl, no_row, noted_read}
 use Rattle.lazy_dfa.proofs.ChangeLemmas.{unknown_here, not_known, known_cell}
+use Rattle.lazy_dfa.proofs.StartChangeLemmas.{known_tags, known_quits}
 use Rattle.lazy_dfa.proofs.stepping.step.Goals as goal
 
 -- ---- a sentinel
@@ -15,6 +16,9 @@ returns-then-is_sentinel-clause-kept g c = grew_refl c.args.dfa.now c.args.cache
 
 pub returns-then-is_sentinel-clause-remains : goal.returns-then-is_sentinel-clause-remains
 returns-then-is_sentinel-clause-remains g c = inl (same_grew c.args.dfa.now c.args.cache.now)
+
+pub returns-then-is_sentinel-clause-cause : goal.returns-then-is_sentinel-clause-cause
+returns-then-is_sentinel-clause-cause g c = inl (same_grew c.args.dfa.now c.args.cache.now)
 
 pub returns-then-is_sentinel-clause-step : goal.returns-then-is_sentinel-clause-step
 returns-then-is_sentinel-clause-step g c = no_step c.args.dfa.now c.args.cache.now c.args.current c.args.current
@@ -43,6 +47,9 @@ returns-then-not-is_not_known-clause-kept g c = grew_refl c.args.dfa.now c.args.
 
 pub returns-then-not-is_not_known-clause-remains : goal.returns-then-not-is_not_known-clause-remains
 returns-then-not-is_not_known-clause-remains g c = inl (same_grew c.args.dfa.now c.args.cache.now)
+
+pub returns-then-not-is_not_known-clause-cause : goal.returns-then-not-is_not_known-clause-cause
+returns-then-not-is_not_known-clause-cause g c = inl (same_grew c.args.dfa.now c.args.cache.now)
 
 pub returns-then-not-is_not_known-clause-loops : goal.returns-then-not-is_not_known-clause-loops
 returns-then-not-is_not_known-clause-loops g c e = absurd (true≢false (sym e ∙ (sym c.is_sentinel.ensures ∙ c.if-is_sentinel.false)))
@@ -96,6 +103,22 @@ returns-then-is_quit-clause-kept g c =
 
 pub returns-then-is_quit-clause-remains : goal.returns-then-is_quit-clause-remains
 returns-then-is_quit-clause-remains g c =
+    let row = row_of_held c.args.cache.now c.args.current c.requires.held (sym c.is_sentinel.ensures ∙ c.if-is_sentinel.false) in
+    inl (grew_cell c.args.dfa.now c.args.cache.now c.args.cache.now c.set_cell.new.self c.args.current c.args.current c.args.class row.0
+    c.quit-quit.result (unit_byte c.args.unit)
+    c.is_made.ensures c.requires.own c.requires.own c.requires.unit c.requires.class row.1 row.2 (
+      row.0,
+      row.1,
+      row.2,
+      refl,
+    ) c.set_cell.ensures
+    (unknown_here c.args.dfa.now c.args.cache.now c.args.current c.args.class c.cell-cell.result
+    (unit_byte c.args.unit) c.is_made.ensures c.requires.own c.requires.unit c.requires.class c.cell-cell.ensures row
+    (sym c.is_not_known.ensures ∙ c.if-not-is_not_known.false))
+    (added_refl c.args.cache.now c.requires.own.shape))
+
+pub returns-then-is_quit-clause-cause : goal.returns-then-is_quit-clause-cause
+returns-then-is_quit-clause-cause g c =
     let row = row_of_held c.args.cache.now c.args.current c.requires.held (sym c.is_sentinel.ensures ∙ c.if-is_sentinel.false) in
     inl (grew_cell c.args.dfa.now c.args.cache.now c.args.cache.now c.set_cell.new.self c.args.current c.args.current c.args.class row.0
     c.quit-quit.result (unit_byte c.args.unit)
@@ -212,3 +235,46 @@ returns-clause-free g c k = absurd (not_known c.args.dfa.now c.args.cache.now c.
     (row_of_held c.args.cache.now c.args.current c.requires.held (sym c.is_sentinel.ensures ∙ c.if-is_sentinel.false))
     (sym c.is_not_known.ensures ∙ c.if-not-is_not_known.false)
     (sym c.is_sentinel.ensures ∙ c.if-is_sentinel.false) k)
+
+-- ---- tags, and quit bytes
+
+pub returns-then-is_sentinel-clause-tag : goal.returns-then-is_sentinel-clause-tag
+returns-then-is_sentinel-clause-tag g c s h no_quit alive fresh = absurd (no_row c.args.cache.now c.args.current c.requires.own.shape
+    (sym c.is_sentinel.ensures ∙ c.if-is_sentinel.true) (h.0, h.1, h.2))
+
+pub returns-then-is_sentinel-clause-quits : goal.returns-then-is_sentinel-clause-quits
+returns-then-is_sentinel-clause-quits g c plain q = absurd (true≢false (sym (sym c.is_sentinel.ensures ∙ c.if-is_sentinel.true) ∙ plain))
+
+pub returns-then-not-is_not_known-clause-tag : goal.returns-then-not-is_not_known-clause-tag
+returns-then-not-is_not_known-clause-tag g c = known_tags c.args.dfa.now c.args.cache.now c.args.current c.cell-cell.result
+    (unit_byte c.args.unit)
+    (known_leads c.args.dfa.now c.args.cache.now c.args.current c.args.class
+    (unit_byte c.args.unit) c.is_made.ensures c.requires.own c.requires.unit c.requires.class
+    c.cell-cell.result c.cell-cell.ensures (sym c.is_not_known.ensures ∙ c.if-not-is_not_known.true))
+
+pub returns-then-not-is_not_known-clause-quits : goal.returns-then-not-is_not_known-clause-quits
+returns-then-not-is_not_known-clause-quits g c plain q = ap (λ (m : ℕ). Ok m) (known_quits c.args.dfa.now c.args.cache.now
+    c.args.current c.cell-cell.result (unit_byte c.args.unit)
+    (known_leads c.args.dfa.now c.args.cache.now c.args.current c.args.class
+    (unit_byte c.args.unit) c.is_made.ensures c.requires.own c.requires.unit c.requires.class
+    c.cell-cell.result c.cell-cell.ensures (sym c.is_not_known.ensures ∙ c.if-not-is_not_known.true))
+    (row_of_held c.args.cache.now c.args.current c.requires.held plain) q)
+
+pub returns-then-is_quit-clause-tag : goal.returns-then-is_quit-clause-tag
+returns-then-is_quit-clause-tag g c s h no_quit alive fresh = absurd (true≢false (sym (sym c.requires.quit ∙ c.if-is_quit.true)
+    ∙ no_quit))
+
+pub returns-then-is_quit-clause-quits : goal.returns-then-is_quit-clause-quits
+returns-then-is_quit-clause-quits g c plain q = ap (λ (m : ℕ). Ok m) (c.quit-quit.ensures ∙ ap quit_id c.stride-stride.ensures.stride)
+
+pub returns-in_err-to-clause-quits : goal.returns-in_err-to-clause-quits
+returns-in_err-to-clause-quits g c plain q = absurd (true≢false (sym q ∙ (sym c.requires.quit ∙ c.if-is_quit.false)))
+
+pub returns-in_err-to-clause-spares : goal.returns-in_err-to-clause-spares
+returns-in_err-to-clause-spares g c q = absurd (true≢false (sym q ∙ (sym c.requires.quit ∙ c.if-is_quit.false)))
+
+pub returns-clause-quits : goal.returns-clause-quits
+returns-clause-quits g c plain q = absurd (true≢false (sym q ∙ (sym c.requires.quit ∙ c.if-is_quit.false)))
+
+pub returns-clause-spares : goal.returns-clause-spares
+returns-clause-spares g c q = absurd (true≢false (sym q ∙ (sym c.requires.quit ∙ c.if-is_quit.false)))

@@ -1,7 +1,7 @@
 use Rattle.std.proofs.Common.{subst}
 use Rattle.search_core.specs.Units.{unit_byte}
 use Rattle.search_core.specs.declared.unit.Unit.{Unit as InputUnit}
-use Rattle.lazy_dfa.specs.Steps.{StepsTo, IsNoted}
+use Rattle.lazy_dfa.specs.Steps.{StepsTo, IsNoted, TagsStep}
 use Rattle.lazy_dfa.proofs.ChangeLemmas.{step_held}
 use Rattle.lazy_dfa.proofs.dfa.DFA.next_eoi_state.Goals as goal
 
@@ -16,3 +16,7 @@ returns-clause-noted g c = subst (λ (x : InputUnit). IsNoted c.args.self.now c.
 pub returns-clause-held : goal.returns-clause-held
 returns-clause-held g c = step_held c.args.self.now c.args.cache.now c.step.new.cache c.args.current c.in_ok-to.to
     (unit_byte c.eoi.result) c.requires.held c.in_ok-to.ensures.loops c.in_ok-to.ensures.same c.in_ok-to.ensures.step
+
+pub returns-clause-tag : goal.returns-clause-tag
+returns-clause-tag g c = subst (λ (x : InputUnit). TagsStep c.args.self.now c.args.cache.now c.args.current (unit_byte x) c.in_ok-to.to)
+    c.eoi.ensures c.in_ok-to.ensures.tag

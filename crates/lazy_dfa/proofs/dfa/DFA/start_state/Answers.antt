@@ -3,7 +3,7 @@ use Rattle.search_types.specs.declared.anchored.Anchored.{Anchored}
 use Rattle.determinize_core.specs.Starts.{start_of}
 use Rattle.lazy_dfa.specs.Dfas.{start_in, first_state}
 use Rattle.lazy_dfa.specs.StartCalls.{mode_of}
-use Rattle.lazy_dfa.proofs.StartCallLemmas.{slot_inside, fine_of, allowed_of, known_here, start_left}
+use Rattle.lazy_dfa.proofs.StartCallLemmas.{slot_inside, fine_of, allowed_of, known_here, start_left, start_needs}
 use Rattle.lazy_dfa.proofs.dfa.DFA.start_state.Goals as goal
 use Rattle.lazy_dfa.proofs.LinkedLemmas.{held_named}
 
@@ -69,3 +69,19 @@ returns-in-Ok-clause-remains g c = start_left c.args.self.now c.args.config.now 
     (c.mode_number-number.ensures.value ∙ ap mode_of c.get_anchored-3.ensures)
     (c.start_behind-start.ensures ∙ ap (start_of c.args.self.now.nfa.terminator) c.get_look_behind-look_behind.ensures)
     c.args.cache.now c.start_in_mode.new.cache c.in-Ok.ensures.remains
+
+pub returns-in-Ok-clause-cause : goal.returns-in-Ok-clause-cause
+returns-in-Ok-clause-cause g c = start_needs c.args.self.now c.args.config.now c.mode_number-number.result
+    c.in-Some-name_of.name c.start_behind-start.result
+    (c.in-Some-name_of.ensures.name ∙ ap (λ (m : Anchored). start_in c.args.self.now (mode_of m)) c.get_anchored-2.ensures)
+    (c.mode_number-number.ensures.value ∙ ap mode_of c.get_anchored-3.ensures)
+    (c.start_behind-start.ensures ∙ ap (start_of c.args.self.now.nfa.terminator) c.get_look_behind-look_behind.ensures)
+    c.args.cache.now c.start_in_mode.new.cache c.in-Ok.ensures.cause
+
+pub returns-in-Err-clause-cause : goal.returns-in-Err-clause-cause
+returns-in-Err-clause-cause g c = start_needs c.args.self.now c.args.config.now c.mode_number-number.result
+    c.in-Some-name_of.name c.start_behind-start.result
+    (c.in-Some-name_of.ensures.name ∙ ap (λ (m : Anchored). start_in c.args.self.now (mode_of m)) c.get_anchored-2.ensures)
+    (c.mode_number-number.ensures.value ∙ ap mode_of c.get_anchored-3.ensures)
+    (c.start_behind-start.ensures ∙ ap (start_of c.args.self.now.nfa.terminator) c.get_look_behind-look_behind.ensures)
+    c.args.cache.now c.start_in_mode.new.cache c.in-Err.ensures.cause
