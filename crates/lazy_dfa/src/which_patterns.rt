@@ -1,5 +1,5 @@
 //! Which patterns match: those of all ends of a walk.
-ghost use Rattle.std.specs.Prelude.{◌≡◌, ◌+◌, ◌*◌, ◌≤◌, ◌||◌, false, None, IfErr};
+ghost use Rattle.std.specs.Prelude.{◌≡◌, ◌+◌, ◌*◌, ◌<◌, ◌≤◌, ◌||◌, false, None, Ok, IfErr};
 ghost use Rattle.search_types.specs.declared.match_error.MatchErrorKind.TheVariants.{NoMemory};
 ghost use Rattle.lazy_dfa.specs.Caches.{IsCacheOf};
 ghost use Rattle.lazy_dfa.specs.ConfigValue.{clears_of};
@@ -71,7 +71,7 @@ impl DFA {
     ///
     /// The ends are those that a walk tells. Patterns at or above the set's capacity are skipped. Behind an end at which the set is
     /// full, and behind the first one where the earliest end is enough, no more are looked for. It is refused as the walk is; the
-    /// patterns that were added by then stay.
+    /// patterns that were added by then stay. A done span has no ends, and is never refused.
     pub fn try_which_overlapping_matches<L: Ledger, M: Ledger>(
         &self,
         cache: &mut Cache,
@@ -83,11 +83,15 @@ impl DFA {
         requires is_forward { self.now.nfa.automaton.reverse ≡ false }
         ensures own { IsCacheOf self.now cache.new }
         ensures answer { AnswersWhich self.now cache.new input.now patterns.old patterns.new result }
+        ensures done { input.now.end < input.now.start → (result ≡ Ok tt) × (cache.new ≡ cache.old) × (patterns.new ≡ patterns.old) }
         ensures sure { clears_of self.now.options ≡ None → (whole_rest (reader self.now) input.now).refusal ≡ None → IfErr result (λ e. e ≡ NoMemory) }
         ensures kept { GrowsOrClears self.now cache.old cache.new }
         ensures determinized { work.new.determinized ≤ work.old.determinized + which_made (reader self.now) input.now }
         ensures inserted { work.new.inserted ≤ work.old.inserted + which_made (reader self.now) input.now * most_inserts self.now }
     {
+        if input.is_done() {
+            return Ok(());
+        }
         which(self, cache, input, patterns, work)
     }
 }
