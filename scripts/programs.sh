@@ -1,0 +1,83 @@
+# Of the programs that stand at the top: which crates each is made of, whether it is built, and the two ways to an answer. It is
+# read by these scripts, which set `top`, the repository's folder.
+
+# The crates that a program is made of, each after those that it uses; libraries of the toolchain have no folder here.
+crates_of() {
+    for crate in $(sed -n "s/^$1_main://p" "$top/crates.txt"); do
+        for below in $(sed -n "s/^$crate://p" "$top/crates.txt") "$crate"; do
+            [ -d "$top/crates/$below" ] && echo "$below"
+        done
+    done
+    echo "$1_main"
+}
+
+program_of() {
+    echo "$top/crates/$1_main/out/$1_main"
+}
+
+# A program is built where it is newer than all that rt makes it of: documents and wrong edits are no part of it.
+is_built() {
+    [ -x "$(program_of "$1")" ] || return 1
+    set -- "$(program_of "$1")" "$top/crates.txt" "$top/HANDLES" $(crates_of "$1" | sed "s,.*,$top/crates/&/src $top/crates/&/specs $top/crates/&/proofs,")
+    program=$1
+    shift
+    [ -z "$(find "$@" -type f -newer "$program" -print 2>/dev/null | head -n 1)" ]
+}
+
+# Ends the script where the toolchain's command isn't there.
+need_rt() {
+    command -v rt >/dev/null 2>&1 && return
+    echo "$1: there is no command rt on the path, and without the Rattle toolchain nothing can be run or proved" >&2
+    exit 2
+}
+
+# Tells a person that the program reads what is typed.
+tell_terminal() {
+    [ -t 0 ] && echo "$1: waiting for a head and then a haystack on standard input; docs/NOTATION.md describes them" >&2
+}
+
+# An unproved run reads its input whole: rt try takes fewer than this many bytes, and cuts what is longer.
+most_unproved=67108863
+
+# Runs a program on standard input with nothing proved, and ends with its status; what such a run can't do is told with status 2.
+run_unproved() {
+    folder=$(mktemp -d) || exit 2
+    trap 'rm -rf "$folder"' EXIT
+    trap 'exit 2' HUP INT TERM
+    trap '' PIPE
+    if ! head -c $((most_unproved + 1)) >"$folder/input" 2>/dev/null; then
+        echo "$1: read fault" >&2
+        exit 2
+    fi
+    if [ "$(wc -c <"$folder/input")" -gt "$most_unproved" ]; then
+        echo "$1: an unproved run takes $most_unproved bytes of input at most; ./prove builds the program, which takes more" >&2
+        exit 2
+    fi
+    # One step of the interpreter: what is compiled with checks answers, and runs as the interpreter does.
+    (cd "$top/crates/$1_main" && rt try --steps 1 <"$folder/input") >"$folder/reply" 2>"$folder/said"
+    status=$(sed -n 's/^run=ended status=\([0-9]*\) .*/\1/p' "$folder/said")
+    if [ -z "$status" ] || grep -q '^rt: standard input did not end' "$folder/said"; then
+        why=$(sed -n 's/^checked: //p' "$folder/said" | head -n 1)
+        [ -n "$why" ] || why=$(grep -v -e '^run=' -e '^interpreter: ' "$folder/said" | head -n 1)
+        echo "$1: the unproved run gave no answer (${why:-rt try said nothing}); ./prove builds the program, which has no such limit" >&2
+        exit 2
+    fi
+    grep "^$1: " "$folder/said" >&2
+    if ! cat "$folder/reply" 2>/dev/null; then
+        echo "$1: write fault" >&2
+        exit 2
+    fi
+    exit "$status"
+}
+
+# Answers by the program as it was built, or else with nothing proved.
+answer() {
+    if is_built "$1"; then
+        tell_terminal "$1"
+        exec "$(program_of "$1")"
+    fi
+    need_rt "$1"
+    echo "$1: nothing is proved yet, so this answer is checked as it runs and no more; ./prove proves and builds the program" >&2
+    tell_terminal "$1"
+    run_unproved "$1"
+}
