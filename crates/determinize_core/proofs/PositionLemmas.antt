@@ -66,7 +66,7 @@ module _ (noted ps : List ℕ) (p : ℕ) (at : ArePositions noted ps) where
   -- a position is noted for it where the list lacks it
   module _ (new : List ℕ) (absent : list_any (nat_eq p) ps ≡ false) (others : (q : ℕ) → q ≢ p →
       slice_index new q ≡ slice_index noted q) where
-    noted_apart : ArePositions new ps
+    pub noted_apart : ArePositions new ps
     noted_apart i past within = others (get_or ps i 0) (differs p ps i absent within) ∙ at i past within
 
     -- and it is listed there
