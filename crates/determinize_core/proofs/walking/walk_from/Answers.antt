@@ -74,3 +74,69 @@ pub returns-clause-cost : goal.returns-clause-cost
 returns-clause-cost g c =
     cost_on c.args.nfa.now.automaton c.args.steps.now c.loop-k.steps c.state_behind-2.new.steps c.loop-k.k (length c.args.bytes.now)
     c.loop-k.invariant.cost c.state_behind-2.ensures.cost (omega arith)
+
+pub state_behind-requires-clause-bound1 : goal.state_behind-requires-clause-bound1
+state_behind-requires-clause-bound1 g c = c.loop-k.invariant.bound1
+
+pub state_behind-requires-clause-bound2 : goal.state_behind-requires-clause-bound2
+state_behind-requires-clause-bound2 g c = c.loop-k.invariant.bound2
+
+pub state_behind-requires-clause-below : goal.state_behind-requires-clause-below
+state_behind-requires-clause-below g c = c.loop-k.invariant.below
+
+pub state_behind-requires-clause-once : goal.state_behind-requires-clause-once
+state_behind-requires-clause-once g c = c.loop-k.invariant.once
+
+pub state_behind-requires-clause-empty : goal.state_behind-requires-clause-empty
+state_behind-requires-clause-empty g c = c.loop-k.invariant.empty
+
+pub state_behind-requires-2-clause-bound1 : goal.state_behind-requires-2-clause-bound1
+state_behind-requires-2-clause-bound1 g c = c.loop-k.invariant.bound1
+
+pub state_behind-requires-2-clause-bound2 : goal.state_behind-requires-2-clause-bound2
+state_behind-requires-2-clause-bound2 g c = c.loop-k.invariant.bound2
+
+pub state_behind-requires-2-clause-below : goal.state_behind-requires-2-clause-below
+state_behind-requires-2-clause-below g c = c.loop-k.invariant.below
+
+pub state_behind-requires-2-clause-once : goal.state_behind-requires-2-clause-once
+state_behind-requires-2-clause-once g c = c.loop-k.invariant.once
+
+pub state_behind-requires-2-clause-empty : goal.state_behind-requires-2-clause-empty
+state_behind-requires-2-clause-empty g c = c.loop-k.invariant.empty
+
+pub returns-in_err-behind-clause-bound1 : goal.returns-in_err-behind-clause-bound1
+returns-in_err-behind-clause-bound1 g c = c.state_behind.ensures.bound1
+
+pub returns-in_err-behind-clause-bound2 : goal.returns-in_err-behind-clause-bound2
+returns-in_err-behind-clause-bound2 g c = c.state_behind.ensures.bound2
+
+pub returns-in_err-push-clause-bound1 : goal.returns-in_err-push-clause-bound1
+returns-in_err-push-clause-bound1 g c = c.state_behind.ensures.bound1
+
+pub returns-in_err-push-clause-bound2 : goal.returns-in_err-push-clause-bound2
+returns-in_err-push-clause-bound2 g c = c.state_behind.ensures.bound2
+
+pub returns-in_err-end-clause-bound1 : goal.returns-in_err-end-clause-bound1
+returns-in_err-end-clause-bound1 g c = c.state_behind-2.ensures.bound1
+
+pub returns-in_err-end-clause-bound2 : goal.returns-in_err-end-clause-bound2
+returns-in_err-end-clause-bound2 g c = c.state_behind-2.ensures.bound2
+
+pub returns-in_err-push-2-clause-bound1 : goal.returns-in_err-push-2-clause-bound1
+returns-in_err-push-2-clause-bound1 g c = c.state_behind-2.ensures.bound1
+
+pub returns-in_err-push-2-clause-bound2 : goal.returns-in_err-push-2-clause-bound2
+returns-in_err-push-2-clause-bound2 g c = c.state_behind-2.ensures.bound2
+
+pub returns-in_err-push-3-clause-bound1 : goal.returns-in_err-push-3-clause-bound1
+returns-in_err-push-3-clause-bound1 g c = c.state_behind-2.ensures.bound1
+
+pub returns-in_err-push-3-clause-bound2 : goal.returns-in_err-push-3-clause-bound2
+returns-in_err-push-3-clause-bound2 g c = c.state_behind-2.ensures.bound2
+
+pub returns-clause-bound1 : goal.returns-clause-bound1
+returns-clause-bound1 g c = c.state_behind-2.ensures.bound1
+
+pub returns-clause-bound2 : goal.returns-clause-bound2
+returns-clause-bound2 g c = c.state_behind-2.ensures.bound2
