@@ -1,4 +1,6 @@
-use Rattle.std.proofs.Common.{◌≡◌, List, ℕ, map, subst, sym, ap, ◌∙◌, rules}
+use Rattle.std.proofs.Common.{◌≡◌, ◌<◌, ◌≤◌, ◌+◌, ◌*◌, All, List, ℕ, length, map, subst, sym, ap, ◌∙◌, rules}
+use Rattle.std.proofs.lemmas.List.{length-map}
+use Rattle.nfa_core.specs.CanBuild.{names_of}
 use Rattle.search_types.specs.Groups.{Groups}
 use Rattle.nfa_core.specs.BuilderStates.{Assembly, DraftNode, pattern_count}
 use Rattle.nfa_core.specs.Drafts.{draft_of}
@@ -12,6 +14,68 @@ use Rattle.nfa_core.specs.declared.draft.Draft.{Draft}
 use Rattle.nfa_core.proofs.BuildLemmas.{sound, nfa_made}
 use Rattle.nfa_core.proofs.ReachLemmas.{can_reach}
 use Rattle.nfa_core.proofs.builder.Builder.parts.Goals as goal
+
+-- the names that the code holds are as many as the states
+as_many : (parts seen : List DraftNode) (names given : List ℕ) → seen ≡ parts → given ≡ names → IsNaming seen names →
+    length parts ≡ length given
+as_many parts seen names given e same naming = sym (ap length same ∙ (naming.len ∙ ap length e))
+
+there : (parts seen again : List DraftNode) (names given : List ℕ) → seen ≡ parts → again ≡ parts → given ≡ names → IsNaming seen names →
+    All (λ draft. All (λ q. q < length parts) (names_of draft)) parts → All (λ draft. All (λ q. q < length given) (names_of draft)) again
+there parts seen again names given e f same naming all =
+    subst (λ (ds : List DraftNode). All (λ draft. All (λ q. q < length given) (names_of draft)) ds) (sym f)
+    (subst (λ (n : ℕ). All (λ draft. All (λ q. q < n) (names_of draft)) parts) (as_many parts seen names given e same naming) all)
+
+within : (old new : ℕ) (ds given : List Draft) (parts : List DraftNode) → given ≡ ds → map draft_of ds ≡ parts →
+    new ≤ old + 2 * length given → new ≤ old + 2 * length parts
+within old new ds given parts same e few =
+    subst (λ (n : ℕ). new ≤ old + 2 * n) (ap length same ∙ (sym (length-map ds draft_of) ∙ ap length e)) few
+
+pub kept_states-requires-clause-named : goal.kept_states-requires-clause-named
+kept_states-requires-clause-named g c =
+    let seen : map draft_of c.self.inside.drafts.items ≡ c.args.self.now.drafts = ap (λ (b : Assembly). b.drafts) c.self.view_is in
+    there c.args.self.now.drafts (map draft_of c.deref.result.now) (map draft_of c.deref-3.result.now) c.in_ok-names.names.items
+    c.deref-2.result.now (ap (map draft_of) c.deref.ensures.value ∙ seen) (ap (map draft_of) c.deref-3.ensures.value ∙ seen)
+    c.deref-2.ensures.value c.in_ok-names.ensures.names c.requires.can.named
+
+pub rename-anchored-requires : goal.rename-anchored-requires
+rename-anchored-requires g c =
+    subst (λ (n : ℕ). c.args.start_anchored < n)
+    (as_many c.args.self.now.drafts (map draft_of c.deref.result.now) c.in_ok-names.names.items c.deref-6.result.now
+    (ap (map draft_of) c.deref.ensures.value ∙ ap (λ (b : Assembly). b.drafts) c.self.view_is) c.deref-6.ensures.value
+    c.in_ok-names.ensures.names) c.requires.can.anchored_there
+
+pub rename-unanchored-requires : goal.rename-unanchored-requires
+rename-unanchored-requires g c =
+    subst (λ (n : ℕ). c.args.start_unanchored < n)
+    (as_many c.args.self.now.drafts (map draft_of c.deref.result.now) c.in_ok-names.names.items c.deref-7.result.now
+    (ap (map draft_of) c.deref.ensures.value ∙ ap (λ (b : Assembly). b.drafts) c.self.view_is) c.deref-7.ensures.value
+    c.in_ok-names.ensures.names) c.requires.can.unanchored_there
+
+pub returns-in_err-names-clause-moves : goal.returns-in_err-names-clause-moves
+returns-in_err-names-clause-moves g c =
+    within c.args.steps.now c.name_all.new.steps c.self.inside.drafts.items c.deref.result.now c.args.self.now.drafts
+    c.deref.ensures.value (ap (λ (b : Assembly). b.drafts) c.self.view_is) c.name_all.ensures.moves
+
+pub returns-in_err-states-clause-moves : goal.returns-in_err-states-clause-moves
+returns-in_err-states-clause-moves g c =
+    within c.args.steps.now c.name_all.new.steps c.self.inside.drafts.items c.deref.result.now c.args.self.now.drafts
+    c.deref.ensures.value (ap (λ (b : Assembly). b.drafts) c.self.view_is) c.name_all.ensures.moves
+
+pub returns-in_err-start_pattern-clause-moves : goal.returns-in_err-start_pattern-clause-moves
+returns-in_err-start_pattern-clause-moves g c =
+    within c.args.steps.now c.name_all.new.steps c.self.inside.drafts.items c.deref.result.now c.args.self.now.drafts
+    c.deref.ensures.value (ap (λ (b : Assembly). b.drafts) c.self.view_is) c.name_all.ensures.moves
+
+pub returns-in_err-clone-clause-moves : goal.returns-in_err-clone-clause-moves
+returns-in_err-clone-clause-moves g c =
+    within c.args.steps.now c.name_all.new.steps c.self.inside.drafts.items c.deref.result.now c.args.self.now.drafts
+    c.deref.ensures.value (ap (λ (b : Assembly). b.drafts) c.self.view_is) c.name_all.ensures.moves
+
+pub returns-clause-moves : goal.returns-clause-moves
+returns-clause-moves g c =
+    within c.args.steps.now c.name_all.new.steps c.self.inside.drafts.items c.deref.result.now c.args.self.now.drafts
+    c.deref.ensures.value (ap (λ (b : Assembly). b.drafts) c.self.view_is) c.name_all.ensures.moves
 
 pub name_all-requires-clause-reached : goal.name_all-requires-clause-reached
 name_all-requires-clause-reached g c =
