@@ -140,7 +140,6 @@ impl Pasts {
     }
 
     /// Notes what `q` leads past to, and with it all states that are met before the table tells more.
-    #[tactic(auto, using(crate::proofs::PastLemmas::settled_kept, crate::proofs::PastLemmas::settled_there, crate::proofs::PastLemmas::settled_grows, crate::proofs::PastLemmas::told_more))]
     fn settle_from<L: Ledger>(&mut self, drafts: &[Draft], q: StateID, steps: &mut Steps<L>)
         requires reached { IsReached (map draft_of drafts.now) }
         requires numbered { length drafts.now ≤ greatest_index + 1 }
