@@ -1,14 +1,25 @@
-//! Tests of compiled trees: the states that they become, worked out by hand, and why trees are refused.
+//! Tests of compiled trees: the states that they become, worked out by hand, and why trees are refused; of classes and
+//! alternations that share states, how many states there are and what they find. Trees of many levels are tried beside them.
 #![tactic(auto)]
 
 #[cfg(test)]
 mod calls;
 #[cfg(test)]
+mod classes;
+#[cfg(test)]
+mod finds;
+#[cfg(test)]
 mod groups;
 #[cfg(test)]
 mod kinds;
 #[cfg(test)]
+mod levels;
+#[cfg(test)]
 mod limits;
+#[cfg(test)]
+mod literals;
+#[cfg(test)]
+mod maps;
 #[cfg(test)]
 mod options;
 #[cfg(test)]
@@ -19,3 +30,7 @@ mod repeats;
 mod shapes;
 #[cfg(test)]
 mod small;
+#[cfg(test)]
+mod trees;
+#[cfg(test)]
+mod tries;

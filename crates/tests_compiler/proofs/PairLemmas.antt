@@ -4,7 +4,7 @@ use Rattle.std.specs.Prelude.{Result, Ok, Err, OnOk}
 use Rattle.std.proofs.lemmas.Bool.{and_parts, false≢true}
 use Rattle.hir_core.specs.Sequences.{is_in_ranges}
 use Rattle.thompson_nfa.specs.RangeTries.{IsApart, IsWith}
-use Rattle.tests_sharing.specs.Pairs.{HasPairs}
+use Rattle.tests_compiler.specs.Pairs.{HasPairs}
 
 two_long : (q r : ℕ × ℕ) (s : List ℕ) → is_in_ranges (q ∷ r ∷ []) s ≡ true → length s ≡ 2
 two_long q r [] e = absurd (false≢true e)

@@ -1,7 +1,7 @@
 use Rattle.std.proofs.Common.{refl}
 use Rattle.hir_core.specs.Sequences.{bytes_of}
-use Rattle.tests_sharing.proofs.PairLemmas.{pairs_apart, pairs_kept}
-use Rattle.tests_sharing.proofs.tries.insert.Goals as goal
+use Rattle.tests_compiler.proofs.PairLemmas.{pairs_apart, pairs_kept}
+use Rattle.tests_compiler.proofs.tries.insert.Goals as goal
 
 -- src/tries.rt:24:17
 pub slice_bounds-insert-end : goal.slice_bounds-insert-end

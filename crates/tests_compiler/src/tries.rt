@@ -1,6 +1,6 @@
 //! A trie of ranges emits what was inserted, each string in one sequence, ascending.
 ghost use Rattle.std.specs.Prelude.{◌≡◌, ◌≤◌, OnOk};
-ghost use Rattle.tests_sharing.specs.Pairs.{HasPairs};
+ghost use Rattle.tests_compiler.specs.Pairs.{HasPairs};
 
 use hir_core::Utf8Range;
 use std::alloc::{AllocError, Global};
