@@ -476,6 +476,9 @@ held_from d v w id to u held loops steps = ⊎_elim
 abbrev pub answered : ℕ → Result ℕ CacheError
 answered to = Ok to
 
+abbrev pub answered_err : CacheError → Result ℕ CacheError
+answered_err e = Err e
+
 abbrev answer_of : Result ℕ CacheError → ℕ
 answer_of (Ok to) = to
 answer_of (Err e) = 0

@@ -77,3 +77,5 @@ pub mod WalkRows
 pub mod ByteTestLemmas
 pub mod HalfTableLemmas
 pub mod SkipLemmas
+pub mod AddsLemmas
+pub mod ChangesLemmas

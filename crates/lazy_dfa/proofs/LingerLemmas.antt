@@ -19,7 +19,8 @@ use Rattle.lazy_dfa.specs.Points.{GoesTo, point}
 use Rattle.lazy_dfa.specs.Readers.{is_quit}
 use Rattle.lazy_dfa.specs.PassPlaces.{left_at, GoesBetween}
 use Rattle.lazy_dfa.specs.Steps.{noted}
-use Rattle.lazy_dfa.proofs.ChangeLemmas.{grew_refl, one_state}
+use Rattle.lazy_dfa.proofs.AddsLemmas.{step_adds_none}
+use Rattle.lazy_dfa.proofs.ChangeLemmas.{same_grew, grew_refl, one_state}
 use Rattle.lazy_dfa.proofs.IsCacheLemmas.{row_is_plain}
 use Rattle.lazy_dfa.proofs.LinkedLemmas.{AreBytes, row_leads}
 use Rattle.lazy_dfa.proofs.PointLemmas.{held_plain, goes_step, goes_known, goes_on, goes_none, row_known}
@@ -76,6 +77,7 @@ module _ (d : Dfa) (v : CacheValue) (id next : ℕ) (u : Option ℕ) (own : IsCa
   goes_one h at m n best t held is = goes_step d h v at id u own row is quiet v next m m n n best (recorded at t best) own (grew_refl d v)
       leads (λ s g f. sym read) (λ k. refl) (λ k. (refl, refl)) (omega arith) (omega arith)
       (λ s g. ap (λ (x : StateValue). recorded at x best) (next_is s t g held))
+      (step_adds_none d v v id u (same_grew d v) (refl, refl, refl))
 
   -- a run that came to the ID goes on
   module _ (h : List ℕ) (made : IsDfa d) (bytes : AreBytes h) (from first at met last k : ℕ) (start : IsRow v first)

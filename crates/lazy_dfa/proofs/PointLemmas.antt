@@ -12,6 +12,7 @@ use Rattle.determinize_core.specs.StateBytes.{is_match}
 use Rattle.determinize_core.specs.Steps.{unit_at}
 use Rattle.lazy_dfa.specs.Caches.{CacheValue, IsShaped, IsCacheOf, IsRow, HeldAt, Names, names_dead, names_held, Leads, begun_anew}
 use Rattle.lazy_dfa.specs.Caches.{state_at, greatest}
+use Rattle.lazy_dfa.specs.Changes.{unchanged, IsMadeAt}
 use Rattle.lazy_dfa.specs.Courses.{state_behind, best_behind}
 use Rattle.lazy_dfa.specs.declared.progress.Progress.{Progress}
 use Rattle.lazy_dfa.specs.Dfas.{Dfa, IsDfa, IsUnit, after, reader}
@@ -21,8 +22,10 @@ use Rattle.lazy_dfa.specs.PassLaws.{unit_of}
 use Rattle.lazy_dfa.specs.Passes.{recorded, is_dead}
 use Rattle.lazy_dfa.specs.Points.{Point, began, Follows, IsFree, GoesTo, point}
 use Rattle.lazy_dfa.specs.Readers.{is_quit}
-use Rattle.lazy_dfa.specs.Steps.{IsHeld, StepsTo, Grew, WasCleared, KeepsOrClears, noted, IsKnown, IsNoted, most_inserts}
-use Rattle.lazy_dfa.proofs.ChangeLemmas.{grew_refl, one_state}
+use Rattle.lazy_dfa.specs.Steps.{IsHeld, StepsTo, Grew, WasCleared, KeepsOrClears, noted, IsKnown, IsNoted, StepAdds, most_inserts}
+use Rattle.lazy_dfa.proofs.AddsLemmas.{step_adds_none}
+use Rattle.lazy_dfa.proofs.ChangeLemmas.{same_grew, grew_refl, one_state}
+use Rattle.lazy_dfa.proofs.ChangesLemmas.{changes_into, changes_on, changes_moved, made_before, made_behind, step_changes}
 use Rattle.lazy_dfa.proofs.CourseLemmas.{state_there, best_there, read_there, state_behind_one, best_behind_one, read_one, not_dead}
 use Rattle.lazy_dfa.proofs.CourseLemmas.{unmatched}
 use Rattle.lazy_dfa.proofs.IsCacheLemmas.{row_is_plain, le_of}
@@ -74,6 +77,7 @@ module _ (d : Dfa) (h : List ℕ) where
     running = λ r. r;
     determinized = omega arith;
     inserted = omega arith;
+    changes = λ s named. unchanged p.cache 0 refl;
   }
 
   -- the same to a cache in which only the place of the search is another one
@@ -104,6 +108,7 @@ module _ (d : Dfa) (h : List ℕ) where
     running = λ r. runs (g.running r);
     determinized = g.determinized;
     inserted = g.inserted;
+    changes = λ s named. changes_moved d (IsMadeAt (reader d) h a.at s k) a.cache v w k e (g.changes s named);
   }
     where
       grows_on : Grows d a.cache v → Grows d a.cache w
@@ -194,6 +199,15 @@ module _ (d : Dfa) (h : List ℕ) (made : IsDfa d) (bytes : AreBytes h) (a b c :
     running = λ r. g.running (f.running r);
     determinized = let x = f.determinized in let y = g.determinized in omega (arith, x, y);
     inserted = sum_of a.inserted b.inserted c.inserted k l (most_inserts d) f.inserted g.inserted;
+    changes = λ s named.
+        let read = f.read s named in
+        changes_on d (IsMadeAt (reader d) h a.at s (k + l)) a.cache b.cache k
+        (changes_into d (IsMadeAt (reader d) h a.at s k) (IsMadeAt (reader d) h a.at s (k + l))
+        (made_before (reader d) h a.at b.at k l f.place s read) a.cache b.cache k (f.changes s named))
+        c.cache l (k + l) (omega arith)
+        (changes_into d (IsMadeAt (reader d) h b.at (state_behind (reader d) h a.at s k) l) (IsMadeAt (reader d) h a.at s (k + l))
+        (made_behind (reader d) h a.at b.at k l f.place s read) b.cache c.cache l
+        (g.changes (state_behind (reader d) h a.at s k) (f.names s named)));
   }
 
 -- ---- one unit
@@ -226,7 +240,7 @@ module _ (d : Dfa) (h : List ℕ) (old : CacheValue) (at id : ℕ) (u : Option �
       (step : StepsTo d old new id u to) (there : IsNoted d old new id u to) (same : IsKnown d old id u →
       new ≡ old) (free : IsKnown d old id u → (m2 ≡ m1) × (n2 ≡ n1))
       (determinized : m2 ≤ m1 + 1) (inserted : n2 ≤ n1 + most_inserts d)
-      (best : (s : StateValue) → HeldAt old id s → best2 ≡ recorded at (after d s u) best1) where
+      (best : (s : StateValue) → HeldAt old id s → best2 ≡ recorded at (after d s u) best1) (adds : StepAdds d old new id u) where
     abbrev here : Point
     here = point old m1 n1 at id best1
 
@@ -280,6 +294,7 @@ module _ (d : Dfa) (h : List ℕ) (old : CacheValue) (at id : ℕ) (u : Option �
       running = running_one;
       determinized = determinized;
       inserted = one_time n1 n2 (most_inserts d) inserted;
+      changes = λ s named. step_changes d h old at id u own row is new adds s (held_plain old id s low named);
     }
 
 -- ---- one unit by a step that is known and leads to an untagged ID
@@ -323,6 +338,7 @@ module _ (d : Dfa) (v : CacheValue) (id next : ℕ) (u : Option ℕ) (own : IsCa
   goes_known h at m n best is = goes_step d h v at id u own row is next_quiet v next m m n n best best own (grew_refl d v)
       next_leads (λ s g f. sym read) (λ k. refl) (λ k. (refl, refl)) (omega arith) (omega arith)
       (λ s g. unmatched (after d s u) at best (untagged_match v next (after d s u) own.shape plain (next_held s g)))
+      (step_adds_none d v v id u (same_grew d v) (refl, refl, refl))
 
 -- a run over known steps goes on
 module _ (d : Dfa) (v : CacheValue) (h : List ℕ) (made : IsDfa d) (own : IsCacheOf d v) (bytes : AreBytes h) (from first at id : ℕ)

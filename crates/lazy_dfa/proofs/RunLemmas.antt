@@ -12,6 +12,7 @@ use Rattle.search_types.specs.declared.match_error.MatchErrorKind.TheVariants.{Q
 use Rattle.search_types.specs.Found.{HalfFound}
 use Rattle.search_types.specs.Inputs.{Search}
 use Rattle.lazy_dfa.specs.Caches.{CacheValue, IsCacheOf, HeldAt, IsRow, Names, names_held, greatest, lacks_room}
+use Rattle.lazy_dfa.specs.Changes.{IsMadeAt}
 use Rattle.lazy_dfa.specs.Courses.{state_behind, best_behind, AreRead, HasNoStop, stops_behind}
 use Rattle.lazy_dfa.specs.Dfas.{Dfa, IsDfa, reader}
 use Rattle.lazy_dfa.specs.Linked.{IsLinkedOver, Grows, HasCleared, GrowsOrClears, IsMoved}
@@ -24,6 +25,7 @@ use Rattle.lazy_dfa.specs.SearchAnswers.{half_of, pair_of, told, give_up_place, 
 use Rattle.lazy_dfa.specs.PassPlaces.{last_place, came, tells, BeganFirst, told_behind, GoesBetween, EndsWith, RestAnew, IsRestTold, RunsOn}
 use Rattle.lazy_dfa.specs.Steps.{most_inserts}
 use Rattle.lazy_dfa.specs.Turns.{Leaves, FailsOn}
+use Rattle.lazy_dfa.proofs.ChangesLemmas.{changes_moved, changes_from_moved}
 use Rattle.lazy_dfa.proofs.CourseLemmas.{state_there, unit_there, not_dead}
 use Rattle.lazy_dfa.proofs.IsCacheLemmas.{row_is_plain}
 use Rattle.lazy_dfa.proofs.LinkedLemmas.{AreBytes, grows_trans, grows_or_clears_trans, cleared_grows, moved_trans, names_moved, noted_moved}
@@ -124,6 +126,10 @@ module _ (d : Dfa) (h : List ℕ) (a : Point) (w : CacheValue) (c : Point) (k : 
     running = λ r. r;
     determinized = g.determinized;
     inserted = g.inserted;
+    changes = λ s named.
+        changes_moved d (IsMadeAt (reader d) h a.at s k) a.cache c.cache kept_as k refl
+        (changes_from_moved d (IsMadeAt (reader d) h a.at s k) a.cache w c.cache k e
+        (g.changes s (names_moved d a.cache w e a.id s named)));
   }
 
 sum_to : (a b c k u w : ℕ) → k < u → b ≤ a + k * w → c ≤ b + 1 * w → c ≤ a + u * w

@@ -32,6 +32,8 @@ use Rattle.lazy_dfa.specs.SearchAnswers.{Told, told_of, pass_distance, running_a
 use Rattle.lazy_dfa.specs.PassPlaces.{IsWithinSpan, last_place, came, tells, first_index, BeganFirst, finished, finished_where, told_behind}
 use Rattle.lazy_dfa.specs.PassPlaces.{error_of, EndsWith, gave_up_at, turned_told, TellsTurn, TurnsTo}
 use Rattle.lazy_dfa.specs.Turns.{Leaves, FailsOn, TellsTheSame, GoesOne, IsSeen, IsTurn}
+use Rattle.lazy_dfa.specs.Changes.{IsMadeAt}
+use Rattle.lazy_dfa.proofs.ChangesLemmas.{changes_moved, changes_from_moved}
 use Rattle.lazy_dfa.proofs.IsCacheLemmas.{le_of, lt_of}
 use Rattle.lazy_dfa.proofs.LinkedLemmas.{moved_refl, moved_trans, names_moved, noted_moved, moved_starts, id_moved, linked_moved}
 
@@ -83,6 +85,8 @@ module _ (d : Dfa) (v w : CacheValue) (e : IsMoved v w) where
       free = λ linked. let f = l.free (linked_moved d v w e h at id (suc k) linked) in (moved_trans v w x e f.0, f.1, f.2);
       determinized = l.determinized;
       inserted = l.inserted;
+      changes = λ s named. changes_from_moved d (IsMadeAt (reader d) h at s (suc k)) v w x (suc k) e
+          (l.changes s (names_moved d v w e id s named));
     }
 
     pub fails_back : (x : CacheValue) (m2 n2 k : ℕ) → FailsOn d h (point w m n at id best) x m2 n2 k →
@@ -121,6 +125,8 @@ module _ (d : Dfa) (v w : CacheValue) (e : IsMoved v w) where
       running = λ r. g.running (runs r);
       determinized = g.determinized;
       inserted = g.inserted;
+      changes = λ s named. changes_from_moved d (IsMadeAt (reader d) h at s k) v w to.cache k e
+          (g.changes s (names_moved d v w e id s named));
     }
 
 -- and what was left in the earlier cache is left in the later one
@@ -139,6 +145,7 @@ leaves_forth d h from v w m n k e l = record {
   free = λ linked. let f = l.free linked in (moved_trans from.cache v w f.0 e, f.1, f.2);
   determinized = l.determinized;
   inserted = l.inserted;
+  changes = λ s named. changes_moved d (IsMadeAt (reader d) h from.at s (suc k)) from.cache v w (suc k) e (l.changes s named);
 }
 
 -- ---- progress

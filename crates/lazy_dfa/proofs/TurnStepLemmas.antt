@@ -31,7 +31,8 @@ use Rattle.lazy_dfa.proofs.ChangeLemmas.{one_state}
 use Rattle.lazy_dfa.proofs.CourseLemmas.{state_behind_one, unmatched}
 use Rattle.lazy_dfa.proofs.IsCacheLemmas.{row_is_low, row_is_plain, lt_of}
 use Rattle.lazy_dfa.proofs.LinkedLemmas.{grows_of, has_cleared, moved_same}
-use Rattle.lazy_dfa.proofs.PointLemmas.{goes_step, plain_row, runs_anew, one_time}
+use Rattle.lazy_dfa.proofs.ChangesLemmas.{step_changes}
+use Rattle.lazy_dfa.proofs.PointLemmas.{goes_step, held_plain, plain_row, runs_anew, one_time}
 use Rattle.nfa_core.proofs.ForCallers.{place_zero}
 
 -- ---- tags
@@ -201,6 +202,8 @@ module _ (d : Dfa) (h : List ℕ) (old : CacheValue) (at id m1 n1 : ℕ) (u : Op
       free = λ l. let k = known_first l in let w = step.free k in (moved_same old new (step.same k), w.0, w.1);
       determinized = step.determinized;
       inserted = one_time n1 n2 (most_inserts d) step.inserted;
+      changes = λ s named. step_changes d h old at id u own row is new step.adds s
+          (held_plain old id s (row_low old id own.shape row) named);
     }
 
     stays_running : StaysRunning old new
@@ -287,7 +290,7 @@ module _ (d : Dfa) (h : List ℕ) (old : CacheValue) (at id m1 n1 : ℕ) (u : Op
           GoesOne d h from new m2 n2 to last
       goes_one last quiet recs = goes_step d h old at id u own row is quiet new to m1 m2 n1 n2 best last mine step.kept step.step step.notes
           step.same step.free
-          step.determinized step.inserted recs
+          step.determinized step.inserted recs step.adds
 
       stops_one : (s t : StateValue) (b : Bool) → after d s u ≡ t → (earliest && not (is_empty t.matches)) ≡ b →
           stops_behind (reader d) earliest h at s 0 ≡ b

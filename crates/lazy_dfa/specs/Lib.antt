@@ -30,3 +30,4 @@ pub mod Walks
 pub mod WalkAnswers
 pub mod WalkTurns
 pub mod WalkLaws
+pub mod Changes

@@ -3,6 +3,7 @@ use Rattle.std.specs.Prelude.{◌≡◌, ◌⊎◌, ℕ, ◌+◌, ◌*◌, ◌�
 use Rattle.nfa_core.specs.Ways.{place_of}
 use Rattle.determinize_core.specs.States.{StateValue}
 use Rattle.lazy_dfa.specs.Caches.{CacheValue, Names}
+use Rattle.lazy_dfa.specs.Changes.{Changes, IsMadeAt}
 use Rattle.lazy_dfa.specs.Courses.{state_behind, best_behind, AreRead}
 use Rattle.lazy_dfa.specs.declared.progress.Progress.{Progress}
 use Rattle.lazy_dfa.specs.Dfas.{Dfa, reader}
@@ -49,6 +50,7 @@ pub record GoesTo (d : Dfa) (h : List ℕ) (from to : Point) (k : ℕ) : Type 0 
   pub running : IsSome from.cache.progress → IsSome to.cache.progress
   pub determinized : to.determinized ≤ from.determinized + k
   pub inserted : to.inserted ≤ from.inserted + k * most_inserts d
+  pub changes : (s : StateValue) → Names from.cache from.id s → Changes d (IsMadeAt (reader d) h from.at s k) from.cache to.cache k
 
 abbrev pub point : CacheValue → ℕ → ℕ → ℕ → ℕ → Option (ℕ × ℕ) → Point
 point v m n at id best = record { cache = v; determinized = m; inserted = n; at = at; id = id; best = best }

@@ -12,7 +12,7 @@ use Rattle.lazy_dfa.specs.Dfas.{Dfa, start_in, first_state, is_dead}
 use Rattle.lazy_dfa.specs.Ids.{tag, dead_id, unknown_id, tagged, has_tag, start_tag}
 use Rattle.lazy_dfa.specs.Caches.{CacheValue, Names, slot, id_at, place_of, new_id, with_state, cleared, needs_clear, lacks_room}
 use Rattle.lazy_dfa.specs.Readers.{is_quit}
-use Rattle.lazy_dfa.specs.Steps.{WasCleared}
+use Rattle.lazy_dfa.specs.Steps.{WasCleared, Grew, HasStatesOf, ComesTo}
 use Rattle.lazy_dfa.specs.declared.cache_error.CacheError.{CacheError}
 use Rattle.lazy_dfa.specs.declared.cache_error.CacheError.TheVariants.{GaveUp, NoMemory as CacheNoMemory}
 use Rattle.lazy_dfa.specs.declared.start_error.StartError.{StartError}
@@ -99,6 +99,14 @@ pub record StartCleared (d : Dfa) (old new : CacheValue) (c : StartValue) : Type
   pub name : ℕ
   pub named : start_in d (mode_of c.anchored) ≡ Some name
   pub clears : ClearedFor d old new (start_slot d c) (start_first d c name)
+
+-- A start that is told comes to its state, whose ID is tagged as a start where those are told apart. One that is refused, or
+-- is that of a pattern that there isn't, adds nothing.
+abbrev pub StartAdds : Dfa → CacheValue → CacheValue → StartValue → Type 0
+StartAdds d old new c =
+    (Grew d old new × HasStatesOf new old) ⊎
+    ((start_refusal d c ≡ None) × ((q : ℕ) × (start_in d (mode_of c.anchored) ≡ Some q) ×
+    ComesTo (Grew d old new) d (specializes d.options) None (start_first d c q) old new))
 
 -- how a state gets an ID that isn't a step's: it is dead or was held, or it is added, where need be after a clear
 pub data PlacesStart (d : Dfa) (old new : CacheValue) (s : StateValue) (id : ℕ) : Type 0 where

@@ -1,13 +1,14 @@
 -- What steps over a cache are told of, what they answer, and what they change.
 use Rattle.std.specs.Prelude.{◌≡◌, ◌≢◌, ◌⊎◌, ◌<◌, ◌≤◌, ◌+◌, ◌*◌, ◌%◌, ℕ, true, false, min, [], ◌∷◌, length, Option, slice_index_or}
-use Rattle.std.specs.Prelude.{None, replicate}
+use Rattle.std.specs.Prelude.{Bool, Some, None, replicate}
 use Rattle.determinize_core.specs.Costs.{free_ways}
 use Rattle.determinize_core.specs.StateBytes.{is_match}
 use Rattle.determinize_core.specs.States.{StateValue}
 use Rattle.lazy_dfa.specs.Dfas.{Dfa, class_of, after, is_dead, IsUnit}
 use Rattle.lazy_dfa.specs.Ids.{tag, has_tag, start_tag, tagged, unknown_id, dead_id, quit_id, is_sentinel}
 use Rattle.lazy_dfa.specs.Caches.{CacheValue, IsShaped, IsRow, HeldAt, Names, Leads, id_at, state_at, with_state, cleared, greatest}
-use Rattle.lazy_dfa.specs.Caches.{place_of, begun_anew, needs_clear, lacks_room}
+use Rattle.lazy_dfa.specs.Caches.{place_of, begun_anew, needs_clear, lacks_room, fits, is_refused}
+use Rattle.lazy_dfa.specs.ConfigValue.{clears_of, bytes_of}
 use Rattle.lazy_dfa.specs.Readers.{is_quit}
 use Rattle.lazy_dfa.specs.declared.cache_error.CacheError.{CacheError}
 use Rattle.lazy_dfa.specs.declared.cache_error.CacheError.TheVariants.{GaveUp, NoMemory}
@@ -111,6 +112,49 @@ AddsOrClears old new = Added old new ⊎ WasCleared old new 2
 
 abbrev pub KeepsOrClears : Dfa → CacheValue → CacheValue → Type 0
 KeepsOrClears d old new = Grew d old new ⊎ WasCleared old new 2
+
+-- ---- what calls add
+
+-- the same states under the same IDs, and as many clears
+abbrev pub HasStatesOf : CacheValue → CacheValue → Type 0
+HasStatesOf new v = (new.states ≡ v.states) × (new.ids ≡ v.ids) × (new.clears ≡ v.clears)
+
+-- a state more: it isn't the dead one, it wasn't held, and it has room; whether its ID is tagged as a start is told
+pub record AddsState (d : Dfa) (is_start : Bool) (s : StateValue) (old new : CacheValue) : Type 0 where
+  pub alive : is_dead s ≡ false
+  pub fresh : place_of s old.states ≡ None
+  pub fits : fits d.capacity s old ≡ true
+  pub states : HasStatesOf new (with_state is_start s old)
+
+-- what a clear leaves: the state of a row, where one is to be kept
+abbrev pub kept_of : Option ℕ → CacheValue → CacheValue
+kept_of None v = cleared v
+kept_of (Some k) v = kept_alone v k
+
+-- A cache is cleared for a state that isn't held and has no room, where a clear isn't refused. If memory lacks for the state
+-- that is to be kept, nothing is.
+pub record ClearsFor (d : Dfa) (from : Option ℕ) (s : StateValue) (old new : CacheValue) : Type 0 where
+  pub needs : needs_clear d old s ≡ true
+  pub allowed : is_refused (clears_of d.options) (bytes_of d.options) old ≡ false
+  pub left : (new ≡ cleared old) ⊎ (new ≡ kept_of from old)
+
+-- a clear for a state, which is added behind it if memory suffices
+pub record MakesRoom (d : Dfa) (is_start : Bool) (from : Option ℕ) (s : StateValue) (old new : CacheValue) : Type 0 where
+  pub middle : CacheValue
+  pub clears : ClearsFor d from s old middle
+  pub states : HasStatesOf new middle ⊎ HasStatesOf new (with_state is_start s middle)
+
+-- What a call does that comes to a state, from that of a row or from none, where `kept` says that nothing was cleared: it adds
+-- nothing or this state, or it clears the cache for it.
+abbrev pub ComesTo : Type 0 → Dfa → Bool → Option ℕ → StateValue → CacheValue → CacheValue → Type 0
+ComesTo kept d is_start from s old new =
+    (kept × (HasStatesOf new old ⊎ AddsState d is_start s old new)) ⊎ MakesRoom d is_start from s old new
+
+-- A step comes to the state behind that of its row, and has no tag of starts for it. By a quit byte nothing is added.
+abbrev pub StepAdds : Dfa → CacheValue → CacheValue → ℕ → Option ℕ → Type 0
+StepAdds d old new id u = (k : ℕ) → k < length old.states → id ≡ id_at old k →
+    (Grew d old new × HasStatesOf new old) ⊎
+    ((is_quit d.quits u ≡ false) × ComesTo (Grew d old new) d false (Some k) (after d (state_at old k) u) old new)
 
 -- ---- work
 

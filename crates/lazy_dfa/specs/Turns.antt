@@ -5,7 +5,8 @@ use Rattle.search_core.specs.ByteSets.{has}
 use Rattle.nfa_core.specs.Ways.{place_of}
 use Rattle.determinize_core.specs.States.{StateValue}
 use Rattle.lazy_dfa.specs.AnewTold.{told_anew}
-use Rattle.lazy_dfa.specs.Caches.{CacheValue, HeldAt, IsRow, lacks_room}
+use Rattle.lazy_dfa.specs.Caches.{CacheValue, HeldAt, IsRow, Names, lacks_room}
+use Rattle.lazy_dfa.specs.Changes.{Changes, IsMadeAt}
 use Rattle.lazy_dfa.specs.Courses.{state_behind, stops_behind}
 use Rattle.lazy_dfa.specs.declared.cache_error.CacheError.{CacheError}
 use Rattle.lazy_dfa.specs.declared.cache_error.CacheError.TheVariants.{GaveUp, NoMemory}
@@ -19,7 +20,7 @@ use Rattle.lazy_dfa.specs.Passes.{is_empty, is_dead, recorded}
 use Rattle.lazy_dfa.specs.Points.{Point, GoesTo, point}
 use Rattle.lazy_dfa.specs.Readers.{is_quit}
 use Rattle.lazy_dfa.specs.SearchAnswers.{pair_of, told_of}
-use Rattle.lazy_dfa.specs.Steps.{IsHeld, StepsTo, KeepsOrClears, noted, IsKnown, IsNoted, IsStepCause, most_inserts}
+use Rattle.lazy_dfa.specs.Steps.{IsHeld, StepsTo, KeepsOrClears, noted, IsKnown, IsNoted, IsStepCause, StepAdds, most_inserts}
 
 -- What an ID that is held says of a pass that came to it by the unit at a place: of the dead state it ends, of the quit
 -- sentinel the unit is a quit byte, and else the match of the state's is recorded.
@@ -45,6 +46,7 @@ pub record IsStep (d : Dfa) (old new : CacheValue) (m1 m2 n1 n2 id : ℕ) (u : O
   pub free : IsKnown d old id u → (m2 ≡ m1) × (n2 ≡ n1)
   pub determinized : m2 ≤ m1 + 1
   pub inserted : n2 ≤ n1 + most_inserts d
+  pub adds : StepAdds d old new id u
 
 -- Of the cache and the work behind k units from a point and one more, whether that one was read or not.
 pub record Leaves (d : Dfa) (h : List ℕ) (from : Point) (new : CacheValue) (m n k : ℕ) : Type 0 where
@@ -52,6 +54,7 @@ pub record Leaves (d : Dfa) (h : List ℕ) (from : Point) (new : CacheValue) (m 
   pub free : IsLinkedOver d from.cache h from.at from.id (suc k) → IsMoved from.cache new × (m ≡ from.determinized) × (n ≡ from.inserted)
   pub determinized : m ≤ from.determinized + suc k
   pub inserted : n ≤ from.inserted + suc k * most_inserts d
+  pub changes : (s : StateValue) → Names from.cache from.id s → Changes d (IsMadeAt (reader d) h from.at s (suc k)) from.cache new (suc k)
 
 -- the same where the way isn't known
 pub record FailsOn (d : Dfa) (h : List ℕ) (from : Point) (new : CacheValue) (m n k : ℕ) : Type 0 where

@@ -6,7 +6,7 @@ ghost use Rattle.lazy_dfa.specs.Dfas.{start_in};
 ghost use Rattle.lazy_dfa.specs.Ids.{unknown_id, dead_id};
 ghost use Rattle.lazy_dfa.specs.declared.cache_error.CacheError.TheVariants.{GaveUp};
 ghost use Rattle.lazy_dfa.specs.declared.start_error.StartError.TheVariants.{Cache as CacheRefusal};
-ghost use Rattle.lazy_dfa.specs.StartCalls.{mode_of, behind_refusal, mode_refusal, start_refusal, start_error_of, start_noted, start_first, IsStart, IsStartKnown, IsStartCause, StartGivesUp, TagsStart, StartNeedsClear, StartCleared};
+ghost use Rattle.lazy_dfa.specs.StartCalls.{mode_of, behind_refusal, mode_refusal, start_refusal, start_error_of, start_noted, start_first, IsStart, IsStartKnown, IsStartCause, StartGivesUp, TagsStart, StartNeedsClear, StartCleared, StartAdds};
 ghost use Rattle.lazy_dfa.specs.Steps.{IsHeld, Grew, WasCleared, most_inserts};
 
 use crate::cache_error::CacheError;
@@ -114,6 +114,7 @@ impl DFA {
         ensures kept { Grew self.now cache.old cache.new ⊎ WasCleared cache.old cache.new 1 }
         ensures remains { OnOk result (Grew self.now cache.old cache.new ⊎ StartCleared self.now cache.old cache.new config.now) }
         ensures cause { Grew self.now cache.old cache.new ⊎ StartNeedsClear self.now cache.old config.now }
+        ensures adds { StartAdds self.now cache.old cache.new config.now }
         ensures ok { OnOk result (¬ StartGivesUp self.now cache.old config.now) }
         ensures gave_up { result ≡ Err (CacheRefusal GaveUp) → cache.new ≡ cache.old }
         ensures tag { IfOk result (λ id. (q : ℕ) → start_in self.now (mode_of config.now.anchored) ≡ Some q → TagsStart self.now cache.old (start_first self.now config.now q) id) }

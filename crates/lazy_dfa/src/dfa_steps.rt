@@ -5,7 +5,7 @@ ghost use Rattle.lazy_dfa.specs.Ids.{tag, unknown_id, quit_id, is_sentinel};
 ghost use Rattle.lazy_dfa.specs.Caches.{IsCacheOf, HeldAt, IsRow};
 ghost use Rattle.lazy_dfa.specs.Readers.{is_quit};
 ghost use Rattle.lazy_dfa.specs.declared.cache_error.CacheError.TheVariants.{GaveUp};
-ghost use Rattle.lazy_dfa.specs.Steps.{IsHeld, GivesUp, IsStepCause, StepsTo, Grew, StepNeedsClear, ClearedFrom, KeepsOrClears, noted, IsKnown, IsNoted, TagsStep, most_inserts};
+ghost use Rattle.lazy_dfa.specs.Steps.{IsHeld, GivesUp, IsStepCause, StepsTo, Grew, StepNeedsClear, ClearedFrom, KeepsOrClears, noted, IsKnown, IsNoted, TagsStep, StepAdds, most_inserts};
 
 use crate::cache_error::CacheError;
 use crate::dfa::{Cache, DFA};
@@ -37,6 +37,7 @@ impl DFA {
         ensures kept { KeepsOrClears self.now cache.old cache.new }
         ensures remains { OnOk result (Grew self.now cache.old cache.new ⊎ ClearedFrom self.now cache.old cache.new current (Some input)) }
         ensures cause { Grew self.now cache.old cache.new ⊎ StepNeedsClear self.now cache.old current (Some input) }
+        ensures adds { StepAdds self.now cache.old cache.new current (Some input) }
         ensures gave_up { result ≡ Err GaveUp → cache.new ≡ cache.old }
         ensures loops { is_sentinel current ≡ true → result ≡ Ok current }
         ensures step { IfOk result (λ to. StepsTo self.now cache.old cache.new current (Some input) to) }
@@ -73,6 +74,7 @@ impl DFA {
         ensures kept { KeepsOrClears self.now cache.old cache.new }
         ensures remains { OnOk result (Grew self.now cache.old cache.new ⊎ ClearedFrom self.now cache.old cache.new current None) }
         ensures cause { Grew self.now cache.old cache.new ⊎ StepNeedsClear self.now cache.old current None }
+        ensures adds { StepAdds self.now cache.old cache.new current None }
         ensures gave_up { result ≡ Err GaveUp → cache.new ≡ cache.old }
         ensures loops { is_sentinel current ≡ true → result ≡ Ok current }
         ensures step { IfOk result (λ to. StepsTo self.now cache.old cache.new current None to) }

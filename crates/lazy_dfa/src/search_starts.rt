@@ -4,7 +4,7 @@ ghost use Rattle.lazy_dfa.specs.Caches.{IsCacheOf};
 ghost use Rattle.search_types.specs.declared.match_error.MatchErrorKind.TheVariants.{GaveUp as SearchGaveUp};
 ghost use Rattle.lazy_dfa.specs.Dfas.{start_in};
 ghost use Rattle.lazy_dfa.specs.Ids.{unknown_id, dead_id};
-ghost use Rattle.lazy_dfa.specs.StartCalls.{mode_of, start_refusal, start_noted, start_first, IsStartKnown, StartGivesUp, TagsStart, StartNeedsClear, StartCleared};
+ghost use Rattle.lazy_dfa.specs.StartCalls.{mode_of, start_refusal, start_noted, start_first, IsStartKnown, StartGivesUp, TagsStart, StartNeedsClear, StartCleared, StartAdds};
 ghost use Rattle.lazy_dfa.specs.SearchStarts.{AnswersStart, error_at, forward_start, reverse_start};
 ghost use Rattle.lazy_dfa.specs.Steps.{IsHeld, Grew, WasCleared, most_inserts};
 
@@ -49,6 +49,7 @@ fn start_at<L: Ledger, M: Ledger>(
     ensures kept { Grew dfa.now cache.old cache.new ⊎ WasCleared cache.old cache.new 1 }
     ensures remains { OnOk result (Grew dfa.now cache.old cache.new ⊎ StartCleared dfa.now cache.old cache.new config.now) }
     ensures cause { Grew dfa.now cache.old cache.new ⊎ StartNeedsClear dfa.now cache.old config.now }
+    ensures adds { StartAdds dfa.now cache.old cache.new config.now }
     ensures ok { OnOk result (¬ StartGivesUp dfa.now cache.old config.now) }
     ensures gave_up { result ≡ Err (SearchGaveUp place) → cache.new ≡ cache.old }
     ensures tag { IfOk result (λ id. (q : ℕ) → start_in dfa.now (mode_of config.now.anchored) ≡ Some q → TagsStart dfa.now cache.old (start_first dfa.now config.now q) id) }
@@ -86,6 +87,7 @@ impl DFA {
         ensures kept { Grew self.now cache.old cache.new ⊎ WasCleared cache.old cache.new 1 }
         ensures remains { OnOk result (Grew self.now cache.old cache.new ⊎ StartCleared self.now cache.old cache.new (forward_start input.now)) }
         ensures cause { Grew self.now cache.old cache.new ⊎ StartNeedsClear self.now cache.old (forward_start input.now) }
+        ensures adds { StartAdds self.now cache.old cache.new (forward_start input.now) }
         ensures ok { OnOk result (¬ StartGivesUp self.now cache.old (forward_start input.now)) }
         ensures gave_up { result ≡ Err (SearchGaveUp input.now.start) → cache.new ≡ cache.old }
         ensures tag { IfOk result (λ id. (q : ℕ) → start_in self.now (mode_of (forward_start input.now).anchored) ≡ Some q → TagsStart self.now cache.old (start_first self.now (forward_start input.now) q) id) }
@@ -118,6 +120,7 @@ impl DFA {
         ensures kept { Grew self.now cache.old cache.new ⊎ WasCleared cache.old cache.new 1 }
         ensures remains { OnOk result (Grew self.now cache.old cache.new ⊎ StartCleared self.now cache.old cache.new (reverse_start input.now)) }
         ensures cause { Grew self.now cache.old cache.new ⊎ StartNeedsClear self.now cache.old (reverse_start input.now) }
+        ensures adds { StartAdds self.now cache.old cache.new (reverse_start input.now) }
         ensures ok { OnOk result (¬ StartGivesUp self.now cache.old (reverse_start input.now)) }
         ensures gave_up { result ≡ Err (SearchGaveUp input.now.end) → cache.new ≡ cache.old }
         ensures tag { IfOk result (λ id. (q : ℕ) → start_in self.now (mode_of (reverse_start input.now).anchored) ≡ Some q → TagsStart self.now cache.old (start_first self.now (reverse_start input.now) q) id) }

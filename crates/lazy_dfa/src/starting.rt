@@ -2,9 +2,10 @@
 ghost use Rattle.std.specs.Prelude.{◌≡◌, ◌≢◌, ◌⊎◌, ◌+◌, ◌<◌, ◌≤◌, true, false, length, slice_index_or, IfOk, OnOk, IfErr, OnErr, Ok, Err, None, Some};
 ghost use Rattle.lazy_dfa.specs.Dfas.{IsStateOf, is_dead, start_in, first_state};
 ghost use Rattle.lazy_dfa.specs.Caches.{IsCacheOf, Names, Fits, place_of, slot, needs_clear, lacks_room, cleared};
+ghost use Rattle.lazy_dfa.specs.ConfigValue.{specializes};
 ghost use Rattle.lazy_dfa.specs.Ids.{unknown_id};
 ghost use Rattle.lazy_dfa.specs.StartCalls.{PlacesStart, ClearedFor, TagsStart};
-ghost use Rattle.lazy_dfa.specs.Steps.{IsCause, Added, Grew, WasCleared, most_inserts};
+ghost use Rattle.lazy_dfa.specs.Steps.{IsCause, Added, Grew, WasCleared, ClearsFor, HasStatesOf, ComesTo, most_inserts};
 ghost use Rattle.lazy_dfa.specs.declared.cache_error.CacheError.TheVariants.{GaveUp};
 
 use crate::cache_error::CacheError;
@@ -27,6 +28,7 @@ fn room_alone(dfa: &DFA, cache: &mut Cache, state: &State) -> Result<(), CacheEr
     ensures slots { length cache.new.starts ≡ length cache.old.starts }
     ensures room { (cache.new ≡ cache.old) ⊎ (cache.new ≡ cleared cache.old) }
     ensures cause { (cache.new ≡ cache.old) ⊎ (needs_clear dfa.now cache.old state.now ≡ true) }
+    ensures clears { (cache.new ≡ cache.old) ⊎ ClearsFor dfa.now None state.now cache.old cache.new }
     ensures err_same { OnErr result (cache.new ≡ cache.old) }
     ensures fresh { OnOk result (place_of state.now cache.new.states ≡ None) }
     ensures fits { OnOk result (Fits dfa.now.capacity state.now cache.new) }
@@ -53,6 +55,7 @@ fn place_start(dfa: &DFA, cache: &mut Cache, state: State) -> Result<LazyStateID
     ensures made { IfOk result (λ id. PlacesStart dfa.now cache.old cache.new state id) }
     ensures unmade { OnErr result ((cache.new ≡ cache.old) ⊎ (cache.new ≡ cleared cache.old)) }
     ensures cause { Added cache.old cache.new ⊎ (needs_clear dfa.now cache.old state ≡ true) }
+    ensures adds { ComesTo (Added cache.old cache.new) dfa.now (specializes dfa.now.options) None state cache.old cache.new }
     ensures gave_up { result ≡ Err GaveUp → cache.new ≡ cache.old }
     ensures to { IfOk result (λ id. Names cache.new id state) }
     ensures ok { OnOk result (lacks_room dfa.now cache.old state ≡ false) }
@@ -119,6 +122,7 @@ pub(crate) fn start_in_mode<L: Ledger, M: Ledger>(
     ensures kept { Grew dfa.now cache.old cache.new ⊎ WasCleared cache.old cache.new 1 }
     ensures remains { OnOk result (Grew dfa.now cache.old cache.new ⊎ ClearedFor dfa.now cache.old cache.new (slot mode start) (first_state dfa.now start name)) }
     ensures cause { Grew dfa.now cache.old cache.new ⊎ ((slice_index_or cache.old.starts (slot mode start) 0 ≡ unknown_id) × (needs_clear dfa.now cache.old (first_state dfa.now start name) ≡ true)) }
+    ensures adds { (Grew dfa.now cache.old cache.new × HasStatesOf cache.new cache.old) ⊎ ComesTo (Grew dfa.now cache.old cache.new) dfa.now (specializes dfa.now.options) None (first_state dfa.now start name) cache.old cache.new }
     ensures ok { OnOk result (slice_index_or cache.old.starts (slot mode start) 0 ≡ unknown_id → lacks_room dfa.now cache.old (first_state dfa.now start name) ≡ false) }
     ensures gave_up { result ≡ Err GaveUp → cache.new ≡ cache.old }
     ensures tag { IfOk result (λ id. TagsStart dfa.now cache.old (first_state dfa.now start name) id) }

@@ -1,5 +1,5 @@
 //! Steps from state to state over a cache.
-ghost use Rattle.std.specs.Prelude.{◌≡◌, ◌≢◌, ◌⊎◌, ◌+◌, ◌%◌, ◌<◌, ◌≤◌, false, length, IfOk, OnOk, IfErr, Ok, Err, None, true};
+ghost use Rattle.std.specs.Prelude.{◌≡◌, ◌≢◌, ◌⊎◌, ◌+◌, ◌%◌, ◌<◌, ◌≤◌, false, length, IfOk, OnOk, IfErr, Ok, Err, None, Some, true};
 ghost use Rattle.search_core.specs.Units.{unit_byte};
 ghost use Rattle.determinize_core.specs.Costs.{free_ways};
 ghost use Rattle.lazy_dfa.specs.Dfas.{IsStateOf, IsUnit, after, class_of, is_dead};
@@ -8,7 +8,7 @@ ghost use Rattle.lazy_dfa.specs.Caches.{IsCacheOf, HeldAt, IsRow, Names, Fits, f
 ghost use Rattle.lazy_dfa.specs.ConfigValue.{clears_of, bytes_of};
 ghost use Rattle.lazy_dfa.specs.declared.cache_error.CacheError.TheVariants.{GaveUp};
 ghost use Rattle.lazy_dfa.specs.Readers.{is_quit, is_quit as is_quit_unit};
-ghost use Rattle.lazy_dfa.specs.Steps.{IsHeld, IsCause, GivesUp, IsStepCause, StepsTo, Added, Grew, StepNeedsClear, ClearedFrom, kept_alone, MadeRoom, AddsOrClears, KeepsOrClears, noted, IsKnown, IsNoted, TagsStep, most_inserts};
+ghost use Rattle.lazy_dfa.specs.Steps.{IsHeld, IsCause, GivesUp, IsStepCause, StepsTo, Added, Grew, StepNeedsClear, ClearedFrom, kept_alone, MadeRoom, AddsOrClears, KeepsOrClears, noted, IsKnown, IsNoted, TagsStep, ClearsFor, ComesTo, StepAdds, most_inserts};
 
 use crate::cache_error::CacheError;
 use crate::dfa::{Cache, DFA};
@@ -72,6 +72,7 @@ fn make_room(
     ensures room { MadeRoom cache.old cache.new }
     ensures made { OnOk result ((cache.new ≡ cache.old) ⊎ (cache.new ≡ kept_alone cache.old k)) }
     ensures cause { (cache.new ≡ cache.old) ⊎ (needs_clear dfa.now cache.old state.now ≡ true) }
+    ensures clears { (cache.new ≡ cache.old) ⊎ ClearsFor dfa.now (Some k) state.now cache.old cache.new }
     ensures gave_up { result ≡ Err GaveUp → cache.new ≡ cache.old }
     ensures from { IfOk result (λ id. HeldAt cache.new id (state_at cache.old k)) }
     ensures fresh { OnOk result (place_of state.now cache.new.states ≡ None) }
@@ -108,6 +109,7 @@ fn place(dfa: &DFA, cache: &mut Cache, k: usize, state: State) -> Result<Rows, C
     ensures kept { AddsOrClears cache.old cache.new }
     ensures made { OnOk result (Added cache.old cache.new ⊎ (cache.new ≡ with_state false state (kept_alone cache.old k))) }
     ensures cause { Added cache.old cache.new ⊎ (needs_clear dfa.now cache.old state ≡ true) }
+    ensures adds { ComesTo (Added cache.old cache.new) dfa.now false (Some k) state cache.old cache.new }
     ensures gave_up { result ≡ Err GaveUp → cache.new ≡ cache.old }
     ensures from { IfOk result (λ rows. HeldAt cache.new rows.from (state_at cache.old k)) }
     ensures to { IfOk result (λ rows. Names cache.new rows.to state) }
@@ -178,6 +180,7 @@ fn fill<L: Ledger, M: Ledger>(
     ensures kept { KeepsOrClears dfa.now cache.old cache.new }
     ensures remains { OnOk result (Grew dfa.now cache.old cache.new ⊎ ClearedFrom dfa.now cache.old cache.new id (unit_byte unit)) }
     ensures cause { Grew dfa.now cache.old cache.new ⊎ StepNeedsClear dfa.now cache.old id (unit_byte unit) }
+    ensures adds { StepAdds dfa.now cache.old cache.new id (unit_byte unit) }
     ensures gave_up { result ≡ Err GaveUp → cache.new ≡ cache.old }
     ensures step { IfOk result (λ to. StepsTo dfa.now cache.old cache.new id (unit_byte unit) to) }
     ensures noted { IfOk result (λ to. IsNoted dfa.now cache.old cache.new id (unit_byte unit) to) }
@@ -219,6 +222,7 @@ pub(crate) fn step<L: Ledger, M: Ledger>(
     ensures kept { KeepsOrClears dfa.now cache.old cache.new }
     ensures remains { OnOk result (Grew dfa.now cache.old cache.new ⊎ ClearedFrom dfa.now cache.old cache.new current (unit_byte unit)) }
     ensures cause { Grew dfa.now cache.old cache.new ⊎ StepNeedsClear dfa.now cache.old current (unit_byte unit) }
+    ensures adds { StepAdds dfa.now cache.old cache.new current (unit_byte unit) }
     ensures gave_up { result ≡ Err GaveUp → cache.new ≡ cache.old }
     ensures loops { is_sentinel current ≡ true → result ≡ Ok current }
     ensures step { IfOk result (λ to. StepsTo dfa.now cache.old cache.new current (unit_byte unit) to) }

@@ -47,14 +47,14 @@ pub(crate) fn step_by<L: Ledger, M: Ledger>(
     ensures step { IsStep dfa.now cache.old cache.new work.old.determinized work.new.determinized work.old.inserted work.new.inserted current unit result }
 {
     match unit {
-        Some(byte) => {
-            let to = dfa.next_state(cache, current, byte, work)?;
-            Ok(to)
-        }
-        None => {
-            let to = dfa.next_eoi_state(cache, current, work)?;
-            Ok(to)
-        }
+        Some(byte) => match dfa.next_state(cache, current, byte, work) {
+            Ok(to) => Ok(to),
+            Err(e) => Err(e),
+        },
+        None => match dfa.next_eoi_state(cache, current, work) {
+            Ok(to) => Ok(to),
+            Err(e) => Err(e),
+        },
     }
 }
 

@@ -1,10 +1,12 @@
-use Rattle.std.proofs.Common.{◌≡◌, ◌∙◌, sym, subst, ap, ℕ, Bool, true, refl, inl, inr, ⊎_elim, Some, length}
+use Rattle.std.proofs.Common.{◌≡◌, ◌∙◌, sym, subst, ap, ℕ, Bool, true, refl, inl, inr, ⊎_elim, Some, None, length}
 use Rattle.lazy_dfa.specs.Ids.{dead_id}
 use Rattle.lazy_dfa.specs.Caches.{CacheValue, IsCacheOf, Names, names_dead, names_held, with_state, new_id, needs_clear}
+use Rattle.lazy_dfa.specs.ConfigValue.{specializes}
 use Rattle.lazy_dfa.specs.StartCalls.{start_added}
 use Rattle.lazy_dfa.proofs.IsCacheLemmas.{is_cache_added, alive_of, new_held}
 use Rattle.lazy_dfa.proofs.TurnLemmas.{dead_is}
 use Rattle.lazy_dfa.proofs.ChangeLemmas.{added_refl, added_none, added_one, lacks_not_dead, lacks_not_found}
+use Rattle.lazy_dfa.proofs.AddsLemmas.{comes_none, comes_alone, comes_with}
 use Rattle.lazy_dfa.proofs.starting.place_start.Goals as goal
 
 pub returns-then-is_dead_state-clause-to : goal.returns-then-is_dead_state-clause-to
@@ -69,3 +71,28 @@ returns-clause-cause c = ⊎_elim
     c.specializes.result c.args.state c.requires.own.shape f c.in_ok-id.ensures.ok))
     (λ (n : needs_clear c.args.dfa.now c.args.cache.now c.args.state ≡ true). inr n)
     c.in_ok-room_alone.ensures.cause
+
+-- ---- what is added
+
+pub returns-then-is_dead_state-clause-adds : goal.returns-then-is_dead_state-clause-adds
+returns-then-is_dead_state-clause-adds c = comes_none c.args.dfa.now (specializes c.args.dfa.now.options) None c.args.state
+    c.args.cache.now c.requires.own.shape
+
+pub returns-in-Some-clause-adds : goal.returns-in-Some-clause-adds
+returns-in-Some-clause-adds c = comes_none c.args.dfa.now (specializes c.args.dfa.now.options) None c.args.state c.args.cache.now
+    c.requires.own.shape
+
+pub returns-in_err-room_alone-clause-adds : goal.returns-in_err-room_alone-clause-adds
+returns-in_err-room_alone-clause-adds c = comes_alone c.args.dfa.now (specializes c.args.dfa.now.options) None c.args.state
+    c.args.cache.now c.room_alone.new.cache c.room_alone.new.cache c.requires.own.shape c.in_err-room_alone.ensures.clears refl
+
+pub returns-in_err-id-clause-adds : goal.returns-in_err-id-clause-adds
+returns-in_err-id-clause-adds c = comes_alone c.args.dfa.now (specializes c.args.dfa.now.options) None c.args.state
+    c.args.cache.now c.room_alone.new.cache c.add_state.new.self c.requires.own.shape c.in_ok-room_alone.ensures.clears
+    c.in_err-id.ensures.err
+
+pub returns-clause-adds : goal.returns-clause-adds
+returns-clause-adds c = comes_with c.args.dfa.now (specializes c.args.dfa.now.options) None c.args.state c.args.cache.now
+    c.room_alone.new.cache c.add_state.new.self c.requires.own.shape c.in_ok-room_alone.ensures.clears
+    (sym c.is_dead_state.ensures ∙ c.if-is_dead_state.false) (sym c.find.ensures.place ∙ c.in_default.is) c.in_ok-room_alone.ensures.fits
+    (c.in_ok-id.ensures.ok ∙ ap (λ (b : Bool). with_state b c.args.state c.room_alone.new.cache) c.specializes.ensures)

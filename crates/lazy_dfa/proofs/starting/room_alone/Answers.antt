@@ -1,9 +1,10 @@
-use Rattle.std.proofs.Common.{◌∙◌, sym, subst, ap, inr, refl, length}
+use Rattle.std.proofs.Common.{◌∙◌, sym, subst, ap, None, inl, inr, refl, length}
 use lib.ListN.{length-replicate}
 use Rattle.lazy_dfa.specs.Caches.{CacheValue, IsCacheOf, Fits}
 use Rattle.lazy_dfa.proofs.CacheLemmas.{place_in_none}
 use Rattle.lazy_dfa.proofs.IsCacheLemmas.{is_cache_cleared, fits_in_cleared}
 use Rattle.lazy_dfa.proofs.ChangeLemmas.{fits_is, lacks_not_fitting, lacks_not_allowed, lacks_all, needs_all}
+use Rattle.lazy_dfa.proofs.AddsLemmas.{clears_for}
 use Rattle.lazy_dfa.proofs.starting.room_alone.Goals as goal
 
 pub returns-then-fits-clause-fits : goal.returns-then-fits-clause-fits
@@ -40,3 +41,10 @@ returns-clause-ok c = lacks_not_allowed c.args.dfa.now c.args.cache.now c.args.s
 pub returns-clause-cause : goal.returns-clause-cause
 returns-clause-cause c = inr (needs_all c.args.dfa.now c.args.cache.now c.args.state.now c.requires.alive
     c.requires.fresh (sym c.fits.ensures ∙ c.if-fits.false))
+
+-- ---- and what the clear leaves
+
+pub returns-clause-clears : goal.returns-clause-clears
+returns-clause-clears c = inr (clears_for c.args.dfa.now None c.args.state.now
+    c.args.cache.now c.clear.new.self c.requires.alive c.requires.fresh (sym c.fits.ensures ∙ c.if-fits.false)
+    (sym c.refuses_clear.ensures ∙ c.if-refuses_clear.false) (inl c.clear.ensures))

@@ -1,4 +1,4 @@
-use Rattle.std.proofs.Common.{◌≡◌, ◌⊎◌, ◌∙◌, ◌+◌, ◌*◌, ◌<◌, ℕ, true, sym, subst, ap, inl, inr, ⊎_elim, set, length}
+use Rattle.std.proofs.Common.{◌≡◌, ◌⊎◌, ◌∙◌, ◌+◌, ◌*◌, ◌<◌, ℕ, true, sym, subst, ap, inl, inr, ⊎_elim, set, length, refl}
 use Rattle.determinize_core.specs.States.{StateValue}
 use Rattle.lazy_dfa.specs.Caches.{CacheValue, IsCacheOf, slot, cleared, needs_clear}
 use Rattle.lazy_dfa.specs.Dfas.{first_state}
@@ -7,6 +7,7 @@ use Rattle.lazy_dfa.specs.Steps.{IsCause, Added, Grew}
 use Rattle.lazy_dfa.proofs.ChangeLemmas.{same_grew, grew_added}
 use Rattle.lazy_dfa.proofs.IsCacheLemmas.{started, names_started, known_begins}
 use Rattle.lazy_dfa.proofs.StartChangeLemmas.{not_fresh, unknown_start, unmade_start, on_err, grew_start, start_kept, start_remains, start_tags}
+use Rattle.lazy_dfa.proofs.AddsLemmas.{same_states, start_comes}
 use Rattle.lazy_dfa.proofs.starting.start_in_mode.Goals as goal
 
 pub start-known-requires : goal.start-known-requires
@@ -213,3 +214,36 @@ returns-in-Ok-clause-cause g c = ⊎_elim
           (subst (λ (v : CacheValue). needs_clear c.args.dfa.now v c.in_ok-state.state ≡ true) c.first_of.ensures.same n),
     ))
     c.in-Ok.ensures.cause
+
+-- ---- what is added
+
+pub returns-then-not-is_not_known-clause-adds : goal.returns-then-not-is_not_known-clause-adds
+returns-then-not-is_not_known-clause-adds g c = inl (same_grew c.args.dfa.now c.args.cache.now, (refl, refl, refl))
+
+pub returns-in_err-state-clause-adds : goal.returns-in_err-state-clause-adds
+returns-in_err-state-clause-adds g c = inl (
+  subst (Grew c.args.dfa.now c.args.cache.now) (sym c.first_of.ensures.same) (same_grew c.args.dfa.now c.args.cache.now),
+  same_states c.args.cache.now c.first_of.new.cache c.first_of.ensures.same,
+)
+
+pub returns-in-Err-clause-adds : goal.returns-in-Err-clause-adds
+returns-in-Err-clause-adds g c = inr (start_comes c.args.dfa.now c.args.cache.now c.first_of.new.cache c.place_start.new.cache
+    c.place_start.new.cache c.in_ok-state.state (first_state c.args.dfa.now c.args.start c.args.name) c.first_of.ensures.same
+    c.in_ok-state.ensures.value (refl, refl, refl)
+    (λ (a : Added c.args.cache.now c.place_start.new.cache). grew_added c.args.dfa.now c.args.cache.now c.place_start.new.cache
+    c.is_made.ensures c.requires.own a)
+    c.in-Err.ensures.adds)
+
+pub returns-in-Ok-clause-adds : goal.returns-in-Ok-clause-adds
+returns-in-Ok-clause-adds g c = inr (start_comes c.args.dfa.now c.args.cache.now c.first_of.new.cache c.place_start.new.cache
+    c.set_start.new.self c.in_ok-state.state (first_state c.args.dfa.now c.args.start c.args.name) c.first_of.ensures.same
+    c.in_ok-state.ensures.value (same_states _ c.set_start.new.self c.set_start.ensures)
+    (grew_start c.args.dfa.now c.args.cache.now c.place_start.new.cache c.set_start.new.self
+    (slot c.args.mode c.args.start) c.in-Ok.id (first_state c.args.dfa.now c.args.start c.args.name)
+    c.is_made.ensures c.requires.own
+    (unknown_start c.args.dfa.now c.args.cache.now c.args.mode (c.args.mode * 7 + c.as_usize.result) c.args.name c.start-known.result
+    c.args.start c.requires.own
+    (ap (λ (n : ℕ). c.args.mode * 7 + n) c.as_usize.ensures.number) c.requires.inside c.requires.named c.start-known.ensures
+    (sym c.is_not_known.ensures ∙ c.if-not-is_not_known.false))
+    (placed g c) (noted_at g c))
+    c.in-Ok.ensures.adds)

@@ -1,4 +1,4 @@
-use Rattle.std.proofs.Common.{◌≡◌, ◌⊎◌, true, false, sym, subst, inl, inr, ⊎_elim, ◌<◌, length}
+use Rattle.std.proofs.Common.{◌≡◌, ◌⊎◌, true, false, sym, subst, inl, inr, ⊎_elim, ◌<◌, length, refl, Some}
 use Rattle.search_core.specs.Units.{unit_byte}
 use Rattle.lazy_dfa.specs.Caches.{CacheValue, IsCacheOf, HeldAt, Leads, state_at, with_state, needs_clear}
 use Rattle.lazy_dfa.specs.Steps.{Added, Grew, AddsOrClears, KeepsOrClears, kept_alone}
@@ -6,6 +6,7 @@ use Rattle.lazy_dfa.proofs.IsCacheLemmas.{row_place, is_cache_stepped, leads_ste
 use Rattle.lazy_dfa.proofs.ChangeLemmas.{grew_refl, grew_of, grew_added, grew_cell, grew_set, remains_set}
 use Rattle.lazy_dfa.proofs.ChangeLemmas.{same_grew, set_is_noted, step_cause, step_needs, no_cause}
 use Rattle.lazy_dfa.proofs.StartChangeLemmas.{step_tags}
+use Rattle.lazy_dfa.proofs.AddsLemmas.{same_states, comes_written, step_adds, step_adds_none}
 use Rattle.lazy_dfa.proofs.stepping.fill.Goals as goal
 
 pub returns-in_err-state-clause-own : goal.returns-in_err-state-clause-own
@@ -129,3 +130,42 @@ pub returns-in-Ok-clause-tag : goal.returns-in-Ok-clause-tag
 returns-in-Ok-clause-tag g c = step_tags c.args.dfa.now c.args.cache.now c.state_behind.new.cache c.args.id c.row-k.result
     (unit_byte c.args.unit) c.in_ok-state.state c.in-Ok.rows.to c.requires.own.shape c.state_behind.ensures.same
     c.row-k.ensures.inside c.row-k.ensures.id c.in_ok-state.ensures.value c.in-Ok.ensures.tag
+
+-- ---- what is added
+
+grows_by : (g : Rattle.lazy_dfa.proofs.stepping.fill.Given.Over) (c : goal.In-Err g) → Added c.state_behind.new.cache c.place.new.cache →
+    Grew c.args.dfa.now c.args.cache.now c.place.new.cache
+grows_by g c a = grew_added c.args.dfa.now c.args.cache.now c.place.new.cache
+    c.is_made.ensures c.requires.own (subst (λ (v : CacheValue). Added v c.place.new.cache) c.state_behind.ensures.same a)
+
+pub returns-in_err-state-clause-adds : goal.returns-in_err-state-clause-adds
+returns-in_err-state-clause-adds g c = step_adds_none c.args.dfa.now c.args.cache.now c.state_behind.new.cache c.args.id
+    (unit_byte c.args.unit)
+    (subst (Grew c.args.dfa.now c.args.cache.now) (sym c.state_behind.ensures.same) (same_grew c.args.dfa.now c.args.cache.now))
+    (same_states c.args.cache.now c.state_behind.new.cache c.state_behind.ensures.same)
+
+pub returns-in-Err-clause-adds : goal.returns-in-Err-clause-adds
+returns-in-Err-clause-adds g c = step_adds c.args.dfa.now c.args.cache.now c.state_behind.new.cache c.place.new.cache c.args.id
+    c.row-k.result (unit_byte c.args.unit) c.in_ok-state.state
+    c.requires.own.shape c.state_behind.ensures.same c.row-k.ensures.inside c.row-k.ensures.id c.in_ok-state.ensures.value
+    c.requires.no_quit
+    (comes_written c.args.dfa.now false (Some c.row-k.result) c.in_ok-state.state c.state_behind.new.cache c.place.new.cache
+    c.place.new.cache (refl, refl, refl)
+    (Added c.state_behind.new.cache c.place.new.cache) (Grew c.args.dfa.now c.args.cache.now c.place.new.cache)
+    (grows_by g c) c.in-Err.ensures.adds)
+
+pub returns-in-Ok-clause-adds : goal.returns-in-Ok-clause-adds
+returns-in-Ok-clause-adds g c = step_adds c.args.dfa.now c.args.cache.now c.state_behind.new.cache c.set_cell.new.self c.args.id
+    c.row-k.result (unit_byte c.args.unit) c.in_ok-state.state
+    c.requires.own.shape c.state_behind.ensures.same c.row-k.ensures.inside c.row-k.ensures.id c.in_ok-state.ensures.value
+    c.requires.no_quit
+    (comes_written c.args.dfa.now false (Some c.row-k.result) c.in_ok-state.state c.state_behind.new.cache c.place.new.cache
+    c.set_cell.new.self (same_states _ c.set_cell.new.self c.set_cell.ensures)
+    (Added c.state_behind.new.cache c.place.new.cache) (Grew c.args.dfa.now c.args.cache.now c.set_cell.new.self)
+    (λ (a : Added c.state_behind.new.cache c.place.new.cache).
+    grew_cell c.args.dfa.now c.args.cache.now c.place.new.cache c.set_cell.new.self c.args.id c.in-Ok.rows.from
+    c.args.class c.row-k.result c.in-Ok.rows.to (unit_byte c.args.unit)
+    c.is_made.ensures c.requires.own c.in-Ok.ensures.own c.requires.unit c.requires.class c.row-k.ensures.inside c.row-k.ensures.id
+    (held g c) c.set_cell.ensures c.requires.unknown
+    (subst (λ (v : CacheValue). Added v c.place.new.cache) c.state_behind.ensures.same a))
+    c.in-Ok.ensures.adds)

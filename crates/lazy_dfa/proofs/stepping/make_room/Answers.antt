@@ -1,8 +1,9 @@
-use Rattle.std.proofs.Common.{◌∙◌, ◌≡◌, sym, subst, None, inr, refl, ℕ}
+use Rattle.std.proofs.Common.{◌∙◌, ◌≡◌, sym, subst, Some, None, inl, inr, ⊎_elim, refl, ℕ}
 use Rattle.lazy_dfa.specs.Ids.{has_tag, start_tag}
 use Rattle.lazy_dfa.specs.Caches.{CacheValue, IsCacheOf, HeldAt, Fits, id_at, state_at, place_of, with_state, cleared}
 use Rattle.lazy_dfa.proofs.IsCacheLemmas.{is_cache_kept, is_cache_refused, fresh_beside, kept_held, fits_beside}
 use Rattle.lazy_dfa.proofs.ChangeLemmas.{room_refused, cleared_one, fits_is, lacks_not_fitting, lacks_not_allowed, lacks_all, needs_all}
+use Rattle.lazy_dfa.proofs.AddsLemmas.{clears_for}
 use Rattle.lazy_dfa.proofs.stepping.make_room.Goals as goal
 
 pub returns-then-fits-clause-fits : goal.returns-then-fits-clause-fits
@@ -62,3 +63,18 @@ returns-in_err-id-clause-cause c = inr (needs_all c.args.dfa.now c.args.cache.no
 pub returns-clause-cause : goal.returns-clause-cause
 returns-clause-cause c = inr (needs_all c.args.dfa.now c.args.cache.now c.args.state.now c.requires.alive
     c.requires.fresh (sym c.fits.ensures ∙ c.if-fits.false))
+
+-- ---- and what the clear leaves
+
+pub returns-in_err-id-clause-clears : goal.returns-in_err-id-clause-clears
+returns-in_err-id-clause-clears c = ⊎_elim
+    (λ (e : c.clear_keeping.new.self ≡ c.args.cache.now). inl e)
+    (λ (e : c.clear_keeping.new.self ≡ cleared c.args.cache.now). inr (clears_for c.args.dfa.now (Some c.args.k) c.args.state.now
+    c.args.cache.now c.clear_keeping.new.self c.requires.alive c.requires.fresh (sym c.fits.ensures ∙ c.if-fits.false)
+    (sym c.refuses_clear.ensures ∙ c.if-refuses_clear.false) (inl e)))
+    c.in_err-id.ensures.err
+
+pub returns-clause-clears : goal.returns-clause-clears
+returns-clause-clears c = inr (clears_for c.args.dfa.now (Some c.args.k) c.args.state.now
+    c.args.cache.now c.clear_keeping.new.self c.requires.alive c.requires.fresh (sym c.fits.ensures ∙ c.if-fits.false)
+    (sym c.refuses_clear.ensures ∙ c.if-refuses_clear.false) (inr c.in_ok-id.ensures.ok))

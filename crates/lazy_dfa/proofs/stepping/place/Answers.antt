@@ -5,6 +5,7 @@ use Rattle.lazy_dfa.proofs.IsCacheLemmas.{is_cache_added, alive_of, held_added, 
 use Rattle.lazy_dfa.proofs.StartChangeLemmas.{made_tag}
 use Rattle.lazy_dfa.proofs.TurnLemmas.{dead_is}
 use Rattle.lazy_dfa.proofs.ChangeLemmas.{added_refl, adds_after, adds_nothing, made_after, added_none, added_one, lacks_not_dead, lacks_not_found}
+use Rattle.lazy_dfa.proofs.AddsLemmas.{comes_none, comes_alone, comes_with}
 use Rattle.lazy_dfa.proofs.stepping.place.Goals as goal
 
 pub returns-then-is_dead_state-clause-kept : goal.returns-then-is_dead_state-clause-kept
@@ -107,3 +108,25 @@ returns-in-Some-clause-tag c alive fresh = let f : Some c.in-Some.j ≡ None = c
 pub returns-clause-tag : goal.returns-clause-tag
 returns-clause-tag c alive fresh = made_tag c.make_room.new.cache c.args.state c.in_ok-to.to c.in_ok-from.ensures.own.shape.positive
     c.in_ok-from.ensures.fits.1 c.in_ok-to.ensures.id
+
+-- ---- what is added
+
+pub returns-then-is_dead_state-clause-adds : goal.returns-then-is_dead_state-clause-adds
+returns-then-is_dead_state-clause-adds c = comes_none c.args.dfa.now false (Some c.args.k) c.args.state c.args.cache.now
+    c.requires.own.shape
+
+pub returns-in-Some-clause-adds : goal.returns-in-Some-clause-adds
+returns-in-Some-clause-adds c = comes_none c.args.dfa.now false (Some c.args.k) c.args.state c.args.cache.now c.requires.own.shape
+
+pub returns-in_err-from-clause-adds : goal.returns-in_err-from-clause-adds
+returns-in_err-from-clause-adds c = comes_alone c.args.dfa.now false (Some c.args.k) c.args.state c.args.cache.now
+    c.make_room.new.cache c.make_room.new.cache c.requires.own.shape c.in_err-from.ensures.clears refl
+
+pub returns-in_err-to-clause-adds : goal.returns-in_err-to-clause-adds
+returns-in_err-to-clause-adds c = comes_alone c.args.dfa.now false (Some c.args.k) c.args.state c.args.cache.now
+    c.make_room.new.cache c.add_state.new.self c.requires.own.shape c.in_ok-from.ensures.clears c.in_err-to.ensures.err
+
+pub returns-clause-adds : goal.returns-clause-adds
+returns-clause-adds c = comes_with c.args.dfa.now false (Some c.args.k) c.args.state c.args.cache.now
+    c.make_room.new.cache c.add_state.new.self c.requires.own.shape c.in_ok-from.ensures.clears
+    (sym c.is_dead_state.ensures ∙ c.if-is_dead_state.false) (sym c.find.ensures.place ∙ c.in_default.is) c.in_ok-from.ensures.fits c.in_ok-to.ensures.ok

@@ -7,6 +7,7 @@ use Rattle.lazy_dfa.proofs.IsCacheLemmas.{steps_of_row}
 use Rattle.lazy_dfa.proofs.ChangeLemmas.{grew_refl, same_grew, grew_cell, grew_set, set_is_noted, added_refl, no_row, noted_read}
 use Rattle.lazy_dfa.proofs.ChangeLemmas.{unknown_here, not_known, known_cell}
 use Rattle.lazy_dfa.proofs.StartChangeLemmas.{known_tags, known_quits}
+use Rattle.lazy_dfa.proofs.AddsLemmas.{same_states, step_adds_none}
 use Rattle.lazy_dfa.proofs.stepping.step.Goals as goal
 
 -- ---- a sentinel
@@ -278,3 +279,31 @@ returns-clause-quits g c plain q = absurd (true≢false (sym q ∙ (sym c.requir
 
 pub returns-clause-spares : goal.returns-clause-spares
 returns-clause-spares g c q = absurd (true≢false (sym q ∙ (sym c.requires.quit ∙ c.if-is_quit.false)))
+
+-- ---- what is added
+
+pub returns-then-is_sentinel-clause-adds : goal.returns-then-is_sentinel-clause-adds
+returns-then-is_sentinel-clause-adds g c = step_adds_none c.args.dfa.now c.args.cache.now c.args.cache.now c.args.current
+    (unit_byte c.args.unit) (same_grew c.args.dfa.now c.args.cache.now) (refl, refl, refl)
+
+pub returns-then-not-is_not_known-clause-adds : goal.returns-then-not-is_not_known-clause-adds
+returns-then-not-is_not_known-clause-adds g c = step_adds_none c.args.dfa.now c.args.cache.now c.args.cache.now c.args.current
+    (unit_byte c.args.unit) (same_grew c.args.dfa.now c.args.cache.now) (refl, refl, refl)
+
+pub returns-then-is_quit-clause-adds : goal.returns-then-is_quit-clause-adds
+returns-then-is_quit-clause-adds g c =
+    let row = row_of_held c.args.cache.now c.args.current c.requires.held (sym c.is_sentinel.ensures ∙ c.if-is_sentinel.false) in
+    step_adds_none c.args.dfa.now c.args.cache.now c.set_cell.new.self c.args.current (unit_byte c.args.unit)
+    (grew_cell c.args.dfa.now c.args.cache.now c.args.cache.now c.set_cell.new.self c.args.current c.args.current c.args.class row.0
+    c.quit-quit.result (unit_byte c.args.unit)
+    c.is_made.ensures c.requires.own c.requires.own c.requires.unit c.requires.class row.1 row.2 (
+      row.0,
+      row.1,
+      row.2,
+      refl,
+    ) c.set_cell.ensures
+    (unknown_here c.args.dfa.now c.args.cache.now c.args.current c.args.class c.cell-cell.result
+    (unit_byte c.args.unit) c.is_made.ensures c.requires.own c.requires.unit c.requires.class c.cell-cell.ensures row
+    (sym c.is_not_known.ensures ∙ c.if-not-is_not_known.false))
+    (added_refl c.args.cache.now c.requires.own.shape))
+    (same_states _ c.set_cell.new.self c.set_cell.ensures)

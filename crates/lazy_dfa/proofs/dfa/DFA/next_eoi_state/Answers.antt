@@ -1,7 +1,7 @@
 use Rattle.std.proofs.Common.{subst}
 use Rattle.search_core.specs.Units.{unit_byte}
 use Rattle.search_core.specs.declared.unit.Unit.{Unit as InputUnit}
-use Rattle.lazy_dfa.specs.Steps.{StepsTo, IsNoted, TagsStep}
+use Rattle.lazy_dfa.specs.Steps.{StepsTo, IsNoted, TagsStep, StepAdds}
 use Rattle.lazy_dfa.proofs.ChangeLemmas.{step_held}
 use Rattle.lazy_dfa.proofs.dfa.DFA.next_eoi_state.Goals as goal
 
@@ -20,3 +20,11 @@ returns-clause-held g c = step_held c.args.self.now c.args.cache.now c.step.new.
 pub returns-clause-tag : goal.returns-clause-tag
 returns-clause-tag g c = subst (λ (x : InputUnit). TagsStep c.args.self.now c.args.cache.now c.args.current (unit_byte x) c.in_ok-to.to)
     c.eoi.ensures c.in_ok-to.ensures.tag
+
+pub returns-clause-adds : goal.returns-clause-adds
+returns-clause-adds g c = subst (λ (x : InputUnit). StepAdds c.args.self.now c.args.cache.now c.step.new.cache c.args.current (unit_byte x))
+    c.eoi.ensures c.in_ok-to.ensures.adds
+
+pub returns-in_err-to-clause-adds : goal.returns-in_err-to-clause-adds
+returns-in_err-to-clause-adds g c = subst (λ (x : InputUnit). StepAdds c.args.self.now c.args.cache.now c.step.new.cache c.args.current
+    (unit_byte x)) c.eoi.ensures c.in_err-to.ensures.adds

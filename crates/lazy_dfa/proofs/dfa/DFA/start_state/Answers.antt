@@ -4,6 +4,7 @@ use Rattle.determinize_core.specs.Starts.{start_of}
 use Rattle.lazy_dfa.specs.Dfas.{start_in, first_state}
 use Rattle.lazy_dfa.specs.StartCalls.{mode_of}
 use Rattle.lazy_dfa.proofs.StartCallLemmas.{slot_inside, fine_of, allowed_of, known_here, start_left, start_needs}
+use Rattle.lazy_dfa.proofs.AddsLemmas.{start_adds}
 use Rattle.lazy_dfa.proofs.dfa.DFA.start_state.Goals as goal
 use Rattle.lazy_dfa.proofs.LinkedLemmas.{held_named}
 
@@ -85,3 +86,25 @@ returns-in-Err-clause-cause g c = start_needs c.args.self.now c.args.config.now 
     (c.mode_number-number.ensures.value ∙ ap mode_of c.get_anchored-3.ensures)
     (c.start_behind-start.ensures ∙ ap (start_of c.args.self.now.nfa.terminator) c.get_look_behind-look_behind.ensures)
     c.args.cache.now c.start_in_mode.new.cache c.in-Err.ensures.cause
+
+-- ---- what is added
+
+pub returns-in-Ok-clause-adds : goal.returns-in-Ok-clause-adds
+returns-in-Ok-clause-adds g c = start_adds c.args.self.now c.args.config.now c.mode_number-number.result c.in-Some-name_of.name
+    c.start_behind-start.result c.args.cache.now c.start_in_mode.new.cache
+    (allowed_of c.args.self.now c.args.config.now c.check_start.result c.get_look_behind-look_behind.result
+    c.get_anchored.result c.in_default.is c.check_start.ensures
+    c.get_look_behind-look_behind.ensures c.get_anchored.ensures)
+    (c.in-Some-name_of.ensures.name ∙ ap (λ (m : Anchored). start_in c.args.self.now (mode_of m)) c.get_anchored-2.ensures)
+    (c.start_behind-start.ensures ∙ ap (start_of c.args.self.now.nfa.terminator) c.get_look_behind-look_behind.ensures)
+    c.in-Ok.ensures.adds
+
+pub returns-in-Err-clause-adds : goal.returns-in-Err-clause-adds
+returns-in-Err-clause-adds g c = start_adds c.args.self.now c.args.config.now c.mode_number-number.result c.in-Some-name_of.name
+    c.start_behind-start.result c.args.cache.now c.start_in_mode.new.cache
+    (allowed_of c.args.self.now c.args.config.now c.check_start.result c.get_look_behind-look_behind.result
+    c.get_anchored.result c.in_default.is c.check_start.ensures
+    c.get_look_behind-look_behind.ensures c.get_anchored.ensures)
+    (c.in-Some-name_of.ensures.name ∙ ap (λ (m : Anchored). start_in c.args.self.now (mode_of m)) c.get_anchored-2.ensures)
+    (c.start_behind-start.ensures ∙ ap (start_of c.args.self.now.nfa.terminator) c.get_look_behind-look_behind.ensures)
+    c.in-Err.ensures.adds

@@ -1,0 +1,58 @@
+-- How a cache comes from one value to another in the course of calls: which states are made on the way, and where it is cleared.
+use Rattle.std.specs.Prelude.{◌≡◌, ◌⊎◌, ℕ, suc, ◌+◌, ◌<◌, Bool, true, false, List, [], ◌∷◌, Option, Some, None}
+use Rattle.nfa_core.specs.Ways.{place_of}
+use Rattle.determinize_core.specs.States.{StateValue}
+use Rattle.search_types.specs.declared.anchored.Anchored.{Anchored}
+use Rattle.search_types.specs.Inputs.{Search}
+use Rattle.lazy_dfa.specs.Caches.{CacheValue, IsCacheOf}
+use Rattle.lazy_dfa.specs.ConfigValue.{specializes}
+use Rattle.lazy_dfa.specs.Courses.{state_behind, AreRead}
+use Rattle.lazy_dfa.specs.Dfas.{Dfa, reader, start_in}
+use Rattle.lazy_dfa.specs.Linked.{Grows, start_from, passes_of}
+use Rattle.lazy_dfa.specs.Passes.{first_value}
+use Rattle.lazy_dfa.specs.PassLaws.{pass_len}
+use Rattle.lazy_dfa.specs.Readers.{Reader}
+use Rattle.lazy_dfa.specs.StartCalls.{mode_of, start_refusal, start_first}
+use Rattle.lazy_dfa.specs.Steps.{HasStatesOf, AddsState, MakesRoom}
+
+-- ---- one change after the other
+
+-- From one value of a cache to another, where at most n states are made, each of them one that `Made` says, with whether its ID
+-- is tagged as a start. A state is added where it has room; where it has none and a clear is allowed, the cache is cleared for
+-- it. Between these the cache grows by no state.
+pub data Changes (d : Dfa) (Made : Bool → StateValue → Type 0) (old : CacheValue) : CacheValue → ℕ → Type 0 where
+  unchanged : (new : CacheValue) (n : ℕ) → new ≡ old → Changes d Made old new n
+  keeps : (mid new : CacheValue) (n : ℕ) → Changes d Made old mid n → Grows d mid new → HasStatesOf new mid →
+      Changes d Made old new n
+  adds : (b : Bool) (s : StateValue) (mid new : CacheValue) (m n : ℕ) → m < n → Changes d Made old mid m → IsCacheOf d mid → Made b s →
+      Grows d mid new → AddsState d b s mid new → Changes d Made old new n
+  clears : (b : Bool) (from : Option ℕ) (s : StateValue) (mid new : CacheValue) (m n : ℕ) → m < n → Changes d Made old mid m →
+      IsCacheOf d mid → Made b s → MakesRoom d b from s mid new → Changes d Made old new n
+
+-- ---- the states of a course
+
+-- a state behind one of the first n units from a state at place i, all of which are read up to there
+abbrev pub IsMadeAt : Reader → List ℕ → ℕ → StateValue → ℕ → Bool → StateValue → Type 0
+IsMadeAt r h i v n b s =
+    (b ≡ false) × ((k : ℕ) × (k < n) × AreRead r h i v (suc k) × (s ≡ state_behind r h i v (suc k)))
+
+-- the state in which a search starts from a place, where its start isn't refused
+abbrev pub IsMadeFirst : Dfa → Anchored → List ℕ → ℕ → Bool → StateValue → Type 0
+IsMadeFirst d mode h i b s =
+    (b ≡ specializes d.options) × (start_refusal d (start_from (reader d) mode h i) ≡ None) ×
+    ((q : ℕ) × (start_in d (mode_of mode) ≡ Some q) × (s ≡ start_first d (start_from (reader d) mode h i) q))
+
+-- a state of a pass over so many bytes from a place: its first one, or one behind a unit that it reads
+abbrev pub IsMadeIn : Dfa → Anchored → Bool → List ℕ → ℕ × ℕ → Bool → StateValue → Type 0
+IsMadeIn d mode earliest h p b s =
+    IsMadeFirst d mode h p.1 b s ⊎
+    IsMadeAt (reader d) h p.1 (first_value (reader d) mode h p.1) (pass_len (reader d) mode earliest h p.0 p.1) b s
+
+-- a state of one of these passes
+abbrev pub IsMadeAmong : Dfa → Search → List (ℕ × ℕ) → Bool → StateValue → Type 0
+IsMadeAmong d q [] b s = ⊥
+IsMadeAmong d q (p ∷ ps) b s = IsMadeIn d q.anchored q.earliest q.haystack p b s ⊎ IsMadeAmong d q ps b s
+
+-- a state of a half search
+abbrev pub IsMadeBy : Dfa → Search → Bool → StateValue → Type 0
+IsMadeBy d q b s = IsMadeAmong d q (passes_of (reader d) q) b s
