@@ -1,15 +1,19 @@
 -- Changes of a cache one after the other, and those of one step.
-use Rattle.std.proofs.Common.{◌≡◌, ◌⊎◌, ℕ, zero, suc, ◌+◌, ◌-◌, ◌<◌, ◌≤◌, Bool, false, List, refl, sym, ap, ◌∙◌, subst, inl, inr, ⊎_elim, arith}
+use Rattle.std.proofs.Common.{◌≡◌, ◌⊎◌, ℕ, zero, suc, ◌+◌, ◌-◌, ◌<◌, ◌≤◌, Bool, false, List, refl, sym, ap, ◌∙◌, subst, inl, inr, ⊎_elim, arith, [], ◌∷◌, ◌++◌}
 use Rattle.std.proofs.Common.{Option, Some, None}
 use Rattle.nfa_core.specs.Ways.{place_of}
 use Rattle.determinize_core.specs.States.{StateValue}
 use Rattle.lazy_dfa.specs.Caches.{CacheValue, IsCacheOf, IsRow, HeldAt, state_at, id_at}
-use Rattle.lazy_dfa.specs.Changes.{Changes, unchanged, keeps, adds, clears, IsMadeAt}
+use Rattle.search_types.specs.declared.anchored.Anchored.{Anchored}
+use Rattle.search_types.specs.Inputs.{Search}
+use Rattle.lazy_dfa.specs.Changes.{Changes, unchanged, keeps, adds, clears, IsMadeAt, IsMadeFirst, IsMadeIn, IsMadeAmong}
+use Rattle.lazy_dfa.specs.ConfigValue.{specializes}
 use Rattle.lazy_dfa.specs.Courses.{state_behind, AreRead}
-use Rattle.lazy_dfa.specs.Dfas.{Dfa, after, is_dead, reader}
-use Rattle.lazy_dfa.specs.Linked.{Grows, IsMoved}
+use Rattle.lazy_dfa.specs.Dfas.{Dfa, after, is_dead, reader, start_in}
+use Rattle.lazy_dfa.specs.Linked.{Grows, IsMoved, start_from}
 use Rattle.lazy_dfa.specs.PassLaws.{unit_of}
 use Rattle.lazy_dfa.specs.Readers.{Reader, is_quit}
+use Rattle.lazy_dfa.specs.StartCalls.{mode_of, start_refusal, start_first, StartAdds}
 use Rattle.lazy_dfa.specs.Steps.{Grew, HasStatesOf, AddsState, MakesRoom, ComesTo, StepAdds}
 use Rattle.lazy_dfa.proofs.ChangeLemmas.{one_state}
 use Rattle.lazy_dfa.proofs.CourseLemmas.{state_there, read_there, state_behind_one, read_one, not_dead}
@@ -98,3 +102,36 @@ module _ (d : Dfa) (h : List ℕ) (old : CacheValue) (at id : ℕ) (u : Option �
           (step_makes s one quiet) (grew_grows d old new g) a
       by (inr (quiet, inr m)) = clears false (Some row.0) (after d (state_at old row.0) u) old new 0 1 (omega arith)
           (unchanged old 0 refl) own (step_makes s one quiet) m
+
+pub made_within : (r : Reader) (h : List ℕ) (i : ℕ) (v : StateValue) (n m : ℕ) → n ≤ m → (b : Bool) (s : StateValue) →
+    IsMadeAt r h i v n b s → IsMadeAt r h i v m b s
+made_within r h i v n m l b s (e, (k, lt, are, is)) = (e, (k, omega (arith, l, lt), are, is))
+
+-- ---- one start
+
+module _ (d : Dfa) (mode : Anchored) (h : List ℕ) (i : ℕ) (P : Bool → StateValue → Type 0)
+    (into : (b : Bool) (s : StateValue) → IsMadeFirst d mode h i b s → P b s) (old new : CacheValue) (own : IsCacheOf d old) where
+  pub start_changes : StartAdds d old new (start_from (reader d) mode h i) → Changes d P old new 1
+  start_changes (inl (g, e)) = keeps old new 1 (unchanged old 1 refl) (grew_grows d old new g) e
+  start_changes (inr (none, (q, named, inl (g, inl e)))) = keeps old new 1 (unchanged old 1 refl) (grew_grows d old new g) e
+  start_changes (inr (none, (q, named, inl (g, inr a)))) =
+      adds (specializes d.options) (start_first d (start_from (reader d) mode h i) q) old new 0 1 (omega arith) (unchanged old 0 refl) own
+      (into (specializes d.options) (start_first d (start_from (reader d) mode h i) q) (refl, none, (q, named, refl)))
+      (grew_grows d old new g) a
+  start_changes (inr (none, (q, named, inr m))) =
+      clears (specializes d.options) None (start_first d (start_from (reader d) mode h i) q) old new 0 1 (omega arith)
+      (unchanged old 0 refl) own
+      (into (specializes d.options) (start_first d (start_from (reader d) mode h i) q) (refl, none, (q, named, refl))) m
+
+-- ---- passes one after the other
+
+module _ (d : Dfa) (q : Search) where
+  pub among_before : (ps tail : List (ℕ × ℕ)) (b : Bool) (s : StateValue) → IsMadeAmong d q ps b s → IsMadeAmong d q (ps ++ tail) b s
+  among_before [] tail b s x = absurd x
+  among_before (p ∷ ps) tail b s (inl x) = inl x
+  among_before (p ∷ ps) tail b s (inr x) = inr (among_before ps tail b s x)
+
+  pub among_there : (ps tail : List (ℕ × ℕ)) (p : ℕ × ℕ) (b : Bool) (s : StateValue) →
+      IsMadeIn d q.anchored q.earliest q.haystack p b s → IsMadeAmong d q (ps ++ p ∷ tail) b s
+  among_there [] tail p b s x = inl x
+  among_there (o ∷ ps) tail p b s x = inr (among_there ps tail p b s x)

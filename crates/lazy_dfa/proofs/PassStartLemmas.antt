@@ -26,7 +26,7 @@ use Rattle.lazy_dfa.specs.ScanLaws.{begins_at}
 use Rattle.lazy_dfa.specs.SearchAnswers.{told}
 use Rattle.lazy_dfa.specs.SearchStarts.{AnswersStart, error_at}
 use Rattle.lazy_dfa.specs.PassPlaces.{pass_start, StartsPass}
-use Rattle.lazy_dfa.specs.StartCalls.{mode_of, quit_refusal, behind_refusal, mode_refusal, start_refusal, start_noted, start_first}
+use Rattle.lazy_dfa.specs.StartCalls.{mode_of, quit_refusal, behind_refusal, mode_refusal, start_refusal, start_noted, start_first, StartAdds}
 use Rattle.lazy_dfa.specs.StartCalls.{IsStartKnown, IsStartCause}
 use Rattle.lazy_dfa.specs.Steps.{Grew, WasCleared, most_inserts}
 
@@ -51,6 +51,7 @@ pub record ToldStart (d : Dfa) (c : StartValue) (quit_place place : ℕ) (old ne
   pub gave_up : r ≡ Err (GaveUp place) → new ≡ old
   pub determinized : m2 ≤ m1 + 1
   pub inserted : n2 ≤ n1 + most_inserts d
+  pub adds : StartAdds d old new c
 
 -- ---- the first state
 
@@ -224,6 +225,7 @@ module _ (d : Dfa) (q : Search) (old new : CacheValue) where
       same = λ k. let w = t.free k in (t.same k, w.0, w.1);
       determinized = t.determinized;
       inserted = t.inserted;
+      adds = t.adds;
     }
 
     pub starts_pass : (is_reverse : Bool) → is_reverse ≡ d.nfa.automaton.reverse →

@@ -12,7 +12,7 @@ use Rattle.search_types.specs.declared.match_error.MatchErrorKind.TheVariants.{Q
 use Rattle.search_types.specs.Found.{HalfFound}
 use Rattle.search_types.specs.Inputs.{Search}
 use Rattle.lazy_dfa.specs.Caches.{CacheValue, IsCacheOf, HeldAt, IsRow, Names, names_held, greatest, lacks_room}
-use Rattle.lazy_dfa.specs.Changes.{IsMadeAt}
+use Rattle.lazy_dfa.specs.Changes.{Changes, IsMadeAt}
 use Rattle.lazy_dfa.specs.Courses.{state_behind, best_behind, AreRead, HasNoStop, stops_behind}
 use Rattle.lazy_dfa.specs.Dfas.{Dfa, IsDfa, reader}
 use Rattle.lazy_dfa.specs.Linked.{IsLinkedOver, Grows, HasCleared, GrowsOrClears, IsMoved}
@@ -25,7 +25,7 @@ use Rattle.lazy_dfa.specs.SearchAnswers.{half_of, pair_of, told, give_up_place, 
 use Rattle.lazy_dfa.specs.PassPlaces.{last_place, came, tells, BeganFirst, told_behind, GoesBetween, EndsWith, RestAnew, IsRestTold, RunsOn}
 use Rattle.lazy_dfa.specs.Steps.{most_inserts}
 use Rattle.lazy_dfa.specs.Turns.{Leaves, FailsOn}
-use Rattle.lazy_dfa.proofs.ChangesLemmas.{changes_moved, changes_from_moved}
+use Rattle.lazy_dfa.proofs.ChangesLemmas.{changes_into, changes_on, changes_moved, changes_from_moved, made_within, made_behind}
 use Rattle.lazy_dfa.proofs.CourseLemmas.{state_there, unit_there, not_dead}
 use Rattle.lazy_dfa.proofs.IsCacheLemmas.{row_is_plain}
 use Rattle.lazy_dfa.proofs.LinkedLemmas.{AreBytes, grows_trans, grows_or_clears_trans, cleared_grows, moved_trans, names_moved, noted_moved}
@@ -244,6 +244,18 @@ module _ (d : Dfa) (q : Search) (made : IsDfa d) (bytes : AreBytes q.haystack) (
     few_names : n ≤ from.inserted + units * most_inserts d
     few_names = sum_to from.inserted p.inserted n k units (most_inserts d) reads_this goes.inserted x.inserted
 
+    changes_here : Changes d (IsMadeAt (reader d) h from.at s units) from.cache new units
+    changes_here =
+        let l = reads_this in
+        changes_on d (IsMadeAt (reader d) h from.at s units) from.cache p.cache k
+        (changes_into d (IsMadeAt (reader d) h from.at s k) (IsMadeAt (reader d) h from.at s units)
+        (made_within (reader d) h from.at s k units (omega (arith, l))) from.cache p.cache k (goes.changes s (names_held held)))
+        new 1 units (omega (arith, l))
+        (changes_into d (IsMadeAt (reader d) h p.at state 1) (IsMadeAt (reader d) h from.at s units)
+        (λ (b : Bool) (t : StateValue) (y : IsMadeAt (reader d) h p.at state 1 b t).
+        made_within (reader d) h from.at s (k + 1) units (omega (arith, l)) b t
+        (made_behind (reader d) h from.at p.at k 1 goes.place s read b t y)) p.cache new 1 (x.changes state (names_held held_here)))
+
     -- the unit is a quit byte
     pub runs_quit : (b y : ℕ) → unit_at d.nfa.automaton.reverse h p.at ≡ Some b → has d.quits b ≡ true →
         y ≡ index_at d.nfa.automaton.reverse p.at →
@@ -264,6 +276,7 @@ module _ (d : Dfa) (q : Search) (made : IsDfa d) (bytes : AreBytes q.haystack) (
           determinized = few;
           inserted = few_names;
           anew = left;
+          changes = changes_here;
         }
 
   -- memory lacked, or the state behind the unit has no room
@@ -277,6 +290,7 @@ module _ (d : Dfa) (q : Search) (made : IsDfa d) (bytes : AreBytes q.haystack) (
       determinized = few new m n x.leaves;
       inserted = few_names new m n x.leaves;
       anew = left;
+      changes = changes_here new m n x.leaves;
     }
 
     pub runs_gave_up : (y : ℕ) → y ≡ give_up_place d.nfa.automaton.reverse (span_len q) from.at k →
@@ -290,6 +304,7 @@ module _ (d : Dfa) (q : Search) (made : IsDfa d) (bytes : AreBytes q.haystack) (
       determinized = few new m n x.leaves;
       inserted = few_names new m n x.leaves;
       anew = left;
+      changes = changes_here new m n x.leaves;
     }
 
   -- ---- with what was found
@@ -442,4 +457,7 @@ module _ (d : Dfa) (q : Search) (made : IsDfa d) (bytes : AreBytes q.haystack) (
       determinized = subst (λ (u : ℕ). m ≤ from.determinized + u) (sym units_are) whole.determinized;
       inserted = subst (λ (u : ℕ). n ≤ from.inserted + u * most_inserts d) (sym units_are) whole.inserted;
       anew = subst Ended (sym ended.1) told;
+      changes = subst (λ (u : ℕ). Changes d (IsMadeAt (reader d) h from.at s u) from.cache new u) (sym units_are)
+          (changes_moved d (IsMadeAt (reader d) h from.at s (k + 1)) from.cache behind new (k + 1) moved
+          (whole.changes s (names_held held)));
     }

@@ -19,6 +19,8 @@ use Rattle.lazy_dfa.specs.Readers.{Reader}
 use Rattle.lazy_dfa.specs.Scans.{scan}
 use Rattle.lazy_dfa.specs.SearchAnswers.{told, GivesUpIn, GivesUpAmong, Answers, Told, told_of, told_by_pass, told_by, made_by}
 use Rattle.lazy_dfa.specs.Steps.{most_inserts}
+use Rattle.lazy_dfa.specs.Changes.{Changes, unchanged, IsMadeIn, IsMadeAmong}
+use Rattle.lazy_dfa.proofs.ChangesLemmas.{changes_into, changes_on, among_before, among_there}
 use Rattle.lazy_dfa.proofs.AnswerLemmas.{error, error_is_whole, gave_up_among}
 use Rattle.lazy_dfa.proofs.LinkedLemmas.{AreBytes, grows_refl, grows_trans, cleared_grows, moved_refl, moved_trans, linked_pass_moved}
 use Rattle.lazy_dfa.proofs.LinkedLemmas.{are_linked_grows}
@@ -62,6 +64,7 @@ pub record HasMade (d : Dfa) (q : Search) (old now : CacheValue) (m1 m2 n1 n2 : 
   pub inserted : n2 ≤ n1 + made_by (reader d) q ps * most_inserts d
   pub anew : ((told_of now ≡ told_by (reader d) q (told_of old) ps) × (now.clears ≡ old.clears)) ⊎
       (HasCleared old now × ToldSince (reader d) q ps (told_of now))
+  pub changes : Changes d (IsMadeAmong d q ps) old now (made_by (reader d) q ps)
 
 -- what is left to search behind these passes
 pub record IsLeft (r : Reader) (q t : Search) (ps : List (ℕ × ℕ)) : Type 0 where
@@ -84,6 +87,7 @@ begins d q t v m n is = record {
     determinized = omega arith;
     inserted = omega arith;
     anew = inl (refl, refl);
+    changes = unchanged v 0 refl;
   };
   left = record {
     same = is ∙ ap (λ (x : Search). with_span x.start x.end q) (sym is);
@@ -193,6 +197,17 @@ module _ (d : Dfa) (q : Search) (old now next : CacheValue) (m1 m2 m3 n1 n2 n3 :
   anew_one f pass (inr c) (inl b) = inr (cleared_before c.0 pass.kept, since_before c.1 b.0)
   anew_one f pass a (inr c) = inr (cleared_now made.kept c.0, since_now c.1)
 
+  changes_made : (result : Result (Option HalfFound) MatchErrorKind) (tail : List (ℕ × ℕ)) → Pass result →
+      Changes d (IsMadeAmong d q (ps ++ p ∷ tail)) old next (made_by r q (ps ++ p ∷ tail))
+  changes_made result tail pass =
+      let sum = made_join r q ps tail p in
+      changes_on d (IsMadeAmong d q (ps ++ p ∷ tail)) old now (made_by r q ps)
+      (changes_into d (IsMadeAmong d q ps) (IsMadeAmong d q (ps ++ p ∷ tail)) (among_before d q ps (p ∷ tail)) old now (made_by r q ps)
+      made.changes)
+      next (suc (len_of r q p)) (made_by r q (ps ++ p ∷ tail)) (omega (arith, sum))
+      (changes_into d (IsMadeIn d q.anchored q.earliest q.haystack p) (IsMadeAmong d q (ps ++ p ∷ tail)) (among_there d q ps tail p) now next
+      (suc (len_of r q p)) pass.changes)
+
   pub makes_one : (f : Option HalfFound) → Pass (Ok f) → HasMade d q old next m1 m3 n1 n3 (ps ++ p ∷ [])
   makes_one f pass = record {
     kept = kept_one made.kept (one_kept pass.follows);
@@ -200,6 +215,7 @@ module _ (d : Dfa) (q : Search) (old now next : CacheValue) (m1 m2 m3 n1 n2 n3 :
     determinized = few_made (Ok f) [] pass;
     inserted = few_inserted (Ok f) [] pass;
     anew = anew_one f pass made.anew pass.anew;
+    changes = changes_made (Ok f) [] pass;
   }
 
   module _ (fits : s ≤ e) (tail : List (ℕ × ℕ)) (all : ps ++ p ∷ tail ≡ passes_of r q) (same : scan r rest ≡ scan r q)
@@ -241,6 +257,7 @@ module _ (d : Dfa) (q : Search) (old now next : CacheValue) (m1 m2 m3 n1 n2 n3 :
       determinized = subst (λ (os : List (ℕ × ℕ)). m3 ≤ m1 + made_by r q os) all (few_made (Err x) tail pass);
       inserted = subst (λ (os : List (ℕ × ℕ)). n3 ≤ n1 + made_by r q os * most_inserts d) all (few_inserted (Err x) tail pass);
       anew = fails_anew pass made.anew pass.anew;
+      changes = subst (λ (os : List (ℕ × ℕ)). Changes d (IsMadeAmong d q os) old next (made_by r q os)) all (changes_made (Err x) tail pass);
     }
 
 -- all passes were made
@@ -261,6 +278,7 @@ module _ (d : Dfa) (q : Search) (old now : CacheValue) (m1 m2 n1 n2 : ℕ) (f : 
     determinized = made.determinized;
     inserted = made.inserted;
     anew = made.anew;
+    changes = made.changes;
   }
 
   pub finishes : (ps : List (ℕ × ℕ)) → ps ≡ passes_of (reader d) q → HasMade d q old now m1 m2 n1 n2 ps →

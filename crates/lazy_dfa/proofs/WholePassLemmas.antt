@@ -40,6 +40,8 @@ use Rattle.lazy_dfa.specs.PassPlaces.{fails_untold, IsRestTold, RunsOn, pass_sta
 use Rattle.lazy_dfa.specs.StartCalls.{mode_of, quit_refusal, behind_refusal, mode_refusal, start_refusal, start_slot, start_noted}
 use Rattle.lazy_dfa.specs.StartCalls.{IsStartKnown}
 use Rattle.lazy_dfa.specs.Steps.{Grew, WasCleared, most_inserts}
+use Rattle.lazy_dfa.specs.Changes.{Changes, unchanged, IsMadeAt, IsMadeFirst, IsMadeIn}
+use Rattle.lazy_dfa.proofs.ChangesLemmas.{changes_into, changes_more, changes_on, changes_moved, changes_from_moved, start_changes}
 use Rattle.lazy_dfa.proofs.AnewToldLemmas.{fresh_anew}
 use Rattle.lazy_dfa.proofs.IsCacheLemmas.{row_is_plain}
 use Rattle.lazy_dfa.proofs.LinkedLemmas.{grows_trans, grew_grows, has_cleared, start_grows_of, cleared_grows, grows_or_clears_trans}
@@ -224,7 +226,7 @@ first_error is_reverse i (UnsupportedAnchored mode) = tt
 first_error is_reverse i NoMemory = tt
 
 module _ (d : Dfa) (q : Search) (old new : CacheValue) (m1 m2 n1 n2 : ℕ) (e : MatchErrorKind)
-    (start : StartsPass d q old new m1 m2 n1 n2 (Err e)) where
+    (start : StartsPass d q old new m1 m2 n1 n2 (Err e)) (own : IsCacheOf d old) where
   abbrev at : ℕ
   at = begins_at (reader d) q
 
@@ -285,6 +287,9 @@ module _ (d : Dfa) (q : Search) (old new : CacheValue) (m1 m2 n1 n2 : ℕ) (e : 
               (left_first refused_first refl),
         ))
         start.kept;
+    changes = changes_more d (IsMadeIn d q.anchored q.earliest q.haystack (span_len q, at)) old new 1 (suc length) (omega arith)
+        (start_changes d q.anchored q.haystack at (IsMadeIn d q.anchored q.earliest q.haystack (span_len q, at))
+        (λ (b : Bool) (s : StateValue) (x : IsMadeFirst d q.anchored q.haystack at b s). inl x) old new own start.adds);
   }
 
 -- ---- a start that is told
@@ -510,6 +515,15 @@ module _ (d : Dfa) (q : Search) (old mid : CacheValue) (m1 m n1 n id : ℕ) (mad
       inserted = one_more n1 n n2 all (most_inserts d) start.inserted (subst
           (λ (k : ℕ). n2 ≤ n + k * most_inserts d) same_len runs.inserted);
       anew = told_anew_pass result runs.anew;
+      changes = changes_on d (IsMadeIn d q.anchored q.earliest q.haystack (span_len q, from)) old mid 1
+          (start_changes d q.anchored q.haystack from (IsMadeIn d q.anchored q.earliest q.haystack (span_len q, from))
+          (λ (b : Bool) (s : StateValue) (x : IsMadeFirst d q.anchored q.haystack from b s). inl x) old mid own start.adds)
+          new all (suc all) (omega arith)
+          (changes_into d (IsMadeAt (reader d) q.haystack from first all)
+          (IsMadeIn d q.anchored q.earliest q.haystack (span_len q, from))
+          (λ (b : Bool) (s : StateValue) (x : IsMadeAt (reader d) q.haystack from first all b s). inr x) mid new all
+          (subst (λ (k : ℕ). Changes d (IsMadeAt (reader d) q.haystack from first k) mid new k) same_len
+          (changes_from_moved d (IsMadeAt (reader d) q.haystack from first units) mid here new units moved runs.changes)));
     }
 
   abbrev here : CacheValue
@@ -538,6 +552,7 @@ module _ (d : Dfa) (q : Search) (old mid : CacheValue) (m1 m n1 n id : ℕ) (mad
           e ∙ ap (told_behind d.nfa.automaton.reverse (span_len q) (told_of here)) (sym nothing.1),
           (grows_moved d here new still).clears,
         );
+        changes = changes_moved d (IsMadeAt (reader d) q.haystack from first units) here here new units still (unchanged here units refl);
       })
     where
       still : IsMoved here new

@@ -7,6 +7,7 @@ use Rattle.search_types.specs.Found.{HalfFound}
 use Rattle.search_types.specs.Inputs.{Search}
 use Rattle.lazy_dfa.specs.AnewTold.{TellsAnew, FailsAnew, ToldSince, FailsSince}
 use Rattle.lazy_dfa.specs.Caches.{CacheValue}
+use Rattle.lazy_dfa.specs.Changes.{Changes, IsMadeIn, IsMadeBy}
 use Rattle.lazy_dfa.specs.Dfas.{Dfa, reader}
 use Rattle.lazy_dfa.specs.Readers.{Reader}
 use Rattle.lazy_dfa.specs.LeftTold.{LeavesPass, LeavesTold}
@@ -56,6 +57,8 @@ pub record MakesPass (d : Dfa) (q : Search) (old new : CacheValue) (m1 m2 n1 n2 
   pub determinized : m2 ≤ m1 + suc (pass_len (reader d) q.anchored q.earliest q.haystack (span_len q) (begins_at (reader d) q))
   pub inserted : n2 ≤ n1 + suc (pass_len (reader d) q.anchored q.earliest q.haystack (span_len q) (begins_at (reader d) q)) * most_inserts d
   pub anew : IsPassTold (reader d) q.anchored q.earliest q.haystack (span_len q, begins_at (reader d) q) result old new
+  pub changes : Changes d (IsMadeIn d q.anchored q.earliest q.haystack (span_len q, begins_at (reader d) q)) old new
+      (suc (pass_len (reader d) q.anchored q.earliest q.haystack (span_len q) (begins_at (reader d) q)))
 
 -- a half search with its restarts
 pub record MakesSearch (d : Dfa) (q : Search) (old new : CacheValue) (m1 m2 n1 n2 : ℕ)
@@ -68,3 +71,4 @@ pub record MakesSearch (d : Dfa) (q : Search) (old new : CacheValue) (m1 m2 n1 n
   pub determinized : m2 ≤ m1 + made_by (reader d) q (passes_of (reader d) q)
   pub inserted : n2 ≤ n1 + made_by (reader d) q (passes_of (reader d) q) * most_inserts d
   pub anew : IsSearchTold (reader d) q result old new
+  pub changes : Changes d (IsMadeBy d q) old new (made_by (reader d) q (passes_of (reader d) q))

@@ -13,6 +13,7 @@ use Rattle.search_types.specs.Found.{HalfFound}
 use Rattle.search_types.specs.Inputs.{Search}
 use Rattle.lazy_dfa.specs.AnewTold.{anew_if, cut_told, IsFresh, CutAt}
 use Rattle.lazy_dfa.specs.Caches.{CacheValue, HeldAt, IsRow, Names, greatest, progress_len, moved_to, lacks_room}
+use Rattle.lazy_dfa.specs.Changes.{Changes, IsMadeAt}
 use Rattle.lazy_dfa.specs.Courses.{state_behind, HasNoStop, stops_behind}
 use Rattle.lazy_dfa.specs.declared.cache_error.CacheError.{CacheError}
 use Rattle.lazy_dfa.specs.declared.cache_error.CacheError.TheVariants.{GaveUp as StepGaveUp, NoMemory as StepNoMemory}
@@ -31,7 +32,7 @@ use Rattle.lazy_dfa.specs.Scans.{first_place}
 use Rattle.lazy_dfa.specs.ScanLaws.{begins_at}
 pub use Rattle.lazy_dfa.specs.SearchAnswers.{told_behind}
 use Rattle.lazy_dfa.specs.SearchAnswers.{pair_of, told, give_up_place, Told, told_of, pass_distance, running_at}
-use Rattle.lazy_dfa.specs.StartCalls.{mode_of, start_refusal, start_noted, IsStartKnown}
+use Rattle.lazy_dfa.specs.StartCalls.{mode_of, start_refusal, start_noted, IsStartKnown, StartAdds}
 use Rattle.lazy_dfa.specs.Steps.{Grew, WasCleared, most_inserts}
 use Rattle.lazy_dfa.specs.Turns.{GoesOne, Leaves, FailsOn}
 
@@ -219,6 +220,8 @@ pub record RunsOn (d : Dfa) (q : Search) (s : StateValue) (from : Point) (new : 
   pub determinized : m ≤ from.determinized + units_read (reader d) q.earliest q.haystack (suc (span_len q)) from.at s
   pub inserted : n ≤ from.inserted + units_read (reader d) q.earliest q.haystack (suc (span_len q)) from.at s * most_inserts d
   pub anew : IsRestTold d q s from.at result from.cache new
+  pub changes : Changes d (IsMadeAt (reader d) q.haystack from.at s (units_read (reader d) q.earliest q.haystack
+      (suc (span_len q)) from.at s)) from.cache new (units_read (reader d) q.earliest q.haystack (suc (span_len q)) from.at s)
 
 -- ---- the start of a pass
 
@@ -243,3 +246,4 @@ pub record StartsPass (d : Dfa) (q : Search) (old new : CacheValue) (m1 m2 n1 n2
   pub same : IsStartKnown d old (pass_start d q) → (new ≡ old) × (m2 ≡ m1) × (n2 ≡ n1)
   pub determinized : m2 ≤ m1 + 1
   pub inserted : n2 ≤ n1 + most_inserts d
+  pub adds : StartAdds d old new (pass_start d q)

@@ -10,7 +10,7 @@ use Rattle.lazy_dfa.proofs.passing.pass.Goals as goal
 pub returns-in-Err-clause-pass : goal.returns-in-Err-clause-pass
 returns-in-Err-clause-pass g c = refused_pass c.args.dfa.now c.args.input.now c.args.cache.now c.start_of_pass.new.cache
     c.args.work.now.determinized c.start_of_pass.new.work.determinized
-    c.args.work.now.inserted c.start_of_pass.new.work.inserted c.in-Err.e c.in-Err.ensures.start
+    c.args.work.now.inserted c.start_of_pass.new.work.inserted c.in-Err.e c.in-Err.ensures.start c.requires.own
 
 pub returns-then-is_dead-clause-own : goal.returns-then-is_dead-clause-own
 returns-then-is_dead-clause-own g c = is_cache_moved c.args.dfa.now c.start_of_pass.new.cache c.end_at_first.new.cache

@@ -18,6 +18,7 @@ returns-then-is_reverse-clause-start g c = let x = c.start_state_reverse.ensures
       gave_up = x.gave_up;
       determinized = x.determinized;
       inserted = x.inserted;
+      adds = x.adds;
     })
 
 pub returns-else-is_reverse-clause-start : goal.returns-else-is_reverse-clause-start
@@ -36,4 +37,5 @@ returns-else-is_reverse-clause-start g c = let x = c.start_state_forward.ensures
       gave_up = x.gave_up;
       determinized = x.determinized;
       inserted = x.inserted;
+      adds = x.adds;
     })
