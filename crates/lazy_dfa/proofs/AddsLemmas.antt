@@ -7,7 +7,7 @@ use Rattle.determinize_core.specs.States.{StateValue}
 use Rattle.determinize_core.specs.Starts.{StartValue, start_of}
 use Rattle.determinize_core.specs.declared.start.Start.{Start}
 use Rattle.lazy_dfa.specs.ConfigValue.{clears_of, bytes_of, specializes}
-use Rattle.lazy_dfa.specs.Dfas.{Dfa, after, is_dead, start_in, first_state, cost}
+use Rattle.lazy_dfa.specs.Dfas.{Dfa, IsStateOf, after, is_dead, start_in, first_state, cost}
 use Rattle.lazy_dfa.specs.Ids.{tag}
 use Rattle.lazy_dfa.specs.Caches.{CacheValue, IsShaped, Fits, fits, is_refused, needs_clear, place_of, state_at, id_at, with_state, usage, cleared}
 use Rattle.lazy_dfa.specs.Readers.{is_quit}
@@ -33,11 +33,11 @@ fits_true d s v f = both_true (nat_le (usage v + cost v.stride s) d.capacity) (n
     (le_true (usage v + cost v.stride s) d.capacity f.0) (le_true (length v.cells + v.stride) tag f.1)
 
 -- room is made by a clear
-pub clears_for : (d : Dfa) (from : Option ℕ) (s : StateValue) (v mid : CacheValue) → is_dead s ≡ false → place_of s v.states ≡ None →
+pub clears_for : (d : Dfa) (from : Option ℕ) (s : StateValue) (v mid : CacheValue) → IsStateOf d s → is_dead s ≡ false → place_of s v.states ≡ None →
     fits d.capacity s v ≡ false → is_refused (clears_of d.options) (bytes_of d.options) v ≡ false →
     (mid ≡ cleared v) ⊎ (mid ≡ kept_of from v) → ClearsFor d from s v mid
-clears_for d from s v mid alive fresh full allowed left =
-    record { needs = needs_all d v s alive fresh full; allowed = allowed; left = left }
+clears_for d from s v mid is alive fresh full allowed left =
+    record { is = is; needs = needs_all d v s alive fresh full; allowed = allowed; left = left }
 
 module _ (d : Dfa) (b : Bool) (from : Option ℕ) (s : StateValue) (v mid new : CacheValue) (shape : IsShaped v) where
   -- a state that isn't the dead one nor held, for which room was made or is there, and then nothing was added
@@ -46,15 +46,16 @@ module _ (d : Dfa) (b : Bool) (from : Option ℕ) (s : StateValue) (v mid new : 
   comes_alone (inr x) e = inr (record { middle = mid; clears = x; states = inl (same_states mid new e) })
 
   -- or the state was
-  pub comes_with : (mid ≡ v) ⊎ ClearsFor d from s v mid → is_dead s ≡ false → place_of s v.states ≡ None → Fits d.capacity s mid →
+  pub comes_with : (mid ≡ v) ⊎ ClearsFor d from s v mid → IsStateOf d s → is_dead s ≡ false → place_of s v.states ≡ None → Fits d.capacity s mid →
       new ≡ with_state b s mid → ComesTo (Added v new) d b from s v new
-  comes_with (inl f) alive fresh fit e = inl (added_one v mid new b s shape f e, inr (record {
+  comes_with (inl f) is alive fresh fit e = inl (added_one v mid new b s shape f e, inr (record {
+    is = is;
     alive = alive;
     fresh = fresh;
     fits = fits_true d s v (subst (Fits d.capacity s) f fit);
     states = same_states (with_state b s v) new (e ∙ ap (with_state b s) f);
   }))
-  comes_with (inr x) alive fresh fit e = inr (record { middle = mid; clears = x; states = inr (same_states (with_state b s mid) new e) })
+  comes_with (inr x) is alive fresh fit e = inr (record { middle = mid; clears = x; states = inr (same_states (with_state b s mid) new e) })
 
 -- where it is the dead one, or held
 pub comes_none : (d : Dfa) (b : Bool) (from : Option ℕ) (s : StateValue) (v : CacheValue) → IsShaped v →
@@ -67,6 +68,7 @@ module _ (d : Dfa) (b : Bool) (from : Option ℕ) (s : StateValue) (v mid new : 
   pub comes_written : ComesTo K d b from s v mid → ComesTo L d b from s v new
   comes_written (inl (a, inl e)) = inl (keeps a, inl (states_trans v mid new e same))
   comes_written (inl (a, inr x)) = inl (keeps a, inr (record {
+    is = x.is;
     alive = x.alive;
     fresh = x.fresh;
     fits = x.fits;

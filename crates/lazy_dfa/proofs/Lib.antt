@@ -79,3 +79,4 @@ pub mod HalfTableLemmas
 pub mod SkipLemmas
 pub mod AddsLemmas
 pub mod ChangesLemmas
+pub mod ChangeLawLemmas

@@ -27,6 +27,7 @@ use Rattle.lazy_dfa.specs.Scans.{scan}
 use Rattle.lazy_dfa.specs.SearchAnswers.{half_of, pair_of, told, GivesUpIn, at_start, at_unit, GivesUpAmong, Answers, told_of, told_by}
 use Rattle.lazy_dfa.specs.SearchAnswers.{made_by, HasReach, HasReachBack}
 use Rattle.lazy_dfa.specs.Steps.{most_inserts}
+use Rattle.lazy_dfa.specs.Changes.{Changes, IsMadeBy}
 use Rattle.lazy_dfa.proofs.AnswerLemmas.{ok_is_told, ok_is_found}
 use Rattle.lazy_dfa.proofs.HasReachLemmas.{scan_has_reach, scan_has_reach_back}
 use Rattle.lazy_dfa.proofs.LinkedLemmas.{not_cleared}
@@ -122,6 +123,9 @@ module _ (d : Dfa) (q : Search) (old new : CacheValue) (m1 m2 n1 n2 : ℕ) (resu
 
   pub few_inserted : n2 ≤ n1 + (pass_count (reader d) q + unit_count (reader d) q) * most_inserts d
   few_inserted = subst (λ (k : ℕ). n2 ≤ n1 + k * most_inserts d) (made_is_counted (reader d) q) made.inserted
+
+  pub few_changes : Changes d (IsMadeBy d q) old new (pass_count (reader d) q + unit_count (reader d) q)
+  few_changes = subst (Changes d (IsMadeBy d q) old new) (made_is_counted (reader d) q) made.changes
 
   abbrev HasFollowed : Type 0
   HasFollowed = Grows d old new × IsLinked d new q × (told_of new ≡ told_by (reader d) q (told_of old) (passes_of (reader d) q))

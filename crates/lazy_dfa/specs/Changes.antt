@@ -1,13 +1,15 @@
 -- How a cache comes from one value to another in the course of calls: which states are made on the way, and where it is cleared.
-use Rattle.std.specs.Prelude.{◌≡◌, ◌⊎◌, ℕ, suc, ◌+◌, ◌<◌, Bool, true, false, List, [], ◌∷◌, Option, Some, None}
+use Rattle.std.specs.Prelude.{◌≡◌, ◌⊎◌, ℕ, suc, ◌+◌, ◌*◌, ◌<◌, ◌≤◌, Bool, true, false, List, [], ◌∷◌, ◌++◌, length, All, Option, Some, None}
 use Rattle.nfa_core.specs.Ways.{place_of}
 use Rattle.determinize_core.specs.States.{StateValue}
 use Rattle.search_types.specs.declared.anchored.Anchored.{Anchored}
 use Rattle.search_types.specs.Inputs.{Search}
-use Rattle.lazy_dfa.specs.Caches.{CacheValue, IsCacheOf}
-use Rattle.lazy_dfa.specs.ConfigValue.{specializes}
+use Rattle.lazy_dfa.specs.Accounting.{state_cost, longest_state}
+use Rattle.lazy_dfa.specs.Caches.{CacheValue, IsCacheOf, usage, is_refused, needs_clear}
+use Rattle.lazy_dfa.specs.ConfigValue.{specializes, clears_of, bytes_of}
 use Rattle.lazy_dfa.specs.Courses.{state_behind, AreRead}
-use Rattle.lazy_dfa.specs.Dfas.{Dfa, reader, start_in}
+use Rattle.lazy_dfa.specs.Dfas.{Dfa, IsStateOf, reader, start_in}
+use Rattle.lazy_dfa.specs.Ids.{tag}
 use Rattle.lazy_dfa.specs.Linked.{Grows, start_from, passes_of}
 use Rattle.lazy_dfa.specs.Passes.{first_value}
 use Rattle.lazy_dfa.specs.PassLaws.{pass_len}
@@ -56,3 +58,37 @@ IsMadeAmong d q (p ∷ ps) b s = IsMadeIn d q.anchored q.earliest q.haystack p b
 -- a state of a half search
 abbrev pub IsMadeBy : Dfa → Search → Bool → StateValue → Type 0
 IsMadeBy d q b s = IsMadeAmong d q (passes_of (reader d) q) b s
+
+-- ---- room
+
+-- what the longest state adds to the bytes that a cache is taken to need
+abbrev pub greatest_cost : Dfa → ℕ
+greatest_cost d = state_cost d.measures.stride (longest_state d.measures)
+
+-- there is room for n states more, whatever they are
+abbrev pub HasRoomFor : Dfa → CacheValue → ℕ → Type 0
+HasRoomFor d v n =
+    (usage v + n * greatest_cost d ≤ d.capacity) × ((length v.states + n + 3) * d.measures.stride ≤ tag)
+
+-- so many clears are asked for, and no bytes for each state, that one more is refused
+abbrev pub IsSpent : Dfa → CacheValue → Type 0
+IsSpent d v = (least : ℕ) × (clears_of d.options ≡ Some least) × (bytes_of d.options ≡ None) × (least ≤ v.clears)
+
+-- a cache was cleared for this state, to which it had come without a clear
+pub record FirstClear (d : Dfa) (Made : Bool → StateValue → Type 0) (old : CacheValue) : Type 0 where
+  pub before : CacheValue
+  pub grows : Grows d old before
+  pub is_start : Bool
+  pub state : StateValue
+  pub made : Made is_start state
+  pub needs : needs_clear d before state ≡ true
+  pub allowed : is_refused (clears_of d.options) (bytes_of d.options) before ≡ false
+
+-- what was added where nothing was cleared: n states at most, each of them one that was made
+pub record AddsFew (d : Dfa) (Made : Bool → StateValue → Type 0) (old new : CacheValue) (n : ℕ) : Type 0 where
+  pub grows : Grows d old new
+  pub added : List StateValue
+  pub states : new.states ≡ old.states ++ added
+  pub few : length added ≤ n
+  pub made : All (λ s. (b : Bool) × Made b s) added
+  pub are : All (IsStateOf d) added

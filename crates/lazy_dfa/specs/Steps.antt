@@ -4,7 +4,7 @@ use Rattle.std.specs.Prelude.{Bool, Some, None, replicate}
 use Rattle.determinize_core.specs.Costs.{free_ways}
 use Rattle.determinize_core.specs.StateBytes.{is_match}
 use Rattle.determinize_core.specs.States.{StateValue}
-use Rattle.lazy_dfa.specs.Dfas.{Dfa, class_of, after, is_dead, IsUnit}
+use Rattle.lazy_dfa.specs.Dfas.{Dfa, class_of, after, is_dead, IsUnit, IsStateOf}
 use Rattle.lazy_dfa.specs.Ids.{tag, has_tag, start_tag, tagged, unknown_id, dead_id, quit_id, is_sentinel}
 use Rattle.lazy_dfa.specs.Caches.{CacheValue, IsShaped, IsRow, HeldAt, Names, Leads, id_at, state_at, with_state, cleared, greatest}
 use Rattle.lazy_dfa.specs.Caches.{place_of, begun_anew, needs_clear, lacks_room, fits, is_refused}
@@ -121,6 +121,7 @@ HasStatesOf new v = (new.states ≡ v.states) × (new.ids ≡ v.ids) × (new.cle
 
 -- a state more: it isn't the dead one, it wasn't held, and it has room; whether its ID is tagged as a start is told
 pub record AddsState (d : Dfa) (is_start : Bool) (s : StateValue) (old new : CacheValue) : Type 0 where
+  pub is : IsStateOf d s
   pub alive : is_dead s ≡ false
   pub fresh : place_of s old.states ≡ None
   pub fits : fits d.capacity s old ≡ true
@@ -134,6 +135,7 @@ kept_of (Some k) v = kept_alone v k
 -- A cache is cleared for a state that isn't held and has no room, where a clear isn't refused. If memory lacks for the state
 -- that is to be kept, nothing is.
 pub record ClearsFor (d : Dfa) (from : Option ℕ) (s : StateValue) (old new : CacheValue) : Type 0 where
+  pub is : IsStateOf d s
   pub needs : needs_clear d old s ≡ true
   pub allowed : is_refused (clears_of d.options) (bytes_of d.options) old ≡ false
   pub left : (new ≡ cleared old) ⊎ (new ≡ kept_of from old)

@@ -23,6 +23,7 @@ mod byte_tests;
 mod cache;
 mod cache_error;
 mod cache_writes;
+pub mod change_laws;
 mod config;
 pub mod dfa;
 mod dfa_starts;

@@ -5,6 +5,7 @@ ghost use Rattle.search_types.specs.Inputs.{IsWithin};
 ghost use Rattle.search_types.specs.Modes.{is_supported};
 ghost use Rattle.lazy_dfa.specs.AnewTold.{IsToldSince};
 ghost use Rattle.lazy_dfa.specs.Caches.{IsCacheOf, greatest};
+ghost use Rattle.lazy_dfa.specs.Changes.{Changes, IsMadeBy};
 ghost use Rattle.lazy_dfa.specs.ConfigValue.{clears_of};
 ghost use Rattle.lazy_dfa.specs.Dfas.{IsDfa, reader};
 ghost use Rattle.lazy_dfa.specs.LeftTold.{LeavesTold};
@@ -104,6 +105,9 @@ impl DFA {
     /// whatever was done with it before. Else the search is refused: it gave up where a state has no room and no clear is
     /// allowed, at the place of the byte to be read, or memory lacked. The cache is of use after that too.
     ///
+    /// It adds no states but those on its way, at most one for each pass and each unit, and clears the cache only where one of
+    /// these isn't held and has no room: [`change_laws`](crate::change_laws) say when that is never.
+    ///
     /// Where no quit byte stands in or beside the span, no least count of clears is set and the mode is supported, it
     /// answers, if memory suffices. Where the cache isn't cleared on the way, all steps of the search are known afterwards,
     /// and a search whose steps are known makes no states and takes no memory.
@@ -130,6 +134,7 @@ impl DFA {
         ensures sure { clears_of self.now.options ≡ None → is_supported (reader self.now).starts_for_each_pattern input.now.anchored ≡ true →
             HasNoQuitNear (reader self.now) input.now.haystack input.now.start input.now.end → IfErr result (λ e. e ≡ NoMemory) }
         ensures kept { GrowsOrClears self.now cache.old cache.new }
+        ensures changes { Changes self.now (IsMadeBy self.now input.now) cache.old cache.new (pass_count (reader self.now) input.now + unit_count (reader self.now) input.now) }
         ensures linked { OnOk result (cache.new.clears ≡ cache.old.clears → cache.old.clears < greatest → IsLinked self.now cache.new input.now) }
         ensures told { OnOk result (cache.new.clears ≡ cache.old.clears → cache.old.clears < greatest →
             told_of cache.new ≡ told_by (reader self.now) input.now (told_of cache.old) (passes_of (reader self.now) input.now)) }
@@ -162,6 +167,7 @@ impl DFA {
         ensures sure { clears_of self.now.options ≡ None → is_supported (reader self.now).starts_for_each_pattern input.now.anchored ≡ true →
             HasNoQuitNear (reader self.now) input.now.haystack input.now.start input.now.end → IfErr result (λ e. e ≡ NoMemory) }
         ensures kept { GrowsOrClears self.now cache.old cache.new }
+        ensures changes { Changes self.now (IsMadeBy self.now input.now) cache.old cache.new (pass_count (reader self.now) input.now + unit_count (reader self.now) input.now) }
         ensures linked { OnOk result (cache.new.clears ≡ cache.old.clears → cache.old.clears < greatest → IsLinked self.now cache.new input.now) }
         ensures told { OnOk result (cache.new.clears ≡ cache.old.clears → cache.old.clears < greatest →
             told_of cache.new ≡ told_by (reader self.now) input.now (told_of cache.old) (passes_of (reader self.now) input.now)) }

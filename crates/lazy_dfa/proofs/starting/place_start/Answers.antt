@@ -93,6 +93,6 @@ returns-in_err-id-clause-adds c = comes_alone c.args.dfa.now (specializes c.args
 
 pub returns-clause-adds : goal.returns-clause-adds
 returns-clause-adds c = comes_with c.args.dfa.now (specializes c.args.dfa.now.options) None c.args.state c.args.cache.now
-    c.room_alone.new.cache c.add_state.new.self c.requires.own.shape c.in_ok-room_alone.ensures.clears
+    c.room_alone.new.cache c.add_state.new.self c.requires.own.shape c.in_ok-room_alone.ensures.clears c.requires.is
     (sym c.is_dead_state.ensures ∙ c.if-is_dead_state.false) (sym c.find.ensures.place ∙ c.in_default.is) c.in_ok-room_alone.ensures.fits
     (c.in_ok-id.ensures.ok ∙ ap (λ (b : Bool). with_state b c.args.state c.room_alone.new.cache) c.specializes.ensures)

@@ -46,5 +46,5 @@ returns-clause-cause c = inr (needs_all c.args.dfa.now c.args.cache.now c.args.s
 
 pub returns-clause-clears : goal.returns-clause-clears
 returns-clause-clears c = inr (clears_for c.args.dfa.now None c.args.state.now
-    c.args.cache.now c.clear.new.self c.requires.alive c.requires.fresh (sym c.fits.ensures ∙ c.if-fits.false)
+    c.args.cache.now c.clear.new.self c.requires.is c.requires.alive c.requires.fresh (sym c.fits.ensures ∙ c.if-fits.false)
     (sym c.refuses_clear.ensures ∙ c.if-refuses_clear.false) (inl c.clear.ensures))

@@ -70,11 +70,11 @@ pub returns-in_err-id-clause-clears : goal.returns-in_err-id-clause-clears
 returns-in_err-id-clause-clears c = ⊎_elim
     (λ (e : c.clear_keeping.new.self ≡ c.args.cache.now). inl e)
     (λ (e : c.clear_keeping.new.self ≡ cleared c.args.cache.now). inr (clears_for c.args.dfa.now (Some c.args.k) c.args.state.now
-    c.args.cache.now c.clear_keeping.new.self c.requires.alive c.requires.fresh (sym c.fits.ensures ∙ c.if-fits.false)
+    c.args.cache.now c.clear_keeping.new.self c.requires.is c.requires.alive c.requires.fresh (sym c.fits.ensures ∙ c.if-fits.false)
     (sym c.refuses_clear.ensures ∙ c.if-refuses_clear.false) (inl e)))
     c.in_err-id.ensures.err
 
 pub returns-clause-clears : goal.returns-clause-clears
 returns-clause-clears c = inr (clears_for c.args.dfa.now (Some c.args.k) c.args.state.now
-    c.args.cache.now c.clear_keeping.new.self c.requires.alive c.requires.fresh (sym c.fits.ensures ∙ c.if-fits.false)
+    c.args.cache.now c.clear_keeping.new.self c.requires.is c.requires.alive c.requires.fresh (sym c.fits.ensures ∙ c.if-fits.false)
     (sym c.refuses_clear.ensures ∙ c.if-refuses_clear.false) (inr c.in_ok-id.ensures.ok))

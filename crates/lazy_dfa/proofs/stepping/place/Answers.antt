@@ -128,5 +128,5 @@ returns-in_err-to-clause-adds c = comes_alone c.args.dfa.now false (Some c.args.
 
 pub returns-clause-adds : goal.returns-clause-adds
 returns-clause-adds c = comes_with c.args.dfa.now false (Some c.args.k) c.args.state c.args.cache.now
-    c.make_room.new.cache c.add_state.new.self c.requires.own.shape c.in_ok-from.ensures.clears
+    c.make_room.new.cache c.add_state.new.self c.requires.own.shape c.in_ok-from.ensures.clears c.requires.is
     (sym c.is_dead_state.ensures ∙ c.if-is_dead_state.false) (sym c.find.ensures.place ∙ c.in_default.is) c.in_ok-from.ensures.fits c.in_ok-to.ensures.ok

@@ -1,5 +1,5 @@
 use Rattle.lazy_dfa.proofs.SearchClauseLemmas.{is_sure, is_linked_then, is_told_then, is_left_then, is_told_since, few_determinized}
-use Rattle.lazy_dfa.proofs.SearchClauseLemmas.{few_inserted, reaches_back}
+use Rattle.lazy_dfa.proofs.SearchClauseLemmas.{few_changes, few_inserted, reaches_back}
 use Rattle.lazy_dfa.proofs.dfa.DFA.try_search_rev.Goals as goal
 
 pub returns-clause-answer : goal.returns-clause-answer
@@ -56,5 +56,10 @@ returns-clause-determinized g c = few_determinized c.args.self.now c.args.input.
 
 pub returns-clause-inserted : goal.returns-clause-inserted
 returns-clause-inserted g c = few_inserted c.args.self.now c.args.input.now c.args.cache.now c.search.new.cache c.args.work.now.determinized
+    c.search.new.work.determinized
+    c.args.work.now.inserted c.search.new.work.inserted c.search.result c.search.ensures.search
+
+pub returns-clause-changes : goal.returns-clause-changes
+returns-clause-changes g c = few_changes c.args.self.now c.args.input.now c.args.cache.now c.search.new.cache c.args.work.now.determinized
     c.search.new.work.determinized
     c.args.work.now.inserted c.search.new.work.inserted c.search.result c.search.ensures.search

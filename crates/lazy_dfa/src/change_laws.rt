@@ -1,0 +1,31 @@
+//! Laws of what calls change of a cache: when it is never cleared, and what is added to it. Each function has no code: its
+//! contract is the law.
+ghost use Rattle.std.specs.Prelude.{◌≡◌, ◌+◌, ◌<◌, ◌≤◌, ℕ};
+ghost use Rattle.search_types.specs.Inputs.{Search};
+ghost use Rattle.lazy_dfa.specs.Caches.{CacheValue, IsCacheOf, greatest};
+ghost use Rattle.lazy_dfa.specs.Changes.{Changes, IsMadeBy, HasRoomFor, IsSpent, FirstClear, AddsFew};
+ghost use Rattle.lazy_dfa.specs.Dfas.{Dfa, IsDfa};
+
+/// A half search clears its cache at most once for each state that it makes.
+pub fn searches_clear_for_states()
+    ensures { (d : Dfa) (q : Search) (old new : CacheValue) (n : ℕ) → Changes d (IsMadeBy d q) old new n →
+        old.clears ≤ greatest → (old.clears ≤ new.clears) × (new.clears ≤ old.clears + n) }
+{}
+
+/// Over a cache with room for all states that a half search can make, nothing is cleared; and nothing is cleared where the
+/// clears that are allowed are spent.
+pub fn searches_keep_what_has_room()
+    ensures room { (d : Dfa) (q : Search) (old new : CacheValue) (n : ℕ) → IsDfa d → IsCacheOf d old → HasRoomFor d old n →
+        Changes d (IsMadeBy d q) old new n → AddsFew d (IsMadeBy d q) old new n }
+    ensures spent { (d : Dfa) (q : Search) (old new : CacheValue) (n : ℕ) → IsDfa d → IsCacheOf d old → IsSpent d old →
+        Changes d (IsMadeBy d q) old new n → AddsFew d (IsMadeBy d q) old new n }
+{}
+
+/// Where the count of clears is as before and hasn't stopped, a half search added states on its way alone. Where it isn't, the
+/// first clear was for a state on its way that wasn't held and had no room.
+pub fn searches_add_states_on_their_way()
+    ensures kept { (d : Dfa) (q : Search) (old new : CacheValue) (n : ℕ) → IsDfa d → IsCacheOf d old → new.clears ≡ old.clears →
+        old.clears < greatest → Changes d (IsMadeBy d q) old new n → AddsFew d (IsMadeBy d q) old new n }
+    ensures cleared { (d : Dfa) (q : Search) (old new : CacheValue) (n : ℕ) → IsDfa d → IsCacheOf d old → (new.clears ≡ old.clears → ⊥) →
+        Changes d (IsMadeBy d q) old new n → FirstClear d (IsMadeBy d q) old }
+{}
