@@ -73,6 +73,7 @@ pub mod WalkRestLemmas
 pub mod WalkPlaceLemmas
 pub mod WalkTurnLemmas
 pub mod WalkReadLemmas
+pub mod WalkQuitLemmas
 pub mod WalkRows
 pub mod ByteTestLemmas
 pub mod HalfTableLemmas

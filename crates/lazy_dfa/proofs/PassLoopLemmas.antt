@@ -272,7 +272,7 @@ module _ (d : Dfa) (q : Search) (is_reverse : Bool) (is : is_reverse ≡ d.nfa.a
       ends_error (GaveUp x) t =
           runs_gave_up d q made bytes s from p k own mine held here none between inside v m n t.0 x (gave_up_place x t.2) t.3
           (λ l. t.4 (λ e. let far = came_last is_reverse q p.at (e ∙ ap (λ (y : Bool). last_place y q) (sym is)) in omega (arith, l, far)))
-          (left (GaveUp x) (gave_up_place x t.2) t.0.leaves t.5)
+          t.1 (left (GaveUp x) (gave_up_place x t.2) t.0.leaves t.5)
       ends_error NoMemory t = runs_no_memory d q made bytes s from p k own mine held here none between inside v m n t.0
           (left NoMemory tt t.0.leaves t.1)
       ends_error (HaystackTooLong len) t = absurd t

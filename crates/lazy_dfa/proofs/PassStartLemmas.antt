@@ -154,14 +154,14 @@ module _ (d : Dfa) (q : Search) (old new : CacheValue) where
 
   abbrev FailsAt : MatchErrorKind → Type 0
   FailsAt e = ((start_refusal d told_of_it ≢ None) × (failed e ≡ told whole)) ⊎ (e ≡ NoMemory) ⊎
-      ((e ≡ GaveUp begins) × (lacks_room d new first ≡ true))
+      ((e ≡ GaveUp begins) × (lacks_room d new first ≡ true) × (start_refusal d told_of_it ≡ None))
 
   caused : (k : MatchErrorKind) (e : StartError) → IsStartCause d old told_of_it e → k ≡ error_at quits_at begins e →
-      (refused k ≡ Err (GaveUp begins) → new ≡ old) → FailsAt k
-  caused k e (inl f) is same = inr (inl (is ∙ ap (error_at quits_at begins) f))
-  caused k e (inr g) is same =
+      (refused k ≡ Err (GaveUp begins) → new ≡ old) → start_refusal d told_of_it ≡ None → FailsAt k
+  caused k e (inl f) is same none = inr (inl (is ∙ ap (error_at quits_at begins) f))
+  caused k e (inr g) is same none =
       let gave : k ≡ GaveUp begins = is ∙ ap (error_at quits_at begins) g.0 in
-      inr (inr (gave, lacks_first (start_in d (mode_of q.anchored)) refl (same (ap refused gave)) g.1.lacks))
+      inr (inr (gave, lacks_first (start_in d (mode_of q.anchored)) refl (same (ap refused gave)) g.1.lacks, none))
 
   pass_refused : (k : MatchErrorKind) (x : StartError) → start_refusal d told_of_it ≡ Some x →
       AnswersStart d old new told_of_it quits_at begins (Err k) → failed k ≡ told whole
@@ -175,7 +175,7 @@ module _ (d : Dfa) (q : Search) (old new : CacheValue) where
   refusal_told : (k : MatchErrorKind) (o : Option StartError) → start_refusal d told_of_it ≡ o →
       AnswersStart d old new told_of_it quits_at begins (Err k) →
       (refused k ≡ Err (GaveUp begins) → new ≡ old) → FailsAt k
-  refusal_told k None e a same = let x = a.err e in caused k x.0 x.1 x.2 same
+  refusal_told k None e a same = let x = a.err e in caused k x.0 x.1 x.2 same e
   refusal_told k (Some x) e a same = inl (λ n. some_none x (sym e ∙ n), pass_refused k x e a)
     where
       some_none : (x : StartError) → Some x ≡ None → ⊥

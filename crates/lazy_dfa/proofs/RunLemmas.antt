@@ -18,9 +18,10 @@ use Rattle.lazy_dfa.specs.Dfas.{Dfa, IsDfa, reader}
 use Rattle.lazy_dfa.specs.Linked.{IsLinkedOver, Grows, HasCleared, GrowsOrClears, IsMoved}
 use Rattle.lazy_dfa.specs.MadePasses.{span_len}
 use Rattle.lazy_dfa.specs.Passes.{index_at, is_empty, is_dead, pass_from}
-use Rattle.lazy_dfa.specs.PassLaws.{units_read, unit_of}
+use Rattle.lazy_dfa.specs.PassLaws.{units_read, unit_of, HasNoQuit}
+use Rattle.lazy_dfa.proofs.WalkQuitLemmas.{no_quit_once, no_quit_read, no_quit_on}
 use Rattle.lazy_dfa.specs.Points.{Point, Follows, IsFree, GoesTo, point}
-use Rattle.lazy_dfa.specs.Readers.{HalfAnswer, found, quit}
+use Rattle.lazy_dfa.specs.Readers.{HalfAnswer, found, quit, is_quit}
 use Rattle.lazy_dfa.specs.SearchAnswers.{half_of, pair_of, told, give_up_place, Told, told_of, pass_distance, running_at}
 use Rattle.lazy_dfa.specs.PassPlaces.{last_place, came, tells, BeganFirst, told_behind, GoesBetween, EndsWith, RestAnew, IsRestTold, RunsOn}
 use Rattle.lazy_dfa.specs.Steps.{most_inserts}
@@ -295,9 +296,11 @@ module _ (d : Dfa) (q : Search) (made : IsDfa d) (bytes : AreBytes q.haystack) (
 
     pub runs_gave_up : (y : ℕ) → y ≡ give_up_place d.nfa.automaton.reverse (span_len q) from.at k →
         ((t : StateValue) → HeldAt p.cache p.id t → lacks_room d new (state_behind (reader d) h p.at t 1) ≡ true) →
-        (k < span_len q → running_at new.progress ≡ Some y) → Left new (GaveUp y) → RunsOn d q s from new m n (Err (GaveUp y))
-    runs_gave_up y place lacks runs left = record {
-      answer = inr (inr (y, k, refl, reads_this, place, sym (ap (lacks_room d new) next_is) ∙ lacks state held_here, runs));
+        (k < span_len q → running_at new.progress ≡ Some y) → is_quit d.quits (unit_at d.nfa.automaton.reverse h p.at) ≡ false →
+        Left new (GaveUp y) →
+        RunsOn d q s from new m n (Err (GaveUp y))
+    runs_gave_up y place lacks runs quiet left = record {
+      answer = inr (inr (y, k, refl, reads_this, place, sym (ap (lacks_room d new) next_is) ∙ lacks state held_here, runs, no_quits quiet));
       kept = kept_on new m n x.leaves;
       follows = tt;
       free = λ linked. absurd (x.unknown (free_here new m n x.leaves linked).1);
@@ -306,6 +309,12 @@ module _ (d : Dfa) (q : Search) (made : IsDfa d) (bytes : AreBytes q.haystack) (
       anew = left;
       changes = changes_here new m n x.leaves;
     }
+      where
+        no_quits : is_quit d.quits (unit_at d.nfa.automaton.reverse h p.at) ≡ false → HasNoQuit (reader d) h from.at (suc k)
+        no_quits quiet = let one : k + 1 ≡ suc k = omega arith in
+            subst (HasNoQuit (reader d) h from.at) one
+            (no_quit_on (reader d) h from.at p.at k 1 goes.place (no_quit_read (reader d) h from.at s k read)
+            (no_quit_once (reader d) h p.at quiet))
 
   -- ---- with what was found
 

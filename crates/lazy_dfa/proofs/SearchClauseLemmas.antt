@@ -93,8 +93,8 @@ module _ (d : Dfa) (v : CacheValue) (none : clears_of d.options ≡ None) where
       (bytes_of d.options) v none)
 
   pub never_here : (mode : Anchored) (earliest : Bool) (h : List ℕ) (n i x : ℕ) → GivesUpIn d v mode earliest h n i x → ⊥
-  never_here mode earliest h n i x (at_start place lacks) = has_room (first_value (reader d) mode h i) lacks
-  never_here mode earliest h n i x (at_unit k less place lacks runs) =
+  never_here mode earliest h n i x (at_start place lacks free) = has_room (first_value (reader d) mode h i) lacks
+  never_here mode earliest h n i x (at_unit k less place lacks runs free quits) =
       has_room (state_behind (reader d) h i (first_value (reader d) mode h i) (suc k)) lacks
 
   pub never_among : (q : Search) (x : ℕ) (ps : List (ℕ × ℕ)) → GivesUpAmong d v q x ps → ⊥

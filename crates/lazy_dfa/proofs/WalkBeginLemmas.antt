@@ -17,20 +17,22 @@ use Rattle.lazy_dfa.specs.Ids.{has_tag, dead_tag}
 use Rattle.lazy_dfa.specs.Linked.{Grows, HasCleared, IsMoved}
 use Rattle.lazy_dfa.specs.MadePasses.{span_len}
 use Rattle.lazy_dfa.specs.Passes.{is_dead, first_value, pass}
+use Rattle.lazy_dfa.specs.PassLaws.{HasNoQuit}
 use Rattle.lazy_dfa.specs.Scans.{first_place}
 use Rattle.lazy_dfa.specs.ScanLaws.{begins_at}
 use Rattle.lazy_dfa.specs.SearchAnswers.{told, Told, told_of, pass_distance}
-use Rattle.lazy_dfa.specs.PassPlaces.{left_at, pass_start, StartsPass}
+use Rattle.lazy_dfa.specs.PassPlaces.{came, left_at, pass_start, StartsPass}
 use Rattle.lazy_dfa.specs.StartCalls.{start_refusal}
 use Rattle.lazy_dfa.specs.Steps.{Grew, WasCleared, most_inserts}
 use Rattle.lazy_dfa.specs.Walks.{nothing_left, refused, whole_rest, rest_of, WalkState}
 use Rattle.lazy_dfa.specs.WalkAnswers.{reads_on, units_there, call_units, call_starts, TellsNext, at_start, AnswersWalk, failed_by}
-use Rattle.lazy_dfa.specs.WalkAnswers.{told_by_call, value_before, ReadsOn, MakesCall}
+use Rattle.lazy_dfa.specs.WalkAnswers.{told_by_call, value_before, ReadsOn, MakesCall, StartsQuietly, HasReadQuietly}
 use Rattle.lazy_dfa.proofs.LinkedLemmas.{grows_trans, grew_grows, has_cleared, start_grows_of, cleared_grows, grows_or_clears_trans}
 use Rattle.lazy_dfa.proofs.LinkedLemmas.{grows_moved}
 use Rattle.lazy_dfa.proofs.SearchEndLemmas.{not_done, is_over}
 use Rattle.lazy_dfa.proofs.WalkLeftLemmas.{begun_rest, begun_units, begun_value, dead_rest, dead_units, whole_from, done_left}
 use Rattle.lazy_dfa.proofs.WalkLeftLemmas.{refused_whole, fit_whole}
+use Rattle.lazy_dfa.proofs.WalkQuitLemmas.{no_quit_yet, came_first}
 use Rattle.lazy_dfa.proofs.WholePassLemmas.{min_twice, dead_named, row_named, same_told}
 use Rattle.lazy_dfa.proofs.WalkCallLemmas.{fine, failure, ended, tells_refusal, tells_none, still_call, told_with, makes_on, MakesIts}
 
@@ -38,7 +40,7 @@ use Rattle.lazy_dfa.proofs.WalkCallLemmas.{fine, failure, ended, tells_refusal, 
 pub done_call : (d : Dfa) (q : Search) (v : CacheValue) (m n : ℕ) → nat_le q.start q.end ≡ false →
     MakesCall d q v v m m n n Fresh ended fine
 done_call d q v m n done = still_call d q v m n Fresh ended fine (tells_none (reader d) q Fresh (done_left d q done))
-    (ap (λ (b : Bool). b && is_supported (reader d).starts_for_each_pattern q.anchored) done) tt tt (λ none. refl)
+    (ap (λ (b : Bool). b && is_supported (reader d).starts_for_each_pattern q.anchored) done) tt tt (λ none. refl) (λ quiet. tt)
 
 -- ---- starts
 
@@ -75,11 +77,12 @@ module _ (d : Dfa) (q : Search) (old new : CacheValue) (m1 m2 n1 n2 : ℕ) (begu
   told_refused (Some x) is some t = tells_refusal (reader d) q Fresh (refused e) e (refused_whole d q begun e x is t) refl refl
 
   answered_start : ((start_refusal d (pass_start d q) ≢ None) × IsTold) ⊎ (e ≡ NoMemory) ⊎
-      ((e ≡ GaveUp begins) × (lacks_room d new (first_value (reader d) q.anchored q.haystack begins) ≡ true)) →
+      ((e ≡ GaveUp begins) × (lacks_room d new (first_value (reader d) q.anchored q.haystack begins) ≡ true) ×
+      (start_refusal d (pass_start d q) ≡ None)) →
       AnswersWalk d new q Fresh (failed_by e) (failure e)
   answered_start (inl x) = inl (told_refused (start_refusal d (pass_start d q)) refl x.0 x.1)
   answered_start (inr (inl lacks)) = inr (inl (ap failure lacks))
-  answered_start (inr (inr g)) = inr (inr (begins, ap failure g.0, at_start refl refl g.1))
+  answered_start (inr (inr g)) = inr (inr (begins, ap failure g.0, at_start refl refl g.1 g.2))
 
   pub refused_call : MakesCall d q old new m1 m2 n1 n2 Fresh (failed_by e) (failure e)
   refused_call = record {
@@ -94,6 +97,7 @@ module _ (d : Dfa) (q : Search) (old new : CacheValue) (m1 m2 n1 n2 : ℕ) (begu
     determinized = few_at_start m1 m2 (call_units (reader d) q Fresh) (call_starts q Fresh) (one_start q begun) start.determinized;
     inserted = few_put_at_start n1 n2 (call_units (reader d) q Fresh) (call_starts q Fresh) (most_inserts d)
         (one_start q begun) start.inserted;
+    quits = λ quiet. tt;
   }
 
 abbrev told_short : ℕ → Told
@@ -198,10 +202,18 @@ module _ (d : Dfa) (q : Search) (old mid : CacheValue) (m1 m n1 n id : ℕ) (beg
       determinized = few_at_start m1 m (call_units (reader d) q Fresh) (call_starts q Fresh) (one_start q begun) start.determinized;
       inserted = few_put_at_start n1 n (call_units (reader d) q Fresh) (call_starts q Fresh) (most_inserts d)
           (one_start q begun) start.inserted;
+      quits = λ quiet. tt;
     }
       where
         still_there : Grows d mid new
         still_there = grows_moved d mid new moved
+
+  -- nothing is read yet
+  begins_quietly : HasReadQuietly d q Fresh → StartsQuietly d q (came d.nfa.automaton.reverse q from)
+  begins_quietly quiet = (
+    start.start.0,
+    subst (HasNoQuit (reader d) q.haystack from) (sym (came_first d.nfa.automaton.reverse q)) (no_quit_yet (reader d) q.haystack from),
+  )
 
   -- or it isn't, and the walk reads on
   module _ (is_reverse : Bool) (is : is_reverse ≡ d.nfa.automaton.reverse) where
@@ -213,5 +225,5 @@ module _ (d : Dfa) (q : Search) (old mid : CacheValue) (m1 m n1 n id : ℕ) (beg
         ReadsOn d q (first_place is_reverse q.start q.end) mid new m m2 n n2 result → MakesIts d q Fresh old new m1 m2 n1 n2 result
     begins_walk new m2 n2 result x =
         makes_on d q Fresh old mid new m1 m m2 n1 n n2 made own reads_first (fits.1 ∙ begun_rest (reader d) q) (begun_units (reader d) q)
-        so_far few_starts few_starts_put result (subst (λ (b : Bool). ReadsOn d q (first_place b q.start q.end) mid new m m2 n n2 result) is
+        so_far few_starts few_starts_put (λ fresh. start.start.0) begins_quietly result (subst (λ (b : Bool). ReadsOn d q (first_place b q.start q.end) mid new m m2 n n2 result) is
         x)

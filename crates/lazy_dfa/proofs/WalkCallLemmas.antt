@@ -8,16 +8,18 @@ use Rattle.search_types.specs.Inputs.{Search}
 use Rattle.nfa_core.specs.Places.{first}
 use Rattle.lazy_dfa.specs.Caches.{CacheValue, IsCacheOf, greatest, progress_len}
 use Rattle.lazy_dfa.specs.declared.overlapping_state.Walk.{Walk}
-use Rattle.lazy_dfa.specs.declared.overlapping_state.Walk.TheVariants.{Ended, Failed}
+use Rattle.lazy_dfa.specs.declared.overlapping_state.Walk.TheVariants.{Fresh, Ended, Failed}
 use Rattle.lazy_dfa.specs.Dfas.{Dfa, IsDfa, reader}
 use Rattle.lazy_dfa.specs.Linked.{Grows, HasCleared, GrowsOrClears}
 use Rattle.lazy_dfa.specs.Readers.{Reader}
 use Rattle.lazy_dfa.specs.SearchAnswers.{half_of, Told, told_of, pass_distance}
-use Rattle.lazy_dfa.specs.PassPlaces.{left_at}
+use Rattle.lazy_dfa.specs.PassPlaces.{came, left_at, pass_start}
+use Rattle.lazy_dfa.specs.StartCalls.{start_refusal}
 use Rattle.lazy_dfa.specs.Steps.{most_inserts}
 use Rattle.lazy_dfa.specs.Walks.{Rest, nothing_left, refused, others, rest_of, IsWalk, WalkState}
 use Rattle.lazy_dfa.specs.WalkAnswers.{reads_on, call_place, units_there, call_units, call_starts, told_left, TellsNext, GivesUpOn, at_unit}
 use Rattle.lazy_dfa.specs.WalkAnswers.{AnswersWalk, failed_by, told_by_call, rest_at, units_at, told_from, GivesUpFrom, ReadsOn, MakesCall}
+use Rattle.lazy_dfa.specs.WalkAnswers.{StartsQuietly, HasReadQuietly}
 use Rattle.lazy_dfa.proofs.LinkedLemmas.{grows_refl, grows_trans, cleared_grows, grows_or_clears_trans}
 
 abbrev pub fine : Result ⊤ MatchErrorKind
@@ -71,8 +73,9 @@ module _ (d : Dfa) (q : Search) (v : CacheValue) (m n : ℕ) (w : Walk) (after :
     (tells : TellsNext (reader d) q w after result) (silent : reads_on (reader d) q w ≡ false) where
   pub still_call : IsWalk d v q after.walk → IfErr result (λ e. after ≡ failed_by e) →
       OnOk result (after.found ≡ None → after.walk ≡ Ended) →
+      (HasReadQuietly d q w → HasReadQuietly d q after.walk) →
       MakesCall d q v v m m n n w after result
-  still_call walk failed ends = record {
+  still_call walk failed ends quits = record {
     answer = inl tells;
     walk = walk;
     failed = failed;
@@ -83,6 +86,7 @@ module _ (d : Dfa) (q : Search) (v : CacheValue) (m n : ℕ) (w : Walk) (after :
     quiet = λ none quiet. (refl, refl, refl);
     determinized = omega arith;
     inserted = omega arith;
+    quits = quits;
   }
     where
       same_told : told_by_call (reader d) q w (told_of v) ≡ told_of v
@@ -95,12 +99,13 @@ module _ (d : Dfa) (q : Search) (v : CacheValue) (m n : ℕ) (w : Walk) (after :
 
 pub ended_call : (d : Dfa) (q : Search) (v : CacheValue) (m n : ℕ) → MakesCall d q v v m m n n Ended ended fine
 ended_call d q v m n = still_call d q v m n Ended ended fine (tells_none (reader d) q Ended refl) refl tt tt (λ none. refl)
+    (λ quiet. tt)
 
 pub failed_call : (d : Dfa) (q : Search) (v : CacheValue) (m n : ℕ) (e : MatchErrorKind) →
     MakesCall d q v v m m n n (Failed e) (failed_by e) (failure e)
 failed_call d q v m n e =
     still_call d q v m n (Failed e) (failed_by e) (failure e) (tells_refusal (reader d) q (Failed e) (refused e) e refl refl refl) refl tt
-    refl tt
+    refl tt (λ quiet. tt)
 
 -- ---- calls that read on
 
@@ -118,7 +123,9 @@ module _ (d : Dfa) (q : Search) (w : Walk) (old mid new : CacheValue) (m1 m m2 n
     (left : rest_of (reader d) q w ≡ rest_at (reader d) q (call_place (reader d) q w))
     (units : units_there (reader d) q w ≡ units_at (reader d) q (call_place (reader d) q w))
     (before : (Grows d old mid × (told_of mid ≡ told_of old)) ⊎ HasCleared old mid)
-    (few : m ≤ m1 + call_starts q w) (few_put : n ≤ n1 + call_starts q w * most_inserts d) where
+    (few : m ≤ m1 + call_starts q w) (few_put : n ≤ n1 + call_starts q w * most_inserts d)
+    (free : w ≡ Fresh → start_refusal d (pass_start d q) ≡ None)
+    (past : HasReadQuietly d q w → StartsQuietly d q (came d.nfa.automaton.reverse q (call_place (reader d) q w))) where
   abbrev r : Reader
   r = reader d
 
@@ -132,7 +139,7 @@ module _ (d : Dfa) (q : Search) (w : Walk) (old mid new : CacheValue) (m1 m m2 n
   same_units = ap (λ (b : Bool). if b then units_there r q w else 0) reads ∙ units
 
   gives_up : (x : ℕ) → GivesUpFrom d new q at x → GivesUpOn d new q w x
-  gives_up x g = at_unit g.unit (subst (λ (k : ℕ). g.unit < k) (sym same_units) g.read) g.place g.lacks g.running
+  gives_up x g = at_unit g.unit (subst (λ (k : ℕ). g.unit < k) (sym same_units) g.read) g.place g.lacks g.running free g.quits
 
   abbrev told_after : ℕ → Told
   told_after k =
@@ -181,6 +188,7 @@ module _ (d : Dfa) (q : Search) (w : Walk) (old mid new : CacheValue) (m1 m m2 n
     quiet = λ none quiet. reads_not quiet;
     determinized = few_more m1 m m2 (call_starts q w) (units_at r q at) (call_units r q w) same_units few x.determinized;
     inserted = few_more_put n1 n n2 (call_starts q w) (units_at r q at) (call_units r q w) (most_inserts d) same_units few_put x.inserted;
+    quits = λ quiet. x.quits (past quiet);
   }
 
   answered : (e : MatchErrorKind) →
@@ -203,6 +211,7 @@ module _ (d : Dfa) (q : Search) (w : Walk) (old mid new : CacheValue) (m1 m m2 n
     quiet = λ none quiet. reads_not quiet;
     determinized = few_more m1 m m2 (call_starts q w) (units_at r q at) (call_units r q w) same_units few x.determinized;
     inserted = few_more_put n1 n n2 (call_starts q w) (units_at r q at) (call_units r q w) (most_inserts d) same_units few_put x.inserted;
+    quits = λ quiet. tt;
   }
 
   -- both, by what came of it

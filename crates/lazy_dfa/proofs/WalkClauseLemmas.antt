@@ -25,9 +25,9 @@ none_refused (x ∷ xs) = tt
 -- where no least count of clears is set and no refusal is left, memory alone may lack
 module _ (d : Dfa) (q : Search) (v : CacheValue) (w : Walk) (after : WalkState) (none : clears_of d.options ≡ None) where
   never_gives_up : (x : ℕ) → GivesUpOn d v q w x → ⊥
-  never_gives_up x (at_start fresh place lacks) =
+  never_gives_up x (at_start fresh place lacks free) =
       has_room d v none (first_value (reader d) q.anchored q.haystack (begins_at (reader d) q)) lacks
-  never_gives_up x (at_unit k less place lacks runs) =
+  never_gives_up x (at_unit k less place lacks runs free quits) =
       has_room d v none (value_past (reader d) q (place_of d.nfa.automaton.reverse (call_place (reader d) q w) k)) lacks
 
   sure_by : (result : Result ⊤ MatchErrorKind) → (rest_of (reader d) q w).refusal ≡ None →

@@ -22,21 +22,25 @@ use Rattle.lazy_dfa.specs.Dfas.{Dfa, IsDfa, reader}
 use Rattle.lazy_dfa.specs.Linked.{Grows, HasCleared, GrowsOrClears, IsMoved}
 use Rattle.lazy_dfa.specs.Passes.{is_dead, is_empty, next_value, next_place}
 use Rattle.lazy_dfa.specs.Points.{Point, point, began, Follows, GoesTo}
+use Rattle.lazy_dfa.specs.PassLaws.{HasNoQuit}
 use Rattle.lazy_dfa.specs.Readers.{is_quit}
+use Rattle.lazy_dfa.specs.ScanLaws.{begins_at}
 use Rattle.lazy_dfa.specs.SearchAnswers.{half_of, pair_of, told_of, pass_distance}
-use Rattle.lazy_dfa.specs.PassPlaces.{last_place, left_at, IsWithinSpan, gave_up_at, GoesBetween}
+use Rattle.lazy_dfa.specs.PassPlaces.{last_place, came, left_at, IsWithinSpan, gave_up_at, GoesBetween}
 use Rattle.lazy_dfa.specs.Steps.{most_inserts}
 use Rattle.lazy_dfa.specs.Turns.{Leaves}
 use Rattle.lazy_dfa.specs.Walks.{Rest, WalkState, nothing_left, onto, others, listed, rest_from, rest_of, value_past, rest_past, StopsAt}
 use Rattle.lazy_dfa.specs.Walks.{IsWalk}
 use Rattle.lazy_dfa.specs.WalkAnswers.{units_met, told_left, value_before, rest_at, units_at, told_from, GivesUpFrom, ReadsOn}
+use Rattle.lazy_dfa.specs.WalkAnswers.{StartsQuietly, HasReadQuietly}
 use Rattle.lazy_dfa.specs.WalkTurns.{tells_end, TellsNone, stopped, Refuses, StopsWith, ReadsInto}
 use Rattle.lazy_dfa.proofs.CourseLemmas.{not_dead}
 use Rattle.lazy_dfa.proofs.LinkedLemmas.{grows_trans, cleared_grows, grows_or_clears_trans, grows_moved}
 use Rattle.lazy_dfa.proofs.PassLoopLemmas.{next_within}
 use Rattle.lazy_dfa.proofs.RunLemmas.{row_holds, half_back}
 use Rattle.lazy_dfa.proofs.SpanTurnLemmas.{held_moved, finished_moves, told_there}
-use Rattle.lazy_dfa.proofs.WalkPlaceLemmas.{left_next, comes_far, past_next, past_one, value_later, rest_later, units_later}
+use Rattle.lazy_dfa.proofs.WalkQuitLemmas.{no_quit_yet, no_quit_once, no_quit_read, no_quit_on, came_steps}
+use Rattle.lazy_dfa.proofs.WalkPlaceLemmas.{place_came, left_next, comes_far, past_next, past_one, value_later, rest_later, units_later}
 use Rattle.lazy_dfa.proofs.WalkRestLemmas.{some_listed, none_left, dead_left, step_left, quit_left, pass_left, pass_units, tell_units}
 use Rattle.lazy_dfa.proofs.WalkRestLemmas.{some_units}
 use Rattle.lazy_dfa.proofs.WholePassLemmas.{min_twice}
@@ -65,6 +69,7 @@ pub record StandsOn (d : Dfa) (q : Search) (from p : Point) : Type 0 where
   pub running : IsSome p.cache.progress
   pub determinized : p.determinized ≤ from.determinized + steps
   pub inserted : p.inserted ≤ from.inserted + steps * most_inserts d
+  pub quits : HasNoQuit (reader d) q.haystack from.at steps
 
 -- nothing else of the cache changes where it begins
 pub started_moves : (v w : CacheValue) (index : ℕ) → w ≡ record v {
@@ -96,6 +101,7 @@ begins_on d q v w m n at id index best best2 e there held = record {
   running = subst (λ (c : CacheValue). IsSome c.progress) (sym e) refl;
   determinized = omega arith;
   inserted = omega arith;
+  quits = no_quit_yet (reader d) q.haystack at;
 }
   where
     moved : IsMoved v w
@@ -158,6 +164,7 @@ module _ (d : Dfa) (q : Search) (made : IsDfa d) (from p : Point) (own : IsCache
           running = g.running x.running;
           determinized = let a = x.determinized in let b = g.determinized in omega (arith, a, b);
           inserted = sum_of from.inserted p.inserted c.inserted x.steps l (most_inserts d) x.inserted g.inserted;
+          quits = no_quit_on (reader d) h from.at p.at x.steps l x.place x.quits (no_quit_read (reader d) h p.at now l read);
         }
       where
         sum_left : (a b c : ℕ) → a ≡ x.steps + b → b ≡ l + c → a ≡ x.steps + l + c
@@ -210,6 +217,7 @@ module _ (d : Dfa) (q : Search) (made : IsDfa d) (from p : Point) (own : IsCache
       told = tt;
       determinized = few leaves.determinized;
       inserted = few_names leaves.inserted;
+      quits = tt;
     }
 
     pub ends_refused : (e : MatchErrorKind) → Refuses d q p v m n e → ReadsOn d q from.at from.cache v from.determinized m from.inserted n
@@ -228,6 +236,8 @@ module _ (d : Dfa) (q : Search) (made : IsDfa d) (from p : Point) (own : IsCache
         lacks = ap (λ (i : ℕ). lacks_room d v (value_past (reader d) q i)) (sym x.place)
             ∙ (ap (lacks_room d v) (sym (past_one (reader d) q p.at within)) ∙ t.3 now x.state);
         running = λ far. t.4 (λ e. far (sym x.place ∙ e));
+        quits = let one : x.steps + 1 ≡ suc x.steps = omega arith in subst (HasNoQuit (reader d) h from.at) one
+            (no_quit_on (reader d) h from.at p.at x.steps 1 x.place x.quits (no_quit_once (reader d) h p.at t.1));
       },
     )))
     ends_refused NoMemory t = refuses NoMemory t.leaves (inr (inl refl))
@@ -244,8 +254,8 @@ module _ (d : Dfa) (q : Search) (made : IsDfa d) (from p : Point) (own : IsCache
     is_told : tells ≡ tells_end (reader d) h p.at (next_value (reader d) h p.at now)
     is_told = t.listed now x.state ∙ ap (tells_end (reader d) h p.at) (sym next_is)
 
-    quiet : is_quit (reader d).quits (unit_at rev h p.at) ≡ false
-    quiet = ap (λ (i : ℕ). is_quit (reader d).quits (unit_at rev h i)) (sym (place_zero rev p.at))
+    quiet_here : is_quit (reader d).quits (unit_at rev h p.at) ≡ false
+    quiet_here = ap (λ (i : ℕ). is_quit (reader d).quits (unit_at rev h i)) (sym (place_zero rev p.at))
         ∙ (t.goes.read now (names_held x.state) 0 (omega arith)).quiet
 
     -- one unit more was read
@@ -299,8 +309,19 @@ module _ (d : Dfa) (q : Search) (made : IsDfa d) (from p : Point) (own : IsCache
         (rest_of (reader d) q w.walk ≡ others (rest_at (reader d) q from.at)) ×
         IsWalk d v q w.walk × (w.found ≡ None → w.walk ≡ Ended)
 
-    stops_so : (w : WalkState) → IsAnswer w → ReadsOn d q from.at from.cache v from.determinized m from.inserted n (Ok w)
-    stops_so w ok = record {
+    -- it has read the unit here
+    quietly : StartsQuietly d q (came rev q from.at) → StartsQuietly d q (suc (came rev q p.at))
+    quietly quiet = (
+      quiet.0,
+      subst (HasNoQuit (reader d) h (begins_at (reader d) q)) (came_steps rev q from.at p.at x.steps start within x.left)
+          (no_quit_on (reader d) h (begins_at (reader d) q) from.at (came rev q from.at) (x.steps + 1)
+          (sym (place_came rev q from.at start)) quiet.1
+          (no_quit_on (reader d) h from.at p.at x.steps 1 x.place x.quits (no_quit_once (reader d) h p.at quiet_here))),
+    )
+
+    stops_so : (w : WalkState) → IsAnswer w → (StartsQuietly d q (came rev q from.at) → HasReadQuietly d q w.walk) →
+        ReadsOn d q from.at from.cache v from.determinized m from.inserted n (Ok w)
+    stops_so w ok quits = record {
       ok = ok;
       err = tt;
       kept = ⊎_elim
@@ -318,12 +339,13 @@ module _ (d : Dfa) (q : Search) (made : IsDfa d) (from p : Point) (own : IsCache
           kept_there;
       determinized = many v m n 1 (omega arith) all_units t.goes.determinized;
       inserted = many_names v m n units (let e = all_units in omega (arith, e)) t.goes.inserted;
+      quits = quits;
     }
 
     -- with none
     ends_none : tells ≡ false → IsAnswer (stopped false position.id position.at position.best)
     ends_none e =
-        let passed = pass_left (reader d) h (left_at rev q p.at) p.at now alive quiet (sym is_told ∙ e) in
+        let passed = pass_left (reader d) h (left_at rev q p.at) p.at now alive quiet_here (sym is_told ∙ e) in
         let all : rest_at (reader d) q from.at ≡ nothing_left = x.rest ∙ (passed ∙ by_why (t.why e now x.state)) in (
           ap (λ (rest : Rest). told_left rest.ends rest.refusal) all,
           sym (ap (λ (rest : Rest). half_of (first rest.ends)) all),
@@ -348,7 +370,7 @@ module _ (d : Dfa) (q : Search) (made : IsDfa d) (from p : Point) (own : IsCache
     counted = counts (reader d).between_characters h
 
     lists_all : rest_at (reader d) q from.at ≡ onto (listed counted p.at past.matches) (rest_past (reader d) q p.at)
-    lists_all = x.rest ∙ (step_left (reader d) h (left_at rev q p.at) p.at now alive quiet
+    lists_all = x.rest ∙ (step_left (reader d) h (left_at rev q p.at) p.at now alive quiet_here
         ∙ ap (λ (s : StateValue). onto (listed counted p.at s.matches)
         (rest_from (reader d) h (left_at rev q p.at) (next_place (reader d) p.at) s))
         (sym (past_next (reader d) q p.at within)))
@@ -384,8 +406,13 @@ module _ (d : Dfa) (q : Search) (made : IsDfa d) (from p : Point) (own : IsCache
 
     pub ends_over : ReadsOn d q from.at from.cache v from.determinized m from.inserted n
         (Ok (stopped tells position.id position.at position.best))
-    ends_over = stops_so (stopped tells position.id position.at position.best) (by tells refl)
+    ends_over = stops_so (stopped tells position.id position.at position.best) (by tells refl) (quiet_by tells)
       where
+        quiet_by : (b : Bool) → StartsQuietly d q (came rev q from.at) →
+            HasReadQuietly d q (stopped b position.id position.at position.best).walk
+        quiet_by true before = subst (λ (i : ℕ). StartsQuietly d q (suc (came rev q i))) (sym t.place) (quietly before)
+        quiet_by false before = tt
+
         by : (b : Bool) → tells ≡ b → IsAnswer (stopped tells position.id position.at position.best)
         by true e = subst (λ (b : Bool). IsAnswer (stopped b position.id position.at position.best)) (sym e) (ends_some e)
         by false e = subst (λ (b : Bool). IsAnswer (stopped b position.id position.at position.best)) (sym e) (ends_none e)

@@ -10,12 +10,15 @@ use Rattle.nfa_core.specs.Places.{first}
 use Rattle.nfa_core.specs.Ways.{place_of}
 use Rattle.lazy_dfa.specs.Caches.{CacheValue, IsCacheOf, HeldAt}
 use Rattle.lazy_dfa.specs.declared.overlapping_state.Stop.{Stop}
-use Rattle.lazy_dfa.specs.declared.overlapping_state.Walk.TheVariants.{Ended, Stopped}
+use Rattle.lazy_dfa.specs.declared.overlapping_state.Walk.TheVariants.{Fresh, Ended, Stopped}
 use Rattle.lazy_dfa.specs.Dfas.{Dfa, IsDfa, reader}
 use Rattle.lazy_dfa.specs.SearchAnswers.{half_of}
-use Rattle.lazy_dfa.specs.PassPlaces.{last_place, IsWithinSpan}
+use Rattle.lazy_dfa.specs.Passes.{next_place}
+use Rattle.lazy_dfa.specs.PassPlaces.{came, last_place, IsWithinSpan}
 use Rattle.lazy_dfa.specs.Walks.{Rest, onto, others, end_of, rest_of, rest_past, value_past, StopsAt, IsWalk, WalkState}
 use Rattle.lazy_dfa.specs.WalkAnswers.{lists_more, told_left, TellsNext, value_before, ReadsOn, MakesCall}
+use Rattle.lazy_dfa.specs.WalkAnswers.{StartsQuietly, HasReadQuietly}
+use Rattle.lazy_dfa.proofs.WalkQuitLemmas.{came_next}
 use Rattle.lazy_dfa.proofs.LinkedLemmas.{grows_refl}
 use Rattle.lazy_dfa.proofs.WalkLeftLemmas.{next_within, past_last, past_value, past_rest, past_units, lists_none, lists_one}
 use Rattle.lazy_dfa.proofs.WalkCallLemmas.{fine, ended, tells_none, still_call, makes_on, MakesIts}
@@ -41,7 +44,7 @@ module _ (d : Dfa) (q : Search) (v : CacheValue) (m n : ℕ) (stop : Stop) (stop
   more_call after is found walk =
       still_call d q v m n (Stopped stop) after fine tells (ap (λ (b : Bool). not (b
       || stop.at == last_place d.nfa.automaton.reverse q)) is)
-      (subst (IsWalk d v q) (sym walk) goes) tt (λ none. never (sym none ∙ found))
+      (subst (IsWalk d v q) (sym walk) goes) tt (λ none. never (sym none ∙ found)) (λ quiet. subst (HasReadQuietly d q) (sym walk) quiet)
     where
       one : ((if counted then map (end_of stop.at) (drop stop.index listing) else []) ≡
           (stop.at, slice_index listing stop.index) ∷ (if counted then map (end_of stop.at) (drop (stop.index + 1) listing) else [])) ×
@@ -77,7 +80,7 @@ module _ (d : Dfa) (q : Search) (v : CacheValue) (m n : ℕ) (stop : Stop) (stop
         still_call d q v m n (Stopped stop) ended fine
         (tells_none (reader d) q (Stopped stop) (behind ∙ past_last (reader d) q stop.at stops.within last))
         (ap (λ (b : Bool). not (more || b)) (is_same stop.at (last_place d.nfa.automaton.reverse q) last) ∙ or_true more)
-        tt tt (λ none. refl)
+        tt tt (λ none. refl) (λ quiet. tt)
       where
         last : stop.at ≡ last_place d.nfa.automaton.reverse q
         last = subst (λ (b : Bool). stop.at ≡ last_place b q) is here
@@ -112,8 +115,14 @@ module _ (d : Dfa) (q : Search) (v : CacheValue) (m n : ℕ) (stop : Stop) (made
       ∙ ap not (is_other stop.at (last_place d.nfa.automaton.reverse q) apart_so))
       (behind d q v m n stop stops no_more ∙ past_rest (reader d) q stop.at stops.within apart_so)
       (past_units (reader d) q stop.at stops.within apart_so)
-      (inl (grows_refl d v, refl)) (omega arith) (omega arith) result
+      (inl (grows_refl d v, refl)) (omega arith) (omega arith) (λ fresh. no_fresh fresh) resumes_quietly result
       (subst (λ (b : Bool). ReadsOn d q (place_of b stop.at 1) v new m m2 n n2 result) is x)
     where
+      no_fresh : {P : Type 0} → Stopped stop ≡ Fresh → P
+      no_fresh e = let never : true ≡ false = cc in absurd (true≢false never)
+
+      resumes_quietly : HasReadQuietly d q (Stopped stop) → StartsQuietly d q (came d.nfa.automaton.reverse q (next_place (reader d) stop.at))
+      resumes_quietly quiet = subst (StartsQuietly d q) (sym (came_next d.nfa.automaton.reverse q stop.at stops.within apart_so)) quiet
+
       is_other : (i j : ℕ) → i ≢ j → (i == j) ≡ false
       is_other i j ne = ⊎_elim (λ (e : (i == j) ≡ true). absurd (ne (eqb-true i j e))) (λ (e : (i == j) ≡ false). e) (cases_Bool (i == j))

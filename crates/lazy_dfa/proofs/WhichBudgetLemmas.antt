@@ -21,16 +21,18 @@ use Rattle.lazy_dfa.specs.declared.overlapping_state.Walk.TheVariants.{Fresh, En
 use Rattle.lazy_dfa.specs.Dfas.{Dfa, reader}
 use Rattle.lazy_dfa.specs.MadePasses.{span_len}
 use Rattle.lazy_dfa.specs.Passes.{index_at, index_behind, next_place, first_value}
-use Rattle.lazy_dfa.specs.PassLaws.{units_read, pass_len}
+use Rattle.lazy_dfa.specs.PassLaws.{units_read, pass_len, HasNoQuit}
 use Rattle.lazy_dfa.specs.Readers.{Reader}
 use Rattle.lazy_dfa.specs.Scans.{first_place}
 use Rattle.lazy_dfa.specs.ScanLaws.{begins_at}
 use Rattle.lazy_dfa.specs.SearchAnswers.{give_up_place, running_at, GivesUpIn, at_start, at_unit}
-use Rattle.lazy_dfa.specs.PassPlaces.{came, left_at, last_place, gave_up_at, IsWithinSpan}
+use Rattle.lazy_dfa.specs.PassPlaces.{came, left_at, last_place, gave_up_at, IsWithinSpan, pass_start}
+use Rattle.lazy_dfa.specs.StartCalls.{start_refusal}
 use Rattle.lazy_dfa.specs.Walks.{Rest, nothing_left, refused, unless_quit_at, where_supported, end_of, listed, rest_from, whole_rest}
 use Rattle.lazy_dfa.specs.Walks.{value_past, rest_past, rest_of}
 use Rattle.lazy_dfa.specs.WalkAnswers.{units_met, lists_more, reads_on, call_place, units_there, call_units, call_made, GivesUpOn}
-use Rattle.lazy_dfa.specs.WalkAnswers.{at_start as on_start, at_unit as on_unit, which_made}
+use Rattle.lazy_dfa.specs.WalkAnswers.{at_start as on_start, at_unit as on_unit, which_made, StartsQuietly, HasReadQuietly}
+use Rattle.lazy_dfa.proofs.WalkQuitLemmas.{no_quit_on}
 use Rattle.lazy_dfa.proofs.TurnLemmas.{place_next}
 use Rattle.lazy_dfa.proofs.WhichUnitLemmas.{told_at, first_met, read_behind, read_few, met_is_read, listed_place, no_first, no_head}
 use Rattle.nfa_core.proofs.ForCallers.{place_zero}
@@ -486,8 +488,8 @@ module _ (d : Dfa) (v : CacheValue) (q : Search) (x : ℕ) where
       (at ≢ last_place r.automaton.reverse q → running_at v.progress ≡ Some x)
 
   gives_up_at : (m : ℕ) → q.start ≤ q.end → is_supported r.starts_for_each_pattern q.anchored ≡ true → m < read r q (units r q) 0 →
-      GivesUpThere (place r q m) → GivesUp
-  gives_up_at m fits supported less there =
+      StartsQuietly d q (suc m) → GivesUpThere (place r q m) → GivesUp
+  gives_up_at m fits supported less quiet there =
       let few = read_few r q.haystack (begins r q) (state r q) (steps r q) (units r q) 0 in
       let small : m ≤ span_len q = omega (arith, less, few) in
       let all : pass_len r q.anchored false q.haystack (span_len q) (begins r q) ≡ read r q (units r q) 0 =
@@ -495,20 +497,22 @@ module _ (d : Dfa) (v : CacheValue) (q : Search) (x : ℕ) where
       ∙ read_at_first r q in
       at_unit m (omega (arith, less, all)) (there.0 ∙ same_give_up r.automaton.reverse q m fits small)
       (sym (ap (λ (k : ℕ). lacks_room d v (state r q (suc k))) (came_of r.automaton.reverse q m fits small)) ∙ there.1)
-      (λ before. there.2 (λ last. let end = is_last r.automaton.reverse q m fits small last in absurd (omega (arith, before, end))))
+      (λ before. there.2 (λ last. let end = is_last r.automaton.reverse q m fits small last in absurd (omega (arith, before, end)))) quiet.0 quiet.1
 
-  at_first_units : (k : ℕ) → k < call_units r q Fresh → GivesUpThere (place_of r.automaton.reverse (call_place r q Fresh) k) → GivesUp
-  at_first_units k less there =
+  at_first_units : (k : ℕ) → k < call_units r q Fresh → StartsQuietly d q (suc k) →
+      GivesUpThere (place_of r.automaton.reverse (call_place r q Fresh) k) → GivesUp
+  at_first_units k less quiet there =
       let on = whole_units (nat_le q.start q.end) (is_supported r.starts_for_each_pattern q.anchored) k
       (units_met r q.haystack (units r q) (begins r q) (start r q)) less in
       let here = on.2 in
       let few = met_first_is_read r q in
       let all = read_at_first r q in
-      gives_up_at k (leb-true q.start q.end on.0) on.1 (omega (arith, here, few, all)) there
+      gives_up_at k (leb-true q.start q.end on.0) on.1 (omega (arith, here, few, all)) quiet there
 
   at_stop_units : (stop : Stop) (k : ℕ) → IsOn r q (Stopped stop) → IsWithinSpan q stop.at → k < call_units r q (Stopped stop) →
+      HasReadQuietly d q (Stopped stop) → HasNoQuit r q.haystack (call_place r q (Stopped stop)) (suc k) →
       GivesUpThere (place_of r.automaton.reverse (call_place r q (Stopped stop)) k) → GivesUp
-  at_stop_units stop k on within less there =
+  at_stop_units stop k on within less quiet quits there =
       let begun = has_begun r q (stopped_is_on r q stop on) in
       let here = then_units (reads_on r q (Stopped stop)) k (units_there r q (Stopped stop)) less in
       let few = met_then_is_read r q stop within in
@@ -519,16 +523,26 @@ module _ (d : Dfa) (v : CacheValue) (q : Search) (x : ℕ) where
       let place_is : place_of r.automaton.reverse (call_place r q (Stopped stop)) k ≡ place r q (behind r q stop within + k) =
       ap (λ (i : ℕ). place_of r.automaton.reverse i k) (next_is r q stop within)
       ∙ place_add r.automaton.reverse (begins r q) (behind r q stop within) k in
-      gives_up_at (behind r q stop within + k) (leb-true q.start q.end begun.fits) begun.supported later (subst GivesUpThere place_is there)
+      gives_up_at (behind r q stop within + k) (leb-true q.start q.end begun.fits) begun.supported later (
+        quiet.0,
+        quiet_later (no_quit_on r q.haystack (begins r q) (next_place r stop.at) (behind r q stop within) (suc k)
+            (next_is r q stop within) quiet.1 quits),
+      ) (subst GivesUpThere place_is there)
+    where
+      quiet_later : HasNoQuit r q.haystack (begins r q) (suc (came r.automaton.reverse q stop.at) + suc k) →
+          HasNoQuit r q.haystack (begins r q) (suc (suc (came r.automaton.reverse q stop.at) + k))
+      quiet_later all m less = all m (omega (arith, less))
 
-  by_walk : (w : Walk) (k : ℕ) → IsOn r q w → IsWithinWalk q w → k < call_units r q w →
+  by_walk : (w : Walk) (k : ℕ) → IsOn r q w → IsWithinWalk q w → HasReadQuietly d q w → k < call_units r q w →
+      (w ≡ Fresh → start_refusal d (pass_start d q) ≡ None) → HasNoQuit r q.haystack (call_place r q w) (suc k) →
       GivesUpThere (place_of r.automaton.reverse (call_place r q w) k) → GivesUp
-  by_walk Fresh k on within less there = at_first_units k less there
-  by_walk Ended k on within less there = absurd (omega (arith, less))
-  by_walk (Failed e) k on within less there = absurd (omega (arith, less))
-  by_walk (Stopped stop) k on within less there = at_stop_units stop k on within less there
+  by_walk Fresh k on within quiet less free quits there = at_first_units k less (free refl, quits) there
+  by_walk Ended k on within quiet less free quits there = absurd (omega (arith, less))
+  by_walk (Failed e) k on within quiet less free quits there = absurd (omega (arith, less))
+  by_walk (Stopped stop) k on within quiet less free quits there = at_stop_units stop k on within less quiet quits there
 
   -- a call that gives up does so as a pass over the whole span would
-  pub gives_up : (w : Walk) → IsOn r q w → IsWithinWalk q w → GivesUpOn d v q w x → GivesUp
-  gives_up w on within (on_start fresh place lacks) = at_start place lacks
-  gives_up w on within (on_unit k less place lacks runs) = by_walk w k on within less (place, lacks, runs)
+  pub gives_up : (w : Walk) → IsOn r q w → IsWithinWalk q w → HasReadQuietly d q w → GivesUpOn d v q w x → GivesUp
+  gives_up w on within quiet (on_start fresh place lacks free) = at_start place lacks free
+  gives_up w on within quiet (on_unit k less place lacks runs free quits) =
+      by_walk w k on within quiet less free quits (place, lacks, runs)

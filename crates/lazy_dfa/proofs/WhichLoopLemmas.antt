@@ -23,7 +23,7 @@ use Rattle.lazy_dfa.specs.SearchAnswers.{half_of}
 use Rattle.lazy_dfa.specs.Steps.{most_inserts}
 use Rattle.lazy_dfa.specs.Walks.{Rest, whole_rest, rest_of, IsWalk, WalkState}
 use Rattle.lazy_dfa.specs.WalkAnswers.{call_made, told_left, TellsNext, AnswersWalk, MakesCall, with_pattern, is_full, with_ends, Which}
-use Rattle.lazy_dfa.specs.WalkAnswers.{which_from, which_of, AnswersWhich, MakesWhich, which_made}
+use Rattle.lazy_dfa.specs.WalkAnswers.{which_from, which_of, AnswersWhich, MakesWhich, which_made, HasReadQuietly}
 use Rattle.lazy_dfa.proofs.LinkedLemmas.{grows_refl, grows_or_clears_trans}
 use Rattle.lazy_dfa.proofs.SearchClauseLemmas.{never_here}
 use Rattle.lazy_dfa.proofs.WhichBudgetLemmas.{left_to_make, IsWithinWalk, IsOn, some_told, few_made, spends, gives_up}
@@ -126,6 +126,7 @@ pub record HasCome (d : Dfa) (q : Search) (old now : CacheValue) (m1 m2 n1 n2 : 
   pub kept : GrowsOrClears d old now
   pub determinized : m2 + left_to_make (reader d) q w ≤ m1 + which_made (reader d) q
   pub inserted : n2 + left_to_make (reader d) q w * most_inserts d ≤ n1 + which_made (reader d) q * most_inserts d
+  pub quits : HasReadQuietly d q w
 
 pub begins : (d : Dfa) (q : Search) (v : CacheValue) (m n : ℕ) (set : List Bool) (s : WalkState) →
     s ≡ record { found = None; walk = Fresh } →
@@ -139,6 +140,7 @@ begins d q v m n set s is = subst (λ (w : Walk). HasCome d q v v m m n n set se
   kept = inl (grows_refl d v);
   determinized = omega arith;
   inserted = omega arith;
+  quits = tt;
 })
 
 pub begins_well : (d : Dfa) (q : Search) (v : CacheValue) (s : WalkState) → s ≡ record { found = None; walk = Fresh } → IsWalk d v q s.walk
@@ -199,7 +201,7 @@ module _ (d : Dfa) (q : Search) (old now next : CacheValue) (m1 m2 m3 n1 n2 n3 :
       let is = nothing_told (Some e) told.0 told.1 in
       inl (ap (λ (x : Which). told_left [] x.refusal) is, ap (λ (x : Which). x.set) is)
   refused_with e (inr (inl lacks)) = inr (length stands.done, so_far_is, inl lacks)
-  refused_with e (inr (inr g)) = inr (length stands.done, so_far_is, inr (g.0, g.1, gives_up d next q g.0 w stands.on within g.2))
+  refused_with e (inr (inr g)) = inr (length stands.done, so_far_is, inr (g.0, g.1, gives_up d next q g.0 w stands.on within stands.quits g.2))
 
   pub fails : (e : MatchErrorKind) → Call (failure e) → MakesWhich d q old next m1 m3 n1 n3 set so_far (failure e)
   fails e call = over (failure e) so_far call (refused_with e call.answer)
@@ -262,6 +264,7 @@ module _ (d : Dfa) (q : Search) (old now next : CacheValue) (m1 m2 m3 n1 n2 n3 :
           stands.determinized call.determinized few_then;
       inserted = spent_on n1 n2 n3 (call_made r q w) (left_to_make r q after.walk) (left_to_make r q w) (which_made r q) (most_inserts d)
           stands.inserted call.inserted few_then;
+      quits = call.quits stands.quits;
     }
 
     pub falls : length (rest_of r q after.walk).ends < length rest.ends

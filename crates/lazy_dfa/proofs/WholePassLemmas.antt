@@ -27,7 +27,7 @@ use Rattle.lazy_dfa.specs.LeftTold.{told_from, LeftAt, is_quit_error, IsRefusedF
 use Rattle.lazy_dfa.specs.Linked.{IsLinkedOver, start_from, IsLinkedPass, Grows, HasCleared, GrowsOrClears, IsMoved}
 use Rattle.lazy_dfa.specs.MadePasses.{span_len, IsPassTold, MakesPass}
 use Rattle.lazy_dfa.specs.Passes.{is_dead, index_at, index_behind, if_supported, start_name, first_value, pass, pass_from}
-use Rattle.lazy_dfa.specs.PassLaws.{units_read, pass_len}
+use Rattle.lazy_dfa.specs.PassLaws.{units_read, pass_len, HasNoQuit}
 use Rattle.lazy_dfa.specs.Points.{point}
 use Rattle.lazy_dfa.specs.Readers.{HalfAnswer, found, is_quit}
 use Rattle.lazy_dfa.specs.Scans.{first_place}
@@ -239,10 +239,12 @@ module _ (d : Dfa) (q : Search) (old new : CacheValue) (m1 m2 n1 n2 : ℕ) (e : 
   refused_first : IsRefusedFirst d.nfa.automaton.reverse at e
   refused_first = ⊎_elim
       (λ (x : (start_refusal d (pass_start d q) ≢ None) × (Err e ≡ told whole)). by (start_refusal d (pass_start d q)) refl x.0 x.1)
-      (λ (x : (e ≡ SearchNoMemory) ⊎ ((e ≡ GaveUp at) × (lacks_room d new (first_value (reader d) q.anchored q.haystack at) ≡ true))).
+      (λ (x : (e ≡ SearchNoMemory) ⊎ ((e ≡ GaveUp at) × (lacks_room d new (first_value (reader d) q.anchored q.haystack at) ≡ true) ×
+      (start_refusal d (pass_start d q) ≡ None))).
       ⊎_elim
       (λ (f : e ≡ SearchNoMemory). subst (IsRefusedFirst d.nfa.automaton.reverse at) (sym f) tt)
-      (λ (f : (e ≡ GaveUp at) × (lacks_room d new (first_value (reader d) q.anchored q.haystack at) ≡ true)). subst
+      (λ (f : (e ≡ GaveUp at) × (lacks_room d new (first_value (reader d) q.anchored q.haystack at) ≡ true) ×
+      (start_refusal d (pass_start d q) ≡ None)). subst
       (IsRefusedFirst d.nfa.automaton.reverse at) (sym f.0) refl)
       x)
       start.err
@@ -261,13 +263,15 @@ module _ (d : Dfa) (q : Search) (old new : CacheValue) (m1 m2 n1 n2 : ℕ) (e : 
   refused_pass = record {
     answer = ⊎_elim
         (λ (x : (start_refusal d (pass_start d q) ≢ None) × (Err e ≡ told whole)). inl x.1)
-        (λ (x : (e ≡ SearchNoMemory) ⊎ ((e ≡ GaveUp at) × (lacks_room d new (first_value (reader d) q.anchored q.haystack at) ≡ true))). inr
+        (λ (x : (e ≡ SearchNoMemory) ⊎ ((e ≡ GaveUp at) × (lacks_room d new (first_value (reader d) q.anchored q.haystack at) ≡ true) ×
+        (start_refusal d (pass_start d q) ≡ None))). inr
         (⊎_elim
         (λ (f : e ≡ SearchNoMemory). inl (ap Err f))
-        (λ (f : (e ≡ GaveUp at) × (lacks_room d new (first_value (reader d) q.anchored q.haystack at) ≡ true)). inr (
+        (λ (f : (e ≡ GaveUp at) × (lacks_room d new (first_value (reader d) q.anchored q.haystack at) ≡ true) ×
+        (start_refusal d (pass_start d q) ≡ None)). inr (
           at,
           ap Err f.0,
-          at_start refl f.1,
+          at_start refl f.1 f.2,
         ))
         x))
         start.err;
@@ -494,14 +498,14 @@ module _ (d : Dfa) (q : Search) (old mid : CacheValue) (m1 m n1 n id : ℕ) (mad
         (λ (e : (result ≡ Err SearchNoMemory) ⊎ ((x k : ℕ) × (result ≡ Err (GaveUp x)) × (k < units) ×
         (x ≡ give_up_place d.nfa.automaton.reverse (span_len q) from k) ×
         (lacks_room d new (state_behind (reader d) q.haystack from first (suc k)) ≡ true) ×
-        (k < span_len q → running_at new.progress ≡ Some x))).
+        (k < span_len q → running_at new.progress ≡ Some x) × HasNoQuit (reader d) q.haystack from (suc k))).
         inr (⊎_elim
         (λ (f : result ≡ Err SearchNoMemory). inl f)
         (λ (g : (x k : ℕ) × (result ≡ Err (GaveUp x)) × (k < units) ×
         (x ≡ give_up_place d.nfa.automaton.reverse (span_len q) from k) ×
         (lacks_room d new (state_behind (reader d) q.haystack from first (suc k)) ≡ true) ×
-        (k < span_len q → running_at new.progress ≡ Some x)).
-        inr (g.0, g.2, at_unit g.1 (subst (λ (l : ℕ). g.1 < l) same_len g.3) g.4 g.5 g.6))
+        (k < span_len q → running_at new.progress ≡ Some x) × HasNoQuit (reader d) q.haystack from (suc k)).
+        inr (g.0, g.2, at_unit g.1 (subst (λ (l : ℕ). g.1 < l) same_len g.3) g.4 g.5 g.6 start.start.0 g.7))
         e))
         runs.answer
 

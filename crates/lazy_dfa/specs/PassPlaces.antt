@@ -25,7 +25,7 @@ use Rattle.lazy_dfa.specs.LeftTold.{told_at, told_finished, is_quit_error, IsRef
 use Rattle.lazy_dfa.specs.Linked.{IsLinkedOver, Grows, HasCleared, GrowsOrClears, IsMoved, start_from}
 use Rattle.lazy_dfa.specs.MadePasses.{span_len}
 use Rattle.lazy_dfa.specs.Passes.{index_at, is_dead, first_value, pass, pass_from}
-use Rattle.lazy_dfa.specs.PassLaws.{units_read}
+use Rattle.lazy_dfa.specs.PassLaws.{units_read, HasNoQuit}
 use Rattle.lazy_dfa.specs.Points.{Point, GoesTo, began}
 use Rattle.lazy_dfa.specs.Readers.{is_quit}
 use Rattle.lazy_dfa.specs.Scans.{first_place}
@@ -206,7 +206,7 @@ pub record RunsOn (d : Dfa) (q : Search) (s : StateValue) (from : Point) (new : 
       ((x k : ℕ) × (result ≡ Err (GaveUp x)) × (k < units_read (reader d) q.earliest q.haystack (suc (span_len q)) from.at s) ×
       (x ≡ give_up_place d.nfa.automaton.reverse (span_len q) from.at k) ×
       (lacks_room d new (state_behind (reader d) q.haystack from.at s (suc k)) ≡ true) ×
-      (k < span_len q → running_at new.progress ≡ Some x))
+      (k < span_len q → running_at new.progress ≡ Some x) × HasNoQuit (reader d) q.haystack from.at (suc k))
   pub kept : GrowsOrClears d from.cache new
   pub follows : OnOk result ((Grows d from.cache new ×
       IsLinkedOver d new q.haystack from.at from.id (units_read (reader d) q.earliest q.haystack (suc (span_len q)) from.at s) ×
@@ -236,7 +236,7 @@ pub record StartsPass (d : Dfa) (q : Search) (old new : CacheValue) (m1 m2 n1 n2
   pub err : IfErr r (λ e. ((start_refusal d (pass_start d q) ≢ None) ×
       (Err e ≡ told (pass (reader d) q.anchored q.earliest q.haystack (span_len q) (begins_at (reader d) q)))) ⊎ (e ≡ NoMemory) ⊎
       ((e ≡ GaveUp (begins_at (reader d) q)) × (lacks_room d new (first_value (reader d) q.anchored q.haystack (begins_at (reader d) q)) ≡
-      true)))
+      true) × (start_refusal d (pass_start d q) ≡ None)))
   pub kept : Grew d old new ⊎ WasCleared old new 1
   pub noted : IfOk r (λ id. (p : ℕ) → start_in d (mode_of q.anchored) ≡ Some p → start_noted d new (pass_start d q) ≡ id)
   pub known : (p : ℕ) → start_refusal d (pass_start d q) ≡ None → start_in d (mode_of q.anchored) ≡ Some p →

@@ -16,12 +16,13 @@ use Rattle.lazy_dfa.specs.Caches.{CacheValue, greatest, progress_len, lacks_room
 use Rattle.lazy_dfa.specs.Courses.{state_behind}
 use Rattle.lazy_dfa.specs.declared.progress.Progress.{Progress}
 use Rattle.lazy_dfa.specs.Dfas.{Dfa, reader}
-use Rattle.lazy_dfa.specs.Linked.{passes_of}
+use Rattle.lazy_dfa.specs.Linked.{passes_of, start_from}
 use Rattle.lazy_dfa.specs.Passes.{index_at, first_value, start_name}
-use Rattle.lazy_dfa.specs.PassLaws.{pass_len}
+use Rattle.lazy_dfa.specs.PassLaws.{pass_len, HasNoQuit}
 use Rattle.lazy_dfa.specs.Readers.{Reader, HalfAnswer, found, quit, unsupported, is_quit}
 use Rattle.lazy_dfa.specs.ScanLaws.{begins_at, ReadsAlike, IsFirstFound}
 use Rattle.lazy_dfa.specs.Scans.{scan}
+use Rattle.lazy_dfa.specs.StartCalls.{start_refusal}
 
 -- ---- answers
 
@@ -51,12 +52,15 @@ running_at None = None
 running_at (Some p) = Some p.at
 
 -- A pass over n bytes from place i gave up at x: its first state, or the one behind a unit that it reads, has no room, and no
--- clear is allowed. At a byte the search still goes on, and is there.
+-- clear is allowed. By then it had met nothing else that refuses it: neither at its start, nor in the units up to that one. At
+-- a byte the search still goes on, and is there.
 pub data GivesUpIn (d : Dfa) (v : CacheValue) (mode : Anchored) (earliest : Bool) (h : List ℕ) (n i x : ℕ) : Type 0 where
-  at_start : x ≡ i → lacks_room d v (first_value (reader d) mode h i) ≡ true → GivesUpIn d v mode earliest h n i x
+  at_start : x ≡ i → lacks_room d v (first_value (reader d) mode h i) ≡ true →
+      start_refusal d (start_from (reader d) mode h i) ≡ None → GivesUpIn d v mode earliest h n i x
   at_unit : (k : ℕ) → k < pass_len (reader d) mode earliest h n i → x ≡ give_up_place d.nfa.automaton.reverse n i k →
       lacks_room d v (state_behind (reader d) h i (first_value (reader d) mode h i) (suc k)) ≡ true →
       (k < n → running_at v.progress ≡ Some x) →
+      start_refusal d (start_from (reader d) mode h i) ≡ None → HasNoQuit (reader d) h i (suc k) →
       GivesUpIn d v mode earliest h n i x
 
 -- of these passes one gave up

@@ -19,12 +19,13 @@ use Rattle.lazy_dfa.specs.Dfas.{Dfa, reader}
 use Rattle.lazy_dfa.specs.Linked.{Grows, HasCleared, GrowsOrClears}
 use Rattle.lazy_dfa.specs.MadePasses.{span_len}
 use Rattle.lazy_dfa.specs.Passes.{is_empty, is_dead, next_value, next_place, first_value}
-use Rattle.lazy_dfa.specs.PassLaws.{pass_len}
+use Rattle.lazy_dfa.specs.PassLaws.{pass_len, HasNoQuit}
 use Rattle.lazy_dfa.specs.Readers.{Reader}
 use Rattle.lazy_dfa.specs.ScanLaws.{begins_at}
 use Rattle.lazy_dfa.specs.SearchAnswers.{half_of, GivesUpIn, Told, told_of, pass_distance, running_at}
 use Rattle.lazy_dfa.specs.Courses.{state_behind}
-use Rattle.lazy_dfa.specs.PassPlaces.{came, left_at, last_place, gave_up_at}
+use Rattle.lazy_dfa.specs.PassPlaces.{came, left_at, last_place, gave_up_at, pass_start}
+use Rattle.lazy_dfa.specs.StartCalls.{start_refusal}
 use Rattle.lazy_dfa.specs.Steps.{most_inserts}
 use Rattle.lazy_dfa.specs.Walks.{Rest, rest_from, whole_rest, rest_of, others, value_past, IsWalk, WalkState}
 
@@ -94,21 +95,36 @@ pub record TellsNext (r : Reader) (q : Search) (w : Walk) (new : WalkState) (res
   pub left : rest_of r q new.walk ≡ others (rest_of r q w)
 
 -- A call gave up at x: the state in which the walk starts, or the one behind a unit that the call reads, has no room, and no
--- clear is allowed. At a byte the search still goes on, and is there.
+-- clear is allowed. By then it had met nothing else that refuses it: neither at the start of the walk, nor in the units that it
+-- reads up to that one. At a byte the search still goes on, and is there.
 pub data GivesUpOn (d : Dfa) (v : CacheValue) (q : Search) (w : Walk) (x : ℕ) : Type 0 where
   at_start : w ≡ Fresh → x ≡ begins_at (reader d) q →
-      lacks_room d v (first_value (reader d) q.anchored q.haystack (begins_at (reader d) q)) ≡ true → GivesUpOn d v q w x
+      lacks_room d v (first_value (reader d) q.anchored q.haystack (begins_at (reader d) q)) ≡ true →
+      start_refusal d (pass_start d q) ≡ None → GivesUpOn d v q w x
   at_unit : (k : ℕ) → k < call_units (reader d) q w →
       x ≡ gave_up_at d.nfa.automaton.reverse q (place_of d.nfa.automaton.reverse (call_place (reader d) q w) k) →
       lacks_room d v (value_past (reader d) q (place_of d.nfa.automaton.reverse (call_place (reader d) q w) k)) ≡ true →
       (place_of d.nfa.automaton.reverse (call_place (reader d) q w) k ≢ last_place d.nfa.automaton.reverse q →
       running_at v.progress ≡ Some x) →
+      (w ≡ Fresh → start_refusal d (pass_start d q) ≡ None) →
+      HasNoQuit (reader d) q.haystack (call_place (reader d) q w) (suc k) →
       GivesUpOn d v q w x
 
 -- What a call of a walk answers over whatever cache. Else memory lacked, or it gave up, and the cache is as it was then.
 abbrev pub AnswersWalk : Dfa → CacheValue → Search → Walk → WalkState → Result ⊤ MatchErrorKind → Type 0
 AnswersWalk d v q w new result = TellsNext (reader d) q w new result ⊎ (result ≡ Err NoMemory) ⊎
     ((x : ℕ) × (result ≡ Err (GaveUp x)) × GivesUpOn d v q w x)
+
+-- a walk isn't refused at its start, nor in the first n units of its span
+abbrev pub StartsQuietly : Dfa → Search → ℕ → Type 0
+StartsQuietly d q n = (start_refusal d (pass_start d q) ≡ None) × HasNoQuit (reader d) q.haystack (begins_at (reader d) q) n
+
+-- nor was one in the units that it has read
+abbrev pub HasReadQuietly : Dfa → Search → Walk → Type 0
+HasReadQuietly d q Fresh = ⊤
+HasReadQuietly d q Ended = ⊤
+HasReadQuietly d q (Failed e) = ⊤
+HasReadQuietly d q (Stopped stop) = StartsQuietly d q (suc (came d.nfa.automaton.reverse q stop.at))
 
 -- a refused call fails the walk for good
 abbrev pub failed_by : MatchErrorKind → WalkState
@@ -155,6 +171,7 @@ pub record GivesUpFrom (d : Dfa) (v : CacheValue) (q : Search) (at x : ℕ) : Ty
   pub place : x ≡ gave_up_at d.nfa.automaton.reverse q (place_of d.nfa.automaton.reverse at unit)
   pub lacks : lacks_room d v (value_past (reader d) q (place_of d.nfa.automaton.reverse at unit)) ≡ true
   pub running : place_of d.nfa.automaton.reverse at unit ≢ last_place d.nfa.automaton.reverse q → running_at v.progress ≡ Some x
+  pub quits : HasNoQuit (reader d) q.haystack at (suc unit)
 
 -- The rest of a walk from the unit at a place up to the next end that counts: it is told, and what is left is what was left
 -- but for it.
@@ -169,6 +186,7 @@ pub record ReadsOn (d : Dfa) (q : Search) (at : ℕ) (old new : CacheValue) (m1 
   pub told : OnOk result ((Grows d old new × (told_of new ≡ told_from (reader d) q at (told_of old))) ⊎ HasCleared old new)
   pub determinized : m2 ≤ m1 + units_at (reader d) q at
   pub inserted : n2 ≤ n1 + units_at (reader d) q at * most_inserts d
+  pub quits : IfOk result (λ w. StartsQuietly d q (came d.nfa.automaton.reverse q at) → HasReadQuietly d q w.walk)
 
 -- ---- calls
 
@@ -185,6 +203,7 @@ pub record MakesCall (d : Dfa) (q : Search) (old new : CacheValue) (m1 m2 n1 n2 
   pub quiet : call_starts q w ≡ 0 → reads_on (reader d) q w ≡ false → (new ≡ old) × (m2 ≡ m1) × (n2 ≡ n1)
   pub determinized : m2 ≤ m1 + call_made (reader d) q w
   pub inserted : n2 ≤ n1 + call_made (reader d) q w * most_inserts d
+  pub quits : HasReadQuietly d q w → HasReadQuietly d q after.walk
 
 -- ---- which patterns
 
