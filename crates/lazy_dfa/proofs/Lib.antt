@@ -81,3 +81,4 @@ pub mod SkipLemmas
 pub mod AddsLemmas
 pub mod ChangesLemmas
 pub mod ChangeLawLemmas
+pub mod WhichChangesLemmas

@@ -27,6 +27,11 @@ use Rattle.lazy_dfa.specs.Steps.{Grew, WasCleared, most_inserts}
 use Rattle.lazy_dfa.specs.Walks.{nothing_left, refused, whole_rest, rest_of, WalkState}
 use Rattle.lazy_dfa.specs.WalkAnswers.{reads_on, units_there, call_units, call_starts, TellsNext, at_start, AnswersWalk, failed_by}
 use Rattle.lazy_dfa.specs.WalkAnswers.{told_by_call, value_before, ReadsOn, MakesCall, StartsQuietly, HasReadQuietly}
+use Rattle.lazy_dfa.specs.Changes.{Changes, IsMadeFirst}
+use Rattle.lazy_dfa.specs.StartCalls.{StartAdds}
+use Rattle.lazy_dfa.specs.WalkAnswers.{IsMadeOnCall}
+use Rattle.lazy_dfa.specs.WalkAnswers.{call_made}
+use Rattle.lazy_dfa.proofs.ChangesLemmas.{changes_more, changes_moved, start_changes}
 use Rattle.lazy_dfa.proofs.LinkedLemmas.{grows_trans, grew_grows, has_cleared, start_grows_of, cleared_grows, grows_or_clears_trans}
 use Rattle.lazy_dfa.proofs.LinkedLemmas.{grows_moved}
 use Rattle.lazy_dfa.proofs.SearchEndLemmas.{not_done, is_over}
@@ -62,9 +67,25 @@ few_at_start m1 m k x is a = omega (arith, is, a)
 few_put_at_start : (n1 n k x most : ℕ) → x ≡ 1 → n ≤ n1 + most → n ≤ n1 + (x + k) * most
 few_put_at_start n1 n k x most is a = subst (λ (u : ℕ). n ≤ n1 + (u + k) * most) (sym is) (omega (arith, a))
 
+-- what a start changes
+start_changes_so : (d : Dfa) (q : Search) → nat_le q.start q.end ≡ true → (old new : CacheValue) → IsCacheOf d old →
+    StartAdds d old new (pass_start d q) → Changes d (IsMadeOnCall d q Fresh) old new (call_starts q Fresh)
+start_changes_so d q begun old new own adds =
+    subst (Changes d (IsMadeOnCall d q Fresh) old new) (sym (one_start q begun))
+    (start_changes d q.anchored q.haystack (begins_at (reader d) q) (IsMadeOnCall d q Fresh)
+    (λ (b : Bool) (s : StateValue) (x : IsMadeFirst d q.anchored q.haystack (begins_at (reader d) q) b s).
+    inl (record { fresh = refl; first = x })) old new own adds)
+
+-- and with it a call that reads nothing
+first_changes : (d : Dfa) (q : Search) → nat_le q.start q.end ≡ true → (old new : CacheValue) → IsCacheOf d old →
+    StartAdds d old new (pass_start d q) → Changes d (IsMadeOnCall d q Fresh) old new (call_made (reader d) q Fresh)
+first_changes d q begun old new own adds =
+    changes_more d (IsMadeOnCall d q Fresh) old new (call_starts q Fresh) (call_made (reader d) q Fresh) (omega arith)
+    (start_changes_so d q begun old new own adds)
+
 -- the start is refused
 module _ (d : Dfa) (q : Search) (old new : CacheValue) (m1 m2 n1 n2 : ℕ) (begun : nat_le q.start q.end ≡ true) (e : MatchErrorKind)
-    (start : StartsPass d q old new m1 m2 n1 n2 (Err e)) where
+    (start : StartsPass d q old new m1 m2 n1 n2 (Err e)) (own : IsCacheOf d old) where
   abbrev begins : ℕ
   begins = begins_at (reader d) q
 
@@ -98,6 +119,7 @@ module _ (d : Dfa) (q : Search) (old new : CacheValue) (m1 m2 n1 n2 : ℕ) (begu
     inserted = few_put_at_start n1 n2 (call_units (reader d) q Fresh) (call_starts q Fresh) (most_inserts d)
         (one_start q begun) start.inserted;
     quits = λ quiet. tt;
+    changes = first_changes d q begun old new own start.adds;
   }
 
 abbrev told_short : ℕ → Told
@@ -203,6 +225,8 @@ module _ (d : Dfa) (q : Search) (old mid : CacheValue) (m1 m n1 n id : ℕ) (beg
       inserted = few_put_at_start n1 n (call_units (reader d) q Fresh) (call_starts q Fresh) (most_inserts d)
           (one_start q begun) start.inserted;
       quits = λ quiet. tt;
+      changes = changes_moved d (IsMadeOnCall d q Fresh) old mid new (call_made (reader d) q Fresh) moved
+          (first_changes d q begun old mid own start.adds);
     }
       where
         still_there : Grows d mid new
@@ -225,5 +249,6 @@ module _ (d : Dfa) (q : Search) (old mid : CacheValue) (m1 m n1 n id : ℕ) (beg
         ReadsOn d q (first_place is_reverse q.start q.end) mid new m m2 n n2 result → MakesIts d q Fresh old new m1 m2 n1 n2 result
     begins_walk new m2 n2 result x =
         makes_on d q Fresh old mid new m1 m m2 n1 n n2 made own reads_first (fits.1 ∙ begun_rest (reader d) q) (begun_units (reader d) q)
-        so_far few_starts few_starts_put (λ fresh. start.start.0) begins_quietly result (subst (λ (b : Bool). ReadsOn d q (first_place b q.start q.end) mid new m m2 n n2 result) is
+        so_far few_starts few_starts_put (λ fresh. start.start.0) begins_quietly
+        (start_changes_so d q begun old mid own start.adds) result (subst (λ (b : Bool). ReadsOn d q (first_place b q.start q.end) mid new m m2 n n2 result) is
         x)

@@ -20,6 +20,11 @@ use Rattle.lazy_dfa.specs.Walks.{Rest, nothing_left, refused, others, rest_of, I
 use Rattle.lazy_dfa.specs.WalkAnswers.{reads_on, call_place, units_there, call_units, call_starts, told_left, TellsNext, GivesUpOn, at_unit}
 use Rattle.lazy_dfa.specs.WalkAnswers.{AnswersWalk, failed_by, told_by_call, rest_at, units_at, told_from, GivesUpFrom, ReadsOn, MakesCall}
 use Rattle.lazy_dfa.specs.WalkAnswers.{StartsQuietly, HasReadQuietly}
+use Rattle.lazy_dfa.specs.Changes.{Changes, unchanged, IsMadeAt}
+use Rattle.lazy_dfa.specs.WalkAnswers.{call_made, IsMadeOnCall}
+use Rattle.lazy_dfa.specs.WalkAnswers.{value_before}
+use Rattle.determinize_core.specs.States.{StateValue}
+use Rattle.lazy_dfa.proofs.ChangesLemmas.{changes_into, changes_on}
 use Rattle.lazy_dfa.proofs.LinkedLemmas.{grows_refl, grows_trans, cleared_grows, grows_or_clears_trans}
 
 abbrev pub fine : Result ⊤ MatchErrorKind
@@ -87,6 +92,7 @@ module _ (d : Dfa) (q : Search) (v : CacheValue) (m n : ℕ) (w : Walk) (after :
     determinized = omega arith;
     inserted = omega arith;
     quits = quits;
+    changes = unchanged v (call_made (reader d) q w) refl;
   }
     where
       same_told : told_by_call (reader d) q w (told_of v) ≡ told_of v
@@ -125,7 +131,8 @@ module _ (d : Dfa) (q : Search) (w : Walk) (old mid new : CacheValue) (m1 m m2 n
     (before : (Grows d old mid × (told_of mid ≡ told_of old)) ⊎ HasCleared old mid)
     (few : m ≤ m1 + call_starts q w) (few_put : n ≤ n1 + call_starts q w * most_inserts d)
     (free : w ≡ Fresh → start_refusal d (pass_start d q) ≡ None)
-    (past : HasReadQuietly d q w → StartsQuietly d q (came d.nfa.automaton.reverse q (call_place (reader d) q w))) where
+    (past : HasReadQuietly d q w → StartsQuietly d q (came d.nfa.automaton.reverse q (call_place (reader d) q w)))
+    (begun : Changes d (IsMadeOnCall d q w) old mid (call_starts q w)) where
   abbrev r : Reader
   r = reader d
 
@@ -137,6 +144,15 @@ module _ (d : Dfa) (q : Search) (w : Walk) (old mid new : CacheValue) (m1 m m2 n
 
   same_units : call_units r q w ≡ units_at r q at
   same_units = ap (λ (b : Bool). if b then units_there r q w else 0) reads ∙ units
+
+  changes_so : Changes d (IsMadeAt r q.haystack at (value_before r q at) (units_at r q at)) mid new (units_at r q at) →
+      Changes d (IsMadeOnCall d q w) old new (call_made r q w)
+  changes_so c =
+      changes_on d (IsMadeOnCall d q w) old mid (call_starts q w) begun new (call_units r q w) (call_made r q w) (omega arith)
+      (changes_into d (IsMadeAt r q.haystack at (value_before r q at) (call_units r q w)) (IsMadeOnCall d q w)
+      (λ (b : Bool) (s : StateValue) (y : IsMadeAt r q.haystack at (value_before r q at) (call_units r q w) b s). inr y)
+      mid new (call_units r q w)
+      (subst (λ (k : ℕ). Changes d (IsMadeAt r q.haystack at (value_before r q at) k) mid new k) (sym same_units) c))
 
   gives_up : (x : ℕ) → GivesUpFrom d new q at x → GivesUpOn d new q w x
   gives_up x g = at_unit g.unit (subst (λ (k : ℕ). g.unit < k) (sym same_units) g.read) g.place g.lacks g.running free g.quits
@@ -189,6 +205,7 @@ module _ (d : Dfa) (q : Search) (w : Walk) (old mid new : CacheValue) (m1 m m2 n
     determinized = few_more m1 m m2 (call_starts q w) (units_at r q at) (call_units r q w) same_units few x.determinized;
     inserted = few_more_put n1 n n2 (call_starts q w) (units_at r q at) (call_units r q w) (most_inserts d) same_units few_put x.inserted;
     quits = λ quiet. x.quits (past quiet);
+    changes = changes_so x.changes;
   }
 
   answered : (e : MatchErrorKind) →
@@ -212,6 +229,7 @@ module _ (d : Dfa) (q : Search) (w : Walk) (old mid new : CacheValue) (m1 m m2 n
     determinized = few_more m1 m m2 (call_starts q w) (units_at r q at) (call_units r q w) same_units few x.determinized;
     inserted = few_more_put n1 n n2 (call_starts q w) (units_at r q at) (call_units r q w) (most_inserts d) same_units few_put x.inserted;
     quits = λ quiet. tt;
+    changes = changes_so x.changes;
   }
 
   -- both, by what came of it

@@ -55,7 +55,7 @@ left_next true q at within apart = let l = within.0 in ⊎_elim
     (λ (past : at ≤ q.start). absurd (apart (omega (arith, l, past))))
     (cases_lt q.start at)
 
-came_next : (is_reverse : Bool) (q : Search) (at : ℕ) → IsWithinSpan q at → at ≢ last_place is_reverse q →
+pub came_next : (is_reverse : Bool) (q : Search) (at : ℕ) → IsWithinSpan q at → at ≢ last_place is_reverse q →
     came is_reverse q (place_of is_reverse at 1) ≡ suc (came is_reverse q at)
 came_next false q at within apart = let l = within.0 in omega (arith, l)
 came_next true q at within apart = let l = within.0 in let k = within.1 in ⊎_elim

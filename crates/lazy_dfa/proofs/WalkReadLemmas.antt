@@ -34,6 +34,10 @@ use Rattle.lazy_dfa.specs.Walks.{IsWalk}
 use Rattle.lazy_dfa.specs.WalkAnswers.{units_met, told_left, value_before, rest_at, units_at, told_from, GivesUpFrom, ReadsOn}
 use Rattle.lazy_dfa.specs.WalkAnswers.{StartsQuietly, HasReadQuietly}
 use Rattle.lazy_dfa.specs.WalkTurns.{tells_end, TellsNone, stopped, Refuses, StopsWith, ReadsInto}
+use Rattle.lazy_dfa.specs.Changes.{Changes, unchanged, IsMadeAt}
+use Rattle.lazy_dfa.specs.Courses.{AreRead}
+use Rattle.lazy_dfa.proofs.ChangesLemmas.{changes_into, changes_on, changes_moved, made_within, made_behind}
+use Rattle.lazy_dfa.proofs.CourseLemmas.{read_there}
 use Rattle.lazy_dfa.proofs.CourseLemmas.{not_dead}
 use Rattle.lazy_dfa.proofs.LinkedLemmas.{grows_trans, cleared_grows, grows_or_clears_trans, grows_moved}
 use Rattle.lazy_dfa.proofs.PassLoopLemmas.{next_within}
@@ -70,6 +74,8 @@ pub record StandsOn (d : Dfa) (q : Search) (from p : Point) : Type 0 where
   pub determinized : p.determinized ≤ from.determinized + steps
   pub inserted : p.inserted ≤ from.inserted + steps * most_inserts d
   pub quits : HasNoQuit (reader d) q.haystack from.at steps
+  pub read : AreRead (reader d) q.haystack from.at (value_before (reader d) q from.at) steps
+  pub changes : Changes d (IsMadeAt (reader d) q.haystack from.at (value_before (reader d) q from.at) steps) from.cache p.cache steps
 
 -- nothing else of the cache changes where it begins
 pub started_moves : (v w : CacheValue) (index : ℕ) → w ≡ record v {
@@ -102,6 +108,8 @@ begins_on d q v w m n at id index best best2 e there held = record {
   determinized = omega arith;
   inserted = omega arith;
   quits = no_quit_yet (reader d) q.haystack at;
+  read = λ k lt. absurd (omega (arith, lt));
+  changes = changes_moved d (IsMadeAt (reader d) q.haystack at (value_before (reader d) q at) 0) v v w 0 moved (unchanged v 0 refl);
 }
   where
     moved : IsMoved v w
@@ -124,6 +132,26 @@ module _ (d : Dfa) (q : Search) (made : IsDfa d) (from p : Point) (own : IsCache
 
   abbrev index : ℕ
   index = gave_up_at rev q from.at
+
+  abbrev was : StateValue
+  was = value_before (reader d) q from.at
+
+  later : state_behind (reader d) h from.at was x.steps ≡ now
+  later = value_later (reader d) q from.at start p.at x.steps within x.left
+
+  -- what is changed of a cache by a way from here
+  changes_so : (w : CacheValue) (l u : ℕ) → x.steps + l ≤ u → Changes d (IsMadeAt (reader d) h p.at now l) p.cache w l →
+      Changes d (IsMadeAt (reader d) h from.at was u) from.cache w u
+  changes_so w l u le c =
+      changes_on d (IsMadeAt (reader d) h from.at was u) from.cache p.cache x.steps
+      (changes_into d (IsMadeAt (reader d) h from.at was x.steps) (IsMadeAt (reader d) h from.at was u)
+      (made_within (reader d) h from.at was x.steps u (omega (arith, le))) from.cache p.cache x.steps x.changes)
+      w l u le
+      (changes_into d (IsMadeAt (reader d) h p.at now l) (IsMadeAt (reader d) h from.at was u)
+      (λ (b : Bool) (t : StateValue) (y : IsMadeAt (reader d) h p.at now l b t).
+      made_within (reader d) h from.at was (x.steps + l) u le b t
+      (made_behind (reader d) h from.at p.at x.steps l x.place was x.read b t
+      (subst (λ (s : StateValue). IsMadeAt (reader d) h p.at s l b t) (sym later) y))) p.cache w l c)
 
   -- what is kept of a cache, where a way goes on from here
   module _ (best : Option (ℕ × ℕ)) (c : Point) (l : ℕ) (g : GoesTo d h (record p { best = best }) c l) where
@@ -165,6 +193,9 @@ module _ (d : Dfa) (q : Search) (made : IsDfa d) (from p : Point) (own : IsCache
           determinized = let a = x.determinized in let b = g.determinized in omega (arith, a, b);
           inserted = sum_of from.inserted p.inserted c.inserted x.steps l (most_inserts d) x.inserted g.inserted;
           quits = no_quit_on (reader d) h from.at p.at x.steps l x.place x.quits (no_quit_read (reader d) h p.at now l read);
+          read = read_there (reader d) h from.at p.at x.steps x.place was l x.read
+              (subst (λ (s : StateValue). AreRead (reader d) h p.at s l) (sym later) read);
+          changes = changes_so c.cache l (x.steps + l) (omega arith) (g.changes now (names_held x.state));
         }
       where
         sum_left : (a b c : ℕ) → a ≡ x.steps + b → b ≡ l + c → a ≡ x.steps + l + c
@@ -218,6 +249,8 @@ module _ (d : Dfa) (q : Search) (made : IsDfa d) (from p : Point) (own : IsCache
       determinized = few leaves.determinized;
       inserted = few_names leaves.inserted;
       quits = tt;
+      changes = changes_so v 1 (units_at (reader d) q from.at) (let a = some_here in let e = x.units in omega (arith, a, e))
+          (leaves.changes now (names_held x.state));
     }
 
     pub ends_refused : (e : MatchErrorKind) → Refuses d q p v m n e → ReadsOn d q from.at from.cache v from.determinized m from.inserted n
@@ -340,6 +373,8 @@ module _ (d : Dfa) (q : Search) (made : IsDfa d) (from p : Point) (own : IsCache
       determinized = many v m n 1 (omega arith) all_units t.goes.determinized;
       inserted = many_names v m n units (let e = all_units in omega (arith, e)) t.goes.inserted;
       quits = quits;
+      changes = changes_moved d (IsMadeAt (reader d) h from.at was units) from.cache t.behind v units moved
+          (changes_so t.behind 1 units (let e = all_units in omega (arith, e)) (t.goes.changes now (names_held x.state)));
     }
 
     -- with none

@@ -18,6 +18,7 @@ use Rattle.lazy_dfa.specs.PassPlaces.{came, last_place, IsWithinSpan}
 use Rattle.lazy_dfa.specs.Walks.{Rest, onto, others, end_of, rest_of, rest_past, value_past, StopsAt, IsWalk, WalkState}
 use Rattle.lazy_dfa.specs.WalkAnswers.{lists_more, told_left, TellsNext, value_before, ReadsOn, MakesCall}
 use Rattle.lazy_dfa.specs.WalkAnswers.{StartsQuietly, HasReadQuietly}
+use Rattle.lazy_dfa.specs.Changes.{unchanged}
 use Rattle.lazy_dfa.proofs.WalkQuitLemmas.{came_next}
 use Rattle.lazy_dfa.proofs.LinkedLemmas.{grows_refl}
 use Rattle.lazy_dfa.proofs.WalkLeftLemmas.{next_within, past_last, past_value, past_rest, past_units, lists_none, lists_one}
@@ -115,7 +116,7 @@ module _ (d : Dfa) (q : Search) (v : CacheValue) (m n : ℕ) (stop : Stop) (made
       ∙ ap not (is_other stop.at (last_place d.nfa.automaton.reverse q) apart_so))
       (behind d q v m n stop stops no_more ∙ past_rest (reader d) q stop.at stops.within apart_so)
       (past_units (reader d) q stop.at stops.within apart_so)
-      (inl (grows_refl d v, refl)) (omega arith) (omega arith) (λ fresh. no_fresh fresh) resumes_quietly result
+      (inl (grows_refl d v, refl)) (omega arith) (omega arith) (λ fresh. no_fresh fresh) resumes_quietly (unchanged v 0 refl) result
       (subst (λ (b : Bool). ReadsOn d q (place_of b stop.at 1) v new m m2 n n2 result) is x)
     where
       no_fresh : {P : Type 0} → Stopped stop ≡ Fresh → P

@@ -41,7 +41,7 @@ use Rattle.lazy_dfa.proofs.WalkPlaceLemmas.{place_came}
 
 -- ---- places of a span
 
-left_and_came : (is_reverse : Bool) (q : Search) (at : ℕ) → IsWithinSpan q at →
+pub left_and_came : (is_reverse : Bool) (q : Search) (at : ℕ) → IsWithinSpan q at →
     suc (span_len q) ≡ left_at is_reverse q at + suc (came is_reverse q at)
 left_and_came false q at within = let low = within.0 in let high = within.1 in omega (arith, low, high)
 left_and_came true q at within = let low = within.0 in let high = within.1 in omega (arith, low, high)

@@ -24,6 +24,10 @@ use Rattle.lazy_dfa.specs.Steps.{most_inserts}
 use Rattle.lazy_dfa.specs.Walks.{Rest, whole_rest, rest_of, IsWalk, WalkState}
 use Rattle.lazy_dfa.specs.WalkAnswers.{call_made, told_left, TellsNext, AnswersWalk, MakesCall, with_pattern, is_full, with_ends, Which}
 use Rattle.lazy_dfa.specs.WalkAnswers.{which_from, which_of, AnswersWhich, MakesWhich, which_made, HasReadQuietly}
+use Rattle.lazy_dfa.specs.Changes.{Changes, unchanged}
+use Rattle.lazy_dfa.specs.WalkAnswers.{IsMadeOnCall, IsMadeOnWalk}
+use Rattle.lazy_dfa.proofs.ChangesLemmas.{changes_into, changes_on}
+use Rattle.lazy_dfa.proofs.WhichChangesLemmas.{on_walk}
 use Rattle.lazy_dfa.proofs.LinkedLemmas.{grows_refl, grows_or_clears_trans}
 use Rattle.lazy_dfa.proofs.SearchClauseLemmas.{never_here}
 use Rattle.lazy_dfa.proofs.WhichBudgetLemmas.{left_to_make, IsWithinWalk, IsOn, some_told, few_made, spends, gives_up}
@@ -127,6 +131,9 @@ pub record HasCome (d : Dfa) (q : Search) (old now : CacheValue) (m1 m2 n1 n2 : 
   pub determinized : m2 + left_to_make (reader d) q w ≤ m1 + which_made (reader d) q
   pub inserted : n2 + left_to_make (reader d) q w * most_inserts d ≤ n1 + which_made (reader d) q * most_inserts d
   pub quits : HasReadQuietly d q w
+  pub made : ℕ
+  pub few : made + left_to_make (reader d) q w ≤ which_made (reader d) q
+  pub changes : Changes d (IsMadeOnWalk d q) old now made
 
 pub begins : (d : Dfa) (q : Search) (v : CacheValue) (m n : ℕ) (set : List Bool) (s : WalkState) →
     s ≡ record { found = None; walk = Fresh } →
@@ -141,6 +148,9 @@ begins d q v m n set s is = subst (λ (w : Walk). HasCome d q v v m m n n set se
   determinized = omega arith;
   inserted = omega arith;
   quits = tt;
+  made = 0;
+  few = omega arith;
+  changes = unchanged v 0 refl;
 })
 
 pub begins_well : (d : Dfa) (q : Search) (v : CacheValue) (s : WalkState) → s ≡ record { found = None; walk = Fresh } → IsWalk d v q s.walk
@@ -163,6 +173,10 @@ module _ (d : Dfa) (q : Search) (old now next : CacheValue) (m1 m2 m3 n1 n2 n3 :
   few : call_made r q w + 0 ≤ left_to_make r q w
   few = let le = few_made r q w within in omega (arith, le)
 
+  call_changes : (result : Answer) → Call result → Changes d (IsMadeOnWalk d q) now next (call_made r q w)
+  call_changes result call =
+      changes_into d (IsMadeOnCall d q w) (IsMadeOnWalk d q) (on_walk d q w within) now next (call_made r q w) call.changes
+
   -- the walk is over with this call
   over : (result : Answer) (new : List Bool) → Call result → AnswersWhich d next q set new result →
       MakesWhich d q old next m1 m3 n1 n3 set new result
@@ -173,6 +187,9 @@ module _ (d : Dfa) (q : Search) (old now next : CacheValue) (m1 m2 m3 n1 n2 n3 :
         few in omega (arith, le);
     inserted = let le = spent_on n1 n2 n3 (call_made r q w) 0 (left_to_make r q w) (which_made r q) (most_inserts d) stands.inserted
         call.inserted few in omega (arith, le);
+    changes = let small = stands.few in let this = few in
+        changes_on d (IsMadeOnWalk d q) old now stands.made stands.changes next (call_made r q w) (which_made r q)
+        (omega (arith, small, this)) (call_changes result call);
   }
 
   tells : Call done_well → TellsNext r q w after done_well
@@ -265,6 +282,10 @@ module _ (d : Dfa) (q : Search) (old now next : CacheValue) (m1 m2 m3 n1 n2 n3 :
       inserted = spent_on n1 n2 n3 (call_made r q w) (left_to_make r q after.walk) (left_to_make r q w) (which_made r q) (most_inserts d)
           stands.inserted call.inserted few_then;
       quits = call.quits stands.quits;
+      made = stands.made + call_made r q w;
+      few = let small = stands.few in let this = few_then in omega (arith, small, this);
+      changes = changes_on d (IsMadeOnWalk d q) old now stands.made stands.changes next (call_made r q w) (stands.made + call_made r q w)
+          (omega arith) (call_changes done_well call);
     }
 
     pub falls : length (rest_of r q after.walk).ends < length rest.ends

@@ -12,6 +12,7 @@ use Rattle.nfa_core.specs.Places.{first}
 use Rattle.nfa_core.specs.Ways.{place_of}
 use Rattle.determinize_core.specs.States.{StateValue}
 use Rattle.lazy_dfa.specs.Caches.{CacheValue, greatest, progress_len, lacks_room}
+use Rattle.lazy_dfa.specs.Changes.{Changes, IsMadeAt, IsMadeFirst}
 use Rattle.lazy_dfa.specs.declared.overlapping_state.Stop.{Stop}
 use Rattle.lazy_dfa.specs.declared.overlapping_state.Walk.{Walk}
 use Rattle.lazy_dfa.specs.declared.overlapping_state.Walk.TheVariants.{Fresh, Ended, Failed, Stopped}
@@ -24,7 +25,7 @@ use Rattle.lazy_dfa.specs.Readers.{Reader}
 use Rattle.lazy_dfa.specs.ScanLaws.{begins_at}
 use Rattle.lazy_dfa.specs.SearchAnswers.{half_of, GivesUpIn, Told, told_of, pass_distance, running_at}
 use Rattle.lazy_dfa.specs.Courses.{state_behind}
-use Rattle.lazy_dfa.specs.PassPlaces.{came, left_at, last_place, gave_up_at, pass_start}
+use Rattle.lazy_dfa.specs.PassPlaces.{came, left_at, last_place, gave_up_at, pass_start, IsWithinSpan}
 use Rattle.lazy_dfa.specs.StartCalls.{start_refusal}
 use Rattle.lazy_dfa.specs.Steps.{most_inserts}
 use Rattle.lazy_dfa.specs.Walks.{Rest, rest_from, whole_rest, rest_of, others, value_past, IsWalk, WalkState}
@@ -187,6 +188,29 @@ pub record ReadsOn (d : Dfa) (q : Search) (at : ℕ) (old new : CacheValue) (m1 
   pub determinized : m2 ≤ m1 + units_at (reader d) q at
   pub inserted : n2 ≤ n1 + units_at (reader d) q at * most_inserts d
   pub quits : IfOk result (λ w. StartsQuietly d q (came d.nfa.automaton.reverse q at) → HasReadQuietly d q w.walk)
+  pub changes : Changes d (IsMadeAt (reader d) q.haystack at (value_before (reader d) q at) (units_at (reader d) q at)) old new
+      (units_at (reader d) q at)
+
+-- ---- what calls change
+
+-- the state in which a fresh walk starts
+pub record IsWalkStart (d : Dfa) (q : Search) (w : Walk) (b : Bool) (s : StateValue) : Type 0 where
+  pub fresh : w ≡ Fresh
+  pub first : IsMadeFirst d q.anchored q.haystack (begins_at (reader d) q) b s
+
+-- a state of a call: that one, or one behind a unit that the call reads
+abbrev pub IsMadeOnCall : Dfa → Search → Walk → Bool → StateValue → Type 0
+IsMadeOnCall d q w b s =
+    IsWalkStart d q w b s ⊎
+    IsMadeAt (reader d) q.haystack (call_place (reader d) q w) (value_before (reader d) q (call_place (reader d) q w))
+    (call_units (reader d) q w) b s
+
+-- a state of a walk over a whole span: its first one, or one behind a unit of the span
+abbrev pub IsMadeOnWalk : Dfa → Search → Bool → StateValue → Type 0
+IsMadeOnWalk d q b s =
+    IsMadeFirst d q.anchored q.haystack (begins_at (reader d) q) b s ⊎
+    ((b ≡ false) × ((k : ℕ) × (k ≤ span_len q) × (s ≡ state_behind (reader d) q.haystack (begins_at (reader d) q)
+    (first_value (reader d) q.anchored q.haystack (begins_at (reader d) q)) (suc k))))
 
 -- ---- calls
 
@@ -204,6 +228,7 @@ pub record MakesCall (d : Dfa) (q : Search) (old new : CacheValue) (m1 m2 n1 n2 
   pub determinized : m2 ≤ m1 + call_made (reader d) q w
   pub inserted : n2 ≤ n1 + call_made (reader d) q w * most_inserts d
   pub quits : HasReadQuietly d q w → HasReadQuietly d q after.walk
+  pub changes : Changes d (IsMadeOnCall d q w) old new (call_made (reader d) q w)
 
 -- ---- which patterns
 
@@ -255,3 +280,4 @@ pub record MakesWhich (d : Dfa) (q : Search) (old new : CacheValue) (m1 m2 n1 n2
   pub kept : GrowsOrClears d old new
   pub determinized : m2 ≤ m1 + which_made (reader d) q
   pub inserted : n2 ≤ n1 + which_made (reader d) q * most_inserts d
+  pub changes : Changes d (IsMadeOnWalk d q) old new (which_made (reader d) q)

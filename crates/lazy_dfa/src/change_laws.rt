@@ -5,6 +5,8 @@ ghost use Rattle.search_types.specs.Inputs.{Search};
 ghost use Rattle.lazy_dfa.specs.Caches.{CacheValue, IsCacheOf, greatest};
 ghost use Rattle.lazy_dfa.specs.Changes.{Changes, IsMadeBy, HasRoomFor, IsSpent, FirstClear, AddsFew};
 ghost use Rattle.lazy_dfa.specs.Dfas.{Dfa, IsDfa};
+ghost use Rattle.lazy_dfa.specs.WalkAnswers.{IsMadeOnCall, IsMadeOnWalk};
+ghost use Rattle.lazy_dfa.specs.declared.overlapping_state.Walk.{Walk};
 
 /// A half search clears its cache at most once for each state that it makes.
 pub fn searches_clear_for_states()
@@ -28,4 +30,36 @@ pub fn searches_add_states_on_their_way()
         old.clears < greatest → Changes d (IsMadeBy d q) old new n → AddsFew d (IsMadeBy d q) old new n }
     ensures cleared { (d : Dfa) (q : Search) (old new : CacheValue) (n : ℕ) → IsDfa d → IsCacheOf d old → (new.clears ≡ old.clears → ⊥) →
         Changes d (IsMadeBy d q) old new n → FirstClear d (IsMadeBy d q) old }
+{}
+
+/// A call of a walk clears its cache at most once for each state that it makes, and never where there is room for all of these or the
+/// clears that are allowed are spent. Where the count of clears is as before and hasn't stopped, it added states on its way alone;
+/// where it isn't, the first clear was for a state on its way that wasn't held and had no room.
+pub fn calls_clear_for_states_alone()
+    ensures count { (d : Dfa) (q : Search) (w : Walk) (old new : CacheValue) (n : ℕ) → Changes d (IsMadeOnCall d q w) old new n → old.clears ≤ greatest →
+        (old.clears ≤ new.clears) × (new.clears ≤ old.clears + n) }
+    ensures room { (d : Dfa) (q : Search) (w : Walk) (old new : CacheValue) (n : ℕ) → IsDfa d → IsCacheOf d old → HasRoomFor d old n →
+        Changes d (IsMadeOnCall d q w) old new n → AddsFew d (IsMadeOnCall d q w) old new n }
+    ensures spent { (d : Dfa) (q : Search) (w : Walk) (old new : CacheValue) (n : ℕ) → IsDfa d → IsCacheOf d old → IsSpent d old →
+        Changes d (IsMadeOnCall d q w) old new n → AddsFew d (IsMadeOnCall d q w) old new n }
+    ensures kept { (d : Dfa) (q : Search) (w : Walk) (old new : CacheValue) (n : ℕ) → IsDfa d → IsCacheOf d old → new.clears ≡ old.clears →
+        old.clears < greatest → Changes d (IsMadeOnCall d q w) old new n → AddsFew d (IsMadeOnCall d q w) old new n }
+    ensures cleared { (d : Dfa) (q : Search) (w : Walk) (old new : CacheValue) (n : ℕ) → IsDfa d → IsCacheOf d old → (new.clears ≡ old.clears → ⊥) →
+        Changes d (IsMadeOnCall d q w) old new n → FirstClear d (IsMadeOnCall d q w) old }
+{}
+
+/// A walk over a whole span, as that which tells which patterns match, clears its cache at most once for each state that it makes, and never where there is room for all of these or the
+/// clears that are allowed are spent. Where the count of clears is as before and hasn't stopped, it added states on its way alone;
+/// where it isn't, the first clear was for a state on its way that wasn't held and had no room.
+pub fn walks_clear_for_states_alone()
+    ensures count { (d : Dfa) (q : Search) (old new : CacheValue) (n : ℕ) → Changes d (IsMadeOnWalk d q) old new n → old.clears ≤ greatest →
+        (old.clears ≤ new.clears) × (new.clears ≤ old.clears + n) }
+    ensures room { (d : Dfa) (q : Search) (old new : CacheValue) (n : ℕ) → IsDfa d → IsCacheOf d old → HasRoomFor d old n →
+        Changes d (IsMadeOnWalk d q) old new n → AddsFew d (IsMadeOnWalk d q) old new n }
+    ensures spent { (d : Dfa) (q : Search) (old new : CacheValue) (n : ℕ) → IsDfa d → IsCacheOf d old → IsSpent d old →
+        Changes d (IsMadeOnWalk d q) old new n → AddsFew d (IsMadeOnWalk d q) old new n }
+    ensures kept { (d : Dfa) (q : Search) (old new : CacheValue) (n : ℕ) → IsDfa d → IsCacheOf d old → new.clears ≡ old.clears →
+        old.clears < greatest → Changes d (IsMadeOnWalk d q) old new n → AddsFew d (IsMadeOnWalk d q) old new n }
+    ensures cleared { (d : Dfa) (q : Search) (old new : CacheValue) (n : ℕ) → IsDfa d → IsCacheOf d old → (new.clears ≡ old.clears → ⊥) →
+        Changes d (IsMadeOnWalk d q) old new n → FirstClear d (IsMadeOnWalk d q) old }
 {}

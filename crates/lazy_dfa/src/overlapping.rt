@@ -2,13 +2,14 @@
 ghost use Rattle.std.specs.Prelude.{◌≡◌, ◌+◌, ◌*◌, ◌<◌, ◌≤◌, false, true, None, Ok, Err, IfOk, IfErr, OnOk};
 ghost use Rattle.search_types.specs.declared.match_error.MatchErrorKind.TheVariants.{NoMemory};
 ghost use Rattle.lazy_dfa.specs.Caches.{IsCacheOf, greatest};
+ghost use Rattle.lazy_dfa.specs.Changes.{Changes};
 ghost use Rattle.lazy_dfa.specs.ConfigValue.{clears_of};
 ghost use Rattle.lazy_dfa.specs.Dfas.{reader};
 ghost use Rattle.lazy_dfa.specs.Linked.{GrowsOrClears};
 ghost use Rattle.lazy_dfa.specs.SearchAnswers.{told_of};
 ghost use Rattle.lazy_dfa.specs.Steps.{most_inserts};
 ghost use Rattle.lazy_dfa.specs.Walks.{IsWalk, StopsAt, rest_of};
-ghost use Rattle.lazy_dfa.specs.WalkAnswers.{AnswersWalk, TellsNext, MakesCall, failed_by, told_by_call, reads_on, call_starts, call_made};
+ghost use Rattle.lazy_dfa.specs.WalkAnswers.{AnswersWalk, TellsNext, MakesCall, failed_by, told_by_call, reads_on, call_starts, call_made, IsMadeOnCall};
 ghost use Rattle.lazy_dfa.specs.declared.overlapping_state.Walk.TheVariants.{Fresh, Ended, Stopped};
 
 use crate::dfa::{Cache, DFA};
@@ -144,6 +145,9 @@ impl DFA {
     /// The walk is fresh, or it goes on in this cache: calls over it that clear nothing may lie between, and no others. It is
     /// refused at a quit byte, in a mode in which the automaton can't search, where a state has no room and no clear is allowed,
     /// and where memory lacks. A refused walk has failed: it answers the same refusal for good. The cache is of use after that.
+    ///
+    /// It adds no states but those on its way, and clears the cache only where one of these isn't held and has no room
+    /// ([`change_laws`](crate::change_laws)).
     pub fn try_search_overlapping_fwd<L: Ledger, M: Ledger>(
         &self,
         cache: &mut Cache,
@@ -160,6 +164,7 @@ impl DFA {
         ensures failed { IfErr result (λ e. state.new ≡ failed_by e) }
         ensures sure { clears_of self.now.options ≡ None → (rest_of (reader self.now) input.now state.old.walk).refusal ≡ None → IfErr result (λ e. e ≡ NoMemory) }
         ensures kept { GrowsOrClears self.now cache.old cache.new }
+        ensures changes { Changes self.now (IsMadeOnCall self.now input.now state.old.walk) cache.old cache.new (call_made (reader self.now) input.now state.old.walk) }
         ensures told { OnOk result (cache.new.clears ≡ cache.old.clears → cache.old.clears < greatest →
             told_of cache.new ≡ told_by_call (reader self.now) input.now state.old.walk (told_of cache.old)) }
         ensures ends { OnOk result (state.new.found ≡ None → state.new.walk ≡ Ended) }
@@ -192,6 +197,7 @@ impl DFA {
         ensures failed { IfErr result (λ e. state.new ≡ failed_by e) }
         ensures sure { clears_of self.now.options ≡ None → (rest_of (reader self.now) input.now state.old.walk).refusal ≡ None → IfErr result (λ e. e ≡ NoMemory) }
         ensures kept { GrowsOrClears self.now cache.old cache.new }
+        ensures changes { Changes self.now (IsMadeOnCall self.now input.now state.old.walk) cache.old cache.new (call_made (reader self.now) input.now state.old.walk) }
         ensures told { OnOk result (cache.new.clears ≡ cache.old.clears → cache.old.clears < greatest →
             told_of cache.new ≡ told_by_call (reader self.now) input.now state.old.walk (told_of cache.old)) }
         ensures ends { OnOk result (state.new.found ≡ None → state.new.walk ≡ Ended) }

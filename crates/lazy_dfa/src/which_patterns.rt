@@ -2,12 +2,13 @@
 ghost use Rattle.std.specs.Prelude.{◌≡◌, ◌+◌, ◌*◌, ◌<◌, ◌≤◌, ◌||◌, false, None, Ok, IfErr};
 ghost use Rattle.search_types.specs.declared.match_error.MatchErrorKind.TheVariants.{NoMemory};
 ghost use Rattle.lazy_dfa.specs.Caches.{IsCacheOf};
+ghost use Rattle.lazy_dfa.specs.Changes.{Changes};
 ghost use Rattle.lazy_dfa.specs.ConfigValue.{clears_of};
 ghost use Rattle.lazy_dfa.specs.Dfas.{reader};
 ghost use Rattle.lazy_dfa.specs.Linked.{GrowsOrClears};
 ghost use Rattle.lazy_dfa.specs.Steps.{most_inserts};
 ghost use Rattle.lazy_dfa.specs.Walks.{whole_rest};
-ghost use Rattle.lazy_dfa.specs.WalkAnswers.{AnswersWhich, MakesWhich, with_pattern, is_full, which_made};
+ghost use Rattle.lazy_dfa.specs.WalkAnswers.{AnswersWhich, MakesWhich, with_pattern, is_full, which_made, IsMadeOnWalk};
 
 use crate::dfa::{Cache, DFA};
 use crate::overlapping::call;
@@ -86,6 +87,7 @@ impl DFA {
         ensures done { input.now.end < input.now.start → (result ≡ Ok tt) × (cache.new ≡ cache.old) × (patterns.new ≡ patterns.old) }
         ensures sure { clears_of self.now.options ≡ None → (whole_rest (reader self.now) input.now).refusal ≡ None → IfErr result (λ e. e ≡ NoMemory) }
         ensures kept { GrowsOrClears self.now cache.old cache.new }
+        ensures changes { Changes self.now (IsMadeOnWalk self.now input.now) cache.old cache.new (which_made (reader self.now) input.now) }
         ensures determinized { work.new.determinized ≤ work.old.determinized + which_made (reader self.now) input.now }
         ensures inserted { work.new.inserted ≤ work.old.inserted + which_made (reader self.now) input.now * most_inserts self.now }
     {

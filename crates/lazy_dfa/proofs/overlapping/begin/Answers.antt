@@ -24,7 +24,7 @@ returns-in-Err-clause-err g c = refused_call c.args.dfa.now c.args.input.now c.a
     c.args.work.now.determinized
     c.start_of_pass.new.work.determinized c.args.work.now.inserted c.start_of_pass.new.work.inserted
     (is_begun c.is_done.result c.args.input.now.start c.args.input.now.end c.is_done.ensures c.if-is_done.false) c.in-Err.e
-    c.in-Err.ensures.start
+    c.in-Err.ensures.start c.requires.own
 
 pub returns-then-is_dead-clause-own : goal.returns-then-is_dead-clause-own
 returns-then-is_dead-clause-own g c = is_cache_moved c.args.dfa.now c.start_of_pass.new.cache c.search_finish.new.self

@@ -5,3 +5,6 @@ pub returns-clause-sure : goal.returns-clause-sure
 returns-clause-sure g c = call_is_sure c.args.self.now c.args.input.now c.args.cache.now c.call.new.cache c.args.work.now.determinized
     c.call.new.work.determinized
     c.args.work.now.inserted c.call.new.work.inserted c.args.state.now.walk c.call.new.state c.call.result c.call.ensures.call
+
+pub returns-clause-changes : goal.returns-clause-changes
+returns-clause-changes g c = c.call.ensures.call.changes

@@ -1,7 +1,9 @@
-use Rattle.std.proofs.Common.{[], ap, sym, inl, arith}
+use Rattle.std.proofs.Common.{[], ap, sym, inl, arith, refl}
 use Rattle.lazy_dfa.specs.Dfas.{reader}
 use Rattle.lazy_dfa.specs.Walks.{Rest}
 use Rattle.lazy_dfa.specs.WalkAnswers.{which_from, told_left}
+use Rattle.lazy_dfa.specs.Changes.{unchanged}
+use Rattle.lazy_dfa.specs.WalkAnswers.{which_made}
 use Rattle.lazy_dfa.proofs.LinkedLemmas.{grows_refl}
 use Rattle.lazy_dfa.proofs.RestLemmas.{rest_done}
 use Rattle.lazy_dfa.proofs.SearchEndLemmas.{is_over, not_done}
@@ -22,7 +24,13 @@ returns-then-is_done-clause-answer g c =
 pub returns-then-is_done-clause-kept : goal.returns-then-is_done-clause-kept
 returns-then-is_done-clause-kept g c = inl (grows_refl c.args.self.now c.args.cache.now)
 
+pub returns-then-is_done-clause-changes : goal.returns-then-is_done-clause-changes
+returns-then-is_done-clause-changes g c = unchanged c.args.cache.now (which_made (reader c.args.self.now) c.args.input.now) refl
+
 -- ---- another one
+
+pub returns-clause-changes : goal.returns-clause-changes
+returns-clause-changes g c = c.which.ensures.which.changes
 
 pub returns-clause-done : goal.returns-clause-done
 returns-clause-done g c past =
