@@ -49,6 +49,16 @@ impl NFA {
         Ok(NFA { parts, facts })
     }
 
+    /// A copy, by which a second automaton is built over the same states with other settings. Refused only for
+    /// want of memory. Rust's `NFA` is shared by its `Clone`, and copies nothing.
+    pub fn try_clone(&self, alloc: Global) -> Result<NFA, AllocError>
+        ensures { IfOk result (λ n. n ≡ self.now) }
+    {
+        let parts = clone_parts(alloc, &self.parts)?;
+        let nfa = NFA::from_parts(alloc, parts)?;
+        Ok(nfa)
+    }
+
     /// The numbers of the patterns, ascending, as `NFA::patterns`.
     pub fn patterns(&self) -> PatternIter
         ensures { result ≡ counted 0 (length self.now.automaton.start_pattern) }
@@ -212,6 +222,42 @@ impl NFA {
     {
         let _ = &self.parts;
     }
+}
+
+/// Copies of the parts.
+fn clone_parts(alloc: Global, parts: &Parts) -> Result<Parts, AllocError>
+    ensures { IfOk result (λ copy. nfa_in copy ≡ nfa_in parts.now) }
+{
+    let states = clone_states(alloc, &parts.states)?;
+    Ok(Parts {
+        states,
+        start_anchored: parts.start_anchored,
+        start_unanchored: parts.start_unanchored,
+        start_pattern: parts.start_pattern.to_vec(alloc)?,
+        group_info: parts.group_info.try_clone(alloc)?,
+        utf8: parts.utf8,
+        reverse: parts.reverse,
+        look_matcher: parts.look_matcher.clone()?,
+    })
+}
+
+/// Copies of states.
+fn clone_states(alloc: Global, states: &[State]) -> Result<Vec<State>, AllocError>
+    ensures { IfOk result (λ copies. map node_of copies.items ≡ map node_of states.now) }
+{
+    let mut copies = Vec::with_capacity(alloc, states.len())?;
+    for state in states {
+        copies.push(clone_state(state)?)?;
+    }
+    Ok(copies)
+}
+
+/// A copy of a state.
+fn clone_state(state: &State) -> Result<State, AllocError>
+    ensures { IfOk result (λ copy. node_of copy ≡ node_of state.now) }
+{
+    let copy = state.clone()?;
+    Ok(copy)
 }
 
 /// NFAs that are made by hand.

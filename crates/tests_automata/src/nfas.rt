@@ -163,14 +163,23 @@ fn is_plain(nfa: &NFA, pattern: Option<PatternID>) -> bool {
         && nfa.look_matcher().get_line_terminator().contains(b'\n')
 }
 
-/// Whether the automaton that matches everywhere, or the one that matches nowhere, is made.
+/// Whether the automaton that matches everywhere, or the one that matches nowhere, is made, and copied.
 fn is_made(alloc: Global, wanted: Wanted, pattern: Option<PatternID>) -> Result<bool, AllocError> {
     let made = match wanted {
         Wanted::Always => NFA::always_match(alloc),
         _ => NFA::never_match(alloc),
     };
     let nfa = made?;
-    Ok(is_wanted(&nfa, wanted) && is_plain(&nfa, pattern))
+    let copied = copy_is_wanted(alloc, &nfa, wanted, pattern);
+    Ok(is_wanted(&nfa, wanted) && is_plain(&nfa, pattern) && copied)
+}
+
+/// Whether a copy has the facts and the states of the one that is expected.
+fn copy_is_wanted(alloc: Global, nfa: &NFA, wanted: Wanted, pattern: Option<PatternID>) -> bool {
+    match nfa.try_clone(alloc) {
+        Ok(copy) => is_wanted(&copy, wanted) && is_plain(&copy, pattern),
+        Err(_) => false,
+    }
 }
 
 #[test]
