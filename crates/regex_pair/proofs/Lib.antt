@@ -4,7 +4,9 @@ pub mod PairLemmas
 pub mod MatchLemmas
 pub mod JoinedLemmas
 pub mod MatchingLemmas
+pub mod DoneLemmas
 pub mod NextLemmas
+pub mod StepLemmas
 pub mod TakenLemmas
 pub mod ReachLemmas
 pub mod AlikeLemmas

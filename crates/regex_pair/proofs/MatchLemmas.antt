@@ -11,9 +11,10 @@ use Rattle.lazy_dfa.specs.Linked.{IsLinked, passes_of}
 use Rattle.lazy_dfa.specs.Readers.{HalfAnswer, found, quit, unsupported}
 use Rattle.lazy_dfa.specs.Scans.{scan}
 use Rattle.lazy_dfa.specs.SearchAnswers.{Answers, told, told_of, told_by}
-use Rattle.regex_pair.specs.MadeSearches.{FindsEnd, MakesMatch, MakesHalf, is_some_half}
+use Rattle.regex_pair.specs.MadeSearches.{FindsEnd, MakesMatch, MakesHalf}
 use Rattle.regex_pair.specs.Matching.{AnswersMatch, has_match, match_search, match_told}
 use Rattle.regex_pair.specs.Pairs.{Pair, PairCache}
+use Rattle.regex_pair.specs.PairTold.{is_some_half}
 
 abbrev Half : Type 0
 Half = Result (Option HalfFound) MatchErrorKind
@@ -47,7 +48,7 @@ module _ (p : Pair) (q : Search) (f g r : CacheValue) (m1 m2 n1 n2 : ℕ) (h : H
   answers_there (inr (inl is)) = inr (inl (ap is_some_half is))
   answers_there (inr (inr gave)) = inr (inr (gave.0, ap is_some_half gave.1, gave.2))
 
-  tells_there : MakesMatch p q (record { forward = f; reverse = r }) (record { forward = g; reverse = r }) m1 m2 n1 n2 (is_some_half h)
+  pub tells_there : MakesMatch p q (record { forward = f; reverse = r }) (record { forward = g; reverse = r }) m1 m2 n1 n2 (is_some_half h)
   tells_there = record {
     answer = answers_there made.answer;
     sure = λ none supported quiet. if_err_some h (made.sure none supported quiet);
@@ -55,7 +56,8 @@ module _ (p : Pair) (q : Search) (f g r : CacheValue) (m1 m2 n1 n2 : ℕ) (h : H
     untouched = refl;
     linked = on_some h (g.clears ≡ f.clears → f.clears < greatest → IsLinked p.forward g asked) made.linked;
     is_told = on_some h (g.clears ≡ f.clears → f.clears < greatest →
-        told_of g ≡ told_by (reader p.forward) asked (told_of f) (passes_of (reader p.forward) asked)) made.is_told;
+        told_of g ≡ told_by (reader p.forward) asked (told_of f) (passes_of (reader p.forward) asked)) made.tells.told;
+    tells = record { half = h; answer = refl; forward = made.tells; reverse = refl };
     moved = made.moved;
     free = made.free;
     sure_if_linked = λ linked. told_there (made.sure_if_linked linked);

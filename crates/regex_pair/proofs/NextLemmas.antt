@@ -1,21 +1,21 @@
--- What comes next of matches one after the other: what two searches answer, where it lies, and that fewer items are left behind it.
+-- What comes next of matches one after the other: what two searches answer and do, where it lies, and that fewer items are left behind
+-- it.
 use Rattle.std.proofs.Common.{◌≡◌, ◌⊎◌, ℕ, ◌+◌, ◌<◌, ◌≤◌, Bool, true, false, ◌&&◌, nat_eq, Option, Some, None, Result, Ok, Err, refl, sym}
 use Rattle.std.proofs.Common.{ap, ◌∙◌, inl, inr, ⊎_elim, subst, arith}
 use Rattle.std.proofs.lemmas.Bool.{cases_lt, eq-eqb}
-use Rattle.std.specs.Iterator.{MakesProgress, at_most}
 use Rattle.search_types.specs.declared.match_error.MatchErrorKind.{MatchErrorKind}
 use Rattle.search_types.specs.declared.match_error.MatchErrorKind.TheVariants.{GaveUp, NoMemory}
 use Rattle.search_types.specs.AllAnswers.{is_repeat}
 use Rattle.search_types.specs.Chains.{IsTaken}
 use Rattle.search_types.specs.Found.{Found}
 use Rattle.search_types.specs.Inputs.{Search, IsSpanOf}
-use Rattle.regex_pair.specs.Finding.{Finding, AnswersAt, IsNextFound, IsNextAnswer, IsBehindLast, IsPlaced, KeepsTwice, finds_next, fails, is_over}
+use Rattle.regex_pair.specs.Finding.{Finding, AnswersAt, IsNextFound, IsNextAnswer, IsBehindLast, IsPlaced, KeepsTwice}
 use Rattle.regex_pair.specs.Finding.{behind, most_left, search_at}
 use Rattle.regex_pair.specs.Joined.{joined}
 use Rattle.regex_pair.specs.PairAnswers.{AnswersPair, PairGivesUp}
-use Rattle.regex_pair.specs.Pairs.{Pair, PairCache, AreCachesOf, PairGrowsOrClears}
-use Rattle.regex_pair.specs.declared.find_matches.FindMatches.{FindMatches}
-use Rattle.regex_pair.specs.FindSteps.{searches_by, finds_from, caches_of, lender_of, items_left, MayGoOn, FindsNext}
+use Rattle.regex_pair.specs.Pairs.{Pair, PairCache, PairGrowsOrClears}
+use Rattle.regex_pair.specs.PairTold.{TellsPair}
+use Rattle.regex_pair.specs.StepSearches.{SearchesNext, searches_once, searches_twice}
 use Rattle.regex_pair.proofs.JoinedLemmas.{LiesWithin, match_lies}
 use Rattle.regex_pair.proofs.PairLemmas.{untouched_grows}
 
@@ -61,6 +61,49 @@ second_taken p middle after q further last o u first again there is = (
   subst (λ (b : Bool). IsTaken (AnswersAt p q) q.start o b u) again
       (ap (λ (s : Search). joined p s) (sym there) ∙ answer_is_joined p after further u is),
 )
+
+-- ---- what the searches do
+
+pub first_fails : (p : Pair) (before after : PairCache) (q : Search) (last : Option ℕ) (e : MatchErrorKind) → AnswersPair p after q (Err e) →
+    PairGrowsOrClears p before after → TellsPair p q before after (Err e) →
+    SearchesNext p (record { search = q; last = last; is_over = false }) before after (Err e)
+first_fails p before after q last e is kept told = searches_once (record { answer = is; kept = kept; told = told }) tt
+
+pub first_is_enough : (p : Pair) (before after : PairCache) (q : Search) (last : Option ℕ) (o : Option Found) → AnswersPair p after q (Ok o) →
+    PairGrowsOrClears p before after → TellsPair p q before after (Ok o) → false ≡ is_repeat last o →
+    SearchesNext p (record { search = q; last = last; is_over = false }) before after (Ok o)
+first_is_enough p before after q last o is kept told new = searches_once (record { answer = is; kept = kept; told = told }) (sym new)
+
+module _ (p : Pair) (before middle after : PairCache) (q further : Search) (last : Option ℕ) (o : Option Found)
+    (is : AnswersPair p middle q (Ok o)) (kept : PairGrowsOrClears p before middle) (told : TellsPair p q before middle (Ok o))
+    (again : true ≡ is_repeat last o) (there : further ≡ search_at q (q.start + 1)) where
+  pub second_is_made : (result : Result (Option Found) MatchErrorKind) → AnswersPair p after further result →
+      PairGrowsOrClears p middle after → TellsPair p further middle after result →
+      SearchesNext p (record { search = q; last = last; is_over = false }) before after result
+  second_is_made result answers keeps tells =
+      searches_twice middle o (record { answer = is; kept = kept; told = told }) (sym again) (record {
+        answer = subst (λ (s : Search). AnswersPair p after s result) there answers;
+        kept = keeps;
+        told = subst (λ (s : Search). TellsPair p s middle after result) there tells;
+      })
+
+-- ---- over a done span
+
+-- with its type
+abbrev answer_of : Option Found → Result (Option Found) MatchErrorKind
+answer_of o = Ok o
+
+pub refusal_is_no_end : (e : MatchErrorKind) (P : Type 0) → Err e ≡ answer_of None → P
+refusal_is_no_end e P is = let never : true ≡ false = cc in absurd (grind (arith, never))
+
+pub match_is_no_end : (f : Found) (P : Type 0) → answer_of (Some f) ≡ answer_of None → P
+match_is_no_end f P is = let never : true ≡ false = cc in absurd (grind (arith, never))
+
+-- where none is found, that is no repeat
+pub repeat_is_no_end : (last : Option ℕ) (o : Option Found) (P : Type 0) → answer_of o ≡ answer_of None → true ≡ is_repeat last o → P
+repeat_is_no_end None o P is again = let never : true ≡ false = again in absurd (grind (arith, never))
+repeat_is_no_end (Some last) None P is again = let never : true ≡ false = again in absurd (grind (arith, never))
+repeat_is_no_end (Some last) (Some f) P is again = match_is_no_end f P is
 
 -- ---- what the searches leave of the caches
 
@@ -136,58 +179,3 @@ refused_is p at q after e made next =
 pub stands_behind : (at : Finding) (f : Found) (i : ℕ) → at.is_over ≡ false → i ≡ f.end →
     record { search = search_at at.search i; last = Some i; is_over = at.is_over } ≡ behind at f
 stands_behind at f i begun here = λ k. record { search = search_at at.search (here k); last = Some (here k); is_over = begun k }
-
--- ---- one step of an iterator
-
-pub finds_nothing_more : (it : FindMatches) → MayGoOn it → it.is_over ≡ true → FindsNext it None it
-finds_nothing_more it ready over = record {
-  same_regex = refl;
-  same_reference = refl;
-  finds = is_over over refl refl refl;
-  kept = kept_untouched (searches_by it) (caches_of it);
-  goes_on = ready;
-}
-
-module _ (old new : FindMatches) (ready : MayGoOn old) (begun : old.is_over ≡ false) (own : AreCachesOf (searches_by old) (caches_of new))
-    (same_regex : searches_by new ≡ searches_by old) (same_reference : lender_of new ≡ lender_of old)
-    (kept : KeepsTwice (searches_by old) (caches_of old) (caches_of new)) where
-  owned : AreCachesOf (searches_by new) (caches_of new)
-  owned = subst (λ (p : Pair). AreCachesOf p (caches_of new)) (sym same_regex) own
-
-  pub finds_match : (f : Found) → IsNextFound (searches_by old) (finds_from old) (Some f) → finds_from new ≡ behind (finds_from old) f →
-      FindsNext old (Some (Ok f)) new
-  finds_match f next there = record {
-    same_regex = same_regex;
-    same_reference = same_reference;
-    finds = finds_next f begun next refl there;
-    kept = kept;
-    goes_on = record {
-      own = owned;
-      placed = subst IsPlaced (sym there) (behind_placed (searches_by old) (finds_from old) f begun ready.placed next);
-    };
-  }
-
-  fewer_left : (f : Found) → IsNextFound (searches_by old) (finds_from old) (Some f) → finds_from new ≡ behind (finds_from old) f →
-      items_left new < items_left old
-  fewer_left f next there = subst (λ (at : Finding). most_left at < items_left old) (sym there)
-      (next_falls (searches_by old) (finds_from old) f begun ready.placed next).later
-
-  pub progress_of_match : (f : Found) → IsNextFound (searches_by old) (finds_from old) (Some f) →
-      finds_from new ≡ behind (finds_from old) f →
-      MakesProgress {A = Result Found MatchErrorKind} MayGoOn (λ it. at_most (items_left it)) old (Some (Ok f)) new
-  progress_of_match f next there =
-      let on : MayGoOn new = (finds_match f next there).goes_on in record {
-        on = λ finite. (on, finite, fewer_left f next there);
-        keeps = on;
-        rests = λ finite. tt;
-      }
-
-  pub finds_refusal : (e : MatchErrorKind) → IsNextAnswer (searches_by old) (finds_from old) (caches_of new) (Err e) →
-      new.is_over ≡ true → IsPlaced (finds_from new) → FindsNext old (Some (Err e)) new
-  finds_refusal e next over placed = record {
-    same_regex = same_regex;
-    same_reference = same_reference;
-    finds = fails next.0 e begun next.1 next.2 refl over;
-    kept = kept;
-    goes_on = record { own = owned; placed = placed };
-  }

@@ -15,10 +15,11 @@ use Rattle.lazy_dfa.specs.Scans.{scan}
 use Rattle.lazy_dfa.specs.SearchAnswers.{Answers, told, told_of, told_by}
 use Rattle.lazy_dfa.specs.Steps.{most_inserts}
 use Rattle.regex_pair.specs.Joined.{is_start_known, back_from, from_start, with_start, join, joined}
-use Rattle.regex_pair.specs.MadeSearches.{MakesHalf, MakesBack, MakesPair, with_half}
+use Rattle.regex_pair.specs.MadeSearches.{MakesHalf, MakesBack, MakesPair}
 use Rattle.regex_pair.specs.PairAnswers.{GoesBack, gives_up_forward, gives_up_back, AnswersPair, IsBackLinked, half_made, back_made_by}
 use Rattle.regex_pair.specs.PairAnswers.{back_made}
 use Rattle.regex_pair.specs.Pairs.{Pair, PairCache}
+use Rattle.regex_pair.specs.PairTold.{TellsHalf, TellsPair, tells_refusal, tells_end, tells_start, with_half}
 use Rattle.regex_pair.proofs.AnswerLemmas.{answer, error, pair, ok_is_no_error, some_is_not_none, some_is_found, ok_is_told, finds_in_span}
 
 abbrev Half : Type 0
@@ -86,9 +87,18 @@ module _ (p : Pair) (q : Search) (old new : PairCache) (m1 m2 n1 n2 : ℕ) (h : 
   answers_there (inr (inl is)) = inr (inl (ap (λ (x : Half). by_end q x) is))
   answers_there (inr (inr g)) = inr (inr (g.0, ap (λ (x : Half). by_end q x) g.1, gives_up_forward g.2))
 
+  is_answer : (f : Option HalfFound) → h ≡ Ok f → h ≡ told (scan (reader p.forward) q)
+  is_answer f is = is ∙ ok_is_told p.forward new.forward q f (subst (λ (x : Half). Answers p.forward new.forward q x) is ends.answer)
+
   never_back : (f : Option HalfFound) → h ≡ Ok f → (e : ℕ × ℕ) → GoesBack p q e → ⊥
-  never_back f is = never (is ∙ ok_is_told p.forward new.forward q f (subst
-      (λ (x : Half). Answers p.forward new.forward q x) is ends.answer))
+  never_back f is = never (is_answer f is)
+
+  stops_told : (x : Half) → ((f : Option HalfFound) → x ≡ Ok f → by_end q x ≡ joined p q) → Answers p.forward new.forward q x →
+      ((f : Option HalfFound) → x ≡ Ok f → (e : ℕ × ℕ) → GoesBack p q e → ⊥) → TellsHalf p.forward q old.forward new.forward x →
+      TellsPair p q old new (by_end q x)
+  stops_told (Ok (Some e)) is answers none tells = tells_end (Some e) (is (Some e) refl) (none (Some e) refl) tells same
+  stops_told (Ok None) is answers none tells = tells_end None (is None refl) (none None refl) tells same
+  stops_told (Err x) is answers none tells = tells_refusal x refl answers tells same
 
   pub stops : MakesPair p q old new m1 m2 n1 n2 (by_end q h)
   stops = record {
@@ -107,11 +117,12 @@ module _ (p : Pair) (q : Search) (old new : PairCache) (m1 m2 n1 n2 : ℕ) (h : 
     is_told = on_end q h (new.forward.clears ≡ old.forward.clears → old.forward.clears < greatest →
         told_of new.forward ≡ told_by (reader p.forward) q (told_of old.forward) (passes_of (reader p.forward) q))
         (new.forward.clears ≡ old.forward.clears → old.forward.clears < greatest →
-        told_of new.forward ≡ told_by (reader p.forward) q (told_of old.forward) (passes_of (reader p.forward) q)) (λ t. t) ends.is_told;
+        told_of new.forward ≡ told_by (reader p.forward) q (told_of old.forward) (passes_of (reader p.forward) q)) (λ t. t) ends.tells.told;
     back_told = on_value q h (new.reverse.clears ≡ old.reverse.clears → old.reverse.clears < greatest → (e : ℕ × ℕ) → GoesBack p q e →
         told_of new.reverse ≡ told_by (reader p.reverse) (back_from q e.0) (told_of old.reverse)
         (passes_of (reader p.reverse) (back_from q e.0)))
         (λ f is kept less e there. absurd (never_back f is e there));
+    tells = stops_told h (λ f is. joined_there (is_answer f is)) ends.answer never_back ends.tells;
     moved = λ linked. record {
       forward = ends.moved linked.forward;
       reverse =
@@ -221,10 +232,11 @@ module _ (p : Pair) (q : Search) (e : HalfFound) (there : GoesBack p q (pair e))
           IsLinked p.reverse new.reverse back)
           (new.reverse.clears ≡ old.reverse.clears → old.reverse.clears < greatest → IsBackLinked p new.reverse q) linked_back made.linked;
       is_told = always_back e b (new.forward.clears ≡ old.forward.clears → old.forward.clears < greatest →
-          told_of new.forward ≡ told_by (reader p.forward) q (told_of old.forward) (passes_of (reader p.forward) q)) ends.is_told;
+          told_of new.forward ≡ told_by (reader p.forward) q (told_of old.forward) (passes_of (reader p.forward) q)) ends.tells.told;
       back_told = on_back e b (new.reverse.clears ≡ old.reverse.clears → old.reverse.clears < greatest → IsTold (pair e))
           (new.reverse.clears ≡ old.reverse.clears → old.reverse.clears < greatest → (x : ℕ × ℕ) → GoesBack p q x →
-          IsTold x) told_back made.is_told;
+          IsTold x) told_back made.tells.told;
+      tells = tells_start e b refl there made.answer ends.tells made.tells;
       moved = λ linked. record { forward = ends.moved linked.forward; reverse = made.moved (linked.back (pair e) there) };
       free = λ linked. let up = ends.free linked.forward in let is_reverse = made.free (linked.back (pair e) there) in
           (is_reverse.0 ∙ up.0, is_reverse.1 ∙ up.1);

@@ -1,5 +1,6 @@
 -- What a contract sees of an iterator over matches, and its steps.
-use Rattle.std.specs.Prelude.{◌≡◌, ℕ, Option, Result}
+use Rattle.std.specs.Prelude.{◌≡◌, ◌<◌, ℕ, false, Option, None, Result}
+use Rattle.std.specs.Result.{result_transpose}
 use Rattle.std.specs.Borrow.{GName}
 use Rattle.search_types.specs.declared.match_error.MatchErrorKind.{MatchErrorKind}
 use Rattle.search_types.specs.Found.{Found}
@@ -7,6 +8,7 @@ use Rattle.search_types.specs.Inputs.{Search}
 use Rattle.regex_pair.specs.declared.find_matches.FindMatches.{FindMatches}
 use Rattle.regex_pair.specs.Finding.{Finding, Finds, IsPlaced, KeepsTwice, most_left}
 use Rattle.regex_pair.specs.Pairs.{Pair, PairCache, AreCachesOf}
+use Rattle.regex_pair.specs.StepSearches.{SearchesNext}
 
 -- the automata over which it searches
 abbrev pub searches_by : FindMatches → Pair
@@ -32,12 +34,16 @@ pub record MayGoOn (it : FindMatches) : Type 0 where
   pub own : AreCachesOf (searches_by it) (caches_of it)
   pub placed : IsPlaced (finds_from it)
 
--- One step. It is over the same automata and the same reference, and the iterator may go on, whatever the step gave.
+-- One step. It is over the same automata and the same reference, and the iterator may go on, whatever the step gave. What it gives is
+-- by what its one or two searches answer. Where the span that is left is done it makes none, and the caches stay as they are.
 pub record FindsNext (old : FindMatches) (item : Option (Result Found MatchErrorKind)) (new : FindMatches) : Type 0 where
   pub same_regex : searches_by new ≡ searches_by old
   pub same_reference : lender_of new ≡ lender_of old
   pub finds : Finds (searches_by old) (finds_from old) (finds_from new) (caches_of old) (caches_of new) item
   pub kept : KeepsTwice (searches_by old) (caches_of old) (caches_of new)
+  pub searches : old.is_over ≡ false → (result : Result (Option Found) MatchErrorKind) × (item ≡ result_transpose result) ×
+      SearchesNext (searches_by old) (finds_from old) (caches_of old) (caches_of new) result
+  pub done : old.end < old.start → (item ≡ None) × (caches_of new ≡ caches_of old)
   pub goes_on : MayGoOn new
 
 -- so many items come at most

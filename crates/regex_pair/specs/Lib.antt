@@ -3,8 +3,10 @@ pub mod Lending
 pub mod Joined
 pub mod PairAnswers
 pub mod Matching
+pub mod PairTold
 pub mod MadeSearches
 pub mod Finding
+pub mod StepSearches
 pub mod FindSteps
 pub mod PairLaws
 pub mod Reach

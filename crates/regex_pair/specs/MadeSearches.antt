@@ -1,5 +1,5 @@
 -- What the functions that make the half searches of a pair, one after the other, say of what they did.
-use Rattle.std.specs.Prelude.{◌≡◌, ◌⊎◌, ℕ, ◌+◌, ◌*◌, ◌<◌, ◌≤◌, Bool, true, false, Option, Some, None, Result, Ok, Err, IfErr, OnOk}
+use Rattle.std.specs.Prelude.{◌≡◌, ◌⊎◌, ℕ, ◌+◌, ◌*◌, ◌<◌, ◌≤◌, Bool, true, Option, None, Result, IfErr, OnOk}
 use Rattle.search_types.specs.declared.match_error.MatchErrorKind.{MatchErrorKind}
 use Rattle.search_types.specs.declared.match_error.MatchErrorKind.TheVariants.{NoMemory, NotAPair}
 use Rattle.search_types.specs.Found.{Found, HalfFound}
@@ -17,6 +17,7 @@ use Rattle.regex_pair.specs.Joined.{back_from, joined}
 use Rattle.regex_pair.specs.Matching.{AnswersMatch, has_match, match_search}
 use Rattle.regex_pair.specs.PairAnswers.{AnswersPair, ArePathsLinked, GoesBack, IsBackLinked, half_made, back_made}
 use Rattle.regex_pair.specs.Pairs.{Pair, PairCache, PairGrowsOrClears, IsPairMoved}
+use Rattle.regex_pair.specs.PairTold.{TellsHalf, TellsMatch, TellsPair, is_some_half, with_half}
 
 -- one half search: what its contract says, whichever way it goes
 pub record MakesHalf (d : Dfa) (q : Search) (old new : CacheValue) (m1 m2 n1 n2 : ℕ)
@@ -26,19 +27,12 @@ pub record MakesHalf (d : Dfa) (q : Search) (old new : CacheValue) (m1 m2 n1 n2 
       HasNoQuitNear (reader d) q.haystack q.start q.end → IfErr result (λ e. e ≡ NoMemory)
   pub kept : GrowsOrClears d old new
   pub linked : OnOk result (new.clears ≡ old.clears → old.clears < greatest → IsLinked d new q)
-  pub is_told : OnOk result (new.clears ≡ old.clears → old.clears < greatest →
-      told_of new ≡ told_by (reader d) q (told_of old) (passes_of (reader d) q))
+  pub tells : TellsHalf d q old new result
   pub moved : IsLinked d old q → IsMoved old new
   pub free : IsLinked d old q → (m2 ≡ m1) × (n2 ≡ n1)
   pub sure_if_linked : IsLinked d old q → result ≡ told (scan (reader d) q)
   pub determinized : m2 ≤ m1 + half_made (reader d) q
   pub inserted : n2 ≤ n1 + half_made (reader d) q * most_inserts d
-
--- the match with an end by what code answers of its start
-abbrev pub with_half : HalfFound → Result (Option HalfFound) MatchErrorKind → Result (Option Found) MatchErrorKind
-with_half e (Ok (Some s)) = Ok (Some (record { pattern = e.pattern; start = s.offset; end = e.offset }))
-with_half e (Ok None) = Err NotAPair
-with_half e (Err x) = Err x
 
 -- the search back from an end
 pub record MakesBack (p : Pair) (q : Search) (e : HalfFound) (old new : CacheValue) (m1 m2 n1 n2 : ℕ)
@@ -46,12 +40,6 @@ pub record MakesBack (p : Pair) (q : Search) (e : HalfFound) (old new : CacheVal
   pub half : Result (Option HalfFound) MatchErrorKind
   pub made : MakesHalf p.reverse (back_from q e.offset) old new m1 m2 n1 n2 half
   pub answer : result ≡ with_half e half
-
--- whether code that looks for an end finds one
-abbrev pub is_some_half : Result (Option HalfFound) MatchErrorKind → Result Bool MatchErrorKind
-is_some_half (Ok (Some e)) = Ok true
-is_some_half (Ok None) = Ok false
-is_some_half (Err x) = Err x
 
 -- a half search that tells whether there is an end
 pub record FindsEnd (d : Dfa) (q : Search) (old new : CacheValue) (m1 m2 n1 n2 : ℕ) (result : Result Bool MatchErrorKind) : Type 0 where
@@ -76,6 +64,7 @@ pub record MakesPair (p : Pair) (q : Search) (old new : PairCache) (m1 m2 n1 n2 
   pub back_told : OnOk result (new.reverse.clears ≡ old.reverse.clears → old.reverse.clears < greatest → (e : ℕ × ℕ) → GoesBack p q e →
       told_of new.reverse ≡ told_by (reader p.reverse) (back_from q e.0) (told_of old.reverse)
       (passes_of (reader p.reverse) (back_from q e.0)))
+  pub tells : TellsPair p q old new result
   pub moved : ArePathsLinked p old q → IsPairMoved old new
   pub free : ArePathsLinked p old q → (m2 ≡ m1) × (n2 ≡ n1)
   pub sure_if_linked : ArePathsLinked p old q → result ≡ joined p q
@@ -94,6 +83,7 @@ pub record MakesMatch (p : Pair) (q : Search) (old new : PairCache) (m1 m2 n1 n2
   pub is_told : OnOk result (new.forward.clears ≡ old.forward.clears → old.forward.clears < greatest →
       told_of new.forward ≡ told_by (reader p.forward) (match_search (reader p.forward) q) (told_of old.forward)
       (passes_of (reader p.forward) (match_search (reader p.forward) q)))
+  pub tells : TellsMatch p q old new result
   pub moved : IsLinked p.forward old.forward (match_search (reader p.forward) q) → IsMoved old.forward new.forward
   pub free : IsLinked p.forward old.forward (match_search (reader p.forward) q) → (m2 ≡ m1) × (n2 ≡ n1)
   pub sure_if_linked : IsLinked p.forward old.forward (match_search (reader p.forward) q) → result ≡ has_match p q

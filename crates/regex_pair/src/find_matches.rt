@@ -1,5 +1,5 @@
 //! Matches one after the other.
-ghost use Rattle.std.specs.Prelude.{◌≡◌, ◌+◌, ◌<◌, ◌≤◌, false};
+ghost use Rattle.std.specs.Prelude.{◌≡◌, ◌+◌, ◌<◌, ◌≤◌, false, None, Ok};
 ghost use Rattle.std.specs.Iterator.{at_most};
 ghost use Rattle.search_types.specs.AllAnswers.{is_repeat};
 ghost use Rattle.search_types.specs.Inputs.{IsSpanOf};
@@ -7,6 +7,8 @@ ghost use Rattle.regex_pair.specs.Finding.{finding_all, search_at, IsNextAnswer,
 ghost use Rattle.regex_pair.specs.FindSteps.{searches_by, finds_from, caches_of, lender_of, items_left, MayGoOn, FindsNext};
 ghost use Rattle.regex_pair.specs.PairAnswers.{AnswersPair};
 ghost use Rattle.regex_pair.specs.Pairs.{AreCachesOf, PairGrowsOrClears};
+ghost use Rattle.regex_pair.specs.PairTold.{TellsPair};
+ghost use Rattle.regex_pair.specs.StepSearches.{SearchesNext};
 
 use crate::regex::{Cache, Regex};
 use lazy_dfa::Work;
@@ -31,7 +33,9 @@ fn search_counted<L: Ledger, M: Ledger>(
     requires some2 { 0 < second.parts }
     ensures own { AreCachesOf re.now cache.new }
     ensures answer { AnswersPair re.now cache.new input.now result }
+    ensures done { input.now.end < input.now.start → (result ≡ Ok None) × (cache.new ≡ cache.old) }
     ensures kept { PairGrowsOrClears re.now cache.old cache.new }
+    ensures tells { TellsPair re.now input.now cache.old cache.new result }
 {
     let mut work = Work::<L, M>::new(first, second);
     re.try_search(cache, input, &mut work)
@@ -46,7 +50,9 @@ fn search_once(
     requires own { AreCachesOf re.now cache.old }
     ensures own { AreCachesOf re.now cache.new }
     ensures answer { AnswersPair re.now cache.new input.now result }
+    ensures done { input.now.end < input.now.start → (result ≡ Ok None) × (cache.new ≡ cache.old) }
     ensures kept { PairGrowsOrClears re.now cache.old cache.new }
+    ensures tells { TellsPair re.now input.now cache.old cache.new result }
 {
     let first = Blank::new(1);
     let second = Blank::new(1);
@@ -103,7 +109,9 @@ fn next_answer(
     requires own { AreCachesOf re.now cache.old }
     ensures own { AreCachesOf re.now cache.new }
     ensures answer { IsNextAnswer re.now (record { search = input.now; last = last; is_over = false }) cache.new result }
+    ensures done { input.now.end < input.now.start → (result ≡ Ok None) × (cache.new ≡ cache.old) }
     ensures kept { KeepsTwice re.now cache.old cache.new }
+    ensures searches { SearchesNext re.now (record { search = input.now; last = last; is_over = false }) cache.old cache.new result }
 {
     let found = match search_once(re, cache, input) {
         Ok(found) => found,
@@ -124,10 +132,10 @@ fn next_answer(
 /// Each item is the next match. An empty one at the end of the last match isn't given. A refusal is the last item, where the
 /// iterator of the Rust crate panics; behind it and behind the end comes nothing for good.
 ///
-/// The caches are the regex's own after each step, whatever it gave, and keep what they have but for clears, as
-/// [`try_search`](Regex::try_search) has it. Those that were lent are the regex's own once this is gone: a loop
-/// keeps that the iterator may go on (`MayGoOn`), and that the regex (`searches_by`) and the name of the reference
-/// (`lender_of`) are those with which it began.
+/// The caches are the regex's own after each step, whatever it gave, keep what they have but for clears, and are told how far
+/// searches came, as [`try_search`](Regex::try_search) has it. Over a done span they stay as they are. Those that were lent are the
+/// regex's own once this is gone: a loop keeps that the iterator may go on (`MayGoOn`), and that the regex (`searches_by`) and the
+/// name of the reference (`lender_of`) are those with which it began. What it took is as [`taken_laws`](crate::taken_laws) say.
 #[derive(Drop)]
 pub struct FindMatches<'r, 'c, 'h> {
     cache: &'c mut Cache,

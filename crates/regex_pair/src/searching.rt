@@ -1,5 +1,5 @@
 //! Searches over two automata.
-ghost use Rattle.std.specs.Prelude.{◌≡◌, ◌⊎◌, ◌+◌, ◌*◌, ◌<◌, ◌≤◌, ℕ, true, false, None, IfOk, IfErr, OnOk};
+ghost use Rattle.std.specs.Prelude.{◌≡◌, ◌⊎◌, ◌+◌, ◌*◌, ◌<◌, ◌≤◌, ℕ, true, false, None, Ok, IfOk, IfErr, OnOk};
 ghost use Rattle.search_types.specs.declared.match_error.MatchErrorKind.TheVariants.{NoMemory, NotAPair};
 ghost use Rattle.search_types.specs.Inputs.{IsWithin};
 ghost use Rattle.search_types.specs.Modes.{is_supported};
@@ -15,6 +15,7 @@ ghost use Rattle.regex_pair.specs.MadeSearches.{MakesHalf, MakesBack, FindsEnd, 
 ghost use Rattle.regex_pair.specs.Matching.{AnswersMatch, has_match, match_search};
 ghost use Rattle.regex_pair.specs.PairAnswers.{AnswersPair, ArePathsLinked, GoesBack, IsBackLinked, half_made, back_made};
 ghost use Rattle.regex_pair.specs.Pairs.{AreCachesOf, IsPair, PairGrowsOrClears, IsPairMoved};
+ghost use Rattle.regex_pair.specs.PairTold.{TellsMatch, TellsPair};
 ghost use Rattle.regex_pair.specs.Reach.{HasPairReach};
 
 use crate::regex::{Cache, Regex};
@@ -143,12 +144,9 @@ fn search<L: Ledger, M: Ledger>(
     work: &mut Work<L, M>,
 ) -> Result<Option<Match>, MatchError>
     requires own { AreCachesOf re.now cache.old }
-    ensures pair { IsPair re.now }
-    ensures within { IsWithin input.now }
     ensures own { AreCachesOf re.now cache.new }
     ensures search { MakesPair re.now input.now cache.old cache.new work.old.determinized work.new.determinized work.old.inserted work.new.inserted result }
 {
-    see_pair(re, input);
     let end = match search_end(re, &mut cache.forward, input, work) {
         Ok(end) => end,
         Err(e) => return Err(e),
@@ -160,6 +158,27 @@ fn search<L: Ledger, M: Ledger>(
         return Ok(Some(match_between(input.start(), end)));
     }
     search_back(re, &mut cache.reverse, input, end, work)
+}
+
+/// A search over both automata; over a done span none is made.
+fn search_span<L: Ledger, M: Ledger>(
+    re: &Regex,
+    cache: &mut Cache,
+    input: &Input<'_>,
+    work: &mut Work<L, M>,
+) -> Result<Option<Match>, MatchError>
+    requires own { AreCachesOf re.now cache.old }
+    ensures pair { IsPair re.now }
+    ensures within { IsWithin input.now }
+    ensures own { AreCachesOf re.now cache.new }
+    ensures done { input.now.end < input.now.start → (result ≡ Ok None) × (cache.new ≡ cache.old) × (work.new ≡ work.old) }
+    ensures search { MakesPair re.now input.now cache.old cache.new work.old.determinized work.new.determinized work.old.inserted work.new.inserted result }
+{
+    see_pair(re, input);
+    if input.is_done() {
+        return Ok(None); // over no byte
+    }
+    search(re, cache, input, work)
 }
 
 /// Whether a half search finds an end.
@@ -195,6 +214,24 @@ fn search_match<L: Ledger, M: Ledger>(
     finds_end(re, &mut cache.forward, &search, work)
 }
 
+/// The same; over a done span none is made.
+fn match_span<L: Ledger, M: Ledger>(
+    re: &Regex,
+    cache: &mut Cache,
+    input: &Input<'_>,
+    work: &mut Work<L, M>,
+) -> Result<bool, MatchError>
+    requires own { AreCachesOf re.now cache.old }
+    ensures own { AreCachesOf re.now cache.new }
+    ensures done { input.now.end < input.now.start → (result ≡ Ok false) × (cache.new ≡ cache.old) × (work.new ≡ work.old) }
+    ensures search { MakesMatch re.now input.now cache.old cache.new work.old.determinized work.new.determinized work.old.inserted work.new.inserted result }
+{
+    if input.is_done() {
+        return Ok(false);
+    }
+    search_match(re, cache, input, work)
+}
+
 impl Regex {
     /// The match in a span that leftmost-first prefers, or none, as `Regex::try_search`: the automaton that reads forward finds
     /// its end, and the one that reads in reverse from there its start, unless that is known.
@@ -206,7 +243,12 @@ impl Regex {
     ///
     /// Where no quit byte stands in or beside the span, no least count of clears is set and the mode is supported, it answers,
     /// if memory suffices and the automata are a pair. Where the caches aren't cleared on the way, all steps of the search are
-    /// known afterwards, and a search whose steps are known makes no states and takes no memory.
+    /// known afterwards, and a search whose steps are known makes no states and takes no memory. Over a done span it makes
+    /// none, and the caches stay as they are.
+    ///
+    /// The caches are told how far their searches came, whatever the answer is, as
+    /// [`try_search_fwd`](lazy_dfa::dfa::DFA::try_search_fwd) and [`try_search_rev`](lazy_dfa::dfa::DFA::try_search_rev) have
+    /// it. Where no search goes back, the cache of the second automaton stays as it is.
     ///
     /// A match, or none, comes with a place up to which the first automaton read: from the byte before the span to there stands
     /// no quit byte of it, and over each haystack with the same bytes there the answer is the same.
@@ -219,6 +261,7 @@ impl Regex {
         requires own { AreCachesOf self.now cache.old }
         ensures own { AreCachesOf self.now cache.new }
         ensures answer { AnswersPair self.now cache.new input.now result }
+        ensures done { input.now.end < input.now.start → (result ≡ Ok None) × (cache.new ≡ cache.old) × (work.new ≡ work.old) }
         ensures sure { clears_of self.now.forward.options ≡ None → clears_of self.now.reverse.options ≡ None →
             is_supported (reader self.now.forward).starts_for_each_pattern input.now.anchored ≡ true →
             HasNoQuitNear (reader self.now.forward) input.now.haystack input.now.start input.now.end →
@@ -235,6 +278,7 @@ impl Regex {
         ensures back_told { OnOk result (cache.new.reverse.clears ≡ cache.old.reverse.clears → cache.old.reverse.clears < greatest →
             (e : ℕ × ℕ) → GoesBack self.now input.now e → told_of cache.new.reverse ≡
             told_by (reader self.now.reverse) (back_from input.now e.0) (told_of cache.old.reverse) (passes_of (reader self.now.reverse) (back_from input.now e.0))) }
+        ensures tells { TellsPair self.now input.now cache.old cache.new result }
         ensures moved { ArePathsLinked self.now cache.old input.now → IsPairMoved cache.old cache.new }
         ensures free { ArePathsLinked self.now cache.old input.now → work.new ≡ work.old }
         ensures sure_if_linked { ArePathsLinked self.now cache.old input.now → result ≡ joined self.now input.now }
@@ -243,7 +287,7 @@ impl Regex {
         ensures inserted { work.new.inserted ≤ work.old.inserted + (half_made (reader self.now.forward) input.now * most_inserts self.now.forward +
             back_made self.now input.now * most_inserts self.now.reverse) }
     {
-        search(self, cache, input, work)
+        search_span(self, cache, input, work)
     }
 
     /// The same as [`try_search`](Regex::try_search), as `Regex::find`.
@@ -256,6 +300,7 @@ impl Regex {
         requires own { AreCachesOf self.now cache.old }
         ensures own { AreCachesOf self.now cache.new }
         ensures answer { AnswersPair self.now cache.new input.now result }
+        ensures done { input.now.end < input.now.start → (result ≡ Ok None) × (cache.new ≡ cache.old) × (work.new ≡ work.old) }
         ensures sure { clears_of self.now.forward.options ≡ None → clears_of self.now.reverse.options ≡ None →
             is_supported (reader self.now.forward).starts_for_each_pattern input.now.anchored ≡ true →
             HasNoQuitNear (reader self.now.forward) input.now.haystack input.now.start input.now.end →
@@ -272,6 +317,7 @@ impl Regex {
         ensures back_told { OnOk result (cache.new.reverse.clears ≡ cache.old.reverse.clears → cache.old.reverse.clears < greatest →
             (e : ℕ × ℕ) → GoesBack self.now input.now e → told_of cache.new.reverse ≡
             told_by (reader self.now.reverse) (back_from input.now e.0) (told_of cache.old.reverse) (passes_of (reader self.now.reverse) (back_from input.now e.0))) }
+        ensures tells { TellsPair self.now input.now cache.old cache.new result }
         ensures moved { ArePathsLinked self.now cache.old input.now → IsPairMoved cache.old cache.new }
         ensures free { ArePathsLinked self.now cache.old input.now → work.new ≡ work.old }
         ensures sure_if_linked { ArePathsLinked self.now cache.old input.now → result ≡ joined self.now input.now }
@@ -288,7 +334,7 @@ impl Regex {
     /// that leftmost-first prefers is looked for, and else the earliest one, whatever the input asks for.
     ///
     /// It is refused as the first half search is: at a quit byte, in a mode that isn't supported, where the cache gives up, and
-    /// where memory lacks.
+    /// where memory lacks. Its cache is told how far that one came. Over a done span none is made, and the cache stays as it is.
     pub fn is_match<L: Ledger, M: Ledger>(
         &self,
         cache: &mut Cache,
@@ -298,6 +344,7 @@ impl Regex {
         requires own { AreCachesOf self.now cache.old }
         ensures own { AreCachesOf self.now cache.new }
         ensures answer { AnswersMatch self.now cache.new input.now result }
+        ensures done { input.now.end < input.now.start → (result ≡ Ok false) × (cache.new ≡ cache.old) × (work.new ≡ work.old) }
         ensures sure { clears_of self.now.forward.options ≡ None → is_supported (reader self.now.forward).starts_for_each_pattern input.now.anchored ≡ true →
             HasNoQuitNear (reader self.now.forward) input.now.haystack input.now.start input.now.end → IfErr result (λ e. e ≡ NoMemory) }
         ensures kept { GrowsOrClears self.now.forward cache.old.forward cache.new.forward }
@@ -307,12 +354,13 @@ impl Regex {
         ensures told { OnOk result (cache.new.forward.clears ≡ cache.old.forward.clears → cache.old.forward.clears < greatest →
             told_of cache.new.forward ≡ told_by (reader self.now.forward) (match_search (reader self.now.forward) input.now) (told_of cache.old.forward)
             (passes_of (reader self.now.forward) (match_search (reader self.now.forward) input.now))) }
+        ensures tells { TellsMatch self.now input.now cache.old cache.new result }
         ensures moved { IsLinked self.now.forward cache.old.forward (match_search (reader self.now.forward) input.now) → IsMoved cache.old.forward cache.new.forward }
         ensures free { IsLinked self.now.forward cache.old.forward (match_search (reader self.now.forward) input.now) → work.new ≡ work.old }
         ensures sure_if_linked { IsLinked self.now.forward cache.old.forward (match_search (reader self.now.forward) input.now) → result ≡ has_match self.now input.now }
         ensures determinized { work.new.determinized ≤ work.old.determinized + half_made (reader self.now.forward) (match_search (reader self.now.forward) input.now) }
         ensures inserted { work.new.inserted ≤ work.old.inserted + half_made (reader self.now.forward) (match_search (reader self.now.forward) input.now) * most_inserts self.now.forward }
     {
-        search_match(self, cache, input, work)
+        match_span(self, cache, input, work)
     }
 }

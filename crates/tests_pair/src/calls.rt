@@ -19,6 +19,8 @@ pub(crate) enum Call {
     HandTo(Shape, Shape),
     /// So many bytes are needed by each cache, and their sum by both.
     Usage(usize, usize),
+    /// So many bytes were searched for ends, and so many for starts.
+    Told(usize, usize),
 }
 
 /// An automaton forward and one in reverse, how both are made, and calls over their regex.
@@ -223,6 +225,7 @@ fn is_answered(alloc: Global, machine: &mut Machine, call: &Call) -> bool {
         Call::Usage(ends, starts) => {
             machine.usage() == (ends, starts, ends.saturating_add(starts))
         }
+        Call::Told(ends, starts) => machine.searched() == (ends, starts),
     }
 }
 

@@ -91,6 +91,14 @@ impl Machine {
             self.cache.memory_usage(),
         )
     }
+
+    /// The bytes that were searched since the last clear: for ends, and for starts.
+    pub(crate) fn searched(&self) -> (usize, usize) {
+        (
+            self.cache.forward().search_total_len(),
+            self.cache.reverse().search_total_len(),
+        )
+    }
 }
 
 /// Searches.

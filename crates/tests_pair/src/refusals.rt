@@ -1,10 +1,10 @@
 //! Why searches over two automata are refused, and why regexes aren't built.
 use crate::automata::Options::{BackNever, BackQuits, Capacity, Never, Plain, Quits};
 use crate::automata::{Shape, made};
-use crate::calls::Call::{IsMatch, Search, Usage};
+use crate::calls::Call::{IsMatch, Search, Told, Usage};
 use crate::calls::Found::{Any, At, GaveUp, NoStarts, NotAPair, Nothing, Quit};
 use crate::calls::Mode::{No, Only, Yes};
-use crate::calls::Text::{A, Aa, Ab, Xa, Xab, Xx};
+use crate::calls::Text::{A, Aa, Ab, Abd, Xa, Xaa, Xab, Xx};
 use crate::calls::{Case, Over, answers, give_up};
 use lazy_dfa::BuildError;
 use std::alloc::Global;
@@ -46,7 +46,8 @@ fn no_pair_and_no_starts(rt: HostRuntime) {
 }
 
 /// There is no room for the state behind `b`, and no clear is allowed. The search back alone gives up at `b`, at which it looks
-/// behind its start; or it has room for two of its three states, of 62, 62 and 61 bytes.
+/// behind its start; or it has room for two of its three states, of 62, 62 and 61 bytes. Each of the two searches of `xx` is told
+/// to have come 2 bytes far, and each of the four of `ab` 1.
 #[test]
 fn searches_that_give_up(rt: HostRuntime) {
     let cases: &[Case] = &[
@@ -59,6 +60,7 @@ fn searches_that_give_up(rt: HostRuntime) {
                 Search(Over(Ab, 0, 2, No), GaveUp(1)),
                 IsMatch(Over(Ab, 0, 2, No), GaveUp(1)),
                 Usage(445, 316),
+                Told(8, 0),
             ],
         ),
         (
@@ -87,6 +89,27 @@ fn searches_that_give_up(rt: HostRuntime) {
     for case in cases {
         assert!(rt; answers(rt.alloc(), case));
     }
+}
+
+/// Of `a` with the quit byte `d`, each search made twice: of `xaa` the search for the end comes 3 bytes far, over the letter behind
+/// its end and past the last byte, and that for the start 1, to the first byte of the span. The search for the end comes 2 bytes far
+/// to `d`, where it ends, and the search back isn't made. A done span is searched by none.
+#[test]
+fn searches_that_quit_are_told(rt: HostRuntime) {
+    let case: &Case = &(
+        Shape::A,
+        Shape::A,
+        Quits(b'd'),
+        &[
+            Search(Over(Xaa, 0, 3, No), At(0, 1, 2)),
+            Told(6, 2),
+            Search(Over(Abd, 0, 3, No), Quit(b'd', 2)),
+            Told(10, 2),
+            Search(Over(Xaa, 3, 2, No), Nothing),
+            Told(10, 2),
+        ],
+    );
+    assert!(rt; answers(rt.alloc(), case));
 }
 
 /// How the build of the ends of `a` with the starts of `ab` ends, with this capacity for each: with so many patterns, or with

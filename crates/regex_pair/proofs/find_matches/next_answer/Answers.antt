@@ -1,4 +1,6 @@
-use Rattle.regex_pair.proofs.NextLemmas.{first_refused, second_refused, second_taken}
+use Rattle.std.specs.Prelude.{Ok, Err}
+use Rattle.regex_pair.proofs.NextLemmas.{first_refused, first_fails, first_is_enough, second_refused, second_taken, second_is_made}
+use Rattle.regex_pair.proofs.NextLemmas.{refusal_is_no_end, repeat_is_no_end}
 use Rattle.regex_pair.proofs.find_matches.next_answer.Goals as goal
 
 pub returns-in-Err-clause-answer : goal.returns-in-Err-clause-answer
@@ -16,3 +18,38 @@ returns-in-Ok-search_once-clause-answer c =
     second_taken c.args.re.now c.search_once.new.cache c.search_once-2.new.cache c.args.input.now c.one_further-further.result c.args.last
     c.in-Ok.found c.in-Ok-search_once.found c.in-Ok.ensures.answer c.if-not-is_repeat.ensures c.one_further-further.ensures
     c.in-Ok-search_once.ensures.answer
+
+pub returns-in-Err-clause-done : goal.returns-in-Err-clause-done
+returns-in-Err-clause-done c past = refusal_is_no_end c.in-Err.e _ (c.in-Err.ensures.done past).0
+
+pub returns-in-Err-clause-searches : goal.returns-in-Err-clause-searches
+returns-in-Err-clause-searches c =
+    first_fails c.args.re.now c.args.cache.now c.search_once.new.cache c.args.input.now c.args.last c.in-Err.e c.in-Err.ensures.answer
+    c.in-Err.ensures.kept c.in-Err.ensures.tells
+
+pub returns-in-Err-search_once-clause-done : goal.returns-in-Err-search_once-clause-done
+returns-in-Err-search_once-clause-done c past =
+    repeat_is_no_end c.args.last c.in-Ok.found _ (c.in-Ok.ensures.done past).0 c.if-not-is_repeat.ensures
+
+pub returns-in-Err-search_once-clause-searches : goal.returns-in-Err-search_once-clause-searches
+returns-in-Err-search_once-clause-searches c =
+    second_is_made c.args.re.now c.args.cache.now c.search_once.new.cache c.search_once-2.new.cache c.args.input.now
+    c.one_further-further.result c.args.last c.in-Ok.found c.in-Ok.ensures.answer c.in-Ok.ensures.kept c.in-Ok.ensures.tells
+    c.if-not-is_repeat.ensures c.one_further-further.ensures (Err c.in-Err-search_once.e)
+    c.in-Err-search_once.ensures.answer c.in-Err-search_once.ensures.kept c.in-Err-search_once.ensures.tells
+
+pub returns-in-Ok-search_once-clause-done : goal.returns-in-Ok-search_once-clause-done
+returns-in-Ok-search_once-clause-done c past =
+    repeat_is_no_end c.args.last c.in-Ok.found _ (c.in-Ok.ensures.done past).0 c.if-not-is_repeat.ensures
+
+pub returns-in-Ok-search_once-clause-searches : goal.returns-in-Ok-search_once-clause-searches
+returns-in-Ok-search_once-clause-searches c =
+    second_is_made c.args.re.now c.args.cache.now c.search_once.new.cache c.search_once-2.new.cache c.args.input.now
+    c.one_further-further.result c.args.last c.in-Ok.found c.in-Ok.ensures.answer c.in-Ok.ensures.kept c.in-Ok.ensures.tells
+    c.if-not-is_repeat.ensures c.one_further-further.ensures (Ok c.in-Ok-search_once.found)
+    c.in-Ok-search_once.ensures.answer c.in-Ok-search_once.ensures.kept c.in-Ok-search_once.ensures.tells
+
+pub returns-then-not-is_repeat-clause-searches : goal.returns-then-not-is_repeat-clause-searches
+returns-then-not-is_repeat-clause-searches c =
+    first_is_enough c.args.re.now c.args.cache.now c.search_once.new.cache c.args.input.now c.args.last c.in-Ok.found c.in-Ok.ensures.answer
+    c.in-Ok.ensures.kept c.in-Ok.ensures.tells c.if-not-is_repeat.ensures

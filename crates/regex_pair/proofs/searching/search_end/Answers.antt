@@ -11,7 +11,11 @@ returns-clause-search g c = subst (λ (d : Dfa). MakesHalf d c.args.input.now c.
       sure = c.try_search_fwd.ensures.sure;
       kept = c.try_search_fwd.ensures.kept;
       linked = c.try_search_fwd.ensures.linked;
-      is_told = c.try_search_fwd.ensures.told;
+      tells = record {
+        told = c.try_search_fwd.ensures.told;
+        left_told = c.try_search_fwd.ensures.left_told;
+        told_since = c.try_search_fwd.ensures.told_since;
+      };
       moved = c.try_search_fwd.ensures.moved;
       free = λ linked. (λ i. (c.try_search_fwd.ensures.free linked i).determinized, λ i. (c.try_search_fwd.ensures.free linked i).inserted);
       sure_if_linked = c.try_search_fwd.ensures.sure_if_linked;

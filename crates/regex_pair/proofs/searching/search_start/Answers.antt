@@ -11,7 +11,11 @@ returns-clause-search g c = subst (λ (d : Dfa). MakesHalf d c.args.input.now c.
       sure = c.try_search_rev.ensures.sure;
       kept = c.try_search_rev.ensures.kept;
       linked = c.try_search_rev.ensures.linked;
-      is_told = c.try_search_rev.ensures.told;
+      tells = record {
+        told = c.try_search_rev.ensures.told;
+        left_told = c.try_search_rev.ensures.left_told;
+        told_since = c.try_search_rev.ensures.told_since;
+      };
       moved = c.try_search_rev.ensures.moved;
       free = λ linked. (λ i. (c.try_search_rev.ensures.free linked i).determinized, λ i. (c.try_search_rev.ensures.free linked i).inserted);
       sure_if_linked = c.try_search_rev.ensures.sure_if_linked;

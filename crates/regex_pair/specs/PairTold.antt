@@ -1,0 +1,62 @@
+-- How far searches over two automata came, as their caches are told, whatever they answer.
+use Rattle.std.specs.Prelude.{◌≡◌, ℕ, ◌<◌, Bool, true, false, Option, Some, None, Result, Ok, Err, IfErr, OnOk}
+use Rattle.search_types.specs.declared.match_error.MatchErrorKind.{MatchErrorKind}
+use Rattle.search_types.specs.declared.match_error.MatchErrorKind.TheVariants.{NotAPair}
+use Rattle.search_types.specs.Found.{Found, HalfFound}
+use Rattle.search_types.specs.Inputs.{Search}
+use Rattle.lazy_dfa.specs.AnewTold.{IsToldSince}
+use Rattle.lazy_dfa.specs.Caches.{CacheValue, greatest}
+use Rattle.lazy_dfa.specs.Dfas.{Dfa, reader}
+use Rattle.lazy_dfa.specs.LeftTold.{LeavesTold}
+use Rattle.lazy_dfa.specs.Linked.{passes_of}
+use Rattle.lazy_dfa.specs.SearchAnswers.{Answers, told_of, told_by}
+use Rattle.regex_pair.specs.Joined.{back_from, joined}
+use Rattle.regex_pair.specs.Matching.{match_search}
+use Rattle.regex_pair.specs.PairAnswers.{GoesBack}
+use Rattle.regex_pair.specs.Pairs.{Pair, PairCache}
+
+-- ---- one half search
+
+-- What it tells its cache: where nothing was cleared, all that its passes tell, or what those do up to its refusal; and else what
+-- counts since the last clear.
+pub record TellsHalf (d : Dfa) (q : Search) (old new : CacheValue) (result : Result (Option HalfFound) MatchErrorKind) : Type 0 where
+  pub told : OnOk result (new.clears ≡ old.clears → old.clears < greatest →
+      told_of new ≡ told_by (reader d) q (told_of old) (passes_of (reader d) q))
+  pub left_told : IfErr result (λ e. new.clears ≡ old.clears → old.clears < greatest →
+      LeavesTold (reader d) q e (told_of old) (told_of new))
+  pub told_since : (new.clears ≡ old.clears → ⊥) → IsToldSince (reader d) q result (told_of new)
+
+-- ---- both
+
+-- the match with an end by what code answers of its start
+abbrev pub with_half : HalfFound → Result (Option HalfFound) MatchErrorKind → Result (Option Found) MatchErrorKind
+with_half e (Ok (Some s)) = Ok (Some (record { pattern = e.pattern; start = s.offset; end = e.offset }))
+with_half e (Ok None) = Err NotAPair
+with_half e (Err x) = Err x
+
+-- What a search over both tells. The one for an end is refused, or none is made back from what it answers: then the other cache
+-- stays as it is. Or one goes back from the end that it found, and the answer is by what that one answers.
+pub data TellsPair (p : Pair) (q : Search) (old new : PairCache) (result : Result (Option Found) MatchErrorKind) : Type 0 where
+  tells_refusal : (e : MatchErrorKind) → result ≡ Err e → Answers p.forward new.forward q (Err e) →
+      TellsHalf p.forward q old.forward new.forward (Err e) → new.reverse ≡ old.reverse → TellsPair p q old new result
+  tells_end : (end : Option HalfFound) → result ≡ joined p q → ((e : ℕ × ℕ) → GoesBack p q e → ⊥) →
+      TellsHalf p.forward q old.forward new.forward (Ok end) → new.reverse ≡ old.reverse → TellsPair p q old new result
+  tells_start : (end : HalfFound) (start : Result (Option HalfFound) MatchErrorKind) → result ≡ with_half end start →
+      GoesBack p q (end.offset, end.pattern) → Answers p.reverse new.reverse (back_from q end.offset) start →
+      TellsHalf p.forward q old.forward new.forward (Ok (Some end)) →
+      TellsHalf p.reverse (back_from q end.offset) old.reverse new.reverse start → TellsPair p q old new result
+
+-- ---- whether there is a match
+
+-- whether code that looks for an end finds one
+abbrev pub is_some_half : Result (Option HalfFound) MatchErrorKind → Result Bool MatchErrorKind
+is_some_half (Ok (Some e)) = Ok true
+is_some_half (Ok None) = Ok false
+is_some_half (Err x) = Err x
+
+-- it tells what its half search does, and the other cache nothing
+pub record TellsMatch (p : Pair) (q : Search) (old new : PairCache) (result : Result Bool MatchErrorKind) : Type 0 where
+  pub half : Result (Option HalfFound) MatchErrorKind
+  pub answer : result ≡ is_some_half half
+  pub forward : TellsHalf p.forward (match_search (reader p.forward) q) old.forward new.forward half
+  pub reverse : new.reverse ≡ old.reverse
