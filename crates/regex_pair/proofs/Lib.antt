@@ -10,4 +10,5 @@ pub mod StepLemmas
 pub mod TakenLemmas
 pub mod ReachLemmas
 pub mod AlikeLemmas
+pub mod PairToldLemmas
 pub mod ForCallers

@@ -57,7 +57,7 @@ module _ (p : Pair) (q : Search) (f g r : CacheValue) (m1 m2 n1 n2 : ℕ) (h : H
     linked = on_some h (g.clears ≡ f.clears → f.clears < greatest → IsLinked p.forward g asked) made.linked;
     is_told = on_some h (g.clears ≡ f.clears → f.clears < greatest →
         told_of g ≡ told_by (reader p.forward) asked (told_of f) (passes_of (reader p.forward) asked)) made.tells.told;
-    tells = record { half = h; answer = refl; forward = made.tells; reverse = refl };
+    tells = record { half = h; answer = refl; asked = made.answer; forward = made.tells; reverse = refl };
     moved = made.moved;
     free = made.free;
     sure_if_linked = λ linked. told_there (made.sure_if_linked linked);

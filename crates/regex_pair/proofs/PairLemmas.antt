@@ -96,8 +96,8 @@ module _ (p : Pair) (q : Search) (old new : PairCache) (m1 m2 n1 n2 : ℕ) (h : 
   stops_told : (x : Half) → ((f : Option HalfFound) → x ≡ Ok f → by_end q x ≡ joined p q) → Answers p.forward new.forward q x →
       ((f : Option HalfFound) → x ≡ Ok f → (e : ℕ × ℕ) → GoesBack p q e → ⊥) → TellsHalf p.forward q old.forward new.forward x →
       TellsPair p q old new (by_end q x)
-  stops_told (Ok (Some e)) is answers none tells = tells_end (Some e) (is (Some e) refl) (none (Some e) refl) tells same
-  stops_told (Ok None) is answers none tells = tells_end None (is None refl) (none None refl) tells same
+  stops_told (Ok (Some e)) is answers none tells = tells_end (Some e) (is (Some e) refl) answers (none (Some e) refl) tells same
+  stops_told (Ok None) is answers none tells = tells_end None (is None refl) answers (none None refl) tells same
   stops_told (Err x) is answers none tells = tells_refusal x refl answers tells same
 
   pub stops : MakesPair p q old new m1 m2 n1 n2 (by_end q h)

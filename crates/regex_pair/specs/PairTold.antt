@@ -39,8 +39,8 @@ with_half e (Err x) = Err x
 pub data TellsPair (p : Pair) (q : Search) (old new : PairCache) (result : Result (Option Found) MatchErrorKind) : Type 0 where
   tells_refusal : (e : MatchErrorKind) → result ≡ Err e → Answers p.forward new.forward q (Err e) →
       TellsHalf p.forward q old.forward new.forward (Err e) → new.reverse ≡ old.reverse → TellsPair p q old new result
-  tells_end : (end : Option HalfFound) → result ≡ joined p q → ((e : ℕ × ℕ) → GoesBack p q e → ⊥) →
-      TellsHalf p.forward q old.forward new.forward (Ok end) → new.reverse ≡ old.reverse → TellsPair p q old new result
+  tells_end : (end : Option HalfFound) → result ≡ joined p q → Answers p.forward new.forward q (Ok end) →
+      ((e : ℕ × ℕ) → GoesBack p q e → ⊥) → TellsHalf p.forward q old.forward new.forward (Ok end) → new.reverse ≡ old.reverse → TellsPair p q old new result
   tells_start : (end : HalfFound) (start : Result (Option HalfFound) MatchErrorKind) → result ≡ with_half end start →
       GoesBack p q (end.offset, end.pattern) → Answers p.reverse new.reverse (back_from q end.offset) start →
       TellsHalf p.forward q old.forward new.forward (Ok (Some end)) →
@@ -58,5 +58,6 @@ is_some_half (Err x) = Err x
 pub record TellsMatch (p : Pair) (q : Search) (old new : PairCache) (result : Result Bool MatchErrorKind) : Type 0 where
   pub half : Result (Option HalfFound) MatchErrorKind
   pub answer : result ≡ is_some_half half
+  pub asked : Answers p.forward new.forward (match_search (reader p.forward) q) half
   pub forward : TellsHalf p.forward (match_search (reader p.forward) q) old.forward new.forward half
   pub reverse : new.reverse ≡ old.reverse

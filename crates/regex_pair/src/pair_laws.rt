@@ -1,5 +1,6 @@
 //! Laws of searches over two automata, as functions of values. Each function has no code: its contract is the law.
-ghost use Rattle.std.specs.Prelude.{◌≡◌, ◌<◌, ◌≤◌, ℕ, ◌+◌, ◌++◌, Bool, false, List, length, Option, Some, Ok};
+ghost use Rattle.std.specs.Prelude.{◌≡◌, ◌<◌, ◌≤◌, ℕ, ◌+◌, ◌++◌, Bool, false, List, length, Option, Some, Result, Ok};
+ghost use Rattle.search_types.specs.declared.match_error.MatchErrorKind.{MatchErrorKind};
 ghost use Rattle.search_types.specs.AllAnswers.{AnswersWithin, EndsRise, all_answers};
 ghost use Rattle.search_types.specs.Chains.{IsChain, IsWholeChain};
 ghost use Rattle.search_types.specs.Found.{Found};
@@ -10,12 +11,14 @@ ghost use Rattle.lazy_dfa.specs.Passes.{start_name};
 ghost use Rattle.lazy_dfa.specs.Readers.{Reader, found};
 ghost use Rattle.lazy_dfa.specs.Scans.{scan};
 ghost use Rattle.lazy_dfa.specs.ScanLaws.{Agree, IsInReach};
+ghost use Rattle.lazy_dfa.specs.SearchAnswers.{told};
 ghost use Rattle.regex_pair.specs.Finding.{AnswersAt, search_at};
 ghost use Rattle.regex_pair.specs.Joined.{joined, back_from};
-ghost use Rattle.regex_pair.specs.Matching.{has_match, is_some_match};
+ghost use Rattle.regex_pair.specs.Matching.{has_match, is_some_match, match_search};
 ghost use Rattle.regex_pair.specs.PairAnswers.{GoesBack};
 ghost use Rattle.regex_pair.specs.PairLaws.{answer_at, AreSetAlike, IsInPairReach};
-ghost use Rattle.regex_pair.specs.Pairs.{Pair, IsPair};
+ghost use Rattle.regex_pair.specs.PairTold.{TellsHalf, TellsMatch, TellsPair};
+ghost use Rattle.regex_pair.specs.Pairs.{Pair, PairCache, IsPair};
 ghost use Rattle.regex_pair.specs.Reach.{HasPairReach};
 
 /// A match that is found starts in the span, and ends there, not before its start.
@@ -71,4 +74,20 @@ pub fn joins_reach_a_place()
 pub fn settings_of_caches_do_not_show()
     ensures answer { (p r : Pair) (q : Search) → AreSetAlike p r q.anchored → joined p q ≡ joined r q }
     ensures told { (p r : Pair) (q : Search) → AreSetAlike p r q.anchored → has_match p q ≡ has_match r q }
+{}
+
+/// What searches tell their caches of how far they came is known by the answer. Where that is the joined one, the half search for an
+/// end tells what its scan does, and so does the one back where there is one. Where there is none, whatever the answer, the second
+/// cache stays as it is. A test for a match tells what its one half search does.
+pub fn answers_know_what_was_told()
+    ensures end { (p : Pair) (q : Search) (old new : PairCache) (result : Result (Option Found) MatchErrorKind) → result ≡ joined p q →
+        TellsPair p q old new result → TellsHalf p.forward q old.forward new.forward (told (scan (reader p.forward) q)) }
+    ensures start { (p : Pair) (q : Search) (old new : PairCache) (result : Result (Option Found) MatchErrorKind) → result ≡ joined p q →
+        TellsPair p q old new result → (e : ℕ × ℕ) → GoesBack p q e →
+        TellsHalf p.reverse (back_from q e.0) old.reverse new.reverse (told (scan (reader p.reverse) (back_from q e.0))) }
+    ensures untouched { (p : Pair) (q : Search) (old new : PairCache) (result : Result (Option Found) MatchErrorKind) →
+        TellsPair p q old new result → ((e : ℕ × ℕ) → GoesBack p q e → ⊥) → new.reverse ≡ old.reverse }
+    ensures is_match { (p : Pair) (q : Search) (old new : PairCache) (result : Result Bool MatchErrorKind) → result ≡ has_match p q →
+        TellsMatch p q old new result → TellsHalf p.forward (match_search (reader p.forward) q) old.forward new.forward
+        (told (scan (reader p.forward) (match_search (reader p.forward) q))) }
 {}

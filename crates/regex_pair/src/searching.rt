@@ -149,7 +149,7 @@ fn search<L: Ledger, M: Ledger>(
 {
     let end = match search_end(re, &mut cache.forward, input, work) {
         Ok(end) => end,
-        Err(e) => return Err(e),
+        Err(e) => return Err(e), // no search back
     };
     let Some(end) = end else {
         return Ok(None);
