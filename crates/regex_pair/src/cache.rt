@@ -1,7 +1,8 @@
 ghost use Rattle.std.specs.Prelude.{◌≡◌, IfOk, OnOk, OnErr};
 ghost use Rattle.std.specs.Borrow.{sem};
+ghost use Rattle.lazy_dfa.specs.Caches.{IsCacheOf};
 ghost use Rattle.regex_pair.specs.Lending.{LendsForward, LendsReverse};
-ghost use Rattle.regex_pair.specs.Pairs.{AreCachesOf, pair_made_for, pair_usage};
+ghost use Rattle.regex_pair.specs.Pairs.{AreCachesOf, Pair, pair_made_for, pair_usage};
 
 use crate::regex::Regex;
 use lazy_dfa::dfa;
@@ -54,30 +55,36 @@ impl Cache {
 
     /// The cache of the automaton that finds ends, as `Cache::forward`.
     pub fn forward(&self) -> &dfa::Cache
-        ensures { result.now ≡ self.now.forward }
+        ensures value { result.now ≡ self.now.forward }
+        ensures own { (p : Pair) → AreCachesOf p self.now → IsCacheOf p.forward result.now }
     {
         &self.forward
     }
 
     /// The cache of the automaton that finds starts, as `Cache::reverse`.
     pub fn reverse(&self) -> &dfa::Cache
-        ensures { result.now ≡ self.now.reverse }
+        ensures value { result.now ≡ self.now.reverse }
+        ensures own { (p : Pair) → AreCachesOf p self.now → IsCacheOf p.reverse result.now }
     {
         &self.reverse
     }
 
-    /// The cache of the automaton that finds ends, as `Cache::forward_mut`. The other stays as it is.
+    /// The cache of the automaton that finds ends, as `Cache::forward_mut`. The other stays as it is. Whoever leaves this one a
+    /// cache of its automaton, leaves both ones of the regex.
     pub fn forward_mut(&mut self) -> &mut dfa::Cache
         ensures* lends { sem 𝓛 (LendsForward self.entry result) }
         ensures value { result.now ≡ self.old.forward }
+        ensures own { (p : Pair) → AreCachesOf p self.old → IsCacheOf p.forward result.now }
     {
         &mut self.forward
     }
 
-    /// The cache of the automaton that finds starts, as `Cache::reverse_mut`. The other stays as it is.
+    /// The cache of the automaton that finds starts, as `Cache::reverse_mut`. The other stays as it is. Whoever leaves this one a
+    /// cache of its automaton, leaves both ones of the regex.
     pub fn reverse_mut(&mut self) -> &mut dfa::Cache
         ensures* lends { sem 𝓛 (LendsReverse self.entry result) }
         ensures value { result.now ≡ self.old.reverse }
+        ensures own { (p : Pair) → AreCachesOf p self.old → IsCacheOf p.reverse result.now }
     {
         &mut self.reverse
     }
@@ -86,6 +93,7 @@ impl Cache {
     pub fn as_parts(&self) -> (&dfa::Cache, &dfa::Cache)
         ensures forward { result.0.now ≡ self.now.forward }
         ensures reverse { result.1.now ≡ self.now.reverse }
+        ensures own { (p : Pair) → AreCachesOf p self.now → IsCacheOf p.forward result.0.now × IsCacheOf p.reverse result.1.now }
     {
         (&self.forward, &self.reverse)
     }
@@ -95,6 +103,7 @@ impl Cache {
     pub fn as_parts_mut(&mut self) -> (&mut dfa::Cache, &mut dfa::Cache)
         ensures forward { result.0.now ≡ self.old.forward }
         ensures reverse { result.1.now ≡ self.old.reverse }
+        ensures own { (p : Pair) → AreCachesOf p self.old → IsCacheOf p.forward result.0.now × IsCacheOf p.reverse result.1.now }
     {
         (&mut self.forward, &mut self.reverse)
     }

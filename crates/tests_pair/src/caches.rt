@@ -1,15 +1,15 @@
 //! What caches of two automata need, and caches that are handed on to another regex.
 use crate::automata::Options::Plain;
 use crate::automata::Shape;
-use crate::calls::Call::{HandTo, Reset, Search, Usage};
+use crate::calls::Call::{HandTo, Reset, ResetStarts, Search, Usage};
 use crate::calls::Found::{At, Nothing};
 use crate::calls::Mode::No;
 use crate::calls::Text::{Ab, Ba, Xaa, Xab, Xx};
 use crate::calls::{Case, Over, answers};
 
 /// Of `a`: the start of the ends needs 64 bytes, the state behind `a` 65 and that behind `b` 61, and the three states of the
-/// starts 62, 62 and 61. The same search again adds none. They are as fresh ones where they are made anew, and where they are
-/// for `ab`.
+/// starts 62, 62 and 61. The same search again adds none. They are as fresh ones where they are made anew, one or both, and where they
+/// are for `ab`.
 #[test]
 fn caches(rt: HostRuntime) {
     let case: &Case = &(
@@ -22,6 +22,10 @@ fn caches(rt: HostRuntime) {
             Usage(316, 316),
             Search(Over(Ab, 0, 2, No), At(0, 0, 1)),
             Usage(506, 501),
+            Search(Over(Ab, 0, 2, No), At(0, 0, 1)),
+            Usage(506, 501),
+            ResetStarts,
+            Usage(506, 316),
             Search(Over(Ab, 0, 2, No), At(0, 0, 1)),
             Usage(506, 501),
             Reset,

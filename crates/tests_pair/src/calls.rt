@@ -14,8 +14,9 @@ pub(crate) enum Call {
     IsMatch(Over, Found),
     /// The iterator over the matches gives this, one by one, and then nothing for good.
     Each(Over, Found, Found, Found),
-    /// The caches are made anew, and so they are for another regex.
+    /// The caches are made anew, that of the starts alone is, and so they are for another regex.
     Reset,
+    ResetStarts,
     HandTo(Shape, Shape),
     /// So many bytes are needed by each cache, and their sum by both.
     Usage(usize, usize),
@@ -221,6 +222,7 @@ fn is_answered(alloc: Global, machine: &mut Machine, call: &Call) -> bool {
             &[first, second, third, Found::Nothing, Found::Nothing],
         ),
         Call::Reset => machine.reset().is_ok(),
+        Call::ResetStarts => machine.reset_starts().is_ok(),
         Call::HandTo(forth, back) => machine.hand_to(alloc, forth, back).is_ok(),
         Call::Usage(ends, starts) => {
             machine.usage() == (ends, starts, ends.saturating_add(starts))

@@ -63,6 +63,11 @@ impl Machine {
         self.re.reset_cache(&mut self.cache)
     }
 
+    /// Makes the cache of the starts alone anew.
+    pub(crate) fn reset_starts(&mut self) -> Result<(), AllocError> {
+        self.cache.reverse_mut().reset(self.re.reverse())
+    }
+
     /// Makes the caches anew for another regex, which takes the place of this one.
     pub(crate) fn hand_to(
         &mut self,
