@@ -49,7 +49,7 @@ none_if : (b : Bool) (n : ℕ) → (if b then Some n else None) ≡ None → b �
 none_if true n e = absurd cc
 none_if false n e = refl
 
-text_of_none : (h : List ℕ) → first_broken h ≡ None → IsValidText h
+pub text_of_none : (h : List ℕ) → first_broken h ≡ None → IsValidText h
 text_of_none h e =
     let high = ltb-false (utf8_valid_len h) (length h) (none_if (nat_lt (utf8_valid_len h) (length h)) (utf8_valid_len h) e) in
     let low = utf8_valid_len_le h in

@@ -1,5 +1,6 @@
 pub mod AnswerLemmas
 pub mod LoopLemmas
+pub mod AskedLemmas
 pub mod WordLemmas
 pub mod SplitLemmas
 pub mod RangeLemmas

@@ -1,6 +1,7 @@
 -- The test for loops that read tells whether they do.
-use Rattle.std.proofs.Common.{◌≡◌, ℕ, true, Option, Some, None, refl, ltb-true, lt-ltb}
-use Rattle.hir_core.specs.Tree.{Tree, empty, literal, byte_class, char_class, look, repetition, capture, nothing, cat, never, alt}
+use Rattle.std.proofs.Common.{◌≡◌, ◌↔◌, ℕ, Bool, true, List, [], ◌∷◌, All, IsTrue, Option, Some, None, refl, sym, ◌∙◌, ltb-true, lt-ltb}
+use Rattle.std.proofs.lemmas.List.Elements.{All-nil, All-cons, All-head, All-tail}
+use Rattle.hir_core.specs.Tree.{Tree, concat, empty, literal, byte_class, char_class, look, repetition, capture, nothing, cat, never, alt}
 use Rattle.hir_core.specs.Facts.{minimum_len, IsAboveZero, LoopsRead}
 use Rattle.hirscan.specs.Loops.{is_above_zero, loops_read}
 use Rattle.std.proofs.lemmas.Bool.{and_parts, and_from}
@@ -43,3 +44,19 @@ loops_read_complete nothing l = refl
 loops_read_complete (cat x y) l = and_from (loops_read x) (loops_read y) (loops_read_complete x l.0) (loops_read_complete y l.1)
 loops_read_complete never l = refl
 loops_read_complete (alt x y) l = and_from (loops_read x) (loops_read y) (loops_read_complete x l.0) (loops_read_complete y l.1)
+
+-- ---- of all trees of a list
+all_sound : (xs : List Tree) → loops_read (concat xs) ≡ true → All LoopsRead xs
+all_sound [] e = All-nil LoopsRead
+all_sound (x ∷ xs) e =
+    let b = and_parts (loops_read x) (loops_read (concat xs)) e in
+    All-cons LoopsRead x xs (loops_read_sound x b.0) (all_sound xs b.1)
+
+all_complete : (xs : List Tree) → All LoopsRead xs → loops_read (concat xs) ≡ true
+all_complete [] all = refl
+all_complete (x ∷ xs) all =
+    and_from (loops_read x) (loops_read (concat xs)) (loops_read_complete x (All-head LoopsRead x xs all))
+    (all_complete xs (All-tail LoopsRead x xs all))
+
+pub all_told : (xs : List Tree) (told : Bool) → told ≡ loops_read (concat xs) → IsTrue told ↔ All LoopsRead xs
+all_told xs told is = (λ on. all_sound xs (sym is ∙ on), λ all. is ∙ all_complete xs all)

@@ -18,7 +18,7 @@ fn first_not_utf8(patterns: &[Hir]) -> Option<usize>
 
 /// How many bytes of the haystack are UTF-8 from its start on, where that isn't all of it.
 #[tactic(auto, using(crate::proofs::CauseLemmas::whole_text, crate::proofs::CauseLemmas::broken_text))]
-fn first_broken(h: &[u8]) -> Option<usize>
+pub(crate) fn first_broken(h: &[u8]) -> Option<usize>
     ensures { result ≡ first_broken h.now }
 {
     match str::from_utf8(h) {

@@ -1,15 +1,24 @@
 //! The test for repetitions without a bound whose body may be empty.
-ghost use Rattle.std.specs.Prelude.{◌≡◌};
+ghost use Rattle.std.specs.Prelude.{◌≡◌, ◌↔◌, All, IsTrue};
+ghost use Rattle.hir_core.specs.Facts.{LoopsRead};
 ghost use Rattle.hir_core.specs.Tree.{concat, alternation};
 ghost use Rattle.hirscan.specs.Loops.{is_above_zero, loops_read, first_empty_loop};
 
 use hir_core::{Hir, HirKind};
 
 /// The number of the first pattern with a repetition without a bound whose body may be empty.
-pub(crate) fn first_empty_loop(patterns: &[Hir]) -> Option<usize>
+pub fn first_empty_loop(patterns: &[Hir]) -> Option<usize>
     ensures { result ≡ first_empty_loop patterns.now }
 {
     patterns.iter().position(|x| !loops_read(x))
+}
+
+/// Whether each repetition without a bound in these trees has a body that reads, as the laws on preferred matches ask for
+/// ([`headline`](crate::headline)).
+pub fn all_loops_read(trees: &[Hir]) -> bool
+    ensures { IsTrue result ↔ All LoopsRead trees.now }
+{
+    all_read(trees)
 }
 
 fn is_above_zero(len: Option<usize>) -> bool

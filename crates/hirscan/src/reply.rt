@@ -94,7 +94,7 @@ fn failed_reply(alloc: Global, text: String, e: MatchError) -> Result<Reply, All
 }
 
 /// What a haystack has are bytes.
-fn see_bytes(bytes: &[u8])
+pub(crate) fn see_bytes(bytes: &[u8])
     ensures { All (λ byte. byte < 256) bytes.now }
 {}
 

@@ -51,9 +51,10 @@ impl Default for Settings {
 /// The greatest size of each NFA that the program makes, in bytes as they are counted.
 const SIZE_LIMIT: usize = 1 << 26;
 
-/// What the program sets beside what a head does: a limit on what is compiled, a capacity that is raised where it is too small,
-/// words by characters as far as a search comes without bytes above 7F, and no limit on clears.
-pub(crate) fn program_settings(said: Settings) -> Settings
+/// What the program sets beside what a head does: no NFA above 2^26 bytes, as they are counted, the leftmost-first match, a capacity
+/// that is raised where it is too small, words by characters as far as a search comes without bytes above 7F, and no limit on clears.
+/// Whoever builds a regex of a head's patterns with these settings has the one over which [`run`](crate::run) searches.
+pub fn program_settings(said: Settings) -> Settings
     ensures { result ≡ program_settings said }
 {
     Settings {
