@@ -1,0 +1,20 @@
+use Rattle.std.proofs.Common.{◌∙◌}
+use Rattle.tests_client.proofs.ToldLemmas.{one_more}
+use Rattle.tests_client.proofs.client.list.Goals as goal
+
+pub loop-item-preserved : goal.loop-item-preserved
+loop-item-preserved c =
+    let step = rw c.in-Ok.is at c.in-Some.ensures.steps in
+    let was = c.loop-item.invariant in (
+      step.goes_on,
+      step.same_regex ∙ was.1,
+      step.same_reference ∙ was.2,
+      one_more c.args.re.now c.args.input _ _ c.loop-item.item-iterator c.next.new.self c.in-Ok.found was.1 was.3 step
+          c.in_ok-push-in-Ok.ensures,
+    )
+
+pub returns-clause-defined : goal.returns-clause-defined
+returns-clause-defined c = λ xs s built first asked words set.
+    c.iterators_list_the_answers.ensures.whole xs s c.args.re.now built first c.args.input asked.1 asked.0 c.start-start.ensures.within.1
+    c.loop-item.all.items c.loop-item.item-iterator c.next.new.self c.loop-item.invariant.1 c.loop-item.invariant.3
+    c.in-None.ensures.steps words set

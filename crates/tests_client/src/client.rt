@@ -1,0 +1,163 @@
+// What the client does: every clause names what the trees define.
+ghost use Rattle.std.specs.Prelude.{◌≡◌, ◌++◌, ◌∷◌, [], List, All, IfOk, OnOk, MatchOption};
+ghost use Rattle.hir_core.specs.Tree.{Tree};
+ghost use Rattle.regex_pair.specs.Pairs.{AreCachesOf};
+ghost use Rattle.hirscan.specs.declared.settings.Settings.{Settings};
+ghost use Rattle.hirscan.specs.Built.{IsBuilt, FindsFirst, program_settings};
+ghost use Rattle.tests_client.specs.Told.{search_of, MayAsk, AreAnswers, IsTheList, IsTold};
+
+use hir_core::Hir;
+use hirscan::headline::iterators_list_the_answers;
+use hirscan::{Settings, all_loops_read, build, find, is_search_of, program_settings};
+use regex_pair::regex::{Cache, Regex};
+use search_types::{Input, Match, MatchError};
+use std::alloc::{AllocError, Global};
+
+/// Why there is no answer.
+#[derive(Clone, Copy, Debug, PartialEq, Eq)]
+pub enum Fault {
+    /// No regex is built of the trees, or memory lacked for it.
+    NotBuilt,
+    /// A search is refused.
+    Refused(MatchError),
+}
+
+/// What the two searches found, and the list of the iterator.
+#[derive(Drop)]
+pub struct Told {
+    pub first: Option<Match>,
+    pub second: Option<Match>,
+    pub all: Vec<Match>,
+}
+
+/// The same search twice over the same caches, which are used for another search and then reset in between.
+fn find_twice(
+    re: &Regex,
+    cache: &mut Cache,
+    input: &Input<'_>,
+    other: &Input<'_>,
+) -> Result<(Option<Match>, Option<Match>), MatchError>
+    requires own { AreCachesOf re.now cache.old }
+    ensures own { AreCachesOf re.now cache.new }
+    ensures defined { (xs : List Tree) (s : Settings) → IsBuilt xs s re.now → FindsFirst s → MayAsk xs s input.now →
+        IfOk result (λ found. AreAnswers xs s input.now found.0 found.1) }
+{
+    let first = find(re, cache, input)?;
+    find(re, cache, other)?;
+    cache.reset(re)?;
+    let second = find(re, cache, input)?;
+    Ok((first, second))
+}
+
+fn push(all: &mut Vec<Match>, found: Match) -> Result<(), AllocError>
+    ensures { OnOk result (all.new.items ≡ all.old.items ++ found ∷ []) }
+{
+    all.push(found)?;
+    Ok(())
+}
+
+/// What the iterator gives.
+fn list(
+    alloc: Global,
+    re: &Regex,
+    cache: &mut Cache,
+    input: Input<'_>,
+) -> Result<Vec<Match>, MatchError>
+    requires own { AreCachesOf re.now cache.old }
+    ensures own { AreCachesOf re.now cache.new }
+    ensures defined { (xs : List Tree) (s : Settings) → IsBuilt xs s re.now → FindsFirst s → MayAsk xs s input.entry →
+        IfOk result (λ all. IsTheList xs s input.entry all.items) }
+{
+    iterators_list_the_answers();
+    let _start = input.start();
+    let mut all = Vec::new(alloc);
+    for item in re.find_iter(cache, input) {
+        match item {
+            Ok(found) => push(&mut all, found)?,
+            Err(e) => return Err(e),
+        }
+    }
+    Ok(all)
+}
+
+/// Both searches, and then the list.
+fn answers(
+    alloc: Global,
+    re: &Regex,
+    cache: &mut Cache,
+    input: Input<'_>,
+    other: &Input<'_>,
+) -> Result<Told, Fault>
+    requires own { AreCachesOf re.now cache.old }
+    ensures { (xs : List Tree) (s : Settings) → IsBuilt xs s re.now → FindsFirst s → MayAsk xs s input.entry →
+        IfOk result (λ told. IsTold xs s input.entry told.first told.second told.all.items) }
+{
+    let (first, second) = match find_twice(re, cache, &input, other) {
+        Ok(found) => found,
+        Err(e) => return Err(Fault::Refused(e)),
+    };
+    match list(alloc, re, cache, input) {
+        Ok(all) => Ok(Told { first, second, all }),
+        Err(e) => Err(Fault::Refused(e)),
+    }
+}
+
+/// Drops a value. Where it has many parts, a call is cheaper to prove than the drop of each of them.
+fn give_up<T: Drop>(_value: T) {}
+
+/// What a regex that is built of the trees answers.
+fn ask_regex(
+    alloc: Global,
+    trees: &[Hir],
+    settings: &Settings,
+    input: Input<'_>,
+    other: &Input<'_>,
+) -> Result<Told, Fault>
+    requires first { FindsFirst settings.now }
+    requires asked { MayAsk trees.now settings.now input }
+    ensures { IfOk result (λ told. IsTold trees.now settings.now input.entry told.first told.second told.all.items) }
+{
+    let re = match build(alloc, trees, settings) {
+        Ok(re) => re,
+        Err(e) => {
+            give_up(e);
+            return Err(Fault::NotBuilt);
+        }
+    };
+    let mut cache = match Cache::new(alloc, &re) {
+        Ok(cache) => cache,
+        Err(_) => {
+            give_up(re);
+            return Err(Fault::NotBuilt);
+        }
+    };
+    let told = answers(alloc, &re, &mut cache, input, other);
+    give_up(cache);
+    give_up(re);
+    told
+}
+
+/// What a regex of the trees finds in the haystack, with the program's settings; `None` where the trees define no answer to that.
+pub fn ask(
+    alloc: Global,
+    trees: &[Hir],
+    said: Settings,
+    haystack: &[u8],
+    other: &[u8],
+) -> Result<Option<Told>, Fault>
+    ensures { IfOk result (λ told. MatchOption told (MayAsk trees.now (program_settings said) (search_of haystack.now) → ⊥)
+        (λ t. IsTold trees.now (program_settings said) (search_of haystack.now) t.first t.second t.all.items)) }
+{
+    let settings = program_settings(said);
+    let input = Input::new(haystack);
+    if !all_loops_read(trees) {
+        return Ok(None);
+    }
+    if !is_search_of(trees, settings.utf8, &input) {
+        return Ok(None);
+    }
+    match ask_regex(alloc, trees, &settings, input, &Input::new(other)) {
+        Ok(told) => Ok(Some(told)),
+        Err(e) => Err(e),
+    }
+}
