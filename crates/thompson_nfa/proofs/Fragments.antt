@@ -5,6 +5,7 @@ pub mod RoundLemmas
 pub mod LeafLemmas
 pub mod JoinLemmas
 pub mod TurnLemmas
+pub mod PartBytes
 pub mod ClassLemmas
 pub mod RepeatLemmas
 pub mod CaptureLemmas

@@ -1,5 +1,7 @@
 -- What one call of the builder changes, what it costs, and what refuses it.
 
+pub mod ByteLemmas
+pub mod ByteRows
 pub mod StepLemmas
 pub mod GrowLemmas
 pub mod OutLemmas

@@ -105,6 +105,10 @@ any_uses back xs l = list_any (λ x. uses back x l) xs
 abbrev pub sum_of_bytes : Assembly → ℕ
 sum_of_bytes b = sum_by draft_bytes b.drafts
 
+-- the states that were added, and the ways that they lead, take so many bytes at most
+abbrev pub Weighs : Assembly → Assembly → ℕ → Type 0
+Weighs old new bytes = sum_of_bytes new ≤ sum_of_bytes old + bytes
+
 -- where the fragment is
 pub record IsFragment (old new : Assembly) (start end : ℕ) : Type 0 where
   pub grows : Grows old new

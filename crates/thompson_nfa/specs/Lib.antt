@@ -23,6 +23,8 @@ pub mod TrieSteps
 pub mod NodeCopies
 pub mod ScalarCounts
 pub mod Room
+pub mod ByteRoom
+pub mod ListBytes
 pub mod AsciiClasses
 pub mod SharedSuffixes
 pub mod Shared

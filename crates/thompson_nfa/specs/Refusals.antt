@@ -1,5 +1,5 @@
 -- Why a compile is refused.
-use Rattle.std.specs.Prelude.{◌≡◌, ℕ, ◌+◌, ◌*◌, ◌<◌, length, Some}
+use Rattle.std.specs.Prelude.{◌≡◌, ℕ, ◌+◌, ◌*◌, ◌<◌, ◌≤◌, length, Some}
 use Rattle.search_core.specs.Index.{greatest_index}
 use Rattle.search_types.specs.declared.group_info_error.GroupInfoError.{GroupInfoError}
 use Rattle.search_types.specs.GroupFaults.{TooManyGroups}
@@ -21,6 +21,17 @@ RefusesStep b n bytes (error.ExceededSizeLimit limit) = (b.size_limit ≡ Some l
 RefusesStep b n bytes error.NoMemory = Unit {0}
 RefusesStep b n bytes _ = ⊥
 
+-- So many bytes at least a builder had, with what it was asked for, where it refused this: more than the limit, or those of as
+-- many states as can be numbered.
+abbrev pub least_bytes : BuildError → ℕ
+least_bytes error.TooManyStates = 24 * (greatest_index + 1)
+least_bytes (error.ExceededSizeLimit limit) = limit + 1
+least_bytes _ = 0
+
+-- what is refused would have needed so many bytes at most, and they are too many
+abbrev pub Passes : Assembly → ℕ → BuildError → Type 0
+Passes b bytes e = least_bytes e ≤ sum_of_bytes b + bytes
+
 -- A fragment for which n states are room is refused.
 abbrev pub RefusesStates : Assembly → ℕ → BuildError → Type 0
 RefusesStates b n e = RefusesStep b n (4096 * n) e
@@ -38,6 +49,7 @@ RefusesTree kept p b n x e = RefusesStates b n e
 pub record Stays (old new : Assembly) (n bytes : ℕ) (e : BuildError) : Type 0 where
   pub same : new ≡ old
   pub cause : RefusesStep old n bytes e
+  pub passed : Passes old bytes e
 
 -- a fragment of n states for the tree is refused, and the builder has its settings
 pub record Refuses (kept : WhichCaptures) (old new : Assembly) (n : ℕ) (x : Tree) (e : BuildError) : Type 0 where
@@ -58,3 +70,4 @@ RefusesGroup p index b e = RefusesStep b 1 24 e
 pub record QuitsGroup (old new : Assembly) (index : ℕ) (e : BuildError) : Type 0 where
   pub settings : new ≡ record old { drafts = new.drafts; groups = new.groups }
   pub cause : RefusesGroup (length old.starts) index old e
+  pub passed : Passes old 24 e

@@ -1,12 +1,12 @@
 //! Fragments of byte classes.
-ghost use Rattle.std.specs.Prelude.{◌≡◌, ◌<◌, ◌≤◌, ◌*◌, length, map, take, All, IfOk, IfErr, MatchResult, IsTrue};
+ghost use Rattle.std.specs.Prelude.{◌≡◌, ◌<◌, ◌≤◌, ◌+◌, ◌*◌, length, map, take, All, IfOk, IfErr, MatchResult, IsTrue};
 ghost use Rattle.hir_core.specs.Facts.{is_ascending};
 ghost use Rattle.hir_core.specs.Tree.{byte_class};
 ghost use Rattle.nfa_core.specs.BuilderStates.{sparse_draft, AscendsFrom};
 ghost use Rattle.nfa_core.specs.Transitions.{range_of};
 ghost use Rattle.thompson_nfa.specs.Added.{Added};
-ghost use Rattle.thompson_nfa.specs.Compiled.{Makes, Does};
-ghost use Rattle.thompson_nfa.specs.Refusals.{Quits, Stays};
+ghost use Rattle.thompson_nfa.specs.Compiled.{Makes, Does, Weighs};
+ghost use Rattle.thompson_nfa.specs.Refusals.{Quits, Stays, Passes};
 
 use crate::compiling::Fragment;
 use crate::drafts::add_empty;
@@ -54,6 +54,8 @@ fn add_ranges(
     ensures added { IfOk result (λ id. Added builder.old builder.new id (sparse_draft (map (λ r. (r.0, r.1, next)) ranges.now)) builder.old.groups) }
     ensures few { IfOk result (λ _. length ranges.now ≤ 256) }
     ensures refused { IfErr result (λ e. Stays builder.old builder.new 1 2072 e) }
+    ensures weighs { IfOk result (λ _. Weighs builder.old builder.new (24 + 8 * length ranges.now)) }
+    ensures passed { IfErr result (λ e. Passes builder.old (24 + 8 * length ranges.now) e) }
 {
     let all = transitions(alloc, ranges, next)?;
     let id = builder.add_sparse(all)?;
@@ -71,6 +73,8 @@ pub(crate) fn byte_class(
     requires { IsTrue (is_ascending ranges.now) }
     ensures made { IfOk result (λ f. Makes builder.old builder.new f.start f.end 2) }
     ensures denotes { IfOk result (λ f. Does builder.old builder.new f.start f.end (byte_class ranges.now)) }
+    ensures weighs { IfOk result (λ _. Weighs builder.old builder.new (48 + 8 * length ranges.now)) }
+    ensures passed { IfErr result (λ e. Passes builder.old (48 + 8 * length ranges.now) e) }
     ensures groups { IfOk result (λ _. builder.new.groups ≡ builder.old.groups) }
     ensures refused { IfErr result (λ e. Quits builder.old builder.new 2 e) }
 {

@@ -2,9 +2,10 @@
 ghost use Rattle.std.specs.Prelude.{◌≡◌, ◌<◌, ◌≤◌, ◌+◌, ◌-◌, ◌*◌, ◌==◌, false, [], ◌∷◌, length, IfOk, IfErr, IfSome, Some, None, option_map, string_bytes};
 ghost use Rattle.hir_core.specs.Facts.{minimum_len};
 ghost use Rattle.hir_core.specs.Tree.{repetition, capture, concat, alternation};
-ghost use Rattle.thompson_nfa.specs.Compiled.{IsReady, Makes, Does, DoesCopies, DoesOption, is_above_zero};
+ghost use Rattle.thompson_nfa.specs.ByteRoom.{byte_room};
+ghost use Rattle.thompson_nfa.specs.Compiled.{IsReady, Makes, Weighs, Does, DoesCopies, DoesOption, is_above_zero};
 ghost use Rattle.thompson_nfa.specs.NotedGroups.{noted, keeps_group};
-ghost use Rattle.thompson_nfa.specs.Refusals.{Refuses};
+ghost use Rattle.thompson_nfa.specs.Refusals.{Refuses, Passes};
 ghost use Rattle.thompson_nfa.specs.Room.{room};
 
 use crate::class::byte_class;
@@ -31,8 +32,10 @@ pub(crate) fn compile(
     requires { IsReady how.which builder.old }
     ensures made { IfOk result (λ f. Makes builder.old builder.new f.start f.end (room how.shrink x.now)) }
     ensures denotes { IfOk result (λ f. Does builder.old builder.new f.start f.end (x.now)) }
+    ensures weighs { IfOk result (λ _. Weighs builder.old builder.new (byte_room how.shrink x.now)) }
     ensures groups { IfOk result (λ _. builder.new.groups ≡ noted how.which (length builder.old.starts) (x.now) builder.old.groups) }
     ensures refused { IfErr result (λ e. Refuses how.which builder.old builder.new (room how.shrink x.now) (x.now) e) }
+    ensures passed { IfErr result (λ e. Passes builder.old (byte_room how.shrink x.now) e) }
 {
     match x.kind() {
         HirKind::Empty => empty(builder),
@@ -91,8 +94,10 @@ pub(crate) fn captured(
     requires { IsReady how.which builder.old }
     ensures made { IfOk result (λ f. Makes builder.old builder.new f.start f.end (room how.shrink x.now + 2)) }
     ensures denotes { IfOk result (λ f. Does builder.old builder.new f.start f.end (capture index (option_map string_bytes name.now) x.now)) }
+    ensures weighs { IfOk result (λ _. Weighs builder.old builder.new (byte_room how.shrink x.now + 56)) }
     ensures groups { IfOk result (λ _. builder.new.groups ≡ noted how.which (length builder.old.starts) (capture index (option_map string_bytes name.now) x.now) builder.old.groups) }
     ensures refused { IfErr result (λ e. Refuses how.which builder.old builder.new (room how.shrink x.now + 2) (capture index (option_map string_bytes name.now) x.now) e) }
+    ensures passed { IfErr result (λ e. Passes builder.old (byte_room how.shrink x.now + 56) e) }
 {
     if !keeps(how.which, index) {
         let body = compile(builder, alloc, how, shared, x)?;
@@ -119,8 +124,10 @@ fn concatenation(
     requires { IsReady how.which builder.old }
     ensures made { IfOk result (λ f. Makes builder.old builder.new f.start f.end (room how.shrink (concat subs.now))) }
     ensures denotes { IfOk result (λ f. Does builder.old builder.new f.start f.end (concat subs.now)) }
+    ensures weighs { IfOk result (λ _. Weighs builder.old builder.new (byte_room how.shrink (concat subs.now))) }
     ensures groups { IfOk result (λ _. builder.new.groups ≡ noted how.which (length builder.old.starts) (concat subs.now) builder.old.groups) }
     ensures refused { IfErr result (λ e. Refuses how.which builder.old builder.new (room how.shrink (concat subs.now)) (concat subs.now) e) }
+    ensures passed { IfErr result (λ e. Passes builder.old (byte_room how.shrink (concat subs.now)) e) }
 {
     if subs.len() == 0 {
         let none = empty(builder)?;
@@ -166,8 +173,10 @@ fn zero_or_more(
     requires { IsReady how.which builder.old }
     ensures made { IfOk result (λ f. Makes builder.old builder.new f.start f.end (room how.shrink x.now + 3)) }
     ensures denotes { IfOk result (λ f. Does builder.old builder.new f.start f.end (repetition 0 None greedy x.now)) }
+    ensures weighs { IfOk result (λ _. Weighs builder.old builder.new (byte_room how.shrink x.now + 92)) }
     ensures groups { IfOk result (λ _. builder.new.groups ≡ noted how.which (length builder.old.starts) (x.now) builder.old.groups) }
     ensures refused { IfErr result (λ e. Refuses how.which builder.old builder.new (room how.shrink x.now + 3) (x.now) e) }
+    ensures passed { IfErr result (λ e. Passes builder.old (byte_room how.shrink x.now + 92) e) }
     ensures form { IfOk result (λ f. (f.start == f.end) ≡ is_above_zero (minimum_len x.now)) }
 {
     let some = reads(x);
@@ -198,8 +207,10 @@ fn zero_or_more_of_empty(
     requires { IsReady how.which builder.old }
     ensures made { IfOk result (λ f. Makes builder.old builder.new f.start f.end (room how.shrink x.now + 3)) }
     ensures denotes { IfOk result (λ f. Does builder.old builder.new f.start f.end (repetition 0 None greedy x.now)) }
+    ensures weighs { IfOk result (λ _. Weighs builder.old builder.new (byte_room how.shrink x.now + 92)) }
     ensures groups { IfOk result (λ _. builder.new.groups ≡ noted how.which (length builder.old.starts) (x.now) builder.old.groups) }
     ensures refused { IfErr result (λ e. Refuses how.which builder.old builder.new (room how.shrink x.now + 3) (x.now) e) }
+    ensures passed { IfErr result (λ e. Passes builder.old (byte_room how.shrink x.now + 92) e) }
     ensures apart { IfOk result (λ f. (f.start == f.end) ≡ false) }
 {
     let body = compile(builder, alloc, how, shared, x)?;
@@ -230,8 +241,10 @@ fn one_or_more(
     requires { IsReady how.which builder.old }
     ensures made { IfOk result (λ f. Makes builder.old builder.new f.start f.end (room how.shrink x.now + 1)) }
     ensures denotes { IfOk result (λ f. Does builder.old builder.new f.start f.end (repetition 1 None greedy x.now)) }
+    ensures weighs { IfOk result (λ _. Weighs builder.old builder.new (byte_room how.shrink x.now + 32)) }
     ensures groups { IfOk result (λ _. builder.new.groups ≡ noted how.which (length builder.old.starts) (x.now) builder.old.groups) }
     ensures refused { IfErr result (λ e. Refuses how.which builder.old builder.new (room how.shrink x.now + 1) (x.now) e) }
+    ensures passed { IfErr result (λ e. Passes builder.old (byte_room how.shrink x.now + 32) e) }
 {
     let body = compile(builder, alloc, how, shared, x)?;
     let union = add_choice(builder, alloc, greedy)?;
@@ -257,8 +270,10 @@ fn copies(
     requires some { 1 ≤ n }
     ensures made { IfOk result (λ f. Makes builder.old builder.new f.start f.end (n * room how.shrink x.now)) }
     ensures denotes { IfOk result (λ f. DoesCopies builder.old builder.new f.start f.end n x.now) }
+    ensures weighs { IfOk result (λ _. Weighs builder.old builder.new (n * (byte_room how.shrink x.now + 4))) }
     ensures groups { IfOk result (λ _. builder.new.groups ≡ noted how.which (length builder.old.starts) (x.now) builder.old.groups) }
     ensures refused { IfErr result (λ e. Refuses how.which builder.old builder.new (n * room how.shrink x.now) (x.now) e) }
+    ensures passed { IfErr result (λ e. Passes builder.old (n * (byte_room how.shrink x.now + 4)) e) }
 {
     let first = compile(builder, alloc, how, shared, x)?;
     let mut end = first.end;
@@ -287,8 +302,10 @@ fn at_least(
     requires { IsReady how.which builder.old }
     ensures made { IfOk result (λ f. Makes builder.old builder.new f.start f.end (room how.shrink (repetition min None greedy x.now))) }
     ensures denotes { IfOk result (λ f. Does builder.old builder.new f.start f.end (repetition min None greedy x.now)) }
+    ensures weighs { IfOk result (λ _. Weighs builder.old builder.new (byte_room how.shrink (repetition min None greedy x.now))) }
     ensures groups { IfOk result (λ _. builder.new.groups ≡ noted how.which (length builder.old.starts) (repetition min None greedy x.now) builder.old.groups) }
     ensures refused { IfErr result (λ e. Refuses how.which builder.old builder.new (room how.shrink (repetition min None greedy x.now)) (repetition min None greedy x.now) e) }
+    ensures passed { IfErr result (λ e. Passes builder.old (byte_room how.shrink (repetition min None greedy x.now)) e) }
 {
     if min == 0 {
         let any = zero_or_more(builder, alloc, how, shared, x, greedy)?;
@@ -322,8 +339,10 @@ fn option(
     requires there { exit < length builder.old.drafts }
     ensures made { IfOk result (λ f. Makes builder.old builder.new f.start f.end (room how.shrink x.now + 1)) }
     ensures denotes { IfOk result (λ f. DoesOption builder.old builder.new f.start f.end exit greedy x.now) }
+    ensures weighs { IfOk result (λ _. Weighs builder.old builder.new (byte_room how.shrink x.now + 32)) }
     ensures groups { IfOk result (λ _. builder.new.groups ≡ noted how.which (length builder.old.starts) (x.now) builder.old.groups) }
     ensures refused { IfErr result (λ e. Refuses how.which builder.old builder.new (room how.shrink x.now + 1) (x.now) e) }
+    ensures passed { IfErr result (λ e. Passes builder.old (byte_room how.shrink x.now + 32) e) }
 {
     let union = add_choice(builder, alloc, greedy)?;
     let body = compile(builder, alloc, how, shared, x)?;
@@ -350,8 +369,10 @@ fn up_to(
     requires some { 1 ≤ most }
     ensures made { IfOk result (λ f. Makes builder.old builder.new f.start f.end (most * (room how.shrink x.now + 1) + 1)) }
     ensures denotes { IfOk result (λ f. Does builder.old builder.new f.start f.end (repetition 0 (Some most) greedy x.now)) }
+    ensures weighs { IfOk result (λ _. Weighs builder.old builder.new (byte_room how.shrink (repetition 0 (Some most) greedy x.now))) }
     ensures groups { IfOk result (λ _. builder.new.groups ≡ noted how.which (length builder.old.starts) (x.now) builder.old.groups) }
     ensures refused { IfErr result (λ e. Refuses how.which builder.old builder.new (most * (room how.shrink x.now + 1) + 1) (x.now) e) }
+    ensures passed { IfErr result (λ e. Passes builder.old (byte_room how.shrink (repetition 0 (Some most) greedy x.now)) e) }
 {
     let exit = add_empty(builder)?;
     let first = option(builder, alloc, how, shared, x, greedy, exit)?;
@@ -385,8 +406,10 @@ fn owed_and_more(
     requires ordered { min ≤ most }
     ensures made { IfOk result (λ f. Makes builder.old builder.new f.start f.end (min * room how.shrink x.now + (most - min) * (room how.shrink x.now + 1) + 1)) }
     ensures denotes { IfOk result (λ f. Does builder.old builder.new f.start f.end (repetition min (Some most) greedy x.now)) }
+    ensures weighs { IfOk result (λ _. Weighs builder.old builder.new (byte_room how.shrink (repetition min (Some most) greedy x.now))) }
     ensures groups { IfOk result (λ _. builder.new.groups ≡ noted how.which (length builder.old.starts) (x.now) builder.old.groups) }
     ensures refused { IfErr result (λ e. Refuses how.which builder.old builder.new (min * room how.shrink x.now + (most - min) * (room how.shrink x.now + 1) + 1) (x.now) e) }
+    ensures passed { IfErr result (λ e. Passes builder.old (byte_room how.shrink (repetition min (Some most) greedy x.now)) e) }
 {
     let prefix = copies(builder, alloc, how, shared, x, min)?;
     let exit = add_empty(builder)?;
@@ -419,8 +442,10 @@ fn between(
     requires ordered { min ≤ most }
     ensures made { IfOk result (λ f. Makes builder.old builder.new f.start f.end (room how.shrink (repetition min (Some most) greedy x.now))) }
     ensures denotes { IfOk result (λ f. Does builder.old builder.new f.start f.end (repetition min (Some most) greedy x.now)) }
+    ensures weighs { IfOk result (λ _. Weighs builder.old builder.new (byte_room how.shrink (repetition min (Some most) greedy x.now))) }
     ensures groups { IfOk result (λ _. builder.new.groups ≡ noted how.which (length builder.old.starts) (repetition min (Some most) greedy x.now) builder.old.groups) }
     ensures refused { IfErr result (λ e. Refuses how.which builder.old builder.new (room how.shrink (repetition min (Some most) greedy x.now)) (repetition min (Some most) greedy x.now) e) }
+    ensures passed { IfErr result (λ e. Passes builder.old (byte_room how.shrink (repetition min (Some most) greedy x.now)) e) }
 {
     if most == 0 {
         let none = empty(builder)?;
@@ -450,8 +475,10 @@ fn alternatives(
     requires { IsReady how.which builder.old }
     ensures made { IfOk result (λ f. Makes builder.old builder.new f.start f.end (room how.shrink (alternation subs.now))) }
     ensures denotes { IfOk result (λ f. Does builder.old builder.new f.start f.end (alternation subs.now)) }
+    ensures weighs { IfOk result (λ _. Weighs builder.old builder.new (byte_room how.shrink (alternation subs.now))) }
     ensures groups { IfOk result (λ _. builder.new.groups ≡ noted how.which (length builder.old.starts) (alternation subs.now) builder.old.groups) }
     ensures refused { IfErr result (λ e. Refuses how.which builder.old builder.new (room how.shrink (alternation subs.now)) (alternation subs.now) e) }
+    ensures passed { IfErr result (λ e. Passes builder.old (byte_room how.shrink (alternation subs.now)) e) }
 {
     if subs.len() == 0 {
         let none = fail(builder)?;

@@ -12,6 +12,7 @@ use search_core::StateID;
 use std::alloc::Global;
 
 /// Adds a state that stands for another, which is named later.
+#[tactic(auto, using(crate::proofs::Steps::StepLemmas::added_of, crate::proofs::Steps::StepLemmas::add_refused))]
 pub(crate) fn add_empty(builder: &mut Builder) -> Result<StateID, BuildError>
     ensures { MatchResult result (λ id. Added builder.old builder.new id (empty_draft 0) builder.old.groups) (λ e. Stays builder.old builder.new 1 24 e) }
 {
@@ -19,6 +20,7 @@ pub(crate) fn add_empty(builder: &mut Builder) -> Result<StateID, BuildError>
 }
 
 /// Adds a state that leads nowhere.
+#[tactic(auto, using(crate::proofs::Steps::StepLemmas::added_of, crate::proofs::Steps::StepLemmas::add_refused))]
 pub(crate) fn add_fail(builder: &mut Builder) -> Result<StateID, BuildError>
     ensures { MatchResult result (λ id. Added builder.old builder.new id fail_draft builder.old.groups) (λ e. Stays builder.old builder.new 1 24 e) }
 {
@@ -26,6 +28,7 @@ pub(crate) fn add_fail(builder: &mut Builder) -> Result<StateID, BuildError>
 }
 
 /// Adds a state that reads one byte from the first to the last.
+#[tactic(auto, using(crate::proofs::Steps::StepLemmas::added_of, crate::proofs::Steps::StepLemmas::add_refused))]
 pub(crate) fn add_range(builder: &mut Builder, start: u8, end: u8) -> Result<StateID, BuildError>
     requires { start ≤ end }
     ensures { MatchResult result (λ id. Added builder.old builder.new id (range_draft start end 0) builder.old.groups) (λ e. Stays builder.old builder.new 1 24 e) }
@@ -35,6 +38,7 @@ pub(crate) fn add_range(builder: &mut Builder, start: u8, end: u8) -> Result<Sta
 }
 
 /// Adds a state that leads on where the look holds.
+#[tactic(auto, using(crate::proofs::Steps::StepLemmas::added_of, crate::proofs::Steps::StepLemmas::add_refused))]
 pub(crate) fn add_look(builder: &mut Builder, look: Look) -> Result<StateID, BuildError>
     ensures { MatchResult result (λ id. Added builder.old builder.new id (look_draft look 0) builder.old.groups) (λ e. Stays builder.old builder.new 1 24 e) }
 {
@@ -43,6 +47,7 @@ pub(crate) fn add_look(builder: &mut Builder, look: Look) -> Result<StateID, Bui
 
 /// Adds a choice of ways, none as yet. What it is led on to first comes first where it is greedy, and last
 /// where it is lazy.
+#[tactic(auto, using(crate::proofs::Steps::StepLemmas::added_of, crate::proofs::Steps::StepLemmas::add_refused))]
 pub(crate) fn add_choice(
     builder: &mut Builder,
     alloc: Global,

@@ -1,8 +1,8 @@
 //! Fragments of trees without parts.
-ghost use Rattle.std.specs.Prelude.{◌≡◌, ◌<◌, ◌≤◌, ◌+◌, [], ◌∷◌, length, IfOk, IfErr};
+ghost use Rattle.std.specs.Prelude.{◌≡◌, ◌<◌, ◌≤◌, ◌+◌, ◌*◌, [], ◌∷◌, length, IfOk, IfErr};
 ghost use Rattle.hir_core.specs.Tree.{empty, literal, byte_class, look, never};
-ghost use Rattle.thompson_nfa.specs.Compiled.{Makes, Does};
-ghost use Rattle.thompson_nfa.specs.Refusals.{Quits};
+ghost use Rattle.thompson_nfa.specs.Compiled.{Makes, Does, Weighs};
+ghost use Rattle.thompson_nfa.specs.Refusals.{Quits, Passes};
 ghost use Rattle.thompson_nfa.specs.Turned.{turned_place};
 
 use crate::compiling::Fragment;
@@ -15,6 +15,8 @@ use nfa_core::{BuildError, Builder};
 pub(crate) fn empty(builder: &mut Builder) -> Result<Fragment, BuildError>
     ensures made { IfOk result (λ f. Makes builder.old builder.new f.start f.end 1) }
     ensures denotes { IfOk result (λ f. Does builder.old builder.new f.start f.end empty) }
+    ensures weighs { IfOk result (λ _. Weighs builder.old builder.new 24) }
+    ensures passed { IfErr result (λ e. Passes builder.old 24 e) }
     ensures groups { IfOk result (λ _. builder.new.groups ≡ builder.old.groups) }
     ensures refused { IfErr result (λ e. Quits builder.old builder.new 1 e) }
 {
@@ -27,6 +29,8 @@ pub(crate) fn empty(builder: &mut Builder) -> Result<Fragment, BuildError>
 pub(crate) fn fail(builder: &mut Builder) -> Result<Fragment, BuildError>
     ensures made { IfOk result (λ f. Makes builder.old builder.new f.start f.end 1) }
     ensures denotes { IfOk result (λ f. Does builder.old builder.new f.start f.end never) }
+    ensures weighs { IfOk result (λ _. Weighs builder.old builder.new 24) }
+    ensures passed { IfErr result (λ e. Passes builder.old 24 e) }
     ensures groups { IfOk result (λ _. builder.new.groups ≡ builder.old.groups) }
     ensures refused { IfErr result (λ e. Quits builder.old builder.new 1 e) }
 {
@@ -40,6 +44,8 @@ pub(crate) fn byte_range(builder: &mut Builder, start: u8, end: u8) -> Result<Fr
     requires { start ≤ end }
     ensures made { IfOk result (λ f. Makes builder.old builder.new f.start f.end 1) }
     ensures denotes { IfOk result (λ f. Does builder.old builder.new f.start f.end (byte_class ((start, end) ∷ []))) }
+    ensures weighs { IfOk result (λ _. Weighs builder.old builder.new 24) }
+    ensures passed { IfErr result (λ e. Passes builder.old 24 e) }
     ensures groups { IfOk result (λ _. builder.new.groups ≡ builder.old.groups) }
     ensures refused { IfErr result (λ e. Quits builder.old builder.new 1 e) }
 {
@@ -53,6 +59,8 @@ pub(crate) fn byte_range(builder: &mut Builder, start: u8, end: u8) -> Result<Fr
 pub(crate) fn look(builder: &mut Builder, assertion: Look) -> Result<Fragment, BuildError>
     ensures made { IfOk result (λ f. Makes builder.old builder.new f.start f.end 1) }
     ensures denotes { IfOk result (λ f. Does builder.old builder.new f.start f.end (look assertion)) }
+    ensures weighs { IfOk result (λ _. Weighs builder.old builder.new 24) }
+    ensures passed { IfErr result (λ e. Passes builder.old 24 e) }
     ensures groups { IfOk result (λ _. builder.new.groups ≡ builder.old.groups) }
     ensures refused { IfErr result (λ e. Quits builder.old builder.new 1 e) }
 {
@@ -79,6 +87,8 @@ pub(crate) fn turned_place(reverse: bool, i: usize, len: usize) -> usize
 fn byte(builder: &mut Builder, byte: u8) -> Result<Fragment, BuildError>
     ensures made { IfOk result (λ f. Makes builder.old builder.new f.start f.end 1) }
     ensures denotes { IfOk result (λ f. Does builder.old builder.new f.start f.end (literal (byte ∷ []))) }
+    ensures weighs { IfOk result (λ _. Weighs builder.old builder.new 24) }
+    ensures passed { IfErr result (λ e. Passes builder.old 24 e) }
     ensures groups { IfOk result (λ _. builder.new.groups ≡ builder.old.groups) }
     ensures refused { IfErr result (λ e. Quits builder.old builder.new 1 e) }
 {
@@ -90,6 +100,8 @@ fn byte(builder: &mut Builder, byte: u8) -> Result<Fragment, BuildError>
 pub(crate) fn literal(builder: &mut Builder, bytes: &[u8]) -> Result<Fragment, BuildError>
     ensures made { IfOk result (λ f. Makes builder.old builder.new f.start f.end (length bytes.now + 1)) }
     ensures denotes { IfOk result (λ f. Does builder.old builder.new f.start f.end (literal bytes.now)) }
+    ensures weighs { IfOk result (λ _. Weighs builder.old builder.new (28 * length bytes.now + 24)) }
+    ensures passed { IfErr result (λ e. Passes builder.old (28 * length bytes.now + 24) e) }
     ensures groups { IfOk result (λ _. builder.new.groups ≡ builder.old.groups) }
     ensures refused { IfErr result (λ e. Quits builder.old builder.new (length bytes.now + 1) e) }
 {

@@ -71,6 +71,7 @@ fn add_item(
 }
 
 /// Adds a state that leads to each of these, the preferred first.
+#[tactic(auto, using(crate::proofs::Steps::StepLemmas::added_of, crate::proofs::Steps::StepLemmas::add_refused))]
 fn add_ways(builder: &mut Builder, ways: Vec<StateID>) -> Result<StateID, BuildError>
     ensures { MatchResult result (λ id. Added builder.old builder.new id (union_draft ways.items) builder.old.groups) (λ e. Stays builder.old builder.new 1 (24 + 4 * length ways.items) e) }
 {

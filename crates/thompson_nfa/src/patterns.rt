@@ -7,9 +7,12 @@ ghost use Rattle.nfa_core.specs.BuilderStates.{match_draft, union_draft, draft_a
 ghost use Rattle.nfa_core.specs.Renaming.{past};
 ghost use Rattle.thompson_nfa.specs.Added.{Added};
 ghost use Rattle.thompson_nfa.specs.Assembled.{IsAssembled};
+ghost use Rattle.thompson_nfa.specs.ByteRoom.{byte_room};
+ghost use Rattle.thompson_nfa.specs.Compiled.{Weighs};
 ghost use Rattle.thompson_nfa.specs.Configs.{reverse_of, captures_of, is_any, is_shrunk};
+ghost use Rattle.thompson_nfa.specs.ListBytes.{bytes_for, list_bytes};
 ghost use Rattle.thompson_nfa.specs.Patterns.{HasAll, HasStart, LeadsToFurther, LeadsToPatterns, RefusesPatterns, begun_with, room_for};
-ghost use Rattle.thompson_nfa.specs.Refusals.{Stays};
+ghost use Rattle.thompson_nfa.specs.Refusals.{Stays, Passes};
 ghost use Rattle.thompson_nfa.specs.RefusedTrees.{Breaks};
 ghost use Rattle.thompson_nfa.specs.Room.{room};
 ghost use Rattle.thompson_nfa.specs.Compilations.{is_anchored_tree};
@@ -34,6 +37,7 @@ pub(crate) struct Starts {
 }
 
 /// Adds a state in which the pattern that was begun matches.
+#[tactic(auto, using(crate::proofs::Steps::StepLemmas::added_of, crate::proofs::Steps::StepLemmas::add_refused))]
 fn add_match(builder: &mut Builder) -> Result<StateID, BuildError>
     requires { builder.old.is_open ≡ true }
     ensures { MatchResult result (λ id. Added builder.old builder.new id (match_draft (length builder.old.starts)) builder.old.groups) (λ e. Stays builder.old builder.new 1 24 e) }
@@ -55,6 +59,8 @@ fn compile_pattern(
     requires numbered { length builder.old.starts ≤ greatest_index }
     ensures has { IfOk result (λ start. HasAll how.which builder.old builder.new (start ∷ []) (expr.now ∷ []) (room how.shrink expr.now + 3) 4) }
     ensures refused { IfErr result (λ e. RefusesPatterns how.which builder.old (room how.shrink expr.now + 3) (expr.now ∷ []) e) }
+    ensures weighs { IfOk result (λ _. Weighs builder.old builder.new (byte_room how.shrink expr.now + 84)) }
+    ensures passed { IfErr result (λ e. Passes builder.old (byte_room how.shrink expr.now + 84) e) }
 {
     builder.start_pattern()?;
     let unnamed: Option<String> = None;
@@ -81,6 +87,8 @@ fn compile_further(
     requires kind { is_sparse (draft_at builder.old.drafts union) ≡ false }
     ensures has { IfOk result (λ _. LeadsToFurther how.which union builder.old builder.new exprs.now (room_for how.shrink exprs.now)) }
     ensures refused { IfErr result (λ e. RefusesPatterns how.which builder.old (room_for how.shrink exprs.now) exprs.now e) }
+    ensures weighs { IfOk result (λ _. Weighs builder.old builder.new (bytes_for how.shrink exprs.now)) }
+    ensures passed { IfErr result (λ e. Passes builder.old (bytes_for how.shrink exprs.now) e) }
 {
     for expr in exprs {
         let start = compile_pattern(builder, alloc, how, shared, expr)?;
@@ -103,6 +111,8 @@ fn compile_patterns(
     requires numbered { length builder.old.starts + length exprs.now ≤ greatest_index + 1 }
     ensures has { IfOk result (λ c. LeadsToPatterns how.which builder.old builder.new c exprs.now (room_for how.shrink exprs.now + 1)) }
     ensures refused { IfErr result (λ e. RefusesPatterns how.which builder.old (room_for how.shrink exprs.now + 1) exprs.now e) }
+    ensures weighs { IfOk result (λ _. Weighs builder.old builder.new (bytes_for how.shrink exprs.now + 32)) }
+    ensures passed { IfErr result (λ e. Passes builder.old (bytes_for how.shrink exprs.now + 32) e) }
 {
     let Some((first, rest)) = exprs.split_first() else {
         let none = add_fail(builder)?;
@@ -122,7 +132,9 @@ fn compile_patterns(
 
 /// Adds what stands before the patterns.
 fn add_start(builder: &mut Builder, alloc: Global, anchored: bool) -> Result<StateID, BuildError>
-    ensures { MatchResult result (λ u. HasStart anchored builder.old builder.new u) (λ e. Breaks builder.old builder.new 3 e) }
+    ensures has { MatchResult result (λ u. HasStart anchored builder.old builder.new u) (λ e. Breaks builder.old builder.new 3 e) }
+    ensures weighs { IfOk result (λ _. Weighs builder.old builder.new 88) }
+    ensures passed { IfErr result (λ e. Passes builder.old 88 e) }
 {
     if anchored {
         let start = add_empty(builder)?;
@@ -146,6 +158,7 @@ pub(crate) fn compile_all(
     ensures assembled { IfOk result (λ s. IsAssembled config.now exprs.now builder.new s.anchored s.unanchored) }
     ensures apart { IfOk result (λ s. past builder.new.drafts s.anchored ≢ s.unanchored) }
     ensures refused { IfErr result (λ e. RefusesPatterns (captures_of config.now) builder.old (room_for (is_shrunk config.now) exprs.now + 4) exprs.now e) }
+    ensures passed { IfErr result (λ e. Passes builder.old (list_bytes (is_shrunk config.now) exprs.now) e) }
 {
     let which = config.get_which_captures();
     let shrink = config.is_shrunk();
@@ -186,6 +199,7 @@ fn is_anchored(expr: &Hir, reverse: bool) -> bool
 }
 
 /// Adds a state that reads any byte.
+#[tactic(auto, using(crate::proofs::Steps::StepLemmas::added_of, crate::proofs::Steps::StepLemmas::add_refused))]
 fn add_any_byte(builder: &mut Builder, alloc: Global, next: StateID) -> Result<StateID, BuildError>
     ensures { MatchResult result (λ id. Added builder.old builder.new id (sparse_draft ((0, 255, next) ∷ [])) builder.old.groups) (λ e. Stays builder.old builder.new 1 32 e) }
 {
@@ -200,7 +214,8 @@ fn add_any_byte(builder: &mut Builder, alloc: Global, next: StateID) -> Result<S
 
 /// Adds a state that goes on at each place, past any bytes, to what it is led to later.
 pub(crate) fn add_prefix(builder: &mut Builder, alloc: Global) -> Result<StateID, BuildError>
-    ensures { MatchResult result (λ u. HasPrefix builder.old builder.new u) (λ e. Breaks builder.old builder.new 3 e) }
+    ensures has { MatchResult result (λ u. HasPrefix builder.old builder.new u) (λ e. Breaks builder.old builder.new 3 e) }
+    ensures passed { IfErr result (λ e. Passes builder.old 88 e) }
 {
     let union = add_choice(builder, alloc, false)?;
     let end = add_empty(builder)?;

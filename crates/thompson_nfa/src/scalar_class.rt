@@ -2,8 +2,9 @@
 ghost use Rattle.std.specs.Prelude.{◌≡◌, true, IfOk, IfErr};
 ghost use Rattle.hir_core.specs.Facts.{is_ascending};
 ghost use Rattle.hir_core.specs.Tree.{char_class};
-ghost use Rattle.thompson_nfa.specs.Compiled.{Makes, Does};
-ghost use Rattle.thompson_nfa.specs.Refusals.{Quits};
+ghost use Rattle.thompson_nfa.specs.ByteRoom.{byte_room};
+ghost use Rattle.thompson_nfa.specs.Compiled.{Makes, Weighs, Does};
+ghost use Rattle.thompson_nfa.specs.Refusals.{Quits, Passes};
 ghost use Rattle.thompson_nfa.specs.Room.{room};
 
 use crate::compiling::{Fragment, How, Shared};
@@ -19,7 +20,7 @@ use std::alloc::Global;
 /// smaller.
 ///
 /// As `regex_automata::nfa::thompson::compiler::Compiler::c_unicode_class`.
-pub(crate) fn compile_scalars(
+fn scalar_states(
     builder: &mut Builder,
     alloc: Global,
     how: How,
@@ -47,4 +48,24 @@ pub(crate) fn compile_scalars(
     }
     let reverse = compile_scalars_reverse(builder, alloc, &mut shared.suffixes, ranges)?;
     Ok(reverse)
+}
+
+/// The same, by the bytes that the states take too.
+pub(crate) fn compile_scalars(
+    builder: &mut Builder,
+    alloc: Global,
+    how: How,
+    shared: &mut Shared,
+    ranges: &[(char, char)],
+) -> Result<Fragment, BuildError>
+    requires { is_ascending ranges.now ≡ true }
+    ensures made { IfOk result (λ f. Makes builder.old builder.new f.start f.end (room how.shrink (char_class ranges.now))) }
+    ensures does { IfOk result (λ f. Does builder.old builder.new f.start f.end (char_class ranges.now)) }
+    ensures weighs { IfOk result (λ _. Weighs builder.old builder.new (byte_room how.shrink (char_class ranges.now))) }
+    ensures passed { IfErr result (λ e. Passes builder.old (byte_room how.shrink (char_class ranges.now)) e) }
+    ensures groups { IfOk result (λ _. builder.new.groups ≡ builder.old.groups) }
+    ensures refused { IfErr result (λ e. Quits builder.old builder.new (room how.shrink (char_class ranges.now)) e) }
+{
+    let class = scalar_states(builder, alloc, how, shared, ranges)?;
+    Ok(class)
 }

@@ -474,7 +474,7 @@ first_quit end b compiled ns e is =
       stack = ns;
       next = end;
       pops = pops_none;
-      stays = record { same = refl; cause = tt };
+      stays = record { same = refl; cause = tt; passed = omega arith };
     }))
 
 pub turned_quit : (end : ℕ) (b0 b1 : Assembly) (compiled : SlotTable (List Transition)) (ns0 ns1 : List Stage) (range : ℕ ×
@@ -487,7 +487,7 @@ turned_quit end b0 b1 compiled ns0 ns1 range at e t is =
       stack = t.stack;
       next = t.next;
       pops = t.pops;
-      stays = record { same = refl; cause = tt };
+      stays = record { same = refl; cause = tt; passed = omega arith };
     }))
 
 pub compiling_as : (old b : Assembly) (end first : ℕ) (compiled table : SlotTable (List Transition)) (ns : List Stage)

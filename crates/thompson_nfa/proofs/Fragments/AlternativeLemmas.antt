@@ -6,14 +6,16 @@ use Rattle.search_types.specs.Groups.{Groups}
 use Rattle.hir_core.specs.Tree.{Tree, alternation}
 use Rattle.nfa_core.specs.BuilderStates.{Assembly, empty_draft, union_draft}
 use Rattle.nfa_core.specs.declared.build_error.BuildError.{BuildError}
-use Rattle.thompson_nfa.specs.Compiled.{Makes, Does}
+use Rattle.thompson_nfa.specs.Compiled.{Makes, Weighs, Does, sum_of_bytes}
 use Rattle.thompson_nfa.specs.Added.{Added, Led}
 use Rattle.thompson_nfa.specs.NotedGroups.{noted}
 use Rattle.thompson_nfa.specs.Refusals.{Refuses, Stays}
 use Rattle.thompson_nfa.specs.Room.{room}
+use Rattle.thompson_nfa.specs.ByteRoom.{byte_room}
 use Rattle.thompson_nfa.specs.declared.compiling.How.{How}
 use Rattle.thompson_nfa.specs.declared.which_captures.WhichCaptures.{WhichCaptures}
 use Rattle.thompson_nfa.proofs.Walks.SameLemmas.{same_alternation_one}
+use Rattle.thompson_nfa.proofs.Fragments.PartBytes.{part_bytes, bytes_of_alternation, two_bytes}
 use Rattle.thompson_nfa.proofs.Fragments.JoinLemmas.{does_same}
 use Rattle.thompson_nfa.proofs.Fragments.TurnLemmas.{first_left}
 use Rattle.thompson_nfa.proofs.Fragments.BranchLemmas.{Branches, branches_open, branches_then, branches_made, branches_does}
@@ -28,6 +30,7 @@ pub record Cases (how : How) (old mid : Assembly) (u z i : ℕ) (xs : List Tree)
   pub fits : n + rooms how.shrink (drop i xs) ≤ rooms how.shrink xs + 2
   pub groups : noted how.which (length old.starts) (alternation (drop i xs)) mid.groups ≡ noted how.which (length old.starts)
       (alternation xs) old.groups
+  pub bytes : sum_of_bytes mid + part_bytes 8 how.shrink (drop i xs) ≤ sum_of_bytes old + part_bytes 8 how.shrink xs + 48
 
 -- the list begins with these two
 two_first : (xs : List Tree) (x y : Tree) → 1 < length xs → x ≡ get_or xs 0 x → y ≡ get_or xs 1 y → xs ≡ x ∷ y ∷ drop 2 xs
@@ -103,8 +106,8 @@ module _ (how : How) (t0 t1 t2 : Assembly) (s1 e1 s2 e2 : ℕ) (x y : Tree) (xs 
         (p7 : Led t6 t7 u s2) (p8 : Led t7 t8 e2 z) where
       pub cases_open : Does t0 t1 s1 e1 x → Does t1 t2 s2 e2 y → t1.groups ≡ noted how.which (length t0.starts) x t0.groups →
           t2.groups ≡ noted how.which (length t1.starts) y t1.groups →
-          Cases how t0 t8 u z 2 xs
-      cases_open does1 does2 g1 g2 =
+          Weighs t0 t1 (byte_room how.shrink x) → Weighs t1 t2 (byte_room how.shrink y) → Cases how t0 t8 u z 2 xs
+      cases_open does1 does2 g1 g2 w1 w2 =
           let same = two_first xs x y two is_x is_y in
           let d = counted in
           let P : List Tree → Type 0 = λ ys. Branches t0 t8 u z (room how.shrink x + room how.shrink y + 1 + 1) ys in
@@ -122,13 +125,27 @@ module _ (how : How) (t0 t1 t2 : Assembly) (s1 e1 s2 e2 : ℕ) (x y : Tree) (xs 
             fits = omega arith;
             groups = ap (noted how.which (length t0.starts) (alternation (drop 2 xs))) groups
                 ∙ sym (ap (λ ys. noted how.which (length t0.starts) (alternation ys) t0.groups) same);
+            bytes = omega (
+              arith,
+              w1,
+              w2,
+              union.bytes,
+              last.bytes,
+              p5.bytes,
+              p6.bytes,
+              p7.bytes,
+              p8.bytes,
+              two_bytes how.shrink xs x y two is_x is_y,
+            );
           }
 
 module _ (how : How) (old b : Assembly) (u z i : ℕ) (xs : List Tree) (cs : Cases how old b u z i xs) where
   pub cases_then : (c d f : Assembly) (s e : ℕ) (x : Tree) → i < length xs → x ≡ get_or xs i x → Makes b c s e (room how.shrink x) →
       Does b c s e x → c.groups ≡ noted how.which (length b.starts) x b.groups →
-      Led c d u s → Led d f e z → Cases how old f u z (i + 1) xs
-  cases_then c d f s e x l is m does g p1 p2 =
+      Led c d u s → Led d f e z → Weighs b c (byte_room how.shrink x) → Cases how old f u z (i + 1) xs
+  cases_then c d f s e x l is m does g p1 p2 w =
+      let sized : part_bytes 8 how.shrink (drop i xs) ≡ byte_room how.shrink x + 8 + part_bytes 8 how.shrink (drop (i + 1) xs) =
+      ap (part_bytes 8 how.shrink) (first_left xs i x x l is) in
       let fits = cs.fits in
       let split = first_left xs i x x l is in
       let counted : rooms how.shrink (drop i xs) ≡ room how.shrink x + rooms how.shrink (drop (i + 1) xs) = ap (rooms how.shrink) split in
@@ -145,7 +162,20 @@ module _ (how : How) (old b : Assembly) (u z i : ℕ) (xs : List Tree) (cs : Cas
         fits = omega arith;
         groups = ap (noted how.which (length old.starts) (alternation (drop (i + 1) xs))) groups
             ∙ sym (ap (λ ys. noted how.which (length old.starts) (alternation ys) b.groups) split) ∙ cs.groups;
+        bytes = omega (arith, w, cs.bytes, p1.bytes, p2.bytes, sized);
       }
+
+  pub cases_weigh : Weighs old b (byte_room how.shrink (alternation xs))
+  cases_weigh = omega (arith, cs.bytes, bytes_of_alternation how.shrink xs)
+
+  sized : (x : Tree) → i < length xs → x ≡ get_or xs i x →
+      part_bytes 8 how.shrink (drop i xs) ≡ byte_room how.shrink x + 8 + part_bytes 8 how.shrink (drop (i + 1) xs)
+  sized x l is = ap (part_bytes 8 how.shrink) (first_left xs i x x l is)
+
+  -- the next part, and the ways to it and from it
+  pub cases_left : (x : Tree) → i < length xs → x ≡ get_or xs i x →
+      sum_of_bytes b + byte_room how.shrink x + 8 ≤ sum_of_bytes old + byte_room how.shrink (alternation xs)
+  cases_left x l is = omega (arith, cs.bytes, sized x l is, bytes_of_alternation how.shrink xs)
 
   pub cases_refused : (new : Assembly) (x : Tree) (e : BuildError) → i < length xs → x ≡ get_or xs i x →
       Refuses how.which b new (room how.shrink x) x e → Refuses how.which old new (room how.shrink (alternation xs)) (alternation xs) e

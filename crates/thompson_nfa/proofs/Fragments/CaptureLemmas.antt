@@ -26,6 +26,7 @@ use Rattle.thompson_nfa.proofs.Steps.OutLemmas.{out_here, all_here, all_join, al
 use Rattle.thompson_nfa.proofs.Fragments.LeafLemmas.{tame_one}
 use Rattle.thompson_nfa.proofs.Steps.StepLemmas.{added_of, added_group, refused_name}
 use Rattle.thompson_nfa.proofs.Steps.NotedLemmas.{group_in, known_of_in, known_group}
+use Rattle.thompson_nfa.proofs.Steps.ByteLemmas.{group_bytes}
 use Rattle.thompson_nfa.proofs.Steps.ProgressLemmas.{Progress, first_added, then_added, then_made, then_led, made, step_later, size_kept}
 use Rattle.thompson_nfa.proofs.Fragments.RepeatLemmas.{reads_as}
 use Rattle.thompson_nfa.proofs.Walks.AheadLemmas.{denotes_capture, denotes_capture_plain}
@@ -90,8 +91,11 @@ pub end_refused : (old new : Assembly) (index : ℕ) (e : BuildError) → new �
     QuitsGroup old new index e
 end_refused old new index e same told = record {
   settings = same ∙ ap (λ (b : Assembly). record old { drafts = b.drafts; groups = b.groups }) (sym same);
-  cause = group_refused (nat_lt greatest_index index) old index (capture_end_draft (length old.starts) index 0) e refl (omega arith) told;
-}
+  cause = end_cause;
+  passed = group_bytes (length old.starts) index old e end_cause;
+} where
+  end_cause : RefusesGroup (length old.starts) index old e
+  end_cause = group_refused (nat_lt greatest_index index) old index (capture_end_draft (length old.starts) index 0) e refl (omega arith) told
 
 start_cause : (old : Assembly) (index : ℕ) (e : BuildError) →
     (e ≡ error.NoMemory) ⊎ Tells e (option_or (index_fault (length old.starts) index)
@@ -109,6 +113,7 @@ pub start_refused : (old new : Assembly) (index : ℕ) (e : BuildError) → new 
 start_refused old new index e same told = record {
   settings = same ∙ ap (λ (b : Assembly). record old { drafts = b.drafts; groups = new.groups }) (sym same);
   cause = start_cause old index e told;
+  passed = group_bytes (length old.starts) index old e (start_cause old index e told);
 }
 
 -- the whole capture is refused

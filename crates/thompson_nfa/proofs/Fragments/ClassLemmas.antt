@@ -1,6 +1,6 @@
 -- Fragments of byte classes.
 use Rattle.std.proofs.Common.{◌≡◌, ℕ, zero, suc, ◌+◌, ◌<◌, ◌≤◌, true, List, [], ◌∷◌, length, get_or, refl, sym, ap, ◌∙◌, subst}
-use Rattle.std.proofs.Common.{arith, IsTrue}
+use Rattle.std.proofs.Common.{arith, IsTrue, ◌*◌}
 use Rattle.std.specs.Prelude.{All}
 use Rattle.std.proofs.lemmas.List.{length-map}
 use Rattle.hir_core.specs.Facts.{rises_from, is_ascending}
@@ -95,6 +95,12 @@ pub class_quits : (a b c : Assembly) (end : ℕ) (e : BuildError) → Added a b 
 class_quits a b c end e first r =
     then_quits 2 (first_added 8 first (tame_one {plain = true} b (empty_draft 0) 0 refl (omega arith) refl refl) (omega arith)) r
     (omega arith) (omega arith)
+
+pub bytes_counted : (next : ℕ) (ranges : List (ℕ × ℕ)) (transitions : List (ℕ × ℕ × ℕ)) → transitions ≡ to_one next ranges →
+    draft_bytes (sparse_draft transitions) ≤ 24 + 8 * length ranges
+bytes_counted next ranges transitions same =
+    let e : length transitions ≡ length ranges = ap length same ∙ length-map ranges (λ r. (r.0, r.1, next)) in
+    omega arith
 
 pub bytes_shown : (next : ℕ) (ranges : List (ℕ × ℕ)) (transitions : List (ℕ × ℕ × ℕ)) → transitions ≡ to_one next ranges →
     length ranges ≤ 256 → draft_bytes (sparse_draft transitions) ≤ 2072

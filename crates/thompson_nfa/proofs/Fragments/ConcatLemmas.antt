@@ -6,17 +6,19 @@ use Rattle.hir_core.specs.Tree.{Tree, concat, alternation}
 use Rattle.hir_core.specs.Weight.{weight}
 use Rattle.nfa_core.specs.BuilderStates.{Assembly}
 use Rattle.nfa_core.specs.declared.build_error.BuildError.{BuildError}
-use Rattle.thompson_nfa.specs.Compiled.{Makes, Does, DoesFirst, IsReady}
+use Rattle.thompson_nfa.specs.Compiled.{Makes, Weighs, Does, DoesFirst, IsReady, sum_of_bytes}
 use Rattle.thompson_nfa.specs.Added.{Led}
 use Rattle.thompson_nfa.specs.NotedGroups.{noted, HasGroup}
 use Rattle.thompson_nfa.specs.Refusals.{Refuses, Stays}
 use Rattle.thompson_nfa.specs.Turned.{turned_place, left_after}
 use Rattle.thompson_nfa.specs.Room.{room}
+use Rattle.thompson_nfa.specs.ByteRoom.{byte_room}
 use Rattle.thompson_nfa.specs.declared.compiling.How.{How}
 use Rattle.thompson_nfa.specs.declared.which_captures.WhichCaptures.{WhichCaptures}
 use Rattle.thompson_nfa.specs.declared.which_captures.WhichCaptures.TheVariants as which
 use Rattle.thompson_nfa.proofs.Walks.SameLemmas.{same_concat_one}
 use Rattle.thompson_nfa.proofs.Fragments.TurnLemmas.{first_left, last_left, left_all, left_none, concat_joins, concat_begun, concat_ended}
+use Rattle.thompson_nfa.proofs.Fragments.PartBytes.{part_bytes, left_bytes, bytes_of_concat}
 use Rattle.thompson_nfa.proofs.Fragments.JoinLemmas.{join_made, join_does, does_first, does_all, does_same}
 use Rattle.thompson_nfa.proofs.Steps.ProgressLemmas.{Includes, first_made, then_made, made_capped, then_quits, refuses, then_refuses}
 use Rattle.thompson_nfa.proofs.Steps.ProgressLemmas.{first_refuses}
@@ -99,12 +101,16 @@ pub record Parts (how : How) (old mid : Assembly) (start end i : ℕ) (xs : List
   pub does : DoesFirst old mid start end (concat (left_after old.reverse i xs)) (concat xs)
   pub groups : noted how.which (length old.starts) (concat (left_after old.reverse i xs)) mid.groups ≡ noted how.which (length old.starts)
       (concat xs) old.groups
+  pub bytes : sum_of_bytes mid + part_bytes 4 how.shrink (left_after old.reverse i xs) ≤ sum_of_bytes old + part_bytes 4 how.shrink xs
 
 pub parts_first : (how : How) (old mid : Assembly) (s e : ℕ) (x : Tree) (xs : List Tree) → IsReady how.which old → 0 < length xs →
     x ≡ get_or xs (turned_place old.reverse 0 (length xs)) x →
     Makes old mid s e (room how.shrink x) → Does old mid s e x → mid.groups ≡ noted how.which (length old.starts) x old.groups →
-    Parts how old mid s e 1 xs
-parts_first how old mid s e x xs ready some is m d g =
+    Weighs old mid (byte_room how.shrink x) → Parts how old mid s e 1 xs
+parts_first how old mid s e x xs ready some is m d g w =
+    let sized = left_bytes 4 how.shrink old.reverse xs 0 x some is in
+    let sized_all : part_bytes 4 how.shrink (left_after old.reverse 0 xs) ≡ part_bytes 4 how.shrink xs =
+    ap (part_bytes 4 how.shrink) (left_all old.reverse xs) in
     let counted = left_room how.shrink old.reverse xs 0 x some is in
     let all : rooms how.shrink (left_after old.reverse 0 xs) ≡ rooms how.shrink xs = ap (rooms how.shrink) (left_all old.reverse xs) in
     let one : left_after old.reverse (0 + 1) xs ≡ left_after old.reverse 1 xs = refl in
@@ -118,6 +124,7 @@ parts_first how old mid s e x xs ready some is m d g =
       groups = left_groups how.which (length old.starts) old.reverse xs 0 x old.groups mid.groups
           (noted how.which (length old.starts) (concat xs) old.groups) ready.forward some is g
           (ap (λ ys. noted how.which (length old.starts) (concat ys) old.groups) (left_all old.reverse xs));
+      bytes = omega arith;
     }
 
 starts_kept : {how : How} {old mid : Assembly} {start end i : ℕ} {xs : List Tree} → Parts how old mid start end i xs →
@@ -127,8 +134,10 @@ starts_kept ps = ap (λ (b : Assembly). length b.starts) ps.made.fragment.grows.
 pub parts_then : (how : How) (old b c d : Assembly) (start end s e i : ℕ) (x : Tree) (xs : List Tree) → IsReady how.which old →
     i < length xs → x ≡ get_or xs (turned_place old.reverse i (length xs)) x →
     Parts how old b start end i xs → Makes b c s e (room how.shrink x) → Does b c s e x →
-    c.groups ≡ noted how.which (length b.starts) x b.groups → Led c d end s → Parts how old d start e (i + 1) xs
-parts_then how old b c d start end s e i x xs ready inside is ps m does g led =
+    c.groups ≡ noted how.which (length b.starts) x b.groups → Led c d end s → Weighs b c (byte_room how.shrink x) →
+    Parts how old d start e (i + 1) xs
+parts_then how old b c d start end s e i x xs ready inside is ps m does g led w =
+    let sized = left_bytes 4 how.shrink old.reverse xs i x inside is in
     let counted = left_room how.shrink old.reverse xs i x inside is in
     let fits = ps.fits in
     let groups : d.groups ≡ noted how.which (length old.starts) x b.groups =
@@ -142,6 +151,7 @@ parts_then how old b c d start end s e i x xs ready inside is ps m does g led =
           (concat_joins old.reverse xs i x inside is) ps.does (does_same b c s e x (concat (x ∷ [])) (same_concat_one x) does);
       groups = left_groups how.which (length old.starts) old.reverse xs i x b.groups d.groups
           (noted how.which (length old.starts) (concat xs) old.groups) ready.forward inside is groups ps.groups;
+      bytes = omega (arith, sized, ps.bytes, w, led.bytes);
     }
 
 module _ (how : How) (old mid : Assembly) (start end i : ℕ) (xs : List Tree) (ps : Parts how old mid start end i xs) where
@@ -155,6 +165,14 @@ module _ (how : How) (old mid : Assembly) (start end i : ℕ) (xs : List Tree) (
   pub parts_groups : length xs ≤ i → mid.groups ≡ noted how.which (length old.starts) (concat xs) old.groups
   parts_groups over = sym (ap (λ ys. noted how.which (length old.starts) (concat ys) mid.groups) (left_none old.reverse i xs over))
       ∙ ps.groups
+
+  pub parts_weigh : Weighs old mid (byte_room how.shrink (concat xs))
+  parts_weigh = omega (arith, ps.bytes, bytes_of_concat how.shrink xs)
+
+  -- the next part, and the way to it
+  pub parts_left : (x : Tree) → i < length xs → x ≡ get_or xs (turned_place old.reverse i (length xs)) x →
+      sum_of_bytes mid + byte_room how.shrink x + 4 ≤ sum_of_bytes old + byte_room how.shrink (concat xs)
+  parts_left x inside is = omega (arith, ps.bytes, left_bytes 4 how.shrink old.reverse xs i x inside is, bytes_of_concat how.shrink xs)
 
   -- the next part is refused, or that it is led to
   pub parts_refused : (new : Assembly) (x : Tree) (e : BuildError) → i < length xs →
@@ -178,6 +196,15 @@ module _ (how : How) (old mid : Assembly) (start end i : ℕ) (xs : List Tree) (
       let c = room_of_concat how.shrink xs in
       refuses how.which (room how.shrink (concat xs)) (concat xs) (then_quits (rooms how.shrink xs)
       (then_made 8 (first_made ps.made) m (omega arith)) r (omega arith) (omega arith)) (omega arith)
+
+pub first_part_bytes : (shrink back : Bool) (x : Tree) (xs : List Tree) → 0 < length xs → x ≡ get_or xs (turned_place back 0 (length xs)) x →
+    byte_room shrink x ≤ byte_room shrink (concat xs)
+first_part_bytes shrink back x xs some is = omega (
+  arith,
+  left_bytes 4 shrink back xs 0 x some is,
+  ap (part_bytes 4 shrink) (left_all back xs),
+  bytes_of_concat shrink xs,
+)
 
 -- the first part is refused
 pub first_part_refused : (how : How) (old new : Assembly) (x : Tree) (xs : List Tree) (e : BuildError) → 0 < length xs →

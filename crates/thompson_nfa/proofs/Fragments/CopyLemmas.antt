@@ -5,15 +5,17 @@ use Rattle.search_types.specs.Groups.{Groups}
 use Rattle.hir_core.specs.Tree.{Tree, empty, repetition}
 use Rattle.nfa_core.specs.BuilderStates.{Assembly, empty_draft}
 use Rattle.nfa_core.specs.declared.build_error.BuildError.{BuildError}
-use Rattle.thompson_nfa.specs.Compiled.{Makes, Does, DoesFirst, DoesCopies, DoesOption, raised, looks_in, uses}
+use Rattle.thompson_nfa.specs.Compiled.{Makes, Weighs, Does, DoesFirst, DoesCopies, DoesOption, raised, looks_in, uses, sum_of_bytes}
 use Rattle.thompson_nfa.specs.Added.{Added, Led}
 use Rattle.thompson_nfa.specs.NotedGroups.{noted}
 use Rattle.thompson_nfa.specs.Refusals.{Refuses, Stays}
 use Rattle.thompson_nfa.specs.Room.{room}
+use Rattle.thompson_nfa.specs.ByteRoom.{byte_room, repeated_bytes}
 use Rattle.thompson_nfa.specs.declared.compiling.How.{How}
 use Rattle.thompson_nfa.specs.declared.which_captures.WhichCaptures.{WhichCaptures}
 use Rattle.thompson_nfa.proofs.Steps.LookLemmas.{quiet_led}
 use Rattle.thompson_nfa.proofs.Fragments.RoundLemmas.{one_more, joins_copy, same_stopped}
+use Rattle.thompson_nfa.proofs.Fragments.PartBytes.{copy_bytes, round_bytes}
 use Rattle.thompson_nfa.proofs.Fragments.JoinLemmas.{join_made, join_first, join_second, join_does, does_first, does_all, does_same}
 use Rattle.thompson_nfa.proofs.Steps.NotedLemmas.{noted_twice}
 use Rattle.thompson_nfa.proofs.Steps.ProgressLemmas.{first_made, then_made, made_capped, then_quits, refuses, then_refuses}
@@ -61,14 +63,16 @@ pub record Copies (how : How) (old mid : Assembly) (start end i : ℕ) (x : Tree
   pub made : Makes old mid start end (i * room how.shrink x)
   pub does : DoesCopies old mid start end i x
   pub groups : mid.groups ≡ noted how.which (length old.starts) x old.groups
+  pub weighs : Weighs old mid (i * (byte_room how.shrink x + 4))
 
 pub copies_first : (how : How) (old mid : Assembly) (s e : ℕ) (x : Tree) → Makes old mid s e (room how.shrink x) → Does old mid s e x →
     mid.groups ≡ noted how.which (length old.starts) x old.groups →
-    Copies how old mid s e 1 x
-copies_first how old mid s e x m d g = record {
+    Weighs old mid (byte_room how.shrink x) → Copies how old mid s e 1 x
+copies_first how old mid s e x m d g w = record {
   made = made_capped (1 * room how.shrink x) m (omega arith);
   does = copies_one old mid s e x d;
   groups = g;
+  weighs = omega (arith, w);
 }
 
 -- the groups of one more copy
@@ -79,15 +83,27 @@ groups_again kept p q x old was now same before is = is ∙ ap (λ k. noted kept
 
 pub copies_then : (how : How) (old b c d : Assembly) (start end s e i : ℕ) (x : Tree) → Copies how old b start end i x →
     Makes b c s e (room how.shrink x) → Does b c s e x →
-    c.groups ≡ noted how.which (length b.starts) x b.groups → Led c d end s → Copies how old d start e (i + 1) x
-copies_then how old b c d start end s e i x cs m does g led = record {
+    c.groups ≡ noted how.which (length b.starts) x b.groups → Led c d end s → Weighs b c (byte_room how.shrink x) →
+    Copies how old d start e (i + 1) x
+copies_then how old b c d start end s e i x cs m does g led w = record {
   made = made_capped ((i + 1) * room how.shrink x) (join_made old b c d start end (i * room how.shrink x) s e
       (room how.shrink x) cs.made m led) (omega arith);
   does = copies_more old b c d start end (i * room how.shrink x) s e (room how.shrink x) i x cs.made m led cs.does does;
   groups = ap (λ (z : Assembly). z.groups) led.settings
       ∙ groups_again how.which (length old.starts) (length b.starts) x old.groups b.groups c.groups
       (ap (λ (z : Assembly). length z.starts) cs.made.fragment.grows.settings) cs.groups g;
+  weighs = omega (arith, cs.weighs, w, led.bytes);
 }
+
+-- one more copy, and the way to it
+pub copies_left : (how : How) (old b : Assembly) (start end i n : ℕ) (x : Tree) → Copies how old b start end i x → i < n →
+    sum_of_bytes b + byte_room how.shrink x + 4 ≤ sum_of_bytes old + n * (byte_room how.shrink x + 4)
+copies_left how old b start end i n x cs l = omega (arith, cs.weighs, copy_bytes i n (byte_room how.shrink x) l)
+
+pub copies_weigh : (how : How) (old b : Assembly) (start end i n : ℕ) (x : Tree) → Copies how old b start end i x → i ≤ n → n ≤ i →
+    Weighs old b (n * (byte_room how.shrink x + 4))
+copies_weigh how old b start end i n x cs le ge = let same : i ≡ n = omega arith in
+    let P : ℕ → Type 0 = λ k. Weighs old b (k * (byte_room how.shrink x + 4)) in subst P same cs.weighs
 
 pub copies_refused : (how : How) (old b new : Assembly) (start end i n : ℕ) (x : Tree) (e : BuildError) → Copies how old b start end i x →
     i < n → Refuses how.which b new (room how.shrink x) x e →
@@ -138,29 +154,33 @@ pub record Rounds (how : How) (old mid : Assembly) (start end z i low most total
   pub options : Options old mid start end z n (most - i) low most greedy x
   pub fits : n + (most - i) * (room how.shrink x + 1) ≤ total
   pub groups : mid.groups ≡ noted how.which (length old.starts) x old.groups
+  pub bytes : sum_of_bytes mid + (most - i) * (byte_room how.shrink x + 36) + 4 ≤ sum_of_bytes old + repeated_bytes low (Some most) (byte_room how.shrink x)
 
 pub rounds_owed : (how : How) (t0 t1 t2 : Assembly) (s e z low most : ℕ) (greedy : Bool) (x : Tree) → low ≤ most →
     Makes t0 t1 s e (low * room how.shrink x) → DoesCopies t0 t1 s e low x →
     t1.groups ≡ noted how.which (length t0.starts) x t0.groups → Added t1 t2 z (empty_draft 0) t1.groups →
+    Weighs t0 t1 (low * (byte_room how.shrink x + 4)) →
     Rounds how t0 t2 s e z low low most (low * room how.shrink x + (most - low) * (room how.shrink x + 1) + 1) greedy x
-rounds_owed how t0 t1 t2 s e z low most greedy x le m copies g added = record {
+rounds_owed how t0 t1 t2 s e z low most greedy x le m copies g added w = record {
   n = low * room how.shrink x + 1;
   options = options_owed t0 t1 t2 s e (low * room how.shrink x) z (most - low) low most greedy x m copies added (omega arith);
   fits = omega arith;
   groups = added.groups_are ∙ g;
+  bytes = omega (arith, w, added.bytes);
 }
 
 pub rounds_first : (how : How) (t0 t1 t2 : Assembly) (u e z most : ℕ) (greedy : Bool) (x : Tree) → 0 < most →
     Added t0 t1 z (empty_draft 0) t0.groups → Makes t1 t2 u e (room how.shrink x + 1) →
     DoesOption t1 t2 u e z greedy x → t2.groups ≡ noted how.which (length t1.starts) x t1.groups →
-    Rounds how t0 t2 u e z 1 0 most (most * (room how.shrink x + 1) + 1) greedy x
-rounds_first how t0 t1 t2 u e z zero greedy x some added m does g = absurd (omega arith)
-rounds_first how t0 t1 t2 u e z (suc left) greedy x some added m does g = record {
+    Weighs t1 t2 (byte_room how.shrink x + 32) → Rounds how t0 t2 u e z 1 0 most (most * (room how.shrink x + 1) + 1) greedy x
+rounds_first how t0 t1 t2 u e z zero greedy x some added m does g w = absurd (omega arith)
+rounds_first how t0 t1 t2 u e z (suc left) greedy x some added m does g w = record {
   n = 1 + (room how.shrink x + 1);
   options = options_first t0 t1 t2 u e (room how.shrink x + 1) z (suc left - 1) (suc left) greedy x added m does (omega arith);
   fits = let e : suc left - 1 ≡ left = omega arith in let f = ap (λ k. k * (room how.shrink x + 1)) e in omega arith;
   groups = g ∙ ap (λ p. noted how.which p x t1.groups) (ap (λ (b : Assembly). length b.starts) added.grows.settings)
       ∙ ap (noted how.which (length t0.starts) x) added.groups_are;
+  bytes = omega (arith, w, added.bytes, round_bytes 0 (suc left) (byte_room how.shrink x + 36) some);
 }
 
 round_less : (i most k : ℕ) → i < most → (most - i) * k ≡ (most - (i + 1)) * k + k
@@ -169,9 +189,9 @@ round_less i most k l = let e : most - i ≡ suc (most - (i + 1)) = omega arith 
 module _ (how : How) (old b : Assembly) (start end z i low most total : ℕ) (greedy : Bool) (x : Tree)
     (rs : Rounds how old b start end z i low most total greedy x) where
   pub rounds_then : (c d : Assembly) (u e : ℕ) → i < most → Makes b c u e (room how.shrink x + 1) → DoesOption b c u e z greedy x →
-      c.groups ≡ noted how.which (length b.starts) x b.groups → Led c d end u →
+      c.groups ≡ noted how.which (length b.starts) x b.groups → Led c d end u → Weighs b c (byte_room how.shrink x + 32) →
       Rounds how old d start e z (i + 1) low most total greedy x
-  rounds_then c d u e l m does g led =
+  rounds_then c d u e l m does g led w =
       let step = round_less i most (room how.shrink x + 1) l in
       let fits = rs.fits in
       record {
@@ -182,7 +202,20 @@ module _ (how : How) (old b : Assembly) (start end z i low most total : ℕ) (gr
         groups = ap (λ (w : Assembly). w.groups) led.settings
             ∙ groups_again how.which (length old.starts) (length b.starts) x old.groups b.groups c.groups
             (ap (λ (w : Assembly). length w.starts) rs.options.progress.partly.grows.settings) rs.groups g;
+        bytes = omega (arith, w, rs.bytes, led.bytes, round_bytes i most (byte_room how.shrink x + 36) l);
       }
+
+  -- one more round, and the way to it
+  pub rounds_left : i < most →
+      sum_of_bytes b + byte_room how.shrink x + 36 ≤ sum_of_bytes old + repeated_bytes low (Some most) (byte_room how.shrink x)
+  rounds_left l = omega (arith, rs.bytes, round_bytes i most (byte_room how.shrink x + 36) l)
+
+  -- the way to the exit
+  pub rounds_last : sum_of_bytes b + 4 ≤ sum_of_bytes old + repeated_bytes low (Some most) (byte_room how.shrink x)
+  rounds_last = omega (arith, rs.bytes)
+
+  pub rounds_weigh : (new : Assembly) → Led b new end z → Weighs old new (repeated_bytes low (Some most) (byte_room how.shrink x))
+  rounds_weigh new led = omega (arith, led.bytes, rs.bytes)
 
   pub rounds_refused : (new : Assembly) (e : BuildError) → i < most → Refuses how.which b new (room how.shrink x + 1) x e →
       Refuses how.which old new total x e

@@ -19,6 +19,7 @@ use Rattle.nfa_core.specs.declared.build_error.BuildError.TheVariants as error
 use Rattle.thompson_nfa.specs.Compiled.{sum_of_bytes}
 use Rattle.thompson_nfa.specs.Added.{Added, Led}
 use Rattle.thompson_nfa.specs.Refusals.{RefusesStep, Stays}
+use Rattle.thompson_nfa.proofs.Steps.ByteLemmas.{step_bytes}
 use Rattle.thompson_nfa.proofs.Steps.RoomLemmas.{numbered as room_for}
 
 longer : (names : List ℕ) (to : ℕ) → 24 + 4 * length (names ++ to ∷ []) ≤ 24 + 4 * length names + 4
@@ -97,12 +98,14 @@ lead_refused old new from to (error.ExceededSizeLimit limit) inside same told = 
   same = same;
   cause = limit_passed old.size_limit limit (sum_by draft_bytes (patched_at old.drafts from to)) (sum_of_bytes old + 4) told
       (sum_patched old.drafts from to inside);
+  passed = let most = limit_passed old.size_limit limit (sum_by draft_bytes (patched_at old.drafts from to)) (sum_of_bytes old + 4) told
+      (sum_patched old.drafts from to inside) in omega (arith, most.1);
 }
 lead_refused old new from to error.UnsupportedCaptures inside same told =
     absurd (never_other old.size_limit (bytes_of (patched_at old.drafts from to)) unsupported_captures told tt)
 lead_refused old new from to (error.Captures err) inside same told = absurd
     (never_other old.size_limit (bytes_of (patched_at old.drafts from to)) (captures_refused told.0) told.1 tt)
-lead_refused old new from to error.NoMemory inside same told = record { same = same; cause = tt }
+lead_refused old new from to error.NoMemory inside same told = record { same = same; cause = tt; passed = omega arith }
 
 -- a name is there
 name_there : (b : Bool) (n : ℕ) (fault : BuildFault) (other : Option BuildFault) → b ≡ nat_lt greatest_index n →
@@ -179,7 +182,6 @@ refused_name false old draft bytes error.NoMemory test told le = tt
 
 pub add_refused : (old new : Assembly) (draft : DraftNode) (bytes : ℕ) (e : BuildError) → new ≡ old → Tells e (add_fault old draft) →
     draft_bytes draft ≤ bytes → Stays old new 1 bytes e
-add_refused old new draft bytes e same told le = record {
-  same = same;
-  cause = refused_name (nat_lt greatest_index (length old.drafts)) old draft bytes e refl told le;
-}
+add_refused old new draft bytes e same told le =
+    let cause = refused_name (nat_lt greatest_index (length old.drafts)) old draft bytes e refl told le in
+    record { same = same; cause = cause; passed = step_bytes old 1 bytes e (omega (arith, le)) cause }

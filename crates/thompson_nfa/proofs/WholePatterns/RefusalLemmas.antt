@@ -15,7 +15,8 @@ use Rattle.thompson_nfa.specs.Configs.{Options, reverse_of, limit_of, captures_o
 use Rattle.thompson_nfa.specs.NotedGroups.{noted_from, HasGroup}
 use Rattle.thompson_nfa.specs.Patterns.{RefusesPatterns, begun_with, room_for, told_by}
 use Rattle.thompson_nfa.specs.Room.{list_room}
-use Rattle.thompson_nfa.specs.Refusals.{RefusesIndex}
+use Rattle.thompson_nfa.specs.ListBytes.{list_bytes}
+use Rattle.thompson_nfa.specs.Refusals.{RefusesIndex, Passes}
 use Rattle.thompson_nfa.specs.RefusedTrees.{RefusesTrees, FitsStates}
 use Rattle.thompson_nfa.specs.declared.which_captures.WhichCaptures.{WhichCaptures}
 use Rattle.thompson_nfa.specs.declared.which_captures.WhichCaptures.TheVariants as which
@@ -44,18 +45,19 @@ forward_fault o xs fault captures e = ⊎_elim (λ (up : reverse_of o ≡ false)
 -- ---- patterns are refused
 
 too_many : (b : Bool) (o : Options) (xs : List Tree) (limit : ℕ) → b ≡ nat_lt limit (24 * (greatest_index + 1)) → limit_of o ≡ Some limit →
-    greatest_index + 1 < list_room (is_shrunk o) xs →
+    greatest_index + 1 < list_room (is_shrunk o) xs → 24 * (greatest_index + 1) ≤ list_bytes (is_shrunk o) xs →
     RefusesTrees o xs (if b then error.ExceededSizeLimit limit else error.TooManyStates)
-too_many true o xs limit test is many = let less = ltb-true limit (24 * (greatest_index + 1)) (sym test) in (is, omega arith)
-too_many false o xs limit test is many =
+too_many true o xs limit test is many bytes = let less = ltb-true limit (24 * (greatest_index + 1)) (sym test) in
+    (is, omega arith, omega arith)
+too_many false o xs limit test is many bytes =
     let P : Option ℕ → Type 0 = FitsStates in
     let fits : 24 * (greatest_index + 1) ≤ limit = ltb-false limit (24 * (greatest_index + 1)) (sym test) in
-    (many, subst P (sym is) fits)
+    (many, subst P (sym is) fits, bytes)
 
 too_many_told : (o : Options) (xs : List Tree) (limit : Option ℕ) → limit_of o ≡ limit → greatest_index + 1 < list_room (is_shrunk o) xs →
-    RefusesTrees o xs (told_by limit error.TooManyStates)
-too_many_told o xs None is many = let P : Option ℕ → Type 0 = FitsStates in (many, subst P (sym is) tt)
-too_many_told o xs (Some limit) is many = too_many (nat_lt limit (24 * (greatest_index + 1))) o xs limit refl is many
+    24 * (greatest_index + 1) ≤ list_bytes (is_shrunk o) xs → RefusesTrees o xs (told_by limit error.TooManyStates)
+too_many_told o xs None is many bytes = let P : Option ℕ → Type 0 = FitsStates in (many, subst P (sym is) tt, bytes)
+too_many_told o xs (Some limit) is many bytes = too_many (nat_lt limit (24 * (greatest_index + 1))) o xs limit refl is many bytes
 
 other_told : (limit : Option ℕ) (e : BuildError) → (e ≡ error.TooManyStates → ⊥) → told_by limit e ≡ e
 other_told None e other = refl
@@ -73,22 +75,24 @@ as_it_is o xs e other r = let P : BuildError → Type 0 = λ one. RefusesTrees o
 
 pub trees_refused : (o : Options) (xs : List Tree) (b : Assembly) (e : BuildError) → b ≡ begun_with o →
     (reverse_of o && is_any (captures_of o)) ≡ false →
-    RefusesPatterns (captures_of o) b (room_for (is_shrunk o) xs + 4) xs e → RefusesTrees o xs (told_by (limit_of o) e)
-trees_refused o xs b error.TooManyPatterns begun captures r = absurd r
-trees_refused o xs b error.TooManyStates begun captures r =
+    RefusesPatterns (captures_of o) b (room_for (is_shrunk o) xs + 4) xs e → Passes b (list_bytes (is_shrunk o) xs) e →
+    RefusesTrees o xs (told_by (limit_of o) e)
+trees_refused o xs b error.TooManyPatterns begun captures r p = absurd r
+trees_refused o xs b error.TooManyStates begun captures r p =
     let none : length b.drafts ≡ 0 = ap (λ (z : Assembly). length z.drafts) begun in
-    too_many_told o xs (limit_of o) refl (omega (arith, r, none, list_fits (is_shrunk o) xs))
-trees_refused o xs b (error.ExceededSizeLimit limit) begun captures r =
+    let empty : sum_of_bytes b ≡ 0 = ap (λ (z : Assembly). sum_of_bytes z) begun in
+    too_many_told o xs (limit_of o) refl (omega (arith, r, none, list_fits (is_shrunk o) xs)) (omega (arith, p, empty))
+trees_refused o xs b (error.ExceededSizeLimit limit) begun captures r p =
     let none : sum_of_bytes b ≡ 0 = ap (λ (z : Assembly). sum_of_bytes z) begun in
     let is : b.size_limit ≡ limit_of o = ap (λ (z : Assembly). z.size_limit) begun in
-    as_it_is o xs (error.ExceededSizeLimit limit) (λ e. cc) (sym is ∙ r.0, omega (arith, r.1, r.2, none, list_fits (is_shrunk o) xs))
-trees_refused o xs b error.UnsupportedCaptures begun captures r = absurd r
-trees_refused o xs b (error.Captures err) begun captures r =
+    as_it_is o xs (error.ExceededSizeLimit limit) (λ e. cc) (sym is ∙ r.0, omega (arith, r.1, r.2, none, list_fits (is_shrunk o) xs), omega (arith, p, none))
+trees_refused o xs b error.UnsupportedCaptures begun captures r p = absurd r
+trees_refused o xs b (error.Captures err) begun captures r p =
     let none : length b.starts ≡ 0 = ap (λ (z : Assembly). length z.starts) begun in
     let number : length b.starts + r.0 ≡ r.0 = omega (arith, none) in
     let P : ℕ → Type 0 = λ p. RefusesIndex p r.1 err in
     as_it_is o xs (error.Captures err) (λ e. cc) (forward_group o r.1 r.2 captures r.4, inr (r.0, r.1, r.2, r.3, r.4, subst P number r.5))
-trees_refused o xs b error.NoMemory begun captures r = as_it_is o xs error.NoMemory (λ e. cc) tt
+trees_refused o xs b error.NoMemory begun captures r p = as_it_is o xs error.NoMemory (λ e. cc) tt
 
 -- ---- to build is refused
 
@@ -129,7 +133,8 @@ build_refused o xs b e groups captures told = ⊎_elim
 -- the same of the error that is told
 pub told_refused : (o : Options) (xs : List Tree) (b : Assembly) (limit : Option ℕ) (e told : BuildError) → b ≡ begun_with o →
     (reverse_of o && is_any (captures_of o)) ≡ false → limit ≡ limit_of o →
-    told ≡ told_by limit e → RefusesPatterns (captures_of o) b (room_for (is_shrunk o) xs + 4) xs e → RefusesTrees o xs told
-told_refused o xs b limit e told begun captures same is r =
+    told ≡ told_by limit e → RefusesPatterns (captures_of o) b (room_for (is_shrunk o) xs + 4) xs e →
+    Passes b (list_bytes (is_shrunk o) xs) e → RefusesTrees o xs told
+told_refused o xs b limit e told begun captures same is r p =
     let P : BuildError → Type 0 = λ one. RefusesTrees o xs one in
-    subst P (sym (is ∙ ap (λ (most : Option ℕ). told_by most e) same)) (trees_refused o xs b e begun captures r)
+    subst P (sym (is ∙ ap (λ (most : Option ℕ). told_by most e) same)) (trees_refused o xs b e begun captures r p)

@@ -1,7 +1,8 @@
-use Rattle.std.proofs.Common.{◌∙◌, ap, sym, refl, length, get_or, arith}
+use Rattle.std.proofs.Common.{◌∙◌, ◌+◌, ap, sym, refl, length, get_or, arith}
 use Rattle.hir_core.specs.Facts.{minimum_len}
 use Rattle.hir_core.specs.Weight.{weight}
 use Rattle.nfa_core.specs.BuilderStates.{Assembly}
+use Rattle.thompson_nfa.specs.ByteRoom.{byte_room}
 use Rattle.thompson_nfa.specs.Turned.{turned_place}
 use Rattle.thompson_nfa.proofs.Steps.ErrorLemmas.{handed}
 use Rattle.thompson_nfa.proofs.Steps.GrowLemmas.{ready_later}
@@ -11,15 +12,20 @@ use Rattle.thompson_nfa.proofs.Fragments.RepeatLemmas.{loops_apart, other_form}
 use Rattle.thompson_nfa.proofs.Fragments.OptionLemmas.{option_made, option_does}
 use Rattle.thompson_nfa.proofs.Fragments.CopyLemmas.{copies_first, copies_then, copies_exact, copies_loop, rounds_owed, rounds_first}
 use Rattle.thompson_nfa.proofs.Fragments.CopyLemmas.{rounds_then, rounds_made, rounds_does, copies_done, at_least_made, stopped_does}
-use Rattle.thompson_nfa.proofs.Fragments.CopyLemmas.{bounds_does, groups_again}
+use Rattle.thompson_nfa.proofs.Fragments.CopyLemmas.{bounds_does, groups_again, copies_left, copies_weigh}
+use Rattle.thompson_nfa.proofs.Fragments.CopyLemmas.{rounds_left, rounds_last, rounds_weigh}
+use Rattle.thompson_nfa.proofs.Fragments.PartBytes.{bytes_of_concat, bytes_of_alternation, choice_bytes, part_in_alternation, two_bytes}
+use Rattle.thompson_nfa.proofs.Fragments.PartBytes.{repeated_once, at_least_bytes, copy_bytes, round_bytes, none_owed}
 use Rattle.thompson_nfa.proofs.Fragments.CaptureLemmas.{capture_made, capture_does, plain_does}
 use Rattle.thompson_nfa.proofs.Fragments.ConcatLemmas.{weight_in_alternation, parts_first, parts_then, parts_made, parts_does}
 use Rattle.thompson_nfa.proofs.Fragments.ConcatLemmas.{parts_refused, parts_lead_refused, first_part_refused}
+use Rattle.thompson_nfa.proofs.Fragments.ConcatLemmas.{parts_weigh, parts_left, first_part_bytes}
 use Rattle.thompson_nfa.proofs.Fragments.TurnLemmas.{none_is_concat}
 use Rattle.thompson_nfa.proofs.Fragments.JoinLemmas.{does_same}
 use Rattle.thompson_nfa.proofs.Fragments.AlternativeLemmas.{cases_open, union_refused, end_refused, first_lead_refused, second_lead_refused}
 use Rattle.thompson_nfa.proofs.Fragments.AlternativeLemmas.{third_lead_refused, fourth_lead_refused, cases_then, cases_refused}
 use Rattle.thompson_nfa.proofs.Fragments.AlternativeLemmas.{cases_lead_refused, cases_end_refused, cases_made, cases_does, single_does}
+use Rattle.thompson_nfa.proofs.Fragments.AlternativeLemmas.{cases_weigh, cases_left}
 use Rattle.thompson_nfa.proofs.LiteralTries.LiteralLemmas.{literals_made, literals_noted, literals_refused}
 use Rattle.thompson_nfa.proofs.compile.+compile.Goals as goal
 use Rattle.hir_core.proofs.ForCallers.{weight_in_concat}
@@ -78,14 +84,14 @@ option-returns-clause-denotes t c =
 pub copies-loop-init : goal.copies-loop-init
 copies-loop-init t c = (
   copies_first c.args.how _ _ _ _ c.args.x.now c.in_ok-first.ensures.made c.in_ok-first.ensures.denotes
-      c.in_ok-first.ensures.groups,
+      c.in_ok-first.ensures.groups c.in_ok-first.ensures.weighs,
   c.requires.some,
 )
 
 pub copies-loop-preserved : goal.copies-loop-preserved
 copies-loop-preserved t c = (
   copies_then c.args.how _ _ _ _ _ _ _ _ c.loop.counter c.args.x.now c.loop.invariant.0 c.in_ok-next.ensures.made
-      c.in_ok-next.ensures.denotes c.in_ok-next.ensures.groups c.in_ok-lead.ensures,
+      c.in_ok-next.ensures.denotes c.in_ok-next.ensures.groups c.in_ok-lead.ensures c.in_ok-next.ensures.weighs,
   omega arith,
 )
 
@@ -114,12 +120,13 @@ pub up_to-loop-init : goal.up_to-loop-init
 up_to-loop-init t c =
     rounds_first c.args.how _ _ _ _ _ _ c.args.most c.args.greedy c.args.x.now
     (omega arith) c.in_ok-exit.ensures c.in_ok-first.ensures.made c.in_ok-first.ensures.denotes c.in_ok-first.ensures.groups
+    c.in_ok-first.ensures.weighs
 
 pub up_to-loop-preserved : goal.up_to-loop-preserved
 up_to-loop-preserved t c =
     rounds_then c.args.how _ _ _ _ _ c.loop.counter 0 c.args.most _ c.args.greedy c.args.x.now c.loop.invariant _ _ _ _ c.loop-test.true
     c.in_ok-next.ensures.made c.in_ok-next.ensures.denotes
-    c.in_ok-next.ensures.groups c.in_ok-lead.ensures
+    c.in_ok-next.ensures.groups c.in_ok-lead.ensures c.in_ok-next.ensures.weighs
 
 pub up_to-returns-clause-made : goal.up_to-returns-clause-made
 up_to-returns-clause-made t c = rounds_made c.args.how _ _ _ _ _ c.loop.counter 0 c.args.most _ c.args.greedy c.args.x.now c.loop.invariant
@@ -132,13 +139,13 @@ up_to-returns-clause-denotes t c = rounds_does c.args.how _ _ _ _ _ c.loop.count
 pub owed_and_more-loop-init : goal.owed_and_more-loop-init
 owed_and_more-loop-init t c =
     rounds_owed c.args.how _ _ _ _ _ _ c.args.min c.args.most c.args.greedy c.args.x.now c.requires.ordered c.in_ok-prefix.ensures.made
-    c.in_ok-prefix.ensures.denotes c.in_ok-prefix.ensures.groups c.in_ok-exit.ensures
+    c.in_ok-prefix.ensures.denotes c.in_ok-prefix.ensures.groups c.in_ok-exit.ensures c.in_ok-prefix.ensures.weighs
 
 pub owed_and_more-loop-preserved : goal.owed_and_more-loop-preserved
 owed_and_more-loop-preserved t c =
     rounds_then c.args.how _ _ _ _ _ c.loop.counter c.args.min c.args.most _ c.args.greedy c.args.x.now c.loop.invariant _ _ _ _
     c.loop-test.true c.in_ok-next.ensures.made c.in_ok-next.ensures.denotes
-    c.in_ok-next.ensures.groups c.in_ok-lead.ensures
+    c.in_ok-next.ensures.groups c.in_ok-lead.ensures c.in_ok-next.ensures.weighs
 
 pub owed_and_more-returns-clause-made : goal.owed_and_more-returns-clause-made
 owed_and_more-returns-clause-made t c = rounds_made c.args.how _ _ _ _ _ c.loop.counter c.args.min c.args.most _ c.args.greedy c.args.x.now
@@ -207,7 +214,7 @@ concatenation-loop-i-init t c =
     parts_first c.args.how _ _ _ _ c.index-subs-begin.result c.args.subs.now c.requires (omega arith)
     (c.index-subs-begin.is ∙ ap (λ k. get_or c.args.subs.now k c.index-subs-begin.result)
     (c.turned_place-begin.ensures.value ∙ ap (λ back. turned_place back 0 (length c.args.subs.now)) c.get_reverse-reverse.ensures))
-    c.in_ok-first.ensures.made c.in_ok-first.ensures.denotes c.in_ok-first.ensures.groups
+    c.in_ok-first.ensures.made c.in_ok-first.ensures.denotes c.in_ok-first.ensures.groups c.in_ok-first.ensures.weighs
 
 pub concatenation-loop-i-preserved : goal.concatenation-loop-i-preserved
 concatenation-loop-i-preserved t c =
@@ -215,6 +222,7 @@ concatenation-loop-i-preserved t c =
     (c.index-subs-place.is ∙ ap (λ k. get_or c.args.subs.now k c.index-subs-place.result)
     (c.turned_place-place.ensures.value ∙ ap (λ back. turned_place back c.loop-i.i (length c.args.subs.now)) c.get_reverse-reverse.ensures))
     c.loop-i.invariant c.in_ok-next.ensures.made c.in_ok-next.ensures.denotes c.in_ok-next.ensures.groups c.in_ok-lead.ensures
+    c.in_ok-next.ensures.weighs
 
 pub concatenation-returns-in_err-first-clause-refused : goal.concatenation-returns-in_err-first-clause-refused
 concatenation-returns-in_err-first-clause-refused t c =
@@ -331,13 +339,13 @@ alternatives-loop-i-init t c =
     c.in_ok-first.ensures.made c.in_ok-second.ensures.made _ _ _ _ _ _ _ _ c.in_ok-union.ensures c.in_ok-end.ensures c.in_ok-lead.ensures
     c.in_ok-lead-2.ensures
     c.in_ok-lead-3.ensures c.in_ok-lead-4.ensures c.in_ok-first.ensures.denotes c.in_ok-second.ensures.denotes c.in_ok-first.ensures.groups
-    c.in_ok-second.ensures.groups
+    c.in_ok-second.ensures.groups c.in_ok-first.ensures.weighs c.in_ok-second.ensures.weighs
 
 pub alternatives-loop-i-preserved : goal.alternatives-loop-i-preserved
 alternatives-loop-i-preserved t c =
     cases_then c.args.how _ _ _ _ c.loop-i.i c.args.subs.now c.loop-i.invariant _ _ _ _ _ c.index-subs-i.result c.loop-i-test.true
     c.index-subs-i.is c.in_ok-next.ensures.made c.in_ok-next.ensures.denotes
-    c.in_ok-next.ensures.groups c.in_ok-lead-5.ensures c.in_ok-lead-6.ensures
+    c.in_ok-next.ensures.groups c.in_ok-lead-5.ensures c.in_ok-lead-6.ensures c.in_ok-next.ensures.weighs
 
 pub alternatives-compile-requires-in-loop-i : goal.alternatives-compile-requires-in-loop-i
 alternatives-compile-requires-in-loop-i t c = (
@@ -362,3 +370,294 @@ alternatives-returns-in_err-lead-6-clause-refused t c =
     handed _ _ c.in_err-lead-6.field-0.0 c.from_residual-in_err-lead-6.ensures.1
     (cases_end_refused c.args.how _ _ _ _ c.loop-i.i c.args.subs.now c.loop-i.invariant _ _ _ _ _ c.index-subs-i.result _ c.loop-i-test.true
     c.index-subs-i.is c.in_ok-next.ensures.made c.in_ok-lead-5.ensures c.in_err-lead-6.ensures)
+
+pub concatenation-returns-then-subs-eq0-clause-weighs : goal.concatenation-returns-then-subs-eq0-clause-weighs
+concatenation-returns-then-subs-eq0-clause-weighs t c = omega (arith, bytes_of_concat c.args.how.shrink c.args.subs.now, c.in_ok-none.ensures.weighs)
+
+pub concatenation-returns-in_err-none-clause-passed : goal.concatenation-returns-in_err-none-clause-passed
+concatenation-returns-in_err-none-clause-passed t c =
+    handed _ _ c.in_err-none.field-0.0 c.from_residual.ensures.1
+    (omega (arith, bytes_of_concat c.args.how.shrink c.args.subs.now, c.in_err-none.ensures.passed))
+
+pub concatenation-returns-in_err-first-clause-passed : goal.concatenation-returns-in_err-first-clause-passed
+concatenation-returns-in_err-first-clause-passed t c =
+    handed _ _ c.in_err-first.field-0.0 c.from_residual-in_err-first.ensures.1
+    (omega (
+      arith,
+      first_part_bytes c.args.how.shrink _ c.index-subs-begin.result c.args.subs.now (omega arith)
+          (c.index-subs-begin.is ∙ ap (λ k. get_or c.args.subs.now k c.index-subs-begin.result)
+          (c.turned_place-begin.ensures.value ∙ ap (λ back. turned_place back 0 (length c.args.subs.now)) c.get_reverse-reverse.ensures)),
+      c.in_err-first.ensures.passed,
+    ))
+
+pub concatenation-returns-in_err-next-clause-passed : goal.concatenation-returns-in_err-next-clause-passed
+concatenation-returns-in_err-next-clause-passed t c =
+    handed _ _ c.in_err-next.field-0.0 c.from_residual-in_err-next.ensures.1
+    (omega (
+      arith,
+      parts_left c.args.how _ _ _ _ c.loop-i.i c.args.subs.now c.loop-i.invariant c.index-subs-place.result c.loop-i-test.true
+          (c.index-subs-place.is ∙ ap (λ k. get_or c.args.subs.now k c.index-subs-place.result)
+          (c.turned_place-place.ensures.value ∙ ap (λ back. turned_place back c.loop-i.i (length c.args.subs.now)) c.get_reverse-reverse.ensures)),
+      c.in_err-next.ensures.passed,
+    ))
+
+pub concatenation-returns-in_err-lead-clause-passed : goal.concatenation-returns-in_err-lead-clause-passed
+concatenation-returns-in_err-lead-clause-passed t c =
+    handed _ _ c.in_err-lead.field-0.0 c.from_residual-in_err-lead.ensures.1
+    (omega (
+      arith,
+      parts_left c.args.how _ _ _ _ c.loop-i.i c.args.subs.now c.loop-i.invariant c.index-subs-place.result c.loop-i-test.true
+          (c.index-subs-place.is ∙ ap (λ k. get_or c.args.subs.now k c.index-subs-place.result)
+          (c.turned_place-place.ensures.value ∙ ap (λ back. turned_place back c.loop-i.i (length c.args.subs.now)) c.get_reverse-reverse.ensures)),
+      c.in_ok-next.ensures.weighs,
+      c.in_err-lead.ensures.passed,
+    ))
+
+pub concatenation-returns-clause-weighs : goal.concatenation-returns-clause-weighs
+concatenation-returns-clause-weighs t c = parts_weigh c.args.how _ _ _ _ c.loop-i.i c.args.subs.now c.loop-i.invariant
+
+pub copies-returns-in_err-first-clause-passed : goal.copies-returns-in_err-first-clause-passed
+copies-returns-in_err-first-clause-passed t c =
+    handed _ _ c.in_err-first.field-0.0 c.from_residual.ensures.1
+    (omega (arith, copy_bytes 0 c.args.n (byte_room c.args.how.shrink c.args.x.now) c.requires.some, c.in_err-first.ensures.passed))
+
+pub copies-returns-in_err-next-clause-passed : goal.copies-returns-in_err-next-clause-passed
+copies-returns-in_err-next-clause-passed t c =
+    handed _ _ c.in_err-next.field-0.0 c.from_residual-in_err-next.ensures.1
+    (omega (arith, copies_left c.args.how _ _ _ _ c.loop.counter c.args.n c.args.x.now c.loop.invariant.0 c.loop-test.true, c.in_err-next.ensures.passed))
+
+pub copies-returns-in_err-lead-clause-passed : goal.copies-returns-in_err-lead-clause-passed
+copies-returns-in_err-lead-clause-passed t c =
+    handed _ _ c.in_err-lead.field-0.0 c.from_residual-in_err-lead.ensures.1
+    (omega (arith, copies_left c.args.how _ _ _ _ c.loop.counter c.args.n c.args.x.now c.loop.invariant.0 c.loop-test.true, c.in_ok-next.ensures.weighs, c.in_err-lead.ensures.passed))
+
+pub copies-returns-clause-weighs : goal.copies-returns-clause-weighs
+copies-returns-clause-weighs t c = copies_weigh c.args.how _ _ _ _ c.loop.counter c.args.n c.args.x.now c.loop.invariant.0 c.loop.invariant.1 c.loop-test.false
+
+pub at_least-returns-then-min-eq0-clause-weighs : goal.at_least-returns-then-min-eq0-clause-weighs
+at_least-returns-then-min-eq0-clause-weighs t c = omega (arith, repeated_once c.args.min (byte_room c.args.how.shrink c.args.x.now), c.in_ok-any.ensures.weighs)
+
+pub at_least-returns-in_err-any-clause-passed : goal.at_least-returns-in_err-any-clause-passed
+at_least-returns-in_err-any-clause-passed t c =
+    handed _ _ c.in_err-any.field-0.0 c.from_residual.ensures.1
+    (omega (arith, repeated_once c.args.min (byte_room c.args.how.shrink c.args.x.now), c.in_err-any.ensures.passed))
+
+pub at_least-returns-then-min-eq1-clause-weighs : goal.at_least-returns-then-min-eq1-clause-weighs
+at_least-returns-then-min-eq1-clause-weighs t c = omega (arith, repeated_once c.args.min (byte_room c.args.how.shrink c.args.x.now), c.in_ok-some.ensures.weighs)
+
+pub at_least-returns-in_err-some-clause-passed : goal.at_least-returns-in_err-some-clause-passed
+at_least-returns-in_err-some-clause-passed t c =
+    handed _ _ c.in_err-some.field-0.0 c.from_residual-in_err-some.ensures.1
+    (omega (arith, repeated_once c.args.min (byte_room c.args.how.shrink c.args.x.now), c.in_err-some.ensures.passed))
+
+pub at_least-returns-in_err-prefix-clause-passed : goal.at_least-returns-in_err-prefix-clause-passed
+at_least-returns-in_err-prefix-clause-passed t c =
+    handed _ _ c.in_err-prefix.field-0.0 c.from_residual-in_err-prefix.ensures.1
+    (omega (arith, at_least_bytes c.args.min (byte_room c.args.how.shrink c.args.x.now) (omega arith), c.in_err-prefix.ensures.passed))
+
+pub at_least-returns-in_err-last-clause-passed : goal.at_least-returns-in_err-last-clause-passed
+at_least-returns-in_err-last-clause-passed t c =
+    handed _ _ c.in_err-last.field-0.0 c.from_residual-in_err-last.ensures.1
+    (omega (arith, at_least_bytes c.args.min (byte_room c.args.how.shrink c.args.x.now) (omega arith), c.in_ok-prefix.ensures.weighs, c.in_err-last.ensures.passed))
+
+pub at_least-returns-in_err-lead-clause-passed : goal.at_least-returns-in_err-lead-clause-passed
+at_least-returns-in_err-lead-clause-passed t c =
+    handed _ _ c.in_err-lead.field-0.0 c.from_residual-in_err-lead.ensures.1
+    (omega (arith, at_least_bytes c.args.min (byte_room c.args.how.shrink c.args.x.now) (omega arith), c.in_ok-prefix.ensures.weighs, c.in_ok-last.ensures.weighs, c.in_err-lead.ensures.passed))
+
+pub at_least-returns-clause-weighs : goal.at_least-returns-clause-weighs
+at_least-returns-clause-weighs t c = omega (arith, at_least_bytes c.args.min (byte_room c.args.how.shrink c.args.x.now) (omega arith), c.in_ok-prefix.ensures.weighs, c.in_ok-last.ensures.weighs, c.in_ok-lead.ensures.bytes)
+
+pub up_to-returns-in_err-first-clause-passed : goal.up_to-returns-in_err-first-clause-passed
+up_to-returns-in_err-first-clause-passed t c =
+    handed _ _ c.in_err-first.field-0.0 c.from_residual-in_err-first.ensures.1
+    (omega (arith, round_bytes 0 c.args.most (byte_room c.args.how.shrink c.args.x.now + 36) c.requires.some, c.in_ok-exit.ensures.bytes, c.in_err-first.ensures.passed))
+
+pub up_to-returns-in_err-next-clause-passed : goal.up_to-returns-in_err-next-clause-passed
+up_to-returns-in_err-next-clause-passed t c =
+    handed _ _ c.in_err-next.field-0.0 c.from_residual-in_err-next.ensures.1
+    (omega (arith, rounds_left c.args.how _ _ _ _ _ c.loop.counter 0 c.args.most _ c.args.greedy c.args.x.now c.loop.invariant c.loop-test.true, c.in_err-next.ensures.passed))
+
+pub up_to-returns-in_err-lead-clause-passed : goal.up_to-returns-in_err-lead-clause-passed
+up_to-returns-in_err-lead-clause-passed t c =
+    handed _ _ c.in_err-lead.field-0.0 c.from_residual-in_err-lead.ensures.1
+    (omega (arith, rounds_left c.args.how _ _ _ _ _ c.loop.counter 0 c.args.most _ c.args.greedy c.args.x.now c.loop.invariant c.loop-test.true, c.in_ok-next.ensures.weighs, c.in_err-lead.ensures.passed))
+
+pub up_to-returns-in_err-lead-2-clause-passed : goal.up_to-returns-in_err-lead-2-clause-passed
+up_to-returns-in_err-lead-2-clause-passed t c =
+    handed _ _ c.in_err-lead-2.field-0.0 c.from_residual-in_err-lead-2.ensures.1
+    (omega (arith, rounds_last c.args.how _ _ _ _ _ c.loop.counter 0 c.args.most _ c.args.greedy c.args.x.now c.loop.invariant, c.in_err-lead-2.ensures.passed))
+
+pub up_to-returns-clause-weighs : goal.up_to-returns-clause-weighs
+up_to-returns-clause-weighs t c = rounds_weigh c.args.how _ _ _ _ _ c.loop.counter 0 c.args.most _ c.args.greedy c.args.x.now c.loop.invariant _ c.in_ok-lead-2.ensures
+
+pub owed_and_more-returns-in_err-next-clause-passed : goal.owed_and_more-returns-in_err-next-clause-passed
+owed_and_more-returns-in_err-next-clause-passed t c =
+    handed _ _ c.in_err-next.field-0.0 c.from_residual-in_err-next.ensures.1
+    (omega (arith, rounds_left c.args.how _ _ _ _ _ c.loop.counter c.args.min c.args.most _ c.args.greedy c.args.x.now c.loop.invariant c.loop-test.true, c.in_err-next.ensures.passed))
+
+pub owed_and_more-returns-in_err-lead-clause-passed : goal.owed_and_more-returns-in_err-lead-clause-passed
+owed_and_more-returns-in_err-lead-clause-passed t c =
+    handed _ _ c.in_err-lead.field-0.0 c.from_residual-in_err-lead.ensures.1
+    (omega (arith, rounds_left c.args.how _ _ _ _ _ c.loop.counter c.args.min c.args.most _ c.args.greedy c.args.x.now c.loop.invariant c.loop-test.true, c.in_ok-next.ensures.weighs, c.in_err-lead.ensures.passed))
+
+pub owed_and_more-returns-in_err-lead-2-clause-passed : goal.owed_and_more-returns-in_err-lead-2-clause-passed
+owed_and_more-returns-in_err-lead-2-clause-passed t c =
+    handed _ _ c.in_err-lead-2.field-0.0 c.from_residual-in_err-lead-2.ensures.1
+    (omega (arith, rounds_last c.args.how _ _ _ _ _ c.loop.counter c.args.min c.args.most _ c.args.greedy c.args.x.now c.loop.invariant, c.in_err-lead-2.ensures.passed))
+
+pub owed_and_more-returns-clause-weighs : goal.owed_and_more-returns-clause-weighs
+owed_and_more-returns-clause-weighs t c = rounds_weigh c.args.how _ _ _ _ _ c.loop.counter c.args.min c.args.most _ c.args.greedy c.args.x.now c.loop.invariant _ c.in_ok-lead-2.ensures
+
+pub between-returns-in_err-any-clause-passed : goal.between-returns-in_err-any-clause-passed
+between-returns-in_err-any-clause-passed t c =
+    handed _ _ c.in_err-any.field-0.0 c.from_residual-in_err-any.ensures.1
+    (omega (arith, none_owed c.args.min c.args.most (byte_room c.args.how.shrink c.args.x.now) (omega arith), c.in_err-any.ensures.passed))
+
+pub between-returns-clause-weighs : goal.between-returns-clause-weighs
+between-returns-clause-weighs t c = omega (arith, none_owed c.args.min c.args.most (byte_room c.args.how.shrink c.args.x.now) (omega arith), c.in_ok-any.ensures.weighs)
+
+pub alternatives-returns-then-subs-eq0-clause-weighs : goal.alternatives-returns-then-subs-eq0-clause-weighs
+alternatives-returns-then-subs-eq0-clause-weighs t c = omega (arith, bytes_of_alternation c.args.how.shrink c.args.subs.now, c.in_ok-none.ensures.weighs)
+
+pub alternatives-returns-in_err-none-clause-passed : goal.alternatives-returns-in_err-none-clause-passed
+alternatives-returns-in_err-none-clause-passed t c =
+    handed _ _ c.in_err-none.field-0.0 c.from_residual.ensures.1
+    (omega (arith, bytes_of_alternation c.args.how.shrink c.args.subs.now, c.in_err-none.ensures.passed))
+
+pub alternatives-returns-then-all_literals-clause-weighs : goal.alternatives-returns-then-all_literals-clause-weighs
+alternatives-returns-then-all_literals-clause-weighs t c = omega (arith, choice_bytes c.args.how.shrink c.args.subs.now (sym c.all_literals.ensures ∙ c.if-all_literals.true), c.in_ok-literals.ensures.weighs)
+
+pub alternatives-returns-in_err-literals-clause-passed : goal.alternatives-returns-in_err-literals-clause-passed
+alternatives-returns-in_err-literals-clause-passed t c =
+    handed _ _ c.in_err-literals.field-0.0 c.from_residual-in_err-literals.ensures.1
+    (omega (arith, choice_bytes c.args.how.shrink c.args.subs.now (sym c.all_literals.ensures ∙ c.if-all_literals.true), c.in_err-literals.ensures.passed))
+
+pub alternatives-returns-then-subs-eq1-clause-weighs : goal.alternatives-returns-then-subs-eq1-clause-weighs
+alternatives-returns-then-subs-eq1-clause-weighs t c = omega (arith, part_in_alternation c.args.how.shrink c.args.subs.now 0 c.index-subs-0.result (omega arith) c.index-subs-0.is, c.in_ok-one.ensures.weighs)
+
+pub alternatives-returns-in_err-one-clause-passed : goal.alternatives-returns-in_err-one-clause-passed
+alternatives-returns-in_err-one-clause-passed t c =
+    handed _ _ c.in_err-one.field-0.0 c.from_residual-in_err-one.ensures.1
+    (omega (arith, part_in_alternation c.args.how.shrink c.args.subs.now 0 c.index-subs-0.result (omega arith) c.index-subs-0.is, c.in_err-one.ensures.passed))
+
+pub alternatives-returns-in_err-first-clause-passed : goal.alternatives-returns-in_err-first-clause-passed
+alternatives-returns-in_err-first-clause-passed t c =
+    handed _ _ c.in_err-first.field-0.0 c.from_residual-in_err-first.ensures.1
+    (omega (arith, part_in_alternation c.args.how.shrink c.args.subs.now 0 c.index-subs-0-2.result (omega arith) c.index-subs-0-2.is, c.in_err-first.ensures.passed))
+
+pub alternatives-returns-in_err-second-clause-passed : goal.alternatives-returns-in_err-second-clause-passed
+alternatives-returns-in_err-second-clause-passed t c =
+    handed _ _ c.in_err-second.field-0.0 c.from_residual-in_err-second.ensures.1
+    (omega (
+      arith,
+      two_bytes c.args.how.shrink c.args.subs.now c.index-subs-0-2.result c.index-subs-1.result (omega arith) c.index-subs-0-2.is c.index-subs-1.is,
+      bytes_of_alternation c.args.how.shrink c.args.subs.now,
+      c.in_ok-first.ensures.weighs,
+      c.in_err-second.ensures.passed,
+    ))
+
+pub alternatives-returns-in_err-union-clause-passed : goal.alternatives-returns-in_err-union-clause-passed
+alternatives-returns-in_err-union-clause-passed t c =
+    handed _ _ c.in_err-union.field-0.0 c.from_residual-in_err-union.ensures.1
+    (omega (
+      arith,
+      two_bytes c.args.how.shrink c.args.subs.now c.index-subs-0-2.result c.index-subs-1.result (omega arith) c.index-subs-0-2.is c.index-subs-1.is,
+      bytes_of_alternation c.args.how.shrink c.args.subs.now,
+      c.in_ok-first.ensures.weighs,
+      c.in_ok-second.ensures.weighs,
+      c.in_err-union.ensures.passed,
+    ))
+
+pub alternatives-returns-in_err-end-clause-passed : goal.alternatives-returns-in_err-end-clause-passed
+alternatives-returns-in_err-end-clause-passed t c =
+    handed _ _ c.in_err-end.field-0.0 c.from_residual-in_err-end.ensures.1
+    (omega (
+      arith,
+      two_bytes c.args.how.shrink c.args.subs.now c.index-subs-0-2.result c.index-subs-1.result (omega arith) c.index-subs-0-2.is c.index-subs-1.is,
+      bytes_of_alternation c.args.how.shrink c.args.subs.now,
+      c.in_ok-first.ensures.weighs,
+      c.in_ok-second.ensures.weighs,
+      c.in_ok-union.ensures.bytes,
+      c.in_err-end.ensures.passed,
+    ))
+
+pub alternatives-returns-in_err-lead-clause-passed : goal.alternatives-returns-in_err-lead-clause-passed
+alternatives-returns-in_err-lead-clause-passed t c =
+    handed _ _ c.in_err-lead.field-0.0 c.from_residual-in_err-lead.ensures.1
+    (omega (
+      arith,
+      two_bytes c.args.how.shrink c.args.subs.now c.index-subs-0-2.result c.index-subs-1.result (omega arith) c.index-subs-0-2.is c.index-subs-1.is,
+      bytes_of_alternation c.args.how.shrink c.args.subs.now,
+      c.in_ok-first.ensures.weighs,
+      c.in_ok-second.ensures.weighs,
+      c.in_ok-union.ensures.bytes,
+      c.in_ok-end.ensures.bytes,
+      c.in_err-lead.ensures.passed,
+    ))
+
+pub alternatives-returns-in_err-lead-2-clause-passed : goal.alternatives-returns-in_err-lead-2-clause-passed
+alternatives-returns-in_err-lead-2-clause-passed t c =
+    handed _ _ c.in_err-lead-2.field-0.0 c.from_residual-in_err-lead-2.ensures.1
+    (omega (
+      arith,
+      two_bytes c.args.how.shrink c.args.subs.now c.index-subs-0-2.result c.index-subs-1.result (omega arith) c.index-subs-0-2.is c.index-subs-1.is,
+      bytes_of_alternation c.args.how.shrink c.args.subs.now,
+      c.in_ok-first.ensures.weighs,
+      c.in_ok-second.ensures.weighs,
+      c.in_ok-union.ensures.bytes,
+      c.in_ok-end.ensures.bytes,
+      c.in_ok-lead.ensures.bytes,
+      c.in_err-lead-2.ensures.passed,
+    ))
+
+pub alternatives-returns-in_err-lead-3-clause-passed : goal.alternatives-returns-in_err-lead-3-clause-passed
+alternatives-returns-in_err-lead-3-clause-passed t c =
+    handed _ _ c.in_err-lead-3.field-0.0 c.from_residual-in_err-lead-3.ensures.1
+    (omega (
+      arith,
+      two_bytes c.args.how.shrink c.args.subs.now c.index-subs-0-2.result c.index-subs-1.result (omega arith) c.index-subs-0-2.is c.index-subs-1.is,
+      bytes_of_alternation c.args.how.shrink c.args.subs.now,
+      c.in_ok-first.ensures.weighs,
+      c.in_ok-second.ensures.weighs,
+      c.in_ok-union.ensures.bytes,
+      c.in_ok-end.ensures.bytes,
+      c.in_ok-lead.ensures.bytes,
+      c.in_ok-lead-2.ensures.bytes,
+      c.in_err-lead-3.ensures.passed,
+    ))
+
+pub alternatives-returns-in_err-lead-4-clause-passed : goal.alternatives-returns-in_err-lead-4-clause-passed
+alternatives-returns-in_err-lead-4-clause-passed t c =
+    handed _ _ c.in_err-lead-4.field-0.0 c.from_residual-in_err-lead-4.ensures.1
+    (omega (
+      arith,
+      two_bytes c.args.how.shrink c.args.subs.now c.index-subs-0-2.result c.index-subs-1.result (omega arith) c.index-subs-0-2.is c.index-subs-1.is,
+      bytes_of_alternation c.args.how.shrink c.args.subs.now,
+      c.in_ok-first.ensures.weighs,
+      c.in_ok-second.ensures.weighs,
+      c.in_ok-union.ensures.bytes,
+      c.in_ok-end.ensures.bytes,
+      c.in_ok-lead.ensures.bytes,
+      c.in_ok-lead-2.ensures.bytes,
+      c.in_ok-lead-3.ensures.bytes,
+      c.in_err-lead-4.ensures.passed,
+    ))
+
+pub alternatives-returns-in_err-next-clause-passed : goal.alternatives-returns-in_err-next-clause-passed
+alternatives-returns-in_err-next-clause-passed t c =
+    handed _ _ c.in_err-next.field-0.0 c.from_residual-in_err-next.ensures.1
+    (omega (arith, cases_left c.args.how _ _ _ _ c.loop-i.i c.args.subs.now c.loop-i.invariant c.index-subs-i.result c.loop-i-test.true c.index-subs-i.is, c.in_err-next.ensures.passed))
+
+pub alternatives-returns-in_err-lead-5-clause-passed : goal.alternatives-returns-in_err-lead-5-clause-passed
+alternatives-returns-in_err-lead-5-clause-passed t c =
+    handed _ _ c.in_err-lead-5.field-0.0 c.from_residual-in_err-lead-5.ensures.1
+    (omega (arith, cases_left c.args.how _ _ _ _ c.loop-i.i c.args.subs.now c.loop-i.invariant c.index-subs-i.result c.loop-i-test.true c.index-subs-i.is, c.in_ok-next.ensures.weighs, c.in_err-lead-5.ensures.passed))
+
+pub alternatives-returns-in_err-lead-6-clause-passed : goal.alternatives-returns-in_err-lead-6-clause-passed
+alternatives-returns-in_err-lead-6-clause-passed t c =
+    handed _ _ c.in_err-lead-6.field-0.0 c.from_residual-in_err-lead-6.ensures.1
+    (omega (arith, cases_left c.args.how _ _ _ _ c.loop-i.i c.args.subs.now c.loop-i.invariant c.index-subs-i.result c.loop-i-test.true c.index-subs-i.is, c.in_ok-next.ensures.weighs, c.in_ok-lead-5.ensures.bytes, c.in_err-lead-6.ensures.passed))
+
+pub alternatives-returns-clause-weighs : goal.alternatives-returns-clause-weighs
+alternatives-returns-clause-weighs t c = cases_weigh c.args.how _ _ _ _ c.loop-i.i c.args.subs.now c.loop-i.invariant

@@ -13,6 +13,7 @@ loop-i-init c = (
   does_first _ _ _ _ _ _ _ (literal_begun c.args.builder.now.reverse c.args.bytes.now _ 0 (omega arith)
       (ap (λ k. get_or c.args.bytes.now k 0) (c.turned_place.ensures.value
       ∙ ap (λ back. turned_place back 0 (length c.args.bytes.now)) c.get_reverse-reverse.ensures))) c.in_ok-first.ensures.denotes,
+  omega (arith, c.in_ok-first.ensures.weighs),
 )
 
 pub loop-i-preserved : goal.loop-i-preserved
@@ -25,6 +26,7 @@ loop-i-preserved c = (
       (ap (λ k. get_or c.args.bytes.now k 0) (c.turned_place-in-loop-i.ensures.value
       ∙ ap (λ back. turned_place back c.loop-i.i (length c.args.bytes.now)) c.get_reverse-reverse.ensures))) c.loop-i.invariant.3
       c.in_ok-next.ensures.denotes,
+  omega (arith, c.loop-i.invariant.4, c.in_ok-next.ensures.weighs, c.in_ok-lead.ensures.bytes),
 )
 
 pub returns-then-bytes-eq0-clause-denotes : goal.returns-then-bytes-eq0-clause-denotes

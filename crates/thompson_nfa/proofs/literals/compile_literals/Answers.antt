@@ -1,3 +1,4 @@
+use Rattle.thompson_nfa.proofs.Steps.ByteLemmas.{made_bytes, quits_bytes}
 use Rattle.thompson_nfa.proofs.Steps.ErrorLemmas.{handed}
 use Rattle.thompson_nfa.proofs.LiteralTries.LiteralPartLemmas.{read_next, literals_made, literals_do, literals_quit}
 use Rattle.thompson_nfa.proofs.literals.compile_literals.Goals as goal
@@ -20,3 +21,12 @@ returns-clause-made c = literals_made c.loop-sub.trie c.args.subs.now c.loop-sub
 pub returns-clause-denotes : goal.returns-clause-denotes
 returns-clause-denotes c = literals_do c.loop-sub.trie c.args.subs.now c.loop-sub.sub-index _ _ c.loop-sub.invariant c.loop-sub-test.false
     c.requires _ _ c.in_ok-all.ensures.denotes
+
+pub returns-clause-weighs : goal.returns-clause-weighs
+returns-clause-weighs c = made_bytes _ _ _ _ _ (literals_made c.loop-sub.trie c.args.subs.now c.loop-sub.sub-index _ _
+    c.loop-sub.invariant c.loop-sub-test.false c.requires _ _ c.in_ok-all.ensures.made)
+
+pub returns-in_err-all-clause-passed : goal.returns-in_err-all-clause-passed
+returns-in_err-all-clause-passed c = handed _ _ c.in_err-all.field-0.0 c.from_residual-in_err-all.ensures.1
+    (quits_bytes _ _ _ _ (literals_quit c.loop-sub.trie c.args.subs.now c.loop-sub.sub-index _ _ c.loop-sub.invariant
+    c.loop-sub-test.false c.requires _ c.in_err-all.ensures.refused))

@@ -1,0 +1,22 @@
+-- The bytes of a class of bytes that is repeated.
+use Rattle.std.proofs.Common.{◌≡◌, ℕ, ◌+◌, ◌-◌, ◌*◌, ◌≤◌, Bool, List, [], ◌∷◌, length, Some, ap, arith}
+use Rattle.hir_core.specs.Tree.{byte_class, repetition}
+use Rattle.nfa_core.specs.declared.build_error.BuildError.TheVariants as error
+use Rattle.thompson_nfa.specs.ByteRoom.{byte_room}
+use Rattle.thompson_nfa.specs.Configs.{Options}
+use Rattle.thompson_nfa.specs.RefusedTrees.{RefusesTrees}
+
+pub repeated_class : (shrink greedy : Bool) (n : ℕ) (ranges : List (ℕ × ℕ)) →
+    byte_room shrink (repetition n (Some n) greedy (byte_class ranges)) ≡ n * (52 + 8 * length ranges) + 28
+repeated_class shrink greedy n ranges =
+    let none : n - n ≡ 0 = omega arith in
+    let left = ap (λ k. k * (48 + 8 * length ranges + 36)) none in
+    omega arith
+
+pub repeated_class_fits : (o : Options) (greedy : Bool) (n limit : ℕ) (ranges : List (ℕ × ℕ)) →
+    n * (52 + 8 * length ranges) + 240 ≤ limit →
+    RefusesTrees o (repetition n (Some n) greedy (byte_class ranges) ∷ []) (error.ExceededSizeLimit limit) → ⊥
+repeated_class_fits o greedy n limit ranges fits refused =
+    let none : n - n ≡ 0 = omega arith in
+    let left = ap (λ k. k * (48 + 8 * length ranges + 36)) none in
+    absurd (omega (arith, refused.2, fits, left))
