@@ -6,6 +6,7 @@ use Rattle.std.specs.Bool.{IsTrue, nat_le}
 use Rattle.std.specs.Prelude.{◌↔◌}
 use Rattle.search_types.specs.Inputs.{Search}
 use Rattle.search_types.specs.Modes.{is_anchored}
+use Rattle.lazy_dfa.specs.Changes.{unchanged}
 use Rattle.lazy_dfa.specs.Caches.{CacheValue}
 use Rattle.lazy_dfa.specs.Dfas.{Dfa, reader}
 use Rattle.lazy_dfa.specs.Linked.{AreLinked, passes_on, passes_of}
@@ -16,6 +17,7 @@ use Rattle.regex_pair.specs.MadeSearches.{MakesHalf, MakesMatch, MakesPair}
 use Rattle.regex_pair.specs.Matching.{match_search}
 use Rattle.regex_pair.specs.PairAnswers.{GoesBack}
 use Rattle.regex_pair.specs.Pairs.{Pair, PairCache}
+use Rattle.regex_pair.specs.PairAnswers.{half_made}
 use Rattle.regex_pair.specs.PairTold.{TellsHalf}
 use Rattle.regex_pair.proofs.AnswerLemmas.{answer, some_is_not_none}
 use Rattle.regex_pair.proofs.MatchLemmas.{tells_there}
@@ -48,6 +50,7 @@ module _ (d : Dfa) (q : Search) (v : CacheValue) (m n : ℕ) (past : q.end < q.s
     told = λ same less. sym (ap (told_by (reader d) q (told_of v)) no_passes);
     left_told = tt;
     told_since = λ changed. absurd (changed refl);
+    changes = unchanged v (half_made (reader d) q) refl;
   }
 
   pub no_half : MakesHalf d q v v m m n n (answer None)

@@ -6,25 +6,27 @@ use Rattle.search_types.specs.Found.{Found, HalfFound}
 use Rattle.search_types.specs.Inputs.{Search}
 use Rattle.lazy_dfa.specs.AnewTold.{IsToldSince}
 use Rattle.lazy_dfa.specs.Caches.{CacheValue, greatest}
+use Rattle.lazy_dfa.specs.Changes.{Changes, IsMadeBy}
 use Rattle.lazy_dfa.specs.Dfas.{Dfa, reader}
 use Rattle.lazy_dfa.specs.LeftTold.{LeavesTold}
 use Rattle.lazy_dfa.specs.Linked.{passes_of}
 use Rattle.lazy_dfa.specs.SearchAnswers.{Answers, told_of, told_by}
 use Rattle.regex_pair.specs.Joined.{back_from, joined}
 use Rattle.regex_pair.specs.Matching.{match_search}
-use Rattle.regex_pair.specs.PairAnswers.{GoesBack}
+use Rattle.regex_pair.specs.PairAnswers.{GoesBack, half_made}
 use Rattle.regex_pair.specs.Pairs.{Pair, PairCache}
 
 -- ---- one half search
 
 -- What it tells its cache: where nothing was cleared, all that its passes tell, or what those do up to its refusal; and else what
--- counts since the last clear.
+-- counts since the last clear. It changes of it what makes its states, and clears it for one of these alone.
 pub record TellsHalf (d : Dfa) (q : Search) (old new : CacheValue) (result : Result (Option HalfFound) MatchErrorKind) : Type 0 where
   pub told : OnOk result (new.clears ≡ old.clears → old.clears < greatest →
       told_of new ≡ told_by (reader d) q (told_of old) (passes_of (reader d) q))
   pub left_told : IfErr result (λ e. new.clears ≡ old.clears → old.clears < greatest →
       LeavesTold (reader d) q e (told_of old) (told_of new))
   pub told_since : (new.clears ≡ old.clears → ⊥) → IsToldSince (reader d) q result (told_of new)
+  pub changes : Changes d (IsMadeBy d q) old new (half_made (reader d) q)
 
 -- ---- both
 

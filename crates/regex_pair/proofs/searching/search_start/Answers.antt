@@ -15,6 +15,7 @@ returns-clause-search g c = subst (λ (d : Dfa). MakesHalf d c.args.input.now c.
         told = c.try_search_rev.ensures.told;
         left_told = c.try_search_rev.ensures.left_told;
         told_since = c.try_search_rev.ensures.told_since;
+        changes = c.try_search_rev.ensures.changes;
       };
       moved = c.try_search_rev.ensures.moved;
       free = λ linked. (λ i. (c.try_search_rev.ensures.free linked i).determinized, λ i. (c.try_search_rev.ensures.free linked i).inserted);
