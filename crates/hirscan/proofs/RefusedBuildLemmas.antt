@@ -9,7 +9,7 @@ use Rattle.nfa_core.specs.declared.build_error.BuildError.TheVariants as nfa
 use Rattle.thompson_nfa.specs.Compilations.{IsCompiled}
 use Rattle.thompson_nfa.specs.RefusedTrees.{RefusesTrees}
 use Rattle.lazy_dfa.specs.Accounting.{least_capacity}
-use Rattle.lazy_dfa.specs.Building.{built, dfa_of, is_too_small, measures_with, told_by}
+use Rattle.lazy_dfa.specs.Building.{built, dfa_of, is_too_small, measures_with, refused_by}
 use Rattle.lazy_dfa.specs.ConfigValue.{Options, changed_by, word_boundary_of, by_hand, capacity_of, skips_check}
 use Rattle.lazy_dfa.specs.declared.build_error.BuildError.{BuildError}
 use Rattle.lazy_dfa.specs.declared.build_error.BuildError.TheVariants.{NFA, InsufficientCacheCapacity, Unsupported}
@@ -73,7 +73,7 @@ module _ (xs : List Tree) (s : Settings) where
   by_cause reverse x e other why is = not_compiled reverse x (λ no. true≢false (sym (ap lacks_memory no) ∙ other)) why is
 
   pub compile_refused : (reverse : Bool) (x : NfaBuildError) (e : BuildError) → RefusesTrees (compile_options reverse s) xs x →
-      e ≡ told_by x → RefusesBuild xs s e
+      e ≡ refused_by x → RefusesBuild xs s e
   compile_refused reverse nfa.TooManyPatterns e why is = by_cause reverse nfa.TooManyPatterns e refl why is
   compile_refused reverse nfa.TooManyStates e why is = by_cause reverse nfa.TooManyStates e refl why is
   compile_refused reverse (nfa.ExceededSizeLimit limit) e why is = by_cause reverse (nfa.ExceededSizeLimit limit) e refl why is

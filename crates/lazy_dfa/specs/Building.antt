@@ -45,9 +45,9 @@ abbrev pub is_too_small : Nfa → Options → Bool
 is_too_small n o = not (skips_check o) && nat_lt (capacity_of o) (least_capacity (measures_with n o))
 
 -- the refusal of a compile: want of memory is told as that
-abbrev pub told_by : NfaBuildError → BuildError
-told_by NfaNoMemory = NoMemory
-told_by e = NFA e
+abbrev pub refused_by : NfaBuildError → BuildError
+refused_by NfaNoMemory = NoMemory
+refused_by e = NFA e
 
 -- what the builder answers
 abbrev pub built : Nfa → Options → Result Dfa BuildError

@@ -30,9 +30,9 @@ pub enum BuildError {
 
 impl From<nfa_core::BuildError> for BuildError {
     ghost use Rattle.std.specs.Prelude.{◌≡◌};
-    ghost use Rattle.lazy_dfa.specs.Building.{told_by};
+    ghost use Rattle.lazy_dfa.specs.Building.{refused_by};
 
-    ghost from_gives = { λ e refusal. refusal ≡ told_by e };
+    ghost from_gives = { λ e refusal. refusal ≡ refused_by e };
 
     fn from(err: nfa_core::BuildError) -> BuildError {
         match err {

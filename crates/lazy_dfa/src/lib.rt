@@ -22,6 +22,7 @@ mod builder;
 mod byte_tests;
 mod cache;
 mod cache_error;
+pub mod cache_laws;
 mod cache_writes;
 pub mod change_laws;
 mod config;

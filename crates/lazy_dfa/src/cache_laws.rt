@@ -1,0 +1,19 @@
+//! Laws of caches: what leaves one its automaton's own, and what its IDs tell apart. Each function has no code: its contract
+//! is the law.
+ghost use Rattle.std.specs.Prelude.{◌≡◌, ℕ, Option};
+ghost use Rattle.determinize_core.specs.States.{StateValue};
+ghost use Rattle.lazy_dfa.specs.Caches.{CacheValue, IsCacheOf, HeldAt};
+ghost use Rattle.lazy_dfa.specs.Dfas.{Dfa};
+ghost use Rattle.lazy_dfa.specs.declared.progress.Progress.{Progress};
+
+/// A cache that is told how far searches came stays that of its automaton.
+pub fn told_caches_stay_their_automatons()
+    ensures { (d : Dfa) (v : CacheValue) (searched : ℕ) (progress : Option Progress) → IsCacheOf d v →
+        IsCacheOf d (record v { searched = searched; progress = progress }) }
+{}
+
+/// Two different IDs that are held, and are no sentinels, name different states.
+pub fn rows_name_different_states()
+    ensures { (d : Dfa) (v : CacheValue) (i j : ℕ) (s t : StateValue) → IsCacheOf d v → HeldAt v i s → HeldAt v j t →
+        (i ≡ j → ⊥) → s ≡ t → ⊥ }
+{}
