@@ -1,11 +1,11 @@
 // Which regexes are refused, and searches over trees whose loops may have empty rounds.
 use crate::calls::Call::Ask;
 use crate::calls::Found::At;
-use crate::calls::{answers, give_up};
+use crate::calls::{Call, answers, are_answered, give_up};
 use crate::heads::{Head, Text};
 use crate::machine::Options::{Bare, HighBytes, Least, NoClasses, NoRoom, Plain, Tagged};
 use crate::machine::Question::Match;
-use crate::machine::{Options, built};
+use crate::machine::{Machine, Options, built};
 use lazy_dfa::BuildError;
 use std::alloc::Global;
 
@@ -66,6 +66,45 @@ fn ends_alike(alloc: Global, end: usize) -> bool {
         }
     }
     true
+}
+
+/// Whether a match is found over copies of the states of this regex, by caches of the least capacity.
+fn copy_finds(alloc: Global, machine: &Machine, calls: &[Call]) -> bool {
+    match machine.over_copies(alloc, Least) {
+        Ok(mut copied) => {
+            let finds = are_answered(alloc, &mut copied, Least, calls);
+            give_up(copied);
+            finds
+        }
+        Err(e) => {
+            give_up(e);
+            false
+        }
+    }
+}
+
+/// Whether it ends there by ample caches, and by those of the least capacity over the same states.
+fn copies_end_alike(alloc: Global, end: usize) -> bool {
+    let calls = [Ask(Match, Text::Aa, 0, 2, At(0, 0, end))];
+    match Machine::new(alloc, Head::MaybeAs, Bare) {
+        Ok(mut machine) => {
+            let ends = are_answered(alloc, &mut machine, Bare, &calls)
+                && copy_finds(alloc, &machine, &calls);
+            give_up(machine);
+            ends
+        }
+        Err(e) => {
+            give_up(e);
+            false
+        }
+    }
+}
+
+/// Over the same automata of states no room of a cache shows in an answer, whatever the rounds read.
+#[test]
+fn copies_of_automata(rt: HostRuntime) {
+    let alloc = rt.alloc();
+    assert!(rt; copies_end_alike(alloc, 0) || copies_end_alike(alloc, 1) || copies_end_alike(alloc, 2));
 }
 
 /// Rounds that may be empty are no reason to refuse a regex: the least start and its first pattern are found. Which end is found

@@ -37,6 +37,8 @@ pub enum Head {
     EmptyOrB,
     /// Two rounds or more of the empty text or `a`.
     TwoRounds,
+    /// Any number of rounds of one `a` or none.
+    MaybeAs,
 }
 
 /// A haystack.
@@ -98,6 +100,7 @@ fn more_text_of(head: Head) -> &'static [u8] {
         Head::EmptyOrA => b"empty\nlit 61\nalt 2\nrep 0 inf greedy\npattern\nfind\n",
         Head::EmptyOrB =>
             b"empty\nlit 62\nalt 2\nrep 0 inf greedy\nlit 63\ncat 2\npattern\nlit 61\npattern\nfind\n",
+        Head::MaybeAs => b"lit 61\nrep 0 1 greedy\nrep 0 inf greedy\npattern\nfind\n",
         _ => b"empty\nlit 61\nalt 2\nrep 2 inf greedy\npattern\nfind\n",
     }
 }

@@ -1,5 +1,5 @@
 // A regex of trees with its caches, as one value: whoever searches with it has nothing to show.
-ghost use Rattle.std.specs.Prelude.{◌≡◌, ◌<◌};
+ghost use Rattle.std.specs.Prelude.{◌≡◌, ◌<◌, IfOk};
 ghost use Rattle.regex_pair.specs.Pairs.{AreCachesOf};
 
 use crate::calls::{Found, found_of, give_up, told_of};
@@ -7,6 +7,7 @@ use crate::heads::{Head, text_of};
 use hirscan::{Settings, build, read_head};
 use lazy_dfa::dfa::{Config, DFA};
 use lazy_dfa::{BuildError, Work, dfa};
+use nfa_core::NFA;
 use regex_pair::regex::{Cache, Regex};
 use search_types::{Input, MatchError};
 use std::alloc::Global;
@@ -107,6 +108,16 @@ pub fn built(alloc: Global, head: Head, options: Options) -> Result<Regex, Build
     re
 }
 
+/// A copy of the states of an automaton.
+fn copy_of(alloc: Global, half: &DFA) -> Result<NFA, BuildError>
+    ensures { IfOk result (λ n. n ≡ half.now.nfa) }
+{
+    match half.get_nfa().try_clone(alloc) {
+        Ok(nfa) => Ok(nfa),
+        Err(_) => Err(BuildError::NoMemory),
+    }
+}
+
 /// How it is made.
 impl Machine {
     /// A regex of a head's patterns, with fresh caches.
@@ -129,6 +140,28 @@ impl Machine {
                 give_up(mem::replace(&mut self.re, re));
                 Ok(())
             }
+            Err(_) => {
+                give_up(re);
+                Err(BuildError::NoMemory)
+            }
+        }
+    }
+
+    /// A regex over copies of the states of its automata, with other options and fresh caches.
+    pub fn over_copies(&self, alloc: Global, options: Options) -> Result<Machine, BuildError> {
+        let forward = copy_of(alloc, self.re.forward())?;
+        let reverse = match copy_of(alloc, self.re.reverse()) {
+            Ok(reverse) => reverse,
+            Err(e) => {
+                give_up(forward);
+                return Err(e);
+            }
+        };
+        let mut builder = Regex::builder();
+        builder.dfa(config_of(options));
+        let re = builder.build_from_nfas(forward, reverse)?;
+        match re.create_cache(alloc) {
+            Ok(cache) => Ok(Machine { re, cache }),
             Err(_) => {
                 give_up(re);
                 Err(BuildError::NoMemory)
