@@ -5,6 +5,7 @@ pub mod ScalarBranches
 pub mod SlotLemmas
 pub mod SlotViews
 pub mod AsciiLemmas
+pub mod ScalarBytes
 pub mod SuffixLemmas
 pub mod SuffixSteps
 pub mod SuffixRanges

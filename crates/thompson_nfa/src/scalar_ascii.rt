@@ -1,11 +1,11 @@
 //! Fragments of classes of scalars that are spelled by one byte each.
 
-ghost use Rattle.std.specs.Prelude.{◌≡◌, true, IfOk, IfErr};
+ghost use Rattle.std.specs.Prelude.{◌≡◌, ◌+◌, ◌*◌, true, length, IfOk, IfErr};
 ghost use Rattle.hir_core.specs.Facts.{count, is_ascending};
 ghost use Rattle.hir_core.specs.Tree.{char_class};
 ghost use Rattle.thompson_nfa.specs.AsciiClasses.{is_ascii};
-ghost use Rattle.thompson_nfa.specs.Compiled.{Makes, Does};
-ghost use Rattle.thompson_nfa.specs.Refusals.{Quits};
+ghost use Rattle.thompson_nfa.specs.Compiled.{Makes, Weighs, Does};
+ghost use Rattle.thompson_nfa.specs.Refusals.{Quits, Passes};
 
 use crate::class::byte_class;
 use crate::compiling::Fragment;
@@ -43,6 +43,8 @@ pub(crate) fn compile_ascii(
     requires ascii { is_ascii ranges.now ≡ true }
     ensures made { IfOk result (λ f. Makes builder.old builder.new f.start f.end (count (char_class ranges.now))) }
     ensures does { IfOk result (λ f. Does builder.old builder.new f.start f.end (char_class ranges.now)) }
+    ensures weighs { IfOk result (λ _. Weighs builder.old builder.new (48 + 8 * length ranges.now)) }
+    ensures passed { IfErr result (λ e. Passes builder.old (48 + 8 * length ranges.now) e) }
     ensures groups { IfOk result (λ _. builder.new.groups ≡ builder.old.groups) }
     ensures refused { IfErr result (λ e. Quits builder.old builder.new (count (char_class ranges.now)) e) }
 {

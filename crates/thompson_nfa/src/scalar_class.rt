@@ -15,11 +15,8 @@ use crate::scalar_shrunk::compile_scalars_shrunk;
 use nfa_core::{BuildError, Builder};
 use std::alloc::Global;
 
-/// A class of scalars: one state where it is ASCII, and else states for the sequences of byte ranges that
-/// spell its scalars, which share endings forward and beginnings in reverse, or both where classes are made
-/// smaller.
-///
-/// As `regex_automata::nfa::thompson::compiler::Compiler::c_unicode_class`.
+/// States for the sequences of byte ranges that spell the scalars. They share endings forward and beginnings in
+/// reverse, or both where classes are made smaller.
 fn scalar_states(
     builder: &mut Builder,
     alloc: Global,
@@ -33,10 +30,6 @@ fn scalar_states(
     ensures groups { IfOk result (λ _. builder.new.groups ≡ builder.old.groups) }
     ensures refused { IfErr result (λ e. Quits builder.old builder.new (room how.shrink (char_class ranges.now)) e) }
 {
-    if is_ascii(ranges) {
-        let ascii = compile_ascii(builder, alloc, ranges)?;
-        return Ok(ascii);
-    }
     if !builder.get_reverse() {
         let forward = compile_scalars_forward(builder, alloc, &mut shared.utf8, ranges)?;
         return Ok(forward);
@@ -50,7 +43,10 @@ fn scalar_states(
     Ok(reverse)
 }
 
-/// The same, by the bytes that the states take too.
+/// A class of scalars: one state where it is ASCII, and else states for the sequences of byte ranges that spell
+/// its scalars.
+///
+/// As `regex_automata::nfa::thompson::compiler::Compiler::c_unicode_class`.
 pub(crate) fn compile_scalars(
     builder: &mut Builder,
     alloc: Global,
@@ -66,6 +62,10 @@ pub(crate) fn compile_scalars(
     ensures groups { IfOk result (λ _. builder.new.groups ≡ builder.old.groups) }
     ensures refused { IfErr result (λ e. Quits builder.old builder.new (room how.shrink (char_class ranges.now)) e) }
 {
+    if is_ascii(ranges) {
+        let ascii = compile_ascii(builder, alloc, ranges)?;
+        return Ok(ascii);
+    }
     let class = scalar_states(builder, alloc, how, shared, ranges)?;
     Ok(class)
 }

@@ -1,10 +1,12 @@
 -- The bytes of a class of bytes that is repeated.
-use Rattle.std.proofs.Common.{◌≡◌, ℕ, ◌+◌, ◌-◌, ◌*◌, ◌≤◌, Bool, List, [], ◌∷◌, length, Some, ap, arith}
-use Rattle.hir_core.specs.Tree.{byte_class, repetition}
+use Rattle.std.proofs.Common.{◌≡◌, ℕ, ◌+◌, ◌-◌, ◌*◌, ◌≤◌, Bool, true, List, [], ◌∷◌, length, Some, ap, arith, if◌then◌else◌}
+use Rattle.hir_core.specs.Tree.{byte_class, char_class, repetition}
 use Rattle.nfa_core.specs.declared.build_error.BuildError.TheVariants as error
+use Rattle.thompson_nfa.specs.AsciiClasses.{is_ascii}
 use Rattle.thompson_nfa.specs.ByteRoom.{byte_room}
 use Rattle.thompson_nfa.specs.Configs.{Options}
 use Rattle.thompson_nfa.specs.RefusedTrees.{RefusesTrees}
+use Rattle.thompson_nfa.specs.Room.{class_room}
 
 pub repeated_class : (shrink greedy : Bool) (n : ℕ) (ranges : List (ℕ × ℕ)) →
     byte_room shrink (repetition n (Some n) greedy (byte_class ranges)) ≡ n * (52 + 8 * length ranges) + 28
@@ -12,6 +14,11 @@ repeated_class shrink greedy n ranges =
     let none : n - n ≡ 0 = omega arith in
     let left = ap (λ k. k * (48 + 8 * length ranges + 36)) none in
     omega arith
+
+-- a class of scalars that is ASCII takes as many
+pub ascii_class : (shrink : Bool) (ranges : List (ℕ × ℕ)) → is_ascii ranges ≡ true →
+    byte_room shrink (char_class ranges) ≡ byte_room shrink (byte_class ranges)
+ascii_class shrink ranges is = ap (λ b. if b then 48 + 8 * length ranges else 4096 * class_room shrink ranges) is
 
 pub repeated_class_fits : (o : Options) (greedy : Bool) (n limit : ℕ) (ranges : List (ℕ × ℕ)) →
     n * (52 + 8 * length ranges) + 240 ≤ limit →

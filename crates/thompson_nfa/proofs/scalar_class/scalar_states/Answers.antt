@@ -2,15 +2,8 @@ use Rattle.thompson_nfa.proofs.Steps.ErrorLemmas.{handed}
 use Rattle.thompson_nfa.proofs.Steps.PlainRoom.{plain_made, plain_quits}
 use Rattle.thompson_nfa.proofs.scalar_class.scalar_states.Goals as goal
 
-pub returns-in_err-ascii-clause-refused : goal.returns-in_err-ascii-clause-refused
-returns-in_err-ascii-clause-refused c = handed _ _ c.in_err-ascii.field-0.0 c.from_residual.ensures.1
-    (plain_quits c.args.how.shrink _ _ c.args.ranges.now _ c.in_err-ascii.ensures.refused)
-
-pub returns-then-is_ascii-clause-made : goal.returns-then-is_ascii-clause-made
-returns-then-is_ascii-clause-made c = plain_made c.args.how.shrink _ _ _ _ c.args.ranges.now c.in_ok-ascii.ensures.made
-
 pub returns-in_err-forward-clause-refused : goal.returns-in_err-forward-clause-refused
-returns-in_err-forward-clause-refused c = handed _ _ c.in_err-forward.field-0.0 c.from_residual-in_err-forward.ensures.1
+returns-in_err-forward-clause-refused c = handed _ _ c.in_err-forward.field-0.0 c.from_residual.ensures.1
     (plain_quits c.args.how.shrink _ _ c.args.ranges.now _ c.in_err-forward.ensures.refused)
 
 pub returns-then-not-get_reverse-clause-made : goal.returns-then-not-get_reverse-clause-made
