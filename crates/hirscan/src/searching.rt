@@ -80,7 +80,8 @@ fn search_counted<L: Ledger, M: Ledger>(
     re.try_search(cache, input, &mut work)
 }
 
-/// One search. Where the regex is built of trees, an answer is the one that they define.
+/// One search, refused as [`Regex::try_search`] is. Where the regex is built of trees, finds the leftmost-first match and the search
+/// is one of the laws' ([`is_search_of`], [`all_loops_read`](crate::all_loops_read)), an answer is the one that the trees define.
 pub fn find(re: &Regex, cache: &mut Cache, input: &Input<'_>) -> Result<Option<Match>, MatchError>
     requires own { AreCachesOf re.now cache.old }
     ensures own { AreCachesOf re.now cache.new }
