@@ -74,6 +74,7 @@ pub mod WalkPlaceLemmas
 pub mod WalkTurnLemmas
 pub mod WalkReadLemmas
 pub mod WalkQuitLemmas
+pub mod WalkToldLemmas
 pub mod WalkRows
 pub mod ByteTestLemmas
 pub mod HalfTableLemmas

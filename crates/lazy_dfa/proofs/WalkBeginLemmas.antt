@@ -32,20 +32,22 @@ use Rattle.lazy_dfa.specs.StartCalls.{StartAdds}
 use Rattle.lazy_dfa.specs.WalkAnswers.{IsMadeOnCall}
 use Rattle.lazy_dfa.specs.WalkAnswers.{call_made}
 use Rattle.lazy_dfa.proofs.ChangesLemmas.{changes_more, changes_moved, start_changes}
+use Rattle.lazy_dfa.specs.WalkAnswers.{left_at_start, anew_at_start, fails_behind_start}
+use Rattle.lazy_dfa.specs.AnewTold.{IsFresh}
 use Rattle.lazy_dfa.proofs.LinkedLemmas.{grows_trans, grew_grows, has_cleared, start_grows_of, cleared_grows, grows_or_clears_trans}
 use Rattle.lazy_dfa.proofs.LinkedLemmas.{grows_moved}
 use Rattle.lazy_dfa.proofs.SearchEndLemmas.{not_done, is_over}
 use Rattle.lazy_dfa.proofs.WalkLeftLemmas.{begun_rest, begun_units, begun_value, dead_rest, dead_units, whole_from, done_left}
 use Rattle.lazy_dfa.proofs.WalkLeftLemmas.{refused_whole, fit_whole}
 use Rattle.lazy_dfa.proofs.WalkQuitLemmas.{no_quit_yet, came_first}
-use Rattle.lazy_dfa.proofs.WholePassLemmas.{min_twice, dead_named, row_named, same_told}
+use Rattle.lazy_dfa.proofs.WholePassLemmas.{min_twice, dead_named, row_named, same_told, fresh_start, refused_first}
 use Rattle.lazy_dfa.proofs.WalkCallLemmas.{fine, failure, ended, tells_refusal, tells_none, still_call, told_with, makes_on, MakesIts}
 
 -- a done input
 pub done_call : (d : Dfa) (q : Search) (v : CacheValue) (m n : ℕ) → nat_le q.start q.end ≡ false →
     MakesCall d q v v m m n n Fresh ended fine
 done_call d q v m n done = still_call d q v m n Fresh ended fine (tells_none (reader d) q Fresh (done_left d q done))
-    (ap (λ (b : Bool). b && is_supported (reader d).starts_for_each_pattern q.anchored) done) tt tt (λ none. refl) (λ quiet. tt)
+    (ap (λ (b : Bool). b && is_supported (reader d).starts_for_each_pattern q.anchored) done) tt tt (λ none. refl) (λ quiet. tt) tt
 
 -- ---- starts
 
@@ -120,6 +122,14 @@ module _ (d : Dfa) (q : Search) (old new : CacheValue) (m1 m2 n1 n2 : ℕ) (begu
         (one_start q begun) start.inserted;
     quits = λ quiet. tt;
     changes = first_changes d q begun old new own start.adds;
+    anew = ⊎_elim
+        (λ (g : Grew d old new). inl (left_at_start refl (refused_first d q old new m1 m2 n1 n2 e start) (same_told d old new g), g.clears))
+        (λ (w : WasCleared old new 1). inr (
+          has_cleared old new 1 w,
+          fails_behind_start refl (told_of new) (fresh_start old new w)
+              (left_at_start refl (refused_first d q old new m1 m2 n1 n2 e start) refl),
+        ))
+        start.kept;
   }
 
 abbrev told_short : ℕ → Told
@@ -187,20 +197,20 @@ module _ (d : Dfa) (q : Search) (old mid : CacheValue) (m1 m n1 n id : ℕ) (beg
     left_none : rest_of (reader d) q Fresh ≡ nothing_left
     left_none = fits.1 ∙ dead_rest (reader d) q.haystack (suc (span_len q)) from first_state is_gone
 
-    abbrev told_after_start : ℕ → Told
-    told_after_start k =
-        told_with (old.searched + progress_len old.progress) (pass_distance d.nfa.automaton.reverse
+    abbrev told_after_start : Told → ℕ → Told
+    told_after_start t k =
+        told_with (t.searched + progress_len t.progress) (pass_distance d.nfa.automaton.reverse
         (left_at d.nfa.automaton.reverse q from) k)
 
     no_distance : (is_reverse : Bool) (k : ℕ) → pass_distance is_reverse k 0 ≡ 0
     no_distance false k = refl
     no_distance true k = min-eq_left (omega arith)
 
-    told_dead : told_by_call (reader d) q Fresh (told_of old) ≡ told_with (old.searched + progress_len old.progress) 0
-    told_dead =
-        ap (λ (b : Bool). if b then told_after_start (call_units (reader d) q Fresh) else told_of old) reads_first
-        ∙ (ap told_after_start none_read
-        ∙ ap (told_with (old.searched + progress_len old.progress)) (no_distance d.nfa.automaton.reverse
+    told_dead : (t : Told) → told_by_call (reader d) q Fresh t ≡ told_with (t.searched + progress_len t.progress) 0
+    told_dead t =
+        ap (λ (b : Bool). if b then told_after_start t (call_units (reader d) q Fresh) else t) reads_first
+        ∙ (ap (told_after_start t) none_read
+        ∙ ap (told_with (t.searched + progress_len t.progress)) (no_distance d.nfa.automaton.reverse
         (left_at d.nfa.automaton.reverse q from)))
 
     pub dead_call : (new : CacheValue) → IsMoved mid new → told_of new ≡ told_with (mid.searched + progress_len mid.progress) 0 →
@@ -214,7 +224,7 @@ module _ (d : Dfa) (q : Search) (old mid : CacheValue) (m1 m n1 n id : ℕ) (beg
           (λ (g : Grows d old mid × (told_of mid ≡ told_of old)).
           inl (
             grows_trans d old mid new made own g.0 still_there,
-            is ∙ (ap (λ (t : Told). told_with (t.searched + progress_len t.progress) 0) g.1 ∙ sym told_dead),
+            is ∙ (ap (λ (t : Told). told_with (t.searched + progress_len t.progress) 0) g.1 ∙ sym (told_dead (told_of old))),
           ))
           (λ (c : HasCleared old mid). inr (cleared_grows d old mid new c (inl still_there)))
           so_far;
@@ -227,10 +237,29 @@ module _ (d : Dfa) (q : Search) (old mid : CacheValue) (m1 m n1 n id : ℕ) (beg
       quits = λ quiet. tt;
       changes = changes_moved d (IsMadeOnCall d q Fresh) old mid new (call_made (reader d) q Fresh) moved
           (first_changes d q begun old mid own start.adds);
+      anew = ⊎_elim
+          (λ (g : Grew d old mid). inl (
+            is ∙ (ap (λ (t : Told). told_with (t.searched + progress_len t.progress) 0) (same_told d old mid g)
+                ∙ sym (told_dead (told_of old))),
+            still_there.clears ∙ g.clears,
+          ))
+          (λ (c : WasCleared old mid 1). inr (
+            cleared_grows d old mid new (has_cleared old mid 1 c) (inl still_there),
+            anew_at_start refl (told_of mid) (fresh_start old mid c) (is ∙ sym (told_dead (told_of mid))),
+          ))
+          start.kept;
     }
       where
         still_there : Grows d mid new
         still_there = grows_moved d mid new moved
+
+  -- what the start tells, which may have cleared the cache
+  told_first : ((told_of mid ≡ told_of old) × (mid.clears ≡ old.clears)) ⊎
+      (HasCleared old mid × ((Fresh ≡ Fresh) × IsFresh (told_of mid)))
+  told_first = ⊎_elim
+      (λ (g : Grew d old mid). inl (same_told d old mid g, g.clears))
+      (λ (c : WasCleared old mid 1). inr (has_cleared old mid 1 c, (refl, fresh_start old mid c)))
+      start.kept
 
   -- nothing is read yet
   begins_quietly : HasReadQuietly d q Fresh → StartsQuietly d q (came d.nfa.automaton.reverse q from)
@@ -249,6 +278,6 @@ module _ (d : Dfa) (q : Search) (old mid : CacheValue) (m1 m n1 n id : ℕ) (beg
         ReadsOn d q (first_place is_reverse q.start q.end) mid new m m2 n n2 result → MakesIts d q Fresh old new m1 m2 n1 n2 result
     begins_walk new m2 n2 result x =
         makes_on d q Fresh old mid new m1 m m2 n1 n n2 made own reads_first (fits.1 ∙ begun_rest (reader d) q) (begun_units (reader d) q)
-        so_far few_starts few_starts_put (λ fresh. start.start.0) begins_quietly
+        so_far few_starts few_starts_put (λ fresh. start.start.0) begins_quietly told_first
         (start_changes_so d q begun old mid own start.adds) result (subst (λ (b : Bool). ReadsOn d q (first_place b q.start q.end) mid new m m2 n n2 result) is
         x)

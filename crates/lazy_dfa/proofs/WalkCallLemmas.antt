@@ -1,5 +1,5 @@
 -- What a call of an overlapping walk has done: one that reads nothing, and one that reads on.
-use Rattle.std.proofs.Common.{◌≡◌, ◌⊎◌, ℕ, ◌+◌, ◌*◌, ◌<◌, ◌≤◌, Bool, true, false, List, ◌∷◌, Option, Some, None, if◌then◌else◌, refl, sym}
+use Rattle.std.proofs.Common.{◌≡◌, ◌⊎◌, ℕ, ◌+◌, ◌-◌, ◌*◌, ◌<◌, ◌≤◌, Bool, true, false, List, ◌∷◌, Option, Some, None, if◌then◌else◌, refl, sym}
 use Rattle.std.proofs.Common.{ap, ◌∙◌, subst, inl, inr, ⊎_elim, arith, true≢false, []}
 use Rattle.std.specs.Prelude.{Result, Ok, Err, IfOk, IfErr, OnOk, min, ⊤}
 use Rattle.search_types.specs.declared.match_error.MatchErrorKind.{MatchErrorKind}
@@ -19,12 +19,18 @@ use Rattle.lazy_dfa.specs.Steps.{most_inserts}
 use Rattle.lazy_dfa.specs.Walks.{Rest, nothing_left, refused, others, rest_of, IsWalk, WalkState}
 use Rattle.lazy_dfa.specs.WalkAnswers.{reads_on, call_place, units_there, call_units, call_starts, told_left, TellsNext, GivesUpOn, at_unit}
 use Rattle.lazy_dfa.specs.WalkAnswers.{AnswersWalk, failed_by, told_by_call, rest_at, units_at, told_from, GivesUpFrom, ReadsOn, MakesCall}
-use Rattle.lazy_dfa.specs.WalkAnswers.{StartsQuietly, HasReadQuietly}
 use Rattle.lazy_dfa.specs.Changes.{Changes, unchanged, IsMadeAt}
 use Rattle.lazy_dfa.specs.WalkAnswers.{call_made, IsMadeOnCall}
 use Rattle.lazy_dfa.specs.WalkAnswers.{value_before}
 use Rattle.determinize_core.specs.States.{StateValue}
 use Rattle.lazy_dfa.proofs.ChangesLemmas.{changes_into, changes_on}
+use Rattle.lazy_dfa.specs.WalkAnswers.{StartsQuietly, HasReadQuietly, walk_over, walk_left, IsRefusedThere, LeavesCall, left_failed}
+use Rattle.lazy_dfa.specs.WalkAnswers.{left_at_unit, TellsCallAnew, anew_at_start, anew_at, FailsCallAnew, fails_behind_start}
+use Rattle.lazy_dfa.specs.WalkAnswers.{fails_behind, IsCallTold, IsReadTold}
+use Rattle.lazy_dfa.specs.LeftTold.{is_quit_error}
+use Rattle.lazy_dfa.specs.AnewTold.{IsFresh}
+use Rattle.lazy_dfa.specs.PassLaws.{HasNoQuit}
+use Rattle.nfa_core.specs.Ways.{place_of}
 use Rattle.lazy_dfa.proofs.LinkedLemmas.{grows_refl, grows_trans, cleared_grows, grows_or_clears_trans}
 
 abbrev pub fine : Result ⊤ MatchErrorKind
@@ -78,9 +84,9 @@ module _ (d : Dfa) (q : Search) (v : CacheValue) (m n : ℕ) (w : Walk) (after :
     (tells : TellsNext (reader d) q w after result) (silent : reads_on (reader d) q w ≡ false) where
   pub still_call : IsWalk d v q after.walk → IfErr result (λ e. after ≡ failed_by e) →
       OnOk result (after.found ≡ None → after.walk ≡ Ended) →
-      (HasReadQuietly d q w → HasReadQuietly d q after.walk) →
+      (HasReadQuietly d q w → HasReadQuietly d q after.walk) → IfErr result (λ e. w ≡ Failed e) →
       MakesCall d q v v m m n n w after result
-  still_call walk failed ends quits = record {
+  still_call walk failed ends quits was_failed = record {
     answer = inl tells;
     walk = walk;
     failed = failed;
@@ -93,6 +99,7 @@ module _ (d : Dfa) (q : Search) (v : CacheValue) (m n : ℕ) (w : Walk) (after :
     inserted = omega arith;
     quits = quits;
     changes = unchanged v (call_made (reader d) q w) refl;
+    anew = none_told result was_failed;
   }
     where
       same_told : told_by_call (reader d) q w (told_of v) ≡ told_of v
@@ -103,15 +110,19 @@ module _ (d : Dfa) (q : Search) (v : CacheValue) (m n : ℕ) (w : Walk) (after :
         progress = None;
       } else told_of v) silent
 
+      none_told : (x : Result ⊤ MatchErrorKind) → IfErr x (λ e. w ≡ Failed e) → IsCallTold (reader d) q w x v v
+      none_told (Ok u) was = inl (sym same_told, refl)
+      none_told (Err e) was = inl (left_failed was refl, refl)
+
 pub ended_call : (d : Dfa) (q : Search) (v : CacheValue) (m n : ℕ) → MakesCall d q v v m m n n Ended ended fine
 ended_call d q v m n = still_call d q v m n Ended ended fine (tells_none (reader d) q Ended refl) refl tt tt (λ none. refl)
-    (λ quiet. tt)
+    (λ quiet. tt) tt
 
 pub failed_call : (d : Dfa) (q : Search) (v : CacheValue) (m n : ℕ) (e : MatchErrorKind) →
     MakesCall d q v v m m n n (Failed e) (failed_by e) (failure e)
 failed_call d q v m n e =
     still_call d q v m n (Failed e) (failed_by e) (failure e) (tells_refusal (reader d) q (Failed e) (refused e) e refl refl refl) refl tt
-    refl tt (λ quiet. tt)
+    refl tt (λ quiet. tt) refl
 
 -- ---- calls that read on
 
@@ -132,6 +143,8 @@ module _ (d : Dfa) (q : Search) (w : Walk) (old mid new : CacheValue) (m1 m m2 n
     (few : m ≤ m1 + call_starts q w) (few_put : n ≤ n1 + call_starts q w * most_inserts d)
     (free : w ≡ Fresh → start_refusal d (pass_start d q) ≡ None)
     (past : HasReadQuietly d q w → StartsQuietly d q (came d.nfa.automaton.reverse q (call_place (reader d) q w)))
+    (told_mid : ((told_of mid ≡ told_of old) × (mid.clears ≡ old.clears)) ⊎
+    (HasCleared old mid × ((w ≡ Fresh) × IsFresh (told_of mid))))
     (begun : Changes d (IsMadeOnCall d q w) old mid (call_starts q w)) where
   abbrev r : Reader
   r = reader d
@@ -185,6 +198,83 @@ module _ (d : Dfa) (q : Search) (w : Walk) (old mid new : CacheValue) (m1 m m2 n
       (λ (c : HasCleared old mid). inr (cleared_grows d old mid new c kept))
       before
 
+  abbrev with_way : Told → ℕ → Told
+  with_way t k = told_with (t.searched + progress_len t.progress) (pass_distance d.nfa.automaton.reverse
+      (left_at d.nfa.automaton.reverse q at) k)
+
+  -- how far it came, whether the cache was cleared or not
+  told_then : (t : Told) → told_of new ≡ told_from r q at t → told_of new ≡ told_by_call r q w t
+  told_then t f = f ∙ sym (ap (λ (b : Bool). if b then with_way t (call_units r q w) else t) reads ∙ ap (with_way t) same_units)
+
+  cleared_on : mid.clears ≡ old.clears → HasCleared mid new → HasCleared old new
+  cleared_on same c = subst (λ (k : ℕ). min (k + 1) greatest ≤ new.clears) same c
+
+  abbrev IsCut : Type 0
+  IsCut = (m : ℕ) × (m < units_at r q at) × (told_of new ≡ walk_over r.automaton.reverse q at 0 m (units_at r q at - 1))
+
+  cut : IsCut → TellsCallAnew r q w (told_of new)
+  cut c = anew_at c.0 (subst (λ (u : ℕ). c.0 < u) (sym same_units) c.1)
+      (c.2 ∙ ap (λ (u : ℕ). walk_over r.automaton.reverse q at 0 c.0 (u - 1)) (sym same_units))
+
+  abbrev IsReadOk : Type 0
+  IsReadOk = ((told_of new ≡ told_from r q at (told_of mid)) × (new.clears ≡ mid.clears)) ⊎ (HasCleared mid new × IsCut)
+
+  told_ok : GrowsOrClears d mid new → IsReadOk →
+      ((told_of new ≡ told_by_call r q w (told_of old)) × (new.clears ≡ old.clears)) ⊎ (HasCleared old new × TellsCallAnew r q w (told_of new))
+  told_ok kept f = ⊎_elim
+      (λ (s : (told_of mid ≡ told_of old) × (mid.clears ≡ old.clears)). ⊎_elim
+      (λ (y : (told_of new ≡ told_from r q at (told_of mid)) × (new.clears ≡ mid.clears)). inl (told_so s.0 y.0, y.1 ∙ s.1))
+      (λ (y : HasCleared mid new × IsCut). inr (cleared_on s.1 y.0, cut y.1))
+      f)
+      (λ (c : HasCleared old mid × ((w ≡ Fresh) × IsFresh (told_of mid))). inr (
+        cleared_grows d old mid new c.0 kept,
+        ⊎_elim
+            (λ (y : (told_of new ≡ told_from r q at (told_of mid)) × (new.clears ≡ mid.clears)).
+            anew_at_start c.1.0 (told_of mid) c.1.1 (told_then (told_of mid) y.0))
+            (λ (y : HasCleared mid new × IsCut). cut y.1)
+            f,
+      ))
+      told_mid
+
+  module _ (e : MatchErrorKind) (kept : GrowsOrClears d mid new) where
+    abbrev IsLeft : Told → ℕ → Type 0
+    IsLeft t k = told_of new ≡ walk_left r.automaton.reverse (is_quit_error e) q at (min (t.searched + progress_len t.progress) greatest) 0 k
+
+    abbrev IsCutAt : ℕ → Type 0
+    IsCutAt k = (m : ℕ) × (m ≤ k) × (told_of new ≡ walk_left r.automaton.reverse (is_quit_error e) q at 0 m k)
+
+    abbrev IsReadErr : ℕ → Type 0
+    IsReadErr k = (IsLeft (told_of mid) k × (new.clears ≡ mid.clears)) ⊎ (HasCleared mid new × IsCutAt k)
+
+    abbrev IsErr : Type 0
+    IsErr = (LeavesCall r q w e (told_of old) (told_of new) × (new.clears ≡ old.clears)) ⊎
+        (HasCleared old new × FailsCallAnew r q w e (told_of new))
+
+    module _ (k : ℕ) (less : k < units_at r q at) (there : IsRefusedThere r.automaton.reverse q (place_of r.automaton.reverse at k) e)
+        (quiet : HasNoQuit r q.haystack at k) where
+      less_call : k < call_units r q w
+      less_call = subst (λ (u : ℕ). k < u) (sym same_units) less
+
+      err_by : IsReadErr k → IsErr
+      err_by f = ⊎_elim
+          (λ (s : (told_of mid ≡ told_of old) × (mid.clears ≡ old.clears)). ⊎_elim
+          (λ (y : IsLeft (told_of mid) k × (new.clears ≡ mid.clears)).
+          inl (left_at_unit k less_call there quiet (subst (λ (t : Told). IsLeft t k) s.0 y.0), y.1 ∙ s.1))
+          (λ (y : HasCleared mid new × IsCutAt k). inr (cleared_on s.1 y.0, fails_behind y.1.0 k y.1.1 less_call there quiet y.1.2))
+          f)
+          (λ (c : HasCleared old mid × ((w ≡ Fresh) × IsFresh (told_of mid))). inr (
+            cleared_grows d old mid new c.0 kept,
+            ⊎_elim
+                (λ (y : IsLeft (told_of mid) k × (new.clears ≡ mid.clears)).
+                fails_behind_start c.1.0 (told_of mid) c.1.1 (left_at_unit k less_call there quiet y.0))
+                (λ (y : HasCleared mid new × IsCutAt k). fails_behind y.1.0 k y.1.1 less_call there quiet y.1.2)
+                f,
+          ))
+          told_mid
+
+    told_err : IsReadTold r q at (Err e) mid new → IsErr
+    told_err x = err_by x.0 x.1 x.2 x.3 x.4
+
   reads_not : {P : Type 0} → reads_on r q w ≡ false → P
   reads_not e = absurd (true≢false (sym reads ∙ e))
 
@@ -206,6 +296,7 @@ module _ (d : Dfa) (q : Search) (w : Walk) (old mid new : CacheValue) (m1 m m2 n
     inserted = few_more_put n1 n n2 (call_starts q w) (units_at r q at) (call_units r q w) (most_inserts d) same_units few_put x.inserted;
     quits = λ quiet. x.quits (past quiet);
     changes = changes_so x.changes;
+    anew = told_ok x.kept x.anew;
   }
 
   answered : (e : MatchErrorKind) →
@@ -230,6 +321,7 @@ module _ (d : Dfa) (q : Search) (w : Walk) (old mid new : CacheValue) (m1 m m2 n
     inserted = few_more_put n1 n n2 (call_starts q w) (units_at r q at) (call_units r q w) (most_inserts d) same_units few_put x.inserted;
     quits = λ quiet. tt;
     changes = changes_so x.changes;
+    anew = told_err e x.kept x.anew;
   }
 
   -- both, by what came of it

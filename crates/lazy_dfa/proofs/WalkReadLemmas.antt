@@ -32,12 +32,14 @@ use Rattle.lazy_dfa.specs.Turns.{Leaves}
 use Rattle.lazy_dfa.specs.Walks.{Rest, WalkState, nothing_left, onto, others, listed, rest_from, rest_of, value_past, rest_past, StopsAt}
 use Rattle.lazy_dfa.specs.Walks.{IsWalk}
 use Rattle.lazy_dfa.specs.WalkAnswers.{units_met, told_left, value_before, rest_at, units_at, told_from, GivesUpFrom, ReadsOn}
-use Rattle.lazy_dfa.specs.WalkAnswers.{StartsQuietly, HasReadQuietly}
-use Rattle.lazy_dfa.specs.WalkTurns.{tells_end, TellsNone, stopped, Refuses, StopsWith, ReadsInto}
 use Rattle.lazy_dfa.specs.Changes.{Changes, unchanged, IsMadeAt}
 use Rattle.lazy_dfa.specs.Courses.{AreRead}
 use Rattle.lazy_dfa.proofs.ChangesLemmas.{changes_into, changes_on, changes_moved, made_within, made_behind}
 use Rattle.lazy_dfa.proofs.CourseLemmas.{read_there}
+use Rattle.lazy_dfa.specs.WalkAnswers.{StartsQuietly, HasReadQuietly, index_there, walk_over, walk_told, ends_there, IsRefusedThere}
+use Rattle.lazy_dfa.specs.LeftTold.{is_quit_error}
+use Rattle.lazy_dfa.specs.WalkTurns.{tells_end, TellsNone, stopped, TellsUnit, Refuses, StopsWith, ReadsInto}
+use Rattle.lazy_dfa.proofs.WalkToldLemmas.{IsWalking, UnitBy, unit_walked, unit_walks, walking_by, walking_later, walking_first, walk_is_told}
 use Rattle.lazy_dfa.proofs.CourseLemmas.{not_dead}
 use Rattle.lazy_dfa.proofs.LinkedLemmas.{grows_trans, cleared_grows, grows_or_clears_trans, grows_moved}
 use Rattle.lazy_dfa.proofs.PassLoopLemmas.{next_within}
@@ -76,6 +78,8 @@ pub record StandsOn (d : Dfa) (q : Search) (from p : Point) : Type 0 where
   pub quits : HasNoQuit (reader d) q.haystack from.at steps
   pub read : AreRead (reader d) q.haystack from.at (value_before (reader d) q from.at) steps
   pub changes : Changes d (IsMadeAt (reader d) q.haystack from.at (value_before (reader d) q from.at) steps) from.cache p.cache steps
+  pub told : IsWalking d.nfa.automaton.reverse q from.at (min (from.cache.searched + progress_len from.cache.progress) greatest) steps
+      (p.cache.clears ≡ from.cache.clears) (HasCleared from.cache p.cache) (told_of p.cache)
 
 -- nothing else of the cache changes where it begins
 pub started_moves : (v w : CacheValue) (index : ℕ) → w ≡ record v {
@@ -110,6 +114,12 @@ begins_on d q v w m n at id index best best2 e there held = record {
   quits = no_quit_yet (reader d) q.haystack at;
   read = λ k lt. absurd (omega (arith, lt));
   changes = changes_moved d (IsMadeAt (reader d) q.haystack at (value_before (reader d) q at) 0) v v w 0 moved (unchanged v 0 refl);
+  told = walking_first d.nfa.automaton.reverse q at (min (v.searched + progress_len v.progress) greatest) (w.clears ≡ v.clears)
+      (HasCleared v w) (told_of w) (ap (λ (c : CacheValue). c.clears) e)
+      (ap told_of e ∙ ap (λ (i : ℕ). record {
+        searched = min (v.searched + progress_len v.progress) greatest;
+        progress = Some (record { start = i; at = i });
+      }) there);
 }
   where
     moved : IsMoved v w
@@ -152,6 +162,49 @@ module _ (d : Dfa) (q : Search) (made : IsDfa d) (from p : Point) (own : IsCache
       made_within (reader d) h from.at was (x.steps + l) u le b t
       (made_behind (reader d) h from.at p.at x.steps l x.place was x.read b t
       (subst (λ (s : StateValue). IsMadeAt (reader d) h p.at s l b t) (sym later) y))) p.cache w l c)
+  abbrev before : ℕ
+  before = min (from.cache.searched + progress_len from.cache.progress) greatest
+
+  -- how far the search came that goes on
+  abbrev Walks : ℕ → CacheValue → Type 0
+  Walks units v =
+      IsWalking rev q from.at before units (v.clears ≡ from.cache.clears) (HasCleared from.cache v) (told_of v)
+
+  -- what is told with the unit here
+  module _ (v : CacheValue) (kept : GrowsOrClears d p.cache v) where
+    cleared_since : HasCleared p.cache v → HasCleared from.cache v
+    cleared_since y = ⊎_elim
+        (λ (k : KeepsOn d from.cache p.cache index). subst (λ (n : ℕ). min (n + 1) greatest ≤ v.clears) k.grows.clears y)
+        (λ (c : HasCleared from.cache p.cache). cleared_grows d from.cache p.cache v c (inr y))
+        x.kept
+
+    walks_here : IsWalking rev q from.at before x.steps (p.cache.clears ≡ from.cache.clears) (HasCleared from.cache v) (told_of p.cache)
+    walks_here = walking_by rev q from.at before x.steps (p.cache.clears ≡ from.cache.clears) (HasCleared from.cache p.cache)
+        (HasCleared from.cache v) (told_of p.cache) (λ c. cleared_grows d from.cache p.cache v c kept) x.told
+
+    unit_by : (over : Bool) → TellsUnit d over q p.at p.cache v →
+        UnitBy (v.clears ≡ p.cache.clears) (HasCleared from.cache v) (index_there rev q from.at x.steps) (told_of p.cache) (told_of v) over
+    unit_by over told = by (subst (λ (i : ℕ). TellsUnit d over q i p.cache v) x.place told)
+      where
+        by : TellsUnit d over q (place_of rev from.at x.steps) p.cache v →
+            UnitBy (v.clears ≡ p.cache.clears) (HasCleared from.cache v) (index_there rev q from.at x.steps) (told_of p.cache) (told_of v)
+            over
+        by (inl e) = inl e
+        by (inr c) = inr (cleared_since c.0, c.1)
+
+    abbrev IsToldHere : Bool → Type 0
+    IsToldHere over = ((told_of v ≡ walk_told over rev q from.at before 0 x.steps) × (v.clears ≡ from.cache.clears)) ⊎
+        (HasCleared from.cache v × ((m : ℕ) × (m ≤ x.steps) × (told_of v ≡ walk_told over rev q from.at 0 m x.steps)))
+
+    told_here : (over : Bool) → TellsUnit d over q p.at p.cache v → IsToldHere over
+    told_here over told = unit_walked rev q from.at before x.steps (p.cache.clears ≡ from.cache.clears) (v.clears ≡ p.cache.clears)
+        (v.clears ≡ from.cache.clears) (HasCleared from.cache v) (λ a b. b ∙ a) (told_of p.cache) (told_of v) walks_here over
+        (unit_by over told)
+
+    walks_next : TellsUnit d false q p.at p.cache v → Walks (suc x.steps) v
+    walks_next told = unit_walks rev q from.at before x.steps (p.cache.clears ≡ from.cache.clears) (v.clears ≡ p.cache.clears)
+        (v.clears ≡ from.cache.clears) (HasCleared from.cache v) (λ a b. b ∙ a) (told_of p.cache) (told_of v) walks_here
+        (unit_by false told)
 
   -- what is kept of a cache, where a way goes on from here
   module _ (best : Option (ℕ × ℕ)) (c : Point) (l : ℕ) (g : GoesTo d h (record p { best = best }) c l) where
@@ -176,9 +229,9 @@ module _ (d : Dfa) (q : Search) (made : IsDfa d) (from p : Point) (own : IsCache
 
     -- it stands further on
     stands_further : IsCacheOf d c.cache → IsRow c.cache c.id → IsWithinSpan q c.at → left_at rev q p.at ≡ l + left_at rev q c.at →
-        TellsNone (reader d) h p.at now l →
+        TellsNone (reader d) h p.at now l → Walks (x.steps + l) c.cache →
         StandsOn d q from c
-    stands_further his row there left none =
+    stands_further his row there left none walks =
         let read = g.read now (names_held x.state) in record {
           steps = x.steps + l;
           place = g.place ∙ (ap (λ (i : ℕ). place_of rev i l) x.place ∙ place_add rev from.at x.steps l);
@@ -196,6 +249,7 @@ module _ (d : Dfa) (q : Search) (made : IsDfa d) (from p : Point) (own : IsCache
           read = read_there (reader d) h from.at p.at x.steps x.place was l x.read
               (subst (λ (s : StateValue). AreRead (reader d) h p.at s l) (sym later) read);
           changes = changes_so c.cache l (x.steps + l) (omega arith) (g.changes now (names_held x.state));
+          told = walks;
         }
       where
         sum_left : (a b c : ℕ) → a ≡ x.steps + b → b ≡ l + c → a ≡ x.steps + l + c
@@ -237,11 +291,12 @@ module _ (d : Dfa) (q : Search) (made : IsDfa d) (from p : Point) (own : IsCache
     few_names : n ≤ p.inserted + 1 * most_inserts d → n ≤ from.inserted + units_at (reader d) q from.at * most_inserts d
     few_names f = many_names (units_at (reader d) q from.at) (let a = some_here in let e = x.units in omega (arith, a, e)) f
 
-    refuses : (e : MatchErrorKind) → Leaves d h p v m n 0 →
+    refuses : (e : MatchErrorKind) → Leaves d h p v m n 0 → IsRefusedThere rev q p.at e →
+        TellsUnit d (ends_there rev (is_quit_error e) q p.at) q p.at p.cache v →
         ((told_left (rest_at (reader d) q from.at).ends (rest_at (reader d) q from.at).refusal ≡ Err e) ⊎ (e ≡ NoMemory) ⊎
         ((y : ℕ) × (e ≡ GaveUp y) × GivesUpFrom d v q from.at y)) →
         ReadsOn d q from.at from.cache v from.determinized m from.inserted n (Err e)
-    refuses e leaves why = record {
+    refuses e leaves there told why = record {
       ok = tt;
       err = why;
       kept = grows_or_clears_trans d from.cache p.cache v made own kept_here leaves.kept;
@@ -251,15 +306,23 @@ module _ (d : Dfa) (q : Search) (made : IsDfa d) (from p : Point) (own : IsCache
       quits = tt;
       changes = changes_so v 1 (units_at (reader d) q from.at) (let a = some_here in let e = x.units in omega (arith, a, e))
           (leaves.changes now (names_held x.state));
+      anew = (
+        x.steps,
+        let a = some_here in let e = x.units in omega (arith, a, e),
+        subst (λ (i : ℕ). IsRefusedThere rev q i e) x.place there,
+        x.quits,
+        told_here v leaves.kept (ends_there rev (is_quit_error e) q (place_of rev from.at x.steps))
+            (subst (λ (i : ℕ). TellsUnit d (ends_there rev (is_quit_error e) q i) q p.at p.cache v) x.place told),
+      );
     }
 
     pub ends_refused : (e : MatchErrorKind) → Refuses d q p v m n e → ReadsOn d q from.at from.cache v from.determinized m from.inserted n
         (Err e)
     ends_refused (Quit b y) t =
         let left = x.rest ∙ quit_left (reader d) h (left_at rev q p.at) p.at now b alive t.1 t.2 in
-        refuses (Quit b y) t.0 (inl (ap (λ (rest : Rest). told_left rest.ends rest.refusal) left
+        refuses (Quit b y) t.0 t.3 t.4 (inl (ap (λ (rest : Rest). told_left rest.ends rest.refusal) left
         ∙ ap (λ (i : ℕ). Err (Quit b i)) (sym t.3)))
-    ends_refused (GaveUp y) t = refuses (GaveUp y) t.0.leaves (inr (inr (
+    ends_refused (GaveUp y) t = refuses (GaveUp y) t.0.leaves t.2 t.5 (inr (inr (
       y,
       refl,
       record {
@@ -273,7 +336,7 @@ module _ (d : Dfa) (q : Search) (made : IsDfa d) (from p : Point) (own : IsCache
             (no_quit_on (reader d) h from.at p.at x.steps 1 x.place x.quits (no_quit_once (reader d) h p.at t.1));
       },
     )))
-    ends_refused NoMemory t = refuses NoMemory t.leaves (inr (inl refl))
+    ends_refused NoMemory t = refuses NoMemory t.0.leaves tt t.1 (inr (inl refl))
     ends_refused (HaystackTooLong len) t = absurd t
     ends_refused (UnsupportedAnchored mode) t = absurd t
     ends_refused NotAPair t = absurd t
@@ -352,6 +415,33 @@ module _ (d : Dfa) (q : Search) (made : IsDfa d) (from p : Point) (own : IsCache
           (no_quit_on (reader d) h from.at p.at x.steps 1 x.place x.quits (no_quit_once (reader d) h p.at quiet_here))),
     )
 
+    kept_over : GrowsOrClears d p.cache v
+    kept_over = grows_or_clears_trans d p.cache t.behind v made mine
+        (⊎_elim
+        (λ (f : Follows d h p (point t.behind m n (place_of rev p.at 1) position.id (pair_of position.best)) 1). inl f.grows)
+        (λ (y : HasCleared p.cache t.behind). inr y)
+        t.goes.kept)
+        (inl (grows_moved d t.behind v moved))
+
+    told_over : IsToldHere v kept_over true →
+        ((told_of v ≡ told_from (reader d) q from.at (told_of from.cache)) × (v.clears ≡ from.cache.clears)) ⊎
+        (HasCleared from.cache v × ((m : ℕ) × (m < units) × (told_of v ≡ walk_over rev q from.at 0 m (units - 1))))
+    told_over (inl e) = inl (
+      e.0 ∙ walk_is_told (reader d) q from.at p.at x.steps (told_of from.cache) start within x.place x.left all_units,
+      e.1,
+    )
+    told_over (inr c) = inr (
+      c.0,
+      (
+        c.1.0,
+        let l = c.1.1 in let e = all_units in omega (arith, l, e),
+        c.1.2 ∙ ap (walk_over rev q from.at 0 c.1.0) (let e = all_units in last_unit units x.steps e),
+      ),
+    )
+      where
+        last_unit : (u k : ℕ) → u ≡ k + 1 → k ≡ u - 1
+        last_unit u k e = omega (arith, e)
+
     stops_so : (w : WalkState) → IsAnswer w → (StartsQuietly d q (came rev q from.at) → HasReadQuietly d q w.walk) →
         ReadsOn d q from.at from.cache v from.determinized m from.inserted n (Ok w)
     stops_so w ok quits = record {
@@ -375,6 +465,7 @@ module _ (d : Dfa) (q : Search) (made : IsDfa d) (from p : Point) (own : IsCache
       quits = quits;
       changes = changes_moved d (IsMadeAt (reader d) h from.at was units) from.cache t.behind v units moved
           (changes_so t.behind 1 units (let e = all_units in omega (arith, e)) (t.goes.changes now (names_held x.state)));
+      anew = told_over (told_here v kept_over true t.told);
     }
 
     -- with none
@@ -445,8 +536,8 @@ module _ (d : Dfa) (q : Search) (made : IsDfa d) (from p : Point) (own : IsCache
       where
         quiet_by : (b : Bool) → StartsQuietly d q (came rev q from.at) →
             HasReadQuietly d q (stopped b position.id position.at position.best).walk
-        quiet_by true before = subst (λ (i : ℕ). StartsQuietly d q (suc (came rev q i))) (sym t.place) (quietly before)
-        quiet_by false before = tt
+        quiet_by true quiet = subst (λ (i : ℕ). StartsQuietly d q (suc (came rev q i))) (sym t.place) (quietly quiet)
+        quiet_by false quiet = tt
 
         by : (b : Bool) → tells ≡ b → IsAnswer (stopped tells position.id position.at position.best)
         by true e = subst (λ (b : Bool). IsAnswer (stopped b position.id position.at position.best)) (sym e) (ends_some e)
@@ -463,8 +554,17 @@ module _ (d : Dfa) (q : Search) (made : IsDfa d) (from p : Point) (own : IsCache
     pub stands_next : StandsOn d q from (point v m n position.at position.id (pair_of position.best))
     stands_next = stands_further p.best (point v m n position.at position.id (pair_of position.best)) 1
         (subst (λ (i : ℕ). GoesTo d h p (point v m n i position.id (pair_of position.best)) 1) (sym t.1) t.0) his t.3 next_there
-        (left_next rev q p.at position.at within t.2 t.1) tells_none
+        (left_next rev q p.at position.at within t.2 t.1) tells_none (walks_then (let one : suc x.steps ≡ x.steps + 1 = omega arith in one))
       where
+        kept_on_next : GrowsOrClears d p.cache v
+        kept_on_next = ⊎_elim
+            (λ (f : Follows d h p (point v m n (place_of rev p.at 1) position.id (pair_of position.best)) 1). inl f.grows)
+            (λ (y : HasCleared p.cache v). inr y)
+            t.0.kept
+
+        walks_then : suc x.steps ≡ x.steps + 1 → Walks (x.steps + 1) v
+        walks_then one = subst (λ (k : ℕ). Walks k v) one (walks_next v kept_on_next t.5)
+
         tells_none : TellsNone (reader d) h p.at now 1
         tells_none zero l = ap (λ (i : ℕ). tells_end (reader d) h i (state_behind (reader d) h p.at now 1)) (place_zero rev p.at)
             ∙ t.4 now x.state
@@ -483,6 +583,9 @@ module _ (d : Dfa) (q : Search) (is_reverse : Bool) (is : is_reverse ≡ d.nfa.a
       (left_at is_reverse q i - left_at is_reverse q j) g.0 mine row there
       (ap (λ (b : Bool). left_at b q i) (sym is) ∙ (apart (left_at is_reverse q i) (left_at is_reverse q j) closer
       ∙ ap (λ (b : Bool). (left_at is_reverse q i - left_at is_reverse q j) + left_at b q j) is)) tells_none
+      (walking_later d.nfa.automaton.reverse q from.at (min (from.cache.searched + progress_len from.cache.progress) greatest) x.steps
+      (x.steps + (left_at is_reverse q i - left_at is_reverse q j)) (v.clears ≡ from.cache.clears) (HasCleared from.cache v) (told_of v)
+      (omega arith) x.told)
     where
       apart : (a b : ℕ) → b ≤ a → a ≡ (a - b) + b
       apart a b l = omega (arith, l)

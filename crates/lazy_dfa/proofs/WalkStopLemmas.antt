@@ -45,7 +45,7 @@ module _ (d : Dfa) (q : Search) (v : CacheValue) (m n : ℕ) (stop : Stop) (stop
   more_call after is found walk =
       still_call d q v m n (Stopped stop) after fine tells (ap (λ (b : Bool). not (b
       || stop.at == last_place d.nfa.automaton.reverse q)) is)
-      (subst (IsWalk d v q) (sym walk) goes) tt (λ none. never (sym none ∙ found)) (λ quiet. subst (HasReadQuietly d q) (sym walk) quiet)
+      (subst (IsWalk d v q) (sym walk) goes) tt (λ none. never (sym none ∙ found)) (λ quiet. subst (HasReadQuietly d q) (sym walk) quiet) tt
     where
       one : ((if counted then map (end_of stop.at) (drop stop.index listing) else []) ≡
           (stop.at, slice_index listing stop.index) ∷ (if counted then map (end_of stop.at) (drop (stop.index + 1) listing) else [])) ×
@@ -81,7 +81,7 @@ module _ (d : Dfa) (q : Search) (v : CacheValue) (m n : ℕ) (stop : Stop) (stop
         still_call d q v m n (Stopped stop) ended fine
         (tells_none (reader d) q (Stopped stop) (behind ∙ past_last (reader d) q stop.at stops.within last))
         (ap (λ (b : Bool). not (more || b)) (is_same stop.at (last_place d.nfa.automaton.reverse q) last) ∙ or_true more)
-        tt tt (λ none. refl) (λ quiet. tt)
+        tt tt (λ none. refl) (λ quiet. tt) tt
       where
         last : stop.at ≡ last_place d.nfa.automaton.reverse q
         last = subst (λ (b : Bool). stop.at ≡ last_place b q) is here
@@ -116,7 +116,7 @@ module _ (d : Dfa) (q : Search) (v : CacheValue) (m n : ℕ) (stop : Stop) (made
       ∙ ap not (is_other stop.at (last_place d.nfa.automaton.reverse q) apart_so))
       (behind d q v m n stop stops no_more ∙ past_rest (reader d) q stop.at stops.within apart_so)
       (past_units (reader d) q stop.at stops.within apart_so)
-      (inl (grows_refl d v, refl)) (omega arith) (omega arith) (λ fresh. no_fresh fresh) resumes_quietly (unchanged v 0 refl) result
+      (inl (grows_refl d v, refl)) (omega arith) (omega arith) (λ fresh. no_fresh fresh) resumes_quietly (inl (refl, refl)) (unchanged v 0 refl) result
       (subst (λ (b : Bool). ReadsOn d q (place_of b stop.at 1) v new m m2 n n2 result) is x)
     where
       no_fresh : {P : Type 0} → Stopped stop ≡ Fresh → P

@@ -29,12 +29,14 @@ use Rattle.lazy_dfa.specs.Linked.{IsMoved}
 use Rattle.lazy_dfa.specs.Readers.{is_quit}
 use Rattle.lazy_dfa.specs.Passes.{index_at, is_empty, is_dead}
 use Rattle.lazy_dfa.specs.Points.{Point, point, began}
-use Rattle.lazy_dfa.specs.SearchAnswers.{pair_of, running_at}
+use Rattle.lazy_dfa.specs.LeftTold.{told_at}
+use Rattle.lazy_dfa.specs.SearchAnswers.{pair_of, told_of, running_at}
 use Rattle.lazy_dfa.specs.PassPlaces.{last_place, finished, finished_where, error_of, gave_up_at}
 use Rattle.lazy_dfa.specs.Turns.{FailsOn, GoesOne, IsSeen, IsTurn}
 use Rattle.lazy_dfa.specs.Walks.{value_past, StopsAt}
 use Rattle.lazy_dfa.specs.WalkAnswers.{lists_more}
-use Rattle.lazy_dfa.specs.WalkTurns.{tells_end, is_over, IsStepTo, Refuses, StopsWith, ReadsInto}
+use Rattle.lazy_dfa.specs.WalkTurns.{tells_end, is_over, TellsUnit, IsStepTo, Refuses, StopsWith, ReadsInto}
+use Rattle.lazy_dfa.proofs.WalkToldLemmas.{unit_stepped, unit_finished}
 use Rattle.lazy_dfa.proofs.ChangeLemmas.{one_state}
 use Rattle.lazy_dfa.proofs.SpanTurnLemmas.{held_moved, leaves_forth, goes_back, began_moved, moved_is, some_moved, runs_there}
 use Rattle.lazy_dfa.proofs.SpanTurnLemmas.{finished_moves, fails_back, leaves_back}
@@ -125,70 +127,95 @@ module _ (d : Dfa) (q : Search) (is_reverse : Bool) (same : is_reverse ≡ d.nfa
       ∙ began_moved place v0.progress) (some_moved v0 v1 place moves) g
 
   -- where a step leads, if not to a quit byte
-  pub step_leads : (to : ℕ) (best2 : Option (ℕ × ℕ)) (turn : Turn) → (turn ≡ Quits → ⊥) →
+  pub step_leads : (to : ℕ) (best2 : Option (ℕ × ℕ)) (turn : Turn) → place ≡ gave_up_at rev q at → (turn ≡ Quits → ⊥) →
       IsSeen d false q.haystack u before v2 m2 n2 to best2 turn → IsStepTo d q from v2 m2 n2 to best2 turn
-  step_leads to best2 GoesOn never x = (goes_from to best2 x.0, x.2)
-  step_leads to best2 Ends never x = (
+  step_leads to best2 GoesOn there never x = (goes_from to best2 x.0, x.2, unit_stepped d q at place there v0 v1 v2 moves x.1)
+  step_leads to best2 Ends there never x = (
     goes_from to best2 x.0,
     λ s held. ⊎_elim
         (λ (y : stops_behind (reader d) false q.haystack at s 0 ≡ true). absurd (true≢false (sym y)))
         (λ (y : is_dead (state_behind (reader d) q.haystack at s 1) ≡ true). y)
         (x.2 s (held_moved v0 v1 id s moved held)),
+    unit_stepped d q at place there v0 v1 v2 moves x.1,
   )
-  step_leads to best2 Quits never x = absurd (never refl)
+  step_leads to best2 Quits there never x = absurd (never refl)
 
   -- where it is refused
   module _ (v3 : CacheValue) (there : place ≡ gave_up_at rev q at) (is : u ≡ unit_at rev q.haystack at) where
     fails_forth : IsMoved v2 v3 → FailsOn d q.haystack from v2 m2 n2 0 → FailsOn d q.haystack from v3 m2 n2 0
     fails_forth e f = record { leaves = leaves_forth d q.haystack from v2 v3 m2 n2 0 e f.leaves; unknown = f.unknown }
 
-    refused_before : (e : CacheError) → IsTurn d false q.haystack u before v2 m2 n2 (Err e) → Refuses d q from v2 m2 n2 (error_of place e)
-    refused_before NoMemory turn = fails_back d v0 v1 moved q.haystack m1 n1 at id best v2 m2 n2 0 turn.0
-    refused_before GaveUp turn = (
+    -- what is told where the refused unit is the last one, or isn't
+    abbrev Tells : CacheValue → Type 0
+    Tells v = TellsUnit d (at == last_place rev q) q at v0 v
+
+    before_told : (e : CacheError) → IsTurn d false q.haystack u before v2 m2 n2 (Err e) → TellsUnit d false q at v0 v2
+    before_told NoMemory turn = unit_stepped d q at place there v0 v1 v2 moves turn.2
+    before_told GaveUp turn = inl (
+      ap told_of (turn.3 ∙ moves) ∙ ap (λ (x : ℕ). told_at x (told_of v0)) there,
+      ap (λ (v : CacheValue). v.clears) (turn.3 ∙ moves),
+    )
+
+    refused_before : (e : CacheError) → IsTurn d false q.haystack u before v2 m2 n2 (Err e) → Tells v2 →
+        Refuses d q from v2 m2 n2 (error_of place e)
+    refused_before NoMemory turn tells = (fails_back d v0 v1 moved q.haystack m1 n1 at id best v2 m2 n2 0 turn.0, tells)
+    refused_before GaveUp turn tells = (
       fails_back d v0 v1 moved q.haystack m1 n1 at id best v2 m2 n2 0 turn.0,
       ap (is_quit d.quits) (sym is) ∙ turn.1,
       there,
       λ s held. turn.2 s (held_moved v0 v1 id s moved held),
       λ far. ap (λ (v : CacheValue). running_at v.progress) turn.3 ∙ runs_there v0 v1 place moves runs,
+      tells,
     )
 
     refused_last : (e : CacheError) → at ≡ last_place rev q → v3 ≡ finished place v2 → IsTurn d false q.haystack u before v2 m2 n2 (Err e) →
-        Refuses d q from v3 m2 n2 (error_of place e)
-    refused_last NoMemory last f turn = fails_forth (finished_moves v2 v3 place f) (refused_before NoMemory turn)
-    refused_last GaveUp last f turn =
-        let t = refused_before GaveUp turn in
+        Tells v3 → Refuses d q from v3 m2 n2 (error_of place e)
+    refused_last NoMemory last f turn tells = (
+      fails_forth (finished_moves v2 v3 place f) (fails_back d v0 v1 moved q.haystack m1 n1 at id best v2 m2 n2 0 turn.0),
+      tells,
+    )
+    refused_last GaveUp last f turn tells =
         let at_place : moved_to place v2.progress ≡ v2.progress =
         ap (λ (c : CacheValue). moved_to place c.progress) (turn.3 ∙ moves)
         ∙ (moved_twice place v0.progress ∙ sym (ap (λ (c : CacheValue). c.progress) (turn.3 ∙ moves))) in (
-          fails_forth (finished_moves v2 v3 place f) t.0,
-          t.1,
-          t.2,
+          fails_forth (finished_moves v2 v3 place f) (fails_back d v0 v1 moved q.haystack m1 n1 at id best v2 m2 n2 0 turn.0),
+          ap (is_quit d.quits) (sym is) ∙ turn.1,
+          there,
           λ s held. ap (λ (c : CacheValue). lacks_room d c (state_behind (reader d) q.haystack at s 1)) f
-              ∙ (still_lacks d v2 place (state_behind (reader d) q.haystack at s 1) at_place ∙ t.3 s held),
+              ∙ (still_lacks d v2 place (state_behind (reader d) q.haystack at s 1) at_place ∙ turn.2 s (held_moved v0 v1 id s moved held)),
           λ far. absurd (far last),
+          tells,
         )
+
+    wanted_is : {wanted : Bool} → wanted ≡ (at == last_place is_reverse q) → wanted ≡ (at == last_place rev q)
+    wanted_is w = w ∙ ap (λ (b : Bool). at == last_place b q) same
 
     pub step_refused : (e : CacheError) (err : MatchErrorKind) (wanted : Bool) → wanted ≡ (at == last_place is_reverse q) →
         v3 ≡ finished_where wanted place v2 → err ≡ error_of place e →
         IsTurn d false q.haystack u before v2 m2 n2 (Err e) → Refuses d q from v3 m2 n2 err
     step_refused e err true w f told turn = subst (λ (x : MatchErrorKind). Refuses d q from v3 m2 n2 x) (sym told)
-        (refused_last e (eqb-true at (last_place is_reverse q) (sym w) ∙ ap (λ (b : Bool). last_place b q) same) f turn)
+        (refused_last e (eqb-true at (last_place is_reverse q) (sym w) ∙ ap (λ (b : Bool). last_place b q) same) f turn
+        (subst (λ (b : Bool). TellsUnit d b q at v0 v3) (wanted_is w)
+        (unit_finished d q at place there v0 v2 v3 f (before_told e turn))))
     step_refused e err false w f told turn = subst (λ (x : MatchErrorKind). Refuses d q from v3 m2 n2 x) (sym told)
-        (subst (λ (c : CacheValue). Refuses d q from c m2 n2 (error_of place e)) (sym f) (refused_before e turn))
+        (subst (λ (c : CacheValue). Refuses d q from c m2 n2 (error_of place e)) (sym f) (refused_before e turn
+        (subst (λ (b : Bool). TellsUnit d b q at v0 v2) (wanted_is w) (before_told e turn))))
 
   -- by a quit byte
-  pub step_quits : (to : ℕ) (best2 : Option (ℕ × ℕ)) (turn : Turn) (v3 : CacheValue) (b index : ℕ) (err : MatchErrorKind) → IsMoved v2 v3 →
+  pub step_quits : (to : ℕ) (best2 : Option (ℕ × ℕ)) (turn : Turn) (v3 : CacheValue) (b index : ℕ) (err : MatchErrorKind) → place ≡ gave_up_at rev q at →
+      v3 ≡ finished place v2 →
       u ≡ unit_at rev q.haystack at → u ≡ Some b →
       index ≡ index_at is_reverse at → err ≡ Quit b index → turn ≡ Quits → IsSeen d false q.haystack u before v2 m2 n2 to best2 turn →
       Refuses d q from v3 m2 n2 err
-  step_quits to best2 turn v3 b index err after is some here told e seen =
+  step_quits to best2 turn v3 b index err there ends is some here told e seen =
       let x = subst (λ (t : Turn). IsSeen d false q.haystack u before v2 m2 n2 to best2 t) e seen in
       let byte : x.2.0 ≡ b = one_byte x.2.0 b (sym x.2.1 ∙ some) in
       subst (λ (o : MatchErrorKind). Refuses d q from v3 m2 n2 o) (sym told) (
-        leaves_forth d q.haystack from v2 v3 m2 n2 0 after (leaves_back d v0 v1 moved q.haystack m1 n1 at id best v2 m2 n2 0 x.0),
+        leaves_forth d q.haystack from v2 v3 m2 n2 0 (finished_moves v2 v3 place ends) (leaves_back d v0 v1 moved q.haystack m1 n1 at id best v2 m2 n2 0 x.0),
         sym is ∙ some,
         ap (has d.quits) (sym byte) ∙ x.2.2,
         here ∙ ap (λ (b : Bool). index_at b at) same,
+        unit_finished d q at place there v0 v2 v3 ends (unit_stepped d q at place there v0 v1 v2 moves x.3),
       )
     where
       one_byte : (a b : ℕ) → Some a ≡ Some b → a ≡ b
@@ -224,6 +251,7 @@ module _ (d : Dfa) (q : Search) (is_reverse : Bool) (same : is_reverse ≡ d.nfa
     ended = ended ∙ ap (λ (i : ℕ). finished i v) (there ∙ ap (λ (b : Bool). gave_up_at b q p.at) same);
     listed = tells_there (pair_of position.best) x;
     why = λ none s held. by turn x over none s held;
+    told = unit_finished d q p.at place (there ∙ ap (λ (b : Bool). gave_up_at b q p.at) same) p.cache v w ended (told_of_it turn x);
   }
     where
       at_last : (a b : Bool) → a ≡ false → (a || b) ≡ true → b ≡ true
@@ -237,6 +265,11 @@ module _ (d : Dfa) (q : Search) (is_reverse : Bool) (same : is_reverse ≡ d.nfa
           ∙ ap (λ (b : Bool). last_place b q) same)
       by Ends x over none s held = inl (x.1 s held)
       by Quits x over none s held = absurd x
+
+      told_of_it : (t : Turn) → IsStepTo d q p v m n id (pair_of position.best) t → TellsUnit d false q p.at p.cache v
+      told_of_it GoesOn x = x.2
+      told_of_it Ends x = x.2
+      told_of_it Quits x = absurd x
 
   not_last : is_over turn tells last ≡ false → p.at ≢ last_place is_reverse q
   not_last over e = by turn over (is_last ∙ eq-eqb p.at (last_place is_reverse q) e)
@@ -259,8 +292,15 @@ module _ (d : Dfa) (q : Search) (is_reverse : Bool) (same : is_reverse ≡ d.nfa
     (λ e. not_last over (e ∙ ap (λ (b : Bool). last_place b q) (sym same))),
     subst (IsRow v) (sym is) (row_of turn x over),
     λ s held. sym (tells_there (pair_of position.best) x s held) ∙ none turn over,
+    told_on turn x over,
   )
     where
+      told_on : (t : Turn) → IsStepTo d q p v m n id (pair_of position.best) t → is_over t tells last ≡ false →
+          TellsUnit d false q p.at p.cache v
+      told_on GoesOn x over = x.2
+      told_on Ends x over = absurd (true≢false over)
+      told_on Quits x over = absurd x
+
       row_of : (t : Turn) → IsStepTo d q p v m n id (pair_of position.best) t → is_over t tells last ≡ false → IsRow v id
       row_of GoesOn x over = x.1
       row_of Ends x over = absurd (true≢false over)

@@ -213,7 +213,7 @@ one_at_most a b k m f = let e = suc-mul k m in omega (arith, e, f)
 -- ---- a start that is refused
 
 -- a start that clears leaves nothing counted
-fresh_start : (old new : CacheValue) → WasCleared old new 1 → IsFresh (told_of new)
+pub fresh_start : (old new : CacheValue) → WasCleared old new 1 → IsFresh (told_of new)
 fresh_start old new w = fresh_anew (told_of old) (told_of new) (λ i. record { searched = w.searched i; progress = w.progress i })
 
 pub same_told : (d : Dfa) (a b : CacheValue) → Grew d a b → told_of b ≡ told_of a
@@ -236,7 +236,7 @@ module _ (d : Dfa) (q : Search) (old new : CacheValue) (m1 m2 n1 n2 : ℕ) (e : 
   abbrev length : ℕ
   length = pass_len (reader d) q.anchored q.earliest q.haystack (span_len q) at
 
-  refused_first : IsRefusedFirst d.nfa.automaton.reverse at e
+  pub refused_first : IsRefusedFirst d.nfa.automaton.reverse at e
   refused_first = ⊎_elim
       (λ (x : (start_refusal d (pass_start d q) ≢ None) × (Err e ≡ told whole)). by (start_refusal d (pass_start d q)) refl x.0 x.1)
       (λ (x : (e ≡ SearchNoMemory) ⊎ ((e ≡ GaveUp at) × (lacks_room d new (first_value (reader d) q.anchored q.haystack at) ≡ true) ×

@@ -1,17 +1,20 @@
 -- What calls of a walk answer, how many units they read, and what they tell a cache of how far they came.
-use Rattle.std.specs.Prelude.{◌≡◌, ◌≢◌, ◌⊎◌, ℕ, zero, suc, ◌+◌, ◌*◌, ◌<◌, ◌≤◌, ◌==◌, ◌&&◌, ◌||◌, not, nat_le, nat_lt, min, Bool, true}
+use Rattle.std.specs.Prelude.{◌≡◌, ◌≢◌, ◌⊎◌, ℕ, zero, suc, ◌+◌, ◌-◌, ◌*◌, ◌<◌, ◌≤◌, ◌==◌, ◌&&◌, ◌||◌, not, nat_le, nat_lt, min, Bool, true}
 use Rattle.std.specs.Prelude.{false, List, [], ◌∷◌, length, take, Option, Some, None, Result, Ok, Err, IfOk, IfErr, OnOk, if◌then◌else◌, ⊤}
 use Rattle.std.specs.Prelude.{slice_set}
 use Rattle.std.specs.List.{list_all}
 use Rattle.search_types.specs.declared.match_error.MatchErrorKind.{MatchErrorKind}
-use Rattle.search_types.specs.declared.match_error.MatchErrorKind.TheVariants.{GaveUp, NoMemory}
+use Rattle.search_types.specs.declared.match_error.MatchErrorKind.TheVariants.{Quit, GaveUp, HaystackTooLong, UnsupportedAnchored, NotAPair}
+use Rattle.search_types.specs.declared.match_error.MatchErrorKind.TheVariants.{NoMemory}
 use Rattle.search_types.specs.Inputs.{Search}
 use Rattle.search_types.specs.Modes.{is_supported}
 use Rattle.search_types.specs.Places.{counts}
 use Rattle.nfa_core.specs.Places.{first}
 use Rattle.nfa_core.specs.Ways.{place_of}
 use Rattle.determinize_core.specs.States.{StateValue}
-use Rattle.lazy_dfa.specs.Caches.{CacheValue, greatest, progress_len, lacks_room}
+use Rattle.lazy_dfa.specs.AnewTold.{IsFresh}
+use Rattle.lazy_dfa.specs.Caches.{CacheValue, greatest, distance, progress_len, lacks_room}
+use Rattle.lazy_dfa.specs.LeftTold.{is_quit_error, IsRefusedFirst}
 use Rattle.lazy_dfa.specs.Changes.{Changes, IsMadeAt, IsMadeFirst}
 use Rattle.lazy_dfa.specs.declared.overlapping_state.Stop.{Stop}
 use Rattle.lazy_dfa.specs.declared.overlapping_state.Walk.{Walk}
@@ -19,7 +22,7 @@ use Rattle.lazy_dfa.specs.declared.overlapping_state.Walk.TheVariants.{Fresh, En
 use Rattle.lazy_dfa.specs.Dfas.{Dfa, reader}
 use Rattle.lazy_dfa.specs.Linked.{Grows, HasCleared, GrowsOrClears}
 use Rattle.lazy_dfa.specs.MadePasses.{span_len}
-use Rattle.lazy_dfa.specs.Passes.{is_empty, is_dead, next_value, next_place, first_value}
+use Rattle.lazy_dfa.specs.Passes.{index_at, is_empty, is_dead, next_value, next_place, first_value}
 use Rattle.lazy_dfa.specs.PassLaws.{pass_len, HasNoQuit}
 use Rattle.lazy_dfa.specs.Readers.{Reader}
 use Rattle.lazy_dfa.specs.ScanLaws.{begins_at}
@@ -142,6 +145,80 @@ told_by_call r q w t =
       progress = None;
     } else t
 
+-- where a call is told to be that reads from a place on, at its unit k: at that byte, or at the last place of its span
+abbrev pub index_there : Bool → Search → ℕ → ℕ → ℕ
+index_there is_reverse q at k = gave_up_at is_reverse q (place_of is_reverse at k)
+
+-- what is told at unit k of the search that goes on since unit m, and what is when it ends there
+abbrev pub walk_running : Bool → Search → ℕ → ℕ → ℕ → ℕ → Told
+walk_running is_reverse q at before m k = record {
+  searched = before;
+  progress = Some (record { start = index_there is_reverse q at m; at = index_there is_reverse q at k });
+}
+
+abbrev pub walk_over : Bool → Search → ℕ → ℕ → ℕ → ℕ → Told
+walk_over is_reverse q at before m k = record {
+  searched = min (before + distance (index_there is_reverse q at m) (index_there is_reverse q at k)) greatest;
+  progress = None;
+}
+
+abbrev pub walk_told : Bool → Bool → Search → ℕ → ℕ → ℕ → ℕ → Told
+walk_told over is_reverse q at before m k = if over then walk_over is_reverse q at before m k else walk_running is_reverse q at before m k
+
+-- Whether the search has ended of a call that is refused at a place: it has at a quit byte, and with the last unit.
+abbrev pub ends_there : Bool → Bool → Search → ℕ → Bool
+ends_there is_reverse quits q at = quits || at == last_place is_reverse q
+
+-- what is left by a call that is refused at unit k, of a search that goes on since unit m
+abbrev pub walk_left : Bool → Bool → Search → ℕ → ℕ → ℕ → ℕ → Told
+walk_left is_reverse quits q at before m k = walk_told (ends_there is_reverse quits q (place_of is_reverse at k)) is_reverse q at before m k
+
+-- a call may be refused so at the unit at a place
+abbrev pub IsRefusedThere : Bool → Search → ℕ → MatchErrorKind → Type 0
+IsRefusedThere is_reverse q at (Quit b x) = x ≡ index_at is_reverse at
+IsRefusedThere is_reverse q at (GaveUp x) = x ≡ gave_up_at is_reverse q at
+IsRefusedThere is_reverse q at (HaystackTooLong len) = ⊥
+IsRefusedThere is_reverse q at (UnsupportedAnchored mode) = ⊥
+IsRefusedThere is_reverse q at NotAPair = ⊥
+IsRefusedThere is_reverse q at NoMemory = ⊤
+
+-- What a call has told that is refused, where nothing was cleared: nothing where the walk had failed, or is refused at its start.
+-- Else it was at a unit that it reads, behind units that aren't quit bytes.
+pub data LeavesCall (r : Reader) (q : Search) (w : Walk) (e : MatchErrorKind) (t new : Told) : Type 0 where
+  left_failed : w ≡ Failed e → new ≡ t → LeavesCall r q w e t new
+  left_at_start : w ≡ Fresh → IsRefusedFirst r.automaton.reverse (begins_at r q) e → new ≡ t → LeavesCall r q w e t new
+  left_at_unit : (k : ℕ) → k < call_units r q w → IsRefusedThere r.automaton.reverse q (place_of r.automaton.reverse (call_place r q w) k) e →
+      HasNoQuit r q.haystack (call_place r q w) k →
+      new ≡ walk_left r.automaton.reverse (is_quit_error e) q (call_place r q w) (min (t.searched + progress_len t.progress) greatest) 0 k →
+      LeavesCall r q w e t new
+
+-- What one tells in which the cache was cleared last: with the walk's start, or at unit m, from which on the way counts.
+pub data TellsCallAnew (r : Reader) (q : Search) (w : Walk) (new : Told) : Type 0 where
+  anew_at_start : w ≡ Fresh → (s : Told) → IsFresh s → new ≡ told_by_call r q w s → TellsCallAnew r q w new
+  anew_at : (m : ℕ) → m < call_units r q w → new ≡ walk_over r.automaton.reverse q (call_place r q w) 0 m (call_units r q w - 1) →
+      TellsCallAnew r q w new
+
+-- the same of one that is refused
+pub data FailsCallAnew (r : Reader) (q : Search) (w : Walk) (e : MatchErrorKind) (new : Told) : Type 0 where
+  fails_behind_start : w ≡ Fresh → (s : Told) → IsFresh s → LeavesCall r q w e s new → FailsCallAnew r q w e new
+  fails_behind : (m k : ℕ) → m ≤ k → k < call_units r q w →
+      IsRefusedThere r.automaton.reverse q (place_of r.automaton.reverse (call_place r q w) k) e →
+      HasNoQuit r q.haystack (call_place r q w) k →
+      new ≡ walk_left r.automaton.reverse (is_quit_error e) q (call_place r q w) 0 m k →
+      FailsCallAnew r q w e new
+
+-- both answers
+abbrev pub IsCallToldSince : Reader → Search → Walk → Result ⊤ MatchErrorKind → Told → Type 0
+IsCallToldSince r q w (Ok u) new = TellsCallAnew r q w new
+IsCallToldSince r q w (Err e) new = FailsCallAnew r q w e new
+
+-- How far a call came, by its answer: as it does where nothing is cleared, or by where the cache was cleared.
+abbrev pub IsCallTold : Reader → Search → Walk → Result ⊤ MatchErrorKind → CacheValue → CacheValue → Type 0
+IsCallTold r q w (Ok u) old new =
+    ((told_of new ≡ told_by_call r q w (told_of old)) × (new.clears ≡ old.clears)) ⊎ (HasCleared old new × TellsCallAnew r q w (told_of new))
+IsCallTold r q w (Err e) old new =
+    (LeavesCall r q w e (told_of old) (told_of new) × (new.clears ≡ old.clears)) ⊎ (HasCleared old new × FailsCallAnew r q w e (told_of new))
+
 -- ---- reading on
 
 -- the state before the unit at a place of the span, where all units before it are read
@@ -164,6 +241,19 @@ told_from r q at t = record {
       (units_at r q at)) greatest;
   progress = None;
 }
+
+-- how far reading on came, by its answer
+abbrev pub IsReadTold : Reader → Search → ℕ → Result WalkState MatchErrorKind → CacheValue → CacheValue → Type 0
+IsReadTold r q at (Ok w) old new =
+    ((told_of new ≡ told_from r q at (told_of old)) × (new.clears ≡ old.clears)) ⊎
+    (HasCleared old new × ((m : ℕ) × (m < units_at r q at) ×
+    (told_of new ≡ walk_over r.automaton.reverse q at 0 m (units_at r q at - 1))))
+IsReadTold r q at (Err e) old new =
+    (k : ℕ) × (k < units_at r q at) × IsRefusedThere r.automaton.reverse q (place_of r.automaton.reverse at k) e ×
+    HasNoQuit r q.haystack at k ×
+    (((told_of new ≡ walk_left r.automaton.reverse (is_quit_error e) q at (min (old.searched + progress_len old.progress) greatest) 0 k) ×
+    (new.clears ≡ old.clears)) ⊎
+    (HasCleared old new × ((m : ℕ) × (m ≤ k) × (told_of new ≡ walk_left r.automaton.reverse (is_quit_error e) q at 0 m k))))
 
 -- a unit that is read from there lacks a state
 pub record GivesUpFrom (d : Dfa) (v : CacheValue) (q : Search) (at x : ℕ) : Type 0 where
@@ -190,6 +280,7 @@ pub record ReadsOn (d : Dfa) (q : Search) (at : ℕ) (old new : CacheValue) (m1 
   pub quits : IfOk result (λ w. StartsQuietly d q (came d.nfa.automaton.reverse q at) → HasReadQuietly d q w.walk)
   pub changes : Changes d (IsMadeAt (reader d) q.haystack at (value_before (reader d) q at) (units_at (reader d) q at)) old new
       (units_at (reader d) q at)
+  pub anew : IsReadTold (reader d) q at result old new
 
 -- ---- what calls change
 
@@ -229,6 +320,7 @@ pub record MakesCall (d : Dfa) (q : Search) (old new : CacheValue) (m1 m2 n1 n2 
   pub inserted : n2 ≤ n1 + call_made (reader d) q w * most_inserts d
   pub quits : HasReadQuietly d q w → HasReadQuietly d q after.walk
   pub changes : Changes d (IsMadeOnCall d q w) old new (call_made (reader d) q w)
+  pub anew : IsCallTold (reader d) q w result old new
 
 -- ---- which patterns
 

@@ -9,7 +9,7 @@ ghost use Rattle.lazy_dfa.specs.Linked.{GrowsOrClears};
 ghost use Rattle.lazy_dfa.specs.SearchAnswers.{told_of};
 ghost use Rattle.lazy_dfa.specs.Steps.{most_inserts};
 ghost use Rattle.lazy_dfa.specs.Walks.{IsWalk, StopsAt, rest_of};
-ghost use Rattle.lazy_dfa.specs.WalkAnswers.{AnswersWalk, TellsNext, MakesCall, failed_by, told_by_call, reads_on, call_starts, call_made, IsMadeOnCall};
+ghost use Rattle.lazy_dfa.specs.WalkAnswers.{AnswersWalk, TellsNext, MakesCall, failed_by, told_by_call, LeavesCall, IsCallToldSince, reads_on, call_starts, call_made, IsMadeOnCall};
 ghost use Rattle.lazy_dfa.specs.declared.overlapping_state.Walk.TheVariants.{Fresh, Ended, Stopped};
 
 use crate::dfa::{Cache, DFA};
@@ -167,6 +167,10 @@ impl DFA {
         ensures changes { Changes self.now (IsMadeOnCall self.now input.now state.old.walk) cache.old cache.new (call_made (reader self.now) input.now state.old.walk) }
         ensures told { OnOk result (cache.new.clears ≡ cache.old.clears → cache.old.clears < greatest →
             told_of cache.new ≡ told_by_call (reader self.now) input.now state.old.walk (told_of cache.old)) }
+        ensures left_told { IfErr result (λ e. cache.new.clears ≡ cache.old.clears → cache.old.clears < greatest →
+            LeavesCall (reader self.now) input.now state.old.walk e (told_of cache.old) (told_of cache.new)) }
+        ensures told_since { (cache.new.clears ≡ cache.old.clears → ⊥) →
+            IsCallToldSince (reader self.now) input.now state.old.walk result (told_of cache.new) }
         ensures ends { OnOk result (state.new.found ≡ None → state.new.walk ≡ Ended) }
         ensures still { call_starts input.now state.old.walk ≡ 0 → reads_on (reader self.now) input.now state.old.walk ≡ false →
             TellsNext (reader self.now) input.now state.old.walk state.new result }
@@ -200,6 +204,10 @@ impl DFA {
         ensures changes { Changes self.now (IsMadeOnCall self.now input.now state.old.walk) cache.old cache.new (call_made (reader self.now) input.now state.old.walk) }
         ensures told { OnOk result (cache.new.clears ≡ cache.old.clears → cache.old.clears < greatest →
             told_of cache.new ≡ told_by_call (reader self.now) input.now state.old.walk (told_of cache.old)) }
+        ensures left_told { IfErr result (λ e. cache.new.clears ≡ cache.old.clears → cache.old.clears < greatest →
+            LeavesCall (reader self.now) input.now state.old.walk e (told_of cache.old) (told_of cache.new)) }
+        ensures told_since { (cache.new.clears ≡ cache.old.clears → ⊥) →
+            IsCallToldSince (reader self.now) input.now state.old.walk result (told_of cache.new) }
         ensures ends { OnOk result (state.new.found ≡ None → state.new.walk ≡ Ended) }
         ensures still { call_starts input.now state.old.walk ≡ 0 → reads_on (reader self.now) input.now state.old.walk ≡ false →
             TellsNext (reader self.now) input.now state.old.walk state.new result }

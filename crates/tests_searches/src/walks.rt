@@ -165,6 +165,26 @@ const fn progress() -> &'static [Call] {
     ]
 }
 
+/// A walk that meets a quit byte ends its search there: the first one a byte from where it began, and the next one, whose second
+/// call begins at the byte, behind the search of four bytes that it ends and the one byte of its first call. In reverse the byte
+/// before the span's last one is a byte away.
+const fn progress_up_to_quit_bytes() -> &'static [Call] {
+    &[
+        All,
+        QuitAt(b'b'),
+        Of(Word, Forward),
+        Walk(Ab, 0, 2, Free, Refused(Quit(b'b', 1))),
+        Total(1, false),
+        SearchStart(0),
+        SearchUpdate(4),
+        Walk(Aab, 0, 3, Free, Then(At(0, 1), Quit(b'b', 2))),
+        Total(6, false),
+        Of(Word, Reverse),
+        Walk(Ba, 0, 2, Free, Refused(Quit(b'b', 0))),
+        Total(1, false),
+    ]
+}
+
 /// A walk in a mode that isn't supported tells nothing of the search that goes on, and one for a pattern that there isn't ends
 /// it. Those of automata that are ready made end everywhere, or never.
 const fn progress_by_modes() -> &'static [Call] {
@@ -198,4 +218,5 @@ fn walks_tell_all_ends(rt: HostRuntime) {
     assert!(rt; answers(alloc, over_clears()));
     assert!(rt; answers(alloc, progress()));
     assert!(rt; answers(alloc, progress_by_modes()));
+    assert!(rt; answers(alloc, progress_up_to_quit_bytes()));
 }

@@ -41,7 +41,8 @@ returns-in-Quits-clause-step g c =
     c.make_turn.new.work.determinized c.make_turn.new.work.inserted c.args.position.at c.args.position.id
     (pair_of c.args.position.best) c.unit_at-unit.result c.progress_at-place.result c.search_update.ensures c.requires.running
     c.in-Ok.seen.id (pair_of c.in-Ok.seen.best) c.in-Ok.seen.turn c.search_finish.new.self c.in-Some.byte c.index_at.result c.quit.result
-    (finished_moves c.make_turn.new.cache c.search_finish.new.self c.progress_at-place.result c.search_finish.ensures) is c.in-Some.is
+    (c.progress_at-place.ensures ∙ ap (λ (b : Bool). gave_up_at b c.args.input.now c.args.position.at) c.requires.is_reverse)
+    c.search_finish.ensures is c.in-Some.is
     c.index_at.ensures c.quit.ensures c.in-Quits.is
     (c.in-Ok.ensures.turn c.args.input.now.haystack is)
 
@@ -54,6 +55,8 @@ returns g c =
           c.make_turn.new.cache c.args.work.now.determinized c.args.work.now.inserted
           c.make_turn.new.work.determinized c.make_turn.new.work.inserted c.args.position.at c.args.position.id
           (pair_of c.args.position.best) c.unit_at-unit.result c.progress_at-place.result c.search_update.ensures c.requires.running
-          c.in-Ok.seen.id (pair_of c.in-Ok.seen.best) c.in-Ok.seen.turn c.in_default.not-Quits
+          c.in-Ok.seen.id (pair_of c.in-Ok.seen.best) c.in-Ok.seen.turn
+          (c.progress_at-place.ensures ∙ ap (λ (b : Bool). gave_up_at b c.args.input.now c.args.position.at) c.requires.is_reverse)
+          c.in_default.not-Quits
           (c.in-Ok.ensures.turn c.args.input.now.haystack is);
     }
