@@ -1,5 +1,5 @@
 -- What steps and starts add to a cache, and when they clear it.
-use Rattle.std.proofs.Common.{◌≡◌, ◌≢◌, ◌⊎◌, ℕ, ◌+◌, ◌<◌, ◌≤◌, Bool, true, false, List, length, refl, sym, ap, ◌∙◌, subst, inl, inr}
+use Rattle.std.proofs.Common.{◌≡◌, ◌⊎◌, ℕ, ◌+◌, ◌<◌, ◌≤◌, Bool, true, false, length, refl, sym, ap, ◌∙◌, subst, inl, inr}
 use Rattle.std.proofs.Common.{⊎_elim, arith, Option, Some, None}
 use Rattle.std.specs.Prelude.{nat_le, ◌&&◌}
 use Rattle.std.proofs.lemmas.Bool.Decides.{leb_tells}
@@ -9,10 +9,10 @@ use Rattle.determinize_core.specs.declared.start.Start.{Start}
 use Rattle.lazy_dfa.specs.ConfigValue.{clears_of, bytes_of, specializes}
 use Rattle.lazy_dfa.specs.Dfas.{Dfa, IsStateOf, after, is_dead, start_in, first_state, cost}
 use Rattle.lazy_dfa.specs.Ids.{tag}
-use Rattle.lazy_dfa.specs.Caches.{CacheValue, IsShaped, Fits, fits, is_refused, needs_clear, place_of, state_at, id_at, with_state, usage, cleared}
+use Rattle.lazy_dfa.specs.Caches.{CacheValue, IsShaped, Fits, fits, is_refused, place_of, state_at, id_at, with_state, usage, cleared}
 use Rattle.lazy_dfa.specs.Readers.{is_quit}
-use Rattle.lazy_dfa.specs.StartCalls.{mode_of, start_refusal, start_first, StartAdds}
-use Rattle.lazy_dfa.specs.Steps.{Added, Grew, HasStatesOf, AddsState, ClearsFor, MakesRoom, ComesTo, StepAdds, kept_of}
+use Rattle.lazy_dfa.specs.StartCalls.{mode_of, start_refusal, StartAdds}
+use Rattle.lazy_dfa.specs.Steps.{Added, Grew, HasStatesOf, ClearsFor, ComesTo, StepAdds, kept_of}
 use Rattle.lazy_dfa.proofs.ChangeLemmas.{added_none, added_one, added_refl, needs_all}
 use Rattle.lazy_dfa.proofs.IsCacheLemmas.{same_row}
 

@@ -1,23 +1,20 @@
 -- When a course clears a cache, and what it adds.
-use Rattle.std.proofs.Common.{◌≡◌, ◌≢◌, ◌⊎◌, ℕ, zero, suc, ◌+◌, ◌*◌, ◌<◌, ◌≤◌, Bool, true, false, List, [], ◌∷◌, ◌++◌, length, refl, sym}
+use Rattle.std.proofs.Common.{◌≡◌, ◌⊎◌, ℕ, suc, ◌+◌, ◌*◌, ◌<◌, ◌≤◌, Bool, true, false, List, [], ◌∷◌, ◌++◌, length, refl, sym}
 use Rattle.std.proofs.Common.{ap, ◌∙◌, subst, inl, inr, ⊎_elim, arith, true≢false, Option, Some, None}
 use Rattle.std.specs.Prelude.{min, not, nat_le, ◌&&◌, is_none, All}
 use Rattle.std.proofs.Math.Nat.{mul-le-mul_right, suc-mul}
-use Rattle.std.proofs.lemmas.Bool.{cases_Bool}
 use Rattle.std.proofs.lemmas.Bool.Decides.{leb_tells}
 use Rattle.std.proofs.lemmas.List.{append_assoc, append-nil, length-append}
 use Rattle.std.proofs.lemmas.List.Elements.{All-nil, All-head, All-tail, All-push}
 use Rattle.determinize_core.specs.States.{StateValue}
-use Rattle.determinize_core.specs.StateBytes.{encoded}
-use Rattle.lazy_dfa.specs.Accounting.{state_cost, states_cost, longest_state, row_cost}
-use Rattle.lazy_dfa.specs.Caches.{CacheValue, IsCacheOf, usage, fits, is_refused, pays_off, needs_clear, with_state, cleared, place_of, greatest}
+use Rattle.lazy_dfa.specs.Accounting.{states_cost}
+use Rattle.lazy_dfa.specs.Caches.{CacheValue, IsCacheOf, usage, fits, is_refused, needs_clear, with_state, cleared, place_of, greatest}
 use Rattle.lazy_dfa.specs.Changes.{Changes, unchanged, keeps, adds, clears, greatest_cost, HasRoomFor, IsSpent, FirstClear, AddsFew}
 use Rattle.lazy_dfa.specs.ConfigValue.{clears_of, bytes_of}
 use Rattle.lazy_dfa.specs.Dfas.{Dfa, IsDfa, IsStateOf, is_dead, cost}
 use Rattle.lazy_dfa.specs.Ids.{tag}
 use Rattle.lazy_dfa.specs.Linked.{Grows}
-use Rattle.lazy_dfa.specs.Steps.{HasStatesOf, AddsState, ClearsFor, MakesRoom, kept_alone, kept_of}
-use Rattle.lazy_dfa.proofs.AccountingLemmas.{usage_of_more}
+use Rattle.lazy_dfa.specs.Steps.{HasStatesOf, AddsState, MakesRoom, kept_of}
 use Rattle.lazy_dfa.proofs.LinkedLemmas.{grows_refl, grows_trans}
 
 -- ---- counts of clears

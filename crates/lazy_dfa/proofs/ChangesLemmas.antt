@@ -1,20 +1,20 @@
 -- Changes of a cache one after the other, and those of one step.
-use Rattle.std.proofs.Common.{◌≡◌, ◌⊎◌, ℕ, zero, suc, ◌+◌, ◌-◌, ◌<◌, ◌≤◌, Bool, false, List, refl, sym, ap, ◌∙◌, subst, inl, inr, ⊎_elim, arith, [], ◌∷◌, ◌++◌}
+use Rattle.std.proofs.Common.{◌≡◌, ◌⊎◌, ℕ, suc, ◌+◌, ◌≤◌, Bool, false, List, refl, sym, ap, ◌∙◌, subst, inl, inr, arith, [], ◌∷◌, ◌++◌}
 use Rattle.std.proofs.Common.{Option, Some, None}
 use Rattle.nfa_core.specs.Ways.{place_of}
 use Rattle.determinize_core.specs.States.{StateValue}
-use Rattle.lazy_dfa.specs.Caches.{CacheValue, IsCacheOf, IsRow, HeldAt, state_at, id_at}
+use Rattle.lazy_dfa.specs.Caches.{CacheValue, IsCacheOf, IsRow, HeldAt, state_at}
 use Rattle.search_types.specs.declared.anchored.Anchored.{Anchored}
 use Rattle.search_types.specs.Inputs.{Search}
 use Rattle.lazy_dfa.specs.Changes.{Changes, unchanged, keeps, adds, clears, IsMadeAt, IsMadeFirst, IsMadeIn, IsMadeAmong}
 use Rattle.lazy_dfa.specs.ConfigValue.{specializes}
 use Rattle.lazy_dfa.specs.Courses.{state_behind, AreRead}
-use Rattle.lazy_dfa.specs.Dfas.{Dfa, after, is_dead, reader, start_in}
-use Rattle.lazy_dfa.specs.Linked.{Grows, IsMoved, start_from}
+use Rattle.lazy_dfa.specs.Dfas.{Dfa, after, reader}
+use Rattle.lazy_dfa.specs.Linked.{IsMoved, start_from}
 use Rattle.lazy_dfa.specs.PassLaws.{unit_of}
 use Rattle.lazy_dfa.specs.Readers.{Reader, is_quit}
-use Rattle.lazy_dfa.specs.StartCalls.{mode_of, start_refusal, start_first, StartAdds}
-use Rattle.lazy_dfa.specs.Steps.{Grew, HasStatesOf, AddsState, MakesRoom, ComesTo, StepAdds}
+use Rattle.lazy_dfa.specs.StartCalls.{start_first, StartAdds}
+use Rattle.lazy_dfa.specs.Steps.{Grew, HasStatesOf, ComesTo, StepAdds}
 use Rattle.lazy_dfa.proofs.ChangeLemmas.{one_state}
 use Rattle.lazy_dfa.proofs.CourseLemmas.{state_there, read_there, state_behind_one, read_one, not_dead}
 use Rattle.lazy_dfa.proofs.LinkedLemmas.{grew_grows, grows_moved}

@@ -123,11 +123,11 @@ module _ (d : Dfa) (q : Search) (old new : CacheValue) (m1 m2 n1 n2 : ℕ) (begu
     quits = λ quiet. tt;
     changes = first_changes d q begun old new own start.adds;
     anew = ⊎_elim
-        (λ (g : Grew d old new). inl (left_at_start refl (refused_first d q old new m1 m2 n1 n2 e start) (same_told d old new g), g.clears))
+        (λ (g : Grew d old new). inl (left_at_start refl (refused_first d q old new m1 m2 n1 n2 e start own) (same_told d old new g), g.clears))
         (λ (w : WasCleared old new 1). inr (
           has_cleared old new 1 w,
           fails_behind_start refl (told_of new) (fresh_start old new w)
-              (left_at_start refl (refused_first d q old new m1 m2 n1 n2 e start) refl),
+              (left_at_start refl (refused_first d q old new m1 m2 n1 n2 e start own) refl),
         ))
         start.kept;
   }

@@ -28,7 +28,7 @@ use Rattle.lazy_dfa.specs.Readers.{Reader}
 use Rattle.lazy_dfa.specs.ScanLaws.{begins_at}
 use Rattle.lazy_dfa.specs.SearchAnswers.{half_of, GivesUpIn, Told, told_of, pass_distance, running_at}
 use Rattle.lazy_dfa.specs.Courses.{state_behind}
-use Rattle.lazy_dfa.specs.PassPlaces.{came, left_at, last_place, gave_up_at, pass_start, IsWithinSpan}
+use Rattle.lazy_dfa.specs.PassPlaces.{came, left_at, last_place, gave_up_at, pass_start}
 use Rattle.lazy_dfa.specs.StartCalls.{start_refusal}
 use Rattle.lazy_dfa.specs.Steps.{most_inserts}
 use Rattle.lazy_dfa.specs.Walks.{Rest, rest_from, whole_rest, rest_of, others, value_past, IsWalk, WalkState}
