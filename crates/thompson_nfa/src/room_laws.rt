@@ -23,7 +23,8 @@ pub fn plain_compiles_take_what_trees_count()
 pub fn repeated_classes_take_what_they_hold()
     ensures bytes { (shrink greedy : Bool) (n : ℕ) (ranges : List (ℕ × ℕ)) →
         byte_room shrink (repetition n (Some n) greedy (byte_class ranges)) ≡ n * (52 + 8 * length ranges) + 28 }
-    ensures ascii { (shrink : Bool) (ranges : List (ℕ × ℕ)) → is_ascii ranges ≡ true → byte_room shrink (char_class ranges) ≡ byte_room shrink (byte_class ranges) }
+    ensures ascii { (shrink : Bool) (ranges : List (ℕ × ℕ)) → is_ascii ranges ≡ true →
+        byte_room shrink (char_class ranges) ≡ byte_room shrink (byte_class ranges) }
     ensures fits { (o : Options) (greedy : Bool) (n limit : ℕ) (ranges : List (ℕ × ℕ)) → n * (52 + 8 * length ranges) + 240 ≤ limit →
         RefusesTrees o (repetition n (Some n) greedy (byte_class ranges) ∷ []) (ExceededSizeLimit limit) → ⊥ }
 {}

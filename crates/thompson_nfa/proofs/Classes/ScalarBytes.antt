@@ -9,7 +9,8 @@ pub ascii_bytes : (shrink : Bool) (ranges : List (ℕ × ℕ)) (n sum : ℕ) →
 ascii_bytes shrink ranges n sum is le =
     let P : Bool → Type 0 = λ b. n ≤ sum + (if b then 48 + 8 * length ranges else 4096 * class_room shrink ranges) in subst P (sym is) le
 
-pub other_bytes : (shrink : Bool) (ranges : List (ℕ × ℕ)) (n sum : ℕ) → is_ascii ranges ≡ false → n ≤ sum + 4096 * class_room shrink ranges →
+pub other_bytes : (shrink : Bool) (ranges : List (ℕ × ℕ)) (n sum : ℕ) → is_ascii ranges ≡ false →
+    n ≤ sum + 4096 * class_room shrink ranges →
     n ≤ sum + scalar_bytes shrink ranges
 other_bytes shrink ranges n sum is le =
     let P : Bool → Type 0 = λ b. n ≤ sum + (if b then 48 + 8 * length ranges else 4096 * class_room shrink ranges) in subst P (sym is) le

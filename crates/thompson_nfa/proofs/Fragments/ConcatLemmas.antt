@@ -172,7 +172,12 @@ module _ (how : How) (old mid : Assembly) (start end i : ℕ) (xs : List Tree) (
   -- the next part, and the way to it
   pub parts_left : (x : Tree) → i < length xs → x ≡ get_or xs (turned_place old.reverse i (length xs)) x →
       sum_of_bytes mid + byte_room how.shrink x + 4 ≤ sum_of_bytes old + byte_room how.shrink (concat xs)
-  parts_left x inside is = omega (arith, ps.bytes, left_bytes 4 how.shrink old.reverse xs i x inside is, bytes_of_concat how.shrink xs)
+  parts_left x inside is = omega (
+    arith,
+    ps.bytes,
+    left_bytes 4 how.shrink old.reverse xs i x inside is,
+    bytes_of_concat how.shrink xs,
+  )
 
   -- the next part is refused, or that it is led to
   pub parts_refused : (new : Assembly) (x : Tree) (e : BuildError) → i < length xs →
@@ -197,7 +202,8 @@ module _ (how : How) (old mid : Assembly) (start end i : ℕ) (xs : List Tree) (
       refuses how.which (room how.shrink (concat xs)) (concat xs) (then_quits (rooms how.shrink xs)
       (then_made 8 (first_made ps.made) m (omega arith)) r (omega arith) (omega arith)) (omega arith)
 
-pub first_part_bytes : (shrink back : Bool) (x : Tree) (xs : List Tree) → 0 < length xs → x ≡ get_or xs (turned_place back 0 (length xs)) x →
+pub first_part_bytes : (shrink back : Bool) (x : Tree) (xs : List Tree) → 0 < length xs →
+    x ≡ get_or xs (turned_place back 0 (length xs)) x →
     byte_room shrink x ≤ byte_room shrink (concat xs)
 first_part_bytes shrink back x xs some is = omega (
   arith,

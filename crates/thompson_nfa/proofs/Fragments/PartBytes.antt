@@ -91,7 +91,8 @@ bytes_of_alternation shrink (x ∷ xs) =
     (byte_room shrink x + 8 + byte_room shrink (alternation xs)) (omega arith) (choice_parts shrink (x ∷ xs))
 
 -- what a trie of literals takes
-pub choice_bytes : (shrink : Bool) (xs : List Tree) → are_literals xs ≡ true → 4096 * count (alternation xs) ≤ byte_room shrink (alternation xs)
+pub choice_bytes : (shrink : Bool) (xs : List Tree) → are_literals xs ≡ true →
+    4096 * count (alternation xs) ≤ byte_room shrink (alternation xs)
 choice_bytes shrink [] are = absurd (cc)
 choice_bytes shrink (x ∷ []) are = absurd (cc)
 choice_bytes shrink (x ∷ y ∷ xs) are =

@@ -85,7 +85,11 @@ trees_refused o xs b error.TooManyStates begun captures r p =
 trees_refused o xs b (error.ExceededSizeLimit limit) begun captures r p =
     let none : sum_of_bytes b ≡ 0 = ap (λ (z : Assembly). sum_of_bytes z) begun in
     let is : b.size_limit ≡ limit_of o = ap (λ (z : Assembly). z.size_limit) begun in
-    as_it_is o xs (error.ExceededSizeLimit limit) (λ e. cc) (sym is ∙ r.0, omega (arith, r.1, r.2, none, list_fits (is_shrunk o) xs), omega (arith, p, none))
+    as_it_is o xs (error.ExceededSizeLimit limit) (λ e. cc) (
+      sym is ∙ r.0,
+      omega (arith, r.1, r.2, none, list_fits (is_shrunk o) xs),
+      omega (arith, p, none),
+    )
 trees_refused o xs b error.UnsupportedCaptures begun captures r p = absurd r
 trees_refused o xs b (error.Captures err) begun captures r p =
     let none : length b.starts ≡ 0 = ap (λ (z : Assembly). length z.starts) begun in

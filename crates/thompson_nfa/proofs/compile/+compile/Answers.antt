@@ -372,7 +372,11 @@ alternatives-returns-in_err-lead-6-clause-refused t c =
     c.index-subs-i.is c.in_ok-next.ensures.made c.in_ok-lead-5.ensures c.in_err-lead-6.ensures)
 
 pub concatenation-returns-then-subs-eq0-clause-weighs : goal.concatenation-returns-then-subs-eq0-clause-weighs
-concatenation-returns-then-subs-eq0-clause-weighs t c = omega (arith, bytes_of_concat c.args.how.shrink c.args.subs.now, c.in_ok-none.ensures.weighs)
+concatenation-returns-then-subs-eq0-clause-weighs t c = omega (
+  arith,
+  bytes_of_concat c.args.how.shrink c.args.subs.now,
+  c.in_ok-none.ensures.weighs,
+)
 
 pub concatenation-returns-in_err-none-clause-passed : goal.concatenation-returns-in_err-none-clause-passed
 concatenation-returns-in_err-none-clause-passed t c =
@@ -424,18 +428,31 @@ copies-returns-in_err-first-clause-passed t c =
 pub copies-returns-in_err-next-clause-passed : goal.copies-returns-in_err-next-clause-passed
 copies-returns-in_err-next-clause-passed t c =
     handed _ _ c.in_err-next.field-0.0 c.from_residual-in_err-next.ensures.1
-    (omega (arith, copies_left c.args.how _ _ _ _ c.loop.counter c.args.n c.args.x.now c.loop.invariant.0 c.loop-test.true, c.in_err-next.ensures.passed))
+    (omega (
+      arith,
+      copies_left c.args.how _ _ _ _ c.loop.counter c.args.n c.args.x.now c.loop.invariant.0 c.loop-test.true,
+      c.in_err-next.ensures.passed,
+    ))
 
 pub copies-returns-in_err-lead-clause-passed : goal.copies-returns-in_err-lead-clause-passed
 copies-returns-in_err-lead-clause-passed t c =
     handed _ _ c.in_err-lead.field-0.0 c.from_residual-in_err-lead.ensures.1
-    (omega (arith, copies_left c.args.how _ _ _ _ c.loop.counter c.args.n c.args.x.now c.loop.invariant.0 c.loop-test.true, c.in_ok-next.ensures.weighs, c.in_err-lead.ensures.passed))
+    (omega (
+      arith,
+      copies_left c.args.how _ _ _ _ c.loop.counter c.args.n c.args.x.now c.loop.invariant.0 c.loop-test.true,
+      c.in_ok-next.ensures.weighs,
+      c.in_err-lead.ensures.passed,
+    ))
 
 pub copies-returns-clause-weighs : goal.copies-returns-clause-weighs
 copies-returns-clause-weighs t c = copies_weigh c.args.how _ _ _ _ c.loop.counter c.args.n c.args.x.now c.loop.invariant.0 c.loop.invariant.1 c.loop-test.false
 
 pub at_least-returns-then-min-eq0-clause-weighs : goal.at_least-returns-then-min-eq0-clause-weighs
-at_least-returns-then-min-eq0-clause-weighs t c = omega (arith, repeated_once c.args.min (byte_room c.args.how.shrink c.args.x.now), c.in_ok-any.ensures.weighs)
+at_least-returns-then-min-eq0-clause-weighs t c = omega (
+  arith,
+  repeated_once c.args.min (byte_room c.args.how.shrink c.args.x.now),
+  c.in_ok-any.ensures.weighs,
+)
 
 pub at_least-returns-in_err-any-clause-passed : goal.at_least-returns-in_err-any-clause-passed
 at_least-returns-in_err-any-clause-passed t c =
@@ -443,7 +460,11 @@ at_least-returns-in_err-any-clause-passed t c =
     (omega (arith, repeated_once c.args.min (byte_room c.args.how.shrink c.args.x.now), c.in_err-any.ensures.passed))
 
 pub at_least-returns-then-min-eq1-clause-weighs : goal.at_least-returns-then-min-eq1-clause-weighs
-at_least-returns-then-min-eq1-clause-weighs t c = omega (arith, repeated_once c.args.min (byte_room c.args.how.shrink c.args.x.now), c.in_ok-some.ensures.weighs)
+at_least-returns-then-min-eq1-clause-weighs t c = omega (
+  arith,
+  repeated_once c.args.min (byte_room c.args.how.shrink c.args.x.now),
+  c.in_ok-some.ensures.weighs,
+)
 
 pub at_least-returns-in_err-some-clause-passed : goal.at_least-returns-in_err-some-clause-passed
 at_least-returns-in_err-some-clause-passed t c =
@@ -453,17 +474,32 @@ at_least-returns-in_err-some-clause-passed t c =
 pub at_least-returns-in_err-prefix-clause-passed : goal.at_least-returns-in_err-prefix-clause-passed
 at_least-returns-in_err-prefix-clause-passed t c =
     handed _ _ c.in_err-prefix.field-0.0 c.from_residual-in_err-prefix.ensures.1
-    (omega (arith, at_least_bytes c.args.min (byte_room c.args.how.shrink c.args.x.now) (omega arith), c.in_err-prefix.ensures.passed))
+    (omega (
+      arith,
+      at_least_bytes c.args.min (byte_room c.args.how.shrink c.args.x.now) (omega arith),
+      c.in_err-prefix.ensures.passed,
+    ))
 
 pub at_least-returns-in_err-last-clause-passed : goal.at_least-returns-in_err-last-clause-passed
 at_least-returns-in_err-last-clause-passed t c =
     handed _ _ c.in_err-last.field-0.0 c.from_residual-in_err-last.ensures.1
-    (omega (arith, at_least_bytes c.args.min (byte_room c.args.how.shrink c.args.x.now) (omega arith), c.in_ok-prefix.ensures.weighs, c.in_err-last.ensures.passed))
+    (omega (
+      arith,
+      at_least_bytes c.args.min (byte_room c.args.how.shrink c.args.x.now) (omega arith),
+      c.in_ok-prefix.ensures.weighs,
+      c.in_err-last.ensures.passed,
+    ))
 
 pub at_least-returns-in_err-lead-clause-passed : goal.at_least-returns-in_err-lead-clause-passed
 at_least-returns-in_err-lead-clause-passed t c =
     handed _ _ c.in_err-lead.field-0.0 c.from_residual-in_err-lead.ensures.1
-    (omega (arith, at_least_bytes c.args.min (byte_room c.args.how.shrink c.args.x.now) (omega arith), c.in_ok-prefix.ensures.weighs, c.in_ok-last.ensures.weighs, c.in_err-lead.ensures.passed))
+    (omega (
+      arith,
+      at_least_bytes c.args.min (byte_room c.args.how.shrink c.args.x.now) (omega arith),
+      c.in_ok-prefix.ensures.weighs,
+      c.in_ok-last.ensures.weighs,
+      c.in_err-lead.ensures.passed,
+    ))
 
 pub at_least-returns-clause-weighs : goal.at_least-returns-clause-weighs
 at_least-returns-clause-weighs t c = omega (arith, at_least_bytes c.args.min (byte_room c.args.how.shrink c.args.x.now) (omega arith), c.in_ok-prefix.ensures.weighs, c.in_ok-last.ensures.weighs, c.in_ok-lead.ensures.bytes)
@@ -471,7 +507,12 @@ at_least-returns-clause-weighs t c = omega (arith, at_least_bytes c.args.min (by
 pub up_to-returns-in_err-first-clause-passed : goal.up_to-returns-in_err-first-clause-passed
 up_to-returns-in_err-first-clause-passed t c =
     handed _ _ c.in_err-first.field-0.0 c.from_residual-in_err-first.ensures.1
-    (omega (arith, round_bytes 0 c.args.most (byte_room c.args.how.shrink c.args.x.now + 36) c.requires.some, c.in_ok-exit.ensures.bytes, c.in_err-first.ensures.passed))
+    (omega (
+      arith,
+      round_bytes 0 c.args.most (byte_room c.args.how.shrink c.args.x.now + 36) c.requires.some,
+      c.in_ok-exit.ensures.bytes,
+      c.in_err-first.ensures.passed,
+    ))
 
 pub up_to-returns-in_err-next-clause-passed : goal.up_to-returns-in_err-next-clause-passed
 up_to-returns-in_err-next-clause-passed t c =
@@ -486,7 +527,11 @@ up_to-returns-in_err-lead-clause-passed t c =
 pub up_to-returns-in_err-lead-2-clause-passed : goal.up_to-returns-in_err-lead-2-clause-passed
 up_to-returns-in_err-lead-2-clause-passed t c =
     handed _ _ c.in_err-lead-2.field-0.0 c.from_residual-in_err-lead-2.ensures.1
-    (omega (arith, rounds_last c.args.how _ _ _ _ _ c.loop.counter 0 c.args.most _ c.args.greedy c.args.x.now c.loop.invariant, c.in_err-lead-2.ensures.passed))
+    (omega (
+      arith,
+      rounds_last c.args.how _ _ _ _ _ c.loop.counter 0 c.args.most _ c.args.greedy c.args.x.now c.loop.invariant,
+      c.in_err-lead-2.ensures.passed,
+    ))
 
 pub up_to-returns-clause-weighs : goal.up_to-returns-clause-weighs
 up_to-returns-clause-weighs t c = rounds_weigh c.args.how _ _ _ _ _ c.loop.counter 0 c.args.most _ c.args.greedy c.args.x.now c.loop.invariant _ c.in_ok-lead-2.ensures
@@ -512,13 +557,21 @@ owed_and_more-returns-clause-weighs t c = rounds_weigh c.args.how _ _ _ _ _ c.lo
 pub between-returns-in_err-any-clause-passed : goal.between-returns-in_err-any-clause-passed
 between-returns-in_err-any-clause-passed t c =
     handed _ _ c.in_err-any.field-0.0 c.from_residual-in_err-any.ensures.1
-    (omega (arith, none_owed c.args.min c.args.most (byte_room c.args.how.shrink c.args.x.now) (omega arith), c.in_err-any.ensures.passed))
+    (omega (
+      arith,
+      none_owed c.args.min c.args.most (byte_room c.args.how.shrink c.args.x.now) (omega arith),
+      c.in_err-any.ensures.passed,
+    ))
 
 pub between-returns-clause-weighs : goal.between-returns-clause-weighs
 between-returns-clause-weighs t c = omega (arith, none_owed c.args.min c.args.most (byte_room c.args.how.shrink c.args.x.now) (omega arith), c.in_ok-any.ensures.weighs)
 
 pub alternatives-returns-then-subs-eq0-clause-weighs : goal.alternatives-returns-then-subs-eq0-clause-weighs
-alternatives-returns-then-subs-eq0-clause-weighs t c = omega (arith, bytes_of_alternation c.args.how.shrink c.args.subs.now, c.in_ok-none.ensures.weighs)
+alternatives-returns-then-subs-eq0-clause-weighs t c = omega (
+  arith,
+  bytes_of_alternation c.args.how.shrink c.args.subs.now,
+  c.in_ok-none.ensures.weighs,
+)
 
 pub alternatives-returns-in_err-none-clause-passed : goal.alternatives-returns-in_err-none-clause-passed
 alternatives-returns-in_err-none-clause-passed t c =
@@ -526,25 +579,45 @@ alternatives-returns-in_err-none-clause-passed t c =
     (omega (arith, bytes_of_alternation c.args.how.shrink c.args.subs.now, c.in_err-none.ensures.passed))
 
 pub alternatives-returns-then-all_literals-clause-weighs : goal.alternatives-returns-then-all_literals-clause-weighs
-alternatives-returns-then-all_literals-clause-weighs t c = omega (arith, choice_bytes c.args.how.shrink c.args.subs.now (sym c.all_literals.ensures ∙ c.if-all_literals.true), c.in_ok-literals.ensures.weighs)
+alternatives-returns-then-all_literals-clause-weighs t c = omega (
+  arith,
+  choice_bytes c.args.how.shrink c.args.subs.now (sym c.all_literals.ensures ∙ c.if-all_literals.true),
+  c.in_ok-literals.ensures.weighs,
+)
 
 pub alternatives-returns-in_err-literals-clause-passed : goal.alternatives-returns-in_err-literals-clause-passed
 alternatives-returns-in_err-literals-clause-passed t c =
     handed _ _ c.in_err-literals.field-0.0 c.from_residual-in_err-literals.ensures.1
-    (omega (arith, choice_bytes c.args.how.shrink c.args.subs.now (sym c.all_literals.ensures ∙ c.if-all_literals.true), c.in_err-literals.ensures.passed))
+    (omega (
+      arith,
+      choice_bytes c.args.how.shrink c.args.subs.now (sym c.all_literals.ensures ∙ c.if-all_literals.true),
+      c.in_err-literals.ensures.passed,
+    ))
 
 pub alternatives-returns-then-subs-eq1-clause-weighs : goal.alternatives-returns-then-subs-eq1-clause-weighs
-alternatives-returns-then-subs-eq1-clause-weighs t c = omega (arith, part_in_alternation c.args.how.shrink c.args.subs.now 0 c.index-subs-0.result (omega arith) c.index-subs-0.is, c.in_ok-one.ensures.weighs)
+alternatives-returns-then-subs-eq1-clause-weighs t c = omega (
+  arith,
+  part_in_alternation c.args.how.shrink c.args.subs.now 0 c.index-subs-0.result (omega arith) c.index-subs-0.is,
+  c.in_ok-one.ensures.weighs,
+)
 
 pub alternatives-returns-in_err-one-clause-passed : goal.alternatives-returns-in_err-one-clause-passed
 alternatives-returns-in_err-one-clause-passed t c =
     handed _ _ c.in_err-one.field-0.0 c.from_residual-in_err-one.ensures.1
-    (omega (arith, part_in_alternation c.args.how.shrink c.args.subs.now 0 c.index-subs-0.result (omega arith) c.index-subs-0.is, c.in_err-one.ensures.passed))
+    (omega (
+      arith,
+      part_in_alternation c.args.how.shrink c.args.subs.now 0 c.index-subs-0.result (omega arith) c.index-subs-0.is,
+      c.in_err-one.ensures.passed,
+    ))
 
 pub alternatives-returns-in_err-first-clause-passed : goal.alternatives-returns-in_err-first-clause-passed
 alternatives-returns-in_err-first-clause-passed t c =
     handed _ _ c.in_err-first.field-0.0 c.from_residual-in_err-first.ensures.1
-    (omega (arith, part_in_alternation c.args.how.shrink c.args.subs.now 0 c.index-subs-0-2.result (omega arith) c.index-subs-0-2.is, c.in_err-first.ensures.passed))
+    (omega (
+      arith,
+      part_in_alternation c.args.how.shrink c.args.subs.now 0 c.index-subs-0-2.result (omega arith) c.index-subs-0-2.is,
+      c.in_err-first.ensures.passed,
+    ))
 
 pub alternatives-returns-in_err-second-clause-passed : goal.alternatives-returns-in_err-second-clause-passed
 alternatives-returns-in_err-second-clause-passed t c =

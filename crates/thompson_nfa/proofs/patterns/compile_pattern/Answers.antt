@@ -16,11 +16,22 @@ returns-in_err-body-clause-passed c = handed _ _ c.in_err-body.field-0.0 c.from_
 
 pub returns-in_err-end-clause-passed : goal.returns-in_err-end-clause-passed
 returns-in_err-end-clause-passed c = handed _ _ c.in_err-end.field-0.0 c.from_residual-in_err-end.ensures.1
-    (omega (arith, ap (λ (b : Assembly). sum_of_bytes b) c.in_ok-start_pattern.ensures.1, c.in_ok-body.ensures.weighs, c.in_err-end.ensures.passed))
+    (omega (
+      arith,
+      ap (λ (b : Assembly). sum_of_bytes b) c.in_ok-start_pattern.ensures.1,
+      c.in_ok-body.ensures.weighs,
+      c.in_err-end.ensures.passed,
+    ))
 
 pub returns-in_err-lead-clause-passed : goal.returns-in_err-lead-clause-passed
 returns-in_err-lead-clause-passed c = handed _ _ c.in_err-lead.field-0.0 c.from_residual-in_err-lead.ensures.1
-    (omega (arith, ap (λ (b : Assembly). sum_of_bytes b) c.in_ok-start_pattern.ensures.1, c.in_ok-body.ensures.weighs, c.in_ok-end.ensures.bytes, c.in_err-lead.ensures.passed))
+    (omega (
+      arith,
+      ap (λ (b : Assembly). sum_of_bytes b) c.in_ok-start_pattern.ensures.1,
+      c.in_ok-body.ensures.weighs,
+      c.in_ok-end.ensures.bytes,
+      c.in_err-lead.ensures.passed,
+    ))
 
 pub returns-clause-weighs : goal.returns-clause-weighs
 returns-clause-weighs c = omega (

@@ -45,26 +45,80 @@ returns-in_err-first-clause-passed c = handed _ _ c.in_err-first.field-0.0 c.fro
 
 pub returns-in_err-second-clause-passed : goal.returns-in_err-second-clause-passed
 returns-in_err-second-clause-passed c = handed _ _ c.in_err-second.field-0.0 c.from_residual-in_err-second.ensures.1
-    (omega (arith, ap (bytes_for c.args.how.shrink) c.in-Some.ensures.cases.0, ap (bytes_for c.args.how.shrink) c.in-Some-split_first.ensures.cases.0, c.in_ok-first.ensures.weighs, c.in_err-second.ensures.passed))
+    (omega (
+      arith,
+      ap (bytes_for c.args.how.shrink) c.in-Some.ensures.cases.0,
+      ap (bytes_for c.args.how.shrink) c.in-Some-split_first.ensures.cases.0,
+      c.in_ok-first.ensures.weighs,
+      c.in_err-second.ensures.passed,
+    ))
 
 pub returns-in_err-union-clause-passed : goal.returns-in_err-union-clause-passed
 returns-in_err-union-clause-passed c = handed _ _ c.in_err-union.field-0.0 c.from_residual-in_err-union.ensures.1
-    (omega (arith, ap (bytes_for c.args.how.shrink) c.in-Some.ensures.cases.0, ap (bytes_for c.args.how.shrink) c.in-Some-split_first.ensures.cases.0, c.in_ok-first.ensures.weighs, c.in_ok-second.ensures.weighs, c.in_err-union.ensures.passed))
+    (omega (
+      arith,
+      ap (bytes_for c.args.how.shrink) c.in-Some.ensures.cases.0,
+      ap (bytes_for c.args.how.shrink) c.in-Some-split_first.ensures.cases.0,
+      c.in_ok-first.ensures.weighs,
+      c.in_ok-second.ensures.weighs,
+      c.in_err-union.ensures.passed,
+    ))
 
 pub returns-in_err-lead-clause-passed : goal.returns-in_err-lead-clause-passed
 returns-in_err-lead-clause-passed c = handed _ _ c.in_err-lead.field-0.0 c.from_residual-in_err-lead.ensures.1
-    (omega (arith, ap (bytes_for c.args.how.shrink) c.in-Some.ensures.cases.0, ap (bytes_for c.args.how.shrink) c.in-Some-split_first.ensures.cases.0, c.in_ok-first.ensures.weighs, c.in_ok-second.ensures.weighs, c.in_ok-union.ensures.bytes, c.in_err-lead.ensures.passed))
+    (omega (
+      arith,
+      ap (bytes_for c.args.how.shrink) c.in-Some.ensures.cases.0,
+      ap (bytes_for c.args.how.shrink) c.in-Some-split_first.ensures.cases.0,
+      c.in_ok-first.ensures.weighs,
+      c.in_ok-second.ensures.weighs,
+      c.in_ok-union.ensures.bytes,
+      c.in_err-lead.ensures.passed,
+    ))
 
 pub returns-in_err-lead-2-clause-passed : goal.returns-in_err-lead-2-clause-passed
 returns-in_err-lead-2-clause-passed c = handed _ _ c.in_err-lead-2.field-0.0 c.from_residual-in_err-lead-2.ensures.1
-    (omega (arith, ap (bytes_for c.args.how.shrink) c.in-Some.ensures.cases.0, ap (bytes_for c.args.how.shrink) c.in-Some-split_first.ensures.cases.0, c.in_ok-first.ensures.weighs, c.in_ok-second.ensures.weighs, c.in_ok-union.ensures.bytes, c.in_ok-lead.ensures.bytes, c.in_err-lead-2.ensures.passed))
+    (omega (
+      arith,
+      ap (bytes_for c.args.how.shrink) c.in-Some.ensures.cases.0,
+      ap (bytes_for c.args.how.shrink) c.in-Some-split_first.ensures.cases.0,
+      c.in_ok-first.ensures.weighs,
+      c.in_ok-second.ensures.weighs,
+      c.in_ok-union.ensures.bytes,
+      c.in_ok-lead.ensures.bytes,
+      c.in_err-lead-2.ensures.passed,
+    ))
 
 pub returns-in_err-compile_further-clause-passed : goal.returns-in_err-compile_further-clause-passed
 returns-in_err-compile_further-clause-passed c = handed _ _ c.in_err-compile_further.field-0.0 c.from_residual-in_err-compile_further.ensures.1
-    (omega (arith, ap (bytes_for c.args.how.shrink) c.in-Some.ensures.cases.0, ap (bytes_for c.args.how.shrink) c.in-Some-split_first.ensures.cases.0, c.in_ok-first.ensures.weighs, c.in_ok-second.ensures.weighs, c.in_ok-union.ensures.bytes, c.in_ok-lead.ensures.bytes, c.in_ok-lead-2.ensures.bytes, c.in_err-compile_further.ensures.passed))
+    (omega (
+      arith,
+      ap (bytes_for c.args.how.shrink) c.in-Some.ensures.cases.0,
+      ap (bytes_for c.args.how.shrink) c.in-Some-split_first.ensures.cases.0,
+      c.in_ok-first.ensures.weighs,
+      c.in_ok-second.ensures.weighs,
+      c.in_ok-union.ensures.bytes,
+      c.in_ok-lead.ensures.bytes,
+      c.in_ok-lead-2.ensures.bytes,
+      c.in_err-compile_further.ensures.passed,
+    ))
 
 pub returns-clause-weighs : goal.returns-clause-weighs
-returns-clause-weighs c = omega (arith, ap (bytes_for c.args.how.shrink) c.in-Some.ensures.cases.0, ap (bytes_for c.args.how.shrink) c.in-Some-split_first.ensures.cases.0, c.in_ok-first.ensures.weighs, c.in_ok-second.ensures.weighs, c.in_ok-union.ensures.bytes, c.in_ok-lead.ensures.bytes, c.in_ok-lead-2.ensures.bytes, c.in_ok-compile_further.ensures.weighs)
+returns-clause-weighs c = omega (
+  arith,
+  ap (bytes_for c.args.how.shrink) c.in-Some.ensures.cases.0,
+  ap (bytes_for c.args.how.shrink) c.in-Some-split_first.ensures.cases.0,
+  c.in_ok-first.ensures.weighs,
+  c.in_ok-second.ensures.weighs,
+  c.in_ok-union.ensures.bytes,
+  c.in_ok-lead.ensures.bytes,
+  c.in_ok-lead-2.ensures.bytes,
+  c.in_ok-compile_further.ensures.weighs,
+)
 
 pub returns-in_default-split_first-clause-weighs : goal.returns-in_default-split_first-clause-weighs
-returns-in_default-split_first-clause-weighs c = omega (arith, ap (bytes_for c.args.how.shrink) c.in-Some.ensures.cases.0, c.in_ok-first.ensures.weighs)
+returns-in_default-split_first-clause-weighs c = omega (
+  arith,
+  ap (bytes_for c.args.how.shrink) c.in-Some.ensures.cases.0,
+  c.in_ok-first.ensures.weighs,
+)
