@@ -48,13 +48,16 @@ module _ (d : Dfa) (b : Bool) (from : Option ℕ) (s : StateValue) (v mid new : 
   -- or the state was
   pub comes_with : (mid ≡ v) ⊎ ClearsFor d from s v mid → IsStateOf d s → is_dead s ≡ false → place_of s v.states ≡ None → Fits d.capacity s mid →
       new ≡ with_state b s mid → ComesTo (Added v new) d b from s v new
-  comes_with (inl f) is alive fresh fit e = inl (added_one v mid new b s shape f e, inr (record {
-    is = is;
-    alive = alive;
-    fresh = fresh;
-    fits = fits_true d s v (subst (Fits d.capacity s) f fit);
-    states = same_states (with_state b s v) new (e ∙ ap (with_state b s) f);
-  }))
+  comes_with (inl f) is alive fresh fit e = inl (
+    added_one v mid new b s shape f e,
+    inr (record {
+      is = is;
+      alive = alive;
+      fresh = fresh;
+      fits = fits_true d s v (subst (Fits d.capacity s) f fit);
+      states = same_states (with_state b s v) new (e ∙ ap (with_state b s) f);
+    }),
+  )
   comes_with (inr x) is alive fresh fit e = inr (record { middle = mid; clears = x; states = inr (same_states (with_state b s mid) new e) })
 
 -- where it is the dead one, or held
@@ -67,13 +70,16 @@ module _ (d : Dfa) (b : Bool) (from : Option ℕ) (s : StateValue) (v mid new : 
     (keeps : K → L) where
   pub comes_written : ComesTo K d b from s v mid → ComesTo L d b from s v new
   comes_written (inl (a, inl e)) = inl (keeps a, inl (states_trans v mid new e same))
-  comes_written (inl (a, inr x)) = inl (keeps a, inr (record {
-    is = x.is;
-    alive = x.alive;
-    fresh = x.fresh;
-    fits = x.fits;
-    states = states_trans (with_state b s v) mid new x.states same;
-  }))
+  comes_written (inl (a, inr x)) = inl (
+    keeps a,
+    inr (record {
+      is = x.is;
+      alive = x.alive;
+      fresh = x.fresh;
+      fits = x.fits;
+      states = states_trans (with_state b s v) mid new x.states same;
+    }),
+  )
   comes_written (inr x) = inr (record {
     middle = x.middle;
     clears = x.clears;
@@ -89,9 +95,12 @@ pub step_adds : (d : Dfa) (v was new : CacheValue) (id k : ℕ) (u : Option ℕ)
     is_quit d.quits u ≡ false → ComesTo (Grew d v new) d false (Some k) s was new → StepAdds d v new id u
 step_adds d v was new id k u s shape same_cache inside row value no_quit comes j l e =
     let one : k ≡ j = same_row v k j shape inside l (sym row ∙ e) in
-    inr (no_quit, subst (λ (i : ℕ). ComesTo (Grew d v new) d false (Some i) (after d (state_at v i) u) v new) one
-    (subst (λ (t : StateValue). ComesTo (Grew d v new) d false (Some k) t v new) value
-    (subst (λ (w : CacheValue). ComesTo (Grew d v new) d false (Some k) s w new) same_cache comes)))
+    inr (
+      no_quit,
+      subst (λ (i : ℕ). ComesTo (Grew d v new) d false (Some i) (after d (state_at v i) u) v new) one
+          (subst (λ (t : StateValue). ComesTo (Grew d v new) d false (Some k) t v new) value
+          (subst (λ (w : CacheValue). ComesTo (Grew d v new) d false (Some k) s w new) same_cache comes)),
+    )
 
 -- one that makes nothing
 pub step_adds_none : (d : Dfa) (v new : CacheValue) (id : ℕ) (u : Option ℕ) → Grew d v new → HasStatesOf new v → StepAdds d v new id u
@@ -104,8 +113,14 @@ pub start_adds : (d : Dfa) (c : StartValue) (n q : ℕ) (s : Start) (v new : Cac
     (Grew d v new × HasStatesOf new v) ⊎ ComesTo (Grew d v new) d (specializes d.options) None (first_state d s q) v new →
     StartAdds d v new c
 start_adds d c n q s v new none named is (inl x) = inl x
-start_adds d c n q s v new none named is (inr x) = inr (none, (q, sym named,
-    subst (λ (t : Start). ComesTo (Grew d v new) d (specializes d.options) None (first_state d t q) v new) is x))
+start_adds d c n q s v new none named is (inr x) = inr (
+  none,
+  (
+    q,
+    sym named,
+    subst (λ (t : Start). ComesTo (Grew d v new) d (specializes d.options) None (first_state d t q) v new) is x,
+  ),
+)
 
 -- a start with its write behind it
 pub start_comes : (d : Dfa) (v was mid new : CacheValue) (s t : StateValue) → was ≡ v → s ≡ t → HasStatesOf new mid →

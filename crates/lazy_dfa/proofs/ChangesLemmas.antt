@@ -73,9 +73,15 @@ module _ (r : Reader) (h : List ℕ) (i j k l : ℕ) (there : j ≡ place_of r.a
 
   pub made_behind : (b : Bool) (s : StateValue) → IsMadeAt r h j (state_behind r h i v k) l b s → IsMadeAt r h i v (k + l) b s
   made_behind b s (e, (n, lt, are, is)) =
-      let one : k + suc n ≡ suc (k + n) = omega arith in
-      (e, (k + n, omega (arith, lt), subst (AreRead r h i v) one (read_there r h i j k there v (suc n) read are),
-      is ∙ (state_there r h i j k there v (suc n) ∙ ap (state_behind r h i v) one)))
+      let one : k + suc n ≡ suc (k + n) = omega arith in (
+        e,
+        (
+          k + n,
+          omega (arith, lt),
+          subst (AreRead r h i v) one (read_there r h i j k there v (suc n) read are),
+          is ∙ (state_there r h i j k there v (suc n) ∙ ap (state_behind r h i v) one),
+        ),
+      )
 
 -- ---- one step
 
@@ -83,9 +89,15 @@ module _ (d : Dfa) (h : List ℕ) (old : CacheValue) (at id : ℕ) (u : Option �
     (is : u ≡ unit_of (reader d) h at 0) where
   step_makes : (s : StateValue) → state_at old row.0 ≡ s → is_quit d.quits u ≡ false →
       IsMadeAt (reader d) h at s 1 false (after d (state_at old row.0) u)
-  step_makes s e quiet = (refl, (0, omega arith,
+  step_makes s e quiet = (
+    refl,
+    (
+      0,
+      omega arith,
       read_one d h at u is s (not_dead s (λ z. own.lives row.0 row.1 (e ∙ z))) quiet,
-      ap (λ (x : StateValue). after d x u) e ∙ sym (state_behind_one d h at u is s)))
+      ap (λ (x : StateValue). after d x u) e ∙ sym (state_behind_one d h at u is s),
+    ),
+  )
 
   pub step_changes : (new : CacheValue) → StepAdds d old new id u → (s : StateValue) → HeldAt old id s →
       Changes d (IsMadeAt (reader d) h at s 1) old new 1

@@ -162,6 +162,7 @@ module _ (d : Dfa) (q : Search) (made : IsDfa d) (from p : Point) (own : IsCache
       made_within (reader d) h from.at was (x.steps + l) u le b t
       (made_behind (reader d) h from.at p.at x.steps l x.place was x.read b t
       (subst (λ (s : StateValue). IsMadeAt (reader d) h p.at s l b t) (sym later) y))) p.cache w l c)
+
   abbrev before : ℕ
   before = min (from.cache.searched + progress_len from.cache.progress) greatest
 

@@ -87,9 +87,15 @@ on_walk d q w within b s (inr (e, (k, lt, are, is))) = by (reads_on (reader d) q
         let far = call_far (reader d) q w within on in
         let one : came d.nfa.automaton.reverse q (call_place (reader d) q w) + suc k ≡ suc (came d.nfa.automaton.reverse q (call_place (reader d) q w) + k) = omega arith in
         let there = sym (place_came d.nfa.automaton.reverse q (call_place (reader d) q w) (call_within (reader d) q w within on)) in
-        inr (e, (came d.nfa.automaton.reverse q (call_place (reader d) q w) + k, omega (arith, lt, all, far),
-        is ∙ (state_there (reader d) q.haystack (begins_at (reader d) q) (call_place (reader d) q w)
-        (came d.nfa.automaton.reverse q (call_place (reader d) q w)) there
-        (first_value (reader d) q.anchored q.haystack (begins_at (reader d) q)) (suc k)
-        ∙ ap (state_behind (reader d) q.haystack (begins_at (reader d) q) (first_value (reader d) q.anchored q.haystack
-        (begins_at (reader d) q))) one)))
+        inr (
+          e,
+          (
+            came d.nfa.automaton.reverse q (call_place (reader d) q w) + k,
+            omega (arith, lt, all, far),
+            is ∙ (state_there (reader d) q.haystack (begins_at (reader d) q) (call_place (reader d) q w)
+                (came d.nfa.automaton.reverse q (call_place (reader d) q w)) there
+                (first_value (reader d) q.anchored q.haystack (begins_at (reader d) q)) (suc k)
+                ∙ ap (state_behind (reader d) q.haystack (begins_at (reader d) q) (first_value (reader d) q.anchored q.haystack
+                (begins_at (reader d) q))) one),
+          ),
+        )

@@ -104,7 +104,9 @@ fn copies_end_alike(alloc: Global, end: usize) -> bool {
 #[test]
 fn copies_of_automata(rt: HostRuntime) {
     let alloc = rt.alloc();
-    assert!(rt; copies_end_alike(alloc, 0) || copies_end_alike(alloc, 1) || copies_end_alike(alloc, 2));
+    assert!(rt;
+        copies_end_alike(alloc, 0) || copies_end_alike(alloc, 1) || copies_end_alike(alloc, 2)
+    );
 }
 
 /// Rounds that may be empty are no reason to refuse a regex: the least start and its first pattern are found. Which end is found

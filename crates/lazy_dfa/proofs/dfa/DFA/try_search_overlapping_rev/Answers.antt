@@ -10,6 +10,7 @@ returns-clause-sure g c = call_is_sure c.args.self.now c.args.input.now c.args.c
 
 pub returns-clause-changes : goal.returns-clause-changes
 returns-clause-changes g c = c.call.ensures.call.changes
+
 pub returns-clause-left_told : goal.returns-clause-left_told
 returns-clause-left_told g c = call_is_left (reader c.args.self.now) c.args.input.now c.args.state.now.walk c.args.cache.now
     c.call.new.cache c.call.result c.call.ensures.call.anew
