@@ -1,15 +1,13 @@
 -- What was told, by equations of what was asked; and the matches that were taken of an iterator, as a loop keeps them.
-use Rattle.std.proofs.Common.{◌≡◌, Option, List, [], ◌∷◌, ◌++◌, Some, Ok, sym, subst}
+use Rattle.std.proofs.Common.{◌≡◌, Option, List, [], ◌∷◌, ◌++◌, sym, subst}
 use Rattle.search_types.specs.Found.{Found}
 use Rattle.search_types.specs.Inputs.{Search}
-use Rattle.regex_pair.specs.declared.find_matches.FindMatches.{FindMatches}
-use Rattle.regex_pair.specs.FindSteps.{FindsNext, finds_from, searches_by}
+use Rattle.regex_pair.specs.Finding.{Finding}
 use Rattle.regex_pair.specs.Pairs.{Pair}
 use Rattle.regex_pair.specs.Taken.{AreTaken}
 use Rattle.hir_core.specs.Tree.{Tree}
 use Rattle.hirscan.specs.declared.settings.Settings.{Settings}
 use Rattle.tests_client.specs.Told.{IsTold}
-use Rattle.regex_pair.proofs.ForCallers.{one_more_by_step}
 
 pub as_said : (xs : List Tree) (made s : Settings) (asked q : Search) (first second : Option Found) (all : List Found) → made ≡ s → asked ≡ q →
     IsTold xs made asked first second all → IsTold xs s q first second all
@@ -17,8 +15,8 @@ as_said xs made s asked q first second all is same told =
     subst (λ (r : Search). IsTold xs s r first second all) same
     (subst (λ (t : Settings). IsTold xs t asked first second all) is told)
 
--- ---- matches that were taken: the one place that cites another crate's proofs
-pub one_more : (p : Pair) (q : Search) (fs more : List Found) (old new : FindMatches) (f : Found) → searches_by old ≡ p →
-    AreTaken p q fs (finds_from old) → FindsNext old (Some (Ok f)) new → more ≡ fs ++ f ∷ [] → AreTaken p q more (finds_from new)
-one_more p q fs more old new f same taken step is =
-    subst (λ (gs : List Found). AreTaken p q gs (finds_from new)) (sym is) (one_more_by_step p q fs old new f same taken step)
+-- ---- matches that were taken
+
+pub one_more : (p : Pair) (q : Search) (fs more : List Found) (now : Finding) (f : Found) → AreTaken p q (fs ++ f ∷ []) now →
+    more ≡ fs ++ f ∷ [] → AreTaken p q more now
+one_more p q fs more now f taken is = subst (λ (gs : List Found). AreTaken p q gs now) (sym is) taken

@@ -10,6 +10,7 @@ use hir_core::Hir;
 use hirscan::headline::iterators_list_the_answers;
 use hirscan::{Settings, all_loops_read, build, find, is_search_of, program_settings};
 use regex_pair::regex::{Cache, Regex};
+use regex_pair::taken_laws::a_step_takes_one_more;
 use search_types::{Input, Match, MatchError};
 use std::alloc::{AllocError, Global};
 
@@ -69,6 +70,7 @@ fn list(
         IfOk result (λ all. IsTheList xs s input.entry all.items) }
 {
     iterators_list_the_answers();
+    a_step_takes_one_more();
     let _start = input.start();
     let mut all = Vec::new(alloc);
     for item in re.find_iter(cache, input) {
