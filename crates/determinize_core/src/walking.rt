@@ -69,8 +69,9 @@ fn walk_counted<L: Ledger>(
         look_behind,
         bytes,
         &mut steps,
-    )?;
-    Ok(states)
+    );
+    drop(sets);
+    states
 }
 
 /// The same with sets for the states of the automaton, which keep their bounds. It counts the steps: those of the start
