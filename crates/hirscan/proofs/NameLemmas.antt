@@ -11,7 +11,8 @@ use Rattle.hirscan.specs.declared.words.LineWord.{LineWord}
 use Rattle.hirscan.specs.declared.words.LineWord.TheVariants.{Utf8, Line, Capacity, Quit, Classes, Shrink, Anchored, Span, Empty, Lit}
 use Rattle.hirscan.specs.declared.words.LineWord.TheVariants.{Bytes, Chars, Look, Rep, Cat, Alt, Pattern, Find}
 use Rattle.hirscan.specs.Words.{look_name, IsLookName}
-use Rattle.hirscan.specs.Readers.{spelling, setting_word, tree_word, line_word, anchor_named, word_look_named, look_named, the_look_named}
+use Rattle.hirscan.specs.Readers.{spelling, setting_word, tree_word, line_word, anchor_named, word_look_named, word_side_named}
+use Rattle.hirscan.specs.Readers.{half_look_named, look_named, the_look_named}
 use Rattle.hirscan.specs.LineFault.{unless_read}
 
 -- a word is the text, or it isn't
@@ -98,20 +99,32 @@ word_look_spelled w l =
     named look_name w the_look.WordAscii _ l
     (named look_name w the_look.WordAsciiNegate _ l
     (named look_name w the_look.WordUnicode _ l
-    (named look_name w the_look.WordUnicodeNegate _ l
-    (named look_name w the_look.WordStartAscii _ l
+    (named look_name w the_look.WordUnicodeNegate _ l (not_named look_name w l))))
+
+word_side_spelled : (w : List ℕ) (l : TheLook) → word_side_named w ≡ Some l → w ≡ look_name l
+word_side_spelled w l =
+    named look_name w the_look.WordStartAscii _ l
     (named look_name w the_look.WordEndAscii _ l
     (named look_name w the_look.WordStartUnicode _ l
-    (named look_name w the_look.WordEndUnicode _ l
-    (named look_name w the_look.WordStartHalfAscii _ l
+    (named look_name w the_look.WordEndUnicode _ l (not_named look_name w l))))
+
+half_look_spelled : (w : List ℕ) (l : TheLook) → half_look_named w ≡ Some l → w ≡ look_name l
+half_look_spelled w l =
+    named look_name w the_look.WordStartHalfAscii _ l
     (named look_name w the_look.WordEndHalfAscii _ l
     (named look_name w the_look.WordStartHalfUnicode _ l
-    (named look_name w the_look.WordEndHalfUnicode _ l (not_named look_name w l))))))))))))
+    (named look_name w the_look.WordEndHalfUnicode _ l (not_named look_name w l))))
 
 -- a look that is read is named so
 pub look_spelled : (w : List ℕ) (l : TheLook) → look_named w ≡ Some l → IsLookName w l
 look_spelled w l e =
-    elim (either (anchor_named w) (word_look_named w) l e) [ inl f ↦ anchor_spelled w l f | inr f ↦ word_look_spelled w l f ]
+    elim (either (option_or (option_or (anchor_named w) (word_look_named w)) (word_side_named w)) (half_look_named w) l e) [
+      | inl f ↦ elim (either (option_or (anchor_named w) (word_look_named w)) (word_side_named w) l f) [
+        | inl g ↦ elim (either (anchor_named w) (word_look_named w) l g) [ inl i ↦ anchor_spelled w l i | inr i ↦ word_look_spelled w l i ]
+        | inr g ↦ word_side_spelled w l g
+      ]
+      | inr f ↦ half_look_spelled w l f
+    ]
 
 look_named-name : (l : TheLook) → look_named (look_name l) ≡ Some l
 look_named-name the_look.Start = refl

@@ -185,25 +185,35 @@ anchor_named w =
     else if bytes_eq w (codes "EndCRLF") then Some the_look.EndCRLF
     else None
 
--- the look of an edge of a word with this name
+-- the look with this name of a place where a word begins or ends, or where none does
 abbrev pub word_look_named : List ℕ → Option TheLook
 word_look_named w =
     if bytes_eq w (codes "WordAscii") then Some the_look.WordAscii
     else if bytes_eq w (codes "WordAsciiNegate") then Some the_look.WordAsciiNegate
     else if bytes_eq w (codes "WordUnicode") then Some the_look.WordUnicode
     else if bytes_eq w (codes "WordUnicodeNegate") then Some the_look.WordUnicodeNegate
-    else if bytes_eq w (codes "WordStartAscii") then Some the_look.WordStartAscii
+    else None
+
+-- that of a place where a word begins, or where one ends
+abbrev pub word_side_named : List ℕ → Option TheLook
+word_side_named w =
+    if bytes_eq w (codes "WordStartAscii") then Some the_look.WordStartAscii
     else if bytes_eq w (codes "WordEndAscii") then Some the_look.WordEndAscii
     else if bytes_eq w (codes "WordStartUnicode") then Some the_look.WordStartUnicode
     else if bytes_eq w (codes "WordEndUnicode") then Some the_look.WordEndUnicode
-    else if bytes_eq w (codes "WordStartHalfAscii") then Some the_look.WordStartHalfAscii
+    else None
+
+-- that of a place before which no word is, or behind which none is
+abbrev pub half_look_named : List ℕ → Option TheLook
+half_look_named w =
+    if bytes_eq w (codes "WordStartHalfAscii") then Some the_look.WordStartHalfAscii
     else if bytes_eq w (codes "WordEndHalfAscii") then Some the_look.WordEndHalfAscii
     else if bytes_eq w (codes "WordStartHalfUnicode") then Some the_look.WordStartHalfUnicode
     else if bytes_eq w (codes "WordEndHalfUnicode") then Some the_look.WordEndHalfUnicode
     else None
 
 abbrev pub look_named : List ℕ → Option TheLook
-look_named w = option_or (anchor_named w) (word_look_named w)
+look_named w = option_or (option_or (option_or (anchor_named w) (word_look_named w)) (word_side_named w)) (half_look_named w)
 
 abbrev pub the_look_named : List ℕ → TheLook
 the_look_named w = unwrap_or (look_named w) the_look.Start

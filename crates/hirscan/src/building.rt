@@ -40,7 +40,9 @@ fn compile(
 {
     let mut compiler = Compiler::new(alloc);
     compiler.configure(compile_config(settings, reverse));
-    match compiler.build_many_from_hir(exprs) {
+    let built = compiler.build_many_from_hir(exprs);
+    drop(compiler);
+    match built {
         Ok(nfa) => Ok(nfa),
         Err(err) => Err(BuildError::from(err)),
     }

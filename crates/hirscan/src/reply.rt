@@ -144,6 +144,37 @@ fn regex_of(alloc: Global, head: &Head) -> Result<Option<Regex>, AllocError>
     }
 }
 
+/// The reply of a search over this regex of the head's patterns.
+fn matches_reply(
+    alloc: Global,
+    regex: &Regex,
+    head: &Head,
+    h: &[u8],
+) -> Result<Reply, AllocError>
+    requires built { IsBuilt head.now.patterns.items (program_settings head.now.settings) regex.now }
+    requires searched { IsSearched (value_of_head head.now).setup head.now.patterns.items h.now }
+    ensures { IfOk result (λ r. IsSearchReply (value_of_head head.now).setup head.now.patterns.items h.now r.ending (string_bytes r.text)) }
+{
+    let mut cache = Cache::new(alloc, regex)?;
+    let reply = list_matches(alloc, regex, &mut cache, head, h);
+    drop(cache);
+    reply
+}
+
+/// The reply of a search for the head's patterns, which may be too large.
+fn found_reply(alloc: Global, head: &Head, h: &[u8]) -> Result<Reply, AllocError>
+    requires few { length head.now.patterns.items ≤ greatest_index + 1 }
+    requires searched { IsSearched (value_of_head head.now).setup head.now.patterns.items h.now }
+    ensures { IfOk result (λ r. IsSearchReply (value_of_head head.now).setup head.now.patterns.items h.now r.ending (string_bytes r.text)) }
+{
+    let Some(regex) = regex_of(alloc, head)? else {
+        return refusal(alloc, "size limit");
+    };
+    let reply = matches_reply(alloc, &regex, head, h);
+    drop(regex);
+    reply
+}
+
 /// The reply where this head was read, with this haystack behind it.
 fn search_reply(alloc: Global, head: &Head, h: &[u8]) -> Result<Reply, AllocError>
     requires few { length head.now.patterns.items ≤ greatest_index + 1 }
@@ -152,11 +183,7 @@ fn search_reply(alloc: Global, head: &Head, h: &[u8]) -> Result<Reply, AllocErro
     if let Some(cause) = refusal_cause(alloc, head, h)? {
         return refusal(alloc, cause.as_str());
     }
-    let Some(regex) = regex_of(alloc, head)? else {
-        return refusal(alloc, "size limit");
-    };
-    let mut cache = Cache::new(alloc, &regex)?;
-    list_matches(alloc, &regex, &mut cache, head, h)
+    found_reply(alloc, head, h)
 }
 
 /// The reply to an input, where `input` is the whole of it or begins it and is above the limit.

@@ -3,7 +3,7 @@ ghost use Rattle.std.specs.Prelude.{◌≡◌, ℕ, List, ◌+◌, ◌==◌, ◌
 ghost use Rattle.std.specs.List.{list_all, position};
 ghost use Rattle.hir_core.specs.Means.{is_member};
 ghost use Rattle.hirscan.specs.Words.{is_scalar, with_byte, with_range, is_covered, AreLowEnds, class_ranges, scalar_ranges};
-ghost use Rattle.hirscan.specs.Readers.{line_word, setting_word, tree_word, number, bound, order, switch, yes_or_no, hex_bytes, hex_byte, item_ends, the_ends, hex_number, hex_ends, the_hex_ends, anchor_named, word_look_named, look_named, word_at};
+ghost use Rattle.hirscan.specs.Readers.{line_word, setting_word, tree_word, number, bound, order, switch, yes_or_no, hex_bytes, hex_byte, item_ends, the_ends, hex_number, hex_ends, the_hex_ends, anchor_named, word_look_named, word_side_named, half_look_named, look_named, word_at};
 ghost use Rattle.hirscan.specs.LineFault.{unless_read, item_fault, scalar_item_fault, byte_fault, first_of};
 ghost use Rattle.hirscan.specs.Tells.{texts, words_left, TellsLineFault};
 ghost use Rattle.hirscan.specs.declared.fault.FaultKind.TheVariants.{BadHex};
@@ -541,7 +541,16 @@ fn word_look_named(word: &[u8]) -> Option<Look>
         Some(Look::WordUnicode)
     } else if word == b"WordUnicodeNegate".as_slice() {
         Some(Look::WordUnicodeNegate)
-    } else if word == b"WordStartAscii".as_slice() {
+    } else {
+        None
+    }
+}
+
+/// The look with this name of a place where a word begins, or where one ends.
+fn word_side_named(word: &[u8]) -> Option<Look>
+    ensures { result ≡ word_side_named word.now }
+{
+    if word == b"WordStartAscii".as_slice() {
         Some(Look::WordStartAscii)
     } else if word == b"WordEndAscii".as_slice() {
         Some(Look::WordEndAscii)
@@ -549,7 +558,16 @@ fn word_look_named(word: &[u8]) -> Option<Look>
         Some(Look::WordStartUnicode)
     } else if word == b"WordEndUnicode".as_slice() {
         Some(Look::WordEndUnicode)
-    } else if word == b"WordStartHalfAscii".as_slice() {
+    } else {
+        None
+    }
+}
+
+/// The look with this name of a place before which no word is, or behind which none is.
+fn half_look_named(word: &[u8]) -> Option<Look>
+    ensures { result ≡ half_look_named word.now }
+{
+    if word == b"WordStartHalfAscii".as_slice() {
         Some(Look::WordStartHalfAscii)
     } else if word == b"WordEndHalfAscii".as_slice() {
         Some(Look::WordEndHalfAscii)
@@ -566,5 +584,8 @@ fn word_look_named(word: &[u8]) -> Option<Look>
 pub(crate) fn look_named(word: &[u8]) -> Option<Look>
     ensures { result ≡ look_named word.now }
 {
-    anchor_named(word).or(word_look_named(word))
+    anchor_named(word)
+        .or(word_look_named(word))
+        .or(word_side_named(word))
+        .or(half_look_named(word))
 }

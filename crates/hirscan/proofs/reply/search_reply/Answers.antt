@@ -15,5 +15,5 @@ returns-in-Some c =
 pub returns : goal.returns
 returns c =
     let at = value_of_head c.args.head.now in
-    answer_of_search c.list_matches.result at.setup at.patterns c.args.h.now
-    (sym (rw c.in_default.is at c.in_ok-cause.ensures)) c.list_matches.ensures
+    answer_of_search c.found_reply.result at.setup at.patterns c.args.h.now
+    (sym (rw c.in_default.is at c.in_ok-cause.ensures)) c.found_reply.ensures
