@@ -167,13 +167,6 @@ IsKept-added v m n used k add b s i real fresh room e is put = record {
   counted = omega (arith, i.counted, is, states_cost-append v.stride v.states s);
 }
 
-pub resized : (cells : List ℕ) (n m stride v : ℕ) → n ≡ length cells → m ≡ length cells →
-    take (n + stride) cells ++ replicate (n + stride - m) v ≡ cells ++ replicate stride v
-resized cells n m stride v e f =
-    let all : take (n + stride) cells ≡ cells = take_all (n + stride) cells (omega arith) in
-    let rest : n + stride - m ≡ stride = omega arith in
-    rw (all, rest)
-
 -- the parts of a cache with one state more
 pub added_parts : (v : CacheValue) (b : Bool) (s copy : StateValue) (id : ℕ) (states : List StateValue) (ids cells : List ℕ) →
     states ≡ v.states ++ copy ∷ [] → copy ≡ s → ids ≡ v.ids ++ id ∷ [] → id ≡ new_id v b s →

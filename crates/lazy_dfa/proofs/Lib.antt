@@ -69,6 +69,7 @@ pub mod WalkClauseLemmas
 pub mod WhichUnitLemmas
 pub mod WhichBudgetLemmas
 pub mod WhichLoopLemmas
+pub mod WhichToldLemmas
 pub mod WalkRestLemmas
 pub mod WalkPlaceLemmas
 pub mod WalkTurnLemmas

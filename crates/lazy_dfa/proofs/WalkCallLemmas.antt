@@ -1,5 +1,6 @@
 -- What a call of an overlapping walk has done: one that reads nothing, and one that reads on.
-use Rattle.std.proofs.Common.{◌≡◌, ◌⊎◌, ℕ, ◌+◌, ◌-◌, ◌*◌, ◌<◌, ◌≤◌, Bool, true, false, List, ◌∷◌, Option, Some, None, if◌then◌else◌, refl, sym}
+use Rattle.std.proofs.Common.{◌≡◌, ◌⊎◌, ℕ, ◌+◌, ◌-◌, ◌*◌, ◌<◌, ◌≤◌, ◌==◌, ◌||◌, not, Bool, true, false, List, ◌∷◌, Option, Some, None}
+use Rattle.std.proofs.Common.{if◌then◌else◌, refl, sym}
 use Rattle.std.proofs.Common.{ap, ◌∙◌, subst, inl, inr, ⊎_elim, arith, true≢false, []}
 use Rattle.std.specs.Prelude.{Result, Ok, Err, IfOk, IfErr, OnOk, min, ⊤}
 use Rattle.search_types.specs.declared.match_error.MatchErrorKind.{MatchErrorKind}
@@ -8,17 +9,18 @@ use Rattle.search_types.specs.Inputs.{Search}
 use Rattle.nfa_core.specs.Places.{first}
 use Rattle.lazy_dfa.specs.Caches.{CacheValue, IsCacheOf, greatest, progress_len}
 use Rattle.lazy_dfa.specs.declared.overlapping_state.Walk.{Walk}
-use Rattle.lazy_dfa.specs.declared.overlapping_state.Walk.TheVariants.{Fresh, Ended, Failed}
+use Rattle.lazy_dfa.specs.declared.overlapping_state.Walk.TheVariants.{Fresh, Ended, Failed, Stopped}
 use Rattle.lazy_dfa.specs.Dfas.{Dfa, IsDfa, reader}
 use Rattle.lazy_dfa.specs.Linked.{Grows, HasCleared, GrowsOrClears}
 use Rattle.lazy_dfa.specs.Readers.{Reader}
 use Rattle.lazy_dfa.specs.SearchAnswers.{half_of, Told, told_of, pass_distance}
-use Rattle.lazy_dfa.specs.PassPlaces.{came, left_at, pass_start}
+use Rattle.lazy_dfa.specs.PassPlaces.{came, left_at, last_place, pass_start}
 use Rattle.lazy_dfa.specs.StartCalls.{start_refusal}
 use Rattle.lazy_dfa.specs.Steps.{most_inserts}
 use Rattle.lazy_dfa.specs.Walks.{Rest, nothing_left, refused, others, rest_of, IsWalk, WalkState}
+use Rattle.lazy_dfa.specs.WalkAnswers.{lists_more, stop_behind, next_index}
 use Rattle.lazy_dfa.specs.WalkAnswers.{reads_on, call_place, units_there, call_units, call_starts, told_left, TellsNext, GivesUpOn, at_unit}
-use Rattle.lazy_dfa.specs.WalkAnswers.{AnswersWalk, failed_by, told_by_call, rest_at, units_at, told_from, GivesUpFrom, ReadsOn, MakesCall}
+use Rattle.lazy_dfa.specs.WalkAnswers.{AnswersWalk, failed_by, told_by_call, rest_at, units_at, told_by_reading, GivesUpFrom, ReadsOn, MakesCall}
 use Rattle.lazy_dfa.specs.Changes.{Changes, unchanged, IsMadeAt}
 use Rattle.lazy_dfa.specs.WalkAnswers.{call_made, IsMadeOnCall}
 use Rattle.lazy_dfa.specs.WalkAnswers.{value_before}
@@ -57,6 +59,7 @@ tells_refusal r q w rest e is none some = let left : rest_of r q w ≡ refused e
   answer = sym (ap (λ (x : Rest). told_left x.ends x.refusal) left);
   found = sym (ap (λ (x : Rest). half_of (first x.ends)) left);
   left = sym (ap others left);
+  stops = tt;
 }
   where
     made : (rest : Rest) (e : MatchErrorKind) → rest.ends ≡ [] → rest.refusal ≡ Some e → rest ≡ refused e
@@ -67,6 +70,7 @@ tells_none r q w is = record {
   answer = sym (ap (λ (x : Rest). told_left x.ends x.refusal) is);
   found = sym (ap (λ (x : Rest). half_of (first x.ends)) is);
   left = sym (ap others is);
+  stops = sym (ap (λ (x : Rest). stop_behind (next_index r q w) (first x.ends)) is);
 }
 
 -- ---- calls that read nothing
@@ -126,6 +130,17 @@ failed_call d q v m n e =
 
 -- ---- calls that read on
 
+-- a call that reads on begins with the first end of a state's list
+index_on : (r : Reader) (q : Search) (w : Walk) → reads_on r q w ≡ true → next_index r q w ≡ 1
+index_on r q Fresh reads = refl
+index_on r q Ended reads = refl
+index_on r q (Failed e) reads = refl
+index_on r q (Stopped stop) reads = no_more (lists_more r q stop) (stop.at == last_place r.automaton.reverse q) reads
+  where
+    no_more : (b c : Bool) → not (b || c) ≡ true → (if b then stop.index + 1 else 1) ≡ 1
+    no_more true c e = absurd (true≢false (sym e))
+    no_more false c e = refl
+
 abbrev pub told_with : ℕ → ℕ → Told
 told_with before k = record { searched = min (before + k) greatest; progress = None }
 
@@ -174,9 +189,9 @@ module _ (d : Dfa) (q : Search) (w : Walk) (old mid new : CacheValue) (m1 m m2 n
   told_after k =
       told_with (old.searched + progress_len old.progress) (pass_distance d.nfa.automaton.reverse (left_at d.nfa.automaton.reverse q at) k)
 
-  told_so : told_of mid ≡ told_of old → told_of new ≡ told_from r q at (told_of mid) → told_of new ≡ told_by_call r q w (told_of old)
+  told_so : told_of mid ≡ told_of old → told_of new ≡ told_by_reading r q at (told_of mid) → told_of new ≡ told_by_call r q w (told_of old)
   told_so e f =
-      f ∙ ap (told_from r q at) e
+      f ∙ ap (told_by_reading r q at) e
       ∙ sym (ap (λ (b : Bool). if b then told_after (call_units r q w) else told_of old) reads ∙ ap told_after same_units)
 
   abbrev Followed : CacheValue → Told → Type 0
@@ -188,10 +203,10 @@ module _ (d : Dfa) (q : Search) (w : Walk) (old mid new : CacheValue) (m1 m m2 n
       (λ (c : HasCleared old mid). inr (cleared_grows d old mid new c kept))
       before
 
-  followed : GrowsOrClears d mid new → Followed mid (told_from r q at (told_of mid)) → Followed old (told_by_call r q w (told_of old))
+  followed : GrowsOrClears d mid new → Followed mid (told_by_reading r q at (told_of mid)) → Followed old (told_by_call r q w (told_of old))
   followed kept f = ⊎_elim
       (λ (g : Grows d old mid × (told_of mid ≡ told_of old)). ⊎_elim
-      (λ (h : Grows d mid new × (told_of new ≡ told_from r q at (told_of mid))).
+      (λ (h : Grows d mid new × (told_of new ≡ told_by_reading r q at (told_of mid))).
       inl (grows_trans d old mid new made own g.0 h.0, told_so g.1 h.1))
       (λ (c : HasCleared mid new). inr (subst (λ (k : ℕ). min (k + 1) greatest ≤ new.clears) g.0.clears c))
       f)
@@ -203,7 +218,7 @@ module _ (d : Dfa) (q : Search) (w : Walk) (old mid new : CacheValue) (m1 m m2 n
       (left_at d.nfa.automaton.reverse q at) k)
 
   -- how far it came, whether the cache was cleared or not
-  told_then : (t : Told) → told_of new ≡ told_from r q at t → told_of new ≡ told_by_call r q w t
+  told_then : (t : Told) → told_of new ≡ told_by_reading r q at t → told_of new ≡ told_by_call r q w t
   told_then t f = f ∙ sym (ap (λ (b : Bool). if b then with_way t (call_units r q w) else t) reads ∙ ap (with_way t) same_units)
 
   cleared_on : mid.clears ≡ old.clears → HasCleared mid new → HasCleared old new
@@ -217,19 +232,19 @@ module _ (d : Dfa) (q : Search) (w : Walk) (old mid new : CacheValue) (m1 m m2 n
       (c.2 ∙ ap (λ (u : ℕ). walk_over r.automaton.reverse q at 0 c.0 (u - 1)) (sym same_units))
 
   abbrev IsReadOk : Type 0
-  IsReadOk = ((told_of new ≡ told_from r q at (told_of mid)) × (new.clears ≡ mid.clears)) ⊎ (HasCleared mid new × IsCut)
+  IsReadOk = ((told_of new ≡ told_by_reading r q at (told_of mid)) × (new.clears ≡ mid.clears)) ⊎ (HasCleared mid new × IsCut)
 
   told_ok : GrowsOrClears d mid new → IsReadOk →
       ((told_of new ≡ told_by_call r q w (told_of old)) × (new.clears ≡ old.clears)) ⊎ (HasCleared old new × TellsCallAnew r q w (told_of new))
   told_ok kept f = ⊎_elim
       (λ (s : (told_of mid ≡ told_of old) × (mid.clears ≡ old.clears)). ⊎_elim
-      (λ (y : (told_of new ≡ told_from r q at (told_of mid)) × (new.clears ≡ mid.clears)). inl (told_so s.0 y.0, y.1 ∙ s.1))
+      (λ (y : (told_of new ≡ told_by_reading r q at (told_of mid)) × (new.clears ≡ mid.clears)). inl (told_so s.0 y.0, y.1 ∙ s.1))
       (λ (y : HasCleared mid new × IsCut). inr (cleared_on s.1 y.0, cut y.1))
       f)
       (λ (c : HasCleared old mid × ((w ≡ Fresh) × IsFresh (told_of mid))). inr (
         cleared_grows d old mid new c.0 kept,
         ⊎_elim
-            (λ (y : (told_of new ≡ told_from r q at (told_of mid)) × (new.clears ≡ mid.clears)).
+            (λ (y : (told_of new ≡ told_by_reading r q at (told_of mid)) × (new.clears ≡ mid.clears)).
             anew_at_start c.1.0 (told_of mid) c.1.1 (told_then (told_of mid) y.0))
             (λ (y : HasCleared mid new × IsCut). cut y.1)
             f,
@@ -284,6 +299,8 @@ module _ (d : Dfa) (q : Search) (w : Walk) (old mid new : CacheValue) (m1 m m2 n
       answer = sym (ap (λ (y : Rest). told_left y.ends y.refusal) left ∙ x.ok.0);
       found = x.ok.1 ∙ sym (ap (λ (y : Rest). half_of (first y.ends)) left);
       left = x.ok.2 ∙ sym (ap others left);
+      stops = x.ok.5 ∙ sym (ap (λ (i : ℕ). stop_behind i (first (rest_of r q w).ends)) (index_on r q w reads)
+          ∙ ap (λ (y : Rest). stop_behind 1 (first y.ends)) left);
     });
     walk = x.ok.3;
     failed = tt;

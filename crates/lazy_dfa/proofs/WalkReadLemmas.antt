@@ -17,7 +17,7 @@ use Rattle.search_types.specs.Places.{counts}
 use Rattle.lazy_dfa.specs.Caches.{CacheValue, IsCacheOf, IsRow, HeldAt, Names, names_dead, names_held, greatest, progress_len, lacks_room}
 use Rattle.lazy_dfa.specs.Courses.{state_behind}
 use Rattle.lazy_dfa.specs.declared.passing.Position.{Position}
-use Rattle.lazy_dfa.specs.declared.overlapping_state.Walk.TheVariants.{Ended}
+use Rattle.lazy_dfa.specs.declared.overlapping_state.Walk.TheVariants.{Ended, Stopped}
 use Rattle.lazy_dfa.specs.Dfas.{Dfa, IsDfa, reader}
 use Rattle.lazy_dfa.specs.Linked.{Grows, HasCleared, GrowsOrClears, IsMoved}
 use Rattle.lazy_dfa.specs.Passes.{is_dead, is_empty, next_value, next_place}
@@ -31,7 +31,8 @@ use Rattle.lazy_dfa.specs.Steps.{most_inserts}
 use Rattle.lazy_dfa.specs.Turns.{Leaves}
 use Rattle.lazy_dfa.specs.Walks.{Rest, WalkState, nothing_left, onto, others, listed, rest_from, rest_of, value_past, rest_past, StopsAt}
 use Rattle.lazy_dfa.specs.Walks.{IsWalk}
-use Rattle.lazy_dfa.specs.WalkAnswers.{units_met, told_left, value_before, rest_at, units_at, told_from, GivesUpFrom, ReadsOn}
+use Rattle.lazy_dfa.specs.WalkAnswers.{without_id, stop_behind}
+use Rattle.lazy_dfa.specs.WalkAnswers.{units_met, told_left, value_before, rest_at, units_at, told_by_reading, GivesUpFrom, ReadsOn}
 use Rattle.lazy_dfa.specs.Changes.{Changes, unchanged, IsMadeAt}
 use Rattle.lazy_dfa.specs.Courses.{AreRead}
 use Rattle.lazy_dfa.proofs.ChangesLemmas.{changes_into, changes_on, changes_moved, made_within, made_behind}
@@ -48,7 +49,7 @@ use Rattle.lazy_dfa.proofs.SpanTurnLemmas.{held_moved, finished_moves, told_ther
 use Rattle.lazy_dfa.proofs.WalkQuitLemmas.{no_quit_yet, no_quit_once, no_quit_read, no_quit_on, came_steps}
 use Rattle.lazy_dfa.proofs.WalkPlaceLemmas.{place_came, left_next, comes_far, past_next, past_one, value_later, rest_later, units_later}
 use Rattle.lazy_dfa.proofs.WalkRestLemmas.{some_listed, none_left, dead_left, step_left, quit_left, pass_left, pass_units, tell_units}
-use Rattle.lazy_dfa.proofs.WalkRestLemmas.{some_units}
+use Rattle.lazy_dfa.proofs.WalkRestLemmas.{some_units, stops_first}
 use Rattle.lazy_dfa.proofs.WholePassLemmas.{min_twice}
 use Rattle.nfa_core.proofs.ForCallers.{place_zero}
 use Rattle.lazy_dfa.proofs.FoundLemmas.{place_add}
@@ -385,7 +386,7 @@ module _ (d : Dfa) (q : Search) (made : IsDfa d) (from p : Point) (own : IsCache
     all_units : units ≡ x.steps + 1
     all_units = x.units ∙ ap (λ (k : ℕ). x.steps + k) one_unit
 
-    tells_so : KeepsOn d from.cache t.behind index → told_of v ≡ told_from (reader d) q from.at (told_of from.cache)
+    tells_so : KeepsOn d from.cache t.behind index → told_of v ≡ told_by_reading (reader d) q from.at (told_of from.cache)
     tells_so k =
         ap told_of t.ended
         ∙ (told_there t.behind (min (from.cache.searched + progress_len from.cache.progress) greatest) index (gave_up_at rev q p.at)
@@ -404,7 +405,8 @@ module _ (d : Dfa) (q : Search) (made : IsDfa d) (from p : Point) (own : IsCache
     IsAnswer w = (told_left (rest_at (reader d) q from.at).ends (rest_at (reader d) q from.at).refusal ≡ Ok tt) ×
         (w.found ≡ half_of (first (rest_at (reader d) q from.at).ends)) ×
         (rest_of (reader d) q w.walk ≡ others (rest_at (reader d) q from.at)) ×
-        IsWalk d v q w.walk × (w.found ≡ None → w.walk ≡ Ended)
+        IsWalk d v q w.walk × (w.found ≡ None → w.walk ≡ Ended) ×
+        (without_id w.walk ≡ stop_behind 1 (first (rest_at (reader d) q from.at).ends))
 
     -- it has read the unit here
     quietly : StartsQuietly d q (came rev q from.at) → StartsQuietly d q (suc (came rev q p.at))
@@ -425,7 +427,7 @@ module _ (d : Dfa) (q : Search) (made : IsDfa d) (from p : Point) (own : IsCache
         (inl (grows_moved d t.behind v moved))
 
     told_over : IsToldHere v kept_over true →
-        ((told_of v ≡ told_from (reader d) q from.at (told_of from.cache)) × (v.clears ≡ from.cache.clears)) ⊎
+        ((told_of v ≡ told_by_reading (reader d) q from.at (told_of from.cache)) × (v.clears ≡ from.cache.clears)) ⊎
         (HasCleared from.cache v × ((m : ℕ) × (m < units) × (told_of v ≡ walk_over rev q from.at 0 m (units - 1))))
     told_over (inl e) = inl (
       e.0 ∙ walk_is_told (reader d) q from.at p.at x.steps (told_of from.cache) start within x.place x.left all_units,
@@ -479,6 +481,7 @@ module _ (d : Dfa) (q : Search) (made : IsDfa d) (from p : Point) (own : IsCache
           sym (ap others all),
           tt,
           λ f. refl,
+          sym (ap (λ (rest : Rest). stop_behind 1 (first rest.ends)) all),
         )
       where
         by_why : (is_dead behind ≡ true) ⊎ (p.at ≡ last_place rev q) →
@@ -529,6 +532,9 @@ module _ (d : Dfa) (q : Search) (made : IsDfa d) (from p : Point) (own : IsCache
           subst (λ (i : ℕ). StopsAt d v q (record { id = position.id; index = 1; at = i })) (sym t.place)
               (record { within = within; held = held_past l.3; index = l.3 }),
           λ f. absurd (l.4 (sym best_is ∙ ap pair_of f)),
+          ap (λ (i : ℕ). Stopped (record { id = 0; index = 1; at = i })) t.place
+              ∙ sym (ap (λ (rest : Rest). stop_behind 1 (first rest.ends)) lists_all
+              ∙ stops_first (counted p.at) p.at past.matches (rest_past (reader d) q p.at) lists),
         )
 
     pub ends_over : ReadsOn d q from.at from.cache v from.determinized m from.inserted n

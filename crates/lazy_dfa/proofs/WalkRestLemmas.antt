@@ -15,7 +15,8 @@ use Rattle.lazy_dfa.specs.Courses.{state_behind, AreRead}
 use Rattle.lazy_dfa.specs.Passes.{index_at, is_empty, is_dead, next_value, next_place}
 use Rattle.lazy_dfa.specs.Readers.{Reader, is_quit}
 use Rattle.lazy_dfa.specs.Walks.{Rest, nothing_left, refused, onto, others, unless_quit_at, end_of, listed, rest_from}
-use Rattle.lazy_dfa.specs.WalkAnswers.{units_met, told_left}
+use Rattle.lazy_dfa.specs.WalkAnswers.{units_met, told_left, stop_behind}
+use Rattle.lazy_dfa.specs.declared.overlapping_state.Walk.TheVariants.{Stopped}
 use Rattle.lazy_dfa.specs.WalkTurns.{tells_end, TellsNone}
 use Rattle.lazy_dfa.proofs.TurnLemmas.{place_next}
 use Rattle.nfa_core.proofs.ForCallers.{place_zero}
@@ -46,6 +47,13 @@ pub some_listed : (counted : Bool) (at : ℕ) (ms : List ℕ) (best : Option (�
 some_listed false at ms best rest e = absurd (true≢false (sym e))
 some_listed true at [] best rest e = absurd (true≢false (sym e))
 some_listed true at (m ∷ ms) best rest e = (refl, refl, refl, omega arith, λ f. true≢false (ap is_some f))
+
+-- and a walk that told it stops at its place
+pub stops_first : (counted : Bool) (at : ℕ) (ms : List ℕ) (rest : Rest) → (counted && not (is_empty ms)) ≡ true →
+    stop_behind 1 (first (onto (if counted then map (end_of at) ms else []) rest).ends) ≡ Stopped (record { id = 0; index = 1; at = at })
+stops_first false at ms rest e = absurd (true≢false (sym e))
+stops_first true at [] rest e = absurd (true≢false (sym e))
+stops_first true at (m ∷ ms) rest e = refl
 
 -- ---- one unit
 

@@ -16,7 +16,7 @@ use Rattle.lazy_dfa.specs.SearchAnswers.{half_of}
 use Rattle.lazy_dfa.specs.Passes.{next_place}
 use Rattle.lazy_dfa.specs.PassPlaces.{came, last_place, IsWithinSpan}
 use Rattle.lazy_dfa.specs.Walks.{Rest, onto, others, end_of, rest_of, rest_past, value_past, StopsAt, IsWalk, WalkState}
-use Rattle.lazy_dfa.specs.WalkAnswers.{lists_more, told_left, TellsNext, value_before, ReadsOn, MakesCall}
+use Rattle.lazy_dfa.specs.WalkAnswers.{without_id, stop_behind, lists_more, told_left, TellsNext, value_before, ReadsOn, MakesCall}
 use Rattle.lazy_dfa.specs.WalkAnswers.{StartsQuietly, HasReadQuietly}
 use Rattle.lazy_dfa.specs.Changes.{unchanged}
 use Rattle.lazy_dfa.proofs.WalkQuitLemmas.{came_next}
@@ -61,6 +61,9 @@ module _ (d : Dfa) (q : Search) (v : CacheValue) (m n : ℕ) (stop : Stop) (stop
         answer = sym (ap (λ (x : Rest). told_left x.ends x.refusal) left);
         found = found ∙ sym (ap (λ (x : Rest). half_of (first x.ends)) left);
         left = ap (rest_of (reader d) q) walk ∙ sym (ap others left);
+        stops = ap without_id walk
+            ∙ sym (ap (λ (b : Bool). stop_behind (if b then stop.index + 1 else 1) (first (rest_of (reader d) q (Stopped stop)).ends)) is
+            ∙ ap (λ (x : Rest). stop_behind (stop.index + 1) (first x.ends)) left);
       }
 
       goes : IsWalk d v q (Stopped next)

@@ -14,7 +14,7 @@ use Rattle.lazy_dfa.specs.Readers.{Reader}
 use Rattle.lazy_dfa.specs.SearchAnswers.{Told, told_of, pass_distance}
 use Rattle.lazy_dfa.specs.PassPlaces.{left_at, IsWithinSpan, gave_up_at, finished}
 use Rattle.lazy_dfa.specs.Turns.{TellsTheSame}
-use Rattle.lazy_dfa.specs.WalkAnswers.{index_there, walk_running, walk_over, walk_told, units_at, told_from, LeavesCall, IsCallTold}
+use Rattle.lazy_dfa.specs.WalkAnswers.{index_there, walk_running, walk_over, walk_told, units_at, told_by_reading, LeavesCall, IsCallTold}
 use Rattle.lazy_dfa.specs.WalkAnswers.{IsCallToldSince}
 use Rattle.lazy_dfa.specs.WalkTurns.{unit_told, TellsUnit}
 use Rattle.lazy_dfa.proofs.LinkedLemmas.{not_cleared}
@@ -130,7 +130,7 @@ so_many n = record { searched = n; progress = None }
 pub walk_is_told : (r : Reader) (q : Search) (at p k : ℕ) (t : Told) → IsWithinSpan q at → IsWithinSpan q p →
     p ≡ place_of r.automaton.reverse at k → left_at r.automaton.reverse q at ≡ k + left_at r.automaton.reverse q p →
     units_at r q at ≡ k + 1 →
-    walk_over r.automaton.reverse q at (min (t.searched + progress_len t.progress) greatest) 0 k ≡ told_from r q at t
+    walk_over r.automaton.reverse q at (min (t.searched + progress_len t.progress) greatest) 0 k ≡ told_by_reading r q at t
 walk_is_told r q at p k t start within place left units =
     ap so_many (ap (λ (n : ℕ). min (min (t.searched + progress_len t.progress) greatest + n) greatest) far
     ∙ (min_twice (t.searched + progress_len t.progress) (pass_distance r.automaton.reverse (left_at r.automaton.reverse q at) (k + 1)) greatest

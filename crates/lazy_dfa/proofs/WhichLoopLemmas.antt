@@ -1,6 +1,6 @@
 -- What a walk over a whole span has done when it has told so many ends, and how it ends.
 use Rattle.std.proofs.Common.{◌≡◌, ℕ, zero, suc, ◌+◌, ◌*◌, ◌<◌, ◌≤◌, ◌||◌, Bool, true, false, List, [], ◌∷◌, ◌++◌, length, drop, take}
-use Rattle.std.proofs.Common.{get_or, Option, Some, None, ◌↔◌, IsTrue, refl, sym, ap, ◌∙◌, inl, inr, ⊎_elim, subst, arith, append_assoc}
+use Rattle.std.proofs.Common.{length-append, get_or, Option, Some, None, ◌↔◌, IsTrue, refl, sym, ap, ◌∙◌, inl, inr, ⊎_elim, subst, arith, append_assoc}
 use Rattle.std.proofs.Common.{mul-le-mul_right, if◌then◌else◌, true≢false}
 use Rattle.std.specs.Prelude.{Result, Ok, Err, IfErr, ⊤}
 use Rattle.std.proofs.lemmas.Bool.{cases_Bool}
@@ -24,12 +24,14 @@ use Rattle.lazy_dfa.specs.Steps.{most_inserts}
 use Rattle.lazy_dfa.specs.Walks.{Rest, whole_rest, rest_of, IsWalk, WalkState}
 use Rattle.lazy_dfa.specs.WalkAnswers.{call_made, told_left, TellsNext, AnswersWalk, MakesCall, with_pattern, is_full, with_ends, Which}
 use Rattle.lazy_dfa.specs.WalkAnswers.{which_from, which_of, AnswersWhich, MakesWhich, which_made, HasReadQuietly}
+use Rattle.lazy_dfa.specs.WalkAnswers.{without_id, walk_behind, walk_after, calls_for, IsToldAfter, IsWhichTold, GivesUpOn}
 use Rattle.lazy_dfa.specs.Changes.{Changes, unchanged}
 use Rattle.lazy_dfa.specs.WalkAnswers.{IsMadeOnCall, IsMadeOnWalk}
 use Rattle.lazy_dfa.proofs.ChangesLemmas.{changes_into, changes_on}
 use Rattle.lazy_dfa.proofs.WhichChangesLemmas.{on_walk}
 use Rattle.lazy_dfa.proofs.LinkedLemmas.{grows_refl, grows_or_clears_trans}
 use Rattle.lazy_dfa.proofs.SearchClauseLemmas.{never_here}
+use Rattle.lazy_dfa.proofs.WhichToldLemmas.{same_behind, same_give_up, told_next, left_next, none_told}
 use Rattle.lazy_dfa.proofs.WhichBudgetLemmas.{left_to_make, IsWithinWalk, IsOn, some_told, few_made, spends, gives_up}
 
 -- ---- sets
@@ -131,6 +133,10 @@ pub record HasCome (d : Dfa) (q : Search) (old now : CacheValue) (m1 m2 n1 n2 : 
   pub determinized : m2 + left_to_make (reader d) q w ≤ m1 + which_made (reader d) q
   pub inserted : n2 + left_to_make (reader d) q w * most_inserts d ≤ n1 + which_made (reader d) q * most_inserts d
   pub quits : HasReadQuietly d q w
+  pub behind : without_id w ≡ walk_after (reader d) q (length done)
+  pub told : IsToldAfter (reader d) q (length done) old now
+  pub calls : length done + calls_for q.earliest so_far (rest_of (reader d) q w).ends ≡
+      calls_for q.earliest set (whole_rest (reader d) q).ends
   pub made : ℕ
   pub few : made + left_to_make (reader d) q w ≤ which_made (reader d) q
   pub changes : Changes d (IsMadeOnWalk d q) old now made
@@ -148,10 +154,16 @@ begins d q v m n set s is = subst (λ (w : Walk). HasCome d q v v m m n n set se
   determinized = omega arith;
   inserted = omega arith;
   quits = tt;
+  behind = refl;
+  told = none_told (reader d) q v;
+  calls = none_more (calls_for q.earliest set (whole_rest (reader d) q).ends);
   made = 0;
   few = omega arith;
   changes = unchanged v 0 refl;
 })
+  where
+    none_more : (k : ℕ) → 0 + k ≡ k
+    none_more k = omega arith
 
 pub begins_well : (d : Dfa) (q : Search) (v : CacheValue) (s : WalkState) → s ≡ record { found = None; walk = Fresh } → IsWalk d v q s.walk
 begins_well d q v s is = subst (IsWalk d v q) (sym (ap (λ (x : WalkState). x.walk) is)) tt
@@ -179,8 +191,8 @@ module _ (d : Dfa) (q : Search) (old now next : CacheValue) (m1 m2 m3 n1 n2 n3 :
 
   -- the walk is over with this call
   over : (result : Answer) (new : List Bool) → Call result → AnswersWhich d next q set new result →
-      MakesWhich d q old next m1 m3 n1 n3 set new result
-  over result new call answer = record {
+      IsWhichTold r q set new result old next → MakesWhich d q old next m1 m3 n1 n3 set new result
+  over result new call answer told = record {
     answer = answer;
     kept = grows_or_clears_trans d old now next fit own stands.kept call.kept;
     determinized = let le = spent m1 m2 m3 (call_made r q w) 0 (left_to_make r q w) (which_made r q) stands.determinized call.determinized
@@ -190,7 +202,30 @@ module _ (d : Dfa) (q : Search) (old now next : CacheValue) (m1 m2 m3 n1 n2 n3 :
     changes = let small = stands.few in let this = few in
         changes_on d (IsMadeOnWalk d q) old now stands.made stands.changes next (call_made r q w) (which_made r q)
         (omega (arith, small, this)) (call_changes result call);
+    told = told;
   }
+
+  abbrev come : ℕ
+  come = length stands.done
+
+  abbrev needed : ℕ
+  needed = calls_for q.earliest set (whole_rest r q).ends
+
+  told_on : Call done_well → IsToldAfter r q (suc come) old next
+  told_on call = told_next d q old now next w come call.kept stands.behind stands.told call.anew
+
+  -- where one call more is made
+  last_told : (new : List Bool) → Call done_well → come + 1 ≡ needed → IsWhichTold r q set new done_well old next
+  last_told new call last =
+      subst (λ (k : ℕ). IsToldAfter r q k old next) (let e = last in one_more come needed e) (told_on call)
+    where
+      one_more : (k n : ℕ) → k + 1 ≡ n → suc k ≡ n
+      one_more k n e = omega (arith, e)
+
+  within_ends : come ≤ length (whole_rest r q).ends
+  within_ends =
+      let sum : length (whole_rest r q).ends ≡ come + length rest.ends = ap length stands.ends ∙ length-append stands.done rest.ends in
+      omega (arith, sum)
 
   tells : Call done_well → TellsNext r q w after done_well
   tells call = by_answer call.answer
@@ -217,11 +252,26 @@ module _ (d : Dfa) (q : Search) (old now next : CacheValue) (m1 m2 m3 n1 n2 n3 :
       let told = told_failure rest.ends rest.refusal e t.answer in
       let is = nothing_told (Some e) told.0 told.1 in
       inl (ap (λ (x : Which). told_left [] x.refusal) is, ap (λ (x : Which). x.set) is)
-  refused_with e (inr (inl lacks)) = inr (length stands.done, so_far_is, inl lacks)
-  refused_with e (inr (inr g)) = inr (length stands.done, so_far_is, inr (g.0, g.1, gives_up d next q g.0 w stands.on within stands.quits g.2))
+  refused_with e (inr (inl lacks)) = inr (come, within_ends, so_far_is, inl lacks)
+  refused_with e (inr (inr g)) = inr (
+    come,
+    within_ends,
+    so_far_is,
+    inr (
+      g.0,
+      g.1,
+      subst (λ (x : Walk). GivesUpOn d next q x g.0) stands.behind (same_give_up d next q g.0 w g.2),
+      gives_up d next q g.0 w stands.on within stands.quits g.2,
+    ),
+  )
 
   pub fails : (e : MatchErrorKind) → Call (failure e) → MakesWhich d q old next m1 m3 n1 n3 set so_far (failure e)
-  fails e call = over (failure e) so_far call (refused_with e call.answer)
+  fails e call = over (failure e) so_far call (refused_with e call.answer) (
+    come,
+    within_ends,
+    so_far_is,
+    left_next d q old now next w come call.kept stands.behind stands.told e call.anew,
+  )
 
   pub none_left : after.found ≡ None → Call done_well → MakesWhich d q old next m1 m3 n1 n3 set so_far done_well
   none_left none call =
@@ -229,6 +279,7 @@ module _ (d : Dfa) (q : Search) (old now next : CacheValue) (m1 m2 m3 n1 n2 n3 :
       let gone = none_found rest.ends (sym none ∙ t.found) in
       let is = nothing_told None gone (told_well rest.ends rest.refusal gone t.answer) in
       over done_well so_far call (inl (ap (λ (x : Which). told_left [] x.refusal) is, ap (λ (x : Which). x.set) is))
+      (last_told so_far call (ap (λ (ends : List (ℕ × ℕ)). come + calls_for q.earliest so_far ends) (sym gone) ∙ stands.calls))
 
   -- ---- an end is told
 
@@ -254,12 +305,25 @@ module _ (d : Dfa) (q : Search) (old now next : CacheValue) (m1 m2 m3 n1 n2 n3 :
         ∙ ap (λ (l : List (ℕ × ℕ)). which_from q.earliest so_far l rest.refusal) (sym told_is)
         ∙ stands.which
 
+    -- the calls that are still to be made, this one among them
+    abbrev calls_then : ℕ
+    calls_then = suc (calls_for q.earliest more left)
+
+    calls_there : calls_for q.earliest so_far rest.ends ≡ (if q.earliest || is_full more then 1 else calls_then)
+    calls_there =
+        ap (calls_for q.earliest so_far) told_is
+        ∙ sym (ap (λ (s : List Bool). if q.earliest || is_full s then 1 else suc (calls_for q.earliest s left)) more_is)
+
     pub stops : (q.earliest || is_full more) ≡ true → MakesWhich d q old next m1 m3 n1 n3 set more done_well
     stops enough =
         let is : record { set = more; refusal = None } ≡ which_of r q set =
         sym (ap (λ (b : Bool). if b then record { set = more; refusal = None } else which_from q.earliest more left rest.refusal) enough)
         ∙ step_is in
         over done_well more call (inl (ap (λ (x : Which). told_left [] x.refusal) is, ap (λ (x : Which). x.set) is))
+        (last_told more call (ap (λ (k : ℕ). come + k) (sym (calls_there ∙ ap (λ (b : Bool). if b then 1 else calls_then) enough)) ∙ stands.calls))
+
+    one_longer : length (stands.done ++ end_of_half half ∷ []) ≡ suc come
+    one_longer = let sum = length-append stands.done (end_of_half half ∷ []) in omega (arith, sum)
 
     few_then : call_made r q w + left_to_make r q after.walk ≤ left_to_make r q w
     few_then = spends r q stands.done left (end_of_half half) all_is w after.walk within (within_walk d next q after.walk call.walk)
@@ -282,11 +346,24 @@ module _ (d : Dfa) (q : Search) (old now next : CacheValue) (m1 m2 m3 n1 n2 n3 :
       inserted = spent_on n1 n2 n3 (call_made r q w) (left_to_make r q after.walk) (left_to_make r q w) (which_made r q) (most_inserts d)
           stands.inserted call.inserted few_then;
       quits = call.quits stands.quits;
+      behind = (tells call).stops ∙ (same_behind r q w ∙ (ap (walk_behind r q) stands.behind ∙ ap (walk_after r q) (sym one_longer)));
+      told = subst (λ (k : ℕ). IsToldAfter r q k old next) (sym one_longer) (told_on call);
+      calls =
+          let here : come + calls_then ≡ needed = ap (λ (k : ℕ). come + k)
+          (sym (calls_there ∙ ap (λ (b : Bool). if b then 1 else calls_then) on)) ∙ stands.calls in
+          let there : calls_for q.earliest more (rest_of r q after.walk).ends ≡ calls_for q.earliest more left =
+          ap (λ (x : Rest). calls_for q.earliest more x.ends) left_is in
+          let longer = one_longer in
+          moved (length (stands.done ++ end_of_half half ∷ [])) come (calls_for q.earliest more (rest_of r q after.walk).ends)
+          (calls_for q.earliest more left) needed longer there here;
       made = stands.made + call_made r q w;
       few = let small = stands.few in let this = few_then in omega (arith, small, this);
       changes = changes_on d (IsMadeOnWalk d q) old now stands.made stands.changes next (call_made r q w) (stands.made + call_made r q w)
           (omega arith) (call_changes done_well call);
     }
+      where
+        moved : (k n c m all : ℕ) → k ≡ suc n → c ≡ m → n + suc m ≡ all → k + c ≡ all
+        moved k n c m all longer there here = omega (arith, longer, there, here)
 
     pub falls : length (rest_of r q after.walk).ends < length rest.ends
     falls =
@@ -314,6 +391,6 @@ is_sure d v q set after result (inl a) none quiet =
     (sym (a.0 ∙ ap (told_left [])
     (ap (λ (x : Option MatchErrorKind). (which_from q.earliest set (whole_rest (reader d) q).ends x).refusal) quiet
     ∙ no_refusal q.earliest set (whole_rest (reader d) q).ends))) tt
-is_sure d v q set after result (inr (k, added, inl lacks)) none quiet = subst (λ (x : Answer). IfErr x (λ e. e ≡ NoMemory)) (sym lacks) refl
-is_sure d v q set after result (inr (k, added, inr g)) none quiet =
-    absurd (never_here d v none q.anchored false q.haystack (span_len q) (begins_at (reader d) q) g.0 g.2)
+is_sure d v q set after result (inr (k, _, added, inl lacks)) none quiet = subst (λ (x : Answer). IfErr x (λ e. e ≡ NoMemory)) (sym lacks) refl
+is_sure d v q set after result (inr (k, _, added, inr g)) none quiet =
+    absurd (never_here d v none q.anchored false q.haystack (span_len q) (begins_at (reader d) q) g.0 g.3)

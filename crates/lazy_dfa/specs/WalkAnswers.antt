@@ -92,11 +92,36 @@ told_left (x ∷ xs) refusal = Ok tt
 told_left [] None = Ok tt
 told_left [] (Some e) = Err e
 
--- a call tells the next end of what is left, and leaves the others; or none, or the refusal, which it leaves as it is
+-- a walk without the ID by which a cache knows its state
+abbrev pub without_id : Walk → Walk
+without_id Fresh = Fresh
+without_id Ended = Ended
+without_id (Failed e) = Failed e
+without_id (Stopped stop) = Stopped (record { id = 0; index = stop.index; at = stop.at })
+
+-- a walk that told an end has stopped at its place, with an index of its state's list; one that told none has ended
+abbrev pub stop_behind : ℕ → Option (ℕ × ℕ) → Walk
+stop_behind index None = Ended
+stop_behind index (Some x) = Stopped (record { id = 0; index = index; at = x.0 })
+
+-- the index behind the next end: the second one of a state's list, unless the walk stopped in one that lists more
+abbrev pub next_index : Reader → Search → Walk → ℕ
+next_index r q Fresh = 1
+next_index r q Ended = 1
+next_index r q (Failed e) = 1
+next_index r q (Stopped stop) = if lists_more r q stop then stop.index + 1 else 1
+
+-- where a walk is behind its next call, where that isn't refused
+abbrev pub walk_behind : Reader → Search → Walk → Walk
+walk_behind r q w = stop_behind (next_index r q w) (first (rest_of r q w).ends)
+
+-- A call tells the next end of what is left, stops behind it, and leaves the others; or it tells none, or the refusal, which it
+-- leaves as it is.
 pub record TellsNext (r : Reader) (q : Search) (w : Walk) (new : WalkState) (result : Result ⊤ MatchErrorKind) : Type 0 where
   pub answer : result ≡ told_left (rest_of r q w).ends (rest_of r q w).refusal
   pub found : new.found ≡ half_of (first (rest_of r q w).ends)
   pub left : rest_of r q new.walk ≡ others (rest_of r q w)
+  pub stops : OnOk result (without_id new.walk ≡ walk_behind r q w)
 
 -- A call gave up at x: the state in which the walk starts, or the one behind a unit that the call reads, has no room, and no
 -- clear is allowed. By then it had met nothing else that refuses it: neither at the start of the walk, nor in the units that it
@@ -235,8 +260,8 @@ abbrev pub units_at : Reader → Search → ℕ → ℕ
 units_at r q at = units_met r q.haystack (suc (left_at r.automaton.reverse q at)) at (value_before r q at)
 
 -- what is told by reading on from there
-abbrev pub told_from : Reader → Search → ℕ → Told → Told
-told_from r q at t = record {
+abbrev pub told_by_reading : Reader → Search → ℕ → Told → Told
+told_by_reading r q at t = record {
   searched = min (t.searched + progress_len t.progress + pass_distance r.automaton.reverse (left_at r.automaton.reverse q at)
       (units_at r q at)) greatest;
   progress = None;
@@ -245,7 +270,7 @@ told_from r q at t = record {
 -- how far reading on came, by its answer
 abbrev pub IsReadTold : Reader → Search → ℕ → Result WalkState MatchErrorKind → CacheValue → CacheValue → Type 0
 IsReadTold r q at (Ok w) old new =
-    ((told_of new ≡ told_from r q at (told_of old)) × (new.clears ≡ old.clears)) ⊎
+    ((told_of new ≡ told_by_reading r q at (told_of old)) × (new.clears ≡ old.clears)) ⊎
     (HasCleared old new × ((m : ℕ) × (m < units_at r q at) ×
     (told_of new ≡ walk_over r.automaton.reverse q at 0 m (units_at r q at - 1))))
 IsReadTold r q at (Err e) old new =
@@ -270,11 +295,12 @@ pub record ReadsOn (d : Dfa) (q : Search) (at : ℕ) (old new : CacheValue) (m1 
     (result : Result WalkState MatchErrorKind) : Type 0 where
   pub ok : IfOk result (λ w. (told_left (rest_at (reader d) q at).ends (rest_at (reader d) q at).refusal ≡ Ok tt) ×
       (w.found ≡ half_of (first (rest_at (reader d) q at).ends)) × (rest_of (reader d) q w.walk ≡ others (rest_at (reader d) q at)) ×
-      IsWalk d new q w.walk × (w.found ≡ None → w.walk ≡ Ended))
+      IsWalk d new q w.walk × (w.found ≡ None → w.walk ≡ Ended) ×
+      (without_id w.walk ≡ stop_behind 1 (first (rest_at (reader d) q at).ends)))
   pub err : IfErr result (λ e. (told_left (rest_at (reader d) q at).ends (rest_at (reader d) q at).refusal ≡ Err e) ⊎ (e ≡ NoMemory) ⊎
       ((x : ℕ) × (e ≡ GaveUp x) × GivesUpFrom d new q at x))
   pub kept : GrowsOrClears d old new
-  pub told : OnOk result ((Grows d old new × (told_of new ≡ told_from (reader d) q at (told_of old))) ⊎ HasCleared old new)
+  pub told : OnOk result ((Grows d old new × (told_of new ≡ told_by_reading (reader d) q at (told_of old))) ⊎ HasCleared old new)
   pub determinized : m2 ≤ m1 + units_at (reader d) q at
   pub inserted : n2 ≤ n1 + units_at (reader d) q at * most_inserts d
   pub quits : IfOk result (λ w. StartsQuietly d q (came d.nfa.automaton.reverse q at) → HasReadQuietly d q w.walk)
@@ -353,13 +379,59 @@ which_from earliest set (x ∷ xs) refusal =
 abbrev pub which_of : Reader → Search → List Bool → Which
 which_of r q set = which_from q.earliest set (whole_rest r q).ends (whole_rest r q).refusal
 
--- What a walk over a whole span adds to a set. Else memory lacked, or it gave up, and the patterns of the first ends were added.
+-- a walk over a whole span behind so many of its calls, each of which told an end
+abbrev pub walk_after : Reader → Search → ℕ → Walk
+walk_after r q zero = Fresh
+walk_after r q (suc k) = walk_behind r q (walk_after r q k)
+
+-- What a walk over a whole span adds to a set. Else its call behind k others lacked memory, or gave up, and the patterns of the
+-- k ends were added that those others told: the ends that come before the unit at which it gave up.
 abbrev pub AnswersWhich : Dfa → CacheValue → Search → List Bool → List Bool → Result ⊤ MatchErrorKind → Type 0
 AnswersWhich d v q old new result =
     ((result ≡ told_left [] (which_of (reader d) q old).refusal) × (new ≡ (which_of (reader d) q old).set)) ⊎
-    ((k : ℕ) × (new ≡ with_ends old (take k (whole_rest (reader d) q).ends)) ×
-    ((result ≡ Err NoMemory) ⊎ ((x : ℕ) × (result ≡ Err (GaveUp x)) × GivesUpIn d v q.anchored false q.haystack (span_len q)
-    (begins_at (reader d) q) x)))
+    ((k : ℕ) × (k ≤ length (whole_rest (reader d) q).ends) × (new ≡ with_ends old (take k (whole_rest (reader d) q).ends)) ×
+    ((result ≡ Err NoMemory) ⊎ ((x : ℕ) × (result ≡ Err (GaveUp x)) × GivesUpOn d v q (walk_after (reader d) q k) x ×
+    GivesUpIn d v q.anchored false q.haystack (span_len q) (begins_at (reader d) q) x)))
+
+-- how many calls it makes where none is refused: one for each end that it needs, and one more where it needs more than there are
+abbrev pub calls_for : Bool → List Bool → List (ℕ × ℕ) → ℕ
+calls_for earliest set [] = 1
+calls_for earliest set (x ∷ xs) =
+    if earliest || is_full (with_pattern set x.1) then 1 else suc (calls_for earliest (with_pattern set x.1) xs)
+
+-- what it has told with its first k calls, where none of them clears the cache: each tells its own
+abbrev pub told_after : Reader → Search → Told → ℕ → Told
+told_after r q t zero = t
+told_after r q t (suc k) = told_by_call r q (walk_after r q k) (told_after r q t k)
+
+-- And where one did: it tells its way from there on, and those behind it their own.
+pub data ToldAnew (r : Reader) (q : Search) : ℕ → Told → Type 0 where
+  told_last : (k : ℕ) (new : Told) → TellsCallAnew r q (walk_after r q k) new → ToldAnew r q (suc k) new
+  told_before : (k : ℕ) (before new : Told) → ToldAnew r q k before → new ≡ told_by_call r q (walk_after r q k) before →
+      ToldAnew r q (suc k) new
+
+-- the same of a walk whose call behind k others is refused
+pub data LeftAnew (r : Reader) (q : Search) (e : MatchErrorKind) (k : ℕ) (new : Told) : Type 0 where
+  left_last : FailsCallAnew r q (walk_after r q k) e new → LeftAnew r q e k new
+  left_before : (before : Told) → ToldAnew r q k before → LeavesCall r q (walk_after r q k) e before new → LeftAnew r q e k new
+
+-- what it has told with its first k calls
+abbrev pub IsToldAfter : Reader → Search → ℕ → CacheValue → CacheValue → Type 0
+IsToldAfter r q k old new =
+    ((told_of new ≡ told_after r q (told_of old) k) × (new.clears ≡ old.clears)) ⊎ (HasCleared old new × ToldAnew r q k (told_of new))
+
+-- and with the refused one behind these
+abbrev pub IsLeftAfter : Reader → Search → MatchErrorKind → ℕ → CacheValue → CacheValue → Type 0
+IsLeftAfter r q e k old new =
+    (LeavesCall r q (walk_after r q k) e (told_after r q (told_of old) k) (told_of new) × (new.clears ≡ old.clears)) ⊎
+    (HasCleared old new × LeftAnew r q e k (told_of new))
+
+-- How far a walk over a whole span came, by its answer: through all calls that it makes, or up to the refused one behind k others,
+-- whose ends were added.
+abbrev pub IsWhichTold : Reader → Search → List Bool → List Bool → Result ⊤ MatchErrorKind → CacheValue → CacheValue → Type 0
+IsWhichTold r q set after (Ok u) old new = IsToldAfter r q (calls_for q.earliest set (whole_rest r q).ends) old new
+IsWhichTold r q set after (Err e) old new =
+    (k : ℕ) × (k ≤ length (whole_rest r q).ends) × (after ≡ with_ends set (take k (whole_rest r q).ends)) × IsLeftAfter r q e k old new
 
 -- it makes so many states at most: one for its start, and one for each unit of one pass
 abbrev pub which_made : Reader → Search → ℕ
@@ -373,3 +445,4 @@ pub record MakesWhich (d : Dfa) (q : Search) (old new : CacheValue) (m1 m2 n1 n2
   pub determinized : m2 ≤ m1 + which_made (reader d) q
   pub inserted : n2 ≤ n1 + which_made (reader d) q * most_inserts d
   pub changes : Changes d (IsMadeOnWalk d q) old new (which_made (reader d) q)
+  pub told : IsWhichTold (reader d) q set after result old new

@@ -1,5 +1,5 @@
 //! What writes to a cache. Each call either writes all that it says or nothing: growths come before any write.
-ghost use Rattle.std.specs.Prelude.{◌≡◌, ◌+◌, ◌*◌, ◌%◌, ◌<◌, ◌≤◌, ◌⊎◌, length, slice_set, IfOk, OnOk, OnErr, None};
+ghost use Rattle.std.specs.Prelude.{◌≡◌, ◌+◌, ◌*◌, ◌%◌, ◌<◌, ◌≤◌, ◌⊎◌, [], ◌∷◌, ◌++◌, length, replicate, slice_set, IfOk, OnOk, OnErr, None, vec_len, vec_capacity};
 ghost use Rattle.search_core.specs.Index.{greatest_index};
 ghost use Rattle.search_core.specs.Units.{unit_byte};
 ghost use Rattle.determinize_core.specs.Costs.{free_ways};
@@ -180,13 +180,36 @@ impl Cache {
         self.ids.reserve(1)?;
         self.rows.reserve(1)?;
         self.skip = self.skip.forgotten();
-        self.cells.resize(at + self.stride, LazyStateID::unknown())?;
-        self.states.push(copy)?;
-        self.ids.push(id)?;
-        self.rows.insert(state, k)?;
+        lengthen(&mut self.cells, self.stride, LazyStateID::unknown());
+        append(&mut self.states, copy);
+        append(&mut self.ids, id);
+        let Ok(_) = self.rows.insert(state, k) else {
+            unreachable!()
+        };
         self.used += cost;
         Ok(id)
     }
+}
+
+/// Adds an item to a list that has room for it.
+fn append<T: Drop>(items: &mut Vec<T>, item: T)
+    requires room { vec_len items.old < vec_capacity items.old }
+    ensures { items.new.items ≡ items.old.items ++ item ∷ [] }
+{
+    let Ok(()) = items.push(item) else {
+        unreachable!()
+    };
+}
+
+/// Adds copies of an ID to a list that has room for them.
+fn lengthen(ids: &mut Vec<LazyStateID>, count: usize, id: LazyStateID)
+    requires room { vec_len ids.old + count ≤ vec_capacity ids.old }
+    ensures { ids.new.items ≡ ids.old.items ++ replicate count id }
+{
+    let len = ids.len();
+    let Ok(()) = ids.resize(len + count, id) else {
+        unreachable!()
+    };
 }
 
 /// The rows of the sentinels, each of which leads to itself.

@@ -8,7 +8,7 @@ ghost use Rattle.lazy_dfa.specs.Dfas.{reader};
 ghost use Rattle.lazy_dfa.specs.Linked.{GrowsOrClears};
 ghost use Rattle.lazy_dfa.specs.Steps.{most_inserts};
 ghost use Rattle.lazy_dfa.specs.Walks.{whole_rest};
-ghost use Rattle.lazy_dfa.specs.WalkAnswers.{AnswersWhich, MakesWhich, with_pattern, is_full, which_made, IsMadeOnWalk};
+ghost use Rattle.lazy_dfa.specs.WalkAnswers.{AnswersWhich, MakesWhich, with_pattern, is_full, which_made, IsMadeOnWalk, IsWhichTold};
 
 use crate::dfa::{Cache, DFA};
 use crate::overlapping::call;
@@ -71,8 +71,9 @@ impl DFA {
     /// Adds the patterns of all ends in a span to a set, as `DFA::try_which_overlapping_matches`. The automaton reads forward.
     ///
     /// The ends are those that a walk tells. Patterns at or above the set's capacity are skipped. Behind an end at which the set is
-    /// full, and behind the first one where the earliest end is enough, no more are looked for. It is refused as the walk is; the
-    /// patterns that were added by then stay. A done span has no ends, and is never refused.
+    /// full, and behind the first one where the earliest end is enough, no more are looked for. It is refused as the walk is: the
+    /// patterns of the ends that its calls told by then were added, those before the unit at which it was refused, and stay. The
+    /// cache is told of each call as the walk tells it. A done span has no ends, and is never refused.
     pub fn try_which_overlapping_matches<L: Ledger, M: Ledger>(
         &self,
         cache: &mut Cache,
@@ -88,6 +89,7 @@ impl DFA {
         ensures sure { clears_of self.now.options ≡ None → (whole_rest (reader self.now) input.now).refusal ≡ None → IfErr result (λ e. e ≡ NoMemory) }
         ensures kept { GrowsOrClears self.now cache.old cache.new }
         ensures changes { Changes self.now (IsMadeOnWalk self.now input.now) cache.old cache.new (which_made (reader self.now) input.now) }
+        ensures told { IsWhichTold (reader self.now) input.now patterns.old patterns.new result cache.old cache.new }
         ensures determinized { work.new.determinized ≤ work.old.determinized + which_made (reader self.now) input.now }
         ensures inserted { work.new.inserted ≤ work.old.inserted + which_made (reader self.now) input.now * most_inserts self.now }
     {

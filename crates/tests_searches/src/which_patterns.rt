@@ -10,13 +10,17 @@ use tests_machines::calls::Room;
 use tests_machines::calls::Text::{A, Aa, Aab, Ab, Aba, Abx, Ba, Xx};
 
 /// Of the patterns `a`, `b` and `a`: those without room are skipped, and what was in the set stays. Where the earliest end is
-/// enough, only its pattern is added; over a done span none, and in a mode that isn't supported it is refused.
+/// enough, only its pattern is added; over a done span none, and in a mode that isn't supported it is refused. A call that reads
+/// up to the end behind the first byte adds one byte to how far searches came, one that reads past both bytes two, and calls
+/// that read the end of input alone, or nothing, none.
 const fn by_room_and_input() -> &'static [Call] {
     &[
         All,
         Letters(Aba),
         Which(Ab, 0, 2, Free, Room(3, false, 0b111)),
+        Total(1, false),
         Which(Ab, 0, 2, Free, Room(2, false, 0b011)),
+        Total(2, false),
         Which(Ab, 0, 2, Free, Room(1, false, 0b001)),
         Which(Ab, 0, 2, Free, Room(0, false, 0b000)),
         Which(Ab, 0, 2, Free, Room(9, false, 0b111)),
@@ -28,6 +32,7 @@ const fn by_room_and_input() -> &'static [Call] {
         EarliestWhich(Ba, 0, 2, Free, Room(3, false, 0b010)),
         EarliestWhich(Xx, 0, 2, Free, Room(3, false, 0b000)),
         Which(Ab, 2, 1, Free, Room(3, true, 0b001)),
+        Total(14, false),
         NoWhich(Ab, 0, 2, Only(1), Room(3, true, 0b001), NoMode(1)),
     ]
 }
@@ -51,6 +56,7 @@ const fn by_modes_up_to_quit() -> &'static [Call] {
         QuitAt(b'x'),
         Letters(Ab),
         NoWhich(Abx, 0, 3, Free, Room(2, false, 0b001), Quit(b'x', 2)),
+        Total(1, false),
         Which(Abx, 0, 3, Free, Room(1, false, 0b001)),
         Which(Abx, 0, 3, Free, Room(0, false, 0b000)),
         Which(Abx, 0, 3, Free, Room(1, true, 0b001)),

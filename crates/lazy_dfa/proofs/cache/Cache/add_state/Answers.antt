@@ -1,9 +1,9 @@
-use Rattle.std.proofs.Common.{length, sym, ap, subst, ◌∙◌, ◌+◌, ◌*◌, ◌≡◌, ℕ, Bool, cond, Some, vec_len, arith}
+use Rattle.std.proofs.Common.{length, sym, ap, subst, ◌∙◌, ◌+◌, ◌*◌, ◌≡◌, ℕ, Bool, cond, Some, refl, arith}
 use Rattle.determinize_core.specs.States.{IsState}
 use Rattle.lazy_dfa.specs.Ids.{unknown_id, tagged}
 use Rattle.lazy_dfa.specs.Caches.{CacheValue, IsKept, same, with_state}
 use Rattle.determinize_core.specs.StateBytes.{is_match}
-use Rattle.lazy_dfa.proofs.CacheLemmas.{IsKept-same, IsKept-added, resized, added_parts}
+use Rattle.lazy_dfa.proofs.CacheLemmas.{IsKept-same, IsKept-added, added_parts}
 use Rattle.lazy_dfa.proofs.cache.Cache.add_state.Goals as goal
 
 pub invariant_of-self-in_err-reserve-4 : goal.invariant_of-self-in_err-reserve-4
@@ -27,23 +27,21 @@ value c = record {
 
 parts : (c : goal.After-self-2-1) →
     record (value c) {
-      states = c.push.new.self.items;
-      ids = c.push-2.new.self.items;
-      cells = c.resize.new.self.items;
+      states = c.append.new.items.items;
+      ids = c.append-2.new.items.items;
+      cells = c.lengthen.new.ids.items;
     } ≡ with_state c.args.is_start c.args.state (value c)
 parts c =
     let v = value c in
     let at : c.len-at.result ≡ length c.self.inside.cells.items = c.len-at.ensures ∙ c.self.inside.cells.ok.0 in
-    let now : vec_len c.reserve.new.self ≡ length c.self.inside.cells.items = c.reserve.ensures.len ∙ c.self.inside.cells.ok.0 in
-    added_parts v c.args.is_start c.args.state c.in_ok-copy.copy c.id_of-id.result c.push.new.self.items c.push-2.new.self.items
-    c.resize.new.self.items
-    (rw (← c.reserve-2.ensures.items) c.in_ok-push.ensures.items)
+    added_parts v c.args.is_start c.args.state c.in_ok-copy.copy c.id_of-id.result c.append.new.items.items c.append-2.new.items.items
+    c.lengthen.new.ids.items
+    (rw (← c.reserve-2.ensures.items) c.append.ensures)
     c.in_ok-copy.ensures.cases
-    (rw (← c.reserve-3.ensures.items) c.in_ok-push-2.ensures.items)
+    (rw (← c.reserve-3.ensures.items) c.append-2.ensures)
     (c.id_of-id.ensures ∙ (ap (λ (b : Bool). tagged c.args.is_start b c.len-at.result) c.is_match.ensures
     ∙ ap (tagged c.args.is_start (is_match c.args.state.matches)) at))
-    (rw (c.in_ok-resize.ensures.items, c.reserve.ensures.items, c.unknown.ensures)
-    (resized c.self.inside.cells.items c.len-at.result (vec_len c.reserve.new.self) c.self.inside.stride unknown_id at now))
+    (rw (c.lengthen.ensures, c.reserve.ensures.items, c.unknown.ensures) refl)
 
 pub invariant_of-self-2 : goal.invariant_of-self-2
 invariant_of-self-2 c =
@@ -59,7 +57,7 @@ invariant_of-self-2 c =
           (rw (← c.self.view_is) at c.requires.room)
           k
           (ap (λ (n : ℕ). 4 * v.stride + 16 + 20 + n) c.memory_usage.ensures)
-          (λ q. c.in_ok-insert.ensures.updates.0 q ∙ ap (cond (same c.args.state q) (Some c.len-k.result))
+          (λ q. c.in-Ok.ensures.updates.0 q ∙ ap (cond (same c.args.state q) (Some c.len-k.result))
           (c.in_ok-reserve-4.ensures.entries.2 q))),
       λ low. absurd (omega (arith, low, c.forgotten-self-inside.ensures)),
     )

@@ -8,6 +8,7 @@ use Rattle.lazy_dfa.proofs.LinkedLemmas.{grows_refl}
 use Rattle.lazy_dfa.proofs.RestLemmas.{rest_done}
 use Rattle.lazy_dfa.proofs.SearchEndLemmas.{is_over, not_done}
 use Rattle.lazy_dfa.proofs.WhichLoopLemmas.{is_sure}
+use Rattle.lazy_dfa.proofs.WhichToldLemmas.{done_told}
 use Rattle.lazy_dfa.proofs.dfa.DFA.try_which_overlapping_matches.Goals as goal
 
 -- ---- a done span
@@ -27,7 +28,15 @@ returns-then-is_done-clause-kept g c = inl (grows_refl c.args.self.now c.args.ca
 pub returns-then-is_done-clause-changes : goal.returns-then-is_done-clause-changes
 returns-then-is_done-clause-changes g c = unchanged c.args.cache.now (which_made (reader c.args.self.now) c.args.input.now) refl
 
+pub returns-then-is_done-clause-told : goal.returns-then-is_done-clause-told
+returns-then-is_done-clause-told g c =
+    done_told (reader c.args.self.now) c.args.input.now c.args.patterns.now c.args.cache.now
+    (is_over c.is_done.result c.args.input.now.start c.args.input.now.end c.is_done.ensures c.if-is_done.true)
+
 -- ---- another one
+
+pub returns-clause-told : goal.returns-clause-told
+returns-clause-told g c = c.which.ensures.which.told
 
 pub returns-clause-changes : goal.returns-clause-changes
 returns-clause-changes g c = c.which.ensures.which.changes
