@@ -2,11 +2,12 @@
 //! is the law.
 ghost use Rattle.std.specs.Prelude.{◌≡◌, ◌≤◌, ◌+◌, ◌*◌, ℕ, Bool, true, false, List, [], ◌∷◌, length, Some};
 ghost use Rattle.hir_core.specs.Facts.{count, list_count};
-ghost use Rattle.hir_core.specs.Tree.{Tree, byte_class, char_class, repetition};
+ghost use Rattle.hir_core.specs.Tree.{Tree, literal, byte_class, char_class, repetition, alternation};
 ghost use Rattle.nfa_core.specs.declared.build_error.BuildError.TheVariants.{ExceededSizeLimit};
 ghost use Rattle.thompson_nfa.specs.AsciiClasses.{is_ascii};
-ghost use Rattle.thompson_nfa.specs.ByteRoom.{byte_room};
+ghost use Rattle.thompson_nfa.specs.ByteRoom.{byte_room, choice_bytes};
 ghost use Rattle.thompson_nfa.specs.Configs.{Options, is_shrunk};
+ghost use Rattle.thompson_nfa.specs.LiteralParts.{are_literals};
 ghost use Rattle.thompson_nfa.specs.RefusedTrees.{RefusesTrees};
 ghost use Rattle.thompson_nfa.specs.Room.{room, list_room};
 
@@ -27,4 +28,17 @@ pub fn repeated_classes_take_what_they_hold()
         byte_room shrink (char_class ranges) ≡ byte_room shrink (byte_class ranges) }
     ensures fits { (o : Options) (greedy : Bool) (n limit : ℕ) (ranges : List (ℕ × ℕ)) → n * (52 + 8 * length ranges) + 240 ≤ limit →
         RefusesTrees o (repetition n (Some n) greedy (byte_class ranges) ∷ []) (ExceededSizeLimit limit) → ⊥ }
+{}
+
+/// Two literals or more take 68 bytes for each of their bytes, and 24 beside, at most: `going|doing` takes no more than 704. A limit
+/// that has room for these, and for 212 more, refuses no compile of them alone. Behind a part that is no literal they take 28 for
+/// each of their bytes, and 32 each: `[0-9]|going|doing` takes no more than 456.
+#[tactic(auto, using(crate::proofs::Steps::ByteRows::two_literals, crate::proofs::Steps::ByteRows::two_words, crate::proofs::Steps::ByteRows::words_behind_digits, crate::proofs::Steps::ByteRows::literals_fit))]
+pub fn literals_take_what_they_hold()
+    ensures two { (shrink : Bool) (v w : List ℕ) → byte_room shrink (alternation (literal v ∷ literal w ∷ [])) ≡ 68 * (length v + length w) + 24 }
+    ensures words { (shrink : Bool) → byte_room shrink (alternation (literal (103 ∷ 111 ∷ 105 ∷ 110 ∷ 103 ∷ []) ∷ literal (100 ∷ 111 ∷ 105 ∷ 110 ∷ 103 ∷ []) ∷ [])) ≡ 704 }
+    ensures behind { (shrink : Bool) →
+        byte_room shrink (alternation (byte_class ((48, 57) ∷ []) ∷ literal (103 ∷ 111 ∷ 105 ∷ 110 ∷ 103 ∷ []) ∷ literal (100 ∷ 111 ∷ 105 ∷ 110 ∷ 103 ∷ []) ∷ [])) ≡ 456 }
+    ensures fits { (o : Options) (limit : ℕ) (xs : List Tree) → are_literals xs ≡ true → choice_bytes (alternation xs) + 212 ≤ limit →
+        RefusesTrees o (alternation xs ∷ []) (ExceededSizeLimit limit) → ⊥ }
 {}

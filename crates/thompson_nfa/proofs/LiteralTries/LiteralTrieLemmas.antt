@@ -11,14 +11,14 @@ use Rattle.nfa_core.specs.Drafted.{Table}
 use Rattle.nfa_core.specs.Renaming.{stands_for}
 use Rattle.nfa_core.specs.declared.build_error.BuildError.{BuildError}
 use Rattle.thompson_nfa.specs.Added.{Added}
-use Rattle.thompson_nfa.specs.Compiled.{Finished, ComesOut, Makes, Does, sum_of_bytes}
+use Rattle.thompson_nfa.specs.Compiled.{Finished, ComesOut, Makes, Weighs, Does, sum_of_bytes}
 use Rattle.thompson_nfa.specs.Denotes.{Denotes}
 use Rattle.thompson_nfa.specs.LiteralGroups.{bytes_in}
 use Rattle.thompson_nfa.specs.LiteralStates.{AddsNode, literals, IsLed, item_trees}
 use Rattle.thompson_nfa.specs.LiteralLaid.{NodeValue, no_node, weight, weight_in_all, HasStrings, IsTrie}
 use Rattle.thompson_nfa.specs.LiteralTexts.{AddsText}
 use Rattle.thompson_nfa.specs.LiteralTries.{edges_in, chunks_in, AreChunks}
-use Rattle.thompson_nfa.specs.Refusals.{Quits}
+use Rattle.thompson_nfa.specs.Refusals.{Quits, Passes}
 use Rattle.thompson_nfa.specs.declared.literal_groups.Edge.{Edge}
 use Rattle.hir_core.specs.Tree.{Tree, alternation}
 use Rattle.thompson_nfa.proofs.Steps.LookLemmas.{adds_none, quiet_plain, uses_literals}
@@ -51,6 +51,7 @@ pub record TrieTo (old mid : Assembly) (end : ℕ) (nodes : List NodeValue) (str
   pub longer : length old.drafts + 1 ≤ length mid.drafts
   pub states : length mid.drafts ≤ length old.drafts + 1 + 2 * weight_in_all (drop k nodes)
   pub bytes : sum_of_bytes mid + 8 + 4096 * length old.drafts ≤ sum_of_bytes old + 4096 * length mid.drafts
+  pub weighs : Weighs old mid (24 + 68 * weight_in_all (drop k nodes))
   pub numbered : length mid.drafts ≤ greatest_index + 1
   pub stands : (q : ℕ) → length old.drafts < q → q < length mid.drafts → stands_for (draft_at mid.drafts q) ≡ None
   pub names_long : length names ≡ length nodes
@@ -87,6 +88,7 @@ trie_begun old mid end nodes strings names k trie added long same past =
       longer = omega arith;
       states = omega arith;
       bytes = omega (arith, added.bytes);
+      weighs = omega (arith, added.bytes);
       numbered = added.numbered;
       stands = λ q l h. absurd (omega arith);
       names_long = long;
@@ -141,6 +143,9 @@ module _ (old mid : Assembly) (end : ℕ) (nodes : List NodeValue) (strings : Li
       } in
       quits_later (1 + 2 * bytes_in strings) spent r (omega (arith, weight_now, weight_left nodes k, so_far.trie.room))
 
+  pub node_passed : (e : BuildError) → Passes mid (68 * edges_in node.items) e → Passes old (24 + 68 * bytes_in strings) e
+  node_passed e p = omega (arith, so_far.weighs, weight_now, weight_left nodes k, so_far.trie.room, p)
+
   module _ (grown : Assembly) (id : ℕ) (adds : AddsNode mid grown names end node.items id) where
     longer : length mid.drafts ≤ length grown.drafts
     longer = adds.grows.longer
@@ -165,6 +170,9 @@ module _ (old mid : Assembly) (end : ℕ) (nodes : List NodeValue) (strings : Li
           bytes = omega (arith, so_far.bytes, adds.bytes);
         } in
         quits_later (1 + 2 * bytes_in strings) spent r (omega (arith, weight_now, weight_left nodes k, so_far.trie.room))
+
+    pub stem_passed : (e : BuildError) → Passes grown (24 * length node.stem) e → Passes old (24 + 68 * bytes_in strings) e
+    stem_passed e p = omega (arith, so_far.weighs, adds.weighs, weight_now, weight_left nodes k, so_far.trie.room, p)
 
     module _ (new : Assembly) (start : ℕ) (text : AddsText grown new id node.stem start) (names2 : List ℕ)
         (names_are : names2 ≡ set names k start) where
@@ -219,6 +227,7 @@ module _ (old mid : Assembly) (end : ℕ) (nodes : List NodeValue) (strings : Li
             longer = omega (arith, so_far.longer);
             states = omega (arith, so_far.states, adds.states, text.states, weight_now);
             bytes = omega (arith, so_far.bytes, adds.bytes, text.bytes);
+            weighs = omega (arith, so_far.weighs, adds.weighs, text.weighs, weight_now);
             numbered = text.numbered (adds.numbered so_far.numbered);
             stands = λ q l m. ⊎_elim
                 (λ (b : q < length mid.drafts). ap stands_for (text.grows.same q (omega arith) ∙ adds.grows.same q b) ∙ so_far.stands q l b)
@@ -324,6 +333,11 @@ module _ {V : Type 0} (value_of : V → NodeValue) (rows : List V) (old mid : As
       let P : List (List Edge) → Type 0 = λ is. Quits mid new (2 * edges_in is) e in
       node_refused old mid end (map value_of rows) strings names k next less (value_of v) here new e (subst P row_is r)
 
+  pub turn_passed : (e : BuildError) → Passes mid (68 * edges_in row) e → Passes old (24 + 68 * bytes_in strings) e
+  turn_passed e p =
+      let P : List (List Edge) → Type 0 = λ is. Passes mid (68 * edges_in is) e in
+      node_passed old mid end (map value_of rows) strings names k next less (value_of v) here e (subst P row_is p)
+
   module _ (grown : Assembly) (id : ℕ) (adds : AddsNode mid grown now end row id) where
     adds_here : AddsNode mid grown names end (value_of v).items id
     adds_here =
@@ -344,6 +358,11 @@ module _ {V : Type 0} (value_of : V → NodeValue) (rows : List V) (old mid : As
           let P : List ℕ → Type 0 = λ t. Quits grown new (length t) e in
           stem_refused old mid end (map value_of rows) strings names k next less (value_of v) here grown id adds_here new e
           (subst P stem_is r)
+
+      pub turn_stem_passed : (e : BuildError) → Passes grown (24 * length (value_of w).stem) e → Passes old (24 + 68 * bytes_in strings) e
+      turn_stem_passed e p =
+          let P : List ℕ → Type 0 = λ t. Passes grown (24 * length t) e in
+          stem_passed old mid end (map value_of rows) strings names k next less (value_of v) here grown id adds_here e (subst P stem_is p)
 
       pub turn_compiled : (new : Assembly) (start : ℕ) → AddsText grown new id (value_of w).stem start →
           TrieTo old new end (map value_of rows) strings (set names k start) k
@@ -367,6 +386,9 @@ module _ (old mid : Assembly) (end : ℕ) (nodes : List NodeValue) (strings : Li
 
   pub all_made : Makes old mid start end (1 + 2 * bytes_in strings)
   all_made = trie_made old mid end nodes strings names all_nodes start first_is
+
+  pub all_weigh : Weighs old mid (24 + 68 * bytes_in strings)
+  all_weigh = omega (arith, all_nodes.weighs, all_nodes.trie.room)
 
   pub all_does : Does old mid start end (literals old.reverse strings)
   all_does = trie_does old mid end nodes strings names all_nodes start first_is

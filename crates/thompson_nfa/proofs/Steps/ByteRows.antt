@@ -1,12 +1,14 @@
--- The bytes of a class of bytes that is repeated.
-use Rattle.std.proofs.Common.{◌≡◌, ℕ, ◌+◌, ◌-◌, ◌*◌, ◌≤◌, Bool, true, List, [], ◌∷◌, length, Some, ap, arith, if◌then◌else◌}
-use Rattle.hir_core.specs.Tree.{byte_class, char_class, repetition}
+-- The bytes of a class of bytes that is repeated, and of literals.
+use Rattle.std.proofs.Common.{◌≡◌, ℕ, ◌+◌, ◌-◌, ◌*◌, ◌≤◌, Bool, true, List, [], ◌∷◌, length, Some, refl, ap, arith, if◌then◌else◌}
+use Rattle.hir_core.specs.Tree.{Tree, literal, byte_class, char_class, repetition, alternation}
 use Rattle.nfa_core.specs.declared.build_error.BuildError.TheVariants as error
 use Rattle.thompson_nfa.specs.AsciiClasses.{is_ascii}
-use Rattle.thompson_nfa.specs.ByteRoom.{byte_room}
-use Rattle.thompson_nfa.specs.Configs.{Options}
+use Rattle.thompson_nfa.specs.ByteRoom.{byte_room, choice_bytes}
+use Rattle.thompson_nfa.specs.Configs.{Options, is_shrunk}
+use Rattle.thompson_nfa.specs.LiteralParts.{are_literals}
 use Rattle.thompson_nfa.specs.RefusedTrees.{RefusesTrees}
 use Rattle.thompson_nfa.specs.Room.{class_room}
+use Rattle.thompson_nfa.proofs.Fragments.PartBytes.{literals_bytes}
 
 pub repeated_class : (shrink greedy : Bool) (n : ℕ) (ranges : List (ℕ × ℕ)) →
     byte_room shrink (repetition n (Some n) greedy (byte_class ranges)) ≡ n * (52 + 8 * length ranges) + 28
@@ -27,3 +29,22 @@ repeated_class_fits o greedy n limit ranges fits refused =
     let none : n - n ≡ 0 = omega arith in
     let left = ap (λ k. k * (48 + 8 * length ranges + 36)) none in
     absurd (omega (arith, refused.2, fits, left))
+
+-- ---- literals
+
+pub two_literals : (shrink : Bool) (v w : List ℕ) → byte_room shrink (alternation (literal v ∷ literal w ∷ [])) ≡ 68 * (length v
+    + length w) + 24
+two_literals shrink v w = omega arith
+
+pub two_words : (shrink : Bool) →
+    byte_room shrink (alternation (literal (103 ∷ 111 ∷ 105 ∷ 110 ∷ 103 ∷ []) ∷ literal (100 ∷ 111 ∷ 105 ∷ 110 ∷ 103 ∷ []) ∷ [])) ≡ 704
+two_words shrink = refl
+
+pub words_behind_digits : (shrink : Bool) →
+    byte_room shrink (alternation (byte_class ((48, 57) ∷ []) ∷ literal (103 ∷ 111 ∷ 105 ∷ 110 ∷ 103 ∷ [])
+    ∷ literal (100 ∷ 111 ∷ 105 ∷ 110 ∷ 103 ∷ []) ∷ [])) ≡ 456
+words_behind_digits shrink = refl
+
+pub literals_fit : (o : Options) (limit : ℕ) (xs : List Tree) → are_literals xs ≡ true → choice_bytes (alternation xs) + 212 ≤ limit →
+    RefusesTrees o (alternation xs ∷ []) (error.ExceededSizeLimit limit) → ⊥
+literals_fit o limit xs are fits refused = absurd (omega (arith, refused.2, fits, literals_bytes (is_shrunk o) xs are))
