@@ -1,10 +1,10 @@
--- How many bytes the states of a compile may take: 24 for each of them and what its list holds. For each state of a class of
--- scalars that isn't ASCII, 4096 are counted.
-use Rattle.std.specs.Prelude.{ℕ, ◌+◌, ◌-◌, ◌*◌, max, Bool, true, false, ◌&&◌, List, length, Option, Some, None, if◌then◌else◌}
+-- How many bytes the states of a compile may take: 24 for each of them and what its list holds.
+use Rattle.std.specs.Prelude.{ℕ, ◌+◌, ◌-◌, ◌*◌, max, Bool, true, false, ◌&&◌, List, [], ◌∷◌, length, Option, Some, None, if◌then◌else◌}
+use Rattle.hir_core.specs.BySequences.{sequences_of}
 use Rattle.hir_core.specs.Tree.{Tree, empty, literal, byte_class, char_class, look, repetition, capture, nothing, cat, never, alt}
 use Rattle.thompson_nfa.specs.AsciiClasses.{is_ascii}
 use Rattle.thompson_nfa.specs.LiteralParts.{is_literal, bytes_of_literal}
-use Rattle.thompson_nfa.specs.Room.{class_room}
+use Rattle.thompson_nfa.specs.ScalarCounts.{scalars_in}
 
 -- whether all parts of an alternation are literals
 abbrev pub has_literals : Tree → Bool
@@ -34,9 +34,19 @@ abbrev pub repeated_bytes : ℕ → Option ℕ → ℕ → ℕ
 repeated_bytes min None n = max min 1 * (n + 4) + 92
 repeated_bytes min (Some most) n = min * (n + 4) + (most - min) * (n + 36) + 28
 
+-- sequences of byte ranges: a state for each range, and a transition or a way for each sequence
+abbrev pub sequence_bytes : List (List (ℕ × ℕ)) → ℕ
+sequence_bytes [] = 0
+sequence_bytes (q ∷ qs) = 24 * length q + 8 + sequence_bytes qs
+
+-- the sequences of a class; where it is shrunk, one of four ranges for each scalar
+abbrev pub class_bytes : Bool → List (ℕ × ℕ) → ℕ
+class_bytes false ranges = 48 + sequence_bytes (sequences_of ranges)
+class_bytes true ranges = 48 + 104 * scalars_in ranges
+
 -- a class of scalars, which is one of bytes where it is ASCII
 abbrev pub scalar_bytes : Bool → List (ℕ × ℕ) → ℕ
-scalar_bytes shrink ranges = if is_ascii ranges then 48 + 8 * length ranges else 4096 * class_room shrink ranges
+scalar_bytes shrink ranges = if is_ascii ranges then 48 + 8 * length ranges else class_bytes shrink ranges
 
 abbrev pub byte_room : Bool → Tree → ℕ
 byte_room shrink empty = 24
