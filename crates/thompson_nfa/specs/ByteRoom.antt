@@ -17,10 +17,11 @@ abbrev pub is_choice : Tree → Tree → Bool
 is_choice x never = false
 is_choice x y = is_literal x && has_literals y
 
--- Literals that share states: an end, and for each of their bytes a state with one transition at most, and a choice of three ways.
+-- Literals that share states: an end, for each of their bytes a state with one transition at most, and for each of them a choice of
+-- three ways.
 abbrev pub choice_bytes : Tree → ℕ
 choice_bytes never = 24
-choice_bytes (alt x y) = 68 * length (bytes_of_literal x) + choice_bytes y
+choice_bytes (alt x y) = 32 * length (bytes_of_literal x) + 36 + choice_bytes y
 choice_bytes _ = 0
 
 -- literals that come behind another part: each of them has states of its own

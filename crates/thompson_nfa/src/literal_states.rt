@@ -5,7 +5,7 @@ ghost use Rattle.nfa_core.specs.Transitions.{range_of};
 ghost use Rattle.thompson_nfa.specs.Added.{Added};
 ghost use Rattle.thompson_nfa.specs.LiteralGroups.{Ascends, AreInside};
 ghost use Rattle.thompson_nfa.specs.LiteralStates.{edge_ranges, AddsItem, AddsNode};
-ghost use Rattle.thompson_nfa.specs.LiteralTries.{edges_in, chunks_in, AreChunks};
+ghost use Rattle.thompson_nfa.specs.LiteralTries.{edges_in, chunks_in, matches_in, AreChunks};
 ghost use Rattle.thompson_nfa.specs.Refusals.{Stays, Quits, Passes};
 
 use crate::literal_groups::Edge;
@@ -98,9 +98,10 @@ pub(crate) fn add_node(
     requires chunks { AreChunks 0 (length names.now) (map (λ x. x.items) items.now) }
     requires some { 1 ≤ length items.now }
     requires few { length items.now ≤ 2 * chunks_in (map (λ x. x.items) items.now) + 1 }
+    requires parted { length items.now ≤ 2 * matches_in (map (λ x. x.items) items.now) + 1 }
     ensures added { IfOk result (λ id. AddsNode builder.old builder.new names.now end (map (λ x. x.items) items.now) id) }
     ensures refused { IfErr result (λ e. Quits builder.old builder.new (2 * edges_in (map (λ x. x.items) items.now)) e) }
-    ensures passed { IfErr result (λ e. Passes builder.old (68 * edges_in (map (λ x. x.items) items.now)) e) }
+    ensures passed { IfErr result (λ e. Passes builder.old (32 * edges_in (map (λ x. x.items) items.now) + 36 * matches_in (map (λ x. x.items) items.now)) e) }
 {
     let mut ways = Vec::new(alloc);
     for item in items {

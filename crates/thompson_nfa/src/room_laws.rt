@@ -32,13 +32,13 @@ pub fn repeated_classes_take_what_they_hold()
         RefusesTrees o (repetition n (Some n) greedy (byte_class ranges) ∷ []) (ExceededSizeLimit limit) → ⊥ }
 {}
 
-/// Two literals or more take 68 bytes for each of their bytes, and 24 beside, at most: `going|doing` takes no more than 704. A limit
-/// that has room for these, and for 212 more, refuses no compile of them alone. Behind a part that is no literal they take 28 for
-/// each of their bytes, and 32 each: `[0-9]|going|doing` takes no more than 456.
+/// Two literals or more take 32 bytes for each of their bytes, 36 each, and 24 beside, at most: `going|doing` takes no more than 416.
+/// A limit that has room for these, and for 212 more, refuses no compile of them alone. Behind a part that is no literal they take 28
+/// for each of their bytes, and 32 each: `[0-9]|going|doing` takes no more than 456.
 #[tactic(auto, using(crate::proofs::Steps::ByteRows::two_literals, crate::proofs::Steps::ByteRows::two_words, crate::proofs::Steps::ByteRows::words_behind_digits, crate::proofs::Steps::ByteRows::literals_fit))]
 pub fn literals_take_what_they_hold()
-    ensures two { (shrink : Bool) (v w : List ℕ) → byte_room shrink (alternation (literal v ∷ literal w ∷ [])) ≡ 68 * (length v + length w) + 24 }
-    ensures words { (shrink : Bool) → byte_room shrink (alternation (literal (103 ∷ 111 ∷ 105 ∷ 110 ∷ 103 ∷ []) ∷ literal (100 ∷ 111 ∷ 105 ∷ 110 ∷ 103 ∷ []) ∷ [])) ≡ 704 }
+    ensures two { (shrink : Bool) (v w : List ℕ) → byte_room shrink (alternation (literal v ∷ literal w ∷ [])) ≡ 32 * (length v + length w) + 96 }
+    ensures words { (shrink : Bool) → byte_room shrink (alternation (literal (103 ∷ 111 ∷ 105 ∷ 110 ∷ 103 ∷ []) ∷ literal (100 ∷ 111 ∷ 105 ∷ 110 ∷ 103 ∷ []) ∷ [])) ≡ 416 }
     ensures behind { (shrink : Bool) →
         byte_room shrink (alternation (byte_class ((48, 57) ∷ []) ∷ literal (103 ∷ 111 ∷ 105 ∷ 110 ∷ 103 ∷ []) ∷ literal (100 ∷ 111 ∷ 105 ∷ 110 ∷ 103 ∷ []) ∷ [])) ≡ 456 }
     ensures fits { (o : Options) (limit : ℕ) (xs : List Tree) → are_literals xs ≡ true → choice_bytes (alternation xs) + 212 ≤ limit →

@@ -17,7 +17,7 @@ use Rattle.thompson_nfa.specs.Added.{Added}
 use Rattle.thompson_nfa.specs.Compiled.{Grows, IsTame, Weighs, sum_of_bytes}
 use Rattle.thompson_nfa.specs.Denotes.{Denotes}
 use Rattle.thompson_nfa.specs.LiteralGroups.{Ascends, AreInside}
-use Rattle.thompson_nfa.specs.LiteralTries.{edges_in, chunks_in, AreChunks}
+use Rattle.thompson_nfa.specs.LiteralTries.{edges_in, chunks_in, matches_in, AreChunks}
 use Rattle.thompson_nfa.specs.LiteralStates.{edge_ranges, AddsItem, AddsNode, edge_trees, item_tree, item_trees, IsLed}
 use Rattle.thompson_nfa.specs.Refusals.{Stays, Quits, Passes}
 use Rattle.thompson_nfa.specs.Shared.{LeadAll}
@@ -237,7 +237,8 @@ only_one back T end _ _ l (more_denote q x (p ∷ qs) xs d ds) = absurd (omega a
 only_one back T end _ _ l (more_denote q x [] (y ∷ ys) d ds) = elim ds [ ]
 
 module _ (old mid : Assembly) (names : List ℕ) (end : ℕ) (items : List (List Edge)) (ways : List ℕ)
-    (so_far : ItemsTo old mid names end items ways) (few : length items ≤ 2 * chunks_in items + 1) where
+    (so_far : ItemsTo old mid names end items ways) (few : length items ≤ 2 * chunks_in items + 1)
+    (parted : length items ≤ 2 * matches_in items + 1) where
   pub one_item : length ways ≡ 1 → AddsNode old mid names end items (get_or ways 0 0)
   one_item one = record {
     grows = so_far.partly.grows;
@@ -279,7 +280,7 @@ module _ (old mid : Assembly) (names : List ℕ) (end : ℕ) (items : List (List
           groups = added.groups_are ∙ so_far.groups;
           states = omega (arith, chunks_edges items, some_chunk);
           bytes = omega (arith, so_far.bytes, added.bytes, so_far.ways_long);
-          weighs = omega (arith, so_far.weighs, added.bytes, so_far.ways_long, chunks_edges items, some_chunk);
+          weighs = omega (arith, so_far.weighs, added.bytes, so_far.ways_long, chunks_edges items, parted);
           numbered = λ l. added.numbered;
           tame = all.tame;
           stands = λ q l h. ⊎_elim
@@ -309,10 +310,9 @@ module _ (old mid : Assembly) (names : List ℕ) (end : ℕ) (items : List (List
             (omega (arith, so_far.bytes, so_far.states, so_far.ways_long, chunks_edges items, some)) (omega arith) r.cause;
       }
 
-  pub ways_passed : (e : BuildError) → 2 ≤ length ways → Passes mid (24 + 4 * length ways) e → Passes old (68 * edges_in items) e
-  ways_passed e two p =
-      let some : 1 ≤ chunks_in items = omega (arith, so_far.ways_long) in
-      omega (arith, so_far.weighs, so_far.ways_long, chunks_edges items, some, p)
+  pub ways_passed : (e : BuildError) → 2 ≤ length ways → Passes mid (24 + 4 * length ways) e →
+      Passes old (32 * edges_in items + 36 * matches_in items) e
+  ways_passed e two p = omega (arith, so_far.weighs, so_far.ways_long, chunks_edges items, parted, p)
 
 -- the state of an item is refused
 module _ (old mid : Assembly) (names : List ℕ) (end : ℕ) (all items others : List (List Edge)) (item : List Edge)
@@ -333,7 +333,7 @@ module _ (old mid : Assembly) (names : List ℕ) (end : ℕ) (all items others :
             (omega (arith, so_far.bytes, so_far.states, chunks_edges items, edges, few_edges 0 256 item up)) (omega arith) r.cause;
       }
 
-  pub item_passed : (e : BuildError) → Passes mid (24 + 8 * length item) e → Passes old (68 * edges_in all) e
+  pub item_passed : (e : BuildError) → Passes mid (24 + 8 * length item) e → Passes old (32 * edges_in all) e
   item_passed e p = omega (arith, so_far.weighs, chunks_edges items, edges, some, p)
 
 -- ---- places in the list of items
@@ -392,10 +392,11 @@ module _ {V : Type 0} (items_of : V → List Edge) (rows : List V) (k : ℕ) (v 
         item_refused old mid names end (map items_of rows) (take k (map items_of rows)) (drop (k + 1) (map items_of rows)) row ways so_far
         (split_at (map items_of rows) k row inside here) r.0 new e (row_chunk (length names) chunks).1 r.1
 
-    pub row_passed : Passes old (68 * edges_in (map items_of rows)) e
+    pub row_passed : Passes old (32 * edges_in (map items_of rows) + 36 * matches_in (map items_of rows)) e
     row_passed =
-        item_passed old mid names end (map items_of rows) (take k (map items_of rows)) (drop (k + 1) (map items_of rows)) row ways so_far
-        (split_at (map items_of rows) k row inside here) r.0 e r.1.passed
+        let p = item_passed old mid names end (map items_of rows) (take k (map items_of rows)) (drop (k + 1) (map items_of rows)) row ways
+        so_far (split_at (map items_of rows) k row inside here) r.0 e r.1.passed in
+        omega (arith, p)
 
 pub all_items : {V : Type 0} (items_of : V → List Edge) (rows : List V) (k : ℕ) (old mid : Assembly) (names : List ℕ) (end : ℕ)
     (ways : List ℕ) → ItemsTo old mid names end (take k (map items_of rows)) ways → length rows ≤ k →
@@ -411,12 +412,16 @@ got_same (x ∷ xs) d q l e = sym e
 -- all items are there
 module _ {V : Type 0} (items_of : V → List Edge) (rows : List V) (k : ℕ) (old mid : Assembly) (names : List ℕ) (end : ℕ) (ways : List ℕ)
     (so_far : ItemsTo old mid names end (take k (map items_of rows)) ways) (past : length rows ≤ k)
-    (some : 1 ≤ length rows) (few : length rows ≤ 2 * chunks_in (map items_of rows) + 1) where
+    (some : 1 ≤ length rows) (few : length rows ≤ 2 * chunks_in (map items_of rows) + 1)
+    (parted : length rows ≤ 2 * matches_in (map items_of rows) + 1) where
   whole : ItemsTo old mid names end (map items_of rows) ways
   whole = all_items items_of rows k old mid names end ways so_far past
 
   few_rows : length (map items_of rows) ≤ 2 * chunks_in (map items_of rows) + 1
   few_rows = omega (arith, length-map rows items_of, few)
+
+  parted_rows : length (map items_of rows) ≤ 2 * matches_in (map items_of rows) + 1
+  parted_rows = omega (arith, length-map rows items_of, parted)
 
   two_rows : (n : ℕ) → n ≡ length ways → (n ≡ 1 → ⊥) → 2 ≤ length ways
   two_rows n e ne = let l : length ways ≡ length rows = omega (arith, whole.ways_long, length-map rows items_of) in omega arith
@@ -425,17 +430,17 @@ module _ {V : Type 0} (items_of : V → List Edge) (rows : List V) (k : ℕ) (ol
   rows_one n q e one is =
       let l : length ways ≡ 1 = sym e ∙ one in
       let P : ℕ → Type 0 = λ j. AddsNode old mid names end (map items_of rows) j in
-      subst P (got_same ways 0 q (omega arith) is) (one_item old mid names end (map items_of rows) ways whole few_rows l)
+      subst P (got_same ways 0 q (omega arith) is) (one_item old mid names end (map items_of rows) ways whole few_rows parted_rows l)
 
   pub rows_union : (new : Assembly) (id n : ℕ) → n ≡ length ways → (n ≡ 1 → ⊥) → end < length old.drafts →
       Added mid new id (union_draft ways) mid.groups → AddsNode old new names end (map items_of rows) id
-  rows_union new id n e ne there added = more_items old mid names end (map items_of rows) ways whole few_rows new id
+  rows_union new id n e ne there added = more_items old mid names end (map items_of rows) ways whole few_rows parted_rows new id
       (two_rows n e ne) there added
 
   pub rows_refused : (new : Assembly) (e : BuildError) (n : ℕ) → n ≡ length ways → (n ≡ 1 → ⊥) → Stays mid new 1 (24 + 4 * length ways) e →
       Quits old new (2 * edges_in (map items_of rows)) e
-  rows_refused new e n l ne r = ways_refused old mid names end (map items_of rows) ways whole few_rows new e (two_rows n l ne) r
+  rows_refused new e n l ne r = ways_refused old mid names end (map items_of rows) ways whole few_rows parted_rows new e (two_rows n l ne) r
 
   pub rows_passed : (e : BuildError) (n : ℕ) → n ≡ length ways → (n ≡ 1 → ⊥) → Passes mid (24 + 4 * length ways) e →
-      Passes old (68 * edges_in (map items_of rows)) e
-  rows_passed e n l ne p = ways_passed old mid names end (map items_of rows) ways whole few_rows e (two_rows n l ne) p
+      Passes old (32 * edges_in (map items_of rows) + 36 * matches_in (map items_of rows)) e
+  rows_passed e n l ne p = ways_passed old mid names end (map items_of rows) ways whole few_rows parted_rows e (two_rows n l ne) p

@@ -33,12 +33,12 @@ repeated_class_fits o greedy n limit ranges fits refused =
 
 -- ---- literals
 
-pub two_literals : (shrink : Bool) (v w : List ℕ) → byte_room shrink (alternation (literal v ∷ literal w ∷ [])) ≡ 68 * (length v
-    + length w) + 24
+pub two_literals : (shrink : Bool) (v w : List ℕ) → byte_room shrink (alternation (literal v ∷ literal w ∷ [])) ≡ 32 * (length v
+    + length w) + 96
 two_literals shrink v w = omega arith
 
 pub two_words : (shrink : Bool) →
-    byte_room shrink (alternation (literal (103 ∷ 111 ∷ 105 ∷ 110 ∷ 103 ∷ []) ∷ literal (100 ∷ 111 ∷ 105 ∷ 110 ∷ 103 ∷ []) ∷ [])) ≡ 704
+    byte_room shrink (alternation (literal (103 ∷ 111 ∷ 105 ∷ 110 ∷ 103 ∷ []) ∷ literal (100 ∷ 111 ∷ 105 ∷ 110 ∷ 103 ∷ []) ∷ [])) ≡ 416
 two_words shrink = refl
 
 pub words_behind_digits : (shrink : Bool) →

@@ -40,23 +40,23 @@ loop-item-preserved c = (
 pub returns-then-len-eq1-clause-added : goal.returns-then-len-eq1-clause-added
 returns-then-len-eq1-clause-added c =
     rows_one (λ x. x.items) c.args.items.now c.loop-item.item-index _ _ _ _ c.loop-item.ways.items c.loop-item.invariant.0
-    c.loop-item-test.false c.requires.some c.requires.few c.len.result _ (omega (arith, c.len.ensures)) c.if-len-eq1.true
+    c.loop-item-test.false c.requires.some c.requires.few c.requires.parted c.len.result _ (omega (arith, c.len.ensures)) c.if-len-eq1.true
     c.index.ensures
 
 pub returns-in_err-id-2-clause-refused : goal.returns-in_err-id-2-clause-refused
 returns-in_err-id-2-clause-refused c = handed _ _ c.in_err-id-2.field-0.0 c.from_residual-in_err-id-2.ensures.1
     (rows_refused (λ x. x.items) c.args.items.now c.loop-item.item-index _ _ c.args.names.now c.args.end c.loop-item.ways.items
-    c.loop-item.invariant.0 c.loop-item-test.false c.requires.some c.requires.few _ _ c.len.result
+    c.loop-item.invariant.0 c.loop-item-test.false c.requires.some c.requires.few c.requires.parted _ _ c.len.result
     (omega (arith, c.len.ensures)) c.if-len-eq1.false c.in_err-id-2.ensures)
 
 pub returns-in_err-id-2-clause-passed : goal.returns-in_err-id-2-clause-passed
 returns-in_err-id-2-clause-passed c = handed _ _ c.in_err-id-2.field-0.0 c.from_residual-in_err-id-2.ensures.1
     (rows_passed (λ x. x.items) c.args.items.now c.loop-item.item-index _ _ c.args.names.now c.args.end c.loop-item.ways.items
-    c.loop-item.invariant.0 c.loop-item-test.false c.requires.some c.requires.few _ c.len.result
+    c.loop-item.invariant.0 c.loop-item-test.false c.requires.some c.requires.few c.requires.parted _ c.len.result
     (omega (arith, c.len.ensures)) c.if-len-eq1.false c.in_err-id-2.ensures.passed)
 
 pub returns-clause-added : goal.returns-clause-added
 returns-clause-added c =
     rows_union (λ x. x.items) c.args.items.now c.loop-item.item-index _ _ _ _ c.loop-item.ways.items c.loop-item.invariant.0
-    c.loop-item-test.false c.requires.some c.requires.few _ _ c.len.result (omega (arith, c.len.ensures)) c.if-len-eq1.false
+    c.loop-item-test.false c.requires.some c.requires.few c.requires.parted _ _ c.len.result (omega (arith, c.len.ensures)) c.if-len-eq1.false
     c.requires.end c.in_ok-id-2.ensures

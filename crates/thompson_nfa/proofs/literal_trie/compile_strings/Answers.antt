@@ -3,8 +3,8 @@ use Rattle.std.proofs.lemmas.List.{length-map}
 use Rattle.thompson_nfa.specs.LiteralGroups.{texts}
 use Rattle.thompson_nfa.specs.LiteralLaid.{node_value}
 use Rattle.thompson_nfa.proofs.Steps.ErrorLemmas.{handed}
-use Rattle.thompson_nfa.proofs.LiteralTries.LiteralTrieLemmas.{trie_begun, turn_some, turn_few, turn_chunks, turn_refused, turn_passed, turn_there}
-use Rattle.thompson_nfa.proofs.LiteralTries.LiteralTrieLemmas.{turn_stem_refused, turn_stem_passed, turn_compiled, all_made, all_weigh, all_does}
+use Rattle.thompson_nfa.proofs.LiteralTries.LiteralTrieLemmas.{trie_begun, turn_some, turn_few, turn_parted, turn_chunks, turn_refused, turn_passed}
+use Rattle.thompson_nfa.proofs.LiteralTries.LiteralTrieLemmas.{turn_there, turn_stem_refused, turn_stem_passed, turn_compiled, all_made, all_weigh, all_does}
 use Rattle.thompson_nfa.proofs.literal_trie.compile_strings.Goals as goal
 
 pub loop-i-init : goal.loop-i-init
@@ -30,6 +30,15 @@ add_node-requires-clause-few c =
     c.index.ensures (map (λ x. x.items) c.deref.result.now) (ap (map (λ x. x.items)) c.deref.ensures.value)
     c.deref-in-loop-i.ensures.value in
     omega (arith, few, length-map c.deref.result.now (λ x. x.items))
+
+pub add_node-requires-clause-parted : goal.add_node-requires-clause-parted
+add_node-requires-clause-parted c =
+    let parted = turn_parted node_value c.in_ok-laid.laid.items _ _ c.in_ok-end.end
+    (texts c.args.strings.items) c.loop-i.names.items c.deref-in-loop-i.result.now c.loop-i.i _ c.loop-i.invariant c.loop-i-test.true
+    refl c.index.result.now
+    c.index.ensures (map (λ x. x.items) c.deref.result.now) (ap (map (λ x. x.items)) c.deref.ensures.value)
+    c.deref-in-loop-i.ensures.value in
+    omega (arith, parted, length-map c.deref.result.now (λ x. x.items))
 
 pub add_node-requires-clause-chunks : goal.add_node-requires-clause-chunks
 add_node-requires-clause-chunks c =
