@@ -12,8 +12,8 @@ use Rattle.hir_core.proofs.ForCallers.{sequence_short}
 use Rattle.nfa_core.specs.BuilderStates.{Assembly}
 use Rattle.nfa_core.specs.declared.build_error.BuildError.{BuildError}
 use Rattle.thompson_nfa.specs.ByteRoom.{sequence_bytes, class_bytes}
-use Rattle.thompson_nfa.specs.ClassTries.{HasTurned, IsShort}
-use Rattle.thompson_nfa.specs.Compiled.{Weighs, sum_of_bytes}
+use Rattle.thompson_nfa.specs.ClassTries.{HasTurned}
+use Rattle.thompson_nfa.specs.Compiled.{Weighs}
 use Rattle.thompson_nfa.specs.RangeTries.{IsTrie}
 use Rattle.thompson_nfa.specs.RangeWalks.{paths_of}
 use Rattle.thompson_nfa.specs.Refusals.{Passes}

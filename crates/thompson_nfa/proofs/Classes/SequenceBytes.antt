@@ -1,5 +1,5 @@
 -- The bytes of the states of sequences that are read forward: those that were made, and those of the path's nodes.
-use Rattle.std.proofs.Common.{◌≡◌, ℕ, ◌+◌, ◌-◌, ◌*◌, ◌<◌, ◌≤◌, List, [], ◌∷◌, ◌++◌, map, length, drop, refl, sym, ap, ◌∙◌, subst, arith}
+use Rattle.std.proofs.Common.{◌≡◌, ℕ, ◌+◌, ◌*◌, ◌<◌, ◌≤◌, List, [], ◌∷◌, ◌++◌, map, length, drop, refl, sym, ap, subst, arith}
 use Rattle.std.proofs.Common.{length-append, length-drop, ⊎_elim}
 use Rattle.std.proofs.lemmas.List.{length-map}
 use Rattle.nfa_core.specs.BuilderStates.{Assembly, sparse_draft}
