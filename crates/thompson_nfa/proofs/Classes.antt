@@ -23,3 +23,5 @@ pub mod TriePathLemmas
 pub mod ShrunkLemmas
 pub mod PieceLemmas
 pub mod FollowLemmas
+pub mod SequenceBytes
+pub mod ClassBytes

@@ -71,6 +71,11 @@ abbrev pub bytes_in_all : List (List (List ℕ)) → ℕ
 bytes_in_all [] = 0
 bytes_in_all (g ∷ gs) = bytes_in g + bytes_in_all gs
 
+-- how many strings there are in all
+abbrev pub strings_in_all : List (List (List ℕ)) → ℕ
+strings_in_all [] = 0
+strings_in_all (g ∷ gs) = length g + strings_in_all gs
+
 -- Edges to groups with numbers from `first` on, which have the strings that begin with a byte.
 pub record IsChunk (first : ℕ) (groups : List (List (List ℕ))) (edges : List Edge) (strings : List (List ℕ)) : Type 0 where
   pub ascends : Ascends 0 edges 256
@@ -82,10 +87,11 @@ abbrev pub AllSome : List (List (List ℕ)) → Type 0
 AllSome [] = Unit {0}
 AllSome (g ∷ gs) = (1 ≤ length g) × AllSome gs
 
--- Groups were added, one for each edge, whose strings are shorter by a byte each.
+-- Groups were added, one for each edge, whose strings are shorter by a byte each, and no more.
 pub record AddsGroups (old new : List (List (List ℕ))) (edges : ℕ) (strings : List (List ℕ)) : Type 0 where
   pub added : List (List (List ℕ))
   pub is : new ≡ old ++ added
   pub one_each : length added ≡ edges
   pub some : AllSome added
   pub room : length new + bytes_in_all new ≤ length old + bytes_in_all old + bytes_in strings
+  pub no_more : strings_in_all new ≤ strings_in_all old + length strings

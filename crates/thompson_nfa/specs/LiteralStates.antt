@@ -6,9 +6,9 @@ use Rattle.nfa_core.specs.BuilderStates.{Assembly, draft_at, sparse_draft}
 use Rattle.nfa_core.specs.Drafted.{Table}
 use Rattle.nfa_core.specs.Renaming.{stands_for}
 use Rattle.thompson_nfa.specs.Added.{Added}
-use Rattle.thompson_nfa.specs.Compiled.{Grows, AllTame, sum_of_bytes}
+use Rattle.thompson_nfa.specs.Compiled.{Grows, AllTame, Weighs, sum_of_bytes}
 use Rattle.thompson_nfa.specs.Denotes.{Denotes}
-use Rattle.thompson_nfa.specs.LiteralTries.{edges_in, AreChunks}
+use Rattle.thompson_nfa.specs.LiteralTries.{edges_in, matches_in, AreChunks}
 use Rattle.thompson_nfa.specs.Shared.{branch_trees}
 use Rattle.thompson_nfa.specs.declared.literal_groups.Edge.{Edge}
 
@@ -52,12 +52,14 @@ item_trees back names x (i ∷ is) = item_tree back names x i ∷ item_trees bac
 abbrev pub IsLed : Bool → Table → ℕ → ℕ → List ℕ → (ℕ → Tree) → Type 0
 IsLed back table end first names x = (n : ℕ) → first ≤ n → n < length names → Denotes back table (get_or names n 0) end (x n)
 
--- States of a node were added, or none where it is a match alone, whose state is the common end.
+-- States of a node were added, or none where it is a match alone, whose state is the common end. An edge takes 32 bytes at most: a
+-- state with one transition; and a match 36: a choice of three ways.
 pub record AddsNode (old new : Assembly) (names : List ℕ) (end : ℕ) (items : List (List Edge)) (id : ℕ) : Type 0 where
   pub grows : Grows old new
   pub groups : new.groups ≡ old.groups
   pub states : length new.drafts ≤ length old.drafts + 2 * edges_in items
   pub bytes : sum_of_bytes new + 4096 * length old.drafts ≤ sum_of_bytes old + 4096 * length new.drafts
+  pub weighs : Weighs old new (32 * edges_in items + 36 * matches_in items)
   pub numbered : length old.drafts ≤ greatest_index + 1 → length new.drafts ≤ greatest_index + 1
   pub tame : AllTame true (length old.drafts) new
   pub stands : (q : ℕ) → length old.drafts ≤ q → q < length new.drafts → stands_for (draft_at new.drafts q) ≡ None

@@ -4,7 +4,7 @@ use Rattle.search_core.specs.Index.{greatest_index}
 use Rattle.nfa_core.specs.BuilderStates.{Assembly, draft_at}
 use Rattle.nfa_core.specs.Drafted.{Table}
 use Rattle.nfa_core.specs.Renaming.{stands_for}
-use Rattle.thompson_nfa.specs.Compiled.{Grows, AllTame, sum_of_bytes}
+use Rattle.thompson_nfa.specs.Compiled.{Grows, AllTame, Weighs, sum_of_bytes}
 use Rattle.thompson_nfa.specs.Denotes.{Denotes}
 use Rattle.thompson_nfa.specs.LiteralStates.{literals}
 use Rattle.thompson_nfa.specs.LiteralStems.{behind_text}
@@ -16,6 +16,7 @@ pub record AddsText (old new : Assembly) (next : ℕ) (text : List ℕ) (id : �
   pub groups : new.groups ≡ old.groups
   pub states : length new.drafts ≡ length old.drafts + length text
   pub bytes : sum_of_bytes new + 4096 * length old.drafts ≤ sum_of_bytes old + 4096 * length new.drafts
+  pub weighs : Weighs old new (24 * length text)
   pub numbered : length old.drafts ≤ greatest_index + 1 → length new.drafts ≤ greatest_index + 1
   pub tame : AllTame true (length old.drafts) new
   pub stands : (q : ℕ) → length old.drafts ≤ q → q < length new.drafts → stands_for (draft_at new.drafts q) ≡ None

@@ -34,14 +34,22 @@ chunks_in [] = 0
 chunks_in ([] ∷ xs) = chunks_in xs
 chunks_in ((e ∷ es) ∷ xs) = suc (chunks_in xs)
 
+-- and how many are
+abbrev pub matches_in : List (List Edge) → ℕ
+matches_in [] = 0
+matches_in ([] ∷ xs) = suc (matches_in xs)
+matches_in ((e ∷ es) ∷ xs) = matches_in xs
+
 -- the edges of each item ascend, and lead to groups with such numbers
 abbrev pub AreChunks : ℕ → ℕ → List (List Edge) → Type 0
 AreChunks first end [] = Unit {0}
 AreChunks first end (x ∷ xs) = Ascends 0 x 256 × AreInside first end x × AreChunks first end xs
 
--- The items have the strings, those of the groups to which edges lead, from number `first` on; no two matches stand side by side.
+-- The items have the strings, those of the groups to which edges lead, from number `first` on; no two matches stand side by side,
+-- and no two others.
 pub record IsNode (first : ℕ) (groups : List (List (List ℕ))) (items : List (List Edge)) (strings : List (List ℕ)) : Type 0 where
   pub like : IsLike (node_strings groups items) strings
   pub chunks : AreChunks first (length groups) items
   pub some : 1 ≤ length items
   pub few : length items ≤ 2 * chunks_in items + 1
+  pub parted : length items ≤ 2 * matches_in items + 1

@@ -1,6 +1,6 @@
 -- A compiler of sequences of byte ranges: the path of the last sequence, whose states aren't made yet, and the states that
 -- were made.
-use Rattle.std.specs.Prelude.{◌≡◌, ◌⊎◌, ℕ, ◌+◌, ◌<◌, ◌≤◌, List, [], ◌∷◌, ◌++◌, length, map, Option, Some, None, IsTrue}
+use Rattle.std.specs.Prelude.{◌≡◌, ◌⊎◌, ℕ, ◌+◌, ◌*◌, ◌<◌, ◌≤◌, List, [], ◌∷◌, ◌++◌, length, map, Option, Some, None, IsTrue}
 use Rattle.nfa_core.specs.BuilderStates.{Assembly, draft_at, sparse_draft}
 use Rattle.nfa_core.specs.Transitions.{range_of}
 use Rattle.nfa_core.specs.declared.transition.Transition.{Transition}
@@ -48,6 +48,16 @@ AreBytes (r ∷ rs) = (r.0 ≤ r.1) × (r.1 < 256) × AreBytes rs
 abbrev pub ComesAfter : List (ℕ × ℕ) → List (ℕ × ℕ) → Type 0
 ComesAfter [] q = Unit {0}
 ComesAfter (r ∷ p) q = IsBefore (r ∷ p) q
+
+-- what the states of the nodes take, once they are made
+abbrev pub open_bytes : List Stage → ℕ
+open_bytes [] = 0
+open_bytes (n ∷ ns) = 32 + 8 * length n.frozen + open_bytes ns
+
+-- what is made at the end: where there is no node, a state without ranges
+abbrev pub left_bytes : List Stage → ℕ
+left_bytes [] = 24
+left_bytes (n ∷ ns) = open_bytes (n ∷ ns)
 
 -- ---- states that were made
 

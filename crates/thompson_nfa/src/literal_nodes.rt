@@ -1,8 +1,8 @@
 //! The nodes of a trie of strings.
 ghost use Rattle.std.specs.Prelude.{◌≡◌, ◌≤◌, ◌+◌, ◌++◌, ◌<◌, length, map, drop, get_or, ℕ, List, IfOk, [], ◌∷◌, if◌then◌else◌};
-ghost use Rattle.thompson_nfa.specs.LiteralGroups.{texts, groups_of, AddsGroups};
+ghost use Rattle.thompson_nfa.specs.LiteralGroups.{texts, groups_of, strings_in_all, AddsGroups};
 ghost use Rattle.thompson_nfa.specs.LiteralLaid.{node_value, LaysNode, IsTrie};
-ghost use Rattle.thompson_nfa.specs.LiteralTries.{edges_in, IsNode};
+ghost use Rattle.thompson_nfa.specs.LiteralTries.{edges_in, matches_in, IsNode};
 
 use crate::literal_groups::{Edge, chunk, turn_len};
 use crate::literal_stems::{behind_stem, stem};
@@ -32,6 +32,8 @@ fn items<'a>(
     requires few { first ≤ 9223372036854775807 }
     requires some { 1 ≤ length strings.now }
     ensures adds { IfOk result (λ v. AddsGroups (groups_of (λ g. g.items) groups.old.items) (groups_of (λ g. g.items) groups.new.items) (edges_in (map (λ x. x.items) v.items)) (texts strings.now)) }
+    ensures ended { IfOk result (λ v. matches_in (map (λ x. x.items) v.items) + strings_in_all (groups_of (λ g. g.items) groups.new.items) ≤
+        strings_in_all (groups_of (λ g. g.items) groups.old.items) + length (texts strings.now)) }
     ensures node { IfOk result (λ v. (before : List (List (List ℕ))) → length before ≡ first → IsNode first (before ++ groups_of (λ g. g.items) groups.new.items) (map (λ x. x.items) v.items) (texts strings.now)) }
 {
     let mut items = Vec::new(alloc);

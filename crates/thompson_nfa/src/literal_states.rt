@@ -5,8 +5,8 @@ ghost use Rattle.nfa_core.specs.Transitions.{range_of};
 ghost use Rattle.thompson_nfa.specs.Added.{Added};
 ghost use Rattle.thompson_nfa.specs.LiteralGroups.{Ascends, AreInside};
 ghost use Rattle.thompson_nfa.specs.LiteralStates.{edge_ranges, AddsItem, AddsNode};
-ghost use Rattle.thompson_nfa.specs.LiteralTries.{edges_in, chunks_in, AreChunks};
-ghost use Rattle.thompson_nfa.specs.Refusals.{Stays, Quits};
+ghost use Rattle.thompson_nfa.specs.LiteralTries.{edges_in, chunks_in, matches_in, AreChunks};
+ghost use Rattle.thompson_nfa.specs.Refusals.{Stays, Quits, Passes};
 
 use crate::literal_groups::Edge;
 use nfa_core::{BuildError, Builder, Transition};
@@ -43,7 +43,7 @@ fn add_chunk(
     requires inside { AreInside 0 (length names.now) edges.now }
     requires ascending { Ascends 0 edges.now 256 }
     ensures added { IfOk result (λ id. Added builder.old builder.new id (sparse_draft (edge_ranges names.now edges.now)) builder.old.groups) }
-    ensures refused { IfErr result (λ e. Stays builder.old builder.new 1 2072 e) }
+    ensures refused { IfErr result (λ e. Stays builder.old builder.new 1 (24 + 8 * length edges.now) e) }
 {
     let all = transitions(alloc, edges, names)?;
     let id = builder.add_sparse(all)?;
@@ -61,7 +61,7 @@ fn add_item(
     requires inside { AreInside 0 (length names.now) item.now }
     requires ascending { Ascends 0 item.now 256 }
     ensures added { IfOk result (λ id. AddsItem builder.old builder.new names.now end item.now id) }
-    ensures refused { IfErr result (λ e. (1 ≤ length item.now) × Stays builder.old builder.new 1 2072 e) }
+    ensures refused { IfErr result (λ e. (1 ≤ length item.now) × Stays builder.old builder.new 1 (24 + 8 * length item.now) e) }
 {
     if item.is_empty() {
         return Ok(end);
@@ -98,8 +98,10 @@ pub(crate) fn add_node(
     requires chunks { AreChunks 0 (length names.now) (map (λ x. x.items) items.now) }
     requires some { 1 ≤ length items.now }
     requires few { length items.now ≤ 2 * chunks_in (map (λ x. x.items) items.now) + 1 }
+    requires parted { length items.now ≤ 2 * matches_in (map (λ x. x.items) items.now) + 1 }
     ensures added { IfOk result (λ id. AddsNode builder.old builder.new names.now end (map (λ x. x.items) items.now) id) }
     ensures refused { IfErr result (λ e. Quits builder.old builder.new (2 * edges_in (map (λ x. x.items) items.now)) e) }
+    ensures passed { IfErr result (λ e. Passes builder.old (32 * edges_in (map (λ x. x.items) items.now) + 36 * matches_in (map (λ x. x.items) items.now)) e) }
 {
     let mut ways = Vec::new(alloc);
     for item in items {

@@ -1,9 +1,9 @@
 //! The states of a text that is read byte by byte.
-ghost use Rattle.std.specs.Prelude.{◌≡◌, ◌<◌, length, MatchResult, IfOk, IfErr};
+ghost use Rattle.std.specs.Prelude.{◌≡◌, ◌<◌, ◌*◌, length, MatchResult, IfOk, IfErr};
 ghost use Rattle.nfa_core.specs.BuilderStates.{range_draft};
 ghost use Rattle.thompson_nfa.specs.Added.{Added};
 ghost use Rattle.thompson_nfa.specs.LiteralTexts.{AddsText};
-ghost use Rattle.thompson_nfa.specs.Refusals.{Stays, Quits};
+ghost use Rattle.thompson_nfa.specs.Refusals.{Stays, Quits, Passes};
 
 use nfa_core::{BuildError, Builder, Transition};
 use search_core::StateID;
@@ -29,6 +29,7 @@ pub(crate) fn add_text(
     requires { next < length builder.old.drafts }
     ensures added { IfOk result (λ id. AddsText builder.old builder.new next text.now id) }
     ensures refused { IfErr result (λ e. Quits builder.old builder.new (length text.now) e) }
+    ensures passed { IfErr result (λ e. Passes builder.old (24 * length text.now) e) }
 {
     let mut id = next;
     for i in (0..text.len()).rev() {

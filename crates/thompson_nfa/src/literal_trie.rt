@@ -1,9 +1,9 @@
 //! A trie of literals as a fragment: its nodes are compiled from the last to the first.
 ghost use Rattle.std.specs.Prelude.{◌≡◌, ◌≤◌, ◌+◌, ◌*◌, ◌++◌, [], ◌∷◌, true, false, length, All, IfOk, IfErr, OnOk, OnErr};
-ghost use Rattle.thompson_nfa.specs.Compiled.{Makes, Does};
+ghost use Rattle.thompson_nfa.specs.Compiled.{Makes, Weighs, Does};
 ghost use Rattle.thompson_nfa.specs.LiteralGroups.{texts, bytes_in};
 ghost use Rattle.thompson_nfa.specs.LiteralStates.{literals, spelt};
-ghost use Rattle.thompson_nfa.specs.Refusals.{Quits};
+ghost use Rattle.thompson_nfa.specs.Refusals.{Quits, Passes};
 
 use crate::compiling::Fragment;
 use crate::drafts::add_empty;
@@ -36,6 +36,8 @@ fn compile_strings(
     requires { 1 ≤ length strings.items }
     ensures made { IfOk result (λ f. Makes builder.old builder.new f.start f.end (1 + 2 * bytes_in (texts strings.entry.items))) }
     ensures denotes { IfOk result (λ f. Does builder.old builder.new f.start f.end (literals builder.old.reverse (texts strings.entry.items))) }
+    ensures weighs { IfOk result (λ _. Weighs builder.old builder.new (24 + 32 * bytes_in (texts strings.entry.items) + 36 * length (texts strings.entry.items))) }
+    ensures passed { IfErr result (λ e. Passes builder.old (24 + 32 * bytes_in (texts strings.entry.items) + 36 * length (texts strings.entry.items)) e) }
     ensures groups { IfOk result (λ _. builder.new.groups ≡ builder.old.groups) }
     ensures refused { IfErr result (λ e. Quits builder.old builder.new (1 + 2 * bytes_in (texts strings.entry.items)) e) }
 {
@@ -134,6 +136,8 @@ impl LiteralTrie {
         requires { 1 ≤ length self.now.strings }
         ensures made { IfOk result (λ f. Makes builder.old builder.new f.start f.end (1 + 2 * bytes_in self.now.strings)) }
         ensures denotes { IfOk result (λ f. Does builder.old builder.new f.start f.end (literals builder.old.reverse self.now.strings)) }
+        ensures weighs { IfOk result (λ _. Weighs builder.old builder.new (24 + 32 * bytes_in self.now.strings + 36 * length self.now.strings)) }
+        ensures passed { IfErr result (λ e. Passes builder.old (24 + 32 * bytes_in self.now.strings + 36 * length self.now.strings) e) }
         ensures groups { IfOk result (λ _. builder.new.groups ≡ builder.old.groups) }
         ensures refused { IfErr result (λ e. Quits builder.old builder.new (1 + 2 * bytes_in self.now.strings) e) }
     {

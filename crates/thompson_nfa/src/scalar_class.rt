@@ -2,7 +2,7 @@
 ghost use Rattle.std.specs.Prelude.{◌≡◌, true, IfOk, IfErr};
 ghost use Rattle.hir_core.specs.Facts.{is_ascending};
 ghost use Rattle.hir_core.specs.Tree.{char_class};
-ghost use Rattle.thompson_nfa.specs.ByteRoom.{byte_room};
+ghost use Rattle.thompson_nfa.specs.ByteRoom.{class_bytes, byte_room};
 ghost use Rattle.thompson_nfa.specs.Compiled.{Makes, Weighs, Does};
 ghost use Rattle.thompson_nfa.specs.Refusals.{Quits, Passes};
 ghost use Rattle.thompson_nfa.specs.Room.{room};
@@ -27,6 +27,8 @@ fn scalar_states(
     requires { is_ascending ranges.now ≡ true }
     ensures made { IfOk result (λ f. Makes builder.old builder.new f.start f.end (room how.shrink (char_class ranges.now))) }
     ensures does { IfOk result (λ f. Does builder.old builder.new f.start f.end (char_class ranges.now)) }
+    ensures weighs { IfOk result (λ _. Weighs builder.old builder.new (class_bytes how.shrink ranges.now)) }
+    ensures passed { IfErr result (λ e. Passes builder.old (class_bytes how.shrink ranges.now) e) }
     ensures groups { IfOk result (λ _. builder.new.groups ≡ builder.old.groups) }
     ensures refused { IfErr result (λ e. Quits builder.old builder.new (room how.shrink (char_class ranges.now)) e) }
 {

@@ -1,12 +1,14 @@
 //! Fragments of classes of scalars for automata that read forward: their sequences share states.
 ghost use Rattle.std.specs.Prelude.{◌≡◌, ◌≤◌, ◌+◌, ◌*◌, ◌++◌, ◌∷◌, [], ℕ, List, true, false, length, IfOk, IfErr};
 ghost use Rattle.hir_core.specs.Facts.{count, is_ascending};
+ghost use Rattle.hir_core.specs.BySequences.{sequences_of};
 ghost use Rattle.hir_core.specs.Sequences.{ranges_of, utf8_sequences};
 ghost use Rattle.hir_core.specs.Tree.{char_class};
 ghost use Rattle.nfa_core.specs.BuilderStates.{Assembly};
-ghost use Rattle.thompson_nfa.specs.Compiled.{Makes, Does};
-ghost use Rattle.thompson_nfa.specs.Refusals.{Quits};
-ghost use Rattle.thompson_nfa.specs.Utf8Stacks.{path_of, StagesRise, AreBytes, ComesAfter, Keeps};
+ghost use Rattle.thompson_nfa.specs.ByteRoom.{sequence_bytes};
+ghost use Rattle.thompson_nfa.specs.Compiled.{Makes, Weighs, Does, sum_of_bytes};
+ghost use Rattle.thompson_nfa.specs.Refusals.{Quits, Passes};
+ghost use Rattle.thompson_nfa.specs.Utf8Stacks.{path_of, StagesRise, AreBytes, ComesAfter, left_bytes, Keeps};
 ghost use Rattle.thompson_nfa.specs.Utf8Compiles.{IsCompiling, IsOpen, CanFollow};
 
 use crate::compiling::Fragment;
@@ -32,8 +34,11 @@ fn add_sequence(
     ensures added { IfOk result (λ _. (old : Assembly) (qs : List (List (ℕ × ℕ))) →
         IsCompiling old builder.old state.old.end state.old.compiled state.old.nodes.items qs →
         IsCompiling old builder.new state.new.end state.new.compiled state.new.nodes.items (qs ++ ranges_of sequence.now ∷ [])) }
+    ensures weighs { IfOk result (λ _. sum_of_bytes builder.new + left_bytes state.new.nodes.items ≤
+        sum_of_bytes builder.old + left_bytes state.old.nodes.items + (24 * length (ranges_of sequence.now) + 8)) }
     ensures refused { IfErr result (λ e. (old : Assembly) (qs : List (List (ℕ × ℕ))) →
         IsCompiling old builder.old state.old.end state.old.compiled state.old.nodes.items qs → Quits old builder.new (2 + 4 * length qs) e) }
+    ensures passed { IfErr result (λ e. Passes builder.old (left_bytes state.old.nodes.items) e) }
 {
     add(builder, alloc, state, sequence.as_slice())?;
     Ok(())
@@ -52,9 +57,12 @@ fn add_sequences(
     ensures added { IfOk result (λ _. (old : Assembly) (qs : List (List (ℕ × ℕ))) →
         IsCompiling old builder.old state.old.end state.old.compiled state.old.nodes.items qs →
         IsCompiling old builder.new state.new.end state.new.compiled state.new.nodes.items (qs ++ utf8_sequences first last)) }
+    ensures weighs { IfOk result (λ _. sum_of_bytes builder.new + left_bytes state.new.nodes.items ≤
+        sum_of_bytes builder.old + left_bytes state.old.nodes.items + sequence_bytes (utf8_sequences first last)) }
     ensures refused { IfErr result (λ e. (old : Assembly) (qs : List (List (ℕ × ℕ))) →
         IsCompiling old builder.old state.old.end state.old.compiled state.old.nodes.items qs →
         Quits old builder.new (2 + 4 * length (qs ++ utf8_sequences first last)) e) }
+    ensures passed { IfErr result (λ e. Passes builder.old (left_bytes state.old.nodes.items + sequence_bytes (utf8_sequences first last)) e) }
 {
     for sequence in Utf8Sequences::new(first, last) {
         add_sequence(builder, alloc, state, &sequence)?;
@@ -73,6 +81,8 @@ pub(crate) fn compile_scalars_forward(
     requires forward { builder.old.reverse ≡ false }
     ensures made { IfOk result (λ f. Makes builder.old builder.new f.start f.end (count (char_class ranges.now))) }
     ensures does { IfOk result (λ f. Does builder.old builder.new f.start f.end (char_class ranges.now)) }
+    ensures weighs { IfOk result (λ _. Weighs builder.old builder.new (48 + sequence_bytes (sequences_of ranges.now))) }
+    ensures passed { IfErr result (λ e. Passes builder.old (48 + sequence_bytes (sequences_of ranges.now)) e) }
     ensures groups { IfOk result (λ _. builder.new.groups ≡ builder.old.groups) }
     ensures refused { IfErr result (λ e. Quits builder.old builder.new (count (char_class ranges.now)) e) }
 {

@@ -1,13 +1,15 @@
 //! Fragments of classes of scalars for one who reads in reverse: sequences of byte ranges that begin alike share
 //! states.
 
-ghost use Rattle.std.specs.Prelude.{◌≡◌, ◌<◌, ◌≤◌, ◌*◌, true, false, length, map, take, All, IfOk, IfErr, IsTrue};
+ghost use Rattle.std.specs.Prelude.{◌≡◌, ◌<◌, ◌≤◌, ◌+◌, ◌*◌, true, false, length, map, take, All, IfOk, IfErr, IsTrue};
+ghost use Rattle.hir_core.specs.BySequences.{sequences_of};
 ghost use Rattle.hir_core.specs.Facts.{count, is_ascending};
 ghost use Rattle.hir_core.specs.Sequences.{bytes_of, ranges_of, utf8_sequences};
 ghost use Rattle.hir_core.specs.Tree.{char_class};
 ghost use Rattle.nfa_core.specs.BuilderStates.{draft_at, is_sparse};
-ghost use Rattle.thompson_nfa.specs.Compiled.{Makes, Does};
-ghost use Rattle.thompson_nfa.specs.Refusals.{Stays, Quits};
+ghost use Rattle.thompson_nfa.specs.ByteRoom.{sequence_bytes};
+ghost use Rattle.thompson_nfa.specs.Compiled.{Makes, Weighs, Does};
+ghost use Rattle.thompson_nfa.specs.Refusals.{Stays, Quits, Passes};
 ghost use Rattle.thompson_nfa.specs.SharedSuffixes.{key_of, AddsRange, SharesRange, SharesRanges, AddsSequence, AddsSequences};
 ghost use Rattle.thompson_nfa.specs.SlotTables.{is_ready};
 
@@ -113,6 +115,7 @@ fn share_ranges(
     ensures shared { IfOk result (λ id. SharesRanges end builder.old suffixes.old builder.new suffixes.new id (take many (map bytes_of ranges.now))) }
     ensures capacity { suffixes.new.capacity ≡ suffixes.old.capacity }
     ensures refused { IfErr result (λ e. Quits builder.old builder.new many e) }
+    ensures passed { IfErr result (λ e. Passes builder.old (24 * many) e) }
 {
     let mut next = end;
     for place in 0..many {
@@ -139,6 +142,7 @@ fn add_sequence_reverse(
     ensures added { IfOk result (λ _. AddsSequence builder.old builder.new suffixes.old suffixes.new choice end (ranges_of sequence.now)) }
     ensures capacity { suffixes.new.capacity ≡ suffixes.old.capacity }
     ensures refused { IfErr result (λ e. Quits builder.old builder.new 4 e) }
+    ensures passed { IfErr result (λ e. Passes builder.old (24 * length (ranges_of sequence.now) + 4) e) }
 {
     let ranges = sequence.as_slice();
     let last = ranges.len() - 1;
@@ -164,6 +168,7 @@ fn add_sequences_reverse(
     ensures added { IfOk result (λ _. AddsSequences choice end builder.old suffixes.old builder.new suffixes.new (utf8_sequences first last)) }
     ensures capacity { suffixes.new.capacity ≡ suffixes.old.capacity }
     ensures refused { IfErr result (λ e. Quits builder.old builder.new (4 * length (utf8_sequences first last)) e) }
+    ensures passed { IfErr result (λ e. Passes builder.old (sequence_bytes (utf8_sequences first last)) e) }
 {
     for sequence in Utf8Sequences::new(first, last) {
         add_sequence_reverse(builder, suffixes, &sequence, choice, end)?;
@@ -186,6 +191,8 @@ pub(crate) fn compile_scalars_reverse(
     requires places { 0 < suffixes.old.capacity }
     ensures made { IfOk result (λ f. Makes builder.old builder.new f.start f.end (count (char_class ranges.now))) }
     ensures does { IfOk result (λ f. Does builder.old builder.new f.start f.end (char_class ranges.now)) }
+    ensures weighs { IfOk result (λ _. Weighs builder.old builder.new (48 + sequence_bytes (sequences_of ranges.now))) }
+    ensures passed { IfErr result (λ e. Passes builder.old (48 + sequence_bytes (sequences_of ranges.now)) e) }
     ensures groups { IfOk result (λ _. builder.new.groups ≡ builder.old.groups) }
     ensures capacity { suffixes.new.capacity ≡ suffixes.old.capacity }
     ensures refused { IfErr result (λ e. Quits builder.old builder.new (count (char_class ranges.now)) e) }

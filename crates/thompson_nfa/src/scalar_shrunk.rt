@@ -2,11 +2,12 @@
 
 ghost use Rattle.std.specs.Prelude.{◌≡◌, ◌<◌, ◌+◌, ◌*◌, ℕ, [], true, length, map, get_or, IfOk, IfErr};
 ghost use Rattle.hir_core.specs.Tree.{alternation, char_class};
+ghost use Rattle.thompson_nfa.specs.ByteRoom.{sequence_bytes};
 ghost use Rattle.thompson_nfa.specs.ClassTries.{IsShort};
-ghost use Rattle.thompson_nfa.specs.Compiled.{Makes, Does};
+ghost use Rattle.thompson_nfa.specs.Compiled.{Makes, Weighs, Does};
 ghost use Rattle.thompson_nfa.specs.RangeTries.{IsTrie};
 ghost use Rattle.thompson_nfa.specs.RangeWalks.{paths_of};
-ghost use Rattle.thompson_nfa.specs.Refusals.{Quits};
+ghost use Rattle.thompson_nfa.specs.Refusals.{Quits, Passes};
 ghost use Rattle.thompson_nfa.specs.ScalarCounts.{scalars_in};
 ghost use Rattle.thompson_nfa.specs.Shared.{read_tree};
 
@@ -30,6 +31,8 @@ fn compile_paths(
     requires short { (k : ℕ) → k < length (paths_of paths.now) → IsShort (get_or (paths_of paths.now) k []) }
     ensures made { IfOk result (λ f. Makes builder.old builder.new f.start f.end (2 + 4 * length paths.now)) }
     ensures does { IfOk result (λ f. Does builder.old builder.new f.start f.end (alternation (map (read_tree builder.old.reverse) (paths_of paths.now)))) }
+    ensures weighs { IfOk result (λ _. Weighs builder.old builder.new (48 + sequence_bytes (paths_of paths.now))) }
+    ensures passed { IfErr result (λ e. Passes builder.old (48 + sequence_bytes (paths_of paths.now)) e) }
     ensures groups { IfOk result (λ _. builder.new.groups ≡ builder.old.groups) }
     ensures refused { IfErr result (λ e. Quits builder.old builder.new (2 + 4 * length paths.now) e) }
 {
@@ -53,6 +56,8 @@ pub(crate) fn compile_scalars_shrunk(
     requires { builder.old.reverse ≡ true }
     ensures made { IfOk result (λ f. Makes builder.old builder.new f.start f.end (2 + 4 * scalars_in ranges.now)) }
     ensures does { IfOk result (λ f. Does builder.old builder.new f.start f.end (char_class ranges.now)) }
+    ensures weighs { IfOk result (λ _. Weighs builder.old builder.new (48 + 104 * scalars_in ranges.now)) }
+    ensures passed { IfErr result (λ e. Passes builder.old (48 + 104 * scalars_in ranges.now) e) }
     ensures groups { IfOk result (λ _. builder.new.groups ≡ builder.old.groups) }
     ensures refused { IfErr result (λ e. Quits builder.old builder.new (2 + 4 * scalars_in ranges.now) e) }
 {

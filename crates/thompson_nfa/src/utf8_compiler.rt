@@ -5,13 +5,14 @@ ghost use Rattle.nfa_core.specs.BuilderStates.{Assembly, sparse_draft};
 ghost use Rattle.nfa_core.specs.Transitions.{range_of};
 ghost use Rattle.nfa_core.specs.declared.build_error.BuildError.TheVariants.{NoMemory};
 ghost use Rattle.thompson_nfa.specs.Added.{Added};
-ghost use Rattle.thompson_nfa.specs.Compiled.{Makes, Does};
-ghost use Rattle.thompson_nfa.specs.Refusals.{Quits, Stays};
+ghost use Rattle.thompson_nfa.specs.Compiled.{Makes, Weighs, Does, sum_of_bytes};
+ghost use Rattle.thompson_nfa.specs.Refusals.{Quits, Stays, Passes};
 ghost use Rattle.thompson_nfa.specs.Shared.{read_tree};
 ghost use Rattle.thompson_nfa.specs.Utf8Compiles.{IsCompiling};
 ghost use Rattle.hir_core.specs.Tree.{alternation};
 ghost use Rattle.thompson_nfa.specs.RangeTries.{IsBefore};
-ghost use Rattle.thompson_nfa.specs.Utf8Stacks.{fresh, path_of, RisesIn, StagesRise, AreBytes, ComesAfter, Keeps, Compiles, MakesTop, Pops, PopsUntil, Turns, PartsAt};
+ghost use Rattle.thompson_nfa.specs.Utf8Stacks.{fresh, path_of, RisesIn, StagesRise, AreBytes, ComesAfter, open_bytes, left_bytes};
+ghost use Rattle.thompson_nfa.specs.Utf8Stacks.{Keeps, Compiles, MakesTop, Pops, PopsUntil, Turns, PartsAt};
 
 use crate::compiling::Fragment;
 use crate::drafts::add_empty;
@@ -27,6 +28,7 @@ fn add_state(builder: &mut Builder, trans: Vec<Transition>) -> Result<StateID, B
     requires { RisesIn 0 (map range_of trans.items) }
     ensures added { IfOk result (λ id. Added builder.old builder.new id (sparse_draft (map range_of trans.items)) builder.old.groups) }
     ensures refused { IfErr result (λ e. Stays builder.old builder.new 1 2072 e) }
+    ensures passed { IfErr result (λ e. Passes builder.old (24 + 8 * length (map range_of trans.items)) e) }
 {
     let id = builder.add_sparse(trans)?;
     Ok(id)
@@ -45,6 +47,7 @@ fn compile(
     ensures nodes { state.new.nodes.items ≡ state.old.nodes.items }
     ensures end { state.new.end ≡ state.old.end }
     ensures refused { IfErr result (λ e. Stays builder.old builder.new 1 2072 e) }
+    ensures passed { IfErr result (λ e. Passes builder.old (24 + 8 * length (map range_of trans.items)) e) }
 {
     let hash = state.compiled.hash(&trans);
     if let Some(id) = state.compiled.get(&trans, hash) {
@@ -71,6 +74,7 @@ fn compile_top(
     ensures keeps { IfOk result (λ _. Keeps builder.new state.old.end state.new.compiled) }
     ensures end { state.new.end ≡ state.old.end }
     ensures refused { IfErr result (λ e. Stays builder.old builder.new 1 2072 e) }
+    ensures passed { IfErr result (λ e. Passes builder.old (open_bytes state.old.nodes.items) e) }
 {
     let Some(node) = state.nodes.pop() else {
         // Not reached: there is a node.
@@ -96,6 +100,7 @@ fn compile_from(
     ensures keeps { IfOk result (λ _. Keeps builder.new state.old.end state.new.compiled) }
     ensures end { state.new.end ≡ state.old.end }
     ensures refused { IfErr result (λ e. PopsUntil state.old.end builder.old builder.new state.old.nodes.items e) }
+    ensures passed { IfErr result (λ e. Passes builder.old (open_bytes state.old.nodes.items) e) }
 {
     let mut next = state.end;
     for _count in from..state.nodes.len() {
@@ -120,6 +125,7 @@ fn turn(
     ensures keeps { IfOk result (λ _. Keeps builder.new state.old.end state.new.compiled) }
     ensures end { state.new.end ≡ state.old.end }
     ensures refused { IfErr result (λ e. PopsUntil state.old.end builder.old builder.new state.old.nodes.items e) }
+    ensures passed { IfErr result (λ e. Passes builder.old (open_bytes state.old.nodes.items) e) }
 {
     let next = compile_from(builder, state, from + 1)?;
     let Some(mut node) = state.nodes.pop() else {
@@ -173,7 +179,9 @@ fn first_difference(state: &Utf8State, ranges: &[Utf8Range]) -> usize
 #[tactic(auto, using(crate::proofs::Classes::PathLemmas::compile_begun, crate::proofs::Steps::ProgressLemmas::first_quits))]
 pub(crate) fn begin(builder: &mut Builder, state: &mut Utf8State) -> Result<(), BuildError>
     ensures begun { IfOk result (λ _. IsCompiling builder.old builder.new state.new.end state.new.compiled state.new.nodes.items []) }
+    ensures weighs { IfOk result (λ _. sum_of_bytes builder.new + left_bytes state.new.nodes.items ≤ sum_of_bytes builder.old + 48) }
     ensures refused { IfErr result (λ e. Quits builder.old builder.new 1 e) }
+    ensures passed { IfErr result (λ e. Passes builder.old 24 e) }
 {
     state.compiled.clear()?;
     state.nodes.clear();
@@ -201,8 +209,11 @@ pub(crate) fn add(
     ensures added { IfOk result (λ _. (old : Assembly) (qs : List (List (ℕ × ℕ))) →
         IsCompiling old builder.old state.old.end state.old.compiled state.old.nodes.items qs →
         IsCompiling old builder.new state.new.end state.new.compiled state.new.nodes.items (qs ++ map bytes_of ranges.now ∷ [])) }
+    ensures weighs { IfOk result (λ _. sum_of_bytes builder.new + left_bytes state.new.nodes.items ≤
+        sum_of_bytes builder.old + left_bytes state.old.nodes.items + (24 * length (map bytes_of ranges.now) + 8)) }
     ensures refused { IfErr result (λ e. (old : Assembly) (qs : List (List (ℕ × ℕ))) →
         IsCompiling old builder.old state.old.end state.old.compiled state.old.nodes.items qs → Quits old builder.new (2 + 4 * length qs) e) }
+    ensures passed { IfErr result (λ e. Passes builder.old (left_bytes state.old.nodes.items) e) }
 {
     if state.nodes.is_empty() {
         push_nodes(alloc, state, ranges, 0)?;
@@ -227,8 +238,10 @@ pub(crate) fn finish(
     ensures closed { IfOk result (λ f. (old : Assembly) (qs : List (List (ℕ × ℕ))) →
         IsCompiling old builder.old state.old.end state.old.compiled state.old.nodes.items qs →
         Makes old builder.new f.start f.end (2 + 4 * length qs) × Does old builder.new f.start f.end (alternation (map (read_tree old.reverse) qs)) × (builder.new.groups ≡ old.groups)) }
+    ensures weighs { IfOk result (λ _. Weighs builder.old builder.new (left_bytes state.old.nodes.items)) }
     ensures refused { IfErr result (λ e. (old : Assembly) (qs : List (List (ℕ × ℕ))) →
         IsCompiling old builder.old state.old.end state.old.compiled state.old.nodes.items qs → Quits old builder.new (2 + 4 * length qs) e) }
+    ensures passed { IfErr result (λ e. Passes builder.old (left_bytes state.old.nodes.items) e) }
 {
     let end = state.end;
     if state.nodes.is_empty() {

@@ -41,15 +41,15 @@ module _ (ranges : List (ℕ × ℕ)) (trie : List (List (ℕ × ℕ))) (ascends
   pub paths_short : (k : ℕ) → k < length (paths_of paths) → IsShort (get_or (paths_of paths) k [])
   paths_short k l = turned_short (paths_of paths) ranges paths_ascend paths_have k l
 
-  few : length paths ≤ scalars_in ranges
-  few =
+  pub few_paths : length paths ≤ scalars_in ranges
+  few_paths =
       let many = sequences_counted (paths_of paths) ranges paths_ascend paths_have in
       let long = length-map paths (λ (v : Vec Utf8Range Global). map bytes_of v.items) in
       omega (arith, many, long)
 
   pub shrunk_made : {old new : Assembly} {start end : ℕ} → Makes old new start end (2 + 4 * length paths) →
       Makes old new start end (2 + 4 * scalars_in ranges)
-  shrunk_made m = let l = few in made_capped (2 + 4 * scalars_in ranges) m (omega (arith, l))
+  shrunk_made m = let l = few_paths in made_capped (2 + 4 * scalars_in ranges) m (omega (arith, l))
 
   pub shrunk_does : {old new : Assembly} {start end : ℕ} → old.reverse ≡ true →
       Does old new start end (alternation (map (read_tree old.reverse) (paths_of paths))) → Does old new start end (char_class ranges)
@@ -61,4 +61,4 @@ module _ (ranges : List (ℕ × ℕ)) (trie : List (List (ℕ × ℕ))) (ascends
 
   pub shrunk_quits : {old new : Assembly} {e : BuildError} → Quits old new (2 + 4 * length paths) e →
       Quits old new (2 + 4 * scalars_in ranges) e
-  shrunk_quits q = let l = few in quits_more (2 + 4 * length paths) (2 + 4 * scalars_in ranges) (omega (arith, l)) q
+  shrunk_quits q = let l = few_paths in quits_more (2 + 4 * length paths) (2 + 4 * scalars_in ranges) (omega (arith, l)) q

@@ -1,6 +1,6 @@
 -- The sequences of a trie, one after the other: what a compile of them asks of the next.
-use Rattle.std.proofs.Common.{◌≡◌, ℕ, zero, suc, ◌+◌, ◌<◌, ◌≤◌, List, [], ◌∷◌, ◌++◌, map, length, get_or, take, refl, sym, ap, ◌∙◌, subst}
-use Rattle.std.proofs.Common.{arith, length-take}
+use Rattle.std.proofs.Common.{◌≡◌, ℕ, zero, suc, ◌+◌, ◌<◌, ◌≤◌, List, [], ◌∷◌, ◌++◌, map, length, get_or, take, drop, refl, sym, ap, ◌∙◌}
+use Rattle.std.proofs.Common.{subst, arith, length-take}
 use Rattle.std.proofs.lemmas.List.{take_more, take_all, get_or-map, length-map}
 use Rattle.std.specs.Prelude.{Vec}
 use Rattle.std.specs.declared.alloc.Global.{Global}
@@ -12,6 +12,7 @@ use Rattle.thompson_nfa.specs.RangeWalks.{paths_of}
 use Rattle.thompson_nfa.specs.Utf8Compiles.{last_of}
 use Rattle.thompson_nfa.specs.Utf8Stacks.{AreBytes, ComesAfter}
 use Rattle.thompson_nfa.proofs.Classes.FollowLemmas.{as_after}
+use Rattle.thompson_nfa.proofs.Fragments.TurnLemmas.{first_left}
 
 after_last : (qs : List (List (ℕ × ℕ))) (i : ℕ) → IsTrie qs → i < length qs → ComesAfter (last_of (take i qs)) (get_or qs i [])
 after_last qs zero t l = tt
@@ -66,6 +67,9 @@ module _ (paths : List (Vec Utf8Range Global)) (i : ℕ) (v : Vec Utf8Range Glob
 
   pub paths_more : take (i + 1) (paths_of paths) ≡ take i (paths_of paths) ++ map bytes_of shown ∷ []
   paths_more = take_more (paths_of paths) i [] inside ∙ ap (λ (q : List (ℕ × ℕ)). take i (paths_of paths) ++ q ∷ []) path_here
+
+  pub path_left : drop i (paths_of paths) ≡ map bytes_of shown ∷ drop (i + 1) (paths_of paths)
+  path_left = first_left (paths_of paths) i (map bytes_of shown) [] inside (sym path_here)
 
   pub next_fits : length (take i (paths_of paths)) + 1 ≤ length paths
   next_fits = let n = length-take i (paths_of paths) in omega (arith, n, less)

@@ -12,6 +12,7 @@ use Rattle.thompson_nfa.specs.NotedGroups.{noted}
 use Rattle.thompson_nfa.specs.Refusals.{Refuses, Stays}
 use Rattle.thompson_nfa.specs.Room.{room}
 use Rattle.thompson_nfa.specs.ByteRoom.{byte_room}
+use Rattle.thompson_nfa.specs.LiteralParts.{are_literals}
 use Rattle.thompson_nfa.specs.declared.compiling.How.{How}
 use Rattle.thompson_nfa.specs.declared.which_captures.WhichCaptures.{WhichCaptures}
 use Rattle.thompson_nfa.proofs.Walks.SameLemmas.{same_alternation_one}
@@ -165,17 +166,17 @@ module _ (how : How) (old b : Assembly) (u z i : ℕ) (xs : List Tree) (cs : Cas
         bytes = omega (arith, w, cs.bytes, p1.bytes, p2.bytes, sized);
       }
 
-  pub cases_weigh : Weighs old b (byte_room how.shrink (alternation xs))
-  cases_weigh = omega (arith, cs.bytes, bytes_of_alternation how.shrink xs)
+  pub cases_weigh : are_literals xs ≡ false → Weighs old b (byte_room how.shrink (alternation xs))
+  cases_weigh other = omega (arith, cs.bytes, bytes_of_alternation how.shrink xs other)
 
   sized : (x : Tree) → i < length xs → x ≡ get_or xs i x →
       part_bytes 8 how.shrink (drop i xs) ≡ byte_room how.shrink x + 8 + part_bytes 8 how.shrink (drop (i + 1) xs)
   sized x l is = ap (part_bytes 8 how.shrink) (first_left xs i x x l is)
 
   -- the next part, and the ways to it and from it
-  pub cases_left : (x : Tree) → i < length xs → x ≡ get_or xs i x →
+  pub cases_left : are_literals xs ≡ false → (x : Tree) → i < length xs → x ≡ get_or xs i x →
       sum_of_bytes b + byte_room how.shrink x + 8 ≤ sum_of_bytes old + byte_room how.shrink (alternation xs)
-  cases_left x l is = omega (arith, cs.bytes, sized x l is, bytes_of_alternation how.shrink xs)
+  cases_left other x l is = omega (arith, cs.bytes, sized x l is, bytes_of_alternation how.shrink xs other)
 
   pub cases_refused : (new : Assembly) (x : Tree) (e : BuildError) → i < length xs → x ≡ get_or xs i x →
       Refuses how.which b new (room how.shrink x) x e → Refuses how.which old new (room how.shrink (alternation xs)) (alternation xs) e

@@ -1,12 +1,11 @@
 -- The bytes of parts, and of rounds.
 use Rattle.std.proofs.Common.{◌≡◌, ℕ, zero, suc, ◌+◌, ◌-◌, ◌*◌, ◌<◌, ◌≤◌, max, Bool, true, false, ◌&&◌, List, [], ◌∷◌, ◌++◌, length, take}
-use Rattle.std.proofs.Common.{drop, get_or, Some, None, refl, sym, ap, ◌∙◌, subst, arith, if◌then◌else◌, nat_le}
+use Rattle.std.proofs.Common.{drop, get_or, Some, None, refl, sym, ap, ◌∙◌, arith, if◌then◌else◌}
 use Rattle.std.specs.List.{list_all}
-use Rattle.std.proofs.lemmas.Bool.{and_parts}
+use Rattle.std.proofs.lemmas.Bool.{and_parts, le-leb}
 use Rattle.hir_core.specs.Tree.{Tree, empty, literal, byte_class, char_class, look, repetition, capture, nothing, cat, never, alt}
 use Rattle.hir_core.specs.Tree.{concat, alternation}
-use Rattle.hir_core.specs.Facts.{count}
-use Rattle.thompson_nfa.specs.ByteRoom.{byte_room, is_choice, choice_room, repeated_bytes}
+use Rattle.thompson_nfa.specs.ByteRoom.{byte_room, has_literals, is_choice, choice_bytes, apart_bytes, repeated_bytes}
 use Rattle.thompson_nfa.specs.LiteralParts.{is_literal, are_literals, bytes_of_literal}
 use Rattle.thompson_nfa.specs.Turned.{turned_place, left_after}
 use Rattle.thompson_nfa.proofs.Fragments.TurnLemmas.{first_left, last_left}
@@ -47,61 +46,70 @@ literal_bytes shrink (cat x y) is = absurd (cc)
 literal_bytes shrink never is = absurd (cc)
 literal_bytes shrink (alt x y) is = absurd (cc)
 
-literal_count : (x : Tree) → is_literal x ≡ true → count x ≤ 2 * length (bytes_of_literal x) + 1
-literal_count empty is = absurd (cc)
-literal_count (literal bytes) is = omega arith
-literal_count (byte_class ranges) is = absurd (cc)
-literal_count (char_class ranges) is = absurd (cc)
-literal_count (look l) is = absurd (cc)
-literal_count (repetition low most greedy x) is = absurd (cc)
-literal_count (capture index name x) is = absurd (cc)
-literal_count nothing is = absurd (cc)
-literal_count (cat x y) is = absurd (cc)
-literal_count never is = absurd (cc)
-literal_count (alt x y) is = absurd (cc)
+-- literals that come behind another part
+apart_parts : (shrink : Bool) (xs : List Tree) → has_literals (alternation xs) ≡ true →
+    part_bytes 8 shrink xs + 48 ≤ apart_bytes (alternation xs)
+apart_parts shrink [] is = omega arith
+apart_parts shrink (x ∷ xs) is =
+    let both = and_parts (is_literal x) (has_literals (alternation xs)) is in
+    omega (arith, literal_bytes shrink x both.0, apart_parts shrink xs both.1)
 
-choice_parts : (shrink : Bool) (xs : List Tree) → is_choice (alternation xs) ≡ true →
-    part_bytes 8 shrink xs + 48 ≤ 4096 * choice_room (alternation xs)
-choice_parts shrink [] is = omega arith
-choice_parts shrink (x ∷ xs) is =
-    let both = and_parts (is_literal x) (is_choice (alternation xs)) is in
-    omega (arith, literal_bytes shrink x both.0, choice_parts shrink xs both.1)
+either_bytes : (b : Bool) (low shared sum : ℕ) → (b ≡ true → low ≤ shared) → (b ≡ false → low ≤ sum) → low ≤ (if b then shared else sum)
+either_bytes true low shared sum one other = one refl
+either_bytes false low shared sum one other = other refl
 
-choice_count : (xs : List Tree) → list_all is_literal xs ≡ true → count (alternation xs) ≤ choice_room (alternation xs)
-choice_count [] all = omega arith
-choice_count (x ∷ xs) all =
-    let both = and_parts (is_literal x) (list_all is_literal xs) all in
-    omega (arith, literal_count x both.0, choice_count xs both.1)
+-- what the parts behind the first one take, where some part isn't a literal
+abbrev rest_bytes : Bool → Tree → ℕ
+rest_bytes shrink y = if has_literals y then apart_bytes y else byte_room shrink y
 
-all_choice : (xs : List Tree) → list_all is_literal xs ≡ true → is_choice (alternation xs) ≡ true
-all_choice [] all = refl
-all_choice (x ∷ xs) all =
-    let both = and_parts (is_literal x) (list_all is_literal xs) all in
-    ap (λ b. b && is_choice (alternation xs)) both.0 ∙ all_choice xs both.1
+-- where one part isn't a literal, it is no choice
+no_choice : (x : Tree) (xs : List Tree) → has_literals (alternation (x ∷ xs)) ≡ false → is_choice x (alternation xs) ≡ false
+no_choice x [] other = refl
+no_choice x (y ∷ xs) other = other
 
-either_bytes : (b : Bool) (low choice sum : ℕ) → low ≤ sum → (b ≡ true → low ≤ choice) → low ≤ (if b then choice else sum)
-either_bytes true low choice sum le both = both refl
-either_bytes false low choice sum le both = le
+-- a first part, and others
+parts_with : (shrink : Bool) (x : Tree) (xs : List Tree) → is_choice x (alternation xs) ≡ false →
+    part_bytes 8 shrink xs + 48 ≤ rest_bytes shrink (alternation xs) →
+    part_bytes 8 shrink (x ∷ xs) + 48 ≤ byte_room shrink (alternation (x ∷ xs))
+parts_with shrink x xs none rest =
+    either_bytes (is_choice x (alternation xs)) (part_bytes 8 shrink (x ∷ xs) + 48) (choice_bytes (alternation (x ∷ xs)))
+    (byte_room shrink x + 8 + rest_bytes shrink (alternation xs)) (λ is. absurd (cc)) (λ is. omega (arith, rest))
 
-pub bytes_of_alternation : (shrink : Bool) (xs : List Tree) → part_bytes 8 shrink xs + 48 ≤ byte_room shrink (alternation xs)
-bytes_of_alternation shrink [] = omega arith
-bytes_of_alternation shrink (x ∷ xs) =
-    let e = bytes_of_alternation shrink xs in
-    either_bytes (is_literal x && is_choice (alternation xs)) (part_bytes 8 shrink (x ∷ xs) + 48) (4096 * choice_room (alternation (x ∷ xs)))
-    (byte_room shrink x + 8 + byte_room shrink (alternation xs)) (omega arith) (choice_parts shrink (x ∷ xs))
+rest_parts : (shrink : Bool) (xs : List Tree) → part_bytes 8 shrink xs + 48 ≤ rest_bytes shrink (alternation xs)
+rest_parts shrink [] = omega arith
+rest_parts shrink (x ∷ xs) =
+    either_bytes (has_literals (alternation (x ∷ xs))) (part_bytes 8 shrink (x ∷ xs) + 48) (apart_bytes (alternation (x ∷ xs)))
+    (byte_room shrink (alternation (x ∷ xs))) (apart_parts shrink (x ∷ xs))
+    (λ other. parts_with shrink x xs (no_choice x xs other) (rest_parts shrink xs))
+
+all_literals : (xs : List Tree) → list_all is_literal xs ≡ has_literals (alternation xs)
+all_literals [] = refl
+all_literals (x ∷ xs) = ap (λ b. is_literal x && b) (all_literals xs)
+
+-- two literals at least are a choice
+choice_is : (x : Tree) (xs : List Tree) → are_literals (x ∷ xs) ≡ is_choice x (alternation xs)
+choice_is x [] = refl
+choice_is x (y ∷ xs) = ap (λ b. b && list_all is_literal (x ∷ y ∷ xs)) (le-leb 2 (length (x ∷ y ∷ xs)) (omega arith))
+    ∙ all_literals (x ∷ y ∷ xs)
+
+pub few_parts : (xs : List Tree) → length xs ≤ 1 → are_literals xs ≡ false
+few_parts [] few = refl
+few_parts (x ∷ []) few = refl
+few_parts (x ∷ y ∷ xs) few = absurd (omega arith)
+
+-- parts that aren't all literals, or none, or one
+pub bytes_of_alternation : (shrink : Bool) (xs : List Tree) → are_literals xs ≡ false →
+    part_bytes 8 shrink xs + 48 ≤ byte_room shrink (alternation xs)
+bytes_of_alternation shrink [] other = omega arith
+bytes_of_alternation shrink (x ∷ xs) other = parts_with shrink x xs (sym (choice_is x xs) ∙ other) (rest_parts shrink xs)
 
 -- what a trie of literals takes
-pub choice_bytes : (shrink : Bool) (xs : List Tree) → are_literals xs ≡ true →
-    4096 * count (alternation xs) ≤ byte_room shrink (alternation xs)
-choice_bytes shrink [] are = absurd (cc)
-choice_bytes shrink (x ∷ []) are = absurd (cc)
-choice_bytes shrink (x ∷ y ∷ xs) are =
-    let all = (and_parts (nat_le 2 (length (x ∷ y ∷ xs))) (list_all is_literal (x ∷ y ∷ xs)) are).1 in
-    let e = choice_count (x ∷ y ∷ xs) all in
-    let is = all_choice (x ∷ y ∷ xs) all in
-    let P : Bool → Type 0 = λ b. 4096 * count (alternation (x ∷ y ∷ xs)) ≤ (if b then 4096 * choice_room (alternation (x ∷ y ∷ xs))
-    else byte_room shrink x + 8 + byte_room shrink (alternation (y ∷ xs))) in
-    subst P (sym is) (omega arith)
+pub literals_bytes : (shrink : Bool) (xs : List Tree) → are_literals xs ≡ true → choice_bytes (alternation xs) ≡ byte_room shrink
+    (alternation xs)
+literals_bytes shrink [] are = absurd (cc)
+literals_bytes shrink (x ∷ xs) are =
+    let sum = byte_room shrink x + 8 + rest_bytes shrink (alternation xs) in
+    sym (ap (λ b. if b then choice_bytes (alternation (x ∷ xs)) else sum) (sym (choice_is x xs) ∙ are))
 
 -- a part takes no more than all
 pub bytes_of_part : (shrink : Bool) (xs : List Tree) (i : ℕ) (x : Tree) → i < length xs → x ≡ get_or xs i x →
@@ -110,9 +118,9 @@ bytes_of_part shrink [] i x l is = absurd (omega arith)
 bytes_of_part shrink (y ∷ xs) zero x l is = let e = ap (byte_room shrink) is in omega arith
 bytes_of_part shrink (y ∷ xs) (suc i) x l is = let e = bytes_of_part shrink xs i x (omega arith) is in omega arith
 
-pub part_in_alternation : (shrink : Bool) (xs : List Tree) (i : ℕ) (x : Tree) → i < length xs → x ≡ get_or xs i x →
-    byte_room shrink x ≤ byte_room shrink (alternation xs)
-part_in_alternation shrink xs i x l is = omega (arith, bytes_of_part shrink xs i x l is, bytes_of_alternation shrink xs)
+pub part_in_alternation : (shrink : Bool) (xs : List Tree) (i : ℕ) (x : Tree) → are_literals xs ≡ false → i < length xs →
+    x ≡ get_or xs i x → byte_room shrink x ≤ byte_room shrink (alternation xs)
+part_in_alternation shrink xs i x other l is = omega (arith, bytes_of_part shrink xs i x l is, bytes_of_alternation shrink xs other)
 
 -- the first two parts, and the states around them
 pub two_bytes : (shrink : Bool) (xs : List Tree) (x y : Tree) → 1 < length xs → x ≡ get_or xs 0 x → y ≡ get_or xs 1 y →

@@ -8,13 +8,19 @@ use Rattle.thompson_nfa.specs.declared.literal_groups.Edge.{Edge}
 use denote.Ref.{Bor}
 use Rattle.std.proofs.lemmas.List.{map-append, length-map}
 use Rattle.thompson_nfa.specs.LiteralGroups.{texts, groups_of, with_tail, tails, lesser, with_first, next_of, behind_byte, chunk_strings}
-use Rattle.thompson_nfa.specs.LiteralGroups.{Ascends, AreInside, bytes_in, bytes_in_all, AllSome, IsChunk}
+use Rattle.thompson_nfa.specs.LiteralGroups.{Ascends, AreInside, bytes_in, bytes_in_all, strings_in_all, AllSome, IsChunk}
 
 -- the bytes of those that begin with `low` or above
 abbrev pub bytes_from : ℕ → List (List ℕ) → ℕ
 bytes_from low [] = 0
 bytes_from low ([] ∷ ws) = bytes_from low ws
 bytes_from low ((a ∷ w) ∷ ws) = (if nat_le low a then suc (length w) else 0) + bytes_from low ws
+
+-- how many of them there are
+abbrev pub many_from : ℕ → List (List ℕ) → ℕ
+many_from low [] = 0
+many_from low ([] ∷ ws) = many_from low ws
+many_from low ((a ∷ w) ∷ ws) = (if nat_le low a then 1 else 0) + many_from low ws
 
 -- the edges so far are those for the bytes below `low`
 pub record Chunking (first : ℕ) (old new : List (List (List ℕ))) (low : ℕ) (edges : List Edge) (strings : List (List ℕ)) : Type 0 where
@@ -24,6 +30,7 @@ pub record Chunking (first : ℕ) (old new : List (List (List ℕ))) (low : ℕ)
   pub one_each : length added ≡ length edges
   pub some : AllSome added
   pub room : length new + bytes_in_all new + bytes_from low strings ≤ length old + bytes_in_all old + bytes_in strings
+  pub no_more : strings_in_all new + many_from low strings ≤ strings_in_all old + length strings
   pub ascends : Ascends 0 edges low
   pub inside : AreInside (first + length old) (first + length new) edges
   pub below : (before : List (List (List ℕ))) → length before ≡ first → (c : ℕ) → c < low →
@@ -215,6 +222,30 @@ tails_room low b ((a ∷ w) ∷ ws) le =
     subst P (sym (tail_other a b w (tails b ws) ne)) (omega (arith, x, more)))
     (cases_eq a b)
 
+tails_many : (low b : ℕ) (ws : List (List ℕ)) → low ≤ b → length (tails b ws) + many_from (b + 1) ws ≤ many_from low ws
+tails_many low b [] le = omega arith
+tails_many low b ([] ∷ ws) le = tails_many low b ws le
+tails_many low b ((a ∷ w) ∷ ws) le =
+    let more = tails_many low b ws le in
+    let P : List (List ℕ) → Type 0 = λ r. length r + many_from (b + 1) ((a ∷ w) ∷ ws) ≤ many_from low ((a ∷ w) ∷ ws) in
+    ⊎_elim
+    (λ (e : a ≡ b).
+    let x = from_high low a 1 (omega arith) in let y = from_low (b + 1) a 1 (omega arith) in
+    subst P (sym (tail_same a b w (tails b ws) e)) (omega (arith, x, y, more)))
+    (λ (ne : a ≡ b → ⊥).
+    let x = from_more low (b + 1) a 1 (omega arith) in
+    subst P (sym (tail_other a b w (tails b ws) ne)) (omega (arith, x, more)))
+    (cases_eq a b)
+
+many_all : (ws : List (List ℕ)) → many_from 0 ws ≤ length ws
+many_all [] = omega arith
+many_all ([] ∷ ws) = omega (arith, many_all ws)
+many_all ((a ∷ w) ∷ ws) = let x = from_high 0 a 1 (omega arith) in omega (arith, x, many_all ws)
+
+pub all_strings_append : (gs hs : List (List (List ℕ))) → strings_in_all (gs ++ hs) ≡ strings_in_all gs + strings_in_all hs
+all_strings_append [] hs = omega arith
+all_strings_append (x ∷ gs) hs = omega (arith, all_strings_append gs hs)
+
 pub from_all : (ws : List (List ℕ)) → bytes_from 0 ws ≤ bytes_in ws
 from_all [] = omega arith
 from_all ([] ∷ ws) = omega (arith, from_all ws)
@@ -237,6 +268,7 @@ chunk_begun first old edges strings none =
       one_each = refl;
       some = tt;
       room = omega (arith, from_all strings);
+      no_more = omega (arith, many_all strings);
       ascends = omega arith;
       inside = tt;
       below = λ before len c less. absurd (omega arith);
@@ -311,6 +343,7 @@ module _ (first : ℕ) (old new : List (List (List ℕ))) (low : ℕ) (edges : L
           one_each = omega (arith, length-append so_far.added (tails b strings ∷ []), length-append edges (edge ∷ []), so_far.one_each);
           some = all_some_append so_far.added (tails b strings ∷ []) so_far.some (next.1, tt);
           room = omega (arith, long, all_bytes_push new (tails b strings), tails_room low b strings next.0, next.1, so_far.room);
+          no_more = omega (arith, all_strings_append new (tails b strings ∷ []), tails_many low b strings next.0, so_far.no_more);
           ascends = ascends_push 0 low b (first + length new) edges so_far.ascends next.0 is_byte;
           inside = inside_push (first + length old) (first + length new) (first + length more) (first + length new) b edges so_far.inside
               (omega (arith, long)) (omega (arith, old_long)) (omega (arith, long));

@@ -7,11 +7,11 @@ use Rattle.std.proofs.Math.Seq.{drop-nil}
 use denote.Ref.{Bor}
 use Rattle.nfa_core.specs.Walks.{distinct}
 use Rattle.thompson_nfa.specs.declared.literal_groups.Edge.{Edge}
-use Rattle.thompson_nfa.specs.LiteralGroups.{texts, groups_of, bytes_in, bytes_in_all, AllSome}
-use Rattle.thompson_nfa.specs.LiteralLaid.{NodeValue, no_node, weight, weight_in_all, HasStrings, LaysNode, IsTrie}
+use Rattle.thompson_nfa.specs.LiteralGroups.{texts, groups_of, bytes_in, bytes_in_all, strings_in_all, AllSome}
+use Rattle.thompson_nfa.specs.LiteralLaid.{NodeValue, no_node, weight, weight_in_all, matches_in_all, HasStrings, LaysNode, IsTrie}
 use Rattle.thompson_nfa.specs.LiteralStems.{BeginAll, without, behind_text}
-use Rattle.thompson_nfa.specs.LiteralTries.{ends_of, edges_in, IsNode}
-use Rattle.thompson_nfa.proofs.LiteralTries.LiteralGroupLemmas.{group_count, all_some_append, all_bytes_append}
+use Rattle.thompson_nfa.specs.LiteralTries.{ends_of, edges_in, matches_in, IsNode}
+use Rattle.thompson_nfa.proofs.LiteralTries.LiteralGroupLemmas.{group_count, all_some_append, all_bytes_append, all_strings_append}
 use Rattle.thompson_nfa.proofs.LiteralTries.LiteralNodeLemmas.{are_wider, strings_kept, texts_long}
 use Rattle.thompson_nfa.proofs.LiteralTries.LiteralStemLemmas.{behind_long, behind_bytes, behind_without}
 
@@ -38,6 +38,7 @@ pub record NodesTo (nodes : List NodeValue) (groups : List (List (List ℕ))) (s
   pub root : get_or groups 0 [] ≡ strings
   pub each : (i : ℕ) → i < length nodes → HasStrings (i + 1) groups (get_or nodes i no_node) (get_or groups i [])
   pub room : weight_in_all nodes + bytes_in_all (drop (length nodes) groups) ≤ bytes_in strings
+  pub ended : matches_in_all nodes + strings_in_all (drop (length nodes) groups) ≤ length strings
 
 -- groups that are added later don't matter
 node_kept : (first less : ℕ) (groups more : List (List (List ℕ))) (items : List (List Edge)) (strings : List (List ℕ)) → less ≤ first →
@@ -48,6 +49,7 @@ node_kept first less groups more items strings le node = record {
   chunks = are_wider first (length groups) less (length (groups ++ more)) items node.chunks le (omega (arith, length-append groups more));
   some = node.some;
   few = node.few;
+  parted = node.parted;
 }
 
 node_first : (first less : ℕ) (groups : List (List (List ℕ))) (items : List (List Edge)) (strings : List (List ℕ)) → less ≤ first →
@@ -57,11 +59,17 @@ node_first first less groups items strings le node = record {
   chunks = are_wider first (length groups) less (length groups) items node.chunks le (omega arith);
   some = node.some;
   few = node.few;
+  parted = node.parted;
 }
 
 weight_push : (nodes : List NodeValue) (node : NodeValue) → weight_in_all (nodes ++ node ∷ []) ≡ weight_in_all nodes + weight node
 weight_push [] node = omega arith
 weight_push (n ∷ nodes) node = omega (arith, weight_push nodes node)
+
+matches_push : (nodes : List NodeValue) (node : NodeValue) → matches_in_all (nodes ++ node ∷ []) ≡ matches_in_all nodes
+    + matches_in node.items
+matches_push [] node = omega arith
+matches_push (n ∷ nodes) node = omega (arith, matches_push nodes node)
 
 some_at : (groups : List (List (List ℕ))) (k : ℕ) → AllSome groups → k < length groups → 1 ≤ length (get_or groups k [])
 some_at [] k a l = absurd (omega arith)
@@ -78,6 +86,16 @@ waiting (g ∷ groups) fresh (suc k) l =
     (drop k groups) + bytes_in_all fresh in
     let same : suc (k + 1) ≡ suc k + 1 = omega arith in
     subst P same (waiting groups fresh k (omega arith))
+
+waiting_strings : (groups fresh : List (List (List ℕ))) (k : ℕ) → k < length groups →
+    strings_in_all (drop (k + 1) (groups ++ fresh)) + length (get_or groups k []) ≡ strings_in_all (drop k groups) + strings_in_all fresh
+waiting_strings [] fresh k l = absurd (omega arith)
+waiting_strings (g ∷ groups) fresh zero l = omega (arith, all_strings_append groups fresh)
+waiting_strings (g ∷ groups) fresh (suc k) l =
+    let P : ℕ → Type 0 = λ n. strings_in_all (drop n (g ∷ groups ++ fresh)) + length (get_or groups k []) ≡ strings_in_all
+    (drop k groups) + strings_in_all fresh in
+    let same : suc (k + 1) ≡ suc k + 1 = omega arith in
+    subst P same (waiting_strings groups fresh k (omega arith))
 
 module _ (nodes : List NodeValue) (groups : List (List (List ℕ))) (strings : List (List ℕ)) (so_far : NodesTo nodes groups strings) (k : ℕ)
     (at : k ≡ length nodes) (less : k < length groups)
@@ -138,6 +156,20 @@ module _ (nodes : List NodeValue) (groups : List (List (List ℕ))) (strings : L
         let same : drop (length (nodes ++ node ∷ [])) (groups ++ fresh) ≡ drop (k + 1) (groups ++ fresh) =
         ap (λ (n : ℕ). drop n (groups ++ fresh)) long in
         omega (arith, ap bytes_in_all same, wait, paid, so_far.room, weight_push nodes node);
+    ended =
+        let same : drop (length (nodes ++ node ∷ [])) (groups ++ fresh) ≡ drop (k + 1) (groups ++ fresh) =
+        ap (λ (n : ℕ). drop n (groups ++ fresh)) long in
+        omega (
+          arith,
+          ap strings_in_all same,
+          waiting_strings groups fresh k less,
+          ap (λ (n : ℕ). strings_in_all (drop n groups)) at,
+          lays.ended,
+          behind_long node.stem lays.rest,
+          ap length lays.is,
+          so_far.ended,
+          matches_push nodes node,
+        );
   }
 
   -- fewer bytes and groups wait
@@ -190,6 +222,7 @@ held_begun held nodes strings e none some =
         root = refl;
         each = λ i l. absurd (omega arith);
         room = omega arith;
+        ended = omega arith;
       };
     })
 
@@ -208,6 +241,7 @@ module _ (nodes : List NodeValue) (held : List (List (List ℕ))) (strings : Lis
     root = so_far.to.root;
     each = so_far.to.each;
     room = omega (arith, so_far.to.room);
+    ended = omega (arith, so_far.to.ended);
   }
 
   module _ (k : ℕ) (at : k ≡ length nodes) (less : k < length held) (kept fresh : List (List (List ℕ)))

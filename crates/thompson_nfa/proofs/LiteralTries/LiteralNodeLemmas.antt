@@ -1,5 +1,5 @@
 -- The nodes of a trie of strings: what one more item adds to a node.
-use Rattle.std.proofs.Common.{◌≡◌, inl, inr, ℕ, zero, suc, ◌+◌, ◌*◌, ◌≤◌, max, Bool, true, false, List, [], ◌∷◌, ◌++◌, length, take, drop}
+use Rattle.std.proofs.Common.{◌≡◌, ◌⊎◌, inl, inr, ⊎_elim, ℕ, zero, suc, ◌+◌, ◌*◌, ◌≤◌, max, Bool, true, false, List, [], ◌∷◌, ◌++◌, length, take, drop}
 use Rattle.std.proofs.Common.{get_or, Option, Some, None, nat_eq, ◌&&◌, ◌||◌, ◌==◌, if◌then◌else◌, refl, sym, ap, ◌∙◌, subst, arith}
 use Rattle.std.proofs.Common.{length-append, replicate, append_assoc, append-nil, drop-cons, drop_of_length-le}
 use Rattle.std.proofs.lemmas.List.{length-replicate}
@@ -11,8 +11,9 @@ use Rattle.hir_core.specs.Means.{stands}
 use Rattle.nfa_core.specs.Walks.{has, join, distinct}
 use Rattle.thompson_nfa.specs.declared.literal_groups.Edge.{Edge}
 use Rattle.thompson_nfa.specs.LiteralGroups.{texts, tails, run_of, behind_byte, chunk_strings, Ascends, AreInside, bytes_in, bytes_in_all}
-use Rattle.thompson_nfa.specs.LiteralGroups.{AllSome, IsChunk, AddsGroups}
-use Rattle.thompson_nfa.specs.LiteralTries.{ends_of, IsLike, item_strings, node_strings, edges_in, chunks_in, AreChunks}
+use Rattle.thompson_nfa.specs.LiteralGroups.{strings_in_all, AllSome, IsChunk, AddsGroups}
+use Rattle.thompson_nfa.specs.LiteralTries.{ends_of, IsLike, item_strings, node_strings, edges_in, chunks_in, matches_in, AreChunks}
+use Rattle.thompson_nfa.specs.LiteralTries.{IsNode}
 use Rattle.thompson_nfa.proofs.LiteralTries.LiteralGroupLemmas.{all_some_append, chunk_kept, inside_wider}
 
 -- ---- ends
@@ -150,6 +151,11 @@ chunks_append [] ys = omega arith
 chunks_append ([] ∷ xs) ys = chunks_append xs ys
 chunks_append ((e ∷ es) ∷ xs) ys = omega (arith, chunks_append xs ys)
 
+matches_append : (xs ys : List (List Edge)) → matches_in (xs ++ ys) ≡ matches_in xs + matches_in ys
+matches_append [] ys = omega arith
+matches_append ([] ∷ xs) ys = omega (arith, matches_append xs ys)
+matches_append ((e ∷ es) ∷ xs) ys = matches_append xs ys
+
 pub are_wider : (first end less more : ℕ) (xs : List (List Edge)) → AreChunks first end xs → less ≤ first → end ≤ more →
     AreChunks less more xs
 are_wider first end less more [] a le l = tt
@@ -204,12 +210,37 @@ one_chunk : (es : List Edge) → 1 ≤ length es → chunks_in (es ∷ []) ≡ 1
 one_chunk [] l = absurd (omega arith)
 one_chunk (e ∷ es) l = refl
 
+no_match : (es : List Edge) → 1 ≤ length es → matches_in (es ∷ []) ≡ 0
+no_match [] l = absurd (omega arith)
+no_match (e ∷ es) l = refl
+
 one_at_most : (t : Bool) (n c : ℕ) → n ≤ 2 * c + (if t then 1 else 0) → n ≤ 2 * c + 1
 one_at_most true n c l = l
 one_at_most false n c l = omega arith
 
+one_less : (t : Bool) (n c : ℕ) → n ≤ 2 * c + (if t then 0 else 1) → n ≤ 2 * c + 1
+one_less true n c l = omega arith
+one_less false n c l = l
+
+-- where a string comes, it is empty
+abbrev pub IsEnded : List (List ℕ) → Type 0
+IsEnded [] = Unit {0}
+IsEnded ([] ∷ ws) = Unit {0}
+IsEnded ((b ∷ w) ∷ ws) = ⊥
+
+not_ended : (run rest : List (List ℕ)) → NoneEnds run → 1 ≤ length run → IsEnded (run ++ rest) → ⊥
+not_ended [] rest none some h = absurd (omega arith)
+not_ended ([] ∷ ws) rest none some h = none
+not_ended ((b ∷ w) ∷ ws) rest none some h = h
+
+-- behind a match, or behind none, no more than two items for each match
+parted_by : (t : Bool) (n m : ℕ) → n ≤ 2 * m + (if t then 0 else 1) → (t ≡ false → n ≡ 0) → n ≤ 2 * m
+parted_by true n m l none = omega (arith, l)
+parted_by false n m l none = let e = none refl in omega (arith, e)
+
 -- The first string, where it is empty, or else the strings before the first that is; and the others.
 pub record IsTurn (all turn rest : List (List ℕ)) : Type 0 where
+  pub stops : (b : ℕ) (w : List ℕ) (ws : List (List ℕ)) → turn ≡ (b ∷ w) ∷ ws → IsEnded rest
   pub split : turn ++ rest ≡ all
   pub ended : (ws : List (List ℕ)) → turn ≡ [] ∷ ws → ws ≡ []
   pub none_ends : (b : ℕ) (w : List ℕ) (ws : List (List ℕ)) → turn ≡ (b ∷ w) ∷ ws → NoneEnds turn
@@ -228,7 +259,10 @@ pub record Listing (first : ℕ) (old new : List (List (List ℕ))) (items : Lis
   pub some : 1 ≤ length met → 1 ≤ length items
   pub some_matched : matched ≡ true → 1 ≤ length items
   pub room : length new + bytes_in_all new ≤ length old + bytes_in_all old + bytes_in met
+  pub no_more : matches_in items + strings_in_all new ≤ strings_in_all old + length met
   pub few : length items ≤ 2 * chunks_in items + (if matched then 1 else 0)
+  pub parted : length items ≤ 2 * matches_in items + (if matched then 0 else 1)
+  pub turned : matched ≡ false → (length items ≡ 0) ⊎ IsEnded left
   pub twice : matched ≡ true → IsLike (met ++ [] ∷ []) met
   pub chunks : (before : List (List (List ℕ))) → length before ≡ first → AreChunks first (length (before ++ new)) items
   pub like : (before : List (List (List ℕ))) → length before ≡ first → IsLike (node_strings (before ++ new) items) met
@@ -251,7 +285,10 @@ no_item first old items all left none e =
       some = λ l. absurd (omega arith);
       some_matched = λ t. absurd (cc);
       room = omega arith;
+      no_more = omega arith;
       few = omega arith;
+      parted = omega arith;
+      turned = λ t. inl refl;
       twice = λ t. absurd (cc);
       chunks = λ before len. tt;
       like = λ before len h i. refl;
@@ -284,7 +321,11 @@ module _ (first : ℕ) (old new : List (List (List ℕ))) (items : List (List Ed
         some = λ l. so_far.some_matched is_match;
         some_matched = λ t. so_far.some_matched is_match;
         room = omega (arith, so_far.room, bytes_append so_far.met ([] ∷ []));
+        no_more = omega (arith, so_far.no_more, length-append so_far.met ([] ∷ []));
         few = let P : Bool → Type 0 = λ t. length items ≤ 2 * chunks_in items + (if t then 1 else 0) in subst P is_match so_far.few;
+        parted = let P : Bool → Type 0 = λ t. length items ≤ 2 * matches_in items + (if t then 0 else 1) in
+            subst P is_match so_far.parted;
+        turned = λ t. absurd (cc);
         twice = λ t. match_twice so_far.met;
         chunks = so_far.chunks;
         like = λ before len h i. so_far.like before len h i ∙ sym (so_far.twice is_match h i);
@@ -292,7 +333,7 @@ module _ (first : ℕ) (old new : List (List (List ℕ))) (items : List (List Ed
 
   -- a string that ends, and a match
   match_pushed : (rest : List (List ℕ)) → matched ≡ false → left ≡ [] ∷ rest → Listing first old new (items ++ [] ∷ []) rest true all
-  match_pushed rest no_match e =
+  match_pushed rest none_matched e =
       record {
         met = so_far.met ++ [] ∷ [];
         split = append_assoc so_far.met ([] ∷ []) rest ∙ ap (λ (l : List (List ℕ)). so_far.met ++ l) (sym e) ∙ so_far.split;
@@ -303,10 +344,18 @@ module _ (first : ℕ) (old new : List (List (List ℕ))) (items : List (List Ed
         some = λ l. omega (arith, length-append items ([] ∷ []));
         some_matched = λ t. omega (arith, length-append items ([] ∷ []));
         room = omega (arith, so_far.room, bytes_append so_far.met ([] ∷ []));
+        no_more = omega (arith, so_far.no_more, length-append so_far.met ([] ∷ []), matches_append items ([] ∷ []));
         few =
             let P : Bool → Type 0 = λ t. length items ≤ 2 * chunks_in items + (if t then 1 else 0) in
-            let fewer = subst P no_match so_far.few in
+            let fewer = subst P none_matched so_far.few in
             omega (arith, fewer, length-append items ([] ∷ []), chunks_append items ([] ∷ []));
+        parted = omega (
+          arith,
+          one_less matched (length items) (matches_in items) so_far.parted,
+          length-append items ([] ∷ []),
+          matches_append items ([] ∷ []),
+        );
+        turned = λ t. absurd (cc);
         twice = λ t. match_twice so_far.met;
         chunks = λ before len. are_pushed first (length (before ++ new)) items [] (so_far.chunks before len) (omega arith) tt;
         like = λ before len h i.
@@ -324,10 +373,14 @@ module _ (first : ℕ) (old new : List (List (List ℕ))) (items : List (List Ed
 
   -- a run of strings that don't end here
   chunk_pushed : (more : List (List (List ℕ))) (edges : List Edge) (run rest : List (List ℕ)) → left ≡ run ++ rest → NoneEnds run →
-      1 ≤ length run → AddsGroups new more (length edges) run →
+      IsEnded rest → 1 ≤ length run → AddsGroups new more (length edges) run →
       ((before : List (List (List ℕ))) → length before ≡ first → IsChunk first (before ++ more) edges run) →
       Listing first old more (items ++ edges ∷ []) rest false all
-  chunk_pushed more edges run rest e none some adds chunk =
+  chunk_pushed more edges run rest e none ended some adds chunk =
+      let P : List (List ℕ) → Type 0 = IsEnded in
+      let parted_here : length items ≤ 2 * matches_in items = parted_by matched (length items) (matches_in items) so_far.parted
+      (λ f. ⊎_elim (λ (zero : length items ≡ 0). zero) (λ (h : IsEnded left). absurd (not_ended run rest none some (subst P e h)))
+      (so_far.turned f)) in
       let long : length more ≡ length new + length adds.added = ap length adds.is ∙ length-append new adds.added in
       let an_edge : 1 ≤ length edges = chunk_some first (replicate first []
       ++ more) edges run (chunk (replicate first []) (length-replicate first [])) none some in
@@ -345,6 +398,14 @@ module _ (first : ℕ) (old new : List (List (List ℕ))) (items : List (List Ed
         some = λ l. omega (arith, length-append items (edges ∷ []));
         some_matched = λ t. absurd (cc);
         room = omega (arith, so_far.room, adds.room, bytes_append so_far.met run);
+        no_more = omega (
+          arith,
+          so_far.no_more,
+          adds.no_more,
+          length-append so_far.met run,
+          matches_append items (edges ∷ []),
+          no_match edges an_edge,
+        );
         few = omega (
           arith,
           one_at_most matched (length items) (chunks_in items) so_far.few,
@@ -352,6 +413,14 @@ module _ (first : ℕ) (old new : List (List (List ℕ))) (items : List (List Ed
           chunks_append items (edges ∷ []),
           one_chunk edges an_edge,
         );
+        parted = omega (
+          arith,
+          parted_here,
+          length-append items (edges ∷ []),
+          matches_append items (edges ∷ []),
+          no_match edges an_edge,
+        );
+        turned = λ t. inr ended;
         twice = λ t. absurd (cc);
         chunks = λ before len.
             are_pushed first (length (before ++ more)) items edges (are_wider first (length (before ++ new)) first
@@ -378,7 +447,8 @@ module _ (first : ℕ) (old new : List (List (List ℕ))) (items : List (List Ed
   chunk_next more items2 edges run rest t b w here some is adds chunk =
       let P : List (List Edge) → Type 0 = λ xs. Listing first old more xs rest false all in
       subst P (sym is) (chunk_pushed more edges run rest (sym t.split)
-      (t.none_ends b w (drop 1 run) (first_of run (b ∷ w) some here)) some adds chunk)
+      (t.none_ends b w (drop 1 run) (first_of run (b ∷ w) some here)) (t.stops b w (drop 1 run) (first_of run (b ∷ w) some here)) some
+      adds chunk)
 
   pub match_here : (flag : Bool) → matched ≡ flag → (run rest : List (List ℕ)) (items2 : List (List Edge)) → IsTurn left run rest →
       get_or run 0 [] ≡ [] → 1 ≤ length run →
@@ -394,6 +464,11 @@ run_none : (ws : List (List ℕ)) → NoneEnds (take (run_of ws) ws)
 run_none [] = tt
 run_none ([] ∷ ws) = tt
 run_none ((b ∷ w) ∷ ws) = run_none ws
+
+run_stops : (ws : List (List ℕ)) → IsEnded (drop (run_of ws) ws)
+run_stops [] = tt
+run_stops ([] ∷ ws) = tt
+run_stops ((b ∷ w) ∷ ws) = run_stops ws
 
 run_joined : (ws : List (List ℕ)) (n : ℕ) → take n ws ++ drop n ws ≡ ws
 run_joined ws zero = refl
@@ -412,6 +487,7 @@ texts_drop (suc n) (x ∷ xs) = texts_drop n xs
 
 turn_of : (ws : List (List ℕ)) (n : ℕ) → n ≡ max (run_of ws) 1 → IsTurn ws (take n ws) (drop n ws)
 turn_of [] n e = record {
+  stops = λ b w us f. absurd (nothing_taken n ((b ∷ w) ∷ us) f tt);
   split = run_joined [] n;
   ended = λ us f. absurd (nothing_taken n ([] ∷ us) f tt);
   none_ends = λ b w us f. absurd (nothing_taken n ((b ∷ w) ∷ us) f tt);
@@ -419,11 +495,17 @@ turn_of [] n e = record {
 turn_of ([] ∷ ws) n e =
     let P : ℕ → Type 0 = λ k. IsTurn ([] ∷ ws) (take k ([] ∷ ws)) (drop k ([] ∷ ws)) in
     let one : n ≡ 1 = omega arith in
-    subst P (sym one) (record { split = refl; ended = λ us f. cc; none_ends = λ b w us f. absurd (cc) })
+    subst P (sym one) (record {
+      stops = λ b w us f. absurd (cc);
+      split = refl;
+      ended = λ us f. cc;
+      none_ends = λ b w us f. absurd (cc);
+    })
 turn_of ((a ∷ v) ∷ ws) n e =
     let P : ℕ → Type 0 = λ k. IsTurn ((a ∷ v) ∷ ws) (take k ((a ∷ v) ∷ ws)) (drop k ((a ∷ v) ∷ ws)) in
     let more : n ≡ suc (run_of ws) = omega arith in
     subst P (sym more) (record {
+      stops = λ b w us f. run_stops ws;
       split = run_joined ((a ∷ v) ∷ ws) (suc (run_of ws));
       ended = λ us f. absurd (cc);
       none_ends = λ b w us f. run_none ws;
@@ -502,3 +584,39 @@ module _ (first : ℕ) (old new : List (List (List ℕ))) (items : List (List Ed
       let w = some_text (get_or (take n rest) 0 d).now (is_some (length (get_or (take n rest) 0 d).now) ne) in
       chunk_next first old new items (texts rest) matched all so_far more items2 edges (texts (take n rest))
       (texts (take m (drop n rest))) turn w.0 w.1 (here ∙ w.2) one is adds chunk
+
+-- all strings were met
+no_texts : (xs : List (Bor (List ℕ))) → length xs ≤ 0 → texts xs ≡ []
+no_texts [] none = refl
+no_texts (x ∷ xs) none = absurd (omega arith)
+
+module _ (first : ℕ) (old new : List (List (List ℕ))) (items : List (List Edge)) (rest : List (Bor (List ℕ))) (matched : Bool)
+    (all : List (List ℕ)) (so_far : Listing first old new items (texts rest) matched all) (none : length rest ≤ 0) where
+  met_all : so_far.met ≡ all
+  met_all = sym (append-nil so_far.met) ∙ ap (λ (l : List (List ℕ)). so_far.met ++ l) (sym (no_texts rest none)) ∙ so_far.split
+
+  pub listed_groups : AddsGroups old new (edges_in items) all
+  listed_groups =
+      let P : List (List ℕ) → Type 0 = λ l. AddsGroups old new (edges_in items) l in
+      subst P met_all (record {
+        added = so_far.added;
+        is = so_far.is;
+        one_each = so_far.one_each;
+        some = so_far.some_added;
+        room = so_far.room;
+        no_more = omega (arith, so_far.no_more);
+      })
+
+  pub listed_ends : matches_in items + strings_in_all new ≤ strings_in_all old + length all
+  listed_ends = omega (arith, so_far.no_more, ap length met_all)
+
+  pub listed_node : 1 ≤ length all → (before : List (List (List ℕ))) → length before ≡ first → IsNode first (before ++ new) items all
+  listed_node some before len =
+      let P : List (List ℕ) → Type 0 = λ l. IsLike (node_strings (before ++ new) items) l in
+      record {
+        like = subst P met_all (so_far.like before len);
+        chunks = so_far.chunks before len;
+        some = so_far.some (omega (arith, some, ap length met_all));
+        few = one_at_most matched (length items) (chunks_in items) so_far.few;
+        parted = one_less matched (length items) (matches_in items) so_far.parted;
+      }

@@ -14,6 +14,7 @@ use Rattle.hir_core.specs.declared.hir.HirKind.{HirKind}
 use Rattle.hir_core.specs.declared.hir.HirKind.TheVariants.{Empty, Literal, Bytes, Chars, Look, Repetition, Capture, Concat, Alternation}
 use Rattle.nfa_core.specs.BuilderStates.{Assembly}
 use Rattle.nfa_core.specs.declared.build_error.BuildError.{BuildError}
+use Rattle.thompson_nfa.specs.ByteRoom.{choice_bytes}
 use Rattle.thompson_nfa.specs.Compiled.{Makes, Does}
 use Rattle.thompson_nfa.specs.LiteralGroups.{bytes_in}
 use Rattle.thompson_nfa.specs.LiteralParts.{is_literal, are_literals, bytes_of_literal, read_strings}
@@ -109,6 +110,12 @@ fits : (back : Bool) (xs : List Tree) → list_all is_literal xs ≡ true →
     min (1 + 2 * bytes_in (read_strings back xs)) 18446744073709551615 ≤ count (alternation xs)
 fits back xs e = omega (arith, alternation_count xs, room back xs e)
 
+-- and the bytes of its states
+trie_bytes : (back : Bool) (xs : List Tree) → 24 + 32 * bytes_in (read_strings back xs) + 36 * length (read_strings back xs)
+    ≡ choice_bytes (alternation xs)
+trie_bytes back [] = refl
+trie_bytes back (x ∷ xs) = omega (arith, trie_bytes back xs, length_spelt back (bytes_of_literal x))
+
 read_append : (back : Bool) (xs ys : List Tree) → read_strings back (xs ++ ys) ≡ read_strings back xs ++ read_strings back ys
 read_append back [] ys = refl
 read_append back (x ∷ xs) ys = ap (λ (l : List (List ℕ)). spelt back (bytes_of_literal x) ∷ l) (read_append back xs ys)
@@ -129,6 +136,14 @@ read_next trie next back xs k x bytes e got less is n =
     n ∙ ap (λ (t : Strings). record t { strings = t.strings ++ spelt t.reverse bytes ∷ [] }) e
     ∙ ap (λ (w : List ℕ). record { reverse = back; strings = read_strings back (take k xs) ++ spelt back w ∷ [] }) is
     ∙ ap (λ (l : List (List ℕ)). record { reverse = back; strings = l }) (sym all)
+
+pub literals_bytes : (trie : Strings) (xs : List Tree) (k : ℕ) (back : Bool) → trie ≡ record {
+  reverse = back;
+  strings = read_strings back (take k xs);
+} → length xs ≤ k → 24 + 32 * bytes_in trie.strings + 36 * length trie.strings ≡ choice_bytes (alternation xs)
+literals_bytes trie xs k back is past =
+    let all : trie.strings ≡ read_strings back xs = ap (λ (t : Strings). t.strings) is ∙ ap (read_strings back) (take_all k xs past) in
+    ap (λ (ws : List (List ℕ)). 24 + 32 * bytes_in ws + 36 * length ws) all ∙ trie_bytes back xs
 
 module _ (trie : Strings) (xs : List Tree) (k : ℕ) (old new : Assembly) (is : trie ≡ record {
   reverse = old.reverse;

@@ -14,12 +14,12 @@ use Rattle.nfa_core.specs.Drafted.{Table}
 use Rattle.nfa_core.specs.Renaming.{stands_for}
 use Rattle.nfa_core.specs.declared.build_error.BuildError.{BuildError}
 use Rattle.thompson_nfa.specs.Added.{Added}
-use Rattle.thompson_nfa.specs.Compiled.{Grows, IsTame, sum_of_bytes}
+use Rattle.thompson_nfa.specs.Compiled.{Grows, IsTame, Weighs, sum_of_bytes}
 use Rattle.thompson_nfa.specs.Denotes.{Denotes}
 use Rattle.thompson_nfa.specs.LiteralGroups.{Ascends, AreInside}
-use Rattle.thompson_nfa.specs.LiteralTries.{edges_in, chunks_in, AreChunks}
+use Rattle.thompson_nfa.specs.LiteralTries.{edges_in, chunks_in, matches_in, AreChunks}
 use Rattle.thompson_nfa.specs.LiteralStates.{edge_ranges, AddsItem, AddsNode, edge_trees, item_tree, item_trees, IsLed}
-use Rattle.thompson_nfa.specs.Refusals.{Stays, Quits}
+use Rattle.thompson_nfa.specs.Refusals.{Stays, Quits, Passes}
 use Rattle.thompson_nfa.specs.Shared.{LeadAll}
 use Rattle.thompson_nfa.specs.declared.literal_groups.Edge.{Edge}
 use Rattle.thompson_nfa.proofs.Walks.AheadLemmas.{denotes_alternation_one}
@@ -44,18 +44,22 @@ ranges_long : (names : List ℕ) (es : List Edge) → length (edge_ranges names 
 ranges_long names [] = refl
 ranges_long names (e ∷ es) = ap (λ (n : ℕ). suc n) (ranges_long names es)
 
-pub chunk_bytes : (names : List ℕ) (es : List Edge) → Ascends 0 es 256 → draft_bytes (sparse_draft (edge_ranges names es)) ≤ 2072
+chunk_bytes : (names : List ℕ) (es : List Edge) → Ascends 0 es 256 → draft_bytes (sparse_draft (edge_ranges names es)) ≤ 2072
 chunk_bytes names es a = omega (arith, few_edges 0 256 es a, ranges_long names es)
+
+-- 24 bytes, and 8 for each edge
+chunk_weighs : (names : List ℕ) (es : List Edge) → draft_bytes (sparse_draft (edge_ranges names es)) ≤ 24 + 8 * length es
+chunk_weighs names es = omega (arith, ranges_long names es)
 
 pub chunk_ascends : (names : List ℕ) (es : List Edge) (ranges : List (ℕ × ℕ × ℕ)) → Ascends 0 es 256 → ranges ≡ edge_ranges names es →
     AscendsFrom 0 ranges
 chunk_ascends names es ranges a e = let P : List (ℕ × ℕ × ℕ) → Type 0 = λ l. AscendsFrom 0 l in
     subst P (sym e) (ranges_ascend names 0 256 es a)
 
-pub bytes_of_chunk : (names : List ℕ) (es : List Edge) (ranges : List (ℕ × ℕ × ℕ)) → Ascends 0 es 256 → ranges ≡ edge_ranges names es →
-    draft_bytes (sparse_draft ranges) ≤ 2072
-bytes_of_chunk names es ranges a e = let P : List (ℕ × ℕ × ℕ) → Type 0 = λ l. draft_bytes (sparse_draft l) ≤ 2072 in
-    subst P (sym e) (chunk_bytes names es a)
+pub bytes_of_chunk : (names : List ℕ) (es : List Edge) (ranges : List (ℕ × ℕ × ℕ)) → ranges ≡ edge_ranges names es →
+    draft_bytes (sparse_draft ranges) ≤ 24 + 8 * length es
+bytes_of_chunk names es ranges e = let P : List (ℕ × ℕ × ℕ) → Type 0 = λ l. draft_bytes (sparse_draft l) ≤ 24 + 8 * length es in
+    subst P (sym e) (chunk_weighs names es)
 
 -- the state names states that are there
 chunk_names : (names : List ℕ) (n first : ℕ) (es : List Edge) → All (λ q. q < n) names → AreInside first (length names) es → (k d : ℕ) →
@@ -89,6 +93,7 @@ pub record ItemsTo (old mid : Assembly) (names : List ℕ) (end : ℕ) (items : 
   pub ways_long : length ways ≡ length items
   pub states : length mid.drafts ≡ length old.drafts + chunks_in items
   pub bytes : sum_of_bytes mid + 8 * chunks_in items + 4096 * length old.drafts ≤ sum_of_bytes old + 4096 * length mid.drafts
+  pub weighs : Weighs old mid (24 * chunks_in items + 8 * edges_in items)
   pub numbered : length old.drafts ≤ greatest_index + 1 → length mid.drafts ≤ greatest_index + 1
   pub stands : (q : ℕ) → length old.drafts ≤ q → q < length mid.drafts → stands_for (draft_at mid.drafts q) ≡ None
   pub there : All (IsWay old mid end) ways
@@ -120,6 +125,7 @@ no_items old names end items ways no_item no_way =
       ways_long = refl;
       states = omega arith;
       bytes = omega arith;
+      weighs = omega arith;
       numbered = λ l. l;
       stands = λ q l h. absurd (omega arith);
       there = λ k d l. absurd (omega arith);
@@ -137,6 +143,7 @@ module _ (old mid : Assembly) (names : List ℕ) (end : ℕ) (items : List (List
         ways_long = omega (arith, so_far.ways_long, length-append ways (end ∷ []), length-append items ([] ∷ []));
         states = omega (arith, none, so_far.states);
         bytes = omega (arith, none, so_far.bytes);
+        weighs = omega (arith, none, so_far.weighs, edges_append items ([] ∷ []));
         numbered = so_far.numbered;
         stands = so_far.stands;
         there = All-push (IsWay old mid end) ways end so_far.there (inl refl);
@@ -177,6 +184,14 @@ module _ (old mid : Assembly) (names : List ℕ) (end : ℕ) (items : List (List
           ways_long = omega (arith, so_far.ways_long, length-append ways (id ∷ []), length-append items ((e ∷ es) ∷ []));
           states = omega (arith, one);
           bytes = omega (arith, one, so_far.bytes, added.bytes, chunk_bytes names (e ∷ es) ascends);
+          weighs = omega (
+            arith,
+            one,
+            so_far.weighs,
+            added.bytes,
+            chunk_weighs names (e ∷ es),
+            edges_append items ((e ∷ es) ∷ []),
+          );
           numbered = λ l. added.numbered;
           stands = λ q l h. ⊎_elim
               (λ (k : q < length mid.drafts). ap stands_for (added.grows.same q k) ∙ so_far.stands q l k)
@@ -222,13 +237,15 @@ only_one back T end _ _ l (more_denote q x (p ∷ qs) xs d ds) = absurd (omega a
 only_one back T end _ _ l (more_denote q x [] (y ∷ ys) d ds) = elim ds [ ]
 
 module _ (old mid : Assembly) (names : List ℕ) (end : ℕ) (items : List (List Edge)) (ways : List ℕ)
-    (so_far : ItemsTo old mid names end items ways) (few : length items ≤ 2 * chunks_in items + 1) where
+    (so_far : ItemsTo old mid names end items ways) (few : length items ≤ 2 * chunks_in items + 1)
+    (parted : length items ≤ 2 * matches_in items + 1) where
   pub one_item : length ways ≡ 1 → AddsNode old mid names end items (get_or ways 0 0)
   one_item one = record {
     grows = so_far.partly.grows;
     groups = so_far.groups;
     states = omega (arith, so_far.states, chunks_edges items);
     bytes = omega (arith, so_far.bytes);
+    weighs = omega (arith, so_far.weighs, chunks_edges items);
     numbered = so_far.numbered;
     tame = so_far.partly.tame;
     stands = so_far.stands;
@@ -263,6 +280,7 @@ module _ (old mid : Assembly) (names : List ℕ) (end : ℕ) (items : List (List
           groups = added.groups_are ∙ so_far.groups;
           states = omega (arith, chunks_edges items, some_chunk);
           bytes = omega (arith, so_far.bytes, added.bytes, so_far.ways_long);
+          weighs = omega (arith, so_far.weighs, added.bytes, so_far.ways_long, chunks_edges items, parted);
           numbered = λ l. added.numbered;
           tame = all.tame;
           stands = λ q l h. ⊎_elim
@@ -292,25 +310,31 @@ module _ (old mid : Assembly) (names : List ℕ) (end : ℕ) (items : List (List
             (omega (arith, so_far.bytes, so_far.states, so_far.ways_long, chunks_edges items, some)) (omega arith) r.cause;
       }
 
+  pub ways_passed : (e : BuildError) → 2 ≤ length ways → Passes mid (24 + 4 * length ways) e →
+      Passes old (32 * edges_in items + 36 * matches_in items) e
+  ways_passed e two p = omega (arith, so_far.weighs, so_far.ways_long, chunks_edges items, parted, p)
+
 -- the state of an item is refused
-pub item_refused : (old mid new : Assembly) (names : List ℕ) (end : ℕ) (all items others : List (List Edge)) (item : List Edge)
-    (ways : List ℕ) (e : BuildError) → ItemsTo old mid names end items ways →
-    all ≡ (items ++ item ∷ []) ++ others → 1 ≤ length item → Stays mid new 1 2072 e → Quits old new (2 * edges_in all) e
-item_refused old mid new names end all items others item ways e so_far is some r =
-    let m : ℕ = 2 * edges_in all in
-    let edges : edges_in all ≡ edges_in items + length item + edges_in others =
-    omega (arith, ap edges_in is, edges_append (items ++ item ∷ []) others, edges_append items (item ∷ [])) in
-    record {
-      settings = (grows_trans so_far.partly.grows (let P : Assembly → Type 0 = λ b. Grows mid b in
-          subst P (sym r.same) (grows_refl mid))).settings;
-      cause = step_later old mid 1 2072 m m e (ap (λ (b : Assembly). b.size_limit) so_far.partly.grows.settings) (omega (
-        arith,
-        so_far.states,
-        chunks_edges items,
-        edges,
-      ))
-          (omega (arith, so_far.bytes, so_far.states, chunks_edges items, edges)) (omega arith) r.cause;
-    }
+module _ (old mid : Assembly) (names : List ℕ) (end : ℕ) (all items others : List (List Edge)) (item : List Edge)
+    (ways : List ℕ) (so_far : ItemsTo old mid names end items ways)
+    (is : all ≡ (items ++ item ∷ []) ++ others) (some : 1 ≤ length item) where
+  edges : edges_in all ≡ edges_in items + length item + edges_in others
+  edges = omega (arith, ap edges_in is, edges_append (items ++ item ∷ []) others, edges_append items (item ∷ []))
+
+  pub item_refused : (new : Assembly) (e : BuildError) → Ascends 0 item 256 → Stays mid new 1 (24 + 8 * length item) e →
+      Quits old new (2 * edges_in all) e
+  item_refused new e up r =
+      let m : ℕ = 2 * edges_in all in
+      record {
+        settings = (grows_trans so_far.partly.grows (let P : Assembly → Type 0 = λ b. Grows mid b in
+            subst P (sym r.same) (grows_refl mid))).settings;
+        cause = step_later old mid 1 (24 + 8 * length item) m m e (ap (λ (b : Assembly). b.size_limit) so_far.partly.grows.settings)
+            (omega (arith, so_far.states, chunks_edges items, edges))
+            (omega (arith, so_far.bytes, so_far.states, chunks_edges items, edges, few_edges 0 256 item up)) (omega arith) r.cause;
+      }
+
+  pub item_passed : (e : BuildError) → Passes mid (24 + 8 * length item) e → Passes old (32 * edges_in all) e
+  item_passed e p = omega (arith, so_far.weighs, chunks_edges items, edges, some, p)
 
 -- ---- places in the list of items
 
@@ -360,12 +384,19 @@ module _ {V : Type 0} (items_of : V → List Edge) (rows : List V) (k : ℕ) (v 
       subst P (sym (taken_more (map items_of rows) k row inside here))
       (subst Q (sym e) (item_added old mid names end (take k (map items_of rows)) ways so_far new id row a there c.0 c.1))
 
-  pub row_refused : (old mid new : Assembly) (names : List ℕ) (end : ℕ) (ways : List ℕ) (e : BuildError) →
-      ItemsTo old mid names end (take k (map items_of rows)) ways → (1 ≤ length row) × Stays mid new 1 2072 e →
-      Quits old new (2 * edges_in (map items_of rows)) e
-  row_refused old mid new names end ways e so_far r =
-      item_refused old mid new names end (map items_of rows) (take k (map items_of rows))
-      (drop (k + 1) (map items_of rows)) row ways e so_far (split_at (map items_of rows) k row inside here) r.0 r.1
+  module _ (old mid new : Assembly) (names : List ℕ) (end : ℕ) (ways : List ℕ) (e : BuildError)
+      (so_far : ItemsTo old mid names end (take k (map items_of rows)) ways)
+      (r : (1 ≤ length row) × Stays mid new 1 (24 + 8 * length row) e) where
+    pub row_refused : AreChunks 0 (length names) (map items_of rows) → Quits old new (2 * edges_in (map items_of rows)) e
+    row_refused chunks =
+        item_refused old mid names end (map items_of rows) (take k (map items_of rows)) (drop (k + 1) (map items_of rows)) row ways so_far
+        (split_at (map items_of rows) k row inside here) r.0 new e (row_chunk (length names) chunks).1 r.1
+
+    pub row_passed : Passes old (32 * edges_in (map items_of rows) + 36 * matches_in (map items_of rows)) e
+    row_passed =
+        let p = item_passed old mid names end (map items_of rows) (take k (map items_of rows)) (drop (k + 1) (map items_of rows)) row ways
+        so_far (split_at (map items_of rows) k row inside here) r.0 e r.1.passed in
+        omega (arith, p)
 
 pub all_items : {V : Type 0} (items_of : V → List Edge) (rows : List V) (k : ℕ) (old mid : Assembly) (names : List ℕ) (end : ℕ)
     (ways : List ℕ) → ItemsTo old mid names end (take k (map items_of rows)) ways → length rows ≤ k →
@@ -381,12 +412,16 @@ got_same (x ∷ xs) d q l e = sym e
 -- all items are there
 module _ {V : Type 0} (items_of : V → List Edge) (rows : List V) (k : ℕ) (old mid : Assembly) (names : List ℕ) (end : ℕ) (ways : List ℕ)
     (so_far : ItemsTo old mid names end (take k (map items_of rows)) ways) (past : length rows ≤ k)
-    (some : 1 ≤ length rows) (few : length rows ≤ 2 * chunks_in (map items_of rows) + 1) where
+    (some : 1 ≤ length rows) (few : length rows ≤ 2 * chunks_in (map items_of rows) + 1)
+    (parted : length rows ≤ 2 * matches_in (map items_of rows) + 1) where
   whole : ItemsTo old mid names end (map items_of rows) ways
   whole = all_items items_of rows k old mid names end ways so_far past
 
   few_rows : length (map items_of rows) ≤ 2 * chunks_in (map items_of rows) + 1
   few_rows = omega (arith, length-map rows items_of, few)
+
+  parted_rows : length (map items_of rows) ≤ 2 * matches_in (map items_of rows) + 1
+  parted_rows = omega (arith, length-map rows items_of, parted)
 
   two_rows : (n : ℕ) → n ≡ length ways → (n ≡ 1 → ⊥) → 2 ≤ length ways
   two_rows n e ne = let l : length ways ≡ length rows = omega (arith, whole.ways_long, length-map rows items_of) in omega arith
@@ -395,13 +430,17 @@ module _ {V : Type 0} (items_of : V → List Edge) (rows : List V) (k : ℕ) (ol
   rows_one n q e one is =
       let l : length ways ≡ 1 = sym e ∙ one in
       let P : ℕ → Type 0 = λ j. AddsNode old mid names end (map items_of rows) j in
-      subst P (got_same ways 0 q (omega arith) is) (one_item old mid names end (map items_of rows) ways whole few_rows l)
+      subst P (got_same ways 0 q (omega arith) is) (one_item old mid names end (map items_of rows) ways whole few_rows parted_rows l)
 
   pub rows_union : (new : Assembly) (id n : ℕ) → n ≡ length ways → (n ≡ 1 → ⊥) → end < length old.drafts →
       Added mid new id (union_draft ways) mid.groups → AddsNode old new names end (map items_of rows) id
-  rows_union new id n e ne there added = more_items old mid names end (map items_of rows) ways whole few_rows new id
+  rows_union new id n e ne there added = more_items old mid names end (map items_of rows) ways whole few_rows parted_rows new id
       (two_rows n e ne) there added
 
   pub rows_refused : (new : Assembly) (e : BuildError) (n : ℕ) → n ≡ length ways → (n ≡ 1 → ⊥) → Stays mid new 1 (24 + 4 * length ways) e →
       Quits old new (2 * edges_in (map items_of rows)) e
-  rows_refused new e n l ne r = ways_refused old mid names end (map items_of rows) ways whole few_rows new e (two_rows n l ne) r
+  rows_refused new e n l ne r = ways_refused old mid names end (map items_of rows) ways whole few_rows parted_rows new e (two_rows n l ne) r
+
+  pub rows_passed : (e : BuildError) (n : ℕ) → n ≡ length ways → (n ≡ 1 → ⊥) → Passes mid (24 + 4 * length ways) e →
+      Passes old (32 * edges_in (map items_of rows) + 36 * matches_in (map items_of rows)) e
+  rows_passed e n l ne p = ways_passed old mid names end (map items_of rows) ways whole few_rows parted_rows e (two_rows n l ne) p

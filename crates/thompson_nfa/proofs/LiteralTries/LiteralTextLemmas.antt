@@ -1,6 +1,6 @@
 -- The states of a text: what one more byte adds before it.
-use Rattle.std.proofs.Common.{◌≡◌, inl, inr, ℕ, ◌+◌, ◌<◌, ◌≤◌, List, [], ◌∷◌, length, drop, get_or, ◌-◌, length-drop, None, refl, sym, ap}
-use Rattle.std.proofs.Common.{◌∙◌, subst, arith, ⊎_elim, true, drop_of_length-le}
+use Rattle.std.proofs.Common.{◌≡◌, inl, inr, ℕ, ◌+◌, ◌*◌, ◌<◌, ◌≤◌, List, [], ◌∷◌, length, drop, get_or, ◌-◌, length-drop, None, refl, sym}
+use Rattle.std.proofs.Common.{ap, ◌∙◌, subst, arith, ⊎_elim, true, drop_of_length-le}
 use Rattle.std.proofs.lemmas.Bool.{cases_lt}
 use Rattle.std.proofs.lemmas.List.{drop_more}
 use Rattle.nfa_core.specs.BuilderStates.{Assembly, draft_at, range_draft}
@@ -13,7 +13,7 @@ use Rattle.thompson_nfa.specs.Denotes.{Denotes}
 use Rattle.thompson_nfa.specs.LiteralStates.{literals}
 use Rattle.thompson_nfa.specs.LiteralStems.{behind_text}
 use Rattle.thompson_nfa.specs.LiteralTexts.{AddsText}
-use Rattle.thompson_nfa.specs.Refusals.{Stays, Quits}
+use Rattle.thompson_nfa.specs.Refusals.{Stays, Quits, Passes}
 use Rattle.thompson_nfa.proofs.Steps.GrowLemmas.{Partly, partly_joined, partly_added, grows_refl, grows_trans}
 use Rattle.thompson_nfa.proofs.Fragments.LeafLemmas.{tame_one}
 use Rattle.thompson_nfa.proofs.LiteralTries.LiteralStemLemmas.{text_byte, text_none}
@@ -26,6 +26,7 @@ no_byte old next = record {
   groups = refl;
   states = omega arith;
   bytes = omega arith;
+  weighs = omega arith;
   numbered = λ l. l;
   tame = λ q l h. absurd (omega arith);
   stands = λ q l h. absurd (omega arith);
@@ -61,6 +62,7 @@ module _ (old mid : Assembly) (next : ℕ) (text : List ℕ) (id : ℕ) (so_far 
           groups = added.groups_are ∙ so_far.groups;
           states = omega (arith, size, low);
           bytes = omega (arith, size, added.bytes, so_far.bytes);
+          weighs = omega (arith, added.bytes, so_far.weighs);
           numbered = λ l. added.numbered;
           tame = (partly_joined both (partly_added added tame)).tame;
           stands = λ q l h. ⊎_elim
@@ -100,3 +102,6 @@ module _ (old mid : Assembly) (next : ℕ) (text : List ℕ) (id k m : ℕ) (at 
           length-drop m text,
         )) (omega (arith, so_far.states, so_far.bytes, length-drop m text)) (omega arith) r.cause;
       }
+
+  pub text_passed : (e : BuildError) → Passes mid 24 e → Passes old (24 * length text) e
+  text_passed e p = omega (arith, so_far.weighs, length-drop m text, p)

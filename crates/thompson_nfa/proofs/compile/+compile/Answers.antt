@@ -14,8 +14,8 @@ use Rattle.thompson_nfa.proofs.Fragments.CopyLemmas.{copies_first, copies_then, 
 use Rattle.thompson_nfa.proofs.Fragments.CopyLemmas.{rounds_then, rounds_made, rounds_does, copies_done, at_least_made, stopped_does}
 use Rattle.thompson_nfa.proofs.Fragments.CopyLemmas.{bounds_does, groups_again, copies_left, copies_weigh}
 use Rattle.thompson_nfa.proofs.Fragments.CopyLemmas.{rounds_left, rounds_last, rounds_weigh}
-use Rattle.thompson_nfa.proofs.Fragments.PartBytes.{bytes_of_concat, bytes_of_alternation, choice_bytes, part_in_alternation, two_bytes}
-use Rattle.thompson_nfa.proofs.Fragments.PartBytes.{repeated_once, at_least_bytes, copy_bytes, round_bytes, none_owed}
+use Rattle.thompson_nfa.proofs.Fragments.PartBytes.{bytes_of_concat, few_parts, bytes_of_alternation, literals_bytes, part_in_alternation}
+use Rattle.thompson_nfa.proofs.Fragments.PartBytes.{two_bytes, repeated_once, at_least_bytes, copy_bytes, round_bytes, none_owed}
 use Rattle.thompson_nfa.proofs.Fragments.CaptureLemmas.{capture_made, capture_does, plain_does}
 use Rattle.thompson_nfa.proofs.Fragments.ConcatLemmas.{weight_in_alternation, parts_first, parts_then, parts_made, parts_does}
 use Rattle.thompson_nfa.proofs.Fragments.ConcatLemmas.{parts_refused, parts_lead_refused, first_part_refused}
@@ -569,19 +569,19 @@ between-returns-clause-weighs t c = omega (arith, none_owed c.args.min c.args.mo
 pub alternatives-returns-then-subs-eq0-clause-weighs : goal.alternatives-returns-then-subs-eq0-clause-weighs
 alternatives-returns-then-subs-eq0-clause-weighs t c = omega (
   arith,
-  bytes_of_alternation c.args.how.shrink c.args.subs.now,
+  bytes_of_alternation c.args.how.shrink c.args.subs.now (few_parts c.args.subs.now (omega arith)),
   c.in_ok-none.ensures.weighs,
 )
 
 pub alternatives-returns-in_err-none-clause-passed : goal.alternatives-returns-in_err-none-clause-passed
 alternatives-returns-in_err-none-clause-passed t c =
     handed _ _ c.in_err-none.field-0.0 c.from_residual.ensures.1
-    (omega (arith, bytes_of_alternation c.args.how.shrink c.args.subs.now, c.in_err-none.ensures.passed))
+    (omega (arith, bytes_of_alternation c.args.how.shrink c.args.subs.now (few_parts c.args.subs.now (omega arith)), c.in_err-none.ensures.passed))
 
 pub alternatives-returns-then-all_literals-clause-weighs : goal.alternatives-returns-then-all_literals-clause-weighs
 alternatives-returns-then-all_literals-clause-weighs t c = omega (
   arith,
-  choice_bytes c.args.how.shrink c.args.subs.now (sym c.all_literals.ensures ∙ c.if-all_literals.true),
+  literals_bytes c.args.how.shrink c.args.subs.now (sym c.all_literals.ensures ∙ c.if-all_literals.true),
   c.in_ok-literals.ensures.weighs,
 )
 
@@ -590,14 +590,14 @@ alternatives-returns-in_err-literals-clause-passed t c =
     handed _ _ c.in_err-literals.field-0.0 c.from_residual-in_err-literals.ensures.1
     (omega (
       arith,
-      choice_bytes c.args.how.shrink c.args.subs.now (sym c.all_literals.ensures ∙ c.if-all_literals.true),
+      literals_bytes c.args.how.shrink c.args.subs.now (sym c.all_literals.ensures ∙ c.if-all_literals.true),
       c.in_err-literals.ensures.passed,
     ))
 
 pub alternatives-returns-then-subs-eq1-clause-weighs : goal.alternatives-returns-then-subs-eq1-clause-weighs
 alternatives-returns-then-subs-eq1-clause-weighs t c = omega (
   arith,
-  part_in_alternation c.args.how.shrink c.args.subs.now 0 c.index-subs-0.result (omega arith) c.index-subs-0.is,
+  part_in_alternation c.args.how.shrink c.args.subs.now 0 c.index-subs-0.result (sym c.all_literals.ensures ∙ c.if-all_literals.false) (omega arith) c.index-subs-0.is,
   c.in_ok-one.ensures.weighs,
 )
 
@@ -606,7 +606,7 @@ alternatives-returns-in_err-one-clause-passed t c =
     handed _ _ c.in_err-one.field-0.0 c.from_residual-in_err-one.ensures.1
     (omega (
       arith,
-      part_in_alternation c.args.how.shrink c.args.subs.now 0 c.index-subs-0.result (omega arith) c.index-subs-0.is,
+      part_in_alternation c.args.how.shrink c.args.subs.now 0 c.index-subs-0.result (sym c.all_literals.ensures ∙ c.if-all_literals.false) (omega arith) c.index-subs-0.is,
       c.in_err-one.ensures.passed,
     ))
 
@@ -615,7 +615,7 @@ alternatives-returns-in_err-first-clause-passed t c =
     handed _ _ c.in_err-first.field-0.0 c.from_residual-in_err-first.ensures.1
     (omega (
       arith,
-      part_in_alternation c.args.how.shrink c.args.subs.now 0 c.index-subs-0-2.result (omega arith) c.index-subs-0-2.is,
+      part_in_alternation c.args.how.shrink c.args.subs.now 0 c.index-subs-0-2.result (sym c.all_literals.ensures ∙ c.if-all_literals.false) (omega arith) c.index-subs-0-2.is,
       c.in_err-first.ensures.passed,
     ))
 
@@ -625,7 +625,7 @@ alternatives-returns-in_err-second-clause-passed t c =
     (omega (
       arith,
       two_bytes c.args.how.shrink c.args.subs.now c.index-subs-0-2.result c.index-subs-1.result (omega arith) c.index-subs-0-2.is c.index-subs-1.is,
-      bytes_of_alternation c.args.how.shrink c.args.subs.now,
+      bytes_of_alternation c.args.how.shrink c.args.subs.now (sym c.all_literals.ensures ∙ c.if-all_literals.false),
       c.in_ok-first.ensures.weighs,
       c.in_err-second.ensures.passed,
     ))
@@ -636,7 +636,7 @@ alternatives-returns-in_err-union-clause-passed t c =
     (omega (
       arith,
       two_bytes c.args.how.shrink c.args.subs.now c.index-subs-0-2.result c.index-subs-1.result (omega arith) c.index-subs-0-2.is c.index-subs-1.is,
-      bytes_of_alternation c.args.how.shrink c.args.subs.now,
+      bytes_of_alternation c.args.how.shrink c.args.subs.now (sym c.all_literals.ensures ∙ c.if-all_literals.false),
       c.in_ok-first.ensures.weighs,
       c.in_ok-second.ensures.weighs,
       c.in_err-union.ensures.passed,
@@ -648,7 +648,7 @@ alternatives-returns-in_err-end-clause-passed t c =
     (omega (
       arith,
       two_bytes c.args.how.shrink c.args.subs.now c.index-subs-0-2.result c.index-subs-1.result (omega arith) c.index-subs-0-2.is c.index-subs-1.is,
-      bytes_of_alternation c.args.how.shrink c.args.subs.now,
+      bytes_of_alternation c.args.how.shrink c.args.subs.now (sym c.all_literals.ensures ∙ c.if-all_literals.false),
       c.in_ok-first.ensures.weighs,
       c.in_ok-second.ensures.weighs,
       c.in_ok-union.ensures.bytes,
@@ -661,7 +661,7 @@ alternatives-returns-in_err-lead-clause-passed t c =
     (omega (
       arith,
       two_bytes c.args.how.shrink c.args.subs.now c.index-subs-0-2.result c.index-subs-1.result (omega arith) c.index-subs-0-2.is c.index-subs-1.is,
-      bytes_of_alternation c.args.how.shrink c.args.subs.now,
+      bytes_of_alternation c.args.how.shrink c.args.subs.now (sym c.all_literals.ensures ∙ c.if-all_literals.false),
       c.in_ok-first.ensures.weighs,
       c.in_ok-second.ensures.weighs,
       c.in_ok-union.ensures.bytes,
@@ -675,7 +675,7 @@ alternatives-returns-in_err-lead-2-clause-passed t c =
     (omega (
       arith,
       two_bytes c.args.how.shrink c.args.subs.now c.index-subs-0-2.result c.index-subs-1.result (omega arith) c.index-subs-0-2.is c.index-subs-1.is,
-      bytes_of_alternation c.args.how.shrink c.args.subs.now,
+      bytes_of_alternation c.args.how.shrink c.args.subs.now (sym c.all_literals.ensures ∙ c.if-all_literals.false),
       c.in_ok-first.ensures.weighs,
       c.in_ok-second.ensures.weighs,
       c.in_ok-union.ensures.bytes,
@@ -690,7 +690,7 @@ alternatives-returns-in_err-lead-3-clause-passed t c =
     (omega (
       arith,
       two_bytes c.args.how.shrink c.args.subs.now c.index-subs-0-2.result c.index-subs-1.result (omega arith) c.index-subs-0-2.is c.index-subs-1.is,
-      bytes_of_alternation c.args.how.shrink c.args.subs.now,
+      bytes_of_alternation c.args.how.shrink c.args.subs.now (sym c.all_literals.ensures ∙ c.if-all_literals.false),
       c.in_ok-first.ensures.weighs,
       c.in_ok-second.ensures.weighs,
       c.in_ok-union.ensures.bytes,
@@ -706,7 +706,7 @@ alternatives-returns-in_err-lead-4-clause-passed t c =
     (omega (
       arith,
       two_bytes c.args.how.shrink c.args.subs.now c.index-subs-0-2.result c.index-subs-1.result (omega arith) c.index-subs-0-2.is c.index-subs-1.is,
-      bytes_of_alternation c.args.how.shrink c.args.subs.now,
+      bytes_of_alternation c.args.how.shrink c.args.subs.now (sym c.all_literals.ensures ∙ c.if-all_literals.false),
       c.in_ok-first.ensures.weighs,
       c.in_ok-second.ensures.weighs,
       c.in_ok-union.ensures.bytes,
@@ -720,17 +720,18 @@ alternatives-returns-in_err-lead-4-clause-passed t c =
 pub alternatives-returns-in_err-next-clause-passed : goal.alternatives-returns-in_err-next-clause-passed
 alternatives-returns-in_err-next-clause-passed t c =
     handed _ _ c.in_err-next.field-0.0 c.from_residual-in_err-next.ensures.1
-    (omega (arith, cases_left c.args.how _ _ _ _ c.loop-i.i c.args.subs.now c.loop-i.invariant c.index-subs-i.result c.loop-i-test.true c.index-subs-i.is, c.in_err-next.ensures.passed))
+    (omega (arith, cases_left c.args.how _ _ _ _ c.loop-i.i c.args.subs.now c.loop-i.invariant (sym c.all_literals.ensures ∙ c.if-all_literals.false) c.index-subs-i.result c.loop-i-test.true c.index-subs-i.is, c.in_err-next.ensures.passed))
 
 pub alternatives-returns-in_err-lead-5-clause-passed : goal.alternatives-returns-in_err-lead-5-clause-passed
 alternatives-returns-in_err-lead-5-clause-passed t c =
     handed _ _ c.in_err-lead-5.field-0.0 c.from_residual-in_err-lead-5.ensures.1
-    (omega (arith, cases_left c.args.how _ _ _ _ c.loop-i.i c.args.subs.now c.loop-i.invariant c.index-subs-i.result c.loop-i-test.true c.index-subs-i.is, c.in_ok-next.ensures.weighs, c.in_err-lead-5.ensures.passed))
+    (omega (arith, cases_left c.args.how _ _ _ _ c.loop-i.i c.args.subs.now c.loop-i.invariant (sym c.all_literals.ensures ∙ c.if-all_literals.false) c.index-subs-i.result c.loop-i-test.true c.index-subs-i.is, c.in_ok-next.ensures.weighs, c.in_err-lead-5.ensures.passed))
 
 pub alternatives-returns-in_err-lead-6-clause-passed : goal.alternatives-returns-in_err-lead-6-clause-passed
 alternatives-returns-in_err-lead-6-clause-passed t c =
     handed _ _ c.in_err-lead-6.field-0.0 c.from_residual-in_err-lead-6.ensures.1
-    (omega (arith, cases_left c.args.how _ _ _ _ c.loop-i.i c.args.subs.now c.loop-i.invariant c.index-subs-i.result c.loop-i-test.true c.index-subs-i.is, c.in_ok-next.ensures.weighs, c.in_ok-lead-5.ensures.bytes, c.in_err-lead-6.ensures.passed))
+    (omega (arith, cases_left c.args.how _ _ _ _ c.loop-i.i c.args.subs.now c.loop-i.invariant (sym c.all_literals.ensures ∙ c.if-all_literals.false) c.index-subs-i.result c.loop-i-test.true c.index-subs-i.is, c.in_ok-next.ensures.weighs, c.in_ok-lead-5.ensures.bytes, c.in_err-lead-6.ensures.passed))
 
 pub alternatives-returns-clause-weighs : goal.alternatives-returns-clause-weighs
 alternatives-returns-clause-weighs t c = cases_weigh c.args.how _ _ _ _ c.loop-i.i c.args.subs.now c.loop-i.invariant
+    (sym c.all_literals.ensures ∙ c.if-all_literals.false)

@@ -18,5 +18,6 @@ returns c = record {
   is = stem_split c.stem-stem.result.now c.args.strings.now c.in_ok-rest.rest.items c.deref.result.now c.stem-stem.ensures
       c.in_ok-rest.ensures c.deref.ensures.value;
   adds = c.in_ok-items.ensures.adds;
+  ended = c.in_ok-items.ensures.ended;
   holds = c.in_ok-items.ensures.node;
 }

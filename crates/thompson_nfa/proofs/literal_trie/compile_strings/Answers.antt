@@ -3,8 +3,8 @@ use Rattle.std.proofs.lemmas.List.{length-map}
 use Rattle.thompson_nfa.specs.LiteralGroups.{texts}
 use Rattle.thompson_nfa.specs.LiteralLaid.{node_value}
 use Rattle.thompson_nfa.proofs.Steps.ErrorLemmas.{handed}
-use Rattle.thompson_nfa.proofs.LiteralTries.LiteralTrieLemmas.{trie_begun, turn_some, turn_few, turn_chunks, turn_refused, turn_there}
-use Rattle.thompson_nfa.proofs.LiteralTries.LiteralTrieLemmas.{turn_stem_refused, turn_compiled, all_made, all_does}
+use Rattle.thompson_nfa.proofs.LiteralTries.LiteralTrieLemmas.{trie_begun, turn_some, turn_few, turn_parted, turn_chunks, turn_refused, turn_passed}
+use Rattle.thompson_nfa.proofs.LiteralTries.LiteralTrieLemmas.{turn_there, turn_stem_refused, turn_stem_passed, turn_compiled, all_made, all_weigh, all_does}
 use Rattle.thompson_nfa.proofs.literal_trie.compile_strings.Goals as goal
 
 pub loop-i-init : goal.loop-i-init
@@ -31,6 +31,15 @@ add_node-requires-clause-few c =
     c.deref-in-loop-i.ensures.value in
     omega (arith, few, length-map c.deref.result.now (λ x. x.items))
 
+pub add_node-requires-clause-parted : goal.add_node-requires-clause-parted
+add_node-requires-clause-parted c =
+    let parted = turn_parted node_value c.in_ok-laid.laid.items _ _ c.in_ok-end.end
+    (texts c.args.strings.items) c.loop-i.names.items c.deref-in-loop-i.result.now c.loop-i.i _ c.loop-i.invariant c.loop-i-test.true
+    refl c.index.result.now
+    c.index.ensures (map (λ x. x.items) c.deref.result.now) (ap (map (λ x. x.items)) c.deref.ensures.value)
+    c.deref-in-loop-i.ensures.value in
+    omega (arith, parted, length-map c.deref.result.now (λ x. x.items))
+
 pub add_node-requires-clause-chunks : goal.add_node-requires-clause-chunks
 add_node-requires-clause-chunks c =
     turn_chunks node_value c.in_ok-laid.laid.items _ _ c.in_ok-end.end
@@ -54,6 +63,15 @@ returns-in_err-id-clause-refused c =
     c.index.ensures (map (λ x. x.items) c.deref.result.now) (ap (map (λ x. x.items)) c.deref.ensures.value) c.deref-in-loop-i.ensures.value
     _ _ c.in_err-id.ensures.refused)
 
+pub returns-in_err-id-clause-passed : goal.returns-in_err-id-clause-passed
+returns-in_err-id-clause-passed c =
+    handed _ _ c.in_err-id.field-0.0 c.from_residual-in_err-id.ensures.1
+    (turn_passed node_value c.in_ok-laid.laid.items _ _ c.in_ok-end.end
+    (texts c.args.strings.items) c.loop-i.names.items c.deref-in-loop-i.result.now c.loop-i.i _ c.loop-i.invariant c.loop-i-test.true
+    refl c.index.result.now
+    c.index.ensures (map (λ x. x.items) c.deref.result.now) (ap (map (λ x. x.items)) c.deref.ensures.value) c.deref-in-loop-i.ensures.value
+    _ c.in_err-id.ensures.passed)
+
 pub returns-in_err-start-clause-refused : goal.returns-in_err-start-clause-refused
 returns-in_err-start-clause-refused c =
     handed _ _ c.in_err-start.field-0.0 c.from_residual-in_err-start.ensures.1
@@ -63,6 +81,16 @@ returns-in_err-start-clause-refused c =
     c.index.ensures (map (λ x. x.items) c.deref.result.now) (ap (map (λ x. x.items)) c.deref.ensures.value) c.deref-in-loop-i.ensures.value
     c.add_node.new.builder c.in_ok-id.id c.in_ok-id.ensures.added c.index-in-loop-i.result.now c.index-in-loop-i.ensures _ _
     c.in_err-start.ensures.refused)
+
+pub returns-in_err-start-clause-passed : goal.returns-in_err-start-clause-passed
+returns-in_err-start-clause-passed c =
+    handed _ _ c.in_err-start.field-0.0 c.from_residual-in_err-start.ensures.1
+    (turn_stem_passed node_value c.in_ok-laid.laid.items _ _ c.in_ok-end.end
+    (texts c.args.strings.items) c.loop-i.names.items c.deref-in-loop-i.result.now c.loop-i.i _ c.loop-i.invariant c.loop-i-test.true
+    refl c.index.result.now
+    c.index.ensures (map (λ x. x.items) c.deref.result.now) (ap (map (λ x. x.items)) c.deref.ensures.value) c.deref-in-loop-i.ensures.value
+    c.add_node.new.builder c.in_ok-id.id c.in_ok-id.ensures.added c.index-in-loop-i.result.now c.index-in-loop-i.ensures _
+    c.in_err-start.ensures.passed)
 
 pub loop-i-preserved : goal.loop-i-preserved
 loop-i-preserved c =
@@ -75,6 +103,10 @@ loop-i-preserved c =
 
 pub returns-clause-made : goal.returns-clause-made
 returns-clause-made c = all_made _ _ c.in_ok-end.end _ (texts c.args.strings.items) c.loop-i.names.items c.loop-i.i c.loop-i.invariant
+    c.loop-i-test.false _ c.index-2.ensures
+
+pub returns-clause-weighs : goal.returns-clause-weighs
+returns-clause-weighs c = all_weigh _ _ c.in_ok-end.end _ (texts c.args.strings.items) c.loop-i.names.items c.loop-i.i c.loop-i.invariant
     c.loop-i-test.false _ c.index-2.ensures
 
 pub returns-clause-denotes : goal.returns-clause-denotes

@@ -1,6 +1,6 @@
-use Rattle.thompson_nfa.proofs.Steps.ByteLemmas.{made_bytes, quits_bytes}
+use Rattle.std.proofs.Common.{arith}
 use Rattle.thompson_nfa.proofs.Steps.ErrorLemmas.{handed}
-use Rattle.thompson_nfa.proofs.LiteralTries.LiteralPartLemmas.{read_next, literals_made, literals_do, literals_quit}
+use Rattle.thompson_nfa.proofs.LiteralTries.LiteralPartLemmas.{read_next, literals_made, literals_bytes, literals_do, literals_quit}
 use Rattle.thompson_nfa.proofs.literals.compile_literals.Goals as goal
 
 pub loop-sub-preserved : goal.loop-sub-preserved
@@ -23,10 +23,16 @@ returns-clause-denotes c = literals_do c.loop-sub.trie c.args.subs.now c.loop-su
     c.requires _ _ c.in_ok-all.ensures.denotes
 
 pub returns-clause-weighs : goal.returns-clause-weighs
-returns-clause-weighs c = made_bytes _ _ _ _ _ (literals_made c.loop-sub.trie c.args.subs.now c.loop-sub.sub-index _ _
-    c.loop-sub.invariant c.loop-sub-test.false c.requires _ _ c.in_ok-all.ensures.made)
+returns-clause-weighs c = omega (
+  arith,
+  literals_bytes c.loop-sub.trie c.args.subs.now c.loop-sub.sub-index _ c.loop-sub.invariant c.loop-sub-test.false,
+  c.in_ok-all.ensures.weighs,
+)
 
 pub returns-in_err-all-clause-passed : goal.returns-in_err-all-clause-passed
 returns-in_err-all-clause-passed c = handed _ _ c.in_err-all.field-0.0 c.from_residual-in_err-all.ensures.1
-    (quits_bytes _ _ _ _ (literals_quit c.loop-sub.trie c.args.subs.now c.loop-sub.sub-index _ _ c.loop-sub.invariant
-    c.loop-sub-test.false c.requires _ c.in_err-all.ensures.refused))
+    (omega (
+      arith,
+      literals_bytes c.loop-sub.trie c.args.subs.now c.loop-sub.sub-index _ c.loop-sub.invariant c.loop-sub-test.false,
+      c.in_err-all.ensures.passed,
+    ))

@@ -1,5 +1,4 @@
 use Rattle.std.proofs.Common.{◌∙◌, sym}
-use Rattle.thompson_nfa.proofs.Steps.ByteLemmas.{made_bytes, quits_bytes}
 use Rattle.thompson_nfa.proofs.Steps.ErrorLemmas.{handed}
 use Rattle.thompson_nfa.proofs.Steps.PlainRoom.{plain_made, plain_quits}
 use Rattle.thompson_nfa.proofs.Classes.ScalarBytes.{ascii_bytes, other_bytes}
@@ -22,9 +21,9 @@ returns-then-is_ascii-clause-weighs c = ascii_bytes c.args.how.shrink c.args.ran
 
 pub returns-clause-weighs : goal.returns-clause-weighs
 returns-clause-weighs c = other_bytes c.args.how.shrink c.args.ranges.now _ _ (sym c.is_ascii.ensures ∙ c.if-is_ascii.false)
-    (made_bytes _ _ _ _ _ c.in_ok-class.ensures.made)
+    c.in_ok-class.ensures.weighs
 
 pub returns-in_err-class-clause-passed : goal.returns-in_err-class-clause-passed
 returns-in_err-class-clause-passed c = handed _ _ c.in_err-class.field-0.0 c.from_residual-in_err-class.ensures.1
     (other_bytes c.args.how.shrink c.args.ranges.now _ _ (sym c.is_ascii.ensures ∙ c.if-is_ascii.false)
-    (quits_bytes _ _ _ _ c.in_err-class.ensures.refused))
+    c.in_err-class.ensures.passed)

@@ -2,6 +2,7 @@ use Rattle.std.proofs.Common.{◌∙◌}
 use Rattle.thompson_nfa.proofs.Steps.ErrorLemmas.{handed}
 use Rattle.thompson_nfa.proofs.Classes.SuffixSteps.{none_met, met_ready, met_capacity, met_there, met_kind, met_rising, met_next}
 use Rattle.thompson_nfa.proofs.Classes.SuffixSteps.{met_refused}
+use Rattle.thompson_nfa.proofs.Classes.ClassBytes.{met_passed}
 use Rattle.thompson_nfa.proofs.scalar_reverse.add_sequences_reverse.Goals as goal
 
 pub loop-sequence-init : goal.loop-sequence-init
@@ -37,3 +38,8 @@ returns-in_err-add_sequence_reverse-clause-refused c = handed _ _ c.in_err-add_s
 
 pub returns-clause-capacity : goal.returns-clause-capacity
 returns-clause-capacity c = met_capacity _ _ _ _ _ _ c.args.first c.args.last _ c.loop-sequence.invariant
+
+pub returns-in_err-add_sequence_reverse-clause-passed : goal.returns-in_err-add_sequence_reverse-clause-passed
+returns-in_err-add_sequence_reverse-clause-passed c = handed _ _ c.in_err-add_sequence_reverse.field-0.0 c.from_residual.ensures.1
+    (met_passed _ _ _ _ _ _ c.args.first c.args.last _ c.loop-sequence.invariant _ _ c.in-Some.ensures.steps _
+    c.in_err-add_sequence_reverse.ensures.passed)

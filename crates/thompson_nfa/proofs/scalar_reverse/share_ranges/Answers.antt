@@ -3,6 +3,7 @@ use Rattle.hir_core.specs.Sequences.{bytes_of}
 use Rattle.thompson_nfa.proofs.Steps.ErrorLemmas.{handed}
 use Rattle.thompson_nfa.proofs.Classes.ScalarLemmas.{rising_at}
 use Rattle.thompson_nfa.proofs.Classes.SuffixSteps.{none_shared, ready_up_to, capacity_up_to, range_refused, next_shared, places_up_to}
+use Rattle.thompson_nfa.proofs.Classes.ClassBytes.{range_passed}
 use Rattle.thompson_nfa.proofs.scalar_reverse.share_ranges.Goals as goal
 
 pub loop-place-init : goal.loop-place-init
@@ -35,3 +36,7 @@ loop-place-preserved c = let less = c.loop-place-test.true in let within = c.req
 
 pub returns-clause-capacity : goal.returns-clause-capacity
 returns-clause-capacity c = capacity_up_to _ _ _ _ _ _ _ _ c.loop-place.invariant
+
+pub returns-in_err-next-clause-passed : goal.returns-in_err-next-clause-passed
+returns-in_err-next-clause-passed c = handed _ _ c.in_err-next.field-0.0 c.from_residual.ensures.1
+    (range_passed _ _ _ _ _ _ _ _ c.loop-place.invariant _ c.args.many c.loop-place-test.true c.in_err-next.ensures.refused.passed)
